@@ -1,3 +1,4 @@
+pub mod BadSteps
 pub mod PathReading
 pub mod ReadSteps
 pub mod StepsLeft

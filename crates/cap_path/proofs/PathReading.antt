@@ -11,10 +11,9 @@ use Rattle.std.proofs.lemmas.List.{get_or-take, take-take, take_all}
 use Rattle.cap_spec.specs.PathTexts.{BeginsPath, IsBadAt, IsPath, IsStep, step_text, path_text}
 use Rattle.cap_spec.specs.declared.Step.{Step}
 use Rattle.cap_spec.specs.declared.Step.TheVariants.{Ptr, Item as item}
-use Rattle.cap_path.specs.PathReading.{is_digit, item_number, longer_number, next_of, pointer_number}
-use Rattle.cap_path.specs.declared.reading.Reading.{Reading}
-use Rattle.cap_path.specs.declared.reading.Reading.TheVariants.{Start, Slash, Pointer, Item, Number}
-use Rattle.cap_path.proofs.ReadSteps.{HasRead, IsReading, are-snoc, path-snoc, read_begins, reading_text}
+use Rattle.cap_path.specs.PathReading.{is_digit, longer_number}
+use Rattle.cap_path.proofs.ReadSteps.{Reading, Start, Slash, Pointer, Item, Number, next_of, item_number, pointer_number}
+use Rattle.cap_path.proofs.ReadSteps.{HasRead, IsReading, read_begins, reading_text}
 
 -- reading some bytes, one after the other
 abbrev run : List ℕ → Reading → Option Reading
@@ -208,29 +207,13 @@ bad_end text done r h u = record {
   longest = λ n few p. few;
 }
 
--- A text whose last step has its number is that of a path.
-pub finished : (text : List ℕ) (done : List Step) (s : Step) → HasRead text done (Number s)
-    → AllByRecursion IsStep (done ++ s ∷ []) × (text ≡ path_text (done ++ s ∷ []))
-finished text done s h = (are-snoc done s h.are h.fits, h.spells ∙ sym (path-snoc done s))
-
--- what ends neither with a step nor with the first slash
-pub unfinished_slash : (done : List Step) (r : Reading) → r ≡ Slash → 0 < length done → Unfinished done r
-unfinished_slash done r e some = subst (λ (x : Reading). Unfinished done x) (sym e) some
-
-pub unfinished_other : (done : List Step) (r : Reading) → (r ≡ Slash → ⊥) → ((s : Step) → r ≡ Number s → ⊥) → Unfinished done r
-unfinished_other done Start a b = tt
-unfinished_other done Slash a b = absurd (a refl)
-unfinished_other done Pointer a b = tt
-unfinished_other done Item a b = tt
-unfinished_other done (Number s) a b = b s refl
-
--- A text of one slash is that of the empty path.
-pub slash_alone : (text : List ℕ) (done : List Step) → HasRead text done Slash → length text ≡ 1 → text ≡ codes "/"
-slash_alone text [] h one = h.spells
-slash_alone text (Ptr i ∷ done) h one = let f = ap length h.spells in absurd (omega (arith, f, one))
-slash_alone text (item i ∷ done) h one = let f = ap length h.spells in absurd (omega (arith, f, one))
-
--- A text with a slash at its end that is longer has steps before it.
-pub slash_after_steps : (text : List ℕ) (done : List Step) → HasRead text done Slash → (length text ≡ 1 → ⊥) → 0 < length done
-slash_after_steps text [] h other = absurd (other (ap length h.spells))
-slash_after_steps text (s ∷ done) h other = omega arith
+-- A text is bad where no byte more is read, if it ends there or not.
+pub stops : (text : List ℕ) (at : ℕ) (done : List Step) (r : Reading) → at ≤ length text → HasRead (take at text) done r
+    → (at ≡ length text → Unfinished done r) → (at < length text → next_of r (get_or text at 0) ≡ None) → IsBadAt text at
+stops text at done r inside h ends none = elim (leb_tells (length text) at) [
+  | inl past ↦
+      let end : at ≡ length text = omega (arith, inside, past.1) in
+      let whole = subst (λ t. HasRead t done r) (take_all at text past.1) h in
+      subst (λ (n : ℕ). IsBadAt text n) (sym end) (bad_end text done r whole (ends end))
+  | inr more ↦ bad_here text at done r h (none more.1) more.1
+]

@@ -1,18 +1,45 @@
 -- What has been read of a path's text, byte by byte.
 use Rattle.std.proofs.Common.{◌≡◌, ◌∙◌, ◌⊎◌, inl, inr, ℕ, ◌+◌, ◌*◌, ◌-◌, ◌<◌, ◌≤◌, ◌^◌, ◌/◌, ◌%◌, ◌==◌, nat_lt, true}
 use Rattle.std.proofs.Common.{false, Bool, if◌then◌else◌, ◌≢◌, List, [], ◌∷◌, ◌++◌, Option, Some, None, codes, decimal}
-use Rattle.std.proofs.Common.{refl, sym, ap, subst, arith, append_assoc, append-nil}
+use Rattle.std.proofs.Common.{get_or, length, take, refl, sym, ap, arith, append_assoc, append-nil}
 use Rattle.std.specs.List.{flat_map, AllByRecursion}
 use Rattle.std.proofs.lemmas.Bool.Decides.{nat_tests}
 use Rattle.std.proofs.lemmas.Fmt.{decimal_digit, decimal_step}
 use Rattle.std.proofs.lemmas.Grind.{flat_map-append}
+use Rattle.std.proofs.lemmas.List.{take_more}
 use Rattle.cap_spec.specs.PathTexts.{BeginsPath, IsStep, step_text, path_text}
 use Rattle.cap_spec.specs.declared.Step.{Step}
 use Rattle.cap_spec.specs.declared.Step.TheVariants.{Ptr, Item as item}
 use Rattle.cap_spec.proofs.Bytes.Lists.{all_append}
-use Rattle.cap_path.specs.PathReading.{ended_by, is_digit, item_number, longer_number, next_of, pointer_number}
-use Rattle.cap_path.specs.declared.reading.Reading.{Reading}
-use Rattle.cap_path.specs.declared.reading.Reading.TheVariants.{Start, Slash, Pointer, Item, Number}
+use Rattle.cap_path.specs.PathReading.{is_digit, longer_number, number_with}
+
+-- how far the last step of a text has been read: not at all, its slash, its letter, or a number that may have more digits
+pub data Reading : Type 0 where
+  Start : Reading
+  Slash : Reading
+  Pointer : Reading
+  Item : Reading
+  Number : Step → Reading
+
+-- a step with one more digit
+abbrev pub pointer_number : Option ℕ → Option Reading
+pointer_number None = None
+pointer_number (Some n) = Some (Number (Ptr n))
+
+abbrev pub item_number : Option ℕ → Option Reading
+item_number None = None
+item_number (Some n) = Some (Number (item n))
+
+-- how far the step has been read after one more byte
+abbrev pub next_of : Reading → ℕ → Option Reading
+next_of Start b = if b == 47 then Some Slash else None
+next_of Slash b = if b == 112 then Some Pointer else (if b == 105 then Some Item else None)
+next_of Pointer b = if is_digit b then Some (Number (Ptr (b - 48))) else None
+next_of Item b = if is_digit b then Some (Number (item (b - 48))) else None
+next_of (Number (Ptr n)) b = if b == 47 then Some Slash
+    else (if is_digit b then pointer_number (longer_number n (b - 48) 65535) else None)
+next_of (Number (item n)) b = if b == 47 then Some Slash
+    else (if is_digit b then item_number (longer_number n (b - 48) 4294967295) else None)
 
 -- the text of what was read of the last step
 abbrev pub reading_text : Reading → List ℕ
@@ -37,7 +64,7 @@ pub record HasRead (text : List ℕ) (done : List Step) (reading : Reading) : Ty
   pub spells : text ≡ flat_map step_text done ++ reading_text reading
 
 -- the text of steps, with one step more
-texts-snoc : (done : List Step) (s : Step) → flat_map step_text (done ++ s ∷ []) ≡ flat_map step_text done ++ step_text s
+pub texts-snoc : (done : List Step) (s : Step) → flat_map step_text (done ++ s ∷ []) ≡ flat_map step_text done ++ step_text s
 texts-snoc done s = flat_map-append step_text done (s ∷ []) ∙ ap (λ l. flat_map step_text done ++ l) (append-nil (step_text s))
 
 -- which is that of a path
@@ -92,13 +119,8 @@ digit_more n b some few low high =
     let step = decimal_step (10 * n + (b - 48)) (omega (arith, some)) (omega (arith, few, high)) in
     sym (step ∙ ap (λ k. decimal k ++ ((48 + (10 * n + (b - 48)) % 10) ∷ [])) front ∙ ap (λ k. decimal n ++ (k ∷ [])) last)
 
--- the steps, with the one that ended
-abbrev pub with_step : List Step → Option Step → List Step
-with_step done None = done
-with_step done (Some s) = done ++ s ∷ []
-
 -- a text with one byte more
-spells_more : (text before x y : List ℕ) (b : ℕ) → text ≡ before ++ x → x ++ b ∷ [] ≡ y → text ++ b ∷ [] ≡ before ++ y
+pub spells_more : (text before x y : List ℕ) (b : ℕ) → text ≡ before ++ x → x ++ b ∷ [] ≡ y → text ++ b ∷ [] ≡ before ++ y
 spells_more text before x y b e f = ap (λ l. l ++ b ∷ []) e ∙ append_assoc before x (b ∷ []) ∙ ap (λ l. before ++ l) f
 
 -- a choice that gives something
@@ -106,10 +128,7 @@ chosen : {A : Type 0} (t : Bool) (x y : Option A) (z : A) → (if t then x else 
 chosen true x y z e = inl (refl, e)
 chosen false x y z e = inr (refl, e)
 
-is_equal : (a b : ℕ) → (a == b) ≡ true → a ≡ b
-is_equal a b e = grind (arith, nat_tests)
-
-pub is_other : (a b : ℕ) → (a == b) ≡ false → a ≢ b
+is_other : (a b : ℕ) → (a == b) ≡ false → a ≢ b
 is_other a b e = grind (arith, nat_tests)
 
 -- what a longer number is
@@ -123,131 +142,28 @@ longer_is n digit most k e = elim (chosen (n == 0) None (if nat_lt most (10 * n 
   ]
 ]
 
--- what a byte behind each reading tells
-after_start : (b : ℕ) (r : Reading) → next_of Start b ≡ Some r → (b ≡ 47) × (r ≡ Slash)
-after_start b r e = elim (chosen (b == 47) (Some Slash) None r e) [ inl h ↦ let f = h.1 in (is_equal b 47 h.0, cc) | inr h ↦ let f = h.1 in absurd (cc) ]
+-- A number begins with its first digit,
+pub first_digit : (text : List ℕ) (from : ℕ) → from < length text → is_digit (get_or text from 0) ≡ true
+    → (get_or text from 0 - 48 ≤ 9) × (take (from + 1) text ≡ take from text ++ decimal (get_or text from 0 - 48))
+first_digit text from lt digit =
+    let range = digit_range (get_or text from 0) digit in
+    let last = digit_is (get_or text from 0) range.0 range.1 in
+    (omega (arith, range.1), take_more text from 0 lt ∙ ap (λ ds. take from text ++ ds) (sym last))
 
-after_slash : (b : ℕ) (r : Reading) → next_of Slash b ≡ Some r → ((b ≡ 112) × (r ≡ Pointer)) ⊎ ((b ≡ 105) × (r ≡ Item))
-after_slash b r e = elim (chosen (b == 112) (Some Pointer) (if b == 105 then Some Item else None) r e) [
-  | inl h ↦ let f = h.1 in inl (is_equal b 112 h.0, cc)
-  | inr h ↦ elim (chosen (b == 105) (Some Item) None r h.1) [ inl l ↦ let f = l.1 in inr (is_equal b 105 l.0, cc) | inr l ↦ let f = l.1 in absurd (cc) ]
-]
-
-after_pointer : (b : ℕ) (r : Reading) → next_of Pointer b ≡ Some r → (48 ≤ b) × (b ≤ 57) × (r ≡ Number (Ptr (b - 48)))
-after_pointer b r e = elim (chosen (is_digit b) (Some (Number (Ptr (b - 48)))) None r e) [
-  | inl h ↦ let f = h.1 in ((digit_range b h.0).0, (digit_range b h.0).1, cc)
-  | inr h ↦ let f = h.1 in absurd (cc)
-]
-
-after_item : (b : ℕ) (r : Reading) → next_of Item b ≡ Some r → (48 ≤ b) × (b ≤ 57) × (r ≡ Number (item (b - 48)))
-after_item b r e = elim (chosen (is_digit b) (Some (Number (item (b - 48)))) None r e) [
-  | inl h ↦ let f = h.1 in ((digit_range b h.0).0, (digit_range b h.0).1, cc)
-  | inr h ↦ let f = h.1 in absurd (cc)
-]
-
--- a step's number with one more digit
-pointer_is : (o : Option ℕ) (r : Reading) → pointer_number o ≡ Some r → (k : ℕ) × (o ≡ Some k) × (r ≡ Number (Ptr k))
-pointer_is None r e = absurd (cc)
-pointer_is (Some k) r e = (k, refl, cc)
-
-item_is : (o : Option ℕ) (r : Reading) → item_number o ≡ Some r → (k : ℕ) × (o ≡ Some k) × (r ≡ Number (item k))
-item_is None r e = absurd (cc)
-item_is (Some k) r e = (k, refl, cc)
-
--- the byte behind a step is a slash, or one more digit
-record Longer (n b most k : ℕ) : Type 0 where
-  low : 48 ≤ b
-  high : b ≤ 57
-  some : 0 < n
-  few : 10 * n + (b - 48) ≤ most
-  is : k ≡ 10 * n + (b - 48)
-
-longer : (n b most k : ℕ) → is_digit b ≡ true → longer_number n (b - 48) most ≡ Some k → Longer n b most k
-longer n b most k d e = let range = digit_range b d in let l = longer_is n (b - 48) most k e
-    in record { low = range.0; high = range.1; some = l.0; few = l.1; is = l.2 }
-
-after_ptr : (n b : ℕ) (r : Reading) → next_of (Number (Ptr n)) b ≡ Some r → (((b == 47) ≡ true) × (r ≡ Slash))
-    ⊎ (((b == 47) ≡ false) × (k : ℕ) × (r ≡ Number (Ptr k)) × Longer n b 65535 k)
-after_ptr n b r e = elim (chosen (b == 47) (Some Slash) (if is_digit b then pointer_number (longer_number n (b - 48) 65535) else None) r e) [
-  | inl h ↦ let f = h.1 in inl (h.0, cc)
-  | inr h ↦ elim (chosen (is_digit b) (pointer_number (longer_number n (b - 48) 65535)) None r h.1) [
-    | inl l ↦ let p = pointer_is (longer_number n (b - 48) 65535) r l.1 in inr (h.0, p.0, p.2, longer n b 65535 p.0 l.0 p.1)
-    | inr l ↦ let f = l.1 in absurd (cc)
-  ]
-]
-
-after_number : (n b : ℕ) (r : Reading) → next_of (Number (item n)) b ≡ Some r → (((b == 47) ≡ true) × (r ≡ Slash))
-    ⊎ (((b == 47) ≡ false) × (k : ℕ) × (r ≡ Number (item k)) × Longer n b 4294967295 k)
-after_number n b r e = elim (chosen (b == 47) (Some Slash) (if is_digit b then item_number (longer_number n (b - 48) 4294967295) else None) r e) [
-  | inl h ↦ let f = h.1 in inl (h.0, cc)
-  | inr h ↦ elim (chosen (is_digit b) (item_number (longer_number n (b - 48) 4294967295)) None r h.1) [
-    | inl l ↦ let p = item_is (longer_number n (b - 48) 4294967295) r l.1 in inr (h.0, p.0, p.2, longer n b 4294967295 p.0 l.0 p.1)
-    | inr l ↦ let f = l.1 in absurd (cc)
-  ]
-]
-
--- a reading that was read, whatever it is called
-reads_as : (text : List ℕ) (done : List Step) (r r' : Reading) → r' ≡ r → HasRead text done r → HasRead text done r'
-reads_as text done r r' e h = subst (λ (x : Reading). HasRead text done x) (sym e) h
-
--- a text with one byte more, where no step ended
-grown : (text : List ℕ) (done : List Step) (b : ℕ) (before after : Reading) → HasRead text done before
-    → IsReading done after → reading_text before ++ b ∷ [] ≡ reading_text after → HasRead (text ++ b ∷ []) done after
-grown text done b before after h fits e =
-    record { are = h.are; fits = fits; spells = spells_more text (flat_map step_text done) (reading_text before) (reading_text after) b h.spells e }
-
--- and where a slash ended one
-slashed : (text : List ℕ) (done : List Step) (b : ℕ) (s : Step) → HasRead text done (Number s) → (b == 47) ≡ true
-    → HasRead (text ++ b ∷ []) (done ++ s ∷ []) Slash
-slashed text done b s h e = record {
-  are = are-snoc done s h.are h.fits;
-  fits = tt;
-  spells = ap (λ l. l ++ b ∷ []) (h.spells ∙ sym (texts-snoc done s)) ∙ ap (λ k. flat_map step_text (done ++ s ∷ []) ++ k ∷ []) (is_equal b 47 e);
-}
-
--- the step that ends before a slash, and before no other byte
-ends_at : (done : List Step) (s : Step) (b : ℕ) → (b == 47) ≡ true → with_step done (ended_by (Number s) b) ≡ done ++ s ∷ []
-ends_at done s b e = rw e refl
-
-goes_at : (done : List Step) (s : Step) (b : ℕ) → (b == 47) ≡ false → with_step done (ended_by (Number s) b) ≡ done
-goes_at done s b e = rw e refl
-
--- One byte more is read.
-pub read_next : (text : List ℕ) (done : List Step) (b : ℕ) (before after : Reading) → HasRead text done before
-    → next_of before b ≡ Some after → HasRead (text ++ b ∷ []) (with_step done (ended_by before b)) after
-read_next text done b Start after h e = let a = after_start b after e
-    in reads_as _ _ Slash after a.1 (grown text done b Start Slash h tt (ap (λ k. k ∷ []) a.0))
-read_next text done b Slash after h e = elim (after_slash b after e) [
-  | inl a ↦ reads_as _ _ Pointer after a.1 (grown text done b Slash Pointer h tt (ap (λ k. 47 ∷ k ∷ []) a.0))
-  | inr a ↦ reads_as _ _ Item after a.1 (grown text done b Slash Item h tt (ap (λ k. 47 ∷ k ∷ []) a.0))
-]
-read_next text done b Pointer after h e =
-    let a = after_pointer b after e in
-    reads_as _ _ (Number (Ptr (b - 48))) after a.2
-    (grown text done b Pointer (Number (Ptr (b - 48))) h (omega (arith, a.1))
-    (ap (λ ds. 47 ∷ 112 ∷ ds) (sym (digit_is b a.0 a.1))))
-read_next text done b Item after h e =
-    let a = after_item b after e in
-    reads_as _ _ (Number (item (b - 48))) after a.2
-    (grown text done b Item (Number (item (b - 48))) h (omega (arith, a.1))
-    (ap (λ ds. 47 ∷ 105 ∷ ds) (sym (digit_is b a.0 a.1))))
-read_next text done b (Number (Ptr n)) after h e = elim (after_ptr n b after e) [
-  | inl a ↦ rw (ends_at done (Ptr n) b a.0) (reads_as _ _ Slash after a.1 (slashed text done b (Ptr n) h a.0))
-  | inr a ↦
-      let l = a.3 in
-      let fits : n < 2 ^ 16 = h.fits in
-      let more : decimal n ++ b ∷ [] ≡ decimal a.1 = digit_more n b l.some (omega (arith, fits)) l.low l.high ∙ ap decimal (sym l.is) in
-      rw (goes_at done (Ptr n) b a.0) (reads_as _ _ (Number (Ptr a.1)) after a.2
-      (grown text done b (Number (Ptr n)) (Number (Ptr a.1)) h (omega (arith, l.few, l.is))
-      (ap (λ ds. 47 ∷ 112 ∷ ds) more)))
-]
-read_next text done b (Number (item n)) after h e = elim (after_number n b after e) [
-  | inl a ↦ rw (ends_at done (item n) b a.0) (reads_as _ _ Slash after a.1 (slashed text done b (item n) h a.0))
-  | inr a ↦
-      let l = a.3 in
-      let fits : n < 2 ^ 32 = h.fits in
-      let more : decimal n ++ b ∷ [] ≡ decimal a.1 = digit_more n b l.some (omega (arith, fits)) l.low l.high ∙ ap decimal (sym l.is) in
-      rw (goes_at done (item n) b a.0) (reads_as _ _ (Number (item a.1)) after a.2
-      (grown text done b (Number (item n)) (Number (item a.1)) h (omega (arith, l.few, l.is))
-      (ap (λ ds. 47 ∷ 105 ∷ ds) more)))
-]
+-- and goes on with one digit more.
+pub next_digit : (text : List ℕ) (from end n most k : ℕ) → end < length text → take end text ≡ take from text ++ decimal n
+    → n ≤ most → most < 2 ^ 32 → number_with n (get_or text end 0) most ≡ Some k
+    → (k ≤ most) × (take (end + 1) text ≡ take from text ++ decimal k)
+next_digit text from end n most k lt e few less is =
+    let b = get_or text end 0 in
+    elim (chosen (is_digit b) (longer_number n (b - 48) most) None k is) [
+      | inl h ↦
+          let range = digit_range b h.0 in
+          let longer = longer_is n (b - 48) most k h.1 in (
+            omega (arith, longer.1, longer.2),
+            take_more text end 0 lt
+                ∙ spells_more (take end text) (take from text) (decimal n) (decimal k) b e
+                (digit_more n b longer.0 (omega (arith, few, less)) range.0 range.1 ∙ ap decimal (sym longer.2)),
+          )
+      | inr h ↦ let f = h.1 in absurd (cc)
+    ]

@@ -1,22 +1,17 @@
 -- The first of the steps of a path is read, and the others are left.
-use Rattle.std.proofs.Common.{◌≡◌, ◌∙◌, ◌⊎◌, ◌==◌, true, false, inl, inr, ℕ, ◌+◌, ◌<◌, ◌≤◌, ◌^◌, ◌%◌, List, [], ◌∷◌, ◌++◌, Option, Some, None, decimal, length}
-use Rattle.std.proofs.Common.{codes, take, drop, get_or, refl, sym, ap, subst, arith}
+use Rattle.std.proofs.Common.{◌≡◌, ◌∙◌, inl, inr, ℕ, ◌+◌, ◌<◌, ◌≤◌, ◌^◌, ◌%◌, List, [], ◌∷◌, ◌++◌, Option, Some, None, decimal, length}
+use Rattle.std.proofs.Common.{drop, get_or, refl, sym, ap, subst, arith}
 use Rattle.std.specs.List.{flat_map, AllByRecursion}
-use Rattle.std.proofs.lemmas.Bool.Decides.{eqb_tells}
+use Rattle.std.proofs.lemmas.Bool.Decides.{leb_tells}
 use Rattle.std.proofs.lemmas.Fmt.{decimal_by_steps, decimal_injective}
-use Rattle.std.proofs.lemmas.List.{at_drop_more, take-append-drop}
-use Rattle.cap_spec.specs.PathTexts.{IsBadAt, IsStep, step_text, path_text}
+use Rattle.std.proofs.lemmas.List.{at_drop_more, drop_all, take-append-drop}
+use Rattle.cap_spec.specs.PathTexts.{IsStep, step_text}
 use Rattle.cap_spec.specs.declared.Step.{Step}
 use Rattle.cap_spec.specs.declared.Step.TheVariants.{Ptr, Item as item}
 use Rattle.cap_spec.proofs.Bytes.Lists.{all_append}
-use Rattle.cap_spec.proofs.Paths.PathTexts.{one_path_text}
-use Rattle.cap_path.specs.PathReading.{ended_by, next_of}
+use Rattle.cap_path.specs.PathReading.{IsStepAt}
 use Rattle.cap_path.specs.PathSteps.{AreLeft}
 use Rattle.cap_path.specs.declared.steps.PathSteps.{PathSteps}
-use Rattle.cap_path.specs.declared.reading.Reading.{Reading}
-use Rattle.cap_path.specs.declared.reading.Reading.TheVariants.{Start, Slash, Pointer, Item, Number}
-use Rattle.cap_path.proofs.PathReading.{bad_end, bad_here, finished}
-use Rattle.cap_path.proofs.ReadSteps.{HasRead}
 
 abbrev IsDigit : ℕ → Type 0
 IsDigit b = (48 ≤ b) × (b < 58)
@@ -66,43 +61,26 @@ one_front (item i) (item j) r u a b p q e =
     let both = one_number (decimal i) (decimal j) r u (all_digits i (omega (arith, a))) (all_digits j (omega (arith, b))) p q f in
     (ap item (decimal_injective i j (omega (arith, a)) (omega (arith, b)) both.0), both.1)
 
--- The step that ends before a slash is the first one.
-pub first_read : (text : List ℕ) (at : ℕ) (s step : Step) (more : List Step) → HasRead (take at text) [] (Number s)
-    → at < length text → get_or text at 0 ≡ 47 → AllByRecursion IsStep (step ∷ more)
-    → text ≡ flat_map step_text (step ∷ more) → (s ≡ step) × (drop at text ≡ flat_map step_text more)
-first_read text at s step more h lt slash are e =
-    let tail : drop at text ≡ get_or text at 0 ∷ drop (at + 1) text = at_drop_more (λ l. l) text at 0 lt in
-    let ends : EndsNumber (drop at text) = subst EndsNumber (sym tail) slash in
-    one_front s step (drop at text) (flat_map step_text more) h.fits are.0 ends (ends_number more)
-    (ap (λ l. l ++ drop at text) (sym h.spells) ∙ take-append-drop at text ∙ e)
+-- what follows a step that is read ends its number
+ends_after : (text : List ℕ) (end : ℕ) → (end < length text → get_or text end 0 ≡ 47) → EndsNumber (drop end text)
+ends_after text end ends = elim (leb_tells (length text) end) [
+  | inl past ↦ subst EndsNumber (sym (drop_all end text past.1)) tt
+  | inr more ↦ subst EndsNumber (sym (at_drop_more (λ l. l) text end 0 more.1)) (ends more.1)
+]
 
--- The step that the text ends with is the only one.
-pub last_read : (text : List ℕ) (s step : Step) (more : List Step) → HasRead text [] (Number s)
-    → AllByRecursion IsStep (step ∷ more) → text ≡ flat_map step_text (step ∷ more) → (step ∷ more) ≡ (s ∷ [])
-last_read text s step more h are e =
-    let f = finished text [] s h in
-    one_path_text (step ∷ more) (s ∷ []) are f.0 (sym e ∙ f.1)
+-- The step that is read is the first one.
+pub first_read : (text : List ℕ) (end : ℕ) (s step : Step) (more : List Step) → IsStepAt text 0 s end
+    → AllByRecursion IsStep (step ∷ more) → text ≡ flat_map step_text (step ∷ more)
+    → (s ≡ step) × (drop end text ≡ flat_map step_text more)
+first_read text end s step more h are e =
+    one_front s step (drop end text) (flat_map step_text more) h.fits are.0 (ends_after text end h.ends) (ends_number more)
+    (ap (λ l. l ++ drop end text) (sym h.spells) ∙ take-append-drop end text ∙ e)
 
--- The text of some steps is read on,
-pub steps_go_on : (text : List ℕ) (at : ℕ) (r : Reading) (step : Step) (more : List Step) → HasRead (take at text) [] r
-    → at < length text → AllByRecursion IsStep (step ∷ more) → text ≡ flat_map step_text (step ∷ more)
-    → next_of r (get_or text at 0) ≡ None → ⊥
-steps_go_on text at r step more h lt are e none =
-    let b : IsBadAt text at = bad_here text at [] r h none lt in b.none (step ∷ more, are, e)
-
--- it is longer than a slash,
-not_slash : (step : Step) (more : List Step) → codes "/" ≡ flat_map step_text (step ∷ more) → ⊥
-not_slash (Ptr i) more e = let f : 0 ≡ 112 = ap (λ l. get_or l 1 0) e in absurd (omega (arith, f))
-not_slash (item i) more e = let f : 0 ≡ 105 = ap (λ l. get_or l 1 0) e in absurd (omega (arith, f))
-
--- and ends with a step.
-pub steps_end : (text : List ℕ) (r : Reading) (step : Step) (more : List Step) → HasRead text [] r
-    → AllByRecursion IsStep (step ∷ more) → text ≡ flat_map step_text (step ∷ more) → ((s : Step) → r ≡ Number s → ⊥) → ⊥
-steps_end text Start step more h are e none = (bad_end text [] Start h tt).none (step ∷ more, are, e)
-steps_end text Slash step more h are e none = not_slash step more (sym h.spells ∙ e)
-steps_end text Pointer step more h are e none = (bad_end text [] Pointer h tt).none (step ∷ more, are, e)
-steps_end text Item step more h are e none = (bad_end text [] Item h tt).none (step ∷ more, are, e)
-steps_end text (Number s) step more h are e none = none s refl
+-- The text of some steps begins with a slash, and is longer.
+pub first_slash : (text : List ℕ) (step : Step) (more : List Step) → text ≡ flat_map step_text (step ∷ more)
+    → (1 < length text) × (get_or text 0 0 ≡ 47)
+first_slash text (Ptr i) more e = let f = ap length e in (omega (arith, f), ap (λ l. get_or l 0 0) e)
+first_slash text (item i) more e = let f = ap length e in (omega (arith, f), ap (λ l. get_or l 0 0) e)
 
 -- The step that is read is the first of those that are left,
 pub step_left : (old new : PathSteps) (result : Option Step) (step : Step) (more : List Step) → result ≡ Some step
@@ -120,20 +98,3 @@ pub no_step_left : (old new : PathSteps) (result : Option Step) (more : List Ste
 no_step_left old new result [] is some left = refl
 no_step_left old new result (s ∷ rest) is some left =
     let n = some s rest left in let e : Some s ≡ None = sym n.0 ∙ is in absurd (cc)
-
--- A path of some steps has their texts.
-pub path_steps : (done : List Step) (s : Step) → path_text (done ++ s ∷ []) ≡ flat_map step_text (done ++ s ∷ [])
-path_steps [] s = refl
-path_steps (x ∷ done) s = refl
-
--- A step ends before a slash, and was read up to there.
-pub ended_is : (r : Reading) (b : ℕ) (s : Step) → ended_by r b ≡ Some s → (r ≡ Number s) × (b ≡ 47)
-ended_is Start b s e = absurd (cc e)
-ended_is Slash b s e = absurd (cc e)
-ended_is Pointer b s e = absurd (cc e)
-ended_is Item b s e = absurd (cc e)
-ended_is (Number t) b s e = go (eqb_tells b 47)
-  where
-    go : (((b == 47) ≡ true) × (b ≡ 47)) ⊎ (((b == 47) ≡ false) × (b ≡ 47 → ⊥)) → (Number t ≡ Number s) × (b ≡ 47)
-    go (inl h) = let f : Some t ≡ Some s = rw h.0 at e in (cc, h.1)
-    go (inr h) = let f : None ≡ Some s = rw h.0 at e in absurd (cc f)

@@ -1,10 +1,8 @@
--- How far the last step of a path has been read, and what may come next (profile).
-use Rattle.std.specs.Prelude.{ℕ, ◌+◌, ◌*◌, ◌-◌, ◌==◌, ◌&&◌, nat_le, nat_lt, if◌then◌else◌, Bool}
-use Rattle.std.specs.Prelude.{Option, Some, None}
+-- What is read of a step of a path, and where the number of one is bad (profile).
+use Rattle.std.specs.Prelude.{ℕ, ◌+◌, ◌*◌, ◌-◌, ◌<◌, ◌≤◌, ◌≡◌, ◌≢◌, ◌==◌, ◌&&◌, ◌++◌, nat_le, nat_lt, if◌then◌else◌, Bool, false}
+use Rattle.std.specs.Prelude.{Option, Some, None, List, length, take, slice_index, decimal}
+use Rattle.cap_spec.specs.PathTexts.{IsStep, step_text}
 use Rattle.cap_spec.specs.declared.Step.{Step}
-use Rattle.cap_spec.specs.declared.Step.TheVariants.{Ptr, Item as item}
-use Rattle.cap_path.specs.declared.reading.Reading.{Reading}
-use Rattle.cap_path.specs.declared.reading.Reading.TheVariants.{Start, Slash, Pointer, Item, Number}
 
 abbrev pub is_digit : ℕ → Bool
 is_digit b = nat_le 48 b && nat_le b 57
@@ -14,30 +12,30 @@ abbrev pub longer_number : ℕ → ℕ → ℕ → Option ℕ
 longer_number n digit most = if n == 0 then None else
     (if nat_lt most (10 * n + digit) then None else Some (10 * n + digit))
 
--- a step with one more digit
-abbrev pub pointer_number : Option ℕ → Option Reading
-pointer_number None = None
-pointer_number (Some n) = Some (Number (Ptr n))
+-- n with this byte as one more digit
+abbrev pub number_with : ℕ → ℕ → ℕ → Option ℕ
+number_with n b most = if is_digit b then longer_number n (b - 48) most else None
 
-abbrev pub item_number : Option ℕ → Option Reading
-item_number None = None
-item_number (Some n) = Some (Number (item n))
+-- this number is at a place of a text, and its digits end there, at the end of the text or before a slash
+pub record IsNumberAt (text : List ℕ) (from most n end : ℕ) : Type 0 where
+  pub few : n ≤ most
+  pub some : from < end
+  pub inside : end ≤ length text
+  pub spells : take end text ≡ take from text ++ decimal n
+  pub ends : end < length text → slice_index text end ≡ 47
 
--- how far the step has been read after one more byte
-abbrev pub next_of : Reading → ℕ → Option Reading
-next_of Start b = if b == 47 then Some Slash else None
-next_of Slash b = if b == 112 then Some Pointer else (if b == 105 then Some Item else None)
-next_of Pointer b = if is_digit b then Some (Number (Ptr (b - 48))) else None
-next_of Item b = if is_digit b then Some (Number (item (b - 48))) else None
-next_of (Number (Ptr n)) b = if b == 47 then Some Slash
-    else (if is_digit b then pointer_number (longer_number n (b - 48) 65535) else None)
-next_of (Number (item n)) b = if b == 47 then Some Slash
-    else (if is_digit b then item_number (longer_number n (b - 48) 4294967295) else None)
+-- no such number is at a place of a text: none goes on with this byte of the text
+pub data IsBadNumber (text : List ℕ) (from most at : ℕ) : Type 0 where
+  -- it has no digit
+  no_digit : at ≡ from → (at < length text → is_digit (slice_index text at) ≡ false) → IsBadNumber text from most at
+  -- its digits don't go on, and don't end
+  no_end : (n : ℕ) → n ≤ most → at < length text → take at text ≡ take from text ++ decimal n
+      → slice_index text at ≢ 47 → number_with n (slice_index text at) most ≡ None → IsBadNumber text from most at
 
--- the step that ends before a byte
-abbrev pub ended_by : Reading → ℕ → Option Step
-ended_by (Number s) b = if b == 47 then Some s else None
-ended_by Start b = None
-ended_by Slash b = None
-ended_by Pointer b = None
-ended_by Item b = None
+-- this step is at a slash of a text, and its text ends there, at the end of the text or before a slash
+pub record IsStepAt (text : List ℕ) (slash : ℕ) (step : Step) (end : ℕ) : Type 0 where
+  pub fits : IsStep step
+  pub some : slash < end
+  pub inside : end ≤ length text
+  pub spells : take end text ≡ take slash text ++ step_text step
+  pub ends : end < length text → slice_index text end ≡ 47

@@ -1,76 +1,81 @@
-//! How far the text of a path has been read, byte by byte.
+//! A step of a path, read from the path's text.
 
-ghost use Rattle.cap_path.specs.PathReading.{ended_by, longer_number as number_with, next_of};
-ghost use Rattle.std.specs.Prelude.{◌<◌, ◌≤◌, ◌^◌, ◌≡◌};
+ghost use Rattle.cap_path.specs.PathReading.{IsBadNumber, IsNumberAt, IsStepAt, number_with};
+ghost use Rattle.cap_spec.specs.PathTexts.{IsBadAt, IsStep, step_text};
+ghost use Rattle.cap_spec.specs.declared.Step.{Step};
+ghost use Rattle.std.specs.List.{AllByRecursion, flat_map};
+ghost use Rattle.std.specs.Prelude.{◌<◌, ◌≤◌, ◌^◌, ◌≡◌, IfErr, IfOk, List, length, slice_index, take};
 
 use cap_spec::Step;
 
-/// How far the last step of a text has been read.
-#[derive(Clone, Copy)]
-pub(crate) enum Reading {
-    /// Nothing was read yet.
-    Start,
-    /// A slash.
-    Slash,
-    /// A slash, and the letter of a pointer.
-    Pointer,
-    /// A slash, and the letter of an element.
-    Item,
-    /// A step. Its number may have more digits.
-    Number(Step),
-}
-
-/// A number with one more digit. `None` if it would have a leading zero or be more than `most`.
-fn longer_number(n: u64, digit: u8, most: u64) -> Option<u64>
-    requires digit { digit < 10 }
+/// A number with one more digit. `None` if the byte is no digit, or if the number would have a
+/// leading zero or be more than `most`.
+#[inline(always)]
+fn longer_number(n: u64, byte: u8, most: u64) -> Option<u64>
     requires most { most < 2 ^ 32 }
     requires few { n ≤ most }
-    ensures { result ≡ number_with n digit most }
+    ensures { result ≡ number_with n byte most }
 {
+    if !byte.is_ascii_digit() {
+        return None;
+    }
     if n == 0 {
         return None;
     }
-    let longer = 10 * n + u64::from(digit);
+    let longer = 10 * n + u64::from(byte - b'0');
     if longer > most { None } else { Some(longer) }
 }
 
-/// How far the step has been read after one more byte. `None` if no path goes on with this byte.
-pub(crate) fn next(reading: Reading, byte: u8) -> Option<Reading>
-    ensures { result ≡ next_of reading byte }
+/// The number of at most `most` that begins at byte `from` of a text, and where its digits end: at
+/// the end of the text, or before a slash. The error is the first byte at which no such number goes
+/// on.
+#[inline(always)]
+fn number_at(text: &[u8], from: usize, most: u64) -> Result<(u64, usize), usize>
+    requires inside { from ≤ length text.now }
+    requires most { most < 2 ^ 32 }
+    requires digits { 9 ≤ most }
+    ensures ok { IfOk result (λ x. IsNumberAt text.now from most x.0 x.1) }
+    ensures bad { IfErr result (IsBadNumber text.now from most) }
 {
-    match reading {
-        Reading::Start if byte == b'/' => Some(Reading::Slash),
-        Reading::Slash if byte == b'p' => Some(Reading::Pointer),
-        Reading::Slash if byte == b'i' => Some(Reading::Item),
-        Reading::Number(_) if byte == b'/' => Some(Reading::Slash),
-        Reading::Pointer if byte.is_ascii_digit() => {
-            Some(Reading::Number(Step::Ptr(u16::from(byte - b'0'))))
-        }
-        Reading::Item if byte.is_ascii_digit() => {
-            Some(Reading::Number(Step::Item(u32::from(byte - b'0'))))
-        }
-        Reading::Number(Step::Ptr(n)) if byte.is_ascii_digit() => {
-            match longer_number(u64::from(n), byte - b'0', 65535) {
-                Some(n) => Some(Reading::Number(Step::Ptr(n as u16))),
-                None => None,
-            }
-        }
-        Reading::Number(Step::Item(n)) if byte.is_ascii_digit() => {
-            match longer_number(u64::from(n), byte - b'0', 4294967295) {
-                Some(n) => Some(Reading::Number(Step::Item(n as u32))),
-                None => None,
-            }
-        }
-        _ => None,
+    if from == text.len() || !text[from].is_ascii_digit() {
+        return Err(from);
     }
+    let mut number = u64::from(text[from] - b'0');
+    for end in from + 1..text.len() {
+        match longer_number(number, text[end], most) {
+            Some(longer) => number = longer,
+            None if text[end] == b'/' => return Ok((number, end)),
+            None => return Err(end),
+        }
+    }
+    Ok((number, text.len()))
 }
 
-/// The step that ends before a byte, if one does.
-pub(crate) fn ended(reading: Reading, byte: u8) -> Option<Step>
-    ensures { result ≡ ended_by reading byte }
+/// The step whose text begins at the slash of this place, and where its text ends: at the end of
+/// the whole text, or before a slash. The error is the first byte at which no path goes on, if the
+/// whole text is longer than a slash and has the texts of steps before the place.
+#[inline(always)]
+pub(crate) fn step_at(text: &[u8], slash: usize) -> Result<(Step, usize), usize>
+    requires inside { slash < length text.now }
+    requires slash { slice_index text.now slash ≡ 47 }
+    ensures ok { IfOk result (λ x. IsStepAt text.now slash x.0 x.1) }
+    ensures bad { (before : List Step) → AllByRecursion IsStep before →
+        take slash text.now ≡ flat_map step_text before → 1 < length text.now →
+        IfErr result (IsBadAt text.now) }
 {
-    match reading {
-        Reading::Number(step) if byte == b'/' => Some(step),
-        _ => None,
+    let letter = slash + 1;
+    if letter == text.len() {
+        return Err(letter);
+    }
+    match text[letter] {
+        b'p' => {
+            let (number, end) = number_at(text, letter + 1, 65535)?;
+            Ok((Step::Ptr(number as u16), end))
+        }
+        b'i' => {
+            let (number, end) = number_at(text, letter + 1, 4294967295)?;
+            Ok((Step::Item(number as u32), end))
+        }
+        _ => Err(letter),
     }
 }

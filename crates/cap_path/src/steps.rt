@@ -6,7 +6,7 @@ ghost use Rattle.cap_spec.specs.declared.Step.{Step};
 ghost use Rattle.std.specs.List.{AllByRecursion};
 ghost use Rattle.std.specs.Prelude.{◌<◌, ◌≡◌, [], ◌∷◌, Err, IfErr, IfOk, IfSome, IsOkAnd, List, None, Some, ℕ};
 
-use crate::reading::{Reading, ended, next};
+use crate::reading::step_at;
 use cap_spec::Step;
 
 /// The steps of a path that are still to be read from its text.
@@ -35,23 +35,24 @@ pub fn read_path(text: &[u8]) -> Result<PathSteps<'_>, usize>
         IsOkAnd result (λ left. AreLeft left steps) }
     ensures no_path { (at : ℕ) → IsBadAt text.now at → result ≡ Err at }
 {
-    let mut reading = Reading::Start;
-    for at in 0..text.len() {
-        match next(reading, text[at]) {
-            Some(next) => reading = next,
-            None => return Err(at),
-        }
+    if text.is_empty() || text[0] != b'/' {
+        return Err(0);
     }
-    match reading {
-        Reading::Number(_) => Ok(PathSteps { rest: text }),
-        // The only path that ends with a slash.
-        Reading::Slash if text.len() == 1 => Ok(PathSteps { rest: &[] }),
-        _ => Err(text.len()),
+    // The only path that ends with a slash.
+    if text.len() == 1 {
+        return Ok(PathSteps { rest: &[] });
     }
+    let mut at = 0;
+    while at < text.len() {
+        let (_, end) = step_at(text, at)?;
+        at = end;
+    }
+    Ok(PathSteps { rest: text })
 }
 
 impl<'t> PathSteps<'t> {
     /// The next step of the path, and `None` after the last one. Allocates nothing.
+    #[inline]
     pub fn next(&mut self) -> Option<Step>
         ensures some { (step : Step) (more : List Step) → AreLeft self.old (step ∷ more) →
             (result ≡ Some step) × AreLeft self.new more }
@@ -59,21 +60,15 @@ impl<'t> PathSteps<'t> {
         ensures shorter { IfSome result (λ _. bytes_left self.new < bytes_left self.old) }
     {
         let rest = self.rest;
-        let mut reading = Reading::Start;
-        for at in 0..rest.len() {
-            if let Some(step) = ended(reading, rest[at]) {
-                self.rest = &rest[at..];
-                return Some(step);
-            }
-            match next(reading, rest[at]) {
-                Some(next) => reading = next,
-                None => return None,
-            }
+        if rest.is_empty() || rest[0] != b'/' {
+            return None;
         }
-        self.rest = &[];
-        match reading {
-            Reading::Number(step) => Some(step),
-            _ => None,
+        match step_at(rest, 0) {
+            Ok((step, end)) => {
+                self.rest = &rest[end..];
+                Some(step)
+            }
+            Err(_) => None,
         }
     }
 }

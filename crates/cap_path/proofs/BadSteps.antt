@@ -1,0 +1,103 @@
+-- Where no path goes on with the step that is read.
+use Rattle.std.proofs.Common.{◌≡◌, ◌∙◌, ◌≢◌, ℕ, ◌+◌, ◌<◌, ◌≤◌, ◌==◌, ◌-◌, Bool, true, false, if◌then◌else◌, List, [], ◌∷◌, ◌++◌, Option, None}
+use Rattle.std.proofs.Common.{decimal, length, take, get_or, refl, sym, ap, subst, arith, append_assoc}
+use Rattle.std.specs.List.{flat_map, AllByRecursion}
+use Rattle.std.proofs.lemmas.Bool.Decides.{nat_tests}
+use Rattle.std.proofs.lemmas.List.{length-take-le, take_more}
+use Rattle.cap_spec.specs.PathTexts.{IsBadAt, IsStep, step_text}
+use Rattle.cap_spec.specs.declared.Step.{Step}
+use Rattle.cap_spec.specs.declared.Step.TheVariants.{Ptr, Item as item}
+use Rattle.cap_path.specs.PathReading.{IsBadNumber, no_digit, no_end, is_digit, longer_number, number_with}
+use Rattle.cap_path.proofs.PathReading.{Unfinished, bad_here, stops}
+use Rattle.cap_path.proofs.ReadSteps.{Reading, Slash, Pointer, Item, Number, HasRead, IsReading, next_of, item_number, pointer_number, reading_text, spells_more}
+
+not_equal : (a b : ℕ) → a ≢ b → (a == b) ≡ false
+not_equal a b other = grind (arith, nat_tests)
+
+-- how a step is spelled by a letter and a number, and read
+pub record IsSpelled (letter most : ℕ) (r : Reading) (make : ℕ → Step) : Type 0 where
+  pub begins : reading_text r ≡ 47 ∷ letter ∷ []
+  pub spells : (n : ℕ) → step_text (make n) ≡ 47 ∷ letter ∷ decimal n
+  pub fits : (n : ℕ) → n ≤ most → IsStep (make n)
+  pub reads : (done : List Step) → IsReading done r × Unfinished done r
+  pub first : (b : ℕ) → is_digit b ≡ false → next_of r b ≡ None
+  pub later : (n b : ℕ) → b ≢ 47 → number_with n b most ≡ None → next_of (Number (make n)) b ≡ None
+
+later_ptr : (t : Bool) (o : Option ℕ) → (if t then o else None) ≡ None → (if t then pointer_number o else None) ≡ None
+later_ptr true o e = ap pointer_number e
+later_ptr false o e = refl
+
+later_item : (t : Bool) (o : Option ℕ) → (if t then o else None) ≡ None → (if t then item_number o else None) ≡ None
+later_item true o e = ap item_number e
+later_item false o e = refl
+
+pub pointers : IsSpelled 112 65535 Pointer Ptr
+pointers = record {
+  begins = refl;
+  spells = λ n. refl;
+  fits = λ n few. omega (arith, few);
+  reads = λ done. (tt, tt);
+  first = λ b none. rw none refl;
+  later = λ n b other none. rw (not_equal b 47 other) (later_ptr (is_digit b) (longer_number n (b - 48) 65535) none);
+}
+
+pub items : IsSpelled 105 4294967295 Item item
+items = record {
+  begins = refl;
+  spells = λ n. refl;
+  fits = λ n few. omega (arith, few);
+  reads = λ done. (tt, tt);
+  first = λ b none. rw none refl;
+  later = λ n b other none. rw (not_equal b 47 other) (later_item (is_digit b) (longer_number n (b - 48) 4294967295) none);
+}
+
+-- A slash and a letter are read,
+pub letter_read : (text : List ℕ) (slash letter : ℕ) → slash + 1 < length text → get_or text slash 0 ≡ 47
+    → get_or text (slash + 1) 0 ≡ letter → take (slash + 1 + 1) text ≡ take slash text ++ 47 ∷ letter ∷ []
+letter_read text slash letter lt here is =
+    let less : slash < length text = omega (arith, lt) in
+    let b = get_or text (slash + 1) 0 in
+    take_more text (slash + 1) 0 lt
+    ∙ spells_more (take (slash + 1) text) (take slash text) (get_or text slash 0 ∷ []) (47 ∷ letter ∷ []) b
+    (take_more text slash 0 less) (ap (λ k. k ∷ b ∷ []) here ∙ ap (λ k. 47 ∷ k ∷ []) is)
+
+-- and then a number.
+pub step_read : (text : List ℕ) (slash letter n end : ℕ) (s : Step) → slash + 1 < length text → get_or text slash 0 ≡ 47
+    → get_or text (slash + 1) 0 ≡ letter → step_text s ≡ 47 ∷ letter ∷ decimal n
+    → take end text ≡ take (slash + 1 + 1) text ++ decimal n → take end text ≡ take slash text ++ step_text s
+step_read text slash letter n end s lt here is spelled e =
+    e ∙ ap (λ l. l ++ decimal n) (letter_read text slash letter lt here is)
+    ∙ append_assoc (take slash text) (47 ∷ letter ∷ []) (decimal n) ∙ ap (λ l. take slash text ++ l) (sym spelled)
+
+module _ (text : List ℕ) (slash : ℕ) (done : List Step) (lt : slash < length text) (here : get_or text slash 0 ≡ 47)
+    (are : AllByRecursion IsStep done) (before : take slash text ≡ flat_map step_text done) where
+  read_on : (end : ℕ) (r : Reading) → IsReading done r → take end text ≡ take slash text ++ reading_text r
+      → HasRead (take end text) done r
+  read_on end r fits e = record { are = are; fits = fits; spells = e ∙ ap (λ l. l ++ reading_text r) before }
+
+  some_done : 1 < length text → slash + 1 ≡ length text → 0 < length done
+  some_done long e = go done before
+    where
+      go : (steps : List Step) → take slash text ≡ flat_map step_text steps → 0 < length steps
+      go [] f = absurd (omega (arith, e, long, ap length f, length-take-le slash text (omega (arith, lt))))
+      go (s ∷ steps) f = omega arith
+
+  -- The letter is missing, or is none.
+  pub bad_letter : 1 < length text
+      → (slash + 1 < length text → (get_or text (slash + 1) 0 ≢ 112) × (get_or text (slash + 1) 0 ≢ 105)) → IsBadAt text (slash + 1)
+  bad_letter long none =
+      let h = read_on (slash + 1) Slash tt (take_more text slash 0 lt ∙ ap (λ k. take slash text ++ k ∷ []) here) in
+      stops text (slash + 1) done Slash (omega (arith, lt)) h (λ e. some_done long e)
+      (λ more. rw (not_equal (get_or text (slash + 1) 0) 112 (none more).0, not_equal (get_or text (slash + 1) 0) 105 (none more).1) refl)
+
+  -- There is no number.
+  pub bad_number : (letter most at : ℕ) (r : Reading) (make : ℕ → Step) → IsSpelled letter most r make
+      → slash + 1 < length text → get_or text (slash + 1) 0 ≡ letter → IsBadNumber text (slash + 1 + 1) most at → IsBadAt text at
+  bad_number letter most at r make s more is (no_digit e none) =
+      let read = letter_read text slash letter more here is ∙ ap (λ l. take slash text ++ l) (sym s.begins) in
+      let h = subst (λ (n : ℕ). HasRead (take n text) done r) (sym e) (read_on (slash + 1 + 1) r (s.reads done).0 read) in
+      stops text at done r (omega (arith, e, more)) h (λ _. (s.reads done).1) (λ less. s.first (get_or text at 0) (none less))
+  bad_number letter most at r make s more is (no_end n few less e other none) =
+      let read = step_read text slash letter n at (make n) more here is (s.spells n) e in
+      bad_here text at done (Number (make n)) (read_on at (Number (make n)) (s.fits n few) read)
+      (s.later n (get_or text at 0) other none) less
