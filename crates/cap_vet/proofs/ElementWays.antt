@@ -1,13 +1,11 @@
 -- Paths that go on at the elements of a list of structs.
-use Rattle.std.proofs.Common.{◌≡◌, ℕ, ◌+◌, ◌-◌, ◌*◌, ◌<◌, ◌≤◌, ◌^◌, List, [], ◌∷◌, ◌++◌}
-use Rattle.std.proofs.Common.{Ok, Some, None, Option, append_assoc, length, refl, subst, sym, ◌∙◌, ap, arith}
+use Rattle.std.proofs.Common.{◌≡◌, ℕ, ◌+◌, ◌*◌, ◌<◌, ◌≤◌, List, [], ◌∷◌, ◌++◌}
+use Rattle.std.proofs.Common.{Ok, Some, None, Option, append_assoc, length, refl, subst, sym, arith}
 use Rattle.std.proofs.Math.Nat.{mul-le-mul_right}
 use Rattle.cap_frame.specs.declared.segments.Segments as segments
-use Rattle.cap_spec.specs.Denoting.{element_levels}
 use Rattle.cap_spec.specs.Faults.{IsDeepAt}
-use Rattle.cap_spec.specs.Messages.{IsMessage, segment_of}
+use Rattle.cap_spec.specs.Messages.{segment_of}
 use Rattle.cap_spec.specs.Paths.{Goes, Spot, word, element}
-use Rattle.cap_spec.specs.declared.Kind.TheVariants.{Struct, Structs}
 use Rattle.cap_spec.specs.declared.Step.{Step}
 use Rattle.cap_spec.specs.declared.Step.TheVariants.{Item, Ptr}
 use Rattle.cap_vet.specs.Charging.{Arrives}
@@ -15,9 +13,9 @@ use Rattle.cap_vet.specs.Demands.{words_under}
 use Rattle.cap_vet.specs.Finding.{element_of}
 use Rattle.cap_vet.specs.NearFinding.{FindsNear}
 use Rattle.cap_vet.specs.PathStrictness.{AddsPointer, HasNoFaultBy}
-use Rattle.cap_vet.specs.PathWays.{AreElements, GivesAfter, IsStart}
+use Rattle.cap_vet.specs.PathWays.{AreElements, GivesAfter}
 use Rattle.cap_vet.specs.Looking.{IsNotLax}
-use Rattle.cap_vet.specs.Ways.{IsWay, SomeArrives}
+use Rattle.cap_vet.specs.Ways.{IsWay}
 use Rattle.cap_vet.specs.declared.demands.Demands.{Demands}
 use Rattle.cap_vet.specs.declared.nodes.charged.Arrival.{Arrival}
 use Rattle.cap_vet.specs.declared.nodes.found.Found.{Found}

@@ -1,5 +1,5 @@
 -- What a look at one pointer word of a path finds.
-use Rattle.std.proofs.Common.{◌≡◌, ℕ, ◌+◌, ◌≤◌, inl, List, refl, subst, sym, arith}
+use Rattle.std.proofs.Common.{◌≡◌, ℕ, ◌+◌, ◌≤◌, List, refl, arith}
 use Rattle.cap_spec.specs.Following.{Leads, Lead, near, one_pad, two_pads, to_null}
 use Rattle.cap_spec.specs.Messages.{HasWord, IsMessage}
 use Rattle.cap_spec.specs.Paths.{word}

@@ -7,9 +7,8 @@ use Rattle.cap_spec.specs.Paths.{Spot}
 use Rattle.cap_spec.proofs.Frames.Messages.{short_segment}
 use Rattle.cap_spec.specs.declared.Kind.TheVariants.{Pointers, Structs}
 use Rattle.cap_spec.specs.declared.Step.{Step}
-use Rattle.cap_vet.specs.Charging.{Arrives}
 use Rattle.cap_vet.specs.Finding.{IsFound, IsSomewhere, IsStep, own_words}
-use Rattle.cap_vet.specs.Ways.{HasFound, IsSomeWay, IsWay, SomeArrives}
+use Rattle.cap_vet.specs.Ways.{HasFound, IsSomeWay, SomeArrives}
 use Rattle.cap_vet.specs.declared.nodes.charged.Arrival.{Arrival}
 use Rattle.cap_vet.specs.declared.nodes.found.Found.{Found}
 use Rattle.cap_vet.specs.declared.nodes.way.Way.{Way}

@@ -4,6 +4,7 @@ pub(crate) mod budget;
 pub(crate) mod charged;
 pub(crate) mod found;
 pub(crate) mod getting;
+pub(crate) mod near_arrival;
 pub(crate) mod near_found;
 pub(crate) mod node;
 pub(crate) mod path_start;

@@ -9,14 +9,13 @@ ghost use Rattle.cap_spec.specs.declared.Kind.{Kind};
 ghost use Rattle.cap_spec.specs.declared.Step.{Step};
 ghost use Rattle.cap_vet.specs.Budgets.{left_of};
 ghost use Rattle.cap_vet.specs.Charging.{Arrives};
-ghost use Rattle.cap_vet.specs.Finding.{IsFound, element_of};
+ghost use Rattle.cap_vet.specs.Finding.{IsFound};
 ghost use Rattle.cap_vet.specs.Views.{kept_place, view_kind, view_message};
 ghost use Rattle.cap_vet.specs.Ways.{SomeArrives};
 ghost use Rattle.std.specs.Prelude.{[], ◌∷◌, ◌++◌, ◌+◌, ◌-◌, ◌<◌, ◌≡◌, ◌≤◌, ◌^◌, IfErr, IfNone, IfOk, IfSome, IsOk, List, OnErr, OnOk, length, ℕ};
 
 use crate::nodes::budget::Budget;
 use crate::nodes::found::{Found, element, found_of};
-use crate::nodes::near_found::found_near;
 use crate::nodes::spot::Spot;
 use crate::nodes::view::View;
 use crate::strictness::path_strictness::first_lax;
@@ -139,83 +138,6 @@ impl Arrival {
                 pointers: self.pointers,
                 lax: self.lax,
             })),
-        }
-    }
-}
-
-// Arrives at the root, if a look at its pointer shows where that leads.
-#[inline(always)]
-pub(crate) fn at_root_near<M: Segments>(message: &M, words: u64, depth: u32) -> Option<Arrival>
-    ensures { IfSome result (Arrives (M.segments message.now) words depth [] (word 0 0)) }
-{
-    if message.len(0) == 0 {
-        return None;
-    }
-    let (found, spent) = found_near(message, words, depth, 0, 0, 1)?;
-    Some(Arrival {
-        found,
-        level: 1,
-        spent,
-        pointers: 1,
-        lax: None,
-    })
-}
-
-impl Arrival {
-    // Takes one step, if a look at the step's pointer shows where it leads, or to an element.
-    #[inline(always)]
-    pub(crate) fn step_near<M: Segments>(
-        &self,
-        message: &M,
-        words: u64,
-        depth: u32,
-        step: Step,
-    ) -> Option<Arrival>
-        requires arrived { SomeArrives (M.segments message.now) words depth self.now }
-        requires levels { self.now.level < 2 ^ 61 }
-        requires few { self.now.pointers < 2 ^ 61 }
-        ensures { let m = M.segments message.now in
-            (path : List Step) (a : Where) → Arrives m words depth path a self.now →
-            IfSome result (λ next.
-            (b : Where) × Arrives m words depth (path ++ step ∷ []) b next) }
-    {
-        match self.found.step(step)? {
-            Spot::Word { segment, word } => {
-                let left = words - self.spent;
-                let level = self.level + 1;
-                let (found, charge) = found_near(message, left, depth, segment, word, level)?;
-                Some(Arrival {
-                    found,
-                    level,
-                    spent: self.spent + charge,
-                    pointers: self.pointers + 1,
-                    lax: self.lax,
-                })
-            }
-            Spot::Element {
-                segment,
-                start,
-                data_words,
-                pointers,
-            } => Some(self.at_element(segment, start, data_words, pointers)),
-        }
-    }
-
-    // What a step to this element arrives at.
-    #[inline(always)]
-    fn at_element(&self, segment: u32, start: u32, data_words: u16, pointers: u16) -> Arrival
-        requires { self.now.level < 2 ^ 61 }
-        ensures { result ≡ record self.now {
-          found = element_of segment start data_words pointers;
-          level = self.now.level + 1;
-        } }
-    {
-        Arrival {
-            found: element(segment, start, data_words, pointers),
-            level: self.level + u64::from(levels_of_elements(1)),
-            spent: self.spent,
-            pointers: self.pointers,
-            lax: self.lax,
         }
     }
 }

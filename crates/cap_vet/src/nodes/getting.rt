@@ -16,7 +16,8 @@ ghost use Rattle.std.specs.Prelude.{◌++◌, ◌≡◌, Err, IfErr, IfNone, IfO
 
 use crate::demands::{Demands, limits_under};
 use crate::limits::Limits;
-use crate::nodes::charged::{Arrival, at_root, at_root_near};
+use crate::nodes::charged::{Arrival, at_root};
+use crate::nodes::near_arrival::at_root_near;
 use crate::nodes::step_source::StepSource;
 use crate::nodes::view::View;
 use crate::nodes::way::Way;
@@ -68,8 +69,29 @@ pub fn get_with<'m, M: Segments, S: StepSource + Copy>(
         IsPathFault demands m (words_of limits) (depth_of limits) steps r → result ≡ Err r }
 {
     let limits = limits_under(message, limits, demands);
-    let way = follow_path(message, limits.words(), limits.depth(), path);
-    given(message, demands, way)
+    given_within(message, limits.words(), limits.depth(), demands, path)
+}
+
+// The same within limits under the demands. What looks alone find is given apart, since it then
+// stays in registers.
+#[inline(always)]
+fn given_within<'m, M: Segments, S: StepSource + Copy>(
+    message: &'m M,
+    words: u64,
+    depth: u32,
+    demands: Demands,
+    path: S,
+) -> Result<Option<View<'m, M>>, StrictRefusal>
+    ensures given { let m = M.segments message.now in
+        (most deepest : ℕ) (steps : List Step) → S.gives path steps →
+        words ≡ words_under demands m most → depth ≡ deepest →
+        IsGiven demands m most deepest steps result }
+    ensures message { IfOk result (λ o. IfSome o (λ v. view_message v ≡ message.now)) }
+{
+    match follow_near(message, words, depth, path) {
+        Some(at) => given(message, demands, Way::To(at)),
+        None => given(message, demands, follow_any(message, words, depth, path)),
+    }
 }
 
 /// What is given under demands where a path leads this way.
@@ -141,7 +163,7 @@ fn follow_near<M: Segments, S: StepSource + Copy>(
             None => return None,
         }
     }
-    Some(at)
+    Some(at.arrival())
 }
 
 // Follows any path from the root as far as it leads.

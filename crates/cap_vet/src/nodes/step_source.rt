@@ -28,6 +28,7 @@ impl<'t> StepSource for PathSteps<'t> {
 
     ghost most = { λ path. bytes_left path };
 
+    #[inline(always)]
     fn next_step(&mut self) -> Option<Step> {
         self.next()
     }

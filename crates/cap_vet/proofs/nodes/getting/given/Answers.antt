@@ -2,7 +2,6 @@
 use Rattle.std.proofs.Common.{refl, rules}
 use Rattle.cap_spec.specs.Messages.{IsMessage}
 use Rattle.cap_vet.proofs.PathWays.{nothing_given, nowhere_fault_given, refusal_given, something_given, to_fault_given}
-use Rattle.cap_vet.proofs.Somewhere.{found_exists, found_inside, found_own}
 use Rattle.cap_vet.proofs.nodes.getting.given.Goals as goal
 
 pub returns-in-Some-clause-given : goal.returns-in-Some-clause-given

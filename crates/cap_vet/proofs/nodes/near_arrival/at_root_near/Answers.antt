@@ -3,7 +3,7 @@ use Rattle.std.proofs.Common.{ℕ, ◌<◌, None, length, arith}
 use Rattle.cap_spec.specs.Messages.{HasWord, segment_of}
 use Rattle.cap_spec.proofs.Frames.Messages.{HasWord-at}
 use Rattle.cap_vet.proofs.Charging.{arrives_root}
-use Rattle.cap_vet.proofs.nodes.charged.at_root_near.Goals as goal
+use Rattle.cap_vet.proofs.nodes.near_arrival.at_root_near.Goals as goal
 
 pub returns : goal.returns
 returns g c =

@@ -1,0 +1,29 @@
+-- What looks alone find is given, or else what any following finds.
+use Rattle.std.proofs.Math.Logic.{∥∥₁_map}
+use Rattle.cap_vet.specs.Demands.{words_under}
+use Rattle.cap_vet.specs.declared.nodes.way.Way.TheVariants.{To}
+use Rattle.cap_vet.proofs.PathWays.{way_as}
+use Rattle.cap_vet.proofs.Somewhere.{way_found}
+use Rattle.cap_vet.proofs.nodes.getting.given_within.Goals as goal
+
+pub given-requires : goal.given-requires
+given-requires g c = record { found = ∥∥₁_map c.in-Some.ensures.leads (λ r. (r.1, r.2.found)) }
+
+pub returns-in-Some-clause-given : goal.returns-in-Some-clause-given
+returns-in-Some-clause-given g c = λ most deepest steps left under deep.
+    let m = g.M.Segments.segments c.args.message.now in
+    c.given.ensures.given most deepest steps
+    (way_as m c.args.words (words_under c.args.demands m most) c.args.depth deepest steps (To c.in-Some.at) under deep
+    (c.in-Some.ensures.way steps left))
+
+pub given-requires-in-None : goal.given-requires-in-None
+given-requires-in-None g c =
+    let m = g.M.Segments.segments c.args.message.now in
+    record { found = way_found m c.args.words c.args.depth c.follow_any.result c.follow_any.ensures.leads }
+
+pub returns-in-None-clause-given : goal.returns-in-None-clause-given
+returns-in-None-clause-given g c = λ most deepest steps left under deep.
+    let m = g.M.Segments.segments c.args.message.now in
+    c.given-in-None.ensures.given most deepest steps
+    (way_as m c.args.words (words_under c.args.demands m most) c.args.depth deepest steps c.follow_any.result under deep
+    (c.follow_any.ensures.way steps left))
