@@ -36,6 +36,10 @@ start_message start = start.message.now
 abbrev pub elements_message : {M : Type 0} {g : segments.Ghosts M} → StructElements M g → M
 elements_message e = e.message.now
 
+-- how many elements there are
+abbrev pub elements_count : {M : Type 0} {g : segments.Ghosts M} → StructElements M g → ℕ
+elements_count e = e.count
+
 -- These are the first steps of some paths in a message, under these demands and within these limits.
 pub record IsStart {M : Type 0} {g : segments.Ghosts M} (demands : Demands) (m : List (List ℕ)) (words depth : ℕ) (first : List Step)
     (start : PathStart M g) : Type 0 where

@@ -45,15 +45,16 @@ impl<'m, M: Segments> Copy for StructElements<'m, M> {}
 
 impl<'m, M: Segments> StructElements<'m, M> {
     ghost use Rattle.cap_vet.specs.Views.{view_message};
-    ghost use Rattle.cap_vet.specs.PathWays.{GivesElement, GivesPointer, elements_message};
-    ghost use Rattle.std.specs.Prelude.{IfSome};
+    ghost use Rattle.cap_vet.specs.PathWays.{GivesElement, GivesPointer, elements_count, elements_message};
+    ghost use Rattle.std.specs.Prelude.{◌↔◌, IfSome, IsSome};
 
     /// Element `i`, as [`PathStart::get`](crate::PathStart::get) gives it for this step alone. `None`
-    /// says nothing: `PathStart::get` then has to decide. Allocates nothing.
+    /// if the list has no such element. Allocates nothing.
     #[inline(always)]
     pub fn element(&self, i: u64) -> Option<View<'m, M>>
         ensures given { let m = M.segments (elements_message self.now) in
             IfSome result (GivesElement m self.now i) }
+        ensures exact { IsSome result ↔ i < elements_count self.now }
         ensures low { IfSome result (λ _. i < 4294967295) }
         ensures message { IfSome result (λ v. view_message v ≡ elements_message self.now) }
     {
