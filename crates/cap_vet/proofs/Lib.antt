@@ -42,6 +42,7 @@ pub mod OneReport
 pub mod ExclusiveFaults
 pub mod Laxness
 mod Splitting
-mod Demanding
+pub mod Demanding
 mod Pads
 mod NearUses
+pub mod OneTrail

@@ -1,10 +1,10 @@
 -- What is known of a walk, and of what its turn knows, between two pointer words (profile).
-use Rattle.std.specs.Prelude.{ℕ, ◌<◌, ◌∷◌, ◌++◌, List, Option}
+use Rattle.std.specs.Prelude.{ℕ, ◌<◌, [], ◌∷◌, ◌++◌, List, Option}
 use Rattle.std.specs.Option.{option_to_list}
 use Rattle.cap_spec.specs.Faults.{IsRefused}
 use Rattle.cap_spec.specs.declared.Step.{Step}
 use Rattle.cap_vet.specs.Limits.{depth_of, words_of}
-use Rattle.cap_vet.specs.Trails.{Ahead}
+use Rattle.cap_vet.specs.Trails.{Ahead, IsTrail}
 use Rattle.cap_vet.specs.Walking.{IsNext, Walks, work_left, work_next}
 use Rattle.cap_vet.specs.declared.walk.pointer_run.PointerRun.{PointerRun}
 use Rattle.cap_vet.specs.declared.limits.Limits.{Limits}
@@ -55,3 +55,7 @@ GoesOnBelow m limits runs below before after K =
 abbrev pub IsStopped : {S : Type 0} → List (List ℕ) → Limits → (S → Type 0) → Stopped S → Type 0
 IsStopped m limits stops (Refused refusal) = IsRefused m (words_of limits) (depth_of limits) refusal
 IsStopped m limits stops (ByTurn stop) = stops stop
+
+-- K holds of all paths that reach pointer words, the last in preorder first
+abbrev pub HoldsOfAll : List (List ℕ) → (List (List Step) → Type 0) → Type 0
+HoldsOfAll m K = (seen : List (List Step)) × IsTrail m seen [] × K seen

@@ -78,8 +78,8 @@ pub fn vet_with<'m, M: Segments>(
     }
 }
 
-// The limits of a message under the demands.
-pub(crate) fn limits_under<M: Segments>(message: &M, limits: Limits, demands: Demands) -> Limits
+/// The limits within which a message has to be accepted under the demands.
+pub fn limits_under<M: Segments>(message: &M, limits: Limits, demands: Demands) -> Limits
     ensures words { let m = M.segments message.now in
         words_of result ≡ words_under demands m (words_of limits) }
     ensures depth { depth_of result ≡ depth_of limits }

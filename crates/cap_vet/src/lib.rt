@@ -13,7 +13,7 @@ mod walk;
 
 pub use cap_ptr::Reason;
 pub use cap_spec::{Kind, Lax, Refusal, Step, StrictRefusal};
-pub use demands::{Demands, vet_with};
+pub use demands::{Demands, limits_under, vet_with};
 pub use exclusiveness::exclusive::Exclusive;
 pub use exclusiveness::exclusive_room::{ExclusiveFault, vet_exclusive_in};
 pub use exclusiveness::exclusive_vetting::{ExclusiveRefusal, vet_exclusive};
@@ -32,4 +32,5 @@ pub use nodes::view::View;
 pub use report::Report;
 pub use strictness::strict::Strict;
 pub use strictness::strict_vetting::vet_strict;
-pub use walk::vetting::vet;
+pub use walk::turn::{Stopped, Turn};
+pub use walk::vetting::{vet, vet_with_turn};

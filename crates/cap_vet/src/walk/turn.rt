@@ -14,7 +14,7 @@ use cap_frame::Segments;
 use cap_spec::Refusal;
 
 /// Why a walk stops.
-pub(crate) enum Stopped<S> {
+pub enum Stopped<S> {
     /// At the first fault.
     Refused(Refusal),
     /// Where the turn stops it.
@@ -23,7 +23,7 @@ pub(crate) enum Stopped<S> {
 
 /// What a walk does at each pointer word, beside counting it: `before` it looks at the word, and
 /// `after` that. It isn't called at null words that the walk skips.
-pub(crate) trait Turn {
+pub trait Turn {
     /// Why it stops a walk.
     type Stop;
 

@@ -7,8 +7,9 @@ ghost use Rattle.cap_spec.specs.declared.Refusal.{Refusal};
 ghost use Rattle.cap_spec.specs.Verdicts.{Justified};
 ghost use Rattle.cap_vet.specs.Limits.{depth_of, words_of};
 ghost use Rattle.cap_vet.specs.Reports.{IsAccepted};
+ghost use Rattle.cap_vet.specs.Turns.{HoldsOfAll, IsStopped};
 ghost use Rattle.cap_vet.specs.Vettings.{message_of, report_of};
-ghost use Rattle.std.specs.Prelude.{Err, ◌≡◌, ◌≤◌, IfErr, IfOk, IsOk, ⊤, ℕ};
+ghost use Rattle.std.specs.Prelude.{Err, [], ◌≡◌, ◌≤◌, IfErr, IfOk, IsOk, ⊤, ℕ};
 
 use crate::limits::Limits;
 use crate::nodes::place::Place;
@@ -63,6 +64,35 @@ pub fn vet<'m, M: Segments>(message: &'m M, limits: Limits) -> Result<Vetted<'m,
         Err(Stopped::ByTurn(never)) => match never {},
     }
     Ok(Vetted { message, report })
+}
+
+/// Vets a message as [`vet`] does, and takes a turn at each pointer word but null ones, in preorder.
+/// Walks once. Allocates nothing.
+///
+/// # Errors
+///
+/// - [`Stopped::Refused`]: `vet` refuses the message, and the turn didn't stop the walk before.
+/// - [`Stopped::ByTurn`]: the turn stopped the walk.
+#[inline(always)]
+pub fn vet_with_turn<'m, M: Segments, T: Turn>(
+    message: &'m M,
+    limits: Limits,
+    turn: &mut T,
+) -> Result<Vetted<'m, M>, Stopped<T::Stop>>
+    requires { T.knows turn.old (M.segments message.now) [] }
+    ensures ok { let m = M.segments message.now in
+        IfOk result (λ v. IsAccepted m (words_of limits) (depth_of limits) (report_of v)) }
+    ensures message { IfOk result (λ v. message_of v ≡ message.now) }
+    ensures knows { let m = M.segments message.now in
+        IfOk result (λ _. HoldsOfAll m (T.knows turn.new m)) }
+    ensures err { let m = M.segments message.now in
+        IfErr result (IsStopped m limits (T.stops m)) }
+{
+    let mut report = Report::default();
+    match walk(message, &limits, turn, &mut report) {
+        Ok(()) => Ok(Vetted { message, report }),
+        Err(stopped) => Err(stopped),
+    }
 }
 
 // A walk that only counts.
