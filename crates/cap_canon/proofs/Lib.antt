@@ -10,6 +10,7 @@ mod Entering
 mod Filling
 pub mod FirstWords
 mod Found
+mod InOrder
 mod InPlace
 mod Kept
 mod LaidSteps
@@ -26,3 +27,4 @@ mod Structs
 mod Trimmed
 mod Walks
 mod Whole
+mod WholeObjects

@@ -68,7 +68,7 @@ pub record ListPlace (m : List (List ℕ)) (t b q c n end : ℕ) : Type 0 where
   pub start : b ≡ end
   pub size : list_size q ≡ n
 
-list_place : (m : List (List ℕ)) (slot end k t b q c n : ℕ) → Finds m 0 slot k t b q → slot < end → end < 2 ^ 29
+pub list_place : (m : List (List ℕ)) (slot end k t b q c n : ℕ) → Finds m 0 slot k t b q → slot < end → end < 2 ^ 29
     → HasWord m 0 slot (list_word (end - slot - 1) c n) → c < 8 → n < 2 ^ 29 → ListPlace m t b q c n end
 list_place m slot end k t b q c n f lt small h hc hn =
     let o : end - slot - 1 < 2 ^ 29 = omega (arith, small) in

@@ -6,9 +6,11 @@ pub mod CopyTurns
 pub mod Filling
 pub mod FirstWords
 pub mod Found
+pub mod InOrder
 pub mod InPlace
 pub mod Kept
 pub mod Laying
+pub mod NullsInOrder
 pub mod Objects
 pub mod Roots
 pub mod StillToLay

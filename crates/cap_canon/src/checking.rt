@@ -110,10 +110,16 @@ fn stands_at<M: Segments>(message: &M, object: &Object, slot: u32, end: u32) -> 
     }
 }
 
-// Whether the words of a list of values have no bits set after the last value. Each is read, since a
-// word is known to be below 2^64 only once it is read.
+/// Whether the words of a list of values have no bits set after the last value. Each is read, since a
+/// word is known to be below 2^64 only once it is read.
 #[inline(always)]
-fn ends_with_values<M: Segments>(message: &M, start: u32, code: u8, count: u32, words: u32) -> bool
+pub(crate) fn ends_with_values<M: Segments>(
+    message: &M,
+    start: u32,
+    code: u8,
+    count: u32,
+    words: u32,
+) -> bool
     requires exists { 0 < length (M.segments message.now) }
     requires inside { start + words ≤ length (segment_of (M.segments message.now) 0) }
     requires code { code < 6 }

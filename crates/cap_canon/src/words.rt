@@ -36,9 +36,9 @@ pub(crate) fn pointer_word(offset: u32, object: &Object) -> u64
     }
 }
 
-// The pointer to a struct. That to one without words has the offset -1.
+/// The pointer to a struct. That to one without words has the offset -1.
 #[inline(always)]
-fn struct_pointer(offset: u32, data_words: u32, pointers: u32) -> u64
+pub(crate) fn struct_pointer(offset: u32, data_words: u32, pointers: u32) -> u64
     requires { (offset < 2 ^ 29) × (data_words < 2 ^ 16) × (pointers < 2 ^ 16) }
     ensures { result ≡ (if (data_words + pointers) == 0
         then 2 ^ 32 - 4 else struct_word offset data_words pointers) }
@@ -68,9 +68,9 @@ pub(crate) fn tag_word(count: u32, data_words: u32, pointers: u32) -> u64
     (u64::from(count) << 2) + (u64::from(data_words) << 32) + (u64::from(pointers) << 48)
 }
 
-// The pointer to a list.
+/// The pointer to a list.
 #[inline(always)]
-fn list_pointer(offset: u32, code: u8, size: u32) -> u64
+pub(crate) fn list_pointer(offset: u32, code: u8, size: u32) -> u64
     requires { (offset < 2 ^ 29) × (code < 8) × (size < 2 ^ 29) }
     ensures { result ≡ list_word offset code size }
 {

@@ -6,10 +6,11 @@ mod values;
 use super::held::{Forms, repeated, words};
 use crate::same::{same, same_of};
 use cap_canon::{
-    CanonFault, CopySource, canonical, canonical_bytes, canonical_len, canonical_over, is_canonical,
+    CanonFault, CopySource, canonical, canonical_bytes, canonical_len, canonical_over, check_with,
+    is_canonical,
 };
 use cap_frame::{OneSegment, Segments};
-use cap_vet::{Limits, Vetted, vet};
+use cap_vet::{Demands, Limits, Vetted, vet};
 use cap_words::bytes_of;
 use std::alloc::Global;
 use std::process::Abort;
@@ -19,6 +20,15 @@ fn accepted<M: Segments>(message: &M, words: u64, depth: u32) -> Result<Vetted<'
     let limits = Limits::new(words, depth).ok_or("no limits")?;
     match vet(message, limits) {
         Ok(vetted) => Ok(vetted),
+        Err(_) => Err("refused".into()),
+    }
+}
+
+// Whether a message is canonical, as it is found out while it is vetted.
+fn is_checked<M: Segments>(message: &M) -> Result<bool, Fail> {
+    let limits = Limits::new(268435456, 256).ok_or("no limits")?;
+    match check_with(message, limits, Demands::default()) {
+        Ok((_, canonical)) => Ok(canonical),
         Err(_) => Err("refused".into()),
     }
 }
@@ -64,7 +74,7 @@ fn in_each_way(
     }
 }
 
-// The four calls on a message as it is held. It is canonical where its only segment is the copy.
+// The five calls on a message as it is held. It is canonical where its only segment is the copy.
 fn answers<M: CopySource>(
     rt: &impl Abort,
     alloc: Global,
@@ -79,11 +89,13 @@ fn answers<M: CopySource>(
                 [segment] => *segment == copied,
                 _ => false,
             };
-            same_of(rt, &spelled, is_canonical(&vetted), is_own);
+            let checked = (is_canonical(&vetted), is_checked(message)?);
+            same_of(rt, &spelled, checked, (is_own, is_own));
             copies(rt, alloc, &vetted, copied)
         }
         Err(word) => {
-            same_of(rt, &spelled, is_canonical(&vetted), false);
+            let checked = (is_canonical(&vetted), is_checked(message)?);
+            same_of(rt, &spelled, checked, (false, false));
             has_none(rt, alloc, &vetted, word)
         }
     }

@@ -1,0 +1,549 @@
+-- A message is compared with its copy while it is vetted, one object more.
+use Rattle.std.proofs.Common.{ℕ, zero, suc, ◌+◌, ◌-◌, ◌*◌, ◌<◌, ◌≤◌, ◌^◌, ◌≡◌, ◌≢◌, ◌↔◌, List, [], ◌∷◌, ◌++◌, ap, ap₂, refl, sym, subst, ◌∙◌, arith, length, max, false, inl, inr, None}
+use Rattle.std.specs.Prelude.{if◌then◌else◌, ◌==◌, not}
+use Rattle.std.proofs.lemmas.Bool.{ne_eqb}
+use Rattle.cap_spec.specs.Canonical.{children_needed, children_of, cut_elements, data_needed, data_of, layout, list_word, pointer_to, struct_word, trim, trim_elements}
+use Rattle.cap_spec.specs.Copies.{IsCanonical}
+use Rattle.cap_spec.specs.Denoting.{AreElements, DenoteEach, Denotes, Finds, element_levels, places, value_at, values_of, words_from}
+use Rattle.cap_spec.specs.Following.{IsComposite}
+use Rattle.cap_spec.specs.Messages.{HasWord, segment_of}
+use Rattle.cap_spec.specs.Placing.{StandAt}
+use Rattle.cap_spec.specs.Pointers.{code, data_size, element_bits, kind, list_size, list_words, middle, pointer_size}
+use Rattle.cap_spec.specs.Scalars.{scalar_words}
+use Rattle.cap_spec.specs.Strict.{IsStrict}
+use Rattle.cap_spec.specs.Tree.{Tree, struct, structs, Trees, none, more, has_cap, tree_count}
+use Rattle.cap_spec.specs.declared.Step.{Step}
+use Rattle.cap_spec.specs.declared.Step.TheVariants.{Ptr, Item}
+use Rattle.std.proofs.lemmas.List.FromFn.{length-map-range_with_len}
+use Rattle.cap_spec.proofs.Strict.Looking.{near_has_none}
+use Rattle.cap_spec.proofs.Trees.Charges.{extent_pointers, extent_struct, extent_structs}
+use Rattle.cap_spec.proofs.Canonical.PointerFields.{struct_fields}
+use Rattle.cap_spec.proofs.Canonical.TreeMeasures.{Fits, extent_scalars}
+use Rattle.cap_spec.proofs.Frames.Messages.{one_word}
+use Rattle.cap_spec.proofs.Trees.DenotedTrees.{range_length}
+use Rattle.cap_spec.proofs.Trees.OneTree.{one_tree}
+use Rattle.cap_ptr.specs.Rows.{FindsRow}
+use Rattle.cap_ptr.specs.Shapes.{FindsObject, FindsTargetBy, IsShape}
+use Rattle.cap_ptr.specs.declared.near.Row.{Row}
+use Rattle.cap_ptr.specs.declared.shapes.Shape.{Shape}
+use Rattle.cap_ptr.specs.declared.shapes.Target.{Target}
+use Rattle.cap_ptr.specs.declared.shapes.Shape.TheVariants as shape
+use Rattle.cap_ptr.proofs.NearObjects.{pointers-no_extra, pointers-plain}
+use Rattle.cap_vet.specs.Looking.{IsNotLax, object_children}
+use Rattle.cap_vet.specs.Reports.{IsAccepted, IsReport}
+use Rattle.cap_vet.specs.Trails.{Ahead, IsTrail, element_rows, row}
+use Rattle.cap_vet.specs.Walking.{IsLookedAt}
+use Rattle.cap_vet.specs.declared.report.Report.{Report}
+use Rattle.cap_vet.proofs.Laxness.{knows_on, within_of}
+use Rattle.cap_vet.proofs.OneTrail.{object_trail, one_trail, root_trail}
+use Rattle.cap_canon.specs.Checked.{IsChecked}
+use Rattle.cap_canon.specs.InOrder.{AreDue, HasOwn, IsCut, IsInOrder, IsLaidSoFar, IsNextInOrder, IsOwn, IsStop, MayStand}
+use Rattle.cap_canon.specs.Laying.{AreBefore, Due, IsPointed, OwnAt, below, element_slots, own_size, slots}
+use Rattle.cap_canon.specs.Objects.{AreElementsLeft, AreLeft, IsLeft, IsObject}
+use Rattle.cap_canon.specs.Roots.{ForTrimmed}
+use Rattle.cap_canon.specs.Trimming.{most_data}
+use Rattle.cap_canon.specs.declared.in_order.Stop.{Stop}
+use Rattle.cap_canon.specs.declared.in_order.Stop.TheVariants.{NotCanonical, Undecided}
+use Rattle.cap_canon.specs.declared.objects.Object.{Object}
+use Rattle.cap_canon.specs.declared.objects.Object.TheVariants as object
+use Rattle.cap_canon.specs.declared.objects.Part.{Part}
+use Rattle.cap_canon.proofs.CheckWalks.{check_first, check_on}
+use Rattle.cap_canon.proofs.Elements.{most_data_of}
+use Rattle.cap_canon.proofs.Entering.{below_before}
+use Rattle.cap_canon.proofs.Found.{pointers_object, scalars_object, struct_found, struct_object, structs_found, structs_object}
+use Rattle.cap_canon.proofs.InPlace.{near_start}
+use Rattle.cap_canon.proofs.LaidSteps.{object_laid}
+use Rattle.cap_canon.proofs.Owing.{before_join, before_more}
+use Rattle.cap_canon.proofs.Standing.{list_place, pointers_place, scalars_place, struct_place, structs_place, structs_stand}
+use Rattle.cap_canon.proofs.Trimmed.{data_of-trim}
+use Rattle.cap_canon.proofs.Walks.{owed_fits}
+
+-- words ahead that are due, one behind the other
+due_join : (m : List (List ℕ)) (xs ys : List Ahead) (ds es : List Due) → AreDue m xs ds → AreDue m ys es → AreDue m (xs ++ ys) (ds ++ es)
+due_join m [] ys [] es h k = k
+due_join m [] ys (x ∷ ds) es h k = absurd h
+due_join m (a ∷ xs) ys [] es h k = absurd h
+due_join m (a ∷ xs) ys (x ∷ ds) es h k = (h.0, h.1, h.2, due_join m xs ys ds es h.3 k)
+
+-- the pointer words of a row
+row_due : (m : List (List ℕ)) (deep : ℕ) (base : List Step) (level : ℕ) (step : ℕ → Step) (t b a i n : ℕ) (us : Trees) → tree_count us ≡ n
+    → (0 < n → (t ≡ 0) × (b ≡ a)) → AreLeft m deep t b us → AreDue m (row base level step t b i n) (slots a us)
+row_due m deep base level step t b a i zero none e z h = tt
+row_due m deep base level step t b a i zero (more u us) e z h = absurd (omega (arith, e))
+row_due m deep base level step t b a i (suc n) none e z h = absurd (omega (arith, e))
+row_due m deep base level step t b a i (suc n) (more u us) e z h =
+    let (segment, at) = z (omega arith) in (
+      segment,
+      at,
+      (deep, subst (λ v. IsLeft m deep 0 v u) at (subst (λ s. IsLeft m deep s b u) segment h.0)),
+      row_due m deep base level step t (b + 1) (a + 1) (i + 1) n us (omega (arith, e)) (λ _. (segment, omega (arith, at))) h.1,
+    )
+
+-- and those of elements of which nothing is cut
+elements_due : (m : List (List ℕ)) (deep : ℕ) (base : List Step) (level t b a d p i n : ℕ) (es : Trees) → t ≡ 0 → b ≡ a → tree_count es ≡ n
+    → AreElementsLeft m deep t b d p d p es → AreDue m (element_rows base level t b d p i n) (element_slots d p a es)
+elements_due m deep base level t b a d p i zero none z at e h = tt
+elements_due m deep base level t b a d p i zero (more u es) z at e h = absurd (omega (arith, e))
+elements_due m deep base level t b a d p i (suc n) none z at e h = absurd (omega (arith, e))
+elements_due m deep base level t b a d p i (suc n) (more (struct ws us) es) z at e h =
+    due_join m (row (base ++ Item i ∷ []) level Ptr t (b + d) 0 p) (element_rows base level t (b + d + p) d p (i + 1) n)
+    (slots (a + d) us) (element_slots d p (a + d + p) es)
+    (row_due m deep (base ++ Item i ∷ []) level Ptr t (b + d) (a + d) 0 p us h.1 (λ _. (z, omega (arith, at))) h.2)
+    (elements_due m deep base level t (b + d + p) (a + d + p) d p (i + 1) n es z (omega (arith, at)) (omega (arith, e)) h.3)
+elements_due m deep base level t b a d p i (suc n) (more _ es) z at e h = absurd h
+
+-- An object's own words are those of the copy, with its pointer words due.
+own_of : (m : List (List ℕ)) (w end now q tag t b d : ℕ) (u : Tree) (o : Object) → w < end → HasWord m 0 w (pointer_to (end - w - 1) u)
+    → OwnAt (segment_of m 0) end u → now ≡ end + own_size u → IsObject m d 0 w u o
+    → ((path : List Step) (level : ℕ) → AreDue m (object_children path q tag t b level) (below end u)) → IsOwn m w end now q tag t b u
+own_of m w end now q tag t b d u o lt here own e is due = record {
+  pointed = (end - w - 1, omega (arith, lt), here);
+  own = own;
+  ends = e;
+  before = subst (λ n. AreBefore n (below end u)) (sym e) (below_before m d 0 w end u o is);
+  due = due;
+}
+
+-- a struct
+pub struct_own : (m : List (List ℕ)) (w end k t b q tag words charge d p : ℕ) → MayStand m w end
+    → FindsObject m 0 w k t b q tag words charge (shape.Struct d p)
+    → HasWord m 0 w (if (d + p) == 0 then 2 ^ 32 - 4 else struct_word (end - w - 1) d p)
+    → d ≡ max 0 (data_needed (words_from m t b d))
+    → ((ts : Trees) (c' d' : ℕ) → DenoteEach m (places t (b + d) p) ts c' d' → p ≡ max 0 (children_needed ts))
+    → HasOwn m w end (end + words) q tag t b
+struct_own m w end k t b q tag words charge d p s f has sizes children x c deep h =
+    let part : Part = record { segment = t; start = b; data_words = d; pointers = p; data_left = d; pointers_left = p } in
+    let o = struct_object m 0 w deep part x (struct_found m 0 w x c deep k t b q tag words charge d p h f) sizes (omega arith) children (omega arith) in
+    let l : length o.2.words ≡ d = ap length o.2.data_words ∙ range_length m t b d (omega (arith, o.2.found.inside)) in
+    let e : pointer_to (end - w - 1) (trim x) ≡ (if (d + p) == 0 then 2 ^ 32 - 4 else struct_word (end - w - 1) d p) =
+    ap (pointer_to (end - w - 1)) o.2.tree
+    ∙ ap₂ (λ (i j : ℕ). if (i + j) == 0 then 2 ^ 32 - 4 else struct_word (end - w - 1) i j) l o.2.many in
+    let here : HasWord m 0 w (pointer_to (end - w - 1) (trim x)) = subst (λ z. HasWord m 0 w z) (sym e) has in
+    let place = struct_place m o.0 w end (trim x) part o.2 s.after (omega (arith, s.inside, s.few)) s.inside here in
+    let size : own_size (trim x) ≡ length o.2.words + tree_count o.2.children = ap own_size o.2.tree in
+    let extent = extent_struct q f.object.shape.kind in
+    let ends : end + words ≡ end + own_size (trim x) = omega (arith, size, l, o.2.many, extent, f.object.words, f.object.shape.data_words, f.object.shape.pointers) in
+    own_of m w end (end + words) q tag t b deep (trim x) (object.Struct part) s.after here place.own ends o (λ path level.
+    let due : AreDue m (row path (level + 1) Ptr t (b + d) 0 p) (slots (end + d) o.2.children) =
+    row_due m o.0 path (level + 1) Ptr t (b + d) (end + d) 0 p o.2.children o.2.many place.place o.2.below in
+    let due' : AreDue m (row path (level + 1) Ptr t (b + d) 0 p) (below end (trim x)) =
+    subst (λ (v : Tree). AreDue m (row path (level + 1) Ptr t (b + d) 0 p) (below end v)) (sym o.2.tree)
+    (subst (λ i. AreDue m (row path (level + 1) Ptr t (b + d) 0 p) (slots (end + i) o.2.children)) (sym l) due) in
+    rw (f.object.shape.kind, ← f.object.shape.data_words, ← f.object.shape.pointers) due')
+
+-- a list of pointers
+pub pointers_own : (m : List (List ℕ)) (w end k t b q tag words charge n : ℕ) → MayStand m w end
+    → FindsObject m 0 w k t b q tag words charge (shape.Pointers n) → HasWord m 0 w (list_word (end - w - 1) 6 n)
+    → HasOwn m w end (end + words) q tag t b
+pointers_own m w end k t b q tag words charge n s f has x c deep h =
+    let o = pointers_object m 0 w x c deep k t b q tag words charge n h f in
+    let e : pointer_to (end - w - 1) (trim x) ≡ list_word (end - w - 1) 6 n =
+    ap (pointer_to (end - w - 1)) o.2.tree ∙ ap (λ i. list_word (end - w - 1) 6 i) o.2.many in
+    let here : HasWord m 0 w (pointer_to (end - w - 1) (trim x)) = subst (λ z. HasWord m 0 w z) (sym e) has in
+    let place = pointers_place m o.0 w end (trim x) t b n o.2 s.after (omega (arith, s.inside, s.few)) here in
+    let size : own_size (trim x) ≡ tree_count o.2.children = ap own_size o.2.tree in
+    let extent = extent_pointers q f.object.shape.kind f.object.shape.code in
+    let ends : end + words ≡ end + own_size (trim x) = omega (arith, size, o.2.many, extent, f.object.words, f.object.shape.count) in
+    own_of m w end (end + words) q tag t b deep (trim x) (object.Pointers t b n) s.after here place.own ends o (λ path level.
+    let due : AreDue m (row path (level + 1) Item t b 0 n) (slots end o.2.children) =
+    row_due m o.0 path (level + 1) Item t b end 0 n o.2.children o.2.many (λ _. place.place) o.2.below in
+    let due' : AreDue m (row path (level + 1) Item t b 0 n) (below end (trim x)) =
+    subst (λ (v : Tree). AreDue m (row path (level + 1) Item t b 0 n) (below end v)) (sym o.2.tree) due in
+    rw (f.object.shape.kind, f.object.shape.code, ← f.object.shape.count) due')
+
+-- a list of values
+pub values_own : (m : List (List ℕ)) (w end k t b q tag words charge c n : ℕ) → MayStand m w end
+    → FindsObject m 0 w k t b q tag words charge (shape.Scalars c n) → HasWord m 0 w (list_word (end - w - 1) c n)
+    → StandAt (segment_of m 0) end (scalar_words c (values_of m 0 end c n)) → HasOwn m w end (end + words) q tag t b
+values_own m w end k t b q tag words charge c n s f has stand x cost deep h =
+    let o = scalars_object m 0 w x cost deep k t b q tag words charge c n h f in
+    let many : length (values_of m t b c n) ≡ n = length-map-range_with_len (value_at (segment_of m t) b (element_bits c)) 0 n in
+    let e : pointer_to (end - w - 1) (trim x) ≡ list_word (end - w - 1) c n =
+    ap (pointer_to (end - w - 1)) o.1.tree ∙ ap (λ i. list_word (end - w - 1) c i) many in
+    let here : HasWord m 0 w (pointer_to (end - w - 1) (trim x)) = subst (λ z. HasWord m 0 w z) (sym e) has in
+    let place = scalars_place m w end (trim x) t b c n words o.1 s.after (omega (arith, s.inside, s.few)) here in
+    let own : OwnAt (segment_of m 0) end (trim x) = subst (λ (v : Tree). OwnAt (segment_of m 0) end v) (sym place.tree) stand in
+    let ends : end + words ≡ end + own_size (trim x) = omega (arith, place.size) in
+    let six : (code q == 6) ≡ false = ne_eqb (code q) 6 (λ z. omega (arith, z, f.object.shape.code, f.object.shape.scalar)) in
+    let seven : (code q == 7) ≡ false = ne_eqb (code q) 7 (λ z. omega (arith, z, f.object.shape.code, f.object.shape.scalar)) in
+    own_of m w end (end + words) q tag t b deep (trim x) (object.Scalars t b c n words) s.after here own ends o (λ path level.
+    let due : AreDue m [] (below end (trim x)) = subst (λ (v : Tree). AreDue m [] (below end v)) (sym place.tree) tt in
+    rw (f.object.shape.kind, six, seven) due)
+
+-- where it stands
+pub values_inside : (m : List (List ℕ)) (w end k t b q tag words charge c n : ℕ) → MayStand m w end
+    → FindsObject m 0 w k t b q tag words charge (shape.Scalars c n) → HasWord m 0 w (list_word (end - w - 1) c n)
+    → (end + words ≤ length (segment_of m 0)) × (words ≡ list_words c n) × (c < 6)
+values_inside m w end k t b q tag words charge c n s f has =
+    let few : n < 2 ^ 29 = omega (arith, f.object.shape.count) in
+    let r = list_place m w end k t b q c n f.finds s.after (omega (arith, s.inside, s.few)) has (omega (arith, f.object.shape.scalar)) few in
+    let seg : length (segment_of m t) ≡ length (segment_of m 0) = ap (λ i. length (segment_of m i)) r.segment in
+    let extent = extent_scalars q c f.object.shape.kind f.object.shape.code f.object.shape.scalar in (
+      omega (arith, f.finds.sits.inside, f.object.words, r.start, seg),
+      f.object.words ∙ (extent ∙ ap (list_words c) (sym f.object.shape.count)),
+      f.object.shape.scalar,
+    )
+
+-- how many elements a list of structs has, and that they exist
+pub structs_inside : (m : List (List ℕ)) (w k t b q tag words charge size n d p : ℕ)
+    → FindsObject m 0 w k t b q tag words charge (shape.Structs size n d p)
+    → (n < 2 ^ 30) × (n * (d + p) < 2 ^ 29) × (t < length m) × (b + 1 + n * (d + p) ≤ length (segment_of m t))
+structs_inside m w k t b q tag words charge size n d p f =
+    let tagged = f.object.tagged (f.object.shape.kind, f.object.shape.code) in
+    let fits : n * (d + p) ≤ list_size q = rw (f.object.shape.count, f.object.shape.data_words, f.object.shape.pointers) tagged.1.1 in
+    let extent = extent_structs q f.object.shape.kind f.object.shape.code in
+    let few : list_size q < 2 ^ 29 = omega arith in (
+      omega (arith, f.object.shape.count),
+      omega (arith, fits, few),
+      f.finds.sits.exists,
+      omega (arith, f.finds.sits.inside, extent, fits),
+    )
+
+-- and where its tag is, if its word is the one of a copy
+pub structs_start : (m : List (List ℕ)) (w end k t b q tag words charge size n d p : ℕ) → MayStand m w end
+    → FindsObject m 0 w k t b q tag words charge (shape.Structs size n d p) → HasWord m 0 w (list_word (end - w - 1) 7 (n * (d + p)))
+    → (end < length (segment_of m 0)) × (list_size q ≡ n * (d + p))
+structs_start m w end k t b q tag words charge size n d p s f has =
+    let in_ = structs_inside m w k t b q tag words charge size n d p f in
+    let r = list_place m w end k t b q 7 (n * (d + p)) f.finds s.after (omega (arith, s.inside, s.few)) has (omega arith) in_.1 in
+    let seg : length (segment_of m t) ≡ length (segment_of m 0) = ap (λ i. length (segment_of m i)) r.segment in
+    (omega (arith, in_.3, r.start, seg), r.size)
+
+-- a list of structs
+pub structs_own : (m : List (List ℕ)) (w end k t b q tag words charge size n d p : ℕ) → MayStand m w end
+    → FindsObject m 0 w k t b q tag words charge (shape.Structs size n d p) → HasWord m 0 w (list_word (end - w - 1) 7 (n * (d + p)))
+    → HasWord m 0 end (struct_word n d p) → d ≡ most_data m t (b + 1) d p n
+    → ((es : Trees) (c' d' : ℕ) → AreElements m t (b + 1) d p n es c' d' → p ≡ children_of es)
+    → HasOwn m w end (end + words) q tag t b
+structs_own m w end k t b q tag words charge size n d p s f has has_tag sizes children x c deep h =
+    let part : Part = record { segment = t; start = b + 1; data_words = d; pointers = p; data_left = d; pointers_left = p } in
+    let o = structs_object m 0 w b n deep part x refl (structs_found m 0 w x c deep k t b q tag words charge size n d p h f) sizes (omega arith) children
+    (omega arith) in
+    let e : pointer_to (end - w - 1) (trim x) ≡ list_word (end - w - 1) 7 (n * (d + p)) =
+    ap (pointer_to (end - w - 1)) o.2.tree ∙ ap (λ i. list_word (end - w - 1) 7 (i * (d + p))) o.2.many in
+    let here : HasWord m 0 w (pointer_to (end - w - 1) (trim x)) = subst (λ z. HasWord m 0 w z) (sym e) has in
+    let place = structs_place m o.0 w end (trim x) n part o.2 s.after (omega (arith, s.inside, s.few)) here in
+    let stand = structs_stand m o.0 w end (trim x) n part o.2 place has_tag in
+    let start = structs_start m w end k t b q tag words charge size n d p s f has in
+    let size' : own_size (trim x) ≡ 1 + n * (d + p) = ap own_size o.2.tree ∙ ap (λ i. 1 + i * (d + p)) o.2.many in
+    let extent = extent_structs q f.object.shape.kind f.object.shape.code in
+    let ends : end + words ≡ end + own_size (trim x) = omega (arith, size', extent, start.1, f.object.words) in
+    own_of m w end (end + words) q tag t b deep (trim x) (object.Structs n part) s.after here stand.own ends o (λ path level.
+    let rows = element_rows path (level + (element_levels 1 + 1)) t (b + 1) d p 0 n in
+    let due : AreDue m rows (element_slots d p (end + 1) o.2.elements) =
+    elements_due m o.0 path (level + (element_levels 1 + 1)) t (b + 1) (end + 1) d p 0 n o.2.elements place.segment place.start o.2.many o.2.below in
+    let due' : AreDue m rows (below end (trim x)) = subst (λ (v : Tree). AreDue m rows (below end v)) (sym o.2.tree) due in
+    rw (f.object.shape.kind, f.object.shape.code, ← f.object.shape.data_words, ← f.object.shape.pointers, ← f.object.shape.count) due')
+
+-- The walk goes on after an object that is where a copy has it.
+laid_on : (m : List (List ℕ)) (a : Ahead) (later : List Ahead) (w end now q tag t b : ℕ) (whole : Tree) → a.word ≡ w → now ≤ length (segment_of m 0)
+    → HasOwn m w end now q tag t b → IsLaidSoFar m end (a ∷ later) whole
+    → IsLaidSoFar m now (object_children a.path q tag t b a.level ++ later) whole
+laid_on m a later w end now q tag t b whole e inside own k = go k.due k.are_due k.before k.checked
+  where
+    go : (due : List Due) → AreDue m (a ∷ later) due → AreBefore end due → IsChecked m whole end due
+        → IsLaidSoFar m now (object_children a.path q tag t b a.level ++ later) whole
+    go [] h before c = absurd h
+    go (x ∷ due) h before c =
+        let slot : w ≡ x.slot = sym e ∙ h.1 in
+        let (y, cost, d, denotes, same, le) = h.2.1 in
+        let r : IsOwn m x.slot end now q tag t b x.tree = subst (λ (u : Tree). IsOwn m x.slot end now q tag t b u) (sym same)
+        (subst (λ v. HasOwn m v end now q tag t b) slot own y cost d denotes) in
+        let fits = owed_fits m d 0 0 x.slot x.tree (y, cost, d, denotes, same, omega arith) in
+        let checked : IsChecked m whole (end + own_size x.tree) (below end x.tree ++ due) =
+        check_on m whole x.tree x.slot end due fits (omega (arith, inside, r.ends)) r.pointed r.own c in record {
+          due = below end x.tree ++ due;
+          are_due = due_join m (object_children a.path q tag t b a.level) later (below end x.tree) due (r.due a.path a.level) h.3;
+          before = before_join now (below end x.tree) due r.before (before_more end now due (omega (arith, r.ends)) before.1);
+          checked = subst (λ n. IsChecked m whole n (below end x.tree ++ due)) (sym r.ends) checked;
+        }
+
+pub next_in_order : (m : List (List ℕ)) (seen : List (List Step)) (a : Ahead) (s w n end now : ℕ) → IsLookedAt m seen a s w n
+    → IsNextInOrder m w end now → IsInOrder m end seen → IsInOrder m now (a.path ∷ seen)
+next_in_order m seen a s w n end now l x k = record {
+  one = k.one;
+  few = k.few;
+  inside = x.inside;
+  strict = knows_on m seen a s w n None l not_lax k.strict;
+  so_far = λ ahead trail y c d h.
+      let children = object_children a.path x.q x.tag x.t x.b a.level in
+      let finds : Finds m a.segment a.word x.k x.t x.b x.q =
+      subst (λ v. Finds m a.segment v x.k x.t x.b x.q) (sym l.word) (subst (λ v. Finds m v w x.k x.t x.b x.q) (sym (l.segment ∙ first)) x.finds) in
+      let same : children ++ l.later ≡ ahead = one_trail m (a.path ∷ seen) (children ++ l.later) ahead
+      (object_trail m seen a l.later x.k x.t x.b x.q x.tag l.trail finds x.tagged) trail in
+      subst (λ (u : List Ahead). IsLaidSoFar m now u (trim y)) same
+      (laid_on m a l.later w end now x.q x.tag x.t x.b (trim y) l.word x.inside x.own (k.so_far (a ∷ l.later) l.trail y c d h));
+}
+  where
+    first : s ≡ 0
+    first = omega (arith, l.exists, k.one)
+
+    not_lax : IsNotLax m s w
+    not_lax = subst (λ v. IsNotLax m v w) (sym first) (near_has_none m 0 w x.word x.has x.near)
+
+-- the word looked at is one of segment 0
+pub next_inside : (m : List (List ℕ)) (seen : List (List Step)) (a : Ahead) (s w n end : ℕ) → IsLookedAt m seen a s w n
+    → IsInOrder m end seen → w < length (segment_of m 0)
+next_inside m seen a s w n end l k =
+    let first : s ≡ 0 = omega (arith, l.exists, k.one) in subst (λ v. w < length (segment_of m v)) first l.inside
+
+-- A list whose word and tag are those of a copy has the data words that the tag gives.
+cut_size : (m : List (List ℕ)) (w end : ℕ) (c : IsCut m w) (cs : Trees) (d p : ℕ) → w < end → end < 2 ^ 29 → Fits (structs d p cs)
+    → IsPointed (segment_of m 0) end w (structs d p cs) → OwnAt (segment_of m 0) end (structs d p cs) → c.d ≡ d
+cut_size m w end c cs d p lt small fits (offset, e, has) (has_tag, rest) =
+    let o : offset ≡ end - w - 1 = omega (arith, e) in
+    let here : HasWord m 0 w (list_word (end - w - 1) 7 (tree_count cs * (d + p))) =
+    subst (λ i. HasWord m 0 w (list_word i 7 (tree_count cs * (d + p)))) o has in
+    let r = list_place m w end c.k c.t c.b c.q 7 (tree_count cs * (d + p)) c.found.finds lt small here (omega arith) fits.3 in
+    let tagged = c.found.object.tagged (c.found.object.shape.kind, c.found.object.shape.code) in
+    let tag : HasWord m 0 end c.tag = subst (λ v. HasWord m 0 v c.tag) r.start (subst (λ v. HasWord m v c.b c.tag) r.segment tagged.0) in
+    let same : c.tag ≡ struct_word (tree_count cs) d p = one_word m 0 end c.tag (struct_word (tree_count cs) d p) tag has_tag in
+    let fields = struct_fields (tree_count cs) d p fits.2 fits.0 fits.1 in
+    c.found.object.shape.data_words ∙ (ap data_size same ∙ fields.data_words)
+
+-- So structs of a list that don't need all their data words aren't as a copy has them.
+cut_differs : (m : List (List ℕ)) (a : Ahead) (later : List Ahead) (w end : ℕ) (whole : Tree) → a.word ≡ w → IsCut m w
+    → length (segment_of m 0) ≤ 268435457 → IsLaidSoFar m end (a ∷ later) whole → segment_of m 0 ≡ layout whole → ⊥
+cut_differs m a later w end whole e c few k same = go k.due k.are_due k.before k.checked
+  where
+    go : (due : List Due) → AreDue m (a ∷ later) due → AreBefore end due → IsChecked m whole end due → ⊥
+    go [] h before checked = absurd h
+    go (x ∷ due) h before checked =
+        let slot : x.slot ≡ w = sym h.1 ∙ e in
+        let (y, cost, deep, denotes, left, le) = h.2.1 in
+        let here : Denotes m 0 w y cost deep = subst (λ v. Denotes m 0 v y cost deep) slot denotes in
+        let found = structs_found m 0 w y cost deep c.k c.t c.b c.q c.tag c.words c.charge c.size c.n c.d c.p here c.found in
+        let us = trim_elements found.elements in
+        let cs = cut_elements (data_of us) (children_of us) us in
+        let tree : x.tree ≡ structs (data_of us) (children_of us) cs = left ∙ ap trim found.tree in
+        let fits = owed_fits m deep 0 0 x.slot x.tree (y, cost, deep, denotes, left, omega arith) in
+        let laid = (object_laid (segment_of m 0) end x.slot x.tree due fits).0 (checked.laid.1 same) in
+        let pointed : IsPointed (segment_of m 0) end w (structs (data_of us) (children_of us) cs) =
+        subst (λ v. IsPointed (segment_of m 0) end v (structs (data_of us) (children_of us) cs)) slot
+        (subst (λ (u : Tree). IsPointed (segment_of m 0) end x.slot u) tree laid.0) in
+        let size = cut_size m w end c cs (data_of us) (children_of us) (omega (arith, slot, before.0)) (omega (arith, checked.inside, few))
+        (subst (λ (u : Tree). Fits u) tree fits) pointed (subst (λ (u : Tree). OwnAt (segment_of m 0) end u) tree laid.1) in
+        let most = most_data_of m c.t (c.b + 1) c.d c.p c.n found.elements found.inner found.deep found.below in
+        c.cut (most ∙ (sym (data_of-trim found.elements) ∙ sym size))
+
+pub cut_not_canonical : (m : List (List ℕ)) (seen : List (List Step)) (a : Ahead) (s w n end : ℕ) → IsLookedAt m seen a s w n
+    → IsInOrder m end seen → IsCut m w → ¬ IsCanonical m
+cut_not_canonical m seen a s w n end l k c (words, h, e) =
+    cut_differs m a l.later w end (trim h.tree) l.word c k.few (k.so_far (a ∷ l.later) l.trail h.tree h.charge h.depth h.denotes)
+    (ap (λ u. segment_of u 0) e ∙ h.laid)
+
+-- At first the root is due.
+pub first_in_order : (m : List (List ℕ)) → length m ≡ 1 → 0 < length (segment_of m 0) → length (segment_of m 0) ≤ 268435457 → IsInOrder m 1 []
+first_in_order m one some few = record {
+  one = one;
+  few = few;
+  inside = omega (arith, some);
+  strict = λ path h. absurd h;
+  so_far = λ ahead trail x c d h.
+      let root : Ahead = record { path = []; segment = 0; word = 0; level = 1 } in
+      subst (λ (u : List Ahead). IsLaidSoFar m 1 u (trim x)) (one_trail m [] (root ∷ []) ahead (root_trail m some) trail) (record {
+        due = record { slot = 0; tree = trim x } ∷ [];
+        are_due = (refl, refl, (d, (x, c, d, h, refl, omega arith)), tt);
+        before = (omega arith, tt);
+        checked = check_first m x c d h;
+      });
+}
+
+-- At the end nothing is due.
+pub checked_at_end : (m : List (List ℕ)) (seen : List (List Step)) (end : ℕ) → IsTrail m seen [] → IsInOrder m end seen
+    → ForTrimmed m (λ u. IsChecked m u end [])
+checked_at_end m seen end trail k = λ x c d h. (let l = k.so_far [] trail x c d h in go (trim x) l.due l.are_due l.checked)
+  where
+    go : (u : Tree) (due : List Due) → AreDue m [] due → IsChecked m u end due → IsChecked m u end []
+    go u [] h c = c
+    go u (x ∷ due) h c = absurd h
+
+one_segment : (m : List (List ℕ)) → length m ≡ 1 → m ≡ segment_of m 0 ∷ []
+one_segment [] e = absurd (omega (arith, e))
+one_segment (xs ∷ []) e = refl
+one_segment (xs ∷ ys ∷ m) e = absurd (omega (arith, e))
+
+-- So a message of a whole walk is its own copy exactly if the words of the copy are all that it has.
+pub canonical_at_end : (m : List (List ℕ)) (seen : List (List Step)) (end : ℕ) (r : Report) (t : Tree) → IsTrail m seen [] → IsInOrder m end seen
+    → IsReport m 268435456 256 r t → r.caps ≡ 0 → (end ≡ length (segment_of m 0)) ↔ IsCanonical m
+canonical_at_end m seen end r t trail k report caps = (to, from)
+  where
+    laid : (end ≡ length (segment_of m 0)) ↔ (segment_of m 0 ≡ layout (trim t))
+    laid = (checked_at_end m seen end trail k t r.charge r.depth report.denotes).laid
+
+    no_caps : has_cap t ≡ false
+    no_caps = ap (λ n. not (n == 0)) (sym report.caps ∙ caps)
+
+    to : end ≡ length (segment_of m 0) → IsCanonical m
+    to e = (
+      segment_of m 0,
+      record { tree = t; charge = r.charge; depth = r.depth; denotes = report.denotes; no_caps = no_caps; laid = laid.0 e },
+      one_segment m k.one,
+    )
+
+    from : IsCanonical m → end ≡ length (segment_of m 0)
+    from (words, h, e) =
+        let same = one_tree m 0 0 h.tree t h.charge h.depth r.charge r.depth h.denotes report.denotes in
+        laid.1 (ap (λ u. segment_of u 0) e ∙ (h.laid ∙ ap (λ u. layout (trim u)) same.part))
+
+-- and it is strict
+pub strict_in_order : (m : List (List ℕ)) (words depth : ℕ) (seen : List (List Step)) (end : ℕ) (r : Report) → IsTrail m seen [] → IsInOrder m end seen
+    → IsAccepted m words depth r → IsStrict m words depth
+strict_in_order m words depth seen end r trail k a = record {
+  accepted = within_of m words depth r a;
+  few_segments = omega (arith, k.one);
+  none = λ path x. elim (trail.complete path x.0 x.1 x.2 x.4) [ inl one ↦ k.strict path one x | inr under ↦ absurd under ];
+}
+
+-- what is known where the walk stops
+pub stop_known : (m : List (List ℕ)) (stop : Stop) → (stop ≡ NotCanonical → ¬ IsCanonical m) → IsStop m stop
+stop_known m NotCanonical h = h refl
+stop_known m Undecided h = tt
+
+-- the same of targets
+module _ (m : List (List ℕ)) (w end : ℕ) (x : Target) (s : MayStand m w end) (q tag : ℕ) (f : FindsTargetBy m 0 w q tag x) where
+  pub struct_target : (d p : ℕ) → x.shape ≡ shape.Struct d p
+      → HasWord m 0 w (if (d + p) == 0 then 2 ^ 32 - 4 else struct_word (end - w - 1) d p)
+      → d ≡ max 0 (data_needed (words_from m x.segment x.start d))
+      → ((ts : Trees) (c' d' : ℕ) → DenoteEach m (places x.segment (x.start + d) p) ts c' d' → p ≡ max 0 (children_needed ts))
+      → HasOwn m w end (end + x.words) q tag x.segment x.start
+  struct_target d p e = struct_own m w end x.pads x.segment x.start q tag x.words x.charge d p s
+      (subst (FindsObject m 0 w x.pads x.segment x.start q tag x.words x.charge) e f)
+
+  pub pointers_target : (n : ℕ) → x.shape ≡ shape.Pointers n → HasWord m 0 w (list_word (end - w - 1) 6 n)
+      → HasOwn m w end (end + x.words) q tag x.segment x.start
+  pointers_target n e = pointers_own m w end x.pads x.segment x.start q tag x.words x.charge n s
+      (subst (FindsObject m 0 w x.pads x.segment x.start q tag x.words x.charge) e f)
+
+  pub values_target : (c n : ℕ) → x.shape ≡ shape.Scalars c n → HasWord m 0 w (list_word (end - w - 1) c n)
+      → StandAt (segment_of m 0) end (scalar_words c (values_of m 0 end c n)) → HasOwn m w end (end + x.words) q tag x.segment x.start
+  values_target c n e = values_own m w end x.pads x.segment x.start q tag x.words x.charge c n s
+      (subst (FindsObject m 0 w x.pads x.segment x.start q tag x.words x.charge) e f)
+
+  pub structs_target : (size n d p : ℕ) → x.shape ≡ shape.Structs size n d p → HasWord m 0 w (list_word (end - w - 1) 7 (n * (d + p)))
+      → HasWord m 0 end (struct_word n d p) → d ≡ most_data m x.segment (x.start + 1) d p n
+      → ((es : Trees) (c' d' : ℕ) → AreElements m x.segment (x.start + 1) d p n es c' d' → p ≡ children_of es)
+      → HasOwn m w end (end + x.words) q tag x.segment x.start
+  structs_target size n d p e = structs_own m w end x.pads x.segment x.start q tag x.words x.charge size n d p s
+      (subst (FindsObject m 0 w x.pads x.segment x.start q tag x.words x.charge) e f)
+
+-- the words of pointers by their fields
+struct_by_fields : (x : ℕ) → x < 2 ^ 64 → kind x ≡ 0 → x ≡ struct_word (middle x) (data_size x) (pointer_size x)
+struct_by_fields x small k = omega (arith, small, k)
+
+list_by_fields : (x : ℕ) → x < 2 ^ 64 → kind x ≡ 1 → x ≡ list_word (middle x) (code x) (list_size x)
+list_by_fields x small k = omega (arith, small, k)
+
+-- A word that describes its object alone, and leads to the end.
+module _ (m : List (List ℕ)) (w end word : ℕ) (r : Row) (s : MayStand m w end) (f : FindsRow m 0 w word r) (has : HasWord m 0 w word)
+    (next : w + 1 + middle word ≡ end) where
+  offset : middle word ≡ end - w - 1
+  offset = omega (arith, next)
+
+  pub starts_at : kind word < 2 → word ≢ 0 → r.start ≡ end
+  starts_at near some =
+      let small : middle word < 2 ^ 29 = omega (arith, next, s.inside, s.few) in
+      (near_start m 0 w 0 0 r.start word word (middle word) f.finds has near some refl small).1 ∙ next
+
+  pub row_inside : kind word < 2 → word ≢ 0 → end + r.words ≤ length (segment_of m 0)
+  row_inside near some = omega (arith, f.finds.sits.inside, f.words, starts_at near some)
+
+  object_of : (x : Shape) → IsShape word 0 x → FindsObject m 0 w 0 0 r.start word 0 r.words r.words x
+  object_of x is =
+      let plain = pointers-plain word r.pointer_count f.pointers in
+      let none = pointers-no_extra word r.pointer_count f.pointers in record {
+        finds = f.finds;
+        object = record {
+          tagged = λ c. absurd (plain.1 c.0 c.1);
+          words = f.words;
+          charge = omega (arith, f.words, none);
+          small = omega (arith, f.few);
+          shape = is;
+        };
+      }
+
+  row_next : kind word < 2 → word ≢ 0 → HasOwn m w end (end + r.words) word 0 0 r.start → (IsComposite word → ⊥)
+      → IsNextInOrder m w end (end + r.words)
+  row_next near some own plain = record {
+    word = word;
+    has = has;
+    near = λ e. omega (arith, e, near);
+    inside = row_inside near some;
+    k = 0;
+    t = 0;
+    b = r.start;
+    q = word;
+    tag = 0;
+    finds = f.finds;
+    tagged = λ composite. absurd (plain composite);
+    own = own;
+  }
+
+  -- It is a struct,
+  pub struct_some : kind word ≡ 0 → r.words ≢ 0 → (word ≢ 0) × (end + data_size word + pointer_size word ≤ length (segment_of m 0))
+  struct_some k some =
+      let extent = extent_struct word k in
+      let set : word ≢ 0 = λ z. some (f.words ∙ (extent ∙ ap (λ (x : ℕ). data_size x + pointer_size x) z)) in
+      (set, omega (arith, row_inside (omega (arith, k)) set, f.words, extent))
+
+  pub struct_next : word < 2 ^ 64 → kind word ≡ 0 → r.words ≢ 0
+      → data_size word ≡ max 0 (data_needed (words_from m 0 end (data_size word)))
+      → ((ts : Trees) (c' d' : ℕ) → DenoteEach m (places 0 (end + data_size word) (pointer_size word)) ts c' d'
+      → pointer_size word ≡ max 0 (children_needed ts)) → IsNextInOrder m w end (end + r.words)
+  struct_next small k some sizes children =
+      let d = data_size word in
+      let p = pointer_size word in
+      let set = (struct_some k some).0 in
+      let near : kind word < 2 = omega (arith, k) in
+      let at = starts_at near set in
+      let none : ((d + p) == 0) ≡ false = ne_eqb (d + p) 0 (λ z. some (f.words ∙ (extent_struct word k ∙ z))) in
+      let same : word ≡ (if (d + p) == 0 then 2 ^ 32 - 4 else struct_word (end - w - 1) d p) =
+      rw none (struct_by_fields word small k ∙ ap (λ i. struct_word i d p) offset) in
+      row_next near set
+      (struct_own m w end 0 0 r.start word 0 r.words r.words d p s (object_of (shape.Struct d p) (record { kind = k; data_words = refl; pointers = refl }))
+      (subst (λ z. HasWord m 0 w z) same has) (rw at sizes) (rw at children)) (λ c. omega (arith, c.0, k))
+
+  -- a list of pointers
+  pub pointers_next : word < 2 ^ 64 → kind word ≡ 1 → code word ≡ 6 → IsNextInOrder m w end (end + r.words)
+  pointers_next small k c =
+      let near : kind word < 2 = omega (arith, k) in
+      let set : word ≢ 0 = λ z. (let e : kind word ≡ kind 0 = ap kind z in omega (arith, k, e)) in
+      let same : word ≡ list_word (end - w - 1) 6 (list_size word) =
+      list_by_fields word small k ∙ (ap (λ i. list_word i (code word) (list_size word)) offset ∙ ap (λ i. list_word (end - w - 1) i (list_size word)) c) in
+      row_next near set
+      (pointers_own m w end 0 0 r.start word 0 r.words r.words (list_size word) s
+      (object_of (shape.Pointers (list_size word)) (record { kind = k; code = c; count = refl })) (subst (λ z. HasWord m 0 w z) same has))
+      (λ z. omega (arith, z.1, c))
+
+  -- or one of values.
+  pub row_code : kind word ≢ 0 → code word ≢ 6 → (kind word ≡ 1) × (code word < 6)
+  row_code k c = elim f.pointers [
+    | inl h ↦ absurd (k h.0)
+    | inr (inl h) ↦ absurd (c h.1)
+    | inr (inr h) ↦ (h.0, h.2)
+  ]
+
+  pub row_pointers : kind word ≢ 0 → kind word ≡ 1
+  row_pointers k = elim f.pointers [
+    | inl h ↦ absurd (k h.0)
+    | inr (inl h) ↦ h.0
+    | inr (inr h) ↦ h.0
+  ]
+
+  pub values_words : kind word ≡ 1 → code word < 6 → r.words ≡ list_words (code word) (list_size word)
+  values_words k c = f.words ∙ extent_scalars word (code word) k refl c
+
+  pub values_row : kind word ≡ 1 → end + r.words ≤ length (segment_of m 0)
+  values_row k = row_inside (omega (arith, k)) (λ z. (let e : kind word ≡ kind 0 = ap kind z in omega (arith, k, e)))
+
+  pub values_next : word < 2 ^ 64 → kind word ≡ 1 → code word < 6
+      → StandAt (segment_of m 0) end (scalar_words (code word) (values_of m 0 end (code word) (list_size word))) → IsNextInOrder m w end (end + r.words)
+  values_next small k c stand =
+      let near : kind word < 2 = omega (arith, k) in
+      let set : word ≢ 0 = λ z. (let e : kind word ≡ kind 0 = ap kind z in omega (arith, k, e)) in
+      let same : word ≡ list_word (end - w - 1) (code word) (list_size word) =
+      list_by_fields word small k ∙ ap (λ i. list_word i (code word) (list_size word)) offset in
+      row_next near set
+      (values_own m w end 0 0 r.start word 0 r.words r.words (code word) (list_size word) s
+      (object_of (shape.Scalars (code word) (list_size word)) (record { kind = k; code = refl; scalar = c; count = refl }))
+      (subst (λ z. HasWord m 0 w z) same has) stand) (λ z. omega (arith, z.1, c))

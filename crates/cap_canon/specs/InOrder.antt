@@ -1,0 +1,100 @@
+-- A message that is compared with its canonical copy while it is vetted (profile).
+use Rattle.std.specs.Prelude.{ℕ, ◌+◌, ◌<◌, ◌≤◌, ◌≡◌, ◌≢◌, List, [], ◌∷◌, length, None, ⊤}
+use Rattle.cap_spec.specs.Canonical.{trim}
+use Rattle.cap_spec.specs.Copies.{IsCanonical}
+use Rattle.cap_spec.specs.Denoting.{Denotes, Finds}
+use Rattle.cap_spec.specs.Following.{IsComposite}
+use Rattle.cap_spec.specs.Messages.{HasWord, segment_of}
+use Rattle.cap_spec.specs.Pointers.{kind}
+use Rattle.cap_spec.specs.Tree.{Tree}
+use Rattle.cap_spec.specs.declared.Step.{Step}
+use Rattle.cap_vet.specs.Looking.{object_children}
+use Rattle.cap_vet.specs.Stricts.{KnowsLax}
+use Rattle.cap_vet.specs.Trails.{Ahead, IsTrail}
+use Rattle.cap_ptr.specs.Shapes.{FindsObject}
+use Rattle.cap_ptr.specs.declared.shapes.Shape.TheVariants.{Structs}
+use Rattle.cap_canon.specs.Checked.{IsChecked}
+use Rattle.cap_canon.specs.Laying.{AreBefore, Due, IsPointed, OwnAt, below, own_size}
+use Rattle.cap_canon.specs.Objects.{IsLeft}
+use Rattle.cap_canon.specs.Roots.{ForTrimmed}
+use Rattle.cap_canon.specs.Trimming.{most_data}
+use Rattle.cap_canon.specs.declared.in_order.Stop.{Stop}
+use Rattle.cap_canon.specs.declared.in_order.Stop.TheVariants.{NotCanonical, Undecided}
+
+-- The words ahead of a walk are those of the copy that are due, each in its place.
+abbrev pub AreDue : List (List ℕ) → List Ahead → List Due → Type 0
+AreDue m [] [] = ⊤
+AreDue m [] (x ∷ due) = ⊥
+AreDue m (a ∷ ahead) [] = ⊥
+AreDue m (a ∷ ahead) (x ∷ due) = (a.segment ≡ 0) × (a.word ≡ x.slot) × ((deep : ℕ) × IsLeft m deep 0 x.slot x.tree) × AreDue m ahead due
+
+-- Of a message with this trimmed tree the words up to end are those of the copy, if the pointer words ahead are.
+pub record IsLaidSoFar (m : List (List ℕ)) (end : ℕ) (ahead : List Ahead) (whole : Tree) : Type 0 where
+  pub due : List Due
+  pub are_due : AreDue m ahead due
+  pub before : AreBefore end due
+  pub checked : IsChecked m whole end due
+
+-- After these paths each object is where a copy has it, and a copy has the next one from end on.
+pub record IsInOrder (m : List (List ℕ)) (end : ℕ) (seen : List (List Step)) : Type 0 where
+  pub one : length m ≡ 1
+  pub few : length (segment_of m 0) ≤ 268435457
+  pub inside : end ≤ length (segment_of m 0)
+  pub strict : KnowsLax m seen None
+  pub so_far : (ahead : List Ahead) → IsTrail m seen ahead → ForTrimmed m (IsLaidSoFar m end ahead)
+
+-- A copy has this trimmed tree's own words from end on, up to now, as the message has them. The object of the word q at
+-- t:b, with this tag, has the pointer words that are due then.
+pub record IsOwn (m : List (List ℕ)) (w end now q tag t b : ℕ) (u : Tree) : Type 0 where
+  pub pointed : IsPointed (segment_of m 0) end w u
+  pub own : OwnAt (segment_of m 0) end u
+  pub ends : now ≡ end + own_size u
+  pub before : AreBefore now (below end u)
+  pub due : (path : List Step) (level : ℕ) → AreDue m (object_children path q tag t b level) (below end u)
+
+-- and so it is of the tree that the pointer word w of segment 0 denotes
+abbrev pub HasOwn : List (List ℕ) → ℕ → ℕ → ℕ → ℕ → ℕ → ℕ → ℕ → Type 0
+HasOwn m w end now q tag t b = (x : Tree) (c d : ℕ) → Denotes m 0 w x c d → IsOwn m w end now q tag t b (trim x)
+
+-- A copy may have the words of the object of the pointer word w from end on.
+pub record MayStand (m : List (List ℕ)) (w end : ℕ) : Type 0 where
+  pub after : w < end
+  pub inside : end ≤ length (segment_of m 0)
+  pub few : length (segment_of m 0) ≤ 268435457
+
+-- The pointer word w of segment 0 finds an object, and a copy has that word and the object's own words, from end on up to now.
+pub record IsNextInOrder (m : List (List ℕ)) (w end now : ℕ) : Type 0 where
+  pub word : ℕ
+  pub has : HasWord m 0 w word
+  pub near : kind word ≢ 2
+  pub inside : now ≤ length (segment_of m 0)
+  pub k : ℕ
+  pub t : ℕ
+  pub b : ℕ
+  pub q : ℕ
+  pub tag : ℕ
+  pub finds : Finds m 0 w k t b q
+  pub tagged : IsComposite q → HasWord m t b tag
+  pub own : HasOwn m w end now q tag t b
+
+-- The pointer word w of segment 0 finds a list of n structs of d data words and p pointers, and none of these needs all
+-- its data words.
+pub record IsCut (m : List (List ℕ)) (w : ℕ) : Type 0 where
+  pub k : ℕ
+  pub t : ℕ
+  pub b : ℕ
+  pub q : ℕ
+  pub tag : ℕ
+  pub words : ℕ
+  pub charge : ℕ
+  pub size : ℕ
+  pub n : ℕ
+  pub d : ℕ
+  pub p : ℕ
+  pub found : FindsObject m 0 w k t b q tag words charge (Structs size n d p)
+  pub cut : most_data m t (b + 1) d p n ≢ d
+
+-- what is known of a message where the walk stops
+abbrev pub IsStop : List (List ℕ) → Stop → Type 0
+IsStop m NotCanonical = ¬ IsCanonical m
+IsStop m Undecided = ⊤
