@@ -12,9 +12,9 @@ use crate::input::over_input;
 use crate::limits::CallLimits;
 use crate::over::Call;
 use crate::report::CallReport;
-use cap_canon::is_canonical as is_copy;
+use cap_canon::check_with;
 use cap_frame::ByteView;
-use cap_vet::{Demands, Limits, vet_with};
+use cap_vet::{Demands, Limits};
 
 /// Whether the message that bytes are has one segment, and its words are its own canonical copy
 /// (encoding: Canonicalization). Allocates nothing, and makes no copy.
@@ -49,10 +49,10 @@ impl Call for Checking {
         demands: Demands,
         _out: &mut [u8],
     ) -> Found {
-        match vet_with(view, limits, demands) {
-            Ok(vetted) => {
+        match check_with(view, limits, demands) {
+            Ok((vetted, canonical)) => {
                 let report = vetted.report();
-                if is_copy(&vetted) {
+                if canonical {
                     Found::accepted(Answer::Good, 0, report)
                 } else {
                     Found::accepted(Answer::NotCanonical, 0, report)

@@ -1,7 +1,7 @@
 //! The engine that writes for each message whether it is canonical.
 
 ghost use Rattle.cap_run.specs.Checking.{TellsCheck, TellsChecked};
-ghost use Rattle.cap_run.specs.Demanding.{TellsCheckUnder};
+ghost use Rattle.cap_run.specs.Demanding.{OrFaultIn, TellsCheckUnder};
 ghost use Rattle.cap_run.specs.Engines.{TellsStream};
 ghost use Rattle.cap_run.specs.Telling.{WantsNone};
 ghost use Rattle.cap_frame.specs.Limit.{limit_of};
@@ -9,34 +9,45 @@ ghost use Rattle.cap_vet.specs.Limits.{depth_of, words_of};
 ghost use Rattle.std.specs.Prelude.{◌≡◌, if◌then◌else◌};
 
 use crate::engines::stream::Counted;
-use crate::engines::whole::{Teller, after_text, vet_all};
+use crate::engines::whole::{Judge, after_text, judge_all};
 use crate::settings::{Outcome, Settings};
-use cap_canon::is_canonical;
+use cap_canon::check_with;
 use cap_frame::Segments;
-use cap_text::{Cause, Page, RunFault, write_check};
-use cap_vet::{Demands, Vetted};
+use cap_text::{Cause, Page, RunFault, write_check, write_refused};
+use cap_vet::{Demands, Limits};
 use cap_words::{ByteOut, WordSource};
 use std::alloc::Global;
 
-/// Writes whether a message is canonical.
+/// Vets a message under demands, and writes whether it is canonical if it meets them. Otherwise it
+/// writes the first reason why not, and the place.
 #[derive(Clone, Copy)]
-struct CheckTeller;
+struct Checking {
+    limits: Limits,
+    demands: Demands,
+}
 
-impl Teller for CheckTeller {
-    ghost tells = { λ _. TellsChecked };
+impl Judge for Checking {
+    ghost tells = { λ c. OrFaultIn c.demands TellsChecked c.limits };
 
-    ghost wants = { λ _ _ _. WantsNone };
+    ghost wants = { λ _. WantsNone };
 
-    fn tell<M: Segments, O: ByteOut>(
+    fn judge<M: Segments, O: ByteOut>(
         &self,
         page: &mut Page,
         out: &mut O,
         number: u32,
-        vetted: &Vetted<'_, M>,
+        message: &M,
     ) -> Result<Counted, Cause> {
-        let canonical = is_canonical(vetted);
-        let written = write_check(page, out, number, canonical);
-        after_text(written, count_of(canonical))
+        match check_with(message, self.limits, self.demands) {
+            Ok((_, canonical)) => {
+                let written = write_check(page, out, number, canonical);
+                after_text(written, count_of(canonical))
+            }
+            Err(refusal) => {
+                let written = write_refused(page, out, number, &refusal);
+                after_text(written, Counted::Refused)
+            }
+        }
     }
 }
 
@@ -114,5 +125,9 @@ pub fn run_check_with<S: WordSource, O: ByteOut>(
         (TellsCheckUnder demands (words_of s.limits) (depth_of s.limits)) WantsNone
         (limit_of s.size) s.messages source.old source.new out.old out.new result }
 {
-    vet_all(alloc, source, out, settings, demands, CheckTeller)
+    let checking = Checking {
+        limits: settings.limits,
+        demands,
+    };
+    judge_all(alloc, source, out, settings, checking)
 }

@@ -57,16 +57,16 @@ pub(crate) fn after_text(written: Result<(), OutFault>, counted: Counted) -> Res
     }
 }
 
-/// Vets a message under demands, and writes the text of its teller if the message meets them.
-/// Otherwise it writes the first reason why not, and the place.
-#[derive(Clone, Copy)]
-struct Vetting<T> {
-    limits: Limits,
-    demands: Demands,
-    teller: T,
-}
+/// What an engine does with a message that was read.
+pub(crate) trait Judge {
+    ghost use Rattle.cap_run.specs.declared.engines.stream.Counted.{Counted};
 
-impl<T: Teller> Vetting<T> {
+    // The texts that may be written of a message, by its number, each with what is counted then.
+    ghost tells: { Self → ℕ → List (List ℕ) → List ℕ → Counted → Type 0 };
+
+    // The messages that need an allocation.
+    ghost wants: { Self → List (List ℕ) → Type 0 };
+
     /// Writes the text of a message. What the page held before isn't written.
     ///
     /// # Errors
@@ -80,10 +80,31 @@ impl<T: Teller> Vetting<T> {
         number: u32,
         message: &M,
     ) -> Result<Counted, Cause>
-        ensures { let m = M.segments message.now in let v = self.now in
-            WritesOneOf O.ByteOut (OrFaultIn v.demands (T.tells v.teller) v.limits number m)
-            (WantsIn v.demands (T.wants v.teller) v.limits m) out.old out.new result }
-    {
+        ensures { let m = M.segments message.now in WritesOneOf O.ByteOut
+            (tells self.now number m) (wants self.now m) out.old out.new result };
+}
+
+/// Vets a message under demands, and writes the text of its teller if the message meets them.
+/// Otherwise it writes the first reason why not, and the place.
+#[derive(Clone, Copy)]
+struct Vetting<T> {
+    limits: Limits,
+    demands: Demands,
+    teller: T,
+}
+
+impl<T: Teller> Judge for Vetting<T> {
+    ghost tells = { λ v. OrFaultIn v.demands (T.tells v.teller) v.limits };
+
+    ghost wants = { λ v. WantsIn v.demands (T.wants v.teller) v.limits };
+
+    fn judge<M: Segments, O: ByteOut>(
+        &self,
+        page: &mut Page,
+        out: &mut O,
+        number: u32,
+        message: &M,
+    ) -> Result<Counted, Cause> {
         match vet_with(message, self.limits, self.demands) {
             Ok(vetted) => self.teller.tell(page, out, number, &vetted),
             Err(refusal) => {
@@ -101,19 +122,17 @@ pub(crate) struct MessageRoom {
     page: Page,
 }
 
-/// Reads each message whole, vets it, and writes its text.
+/// Reads each message whole, and writes its text.
 #[derive(Clone, Copy)]
-struct Whole<T> {
+struct Whole<J> {
     alloc: Global,
-    vetting: Vetting<T>,
+    judge: J,
 }
 
-impl<T: Teller> Engine for Whole<T> {
-    ghost tells = { λ w. let v = w.vetting in
-        OrFaultIn v.demands (T.tells v.teller) v.limits };
+impl<J: Judge> Engine for Whole<J> {
+    ghost tells = { λ w. J.tells w.judge };
 
-    ghost wants = { λ w. let v = w.vetting in
-        WantsIn v.demands (T.wants v.teller) v.limits };
+    ghost wants = { λ w. J.wants w.judge };
 
     ghost takes_memory = { true };
 
@@ -137,7 +156,7 @@ impl<T: Teller> Engine for Whole<T> {
         match read_into(self.alloc, source, limit, &mut room.message) {
             Ok(true) => {
                 match self
-                    .vetting
+                    .judge
                     .judge(&mut room.page, out, number, &room.message.view())
                 {
                     Ok(counted) => Ok(Some(counted)),
@@ -148,6 +167,20 @@ impl<T: Teller> Engine for Whole<T> {
             Err(fault) => Err(Cause::Frame(fault)),
         }
     }
+}
+
+/// Reads each message of a stream whole, and writes the text that comes of it.
+pub(crate) fn judge_all<S: WordSource, O: ByteOut, J: Judge + Drop>(
+    alloc: Global,
+    source: &mut S,
+    out: &mut O,
+    settings: &Settings,
+    judge: J,
+) -> Result<Outcome, RunFault>
+    ensures { let s = settings.now in TellsStream S.WordSource O.ByteOut (J.tells judge)
+        (J.wants judge) (limit_of s.size) s.messages source.old source.new out.old out.new result }
+{
+    tell_all(source, out, settings, &Whole { alloc, judge })
 }
 
 /// Vets each message of a stream, and writes the text of a teller for each that meets the demands.
@@ -169,5 +202,5 @@ pub(crate) fn vet_all<S: WordSource, O: ByteOut, T: Teller + Drop>(
         demands,
         teller,
     };
-    tell_all(source, out, settings, &Whole { alloc, vetting })
+    judge_all(alloc, source, out, settings, vetting)
 }

@@ -1,7 +1,5 @@
 use Rattle.std.proofs.Common.{Err, List, refl, subst, ℕ}
 use Rattle.cap_frame.specs.Limit.{limit_of}
-use Rattle.cap_vet.specs.Limits.{depth_of, words_of}
-use Rattle.cap_run.specs.Demanding.{OrFault, WantsUnder}
 use Rattle.cap_run.specs.Running.{WritesOneOf}
 use Rattle.cap_run.proofs.Judging.{step_stops}
 use Rattle.cap_run.proofs.Streams.{reads_named}
@@ -22,9 +20,8 @@ returns-in-Ok-clause-some g c =
 pub returns-in-Err-judge-clause-err : goal.returns-in-Err-judge-clause-err
 returns-in-Err-judge-clause-err g c =
     let r = c.in-Ok-true.ensures.read.message (cc) in
-    let v = c.args.self.now.vetting in
-    let tells = OrFault v.demands (g.T.Teller.tells v.teller) (words_of v.limits) (depth_of v.limits) in
-    let wants = WantsUnder v.demands (g.T.Teller.wants v.teller) (words_of v.limits) (depth_of v.limits) in
+    let tells = g.J.Judge.tells c.args.self.now.judge in
+    let wants = g.J.Judge.wants c.args.self.now.judge in
     step_stops g.S.WordSource g.O.ByteOut tells wants
     (limit_of c.args.limit) c.args.number _ c.args.source.now c.read_into.new.source
     c.args.out.now c.judge.new.out c.in-Err-judge.cause

@@ -9,7 +9,7 @@ use Rattle.cap_run.specs.Demanding.{OrFault, WantsUnder}
 use Rattle.cap_run.specs.Running.{WritesOneOf}
 use Rattle.cap_run.specs.declared.engines.stream.Counted.TheVariants.{Refused}
 use Rattle.cap_run.proofs.Judging.{writes_as, writes_text}
-use Rattle.cap_run.proofs.engines.whole.Vetting.judge.Goals as goal
+use Rattle.cap_run.proofs.engines.whole.VettingJudge.judge.Goals as goal
 
 pub returns-in-Ok : goal.returns-in-Ok
 returns-in-Ok g c =
