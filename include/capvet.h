@@ -567,10 +567,11 @@ typedef struct capvet_step {
  * what capvet_get has for its path, and so is the answer for a path without a node. Numbers do not wrap: the
  * paths after UINT32_MAX lead to nothing, as do pointers from 65535 on.
  *
- * Returns CAPVET_OK if all nodes were filled in. Otherwise the answer and the report are about the first path
- * without a node. CAPVET_NO_NODE: it is after the last element, or below a null one. Other answers: something
- * on it is wrong. To skip that path, add *found + 1 to the step's number, and call again. Nodes after the
- * first *found are unchanged. With node_count 0 the limits, steps and frame are checked.
+ * Returns CAPVET_OK if all nodes were filled in. The limits, the steps and the frame are checked first, also
+ * with node_count 0. After these the answer and the report are about the first path without a node.
+ * CAPVET_NO_NODE: it is after the last element, or below a null one. Other answers: something on it is wrong.
+ * To skip that path, add *found + 1 to the step's number, and call again. Nodes after the first *found are
+ * unchanged.
  *
  * CAPVET_BAD_PATH: report->detail is the index of the first step of an unknown kind. If every kind is known,
  * it is step_count, and `varying` is not less than that.

@@ -22,7 +22,8 @@ pub enum Answer {
     Truncated = 4,
     /// The bytes are a message and more bytes, which the call doesn't allow.
     Trailing = 5,
-    /// A limit is above its maximum, a flag is unknown, or a reserved field isn't 0.
+    /// A limit is above its maximum, a reserved field isn't 0, or a flag is unknown to this call.
+    /// Or the flags 1 and 8 are set together. Or no call leaves this state of an unpacking.
     BadLimits = 8,
     /// The output buffer is too small.
     BufferTooSmall = 9,

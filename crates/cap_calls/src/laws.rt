@@ -1,5 +1,6 @@
 //! What the flags mean: with all three a call accepts what [`cap_vet::vet`] does. With higher limits
-//! or more flags [`crate::vet`] refuses no more. And separate segments are vetted as their frame is.
+//! or more of these three flags [`crate::vet`] refuses no more. And separate segments are vetted as
+//! their frame is.
 
 ghost use Rattle.cap_calls.specs.CallFindings.{JudgesAny, Returns, Tells, TellsWhole};
 ghost use Rattle.cap_calls.specs.CallFlags.{AllowsMore};
@@ -33,7 +34,8 @@ pub fn all_flags_demand_nothing()
         ((f : Found) × TellsWhole true ⊤ (JudgesAny ⊤ IsCheck) l bytes f × Returns f a r) }
 {}
 
-/// What [`crate::vet`] accepts it accepts with higher limits and more flags too, with the same report.
+/// What [`crate::vet`] accepts it accepts with higher limits and more of the flags 1, 2 and 4 too,
+/// with the same report. The flag 8 has to be the same, because it says how the bytes are read.
 pub fn wider_limits_accept_as_much()
     ensures { (l k : CallLimits) (bytes : List ℕ) (r : CallReport) → AreInputLimits k →
         AllowsMore l k →

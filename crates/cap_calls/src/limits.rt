@@ -9,8 +9,8 @@ const ALL_FLAGS: u32 = 7;
 const ALL_WORD_FLAGS: u32 = 15;
 
 /// The limits of a call, laid out as C has them. Any numbers make one. A call returns
-/// [`crate::Answer::BadLimits`] for a number above its maximum, an unknown flag, or a reserved
-/// field that isn't 0.
+/// [`crate::Answer::BadLimits`] for a number above its maximum, a flag that it doesn't know, the
+/// flags 1 and 8 together, or a reserved field that isn't 0.
 #[repr(C)]
 #[derive(Clone, Copy, Debug, PartialEq, Eq)]
 pub struct CallLimits {
@@ -21,8 +21,9 @@ pub struct CallLimits {
     /// Deepest level of an object: at most 256.
     pub depth: u32,
     /// What else is allowed, as a sum. 1: bytes after the message. 2: a message that isn't strict.
-    /// 4: a charge of more than 4096 words above the words of the segments. 8, in calls that vet,
-    /// and not with 1: the input is the words of one segment, without a table.
+    /// 4: a charge of more than 4096 words above the words of the segments. 8, not with 1, and only
+    /// in [`crate::vet`], [`crate::vet_exclusive`], [`crate::canonical`] and
+    /// [`crate::is_canonical`]: the input is the words of one segment, without a table.
     pub flags: u32,
     /// They have to be 0.
     pub reserved: [u64; 2],

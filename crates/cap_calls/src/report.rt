@@ -9,7 +9,8 @@ use cap_vet::Report;
 #[repr(C)]
 #[derive(Clone, Copy, Debug, PartialEq, Eq)]
 pub struct CallReport {
-    /// Bytes of the frame with its table, also of a refused message; 0 if there is no frame.
+    /// Bytes of the frame with its table, also of a refused message; 0 if there is no frame. Of an
+    /// input without a table: its bytes. Of separate segments: the bytes of all.
     pub length: u64,
     /// Of bytes that end before the frame does: how many bytes the input needs at least.
     pub input_required: u64,

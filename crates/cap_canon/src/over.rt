@@ -18,10 +18,10 @@ use std::alloc::{AllocError, Global};
 /// lowest byte first, and returns how many these are (encoding: Canonicalization, 64-bit Words).
 /// The bytes of the buffer after the copy may be any.
 ///
-/// Allocates only if the copy has more bytes than the buffer: the buffer is freed, and one of just
-/// the length of the copy allocated. Its length isn't computed first if the buffer has eight bytes
-/// for each word of the charge and eight more, because every copy fits these. An empty buffer gets
-/// this capacity if the first segment has as many words.
+/// Allocates only if the copy has more bytes than the buffer. It then frees the buffer, and allocates
+/// one of the length of the copy. An empty buffer may instead get eight bytes for each word of the
+/// charge and eight more: if the first segment has as many words, so that it costs no pass over the
+/// message.
 ///
 /// # Errors
 ///

@@ -12,8 +12,8 @@ pub trait Peek: WordSource {
     // The bytes that it shows.
     ghost ahead: { Self → List ℕ };
 
-    /// Buffered bytes that spell the next words, of which the last may be cut. The source gives
-    /// these words without a call of the device. It may show fewer bytes than are buffered, or none.
+    /// Buffered bytes that hold the next words, of which the last may be cut. It may show fewer bytes
+    /// than are buffered, or none.
     fn ahead(&self) -> &[u8]
         ensures ahead { result.now ≡ ahead self.now }
         ensures words { IfSome (Self.words self.now)
@@ -32,7 +32,7 @@ impl<I: ByteIn> Peek for PlainWords<I> {
 impl<I: ByteIn> Peek for Unpacker<I> {
     ghost ahead = { λ s. [] };
 
-    // Packed bytes spell no words by themselves, so none are shown.
+    // Packed bytes hold no words by themselves, so none are shown.
     fn ahead(&self) -> &[u8] {
         &[]
     }

@@ -39,7 +39,7 @@ pub enum Cause {
     /// `run_canon_with` end there.
     Canon(CanonFault),
     /// The message was accepted, and the allocation of the marks for its words failed. Only
-    /// `run_vet_exclusive` and `run_vet_exclusive_with` mark words.
+    /// `run_vet_exclusive`, `run_vet_exclusive_with` and an exclusive `run_filter` mark words.
     Memory,
 }
 

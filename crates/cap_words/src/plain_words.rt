@@ -54,8 +54,8 @@ impl<I: ByteIn> PlainWords<I> {
         }
     }
 
-    /// The buffered bytes of the input, which spell the next words. They can be taken without a call
-    /// of the device. A source that has ended or failed has none.
+    /// The buffered bytes of the input, which hold the next words. A source that has ended or failed
+    /// has none.
     pub fn held(&self) -> &[u8]
         ensures words { IfSome (⟦<PlainWords<I> as WordSource>⟧.words self.now)
             (λ ws. (rest : List ℕ) × (ws ≡ plain_words result.now ++ rest)) }

@@ -244,9 +244,10 @@ pub extern "C" fn capvet_get(
 /// reports for its path. `CAPVET_BAD_PATH`: the kind of step `report.detail` is unknown, or there
 /// is no step `varying`.
 ///
-/// `found` is how many nodes were reported, and those after them are unchanged. With any result but
-/// `CAPVET_OK`, the result and the report are about the first path without a node. The result is
-/// the number of what [`get_range`] returns. The report is written whole. Allocates nothing.
+/// `found` is how many nodes were reported, and those after them are unchanged. A result about the
+/// limits, the steps or the frame comes before any path is followed. Any other result but
+/// `CAPVET_OK` is about the first path without a node, and so is the report. The result is the
+/// number of what [`get_range`] returns. The report is written whole. Allocates nothing.
 #[unsafe(no_mangle)]
 pub extern "C" fn capvet_get_range(
     bytes: &[u8],

@@ -18,8 +18,8 @@ use cap_frame::ByteView;
 use cap_vet::{Demands, Limits, Report, vet_with};
 
 /// Writes the canonical copy of the message that bytes are to the start of `out`, as the bytes of
-/// its words alone, without a table (encoding: Canonicalization, 64-bit Words). With the flag 1 the
-/// bytes may start with the message. Allocates nothing.
+/// its words alone, without a table (encoding: Canonicalization, 64-bit Words). The flags 1 and 8
+/// are as for [`crate::vet`]. Allocates nothing.
 ///
 /// The first of these that applies is returned:
 /// - the answers of [`crate::vet`], if the message isn't accepted; `required` is 0;

@@ -17,7 +17,8 @@ use cap_frame::ByteView;
 use cap_vet::{Demands, Limits};
 
 /// Whether the message that bytes are has one segment, and its words are its own canonical copy
-/// (encoding: Canonicalization). Allocates nothing, and makes no copy.
+/// (encoding: Canonicalization). With the flag 8 they are the words of that segment, without a
+/// table. Allocates nothing, and makes no copy.
 ///
 /// It returns [`Answer::Good`] if so, and [`Answer::NotCanonical`] for another accepted message,
 /// also for one with a capability. Otherwise it returns what [`crate::vet`] does without flag 1:

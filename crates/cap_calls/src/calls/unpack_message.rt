@@ -39,9 +39,9 @@ use cap_vet::Limits;
 /// - [`Answer::Truncated`], if the bytes end before the next word; `report.input_required` is
 ///   how many bytes the next call needs at least.
 ///
-/// Words that were unpacked stay in `out` after any other answer than the first, and
-/// `state.written` counts their bytes. The bytes after them are unchanged. The report is written
-/// whole.
+/// Words that were unpacked stay in `out` after any other answer than the first. `state.written`
+/// counts their bytes, unless the answer is [`Answer::Good`]. The bytes after them are unchanged.
+/// The report is written whole.
 pub fn unpack_message(
     bytes: &[u8],
     limits: &CallLimits,

@@ -16,7 +16,8 @@ use cap_frame::ByteView;
 use cap_vet::{Demands, Limits, vet_with};
 
 /// Vets the message that bytes are, within limits. With the flag 1 the bytes may start with it, and
-/// those after it are never looked at. Allocates nothing (encoding: Security Considerations).
+/// those after it are never looked at. With the flag 8 they are the words of its one segment.
+/// Allocates nothing (encoding: Security Considerations).
 ///
 /// It returns [`Answer::Good`] if the message is accepted: its root denotes a finite tree within
 /// the limits. It is also strict, or flag 2 is set. Its charge is at most 4096 words above the

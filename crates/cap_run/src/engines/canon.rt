@@ -216,9 +216,8 @@ fn make_copies<S: WordSource, K: WordSink>(
 /// next message is buffered. The sink is finished at the end, and before an error is returned,
 /// unless the output failed. It is closed after the call in any case.
 ///
-/// Allocates to hold a message only if it is larger than all before it, and to hold a copy only if
-/// it is longer than all before it. Both take eight bytes for each word. The first copy may get
-/// capacity for as many words as the message has in its first segment.
+/// Keeps a buffer for messages and one for copies, which [`canonical_over`](cap_canon::canonical_over)
+/// fills, and allocates a new one only for what doesn't fit.
 ///
 /// # Errors
 ///

@@ -48,7 +48,7 @@ pub enum ExclusiveFault {
     },
 }
 
-/// Vets a message as `vet_exclusive` does, with the marks in the caller's buffer `room`. Allocates
+/// Vets a message as `vet_exclusive` does, with the marks in the caller's buffer `marks`. Allocates
 /// nothing. The buffer may hold anything. Its first [`crate::marks_for`] numbers, for the words of
 /// the message, are cleared and used. The numbers after these stay as they are.
 ///

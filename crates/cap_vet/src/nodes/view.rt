@@ -72,7 +72,7 @@ impl<'m, M: Segments> View<'m, M> {
 
     /// How many words of the message come before those of its [`place`](View::place), where the
     /// segments follow one another (encoding: Serialization Over a Stream). One step for each segment
-    /// before its own. 0 for null and a capability.
+    /// before its own. Null and a capability have no words, and the number has no meaning for them.
     #[inline(always)]
     pub fn words_before(&self) -> u64
         ensures value { let m = M.segments (view_message self.now) in
