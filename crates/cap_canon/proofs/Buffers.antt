@@ -6,8 +6,8 @@ use Rattle.cap_spec.proofs.Canonical.Copies.{one_copy}
 use Rattle.cap_spec.proofs.Paths.Preorder.{one_first_cap}
 use Rattle.cap_canon.specs.CopyRooms.{TellsRoom, has_capability, no_room, written}
 use Rattle.cap_canon.specs.FirstWords.{first_words}
-use Rattle.cap_canon.specs.declared.fault.CanonFault.{CanonFault}
-use Rattle.cap_canon.specs.declared.fault.CanonFault.TheVariants as canon
+use Rattle.cap_spec.specs.declared.CanonFault.{CanonFault}
+use Rattle.cap_spec.specs.declared.CanonFault.TheVariants as canon
 use Rattle.cap_canon.specs.declared.fault.RoomFault.{RoomFault}
 use Rattle.cap_canon.specs.declared.fault.RoomFault.TheVariants.{HasCapability, NoRoom}
 use Rattle.cap_canon.proofs.Copies.{cap_no_copy}

@@ -11,7 +11,7 @@ use Rattle.cap_spec.proofs.Canonical.Sizes.{layout_charged}
 use Rattle.cap_vet.specs.Reports.{IsFirstCapOf, IsReport}
 use Rattle.cap_vet.specs.declared.report.Report.{Report}
 use Rattle.std.proofs.Common.{Result, Err}
-use Rattle.cap_canon.specs.declared.fault.CanonFault.{CanonFault}
+use Rattle.cap_spec.specs.declared.CanonFault.{CanonFault}
 use Rattle.cap_canon.specs.Roots.{HasTree}
 use Rattle.cap_spec.specs.Copies.{HasCopy, IsCanonical}
 use Rattle.std.specs.Prelude.{◌==◌}

@@ -10,8 +10,8 @@ use Rattle.cap_spec.proofs.Bytes.Lists.{all_take}
 use Rattle.cap_spec.proofs.Bytes.Plain.{length_plain}
 use Rattle.cap_canon.specs.CopyOvers.{MakesEnough, TellsOver, has_capability, no_memory, over, grown, no_copy, refused, enough, made}
 use Rattle.cap_canon.specs.FirstWords.{first_words}
-use Rattle.cap_canon.specs.declared.fault.CanonFault.{CanonFault}
-use Rattle.cap_canon.specs.declared.fault.CanonFault.TheVariants.{HasCapability, Memory}
+use Rattle.cap_spec.specs.declared.CanonFault.{CanonFault}
+use Rattle.cap_spec.specs.declared.CanonFault.TheVariants.{HasCapability, Memory}
 use Rattle.cap_canon.proofs.Copies.{copy_length, copy_of}
 use Rattle.cap_canon.proofs.FirstWords.{first_taken, whole_words}
 

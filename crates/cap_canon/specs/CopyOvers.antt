@@ -4,8 +4,8 @@ use Rattle.std.specs.Prelude.{ℕ, ◌<◌, ◌≡◌, ◌≤◌, List, [], Resu
 use Rattle.cap_spec.specs.Copies.{HasCopy}
 use Rattle.cap_spec.specs.Paths.{IsFirstCap}
 use Rattle.cap_spec.specs.Plain.{plain_text}
-use Rattle.cap_canon.specs.declared.fault.CanonFault.{CanonFault}
-use Rattle.cap_canon.specs.declared.fault.CanonFault.TheVariants.{HasCapability, Memory}
+use Rattle.cap_spec.specs.declared.CanonFault.{CanonFault}
+use Rattle.cap_spec.specs.declared.CanonFault.TheVariants.{HasCapability, Memory}
 
 -- Of a message, for a buffer that held these bytes. The order of the results is the profile's.
 pub data TellsOver (m : List (List ℕ)) (old : List ℕ) (told : Result ℕ CanonFault) (new : List ℕ) : Type 0 where

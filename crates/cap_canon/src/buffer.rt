@@ -6,11 +6,12 @@ ghost use Rattle.cap_spec.specs.Copies.{HasCopy};
 ghost use Rattle.cap_vet.specs.Vettings.{message_of};
 ghost use Rattle.std.specs.Prelude.{◌*◌, ◌≡◌, ◌≤◌, Err, IfErr, IfOk, List, Result, length, ℕ};
 
-use crate::fault::{CanonFault, RoomFault};
+use crate::fault::RoomFault;
 use crate::length::canonical_len;
 use crate::over::fits_any;
 use crate::source::CopySource;
 use crate::word_bytes::fill_front;
+use cap_spec::CanonFault;
 use cap_vet::Vetted;
 
 /// Writes the canonical copy of a message at the start of `out` as bytes, eight a word, the lowest

@@ -6,10 +6,10 @@ ghost use Rattle.cap_spec.specs.Plain.{plain_text, plain_words};
 ghost use Rattle.cap_vet.specs.Vettings.{message_of, report_of};
 ghost use Rattle.std.specs.Prelude.{◌*◌, ◌+◌, ◌≡◌, ◌≤◌, IfOk, IsErrOf, List, MatchResult, length, ℕ};
 
-use crate::fault::CanonFault;
 use crate::length::canonical_len;
 use crate::source::CopySource;
 use crate::word_bytes::fill;
+use cap_spec::CanonFault;
 use cap_vet::Vetted;
 use std::alloc::Global;
 

@@ -14,7 +14,6 @@ ghost use Rattle.std.specs.List.{AllByRecursion};
 ghost use Rattle.std.specs.Prelude.{◌+◌, ◌≡◌, ◌≤◌, ◌<◌, ◌^◌, [], ◌∷◌, IfOk, IsErrOf, List, MatchResult, length, vec_capacity, ℕ};
 
 use crate::appending::append_own;
-use crate::fault::CanonFault;
 use crate::length::canonical_len;
 use crate::objects::Object;
 use crate::output::CopyOutput;
@@ -23,6 +22,7 @@ use crate::source::CopySource;
 use crate::walk::{Pass, walk};
 use crate::words::pointer_word;
 use cap_frame::Segments;
+use cap_spec::CanonFault;
 use cap_vet::Vetted;
 use std::alloc::Global;
 

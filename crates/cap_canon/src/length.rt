@@ -7,11 +7,11 @@ ghost use Rattle.cap_spec.specs.Paths.{IsFirstCap};
 ghost use Rattle.cap_vet.specs.Vettings.{message_of, report_of};
 ghost use Rattle.std.specs.Prelude.{[], ◌+◌, ◌≡◌, ◌≤◌, IfErr, IfOk, List, length, ⊤, ℕ};
 
-use crate::fault::CanonFault;
 use crate::objects::Object;
 use crate::run::PointerPlace;
 use crate::walk::{Pass, walk};
 use cap_frame::Segments;
+use cap_spec::CanonFault;
 use cap_vet::Vetted;
 
 /// How many words the canonical copy of a message has, its root word included (encoding:

@@ -26,10 +26,11 @@ mod words;
 
 pub use buffer::canonical_into;
 pub use bytes::canonical_bytes;
+pub use cap_spec::CanonFault;
 pub use checked_vetting::check_with;
 pub use checking::is_canonical;
 pub use copying::canonical;
-pub use fault::{CanonFault, RoomFault};
+pub use fault::RoomFault;
 pub use length::canonical_len;
 pub use over::canonical_over;
 pub use source::CopySource;

@@ -7,10 +7,10 @@ ghost use Rattle.cap_vet.specs.Vettings.{message_of, report_of};
 ghost use Rattle.std.specs.Prelude.{◌*◌, ◌+◌, ◌≡◌, ◌≤◌, ◌↔◌, [], IfErr, IfOk, IsTrue, None, length, take};
 
 use crate::appended::copy_within;
-use crate::fault::CanonFault;
 use crate::length::canonical_len;
 use crate::source::CopySource;
 use crate::word_bytes::fill_front;
+use cap_spec::CanonFault;
 use cap_vet::{Report, Vetted};
 use std::alloc::{AllocError, Global};
 

@@ -7,9 +7,9 @@ use Rattle.cap_words.specs.declared.sources.SourceFault.TheVariants.{Spent as so
 use Rattle.cap_frame.specs.declared.fault.FrameFault.{FrameFault}
 use Rattle.cap_frame.specs.declared.fault.FrameFault.TheVariants.{TooManySegments, TooLarge}
 use Rattle.cap_frame.specs.declared.fault.FrameFault.TheVariants.{Truncated, Device, Memory, Spent}
-use Rattle.cap_canon.specs.declared.fault.CanonFault.{CanonFault}
-use Rattle.cap_canon.specs.declared.fault.CanonFault.TheVariants.{HasCapability}
-use Rattle.cap_canon.specs.declared.fault.CanonFault.TheVariants.{Memory as canon_memory}
+use Rattle.cap_spec.specs.declared.CanonFault.{CanonFault}
+use Rattle.cap_spec.specs.declared.CanonFault.TheVariants.{HasCapability}
+use Rattle.cap_spec.specs.declared.CanonFault.TheVariants.{Memory as canon_memory}
 use Rattle.cap_text.specs.declared.fault.Cause.{Cause}
 use Rattle.cap_text.specs.declared.fault.Cause.TheVariants.{TooManyMessages, Frame, Output, Refused}
 use Rattle.cap_text.specs.declared.fault.Cause.TheVariants.{Canon, NotStrict, Memory as no_marks}

@@ -16,7 +16,7 @@ use Rattle.cap_words.specs.declared.sources.WordSource as source
 use Rattle.cap_frame.proofs.Converse.{same_some}
 use Rattle.cap_vet.specs.Demands.{words_under}
 use Rattle.cap_vet.specs.declared.demands.Demands.{Demands}
-use Rattle.cap_canon.specs.declared.fault.CanonFault.TheVariants.{HasCapability, Memory}
+use Rattle.cap_spec.specs.declared.CanonFault.TheVariants.{HasCapability, Memory}
 use Rattle.cap_spec.proofs.Canonical.Copies.{one_copy}
 use Rattle.cap_canon.proofs.Copies.{cap_no_copy}
 use Rattle.cap_run.specs.Canons.{AreCanonised, CanonStops, Canonised, IsCanonised, MakesCopiesUnder, canonised}

@@ -18,8 +18,8 @@ use Rattle.cap_frame.proofs.Putting.{begins_kept, blames_later}
 use Rattle.cap_vet.specs.Demands.{IsDemandFault}
 use Rattle.cap_vet.specs.declared.demands.Demands.{Demands}
 use Rattle.cap_canon.specs.CopyOvers.{TellsOver, grown, has_capability, no_memory, over}
-use Rattle.cap_canon.specs.declared.fault.CanonFault.{CanonFault}
-use Rattle.cap_canon.specs.declared.fault.CanonFault.TheVariants.{HasCapability, Memory}
+use Rattle.cap_spec.specs.declared.CanonFault.{CanonFault}
+use Rattle.cap_spec.specs.declared.CanonFault.TheVariants.{HasCapability, Memory}
 use Rattle.cap_canon.proofs.Copies.{cap_no_copy}
 use Rattle.cap_run.specs.Canons.{CanonEnds, Canonised, HasNoCopy, IsCanonised, canonised, copies_of}
 use Rattle.cap_run.specs.Transcoding.{Fills}

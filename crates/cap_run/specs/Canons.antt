@@ -17,8 +17,8 @@ use Rattle.cap_vet.specs.Demands.{IsDemandFault, words_under}
 use Rattle.cap_vet.specs.Reports.{IsAccepted}
 use Rattle.cap_vet.specs.declared.demands.Demands.{Demands}
 use Rattle.cap_vet.specs.declared.report.Report.{Report}
-use Rattle.cap_canon.specs.declared.fault.CanonFault.{CanonFault}
-use Rattle.cap_canon.specs.declared.fault.CanonFault.TheVariants.{HasCapability, Memory}
+use Rattle.cap_spec.specs.declared.CanonFault.{CanonFault}
+use Rattle.cap_spec.specs.declared.CanonFault.TheVariants.{HasCapability, Memory}
 use Rattle.cap_run.specs.Transcoding.{Finishes, Spoils}
 use Rattle.cap_run.specs.Demanding.{IsNotStrict, IsStrictUnder, no_demands}
 use Rattle.cap_run.specs.Running.{Settled}

@@ -2,4 +2,3 @@
 pub mod Lists
 pub mod WordBytes
 pub mod Plain
-pub mod PlainText

@@ -1,8 +1,7 @@
 //! Why an engine ended before its input did. The engines are those of `cap_run`.
 
-use cap_canon::CanonFault;
 use cap_frame::FrameFault;
-use cap_spec::StrictRefusal;
+use cap_spec::{CanonFault, StrictRefusal};
 use cap_vet::Refusal;
 use cap_words::{OutFault, SourceFault};
 use thiserror::Error;

@@ -9,8 +9,8 @@ use crate::fault::{Cause, CopyFault, RunFault};
 use crate::output::write_bytes;
 use crate::page::{CAPACITY, NUMBER, Page};
 use crate::verdict::{FAULT, name_of, push_place, push_refused, refused_for};
-use cap_canon::CanonFault;
 use cap_frame::FrameFault;
+use cap_spec::CanonFault;
 use cap_words::{ByteOut, OutFault, SourceFault};
 
 /// Appends the text for a message that can't be read.

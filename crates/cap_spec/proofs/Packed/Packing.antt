@@ -90,23 +90,6 @@ zero_run-append (suc n) rest = omega (
 pub zero_run-ends : (w : ℕ) (ws : List ℕ) → w ≢ 0 → zero_run (w ∷ ws) ≡ 0
 zero_run-ends w ws h = front-stop (λ x. x == 0) w ws (ne_eqb w 0 h)
 
--- a word with more than one zero byte ends a run of words as they are
-pub full_run-ends : (w : ℕ) (ws : List ℕ) → 1 < zero_bytes w → full_run (w ∷ ws) ≡ 0
-full_run-ends w ws h = front-stop (λ x. nat_le (zero_bytes x) 1) w ws
-    (⊎_elim (λ (t, k). absurd (omega (arith, h, k))) (λ (t, k). t) (leb_tells (zero_bytes w) 1))
-
--- a word with at most one goes on with it
-pub full_run-push : (more : List ℕ) (w : ℕ) → full_run more ≡ length more → zero_bytes w ≤ 1
-    → full_run (more ++ w ∷ []) ≡ length more + 1
-full_run-push more w e h =
-    let passes : nat_le (zero_bytes w) 1 ≡ true =
-    ⊎_elim (λ (t, k). t) (λ (t, k). absurd (omega (arith, h, k))) (leb_tells (zero_bytes w) 1) in
-    omega (
-      arith,
-      front-append (λ x. nat_le (zero_bytes x) 1) more (w ∷ []) e,
-      front-pass (λ x. nat_le (zero_bytes x) 1) w [] passes,
-    )
-
 -- a word with a byte that isn't zero isn't zero
 pub nonzero_word : (w : ℕ) → zero_bytes w < 8 → w ≢ 0
 nonzero_word w h e = absurd (omega (arith, ap zero_bytes e))

@@ -42,30 +42,3 @@ module _ (m : List (List ℕ)) (s w p q : ℕ) (has : HasWord m s w p) (one : Is
       let g = leads-one m s w k (to_object t (pos b) x) f.leads p q has one hasq in
       absurd (omega (arith, g.0, (empty_by_two m s w k t b x f e).0))
   other_pad some n CapabilityPad (i, h) = n (leads-one m s w 1 (to_cap i) h p q has one hasq).1.0.0
-
--- It has a two-word pad.
-module _ (m : List (List ℕ)) (s w p f q : ℕ) (has : HasWord m s w p) (both : IsTwoPad p)
-    (hasf : HasWord m (far_segment p) (pad p) f) (hasq : HasWord m (far_segment p) (pad p + 1) q) where
-  -- into a segment without words
-  pub empty_pad : (cost : ℕ) → Costs m s w cost → segment_of m (far_segment f) ≡ [] → IsLaxAt m s w EmptySegment
-  empty_pad cost (inl h) e =
-      let x : to_null ≡ to_object (far_segment f) (pos (pad f)) q =
-      (leads-two m s w cost to_null h p f q has both hasf hasq).1 in absurd cc
-  empty_pad cost (inr (inl (i, h))) e =
-      let x : to_cap i ≡ to_object (far_segment f) (pos (pad f)) q =
-      (leads-two m s w cost (to_cap i) h p f q has both hasf hasq).1 in absurd cc
-  empty_pad cost (inr (inr (k, t, b, y, tag, finds, tagged, sum))) e =
-      let x : to_object t (pos b) y ≡ to_object (far_segment f) (pos (pad f)) q =
-      (leads-two m s w k (to_object t (pos b) y) finds.leads p f q has both hasf hasq).1 in
-      let z : t ≡ far_segment f = cc x in
-      (k, t, b, y, finds, subst (λ u. segment_of m u ≡ []) (sym z) e)
-
-  -- and into one with words
-  pub filled_pad : segment_of m (far_segment f) ≢ [] → (what : Lax) → ¬ IsLaxAt m s w what
-  filled_pad some NullPad h = absurd (omega (arith, leads-two m s w 1 to_null h p f q has both hasf hasq))
-  filled_pad some EmptySegment (k, t, b, y, finds, e) =
-      let x : to_object t (pos b) y ≡ to_object (far_segment f) (pos (pad f)) q =
-      (leads-two m s w k (to_object t (pos b) y) finds.leads p f q has both hasf hasq).1 in
-      let z : t ≡ far_segment f = cc x in
-      some (subst (λ u. segment_of m u ≡ []) z e)
-  filled_pad some CapabilityPad (i, h) = absurd (omega (arith, leads-two m s w 1 (to_cap i) h p f q has both hasf hasq))

@@ -3,7 +3,7 @@ use Rattle.cap_spec.specs.Copies.{HasCopy}
 use Rattle.cap_spec.specs.Plain.{plain_text, plain_words}
 use Rattle.cap_spec.proofs.Bytes.Plain.{length_plain}
 use Rattle.cap_vet.specs.Vettings.{message_of, report_of}
-use Rattle.cap_canon.specs.declared.fault.CanonFault.TheVariants.{HasCapability}
+use Rattle.cap_spec.specs.declared.CanonFault.TheVariants.{HasCapability}
 use Rattle.cap_canon.proofs.Copies.{cap_no_copy, copy_charged, copy_length, copy_of, err_parts, has_tree}
 use Rattle.cap_canon.proofs.FirstWords.{written_back}
 use Rattle.cap_canon.proofs.bytes.canonical_bytes.Goals as goal

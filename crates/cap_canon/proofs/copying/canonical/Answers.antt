@@ -1,6 +1,6 @@
 use Rattle.std.proofs.Common.{◌≡◌, arith, length, ap, Err}
 use Rattle.cap_vet.specs.Vettings.{message_of}
-use Rattle.cap_canon.specs.declared.fault.CanonFault.TheVariants.{HasCapability}
+use Rattle.cap_spec.specs.declared.CanonFault.TheVariants.{HasCapability}
 use Rattle.cap_spec.proofs.Canonical.Offsets.{offsets_fit}
 use Rattle.cap_spec.proofs.Canonical.Copies.{copy_denotes, copy_only, copy_own, one_copy}
 use Rattle.cap_canon.proofs.Copies.{err_parts, cap_no_copy, copy_length, copy_of, few_charged, has_tree}
