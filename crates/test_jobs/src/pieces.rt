@@ -1,63 +1,12 @@
 //! Runs over devices that give and take few bytes a call, each of their calls failing in turn.
 
 use crate::same::same_of;
-use crate::whole::{job, run_over};
-use cap_cmd::{Job, run_job};
-use cap_words::{BufferedIn, FromRead, FromWrite, VecOut};
-use std::alloc::Global;
+use crate::whole::{Ran, job, run_in_pieces, run_over};
+use cap_cmd::Job;
 use std::io::ErrorKind;
 use std::process::Abort;
 use std::test::Fail;
-use test_support::{Fault, HONEST, PIECES, READ_FAULTS, Reader, WRITE_FAULTS, Writer};
-
-// A run over two such devices: what they gave and took, and how often they were called.
-#[derive(Drop)]
-struct Ran {
-    status: u8,
-    given: usize,
-    reads: u32,
-    taken: Vec<u8>,
-    writes: u32,
-    err: VecOut,
-}
-
-// The input has a buffer where `buffered` says so.
-fn run_in_pieces(
-    alloc: Global,
-    job: &Job,
-    bytes: &[u8],
-    buffered: bool,
-    most: usize,
-    reading: Fault,
-    writing: Fault,
-) -> Result<Ran, Fail> {
-    let mut reader = Reader::new(bytes, most, reading);
-    let out = FromWrite::new(Writer::new(alloc, most, writing));
-    let mut err = VecOut::new(alloc);
-    let (status, out) = if buffered {
-        let input = BufferedIn::new(alloc, &mut reader)?;
-        run_job(alloc, job, input, out, &mut err)
-    } else {
-        run_job(alloc, job, FromRead::new(&mut reader), out, &mut err)
-    };
-    let writer = out.into_inner();
-    Ok(Ran {
-        status,
-        given: bytes.len().saturating_sub(reader.rest.len()),
-        reads: reader.calls,
-        taken: writer.taken,
-        writes: writer.calls,
-        err,
-    })
-}
-
-impl Ran {
-    // That a run ended with this line and this status, and its output took this.
-    fn expect(&self, rt: &impl Abort, name: &str, taken: &[u8], line: &[u8], status: u8) {
-        let left = (self.taken.as_slice(), self.err.bytes(), self.status);
-        same_of(rt, &name, left, (taken, line, status));
-    }
-}
+use test_support::{Fault, HONEST, PIECES, READ_FAULTS, WRITE_FAULTS};
 
 // A command with its options, its input, and the line of a read that fails, by how many bytes were
 // given before it.
@@ -252,9 +201,9 @@ fn expect_read_faults<R: AllocGlobal + Abort>(
         };
         let ran = run_in_pieces(rt.alloc(), job, bytes, buffered, most, reading, HONEST)?;
         same_of(rt, &row.command, ran.reads, at);
-        let before = run_over(rt.alloc(), job, &bytes[..ran.given.min(bytes.len())]);
+        let before = run_over(rt.alloc(), job, &bytes[..ran.given.min(bytes.len())])?;
         let line = line_of(row, ran.given).as_bytes();
-        ran.expect(rt, row.command, before.out.bytes(), line, 3);
+        ran.expect(rt, row.command, before.taken.as_slice(), line, 3);
     }
     Ok(())
 }
@@ -309,13 +258,13 @@ fn expect_row<R: AllocGlobal + Abort>(
     let bytes = hex::decode(rt.alloc(), row.stream)?;
     let bytes = bytes.as_slice();
     let job = job(rt.alloc(), row.command, row.options)?;
-    let whole = run_over(rt.alloc(), &job, bytes);
+    let whole = run_over(rt.alloc(), &job, bytes)?;
     let ran = run_in_pieces(rt.alloc(), &job, bytes, buffered, most, HONEST, HONEST)?;
     assert!(rt; !ran.taken.is_empty(), "{}", row.command);
     ran.expect(
         rt,
         row.command,
-        whole.out.bytes(),
+        whole.taken.as_slice(),
         whole.err.bytes(),
         whole.status,
     );
