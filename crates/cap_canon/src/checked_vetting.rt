@@ -20,10 +20,6 @@ use cap_frame::Segments;
 use cap_spec::StrictRefusal;
 use cap_vet::{Demands, Limits, Stopped, Vetted, limits_under, vet_with, vet_with_turn};
 
-/// The most words of a canonical message that is accepted: those of the greatest word limit, and
-/// its root word.
-const MOST_WORDS: u32 = 268435457;
-
 /// Vets a message under demands, as [`vet_with`] does, and returns with an accepted message whether
 /// it is canonical, as [`is_canonical`] says (encoding: Canonicalization). Walks once through a
 /// canonical message. Allocates nothing, and makes no copy.
@@ -87,17 +83,12 @@ fn check_in_order<'m, M: Segments>(
     ensures err { let m = M.segments message.now in
         IfErr result (IsStopped m limits (IsStop m)) }
 {
-    let words = message.len(0);
-    if message.count() != 1 || words == 0 || words > MOST_WORDS {
-        return Err(Stopped::ByTurn(Stop::Undecided));
-    }
-    let mut turn = InOrder { end: 1 };
-    match vet_with_turn(message, limits, &mut turn) {
-        Ok(vetted) => {
+    match vet_with_turn::<M, InOrder>(message, limits) {
+        Ok((vetted, turn)) => {
             if vetted.report().caps != 0 {
                 return Ok((vetted, false));
             }
-            Ok((vetted, turn.end == words))
+            Ok((vetted, turn.end == message.len(0)))
         }
         Err(stopped) => Err(stopped),
     }

@@ -17,7 +17,11 @@ use cap_ptr::{
     Followed, Row, Shape, Target, code, data_size, follow, kind, list_size, middle, near_row,
     pointer_size,
 };
-use cap_vet::{Place, Turn};
+use cap_vet::{FirstTurn, Place, Turn};
+
+/// The most words of a canonical message that is accepted: those of the greatest word limit, and
+/// its root word.
+const MOST_WORDS: u32 = 268435457;
 
 /// Why a walk stops that compares a message with its copy.
 #[derive(Clone, Copy, Drop)]
@@ -69,6 +73,17 @@ impl Turn for InOrder {
 
     ghost passes = { λ turn m seen p level s w reached zero known.
         null_in_order m turn.end seen p level s w reached zero known };
+}
+
+impl FirstTurn for InOrder {
+    #[inline(always)]
+    fn begin<M: Segments>(message: &M) -> Result<InOrder, Stop> {
+        let words = message.len(0);
+        if message.count() != 1 || words == 0 || words > MOST_WORDS {
+            return Err(Stop::Undecided);
+        }
+        Ok(InOrder { end: 1 })
+    }
 }
 
 // Where a copy has the next object, if it has pointer word `w` of segment 0 and its object's own

@@ -7,7 +7,7 @@ ghost use Rattle.cap_vet.specs.Looking.{IsNotLax};
 ghost use Rattle.cap_vet.specs.Marks.{UsesPlace};
 ghost use Rattle.cap_vet.specs.Trails.{Ahead};
 ghost use Rattle.cap_vet.specs.Walking.{IsLookedAt};
-ghost use Rattle.std.specs.Prelude.{◌<◌, ◌∷◌, IfErr, IfSome, IsFalse, List, OnOk, length, ℕ};
+ghost use Rattle.std.specs.Prelude.{◌<◌, [], ◌∷◌, IfErr, IfOk, IfSome, IsFalse, List, OnOk, length, ℕ};
 
 use crate::nodes::place::Place;
 use cap_frame::Segments;
@@ -65,4 +65,12 @@ pub trait Turn {
     ghost passes: { (turn : Self) (m : List (List ℕ)) (seen : List (List Step)) (p : List Step)
         (level s w : ℕ) →
         Reaches m p level s w → HasWord m s w 0 → knows turn m seen → knows turn m (p ∷ seen) };
+}
+
+/// A turn that any walk may begin with.
+pub trait FirstTurn: Turn {
+    /// The turn before the first pointer word of this message, or why it stops a walk there.
+    fn begin<M: Segments>(message: &M) -> Result<Self, Self::Stop>
+        ensures ok { IfOk result (λ turn. Self.knows turn (M.segments message.now) []) }
+        ensures err { IfErr result (Self.stops (M.segments message.now)) };
 }

@@ -9,13 +9,13 @@ ghost use Rattle.cap_vet.specs.Limits.{depth_of, words_of};
 ghost use Rattle.cap_vet.specs.Reports.{IsAccepted};
 ghost use Rattle.cap_vet.specs.Turns.{HoldsOfAll, IsStopped};
 ghost use Rattle.cap_vet.specs.Vettings.{message_of, report_of};
-ghost use Rattle.std.specs.Prelude.{Err, [], ◌≡◌, ◌≤◌, IfErr, IfOk, IsOk, ⊤, ℕ};
+ghost use Rattle.std.specs.Prelude.{Err, ◌≡◌, ◌≤◌, IfErr, IfOk, IsOk, ⊤, ℕ};
 
 use crate::limits::Limits;
 use crate::nodes::place::Place;
 use crate::nodes::vetted::Vetted;
 use crate::report::Report;
-use crate::walk::turn::{Stopped, Turn};
+use crate::walk::turn::{FirstTurn, Stopped, Turn};
 use crate::walk::walking::walk;
 use cap_frame::Segments;
 use cap_spec::Refusal;
@@ -67,30 +67,32 @@ pub fn vet<'m, M: Segments>(message: &'m M, limits: Limits) -> Result<Vetted<'m,
 }
 
 /// Vets a message as [`vet`] does, and takes a turn at each pointer word but null ones, in preorder.
-/// Walks once. Allocates nothing.
+/// Returns the turn as it is after the last. Walks once. Allocates nothing.
 ///
 /// # Errors
 ///
 /// - [`Stopped::Refused`]: `vet` refuses the message, and the turn didn't stop the walk before.
 /// - [`Stopped::ByTurn`]: the turn stopped the walk.
 #[inline(always)]
-pub fn vet_with_turn<'m, M: Segments, T: Turn>(
+pub fn vet_with_turn<'m, M: Segments, T: FirstTurn + Drop>(
     message: &'m M,
     limits: Limits,
-    turn: &mut T,
-) -> Result<Vetted<'m, M>, Stopped<T::Stop>>
-    requires { T.knows turn.old (M.segments message.now) [] }
+) -> Result<(Vetted<'m, M>, T), Stopped<T::Stop>>
     ensures ok { let m = M.segments message.now in
-        IfOk result (λ v. IsAccepted m (words_of limits) (depth_of limits) (report_of v)) }
-    ensures message { IfOk result (λ v. message_of v ≡ message.now) }
+        IfOk result (λ r. IsAccepted m (words_of limits) (depth_of limits) (report_of r.0)) }
+    ensures message { IfOk result (λ r. message_of r.0 ≡ message.now) }
     ensures knows { let m = M.segments message.now in
-        IfOk result (λ _. HoldsOfAll m (T.knows turn.new m)) }
+        IfOk result (λ r. HoldsOfAll m (T.knows r.1 m)) }
     ensures err { let m = M.segments message.now in
         IfErr result (IsStopped m limits (T.stops m)) }
 {
+    let mut turn = match T::begin(message) {
+        Ok(turn) => turn,
+        Err(stop) => return Err(Stopped::ByTurn(stop)),
+    };
     let mut report = Report::default();
-    match walk(message, &limits, turn, &mut report) {
-        Ok(()) => Ok(Vetted { message, report }),
+    match walk(message, &limits, &mut turn, &mut report) {
+        Ok(()) => Ok((Vetted { message, report }, turn)),
         Err(stopped) => Err(stopped),
     }
 }

@@ -1,13 +1,8 @@
-use Rattle.std.proofs.Common.{◌∙◌, arith, sym, eq-eqb}
+use Rattle.std.proofs.Common.{◌∙◌, sym, eq-eqb}
 use Rattle.std.proofs.lemmas.Bool.{eqb-true, false≢true}
 use Rattle.cap_canon.proofs.Copies.{not_with_caps}
-use Rattle.cap_canon.proofs.InOrder.{canonical_at_end, first_in_order, strict_in_order}
+use Rattle.cap_canon.proofs.InOrder.{canonical_at_end, strict_in_order}
 use Rattle.cap_canon.proofs.checked_vetting.check_in_order.Goals as goal
-
-pub vet_with_turn-requires : goal.vet_with_turn-requires
-vet_with_turn-requires g c =
-    first_in_order (g.M.Segments.segments c.args.message.now) (sym c.count.ensures ∙ c.if-count-ne1.false) (omega (arith, c.if-words-eq0.false, c.len-words.ensures))
-    (omega (arith, c.if-words-gt-MOST_WORDS.false, c.len-words.ensures))
 
 pub returns-then-report-ne0-clause-ok : goal.returns-then-report-ne0-clause-ok
 returns-then-report-ne0-clause-ok g c =
@@ -31,8 +26,8 @@ returns-else-report-ne0-clause-canonical g c =
     let m = g.M.Segments.segments c.args.message.now in
     let (seen, trail, known) = c.in-Ok.ensures.knows in
     let vetted = rw c.in-Ok.ensures.message at c.report.ensures.accepted in
-    let end = c.vet_with_turn.new.turn.end in
+    let end = c.in-Ok.turn.end in
     let whole = canonical_at_end m seen end c.report.result vetted.0 trail known vetted.1 c.if-report-ne0.false in (
-      λ yes. whole.0 (eqb-true end c.len-words.result yes ∙ c.len-words.ensures),
-      λ k. eq-eqb end c.len-words.result (whole.1 k ∙ sym c.len-words.ensures),
+      λ yes. whole.0 (eqb-true end c.len.result yes ∙ c.len.ensures),
+      λ k. eq-eqb end c.len.result (whole.1 k ∙ sym c.len.ensures),
     )

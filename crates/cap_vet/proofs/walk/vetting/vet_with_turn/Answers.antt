@@ -3,12 +3,12 @@ use Rattle.cap_vet.specs.Trails.{Ahead, IsTrail}
 use Rattle.cap_vet.proofs.Verdicts.{accepted_at_end, none_ahead, vetted_within}
 use Rattle.cap_vet.proofs.walk.vetting.vet_with_turn.Goals as goal
 
-pub returns-in-Ok-clause-ok : goal.returns-in-Ok-clause-ok
-returns-in-Ok-clause-ok g c = let w = c.in-Ok.ensures.ok in accepted_at_end _ _ _ _ w.seen w.ahead w.walks
+pub returns-in-Ok-walk-clause-ok : goal.returns-in-Ok-walk-clause-ok
+returns-in-Ok-walk-clause-ok g c = let w = c.in-Ok-walk.ensures.ok in accepted_at_end _ _ _ _ w.seen w.ahead w.walks
 
-pub returns-in-Ok-clause-knows : goal.returns-in-Ok-clause-knows
-returns-in-Ok-clause-knows g c =
-    let w = c.in-Ok.ensures.ok in (
+pub returns-in-Ok-walk-clause-knows : goal.returns-in-Ok-walk-clause-knows
+returns-in-Ok-walk-clause-knows g c =
+    let w = c.in-Ok-walk.ensures.ok in (
       w.seen,
       subst (λ (u : List Ahead). IsTrail (g.M.Segments.segments c.args.message.now) w.seen u) (none_ahead w.ahead w.walks.places)
           w.walks.progress.trail,
@@ -17,5 +17,5 @@ returns-in-Ok-clause-knows g c =
 
 pub invariant_of-result : goal.invariant_of-result
 invariant_of-result g c =
-    let w = c.in-Ok.ensures.ok in
+    let w = c.in-Ok-walk.ensures.ok in
     record { accepted = ∣ vetted_within _ c.args.limits _ (accepted_at_end _ _ _ _ w.seen w.ahead w.walks) ∣₁ }
