@@ -1,15 +1,20 @@
 -- The bytes and the buffer decide what the call that packs a message finds and writes.
-use Rattle.std.proofs.Common.{ℕ, List, ◌≡◌, ◌∙◌, ◌<◌, ap, subst, sym, length}
-use Rattle.std.specs.Prelude.{not}
-use Rattle.cap_calls.specs.CallFlags.{allows_trailing}
-use Rattle.cap_calls.specs.CallFrames.{HasFrame, HasTrailing}
+use Rattle.std.proofs.Common.{ℕ, List, ◌≡◌, ◌∙◌, ◌≤◌, ◌*◌, ◌/◌, ap, arith, length, length-append, sym}
+use Rattle.std.proofs.lemmas.List.{length-map}
+use Rattle.std.specs.Prelude.{Bool, not}
+use Rattle.cap_spec.specs.Frames.{joined, sizes_of}
 use Rattle.cap_spec.specs.PackedFrames.{packed_frame}
-use Rattle.cap_calls.specs.PackedMessages.{Packs, TellsPackMessage}
+use Rattle.cap_spec.proofs.Frames.Endings.{length_joined}
+use Rattle.cap_spec.proofs.Frames.Framing.{table_length}
+use Rattle.cap_calls.specs.CallFindings.{TellsWhole, framed, tells, trailing, without}
+use Rattle.cap_calls.specs.CallFlags.{allows_trailing}
+use Rattle.cap_calls.specs.Calls.{TellsMessage}
+use Rattle.cap_calls.specs.PackedMessages.{Packs, PacksShort, TellsPackMessage}
 use Rattle.cap_calls.specs.declared.answer.Answer.{Answer}
 use Rattle.cap_calls.specs.declared.found.Found.{Found}
 use Rattle.cap_calls.specs.declared.limits.CallLimits.{CallLimits}
 use Rattle.cap_calls.specs.declared.report.CallReport.{CallReport}
-use Rattle.cap_calls.proofs.Answers.{one_extent, one_returned, one_whole_told}
+use Rattle.cap_calls.proofs.Answers.{message_by_flag, one_returned, one_whole_told, tells_less}
 use Rattle.cap_calls.proofs.Copied.{same_found}
 use Rattle.cap_calls.proofs.Texts.{one_text}
 
@@ -30,8 +35,22 @@ one_pack_message_told l bs old a b n k xs ys r q (f, t, h, e) (g, u, i, j) =
     let one = one_returned f g a b r q same.0 h i in
     (one.0, e ∙ (ap (λ (x : Found). x.count) same.0 ∙ sym j), same.1, one.1)
 
--- Nothing follows a frame that ends with the bytes.
-pub none_after : (l : CallLimits) (bs : List ℕ) (frame segments : ℕ) (m : List (List ℕ))
-    → HasFrame l bs frame segments m → ¬ (frame < length bs) → ¬ HasTrailing l bs
-none_after l bs frame segments m h none (n, x, y, k, less) =
-    none (subst (λ (z : ℕ). z < length bs) (one_extent l bs x frame y segments n m k h).0 less)
+-- What is found of the frame is found of its message, by the flag.
+pub packs_by_flag : (l : CallLimits) (bs old new : List ℕ) (f : Found) (w : Bool) → w ≡ allows_trailing l
+    → TellsWhole (not w) (new ≡ old) (PacksShort old new) l bs f → TellsMessage (new ≡ old) (Packs old new) l bs f
+packs_by_flag l bs old new f w e t = message_by_flag l bs f w e (tells_less (not w) l bs f (λ k. k) (λ _ _ _ _ p. p.0) t)
+
+-- The text has at most ten bytes for each word of the frame.
+pub packed_few : (whole : Bool) (l : CallLimits) (bs old new : List ℕ) (f : Found)
+    → TellsWhole whole (new ≡ old) (PacksShort old new) l bs f → f.count ≤ f.report.length / 8 * 10
+packed_few whole l bs old new f (trailing m x y t h more e k) =
+    let none = ap (λ (z : Found). z.count) e in omega (arith, none)
+packed_few whole l bs old new f (tells only (without c h e k)) =
+    let none = ap (λ (z : Found). z.count) e in omega (arith, none)
+packed_few whole l bs old new f (tells only (framed m x y g h p e)) =
+    let frames = h.front.frames in
+    let words = ap length frames.whole ∙ length-append frames.table (joined m) in
+    let table = table_length frames.table (sizes_of m) frames.is_table in
+    let count : f.count ≡ g.count = ap (λ (z : Found). z.count) e in
+    let long : f.report.length ≡ x = ap (λ (z : Found). z.report.length) e in
+    omega (arith, p.1, count, long, h.front.long, words, length_joined m, table, length-map m length)

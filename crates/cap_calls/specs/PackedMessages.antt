@@ -1,6 +1,8 @@
 -- What the call that packs a message returns and writes, from the bytes and the buffer alone
 -- (profile).
-use Rattle.std.specs.Prelude.{ℕ, ◌≡◌, List}
+use Rattle.std.specs.Prelude.{ℕ, ◌+◌, ◌*◌, ◌≡◌, ◌≤◌, List, length, sum}
+use Rattle.cap_frame.specs.Fronts.{table_words}
+use Rattle.cap_spec.specs.Frames.{sizes_of}
 use Rattle.cap_spec.specs.PackedFrames.{packed_frame}
 use Rattle.cap_calls.specs.CallFindings.{Returns}
 use Rattle.cap_calls.specs.CallReports.{none_report}
@@ -14,6 +16,11 @@ use Rattle.cap_calls.specs.declared.report.CallReport.{CallReport}
 -- of a message, for a buffer that held `old`, and then holds `new`
 abbrev pub Packs : List ℕ → List ℕ → List (List ℕ) → ℕ → ℕ → Found → Type 0
 Packs old new m words depth f = TellsText (packed_frame m) old f.answer f.count new × (f.report ≡ none_report)
+
+-- the same, and the text has at most ten bytes for each word of the frame
+abbrev pub PacksShort : List ℕ → List ℕ → List (List ℕ) → ℕ → ℕ → Found → Type 0
+PacksShort old new m words depth f = Packs old new m words depth f
+    × (f.count ≤ 10 * (table_words (length m) + sum (sizes_of m)))
 
 -- Of the message that the bytes are, or start with if the flags allow it: n bytes are the length of
 -- its packed text.

@@ -1,9 +1,10 @@
 -- One segment more is counted.
-use Rattle.std.proofs.Common.{List, ℕ, [], ◌≡◌, ◌∙◌, ◌<◌, ◌≤◌, ◌+◌, ◌^◌, ap, arith, flat_map, get_or, length}
+use Rattle.std.proofs.Common.{List, ℕ, [], ◌≡◌, ◌∙◌, ◌<◌, ◌≤◌, ◌+◌, ◌*◌, ◌^◌, ap, arith, flat_map, get_or, length}
 use Rattle.std.proofs.Common.{length-append, rules, sum, take}
 use Rattle.std.proofs.lemmas.List.{take_all}
 use Rattle.cap_spec.specs.Frames.{sizes_of}
 use Rattle.cap_spec.specs.Packing.{pack_text}
+use Rattle.cap_spec.proofs.Bytes.Plain.{length_plain}
 use Rattle.cap_frame.specs.Bytes.{cut}
 use Rattle.cap_calls.proofs.PackedFrames.{sizes_more, texts_more}
 use Rattle.cap_calls.proofs.calls.pack_message.segments_length.Goals as goal
@@ -16,8 +17,9 @@ overflow_add-total c =
     let exists : s < length m = omega arith in
     let short : length (get_or m s []) < 2 ^ 32 = v.is_message.lengths s [] exists in
     let few : length m ≤ 512 = v.is_message.few in
+    let long : length c.in-Some.bytes.now ≡ 8 * length (get_or m s []) = ap length c.in-Some.ensures.text ∙ length_plain (get_or m s []) in
     let fits : c.segments.total + c.pack_into-total.result < 2 ^ 64 =
-    omega (arith, c.segments.invariant.small, c.pack_into-total.ensures.few, c.segment_bytes.ensures.length, short, few) in
+    omega (arith, c.segments.invariant.small, c.pack_into-total.ensures.few, long, short, few) in
     search rules
 
 pub segments-preserved : goal.segments-preserved
@@ -28,8 +30,9 @@ segments-preserved c =
     let far = c.segments.invariant in
     let exists : s < length m = omega arith in
     let short : length (get_or m s []) < 2 ^ 32 = v.is_message.lengths s [] exists in
+    let long : length c.in-Some.bytes.now ≡ 8 * length (get_or m s []) = ap length c.in-Some.ensures.text ∙ length_plain (get_or m s []) in
     let own : c.pack_into-total.result ≡ length (pack_text (get_or m s [])) =
-    c.pack_into-total.ensures.len ∙ ap (λ ws. length (pack_text ws)) c.segment_bytes.ensures.words in
+    c.pack_into-total.ensures.len ∙ ap (λ ws. length (pack_text ws)) c.in-Some.ensures.words in
     record {
       text = omega (
         arith,
@@ -38,8 +41,8 @@ segments-preserved c =
         ap length (texts_more m s exists),
         length-append (flat_map pack_text (take s m)) (pack_text (get_or m s [])),
       );
-      few = omega (arith, far.few, sizes_more m s exists, c.pack_into-total.ensures.few, c.segment_bytes.ensures.length);
-      small = omega (arith, far.small, c.pack_into-total.ensures.few, c.segment_bytes.ensures.length, short);
+      few = omega (arith, far.few, sizes_more m s exists, c.pack_into-total.ensures.few, long);
+      small = omega (arith, far.small, c.pack_into-total.ensures.few, long, short);
     }
 
 pub returns-clause-text : goal.returns-clause-text

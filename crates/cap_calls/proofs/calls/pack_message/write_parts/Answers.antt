@@ -1,8 +1,9 @@
 -- The table, and one segment more, are written.
-use Rattle.std.proofs.Common.{List, ℕ, [], ◌≡◌, ◌∙◌, ◌<◌, ◌≤◌, ◌+◌, ◌-◌, ◌++◌, ap, append-nil, append_assoc, arith, drop}
-use Rattle.std.proofs.Common.{flat_map, get_or, length, length-append, sym, take, take_all, take_at}
+use Rattle.std.proofs.Common.{List, ℕ, [], ◌≡◌, ◌∙◌, ◌<◌, ◌≤◌, ◌+◌, ◌-◌, ◌*◌, ◌^◌, ◌++◌, ap, append-nil, append_assoc, arith, drop}
+use Rattle.std.proofs.Common.{flat_map, get_or, length, length-append, rules, sym, take, take_all, take_at}
 use Rattle.std.proofs.lemmas.List.{length-drop, take_rest}
 use Rattle.cap_spec.specs.Packing.{pack_text}
+use Rattle.cap_spec.proofs.Bytes.Plain.{length_plain}
 use Rattle.cap_frame.specs.Bytes.{cut}
 use Rattle.cap_words.proofs.Turns.{filled}
 use Rattle.cap_spec.specs.PackedFrames.{table_of}
@@ -26,7 +27,21 @@ segments-init c =
       at = long ∙ ap length (sym (append-nil T));
       size = omega (arith, ap length text, length-append T (drop n old), length-drop n old, long, both, c.requires.length);
       written = ap (take n) text ∙ (take_at T (drop n old) n (sym long) ∙ sym (append-nil T));
+      small = omega (arith, c.pack_into-at.ensures.few, c.requires.short);
     }
+
+pub overflow_add-at : goal.overflow_add-at
+overflow_add-at c =
+    let v = c.args.message.now in
+    let m = cut v.sizes.now v.bytes.now in
+    let s = c.segments.s in
+    let exists : s < length m = omega arith in
+    let short : length (get_or m s []) < 2 ^ 32 = v.is_message.lengths s [] exists in
+    let few : length m ≤ 512 = v.is_message.few in
+    let long : length c.in-Some.bytes.now ≡ 8 * length (get_or m s []) = ap length c.in-Some.ensures.text ∙ length_plain (get_or m s []) in
+    let fits : c.segments.at + c.pack_into-at-in-segments.result < 2 ^ 64 =
+    omega (arith, c.segments.invariant.small, c.pack_into-at-in-segments.ensures.few, long, short, few) in
+    search rules
 
 pub segments-preserved : goal.segments-preserved
 segments-preserved c =
@@ -38,13 +53,15 @@ segments-preserved c =
     let text = c.segments.text in
     let far = c.segments.invariant in
     let exists : s < length m = omega arith in
+    let short : length (get_or m s []) < 2 ^ 32 = v.is_message.lengths s [] exists in
+    let size : length c.in-Some.bytes.now ≡ 8 * length (get_or m s []) = ap length c.in-Some.ensures.text ∙ length_plain (get_or m s []) in
     let own = pack_text (get_or m s []) in
     let n = c.pack_into-at-in-segments.result in
     let more = texts_more m s exists in
     let done = T ++ flat_map pack_text (take s m) in
     let next : T ++ flat_map pack_text (take (s + 1) m) ≡ done ++ own =
     ap (λ (t : List ℕ). T ++ t) more ∙ sym (append_assoc T (flat_map pack_text (take s m)) own) in
-    let long : n ≡ length own = c.pack_into-at-in-segments.ensures.len ∙ ap (λ ws. length (pack_text ws)) c.segment_bytes.ensures.words in
+    let long : n ≡ length own = c.pack_into-at-in-segments.ensures.len ∙ ap (λ ws. length (pack_text ws)) c.in-Some.ensures.words in
     let fit : at + n ≤ length text =
     omega (
       arith,
@@ -61,7 +78,7 @@ segments-preserved c =
     let room : length part ≡ length text - at = ap length (take_rest text at) ∙ length-drop at text in
     let given = c.pack_into-at-in-segments.new.out in
     let new : given ≡ own ++ drop n part =
-    c.pack_into-at-in-segments.ensures.written (omega (arith, room, fit)) ∙ ap (λ ws. pack_text ws ++ drop n part) c.segment_bytes.ensures.words in
+    c.pack_into-at-in-segments.ensures.written (omega (arith, room, fit)) ∙ ap (λ ws. pack_text ws ++ drop n part) c.in-Some.ensures.words in
     let enough : n ≤ length given = omega (arith, ap length new, length-append own (drop n part), long) in
     record {
       at = omega (arith, far.at, long, ap length next, length-append done own);
@@ -71,6 +88,7 @@ segments-preserved c =
           ∙ (ap (λ (t : List ℕ). take at text ++ take n t) new
           ∙ (ap (λ (t : List ℕ). take at text ++ t) (take_at own (drop n part) n (sym long))
           ∙ (ap (λ (t : List ℕ). t ++ own) far.written ∙ sym next)));
+      small = omega (arith, far.small, c.pack_into-at-in-segments.ensures.few, size, short);
     }
 
 pub returns : goal.returns

@@ -1,4 +1,4 @@
-use Rattle.std.proofs.Common.{◌≡◌, ◌++◌, flat_map, length, take}
+use Rattle.std.proofs.Common.{◌≡◌, ◌≤◌, ◌+◌, ◌*◌, ◌++◌, flat_map, length, take}
 use Rattle.cap_spec.specs.Packing.{pack_text}
 use Rattle.cap_frame.specs.Bytes.{cut}
 use Rattle.cap_spec.specs.PackedFrames.{packed_frame, table_of}
@@ -12,4 +12,5 @@ invariant-segments l =
       at : l.at ≡ length done;
       size : length l.text ≡ length (packed_frame m);
       written : take l.at l.text ≡ done;
+      small : l.at ≤ 2570 + 42949672960 * l.s;
     }
