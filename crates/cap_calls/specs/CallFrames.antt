@@ -27,6 +27,10 @@ pub record HasFrame (l : CallLimits) (bytes : List ℕ) (frame segments : ℕ) (
   pub front : IsFront l.message_words bytes m frame
   pub count : segments ≡ length m
 
+-- The bytes begin with a frame of this message, within the limits of some call.
+abbrev pub BeginsWith : List ℕ → List (List ℕ) → Type 0
+BeginsWith bytes m = (l : CallLimits) × (frame segments : ℕ) × HasFrame l bytes frame segments m
+
 -- The bytes frame a message within the limits, and more bytes follow it.
 abbrev pub HasTrailing : CallLimits → List ℕ → Type 0
 HasTrailing l bytes = (m : List (List ℕ)) × (frame segments : ℕ) × HasFrame l bytes frame segments m

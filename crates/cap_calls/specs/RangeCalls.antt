@@ -82,3 +82,14 @@ abbrev pub TellsRange : CallLimits → List ℕ → List CallStep → ℕ → Li
     → Type 0
 TellsRange l bytes steps varying old a n new r =
     (f : Found) × TellsSteps l bytes steps varying old new f × Returns f a r × (n ≡ f.count)
+
+-- A call for the nodes of a range in these bytes: what it is given, and what it returns, writes and reports.
+pub record RangeCall (l : CallLimits) (bytes : List ℕ) : Type 0 where
+  pub steps : List CallStep
+  pub varying : ℕ
+  pub before : List CallNode
+  pub returned : Answer
+  pub count : ℕ
+  pub after : List CallNode
+  pub report : CallReport
+  pub tells : TellsRange l bytes steps varying before returned count after report

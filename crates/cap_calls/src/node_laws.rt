@@ -2,17 +2,16 @@
 //! they are inside the frame.
 
 ghost use Rattle.cap_calls.specs.CallFlags.{has_no_table};
-ghost use Rattle.cap_calls.specs.CallFrames.{HasFrame};
+ghost use Rattle.cap_calls.specs.CallFrames.{BeginsWith};
 ghost use Rattle.cap_calls.specs.CallNodes.{none_node, offset_of};
 ghost use Rattle.cap_calls.specs.Calls.{TellsVet};
 ghost use Rattle.cap_calls.specs.NodeCalls.{TellsGet};
-ghost use Rattle.cap_calls.specs.RangeCalls.{AreSteps, TellsRange};
+ghost use Rattle.cap_calls.specs.RangeCalls.{AreSteps, RangeCall};
 ghost use Rattle.cap_calls.specs.declared.answer.Answer.{Answer};
 ghost use Rattle.cap_calls.specs.declared.answer.Answer.TheVariants.{Good, NoNode};
 ghost use Rattle.cap_calls.specs.declared.limits.CallLimits.{CallLimits};
 ghost use Rattle.cap_calls.specs.declared.node.CallNode.{CallNode};
 ghost use Rattle.cap_calls.specs.declared.report.CallReport.{CallReport};
-ghost use Rattle.cap_calls.specs.declared.step.CallStep.{CallStep};
 ghost use Rattle.cap_spec.specs.Denoting.{words_from};
 ghost use Rattle.cap_spec.specs.Messages.{segment_of};
 ghost use Rattle.cap_spec.specs.PathTexts.{IsPath};
@@ -34,23 +33,20 @@ pub fn vetted_messages_have_their_nodes()
     ensures get { (l : CallLimits) (bytes text : List ℕ) (a : Answer) (node : CallNode)
         (r q : CallReport) → IsFalse (has_no_table l) → IsPath text →
         TellsVet l bytes Good r → TellsGet l bytes text a node q → (a ≡ Good) ⊎ (a ≡ NoNode) }
-    ensures get_range { (l : CallLimits) (bytes : List ℕ) (steps : List CallStep) (varying : ℕ)
-        (old : List CallNode) (a : Answer) (n : ℕ) (new : List CallNode) (r q : CallReport) →
-        IsFalse (has_no_table l) → AreSteps steps varying → TellsVet l bytes Good r →
-        TellsRange l bytes steps varying old a n new q → (a ≡ Good) ⊎ (a ≡ NoNode) }
+    ensures get_range { (l : CallLimits) (bytes : List ℕ) (r : CallReport) (c : RangeCall l bytes) →
+        IsFalse (has_no_table l) → AreSteps c.steps c.varying → TellsVet l bytes Good r →
+        (c.returned ≡ Good) ⊎ (c.returned ≡ NoNode) }
 {}
 
 /// The words of the bytes from the offset of word b of segment t on are those of the segment from there
 /// on. So the bytes from the place of a path on are the words of the object there. (A node of a list of
 /// structs leaves out its tag, which is the first of them.)
 pub fn offsets_are_of_words()
-    ensures words { (l : CallLimits) (bytes : List ℕ) (frame segments : ℕ) (m : List (List ℕ))
-        (t b n k : ℕ) → HasFrame l bytes frame segments m →
-        t < length m → b + n ≤ length (segment_of m t) → offset_of m t b ≡ 8 * k →
-        slice_range (plain_words bytes) k (k + n) ≡ words_from m t b n }
-    ensures path { (l : CallLimits) (bytes : List ℕ) (frame segments : ℕ) (m : List (List ℕ))
-        (path : List Step) (t b n : ℕ) → HasFrame l bytes frame segments m →
-        IsPlace m path t b n → let at = offset_of m t b in
+    ensures words { (bytes : List ℕ) (m : List (List ℕ)) (t b n k : ℕ) →
+        BeginsWith bytes m → t < length m → b + n ≤ length (segment_of m t) →
+        offset_of m t b ≡ 8 * k → slice_range (plain_words bytes) k (k + n) ≡ words_from m t b n }
+    ensures path { (bytes : List ℕ) (m : List (List ℕ)) (path : List Step) (t b n : ℕ) →
+        BeginsWith bytes m → IsPlace m path t b n → let at = offset_of m t b in
         plain_words (slice_range bytes at (at + 8 * n)) ≡ words_from m t b n }
 {}
 
@@ -60,9 +56,7 @@ pub fn nodes_are_inside_their_frame()
     ensures get { (l : CallLimits) (bytes text : List ℕ) (a : Answer) (node : CallNode)
         (r : CallReport) → TellsGet l bytes text a node r →
         (node.offset + node.length ≤ r.length) × (r.length ≤ length bytes) }
-    ensures get_range { (l : CallLimits) (bytes : List ℕ) (steps : List CallStep) (varying : ℕ)
-        (old : List CallNode) (a : Answer) (n : ℕ) (new : List CallNode) (r : CallReport) (k : ℕ) →
-        TellsRange l bytes steps varying old a n new r → k < n →
-        let node = slice_index_or new k none_node in
-        (node.offset + node.length ≤ r.length) × (r.length ≤ length bytes) }
+    ensures get_range { (l : CallLimits) (bytes : List ℕ) (c : RangeCall l bytes) (k : ℕ) →
+        k < c.count → let node = slice_index_or c.after k none_node in
+        (node.offset + node.length ≤ c.report.length) × (c.report.length ≤ length bytes) }
 {}

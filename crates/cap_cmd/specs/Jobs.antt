@@ -27,7 +27,7 @@ use Rattle.cap_run.specs.Demanding.{TellsCheckUnder, TellsDumpUnder, TellsExclus
 use Rattle.cap_run.specs.Demanding.{TellsGetUnder, TellsVerdictUnder, WantsMarksUnder}
 use Rattle.cap_run.specs.Engines.{TranscodesWords, ShowsStream, TellsStream}
 use Rattle.cap_run.specs.Engines.{most_packed_at_once, most_unpacked_at_once, most_words}
-use Rattle.cap_run.specs.Filtering.{FiltersStream, Passes, TellsIn, WantsInForm}
+use Rattle.cap_run.specs.Filtering.{FiltersUnder, Passes, TellsIn}
 use Rattle.cap_text.specs.FaultLines.{copy_fault_line, run_fault_line}
 use Rattle.cap_run.specs.Telling.{Tells, TellsEach, TellsSegments, Told, WantsNone}
 use Rattle.cap_run.specs.Telling.{messages_of, noncanonical_in, refused_in, texts_of}
@@ -167,9 +167,7 @@ module _ {S O E : Type 0} (gs : source.Ghosts S) (go : output.Ghosts O) (ge : ou
   -- answer is reported after them.
   abbrev pub FiltersTask : FilterForm → Settings → Demands → S → O → O → E → E → ℕ → Type 0
   FiltersTask form s demands first before after old new status = (mid : E) × Runs
-      (λ last answer. FiltersStream gs go ge form (TellsIn form demands s.limits)
-      (WantsInForm form demands s.limits) (limit_of s.size) s.messages first last before after old
-      mid answer)
+      (λ last answer. FiltersUnder gs go ge s first last before after old mid form demands answer)
       (ReportsRun ge) mid new status
 
 module _ {S O E P U : Type 0} (gs : source.Ghosts S) (go : output.Ghosts O) (ge : output.Ghosts E)

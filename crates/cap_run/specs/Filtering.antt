@@ -6,6 +6,7 @@ use Rattle.std.specs.List.{AllByRecursion}
 use Rattle.cap_spec.specs.Frames.{Stream, frame_text, sizes_of}
 use Rattle.cap_spec.specs.PackedFrames.{packed_frame}
 use Rattle.cap_spec.specs.Plain.{plain_text}
+use Rattle.cap_frame.specs.Limit.{limit_of}
 use Rattle.cap_vet.specs.declared.demands.Demands.{Demands}
 use Rattle.cap_vet.specs.declared.limits.Limits.{Limits}
 use Rattle.cap_words.specs.declared.ends.ByteOut as output
@@ -22,6 +23,7 @@ use Rattle.cap_run.specs.declared.engines.stream.Counted.TheVariants.{Accepted, 
 use Rattle.cap_run.specs.declared.engines.stream.Counted.TheVariants.{NotCanonical}
 use Rattle.cap_run.specs.declared.settings.FilterForm.{FilterForm}
 use Rattle.cap_run.specs.declared.settings.Outcome.{Outcome}
+use Rattle.cap_run.specs.declared.settings.Settings.{Settings}
 use Rattle.cap_text.specs.declared.fault.RunFault.{RunFault}
 
 -- the line of a message that meets the demands, as `vet` writes it, or `vet --exclusive`
@@ -157,3 +159,10 @@ module _ {S O E : Type 0} (gs : source.Ghosts S) (go : output.Ghosts O) (ge : ou
         Settled answer ((ts : List Told) × Covers form.stop ts ms
         × TellsEach (Passes form.pack verdict) 0 ts × Appended go before after (texts_of ts)
         × (answer ≡ Ok (outcome_of ts)) × Noted ge verdict (messages_of ts) first last)
+
+module _ {S O E : Type 0} (gs : source.Ghosts S) (go : output.Ghosts O) (ge : output.Ghosts E)
+    (s : Settings) (old new : S) (before after : O) (first last : E) where
+  -- what `run_filter` does with a stream, under demands and within these settings
+  abbrev pub FiltersUnder : FilterForm → Demands → Result Outcome RunFault → Type 0
+  FiltersUnder form demands = FiltersStream gs go ge form (TellsIn form demands s.limits)
+      (WantsInForm form demands s.limits) (limit_of s.size) s.messages old new before after first last

@@ -8,6 +8,7 @@ pub mod Handed
 pub mod Making
 pub mod PuttingEnds
 pub mod Running
+pub mod Sieves
 pub mod Sifting
 pub mod Streams
 pub mod Telling

@@ -1,8 +1,8 @@
 //! The engine that lets the accepted messages of a stream through.
 
-ghost use Rattle.cap_run.specs.Filtering.{FiltersAll, FiltersStream, FiltersUntil, TellsIn};
-ghost use Rattle.cap_run.specs.Filtering.{WantsInForm};
-ghost use Rattle.cap_run.specs.Sifting.{ShowsFrame, SiftStops, SiftsNext};
+ghost use Rattle.cap_run.specs.Filtering.{FiltersUnder};
+ghost use Rattle.cap_run.specs.Sieves.{SieveAll, SieveNext, SieveStops, SieveUntil};
+ghost use Rattle.cap_run.specs.Sifting.{ShowsFrame};
 ghost use Rattle.cap_run.specs.Streams.{EndsStream};
 ghost use Rattle.cap_frame.specs.Limit.{limit_of};
 ghost use Rattle.std.specs.Prelude.{◌≡◌, ◌≢◌, ◌↔◌, IfErr, IsFalse, IsTrue};
@@ -47,21 +47,15 @@ fn sift_next<S: Peek, O: ByteOut, E: ByteOut>(
     size: SizeLimit,
     number: u32,
 ) -> Result<Option<Counted>, Cause>
-    ensures some { (counted : Counted) → result ≡ Ok (Some counted) → let v = sieve.now in
-        SiftsNext S.WordSource O.ByteOut E.ByteOut v.form.pack
-        (TellsIn v.form v.demands v.limits) (WantsInForm v.form v.demands v.limits)
-        (limit_of size) number source.old source.new out.old out.new log.old log.new
-        room.old.passage.failed room.new.passage.failed
-        room.old.passage.waits room.new.passage.waits (Ok counted) }
+    ensures some { (counted : Counted) → result ≡ Ok (Some counted) →
+        SieveNext S.WordSource O.ByteOut E.ByteOut sieve.now (limit_of size) number
+        source.old source.new out.old out.new log.old log.new room.old room.new (Ok counted) }
     ensures none { result ≡ Ok None → EndsStream S.WordSource source.old source.new
         × (out.new ≡ out.old) × (log.new ≡ log.old)
         × (room.new.passage.failed ≡ room.old.passage.failed) }
-    ensures err { let v = sieve.now in IfErr result (SiftStops S.WordSource O.ByteOut E.ByteOut
-        v.form.pack (TellsIn v.form v.demands v.limits)
-        (WantsInForm v.form v.demands v.limits) (limit_of size) number
-        source.old source.new out.old out.new log.old log.new
-        room.old.passage.failed room.new.passage.failed
-        room.old.passage.waits room.new.passage.waits) }
+    ensures err { IfErr result (SieveStops S.WordSource O.ByteOut E.ByteOut sieve.now
+        (limit_of size) number source.old source.new out.old out.new log.old log.new
+        room.old room.new) }
 {
     match read_into(sieve.alloc, source, size, &mut room.message) {
         Ok(true) => {
@@ -96,16 +90,10 @@ fn sift_each<S: Peek, O: ByteOut, E: ByteOut>(
     log: &mut E,
     settings: &Settings,
 ) -> Result<Outcome, RunFault>
-    ensures ok { let v = sieve.now in let s = settings.now in
-        FiltersAll S.WordSource O.ByteOut E.ByteOut v.form
-        (TellsIn v.form v.demands v.limits) (WantsInForm v.form v.demands v.limits)
-        (limit_of s.size) s.messages source.old source.new out.old out.new
-        log.old log.new result }
-    ensures err { let v = sieve.now in let s = settings.now in
-        FiltersUntil S.WordSource O.ByteOut E.ByteOut v.form
-        (TellsIn v.form v.demands v.limits) (WantsInForm v.form v.demands v.limits)
-        (limit_of s.size) s.messages source.old source.new out.old out.new
-        log.old log.new result }
+    ensures ok { SieveAll S.WordSource O.ByteOut E.ByteOut settings.now source.old source.new
+        out.old out.new log.old log.new sieve.now result }
+    ensures err { SieveUntil S.WordSource O.ByteOut E.ByteOut settings.now source.old source.new
+        out.old out.new log.old log.new sieve.now result }
 {
     let mut outcome = Outcome {
         messages: 0,
@@ -186,10 +174,8 @@ pub fn run_filter<S: Peek, O: ByteOut, E: ByteOut>(
     demands: Demands,
     form: FilterForm,
 ) -> Result<Outcome, RunFault>
-    ensures { let s = settings.now in FiltersStream S.WordSource O.ByteOut E.ByteOut form
-        (TellsIn form demands s.limits) (WantsInForm form demands s.limits)
-        (limit_of s.size) s.messages source.old source.new out.old out.new
-        log.old log.new result }
+    ensures { FiltersUnder S.WordSource O.ByteOut E.ByteOut settings.now source.old source.new
+        out.old out.new log.old log.new form demands result }
 {
     let sieve = Sieve {
         alloc,

@@ -1,7 +1,8 @@
 //! Vetting a message, and then passing it on or writing its line.
 
-ghost use Rattle.cap_run.specs.Filtering.{Logged, TellsIn, WantsInForm, frame_in};
-ghost use Rattle.cap_run.specs.Sifting.{Judges, Sifts, objection_text};
+ghost use Rattle.cap_run.specs.Filtering.{Logged, frame_in};
+ghost use Rattle.cap_run.specs.Sieves.{SiftsOne, SieveTells, SieveWants};
+ghost use Rattle.cap_run.specs.Sifting.{Judges, objection_text};
 ghost use Rattle.cap_run.specs.Demanding.{TellsMarked};
 ghost use Rattle.cap_run.specs.Running.{Appended};
 ghost use Rattle.cap_run.specs.Vetting.{WantsMarks};
@@ -210,8 +211,8 @@ impl Sieve {
     ///
     /// [`Cause::Memory`]: an allocation failed.
     fn judge<M: Segments>(&self, message: &M) -> Result<Option<Objection>, Cause>
-        ensures { let v = self.now in Judges (TellsIn v.form v.demands v.limits)
-            (WantsInForm v.form v.demands v.limits) (M.segments message.now) result }
+        ensures { let v = self.now in
+            Judges (SieveTells v) (SieveWants v) (M.segments message.now) result }
     {
         match vet_with(message, self.limits, self.demands) {
             Ok(vetted) => {
@@ -245,10 +246,8 @@ impl Sieve {
         message: &ByteView<'b>,
     ) -> Result<Counted, Cause>
         ensures { let m = ⟦<ByteView<'b> as Segments>⟧.segments message.now in
-            let v = self.now in Sifts O.ByteOut E.ByteOut v.form.pack
-            (TellsIn v.form v.demands v.limits) (WantsInForm v.form v.demands v.limits) number m
-            out.old out.new log.old log.new passage.old.failed passage.new.failed
-            passage.old.waits passage.new.waits result }
+            SiftsOne O.ByteOut E.ByteOut self.now number m out.old out.new log.old log.new
+            passage.old passage.new result }
     {
         match self.judge(message) {
             Ok(None) => match pass_on(out, message, self.form.pack, wait, &mut passage.buffers) {
