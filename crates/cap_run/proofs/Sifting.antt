@@ -5,6 +5,7 @@ use Rattle.std.proofs.lemmas.Bool.{false≢true}
 use Rattle.std.specs.List.{AllByRecursion}
 use Rattle.std.specs.Prelude.{◌⊎◌, IsTrue}
 use Rattle.cap_spec.specs.Frames.{Stream, sizes_of}
+use Rattle.cap_spec.specs.Occupying.{IsDisjoint}
 use Rattle.cap_spec.proofs.Bytes.Lists.{all_append}
 use Rattle.cap_spec.proofs.Frames.FrameTexts.{one_stream}
 use Rattle.cap_words.specs.declared.ends.ByteOut as output
@@ -100,6 +101,12 @@ module _ (form : FilterForm) (demands : Demands) (limits : Limits) (m : List (Li
       subst (λ (x : Bool). Judges (OrFaultIn demands (TellsMet x) limits) (WantsIn demands (WantsMet x) limits) m r) (sym e)
       (judges_as (TellsMarked words depth) (OrFaultIn demands TellsMarked limits) (WantsMarks words depth) (WantsIn demands WantsMarks limits) m r
       (λ n text counted t. inl (strict, t)) (λ w. (strict, w)) j)
+
+-- a message that is accepted after its words were marked uses none twice
+pub marked_disjoint : (words depth n : ℕ) (m : List (List ℕ)) (line : List ℕ) → TellsMarked words depth n m line Accepted
+    → IsDisjoint m
+marked_disjoint words depth n m line (inl (disjoint, accepted)) = disjoint
+marked_disjoint words depth n m line (inr overlap) = absurd (let e = overlap.counts in cc)
 
 module _ {O E : Type 0} (go : output.Ghosts O) (ge : output.Ghosts E) (pack : Bool) (verdict : Tells) (wants : List (List ℕ) → Type 0) (n : ℕ)
     (m : List (List ℕ)) where

@@ -6,12 +6,13 @@ ghost use Rattle.cap_run.specs.Vetting.{TellsExclusive, WantsMarks};
 ghost use Rattle.cap_frame.specs.Limit.{limit_of};
 ghost use Rattle.cap_vet.specs.Limits.{depth_of, words_of};
 
+use crate::engines::sifting::{first_overlap, write_objection};
 use crate::engines::stream::Counted;
 use crate::engines::whole::{Teller, after_text, vet_all};
 use crate::settings::{Outcome, Settings};
 use cap_frame::Segments;
-use cap_text::{Cause, Page, RunFault, write_accepted, write_overlap};
-use cap_vet::{Demands, ExclusiveRefusal, Vetted};
+use cap_text::{Cause, Page, RunFault, write_accepted};
+use cap_vet::{Demands, Vetted};
 use cap_words::{ByteOut, WordSource};
 use std::alloc::Global;
 
@@ -34,25 +35,16 @@ impl Teller for ExclusiveTeller {
         number: u32,
         vetted: &Vetted<'_, M>,
     ) -> Result<Counted, Cause> {
-        match vetted.into_exclusive(self.alloc) {
-            Ok(exclusive) => {
-                let report = exclusive.into_vetted().report();
-                let written = write_accepted(page, out, number, &report);
+        match first_overlap(self.alloc, vetted) {
+            Ok(None) => {
+                let written = write_accepted(page, out, number, &vetted.report());
                 after_text(written, Counted::Accepted)
             }
-            Err(
-                ExclusiveRefusal::Overlap {
-                    segment,
-                    word,
-                    pointers,
-                },
-            ) => {
-                let written = write_overlap(page, out, number, segment, word, pointers);
+            Ok(Some(objection)) => {
+                let written = write_objection(page, out, number, &objection);
                 after_text(written, Counted::Refused)
             }
-            Err(ExclusiveRefusal::Memory) => Err(Cause::Memory),
-            // The message is accepted.
-            Err(ExclusiveRefusal::Refused(_)) => unreachable!(),
+            Err(cause) => Err(cause),
         }
     }
 }

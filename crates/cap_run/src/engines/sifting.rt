@@ -40,7 +40,7 @@ pub(crate) enum Objection {
 /// # Errors
 ///
 /// [`Cause::Memory`]: the allocation of the marks failed.
-fn first_overlap<M: Segments>(
+pub(crate) fn first_overlap<M: Segments>(
     alloc: Global,
     vetted: &Vetted<'_, M>,
 ) -> Result<Option<Objection>, Cause>
@@ -68,7 +68,7 @@ fn first_overlap<M: Segments>(
 }
 
 /// Writes the line of a refused message.
-fn write_objection<E: ByteOut>(
+pub(crate) fn write_objection<E: ByteOut>(
     page: &mut Page,
     log: &mut E,
     number: u32,

@@ -1,55 +1,40 @@
-use Rattle.std.proofs.Common.{◌≡◌, ◌∙◌, ap, codes, inl, inr, refl, subst, sym}
-use Rattle.cap_spec.specs.Texts.{refused, vet_text}
-use Rattle.cap_vet.specs.Exclusives.{vetted_of}
-use Rattle.cap_vet.specs.Reports.{IsReport}
+use Rattle.std.proofs.Common.{Ok, Option, inl, refl, subst}
 use Rattle.cap_vet.specs.Vettings.{message_of, report_of}
-use Rattle.cap_vet.specs.declared.report.Report.{Report}
 use Rattle.cap_text.specs.Lines.{accepted_text}
 use Rattle.cap_run.specs.Demanding.{TellsMarked}
+use Rattle.cap_run.specs.Sifting.{Judges, objection_text}
 use Rattle.cap_run.specs.Vetting.{WantsMarks}
+use Rattle.cap_run.specs.declared.engines.sifting.Objection.{Objection}
 use Rattle.cap_run.specs.declared.engines.stream.Counted.TheVariants.{Accepted, Refused}
 use Rattle.cap_run.proofs.Judging.{writes_text}
+use Rattle.cap_run.proofs.Sifting.{marked_disjoint}
 use Rattle.cap_run.proofs.engines.exclusive.ExclusiveTellerTeller.tell.Goals as goal
 
-pub returns-in-Ok : goal.returns-in-Ok
-returns-in-Ok g c = λ words depth t h.
+pub returns-in-Ok-None : goal.returns-in-Ok-None
+returns-in-Ok-None g c = λ words depth t h.
     let m = g.M.Segments.segments (message_of c.args.vetted.now) in
-    let report = c.report-report.result in
-    let given : report ≡ report_of (vetted_of c.in-Ok.exclusive) = cc in
-    let same : report ≡ report_of c.args.vetted.now = given ∙ ap report_of c.in-Ok.ensures.value in
-    writes_text g.O.ByteOut (accepted_text c.args.number report) Accepted (TellsMarked words depth c.args.number m)
-    (WantsMarks words depth m)
+    let n = c.args.number in
+    let found = subst (λ (o : Option Objection). Judges (TellsMarked words depth) (WantsMarks words depth) m (Ok o))
+    c.in-Ok-None.field-0-is (c.in-Ok-None.ensures words depth t h) in
+    writes_text g.O.ByteOut (accepted_text n c.report.result) Accepted (TellsMarked words depth n m) (WantsMarks words depth m)
     c.args.out.now c.write_accepted-written.new.out c.write_accepted-written.result c.after_text.result
     (inl (
-      c.in-Ok.ensures.ok,
-      record {
-        report = report;
-        is_accepted = (t, subst (λ (r : Report). IsReport m words depth r t) (sym same) h);
-        line = refl;
-        counts = refl;
-      },
+      marked_disjoint words depth n m (found n).0 (found n).1,
+      record { report = report_of c.args.vetted.now; is_accepted = (t, h); line = cc; counts = refl },
     ))
     c.write_accepted-written.ensures c.after_text.ensures
 
-pub returns-in-Err-Overlap : goal.returns-in-Err-Overlap
-returns-in-Err-Overlap g c = λ words depth t h.
+pub returns-in-Ok-Some : goal.returns-in-Ok-Some
+returns-in-Ok-Some g c = λ words depth t h.
     let m = g.M.Segments.segments (message_of c.args.vetted.now) in
-    let refusal = c.in-Err-Overlap in
-    writes_text g.O.ByteOut
-    (vet_text c.args.number (refused (codes "Overlap") refusal.segment refusal.word refusal.pointers)) Refused
-    (TellsMarked words depth c.args.number m) (WantsMarks words depth m)
-    c.args.out.now c.write_overlap-written.new.out c.write_overlap-written.result c.after_text-in-Err-Overlap.result
-    (inr (record {
-      report = report_of c.args.vetted.now;
-      is_accepted = (t, h);
-      segment = refusal.segment;
-      word = refusal.word;
-      pointers = refusal.pointers;
-      is_first = refusal.ensures.overlap refusal.segment refusal.word refusal.pointers (cc);
-      line = refl;
-      counts = refl;
-    }))
-    c.write_overlap-written.ensures c.after_text-in-Err-Overlap.ensures
+    let n = c.args.number in
+    let found = subst (λ (o : Option Objection). Judges (TellsMarked words depth) (WantsMarks words depth) m (Ok o))
+    c.in-Ok-Some.field-0-is (c.in-Ok-Some.ensures words depth t h) in
+    writes_text g.O.ByteOut (objection_text n c.in-Ok-Some.objection) Refused (TellsMarked words depth n m) (WantsMarks words depth m)
+    c.args.out.now c.write_objection-written.new.log c.write_objection-written.result c.after_text-in-Ok-Some.result
+    (found n) c.write_objection-written.ensures c.after_text-in-Ok-Some.ensures
 
-pub returns-in-Err-Memory : goal.returns-in-Err-Memory
-returns-in-Err-Memory g c = λ words depth t h. ((report_of c.args.vetted.now, (t, h)), refl)
+pub returns-in-Err : goal.returns-in-Err
+returns-in-Err g c = λ words depth t h.
+    let found = c.in-Err.ensures words depth t h in
+    rw found.0 (found.1, refl)
