@@ -1,14 +1,15 @@
 -- What a walk goes on with after one pointer word (profile).
-use Rattle.std.specs.Prelude.{ℕ, ◌<◌, ◌≡◌, List, [], ◌∷◌, ◌++◌, Option, ⊤}
+use Rattle.std.specs.Prelude.{ℕ, ◌<◌, ◌≡◌, List, [], ◌∷◌, ◌++◌, IfErr, IfOk, Option, Result, length, ⊤}
 use Rattle.std.specs.Option.{option_to_list}
 use Rattle.cap_spec.specs.declared.Step.{Step}
 use Rattle.cap_vet.specs.Limits.{words_of}
 use Rattle.cap_vet.specs.PointerRuns.{IsRest}
-use Rattle.cap_vet.specs.Turns.{GoesOn}
+use Rattle.cap_vet.specs.Turns.{GoesOn, IsStopped}
 use Rattle.cap_vet.specs.Walking.{work_left}
 use Rattle.cap_vet.specs.declared.limits.Limits.{Limits}
 use Rattle.cap_vet.specs.declared.report.Report.{Report}
 use Rattle.cap_vet.specs.declared.walk.pointer_run.PointerRun.{PointerRun}
+use Rattle.cap_vet.specs.declared.walk.turn.Stopped.{Stopped}
 use Rattle.cap_vet.specs.declared.walk.walking.Next.{Next}
 use Rattle.cap_vet.specs.declared.walk.walking.Next.TheVariants.{More, Full, Done}
 
@@ -36,3 +37,11 @@ abbrev pub GoesOnWith : List (List ℕ) → Limits → Next → List PointerRun 
     → (List (List Step) → Type 0) → Type 0
 GoesOnWith m limits next before old report after new counted K =
     GoesOn m limits (runs_left next after new) counted K (work_left (words_of limits) (before ++ old ∷ []) report)
+
+-- What a turn at the first word of a run comes to: the walk goes on with what is left, or it stops.
+pub record TakesTurn {S : Type 0} (m : List (List ℕ)) (limits : Limits) (most : ℕ) (before : List PointerRun) (old : PointerRun)
+    (report : Report) (after : List PointerRun) (new : PointerRun) (counted : Report) (K : List (List Step) → Type 0)
+    (stops : S → Type 0) (result : Result Next (Stopped S)) : Type 0 where
+  pub ok : IfOk result (λ next. GoesOnWith m limits next before old report after new counted K)
+  pub room : IfOk result (λ next. LeavesRoom next (length after) most)
+  pub err : IfErr result (IsStopped m limits stops)

@@ -32,28 +32,6 @@ pub(crate) fn looked_near<M: Segments>(
     if let Some(looked) = look_near(message, limits, spent, s, w, level) {
         return Some(looked);
     }
-    look_over_pad(message, limits, spent, s, w, level)
-}
-
-// Looks at word `w` of segment `s`, as `look_near` does. Returns a result only if it is a far pointer
-// with a pad of one word that describes the object, and if that is within the limits.
-#[inline(always)]
-fn look_over_pad<M: Segments>(
-    message: &M,
-    limits: &Limits,
-    spent: u64,
-    s: u32,
-    w: u32,
-    level: u32,
-) -> Option<Looked>
-    requires exists { s < length (M.segments message.now) }
-    requires inside { w < length (segment_of (M.segments message.now) s) }
-    requires spent { spent ≤ words_of limits.now }
-    requires level { level ≤ depth_of limits.now + 1 }
-    ensures looked { let m = M.segments message.now in
-        IfSome result (IsLooked m (words_of limits.now) (depth_of limits.now) spent s w level) }
-    ensures strict { IfSome result (λ _. IsNotLax (M.segments message.now) s w) }
-{
     let word = message.word(s, w);
     if kind(word) != 2 || two(word) != 0 {
         return None;

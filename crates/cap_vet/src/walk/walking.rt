@@ -7,7 +7,7 @@ ghost use Rattle.cap_vet.specs.PointerRuns.{RunIn, kept, root_run};
 ghost use Rattle.cap_vet.specs.Trails.{Ahead};
 ghost use Rattle.cap_vet.specs.Turns.{GoesOnBelow, IsAt, IsStopped, IsWalking};
 ghost use Rattle.cap_vet.specs.Walking.{Walks};
-ghost use Rattle.cap_vet.specs.WalkSteps.{Continues, GoesOnWith, LeavesRoom};
+ghost use Rattle.cap_vet.specs.WalkSteps.{Continues, LeavesRoom, TakesTurn};
 ghost use Rattle.std.specs.Option.{option_to_list};
 ghost use Rattle.std.specs.Prelude.{◌++◌, ◌<◌, ◌≡◌, ◌≤◌, [], ◌∷◌, IfErr, IfNone, IfOk, IfSome, IsFalse, IsTrue, List, length, ℕ};
 
@@ -203,12 +203,9 @@ fn turn_other<M: Segments, T: Turn, const N: usize>(
     requires room { (length stack.old.items < N) × (N ≤ 257) }
     requires walking { let m = M.segments message.now in
         IsWalking m limits.now (stack.old.items ++ run.old ∷ []) report.old (T.knows turn.old m) }
-    ensures ok { let m = M.segments message.now in
-        IfOk result (λ next. GoesOnWith m limits.now next stack.old.items run.old report.old
-        stack.new.items run.new report.new (T.knows turn.new m)) }
-    ensures room { IfOk result (λ next. LeavesRoom next (length stack.new.items) N) }
-    ensures err { let m = M.segments message.now in
-        IfErr result (IsStopped m limits.now (T.stops m)) }
+    ensures { let m = M.segments message.now in
+        TakesTurn m limits.now N stack.old.items run.old report.old
+        stack.new.items run.new report.new (T.knows turn.new m) (T.stops m) result }
 {
     let limits = *limits;
     let mut at = *run;
@@ -233,12 +230,9 @@ fn turn_far<M: Segments, T: Turn, const N: usize>(
     requires room { (length stack.old.items < N) × (N ≤ 257) }
     requires walking { let m = M.segments message.now in
         IsWalking m limits.now (stack.old.items ++ run.old ∷ []) report.old (T.knows turn.old m) }
-    ensures ok { let m = M.segments message.now in
-        IfOk result (λ next. GoesOnWith m limits.now next stack.old.items run.old report.old
-        stack.new.items run.new report.new (T.knows turn.new m)) }
-    ensures room { IfOk result (λ next. LeavesRoom next (length stack.new.items) N) }
-    ensures err { let m = M.segments message.now in
-        IfErr result (IsStopped m limits.now (T.stops m)) }
+    ensures { let m = M.segments message.now in
+        TakesTurn m limits.now N stack.old.items run.old report.old
+        stack.new.items run.new report.new (T.knows turn.new m) (T.stops m) result }
 {
     let (s, w) = (run.segment, run.at);
     let used = turn.before(message, s, w);
@@ -253,8 +247,8 @@ fn turn_far<M: Segments, T: Turn, const N: usize>(
 }
 
 // Looks at the next pointer word, and takes the turn there. Gives the run of its object's pointers.
-// Returns a result only of words that `look_near` or `look_over_pad` has one of, and of null, at
-// which no turn is taken. Otherwise it changes nothing.
+// Returns a result only of words that `looked_near` has one of, and of null, at which no turn is
+// taken. Otherwise it changes nothing.
 #[inline(always)]
 fn turn_near<M: Segments, T: Turn>(
     message: &M,

@@ -42,18 +42,21 @@ go_on-requires g c =
       (c.requires.room, (m, message, topmost_in _ _ _ c.args.stack.now.items c.args.run.now c.args.report.now _ _ c.requires.walking.walks)),
     )
 
-pub returns-in-Ok-after-clause-ok : goal.returns-in-Ok-after-clause-ok
-returns-in-Ok-after-clause-ok g c =
-    steps_on _ _ c.args.stack.now.items c.args.run.now c.args.report.now c.visit.new.report _ _ c.in-Ok.below c.go_on.result c.go_on.new.stack.items
-    c.go_on.new.run c.requires.walking (λ runs at.
-    let n = at.next in
-    let on = c.in-Ok.ensures.ok runs n in
-    let known = c.in-Ok-after.ensures.ok n.seen n.a (looked_at _ _ _ _ _ _ _ _ _ _ _ n on.walks) at.known in
-    record { walking = record { seen = n.a.path ∷ n.seen; ahead = on.later; walks = on.walks; known = known }; less = on.less })
-    c.go_on.ensures.runs
+pub returns-in-Ok-after : goal.returns-in-Ok-after
+returns-in-Ok-after g c = record {
+  ok = steps_on _ _ c.args.stack.now.items c.args.run.now c.args.report.now c.visit.new.report _ _ c.in-Ok.below c.go_on.result c.go_on.new.stack.items
+      c.go_on.new.run c.requires.walking (λ runs at.
+      let n = at.next in
+      let on = c.in-Ok.ensures.ok runs n in
+      let known = c.in-Ok-after.ensures.ok n.seen n.a (looked_at _ _ _ _ _ _ _ _ _ _ _ n on.walks) at.known in
+      record { walking = record { seen = n.a.path ∷ n.seen; ahead = on.later; walks = on.walks; known = known }; less = on.less })
+      c.go_on.ensures.runs;
+  room = c.go_on.ensures.room;
+  err = tt;
+}
 
-pub returns-in-Err-clause-err : goal.returns-in-Err-clause-err
-returns-in-Err-clause-err g c = inr c.in-Err.ensures.err
+pub returns-in-Err : goal.returns-in-Err
+returns-in-Err g c = record { ok = tt; room = tt; err = inr c.in-Err.ensures.err }
 
 pub after-requires-clause-strict : goal.after-requires-clause-strict
 after-requires-clause-strict g c = λ f. absurd (cc f)
