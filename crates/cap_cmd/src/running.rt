@@ -93,16 +93,16 @@ fn unpack_to<S: WordSource, O: ByteOut>(source: &mut S, out: O) -> (Result<u64, 
 fn vet_over<S: WordSource, O: ByteOut, E: ByteOut>(
     alloc: Global,
     exclusive: bool,
-    settings: &Settings,
-    demands: Demands,
+    job: &Job,
     source: &mut S,
     out: &mut O,
     err: &mut E,
 ) -> u8
     ensures { DoesTask S.WordSource O.ByteOut E.ByteOut ⟦<Packer<O> as WordSink>⟧
-        ⟦<PlainSink<O> as WordSink>⟧ (Task.Vet exclusive) settings.now demands
+        ⟦<PlainSink<O> as WordSink>⟧ (Task.Vet exclusive) job.now.settings job.now.demands
         source.old out.old out.new err.old err.new result }
 {
+    let (settings, demands) = (&job.settings, job.demands);
     if exclusive {
         let answer = run_vet_exclusive_with(alloc, source, out, settings, demands);
         report_run(err, &answer)
@@ -131,15 +131,7 @@ fn run_over<S: Peek + Drop, O: ByteOut, E: ByteOut>(
             (report_run(err, &answer), out)
         }
         Task::Vet { exclusive } => {
-            let status = vet_over(
-                alloc,
-                *exclusive,
-                settings,
-                demands,
-                &mut source,
-                &mut out,
-                err,
-            );
+            let status = vet_over(alloc, *exclusive, job, &mut source, &mut out, err);
             (status, out)
         }
         Task::Filter { form } => {
@@ -151,14 +143,8 @@ fn run_over<S: Peek + Drop, O: ByteOut, E: ByteOut>(
             (report_run(err, &answer), out)
         }
         Task::Get { path } => {
-            let answer = run_get_with(
-                alloc,
-                &mut source,
-                &mut out,
-                settings,
-                demands,
-                path.as_slice(),
-            );
+            let path = path.as_slice();
+            let answer = run_get_with(alloc, &mut source, &mut out, settings, demands, path);
             (report_run(err, &answer), out)
         }
         Task::Check => {

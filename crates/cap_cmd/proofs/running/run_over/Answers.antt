@@ -34,7 +34,7 @@ pub returns-in-Get : goal.returns-in-Get
 returns-in-Get g c = rw c.in-Get.is (record {
   last = c.run_get_with-answer.new.source;
   answer = c.run_get_with-answer.result;
-  does = rw c.as_slice.ensures.value at c.run_get_with-answer.ensures;
+  does = rw c.as_slice-path.ensures.value at c.run_get_with-answer.ensures;
   reported = c.report_run-in-Get.ensures;
 })
 
