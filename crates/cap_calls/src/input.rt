@@ -11,14 +11,11 @@ ghost use Rattle.std.specs.Prelude.{◌≡◌, [], ◌∷◌, Bool, IfErr, IfOk,
 use crate::answer::Answer;
 use crate::found::Found;
 use crate::front::NoFrame;
-use crate::limits::CallLimits;
+use crate::limits::{CallLimits, MOST_WORDS};
 use crate::over::{Call, over};
 use crate::report::CallReport;
 use cap_frame::{ByteView, FrontFault, Segments};
 use cap_vet::Limits;
-
-/// The most words that a message may have.
-const MOST_WORDS: u64 = 268435456;
 
 /// What a call finds of its input: of the message that bytes start with, or with the flag 8 of the
 /// one segment whose words they are. Without that flag, no bytes may follow the message if they

@@ -2,6 +2,9 @@
 
 use cap_vet::Demands;
 
+/// The most words that the limits of a call allow, of a message and of its charge.
+pub(crate) const MOST_WORDS: u64 = 268435456;
+
 /// The highest sum of flags that a call over a frame knows: 1, 2 and 4.
 const ALL_FLAGS: u32 = 7;
 

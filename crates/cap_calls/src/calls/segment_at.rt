@@ -9,7 +9,7 @@ ghost use Rattle.std.specs.Prelude.{◌*◌, ◌<◌, ◌≡◌, ◌≤◌, leng
 
 use crate::answer::Answer;
 use crate::front::front;
-use crate::limits::CallLimits;
+use crate::limits::{CallLimits, MOST_WORDS};
 use cap_frame::{ByteView, Framed, SegmentTables, Segments};
 
 /// Reports where segment `index` of the frame that bytes start with is, counted from 0. `offset` is
@@ -89,7 +89,7 @@ fn any_size() -> CallLimits
     ensures { result ≡ any_size }
 {
     CallLimits {
-        message_words: 268435456,
+        message_words: MOST_WORDS,
         ..CallLimits::default_limits()
     }
 }
