@@ -1,5 +1,5 @@
 -- The head in front, by its tag.
-use Rattle.std.proofs.Common.{◌<◌, arith, length, sym, ◌∙◌}
+use Rattle.std.proofs.Common.{arith, length, sym, ◌∙◌}
 use Rattle.std.proofs.lemmas.Bool.{eqb-true}
 use Rattle.std.proofs.lemmas.Bool.Decides.{nat_tests}
 use Rattle.cap_calls.proofs.PackedStreams.{no_bytes}

@@ -1,5 +1,5 @@
 -- The head of a run of words as they are.
-use Rattle.std.proofs.Common.{[], ◌∷◌, ◌≡◌, ◌∙◌, ap, arith, drop, rules, sym, take}
+use Rattle.std.proofs.Common.{[], ◌∷◌, ◌≡◌, ◌∙◌, ap, drop, rules, sym, take}
 use Rattle.cap_spec.specs.Plain.{plain_words}
 use Rattle.cap_spec.specs.Words.{IsWord}
 use Rattle.cap_spec.proofs.Bytes.Plain.{plain_back}

@@ -1,5 +1,5 @@
 -- The head of a word, by the marks of its bytes.
-use Rattle.std.proofs.Common.{◌≡◌, ◌∙◌, ◌<◌, ◌+◌, ◌-◌, ℕ, ap, arith, drop, length, sym, take}
+use Rattle.std.proofs.Common.{◌≡◌, ◌∙◌, ◌<◌, ◌+◌, ◌-◌, ℕ, ap, arith, drop, length, take}
 use Rattle.std.proofs.lemmas.List.{length-take-le, length-drop}
 use lib.Count.{ones}
 use Rattle.cap_spec.specs.Unpacking.{marks, spread}
