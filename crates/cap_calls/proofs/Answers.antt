@@ -33,19 +33,19 @@ use Rattle.cap_calls.specs.declared.report.CallReport.{CallReport}
 use Rattle.cap_calls.proofs.Words.{no_word_cause, one_input, one_word_cause}
 
 -- an answer without a frame
-abbrev Without-fault : FrontFault → Result (Option Framed) FrontFault
-Without-fault e = Err e
+abbrev pub Without : FrontFault → Result (Option Framed) FrontFault
+Without e = Err e
 
 -- bytes begin with no message in one way
 one_fault : (limit : ℕ) (bs : List ℕ) (a b : FrontFault) → TellsFront limit bs (Err a) → TellsFront limit bs (Err b)
     → a ≡ b
-one_fault limit bs a (TooManySegments n) h k = (let e = many_answer limit bs (Without-fault a) n k h in cc)
-one_fault limit bs a (TooLarge n) h k = (let e = large_answer limit bs (Without-fault a) n k h in cc)
-one_fault limit bs a (Truncated n) h k = (let e = short_answer limit bs (Without-fault a) n k.0 k.1 h in cc)
+one_fault limit bs a (TooManySegments n) h k = (let e = many_answer limit bs (Without a) n k h in cc)
+one_fault limit bs a (TooLarge n) h k = (let e = large_answer limit bs (Without a) n k h in cc)
+one_fault limit bs a (Truncated n) h k = (let e = short_answer limit bs (Without a) n k.0 k.1 h in cc)
 
 -- no bytes begin with no message in no other way
 no_fault : (limit : ℕ) (bs : List ℕ) (a : FrontFault) → bs ≡ [] → TellsFront limit bs (Err a) → ⊥
-no_fault limit bs a e h = (let f = empty_answer limit bs (Without-fault a) e h in cc)
+no_fault limit bs a e h = (let f = empty_answer limit bs (Without a) e h in cc)
 
 module _ (l : CallLimits) (bs : List ℕ) where
   -- there is no frame for one cause
@@ -65,7 +65,7 @@ module _ (l : CallLimits) (bs : List ℕ) where
       → HasFrame l bs frame segments m → ⊥
   no_cause BadLimits frame segments m h f = h f.are_limits
   no_cause NoMessage frame segments m h f = whole_answer l.message_words bs (Ok None) m frame f.front h.1
-  no_cause (Fault a) frame segments m h f = whole_answer l.message_words bs (Without-fault a) m frame f.front h.1
+  no_cause (Fault a) frame segments m h f = whole_answer l.message_words bs (Without a) m frame f.front h.1
 
   -- there is one frame
   pub one_extent : (a b x y : ℕ) (m n : List (List ℕ)) → HasFrame l bs a x m → HasFrame l bs b y n → (a ≡ b) × (x ≡ y)

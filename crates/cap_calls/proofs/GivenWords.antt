@@ -1,8 +1,8 @@
 -- Words in a buffer, one step after the other.
-use Rattle.std.proofs.Common.{ℕ, List, [], ◌∷◌, ◌++◌, ◌≡◌, ◌∙◌, ◌≤◌, ◌+◌, ◌-◌, ◌%◌, ap, refl, sym, subst}
+use Rattle.std.proofs.Common.{ℕ, List, [], ◌++◌, ◌≡◌, ◌∙◌, ◌≤◌, ◌+◌, ◌-◌, ◌%◌, ap, refl, sym, subst}
 use Rattle.std.proofs.Common.{arith, drop, drop-drop, length, length-append, length-drop, length-take, take}
 use Rattle.std.proofs.Common.{take-append-drop}
-use Rattle.std.proofs.lemmas.List.{drop-append-le, drop_at, length-take-le}
+use Rattle.std.proofs.lemmas.List.{drop-append-le, drop_at, length-take-le, nil_from_length}
 use Rattle.std.proofs.lemmas.Slice.{take-put_mid_below}
 use Rattle.cap_spec.specs.Plain.{plain_words}
 use Rattle.cap_words.proofs.Filling.{plain_join}
@@ -17,7 +17,7 @@ pub gives_none : (start z p : ℕ) (bytes old : List ℕ) → start ≤ length o
     → Gives start z p bytes old old (record { taken = 0; written = start; zeros = z; literal = p })
 gives_none start z p bytes old fits whole rest =
     let none : plain_words (drop start (take start old)) ≡ [] =
-    ap plain_words (nothing (drop start (take start old)) (omega (arith, length-drop start (take start old), length-take start old))) in
+    ap plain_words (nil_from_length (drop start (take start old)) (omega (arith, length-drop start (take start old), length-take start old))) in
     record {
       after = omega arith;
       fits = fits;
@@ -28,10 +28,6 @@ gives_none start z p bytes old fits whole rest =
       rest = refl;
       left = rest;
     }
-  where
-    nothing : (xs : List ℕ) → length xs ≡ 0 → xs ≡ []
-    nothing [] e = refl
-    nothing (x ∷ xs) e = absurd (omega (arith, e))
 
 -- Some words, and then others in the next part of the buffer.
 pub gives_more : (start z p k : ℕ) (bytes rest old out part given : List ℕ) (d e : Given) → start % 8 ≡ 0

@@ -4,7 +4,7 @@ use Rattle.std.proofs.Common.{inl, inr, arith, append_assoc, length, length-appe
 use Rattle.std.proofs.Common.{Err, Option, Result, sum, take}
 use Rattle.std.proofs.Math.Seq.{take-append-add}
 use Rattle.std.proofs.lemmas.Bool.{cases_lt, false≢true}
-use Rattle.std.proofs.lemmas.List.{length-take-le}
+use Rattle.std.proofs.lemmas.List.{length-take-le, nil_from_length}
 use Rattle.cap_spec.specs.Endings.{BeginsMessage, message, partial, too_large, too_many}
 use Rattle.cap_spec.specs.Frames.{IsPartial, in_contents, in_table, in_word}
 use Rattle.cap_spec.specs.Plain.{plain_is_cut, plain_words}
@@ -35,16 +35,12 @@ Fault n = Err (Truncated n)
 same_wanted : (a b : ℕ) → Fault a ≡ Fault b → a ≡ b
 same_wanted a b e = cc
 
-nothing : (xs : List ℕ) → length xs ≡ 0 → xs ≡ []
-nothing [] e = refl
-nothing (x ∷ xs) e = absurd (omega (arith, e))
-
 -- With more words, but fewer bytes than wanted, the message is still open.
 pub open_longer : (limit wanted : ℕ) (held longer words : List ℕ) → length held % 8 ≡ 0 → length longer % 8 ≡ 0
     → plain_words longer ≡ plain_words held ++ words → length longer < wanted → IsOpen limit held wanted
     → IsOpen limit longer wanted
 open_longer limit wanted held longer words h i e few (inl none) = inl
-    (nothing longer (omega (arith, none.1, few, i)), none.1)
+    (nil_from_length longer (omega (arith, none.1, few, i)), none.1)
 open_longer limit wanted held longer words h i e few (inr t) = inr (further t.0)
   where
     further : IsPartial limit (plain_words held) (plain_is_cut held) → TellsFront limit longer (Fault wanted)

@@ -1,14 +1,12 @@
 -- A call that unpacks a message stops for one reason.
 use Rattle.std.proofs.Common.{ℕ, List, [], ◌≡◌, ◌≢◌, ◌∙◌, ap, refl, sym, inl, inr}
-use Rattle.std.proofs.Common.{length, Err, Option, Result}
+use Rattle.std.proofs.Common.{length}
 use Rattle.cap_spec.specs.Endings.{Ending, EndsIn, message, none, partial, too_large, too_many}
 use Rattle.cap_spec.specs.Plain.{plain_is_cut, plain_words}
 use Rattle.cap_spec.proofs.Frames.Framing.{one_frame}
 use Rattle.cap_spec.proofs.Frames.OneEnding.{one_ending}
 use Rattle.cap_frame.specs.Fronts.{IsFront, TellsLarge, TellsMany}
-use Rattle.cap_frame.specs.declared.fault.FrontFault.{FrontFault}
 use Rattle.cap_frame.specs.declared.fault.FrontFault.TheVariants.{TooLarge, TooManySegments, Truncated}
-use Rattle.cap_frame.specs.declared.framed.Framed.{Framed}
 use Rattle.cap_frame.proofs.FrontAnswers.{empty_answer, large_answer, many_answer, short_answer}
 use Rattle.cap_calls.specs.CallReports.{none_report}
 use Rattle.cap_calls.specs.PackedStreams.{words_to_come}
@@ -16,9 +14,7 @@ use Rattle.cap_calls.specs.UnpackingMessages.{IsOpen, Stops, bytes_needed, no_me
 use Rattle.cap_calls.specs.UnpackingMessages as stop
 use Rattle.cap_calls.specs.declared.answer.Answer.{Answer}
 use Rattle.cap_calls.specs.declared.report.CallReport.{CallReport}
-
-abbrev Without : FrontFault → Result (Option Framed) FrontFault
-Without e = Err e
+use Rattle.cap_calls.proofs.Answers.{Without}
 
 module _ (limit : ℕ) (held : List ℕ) where
   ends_whole : (m : List (List ℕ)) (n : ℕ) → IsFront limit held m n → EndsIn limit (plain_words held) (plain_is_cut held) message

@@ -9,6 +9,7 @@ use Rattle.std.proofs.lemmas.Bool.{cases_eq, cases_lt, cond-false, cond-true, le
 use Rattle.std.proofs.lemmas.List.{drop_all, length-take-le, replicate-append-replicate}
 use Rattle.cap_spec.specs.Plain.{plain_words}
 use Rattle.cap_spec.specs.Unpacking.{given_of, marked, marks, spread, unpacked, zeros}
+use Rattle.cap_spec.proofs.Bytes.Lists.{all_take}
 use Rattle.cap_spec.proofs.Bytes.Plain.{plain_short, words_exact}
 use Rattle.cap_spec.proofs.Packed.Groups.{group_off}
 use Rattle.cap_spec.proofs.Packed.Unpacking.{length_marked, unpacked_front, unpacked_short}
@@ -51,14 +52,9 @@ head_least bytes zero all l = omega arith
 head_least [] (suc n) all l = omega arith
 head_least (tag ∷ b) (suc n) all l =
     let few : length (tag ∷ take n b) ≤ suc n = omega (arith, length-take n b) in
-    let front : AllByRecursion (λ (x : ℕ). x < 256) (tag ∷ take n b) = (all.0, small n b all.1) in
+    let front : AllByRecursion (λ (x : ℕ). x < 256) (tag ∷ take n b) = (all.0, all_take (λ x. x < 256) n b all.1) in
     let none : unpacked (tag ∷ take n b) ≡ [] = head_part (tag ∷ take n b) front (omega (arith, few, l)) in
     omega (arith, ap length none)
-  where
-    small : (n : ℕ) (b : List ℕ) → AllByRecursion (λ (x : ℕ). x < 256) b → AllByRecursion (λ (x : ℕ). x < 256) (take n b)
-    small zero b all = tt
-    small (suc n) [] all = tt
-    small (suc n) (x ∷ b) all = (all.0, small n b all.1)
 
 -- a run of literal words in front of more bytes
 plain_front : (a b c d e f g h n : ℕ) (rest : List ℕ) →
@@ -137,15 +133,10 @@ leads_marked_head (x ∷ rest) tag n w all l t z f m p =
           ap (λ (k : ℕ). unpacked (take k (x ∷ rest) ++ more)) next
           ∙ (ap (λ (k : ℕ). unpacked (k ∷ (present ++ more))) same
           ∙ (group_off (tag ∷ present) (spread 8 tag present ∷ []) more
-          (marked tag present (omega (arith, z)) (omega (arith, f, small)) (front n rest all.1) count refl refl)
+          (marked tag present (omega (arith, z)) (omega (arith, f, small)) (all_take (λ x. x < 256) n rest all.1) count refl refl)
           ∙ ap (λ (k : ℕ). k ∷ unpacked more) (sym p)));
       least = λ j h. head_least (x ∷ rest) j all (omega (arith, h, long));
     }
-  where
-    front : (n : ℕ) (b : List ℕ) → AllByRecursion (λ (x : ℕ). x < 256) b → AllByRecursion (λ (x : ℕ). x < 256) (take n b)
-    front zero b all = tt
-    front (suc n) [] all = tt
-    front (suc n) (x ∷ b) all = (all.0, front n b all.1)
 
 -- no words
 pub leads_none : (z p : ℕ) (bytes : List ℕ) → Leads z p bytes [] 0 z p

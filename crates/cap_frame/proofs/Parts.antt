@@ -5,9 +5,9 @@ use Rattle.std.specs.List.{AllByRecursion}
 use Rattle.std.proofs.lemmas.List.{drop-drop, drop-take, drop_all, length-drop, length-take-le, take-append-drop, take-take, take_all}
 use Rattle.cap_frame.specs.Bytes.{cut, starts_of}
 use Rattle.cap_frame.proofs.Cuts.{cut_at, cut_length, cut_words, front_sum, start_is, words_inside}
-use Rattle.cap_spec.proofs.Bytes.Lists.{all_drop}
+use Rattle.cap_spec.proofs.Bytes.Lists.{all_drop, all_take}
 use Rattle.cap_spec.proofs.Bytes.Plain.{plain_split, words_exact}
-use Rattle.cap_words.proofs.AtHand.{bytes_small, front_small}
+use Rattle.cap_words.proofs.AtHand.{bytes_small}
 use Rattle.cap_words.proofs.Filling.{plain_join}
 use Rattle.std.proofs.Math.Seq.{drop-append_seam, take-append_seam}
 use Rattle.std.proofs.lemmas.Bool.{cases_lt}
@@ -57,7 +57,7 @@ part_text bs at words fits inside =
     let d : length (drop (8 * at) bs) ≡ length bs - 8 * at = length-drop (8 * at) bs in
     let e : length (take (8 * words) (drop (8 * at) bs)) ≡ 8 * words = length-take-le (8 * words) (drop (8 * at) bs) (omega (arith, d, inside)) in
     whole_text (take (8 * words) (drop (8 * at) bs)) words
-    (front_small (8 * words) (drop (8 * at) bs) (all_drop (λ b. b < 256) (8 * at) bs (bytes_small bs fits))) e
+    (all_take (λ b. b < 256) (8 * words) (drop (8 * at) bs) (all_drop (λ b. b < 256) (8 * at) bs (bytes_small bs fits))) e
 
 -- some words of a segment are spelled where their start and that of the segment tell
 pub part_words : (ns bs : List ℕ) (s start words : ℕ) → s < length ns → 8 * sum ns ≤ length bs → start + words ≤ length (get_or (cut ns bs) s [])

@@ -1,12 +1,13 @@
 -- Words put to a sink in several calls.
-use Rattle.std.proofs.Common.{◌≡◌, ◌∙◌, ℕ, zero, suc, ◌+◌, ◌*◌, ◌/◌, ◌^◌, ◌<◌, true, false, Option, Some}
-use Rattle.std.proofs.Common.{None, Result, Err, List, [], ◌∷◌, ◌++◌, length, drop, get_or, refl, sym, ap}
+use Rattle.std.proofs.Common.{◌≡◌, ◌∙◌, ℕ, zero, suc, ◌+◌, ◌*◌, ◌/◌, ◌^◌, ◌<◌, true, false, Some}
+use Rattle.std.proofs.Common.{Result, Err, List, [], ◌∷◌, ◌++◌, length, drop, get_or, refl, sym, ap}
 use Rattle.std.proofs.Common.{subst, arith, append_assoc, append-nil}
 use Rattle.std.proofs.Math.Seq.{drop-cons}
 use Rattle.std.proofs.lemmas.List.{length-map}
 use Rattle.std.specs.Io.KnownBytes.{Keeps}
 use Rattle.std.specs.Prelude.{slice_get}
 use Rattle.std.proofs.KnownBytes.{Keeps-trans}
+use Rattle.cap_words.proofs.Told.{begins_kept}
 use Rattle.cap_words.specs.Sinks.{Begins, StoppedPutting, WasPut}
 use Rattle.cap_words.specs.Ends.{Failures, DeviceFails, GrowthFails, WasSpent}
 use Rattle.cap_words.specs.declared.sinks.WordSink as sink
@@ -16,13 +17,6 @@ use Rattle.cap_spec.specs.Frames.{paired, joined, frame_text}
 use Rattle.cap_spec.specs.Messages.{segment_of}
 use Rattle.cap_frame.specs.Numbers.{numbers_of, pair_at, table_rest}
 use Rattle.cap_frame.specs.Putting.{Puts, Halts, Blames}
-
--- what begins the kept text begins the text
-pub begins_kept : (a b part : Option (List ℕ)) → Keeps a b → Begins b part → Begins a part
-begins_kept None b part k h = tt
-begins_kept (Some x) None part k h = absurd k
-begins_kept (Some x) (Some y) None k h = absurd h
-begins_kept (Some x) (Some y) (Some p) k h = (h.0, sym k ∙ h.1)
 
 module _ {K : Type 0} (g : sink.Ghosts K) where
   -- some words, and then others

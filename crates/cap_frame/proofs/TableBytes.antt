@@ -7,8 +7,8 @@ use Rattle.cap_spec.specs.Frames.{paired}
 use Rattle.cap_spec.specs.Messages.{IsMessage}
 use Rattle.cap_spec.specs.Plain.{plain_text, plain_words, word_bytes}
 use Rattle.cap_spec.specs.Words.{IsWord}
-use Rattle.cap_spec.proofs.Bytes.Plain.{plain_back}
 use Rattle.cap_spec.proofs.Frames.FrameTexts.{frame_text_frames}
+use Rattle.cap_spec.proofs.Packed.Unpacking.{plain_reads}
 use Rattle.cap_frame.specs.Numbers.{numbers_of, pair_at}
 use Rattle.cap_frame.proofs.Putting.{paired_from}
 
@@ -17,10 +17,6 @@ pub paired_words : (xs : List ℕ) → AllByRecursion (λ n. n < 2 ^ 32) xs → 
 paired_words [] all = tt
 paired_words (a ∷ []) all = (omega (arith, all.0), tt)
 paired_words (a ∷ b ∷ rest) all = (omega (arith, all.0, all.1.0), paired_words rest all.1.1)
-
--- words are those of their bytes
-pub words_back : (ws : List ℕ) → AllByRecursion IsWord ws → plain_words (plain_text ws) ≡ ws
-words_back ws all = ap plain_words (sym (append-nil (plain_text ws))) ∙ (plain_back ws [] all ∙ append-nil ws)
 
 -- the numbers of a table fit four bytes
 pub numbers_fit : (m : List (List ℕ)) → IsMessage m → AllByRecursion (λ n. n < 2 ^ 32) (numbers_of m)
@@ -31,7 +27,7 @@ numbers_fit m is =
 -- the words of a table, out of its bytes
 pub table_back : (m : List (List ℕ)) (bytes : List ℕ) → IsMessage m → bytes ≡ plain_text (paired (numbers_of m))
     → plain_words bytes ≡ paired (numbers_of m)
-table_back m bytes is e = ap plain_words e ∙ words_back (paired (numbers_of m)) (paired_words (numbers_of m) (numbers_fit m is))
+table_back m bytes is e = ap plain_words e ∙ plain_reads (paired (numbers_of m)) (paired_words (numbers_of m) (numbers_fit m is))
 
 -- one word more was written
 pub table_more : (m : List (List ℕ)) (w x : ℕ) (text more given : List ℕ) → w < length m / 2 + 1 → x ≡ pair_at (numbers_of m) (2 * w)

@@ -3,7 +3,7 @@ use Rattle.std.proofs.Common.{◌≡◌, ◌+◌, Bool, false, lit<, ◌*◌, �
 use Rattle.std.proofs.Common.{◌∷◌, ◌++◌, length, take, drop, get_or, replicate, Option, None, Some, refl, sym, ap}
 use Rattle.std.proofs.Common.{subst, arith, unwrap_or, append-nil, append_assoc, length-append, drop-drop}
 use Rattle.std.proofs.Common.{length-drop, length-take, take-take}
-use Rattle.std.proofs.lemmas.List.{length-take-le, take-append-drop}
+use Rattle.std.proofs.lemmas.List.{length-take-le, nil_from_length, take-append-drop}
 use Rattle.std.proofs.Math.Seq.{take-add}
 use Rattle.std.specs.List.{AllByRecursion}
 use Rattle.std.specs.Io.KnownBytes.{Consumes}
@@ -159,10 +159,6 @@ given_for zero p y q [] own k spent g some zeros bytes =
 given_for zero p y q (x ∷ held) own k spent g some zeros bytes = bytes (omega arith)
 given_for (suc z) p y q held own k spent g some zeros bytes = zeros (omega arith)
 
-nothing : (xs : List ℕ) → length xs ≡ 0 → xs ≡ []
-nothing [] e = refl
-nothing (x ∷ xs) e = absurd (omega arith)
-
 -- by a source that is open
 pub words_at_hand : (phase : Phase) (a b : Option (List ℕ)) (held out : List ℕ) (z p at now : ℕ) (d : Unpacked) → phase ≡ Open →
     Unpacks z p held out d → AllByRecursion (λ b. b < 256) (take d.written out)
@@ -178,7 +174,7 @@ words_at_hand phase a b held out z p at now d is_open u small low value lost =
     let long : length bytes ≡ d.written = length-take-le d.written out u.fits in
     let whole : length bytes ≡ length (plain_text (plain_words bytes)) + length rest = ap length s.whole
     ∙ length-append (plain_text (plain_words bytes)) rest in
-    let none : rest ≡ [] = nothing rest (omega (arith, whole, length_plain (plain_words bytes), s.partial, long, u.whole)) in
+    let none : rest ≡ [] = nil_from_length rest (omega (arith, whole, length_plain (plain_words bytes), s.partial, long, u.whole)) in
     let all : bytes ≡ plain_text (plain_words bytes) = s.whole
     ∙ (ap (λ l. plain_text (plain_words bytes) ++ l) none ∙ append-nil (plain_text (plain_words bytes))) in
     let place : now ≡ capped (at + length (take d.read held)) = value ∙ ap (λ k. capped (at + k)) (sym (length-take-le d.read held u.within)) in

@@ -1,5 +1,5 @@
 -- The words of a list or of bytes, put to a sink a piece after the other.
-use Rattle.std.proofs.Common.{◌≡◌, ◌+◌, ◌-◌, ◌*◌, ◌<◌, ◌≤◌, ◌∙◌, ℕ, suc, Bool, Option, Some, None, List, [], ◌∷◌, ◌++◌}
+use Rattle.std.proofs.Common.{◌≡◌, ◌+◌, ◌-◌, ◌*◌, ◌<◌, ◌≤◌, ◌∙◌, ℕ, suc, Bool, Option, List, [], ◌∷◌, ◌++◌}
 use Rattle.std.proofs.Common.{length, take, drop, refl, sym, ap, subst, arith, append_assoc, append-nil, drop-drop}
 use Rattle.std.proofs.Common.{length-drop, take-append-drop, false}
 use Rattle.std.proofs.lemmas.List.{length-take-le, take_rest}
@@ -9,15 +9,9 @@ use Rattle.byteorder.specs.Endian.{IsRead, little_number}
 use Rattle.cap_spec.specs.Plain.{plain_words}
 use Rattle.cap_spec.proofs.Bytes.Plain.{plain_short}
 use Rattle.cap_words.proofs.Filling.{plain_join}
+use Rattle.cap_words.proofs.Told.{begins_kept}
 use Rattle.cap_words.specs.Sinks.{Begins, StoppedPutting, WasPut}
 use Rattle.cap_words.specs.Ends.{Failures}
-
--- what begins the kept text begins the text
-begins_kept : (a b part : Option (List ℕ)) → Keeps a b → Begins b part → Begins a part
-begins_kept None b part k h = tt
-begins_kept (Some x) None part k h = absurd k
-begins_kept (Some x) (Some y) None k h = absurd h
-begins_kept (Some x) (Some y) (Some p) k h = (h.0, sym k ∙ h.1)
 
 -- the first word of bytes, and the words behind it
 pub word_first : (bytes : List ℕ) → 8 ≤ length bytes → plain_words bytes ≡ little_number 8 bytes ∷ plain_words (drop 8 bytes)

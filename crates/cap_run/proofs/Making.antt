@@ -14,7 +14,8 @@ use Rattle.cap_words.specs.declared.sinks.SinkFault.{SinkFault}
 use Rattle.cap_words.specs.declared.sinks.WordSink as sink
 use Rattle.cap_words.specs.declared.sources.WordSource as source
 use Rattle.cap_frame.specs.Putting.{Blames, Halts}
-use Rattle.cap_frame.proofs.Putting.{begins_kept, blames_later}
+use Rattle.cap_frame.proofs.Putting.{blames_later}
+use Rattle.cap_words.proofs.Told.{begins_kept}
 use Rattle.cap_vet.specs.Demands.{IsDemandFault}
 use Rattle.cap_vet.specs.declared.demands.Demands.{Demands}
 use Rattle.cap_canon.specs.CopyOvers.{TellsOver, grown, has_capability, no_memory, over}

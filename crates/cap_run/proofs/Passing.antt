@@ -1,7 +1,7 @@
 -- Bytes that are written after others, and the bytes of a frame.
 use Rattle.std.proofs.Common.{◌≡◌, ◌∙◌, ◌<◌, ◌+◌, ℕ, suc, Bool, false, true, List, [], ◌∷◌}
-use Rattle.std.proofs.Common.{◌++◌, Result, Ok, Err, length, take, drop, refl, sym, ap, subst, Option, arith}
-use Rattle.std.proofs.Common.{◌-◌, ◌≤◌, append_assoc, append-nil, drop-drop, length-drop, take-append-drop, take_at}
+use Rattle.std.proofs.Common.{◌++◌, Result, Ok, length, take, drop, refl, sym, ap, subst, arith}
+use Rattle.std.proofs.Common.{◌-◌, ◌≤◌, append_assoc, append-nil, drop-drop, take_at}
 use Rattle.std.proofs.lemmas.List.{take_rest}
 use Rattle.std.specs.Prelude.{◌==◌, if◌then◌else◌, OnOk, OnErr, IsErrOf}
 use Rattle.std.specs.Io.KnownBytes.{Appends}
@@ -13,35 +13,18 @@ use Rattle.cap_spec.specs.Messages.{segment_of}
 use Rattle.cap_spec.specs.Packing.{pack_text, zero_bytes}
 use Rattle.cap_spec.specs.PackedFrames.{table_of}
 use Rattle.cap_spec.specs.Plain.{plain_text, plain_words, word_bytes}
-use Rattle.cap_spec.proofs.Bytes.Plain.{length_plain, plain_short}
+use Rattle.cap_spec.proofs.Bytes.Plain.{length_plain}
 use Rattle.cap_frame.specs.Numbers.{numbers_of, pair_at}
 use Rattle.cap_frame.proofs.Putting.{paired_from, segments_from}
 use Rattle.cap_words.specs.Ends.{Works, DeviceFails, GrowthFails}
 use Rattle.cap_words.specs.declared.ends.ByteOut as output
 use Rattle.cap_words.specs.declared.ends.OutFault.{OutFault}
 use Rattle.cap_words.specs.declared.ends.OutFault.TheVariants.{Device, Memory, Spent}
-use Rattle.cap_text.specs.Writing.{Stopped, WritesPart, Writes, Wrote}
-use Rattle.cap_text.proofs.Writing.{stopped_more, writes_then}
-
--- the first bytes of a text are a beginning of it
-part_of : (a b : Option (List ℕ)) (text : List ℕ) (n : ℕ) → Appends a b (take n text) → WritesPart a b text
-part_of a b text n p = record { part = take n text; rest = drop n text; whole = sym (take-append-drop n text); appended = p }
+use Rattle.cap_text.specs.Writing.{Stopped, Writes, Wrote}
+use Rattle.cap_text.proofs.Writing.{stopped_more, writes_all, writes_then}
 
 module _ {O : Type 0} (g : output.Ghosts O) where
-  -- the clauses of a call that writes all bytes, put together
-  pub writes_all : (a b : O) (r : Result (Unit {0}) OutFault) (text : List ℕ) → OnOk r (Appends (g.written a) (g.written b) text)
-      → OnErr r ((n : ℕ) × (n < length text) × Appends (g.written a) (g.written b) (take n text))
-      → OnOk r (Works (g.spent a) (g.spent b) (g.failures a) (g.failures b))
-      → (IsErrOf r Device → DeviceFails (g.spent a) (g.failures a) (g.failures b) × (g.spent b ≡ true))
-      → (IsErrOf r Memory → GrowthFails (g.spent a) (g.failures a) (g.failures b))
-      → (IsErrOf r Spent → (g.spent a ≡ true) × (b ≡ a)) → Writes g a b r text
-  writes_all a b (Ok x) text ok err works device memory was_spent = record { appended = ok; works = works }
-  writes_all a b (Err Device) text ok err works device memory was_spent =
-      ((device refl).0, (device refl).1, part_of (g.written a) (g.written b) text err.0 err.2)
-  writes_all a b (Err Memory) text ok err works device memory was_spent = (memory refl, part_of (g.written a) (g.written b) text err.0 err.2)
-  writes_all a b (Err Spent) text ok err works device memory was_spent = was_spent refl
-
-  -- the same of bytes after a text, also where there are none
+  -- the clauses of a call that writes all bytes after a text, put together, also where there are none
   pub writes_more : (o a b : O) (r : Result (Unit {0}) OutFault) (text bytes : List ℕ) → Wrote g o a text
       → OnOk r (Appends (g.written a) (g.written b) bytes)
       → OnErr r ((n : ℕ) × (n < length bytes) × Appends (g.written a) (g.written b) (take n bytes))
@@ -55,7 +38,7 @@ module _ {O : Type 0} (g : output.Ghosts O) where
       subst (λ (x : Result (Unit {0}) OutFault). Writes g o b x (text ++ [])) (sym e.0)
       (subst (λ (x : O). Wrote g o x (text ++ [])) (sym e.1) (subst (Wrote g o a) (sym (append-nil text)) w))
   writes_more o a b r text (x ∷ xs) w ok err none works device memory was_spent =
-      writes_then g o a b r text (x ∷ xs) w (writes_all a b r (x ∷ xs) ok err (works (omega arith)) device memory was_spent)
+      writes_then g o a b r text (x ∷ xs) w (writes_all g a b r (x ∷ xs) ok err (works (omega arith)) device memory was_spent)
 
   -- After this text, bytes were written that leave the rest of these.
   pub record Left (old now : O) (text all rest : List ℕ) : Type 0 where
@@ -140,7 +123,3 @@ part_from bs done taken part e =
     let same : rest ≡ drop done bs = take_rest bs done in
     ap (λ (xs : List ℕ). pack_text (plain_words xs)) (sym same)
     ∙ (e ∙ ap (λ (xs : List ℕ). part ++ pack_text (plain_words xs)) (ap (drop taken) same ∙ drop-drop taken done bs))
-
--- less than a word is left
-pub no_word : (bytes : List ℕ) (done : ℕ) → length bytes - done < 8 → plain_words (drop done bytes) ≡ []
-no_word bytes done h = plain_short (drop done bytes) (omega (arith, length-drop done bytes, h))

@@ -13,7 +13,8 @@ use Rattle.cap_words.specs.declared.sinks.WordSink as sink
 use Rattle.cap_words.specs.declared.sources.WordSource as source
 use Rattle.cap_frame.proofs.Taking.{takes_none, takes_one, takes_both}
 use Rattle.cap_frame.specs.Putting.{Blames, Halts}
-use Rattle.cap_frame.proofs.Putting.{begins_kept, blames_later}
+use Rattle.cap_frame.proofs.Putting.{blames_later}
+use Rattle.cap_words.proofs.Told.{begins_kept}
 use Rattle.cap_run.specs.Transcoding.{Transcoded, Fills, Finishes, Gives, Spoils, StopsFinishing, StopsMidway}
 use Rattle.cap_run.specs.PuttingEnds.{Transcodes, StopsAt, StopsPutting, is_open}
 use Rattle.cap_text.specs.declared.fault.CopyFault.{CopyFault}

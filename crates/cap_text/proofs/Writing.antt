@@ -1,9 +1,10 @@
 -- Texts that are written one after the other.
-use Rattle.std.proofs.Common.{◌≡◌, ℕ, true, List, [], ◌++◌, ◌+◌, Option, refl, sym, ap, ◌∙◌, append_assoc, append-nil, Result, Ok, Err}
-use Rattle.std.specs.Prelude.{IsErrOf, OnOk}
+use Rattle.std.proofs.Common.{◌≡◌, ◌<◌, ℕ, true, List, [], ◌++◌, ◌+◌, Option, refl, sym, ap, ◌∙◌, append_assoc, append-nil, Result, Ok, Err}
+use Rattle.std.proofs.Common.{drop, length, take, take-append-drop}
+use Rattle.std.specs.Prelude.{IsErrOf, OnErr, OnOk}
 use Rattle.std.specs.Io.KnownBytes.{Appends, Keeps}
 use Rattle.std.proofs.KnownBytes.{Appends-kept, Appends-trans}
-use Rattle.cap_words.specs.Ends.{DeviceFails, GrowthFails, WasSpent}
+use Rattle.cap_words.specs.Ends.{DeviceFails, GrowthFails, WasSpent, Works}
 use Rattle.cap_words.specs.declared.ends.ByteOut as output
 use Rattle.cap_words.specs.declared.ends.OutFault.{OutFault}
 use Rattle.cap_words.specs.declared.ends.OutFault.TheVariants.{Device, Memory, Spent}
@@ -22,6 +23,24 @@ part_then a b c xs ys p w = record {
   whole = ap (λ t. xs ++ t) w.whole ∙ sym (append_assoc xs w.part w.rest);
   appended = Appends-trans a b c xs w.part p w.appended;
 }
+
+-- the first bytes of a text are a beginning of it
+part_of : (a b : Option (List ℕ)) (text : List ℕ) (n : ℕ) → Appends a b (take n text) → WritesPart a b text
+part_of a b text n p = record { part = take n text; rest = drop n text; whole = sym (take-append-drop n text); appended = p }
+
+module _ {O T : Type 0} (g : output.Ghosts O) where
+  -- the clauses of a call that writes all bytes, put together
+  pub writes_all : (a b : O) (r : Result T OutFault) (text : List ℕ) → OnOk r (Appends (g.written a) (g.written b) text)
+      → OnErr r ((n : ℕ) × (n < length text) × Appends (g.written a) (g.written b) (take n text))
+      → OnOk r (Works (g.spent a) (g.spent b) (g.failures a) (g.failures b))
+      → (IsErrOf r Device → DeviceFails (g.spent a) (g.failures a) (g.failures b) × (g.spent b ≡ true))
+      → (IsErrOf r Memory → GrowthFails (g.spent a) (g.failures a) (g.failures b))
+      → (IsErrOf r Spent → (g.spent a ≡ true) × (b ≡ a)) → Writes g a b r text
+  writes_all a b (Ok x) text ok err works device memory was_spent = record { appended = ok; works = works }
+  writes_all a b (Err Device) text ok err works device memory was_spent =
+      ((device refl).0, (device refl).1, part_of (g.written a) (g.written b) text err.0 err.2)
+  writes_all a b (Err Memory) text ok err works device memory was_spent = (memory refl, part_of (g.written a) (g.written b) text err.0 err.2)
+  writes_all a b (Err Spent) text ok err works device memory was_spent = was_spent refl
 
 module _ {O : Type 0} (g : output.Ghosts O) where
   -- one text, and then another

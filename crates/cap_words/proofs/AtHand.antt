@@ -1,8 +1,8 @@
 -- Whole words that are taken from the bytes at hand.
-use Rattle.std.proofs.Common.{◌≡◌, ◌+◌, ◌*◌, ◌^◌, ◌<◌, ◌≤◌, ◌∙◌, ℕ, zero, suc, List, [], ◌∷◌, ◌++◌, length}
-use Rattle.std.proofs.Common.{take, drop, get_or, length-append, Option, None, Some, refl, ap, sym}
+use Rattle.std.proofs.Common.{◌≡◌, ◌+◌, ◌*◌, ◌^◌, ◌<◌, ◌≤◌, ◌∙◌, ℕ, suc, List, [], ◌∷◌, ◌++◌, length}
+use Rattle.std.proofs.Common.{take, drop, get_or, length-append, Option, None, Some, ap, sym}
 use Rattle.std.proofs.Common.{append-nil, arith, unwrap_or, w8, Fits}
-use Rattle.std.proofs.lemmas.List.{length-take-le}
+use Rattle.std.proofs.lemmas.List.{length-take-le, nil_from_length}
 use Rattle.std.specs.List.{AllByRecursion}
 use Rattle.std.specs.Io.KnownBytes.{Consumes}
 use Rattle.std.specs.Option.{option_map}
@@ -17,15 +17,6 @@ use Rattle.cap_words.specs.declared.phase.Phase.TheVariants.{Open}
 pub bytes_small : (xs : List ℕ) → ((k : ℕ) → Fits w8 (get_or xs k 0)) → AllByRecursion (λ b. b < 256) xs
 bytes_small [] f = tt
 bytes_small (x ∷ xs) f = ((f 0).fits, bytes_small xs (λ k. f (suc k)))
-
-pub front_small : (n : ℕ) (xs : List ℕ) → AllByRecursion (λ b. b < 256) xs → AllByRecursion (λ b. b < 256) (take n xs)
-front_small zero xs a = tt
-front_small (suc n) [] a = tt
-front_small (suc n) (x ∷ xs) a = (a.0, front_small n xs a.1)
-
-no_length : (xs : List ℕ) → length xs ≡ 0 → xs ≡ []
-no_length [] e = refl
-no_length (x ∷ xs) e = absurd (omega arith)
 
 -- the places behind words, and the last of them
 ends_back : (at now : ℕ) (ws rest : List ℕ) → at < 2 ^ 64 → now ≡ capped (at + 8 * length ws) →
@@ -47,7 +38,7 @@ taken a b bs k at now small long low e p =
     let whole : length bs ≡ length (plain_text ws) + length rest = ap length s.whole ∙ length-append (plain_text ws) rest in
     let eight : length (plain_text ws) ≡ 8 * length ws = length_plain ws in
     let few : length rest < 8 = s.partial in
-    let none : rest ≡ [] = no_length rest (omega (arith, whole, eight, few, long)) in
+    let none : rest ≡ [] = nil_from_length rest (omega (arith, whole, eight, few, long)) in
     let all : bs ≡ plain_text ws = s.whole ∙ ap (λ l. plain_text ws ++ l) none ∙ append-nil (plain_text ws) in
     let same : length bs ≡ length (plain_text ws) = ap length all in
     let many : length ws ≡ k = omega (arith, same, eight, long) in

@@ -6,6 +6,7 @@ use Rattle.std.proofs.KnownBytes.{Keeps-refl, prepend_known-nil}
 use Rattle.std.proofs.lemmas.Bool.{lt-ltb}
 use Rattle.std.specs.Io.KnownBytes.{Consumes, IsAtEnd, Keeps, ReadConsumes, prepend_known}
 use Rattle.cap_words.specs.Laws.{both_hold}
+use Rattle.cap_words.specs.Sinks.{Begins}
 use Rattle.cap_words.specs.Told.{are_bytes, told_bytes}
 
 -- numbers are bytes where each is below 256
@@ -57,3 +58,10 @@ told_past a b held left answer buf none nothing p =
     let after : prepend_known left b ≡ b = ap (λ l. prepend_known l b) nothing ∙ prepend_known-nil b in
     subst (λ k. ReadConsumes (told_bytes k) (told_bytes (prepend_known left b)) answer buf) (sym before)
     (subst (λ k. ReadConsumes (told_bytes a) (told_bytes k) answer buf) (sym after) (told_read a b answer buf p))
+
+-- what begins the kept text begins the text
+pub begins_kept : (a b part : Option (List ℕ)) → Keeps a b → Begins b part → Begins a part
+begins_kept None b part k h = tt
+begins_kept (Some x) None part k h = absurd k
+begins_kept (Some x) (Some y) None k h = absurd h
+begins_kept (Some x) (Some y) (Some p) k h = (h.0, sym k ∙ h.1)

@@ -4,7 +4,7 @@ use Rattle.std.proofs.Common.{replicate, slice_index, get_or, refl, sym, ap, ◌
 use Rattle.std.proofs.Common.{length-append, length-take-le, length-drop, take-append-drop, take-take, get_or-take}
 use Rattle.std.specs.List.{AllByRecursion}
 use Rattle.std.proofs.lemmas.Bool.{cases_eq}
-use Rattle.std.proofs.lemmas.List.{length-replicate, drop-take}
+use Rattle.std.proofs.lemmas.List.{length-replicate, drop-take, nil_from_length}
 use Rattle.byteorder.specs.Endian.{little_number}
 use Rattle.cap_spec.specs.Plain.{word_bytes, plain_text, plain_words}
 use Rattle.cap_spec.specs.Unpacking.{marks, spread, IsGroup, zeros, plain, marked, group_length, group_words}
@@ -12,11 +12,6 @@ use Rattle.cap_spec.proofs.Bytes.Lists.{all_take, all_append}
 use Rattle.cap_spec.proofs.Bytes.Plain.{length_plain, plain_split, eight_word, eight_back}
 use Rattle.cap_spec.proofs.Packed.Unpacking.{spread_append, length_marked, words_marked}
 use Rattle.cap_spec.proofs.Packed.Groups.{plain_group}
-
--- a list of no members
-no_members : (xs : List ℕ) → length xs ≡ 0 → xs ≡ []
-no_members [] e = refl
-no_members (x ∷ xs) e = absurd (omega arith)
 
 -- bytes of whole words: so many words
 pub aligned_words : (n : ℕ) (bytes : List ℕ) → AllByRecursion (λ b. b < 256) bytes → length bytes ≡ 8 * n
@@ -37,7 +32,7 @@ aligned_text n bytes all l =
     let k = aligned_words n bytes all l in
     let d = length-drop (8 * length (plain_words bytes)) bytes in
     let r : drop (8 * length (plain_words bytes)) bytes ≡ [] =
-    no_members (drop (8 * length (plain_words bytes)) bytes) (omega arith) in
+    nil_from_length (drop (8 * length (plain_words bytes)) bytes) (omega arith) in
     sym (s.whole ∙ (ap (λ m. plain_text (plain_words bytes) ++ m) r ∙ append-nil (plain_text (plain_words bytes))))
 
 -- eight bytes, a count, and the bytes of so many words are a plain group behind its tag

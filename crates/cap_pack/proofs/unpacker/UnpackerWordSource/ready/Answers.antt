@@ -1,6 +1,7 @@
-use Rattle.std.proofs.Common.{◌∙◌, inr, take, arith}
+use Rattle.std.proofs.Common.{◌<◌, ◌∙◌, inr, take, arith}
 use Rattle.cap_spec.specs.Plain.{plain_words}
-use Rattle.cap_words.proofs.AtHand.{bytes_small, front_small}
+use Rattle.cap_spec.proofs.Bytes.Lists.{all_take}
+use Rattle.cap_words.proofs.AtHand.{bytes_small}
 use Rattle.cap_pack.proofs.AtHand.{given_for, some_words, words_at_hand}
 use Rattle.cap_pack.proofs.unpacker.UnpackerWordSource.ready.Goals as goal
 
@@ -9,7 +10,7 @@ returns-clause-words g c =
     let s = c.args.self.now in
     let out = c.unpack-done.new.out in
     words_at_hand s.phase _ _ c.held.result.now out s.zeros s.plain s.bytes.read _ c.unpack-done.result c.in-Open.is c.unpack-done.ensures
-    (front_small c.unpack-done.result.written out (bytes_small out (λ i. c.type_inv.out i)))
+    (all_take (λ b. b < 256) c.unpack-done.result.written out (bytes_small out (λ i. c.type_inv.out i)))
     (omega arith) (omega (arith, c.saturating_add-self.ensures)) (rw c.held.ensures.held c.skip.ensures.bytes)
 
 pub returns-clause-usable : goal.returns-clause-usable

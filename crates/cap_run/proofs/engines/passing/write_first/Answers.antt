@@ -1,4 +1,4 @@
-use Rattle.cap_run.proofs.Passing.{writes_all}
+use Rattle.cap_text.proofs.Writing.{writes_all}
 use Rattle.cap_run.proofs.engines.passing.write_first.Goals as goal
 
 pub returns : goal.returns

@@ -3,7 +3,8 @@ use Rattle.std.proofs.Common.{◌+◌, ap, arith, drop, length, length-drop, tak
 use Rattle.std.proofs.lemmas.List.{take_rest}
 use Rattle.cap_spec.specs.Packing.{pack_text}
 use Rattle.cap_spec.specs.Plain.{plain_words}
-use Rattle.cap_run.proofs.Passing.{left_all, left_less, left_none, left_stops, no_word, part_from}
+use Rattle.cap_pack.proofs.PuttingEach.{no_word}
+use Rattle.cap_run.proofs.Passing.{left_all, left_less, left_none, left_stops, part_from}
 use Rattle.cap_run.proofs.engines.passing.write_packed_more.Goals as goal
 
 pub parts-init : goal.parts-init
