@@ -1,5 +1,5 @@
 -- What is known of a walk, and of what its turn knows, between two pointer words (profile).
-use Rattle.std.specs.Prelude.{ℕ, ◌<◌, [], ◌∷◌, ◌++◌, List, Option}
+use Rattle.std.specs.Prelude.{ℕ, ◌<◌, [], ◌∷◌, ◌++◌, IfOk, IfSome, List, Option, Result}
 use Rattle.std.specs.Option.{option_to_list}
 use Rattle.cap_spec.specs.Faults.{IsRefused}
 use Rattle.cap_spec.specs.declared.Step.{Step}
@@ -50,6 +50,11 @@ abbrev pub GoesOnBelow : List (List ℕ) → Limits → List PointerRun → Opti
     → (List (List Step) → Type 0) → Type 0
 GoesOnBelow m limits runs below before after K =
     GoesOn m limits (runs ++ option_to_list below) after K (work_next (words_of limits) runs before)
+
+-- the same if the turn has a result, and that doesn't stop the walk
+abbrev pub GoesOnIf : {S : Type 0} → List (List ℕ) → Limits → List PointerRun → Report → Report → (List (List Step) → Type 0)
+    → Option (Result (Option PointerRun) S) → Type 0
+GoesOnIf m limits runs before after K result = IfSome result (λ r. IfOk r (λ below. GoesOnBelow m limits runs below before after K))
 
 -- why a walk stops: at the first fault, or for a reason of its turn
 abbrev pub IsStopped : {S : Type 0} → List (List ℕ) → Limits → (S → Type 0) → Stopped S → Type 0

@@ -5,7 +5,7 @@ ghost use Rattle.cap_spec.specs.declared.Step.{Step};
 ghost use Rattle.cap_vet.specs.Passing.{Passes};
 ghost use Rattle.cap_vet.specs.PointerRuns.{RunIn, kept, root_run};
 ghost use Rattle.cap_vet.specs.Trails.{Ahead};
-ghost use Rattle.cap_vet.specs.Turns.{GoesOnBelow, IsAt, IsStopped, IsWalking};
+ghost use Rattle.cap_vet.specs.Turns.{GoesOnIf, IsAt, IsStopped, IsWalking};
 ghost use Rattle.cap_vet.specs.Walking.{Walks};
 ghost use Rattle.cap_vet.specs.WalkSteps.{Continues, LeavesRoom, TakesTurn};
 ghost use Rattle.std.specs.Option.{option_to_list};
@@ -264,8 +264,7 @@ fn turn_near<M: Segments, T: Turn>(
         × IsAt m limits.now s w level runs report.old (T.knows turn.old m) }
     ensures ok { let m = M.segments message.now in
         (runs : List PointerRun) → IsAt m limits.now s w level runs report.old (T.knows turn.old m) →
-        IfSome result (λ r. IfOk r (λ b. GoesOnBelow m limits.now runs b report.old report.new
-        (T.knows turn.new m))) }
+        GoesOnIf m limits.now runs report.old report.new (T.knows turn.new m) result }
     ensures err { let m = M.segments message.now in
         IfSome result (λ r. IfErr r (T.stops m)) }
     ensures none { IfNone result ((report.new ≡ report.old) × (turn.new ≡ turn.old)) }
