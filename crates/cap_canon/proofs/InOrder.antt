@@ -1,8 +1,10 @@
 -- A message is compared with its copy while it is vetted, one object more.
-use Rattle.std.proofs.Common.{ℕ, zero, suc, ◌+◌, ◌-◌, ◌*◌, ◌<◌, ◌≤◌, ◌^◌, ◌≡◌, ◌≢◌, ◌↔◌, List, [], ◌∷◌, ◌++◌, ap, ap₂, refl, sym, subst, ◌∙◌, arith, length, max, false, inl, inr, None}
+use Rattle.std.proofs.Common.{ℕ, zero, suc, ◌+◌, ◌-◌, ◌*◌, ◌<◌, ◌≤◌, ◌^◌, ◌≡◌, ◌≢◌, ◌↔◌, List, [], ◌∷◌, ◌++◌, length, max, false, inl, inr, None}
+use Rattle.std.proofs.Common.{ap, ap₂, refl, sym, subst, ◌∙◌, arith}
 use Rattle.std.specs.Prelude.{if◌then◌else◌, ◌==◌, not}
 use Rattle.std.proofs.lemmas.Bool.{ne_eqb}
-use Rattle.cap_spec.specs.Canonical.{children_needed, children_of, cut_elements, data_needed, data_of, layout, list_word, pointer_to, struct_word, trim, trim_elements}
+use Rattle.cap_spec.specs.Canonical.{children_needed, children_of, cut_elements, data_needed, data_of, layout, list_word, pointer_to}
+use Rattle.cap_spec.specs.Canonical.{struct_word, trim, trim_elements}
 use Rattle.cap_spec.specs.Copies.{IsCanonical}
 use Rattle.cap_spec.specs.Denoting.{AreElements, DenoteEach, Denotes, Finds, element_levels, places, value_at, values_of, words_from}
 use Rattle.cap_spec.specs.Following.{IsComposite}
@@ -122,7 +124,8 @@ struct_own m w end k t b q tag words charge d p s f has sizes children x c deep 
     let place = struct_place m o.0 w end (trim x) part o.2 s.after (omega (arith, s.inside, s.few)) s.inside here in
     let size : own_size (trim x) ≡ length o.2.words + tree_count o.2.children = ap own_size o.2.tree in
     let extent = extent_struct q f.object.shape.kind in
-    let ends : end + words ≡ end + own_size (trim x) = omega (arith, size, l, o.2.many, extent, f.object.words, f.object.shape.data_words, f.object.shape.pointers) in
+    let ends : end + words ≡ end + own_size (trim x) =
+        omega (arith, size, l, o.2.many, extent, f.object.words, f.object.shape.data_words, f.object.shape.pointers) in
     own_of m w end (end + words) q tag t b deep (trim x) (object.Struct part) s.after here place.own ends o (λ path level.
     let due : AreDue m (row path (level + 1) Ptr t (b + d) 0 p) (slots (end + d) o.2.children) =
     row_due m o.0 path (level + 1) Ptr t (b + d) (end + d) 0 p o.2.children o.2.many place.place o.2.below in

@@ -47,10 +47,10 @@ pub(crate) trait Pass {
         ensures in_place { IsTrue result → in_place → StandsIn end object.now }
         ensures stops { let m = M.segments message.now in result ≡ false
             → TurnStops m in_place object.now place end (state self.old m) (stopped m) }
-        ensures kept { let m = M.segments message.now in (whole tree : Tree) (due : List Due) →
-            IsTurn m in_place whole object.now place end tree due →
-            state self.old m whole end (record { slot = place.slot; tree = tree } ∷ due) →
-            kept self.new whole ≡ kept self.old whole };
+        ensures kept { let m = M.segments message.now in (u t : Tree) (due : List Due) →
+            IsTurn m in_place u object.now place end t due →
+            state self.old m u end (record { slot = place.slot; tree = t } ∷ due) →
+            kept self.new u ≡ kept self.old u };
 }
 
 /// Walks a message of this depth. Returns how many words its canonical copy has, or `None` if the

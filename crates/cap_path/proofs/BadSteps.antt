@@ -9,7 +9,8 @@ use Rattle.cap_spec.specs.declared.Step.{Step}
 use Rattle.cap_spec.specs.declared.Step.TheVariants.{Ptr, Item as item}
 use Rattle.cap_path.specs.PathReading.{IsBadNumber, no_digit, no_end, is_digit, longer_number, number_with}
 use Rattle.cap_path.proofs.PathReading.{Unfinished, bad_here, stops}
-use Rattle.cap_path.proofs.ReadSteps.{Reading, Slash, Pointer, Item, Number, HasRead, IsReading, next_of, item_number, pointer_number, reading_text, spells_more}
+use Rattle.cap_path.proofs.ReadSteps.{Reading, Slash, Pointer, Item, Number, HasRead, IsReading, next_of, item_number}
+use Rattle.cap_path.proofs.ReadSteps.{pointer_number, reading_text, spells_more}
 
 not_equal : (a b : ℕ) → a ≢ b → (a == b) ≡ false
 not_equal a b other = grind (arith, nat_tests)
