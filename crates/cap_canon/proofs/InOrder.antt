@@ -125,7 +125,7 @@ struct_own m w end k t b q tag words charge d p s f has sizes children x c deep 
     let size : own_size (trim x) ≡ length o.2.words + tree_count o.2.children = ap own_size o.2.tree in
     let extent = extent_struct q f.object.shape.kind in
     let ends : end + words ≡ end + own_size (trim x) =
-        omega (arith, size, l, o.2.many, extent, f.object.words, f.object.shape.data_words, f.object.shape.pointers) in
+    omega (arith, size, l, o.2.many, extent, f.object.words, f.object.shape.data_words, f.object.shape.pointers) in
     own_of m w end (end + words) q tag t b deep (trim x) (object.Struct part) s.after here place.own ends o (λ path level.
     let due : AreDue m (row path (level + 1) Ptr t (b + d) 0 p) (slots (end + d) o.2.children) =
     row_due m o.0 path (level + 1) Ptr t (b + d) (end + d) 0 p o.2.children o.2.many place.place o.2.below in
