@@ -5,8 +5,8 @@ use Rattle.cap_spec.specs.Tree.{Tree}
 use Rattle.cap_spec.specs.Unamplified.{unamplified}
 
 -- the charge is within the unamplified limit for each limit that it is within
-abbrev pub IsWithin : List (List ℕ) → ℕ → Type 0
-IsWithin m charge = (limit : ℕ) → charge ≤ limit → charge ≤ unamplified m limit
+abbrev pub IsWithinEach : List (List ℕ) → ℕ → Type 0
+IsWithinEach m charge = (limit : ℕ) → charge ≤ limit → charge ≤ unamplified m limit
 
 -- the charge of what the message denotes is within it for none
 abbrev pub IsWithinNone : List (List ℕ) → Type 0

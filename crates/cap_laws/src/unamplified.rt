@@ -10,7 +10,7 @@ ghost use Rattle.cap_spec.specs.Frames.{frame_text, sizes_of};
 ghost use Rattle.cap_spec.specs.Occupying.{IsDisjoint, empty_count};
 ghost use Rattle.cap_spec.specs.Tree.{Tree};
 ghost use Rattle.cap_spec.specs.Unamplified.{unamplified};
-ghost use Rattle.cap_laws.specs.AmplifyingLaws.{IsWithin, IsWithinNone};
+ghost use Rattle.cap_laws.specs.AmplifyingLaws.{IsWithinEach, IsWithinNone};
 
 /// A charge is within this limit exactly if it is within the word limit that was given, and is at
 /// most the words of the message's segments and 4,096 more.
@@ -48,5 +48,5 @@ pub fn unamplified_copy_is_short()
 /// within this limit for each word limit that it is within. That of its copy is within it for none.
 pub fn copy_may_be_amplified()
     ensures { (m : List (List ℕ)) × (words : List ℕ) × (copy : HasCopy m words)
-        × IsWithin m copy.charge × IsWithinNone (words ∷ []) }
+        × IsWithinEach m copy.charge × IsWithinNone (words ∷ []) }
 {}
