@@ -13,8 +13,8 @@ use Rattle.cap_spec.specs.Plain.{capped, plain_text, plain_words}
 use Rattle.cap_spec.proofs.Bytes.Plain.{length_plain, plain_split}
 use Rattle.cap_words.proofs.Filling.{plain_join}
 use Rattle.cap_words.specs.TakingMany.{TakesAll}
-use Rattle.cap_pack.specs.AtHand.{Gives, Leads, Unpacks}
-use Rattle.cap_pack.specs.Course.{Course, gives, words_of, is_cut_of, places_of, zeros_then, course, head_rest, first_word, zeros_of, plain_of}
+use Rattle.cap_pack.specs.AtHand.{BytesGive, CourseLeads, UnpacksInto}
+use Rattle.cap_pack.specs.Course.{Course, gives, course_words, course_is_cut, course_places, zeros_then, course, head_rest, first_word, zeros_of, plain_of}
 use Rattle.cap_pack.specs.State.{ahead}
 use Rattle.cap_pack.specs.declared.at_hand.Unpacked.{Unpacked}
 use Rattle.cap_words.specs.declared.phase.Phase.{Phase}
@@ -23,56 +23,56 @@ use Rattle.cap_pack.proofs.Courses.{course_head, course_none, course_plain, cour
 use Rattle.cap_pack.proofs.Heads.{first_word-append, zeros_of-append, plain_of-append}
 
 -- no words
-leads_none : (c : Course) (at : ℕ) → Leads c c at at []
+leads_none : (c : Course) (at : ℕ) → CourseLeads c c at at []
 leads_none c at = record { words = refl; cut = refl; places = refl }
 
 -- the next word
-leads_word : (c d : Course) (w at to : ℕ) → c ≡ gives w to d → Leads c d at to (w ∷ [])
+leads_word : (c d : Course) (w at to : ℕ) → c ≡ gives w to d → CourseLeads c d at to (w ∷ [])
 leads_word c d w at to e = rw e (record { words = refl; cut = refl; places = refl })
 
 -- some words, and then others
-leads_both : (c d e : Course) (at mid to : ℕ) (xs ys : List ℕ) → Leads c d at mid xs → Leads d e mid to ys → Leads c e at to (xs ++ ys)
+leads_both : (c d e : Course) (at mid to : ℕ) (xs ys : List ℕ) → CourseLeads c d at mid xs → CourseLeads d e mid to ys → CourseLeads c e at to (xs ++ ys)
 leads_both c d e at mid to xs ys s t = record {
-  words = s.words ∙ (ap (λ l. xs ++ l) t.words ∙ sym (append_assoc xs ys (words_of e)));
+  words = s.words ∙ (ap (λ l. xs ++ l) t.words ∙ sym (append_assoc xs ys (course_words e)));
   cut = s.cut ∙ t.cut;
   places = t.places ∙ (ap (drop (length ys)) s.places
-      ∙ (drop-drop (length ys) (length xs) (at ∷ places_of c) ∙ ap (λ n. drop n (at ∷ places_of c)) (sym (length-append xs ys))));
+      ∙ (drop-drop (length ys) (length xs) (at ∷ course_places c) ∙ ap (λ n. drop n (at ∷ course_places c)) (sym (length-append xs ys))));
 }
 
 -- zero words that are held
-leads_zeros : (t n m at : ℕ) (c : Course) → t ≡ n + m → Leads (zeros_then t at c) (zeros_then m at c) at at (replicate n 0)
+leads_zeros : (t n m at : ℕ) (c : Course) → t ≡ n + m → CourseLeads (zeros_then t at c) (zeros_then m at c) at at (replicate n 0)
 leads_zeros t zero m at c e = let same : m ≡ t = omega arith in
-    subst (λ k. Leads (zeros_then t at c) (zeros_then k at c) at at []) (sym same) (leads_none (zeros_then t at c) at)
+    subst (λ k. CourseLeads (zeros_then t at c) (zeros_then k at c) at at []) (sym same) (leads_none (zeros_then t at c) at)
 leads_zeros zero (suc n) m at c e = absurd (omega arith)
 leads_zeros (suc t) (suc n) m at c e =
     let more = leads_zeros t n m at c (omega arith) in
     record { words = ap (λ l. 0 ∷ l) more.words; cut = more.cut; places = more.places }
 
 -- no bytes
-pub gives_none : (z p : ℕ) → Gives z p z p [] []
+pub gives_none : (z p : ℕ) → BytesGive z p z p [] []
 gives_none z p = λ at rest low.
     let same : at ≡ capped (at + 0) = omega arith in
-    subst (λ k. Leads (ahead Open z p at rest) (ahead Open z p k rest) at k []) same (leads_none (ahead Open z p at rest) at)
+    subst (λ k. CourseLeads (ahead Open z p at rest) (ahead Open z p k rest) at k []) same (leads_none (ahead Open z p at rest) at)
 
 -- some bytes, and then others
-pub gives_both : (z p y q x r : ℕ) (bs cs ws vs : List ℕ) → Gives z p y q bs ws → Gives y q x r cs vs → Gives z p x r (bs ++ cs) (ws ++ vs)
+pub gives_both : (z p y q x r : ℕ) (bs cs ws vs : List ℕ) → BytesGive z p y q bs ws → BytesGive y q x r cs vs → BytesGive z p x r (bs ++ cs) (ws ++ vs)
 gives_both z p y q x r bs cs ws vs f g = λ at rest low.
     let mid = capped (at + length bs) in
     let place : capped (mid + length cs) ≡ capped (at + length (bs ++ cs)) = omega (arith, length-append bs cs) in
     let both = leads_both _ _ _ at mid (capped (mid + length cs)) ws vs (f at (cs ++ rest) low) (g mid rest (omega arith)) in
-    let moved = subst (λ k. Leads (ahead Open z p at (bs ++ (cs ++ rest))) (ahead Open x r k rest) at k (ws ++ vs)) place both in
-    subst (λ l. Leads (ahead Open z p at l) (ahead Open x r (capped (at + length (bs ++ cs))) rest) at (capped (at + length (bs ++ cs))) (ws ++ vs))
+    let moved = subst (λ k. CourseLeads (ahead Open z p at (bs ++ (cs ++ rest))) (ahead Open x r k rest) at k (ws ++ vs)) place both in
+    subst (λ l. CourseLeads (ahead Open z p at l) (ahead Open x r (capped (at + length (bs ++ cs))) rest) at (capped (at + length (bs ++ cs))) (ws ++ vs))
     (sym (append_assoc bs cs rest)) moved
 
 -- zero words that are held need none
-pub gives_zeros : (t n m p : ℕ) → t ≡ n + m → Gives t p m p [] (replicate n 0)
+pub gives_zeros : (t n m p : ℕ) → t ≡ n + m → BytesGive t p m p [] (replicate n 0)
 gives_zeros t n m p e = λ at rest low.
     let same : at ≡ capped (at + 0) = omega arith in
-    subst (λ k. Leads (ahead Open t p at rest) (ahead Open m p k rest) at k (replicate n 0)) same (leads_zeros t n m at (course p at rest) e)
+    subst (λ k. CourseLeads (ahead Open t p at rest) (ahead Open m p k rest) at k (replicate n 0)) same (leads_zeros t n m at (course p at rest) e)
 
 -- words as they are
-pub gives_plain : (t n m : ℕ) (bs : List ℕ) → t ≡ n + m → length bs ≡ 8 * n → Gives 0 t 0 m bs (plain_words bs)
-gives_plain t zero m [] e l = let same : m ≡ t = omega arith in subst (λ k. Gives 0 t 0 k [] []) (sym same) (gives_none 0 t)
+pub gives_plain : (t n m : ℕ) (bs : List ℕ) → t ≡ n + m → length bs ≡ 8 * n → BytesGive 0 t 0 m bs (plain_words bs)
+gives_plain t zero m [] e l = let same : m ≡ t = omega arith in subst (λ k. BytesGive 0 t 0 k [] []) (sym same) (gives_none 0 t)
 gives_plain t zero m (x ∷ bs) e l = absurd (omega arith)
 gives_plain zero (suc n) m bs e l = absurd (omega arith)
 gives_plain (suc t) (suc n) m (a ∷ b ∷ c ∷ d ∷ e ∷ f ∷ g ∷ h ∷ bs) s l =
@@ -91,7 +91,7 @@ zeros_are_words (suc n) =
 -- the head of a group, whose bytes stand in front of these
 pub gives_head : (n w z p : ℕ) (bytes room : List ℕ) → n ≤ 9 → 10 ≤ length bytes → room ≡ take 9 (drop 1 bytes) → n ≡ head_rest (get_or bytes 0 0)
     → w ≡ first_word (get_or bytes 0 0) room → z ≡ zeros_of (get_or bytes 0 0) room → p ≡ plain_of (get_or bytes 0 0) room
-    → Gives 0 0 z p (take (1 + n) bytes) (w ∷ [])
+    → BytesGive 0 0 z p (take (1 + n) bytes) (w ∷ [])
 gives_head n w z p [] room few long same size e f g = absurd (omega arith)
 gives_head n w z p (tag ∷ more) room few long same size e f g =
     let bs = take n more in
@@ -105,10 +105,10 @@ gives_head n w z p (tag ∷ more) room few long same size e f g =
     rw (head, word, zeros, plain) (λ at rest low. leads_word _ _ _ at _ (course_head at tag bs rest many))
 
 -- what was unpacked, and then some more of the bytes behind it, into the room behind it
-pub unpacks_both : (z p : ℕ) (bytes room longer part given : List ℕ) (d e : Unpacked) → Unpacks z p bytes room d →
-    Unpacks d.zeros d.plain part given e → part ≡ drop d.read bytes
+pub unpacks_both : (z p : ℕ) (bytes room longer part given : List ℕ) (d e : Unpacked) → UnpacksInto z p bytes room d →
+    UnpacksInto d.zeros d.plain part given e → part ≡ drop d.read bytes
     → take (d.written + e.written) longer ≡ take d.written room ++ take e.written given → d.written + e.written ≤ length longer
-    → Unpacks z p bytes longer (record { read = d.read + e.read; written = d.written + e.written; zeros = e.zeros; plain = e.plain })
+    → UnpacksInto z p bytes longer (record { read = d.read + e.read; written = d.written + e.written; zeros = e.zeros; plain = e.plain })
 unpacks_both z p bytes room longer part given d e s t behind filled fits =
     let front : length (take d.written room) % 8 ≡ 0 = ap (λ k. k % 8) (length-take-le d.written room s.fits) ∙ s.whole in
     let words : plain_words (take (d.written + e.written) longer) ≡ plain_words (take d.written room) ++ plain_words (take e.written given) =
@@ -125,13 +125,13 @@ unpacks_both z p bytes room longer part given d e s t behind filled fits =
     }
 
 -- and then a group, where no run is left
-pub unpacks_between : (z p : ℕ) (bytes room longer part given : List ℕ) (d e : Unpacked) → Unpacks z p bytes room d → Unpacks 0 0 part given e →
+pub unpacks_between : (z p : ℕ) (bytes room longer part given : List ℕ) (d e : Unpacked) → UnpacksInto z p bytes room d → UnpacksInto 0 0 part given e →
     d.zeros ≡ 0 → d.plain ≡ 0 → part ≡ drop d.read bytes
     → take (d.written + e.written) longer ≡ take d.written room ++ take e.written given → d.written + e.written ≤ length longer
-    → Unpacks z p bytes longer (record { read = d.read + e.read; written = d.written + e.written; zeros = e.zeros; plain = e.plain })
+    → UnpacksInto z p bytes longer (record { read = d.read + e.read; written = d.written + e.written; zeros = e.zeros; plain = e.plain })
 unpacks_between z p bytes room longer part given d e s t none no_plain =
     unpacks_both z p bytes room longer part given d e s
-    (subst (λ k. Unpacks k d.plain part given e) (sym none) (subst (λ k. Unpacks 0 k part given e) (sym no_plain) t))
+    (subst (λ k. UnpacksInto k d.plain part given e) (sym none) (subst (λ k. UnpacksInto 0 k part given e) (sym no_plain) t))
 
 -- where something was written there are words
 pub some_words : (n : ℕ) (out : List ℕ) → n ≤ length out → n % 8 ≡ 0 → 0 < n → 0 < length (plain_words (take n out))
@@ -142,31 +142,31 @@ some_words n out fits whole some = at_least (take n out) (let l = length-take-le
     at_least _ l = absurd (omega (arith, l))
 
 -- without bytes there are no words
-gives_nothing : (p : ℕ) (bs : List ℕ) → length bs ≡ 0 → words_of (course p 0 bs) ≡ []
-gives_nothing zero [] e = ap words_of (course_none 0)
-gives_nothing (suc p) [] e = ap words_of (course_plain_stops p 0 [] (lit< tt))
+gives_nothing : (p : ℕ) (bs : List ℕ) → length bs ≡ 0 → course_words (course p 0 bs) ≡ []
+gives_nothing zero [] e = ap course_words (course_none 0)
+gives_nothing (suc p) [] e = ap course_words (course_plain_stops p 0 [] (lit< tt))
 gives_nothing p (x ∷ bs) e = absurd (omega arith)
 
 -- words were given for zero words that were held, or for bytes
-pub given_for : (z p y q : ℕ) (held own : List ℕ) (k : ℕ) (spent : Bool) → Gives z p y q (take k held) own → 0 < length own →
+pub given_for : (z p y q : ℕ) (held own : List ℕ) (k : ℕ) (spent : Bool) → BytesGive z p y q (take k held) own → 0 < length own →
     (0 < z → spent ≡ false) → (0 < length held → spent ≡ false) → spent ≡ false
 given_for zero p y q [] own k spent g some zeros bytes =
     let nil : List ℕ = [] in
     let none : length (take k nil ++ nil) ≡ 0 = omega (arith, length-append (take k nil) nil, length-take k nil) in
     let first = (g 0 [] (lit< tt)).words in
     let long = ap length (sym (gives_nothing p (take k nil ++ nil) none) ∙ first) in
-    absurd (omega (arith, long, length-append own (words_of (ahead Open y q (capped (0 + length (take k nil))) []))))
+    absurd (omega (arith, long, length-append own (course_words (ahead Open y q (capped (0 + length (take k nil))) []))))
 given_for zero p y q (x ∷ held) own k spent g some zeros bytes = bytes (omega arith)
 given_for (suc z) p y q held own k spent g some zeros bytes = zeros (omega arith)
 
 -- by a source that is open
 pub words_at_hand : (phase : Phase) (a b : Option (List ℕ)) (held out : List ℕ) (z p at now : ℕ) (d : Unpacked) → phase ≡ Open →
-    Unpacks z p held out d → AllByRecursion (λ b. b < 256) (take d.written out)
+    UnpacksInto z p held out d → AllByRecursion (λ b. b < 256) (take d.written out)
     → at < 2 ^ 64 → now ≡ capped (at + d.read) → Consumes a b (take d.read held)
     → (take d.written out ≡ plain_text (plain_words (take d.written out)))
-    × TakesAll (option_map (λ bs. words_of (ahead phase z p at bs)) a) (option_map (λ bs. words_of (ahead phase d.zeros d.plain now bs)) b)
-    (is_cut_of (ahead phase z p at (unwrap_or a []))) (is_cut_of (ahead phase d.zeros d.plain now (unwrap_or b []))) at now
-    (places_of (ahead phase z p at (unwrap_or a []))) (places_of (ahead phase d.zeros d.plain now (unwrap_or b []))) (plain_words (take d.written out))
+    × TakesAll (option_map (λ bs. course_words (ahead phase z p at bs)) a) (option_map (λ bs. course_words (ahead phase d.zeros d.plain now bs)) b)
+    (course_is_cut (ahead phase z p at (unwrap_or a []))) (course_is_cut (ahead phase d.zeros d.plain now (unwrap_or b []))) at now
+    (course_places (ahead phase z p at (unwrap_or a []))) (course_places (ahead phase d.zeros d.plain now (unwrap_or b []))) (plain_words (take d.written out))
 words_at_hand phase a b held out z p at now d is_open u small low value lost =
     let bytes = take d.written out in
     let s = plain_split bytes small in
@@ -181,21 +181,21 @@ words_at_hand phase a b held out z p at now d is_open u small low value lost =
     rw (is_open, place) (all, go a b lost)
   where
     go : (a b : Option (List ℕ)) → Consumes a b (take d.read held)
-        → TakesAll (option_map (λ bs. words_of (ahead Open z p at bs)) a)
-        (option_map (λ bs. words_of (ahead Open d.zeros d.plain (capped (at + length (take d.read held))) bs)) b)
-        (is_cut_of (ahead Open z p at (unwrap_or a [])))
-        (is_cut_of (ahead Open d.zeros d.plain (capped (at + length (take d.read held))) (unwrap_or b []))) at (capped (at + length (take d.read held)))
-        (places_of (ahead Open z p at (unwrap_or a [])))
-        (places_of (ahead Open d.zeros d.plain (capped (at + length (take d.read held))) (unwrap_or b []))) (plain_words (take d.written out))
+        → TakesAll (option_map (λ bs. course_words (ahead Open z p at bs)) a)
+        (option_map (λ bs. course_words (ahead Open d.zeros d.plain (capped (at + length (take d.read held))) bs)) b)
+        (course_is_cut (ahead Open z p at (unwrap_or a [])))
+        (course_is_cut (ahead Open d.zeros d.plain (capped (at + length (take d.read held))) (unwrap_or b []))) at (capped (at + length (take d.read held)))
+        (course_places (ahead Open z p at (unwrap_or a [])))
+        (course_places (ahead Open d.zeros d.plain (capped (at + length (take d.read held))) (unwrap_or b []))) (plain_words (take d.written out))
     go None b lost = record { consumed = tt; goes_on = tt }
     go (Some x) None lost = absurd lost
     go (Some x) (Some y) lost =
         let l = u.gives at y low in
         record {
-          consumed = ap (λ xs. words_of (ahead Open z p at xs)) lost ∙ l.words;
+          consumed = ap (λ xs. course_words (ahead Open z p at xs)) lost ∙ l.words;
           goes_on = (
-            sym (ap (λ xs. is_cut_of (ahead Open z p at xs)) lost ∙ l.cut),
-            l.places ∙ ap (λ xs. drop (length (plain_words (take d.written out))) (at ∷ places_of (ahead Open z p at xs))) (sym lost),
+            sym (ap (λ xs. course_is_cut (ahead Open z p at xs)) lost ∙ l.cut),
+            l.places ∙ ap (λ xs. drop (length (plain_words (take d.written out))) (at ∷ course_places (ahead Open z p at xs))) (sym lost),
           );
         }
 
@@ -204,13 +204,13 @@ pub words_appended : (phase : Phase) (a b : Option (List ℕ)) (held : List ℕ)
     8 * n ≤ length held → AllByRecursion (λ b. b < 256) (take (8 * n) held)
     → at < 2 ^ 64 → now ≡ capped (at + 8 * n) → Consumes a b (take (8 * n) held)
     → (take (8 * n) held ≡ plain_text (plain_words (take (8 * n) held)))
-    × TakesAll (option_map (λ bs. words_of (ahead phase z p at bs)) a) (option_map (λ bs. words_of (ahead phase z q now bs)) b)
-    (is_cut_of (ahead phase z p at (unwrap_or a []))) (is_cut_of (ahead phase z q now (unwrap_or b []))) at now
-    (places_of (ahead phase z p at (unwrap_or a []))) (places_of (ahead phase z q now (unwrap_or b []))) (plain_words (take (8 * n) held))
+    × TakesAll (option_map (λ bs. course_words (ahead phase z p at bs)) a) (option_map (λ bs. course_words (ahead phase z q now bs)) b)
+    (course_is_cut (ahead phase z p at (unwrap_or a []))) (course_is_cut (ahead phase z q now (unwrap_or b []))) at now
+    (course_places (ahead phase z p at (unwrap_or a []))) (course_places (ahead phase z q now (unwrap_or b []))) (plain_words (take (8 * n) held))
 words_appended phase a b held z p q n at now is_open none run within small low value lost =
     let long : length (take (8 * n) held) ≡ 8 * n = length-take-le (8 * n) held within in
     let done : Unpacked = record { read = 8 * n; written = 8 * n; zeros = 0; plain = q } in
-    let all : Unpacks 0 p held held done = record {
+    let all : UnpacksInto 0 p held held done = record {
       within = within;
       fits = within;
       whole = omega arith;

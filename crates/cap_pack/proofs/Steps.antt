@@ -5,7 +5,7 @@ use Rattle.std.specs.Option.{option_map}
 use Rattle.std.specs.Io.KnownBytes.{Consumes, IsAtEnd}
 use Rattle.cap_spec.specs.PackedEnds.{packed_ends}
 use Rattle.cap_spec.specs.Unpacking.{unpacked, packed_is_cut}
-use Rattle.cap_pack.specs.Course.{Course, ends, stops, gives, words_of, is_cut_of, places_of, course, zeros_then}
+use Rattle.cap_pack.specs.Course.{Course, ends, stops, gives, course_words, course_is_cut, course_places, course, zeros_then}
 use Rattle.cap_pack.specs.State.{ahead}
 use Rattle.cap_words.specs.declared.phase.Phase.{Phase}
 use Rattle.cap_words.specs.declared.phase.Phase.TheVariants.{Open, Ended, Failed}
@@ -13,58 +13,60 @@ use Rattle.cap_pack.proofs.Courses.{course_none}
 use Rattle.cap_pack.proofs.Ties.{course_tells}
 
 -- what a new unpacker tells
-pub new_words : (known : Option (List ℕ)) → option_map (λ bs. words_of (course 0 0 bs)) known ≡ option_map unpacked known
+pub new_words : (known : Option (List ℕ)) → option_map (λ bs. course_words (course 0 0 bs)) known ≡ option_map unpacked known
 new_words None = refl
 new_words (Some bytes) = ap Some (course_tells 0 bytes).0
 
-pub new_cut : (known : Option (List ℕ)) → is_cut_of (course 0 0 (unwrap_or known [])) ≡ packed_is_cut (unwrap_or known [])
+pub new_cut : (known : Option (List ℕ)) → course_is_cut (course 0 0 (unwrap_or known [])) ≡ packed_is_cut (unwrap_or known [])
 new_cut known = (course_tells 0 (unwrap_or known [])).1
 
-pub new_places : (known : Option (List ℕ)) → OnSome known (places_of (course 0 0 (unwrap_or known [])) ≡ packed_ends 0 (unwrap_or known []))
+pub new_places : (known : Option (List ℕ)) → OnSome known (course_places (course 0 0 (unwrap_or known [])) ≡ packed_ends 0 (unwrap_or known []))
 new_places None = tt
 new_places (Some bytes) = (course_tells 0 bytes).2
 
 -- A word was given for these bytes: one course came to the other.
 module _ (f g : List ℕ → Course) (w to : ℕ) (bs : List ℕ) (step : (ys : List ℕ) → f (bs ++ ys) ≡ gives w to (g ys)) where
-  pub given_words : (a b : Option (List ℕ)) → Consumes a b bs → Consumes (option_map (λ l. words_of (f l)) a) (option_map (λ l. words_of (g l)) b) (w ∷ [])
+  pub given_words : (a b : Option (List ℕ)) → Consumes a b bs
+      → Consumes (option_map (λ l. course_words (f l)) a) (option_map (λ l. course_words (g l)) b) (w ∷ [])
   given_words None b p = tt
   given_words (Some x) None p = absurd p
-  given_words (Some x) (Some y) p = ap (λ l. words_of (f l)) p ∙ ap words_of (step y)
+  given_words (Some x) (Some y) p = ap (λ l. course_words (f l)) p ∙ ap course_words (step y)
 
   pub given_rest : (a b : Option (List ℕ)) → Consumes a b bs →
-      OnSome (option_map (λ l. words_of (f l)) a) ((is_cut_of (g (unwrap_or b [])) ≡ is_cut_of (f (unwrap_or a [])))
-      × (places_of (f (unwrap_or a [])) ≡ to ∷ places_of (g (unwrap_or b []))))
+      OnSome (option_map (λ l. course_words (f l)) a) ((course_is_cut (g (unwrap_or b [])) ≡ course_is_cut (f (unwrap_or a [])))
+      × (course_places (f (unwrap_or a [])) ≡ to ∷ course_places (g (unwrap_or b []))))
   given_rest None b p = tt
   given_rest (Some x) None p = absurd p
-  given_rest (Some x) (Some y) p = (sym (ap (λ l. is_cut_of (f l)) p ∙ ap is_cut_of (step y)), ap (λ l. places_of (f l)) p ∙ ap places_of (step y))
+  given_rest (Some x) (Some y) p = (sym (ap (λ l. course_is_cut (f l)) p ∙ ap course_is_cut (step y)),
+      ap (λ l. course_places (f l)) p ∙ ap course_places (step y))
 
 -- these were the last bytes
 all_taken : (x y bs : List ℕ) → x ≡ bs ++ y → y ≡ [] → x ≡ bs
 all_taken x y bs p e = p ∙ ap (λ l. bs ++ l) e ∙ append-nil bs
 
 pub left_none : (f : List ℕ → Course) (to : ℕ) (a b : Option (List ℕ)) → f [] ≡ ends to → Consumes a b [] → IsAtEnd b →
-    OnSome (option_map (λ l. words_of (f l)) a) ((option_map (λ l. words_of (f l)) a ≡ Some []) × (is_cut_of (f (unwrap_or a [])) ≡ false)
-    × (places_of (f (unwrap_or a [])) ≡ to ∷ []))
+    OnSome (option_map (λ l. course_words (f l)) a) ((option_map (λ l. course_words (f l)) a ≡ Some []) × (course_is_cut (f (unwrap_or a [])) ≡ false)
+    × (course_places (f (unwrap_or a [])) ≡ to ∷ []))
 left_none f to None b e p q = tt
 left_none f to (Some x) None e p q = absurd p
 left_none f to (Some x) (Some y) e p q =
     let c : f x ≡ ends to = ap f (all_taken x y [] p q) ∙ e in
-    (ap (λ l. Some (words_of l)) c, ap is_cut_of c, ap places_of c)
+    (ap (λ l. Some (course_words l)) c, ap course_is_cut c, ap course_places c)
 
 pub left_cut : (f : List ℕ → Course) (to : ℕ) (bs : List ℕ) (a b : Option (List ℕ)) → f bs ≡ stops to → Consumes a b bs → IsAtEnd b →
-    OnSome (option_map (λ l. words_of (f l)) a) ((option_map (λ l. words_of (f l)) a ≡ Some []) × (is_cut_of (f (unwrap_or a [])) ≡ true)
-    × (places_of (f (unwrap_or a [])) ≡ to ∷ []))
+    OnSome (option_map (λ l. course_words (f l)) a) ((option_map (λ l. course_words (f l)) a ≡ Some []) × (course_is_cut (f (unwrap_or a [])) ≡ true)
+    × (course_places (f (unwrap_or a [])) ≡ to ∷ []))
 left_cut f to bs None b e p q = tt
 left_cut f to bs (Some x) None e p q = absurd p
 left_cut f to bs (Some x) (Some y) e p q =
     let c : f x ≡ stops to = ap f (all_taken x y bs p q) ∙ e in
-    (ap (λ l. Some (words_of l)) c, ap is_cut_of c, ap places_of c)
+    (ap (λ l. Some (course_words l)) c, ap course_is_cut c, ap course_places c)
 
 pub none_words : (f g : List ℕ → Course) (to at : ℕ) (a b : Option (List ℕ)) → f [] ≡ ends to → ((l : List ℕ) → g l ≡ ends at) → Consumes a b [] → IsAtEnd b →
-    Consumes (option_map (λ l. words_of (f l)) a) (option_map (λ l. words_of (g l)) b) []
+    Consumes (option_map (λ l. course_words (f l)) a) (option_map (λ l. course_words (g l)) b) []
 none_words f g to at None b e h p q = tt
 none_words f g to at (Some x) None e h p q = absurd p
-none_words f g to at (Some x) (Some y) e h p q = ap words_of (ap f (all_taken x y [] p q) ∙ e) ∙ sym (ap words_of (h y))
+none_words f g to at (Some x) (Some y) e h p q = ap course_words (ap f (all_taken x y [] p q) ∙ e) ∙ sym (ap course_words (h y))
 
 -- a zero word that was held
 pub zero_step : (phase : Phase) (z p at : ℕ) → phase ≡ Open → 0 < z → (ys : List ℕ) → ahead phase z p at ([] ++ ys) ≡ gives 0 at (ahead phase (z - 1) p at ys)

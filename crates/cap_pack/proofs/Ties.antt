@@ -9,18 +9,19 @@ use Rattle.byteorder.specs.Endian.{little_number}
 use Rattle.cap_spec.specs.Plain.{capped, plain_words}
 use Rattle.cap_spec.specs.PackedEnds.{word_ends, front_ends, ends_in, packed_ends}
 use Rattle.cap_spec.specs.Unpacking.{marks, spread, given_of, group_length, group_words, given_in, is_cut_in, unpacked, packed_is_cut}
-use Rattle.cap_pack.specs.Course.{Course, gives, stops, words_of, is_cut_of, places_of, course, head_rest, first_word, zeros_of, plain_of, zeros_then}
+use Rattle.cap_pack.specs.Course.{Course, gives, stops, course_words, course_is_cut, course_places, course, head_rest, first_word, zeros_of, plain_of, zeros_then}
 use Rattle.cap_spec.proofs.Packed.Unpacking.{spread_append}
 use Rattle.cap_pack.proofs.Courses.{course_plain, course_plain_stops, course_head, course_head_stops, course_none}
 
 -- a course gives these words, ends so, and is at these positions
 pub record Tells (c : Course) (ws : List ℕ) (u : Bool) (ps : List ℕ) : Type 0 where
-  pub words : words_of c ≡ ws
-  pub cut : is_cut_of c ≡ u
-  pub ends : places_of c ≡ ps
+  pub words : course_words c ≡ ws
+  pub cut : course_is_cut c ≡ u
+  pub ends : course_places c ≡ ps
 
 tells_along : {c d : Course} {ws vs : List ℕ} {u v : Bool} {ps qs : List ℕ} → c ≡ d → ws ≡ vs → u ≡ v → ps ≡ qs → Tells d vs v qs → Tells c ws u ps
-tells_along e f g h t = record { words = ap words_of e ∙ t.words ∙ sym f; cut = ap is_cut_of e ∙ t.cut ∙ sym g; ends = ap places_of e ∙ t.ends ∙ sym h }
+tells_along e f g h t = record { words = ap course_words e ∙ t.words ∙ sym f; cut = ap course_is_cut e ∙ t.cut ∙ sym g;
+    ends = ap course_places e ∙ t.ends ∙ sym h }
 
 tells_one : {c : Course} {ws : List ℕ} {u : Bool} {ps : List ℕ} (x at : ℕ) → Tells c ws u ps → Tells (gives x at c) (x ∷ ws) u (at ∷ ps)
 tells_one x at t = record { words = ap (λ l. x ∷ l) t.words; cut = t.cut; ends = ap (λ l. at ∷ l) t.ends }
@@ -257,7 +258,7 @@ told (suc k) at (tag ∷ bytes) p = ⊎_elim
     (λ z. ⊎_elim (λ o. rw o (plain_run_told k (told k) at bytes (omega arith))) (λ o. marked_told k (told k) at tag bytes z o (omega arith)) (cases_eq tag 255))
     (cases_eq tag 0)
 
-pub course_tells : (at : ℕ) (bytes : List ℕ) → (words_of (course 0 (capped at) bytes) ≡ unpacked bytes)
-    × (is_cut_of (course 0 (capped at) bytes) ≡ packed_is_cut bytes) × (places_of (course 0 (capped at) bytes) ≡ packed_ends at bytes)
+pub course_tells : (at : ℕ) (bytes : List ℕ) → (course_words (course 0 (capped at) bytes) ≡ unpacked bytes)
+    × (course_is_cut (course 0 (capped at) bytes) ≡ packed_is_cut bytes) × (course_places (course 0 (capped at) bytes) ≡ packed_ends at bytes)
 unfolding Told
 course_tells at bytes = let t = told (length bytes) at bytes (omega arith) in (t.words, t.cut, t.ends)

@@ -1,29 +1,31 @@
 -- Which words of an unpacker buffered bytes give (profile).
 use Rattle.std.specs.Prelude.{ℕ, ◌+◌, ◌%◌, ◌<◌, ◌^◌, ◌≡◌, ◌≤◌, List, ◌∷◌, ◌++◌, length, take, drop}
 use Rattle.cap_spec.specs.Plain.{capped, plain_words}
-use Rattle.cap_pack.specs.Course.{Course, words_of, is_cut_of, places_of}
+use Rattle.cap_pack.specs.Course.{Course, course_words, course_is_cut, course_places}
 use Rattle.cap_pack.specs.State.{ahead}
 use Rattle.cap_pack.specs.declared.at_hand.Unpacked.{Unpacked}
 use Rattle.cap_words.specs.declared.phase.Phase.TheVariants.{Open}
 
 -- One course from a place on gives these words, and then it is the other one, from another place on.
-pub record Leads (from to : Course) (place now : ℕ) (own : List ℕ) : Type 0 where
-  pub words : words_of from ≡ own ++ words_of to
-  pub cut : is_cut_of from ≡ is_cut_of to
-  pub places : now ∷ places_of to ≡ drop (length own) (place ∷ places_of from)
+pub record CourseLeads (from to : Course) (place now : ℕ) (own : List ℕ) : Type 0 where
+  pub words : course_words from ≡ own ++ course_words to
+  pub cut : course_is_cut from ≡ course_is_cut to
+  pub places : now ∷ course_places to ≡ drop (length own) (place ∷ course_places from)
 
 -- Whatever follows them, these bytes give these words. Before them `zeros` zero words are still to
 -- be given, and `plain` literal words are still to be read. The other two numbers are those after
 -- them.
-abbrev pub Gives : ℕ → ℕ → ℕ → ℕ → List ℕ → List ℕ → Type 0
-Gives zeros plain zeros_left plain_left bytes own = (place : ℕ) (rest : List ℕ) → place < 2 ^ 64 →
-    Leads (ahead Open zeros plain place (bytes ++ rest)) (ahead Open zeros_left plain_left (capped (place + length bytes)) rest)
+abbrev pub BytesGive : ℕ → ℕ → ℕ → ℕ → List ℕ → List ℕ → Type 0
+BytesGive zeros plain zeros_left plain_left bytes own =
+    (place : ℕ) (rest : List ℕ) → place < 2 ^ 64 →
+    CourseLeads (ahead Open zeros plain place (bytes ++ rest))
+    (ahead Open zeros_left plain_left (capped (place + length bytes)) rest)
     place (capped (place + length bytes)) own
 
 -- The first done.read of these bytes were read, and the words that they give are at the start of
 -- this buffer.
-pub record Unpacks (zeros plain : ℕ) (bytes room : List ℕ) (done : Unpacked) : Type 0 where
+pub record UnpacksInto (zeros plain : ℕ) (bytes room : List ℕ) (done : Unpacked) : Type 0 where
   pub within : done.read ≤ length bytes
   pub fits : done.written ≤ length room
   pub whole : done.written % 8 ≡ 0
-  pub gives : Gives zeros plain done.zeros done.plain (take done.read bytes) (plain_words (take done.written room))
+  pub gives : BytesGive zeros plain done.zeros done.plain (take done.read bytes) (plain_words (take done.written room))

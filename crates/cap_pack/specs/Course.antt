@@ -12,20 +12,20 @@ pub data Course : Type 0 where
   -- a word, the position after it, and what comes then
   gives : ℕ → ℕ → Course → Course
 
-abbrev pub words_of : Course → List ℕ
-words_of (ends at) = []
-words_of (stops at) = []
-words_of (gives word at more) = word ∷ words_of more
+abbrev pub course_words : Course → List ℕ
+course_words (ends at) = []
+course_words (stops at) = []
+course_words (gives word at more) = word ∷ course_words more
 
-abbrev pub is_cut_of : Course → Bool
-is_cut_of (ends at) = false
-is_cut_of (stops at) = true
-is_cut_of (gives word at more) = is_cut_of more
+abbrev pub course_is_cut : Course → Bool
+course_is_cut (ends at) = false
+course_is_cut (stops at) = true
+course_is_cut (gives word at more) = course_is_cut more
 
-abbrev pub places_of : Course → List ℕ
-places_of (ends at) = at ∷ []
-places_of (stops at) = at ∷ []
-places_of (gives word at more) = at ∷ places_of more
+abbrev pub course_places : Course → List ℕ
+course_places (ends at) = at ∷ []
+course_places (stops at) = at ∷ []
+course_places (gives word at more) = at ∷ course_places more
 
 -- n zero words first, all given at one position
 abbrev pub zeros_then : ℕ → ℕ → Course → Course

@@ -8,7 +8,7 @@ use Rattle.cap_spec.proofs.Bytes.Lists.{all_drop}
 use Rattle.cap_spec.proofs.Packed.UnpackedWords.{eight_bytes_below, spread_below}
 use Rattle.cap_spec.specs.Unpacking.{spread}
 use Rattle.cap_spec.specs.Words.{IsWord}
-use Rattle.cap_pack.specs.Course.{Course, stops, gives, words_of, zeros_then, head_rest, first_word, zeros_of, plain_of, course, course_in}
+use Rattle.cap_pack.specs.Course.{Course, stops, gives, course_words, zeros_then, head_rest, first_word, zeros_of, plain_of, course, course_in}
 use Rattle.cap_pack.specs.State.{ahead}
 use Rattle.cap_words.specs.declared.phase.Phase.{Phase}
 use Rattle.cap_words.specs.declared.phase.Phase.TheVariants.{Open, Ended, Failed}
@@ -26,18 +26,18 @@ first_is_word tag bytes all =
     (chosen_word (tag == 255) (little_number 8 bytes) (spread 8 tag bytes) (eight_bytes_below bytes all) (spread_below 8 tag bytes all))
 
 -- zero words, and words after them
-pub zeros_are_words : (n at : ℕ) (more : Course) → AllByRecursion IsWord (words_of more) → AllByRecursion IsWord (words_of (zeros_then n at more))
+pub zeros_are_words : (n at : ℕ) (more : Course) → AllByRecursion IsWord (course_words more) → AllByRecursion IsWord (course_words (zeros_then n at more))
 zeros_are_words zero at more all = all
 zeros_are_words (suc n) at more all = (lit< tt, zeros_are_words n at more all)
 
 -- a word and what comes then, unless the input ends before it
-pub given_are_words : (c : Bool) (end word at : ℕ) (more : Course) → IsWord word → AllByRecursion IsWord (words_of more)
-    → AllByRecursion IsWord (words_of (if c then stops end else gives word at more))
+pub given_are_words : (c : Bool) (end word at : ℕ) (more : Course) → IsWord word → AllByRecursion IsWord (course_words more)
+    → AllByRecursion IsWord (course_words (if c then stops end else gives word at more))
 given_are_words true end word at more p all = tt
 given_are_words false end word at more p all = (p, all)
 
 -- a course in f steps
-pub course_gives_words : (f n at : ℕ) (bytes : List ℕ) → AllByRecursion (λ b. b < 256) bytes → AllByRecursion IsWord (words_of (course_in f n at bytes))
+pub course_gives_words : (f n at : ℕ) (bytes : List ℕ) → AllByRecursion (λ b. b < 256) bytes → AllByRecursion IsWord (course_words (course_in f n at bytes))
 unfolding course_in
 course_gives_words zero n at bytes all = tt
 course_gives_words (suc f) zero at [] all = tt
@@ -51,14 +51,15 @@ course_gives_words (suc f) (suc n) at bytes all =
 
 -- what a source has still to give
 pub ahead_are_words : (phase : Phase) (held plain at : ℕ) (bytes : List ℕ) → AllByRecursion (λ b. b < 256) bytes
-    → AllByRecursion IsWord (words_of (ahead phase held plain at bytes))
+    → AllByRecursion IsWord (course_words (ahead phase held plain at bytes))
 unfolding course
 ahead_are_words Open held plain at bytes all = zeros_are_words held at _ (course_gives_words (suc (length bytes)) plain at bytes all)
 ahead_are_words Ended held plain at bytes all = tt
 ahead_are_words Failed held plain at bytes all = tt
 
 -- where its bytes are known
-pub known_are_words : (phase : Phase) (held plain at : ℕ) (known : Option (List ℕ)) → IfSome known (AllByRecursion (λ b. b < 256))
-    → IfSome (option_map (λ bs. words_of (ahead phase held plain at bs)) known) (AllByRecursion IsWord)
-known_are_words phase held plain at None all = tt
-known_are_words phase held plain at (Some bytes) all = ahead_are_words phase held plain at bytes all
+pub known_course_words : (phase : Phase) (held plain at : ℕ) (known : Option (List ℕ)) → IfSome known (AllByRecursion (λ b. b < 256))
+    → IfSome (option_map (λ bs. course_words (ahead phase held plain at bs)) known) (AllByRecursion IsWord)
+known_course_words phase held plain at None all = tt
+known_course_words phase held plain at (Some bytes) all =
+    ahead_are_words phase held plain at bytes all

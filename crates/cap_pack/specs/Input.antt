@@ -3,5 +3,5 @@ use Rattle.cap_words.specs.declared.ends.ByteIn.{Ghosts}
 use Rattle.cap_pack.specs.declared.unpacker.Unpacker.{Unpacker}
 
 -- `source.into_inner()`
-abbrev pub input_of : {I : Type 0} {members : Ghosts I} → Unpacker I members → I
-input_of source = source.bytes.input
+abbrev pub unpacker_input : {I : Type 0} {members : Ghosts I} → Unpacker I members → I
+unpacker_input source = source.bytes.input

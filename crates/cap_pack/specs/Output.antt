@@ -2,5 +2,5 @@
 use Rattle.cap_pack.specs.declared.packer.Packer.{Packer}
 
 -- `sink.into_inner()`
-abbrev pub output_of : {O : Type 0} → Packer O → O
-output_of sink = sink.output
+abbrev pub packer_output : {O : Type 0} → Packer O → O
+packer_output sink = sink.output

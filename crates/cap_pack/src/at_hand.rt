@@ -1,6 +1,6 @@
 //! Unpacking buffered bytes, many words at once (encoding: Packing).
 
-ghost use Rattle.cap_pack.specs.AtHand.{Unpacks};
+ghost use Rattle.cap_pack.specs.AtHand.{UnpacksInto};
 ghost use Rattle.std.specs.List.{AllByRecursion};
 ghost use Rattle.std.specs.Prelude.{◌*◌, ◌+◌, ◌++◌, ◌<◌, ◌≡◌, ◌≤◌, length, replicate, take};
 ghost use Rattle.std.specs.Vec.{vec_capacity, vec_len};
@@ -83,7 +83,7 @@ pub(crate) fn append_words(count: u8, from: &[u8], out: &mut Vec<u8>, most: usiz
 // What is left of a run, as far as there are bytes for it and `out` has space.
 #[inline(always)]
 fn run(from: &[u8], out: &mut [u8], zeros: u8, plain: u8) -> Unpacked
-    ensures { Unpacks zeros plain from.now out.new result }
+    ensures { UnpacksInto zeros plain from.now out.new result }
 {
     let given = zero_words(zeros, out);
     if given < zeros {
@@ -108,7 +108,7 @@ fn run(from: &[u8], out: &mut [u8], zeros: u8, plain: u8) -> Unpacked
 fn first(from: &[u8], out: &mut [u8]) -> Unpacked
     requires held { 10 ≤ length from.now }
     requires room { 8 ≤ length out.old }
-    ensures unpacks { Unpacks 0 0 from.now out.new result }
+    ensures unpacks { UnpacksInto 0 0 from.now out.new result }
     ensures some { 0 < result.read }
 {
     let tag = from[0];
@@ -129,7 +129,7 @@ fn first(from: &[u8], out: &mut [u8]) -> Unpacked
 fn group(from: &[u8], out: &mut [u8]) -> Unpacked
     requires held { 10 ≤ length from.now }
     requires room { 8 ≤ length out.old }
-    ensures unpacks { Unpacks 0 0 from.now out.new result }
+    ensures unpacks { UnpacksInto 0 0 from.now out.new result }
     ensures some { 0 < result.read }
 {
     let head = first(from, out);
@@ -154,7 +154,7 @@ fn group(from: &[u8], out: &mut [u8]) -> Unpacked
 /// are still to be given, and reads `plain` literal words that are still to be read. It stops
 /// before a group that begins less than ten bytes before the end of these bytes.
 pub(crate) fn unpack(from: &[u8], out: &mut [u8], zeros: u8, plain: u8) -> Unpacked
-    ensures { Unpacks zeros plain from.now out.new result }
+    ensures { UnpacksInto zeros plain from.now out.new result }
 {
     let mut done = run(from, out, zeros, plain);
     while done.zeros == 0

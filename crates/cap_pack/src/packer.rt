@@ -32,24 +32,24 @@ pub struct Packer<O> {
 }
 
 impl<O: ByteOut> Packer<O> {
-    ghost use Rattle.cap_pack.specs.Output.{output_of};
+    ghost use Rattle.cap_pack.specs.Output.{packer_output};
     ghost use Rattle.cap_pack.specs.declared.packer.Packer.{Packer};
 
     /// A sink that writes to `output`, after what it took before.
     pub fn new(output: O) -> Packer<O>
-        ensures output { output_of result ≡ output }
+        ensures output { packer_output result ≡ output }
         ensures taken { ⟦<Packer<O> as WordSink>⟧.taken result ≡ O.written output }
         ensures empty { (ws : List ℕ) →
             ⟦<Packer<O> as WordSink>⟧.text result ws
             ≡ append_known (O.written output) (pack_text ws) }
         ensures closed { ⟦<Packer<O> as WordSink>⟧.closed result ≡ false }
         ensures spent { ⟦<Packer<O> as WordSink>⟧.spent result ≡ O.spent output }
-        ensures shows_taken { (s : Packer O) → ⟦<Packer<O> as WordSink>⟧.taken s ≡ O.written (output_of s) }
+        ensures shows_taken { (s : Packer O) → ⟦<Packer<O> as WordSink>⟧.taken s ≡ O.written (packer_output s) }
         ensures when_spent { (s : Packer O) →
             ⟦<Packer<O> as WordSink>⟧.spent s
-            ≡ (⟦<Packer<O> as WordSink>⟧.closed s || O.spent (output_of s)) }
+            ≡ (⟦<Packer<O> as WordSink>⟧.closed s || O.spent (packer_output s)) }
         ensures shows_failures { (s : Packer O) →
-            ⟦<Packer<O> as WordSink>⟧.failures s ≡ O.failures (output_of s) }
+            ⟦<Packer<O> as WordSink>⟧.failures s ≡ O.failures (packer_output s) }
         ensures text { (s : Packer O) →
             (h : List ℕ) × (group_size h ≡ length h)
             × ((ws : List ℕ) → ⟦<Packer<O> as WordSink>⟧.text s ws
@@ -66,7 +66,7 @@ impl<O: ByteOut> Packer<O> {
 
     /// Gives the output back as it is. Nothing is written: a group that is still open is lost.
     pub fn into_inner(self) -> O
-        ensures { result ≡ output_of self }
+        ensures { result ≡ packer_output self }
     {
         self.output
     }

@@ -1,7 +1,7 @@
 //! A source of words over packed bytes.
 
-ghost use Rattle.cap_pack.specs.Course.{is_cut_of, places_of, words_of};
-ghost use Rattle.cap_pack.specs.CourseWords.{known_are_words};
+ghost use Rattle.cap_pack.specs.Course.{course_is_cut, course_places, course_words};
+ghost use Rattle.cap_pack.specs.CourseWords.{known_course_words};
 ghost use Rattle.cap_pack.specs.State.{ahead};
 ghost use Rattle.cap_spec.specs.PackedEnds.{packed_ends};
 ghost use Rattle.cap_spec.specs.Unpacking.{packed_is_cut, unpacked};
@@ -30,12 +30,12 @@ pub struct Unpacker<I: ByteIn> {
 }
 
 impl<I: ByteIn> Unpacker<I> {
-    ghost use Rattle.cap_pack.specs.Input.{input_of};
+    ghost use Rattle.cap_pack.specs.Input.{unpacker_input};
     ghost use Rattle.cap_pack.specs.declared.unpacker.Unpacker.{Unpacker};
 
     /// The words that the packed bytes of `input` spell, from its next byte on.
     pub fn new(input: I) -> Unpacker<I>
-        ensures input { input_of result ≡ input }
+        ensures input { unpacker_input result ≡ input }
         ensures words { ⟦<Unpacker<I> as WordSource>⟧.words result
             ≡ option_map unpacked (I.to_come input) }
         ensures is_cut { ⟦<Unpacker<I> as WordSource>⟧.is_cut result
@@ -51,11 +51,11 @@ impl<I: ByteIn> Unpacker<I> {
         ensures when_spent { (s : Unpacker I I.ByteIn) →
             ⟦<Unpacker<I> as WordSource>⟧.spent s
             ≡ (if ⟦<Unpacker<I> as WordSource>⟧.ended s then false else
-            (⟦<Unpacker<I> as WordSource>⟧.failed s || I.spent (input_of s))) }
+            (⟦<Unpacker<I> as WordSource>⟧.failed s || I.spent (unpacker_input s))) }
         ensures shows_unread { (s : Unpacker I I.ByteIn) →
-            ⟦<Unpacker<I> as WordSource>⟧.unread s ≡ I.to_come (input_of s) }
+            ⟦<Unpacker<I> as WordSource>⟧.unread s ≡ I.to_come (unpacker_input s) }
         ensures shows_failures { (s : Unpacker I I.ByteIn) →
-            ⟦<Unpacker<I> as WordSource>⟧.failures s ≡ I.failures (input_of s) }
+            ⟦<Unpacker<I> as WordSource>⟧.failures s ≡ I.failures (unpacker_input s) }
     {
         Unpacker {
             bytes: Counted { input, read: 0 },
@@ -68,20 +68,20 @@ impl<I: ByteIn> Unpacker<I> {
     /// Gives the input back as it is: after the bytes of the last word that was given, or of its
     /// group's head.
     pub fn into_inner(self) -> I
-        ensures { result ≡ input_of self }
+        ensures { result ≡ unpacker_input self }
     {
         self.bytes.input
     }
 }
 
 impl<I: ByteIn> WordSource for Unpacker<I> {
-    ghost words = { λ s. option_map (λ bs. words_of (ahead s.phase s.zeros s.plain s.bytes.read bs)) (I.to_come s.bytes.input) };
+    ghost words = { λ s. option_map (λ bs. course_words (ahead s.phase s.zeros s.plain s.bytes.read bs)) (I.to_come s.bytes.input) };
 
-    ghost is_cut = { λ s. is_cut_of (ahead s.phase s.zeros s.plain s.bytes.read (unwrap_or (I.to_come s.bytes.input) [])) };
+    ghost is_cut = { λ s. course_is_cut (ahead s.phase s.zeros s.plain s.bytes.read (unwrap_or (I.to_come s.bytes.input) [])) };
 
     ghost place = { λ s. s.bytes.read };
 
-    ghost places = { λ s. places_of (ahead s.phase s.zeros s.plain s.bytes.read (unwrap_or (I.to_come s.bytes.input) [])) };
+    ghost places = { λ s. course_places (ahead s.phase s.zeros s.plain s.bytes.read (unwrap_or (I.to_come s.bytes.input) [])) };
 
     ghost unread = { λ s. I.to_come s.bytes.input };
 
@@ -189,5 +189,5 @@ impl<I: ByteIn> WordSource for Unpacker<I> {
         self.bytes.read
     }
 
-    ghost are_words = { λ s. known_are_words s.phase s.zeros s.plain s.bytes.read (I.to_come s.bytes.input) (I.are_bytes s.bytes.input) };
+    ghost are_words = { λ s. known_course_words s.phase s.zeros s.plain s.bytes.read (I.to_come s.bytes.input) (I.are_bytes s.bytes.input) };
 }
