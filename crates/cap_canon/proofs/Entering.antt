@@ -11,7 +11,7 @@ use Rattle.cap_spec.proofs.Trees.DenotedTrees.{range_length}
 use Rattle.cap_canon.specs.CopyRuns.{OptionFull, further_places, option_places, places_of, row_places}
 use Rattle.cap_canon.specs.Laying.{Due, AreBefore, below, element_slots, own_size, slots}
 use Rattle.cap_canon.specs.Objects.{AreLeft, AreElementsLeft, IsObject, IsStructObject, IsPointersObject, IsStructsObject}
-use Rattle.cap_canon.specs.StillToLay.{AreOwed, IsWalking, Meets, Stacked, work_left}
+use Rattle.cap_canon.specs.StillToLay.{AreOwed, IsWalking, NextLeadsTo, Stacked, work_left}
 use Rattle.cap_canon.specs.declared.run.CopyRun.{CopyRun}
 use Rattle.cap_canon.specs.declared.run.PointerPlace.{PointerPlace}
 use Rattle.cap_canon.specs.declared.objects.Part.{Part}
@@ -164,7 +164,7 @@ below_before m d s w end u (object.Structs n x) (deeper, le, k) =
 
 -- The walk goes on with an object's pointer words.
 pub entered : (m : List (List ℕ)) (depth end now : ℕ) (p : PointerPlace) (tree : Tree) (due : List Due) (runs : List CopyRun) (r : Option CopyRun)
-    (o : Object) → Meets m depth p runs end tree due o
+    (o : Object) → NextLeadsTo m depth p runs end tree due o
     → now ≡ end + own_size tree → OptionFull r → AreOwed m depth (length runs + 1) (option_places r) (below end tree)
     → IsWalking m depth (runs ++ option_to_list r) now (below end tree ++ due)
 entered m depth end now p tree due runs r o k e full owed =

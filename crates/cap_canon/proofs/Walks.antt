@@ -17,7 +17,7 @@ use Rattle.cap_canon.specs.InPlace.{AreInPlace, IsInPlace}
 use Rattle.cap_canon.specs.Laying.{Due, Laid, own_size, below}
 use Rattle.cap_canon.specs.Objects.{IsObject}
 use Rattle.cap_canon.specs.Roots.{HasTree}
-use Rattle.cap_canon.specs.StillToLay.{IsNext, IsOwed, IsWalking, Meets}
+use Rattle.cap_canon.specs.StillToLay.{IsNext, IsOwed, IsWalking, NextLeadsTo}
 use Rattle.cap_canon.specs.CopyTurns.{IsTurn}
 use Rattle.cap_canon.specs.declared.objects.Object.{Object}
 use Rattle.cap_canon.specs.declared.run.CopyRun.{CopyRun}
@@ -86,14 +86,15 @@ first_turn m InPlace state depth is k so_far = record {
 this_met : (m : List (List ℕ)) (InPlace : Type 0) (state : List (List ℕ) → Tree → ℕ → List Due → Type 0) (depth : ℕ)
     (runs : List CopyRun) (p : PointerPlace) (end : ℕ)
     (object : Object) → (k : AtTurn m InPlace state depth runs p end)
-    → ((t : Tree) (c d : ℕ) → Denotes m p.segment p.word t c d → IsObject m d p.segment p.word (trim t) object) → Meets m depth p runs end k.tree k.due object
+    → ((t : Tree) (c d : ℕ) → Denotes m p.segment p.word t c d → IsObject m d p.segment p.word (trim t) object)
+    → NextLeadsTo m depth p runs end k.tree k.due object
 this_met m InPlace state depth runs p end object k f =
     let o = k.next.owed in
     record { next = k.next; d = o.2; is = subst (λ u. IsObject m o.2 p.segment p.word u object) (sym o.4) (f o.0 o.1 o.2 o.3); levels = o.5 }
 
 this_turn : (m : List (List ℕ)) (InPlace : Type 0) (state : List (List ℕ) → Tree → ℕ → List Due → Type 0)
     (depth : ℕ) (runs : List CopyRun) (p : PointerPlace) (end : ℕ)
-    (object : Object) → (k : AtTurn m InPlace state depth runs p end) → Meets m depth p runs end k.tree k.due object
+    (object : Object) → (k : AtTurn m InPlace state depth runs p end) → NextLeadsTo m depth p runs end k.tree k.due object
     → IsTurn m InPlace (trim k.root) object p end k.tree k.due
 this_turn m InPlace state depth runs p end object k met =
     let fits = owed_fits m depth (length runs) p.segment p.word k.tree k.next.owed in
@@ -170,7 +171,7 @@ first_run m InPlace state depth is k so_far = record {
 pub record TurnHere (m : List (List ℕ)) (InPlace : Type 0) (state : List (List ℕ) → Tree → ℕ → List Due → Type 0) (depth : ℕ) (runs : List CopyRun)
     (p : PointerPlace) (end : ℕ) (object : Object) : Type 0 where
   pub at : AtTurn m InPlace state depth runs p end
-  pub met : Meets m depth p runs end at.tree at.due object
+  pub met : NextLeadsTo m depth p runs end at.tree at.due object
   pub turn : IsTurn m InPlace (trim at.root) object p end at.tree at.due
 
 pub turn_here : (m : List (List ℕ)) (InPlace : Type 0) (state : List (List ℕ) → Tree → ℕ → List Due → Type 0) (depth : ℕ) (runs : List CopyRun)

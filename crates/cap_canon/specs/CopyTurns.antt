@@ -4,7 +4,7 @@ use Rattle.cap_spec.specs.Canonical.{layout}
 use Rattle.cap_spec.specs.Tree.{Tree}
 use Rattle.cap_canon.specs.InPlace.{IsInPlace}
 use Rattle.cap_canon.specs.Laying.{Due, IsPointed, OwnAt, below, own_size}
-use Rattle.cap_canon.specs.StillToLay.{Meets}
+use Rattle.cap_canon.specs.StillToLay.{NextLeadsTo}
 use Rattle.cap_canon.specs.declared.objects.Object.{Object}
 use Rattle.cap_canon.specs.declared.run.CopyRun.{CopyRun}
 use Rattle.cap_canon.specs.declared.run.PointerPlace.{PointerPlace}
@@ -15,7 +15,7 @@ pub record IsTurn (m : List (List ℕ)) (InPlace : Type 0) (whole : Tree) (objec
     (due : List Due) : Type 0 where
   pub depth : ℕ
   pub runs : List CopyRun
-  pub meets : Meets m depth p runs end tree due object
+  pub meets : NextLeadsTo m depth p runs end tree due object
   pub in_place : InPlace → IsInPlace p
   pub pointed : IsPointed (layout whole) end p.slot tree
   pub own : OwnAt (layout whole) end tree

@@ -6,7 +6,7 @@ use Rattle.cap_spec.specs.Denoting.{AreElements, DenoteEach, Finds, places, word
 use Rattle.cap_spec.specs.Tree.{Tree, struct, structs, Trees}
 
 -- The word at s:w finds a struct of ds data words and ps pointers at t:b.
-pub record FindsStruct (m : List (List ℕ)) (s w t b ds ps : ℕ) : Type 0 where
+pub record LeadsToStruct (m : List (List ℕ)) (s w t b ds ps : ℕ) : Type 0 where
   pub k : ℕ
   pub q : ℕ
   pub finds : Finds m s w k t b q
@@ -17,7 +17,7 @@ pub record FindsStruct (m : List (List ℕ)) (s w t b ds ps : ℕ) : Type 0 wher
 
 -- It denotes the tree x, of d levels.
 pub record IsStructAt (m : List (List ℕ)) (s w t b ds ps : ℕ) (x : Tree) (d : ℕ) : Type 0 where
-  pub found : FindsStruct m s w t b ds ps
+  pub found : LeadsToStruct m s w t b ds ps
   pub words : List ℕ
   pub children : Trees
   pub inner : ℕ
@@ -28,7 +28,7 @@ pub record IsStructAt (m : List (List ℕ)) (s w t b ds ps : ℕ) (x : Tree) (d 
   pub levels : deep + 1 ≤ d
 
 -- The word at s:w finds a list of n structs of ds data words and ps pointers each, whose tag is at t:b.
-pub record FindsStructs (m : List (List ℕ)) (s w t b n ds ps : ℕ) : Type 0 where
+pub record LeadsToStructs (m : List (List ℕ)) (s w t b n ds ps : ℕ) : Type 0 where
   pub k : ℕ
   pub q : ℕ
   pub tag : ℕ
@@ -44,7 +44,7 @@ pub record FindsStructs (m : List (List ℕ)) (s w t b n ds ps : ℕ) : Type 0 w
 
 -- It denotes the tree x, of d levels.
 pub record IsStructsAt (m : List (List ℕ)) (s w t b n ds ps : ℕ) (x : Tree) (d : ℕ) : Type 0 where
-  pub found : FindsStructs m s w t b n ds ps
+  pub found : LeadsToStructs m s w t b n ds ps
   pub elements : Trees
   pub inner : ℕ
   pub deep : ℕ

@@ -6,7 +6,7 @@ use Rattle.cap_spec.specs.Pointers.{kind, code, list_size, list_words}
 use Rattle.cap_spec.specs.Denoting.{Denotes, Finds, words_from, values_of}
 use Rattle.cap_spec.specs.Tree.{Tree, null, cap, struct, scalars, pointers, structs, Trees, none, more, tree_count}
 use Rattle.cap_spec.specs.Canonical.{trim}
-use Rattle.cap_canon.specs.Found.{FindsStruct, FindsStructs}
+use Rattle.cap_canon.specs.Found.{LeadsToStruct, LeadsToStructs}
 use Rattle.cap_canon.specs.declared.objects.Object.{Object}
 use Rattle.cap_canon.specs.declared.objects.Part.{Part}
 use Rattle.cap_canon.specs.declared.objects.Object.TheVariants as object
@@ -33,7 +33,7 @@ IsFewer x = (x.data_left ≤ x.data_words) × (x.pointers_left ≤ x.pointers)
 
 -- The word finds a struct, of which this part is left.
 pub record IsStructObject (m : List (List ℕ)) (deep s w : ℕ) (u : Tree) (x : Part) : Type 0 where
-  pub found : FindsStruct m s w x.segment x.start x.data_words x.pointers
+  pub found : LeadsToStruct m s w x.segment x.start x.data_words x.pointers
   pub words : List ℕ
   pub children : Trees
   pub tree : u ≡ struct words children
@@ -73,7 +73,7 @@ pub record IsPointersObject (m : List (List ℕ)) (deep s w : ℕ) (u : Tree) (t
 pub record IsStructsObject (m : List (List ℕ)) (deep s w : ℕ) (u : Tree) (n : ℕ) (x : Part) : Type 0 where
   pub b : ℕ
   pub start : x.start ≡ b + 1
-  pub found : FindsStructs m s w x.segment b n x.data_words x.pointers
+  pub found : LeadsToStructs m s w x.segment b n x.data_words x.pointers
   pub elements : Trees
   pub tree : u ≡ structs x.data_left x.pointers_left elements
   pub many : tree_count elements ≡ n

@@ -50,7 +50,7 @@ pub record IsNext (m : List (List ℕ)) (depth : ℕ) (p : PointerPlace) (runs :
   pub small : end + size_due (record { slot = p.slot; tree = tree } ∷ due) ≤ 268435457
 
 -- The next word leads to this object, of at most d levels.
-pub record Meets (m : List (List ℕ)) (depth : ℕ) (p : PointerPlace) (runs : List CopyRun) (end : ℕ) (tree : Tree) (due : List Due)
+pub record NextLeadsTo (m : List (List ℕ)) (depth : ℕ) (p : PointerPlace) (runs : List CopyRun) (end : ℕ) (tree : Tree) (due : List Due)
     (object : Object) : Type 0 where
   pub next : IsNext m depth p runs end tree due
   pub d : ℕ
