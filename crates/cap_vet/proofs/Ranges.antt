@@ -11,7 +11,7 @@ use Rattle.cap_spec.specs.Denoting.{places}
 use Rattle.cap_spec.specs.Occupying.{IsPlaceOf}
 use Rattle.cap_spec.proofs.Disjoint.Places.{apart_places, at_place, in_places}
 use Rattle.cap_vet.specs.Marks.{MarksAll}
-use Rattle.cap_vet.specs.Taken.{AreStarts, IsTaken, bit_of, start_of}
+use Rattle.cap_vet.specs.Taken.{AreStarts, IsTaken, bit_in, start_of}
 
 -- a segment ends before a later one starts
 start_order : (m : List (List ℕ)) (s s' : ℕ) → s < s' → s' ≤ length m → start_of m s + length (segment_of m s) ≤ start_of m s'
@@ -33,14 +33,14 @@ same_place m s from len s' w' h h' inside inside' low high = elim (cases_eq s' s
 
 -- the bits of a range, which were free, are set
 pub marks_range : (m : List (List ℕ)) (old new : List ℕ) (s from len at : ℕ) → s < length m → from + len ≤ length (segment_of m s) → at ≡ start_of m s + from
-    → ((i : ℕ) → at ≤ i → i < at + len → bit_of new i ≡ 1) → ((i : ℕ) → at ≤ i → i < at + len → bit_of old i ≡ 0)
-    → ((i : ℕ) → i < at → bit_of new i ≡ bit_of old i) → ((i : ℕ) → at + len ≤ i → bit_of new i ≡ bit_of old i)
+    → ((i : ℕ) → at ≤ i → i < at + len → bit_in new i ≡ 1) → ((i : ℕ) → at ≤ i → i < at + len → bit_in old i ≡ 0)
+    → ((i : ℕ) → i < at → bit_in new i ≡ bit_in old i) → ((i : ℕ) → at + len ≤ i → bit_in new i ≡ bit_in old i)
     → MarksAll (IsTaken m old) (IsTaken m new) (places s from len)
 marks_range m old new s from len at h inside e set free below above = record {
   apart = apart_places s from len;
   free = λ s' w' p q. let r = in_places s from len s' w' p in
       let f : start_of m s' ≡ start_of m s = ap (start_of m) r.0 in
-      let z : bit_of old (start_of m s' + w') ≡ 0 = free (start_of m s' + w') (omega (arith, f, r.1, e)) (omega (arith, f, r.2, e)) in
+      let z : bit_in old (start_of m s' + w') ≡ 0 = free (start_of m s' + w') (omega (arith, f, r.1, e)) (omega (arith, f, r.2, e)) in
       omega (arith, q.2, z);
   set = λ s' w' p. let r = in_places s from len s' w' p in
       let f : start_of m s' ≡ start_of m s = ap (start_of m) r.0 in
@@ -65,11 +65,11 @@ marks_range m old new s from len at h inside e set free below above = record {
 
 -- a bit of the range that was set before is a place of it
 pub range_conflict : (m : List (List ℕ)) (old : List ℕ) (s from len at i : ℕ) → s < length m → from + len ≤ length (segment_of m s) → at ≡ start_of m s + from
-    → at ≤ i → i < at + len → bit_of old i ≡ 1 → (w : ℕ) × IsPlaceOf (s, w) (places s from len) × IsTaken m old s w
+    → at ≤ i → i < at + len → bit_in old i ≡ 1 → (w : ℕ) × IsPlaceOf (s, w) (places s from len) × IsTaken m old s w
 range_conflict m old s from len at i h inside e low high taken =
     let w : ℕ = from + (i - at) in
     let f : i ≡ start_of m s + w = omega (arith, e) in
-    (w, at_place s from len w (omega arith) (omega (arith, e)), (h, omega (arith, e), subst (λ (u : ℕ). bit_of old u ≡ 1) f taken))
+    (w, at_place s from len w (omega arith) (omega (arith, e)), (h, omega (arith, e), subst (λ (u : ℕ). bit_in old u ≡ 1) f taken))
 
 -- a segment's bits are among all
 pub start_within : (m : List (List ℕ)) (s : ℕ) → s < length m → start_of m s + length (segment_of m s) ≤ start_of m (length m)

@@ -7,7 +7,7 @@ use Rattle.cap_spec.specs.Paths.{Spot}
 use Rattle.cap_spec.proofs.Frames.Messages.{short_segment}
 use Rattle.cap_spec.specs.declared.Kind.TheVariants.{Pointers, Structs}
 use Rattle.cap_spec.specs.declared.Step.{Step}
-use Rattle.cap_vet.specs.Finding.{IsFound, IsSomewhere, IsStep, own_words}
+use Rattle.cap_vet.specs.Finding.{IsFound, IsSomewhere, StepLeads, own_words}
 use Rattle.cap_vet.specs.Ways.{HasFound, IsSomeWay, SomeArrives}
 use Rattle.cap_vet.specs.declared.nodes.charged.Arrival.{Arrival}
 use Rattle.cap_vet.specs.declared.nodes.found.Found.{Found}
@@ -78,11 +78,11 @@ module _ (m : List (List ℕ)) (words depth : ℕ) (at : Arrival) (h : SomeArriv
       let one : IsProp (at.found.place.segment < length m) = hlevel props in ∥∥₁_elim h one (λ x. x.2.found.exists)
 
   -- the step's word exists
-  pub step_exists : (step : Step) (s w : ℕ) → IsStep at.found step (Some (Word s w)) → s < length m
+  pub step_exists : (step : Step) (s w : ℕ) → StepLeads at.found step (Some (Word s w)) → s < length m
   step_exists step s w is =
       let one : IsProp (s < length m) = hlevel props in ∥∥₁_elim h one (λ x. (is m x.1 x.2.found).1.0)
 
-  pub step_inside : (step : Step) (s w : ℕ) → IsStep at.found step (Some (Word s w)) → w < length (segment_of m s)
+  pub step_inside : (step : Step) (s w : ℕ) → StepLeads at.found step (Some (Word s w)) → w < length (segment_of m s)
   step_inside step s w is =
       let one : IsProp (w < length (segment_of m s)) = hlevel props in
       ∥∥₁_elim h one (λ x. let l = (is m x.1 x.2.found).1.1 in omega (arith, l))

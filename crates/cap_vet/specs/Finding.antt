@@ -43,6 +43,8 @@ abbrev pub IsSomewhere : Found → Type 0
 IsSomewhere f = ∥ ((m : List (List ℕ)) × (a : Spot) × IsMessage m × IsFound m a f) ∥₁
 
 -- the answer says where a step leads from what was found
-abbrev pub IsStep : Found → Step → Option Kept → Type 0
-IsStep f step None = (m : List (List ℕ)) (a : Spot) → IsFound m a f → (b : Spot) → ¬ Goes m a step b
-IsStep f step (Some b) = (m : List (List ℕ)) (a : Spot) → IsFound m a f → Goes m a step (spot_of b) × SpotIn m b
+abbrev pub StepLeads : Found → Step → Option Kept → Type 0
+StepLeads f step None =
+    (m : List (List ℕ)) (a : Spot) → IsFound m a f → (b : Spot) → ¬ Goes m a step b
+StepLeads f step (Some b) =
+    (m : List (List ℕ)) (a : Spot) → IsFound m a f → Goes m a step (spot_of b) × SpotIn m b

@@ -7,8 +7,8 @@ use Rattle.cap_spec.specs.declared.Step.{Step}
 use Rattle.cap_vet.specs.Marks.{IsMarked}
 
 -- bit i of all the words, 0 or 1
-abbrev pub bit_of : List ℕ → ℕ → ℕ
-bit_of words i = bit_at (slice_index words (i / 64)) (i % 64)
+abbrev pub bit_in : List ℕ → ℕ → ℕ
+bit_in words i = bit_at (slice_index words (i / 64)) (i % 64)
 
 -- the words of the segments before segment s
 abbrev pub start_of : List (List ℕ) → ℕ → ℕ
@@ -22,7 +22,7 @@ marks_of m = sum (sizes_of m) / 64 + 1
 
 -- the word exists, and its bit is set
 abbrev pub IsTaken : List (List ℕ) → List ℕ → ℕ → ℕ → Type 0
-IsTaken m bits s w = (s < length m) × (w < length (segment_of m s)) × (bit_of bits (start_of m s + w) ≡ 1)
+IsTaken m bits s w = (s < length m) × (w < length (segment_of m s)) × (bit_in bits (start_of m s + w) ≡ 1)
 
 -- The starts are those of the message's segments.
 pub record AreStarts (m : List (List ℕ)) (starts : List ℕ) : Type 0 where

@@ -6,7 +6,7 @@ ghost use Rattle.cap_spec.specs.Messages.{HasWord};
 ghost use Rattle.cap_spec.specs.Occupying.{pads_of};
 ghost use Rattle.cap_vet.specs.Marks.{UsesPlace};
 ghost use Rattle.cap_vet.specs.MarkSteps.{HasBits, MarksPlaces, MarksUse};
-ghost use Rattle.cap_vet.specs.Taken.{AreStarts, bit_of, marks_of, start_of};
+ghost use Rattle.cap_vet.specs.Taken.{AreStarts, bit_in, marks_of, start_of};
 ghost use Rattle.std.specs.Prelude.{◌+◌, ◌-◌, ◌*◌, ◌/◌, ◌<◌, ◌^◌, ◌≡◌, ◌≤◌, IfSome, IsFalse, IsTrue, List, length, ℕ};
 
 use crate::exclusiveness::uses::structs_use;
@@ -142,13 +142,13 @@ fn set_bits(words: &mut [u64], from: u64, count: u64) -> bool
     requires inside { from + count ≤ 64 * length words.old }
     requires small { from + count < 2 ^ 63 }
     ensures length { length words.new ≡ length words.old }
-    ensures taken { IsTrue result → (i : ℕ) → from ≤ i → i < from + count → bit_of words.new i ≡ 1 }
-    ensures free { IsTrue result → (i : ℕ) → from ≤ i → i < from + count → bit_of words.old i ≡ 0 }
-    ensures below { IsTrue result → (i : ℕ) → i < from → bit_of words.new i ≡ bit_of words.old i }
+    ensures taken { IsTrue result → (i : ℕ) → from ≤ i → i < from + count → bit_in words.new i ≡ 1 }
+    ensures free { IsTrue result → (i : ℕ) → from ≤ i → i < from + count → bit_in words.old i ≡ 0 }
+    ensures below { IsTrue result → (i : ℕ) → i < from → bit_in words.new i ≡ bit_in words.old i }
     ensures above { IsTrue result → (i : ℕ) → from + count ≤ i →
-        bit_of words.new i ≡ bit_of words.old i }
+        bit_in words.new i ≡ bit_in words.old i }
     ensures conflict { IsFalse result →
-        (i : ℕ) × (from ≤ i) × (i < from + count) × (bit_of words.old i ≡ 1) }
+        (i : ℕ) × (from ≤ i) × (i < from + count) × (bit_in words.old i ≡ 1) }
 {
     let end = from + count;
     let mut at = from;

@@ -5,7 +5,7 @@ ghost use Rattle.cap_spec.specs.Following.{Wrong};
 ghost use Rattle.cap_spec.specs.Messages.{IsMessage, segment_of};
 ghost use Rattle.cap_spec.specs.Paths.{word};
 ghost use Rattle.cap_spec.specs.declared.Reason.{Reason};
-ghost use Rattle.cap_vet.specs.Finding.{IsFound, IsSomewhere, IsStep, element_of, kind_of_shape};
+ghost use Rattle.cap_vet.specs.Finding.{IsFound, IsSomewhere, StepLeads, element_of, kind_of_shape};
 ghost use Rattle.std.specs.Prelude.{◌<◌, ◌≡◌, List, length, ℕ};
 
 use crate::nodes::place::Place;
@@ -54,7 +54,7 @@ impl Found {
     #[inline(always)]
     pub(crate) fn step(&self, step: Step) -> Option<Spot>
         requires { IsSomewhere self.now }
-        ensures { IsStep self.now step result }
+        ensures { StepLeads self.now step result }
     {
         match step {
             Step::Ptr(i) => self.pointer(i),
@@ -66,7 +66,7 @@ impl Found {
     #[inline(always)]
     fn pointer(&self, i: u16) -> Option<Spot>
         requires { IsSomewhere self.now }
-        ensures { IsStep self.now (Step.Ptr i) result }
+        ensures { StepLeads self.now (Step.Ptr i) result }
     {
         let Kind::Struct {
             data_words,
@@ -88,7 +88,7 @@ impl Found {
     #[inline(always)]
     fn item(&self, i: u32) -> Option<Spot>
         requires { IsSomewhere self.now }
-        ensures { IsStep self.now (Step.Item i) result }
+        ensures { StepLeads self.now (Step.Item i) result }
     {
         match self.kind {
             Kind::Pointers { count } => {
