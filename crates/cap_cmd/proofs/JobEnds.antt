@@ -19,10 +19,10 @@ use Rattle.cap_spec.specs.Plain.{plain_text}
 use Rattle.cap_run.specs.Canons.{copies_of}
 use Rattle.cap_run.specs.Transcoding.{Transcoded, TranscodesAll}
 use Rattle.cap_run.specs.Engines.{TellsStream}
-use Rattle.cap_run.specs.Filtering.{FiltersStream, Passes, TellsIn, WantsInForm}
+use Rattle.cap_run.specs.Filtering.{FiltersStream, PassesOn, TellsIn, WantsInForm}
 use Rattle.cap_run.specs.declared.settings.FilterForm.{FilterForm}
 use Rattle.cap_run.specs.Running.{Appended}
-use Rattle.cap_run.specs.Streams.{ReadsAll}
+use Rattle.cap_run.specs.Streams.{ReadsToEnd}
 use Rattle.cap_run.specs.Engines.{most_packed_at_once, most_unpacked_at_once, most_words}
 use Rattle.cap_run.specs.Telling.{Tells, TellsEach, TellsSegments, Told, WantsNone, messages_of, outcome_of, texts_of}
 use Rattle.cap_run.proofs.FilterEnds.{reads_whole}
@@ -92,7 +92,7 @@ none_noncanonical o e = grind (arith, e)
 module _ {S O : Type 0} (gs : source.Ghosts S) (go : output.Ghosts O) (s : Settings) (old new : S) where
   -- no message of these was refused, and each is canonical where that was asked
   all_told : (tells : Tells) (before after : O) (o : Outcome) (ts : List Told) → outcome_status o ≡ 0 → o ≡ outcome_of ts
-      → ReadsAll gs (limit_of s.size) old new (messages_of ts) → TellsEach tells 0 ts
+      → ReadsToEnd gs (limit_of s.size) old new (messages_of ts) → TellsEach tells 0 ts
       → Appended go before after (texts_of ts) → length ts ≤ s.messages
       → TellsInput tells s (gs.words old) (gs.is_cut old) (go.written before) (go.written after)
   all_told tells before after o ts e same reads each took many = record {
@@ -121,11 +121,11 @@ module _ {S O : Type 0} (gs : source.Ghosts S) (go : output.Ghosts O) (s : Setti
       (wants : List (List ℕ) → Type 0) (before after : O) (first last : E)
       (r : Result Outcome RunFault) → run_status r ≡ 0
       → FiltersStream gs go ge form verdict wants (limit_of s.size) s.messages old new before after first last r
-      → TellsInput (Passes form.pack verdict) s (gs.words old) (gs.is_cut old) (go.written before) (go.written after)
+      → TellsInput (PassesOn form.pack verdict) s (gs.words old) (gs.is_cut old) (go.written before) (go.written after)
   passed_all ge form verdict wants before after first last (Ok o) e t =
       let k = t.ok in
       let none = none_refused (outcome_of k.0) (subst (λ (x : Outcome). outcome_status x ≡ 0) k.5 e) in
-      all_told (Passes form.pack verdict) before after o k.0 e k.5 (reads_whole gs (limit_of s.size) old new form.stop k.0 none k.1) k.2 k.3 k.4
+      all_told (PassesOn form.pack verdict) before after o k.0 e k.5 (reads_whole gs (limit_of s.size) old new form.stop k.0 none k.1) k.2 k.3 k.4
   passed_all ge form verdict wants before after first last (Err fault) e t = absurd (cause_fails fault.cause e)
 
 module _ {S O K : Type 0} (gs : source.Ghosts S) (go : output.Ghosts O) (s : Settings) (old new : S)

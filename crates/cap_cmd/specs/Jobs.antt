@@ -27,7 +27,7 @@ use Rattle.cap_run.specs.Demanding.{TellsCheckUnder, TellsDumpUnder, TellsExclus
 use Rattle.cap_run.specs.Demanding.{TellsGetUnder, TellsVerdictUnder, WantsMarksUnder}
 use Rattle.cap_run.specs.Engines.{TranscodesWords, ShowsStream, TellsStream}
 use Rattle.cap_run.specs.Engines.{most_packed_at_once, most_unpacked_at_once, most_words}
-use Rattle.cap_run.specs.Filtering.{FiltersUnder, Passes, TellsIn}
+use Rattle.cap_run.specs.Filtering.{FiltersUnder, PassesOn, TellsIn}
 use Rattle.cap_text.specs.FaultLines.{copy_fault_line, run_fault_line}
 use Rattle.cap_run.specs.Telling.{Tells, TellsEach, TellsSegments, Told, WantsNone}
 use Rattle.cap_run.specs.Telling.{messages_of, noncanonical_in, refused_in, texts_of}
@@ -259,7 +259,7 @@ WritesAll (Vet false) s demands =
 WritesAll (Vet true) s demands =
     TellsInput (TellsExclusiveUnder demands (words_of s.limits) (depth_of s.limits)) s
 WritesAll (Filter form) s demands =
-    TellsInput (Passes form.pack (TellsIn form demands s.limits)) s
+    TellsInput (PassesOn form.pack (TellsIn form demands s.limits)) s
 WritesAll Dump s demands =
     TellsInput (TellsDumpUnder demands (words_of s.limits) (depth_of s.limits)) s
 WritesAll (Get path) s demands =

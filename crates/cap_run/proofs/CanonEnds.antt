@@ -25,7 +25,7 @@ use Rattle.cap_run.specs.Transcoding.{Finishes}
 use Rattle.cap_run.specs.Demanding.{IsNotStrict, IsStrictUnder}
 use Rattle.cap_run.specs.Making.{Made}
 use Rattle.cap_run.specs.Running.{Settled, SettledAt}
-use Rattle.cap_run.specs.Streams.{ReadsAll, ReadsStream}
+use Rattle.cap_run.specs.Streams.{ReadsToEnd, ReadsStream}
 use Rattle.cap_text.specs.declared.fault.Cause.{Cause}
 use Rattle.cap_text.specs.declared.fault.Cause.TheVariants.{TooManyMessages, Frame, Output, Refused, NotStrict, Canon}
 use Rattle.cap_text.specs.declared.fault.Cause.TheVariants.{Memory as no_marks}
@@ -74,7 +74,7 @@ module _ {S K : Type 0} (gs : source.Ghosts S) (gk : sink.Ghosts K) (demands : D
     (old new : S) (before after : K) where
   -- what the engine's clauses say where it ended, and where it didn't
   abbrev pub SaysCopies : Result Outcome RunFault → Type 0
-  SaysCopies r = IfOk r (λ outcome. (cs : List Canonised) × ReadsAll gs limit old new (canonised cs)
+  SaysCopies r = IfOk r (λ outcome. (cs : List Canonised) × ReadsToEnd gs limit old new (canonised cs)
       × AreCanonised demands words depth cs × Finishes gk before after (copies_of cs) × (length cs ≤ most)
       × (outcome ≡ record { messages = length cs; refused = 0; noncanonical = 0 }))
 

@@ -11,7 +11,7 @@ use Rattle.cap_spec.specs.Unamplified.{unamplified}
 use Rattle.cap_vet.specs.Demands.{IsDemandFault, words_under}
 use Rattle.cap_vet.specs.declared.demands.Demands.{Demands}
 use Rattle.cap_run.specs.Demanding.{OrFault, TellsFault, TellsMarked, WantsMarksUnder, WantsUnder, no_demands}
-use Rattle.cap_run.specs.Engines.{EndsEarly, ReachesEnd, TellsStream}
+use Rattle.cap_run.specs.Engines.{StopsEarly, ReachesEnd, TellsStream}
 use Rattle.cap_run.specs.Running.{RunStops}
 use Rattle.cap_run.specs.Telling.{Tells, TellsEach, Told, WantsNone}
 use Rattle.cap_run.specs.Vetting.{OrRefused, TellsExclusive, TellsRefused, WantsMarks}
@@ -50,8 +50,8 @@ module _ (tells others : Tells)
     reaches_as (Ok outcome) e = (e.0, e.1, each_as 0 e.0 e.2, e.3, e.4, e.5)
     reaches_as (Err fault) e = tt
 
-    early_as : (r : Result Outcome RunFault) → EndsEarly gs go tells limit most old new before after wants r
-        → EndsEarly gs go others limit most old new before after needs r
+    early_as : (r : Result Outcome RunFault) → StopsEarly gs go tells limit most old new before after wants r
+        → StopsEarly gs go others limit most old new before after needs r
     early_as (Ok outcome) e = tt
     early_as (Err fault) e = (e.0, e.1, e.2, e.3, e.4, each_as 0 e.0 e.5, stops_as e.0 e.1 fault.cause e.6)
 

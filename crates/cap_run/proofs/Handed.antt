@@ -11,7 +11,7 @@ use Rattle.cap_words.specs.declared.sinks.WordSink as sink
 use Rattle.cap_words.specs.declared.sources.SourceFault.{SourceFault}
 use Rattle.cap_words.specs.declared.sources.SourceFault.TheVariants.{Truncated, Device, Spent}
 use Rattle.cap_words.specs.declared.sources.WordSource as source
-use Rattle.cap_run.specs.Transcoding.{Gives, GivesNone, StopsMidway}
+use Rattle.cap_run.specs.Transcoding.{ReadsWords, GivesNone, StopsMidway}
 use Rattle.cap_run.specs.Handed.{HandsOver}
 use Rattle.cap_run.specs.PuttingEnds.{Transcodes}
 use Rattle.cap_run.proofs.Transcoding.{fills_both, fills_none, gives_both, gives_none}
@@ -22,7 +22,7 @@ module _ {S : Type 0} (gs : source.Ghosts S) where
   pub gives_ready : (old new : S) (n : ℕ) (room : List ℕ) → n ≤ length room → take n room ≡ plain_text (plain_words (take n room))
       → TakesAll (gs.words old) (gs.words new) (gs.is_cut old) (gs.is_cut new) (gs.place old) (gs.place new)
       (gs.places old) (gs.places new) (plain_words (take n room))
-      → (n ≡ 0) ⊎ (gs.spent old ≡ false) → gs.spent new ≡ gs.spent old → gs.failures new ≡ gs.failures old → Gives gs old new (plain_words (take n room))
+      → (n ≡ 0) ⊎ (gs.spent old ≡ false) → gs.spent new ≡ gs.spent old → gs.failures new ≡ gs.failures old → ReadsWords gs old new (plain_words (take n room))
   gives_ready old new n room fits text t u s f = record {
     takes = record { words = t.consumed; goes_on = t.goes_on };
     usable = usable u;

@@ -5,7 +5,7 @@ use Rattle.cap_spec.specs.Plain.{plain_words}
 use Rattle.cap_words.specs.Sinks.{WasPut}
 use Rattle.cap_words.specs.declared.sinks.WordSink as sink
 use Rattle.cap_spec.proofs.Bytes.Plain.{words_exact}
-use Rattle.cap_run.specs.Transcoding.{Fills}
+use Rattle.cap_run.specs.Transcoding.{PutsWords}
 use Rattle.std.proofs.Common.{◌+◌, false, sym}
 
 -- the table of one segment is one word
@@ -18,5 +18,5 @@ frame_of_bytes bytes x e =
 module _ {K : Type 0} (gk : sink.Ghosts K) where
   -- words were put, and no fault came
   pub fills_of : (old new : K) (own : List ℕ) → WasPut gk.text old new own
-      → (gk.closed old ≡ false) × (gk.closed new ≡ false) × (gk.spent new ≡ gk.spent old) × (gk.failures new ≡ gk.failures old) → Fills gk old new own
+      → (gk.closed old ≡ false) × (gk.closed new ≡ false) × (gk.spent new ≡ gk.spent old) × (gk.failures new ≡ gk.failures old) → PutsWords gk old new own
   fills_of old new own p o = record { put = p; closed = o.1 ∙ sym o.0; spent = o.2; failures = o.3 }

@@ -23,7 +23,7 @@ use Rattle.cap_spec.specs.declared.CanonFault.{CanonFault}
 use Rattle.cap_spec.specs.declared.CanonFault.TheVariants.{HasCapability, Memory}
 use Rattle.cap_canon.proofs.Copies.{cap_no_copy}
 use Rattle.cap_run.specs.Canons.{CanonEnds, Canonised, HasNoCopy, IsCanonised, canonised, copies_of}
-use Rattle.cap_run.specs.Transcoding.{Fills}
+use Rattle.cap_run.specs.Transcoding.{PutsWords}
 use Rattle.cap_run.specs.Making.{CopiesSoFar, CopyStops, Made, Making, NextStops, StopsMaking}
 use Rattle.cap_run.specs.Making.{is_unfinished, refused_cause}
 use Rattle.cap_run.specs.Running.{EndStops}
@@ -49,7 +49,7 @@ has_no_copy m old new fault (grown words h l e t n) = absurd (cc)
 
 module _ {K : Type 0} (gk : sink.Ghosts K) where
   -- a fault came behind other words
-  pub halts_behind : (old mid new : K) (a b : List ℕ) (fault : SinkFault) → Fills gk old mid a → Halts gk mid new b fault → Halts gk old new (a ++ b) fault
+  pub halts_behind : (old mid new : K) (a b : List ℕ) (fault : SinkFault) → PutsWords gk old mid a → Halts gk mid new b fault → Halts gk old new (a ++ b) fault
   halts_behind old mid new a b fault f h = record {
     stopped = λ ws.
         subst (λ (xs : List ℕ). Begins (gk.text old xs) (gk.taken new)) (sym (append_assoc a b ws))
@@ -94,7 +94,7 @@ module _ {S K : Type 0} (gs : source.Ghosts S) (gk : sink.Ghosts K) (demands : D
   pub so_far_more : (old mid new : S) (before between after : K) (n : ℕ) (c : Canonised)
       → CopiesSoFar gs gk demands words depth limit old mid before between n
       → ReadsStream gs limit mid new (c.message ∷ []) → IsCanonised demands words depth c
-      → Fills gk between after (frame_text (c.copy ∷ []))
+      → PutsWords gk between after (frame_text (c.copy ∷ []))
       → CopiesSoFar gs gk demands words depth limit old new before after (n + 1)
   so_far_more old mid new before between after n c w reads is fills = record {
     cs = w.cs ++ c ∷ [];
@@ -140,7 +140,7 @@ module _ {S K : Type 0} (gs : source.Ghosts S) (gk : sink.Ghosts K) (demands : D
   }
 
   stops_end : (most : ℕ) (mid new : S) (before after : K) (cs : List Canonised) (end : Result (Unit {0}) Cause) → length cs ≡ most
-      → Fills gk before after (copies_of cs) → OnOk end (EndsStream gs mid new) → IfErr end (λ cause. EndStops gs limit mid new cause)
+      → PutsWords gk before after (copies_of cs) → OnOk end (EndsStream gs mid new) → IfErr end (λ cause. EndStops gs limit mid new cause)
       → StopsMaking gs gk demands words depth limit most cs mid new before after end
   stops_end most mid new before after cs (Ok ended) many f ok err = (ok, f)
   stops_end most mid new before after cs (Err TooManyMessages) many f ok err = ((many, err.0, err.1), f)
@@ -169,7 +169,7 @@ module _ {S K : Type 0} (gs : source.Ghosts S) (gk : sink.Ghosts K) (demands : D
   -- what is known before the sink is finished
   ends_before : (most : ℕ) (cs : List Canonised) (mid new : S) (before after : K) (end : Result (Unit {0}) Cause) → is_unfinished end ≡ true
       → StopsMaking gs gk demands words depth limit most cs mid new before after end
-      → CanonEnds gs gk demands words depth limit most cs mid new end × Fills gk before after (copies_of cs)
+      → CanonEnds gs gk demands words depth limit most cs mid new end × PutsWords gk before after (copies_of cs)
   ends_before most cs mid new before after (Ok ended) e s = s
   ends_before most cs mid new before after (Err TooManyMessages) e s = s
   ends_before most cs mid new before after (Err (Frame fault)) e s = s

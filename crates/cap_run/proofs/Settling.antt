@@ -15,7 +15,7 @@ use Rattle.cap_frame.specs.ReadingFaults.{Answered, Faults}
 use Rattle.cap_frame.specs.declared.fault.FrameFault.{FrameFault}
 use Rattle.cap_frame.specs.declared.fault.FrameFault.TheVariants.{TooManySegments, TooLarge, Truncated, Device, Memory, Spent}
 use Rattle.cap_frame.proofs.Converse.{known_still, same_some, settled as settled_by, tells_fault}
-use Rattle.cap_run.specs.Engines.{EndsEarly, ReachesEnd}
+use Rattle.cap_run.specs.Engines.{StopsEarly, ReachesEnd}
 use Rattle.cap_run.specs.Running.{Appended, RunStops, Settled, SettledAt}
 use Rattle.cap_run.specs.Streams.{ReadsStream}
 use Rattle.cap_run.specs.Telling.{Tells, TellsEach, Told, messages_of, outcome_of, texts_of}
@@ -125,7 +125,7 @@ module _ {S O : Type 0} (gs : source.Ghosts S) (go : output.Ghosts O) (tells_of 
   -- a stream of messages within the limits is read to its end
   pub settled : (wants : List (List ℕ) → Type 0) (r : Result Outcome RunFault) (own : List ℕ)
       (ms : List (List (List ℕ))) → ReachesEnd gs go tells_of limit most old new before after r
-      → EndsEarly gs go tells_of limit most old new before after wants r → gs.words old ≡ Some own
+      → StopsEarly gs go tells_of limit most old new before after wants r → gs.words old ≡ Some own
       → gs.is_cut old ≡ false → Stream own ms
       → AllByRecursion (λ m. sum (sizes_of m) ≤ limit) ms → length ms ≤ most → Settled r (ToldEach ms r)
   settled wants (Ok outcome) own ms end fault w c s l few =

@@ -26,10 +26,10 @@ use Rattle.cap_text.specs.declared.fault.Cause.TheVariants.{Memory as no_marks}
 use Rattle.cap_text.specs.declared.fault.RunFault.{RunFault}
 use Rattle.cap_run.specs.Demanding.{IsStrictUnder, OrFaultIn, TellsMarked, WantsIn}
 use Rattle.cap_run.specs.Filtering.{AllAccepted, Covers, FiltersAll, FiltersUntil, LastAccepted, LastRefused, Logged, Noted, Notes}
-use Rattle.cap_run.specs.Filtering.{Passes, PassesLast, ReadsUntil}
+use Rattle.cap_run.specs.Filtering.{PassesOn, PassesLast, ReadsUntil}
 use Rattle.cap_run.specs.Filtering.{TellsIn, TellsMet, WantsInForm, WantsMet, frame_in}
 use Rattle.cap_run.specs.Running.{Appended, EndStops, RunStops, Settled, StopsIn}
-use Rattle.cap_run.specs.Sifting.{Judges, LogsMore, SiftStops, Sifts, SiftsNext, objection_text}
+use Rattle.cap_run.specs.Sifting.{FindsObjection, LogsMore, SiftStops, Sifts, SiftsNext, objection_text}
 use Rattle.cap_run.specs.Streams.{EndsStream, ReadsStream}
 use Rattle.cap_run.specs.Telling.{Tells, TellsEach, Told, messages_of, one_noncanonical, one_refused, outcome_of, texts_of}
 use Rattle.cap_run.specs.Vetting.{WantsMarks}
@@ -76,7 +76,7 @@ module _ {O : Type 0} (g : output.Ghosts O) where
 -- one thing is found of a message where others are
 pub judges_as : (tells others : Tells) (wants needs : List (List ℕ) → Type 0) (m : List (List ℕ)) (r : Result (Option Objection) Cause)
     → ((n : ℕ) (text : List ℕ) (counted : Counted) → tells n m text counted → others n m text counted) → (wants m → needs m)
-    → Judges tells wants m r → Judges others needs m r
+    → FindsObjection tells wants m r → FindsObjection others needs m r
 judges_as tells others wants needs m (Ok None) h k j = λ n. let said = j n in (said.0, h n said.0 Accepted said.1)
 judges_as tells others wants needs m (Ok (Some objection)) h k j = λ n. h n (objection_text n objection) was_refused (j n)
 judges_as tells others wants needs m (Err cause) h k j = (j.0, k j.1)
@@ -85,20 +85,20 @@ module _ (form : FilterForm) (demands : Demands) (limits : Limits) (m : List (Li
   -- one that meets them is accepted
   pub judges_met : (report : Report) → form.exclusive ≡ false → IsStrictUnder demands m (words_of limits) (depth_of limits)
       → IsAccepted m (words_under demands m (words_of limits)) (depth_of limits) report
-      → Judges (TellsIn form demands limits) (WantsInForm form demands limits) m (Ok None)
+      → FindsObjection (TellsIn form demands limits) (WantsInForm form demands limits) m (Ok None)
   judges_met report e strict accepted =
-      subst (λ (x : Bool). Judges (OrFaultIn demands (TellsMet x) limits) (WantsIn demands (WantsMet x) limits) m (Ok None)) (sym e)
+      subst (λ (x : Bool). FindsObjection (OrFaultIn demands (TellsMet x) limits) (WantsIn demands (WantsMet x) limits) m (Ok None)) (sym e)
       (λ n. (accepted_text n report, inl (strict, record { report = report; is_accepted = accepted; line = refl; counts = refl })))
 
   -- or it is vetted exclusively
   pub judges_marked : (r : Result (Option Objection) Cause) → form.exclusive ≡ true → IsStrictUnder demands m (words_of limits) (depth_of limits)
       → (let words = words_under demands m (words_of limits) in let depth = depth_of limits in
-      Judges (TellsMarked words depth) (WantsMarks words depth) m r)
-      → Judges (TellsIn form demands limits) (WantsInForm form demands limits) m r
+      FindsObjection (TellsMarked words depth) (WantsMarks words depth) m r)
+      → FindsObjection (TellsIn form demands limits) (WantsInForm form demands limits) m r
   judges_marked r e strict j =
       let words = words_under demands m (words_of limits) in
       let depth = depth_of limits in
-      subst (λ (x : Bool). Judges (OrFaultIn demands (TellsMet x) limits) (WantsIn demands (WantsMet x) limits) m r) (sym e)
+      subst (λ (x : Bool). FindsObjection (OrFaultIn demands (TellsMet x) limits) (WantsIn demands (WantsMet x) limits) m r) (sym e)
       (judges_as (TellsMarked words depth) (OrFaultIn demands TellsMarked limits) (WantsMarks words depth) (WantsIn demands WantsMarks limits) m r
       (λ n text counted t. inl (strict, t)) (λ w. (strict, w)) j)
 
@@ -157,7 +157,7 @@ module _ {S O E : Type 0} (gs : source.Ghosts S) (go : output.Ghosts O) (ge : ou
 
 -- what isn't refused is accepted
 pub passed_accepted : (pack : Bool) (verdict : Tells) (n : ℕ) (m : List (List ℕ)) (text : List ℕ) (counted : Counted)
-    → Passes pack verdict n m text counted → counted ≢ was_refused → counted ≡ Accepted
+    → PassesOn pack verdict n m text counted → counted ≢ was_refused → counted ≡ Accepted
 passed_accepted pack verdict n m text Accepted p h = refl
 passed_accepted pack verdict n m text was_refused p h = absurd (h refl)
 passed_accepted pack verdict n m text NotCanonical p h = absurd p.2
@@ -172,7 +172,7 @@ module _ {S O E : Type 0} (gs : source.Ghosts S) (go : output.Ghosts O) (ge : ou
     pub long : length us ≡ number
     pub counts : outcome ≡ outcome_of ts
     pub reads : ReadsStream gs limit old new (messages_of ts)
-    pub each : TellsEach (Passes form.pack verdict) 0 ts
+    pub each : TellsEach (PassesOn form.pack verdict) 0 ts
     pub appended : Appended go before after (texts_of ts)
     pub same : messages_of us ≡ messages_of ts
     pub notes : TellsEach (Notes verdict) 0 us
@@ -200,8 +200,8 @@ module _ {S O E : Type 0} (gs : source.Ghosts S) (go : output.Ghosts O) (ge : ou
         long = length-append w.us (u ∷ []) ∙ ap (λ (k : ℕ). k + 1) w.long;
         counts = counts ∙ outcome_of-snoc w.ts t outcome w.counts;
         reads = rw (messages_of-snoc w.ts t) (reads_both gs limit old mid new (messages_of w.ts) (m ∷ []) w.reads reads);
-        each = each-snoc (Passes form.pack verdict) 0 w.ts t w.each
-            (subst (λ (k : ℕ). Passes form.pack verdict k m text counted) (sym w.many ∙ omega arith) p);
+        each = each-snoc (PassesOn form.pack verdict) 0 w.ts t w.each
+            (subst (λ (k : ℕ). PassesOn form.pack verdict k m text counted) (sym w.many ∙ omega arith) p);
         appended = rw (texts_of-snoc w.ts t) (appended_both go before between after (texts_of w.ts) text w.appended wrote);
         same = messages_of-snoc w.us u ∙ (ap (λ (ms : List (List (List ℕ))). ms ++ m ∷ []) w.same ∙ sym (messages_of-snoc w.ts t));
         notes = each-snoc (Notes verdict) 0 w.us u w.notes (subst (λ (k : ℕ). Notes verdict k m line counted) (sym w.long ∙ omega arith) n);
@@ -328,7 +328,7 @@ module _ {S O E : Type 0} (gs : source.Ghosts S) (go : output.Ghosts O) (ge : ou
           (
             record { message = m; text = text; counted = counted },
             omega (arith, s.sifting.many),
-            (late counted l, subst (λ (k : ℕ). Passes form.pack verdict k m text counted) (sym s.sifting.many) p),
+            (late counted l, subst (λ (k : ℕ). PassesOn form.pack verdict k m text counted) (sym s.sifting.many) p),
             reads,
             stops_in go before between after fault (texts_of s.sifting.ts) text s.sifting.appended z,
           ),
@@ -382,7 +382,7 @@ module _ {S O E : Type 0} (gs : source.Ghosts S) (go : output.Ghosts O) (ge : ou
       (ms : List (List (List ℕ))) → FiltersAll gs go ge form verdict wants limit most old new before after first last r
       → FiltersUntil gs go ge form verdict wants limit most old new before after first last r → gs.words old ≡ Some own
       → gs.is_cut old ≡ false → Stream own ms → AllByRecursion (λ m. sum (sizes_of m) ≤ limit) ms → length ms ≤ most
-      → Settled r ((ts : List Told) × Covers form.stop ts ms × TellsEach (Passes form.pack verdict) 0 ts
+      → Settled r ((ts : List Told) × Covers form.stop ts ms × TellsEach (PassesOn form.pack verdict) 0 ts
       × Appended go before after (texts_of ts) × (r ≡ Ok (outcome_of ts)) × Noted ge verdict (messages_of ts) first last)
   filter_settled most old new before after first last (Ok outcome) own ms end fault w c s l few = (
     end.0,

@@ -8,7 +8,7 @@ use Rattle.cap_words.specs.declared.sources.WordSource as source
 use Rattle.cap_words.specs.Ends.{Works}
 use Rattle.cap_frame.specs.Reading.{TakesFrame}
 use Rattle.cap_frame.proofs.Taking.{takes_none, takes_both}
-use Rattle.cap_run.specs.Streams.{ReadsStream, EndsStream, ReadsAll}
+use Rattle.cap_run.specs.Streams.{ReadsStream, EndsStream, ReadsToEnd}
 
 some_is : (xs ys : List ℕ) → ◌≡◌ {A = Option (List ℕ)} (Some xs) (Some ys) → xs ≡ ys
 some_is xs ys e = cc
@@ -59,7 +59,7 @@ module _ {S : Type 0} (g : source.Ghosts S) where
 
   -- the stream ended behind these messages
   pub reads_all : (limit : ℕ) (old mid new : S) (ms : List (List (List ℕ))) → ReadsStream g limit old mid ms
-      → EndsStream g mid new → ReadsAll g limit old new ms
+      → EndsStream g mid new → ReadsToEnd g limit old new ms
   reads_all limit old mid new ms r e = record {
     own = r.own;
     all = all_taken (g.words old) (g.words mid) r.own (g.is_cut old) (g.is_cut mid) _ _ r.takes.words r.takes.goes_on e.none;

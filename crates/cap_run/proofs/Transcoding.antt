@@ -15,7 +15,7 @@ use Rattle.cap_frame.proofs.Taking.{takes_none, takes_one, takes_both}
 use Rattle.cap_frame.specs.Putting.{Blames, Halts}
 use Rattle.cap_frame.proofs.Putting.{blames_later}
 use Rattle.cap_words.proofs.Told.{begins_kept}
-use Rattle.cap_run.specs.Transcoding.{Transcoded, Fills, Finishes, Gives, Spoils, StopsFinishing, StopsMidway}
+use Rattle.cap_run.specs.Transcoding.{Transcoded, PutsWords, Finishes, ReadsWords, Spoils, StopsFinishing, StopsMidway}
 use Rattle.cap_run.specs.PuttingEnds.{Transcodes, StopsAt, StopsPutting, is_open}
 use Rattle.cap_text.specs.declared.fault.CopyFault.{CopyFault}
 use Rattle.cap_text.specs.declared.fault.CopyFault.TheVariants.{TooManyWords, Source, Output}
@@ -23,13 +23,13 @@ use Rattle.cap_run.proofs.Streams.{all_taken}
 
 module _ {S : Type 0} (gs : source.Ghosts S) where
   -- no words
-  pub gives_none : (s : S) → Gives gs s s []
+  pub gives_none : (s : S) → ReadsWords gs s s []
   gives_none s = record { takes = takes_none gs s; usable = inl refl; spent = refl; failures = refl }
 
   -- the next word
   pub gives_one : (old new : S) (word : ℕ) → Consumes (gs.words old) (gs.words new) (word ∷ [])
       → OnSome (gs.words old) ((gs.is_cut new ≡ gs.is_cut old) × (gs.places old ≡ gs.place new ∷ gs.places new))
-      → Works (gs.spent old) (gs.spent new) (gs.failures old) (gs.failures new) → Gives gs old new (word ∷ [])
+      → Works (gs.spent old) (gs.spent new) (gs.failures old) (gs.failures new) → ReadsWords gs old new (word ∷ [])
   gives_one old new word c f w = record {
     takes = takes_one gs old new word c f;
     usable = inr w.usable;
@@ -39,7 +39,7 @@ module _ {S : Type 0} (gs : source.Ghosts S) where
   }
 
   -- some words, and then others
-  pub gives_both : (old mid new : S) (a b : List ℕ) → Gives gs old mid a → Gives gs mid new b → Gives gs old new (a ++ b)
+  pub gives_both : (old mid new : S) (a b : List ℕ) → ReadsWords gs old mid a → ReadsWords gs mid new b → ReadsWords gs old new (a ++ b)
   gives_both old mid new a b p q = record {
     takes = takes_both gs old mid new a b p.takes q.takes;
     usable = usable p.usable q.usable;
@@ -54,11 +54,11 @@ module _ {S : Type 0} (gs : source.Ghosts S) where
 
 module _ {K : Type 0} (gk : sink.Ghosts K) where
   -- no words
-  pub fills_none : (k : K) → Fills gk k k []
+  pub fills_none : (k : K) → PutsWords gk k k []
   fills_none k = record { put = λ ws. Keeps-refl (gk.text k ws); closed = refl; spent = refl; failures = refl }
 
   -- some words, and then others
-  pub fills_both : (old mid new : K) (a b : List ℕ) → Fills gk old mid a → Fills gk mid new b → Fills gk old new (a ++ b)
+  pub fills_both : (old mid new : K) (a b : List ℕ) → PutsWords gk old mid a → PutsWords gk mid new b → PutsWords gk old new (a ++ b)
   fills_both old mid new a b p q = record {
     put = λ ws. subst (λ (xs : List ℕ). Keeps (gk.text old xs) (gk.text new ws)) (sym (append_assoc a b ws))
         (Keeps-trans (gk.text old (a ++ (b ++ ws))) (gk.text mid (b ++ ws)) (gk.text new ws) (p.put (b ++ ws))
@@ -69,7 +69,7 @@ module _ {K : Type 0} (gk : sink.Ghosts K) where
   }
 
   -- a fault at the next word, behind others
-  pub stopped_behind : (old mid new : K) (own : List ℕ) (word : ℕ) (fault : SinkFault) → Fills gk old mid own → Halts gk mid new (word ∷ []) fault
+  pub stopped_behind : (old mid new : K) (own : List ℕ) (word : ℕ) (fault : SinkFault) → PutsWords gk old mid own → Halts gk mid new (word ∷ []) fault
       → StoppedPutting gk.text gk.taken old new (own ++ word ∷ [])
   stopped_behind old mid new own word fault f h = λ ws.
       subst (λ (xs : List ℕ). Begins (gk.text old xs) (gk.taken new)) (sym (append_assoc own (word ∷ []) ws))
@@ -77,7 +77,7 @@ module _ {K : Type 0} (gk : sink.Ghosts K) where
 
 module _ {K : Type 0} (gk : sink.Ghosts K) where
   -- the sink was finished behind these words
-  pub finishes_behind : (old mid new : K) (own : List ℕ) → Fills gk old mid own → Keeps (gk.text mid []) (gk.taken new)
+  pub finishes_behind : (old mid new : K) (own : List ℕ) → PutsWords gk old mid own → Keeps (gk.text mid []) (gk.taken new)
       → (gk.closed mid ≡ false) × (gk.closed new ≡ true) × (gk.failures new ≡ gk.failures mid) → Finishes gk old new own
   finishes_behind old mid new own f k o = record {
     finished = subst (λ (xs : List ℕ). Keeps (gk.text old xs) (gk.taken new)) (append-nil own)
@@ -98,7 +98,8 @@ module _ {K : Type 0} (gk : sink.Ghosts K) where
   blames_of old new r Spent e d m s = (s e).0
 
   -- the output failed behind these words, as the sink was finished
-  pub spoils_last : (old mid new : K) (own : List ℕ) (out : OutFault) → Fills gk old mid own → (gk.closed new ≡ true) × Begins (gk.text mid []) (gk.taken new)
+  pub spoils_last : (old mid new : K) (own : List ℕ) (out : OutFault) → PutsWords gk old mid own
+      → (gk.closed new ≡ true) × Begins (gk.text mid []) (gk.taken new)
       → Blames gk mid new (sink_fault_of out) → Spoils gk old new own out
   spoils_last old mid new own out f e b = record {
     blames = blames_later gk old mid new (sink_fault_of out) f.spent f.failures b;
@@ -109,8 +110,8 @@ module _ {K : Type 0} (gk : sink.Ghosts K) where
 
 module _ {S K : Type 0} (gs : source.Ghosts S) (gk : sink.Ghosts K) where
   -- one more word was read and put
-  pub copies_more : (old now new : S) (before between after : K) (n word : ℕ) → Transcodes gs gk old now before between n → Gives gs now new (word ∷ [])
-      → Fills gk between after (word ∷ []) → Transcodes gs gk old new before after (n + 1)
+  pub copies_more : (old now new : S) (before between after : K) (n word : ℕ) → Transcodes gs gk old now before between n → ReadsWords gs now new (word ∷ [])
+      → PutsWords gk between after (word ∷ []) → Transcodes gs gk old new before after (n + 1)
   copies_more old now new before between after n word c g f = record {
     own = c.own ++ word ∷ [];
     many = length-append c.own (word ∷ []) ∙ ap (λ k. k + 1) c.many;
@@ -121,7 +122,7 @@ module _ {S K : Type 0} (gs : source.Ghosts S) (gk : sink.Ghosts K) where
   -- one more word was read, and couldn't be put
   pub copies_stops : (most : ℕ) (old now new : S) (before between after : K) (n word : ℕ) (out : OutFault) → n < most
       → Transcodes gs gk old now before between n
-      → Gives gs now new (word ∷ []) → Halts gk between after (word ∷ []) (sink_fault_of out) → StopsAt gs gk most old new before after out
+      → ReadsWords gs now new (word ∷ []) → Halts gk between after (word ∷ []) (sink_fault_of out) → StopsAt gs gk most old new before after out
   copies_stops most old now new before between after n word out less c g h = record {
     done = c.own;
     word = word;

@@ -22,7 +22,7 @@ use Rattle.cap_spec.specs.declared.CanonFault.TheVariants.{HasCapability, Memory
 use Rattle.cap_run.specs.Transcoding.{Finishes, Spoils}
 use Rattle.cap_run.specs.Demanding.{IsNotStrict, IsStrictUnder, no_demands}
 use Rattle.cap_run.specs.Running.{Settled}
-use Rattle.cap_run.specs.Streams.{EndsStream, ReadsAll, ReadsStream}
+use Rattle.cap_run.specs.Streams.{EndsStream, ReadsToEnd, ReadsStream}
 use Rattle.cap_text.specs.declared.fault.Cause.{Cause}
 use Rattle.cap_text.specs.declared.fault.Cause.TheVariants.{TooManyMessages, Frame, Output, Refused}
 use Rattle.cap_text.specs.declared.fault.Cause.TheVariants.{Canon, NotStrict, Memory as no_marks}
@@ -119,7 +119,7 @@ module _ {S K : Type 0} (gs : source.Ghosts S) (gk : sink.Ghosts K) where
       (before after : K) (answer : Result Outcome RunFault) : Type 0 where
     -- All words of the source are frames of these messages, and exactly their copies were put.
     pub ok : IfOk answer (λ outcome. (cs : List Canonised)
-        × ReadsAll gs limit old new (canonised cs) × AreCanonised demands words depth cs
+        × ReadsToEnd gs limit old new (canonised cs) × AreCanonised demands words depth cs
         × Finishes gk before after (copies_of cs) × (length cs ≤ most)
         × (outcome ≡ record { messages = length cs; refused = 0; noncanonical = 0 }))
     -- The source was `mid` after the messages before the error had been read.

@@ -12,7 +12,7 @@ use Rattle.cap_words.specs.declared.sources.WordSource as source
 use Rattle.cap_frame.specs.declared.fault.FrameFault.TheVariants.{Memory}
 use Rattle.cap_run.specs.Transcoding.{Transcoded, TranscodeSettled, Finishes}
 use Rattle.cap_run.specs.Running.{Appended, RunStops, Settled}
-use Rattle.cap_run.specs.Streams.{ReadsAll, ReadsStream}
+use Rattle.cap_run.specs.Streams.{ReadsToEnd, ReadsStream}
 use Rattle.cap_run.specs.Telling.{Tells, TellsEach, TellsSegments, Told, WantsNone, messages_of}
 use Rattle.cap_run.specs.Telling.{outcome_of, texts_of}
 use Rattle.cap_text.specs.declared.fault.Cause.TheVariants.{Frame}
@@ -42,13 +42,13 @@ module _ {S O : Type 0} (gs : source.Ghosts S) (go : output.Ghosts O) (tells : T
   -- All words of the source are frames of these messages, and the text of each was written.
   abbrev pub ReachesEnd : Result Outcome RunFault → Type 0
   ReachesEnd answer = IfOk answer (λ outcome. (ts : List Told)
-      × ReadsAll gs limit old new (messages_of ts) × TellsEach tells 0 ts
+      × ReadsToEnd gs limit old new (messages_of ts) × TellsEach tells 0 ts
       × Appended go before after (texts_of ts)
       × (length ts ≤ most) × (outcome ≡ outcome_of ts))
 
   -- The source was `mid` after the messages before the error had been read.
-  abbrev pub EndsEarly : (List (List ℕ) → Type 0) → Result Outcome RunFault → Type 0
-  EndsEarly wants answer = IfErr answer (λ fault. (ts : List Told) × (mid : S)
+  abbrev pub StopsEarly : (List (List ℕ) → Type 0) → Result Outcome RunFault → Type 0
+  StopsEarly wants answer = IfErr answer (λ fault. (ts : List Told) × (mid : S)
       × (fault.message ≡ length ts) × (length ts ≤ most)
       × ReadsStream gs limit old mid (messages_of ts) × TellsEach tells 0 ts
       × RunStops gs go tells wants limit most ts mid new before after fault.cause)
@@ -59,7 +59,7 @@ module _ {S O : Type 0} (gs : source.Ghosts S) (go : output.Ghosts O) where
   pub record TellsStream (tells : Tells) (wants : List (List ℕ) → Type 0) (limit most : ℕ)
       (old new : S) (before after : O) (answer : Result Outcome RunFault) : Type 0 where
     pub ok : ReachesEnd gs go tells limit most old new before after answer
-    pub err : EndsEarly gs go tells limit most old new before after wants answer
+    pub err : StopsEarly gs go tells limit most old new before after wants answer
     -- And the other way round: a stream of at most `most` messages, each within the limit, is read
     -- to its end.
     pub whole : (own : List ℕ) (ms : List (List (List ℕ))) → gs.words old ≡ Some own

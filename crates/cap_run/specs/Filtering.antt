@@ -14,7 +14,7 @@ use Rattle.cap_words.specs.declared.ends.OutFault.{OutFault}
 use Rattle.cap_words.specs.declared.sources.WordSource as source
 use Rattle.cap_run.specs.Demanding.{OrFaultIn, TellsMarked, WantsIn}
 use Rattle.cap_run.specs.Running.{Appended, RunStops, Settled, StopsIn}
-use Rattle.cap_run.specs.Streams.{ReadsAll, ReadsStream}
+use Rattle.cap_run.specs.Streams.{ReadsToEnd, ReadsStream}
 use Rattle.cap_run.specs.Telling.{Tells, TellsEach, Told, WantsNone, messages_of, outcome_of}
 use Rattle.cap_run.specs.Telling.{texts_of}
 use Rattle.cap_run.specs.Vetting.{TellsAccepted, WantsMarks}
@@ -50,10 +50,10 @@ frame_in false m = plain_text (frame_text m)
 frame_in true m = packed_frame m
 
 -- of a message that is accepted, its frame goes on; of another nothing
-abbrev pub GoesOn : Bool → List (List ℕ) → List ℕ → Counted → Type 0
-GoesOn pack m text Accepted = text ≡ frame_in pack m
-GoesOn pack m text Refused = text ≡ []
-GoesOn pack m text NotCanonical = ⊥
+abbrev pub IsPassedOn : Bool → List (List ℕ) → List ℕ → Counted → Type 0
+IsPassedOn pack m text Accepted = text ≡ frame_in pack m
+IsPassedOn pack m text Refused = text ≡ []
+IsPassedOn pack m text NotCanonical = ⊥
 
 -- the log gets the line of a message that is refused, and nothing of another
 abbrev pub IsNote : List ℕ → List ℕ → Counted → Type 0
@@ -62,9 +62,9 @@ IsNote line text Refused = text ≡ line
 IsNote line text NotCanonical = ⊥
 
 -- what goes on of message n, by the verdict that has this line
-abbrev pub Passes : Bool → Tells → Tells
-Passes pack verdict n m text counted = (line : List ℕ) × verdict n m line counted
-    × GoesOn pack m text counted
+abbrev pub PassesOn : Bool → Tells → Tells
+PassesOn pack verdict n m text counted = (line : List ℕ) × verdict n m line counted
+    × IsPassedOn pack m text counted
 
 -- what is written about message n to the log
 abbrev pub Notes : Tells → Tells
@@ -101,14 +101,14 @@ pub record LastAccepted (ts : List Told) : Type 0 where
 -- refused and the one before it was accepted.
 abbrev pub PassesLast : Bool → Tells → List Told → Tells
 PassesLast pack verdict ts n m text counted = ((counted ≡ Accepted) ⊎ LastAccepted ts)
-    × Passes pack verdict n m text counted
+    × PassesOn pack verdict n m text counted
 
 module _ {S : Type 0} (gs : source.Ghosts S) where
   -- All words of the source are frames of these messages, and if it stops at a refused one, all
   -- were accepted. Or it stops there: nothing was read after the first that was refused.
   abbrev pub ReadsUntil : Bool → ℕ → S → S → List Told → Type 0
   ReadsUntil stop limit old new ts =
-      (ReadsAll gs limit old new (messages_of ts) × (IsTrue stop → AllAccepted ts))
+      (ReadsToEnd gs limit old new (messages_of ts) × (IsTrue stop → AllAccepted ts))
       ⊎ (IsTrue stop × LastRefused ts × ReadsStream gs limit old new (messages_of ts))
 
 module _ {E : Type 0} (ge : output.Ghosts E) where
@@ -131,7 +131,7 @@ module _ {S O E : Type 0} (gs : source.Ghosts S) (go : output.Ghosts O) (ge : ou
   -- These messages were read, and of each went on what passes.
   abbrev pub FiltersAll : Result Outcome RunFault → Type 0
   FiltersAll answer = IfOk answer (λ outcome. (ts : List Told)
-      × ReadsUntil gs form.stop limit old new ts × TellsEach (Passes form.pack verdict) 0 ts
+      × ReadsUntil gs form.stop limit old new ts × TellsEach (PassesOn form.pack verdict) 0 ts
       × Appended go before after (texts_of ts) × (length ts ≤ most) × (outcome ≡ outcome_of ts)
       × Noted ge verdict (messages_of ts) first last)
 
@@ -140,7 +140,7 @@ module _ {S O E : Type 0} (gs : source.Ghosts S) (go : output.Ghosts O) (ge : ou
   abbrev pub FiltersUntil : Result Outcome RunFault → Type 0
   FiltersUntil answer = IfErr answer (λ fault. (ts : List Told) × (mid : S)
       × (fault.message ≡ length ts) × (length ts ≤ most)
-      × ReadsStream gs limit old mid (messages_of ts) × TellsEach (Passes form.pack verdict) 0 ts
+      × ReadsStream gs limit old mid (messages_of ts) × TellsEach (PassesOn form.pack verdict) 0 ts
       × (IsTrue form.stop → AllAccepted ts)
       × RunStops gs go (PassesLast form.pack verdict ts) wants limit most ts mid new before
       after fault.cause × Noted ge verdict (messages_of ts) first last)
@@ -157,7 +157,7 @@ module _ {S O E : Type 0} (gs : source.Ghosts S) (go : output.Ghosts O) (ge : ou
         → gs.is_cut old ≡ false → Stream own ms
         → AllByRecursion (λ m. sum (sizes_of m) ≤ limit) ms → length ms ≤ most →
         Settled answer ((ts : List Told) × Covers form.stop ts ms
-        × TellsEach (Passes form.pack verdict) 0 ts × Appended go before after (texts_of ts)
+        × TellsEach (PassesOn form.pack verdict) 0 ts × Appended go before after (texts_of ts)
         × (answer ≡ Ok (outcome_of ts)) × Noted ge verdict (messages_of ts) first last)
 
 module _ {S O E : Type 0} (gs : source.Ghosts S) (go : output.Ghosts O) (ge : output.Ghosts E)

@@ -6,7 +6,7 @@ use Rattle.cap_words.specs.declared.ends.OutFault.{OutFault}
 use Rattle.cap_words.specs.declared.sources.WordSource as source
 use Rattle.cap_words.specs.declared.sinks.WordSink as sink
 use Rattle.cap_frame.specs.Putting.{Halts}
-use Rattle.cap_run.specs.Transcoding.{Gives}
+use Rattle.cap_run.specs.Transcoding.{ReadsWords}
 
 module _ {S K : Type 0} (gs : source.Ghosts S) (gk : sink.Ghosts K) where
   -- Some words were read, at most `most`, and the output failed as they were put.
@@ -14,5 +14,5 @@ module _ {S K : Type 0} (gs : source.Ghosts S) (gk : sink.Ghosts K) where
     pub piece : List ℕ
     pub some : 0 < length piece
     pub few : length piece ≤ most
-    pub gives : Gives gs old new piece
+    pub gives : ReadsWords gs old new piece
     pub halts : Halts gk before after piece (sink_fault_of fault)

@@ -16,7 +16,7 @@ use Rattle.cap_vet.specs.declared.demands.Demands.{Demands}
 use Rattle.cap_vet.specs.declared.report.Report.{Report}
 use Rattle.cap_run.specs.Canons.{AreCanonised, CanonEnds, CanonStops, Canonised, HasNoCopy}
 use Rattle.cap_run.specs.Canons.{IsCanonised, StopsInCopy, canonised, copies_of}
-use Rattle.cap_run.specs.Transcoding.{Fills, Finishes}
+use Rattle.cap_run.specs.Transcoding.{PutsWords, Finishes}
 use Rattle.cap_run.specs.Demanding.{IsNotStrict, IsStrictUnder}
 use Rattle.cap_run.specs.Streams.{ReadsStream}
 use Rattle.cap_text.specs.declared.fault.Cause.{Cause}
@@ -62,7 +62,7 @@ module _ {S K : Type 0} (gs : source.Ghosts S) (gk : sink.Ghosts K) (demands : D
   -- a next message was read, and its copy was put
   abbrev pub PutsNext : S → S → K → K → Type 0
   PutsNext old new before after = (c : Canonised) × ReadsStream gs limit old new (c.message ∷ [])
-      × IsCanonised demands words depth c × Fills gk before after (frame_text (c.copy ∷ []))
+      × IsCanonised demands words depth c × PutsWords gk before after (frame_text (c.copy ∷ []))
 
   -- why no copy of a next message was put
   abbrev pub NextStops : S → S → K → K → Cause → Type 0
@@ -88,30 +88,30 @@ module _ {S K : Type 0} (gs : source.Ghosts S) (gk : sink.Ghosts K) (demands : D
     pub many : length cs ≡ n
     pub reads : ReadsStream gs limit old new (canonised cs)
     pub each : AreCanonised demands words depth cs
-    pub fills : Fills gk before after (copies_of cs)
+    pub fills : PutsWords gk before after (copies_of cs)
 
   -- why no more copies were put after these, before the sink is finished
   abbrev pub StopsMaking : ℕ → List Canonised → S → S → K → K → Result (Unit {0}) Cause → Type 0
   StopsMaking most cs mid new before after (Ok ended) =
       CanonEnds gs gk demands words depth limit most cs mid new (Ok ended)
-      × Fills gk before after (copies_of cs)
+      × PutsWords gk before after (copies_of cs)
   StopsMaking most cs mid new before after (Err TooManyMessages) =
       CanonEnds gs gk demands words depth limit most cs mid new (Err TooManyMessages)
-      × Fills gk before after (copies_of cs)
+      × PutsWords gk before after (copies_of cs)
   StopsMaking most cs mid new before after (Err (Frame fault)) =
       CanonEnds gs gk demands words depth limit most cs mid new (Err (Frame fault))
-      × Fills gk before after (copies_of cs)
+      × PutsWords gk before after (copies_of cs)
   StopsMaking most cs mid new before after (Err (Output fault)) =
       StopsInCopy gs gk demands words depth limit most cs mid new before after fault
   StopsMaking most cs mid new before after (Err (Refused refusal)) =
       CanonEnds gs gk demands words depth limit most cs mid new (Err (Refused refusal))
-      × Fills gk before after (copies_of cs)
+      × PutsWords gk before after (copies_of cs)
   StopsMaking most cs mid new before after (Err (NotStrict fault)) =
       CanonEnds gs gk demands words depth limit most cs mid new (Err (NotStrict fault))
-      × Fills gk before after (copies_of cs)
+      × PutsWords gk before after (copies_of cs)
   StopsMaking most cs mid new before after (Err (Canon fault)) =
       CanonEnds gs gk demands words depth limit most cs mid new (Err (Canon fault))
-      × Fills gk before after (copies_of cs)
+      × PutsWords gk before after (copies_of cs)
   StopsMaking most cs mid new before after (Err no_marks) = ⊥
 
   -- n messages were read, and `end` is why no more copies were put.

@@ -6,7 +6,7 @@ use Rattle.cap_words.specs.declared.ends.OutFault.{OutFault}
 use Rattle.cap_words.specs.declared.sources.WordSource as source
 use Rattle.cap_words.specs.declared.sinks.WordSink as sink
 use Rattle.cap_frame.specs.Putting.{Halts}
-use Rattle.cap_run.specs.Transcoding.{Fills, Gives, GivesNone, StopsMidway}
+use Rattle.cap_run.specs.Transcoding.{PutsWords, ReadsWords, GivesNone, StopsMidway}
 use Rattle.cap_run.specs.Streams.{EndsStream}
 use Rattle.cap_text.specs.declared.fault.CopyFault.{CopyFault}
 use Rattle.cap_text.specs.declared.fault.CopyFault.TheVariants.{TooManyWords, Source, Output}
@@ -23,8 +23,8 @@ module _ {S K : Type 0} (gs : source.Ghosts S) (gk : sink.Ghosts K) where
   pub record Transcodes (old new : S) (before after : K) (n : ℕ) : Type 0 where
     pub own : List ℕ
     pub many : length own ≡ n
-    pub gives : Gives gs old new own
-    pub fills : Fills gk before after own
+    pub gives : ReadsWords gs old new own
+    pub fills : PutsWords gk before after own
 
   -- The output failed as the last of the words that were read was put.
   pub record StopsAt (most : ℕ) (old new : S) (before after : K) (fault : OutFault) : Type 0 where
@@ -32,8 +32,8 @@ module _ {S K : Type 0} (gs : source.Ghosts S) (gk : sink.Ghosts K) where
     pub word : ℕ
     pub between : K
     pub few : length done < most
-    pub gives : Gives gs old new (done ++ word ∷ [])
-    pub fills : Fills gk before between done
+    pub gives : ReadsWords gs old new (done ++ word ∷ [])
+    pub fills : PutsWords gk before between done
     pub halts : Halts gk between after (word ∷ []) (sink_fault_of fault)
 
   -- Why no more words were put: the source was `mid` after the words that were put. Unless the
@@ -42,7 +42,8 @@ module _ {S K : Type 0} (gs : source.Ghosts S) (gk : sink.Ghosts K) where
   StopsPutting at_once most old new before after (Ok n) =
       (mid : S) × (n ≤ most) × Transcodes old mid before after n × EndsStream gs mid new
   StopsPutting at_once most old new before after (Err TooManyWords) =
-      (mid : S) × (word : ℕ) × Transcodes old mid before after most × Gives gs mid new (word ∷ [])
+      (mid : S) × (word : ℕ) × Transcodes old mid before after most
+      × ReadsWords gs mid new (word ∷ [])
   StopsPutting at_once most old new before after (Err (Source fault)) =
       (mid : S) × (n : ℕ) × (n ≤ most) × Transcodes old mid before after n × GivesNone gs mid new fault
   StopsPutting at_once most old new before after (Err (Output fault)) =

@@ -7,7 +7,7 @@ use Rattle.cap_words.specs.declared.ends.ByteOut as output
 use Rattle.cap_words.specs.declared.sources.WordSource as source
 use Rattle.cap_frame.specs.Fronts.{IsFront}
 use Rattle.cap_frame.specs.ReadingFaults.{Faults}
-use Rattle.cap_run.specs.Filtering.{Logged, Notes, Passes}
+use Rattle.cap_run.specs.Filtering.{Logged, Notes, PassesOn}
 use Rattle.cap_run.specs.Running.{Appended}
 use Rattle.cap_run.specs.Streams.{ReadsStream}
 use Rattle.cap_run.specs.Telling.{Tells}
@@ -36,12 +36,12 @@ objection_text n objection = vet_text n (objection_verdict objection)
 
 -- what is found of a message: it is accepted, or refused with this line, whatever its number is; or
 -- an allocation failed that it needs
-abbrev pub Judges : Tells → (List (List ℕ) → Type 0) → List (List ℕ)
+abbrev pub FindsObjection : Tells → (List (List ℕ) → Type 0) → List (List ℕ)
     → Result (Option Objection) Cause → Type 0
-Judges verdict wants m (Ok None) = (n : ℕ) → (line : List ℕ) × verdict n m line Accepted
-Judges verdict wants m (Ok (Some objection)) = (n : ℕ)
+FindsObjection verdict wants m (Ok None) = (n : ℕ) → (line : List ℕ) × verdict n m line Accepted
+FindsObjection verdict wants m (Ok (Some objection)) = (n : ℕ)
     → verdict n m (objection_text n objection) was_refused
-Judges verdict wants m (Err cause) = (cause ≡ no_marks) × wants m
+FindsObjection verdict wants m (Err cause) = (cause ≡ no_marks) × wants m
 
 module _ {E : Type 0} (ge : output.Ghosts E) where
   -- the log goes on with this line, unless it failed before or fails now
@@ -60,13 +60,13 @@ module _ {O E : Type 0} (go : output.Ghosts O) (ge : output.Ghosts E) (pack : Bo
   -- output failed, in the frame of an accepted message or in a flush of frames that waited. Or an
   -- allocation failed. Only the frame of an accepted message waits after it.
   abbrev pub Sifts : Result Counted Cause → Type 0
-  Sifts (Ok counted) = (text : List ℕ) × (line : List ℕ) × Passes pack verdict n m text counted
+  Sifts (Ok counted) = (text : List ℕ) × (line : List ℕ) × PassesOn pack verdict n m text counted
       × Notes verdict n m line counted × Appended go before after text
       × LogsMore ge old new failed fails line × (IsTrue stays → counted ≡ Accepted)
   Sifts (Err TooManyMessages) = ⊥
   Sifts (Err (Frame fault)) = ⊥
   Sifts (Err (Output fault)) = (text : List ℕ) × (counted : Counted)
-      × ((counted ≡ Accepted) ⊎ IsTrue waits) × Passes pack verdict n m text counted
+      × ((counted ≡ Accepted) ⊎ IsTrue waits) × PassesOn pack verdict n m text counted
       × Stopped go before after fault text × KeepsLog
   Sifts (Err (Refused refusal)) = ⊥
   Sifts (Err (NotStrict fault)) = ⊥

@@ -27,7 +27,7 @@ module _ {S : Type 0} (g : source.Ghosts S) where
 
   -- All words of the source are frames of these messages, each within the limit. They were read,
   -- and the source ended.
-  pub record ReadsAll (limit : ℕ) (old new : S) (ms : List (List (List ℕ))) : Type 0 where
+  pub record ReadsToEnd (limit : ℕ) (old new : S) (ms : List (List (List ℕ))) : Type 0 where
     pub own : List ℕ
     pub all : OnSome (g.words old) ((g.words old ≡ Some own) × (g.is_cut old ≡ false))
     pub stream : Stream own ms

@@ -17,7 +17,7 @@ use Rattle.cap_text.specs.declared.fault.CopyFault.TheVariants.{TooManyWords, So
 
 module _ {S : Type 0} (gs : source.Ghosts S) where
   -- These words were read without an error. If there were any, the source wasn't closed before.
-  pub record Gives (old new : S) (own : List ℕ) : Type 0 where
+  pub record ReadsWords (old new : S) (own : List ℕ) : Type 0 where
     pub takes : Takes gs old new own
     pub usable : (own ≡ []) ⊎ (gs.spent old ≡ false)
     pub spent : gs.spent new ≡ gs.spent old
@@ -44,11 +44,11 @@ module _ {S : Type 0} (gs : source.Ghosts S) where
   abbrev pub StopsGiving : ℕ → List ℕ → S → S → Type 0
   StopsGiving most own old new = EndsStream gs old new
       ⊎ (((fault : SourceFault) × GivesNone old new fault)
-      ⊎ ((length own ≡ most) × ((word : ℕ) × Gives old new (word ∷ []))))
+      ⊎ ((length own ≡ most) × ((word : ℕ) × ReadsWords old new (word ∷ []))))
 
 module _ {K : Type 0} (gk : sink.Ghosts K) where
   -- These words were put without an error.
-  pub record Fills (old new : K) (own : List ℕ) : Type 0 where
+  pub record PutsWords (old new : K) (own : List ℕ) : Type 0 where
     pub put : WasPut gk.text old new own
     pub closed : gk.closed new ≡ gk.closed old
     pub spent : gk.spent new ≡ gk.spent old
@@ -81,7 +81,7 @@ module _ {S K : Type 0} (gs : source.Ghosts S) (gk : sink.Ghosts K) where
     pub own : List ℕ
     pub word : ℕ
     pub many : length own ≡ most
-    pub gives : Gives gs old new (own ++ word ∷ [])
+    pub gives : ReadsWords gs old new (own ++ word ∷ [])
     pub finishes : Finishes gk before after own
 
   -- The source returned this error after the words that were put.
@@ -90,7 +90,7 @@ module _ {S K : Type 0} (gs : source.Ghosts S) (gk : sink.Ghosts K) where
     pub own : List ℕ
     pub mid : S
     pub few : length own ≤ most
-    pub gives : Gives gs old mid own
+    pub gives : ReadsWords gs old mid own
     pub none : GivesNone gs mid new fault
     pub finishes : Finishes gk before after own
 
@@ -106,9 +106,9 @@ module _ {S K : Type 0} (gs : source.Ghosts S) (gk : sink.Ghosts K) where
     pub few : length (done ++ piece) ≤ most
     pub some : 0 < length piece
     pub in_pieces : length piece ≤ at_once
-    pub gives : Gives gs old mid (done ++ piece)
+    pub gives : ReadsWords gs old mid (done ++ piece)
     pub behind : (new ≡ mid) ⊎ StopsGiving gs most (done ++ piece) mid new
-    pub fills : Fills gk before between done
+    pub fills : PutsWords gk before between done
     pub halts : Halts gk between after piece (sink_fault_of fault)
     pub part : StoppedPutting gk.text gk.taken before after (done ++ piece)
 
@@ -119,7 +119,7 @@ module _ {S K : Type 0} (gs : source.Ghosts S) (gk : sink.Ghosts K) where
     pub own : List ℕ
     pub mid : S
     pub few : length own ≤ most
-    pub gives : Gives gs old mid own
+    pub gives : ReadsWords gs old mid own
     pub none : StopsGiving gs most own mid new
     pub spoils : Spoils gk before after own fault
 

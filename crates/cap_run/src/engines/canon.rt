@@ -1,7 +1,7 @@
 //! The engine that puts the canonical copy of each message to a sink.
 
 ghost use Rattle.cap_run.specs.Canons.{IsCanonised, MakesCopies, MakesCopiesUnder};
-ghost use Rattle.cap_run.specs.Transcoding.{Fills};
+ghost use Rattle.cap_run.specs.Transcoding.{PutsWords};
 ghost use Rattle.cap_run.specs.Making.{CopyStops, Made, Making, NextStops, PutsNext, is_unfinished};
 ghost use Rattle.cap_run.specs.Making.{refused_cause};
 ghost use Rattle.cap_run.specs.Streams.{EndsStream};
@@ -37,7 +37,7 @@ fn table_of_one(words: u64) -> u64
 fn put_framed<K: WordSink>(sink: &mut K, copy: &[u8]) -> Result<(), SinkFault>
     requires { length copy.now < 2 ^ 35 }
     ensures ok { let framed = frame_text (plain_words copy.now ∷ []) in
-        OnOk result (Fills K.WordSink sink.old sink.new framed) }
+        OnOk result (PutsWords K.WordSink sink.old sink.new framed) }
     ensures err { let framed = frame_text (plain_words copy.now ∷ []) in
         IfErr result (Halts K.WordSink sink.old sink.new framed) }
 {
@@ -73,7 +73,7 @@ fn put_copy<K: WordSink, M: CopySource>(
     ensures ok { let m = M.segments message.now in OnOk result ((copy : List ℕ)
         × IsCanonised demands (words_of limits) (depth_of limits)
         (record { message = m; copy = copy })
-        × Fills K.WordSink sink.old sink.new (frame_text (copy ∷ []))) }
+        × PutsWords K.WordSink sink.old sink.new (frame_text (copy ∷ []))) }
     ensures err { let m = M.segments message.now in IfErr result (λ cause.
         CopyStops K.WordSink demands (words_of limits) (depth_of limits) m
         sink.old sink.new cause) }
@@ -98,9 +98,9 @@ fn flush_before_waiting<S: WordSource, K: WordSink>(
     sink: &mut K,
 ) -> Result<(), SinkFault>
     ensures ok { OnOk result ((before : K) (own : List ℕ) →
-        Fills K.WordSink before sink.old own → Fills K.WordSink before sink.new own) }
+        PutsWords K.WordSink before sink.old own → PutsWords K.WordSink before sink.new own) }
     ensures err { IfErr result (λ fault. (before : K) (own : List ℕ) →
-        Fills K.WordSink before sink.old own → Halts K.WordSink before sink.new own fault) }
+        PutsWords K.WordSink before sink.old own → Halts K.WordSink before sink.new own fault) }
 {
     if source.is_at_hand() {
         return Ok(());

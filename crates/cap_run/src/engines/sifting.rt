@@ -2,7 +2,7 @@
 
 ghost use Rattle.cap_run.specs.Filtering.{Logged, frame_in};
 ghost use Rattle.cap_run.specs.Sieves.{SiftsOne, SieveTells, SieveWants};
-ghost use Rattle.cap_run.specs.Sifting.{Judges, objection_text};
+ghost use Rattle.cap_run.specs.Sifting.{FindsObjection, objection_text};
 ghost use Rattle.cap_run.specs.Demanding.{TellsMarked};
 ghost use Rattle.cap_run.specs.Running.{Appended};
 ghost use Rattle.cap_run.specs.Vetting.{WantsMarks};
@@ -46,7 +46,7 @@ pub(crate) fn first_overlap<M: Segments>(
 ) -> Result<Option<Objection>, Cause>
     ensures { (w d : ℕ) (t : Tree) → let m = M.segments (message_of vetted.now) in
         IsReport m w d (report_of vetted.now) t →
-        Judges (TellsMarked w d) (WantsMarks w d) m result }
+        FindsObjection (TellsMarked w d) (WantsMarks w d) m result }
 {
     match vetted.into_exclusive(alloc) {
         Ok(_) => Ok(None),
@@ -212,7 +212,7 @@ impl Sieve {
     /// [`Cause::Memory`]: an allocation failed.
     fn judge<M: Segments>(&self, message: &M) -> Result<Option<Objection>, Cause>
         ensures { let v = self.now in
-            Judges (SieveTells v) (SieveWants v) (M.segments message.now) result }
+            FindsObjection (SieveTells v) (SieveWants v) (M.segments message.now) result }
     {
         match vet_with(message, self.limits, self.demands) {
             Ok(vetted) => {

@@ -1,6 +1,6 @@
 //! Reading the messages of a stream, and writing a text for each.
 
-ghost use Rattle.cap_run.specs.Engines.{EndsEarly, ReachesEnd, TellsStream};
+ghost use Rattle.cap_run.specs.Engines.{StopsEarly, ReachesEnd, TellsStream};
 ghost use Rattle.cap_run.specs.Running.{EndStops, StepStops, StepTells};
 ghost use Rattle.cap_run.specs.Streams.{EndsStream};
 ghost use Rattle.cap_run.specs.Telling.{one_noncanonical, one_refused};
@@ -136,7 +136,7 @@ fn tell_each<S: WordSource, O: ByteOut, E: Engine>(
 ) -> Result<Outcome, RunFault>
     ensures ok { let s = settings.now in ReachesEnd S.WordSource O.ByteOut (E.tells engine.now)
         (limit_of s.size) s.messages source.old source.new out.old out.new result }
-    ensures err { let s = settings.now in EndsEarly S.WordSource O.ByteOut (E.tells engine.now)
+    ensures err { let s = settings.now in StopsEarly S.WordSource O.ByteOut (E.tells engine.now)
         (limit_of s.size) s.messages source.old source.new out.old out.new
         (E.wants engine.now) result }
     ensures memory { (n : ℕ) →

@@ -2,7 +2,7 @@ use Rattle.std.proofs.Common.{[], ◌∷◌, List, ℕ, subst, sym, arith}
 use Rattle.cap_spec.specs.Plain.{plain_words}
 use Rattle.cap_frame.specs.Putting.{Halts}
 use Rattle.cap_frame.proofs.Putting.{halts_before, halts_of}
-use Rattle.cap_run.specs.Transcoding.{Fills}
+use Rattle.cap_run.specs.Transcoding.{PutsWords}
 use Rattle.cap_run.proofs.Transcoding.{fills_both}
 use Rattle.cap_run.proofs.Handing.{fills_of, frame_of_bytes}
 use Rattle.cap_run.proofs.Making.{halts_behind}
@@ -34,5 +34,5 @@ returns-clause-ok g c =
     let whole = frame_of_bytes c.args.copy.now c.table_of_one.result (omega (arith, c.table_of_one.ensures)) in
     let first = fills_of g.K.WordSink c.args.sink.now c.put.new.self (c.table_of_one.result ∷ []) c.in_default.ensures.put c.in_default.ensures.ok in
     let rest = fills_of g.K.WordSink c.put.new.self c.put_bytes.new.self ws c.in_default-put_bytes.ensures.put c.in_default-put_bytes.ensures.ok in
-    subst (Fills g.K.WordSink c.args.sink.now c.put_bytes.new.self) (sym whole)
+    subst (PutsWords g.K.WordSink c.args.sink.now c.put_bytes.new.self) (sym whole)
     (fills_both g.K.WordSink c.args.sink.now c.put.new.self c.put_bytes.new.self _ ws first rest)

@@ -5,7 +5,7 @@ use Rattle.cap_vet.specs.Limits.{depth_of, words_of}
 use Rattle.cap_vet.specs.Reports.{IsReport}
 use Rattle.cap_vet.specs.Vettings.{report_of}
 use Rattle.cap_run.specs.Demanding.{TellsMarked}
-use Rattle.cap_run.specs.Sifting.{Judges}
+use Rattle.cap_run.specs.Sifting.{FindsObjection}
 use Rattle.cap_run.specs.Vetting.{WantsMarks}
 use Rattle.cap_run.proofs.Sifting.{judges_marked, judges_met}
 use Rattle.cap_run.proofs.engines.sifting.Sieve.judge.Goals as goal
@@ -18,7 +18,7 @@ returns-then-self g c =
     let depth = depth_of v.limits in
     let met = c.in-Ok.ensures.ok in
     let found = subst (λ (m : List (List ℕ)). (words depth : ℕ) (t : Tree) → IsReport m words depth (report_of c.in-Ok.vetted) t
-    → Judges (TellsMarked words depth) (WantsMarks words depth) m c.first_overlap.result)
+    → FindsObjection (TellsMarked words depth) (WantsMarks words depth) m c.first_overlap.result)
     (ap g.M.Segments.segments c.in-Ok.ensures.message) c.first_overlap.ensures in
     judges_marked v.form v.demands v.limits m c.first_overlap.result c.if-self.true met.1.strict (found words depth met.0.0 met.0.1)
 
