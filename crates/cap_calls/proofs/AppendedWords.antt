@@ -6,7 +6,7 @@ use Rattle.std.proofs.lemmas.List.{drop_all, length-take-le}
 use Rattle.cap_spec.specs.Plain.{plain_text, plain_words}
 use Rattle.cap_spec.proofs.Bytes.Lists.{all_drop, all_take}
 use Rattle.cap_spec.proofs.Bytes.Plain.{plain_split, words_exact}
-use Rattle.cap_calls.specs.PackedStreams.{Gives}
+use Rattle.cap_calls.specs.PackedStreams.{WritesWords}
 use Rattle.cap_calls.specs.UnpackingMessages.{Appends, IsOpen}
 use Rattle.cap_calls.specs.declared.packed_stream.Given.{Given}
 use Rattle.cap_calls.specs.declared.unpacking.Unpacking.{Unpacking}
@@ -16,7 +16,7 @@ abbrev pub words_given : ℕ → List ℕ → Given → List ℕ
 words_given start new g = plain_words (drop start (take g.written new))
 
 -- how many bytes they have
-pub given_long : (start z p : ℕ) (bytes old new : List ℕ) (g : Given) → start % 8 ≡ 0 → Gives start z p bytes old new g
+pub given_long : (start z p : ℕ) (bytes old new : List ℕ) (g : Given) → start % 8 ≡ 0 → WritesWords start z p bytes old new g
     → start + 8 * length (words_given start new g) ≡ g.written
 given_long start z p bytes old new g first f =
     let inside : g.written ≤ length new = omega (arith, f.fits, f.long) in
@@ -31,7 +31,7 @@ given_long start z p bytes old new g first f =
     )
 
 pub appended : (limit : ℕ) (bytes old new : List ℕ) (state : Unpacking) (g : Given) → AllByRecursion (λ b. b < 256) new
-    → state.written % 8 ≡ 0 → Gives state.written state.zero_words state.literal_words bytes old new g
+    → state.written % 8 ≡ 0 → WritesWords state.written state.zero_words state.literal_words bytes old new g
     → ((n : ℕ) → state.written ≤ n → n < g.written → n % 8 ≡ 0 → (wanted : ℕ) × IsOpen limit (take n new) wanted)
     → Appends limit bytes old state (words_given state.written new g) g.taken g.zeros g.literal new
 appended limit bytes old new state g small first f before =

@@ -12,7 +12,7 @@ use Rattle.cap_calls.specs.CallFindings.{Tells, TellsWhole, framed, tells, trail
 use Rattle.cap_calls.specs.CallFrames.{HasNoFrame}
 use Rattle.cap_calls.specs.CallInputs.{TellsInput, of_frame, of_no_words, of_words}
 use Rattle.cap_calls.specs.CallReports.{cause_input_required}
-use Rattle.cap_calls.specs.Calls.{Frames}
+use Rattle.cap_calls.specs.Calls.{FindsFrame}
 use Rattle.cap_calls.specs.declared.found.Found.{Found}
 use Rattle.cap_calls.specs.declared.front.NoFrame.{NoFrame}
 use Rattle.cap_calls.specs.declared.front.NoFrame.TheVariants.{BadLimits, NoMessage, Fault}
@@ -40,7 +40,7 @@ cause_short l bs (Fault (TooManySegments n)) h = omega arith
 cause_short l bs (Fault (TooLarge n)) h = omega arith
 cause_short l bs (Fault (Truncated n)) h = omega (arith, h.1.3)
 
-pub frame_told : (l : CallLimits) (bs : List ℕ) (f : Found) → Tells ⊤ Frames l bs f
+pub frame_told : (l : CallLimits) (bs : List ℕ) (f : Found) → Tells ⊤ FindsFrame l bs f
     → (f.report.input_required ≤ frame_bound l.message_words) × (f.report.length ≤ frame_bound l.message_words)
 frame_told l bs f (without c h e k) =
     let required : f.report.input_required ≡ cause_input_required c = ap (λ (x : Found). x.report.input_required) e in

@@ -16,7 +16,7 @@ use Rattle.cap_canon.specs.CopyRooms as room
 use Rattle.cap_canon.specs.declared.fault.RoomFault.{RoomFault}
 use Rattle.cap_vet.specs.Reports.{IsFirstCapOf}
 use Rattle.cap_vet.specs.declared.report.Report.{Report}
-use Rattle.cap_calls.specs.CanonicalCalls.{Copies, IsCopied, TellsCopy, has_capability, copied, size_found}
+use Rattle.cap_calls.specs.CanonicalCalls.{Copies, FindsCopy, TellsCopy, has_capability, copied, size_found}
 use Rattle.cap_calls.specs.CallFindings.{TellsWhole, accepted, accepted_found, framed, refused, tells, trailing}
 use Rattle.cap_calls.specs.CallFindings.{without}
 use Rattle.cap_calls.specs.CallFlags.{allows_amplified, allows_trailing, demands_of}
@@ -40,8 +40,8 @@ pub same_found : (f g : Found) → f.answer ≡ g.answer → f.count ≡ g.count
 same_found f g a n r = ap₂ (λ (x : Answer) (k : ℕ). found x k f.report) a n ∙ ap (found g.answer g.count) r
 
 -- of an accepted message
-one_copied : (old xs ys : List ℕ) (m : List (List ℕ)) (r : Report) (f g : Found) → IsCopied old xs m r f
-    → IsCopied old ys m r g → (f ≡ g) × (xs ≡ ys)
+one_copied : (old xs ys : List ℕ) (m : List (List ℕ)) (r : Report) (f g : Found) → FindsCopy old xs m r f
+    → FindsCopy old ys m r g → (f ≡ g) × (xs ≡ ys)
 one_copied old xs ys m r f g (has_capability c e k) (has_capability d i j) = (e ∙ sym i, k ∙ sym j)
 one_copied old xs ys m r f g (has_capability c e k) (copied us h u i) = absurd
     (cap_no_copy m f.report.segment f.report.word us c h)
@@ -73,7 +73,7 @@ cap_named m (Some (t, x)) s w h k = h
 -- What is found of the capacity is what the call finds.
 pub copy_found : (m : List (List ℕ)) (old new : List ℕ) (report : Report) (told : Result ℕ RoomFault) (f : Found)
     → IsFirstCapOf m report.first_cap
-    → TellsRoom m old told new → f ≡ size_found told report → IsCopied old new m report f
+    → TellsRoom m old told new → f ≡ size_found told report → FindsCopy old new m report f
 copy_found m old new report told f first (room.has_capability s w k e g) i =
     let same : f ≡ accepted_found answer.HasCapability 0 report = i
     ∙ ap (λ (t : Result ℕ RoomFault). size_found t report) e in

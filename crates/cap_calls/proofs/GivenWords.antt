@@ -7,14 +7,14 @@ use Rattle.std.proofs.lemmas.Slice.{take-put_mid_below}
 use Rattle.cap_spec.specs.Plain.{plain_words}
 use Rattle.cap_words.proofs.Filling.{plain_join}
 use Rattle.cap_words.proofs.Turns.{filled}
-use Rattle.cap_calls.specs.PackedStreams.{Gives, IsRest, Leads}
+use Rattle.cap_calls.specs.PackedStreams.{WritesWords, IsRunRest, GivesWords}
 use Rattle.cap_calls.specs.declared.packed_stream.Given.{Given}
 use Rattle.cap_calls.proofs.PackedStreams.{leads_both, leads_none}
 use borrow.Rule.Slice.PartMut.{post_of, put_mid}
 
 -- nothing yet
-pub gives_none : (start z p : ℕ) (bytes old : List ℕ) → start ≤ length old → start % 8 ≡ 0 → IsRest z p
-    → Gives start z p bytes old old (record { taken = 0; written = start; zeros = z; literal = p })
+pub gives_none : (start z p : ℕ) (bytes old : List ℕ) → start ≤ length old → start % 8 ≡ 0 → IsRunRest z p
+    → WritesWords start z p bytes old old (record { taken = 0; written = start; zeros = z; literal = p })
 gives_none start z p bytes old fits whole rest =
     let none : plain_words (drop start (take start old)) ≡ [] =
     ap plain_words (nil_from_length (drop start (take start old)) (omega (arith, length-drop start (take start old), length-take start old))) in
@@ -23,7 +23,7 @@ gives_none start z p bytes old fits whole rest =
       fits = fits;
       long = refl;
       whole = whole;
-      leads = subst (λ (ws : List ℕ). Leads z p bytes ws 0 z p) (sym none) (leads_none z p bytes);
+      leads = subst (λ (ws : List ℕ). GivesWords z p bytes ws 0 z p) (sym none) (leads_none z p bytes);
       front = refl;
       rest = refl;
       left = rest;
@@ -31,9 +31,9 @@ gives_none start z p bytes old fits whole rest =
 
 -- Some words, and then others in the next part of the buffer.
 pub gives_more : (start z p k : ℕ) (bytes rest old out part given : List ℕ) (d e : Given) → start % 8 ≡ 0
-    → Gives start z p bytes old out d → part ≡ take k (drop d.written out) → length given ≡ length part
-    → rest ≡ drop d.taken bytes → Gives 0 d.zeros d.literal rest part given e
-    → Gives start z p bytes old (put_mid d.written k out given)
+    → WritesWords start z p bytes old out d → part ≡ take k (drop d.written out) → length given ≡ length part
+    → rest ≡ drop d.taken bytes → WritesWords 0 d.zeros d.literal rest part given e
+    → WritesWords start z p bytes old (put_mid d.written k out given)
     (record { taken = d.taken + e.taken; written = d.written + e.written; zeros = e.zeros; literal = e.literal })
 gives_more start z p k bytes rest old out part given d e first s place size more t =
     let at = d.written in
@@ -70,7 +70,7 @@ gives_more start z p k bytes rest old out part given d e first s place size more
       fits = omega (arith, t.fits, space, s.long, inside);
       long = total ∙ s.long;
       whole = omega (arith, s.whole, t.whole);
-      leads = subst (λ (ws : List ℕ). Leads z p bytes ws (d.taken + e.taken) e.zeros e.literal) (sym words)
+      leads = subst (λ (ws : List ℕ). GivesWords z p bytes ws (d.taken + e.taken) e.zeros e.literal) (sym words)
           (leads_both z p d.zeros d.literal e.zeros e.literal d.taken e.taken bytes rest (plain_words own)
           (plain_words (take n given)) s.leads more t.leads);
       front = take-put_mid_below at k out given start (omega (arith, s.after)) inside ∙ s.front;

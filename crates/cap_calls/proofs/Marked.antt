@@ -19,7 +19,7 @@ use Rattle.cap_calls.specs.CallFindings.{without}
 use Rattle.cap_calls.specs.CallFlags.{allows_trailing, demands_of}
 use Rattle.cap_calls.specs.CallFrames.{HasFrame}
 use Rattle.cap_calls.specs.CallInputs.{TellsInput, of_frame, of_no_words, of_words}
-use Rattle.cap_calls.specs.ExclusiveCalls.{IsMarked, KeepsMarks, Marks, MarksIn, TellsExclusive, exclusive, fault_found}
+use Rattle.cap_calls.specs.ExclusiveCalls.{FindsMarks, KeepsMarks, Marks, MarksIn, TellsExclusive, exclusive, fault_found}
 use Rattle.cap_calls.specs.ExclusiveCalls.{overlap, too_small}
 use Rattle.cap_calls.specs.declared.answer.Answer.{Answer}
 use Rattle.cap_calls.specs.declared.answer.Answer.TheVariants as answer
@@ -30,7 +30,7 @@ use Rattle.cap_calls.proofs.Answers.{one_input_told, one_judged, one_returned}
 use Rattle.cap_calls.proofs.Words.{few_words}
 
 -- of an accepted message
-one_marked : (size : ℕ) (m : List (List ℕ)) (r : Report) (f g : Found) → IsMarked size m r f → IsMarked size m r g
+one_marked : (size : ℕ) (m : List (List ℕ)) (r : Report) (f g : Found) → FindsMarks size m r f → FindsMarks size m r g
     → f ≡ g
 one_marked size m r f g (too_small few e) (too_small less i) = e ∙ sym i
 one_marked size m r f g (too_small few e) (overlap s w n enough h i) = absurd (omega (arith, few, enough))
@@ -121,7 +121,7 @@ input_kept whole demands l bs old new f (of_words y g h p e) =
 
 -- A fault of an accepted message is what the call finds of it.
 pub marked_fault : (size : ℕ) (m : List (List ℕ)) (r : Report) (fault : ExclusiveFault) (f : Found) → IsVetted m r
-    → IsExclusiveFault m 268435456 256 size fault → f ≡ fault_found (marks_of m) fault → IsMarked size m r f
+    → IsExclusiveFault m 268435456 256 size fault → f ≡ fault_found (marks_of m) fault → FindsMarks size m r f
 marked_fault size m r (Refused q) f v h e = absurd (not_both m 268435456 256 r q v h)
 marked_fault size m r (NoRoom n q) f v h e =
     too_small (omega (arith, h.1, h.2))

@@ -20,7 +20,7 @@ use Rattle.cap_frame.proofs.FrontAnswers.{short_answer}
 use Rattle.cap_frame.proofs.Parts.{take_words}
 use Rattle.cap_words.proofs.Filling.{plain_join}
 use Rattle.cap_words.proofs.Turns.{filled}
-use Rattle.cap_calls.specs.MessageStages.{EndsAt}
+use Rattle.cap_calls.specs.MessageStages.{CannotAppend}
 use Rattle.cap_calls.specs.PackedStreams.{words_to_come}
 use Rattle.cap_calls.specs.UnpackingMessages.{IsOpen}
 use Rattle.cap_calls.specs.declared.calls.unpack_message.Stage.{Stage}
@@ -141,7 +141,7 @@ wanted_whole limit wanted held (inr t) = by_words t.1
 
 -- how a call ends at any stage
 pub ends_at : (stage : Stage) (size : ℕ) (g : Given) (rest : List ℕ)
-    → (g.written + 8 ≤ size → words_to_come g.zeros g.literal rest ≡ []) → EndsAt stage size g rest
+    → (g.written + 8 ≤ size → words_to_come g.zeros g.literal rest ≡ []) → CannotAppend stage size g rest
 ends_at (Open wanted) size g rest h = h
 ends_at (Whole segments) size g rest h = tt
 ends_at (TooMany count) size g rest h = tt

@@ -10,7 +10,7 @@ use Rattle.cap_frame.specs.declared.fault.FrontFault.TheVariants.{TooLarge, TooM
 use Rattle.cap_frame.proofs.FrontAnswers.{empty_answer, large_answer, many_answer, short_answer}
 use Rattle.cap_calls.specs.CallReports.{none_report}
 use Rattle.cap_calls.specs.PackedStreams.{words_to_come}
-use Rattle.cap_calls.specs.UnpackingMessages.{IsOpen, Stops, bytes_needed, no_message, too_small, truncated}
+use Rattle.cap_calls.specs.UnpackingMessages.{IsOpen, StopsCall, bytes_needed, no_message, too_small, truncated}
 use Rattle.cap_calls.specs.UnpackingMessages as stop
 use Rattle.cap_calls.specs.declared.answer.Answer.{Answer}
 use Rattle.cap_calls.specs.declared.report.CallReport.{CallReport}
@@ -54,8 +54,8 @@ module _ (limit : ℕ) (held : List ℕ) where
       ap (λ (k : ℕ). words_to_come k p rest) e ∙ (ap (λ (k : ℕ). words_to_come 0 k rest) f ∙ ap (words_to_come 0 0) g)
 
   module _ (size z p : ℕ) (rest : List ℕ) where
-    pub one_stop : (a b : Answer) (n k w v : ℕ) (r q : CallReport) → Stops limit size held z p rest a n w r
-        → Stops limit size held z p rest b k v q → (a ≡ b) × (n ≡ k) × (w ≡ v) × (r ≡ q)
+    pub one_stop : (a b : Answer) (n k w v : ℕ) (r q : CallReport) → StopsCall limit size held z p rest a n w r
+        → StopsCall limit size held z p rest b k v q → (a ≡ b) × (n ≡ k) × (w ≡ v) × (r ≡ q)
     one_stop a b n k w v r q (stop.whole m f e g h i) (stop.whole m2 f2 e2 g2 h2 i2) =
         let s = one_whole m m2 (length held) (length held) f f2 in
         (e ∙ sym e2, g ∙ sym g2, h ∙ sym h2, i ∙ (ap (λ (x : List (List ℕ)). record none_report { length = length held; segments = length x }) s ∙ sym i2))

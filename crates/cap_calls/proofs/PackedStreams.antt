@@ -14,7 +14,7 @@ use Rattle.cap_spec.proofs.Bytes.Plain.{plain_short, words_exact}
 use Rattle.cap_spec.proofs.Packed.Groups.{group_off}
 use Rattle.cap_spec.proofs.Packed.Unpacking.{length_marked, unpacked_front, unpacked_short}
 use Rattle.cap_words.proofs.Filling.{plain_join}
-use Rattle.cap_calls.specs.PackedStreams.{Leads, head_length, words_to_come}
+use Rattle.cap_calls.specs.PackedStreams.{GivesWords, head_length, words_to_come}
 
 -- part of a head gives no word
 marked_part : (tag : ℕ) (b : List ℕ) → tag ≢ 0 → tag ≢ 255 → tag < 256 → length (tag ∷ b) < 1 + marks 8 tag
@@ -80,7 +80,7 @@ plain_front a b c d e f g h n rest =
 
 -- the heads of the three kinds of groups
 pub leads_zeros_head : (bytes : List ℕ) (n : ℕ) → AllByRecursion (λ b. b < 256) bytes → 2 ≤ length bytes → slice_index bytes 0 ≡ 0
-    → n ≡ slice_index bytes 1 → Leads 0 0 bytes (0 ∷ []) 2 n 0
+    → n ≡ slice_index bytes 1 → GivesWords 0 0 bytes (0 ∷ []) 2 n 0
 leads_zeros_head [] n all l z e = absurd (omega (arith, l))
 leads_zeros_head (tag ∷ []) n all l z e = absurd (omega (arith, l))
 leads_zeros_head (tag ∷ k ∷ rest) n all l z e =
@@ -98,7 +98,7 @@ leads_zeros_head (tag ∷ k ∷ rest) n all l z e =
     }
 
 pub leads_plain_head : (bytes : List ℕ) (n w : ℕ) → AllByRecursion (λ b. b < 256) bytes → 10 ≤ length bytes → slice_index bytes 0 ≡ 255
-    → n ≡ slice_index bytes 9 → plain_words (take 8 (drop 1 bytes)) ≡ w ∷ [] → Leads 0 0 bytes (w ∷ []) 10 0 n
+    → n ≡ slice_index bytes 9 → plain_words (take 8 (drop 1 bytes)) ≡ w ∷ [] → GivesWords 0 0 bytes (w ∷ []) 10 0 n
 leads_plain_head (tag ∷ a ∷ b ∷ c ∷ d ∷ e ∷ f ∷ g ∷ h ∷ k ∷ rest) n w all l z s p =
     let t : tag ≡ 255 = z in
     let same : k ≡ n = sym s in
@@ -116,7 +116,7 @@ leads_plain_head _ n w all l z s p = absurd (omega (arith, l))
 
 pub leads_marked_head : (bytes : List ℕ) (tag n w : ℕ) → AllByRecursion (λ b. b < 256) bytes → 1 + n ≤ length bytes
     → slice_index bytes 0 ≡ tag → tag ≢ 0 → tag ≢ 255 → n ≡ marks 8 tag → w ≡ spread 8 tag (take n (drop 1 bytes))
-    → Leads 0 0 bytes (w ∷ []) (1 + n) 0 0
+    → GivesWords 0 0 bytes (w ∷ []) (1 + n) 0 0
 leads_marked_head [] tag n w all l t z f m p = absurd (omega (arith, l))
 leads_marked_head (x ∷ rest) tag n w all l t z f m p =
     let same : x ≡ tag = t in
@@ -139,11 +139,11 @@ leads_marked_head (x ∷ rest) tag n w all l t z f m p =
     }
 
 -- no words
-pub leads_none : (z p : ℕ) (bytes : List ℕ) → Leads z p bytes [] 0 z p
+pub leads_none : (z p : ℕ) (bytes : List ℕ) → GivesWords z p bytes [] 0 z p
 leads_none z p bytes = record { within = omega arith; gives = λ more. refl; least = λ n l. absurd (omega (arith, l)) }
 
 -- zero words of a run
-pub leads_zeros : (z n m p : ℕ) (bytes : List ℕ) → z ≡ n + m → Leads z p bytes (replicate n 0) 0 m p
+pub leads_zeros : (z n m p : ℕ) (bytes : List ℕ) → z ≡ n + m → GivesWords z p bytes (replicate n 0) 0 m p
 leads_zeros z n m p bytes e = record {
   within = omega arith;
   gives = λ more.
@@ -156,7 +156,7 @@ leads_zeros z n m p bytes e = record {
 
 -- literal words of a run
 pub leads_literal : (p n m : ℕ) (bytes : List ℕ) → p ≡ n + m → 8 * n ≤ length bytes
-    → Leads 0 p bytes (plain_words (take (8 * n) bytes)) (8 * n) 0 m
+    → GivesWords 0 p bytes (plain_words (take (8 * n) bytes)) (8 * n) 0 m
 leads_literal p n m bytes e h =
     let front = take (8 * n) bytes in
     let long : length front ≡ 8 * n = length-take-le (8 * n) bytes h in
@@ -182,8 +182,8 @@ leads_literal p n m bytes e h =
     }
 
 -- some words, and then others
-pub leads_both : (z p y q x r t u : ℕ) (bytes rest ws vs : List ℕ) → Leads z p bytes ws t y q → rest ≡ drop t bytes
-    → Leads y q rest vs u x r → Leads z p bytes (ws ++ vs) (t + u) x r
+pub leads_both : (z p y q x r t u : ℕ) (bytes rest ws vs : List ℕ) → GivesWords z p bytes ws t y q → rest ≡ drop t bytes
+    → GivesWords y q rest vs u x r → GivesWords z p bytes (ws ++ vs) (t + u) x r
 leads_both z p y q x r t u bytes rest ws vs f e g =
     let split : (k : ℕ) → take (t + k) bytes ≡ take t bytes ++ take k rest =
     λ k. take-add t k bytes ∙ ap (λ (l : List ℕ). take t bytes ++ take k l) (sym e) in
@@ -235,7 +235,7 @@ literal_part p bytes some few =
     ∙ ap (λ (x : List ℕ). x ++ []) (plain_short bytes few))
 
 -- words that come are more than none
-pub some_come : (z p y q t : ℕ) (bytes ws : List ℕ) → 0 < length ws → Leads z p bytes ws t y q → words_to_come z p bytes ≢ []
+pub some_come : (z p y q t : ℕ) (bytes ws : List ℕ) → 0 < length ws → GivesWords z p bytes ws t y q → words_to_come z p bytes ≢ []
 some_come z p y q t bytes ws some f e =
     let come = ap (words_to_come z p) (sym (take-append-drop t bytes)) ∙ f.gives (drop t bytes) in
     omega (arith, some, ap length come, ap length e, length-append ws (words_to_come y q (drop t bytes)))

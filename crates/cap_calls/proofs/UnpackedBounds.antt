@@ -1,7 +1,7 @@
 -- A message that is unpacked has no more bytes than a frame within the limit.
 use Rattle.std.proofs.Common.{ℕ, List, ◌≤◌, arith, inl, inr, length}
 use Rattle.cap_calls.specs.CallBounds.{frame_bound}
-use Rattle.cap_calls.specs.UnpackingMessages.{IsOpen, Stops, TellsUnpackMessage, bad, no_message, too_large, too_many, too_small}
+use Rattle.cap_calls.specs.UnpackingMessages.{IsOpen, StopsCall, TellsUnpackMessage, bad, no_message, too_large, too_many, too_small}
 use Rattle.cap_calls.specs.UnpackingMessages.{truncated, unpacks, whole}
 use Rattle.cap_calls.specs.declared.answer.Answer.{Answer}
 use Rattle.cap_calls.specs.declared.limits.CallLimits.{CallLimits}
@@ -15,7 +15,7 @@ open_bounded limit held wanted (inl h) = omega (arith, h.1)
 open_bounded limit held wanted (inr h) = omega (arith, h.3)
 
 stop_bounded : (limit size : ℕ) (held : List ℕ) (z literal : ℕ) (rest : List ℕ) (a : Answer) (required written : ℕ)
-    (r : CallReport) → Stops limit size held z literal rest a required written r → required ≤ frame_bound limit
+    (r : CallReport) → StopsCall limit size held z literal rest a required written r → required ≤ frame_bound limit
 stop_bounded limit size held z literal rest a required written r (whole m front e n w i) =
     omega (arith, n, frame_short limit held m (length held) front)
 stop_bounded limit size held z literal rest a required written r (too_many count t e n w i) = omega (arith, n)

@@ -4,8 +4,8 @@ use Rattle.std.specs.List.{AllByRecursion}
 use Rattle.std.proofs.lemmas.List.{length-take-le}
 use Rattle.cap_frame.specs.Fronts.{IsFront}
 use Rattle.cap_calls.specs.CallFrames.{AreLimits}
-use Rattle.cap_calls.specs.MessageStages.{IsEnd, Reaches}
-use Rattle.cap_calls.specs.UnpackingMessages.{Appends, IsOpen, IsState, Stops, TellsUnpackMessage, state_of, unpacks}
+use Rattle.cap_calls.specs.MessageStages.{IsEnd, ReachesStage}
+use Rattle.cap_calls.specs.UnpackingMessages.{Appends, IsOpen, IsState, StopsCall, TellsUnpackMessage, state_of, unpacks}
 use Rattle.cap_calls.specs.declared.answer.Answer.{Answer}
 use Rattle.cap_calls.specs.declared.calls.unpack_message.Stage.{Stage}
 use Rattle.cap_calls.specs.declared.limits.CallLimits.{CallLimits}
@@ -17,7 +17,7 @@ use Rattle.cap_calls.proofs.MessageStages.{all_of_message}
 
 -- The call is at the end of what it unpacked.
 at_end : (limit : ℕ) (bs old new : List ℕ) (state : Unpacking) (g : Given) (stage : Stage) → IsState limit state old
-    → Reaches limit state.written state.zero_words state.literal_words bs old new g stage
+    → ReachesStage limit state.written state.zero_words state.literal_words bs old new g stage
     → IsEnd limit (length old) (take g.written new) (drop g.taken bs) g stage
 at_end limit bs old new state g stage is f =
     let inside : g.written ≤ length new = omega (arith, f.gives.fits, f.gives.long) in
@@ -41,9 +41,9 @@ at_end limit bs old new state g stage is f =
 -- So it tells this.
 pub told_stop : (l : CallLimits) (limit : ℕ) (bs old new : List ℕ) (state left : Unpacking) (g : Given) (stage : Stage) (a : Answer)
     (consumed required : ℕ) (r : CallReport) → AreLimits l → limit ≡ l.message_words → AllByRecursion (λ b. b < 256) new
-    → IsState limit state old → Reaches limit state.written state.zero_words state.literal_words bs old new g stage
+    → IsState limit state old → ReachesStage limit state.written state.zero_words state.literal_words bs old new g stage
     → ((size : ℕ) (held : List ℕ) → IsEnd limit size held (drop g.taken bs) g stage
-    → Stops limit size held g.zeros g.literal (drop g.taken bs) a required left.written r) → consumed ≡ g.taken
+    → StopsCall limit size held g.zeros g.literal (drop g.taken bs) a required left.written r) → consumed ≡ g.taken
     → left ≡ state_of left.written g.zeros g.literal state
     → TellsUnpackMessage l bs old state a consumed required new left r
 told_stop l limit bs old new state left g stage a consumed required r lim e small is f stops c s =
@@ -51,14 +51,14 @@ told_stop l limit bs old new state left g stage a consumed required r lim e smal
     let total : state.written + 8 * length ws ≡ g.written =
     given_long state.written state.zero_words state.literal_words bs old new g is.whole f.gives in
     let stop = stops (length old) (take g.written new) (at_end limit bs old new state g stage is f) in
-    let here = subst (λ (k : ℕ). Stops limit (length old) (take k new) g.zeros g.literal (drop g.taken bs) a required left.written r)
+    let here = subst (λ (k : ℕ). StopsCall limit (length old) (take k new) g.zeros g.literal (drop g.taken bs) a required left.written r)
     (sym total) stop in
-    let rest = subst (λ (k : ℕ). Stops limit (length old) (take (state.written + 8 * length ws) new) g.zeros g.literal (drop k bs) a required
+    let rest = subst (λ (k : ℕ). StopsCall limit (length old) (take (state.written + 8 * length ws) new) g.zeros g.literal (drop k bs) a required
     left.written r) (sym c) here in
     let words = appended limit bs old new state g small is.whole f.gives f.before in
     unpacks ws g.zeros g.literal left.written lim (subst (λ (k : ℕ). IsState k state old) e is)
     (subst (λ (k : ℕ). Appends k bs old state ws consumed g.zeros g.literal new) e
     (subst (λ (k : ℕ). Appends limit bs old state ws k g.zeros g.literal new) (sym c) words))
-    (subst (λ (k : ℕ). Stops k (length old) (take (state.written + 8 * length ws) new) g.zeros g.literal (drop consumed bs) a required
+    (subst (λ (k : ℕ). StopsCall k (length old) (take (state.written + 8 * length ws) new) g.zeros g.literal (drop consumed bs) a required
     left.written r) e rest)
     s

@@ -10,8 +10,8 @@ use Rattle.cap_spec.specs.Unpacking.{unpacked}
 use Rattle.cap_spec.proofs.Bytes.Plain.{length_plain, words_exact}
 use Rattle.std.proofs.lemmas.List.Concat.{flat_map-append}
 use Rattle.cap_spec.specs.Endings.{too_large, too_many}
-use Rattle.cap_calls.specs.PackedStreams.{Leads, words_to_come}
-use Rattle.cap_calls.specs.UnpackingMessages.{Appends, IsOpen, Stops, TellsUnpackMessage, bad, state_of, unpacks}
+use Rattle.cap_calls.specs.PackedStreams.{GivesWords, words_to_come}
+use Rattle.cap_calls.specs.UnpackingMessages.{Appends, IsOpen, StopsCall, TellsUnpackMessage, bad, state_of, unpacks}
 use Rattle.cap_calls.specs.UnpackingMessages as stop
 use Rattle.cap_calls.specs.declared.answer.Answer.{Answer}
 use Rattle.cap_calls.specs.declared.limits.CallLimits.{CallLimits}
@@ -81,7 +81,7 @@ one_place z p y q same =
     )
 
 -- fewer bytes do not give the words
-not_fewer : (z p y q x r t u : ℕ) (bytes ws : List ℕ) → Leads z p bytes ws t y q → Leads z p bytes ws u x r → t < u → ⊥
+not_fewer : (z p y q x r t u : ℕ) (bytes ws : List ℕ) → GivesWords z p bytes ws t y q → GivesWords z p bytes ws u x r → t < u → ⊥
 not_fewer z p y q x r t u bytes ws f g less =
     let few = g.least t less in
     let come : words_to_come z p (take t bytes) ≡ ws ++ words_to_come y q [] =
@@ -89,7 +89,7 @@ not_fewer z p y q x r t u bytes ws f g less =
     omega (arith, few, ap length come, length-append ws (words_to_come y q []))
 
 -- So words are followed by one place.
-pub one_lead : (z p y q x r t u : ℕ) (bytes ws : List ℕ) → Leads z p bytes ws t y q → Leads z p bytes ws u x r
+pub one_lead : (z p y q x r t u : ℕ) (bytes ws : List ℕ) → GivesWords z p bytes ws t y q → GivesWords z p bytes ws u x r
     → (t ≡ u) × (y ≡ x) × (q ≡ r)
 one_lead z p y q x r t u bytes ws f g = elim (cases_lt t u) [
   | inl less ↦ absurd (not_fewer z p y q x r t u bytes ws f g less)
@@ -105,7 +105,7 @@ one_lead z p y q x r t u bytes ws f g = elim (cases_lt t u) [
 ]
 
 -- The words that came are the first of those that the bytes give.
-pub words_first : (z p y q t : ℕ) (bytes ws : List ℕ) → Leads z p bytes ws t y q
+pub words_first : (z p y q t : ℕ) (bytes ws : List ℕ) → GivesWords z p bytes ws t y q
     → words_to_come z p bytes ≡ ws ++ words_to_come y q (drop t bytes)
 words_first z p y q t bytes ws f =
     ap (words_to_come z p) (sym (take-append-drop t bytes)) ∙ f.gives (drop t bytes)
@@ -132,7 +132,7 @@ held_after limit bytes old new state ws front tail c z p e t =
 stops_last : (limit : ℕ) (bytes old new longer : List ℕ) (state : Unpacking) (ws vs : List ℕ) (c z p d y q : ℕ) (a : Answer)
     (n w : ℕ) (r : CallReport) → Appends limit bytes old state ws c z p new → Appends limit bytes old state vs d y q longer
     → length ws < length vs
-    → Stops limit (length old) (take (state.written + 8 * length ws) new) z p (drop c bytes) a n w r → ⊥
+    → StopsCall limit (length old) (take (state.written + 8 * length ws) new) z p (drop c bytes) a n w r → ⊥
 stops_last limit bytes old new longer state ws vs c z p d y q a n w r f g less s =
     let more = words_to_come z p (drop c bytes) in
     let others = words_to_come y q (drop d bytes) in
@@ -164,7 +164,7 @@ stops_last limit bytes old new longer state ws vs c z p d y q a n w r f g less s
     not_last held goes_on.0 still s some (omega (arith, long, g.fits, less))
   where
     not_last : (held : List ℕ) (wanted : ℕ) → IsOpen limit held wanted
-        → Stops limit (length old) held z p (drop c bytes) a n w r → 0 < length (words_to_come z p (drop c bytes))
+        → StopsCall limit (length old) held z p (drop c bytes) a n w r → 0 < length (words_to_come z p (drop c bytes))
         → length held + 8 ≤ length old → ⊥
     not_last held wanted o (stop.whole m f e g h i) some room = open_not_whole limit wanted (length held) held m o f
     not_last held wanted o (stop.too_many k f e g h i) some room = never_open limit held too_many wanted (λ j. cc) (λ j. cc) f.0 o
@@ -177,8 +177,8 @@ stops_last limit bytes old new longer state ws vs c z p d y q a n w r f g less s
 -- So two calls append the same words.
 same_words : (limit : ℕ) (bytes old new longer : List ℕ) (state : Unpacking) (ws vs : List ℕ) (c z p d y q : ℕ) (a b : Answer)
     (n k w v : ℕ) (r s : CallReport) → Appends limit bytes old state ws c z p new → Appends limit bytes old state vs d y q longer
-    → Stops limit (length old) (take (state.written + 8 * length ws) new) z p (drop c bytes) a n w r
-    → Stops limit (length old) (take (state.written + 8 * length vs) longer) y q (drop d bytes) b k v s → ws ≡ vs
+    → StopsCall limit (length old) (take (state.written + 8 * length ws) new) z p (drop c bytes) a n w r
+    → StopsCall limit (length old) (take (state.written + 8 * length vs) longer) y q (drop d bytes) b k v s → ws ≡ vs
 same_words limit bytes old new longer state ws vs c z p d y q a b n k w v r s f g h i = elim (cases_lt (length ws) (length vs)) [
   | inl less ↦ absurd (stops_last limit bytes old new longer state ws vs c z p d y q a n w r f g less h)
   | inr more ↦ elim (cases_lt (length vs) (length ws)) [
@@ -195,8 +195,8 @@ same_words limit bytes old new longer state ws vs c z p d y q a b n k w v r s f 
 -- What is told of the same words.
 told_once : (limit : ℕ) (bytes old new longer : List ℕ) (state left last : Unpacking) (ws vs : List ℕ) (c z p d y x : ℕ) (a b : Answer)
     (n k w v : ℕ) (r q : CallReport) → Appends limit bytes old state ws c z p new → Appends limit bytes old state vs d y x longer
-    → Stops limit (length old) (take (state.written + 8 * length ws) new) z p (drop c bytes) a n w r
-    → Stops limit (length old) (take (state.written + 8 * length vs) longer) y x (drop d bytes) b k v q
+    → StopsCall limit (length old) (take (state.written + 8 * length ws) new) z p (drop c bytes) a n w r
+    → StopsCall limit (length old) (take (state.written + 8 * length vs) longer) y x (drop d bytes) b k v q
     → left ≡ state_of w z p state → last ≡ state_of v y x state
     → (a ≡ b) × (c ≡ d) × (n ≡ k) × (new ≡ longer) × (left ≡ last) × (r ≡ q)
 told_once limit bytes old new longer state left last ws vs c z p d y x a b n k w v r q f g h i e j =
@@ -206,15 +206,15 @@ told_once limit bytes old new longer state left last ws vs c z p d y x a b n k w
     ∙ (ap (λ (l : List ℕ). take state.written old ++ (plain_text l ++ drop (state.written + 8 * length l) old)) same
     ∙ sym g.text) in
     let place = one_lead state.zero_words state.literal_words z p y x c d bytes ws f.leads
-    (subst (λ (l : List ℕ). Leads state.zero_words state.literal_words bytes l d y x) (sym same) g.leads) in
+    (subst (λ (l : List ℕ). GivesWords state.zero_words state.literal_words bytes l d y x) (sym same) g.leads) in
     let held : take (state.written + 8 * length vs) longer ≡ take (state.written + 8 * length ws) new =
     ap₂ (λ (l m : List ℕ). take (state.written + 8 * length l) m) (sym same) (sym text) in
-    let stop = subst (λ (m : List ℕ). Stops limit (length old) m z p (drop c bytes) b k v q) held
-    (subst (λ (t : ℕ). Stops limit (length old) (take (state.written + 8 * length vs) longer) z p (drop t bytes) b k v q)
+    let stop = subst (λ (m : List ℕ). StopsCall limit (length old) m z p (drop c bytes) b k v q) held
+    (subst (λ (t : ℕ). StopsCall limit (length old) (take (state.written + 8 * length vs) longer) z p (drop t bytes) b k v q)
     (sym place.0)
-    (subst (λ (t : ℕ). Stops limit (length old) (take (state.written + 8 * length vs) longer) z t (drop d bytes) b k v q)
+    (subst (λ (t : ℕ). StopsCall limit (length old) (take (state.written + 8 * length vs) longer) z t (drop d bytes) b k v q)
     (sym place.2)
-    (subst (λ (t : ℕ). Stops limit (length old) (take (state.written + 8 * length vs) longer) t x (drop d bytes) b k v q)
+    (subst (λ (t : ℕ). StopsCall limit (length old) (take (state.written + 8 * length vs) longer) t x (drop d bytes) b k v q)
     (sym place.1) i))) in
     let one = one_stop limit (take (state.written + 8 * length ws) new) (length old) z p (drop c bytes) a b n k w v r q h stop in (
       one.0,

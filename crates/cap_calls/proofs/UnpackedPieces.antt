@@ -6,8 +6,8 @@ use Rattle.std.proofs.lemmas.List.{drop-append-le, length-drop, length-take-le, 
 use Rattle.std.proofs.lemmas.List.Concat.{flat_map-append}
 use Rattle.cap_spec.specs.Plain.{plain_text, word_bytes}
 use Rattle.cap_spec.proofs.Bytes.Plain.{length_plain}
-use Rattle.cap_calls.specs.PackedStreams.{Leads, words_to_come}
-use Rattle.cap_calls.specs.UnpackingMessages.{Appends, IsOpen, IsState, Stops, TellsUnpackMessage, bad, state_of, unpacks}
+use Rattle.cap_calls.specs.PackedStreams.{GivesWords, words_to_come}
+use Rattle.cap_calls.specs.UnpackingMessages.{Appends, IsOpen, IsState, StopsCall, TellsUnpackMessage, bad, state_of, unpacks}
 use Rattle.cap_calls.specs.UnpackingMessages as stop
 use Rattle.cap_calls.specs.declared.answer.Answer.{Answer}
 use Rattle.cap_calls.specs.declared.answer.Answer.TheVariants.{NoMessage, Truncated}
@@ -19,7 +19,7 @@ use Rattle.cap_calls.proofs.MessageStages.{open_not_whole}
 use Rattle.cap_calls.proofs.PackedStreams.{leads_both}
 
 -- more bytes change nothing of what the first give
-leads_longer : (z p y q t : ℕ) (bytes more ws : List ℕ) → Leads z p bytes ws t y q → Leads z p (bytes ++ more) ws t y q
+leads_longer : (z p y q t : ℕ) (bytes more ws : List ℕ) → GivesWords z p bytes ws t y q → GivesWords z p (bytes ++ more) ws t y q
 leads_longer z p y q t bytes more ws f = record {
   within = omega (arith, f.within, length-append bytes more);
   gives = λ rest. ap (λ (l : List ℕ). words_to_come z p (l ++ rest)) (take-append-le t bytes more f.within) ∙ f.gives rest;
@@ -109,7 +109,7 @@ module _ (limit : ℕ) (bytes more old new newer : List ℕ) (state : Unpacking)
 
 -- After these two answers the message goes on.
 goes_on : (limit size : ℕ) (held : List ℕ) (z p : ℕ) (rest : List ℕ) (a : Answer) (n w : ℕ) (r : CallReport)
-    → (a ≡ Truncated) ⊎ (a ≡ NoMessage) → Stops limit size held z p rest a n w r
+    → (a ≡ Truncated) ⊎ (a ≡ NoMessage) → StopsCall limit size held z p rest a n w r
     → (wanted : ℕ) × IsOpen limit held wanted × (w ≡ length held)
 goes_on limit size held z p rest a n w r t (stop.whole m f e g h i) = absurd (other t e)
   where
@@ -187,8 +187,8 @@ pieces_told l bs more old state a b c d n k new newer left last r q (unpacks ws 
         ap (drop d) (sym (drop-append-le c bs more f.leads.within)) ∙ drop-drop d c (bs ++ more) in
         unpacks (ws ++ vs) y x v lim is
         (both_appended l.message_words bs more old new newer state ws vs c z p d y x w f at g)
-        (subst (λ (u : ℕ). Stops l.message_words u (take (state.written + 8 * length (ws ++ vs)) newer) y x (drop (c + d) (bs ++ more)) b k v q)
+        (subst (λ (u : ℕ). StopsCall l.message_words u (take (state.written + 8 * length (ws ++ vs)) newer) y x (drop (c + d) (bs ++ more)) b k v q)
         (same_size l.message_words bs more old new newer state ws vs c z p d y x w f at g)
-        (subst (λ (u : ℕ). Stops l.message_words (length new) (take u newer) y x (drop (c + d) (bs ++ more)) b k v q) count
-        (subst (λ (u : List ℕ). Stops l.message_words (length new) (take (w + 8 * length vs) newer) y x u b k v q) rest i)))
+        (subst (λ (u : ℕ). StopsCall l.message_words (length new) (take u newer) y x (drop (c + d) (bs ++ more)) b k v q) count
+        (subst (λ (u : List ℕ). StopsCall l.message_words (length new) (take (w + 8 * length vs) newer) y x u b k v q) rest i)))
         j

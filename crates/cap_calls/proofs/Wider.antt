@@ -15,7 +15,7 @@ use Rattle.cap_spec.proofs.Strict.Faults.{strict_wider}
 use Rattle.cap_vet.specs.Demands.{Meets, words_under}
 use Rattle.cap_vet.specs.Reports.{IsAccepted}
 use Rattle.cap_vet.specs.declared.report.Report.{Report}
-use Rattle.cap_calls.specs.AnswerNumbers.{number_of, reason_answer, refusal_answer}
+use Rattle.cap_calls.specs.AnswerNumbers.{answer_number, reason_answer, refusal_answer}
 use Rattle.cap_calls.specs.CallFindings.{Judges, TellsWhole, accepted, framed, refused, tells, trailing, without}
 use Rattle.cap_calls.specs.CallFlags.{AllowsMore, allows_amplified, allows_nonstrict, allows_trailing, demands_of}
 use Rattle.cap_calls.specs.CallFrames.{AreLimits, HasFrame, HasTrailing}
@@ -33,17 +33,17 @@ use Rattle.cap_calls.specs.declared.report.CallReport.{CallReport}
 use Rattle.cap_calls.proofs.Answers.{one_extent}
 
 -- no other answer has the number 0
-pub not_zero : (a : Answer) → 1 ≤ number_of a → a ≡ answer.Good → ⊥
-not_zero a some e = omega (arith, some, ap number_of e)
+pub not_zero : (a : Answer) → 1 ≤ answer_number a → a ≡ answer.Good → ⊥
+not_zero a some e = omega (arith, some, ap answer_number e)
 
-pub cause_not_zero : (c : NoFrame) → 1 ≤ number_of (cause_answer c)
+pub cause_not_zero : (c : NoFrame) → 1 ≤ answer_number (cause_answer c)
 cause_not_zero BadLimits = omega arith
 cause_not_zero NoMessage = omega arith
 cause_not_zero (Fault (fault.TooManySegments n)) = omega arith
 cause_not_zero (Fault (fault.TooLarge n)) = omega arith
 cause_not_zero (Fault (fault.Truncated n)) = omega arith
 
-reason_not_zero : (r : Reason) → 1 ≤ number_of (reason_answer r)
+reason_not_zero : (r : Reason) → 1 ≤ answer_number (reason_answer r)
 reason_not_zero reason.NoRoot = omega arith
 reason_not_zero reason.Reserved = omega arith
 reason_not_zero reason.SegmentMissing = omega arith
@@ -58,7 +58,7 @@ reason_not_zero reason.CompositeOverrun = omega arith
 reason_not_zero reason.DepthLimit = omega arith
 reason_not_zero reason.WordLimit = omega arith
 
-pub refusal_not_zero : (r : StrictRefusal) → 1 ≤ number_of (refusal_answer r)
+pub refusal_not_zero : (r : StrictRefusal) → 1 ≤ answer_number (refusal_answer r)
 refusal_not_zero (strict.Refused it) = reason_not_zero it.reason
 refusal_not_zero strict.ManySegments = omega arith
 refusal_not_zero (strict.Pointer lax.NullPad s w n) = omega arith

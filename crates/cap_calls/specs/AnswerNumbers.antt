@@ -17,39 +17,39 @@ use Rattle.cap_calls.specs.declared.answer.Answer.TheVariants.{PadNotFar, TagKin
 use Rattle.cap_calls.specs.declared.answer.Answer.TheVariants.{CompositeTag, CompositeOverrun, DepthLimit, WordLimit}
 
 -- the number of an answer
-abbrev pub number_of : Answer → ℕ
-number_of Good = 0
-number_of NoMessage = 1
-number_of TooManySegments = 2
-number_of TooLarge = 3
-number_of Truncated = 4
-number_of Trailing = 5
-number_of BadLimits = 8
-number_of BufferTooSmall = 9
-number_of BadPath = 10
-number_of NoSegment = 11
-number_of BadSegment = 12
-number_of NotCanonical = 16
-number_of HasCapability = 17
-number_of Overlap = 18
-number_of NullPad = 19
-number_of EmptySegment = 20
-number_of NoNode = 21
-number_of CapabilityPad = 22
-number_of ManySegments = 23
-number_of NoRoot = 32
-number_of Reserved = 33
-number_of SegmentMissing = 34
-number_of PadOutside = 35
-number_of PadIsFar = 36
-number_of PadNotFar = 37
-number_of TagKind = 38
-number_of TagOffset = 39
-number_of OutOfSegment = 40
-number_of CompositeTag = 41
-number_of CompositeOverrun = 42
-number_of DepthLimit = 43
-number_of WordLimit = 44
+abbrev pub answer_number : Answer → ℕ
+answer_number Good = 0
+answer_number NoMessage = 1
+answer_number TooManySegments = 2
+answer_number TooLarge = 3
+answer_number Truncated = 4
+answer_number Trailing = 5
+answer_number BadLimits = 8
+answer_number BufferTooSmall = 9
+answer_number BadPath = 10
+answer_number NoSegment = 11
+answer_number BadSegment = 12
+answer_number NotCanonical = 16
+answer_number HasCapability = 17
+answer_number Overlap = 18
+answer_number NullPad = 19
+answer_number EmptySegment = 20
+answer_number NoNode = 21
+answer_number CapabilityPad = 22
+answer_number ManySegments = 23
+answer_number NoRoot = 32
+answer_number Reserved = 33
+answer_number SegmentMissing = 34
+answer_number PadOutside = 35
+answer_number PadIsFar = 36
+answer_number PadNotFar = 37
+answer_number TagKind = 38
+answer_number TagOffset = 39
+answer_number OutOfSegment = 40
+answer_number CompositeTag = 41
+answer_number CompositeOverrun = 42
+answer_number DepthLimit = 43
+answer_number WordLimit = 44
 
 -- the answer of the name of this reason
 abbrev pub reason_answer : Reason → Answer

@@ -14,12 +14,12 @@ use Rattle.cap_calls.specs.declared.limits.CallLimits.{CallLimits}
 use Rattle.cap_calls.specs.declared.report.CallReport.{CallReport}
 
 -- of a frame: nothing of its message
-abbrev pub Frames : List (List ℕ) → ℕ → ℕ → Found → Type 0
-Frames m words depth f = f ≡ record { answer = Good; count = 0; report = none_report }
+abbrev pub FindsFrame : List (List ℕ) → ℕ → ℕ → Found → Type 0
+FindsFrame m words depth f = f ≡ record { answer = Good; count = 0; report = none_report }
 
 -- of the frame at the start of the bytes
 abbrev pub TellsFrame : CallLimits → List ℕ → Answer → CallReport → Type 0
-TellsFrame l bytes a r = (f : Found) × Tells ⊤ Frames l bytes f × Returns f a r
+TellsFrame l bytes a r = (f : Found) × Tells ⊤ FindsFrame l bytes f × Returns f a r
 
 -- What a call reports of the message that the bytes are, or start with if the flags allow it.
 abbrev pub TellsMessage : Type 0 → (List (List ℕ) → ℕ → ℕ → Found → Type 0) → CallLimits → List ℕ → Found → Type 0

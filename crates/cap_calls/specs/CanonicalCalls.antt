@@ -20,18 +20,18 @@ use Rattle.cap_calls.specs.declared.limits.CallLimits.{CallLimits}
 use Rattle.cap_calls.specs.declared.report.CallReport.{CallReport}
 
 -- Of a message that is accepted, for a buffer that held `old`, and then holds `new`.
-pub data IsCopied (old new : List ℕ) (m : List (List ℕ)) (report : Report) (f : Found) : Type 0 where
+pub data FindsCopy (old new : List ℕ) (m : List (List ℕ)) (report : Report) (f : Found) : Type 0 where
   -- a capability is reached, the first of which the report names
   has_capability : IsFirstCap m f.report.segment f.report.word → f ≡ accepted_found answer.HasCapability 0 report
       → new ≡ old
-      → IsCopied old new m report f
+      → FindsCopy old new m report f
   -- there is a copy, which is written if the buffer has the capacity
   copied : (words : List ℕ) → HasCopy m words → TellsText (plain_text words) old f.answer f.count new
       → f.report ≡ accepted_report report
-      → IsCopied old new m report f
+      → FindsCopy old new m report f
 
 abbrev pub Copies : List ℕ → List ℕ → Demands → List (List ℕ) → ℕ → ℕ → Found → Type 0
-Copies old new demands = Judges demands (new ≡ old) (IsCopied old new)
+Copies old new demands = Judges demands (new ≡ old) (FindsCopy old new)
 
 -- Of the message that the input is or starts with: n bytes are the length of its copy.
 abbrev pub TellsCopy : CallLimits → List ℕ → List ℕ → Answer → ℕ → List ℕ → CallReport → Type 0
@@ -42,7 +42,7 @@ TellsCopy l bytes old a n new r =
 -- The same with all three flags.
 abbrev pub TellsAnyCopy : CallLimits → List ℕ → List ℕ → Answer → ℕ → List ℕ → CallReport → Type 0
 TellsAnyCopy l bytes old a n new r =
-    (f : Found) × Tells (new ≡ old) (JudgesAny (new ≡ old) (IsCopied old new)) l bytes f × Returns f a r
+    (f : Found) × Tells (new ≡ old) (JudgesAny (new ≡ old) (FindsCopy old new)) l bytes f × Returns f a r
     × (n ≡ f.count)
 
 -- what is found of a message that is accepted, by the result of its copy

@@ -26,21 +26,21 @@ abbrev pub overlap_found : ℕ → ℕ → ℕ → ℕ → Found
 overlap_found n s w pointers = record { answer = answer.Overlap; count = n; report = place_report s w pointers }
 
 -- Of an accepted message, for a buffer of `size` numbers.
-pub data IsMarked (size : ℕ) (m : List (List ℕ)) (report : Report) (f : Found) : Type 0 where
+pub data FindsMarks (size : ℕ) (m : List (List ℕ)) (report : Report) (f : Found) : Type 0 where
   -- the buffer is too small
   too_small : size < marks_of m → f ≡ accepted_found answer.BufferTooSmall (marks_of m) report
-      → IsMarked size m report f
+      → FindsMarks size m report f
   -- a word is used twice
   overlap : (s w pointers : ℕ) → marks_of m ≤ size → IsFirstOverlap m s w pointers
       → f ≡ overlap_found (marks_of m) s w pointers
-      → IsMarked size m report f
+      → FindsMarks size m report f
   -- no word is used twice
   exclusive : marks_of m ≤ size → IsDisjoint m → f ≡ accepted_found answer.Good (marks_of m) report
-      → IsMarked size m report f
+      → FindsMarks size m report f
 
 -- of a message
 abbrev pub Marks : ℕ → Demands → List (List ℕ) → ℕ → ℕ → Found → Type 0
-Marks size demands = Judges demands ⊤ (IsMarked size)
+Marks size demands = Judges demands ⊤ (FindsMarks size)
 
 -- the marks are in the numbers that are required, and are there only with these answers
 pub record KeepsMarks (old new : List ℕ) (f : Found) : Type 0 where

@@ -1,7 +1,7 @@
 -- How a message goes on of which a buffer holds the first bytes (profile).
 use Rattle.std.specs.Prelude.{ℕ, ◌+◌, ◌%◌, ◌<◌, ◌≡◌, ◌≤◌, List, [], ⊤, drop, length, take}
 use Rattle.cap_frame.specs.Fronts.{IsFront, TellsLarge, TellsMany}
-use Rattle.cap_calls.specs.PackedStreams.{Gives, words_to_come}
+use Rattle.cap_calls.specs.PackedStreams.{WritesWords, words_to_come}
 use Rattle.cap_calls.specs.UnpackingMessages.{IsOpen}
 use Rattle.cap_calls.specs.declared.calls.unpack_message.Stage.{Stage}
 use Rattle.cap_calls.specs.declared.calls.unpack_message.Stage.TheVariants.{Open, Whole, TooMany, TooLarge}
@@ -15,19 +15,20 @@ IsStage limit held (TooMany count) = TellsMany held count
 IsStage limit held (TooLarge words) = TellsLarge limit held words
 
 -- if more words belong to the message, the buffer of `size` bytes has no space for one, or none comes next
-abbrev pub EndsAt : Stage → ℕ → Given → List ℕ → Type 0
-EndsAt (Open wanted) size g rest = g.written + 8 ≤ size → words_to_come g.zeros g.literal rest ≡ []
-EndsAt (Whole segments) size g rest = ⊤
-EndsAt (TooMany count) size g rest = ⊤
-EndsAt (TooLarge words) size g rest = ⊤
+abbrev pub CannotAppend : Stage → ℕ → Given → List ℕ → Type 0
+CannotAppend (Open wanted) size g rest =
+    g.written + 8 ≤ size → words_to_come g.zeros g.literal rest ≡ []
+CannotAppend (Whole segments) size g rest = ⊤
+CannotAppend (TooMany count) size g rest = ⊤
+CannotAppend (TooLarge words) size g rest = ⊤
 
 -- Words were appended up to this stage.
-pub record Reaches (limit start zeros literal : ℕ) (bytes old new : List ℕ) (g : Given) (stage : Stage) : Type 0 where
-  pub gives : Gives start zeros literal bytes old new g
+pub record ReachesStage (limit start zeros literal : ℕ) (bytes old new : List ℕ) (g : Given) (stage : Stage) : Type 0 where
+  pub gives : WritesWords start zeros literal bytes old new g
   pub is_stage : IsStage limit (take g.written new) stage
   pub before : (n : ℕ) → start ≤ n → n < g.written → n % 8 ≡ 0
       → (wanted : ℕ) × IsOpen limit (take n new) wanted
-  pub ends : EndsAt stage (length old) g (drop g.taken bytes)
+  pub ends : CannotAppend stage (length old) g (drop g.taken bytes)
 
 -- A call stops at this stage, for a buffer of `size` bytes that holds these bytes of a message. A message that is
 -- whole is all of them.
@@ -35,4 +36,4 @@ pub record IsEnd (limit size : ℕ) (held rest : List ℕ) (g : Given) (stage : 
   pub long : length held ≡ g.written
   pub is_stage : IsStage limit held stage
   pub exact : (m : List (List ℕ)) (n : ℕ) → IsFront limit held m n → n ≡ length held
-  pub ends : EndsAt stage size g rest
+  pub ends : CannotAppend stage size g rest

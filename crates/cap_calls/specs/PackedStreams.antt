@@ -20,7 +20,7 @@ head_length (tag ∷ bytes) = if tag == 0 then 2 else (if tag == 255 then 10 els
 
 -- At one place in a stream `zeros` zero words and `literal` literal words of a run are still to come, and
 -- at a later place those that are left. The `taken` bytes between them give these words.
-pub record Leads (zeros literal : ℕ) (bytes words : List ℕ) (taken zeros_left literal_left : ℕ) : Type 0 where
+pub record GivesWords (zeros literal : ℕ) (bytes words : List ℕ) (taken zeros_left literal_left : ℕ) : Type 0 where
   pub within : taken ≤ length bytes
   -- whatever bytes follow
   pub gives : (more : List ℕ) → words_to_come zeros literal (take taken bytes ++ more)
@@ -29,18 +29,18 @@ pub record Leads (zeros literal : ℕ) (bytes words : List ℕ) (taken zeros_lef
   pub least : (n : ℕ) → n < taken → length (words_to_come zeros literal (take n bytes)) < length words
 
 -- the numbers of words that a run may still have
-pub record IsRest (zeros literal : ℕ) : Type 0 where
+pub record IsRunRest (zeros literal : ℕ) : Type 0 where
   pub zeros_fit : zeros ≤ 255
   pub literal_fit : literal ≤ 255
   pub one : (zeros ≡ 0) ⊎ (literal ≡ 0)
 
 -- The words that some bytes give are in a buffer that held `old`, from one byte up to another.
-pub record Gives (start zeros literal : ℕ) (bytes old new : List ℕ) (g : Given) : Type 0 where
+pub record WritesWords (start zeros literal : ℕ) (bytes old new : List ℕ) (g : Given) : Type 0 where
   pub after : start ≤ g.written
   pub fits : g.written ≤ length old
   pub long : length new ≡ length old
   pub whole : g.written % 8 ≡ 0
-  pub leads : Leads zeros literal bytes (plain_words (drop start (take g.written new))) g.taken g.zeros g.literal
+  pub leads : GivesWords zeros literal bytes (plain_words (drop start (take g.written new))) g.taken g.zeros g.literal
   pub front : take start new ≡ take start old
   pub rest : drop g.written new ≡ drop g.written old
-  pub left : IsRest g.zeros g.literal
+  pub left : IsRunRest g.zeros g.literal

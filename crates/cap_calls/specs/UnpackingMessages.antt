@@ -8,7 +8,7 @@ use Rattle.cap_frame.specs.Fronts.{IsFront, TellsLarge, TellsMany}
 use Rattle.cap_frame.specs.declared.fault.FrontFault.TheVariants.{Truncated}
 use Rattle.cap_calls.specs.CallFrames.{AreLimits}
 use Rattle.cap_calls.specs.CallReports.{none_report}
-use Rattle.cap_calls.specs.PackedStreams.{IsRest, Leads, head_length, words_to_come}
+use Rattle.cap_calls.specs.PackedStreams.{IsRunRest, GivesWords, head_length, words_to_come}
 use Rattle.cap_calls.specs.declared.answer.Answer.{Answer}
 use Rattle.cap_calls.specs.declared.answer.Answer.TheVariants as answer
 use Rattle.cap_calls.specs.declared.limits.CallLimits.{CallLimits}
@@ -22,7 +22,7 @@ IsOpen limit held wanted = ((held ≡ []) × (wanted ≡ 8)) ⊎ TellsFront limi
 
 -- A state that a call may leave, for a buffer with these bytes.
 pub record IsState (limit : ℕ) (state : Unpacking) (out : List ℕ) : Type 0 where
-  pub left : IsRest state.zero_words state.literal_words
+  pub left : IsRunRest state.zero_words state.literal_words
   pub first : slice_index state.reserved 0 ≡ 0
   pub second : slice_index state.reserved 1 ≡ 0
   pub whole : state.written % 8 ≡ 0
@@ -33,12 +33,12 @@ pub record IsState (limit : ℕ) (state : Unpacking) (out : List ℕ) : Type 0 w
 pub record Appends (limit : ℕ) (bytes old : List ℕ) (state : Unpacking) (words : List ℕ) (consumed zeros literal : ℕ)
     (new : List ℕ) : Type 0 where
   pub fits : state.written + 8 * length words ≤ length old
-  pub leads : Leads state.zero_words state.literal_words bytes words consumed zeros literal
+  pub leads : GivesWords state.zero_words state.literal_words bytes words consumed zeros literal
   pub text : new ≡ take state.written old ++ (plain_text words ++ drop (state.written + 8 * length words) old)
   -- none after the end of a message
   pub before : (n : ℕ) → n < length words
       → (wanted : ℕ) × IsOpen limit (take (state.written + 8 * n) new) wanted
-  pub left : IsRest zeros literal
+  pub left : IsRunRest zeros literal
 
 -- how many bytes the rest of the input needs at least for its next word, or for the tag before it
 abbrev pub bytes_needed : ℕ → List ℕ → ℕ
@@ -46,29 +46,29 @@ bytes_needed literal rest = if literal == 0 then head_length rest else 8
 
 -- Why a call stops, if the buffer of `size` bytes then holds these bytes of a message, and the input
 -- is left at this place with these bytes.
-pub data Stops (limit size : ℕ) (held : List ℕ) (zeros literal : ℕ) (rest : List ℕ) (a : Answer) (required written : ℕ)
+pub data StopsCall (limit size : ℕ) (held : List ℕ) (zeros literal : ℕ) (rest : List ℕ) (a : Answer) (required written : ℕ)
     (r : CallReport) : Type 0 where
   -- the message is whole
   whole : (m : List (List ℕ)) → IsFront limit held m (length held) → a ≡ answer.Good → required ≡ length held
       → written ≡ 0 → r ≡ record none_report { length = length held; segments = length m }
-      → Stops limit size held zeros literal rest a required written r
+      → StopsCall limit size held zeros literal rest a required written r
   -- it has too many segments, or too many words
   too_many : (count : ℕ) → TellsMany held count → a ≡ answer.TooManySegments → required ≡ 0 → written ≡ length held
-      → r ≡ record none_report { detail = count } → Stops limit size held zeros literal rest a required written r
+      → r ≡ record none_report { detail = count } → StopsCall limit size held zeros literal rest a required written r
   too_large : (words : ℕ) → TellsLarge limit held words → a ≡ answer.TooLarge → required ≡ 0 → written ≡ length held
-      → r ≡ record none_report { detail = words } → Stops limit size held zeros literal rest a required written r
+      → r ≡ record none_report { detail = words } → StopsCall limit size held zeros literal rest a required written r
   -- a word comes next, for which the buffer is too small
   too_small : IsOpen limit held required → words_to_come zeros literal rest ≢ [] → size < length held + 8
       → a ≡ answer.BufferTooSmall → written ≡ length held → r ≡ none_report
-      → Stops limit size held zeros literal rest a required written r
+      → StopsCall limit size held zeros literal rest a required written r
   -- no word comes next: nothing is pending
   no_message : held ≡ [] → zeros ≡ 0 → literal ≡ 0 → rest ≡ [] → a ≡ answer.NoMessage → required ≡ 0 → written ≡ 0
-      → r ≡ record none_report { input_required = 1 } → Stops limit size held zeros literal rest a required written r
+      → r ≡ record none_report { input_required = 1 } → StopsCall limit size held zeros literal rest a required written r
   -- or the input ends before the next word of the message
   truncated : (wanted : ℕ) → IsOpen limit held wanted → words_to_come zeros literal rest ≡ []
       → ¬ ((held ≡ []) × (literal ≡ 0) × (rest ≡ [])) → a ≡ answer.Truncated → required ≡ 0 → written ≡ length held
       → r ≡ record none_report { input_required = bytes_needed literal rest }
-      → Stops limit size held zeros literal rest a required written r
+      → StopsCall limit size held zeros literal rest a required written r
 
 -- the state with `written` bytes of the message, and this rest of a run
 abbrev pub state_of : ℕ → ℕ → ℕ → Unpacking → Unpacking
@@ -84,7 +84,7 @@ pub data TellsUnpackMessage (l : CallLimits) (bytes old : List ℕ) (state : Unp
   -- words are appended, and then the call stops
   unpacks : (words : List ℕ) (zeros literal written : ℕ) → AreLimits l → IsState l.message_words state old
       → Appends l.message_words bytes old state words consumed zeros literal new
-      → Stops l.message_words (length old) (take (state.written + 8 * length words) new) zeros literal
+      → StopsCall l.message_words (length old) (take (state.written + 8 * length words) new) zeros literal
       (drop consumed bytes) a required written r
       → left ≡ state_of written zeros literal state
       → TellsUnpackMessage l bytes old state a consumed required new left r
@@ -108,8 +108,8 @@ Leaves u consumed required out state report = (consumed ≡ u.consumed) × (requ
     × (state ≡ u.state) × (report ≡ u.report)
 
 -- It asks for more input, and the next call is over the bytes that it left and the next piece.
-abbrev pub GoesOnWith : CallLimits → List ℕ → List ℕ → Unpacked → Unpacked → Type 0
-GoesOnWith l piece more u v = ((u.answer ≡ answer.Truncated) ⊎ (u.answer ≡ answer.NoMessage))
+abbrev pub CallsAgain : CallLimits → List ℕ → List ℕ → Unpacked → Unpacked → Type 0
+CallsAgain l piece more u v = ((u.answer ≡ answer.Truncated) ⊎ (u.answer ≡ answer.NoMessage))
     × UnpacksTo l (drop u.consumed piece ++ more) u.out u.state v
 
 -- both calls together

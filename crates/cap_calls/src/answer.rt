@@ -67,13 +67,13 @@ pub enum Answer {
 }
 
 impl Answer {
-    ghost use Rattle.cap_calls.specs.AnswerNumbers.{lax_answer, number_of, reason_answer, refusal_answer};
+    ghost use Rattle.cap_calls.specs.AnswerNumbers.{lax_answer, answer_number, reason_answer, refusal_answer};
     ghost use Rattle.cap_calls.specs.CallReports.{cause_answer};
 
     /// Its number in the header.
     #[inline]
     pub fn number(self) -> u32
-        ensures { result ≡ number_of self }
+        ensures { result ≡ answer_number self }
     {
         self as u32
     }

@@ -1,6 +1,6 @@
 //! Words out of a packed stream, of which some bytes are there.
 
-ghost use Rattle.cap_calls.specs.PackedStreams.{Gives, IsRest, Leads, words_to_come};
+ghost use Rattle.cap_calls.specs.PackedStreams.{WritesWords, IsRunRest, GivesWords, words_to_come};
 ghost use Rattle.cap_calls.specs.UnpackingMessages.{bytes_needed};
 ghost use Rattle.std.specs.Prelude.{◌+◌, ◌<◌, ◌≡◌, ◌≢◌, ◌≤◌, [], ◌∷◌, IfNone, IfSome, drop, false, length, slice_index, true};
 
@@ -35,8 +35,8 @@ struct Head {
 // The head at the start of the bytes, or `None` if they end inside it.
 fn head_of(bytes: &[u8]) -> Option<Head>
     ensures leads { IfSome result (λ h.
-        Leads 0 0 bytes.now (h.word ∷ []) h.length h.zeros h.literal) }
-    ensures left { IfSome result (λ h. IsRest h.zeros h.literal) }
+        GivesWords 0 0 bytes.now (h.word ∷ []) h.length h.zeros h.literal) }
+    ensures left { IfSome result (λ h. IsRunRest h.zeros h.literal) }
     ensures none { IfNone result (words_to_come 0 0 bytes.now ≡ []) }
 {
     if bytes.is_empty() {
@@ -54,8 +54,8 @@ fn zeros_head(bytes: &[u8]) -> Option<Head>
     requires some { 0 < length bytes.now }
     requires tag { slice_index bytes.now 0 ≡ 0 }
     ensures leads { IfSome result (λ h.
-        Leads 0 0 bytes.now (h.word ∷ []) h.length h.zeros h.literal) }
-    ensures left { IfSome result (λ h. IsRest h.zeros h.literal) }
+        GivesWords 0 0 bytes.now (h.word ∷ []) h.length h.zeros h.literal) }
+    ensures left { IfSome result (λ h. IsRunRest h.zeros h.literal) }
     ensures none { IfNone result (words_to_come 0 0 bytes.now ≡ []) }
 {
     if bytes.len() < 2 {
@@ -74,8 +74,8 @@ fn literal_head(bytes: &[u8]) -> Option<Head>
     requires some { 0 < length bytes.now }
     requires tag { slice_index bytes.now 0 ≡ 255 }
     ensures leads { IfSome result (λ h.
-        Leads 0 0 bytes.now (h.word ∷ []) h.length h.zeros h.literal) }
-    ensures left { IfSome result (λ h. IsRest h.zeros h.literal) }
+        GivesWords 0 0 bytes.now (h.word ∷ []) h.length h.zeros h.literal) }
+    ensures left { IfSome result (λ h. IsRunRest h.zeros h.literal) }
     ensures none { IfNone result (words_to_come 0 0 bytes.now ≡ []) }
 {
     if bytes.len() < 10 {
@@ -97,8 +97,8 @@ fn marked_head(bytes: &[u8], tag: u8) -> Option<Head>
     requires tag { slice_index bytes.now 0 ≡ tag }
     requires marked { (tag ≢ 0) × (tag ≢ 255) }
     ensures leads { IfSome result (λ h.
-        Leads 0 0 bytes.now (h.word ∷ []) h.length h.zeros h.literal) }
-    ensures left { IfSome result (λ h. IsRest h.zeros h.literal) }
+        GivesWords 0 0 bytes.now (h.word ∷ []) h.length h.zeros h.literal) }
+    ensures left { IfSome result (λ h. IsRunRest h.zeros h.literal) }
     ensures none { IfNone result (words_to_come 0 0 bytes.now ≡ []) }
 {
     let length = 1 + tag.count_ones() as usize;
@@ -118,7 +118,7 @@ fn marked_head(bytes: &[u8], tag: u8) -> Option<Head>
 // Zero words of a run, as many as there are and the buffer has space for.
 fn give_zeros(bytes: &[u8], out: &mut [u8], zeros: u32) -> Given
     requires { zeros ≤ 255 }
-    ensures gives { Gives 0 zeros 0 bytes.now out.old out.new result }
+    ensures gives { WritesWords 0 zeros 0 bytes.now out.old out.new result }
     ensures some { 0 < zeros → 8 ≤ length out.old → 0 < result.written }
 {
     let words = (zeros as usize).min(out.len() / 8);
@@ -134,7 +134,7 @@ fn give_zeros(bytes: &[u8], out: &mut [u8], zeros: u32) -> Given
 // Literal words of a run, as many as there are, the bytes have whole and the buffer has space for.
 fn copy_literal(bytes: &[u8], out: &mut [u8], literal: u32) -> Given
     requires { literal ≤ 255 }
-    ensures gives { Gives 0 0 literal bytes.now out.old out.new result }
+    ensures gives { WritesWords 0 0 literal bytes.now out.old out.new result }
     ensures none { 0 < literal → 8 ≤ length out.old → result.written ≡ 0 →
         words_to_come 0 literal bytes.now ≡ [] }
 {
@@ -151,7 +151,7 @@ fn copy_literal(bytes: &[u8], out: &mut [u8], literal: u32) -> Given
 // The first word of the next group.
 fn give_first(bytes: &[u8], out: &mut [u8]) -> Given
     requires { 8 ≤ length out.old }
-    ensures gives { Gives 0 0 0 bytes.now out.old out.new result }
+    ensures gives { WritesWords 0 0 0 bytes.now out.old out.new result }
     ensures none { result.written ≡ 0 →
         words_to_come result.zeros result.literal (drop result.taken bytes.now) ≡ [] }
 {
@@ -176,9 +176,9 @@ fn give_first(bytes: &[u8], out: &mut [u8]) -> Given
 
 // The next words: those of the run, or the first one of the next group.
 fn give_some(bytes: &[u8], out: &mut [u8], zeros: u32, literal: u32) -> Given
-    requires rest { IsRest zeros literal }
+    requires rest { IsRunRest zeros literal }
     requires space { 8 ≤ length out.old }
-    ensures gives { Gives 0 zeros literal bytes.now out.old out.new result }
+    ensures gives { WritesWords 0 zeros literal bytes.now out.old out.new result }
     ensures none { result.written ≡ 0 →
         words_to_come result.zeros result.literal (drop result.taken bytes.now) ≡ [] }
 {
@@ -195,8 +195,8 @@ fn give_some(bytes: &[u8], out: &mut [u8], zeros: u32, literal: u32) -> Given
 /// have the next word whole. Before these bytes `zeros` zero words and `literal` literal
 /// words of a run are still to come.
 pub(crate) fn give(bytes: &[u8], out: &mut [u8], zeros: u32, literal: u32) -> Given
-    requires { IsRest zeros literal }
-    ensures gives { Gives 0 zeros literal bytes.now out.old out.new result }
+    requires { IsRunRest zeros literal }
+    ensures gives { WritesWords 0 zeros literal bytes.now out.old out.new result }
     ensures ends { result.written + 8 ≤ length out.old →
         words_to_come result.zeros result.literal (drop result.taken bytes.now) ≡ [] }
 {

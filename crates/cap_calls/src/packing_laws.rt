@@ -1,7 +1,7 @@
 //! What the packed text of a message unpacks to, and that a stream may be unpacked in pieces.
 
 ghost use Rattle.cap_spec.specs.PackedFrames.{packed_frame};
-ghost use Rattle.cap_calls.specs.UnpackingMessages.{GoesOnWith, Unpacked, UnpacksTo, together};
+ghost use Rattle.cap_calls.specs.UnpackingMessages.{CallsAgain, Unpacked, UnpacksTo, together};
 ghost use Rattle.cap_calls.specs.declared.limits.CallLimits.{CallLimits};
 ghost use Rattle.cap_calls.specs.declared.unpacking.Unpacking.{Unpacking};
 ghost use Rattle.cap_spec.specs.Frames.{frame_text};
@@ -22,6 +22,6 @@ pub fn packed_message_unpacks()
 /// and the next piece.
 pub fn pieces_unpack_as_one()
     ensures { (l : CallLimits) (piece more old : List ℕ) (state : Unpacking) (u v : Unpacked) →
-        UnpacksTo l piece old state u → GoesOnWith l piece more u v →
+        UnpacksTo l piece old state u → CallsAgain l piece more u v →
         UnpacksTo l (piece ++ more) old state (together u v) }
 {}

@@ -2,7 +2,7 @@
 #![tactic(auto)]
 
 ghost use Rattle.cap_calls.specs.Calls.{TellsCheck, TellsFrame, TellsVet};
-ghost use Rattle.cap_calls.specs.AnswerNumbers.{number_of};
+ghost use Rattle.cap_calls.specs.AnswerNumbers.{answer_number};
 ghost use Rattle.cap_calls.specs.CallBounds.{canonical_bound, frame_bound, marks_bound, pack_bound};
 ghost use Rattle.cap_calls.specs.CallFlags.{allows_amplified, default_limits};
 ghost use Rattle.cap_calls.specs.CanonicalCalls.{TellsCopy};
@@ -59,10 +59,10 @@ pub extern "C" fn capvet_limits_default(limits: &mut CallLimits)
 #[unsafe(no_mangle)]
 pub extern "C" fn capvet_frame(bytes: &[u8], limits: &CallLimits, report: &mut CallReport) -> u32
     ensures tells { (a : Answer) × TellsFrame limits.now bytes.now a report.new
-        × (result ≡ number_of a) }
+        × (result ≡ answer_number a) }
     // The bytes allow no other result.
     ensures only { (a : Answer) (r : CallReport) → TellsFrame limits.now bytes.now a r →
-        (result ≡ number_of a) × (report.new ≡ r) }
+        (result ≡ answer_number a) × (report.new ≡ r) }
     // No more bytes are required than a frame within the limit has, and no frame has more.
     ensures input_required { report.new.input_required ≤ frame_bound limits.now.message_words }
     ensures whole { report.new.length ≤ frame_bound limits.now.message_words }
@@ -83,10 +83,10 @@ pub extern "C" fn capvet_segment_at(
 ) -> u32
     ensures tells { (a : Answer)
         × TellsSegment bytes.now index a offset.new segment_length.new
-        × (result ≡ number_of a) }
+        × (result ≡ answer_number a) }
     // The bytes allow no other result.
     ensures only { (a : Answer) (start size : ℕ) → TellsSegment bytes.now index a start size →
-        (result ≡ number_of a) × (offset.new ≡ start) × (segment_length.new ≡ size) }
+        (result ≡ answer_number a) × (offset.new ≡ start) × (segment_length.new ≡ size) }
     // The words of the segment are the bytes there.
     ensures words { AreSegmentWords bytes.now index offset.new segment_length.new }
 {
@@ -100,10 +100,10 @@ pub extern "C" fn capvet_segment_at(
 #[unsafe(no_mangle)]
 pub extern "C" fn capvet_vet(bytes: &[u8], limits: &CallLimits, report: &mut CallReport) -> u32
     ensures tells { (a : Answer) × TellsVet limits.now bytes.now a report.new
-        × (result ≡ number_of a) }
+        × (result ≡ answer_number a) }
     // The bytes allow no other result.
     ensures only { (a : Answer) (r : CallReport) → TellsVet limits.now bytes.now a r →
-        (result ≡ number_of a) × (report.new ≡ r) }
+        (result ≡ answer_number a) × (report.new ≡ r) }
 {
     vet(bytes, limits, report).number()
 }
@@ -119,11 +119,11 @@ pub extern "C" fn capvet_vet_segments(
     report: &mut CallReport,
 ) -> u32
     ensures tells { (a : Answer) × TellsSegments limits.now (bytes_of segments.now) a report.new
-        × (result ≡ number_of a) }
+        × (result ≡ answer_number a) }
     // The bytes allow no other result.
     ensures only { (a : Answer) (r : CallReport) →
         TellsSegments limits.now (bytes_of segments.now) a r →
-        (result ≡ number_of a) × (report.new ≡ r) }
+        (result ≡ answer_number a) × (report.new ≡ r) }
 {
     vet_segments(segments, limits, report).number()
 }
@@ -145,17 +145,17 @@ pub extern "C" fn capvet_vet_exclusive(
 ) -> u32
     ensures tells { (a : Answer)
         × TellsExclusive limits.now bytes.now (length marks.old) a required.new report.new
-        × (result ≡ number_of a) }
+        × (result ≡ answer_number a) }
     // The bytes and the capacity allow no other result.
     ensures only { (a : Answer) (n : ℕ) (r : CallReport) →
         TellsExclusive limits.now bytes.now (length marks.old) a n r →
-        (result ≡ number_of a) × (required.new ≡ n) × (report.new ≡ r) }
+        (result ≡ answer_number a) × (required.new ≡ n) × (report.new ≡ r) }
     // These capacities are always enough.
     ensures few { required.new ≤ report.new.length / 512 + 1 }
     ensures bound { required.new ≤ marks_bound (length bytes.now) }
     ensures rest { drop required.new marks.new ≡ drop required.new marks.old }
-    ensures kept { (result ≡ number_of Good)
-        ⊎ ((result ≡ number_of Overlap) ⊎ (marks.new ≡ marks.old)) }
+    ensures kept { (result ≡ answer_number Good)
+        ⊎ ((result ≡ answer_number Overlap) ⊎ (marks.new ≡ marks.old)) }
 {
     vet_exclusive(bytes, limits, marks, required, report).number()
 }
@@ -178,11 +178,11 @@ pub extern "C" fn capvet_canonical(
 ) -> u32
     ensures tells { (a : Answer)
         × TellsCopy limits.now bytes.now out.old a required.new out.new report.new
-        × (result ≡ number_of a) }
+        × (result ≡ answer_number a) }
     // The bytes and the capacity allow no other result.
     ensures only { (a : Answer) (n : ℕ) (new : List ℕ) (r : CallReport) →
         TellsCopy limits.now bytes.now out.old a n new r →
-        (result ≡ number_of a) × (required.new ≡ n) × (out.new ≡ new) × (report.new ≡ r) }
+        (result ≡ answer_number a) × (required.new ≡ n) × (out.new ≡ new) × (report.new ≡ r) }
     // These capacities are always enough.
     ensures few { required.new ≤ 8 * (report.new.charge + 1) }
     ensures short { IsFalse (allows_amplified limits.now) →
@@ -205,10 +205,10 @@ pub extern "C" fn capvet_is_canonical(
     report: &mut CallReport,
 ) -> u32
     ensures tells { (a : Answer) × TellsCheck limits.now bytes.now a report.new
-        × (result ≡ number_of a) }
+        × (result ≡ answer_number a) }
     // The bytes allow no other result.
     ensures only { (a : Answer) (r : CallReport) → TellsCheck limits.now bytes.now a r →
-        (result ≡ number_of a) × (report.new ≡ r) }
+        (result ≡ answer_number a) × (report.new ≡ r) }
 {
     is_canonical(bytes, limits, report).number()
 }
@@ -230,11 +230,11 @@ pub extern "C" fn capvet_get(
     report: &mut CallReport,
 ) -> u32
     ensures tells { (a : Answer) × TellsGet limits.now bytes.now path.now a node.new report.new
-        × (result ≡ number_of a) }
+        × (result ≡ answer_number a) }
     // The bytes and the path allow no other result.
     ensures only { (a : Answer) (n : CallNode) (r : CallReport) →
         TellsGet limits.now bytes.now path.now a n r →
-        (result ≡ number_of a) × (node.new ≡ n) × (report.new ≡ r) }
+        (result ≡ answer_number a) × (node.new ≡ n) × (report.new ≡ r) }
 {
     get(bytes, limits, path, node, report).number()
 }
@@ -259,11 +259,11 @@ pub extern "C" fn capvet_get_range(
     report: &mut CallReport,
 ) -> u32
     ensures tells { (a : Answer) × TellsRange limits.now bytes.now steps.now varying nodes.old a
-        found.new nodes.new report.new × (result ≡ number_of a) }
+        found.new nodes.new report.new × (result ≡ answer_number a) }
     // The bytes and the steps allow no other result.
     ensures only { (a : Answer) (n : ℕ) (new : List CallNode) (r : CallReport) →
         TellsRange limits.now bytes.now steps.now varying nodes.old a n new r →
-        (result ≡ number_of a) × (found.new ≡ n) × (nodes.new ≡ new) × (report.new ≡ r) }
+        (result ≡ answer_number a) × (found.new ≡ n) × (nodes.new ≡ new) × (report.new ≡ r) }
 {
     get_range(bytes, limits, steps, varying, nodes, found, report).number()
 }
@@ -278,10 +278,10 @@ pub extern "C" fn capvet_get_range(
 #[unsafe(no_mangle)]
 pub extern "C" fn capvet_pack(bytes: &[u8], out: &mut [u8], required: &mut usize) -> u32
     ensures tells { (a : Answer) × TellsPack bytes.now out.old a required.new out.new
-        × (result ≡ number_of a) }
+        × (result ≡ answer_number a) }
     // The bytes and the capacity allow no other result.
     ensures only { (a : Answer) (n : ℕ) (new : List ℕ) → TellsPack bytes.now out.old a n new →
-        (result ≡ number_of a) × (required.new ≡ n) × (out.new ≡ new) }
+        (result ≡ answer_number a) × (required.new ≡ n) × (out.new ≡ new) }
     // This capacity is always enough.
     ensures bound { required.new ≤ pack_bound (length bytes.now) }
 {
@@ -299,10 +299,10 @@ pub extern "C" fn capvet_pack(bytes: &[u8], out: &mut [u8], required: &mut usize
 #[unsafe(no_mangle)]
 pub extern "C" fn capvet_unpack(bytes: &[u8], out: &mut [u8], required: &mut usize) -> u32
     ensures tells { (a : Answer) × TellsUnpack bytes.now out.old a required.new out.new
-        × (result ≡ number_of a) }
+        × (result ≡ answer_number a) }
     // The bytes and the capacity allow no other result.
     ensures only { (a : Answer) (n : ℕ) (new : List ℕ) → TellsUnpack bytes.now out.old a n new →
-        (result ≡ number_of a) × (required.new ≡ n) × (out.new ≡ new) }
+        (result ≡ answer_number a) × (required.new ≡ n) × (out.new ≡ new) }
 {
     unpack(bytes, out, required).number()
 }
@@ -326,11 +326,11 @@ pub extern "C" fn capvet_pack_message(
 ) -> u32
     ensures tells { (a : Answer)
         × TellsPackMessage limits.now bytes.now out.old a required.new out.new report.new
-        × (result ≡ number_of a) }
+        × (result ≡ answer_number a) }
     // The bytes and the capacity allow no other result.
     ensures only { (a : Answer) (n : ℕ) (new : List ℕ) (r : CallReport) →
         TellsPackMessage limits.now bytes.now out.old a n new r →
-        (result ≡ number_of a) × (required.new ≡ n) × (out.new ≡ new) × (report.new ≡ r) }
+        (result ≡ answer_number a) × (required.new ≡ n) × (out.new ≡ new) × (report.new ≡ r) }
     // These capacities are always enough.
     ensures few { required.new ≤ report.new.length / 8 * 10 }
     ensures bound { required.new ≤ pack_bound (length bytes.now) }
@@ -359,10 +359,10 @@ pub extern "C" fn capvet_unpack_message(
     report: &mut CallReport,
 ) -> u32
     ensures tells { (a : Answer) × TellsUnpackMessage limits.now bytes.now out.old state.old a
-        consumed.new required.new out.new state.new report.new × (result ≡ number_of a) }
+        consumed.new required.new out.new state.new report.new × (result ≡ answer_number a) }
     // The bytes, the state and the contents of the buffer allow no other result.
     ensures only { (u : Unpacked) → UnpacksTo limits.now bytes.now out.old state.old u →
-        (result ≡ number_of u.answer)
+        (result ≡ answer_number u.answer)
         × Leaves u consumed.new required.new out.new state.new report.new }
     // This capacity is always enough.
     ensures bound { required.new ≤ frame_bound limits.now.message_words }

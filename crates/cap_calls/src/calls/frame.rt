@@ -1,6 +1,6 @@
 //! The call that reports the length of a frame.
 
-ghost use Rattle.cap_calls.specs.Calls.{TellsFrame, Frames};
+ghost use Rattle.cap_calls.specs.Calls.{TellsFrame, FindsFrame};
 ghost use Rattle.cap_calls.specs.CallBounds.{frame_bound};
 ghost use Rattle.cap_calls.specs.CallFindings.{Tells};
 ghost use Rattle.cap_calls.specs.declared.answer.Answer.{Answer};
@@ -34,7 +34,7 @@ pub fn frame(bytes: &[u8], limits: &CallLimits, report: &mut CallReport) -> Answ
 
 // What is found of the frame.
 fn extent(bytes: &[u8], limits: &CallLimits) -> Found
-    ensures { Tells ⊤ Frames limits.now bytes.now result }
+    ensures { Tells ⊤ FindsFrame limits.now bytes.now result }
 {
     match front(bytes, limits) {
         Ok((framed, _)) => Found {

@@ -3,9 +3,9 @@
 ghost use Rattle.cap_calls.specs.CallBounds.{frame_bound};
 ghost use Rattle.cap_calls.specs.CallFrames.{AreLimits};
 ghost use Rattle.cap_calls.specs.CallReports.{none_report};
-ghost use Rattle.cap_calls.specs.MessageStages.{IsEnd, IsStage, Reaches};
-ghost use Rattle.cap_calls.specs.PackedStreams.{IsRest};
-ghost use Rattle.cap_calls.specs.UnpackingMessages.{IsState, Leaves, Stops, TellsUnpackMessage, Unpacked, UnpacksTo, state_of};
+ghost use Rattle.cap_calls.specs.MessageStages.{IsEnd, IsStage, ReachesStage};
+ghost use Rattle.cap_calls.specs.PackedStreams.{IsRunRest};
+ghost use Rattle.cap_calls.specs.UnpackingMessages.{IsState, Leaves, StopsCall, TellsUnpackMessage, Unpacked, UnpacksTo, state_of};
 ghost use Rattle.cap_calls.specs.declared.answer.Answer.{Answer};
 ghost use Rattle.cap_calls.specs.declared.report.CallReport.{CallReport};
 ghost use Rattle.cap_calls.specs.declared.unpacking.Unpacking.{Unpacking};
@@ -151,7 +151,7 @@ fn is_state(state: &Unpacking, out: &[u8], size: SizeLimit) -> bool
 
 // Whether its run is one, and its reserved fields are 0.
 fn has_rest(state: &Unpacking) -> bool
-    ensures { Decides result (IsRest state.now.zero_words state.now.literal_words
+    ensures { Decides result (IsRunRest state.now.zero_words state.now.literal_words
         × (slice_index state.now.reserved 0 ≡ 0) × (slice_index state.now.reserved 1 ≡ 0)) }
 {
     state.zero_words <= 255
@@ -181,8 +181,8 @@ fn stage_of(held: &[u8], size: SizeLimit) -> Stage
 // has space.
 fn fill(bytes: &[u8], size: SizeLimit, out: &mut [u8], state: Unpacking) -> (Given, Stage)
     requires { IsState (limit_of size) state out.old }
-    ensures { Reaches (limit_of size) state.written state.zero_words state.literal_words bytes.now
-        out.old out.new result.0 result.1 }
+    ensures { ReachesStage (limit_of size) state.written state.zero_words state.literal_words
+        bytes.now out.old out.new result.0 result.1 }
 {
     let mut done = Given {
         taken: 0,
@@ -220,7 +220,7 @@ fn fill(bytes: &[u8], size: SizeLimit, out: &mut [u8], state: Unpacking) -> (Giv
 // What a call returns at this stage, with these bytes left.
 fn stop_of(rest: &[u8], given: Given, stage: Stage, state: Unpacking) -> Stop
     ensures stops { (limit size : ℕ) (held : List ℕ) → IsEnd limit size held rest.now given stage →
-        Stops limit size held given.zeros given.literal rest.now result.answer result.required
+        StopsCall limit size held given.zeros given.literal rest.now result.answer result.required
         result.state.written result.report }
     ensures consumed { result.consumed ≡ given.taken }
     ensures state { result.state
@@ -294,7 +294,7 @@ fn open_stop(rest: &[u8], given: Given, wanted: u64, stop: Stop) -> Stop
         × (stop.state.written ≡ given.written) }
     ensures stops { (limit size : ℕ) (held : List ℕ) →
         IsEnd limit size held rest.now given (Stage.Open wanted) →
-        Stops limit size held given.zeros given.literal rest.now result.answer result.required
+        StopsCall limit size held given.zeros given.literal rest.now result.answer result.required
         result.state.written result.report }
     ensures consumed { result.consumed ≡ stop.consumed }
     ensures state { result.state ≡ stop.state }

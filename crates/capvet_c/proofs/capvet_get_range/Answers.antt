@@ -1,6 +1,6 @@
 -- The number is that of the one answer.
 use Rattle.std.proofs.Common.{ap, ◌∙◌}
-use Rattle.cap_calls.specs.AnswerNumbers.{number_of}
+use Rattle.cap_calls.specs.AnswerNumbers.{answer_number}
 use Rattle.capvet_c.proofs.capvet_get_range.Goals as goal
 
 pub returns-clause-tells : goal.returns-clause-tells
@@ -8,4 +8,4 @@ returns-clause-tells c = (c.get_range.result, c.get_range.ensures.tells, c.numbe
 
 pub returns-clause-only : goal.returns-clause-only
 returns-clause-only c = λ a n new r h.
-    let same = c.get_range.ensures.only a n new r h in (c.number.ensures ∙ ap number_of same.0, same.1, same.2, same.3)
+    let same = c.get_range.ensures.only a n new r h in (c.number.ensures ∙ ap answer_number same.0, same.1, same.2, same.3)

@@ -1,7 +1,8 @@
 -- The number is that of the one answer.
 use Rattle.std.proofs.Common.{ap, ◌∙◌}
-use Rattle.cap_calls.specs.AnswerNumbers.{number_of}
+use Rattle.cap_calls.specs.AnswerNumbers.{answer_number}
 use Rattle.capvet_c.proofs.capvet_pack_message.Goals as goal
 
 pub returns-clause-only : goal.returns-clause-only
-returns-clause-only c = λ a n new r h. let same = c.pack_message.ensures.only a n new r h in (c.number.ensures ∙ ap number_of same.0, same.1, same.2, same.3)
+returns-clause-only c = λ a n new r h.
+    let same = c.pack_message.ensures.only a n new r h in (c.number.ensures ∙ ap answer_number same.0, same.1, same.2, same.3)

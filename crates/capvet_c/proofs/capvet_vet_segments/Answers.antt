@@ -1,10 +1,10 @@
 -- The number is that of the one answer.
 use Rattle.std.proofs.Common.{ap, ◌∙◌}
-use Rattle.cap_calls.specs.AnswerNumbers.{number_of}
+use Rattle.cap_calls.specs.AnswerNumbers.{answer_number}
 use Rattle.capvet_c.proofs.capvet_vet_segments.Goals as goal
 
 pub returns-clause-only : goal.returns-clause-only
-returns-clause-only c = λ a r h. let same = c.vet_segments.ensures.only a r h in (c.number.ensures ∙ ap number_of same.0, same.1)
+returns-clause-only c = λ a r h. let same = c.vet_segments.ensures.only a r h in (c.number.ensures ∙ ap answer_number same.0, same.1)
 
 pub returns-clause-tells : goal.returns-clause-tells
 returns-clause-tells c = (c.vet_segments.result, c.vet_segments.ensures.tells, c.number.ensures)

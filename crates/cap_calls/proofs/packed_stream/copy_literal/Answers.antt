@@ -2,7 +2,7 @@
 use Rattle.std.proofs.Common.{List, ℕ, ◌≡◌, ◌∙◌, ◌≤◌, ◌-◌, ◌*◌, ◌++◌, ap, arith, drop, inl, length, refl, subst, sym, take}
 use Rattle.std.proofs.lemmas.List.{drop_at, length-append, length-drop, length-take-le, take_at}
 use Rattle.cap_spec.specs.Plain.{plain_words}
-use Rattle.cap_calls.specs.PackedStreams.{Leads}
+use Rattle.cap_calls.specs.PackedStreams.{GivesWords}
 use Rattle.cap_calls.proofs.PackedStreams.{leads_literal, literal_part}
 use Rattle.cap_calls.proofs.packed_stream.copy_literal.Goals as goal
 
@@ -24,7 +24,7 @@ returns-clause-gives c =
       fits = few;
       long = omega (arith, length-append given (drop (8 * n) out), length-drop (8 * n) out, long, few);
       whole = omega arith;
-      leads = subst (λ (ws : List ℕ). Leads 0 p bs ws (8 * n) 0 (p - n)) (sym words)
+      leads = subst (λ (ws : List ℕ). GivesWords 0 p bs ws (8 * n) 0 (p - n)) (sym words)
           (leads_literal p n (p - n) bs (omega arith) enough);
       front = refl;
       rest = drop_at given (drop (8 * n) out) (8 * n) long;

@@ -4,7 +4,7 @@ use Rattle.std.proofs.lemmas.List.{drop_at, length-append, length-drop, take_at}
 use Rattle.cap_spec.specs.Plain.{plain_words, word_bytes}
 use Rattle.cap_spec.specs.Words.{IsWord}
 use Rattle.cap_spec.proofs.Bytes.Plain.{plain_back}
-use Rattle.cap_calls.specs.PackedStreams.{Leads}
+use Rattle.cap_calls.specs.PackedStreams.{GivesWords}
 use Rattle.cap_calls.proofs.GivenWords.{gives_none}
 use Rattle.cap_calls.proofs.packed_stream.give_first.Goals as goal
 
@@ -25,7 +25,7 @@ returns-in-Some-clause-gives c =
       fits = c.requires;
       long = omega (arith, length-append given (drop 8 out), length-drop 8 out, long, c.requires);
       whole = refl;
-      leads = subst (λ (ws : List ℕ). Leads 0 0 bs ws h.length h.zeros h.literal) (sym words) c.in-Some.ensures.leads;
+      leads = subst (λ (ws : List ℕ). GivesWords 0 0 bs ws h.length h.zeros h.literal) (sym words) c.in-Some.ensures.leads;
       front = refl;
       rest = drop_at given (drop 8 out) 8 long;
       left = c.in-Some.ensures.left;

@@ -1,6 +1,6 @@
 -- Without a run it is the next group.
 use Rattle.std.proofs.Common.{ℕ, ◌≡◌, arith, subst}
-use Rattle.cap_calls.specs.PackedStreams.{Gives}
+use Rattle.cap_calls.specs.PackedStreams.{WritesWords}
 use Rattle.cap_calls.proofs.packed_stream.give_some.Goals as goal
 
 pub returns-else-literal-gt0-clause-gives : goal.returns-else-literal-gt0-clause-gives
@@ -8,5 +8,5 @@ returns-else-literal-gt0-clause-gives c =
     let z : 0 ≡ c.args.zeros = omega (arith, c.if-zeros-gt0.false) in
     let p : 0 ≡ c.args.literal = omega (arith, c.if-literal-gt0.false) in
     let new = c.give_first.new.out in
-    subst (λ (k : ℕ). Gives 0 k c.args.literal c.args.bytes.now c.args.out.now new c.give_first.result) z
-    (subst (λ (k : ℕ). Gives 0 0 k c.args.bytes.now c.args.out.now new c.give_first.result) p c.give_first.ensures.gives)
+    subst (λ (k : ℕ). WritesWords 0 k c.args.literal c.args.bytes.now c.args.out.now new c.give_first.result) z
+    (subst (λ (k : ℕ). WritesWords 0 0 k c.args.bytes.now c.args.out.now new c.give_first.result) p c.give_first.ensures.gives)

@@ -3,7 +3,7 @@ use Rattle.std.proofs.Common.{List, ℕ, ◌≡◌, ◌≤◌, ◌∙◌, ◌-�
 use Rattle.std.proofs.lemmas.List.{drop_at, length-append, length-drop, length-take-le, take_at}
 use Rattle.cap_spec.specs.Plain.{plain_words}
 use Rattle.cap_pack.proofs.AtHand.{zeros_are_words}
-use Rattle.cap_calls.specs.PackedStreams.{Leads}
+use Rattle.cap_calls.specs.PackedStreams.{GivesWords}
 use Rattle.cap_calls.proofs.PackedStreams.{leads_zeros}
 use Rattle.cap_calls.proofs.packed_stream.give_zeros.Goals as goal
 
@@ -26,7 +26,7 @@ returns-clause-gives c =
       fits = few;
       long = omega (arith, length-append given (drop (8 * n) out), length-drop (8 * n) out, long, few);
       whole = omega arith;
-      leads = subst (λ (ws : List ℕ). Leads z 0 bs ws 0 (z - n) 0) (sym words) (leads_zeros z n (z - n) 0 bs (omega arith));
+      leads = subst (λ (ws : List ℕ). GivesWords z 0 bs ws 0 (z - n) 0) (sym words) (leads_zeros z n (z - n) 0 bs (omega arith));
       front = refl;
       rest = drop_at given (drop (8 * n) out) (8 * n) long;
       left = record { zeros_fit = omega (arith, c.requires); literal_fit = omega arith; one = inr refl };

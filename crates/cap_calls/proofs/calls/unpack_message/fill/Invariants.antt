@@ -1,13 +1,13 @@
 use Rattle.std.proofs.Common.{ℕ, ◌≡◌, ◌<◌, ◌≤◌, ◌-◌, ◌%◌, length, take}
 use Rattle.cap_frame.specs.Limit.{limit_of}
-use Rattle.cap_calls.specs.PackedStreams.{Gives}
+use Rattle.cap_calls.specs.PackedStreams.{WritesWords}
 use Rattle.cap_calls.specs.UnpackingMessages.{IsOpen}
 use Rattle.cap_calls.proofs.calls.unpack_message.fill.Given as goal
 
 -- the words so far, before each of which the message was open
 abbrev pub invariant-stages : goal.invariant-stages
 invariant-stages l = record {
-  gives : Gives l.fn.state.written l.fn.state.zero_words l.fn.state.literal_words l.bytes l.fn.out l.out l.done;
+  gives : WritesWords l.fn.state.written l.fn.state.zero_words l.fn.state.literal_words l.bytes l.fn.out l.out l.done;
   before : (n : ℕ) → l.fn.state.written ≤ n → n < l.done.written → n % 8 ≡ 0
       → (wanted : ℕ) × IsOpen (limit_of l.size) (take n l.out) wanted;
 }

@@ -4,7 +4,7 @@ use Rattle.std.proofs.lemmas.List.{take_rest}
 use Rattle.cap_frame.specs.Limit.{limit_of}
 use Rattle.cap_words.proofs.AtHand.{bytes_small}
 use Rattle.cap_calls.specs.MessageStages.{IsEnd}
-use Rattle.cap_calls.specs.UnpackingMessages.{Stops}
+use Rattle.cap_calls.specs.UnpackingMessages.{StopsCall}
 use Rattle.cap_calls.proofs.UnpackedFound.{told_stop}
 use Rattle.cap_calls.proofs.calls.unpack_message.unpacked.Goals as goal
 
@@ -20,7 +20,7 @@ returns c =
     c.in-Some.ensures.some.0 c.in-Some.ensures.some.1 (bytes_small new (λ i. c.type_inv.out i))
     (c.is_state.ensures.0 c.if-not-is_state.false) c.fill-stage.ensures
     (λ size held h.
-    subst (λ (x : List ℕ). Stops limit size held g.zeros g.literal x stop.answer stop.required stop.state.written stop.report)
+    subst (λ (x : List ℕ). StopsCall limit size held g.zeros g.literal x stop.answer stop.required stop.state.written stop.report)
     (take_rest bs g.taken)
     (c.stop_of.ensures.stops limit size held (subst (λ (x : List ℕ). IsEnd limit size held x g stage) (sym (take_rest bs g.taken)) h)))
     c.stop_of.ensures.consumed c.stop_of.ensures.state
