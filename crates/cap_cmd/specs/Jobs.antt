@@ -170,6 +170,19 @@ module _ {S O E : Type 0} (gs : source.Ghosts S) (go : output.Ghosts O) (ge : ou
       (λ last answer. FiltersUnder gs go ge s first last before after old mid form demands answer)
       (ReportsRun ge) mid new status
 
+module _ {S O E K : Type 0} (gs : source.Ghosts S) (go : output.Ghosts O) (ge : output.Ghosts E)
+    (gk : sink.Ghosts K) where
+  -- the engine that puts canonical copies to a sink over an output
+  abbrev pub CanonsTask : Settings → Demands → S → O → O → E → E → ℕ → Type 0
+  CanonsTask s demands first before after = Runs
+      (λ last answer. CanonsTo gs go gk s demands first last before after answer) (ReportsRun ge)
+
+  -- an engine that puts words to a sink over an output
+  abbrev pub TranscodesTask : (List ℕ → List ℕ) → ℕ → S → O → O → E → E → ℕ → Type 0
+  TranscodesTask text at_once first before after = Runs
+      (λ last answer. TranscodesTo gs go gk text at_once first last before after answer)
+      (ReportsCopy ge)
+
 module _ {S O E P U : Type 0} (gs : source.Ghosts S) (go : output.Ghosts O) (ge : output.Ghosts E)
     (gp : sink.Ghosts P) (gu : sink.Ghosts U) where
   -- What is done over the words of a source, by the task: its engine runs under the demands, and
@@ -195,14 +208,12 @@ module _ {S O E P U : Type 0} (gs : source.Ghosts S) (go : output.Ghosts O) (ge 
   DoesTask Check s demands first before after =
       TellsTask gs go ge (TellsCheckUnder demands (words_of s.limits) (depth_of s.limits))
       WantsNone s first before after
-  DoesTask Canon s demands first before after = Runs
-      (λ last answer. CanonsTo gs go gu s demands first last before after answer) (ReportsRun ge)
-  DoesTask Pack s demands first before after = Runs (λ last answer.
-      TranscodesTo gs go gp pack_text most_packed_at_once first last before after answer)
-      (ReportsCopy ge)
-  DoesTask Unpack s demands first before after = Runs (λ last answer.
-      TranscodesTo gs go gu plain_text most_unpacked_at_once first last before after answer)
-      (ReportsCopy ge)
+  DoesTask Canon s demands first before after =
+      CanonsTask gs go ge gu s demands first before after
+  DoesTask Pack s demands first before after =
+      TranscodesTask gs go ge gp pack_text most_packed_at_once first before after
+  DoesTask Unpack s demands first before after =
+      TranscodesTask gs go ge gu plain_text most_unpacked_at_once first before after
 
 module _ {I S O E P U : Type 0} (gi : input.Ghosts I) (gs : source.Ghosts S) (go : output.Ghosts O)
     (ge : output.Ghosts E) (gp : sink.Ghosts P) (gu : sink.Ghosts U) where

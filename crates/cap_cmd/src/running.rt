@@ -1,6 +1,6 @@
 //! Doing a job: its engine is run over an input, an output and an output for faults.
 
-ghost use Rattle.cap_cmd.specs.Jobs.{CanonsTo, TranscodesTo, DoesJob, DoesTask, ReportsCopy, ReportsRun, WritesAll, input_is_cut, input_words, reads_packed};
+ghost use Rattle.cap_cmd.specs.Jobs.{CanonsTask, TranscodesTask, DoesJob, DoesTask, ReportsCopy, ReportsRun, WritesAll, input_is_cut, input_words, reads_packed};
 ghost use Rattle.cap_run.specs.Engines.{most_packed_at_once, most_unpacked_at_once};
 ghost use Rattle.cap_spec.specs.Packing.{pack_text};
 ghost use Rattle.cap_spec.specs.Plain.{plain_text};
@@ -10,9 +10,9 @@ use crate::job::{Job, Task};
 use crate::status::{stream_status, words_status};
 use cap_pack::{Packer, Unpacker};
 use cap_run::{
-    CopyFault, Demands, Outcome, Peek, RunFault, Settings, run_canon_with, run_check_with,
-    run_dump_with, run_filter, run_get_with, run_pack, run_segments, run_unpack,
-    run_vet_exclusive_with, run_vet_with, write_copy_fault, write_fault,
+    CopyFault, Outcome, Peek, RunFault, run_canon_with, run_check_with, run_dump_with, run_filter,
+    run_get_with, run_pack, run_segments, run_unpack, run_vet_exclusive_with, run_vet_with,
+    write_copy_fault, write_fault,
 };
 use cap_words::{ByteIn, ByteOut, PlainSink, PlainWords, WordSink, WordSource};
 use std::alloc::Global;
@@ -53,40 +53,49 @@ fn report_transcode<E: ByteOut>(err: &mut E, answer: &Result<u64, CopyFault>) ->
     words_status(answer)
 }
 
-/// Writes the canonical copies of messages to an output, and returns what the engine answered.
-fn canon_to<S: WordSource, O: ByteOut>(
+/// Writes the canonical copies of messages to an output, and returns the exit status and the
+/// output.
+fn canon_over<S: WordSource, O: ByteOut, E: ByteOut>(
     alloc: Global,
+    job: &Job,
     source: &mut S,
     out: O,
-    settings: &Settings,
-    demands: Demands,
-) -> (Result<Outcome, RunFault>, O)
-    ensures { CanonsTo S.WordSource O.ByteOut ⟦<PlainSink<O> as WordSink>⟧ settings.now demands
-        source.old source.new out result.1 result.0 }
+    err: &mut E,
+) -> (u8, O)
+    ensures { CanonsTask S.WordSource O.ByteOut E.ByteOut ⟦<PlainSink<O> as WordSink>⟧
+        job.now.settings job.now.demands source.old out result.1 err.old err.new result.0 }
 {
     let mut sink = PlainSink::new(out);
-    let answer = run_canon_with(alloc, source, &mut sink, settings, demands);
-    (answer, sink.into_inner())
+    let answer = run_canon_with(alloc, source, &mut sink, &job.settings, job.demands);
+    (report_run(err, &answer), sink.into_inner())
 }
 
-/// Packs words to an output, and returns what the engine answered.
-fn pack_to<S: WordSource, O: ByteOut>(source: &mut S, out: O) -> (Result<u64, CopyFault>, O)
-    ensures { TranscodesTo S.WordSource O.ByteOut ⟦<Packer<O> as WordSink>⟧ pack_text
-        most_packed_at_once source.old source.new out result.1 result.0 }
+/// Packs words to an output, and returns the exit status and the output.
+fn pack_over<S: WordSource, O: ByteOut, E: ByteOut>(
+    source: &mut S,
+    out: O,
+    err: &mut E,
+) -> (u8, O)
+    ensures { TranscodesTask S.WordSource O.ByteOut E.ByteOut ⟦<Packer<O> as WordSink>⟧ pack_text
+        most_packed_at_once source.old out result.1 err.old err.new result.0 }
 {
     let mut sink = Packer::new(out);
     let answer = run_pack(source, &mut sink, MOST_WORDS);
-    (answer, sink.into_inner())
+    (report_transcode(err, &answer), sink.into_inner())
 }
 
-/// Writes words to an output as they are, and returns what the engine answered.
-fn unpack_to<S: WordSource, O: ByteOut>(source: &mut S, out: O) -> (Result<u64, CopyFault>, O)
-    ensures { TranscodesTo S.WordSource O.ByteOut ⟦<PlainSink<O> as WordSink>⟧ plain_text
-        most_unpacked_at_once source.old source.new out result.1 result.0 }
+/// Writes words to an output as they are, and returns the exit status and the output.
+fn unpack_over<S: WordSource, O: ByteOut, E: ByteOut>(
+    source: &mut S,
+    out: O,
+    err: &mut E,
+) -> (u8, O)
+    ensures { TranscodesTask S.WordSource O.ByteOut E.ByteOut ⟦<PlainSink<O> as WordSink>⟧
+        plain_text most_unpacked_at_once source.old out result.1 err.old err.new result.0 }
 {
     let mut sink = PlainSink::new(out);
     let answer = run_unpack(source, &mut sink, MOST_WORDS);
-    (answer, sink.into_inner())
+    (report_transcode(err, &answer), sink.into_inner())
 }
 
 /// Vets each message, exclusively if that is asked, and returns the exit status.
@@ -151,18 +160,9 @@ fn run_over<S: Peek + Drop, O: ByteOut, E: ByteOut>(
             let answer = run_check_with(alloc, &mut source, &mut out, settings, demands);
             (report_run(err, &answer), out)
         }
-        Task::Canon => {
-            let (answer, out) = canon_to(alloc, &mut source, out, settings, demands);
-            (report_run(err, &answer), out)
-        }
-        Task::Pack => {
-            let (answer, out) = pack_to(&mut source, out);
-            (report_transcode(err, &answer), out)
-        }
-        Task::Unpack => {
-            let (answer, out) = unpack_to(&mut source, out);
-            (report_transcode(err, &answer), out)
-        }
+        Task::Canon => canon_over(alloc, job, &mut source, out, err),
+        Task::Pack => pack_over(&mut source, out, err),
+        Task::Unpack => unpack_over(&mut source, out, err),
     }
 }
 

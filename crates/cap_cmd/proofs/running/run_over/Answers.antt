@@ -47,25 +47,10 @@ returns-in-Check g c = rw c.in-Check.is (record {
 })
 
 pub returns-in-Canon : goal.returns-in-Canon
-returns-in-Canon g c = rw c.in-Canon.is (record {
-  last = c.canon_to-answer.new.source;
-  answer = c.canon_to-answer.result.0;
-  does = c.canon_to-answer.ensures;
-  reported = c.report_run-in-Canon.ensures;
-})
+returns-in-Canon g c = rw c.in-Canon.is c.canon_over.ensures
 
 pub returns-in-Pack : goal.returns-in-Pack
-returns-in-Pack g c = rw c.in-Pack.is (record {
-  last = c.pack_to-answer.new.source;
-  answer = c.pack_to-answer.result.0;
-  does = c.pack_to-answer.ensures;
-  reported = c.report_transcode.ensures;
-})
+returns-in-Pack g c = rw c.in-Pack.is c.pack_over.ensures
 
 pub returns : goal.returns
-returns g c = rw c.in-Unpack.is (record {
-  last = c.unpack_to-answer.new.source;
-  answer = c.unpack_to-answer.result.0;
-  does = c.unpack_to-answer.ensures;
-  reported = c.report_transcode-in-Unpack.ensures;
-})
+returns g c = rw c.in-Unpack.is c.unpack_over.ensures

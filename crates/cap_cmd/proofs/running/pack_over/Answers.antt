@@ -1,0 +1,28 @@
+use Rattle.std.proofs.Common.{◌∙◌, ap, subst, sym}
+use Rattle.cap_cmd.specs.Jobs.{GivesOutput}
+use Rattle.cap_cmd.proofs.running.pack_over.Goals as goal
+
+pub returns : goal.returns
+returns g c =
+    let new = c.new-sink.ensures in
+    let first = c.new-sink.result in
+    let last = c.run_pack-answer.new.sink in
+    record {
+      last = c.run_pack-answer.new.source;
+      answer = c.run_pack-answer.result;
+      does = record {
+        begun = first;
+        ended = last;
+        begins = record {
+          empty = new.empty;
+          taken = new.taken;
+          closed = new.closed;
+          spent = new.spent;
+          failures = new.shows_failures first ∙ ap (λ o. g.O.ByteOut.failures o) new.output;
+        };
+        puts = c.run_pack-answer.ensures;
+        gives = subst (GivesOutput g.O.ByteOut _ last) (sym c.into_inner.ensures)
+            (record { taken = new.shows_taken last; spent = new.when_spent last; failures = new.shows_failures last });
+      };
+      reported = c.report_transcode.ensures;
+    }

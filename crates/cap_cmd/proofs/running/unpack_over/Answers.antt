@@ -1,0 +1,30 @@
+use Rattle.std.proofs.Common.{◌∙◌, ap, subst, sym}
+use Rattle.std.specs.Io.KnownBytes.{append_known}
+use Rattle.cap_spec.specs.Plain.{plain_text}
+use Rattle.cap_cmd.specs.Jobs.{GivesOutput}
+use Rattle.cap_cmd.proofs.running.unpack_over.Goals as goal
+
+pub returns : goal.returns
+returns g c =
+    let new = c.new-sink.ensures in
+    let first = c.new-sink.result in
+    let last = c.run_unpack-answer.new.sink in
+    record {
+      last = c.run_unpack-answer.new.source;
+      answer = c.run_unpack-answer.result;
+      does = record {
+        begun = first;
+        ended = last;
+        begins = record {
+          empty = λ ws. new.holds_nothing first ws ∙ ap (λ o. append_known o (plain_text ws)) new.taken;
+          taken = new.taken;
+          closed = new.closed;
+          spent = new.spent;
+          failures = new.failures;
+        };
+        puts = c.run_unpack-answer.ensures;
+        gives = subst (GivesOutput g.O.ByteOut _ last) (sym c.into_inner.ensures)
+            (record { taken = new.shows_taken last; spent = new.when_spent last; failures = new.shows_failures last });
+      };
+      reported = c.report_transcode.ensures;
+    }
