@@ -3,7 +3,7 @@ use Rattle.std.proofs.Common.{ℕ, ◌<◌, ◌≡◌, ◌∙◌, List, ap, ap�
 use Rattle.std.specs.Prelude.{pos}
 use Rattle.cap_spec.specs.Arriving.{ArrivesAt, StandsAs}
 use Rattle.cap_spec.specs.Denoting.{Finds}
-use Rattle.cap_spec.specs.Following.{Lead, Leads, to_cap, to_null, to_object}
+use Rattle.cap_spec.specs.Following.{Leads, to_cap, to_null, to_object}
 use Rattle.cap_spec.specs.Messages.{HasWord}
 use Rattle.cap_spec.specs.Paths.{Spot, element, word}
 use Rattle.cap_spec.specs.Pointers.{code, data_size, kind, list_size, middle, pointer_size}
@@ -65,10 +65,6 @@ seen m s w (Structs y d p) t b n (x, q, tag, h) =
         → Structs y d p ≡ Structs (middle tag) (data_size tag) (pointer_size tag)
     structs_of y d p tag e f g = cc
 
--- two leads of one word
-same_lead : (m : List (List ℕ)) (s w x y : ℕ) (r u : Lead) → Leads m s w x r → Leads m s w y u → r ≡ u
-same_lead m s w x y r u h g = (one_lead m s w x y r u h g).1
-
 -- a node by its kind and its place
 abbrev node_at : List (List ℕ) → Kind → ℕ → ℕ → CallNode
 node_at m k t b = kind_node k (offset_of m t b)
@@ -78,22 +74,22 @@ one_seen : (m : List (List ℕ)) (s w : ℕ) (k k' : Kind) (t b t' b' : ℕ) →
 one_seen m s w k k' t b t' b' (null x h e) (null y g f) =
     ap (λ (z : Kind). node_at m z t b) e ∙ sym (ap (λ (z : Kind). node_at m z t' b') f)
 one_seen m s w k k' t b t' b' (null x h e) (cap y i g f) =
-    let c : to_null ≡ to_cap i = same_lead m s w x y to_null (to_cap i) h g in absurd (cc c)
+    let c : to_null ≡ to_cap i = (one_lead m s w x y to_null (to_cap i) h g).1 in absurd (cc c)
 one_seen m s w k k' t b t' b' (null x h e) (object y q g f) =
-    let c : to_null ≡ to_object t' (pos b') q = same_lead m s w x y to_null (to_object t' (pos b') q) h g.leads in absurd (cc c)
+    let c : to_null ≡ to_object t' (pos b') q = (one_lead m s w x y to_null (to_object t' (pos b') q) h g.leads).1 in absurd (cc c)
 one_seen m s w k k' t b t' b' (cap x i h e) (null y g f) =
-    let c : to_cap i ≡ to_null = same_lead m s w x y (to_cap i) to_null h g in absurd (cc c)
+    let c : to_cap i ≡ to_null = (one_lead m s w x y (to_cap i) to_null h g).1 in absurd (cc c)
 one_seen m s w k k' t b t' b' (cap x i h e) (cap y j g f) =
-    let c : to_cap i ≡ to_cap j = same_lead m s w x y (to_cap i) (to_cap j) h g in
+    let c : to_cap i ≡ to_cap j = (one_lead m s w x y (to_cap i) (to_cap j) h g).1 in
     let d : i ≡ j = cc in
     ap (λ (z : Kind). node_at m z t b) e ∙ ap (λ (z : ℕ). node_at m (Cap z) t b) d
     ∙ sym (ap (λ (z : Kind). node_at m z t' b') f)
 one_seen m s w k k' t b t' b' (cap x i h e) (object y q g f) =
-    let c : to_cap i ≡ to_object t' (pos b') q = same_lead m s w x y (to_cap i) (to_object t' (pos b') q) h g.leads in absurd (cc c)
+    let c : to_cap i ≡ to_object t' (pos b') q = (one_lead m s w x y (to_cap i) (to_object t' (pos b') q) h g.leads).1 in absurd (cc c)
 one_seen m s w k k' t b t' b' (object x q h e) (null y g f) =
-    let c : to_object t (pos b) q ≡ to_null = same_lead m s w x y (to_object t (pos b) q) to_null h.leads g in absurd (cc c)
+    let c : to_object t (pos b) q ≡ to_null = (one_lead m s w x y (to_object t (pos b) q) to_null h.leads g).1 in absurd (cc c)
 one_seen m s w k k' t b t' b' (object x q h e) (cap y i g f) =
-    let c : to_object t (pos b) q ≡ to_cap i = same_lead m s w x y (to_object t (pos b) q) (to_cap i) h.leads g in absurd (cc c)
+    let c : to_object t (pos b) q ≡ to_cap i = (one_lead m s w x y (to_object t (pos b) q) (to_cap i) h.leads g).1 in absurd (cc c)
 one_seen m s w k k' t b t' b' (object x q h e) (object y u g f) =
     let o = one_object m s w x t b q y t' b' u h g in
     let f' : KindOf m t b q k' = subst (λ z. KindOf m t b z k') (sym o.shape)

@@ -80,5 +80,5 @@ not_with_caps m r t k some (words, h, e) =
     bool_cases (cap_count t == 0) (λ z. some (k.caps ∙ eqb-true (cap_count t) 0 z)) (λ z. false≢true (sym h.no_caps ∙ (ap has_cap same.part ∙ rw z refl)))
 
 -- equal faults, whatever the answers would be
-pub err_parts : (f f' : CanonFault) → ◌≡◌ {A = Result ℕ CanonFault} (Err f) (Err f') → f ≡ f'
-err_parts f f' e = cc
+pub same_fault : {A : Type 0} (f f' : CanonFault) → ◌≡◌ {A = Result A CanonFault} (Err f) (Err f') → f ≡ f'
+same_fault f f' e = cc

@@ -12,7 +12,7 @@ use Rattle.cap_canon.specs.CopyOvers.{MakesEnough, TellsOver, has_capability, no
 use Rattle.cap_canon.specs.FirstWords.{first_words}
 use Rattle.cap_spec.specs.declared.CanonFault.{CanonFault}
 use Rattle.cap_spec.specs.declared.CanonFault.TheVariants.{HasCapability, Memory}
-use Rattle.cap_canon.proofs.Copies.{copy_length, copy_of}
+use Rattle.cap_canon.proofs.Copies.{copy_length, copy_of, same_fault}
 use Rattle.cap_canon.proofs.FirstWords.{first_taken, whole_words}
 
 -- the first bytes are the text of the first words
@@ -26,13 +26,10 @@ first_text words bytes small h e =
     whole_words front (all_take (λ b. b < 256) (8 * n) bytes small) (omega (arith, long)) in
     whole ∙ ap plain_text (first_taken n bytes h ∙ e)
 
-fault_of : (f f' : CanonFault) → ◌≡◌ {A = Result (Unit {0}) CanonFault} (Err f) (Err f') → f ≡ f'
-fault_of f f' e = cc
-
 -- a buffer that wasn't made long enough
 pub tells_err : (m : List (List ℕ)) (old new : List ℕ) (fault : CanonFault) → MakesEnough m old (Err fault) new → TellsOver m old (Err fault) new
-tells_err m old new fault (no_copy s w f e g) = has_capability s w f (ap Err (fault_of fault (HasCapability s w) e)) g
-tells_err m old new fault (refused words h l e g) = no_memory words h l (ap Err (fault_of fault Memory e)) g
+tells_err m old new fault (no_copy s w f e g) = has_capability s w f (ap Err (same_fault fault (HasCapability s w) e)) g
+tells_err m old new fault (refused words h l e g) = no_memory words h l (ap Err (same_fault fault Memory e)) g
 tells_err m old new fault (enough words h l e g) = absurd (cc)
 tells_err m old new fault (made words h l e g) = absurd (cc)
 

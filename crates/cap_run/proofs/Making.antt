@@ -21,7 +21,7 @@ use Rattle.cap_vet.specs.declared.demands.Demands.{Demands}
 use Rattle.cap_canon.specs.CopyOvers.{TellsOver, grown, has_capability, no_memory, over}
 use Rattle.cap_spec.specs.declared.CanonFault.{CanonFault}
 use Rattle.cap_spec.specs.declared.CanonFault.TheVariants.{HasCapability, Memory}
-use Rattle.cap_canon.proofs.Copies.{cap_no_copy}
+use Rattle.cap_canon.proofs.Copies.{cap_no_copy, same_fault}
 use Rattle.cap_run.specs.Canons.{CanonEnds, Canonised, HasNoCopy, IsCanonised, canonised, copies_of}
 use Rattle.cap_run.specs.Transcoding.{PutsWords}
 use Rattle.cap_run.specs.Making.{CopiesSoFar, CopyStops, Made, Making, NextStops, StopsMaking}
@@ -35,15 +35,11 @@ use Rattle.cap_text.specs.declared.fault.Cause.TheVariants.{Memory as no_marks}
 use Rattle.cap_run.proofs.Transcoding.{fills_both, fills_none, spoils_last}
 use Rattle.cap_run.proofs.Streams.{reads_both, reads_none}
 
--- equal faults, whatever the results would be
-fault_of : (f f' : CanonFault) → ◌≡◌ {A = Result ℕ CanonFault} (Err f) (Err f') → f ≡ f'
-fault_of f f' e = cc
-
 -- what is told of the fault that came
 pub has_no_copy : (m : List (List ℕ)) (old new : List ℕ) (fault : CanonFault) → TellsOver m old (Err fault) new → HasNoCopy m fault
-has_no_copy m old new fault (has_capability s w f e g) = subst (HasNoCopy m) (sym (fault_of fault (HasCapability s w) e)) f
+has_no_copy m old new fault (has_capability s w f e g) = subst (HasNoCopy m) (sym (same_fault fault (HasCapability s w) e)) f
 has_no_copy m old new fault (no_memory words h l e g) =
-    subst (HasNoCopy m) (sym (fault_of fault Memory e)) (λ s w f. cap_no_copy m s w words f h)
+    subst (HasNoCopy m) (sym (same_fault fault Memory e)) (λ s w f. cap_no_copy m s w words f h)
 has_no_copy m old new fault (over words h l e t n) = absurd (cc)
 has_no_copy m old new fault (grown words h l e t n) = absurd (cc)
 

@@ -4,7 +4,7 @@ use Rattle.cap_spec.specs.Plain.{plain_text, plain_words}
 use Rattle.cap_spec.proofs.Bytes.Plain.{length_plain}
 use Rattle.cap_vet.specs.Vettings.{message_of, report_of}
 use Rattle.cap_spec.specs.declared.CanonFault.TheVariants.{HasCapability}
-use Rattle.cap_canon.proofs.Copies.{cap_no_copy, copy_charged, copy_length, copy_of, err_parts, has_tree}
+use Rattle.cap_canon.proofs.Copies.{cap_no_copy, copy_charged, copy_length, copy_of, same_fault, has_tree}
 use Rattle.cap_canon.proofs.FirstWords.{written_back}
 use Rattle.cap_canon.proofs.bytes.canonical_bytes.Goals as goal
 
@@ -69,4 +69,4 @@ returns-in_default-clause-first_cap g c =
     λ s w f. absurd (cap_no_copy (g.M.Segments.segments (message_of c.args.v.now)) s w h.0 f h.1)
 
 pub returns-in-Err-clause-first_cap : goal.returns-in-Err-clause-first_cap
-returns-in-Err-clause-first_cap g c = λ s w f. ap Err (err_parts c.in-Err.fault (HasCapability s w) (c.in-Err.ensures.cap s w f))
+returns-in-Err-clause-first_cap g c = λ s w f. ap Err (same_fault c.in-Err.fault (HasCapability s w) (c.in-Err.ensures.cap s w f))

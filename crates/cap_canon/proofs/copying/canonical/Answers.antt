@@ -3,7 +3,7 @@ use Rattle.cap_vet.specs.Vettings.{message_of}
 use Rattle.cap_spec.specs.declared.CanonFault.TheVariants.{HasCapability}
 use Rattle.cap_spec.proofs.Canonical.Offsets.{offsets_fit}
 use Rattle.cap_spec.proofs.Canonical.Copies.{copy_denotes, copy_only, copy_own, one_copy}
-use Rattle.cap_canon.proofs.Copies.{err_parts, cap_no_copy, copy_length, copy_of, few_charged, has_tree}
+use Rattle.cap_canon.proofs.Copies.{same_fault, cap_no_copy, copy_length, copy_of, few_charged, has_tree}
 use Rattle.cap_canon.proofs.copying.canonical.Goals as goal
 
 pub copy_into-requires-clause-tree : goal.copy_into-requires-clause-tree
@@ -70,4 +70,4 @@ returns-in_default-clause-first_cap g c =
     λ s w f. absurd (cap_no_copy (g.M.Segments.segments (message_of c.args.v.now)) s w h.0 f h.1)
 
 pub returns-in-Err-clause-first_cap : goal.returns-in-Err-clause-first_cap
-returns-in-Err-clause-first_cap g c = λ s w f. ap Err (err_parts c.in-Err.fault (HasCapability s w) (c.in-Err.ensures.cap s w f))
+returns-in-Err-clause-first_cap g c = λ s w f. ap Err (same_fault c.in-Err.fault (HasCapability s w) (c.in-Err.ensures.cap s w f))
