@@ -10,7 +10,6 @@ use Rattle.std.proofs.lemmas.Grind.{take-set_at}
 use Rattle.std.proofs.Math.Seq.{take-set-lt}
 use Rattle.cap_canon.specs.FirstWords.{first_words}
 use Rattle.cap_words.proofs.Filling.{plain_join}
-use Rattle.cap_words.proofs.WholeWords.{whole_text}
 use borrow.Rule.Slice.PartMut.{put_mid}
 
 -- the bytes of a word in place of those of word p
@@ -48,12 +47,6 @@ written_back n given items e = take-append-le n given (drop (length given) items
 -- so many words are there
 pub first_words_count : (n : ℕ) (bytes : List ℕ) → 8 * n ≤ length bytes → length (take n (plain_words bytes)) ≡ n
 first_words_count n bytes h = length-take-le n (plain_words bytes) (omega (arith, h, words_exact bytes))
-
--- whole words are what they spell
-pub whole_words : (bytes : List ℕ) → AllByRecursion (λ b. b < 256) bytes → length bytes ≡ 8 * (length bytes / 8) → bytes ≡ plain_text (plain_words bytes)
-whole_words bytes small h =
-    let all : take (length bytes / 8 * 8) bytes ≡ bytes = take_all (length bytes / 8 * 8) bytes (omega (arith, h)) in
-    sym all ∙ whole_text bytes small
 
 -- the words of the first bytes are the first words
 pub first_taken : (n : ℕ) (bytes : List ℕ) → 8 * n ≤ length bytes → plain_words (take (8 * n) bytes) ≡ first_words n bytes

@@ -13,7 +13,8 @@ use Rattle.cap_canon.specs.FirstWords.{first_words}
 use Rattle.cap_spec.specs.declared.CanonFault.{CanonFault}
 use Rattle.cap_spec.specs.declared.CanonFault.TheVariants.{HasCapability, Memory}
 use Rattle.cap_canon.proofs.Copies.{copy_length, copy_of, same_fault}
-use Rattle.cap_canon.proofs.FirstWords.{first_taken, whole_words}
+use Rattle.cap_canon.proofs.FirstWords.{first_taken}
+use Rattle.cap_words.proofs.WholeWords.{words_text}
 
 -- the first bytes are the text of the first words
 pub first_text : (words bytes : List ℕ) → AllByRecursion (λ b. b < 256) bytes → 8 * length words ≤ length bytes
@@ -23,7 +24,7 @@ first_text words bytes small h e =
     let front = take (8 * n) bytes in
     let long : length front ≡ 8 * n = length-take-le (8 * n) bytes h in
     let whole : front ≡ plain_text (plain_words front) =
-    whole_words front (all_take (λ b. b < 256) (8 * n) bytes small) (omega (arith, long)) in
+    words_text front (all_take (λ b. b < 256) (8 * n) bytes small) (omega (arith, long)) in
     whole ∙ ap plain_text (first_taken n bytes h ∙ e)
 
 -- a buffer that wasn't made long enough

@@ -6,9 +6,10 @@ use Rattle.std.proofs.lemmas.List.{drop-drop, drop-take, drop_all, length-drop, 
 use Rattle.cap_frame.specs.Bytes.{cut, starts_of}
 use Rattle.cap_frame.proofs.Cuts.{cut_at, cut_length, cut_words, front_sum, start_is, words_inside}
 use Rattle.cap_spec.proofs.Bytes.Lists.{all_drop, all_take}
-use Rattle.cap_spec.proofs.Bytes.Plain.{plain_split, words_exact}
+use Rattle.cap_spec.proofs.Bytes.Plain.{words_exact}
 use Rattle.cap_words.proofs.AtHand.{bytes_small}
 use Rattle.cap_words.proofs.Filling.{plain_join}
+use Rattle.cap_words.proofs.WholeWords.{words_text}
 use Rattle.std.proofs.Math.Seq.{drop-append_seam, take-append_seam}
 use Rattle.std.proofs.lemmas.Bool.{cases_lt}
 use Rattle.cap_spec.specs.Plain.{plain_text, plain_words}
@@ -42,22 +43,14 @@ drop_words k bs = elim (cases_lt (length bs) (8 * k)) [
       ∙ drop-append_seam (plain_words (take (8 * k) bs)) (plain_words (drop (8 * k) bs)))
 ]
 
--- bytes that are whole words are the text of these words
-whole_text : (bs : List ℕ) (n : ℕ) → AllByRecursion (λ b. b < 256) bs → length bs ≡ 8 * n → bs ≡ plain_text (plain_words bs)
-whole_text bs n all e =
-    let s = plain_split bs all in
-    let k : length (plain_words bs) ≡ n = words_exact bs ∙ omega (arith, e) in
-    let r : drop (8 * length (plain_words bs)) bs ≡ [] = drop_all (8 * length (plain_words bs)) bs (omega (arith, e, k)) in
-    s.whole ∙ (ap (λ xs. plain_text (plain_words bs) ++ xs) r ∙ append-nil (plain_text (plain_words bs)))
-
--- and so are some of them, from a word on
+-- some bytes from a word on are the text of their words
 pub part_text : (bs : List ℕ) (at words : ℕ) → ((i : ℕ) → Fits w8 (get_or bs i 0)) → 8 * (at + words) ≤ length bs
     → take (8 * words) (drop (8 * at) bs) ≡ plain_text (plain_words (take (8 * words) (drop (8 * at) bs)))
 part_text bs at words fits inside =
     let d : length (drop (8 * at) bs) ≡ length bs - 8 * at = length-drop (8 * at) bs in
     let e : length (take (8 * words) (drop (8 * at) bs)) ≡ 8 * words = length-take-le (8 * words) (drop (8 * at) bs) (omega (arith, d, inside)) in
-    whole_text (take (8 * words) (drop (8 * at) bs)) words
-    (all_take (λ b. b < 256) (8 * words) (drop (8 * at) bs) (all_drop (λ b. b < 256) (8 * at) bs (bytes_small bs fits))) e
+    words_text (take (8 * words) (drop (8 * at) bs))
+    (all_take (λ b. b < 256) (8 * words) (drop (8 * at) bs) (all_drop (λ b. b < 256) (8 * at) bs (bytes_small bs fits))) (omega (arith, e))
 
 -- some words of a segment are spelled where their start and that of the segment tell
 pub part_words : (ns bs : List ℕ) (s start words : ℕ) → s < length ns → 8 * sum ns ≤ length bs → start + words ≤ length (get_or (cut ns bs) s [])

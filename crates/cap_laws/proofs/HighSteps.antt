@@ -1,14 +1,10 @@
 -- Steps of high numbers lead nowhere.
-use Rattle.std.proofs.Common.{ℕ, ◌/◌, ◌^◌, ◌<◌, ◌≤◌, List, [], ◌∷◌, arith, inl, inr, mod-lt, pow_pos, subst, sym}
+use Rattle.std.proofs.Common.{ℕ, ◌^◌, ◌<◌, ◌≤◌, List, [], ◌∷◌, arith, inl, inr, subst, sym}
 use Rattle.std.specs.Prelude.{⊤}
 use Rattle.cap_spec.specs.Paths.{Comes, Goes, Spot, Walks, element, word}
-use Rattle.cap_spec.specs.Words.{field}
 use Rattle.cap_spec.specs.declared.Step.{Step}
 use Rattle.cap_spec.specs.declared.Step.TheVariants.{Ptr, Item}
-
--- a field of n bits is below 2 ^ n
-field_below : (x a n : ℕ) → field x a n < 2 ^ n
-field_below x a n = mod-lt (x / 2 ^ a) (pow_pos n)
+use Rattle.cap_spec.proofs.Trees.DenotedTrees.{field_below}
 
 -- an element has less than 2 ^ 16 pointers
 abbrev HasFewPointers : Spot → Type 0

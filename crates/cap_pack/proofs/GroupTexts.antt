@@ -16,7 +16,7 @@ use Rattle.cap_spec.proofs.Bytes.Lists.{all_drop}
 use Rattle.cap_spec.proofs.Bytes.Plain.{length_plain, words_exact}
 use Rattle.cap_spec.proofs.Packed.Packing.{front-le, group_size-marked, nonzero_word, pack_text-group, zero_run-append}
 use Rattle.cap_words.proofs.Filling.{plain_join}
-use Rattle.cap_words.proofs.WholeWords.{whole_text}
+use Rattle.cap_words.proofs.WholeWords.{words_text}
 use Rattle.cap_pack.specs.GroupTexts.{front_text}
 use Rattle.cap_pack.proofs.FullWords.{full_word, word_tag, zero_word}
 use Rattle.cap_pack.proofs.PuttingEach.{word_first}
@@ -58,10 +58,6 @@ pub front_behind : (bs : List ℕ) (k : ℕ) → 8 + 8 * k ≤ length bs → len
 front_behind bs k l =
     let part = take (8 + 8 * k) bs in
     omega (arith, words_exact (drop 8 part), length-drop 8 part, length-take-le (8 + 8 * k) bs l)
-
--- the text of whole words is their bytes
-pub text_whole : (bs : List ℕ) → AllByRecursion (λ b. b < 256) bs → length bs % 8 ≡ 0 → bs ≡ plain_text (plain_words bs)
-text_whole bs small e = sym (take_all (length bs / 8 * 8) bs (omega (arith, e))) ∙ whole_text bs small
 
 -- how many words the group in front takes, by its first word
 pub size_zero : (w : ℕ) (ws : List ℕ) → w ≡ 0 → group_size (w ∷ ws) ≡ 1 + min 255 (zero_run ws)
@@ -248,7 +244,7 @@ full_written bs text head rest tag n m word small l w v z room t h e r k =
     let a : length tagged ≡ length text = length-set text 0 tag in
     let b : length headed ≡ length tagged = put_length 1 8 tagged head (omega (arith, a, long, l)) eight in
     let left : rest ≡ drop 8 bs = r ∙ take_rest bs 8 in
-    let text_left : rest ≡ plain_text more = left ∙ text_whole (drop 8 bs) (all_drop (λ b. b < 256) 8 bs small) (omega (arith, length-drop 8 bs, w, l)) in
+    let text_left : rest ≡ plain_text more = left ∙ words_text (drop 8 bs) (all_drop (λ b. b < 256) 8 bs small) (omega (arith, length-drop 8 bs, w, l)) in
     let count : n ≡ length more = omega (arith, e, words_exact (drop 8 bs), length-drop 8 bs) in
     let is : front_text (plain_words bs) ≡ 255 ∷ (word_bytes word ++ length more ∷ plain_text more) =
     ap front_text (words_first bs l) ∙ text_full _ more zero ∙ ap (λ (x : ℕ). 255 ∷ (word_bytes x ++ length more ∷ plain_text more)) (sym v) in

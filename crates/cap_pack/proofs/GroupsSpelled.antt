@@ -10,6 +10,7 @@ use Rattle.cap_spec.specs.Plain.{word_bytes, plain_text}
 use Rattle.cap_spec.specs.Packing.{zero_bytes, zero_run, full_run, tag_of, group_size, pack_text}
 use Rattle.cap_spec.proofs.Packed.Packing.{front-append, front-le, nonzero_word, pack_text-marked, pack_text-plain}
 use Rattle.cap_spec.proofs.Packed.Packing.{pack_text-zeros, plain_full, group_size-plain, group_size-zeros}
+use Rattle.cap_spec.proofs.Packed.Repacking.{zero_front}
 use Rattle.std.proofs.lemmas.Slice.{take-put_mid}
 use borrow.Rule.Slice.PartMut.{put_mid}
 use Rattle.cap_pack.specs.Holding.{IsRun, Spells, held, first_zeros}
@@ -51,23 +52,9 @@ run_stops p xs ys n e h =
     let at : n ≡ prefix_len p xs = e ∙ run_is p xs in
     run_is p (drop n xs ++ ys) ∙ ap (λ k. prefix_len p (drop k xs ++ ys)) at ∙ stops_behind p xs ys (omega arith)
 
--- the zero words of a run
-zeros_more : (t : Bool) (x n m : ℕ) (xs : List ℕ) → eqb x 0 ≡ t → suc n ≤ cond t (1 + m) 0 → (n ≤ m → take n xs ≡ replicate n 0) →
-    x ∷ take n xs ≡ 0 ∷ replicate n 0
-zeros_more true x n m xs e h k = ap (λ (y : ℕ). y ∷ take n xs) (eqb-true x 0 e) ∙ ap (λ (l : List ℕ). 0 ∷ l) (k (omega arith))
-zeros_more false x n m xs e h k = absurd (omega arith)
-
-zeros_of : (n : ℕ) (xs : List ℕ) → n ≤ prefix_len (λ x. x == 0) xs → take n xs ≡ replicate n 0
-zeros_of zero xs h = refl
-zeros_of (suc n) [] h = absurd (omega arith)
-zeros_of (suc n) (x ∷ xs) h = zeros_more (eqb x 0) x n (prefix_len (λ x. x == 0) xs) xs refl h (zeros_of n xs)
-
-pub zeros_front : (n : ℕ) (xs : List ℕ) → n ≤ zero_run xs → take n xs ≡ replicate n 0
-zeros_front n xs h = zeros_of n xs (omega (arith, run_is (λ x. x == 0) xs))
-
 -- so many more zero words in a run
 pub zeros_joined : (more n : ℕ) (xs : List ℕ) → n ≤ zero_run xs → 0 ∷ replicate (more + n) 0 ≡ (0 ∷ replicate more 0) ++ take n xs
-zeros_joined more n xs h = ap (λ (l : List ℕ). 0 ∷ l) (sym (replicate-append-replicate more n 0) ∙ ap (λ l. replicate more 0 ++ l) (sym (zeros_front n xs h)))
+zeros_joined more n xs h = ap (λ (l : List ℕ). 0 ∷ l) (sym (replicate-append-replicate more n 0) ∙ ap (λ l. replicate more 0 ++ l) (sym (zero_front n xs h)))
 
 pub zeros_one : (more : ℕ) → more ≤ 255 → group_size (0 ∷ replicate more 0) ≡ suc (length (replicate {A = ℕ} more 0))
 zeros_one more h =
@@ -92,7 +79,7 @@ full_joined xs ys n f h l =
 pub zeros_spelled : (w k : ℕ) (xs : List ℕ) → w ≡ 0 → k ≡ zero_run xs → k < length xs → k ≤ 255 → Spells (w ∷ xs) (0 ∷ k ∷ []) (drop k xs)
 zeros_spelled w k xs e r h few = λ ws.
     let rest = drop k xs ++ ws in
-    let front : take k xs ≡ replicate k 0 = zeros_front k xs (omega arith) in
+    let front : take k xs ≡ replicate k 0 = zero_front k xs (omega arith) in
     let split : w ∷ (xs ++ ws) ≡ 0 ∷ (replicate k 0 ++ rest) =
     ap (λ (y : ℕ). y ∷ (xs ++ ws)) e
     ∙ ap (λ (l : List ℕ). 0 ∷ l) (ap (λ l. l ++ ws) (sym (take-append-drop k xs)) ∙ append_assoc (take k xs) (drop k xs) ws ∙ ap (λ l. l ++ rest) front) in
@@ -181,7 +168,7 @@ run_zeros (w ∷ ws) r h e =
     ⊎_elim (λ (z, run).
     let less : suc (length ws) - 1 ≡ length ws = omega arith in
     ap (λ n. 0 ∷ replicate n 0) less
-    ∙ ap (λ (l : List ℕ). 0 ∷ l) (sym (zeros_front (length ws) ws (omega (arith, run))) ∙ take_all (length ws) ws (omega arith))
+    ∙ ap (λ (l : List ℕ). 0 ∷ l) (sym (zero_front (length ws) ws (omega (arith, run))) ∙ take_all (length ws) ws (omega arith))
     ∙ ap (λ (y : ℕ). y ∷ ws) (sym e))
     (λ (z, run). absurd (nonzero_word w (omega (arith, z)) e))
     r

@@ -14,6 +14,7 @@ use Rattle.cap_spec.specs.Plain.{word_bytes}
 use Rattle.byteorder.specs.Endian.{little_number}
 use Rattle.cap_spec.specs.Packing.{tag_of, zero_bytes, zeros_in}
 use Rattle.cap_spec.specs.Unpacking.{marks, spread}
+use Rattle.cap_spec.proofs.Packed.Repacking.{spread_empty}
 use Rattle.cap_pack.specs.Places.{spread_from, marked_from, spread_row, squeeze_row}
 use Rattle.cap_pack.proofs.Runs.{bits_behind, low_bit}
 use Rattle.cap_pack.proofs.Tags.{eight_number, word_tag, mask_is_tag}
@@ -113,17 +114,13 @@ spread_ok row lanes tag e f =
     subst (λ js. SwzOk w8 16 16 0 js) (sym all) (SwzOk-from_Each1 w8 16 1 16 0 (spread_row tag ++ replicate 8 128) refl (omega arith) each)
 
 -- spreading bytes takes the next of them at each bit that is set
-none_spread : (n tag : ℕ) → spread n tag [] ≡ 0
-none_spread zero tag = refl
-none_spread (suc n) tag = refl
-
 both_zero : (t : Bool) (m : ℕ) → m ≡ 0 → 0 ≡ cond t (256 * m) (0 + 256 * m)
 both_zero true m e = omega arith
 both_zero false m e = omega arith
 
 spread_step : (n tag : ℕ) (ys : List ℕ) →
     spread (suc n) tag ys ≡ cond (eqb (tag % 2) 0) (256 * spread n (tag / 2) ys) (get_or ys 0 0 + 256 * spread n (tag / 2) (drop 1 ys))
-spread_step n tag [] = both_zero (eqb (tag % 2) 0) (spread n (tag / 2) []) (none_spread n (tag / 2))
+spread_step n tag [] = both_zero (eqb (tag % 2) 0) (spread n (tag / 2) []) (spread_empty n (tag / 2))
 spread_step n tag (y ∷ ys) = refl
 
 spread_one : (n up k : ℕ) (xs : List ℕ) (r : ℕ) → r < 2 → k < 128 → pick xs (cond (eqb r 0) 128 k) + 256 * spread n up (drop (k + r) xs)

@@ -14,6 +14,7 @@ use Rattle.cap_spec.specs.Plain.{word_bytes}
 use Rattle.cap_spec.specs.Packing.{tag_of}
 use Rattle.cap_spec.proofs.Bytes.WordBytes.{bytes_back}
 use Rattle.cap_spec.proofs.Bytes.Plain.{length_plain}
+use Rattle.cap_spec.proofs.Packed.Repacking.{tag_below}
 
 -- the tag of a word
 abbrev pub word_tag : ℕ → ℕ
@@ -59,20 +60,8 @@ tags_of_bytes [] = refl
 tags_of_bytes (w ∷ ws) = tag_above w (flat_map word_bytes ws) ∙ ap (λ t. word_tag w + 256 * t) (tags_of_bytes ws)
 
 -- a tag of eight bytes is a byte
-bit_fits : (t : Bool) (m n : ℕ) → m < n → cond t 0 1 + 2 * m < 2 * n
-bit_fits true m n h = omega arith
-bit_fits false m n h = omega arith
-
--- so many bytes have a tag of so many bits
-bits_fit : (bs : List ℕ) → tag_of bs < 2 ^ length bs
-bits_fit [] = omega arith
-bits_fit (b ∷ bs) =
-    let twice : 2 ^ suc (length bs) ≡ 2 * 2 ^ length bs = pow-succ' 2 (length bs) in
-    let less = bit_fits (b == 0) (tag_of bs) (2 ^ length bs) (bits_fit bs) in
-    omega arith
-
 pub tag_fits : (w : ℕ) → word_tag w < 256
-tag_fits w = bits_fit (word_bytes w)
+tag_fits w = tag_below (word_bytes w)
 
 tags_fit : (ws : List ℕ) → AllByRecursion (λ t. t < 256) (map word_tag ws)
 tags_fit [] = tt

@@ -10,7 +10,8 @@ use Rattle.cap_spec.specs.Plain.{capped, plain_words}
 use Rattle.cap_spec.specs.PackedEnds.{word_ends, front_ends, ends_in, packed_ends}
 use Rattle.cap_spec.specs.Unpacking.{marks, spread, given_of, group_length, group_words, given_in, is_cut_in, unpacked, packed_is_cut}
 use Rattle.cap_pack.specs.Course.{Course, gives, stops, course_words, course_is_cut, course_places, course, head_rest, first_word, zeros_of, plain_of, zeros_then}
-use Rattle.cap_spec.proofs.Packed.Unpacking.{spread_append}
+use Rattle.cap_spec.proofs.Packed.PackedEnds.{ends_nil}
+use Rattle.cap_spec.proofs.Packed.Unpacking.{cut_nil, given_nil, spread_append}
 use Rattle.cap_pack.proofs.Courses.{course_plain, course_plain_stops, course_head, course_head_stops, course_none}
 
 -- a course gives these words, ends so, and is at these positions
@@ -117,18 +118,6 @@ behind_long k (suc n) at (a ∷ b ∷ c ∷ d ∷ e ∷ f ∷ g ∷ h ∷ rest) 
       ap (λ l. capped (at + 8) ∷ l) t.2 ∙ ap (λ p. capped (at + 8) ∷ (word_ends (at + 8) n ++ ends_in k p (drop (8 * n) rest))) next,
     )
 behind_long k (suc n) at bytes p = absurd (omega (arith, p))
-
-none_given : (k : ℕ) → given_in k [] ≡ []
-none_given zero = refl
-none_given (suc k) = none_given k
-
-none_cut : (k : ℕ) → is_cut_in k [] ≡ false
-none_cut zero = refl
-none_cut (suc k) = none_cut k
-
-none_ends : (k at : ℕ) → ends_in k at [] ≡ capped at ∷ []
-none_ends zero at = refl
-none_ends (suc k) at = let here : at + 0 ≡ at = omega arith in none_ends k (at + 0) ∙ ap (λ p. capped p ∷ []) here
 
 -- What is shown of all short bytes holds behind words as they are, too.
 Told : ℕ → Type 0
@@ -252,7 +241,7 @@ unfolding Told
 told zero at [] p = tells_along (course_none (capped at)) refl refl refl (record { words = refl; cut = refl; ends = refl })
 told zero at (tag ∷ bytes) p = absurd (omega arith)
 told (suc k) at [] p =
-    tells_along (course_none (capped at)) (none_given k) (none_cut k) (none_ends (suc k) at) (record { words = refl; cut = refl; ends = refl })
+    tells_along (course_none (capped at)) (given_nil k) (cut_nil k) (ends_nil (suc k) at) (record { words = refl; cut = refl; ends = refl })
 told (suc k) at (tag ∷ bytes) p = ⊎_elim
     (λ z. rw z (zeros_told k (told k) at bytes (omega arith)))
     (λ z. ⊎_elim (λ o. rw o (plain_run_told k (told k) at bytes (omega arith))) (λ o. marked_told k (told k) at tag bytes z o (omega arith)) (cases_eq tag 255))

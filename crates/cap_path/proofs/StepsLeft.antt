@@ -3,49 +3,15 @@ use Rattle.std.proofs.Common.{◌≡◌, ◌∙◌, inl, inr, ℕ, ◌+◌, ◌<
 use Rattle.std.proofs.Common.{drop, get_or, refl, sym, ap, subst, arith}
 use Rattle.std.specs.List.{flat_map, AllByRecursion}
 use Rattle.std.proofs.lemmas.Bool.Decides.{leb_tells}
-use Rattle.std.proofs.lemmas.Fmt.{decimal_by_steps, decimal_injective}
+use Rattle.std.proofs.lemmas.Fmt.{decimal_injective}
 use Rattle.std.proofs.lemmas.List.{at_drop_more, drop_all, take-append-drop}
 use Rattle.cap_spec.specs.PathTexts.{IsStep, step_text}
 use Rattle.cap_spec.specs.declared.Step.{Step}
 use Rattle.cap_spec.specs.declared.Step.TheVariants.{Ptr, Item as item}
-use Rattle.cap_spec.proofs.Bytes.Lists.{all_append}
+use Rattle.cap_spec.proofs.Paths.PathTexts.{EndsNumber, all_digits, ends_number, one_number}
 use Rattle.cap_path.specs.PathReading.{IsStepAt}
 use Rattle.cap_path.specs.PathSteps.{AreLeft}
 use Rattle.cap_path.specs.declared.steps.PathSteps.{PathSteps}
-
-abbrev IsDigit : ℕ → Type 0
-IsDigit b = (48 ≤ b) × (b < 58)
-
--- the digits of a number are digits
-all_digits : (n : ℕ) → n < 2 ^ 64 → AllByRecursion IsDigit (decimal n)
-all_digits n h =
-    decimal_by_steps (λ _ ds. AllByRecursion IsDigit ds) (λ k less. ((omega arith, omega arith), tt))
-    (λ k ds more before. all_append IsDigit ds ((48 + k % 10) ∷ []) before ((omega arith, omega arith), tt)) n h
-
--- a number ends where this text begins
-abbrev EndsNumber : List ℕ → Type 0
-EndsNumber [] = Unit {0}
-EndsNumber (b ∷ bs) = b ≡ 47
-
--- digits and what follows them, in one way
-one_number : (xs ys r s : List ℕ) → AllByRecursion IsDigit xs → AllByRecursion IsDigit ys → EndsNumber r → EndsNumber s
-    → xs ++ r ≡ ys ++ s → (xs ≡ ys) × (r ≡ s)
-one_number [] [] r s a b p q e = (refl, e)
-one_number [] (y ∷ ys) [] s a b p q e = absurd (cc)
-one_number [] (y ∷ ys) (c ∷ r) s a b p q e = let f : c ≡ y = cc in absurd (omega (arith, f, p, b.0.0))
-one_number (x ∷ xs) [] r [] a b p q e = absurd (cc)
-one_number (x ∷ xs) [] r (c ∷ s) a b p q e = let f : x ≡ c = cc in absurd (omega (arith, f, q, a.0.0))
-one_number (x ∷ xs) (y ∷ ys) r s a b p q e =
-    let f : x ≡ y = cc in
-    let g : xs ++ r ≡ ys ++ s = cc in
-    let rest = one_number xs ys r s a.1 b.1 p q g in
-    let same = rest.0 in
-    (cc, rest.1)
-
-ends_number : (steps : List Step) → EndsNumber (flat_map step_text steps)
-ends_number [] = tt
-ends_number (Ptr i ∷ steps) = refl
-ends_number (item i ∷ steps) = refl
 
 -- the text of a step and what follows it, in one way
 one_front : (s t : Step) (r u : List ℕ) → IsStep s → IsStep t → EndsNumber r → EndsNumber u

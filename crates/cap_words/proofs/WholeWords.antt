@@ -1,5 +1,5 @@
 -- The whole words of bytes, and their text.
-use Rattle.std.proofs.Common.{◌≡◌, ◌+◌, ◌*◌, ◌/◌, ◌<◌, ◌∙◌, ℕ, List, ◌++◌, length, take, drop, Option, ap, sym, arith, length-append}
+use Rattle.std.proofs.Common.{◌≡◌, ◌+◌, ◌*◌, ◌/◌, ◌%◌, ◌<◌, ◌∙◌, ℕ, List, ◌++◌, length, take, drop, Option, ap, sym, arith, length-append}
 use Rattle.std.proofs.KnownBytes.{append_known-moved}
 use Rattle.std.proofs.lemmas.Grind.{flat_map-append}
 use Rattle.std.proofs.lemmas.List.{take-append-le, take_all}
@@ -22,6 +22,10 @@ whole_text bytes small =
     let same : length bytes / 8 * 8 ≡ length text = omega (arith, eight, long, few) in
     ap (λ n. take n bytes) same ∙ ap (take (length text)) s.whole ∙ take-append-le (length text) text rest (omega arith)
     ∙ take_all (length text) text (omega arith)
+
+-- and if all are whole words, so are all of them
+pub words_text : (bytes : List ℕ) → AllByRecursion (λ b. b < 256) bytes → length bytes % 8 ≡ 0 → bytes ≡ plain_text (plain_words bytes)
+words_text bytes small e = sym (take_all (length bytes / 8 * 8) bytes (omega (arith, e))) ∙ whole_text bytes small
 
 -- the text of words was written
 pub words_put : (a b : Option (List ℕ)) (bytes ws more : List ℕ) → bytes ≡ plain_text ws → Appends a b bytes →

@@ -11,7 +11,7 @@ use Rattle.cap_spec.proofs.Packed.Unpacking.{group_some, drop_less}
 use Rattle.cap_spec.proofs.Packed.Groups.{in_front, part_is_short}
 
 -- no bytes give only the end
-ends_nil : (n at : ℕ) → ends_in n at [] ≡ capped at ∷ []
+pub ends_nil : (n at : ℕ) → ends_in n at [] ≡ capped at ∷ []
 ends_nil zero at = refl
 ends_nil (suc n) at = let e : at + 0 ≡ at = omega arith in ends_nil n (at + 0) ∙ ap (λ p. capped p ∷ []) e
 

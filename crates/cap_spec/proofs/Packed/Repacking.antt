@@ -66,7 +66,7 @@ marks_tag (b ∷ bytes) = elim (cases_eq b 0) [
 ]
 
 -- no bytes make no number
-spread_empty : (n tag : ℕ) → spread n tag [] ≡ 0
+pub spread_empty : (n tag : ℕ) → spread n tag [] ≡ 0
 spread_empty zero tag = refl
 spread_empty (suc n) tag = refl
 
@@ -110,7 +110,7 @@ spread_tag (b ∷ bytes) = elim (cases_eq b 0) [
 ]
 
 -- a tag of so many bits
-tag_below : (bytes : List ℕ) → tag_of bytes < 2 ^ length bytes
+pub tag_below : (bytes : List ℕ) → tag_of bytes < 2 ^ length bytes
 tag_below [] = omega arith
 tag_below (b ∷ bytes) =
     let t = tag_below bytes in
@@ -160,7 +160,7 @@ marked_group x h n z =
     refl (ap (λ k. k ∷ []) (sym s))
 
 -- a front of a run of zero words
-zero_front : (k : ℕ) (words : List ℕ) → k ≤ zero_run words → take k words ≡ replicate k 0
+pub zero_front : (k : ℕ) (words : List ℕ) → k ≤ zero_run words → take k words ≡ replicate k 0
 zero_front zero words h = refl
 zero_front (suc k) [] h = absurd (omega arith)
 zero_front (suc k) (x ∷ words) h = elim (cases_eq x 0) [

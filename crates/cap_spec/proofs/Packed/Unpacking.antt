@@ -25,12 +25,12 @@ pub drop_less : (k n x : ℕ) (bytes : List ℕ) → 0 < k → length bytes ≤ 
 drop_less k n x bytes p q = let d = length-drop k (x ∷ bytes) in omega arith
 
 -- no bytes give no words
-given_nil : (n : ℕ) → given_in n [] ≡ []
+pub given_nil : (n : ℕ) → given_in n [] ≡ []
 given_nil zero = refl
 given_nil (suc n) = given_nil n
 
 -- and aren't cut
-cut_nil : (n : ℕ) → is_cut_in n [] ≡ false
+pub cut_nil : (n : ℕ) → is_cut_in n [] ≡ false
 cut_nil zero = refl
 cut_nil (suc n) = cut_nil n
 

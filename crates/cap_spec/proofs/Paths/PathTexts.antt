@@ -9,22 +9,22 @@ use Rattle.cap_spec.specs.declared.Step.{Step}
 use Rattle.cap_spec.specs.declared.Step.TheVariants.{Ptr, Item}
 use Rattle.cap_spec.proofs.Bytes.Lists.{all_append}
 
-abbrev IsDigit : ℕ → Type 0
+abbrev pub IsDigit : ℕ → Type 0
 IsDigit b = (48 ≤ b) × (b < 58)
 
 -- the digits of a number are digits
-all_digits : (n : ℕ) → n < 2 ^ 64 → AllByRecursion IsDigit (decimal n)
+pub all_digits : (n : ℕ) → n < 2 ^ 64 → AllByRecursion IsDigit (decimal n)
 all_digits n h =
     decimal_by_steps (λ _ ds. AllByRecursion IsDigit ds) (λ k less. ((omega arith, omega arith), tt))
     (λ k ds more before. all_append IsDigit ds ((48 + k % 10) ∷ []) before ((omega arith, omega arith), tt)) n h
 
 -- a number ends where this text begins
-abbrev EndsNumber : List ℕ → Type 0
+abbrev pub EndsNumber : List ℕ → Type 0
 EndsNumber [] = Unit {0}
 EndsNumber (b ∷ bs) = b ≡ 47
 
--- digits and what stands behind them, told apart
-one_number : (xs ys r s : List ℕ) → AllByRecursion IsDigit xs → AllByRecursion IsDigit ys → EndsNumber r → EndsNumber s
+-- digits and what follows them, in one way
+pub one_number : (xs ys r s : List ℕ) → AllByRecursion IsDigit xs → AllByRecursion IsDigit ys → EndsNumber r → EndsNumber s
     → xs ++ r ≡ ys ++ s → (xs ≡ ys) × (r ≡ s)
 one_number [] [] r s a b p q e = (refl, e)
 one_number [] (y ∷ ys) [] s a b p q e = absurd (cc)
@@ -38,7 +38,7 @@ one_number (x ∷ xs) (y ∷ ys) r s a b p q e =
     let same = rest.0 in
     (cc, rest.1)
 
-ends_number : (steps : List Step) → EndsNumber (flat_map step_text steps)
+pub ends_number : (steps : List Step) → EndsNumber (flat_map step_text steps)
 ends_number [] = tt
 ends_number (Ptr i ∷ steps) = refl
 ends_number (Item i ∷ steps) = refl

@@ -29,7 +29,7 @@ range_words m t b n h = all_take IsWord (b + n - b) (drop b (segment_of m t))
     (all_drop IsWord b (segment_of m t) (segment_words m t h))
 
 -- a field of n bits is below 2 ^ n
-field_below : (x a n : ℕ) → field x a n < 2 ^ n
+pub field_below : (x a n : ℕ) → field x a n < 2 ^ n
 field_below x a n = mod-lt (x / 2 ^ a) (pow_pos n)
 
 -- each value of a list fits its element
