@@ -41,7 +41,8 @@ module _ {X : Type 0} (g : source.Ghosts X) where
       let n = (first % 2 ^ 32 + 1) / 2 in
       let later = stops_later g old mid new (first ∷ []) n (Truncated byte) t u s in
       record {
-        short = partial_table (g.words old) (g.words mid) limit first (1 + n) byte (g.places old) (g.places mid) (g.is_cut old) few t.words s.short later.short;
+        short = partial_table (g.words old) (g.words mid) limit first (1 + n) byte (g.places old) (g.places mid) (g.is_cut old) few t.consumed s.short
+            later.short;
         place = s.place;
         usable = later.usable;
         none_failed = later.none_failed;
@@ -65,7 +66,7 @@ module _ {X : Type 0} (g : source.Ghosts X) where
       let later = stops_later g old mid new t.table (sum sizes) (Truncated byte) t.takes u s in
       record {
         short = partial_contents (g.words old) (g.words mid) limit (length t.table + sum sizes) byte t.table sizes (g.places old) (g.places mid)
-            (g.is_cut old) t.is_table l t.takes.words s.short later.short;
+            (g.is_cut old) t.is_table l t.takes.consumed s.short later.short;
         place = s.place;
         usable = later.usable;
         none_failed = later.none_failed;

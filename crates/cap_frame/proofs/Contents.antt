@@ -9,7 +9,7 @@ use Rattle.cap_words.specs.declared.sources.WordSource as source
 use Rattle.cap_words.specs.declared.sources.SourceFault.{SourceFault}
 use Rattle.cap_spec.specs.Frames.{joined, sizes_of}
 use Rattle.cap_spec.proofs.Frames.Endings.{length_joined}
-use Rattle.cap_frame.specs.Taking.{Takes, Reads, IsUsable, Stops}
+use Rattle.cap_frame.specs.Taking.{Takes, ReadsInput, IsUsable, Stops}
 use Rattle.cap_frame.specs.Rooms.{AreRooms}
 use Rattle.cap_frame.proofs.Cuts.{front_sum}
 use Rattle.cap_frame.proofs.Taking.{Took, took_more, took_none, took_stop}
@@ -47,7 +47,7 @@ module _ {X : Type 0} (g : source.Ghosts X) where
 
   -- one more
   pub words_more : (old now new : X) (words longer : List ℕ) (many word : ℕ) → WordsSoFar old now words many → Takes g now new (word ∷ [])
-      → Reads g now new → IsUsable g now new → longer ≡ words ++ word ∷ [] → WordsSoFar old new longer (many + 1)
+      → ReadsInput g now new → IsUsable g now new → longer ≡ words ++ word ∷ [] → WordsSoFar old new longer (many + 1)
   words_more old now new words longer many word w t r u e = record {
     took = took_more g old now new words (word ∷ []) longer e w.took t r u;
     length_is = ap length e ∙ omega (arith, length-append words (word ∷ []), w.length_is);
@@ -77,7 +77,7 @@ module _ {X : Type 0} (g : source.Ghosts X) where
 
     -- one more segment
     pub segments_more : (old now new : X) (s : ℕ) (segments longer : List V) (sizes : List ℕ) (v : V) (n : ℕ) → s < length sizes → n ≡ get_or sizes s 0
-        → SegmentsSoFar old now s segments sizes → Takes g now new (f v) → length (f v) ≡ n → Reads g now new → IsUsable g now new
+        → SegmentsSoFar old now s segments sizes → Takes g now new (f v) → length (f v) ≡ n → ReadsInput g now new → IsUsable g now new
         → longer ≡ set segments s v → SegmentsSoFar old new (s + 1) longer sizes
     segments_more old now new s segments longer sizes v n h d t takes l reads u e =
         let inside : s < length segments = omega (arith, t.many) in

@@ -69,7 +69,7 @@ module _ (is : List (List ℕ) → Type 0) (limit : ℕ) (ws : List ℕ) (cut : 
 module _ {X : Type 0} (g : source.Ghosts X) (is : List (List ℕ) → Type 0) (limit : ℕ) (old new : X) where
   -- the words that are left of known ones
   left_of : (ws own : List ℕ) → g.words old ≡ Some ws → Takes g old new own → (rest : List ℕ) × (g.words new ≡ Some rest) × (ws ≡ own ++ rest)
-  left_of ws own e t = known_still ws own (g.words new) (subst (λ (o : Option (List ℕ)). Consumes o (g.words new) own) e t.words)
+  left_of ws own e t = known_still ws own (g.words new) (subst (λ (o : Option (List ℕ)). Consumes o (g.words new) own) e t.consumed)
 
   -- what a fault says of them
   pub tells_fault : (fault : FrameFault) (ws : List ℕ) → g.words old ≡ Some ws → Faults g limit old new fault

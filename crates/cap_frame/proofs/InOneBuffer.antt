@@ -10,7 +10,7 @@ use Rattle.cap_words.proofs.Filling.{plain_join}
 use Rattle.cap_spec.specs.Frames.{joined, sizes_of}
 use Rattle.cap_spec.specs.Plain.{plain_words}
 use Rattle.cap_frame.specs.Bytes.{cut}
-use Rattle.cap_frame.specs.Taking.{Takes, Reads, IsUsable, Stops}
+use Rattle.cap_frame.specs.Taking.{Takes, ReadsInput, IsUsable, Stops}
 use Rattle.cap_frame.proofs.Cuts.{words_inside}
 use Rattle.cap_spec.proofs.Bytes.Plain.{words_exact}
 use Rattle.cap_frame.proofs.Taking.{Took, took_more, took_stop}
@@ -79,7 +79,7 @@ module _ {X : Type 0} (g : source.Ghosts X) where
   -- one more piece
   pub bytes_more : (old now new : X) (done end : ℕ) (bytes longer piece : List ℕ) → end % 8 ≡ 0 → end ≤ length longer
       → take end longer ≡ take done bytes ++ piece
-      → BytesSoFar old now done bytes → Takes g now new (plain_words piece) → Reads g now new → IsUsable g now new → BytesSoFar old new end longer
+      → BytesSoFar old now done bytes → Takes g now new (plain_words piece) → ReadsInput g now new → IsUsable g now new → BytesSoFar old new end longer
   bytes_more old now new done end bytes longer piece w i e t takes r u =
       let front : length (take done bytes) % 8 ≡ 0 = omega (arith, length-take-le done bytes t.within, t.whole) in
       let words : plain_words (take end longer) ≡ plain_words (take done bytes) ++ plain_words piece = ap plain_words e

@@ -9,7 +9,7 @@ use Rattle.cap_words.specs.declared.sources.SourceFault.TheVariants.{Spent}
 use Rattle.cap_spec.specs.Frames.{joined, sizes_of}
 use Rattle.cap_frame.specs.Reading.{ReadsFrame, ReadsNext, TakesFrame}
 use Rattle.cap_frame.specs.ReadingFaults.{Faults, TakesTable, frame_fault_of}
-use Rattle.cap_frame.specs.Taking.{IsUsable, Reads, Stops, Takes}
+use Rattle.cap_frame.specs.Taking.{IsUsable, ReadsInput, Stops, Takes}
 use Rattle.cap_frame.specs.declared.fault.FrameFault.{FrameFault}
 use Rattle.cap_frame.specs.declared.fault.FrameFault.TheVariants.{Memory}
 use Rattle.cap_frame.proofs.Behind.{behind_contents, behind_message}
@@ -23,8 +23,8 @@ module _ {X : Type 0} (g : source.Ghosts X) (limit : ℕ) (old mid new : X) wher
   works_after (Err fault) u w = tt
 
   -- a source that gave something has not ended or failed before
-  pub next_after : (r : Result Bool FrameFault) → (g.ended old ≡ true → ⊥) → (g.failed old ≡ true → ⊥) → IsUsable g old mid → Reads g old mid
-      → Reads g mid new → OnOk r (IsUsable g mid new) → IfErr r (Faults g limit old new) → (r ≡ Ok false → ⊥) → ReadsNext g limit old new r
+  pub next_after : (r : Result Bool FrameFault) → (g.ended old ≡ true → ⊥) → (g.failed old ≡ true → ⊥) → IsUsable g old mid → ReadsInput g old mid
+      → ReadsInput g mid new → OnOk r (IsUsable g mid new) → IfErr r (Faults g limit old new) → (r ≡ Ok false → ⊥) → ReadsNext g limit old new r
   next_after r ended failed usable before reads works err some = record {
     works = works_after r usable works;
     none = λ e. absurd (some e);
@@ -37,7 +37,7 @@ module _ {X : Type 0} (g : source.Ghosts X) (limit : ℕ) (old mid new : X) wher
   }
 
   -- so has one that gave a table
-  pub next_later : (r : Result Bool FrameFault) → ReadsNext g limit old mid (Ok true) → Reads g mid new → OnOk r (IsUsable g mid new)
+  pub next_later : (r : Result Bool FrameFault) → ReadsNext g limit old mid (Ok true) → ReadsInput g mid new → OnOk r (IsUsable g mid new)
       → IfErr r (Faults g limit old new) → (r ≡ Ok false → ⊥) → ReadsNext g limit old new r
   next_later r n reads works err some =
       next_after r (λ e. absurd (let h = (n.stays e).0 in cc)) (λ e. absurd (let h = (n.for_good e).0 in cc)) n.works n.reads reads works err some
@@ -47,7 +47,7 @@ module _ {X : Type 0} (g : source.Ghosts X) where
   pub record Gave (old new : X) (word : ℕ) : Type 0 where
     pub takes : Takes g old new (word ∷ [])
     pub usable : IsUsable g old new
-    pub reads : Reads g old new
+    pub reads : ReadsInput g old new
     pub going : g.ended old ≡ true → ⊥
     pub working : g.failed old ≡ true → ⊥
 
@@ -71,7 +71,7 @@ module _ {X : Type 0} (g : source.Ghosts X) where
   gave old new word (Err fault) e words places stays good reads ok = absurd (cc)
 
   -- what follows it
-  pub next_first : (limit : ℕ) (old mid new : X) (word : ℕ) (r : Result Bool FrameFault) → Gave old mid word → Reads g mid new
+  pub next_first : (limit : ℕ) (old mid new : X) (word : ℕ) (r : Result Bool FrameFault) → Gave old mid word → ReadsInput g mid new
       → OnOk r (IsUsable g mid new) → IfErr r (Faults g limit old new) → (r ≡ Ok false → ⊥) → ReadsNext g limit old new r
   next_first limit old mid new word r f reads works err some =
       next_after g limit old mid new r f.going f.working f.usable f.reads reads works err some
@@ -96,7 +96,7 @@ module _ {X : Type 0} (g : source.Ghosts X) (is : List (List ℕ) → Type 0) (l
 module _ {X : Type 0} (g : source.Ghosts X) (is : List (List ℕ) → Type 0) (limit : ℕ) (old mid new : X) (sizes : List ℕ) where
   -- the contents after a table were read
   pub frame_taken : (m : List (List ℕ)) → ReadsNext g limit old mid (Ok true) → TakesTable g old mid sizes → sum sizes ≤ limit
-      → Takes g mid new (joined m) → sizes_of m ≡ sizes → IsUsable g mid new → Reads g mid new → is m → ReadsFrame g is limit old new (Ok true)
+      → Takes g mid new (joined m) → sizes_of m ≡ sizes → IsUsable g mid new → ReadsInput g mid new → is m → ReadsFrame g is limit old new (Ok true)
   frame_taken m n table within takes e works reads i =
       let t = behind_message g old mid new sizes m table takes e in
       let frame : TakesFrame g limit old new m = record { own = t.0; takes = t.1; frames = t.2; within = subst (λ ns. sum ns ≤ limit) (sym e) within } in
@@ -104,7 +104,7 @@ module _ {X : Type 0} (g : source.Ghosts X) (is : List (List ℕ) → Type 0) (l
 
   -- the source stopped inside them
   pub frame_stopped : (fault : SourceFault) (f : FrameFault) → f ≡ frame_fault_of fault → ReadsNext g limit old mid (Ok true) → TakesTable g old mid sizes
-      → sum sizes ≤ limit → Stops g (sum sizes) mid new fault → Reads g mid new → ReadsFrame g is limit old new (Err f)
+      → sum sizes ≤ limit → Stops g (sum sizes) mid new fault → ReadsInput g mid new → ReadsFrame g is limit old new (Err f)
   frame_stopped fault f e n table within stops reads =
       let faults = subst (Faults g limit old new) (sym e) (behind_contents g limit old mid new sizes fault table n.works within stops) in
       no_frame g is limit old new (Err f) (λ i. absurd (cc)) (next_later g limit old mid new (Err f) n reads tt faults (λ i. absurd (cc)))

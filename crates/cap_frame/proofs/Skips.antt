@@ -9,7 +9,7 @@ use Rattle.cap_spec.specs.Messages.{root_of}
 use Rattle.cap_spec.specs.Plain.{plain_text, plain_words}
 use Rattle.cap_spec.proofs.Bytes.Plain.{length_plain}
 use Rattle.cap_spec.proofs.Frames.OneEnding.{split, split_joined, split_sizes}
-use Rattle.cap_frame.specs.Taking.{Takes, Reads, IsUsable}
+use Rattle.cap_frame.specs.Taking.{Takes, ReadsInput, IsUsable}
 use Rattle.cap_frame.proofs.Contents.{WordsSoFar, words_start}
 use Rattle.cap_frame.proofs.Taking.{took_more}
 
@@ -50,7 +50,7 @@ module _ {X : Type 0} (g : source.Ghosts X) where
   skipped_none s u = record { own = []; so_far = words_start g s [] u refl }
 
   -- some more
-  pub skipped_more : (old now new : X) (many n : ℕ) (own : List ℕ) → SkippedSoFar old now many → Takes g now new own → length own ≡ n → Reads g now new
+  pub skipped_more : (old now new : X) (many n : ℕ) (own : List ℕ) → SkippedSoFar old now many → Takes g now new own → length own ≡ n → ReadsInput g now new
       → IsUsable g now new → SkippedSoFar old new (many + n)
   skipped_more old now new many n own w t l r u = record {
     own = w.own ++ own;

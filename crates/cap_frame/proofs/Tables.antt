@@ -10,7 +10,7 @@ use Rattle.cap_spec.specs.Frames.{halves}
 use Rattle.cap_spec.specs.Words.{IsWord}
 use Rattle.cap_spec.proofs.Frames.Framing.{length_halves}
 use Rattle.cap_spec.proofs.Bytes.Lists.{all_append}
-use Rattle.cap_frame.specs.Taking.{Takes, Reads, IsUsable, Stops}
+use Rattle.cap_frame.specs.Taking.{Takes, ReadsInput, IsUsable, Stops}
 use Rattle.cap_frame.proofs.Taking.{Took, took_more, took_stop}
 
 -- the numbers of a table: those of its further words, behind the high half of its first
@@ -31,7 +31,7 @@ module _ {X : Type 0} (g : source.Ghosts X) where
 
   -- one more word
   pub table_more : (first many : ℕ) (old now new : X) (sizes longer : List ℕ) (word : ℕ) → word < 2 ^ 64 → many < (first % 2 ^ 32 + 1) / 2
-      → TableSoFar first many old now sizes → Takes g now new (word ∷ []) → Reads g now new → IsUsable g now new
+      → TableSoFar first many old now sizes → Takes g now new (word ∷ []) → ReadsInput g now new → IsUsable g now new
       → longer ≡ take (first % 2 ^ 32 + 1) (sizes ++ halves word) → TableSoFar first (many + 1) old new longer
   table_more first many old now new sizes longer word w h t takes reads usable e = record {
     more = t.more ++ word ∷ [];

@@ -2,32 +2,14 @@
 use Rattle.std.proofs.Common.{◌≡◌, ◌∙◌, ℕ, ◌+◌, ◌-◌, ◌^◌, ◌<◌, ◌≤◌, suc, Bool, false, Option, Some, None, List, [], ◌∷◌}
 use Rattle.std.proofs.Common.{◌++◌, length, min, drop, IfSome, OnSome, refl, sym, ap, subst, arith, length-append}
 use Rattle.std.specs.Io.KnownBytes.{Consumes}
-use Rattle.std.proofs.KnownBytes.{Consumes-nil, Consumes-trans}
+use Rattle.std.proofs.KnownBytes.{Consumes-nil}
 use Rattle.std.proofs.lemmas.List.{drop-drop}
 use Rattle.cap_words.specs.declared.sources.WordSource as source
 use Rattle.cap_words.specs.declared.sources.SourceFault.{SourceFault}
 use Rattle.cap_words.specs.declared.sources.SourceFault.TheVariants.{Truncated, Device, Spent}
+use Rattle.cap_words.proofs.Filling.{reads_both as both_read, reads_one as one_read, takes_both as both_taken, takes_one as one_taken}
 use Rattle.cap_words.proofs.Pieces.{on_some}
-use Rattle.cap_frame.specs.Taking.{Takes, Reads, IsUsable, IsOver, Breaks, Stops}
-
--- the places after the next word, turned round
-pub goes_on_one : (o : Option (List ℕ)) (A : Type 0) (p q : ℕ) (ps qs : List ℕ) → OnSome o (A × (ps ≡ q ∷ qs)) → OnSome o (A × (q ∷ qs ≡ drop 1 (p ∷ ps)))
-goes_on_one None A p q ps qs h = tt
-goes_on_one (Some x) A p q ps qs h = (h.0, sym h.1)
-
--- the places go on over two lists of words
-pub goes_on_both : (a b : Option (List ℕ)) (taken own : List ℕ) (c d e : Bool) (p q r : ℕ) (ps qs rs : List ℕ)
-    → Consumes a b taken
-    → OnSome a ((d ≡ c) × (q ∷ qs ≡ drop (length taken) (p ∷ ps)))
-    → OnSome b ((e ≡ d) × (r ∷ rs ≡ drop (length own) (q ∷ qs)))
-    → OnSome a ((e ≡ c) × (r ∷ rs ≡ drop (length (taken ++ own)) (p ∷ ps)))
-goes_on_both None b taken own c d e p q r ps qs rs t f s = tt
-goes_on_both (Some x) None taken own c d e p q r ps qs rs t f s = absurd t
-goes_on_both (Some x) (Some y) taken own c d e p q r ps qs rs t f s = (
-  s.0 ∙ f.0,
-  s.1 ∙ (ap (drop (length own)) f.1 ∙ (drop-drop (length own) (length taken) (p ∷ ps)
-      ∙ ap (λ n. drop n (p ∷ ps)) (sym (length-append taken own)))),
-)
+use Rattle.cap_frame.specs.Taking.{Takes, ReadsInput, IsUsable, IsOver, Breaks, Stops}
 
 -- the source ended after these words and fewer than n more
 pub short_both : (a b : Option (List ℕ)) (taken : List ℕ) (n byte p q : ℕ) (ps qs : List ℕ) (P : Type 0)
@@ -44,10 +26,6 @@ short_both (Some x) (Some y) taken n byte p q ps qs P t f s =
       ap (λ n. drop n (p ∷ ps)) (sym k)
           ∙ (sym (drop-drop (suc (length y)) (length taken) (p ∷ ps)) ∙ (ap (drop (suc (length y))) (sym f.1) ∙ s.1)),
     )
-
--- a count that stops at a number goes on from where it is or from where it stopped
-capped_both : (m p q r x y : ℕ) → min q m ≡ min (p + x) m → min r m ≡ min (q + y) m → min r m ≡ min (p + (x + y)) m
-capped_both m p q r x y a b = omega (arith, a, b)
 
 -- how the input ends is as it was before words were taken
 pub over_both : {X : Type 0} (g : source.Ghosts X) (a b : Option (List ℕ)) (taken : List ℕ) (c d : Bool) (new : X) (P : Type 0)
@@ -66,42 +44,32 @@ short_weaker (Some x) m n ps byte h s = (omega (arith, s.0), s.1)
 module _ {X : Type 0} (g : source.Ghosts X) where
   -- no words
   pub takes_none : (s : X) → Takes g s s []
-  takes_none s = record { words = Consumes-nil (g.words s); goes_on = on_some (g.words s) _ (refl, refl) }
+  takes_none s = record { consumed = Consumes-nil (g.words s); goes_on = on_some (g.words s) _ (refl, refl) }
 
   -- the next word
   pub takes_one : (old new : X) (word : ℕ) → Consumes (g.words old) (g.words new) (word ∷ [])
       → OnSome (g.words old) ((g.is_cut new ≡ g.is_cut old) × (g.places old ≡ g.place new ∷ g.places new)) → Takes g old new (word ∷ [])
-  takes_one old new word c f = record {
-    words = c;
-    goes_on =
-        goes_on_one (g.words old) (g.is_cut new ≡ g.is_cut old) (g.place old) (g.place new) (g.places old) (g.places new) f;
-  }
+  takes_one old new word =
+      one_taken (g.words old) (g.words new) word (g.is_cut old) (g.is_cut new) (g.place old) (g.place new) (g.places old) (g.places new)
 
   -- no bytes
-  pub reads_none : (s : X) → Reads g s s
-  reads_none s = record { bytes = []; unread = Consumes-nil (g.unread s); counted = omega arith }
+  pub reads_none : (s : X) → ReadsInput g s s
+  reads_none s = record { bytes = []; lost = Consumes-nil (g.unread s); counted = omega arith }
 
   -- those of one call
   pub reads_one : (old new : X) → (bs : List ℕ) × Consumes (g.unread old) (g.unread new) bs × (g.place new ≡ min (g.place old + length bs) (2 ^ 64 - 1))
-      → Reads g old new
-  reads_one old new r = record { bytes = r.0; unread = r.1; counted = let p = r.2 in omega (arith, p) }
+      → ReadsInput g old new
+  reads_one old new = one_read (g.unread old) (g.unread new) (g.place old) (g.place new)
 
   -- some bytes, and then others
-  pub reads_both : (old mid new : X) → Reads g old mid → Reads g mid new → Reads g old new
-  reads_both old mid new a b = record {
-    bytes = a.bytes ++ b.bytes;
-    unread = Consumes-trans (g.unread old) (g.unread mid) (g.unread new) a.bytes b.bytes a.unread b.unread;
-    counted = rw (length-append a.bytes b.bytes) (capped_both (2 ^ 64 - 1) (g.place old) (g.place mid) (g.place new) (length a.bytes)
-        (length b.bytes) a.counted b.counted);
-  }
+  pub reads_both : (old mid new : X) → ReadsInput g old mid → ReadsInput g mid new → ReadsInput g old new
+  reads_both old mid new = both_read (g.unread old) (g.unread mid) (g.unread new) (g.place old) (g.place mid) (g.place new)
 
   -- some words, and then others
   pub takes_both : (old mid new : X) (taken own : List ℕ) → Takes g old mid taken → Takes g mid new own → Takes g old new (taken ++ own)
-  takes_both old mid new taken own t u = record {
-    words = Consumes-trans (g.words old) (g.words mid) (g.words new) taken own t.words u.words;
-    goes_on = goes_on_both (g.words old) (g.words mid) taken own (g.is_cut old) (g.is_cut mid) (g.is_cut new) (g.place old) (g.place mid) (g.place new)
-        (g.places old) (g.places mid) (g.places new) t.words t.goes_on u.goes_on;
-  }
+  takes_both old mid new taken own =
+      both_taken (g.words old) (g.words mid) (g.words new) taken own (g.is_cut old) (g.is_cut mid) (g.is_cut new) (g.place old) (g.place mid)
+      (g.place new) (g.places old) (g.places mid) (g.places new)
 
   -- two calls without a fault
   pub usable_both : (old mid new : X) → IsUsable g old mid → IsUsable g mid new → IsUsable g old new
@@ -120,12 +88,12 @@ module _ {X : Type 0} (g : source.Ghosts X) where
       → Stops g (length taken + n) old new fault
   stops_later old mid new taken n (Truncated byte) t a s = record {
     short = short_both (g.words old) (g.words mid) taken n byte (g.place old) (g.place mid) (g.places old) (g.places mid)
-        (g.is_cut mid ≡ g.is_cut old) t.words t.goes_on s.short;
+        (g.is_cut mid ≡ g.is_cut old) t.consumed t.goes_on s.short;
     place = s.place;
     usable = a.usable;
     none_failed = s.none_failed ∙ a.none_failed;
     over = s.over;
-    how = over_both g (g.words old) (g.words mid) taken (g.is_cut old) (g.is_cut mid) new _ t.words t.goes_on s.how;
+    how = over_both g (g.words old) (g.words mid) taken (g.is_cut old) (g.is_cut mid) new _ t.consumed t.goes_on s.how;
   }
   stops_later old mid new taken n Device t a s = breaks_later old mid new a s
   stops_later old mid new taken n Spent t a s = absurd (let e = s.was_spent.spent in let f = a.still in cc)
@@ -146,7 +114,7 @@ module _ {X : Type 0} (g : source.Ghosts X) where
   -- These words were taken, and no fault came.
   pub record Took (old now : X) (words : List ℕ) : Type 0 where
     pub takes : Takes g old now words
-    pub reads : Reads g old now
+    pub reads : ReadsInput g old now
     pub usable : IsUsable g old now
 
   -- none yet
@@ -154,7 +122,7 @@ module _ {X : Type 0} (g : source.Ghosts X) where
   took_none s u = record { takes = takes_none s; reads = reads_none s; usable = record { usable = u; still = u; none_failed = refl } }
 
   -- and then others
-  pub took_more : (old now new : X) (words own all : List ℕ) → all ≡ words ++ own → Took old now words → Takes g now new own → Reads g now new
+  pub took_more : (old now new : X) (words own all : List ℕ) → all ≡ words ++ own → Took old now words → Takes g now new own → ReadsInput g now new
       → IsUsable g now new → Took old new all
   took_more old now new words own all e w t r u = record {
     takes = subst (Takes g old new) (sym e) (takes_both old now new words own w.takes t);

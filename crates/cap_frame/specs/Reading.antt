@@ -6,7 +6,7 @@ use Rattle.cap_spec.specs.Endings.{BeginsMessage, TellsTooMany, TellsTooMuch}
 use Rattle.cap_spec.specs.Frames.{Frames, IsPartial, sizes_of}
 use Rattle.cap_words.specs.declared.sources.WordSource as source
 use Rattle.cap_frame.specs.ReadingFaults.{Answered, Faults, TakesTable}
-use Rattle.cap_frame.specs.Taking.{IsUsable, Reads, Takes}
+use Rattle.cap_frame.specs.Taking.{IsUsable, ReadsInput, Takes}
 use Rattle.cap_frame.specs.declared.fault.FrameFault.{FrameFault}
 use Rattle.cap_frame.specs.declared.fault.FrameFault.TheVariants.{TooManySegments, TooLarge, Truncated, Spent}
 
@@ -46,7 +46,7 @@ module _ {X : Type 0} (g : source.Ghosts X) where
     pub for_good : g.failed old ≡ true → (result ≡ Err Spent) × (new ≡ old)
     pub spent : g.spent old ≡ true → result ≡ Err Spent
     -- Whatever the result is, the place counts the bytes that were read.
-    pub reads : Reads g old new
+    pub reads : ReadsInput g old new
     -- Which words were taken before the fault, and the state of the source after it.
     pub err : IfErr result (Faults g limit old new)
 

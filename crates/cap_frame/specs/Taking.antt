@@ -1,23 +1,20 @@
 -- What taking words from a source does to it (profile). g has the members of its type.
-use Rattle.std.specs.Prelude.{ℕ, ◌+◌, ◌-◌, ◌^◌, ◌≡◌, ◌<◌, ◌⊎◌, Bool, true, false, List, [], ◌∷◌, length, min, drop, IfSome, OnSome}
-use Rattle.std.specs.Io.KnownBytes.{Consumes, Keeps}
+use Rattle.std.specs.Prelude.{ℕ, ◌≡◌, ◌<◌, ◌⊎◌, Bool, true, false, List, [], ◌∷◌, length, drop, IfSome, OnSome}
+use Rattle.std.specs.Io.KnownBytes.{Keeps}
 use Rattle.cap_words.specs.Ends.{Works, Fails, WasSpent}
+use Rattle.cap_words.specs.TakingMany.{ReadsBytes, TakesWords}
 use Rattle.cap_words.specs.declared.sources.WordSource as source
 use Rattle.cap_words.specs.declared.sources.SourceFault.{SourceFault}
 use Rattle.cap_words.specs.declared.sources.SourceFault.TheVariants.{Truncated, Device, Spent}
 
 module _ {X : Type 0} (g : source.Ghosts X) where
-  -- These words were taken, and no more. How the input ends and the places of the other words stay as they were.
-  pub record Takes (old new : X) (own : List ℕ) : Type 0 where
-    pub words : Consumes (g.words old) (g.words new) own
-    pub goes_on : OnSome (g.words old)
-        ((g.is_cut new ≡ g.is_cut old) × (g.place new ∷ g.places new ≡ drop (length own) (g.place old ∷ g.places old)))
+  -- these words were taken, and no more
+  abbrev pub Takes : X → X → List ℕ → Type 0
+  Takes old new own = TakesWords g.words g.is_cut g.place g.places old new own
 
-  -- These bytes of the input were read, and the place counts them.
-  pub record Reads (old new : X) : Type 0 where
-    pub bytes : List ℕ
-    pub unread : Consumes (g.unread old) (g.unread new) bytes
-    pub counted : min (g.place new) (2 ^ 64 - 1) ≡ min (g.place old + length bytes) (2 ^ 64 - 1)
+  -- some bytes of the input were read, and the place counts them
+  abbrev pub ReadsInput : X → X → Type 0
+  ReadsInput old new = ReadsBytes (g.unread old) (g.unread new) (g.place old) (g.place new)
 
   -- there was no error: no error has closed it, before or now
   abbrev pub IsUsable : X → X → Type 0

@@ -1,6 +1,6 @@
 //! Reading the words of a message into one buffer of bytes.
 
-ghost use Rattle.cap_frame.specs.Taking.{IsUsable, Reads, Stops, Takes};
+ghost use Rattle.cap_frame.specs.Taking.{IsUsable, ReadsInput, Stops, Takes};
 ghost use Rattle.cap_spec.specs.Plain.{plain_words};
 ghost use Rattle.std.specs.Prelude.{◌%◌, ◌*◌, ◌+◌, ◌++◌, ◌-◌, ◌/◌, ◌<◌, ◌≡◌, ◌≤◌, [], ◌∷◌, IfErr, List, OnErr, OnOk, false, length, sum, take, ℕ};
 ghost use Rattle.std.specs.Vec.{vec_capacity, vec_len};
@@ -69,7 +69,7 @@ fn read_piece<S: WordSource>(
     ensures within { OnOk result (end ≤ vec_len bytes.new) }
     ensures capacity { vec_capacity bytes.old ≤ vec_capacity bytes.new }
     ensures works { OnOk result (IsUsable S.WordSource source.old source.new) }
-    ensures reads { Reads S.WordSource source.old source.new }
+    ensures reads { ReadsInput S.WordSource source.old source.new }
     ensures err { IfErr result (Stops S.WordSource ((end - start) / 8) source.old source.new) }
 {
     lengthen(bytes, end);
@@ -106,7 +106,7 @@ fn append_run<S: WordSource>(source: &mut S, bytes: &mut Vec<u8>, done: usize, n
     ensures long { done + result ≤ vec_len bytes.new }
     ensures capacity { vec_capacity bytes.old ≤ vec_capacity bytes.new }
     ensures works { IsUsable S.WordSource source.old source.new }
-    ensures reads { Reads S.WordSource source.old source.new }
+    ensures reads { ReadsInput S.WordSource source.old source.new }
 {
     if bytes.len() > done {
         return 0;
@@ -129,7 +129,7 @@ pub(crate) fn read_bytes<S: WordSource>(
         (plain_words (take (8 * words) bytes.new.items))) }
     ensures within { OnOk result (8 * words ≤ vec_len bytes.new) }
     ensures works { OnOk result (IsUsable S.WordSource source.old source.new) }
-    ensures reads { Reads S.WordSource source.old source.new }
+    ensures reads { ReadsInput S.WordSource source.old source.new }
     ensures err { IfErr result (Stops S.WordSource words source.old source.new) }
 {
     let need = 8 * words;

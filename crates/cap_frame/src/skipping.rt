@@ -1,6 +1,6 @@
 //! Reading words of a message without keeping them.
 
-ghost use Rattle.cap_frame.specs.Taking.{IsUsable, Reads, Stops, Takes};
+ghost use Rattle.cap_frame.specs.Taking.{IsUsable, ReadsInput, Stops, Takes};
 ghost use Rattle.cap_spec.specs.Frames.{joined, sizes_of};
 ghost use Rattle.cap_spec.specs.Messages.{root_of};
 ghost use Rattle.std.specs.Prelude.{◌*◌, ◌≡◌, ◌≤◌, IfErr, IfOk, List, OnOk, false, length, sum, ℕ};
@@ -22,7 +22,7 @@ fn skip_some<S: WordSource>(source: &mut S, room: &mut [u8]) -> Result<u64, Sour
     ensures ok { IfOk result (λ n. (own : List ℕ)
         × Takes S.WordSource source.old source.new own × (length own ≡ n)) }
     ensures works { OnOk result (IsUsable S.WordSource source.old source.new) }
-    ensures reads { Reads S.WordSource source.old source.new }
+    ensures reads { ReadsInput S.WordSource source.old source.new }
     ensures err { IfErr result (Stops S.WordSource 1 source.old source.new) }
 {
     let count = source.ready(room);
@@ -41,7 +41,7 @@ pub(crate) fn skip_words<S: WordSource>(source: &mut S, many: u64) -> Result<(),
     ensures ok { OnOk result ((own : List ℕ)
         × Takes S.WordSource source.old source.new own × (length own ≡ many)) }
     ensures works { OnOk result (IsUsable S.WordSource source.old source.new) }
-    ensures reads { Reads S.WordSource source.old source.new }
+    ensures reads { ReadsInput S.WordSource source.old source.new }
     ensures err { IfErr result (Stops S.WordSource many source.old source.new) }
 {
     let mut room = [0; AT_ONCE];
@@ -68,7 +68,7 @@ pub(crate) fn skip_contents<S: WordSource>(
         × Takes S.WordSource source.old source.new (joined m) × (sizes_of m ≡ sizes.now)
         × (root_of m ≡ root)) }
     ensures works { OnOk result (IsUsable S.WordSource source.old source.new) }
-    ensures reads { Reads S.WordSource source.old source.new }
+    ensures reads { ReadsInput S.WordSource source.old source.new }
     ensures err { IfErr result (Stops S.WordSource (sum sizes.now) source.old source.new) }
 {
     let words = total(sizes);

@@ -4,7 +4,7 @@ ghost use Rattle.arrayvec.specs.ArrayVec.{array_vec_len};
 ghost use Rattle.cap_frame.specs.Reading.{ReadsNext};
 ghost use Rattle.cap_frame.specs.ReadingFaults.{TakesTable};
 ghost use Rattle.cap_frame.specs.Limit.{limit_of};
-ghost use Rattle.cap_frame.specs.Taking.{IsUsable, Reads, Stops, Takes};
+ghost use Rattle.cap_frame.specs.Taking.{IsUsable, ReadsInput, Stops, Takes};
 ghost use Rattle.cap_spec.specs.Frames.{IsTable, halves};
 ghost use Rattle.std.specs.Prelude.{◌%◌, ◌*◌, ◌+◌, ◌++◌, ◌/◌, ◌<◌, ◌^◌, ◌≡◌, ◌≤◌, [], ◌∷◌, IfErr, IsErrOf, List, OnOk, false, length, sum, take, true, ℕ};
 
@@ -56,7 +56,7 @@ fn read_sizes<S: WordSource>(
     ensures ok { OnOk result ((more : List ℕ) × Takes S.WordSource source.old source.new more
         × IsTable (first ∷ more) sizes.new.items) }
     ensures works { OnOk result (IsUsable S.WordSource source.old source.new) }
-    ensures reads { Reads S.WordSource source.old source.new }
+    ensures reads { ReadsInput S.WordSource source.old source.new }
     ensures err { IfErr result (Stops S.WordSource ((first % 2 ^ 32 + 1) / 2)
         source.old source.new) }
 {

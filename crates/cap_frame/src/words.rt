@@ -1,6 +1,6 @@
 //! Reading words that a message must have.
 
-ghost use Rattle.cap_frame.specs.Taking.{IsUsable, Reads, Stops, Takes};
+ghost use Rattle.cap_frame.specs.Taking.{IsUsable, ReadsInput, Stops, Takes};
 ghost use Rattle.cap_frame.specs.Rooms.{AreRooms};
 ghost use Rattle.cap_spec.specs.Frames.{joined, sizes_of};
 ghost use Rattle.std.specs.Prelude.{◌<◌, ◌^◌, ◌≡◌, ◌≤◌, [], ◌∷◌, IfErr, IfOk, List, OnOk, false, length, map, sum, ℕ};
@@ -16,7 +16,7 @@ pub(crate) fn next_word<S: WordSource>(source: &mut S) -> Result<u64, SourceFaul
     ensures ok { IfOk result (λ word. Takes S.WordSource source.old source.new (word ∷ [])) }
     ensures word { IfOk result (λ word. word < 2 ^ 64) }
     ensures works { OnOk result (IsUsable S.WordSource source.old source.new) }
-    ensures reads { Reads S.WordSource source.old source.new }
+    ensures reads { ReadsInput S.WordSource source.old source.new }
     ensures err { IfErr result (Stops S.WordSource 1 source.old source.new) }
 {
     match source.next() {
@@ -40,7 +40,7 @@ pub(crate) fn read_words<S: WordSource>(
     ensures ok { OnOk result (Takes S.WordSource source.old source.new words.new.items) }
     ensures size { OnOk result (length words.new.items ≡ size) }
     ensures works { OnOk result (IsUsable S.WordSource source.old source.new) }
-    ensures reads { Reads S.WordSource source.old source.new }
+    ensures reads { ReadsInput S.WordSource source.old source.new }
     ensures err { IfErr result (Stops S.WordSource size source.old source.new) }
 {
     'words: for _ in 0..size {
@@ -76,7 +76,7 @@ pub(crate) fn read_contents<S: WordSource>(
         (joined (map (λ v. v.items) segments.new.items))) }
     ensures sizes { OnOk result (sizes_of (map (λ v. v.items) segments.new.items) ≡ sizes.now) }
     ensures works { OnOk result (IsUsable S.WordSource source.old source.new) }
-    ensures reads { Reads S.WordSource source.old source.new }
+    ensures reads { ReadsInput S.WordSource source.old source.new }
     ensures err { IfErr result (Stops S.WordSource (sum sizes.now) source.old source.new) }
 {
     'segments: for (s, size) in sizes.iter().enumerate() {

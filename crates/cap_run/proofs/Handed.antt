@@ -24,7 +24,7 @@ module _ {S : Type 0} (gs : source.Ghosts S) where
       (gs.places old) (gs.places new) (plain_words (take n room))
       → (n ≡ 0) ⊎ (gs.spent old ≡ false) → gs.spent new ≡ gs.spent old → gs.failures new ≡ gs.failures old → ReadsWords gs old new (plain_words (take n room))
   gives_ready old new n room fits text t u s f = record {
-    takes = record { words = t.consumed; goes_on = t.goes_on };
+    takes = t;
     usable = usable u;
     spent = s;
     failures = f;

@@ -73,7 +73,7 @@ module _ {S : Type 0} (gs : source.Ghosts S) (limit : ℕ) (old mid new : S) (re
   pub reads_front : gs.words old ≡ Some own → Stream own ms → ReadsStream gs limit old mid read
       → (rest : List ℕ) × (gs.words mid ≡ Some rest) × ((more : List (List (List ℕ))) × (ms ≡ read ++ more) × Stream rest more)
   reads_front w s reads =
-      let here = known_still own reads.own (gs.words mid) (subst (λ (o : Option (List ℕ)). Consumes o (gs.words mid) reads.own) w reads.takes.words) in
+      let here = known_still own reads.own (gs.words mid) (subst (λ (o : Option (List ℕ)). Consumes o (gs.words mid) reads.own) w reads.takes.consumed) in
       (here.0, here.1, stream_front reads.own here.0 read ms reads.stream (subst (λ (ws : List ℕ). Stream ws ms) here.2 s))
 
   -- a message that was read behind them is the next
@@ -81,7 +81,8 @@ module _ {S : Type 0} (gs : source.Ghosts S) (limit : ℕ) (old mid new : S) (re
       → (more : List (List (List ℕ))) × (ms ≡ read ++ (m ∷ more))
   reads_next m w s reads last =
       let front = reads_front w s reads in
-      let there = known_still front.0 last.own (gs.words new) (subst (λ (o : Option (List ℕ)). Consumes o (gs.words new) last.own) front.1 last.takes.words) in
+      let there = known_still front.0 last.own (gs.words new) (subst (λ (o : Option (List ℕ)). Consumes o (gs.words new) last.own) front.1
+          last.takes.consumed) in
       let next = stream_front last.own there.0 (m ∷ []) front.2.0 last.stream (subst (λ (ws : List ℕ). Stream ws front.2.0) there.2 front.2.2) in
       (next.0, front.2.1 ∙ ap (λ (xs : List (List (List ℕ))). read ++ xs) next.1)
 

@@ -62,7 +62,7 @@ module _ {S : Type 0} (g : source.Ghosts S) where
       → EndsStream g mid new → ReadsToEnd g limit old new ms
   reads_all limit old mid new ms r e = record {
     own = r.own;
-    all = all_taken (g.words old) (g.words mid) r.own (g.is_cut old) (g.is_cut mid) _ _ r.takes.words r.takes.goes_on e.none;
+    all = all_taken (g.words old) (g.words mid) r.own (g.is_cut old) (g.is_cut mid) _ _ r.takes.consumed r.takes.goes_on e.none;
     stream = r.stream;
     within = r.within;
     ended = e.ended;

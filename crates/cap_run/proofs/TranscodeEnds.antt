@@ -28,7 +28,7 @@ module _ {S K : Type 0} (gs : source.Ghosts S) (gk : sink.Ghosts K) (at_once mos
   pub most_put : gs.words old ≡ Some own → (c : TranscodesMost gs gk most old new before after) → (most < length own) × (c.own ≡ take most own)
   most_put w c =
       let here = known_still own (c.own ++ c.word ∷ []) (gs.words new)
-      (subst (λ (o : Option (List ℕ)). Consumes o (gs.words new) (c.own ++ c.word ∷ [])) w c.gives.takes.words) in
+      (subst (λ (o : Option (List ℕ)). Consumes o (gs.words new) (c.own ++ c.word ∷ [])) w c.gives.takes.consumed) in
       let whole : own ≡ c.own ++ (c.word ∷ here.0) = here.2 ∙ append_assoc c.own (c.word ∷ []) here.0 in (
         omega (arith, ap length whole, length-append c.own (c.word ∷ here.0), c.many),
         sym (ap (take most) whole ∙ (ap (λ (n : ℕ). take n (c.own ++ (c.word ∷ here.0))) (sym c.many) ∙ take-append_seam c.own (c.word ∷ here.0))),
@@ -38,7 +38,7 @@ module _ {S K : Type 0} (gs : source.Ghosts S) (gk : sink.Ghosts K) (at_once mos
   pub cut_put : (byte : ℕ) → gs.words old ≡ Some own → (c : TranscodesUntil gs gk most old new before after (Truncated byte))
       → (c.own ≡ own) × (gs.is_cut old ≡ true) × (length own ≤ most) × (drop (length own) (gs.places old) ≡ byte ∷ [])
   cut_put byte w c =
-      let here = known_still own c.own (gs.words c.mid) (subst (λ (o : Option (List ℕ)). Consumes o (gs.words c.mid) c.own) w c.gives.takes.words) in
+      let here = known_still own c.own (gs.words c.mid) (subst (λ (o : Option (List ℕ)). Consumes o (gs.words c.mid) c.own) w c.gives.takes.consumed) in
       let none = on_known (gs.words c.mid) here.0 _ here.1 c.none.none in
       let nil = same_some here.0 [] (sym here.1 ∙ none.0) in
       let same : own ≡ c.own = here.2 ∙ (ap (λ (ws : List ℕ). c.own ++ ws) nil ∙ append-nil c.own) in

@@ -145,7 +145,7 @@ module _ {S K : Type 0} (gs : source.Ghosts S) (gk : sink.Ghosts K) where
         sym c.many,
         record {
           few = omega (arith, s.1, c.many);
-          all = all_taken (gs.words old) (gs.words s.0) c.own (gs.is_cut old) (gs.is_cut s.0) _ _ c.gives.takes.words c.gives.takes.goes_on s.3.none;
+          all = all_taken (gs.words old) (gs.words s.0) c.own (gs.is_cut old) (gs.is_cut s.0) _ _ c.gives.takes.consumed c.gives.takes.goes_on s.3.none;
           ended = s.3.ended;
           works = record { usable = sym c.gives.spent ∙ s.3.works.usable; still = s.3.works.still; none_failed = s.3.works.none_failed ∙ c.gives.failures };
           finishes = finishes_behind gk before between after c.own c.fills k o;

@@ -29,7 +29,7 @@ plain_join (a ∷ b ∷ c ∷ d ∷ x ∷ f ∷ g ∷ []) ys e = absurd (omega a
 plain_join (a ∷ b ∷ c ∷ d ∷ x ∷ f ∷ g ∷ h ∷ xs) ys e = let t = plain_join xs ys (omega arith) in cc
 
 -- some words were taken, and then others
-takes_both : (a b c : Option (List ℕ)) (own more : List ℕ) (d e f : Bool) (p q r : ℕ) (ps qs rs : List ℕ)
+pub takes_both : (a b c : Option (List ℕ)) (own more : List ℕ) (d e f : Bool) (p q r : ℕ) (ps qs rs : List ℕ)
     → TakesAll a b d e p q ps qs own → TakesAll b c e f q r qs rs more → TakesAll a c d f p r ps rs (own ++ more)
 takes_both a b c own more d e f p q r ps qs rs t u = record {
   consumed = Consumes-trans a b c own more t.consumed u.consumed;
@@ -48,7 +48,7 @@ takes_both a b c own more d e f p q r ps qs rs t u = record {
     )
 
 -- the next word, as a call gives it
-takes_one : (a b : Option (List ℕ)) (word : ℕ) (c d : Bool) (p q : ℕ) (ps qs : List ℕ) → Consumes a b (word ∷ []) →
+pub takes_one : (a b : Option (List ℕ)) (word : ℕ) (c d : Bool) (p q : ℕ) (ps qs : List ℕ) → Consumes a b (word ∷ []) →
     OnSome a ((d ≡ c) × (ps ≡ q ∷ qs)) → TakesAll a b c d p q ps qs (word ∷ [])
 takes_one a b word c d p q ps qs t g = record { consumed = t; goes_on = go a g }
   where

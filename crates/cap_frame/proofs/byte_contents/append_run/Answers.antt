@@ -13,7 +13,7 @@ pub returns-clause-ok : goal.returns-clause-ok
 returns-clause-ok g c =
     let given = c.append.ensures.words in
     let shown = appended_in c.args.done c.append.result c.args.bytes.now.items given.0 c.append.new.out.items (omega arith) given.2 given.1 in
-    (given.0, shown, given.2, record { words = given.4.consumed; goes_on = given.4.goes_on })
+    (given.0, shown, given.2, given.4)
 
 pub returns-clause-whole : goal.returns-clause-whole
 returns-clause-whole g c =

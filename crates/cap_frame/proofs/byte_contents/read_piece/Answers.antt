@@ -11,4 +11,4 @@ returns-in-Ok-true-clause-ok g c =
     let shown = piece_in c.args.start c.args.end c.lengthen.new.bytes.len c.args.bytes.now.items c.deref_mut.result.now kept.0 _ c.fill.new.out _ _
     (omega (arith, c.requires.begun)) (omega (arith, c.lengthen.ensures.long.0)) long (omega (arith, c.requires.some)) (c.deref_mut.ensures.value
     ∙ kept.1) refl in
-    (c.fill.new.out, shown, long, record { words = full.2.consumed; goes_on = full.2.goes_on })
+    (c.fill.new.out, shown, long, full.2)

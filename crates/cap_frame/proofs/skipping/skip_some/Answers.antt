@@ -1,6 +1,6 @@
 use Rattle.std.proofs.Common.{◌∷◌, [], arith, refl, subst, take}
 use Rattle.cap_spec.specs.Plain.{plain_words}
-use Rattle.cap_frame.specs.Taking.{IsUsable, Reads, Stops, Takes}
+use Rattle.cap_frame.specs.Taking.{IsUsable, ReadsInput, Stops, Takes}
 use Rattle.cap_frame.proofs.Skips.{words_in}
 use Rattle.cap_frame.proofs.skipping.skip_some.Goals as goal
 
@@ -14,7 +14,7 @@ pub returns-then-count-gt0-clause-ok : goal.returns-then-count-gt0-clause-ok
 returns-then-count-gt0-clause-ok g c =
     let e = c.ready-count.ensures in
     let many = words_in c.ready-count.result c.ready-count.new.out e.room e.words.0 in
-    (plain_words (take c.ready-count.result c.ready-count.new.out), record { words = e.words.1.consumed; goes_on = e.words.1.goes_on }, omega (arith, many))
+    (plain_words (take c.ready-count.result c.ready-count.new.out), e.words.1, omega (arith, many))
 
 pub returns-then-count-gt0-clause-works : goal.returns-then-count-gt0-clause-works
 returns-then-count-gt0-clause-works g c =
@@ -22,9 +22,7 @@ returns-then-count-gt0-clause-works g c =
     record { usable = c.requires.usable; still = cc; none_failed = e.failures }
 
 pub returns-then-count-gt0-clause-reads : goal.returns-then-count-gt0-clause-reads
-returns-then-count-gt0-clause-reads g c =
-    let r = c.ready-count.ensures.reads in
-    record { bytes = r.bytes; unread = r.lost; counted = r.counted }
+returns-then-count-gt0-clause-reads g c = c.ready-count.ensures.reads
 
 pub returns-in-Ok-clause-ok : goal.returns-in-Ok-clause-ok
 returns-in-Ok-clause-ok g c =
@@ -39,12 +37,12 @@ returns-in-Ok-clause-works g c =
 pub returns-in-Ok-clause-reads : goal.returns-in-Ok-clause-reads
 returns-in-Ok-clause-reads g c =
     let same = c.ready-count.ensures.none (omega arith) in
-    subst (λ s. Reads g.S.WordSource s c.next_word.new.source) same c.next_word.ensures.reads
+    subst (λ s. ReadsInput g.S.WordSource s c.next_word.new.source) same c.next_word.ensures.reads
 
 pub returns-in-Err-clause-reads : goal.returns-in-Err-clause-reads
 returns-in-Err-clause-reads g c =
     let same = c.ready-count.ensures.none (omega arith) in
-    subst (λ s. Reads g.S.WordSource s c.next_word.new.source) same c.next_word.ensures.reads
+    subst (λ s. ReadsInput g.S.WordSource s c.next_word.new.source) same c.next_word.ensures.reads
 
 pub returns-in-Err-clause-err : goal.returns-in-Err-clause-err
 returns-in-Err-clause-err g c =
