@@ -5,7 +5,6 @@ use Rattle.std.proofs.Common.{subst, arith, append_assoc, append-nil}
 use Rattle.std.proofs.Math.Seq.{drop-cons}
 use Rattle.std.proofs.lemmas.List.{length-map}
 use Rattle.std.specs.Io.KnownBytes.{Keeps}
-use Rattle.std.specs.Prelude.{slice_get}
 use Rattle.std.proofs.KnownBytes.{Keeps-trans}
 use Rattle.cap_words.proofs.Told.{begins_kept}
 use Rattle.cap_words.specs.Sinks.{Begins, StoppedPutting, WasPut}
@@ -139,15 +138,6 @@ pub frame_from : (m : List (List ℕ)) (x : ℕ) → x ≡ pair_at (numbers_of m
 frame_from m x e =
     let first : paired (numbers_of m) ≡ pair_at (numbers_of m) 0 ∷ paired (drop 2 (numbers_of m)) = paired_from (numbers_of m) 0 (omega arith) in
     ap (λ (ws : List ℕ). ws ++ joined m) (first ∙ ap (λ (y : ℕ). y ∷ paired (drop 2 (numbers_of m))) (sym e))
-
--- the word in front of words from w on
-words_at : (words : List ℕ) (w x : ℕ) → slice_get words w ≡ Some x → drop w words ≡ x ∷ drop (suc w) words
-words_at [] w x e = absurd (cc)
-words_at (y ∷ words) zero x e = let h : y ≡ x = cc in ap (λ (z : ℕ). z ∷ words) h
-words_at (y ∷ words) (suc w) x e = words_at words w x e
-
-pub words_from : (words : List ℕ) (w x : ℕ) → slice_get words w ≡ Some x → drop w words ≡ (x ∷ []) ++ drop (w + 1) words
-words_from words w x e = let one : suc w ≡ w + 1 = omega arith in words_at words w x e ∙ ap (λ (j : ℕ). x ∷ drop j words) one
 
 -- the segment in front of segments from s on
 pub segments_from : (m : List (List ℕ)) (s : ℕ) → s < length m → joined (drop s m) ≡ segment_of m s ++ joined (drop (s + 1) m)

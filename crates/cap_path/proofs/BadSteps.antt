@@ -1,8 +1,8 @@
 -- Where no path goes on with the step that is read.
-use Rattle.std.proofs.Common.{◌≡◌, ◌∙◌, ◌≢◌, ℕ, ◌+◌, ◌<◌, ◌≤◌, ◌==◌, ◌-◌, Bool, true, false, if◌then◌else◌, List, [], ◌∷◌, ◌++◌, Option, None}
+use Rattle.std.proofs.Common.{◌≡◌, ◌∙◌, ◌≢◌, ℕ, ◌+◌, ◌<◌, ◌≤◌, ◌-◌, Bool, true, false, if◌then◌else◌, List, [], ◌∷◌, ◌++◌, Option, None}
 use Rattle.std.proofs.Common.{decimal, length, take, get_or, refl, sym, ap, subst, arith, append_assoc}
 use Rattle.std.specs.List.{flat_map, AllByRecursion}
-use Rattle.std.proofs.lemmas.Bool.Decides.{nat_tests}
+use Rattle.std.proofs.lemmas.Bool.{ne_eqb}
 use Rattle.std.proofs.lemmas.List.{length-take-le, take_more}
 use Rattle.cap_spec.specs.PathTexts.{IsBadAt, IsStep, step_text}
 use Rattle.cap_spec.specs.declared.Step.{Step}
@@ -11,9 +11,6 @@ use Rattle.cap_path.specs.PathReading.{IsBadNumber, no_digit, no_end, is_digit, 
 use Rattle.cap_path.proofs.PathReading.{Unfinished, bad_here, stops}
 use Rattle.cap_path.proofs.ReadSteps.{Reading, Slash, Pointer, Item, Number, HasRead, IsReading, next_of, item_number}
 use Rattle.cap_path.proofs.ReadSteps.{pointer_number, reading_text, spells_more}
-
-not_equal : (a b : ℕ) → a ≢ b → (a == b) ≡ false
-not_equal a b other = grind (arith, nat_tests)
 
 -- how a step is spelled by a letter and a number, and read
 pub record IsSpelled (letter most : ℕ) (r : Reading) (make : ℕ → Step) : Type 0 where
@@ -39,7 +36,7 @@ pointers = record {
   fits = λ n few. omega (arith, few);
   reads = λ done. (tt, tt);
   first = λ b none. rw none refl;
-  later = λ n b other none. rw (not_equal b 47 other) (later_ptr (is_digit b) (longer_number n (b - 48) 65535) none);
+  later = λ n b other none. rw (ne_eqb b 47 other) (later_ptr (is_digit b) (longer_number n (b - 48) 65535) none);
 }
 
 pub items : IsSpelled 105 4294967295 Item item
@@ -49,7 +46,7 @@ items = record {
   fits = λ n few. omega (arith, few);
   reads = λ done. (tt, tt);
   first = λ b none. rw none refl;
-  later = λ n b other none. rw (not_equal b 47 other) (later_item (is_digit b) (longer_number n (b - 48) 4294967295) none);
+  later = λ n b other none. rw (ne_eqb b 47 other) (later_item (is_digit b) (longer_number n (b - 48) 4294967295) none);
 }
 
 -- A slash and a letter are read,
@@ -89,7 +86,7 @@ module _ (text : List ℕ) (slash : ℕ) (done : List Step) (lt : slash < length
   bad_letter long none =
       let h = read_on (slash + 1) Slash tt (take_more text slash 0 lt ∙ ap (λ k. take slash text ++ k ∷ []) here) in
       stops text (slash + 1) done Slash (omega (arith, lt)) h (λ e. some_done long e)
-      (λ more. rw (not_equal (get_or text (slash + 1) 0) 112 (none more).0, not_equal (get_or text (slash + 1) 0) 105 (none more).1) refl)
+      (λ more. rw (ne_eqb (get_or text (slash + 1) 0) 112 (none more).0, ne_eqb (get_or text (slash + 1) 0) 105 (none more).1) refl)
 
   -- There is no number.
   pub bad_number : (letter most at : ℕ) (r : Reading) (make : ℕ → Step) → IsSpelled letter most r make

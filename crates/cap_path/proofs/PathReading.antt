@@ -5,6 +5,7 @@ use Rattle.std.proofs.Common.{get_or, refl, sym, ap, subst, arith, append_assoc,
 use Rattle.std.specs.List.{flat_map, AllByRecursion}
 use Rattle.std.specs.Option.{option_and_then}
 use Rattle.std.proofs.Math.Seq.{split_at}
+use Rattle.std.proofs.lemmas.Bool.{ne_eqb}
 use Rattle.std.proofs.lemmas.Bool.Decides.{leb_tells, nat_tests}
 use Rattle.std.proofs.lemmas.Fmt.{decimal_by_steps}
 use Rattle.std.proofs.lemmas.List.{get_or-take, take-take, take_all}
@@ -48,9 +49,6 @@ first_ptr d h = rw (digit_test d h, digit_of d) refl
 first_item : (d : ℕ) → d < 10 → next_of Item (48 + d) ≡ Some (Number (item d))
 first_item d h = rw (digit_test d h, digit_of d) refl
 
-some_test : (n : ℕ) → 0 < n → (n == 0) ≡ false
-some_test n h = grind (arith, nat_tests)
-
 few_test : (n most : ℕ) → n ≤ most → nat_lt most n ≡ false
 few_test n most h = grind (arith, nat_tests)
 
@@ -60,7 +58,7 @@ front_and_last n = omega arith
 
 longer_of : (n most : ℕ) → 10 ≤ n → n ≤ most → longer_number (n / 10) (n % 10) most ≡ Some n
 longer_of n most ten few =
-    let some = some_test (n / 10) (omega (arith, ten)) in
+    let some = ne_eqb (n / 10) 0 (λ none. omega (arith, ten, none)) in
     let under = few_test n most few in
     rw (some, front_and_last n, under) refl
 

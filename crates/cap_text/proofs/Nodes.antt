@@ -1,7 +1,6 @@
 -- The lines of a node and of its own words.
 use Rattle.std.proofs.Common.{◌≡◌, ℕ, zero, suc, ◌+◌, ◌*◌, List, [], ◌∷◌, ◌++◌, drop, length, replicate, slice_get}
 use Rattle.std.proofs.Common.{Some, None, Result, refl, sym, ap, ◌∙◌, append_assoc, subst}
-use Rattle.std.proofs.lemmas.Option.{slice_get_within, get_or_from_slice_get}
 use Rattle.cap_words.specs.declared.ends.ByteOut as output
 use Rattle.cap_words.specs.declared.ends.OutFault.{OutFault}
 use Rattle.cap_spec.specs.Showing.{Own, own_null, own_cap, own_struct, own_scalars, own_pointers, own_structs, own_of, kind_of, words_of_own}
@@ -9,9 +8,9 @@ use Rattle.cap_spec.specs.Texts.{head, hex, label, line, own_lines, own_text, wo
 use Rattle.cap_spec.specs.Tree.{Tree, null, cap, struct, scalars, pointers, structs}
 use Rattle.cap_spec.specs.declared.Kind.{Kind}
 use Rattle.cap_spec.specs.declared.Kind.TheVariants.{Struct, Scalars}
+use Rattle.cap_spec.proofs.Canonical.Placing.{rest_at}
 use Rattle.cap_text.specs.Dumping.{head_of, word_letter_of}
 use Rattle.cap_text.specs.Paging.{Added, Adds, Halted}
-use Rattle.cap_text.proofs.SegmentLines.{drop_size}
 use Rattle.cap_text.proofs.Paging.{Left, adds_then, left_done, left_step, left_stop}
 
 -- a line that is put together from a name, a space and a text
@@ -71,11 +70,7 @@ words_shown level t own kind letter e k l =
 pub line_is : (level : ℕ) (text written : List ℕ) → written ≡ text ++ 10 ∷ [] → replicate (2 * level) 32 ++ written ≡ line level text
 line_is level text written e = ap (λ l. replicate (2 * level) 32 ++ l) e ∙ sym (append_assoc (replicate (2 * level) 32) text (10 ∷ []))
 
--- the words from the next one on
-drop_word : (ws : List ℕ) (i w : ℕ) → Some w ≡ slice_get ws i → drop i ws ≡ w ∷ drop (i + 1) ws
-drop_word ws i w e = drop_size ws i (slice_get_within ws i w (sym e)) ∙ ap (λ x. x ∷ drop (i + 1) ws) (get_or_from_slice_get ws i w 0 (sym e))
-
--- and none behind the last
+-- no words follow the last
 drop_last : (ws : List ℕ) (i : ℕ) → None ≡ slice_get ws i → drop i ws ≡ []
 drop_last [] zero e = refl
 drop_last [] (suc i) e = refl
@@ -87,7 +82,7 @@ module _ (level letter i w : ℕ) (ws : List ℕ) (at_i : Some w ≡ slice_get w
   pub lines_next : word_lines level letter i (drop i ws)
       ≡ (replicate (2 * level) 32 ++ (label letter i ++ 32 ∷ hex w ++ 10 ∷ [])) ++ word_lines level letter (i + 1) (drop (i + 1) ws)
   lines_next =
-      ap (word_lines level letter i) (drop_word ws i w at_i)
+      ap (word_lines level letter i) (rest_at ws i w (sym at_i))
       ∙ ap (λ l. l ++ word_lines level letter (i + 1) (drop (i + 1) ws))
       (sym (line_is level (label letter i ++ 32 ∷ hex w) (label letter i ++ 32 ∷ hex w ++ 10 ∷ []) refl))
 

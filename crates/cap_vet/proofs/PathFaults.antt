@@ -9,6 +9,7 @@ use Rattle.cap_spec.specs.declared.Step.{Step}
 use Rattle.cap_spec.specs.declared.StrictRefusal.{StrictRefusal}
 use Rattle.cap_spec.specs.declared.StrictRefusal.TheVariants.{Refused, ManySegments, Pointer}
 use Rattle.cap_spec.proofs.Paths.Walks.{one_reached}
+use Rattle.cap_spec.proofs.Strict.Faults.{same_pointer}
 use Rattle.cap_spec.proofs.Strict.LaxForms.{one_lax}
 use Rattle.cap_spec.proofs.Verdicts.OneFault.{one_of_last}
 use Rattle.cap_spec.proofs.Verdicts.OnPath.{one_path_list, one_path_refusal, path_not_refused}
@@ -87,10 +88,6 @@ module _ (m : List (List ℕ)) (path : List Step) (s w s' w' : ℕ) (u v : Lax) 
       by_order (inr (inr (x, more, e))) = absurd
           (f.first g.way (shorter m g.way f.way x more f.before g.level s' w' e g.reached f.on_path) (first_is_lax m path s' w' v n' g))
 
--- faults of equal parts are equal
-same_pointer : (u v : Lax) (s w n s' w' n' : ℕ) → u ≡ v → s ≡ s' → w ≡ w' → n ≡ n' → Pointer u s w n ≡ Pointer v s' w' n'
-same_pointer u v s w n s' w' n' e1 e2 e3 e4 = cc
-
 -- There is one fault.
 pub one_path_fault : (demands : Demands) (m : List (List ℕ)) (words depth : ℕ) (path : List Step) (f g : StrictRefusal)
     → IsPathFault demands m words depth path f → IsPathFault demands m words depth path g → f ≡ g
@@ -109,4 +106,4 @@ one_path_fault demands m words depth path (Pointer u s w n) (Refused r) h k =
 one_path_fault demands m words depth path (Pointer u s w n) ManySegments h k = absurd (omega (arith, h.2, k.2))
 one_path_fault demands m words depth path (Pointer u s w n) (Pointer v s' w' n') h k =
     let e = one_first_on_path m path s w s' w' u v n n' h.3 k.3 in
-    same_pointer u v s w n s' w' n' e.0 e.1 e.2 e.3
+    same_pointer u v s w n s' w' n' e.1 e.2 e.0 e.3

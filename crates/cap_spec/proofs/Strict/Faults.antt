@@ -39,7 +39,7 @@ strict_not_fault m words depth ManySegments h f = absurd (omega (arith, h.few_se
 strict_not_fault m words depth (Pointer what s w pointers) h f = h.none f.2.path (first_is_lax m s w what pointers f.2)
 
 -- faults of equal parts are equal
-same_pointer : (u v : Lax) (s w n s' w' n' : ℕ) → s ≡ s' → w ≡ w' → u ≡ v → n ≡ n'
+pub same_pointer : (u v : Lax) (s w n s' w' n' : ℕ) → s ≡ s' → w ≡ w' → u ≡ v → n ≡ n'
     → Pointer u s w n ≡ Pointer v s' w' n'
 same_pointer u v s w n s' w' n' e1 e2 e3 e4 = cc
 

@@ -1,14 +1,15 @@
 -- Each turn puts the next word of the segment.
 use Rattle.std.proofs.Common.{◌+◌, [], ◌∷◌, drop}
 use Rattle.cap_spec.specs.Messages.{segment_of}
-use Rattle.cap_frame.proofs.Putting.{puts_of, halts_of, leaves_less, leaves_halts, words_from}
+use Rattle.cap_spec.proofs.Canonical.Placing.{rest_at}
+use Rattle.cap_frame.proofs.Putting.{puts_of, halts_of, leaves_less, leaves_halts}
 use Rattle.cap_frame.proofs.writer.put_segment.Goals as goal
 
 pub returns-in-Err : goal.returns-in-Err
 returns-in-Err g c =
     let all = segment_of (g.M.Segments.segments c.args.message.now) c.args.s in
     leaves_halts g.K.WordSink c.args.sink.now c.words.sink c.put.new.self all (drop c.words.w all) (c.word.result ∷ [])
-    (drop (c.words.w + 1) all) c.in-Err.fault (words_from all c.words.w c.word.result c.word.ensures) c.words.invariant
+    (drop (c.words.w + 1) all) c.in-Err.fault (rest_at all c.words.w c.word.result c.word.ensures) c.words.invariant
     (halts_of g.K.WordSink c.words.sink c.put.new.self (c.word.result ∷ []) c.put.result c.in-Err.fault c.in-Err.is c.in-Err.ensures.err c.put.ensures.device
     c.put.ensures.memory c.put.ensures.was_spent)
 
@@ -16,5 +17,5 @@ pub words-preserved : goal.words-preserved
 words-preserved g c =
     let all = segment_of (g.M.Segments.segments c.args.message.now) c.args.s in
     leaves_less g.K.WordSink c.args.sink.now c.words.sink c.put.new.self all (drop c.words.w all) (c.word.result ∷ []) (drop (c.words.w + 1) all)
-    (words_from all c.words.w c.word.result c.word.ensures) c.words.invariant
+    (rest_at all c.words.w c.word.result c.word.ensures) c.words.invariant
     (puts_of g.K.WordSink c.words.sink c.put.new.self (c.word.result ∷ []) c.in_default.ensures.put c.in_default.ensures.ok)
