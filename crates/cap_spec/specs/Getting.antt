@@ -8,15 +8,16 @@ use Rattle.cap_spec.specs.declared.Refusal.{Refusal}
 use Rattle.cap_spec.specs.declared.Step.{Step}
 
 -- one path begins another
-abbrev pub Begins : List Step → List Step → Type 0
-Begins q path = (rest : List Step) × (path ≡ q ++ rest)
+abbrev pub IsStartOf : List Step → List Step → Type 0
+IsStartOf q path = (rest : List Step) × (path ≡ q ++ rest)
 
 -- the beginnings of a path that reach a pointer word, the shortest first
 pub record AreOnPath (m : List (List ℕ)) (path : List Step) (ways : List (List Step)) : Type 0 where
   pub rising : Rises ways
-  pub begin : (q : List Step) → IsOneOf q ways → Begins q path
+  pub begin : (q : List Step) → IsOneOf q ways → IsStartOf q path
   pub reached : (q : List Step) → IsOneOf q ways → (level s w : ℕ) × Reaches m q level s w
-  pub all : (q : List Step) (level s w : ℕ) → Begins q path → Reaches m q level s w → IsOneOf q ways
+  pub all : (q : List Step) (level s w : ℕ) → IsStartOf q path → Reaches m q level s w
+      → IsOneOf q ways
 
 -- The pointers on the path keep to the limits, and following them costs the words that are gone.
 pub record Charges (m : List (List ℕ)) (before depth : ℕ) (path : List Step) (left : ℕ) : Type 0 where
@@ -32,7 +33,7 @@ pub record Charges (m : List (List ℕ)) (before depth : ℕ) (path : List Step)
 -- The refusal names the pointer that a beginning of the path reaches: those before it on the path keep to the limits.
 pub record IsFaultOnPath (m : List (List ℕ)) (words depth : ℕ) (path : List Step) (refusal : Refusal) : Type 0 where
   pub way : List Step
-  pub begin : Begins way path
+  pub begin : IsStartOf way path
   pub before : List (List Step)
   pub level : ℕ
   pub charge : ℕ

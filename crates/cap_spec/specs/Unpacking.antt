@@ -32,18 +32,18 @@ pub data IsGroup (bytes words : List ℕ) : Type 0 where
 abbrev pub Groups : Type 0
 Groups = List (List ℕ × List ℕ)
 
-abbrev pub text_of : Groups → List ℕ
-text_of groups = flat_map (λ g. g.0) groups
+abbrev pub groups_text : Groups → List ℕ
+groups_text groups = flat_map (λ g. g.0) groups
 
-abbrev pub words_of : Groups → List ℕ
-words_of groups = flat_map (λ g. g.1) groups
+abbrev pub groups_words : Groups → List ℕ
+groups_words groups = flat_map (λ g. g.1) groups
 
 -- The bytes are groups one after the other, which encode these words.
 pub record Unpacks (bytes words : List ℕ) : Type 0 where
   pub groups : Groups
   pub each : AllByRecursion (λ g. IsGroup g.0 g.1) groups
-  pub text : bytes ≡ text_of groups
-  pub spelled : words ≡ words_of groups
+  pub text : bytes ≡ groups_text groups
+  pub spelled : words ≡ groups_words groups
 
 -- what is given of the beginning of a group: of one with the tag ff, after a whole head, the whole
 -- words

@@ -2,7 +2,7 @@
 use Rattle.std.proofs.Common.{ℕ, ◌-◌, ◌≤◌, ◌≡◌, List, ◌∷◌, ◌++◌, Option, None, Some, length, refl, subst, sym, arith}
 use Rattle.std.specs.Prelude.{Bool, true, false}
 use Rattle.cap_spec.specs.Arriving.{ArrivesAt}
-use Rattle.cap_spec.specs.Getting.{AreOnPath, Begins, Charges}
+use Rattle.cap_spec.specs.Getting.{AreOnPath, IsStartOf, Charges}
 use Rattle.cap_spec.specs.Paths.{Spot}
 use Rattle.cap_spec.specs.Strict.{IsLax}
 use Rattle.cap_spec.specs.declared.Kind.{Kind}
@@ -73,7 +73,7 @@ something_at m words depth path at a h = (at.level, a, h.comes, h.found.stands)
 
 -- No pointer on it is rejected where none is known,
 none_lax : (m : List (List ℕ)) (path : List Step) (ways : List (List Step)) → AreOnPath m path ways
-    → KnowsLaxOnPath m path ways None → (q : List Step) → Begins q path → ¬ IsLax m q
+    → KnowsLaxOnPath m path ways None → (q : List Step) → IsStartOf q path → ¬ IsLax m q
 none_lax m path ways on k q b l = k q (on.all q l.0 l.1 l.2 b l.4) l
 
 -- and the known one is the first.

@@ -1,6 +1,6 @@
 -- What may be demanded of the pointers on a path beside the limits (profile).
 use Rattle.std.specs.Prelude.{ℕ, ◌≤◌, ◌≡◌, List, [], ◌∷◌, ◌++◌, length, IsTrue}
-use Rattle.cap_spec.specs.Getting.{AreOnPath, Begins, Charges, IsRefusedOnPath}
+use Rattle.cap_spec.specs.Getting.{AreOnPath, IsStartOf, Charges, IsRefusedOnPath}
 use Rattle.cap_spec.specs.Paths.{IsOneOf, Reaches}
 use Rattle.cap_spec.specs.Strict.{IsLax, IsLaxAt}
 use Rattle.cap_spec.specs.declared.Lax.{Lax}
@@ -18,7 +18,7 @@ KeepsToLimits m words depth path = (left : ℕ) × Charges m words depth path le
 -- path that reaches such a pointer reaches it. Up to it `pointers` pointers are on the path.
 pub record IsFirstLaxOnPath (m : List (List ℕ)) (path : List Step) (s w : ℕ) (what : Lax) (pointers : ℕ) : Type 0 where
   pub way : List Step
-  pub begin : Begins way path
+  pub begin : IsStartOf way path
   pub before : List (List Step)
   pub level : ℕ
   pub reached : Reaches m way level s w
@@ -29,7 +29,7 @@ pub record IsFirstLaxOnPath (m : List (List ℕ)) (path : List Step) (s w : ℕ)
 
 -- The message has at most 511 segments, and common readers reject no pointer on the path.
 abbrev pub IsStrictOnPath : List (List ℕ) → List Step → Type 0
-IsStrictOnPath m path = (length m ≤ 511) × ((q : List Step) → Begins q path → ¬ IsLax m q)
+IsStrictOnPath m path = (length m ≤ 511) × ((q : List Step) → IsStartOf q path → ¬ IsLax m q)
 
 -- The pointers on the path keep to the limits, and are strict where this is demanded.
 pub record MeetsOnPath (demands : Demands) (m : List (List ℕ)) (words depth : ℕ) (path : List Step) : Type 0 where

@@ -7,7 +7,7 @@ use Rattle.std.proofs.lemmas.Bool.{cases_lt}
 use Rattle.std.proofs.lemmas.List.{get_or_append_left}
 use Rattle.cap_spec.specs.Words.{IsWord}
 use Rattle.cap_spec.specs.Plain.{word_bytes, plain_text, plain_words}
-use Rattle.cap_spec.specs.Unpacking.{marks, IsGroup, zeros, plain, marked, Groups, text_of, words_of, Unpacks, given_of}
+use Rattle.cap_spec.specs.Unpacking.{marks, IsGroup, zeros, plain, marked, Groups, groups_text, groups_words, Unpacks, given_of}
 use Rattle.cap_spec.specs.Unpacking.{Cut, group_length, group_words, unpacked, packed_is_cut}
 use Rattle.cap_spec.proofs.Bytes.Plain.{length_plain}
 use Rattle.cap_spec.proofs.Packed.Unpacking.{unpacked_front, cut_front, unpacked_short, cut_short, spread_append}
@@ -77,33 +77,33 @@ cut_off bytes words rest g =
 
 -- so do groups one after the other
 pub groups_off : (groups : Groups) (rest : List ℕ) → AllByRecursion (λ g. IsGroup g.0 g.1) groups
-    → unpacked (text_of groups ++ rest) ≡ words_of groups ++ unpacked rest
+    → unpacked (groups_text groups ++ rest) ≡ groups_words groups ++ unpacked rest
 groups_off [] rest a = refl
 groups_off (g ∷ groups) rest a =
-    ap unpacked (append_assoc g.0 (text_of groups) rest)
-    ∙ (group_off g.0 g.1 (text_of groups ++ rest) a.0
-    ∙ (ap (λ k. g.1 ++ k) (groups_off groups rest a.1) ∙ sym (append_assoc g.1 (words_of groups) (unpacked rest))))
+    ap unpacked (append_assoc g.0 (groups_text groups) rest)
+    ∙ (group_off g.0 g.1 (groups_text groups ++ rest) a.0
+    ∙ (ap (λ k. g.1 ++ k) (groups_off groups rest a.1) ∙ sym (append_assoc g.1 (groups_words groups) (unpacked rest))))
 
 -- and the bytes are cut where those behind them are
 pub groups_cut_off : (groups : Groups) (rest : List ℕ) → AllByRecursion (λ g. IsGroup g.0 g.1) groups
-    → packed_is_cut (text_of groups ++ rest) ≡ packed_is_cut rest
+    → packed_is_cut (groups_text groups ++ rest) ≡ packed_is_cut rest
 groups_cut_off [] rest a = refl
 groups_cut_off (g ∷ groups) rest a =
-    ap packed_is_cut (append_assoc g.0 (text_of groups) rest)
-    ∙ (cut_off g.0 g.1 (text_of groups ++ rest) a.0 ∙ groups_cut_off groups rest a.1)
+    ap packed_is_cut (append_assoc g.0 (groups_text groups) rest)
+    ∙ (cut_off g.0 g.1 (groups_text groups ++ rest) a.0 ∙ groups_cut_off groups rest a.1)
 
 -- bytes that unpack to words give just these words
 pub unpacks_words : (bytes words : List ℕ) → Unpacks bytes words → words ≡ unpacked bytes
 unpacks_words bytes words u =
-    let t : unpacked (text_of u.groups ++ []) ≡ words_of u.groups ++ [] = groups_off u.groups [] u.each in
-    u.spelled ∙ (sym (append-nil (words_of u.groups))
-    ∙ (sym t ∙ (ap unpacked (append-nil (text_of u.groups)) ∙ ap unpacked (sym u.text))))
+    let t : unpacked (groups_text u.groups ++ []) ≡ groups_words u.groups ++ [] = groups_off u.groups [] u.each in
+    u.spelled ∙ (sym (append-nil (groups_words u.groups))
+    ∙ (sym t ∙ (ap unpacked (append-nil (groups_text u.groups)) ∙ ap unpacked (sym u.text))))
 
 -- and aren't cut
 pub unpacks_whole : (bytes words : List ℕ) → Unpacks bytes words → packed_is_cut bytes ≡ false
 unpacks_whole bytes words u =
-    let t : packed_is_cut (text_of u.groups ++ []) ≡ false = groups_cut_off u.groups [] u.each in
-    ap packed_is_cut (u.text ∙ sym (append-nil (text_of u.groups))) ∙ t
+    let t : packed_is_cut (groups_text u.groups ++ []) ≡ false = groups_cut_off u.groups [] u.each in
+    ap packed_is_cut (u.text ∙ sym (append-nil (groups_text u.groups))) ∙ t
 
 -- the beginning of a group is shorter than its head says
 pub part_short : (tag : ℕ) (part lacking spelled : List ℕ) → IsGroup (tag ∷ (part ++ lacking)) spelled
@@ -155,9 +155,9 @@ cut_words bytes words c =
     let s = part_is_short c.part c.lacking c.spelled c.begun c.proper c.group in
     let u = c.unpacks in
     let t = groups_off u.groups c.part u.each in
-    let v : unpacked bytes ≡ words_of u.groups ++ unpacked c.part =
+    let v : unpacked bytes ≡ groups_words u.groups ++ unpacked c.part =
     ap unpacked (c.text ∙ ap (λ k. k ++ c.part) u.text) ∙ t in
-    sym (v ∙ (ap (λ k. words_of u.groups ++ k) (unpacked_short c.part s)
+    sym (v ∙ (ap (λ k. groups_words u.groups ++ k) (unpacked_short c.part s)
     ∙ (ap (λ k. k ++ given_of c.part) (sym u.spelled) ∙ sym c.given)))
 
 -- and are cut

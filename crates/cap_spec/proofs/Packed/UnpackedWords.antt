@@ -9,8 +9,8 @@ use Rattle.byteorder.specs.Endian.{little_from, little_number}
 use Rattle.cap_spec.specs.Words.{IsWord}
 use Rattle.cap_spec.specs.Plain.{word_bytes, plain_text, plain_words}
 use Rattle.cap_spec.proofs.Bytes.WordBytes.{bytes_fit}
-use Rattle.cap_spec.specs.Unpacking.{spread, IsGroup, zeros, plain, marked, Groups, text_of}
-use Rattle.cap_spec.specs.Unpacking.{words_of, Unpacks, given_of, unpacked}
+use Rattle.cap_spec.specs.Unpacking.{spread, IsGroup, zeros, plain, marked, Groups, groups_text}
+use Rattle.cap_spec.specs.Unpacking.{groups_words, Unpacks, given_of, unpacked}
 use Rattle.cap_spec.proofs.Bytes.Lists.{all_take, all_drop, all_append, all_back}
 use Rattle.cap_spec.proofs.Bytes.Plain.{plain_split}
 use Rattle.cap_spec.proofs.Packed.Unpacking.{spread_clear, spread_set}
@@ -68,9 +68,9 @@ group_are_words bytes words (marked tag present p q all l e w) =
 
 -- so do groups
 groups_are_words : (groups : Groups) → AllByRecursion (λ g. IsGroup g.0 g.1) groups
-    → AllByRecursion IsWord (words_of groups)
+    → AllByRecursion IsWord (groups_words groups)
 groups_are_words [] all = tt
-groups_are_words (g ∷ groups) all = all_append IsWord g.1 (words_of groups) (group_are_words g.0 g.1 all.0)
+groups_are_words (g ∷ groups) all = all_append IsWord g.1 (groups_words groups) (group_are_words g.0 g.1 all.0)
     (groups_are_words groups all.1)
 
 -- bytes unpack to words
@@ -127,9 +127,9 @@ group_are_bytes bytes words (marked tag present p q all l e w) =
 
 -- so are groups
 groups_are_bytes : (groups : Groups) → AllByRecursion (λ g. IsGroup g.0 g.1) groups
-    → AllByRecursion (λ b. b < 256) (text_of groups)
+    → AllByRecursion (λ b. b < 256) (groups_text groups)
 groups_are_bytes [] all = tt
-groups_are_bytes (g ∷ groups) all = all_append (λ b. b < 256) g.0 (text_of groups) (group_are_bytes g.0 g.1 all.0)
+groups_are_bytes (g ∷ groups) all = all_append (λ b. b < 256) g.0 (groups_text groups) (group_are_bytes g.0 g.1 all.0)
     (groups_are_bytes groups all.1)
 
 -- what unpacks to words is bytes

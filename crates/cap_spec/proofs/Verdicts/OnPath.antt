@@ -4,7 +4,7 @@ use Rattle.std.proofs.Common.{inr, length, length-append, append_assoc}
 use Rattle.std.proofs.lemmas.List.{append-nil}
 use Rattle.cap_spec.specs.Messages.{HasWord}
 use Rattle.cap_spec.specs.Faults.{AreShallow, IsDeepAt}
-use Rattle.cap_spec.specs.Getting.{AreOnPath, Begins, IsFaultOnPath, IsRefusedOnPath}
+use Rattle.cap_spec.specs.Getting.{AreOnPath, IsStartOf, IsFaultOnPath, IsRefusedOnPath}
 use Rattle.cap_spec.specs.Paths.{Before, Comes, Costs, Goes, IsOneOf, Reaches, Rises, Spot, Walks, element, word}
 use Rattle.cap_spec.specs.Verdicts.{CostOf}
 use Rattle.cap_spec.specs.declared.Refusal.{Refusal}
@@ -16,41 +16,41 @@ use Rattle.cap_spec.proofs.Paths.Preorder.{Before-longer, Rises-distinct, Rises-
 use Rattle.cap_spec.proofs.Paths.Walks.{one_coming, one_reached, one_walk, walk_parts}
 
 -- a path that begins another begins what goes on from it
-pub begins_longer : (q done more : List Step) → Begins q done → Begins q (done ++ more)
+pub begins_longer : (q done more : List Step) → IsStartOf q done → IsStartOf q (done ++ more)
 begins_longer q done more (rest, e) = (rest ++ more, ap (λ x. x ++ more) e ∙ append_assoc q rest more)
 
-pub begins_itself : (p : List Step) → Begins p p
+pub begins_itself : (p : List Step) → IsStartOf p p
 begins_itself p = ([], sym (append-nil p))
 
 -- what begins a path that goes on from another begins that one, or goes on from it too
 begins_either : (q done rest r : List Step) (step : Step) → done ++ step ∷ rest ≡ q ++ r
-    → Begins q done ⊎ ((more : List Step) × (q ≡ done ++ step ∷ more) × (rest ≡ more ++ r))
+    → IsStartOf q done ⊎ ((more : List Step) × (q ≡ done ++ step ∷ more) × (rest ≡ more ++ r))
 begins_either [] done rest r step e = inl (done, refl)
 begins_either (x ∷ q) [] rest r step e = let f : x ≡ step = cc in let g : rest ≡ q ++ r = cc in
     inr (q, ap (λ y. y ∷ q) f, g)
 begins_either (x ∷ q) (y ∷ done) rest r step e = go (begins_either q done rest r step cc) cc
   where
-    go : Begins q done ⊎ ((more : List Step) × (q ≡ done ++ step ∷ more) × (rest ≡ more ++ r)) → x ≡ y
-        → Begins (x ∷ q) (y ∷ done) ⊎ ((more : List Step) × (x ∷ q ≡ y ∷ done ++ step ∷ more) × (rest ≡ more ++ r))
+    go : IsStartOf q done ⊎ ((more : List Step) × (q ≡ done ++ step ∷ more) × (rest ≡ more ++ r)) → x ≡ y
+        → IsStartOf (x ∷ q) (y ∷ done) ⊎ ((more : List Step) × (x ∷ q ≡ y ∷ done ++ step ∷ more) × (rest ≡ more ++ r))
     go (inl (on, f)) g = let h : y ∷ done ≡ x ∷ (q ++ on) = cc in inl (on, h)
     go (inr (more, f, h)) g = let k : x ∷ q ≡ y ∷ (done ++ step ∷ more) = cc in inr (more, k, h)
 
 -- with one step more, the longer path itself is added
-begins_last : (q done : List Step) (step : Step) → Begins q (done ++ step ∷ [])
-    → (q ≡ done ++ step ∷ []) ⊎ Begins q done
+begins_last : (q done : List Step) (step : Step) → IsStartOf q (done ++ step ∷ [])
+    → (q ≡ done ++ step ∷ []) ⊎ IsStartOf q done
 begins_last q done step (r, e) = go (begins_either q done [] r step e)
   where
     none : (more : List Step) → [] ≡ more ++ r → more ≡ []
     none [] f = refl
     none (x ∷ more) f = absurd (cc f)
 
-    go : Begins q done ⊎ ((more : List Step) × (q ≡ done ++ step ∷ more) × ([] ≡ more ++ r))
-        → (q ≡ done ++ step ∷ []) ⊎ Begins q done
+    go : IsStartOf q done ⊎ ((more : List Step) × (q ≡ done ++ step ∷ more) × ([] ≡ more ++ r))
+        → (q ≡ done ++ step ∷ []) ⊎ IsStartOf q done
     go (inl h) = inr h
     go (inr (more, f, g)) = inl (f ∙ ap (λ x. done ++ step ∷ x) (none more g))
 
 -- and comes behind what begins the shorter one
-before_last : (q done : List Step) (step : Step) → Begins q done → Before q (done ++ step ∷ [])
+before_last : (q done : List Step) (step : Step) → IsStartOf q done → Before q (done ++ step ∷ [])
 before_last q done step ([], e) = subst (λ x. Before q (x ++ step ∷ [])) (sym (e ∙ append-nil q))
     (Before-longer q step [])
 before_last q done step (x ∷ rest, e) =
@@ -100,8 +100,8 @@ on_root m root has = record {
     one q (inl e) = e
     one q (inr h) = absurd h
 
-    first : (q : List Step) → IsOneOf q ([] ∷ []) → Begins q []
-    first q i = subst (λ x. Begins x []) (sym (one q i)) ([], refl)
+    first : (q : List Step) → IsOneOf q ([] ∷ []) → IsStartOf q []
+    first q i = subst (λ x. IsStartOf x []) (sym (one q i)) ([], refl)
 
     nothing : (q rest : List Step) → [] ≡ q ++ rest → q ≡ []
     nothing [] rest e = refl
@@ -118,15 +118,15 @@ on_word m done ways step level s w h r = record {
   all = λ q level' s' w' b r'. all q level' s' w' r' (begins_last q done step b);
 }
   where
-    begin : (q : List Step) → (q ≡ done ++ step ∷ []) ⊎ IsOneOf q ways → Begins q (done ++ step ∷ [])
-    begin q (inl e) = subst (λ x. Begins x (done ++ step ∷ [])) (sym e) (begins_itself (done ++ step ∷ []))
+    begin : (q : List Step) → (q ≡ done ++ step ∷ []) ⊎ IsOneOf q ways → IsStartOf q (done ++ step ∷ [])
+    begin q (inl e) = subst (λ x. IsStartOf x (done ++ step ∷ [])) (sym e) (begins_itself (done ++ step ∷ []))
     begin q (inr i) = begins_longer q done (step ∷ []) (h.begin q i)
 
     reached : (q : List Step) → (q ≡ done ++ step ∷ []) ⊎ IsOneOf q ways → (level' s' w' : ℕ) × Reaches m q level' s' w'
     reached q (inl e) = (level, s, w, subst (λ x. Reaches m x level s w) (sym e) r)
     reached q (inr i) = h.reached q i
 
-    all : (q : List Step) (level' s' w' : ℕ) → Reaches m q level' s' w' → (q ≡ done ++ step ∷ []) ⊎ Begins q done
+    all : (q : List Step) (level' s' w' : ℕ) → Reaches m q level' s' w' → (q ≡ done ++ step ∷ []) ⊎ IsStartOf q done
         → IsOneOf q (ways ++ (done ++ step ∷ []) ∷ [])
     all q level' s' w' r' (inl e) = subst (λ x. IsOneOf x (ways ++ (done ++ step ∷ []) ∷ [])) (sym e) (is_last ways)
       where
@@ -147,7 +147,7 @@ on_element m done ways step level t b ds ps h c = record {
 }
   where
     all : (q : List Step) (level' s' w' : ℕ) → Reaches m q level' s' w'
-        → (q ≡ done ++ step ∷ []) ⊎ Begins q done → IsOneOf q ways
+        → (q ≡ done ++ step ∷ []) ⊎ IsStartOf q done → IsOneOf q ways
     all q level' s' w' r (inl e) =
         let f : word s' w' ≡ element t b ds ps =
         (one_coming m (done ++ step ∷ []) level' level (word s' w') (element t b ds ps)
@@ -175,7 +175,7 @@ on_nowhere m done rest ways step level a h c none = record {
         none w.0 (subst (λ x. Goes m x step w.0) (sym same) w.2)
 
     all : (q on : List Step) (level' s' w' : ℕ) → Reaches m q level' s' w'
-        → Begins q done ⊎ ((more : List Step) × (q ≡ done ++ step ∷ more) × (rest ≡ more ++ on)) → IsOneOf q ways
+        → IsStartOf q done ⊎ ((more : List Step) × (q ≡ done ++ step ∷ more) × (rest ≡ more ++ on)) → IsOneOf q ways
     all q on level' s' w' r (inl b) = h.all q level' s' w' b r
     all q on level' s' w' r (inr (more, e, f)) = absurd (past q more level' s' w' r e)
 
@@ -201,16 +201,16 @@ path_not_refused m words depth path ways cost r on some costs shallow within (in
     earlier : (q : List Step) → IsOneOf q f.before → IsOneOf q ways
     earlier q i =
         let x = cost_reached m f.before f.charge q f.costs i in
-        let b : Begins q f.way = f.on_path.begin q (last_is_one f.way q f.before i) in
+        let b : IsStartOf q f.way = f.on_path.begin q (last_is_one f.way q f.before i) in
         let e : path ≡ f.way ++ f.begin.0 = f.begin.1 in
-        on.all q x.0 x.1 x.2 (subst (λ y. Begins q y) (sym e) (begins_longer q f.way f.begin.0 b)) x.3
+        on.all q x.0 x.1 x.2 (subst (λ y. IsStartOf q y) (sym e) (begins_longer q f.way f.begin.0 b)) x.3
 
     all : (q : List Step) → IsOneOf q (f.way ∷ f.before) → IsOneOf q ways
     all q (inl e) = subst (λ x. IsOneOf x ways) (sym e) (on.all f.way f.level r.segment r.word f.begin f.reached)
     all q (inr i) = earlier q i
 
 -- of two beginnings of one path, each is the other or goes on from it
-begins_one : (p q path : List Step) → Begins p path → Begins q path
+begins_one : (p q path : List Step) → IsStartOf p path → IsStartOf q path
     → (p ≡ q) ⊎ ((x : Step) × (more : List Step) × (q ≡ p ++ x ∷ more))
     ⊎ ((x : Step) × (more : List Step) × (p ≡ q ++ x ∷ more))
 begins_one p q path ([], e) (s, f) = all s (sym (append-nil p) ∙ (sym e ∙ f))
@@ -226,7 +226,7 @@ begins_one p q path (x ∷ rest, e) (s, f) = part (begins_either q p rest s x (s
     all [] h = inl (h ∙ append-nil q)
     all (y ∷ t) h = inr (inr (y, t, h))
 
-    part : Begins q p ⊎ ((more : List Step) × (q ≡ p ++ x ∷ more) × (rest ≡ more ++ s))
+    part : IsStartOf q p ⊎ ((more : List Step) × (q ≡ p ++ x ∷ more) × (rest ≡ more ++ s))
         → (p ≡ q) ⊎ ((x : Step) × (more : List Step) × (q ≡ p ++ x ∷ more))
         ⊎ ((x : Step) × (more : List Step) × (p ≡ q ++ x ∷ more))
     part (inl (t, h)) = all t h
@@ -242,9 +242,9 @@ no_earlier_on m words depth path r r' f f' x more e =
     f'.shallow f'.within
   where
     -- what begins the shorter one is among those before the longer one
-    kept : (q : List Step) (level s w : ℕ) → Reaches m q level s w → Begins q f.way → IsOneOf q f'.before
+    kept : (q : List Step) (level s w : ℕ) → Reaches m q level s w → IsStartOf q f.way → IsOneOf q f'.before
     kept q level s w h (rest, k) = elim (one_of_last q f'.way f'.before
-        (f'.on_path.all q level s w (subst (λ y. Begins q y) (sym e) (begins_longer q f.way (x ∷ more) (rest, k))) h)) [
+        (f'.on_path.all q level s w (subst (λ y. IsStartOf q y) (sym e) (begins_longer q f.way (x ∷ more) (rest, k))) h)) [
           | inl same ↦
               let whole : q ≡ (q ++ rest) ++ x ∷ more = same ∙ e ∙ ap (λ y. y ++ x ∷ more) k in
               let long = ap length whole in
