@@ -11,7 +11,7 @@ use Rattle.cap_spec.proofs.Frames.Messages.{HasWord-inside, HasWord-segment}
 use Rattle.cap_spec.proofs.Trees.OneTree.{Formed, formed}
 use Rattle.cap_canon.specs.CopyRuns.{AreShort, IsFull, IsRest, OptionFull, all_places, first_place, option_places, places_of}
 use Rattle.cap_canon.specs.Laying.{Due, AreBefore, size_due}
-use Rattle.cap_canon.specs.StillToLay.{AreOwed, RunOwes, IsNext, IsWalking, Stacked, work_left}
+use Rattle.cap_canon.specs.StillToLay.{AreOwed, RunOwes, IsNext, IsWalking, Stacked, longest_copy, work_left}
 use Rattle.cap_canon.specs.declared.run.CopyRun.{CopyRun}
 use Rattle.cap_canon.specs.declared.run.PointerPlace.{PointerPlace}
 use Rattle.cap_canon.proofs.Runs.{count_more}
@@ -25,7 +25,7 @@ word_short m s w t c d is h =
     omega (arith, HasWord-inside m s w p.0 p.1, short)
 
 -- the words that are owed are
-pub owed_short : (m : List (List ℕ)) (depth n end : ℕ) (places : List PointerPlace) (due : List Due) → IsMessage m → end ≤ 268435457 → AreBefore end due
+pub owed_short : (m : List (List ℕ)) (depth n end : ℕ) (places : List PointerPlace) (due : List Due) → IsMessage m → end ≤ longest_copy → AreBefore end due
     → AreOwed m depth n places due → AreShort places
 owed_short m depth n end [] due is le b h = tt
 owed_short m depth n end (p ∷ places) [] is le b h = absurd h
@@ -67,7 +67,7 @@ pub record Topmost (m : List (List ℕ)) (depth end : ℕ) (f : CopyRun) (runs :
   pub owes : RunOwes m depth (length (reverse runs) + 1) f own
   pub stacked : Stacked m depth (reverse runs) rest
   pub before : AreBefore end own
-  pub near : end ≤ 268435457
+  pub near : end ≤ longest_copy
 
 pub topmost : (m : List (List ℕ)) (depth end : ℕ) (runs : List CopyRun) (f : CopyRun) (due : List Due) → IsWalking m depth (runs ++ f ∷ []) end due
     → Topmost m depth end f runs due
@@ -99,7 +99,7 @@ Takes m depth p runs end due = (tree : Tree) × (rest : List Due) × (due ≡ re
 first_owed : (m : List (List ℕ)) (depth n end : ℕ) (f : CopyRun) (r : Option CopyRun) (runs : List CopyRun) (own rest : List Due) → n ≡ length runs + 1
     → IsRest f r → IsMessage m
     → AreOwed m depth n (first_place f ∷ option_places r) own → Stacked m depth (reverse runs) rest → AreBefore end (own ++ rest)
-    → end + size_due (own ++ rest) ≤ 268435457
+    → end + size_due (own ++ rest) ≤ longest_copy
     → Takes m depth (first_place f) (runs ++ option_to_list r) end (own ++ rest)
 first_owed m depth n end f r runs [] rest e is_rest is h s b small = absurd h
 first_owed m depth n end f r runs (x ∷ own) rest e is_rest is h s b small =
@@ -116,7 +116,7 @@ first_owed m depth n end f r runs (x ∷ own) rest e is_rest is h s b small =
         stacked = subst (λ fs. Stacked m depth fs (own ++ rest)) (sym (reverse-more runs r))
             (stacked_more m depth n r (reverse runs) own rest (omega (arith, e, length-reverse runs)) is_rest.full h.2 s);
         before = b.1;
-        small = subst (λ ds. end + size_due ds ≤ 268435457) same small;
+        small = subst (λ ds. end + size_due ds ≤ longest_copy) same small;
       },
     )
   where
@@ -132,7 +132,7 @@ next_of m depth end runs f r due w is_rest =
     subst (λ ps. AreOwed m depth (length (reverse runs) + 1) ps k.own) is_rest.words k.owes.owed in
     let n = first_owed m depth (length (reverse runs) + 1) end f r runs k.own k.rest (omega (arith, length-reverse runs)) is_rest w.message owed k.stacked
     (subst (AreBefore end) k.all w.before)
-    (subst (λ ds. end + size_due ds ≤ 268435457) k.all w.small) in
+    (subst (λ ds. end + size_due ds ≤ longest_copy) k.all w.small) in
     (n.0, n.1, k.all ∙ n.2, n.3)
 
 -- one word fewer is left

@@ -12,6 +12,10 @@ use Rattle.cap_canon.specs.declared.objects.Object.{Object}
 use Rattle.cap_canon.specs.declared.run.CopyRun.{CopyRun}
 use Rattle.cap_canon.specs.declared.run.PointerPlace.{PointerPlace}
 
+-- the words of the longest copy: the root word, and one for each word of the greatest charge
+abbrev pub longest_copy : ℕ
+longest_copy = 268435457
+
 -- What is left of the tree that the word denotes, which has n levels fewer than the depth, or fewer still.
 abbrev pub IsOwed : List (List ℕ) → ℕ → ℕ → ℕ → ℕ → Tree → Type 0
 IsOwed m depth n s w u = (t : Tree) × (c d : ℕ) × Denotes m s w t c d × (u ≡ trim t) × (d + n ≤ depth)
@@ -38,7 +42,7 @@ pub record IsWalking (m : List (List ℕ)) (depth : ℕ) (runs : List CopyRun) (
   pub message : IsMessage m
   pub stacked : Stacked m depth (reverse runs) due
   pub before : AreBefore end due
-  pub small : end + size_due due ≤ 268435457
+  pub small : end + size_due due ≤ longest_copy
 
 -- The next word to look at is at p; then come those of the runs.
 pub record IsNext (m : List (List ℕ)) (depth : ℕ) (p : PointerPlace) (runs : List CopyRun) (end : ℕ) (tree : Tree) (due : List Due) : Type 0 where
@@ -47,7 +51,7 @@ pub record IsNext (m : List (List ℕ)) (depth : ℕ) (p : PointerPlace) (runs :
   pub message : IsMessage m
   pub stacked : Stacked m depth (reverse runs) due
   pub before : AreBefore end due
-  pub small : end + size_due (record { slot = p.slot; tree = tree } ∷ due) ≤ 268435457
+  pub small : end + size_due (record { slot = p.slot; tree = tree } ∷ due) ≤ longest_copy
 
 -- The next word leads to this object, of at most d levels.
 pub record NextLeadsTo (m : List (List ℕ)) (depth : ℕ) (p : PointerPlace) (runs : List CopyRun) (end : ℕ) (tree : Tree) (due : List Due)

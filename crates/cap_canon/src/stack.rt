@@ -4,7 +4,7 @@ ghost use Rattle.cap_canon.specs.CopyRuns.{AreShort, IsFull, OptionFull, option_
 ghost use Rattle.cap_canon.specs.InPlace.{IsInPlace, StandsIn};
 ghost use Rattle.cap_canon.specs.Laying.{below, own_size};
 ghost use Rattle.cap_canon.specs.Objects.{IsObject, IsStructsObject};
-ghost use Rattle.cap_canon.specs.StillToLay.{AreOwed, Continues};
+ghost use Rattle.cap_canon.specs.StillToLay.{AreOwed, Continues, longest_copy};
 ghost use Rattle.cap_spec.specs.Messages.{IsMessage};
 ghost use Rattle.cap_spec.specs.Tree.{Tree};
 ghost use Rattle.std.specs.List.{AllByRecursion};
@@ -73,7 +73,7 @@ fn push_kept<const N: usize>(stack: &mut Stack<N>, more: bool, run: CopyRun)
 pub(crate) fn run_of(object: &Object, end: u32) -> Option<CopyRun>
     requires { (m : List (List ℕ)) × (d s w : ℕ) × (tree : Tree) × IsMessage m
         × IsObject m d s w tree object.now
-        × (end + own_size tree ≤ 268435457) }
+        × (end + own_size tree ≤ longest_copy) }
     ensures owed { (m : List (List ℕ)) (d s w depth n : ℕ) (tree : Tree)
         → IsObject m d s w tree object.now → d + n ≤ depth
         → AreOwed m depth (n + 1) (option_places result) (below end tree) }
@@ -103,7 +103,7 @@ pub(crate) fn run_of(object: &Object, end: u32) -> Option<CopyRun>
 #[inline(always)]
 fn structs_run(part: &Part, count: u32, end: u32) -> Option<CopyRun>
     requires { (m : List (List ℕ)) × (d s w : ℕ) × (tree : Tree) × IsMessage m
-        × IsStructsObject m d s w tree count part.now × (end + own_size tree ≤ 268435457) }
+        × IsStructsObject m d s w tree count part.now × (end + own_size tree ≤ longest_copy) }
     ensures owed { (m : List (List ℕ)) (d s w depth n : ℕ) (tree : Tree)
         → IsStructsObject m d s w tree count part.now → d + n ≤ depth
         → AreOwed m depth n (option_places result) (below end tree) }
@@ -151,7 +151,7 @@ fn row_run(segment: u32, at: u32, slot: u32, left: u32) -> Option<CopyRun>
 #[inline(always)]
 pub(crate) fn own_words(object: &Object) -> u32
     requires { (m : List (List ℕ)) × (d s w : ℕ) × (tree : Tree)
-        × IsObject m d s w tree object.now × (own_size tree ≤ 268435457) }
+        × IsObject m d s w tree object.now × (own_size tree ≤ longest_copy) }
     ensures { (m : List (List ℕ)) (d s w : ℕ) (tree : Tree)
         → IsObject m d s w tree object.now → result ≡ own_size tree }
 {

@@ -6,7 +6,7 @@ use Rattle.cap_spec.proofs.Trees.OneTree.{one_tree}
 use Rattle.cap_canon.specs.CopyRuns.{first_place}
 use Rattle.cap_canon.specs.InPlace.{AreInPlace}
 use Rattle.cap_canon.specs.Laying.{below, own_size}
-use Rattle.cap_canon.specs.StillToLay.{IsWalking, runs_left, work_left}
+use Rattle.cap_canon.specs.StillToLay.{IsWalking, longest_copy, runs_left, work_left}
 use Rattle.cap_canon.specs.declared.run.CopyRun.{CopyRun}
 use Rattle.cap_canon.proofs.Entering.{entered, room_above, work_more}
 use Rattle.cap_canon.proofs.Kept.{entered_in_place}
@@ -71,7 +71,7 @@ run_of-below-requires g c =
     let r = has_rest w.run w.invariant.at.full in
     let h = turn_here m g.P.Pass.in_place (g.P.Pass.state w.pass) c.args.depth w.stack.items w.run w.end c.object_at-object.result w.invariant.at r.0 r.1
     c.object_at-object.ensures in
-    (m, h.met.d, w.run.segment, w.run.at, h.at.tree, h.met.next.message, h.met.is, own_within w.end 268435457 h.at.tree h.at.due w.run.slot h.at.next.small)
+    (m, h.met.d, w.run.segment, w.run.at, h.at.tree, h.met.next.message, h.met.is, own_within w.end longest_copy h.at.tree h.at.due w.run.slot h.at.next.small)
 
 pub own_words-end-requires : goal.own_words-end-requires
 own_words-end-requires g c =
@@ -80,7 +80,7 @@ own_words-end-requires g c =
     let r = has_rest w.run w.invariant.at.full in
     let h = turn_here m g.P.Pass.in_place (g.P.Pass.state w.pass) c.args.depth w.stack.items w.run w.end c.object_at-object.result w.invariant.at r.0 r.1
     c.object_at-object.ensures in
-    let l : w.end + own_size h.at.tree ≤ 268435457 = own_within w.end 268435457 h.at.tree h.at.due w.run.slot h.at.next.small in
+    let l : w.end + own_size h.at.tree ≤ longest_copy = own_within w.end longest_copy h.at.tree h.at.due w.run.slot h.at.next.small in
     (m, h.met.d, w.run.segment, w.run.at, h.at.tree, h.met.is, omega (arith, l))
 
 pub overflow_add-end : goal.overflow_add-end
@@ -90,7 +90,7 @@ overflow_add-end g c =
     let r = has_rest w.run w.invariant.at.full in
     let h = turn_here m g.P.Pass.in_place (g.P.Pass.state w.pass) c.args.depth w.stack.items w.run w.end c.object_at-object.result w.invariant.at r.0 r.1
     c.object_at-object.ensures in
-    let l : w.end + own_size h.at.tree ≤ 268435457 = own_within w.end 268435457 h.at.tree h.at.due w.run.slot h.at.next.small in
+    let l : w.end + own_size h.at.tree ≤ longest_copy = own_within w.end longest_copy h.at.tree h.at.due w.run.slot h.at.next.small in
     omega (arith, l, c.own_words-end.ensures m h.met.d w.run.segment w.run.at h.at.tree h.met.is)
 
 pub go_on-requires : goal.go_on-requires
@@ -150,8 +150,8 @@ walk-smaller g c =
     let owed = c.run_of-below.ensures.owed m h.met.d w.run.segment w.run.at h.met.d 0 h.at.tree h.met.is (omega arith) in
     let more = work_more m h.met.d w.run.segment w.run.at w.end h.at.tree c.object_at-object.result runs c.run_of-below.result h.met.is owed in
     let less = subst (λ (fs : List CopyRun). work_left fs ≤ work_left runs + own_size h.at.tree) same more in
-    let full : w.end + own_size h.at.tree ≤ 268435457 = own_within w.end 268435457 h.at.tree h.at.due w.run.slot h.at.next.small in
-    rw e (work_falls (work_left (w.stack.items ++ w.run ∷ [])) (work_left runs) (work_left (new.stack.items ++ new.run ∷ [])) w.end 268435457
+    let full : w.end + own_size h.at.tree ≤ longest_copy = own_within w.end longest_copy h.at.tree h.at.due w.run.slot h.at.next.small in
+    rw e (work_falls (work_left (w.stack.items ++ w.run ∷ [])) (work_left runs) (work_left (new.stack.items ++ new.run ∷ [])) w.end longest_copy
     (own_size h.at.tree) (next_work w.stack.items w.run on.rest on.is_rest) less full)
 
 pub walk-preserved : goal.walk-preserved

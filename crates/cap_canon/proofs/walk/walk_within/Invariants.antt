@@ -1,6 +1,6 @@
 use Rattle.std.proofs.Common.{◌≡◌, ◌+◌, ◌-◌, ◌++◌, ◌∷◌, []}
 use Rattle.cap_canon.specs.Roots.{ForTrimmed}
-use Rattle.cap_canon.specs.StillToLay.{work_left}
+use Rattle.cap_canon.specs.StillToLay.{longest_copy, work_left}
 use Rattle.cap_canon.proofs.Walks.{AtRun}
 use Rattle.cap_canon.proofs.walk.walk_within.Given as goal
 
@@ -11,4 +11,4 @@ invariant-walk g l = record {
 }
 
 abbrev pub decreases-walk : goal.decreases-walk
-decreases-walk g l = work_left (l.stack.items ++ l.run ∷ []) + (268435457 - l.end)
+decreases-walk g l = work_left (l.stack.items ++ l.run ∷ []) + (longest_copy - l.end)
