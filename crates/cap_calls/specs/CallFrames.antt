@@ -1,6 +1,7 @@
 -- The frame at the start of bytes, within the limits of a call, or why there is none
 -- (profile; standard: Serialization Over a Stream).
 use Rattle.std.specs.Prelude.{ℕ, ◌≡◌, ◌≤◌, ◌<◌, List, [], length, Err}
+use Rattle.cap_spec.specs.GreatestLimits.{most_depth, most_words}
 use Rattle.cap_frame.specs.Framed.{TellsFront}
 use Rattle.cap_frame.specs.Fronts.{IsFront}
 use Rattle.cap_calls.specs.CallFlags.{HasKnownFlags}
@@ -10,9 +11,9 @@ use Rattle.cap_calls.specs.declared.limits.CallLimits.{CallLimits}
 
 -- no limit is above its maximum, no flag is unknown, and the reserved fields are 0
 pub record AreLimits (l : CallLimits) : Type 0 where
-  pub small : l.message_words ≤ 268435456
-  pub few : l.charge ≤ 268435456
-  pub shallow : l.depth ≤ 256
+  pub small : l.message_words ≤ most_words
+  pub few : l.charge ≤ most_words
+  pub shallow : l.depth ≤ most_depth
   pub flags : HasKnownFlags l
 
 -- why the bytes begin with no frame within the limits

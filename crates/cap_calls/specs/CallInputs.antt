@@ -1,6 +1,7 @@
 -- The input of a call: a frame, or with the flag 8 the words of one segment (profile; standard: 64-bit Words).
 use Rattle.std.specs.Prelude.{ℕ, ◌≡◌, ◌≤◌, ◌<◌, ◌+◌, ◌*◌, ◌/◌, ◌%◌, Bool, IsFalse, IsTrue, List, [], ◌∷◌, length}
 use Rattle.cap_frame.specs.declared.fault.FrontFault.TheVariants.{TooManySegments, TooLarge, Truncated}
+use Rattle.cap_spec.specs.GreatestLimits.{most_depth, most_words}
 use Rattle.cap_spec.specs.Plain.{plain_words}
 use Rattle.cap_calls.specs.CallFindings.{TellsWhole, framed_found, none_found}
 use Rattle.cap_calls.specs.CallFlags.{HasWordFlags, has_no_table}
@@ -12,9 +13,9 @@ use Rattle.cap_calls.specs.declared.limits.CallLimits.{CallLimits}
 
 -- with the flag 8: no limit is above its maximum, the other flags may be set beside it, and the reserved fields are 0
 pub record AreWordLimits (l : CallLimits) : Type 0 where
-  pub small : l.message_words ≤ 268435456
-  pub few : l.charge ≤ 268435456
-  pub shallow : l.depth ≤ 256
+  pub small : l.message_words ≤ most_words
+  pub few : l.charge ≤ most_words
+  pub shallow : l.depth ≤ most_depth
   pub flags : HasWordFlags l
 
 -- the same, with or without the flag 8

@@ -1,6 +1,7 @@
 -- Where a segment of a framed message is (profile; standard: Serialization Over a Stream).
 use Rattle.std.specs.Prelude.{ℕ, ◌*◌, ◌+◌, ◌<◌, ◌≡◌, ◌≤◌, List, length, slice_range, sum, take}
 use Rattle.cap_spec.specs.Frames.{sizes_of}
+use Rattle.cap_spec.specs.GreatestLimits.{most_words}
 use Rattle.cap_spec.specs.Messages.{segment_of}
 use Rattle.cap_spec.specs.Plain.{plain_words}
 use Rattle.cap_frame.specs.Fronts.{IsFront, table_words}
@@ -14,7 +15,7 @@ use Rattle.cap_calls.specs.declared.limits.CallLimits.{CallLimits}
 
 -- a message of any size that limits can allow
 abbrev pub any_size : CallLimits
-any_size = record default_limits { message_words = 268435456 }
+any_size = record default_limits { message_words = most_words }
 
 -- where segment s starts in a frame of the message, in bytes: after the table and the segments before it
 abbrev pub segment_start : List (List ℕ) → ℕ → ℕ
@@ -36,5 +37,5 @@ pub data TellsSegment (bytes : List ℕ) (index : ℕ) (a : Answer) (start size 
 
 -- If the bytes start with a message that has this segment, the bytes there are the segment's words.
 abbrev pub AreSegmentWords : List ℕ → ℕ → ℕ → ℕ → Type 0
-AreSegmentWords bytes index start size = (m : List (List ℕ)) (n : ℕ) → IsFront 268435456 bytes m n → index < length m
+AreSegmentWords bytes index start size = (m : List (List ℕ)) (n : ℕ) → IsFront most_words bytes m n → index < length m
     → plain_words (slice_range bytes start (start + size)) ≡ segment_of m index

@@ -2,6 +2,7 @@
 use Rattle.std.specs.Prelude.{ℕ, ◌^◌, ◌<◌, ◌≡◌, ◌≤◌, ◌↔◌, List}
 use Rattle.cap_spec.specs.Canonical.{layout, trim}
 use Rattle.cap_spec.specs.Denoting.{Denotes}
+use Rattle.cap_spec.specs.GreatestLimits.{most_depth, most_words}
 use Rattle.cap_spec.specs.Tree.{Tree}
 
 -- The root denotes a tree of this depth, within the greatest limits.
@@ -9,8 +10,8 @@ pub record HasTree (m : List (List ℕ)) (depth : ℕ) : Type 0 where
   pub tree : Tree
   pub charge : ℕ
   pub denotes : Denotes m 0 0 tree charge depth
-  pub few : charge ≤ 268435456
-  pub shallow : depth ≤ 256
+  pub few : charge ≤ most_words
+  pub shallow : depth ≤ most_depth
 
 -- P holds of what is left of that tree when it is trimmed
 abbrev pub ForTrimmed : List (List ℕ) → (Tree → Type 0) → Type 0

@@ -5,6 +5,7 @@ use Rattle.cap_spec.specs.Messages.{IsMessage}
 use Rattle.cap_spec.specs.Denoting.{Denotes}
 use Rattle.cap_spec.specs.Tree.{Tree}
 use Rattle.cap_spec.specs.Canonical.{trim}
+use Rattle.cap_spec.specs.GreatestLimits.{most_words}
 use Rattle.cap_canon.specs.CopyRuns.{IsFull, IsRest, places_of, all_places}
 use Rattle.cap_canon.specs.Laying.{Due, AreBefore, size_due}
 use Rattle.cap_canon.specs.Objects.{IsObject}
@@ -14,7 +15,7 @@ use Rattle.cap_canon.specs.declared.run.PointerPlace.{PointerPlace}
 
 -- the words of the longest copy: the root word, and one for each word of the greatest charge
 abbrev pub longest_copy : ℕ
-longest_copy = 268435457
+longest_copy = most_words + 1
 
 -- What is left of the tree that the word denotes, which has n levels fewer than the depth, or fewer still.
 abbrev pub IsOwed : List (List ℕ) → ℕ → ℕ → ℕ → ℕ → Tree → Type 0

@@ -2,6 +2,7 @@
 
 ghost use Rattle.cap_canon.specs.CopyOvers.{MakesEnough, TellsOver};
 ghost use Rattle.cap_spec.specs.Copies.{HasCopy};
+ghost use Rattle.cap_spec.specs.GreatestLimits.{most_words};
 ghost use Rattle.cap_spec.specs.Plain.{plain_words};
 ghost use Rattle.cap_vet.specs.Vettings.{message_of, report_of};
 ghost use Rattle.std.specs.Prelude.{◌*◌, ◌+◌, ◌≡◌, ◌≤◌, ◌↔◌, [], IfErr, IfOk, IsTrue, None, length, take};
@@ -127,7 +128,7 @@ fn make_enough<M: CopySource>(
 
 /// Whether a message with this report has a copy, and every such copy fits into `len` bytes.
 pub(crate) fn fits_any(report: &Report, len: usize) -> bool
-    requires { report.now.charge ≤ 268435456 }
+    requires { report.now.charge ≤ most_words }
     ensures { IsTrue result
         ↔ (report.now.first_cap ≡ None) × (8 * (report.now.charge + 1) ≤ len) }
 {

@@ -23,7 +23,7 @@ use Rattle.cap_run.specs.Filtering.{FiltersStream, PassesOn, TellsIn, WantsInFor
 use Rattle.cap_run.specs.declared.settings.FilterForm.{FilterForm}
 use Rattle.cap_run.specs.Running.{Appended}
 use Rattle.cap_run.specs.Streams.{ReadsToEnd}
-use Rattle.cap_run.specs.Engines.{most_packed_at_once, most_unpacked_at_once, most_words}
+use Rattle.cap_run.specs.Engines.{most_packed_at_once, most_unpacked_at_once, most_transcoded}
 use Rattle.cap_run.specs.Telling.{Tells, TellsEach, TellsSegments, Told, WantsNone, messages_of, outcome_of, texts_of}
 use Rattle.cap_run.proofs.FilterEnds.{reads_whole}
 use Rattle.cap_run.specs.Demanding.{TellsCheckUnder, TellsDumpUnder, TellsExclusiveUnder, TellsGetUnder}
@@ -136,7 +136,7 @@ module _ {S O K : Type 0} (gs : source.Ghosts S) (go : output.Ghosts O) (s : Set
       → TranscodesTo gs go gk text at_once old new before after r
       → TranscodesInput text (gs.words old) (gs.is_cut old) (go.written before) (go.written after)
   all_copied text at_once before after r e p =
-      let k = copied_all gs gk at_once most_words old new p.begun p.ended r e p.puts.copied in
+      let k = copied_all gs gk at_once most_transcoded old new p.begun p.ended r e p.puts.copied in
       let kept = subst (λ (o : Option (List ℕ)). Keeps o (gk.taken p.ended)) (p.begins.empty k.0) k.1.finishes.finished in
       record {
         own = k.0;

@@ -26,7 +26,7 @@ use Rattle.cap_run.specs.Canons.{copies_of}
 use Rattle.cap_run.specs.Demanding.{TellsCheckUnder, TellsDumpUnder, TellsExclusiveUnder}
 use Rattle.cap_run.specs.Demanding.{TellsGetUnder, TellsVerdictUnder, WantsMarksUnder}
 use Rattle.cap_run.specs.Engines.{TranscodesWords, ShowsStream, TellsStream}
-use Rattle.cap_run.specs.Engines.{most_packed_at_once, most_unpacked_at_once, most_words}
+use Rattle.cap_run.specs.Engines.{most_packed_at_once, most_unpacked_at_once, most_transcoded}
 use Rattle.cap_run.specs.Filtering.{FiltersUnder, PassesOn, TellsIn}
 use Rattle.cap_text.specs.FaultLines.{copy_fault_line, run_fault_line}
 use Rattle.cap_run.specs.Telling.{Tells, TellsEach, TellsSegments, Told, WantsNone}
@@ -121,7 +121,7 @@ module _ {S O K : Type 0} (gs : source.Ghosts S) (go : output.Ghosts O) (gk : si
   -- an engine puts words to a sink over an output
   abbrev pub TranscodesTo : (List ℕ → List ℕ) → ℕ → S → S → O → O → Result ℕ CopyFault → Type 0
   TranscodesTo text at_once first last before after answer = PutsTo go gk text before after
-      (λ begun ended. TranscodesWords gs gk at_once most_words first last begun ended answer)
+      (λ begun ended. TranscodesWords gs gk at_once most_transcoded first last begun ended answer)
 
 module _ {E : Type 0} (ge : output.Ghosts E) where
   -- The line of a fault was written, or a prefix of it if this output failed. Without a fault
@@ -258,7 +258,7 @@ pub record TranscodesInput (text : List ℕ → List ℕ) (words : Option (List 
     (before after : Option (List ℕ)) : Type 0 where
   pub own : List ℕ
   pub all : OnSome words ((words ≡ Some own) × (is_cut ≡ false))
-  pub few : length own ≤ most_words
+  pub few : length own ≤ most_transcoded
   pub appended : Appends before after (text own)
 
 -- What a task with the status of success wrote of all words, by the task.

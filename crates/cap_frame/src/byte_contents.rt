@@ -1,6 +1,7 @@
 //! Reading the words of a message into one buffer of bytes.
 
 ghost use Rattle.cap_frame.specs.Taking.{IsUsable, ReadsInput, Stops, Takes};
+ghost use Rattle.cap_spec.specs.GreatestLimits.{most_words};
 ghost use Rattle.cap_spec.specs.Plain.{plain_words};
 ghost use Rattle.std.specs.Prelude.{◌%◌, ◌*◌, ◌+◌, ◌++◌, ◌-◌, ◌/◌, ◌<◌, ◌≡◌, ◌≤◌, [], ◌∷◌, IfErr, List, OnErr, OnOk, false, length, sum, take, ℕ};
 ghost use Rattle.std.specs.Vec.{vec_capacity, vec_len};
@@ -123,7 +124,7 @@ pub(crate) fn read_bytes<S: WordSource>(
     bytes: &mut Vec<u8>,
 ) -> Result<(), SourceFault>
     requires usable { S.spent source.old ≡ false }
-    requires small { words ≤ 268435456 }
+    requires small { words ≤ most_words }
     requires room { 8 * words ≤ vec_capacity bytes.old }
     ensures ok { OnOk result (Takes S.WordSource source.old source.new
         (plain_words (take (8 * words) bytes.new.items))) }

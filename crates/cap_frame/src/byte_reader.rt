@@ -4,6 +4,7 @@ ghost use Rattle.cap_frame.specs.Bytes.{cut};
 ghost use Rattle.cap_frame.specs.HeldBytes.{held_segments, room_in};
 ghost use Rattle.cap_frame.specs.Limit.{limit_of};
 ghost use Rattle.cap_frame.specs.Reading.{IsResult, LacksMemory, ReadsFrame, has_message};
+ghost use Rattle.cap_spec.specs.GreatestLimits.{most_words};
 ghost use Rattle.std.specs.Prelude.{◌*◌, ◌≡◌, ◌≤◌, [], ◌∷◌, IsErrOf, length, sum, true};
 ghost use Rattle.std.specs.Vec.{vec_capacity, vec_len};
 
@@ -29,7 +30,7 @@ fn read_parts<S: WordSource>(
         (limit_of limit) source.old source.new result }
     ensures some { result ≡ Ok true → 1 ≤ length sizes.new.items }
     ensures few { result ≡ Ok true → length sizes.new.items ≤ 512 }
-    ensures small { result ≡ Ok true → sum sizes.new.items ≤ 268435456 }
+    ensures small { result ≡ Ok true → sum sizes.new.items ≤ most_words }
     ensures inside { result ≡ Ok true → 8 * sum sizes.new.items ≤ vec_len bytes.new }
     ensures memory { IsErrOf result FrameFault.Memory → LacksMemory S.WordSource (limit_of limit)
         (vec_capacity bytes.old) source.old source.new }

@@ -3,6 +3,7 @@
 ghost use Rattle.cap_frame.specs.Bytes.{starts_of};
 ghost use Rattle.cap_frame.specs.Fronts.{sizes_told, table_words};
 ghost use Rattle.cap_spec.specs.Frames.{joined, sizes_of};
+ghost use Rattle.cap_spec.specs.GreatestLimits.{most_words};
 ghost use Rattle.cap_spec.specs.Plain.{plain_text, plain_words};
 ghost use Rattle.std.specs.Prelude.{◌*◌, ◌+◌, ◌≡◌, ◌≤◌, ◌↔◌, IfSome, IsSome, length, sum};
 
@@ -25,7 +26,7 @@ pub struct Framed<'b> {
     ghost some: { 1 ≤ count },
     ghost few: { count ≤ 512 },
     ghost total: { words ≡ sum (sizes_told count (plain_words bytes.now)) },
-    ghost small: { words ≤ 268435456 },
+    ghost small: { words ≤ most_words },
     ghost inside: { 8 * (table_words count + words) ≤ length bytes.now },
 }
 
@@ -44,7 +45,7 @@ impl<'b> Framed<'b> {
     #[inline]
     pub fn words(&self) -> u64
         ensures total { result ≡ sum (sizes_of (framed_segments self.now)) }
-        ensures most { result ≤ 268435456 }
+        ensures most { result ≤ most_words }
     {
         self.words
     }

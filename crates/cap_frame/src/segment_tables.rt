@@ -1,6 +1,7 @@
 //! Tables of the segments of a message: their sizes, and where each starts.
 
 ghost use Rattle.cap_frame.specs.Bytes.{starts_of};
+ghost use Rattle.cap_spec.specs.GreatestLimits.{most_words};
 ghost use Rattle.std.specs.Prelude.{◌≡◌, ◌≤◌, [], length, sum};
 
 use crate::table::Sizes;
@@ -33,7 +34,7 @@ impl SegmentTables {
 /// Where segments of these sizes start, one after the other.
 pub(crate) fn fill_starts(sizes: &[u32], starts: &mut Starts)
     requires few { length sizes.now ≤ 512 }
-    requires small { sum sizes.now ≤ 268435456 }
+    requires small { sum sizes.now ≤ most_words }
     ensures { starts.new.items ≡ starts_of 0 sizes.now }
 {
     starts.clear();

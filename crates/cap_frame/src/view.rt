@@ -1,6 +1,7 @@
 //! Messages whose bytes are borrowed.
 
 ghost use Rattle.cap_frame.specs.Bytes.{cut, starts_of};
+ghost use Rattle.cap_spec.specs.GreatestLimits.{most_words};
 ghost use Rattle.cap_spec.specs.Messages.{IsMessage, segment_of};
 ghost use Rattle.cap_spec.specs.Plain.{plain_text, plain_words};
 ghost use Rattle.std.proofs.Props.{props};
@@ -52,7 +53,7 @@ impl<'b> ByteView<'b> {
     #[inline]
     pub fn of_words(bytes: &'b [u8], size: &'b mut [u32; 1]) -> Option<ByteView<'b>>
         ensures some { IsSome result
-            ↔ (length bytes.now % 8 ≡ 0) × (length bytes.now ≤ 8 * 268435456) }
+            ↔ (length bytes.now % 8 ≡ 0) × (length bytes.now ≤ 8 * most_words) }
         ensures segments { let of = ⟦<ByteView<'b> as Segments>⟧.segments in
             IfSome result (λ v. of v ≡ plain_words bytes.now ∷ []) }
     {

@@ -22,8 +22,8 @@ use Rattle.cap_text.specs.declared.fault.RunFault.{RunFault}
 use Rattle.cap_run.specs.declared.settings.Outcome.{Outcome}
 
 -- the most words that the program packs or unpacks
-abbrev pub most_words : ℕ
-most_words = 2 ^ 40
+abbrev pub most_transcoded : ℕ
+most_transcoded = 2 ^ 40
 
 -- the most words that are put to a packer in one call
 abbrev pub most_packed_at_once : ℕ

@@ -1,17 +1,18 @@
 -- What a node of an accepted message keeps (profile).
 use Rattle.std.specs.Prelude.{ℕ, ◌≤◌, List}
 use Rattle.cap_spec.specs.Denoting.{Denotes}
+use Rattle.cap_spec.specs.GreatestLimits.{most_depth}
 use Rattle.cap_spec.specs.Paths.{Comes, Spot}
 use Rattle.cap_spec.specs.Tree.{Tree}
 use Rattle.cap_spec.specs.declared.Step.{Step}
 
--- The root denotes a tree of at most 256 levels, and a path from it comes to the spot.
+-- The root denotes a tree within the greatest depth, and a path from it comes to the spot.
 pub record IsNode (m : List (List ℕ)) (spot : Spot) : Type 0 where
   pub tree : Tree
   pub charge : ℕ
   pub depth : ℕ
   pub denotes : Denotes m 0 0 tree charge depth
-  pub shallow : depth ≤ 256
+  pub shallow : depth ≤ most_depth
   pub path : List Step
   pub level : ℕ
   pub comes : Comes m path level spot

@@ -2,6 +2,7 @@
 use Rattle.std.specs.Prelude.{ℕ, ◌+◌, ◌≤◌, ◌≡◌, List, Option, None, Some}
 use Rattle.cap_spec.specs.Following.{Leads, to_cap}
 use Rattle.cap_spec.specs.Denoting.{Denotes}
+use Rattle.cap_spec.specs.GreatestLimits.{most_depth, most_words}
 use Rattle.cap_spec.specs.Paths.{IsFirstCap, Reaches}
 use Rattle.cap_spec.specs.Tree.{Tree, pointer_count, cap_count}
 use Rattle.cap_spec.specs.declared.Step.{Step}
@@ -28,4 +29,4 @@ IsAccepted m words depth r = (t : Tree) × IsReport m words depth r t
 
 -- the same within the greatest limits that a walk may have
 abbrev pub IsVetted : List (List ℕ) → Report → Type 0
-IsVetted m r = IsAccepted m 268435456 256 r
+IsVetted m r = IsAccepted m most_words most_depth r

@@ -1,5 +1,6 @@
 //! The limits of a walk through a message.
 
+ghost use Rattle.cap_spec.specs.GreatestLimits.{most_depth, most_words};
 ghost use Rattle.std.specs.Prelude.{◌≡◌, ◌≤◌, ◌↔◌, IfSome, IsSome, min};
 
 /// The most words that a word limit may have.
@@ -14,8 +15,8 @@ const MOST_DEPTH: u32 = 256;
 pub struct Limits {
     words: u64,
     depth: u32,
-    ghost few: { words ≤ 268435456 },
-    ghost shallow: { depth ≤ 256 },
+    ghost few: { words ≤ most_words },
+    ghost shallow: { depth ≤ most_depth },
 }
 
 impl Limits {
@@ -24,7 +25,7 @@ impl Limits {
     /// Limits of `words` words and `depth` levels, or `None` for more than 268435456 words or more
     /// than 256 levels.
     pub fn new(words: u64, depth: u32) -> Option<Limits>
-        ensures some { IsSome result ↔ ((words ≤ 268435456) × (depth ≤ 256)) }
+        ensures some { IsSome result ↔ ((words ≤ most_words) × (depth ≤ most_depth)) }
         ensures holds { IfSome result (λ limits.
             (words_of limits ≡ words) × (depth_of limits ≡ depth)) }
     {
@@ -37,7 +38,7 @@ impl Limits {
     /// How many words a walk may be charged, at most 268435456.
     pub fn words(&self) -> u64
         ensures value { result ≡ words_of self.now }
-        ensures few { result ≤ 268435456 }
+        ensures few { result ≤ most_words }
     {
         self.words
     }
@@ -45,15 +46,15 @@ impl Limits {
     /// The deepest level that an object may have, at most 256.
     pub fn depth(&self) -> u32
         ensures value { result ≡ depth_of self.now }
-        ensures shallow { result ≤ 256 }
+        ensures shallow { result ≤ most_depth }
     {
         self.depth
     }
 
     /// Limits of the most words and of the deepest level that limits may have.
     pub(crate) fn greatest() -> Limits
-        ensures words { words_of result ≡ 268435456 }
-        ensures depth { depth_of result ≡ 256 }
+        ensures words { words_of result ≡ most_words }
+        ensures depth { depth_of result ≡ most_depth }
     {
         Limits {
             words: MOST_WORDS,

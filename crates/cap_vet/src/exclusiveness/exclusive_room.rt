@@ -3,6 +3,7 @@
 
 ghost use Rattle.cap_spec.specs.Occupying.{IsDisjoint, empty_count};
 ghost use Rattle.cap_spec.specs.Frames.{sizes_of};
+ghost use Rattle.cap_spec.specs.GreatestLimits.{most_depth, most_words};
 ghost use Rattle.cap_spec.specs.Tree.{Tree};
 ghost use Rattle.cap_spec.specs.declared.Refusal.{Refusal};
 ghost use Rattle.cap_vet.specs.Exclusives.{IsExclusiveFault, KeepsRoom, OverlapsFirst, vetted_of};
@@ -114,14 +115,14 @@ impl<'m, M: Segments> Vetted<'m, M> {
             IfOk result (λ e. IsDisjoint m × (marks_of m ≤ length marks.old)) }
         ensures value { IfOk result (λ e. vetted_of e ≡ self.entry) }
         ensures err { let m = M.segments (message_of self.entry) in
-            IfErr result (IsExclusiveFault m 268435456 256 (length marks.old)) }
+            IfErr result (IsExclusiveFault m most_words most_depth (length marks.old)) }
         ensures not_refused { (r : Refusal) → ¬ IsErrOf result (ExclusiveFault.Refused r) }
 
         // The other direction.
         ensures accepts { let m = M.segments (message_of self.entry) in
             IsDisjoint m → marks_of m ≤ length marks.old → IsOk result }
         ensures refuses { let m = M.segments (message_of self.entry) in (fault : ExclusiveFault) →
-            IsExclusiveFault m 268435456 256 (length marks.old) fault → result ≡ Err fault }
+            IsExclusiveFault m most_words most_depth (length marks.old) fault → result ≡ Err fault }
 
         // The numbers of the buffer after the call.
         ensures rest { let n = marks_of (M.segments (message_of self.entry)) in

@@ -1,5 +1,6 @@
 //! A message without the forms that common readers reject.
 
+ghost use Rattle.cap_spec.specs.GreatestLimits.{most_depth, most_words};
 ghost use Rattle.cap_spec.specs.Strict.{IsStrict};
 ghost use Rattle.cap_vet.specs.Vettings.{message_of};
 ghost use Rattle.std.specs.Prelude.{◌≡◌, ⊤};
@@ -13,7 +14,7 @@ use std::alloc::AllocError;
 /// a segment without words (profile).
 pub struct Strict<'m, M: Segments> {
     pub(crate) vetted: Vetted<'m, M>,
-    ghost strict: { ∥ IsStrict (M.segments (message_of vetted)) 268435456 256 ∥₁ },
+    ghost strict: { ∥ IsStrict (M.segments (message_of vetted)) most_words most_depth ∥₁ },
 }
 
 impl<'m, M: Segments> Clone for Strict<'m, M> {
@@ -34,7 +35,7 @@ impl<'m, M: Segments> Strict<'m, M> {
     /// The accepted message, as `vet` gives it.
     pub fn into_vetted(self) -> Vetted<'m, M>
         ensures value { result ≡ vetted_of self.entry }
-        ensures strict { IsStrict (M.segments (message_of result)) 268435456 256 }
+        ensures strict { IsStrict (M.segments (message_of result)) most_words most_depth }
     {
         self.vetted
     }
