@@ -71,11 +71,7 @@ fn canon_over<S: WordSource, O: ByteOut, E: ByteOut>(
 }
 
 /// Packs words to an output, and returns the exit status and the output.
-fn pack_over<S: WordSource, O: ByteOut, E: ByteOut>(
-    source: &mut S,
-    out: O,
-    err: &mut E,
-) -> (u8, O)
+fn pack_over<S: WordSource, O: ByteOut, E: ByteOut>(source: &mut S, out: O, err: &mut E) -> (u8, O)
     ensures { TranscodesTask S.WordSource O.ByteOut E.ByteOut ⟦<Packer<O> as WordSink>⟧ pack_text
         most_packed_at_once source.old out result.1 err.old err.new result.0 }
 {

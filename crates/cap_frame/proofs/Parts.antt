@@ -1,7 +1,6 @@
 -- The bytes of some words of a segment, where the segments stand one behind the other.
 use Rattle.std.proofs.Common.{◌≡◌, inl, inr, ℕ, ◌+◌, ◌-◌, ◌*◌, ◌<◌, ◌≤◌, List, [], length, drop, take, sum, get_or}
-use Rattle.std.proofs.Common.{slice_range, ◌++◌, Fits, w8, sym, ap, ◌∙◌, arith, append-nil}
-use Rattle.std.specs.List.{AllByRecursion}
+use Rattle.std.proofs.Common.{slice_range, ◌++◌, Fits, w8, sym, ap, ◌∙◌, arith}
 use Rattle.std.proofs.lemmas.List.{drop-drop, drop-take, drop_all, length-drop, length-take-le, take-append-drop, take-take, take_all}
 use Rattle.cap_frame.specs.Bytes.{cut, starts_of}
 use Rattle.cap_frame.proofs.Cuts.{cut_at, cut_length, cut_words, front_sum, start_is, words_inside}

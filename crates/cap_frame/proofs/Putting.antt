@@ -1,5 +1,5 @@
 -- Words put to a sink in several calls.
-use Rattle.std.proofs.Common.{◌≡◌, ◌∙◌, ℕ, zero, suc, ◌+◌, ◌*◌, ◌/◌, ◌^◌, ◌<◌, true, false, Some}
+use Rattle.std.proofs.Common.{◌≡◌, ◌∙◌, ℕ, zero, suc, ◌+◌, ◌*◌, ◌/◌, ◌^◌, ◌<◌, true, false}
 use Rattle.std.proofs.Common.{Result, Err, List, [], ◌∷◌, ◌++◌, length, drop, get_or, refl, sym, ap}
 use Rattle.std.proofs.Common.{subst, arith, append_assoc, append-nil}
 use Rattle.std.proofs.Math.Seq.{drop-cons}

@@ -4,7 +4,7 @@ use Rattle.std.proofs.Common.{length, take, drop, set, get_or, min, refl, sym, a
 use Rattle.std.proofs.Common.{drop-drop, length-append, length-drop, length-set, take-append-drop}
 use Rattle.std.specs.Prelude.{◌==◌, filter, nat_le, not}
 use Rattle.std.proofs.lemmas.Bool.{ne_eqb}
-use Rattle.std.proofs.lemmas.List.{drop_all, length-take-le, take_all, take_at, take_rest}
+use Rattle.std.proofs.lemmas.List.{drop_all, length-take-le, take_at, take_rest}
 use Rattle.std.proofs.lemmas.Slice.{drop-put_mid, take-put_mid}
 use Rattle.std.specs.List.{AllByRecursion}
 use Rattle.byteorder.specs.Endian.{little_number}

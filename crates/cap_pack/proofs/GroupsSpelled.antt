@@ -1,10 +1,10 @@
 -- The groups of a piece of words: which words a run takes from the front of others, and what spells it.
-use Rattle.std.proofs.Common.{◌≡◌, ◌≢◌, ℕ, zero, suc, ◌+◌, ◌-◌, ◌≤◌, ◌<◌, cond, eqb, leb, get_or, ⊎_elim, drop-drop}
+use Rattle.std.proofs.Common.{◌≡◌, ◌≢◌, ℕ, zero, suc, ◌+◌, ◌-◌, ◌≤◌, ◌<◌, cond, leb, get_or, ⊎_elim, drop-drop}
 use Rattle.std.proofs.Common.{Bool, true, false, List, [], ◌∷◌, ◌++◌, length, take, drop, replicate, refl, ap, sym}
 use Rattle.std.proofs.Common.{subst, ◌∙◌, arith, append-nil, append_assoc, length-drop, length-append, take-append-drop}
 use Rattle.std.specs.Prelude.{◌==◌, filter, not}
 use Rattle.std.specs.List.{prefix_len}
-use Rattle.std.proofs.lemmas.Bool.{cases_lt, eqb-true}
+use Rattle.std.proofs.lemmas.Bool.{cases_lt}
 use Rattle.std.proofs.lemmas.List.{drop_more, length-replicate, length-take-le, replicate-append-replicate, take_all, take_rest}
 use Rattle.cap_spec.specs.Plain.{word_bytes, plain_text}
 use Rattle.cap_spec.specs.Packing.{zero_bytes, zero_run, full_run, tag_of, group_size, pack_text}

@@ -37,8 +37,10 @@ module _ (f g : List ℕ → Course) (w to : ℕ) (bs : List ℕ) (step : (ys : 
       × (course_places (f (unwrap_or a [])) ≡ to ∷ course_places (g (unwrap_or b []))))
   given_rest None b p = tt
   given_rest (Some x) None p = absurd p
-  given_rest (Some x) (Some y) p = (sym (ap (λ l. course_is_cut (f l)) p ∙ ap course_is_cut (step y)),
-      ap (λ l. course_places (f l)) p ∙ ap course_places (step y))
+  given_rest (Some x) (Some y) p = (
+    sym (ap (λ l. course_is_cut (f l)) p ∙ ap course_is_cut (step y)),
+    ap (λ l. course_places (f l)) p ∙ ap course_places (step y),
+  )
 
 -- these were the last bytes
 all_taken : (x y bs : List ℕ) → x ≡ bs ++ y → y ≡ [] → x ≡ bs

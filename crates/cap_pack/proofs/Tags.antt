@@ -1,11 +1,10 @@
 -- The tags of words, as the bits of one comparison of all their bytes.
-use Rattle.std.proofs.Common.{◌≡◌, ℕ, suc, ◌+◌, ◌*◌, ◌/◌, ◌%◌, ◌^◌, ◌<◌, eqb, cond, not, Bool, true, false, List, []}
+use Rattle.std.proofs.Common.{◌≡◌, ℕ, suc, ◌+◌, ◌*◌, ◌/◌, ◌%◌, ◌<◌, eqb, cond, not, Bool, true, false, List, []}
 use Rattle.std.proofs.Common.{◌∷◌, ◌++◌, length, map, take, ◌≤◌, replicate, refl, sym, ap, subst, ◌∙◌, arith, w8}
 use Rattle.std.specs.Prelude.{◌==◌, if◌then◌else◌}
 use Rattle.std.specs.List.{flat_map, AllByRecursion}
 use Rattle.std.specs.Simd.Lanes.{Each1, zip2, top, mask_l, number_l, digits_l, chunk, put_chunk}
 use Rattle.std.specs.Int.{byte_at}
-use Rattle.std.proofs.Math.Nat.{pow-succ'}
 use Rattle.std.proofs.lemmas.List.{length-map, map-append}
 use Rattle.std.proofs.Math.Seq.{take-add}
 use Rattle.std.proofs.lemmas.Simd.{bitmask_splat, length-chunk, take_more_put_chunk}

@@ -21,8 +21,11 @@ pub record Tells (c : Course) (ws : List ℕ) (u : Bool) (ps : List ℕ) : Type 
   pub ends : course_places c ≡ ps
 
 tells_along : {c d : Course} {ws vs : List ℕ} {u v : Bool} {ps qs : List ℕ} → c ≡ d → ws ≡ vs → u ≡ v → ps ≡ qs → Tells d vs v qs → Tells c ws u ps
-tells_along e f g h t = record { words = ap course_words e ∙ t.words ∙ sym f; cut = ap course_is_cut e ∙ t.cut ∙ sym g;
-    ends = ap course_places e ∙ t.ends ∙ sym h }
+tells_along e f g h t = record {
+  words = ap course_words e ∙ t.words ∙ sym f;
+  cut = ap course_is_cut e ∙ t.cut ∙ sym g;
+  ends = ap course_places e ∙ t.ends ∙ sym h;
+}
 
 tells_one : {c : Course} {ws : List ℕ} {u : Bool} {ps : List ℕ} (x at : ℕ) → Tells c ws u ps → Tells (gives x at c) (x ∷ ws) u (at ∷ ps)
 tells_one x at t = record { words = ap (λ l. x ∷ l) t.words; cut = t.cut; ends = ap (λ l. at ∷ l) t.ends }

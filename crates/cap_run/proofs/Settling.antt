@@ -82,7 +82,7 @@ module _ {S : Type 0} (gs : source.Ghosts S) (limit : ℕ) (old mid new : S) (re
   reads_next m w s reads last =
       let front = reads_front w s reads in
       let there = known_still front.0 last.own (gs.words new) (subst (λ (o : Option (List ℕ)). Consumes o (gs.words new) last.own) front.1
-          last.takes.consumed) in
+      last.takes.consumed) in
       let next = stream_front last.own there.0 (m ∷ []) front.2.0 last.stream (subst (λ (ws : List ℕ). Stream ws front.2.0) there.2 front.2.2) in
       (next.0, front.2.1 ∙ ap (λ (xs : List (List (List ℕ))). read ++ xs) next.1)
 
