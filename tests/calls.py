@@ -41,6 +41,7 @@ from pathlib import Path
 
 import flags
 import header
+import messages
 import nodes
 import ranges
 import strict
@@ -191,11 +192,12 @@ def made_up(chance):
 
 
 def streams(chance):
-    """What is compared: the samples, messages that use a word twice or nearly so, the fronts of one sample, lies in
-    tables, and many messages."""
+    """What is compared: the samples, messages that use a word twice or nearly so, those of messages.py, the fronts of one
+    sample, lies in tables, and many messages."""
     whole = samples()
     yield b"".join(whole)
     yield b"".join([*(bytes.fromhex(stream) for stream, _ in tables.USED_TWICE), *tables.two_lists()])
+    yield b"".join(messages.each())
     small = min(whole, key=len)
     for end in range(len(small) + 1):
         yield whole[0] + small[:end]

@@ -93,20 +93,31 @@ PAD_TWICE = "0000000004000000 0000000000000200 1a00000000000000 1a00000000000000
 STRUCT_TWICE_AND_PAD = ("0000000006000000 0000000000000300 0800000001000000 0400000001000000 2a00000000000000 "
                         "2a00000000000000 0000000000000000")
 CAPABILITY_AND_PAD = "0000000004000000 0000000000000200 0300000005000000 1a00000000000000 0000000000000000"
-# 512 segments: of a cycle, and of a pad of zeros.
+PAD_AND_CYCLE = ("0100000003000000 0100000000000000 0000000000000200 0200000001000000 f8ffffff00000200 "
+                 "0000000000000000")
+# 512 segments: of a struct that isn't inside, of no root, of a cycle, and of a pad of zeros. And 511 with such a pad.
+MANY_AND_OUTSIDE = MANY_SEGMENTS[:-16] + "0000000001000000"
+MANY_AND_NO_ROOT = MANY_SEGMENTS.replace("01000000", "00000000", 1)[:-16]
 MANY_AND_CYCLE = MANY_SEGMENTS[:-16] + "fcffffff00000100"
 MANY_AND_PAD = MANY_SEGMENTS.replace("01000000", "02000000", 1)[:-16] + "0a00000000000000 0000000000000000"
+MOST_AND_PAD = many(511).hex().replace("01000000", "02000000", 1)[:-16] + "0a00000000000000 0000000000000000"
 
 # What comes first where several faults are there.
 ORDER = (
     # a refusal before each construct
     *refused("--strict", PAD_AND_RESERVED, "Reserved at 0:2 pointers 3"),
     *refused("--strict", MANY_AND_CYCLE, "DepthLimit at 0:0 pointers 65"),
+    *refused("--strict", MANY_AND_OUTSIDE, "OutOfSegment at 0:0 pointers 1"),
+    *refused("--strict", MANY_AND_NO_ROOT, "NoRoot at 0:0 pointers 0"),
+    *refused("--strict", "0000000000000000", "NoRoot at 0:0 pointers 0"),
+    *refused("--strict", "0000000001000000 0700000005000000", "Reserved at 0:0 pointers 1"),
+    *refused("--strict", PAD_AND_CYCLE, "DepthLimit at 0:2 pointers 129"),
     *refused("--strict --words 0", NULL_PAD, "WordLimit at 0:0 pointers 1"),
     *refused("--strict --words 1", EMPTY_SEGMENT, "WordLimit at 0:0 pointers 1"),
     *refused("--strict --depth 0", EMPTY_SEGMENT, "DepthLimit at 0:0 pointers 1"),
     # 512 segments before a pointer
     *refused("--strict", MANY_AND_PAD, "ManySegments at 0:0 pointers 0"),
+    *refused("--strict", MOST_AND_PAD, "NullPad at 0:0 pointers 1"),
     # the first of two pointers
     *refused("--strict", PAD_TWICE, "NullPad at 0:1 pointers 2"),
     # the pointer before words that are used twice: here, and before it in preorder

@@ -11,7 +11,7 @@ from pathlib import Path
 
 import model
 import strict
-from model import (AMPLIFIED, ANSWERS, CANONICAL, EXCLUSIVE, FIELDS, NO_TABLE, NONSTRICT, SEGMENT_AT, SLACK, VET,
+from model import (AMPLIFIED, ANSWERS, CANONICAL, EXCLUSIVE, FIELDS, FRAME, NO_TABLE, NONSTRICT, SEGMENT_AT, SLACK, VET,
                    VET_SEGMENTS, Limits)
 
 MANY = 20_000
@@ -74,6 +74,11 @@ CYCLE = framed([0x00010000FFFFFFFC])
 SHARED = framed([2 << 48, 4 | 1 << 32, 1 << 32, 7])
 OTHERS = ((CYCLE, "DEPTH_LIMIT"), (SHARED, "OVERLAP"), (framed([0]), "OK"), (framed([]), "NO_ROOT"), (b"", "NO_MESSAGE"),
           (struct.pack("<II", 512, 0), "TOO_MANY_SEGMENTS"))
+# The first bytes of a message, and how many of them are needed where these are too few. A message of one segment with a word
+# after it, one of two segments with padding, and the table of 512 segments.
+ONE, TWO = framed([7, 8, 9]) + bytes(8), struct.pack("<IIII3Q", 1, 1, 2, 0xEEEEEEEE, 7, 8, 9)
+FRONTS = ((ONE[:0], 8), (ONE[:1], 8), (ONE[:7], 8), (ONE[:8], 32), (ONE[:31], 32), (ONE[:32], 0), (ONE, 0), (TWO[:8], 16),
+          (TWO[:15], 16), (TWO[:16], 40), (TWO[:39], 40), (TWO, 0), (struct.pack("<II", 511, 0), 2056))
 NOT_STRICT = [(bytes.fromhex(text), fault) for text, fault in strict.CASES] + [
     (strict.many(511), None), (strict.many(512), ("MANY_SEGMENTS", 0, 0, 0))]
 
@@ -90,6 +95,9 @@ def are_as_named(told):
         _, _, report, _ = model.called(VET, message, Limits(flags=AMPLIFIED), 0)
         words = (len(message) - len(framed(*[[]] * report[7]))) // 8
         told(f"the charge of {message[:40].hex()}", report[3] == words + SLACK + past, f"{report[3]} of {words} words")
+    for front, needed in FRONTS:
+        answer, _, report, _ = model.called(FRAME, front, Limits(), 0)
+        told(f"the bytes needed of {front.hex()}", (answer == 0, report[1]) == (needed == 0, needed), f"{answer} {report}")
     for message, name in OTHERS:
         told(f"the answer for {message.hex()}", model.called(EXCLUSIVE, message, Limits(), 1)[0] == ANSWERS[name])
 
@@ -98,7 +106,7 @@ def requests(small, made_up, changed, chance):
     """Calls, each with its input, its limits and the size of its output buffer."""
     known = [message for message, _ in NOT_STRICT]
     bound = [message for _, message in amplified()]
-    for message in (*small, *known, *bound, *(message for message, _ in OTHERS)):
+    for message in (*small, *known, *bound, *(message for message, _ in OTHERS), *(front for front, _ in FRONTS)):
         for flags in range(16):
             for call in range(len(CALLS)):
                 if flags & NO_TABLE:

@@ -24,6 +24,7 @@ from pathlib import Path
 
 import demands
 import filtering
+import messages
 import tables
 from helps import HELPS
 from packing import packed
@@ -420,6 +421,26 @@ for stream, copy, is_canonical in tables.COPIES:
         ("check", stream, said, "", 0 if is_canonical else 1),
         ("check", copy, "message 0: canonical\n", "", 0),
     ], also_packed=True)
+
+
+def known_messages():
+    """The messages of messages.py: their verdicts, canonical copies and nodes."""
+    for digits, verdicts in messages.VERDICTS:
+        for options, said in verdicts.items():
+            case(f"vet {options}", f"message 0: {said}\n", status=int(said.startswith("refused")), stdin=messages.framed(digits))
+    for message, copy in messages.copies():
+        for given in message, copy:
+            said = "canonical" if given == copy else "not canonical"
+            case("canon --words 268435456 --depth 256", copy, stdin=given)
+            case("check --words 268435456 --depth 256", f"message 0: {said}\n", status=int(given != copy), stdin=given)
+    for digits, place in messages.CAPABILITIES:
+        case("canon", err=f"capvet: message 0: HasCapability at {place}\n", status=1, stdin=messages.framed(digits))
+    for digits, nodes in messages.NODES:
+        for path, text in nodes.items():
+            case(f"get {path}", f"message 0: found\nnode {text}" if text else "message 0: none\n", stdin=messages.framed(digits))
+
+
+known_messages()
 for plain, text in tables.SPELLINGS:
     rows([("pack", plain, word(text), "", 0), ("unpack", text, word(plain), "", 0)])
 for stream, line in tables.TOO_LARGE:

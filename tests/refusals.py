@@ -93,6 +93,8 @@ with tempfile.TemporaryDirectory() as folder:
     for command in ("vet", "vet --exclusive", "filter", "filter --exclusive", "dump", "get /p1", "check", "canon"):
         first, _ = run(command.split(), NULL, refusing, 0)
         expect(command, NULL + SHARED, refusing, (b"", first[0]))
+    first, _ = run(["vet"], NULL, refusing, 0)
+    expect("vet --packed", PACKED, refusing, (b"", first[0]))
     expect("vet examples/contacts.bin", b"", refusing, (b"",))
     # These hold nothing of a message, or read none.
     expect("segments", NULL + SHARED, refusing)
