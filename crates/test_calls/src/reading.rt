@@ -1,46 +1,62 @@
 //! A message that is read at a path.
 
-use crate::same::{same, same_of};
-use cap_frame::{SegmentTables, SizeLimit, WordMessage, front_of};
+use super::held::message;
+use crate::same::same_of;
+use cap_frame::{ByteView, SegmentTables, Segments, SizeLimit, front_of};
 use cap_read::{read, read_bytes};
 use cap_vet::{Kind, Limits, Place, Reason, Step};
 use std::alloc::{AllocError, Global};
 use std::process::Abort;
 use std::test::Fail;
 
+// The charge and the depth of a message, and the kind and the place of what is at a path. Or the word of a
+// refusal, and why.
+type Read = Result<(u64, u32, Option<Kind>, Option<Place>), (u32, Reason)>;
+
+fn read_at<M: Segments>(message: &M, limits: Limits, path: &[Step]) -> Read {
+    match read(message, limits, path) {
+        Ok(reading) => {
+            let report = reading.report;
+            let kind = reading.view.map(|view| view.kind());
+            Ok((report.charge, report.depth, kind, reading.place))
+        }
+        Err(refusal) => Err((refusal.word, refusal.reason)),
+    }
+}
+
+// A far pointer to a landing pad of one word, and a struct of one data word after it.
+const APART: &[&[u64]] = &[&[0x0200000001000000], &[0x0000000001000000, 42]];
+
+// A word limit, a path, and what is read there.
+static READ: [(u64, &[Step], Read); 3] = [
+    (
+        2,
+        &[],
+        Ok((
+            2,
+            1,
+            Some(Kind::Struct {
+                data_words: 1,
+                pointers: 0,
+            }),
+            Some(Place {
+                segment: 1,
+                start: 1,
+                words: 1,
+            }),
+        )),
+    ),
+    (2, &[Step::Ptr(0)], Ok((2, 1, None, None))),
+    (1, &[], Err((0, Reason::WordLimit))),
+];
+
 #[test]
 fn a_struct_in_another_segment(rt: HostRuntime) -> Result<(), Fail> {
-    let alloc = rt.alloc();
-    // A far pointer to a landing pad of one word, and a struct of one data word after it.
-    let mut segments = Vec::new(alloc);
-    segments.push(vec![in alloc; 0x0000000100000002]?)?;
-    segments.push(vec![in alloc; 0x0000000100000000, 42]?)?;
-    let message = WordMessage::new(segments).ok_or("no message")?;
-    let limits = Limits::new(2, 1).ok_or("no limits")?;
-    let Ok(reading) = read(&message, limits, &[]) else {
-        return Err("refused".into());
-    };
-    same(&rt, (reading.report.charge, reading.report.depth), (2, 1));
-    let kind = Kind::Struct {
-        data_words: 1,
-        pointers: 0,
-    };
-    same(&rt, reading.view.ok_or("no node")?.kind(), kind);
-    let place = Place {
-        segment: 1,
-        start: 1,
-        words: 1,
-    };
-    same(&rt, reading.place, Some(place));
-    let Ok(nothing) = read(&message, limits, &[Step::Ptr(0)]) else {
-        return Err("refused".into());
-    };
-    assert!(rt; nothing.view.is_none() && nothing.place.is_none());
-    let none = Limits::new(1, 1).ok_or("no limits")?;
-    let Err(refusal) = read(&message, none, &[]) else {
-        return Err("accepted".into());
-    };
-    same(&rt, (refusal.word, refusal.reason), (0, Reason::WordLimit));
+    let held = message(rt.alloc(), APART)?;
+    for (most, path, wanted) in &READ {
+        let limits = Limits::new(*most, 1).ok_or("no limits")?;
+        same_of(&rt, most, read_at(&held, limits, *path), *wanted);
+    }
     Ok(())
 }
 
@@ -60,43 +76,36 @@ fn spelled(alloc: Global, words: &[u64]) -> Result<Vec<u8>, AllocError> {
     Ok(bytes)
 }
 
-// Each path of a framed message leads to the bytes of these words, or has this refusal.
+// The bytes at a path, or the word of a refusal, and why.
+fn bytes_at<'b>(
+    message: &ByteView<'b>,
+    limits: Limits,
+    path: &[Step],
+) -> Result<&'b [u8], (u32, Reason)> {
+    match read_bytes(message, limits, path) {
+        Ok(bytes) => Ok(bytes),
+        Err(refusal) => Err((refusal.word, refusal.reason)),
+    }
+}
+
+// A path of a message leads to the bytes of these words, or has this refusal.
 fn has_bytes(
     rt: &impl Abort,
     alloc: Global,
-    frame: &[u8],
-    most: u64,
-    wanted: &[(&[Step], Wanted)],
+    message: &ByteView<'_>,
+    limits: Limits,
+    path: &[Step],
+    wanted: Wanted,
 ) -> Result<(), Fail> {
-    let size = SizeLimit::new(9).ok_or("no limit")?;
-    let Ok(Some(framed)) = front_of(frame, size) else {
-        return Err("no message".into());
-    };
-    let mut tables = SegmentTables::new();
-    let message = framed.view(&mut tables);
-    let limits = Limits::new(most, 10).ok_or("no limits")?;
-    for (path, words) in wanted {
-        match (read_bytes(&message, limits, path), *words) {
-            (Ok(bytes), Ok(words)) => {
-                same_of(rt, path, bytes, spelled(alloc, words)?.as_slice());
-            }
-            (Err(refusal), Err(refused)) => {
-                same_of(rt, path, (refusal.word, refusal.reason), refused);
-            }
-            _ => return Err("another answer".into()),
-        }
-    }
+    let bytes = spelled(alloc, wanted.unwrap_or(&[]))?;
+    let wanted = wanted.map(|_| bytes.as_slice());
+    same_of(rt, &path, bytes_at(message, limits, path), wanted);
     Ok(())
 }
 
-static PLACES: [Row; 10] = [
-    // Null, a capability, and a struct without words at its own place.
+static PLACES: [Row; 7] = [
+    // Null, and a struct without words at its own place.
     (&[0x0000000001000000, 0], 0, &[(&[], Ok(&[]))]),
-    (
-        &[0x0000000001000000, 0x0300000005000000],
-        0,
-        &[(&[], Ok(&[]))],
-    ),
     (
         &[0x0000000001000000, 0xfcffffff00000000],
         0,
@@ -150,24 +159,6 @@ static PLACES: [Row; 10] = [
             (&[Step::Item(1)], Ok(&[0x0600000000000000])),
         ],
     ),
-    // The second of them of zeros, and a list of three bits, whose other bits are shown.
-    (
-        &[
-            0x0000000005000000,
-            0x010000001f000000,
-            0x0800000001000000,
-            0x0500000000000000,
-            0,
-            0xff00000000000000,
-        ],
-        9,
-        &[(&[Step::Item(1)], Ok(&[0]))],
-    ),
-    (
-        &[0x0000000002000000, 0x0100000019000000, 0xffffffffffffffff],
-        9,
-        &[(&[], Ok(&[0xffffffffffffffff]))],
-    ),
     // A struct in the last of four segments, reached through a landing pad of two words in the second.
     (
         &[
@@ -216,9 +207,18 @@ static PLACES: [Row; 10] = [
 
 #[test]
 fn the_bytes_at_paths(rt: HostRuntime) -> Result<(), Fail> {
-    for (frame, most, wanted) in &PLACES {
+    let size = SizeLimit::new(9).ok_or("no limit")?;
+    for (frame, most, places) in &PLACES {
         let bytes = spelled(rt.alloc(), *frame)?;
-        has_bytes(&rt, rt.alloc(), &bytes, *most, *wanted)?;
+        let Ok(Some(framed)) = front_of(&bytes, size) else {
+            return Err("no message".into());
+        };
+        let mut tables = SegmentTables::new();
+        let message = framed.view(&mut tables);
+        let limits = Limits::new(*most, 10).ok_or("no limits")?;
+        for (path, wanted) in *places {
+            has_bytes(&rt, rt.alloc(), &message, limits, *path, *wanted)?;
+        }
     }
     Ok(())
 }

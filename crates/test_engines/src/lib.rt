@@ -1,5 +1,5 @@
-//! Tests of engines and of lines that the built program doesn't show: limits that no option sets, sinks
-//! after a fault, and the line of each fault.
+//! Tests of engines and of lines that the built program doesn't show: limits of words, which no option sets, sinks and
+//! counts after a fault, and the line of each fault.
 #![tactic(auto)]
 
 #[cfg(test)]
@@ -7,12 +7,8 @@ mod canons;
 #[cfg(test)]
 mod copies;
 #[cfg(test)]
-mod dumps;
-#[cfg(test)]
 mod engines;
 #[cfg(test)]
 mod faults;
-#[cfg(test)]
-mod filters;
 #[cfg(test)]
 mod same;

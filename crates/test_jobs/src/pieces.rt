@@ -248,18 +248,17 @@ fn expect_write_faults<R: AllocGlobal + Abort>(
     Ok(())
 }
 
-// A row over devices that never fail, and then over each that fails.
-fn expect_row<R: AllocGlobal + Abort>(
+// A run over devices that never fail, which is as that over whole bytes.
+fn expect_honest<R: AllocGlobal + Abort>(
     rt: &R,
     row: &Row,
-    most: usize,
+    job: &Job,
+    bytes: &[u8],
     buffered: bool,
-) -> Result<(), Fail> {
-    let bytes = hex::decode(rt.alloc(), row.stream)?;
-    let bytes = bytes.as_slice();
-    let job = job(rt.alloc(), row.command, row.options)?;
-    let whole = run_over(rt.alloc(), &job, bytes)?;
-    let ran = run_in_pieces(rt.alloc(), &job, bytes, buffered, most, HONEST, HONEST)?;
+    most: usize,
+) -> Result<Ran, Fail> {
+    let whole = run_over(rt.alloc(), job, bytes)?;
+    let ran = run_in_pieces(rt.alloc(), job, bytes, buffered, most, HONEST, HONEST)?;
     assert!(rt; !ran.taken.is_empty(), "{}", row.command);
     ran.expect(
         rt,
@@ -268,16 +267,40 @@ fn expect_row<R: AllocGlobal + Abort>(
         whole.err.bytes(),
         whole.status,
     );
+    Ok(ran)
+}
+
+// A row over devices that never fail, and then over each that fails.
+fn expect_faults<R: AllocGlobal + Abort>(
+    rt: &R,
+    row: &Row,
+    job: &Job,
+    bytes: &[u8],
+    buffered: bool,
+    most: usize,
+) -> Result<(), Fail> {
+    let ran = expect_honest(rt, row, job, bytes, buffered, most)?;
     for kind in &READ_FAULTS {
-        expect_read_faults(rt, row, &job, bytes, buffered, most, *kind, ran.reads)?;
+        expect_read_faults(rt, row, job, bytes, buffered, most, *kind, ran.reads)?;
     }
     if buffered {
         return Ok(());
     }
     for kind in &WRITE_FAULTS {
-        expect_write_faults(rt, row, &job, bytes, most, *kind, &ran)?;
+        expect_write_faults(rt, row, job, bytes, most, *kind, &ran)?;
     }
     Ok(())
+}
+
+fn expect_row<R: AllocGlobal + Abort>(
+    rt: &R,
+    row: &Row,
+    most: usize,
+    buffered: bool,
+) -> Result<(), Fail> {
+    let bytes = hex::decode(rt.alloc(), row.stream)?;
+    let job = job(rt.alloc(), row.command, row.options)?;
+    expect_faults(rt, row, &job, bytes.as_slice(), buffered, most)
 }
 
 #[test]

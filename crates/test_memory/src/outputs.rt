@@ -18,20 +18,28 @@ const MANY: &[u8] = &[7; 300];
 
 const ALL: &[u8] = &[7; 303];
 
+// What is there, what is written, and what is there then.
+static WRITES: [(&[u8], &[u8], &[u8]); 2] = [(NONE, FEW, FEW), (FEW, MANY, ALL)];
+
+// Writes these bytes, again if the first call was out of memory and left what was there. Whether it was.
+fn write_or_again(rt: &impl Abort, out: &mut VecOut, before: &[u8], bytes: &[u8]) -> bool {
+    let first = out.write(bytes);
+    if first != Err(OutFault::Memory) {
+        same(rt, first, Ok(bytes.len()));
+        return false;
+    }
+    same(rt, out.bytes(), before);
+    same(rt, out.write(bytes), Ok(bytes.len()));
+    true
+}
+
 #[test]
 fn two_writes(rt: HostRuntime) -> Result<(), Fail> {
     let mut out = VecOut::new(rt.alloc());
     let mut was_refused = false;
-    for (before, bytes, after) in [(NONE, FEW, FEW), (FEW, MANY, ALL)] {
-        let first = out.write(bytes);
-        if first == Err(OutFault::Memory) {
-            was_refused = true;
-            same(&rt, out.bytes(), before);
-            same(&rt, out.write(bytes), Ok(bytes.len()));
-        } else {
-            same(&rt, first, Ok(bytes.len()));
-        }
-        same(&rt, out.bytes(), after);
+    for (before, bytes, after) in &WRITES {
+        was_refused |= write_or_again(&rt, &mut out, *before, *bytes);
+        same(&rt, out.bytes(), *after);
     }
     if was_refused { refused() } else { Ok(()) }
 }
@@ -122,16 +130,18 @@ fn a_message_to_a_sink(rt: HostRuntime) -> Result<(), Fail> {
 
 const DUMP: &[u8] = b"root struct 1 0\n  d0 2a00000000000000\n";
 
-#[test]
-fn the_text_of_a_tree(rt: HostRuntime) -> Result<(), Fail> {
+fn dump_words(out: &mut VecOut) -> Result<Result<(), OutFault>, Fail> {
     let limits = Limits::new(100, 64).ok_or("limits")?;
     let message = OneSegment::new(&WORDS).ok_or("a message")?;
-    let Ok(vetted) = vet(&message, limits) else {
-        return another_answer();
-    };
-    let mut out = VecOut::new(rt.alloc());
-    match dump(&vetted, &mut out) {
-        Ok(()) => settle(&rt, Ok(()), &out, DUMP),
-        Err(fault) => settle(&rt, Err(SinkFault::from(fault)), &out, DUMP),
+    match vet(&message, limits) {
+        Ok(vetted) => Ok(dump(&vetted, out)),
+        Err(_) => Err("refused".into()),
     }
+}
+
+#[test]
+fn the_text_of_a_tree(rt: HostRuntime) -> Result<(), Fail> {
+    let mut out = VecOut::new(rt.alloc());
+    let answer = dump_words(&mut out)?.map_err(SinkFault::from);
+    settle(&rt, answer, &out, DUMP)
 }

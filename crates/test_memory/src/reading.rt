@@ -5,6 +5,7 @@ use cap_frame::{
     ByteMessage, FrameFault, Segments, SizeLimit, read_byte_message, read_into, read_message,
 };
 use cap_words::{PlainWords, SliceIn, WordSource};
+use std::alloc::Global;
 use std::process::Abort;
 use std::test::Fail;
 
@@ -50,17 +51,19 @@ fn expect_contents<S: WordSource>(rt: &impl Abort, source: &mut S) {
     same(rt, source.next(), Ok(None));
 }
 
-#[test]
-fn a_message_in_words(rt: HostRuntime) -> Result<(), Fail> {
-    let mut source = PlainWords::new(SliceIn::new(MESSAGE));
-    let limit = SizeLimit::new(3).ok_or("a limit")?;
-    match read_message(rt.alloc(), &mut source, limit) {
-        Ok(Some(message)) => {
-            assert!(rt; is_message(&message, &SEGMENTS));
+// A message was read, or memory ran out after the table.
+fn settle<S: WordSource>(
+    rt: &impl Abort,
+    answer: Result<bool, FrameFault>,
+    source: &mut S,
+) -> Result<(), Fail> {
+    match answer {
+        Ok(is_whole) => {
+            assert!(rt; is_whole);
             Ok(())
         }
         Err(FrameFault::Memory) => {
-            expect_contents(&rt, &mut source);
+            expect_contents(rt, source);
             refused()
         }
         _ => another_answer(),
@@ -68,20 +71,33 @@ fn a_message_in_words(rt: HostRuntime) -> Result<(), Fail> {
 }
 
 #[test]
+fn a_message_in_words(rt: HostRuntime) -> Result<(), Fail> {
+    let mut source = PlainWords::new(SliceIn::new(MESSAGE));
+    let limit = SizeLimit::new(3).ok_or("a limit")?;
+    let answer = match read_message(rt.alloc(), &mut source, limit) {
+        Ok(message) => Ok(message.is_some_and(|message| is_message(&message, &SEGMENTS))),
+        Err(fault) => Err(fault),
+    };
+    settle(&rt, answer, &mut source)
+}
+
+#[test]
 fn a_message_in_one_buffer(rt: HostRuntime) -> Result<(), Fail> {
     let mut source = PlainWords::new(SliceIn::new(MESSAGE));
     let limit = SizeLimit::new(3).ok_or("a limit")?;
-    match read_byte_message(rt.alloc(), &mut source, limit) {
-        Ok(Some(message)) => {
-            assert!(rt; is_message(&message.view(), &SEGMENTS));
-            Ok(())
-        }
-        Err(FrameFault::Memory) => {
-            expect_contents(&rt, &mut source);
-            refused()
-        }
-        _ => another_answer(),
-    }
+    let answer = match read_byte_message(rt.alloc(), &mut source, limit) {
+        Ok(message) => Ok(message.is_some_and(|message| is_message(&message.view(), &SEGMENTS))),
+        Err(fault) => Err(fault),
+    };
+    settle(&rt, answer, &mut source)
+}
+
+// Reads the message into one. After a refusal that is blank, and the next call succeeds.
+fn read_again(rt: &impl Abort, alloc: Global, message: &mut ByteMessage, limit: SizeLimit) {
+    assert!(rt; is_message(&message.view(), &[&[]]));
+    let mut source = PlainWords::new(SliceIn::new(MESSAGE));
+    same(rt, read_into(alloc, &mut source, limit, message), Ok(true));
+    assert!(rt; is_message(&message.view(), &SEGMENTS));
 }
 
 #[test]
@@ -89,60 +105,66 @@ fn a_message_read_into_a_blank_one(rt: HostRuntime) -> Result<(), Fail> {
     let mut message = ByteMessage::blank(rt.alloc());
     let mut source = PlainWords::new(SliceIn::new(MESSAGE));
     let limit = SizeLimit::new(3).ok_or("a limit")?;
-    match read_into(rt.alloc(), &mut source, limit, &mut message) {
-        Ok(true) => {
-            assert!(rt; is_message(&message.view(), &SEGMENTS));
-            Ok(())
-        }
-        Err(FrameFault::Memory) => {
-            assert!(rt; is_message(&message.view(), &[&[]]));
-            expect_contents(&rt, &mut source);
-            // the next call succeeds
-            let mut again = PlainWords::new(SliceIn::new(MESSAGE));
-            same(
-                &rt,
-                read_into(rt.alloc(), &mut again, limit, &mut message),
-                Ok(true),
-            );
-            assert!(rt; is_message(&message.view(), &SEGMENTS));
-            refused()
-        }
-        _ => another_answer(),
+    let answer = read_into(rt.alloc(), &mut source, limit, &mut message);
+    if answer.is_err() {
+        read_again(&rt, rt.alloc(), &mut message, limit);
     }
+    assert!(rt; is_message(&message.view(), &SEGMENTS));
+    settle(&rt, answer, &mut source)
 }
 
-// Tables past the limits: of one segment too many, of one segment of the most words that there can be,
-// and of 512 such segments. The calls allocate nothing, so the first allocation is the test's own, at the
-// end.
+// Each way to read a message answers the same fault of a table.
+fn expect_fault(rt: &impl Abort, alloc: Global, table: &[u8], limit: SizeLimit, fault: FrameFault) {
+    let mut source = PlainWords::new(SliceIn::new(table));
+    let read = read_byte_message(alloc, &mut source, limit);
+    same(rt, read.err(), Some(fault));
+    let mut source = PlainWords::new(SliceIn::new(table));
+    let read = read_message(alloc, &mut source, limit);
+    same(rt, read.err(), Some(fault));
+    same(rt, source.position(), table.len() as u64);
+}
+
+fn expect_fault_into(
+    rt: &impl Abort,
+    alloc: Global,
+    table: &[u8],
+    limit: SizeLimit,
+    fault: FrameFault,
+) {
+    let mut source = PlainWords::new(SliceIn::new(table));
+    let mut message = ByteMessage::blank(alloc);
+    let read = read_into(alloc, &mut source, limit, &mut message);
+    same(rt, read, Err(fault));
+}
+
+// Tables past the limits: of one segment too many, and of one segment of the most words that there can be.
+static PAST: [([u8; 8], FrameFault); 2] = [
+    (
+        [0, 2, 0, 0, 0, 0, 0, 0],
+        FrameFault::TooManySegments { count: 513 },
+    ),
+    (
+        [0, 0, 0, 0, 0xff, 0xff, 0xff, 0xff],
+        FrameFault::TooLarge { words: 4294967295 },
+    ),
+];
+
+// And of 512 such segments. The calls allocate nothing, so the first allocation is the test's own, at the end.
 #[test]
 fn a_table_past_the_limits(rt: HostRuntime) -> Result<(), Fail> {
     let limit = SizeLimit::new(268435456).ok_or("a limit")?;
-    let further = [0, 2, 0, 0, 0, 0, 0, 0];
-    let one = [0, 0, 0, 0, 0xff, 0xff, 0xff, 0xff];
+    for (table, fault) in &PAST {
+        expect_fault(&rt, rt.alloc(), table, limit, *fault);
+        expect_fault_into(&rt, rt.alloc(), table, limit, *fault);
+    }
     let mut many = [0xff; 2056];
     many[..4].copy_from_slice(&[0xff, 1, 0, 0]);
     many[2052..].copy_from_slice(&[0; 4]);
-    let (first, all) = (4294967295, 2199023255040);
-    for (table, fault) in [
-        (
-            further.as_slice(),
-            FrameFault::TooManySegments { count: 513 },
-        ),
-        (one.as_slice(), FrameFault::TooLarge { words: first }),
-        (many.as_slice(), FrameFault::TooLarge { words: all }),
-    ] {
-        let mut source = PlainWords::new(SliceIn::new(table));
-        let read = read_byte_message(rt.alloc(), &mut source, limit);
-        same(&rt, read.err(), Some(fault));
-        let mut source = PlainWords::new(SliceIn::new(table));
-        let mut message = ByteMessage::blank(rt.alloc());
-        let read = read_into(rt.alloc(), &mut source, limit, &mut message);
-        same(&rt, read, Err(fault));
-        let mut source = PlainWords::new(SliceIn::new(table));
-        let read = read_message(rt.alloc(), &mut source, limit);
-        same(&rt, read.err(), Some(fault));
-        same(&rt, source.position(), table.len() as u64);
-    }
+    let fault = FrameFault::TooLarge {
+        words: 2199023255040,
+    };
+    expect_fault(&rt, rt.alloc(), &many, limit, fault);
+    expect_fault_into(&rt, rt.alloc(), &many, limit, fault);
     match Vec::<u8>::with_capacity(rt.alloc(), 1) {
         Ok(_) => Ok(()),
         Err(_) => refused(),

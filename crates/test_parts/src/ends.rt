@@ -1,10 +1,10 @@
 //! Ends of bytes and of words: that calls succeed, and answer what is known from outside.
 
 use crate::same::{same, same_of};
-use crate::steps::{Puts, Reads, Takes, Writes, front, part, put_by, read_by, take_by, write_by};
+use crate::steps::{Puts, Reads, Takes, Writes, part, put_by, read_by, take_by, write_by};
 use cap_words::{
     BufferedIn, ByteOut, FromRead, InFault, PlainSink, PlainWords, SinkFault, SliceIn, SourceFault,
-    VecOut, WordSource, bits, bytes_of, signed_offset, word_of, write_all,
+    VecOut, bits, bytes_of, signed_offset, word_of, write_all,
 };
 use std::alloc::Global;
 use std::io::ErrorKind;
@@ -302,62 +302,6 @@ fn expect_reads<R: AllocGlobal + Abort>(
 fn big_reads_go_past_the_buffer(rt: HostRuntime) -> Result<(), Fail> {
     expect_reads(&rt, 65530, 0, &REFILLS)?;
     expect_reads(&rt, 200_000, 5, &BIG_READS)
-}
-
-// The source fills 131,080 bytes in pieces. The rest is cut or not. The source answers
-// the same from then on.
-fn expect_filled<S: WordSource>(
-    rt: &impl Abort,
-    source: &mut S,
-    bytes: &[u8],
-    room: &mut [u8],
-    end: Result<bool, SourceFault>,
-) {
-    let mut done: usize = 0;
-    for (size, whole) in [(7, 0), (8, 8), (65536, 65536), (65536, 65536)] {
-        same(rt, source.fill(front(room, size)), Ok(true));
-        same(rt, part(room, 0, whole), part(bytes, done, whole));
-        done = done.saturating_add(whole);
-        same(rt, source.position(), done as u64);
-    }
-    same(rt, source.fill(room), end);
-    let then = end.map_err(|_| SourceFault::Spent);
-    same(rt, source.fill(room), then);
-    same(rt, source.next(), then.map(|_| None));
-    same(rt, source.fill(front(room, 0)), Ok(true));
-}
-
-// How many bytes a call of the reader gives at most.
-static SIZES: [usize; 8] = [1, 3, 7, 8, 9, 65535, 65536, 65537];
-
-// These bytes are filled in pieces by reads of each size, with a buffer and without.
-fn expect_pieces<R: AllocGlobal + Abort>(
-    rt: &R,
-    bytes: &[u8],
-    end: Result<bool, SourceFault>,
-) -> Result<(), Fail> {
-    let mut room = Vec::from_elem(rt.alloc(), 0, 70_000)?;
-    for most in &SIZES {
-        let mut source = PlainWords::new(FromRead::new(Reader::honest(bytes, *most)));
-        expect_filled(rt, &mut source, bytes, &mut room, end);
-        let mut source = PlainWords::new(BufferedIn::new(
-            rt.alloc(),
-            Reader::honest(bytes, *most),
-        )?);
-        expect_filled(rt, &mut source, bytes, &mut room, end);
-    }
-    Ok(())
-}
-
-#[test]
-fn pieces_by_reads_of_many_sizes(rt: HostRuntime) -> Result<(), Fail> {
-    let mut bytes = Vec::new(rt.alloc());
-    for i in 0..140_005_u32 {
-        bytes.push((i % 251) as u8)?;
-    }
-    let cut = Err(SourceFault::Truncated { byte: 140_005 });
-    expect_pieces(&rt, &bytes, cut)?;
-    expect_pieces(&rt, part(&bytes, 0, 140_000), Ok(false))
 }
 
 const CLOSED: Result<(), SinkFault> = Err(SinkFault::Spent);

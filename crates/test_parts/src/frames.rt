@@ -1,19 +1,13 @@
-//! Framed messages, read in each way and written, of bytes that are known from outside.
+//! Framed messages that are read in each way, of bytes that are known from outside. `tests/flags.py` has messages that
+//! are found before other bytes, from C, and `tests/filtering.py` messages that are written.
 
 use crate::same::same;
 use crate::steps::part;
-use cap_frame::{
-    FrameFault, OneSegment, Segments, SizeLimit, read_byte_message, read_message, write_message,
-};
-use cap_words::{
-    PlainSink, PlainWords, SliceIn, SourceFault, VecOut, WordSink, WordSource, bytes_of,
-};
+use cap_frame::{FrameFault, Segments, SizeLimit, read_byte_message, read_message};
+use cap_words::{PlainWords, SliceIn, SourceFault, WordSource, bytes_of};
 use std::alloc::{AllocError, Global};
 use std::process::Abort;
 use std::test::Fail;
-
-mod fronts;
-mod views;
 
 // The plain bytes of words.
 fn plain(alloc: Global, words: &[u64]) -> Result<Vec<u8>, AllocError> {
@@ -178,58 +172,5 @@ fn messages_are_read(rt: HostRuntime) -> Result<(), Fail> {
         let limit = SizeLimit::new(*limit).ok_or("a limit")?;
         expect_each_way(&rt, rt.alloc(), part(&bytes, 0, *len), limit, *want, *then);
     }
-    Ok(())
-}
-
-// The padding, the bytes de ad be ef, is written as zeros: a far pointer, its landing pad and a struct
-// of one word.
-static PADDED_FAR: [u64; 5] = [
-    0x1_0000_0001,
-    0xefbe_adde_0000_0002,
-    0x1_0000_0002,
-    0x1_0000_0000,
-    42,
-];
-
-// Then a segment of no words between two others, and one segment.
-static WRITTEN: [u64; 12] = [
-    0x1_0000_0001,
-    2,
-    0x1_0000_0002,
-    0x1_0000_0000,
-    42,
-    0x1_0000_0002,
-    0x2_0000_0000,
-    7,
-    8,
-    9,
-    0x1_0000_0000,
-    4,
-];
-
-// Writes the message that the source gives, and the two after it.
-fn write_three<S: WordSource, K: WordSink>(
-    alloc: Global,
-    source: &mut S,
-    sink: &mut K,
-) -> Result<(), Fail> {
-    let limit = SizeLimit::new(3).ok_or("a limit")?;
-    let message = read_message(alloc, source, limit)?.ok_or("a message")?;
-    write_message(sink, &message)?;
-    let three = views::held_of(alloc, &[&[7], &[], &[8, 9]])?;
-    write_message(sink, &three)?;
-    write_message(sink, &OneSegment::new(&[4]).ok_or("a message")?)?;
-    sink.finish()?;
-    Ok(())
-}
-
-#[test]
-fn messages_are_written(rt: HostRuntime) -> Result<(), Fail> {
-    let padded = plain(rt.alloc(), &PADDED_FAR)?;
-    let want = plain(rt.alloc(), &WRITTEN)?;
-    let mut source = PlainWords::new(SliceIn::new(&padded));
-    let mut sink = PlainSink::new(VecOut::new(rt.alloc()));
-    write_three(rt.alloc(), &mut source, &mut sink)?;
-    same(&rt, sink.into_inner().bytes(), want.as_slice());
     Ok(())
 }

@@ -3,15 +3,11 @@
 #![tactic(auto)]
 
 #[cfg(test)]
-mod broken_off;
-#[cfg(test)]
 mod devices;
 #[cfg(test)]
 mod ends;
 #[cfg(test)]
 mod frames;
-#[cfg(test)]
-mod lanes;
 #[cfg(test)]
 mod packing;
 #[cfg(test)]
