@@ -28,10 +28,11 @@ BEYOND = re.compile(r"pthread_create|thrd_create|socket|socketpair|bind|connect|
                     r"send|sendto|sendmsg|recv|recvfrom|recvmsg|posix_spawnp?|v?fork|clone3?|exec[vl]\w*|fexecve|system|popen")
 
 
-def names():
-    """The names of the crates, from crates.txt."""
+def crates():
+    """The crates of crates.txt, each with those that it names. A crate comes after those."""
     lines = (TOP / "crates.txt").read_text().splitlines()
-    return [line.replace(":", " ").split()[0] for line in lines if line and not line.startswith("#")]
+    words = [line.replace(":", " ").split() for line in lines if line and not line.startswith("#")]
+    return {name: uses for name, *uses in words}
 
 
 def rt(folder, *words):
@@ -66,8 +67,13 @@ def prove_code():
 
 def prove_all():
     """Proves every crate, and proves and runs its tests. Returns how many crates there are, or None where something failed."""
-    cores = len(os.sched_getaffinity(0))
-    return len(names()) if rt(TOP, "all", "test", "--jobs", str(cores)) and holds_handles() else None
+    cores, known = str(len(os.sched_getaffinity(0))), crates()
+    # (the crates that others need come first, one by one on all cores. `rt all` has one core for each crate, so that its longest
+    # chain would take twice as long. It also reads all that isn't proved yet once for each crate that nothing uses)
+    for name in known:
+        if any(name in uses for uses in known.values()) and not rt(TOP / "crates" / name, "lib", "--jobs", cores):
+            return None
+    return len(known) if rt(TOP, "all", "test", "--jobs", cores) and holds_handles() else None
 
 
 def take(root):
