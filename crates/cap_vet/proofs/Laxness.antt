@@ -43,18 +43,18 @@ module _ (m : List (List ℕ)) (s w p t b q : ℕ) (has : HasWord m s w p) (far 
   object_form object = other_pad m s w p q has (far, one) own object.1 (omega (arith, object.0))
 
 -- The next pointer isn't lax,
-pub knows_on : (m : List (List ℕ)) (seen : List (List Step)) (a : Ahead) (s w n : ℕ) (found : Option LaxPointer)
-    → IsLookedAt m seen a s w n
+pub knows_on : (m : List (List ℕ)) (seen : List (List Step)) (a : Ahead) (s w n cost : ℕ) (found : Option LaxPointer)
+    → IsLookedAt m seen a s w n cost
     → IsNotLax m s w → KnowsLax m seen found → KnowsLax m (a.path ∷ seen) found
-knows_on m seen a s w n found l none k =
+knows_on m seen a s w n cost found l none k =
     let r = rw (l.segment, l.word) at l.trail.ahead_reached.0 in
     still_knows m seen a.path found (not_lax_path m a.path a.level s w r none) k
 
 -- or it is the first that is.
-pub finds_first : (m : List (List ℕ)) (seen : List (List Step)) (a : Ahead) (s w n : ℕ) (what : Lax)
-    → IsLookedAt m seen a s w n
+pub finds_first : (m : List (List ℕ)) (seen : List (List Step)) (a : Ahead) (s w n cost : ℕ) (what : Lax)
+    → IsLookedAt m seen a s w n cost
     → IsLaxAt m s w what → KnowsLax m seen None → IsFirstLax m s w what n
-finds_first m seen a s w n what l x k =
+finds_first m seen a s w n cost what l x k =
     let r = rw (l.segment, l.word) at l.trail.ahead_reached.0 in
     let many : length (in_order (a.path ∷ seen)) ≡ n = omega (arith, l.number, length-in_order (a.path ∷ seen)) in
     subst (IsFirstLax m s w what) many

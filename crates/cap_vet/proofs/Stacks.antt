@@ -1,5 +1,6 @@
 -- What one turn of a walk leaves of its runs.
 use Rattle.std.proofs.Common.{◌≡◌, ℕ, ◌+◌, ◌≤◌, List, [], ◌∷◌, ◌++◌, length, map, reverse, refl, sym, ap, ◌∙◌, subst, arith, Option, None, Some, ◌<◌, suc}
+use Rattle.std.proofs.Common.{◌-◌, inl, inr}
 use Rattle.std.specs.Option.{option_to_list}
 use Rattle.std.specs.List.{AllByRecursion}
 use Rattle.std.proofs.lemmas.List.{map-append, reverse-append, length-append, length-map}
@@ -13,7 +14,7 @@ use Rattle.cap_spec.specs.declared.Step.{Step}
 use Rattle.cap_vet.specs.Trails.{Ahead}
 use Rattle.cap_vet.specs.PointerRuns.{RunIn, IsRest, LevelIs, OptionIn, all_spots, option_spots, pointer_word_of, spots}
 use Rattle.cap_vet.specs.Looking.{RunRises, IsLooked, object_children}
-use Rattle.cap_vet.specs.Turning.{added, run_below}
+use Rattle.cap_vet.specs.Turning.{added, cost_of, run_below}
 use Rattle.cap_vet.specs.Limits.{depth_of, words_of}
 use Rattle.cap_vet.specs.Turns.{GoesOn, GoesOnBelow, HasVisited, IsAt, IsWalking}
 use Rattle.cap_vet.specs.WalkSteps.{Continues, GoesOnWith, runs_left}
@@ -25,7 +26,6 @@ use Rattle.cap_vet.specs.declared.walk.looking.Looked.TheVariants as looked
 use Rattle.cap_vet.specs.declared.report.Report.{Report}
 use Rattle.cap_vet.specs.declared.walk.walking.Next.{Next}
 use Rattle.cap_spec.proofs.Bytes.Lists.{reverse-more}
-use Rattle.cap_spec.proofs.Paths.Walks.{one_reached}
 use Rattle.cap_vet.proofs.Objects.{object-brings, object_places-children}
 use Rattle.cap_vet.proofs.Turning.{next_ahead, turn_cap, turn_null, turn_object}
 
@@ -199,6 +199,18 @@ turned m limits runs left more f r report after K rest e h =
     omega (arith, h.less, work_rest (words_of limits) runs f r report rest) in
     subst (λ u. GoesOn m limits u after K (work_left (words_of limits) (runs ++ f ∷ []) report)) e (record { walking = h.walking; less = less })
 
+-- a word that was looked at has this cost,
+pub looked_costs : (m : List (List ℕ)) (words depth spent s w level : ℕ) (l : Looked) → IsLooked m words depth spent s w level l → Costs m s w (cost_of l)
+looked_costs m words depth spent s w level (looked.Null cost) h = inl h.0
+looked_costs m words depth spent s w level (looked.Cap cost) h = inr (inl h.0)
+looked_costs m words depth spent s w level (looked.Object cost deep below) (k, t, b, q, tag, o) = inr (inr (k, t, b, q, tag, o.finds, o.tagged, o.charge))
+
+-- which is charged
+charge_added : (report : Report) (s w : ℕ) (l : Looked) → (added report s w l).charge ≡ report.charge + cost_of l
+charge_added report s w (looked.Null cost) = refl
+charge_added report s w (looked.Cap cost) = refl
+charge_added report s w (looked.Object cost deep below) = refl
+
 -- So where the next word was looked at, the walk goes on.
 pub visited : (m : List (List ℕ)) (limits : Limits) (s w level : ℕ) (runs : List PointerRun) (report : Report) (l : Looked)
     (n : IsNext m (words_of limits) (depth_of limits) s w level runs report)
@@ -206,25 +218,33 @@ pub visited : (m : List (List ℕ)) (limits : Limits) (s w level : ℕ) (runs : 
     → HasVisited m limits s w level runs report n (run_below l) (added report s w l)
 visited m limits s w level runs report l n h =
     let on = walks_on m (words_of limits) (depth_of limits) s w level runs report l n h in
-    record { later = on.0; walks = on.1; less = work_falls m (words_of limits) (depth_of limits) s w level runs report l n h }
-
--- What a turn is told of a word that was looked at.
-pub looked_at : (m : List (List ℕ)) (words depth s w level : ℕ) (runs below : List PointerRun) (report after : Report) (later : List Ahead)
-    (n : IsNext m words depth s w level runs report) → Walks m words depth below after (n.a.path ∷ n.seen) later → IsLookedAt m n.seen n.a s w after.pointers
-looked_at m words depth s w level runs below report after later n r =
-    let c = r.progress.costs in
-    let same = one_reached m n.a.path n.a.level c.0 n.a.segment n.a.word c.1 c.2 n.progress.trail.ahead_reached.0 c.5 in
-    let cost : Costs m n.a.segment n.a.word c.3 = rw (same.1, same.2) c.6 in record {
-      later = n.ahead;
-      trail = n.progress.trail;
-      segment = n.segment;
-      word = n.at;
-      exists = n.exists;
-      inside = n.within;
-      cost = c.3;
-      costs = rw (← n.segment, ← n.at) cost;
-      number = omega (arith, r.progress.number);
+    record {
+      later = on.0;
+      walks = on.1;
+      less = work_falls m (words_of limits) (depth_of limits) s w level runs report l n h;
+      cost = cost_of l;
+      costs = looked_costs m (words_of limits) (depth_of limits) report.charge s w level l h;
+      charge = charge_added report s w l;
     }
+
+-- what was charged at a word is its cost
+pub cost_charged : (m : List (List ℕ)) (s w before after cost : ℕ) → Costs m s w cost → after ≡ before + cost → Costs m s w (after - before)
+cost_charged m s w before after cost costs e = let same : cost ≡ after - before = omega (arith, e) in subst (Costs m s w) same costs
+
+-- What a turn gets of a word that was looked at.
+pub looked_at : (m : List (List ℕ)) (words depth s w level : ℕ) (runs below : List PointerRun) (report after : Report) (later : List Ahead)
+    (n : IsNext m words depth s w level runs report) → Walks m words depth below after (n.a.path ∷ n.seen) later
+    → (cost : ℕ) → Costs m s w cost → IsLookedAt m n.seen n.a s w after.pointers cost
+looked_at m words depth s w level runs below report after later n r cost costs = record {
+  later = n.ahead;
+  trail = n.progress.trail;
+  segment = n.segment;
+  word = n.at;
+  exists = n.exists;
+  inside = n.within;
+  costs = costs;
+  number = omega (arith, r.progress.number);
+}
 
 -- What is known of the paths so far is known after null words too.
 pub known_past : (m : List (List ℕ)) (K : List (List Step) → Type 0) (nulls seen : List (List Step))

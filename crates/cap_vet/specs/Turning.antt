@@ -18,6 +18,12 @@ added r s w (Cap cost) =
 added r s w (Object cost deep run) =
     record { charge = r.charge + cost; depth = max r.depth deep; pointers = r.pointers + 1; caps = r.caps; first_cap = r.first_cap }
 
+-- what following the word costs, in words
+abbrev pub cost_of : Looked → ℕ
+cost_of (Null cost) = cost
+cost_of (Cap cost) = cost
+cost_of (Object cost deep run) = cost
+
 -- the run of the pointer words below
 abbrev pub run_below : Looked → Option PointerRun
 run_below (Null cost) = None

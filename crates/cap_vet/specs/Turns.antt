@@ -1,7 +1,8 @@
 -- What is known of a walk, and of what its turn knows, between two pointer words (profile).
-use Rattle.std.specs.Prelude.{ℕ, ◌<◌, [], ◌∷◌, ◌++◌, IfOk, IfSome, List, Option, Result}
+use Rattle.std.specs.Prelude.{ℕ, ◌+◌, ◌<◌, ◌≡◌, [], ◌∷◌, ◌++◌, IfOk, IfSome, List, Option, Result}
 use Rattle.std.specs.Option.{option_to_list}
 use Rattle.cap_spec.specs.Faults.{IsRefused}
+use Rattle.cap_spec.specs.Paths.{Costs}
 use Rattle.cap_spec.specs.declared.Step.{Step}
 use Rattle.cap_vet.specs.Limits.{depth_of, words_of}
 use Rattle.cap_vet.specs.Trails.{Ahead, IsTrail}
@@ -28,12 +29,16 @@ pub record IsAt (m : List (List ℕ)) (limits : Limits) (s w level : ℕ) (runs 
   pub next : IsNext m (words_of limits) (depth_of limits) s w level runs report
   pub known : K next.seen
 
--- The next word was looked at, and is the last so far. Below it is this run, and less is left of the walk.
+-- The next word was looked at, and is the last so far. Below it is this run, and less is left of the walk. What the word
+-- costs is charged.
 pub record HasVisited (m : List (List ℕ)) (limits : Limits) (s w level : ℕ) (runs : List PointerRun) (before : Report)
     (n : IsNext m (words_of limits) (depth_of limits) s w level runs before) (below : Option PointerRun) (after : Report) : Type 0 where
   pub later : List Ahead
   pub walks : Walks m (words_of limits) (depth_of limits) (runs ++ option_to_list below) after (n.a.path ∷ n.seen) later
   pub less : work_left (words_of limits) (runs ++ option_to_list below) after < work_next (words_of limits) runs before
+  pub cost : ℕ
+  pub costs : Costs m s w cost
+  pub charge : after.charge ≡ before.charge + cost
 
 -- the next word was looked at, and below it is this run
 abbrev pub IsVisited : List (List ℕ) → Limits → ℕ → ℕ → ℕ → Report → Report → Option PointerRun → Type 0

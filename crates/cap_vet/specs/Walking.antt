@@ -76,15 +76,14 @@ work_left words runs report = length (all_spots (reverse runs)) + (words - repor
 abbrev pub work_next : ℕ → List PointerRun → Report → ℕ
 work_next words runs report = suc (work_left words runs report)
 
--- After these paths the walk looked at pointer word s:w, number n of them, which can be followed.
-pub record IsLookedAt (m : List (List ℕ)) (seen : List (List Step)) (a : Ahead) (s w n : ℕ) : Type 0 where
+-- After these paths the walk looked at pointer word s:w, number n of them, which can be followed at this cost.
+pub record IsLookedAt (m : List (List ℕ)) (seen : List (List Step)) (a : Ahead) (s w n cost : ℕ) : Type 0 where
   pub later : List Ahead
   pub trail : IsTrail m seen (a ∷ later)
   pub segment : a.segment ≡ s
   pub word : a.word ≡ w
   pub exists : s < length m
   pub inside : w < length (segment_of m s)
-  pub cost : ℕ
   pub costs : Costs m s w cost
   pub number : n ≡ length seen + 1
 

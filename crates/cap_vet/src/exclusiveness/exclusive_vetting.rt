@@ -243,6 +243,7 @@ impl Turn for Marks<'_> {
         used: Option<Place>,
         _may_be_lax: bool,
         pointers: u64,
+        _cost: u64,
     ) -> Result<(), Overlap> {
         if self.mark_pointer(message, s, w, used) {
             return Ok(());

@@ -39,9 +39,9 @@ impl LaxSearch {
     #[inline(never)]
     fn look_at<M: Segments>(&mut self, message: &M, s: u32, w: u32, pointers: u64)
         requires { let m = M.segments message.now in (seen : List (List Step)) × (a : Ahead)
-            × IsLookedAt m seen a s w pointers × KnowsLax m seen self.old.first }
-        ensures { let m = M.segments message.now in (seen : List (List Step)) (a : Ahead) →
-            IsLookedAt m seen a s w pointers → KnowsLax m seen self.old.first →
+            × (cost : ℕ) × IsLookedAt m seen a s w pointers cost × KnowsLax m seen self.old.first }
+        ensures { let m = M.segments message.now in (seen : List (List Step)) (a : Ahead) (cost : ℕ) →
+            IsLookedAt m seen a s w pointers cost → KnowsLax m seen self.old.first →
             KnowsLax m (a.path ∷ seen) self.new.first }
     {
         if self.first.is_some() {
@@ -80,6 +80,7 @@ impl Turn for LaxSearch {
         _used: Option<Place>,
         may_be_lax: bool,
         pointers: u64,
+        _cost: u64,
     ) -> Result<(), Infallible> {
         if may_be_lax {
             self.look_at(message, s, w, pointers);

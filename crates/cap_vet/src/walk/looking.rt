@@ -8,6 +8,7 @@ ghost use Rattle.cap_spec.specs.Messages.{IsMessage, segment_of};
 ghost use Rattle.cap_spec.specs.Pointers.{IsCap};
 ghost use Rattle.cap_vet.specs.Limits.{depth_of, words_of};
 ghost use Rattle.cap_vet.specs.Looking.{FollowsWithin, IsLooked, IsNotLax, IsObjectWord, MayStandFor, deepest_of};
+ghost use Rattle.cap_vet.specs.Turning.{cost_of};
 ghost use Rattle.std.specs.Prelude.{◌+◌, ◌-◌, ◌<◌, ◌^◌, ◌≡◌, ◌≤◌, ◌↔◌, IfErr, IfOk, IfSome, IsTrue, List, length, ℕ};
 
 use crate::limits::Limits;
@@ -25,6 +26,20 @@ pub(crate) enum Looked {
     Cap(u64),
     /// An object, at this charge: the deepest level that it takes, and its pointer words.
     Object(u64, u32, Option<PointerRun>),
+}
+
+impl Looked {
+    /// What following the word costs, in words.
+    #[inline(always)]
+    pub(crate) fn cost(&self) -> u64
+        ensures { result ≡ cost_of self.now }
+    {
+        match self {
+            Looked::Null(cost) => *cost,
+            Looked::Cap(cost) => *cost,
+            Looked::Object(cost, _, _) => *cost,
+        }
+    }
 }
 
 /// What word `w` of segment `s` leads to, where `left` words may still be charged and its target

@@ -40,9 +40,9 @@ pub trait Turn {
         requires inside { w < length (segment_of (M.segments message.now) s) }
         ensures { IfSome result (UsesPlace (M.segments message.now) s w) };
 
-    /// The turn at this pointer word, which can be followed within the limits. It is number
-    /// `pointers` of those looked at, and `used` is what `before` returned. If `may_be_lax` is
-    /// false, common readers don't reject the pointer.
+    /// The turn at this pointer word, which can be followed within the limits, and costs `cost`
+    /// words. It is number `pointers` of those looked at, and `used` is what `before` returned. If
+    /// `may_be_lax` is false, common readers don't reject the pointer.
     fn after<M: Segments>(
         &mut self,
         message: &M,
@@ -51,13 +51,14 @@ pub trait Turn {
         used: Option<Place>,
         may_be_lax: bool,
         pointers: u64,
+        cost: u64,
     ) -> Result<(), Self::Stop>
         requires used { IfSome used (UsesPlace (M.segments message.now) s w) }
         requires strict { IsFalse may_be_lax → IsNotLax (M.segments message.now) s w }
         requires known { let m = M.segments message.now in (seen : List (List Step)) × (a : Ahead)
-            × IsLookedAt m seen a s w pointers × knows self.old m seen }
+            × IsLookedAt m seen a s w pointers cost × knows self.old m seen }
         ensures ok { let m = M.segments message.now in (seen : List (List Step)) (a : Ahead) →
-            IsLookedAt m seen a s w pointers → knows self.old m seen →
+            IsLookedAt m seen a s w pointers cost → knows self.old m seen →
             OnOk result (knows self.new m (a.path ∷ seen)) }
         ensures err { IfErr result (stops (M.segments message.now)) };
 

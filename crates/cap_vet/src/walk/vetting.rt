@@ -122,6 +122,7 @@ impl Turn for Plain {
         _used: Option<Place>,
         _may_be_lax: bool,
         _pointers: u64,
+        _cost: u64,
     ) -> Result<(), Infallible> {
         Ok(())
     }

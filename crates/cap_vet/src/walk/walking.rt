@@ -236,11 +236,13 @@ fn turn_far<M: Segments, T: Turn, const N: usize>(
 {
     let (s, w) = (run.segment, run.at);
     let used = turn.before(message, s, w);
+    let before = report.charge;
     let below = match visit(message, limits, report, s, w, run.level) {
         Ok(below) => below,
         Err(refusal) => return Err(Stopped::Refused(refusal)),
     };
-    match turn.after(message, s, w, used, true, report.pointers) {
+    let cost = report.charge - before;
+    match turn.after(message, s, w, used, true, report.pointers, cost) {
         Ok(()) => Ok(go_on(stack, run, below)),
         Err(stop) => Err(Stopped::ByTurn(stop)),
     }
@@ -276,8 +278,9 @@ fn turn_near<M: Segments, T: Turn>(
     match looked_near(message, limits, report.charge, s, w, level) {
         None => None,
         Some(looked) => {
+            let cost = looked.cost();
             let below = add(report, s, w, looked);
-            match turn.after(message, s, w, used, false, report.pointers) {
+            match turn.after(message, s, w, used, false, report.pointers, cost) {
                 Ok(()) => Some(Ok(below)),
                 Err(stop) => Some(Err(stop)),
             }

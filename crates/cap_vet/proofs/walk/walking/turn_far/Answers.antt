@@ -3,7 +3,7 @@ use Rattle.std.specs.Option.{option_to_list}
 use Rattle.cap_spec.specs.Messages.{IsMessage}
 use Rattle.cap_vet.proofs.Runs.{has_rest}
 use Rattle.cap_vet.proofs.Passing.{topmost_in}
-use Rattle.cap_vet.proofs.Stacks.{looked_at, next_at, steps_on}
+use Rattle.cap_vet.proofs.Stacks.{cost_charged, looked_at, next_at, steps_on}
 use Rattle.cap_vet.proofs.walk.walking.turn_far.Goals as goal
 
 pub before-used-requires-clause-exists : goal.before-used-requires-clause-exists
@@ -32,7 +32,14 @@ after-requires-clause-known g c =
     let at = next_at _ _ c.args.stack.now.items c.args.run.now _ _ _ c.requires.walking rest.1 in
     let n = at.next in
     let on = c.in-Ok.ensures.ok (c.args.stack.now.items ++ option_to_list rest.0) n in
-    (n.seen, n.a, looked_at _ _ _ _ _ _ _ _ _ _ _ n on.walks, at.known)
+    (n.seen, n.a, looked_at _ _ _ _ _ _ _ _ _ _ _ n on.walks _ (cost_charged _ _ _ _ _ _ on.costs on.charge), at.known)
+
+pub overflow_sub-cost : goal.overflow_sub-cost
+overflow_sub-cost g c =
+    let f = topmost_in _ _ _ c.args.stack.now.items c.args.run.now c.args.report.now _ _ c.requires.walking.walks in
+    let rest = has_rest c.args.run.now f.some in
+    let n = (next_at _ _ c.args.stack.now.items c.args.run.now _ _ _ c.requires.walking rest.1).next in
+    omega (arith, (c.in-Ok.ensures.ok (c.args.stack.now.items ++ option_to_list rest.0) n).charge)
 
 pub go_on-requires : goal.go_on-requires
 go_on-requires g c =
@@ -48,7 +55,7 @@ returns-in-Ok-after g c = record {
       c.go_on.new.run c.requires.walking (λ runs at.
       let n = at.next in
       let on = c.in-Ok.ensures.ok runs n in
-      let known = c.in-Ok-after.ensures.ok n.seen n.a (looked_at _ _ _ _ _ _ _ _ _ _ _ n on.walks) at.known in
+      let known = c.in-Ok-after.ensures.ok n.seen n.a (looked_at _ _ _ _ _ _ _ _ _ _ _ n on.walks _ (cost_charged _ _ _ _ _ _ on.costs on.charge)) at.known in
       record { walking = record { seen = n.a.path ∷ n.seen; ahead = on.later; walks = on.walks; known = known }; less = on.less })
       c.go_on.ensures.runs;
   room = c.go_on.ensures.room;

@@ -1,6 +1,6 @@
 use Rattle.std.proofs.Common.{◌∷◌}
 use Rattle.cap_spec.specs.Messages.{HasWord}
-use Rattle.cap_vet.proofs.Stacks.{looked_at, null_visited, visited}
+use Rattle.cap_vet.proofs.Stacks.{looked_at, looked_costs, null_visited, visited}
 use Rattle.cap_vet.proofs.walk.walking.turn_near.Goals as goal
 
 pub word-requires-clause-exists : goal.word-requires-clause-exists
@@ -25,7 +25,8 @@ pub after-requires-clause-known : goal.after-requires-clause-known
 after-requires-clause-known g c =
     let n = c.requires.1.next in
     let v = visited _ c.args.limits.now _ _ _ c.requires.0 _ _ n c.in-Some.ensures.looked in
-    (n.seen, n.a, rw c.add-below.ensures.report (looked_at _ _ _ _ _ _ _ _ _ _ _ n v.walks), c.requires.1.known)
+    let costs = looked_costs _ _ _ _ _ _ _ _ c.in-Some.ensures.looked in
+    (n.seen, n.a, rw (c.add-below.ensures.report, c.cost-cost.ensures) (looked_at _ _ _ _ _ _ _ _ _ _ _ n v.walks _ costs), c.requires.1.known)
 
 pub returns-then-word-eq0-clause-ok : goal.returns-then-word-eq0-clause-ok
 returns-then-word-eq0-clause-ok g c = λ runs at.
@@ -48,7 +49,8 @@ pub returns-in-Ok-clause-ok : goal.returns-in-Ok-clause-ok
 returns-in-Ok-clause-ok g c = λ runs at.
     let n = at.next in
     let v = visited _ c.args.limits.now _ _ _ runs _ _ n c.in-Some.ensures.looked in
-    let known = c.in-Ok.ensures.ok n.seen n.a (rw c.add-below.ensures.report (looked_at _ _ _ _ _ _ _ _ _ _ _ n v.walks)) at.known in
+    let costs = looked_costs _ _ _ _ _ _ _ _ c.in-Some.ensures.looked in
+    let known = c.in-Ok.ensures.ok n.seen n.a (rw (c.add-below.ensures.report, c.cost-cost.ensures) (looked_at _ _ _ _ _ _ _ _ _ _ _ n v.walks _ costs)) at.known in
     rw (c.add-below.ensures.run, c.add-below.ensures.report) (record {
       walking = record { seen = n.a.path ∷ n.seen; ahead = v.later; walks = v.walks; known = known };
       less = v.less;
