@@ -1,16 +1,17 @@
 -- A message is compared with its copy while it is vetted, one object more.
 use Rattle.std.proofs.Common.{ℕ, zero, suc, ◌+◌, ◌-◌, ◌*◌, ◌<◌, ◌≤◌, ◌^◌, ◌≡◌, ◌≢◌, ◌↔◌, List, [], ◌∷◌, ◌++◌, length, max, false, inl, inr, None}
-use Rattle.std.proofs.Common.{ap, ap₂, refl, sym, subst, ◌∙◌, arith}
+use Rattle.std.proofs.Common.{ap, ap₂, refl, sym, subst, ◌∙◌, arith, pos}
 use Rattle.std.specs.Prelude.{if◌then◌else◌, ◌==◌, not}
 use Rattle.std.proofs.lemmas.Bool.{ne_eqb}
 use Rattle.cap_spec.specs.Canonical.{children_needed, children_of, cut_elements, data_needed, data_of, layout, list_word, pointer_to}
 use Rattle.cap_spec.specs.Canonical.{struct_word, trim, trim_elements}
 use Rattle.cap_spec.specs.Copies.{IsCanonical}
 use Rattle.cap_spec.specs.Denoting.{AreElements, DenoteEach, Denotes, Finds, element_levels, places, value_at, values_of, words_from}
-use Rattle.cap_spec.specs.Following.{IsComposite}
+use Rattle.cap_spec.specs.Following.{IsComposite, Leads, extra, near, to_cap, to_null, to_object}
 use Rattle.cap_spec.specs.Messages.{HasWord, segment_of}
+use Rattle.cap_spec.specs.Paths.{Costs}
 use Rattle.cap_spec.specs.Placing.{StandAt}
-use Rattle.cap_spec.specs.Pointers.{code, data_size, element_bits, kind, list_size, list_words, middle, pointer_size}
+use Rattle.cap_spec.specs.Pointers.{code, data_size, element_bits, extent, kind, list_size, list_words, middle, pointer_size}
 use Rattle.cap_spec.specs.Scalars.{scalar_words}
 use Rattle.cap_spec.specs.Strict.{IsStrict}
 use Rattle.cap_spec.specs.Tree.{Tree, struct, structs, Trees, none, more, has_cap, tree_count}
@@ -18,15 +19,16 @@ use Rattle.cap_spec.specs.declared.Step.{Step}
 use Rattle.cap_spec.specs.declared.Step.TheVariants.{Ptr, Item}
 use Rattle.std.proofs.lemmas.List.FromFn.{length-map-range_with_len}
 use Rattle.cap_spec.proofs.Strict.Looking.{near_has_none}
-use Rattle.cap_spec.proofs.Trees.Charges.{extent_pointers, extent_struct, extent_structs}
+use Rattle.cap_spec.proofs.Pointers.Following.{one_lead}
+use Rattle.cap_spec.proofs.Trees.Charges.{extent_pointers, extent_struct, extent_structs, extra_same, one_cost}
+use Rattle.cap_spec.proofs.Trees.Finding.{object_parts}
 use Rattle.cap_spec.proofs.Canonical.PointerFields.{struct_fields}
 use Rattle.cap_spec.proofs.Canonical.TreeMeasures.{Fits, extent_scalars}
 use Rattle.cap_spec.proofs.Frames.Messages.{one_word}
 use Rattle.cap_spec.proofs.Trees.DenotedTrees.{range_length}
 use Rattle.cap_spec.proofs.Trees.OneTree.{one_tree}
-use Rattle.cap_ptr.specs.Rows.{FindsRow}
+use Rattle.cap_ptr.specs.Rows.{HasPointers}
 use Rattle.cap_ptr.specs.Shapes.{FindsObject, FindsTargetBy, IsShape}
-use Rattle.cap_ptr.specs.declared.near.Row.{Row}
 use Rattle.cap_ptr.specs.declared.shapes.Shape.{Shape}
 use Rattle.cap_ptr.specs.declared.shapes.Target.{Target}
 use Rattle.cap_ptr.specs.declared.shapes.Shape.TheVariants as shape
@@ -39,7 +41,7 @@ use Rattle.cap_vet.specs.declared.report.Report.{Report}
 use Rattle.cap_vet.proofs.Laxness.{knows_on, within_of}
 use Rattle.cap_vet.proofs.OneTrail.{object_trail, one_trail, root_trail}
 use Rattle.cap_canon.specs.Checked.{IsChecked}
-use Rattle.cap_canon.specs.InOrder.{AreDue, HasOwn, IsCut, IsInOrder, IsLaidSoFar, IsNextInOrder, IsOwn, IsStop, MayStand}
+use Rattle.cap_canon.specs.InOrder.{AreDue, HasOwn, IsCut, IsCutAt, IsCutStruct, IsInOrder, IsLaidSoFar, IsNextInOrder, IsOwn, IsStop, LeadsToEnd, MayStand}
 use Rattle.cap_canon.specs.Laying.{AreBefore, Due, IsPointed, OwnAt, below, element_slots, own_size, slots}
 use Rattle.cap_canon.specs.Objects.{AreElementsLeft, AreLeft, IsLeft, IsObject}
 use Rattle.cap_canon.specs.Roots.{ForTrimmed}
@@ -53,7 +55,7 @@ use Rattle.cap_canon.proofs.CheckWalks.{check_first, check_on}
 use Rattle.cap_canon.proofs.Elements.{most_data_of}
 use Rattle.cap_canon.proofs.Entering.{below_before}
 use Rattle.cap_canon.proofs.Found.{pointers_object, scalars_object, struct_found, struct_object, structs_found, structs_object}
-use Rattle.cap_canon.proofs.InPlace.{near_start}
+use Rattle.cap_canon.proofs.InPlace.{near_lead}
 use Rattle.cap_canon.proofs.LaidSteps.{object_laid}
 use Rattle.cap_canon.proofs.Owing.{before_join, before_more}
 use Rattle.cap_canon.proofs.Standing.{list_place, pointers_place, scalars_place, struct_place, structs_place, structs_stand}
@@ -261,13 +263,13 @@ laid_on m a later w end now q tag t b whole e inside own k = go k.due k.are_due 
           checked = subst (λ n. IsChecked m whole n (below end x.tree ++ due)) (sym r.ends) checked;
         }
 
-pub next_in_order : (m : List (List ℕ)) (seen : List (List Step)) (a : Ahead) (s w n end now : ℕ) → IsLookedAt m seen a s w n
+pub next_in_order : (m : List (List ℕ)) (seen : List (List Step)) (a : Ahead) (s w n cost end now : ℕ) → IsLookedAt m seen a s w n cost
     → IsNextInOrder m w end now → IsInOrder m end seen → IsInOrder m now (a.path ∷ seen)
-next_in_order m seen a s w n end now l x k = record {
+next_in_order m seen a s w n cost end now l x k = record {
   one = k.one;
   few = k.few;
   inside = x.inside;
-  strict = knows_on m seen a s w n None l not_lax k.strict;
+  strict = knows_on m seen a s w n cost None l not_lax k.strict;
   so_far = λ ahead trail y c d h.
       let children = object_children a.path x.q x.tag x.t x.b a.level in
       let finds : Finds m a.segment a.word x.k x.t x.b x.q =
@@ -284,11 +286,12 @@ next_in_order m seen a s w n end now l x k = record {
     not_lax : IsNotLax m s w
     not_lax = subst (λ v. IsNotLax m v w) (sym first) (near_has_none m 0 w x.word x.has x.near)
 
--- the word looked at is one of segment 0
-pub next_inside : (m : List (List ℕ)) (seen : List (List Step)) (a : Ahead) (s w n end : ℕ) → IsLookedAt m seen a s w n
-    → IsInOrder m end seen → w < length (segment_of m 0)
-next_inside m seen a s w n end l k =
-    let first : s ≡ 0 = omega (arith, l.exists, k.one) in subst (λ v. w < length (segment_of m v)) first l.inside
+-- the word looked at is one of segment 0, and has its cost there
+pub next_inside : (m : List (List ℕ)) (seen : List (List Step)) (a : Ahead) (s w n cost end : ℕ) → IsLookedAt m seen a s w n cost
+    → IsInOrder m end seen → (s ≡ 0) × (w < length (segment_of m 0)) × Costs m 0 w cost
+next_inside m seen a s w n cost end l k =
+    let first : s ≡ 0 = omega (arith, l.exists, k.one) in
+    (first, subst (λ v. w < length (segment_of m v)) first l.inside, subst (λ v. Costs m v w cost) first l.costs)
 
 -- A list whose word and tag are those of a copy has the data words that the tag gives.
 cut_size : (m : List (List ℕ)) (w end : ℕ) (c : IsCut m w) (cs : Trees) (d p : ℕ) → w < end → end < 2 ^ 29 → Fits (structs d p cs)
@@ -329,9 +332,9 @@ cut_differs m a later w end whole e c few k same = go k.due k.are_due k.before k
         let most = most_data_of m c.t (c.b + 1) c.d c.p c.n found.elements found.inner found.deep found.below in
         c.cut (most ∙ (sym (data_of-trim found.elements) ∙ sym size))
 
-pub cut_not_canonical : (m : List (List ℕ)) (seen : List (List Step)) (a : Ahead) (s w n end : ℕ) → IsLookedAt m seen a s w n
+pub cut_not_canonical : (m : List (List ℕ)) (seen : List (List Step)) (a : Ahead) (s w n cost end : ℕ) → IsLookedAt m seen a s w n cost
     → IsInOrder m end seen → IsCut m w → ¬ IsCanonical m
-cut_not_canonical m seen a s w n end l k c (words, h, e) =
+cut_not_canonical m seen a s w n cost end l k c (words, h, e) =
     cut_differs m a l.later w end (trim h.tree) l.word c k.few (k.so_far (a ∷ l.later) l.trail h.tree h.charge h.depth h.denotes)
     (ap (λ u. segment_of u 0) e ∙ h.laid)
 
@@ -437,116 +440,149 @@ struct_by_fields x small k = omega (arith, small, k)
 list_by_fields : (x : ℕ) → x < 2 ^ 64 → kind x ≡ 1 → x ≡ list_word (middle x) (code x) (list_size x)
 list_by_fields x small k = omega (arith, small, k)
 
--- A word that describes its object alone, and leads to the end.
-module _ (m : List (List ℕ)) (w end word : ℕ) (r : Row) (s : MayStand m w end) (f : FindsRow m 0 w word r) (has : HasWord m 0 w word)
-    (next : w + 1 + middle word ≡ end) where
+-- A word that leads to the end.
+module _ (m : List (List ℕ)) (w word end cost : ℕ) (l : LeadsToEnd m w word end cost) where
   offset : middle word ≡ end - w - 1
-  offset = omega (arith, next)
+  offset = omega (arith, l.next)
 
-  pub starts_at : kind word < 2 → word ≢ 0 → r.start ≡ end
-  starts_at near some =
-      let small : middle word < 2 ^ 29 = omega (arith, next, s.inside, s.few) in
-      (near_start m 0 w 0 0 r.start word word (middle word) f.finds has near some refl small).1 ∙ next
+  -- Its object starts there.
+  pub object_there : kind word < 2 → word ≢ 0
+      → (tag : ℕ) × Finds m 0 w 0 0 end word × (IsComposite word → HasWord m 0 end tag) × (cost ≡ extent word + extra word tag)
+  object_there low some = go l.costs
+    where
+      lead : Leads m 0 w 0 (to_object 0 (pos end) word)
+      lead = subst (λ b. Leads m 0 w 0 (to_object 0 (pos b) word)) l.next
+          (near_lead m 0 w word (middle word) l.has low some refl (omega (arith, l.next, l.stands.inside, l.stands.few)))
 
-  pub row_inside : kind word < 2 → word ≢ 0 → end + r.words ≤ length (segment_of m 0)
-  row_inside near some = omega (arith, f.finds.sits.inside, f.words, starts_at near some)
+      go : Costs m 0 w cost → (tag : ℕ) × Finds m 0 w 0 0 end word × (IsComposite word → HasWord m 0 end tag) × (cost ≡ extent word + extra word tag)
+      go (inl h) = absurd (cc (one_lead m 0 w cost 0 to_null (to_object 0 (pos end) word) h lead).1)
+      go (inr (inl (i, h))) = absurd (cc (one_lead m 0 w cost 0 (to_cap i) (to_object 0 (pos end) word) h lead).1)
+      go (inr (inr (k, t, b, q, tag, f, has, e))) =
+          let one = one_lead m 0 w k 0 (to_object t (pos b) q) (to_object 0 (pos end) word) f.leads lead in
+          let parts = object_parts t b q 0 end word one.1 in
+          let own : (tag : ℕ) × Finds m 0 w k t b q × (IsComposite q → HasWord m t b tag) × (cost ≡ k + extent q + extra q tag) = (tag, f, has, e) in
+          let there : (tag : ℕ) × Finds m 0 w 0 0 end word × (IsComposite word → HasWord m 0 end tag) × (cost ≡ 0 + extent word + extra word tag) =
+          rw (one.0, parts.0, parts.1, parts.2) at own in
+          (there.0, there.1, there.2, omega (arith, there.3))
 
-  object_of : (x : Shape) → IsShape word 0 x → FindsObject m 0 w 0 0 r.start word 0 r.words r.words x
-  object_of x is =
-      let plain = pointers-plain word r.pointer_count f.pointers in
-      let none = pointers-no_extra word r.pointer_count f.pointers in record {
-        finds = f.finds;
+  -- If it needs no tag, it takes what the word costs.
+  row_there : (n : ℕ) → HasPointers word n → word ≢ 0 → Finds m 0 w 0 0 end word × (cost ≡ extent word) × (end + cost ≤ length (segment_of m 0))
+  row_there n pointers some =
+      let plain = pointers-plain word n pointers in
+      let (tag, finds, tagged, costs) = object_there plain.0 some in
+      let none : extra word tag ≡ 0 = extra_same word tag 0 plain.0 (λ k c. absurd (plain.1 k c)) ∙ pointers-no_extra word n pointers in
+      (finds, omega (arith, costs, none), omega (arith, costs, none, finds.sits.inside))
+
+  object_of : (n : ℕ) (x : Shape) → HasPointers word n → word ≢ 0 → IsShape word 0 x → FindsObject m 0 w 0 0 end word 0 cost cost x
+  object_of n x pointers some is =
+      let plain = pointers-plain word n pointers in
+      let none = pointers-no_extra word n pointers in
+      let (finds, words, inside) = row_there n pointers some in record {
+        finds = finds;
         object = record {
           tagged = λ c. absurd (plain.1 c.0 c.1);
-          words = f.words;
-          charge = omega (arith, f.words, none);
-          small = omega (arith, f.few);
+          words = words;
+          charge = omega (arith, words, none);
+          small = omega (arith, inside, l.stands.few);
           shape = is;
         };
       }
 
-  row_next : kind word < 2 → word ≢ 0 → HasOwn m w end (end + r.words) word 0 0 r.start → (IsComposite word → ⊥)
-      → IsNextInOrder m w end (end + r.words)
-  row_next near some own plain = record {
-    word = word;
-    has = has;
-    near = λ e. omega (arith, e, near);
-    inside = row_inside near some;
-    k = 0;
-    t = 0;
-    b = r.start;
+  row_next : (n : ℕ) → HasPointers word n → word ≢ 0 → HasOwn m w end (end + cost) word 0 0 end → IsNextInOrder m w end (end + cost)
+  row_next n pointers some own =
+      let plain = pointers-plain word n pointers in
+      let (finds, words, inside) = row_there n pointers some in record {
+        word = word;
+        has = l.has;
+        near = λ e. omega (arith, e, plain.0);
+        inside = inside;
+        k = 0;
+        t = 0;
+        b = end;
+        q = word;
+        tag = 0;
+        finds = finds;
+        tagged = λ c. absurd (plain.1 c.0 c.1);
+        own = own;
+      }
+
+  -- It is a struct that costs something,
+  struct_some : cost ≢ 0 → word ≢ 0
+  struct_some some = λ z.
+      let null : HasWord m 0 w 0 = subst (HasWord m 0 w) z l.has in
+      some (one_cost m 0 w cost 0 l.costs (inl (near 0 null (omega arith) refl refl)))
+
+  pub struct_inside : kind word ≡ 0 → cost ≢ 0 → (end + data_size word + pointer_size word ≤ length (segment_of m 0)) × (end + cost ≤ length (segment_of m 0))
+  struct_inside k some =
+      let (finds, words, inside) = row_there (pointer_size word) (inl (k, refl)) (struct_some some) in
+      (omega (arith, inside, words, extent_struct word k), inside)
+
+  pub struct_cut : kind word ≡ 0 → cost ≢ 0 → IsCutAt m 0 end (data_size word) (pointer_size word) → IsCutStruct m w
+  struct_cut k some cut = record {
     q = word;
-    tag = 0;
-    finds = f.finds;
-    tagged = λ composite. absurd (plain composite);
-    own = own;
+    has = l.has;
+    t = 0;
+    b = end;
+    words = cost;
+    charge = cost;
+    d = data_size word;
+    p = pointer_size word;
+    found = object_of (pointer_size word) (shape.Struct (data_size word) (pointer_size word)) (inl (k, refl)) (struct_some some)
+        (record { kind = k; data_words = refl; pointers = refl });
+    cut = cut;
   }
 
-  -- It is a struct,
-  pub struct_some : kind word ≡ 0 → r.words ≢ 0 → (word ≢ 0) × (end + data_size word + pointer_size word ≤ length (segment_of m 0))
-  struct_some k some =
-      let extent = extent_struct word k in
-      let set : word ≢ 0 = λ z. some (f.words ∙ (extent ∙ ap (λ (x : ℕ). data_size x + pointer_size x) z)) in
-      (set, omega (arith, row_inside (omega (arith, k)) set, f.words, extent))
-
-  pub struct_next : word < 2 ^ 64 → kind word ≡ 0 → r.words ≢ 0
+  pub struct_next : word < 2 ^ 64 → kind word ≡ 0 → cost ≢ 0
       → data_size word ≡ max 0 (data_needed (words_from m 0 end (data_size word)))
       → ((ts : Trees) (c' d' : ℕ) → DenoteEach m (places 0 (end + data_size word) (pointer_size word)) ts c' d'
-      → pointer_size word ≡ max 0 (children_needed ts)) → IsNextInOrder m w end (end + r.words)
+      → pointer_size word ≡ max 0 (children_needed ts)) → IsNextInOrder m w end (end + cost)
   struct_next small k some sizes children =
       let d = data_size word in
       let p = pointer_size word in
-      let set = (struct_some k some).0 in
-      let near : kind word < 2 = omega (arith, k) in
-      let at = starts_at near set in
-      let none : ((d + p) == 0) ≡ false = ne_eqb (d + p) 0 (λ z. some (f.words ∙ (extent_struct word k ∙ z))) in
+      let set = struct_some some in
+      let pointers : HasPointers word p = inl (k, refl) in
+      let words = (row_there p pointers set).1 in
+      let none : ((d + p) == 0) ≡ false = ne_eqb (d + p) 0 (λ z. some (words ∙ (extent_struct word k ∙ z))) in
       let same : word ≡ (if (d + p) == 0 then 2 ^ 32 - 4 else struct_word (end - w - 1) d p) =
       rw none (struct_by_fields word small k ∙ ap (λ i. struct_word i d p) offset) in
-      row_next near set
-      (struct_own m w end 0 0 r.start word 0 r.words r.words d p s (object_of (shape.Struct d p) (record { kind = k; data_words = refl; pointers = refl }))
-      (subst (λ z. HasWord m 0 w z) same has) (rw at sizes) (rw at children)) (λ c. omega (arith, c.0, k))
+      row_next p pointers set
+      (struct_own m w end 0 0 end word 0 cost cost d p l.stands
+      (object_of p (shape.Struct d p) pointers set (record { kind = k; data_words = refl; pointers = refl }))
+      (subst (HasWord m 0 w) same l.has) sizes children)
 
-  -- a list of pointers
-  pub pointers_next : word < 2 ^ 64 → kind word ≡ 1 → code word ≡ 6 → IsNextInOrder m w end (end + r.words)
+  -- or a list,
+  list_some : kind word ≡ 1 → word ≢ 0
+  list_some k = λ z. (let e : kind word ≡ kind 0 = ap kind z in omega (arith, k, e))
+
+  -- of pointers
+  pub pointers_inside : kind word ≡ 1 → code word ≡ 6 → end + cost ≤ length (segment_of m 0)
+  pointers_inside k c = (row_there (list_size word) (inr (inl (k, c, refl))) (list_some k)).2
+
+  pub pointers_next : word < 2 ^ 64 → kind word ≡ 1 → code word ≡ 6 → IsNextInOrder m w end (end + cost)
   pointers_next small k c =
-      let near : kind word < 2 = omega (arith, k) in
-      let set : word ≢ 0 = λ z. (let e : kind word ≡ kind 0 = ap kind z in omega (arith, k, e)) in
-      let same : word ≡ list_word (end - w - 1) 6 (list_size word) =
-      list_by_fields word small k ∙ (ap (λ i. list_word i (code word) (list_size word)) offset ∙ ap (λ i. list_word (end - w - 1) i (list_size word)) c) in
-      row_next near set
-      (pointers_own m w end 0 0 r.start word 0 r.words r.words (list_size word) s
-      (object_of (shape.Pointers (list_size word)) (record { kind = k; code = c; count = refl })) (subst (λ z. HasWord m 0 w z) same has))
-      (λ z. omega (arith, z.1, c))
+      let n = list_size word in
+      let pointers : HasPointers word n = inr (inl (k, c, refl)) in
+      let same : word ≡ list_word (end - w - 1) 6 n =
+      list_by_fields word small k ∙ (ap (λ i. list_word i (code word) n) offset ∙ ap (λ i. list_word (end - w - 1) i n) c) in
+      row_next n pointers (list_some k)
+      (pointers_own m w end 0 0 end word 0 cost cost n l.stands
+      (object_of n (shape.Pointers n) pointers (list_some k) (record { kind = k; code = c; count = refl })) (subst (HasWord m 0 w) same l.has))
 
-  -- or one of values.
-  pub row_code : kind word ≢ 0 → code word ≢ 6 → (kind word ≡ 1) × (code word < 6)
-  row_code k c = elim f.pointers [
-    | inl h ↦ absurd (k h.0)
-    | inr (inl h) ↦ absurd (c h.1)
-    | inr (inr h) ↦ (h.0, h.2)
-  ]
+  -- or of values with bits.
+  pub row_of_values : kind word ≡ 1 → 0 < code word → code word < 6
+      → (cost ≡ list_words (code word) (list_size word)) × (end + cost ≤ length (segment_of m 0))
+  row_of_values k some few =
+      let (finds, words, inside) = row_there 0 (inr (inr (k, some, few, refl))) (list_some k) in
+      (words ∙ extent_scalars word (code word) k refl few, inside)
 
-  pub row_pointers : kind word ≢ 0 → kind word ≡ 1
-  row_pointers k = elim f.pointers [
-    | inl h ↦ absurd (k h.0)
-    | inr (inl h) ↦ h.0
-    | inr (inr h) ↦ h.0
-  ]
-
-  pub values_words : kind word ≡ 1 → code word < 6 → r.words ≡ list_words (code word) (list_size word)
-  values_words k c = f.words ∙ extent_scalars word (code word) k refl c
-
-  pub values_row : kind word ≡ 1 → end + r.words ≤ length (segment_of m 0)
-  values_row k = row_inside (omega (arith, k)) (λ z. (let e : kind word ≡ kind 0 = ap kind z in omega (arith, k, e)))
-
-  pub values_next : word < 2 ^ 64 → kind word ≡ 1 → code word < 6
-      → StandAt (segment_of m 0) end (scalar_words (code word) (values_of m 0 end (code word) (list_size word))) → IsNextInOrder m w end (end + r.words)
-  values_next small k c stand =
-      let near : kind word < 2 = omega (arith, k) in
-      let set : word ≢ 0 = λ z. (let e : kind word ≡ kind 0 = ap kind z in omega (arith, k, e)) in
-      let same : word ≡ list_word (end - w - 1) (code word) (list_size word) =
-      list_by_fields word small k ∙ ap (λ i. list_word i (code word) (list_size word)) offset in
-      row_next near set
-      (values_own m w end 0 0 r.start word 0 r.words r.words (code word) (list_size word) s
-      (object_of (shape.Scalars (code word) (list_size word)) (record { kind = k; code = refl; scalar = c; count = refl }))
-      (subst (λ z. HasWord m 0 w z) same has) stand) (λ z. omega (arith, z.1, c))
+  pub values_next : word < 2 ^ 64 → kind word ≡ 1 → 0 < code word → code word < 6
+      → StandAt (segment_of m 0) end (scalar_words (code word) (values_of m 0 end (code word) (list_size word))) → IsNextInOrder m w end (end + cost)
+  values_next small k some few stand =
+      let c = code word in
+      let n = list_size word in
+      let pointers : HasPointers word 0 = inr (inr (k, some, few, refl)) in
+      let same : word ≡ list_word (end - w - 1) c n = list_by_fields word small k ∙ ap (λ i. list_word i c n) offset in
+      row_next 0 pointers (list_some k)
+      (values_own m w end 0 0 end word 0 cost cost c n l.stands
+      (object_of 0 (shape.Scalars c n) pointers (list_some k) (record { kind = k; code = refl; scalar = few; count = refl }))
+      (subst (HasWord m 0 w) same l.has) stand)

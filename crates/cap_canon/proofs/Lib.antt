@@ -5,6 +5,7 @@ mod CheckWalks
 mod Children
 pub mod Copies
 mod CopyWalks
+mod CutStructs
 mod Elements
 mod Entering
 mod Filling

@@ -18,7 +18,7 @@ use Rattle.cap_canon.specs.InOrder.{AreDue, IsInOrder, IsLaidSoFar}
 use Rattle.cap_canon.specs.Laying.{AreBefore, Due, Laid}
 
 -- a zero word denotes null
-zero_null : (m : List (List ℕ)) (s w : ℕ) (x : Tree) (c d : ℕ) → Denotes m s w x c d → HasWord m s w 0 → x ≡ null
+pub zero_null : (m : List (List ℕ)) (s w : ℕ) (x : Tree) (c d : ℕ) → Denotes m s w x c d → HasWord m s w 0 → x ≡ null
 zero_null m s w x c d h zero =
     let f = formed m s w x c d h in
     let e = one_lead m s w f.k 0 f.r to_null f.leads (near 0 zero (omega arith) refl refl) in

@@ -1,21 +1,20 @@
 //! Comparing a message with its canonical copy while it is vetted.
 
-ghost use Rattle.cap_canon.specs.InOrder.{HasOwn, IsCut, IsInOrder, IsNextInOrder, IsStop, MayStand};
+ghost use Rattle.cap_canon.specs.InOrder.{HasOwn, IsCut, IsCutAt, IsCutStruct, IsInOrder, IsNextInOrder, IsStop, LeadsToEnd, MayStand};
 ghost use Rattle.cap_canon.specs.NullsInOrder.{null_in_order};
-ghost use Rattle.cap_ptr.specs.Rows.{FindsRow};
 ghost use Rattle.cap_ptr.specs.Shapes.{FindsTarget, FindsTargetBy};
 ghost use Rattle.cap_spec.specs.Messages.{HasWord, segment_of};
-ghost use Rattle.cap_spec.specs.Pointers.{kind, middle};
-ghost use Rattle.std.specs.Prelude.{◌+◌, ◌<◌, ◌^◌, ◌≡◌, ◌≤◌, IfErr, IfOk, IsTrue, length, ℕ};
+ghost use Rattle.cap_spec.specs.Paths.{Costs};
+ghost use Rattle.cap_spec.specs.Pointers.{kind};
+ghost use Rattle.std.specs.Prelude.{◌+◌, ◌<◌, ◌^◌, ◌≡◌, ◌≤◌, ◌⊎◌, IfErr, IfOk, IsTrue, length, ℕ};
 
 use crate::checking::ends_with_values;
-use crate::trimming::list_data_left;
+use crate::trimming::{data_left, list_data_left};
 use crate::wholeness::{has_last_pointers, is_struct_whole};
 use crate::words::{list_pointer, struct_pointer, tag_word};
 use cap_frame::Segments;
 use cap_ptr::{
-    Followed, Row, Shape, Target, code, data_size, follow, kind, list_size, middle, near_row,
-    pointer_size,
+    Followed, Shape, Target, code, data_size, follow, kind, list_size, middle, pointer_size,
 };
 use cap_vet::{FirstTurn, Place, Turn};
 
@@ -56,13 +55,14 @@ impl Turn for InOrder {
     fn after<M: Segments>(
         &mut self,
         message: &M,
-        _s: u32,
+        s: u32,
         w: u32,
         _used: Option<Place>,
         _may_be_lax: bool,
         _pointers: u64,
+        cost: u64,
     ) -> Result<(), Stop> {
-        match next_end(message, w, self.end) {
+        match next_end(message, s, w, cost, self.end) {
             Ok(end) => {
                 self.end = end;
                 Ok(())
@@ -87,52 +87,89 @@ impl FirstTurn for InOrder {
 }
 
 // Where a copy has the next object, if it has pointer word `w` of segment 0 and its object's own
-// words as they are here, these from `end` on.
+// words as they are here, these from `end` on. Following that word costs `cost` words.
 #[inline(always)]
-fn next_end<M: Segments>(message: &M, w: u32, end: u32) -> Result<u32, Stop>
+fn next_end<M: Segments>(message: &M, s: u32, w: u32, cost: u64, end: u32) -> Result<u32, Stop>
+    requires first { s ≡ 0 }
     requires inside { w < length (segment_of (M.segments message.now) 0) }
+    requires costs { Costs (M.segments message.now) 0 w cost }
     requires end { let m = M.segments message.now in
         (end ≤ length (segment_of m 0)) × (length (segment_of m 0) ≤ 268435457) }
     ensures ok { IfOk result (IsNextInOrder (M.segments message.now) w end) }
     ensures err { IfErr result (λ stop. stop ≡ Stop.NotCanonical →
-        IsCut (M.segments message.now) w) }
+        IsCut (M.segments message.now) w ⊎ IsCutStruct (M.segments message.now) w) }
 {
-    let word = message.word(0, w);
-    if u64::from(w) + 1 + u64::from(middle(word)) == u64::from(end) {
-        if let Some(row) = near_row(word, w, message.len(0)) {
-            return row_end(message, w, word, end, &row);
-        }
+    // Of segment `s`, as the walk reads it: so the compiler reads the word once.
+    let word = message.word(s, w);
+    if u64::from(w) + 1 + u64::from(middle(word)) != u64::from(end) {
+        return followed_end(message, w, word, end);
     }
-    followed_end(message, w, word, end)
+    match kind(word) {
+        0 => struct_end(message, w, word, cost, end),
+        1 => list_end(message, w, word, cost, end),
+        _ => Err(Stop::Undecided),
+    }
 }
 
-// The same of a word that describes its object alone, and that leads to the end.
+// The same of the word of a struct that leads to the end. The struct takes what the word costs.
 #[inline(always)]
-fn row_end<M: Segments>(message: &M, w: u32, word: u64, end: u32, row: &Row) -> Result<u32, Stop>
-    requires found { FindsRow (M.segments message.now) 0 w word row.now }
-    requires stands { MayStand (M.segments message.now) w end }
-    requires word { HasWord (M.segments message.now) 0 w word }
-    requires next { w + 1 + middle word ≡ end }
+fn struct_end<M: Segments>(message: &M, w: u32, word: u64, cost: u64, end: u32) -> Result<u32, Stop>
+    requires leads { LeadsToEnd (M.segments message.now) w word end cost }
+    requires kind { kind word ≡ 0 }
     ensures ok { IfOk result (IsNextInOrder (M.segments message.now) w end) }
-    ensures err { IfErr result (λ stop. stop ≡ Stop.Undecided) }
+    ensures err { IfErr result (λ stop. stop ≡ Stop.NotCanonical →
+        IsCutStruct (M.segments message.now) w) }
 {
-    let now = end + row.words;
-    if kind(word) == 0 {
-        let (data_words, pointers) = (u32::from(data_size(word)), u32::from(pointer_size(word)));
-        if row.words == 0 {
-            return Err(Stop::Undecided);
-        }
-        if is_struct_whole(message, 0, end, data_words, pointers) {
-            return Ok(now);
-        }
+    if cost == 0 {
         return Err(Stop::Undecided);
     }
+    let (data_words, pointers) = (u32::from(data_size(word)), u32::from(pointer_size(word)));
+    if is_struct_whole(message, 0, end, data_words, pointers) {
+        return Ok(end + cost as u32);
+    }
+    Err(struct_stop(message, end, data_words, pointers))
+}
+
+// Why a walk stops at a struct of these sizes that may not keep them. It is known that a copy has less
+// of it if the last word of its data or of its pointers is zero.
+#[cold]
+#[inline(never)]
+fn struct_stop<M: Segments>(message: &M, start: u32, data_words: u32, pointers: u32) -> Stop
+    requires exists { 0 < length (M.segments message.now) }
+    requires inside { start + data_words + pointers ≤ length (segment_of (M.segments message.now) 0) }
+    ensures { result ≡ Stop.NotCanonical →
+        IsCutAt (M.segments message.now) 0 start data_words pointers }
+{
+    if data_left(message, 0, start, data_words, 0) != data_words {
+        return Stop::NotCanonical;
+    }
+    if pointers == 0 {
+        return Stop::Undecided;
+    }
+    if message.word(0, start + data_words + (pointers - 1)) == 0 {
+        return Stop::NotCanonical;
+    }
+    Stop::Undecided
+}
+
+// What `next_end` does at the word of a list. A list of pointers or values with bits takes what the word costs.
+#[inline(always)]
+fn list_end<M: Segments>(message: &M, w: u32, word: u64, cost: u64, end: u32) -> Result<u32, Stop>
+    requires leads { LeadsToEnd (M.segments message.now) w word end cost }
+    requires kind { kind word ≡ 1 }
+    ensures ok { IfOk result (IsNextInOrder (M.segments message.now) w end) }
+    ensures err { IfErr result (λ stop. stop ≡ Stop.NotCanonical →
+        IsCut (M.segments message.now) w) }
+{
     let code = code(word);
     if code == 6 {
-        return Ok(now);
+        return Ok(end + cost as u32);
     }
-    if ends_with_values(message, end, code, list_size(word), row.words) {
-        return Ok(now);
+    if code == 0 || code == 7 {
+        return followed_end(message, w, word, end);
+    }
+    if ends_with_values(message, end, code, list_size(word), cost as u32) {
+        return Ok(end + cost as u32);
     }
     Err(Stop::Undecided)
 }
