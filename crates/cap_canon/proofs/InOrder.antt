@@ -3,8 +3,8 @@ use Rattle.std.proofs.Common.{ℕ, zero, suc, ◌+◌, ◌-◌, ◌*◌, ◌<◌
 use Rattle.std.proofs.Common.{ap, ap₂, refl, sym, subst, ◌∙◌, arith, pos}
 use Rattle.std.specs.Prelude.{if◌then◌else◌, ◌==◌, not}
 use Rattle.std.proofs.lemmas.Bool.{ne_eqb}
-use Rattle.cap_spec.specs.Canonical.{children_needed, children_of, cut_elements, data_needed, data_of, layout, list_word, pointer_to}
-use Rattle.cap_spec.specs.Canonical.{struct_word, trim, trim_elements}
+use Rattle.cap_spec.specs.Canonical.{children_needed, children_of, data_needed, layout, list_word, pointer_to}
+use Rattle.cap_spec.specs.Canonical.{struct_word, trim}
 use Rattle.cap_spec.specs.Copies.{IsCanonical}
 use Rattle.cap_spec.specs.Denoting.{AreElements, DenoteEach, Denotes, Finds, element_levels, places, value_at, values_of, words_from}
 use Rattle.cap_spec.specs.Following.{IsComposite, Leads, extra, near, to_cap, to_null, to_object}
@@ -14,7 +14,7 @@ use Rattle.cap_spec.specs.Placing.{StandAt}
 use Rattle.cap_spec.specs.Pointers.{code, data_size, element_bits, extent, kind, list_size, list_words, middle, pointer_size}
 use Rattle.cap_spec.specs.Scalars.{scalar_words}
 use Rattle.cap_spec.specs.Strict.{IsStrict}
-use Rattle.cap_spec.specs.Tree.{Tree, struct, structs, Trees, none, more, has_cap, tree_count}
+use Rattle.cap_spec.specs.Tree.{Tree, struct, Trees, none, more, has_cap, tree_count}
 use Rattle.cap_spec.specs.declared.Step.{Step}
 use Rattle.cap_spec.specs.declared.Step.TheVariants.{Ptr, Item}
 use Rattle.std.proofs.lemmas.List.FromFn.{length-map-range_with_len}
@@ -22,15 +22,12 @@ use Rattle.cap_spec.proofs.Strict.Looking.{near_has_none}
 use Rattle.cap_spec.proofs.Pointers.Following.{one_lead}
 use Rattle.cap_spec.proofs.Trees.Charges.{extent_pointers, extent_struct, extent_structs, extra_same, one_cost}
 use Rattle.cap_spec.proofs.Trees.Finding.{object_parts}
-use Rattle.cap_spec.proofs.Canonical.PointerFields.{struct_fields}
-use Rattle.cap_spec.proofs.Canonical.TreeMeasures.{Fits, extent_scalars}
-use Rattle.cap_spec.proofs.Frames.Messages.{one_word}
+use Rattle.cap_spec.proofs.Canonical.TreeMeasures.{extent_scalars}
 use Rattle.cap_spec.proofs.Trees.DenotedTrees.{range_length}
 use Rattle.cap_spec.proofs.Trees.OneTree.{one_tree}
 use Rattle.cap_ptr.specs.Rows.{HasPointers}
-use Rattle.cap_ptr.specs.Shapes.{FindsObject, FindsTargetBy, IsShape}
+use Rattle.cap_ptr.specs.Shapes.{FindsObject, IsShape}
 use Rattle.cap_ptr.specs.declared.shapes.Shape.{Shape}
-use Rattle.cap_ptr.specs.declared.shapes.Target.{Target}
 use Rattle.cap_ptr.specs.declared.shapes.Shape.TheVariants as shape
 use Rattle.cap_ptr.proofs.NearObjects.{pointers-no_extra, pointers-plain}
 use Rattle.cap_vet.specs.Looking.{IsNotLax, object_children}
@@ -41,25 +38,24 @@ use Rattle.cap_vet.specs.declared.report.Report.{Report}
 use Rattle.cap_vet.proofs.Laxness.{knows_on, within_of}
 use Rattle.cap_vet.proofs.OneTrail.{object_trail, one_trail, root_trail}
 use Rattle.cap_canon.specs.Checked.{IsChecked}
-use Rattle.cap_canon.specs.InOrder.{AreDue, HasOwn, IsCut, IsCutAt, IsCutStruct, IsInOrder, IsLaidSoFar, IsNextInOrder, IsOwn, IsStop, LeadsToEnd, MayStand}
+use Rattle.cap_canon.specs.InOrder.{AreDue, HasOwn, IsInOrder, IsLaidSoFar, IsNextInOrder, IsOwn, IsStop, LeadsToEnd, MayStand, NoCopyHas}
 use Rattle.cap_canon.specs.Laying.{AreBefore, Due, IsPointed, OwnAt, below, element_slots, own_size, slots}
 use Rattle.cap_canon.specs.Objects.{AreElementsLeft, AreLeft, IsLeft, IsObject}
 use Rattle.cap_canon.specs.Roots.{ForTrimmed}
-use Rattle.cap_canon.specs.Trimming.{most_data}
+use Rattle.cap_canon.specs.Trimming.{NeedsAll, NeedsLess, most_data}
 use Rattle.cap_canon.specs.declared.in_order.Stop.{Stop}
 use Rattle.cap_canon.specs.declared.in_order.Stop.TheVariants.{NotCanonical, Undecided}
 use Rattle.cap_canon.specs.declared.objects.Object.{Object}
 use Rattle.cap_canon.specs.declared.objects.Object.TheVariants as object
 use Rattle.cap_canon.specs.declared.objects.Part.{Part}
 use Rattle.cap_canon.proofs.CheckWalks.{check_first, check_on}
-use Rattle.cap_canon.proofs.Elements.{most_data_of}
 use Rattle.cap_canon.proofs.Entering.{below_before}
 use Rattle.cap_canon.proofs.Found.{pointers_object, scalars_object, struct_found, struct_object, structs_found, structs_object}
 use Rattle.cap_canon.proofs.InPlace.{near_lead}
 use Rattle.cap_canon.proofs.LaidSteps.{object_laid}
+use Rattle.cap_canon.proofs.NoCopies.{no_struct}
 use Rattle.cap_canon.proofs.Owing.{before_join, before_more}
 use Rattle.cap_canon.proofs.Standing.{list_place, pointers_place, scalars_place, struct_place, structs_place, structs_stand}
-use Rattle.cap_canon.proofs.Trimmed.{data_of-trim}
 use Rattle.cap_canon.proofs.Walks.{owed_fits}
 
 -- words ahead that are due, one behind the other
@@ -175,20 +171,6 @@ values_own m w end k t b q tag words charge c n s f has stand x cost deep h =
     let due : AreDue m [] (below end (trim x)) = subst (λ (v : Tree). AreDue m [] (below end v)) (sym place.tree) tt in
     rw (f.object.shape.kind, six, seven) due)
 
--- where it stands
-pub values_inside : (m : List (List ℕ)) (w end k t b q tag words charge c n : ℕ) → MayStand m w end
-    → FindsObject m 0 w k t b q tag words charge (shape.Scalars c n) → HasWord m 0 w (list_word (end - w - 1) c n)
-    → (end + words ≤ length (segment_of m 0)) × (words ≡ list_words c n) × (c < 6)
-values_inside m w end k t b q tag words charge c n s f has =
-    let few : n < 2 ^ 29 = omega (arith, f.object.shape.count) in
-    let r = list_place m w end k t b q c n f.finds s.after (omega (arith, s.inside, s.few)) has (omega (arith, f.object.shape.scalar)) few in
-    let seg : length (segment_of m t) ≡ length (segment_of m 0) = ap (λ i. length (segment_of m i)) r.segment in
-    let extent = extent_scalars q c f.object.shape.kind f.object.shape.code f.object.shape.scalar in (
-      omega (arith, f.finds.sits.inside, f.object.words, r.start, seg),
-      f.object.words ∙ (extent ∙ ap (list_words c) (sym f.object.shape.count)),
-      f.object.shape.scalar,
-    )
-
 -- how many elements a list of structs has, and that they exist
 pub structs_inside : (m : List (List ℕ)) (w k t b q tag words charge size n d p : ℕ)
     → FindsObject m 0 w k t b q tag words charge (shape.Structs size n d p)
@@ -293,24 +275,10 @@ next_inside m seen a s w n cost end l k =
     let first : s ≡ 0 = omega (arith, l.exists, k.one) in
     (first, subst (λ v. w < length (segment_of m v)) first l.inside, subst (λ v. Costs m v w cost) first l.costs)
 
--- A list whose word and tag are those of a copy has the data words that the tag gives.
-cut_size : (m : List (List ℕ)) (w end : ℕ) (c : IsCut m w) (cs : Trees) (d p : ℕ) → w < end → end < 2 ^ 29 → Fits (structs d p cs)
-    → IsPointed (segment_of m 0) end w (structs d p cs) → OwnAt (segment_of m 0) end (structs d p cs) → c.d ≡ d
-cut_size m w end c cs d p lt small fits (offset, e, has) (has_tag, rest) =
-    let o : offset ≡ end - w - 1 = omega (arith, e) in
-    let here : HasWord m 0 w (list_word (end - w - 1) 7 (tree_count cs * (d + p))) =
-    subst (λ i. HasWord m 0 w (list_word i 7 (tree_count cs * (d + p)))) o has in
-    let r = list_place m w end c.k c.t c.b c.q 7 (tree_count cs * (d + p)) c.found.finds lt small here (omega arith) fits.3 in
-    let tagged = c.found.object.tagged (c.found.object.shape.kind, c.found.object.shape.code) in
-    let tag : HasWord m 0 end c.tag = subst (λ v. HasWord m 0 v c.tag) r.start (subst (λ v. HasWord m v c.b c.tag) r.segment tagged.0) in
-    let same : c.tag ≡ struct_word (tree_count cs) d p = one_word m 0 end c.tag (struct_word (tree_count cs) d p) tag has_tag in
-    let fields = struct_fields (tree_count cs) d p fits.2 fits.0 fits.1 in
-    c.found.object.shape.data_words ∙ (ap data_size same ∙ fields.data_words)
-
--- So structs of a list that don't need all their data words aren't as a copy has them.
-cut_differs : (m : List (List ℕ)) (a : Ahead) (later : List Ahead) (w end : ℕ) (whole : Tree) → a.word ≡ w → IsCut m w
+-- So if no copy has the next object as it is, the words aren't the layout,
+not_laid : (m : List (List ℕ)) (a : Ahead) (later : List Ahead) (w end : ℕ) (whole : Tree) → a.word ≡ w → NoCopyHas m w end
     → length (segment_of m 0) ≤ 268435457 → IsLaidSoFar m end (a ∷ later) whole → segment_of m 0 ≡ layout whole → ⊥
-cut_differs m a later w end whole e c few k same = go k.due k.are_due k.before k.checked
+not_laid m a later w end whole e unlike few k same = go k.due k.are_due k.before k.checked
   where
     go : (due : List Due) → AreDue m (a ∷ later) due → AreBefore end due → IsChecked m whole end due → ⊥
     go [] h before checked = absurd h
@@ -318,24 +286,18 @@ cut_differs m a later w end whole e c few k same = go k.due k.are_due k.before k
         let slot : x.slot ≡ w = sym h.1 ∙ e in
         let (y, cost, deep, denotes, left, le) = h.2.1 in
         let here : Denotes m 0 w y cost deep = subst (λ v. Denotes m 0 v y cost deep) slot denotes in
-        let found = structs_found m 0 w y cost deep c.k c.t c.b c.q c.tag c.words c.charge c.size c.n c.d c.p here c.found in
-        let us = trim_elements found.elements in
-        let cs = cut_elements (data_of us) (children_of us) us in
-        let tree : x.tree ≡ structs (data_of us) (children_of us) cs = left ∙ ap trim found.tree in
         let fits = owed_fits m deep 0 0 x.slot x.tree (y, cost, deep, denotes, left, omega arith) in
         let laid = (object_laid (segment_of m 0) end x.slot x.tree due fits).0 (checked.laid.1 same) in
-        let pointed : IsPointed (segment_of m 0) end w (structs (data_of us) (children_of us) cs) =
-        subst (λ v. IsPointed (segment_of m 0) end v (structs (data_of us) (children_of us) cs)) slot
-        (subst (λ (u : Tree). IsPointed (segment_of m 0) end x.slot u) tree laid.0) in
-        let size = cut_size m w end c cs (data_of us) (children_of us) (omega (arith, slot, before.0)) (omega (arith, checked.inside, few))
-        (subst (λ (u : Tree). Fits u) tree fits) pointed (subst (λ (u : Tree). OwnAt (segment_of m 0) end u) tree laid.1) in
-        let most = most_data_of m c.t (c.b + 1) c.d c.p c.n found.elements found.inner found.deep found.below in
-        c.cut (most ∙ (sym (data_of-trim found.elements) ∙ sym size))
+        let pointed : IsPointed (segment_of m 0) end w (trim y) = subst (λ v. IsPointed (segment_of m 0) end v (trim y)) slot
+        (subst (λ (u : Tree). IsPointed (segment_of m 0) end x.slot u) left laid.0) in
+        unlike y cost deep here (omega (arith, slot, before.0)) (omega (arith, checked.inside, few)) pointed
+        (subst (λ (u : Tree). OwnAt (segment_of m 0) end u) left laid.1)
 
-pub cut_not_canonical : (m : List (List ℕ)) (seen : List (List Step)) (a : Ahead) (s w n cost end : ℕ) → IsLookedAt m seen a s w n cost
-    → IsInOrder m end seen → IsCut m w → ¬ IsCanonical m
-cut_not_canonical m seen a s w n cost end l k c (words, h, e) =
-    cut_differs m a l.later w end (trim h.tree) l.word c k.few (k.so_far (a ∷ l.later) l.trail h.tree h.charge h.depth h.denotes)
+-- and the message isn't canonical.
+pub not_canonical : (m : List (List ℕ)) (seen : List (List Step)) (a : Ahead) (s w n cost end : ℕ) → IsLookedAt m seen a s w n cost
+    → IsInOrder m end seen → NoCopyHas m w end → ¬ IsCanonical m
+not_canonical m seen a s w n cost end l k unlike (words, h, e) =
+    not_laid m a l.later w end (trim h.tree) l.word unlike k.few (k.so_far (a ∷ l.later) l.trail h.tree h.charge h.depth h.denotes)
     (ap (λ u. segment_of u 0) e ∙ h.laid)
 
 -- At first the root is due.
@@ -406,38 +368,11 @@ pub stop_known : (m : List (List ℕ)) (stop : Stop) → (stop ≡ NotCanonical 
 stop_known m NotCanonical h = h refl
 stop_known m Undecided h = tt
 
--- the same of targets
-module _ (m : List (List ℕ)) (w end : ℕ) (x : Target) (s : MayStand m w end) (q tag : ℕ) (f : FindsTargetBy m 0 w q tag x) where
-  pub struct_target : (d p : ℕ) → x.shape ≡ shape.Struct d p
-      → HasWord m 0 w (if (d + p) == 0 then 2 ^ 32 - 4 else struct_word (end - w - 1) d p)
-      → d ≡ max 0 (data_needed (words_from m x.segment x.start d))
-      → ((ts : Trees) (c' d' : ℕ) → DenoteEach m (places x.segment (x.start + d) p) ts c' d' → p ≡ max 0 (children_needed ts))
-      → HasOwn m w end (end + x.words) q tag x.segment x.start
-  struct_target d p e = struct_own m w end x.pads x.segment x.start q tag x.words x.charge d p s
-      (subst (FindsObject m 0 w x.pads x.segment x.start q tag x.words x.charge) e f)
-
-  pub pointers_target : (n : ℕ) → x.shape ≡ shape.Pointers n → HasWord m 0 w (list_word (end - w - 1) 6 n)
-      → HasOwn m w end (end + x.words) q tag x.segment x.start
-  pointers_target n e = pointers_own m w end x.pads x.segment x.start q tag x.words x.charge n s
-      (subst (FindsObject m 0 w x.pads x.segment x.start q tag x.words x.charge) e f)
-
-  pub values_target : (c n : ℕ) → x.shape ≡ shape.Scalars c n → HasWord m 0 w (list_word (end - w - 1) c n)
-      → StandAt (segment_of m 0) end (scalar_words c (values_of m 0 end c n)) → HasOwn m w end (end + x.words) q tag x.segment x.start
-  values_target c n e = values_own m w end x.pads x.segment x.start q tag x.words x.charge c n s
-      (subst (FindsObject m 0 w x.pads x.segment x.start q tag x.words x.charge) e f)
-
-  pub structs_target : (size n d p : ℕ) → x.shape ≡ shape.Structs size n d p → HasWord m 0 w (list_word (end - w - 1) 7 (n * (d + p)))
-      → HasWord m 0 end (struct_word n d p) → d ≡ most_data m x.segment (x.start + 1) d p n
-      → ((es : Trees) (c' d' : ℕ) → AreElements m x.segment (x.start + 1) d p n es c' d' → p ≡ children_of es)
-      → HasOwn m w end (end + x.words) q tag x.segment x.start
-  structs_target size n d p e = structs_own m w end x.pads x.segment x.start q tag x.words x.charge size n d p s
-      (subst (FindsObject m 0 w x.pads x.segment x.start q tag x.words x.charge) e f)
-
 -- the words of pointers by their fields
-struct_by_fields : (x : ℕ) → x < 2 ^ 64 → kind x ≡ 0 → x ≡ struct_word (middle x) (data_size x) (pointer_size x)
+pub struct_by_fields : (x : ℕ) → x < 2 ^ 64 → kind x ≡ 0 → x ≡ struct_word (middle x) (data_size x) (pointer_size x)
 struct_by_fields x small k = omega (arith, small, k)
 
-list_by_fields : (x : ℕ) → x < 2 ^ 64 → kind x ≡ 1 → x ≡ list_word (middle x) (code x) (list_size x)
+pub list_by_fields : (x : ℕ) → x < 2 ^ 64 → kind x ≡ 1 → x ≡ list_word (middle x) (code x) (list_size x)
 list_by_fields x small k = omega (arith, small, k)
 
 -- A word that leads to the end.
@@ -517,26 +452,15 @@ module _ (m : List (List ℕ)) (w word end cost : ℕ) (l : LeadsToEnd m w word 
       let (finds, words, inside) = row_there (pointer_size word) (inl (k, refl)) (struct_some some) in
       (omega (arith, inside, words, extent_struct word k), inside)
 
-  pub struct_cut : kind word ≡ 0 → cost ≢ 0 → IsCutAt m 0 end (data_size word) (pointer_size word) → IsCutStruct m w
-  struct_cut k some cut = record {
-    q = word;
-    has = l.has;
-    t = 0;
-    b = end;
-    words = cost;
-    charge = cost;
-    d = data_size word;
-    p = pointer_size word;
-    found = object_of (pointer_size word) (shape.Struct (data_size word) (pointer_size word)) (inl (k, refl)) (struct_some some)
-        (record { kind = k; data_words = refl; pointers = refl });
-    cut = cut;
-  }
+  pub struct_differs : kind word ≡ 0 → cost ≢ 0 → NeedsLess m 0 end (data_size word) (pointer_size word) → NoCopyHas m w end
+  struct_differs k some less =
+      no_struct m w end word cost cost
+      (object_of (pointer_size word) (shape.Struct (data_size word) (pointer_size word)) (inl (k, refl)) (struct_some some)
+      (record { kind = k; data_words = refl; pointers = refl })) l.has l.next less
 
-  pub struct_next : word < 2 ^ 64 → kind word ≡ 0 → cost ≢ 0
-      → data_size word ≡ max 0 (data_needed (words_from m 0 end (data_size word)))
-      → ((ts : Trees) (c' d' : ℕ) → DenoteEach m (places 0 (end + data_size word) (pointer_size word)) ts c' d'
-      → pointer_size word ≡ max 0 (children_needed ts)) → IsNextInOrder m w end (end + cost)
-  struct_next small k some sizes children =
+  pub struct_next : word < 2 ^ 64 → kind word ≡ 0 → cost ≢ 0 → NeedsAll m 0 end (data_size word) (pointer_size word)
+      → IsNextInOrder m w end (end + cost)
+  struct_next small k some needs =
       let d = data_size word in
       let p = pointer_size word in
       let set = struct_some some in
@@ -548,7 +472,7 @@ module _ (m : List (List ℕ)) (w word end cost : ℕ) (l : LeadsToEnd m w word 
       row_next p pointers set
       (struct_own m w end 0 0 end word 0 cost cost d p l.stands
       (object_of p (shape.Struct d p) pointers set (record { kind = k; data_words = refl; pointers = refl }))
-      (subst (HasWord m 0 w) same l.has) sizes children)
+      (subst (HasWord m 0 w) same l.has) (omega (arith, needs.data_words)) (λ ts c' d' h. omega (arith, needs.pointers ts c' d' h)))
 
   -- or a list,
   list_some : kind word ≡ 1 → word ≢ 0
@@ -586,3 +510,11 @@ module _ (m : List (List ℕ)) (w word end cost : ℕ) (l : LeadsToEnd m w word 
       (values_own m w end 0 0 end word 0 cost cost c n l.stands
       (object_of 0 (shape.Scalars c n) pointers (list_some k) (record { kind = k; code = refl; scalar = few; count = refl }))
       (subst (HasWord m 0 w) same l.has) stand)
+
+  pub values_differ : kind word ≡ 1 → 0 < code word → code word < 6
+      → (StandAt (segment_of m 0) end (scalar_words (code word) (values_of m 0 end (code word) (list_size word))) → ⊥) → NoCopyHas m w end
+  values_differ k some few stand x charge deep h lt small pointed own =
+      let o = scalars_object m 0 w x charge deep 0 0 end word 0 cost cost (code word) (list_size word) h
+      (object_of 0 (shape.Scalars (code word) (list_size word)) (inr (inr (k, some, few, refl))) (list_some k)
+      (record { kind = k; code = refl; scalar = few; count = refl })) in
+      stand (subst (λ (u : Tree). OwnAt (segment_of m 0) end u) o.1.tree own)

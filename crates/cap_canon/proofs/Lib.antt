@@ -5,23 +5,26 @@ mod CheckWalks
 mod Children
 pub mod Copies
 mod CopyWalks
-mod CutStructs
 mod Elements
 mod Entering
 mod Filling
 pub mod FirstWords
 mod Found
 mod InOrder
+mod InOrderLists
 mod InPlace
 mod Kept
 mod LaidSteps
 mod Laying
 mod Lengths
 mod Needed
+mod NoCopies
+mod OtherWords
 pub mod Overs
 mod Owing
 mod PointerForms
 mod Ranges
+mod Rests
 mod Runs
 mod Standing
 mod Structs

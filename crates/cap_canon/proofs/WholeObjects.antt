@@ -1,14 +1,18 @@
--- Objects of which nothing is cut, where their pointers needn't be followed.
-use Rattle.std.proofs.Common.{ℕ, zero, suc, ◌+◌, ◌-◌, ◌*◌, ◌<◌, ◌≡◌, ◌≢◌, List, max, refl, sym, subst, ◌∙◌, arith, false}
-use Rattle.cap_spec.specs.Canonical.{children_needed, children_of, is_null}
-use Rattle.cap_spec.specs.Denoting.{AreElements, DenoteEach, Denotes, places}
+-- Objects that need all their words, or less, where their pointers needn't be followed.
+use Rattle.std.proofs.Common.{ℕ, zero, suc, ◌+◌, ◌-◌, ◌*◌, ◌<◌, ◌≤◌, ◌≡◌, ◌≢◌, List, length, max, ap, refl, sym, subst, ◌∙◌, arith, false, true}
+use Rattle.std.proofs.lemmas.Nat.{mul-le}
+use Rattle.cap_spec.specs.Canonical.{children_needed, children_of, data_needed, is_null}
+use Rattle.cap_spec.specs.Denoting.{AreElements, DenoteEach, Denotes, places, words_from}
 use Rattle.cap_spec.specs.Following.{near, one_pad, two_pads, to_null, Leads}
-use Rattle.cap_spec.specs.Messages.{HasWord}
+use Rattle.cap_spec.specs.Messages.{HasWord, segment_of}
 use Rattle.cap_spec.specs.Pointers.{kind}
 use Rattle.cap_spec.specs.Tree.{Tree, null, cap, struct, scalars, pointers, structs, Trees, none, more}
 use Rattle.cap_spec.proofs.Frames.Messages.{one_word}
-use Rattle.cap_canon.proofs.Children.{child_here, row_needed}
+use Rattle.cap_canon.specs.NullsInOrder.{zero_null}
+use Rattle.cap_canon.specs.Trimming.{most_data}
+use Rattle.cap_canon.proofs.Children.{child_below, child_here, row_needed}
 use Rattle.cap_canon.proofs.Elements.{children_within, element_parts}
+use Rattle.cap_canon.proofs.Needed.{most_within, needed_below, needed_here, range_needed}
 
 -- a word that isn't zero or far leads to something
 no_null_lead : (m : List (List ℕ)) (s w x k : ℕ) → HasWord m s w x → x ≢ 0 → kind x ≢ 2 → Leads m s w k to_null → ⊥
@@ -59,3 +63,74 @@ elements_whole m t b ds ps n (suc i) (more (struct ws ts) es) c d some lt last h
     (λ u c' d' g. last u c' d' (subst (λ x. Denotes m t x u c' d') (sym e) g)) k.rest in
     omega (arith, rest, row_needed m t (b + ds) ps ts k.c1 k.d1 k.children)
 elements_whole m t b ds ps n i (more _ es) c d some lt last h = absurd h
+
+-- a last data word that isn't zero is needed,
+pub data_last : (m : List (List ℕ)) (t b d x : ℕ) → 0 < d → b + d ≤ length (segment_of m t) → HasWord m t (b + (d - 1)) x → x ≢ 0
+    → d ≡ data_needed (words_from m t b d)
+data_last m t b d x some inside h nz = omega (arith, needed_here m t b d d 0 x some (omega arith) h nz (range_needed m t b d inside))
+
+-- and a zero one isn't
+pub data_short : (m : List (List ℕ)) (t b d x : ℕ) → 0 < d → b + d ≤ length (segment_of m t) → HasWord m t (b + (d - 1)) x → x ≡ 0
+    → data_needed (words_from m t b d) ≤ d - 1
+data_short m t b d x some inside h z = needed_below m t b d d 0 x some (omega arith) h z (range_needed m t b d inside)
+
+-- nor is a last pointer word that is zero
+zero_is_null : (m : List (List ℕ)) (t w : ℕ) (u : Tree) (c d : ℕ) → HasWord m t w 0 → Denotes m t w u c d → true ≡ is_null u
+zero_is_null m t w u c d last h = sym (ap is_null (zero_null m t w u c d h last))
+
+pub row_short : (m : List (List ℕ)) (t b p : ℕ) (ts : Trees) (c d : ℕ) → 0 < p → HasWord m t (b + (p - 1)) 0 → DenoteEach m (places t b p) ts c d
+    → children_needed ts ≤ p - 1
+row_short m t b p ts c d some last h =
+    child_below m t b p p 0 true ts c d some (omega arith) h (λ u c' d' k. zero_is_null m t (b + (p - 1)) u c' d' last k) refl (row_needed m t b p ts c d h)
+
+-- the data words of elements, one of whose last ones isn't zero
+pub most_all : (m : List (List ℕ)) (t b ds ps n i x : ℕ) → 0 < ds → i < n → b + n * (ds + ps) ≤ length (segment_of m t)
+    → HasWord m t (b + (ds - 1) + i * (ds + ps)) x → x ≢ 0 → ds ≡ most_data m t b ds ps n
+most_all m t b ds ps zero i x some lt inside h nz = absurd (omega (arith, lt))
+most_all m t b ds ps (suc n) zero x some lt inside h nz =
+    let f : suc n * (ds + ps) ≡ ds + ps + n * (ds + ps) = omega arith in
+    let e : b + (ds - 1) + 0 * (ds + ps) ≡ b + (ds - 1) = omega arith in
+    let own = data_last m t b ds x some (omega (arith, inside, f)) (subst (λ a. HasWord m t a x) e h) nz in
+    omega (arith, own, most_within m t (b + (ds + ps)) ds ps n (omega (arith, inside, f)))
+most_all m t b ds ps (suc n) (suc i) x some lt inside h nz =
+    let f : suc n * (ds + ps) ≡ ds + ps + n * (ds + ps) = omega arith in
+    let g : suc i * (ds + ps) ≡ ds + ps + i * (ds + ps) = omega arith in
+    let e : b + (ds - 1) + suc i * (ds + ps) ≡ b + (ds + ps) + (ds - 1) + i * (ds + ps) = omega (arith, g) in
+    let rest = most_all m t (b + (ds + ps)) ds ps n i x some (omega (arith, lt)) (omega (arith, inside, f)) (subst (λ a. HasWord m t a x) e h) nz in
+    omega (arith, rest, range_needed m t b ds (omega (arith, inside, f)))
+
+-- and those of elements whose last ones are all zero
+pub most_short : (m : List (List ℕ)) (t b ds ps n : ℕ) → 0 < ds → b + n * (ds + ps) ≤ length (segment_of m t)
+    → ((k : ℕ) → k < n → HasWord m t (b + (ds - 1) + k * (ds + ps)) 0) → most_data m t b ds ps n ≤ ds - 1
+most_short m t b ds ps zero some inside zeros = omega arith
+most_short m t b ds ps (suc n) some inside zeros =
+    let f : suc n * (ds + ps) ≡ ds + ps + n * (ds + ps) = omega arith in
+    let e : b + (ds - 1) + 0 * (ds + ps) ≡ b + (ds - 1) = omega arith in
+    let own = data_short m t b ds 0 some (omega (arith, inside, f)) (subst (λ a. HasWord m t a 0) e (zeros 0 (omega arith))) refl in
+    let rest = most_short m t (b + (ds + ps)) ds ps n some (omega (arith, inside, f)) (λ k lt.
+    let g : suc k * (ds + ps) ≡ ds + ps + k * (ds + ps) = omega arith in
+    let e' : b + (ds - 1) + suc k * (ds + ps) ≡ b + (ds + ps) + (ds - 1) + k * (ds + ps) = omega (arith, g) in
+    subst (λ a. HasWord m t a 0) e' (zeros (suc k) (omega (arith, lt)))) in
+    omega (arith, own, rest)
+
+-- the pointers of elements whose last ones are all zero
+pub elements_short : (m : List (List ℕ)) (t b ds ps n : ℕ) (es : Trees) (c d : ℕ) → 0 < ps
+    → ((k : ℕ) → k < n → HasWord m t (b + (ds + (ps - 1)) + k * (ds + ps)) 0) → AreElements m t b ds ps n es c d → children_of es ≤ ps - 1
+elements_short m t b ds ps n none c d some zeros h = omega arith
+elements_short m t b ds ps n (more (struct ws ts) es) c d some zeros h =
+    let k = element_parts m t b ds ps n ws ts es c d h in
+    let e : b + (ds + (ps - 1)) + 0 * (ds + ps) ≡ b + ds + (ps - 1) = omega arith in
+    let own = row_short m t (b + ds) ps ts k.c1 k.d1 some (subst (λ a. HasWord m t a 0) e (zeros 0 (omega (arith, k.many)))) k.children in
+    let rest = elements_short m t (b + ds + ps) ds ps k.others es k.c2 k.d2 some (λ i lt.
+    let g : suc i * (ds + ps) ≡ ds + ps + i * (ds + ps) = omega arith in
+    let e' : b + (ds + (ps - 1)) + suc i * (ds + ps) ≡ b + ds + ps + (ds + (ps - 1)) + i * (ds + ps) = omega (arith, g) in
+    subst (λ a. HasWord m t a 0) e' (zeros (suc i) (omega (arith, lt, k.many)))) k.rest in
+    omega (arith, own, rest)
+elements_short m t b ds ps n (more _ es) c d some zeros h = absurd h
+
+-- a word of an element is inside the list
+pub element_inside : (b o each k n l : ℕ) → k < n → o < each → b + n * each ≤ l → b + o + k * each < l
+element_inside b o each k n l lt small inside =
+    let a : suc k * each ≤ n * each = mul-le (suc k) each n each (omega (arith, lt)) (omega arith) in
+    let e : suc k * each ≡ each + k * each = omega arith in
+    omega (arith, a, e, small, inside)

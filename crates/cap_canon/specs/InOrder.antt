@@ -1,8 +1,8 @@
 -- A message that is compared with its canonical copy while it is vetted (profile).
-use Rattle.std.specs.Prelude.{ℕ, ◌+◌, ◌-◌, ◌<◌, ◌≤◌, ◌≡◌, ◌≢◌, ◌⊎◌, List, [], ◌∷◌, length, None, ⊤}
-use Rattle.cap_spec.specs.Canonical.{data_needed, trim}
+use Rattle.std.specs.Prelude.{ℕ, ◌+◌, ◌^◌, ◌<◌, ◌≤◌, ◌≡◌, ◌≢◌, List, [], ◌∷◌, length, None, ⊤}
+use Rattle.cap_spec.specs.Canonical.{trim}
 use Rattle.cap_spec.specs.Copies.{IsCanonical}
-use Rattle.cap_spec.specs.Denoting.{Denotes, Finds, words_from}
+use Rattle.cap_spec.specs.Denoting.{Denotes, Finds}
 use Rattle.cap_spec.specs.Following.{IsComposite}
 use Rattle.cap_spec.specs.Messages.{HasWord, segment_of}
 use Rattle.cap_spec.specs.Paths.{Costs}
@@ -12,13 +12,10 @@ use Rattle.cap_spec.specs.declared.Step.{Step}
 use Rattle.cap_vet.specs.Looking.{object_children}
 use Rattle.cap_vet.specs.Stricts.{KnowsLax}
 use Rattle.cap_vet.specs.Trails.{Ahead, IsTrail}
-use Rattle.cap_ptr.specs.Shapes.{FindsObject}
-use Rattle.cap_ptr.specs.declared.shapes.Shape.TheVariants.{Struct, Structs}
 use Rattle.cap_canon.specs.Checked.{IsChecked}
 use Rattle.cap_canon.specs.Laying.{AreBefore, Due, IsPointed, OwnAt, below, own_size}
 use Rattle.cap_canon.specs.Objects.{IsLeft}
 use Rattle.cap_canon.specs.Roots.{ForTrimmed}
-use Rattle.cap_canon.specs.Trimming.{most_data}
 use Rattle.cap_canon.specs.declared.in_order.Stop.{Stop}
 use Rattle.cap_canon.specs.declared.in_order.Stop.TheVariants.{NotCanonical, Undecided}
 
@@ -57,10 +54,6 @@ pub record IsOwn (m : List (List ℕ)) (w end now q tag t b : ℕ) (u : Tree) : 
 abbrev pub HasOwn : List (List ℕ) → ℕ → ℕ → ℕ → ℕ → ℕ → ℕ → ℕ → Type 0
 HasOwn m w end now q tag t b = (x : Tree) (c d : ℕ) → Denotes m 0 w x c d → IsOwn m w end now q tag t b (trim x)
 
--- of d data words at t:b not all are needed, or the last of the p pointer words after them is zero
-abbrev pub IsCutAt : List (List ℕ) → ℕ → ℕ → ℕ → ℕ → Type 0
-IsCutAt m t b d p = (d ≢ data_needed (words_from m t b d)) ⊎ ((0 < p) × HasWord m t (b + d + (p - 1)) 0)
-
 -- A copy may have the words of the object of the pointer word w from end on.
 pub record MayStand (m : List (List ℕ)) (w end : ℕ) : Type 0 where
   pub after : w < end
@@ -89,36 +82,10 @@ pub record IsNextInOrder (m : List (List ℕ)) (w end now : ℕ) : Type 0 where
   pub tagged : IsComposite q → HasWord m t b tag
   pub own : HasOwn m w end now q tag t b
 
--- The pointer word w of segment 0 finds a list of n structs of d data words and p pointers, and none of these needs all
--- its data words.
-pub record IsCut (m : List (List ℕ)) (w : ℕ) : Type 0 where
-  pub k : ℕ
-  pub t : ℕ
-  pub b : ℕ
-  pub q : ℕ
-  pub tag : ℕ
-  pub words : ℕ
-  pub charge : ℕ
-  pub size : ℕ
-  pub n : ℕ
-  pub d : ℕ
-  pub p : ℕ
-  pub found : FindsObject m 0 w k t b q tag words charge (Structs size n d p)
-  pub cut : most_data m t (b + 1) d p n ≢ d
-
--- The pointer word w of segment 0 is q, that of a struct of d data words and p pointers. The last of these data words is
--- zero, or the last of these pointer words.
-pub record IsCutStruct (m : List (List ℕ)) (w : ℕ) : Type 0 where
-  pub q : ℕ
-  pub has : HasWord m 0 w q
-  pub t : ℕ
-  pub b : ℕ
-  pub words : ℕ
-  pub charge : ℕ
-  pub d : ℕ
-  pub p : ℕ
-  pub found : FindsObject m 0 w 0 t b q 0 words charge (Struct d p)
-  pub cut : IsCutAt m t b d p
+-- No copy has the pointer word w of segment 0, and its object's own words from end on, as the message has them.
+abbrev pub NoCopyHas : List (List ℕ) → ℕ → ℕ → Type 0
+NoCopyHas m w end = (x : Tree) (c d : ℕ) → Denotes m 0 w x c d → w < end → end < 2 ^ 29 → IsPointed (segment_of m 0) end w (trim x)
+    → OwnAt (segment_of m 0) end (trim x) → ⊥
 
 -- what is known of a message where the walk stops
 abbrev pub IsStop : List (List ℕ) → Stop → Type 0

@@ -18,9 +18,10 @@ ghost use Rattle.std.specs.Prelude.{[], ◌+◌, ◌<◌, ◌^◌, ◌↔◌, �
 use crate::objects::{Object, read_range};
 use crate::run::PointerPlace;
 use crate::walk::{Pass, walk};
-use crate::words::{last_bits, last_word, pointer_word, tag_word};
+use crate::words::{pointer_word, rest_bits, tag_word};
 use cap_frame::Segments;
 use cap_vet::Vetted;
+use cap_words::bits;
 
 /// Whether a message has one segment, and its words are its canonical copy (encoding:
 /// Canonicalization). With a capability it isn't. Takes no memory, and makes no copy.
@@ -127,13 +128,11 @@ pub(crate) fn ends_with_values<M: Segments>(
     ensures { IsTrue result ↔ StandAt (segment_of (M.segments message.now) 0) start
         (scalar_words code (values_of (M.segments message.now) 0 start code count)) }
 {
-    if words == 0 {
-        return true;
-    }
     read_range(message, 0, start, words);
-    if last_bits(code, count, words) == 64 {
+    let used = rest_bits(code, count);
+    if used == 0 {
         return true;
     }
     let last = message.word(0, start + (words - 1));
-    last == last_word(code, count, words, last)
+    last == bits(last, 0, used)
 }

@@ -11,6 +11,7 @@ mod checking;
 mod copying;
 mod fault;
 mod in_order;
+mod in_order_lists;
 mod length;
 mod objects;
 mod output;

@@ -7,7 +7,7 @@ ghost use Rattle.cap_spec.specs.Pointers.{element_bits, list_words};
 ghost use Rattle.cap_spec.specs.Tree.{Tree};
 ghost use Rattle.cap_spec.specs.Words.{field};
 ghost use Rattle.cap_canon.specs.Values.{used_bits};
-ghost use Rattle.std.specs.Prelude.{◌+◌, ◌-◌, ◌*◌, ◌<◌, ◌≤◌, ◌^◌, ◌≡◌, ◌==◌, if◌then◌else◌, List, ℕ};
+ghost use Rattle.std.specs.Prelude.{◌+◌, ◌-◌, ◌*◌, ◌%◌, ◌<◌, ◌≤◌, ◌^◌, ◌≡◌, ◌==◌, if◌then◌else◌, List, ℕ};
 
 use crate::objects::Object;
 use cap_ptr::Pointer;
@@ -101,8 +101,8 @@ pub(crate) fn last_word(code: u8, count: u32, words: u32, word: u64) -> u64
     bits(word, 0, last_bits(code, count, words))
 }
 
-/// How many bits of the last word of such a list its values take.
-pub(crate) fn last_bits(code: u8, count: u32, words: u32) -> u32
+// How many bits of the last word of such a list its values take.
+fn last_bits(code: u8, count: u32, words: u32) -> u32
     requires code { code < 6 }
     requires words { words ≡ list_words code count }
     requires some { 0 < words }
@@ -111,6 +111,24 @@ pub(crate) fn last_bits(code: u8, count: u32, words: u32) -> u32
 {
     let (each, per) = value_sizes(code);
     (count - (words - 1) * per) * each
+}
+
+/// How many bits of the last word of a list of values its values take, or 0 if they take all of them
+/// or the list has no words.
+#[inline(always)]
+pub(crate) fn rest_bits(code: u8, count: u32) -> u32
+    ensures { result ≡ (element_bits code * count) % 64 }
+{
+    // Bytes come first: most lists are texts or data.
+    if code == 2 {
+        return (count % 8) * 8;
+    }
+    match code {
+        1 => count % 64,
+        3 => (count % 4) * 16,
+        4 => (count % 2) * 32,
+        _ => 0,
+    }
 }
 
 // How many bits a value of a code has, and how many of them a word has.

@@ -1,6 +1,4 @@
-use Rattle.std.proofs.Common.{inl, inr}
-use Rattle.cap_canon.proofs.CutStructs.{cut_struct_not_canonical}
-use Rattle.cap_canon.proofs.InOrder.{cut_not_canonical, next_in_order, next_inside, stop_known}
+use Rattle.cap_canon.proofs.InOrder.{next_in_order, next_inside, not_canonical, stop_known}
 use Rattle.cap_canon.proofs.in_order.InOrderTurn.after.Goals as goal
 
 pub next_end-requires-clause-first : goal.next_end-requires-clause-first
@@ -21,7 +19,4 @@ returns-in-Ok-clause-ok g c = λ seen a looked known. next_in_order _ seen a _ _
 pub returns-in-Err-clause-err : goal.returns-in-Err-clause-err
 returns-in-Err-clause-err g c =
     let k = c.requires.known in
-    stop_known _ c.in-Err.stop (λ e. elim (c.in-Err.ensures.err e) [
-      | inl cut ↦ cut_not_canonical _ k.0 k.1 _ _ _ _ _ k.2 k.3 cut
-      | inr cut ↦ cut_struct_not_canonical _ k.0 k.1 _ _ _ _ _ k.2 k.3 cut
-    ])
+    stop_known _ c.in-Err.stop (λ e. not_canonical _ k.0 k.1 _ _ _ _ _ k.2 k.3 (c.in-Err.ensures.err e))

@@ -1,0 +1,82 @@
+-- A list of structs, whose word leads to the end, that is as a copy has it, or not.
+use Rattle.std.proofs.Common.{ℕ, ◌+◌, ◌-◌, ◌*◌, ◌<◌, ◌≤◌, ◌^◌, ◌≡◌, ◌⊎◌, inl, inr, List, length, pos, ap, sym, subst, refl, ◌∙◌, arith, true, false}
+use Rattle.std.specs.Prelude.{if◌then◌else◌, ◌==◌}
+use Rattle.std.proofs.lemmas.Bool.Decides.{eqb_tells}
+use Rattle.cap_spec.specs.Canonical.{list_word, struct_word}
+use Rattle.cap_spec.specs.Messages.{HasWord, segment_of}
+use Rattle.cap_spec.specs.Pointers.{code, data_size, kind, list_size, middle, pointer_size}
+use Rattle.cap_spec.proofs.Canonical.PointerFields.{start_after}
+use Rattle.cap_spec.proofs.Frames.Messages.{HasWord-segment}
+use Rattle.cap_spec.proofs.Trees.Charges.{extent_structs}
+use Rattle.cap_ptr.specs.Reaching.{LeadsTo}
+use Rattle.cap_ptr.specs.Shapes.{FindsObject}
+use Rattle.cap_ptr.specs.declared.shapes.Shape.TheVariants as shape
+use Rattle.cap_ptr.proofs.Objects.{found-structs}
+use Rattle.cap_ptr.proofs.Pads.{object-lead, stands-near}
+use Rattle.cap_canon.specs.InOrder.{HasOwn, IsNextInOrder, MayStand, NoCopyHas}
+use Rattle.cap_canon.specs.Trimming.{ListNeedsAll, ListNeedsLess}
+use Rattle.cap_canon.proofs.InOrder.{list_by_fields, struct_by_fields, structs_own}
+use Rattle.cap_canon.proofs.NoCopies.{no_structs}
+
+-- a near word leads to the end
+pub leads_to_end : (m : List (List ℕ)) (w end word : ℕ) → MayStand m w end → HasWord m 0 w word → kind word ≡ 1 → w + 1 + middle word ≡ end
+    → LeadsTo m 0 w 0 0 end word
+leads_to_end m w end word s has list next =
+    object-lead m 0 w 0 0 w word (pos end) (stands-near m 0 w word has (λ e. omega (arith, e, list))) (omega (arith, list))
+    (λ z. (let e : kind word ≡ kind 0 = ap kind z in omega (arith, list, e)))
+    (start_after word w end (middle word) refl (omega (arith, next, s.inside, s.few)) (sym next))
+
+-- The list, with its tag.
+module _ (m : List (List ℕ)) (w end word tag : ℕ) (s : MayStand m w end) (has : HasWord m 0 w word) (list : (kind word ≡ 1) × (code word ≡ 7))
+    (next : w + 1 + middle word ≡ end) (inside : end + 1 + list_size word ≤ length (segment_of m 0)) (has_tag : HasWord m 0 end tag)
+    (tag_kind : kind tag ≡ 0) (fits : middle tag * (data_size tag + pointer_size tag) ≡ list_size word) where
+  abbrev n : ℕ
+  n = middle tag
+
+  abbrev d : ℕ
+  d = data_size tag
+
+  abbrev p : ℕ
+  p = pointer_size tag
+
+  abbrev empty : ℕ
+  empty = if (d + p) == 0 then n else 0
+
+  empty_few : (((d + p == 0) ≡ true) × (d + p ≡ 0)) ⊎ (((d + p == 0) ≡ false) × (d + p ≡ 0 → ⊥)) → empty ≤ n
+  empty_few (inl y) = rw y.0 (omega arith)
+  empty_few (inr y) = rw y.0 (omega arith)
+
+  object : FindsObject m 0 w 0 0 end word tag (1 + list_size word) (0 + 1 + list_size word + empty) (shape.Structs (list_size word) n d p)
+  object =
+      let extent_is = extent_structs word list.0 list.1 in
+      found-structs m 0 w 0 0 end word (leads_to_end m w end word s has list.0 next) (HasWord-segment m 0 w word has) tag (list_size word) n d p empty
+      (1 + list_size word) (0 + 1 + list_size word + empty) (omega arith) (omega (arith, extent_is, inside)) list has_tag refl tag_kind refl refl refl
+      (omega (arith, fits)) refl (empty_few (eqb_tells (d + p) 0)) refl refl
+
+  pub structs_next : word < 2 ^ 64 → tag < 2 ^ 64 → ListNeedsAll m 0 (end + 1) d p n → IsNextInOrder m w end (end + 1 + list_size word)
+  structs_next small tag_small needs =
+      let offset : middle word ≡ end - w - 1 = omega (arith, next) in
+      let same : word ≡ list_word (end - w - 1) 7 (n * (d + p)) = list_by_fields word small list.0
+      ∙ (ap (λ i. list_word i (code word) (list_size word)) offset
+      ∙ (ap (λ i. list_word (end - w - 1) i (list_size word)) list.1 ∙ ap (λ i. list_word (end - w - 1) 7 i) (sym fits))) in
+      let tag_same : tag ≡ struct_word n d p = struct_by_fields tag tag_small tag_kind in
+      let e : end + (1 + list_size word) ≡ end + 1 + list_size word = omega arith in
+      let own = structs_own m w end 0 0 end word tag (1 + list_size word) (0 + 1 + list_size word + empty) (list_size word) n d p s object
+      (subst (λ z. HasWord m 0 w z) same has) (subst (λ z. HasWord m 0 end z) tag_same has_tag) needs.data_words needs.pointers in record {
+        word = word;
+        has = has;
+        near = λ y. omega (arith, y, list.0);
+        inside = inside;
+        k = 0;
+        t = 0;
+        b = end;
+        q = word;
+        tag = tag;
+        finds = object.finds;
+        tagged = λ _. has_tag;
+        own = subst (λ i. HasOwn m w end i word tag 0 end) e own;
+      }
+
+  pub structs_differ : ListNeedsLess m 0 (end + 1) d p n → NoCopyHas m w end
+  structs_differ less =
+      no_structs m w end word tag (1 + list_size word) (0 + 1 + list_size word + empty) (list_size word) n d p object less

@@ -1,0 +1,141 @@
+-- Pointer words and objects that no copy has as they are.
+use Rattle.std.proofs.Common.{ℕ, ◌+◌, ◌-◌, ◌<◌, ◌≤◌, ◌^◌, ◌≡◌, ◌≢◌, ◌⊎◌, inl, inr, List, length, take, ap, sym, subst, refl, ◌∙◌, arith, true, false}
+use Rattle.std.specs.Prelude.{◌==◌}
+use Rattle.std.proofs.lemmas.Bool.Decides.{eqb_tells}
+use Rattle.std.proofs.lemmas.List.{length-take-le}
+use Rattle.cap_spec.specs.Canonical.{children_needed, children_of, cut_elements, data_needed, data_of, pointer_to, struct_word, take_trees, trim, trim_all}
+use Rattle.cap_spec.specs.Canonical.{trim_elements}
+use Rattle.cap_spec.specs.Denoting.{DenoteEach, Denotes, places, words_from}
+use Rattle.cap_spec.specs.Messages.{HasWord, segment_of}
+use Rattle.cap_spec.specs.Pointers.{data_size, kind, middle, pointer_size}
+use Rattle.cap_spec.specs.Tree.{Tree, null, cap, struct, scalars, pointers, structs, Trees, tree_count}
+use Rattle.cap_spec.proofs.Canonical.PointerFields.{StructFields, struct_fields}
+use Rattle.cap_spec.proofs.Canonical.TreeMeasures.{Fits}
+use Rattle.cap_spec.proofs.Canonical.TrimmedMeasures.{children_needed_le, data_needed_le, tree_count-take_le}
+use Rattle.cap_spec.proofs.Frames.Messages.{one_word}
+use Rattle.cap_spec.proofs.Trees.DenotedTrees.{range_length}
+use Rattle.cap_ptr.specs.Shapes.{FindsObject}
+use Rattle.cap_ptr.specs.declared.shapes.Shape.TheVariants as shape
+use Rattle.cap_canon.specs.Found.{IsStructAt}
+use Rattle.cap_canon.specs.InOrder.{NoCopyHas}
+use Rattle.cap_canon.specs.Laying.{IsPointed, OwnAt}
+use Rattle.cap_canon.specs.Trimming.{ListNeedsLess, NeedsLess}
+use Rattle.cap_canon.proofs.Children.{row_needed}
+use Rattle.cap_canon.proofs.Elements.{most_data_of}
+use Rattle.cap_canon.proofs.Found.{struct_found, structs_found}
+use Rattle.cap_canon.proofs.Standing.{pointed_word}
+use Rattle.cap_canon.proofs.Trimmed.{children_needed-trim, children_of-trim, data_of-trim}
+use Rattle.cap_canon.proofs.Walks.{owed_fits}
+
+-- What a pointer word of a copy is: null, a capability, that of a struct without words, or it has the offset.
+pub word_parts : (o word : ℕ) (u : Tree) → o < 2 ^ 29 → word ≡ pointer_to o u → kind word ≢ 3 → word ≢ 0 → word ≢ 2 ^ 32 - 4
+    → (kind word < 2) × (middle word ≡ o)
+word_parts o word null small e k z n = absurd (z e)
+word_parts o word (cap i) small e k z n = absurd (k (omega (arith, e)))
+word_parts o word (struct ws ts) small e k z n = go (eqb_tells (length ws + tree_count ts) 0)
+  where
+    go : (((length ws + tree_count ts == 0) ≡ true) × (length ws + tree_count ts ≡ 0)) ⊎
+        (((length ws + tree_count ts == 0) ≡ false) × (length ws + tree_count ts ≡ 0 → ⊥))
+        → (kind word < 2) × (middle word ≡ o)
+    go (inl y) = absurd (n (e ∙ rw y.0 refl))
+    go (inr y) =
+        let f : word ≡ struct_word o (length ws) (tree_count ts) = e ∙ rw y.0 refl in
+        (omega (arith, f), omega (arith, f, small))
+word_parts o word (scalars c vs) small e k z n = (omega (arith, e), omega (arith, e, small))
+word_parts o word (pointers ts) small e k z n = (omega (arith, e), omega (arith, e, small))
+word_parts o word (structs d p es) small e k z n = (omega (arith, e), omega (arith, e, small))
+
+-- So no copy has another word that doesn't lead to the end.
+pub no_word : (m : List (List ℕ)) (w end word : ℕ) → HasWord m 0 w word → kind word ≢ 3 → word ≢ 0 → word ≢ 2 ^ 32 - 4
+    → (kind word < 2 → w + 1 + middle word ≡ end → ⊥) → NoCopyHas m w end
+no_word m w end word has k z n other x c d h lt small pointed own =
+    let e = pointed_word m w end word (trim x) has pointed in
+    let parts = word_parts (end - w - 1) word (trim x) (omega (arith, small)) e k z n in
+    other parts.0 (omega (arith, parts.1, lt))
+
+-- The sizes of a struct that a copy has as it is are those that the struct needs.
+record StructNeeds (m : List (List ℕ)) (end word : ℕ) : Type 0 where
+  pub data_words : data_size word ≡ data_needed (words_from m 0 end (data_size word))
+  pub children : Trees
+  pub charge : ℕ
+  pub depth : ℕ
+  pub denote : DenoteEach m (places 0 (end + data_size word) (pointer_size word)) children charge depth
+  pub pointers : pointer_size word ≡ children_needed children
+
+struct_needs : (m : List (List ℕ)) (w end word words charge : ℕ) (x : Tree) (c d : ℕ)
+    → FindsObject m 0 w 0 0 end word 0 words charge (shape.Struct (data_size word) (pointer_size word)) → HasWord m 0 w word
+    → w + 1 + middle word ≡ end → Denotes m 0 w x c d → w < end → end < 2 ^ 29 → IsPointed (segment_of m 0) end w (trim x) → StructNeeds m end word
+struct_needs m w end word words charge x c d f has next h lt small pointed = go (eqb_tells (length front + tree_count first) 0)
+  where
+    k : IsStructAt m 0 w 0 end (data_size word) (pointer_size word) x d
+    k = struct_found m 0 w x c d 0 0 end word 0 words charge (data_size word) (pointer_size word) h f
+
+    us : Trees
+    us = trim_all k.children
+
+    front : List ℕ
+    front = take (data_needed k.words) k.words
+
+    first : Trees
+    first = take_trees (children_needed us) us
+
+    e : word ≡ pointer_to (end - w - 1) (struct front first)
+    e = pointed_word m w end word (trim x) has pointed ∙ ap (pointer_to (end - w - 1)) (ap trim k.tree)
+
+    d_is : length front ≡ data_needed (words_from m 0 end (data_size word))
+    d_is = length-take-le (data_needed k.words) k.words (data_needed_le k.words) ∙ ap data_needed k.data_words
+
+    p_is : tree_count first ≡ children_needed k.children
+    p_is = tree_count-take_le (children_needed us) us (children_needed_le us) ∙ children_needed-trim k.children
+
+    d_few : length front ≤ data_size word
+    d_few =
+        let l : length k.words ≡ data_size word = ap length k.data_words ∙ range_length m 0 end (data_size word) (omega (arith, k.found.inside)) in
+        omega (arith, length-take-le (data_needed k.words) k.words (data_needed_le k.words), data_needed_le k.words, l)
+
+    p_few : tree_count first ≤ pointer_size word
+    p_few = omega (arith, p_is, row_needed m 0 (end + data_size word) (pointer_size word) k.children k.inner k.deep k.below)
+
+    go : (((length front + tree_count first == 0) ≡ true) × (length front + tree_count first ≡ 0)) ⊎
+        (((length front + tree_count first == 0) ≡ false) × (length front + tree_count first ≡ 0 → ⊥)) → StructNeeds m end word
+    go (inl y) =
+        let none : word ≡ 2 ^ 32 - 4 = e ∙ rw y.0 refl in
+        let far : middle word ≡ middle (2 ^ 32 - 4) = ap middle none in
+        absurd (omega (arith, far, next, small))
+    go (inr y) =
+        let same : word ≡ struct_word (end - w - 1) (length front) (tree_count first) = e ∙ rw y.0 refl in
+        let fields : StructFields (struct_word (end - w - 1) (length front) (tree_count first)) (end - w - 1) (length front) (tree_count first) =
+        struct_fields (end - w - 1) (length front) (tree_count first) (omega (arith, small)) (omega (arith, d_few)) (omega (arith, p_few)) in record {
+          data_words = ap data_size same ∙ (fields.data_words ∙ d_is);
+          children = k.children;
+          charge = k.inner;
+          depth = k.deep;
+          denote = k.below;
+          pointers = ap pointer_size same ∙ (fields.pointers ∙ p_is);
+        }
+
+-- So no copy has a struct as it is that needs less.
+pub no_struct : (m : List (List ℕ)) (w end word words charge : ℕ)
+    → FindsObject m 0 w 0 0 end word 0 words charge (shape.Struct (data_size word) (pointer_size word)) → HasWord m 0 w word
+    → w + 1 + middle word ≡ end → NeedsLess m 0 end (data_size word) (pointer_size word) → NoCopyHas m w end
+no_struct m w end word words charge f has next less x c d h lt small pointed own =
+    let k = struct_needs m w end word words charge x c d f has next h lt small pointed in
+    elim less [ inl data_less ↦ data_less k.data_words | inr row_less ↦ row_less k.children k.charge k.depth k.denote k.pointers ]
+
+-- nor a list of structs
+pub no_structs : (m : List (List ℕ)) (w end word tag words charge size n d p : ℕ)
+    → FindsObject m 0 w 0 0 end word tag words charge (shape.Structs size n d p) → ListNeedsLess m 0 (end + 1) d p n → NoCopyHas m w end
+no_structs m w end word tag words charge size n d p f less x c deep h lt small pointed own =
+    let k = structs_found m 0 w x c deep 0 0 end word tag words charge size n d p h f in
+    let us = trim_elements k.elements in
+    let cs = cut_elements (data_of us) (children_of us) us in
+    let tree : trim x ≡ structs (data_of us) (children_of us) cs = ap trim k.tree in
+    let fits : Fits (structs (data_of us) (children_of us) cs) = subst Fits tree (owed_fits m deep 0 0 w (trim x) (x, c, deep, h, refl, omega arith)) in
+    let laid : OwnAt (segment_of m 0) end (structs (data_of us) (children_of us) cs) = subst (λ (u : Tree). OwnAt (segment_of m 0) end u) tree own in
+    let tagged = f.object.tagged (f.object.shape.kind, f.object.shape.code) in
+    let same = one_word m 0 end tag (struct_word (tree_count cs) (data_of us) (children_of us)) tagged.0 laid.0 in
+    let fields = struct_fields (tree_count cs) (data_of us) (children_of us) fits.2 fits.0 fits.1 in
+    let d_is : d ≡ data_of k.elements = f.object.shape.data_words ∙ (ap data_size same ∙ (fields.data_words ∙ data_of-trim k.elements)) in
+    let p_is : p ≡ children_of k.elements = f.object.shape.pointers ∙ (ap pointer_size same ∙ (fields.pointers ∙ children_of-trim k.elements)) in
+    let most = most_data_of m 0 (end + 1) d p n k.elements k.inner k.deep k.below in
+    elim less [ inl data_less ↦ data_less (d_is ∙ sym most) | inr fewer ↦ fewer k.elements k.inner k.deep k.below p_is ]

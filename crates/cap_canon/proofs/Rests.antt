@@ -1,0 +1,59 @@
+-- How many bits of its last word a list of values takes, and lists that take all of them.
+use Rattle.std.proofs.Common.{ℕ, zero, suc, ◌+◌, ◌*◌, ◌%◌, ◌<◌, ◌≤◌, ◌≡◌, ◌≢◌, List, length, ap, sym, subst, ◌∙◌, arith}
+use Rattle.std.proofs.lemmas.List.{nil_from_length}
+use Rattle.std.proofs.lemmas.List.FromFn.{length-map-range_with_len}
+use Rattle.cap_spec.specs.Words.{IsWord, field}
+use Rattle.cap_spec.specs.Messages.{HasWord, segment_of}
+use Rattle.cap_spec.specs.Pointers.{element_bits, list_words}
+use Rattle.cap_spec.specs.Denoting.{value_at, values_of}
+use Rattle.cap_spec.specs.Scalars.{scalar_words}
+use Rattle.cap_spec.specs.Placing.{StandAt}
+use Rattle.cap_spec.proofs.Trees.ReadingBack.{length-scalar_words}
+use Rattle.cap_canon.specs.Values.{used_bits}
+use Rattle.cap_canon.proofs.Ranges.{whole_field}
+use Rattle.cap_canon.proofs.Standing.{range_words, values_stand}
+
+-- where no bits are over, the values take all of the last word,
+pub rest_all : (c n before : ℕ) → c < 6 → list_words c n ≡ before + 1 → (element_bits c * n) % 64 ≡ 0 → used_bits c n before ≡ 64
+rest_all zero n before lt w e = absurd (omega (arith, w))
+rest_all (suc zero) n before lt w e = omega (arith, w, e)
+rest_all (suc (suc zero)) n before lt w e = omega (arith, w, e)
+rest_all (suc (suc (suc zero))) n before lt w e = omega (arith, w, e)
+rest_all (suc (suc (suc (suc zero)))) n before lt w e = omega (arith, w, e)
+rest_all (suc (suc (suc (suc (suc zero))))) n before lt w e = omega (arith, w, e)
+rest_all (suc (suc (suc (suc (suc (suc c)))))) n before lt w e = absurd (omega (arith, lt))
+
+-- else as many of it as are over,
+pub rest_part : (c n before : ℕ) → c < 6 → list_words c n ≡ before + 1 → (element_bits c * n) % 64 ≢ 0 → used_bits c n before ≡ (element_bits c * n) % 64
+rest_part zero n before lt w e = absurd (omega (arith, w))
+rest_part (suc zero) n before lt w e = omega (arith, w, e)
+rest_part (suc (suc zero)) n before lt w e = omega (arith, w, e)
+rest_part (suc (suc (suc zero))) n before lt w e = omega (arith, w, e)
+rest_part (suc (suc (suc (suc zero)))) n before lt w e = omega (arith, w, e)
+rest_part (suc (suc (suc (suc (suc zero))))) n before lt w e = omega (arith, w, e)
+rest_part (suc (suc (suc (suc (suc (suc c)))))) n before lt w e = absurd (omega (arith, lt))
+
+-- and the list has words.
+pub rest_words : (c n : ℕ) → c < 6 → (element_bits c * n) % 64 ≢ 0 → 0 < list_words c n
+rest_words zero n lt e = omega (arith, e)
+rest_words (suc zero) n lt e = omega (arith, e)
+rest_words (suc (suc zero)) n lt e = omega (arith, e)
+rest_words (suc (suc (suc zero))) n lt e = omega (arith, e)
+rest_words (suc (suc (suc (suc zero)))) n lt e = omega (arith, e)
+rest_words (suc (suc (suc (suc (suc zero))))) n lt e = omega (arith, e)
+rest_words (suc (suc (suc (suc (suc (suc c)))))) n lt e = absurd (omega (arith, lt))
+
+-- A list stands there where no bits are over.
+pub values_full : (m : List (List ℕ)) (t b c n words : ℕ) → c < 6 → words ≡ list_words c n → b + words ≤ length (segment_of m t)
+    → ((k : ℕ) → k < words → (x : ℕ) × HasWord m t (b + k) x × IsWord x) → (element_bits c * n) % 64 ≡ 0
+    → StandAt (segment_of m t) b (scalar_words c (values_of m t b c n))
+values_full m t b c n zero lt e inside h rest =
+    let vs = values_of m t b c n in
+    let many : length vs ≡ n = length-map-range_with_len (value_at (segment_of m t) b (element_bits c)) 0 n in
+    let none : length (scalar_words c vs) ≡ 0 = length-scalar_words c vs ∙ (ap (list_words c) many ∙ sym e) in
+    subst (λ xs. StandAt (segment_of m t) b xs) (sym (nil_from_length (scalar_words c vs) none)) (omega (arith, inside))
+values_full m t b c n (suc before) lt e inside h rest =
+    let some : list_words c n ≡ before + 1 = omega (arith, e) in
+    let last = h before (omega arith) in
+    values_stand m t b c n before last.0 lt some (omega (arith, inside)) (range_words m t b before (λ k less. h k (omega (arith, less)))) last.1
+    (sym (whole_field last.0 last.2) ∙ ap (λ i. field last.0 0 i) (sym (rest_all c n before lt some rest)))
