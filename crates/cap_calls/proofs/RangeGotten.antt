@@ -18,6 +18,7 @@ use Rattle.cap_calls.specs.CallNodes.{none_node}
 use Rattle.cap_calls.specs.NodeCalls.{Gets, bad_path_found, path_found}
 use Rattle.cap_calls.specs.RangeCalls.{AreSteps, EndsRange, GetsRange, IsBadStep, TellsRange, TellsSteps, bad_limits}
 use Rattle.cap_calls.specs.RangeCalls.{bad_steps, full, past, path_after, range, stops, unknown}
+use Rattle.cap_calls.specs.RangeNear.{WritesFirst}
 use Rattle.cap_calls.specs.declared.answer.Answer.{Answer}
 use Rattle.cap_calls.specs.declared.answer.Answer.TheVariants.{Good, NoNode}
 use Rattle.cap_calls.specs.declared.found.Found.{Found}
@@ -60,37 +61,48 @@ refused_not_good r e = no_good_refusal r (ap (λ (f : Found). f.answer) e)
 pub nothing_not_good : path_found NoNode ≡ path_found Good → ⊥
 nothing_not_good e = let f : NoNode ≡ Good = ap (λ (f : Found). f.answer) e in absurd (cc f)
 
+-- Where no node is written, and where one more is.
+module _ (so : ℕ → CallNode → Type 0) (old : List CallNode) where
+  pub none_written : WritesFirst so 0 old old
+  none_written = record { size = refl; within = omega arith; nodes = λ j l. absurd (omega (arith, l)); rest = λ j l. refl }
+
+  pub more_written : (new after : List CallNode) (k : ℕ) (node : CallNode) → WritesFirst so k old new
+      → k < length new → so k node → after ≡ slice_set new k node → WritesFirst so (k + 1) old after
+  more_written new after k node are lt is e =
+      subst (λ (xs : List CallNode). WritesFirst so (k + 1) old xs) (sym e)
+      record {
+        size = length-set new k node ∙ are.size;
+        within = omega (arith, lt, are.size);
+        nodes = λ j l. at j l (eqb_tells j k);
+        rest = λ j l. get_or-set_other new k j node none_node (λ e. omega (arith, l, e)) ∙ are.rest j (omega (arith, l));
+      }
+    where
+      at : (j : ℕ) → j < k + 1 → (((eqb j k) ≡ true) × (j ≡ k)) ⊎ (((eqb j k) ≡ false) × (j ≡ k → ⊥))
+          → so j (get_or (slice_set new k node) j none_node)
+      at j l (inl h) =
+          subst (λ (i : ℕ). so i (get_or (slice_set new k node) i none_node)) (sym h.1)
+          (subst (λ (x : CallNode). so k x) (sym (get_or-set_same new k node none_node lt)) is)
+      at j l (inr h) =
+          subst (λ (x : CallNode). so j x) (sym (get_or-set_other new k j node none_node h.1))
+          (are.nodes j (let ne = h.1 in grind (arith, l, ne)))
+
+-- Nodes that are so are so in another way too.
+pub written_also : (so also : ℕ → CallNode → Type 0) (old new : List CallNode) (k : ℕ)
+    → ((j : ℕ) (node : CallNode) → so j node → also j node) → WritesFirst so k old new → WritesFirst also k old new
+written_also so also old new k f are =
+    record { size = are.size; within = are.within; nodes = λ j l. f j _ (are.nodes j l); rest = are.rest }
+
 -- The first k nodes of a range were got, and the others are as they were.
-pub record RangeSoFar (path : ℕ → List Step) (old new : List CallNode) (demands : Demands) (m : List (List ℕ)) (words depth k : ℕ)
-    : Type 0 where
-  pub size : length new ≡ length old
-  pub nodes : (j : ℕ) → j < k → Gets (path j) (get_or new j none_node) demands m words depth (path_found Good)
-  pub rest : (j : ℕ) → k ≤ j → get_or new j none_node ≡ get_or old j none_node
+abbrev pub RangeSoFar : (ℕ → List Step) → List CallNode → List CallNode → Demands → List (List ℕ) → ℕ → ℕ → ℕ → Type 0
+RangeSoFar path old new demands m words depth k =
+    WritesFirst (λ j node. Gets (path j) node demands m words depth (path_found Good)) k old new
 
 module _ (path : ℕ → List Step) (old : List CallNode) (demands : Demands) (m : List (List ℕ)) (w d : ℕ) where
-  pub none_so_far : RangeSoFar path old old demands m w d 0
-  none_so_far = record { size = refl; nodes = λ j l. absurd (omega (arith, l)); rest = λ j l. refl }
-
   -- one node more
   pub more_so_far : (new after : List CallNode) (k : ℕ) (node : CallNode) → RangeSoFar path old new demands m w d k
       → k < length new → Gets (path k) node demands m w d (path_found Good) → after ≡ slice_set new k node
       → RangeSoFar path old after demands m w d (k + 1)
-  more_so_far new after k node so lt gets is =
-      subst (λ (xs : List CallNode). RangeSoFar path old xs demands m w d (k + 1)) (sym is)
-      record {
-        size = length-set new k node ∙ so.size;
-        nodes = λ j l. at j l (eqb_tells j k);
-        rest = λ j l. get_or-set_other new k j node none_node (λ e. omega (arith, l, e)) ∙ so.rest j (omega (arith, l));
-      }
-    where
-      at : (j : ℕ) → j < k + 1 → (((eqb j k) ≡ true) × (j ≡ k)) ⊎ (((eqb j k) ≡ false) × (j ≡ k → ⊥))
-          → Gets (path j) (get_or (slice_set new k node) j none_node) demands m w d (path_found Good)
-      at j l (inl h) =
-          subst (λ (i : ℕ). Gets (path i) (get_or (slice_set new k node) i none_node) demands m w d (path_found Good)) (sym h.1)
-          (subst (λ (x : CallNode). Gets (path k) x demands m w d (path_found Good)) (sym (get_or-set_same new k node none_node lt)) gets)
-      at j l (inr h) =
-          subst (λ (x : CallNode). Gets (path j) x demands m w d (path_found Good)) (sym (get_or-set_other new k j node none_node h.1))
-          (so.nodes j (let ne = h.1 in grind (arith, l, ne)))
+  more_so_far = more_written (λ j node. Gets (path j) node demands m w d (path_found Good)) old
 
   -- all nodes
   pub range_full : (new : List CallNode) (k : ℕ) (f : Found) → RangeSoFar path old new demands m w d k → k ≡ length old

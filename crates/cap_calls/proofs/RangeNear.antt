@@ -1,10 +1,13 @@
 -- Nodes of a range that are found by their number.
-use Rattle.std.proofs.Common.{ℕ, zero, suc, ◌≡◌, ◌∙◌, ◌+◌, ◌<◌, ◌≤◌, ◌∷◌, ◌++◌, List, [], Ok, Some, ap, arith, get_or, length, refl, subst, sym}
+use Rattle.std.proofs.Common.{ℕ, zero, suc, ◌≡◌, ◌∙◌, ◌+◌, ◌*◌, ◌<◌, ◌≤◌, ◌∷◌, ◌++◌, List, [], Ok, Some, ap, arith, get_or, length, refl, subst, sym}
 use Rattle.std.specs.Prelude.{min}
+use Rattle.cap_frame.specs.Fronts.{table_words}
 use Rattle.cap_frame.specs.declared.segments.Segments as segments
+use Rattle.cap_spec.specs.declared.Kind.{Kind}
 use Rattle.cap_spec.specs.declared.Step.{Step}
 use Rattle.cap_spec.specs.declared.Step.TheVariants.{Item, Ptr}
 use Rattle.cap_vet.specs.PathWays.{AreElements, GivesAfter, GivesElement, GivesPointer, elements_message, IsStart}
+use Rattle.cap_vet.specs.Taken.{start_of}
 use Rattle.cap_vet.specs.Views.{view_message}
 use Rattle.cap_vet.specs.declared.nodes.path_start.PathStart.{PathStart}
 use Rattle.cap_vet.specs.declared.nodes.struct_elements.StructElements.{StructElements}
@@ -42,14 +45,28 @@ near_node m n start s t rest others v node e f h given is =
     (subst (λ (x : Step). HasNodeAfter n start x others node) f
     (subst (λ (x : List Step). HasNodeAfter n start s x node) h (node_after n start s rest v node given is)))
 
+-- A node whose words are in a segment, by the words before that.
+pub node_in_segment : (m : List (List ℕ)) (kind : Kind) (segments words before t s b : ℕ) (node : CallNode)
+    → segments ≡ length m → words ≡ start_of m t → s ≡ t → before ≡ 8 * (table_words segments + words)
+    → node ≡ kind_node kind (before + 8 * b) → node ≡ kind_node kind (offset_of m s b)
+node_in_segment m kind segments words before t s b node e f g h is =
+    let table : table_words segments ≡ table_words (length m) = ap table_words e in
+    let same : start_of m s ≡ start_of m t = ap (λ (x : ℕ). start_of m x) g in
+    let at : before + 8 * b ≡ offset_of m s b = omega (arith, table, same, f, h) in
+    is ∙ ap (λ (x : ℕ). kind_node kind x) at
+
+-- A node is as the message of the elements says, if its view is of that message.
+pub node_of_elements : {M : Type 0} {g : segments.Ghosts M} (list : StructElements M g) (v : View M g) (node : CallNode)
+    → node ≡ kind_node v.found.kind (offset_of (g.segments (view_message v)) v.found.place.segment v.found.place.start)
+    → view_message v ≡ elements_message list
+    → node ≡ kind_node v.found.kind (offset_of (g.segments (elements_message list)) v.found.place.segment v.found.place.start)
+node_of_elements {M} {g} list v node of same =
+    of ∙ ap (λ (u : M). kind_node v.found.kind (offset_of (g.segments u) v.found.place.segment v.found.place.start)) same
+
 -- The nodes of elements, and of pointers of them, by their number.
 module _ {M : Type 0} {g : segments.Ghosts M} (m : List (List ℕ)) (start : PathStart M g) (step : CallStep) (rest : List CallStep)
     (near : Near M g) (list : StructElements M g) (number i k : ℕ) (v : View M g) (node : CallNode) (low : i < 4294967295)
-    (same : view_message v ≡ elements_message list)
-    (of : node ≡ kind_node v.found.kind (offset_of (g.segments (view_message v)) v.found.place.segment v.found.place.start)) where
-  at_elements : node ≡ kind_node v.found.kind (offset_of (g.segments (elements_message list)) v.found.place.segment v.found.place.start)
-  at_elements = of ∙ ap (λ (u : M). kind_node v.found.kind (offset_of (g.segments u) v.found.place.segment v.found.place.start)) same
-
+    (of : node ≡ kind_node v.found.kind (offset_of (g.segments (elements_message list)) v.found.place.segment v.found.place.start)) where
   the_step : 1 ≤ step.kind → i ≡ step.number + k → Item i ≡ step_after step k
   the_step some is =
       ap (λ (x : ℕ). Item x) is ∙ sym (item_of step.kind (step.number + k) some (omega (arith, low, is)))
@@ -61,7 +78,7 @@ module _ {M : Type 0} {g : segments.Ghosts M} (m : List (List ℕ)) (start : Pat
       let n = g.segments (elements_message list) in
       let are : AreElements n start list = subst (λ (x : List (List ℕ)). AreElements x start list) (sym h.0) h.1 in
       let on : Item i ≡ step_after step k = the_step h.2 (at ∙ ap (λ (x : ℕ). x + k) h.3) in
-      near_node m n start (Item i) (step_after step k) [] (path_after rest 0 0) v node h.0 on (sym h.4) (gives start are) at_elements
+      near_node m n start (Item i) (step_after step k) [] (path_after rest 0 0) v node h.0 on (sym h.4) (gives start are) of
 
   pub pointers_node : (j : ℕ) → near ≡ Pointers list number j → i ≡ number + k
       → GivesPointer (g.segments (elements_message list)) list i j v
@@ -71,7 +88,7 @@ module _ {M : Type 0} {g : segments.Ghosts M} (m : List (List ℕ)) (start : Pat
       let n = g.segments (elements_message list) in
       let are : AreElements n start list = subst (λ (x : List (List ℕ)). AreElements x start list) (sym h.0) h.1 in
       let on : Item i ≡ step_after step k = the_step h.2 (at ∙ ap (λ (x : ℕ). x + k) h.3) in
-      near_node m n start (Item i) (step_after step k) (Ptr j ∷ []) (path_after rest 0 0) v node h.0 on (sym h.4) (gives start are) at_elements
+      near_node m n start (Item i) (step_after step k) (Ptr j ∷ []) (path_after rest 0 0) v node h.0 on (sym h.4) (gives start are) of
 
 -- A node after the first steps is got at the path as a whole.
 pub gets_near : {M : Type 0} {g : segments.Ghosts M} (demands : Demands) (m n : List (List ℕ)) (words depth : ℕ) (first rest path : List Step)

@@ -1,13 +1,14 @@
 -- How most nodes of a range are found: by their number alone, or by one pointer more (profile).
-use Rattle.std.specs.Prelude.{ℕ, ◌≡◌, ◌≤◌, ◌∷◌, ◌++◌, List, [], length, ⊤}
+use Rattle.std.specs.Prelude.{ℕ, ◌≡◌, ◌≤◌, ◌<◌, ◌∷◌, ◌++◌, List, [], length, slice_index_or, ⊤}
 use Rattle.cap_frame.specs.declared.segments.Segments as segments
 use Rattle.cap_spec.specs.declared.Step.{Step}
 use Rattle.cap_spec.specs.declared.Step.TheVariants.{Ptr}
 use Rattle.cap_vet.specs.PathWays.{AreElements, IsStart, elements_message}
 use Rattle.cap_vet.specs.declared.demands.Demands.{Demands}
 use Rattle.cap_vet.specs.declared.nodes.path_start.PathStart.{PathStart}
+use Rattle.cap_calls.specs.CallNodes.{none_node}
 use Rattle.cap_calls.specs.NodeCalls.{Gets, path_found}
-use Rattle.cap_calls.specs.RangeCalls.{path_after}
+use Rattle.cap_calls.specs.RangeCalls.{path_after, step_after}
 use Rattle.cap_calls.specs.declared.answer.Answer.TheVariants.{Good}
 use Rattle.cap_calls.specs.declared.calls.get_range.Near.{Near}
 use Rattle.cap_calls.specs.declared.calls.get_range.Near.TheVariants.{Elements, Pointers, Unknown}
@@ -31,6 +32,19 @@ IsNear {g = g} m start step rest (Pointers list number j) =
     (g.segments (elements_message list) ≡ m) × AreElements m start list
     × (1 ≤ step.kind) × (number ≡ step.number) × (path_after rest 0 0 ≡ Ptr j ∷ [])
 IsNear {g = g} m start step rest Unknown = ⊤
+
+-- Path k of a range has this node, whatever the start and the steps are whose nodes are found so.
+abbrev pub IsNearNode : {M : Type 0} {g : segments.Ghosts M} → Near M g → ℕ → CallNode → Type 0
+IsNearNode {M = M} {g = g} near k node =
+    (m : List (List ℕ)) (start : PathStart M g) (step : CallStep) (rest : List CallStep) → IsNear m start step rest near
+    → HasNodeAfter m start (step_after step k) (path_after rest 0 0) node
+
+-- The first `count` nodes are written and are so. The others are as they were.
+pub record WritesFirst (so : ℕ → CallNode → Type 0) (count : ℕ) (old new : List CallNode) : Type 0 where
+  pub size : length new ≡ length old
+  pub within : count ≤ length old
+  pub nodes : (k : ℕ) → k < count → so k (slice_index_or new k none_node)
+  pub rest : (k : ℕ) → count ≤ k → slice_index_or new k none_node ≡ slice_index_or old k none_node
 
 -- this is how many segments the message has
 abbrev pub HasCount : {M : Type 0} {g : segments.Ghosts M} → ℕ → Near M g → Type 0

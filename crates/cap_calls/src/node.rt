@@ -1,5 +1,8 @@
 //! A node that a call reports.
 
+ghost use Rattle.cap_frame.specs.Fronts.{table_words};
+ghost use Rattle.std.specs.Prelude.{◌*◌, ◌+◌, ◌<◌, ◌^◌, ◌≡◌};
+
 use cap_frame::Segments;
 use cap_ptr::element_bits;
 use cap_vet::{Kind, View};
@@ -30,10 +33,20 @@ pub struct CallNode {
     pub reserved: [u64; 2],
 }
 
+// How many bytes of a frame come before a word, by its segments and the words before it.
+#[inline(always)]
+pub(crate) fn bytes_before(segments: u32, words: u64) -> u64
+    requires { words < 2 ^ 42 }
+    ensures value { result ≡ 8 * (table_words segments + words) }
+    ensures few { result < 2 ^ 59 }
+{
+    8 * (u64::from(segments) / 2 + 1 + words)
+}
+
 impl CallNode {
     ghost use Rattle.cap_calls.specs.CallNodes.{kind_node, none_node, offset_of};
     ghost use Rattle.cap_vet.specs.Views.{kept_place, view_kind, view_message};
-    ghost use Rattle.std.specs.Prelude.{◌<◌, ◌^◌, ◌≡◌, length};
+    ghost use Rattle.std.specs.Prelude.{length};
 
     // With nothing in it, as of null.
     pub(crate) fn none() -> CallNode
@@ -59,8 +72,17 @@ impl CallNode {
         ensures { let m = M.segments (view_message view.now) in let place = kept_place view.now in
             result ≡ kind_node (view_kind view.now) (offset_of m place.segment place.start) }
     {
-        let table = u64::from(segments) / 2 + 1;
-        CallNode::of_kind(view.kind(), 8 * (table + view.words_before()))
+        CallNode::of_kind(view.kind(), bytes_before(segments, view.words_before()))
+    }
+
+    // What a view shows, where this many bytes of the frame come before the segment of its words.
+    #[inline(always)]
+    pub(crate) fn in_segment<M: Segments>(view: &View<'_, M>, before: u64) -> CallNode
+        requires { before < 2 ^ 59 }
+        ensures { let place = kept_place view.now in
+            result ≡ kind_node (view_kind view.now) (before + 8 * place.start) }
+    {
+        CallNode::of_kind(view.kind(), before + 8 * u64::from(view.start()))
     }
 
     // Of this kind, with this many bytes before the words of its object.

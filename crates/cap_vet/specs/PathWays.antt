@@ -36,6 +36,10 @@ start_message start = start.message.now
 abbrev pub elements_message : {M : Type 0} {g : segments.Ghosts M} → StructElements M g → M
 elements_message e = e.message.now
 
+-- the segment of the elements
+abbrev pub elements_segment : {M : Type 0} {g : segments.Ghosts M} → StructElements M g → ℕ
+elements_segment e = e.segment
+
 -- how many elements there are
 abbrev pub elements_count : {M : Type 0} {g : segments.Ghosts M} → StructElements M g → ℕ
 elements_count e = e.count

@@ -12,7 +12,7 @@ use crate::calls::get::{are_limits, bad_path, path_answer};
 use crate::found::Found;
 use crate::front::NoFrame;
 use crate::limits::CallLimits;
-use crate::node::CallNode;
+use crate::node::{CallNode, bytes_before};
 use crate::over::{Call, over};
 use crate::report::CallReport;
 use crate::step::CallStep;
@@ -171,8 +171,9 @@ impl<'s> Call for GettingRange<'s> {
         let (first, step, rest) = self.parts();
         let start = PathStart::new(view, limits, demands, first);
         let near = Near::choose(&start, step, rest);
-        'nodes: for k in 0..out.len() {
-            match near.node(k as u64, view.count()) {
+        let done = near.elements(view.count(), out);
+        'nodes: for k in done..out.len() {
+            match near.pointed(k as u64, view.count()) {
                 Some(node) => out[k] = node,
                 None => match start.get(step.after(k as u64), rest) {
                     Ok(Some(at)) => out[k] = CallNode::of(&at, view.count()),
@@ -197,10 +198,8 @@ enum Near<'m, M: Segments> {
 }
 
 impl<'m, M: Segments> Near<'m, M> {
-    ghost use Rattle.cap_calls.specs.RangeNear.{HasCount, HasNodeAfter, IsNear};
-    ghost use Rattle.cap_calls.specs.declared.step.CallStep.{CallStep};
+    ghost use Rattle.cap_calls.specs.RangeNear.{HasCount, IsNear, IsNearNode, WritesFirst};
     ghost use Rattle.cap_vet.specs.PathWays.{start_message};
-    ghost use Rattle.cap_vet.specs.declared.nodes.path_start.PathStart.{PathStart};
     ghost use Rattle.std.specs.Prelude.{◌^◌};
 
     // How to find the nodes after this start, at the step that varies and the others.
@@ -223,26 +222,40 @@ impl<'m, M: Segments> Near<'m, M> {
         }
     }
 
-    // The node of path `k`, if it is found so, in a frame of a message of this number of segments.
+    // Writes the first nodes, if they are elements, in a frame of a message of this number of
+    // segments. Gives how many they are. The bytes before their segment are counted once for all.
+    fn elements(&self, segments: u32, nodes: &mut [CallNode]) -> usize
+        requires { HasCount segments self.now }
+        ensures { WritesFirst (λ k node. IsNearNode self.now k node) result nodes.old nodes.new }
+    {
+        let Near::Elements(list, number) = self else {
+            return 0;
+        };
+        let list = *list;
+        let first = u64::from(*number);
+        let before = bytes_before(segments, list.words_before());
+        'nodes: for k in 0..nodes.len() {
+            let Some(view) = list.element(first + k as u64) else {
+                return k;
+            };
+            nodes[k] = CallNode::in_segment(&view, before);
+        }
+        nodes.len()
+    }
+
+    // The node of path `k`, if it is what a pointer leads to that is found so, in a frame of a message
+    // of this number of segments.
     #[inline(always)]
-    fn node(&self, k: u64, segments: u32) -> Option<CallNode>
+    fn pointed(&self, k: u64, segments: u32) -> Option<CallNode>
         requires count { HasCount segments self.now }
         requires low { k < 2 ^ 63 }
-        ensures { IfSome result (λ n. (m : List (List ℕ)) (start : PathStart M _)
-            (step : CallStep) (rest : List CallStep) → IsNear m start step rest self.now →
-            HasNodeAfter m start (step_after step k) (path_after rest 0 0) n) }
+        ensures { IfSome result (λ node. IsNearNode self.now k node) }
     {
-        match self {
-            Near::Elements(list, number) => match list.element(u64::from(*number) + k) {
-                Some(view) => Some(CallNode::of(&view, segments)),
-                None => None,
-            },
-            Near::Pointers(list, number, j) => match list.pointer(u64::from(*number) + k, *j) {
-                Some(view) => Some(CallNode::of(&view, segments)),
-                None => None,
-            },
-            Near::Unknown => None,
-        }
+        let Near::Pointers(list, number, j) = self else {
+            return None;
+        };
+        let view = list.pointer(u64::from(*number) + k, *j)?;
+        Some(CallNode::of(&view, segments))
     }
 }
 

@@ -3,6 +3,7 @@
 ghost use Rattle.cap_spec.specs.Messages.{segment_of};
 ghost use Rattle.std.specs.Prelude.{◌*◌, ◌+◌, ◌<◌, ◌^◌, ◌≡◌, ◌≤◌, ⊤, length};
 
+use crate::lengths::words_before;
 use crate::nodes::found::{Found, element};
 use crate::nodes::near_found::found_near;
 use crate::nodes::view::View;
@@ -44,9 +45,21 @@ impl<'m, M: Segments> Clone for StructElements<'m, M> {
 impl<'m, M: Segments> Copy for StructElements<'m, M> {}
 
 impl<'m, M: Segments> StructElements<'m, M> {
-    ghost use Rattle.cap_vet.specs.Views.{view_message};
-    ghost use Rattle.cap_vet.specs.PathWays.{GivesElement, GivesPointer, elements_count, elements_message};
+    ghost use Rattle.cap_vet.specs.Taken.{start_of};
+    ghost use Rattle.cap_vet.specs.Views.{kept_place, view_message};
+    ghost use Rattle.cap_vet.specs.PathWays.{GivesElement, GivesPointer, elements_count, elements_message, elements_segment};
     ghost use Rattle.std.specs.Prelude.{◌↔◌, IfSome, IsSome};
+
+    /// How many words of the message come before the segment of the elements, where the segments
+    /// follow one another (encoding: Serialization Over a Stream). One step for each of the segments
+    /// before it. Allocates nothing.
+    pub fn words_before(&self) -> u64
+        ensures value { let m = M.segments (elements_message self.now) in
+            result ≡ start_of m (elements_segment self.now) }
+        ensures few { result < 2 ^ 42 }
+    {
+        words_before(self.message, self.segment)
+    }
 
     /// Element `i`, as [`PathStart::get`](crate::PathStart::get) gives it for this step alone. `None`
     /// if the list has no such element. Allocates nothing.
@@ -57,6 +70,8 @@ impl<'m, M: Segments> StructElements<'m, M> {
         ensures exact { IsSome result ↔ i < elements_count self.now }
         ensures low { IfSome result (λ _. i < 4294967295) }
         ensures message { IfSome result (λ v. view_message v ≡ elements_message self.now) }
+        ensures segment { IfSome result (λ v. let place = kept_place v in
+            place.segment ≡ elements_segment self.now) }
     {
         if i >= u64::from(self.count) {
             return None;

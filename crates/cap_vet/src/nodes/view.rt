@@ -70,6 +70,15 @@ impl<'m, M: Segments> View<'m, M> {
         }
     }
 
+    /// Where its [`place`](View::place) starts in its segment, in words. Null and a capability have no
+    /// words, and the number has no meaning for them.
+    #[inline(always)]
+    pub fn start(&self) -> u32
+        ensures { let place = kept_place self.now in result ≡ place.start }
+    {
+        self.found.place.start
+    }
+
     /// How many words of the message come before those of its [`place`](View::place), where the
     /// segments follow one another (encoding: Serialization Over a Stream). One step for each segment
     /// before its own. Null and a capability have no words, and the number has no meaning for them.
