@@ -1,5 +1,8 @@
 //! The commands, with their options and arguments.
 
+ghost use Rattle.clap.specs.Words.{is_broken};
+ghost use Rattle.std.specs.Prelude.{◌≡◌, IfOk, false};
+
 use crate::help::{
     CANON_NOTES, CHECK_NOTES, DUMP_NOTES, FILTER_NOTES, GET_NOTES, PACK_NOTES, PROGRAM_NOTES,
     SEGMENTS_NOTES, UNPACK_NOTES, VERSION, VET_NOTES,
@@ -216,7 +219,9 @@ fn argument<'a>(alloc: Global, part: Part) -> Arg<'a> {
 }
 
 // The command of a form.
-fn command_of<'a>(alloc: Global, form: &Form) -> Result<Command<'a>, AllocError> {
+fn command_of<'a>(alloc: Global, form: &Form) -> Result<Command<'a>, AllocError>
+    ensures { IfOk result (λ command. is_broken command ≡ false) }
+{
     let mut command = Command::new(alloc, form.name)
         .about(form.about)
         .after_help(form.notes);
@@ -226,8 +231,11 @@ fn command_of<'a>(alloc: Global, form: &Form) -> Result<Command<'a>, AllocError>
     Ok(command)
 }
 
-/// The program's command, with its subcommands.
-pub fn capvet_command<'a>(alloc: Global) -> Result<Command<'a>, AllocError> {
+/// The program's command, with its subcommands. It is whole: `clap` breaks a command that runs out
+/// of memory while it is built, and answers each later call with out of memory.
+pub fn capvet_command<'a>(alloc: Global) -> Result<Command<'a>, AllocError>
+    ensures { IfOk result (λ command. is_broken command ≡ false) }
+{
     let mut command = Command::new(alloc, "capvet")
         .about("Checks untrusted Cap'n Proto messages without a schema")
         .version(VERSION)
