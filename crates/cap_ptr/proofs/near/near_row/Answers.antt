@@ -1,4 +1,4 @@
-use Rattle.std.proofs.Common.{arith}
+use Rattle.std.proofs.Common.{arith, rules}
 use Rattle.cap_ptr.proofs.NearObjects.{pointers-plain, row_found}
 use Rattle.cap_ptr.proofs.near.near_row.Goals as goal
 
@@ -15,3 +15,9 @@ returns-clause-plain c = pointers-plain c.args.word _ c.in_ok-own.ensures.pointe
 pub returns-in_err-own-clause-none : goal.returns-in_err-own-clause-none
 returns-in_err-own-clause-none c =
     rw c.from_residual.ensures (λ m s r has len f. c.in_err-own.ensures.none r.pointer_count f.pointers)
+
+pub overflow_cast-result-2 : goal.overflow_cast-result-2
+overflow_cast-result-2 c = search rules
+
+pub overflow_cast-result-3 : goal.overflow_cast-result-3
+overflow_cast-result-3 c = search rules

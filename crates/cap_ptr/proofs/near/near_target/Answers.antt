@@ -1,3 +1,4 @@
+use Rattle.std.proofs.Common.{rules}
 use Rattle.cap_ptr.proofs.NearObjects.{row_target}
 use Rattle.cap_ptr.proofs.near.near_target.Goals as goal
 
@@ -8,3 +9,6 @@ returns-clause-target c = λ m has len.
 
 pub returns-in_err-row-clause-none : goal.returns-in_err-row-clause-none
 returns-in_err-row-clause-none c = rw c.from_residual.ensures (λ m r has len f. c.in_err-row.ensures.none m c.args.segment r has len f)
+
+pub returns-clause-here : goal.returns-clause-here
+returns-clause-here c = search rules

@@ -1,4 +1,4 @@
-use Rattle.std.proofs.Common.{arith}
+use Rattle.std.proofs.Common.{arith, rules}
 use Rattle.cap_spec.specs.Following.{IsComposite}
 use Rattle.cap_ptr.proofs.Objects.{wrong-past, found-plain}
 use Rattle.cap_ptr.proofs.placing.target_at.Goals as goal
@@ -18,3 +18,6 @@ returns g c = λ s w leads.
           c.requires.pads plain c.extent-words.ensures.value c.extent-words.ensures.few (omega (arith, c.len.ensures))
           (c.empty_elements.ensures.value 0) c.empty_elements.ensures.below (omega arith) (c.plain_shape.ensures 0),
     )
+
+pub composite-requires-clause-inside : goal.composite-requires-clause-inside
+composite-requires-clause-inside g c = search rules

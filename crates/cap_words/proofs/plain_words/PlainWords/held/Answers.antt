@@ -1,5 +1,5 @@
 -- The words of a prefix of bytes are a prefix of their words.
-use Rattle.std.proofs.Common.{◌≡◌, ◌++◌, [], ◌∷◌, List, Option, None, Some, IfSome, ap, refl, ℕ}
+use Rattle.std.proofs.Common.{◌≡◌, ◌++◌, [], ◌∷◌, List, Option, None, Some, IfSome, ap, refl, ℕ, rules}
 use Rattle.std.specs.Option.{option_map}
 use Rattle.byteorder.specs.Endian.{little_number}
 use Rattle.cap_spec.specs.Plain.{plain_words}
@@ -36,3 +36,6 @@ shown phase known bytes is_open h = rw is_open (go known h)
 pub returns-in-Open-clause-words : goal.returns-in-Open-clause-words
 returns-in-Open-clause-words g c =
     shown c.args.self.now.phase (g.I.ByteIn.to_come c.args.self.now.bytes.input) c.held.result.now c.in-Open.is c.held.ensures.known
+
+pub returns-in_default : goal.returns-in_default
+returns-in_default g c = search rules

@@ -1,4 +1,4 @@
-use Rattle.std.proofs.Common.{inl}
+use Rattle.std.proofs.Common.{inl, rules}
 use Rattle.cap_spec.proofs.Disjoint.Overlaps.{none_of_disjoint, one_overlap}
 use Rattle.cap_vet.proofs.Keeping.{vetted_kept}
 use Rattle.cap_vet.proofs.nodes.vetted.Vetted.into_exclusive.Goals as goal
@@ -19,3 +19,6 @@ pub returns-clause-names : goal.returns-clause-names
 returns-clause-names g c = λ s w n first.
     (let same = one_overlap (g.M.Segments.segments c.args.self.message.now) _ _ _ s w n
     c.in-Err.ensures.err first in inl (cc))
+
+pub returns-clause-overlap : goal.returns-clause-overlap
+returns-clause-overlap g c = search rules
