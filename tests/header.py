@@ -61,7 +61,7 @@ def names():
 def main():
     header = answers("include/capvet.h", r"^\s*CAPVET_(?!KIND_)([A-Z_]+) = (\d+)")
     code = answers("crates/cap_calls/src/answer.rt", CODE)
-    specs = answers("crates/cap_calls/specs/AnswerNumbers.antt", r"^number_of ([A-Z]\w+) = (\d+)")
+    specs = answers("crates/cap_calls/specs/AnswerNumbers.antt", r"^answer_number ([A-Z]\w+) = (\d+)")
     for path, told in (("answer.rt", code), ("AnswerNumbers.antt", specs)):
         there = {constant(name): number for name, number in told.items()}
         for name in sorted(header.keys() | there.keys()):
