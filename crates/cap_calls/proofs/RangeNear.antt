@@ -6,7 +6,7 @@ use Rattle.cap_frame.specs.declared.segments.Segments as segments
 use Rattle.cap_spec.specs.declared.Kind.{Kind}
 use Rattle.cap_spec.specs.declared.Step.{Step}
 use Rattle.cap_spec.specs.declared.Step.TheVariants.{Item, Ptr}
-use Rattle.cap_vet.specs.PathWays.{AreElements, GivesAfter, GivesElement, GivesPointer, elements_message, IsStart}
+use Rattle.cap_vet.specs.PathWays.{LeadsToElements, GivesAfter, GivesElement, GivesPointer, elements_message, IsStart}
 use Rattle.cap_vet.specs.Taken.{start_of}
 use Rattle.cap_vet.specs.Views.{view_message}
 use Rattle.cap_vet.specs.declared.nodes.path_start.PathStart.{PathStart}
@@ -76,7 +76,7 @@ module _ {M : Type 0} {g : segments.Ghosts M} (m : List (List ℕ)) (start : Pat
   elements_node is at gives found =
       let h : IsNear m start step rest (Elements list number) = subst (λ (x : Near M g). IsNear m start step rest x) is found in
       let n = g.segments (elements_message list) in
-      let are : AreElements n start list = subst (λ (x : List (List ℕ)). AreElements x start list) (sym h.0) h.1 in
+      let are : LeadsToElements n start list = subst (λ (x : List (List ℕ)). LeadsToElements x start list) (sym h.0) h.1 in
       let on : Item i ≡ step_after step k = the_step h.2 (at ∙ ap (λ (x : ℕ). x + k) h.3) in
       near_node m n start (Item i) (step_after step k) [] (path_after rest 0 0) v node h.0 on (sym h.4) (gives start are) of
 
@@ -86,7 +86,7 @@ module _ {M : Type 0} {g : segments.Ghosts M} (m : List (List ℕ)) (start : Pat
   pointers_node j is at gives found =
       let h : IsNear m start step rest (Pointers list number j) = subst (λ (x : Near M g). IsNear m start step rest x) is found in
       let n = g.segments (elements_message list) in
-      let are : AreElements n start list = subst (λ (x : List (List ℕ)). AreElements x start list) (sym h.0) h.1 in
+      let are : LeadsToElements n start list = subst (λ (x : List (List ℕ)). LeadsToElements x start list) (sym h.0) h.1 in
       let on : Item i ≡ step_after step k = the_step h.2 (at ∙ ap (λ (x : ℕ). x + k) h.3) in
       near_node m n start (Item i) (step_after step k) (Ptr j ∷ []) (path_after rest 0 0) v node h.0 on (sym h.4) (gives start are) of
 

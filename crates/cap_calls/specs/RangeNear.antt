@@ -3,7 +3,7 @@ use Rattle.std.specs.Prelude.{ℕ, ◌≡◌, ◌≤◌, ◌<◌, ◌∷◌, ◌
 use Rattle.cap_frame.specs.declared.segments.Segments as segments
 use Rattle.cap_spec.specs.declared.Step.{Step}
 use Rattle.cap_spec.specs.declared.Step.TheVariants.{Ptr}
-use Rattle.cap_vet.specs.PathWays.{AreElements, IsStart, elements_message}
+use Rattle.cap_vet.specs.PathWays.{LeadsToElements, IsStart, elements_message}
 use Rattle.cap_vet.specs.declared.demands.Demands.{Demands}
 use Rattle.cap_vet.specs.declared.nodes.path_start.PathStart.{PathStart}
 use Rattle.cap_calls.specs.CallNodes.{none_node}
@@ -26,10 +26,10 @@ HasNodeAfter m start step rest node =
 abbrev pub IsNear : {M : Type 0} {g : segments.Ghosts M} → List (List ℕ) → PathStart M g → CallStep → List CallStep
     → Near M g → Type 0
 IsNear {g = g} m start step rest (Elements list number) =
-    (g.segments (elements_message list) ≡ m) × AreElements m start list
+    (g.segments (elements_message list) ≡ m) × LeadsToElements m start list
     × (1 ≤ step.kind) × (number ≡ step.number) × (path_after rest 0 0 ≡ [])
 IsNear {g = g} m start step rest (Pointers list number j) =
-    (g.segments (elements_message list) ≡ m) × AreElements m start list
+    (g.segments (elements_message list) ≡ m) × LeadsToElements m start list
     × (1 ≤ step.kind) × (number ≡ step.number) × (path_after rest 0 0 ≡ Ptr j ∷ [])
 IsNear {g = g} m start step rest Unknown = ⊤
 

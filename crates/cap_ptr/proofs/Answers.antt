@@ -5,7 +5,7 @@ use Rattle.cap_spec.specs.Denoting.{Finds}
 use Rattle.cap_spec.specs.declared.Reason.{Reason}
 use Rattle.cap_spec.proofs.Trees.Finding.{SameObject, one_object}
 use Rattle.cap_spec.proofs.Pointers.Following.{one_lead, one_wrong, null-not_wrong, cap-not_wrong, object-not_wrong}
-use Rattle.cap_ptr.specs.Shapes.{IsObject, IsAnswer, IsFollowed, AnswersObject}
+use Rattle.cap_ptr.specs.Shapes.{IsShapedObject, IsAnswer, IsFollowed, AnswersObject}
 use Rattle.cap_ptr.specs.declared.shapes.Shape.{Shape}
 use Rattle.cap_ptr.specs.declared.shapes.Target.{Target}
 use Rattle.cap_ptr.specs.declared.shapes.Followed.{Followed}
@@ -13,12 +13,12 @@ use Rattle.cap_ptr.specs.declared.shapes.Followed.TheVariants as followed
 
 -- what is so of an object is so of each name of it
 same_object : (m : List (List ℕ)) (k t b q k' t' b' q' tag n c : ℕ) (x : Shape) → SameObject k' t' b' q' k t b q
-    → IsObject m k' t' b' q' tag n c x → IsObject m k t b q tag n c x
+    → IsShapedObject m k' t' b' q' tag n c x → IsShapedObject m k t b q tag n c x
 same_object m k t b q k' t' b' q' tag n c x e h =
-    subst (λ y. IsObject m k t b y tag n c x) e.shape
-    (subst (λ y. IsObject m k t y q' tag n c x) e.start
-    (subst (λ y. IsObject m k y b' q' tag n c x) e.segment
-    (subst (λ y. IsObject m y t' b' q' tag n c x) e.pads h)))
+    subst (λ y. IsShapedObject m k t b y tag n c x) e.shape
+    (subst (λ y. IsShapedObject m k t y q' tag n c x) e.start
+    (subst (λ y. IsShapedObject m k y b' q' tag n c x) e.segment
+    (subst (λ y. IsShapedObject m y t' b' q' tag n c x) e.pads h)))
 
 module _ (m : List (List ℕ)) (s w : ℕ) where
   -- a word that was followed isn't wrong

@@ -51,7 +51,7 @@ IsShape q tag (Pointers n) = IsPointersShape q n
 IsShape q tag (Structs size n d p) = IsStructsShape q tag size n d p
 
 -- The object of the word q at t:b, with this tag word if it is a list of structs, has n words, charge c over k pads, and shape x.
-pub record IsObject (m : List (List ℕ)) (k t b q tag n c : ℕ) (x : Shape) : Type 0 where
+pub record IsShapedObject (m : List (List ℕ)) (k t b q tag n c : ℕ) (x : Shape) : Type 0 where
   pub tagged : IsComposite q → HasWord m t b tag × TagFits tag (list_size q)
   pub words : n ≡ extent q
   pub charge : c ≡ k + extent q + extra q tag
@@ -61,7 +61,7 @@ pub record IsObject (m : List (List ℕ)) (k t b q tag n c : ℕ) (x : Shape) : 
 -- The pointer word at s:w leads to this object, which sits.
 pub record FindsObject (m : List (List ℕ)) (s w k t b q tag n c : ℕ) (x : Shape) : Type 0 where
   pub finds : Finds m s w k t b q
-  pub object : IsObject m k t b q tag n c x
+  pub object : IsShapedObject m k t b q tag n c x
 
 -- the pointer word at s:w leads to this target, of the word q and this tag
 abbrev pub FindsTargetBy : List (List ℕ) → ℕ → ℕ → ℕ → ℕ → Target → Type 0
@@ -94,4 +94,4 @@ pub record AnswersObject (m : List (List ℕ)) (k t b q : ℕ) (answer : Result 
   pub pads : x.pads ≡ k
   pub segment : x.segment ≡ t
   pub start : x.start ≡ b
-  pub object : IsObject m k t b q tag x.words x.charge x.shape
+  pub object : IsShapedObject m k t b q tag x.words x.charge x.shape

@@ -6,7 +6,7 @@ use Rattle.cap_spec.proofs.Trees.Finding.{SameObject, one_object}
 use Rattle.cap_spec.specs.Paths.{Goes, Reaches, Spot, Walks, number_of, word}
 use Rattle.cap_spec.specs.declared.Step.{Step}
 use Rattle.cap_spec.specs.declared.Step.TheVariants.{Ptr, Item}
-use Rattle.cap_vet.specs.Trails.{AreApart, AreReached, GoOnFrom, IsUnder, row}
+use Rattle.cap_vet.specs.Trails.{EachApart, AreReached, GoOnFrom, IsUnder, row}
 use Rattle.cap_vet.proofs.Apart.{Apart-steps}
 use Rattle.cap_vet.proofs.Trails.{AreChildren}
 use Rattle.cap_spec.proofs.Paths.Walks.{walk_parts, walk_on, one_walk}
@@ -47,12 +47,12 @@ GoOnFrom-row base level step t b i zero = tt
 GoOnFrom-row base level step t b i (suc n) = ((step i, [], refl), GoOnFrom-row base level step t (b + 1) (i + 1) n)
 
 -- A row of steps whose numbers rise is apart.
-pub AreApart-row : (base : List Step) (level : ℕ) (step : ℕ → Step) → ((i : ℕ) → number_of (step i) ≡ i) → (t b i n : ℕ)
-    → AreApart (row base level step t b i n)
-AreApart-row base level step e t b i zero = tt
-AreApart-row base level step e t b i (suc zero) = tt
-AreApart-row base level step e t b i (suc (suc n)) =
-    (Apart-steps base (step i) (step (i + 1)) [] [] (omega (arith, e i, e (i + 1))), AreApart-row base level step e t (b + 1) (i + 1) (suc n))
+pub EachApart-row : (base : List Step) (level : ℕ) (step : ℕ → Step) → ((i : ℕ) → number_of (step i) ≡ i) → (t b i n : ℕ)
+    → EachApart (row base level step t b i n)
+EachApart-row base level step e t b i zero = tt
+EachApart-row base level step e t b i (suc zero) = tt
+EachApart-row base level step e t b i (suc (suc n)) =
+    (Apart-steps base (step i) (step (i + 1)) [] [] (omega (arith, e i, e (i + 1))), EachApart-row base level step e t (b + 1) (i + 1) (suc n))
 
 -- each step of a row reaches its word
 pub AreReached-row : (m : List (List ℕ)) (base : List Step) (level : ℕ) (step : ℕ → Step) (t b i n : ℕ)
@@ -93,7 +93,7 @@ struct_no_list k t b q k' t' b' q' same e e' =
 pub struct_children : (m : List (List ℕ)) (base : List Step) (level s w k t b q : ℕ) → Reaches m base level s w → Finds m s w k t b q → kind q ≡ 0
     → AreChildren m base (row base (level + 1) Ptr t (b + data_size q) 0 (pointer_size q))
 struct_children m base level s w k t b q h f e = record {
-  apart = AreApart-row base (level + 1) Ptr (λ i. refl) t (b + data_size q) 0 (pointer_size q);
+  apart = EachApart-row base (level + 1) Ptr (λ i. refl) t (b + data_size q) 0 (pointer_size q);
   go_on = GoOnFrom-row base (level + 1) Ptr t (b + data_size q) 0 (pointer_size q);
   reached = AreReached-row m base (level + 1) Ptr t (b + data_size q) 0 (pointer_size q) (λ j l.
       subst (λ u. Reaches m (base ++ Ptr u ∷ []) (level + 1) t (b + data_size q + j)) (omega arith)
@@ -124,7 +124,7 @@ pub pointers_children : (m : List (List ℕ)) (base : List Step) (level s w k t 
     → Finds m s w k t b q → kind q ≡ 1 → code q ≡ 6
     → AreChildren m base (row base (level + 1) Item t b 0 (list_size q))
 pointers_children m base level s w k t b q h f e c = record {
-  apart = AreApart-row base (level + 1) Item (λ i. refl) t b 0 (list_size q);
+  apart = EachApart-row base (level + 1) Item (λ i. refl) t b 0 (list_size q);
   go_on = GoOnFrom-row base (level + 1) Item t b 0 (list_size q);
   reached = AreReached-row m base (level + 1) Item t b 0 (list_size q) (λ j l.
       subst (λ u. Reaches m (base ++ Item u ∷ []) (level + 1) t (b + j)) (omega arith)

@@ -13,7 +13,7 @@ use Rattle.cap_vet.specs.Demands.{words_under}
 use Rattle.cap_vet.specs.Finding.{element_of}
 use Rattle.cap_vet.specs.NearFinding.{FindsNear}
 use Rattle.cap_vet.specs.PathStrictness.{AddsPointer, HasNoFaultBy}
-use Rattle.cap_vet.specs.PathWays.{AreElements, GivesAfter}
+use Rattle.cap_vet.specs.PathWays.{LeadsToElements, GivesAfter}
 use Rattle.cap_vet.specs.Looking.{IsNotLax}
 use Rattle.cap_vet.specs.Ways.{IsWay}
 use Rattle.cap_vet.specs.declared.demands.Demands.{Demands}
@@ -54,7 +54,7 @@ pointer_arrival at f cost =
     record { found = f; level = at.level + 1; spent = at.spent + cost; pointers = at.pointers + 1; lax = at.lax }
 
 module _ {M : Type 0} {g : segments.Ghosts M} (m : List (List ℕ)) (start : PathStart M g) (e : StructElements M g) (v : View M g)
-    (are : AreElements m start e) (exists : e.segment < length m) (i : ℕ) (lt : i < e.count)
+    (are : LeadsToElements m start e) (exists : e.segment < length m) (i : ℕ) (lt : i < e.count)
     (inside : e.first + i * (e.data_words + e.pointers) + e.data_words + e.pointers ≤ length (segment_of m e.segment)) where
   element_arrives : (first : List Step) → IsWay m start.words start.depth first start.way
       → Arrives m start.words start.depth (first ++ Item i ∷ []) (element_spot e i) (element_arrival are.at e i)

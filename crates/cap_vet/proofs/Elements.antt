@@ -8,17 +8,17 @@ use Rattle.cap_spec.specs.declared.Step.{Step}
 use Rattle.cap_spec.specs.declared.Step.TheVariants.{Ptr, Item}
 use Rattle.cap_spec.proofs.Trees.Finding.{one_object}
 use Rattle.cap_spec.proofs.Frames.Messages.{one_word}
-use Rattle.cap_vet.specs.Trails.{Ahead, Apart, AreApart, AreReached, GoOnFrom, IsUnder, row, element_rows}
+use Rattle.cap_vet.specs.Trails.{Ahead, Apart, EachApart, AreReached, GoOnFrom, IsUnder, row, element_rows}
 use Rattle.cap_vet.proofs.Apart.{Apart-right, Apart-steps, Apart-left}
 use Rattle.cap_vet.proofs.Trails.{AreChildren, AreReached-append, IsUnder-left, IsUnder-right}
-use Rattle.cap_vet.proofs.Children.{beyond, reaches_on, struct_no_list, list_no_other, IsUnder-row, GoOnFrom-row, AreApart-row, AreReached-row}
+use Rattle.cap_vet.proofs.Children.{beyond, reaches_on, struct_no_list, list_no_other, IsUnder-row, GoOnFrom-row, EachApart-row, AreReached-row}
 
 -- the first of these, where there is one, is apart from a path
 abbrev HeadApart : List Step → List Ahead → Type 0
 HeadApart base [] = Unit {0}
 HeadApart base (b ∷ rest) = Apart base b.path
 
-append-apart : (base : List Step) (xs ys : List Ahead) → AreApart xs → GoOnFrom base xs → HeadApart base ys → AreApart ys → AreApart (xs ++ ys)
+append-apart : (base : List Step) (xs ys : List Ahead) → EachApart xs → GoOnFrom base xs → HeadApart base ys → EachApart ys → EachApart (xs ++ ys)
 append-apart base [] ys h g k l = l
 append-apart base (a ∷ []) [] h g k l = h
 append-apart base (a ∷ []) (b ∷ ys) h g k l = (subst (λ u. Apart u b.path) (sym g.0.2) (Apart-left base b.path (g.0.0 ∷ g.0.1) k), l)
@@ -69,11 +69,11 @@ head-elements base level t b ds zero i j (suc n) h = head-elements base level t 
 head-elements base level t b ds (suc ps) i j (suc n) h = Apart-right (base ++ Item i ∷ []) (base ++ Item j ∷ [])
     (Ptr 0 ∷ []) (Apart-steps base (Item i) (Item j) [] [] h)
 
-apart-elements : (base : List Step) (level t b ds ps i n : ℕ) → AreApart (element_rows base level t b ds ps i n)
+apart-elements : (base : List Step) (level t b ds ps i n : ℕ) → EachApart (element_rows base level t b ds ps i n)
 apart-elements base level t b ds ps i zero = tt
 apart-elements base level t b ds ps i (suc n) =
     append-apart (base ++ Item i ∷ []) (row (base ++ Item i ∷ []) level Ptr t (b + ds) 0 ps) (element_rows base level t (b + ds + ps) ds ps (i + 1) n)
-    (AreApart-row (base ++ Item i ∷ []) level Ptr (λ x. refl) t (b + ds) 0 ps) (GoOnFrom-row (base ++ Item i ∷ []) level Ptr t (b + ds) 0 ps)
+    (EachApart-row (base ++ Item i ∷ []) level Ptr (λ x. refl) t (b + ds) 0 ps) (GoOnFrom-row (base ++ Item i ∷ []) level Ptr t (b + ds) 0 ps)
     (head-elements base level t (b + ds + ps) ds ps i (i + 1) n (omega arith)) (apart-elements base level t (b + ds + ps) ds ps (i + 1) n)
 
 -- an equal path reaches an equal word

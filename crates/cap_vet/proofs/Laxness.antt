@@ -19,7 +19,7 @@ use Rattle.cap_vet.specs.Looking.{IsNotLax}
 use Rattle.cap_vet.specs.Reports.{IsAccepted, IsVetted}
 use Rattle.cap_vet.specs.Stricts.{KnowsLax}
 use Rattle.cap_vet.specs.Trails.{Ahead, IsTrail}
-use Rattle.cap_vet.specs.Walking.{IsLookedAt, Walks}
+use Rattle.cap_vet.specs.Walking.{IsLookedAt, HasWalked}
 use Rattle.cap_vet.specs.declared.limits.Limits.{Limits}
 use Rattle.cap_vet.specs.declared.report.Report.{Report}
 use Rattle.cap_vet.specs.declared.strictness.strict_turn.LaxPointer.{LaxPointer}
@@ -72,7 +72,7 @@ knows_none m seen (Some x) e k = absurd (cc e)
 
 -- at the end of a walk that has found none there is none
 pub none_at_end : (m : List (List ℕ)) (words depth : ℕ) (report : Report) (seen : List (List Step)) (ahead : List Ahead)
-    → Walks m words depth [] report seen ahead → KnowsLax m seen None → (path : List Step) → ¬ IsLax m path
+    → HasWalked m words depth [] report seen ahead → KnowsLax m seen None → (path : List Step) → ¬ IsLax m path
 none_at_end m words depth report seen ahead w k path x =
     let t : IsTrail m seen [] = subst (λ (u : List Ahead). IsTrail m seen u) (none_ahead ahead w.places)
     w.progress.trail in
@@ -103,7 +103,7 @@ strict_held m report vetted h =
 -- A walk that has found none is through a strict message.
 pub strict_at_end : (m : List (List ℕ)) (words depth : ℕ) (report : Report) (seen : List (List Step))
     (ahead : List Ahead)
-    → Walks m words depth [] report seen ahead → KnowsLax m seen None → length m ≤ 511 → IsStrict m words depth
+    → HasWalked m words depth [] report seen ahead → KnowsLax m seen None → length m ≤ 511 → IsStrict m words depth
 strict_at_end m words depth report seen ahead w k few = record {
   accepted = within_of m words depth report (accepted_at_end m words depth report seen ahead w);
   few_segments = few;

@@ -36,7 +36,7 @@ pub mod PathFaults
 mod Bits
 mod Marking
 mod Pointing
-mod Ranges
+pub mod Ranges
 mod SecondWalk
 pub mod OneReport
 pub mod ExclusiveFaults

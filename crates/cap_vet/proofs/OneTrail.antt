@@ -7,7 +7,7 @@ use Rattle.cap_spec.specs.Messages.{HasWord, segment_of}
 use Rattle.cap_spec.specs.Paths.{Before, IsOneOf, Reaches}
 use Rattle.cap_spec.specs.declared.Step.{Step}
 use Rattle.cap_vet.specs.Looking.{object_children}
-use Rattle.cap_vet.specs.Trails.{Ahead, Apart, AreApart, AreReached, Falls, IsUnder, IsTrail, Precedes}
+use Rattle.cap_vet.specs.Trails.{Ahead, Apart, EachApart, AreReached, Falls, IsUnder, IsTrail, Precedes}
 use Rattle.cap_spec.proofs.Frames.Messages.{HasWord-at}
 use Rattle.cap_spec.proofs.Paths.Preorder.{Before-trans}
 use Rattle.cap_spec.proofs.Paths.Walks.{one_reached}
@@ -24,7 +24,7 @@ not_apart-longer [] v h = h
 not_apart-longer (x ∷ p) v (inl h) = omega arith
 not_apart-longer (x ∷ p) v (inr h) = not_apart-longer p v h.1
 
-rest_apart : (a : Ahead) (xs : List Ahead) → AreApart (a ∷ xs) → AreApart xs
+rest_apart : (a : Ahead) (xs : List Ahead) → EachApart (a ∷ xs) → EachApart xs
 rest_apart a [] h = tt
 rest_apart a (b ∷ xs) h = h.1
 
@@ -58,7 +58,7 @@ self_under : (a : Ahead) (xs : List Ahead) → IsUnder a.path (a ∷ xs)
 self_under a xs = inl ([], sym (append-nil a.path))
 
 -- Two heads that are under each other have one path.
-one_path : (a b : Ahead) (xs ys : List Ahead) → AreApart (a ∷ xs) → AreApart (b ∷ ys) → IsUnder a.path (b ∷ ys)
+one_path : (a b : Ahead) (xs ys : List Ahead) → EachApart (a ∷ xs) → EachApart (b ∷ ys) → IsUnder a.path (b ∷ ys)
     → IsUnder b.path (a ∷ xs) → a.path ≡ b.path
 one_path a b xs ys p q (inl (r, e)) (inl ([], f)) = sym (f ∙ append-nil a.path)
 one_path a b xs ys p q (inl (r, e)) (inl (x ∷ v, f)) =
@@ -82,7 +82,7 @@ same_ahead m a b e r k =
     λ i. record { path = e i; segment = o.1 i; word = o.2 i; level = o.0 i }
 
 -- and what is under the others of the first is under the others of the second
-rest_covers : (m : List (List ℕ)) (a b : Ahead) (xs ys : List Ahead) → a.path ≡ b.path → AreApart (a ∷ xs)
+rest_covers : (m : List (List ℕ)) (a b : Ahead) (xs ys : List Ahead) → a.path ≡ b.path → EachApart (a ∷ xs)
     → Covers m (a ∷ xs) (b ∷ ys) → Covers m xs ys
 rest_covers m a b xs ys e p f = λ q level s w r u. elim (f q level s w r (inr u)) [
   | inl (rest, g) ↦ absurd (not_apart-longer b.path rest
@@ -90,7 +90,7 @@ rest_covers m a b xs ys e p f = λ q level s w r u. elim (f q level s w r (inr u
   | inr h ↦ h
 ]
 
-one_list : (m : List (List ℕ)) (xs ys : List Ahead) → AreApart xs → AreApart ys → AreReached m xs → AreReached m ys
+one_list : (m : List (List ℕ)) (xs ys : List Ahead) → EachApart xs → EachApart ys → AreReached m xs → AreReached m ys
     → Covers m xs ys → Covers m ys xs → xs ≡ ys
 one_list m [] [] p q r k f g = refl
 one_list m [] (b ∷ ys) p q r k f g = absurd (g b.path b.level b.segment b.word k.0 (self_under b ys))
@@ -168,8 +168,8 @@ null_trail m seen p level s w ahead t r null =
         let (mid, n, goes, walks) = beyond m p x v level l s w s' w' r k in
         null_ends m s w 0 (near 0 null (omega arith) refl refl) x v mid n s' w' goes walks
 
-    apart : (ahead : List Ahead) → AreApart ahead → Precedes (p ∷ seen) ahead → AreReached m ahead
-        → AreApart (record { path = p; segment = s; word = w; level = level } ∷ ahead)
+    apart : (ahead : List Ahead) → EachApart ahead → Precedes (p ∷ seen) ahead → AreReached m ahead
+        → EachApart (record { path = p; segment = s; word = w; level = level } ∷ ahead)
     apart [] h before k = tt
     apart (b ∷ ahead) h before k = (
       before_apart p b.path before (λ x v e. ends x v b.level b.segment b.word

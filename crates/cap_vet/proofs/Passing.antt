@@ -10,7 +10,7 @@ use Rattle.cap_vet.specs.Turning.{added}
 use Rattle.cap_vet.specs.PointerRuns.{RunIn, IsRest, all_spots, element_places, pointer_word_of, row_places, spots}
 use Rattle.cap_vet.specs.Passing.{Passes}
 use Rattle.cap_vet.specs.Trails.{Ahead}
-use Rattle.cap_vet.specs.Walking.{Walks, work_left}
+use Rattle.cap_vet.specs.Walking.{HasWalked, work_left}
 use Rattle.cap_vet.specs.declared.walk.pointer_run.PointerRun.{PointerRun}
 use Rattle.cap_vet.specs.declared.walk.looking.Looked.TheVariants.{Null}
 use Rattle.cap_vet.specs.declared.report.Report.{Report}
@@ -37,21 +37,21 @@ passes_on m words depth runs seen old f before r left null passed =
     let same : r.charge + 0 ≡ r.charge = omega arith in
     let e : added r f.segment f.at (Null 0) ≡ counted r = rw same refl in
     let stack : (runs ++ behind f ∷ []) ++ [] ≡ runs ++ behind f ∷ [] = append-nil (runs ++ behind f ∷ []) in
-    let walks : Walks m words depth (runs ++ behind f ∷ []) (counted r) (next.a.path ∷ next.seen) later =
-    subst (λ u. Walks m words depth (runs ++ behind f ∷ []) u (next.a.path ∷ next.seen) later) e
-    (subst (λ u. Walks m words depth u (added r f.segment f.at (Null 0)) (next.a.path ∷ next.seen) later) stack turned) in
+    let walks : HasWalked m words depth (runs ++ behind f ∷ []) (counted r) (next.a.path ∷ next.seen) later =
+    subst (λ u. HasWalked m words depth (runs ++ behind f ∷ []) u (next.a.path ∷ next.seen) later) e
+    (subst (λ u. HasWalked m words depth u (added r f.segment f.at (Null 0)) (next.a.path ∷ next.seen) later) stack turned) in
     let smaller : work_left words (runs ++ behind f ∷ []) (counted r) < work_left words (runs ++ f ∷ []) r =
     work_smaller words runs (runs ++ behind f ∷ []) f (Some (behind f)) r (counted r) rest (omega arith) in record {
       nulls = next.a.path ∷ passed.nulls;
       later = later;
       are_null = ((next.a.level, next.a.segment, next.a.word, next.progress.trail.ahead_reached.0, rw (next.segment, next.at) null), passed.are_null);
-      walks = subst (λ u. Walks m words depth (runs ++ behind f ∷ []) (counted r) (next.a.path ∷ u) later) same_seen walks;
+      walks = subst (λ u. HasWalked m words depth (runs ++ behind f ∷ []) (counted r) (next.a.path ∷ u) later) same_seen walks;
       less = omega (arith, passed.less, smaller);
     }
 
 -- the topmost run of a walk lies inside its segment
 pub topmost_in : (m : List (List ℕ)) (words depth : ℕ) (runs : List PointerRun) (f : PointerRun) (r : Report) (seen : List (List Step)) (ahead : List Ahead)
-    → Walks m words depth (runs ++ f ∷ []) r seen ahead → RunIn m f
+    → HasWalked m words depth (runs ++ f ∷ []) r seen ahead → RunIn m f
 topmost_in m words depth runs f r seen ahead w =
     let inside : AllByRecursion (RunIn m) (f ∷ reverse runs) = rw (reverse-append runs (f ∷ [])) at w.inside in
     inside.0
@@ -62,7 +62,7 @@ row_length level t b (suc n) = ap suc (row_length level t (b + 1) n)
 
 -- and the pointer words before its last are fewer than the words that were charged
 pub topmost_few : (m : List (List ℕ)) (words depth : ℕ) (runs : List PointerRun) (f : PointerRun) (r : Report) (seen : List (List Step)) (ahead : List Ahead)
-    → Walks m words depth (runs ++ f ∷ []) r seen ahead
+    → HasWalked m words depth (runs ++ f ∷ []) r seen ahead
     → r.pointers + f.left ≤ r.charge + 1
 topmost_few m words depth runs f r seen ahead w =
     let places : map pointer_word_of ahead ≡ spots f ++ all_spots (reverse runs) = rw (reverse-append runs (f ∷ [])) at w.places in

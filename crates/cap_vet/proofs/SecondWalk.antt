@@ -16,7 +16,7 @@ use Rattle.cap_vet.specs.Marks.{IsMarked, MarksAll, Conflicts}
 use Rattle.cap_vet.specs.Reports.{IsAccepted}
 use Rattle.cap_vet.specs.Taken.{HasRoom}
 use Rattle.cap_vet.specs.Trails.{Ahead, IsTrail}
-use Rattle.cap_vet.specs.Walking.{IsLookedAt, Walks}
+use Rattle.cap_vet.specs.Walking.{IsLookedAt, HasWalked}
 use Rattle.cap_vet.specs.declared.report.Report.{Report}
 use Rattle.cap_vet.proofs.Marking.{all_disjoint, first_overlap, marks_on}
 use Rattle.cap_vet.proofs.Verdicts.{none_ahead}
@@ -47,7 +47,7 @@ turn_overlap m seen a s w n cost T l k (used, o, c) =
 
 -- the end
 pub ends_disjoint : (m : List (List ℕ)) (words depth : ℕ) (report : Report) (seen : List (List Step)) (ahead : List Ahead) (T : ℕ → ℕ → Type 0)
-    → Walks m words depth [] report seen ahead → IsMarked m seen T → IsDisjoint m
+    → HasWalked m words depth [] report seen ahead → IsMarked m seen T → IsDisjoint m
 ends_disjoint m words depth report seen ahead T w k =
     all_disjoint m seen T (subst (λ (u : List Ahead). IsTrail m seen u) (none_ahead ahead w.places) w.progress.trail) k
 

@@ -18,7 +18,7 @@ use Rattle.cap_vet.specs.Turning.{added, cost_of, run_below}
 use Rattle.cap_vet.specs.Limits.{depth_of, words_of}
 use Rattle.cap_vet.specs.Turns.{GoesOn, GoesOnBelow, HasVisited, IsAt, IsWalking}
 use Rattle.cap_vet.specs.WalkSteps.{Continues, GoesOnWith, runs_left}
-use Rattle.cap_vet.specs.Walking.{AreNull, IsLookedAt, IsNext, AreStacked, Progress, Walks, work_left, work_next}
+use Rattle.cap_vet.specs.Walking.{AreNull, IsLookedAt, IsNext, AreStacked, Progress, HasWalked, work_left, work_next}
 use Rattle.cap_vet.specs.declared.walk.pointer_run.PointerRun.{PointerRun}
 use Rattle.cap_vet.specs.declared.limits.Limits.{Limits}
 use Rattle.cap_vet.specs.declared.walk.looking.Looked.{Looked}
@@ -57,7 +57,7 @@ stacked-below depth level (Some r) runs h l s = (omega (arith, l.0), l.1, s)
 -- The first word of the topmost run is the next to look at, and what was looked at stays.
 pub next_seen : (m : List (List ℕ)) (words depth : ℕ) (runs : List PointerRun) (f : PointerRun) (r : Option PointerRun)
     (report : Report) (seen : List (List Step))
-    (aheads : List Ahead) → Walks m words depth (runs ++ f ∷ []) report seen aheads → IsRest f r
+    (aheads : List Ahead) → HasWalked m words depth (runs ++ f ∷ []) report seen aheads → IsRest f r
     → (n : IsNext m words depth f.segment f.at f.level (runs ++ option_to_list r) report) × (n.seen ≡ seen)
 next_seen m words depth runs f r report seen aheads w rest =
     let e : reverse (runs ++ f ∷ []) ≡ f ∷ reverse runs = reverse-append runs (f ∷ []) in
@@ -96,7 +96,7 @@ next_at m limits runs f r report K w rest =
 -- Looking at the next word keeps the walk, and that word is the last that was looked at.
 pub walks_on : (m : List (List ℕ)) (words depth s w level : ℕ) (runs : List PointerRun) (report : Report) (l : Looked)
     (t : IsNext m words depth s w level runs report)
-    → IsLooked m words depth report.charge s w level l → (later : List Ahead) × Walks m words depth (runs ++ option_to_list (run_below l))
+    → IsLooked m words depth report.charge s w level l → (later : List Ahead) × HasWalked m words depth (runs ++ option_to_list (run_below l))
     (added report s w l) (t.a.path ∷ t.seen) later
 walks_on m words depth s w level runs report (looked.Null cost) t (h, within) =
     let own : Leads m t.a.segment t.a.word cost to_null = rw (t.segment, t.at) h in
@@ -233,7 +233,7 @@ cost_charged m s w before after cost costs e = let same : cost ≡ after - befor
 
 -- What a turn gets of a word that was looked at.
 pub looked_at : (m : List (List ℕ)) (words depth s w level : ℕ) (runs below : List PointerRun) (report after : Report) (later : List Ahead)
-    (n : IsNext m words depth s w level runs report) → Walks m words depth below after (n.a.path ∷ n.seen) later
+    (n : IsNext m words depth s w level runs report) → HasWalked m words depth below after (n.a.path ∷ n.seen) later
     → (cost : ℕ) → Costs m s w cost → IsLookedAt m n.seen n.a s w after.pointers cost
 looked_at m words depth s w level runs below report after later n r cost costs = record {
   later = n.ahead;

@@ -3,7 +3,7 @@ use Rattle.std.proofs.Common.{◌≡◌, ℕ, ◌+◌, ◌⊎◌, inl, inr, List
 use Rattle.std.proofs.lemmas.List.{append-nil}
 use Rattle.cap_spec.specs.Paths.{Before, IsOneOf, IsTour, Rises}
 use Rattle.cap_spec.specs.declared.Step.{Step}
-use Rattle.cap_vet.specs.Trails.{Ahead, Apart, AreApart, Falls, IsUnder, IsTrail}
+use Rattle.cap_vet.specs.Trails.{Ahead, Apart, EachApart, Falls, IsUnder, IsTrail}
 use Rattle.cap_spec.proofs.Paths.Preorder.{Before-trans}
 use Rattle.cap_vet.proofs.Apart.{Apart-right, Apart-trans, not_before-self, not_apart-self, not_before-apart, longer-differs}
 use Rattle.cap_vet.proofs.Trails.{falls-step, reached-step}
@@ -75,13 +75,13 @@ Falls-before p q (r ∷ seen) f (inl e) = subst (λ u. Before u p) (sym e) f.0
 Falls-before p q (r ∷ seen) f (inr h) = Before-trans q r p (Falls-before r q seen f.1 h) f.0
 
 -- the head is apart from all that lies under the others
-pub Apart-under : (a : Ahead) (q : List Step) (ahead : List Ahead) → AreApart (a ∷ ahead) → IsUnder q ahead → Apart a.path q
+pub Apart-under : (a : Ahead) (q : List Step) (ahead : List Ahead) → EachApart (a ∷ ahead) → IsUnder q ahead → Apart a.path q
 Apart-under a q [] h k = absurd k
 Apart-under a q (b ∷ ahead) h (inl (rest, e)) = subst (Apart a.path) (sym e) (Apart-right a.path b.path rest h.0)
 Apart-under a q (b ∷ ahead) h (inr k) = Apart-trans a.path b.path q h.0 (Apart-under b q ahead h.1 k)
 
 -- what a path reaches up to the head of what is ahead was looked at, or is the head
-pub up_to_head : (a : Ahead) (seen : List (List Step)) (ahead : List Ahead) (q : List Step) → AreApart (a ∷ ahead)
+pub up_to_head : (a : Ahead) (seen : List (List Step)) (ahead : List Ahead) (q : List Step) → EachApart (a ∷ ahead)
     → IsOneOf q seen ⊎ IsUnder q (a ∷ ahead) → (q ≡ a.path) ⊎ Before q a.path → IsOneOf q (a.path ∷ seen)
 up_to_head a seen ahead q apart (inl h) k = inr h
 up_to_head a seen ahead q apart (inr (inl ([], e))) k = inl (e ∙ append-nil a.path)

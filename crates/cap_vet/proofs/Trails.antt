@@ -3,7 +3,7 @@ use Rattle.std.proofs.Common.{◌≡◌, ℕ, ◌⊎◌, inl, inr, List, [], ◌
 use Rattle.std.proofs.lemmas.List.{append-nil}
 use Rattle.cap_spec.specs.Paths.{Before, IsOneOf, Reaches}
 use Rattle.cap_spec.specs.declared.Step.{Step}
-use Rattle.cap_vet.specs.Trails.{Ahead, Apart, AreApart, Falls, Precedes, GoOnFrom, IsUnder, AreReached, IsTrail}
+use Rattle.cap_vet.specs.Trails.{Ahead, Apart, EachApart, Falls, Precedes, GoOnFrom, IsUnder, AreReached, IsTrail}
 use Rattle.cap_spec.proofs.Paths.Preorder.{Before-longer}
 use Rattle.cap_vet.proofs.Apart.{apart-before, Apart-left}
 
@@ -26,18 +26,19 @@ go_on-apart : (base : List Step) (a b : Ahead) → ((x : Step) × (v : List Step
 go_on-apart base a b (x, v, e) h = subst (λ u. Apart u b.path) (sym e) (Apart-left base b.path (x ∷ v) h)
 
 -- members that are apart and go on from a path, and then members apart from that path
-pub AreApart-append : (base : List Step) (xs : List Ahead) (b : Ahead) (ys : List Ahead) → AreApart xs
-    → GoOnFrom base xs → Apart base b.path → AreApart (b ∷ ys) → AreApart (xs ++ b ∷ ys)
-AreApart-append base [] b ys h g k l = l
-AreApart-append base (a ∷ []) b ys h g k l = (go_on-apart base a b g.0 k, l)
-AreApart-append base (a ∷ c ∷ xs) b ys h g k l = (h.0, AreApart-append base (c ∷ xs) b ys h.1 g.1 k l)
+pub EachApart-append : (base : List Step) (xs : List Ahead) (b : Ahead) (ys : List Ahead) → EachApart xs
+    → GoOnFrom base xs → Apart base b.path → EachApart (b ∷ ys) → EachApart (xs ++ b ∷ ys)
+EachApart-append base [] b ys h g k l = l
+EachApart-append base (a ∷ []) b ys h g k l = (go_on-apart base a b g.0 k, l)
+EachApart-append base (a ∷ c ∷ xs) b ys h g k l = (h.0, EachApart-append base (c ∷ xs) b ys h.1 g.1 k l)
 
 -- the children of the head, and then what was ahead behind it
-pub apart-step : (a : Ahead) (children ahead : List Ahead) → AreApart (a ∷ ahead) → AreApart children → GoOnFrom a.path children → AreApart (children ++ ahead)
-apart-step a children [] h k g = subst AreApart (sym (append-nil children)) k
-apart-step a children (b ∷ ahead) h k g = AreApart-append a.path children b ahead k g h.0 h.1
+pub apart-step : (a : Ahead) (children ahead : List Ahead) → EachApart (a ∷ ahead) → EachApart children → GoOnFrom a.path children
+    → EachApart (children ++ ahead)
+apart-step a children [] h k g = subst EachApart (sym (append-nil children)) k
+apart-step a children (b ∷ ahead) h k g = EachApart-append a.path children b ahead k g h.0 h.1
 
-precedes-step : (a : Ahead) (seen : List (List Step)) (children ahead : List Ahead) → AreApart (a ∷ ahead)
+precedes-step : (a : Ahead) (seen : List (List Step)) (children ahead : List Ahead) → EachApart (a ∷ ahead)
     → GoOnFrom a.path children → Precedes (a.path ∷ seen) (children ++ ahead)
 precedes-step a seen [] [] h g = tt
 precedes-step a seen [] (b ∷ ahead) h g = apart-before a.path b.path h.0
@@ -60,7 +61,7 @@ falls-step a (p ∷ seen) ahead h k = (k, h)
 
 -- What lies behind a pointer word: its children, in order, and nothing else that a path reaches.
 pub record AreChildren (m : List (List ℕ)) (base : List Step) (children : List Ahead) : Type 0 where
-  pub apart : AreApart children
+  pub apart : EachApart children
   pub go_on : GoOnFrom base children
   pub reached : AreReached m children
   pub complete : (x : Step) (v : List Step) (level s w : ℕ) → Reaches m (base ++ x ∷ v) level s w → IsUnder (base ++ x ∷ v) children

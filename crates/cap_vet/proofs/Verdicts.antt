@@ -16,7 +16,7 @@ use Rattle.cap_vet.specs.Trails.{Ahead, IsTrail}
 use Rattle.cap_vet.specs.PointerRuns.{pointer_word_of, root_run}
 use Rattle.cap_vet.specs.Limits.{depth_of, words_of}
 use Rattle.cap_vet.specs.Turns.{IsWalking}
-use Rattle.cap_vet.specs.Walking.{IsFirstOf, IsNext, Progress, Walks}
+use Rattle.cap_vet.specs.Walking.{IsFirstOf, IsNext, Progress, HasWalked}
 use Rattle.cap_vet.specs.declared.walk.pointer_run.PointerRun.{PointerRun}
 use Rattle.cap_vet.specs.declared.limits.Limits.{Limits}
 use Rattle.cap_vet.specs.declared.report.Report.{Report}
@@ -94,7 +94,7 @@ whole_first_cap m seen (Some place) t (p, one, (level, k, i, r, lead), first) = 
 
 -- A walk with nothing ahead has the whole tree.
 pub accepted_at_end : (m : List (List ℕ)) (words depth : ℕ) (report : Report) (seen : List (List Step)) (ahead : List Ahead)
-    → Walks m words depth [] report seen ahead
+    → HasWalked m words depth [] report seen ahead
     → IsAccepted m words depth report
 accepted_at_end m words depth report seen ahead w =
     let none : ahead ≡ [] = none_ahead ahead w.places in

@@ -2,7 +2,7 @@
 use Rattle.std.specs.Prelude.{ℕ, ◌≤◌, List, [], ◌∷◌, ◌++◌}
 use Rattle.cap_spec.specs.declared.Step.{Step}
 use Rattle.cap_vet.specs.Trails.{Ahead}
-use Rattle.cap_vet.specs.Walking.{AreNull, Walks, work_left}
+use Rattle.cap_vet.specs.Walking.{AreNull, HasWalked, work_left}
 use Rattle.cap_vet.specs.declared.walk.pointer_run.PointerRun.{PointerRun}
 use Rattle.cap_vet.specs.declared.report.Report.{Report}
 
@@ -12,5 +12,5 @@ pub record Passes (m : List (List ℕ)) (words depth : ℕ) (runs : List Pointer
   pub nulls : List (List Step)
   pub later : List Ahead
   pub are_null : AreNull m nulls
-  pub walks : Walks m words depth (runs ++ g ∷ []) after (nulls ++ seen) later
+  pub walks : HasWalked m words depth (runs ++ g ∷ []) after (nulls ++ seen) later
   pub less : work_left words (runs ++ g ∷ []) after ≤ work_left words (runs ++ f ∷ []) report

@@ -60,7 +60,7 @@ GivesAfter m start step rest result =
     → IsGiven demands m words depth (first ++ step ∷ rest) result
 
 -- The first steps lead to the list of structs of these elements, without a fault.
-pub record AreElements {M : Type 0} {g : segments.Ghosts M} (m : List (List ℕ)) (start : PathStart M g) (e : StructElements M g)
+pub record LeadsToElements {M : Type 0} {g : segments.Ghosts M} (m : List (List ℕ)) (start : PathStart M g) (e : StructElements M g)
     : Type 0 where
   pub at : Arrival
   pub way : start.way ≡ To at
@@ -74,7 +74,7 @@ pub record AreElements {M : Type 0} {g : segments.Ghosts M} (m : List (List ℕ)
 
 -- Element i of the list, and what pointer j of it leads to, is what paths from there give.
 abbrev pub GivesElement : {M : Type 0} {g : segments.Ghosts M} → List (List ℕ) → StructElements M g → ℕ → View M g → Type 0
-GivesElement {M} {g} m e i v = (start : PathStart M g) → AreElements m start e → GivesAfter m start (Item i) [] (Ok (Some v))
+GivesElement {M} {g} m e i v = (start : PathStart M g) → LeadsToElements m start e → GivesAfter m start (Item i) [] (Ok (Some v))
 
 abbrev pub GivesPointer : {M : Type 0} {g : segments.Ghosts M} → List (List ℕ) → StructElements M g → ℕ → ℕ → View M g → Type 0
-GivesPointer {M} {g} m e i j v = (start : PathStart M g) → AreElements m start e → GivesAfter m start (Item i) (Ptr j ∷ []) (Ok (Some v))
+GivesPointer {M} {g} m e i j v = (start : PathStart M g) → LeadsToElements m start e → GivesAfter m start (Item i) (Ptr j ∷ []) (Ok (Some v))

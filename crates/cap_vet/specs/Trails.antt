@@ -18,10 +18,10 @@ Apart (x ∷ xs) [] = ⊥
 Apart (x ∷ xs) (y ∷ ys) = (number_of x < number_of y) ⊎ ((x ≡ y) × Apart xs ys)
 
 -- each is apart from the next
-abbrev pub AreApart : List Ahead → Type 0
-AreApart [] = ⊤
-AreApart (a ∷ []) = ⊤
-AreApart (a ∷ b ∷ rest) = Apart a.path b.path × AreApart (b ∷ rest)
+abbrev pub EachApart : List Ahead → Type 0
+EachApart [] = ⊤
+EachApart (a ∷ []) = ⊤
+EachApart (a ∷ b ∷ rest) = Apart a.path b.path × EachApart (b ∷ rest)
 
 -- the paths that were looked at, the last one first, each after the next in preorder
 abbrev pub Falls : List (List Step) → Type 0
@@ -65,7 +65,7 @@ element_rows base level t b ds ps i (suc n) =
 pub record IsTrail (m : List (List ℕ)) (seen : List (List Step)) (ahead : List Ahead) : Type 0 where
   pub falls : Falls seen
   pub precedes : Precedes seen ahead
-  pub apart : AreApart ahead
+  pub apart : EachApart ahead
   pub seen_reached : (q : List Step) → IsOneOf q seen → (level s w : ℕ) × Reaches m q level s w
   pub ahead_reached : AreReached m ahead
   pub complete : (q : List Step) (level s w : ℕ) → Reaches m q level s w → IsOneOf q seen ⊎ IsUnder q ahead

@@ -6,7 +6,7 @@ use Rattle.cap_spec.specs.Paths.{Costs}
 use Rattle.cap_spec.specs.declared.Step.{Step}
 use Rattle.cap_vet.specs.Limits.{depth_of, words_of}
 use Rattle.cap_vet.specs.Trails.{Ahead, IsTrail}
-use Rattle.cap_vet.specs.Walking.{IsNext, Walks, work_left, work_next}
+use Rattle.cap_vet.specs.Walking.{IsNext, HasWalked, work_left, work_next}
 use Rattle.cap_vet.specs.declared.walk.pointer_run.PointerRun.{PointerRun}
 use Rattle.cap_vet.specs.declared.limits.Limits.{Limits}
 use Rattle.cap_vet.specs.declared.report.Report.{Report}
@@ -17,7 +17,7 @@ use Rattle.cap_vet.specs.declared.walk.turn.Stopped.TheVariants.{Refused, ByTurn
 pub record IsWalking (m : List (List ℕ)) (limits : Limits) (runs : List PointerRun) (report : Report) (K : List (List Step) → Type 0) : Type 0 where
   pub seen : List (List Step)
   pub ahead : List Ahead
-  pub walks : Walks m (words_of limits) (depth_of limits) runs report seen ahead
+  pub walks : HasWalked m (words_of limits) (depth_of limits) runs report seen ahead
   pub known : K seen
 
 -- the next word to look at is s:w within these limits
@@ -34,7 +34,7 @@ pub record IsAt (m : List (List ℕ)) (limits : Limits) (s w level : ℕ) (runs 
 pub record HasVisited (m : List (List ℕ)) (limits : Limits) (s w level : ℕ) (runs : List PointerRun) (before : Report)
     (n : IsNext m (words_of limits) (depth_of limits) s w level runs before) (below : Option PointerRun) (after : Report) : Type 0 where
   pub later : List Ahead
-  pub walks : Walks m (words_of limits) (depth_of limits) (runs ++ option_to_list below) after (n.a.path ∷ n.seen) later
+  pub walks : HasWalked m (words_of limits) (depth_of limits) (runs ++ option_to_list below) after (n.a.path ∷ n.seen) later
   pub less : work_left (words_of limits) (runs ++ option_to_list below) after < work_next (words_of limits) runs before
   pub cost : ℕ
   pub costs : Costs m s w cost

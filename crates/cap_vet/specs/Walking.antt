@@ -45,7 +45,8 @@ pub record Progress (m : List (List ℕ)) (words depth : ℕ) (charge deepest po
   pub first_cap : IsFirstOf m seen first
 
 -- The words of the runs are ahead, the topmost run's first, and those that were looked at are in the report.
-pub record Walks (m : List (List ℕ)) (words depth : ℕ) (runs : List PointerRun) (report : Report) (seen : List (List Step)) (ahead : List Ahead) : Type 0 where
+pub record HasWalked (m : List (List ℕ)) (words depth : ℕ) (runs : List PointerRun) (report : Report) (seen : List (List Step))
+    (ahead : List Ahead) : Type 0 where
   pub progress : Progress m words depth report.charge report.depth report.pointers report.caps report.first_cap seen ahead
   pub places : map pointer_word_of ahead ≡ all_spots (reverse runs)
   pub inside : AllByRecursion (RunIn m) (reverse runs)

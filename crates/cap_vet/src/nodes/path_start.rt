@@ -43,7 +43,7 @@ impl<'m, M: Segments> Copy for PathStart<'m, M> {}
 
 impl<'m, M: Segments> PathStart<'m, M> {
     ghost use Rattle.cap_vet.specs.Views.{view_message};
-    ghost use Rattle.cap_vet.specs.PathWays.{AreElements, GivesAfter, IsStart, elements_message, start_message};
+    ghost use Rattle.cap_vet.specs.PathWays.{LeadsToElements, GivesAfter, IsStart, elements_message, start_message};
     ghost use Rattle.std.specs.Prelude.{IfOk, IfSome};
 
     /// Follows the first steps of several paths. The limits and demands are those of
@@ -75,7 +75,7 @@ impl<'m, M: Segments> PathStart<'m, M> {
     /// [`PathStart::get`] then has to decide. Allocates nothing.
     pub fn elements(&self) -> Option<StructElements<'m, M>>
         ensures elements { let m = M.segments (start_message self.now) in
-            IfSome result (AreElements m self.now) }
+            IfSome result (LeadsToElements m self.now) }
         ensures message { IfSome result (λ e. elements_message e ≡ start_message self.now) }
     {
         let Way::To(at) = self.way else {

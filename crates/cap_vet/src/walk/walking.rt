@@ -6,7 +6,7 @@ ghost use Rattle.cap_vet.specs.Passing.{Passes};
 ghost use Rattle.cap_vet.specs.PointerRuns.{RunIn, kept, root_run};
 ghost use Rattle.cap_vet.specs.Trails.{Ahead};
 ghost use Rattle.cap_vet.specs.Turns.{GoesOnIf, IsAt, IsStopped, IsWalking};
-ghost use Rattle.cap_vet.specs.Walking.{Walks};
+ghost use Rattle.cap_vet.specs.Walking.{HasWalked};
 ghost use Rattle.cap_vet.specs.WalkSteps.{Continues, LeavesRoom, TakesTurn};
 ghost use Rattle.std.specs.Option.{option_to_list};
 ghost use Rattle.std.specs.Prelude.{◌++◌, ◌<◌, ◌≡◌, ◌≤◌, [], ◌∷◌, IfErr, IfNone, IfOk, IfSome, IsFalse, IsTrue, List, length, ℕ};
@@ -37,7 +37,7 @@ enum Next {
     Done,
 }
 
-/// Walks a message from its root, and takes a turn at each pointer word but null ones. The report
+/// HasWalked a message from its root, and takes a turn at each pointer word but null ones. The report
 /// is of the whole walk.
 pub(crate) fn walk<M: Segments, T: Turn>(
     message: &M,
@@ -294,9 +294,9 @@ fn turn_near<M: Segments, T: Turn>(
 fn pass_nulls<M: Segments>(message: &M, run: &mut PointerRun, report: &mut Report)
     requires { let m = M.segments message.now in (words depth : ℕ) × (runs : List PointerRun)
         × (seen : List (List Step)) × (ahead : List Ahead)
-        × Walks m words depth (runs ++ run.old ∷ []) report.old seen ahead }
+        × HasWalked m words depth (runs ++ run.old ∷ []) report.old seen ahead }
     ensures { let m = M.segments message.now in (w d : ℕ) (rs : List PointerRun)
-        (seen : List (List Step)) (a : List Ahead) → Walks m w d (rs ++ run.old ∷ []) report.old seen a →
+        (seen : List (List Step)) (a : List Ahead) → HasWalked m w d (rs ++ run.old ∷ []) report.old seen a →
         Passes m w d rs seen run.old report.old run.new report.new }
 {
     'nulls: while run.left > 1 && message.word(run.segment, run.at) == 0 {
