@@ -16,7 +16,8 @@ use Rattle.cap_calls.specs.declared.limits.CallLimits.{CallLimits}
 use Rattle.cap_calls.specs.declared.node.CallNode.{CallNode}
 use Rattle.cap_calls.specs.declared.report.CallReport.{CallReport}
 use Rattle.cap_calls.specs.declared.step.CallStep.{CallStep}
-use Rattle.cap_calls.proofs.NodeBytes.{node_bounded, offset_inside}
+use Rattle.cap_calls.proofs.NodeBytes.{node_bounded}
+use Rattle.cap_calls.proofs.SegmentPlaces.{offset_inside}
 use Rattle.cap_calls.proofs.Bounds.{length_inside}
 
 -- how many bytes there are up to the end of a node's

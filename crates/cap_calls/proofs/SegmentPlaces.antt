@@ -1,58 +1,100 @@
--- The words of a segment are where its frame has them.
-use Rattle.std.proofs.Common.{◌≡◌, ◌∙◌, ℕ, zero, suc, ◌+◌, ◌-◌, ◌*◌, ◌<◌, List, [], ◌∷◌, ◌++◌, length, drop, take, sum}
-use Rattle.std.proofs.Common.{get_or, slice_range, sym, ap, arith, append_assoc, zero-add}
+-- The words of a segment are where its frame has them, and inside the frame.
+use Rattle.std.proofs.Common.{◌≡◌, ◌∙◌, ℕ, zero, suc, ◌+◌, ◌-◌, ◌*◌, ◌<◌, ◌≤◌, List, [], ◌∷◌, ◌++◌, length, drop, take, le_refl, take_all}
+use Rattle.std.proofs.Common.{slice_range, sym, ap, arith, append_assoc, length-append}
 use Rattle.std.proofs.Math.Seq.{drop-append-add, take-append_seam}
-use Rattle.std.proofs.lemmas.List.{get_or-map, length-map, take_more}
-use Rattle.std.proofs.lemmas.List.Sums.{sum_by-append, sum_by-cons}
+use Rattle.std.proofs.lemmas.List.{drop-drop, drop-take, length-map, take-take}
+use Rattle.cap_spec.specs.Denoting.{words_from}
 use Rattle.cap_spec.specs.Frames.{joined, sizes_of}
+use Rattle.cap_spec.specs.Messages.{segment_of}
 use Rattle.cap_spec.specs.Plain.{plain_words}
+use Rattle.cap_spec.proofs.Frames.Endings.{length_joined}
 use Rattle.cap_spec.proofs.Frames.Framing.{table_length}
-use Rattle.cap_frame.specs.Fronts.{IsFront}
+use Rattle.cap_frame.specs.Fronts.{IsFront, table_words}
 use Rattle.cap_frame.proofs.Parts.{drop_words, take_words}
-use Rattle.cap_calls.specs.SegmentCalls.{segment_start}
+use Rattle.cap_vet.specs.Taken.{start_of}
+use Rattle.cap_vet.proofs.Ranges.{all_words, start_within}
+use Rattle.cap_calls.specs.CallNodes.{offset_of}
 
 -- a segment of joined ones, from its place on
-pub joined_at : (m : List (List ℕ)) (s : ℕ) (rest : List ℕ) → s < length m
-    → take (length (get_or m s [])) (drop (sum (take s (sizes_of m))) (joined m ++ rest)) ≡ get_or m s []
+joined_at : (m : List (List ℕ)) (s : ℕ) (rest : List ℕ) → s < length m
+    → take (length (segment_of m s)) (drop (start_of m s) (joined m ++ rest)) ≡ segment_of m s
 joined_at [] s rest l = absurd (omega (arith, l))
 joined_at (xs ∷ m) zero rest l =
     ap (take (length xs)) (append_assoc xs (joined m) rest) ∙ take-append_seam xs (joined m ++ rest)
 joined_at (xs ∷ m) (suc s) rest l =
-    let at : sum (length xs ∷ take s (sizes_of m)) ≡ length xs + sum (take s (sizes_of m)) = sum_by-cons (λ x. x) (length xs) (take s (sizes_of m)) in
-    ap (λ (n : ℕ). take (length (get_or m s [])) (drop n ((xs ++ joined m) ++ rest))) at
-    ∙ (ap (λ (ws : List ℕ). take (length (get_or m s [])) (drop (length xs + sum (take s (sizes_of m))) ws)) (append_assoc xs (joined m) rest)
-    ∙ (ap (take (length (get_or m s []))) (drop-append-add xs (joined m ++ rest) (sum (take s (sizes_of m))))
-    ∙ joined_at m s rest (omega (arith, l))))
+    ap (λ (ws : List ℕ). take (length (segment_of m s)) (drop (length xs + start_of m s) ws)) (append_assoc xs (joined m) rest)
+    ∙ (ap (take (length (segment_of m s))) (drop-append-add xs (joined m ++ rest) (start_of m s))
+    ∙ joined_at m s rest (omega (arith, l)))
 
--- So its words are the bytes from there on.
-pub segment_words : (limit : ℕ) (bs : List ℕ) (m : List (List ℕ)) (n s at size : ℕ) → IsFront limit bs m n → s < length m
-    → at ≡ segment_start m s → size ≡ 8 * length (get_or m s [])
-    → plain_words (slice_range bs at (at + size)) ≡ get_or m s []
-segment_words limit bs m n s at size h l e f =
-    let table = h.frames.table in
-    let before = sum (take s (sizes_of m)) in
-    let long = length (get_or m s []) in
-    let words : plain_words bs ≡ table ++ (joined m ++ h.rest) =
-    h.words ∙ (ap (λ (ws : List ℕ). ws ++ h.rest) h.frames.whole ∙ append_assoc table (joined m) h.rest) in
-    let count = length-map m (λ (ws : List ℕ). length ws) in
-    let same : at ≡ 8 * (length table + before) = omega (arith, e, count, table_length table (sizes_of m) h.frames.is_table) in
-    let size_is : (at + size) - at ≡ 8 * long = omega (arith, f) in
-    ap (λ (k : ℕ). plain_words (take k (drop at bs))) size_is
-    ∙ (ap (λ (k : ℕ). plain_words (take (8 * long) (drop k bs))) same
-    ∙ (sym (take_words long (drop (8 * (length table + before)) bs))
-    ∙ (ap (take long) (sym (drop_words (length table + before) bs))
-    ∙ (ap (λ (ws : List ℕ). take long (drop (length table + before) ws)) words
-    ∙ (ap (take long) (drop-append-add table (joined m ++ h.rest) before)
-    ∙ joined_at m s h.rest l)))))
+-- some words of a segment, which is the first of some words
+part_of : (xs ys : List ℕ) (long b n : ℕ) → take long ys ≡ xs → b + n ≤ long → take n (drop b ys) ≡ slice_range xs b (b + n)
+part_of xs ys long b n e h =
+    let whole : b + (long - b) ≡ long = omega (arith, h) in
+    let rest : drop b xs ≡ take (long - b) (drop b ys) =
+    ap (drop b) (sym e) ∙ (ap (λ (k : ℕ). drop b (take k ys)) (sym whole) ∙ drop-take b (long - b) ys) in
+    let count : b + n - b ≡ n = omega arith in
+    sym (ap (λ (k : ℕ). take k (drop b xs)) count
+    ∙ (ap (take n) rest ∙ take-take n (long - b) (drop b ys) (omega (arith, h))))
 
--- one more segment before a place
-pub before_more : (m : List (List ℕ)) (i : ℕ) → i < length m
-    → sum (take (i + 1) (sizes_of m)) ≡ sum (take i (sizes_of m)) + length (get_or m i [])
-before_more m i h =
-    let sizes = sizes_of m in
-    let inside : i < length sizes = omega (arith, length-map m (λ (ws : List ℕ). length ws), h) in
-    let next : sum (take (i + 1) sizes) ≡ sum (take i sizes) + sum (get_or sizes i 0 ∷ []) =
-    ap sum (take_more sizes i 0 inside) ∙ sum_by-append (λ x. x) (take i sizes) (get_or sizes i 0 ∷ []) in
-    let one : sum (get_or sizes i 0 ∷ []) ≡ get_or sizes i 0 = zero-add (get_or sizes i 0) in
-    let size : get_or sizes i 0 ≡ length (get_or m i []) = get_or-map (λ (ws : List ℕ). length ws) m i [] 0 h in
-    omega (arith, next, one, size)
+module _ (limit : ℕ) (bs : List ℕ) (m : List (List ℕ)) (x : ℕ) (h : IsFront limit bs m x) (t b n : ℕ) (exists : t < length m)
+    (inside : b + n ≤ length (segment_of m t)) where
+  count : length (sizes_of m) ≡ length m
+  count = length-map m (λ (ws : List ℕ). length ws)
+
+  -- The words from a word of a frame on are those of its segment.
+  words_there : take n (drop (table_words (length m) + (start_of m t + b)) (plain_words bs)) ≡ words_from m t b n
+  words_there =
+      let table = h.frames.table in
+      let before = start_of m t in
+      let all = joined m ++ h.rest in
+      let words : plain_words bs ≡ table ++ all =
+      h.words ∙ (ap (λ (ws : List ℕ). ws ++ h.rest) h.frames.whole ∙ append_assoc table (joined m) h.rest) in
+      let place : table_words (length m) + (start_of m t + b) ≡ length table + (before + b) =
+      omega (arith, count, table_length table (sizes_of m) h.frames.is_table) in
+      ap (λ (ws : List ℕ). take n (drop (table_words (length m) + (start_of m t + b)) ws)) words
+      ∙ (ap (λ (k : ℕ). take n (drop k (table ++ all))) place
+      ∙ (ap (take n) (drop-append-add table all (before + b))
+      ∙ (ap (take n) (sym (drop-drop b before all))
+      ∙ part_of (segment_of m t) (drop before all) (length (segment_of m t)) b n (joined_at m t h.rest exists) inside)))
+
+  pub words_at : (k : ℕ) → offset_of m t b ≡ 8 * k → slice_range (plain_words bs) k (k + n) ≡ words_from m t b n
+  words_at k e =
+      let same : k ≡ table_words (length m) + (start_of m t + b) = omega (arith, e) in
+      let long : k + n - k ≡ n = omega arith in
+      ap (λ (j : ℕ). take j (drop k (plain_words bs))) long
+      ∙ (ap (λ (j : ℕ). take n (drop j (plain_words bs))) same ∙ words_there)
+
+  -- So are the words of the bytes from its offset on.
+  pub bytes_at : plain_words (slice_range bs (offset_of m t b) (offset_of m t b + 8 * n)) ≡ words_from m t b n
+  bytes_at =
+      let at = offset_of m t b in
+      let long : at + 8 * n - at ≡ 8 * n = omega arith in
+      ap (λ (k : ℕ). plain_words (take k (drop at bs))) long
+      ∙ (sym (take_words n (drop at bs))
+      ∙ (ap (take n) (sym (drop_words (table_words (length m) + (start_of m t + b)) bs)) ∙ words_there))
+
+  -- And they are inside the frame.
+  pub offset_inside : offset_of m t b + 8 * n ≤ x
+  offset_inside =
+      let table = h.frames.table in
+      let own = ap length h.frames.whole ∙ length-append table (joined m) in
+      omega (
+        arith,
+        h.long,
+        own,
+        length_joined m,
+        count,
+        table_length table (sizes_of m) h.frames.is_table,
+        start_within m t exists,
+        all_words m,
+        inside,
+      )
+
+-- All words of a segment.
+pub segment_words : (limit : ℕ) (bs : List ℕ) (m : List (List ℕ)) (n s : ℕ) → IsFront limit bs m n → s < length m
+    → plain_words (slice_range bs (offset_of m s 0) (offset_of m s 0 + 8 * length (segment_of m s))) ≡ segment_of m s
+segment_words limit bs m n s h l =
+    let ws = segment_of m s in
+    let long : 0 + length ws - 0 ≡ length ws = omega arith in
+    bytes_at limit bs m n h s 0 (length ws) l (omega arith)
+    ∙ (ap (λ (k : ℕ). take k ws) long ∙ take_all (length ws) ws (le_refl (length ws)))

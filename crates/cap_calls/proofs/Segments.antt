@@ -5,8 +5,9 @@ use Rattle.cap_calls.proofs.SegmentPlaces.{segment_words}
 use Rattle.cap_spec.specs.Messages.{segment_of}
 use Rattle.cap_calls.specs.CallFlags.{HasKnownFlags}
 use Rattle.cap_calls.specs.CallFrames.{AreLimits, HasFrame}
+use Rattle.cap_calls.specs.CallNodes.{offset_of}
 use Rattle.cap_calls.specs.CallReports.{cause_answer}
-use Rattle.cap_calls.specs.SegmentCalls.{AreSegmentWords, TellsSegment, any_size, found, none, segment_start, without}
+use Rattle.cap_calls.specs.SegmentCalls.{AreSegmentWords, TellsSegment, any_size, found, none, without}
 use Rattle.cap_calls.specs.declared.answer.Answer.{Answer}
 use Rattle.cap_calls.proofs.Answers.{no_cause, one_cause, one_extent}
 
@@ -31,7 +32,7 @@ one_segment_told bs i a b x y s t (found m d o h w e p q) (none n f g k l j u v)
 one_segment_told bs i a b x y s t (found m d o h w e p q) (found n f g k l j u v) =
     let one = (one_extent any_size bs d f o g m n h k).2 in (
       e ∙ sym j,
-      p ∙ (ap (λ (z : List (List ℕ)). segment_start z i) one ∙ sym u),
+      p ∙ (ap (λ (z : List (List ℕ)). offset_of z i 0) one ∙ sym u),
       q ∙ (ap (λ (z : List (List ℕ)). 8 * length (segment_of z i)) one ∙ sym v),
     )
 
@@ -49,6 +50,6 @@ segment_told bs i a x s (none o f g h w e p q) = λ m n k l.
     absurd (omega (arith, w, l, same_count bs f n g (length m) o m h (has_frame bs m n k)))
 segment_told bs i a x s (found o f g h w e p q) = λ m n k l.
     let one = (one_extent any_size bs f n g (length m) o m h (has_frame bs m n k)).2 in
-    segment_words 268435456 bs m n i x s k l
-    (p ∙ ap (λ (z : List (List ℕ)). segment_start z i) one)
-    (q ∙ ap (λ (z : List (List ℕ)). 8 * length (segment_of z i)) one)
+    let start : x ≡ offset_of m i 0 = p ∙ ap (λ (z : List (List ℕ)). offset_of z i 0) one in
+    let size : s ≡ 8 * length (segment_of m i) = q ∙ ap (λ (z : List (List ℕ)). 8 * length (segment_of z i)) one in
+    rw (start, size) (segment_words 268435456 bs m n i k l)

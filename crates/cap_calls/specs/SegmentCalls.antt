@@ -1,12 +1,12 @@
 -- Where a segment of a framed message is (profile; standard: Serialization Over a Stream).
-use Rattle.std.specs.Prelude.{ℕ, ◌*◌, ◌+◌, ◌<◌, ◌≡◌, ◌≤◌, List, length, slice_range, sum, take}
-use Rattle.cap_spec.specs.Frames.{sizes_of}
+use Rattle.std.specs.Prelude.{ℕ, ◌*◌, ◌+◌, ◌<◌, ◌≡◌, ◌≤◌, List, length, slice_range}
 use Rattle.cap_spec.specs.GreatestLimits.{most_words}
 use Rattle.cap_spec.specs.Messages.{segment_of}
 use Rattle.cap_spec.specs.Plain.{plain_words}
-use Rattle.cap_frame.specs.Fronts.{IsFront, table_words}
+use Rattle.cap_frame.specs.Fronts.{IsFront}
 use Rattle.cap_calls.specs.CallFlags.{default_limits}
 use Rattle.cap_calls.specs.CallFrames.{HasFrame, HasNoFrame}
+use Rattle.cap_calls.specs.CallNodes.{offset_of}
 use Rattle.cap_calls.specs.CallReports.{cause_answer}
 use Rattle.cap_calls.specs.declared.answer.Answer.{Answer}
 use Rattle.cap_calls.specs.declared.answer.Answer.TheVariants.{Good, NoSegment}
@@ -16,10 +16,6 @@ use Rattle.cap_calls.specs.declared.limits.CallLimits.{CallLimits}
 -- a message of any size that limits can allow
 abbrev pub any_size : CallLimits
 any_size = record default_limits { message_words = most_words }
-
--- where segment s starts in a frame of the message, in bytes: after the table and the segments before it
-abbrev pub segment_start : List (List ℕ) → ℕ → ℕ
-segment_start m s = 8 * (table_words (length m) + sum (take s (sizes_of m)))
 
 -- Of segment `index` of the message that the bytes start with: where it starts, in bytes, and how many it has.
 pub data TellsSegment (bytes : List ℕ) (index : ℕ) (a : Answer) (start size : ℕ) : Type 0 where
@@ -32,7 +28,7 @@ pub data TellsSegment (bytes : List ℕ) (index : ℕ) (a : Answer) (start size 
       → TellsSegment bytes index a start size
   -- it has
   found : (m : List (List ℕ)) (frame segments : ℕ) → HasFrame any_size bytes frame segments m → index < length m
-      → a ≡ Good → start ≡ segment_start m index → size ≡ 8 * length (segment_of m index)
+      → a ≡ Good → start ≡ offset_of m index 0 → size ≡ 8 * length (segment_of m index)
       → TellsSegment bytes index a start size
 
 -- If the bytes start with a message that has this segment, the bytes there are the segment's words.

@@ -1,11 +1,12 @@
 //! The call that reports where a segment of a frame is.
 
-ghost use Rattle.cap_calls.specs.SegmentCalls.{AreSegmentWords, TellsSegment, any_size, segment_start};
+ghost use Rattle.cap_calls.specs.CallNodes.{offset_of};
+ghost use Rattle.cap_calls.specs.SegmentCalls.{AreSegmentWords, TellsSegment, any_size};
 ghost use Rattle.cap_calls.specs.declared.answer.Answer.{Answer};
 ghost use Rattle.cap_frame.specs.Framed.{framed_segments};
-ghost use Rattle.cap_spec.specs.Frames.{sizes_of};
 ghost use Rattle.cap_spec.specs.Messages.{segment_of};
-ghost use Rattle.std.specs.Prelude.{◌*◌, ◌<◌, ◌≡◌, ◌≤◌, length, sum, take, ℕ};
+ghost use Rattle.cap_vet.specs.Taken.{start_of};
+ghost use Rattle.std.specs.Prelude.{◌*◌, ◌<◌, ◌≡◌, ◌≤◌, length, ℕ};
 
 use crate::answer::Answer;
 use crate::front::front;
@@ -60,7 +61,7 @@ fn found_at(bytes: &[u8], index: u32) -> (Answer, usize, usize)
 // Where segment `s` starts, and its length, both in bytes.
 fn place_of(framed: &Framed<'_>, s: u32) -> (usize, usize)
     requires { s < length (framed_segments framed.now) }
-    ensures start { result.0 ≡ segment_start (framed_segments framed.now) s }
+    ensures start { result.0 ≡ offset_of (framed_segments framed.now) s 0 }
     ensures length { result.1 ≡ 8 * length (segment_of (framed_segments framed.now) s) }
 {
     let framed = *framed;
@@ -75,7 +76,7 @@ fn place_of(framed: &Framed<'_>, s: u32) -> (usize, usize)
 fn words_before<'b>(message: &ByteView<'b>, s: u32) -> u64
     requires { let m = ⟦<ByteView<'b> as Segments>⟧.segments message.now in s ≤ length m }
     ensures { let m = ⟦<ByteView<'b> as Segments>⟧.segments message.now in
-        result ≡ sum (take s (sizes_of m)) }
+        result ≡ start_of m s }
 {
     let mut words = 0u64;
     'segments: for i in 0..s {

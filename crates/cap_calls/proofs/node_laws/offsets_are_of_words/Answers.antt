@@ -1,4 +1,5 @@
-use Rattle.cap_calls.proofs.NodeBytes.{bytes_at, place_inside, words_at}
+use Rattle.cap_calls.proofs.NodeBytes.{place_inside}
+use Rattle.cap_calls.proofs.SegmentPlaces.{bytes_at, words_at}
 use Rattle.cap_calls.proofs.node_laws.offsets_are_of_words.Goals as goal
 
 pub returns-clause-words : goal.returns-clause-words
