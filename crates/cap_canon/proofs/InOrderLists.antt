@@ -6,16 +6,16 @@ use Rattle.cap_spec.specs.Canonical.{list_word, struct_word}
 use Rattle.cap_spec.specs.Messages.{HasWord, segment_of}
 use Rattle.cap_spec.specs.Pointers.{code, data_size, kind, list_size, middle, pointer_size}
 use Rattle.cap_spec.proofs.Canonical.PointerFields.{start_after}
-use Rattle.cap_spec.proofs.Frames.Messages.{HasWord-segment}
+use Rattle.cap_spec.proofs.Frames.Messages.{HasWord-segment, one_word}
 use Rattle.cap_spec.proofs.Trees.Charges.{extent_structs}
 use Rattle.cap_ptr.specs.Reaching.{LeadsTo}
 use Rattle.cap_ptr.specs.Shapes.{FindsObject}
 use Rattle.cap_ptr.specs.declared.shapes.Shape.TheVariants as shape
 use Rattle.cap_ptr.proofs.Objects.{found-structs}
 use Rattle.cap_ptr.proofs.Pads.{object-lead, stands-near}
-use Rattle.cap_canon.specs.InOrder.{HasOwn, IsNextInOrder, MayStand, NoCopyHas}
+use Rattle.cap_canon.specs.InOrder.{HasOwn, IsNextInOrder, LeadsToEnd, MayStand, NoCopyHas}
 use Rattle.cap_canon.specs.Trimming.{ListNeedsAll, ListNeedsLess}
-use Rattle.cap_canon.proofs.InOrder.{list_by_fields, struct_by_fields, structs_own}
+use Rattle.cap_canon.proofs.InOrder.{list_by_fields, struct_by_fields, structs_own, structs_there}
 use Rattle.cap_canon.proofs.NoCopies.{no_structs}
 
 -- a near word leads to the end
@@ -27,9 +27,16 @@ leads_to_end m w end word s has list next =
     (start_after word w end (middle word) refl (omega (arith, next, s.inside, s.few)) (sym next))
 
 -- The list, with its tag.
-module _ (m : List (List ℕ)) (w end word tag : ℕ) (s : MayStand m w end) (has : HasWord m 0 w word) (list : (kind word ≡ 1) × (code word ≡ 7))
-    (next : w + 1 + middle word ≡ end) (inside : end + 1 + list_size word ≤ length (segment_of m 0)) (has_tag : HasWord m 0 end tag)
-    (tag_kind : kind tag ≡ 0) (fits : middle tag * (data_size tag + pointer_size tag) ≡ list_size word) where
+module _ (m : List (List ℕ)) (w end word tag cost : ℕ) (l : LeadsToEnd m w word end cost) (list : (kind word ≡ 1) × (code word ≡ 7))
+    (has_tag : HasWord m 0 end tag) (fits : middle tag * (data_size tag + pointer_size tag) ≡ list_size word) where
+  inside : end + 1 + list_size word ≤ length (segment_of m 0)
+  inside = (structs_there m w word end cost l list.0 list.1).3
+
+  tag_kind : kind tag ≡ 0
+  tag_kind =
+      let (there, has, is, _) = structs_there m w word end cost l list.0 list.1 in
+      ap kind (one_word m 0 end tag there has_tag has) ∙ is
+
   abbrev n : ℕ
   n = middle tag
 
@@ -49,22 +56,23 @@ module _ (m : List (List ℕ)) (w end word tag : ℕ) (s : MayStand m w end) (ha
   object : FindsObject m 0 w 0 0 end word tag (1 + list_size word) (0 + 1 + list_size word + empty) (shape.Structs (list_size word) n d p)
   object =
       let extent_is = extent_structs word list.0 list.1 in
-      found-structs m 0 w 0 0 end word (leads_to_end m w end word s has list.0 next) (HasWord-segment m 0 w word has) tag (list_size word) n d p empty
-      (1 + list_size word) (0 + 1 + list_size word + empty) (omega arith) (omega (arith, extent_is, inside)) list has_tag refl tag_kind refl refl refl
+      found-structs m 0 w 0 0 end word (leads_to_end m w end word l.stands l.has list.0 l.next) (HasWord-segment m 0 w word l.has)
+      tag (list_size word) n d p empty (1 + list_size word) (0 + 1 + list_size word + empty) (omega arith)
+      (omega (arith, extent_is, inside)) list has_tag refl tag_kind refl refl refl
       (omega (arith, fits)) refl (empty_few (eqb_tells (d + p) 0)) refl refl
 
   pub structs_next : word < 2 ^ 64 → tag < 2 ^ 64 → ListNeedsAll m 0 (end + 1) d p n → IsNextInOrder m w end (end + 1 + list_size word)
   structs_next small tag_small needs =
-      let offset : middle word ≡ end - w - 1 = omega (arith, next) in
+      let offset : middle word ≡ end - w - 1 = omega (arith, l.next) in
       let same : word ≡ list_word (end - w - 1) 7 (n * (d + p)) = list_by_fields word small list.0
       ∙ (ap (λ i. list_word i (code word) (list_size word)) offset
       ∙ (ap (λ i. list_word (end - w - 1) i (list_size word)) list.1 ∙ ap (λ i. list_word (end - w - 1) 7 i) (sym fits))) in
       let tag_same : tag ≡ struct_word n d p = struct_by_fields tag tag_small tag_kind in
       let e : end + (1 + list_size word) ≡ end + 1 + list_size word = omega arith in
-      let own = structs_own m w end 0 0 end word tag (1 + list_size word) (0 + 1 + list_size word + empty) (list_size word) n d p s object
-      (subst (λ z. HasWord m 0 w z) same has) (subst (λ z. HasWord m 0 end z) tag_same has_tag) needs.data_words needs.pointers in record {
+      let own = structs_own m w end 0 0 end word tag (1 + list_size word) (0 + 1 + list_size word + empty) (list_size word) n d p l.stands object
+      (subst (λ z. HasWord m 0 w z) same l.has) (subst (λ z. HasWord m 0 end z) tag_same has_tag) needs.data_words needs.pointers in record {
         word = word;
-        has = has;
+        has = l.has;
         near = λ y. omega (arith, y, list.0);
         inside = inside;
         k = 0;

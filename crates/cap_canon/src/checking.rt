@@ -39,7 +39,10 @@ pub fn is_canonical<M: Segments>(v: &Vetted<'_, M>) -> bool
     is_laid(message, report.depth)
 }
 
-// Whether the words of segment 0 are the layout of a message of this depth, trimmed.
+// Whether the words of segment 0 are the layout of a message of this depth, trimmed. Not inlined: its
+// walk takes 9 KiB of the stack, and a check in one walk has no need of it.
+#[cold]
+#[inline(never)]
 fn is_laid<M: Segments>(message: &M, depth: u32) -> bool
     requires { HasTree (M.segments message.now) depth }
     ensures { let m = M.segments message.now in

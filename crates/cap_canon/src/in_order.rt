@@ -1,11 +1,12 @@
 //! Comparing a message with its canonical copy while it is vetted.
 
-ghost use Rattle.cap_canon.specs.InOrder.{IsInOrder, IsNextInOrder, IsStop, LeadsToEnd, NoCopyHas};
-ghost use Rattle.cap_canon.specs.NullsInOrder.{null_in_order};
+ghost use Rattle.cap_canon.specs.InOrder.{IsNextInOrder, KnowsOrder, LeadsToEnd, NoCopyHas};
+ghost use Rattle.cap_canon.specs.NullsInOrder.{null_order};
+ghost use Rattle.cap_canon.specs.StillToLay.{longest_copy};
 ghost use Rattle.cap_spec.specs.Messages.{segment_of};
 ghost use Rattle.cap_spec.specs.Paths.{Costs};
 ghost use Rattle.cap_spec.specs.Pointers.{kind};
-ghost use Rattle.std.specs.Prelude.{◌<◌, ◌≡◌, ◌≤◌, IfErr, IfOk, length};
+ghost use Rattle.std.specs.Prelude.{◌<◌, ◌≡◌, ◌≤◌, IfErr, IfOk, length, ⊤};
 
 use crate::checking::ends_with_values;
 use crate::in_order_lists::structs_end;
@@ -16,34 +17,40 @@ use cap_vet::{FirstTurn, Place, Turn};
 
 /// The most words of a canonical message that is accepted: those of the greatest word limit, and
 /// its root word.
-const MOST_WORDS: u32 = 268435457;
+const LONGEST_COPY: u32 = 268435457;
 
 /// The pointer word of a struct without words.
 const NO_WORDS: u64 = 0xffff_fffc;
 
-/// Why a walk stops that compares a message with its copy.
+/// Why an object isn't known to be as a copy has it.
 #[derive(Clone, Copy, Drop)]
-pub(crate) enum Stop {
-    /// The message isn't canonical.
+pub(crate) enum Unlike {
+    /// No copy has it so.
     NotCanonical,
     /// It has to be found out in another way.
     Undecided,
 }
 
-/// A walk through a message of one segment that stops at the first object that isn't as a copy has
-/// it.
+/// Whether the message is canonical has to be found out in another way.
+#[derive(Clone, Copy, Drop)]
+pub(crate) struct Undecided;
+
+/// A walk through a message of one segment, which compares each object with what a copy has, up to
+/// the first that differs. It also knows that the message is strict.
 #[derive(Drop)]
 pub(crate) struct InOrder {
     // Where a copy has the next object.
     pub(crate) end: u32,
+    // The message isn't canonical.
+    pub(crate) differs: bool,
 }
 
 impl Turn for InOrder {
-    type Stop = Stop;
+    type Stop = Undecided;
 
-    ghost knows = { λ turn m seen. IsInOrder m turn.end seen };
+    ghost knows = { λ turn m seen. KnowsOrder m turn.differs turn.end seen };
 
-    ghost stops = { IsStop };
+    ghost stops = { λ _ _. ⊤ };
 
     #[inline(always)]
     fn before<M: Segments>(&self, _message: &M, _s: u32, _w: u32) -> Option<Place> {
@@ -57,45 +64,61 @@ impl Turn for InOrder {
         s: u32,
         w: u32,
         _used: Option<Place>,
-        _may_be_lax: bool,
+        may_be_lax: bool,
         _pointers: u64,
         cost: u64,
-    ) -> Result<(), Stop> {
+    ) -> Result<(), Undecided> {
+        if self.differs {
+            if may_be_lax {
+                return Err(Undecided);
+            }
+            return Ok(());
+        }
         match next_end(message, s, w, cost, self.end) {
             Ok(end) => {
                 self.end = end;
                 Ok(())
             }
-            Err(stop) => Err(stop),
+            Err(Unlike::Undecided) => Err(Undecided),
+            Err(Unlike::NotCanonical) => {
+                if may_be_lax {
+                    return Err(Undecided);
+                }
+                self.differs = true;
+                Ok(())
+            }
         }
     }
 
     ghost passes = { λ turn m seen p level s w reached zero known.
-        null_in_order m turn.end seen p level s w reached zero known };
+        null_order m turn.differs turn.end seen p level s w reached zero known };
 }
 
 impl FirstTurn for InOrder {
     #[inline(always)]
-    fn begin<M: Segments>(message: &M) -> Result<InOrder, Stop> {
+    fn begin<M: Segments>(message: &M) -> Result<InOrder, Undecided> {
         let words = message.len(0);
-        if message.count() != 1 || words == 0 || words > MOST_WORDS {
-            return Err(Stop::Undecided);
+        if message.count() != 1 || words == 0 || words > LONGEST_COPY {
+            return Err(Undecided);
         }
-        Ok(InOrder { end: 1 })
+        Ok(InOrder {
+            end: 1,
+            differs: false,
+        })
     }
 }
 
 // Where a copy has the next object, if it has pointer word `w` of segment 0 and its object's own
 // words as they are here, these from `end` on. Following that word costs `cost` words.
 #[inline(always)]
-fn next_end<M: Segments>(message: &M, s: u32, w: u32, cost: u64, end: u32) -> Result<u32, Stop>
+fn next_end<M: Segments>(message: &M, s: u32, w: u32, cost: u64, end: u32) -> Result<u32, Unlike>
     requires first { s ≡ 0 }
     requires inside { w < length (segment_of (M.segments message.now) 0) }
     requires costs { Costs (M.segments message.now) 0 w cost }
     requires end { let m = M.segments message.now in
-        (end ≤ length (segment_of m 0)) × (length (segment_of m 0) ≤ 268435457) }
+        (end ≤ length (segment_of m 0)) × (length (segment_of m 0) ≤ longest_copy) }
     ensures ok { IfOk result (IsNextInOrder (M.segments message.now) w end) }
-    ensures err { IfErr result (λ stop. stop ≡ Stop.NotCanonical →
+    ensures err { IfErr result (λ unlike. unlike ≡ Unlike.NotCanonical →
         NoCopyHas (M.segments message.now) w end) }
 {
     // Of segment `s`, as the walk reads it: so the compiler reads the word once.
@@ -104,38 +127,55 @@ fn next_end<M: Segments>(message: &M, s: u32, w: u32, cost: u64, end: u32) -> Re
         return other_end(message, w, end);
     }
     match kind(word) {
-        0 => struct_end(message, w, word, cost, end),
-        1 => list_end(message, w, word, cost, end),
+        0 => struct_end(message, s, w, word, cost, end),
+        1 => list_end(message, s, w, word, cost, end),
         _ => other_end(message, w, end),
     }
 }
 
 // The same of the word of a struct that leads to the end. The struct takes what the word costs.
 #[inline(always)]
-fn struct_end<M: Segments>(message: &M, w: u32, word: u64, cost: u64, end: u32) -> Result<u32, Stop>
+fn struct_end<M: Segments>(
+    message: &M,
+    s: u32,
+    w: u32,
+    word: u64,
+    cost: u64,
+    end: u32,
+) -> Result<u32, Unlike>
+    requires first { s ≡ 0 }
     requires leads { LeadsToEnd (M.segments message.now) w word end cost }
     requires kind { kind word ≡ 0 }
     ensures ok { IfOk result (IsNextInOrder (M.segments message.now) w end) }
-    ensures err { IfErr result (λ stop. stop ≡ Stop.NotCanonical →
+    ensures err { IfErr result (λ unlike. unlike ≡ Unlike.NotCanonical →
         NoCopyHas (M.segments message.now) w end) }
 {
     if cost == 0 {
-        return Err(Stop::Undecided);
+        return Err(Unlike::Undecided);
     }
     let (data_words, pointers) = (u32::from(data_size(word)), u32::from(pointer_size(word)));
-    match needs_all(message, end, data_words, pointers) {
+    match needs_all(message, s, end, data_words, pointers) {
         Ok(()) => Ok(end + cost as u32),
-        Err(stop) => Err(stop),
+        Err(unlike) => Err(unlike),
     }
 }
 
-// The same of the word of a list. A list of pointers or of values with bits takes what the word costs.
+// The same of the word of a list. A list of pointers or of values with bits takes what the word
+// costs.
 #[inline(always)]
-fn list_end<M: Segments>(message: &M, w: u32, word: u64, cost: u64, end: u32) -> Result<u32, Stop>
+fn list_end<M: Segments>(
+    message: &M,
+    s: u32,
+    w: u32,
+    word: u64,
+    cost: u64,
+    end: u32,
+) -> Result<u32, Unlike>
+    requires first { s ≡ 0 }
     requires leads { LeadsToEnd (M.segments message.now) w word end cost }
     requires kind { kind word ≡ 1 }
     ensures ok { IfOk result (IsNextInOrder (M.segments message.now) w end) }
-    ensures err { IfErr result (λ stop. stop ≡ Stop.NotCanonical →
+    ensures err { IfErr result (λ unlike. unlike ≡ Unlike.NotCanonical →
         NoCopyHas (M.segments message.now) w end) }
 {
     let code = code(word);
@@ -143,7 +183,7 @@ fn list_end<M: Segments>(message: &M, w: u32, word: u64, cost: u64, end: u32) ->
         return Ok(end + cost as u32);
     }
     if code == 7 {
-        return structs_end(message, w, word, end);
+        return structs_end(message, s, w, word, end);
     }
     if code == 0 {
         return other_end(message, w, end);
@@ -151,36 +191,36 @@ fn list_end<M: Segments>(message: &M, w: u32, word: u64, cost: u64, end: u32) ->
     if ends_with_values(message, end, code, list_size(word), cost as u32) {
         return Ok(end + cost as u32);
     }
-    Err(Stop::NotCanonical)
+    Err(Unlike::NotCanonical)
 }
 
 // The same of any other word. A copy has it if it is that of a struct without words, or of a list
 // without bits that leads to the end.
 #[inline(never)]
-fn other_end<M: Segments>(message: &M, w: u32, end: u32) -> Result<u32, Stop>
+fn other_end<M: Segments>(message: &M, w: u32, end: u32) -> Result<u32, Unlike>
     requires inside { w < length (segment_of (M.segments message.now) 0) }
     requires end { let m = M.segments message.now in
-        (end ≤ length (segment_of m 0)) × (length (segment_of m 0) ≤ 268435457) }
+        (end ≤ length (segment_of m 0)) × (length (segment_of m 0) ≤ longest_copy) }
     ensures ok { IfOk result (IsNextInOrder (M.segments message.now) w end) }
-    ensures err { IfErr result (λ stop. stop ≡ Stop.NotCanonical →
+    ensures err { IfErr result (λ unlike. unlike ≡ Unlike.NotCanonical →
         NoCopyHas (M.segments message.now) w end) }
 {
     let word = message.word(0, w);
     let kind = kind(word);
     if w >= end || word == 0 || kind == 3 {
-        return Err(Stop::Undecided);
+        return Err(Unlike::Undecided);
     }
     if word == NO_WORDS {
         return Ok(end);
     }
     if kind == 2 {
-        return Err(Stop::NotCanonical);
+        return Err(Unlike::NotCanonical);
     }
     if u64::from(end) != u64::from(w) + 1 + u64::from(middle(word)) {
-        return Err(Stop::NotCanonical);
+        return Err(Unlike::NotCanonical);
     }
     if kind == 1 && code(word) == 0 {
         return Ok(end);
     }
-    Err(Stop::Undecided)
+    Err(Unlike::Undecided)
 }

@@ -1,14 +1,13 @@
 //! Comparing a list of structs with a canonical copy while its message is vetted.
 
-ghost use Rattle.cap_canon.specs.InOrder.{IsNextInOrder, MayStand, NoCopyHas};
-ghost use Rattle.cap_spec.specs.Messages.{HasWord};
-ghost use Rattle.cap_spec.specs.Pointers.{code, kind, middle};
-ghost use Rattle.std.specs.Prelude.{◌+◌, ◌≡◌, IfErr, IfOk};
+ghost use Rattle.cap_canon.specs.InOrder.{IsNextInOrder, LeadsToEnd, NoCopyHas};
+ghost use Rattle.cap_spec.specs.Pointers.{code, kind};
+ghost use Rattle.std.specs.Prelude.{◌≡◌, IfErr, IfOk, ℕ};
 
-use crate::in_order::Stop;
+use crate::in_order::Unlike;
 use crate::wholeness::list_needs_all;
 use cap_frame::Segments;
-use cap_ptr::{data_size, kind, list_size, middle, pointer_size};
+use cap_ptr::{data_size, list_size, middle, pointer_size};
 
 /// Where a copy has the next object, if it has pointer word `w` of segment 0 and its object's own
 /// words as they are here, these from `end` on. The word is that of a list of structs, and leads to
@@ -16,34 +15,26 @@ use cap_ptr::{data_size, kind, list_size, middle, pointer_size};
 #[inline(always)]
 pub(crate) fn structs_end<M: Segments>(
     message: &M,
+    s: u32,
     w: u32,
     word: u64,
     end: u32,
-) -> Result<u32, Stop>
-    requires stands { MayStand (M.segments message.now) w end }
-    requires word { HasWord (M.segments message.now) 0 w word }
+) -> Result<u32, Unlike>
+    requires first { s ≡ 0 }
+    requires leads { (cost : ℕ) × LeadsToEnd (M.segments message.now) w word end cost }
     requires list { (kind word ≡ 1) × (code word ≡ 7) }
-    requires next { w + 1 + middle word ≡ end }
     ensures ok { IfOk result (IsNextInOrder (M.segments message.now) w end) }
-    ensures err { IfErr result (λ stop. stop ≡ Stop.NotCanonical →
+    ensures err { IfErr result (λ unlike. unlike ≡ Unlike.NotCanonical →
         NoCopyHas (M.segments message.now) w end) }
 {
-    let size = list_size(word);
-    let now = end + 1 + size;
-    if now > message.len(0) {
-        return Err(Stop::Undecided);
-    }
-    let tag = message.word(0, end);
-    let count = middle(tag);
+    let tag = message.word(s, end);
+    let (count, size) = (middle(tag), list_size(word));
     let (data_words, pointers) = (u32::from(data_size(tag)), u32::from(pointer_size(tag)));
-    if kind(tag) != 0 {
-        return Err(Stop::Undecided);
-    }
     if u64::from(count) * u64::from(data_words + pointers) != u64::from(size) {
-        return Err(Stop::Undecided);
+        return Err(Unlike::Undecided);
     }
-    match list_needs_all(message, end + 1, count, data_words, pointers) {
-        Ok(()) => Ok(now),
-        Err(stop) => Err(stop),
+    match list_needs_all(message, s, end + 1, count, data_words, pointers) {
+        Ok(()) => Ok(end + 1 + size),
+        Err(unlike) => Err(unlike),
     }
 }

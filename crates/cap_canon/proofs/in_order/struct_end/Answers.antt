@@ -10,7 +10,7 @@ returns-in-Ok-clause-ok g c =
     let d : c.from-data_words.result ≡ data_size a.word = c.from-data_words.ensures ∙ c.data_size.ensures in
     let p : c.from-pointers.result ≡ pointer_size a.word = c.from-pointers.ensures ∙ c.pointer_size.ensures in
     struct_next (g.M.Segments.segments a.message.now) a.w a.word a.end a.cost c.requires.leads small c.requires.kind c.if-cost-eq0.false
-    (rw (d, p) at c.in-Ok.ensures.ok)
+    (rw (c.requires.first, d, p) at c.in-Ok.ensures.ok)
 
 pub returns-in-Err-clause-err : goal.returns-in-Err-clause-err
 returns-in-Err-clause-err g c = λ e.
@@ -18,4 +18,4 @@ returns-in-Err-clause-err g c = λ e.
     let d : c.from-data_words.result ≡ data_size a.word = c.from-data_words.ensures ∙ c.data_size.ensures in
     let p : c.from-pointers.result ≡ pointer_size a.word = c.from-pointers.ensures ∙ c.pointer_size.ensures in
     struct_differs (g.M.Segments.segments a.message.now) a.w a.word a.end a.cost c.requires.leads c.requires.kind c.if-cost-eq0.false
-    (rw (d, p) at (c.in-Err.ensures.err e))
+    (rw (c.requires.first, d, p) at (c.in-Err.ensures.err e))

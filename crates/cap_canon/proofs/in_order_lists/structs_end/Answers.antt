@@ -1,34 +1,67 @@
-use Rattle.std.proofs.Common.{◌≡◌, ◌∙◌, ◌+◌, ◌*◌, ◌≤◌, length, arith, sym}
-use Rattle.cap_spec.specs.Messages.{segment_of}
+use Rattle.std.proofs.Common.{◌≡◌, ◌∙◌, ◌+◌, ◌*◌, ◌<◌, length, arith}
+use Rattle.cap_spec.specs.Messages.{HasWord, segment_of}
 use Rattle.cap_spec.specs.Pointers.{data_size, list_size, middle, pointer_size}
+use Rattle.cap_spec.proofs.Frames.Messages.{HasWord-segment}
+use Rattle.cap_canon.specs.Trimming.{AreElementsAt}
+use Rattle.cap_canon.proofs.InOrder.{structs_there}
 use Rattle.cap_canon.proofs.InOrderLists.{structs_differ, structs_next}
 use Rattle.cap_canon.proofs.in_order_lists.structs_end.Goals as goal
+
+pub word-tag-requires-clause-exists : goal.word-tag-requires-clause-exists
+word-tag-requires-clause-exists g c =
+    let m = g.M.Segments.segments c.args.message.now in
+    rw c.requires.first (HasWord-segment m 0 c.args.w c.args.word c.requires.leads.1.has)
+
+pub word-tag-requires-clause-inside : goal.word-tag-requires-clause-inside
+word-tag-requires-clause-inside g c =
+    let a = c.args in
+    let m = g.M.Segments.segments a.message.now in
+    let there = structs_there m a.w a.word a.end c.requires.leads.0 c.requires.leads.1 c.requires.list.0 c.requires.list.1 in
+    let inside : a.end < length (segment_of m 0) = omega (arith, there.3) in
+    rw c.requires.first inside
+
+pub list_needs_all-requires : goal.list_needs_all-requires
+list_needs_all-requires g c =
+    let a = c.args in
+    let m = g.M.Segments.segments a.message.now in
+    let (cost, leads) = c.requires.leads in
+    let there = structs_there m a.w a.word a.end cost leads c.requires.list.0 c.requires.list.1 in
+    let n = c.middle-count.result in
+    let d = c.from-data_words.result in
+    let p = c.from-pointers.result in
+    let fits : n * (d + p) ≡ list_size a.word = rw (c.from.ensures, c.from-2.ensures, c.from-3.ensures, c.list_size-size.ensures) at c.if-from.false in
+    let at : AreElementsAt m 0 (a.end + 1) n d p = record {
+      exists = HasWord-segment m 0 a.w a.word leads.has;
+      few = leads.stands.few;
+      inside = omega (arith, there.3, fits);
+      sizes = (omega (arith, c.from-data_words.ensures), omega (arith, c.from-pointers.ensures));
+    } in
+    record { elements = rw c.requires.first at }
 
 pub returns-in-Ok-clause-ok : goal.returns-in-Ok-clause-ok
 returns-in-Ok-clause-ok g c =
     let a = c.args in
     let m = g.M.Segments.segments a.message.now in
     let tag = c.word-tag.result in
+    let has : HasWord m 0 a.end tag = rw c.requires.first at c.word-tag.ensures in
     let size : c.list_size-size.result ≡ list_size a.word = c.list_size-size.ensures in
     let d : c.from-data_words.result ≡ data_size tag = c.from-data_words.ensures ∙ c.data_size.ensures in
     let p : c.from-pointers.result ≡ pointer_size tag = c.from-pointers.ensures ∙ c.pointer_size.ensures in
-    let inside : a.end + 1 + list_size a.word ≤ length (segment_of m 0) = omega (arith, c.if-now-len.false, c.len.ensures, size) in
     let fits : middle tag * (data_size tag + pointer_size tag) ≡ list_size a.word =
     rw (c.from.ensures, c.from-2.ensures, c.from-3.ensures, c.middle-count.ensures, d, p, size) at c.if-from.false in
-    rw size (structs_next m a.w a.end a.word tag c.requires.stands c.requires.word c.requires.list c.requires.next inside c.word-tag.ensures
-    (sym c.kind.ensures ∙ c.if-kind-ne0.false) fits c.ranges.word.fits c.word-tag.type_inv
-    (rw (d, p, c.middle-count.ensures) at c.in-Ok.ensures.ok))
+    rw size (structs_next m a.w a.end a.word tag c.requires.leads.0 c.requires.leads.1 c.requires.list has fits
+    c.ranges.word.fits c.word-tag.type_inv (rw (c.requires.first, d, p, c.middle-count.ensures) at c.in-Ok.ensures.ok))
 
 pub returns-in-Err-clause-err : goal.returns-in-Err-clause-err
 returns-in-Err-clause-err g c = λ e.
     let a = c.args in
     let m = g.M.Segments.segments a.message.now in
     let tag = c.word-tag.result in
+    let has : HasWord m 0 a.end tag = rw c.requires.first at c.word-tag.ensures in
     let size : c.list_size-size.result ≡ list_size a.word = c.list_size-size.ensures in
     let d : c.from-data_words.result ≡ data_size tag = c.from-data_words.ensures ∙ c.data_size.ensures in
     let p : c.from-pointers.result ≡ pointer_size tag = c.from-pointers.ensures ∙ c.pointer_size.ensures in
-    let inside : a.end + 1 + list_size a.word ≤ length (segment_of m 0) = omega (arith, c.if-now-len.false, c.len.ensures, size) in
     let fits : middle tag * (data_size tag + pointer_size tag) ≡ list_size a.word =
     rw (c.from.ensures, c.from-2.ensures, c.from-3.ensures, c.middle-count.ensures, d, p, size) at c.if-from.false in
-    structs_differ m a.w a.end a.word tag c.requires.stands c.requires.word c.requires.list c.requires.next inside c.word-tag.ensures
-    (sym c.kind.ensures ∙ c.if-kind-ne0.false) fits (rw (d, p, c.middle-count.ensures) at (c.in-Err.ensures.err e))
+    structs_differ m a.w a.end a.word tag c.requires.leads.0 c.requires.leads.1 c.requires.list has fits
+    (rw (c.requires.first, d, p, c.middle-count.ensures) at (c.in-Err.ensures.err e))

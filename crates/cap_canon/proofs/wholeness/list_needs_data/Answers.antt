@@ -7,19 +7,19 @@ pub returns-then-data_words-eq0 : goal.returns-then-data_words-eq0
 returns-then-data_words-eq0 g c =
     let a = c.args in
     let m = g.M.Segments.segments a.message.now in
-    (λ _. omega (arith, c.if-data_words-eq0.true, most_within m 0 a.start a.data_words a.pointers a.count c.requires.inside), λ _. refl)
+    (λ _. omega (arith, c.if-data_words-eq0.true, most_within m a.s a.start a.data_words a.pointers a.count c.requires.elements.inside), λ _. refl)
 
 pub first_set-requires-clause-inside : goal.first_set-requires-clause-inside
 first_set-requires-clause-inside g c = λ k lt.
     let a = c.args in
-    element_inside a.start (a.data_words - 1) (a.data_words + a.pointers) k a.count _ lt (omega (arith, c.if-data_words-eq0.false)) c.requires.inside
+    element_inside a.start (a.data_words - 1) (a.data_words + a.pointers) k a.count _ lt (omega (arith, c.if-data_words-eq0.false)) c.requires.elements.inside
 
 pub returns-then-first_set-eq0 : goal.returns-then-first_set-eq0
 returns-then-first_set-eq0 g c =
     let a = c.args in
     let m = g.M.Segments.segments a.message.now in
     let some : 0 < a.data_words = omega (arith, c.if-data_words-eq0.false) in
-    let short = most_short m 0 a.start a.data_words a.pointers a.count some c.requires.inside (c.first_set.ensures.none c.if-first_set-eq0.true) in
+    let short = most_short m a.s a.start a.data_words a.pointers a.count some c.requires.elements.inside (c.first_set.ensures.none c.if-first_set-eq0.true) in
     (λ h. absurd (cc h), λ e. absurd (omega (arith, e, short, some)))
 
 pub returns : goal.returns
@@ -27,6 +27,6 @@ returns g c =
     let a = c.args in
     let m = g.M.Segments.segments a.message.now in
     let some : 0 < a.data_words = omega (arith, c.if-data_words-eq0.false) in
-    let (k, lt, has) = c.first_set.ensures.some c.if-first_set-eq0.false in
-    let all = most_all m 0 a.start a.data_words a.pointers a.count k c.first_set.result some lt c.requires.inside has c.if-first_set-eq0.false in
+    let (k, lt, has, before) = c.first_set.ensures.some c.if-first_set-eq0.false in
+    let all = most_all m a.s a.start a.data_words a.pointers a.count k c.first_set.result some lt c.requires.elements.inside has c.if-first_set-eq0.false in
     (λ _. all, λ _. refl)

@@ -10,19 +10,19 @@ pub first_set-first-requires-clause-inside : goal.first_set-first-requires-claus
 first_set-first-requires-clause-inside g c = λ k lt.
     let a = c.args in
     element_inside a.start (a.data_words + (a.pointers - 1)) (a.data_words + a.pointers) k a.count _ lt (omega (arith, c.if-pointers-eq0.false))
-    c.requires.inside
+    c.requires.elements.inside
 
 pub returns-in-Ok-clause-ok : goal.returns-in-Ok-clause-ok
 returns-in-Ok-clause-ok g c = λ es c' d h.
     let a = c.args in
     let m = g.M.Segments.segments a.message.now in
     let some : 0 < a.pointers = omega (arith, c.if-pointers-eq0.false) in
-    let (k, lt, has) = c.first_set-first.ensures.some c.in-Ok.ensures.ok.0 in
+    let (k, lt, has, before) = c.first_set-first.ensures.some c.in-Ok.ensures.ok.0 in
     let e : a.start + (a.data_words + (a.pointers - 1)) + k * (a.data_words + a.pointers)
     ≡ a.start + k * (a.data_words + a.pointers) + a.data_words + (a.pointers - 1) = omega arith in
-    let at = subst (λ i. HasWord m 0 i c.first_set-first.result) e has in
-    elements_whole m 0 a.start a.data_words a.pointers a.count k es c' d some lt (λ u c'' d' x.
-    isnt_null_word m 0 (a.start + k * (a.data_words + a.pointers) + a.data_words + (a.pointers - 1)) c.first_set-first.result u c'' d' at
+    let at = subst (λ i. HasWord m a.s i c.first_set-first.result) e has in
+    elements_whole m a.s a.start a.data_words a.pointers a.count k es c' d some lt (λ u c'' d' x.
+    isnt_null_word m a.s (a.start + k * (a.data_words + a.pointers) + a.data_words + (a.pointers - 1)) c.first_set-first.result u c'' d' at
     c.in-Ok.ensures.ok.0 c.in-Ok.ensures.ok.1 x) h
 
 pub returns-in-Err-clause-err : goal.returns-in-Err-clause-err
@@ -31,4 +31,4 @@ returns-in-Err-clause-err g c = λ e es c' d h same.
     let m = g.M.Segments.segments a.message.now in
     let some : 0 < a.pointers = omega (arith, c.if-pointers-eq0.false) in
     let zeros = c.first_set-first.ensures.none (c.in-Err.ensures.err e) in
-    omega (arith, elements_short m 0 a.start a.data_words a.pointers a.count es c' d some zeros h, same, some)
+    omega (arith, elements_short m a.s a.start a.data_words a.pointers a.count es c' d some zeros h, same, some)
