@@ -119,15 +119,21 @@ fn last_bits(code: u8, count: u32, words: u32) -> u32
 pub(crate) fn rest_bits(code: u8, count: u32) -> u32
     ensures { result ≡ (element_bits code * count) % 64 }
 {
-    // Bytes come first: most lists are texts or data.
-    if code == 2 {
-        return (count % 8) * 8;
-    }
+    (count << value_shift(code)) % 64
+}
+
+// A value of a code has 2 to the power of this many bits, or whole words or none, if this is 6.
+#[inline(always)]
+fn value_shift(code: u8) -> u32
+    ensures few { result ≤ 6 }
+    ensures shift { (n : ℕ) → (n * 2 ^ result) % 64 ≡ (element_bits code * n) % 64 }
+{
     match code {
-        1 => count % 64,
-        3 => (count % 4) * 16,
-        4 => (count % 2) * 32,
-        _ => 0,
+        1 => 0,
+        2 => 3,
+        3 => 4,
+        4 => 5,
+        _ => 6,
     }
 }
 
