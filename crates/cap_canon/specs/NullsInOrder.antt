@@ -77,5 +77,5 @@ pub null_order : (m : List (List ℕ)) (differs : Bool) (end : ℕ) (seen : List
 null_order m differs end seen p level s w reached zero k = (
   λ no. null_in_order m end seen p level s w reached zero (k.0 no),
   λ yes. (let d = k.1 yes in
-  record { one = d.one; strict = null_known m seen p level s w None reached zero d.strict; unlike = d.unlike }),
+      record { one = d.one; strict = null_known m seen p level s w None reached zero d.strict; unlike = d.unlike }),
 )

@@ -57,12 +57,7 @@ fn needs_data<M: Segments>(message: &M, s: u32, start: u32, data_words: u32) -> 
 
 // Whether it needs all these pointers.
 #[inline(always)]
-fn needs_row<M: Segments>(
-    message: &M,
-    s: u32,
-    start: u32,
-    pointers: u32,
-) -> Result<(), Unlike>
+fn needs_row<M: Segments>(message: &M, s: u32, start: u32, pointers: u32) -> Result<(), Unlike>
     requires exists { s < length (M.segments message.now) }
     requires inside { start + pointers ≤ length (segment_of (M.segments message.now) s) }
     ensures ok { IfOk result (λ _. NeedsRow (M.segments message.now) s start pointers) }
