@@ -32,19 +32,20 @@ use Rattle.cap_ptr.specs.declared.shapes.Shape.TheVariants as shape
 use Rattle.cap_ptr.proofs.NearObjects.{pointers-no_extra, pointers-plain}
 use Rattle.cap_vet.specs.Looking.{IsNotLax, object_children}
 use Rattle.cap_vet.specs.Reports.{IsAccepted, IsReport}
-use Rattle.cap_vet.specs.Stricts.{KnowsLax}
 use Rattle.cap_vet.specs.Trails.{Ahead, IsTrail, element_rows, row}
 use Rattle.cap_vet.specs.Walking.{IsLookedAt}
 use Rattle.cap_vet.specs.declared.report.Report.{Report}
 use Rattle.cap_vet.proofs.Laxness.{knows_on, within_of}
 use Rattle.cap_vet.proofs.OneTrail.{object_trail, one_trail, root_trail}
 use Rattle.cap_canon.specs.Checked.{IsChecked}
-use Rattle.cap_canon.specs.InOrder.{AreDue, Differs, HasOwn, IsInOrder, IsLaidSoFar, IsNextInOrder, IsOwn, LeadsToEnd, MayStand, NoCopyHas}
+use Rattle.cap_canon.specs.InOrder.{AreDue, HasOwn, IsInOrder, IsLaidSoFar, IsNextInOrder, IsOwn, IsStop, LeadsToEnd, MayStand, NoCopyHas}
 use Rattle.cap_canon.specs.Laying.{AreBefore, Due, IsPointed, OwnAt, below, element_slots, own_size, slots}
 use Rattle.cap_canon.specs.Objects.{AreElementsLeft, AreLeft, IsLeft, IsObject}
 use Rattle.cap_canon.specs.Roots.{ForTrimmed}
 use Rattle.cap_canon.specs.StillToLay.{longest_copy}
 use Rattle.cap_canon.specs.Trimming.{NeedsAll, NeedsLess, most_data}
+use Rattle.cap_canon.specs.declared.in_order.Stop.{Stop}
+use Rattle.cap_canon.specs.declared.in_order.Stop.TheVariants.{NotCanonical, Undecided}
 use Rattle.cap_canon.specs.declared.objects.Object.{Object}
 use Rattle.cap_canon.specs.declared.objects.Object.TheVariants as object
 use Rattle.cap_canon.specs.declared.objects.Part.{Part}
@@ -294,7 +295,7 @@ not_laid m a later w end whole e unlike few k same = go k.due k.are_due k.before
         (subst (λ (u : Tree). OwnAt (segment_of m 0) end u) left laid.1)
 
 -- and the message isn't canonical.
-not_canonical : (m : List (List ℕ)) (seen : List (List Step)) (a : Ahead) (s w n cost end : ℕ) → IsLookedAt m seen a s w n cost
+pub not_canonical : (m : List (List ℕ)) (seen : List (List Step)) (a : Ahead) (s w n cost end : ℕ) → IsLookedAt m seen a s w n cost
     → IsInOrder m end seen → NoCopyHas m w end → ¬ IsCanonical m
 not_canonical m seen a s w n cost end l k unlike (words, h, e) =
     not_laid m a l.later w end (trim h.tree) l.word unlike k.few (k.so_far (a ∷ l.later) l.trail h.tree h.charge h.depth h.denotes)
@@ -354,29 +355,19 @@ canonical_at_end m seen end r t trail k report caps = (to, from)
         let same = one_tree m 0 0 h.tree t h.charge h.depth r.charge r.depth h.denotes report.denotes in
         laid.1 (ap (λ u. segment_of u 0) e ∙ (h.laid ∙ ap (λ u. layout (trim u)) same.part))
 
--- A message of a whole walk is strict if none of its paths reaches a lax pointer.
-pub strict_at_end : (m : List (List ℕ)) (words depth : ℕ) (seen : List (List Step)) (r : Report) → IsTrail m seen [] → length m ≡ 1
-    → KnowsLax m seen None → IsAccepted m words depth r → IsStrict m words depth
-strict_at_end m words depth seen r trail one strict a = record {
+-- and it is strict
+pub strict_in_order : (m : List (List ℕ)) (words depth : ℕ) (seen : List (List Step)) (end : ℕ) (r : Report) → IsTrail m seen [] → IsInOrder m end seen
+    → IsAccepted m words depth r → IsStrict m words depth
+strict_in_order m words depth seen end r trail k a = record {
   accepted = within_of m words depth r a;
-  few_segments = omega (arith, one);
-  none = λ path x. elim (trail.complete path x.0 x.1 x.2 x.4) [ inl seen ↦ strict path seen x | inr under ↦ absurd under ];
+  few_segments = omega (arith, k.one);
+  none = λ path x. elim (trail.complete path x.0 x.1 x.2 x.4) [ inl one ↦ k.strict path one x | inr under ↦ absurd under ];
 }
 
--- A difference is found at the next pointer, or was found before.
-pub differs_on : (m : List (List ℕ)) (seen : List (List Step)) (a : Ahead) (s w n cost : ℕ) → IsLookedAt m seen a s w n cost → IsNotLax m s w
-    → Differs m seen → Differs m (a.path ∷ seen)
-differs_on m seen a s w n cost l strict d = record {
-  one = d.one;
-  strict = knows_on m seen a s w n cost None l strict d.strict;
-  unlike = d.unlike;
-}
-
-pub differs_here : (m : List (List ℕ)) (seen : List (List Step)) (a : Ahead) (s w n cost end : ℕ) → IsLookedAt m seen a s w n cost → IsNotLax m s w
-    → IsInOrder m end seen → NoCopyHas m w end → Differs m (a.path ∷ seen)
-differs_here m seen a s w n cost end l strict k unlike =
-    differs_on m seen a s w n cost l strict
-    (record { one = k.one; strict = k.strict; unlike = not_canonical m seen a s w n cost end l k unlike })
+-- what is known where the walk stops
+pub stop_known : (m : List (List ℕ)) (stop : Stop) → (stop ≡ NotCanonical → ¬ IsCanonical m) → IsStop m stop
+stop_known m NotCanonical h = h refl
+stop_known m Undecided h = tt
 
 -- the words of pointers by their fields
 pub struct_by_fields : (x : ℕ) → x < 2 ^ 64 → kind x ≡ 0 → x ≡ struct_word (middle x) (data_size x) (pointer_size x)

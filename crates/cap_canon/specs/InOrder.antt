@@ -1,5 +1,5 @@
 -- A message that is compared with its canonical copy while it is vetted (profile).
-use Rattle.std.specs.Prelude.{ℕ, ◌+◌, ◌^◌, ◌<◌, ◌≤◌, ◌≡◌, ◌≢◌, Bool, IsFalse, IsTrue, List, [], ◌∷◌, length, None, ⊤}
+use Rattle.std.specs.Prelude.{ℕ, ◌+◌, ◌^◌, ◌<◌, ◌≤◌, ◌≡◌, ◌≢◌, List, [], ◌∷◌, length, None, ⊤}
 use Rattle.cap_spec.specs.Canonical.{trim}
 use Rattle.cap_spec.specs.Copies.{IsCanonical}
 use Rattle.cap_spec.specs.Denoting.{Denotes, Finds}
@@ -17,6 +17,8 @@ use Rattle.cap_canon.specs.Laying.{AreBefore, Due, IsPointed, OwnAt, below, own_
 use Rattle.cap_canon.specs.Objects.{IsLeft}
 use Rattle.cap_canon.specs.Roots.{ForTrimmed}
 use Rattle.cap_canon.specs.StillToLay.{longest_copy}
+use Rattle.cap_canon.specs.declared.in_order.Stop.{Stop}
+use Rattle.cap_canon.specs.declared.in_order.Stop.TheVariants.{NotCanonical, Undecided}
 
 -- The words ahead of a walk are those of the copy that are due, each in its place.
 abbrev pub AreDue : List (List ℕ) → List Ahead → List Due → Type 0
@@ -39,16 +41,6 @@ pub record IsInOrder (m : List (List ℕ)) (end : ℕ) (seen : List (List Step))
   pub inside : end ≤ length (segment_of m 0)
   pub strict : KnowsLax m seen None
   pub so_far : (ahead : List Ahead) → IsTrail m seen ahead → ForTrimmed m (IsLaidSoFar m end ahead)
-
--- A message of one segment isn't canonical. Common readers reject no pointer at these paths.
-pub record Differs (m : List (List ℕ)) (seen : List (List Step)) : Type 0 where
-  pub one : length m ≡ 1
-  pub strict : KnowsLax m seen None
-  pub unlike : ¬ IsCanonical m
-
--- What a walk knows after these paths, which found no difference, or one.
-abbrev pub KnowsOrder : List (List ℕ) → Bool → ℕ → List (List Step) → Type 0
-KnowsOrder m differs end seen = (IsFalse differs → IsInOrder m end seen) × (IsTrue differs → Differs m seen)
 
 -- A copy has this trimmed tree's own words from end on, up to now, as the message has them. The object of the word q at
 -- t:b, with this tag, has the pointer words that are due then.
@@ -95,3 +87,8 @@ pub record IsNextInOrder (m : List (List ℕ)) (w end now : ℕ) : Type 0 where
 abbrev pub NoCopyHas : List (List ℕ) → ℕ → ℕ → Type 0
 NoCopyHas m w end = (x : Tree) (c d : ℕ) → Denotes m 0 w x c d → w < end → end < 2 ^ 29 → IsPointed (segment_of m 0) end w (trim x)
     → OwnAt (segment_of m 0) end (trim x) → ⊥
+
+-- what is known of a message where the walk stops
+abbrev pub IsStop : List (List ℕ) → Stop → Type 0
+IsStop m NotCanonical = ¬ IsCanonical m
+IsStop m Undecided = ⊤

@@ -1,5 +1,5 @@
 -- A null word is where a copy has it: the law of the turn that compares a message with its copy (profile).
-use Rattle.std.specs.Prelude.{ℕ, ◌+◌, ◌≡◌, Bool, List, [], ◌∷◌, None, refl}
+use Rattle.std.specs.Prelude.{ℕ, ◌+◌, ◌≡◌, List, [], ◌∷◌, None, refl}
 use Rattle.std.proofs.Common.{arith, ◌-◌, ◌<◌, subst, sym, ◌∙◌, ap}
 use Rattle.cap_spec.specs.Canonical.{trim}
 use Rattle.cap_spec.specs.Denoting.{Denotes}
@@ -14,7 +14,7 @@ use Rattle.cap_vet.specs.StrictNulls.{null_known}
 use Rattle.cap_vet.specs.Trails.{Ahead}
 use Rattle.cap_vet.proofs.OneTrail.{null_trail}
 use Rattle.cap_canon.specs.Checked.{IsChecked}
-use Rattle.cap_canon.specs.InOrder.{AreDue, IsInOrder, IsLaidSoFar, KnowsOrder}
+use Rattle.cap_canon.specs.InOrder.{AreDue, IsInOrder, IsLaidSoFar}
 use Rattle.cap_canon.specs.Laying.{AreBefore, Due, Laid}
 
 -- a zero word denotes null
@@ -60,7 +60,7 @@ null_laid m a ahead end whole zero k = go k.due k.are_due k.before k.checked
         subst (λ (u : Tree). IsChecked m whole end (record { slot = x.slot; tree = u } ∷ due)) none c in
         record { due = due; are_due = h.3; before = b.1; checked = null_checked m whole end x.slot due b.0 here k }
 
-null_in_order : (m : List (List ℕ)) (end : ℕ) (seen : List (List Step)) (p : List Step) (level s w : ℕ) → Reaches m p level s w
+pub null_in_order : (m : List (List ℕ)) (end : ℕ) (seen : List (List Step)) (p : List Step) (level s w : ℕ) → Reaches m p level s w
     → HasWord m s w 0 → IsInOrder m end seen → IsInOrder m end (p ∷ seen)
 null_in_order m end seen p level s w reached zero k = record {
   one = k.one;
@@ -71,11 +71,3 @@ null_in_order m end seen p level s w reached zero k = record {
       let a : Ahead = record { path = p; segment = s; word = w; level = level } in
       null_laid m a ahead end (trim x) zero (k.so_far (a ∷ ahead) (null_trail m seen p level s w ahead trail reached zero) x c d h);
 }
-
-pub null_order : (m : List (List ℕ)) (differs : Bool) (end : ℕ) (seen : List (List Step)) (p : List Step) (level s w : ℕ) → Reaches m p level s w
-    → HasWord m s w 0 → KnowsOrder m differs end seen → KnowsOrder m differs end (p ∷ seen)
-null_order m differs end seen p level s w reached zero k = (
-  λ no. null_in_order m end seen p level s w reached zero (k.0 no),
-  λ yes. (let d = k.1 yes in
-      record { one = d.one; strict = null_known m seen p level s w None reached zero d.strict; unlike = d.unlike }),
-)

@@ -1,5 +1,6 @@
 //! Vetting a message, and whether it is its own canonical copy, in one walk.
 
+ghost use Rattle.cap_canon.specs.InOrder.{IsStop};
 ghost use Rattle.cap_spec.specs.Copies.{IsCanonical};
 ghost use Rattle.cap_spec.specs.Faults.{IsRefused};
 ghost use Rattle.cap_spec.specs.Strict.{IsStrict};
@@ -11,17 +12,17 @@ ghost use Rattle.cap_vet.specs.Limits.{depth_of, words_of};
 ghost use Rattle.cap_vet.specs.Reports.{IsAccepted};
 ghost use Rattle.cap_vet.specs.Turns.{IsStopped};
 ghost use Rattle.cap_vet.specs.Vettings.{message_of, report_of};
-ghost use Rattle.std.specs.Prelude.{Err, ◌↔◌, ◌≡◌, IfErr, IfOk, IsFalse, IsOk, IsTrue, ⊤};
+ghost use Rattle.std.specs.Prelude.{Err, ◌↔◌, ◌≡◌, IfErr, IfOk, IsFalse, IsOk, IsTrue};
 
 use crate::checking::is_canonical;
-use crate::in_order::{InOrder, Undecided};
+use crate::in_order::{InOrder, Stop};
 use cap_frame::Segments;
 use cap_spec::StrictRefusal;
 use cap_vet::{Demands, Limits, Stopped, Vetted, limits_under, vet_with, vet_with_turn};
 
 /// Vets a message under demands, as [`vet_with`] does, and returns with an accepted message whether
 /// it is canonical, as [`is_canonical`] says (encoding: Canonicalization). Walks once through a
-/// canonical message, and through most others. Allocates nothing, and makes no copy.
+/// canonical message. Allocates nothing, and makes no copy.
 ///
 /// # Errors
 ///
@@ -53,37 +54,37 @@ pub fn check_with<'m, M: Segments>(
         IsFalse demands.strict → IsFalse demands.unamplified → IfErr result (λ fault.
         (r : Refusal) × (fault ≡ Refused r) × IsRefused m (words_of limits) (depth_of limits) r) }
 {
-    match check_in_order(message, limits_under(message, limits, demands)) {
+    let stop = match check_in_order(message, limits_under(message, limits, demands)) {
         Ok(checked) => return Ok(checked),
         Err(Stopped::Refused(refusal)) => return Err(StrictRefusal::Refused(refusal)),
-        Err(Stopped::ByTurn(_)) => {}
-    }
+        Err(Stopped::ByTurn(stop)) => stop,
+    };
     match vet_with(message, limits, demands) {
-        Ok(vetted) => Ok((vetted, is_canonical(&vetted))),
+        Ok(vetted) => match stop {
+            Stop::NotCanonical => Ok((vetted, false)),
+            Stop::Undecided => Ok((vetted, is_canonical(&vetted))),
+        },
         Err(refusal) => Err(refusal),
     }
 }
 
-// The same within these limits, of a message that is strict then. The walk stops where it can't
-// decide whether the message is canonical, or strict.
+// The same within these limits, of a message that is strict then. The walk stops where it finds that
+// the message isn't canonical, or that this has to be found out in another way.
 #[inline(always)]
 fn check_in_order<'m, M: Segments>(
     message: &'m M,
     limits: Limits,
-) -> Result<(Vetted<'m, M>, bool), Stopped<Undecided>>
+) -> Result<(Vetted<'m, M>, bool), Stopped<Stop>>
     ensures ok { let m = M.segments message.now in IfOk result (λ r.
         IsAccepted m (words_of limits) (depth_of limits) (report_of r.0)
         × IsStrict m (words_of limits) (depth_of limits)) }
     ensures message { IfOk result (λ r. message_of r.0 ≡ message.now) }
     ensures canonical { IfOk result (λ r. IsTrue r.1 ↔ IsCanonical (M.segments message.now)) }
     ensures err { let m = M.segments message.now in
-        IfErr result (IsStopped m limits (λ _. ⊤)) }
+        IfErr result (IsStopped m limits (IsStop m)) }
 {
     match vet_with_turn::<M, InOrder>(message, limits) {
         Ok((vetted, turn)) => {
-            if turn.differs {
-                return Ok((vetted, false));
-            }
             if vetted.report().caps != 0 {
                 return Ok((vetted, false));
             }

@@ -7,7 +7,7 @@ ghost use Rattle.cap_spec.specs.Messages.{HasWord, segment_of};
 ghost use Rattle.cap_spec.specs.Pointers.{kind};
 ghost use Rattle.std.specs.Prelude.{◌+◌, ◌*◌, ◌<◌, ◌^◌, ◌≡◌, ◌≢◌, ◌≤◌, ◌↔◌, IfErr, IfOk, IsTrue, length, ℕ};
 
-use crate::in_order::Unlike;
+use crate::in_order::Stop;
 use cap_frame::Segments;
 use cap_ptr::kind;
 
@@ -20,21 +20,21 @@ pub(crate) fn needs_all<M: Segments>(
     start: u32,
     data_words: u32,
     pointers: u32,
-) -> Result<(), Unlike>
+) -> Result<(), Stop>
     requires exists { s < length (M.segments message.now) }
     requires inside { start + data_words + pointers
         ≤ length (segment_of (M.segments message.now) s) }
     ensures ok { let m = M.segments message.now in
         IfOk result (λ _. NeedsAll m s start data_words pointers) }
-    ensures err { let m = M.segments message.now in IfErr result (λ unlike.
-        unlike ≡ Unlike.NotCanonical → NeedsLess m s start data_words pointers) }
+    ensures err { let m = M.segments message.now in IfErr result (λ stop.
+        stop ≡ Stop.NotCanonical → NeedsLess m s start data_words pointers) }
 {
     if !needs_data(message, s, start, data_words) {
-        return Err(Unlike::NotCanonical);
+        return Err(Stop::NotCanonical);
     }
     match needs_row(message, s, start + data_words, pointers) {
         Ok(()) => Ok(()),
-        Err(unlike) => Err(unlike),
+        Err(stop) => Err(stop),
     }
 }
 
@@ -57,33 +57,33 @@ fn needs_data<M: Segments>(message: &M, s: u32, start: u32, data_words: u32) -> 
 
 // Whether it needs all these pointers.
 #[inline(always)]
-fn needs_row<M: Segments>(message: &M, s: u32, start: u32, pointers: u32) -> Result<(), Unlike>
+fn needs_row<M: Segments>(message: &M, s: u32, start: u32, pointers: u32) -> Result<(), Stop>
     requires exists { s < length (M.segments message.now) }
     requires inside { start + pointers ≤ length (segment_of (M.segments message.now) s) }
     ensures ok { IfOk result (λ _. NeedsRow (M.segments message.now) s start pointers) }
-    ensures err { let m = M.segments message.now in IfErr result (λ unlike.
-        unlike ≡ Unlike.NotCanonical → NeedsLessOfRow m s start pointers) }
+    ensures err { let m = M.segments message.now in IfErr result (λ stop.
+        stop ≡ Stop.NotCanonical → NeedsLessOfRow m s start pointers) }
 {
     if pointers == 0 {
         return Ok(());
     }
     match is_needed(message.word(s, start + (pointers - 1))) {
         Ok(()) => Ok(()),
-        Err(unlike) => Err(unlike),
+        Err(stop) => Err(stop),
     }
 }
 
 // Whether a last pointer word is needed: not if it is zero. A far one may lead to null.
 #[inline(always)]
-fn is_needed(word: u64) -> Result<(), Unlike>
+fn is_needed(word: u64) -> Result<(), Stop>
     ensures ok { IfOk result (λ _. (word ≢ 0) × (kind word ≢ 2)) }
-    ensures err { IfErr result (λ unlike. unlike ≡ Unlike.NotCanonical → word ≡ 0) }
+    ensures err { IfErr result (λ stop. stop ≡ Stop.NotCanonical → word ≡ 0) }
 {
     if word == 0 {
-        return Err(Unlike::NotCanonical);
+        return Err(Stop::NotCanonical);
     }
     if kind(word) == 2 {
-        return Err(Unlike::Undecided);
+        return Err(Stop::Undecided);
     }
     Ok(())
 }
@@ -99,19 +99,19 @@ pub(crate) fn list_needs_all<M: Segments>(
     count: u32,
     data_words: u32,
     pointers: u32,
-) -> Result<(), Unlike>
+) -> Result<(), Stop>
     requires elements { AreElementsAt (M.segments message.now) s start count data_words pointers }
     ensures ok { let m = M.segments message.now in
         IfOk result (λ _. ListNeedsAll m s start data_words pointers count) }
-    ensures err { let m = M.segments message.now in IfErr result (λ unlike.
-        unlike ≡ Unlike.NotCanonical → ListNeedsLess m s start data_words pointers count) }
+    ensures err { let m = M.segments message.now in IfErr result (λ stop.
+        stop ≡ Stop.NotCanonical → ListNeedsLess m s start data_words pointers count) }
 {
     if !list_needs_data(message, s, start, count, data_words, pointers) {
-        return Err(Unlike::NotCanonical);
+        return Err(Stop::NotCanonical);
     }
     match list_needs_pointers(message, s, start, count, data_words, pointers) {
         Ok(()) => Ok(()),
-        Err(unlike) => Err(unlike),
+        Err(stop) => Err(stop),
     }
 }
 
@@ -154,12 +154,12 @@ fn list_needs_pointers<M: Segments>(
     count: u32,
     data_words: u32,
     pointers: u32,
-) -> Result<(), Unlike>
+) -> Result<(), Stop>
     requires elements { AreElementsAt (M.segments message.now) s start count data_words pointers }
     ensures ok { let m = M.segments message.now in
         IfOk result (λ _. NeedPointers m s start data_words pointers count) }
-    ensures err { let m = M.segments message.now in IfErr result (λ unlike.
-        unlike ≡ Unlike.NotCanonical → NeedFewerPointers m s start data_words pointers count) }
+    ensures err { let m = M.segments message.now in IfErr result (λ stop.
+        stop ≡ Stop.NotCanonical → NeedFewerPointers m s start data_words pointers count) }
 {
     if pointers == 0 {
         return Ok(());
@@ -168,7 +168,7 @@ fn list_needs_pointers<M: Segments>(
     let first = first_set(message, s, start + last, data_words + pointers, count);
     match is_needed(first) {
         Ok(()) => Ok(()),
-        Err(unlike) => Err(unlike),
+        Err(stop) => Err(stop),
     }
 }
 
