@@ -1,4 +1,4 @@
--- The node that a call reports (standard: Structs, Lists; the numbers are the profile's).
+-- The node that a call reports (standard: Structs, Lists, Serialization Over a Stream; the numbers are the profile's).
 use Rattle.std.specs.Prelude.{ℕ, ◌+◌, ◌*◌, ◌/◌, List, length, replicate}
 use Rattle.cap_frame.specs.Fronts.{table_words}
 use Rattle.cap_spec.specs.Pointers.{element_bits}

@@ -11,7 +11,8 @@ use cap_ptr::{data_size, list_size, middle, pointer_size};
 
 /// Where a copy has the next object, if it has pointer word `w` of segment 0 and its object's own
 /// words as they are here, these from `end` on. The word is that of a list of structs, and leads to
-/// `end`. So the word and the list's tag describe the list.
+/// `end`. So the word and the list's tag describe the list. Words are read of segment `s`, which is
+/// 0, as the walk reads them: so the compiler reads each once.
 #[inline(always)]
 pub(crate) fn structs_end<M: Segments>(
     message: &M,
