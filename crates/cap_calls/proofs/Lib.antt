@@ -13,6 +13,7 @@ pub mod OneNode
 pub mod OneStop
 pub mod Packed
 pub mod PathCharges
+pub mod PointerPaths
 pub mod RangeGotten
 pub mod RangeNear
 pub mod RangePaths

@@ -12,6 +12,7 @@ pub mod ExclusiveCalls
 pub mod MessageStages
 pub mod NodeCalls
 pub mod PackCalls
+pub mod PointerCalls
 pub mod SegmentCalls
 pub mod SegmentsCalls
 pub mod RangeCalls

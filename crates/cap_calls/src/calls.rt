@@ -7,6 +7,7 @@ pub(crate) mod get_range;
 pub(crate) mod is_canonical;
 pub(crate) mod pack;
 pub(crate) mod pack_message;
+pub(crate) mod pointer_path;
 pub(crate) mod segment_at;
 pub(crate) mod unpack;
 pub(crate) mod unpack_message;

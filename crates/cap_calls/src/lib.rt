@@ -2,6 +2,7 @@
 #![tactic(auto)]
 
 mod answer;
+mod buffer_sizes;
 mod calls;
 mod found;
 mod front;
@@ -19,6 +20,7 @@ mod step;
 mod unpacking;
 
 pub use answer::Answer;
+pub use buffer_sizes::{canonical_size, frame_size, marks_size, pack_size};
 pub use calls::canonical::canonical;
 pub use calls::frame::frame;
 pub use calls::get::get;
@@ -26,6 +28,7 @@ pub use calls::get_range::get_range;
 pub use calls::is_canonical::is_canonical;
 pub use calls::pack::pack;
 pub use calls::pack_message::pack_message;
+pub use calls::pointer_path::pointer_path;
 pub use calls::segment_at::segment_at;
 pub use calls::unpack::unpack;
 pub use calls::unpack_message::unpack_message;

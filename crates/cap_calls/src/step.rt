@@ -15,8 +15,23 @@ pub struct CallStep {
 }
 
 impl CallStep {
+    ghost use Rattle.cap_calls.specs.PointerCalls.{call_step};
     ghost use Rattle.cap_calls.specs.RangeCalls.{step_after};
     ghost use Rattle.std.specs.Prelude.{◌≡◌};
+
+    // The step of a path.
+    #[inline(always)]
+    pub(crate) fn of(step: Step) -> CallStep
+        ensures { result ≡ call_step step }
+    {
+        match step {
+            Step::Ptr(number) => CallStep {
+                kind: 0,
+                number: u32::from(number),
+            },
+            Step::Item(number) => CallStep { kind: 1, number },
+        }
+    }
 
     // The step with this added to its number. Numbers stop at the highest of their kind, where
     // nothing ever is.

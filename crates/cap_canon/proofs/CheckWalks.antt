@@ -1,16 +1,12 @@
 -- A message that is compared with its copy, one object more.
-use Rattle.std.proofs.Common.{ℕ, ◌+◌, ◌≤◌, List, [], ◌∷◌, ◌++◌, ◌≡◌, subst, length}
+use Rattle.std.proofs.Common.{ℕ, ◌+◌, ◌≤◌, List, [], ◌∷◌, ◌++◌, length}
 use Rattle.cap_spec.specs.Messages.{segment_of}
 use Rattle.cap_spec.specs.Tree.{Tree}
 use Rattle.cap_spec.specs.Denoting.{Denotes}
-use Rattle.cap_spec.specs.Canonical.{layout, trim}
+use Rattle.cap_spec.specs.Canonical.{trim}
 use Rattle.cap_spec.proofs.Canonical.TreeMeasures.{Fits}
 use Rattle.cap_canon.specs.Checked.{IsChecked}
-use Rattle.cap_canon.specs.InPlace.{IsInPlace}
 use Rattle.cap_canon.specs.Laying.{Due, IsPointed, OwnAt, own_size, below}
-use Rattle.cap_canon.specs.Objects.{IsObject}
-use Rattle.cap_canon.specs.declared.objects.Object.{Object}
-use Rattle.cap_canon.specs.declared.run.PointerPlace.{PointerPlace}
 use Rattle.cap_canon.proofs.LaidSteps.{object_laid}
 use Rattle.cap_canon.proofs.Walks.{root_fits, root_inside}
 use Rattle.cap_canon.proofs.Whole.{layout_laid}
@@ -26,13 +22,3 @@ pub check_on : (m : List (List ℕ)) (whole u : Tree) (slot end : ℕ) (due : Li
 check_on m whole u slot end due f le p own k =
     let step = object_laid (segment_of m 0) end slot u due f in
     record { inside = le; laid = (λ l. k.laid.0 (step.1 (p, own, l)), λ s. (step.0 (k.laid.1 s)).2) }
-
--- one that isn't
-pub check_no : (m : List (List ℕ)) (whole u : Tree) (slot end : ℕ) (due : List Due) → Fits u → IsChecked m whole end (record { slot = slot; tree = u } ∷ due)
-    → (IsPointed (segment_of m 0) end slot u → OwnAt (segment_of m 0) end u → ⊥) → segment_of m 0 ≡ layout whole → ⊥
-check_no m whole u slot end due f k other s = let l = (object_laid (segment_of m 0) end slot u due f).0 (k.laid.1 s) in other l.0 l.1
-
--- the object at a word that is where a copy has it
-pub object_in_place : (m : List (List ℕ)) (d : ℕ) (p : PointerPlace) (u : Tree) (object : Object) → IsInPlace p → IsObject m d p.segment p.word u object
-    → IsObject m d 0 p.slot u object
-object_in_place m d p u object e o = subst (λ x. IsObject m d 0 x u object) e.1 (subst (λ x. IsObject m d x p.word u object) e.0 o)

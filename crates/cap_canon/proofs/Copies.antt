@@ -1,12 +1,14 @@
 -- The one canonical copy of an accepted message.
-use Rattle.std.proofs.Common.{ℕ, ◌+◌, ◌<◌, ◌≤◌, ◌^◌, List, ◌≡◌, ◌≢◌, ap, refl, sym, subst, ◌∙◌, arith, length, true, false, None}
+use Rattle.std.proofs.Common.{ℕ, ◌+◌, ◌<◌, ◌≤◌, ◌^◌, List, ◌≡◌, ◌≢◌, ap, refl, sym, subst, ◌∙◌, arith, length, true, false, None, [], ◌∷◌}
 use Rattle.std.proofs.lemmas.Bool.{eqb-true, false≢true}
 use Rattle.cap_spec.specs.Tree.{Tree, cap_count, has_cap}
 use Rattle.cap_spec.specs.Denoting.{Denotes}
 use Rattle.cap_spec.specs.Canonical.{layout, trim}
-use Rattle.cap_spec.specs.Paths.{IsFirstCap}
+use Rattle.cap_spec.specs.Following.{Leads, to_cap}
+use Rattle.cap_spec.specs.Paths.{IsFirstCap, IsOneOf, Reaches}
+use Rattle.cap_spec.specs.declared.Step.{Step}
 use Rattle.cap_spec.proofs.Trees.OneTree.{one_tree}
-use Rattle.cap_spec.proofs.Paths.PathCounts.{first_cap}
+use Rattle.cap_spec.proofs.Paths.PathCounts.{caps_counted, first_cap}
 use Rattle.cap_spec.proofs.Canonical.Sizes.{layout_charged}
 use Rattle.cap_vet.specs.Reports.{IsFirstCapOf, IsReport}
 use Rattle.cap_vet.specs.declared.report.Report.{Report}
@@ -82,3 +84,18 @@ not_with_caps m r t k some (words, h, e) =
 -- equal faults, whatever the answers would be
 pub same_fault : {A : Type 0} (f f' : CanonFault) → ◌≡◌ {A = Result A CanonFault} (Err f) (Err f') → f ≡ f'
 same_fault f f' e = cc
+
+member_some : (q : List Step) (ps : List (List Step)) → IsOneOf q ps → 0 < length ps
+member_some q [] i = absurd i
+member_some q (p ∷ ps) i = omega arith
+
+-- no path of a tree without capabilities leads to one
+pub no_cap_reached : (m : List (List ℕ)) (t : Tree) (c d : ℕ) (p : List Step) (level s w k i : ℕ) → Denotes m 0 0 t c d → has_cap t ≡ false
+    → Reaches m p level s w → Leads m s w k (to_cap i) → ⊥
+no_cap_reached m t c d p level s w k i h none reached leads =
+    let (paths, _, count, exact) = caps_counted m t c d h in
+    let some = member_some p paths ((exact p).1 (level, s, w, k, i, reached, leads)) in
+    bool_cases (cap_count t == 0) (λ z. omega (arith, eqb_zero (cap_count t) z, count, some)) (λ z. false≢true (sym none ∙ rw z refl))
+  where
+    eqb_zero : (n : ℕ) → (n == 0) ≡ true → n ≡ 0
+    eqb_zero n z = eqb-true n 0 z

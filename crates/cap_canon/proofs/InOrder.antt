@@ -1,15 +1,16 @@
 -- A message is compared with its copy while it is vetted, one object more.
-use Rattle.std.proofs.Common.{ℕ, zero, suc, ◌+◌, ◌-◌, ◌*◌, ◌<◌, ◌≤◌, ◌^◌, ◌≡◌, ◌≢◌, ◌↔◌, List, [], ◌∷◌, ◌++◌, length, max, false, inl, inr, None}
+use Rattle.std.proofs.Common.{ℕ, zero, suc, ◌+◌, ◌-◌, ◌*◌, ◌<◌, ◌≤◌, ◌^◌, ◌≡◌, ◌≢◌, ◌↔◌, ◌⊎◌, Bool, List, [], ◌∷◌, ◌++◌, length, max, false, true, inl, inr, None}
 use Rattle.std.proofs.Common.{ap, ap₂, refl, sym, subst, ◌∙◌, arith, pos}
 use Rattle.std.specs.Prelude.{if◌then◌else◌, ◌==◌, not}
 use Rattle.std.proofs.lemmas.Bool.{ne_eqb}
+use Rattle.std.proofs.lemmas.Bool.Decides.{eqb_tells}
 use Rattle.cap_spec.specs.Canonical.{children_needed, children_of, data_needed, layout, list_word, pointer_to}
 use Rattle.cap_spec.specs.Canonical.{struct_word, trim}
 use Rattle.cap_spec.specs.Copies.{IsCanonical}
 use Rattle.cap_spec.specs.Denoting.{AreElements, DenoteEach, Denotes, Finds, element_levels, places, value_at, values_of, words_from}
-use Rattle.cap_spec.specs.Following.{IsComposite, Leads, extra, near, to_cap, to_null, to_object}
+use Rattle.cap_spec.specs.Following.{IsComposite, Lead, Leads, Says, extra, near, one_pad, to_cap, to_null, to_object, two_pads}
 use Rattle.cap_spec.specs.Messages.{HasWord, segment_of}
-use Rattle.cap_spec.specs.Paths.{Costs}
+use Rattle.cap_spec.specs.Paths.{Costs, Reaches}
 use Rattle.cap_spec.specs.Placing.{StandAt}
 use Rattle.cap_spec.specs.Pointers.{code, data_size, element_bits, extent, kind, list_size, list_words, middle, pointer_size}
 use Rattle.cap_spec.specs.Scalars.{scalar_words}
@@ -31,25 +32,28 @@ use Rattle.cap_ptr.specs.declared.shapes.Shape.{Shape}
 use Rattle.cap_ptr.specs.declared.shapes.Shape.TheVariants as shape
 use Rattle.cap_ptr.proofs.NearObjects.{pointers-no_extra, pointers-plain}
 use Rattle.cap_vet.specs.Looking.{IsNotLax, object_children}
+use Rattle.cap_spec.proofs.Frames.Messages.{one_word}
 use Rattle.cap_vet.specs.Reports.{IsAccepted, IsReport}
+use Rattle.cap_vet.specs.Stricts.{KnowsLax}
 use Rattle.cap_vet.specs.Trails.{Ahead, IsTrail, element_rows, row}
 use Rattle.cap_vet.specs.Walking.{IsLookedAt}
 use Rattle.cap_vet.specs.declared.report.Report.{Report}
 use Rattle.cap_vet.proofs.Laxness.{knows_on, within_of}
 use Rattle.cap_vet.proofs.OneTrail.{object_trail, one_trail, root_trail}
 use Rattle.cap_canon.specs.Checked.{IsChecked}
-use Rattle.cap_canon.specs.InOrder.{AreDue, HasOwn, IsInOrder, IsLaidSoFar, IsNextInOrder, IsOwn, IsStop, LeadsToEnd, MayStand, NoCopyHas}
-use Rattle.cap_canon.specs.Laying.{AreBefore, Due, IsPointed, OwnAt, below, element_slots, own_size, slots}
+use Rattle.cap_canon.specs.InOrder.{AreDue, Differs, HasDiffered, HasNoWords, HasOwn, IsAsInCopy, IsCompared, IsInOrder, IsLaidSoFar, IsNextInOrder, IsNotCanonical, IsOwn}
+use Rattle.cap_canon.specs.InOrder.{LeadsToEnd, MayStand, NoCopyHas}
+use Rattle.cap_canon.specs.NullsInOrder.{null_compared}
+use Rattle.cap_canon.specs.Laying.{AreBefore, Due, IsPointed, Laid, OwnAt, below, element_slots, own_size, slots}
 use Rattle.cap_canon.specs.Objects.{AreElementsLeft, AreLeft, IsLeft, IsObject}
 use Rattle.cap_canon.specs.Roots.{ForTrimmed}
 use Rattle.cap_canon.specs.StillToLay.{longest_copy}
 use Rattle.cap_canon.specs.Trimming.{NeedsAll, NeedsLess, most_data}
-use Rattle.cap_canon.specs.declared.in_order.Stop.{Stop}
-use Rattle.cap_canon.specs.declared.in_order.Stop.TheVariants.{NotCanonical, Undecided}
 use Rattle.cap_canon.specs.declared.objects.Object.{Object}
 use Rattle.cap_canon.specs.declared.objects.Object.TheVariants as object
 use Rattle.cap_canon.specs.declared.objects.Part.{Part}
 use Rattle.cap_canon.proofs.CheckWalks.{check_first, check_on}
+use Rattle.cap_canon.proofs.Copies.{copy_charged, no_cap_reached}
 use Rattle.cap_canon.proofs.Entering.{below_before}
 use Rattle.cap_canon.proofs.Found.{pointers_object, scalars_object, struct_found, struct_object, structs_found, structs_object}
 use Rattle.cap_canon.proofs.InPlace.{near_lead}
@@ -269,11 +273,17 @@ next_in_order m seen a s w n cost end now l x k = record {
     not_lax : IsNotLax m s w
     not_lax = subst (λ v. IsNotLax m v w) (sym first) (near_has_none m 0 w x.word x.has x.near)
 
+-- one segment is compared, which isn't too long
+pub compared_one : (m : List (List ℕ)) (end : ℕ) (seen : List (List Step)) → IsCompared m end seen
+    → (length m ≡ 1) × (length (segment_of m 0) ≤ longest_copy) × (end ≤ length (segment_of m 0))
+compared_one m end seen (inl k) = (k.one, k.few, k.inside)
+compared_one m end seen (inr (e, k)) = (k.one, k.few, omega (arith, e))
+
 -- the word looked at is one of segment 0, and has its cost there
 pub next_inside : (m : List (List ℕ)) (seen : List (List Step)) (a : Ahead) (s w n cost end : ℕ) → IsLookedAt m seen a s w n cost
-    → IsInOrder m end seen → (s ≡ 0) × (w < length (segment_of m 0)) × Costs m 0 w cost
+    → IsCompared m end seen → (s ≡ 0) × (w < length (segment_of m 0)) × Costs m 0 w cost
 next_inside m seen a s w n cost end l k =
-    let first : s ≡ 0 = omega (arith, l.exists, k.one) in
+    let first : s ≡ 0 = omega (arith, l.exists, (compared_one m end seen k).0) in
     (first, subst (λ v. w < length (segment_of m v)) first l.inside, subst (λ v. Costs m v w cost) first l.costs)
 
 -- So if no copy has the next object as it is, the words aren't the layout,
@@ -292,7 +302,8 @@ not_laid m a later w end whole e unlike few k same = go k.due k.are_due k.before
         let pointed : IsPointed (segment_of m 0) end w (trim y) = subst (λ v. IsPointed (segment_of m 0) end v (trim y)) slot
         (subst (λ (u : Tree). IsPointed (segment_of m 0) end x.slot u) left laid.0) in
         unlike y cost deep here (omega (arith, slot, before.0)) (omega (arith, checked.inside, few)) pointed
-        (subst (λ (u : Tree). OwnAt (segment_of m 0) end u) left laid.1)
+        (subst (λ (u : Tree). OwnAt (segment_of m 0) end u) left laid.1) due
+        (subst (λ (u : Tree). Laid (segment_of m 0) (end + own_size u) (below end u ++ due)) left laid.2)
 
 -- and the message isn't canonical.
 pub not_canonical : (m : List (List ℕ)) (seen : List (List Step)) (a : Ahead) (s w n cost end : ℕ) → IsLookedAt m seen a s w n cost
@@ -300,6 +311,83 @@ pub not_canonical : (m : List (List ℕ)) (seen : List (List Step)) (a : Ahead) 
 not_canonical m seen a s w n cost end l k unlike (words, h, e) =
     not_laid m a l.later w end (trim h.tree) l.word unlike k.few (k.so_far (a ∷ l.later) l.trail h.tree h.charge h.depth h.denotes)
     (ap (λ u. segment_of u 0) e ∙ h.laid)
+
+-- what a word says by itself that isn't far
+says_near : (m : List (List ℕ)) (s w k word : ℕ) (r : Lead) → HasWord m s w word → kind word ≡ 3 → Leads m s w k r → Says s w word r
+says_near m s w k word r has c (near p h n says e) = subst (λ y. Says s w y r) (one_word m s w p word h has) says
+says_near m s w k word r has c (one_pad p q h far h' n says e) =
+    let two : kind word ≡ 2 = subst (λ y. kind y ≡ 2) (one_word m s w p word h has) far.0 in absurd (omega (arith, two, c))
+says_near m s w k word r has c (two_pads p f q h far h' h'' one tag e e') =
+    let two : kind word ≡ 2 = subst (λ y. kind y ≡ 2) (one_word m s w p word h has) far.0 in absurd (omega (arith, two, c))
+
+-- a word of kind 3 that can be followed leads to a capability
+leads_to_cap : (m : List (List ℕ)) (s w cost word : ℕ) → HasWord m s w word → kind word ≡ 3 → Costs m s w cost → (k i : ℕ) × Leads m s w k (to_cap i)
+leads_to_cap m s w cost word has c (inl h) =
+    let zero : word ≡ 0 = says_near m s w cost word to_null has c h in
+    let e : kind word ≡ kind 0 = ap kind zero in absurd (omega (arith, e, c))
+leads_to_cap m s w cost word has c (inr (inl (i, h))) = (cost, i, h)
+leads_to_cap m s w cost word has c (inr (inr (k, t, b, q, tag, f, has', e))) =
+    let low = (says_near m s w k word (to_object t (pos b) q) has c f.leads).0 in absurd (omega (arith, low, c))
+
+-- A message isn't canonical after an object that no copy has as it is, or after a capability.
+pub differs_here : (m : List (List ℕ)) (seen : List (List Step)) (a : Ahead) (s w n cost end : ℕ) → IsLookedAt m seen a s w n cost
+    → Differs m w end → IsCompared m end seen → IsNotCanonical m
+differs_here m seen a s w n cost end l d (inr (e, k)) = k.differs
+differs_here m seen a s w n cost end l (inr unlike) (inl k) = λ t c d h few canon. not_canonical m seen a s w n cost end l k unlike canon
+differs_here m seen a s w n cost end l (inl (word, has, cap)) (inl k) = λ t c d h few canon.
+    let first : s ≡ 0 = omega (arith, l.exists, k.one) in
+    let here : HasWord m s w word = subst (λ v. HasWord m v w word) (sym first) has in
+    let lead = leads_to_cap m s w cost word here cap l.costs in
+    let reached : Reaches m a.path a.level s w = rw (l.segment, l.word) at l.trail.ahead_reached.0 in
+    let copy = canon.1 in
+    no_cap_reached m copy.tree copy.charge copy.depth a.path a.level s w lead.0 lead.1 copy.denotes copy.no_caps reached lead.2
+
+-- What is known of a message after that.
+pub has_differed : (m : List (List ℕ)) (seen : List (List Step)) (a : Ahead) (s w n cost end : ℕ) → IsLookedAt m seen a s w n cost
+    → IsNotLax m s w → IsNotCanonical m → IsCompared m end seen → HasDiffered m (a.path ∷ seen)
+has_differed m seen a s w n cost end l lax differs k =
+    let inside = (next_inside m seen a s w n cost end l k).1 in record {
+      one = (compared_one m end seen k).0;
+      few = (compared_one m end seen k).1;
+      some = omega (arith, inside);
+      strict = knows_on m seen a s w n cost None l lax (strict k);
+      differs = differs;
+    }
+  where
+    strict : IsCompared m end seen → KnowsLax m seen None
+    strict (inl k) = k.strict
+    strict (inr (e, k)) = k.strict
+
+-- no reader rejects a word that the walk knows, or that isn't far
+pub not_lax_word : (m : List (List ℕ)) (s w : ℕ) (lax : Bool) → (lax ≡ false → IsNotLax m s w)
+    → (lax ≡ true → (word : ℕ) × HasWord m s w word × (kind word ≢ 2)) → IsNotLax m s w
+not_lax_word m s w false f g = f refl
+not_lax_word m s w true f g = let (word, has, n) = g refl in near_has_none m s w word has n
+
+-- The walk goes on after a null word, and after an object that is as a copy has it.
+pub compared_on : (m : List (List ℕ)) (seen : List (List Step)) (a : Ahead) (s w n cost end now : ℕ) → IsLookedAt m seen a s w n cost
+    → IsAsInCopy m w end now → IsCompared m end seen → IsCompared m now (a.path ∷ seen)
+compared_on m seen a s w n cost end now l (inl (null, e)) k =
+    let first = (next_inside m seen a s w n cost end l k).0 in
+    let here : HasWord m s w 0 = subst (λ v. HasWord m v w 0) (sym first) null in
+    let reached : Reaches m a.path a.level s w = rw (l.segment, l.word) at l.trail.ahead_reached.0 in
+    subst (λ i. IsCompared m i (a.path ∷ seen)) (sym e) (null_compared m end seen a.path a.level s w reached here k)
+compared_on m seen a s w n cost end now l (inr x) (inl k) = inl (next_in_order m seen a s w n cost end now l x k)
+compared_on m seen a s w n cost end now l (inr x) (inr (e, k)) = absurd (omega (arith, e, x.after))
+
+-- A message of another number of segments than one, one without words, and one that is too long aren't canonical.
+pub other_count : (m : List (List ℕ)) → length m ≢ 1 → IsNotCanonical m
+other_count m other t c d h few (words, k, e) = other (ap length e)
+
+pub empty_differs : (m : List (List ℕ)) → length (segment_of m 0) ≡ 0 → IsNotCanonical m
+empty_differs m free t c d h few (words, k, e) =
+    let same : length (segment_of m 0) ≡ length (layout (trim k.tree)) = ap (λ u. length (segment_of u 0)) e ∙ ap length k.laid in
+    omega (arith, same, free)
+
+pub long_differs : (m : List (List ℕ)) → longest_copy < length (segment_of m 0) → IsNotCanonical m
+long_differs m long t c d h few (words, k, e) =
+    let same : length (segment_of m 0) ≡ length words = ap (λ u. length (segment_of u 0)) e in
+    omega (arith, same, long, few, copy_charged m t c d words h k)
 
 -- At first the root is due.
 pub first_in_order : (m : List (List ℕ)) → length m ≡ 1 → 0 < length (segment_of m 0) → length (segment_of m 0) ≤ longest_copy → IsInOrder m 1 []
@@ -355,19 +443,27 @@ canonical_at_end m seen end r t trail k report caps = (to, from)
         let same = one_tree m 0 0 h.tree t h.charge h.depth r.charge r.depth h.denotes report.denotes in
         laid.1 (ap (λ u. segment_of u 0) e ∙ (h.laid ∙ ap (λ u. layout (trim u)) same.part))
 
--- and it is strict
-pub strict_in_order : (m : List (List ℕ)) (words depth : ℕ) (seen : List (List Step)) (end : ℕ) (r : Report) → IsTrail m seen [] → IsInOrder m end seen
-    → IsAccepted m words depth r → IsStrict m words depth
-strict_in_order m words depth seen end r trail k a = record {
-  accepted = within_of m words depth r a;
-  few_segments = omega (arith, k.one);
-  none = λ path x. elim (trail.complete path x.0 x.1 x.2 x.4) [ inl one ↦ k.strict path one x | inr under ↦ absurd under ];
-}
+-- After a difference it isn't.
+pub compared_at_end : (m : List (List ℕ)) (seen : List (List Step)) (end : ℕ) (r : Report) (t : Tree) → IsTrail m seen [] → IsCompared m end seen
+    → IsReport m 268435456 256 r t → r.caps ≡ 0 → (end ≡ length (segment_of m 0)) ↔ IsCanonical m
+compared_at_end m seen end r t trail (inl k) report caps = canonical_at_end m seen end r t trail k report caps
+compared_at_end m seen end r t trail (inr (e, k)) report caps = (
+  λ same. absurd (omega (arith, e, same, k.some)),
+  λ canon. absurd (k.differs t r.charge r.depth report.denotes report.within canon),
+)
 
--- what is known where the walk stops
-pub stop_known : (m : List (List ℕ)) (stop : Stop) → (stop ≡ NotCanonical → ¬ IsCanonical m) → IsStop m stop
-stop_known m NotCanonical h = h refl
-stop_known m Undecided h = tt
+-- It is strict all the same.
+pub strict_compared : (m : List (List ℕ)) (words depth : ℕ) (seen : List (List Step)) (end : ℕ) (r : Report) → IsTrail m seen [] → IsCompared m end seen
+    → IsAccepted m words depth r → IsStrict m words depth
+strict_compared m words depth seen end r trail k a = record {
+  accepted = within_of m words depth r a;
+  few_segments = omega (arith, (compared_one m end seen k).0);
+  none = λ path x. elim (trail.complete path x.0 x.1 x.2 x.4) [ inl one ↦ strict k path one x | inr under ↦ absurd under ];
+}
+  where
+    strict : IsCompared m end seen → KnowsLax m seen None
+    strict (inl k) = k.strict
+    strict (inr (e, k)) = k.strict
 
 -- the words of pointers by their fields
 pub struct_by_fields : (x : ℕ) → x < 2 ^ 64 → kind x ≡ 0 → x ≡ struct_word (middle x) (data_size x) (pointer_size x)
@@ -431,6 +527,7 @@ module _ (m : List (List ℕ)) (w word end cost : ℕ) (l : LeadsToEnd m w word 
         word = word;
         has = l.has;
         near = λ e. omega (arith, e, plain.0);
+        after = l.stands.after;
         inside = inside;
         k = 0;
         t = 0;
@@ -447,6 +544,16 @@ module _ (m : List (List ℕ)) (w word end cost : ℕ) (l : LeadsToEnd m w word 
   struct_some some = λ z.
       let null : HasWord m 0 w 0 = subst (HasWord m 0 w) z l.has in
       some (one_cost m 0 w cost 0 l.costs (inl (near 0 null (omega arith) refl refl)))
+
+  -- or it has no words,
+  pub struct_empty : kind word ≡ 0 → cost ≡ 0 → HasNoWords word
+  struct_empty k free = (λ _. go (eqb_tells word 0), λ list. absurd (omega (arith, list, k)))
+    where
+      go : (((word == 0) ≡ true) × (word ≡ 0)) ⊎ (((word == 0) ≡ false) × (word ≡ 0 → ⊥)) → data_size word + pointer_size word ≡ 0
+      go (inl y) = rw y.1 refl
+      go (inr y) =
+          let words = (row_there (pointer_size word) (inl (k, refl)) y.1).1 in
+          omega (arith, words, free, extent_struct word k)
 
   pub struct_inside : kind word ≡ 0 → cost ≢ 0 → (end + data_size word + pointer_size word ≤ length (segment_of m 0)) × (end + cost ≤ length (segment_of m 0))
   struct_inside k some =
@@ -496,10 +603,11 @@ module _ (m : List (List ℕ)) (w word end cost : ℕ) (l : LeadsToEnd m w word 
   -- or of structs, whose tag is there,
   pub structs_there : kind word ≡ 1 → code word ≡ 7
       → (tag : ℕ) × HasWord m 0 end tag × (kind tag ≡ 0) × (end + 1 + list_size word ≤ length (segment_of m 0))
+      × (middle tag * (data_size tag + pointer_size tag) ≤ list_size word)
   structs_there k c =
       let (_, finds, _, _) = object_there (omega (arith, k)) (list_some k) in
       let (tag, has, fits) = finds.sits.composite (k, c) in
-      (tag, has, fits.0, omega (arith, finds.sits.inside, extent_structs word k c))
+      (tag, has, fits.0, omega (arith, finds.sits.inside, extent_structs word k c), fits.1)
 
   -- or of values with bits.
   pub row_of_values : kind word ≡ 1 → 0 < code word → code word < 6
@@ -522,7 +630,7 @@ module _ (m : List (List ℕ)) (w word end cost : ℕ) (l : LeadsToEnd m w word 
 
   pub values_differ : kind word ≡ 1 → 0 < code word → code word < 6
       → (StandAt (segment_of m 0) end (scalar_words (code word) (values_of m 0 end (code word) (list_size word))) → ⊥) → NoCopyHas m w end
-  values_differ k some few stand x charge deep h lt small pointed own =
+  values_differ k some few stand x charge deep h lt small pointed own due laid =
       let o = scalars_object m 0 w x charge deep 0 0 end word 0 cost cost (code word) (list_size word) h
       (object_of 0 (shape.Scalars (code word) (list_size word)) (inr (inr (k, some, few, refl))) (list_some k)
       (record { kind = k; code = refl; scalar = few; count = refl })) in

@@ -1,5 +1,5 @@
 -- A list of structs, whose word leads to the end, that is as a copy has it, or not.
-use Rattle.std.proofs.Common.{ℕ, ◌+◌, ◌-◌, ◌*◌, ◌<◌, ◌≤◌, ◌^◌, ◌≡◌, ◌⊎◌, inl, inr, List, length, pos, ap, sym, subst, refl, ◌∙◌, arith, true, false}
+use Rattle.std.proofs.Common.{ℕ, ◌+◌, ◌-◌, ◌*◌, ◌<◌, ◌≤◌, ◌^◌, ◌≡◌, ◌≢◌, ◌⊎◌, inl, inr, List, length, pos, ap, sym, subst, refl, ◌∙◌, arith, true, false}
 use Rattle.std.specs.Prelude.{if◌then◌else◌, ◌==◌}
 use Rattle.std.proofs.lemmas.Bool.Decides.{eqb_tells}
 use Rattle.cap_spec.specs.Canonical.{list_word, struct_word}
@@ -16,7 +16,7 @@ use Rattle.cap_ptr.proofs.Pads.{object-lead, stands-near}
 use Rattle.cap_canon.specs.InOrder.{HasOwn, IsNextInOrder, LeadsToEnd, MayStand, NoCopyHas}
 use Rattle.cap_canon.specs.Trimming.{ListNeedsAll, ListNeedsLess}
 use Rattle.cap_canon.proofs.InOrder.{list_by_fields, struct_by_fields, structs_own, structs_there}
-use Rattle.cap_canon.proofs.NoCopies.{no_structs}
+use Rattle.cap_canon.proofs.NoCopies.{no_structs, no_surplus}
 
 -- a near word leads to the end
 pub leads_to_end : (m : List (List ℕ)) (w end word : ℕ) → MayStand m w end → HasWord m 0 w word → kind word ≡ 1 → w + 1 + middle word ≡ end
@@ -28,13 +28,18 @@ leads_to_end m w end word s has list next =
 
 -- The list, with its tag.
 module _ (m : List (List ℕ)) (w end word tag cost : ℕ) (l : LeadsToEnd m w word end cost) (list : (kind word ≡ 1) × (code word ≡ 7))
-    (has_tag : HasWord m 0 end tag) (fits : middle tag * (data_size tag + pointer_size tag) ≡ list_size word) where
+    (has_tag : HasWord m 0 end tag) where
   inside : end + 1 + list_size word ≤ length (segment_of m 0)
   inside = (structs_there m w word end cost l list.0 list.1).3
 
+  fits : middle tag * (data_size tag + pointer_size tag) ≤ list_size word
+  fits =
+      let (there, has, _, _, few) = structs_there m w word end cost l list.0 list.1 in
+      subst (λ i. middle i * (data_size i + pointer_size i) ≤ list_size word) (sym (one_word m 0 end tag there has_tag has)) few
+
   tag_kind : kind tag ≡ 0
   tag_kind =
-      let (there, has, is, _) = structs_there m w word end cost l list.0 list.1 in
+      let (there, has, is, _, _) = structs_there m w word end cost l list.0 list.1 in
       ap kind (one_word m 0 end tag there has_tag has) ∙ is
 
   abbrev n : ℕ
@@ -61,12 +66,13 @@ module _ (m : List (List ℕ)) (w end word tag cost : ℕ) (l : LeadsToEnd m w w
       (omega (arith, extent_is, inside)) list has_tag refl tag_kind refl refl refl
       (omega (arith, fits)) refl (empty_few (eqb_tells (d + p) 0)) refl refl
 
-  pub structs_next : word < 2 ^ 64 → tag < 2 ^ 64 → ListNeedsAll m 0 (end + 1) d p n → IsNextInOrder m w end (end + 1 + list_size word)
-  structs_next small tag_small needs =
+  pub structs_next : n * (d + p) ≡ list_size word → word < 2 ^ 64 → tag < 2 ^ 64 → ListNeedsAll m 0 (end + 1) d p n
+      → IsNextInOrder m w end (end + 1 + list_size word)
+  structs_next all small tag_small needs =
       let offset : middle word ≡ end - w - 1 = omega (arith, l.next) in
       let same : word ≡ list_word (end - w - 1) 7 (n * (d + p)) = list_by_fields word small list.0
       ∙ (ap (λ i. list_word i (code word) (list_size word)) offset
-      ∙ (ap (λ i. list_word (end - w - 1) i (list_size word)) list.1 ∙ ap (λ i. list_word (end - w - 1) 7 i) (sym fits))) in
+      ∙ (ap (λ i. list_word (end - w - 1) i (list_size word)) list.1 ∙ ap (λ i. list_word (end - w - 1) 7 i) (sym all))) in
       let tag_same : tag ≡ struct_word n d p = struct_by_fields tag tag_small tag_kind in
       let e : end + (1 + list_size word) ≡ end + 1 + list_size word = omega arith in
       let own = structs_own m w end 0 0 end word tag (1 + list_size word) (0 + 1 + list_size word + empty) (list_size word) n d p l.stands object
@@ -74,6 +80,7 @@ module _ (m : List (List ℕ)) (w end word tag cost : ℕ) (l : LeadsToEnd m w w
         word = word;
         has = l.has;
         near = λ y. omega (arith, y, list.0);
+        after = l.stands.after;
         inside = inside;
         k = 0;
         t = 0;
@@ -88,3 +95,7 @@ module _ (m : List (List ℕ)) (w end word tag cost : ℕ) (l : LeadsToEnd m w w
   pub structs_differ : ListNeedsLess m 0 (end + 1) d p n → NoCopyHas m w end
   structs_differ less =
       no_structs m w end word tag (1 + list_size word) (0 + 1 + list_size word + empty) (list_size word) n d p object less
+
+  pub structs_surplus : n * (d + p) ≢ list_size word → NoCopyHas m w end
+  structs_surplus surplus =
+      no_surplus m w end word tag (1 + list_size word) (0 + 1 + list_size word + empty) (list_size word) n d p object l.has surplus

@@ -13,11 +13,11 @@ mod Found
 mod InOrder
 mod InOrderLists
 mod InPlace
-mod Kept
 mod LaidSteps
 mod Laying
 mod Lengths
 mod Needed
+mod FarWords
 mod NoCopies
 mod OtherWords
 pub mod Overs

@@ -1,15 +1,15 @@
 -- Pointer words and objects that no copy has as they are.
-use Rattle.std.proofs.Common.{ℕ, ◌+◌, ◌-◌, ◌<◌, ◌≤◌, ◌^◌, ◌≡◌, ◌≢◌, ◌⊎◌, inl, inr, List, length, take, ap, sym, subst, refl, ◌∙◌, arith, true, false}
+use Rattle.std.proofs.Common.{ℕ, ◌+◌, ◌-◌, ◌*◌, ◌<◌, ◌≤◌, ◌^◌, ◌≡◌, ◌≢◌, ◌⊎◌, ◌++◌, inl, inr, List, length, take, ap, ap₂, sym, subst, refl, ◌∙◌, arith, true, false}
 use Rattle.std.specs.Prelude.{◌==◌}
 use Rattle.std.proofs.lemmas.Bool.Decides.{eqb_tells}
 use Rattle.std.proofs.lemmas.List.{length-take-le}
 use Rattle.cap_spec.specs.Canonical.{children_needed, children_of, cut_elements, data_needed, data_of, pointer_to, struct_word, take_trees, trim, trim_all}
 use Rattle.cap_spec.specs.Canonical.{trim_elements}
-use Rattle.cap_spec.specs.Denoting.{DenoteEach, Denotes, places, words_from}
+use Rattle.cap_spec.specs.Denoting.{AreElements, DenoteEach, Denotes, places, words_from}
 use Rattle.cap_spec.specs.Messages.{HasWord, segment_of}
-use Rattle.cap_spec.specs.Pointers.{data_size, kind, middle, pointer_size}
+use Rattle.cap_spec.specs.Pointers.{code, data_size, kind, list_size, middle, pointer_size}
 use Rattle.cap_spec.specs.Tree.{Tree, null, cap, struct, scalars, pointers, structs, Trees, tree_count}
-use Rattle.cap_spec.proofs.Canonical.PointerFields.{StructFields, struct_fields}
+use Rattle.cap_spec.proofs.Canonical.PointerFields.{StructFields, list_fields, struct_fields}
 use Rattle.cap_spec.proofs.Canonical.TreeMeasures.{Fits}
 use Rattle.cap_spec.proofs.Canonical.TrimmedMeasures.{children_needed_le, data_needed_le, tree_count-take_le}
 use Rattle.cap_spec.proofs.Frames.Messages.{one_word}
@@ -17,54 +17,77 @@ use Rattle.cap_spec.proofs.Trees.DenotedTrees.{range_length}
 use Rattle.cap_ptr.specs.Shapes.{FindsObject}
 use Rattle.cap_ptr.specs.declared.shapes.Shape.TheVariants as shape
 use Rattle.cap_canon.specs.Found.{IsStructAt}
-use Rattle.cap_canon.specs.InOrder.{NoCopyHas}
-use Rattle.cap_canon.specs.Laying.{IsPointed, OwnAt}
-use Rattle.cap_canon.specs.Trimming.{ListNeedsLess, NeedsLess}
+use Rattle.cap_canon.specs.InOrder.{Differs, HasNoWords, NoCopyHas}
+use Rattle.cap_canon.specs.Laying.{IsPointed, Laid, OwnAt, below, own_size}
+use Rattle.cap_canon.specs.Trimming.{ListNeedsLess, NeedsLess, most_data}
 use Rattle.cap_canon.proofs.Children.{row_needed}
 use Rattle.cap_canon.proofs.Elements.{most_data_of}
+use Rattle.cap_canon.proofs.FarWords.{elements_near, row_near}
 use Rattle.cap_canon.proofs.Found.{struct_found, structs_found}
 use Rattle.cap_canon.proofs.Standing.{pointed_word}
 use Rattle.cap_canon.proofs.Trimmed.{children_needed-trim, children_of-trim, data_of-trim}
 use Rattle.cap_canon.proofs.Walks.{owed_fits}
 
--- What a pointer word of a copy is: null, a capability, that of a struct without words, or it has the offset.
-pub word_parts : (o word : ℕ) (u : Tree) → o < 2 ^ 29 → word ≡ pointer_to o u → kind word ≢ 3 → word ≢ 0 → word ≢ 2 ^ 32 - 4
-    → (kind word < 2) × (middle word ≡ o)
-word_parts o word null small e k z n = absurd (z e)
-word_parts o word (cap i) small e k z n = absurd (k (omega (arith, e)))
-word_parts o word (struct ws ts) small e k z n = go (eqb_tells (length ws + tree_count ts) 0)
+-- What a pointer word of a copy is: null, a capability, that of a struct without words, or it has the offset, and words if it
+-- is a struct's.
+pub word_parts : (o word : ℕ) (u : Tree) → o < 2 ^ 29 → Fits u → word ≡ pointer_to o u → kind word ≢ 3 → word ≢ 0 → word ≢ 2 ^ 32 - 4
+    → (((kind word ≡ 0) × (data_size word + pointer_size word ≢ 0)) ⊎ (kind word ≡ 1)) × (middle word ≡ o)
+word_parts o word null small f e k z n = absurd (z e)
+word_parts o word (cap i) small f e k z n = absurd (k (omega (arith, e)))
+word_parts o word (struct ws ts) small f e k z n = go (eqb_tells (length ws + tree_count ts) 0)
   where
     go : (((length ws + tree_count ts == 0) ≡ true) × (length ws + tree_count ts ≡ 0)) ⊎
         (((length ws + tree_count ts == 0) ≡ false) × (length ws + tree_count ts ≡ 0 → ⊥))
-        → (kind word < 2) × (middle word ≡ o)
+        → (((kind word ≡ 0) × (data_size word + pointer_size word ≢ 0)) ⊎ (kind word ≡ 1)) × (middle word ≡ o)
     go (inl y) = absurd (n (e ∙ rw y.0 refl))
     go (inr y) =
-        let f : word ≡ struct_word o (length ws) (tree_count ts) = e ∙ rw y.0 refl in
-        (omega (arith, f), omega (arith, f, small))
-word_parts o word (scalars c vs) small e k z n = (omega (arith, e), omega (arith, e, small))
-word_parts o word (pointers ts) small e k z n = (omega (arith, e), omega (arith, e, small))
-word_parts o word (structs d p es) small e k z n = (omega (arith, e), omega (arith, e, small))
+        let same : word ≡ struct_word o (length ws) (tree_count ts) = e ∙ rw y.0 refl in
+        let fields = struct_fields o (length ws) (tree_count ts) (omega (arith, small)) f.0 f.1 in
+        let d : data_size word ≡ length ws = ap data_size same ∙ fields.data_words in
+        let p : pointer_size word ≡ tree_count ts = ap pointer_size same ∙ fields.pointers in
+        (inl (ap kind same ∙ fields.kind, λ q. y.1 (omega (arith, q, d, p))), ap middle same ∙ fields.middle)
+word_parts o word (scalars c vs) small f e k z n = (inr (omega (arith, e)), omega (arith, e, small))
+word_parts o word (pointers ts) small f e k z n = (inr (omega (arith, e)), omega (arith, e, small))
+word_parts o word (structs d p es) small f e k z n = (inr (omega (arith, e)), omega (arith, e, small))
 
--- So no copy has another word that doesn't lead to the end.
+-- So no copy has another word, unless it leads to the end: then it has words, or is that of a list without bits.
 pub no_word : (m : List (List ℕ)) (w end word : ℕ) → HasWord m 0 w word → kind word ≢ 3 → word ≢ 0 → word ≢ 2 ^ 32 - 4
-    → (kind word < 2 → w + 1 + middle word ≡ end → ⊥) → NoCopyHas m w end
-no_word m w end word has k z n other x c d h lt small pointed own =
+    → (w + 1 + middle word ≡ end → HasNoWords word) → (kind word ≡ 1 → code word ≡ 0 → w + 1 + middle word ≡ end → ⊥) → NoCopyHas m w end
+no_word m w end word has k z n other list x c d h lt small pointed own due laid =
     let e = pointed_word m w end word (trim x) has pointed in
-    let parts = word_parts (end - w - 1) word (trim x) (omega (arith, small)) e k z n in
-    other parts.0 (omega (arith, parts.1, lt))
+    let fits = owed_fits m d 0 0 w (trim x) (x, c, d, h, refl, omega arith) in
+    let parts = word_parts (end - w - 1) word (trim x) (omega (arith, small)) fits e k z n in
+    let next : w + 1 + middle word ≡ end = omega (arith, parts.1, lt) in
+    elim parts.0 [ inl st ↦ st.1 ((other next).0 st.0) | inr li ↦ list li ((other next).1 li) next ]
+
+-- the same where it may be that of a capability
+pub other_differs : (m : List (List ℕ)) (w end word : ℕ) → HasWord m 0 w word → word ≢ 0 → word ≢ 2 ^ 32 - 4
+    → (w + 1 + middle word ≡ end → HasNoWords word) → (kind word ≡ 1 → code word ≡ 0 → w + 1 + middle word ≡ end → ⊥) → Differs m w end
+other_differs m w end word has z n other list = go (eqb_tells (kind word) 3)
+  where
+    go : (((kind word == 3) ≡ true) × (kind word ≡ 3)) ⊎ (((kind word == 3) ≡ false) × (kind word ≡ 3 → ⊥)) → Differs m w end
+    go (inl y) = inl (word, has, y.1)
+    go (inr y) = inr (no_word m w end word has y.1 z n other list)
 
 -- The sizes of a struct that a copy has as it is are those that the struct needs.
-record StructNeeds (m : List (List ℕ)) (end word : ℕ) : Type 0 where
+record StructNeeds (m : List (List ℕ)) (end word : ℕ) (u : Tree) : Type 0 where
   pub data_words : data_size word ≡ data_needed (words_from m 0 end (data_size word))
   pub children : Trees
   pub charge : ℕ
   pub depth : ℕ
   pub denote : DenoteEach m (places 0 (end + data_size word) (pointer_size word)) children charge depth
   pub pointers : pointer_size word ≡ children_needed children
+  -- what is left of it
+  pub front : List ℕ
+  pub first : Trees
+  pub tree : u ≡ struct front first
+  pub data_left : data_size word ≡ length front
+  pub pointers_left : pointer_size word ≡ tree_count first
 
 struct_needs : (m : List (List ℕ)) (w end word words charge : ℕ) (x : Tree) (c d : ℕ)
     → FindsObject m 0 w 0 0 end word 0 words charge (shape.Struct (data_size word) (pointer_size word)) → HasWord m 0 w word
-    → w + 1 + middle word ≡ end → Denotes m 0 w x c d → w < end → end < 2 ^ 29 → IsPointed (segment_of m 0) end w (trim x) → StructNeeds m end word
+    → w + 1 + middle word ≡ end → Denotes m 0 w x c d → w < end → end < 2 ^ 29 → IsPointed (segment_of m 0) end w (trim x)
+    → StructNeeds m end word (trim x)
 struct_needs m w end word words charge x c d f has next h lt small pointed = go (eqb_tells (length front + tree_count first) 0)
   where
     k : IsStructAt m 0 w 0 end (data_size word) (pointer_size word) x d
@@ -97,7 +120,7 @@ struct_needs m w end word words charge x c d f has next h lt small pointed = go 
     p_few = omega (arith, p_is, row_needed m 0 (end + data_size word) (pointer_size word) k.children k.inner k.deep k.below)
 
     go : (((length front + tree_count first == 0) ≡ true) × (length front + tree_count first ≡ 0)) ⊎
-        (((length front + tree_count first == 0) ≡ false) × (length front + tree_count first ≡ 0 → ⊥)) → StructNeeds m end word
+        (((length front + tree_count first == 0) ≡ false) × (length front + tree_count first ≡ 0 → ⊥)) → StructNeeds m end word (trim x)
     go (inl y) =
         let none : word ≡ 2 ^ 32 - 4 = e ∙ rw y.0 refl in
         let far : middle word ≡ middle (2 ^ 32 - 4) = ap middle none in
@@ -112,20 +135,48 @@ struct_needs m w end word words charge x c d f has next h lt small pointed = go 
           depth = k.deep;
           denote = k.below;
           pointers = ap pointer_size same ∙ (fields.pointers ∙ p_is);
+          front = front;
+          first = first;
+          tree = ap trim k.tree;
+          data_left = ap data_size same ∙ fields.data_words;
+          pointers_left = ap pointer_size same ∙ fields.pointers;
         }
 
--- So no copy has a struct as it is that needs less.
+-- So no copy has a struct as it is that needs less, or whose last pointer is far.
 pub no_struct : (m : List (List ℕ)) (w end word words charge : ℕ)
     → FindsObject m 0 w 0 0 end word 0 words charge (shape.Struct (data_size word) (pointer_size word)) → HasWord m 0 w word
     → w + 1 + middle word ≡ end → NeedsLess m 0 end (data_size word) (pointer_size word) → NoCopyHas m w end
-no_struct m w end word words charge f has next less x c d h lt small pointed own =
-    let k = struct_needs m w end word words charge x c d f has next h lt small pointed in
-    elim less [ inl data_less ↦ data_less k.data_words | inr row_less ↦ row_less k.children k.charge k.depth k.denote k.pointers ]
+no_struct m w end word words charge f has next less x c d h lt small pointed own due laid = go less
+  where
+    k : StructNeeds m end word (trim x)
+    k = struct_needs m w end word words charge x c d f has next h lt small pointed
 
--- nor a list of structs
-pub no_structs : (m : List (List ℕ)) (w end word tag words charge size n d p : ℕ)
-    → FindsObject m 0 w 0 0 end word tag words charge (shape.Structs size n d p) → ListNeedsLess m 0 (end + 1) d p n → NoCopyHas m w end
-no_structs m w end word tag words charge size n d p f less x c deep h lt small pointed own =
+    go : NeedsLess m 0 end (data_size word) (pointer_size word) → ⊥
+    go (inl data_less) = data_less k.data_words
+    go (inr (inl row_less)) = row_less k.children k.charge k.depth k.denote k.pointers
+    go (inr (inr (some, (far, here, e)))) =
+        let rest = subst (λ (u : Tree). Laid (segment_of m 0) (end + own_size u) (below end u ++ due)) k.tree laid in
+        row_near m (end + own_size (struct k.front k.first)) (end + length k.front) k.first due far rest (omega (arith, some, k.pointers_left))
+        (subst (λ i. HasWord m 0 i far) (omega (arith, k.data_left, k.pointers_left)) here) e
+
+-- What a list of structs needs that a copy has as it is.
+record StructsNeed (m : List (List ℕ)) (end n d p : ℕ) (u : Tree) : Type 0 where
+  pub elements : Trees
+  pub charge : ℕ
+  pub depth : ℕ
+  pub are : AreElements m 0 (end + 1) d p n elements charge depth
+  pub data_words : d ≡ most_data m 0 (end + 1) d p n
+  pub pointers : p ≡ children_of elements
+  -- what is left of it
+  pub cut : Trees
+  pub tree : u ≡ structs d p cut
+  pub count : n ≡ tree_count cut
+  pub fits : Fits (structs d p cut)
+
+structs_need : (m : List (List ℕ)) (w end word tag words charge size n d p : ℕ) (x : Tree) (c deep : ℕ)
+    → FindsObject m 0 w 0 0 end word tag words charge (shape.Structs size n d p) → Denotes m 0 w x c deep → OwnAt (segment_of m 0) end (trim x)
+    → StructsNeed m end n d p (trim x)
+structs_need m w end word tag words charge size n d p x c deep f h own =
     let k = structs_found m 0 w x c deep 0 0 end word tag words charge size n d p h f in
     let us = trim_elements k.elements in
     let cs = cut_elements (data_of us) (children_of us) us in
@@ -135,7 +186,43 @@ no_structs m w end word tag words charge size n d p f less x c deep h lt small p
     let tagged = f.object.tagged (f.object.shape.kind, f.object.shape.code) in
     let same = one_word m 0 end tag (struct_word (tree_count cs) (data_of us) (children_of us)) tagged.0 laid.0 in
     let fields = struct_fields (tree_count cs) (data_of us) (children_of us) fits.2 fits.0 fits.1 in
-    let d_is : d ≡ data_of k.elements = f.object.shape.data_words ∙ (ap data_size same ∙ (fields.data_words ∙ data_of-trim k.elements)) in
-    let p_is : p ≡ children_of k.elements = f.object.shape.pointers ∙ (ap pointer_size same ∙ (fields.pointers ∙ children_of-trim k.elements)) in
-    let most = most_data_of m 0 (end + 1) d p n k.elements k.inner k.deep k.below in
-    elim less [ inl data_less ↦ data_less (d_is ∙ sym most) | inr fewer ↦ fewer k.elements k.inner k.deep k.below p_is ]
+    let d_left : d ≡ data_of us = f.object.shape.data_words ∙ (ap data_size same ∙ fields.data_words) in
+    let p_left : p ≡ children_of us = f.object.shape.pointers ∙ (ap pointer_size same ∙ fields.pointers) in
+    let most = most_data_of m 0 (end + 1) d p n k.elements k.inner k.deep k.below in record {
+      elements = k.elements;
+      charge = k.inner;
+      depth = k.deep;
+      are = k.below;
+      data_words = d_left ∙ (data_of-trim k.elements ∙ sym most);
+      pointers = p_left ∙ children_of-trim k.elements;
+      cut = cs;
+      tree = tree ∙ ap₂ (λ i j. structs i j cs) (sym d_left) (sym p_left);
+      count = f.object.shape.count ∙ (ap middle same ∙ fields.middle);
+      fits = subst (λ i. Fits (structs i p cs)) (sym d_left) (subst (λ j. Fits (structs (data_of us) j cs)) (sym p_left) fits);
+    }
+
+-- nor a list of structs
+pub no_structs : (m : List (List ℕ)) (w end word tag words charge size n d p : ℕ)
+    → FindsObject m 0 w 0 0 end word tag words charge (shape.Structs size n d p) → ListNeedsLess m 0 (end + 1) d p n → NoCopyHas m w end
+no_structs m w end word tag words charge size n d p f less x c deep h lt small pointed own due laid = go less
+  where
+    k : StructsNeed m end n d p (trim x)
+    k = structs_need m w end word tag words charge size n d p x c deep f h own
+
+    go : ListNeedsLess m 0 (end + 1) d p n → ⊥
+    go (inl data_less) = data_less k.data_words
+    go (inr (inl fewer)) = fewer k.elements k.charge k.depth k.are k.pointers
+    go (inr (inr (some, i, few, (far, here, e)))) =
+        let rest = subst (λ (u : Tree). Laid (segment_of m 0) (end + own_size u) (below end u ++ due)) k.tree laid in
+        let at : end + 1 + (d + (p - 1)) + i * (d + p) ≡ end + 1 + i * (d + p) + d + (p - 1) = omega arith in
+        elements_near m (end + own_size (structs d p k.cut)) (end + 1) d p i k.cut due far k.fits.4 rest (omega (arith, few, k.count)) some
+        (subst (λ j. HasWord m 0 j far) at here) e
+
+-- nor one that has surplus words
+pub no_surplus : (m : List (List ℕ)) (w end word tag words charge size n d p : ℕ)
+    → FindsObject m 0 w 0 0 end word tag words charge (shape.Structs size n d p) → HasWord m 0 w word → n * (d + p) ≢ list_size word → NoCopyHas m w end
+no_surplus m w end word tag words charge size n d p f has surplus x c deep h lt small pointed own due laid =
+    let k = structs_need m w end word tag words charge size n d p x c deep f h own in
+    let e = pointed_word m w end word (trim x) has pointed ∙ ap (pointer_to (end - w - 1)) k.tree in
+    let fields = list_fields (end - w - 1) 7 (tree_count k.cut * (d + p)) (omega (arith, small)) (omega arith) k.fits.3 in
+    surplus (ap (λ i. i * (d + p)) k.count ∙ sym (ap list_size e ∙ fields.size))

@@ -1,10 +1,11 @@
 -- The words and the text of a copy at the start of a buffer.
-use Rattle.std.proofs.Common.{ℕ, ◌*◌, ◌<◌, ◌≤◌, ◌≡◌, ◌∙◌, List, Ok, Err, ap, sym, arith, length, take}
+use Rattle.std.proofs.Common.{ℕ, ◌*◌, ◌<◌, ◌≤◌, ◌≡◌, ◌∙◌, ◌⊎◌, List, [], Result, Ok, Err, ap, sym, arith, inl, inr, length, take}
 use Rattle.std.specs.List.{AllByRecursion}
-use Rattle.std.proofs.lemmas.List.{length-take-le}
+use Rattle.std.proofs.lemmas.List.{length-take-le, take_all}
 use Rattle.cap_spec.specs.Canonical.{layout, trim}
 use Rattle.cap_spec.specs.Copies.{HasCopy}
 use Rattle.cap_spec.specs.Denoting.{Denotes}
+use Rattle.cap_spec.specs.Paths.{IsFirstCap}
 use Rattle.cap_spec.specs.Plain.{plain_text, plain_words}
 use Rattle.cap_spec.proofs.Bytes.Lists.{all_take}
 use Rattle.cap_spec.proofs.Bytes.Plain.{length_plain}
@@ -81,3 +82,38 @@ module _ (m : List (List ℕ)) (old mid new : List ℕ) (n : ℕ) (same : length
       let x = enough_of m old mid e in
       copy_of m x.0 (plain_words (take (8 * n) new)) x.1
       (λ t c d h. first_taken n new (within_ok e) ∙ (ap (λ (k : ℕ). first_words k new) (counts t c d h) ∙ writes t c d h))
+
+  -- the buffer is as long as before if the copy fits, and else as long as the copy
+  pub grows : MakesEnough m old (Ok tt) mid → (8 * n ≤ length old → length mid ≡ length old) × (length old < 8 * n → length mid ≡ 8 * n)
+  grows (no_copy s w f e g) = absurd (cc)
+  grows (refused words h l e g) = absurd (cc)
+  grows (enough words h l e g) =
+      let x = text_of words h in
+      (λ _. ap length g, λ lt. absurd (omega (arith, lt, l, length_plain words, x.0)))
+  grows (made words h l e g) =
+      let x = text_of words h in
+      (λ le. absurd (omega (arith, le, l, length_plain words, x.0)), λ _. omega (arith, g, length_plain words, x.0))
+
+-- all of a new vector is the copy
+pub new_text : (m : List (List ℕ)) (count : ℕ) (new : List ℕ) → TellsOver m [] (Ok count) new
+    → (words : List ℕ) × HasCopy m words × (new ≡ plain_text words) × (count ≡ length new)
+new_text m count new (has_capability s w f e g) = absurd (cc)
+new_text m count new (no_memory words h l e g) = absurd (cc)
+new_text m count new (over words h l e t g) =
+    let none : length (plain_text words) ≡ 0 = omega (arith, l) in
+    let some : length words ≡ length (layout (trim h.tree)) = ap length h.laid in
+    absurd (omega (arith, none, length_plain words, some))
+new_text m count new (grown words h l e t g) =
+    let c : count ≡ length (plain_text words) = same_count count (length (plain_text words)) e in
+    (words, h, sym (take_all (length (plain_text words)) new (omega (arith, g))) ∙ t, c ∙ sym g)
+  where
+    same_count : (a b : ℕ) → ◌≡◌ {A = Result ℕ CanonFault} (Ok a) (Ok b) → a ≡ b
+    same_count a b e = cc
+
+-- or there is none, by the fault
+pub new_fault : (m : List (List ℕ)) (fault : CanonFault) (new : List ℕ) → TellsOver m [] (Err fault) new
+    → ((s w : ℕ) × IsFirstCap m s w × (fault ≡ HasCapability s w)) ⊎ ((words : List ℕ) × HasCopy m words × (fault ≡ Memory))
+new_fault m fault new (has_capability s w f e g) = inl (s, w, f, same_fault fault (HasCapability s w) e)
+new_fault m fault new (no_memory words h l e g) = inr (words, h, same_fault fault Memory e)
+new_fault m fault new (over words h l e t g) = absurd (cc)
+new_fault m fault new (grown words h l e t g) = absurd (cc)

@@ -13,7 +13,6 @@ use Rattle.cap_spec.proofs.Canonical.TrimmedMeasures.{Trimmed, trimmed}
 use Rattle.cap_spec.proofs.Canonical.Placing.{stand_inside}
 use Rattle.cap_spec.proofs.Canonical.Sizes.{length-content, trimmed_size_charged}
 use Rattle.cap_canon.specs.CopyRuns.{AreShort, IsFull, IsRest, first_place, place, places_of, root_run}
-use Rattle.cap_canon.specs.InPlace.{AreInPlace, IsInPlace}
 use Rattle.cap_canon.specs.Laying.{Due, Laid, own_size, below}
 use Rattle.cap_canon.specs.Objects.{IsObject}
 use Rattle.cap_canon.specs.Roots.{HasTree}
@@ -22,7 +21,6 @@ use Rattle.cap_canon.specs.CopyTurns.{IsTurn}
 use Rattle.cap_canon.specs.declared.objects.Object.{Object}
 use Rattle.cap_canon.specs.declared.run.CopyRun.{CopyRun}
 use Rattle.cap_canon.specs.declared.run.PointerPlace.{PointerPlace}
-use Rattle.cap_canon.proofs.Kept.{taken_in_place}
 use Rattle.cap_canon.proofs.LaidSteps.{object_laid}
 use Rattle.cap_canon.proofs.Lengths.{size_below}
 use Rattle.cap_canon.proofs.Owing.{Takes, next_of, top_short}
@@ -48,7 +46,7 @@ root_inside m t c d h =
     omega (arith, HasWord-inside m 0 0 p.0 p.1)
 
 -- A walk at the word at p, with a state that fits what is due.
-pub record AtTurn (m : List (List ℕ)) (InPlace : Type 0) (state : List (List ℕ) → Tree → ℕ → List Due → Type 0) (depth : ℕ) (runs : List CopyRun)
+pub record AtTurn (m : List (List ℕ)) (state : List (List ℕ) → Tree → ℕ → List Due → Type 0) (depth : ℕ) (runs : List CopyRun)
     (p : PointerPlace) (end : ℕ) : Type 0 where
   pub root : Tree
   pub charge : ℕ
@@ -57,13 +55,12 @@ pub record AtTurn (m : List (List ℕ)) (InPlace : Type 0) (state : List (List �
   pub due : List Due
   pub next : IsNext m depth p runs end tree due
   pub laid : Laid (layout (trim root)) end (record { slot = p.slot; tree = tree } ∷ due)
-  pub in_place : InPlace → IsInPlace p × AreInPlace runs
   pub so_far : state m (trim root) end (record { slot = p.slot; tree = tree } ∷ due)
 
 -- at the root
-first_turn : (m : List (List ℕ)) (InPlace : Type 0) (state : List (List ℕ) → Tree → ℕ → List Due → Type 0) (depth : ℕ) → IsMessage m → (k : HasTree m depth)
-    → state m (trim k.tree) 1 (record { slot = 0; tree = trim k.tree } ∷ []) → AtTurn m InPlace state depth [] (place 0 0 0) 1
-first_turn m InPlace state depth is k so_far = record {
+first_turn : (m : List (List ℕ)) (state : List (List ℕ) → Tree → ℕ → List Due → Type 0) (depth : ℕ) → IsMessage m → (k : HasTree m depth)
+    → state m (trim k.tree) 1 (record { slot = 0; tree = trim k.tree } ∷ []) → AtTurn m state depth [] (place 0 0 0) 1
+first_turn m state depth is k so_far = record {
   root = k.tree;
   charge = k.charge;
   denotes = k.denotes;
@@ -78,125 +75,120 @@ first_turn m InPlace state depth is k so_far = record {
     small = let e = trimmed_size_charged m 0 0 k.tree k.charge depth k.denotes in omega (arith, e, k.few);
   };
   laid = (layout_laid (layout (trim k.tree)) (trim k.tree) (root_fits m k.tree k.charge depth k.denotes)).0 refl;
-  in_place = λ _. ((refl, refl), tt);
   so_far = so_far;
 }
 
 -- the object there
-this_met : (m : List (List ℕ)) (InPlace : Type 0) (state : List (List ℕ) → Tree → ℕ → List Due → Type 0) (depth : ℕ)
+this_met : (m : List (List ℕ)) (state : List (List ℕ) → Tree → ℕ → List Due → Type 0) (depth : ℕ)
     (runs : List CopyRun) (p : PointerPlace) (end : ℕ)
-    (object : Object) → (k : AtTurn m InPlace state depth runs p end)
+    (object : Object) → (k : AtTurn m state depth runs p end)
     → ((t : Tree) (c d : ℕ) → Denotes m p.segment p.word t c d → IsObject m d p.segment p.word (trim t) object)
     → NextLeadsTo m depth p runs end k.tree k.due object
-this_met m InPlace state depth runs p end object k f =
+this_met m state depth runs p end object k f =
     let o = k.next.owed in
     record { next = k.next; d = o.2; is = subst (λ u. IsObject m o.2 p.segment p.word u object) (sym o.4) (f o.0 o.1 o.2 o.3); levels = o.5 }
 
-this_turn : (m : List (List ℕ)) (InPlace : Type 0) (state : List (List ℕ) → Tree → ℕ → List Due → Type 0)
+this_turn : (m : List (List ℕ)) (state : List (List ℕ) → Tree → ℕ → List Due → Type 0)
     (depth : ℕ) (runs : List CopyRun) (p : PointerPlace) (end : ℕ)
-    (object : Object) → (k : AtTurn m InPlace state depth runs p end) → NextLeadsTo m depth p runs end k.tree k.due object
-    → IsTurn m InPlace (trim k.root) object p end k.tree k.due
-this_turn m InPlace state depth runs p end object k met =
+    (object : Object) → (k : AtTurn m state depth runs p end) → NextLeadsTo m depth p runs end k.tree k.due object
+    → IsTurn m (trim k.root) object p end k.tree k.due
+this_turn m state depth runs p end object k met =
     let fits = owed_fits m depth (length runs) p.segment p.word k.tree k.next.owed in
     let parts = (object_laid (layout (trim k.root)) end p.slot k.tree k.due fits).0 k.laid in
     let i : end + length (content k.tree) ≤ length (layout (trim k.root)) = stand_inside (layout (trim k.root)) end (content k.tree) k.laid.3 in record {
       depth = depth;
       runs = runs;
       meets = met;
-      in_place = λ h. (k.in_place h).0;
       pointed = parts.0;
       own = parts.1;
       inside = omega (arith, i, length-content k.tree fits, size_below end k.tree);
     }
 
 -- what is due after it
-turn_laid : (m : List (List ℕ)) (InPlace : Type 0) (state : List (List ℕ) → Tree → ℕ → List Due → Type 0) (depth : ℕ) (runs : List CopyRun)
+turn_laid : (m : List (List ℕ)) (state : List (List ℕ) → Tree → ℕ → List Due → Type 0) (depth : ℕ) (runs : List CopyRun)
     (p : PointerPlace) (end now : ℕ)
-    → (k : AtTurn m InPlace state depth runs p end) → now ≡ end + own_size k.tree → Laid (layout (trim k.root)) now (below end k.tree ++ k.due)
-turn_laid m InPlace state depth runs p end now k e =
+    → (k : AtTurn m state depth runs p end) → now ≡ end + own_size k.tree → Laid (layout (trim k.root)) now (below end k.tree ++ k.due)
+turn_laid m state depth runs p end now k e =
     let fits = owed_fits m depth (length runs) p.segment p.word k.tree k.next.owed in
     subst (λ n. Laid (layout (trim k.root)) n (below end k.tree ++ k.due)) (sym e)
     ((object_laid (layout (trim k.root)) end p.slot k.tree k.due fits).0 k.laid).2
 
 -- the next word
-next_turn : (m : List (List ℕ)) (InPlace : Type 0) (before state : List (List ℕ) → Tree → ℕ → List Due → Type 0) (depth : ℕ) (runs rest : List CopyRun)
+next_turn : (m : List (List ℕ)) (before state : List (List ℕ) → Tree → ℕ → List Due → Type 0) (depth : ℕ) (runs rest : List CopyRun)
     (p q : PointerPlace) (end now : ℕ)
-    → (k : AtTurn m InPlace before depth runs p end) → now ≡ end + own_size k.tree → Takes m depth q rest now (below end k.tree ++ k.due)
-    → (InPlace → IsInPlace q × AreInPlace rest)
-    → state m (trim k.root) (end + own_size k.tree) (below end k.tree ++ k.due) → AtTurn m InPlace state depth rest q now
-next_turn m InPlace before state depth runs rest p q end now k e taken in_place so_far = record {
+    → (k : AtTurn m before depth runs p end) → now ≡ end + own_size k.tree → Takes m depth q rest now (below end k.tree ++ k.due)
+    → state m (trim k.root) (end + own_size k.tree) (below end k.tree ++ k.due) → AtTurn m state depth rest q now
+next_turn m before state depth runs rest p q end now k e taken so_far = record {
   root = k.root;
   charge = k.charge;
   denotes = k.denotes;
   tree = taken.0;
   due = taken.1;
   next = taken.3;
-  laid = subst (λ due. Laid (layout (trim k.root)) now due) taken.2 (turn_laid m InPlace before depth runs p end now k e);
-  in_place = in_place;
+  laid = subst (λ due. Laid (layout (trim k.root)) now due) taken.2 (turn_laid m before depth runs p end now k e);
   so_far = subst (λ due. state m (trim k.root) now due) taken.2 (subst (λ n. state m (trim k.root) n (below end k.tree ++ k.due)) (sym e) so_far);
 }
 
 -- no word is left
-pub last_turn : (m : List (List ℕ)) (InPlace : Type 0) (before state : List (List ℕ) → Tree → ℕ → List Due → Type 0) (depth : ℕ) (runs : List CopyRun)
+pub last_turn : (m : List (List ℕ)) (before state : List (List ℕ) → Tree → ℕ → List Due → Type 0) (depth : ℕ) (runs : List CopyRun)
     (p : PointerPlace) (end now : ℕ)
-    → (k : AtTurn m InPlace before depth runs p end) → now ≡ end + own_size k.tree → IsWalking m depth [] now (below end k.tree ++ k.due)
+    → (k : AtTurn m before depth runs p end) → now ≡ end + own_size k.tree → IsWalking m depth [] now (below end k.tree ++ k.due)
     → state m (trim k.root) (end + own_size k.tree) (below end k.tree ++ k.due) → (t : Tree) (c d : ℕ) → Denotes m 0 0 t c d
     → (now ≡ length (layout (trim t))) × state m (trim t) now []
-last_turn m InPlace before state depth runs p end now k e w so_far t c d h =
+last_turn m before state depth runs p end now k e w so_far t c d h =
     let same = one_tree m 0 0 k.root t k.charge depth c d k.denotes h in
     let long : now ≡ length (layout (trim k.root)) = subst (λ due. Laid (layout (trim k.root)) now due) w.stacked
-    (turn_laid m InPlace before depth runs p end now k e) in
+    (turn_laid m before depth runs p end now k e) in
     let all : state m (trim k.root) now [] = subst (λ due. state m (trim k.root) now due) w.stacked
     (subst (λ n. state m (trim k.root) n (below end k.tree ++ k.due)) (sym e) so_far) in
     subst (λ u. (now ≡ length (layout (trim u))) × state m (trim u) now []) same.part (long, all)
 
 -- A walk at the first word of a run, with other runs on the stack.
-pub record AtRun (m : List (List ℕ)) (InPlace : Type 0) (state : List (List ℕ) → Tree → ℕ → List Due → Type 0) (depth : ℕ) (runs : List CopyRun)
+pub record AtRun (m : List (List ℕ)) (state : List (List ℕ) → Tree → ℕ → List Due → Type 0) (depth : ℕ) (runs : List CopyRun)
     (run : CopyRun) (end : ℕ) : Type 0 where
   pub full : IsFull run
   pub short : AreShort (places_of run)
-  pub turn : (rest : Option CopyRun) → IsRest run rest → AtTurn m InPlace state depth (runs ++ option_to_list rest) (first_place run) end
+  pub turn : (rest : Option CopyRun) → IsRest run rest → AtTurn m state depth (runs ++ option_to_list rest) (first_place run) end
 
 -- at the root
-pub first_run : (m : List (List ℕ)) (InPlace : Type 0) (state : List (List ℕ) → Tree → ℕ → List Due → Type 0) (depth : ℕ) → IsMessage m → (k : HasTree m depth)
-    → state m (trim k.tree) 1 (record { slot = 0; tree = trim k.tree } ∷ []) → AtRun m InPlace state depth [] root_run 1
-first_run m InPlace state depth is k so_far = record {
+pub first_run : (m : List (List ℕ)) (state : List (List ℕ) → Tree → ℕ → List Due → Type 0) (depth : ℕ) → IsMessage m → (k : HasTree m depth)
+    → state m (trim k.tree) 1 (record { slot = 0; tree = trim k.tree } ∷ []) → AtRun m state depth [] root_run 1
+first_run m state depth is k so_far = record {
   full = record { some = omega arith; each = λ h. absurd (omega (arith, h)) };
   short = ((omega arith, omega arith), tt);
-  turn = λ rest r. subst (λ x. AtTurn m InPlace state depth (option_to_list x) (first_place root_run) 1) (sym (root_rest rest r))
-      (first_turn m InPlace state depth is k so_far);
+  turn = λ rest r. subst (λ x. AtTurn m state depth (option_to_list x) (first_place root_run) 1) (sym (root_rest rest r))
+      (first_turn m state depth is k so_far);
 }
 
 -- The turn there, if this is left of the run after its first word.
-pub record TurnHere (m : List (List ℕ)) (InPlace : Type 0) (state : List (List ℕ) → Tree → ℕ → List Due → Type 0) (depth : ℕ) (runs : List CopyRun)
+pub record TurnHere (m : List (List ℕ)) (state : List (List ℕ) → Tree → ℕ → List Due → Type 0) (depth : ℕ) (runs : List CopyRun)
     (p : PointerPlace) (end : ℕ) (object : Object) : Type 0 where
-  pub at : AtTurn m InPlace state depth runs p end
+  pub at : AtTurn m state depth runs p end
   pub met : NextLeadsTo m depth p runs end at.tree at.due object
-  pub turn : IsTurn m InPlace (trim at.root) object p end at.tree at.due
+  pub turn : IsTurn m (trim at.root) object p end at.tree at.due
 
-pub turn_here : (m : List (List ℕ)) (InPlace : Type 0) (state : List (List ℕ) → Tree → ℕ → List Due → Type 0) (depth : ℕ) (runs : List CopyRun)
-    (run : CopyRun) (end : ℕ) (object : Object) → AtRun m InPlace state depth runs run end → (rest : Option CopyRun) → IsRest run rest
+pub turn_here : (m : List (List ℕ)) (state : List (List ℕ) → Tree → ℕ → List Due → Type 0) (depth : ℕ) (runs : List CopyRun)
+    (run : CopyRun) (end : ℕ) (object : Object) → AtRun m state depth runs run end → (rest : Option CopyRun) → IsRest run rest
     → ((t : Tree) (c d : ℕ) → Denotes m run.segment run.at t c d → IsObject m d run.segment run.at (trim t) object)
-    → TurnHere m InPlace state depth (runs ++ option_to_list rest) (first_place run) end object
-turn_here m InPlace state depth runs run end object k rest is_rest f =
+    → TurnHere m state depth (runs ++ option_to_list rest) (first_place run) end object
+turn_here m state depth runs run end object k rest is_rest f =
     let p = first_place run in
     let all = runs ++ option_to_list rest in
     let at = k.turn rest is_rest in
-    let met = this_met m InPlace state depth all p end object at f in
-    record { at = at; met = met; turn = this_turn m InPlace state depth all p end object at met }
+    let met = this_met m state depth all p end object at f in
+    record { at = at; met = met; turn = this_turn m state depth all p end object at met }
 
 -- The runs after a turn, of which the current one comes last.
-pub next_run : (m : List (List ℕ)) (InPlace : Type 0) (before state : List (List ℕ) → Tree → ℕ → List Due → Type 0) (depth : ℕ) (runs after : List CopyRun)
+pub next_run : (m : List (List ℕ)) (before state : List (List ℕ) → Tree → ℕ → List Due → Type 0) (depth : ℕ) (runs after : List CopyRun)
     (p : PointerPlace) (end now : ℕ) (new : CopyRun)
-    → (k : AtTurn m InPlace before depth runs p end) → now ≡ end + own_size k.tree → IsWalking m depth (after ++ new ∷ []) now (below end k.tree ++ k.due)
-    → (InPlace → AreInPlace (after ++ new ∷ []))
-    → state m (trim k.root) (end + own_size k.tree) (below end k.tree ++ k.due) → AtRun m InPlace state depth after new now
-next_run m InPlace before state depth runs after p end now new k e w in_place so_far =
+    → (k : AtTurn m before depth runs p end) → now ≡ end + own_size k.tree → IsWalking m depth (after ++ new ∷ []) now (below end k.tree ++ k.due)
+    → state m (trim k.root) (end + own_size k.tree) (below end k.tree ++ k.due) → AtRun m state depth after new now
+next_run m before state depth runs after p end now new k e w so_far =
     let t = top_short m depth now after new (below end k.tree ++ k.due) w in record {
       full = t.0;
       short = t.1;
-      turn = λ r is_rest. next_turn m InPlace before state depth runs (after ++ option_to_list r) p (first_place new) end now k e
-          (next_of m depth now after new r (below end k.tree ++ k.due) w is_rest) (λ i. taken_in_place after new r is_rest (in_place i)) so_far;
+      turn = λ r is_rest. next_turn m before state depth runs (after ++ option_to_list r) p (first_place new) end now k e
+          (next_of m depth now after new r (below end k.tree ++ k.due) w is_rest) so_far;
     }
 
 -- what is left of a walk falls at each turn

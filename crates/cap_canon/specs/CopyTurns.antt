@@ -2,7 +2,6 @@
 use Rattle.std.specs.Prelude.{ℕ, ◌+◌, ◌++◌, ◌≤◌, List, ◌∷◌, length}
 use Rattle.cap_spec.specs.Canonical.{layout}
 use Rattle.cap_spec.specs.Tree.{Tree}
-use Rattle.cap_canon.specs.InPlace.{IsInPlace}
 use Rattle.cap_canon.specs.Laying.{Due, IsPointed, OwnAt, below, own_size}
 use Rattle.cap_canon.specs.StillToLay.{NextLeadsTo}
 use Rattle.cap_canon.specs.declared.objects.Object.{Object}
@@ -10,27 +9,19 @@ use Rattle.cap_canon.specs.declared.run.CopyRun.{CopyRun}
 use Rattle.cap_canon.specs.declared.run.PointerPlace.{PointerPlace}
 
 -- The word at p leads to this object. The layout of the whole tree has the object's own words from
--- end on. A walk that passes only what is where a copy has it found the word there.
-pub record IsTurn (m : List (List ℕ)) (InPlace : Type 0) (whole : Tree) (object : Object) (p : PointerPlace) (end : ℕ) (tree : Tree)
+-- end on.
+pub record IsTurn (m : List (List ℕ)) (whole : Tree) (object : Object) (p : PointerPlace) (end : ℕ) (tree : Tree)
     (due : List Due) : Type 0 where
   pub depth : ℕ
   pub runs : List CopyRun
   pub meets : NextLeadsTo m depth p runs end tree due object
-  pub in_place : InPlace → IsInPlace p
   pub pointed : IsPointed (layout whole) end p.slot tree
   pub own : OwnAt (layout whole) end tree
   pub inside : end + own_size tree ≤ length (layout whole)
 
 -- A turn at this object makes the state after it from the one before: its own words are laid, and its pointers are due.
-abbrev pub TurnKeeps : List (List ℕ) → Type 0 → Object → PointerPlace → ℕ → (Tree → ℕ → List Due → Type 0)
+abbrev pub TurnKeeps : List (List ℕ) → Object → PointerPlace → ℕ → (Tree → ℕ → List Due → Type 0)
     → (Tree → ℕ → List Due → Type 0) → Type 0
-TurnKeeps m InPlace object p end before after = (whole tree : Tree) (due : List Due)
-    → IsTurn m InPlace whole object p end tree due → before whole end (record { slot = p.slot; tree = tree } ∷ due)
+TurnKeeps m object p end before after = (whole tree : Tree) (due : List Due)
+    → IsTurn m whole object p end tree due → before whole end (record { slot = p.slot; tree = tree } ∷ due)
     → after whole (end + own_size tree) (below end tree ++ due)
-
--- a turn at this object stops for a reason that holds of the whole tree
-abbrev pub TurnStops : List (List ℕ) → Type 0 → Object → PointerPlace → ℕ → (Tree → ℕ → List Due → Type 0)
-    → (Tree → Type 0) → Type 0
-TurnStops m InPlace object p end before stopped = (whole tree : Tree) (due : List Due)
-    → IsTurn m InPlace whole object p end tree due → before whole end (record { slot = p.slot; tree = tree } ∷ due)
-    → stopped whole

@@ -1,24 +1,23 @@
 -- A message that is compared with its canonical copy while it is vetted (profile).
-use Rattle.std.specs.Prelude.{ℕ, ◌+◌, ◌^◌, ◌<◌, ◌≤◌, ◌≡◌, ◌≢◌, List, [], ◌∷◌, length, None, ⊤}
+use Rattle.std.specs.Prelude.{ℕ, ◌+◌, ◌^◌, ◌<◌, ◌≤◌, ◌≡◌, ◌≢◌, ◌⊎◌, List, [], ◌∷◌, ◌++◌, length, None, ⊤}
 use Rattle.cap_spec.specs.Canonical.{trim}
 use Rattle.cap_spec.specs.Copies.{IsCanonical}
 use Rattle.cap_spec.specs.Denoting.{Denotes, Finds}
 use Rattle.cap_spec.specs.Following.{IsComposite}
+use Rattle.cap_spec.specs.GreatestLimits.{most_words}
 use Rattle.cap_spec.specs.Messages.{HasWord, segment_of}
 use Rattle.cap_spec.specs.Paths.{Costs}
-use Rattle.cap_spec.specs.Pointers.{kind, middle}
+use Rattle.cap_spec.specs.Pointers.{code, data_size, kind, middle, pointer_size}
 use Rattle.cap_spec.specs.Tree.{Tree}
 use Rattle.cap_spec.specs.declared.Step.{Step}
 use Rattle.cap_vet.specs.Looking.{object_children}
 use Rattle.cap_vet.specs.Stricts.{KnowsLax}
 use Rattle.cap_vet.specs.Trails.{Ahead, IsTrail}
 use Rattle.cap_canon.specs.Checked.{IsChecked}
-use Rattle.cap_canon.specs.Laying.{AreBefore, Due, IsPointed, OwnAt, below, own_size}
+use Rattle.cap_canon.specs.Laying.{AreBefore, Due, IsPointed, Laid, OwnAt, below, own_size}
 use Rattle.cap_canon.specs.Objects.{IsLeft}
 use Rattle.cap_canon.specs.Roots.{ForTrimmed}
 use Rattle.cap_canon.specs.StillToLay.{longest_copy}
-use Rattle.cap_canon.specs.declared.in_order.Stop.{Stop}
-use Rattle.cap_canon.specs.declared.in_order.Stop.TheVariants.{NotCanonical, Undecided}
 
 -- The words ahead of a walk are those of the copy that are due, each in its place.
 abbrev pub AreDue : List (List ℕ) → List Ahead → List Due → Type 0
@@ -68,11 +67,16 @@ pub record LeadsToEnd (m : List (List ℕ)) (w word end cost : ℕ) : Type 0 whe
   pub next : w + 1 + middle word ≡ end
   pub costs : Costs m 0 w cost
 
+-- The word isn't that of a struct with words, nor that of a list with bits.
+abbrev pub HasNoWords : ℕ → Type 0
+HasNoWords word = (kind word ≡ 0 → data_size word + pointer_size word ≡ 0) × (kind word ≡ 1 → code word ≡ 0)
+
 -- The pointer word w of segment 0 finds an object, and a copy has that word and the object's own words, from end on up to now.
 pub record IsNextInOrder (m : List (List ℕ)) (w end now : ℕ) : Type 0 where
   pub word : ℕ
   pub has : HasWord m 0 w word
   pub near : kind word ≢ 2
+  pub after : w < end
   pub inside : now ≤ length (segment_of m 0)
   pub k : ℕ
   pub t : ℕ
@@ -83,12 +87,32 @@ pub record IsNextInOrder (m : List (List ℕ)) (w end now : ℕ) : Type 0 where
   pub tagged : IsComposite q → HasWord m t b tag
   pub own : HasOwn m w end now q tag t b
 
--- No copy has the pointer word w of segment 0, and its object's own words from end on, as the message has them.
+-- It is as a copy has it: null, or such an object.
+abbrev pub IsAsInCopy : List (List ℕ) → ℕ → ℕ → ℕ → Type 0
+IsAsInCopy m w end now = (HasWord m 0 w 0 × (now ≡ end)) ⊎ IsNextInOrder m w end now
+
+-- No copy has the pointer word w of segment 0, its object's own words from end on, and after them what is below, as the
+-- message has them.
 abbrev pub NoCopyHas : List (List ℕ) → ℕ → ℕ → Type 0
 NoCopyHas m w end = (x : Tree) (c d : ℕ) → Denotes m 0 w x c d → w < end → end < 2 ^ 29 → IsPointed (segment_of m 0) end w (trim x)
-    → OwnAt (segment_of m 0) end (trim x) → ⊥
+    → OwnAt (segment_of m 0) end (trim x) → (due : List Due) → Laid (segment_of m 0) (end + own_size (trim x)) (below end (trim x) ++ due) → ⊥
 
--- what is known of a message where the walk stops
-abbrev pub IsStop : List (List ℕ) → Stop → Type 0
-IsStop m NotCanonical = ¬ IsCanonical m
-IsStop m Undecided = ⊤
+-- So it is, or the word is that of a capability.
+abbrev pub Differs : List (List ℕ) → ℕ → ℕ → Type 0
+Differs m w end = ((word : ℕ) × HasWord m 0 w word × (kind word ≡ 3)) ⊎ NoCopyHas m w end
+
+-- If a message is accepted within the greatest limits, it isn't canonical.
+abbrev pub IsNotCanonical : List (List ℕ) → Type 0
+IsNotCanonical m = (t : Tree) (c d : ℕ) → Denotes m 0 0 t c d → c ≤ most_words → ¬ IsCanonical m
+
+-- Some object before was not where a copy has it. Common readers reject none of the pointers at these paths.
+pub record HasDiffered (m : List (List ℕ)) (seen : List (List Step)) : Type 0 where
+  pub one : length m ≡ 1
+  pub few : length (segment_of m 0) ≤ longest_copy
+  pub some : 0 < length (segment_of m 0)
+  pub strict : KnowsLax m seen None
+  pub differs : IsNotCanonical m
+
+-- What is known of a message after these paths, where a copy has the next object from `end` on: 0 after a difference.
+abbrev pub IsCompared : List (List ℕ) → ℕ → List (List Step) → Type 0
+IsCompared m end seen = IsInOrder m end seen ⊎ ((end ≡ 0) × HasDiffered m seen)

@@ -1,6 +1,6 @@
 -- A null word is where a copy has it: the law of the turn that compares a message with its copy (profile).
 use Rattle.std.specs.Prelude.{ℕ, ◌+◌, ◌≡◌, List, [], ◌∷◌, None, refl}
-use Rattle.std.proofs.Common.{arith, ◌-◌, ◌<◌, subst, sym, ◌∙◌, ap}
+use Rattle.std.proofs.Common.{arith, ◌-◌, ◌<◌, inl, inr, subst, sym, ◌∙◌, ap}
 use Rattle.cap_spec.specs.Canonical.{trim}
 use Rattle.cap_spec.specs.Denoting.{Denotes}
 use Rattle.cap_spec.specs.Following.{near, to_null}
@@ -14,7 +14,7 @@ use Rattle.cap_vet.specs.StrictNulls.{null_known}
 use Rattle.cap_vet.specs.Trails.{Ahead}
 use Rattle.cap_vet.proofs.OneTrail.{null_trail}
 use Rattle.cap_canon.specs.Checked.{IsChecked}
-use Rattle.cap_canon.specs.InOrder.{AreDue, IsInOrder, IsLaidSoFar}
+use Rattle.cap_canon.specs.InOrder.{AreDue, IsCompared, IsInOrder, IsLaidSoFar}
 use Rattle.cap_canon.specs.Laying.{AreBefore, Due, Laid}
 
 -- a zero word denotes null
@@ -71,3 +71,18 @@ null_in_order m end seen p level s w reached zero k = record {
       let a : Ahead = record { path = p; segment = s; word = w; level = level } in
       null_laid m a ahead end (trim x) zero (k.so_far (a ∷ ahead) (null_trail m seen p level s w ahead trail reached zero) x c d h);
 }
+
+-- and so it is after a difference
+pub null_compared : (m : List (List ℕ)) (end : ℕ) (seen : List (List Step)) (p : List Step) (level s w : ℕ) → Reaches m p level s w
+    → HasWord m s w 0 → IsCompared m end seen → IsCompared m end (p ∷ seen)
+null_compared m end seen p level s w reached zero (inl k) = inl (null_in_order m end seen p level s w reached zero k)
+null_compared m end seen p level s w reached zero (inr (e, k)) = inr (
+  e,
+  record {
+    one = k.one;
+    few = k.few;
+    some = k.some;
+    strict = null_known m seen p level s w None reached zero k.strict;
+    differs = k.differs;
+  },
+)

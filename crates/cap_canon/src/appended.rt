@@ -10,14 +10,14 @@ ghost use Rattle.std.specs.Vec.{vec_capacity};
 use crate::copying::copy_into;
 use crate::objects::read_range;
 use crate::output::CopyOutput;
-use crate::source::CopySource;
 use crate::word_bytes::write_word;
+use cap_frame::Segments;
 use cap_words::bytes_of;
 use std::alloc::{AllocError, Global};
 
 /// The layout of a message of this depth, trimmed, in a new vector with capacity for `most` words.
 /// The layout has no more of them.
-pub(crate) fn copy_within<M: CopySource>(
+pub(crate) fn copy_within<M: Segments>(
     alloc: Global,
     message: &M,
     depth: u32,
@@ -71,9 +71,9 @@ impl CopyOutput for AppendedWords {
         write_word(self.bytes.as_mut_slice(), place as usize, word);
     }
 
-    fn append_from<M: CopySource>(&mut self, message: &M, segment: u32, start: u32, count: u32) {
+    fn append_from<M: Segments>(&mut self, message: &M, segment: u32, start: u32, count: u32) {
         read_range(message, segment, start, count);
-        match message.row(segment, start, count) {
+        match message.bytes_at(segment, start, count) {
             // within the capacity, so that nothing grows
             Some(row) => self.bytes.extend_from_slice(row).unwrap(),
             None => self.append_each(message, segment, start, count),

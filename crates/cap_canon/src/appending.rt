@@ -14,13 +14,13 @@ ghost use Rattle.std.specs.Prelude.{◌+◌, ◌++◌, ◌*◌, ◌<◌, ◌≡�
 
 use crate::objects::{Object, Part};
 use crate::output::CopyOutput;
-use crate::source::CopySource;
 use crate::words::{last_word, tag_word};
+use cap_frame::Segments;
 
 /// Appends the own words of what is left of an object: its data words, values, tag and pointer
 /// words, of which the last hold anything until their turn.
 #[inline(always)]
-pub(crate) fn append_own<M: CopySource, T: CopyOutput>(message: &M, object: &Object, copy: &mut T)
+pub(crate) fn append_own<M: Segments, T: CopyOutput>(message: &M, object: &Object, copy: &mut T)
     requires { let m = M.segments message.now in
         (d s w : ℕ) × (tree : Tree) × IsObject m d s w tree object.now
         × (length (T.words copy.old) + own_size tree ≤ T.capacity copy.old) }
@@ -53,7 +53,7 @@ pub(crate) fn append_own<M: CopySource, T: CopyOutput>(message: &M, object: &Obj
 
 // Appends the tag of a list of `count` structs, and what is left of each.
 #[inline(never)]
-fn append_tagged<M: CopySource, T: CopyOutput>(message: &M, part: &Part, count: u32, copy: &mut T)
+fn append_tagged<M: Segments, T: CopyOutput>(message: &M, part: &Part, count: u32, copy: &mut T)
     requires { let m = M.segments message.now in (d s w : ℕ) × (tree : Tree)
         × IsStructsObject m d s w tree count part.now
         × (length (T.words copy.old) + own_size tree ≤ T.capacity copy.old) }
@@ -71,7 +71,7 @@ fn append_tagged<M: CopySource, T: CopyOutput>(message: &M, part: &Part, count: 
 
 // Appends what is left of one struct.
 #[inline(always)]
-fn append_struct<M: CopySource, T: CopyOutput>(message: &M, part: &Part, copy: &mut T)
+fn append_struct<M: Segments, T: CopyOutput>(message: &M, part: &Part, copy: &mut T)
     requires exists { part.now.segment < length (M.segments message.now) }
     requires inside { part.now.start + part.now.data_words + part.now.pointers
         ≤ length (segment_of (M.segments message.now) part.now.segment) }
@@ -98,7 +98,7 @@ fn append_struct<M: CopySource, T: CopyOutput>(message: &M, part: &Part, copy: &
 
 // Appends words in a row. One word is pushed, since a call that copies rows takes longer.
 #[inline(always)]
-fn append_row<M: CopySource, T: CopyOutput>(
+fn append_row<M: Segments, T: CopyOutput>(
     message: &M,
     segment: u32,
     start: u32,
@@ -128,7 +128,7 @@ fn append_row<M: CopySource, T: CopyOutput>(
 }
 
 // Appends what is left of each of `count` structs in a row.
-fn append_structs<M: CopySource, T: CopyOutput>(message: &M, part: &Part, count: u32, copy: &mut T)
+fn append_structs<M: Segments, T: CopyOutput>(message: &M, part: &Part, count: u32, copy: &mut T)
     requires exists { part.now.segment < length (M.segments message.now) }
     requires inside { part.now.start + count * (part.now.data_words + part.now.pointers)
         ≤ length (segment_of (M.segments message.now) part.now.segment) }
@@ -158,7 +158,7 @@ fn append_structs<M: CopySource, T: CopyOutput>(message: &M, part: &Part, count:
 
 // Appends the words of values, the last one without the bits after the last value.
 #[inline(always)]
-fn append_values<M: CopySource, T: CopyOutput>(
+fn append_values<M: Segments, T: CopyOutput>(
     message: &M,
     segment: u32,
     start: u32,

@@ -9,8 +9,8 @@ ghost use Rattle.std.specs.Prelude.{◌*◌, ◌≡◌, ◌≤◌, Err, IfErr, I
 use crate::fault::RoomFault;
 use crate::length::canonical_len;
 use crate::over::fits_any;
-use crate::source::CopySource;
 use crate::word_bytes::fill_front;
+use cap_frame::Segments;
 use cap_spec::CanonFault;
 use cap_vet::Vetted;
 
@@ -28,7 +28,7 @@ use cap_vet::Vetted;
 ///   the first in preorder.
 /// - [`RoomFault::NoRoom`]: there is a copy, and `out` is shorter. The error says how many bytes
 ///   the copy has.
-pub fn canonical_into<M: CopySource>(v: &Vetted<'_, M>, out: &mut [u8]) -> Result<usize, RoomFault>
+pub fn canonical_into<M: Segments>(v: &Vetted<'_, M>, out: &mut [u8]) -> Result<usize, RoomFault>
     ensures tells { TellsRoom (M.segments (message_of v.now)) out.old result out.new }
     // The message and the buffer allow no other result.
     ensures only { let m = M.segments (message_of v.now) in
@@ -39,7 +39,7 @@ pub fn canonical_into<M: CopySource>(v: &Vetted<'_, M>, out: &mut [u8]) -> Resul
 }
 
 // The same, by the result.
-fn fill_start<M: CopySource>(v: &Vetted<'_, M>, out: &mut [u8]) -> Result<usize, RoomFault>
+fn fill_start<M: Segments>(v: &Vetted<'_, M>, out: &mut [u8]) -> Result<usize, RoomFault>
     ensures { TellsRoom (M.segments (message_of v.now)) out.old result out.new }
 {
     if let Err(fault) = check_room(v, out.len()) {
@@ -50,7 +50,7 @@ fn fill_start<M: CopySource>(v: &Vetted<'_, M>, out: &mut [u8]) -> Result<usize,
 }
 
 // Makes sure that a message has a copy, which fits into `len` bytes.
-fn check_room<M: CopySource>(v: &Vetted<'_, M>, len: usize) -> Result<(), RoomFault>
+fn check_room<M: Segments>(v: &Vetted<'_, M>, len: usize) -> Result<(), RoomFault>
     ensures ok { IfOk result (λ _. (words : List ℕ) × HasCopy (M.segments (message_of v.now)) words
         × (8 * length words ≤ len)) }
     ensures err { let m = M.segments (message_of v.now) in IfErr result (λ fault.

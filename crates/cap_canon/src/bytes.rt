@@ -4,11 +4,10 @@ ghost use Rattle.cap_spec.specs.Copies.{HasCopy};
 ghost use Rattle.cap_spec.specs.Paths.{IsFirstCap};
 ghost use Rattle.cap_spec.specs.Plain.{plain_text, plain_words};
 ghost use Rattle.cap_vet.specs.Vettings.{message_of, report_of};
-ghost use Rattle.std.specs.Prelude.{◌*◌, ◌+◌, ◌≡◌, ◌≤◌, IfOk, IsErrOf, List, MatchResult, length, ℕ};
+ghost use Rattle.std.specs.Prelude.{◌*◌, ◌+◌, ◌≡◌, ◌≤◌, IfOk, IsErrOf, List, MatchResult, length, vec_capacity, ℕ};
 
-use crate::length::canonical_len;
-use crate::source::CopySource;
-use crate::word_bytes::fill;
+use crate::over::fill_over;
+use cap_frame::Segments;
 use cap_spec::CanonFault;
 use cap_vet::Vetted;
 use std::alloc::Global;
@@ -22,14 +21,12 @@ use std::alloc::Global;
 /// - [`CanonFault::HasCapability`]: a capability is reached, so there is no copy. The error names
 ///   the first in preorder.
 /// - [`CanonFault::Memory`]: there is a copy, and the allocation failed.
-pub fn canonical_bytes<M: CopySource>(
-    alloc: Global,
-    v: &Vetted<'_, M>,
-) -> Result<Vec<u8>, CanonFault>
+pub fn canonical_bytes<M: Segments>(alloc: Global, v: &Vetted<'_, M>) -> Result<Vec<u8>, CanonFault>
     ensures ok { let m = M.segments (message_of v.now) in IfOk result (λ bytes.
         let copy = plain_words bytes.items in HasCopy m copy × (bytes.items ≡ plain_text copy)) }
     ensures few { IfOk result (λ bytes.
         length bytes.items ≤ 8 * ((report_of v.now).charge + 1)) }
+    ensures capacity { IfOk result (λ bytes. vec_capacity bytes ≡ length bytes.items) }
     ensures cap { let m = M.segments (message_of v.now) in
         (s w : ℕ) → IsErrOf result (CanonFault.HasCapability s w) → IsFirstCap m s w }
     ensures memory { let m = M.segments (message_of v.now) in
@@ -42,17 +39,9 @@ pub fn canonical_bytes<M: CopySource>(
     ensures first_cap { let m = M.segments (message_of v.now) in
         (s w : ℕ) → IsFirstCap m s w → result ≡ Err (CanonFault.HasCapability s w) }
 {
-    let report = v.report();
-    let words = match canonical_len(v) {
-        Ok(words) => words,
-        Err(fault) => return Err(fault),
-    };
-    let count = 8 * words as usize;
-    let Ok(mut bytes) = Vec::with_capacity(alloc, count) else {
-        return Err(CanonFault::Memory);
-    };
-    // within what was reserved, so that nothing grows
-    bytes.resize(count, 0).unwrap();
-    fill(v.message(), report.depth, bytes.as_mut_slice());
-    Ok(bytes)
+    let mut bytes = Vec::new(alloc);
+    match fill_over(alloc, v, &mut bytes) {
+        Ok(_) => Ok(bytes),
+        Err(fault) => Err(fault),
+    }
 }

@@ -1,8 +1,9 @@
 //! Vetting a message, and whether it is its own canonical copy, in one walk.
 
-ghost use Rattle.cap_canon.specs.InOrder.{IsStop};
+ghost use Rattle.cap_canon.specs.InOrder.{IsNotCanonical};
 ghost use Rattle.cap_spec.specs.Copies.{IsCanonical};
 ghost use Rattle.cap_spec.specs.Faults.{IsRefused};
+ghost use Rattle.cap_spec.specs.GreatestLimits.{most_depth, most_words};
 ghost use Rattle.cap_spec.specs.Strict.{IsStrict};
 ghost use Rattle.cap_spec.specs.declared.Refusal.{Refusal};
 ghost use Rattle.cap_spec.specs.declared.StrictRefusal.{StrictRefusal};
@@ -14,15 +15,37 @@ ghost use Rattle.cap_vet.specs.Turns.{IsStopped};
 ghost use Rattle.cap_vet.specs.Vettings.{message_of, report_of};
 ghost use Rattle.std.specs.Prelude.{Err, ◌↔◌, ◌≡◌, IfErr, IfOk, IsFalse, IsOk, IsTrue};
 
-use crate::checking::is_canonical;
-use crate::in_order::{InOrder, Stop};
+use crate::in_order::{InOrder, NotCanonical};
 use cap_frame::Segments;
 use cap_spec::StrictRefusal;
 use cap_vet::{Demands, Limits, Stopped, Vetted, limits_under, vet_with, vet_with_turn};
 
+/// Whether a message has one segment, and its words are its canonical copy (encoding:
+/// Canonicalization). With a capability it isn't. Takes no memory, and makes no copy.
+pub fn is_canonical<M: Segments>(v: &Vetted<'_, M>) -> bool
+    ensures { IsTrue result ↔ IsCanonical (M.segments (message_of v.now)) }
+{
+    // For the proof alone: what is known of the message.
+    let _report = v.report();
+    match check_in_order(v.message(), greatest()) {
+        Ok((_, canonical)) => canonical,
+        Err(Stopped::Refused(_)) => false,
+        Err(Stopped::ByTurn(NotCanonical)) => false,
+    }
+}
+
+// The limits that each accepted message is within.
+fn greatest() -> Limits
+    ensures { (words_of result ≡ most_words) × (depth_of result ≡ most_depth) }
+{
+    Limits::new(268_435_456, 256).unwrap()
+}
+
 /// Vets a message under demands, as [`vet_with`] does, and returns with an accepted message whether
 /// it is canonical, as [`is_canonical`] says (encoding: Canonicalization). Walks once through a
-/// canonical message. Allocates nothing, and makes no copy.
+/// canonical message. After a difference in the first quarter of the message it walks a second time,
+/// without comparing. After a later one it does so only at a far pointer that common readers may
+/// reject. Allocates nothing, and makes no copy.
 ///
 /// # Errors
 ///
@@ -54,34 +77,31 @@ pub fn check_with<'m, M: Segments>(
         IsFalse demands.strict → IsFalse demands.unamplified → IfErr result (λ fault.
         (r : Refusal) × (fault ≡ Refused r) × IsRefused m (words_of limits) (depth_of limits) r) }
 {
-    let stop = match check_in_order(message, limits_under(message, limits, demands)) {
+    match check_in_order(message, limits_under(message, limits, demands)) {
         Ok(checked) => return Ok(checked),
         Err(Stopped::Refused(refusal)) => return Err(StrictRefusal::Refused(refusal)),
-        Err(Stopped::ByTurn(stop)) => stop,
-    };
+        Err(Stopped::ByTurn(NotCanonical)) => {}
+    }
     match vet_with(message, limits, demands) {
-        Ok(vetted) => match stop {
-            Stop::NotCanonical => Ok((vetted, false)),
-            Stop::Undecided => Ok((vetted, is_canonical(&vetted))),
-        },
+        Ok(vetted) => Ok((vetted, false)),
         Err(refusal) => Err(refusal),
     }
 }
 
-// The same within these limits, of a message that is strict then. The walk stops where it finds that
-// the message isn't canonical, or that this has to be found out in another way.
+// The same within these limits, of a message that is strict then. The walk may stop where it finds
+// that the message isn't canonical.
 #[inline(always)]
 fn check_in_order<'m, M: Segments>(
     message: &'m M,
     limits: Limits,
-) -> Result<(Vetted<'m, M>, bool), Stopped<Stop>>
+) -> Result<(Vetted<'m, M>, bool), Stopped<NotCanonical>>
     ensures ok { let m = M.segments message.now in IfOk result (λ r.
         IsAccepted m (words_of limits) (depth_of limits) (report_of r.0)
         × IsStrict m (words_of limits) (depth_of limits)) }
     ensures message { IfOk result (λ r. message_of r.0 ≡ message.now) }
     ensures canonical { IfOk result (λ r. IsTrue r.1 ↔ IsCanonical (M.segments message.now)) }
     ensures err { let m = M.segments message.now in
-        IfErr result (IsStopped m limits (IsStop m)) }
+        IfErr result (IsStopped m limits (λ _. IsNotCanonical m)) }
 {
     match vet_with_turn::<M, InOrder>(message, limits) {
         Ok((vetted, turn)) => {

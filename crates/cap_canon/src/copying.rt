@@ -18,7 +18,6 @@ use crate::length::canonical_len;
 use crate::objects::Object;
 use crate::output::CopyOutput;
 use crate::run::PointerPlace;
-use crate::source::CopySource;
 use crate::walk::{Pass, walk};
 use crate::words::pointer_word;
 use cap_frame::Segments;
@@ -34,7 +33,7 @@ use std::alloc::Global;
 /// - [`CanonFault::HasCapability`]: a capability is reached, so there is no copy. The error names
 ///   the first in preorder.
 /// - [`CanonFault::Memory`]: there is a copy, and the allocation failed.
-pub fn canonical<M: CopySource>(alloc: Global, v: &Vetted<'_, M>) -> Result<Vec<u64>, CanonFault>
+pub fn canonical<M: Segments>(alloc: Global, v: &Vetted<'_, M>) -> Result<Vec<u64>, CanonFault>
     ensures ok { IfOk result (λ words. HasCopy (M.segments (message_of v.now)) words.items) }
     ensures few { IfOk result (λ words. length words.items ≤ (report_of v.now).charge + 1) }
     ensures capacity { IfOk result (λ words. vec_capacity words ≡ length words.items) }
@@ -79,7 +78,7 @@ pub fn canonical<M: CopySource>(alloc: Global, v: &Vetted<'_, M>) -> Result<Vec<
 }
 
 /// Appends the layout of a message of this depth, trimmed, to an output that is empty.
-pub(crate) fn copy_into<M: CopySource, T: CopyOutput>(message: &M, depth: u32, copy: &mut T)
+pub(crate) fn copy_into<M: Segments, T: CopyOutput>(message: &M, depth: u32, copy: &mut T)
     requires tree { HasTree (M.segments message.now) depth }
     requires capacity { let m = M.segments message.now in
         ForTrimmed m (λ u. length (layout u) ≤ T.capacity copy.old) }
@@ -95,10 +94,7 @@ pub(crate) fn copy_into<M: CopySource, T: CopyOutput>(message: &M, depth: u32, c
         source: message,
         output: copy,
     };
-    match walk(message, depth, &mut copying) {
-        Some(_) => {}
-        None => unreachable!(),
-    }
+    let _words = walk(message, depth, &mut copying);
 }
 
 // A copy so far, and the message that it is made of.
@@ -108,13 +104,9 @@ struct Copying<'c, S, T> {
     output: &'c mut T,
 }
 
-impl<S: CopySource, T: CopyOutput> Pass for Copying<'_, S, T> {
-    ghost in_place = { ⊥ };
-
+impl<S: Segments, T: CopyOutput> Pass for Copying<'_, S, T> {
     ghost state = { λ s m u end due. (S.segments s.source.now ≡ m)
         × IsCopied (T.words s.output.now) (T.capacity s.output.now) u end due };
-
-    ghost stopped = { λ _ _. ⊥ };
 
     ghost kept = { λ s u. record {
       capacity = T.capacity s.output.now;
@@ -124,15 +116,8 @@ impl<S: CopySource, T: CopyOutput> Pass for Copying<'_, S, T> {
     } };
 
     #[inline(always)]
-    fn visit<M: Segments>(
-        &mut self,
-        _message: &M,
-        object: &Object,
-        place: PointerPlace,
-        end: u32,
-    ) -> bool {
+    fn visit<M: Segments>(&mut self, _message: &M, object: &Object, place: PointerPlace, end: u32) {
         lay(self.source, object, place.slot, end, self.output);
-        true
     }
 }
 
@@ -140,13 +125,7 @@ impl<S: CopySource, T: CopyOutput> Pass for Copying<'_, S, T> {
 // where the copy ends so far.
 // It is inlined, and so is what it calls at nearly every word: the object then stays in registers.
 #[inline(always)]
-fn lay<M: CopySource, T: CopyOutput>(
-    message: &M,
-    object: &Object,
-    slot: u32,
-    end: u32,
-    copy: &mut T,
-)
+fn lay<M: Segments, T: CopyOutput>(message: &M, object: &Object, slot: u32, end: u32, copy: &mut T)
     requires ends { (length (T.words copy.old) ≡ end) × (slot < end) × (end < 2 ^ 29) }
     requires is { let m = M.segments message.now in
         (d s w : ℕ) × (tree : Tree) × IsObject m d s w tree object.now

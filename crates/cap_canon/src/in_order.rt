@@ -1,15 +1,15 @@
 //! Comparing a message with its canonical copy while it is vetted.
 
-ghost use Rattle.cap_canon.specs.InOrder.{IsInOrder, IsNextInOrder, IsStop, LeadsToEnd, NoCopyHas};
-ghost use Rattle.cap_canon.specs.NullsInOrder.{null_in_order};
+ghost use Rattle.cap_canon.specs.InOrder.{Differs, IsAsInCopy, IsCompared, IsNotCanonical, LeadsToEnd, HasNoWords};
+ghost use Rattle.cap_canon.specs.NullsInOrder.{null_compared};
 ghost use Rattle.cap_canon.specs.StillToLay.{longest_copy};
-ghost use Rattle.cap_spec.specs.Messages.{segment_of};
+ghost use Rattle.cap_spec.specs.Messages.{HasWord, segment_of};
 ghost use Rattle.cap_spec.specs.Paths.{Costs};
-ghost use Rattle.cap_spec.specs.Pointers.{kind};
-ghost use Rattle.std.specs.Prelude.{◌<◌, ◌≡◌, ◌≤◌, IfErr, IfOk, length};
+ghost use Rattle.cap_spec.specs.Pointers.{code, kind, middle};
+ghost use Rattle.std.specs.Prelude.{◌+◌, ◌<◌, ◌≡◌, ◌≢◌, ◌≤◌, ◌↔◌, IfNone, IfSome, IsTrue, length, ℕ};
 
-use crate::checking::ends_with_values;
 use crate::in_order_lists::structs_end;
+use crate::values::ends_with_values;
 use crate::wholeness::needs_all;
 use cap_frame::Segments;
 use cap_ptr::{code, data_size, kind, list_size, middle, pointer_size};
@@ -22,29 +22,24 @@ const LONGEST_COPY: u32 = 268435457;
 /// The pointer word of a struct without words.
 const NO_WORDS: u64 = 0xffff_fffc;
 
-/// Why a walk stops that compares a message with its copy.
+/// Why a walk stops that compares a message with its copy: the message isn't canonical.
 #[derive(Clone, Copy, Drop)]
-pub(crate) enum Stop {
-    /// The message isn't canonical.
-    NotCanonical,
-    /// It has to be found out in another way.
-    Undecided,
-}
+pub(crate) struct NotCanonical;
 
-/// A walk through a message of one segment that stops at the first object that isn't as a copy has
-/// it.
+/// A walk through a message of one segment that compares each object with the one that a copy has.
+/// After one that no copy has as it is, the walk stops or goes on without comparing.
 #[derive(Drop)]
 pub(crate) struct InOrder {
-    // Where a copy has the next object.
+    // Where a copy has the next object, or 0 after a difference.
     pub(crate) end: u32,
 }
 
 impl Turn for InOrder {
-    type Stop = Stop;
+    type Stop = NotCanonical;
 
-    ghost knows = { λ turn m seen. IsInOrder m turn.end seen };
+    ghost knows = { λ turn m seen. IsCompared m turn.end seen };
 
-    ghost stops = { IsStop };
+    ghost stops = { λ m _. IsNotCanonical m };
 
     #[inline(always)]
     fn before<M: Segments>(&self, _message: &M, _s: u32, _w: u32) -> Option<Place> {
@@ -58,46 +53,74 @@ impl Turn for InOrder {
         s: u32,
         w: u32,
         _used: Option<Place>,
-        _may_be_lax: bool,
+        may_be_lax: bool,
         _pointers: u64,
         cost: u64,
-    ) -> Result<(), Stop> {
+    ) -> Result<(), NotCanonical> {
         match next_end(message, s, w, cost, self.end) {
-            Ok(end) => {
+            Some(end) => {
                 self.end = end;
                 Ok(())
             }
-            Err(stop) => Err(stop),
+            None => {
+                if !goes_on(message, s, w, may_be_lax, self.end) {
+                    return Err(NotCanonical);
+                }
+                self.end = 0;
+                Ok(())
+            }
         }
     }
 
     ghost passes = { λ turn m seen p level s w reached zero known.
-        null_in_order m turn.end seen p level s w reached zero known };
+        null_compared m turn.end seen p level s w reached zero known };
 }
 
 impl FirstTurn for InOrder {
     #[inline(always)]
-    fn begin<M: Segments>(message: &M) -> Result<InOrder, Stop> {
+    fn begin<M: Segments>(message: &M) -> Result<InOrder, NotCanonical> {
+        if message.count() != 1 {
+            return Err(NotCanonical);
+        }
         let words = message.len(0);
-        if message.count() != 1 || words == 0 || words > LONGEST_COPY {
-            return Err(Stop::Undecided);
+        if words == 0 {
+            return Err(NotCanonical);
+        }
+        if words > LONGEST_COPY {
+            return Err(NotCanonical);
         }
         Ok(InOrder { end: 1 })
     }
 }
 
+// Whether the walk goes on after a difference. A second walk costs less only if the first has come
+// no further than a quarter of the message. A far pointer may have a form that common readers
+// reject, and this walk doesn't look for one.
+#[cold]
+#[inline(never)]
+fn goes_on<M: Segments>(message: &M, s: u32, w: u32, may_be_lax: bool, end: u32) -> bool
+    requires exists { s < length (M.segments message.now) }
+    requires inside { w < length (segment_of (M.segments message.now) s) }
+    ensures { IsTrue result → IsTrue may_be_lax →
+        (word : ℕ) × HasWord (M.segments message.now) s w word × (kind word ≢ 2) }
+{
+    if end != 0 && end < message.len(s) / 4 {
+        return false;
+    }
+    !may_be_lax || kind(message.word(s, w)) != 2
+}
+
 // Where a copy has the next object, if it has pointer word `w` of segment 0 and its object's own
 // words as they are here, these from `end` on. Following that word costs `cost` words.
 #[inline(always)]
-fn next_end<M: Segments>(message: &M, s: u32, w: u32, cost: u64, end: u32) -> Result<u32, Stop>
+fn next_end<M: Segments>(message: &M, s: u32, w: u32, cost: u64, end: u32) -> Option<u32>
     requires first { s ≡ 0 }
     requires inside { w < length (segment_of (M.segments message.now) 0) }
     requires costs { Costs (M.segments message.now) 0 w cost }
     requires end { let m = M.segments message.now in
         (end ≤ length (segment_of m 0)) × (length (segment_of m 0) ≤ longest_copy) }
-    ensures ok { IfOk result (IsNextInOrder (M.segments message.now) w end) }
-    ensures err { IfErr result (λ stop. stop ≡ Stop.NotCanonical →
-        NoCopyHas (M.segments message.now) w end) }
+    ensures some { IfSome result (IsAsInCopy (M.segments message.now) w end) }
+    ensures none { IfNone result (Differs (M.segments message.now) w end) }
 {
     // Of segment `s`, as the walk reads it: so the compiler reads the word once.
     let word = message.word(s, w);
@@ -120,45 +143,36 @@ fn struct_end<M: Segments>(
     word: u64,
     cost: u64,
     end: u32,
-) -> Result<u32, Stop>
+) -> Option<u32>
     requires first { s ≡ 0 }
     requires leads { LeadsToEnd (M.segments message.now) w word end cost }
     requires kind { kind word ≡ 0 }
-    ensures ok { IfOk result (IsNextInOrder (M.segments message.now) w end) }
-    ensures err { IfErr result (λ stop. stop ≡ Stop.NotCanonical →
-        NoCopyHas (M.segments message.now) w end) }
+    ensures some { IfSome result (IsAsInCopy (M.segments message.now) w end) }
+    ensures none { IfNone result (Differs (M.segments message.now) w end) }
 {
     if cost == 0 {
-        return Err(Stop::Undecided);
+        return other_end(message, w, end);
     }
     let (data_words, pointers) = (u32::from(data_size(word)), u32::from(pointer_size(word)));
-    match needs_all(message, s, end, data_words, pointers) {
-        Ok(()) => Ok(end + cost as u32),
-        Err(stop) => Err(stop),
+    if !needs_all(message, s, end, data_words, pointers) {
+        return None;
     }
+    Some(end + cost as u32)
 }
 
 // The same of the word of a list. A list of pointers or of values with bits takes what the word
 // costs.
 #[inline(always)]
-fn list_end<M: Segments>(
-    message: &M,
-    s: u32,
-    w: u32,
-    word: u64,
-    cost: u64,
-    end: u32,
-) -> Result<u32, Stop>
+fn list_end<M: Segments>(message: &M, s: u32, w: u32, word: u64, cost: u64, end: u32) -> Option<u32>
     requires first { s ≡ 0 }
     requires leads { LeadsToEnd (M.segments message.now) w word end cost }
     requires kind { kind word ≡ 1 }
-    ensures ok { IfOk result (IsNextInOrder (M.segments message.now) w end) }
-    ensures err { IfErr result (λ stop. stop ≡ Stop.NotCanonical →
-        NoCopyHas (M.segments message.now) w end) }
+    ensures some { IfSome result (IsAsInCopy (M.segments message.now) w end) }
+    ensures none { IfNone result (Differs (M.segments message.now) w end) }
 {
     let code = code(word);
     if code == 6 {
-        return Ok(end + cost as u32);
+        return Some(end + cost as u32);
     }
     if code == 7 {
         return structs_end(message, s, w, word, end);
@@ -167,38 +181,47 @@ fn list_end<M: Segments>(
         return other_end(message, w, end);
     }
     if ends_with_values(message, end, code, list_size(word), cost as u32) {
-        return Ok(end + cost as u32);
+        return Some(end + cost as u32);
     }
-    Err(Stop::NotCanonical)
+    None
 }
 
-// The same of any other word. A copy has it if it is that of a struct without words, or of a list
-// without bits that leads to the end.
+// The same of any other word. A copy has it if it is null, that of a struct without words, or that
+// of a list without bits that leads to the end.
 #[inline(never)]
-fn other_end<M: Segments>(message: &M, w: u32, end: u32) -> Result<u32, Stop>
+fn other_end<M: Segments>(message: &M, w: u32, end: u32) -> Option<u32>
     requires inside { w < length (segment_of (M.segments message.now) 0) }
     requires end { let m = M.segments message.now in
         (end ≤ length (segment_of m 0)) × (length (segment_of m 0) ≤ longest_copy) }
-    ensures ok { IfOk result (IsNextInOrder (M.segments message.now) w end) }
-    ensures err { IfErr result (λ stop. stop ≡ Stop.NotCanonical →
-        NoCopyHas (M.segments message.now) w end) }
+    // No other word of a struct, and none of another list, leads to the end.
+    requires other { (word : ℕ) → HasWord (M.segments message.now) 0 w word →
+        w + 1 + middle word ≡ end → HasNoWords word }
+    ensures some { IfSome result (IsAsInCopy (M.segments message.now) w end) }
+    ensures none { IfNone result (Differs (M.segments message.now) w end) }
 {
     let word = message.word(0, w);
-    let kind = kind(word);
-    if w >= end || word == 0 || kind == 3 {
-        return Err(Stop::Undecided);
+    if word == 0 {
+        return Some(end);
+    }
+    if w >= end {
+        return None;
     }
     if word == NO_WORDS {
-        return Ok(end);
+        return Some(end);
     }
-    if kind == 2 {
-        return Err(Stop::NotCanonical);
+    if is_empty_list(word, w, end) {
+        return Some(end);
     }
-    if u64::from(end) != u64::from(w) + 1 + u64::from(middle(word)) {
-        return Err(Stop::NotCanonical);
-    }
-    if kind == 1 && code(word) == 0 {
-        return Ok(end);
-    }
-    Err(Stop::Undecided)
+    None
+}
+
+// Whether the word is that of a list without bits that leads to the end.
+#[inline(always)]
+fn is_empty_list(word: u64, w: u32, end: u32) -> bool
+    ensures { IsTrue result
+        ↔ (kind word ≡ 1) × (code word ≡ 0) × (w + 1 + middle word ≡ end) }
+{
+    kind(word) == 1
+        && code(word) == 0
+        && u64::from(w) + 1 + u64::from(middle(word)) == u64::from(end)
 }

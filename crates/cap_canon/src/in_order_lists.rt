@@ -1,10 +1,9 @@
 //! Comparing a list of structs with a canonical copy while its message is vetted.
 
-ghost use Rattle.cap_canon.specs.InOrder.{IsNextInOrder, LeadsToEnd, NoCopyHas};
+ghost use Rattle.cap_canon.specs.InOrder.{Differs, IsAsInCopy, LeadsToEnd};
 ghost use Rattle.cap_spec.specs.Pointers.{code, kind};
-ghost use Rattle.std.specs.Prelude.{◌≡◌, IfErr, IfOk, ℕ};
+ghost use Rattle.std.specs.Prelude.{◌≡◌, IfNone, IfSome, ℕ};
 
-use crate::in_order::Stop;
 use crate::wholeness::list_needs_all;
 use cap_frame::Segments;
 use cap_ptr::{data_size, list_size, middle, pointer_size};
@@ -20,22 +19,21 @@ pub(crate) fn structs_end<M: Segments>(
     w: u32,
     word: u64,
     end: u32,
-) -> Result<u32, Stop>
+) -> Option<u32>
     requires first { s ≡ 0 }
     requires leads { (cost : ℕ) × LeadsToEnd (M.segments message.now) w word end cost }
     requires list { (kind word ≡ 1) × (code word ≡ 7) }
-    ensures ok { IfOk result (IsNextInOrder (M.segments message.now) w end) }
-    ensures err { IfErr result (λ stop. stop ≡ Stop.NotCanonical →
-        NoCopyHas (M.segments message.now) w end) }
+    ensures some { IfSome result (IsAsInCopy (M.segments message.now) w end) }
+    ensures none { IfNone result (Differs (M.segments message.now) w end) }
 {
     let tag = message.word(s, end);
     let (count, size) = (middle(tag), list_size(word));
     let (data_words, pointers) = (u32::from(data_size(tag)), u32::from(pointer_size(tag)));
     if u64::from(count) * u64::from(data_words + pointers) != u64::from(size) {
-        return Err(Stop::Undecided);
+        return None;
     }
-    match list_needs_all(message, s, end + 1, count, data_words, pointers) {
-        Ok(()) => Ok(end + 1 + size),
-        Err(stop) => Err(stop),
+    if !list_needs_all(message, s, end + 1, count, data_words, pointers) {
+        return None;
     }
+    Some(end + 1 + size)
 }

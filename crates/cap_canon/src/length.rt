@@ -46,10 +46,7 @@ fn length_of<M: Segments>(message: &M, depth: u32) -> u32
     requires { HasTree (M.segments message.now) depth }
     ensures { ForTrimmed (M.segments message.now) (λ u. result ≡ length (layout u)) }
 {
-    match walk(message, depth, &mut Counting) {
-        Some(end) => end,
-        None => unreachable!(),
-    }
+    walk(message, depth, &mut Counting)
 }
 
 // The walk counts by itself.
@@ -57,11 +54,7 @@ fn length_of<M: Segments>(message: &M, depth: u32) -> u32
 struct Counting;
 
 impl Pass for Counting {
-    ghost in_place = { ⊥ };
-
     ghost state = { λ _ _ _ _ _. ⊤ };
-
-    ghost stopped = { λ _ _. ⊥ };
 
     ghost kept = { λ _ _. record { capacity = 0; borrow = 0; name = 0; after = [] } };
 
@@ -72,7 +65,5 @@ impl Pass for Counting {
         _object: &Object,
         _place: PointerPlace,
         _end: u32,
-    ) -> bool {
-        true
-    }
+    ) {}
 }

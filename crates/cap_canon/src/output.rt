@@ -7,7 +7,7 @@ ghost use Rattle.std.specs.List.{AllByRecursion};
 ghost use Rattle.std.specs.Prelude.{◌+◌, ◌++◌, ◌<◌, ◌≡◌, ◌≤◌, [], ◌∷◌, List, length, slice_set, ℕ};
 ghost use Rattle.std.specs.Vec.{vec_capacity};
 
-use crate::source::CopySource;
+use cap_frame::Segments;
 
 /// Words with capacity for more of them.
 pub(crate) trait CopyOutput {
@@ -42,7 +42,7 @@ pub(crate) trait CopyOutput {
             after self.new n ≡ after self.old n };
 
     /// Appends words of a segment.
-    fn append_from<M: CopySource>(&mut self, message: &M, segment: u32, start: u32, count: u32)
+    fn append_from<M: Segments>(&mut self, message: &M, segment: u32, start: u32, count: u32)
         requires exists { segment < length (M.segments message.now) }
         requires inside { start + count ≤ length (segment_of (M.segments message.now) segment) }
         requires capacity { length (words self.old) + count ≤ capacity self.old }
@@ -59,7 +59,7 @@ pub(crate) trait CopyOutput {
     }
 
     /// The same, word by word.
-    fn append_each<M: CopySource>(&mut self, message: &M, segment: u32, start: u32, count: u32)
+    fn append_each<M: Segments>(&mut self, message: &M, segment: u32, start: u32, count: u32)
         requires exists { segment < length (M.segments message.now) }
         requires inside { start + count ≤ length (segment_of (M.segments message.now) segment) }
         requires capacity { length (words self.old) + count ≤ capacity self.old }

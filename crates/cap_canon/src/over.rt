@@ -5,12 +5,12 @@ ghost use Rattle.cap_spec.specs.Copies.{HasCopy};
 ghost use Rattle.cap_spec.specs.GreatestLimits.{most_words};
 ghost use Rattle.cap_spec.specs.Plain.{plain_words};
 ghost use Rattle.cap_vet.specs.Vettings.{message_of, report_of};
-ghost use Rattle.std.specs.Prelude.{◌*◌, ◌+◌, ◌≡◌, ◌≤◌, ◌↔◌, [], IfErr, IfOk, IsTrue, None, length, take};
+ghost use Rattle.std.specs.Prelude.{◌*◌, ◌+◌, ◌<◌, ◌≡◌, ◌≤◌, ◌↔◌, [], IfErr, IfOk, IsTrue, None, length, take, vec_capacity};
 
 use crate::appended::copy_within;
 use crate::length::canonical_len;
-use crate::source::CopySource;
 use crate::word_bytes::fill_front;
+use cap_frame::Segments;
 use cap_spec::CanonFault;
 use cap_vet::{Report, Vetted};
 use std::alloc::{AllocError, Global};
@@ -29,7 +29,7 @@ use std::alloc::{AllocError, Global};
 /// - [`CanonFault::HasCapability`]: a capability is reached, so there is no copy. The error names
 ///   the first in preorder. The buffer is as it was.
 /// - [`CanonFault::Memory`]: there is a copy, and the allocation failed. The buffer is empty.
-pub fn canonical_over<M: CopySource>(
+pub fn canonical_over<M: Segments>(
     alloc: Global,
     v: &Vetted<'_, M>,
     buffer: &mut Vec<u8>,
@@ -41,6 +41,12 @@ pub fn canonical_over<M: CopySource>(
         HasCopy m (plain_words (take count buffer.new.items))) }
     ensures within { IfOk result (λ count. count ≤ length buffer.new.items) }
     ensures few { IfOk result (λ count. count ≤ 8 * ((report_of v.now).charge + 1)) }
+    // Nothing was allocated for a copy that fits, and for a longer one its length. Of the capacity
+    // of an empty buffer nothing is said.
+    ensures kept { IfOk result (λ count. count ≤ length buffer.old.items →
+        vec_capacity buffer.new ≡ vec_capacity buffer.old) }
+    ensures exact { IfOk result (λ count. 0 < length buffer.old.items →
+        length buffer.old.items < count → vec_capacity buffer.new ≡ count) }
 {
     if buffer.is_empty() && fits_segment(v) {
         return fill_empty(alloc, v, buffer);
@@ -49,7 +55,7 @@ pub fn canonical_over<M: CopySource>(
 }
 
 // Whether a message has a copy, which needs no more words than its first segment has.
-fn fits_segment<M: CopySource>(v: &Vetted<'_, M>) -> bool
+fn fits_segment<M: Segments>(v: &Vetted<'_, M>) -> bool
     ensures { IsTrue result → (report_of v.now).first_cap ≡ None }
 {
     let report = v.report();
@@ -57,7 +63,7 @@ fn fits_segment<M: CopySource>(v: &Vetted<'_, M>) -> bool
 }
 
 // The same over an empty buffer, which gets capacity for every copy of a message with this charge.
-fn fill_empty<M: CopySource>(
+fn fill_empty<M: Segments>(
     alloc: Global,
     v: &Vetted<'_, M>,
     buffer: &mut Vec<u8>,
@@ -70,6 +76,7 @@ fn fill_empty<M: CopySource>(
         HasCopy m (plain_words (take count buffer.new.items))) }
     ensures within { IfOk result (λ count. count ≤ length buffer.new.items) }
     ensures few { IfOk result (λ count. count ≤ 8 * ((report_of v.now).charge + 1)) }
+    ensures some { IfOk result (λ count. 0 < count) }
 {
     let report = v.report();
     let most = report.charge as usize + 1;
@@ -80,8 +87,8 @@ fn fill_empty<M: CopySource>(
     Ok(buffer.len())
 }
 
-// The same over any buffer.
-fn fill_over<M: CopySource>(
+/// The same over any buffer. A buffer that is too short is replaced by one of the length of the copy.
+pub(crate) fn fill_over<M: Segments>(
     alloc: Global,
     v: &Vetted<'_, M>,
     buffer: &mut Vec<u8>,
@@ -92,6 +99,10 @@ fn fill_over<M: CopySource>(
         HasCopy m (plain_words (take count buffer.new.items))) }
     ensures within { IfOk result (λ count. count ≤ length buffer.new.items) }
     ensures few { IfOk result (λ count. count ≤ 8 * ((report_of v.now).charge + 1)) }
+    ensures kept { IfOk result (λ count. count ≤ length buffer.old.items →
+        vec_capacity buffer.new ≡ vec_capacity buffer.old) }
+    ensures exact { IfOk result (λ count. length buffer.old.items < count →
+        vec_capacity buffer.new ≡ count) }
 {
     if let Err(fault) = make_enough(alloc, v, buffer) {
         return Err(fault);
@@ -101,13 +112,17 @@ fn fill_over<M: CopySource>(
 }
 
 // Makes sure that a buffer has as many bytes as the copy.
-fn make_enough<M: CopySource>(
+fn make_enough<M: Segments>(
     alloc: Global,
     v: &Vetted<'_, M>,
     buffer: &mut Vec<u8>,
 ) -> Result<(), CanonFault>
-    ensures { let m = M.segments (message_of v.now) in
+    ensures makes { let m = M.segments (message_of v.now) in
         MakesEnough m buffer.old.items result buffer.new.items }
+    ensures kept { IfOk result (λ _. length buffer.new.items ≡ length buffer.old.items →
+        vec_capacity buffer.new ≡ vec_capacity buffer.old) }
+    ensures exact { IfOk result (λ _. length buffer.old.items < length buffer.new.items →
+        vec_capacity buffer.new ≡ length buffer.new.items) }
 {
     if fits_any(&v.report(), buffer.len()) {
         return Ok(());
@@ -138,11 +153,23 @@ pub(crate) fn fits_any(report: &Report, len: usize) -> bool
 // Frees a buffer, and makes one of `count` zeros in its place.
 fn replace_zeros(alloc: Global, buffer: &mut Vec<u8>, count: usize) -> Result<(), AllocError>
     ensures ok { IfOk result (λ _. length buffer.new.items ≡ count) }
+    ensures exact { IfOk result (λ _. vec_capacity buffer.new ≡ count) }
     ensures err { IfErr result (λ _. buffer.new.items ≡ []) }
 {
     *buffer = Vec::new(alloc);
-    *buffer = Vec::with_capacity(alloc, count)?;
-    // within what was reserved, so that nothing grows
-    buffer.resize(count, 0).unwrap();
+    *buffer = zeros(alloc, count)?;
     Ok(())
+}
+
+// A vector of `count` zeros. Each is pushed by itself, because std says of `resize` only that the
+// capacity doesn't shrink. The compiler makes one fill of the loop.
+fn zeros(alloc: Global, count: usize) -> Result<Vec<u8>, AllocError>
+    ensures len { IfOk result (λ bytes. length bytes.items ≡ count) }
+    ensures exact { IfOk result (λ bytes. vec_capacity bytes ≡ count) }
+{
+    let mut bytes = Vec::with_capacity(alloc, count)?;
+    'zeros: for _ in 0..count {
+        bytes.push_reserved(0);
+    }
+    Ok(bytes)
 }

@@ -1,13 +1,11 @@
 //! The pointer words that a walk still has to look at.
 
 ghost use Rattle.cap_canon.specs.CopyRuns.{AreShort, IsFull, OptionFull, option_places, places_of, row_places, run_kept};
-ghost use Rattle.cap_canon.specs.InPlace.{IsInPlace, StandsIn};
 ghost use Rattle.cap_canon.specs.Laying.{below, own_size};
 ghost use Rattle.cap_canon.specs.Objects.{IsObject, IsStructsObject};
 ghost use Rattle.cap_canon.specs.StillToLay.{AreOwed, Continues, longest_copy};
 ghost use Rattle.cap_spec.specs.Messages.{IsMessage};
 ghost use Rattle.cap_spec.specs.Tree.{Tree};
-ghost use Rattle.std.specs.List.{AllByRecursion};
 ghost use Rattle.std.specs.Option.{option_to_list};
 ghost use Rattle.std.specs.Prelude.{◌+◌, ◌++◌, ◌≡◌, ◌≤◌, ◌<◌, IfSome, List, length, ℕ};
 
@@ -78,7 +76,6 @@ pub(crate) fn run_of(object: &Object, end: u32) -> Option<CopyRun>
         → IsObject m d s w tree object.now → d + n ≤ depth
         → AreOwed m depth (n + 1) (option_places result) (below end tree) }
     ensures full { OptionFull result }
-    ensures in_place { StandsIn end object.now → AllByRecursion IsInPlace (option_places result) }
 {
     match *object {
         Object::Struct(part) => row_run(
@@ -108,8 +105,6 @@ fn structs_run(part: &Part, count: u32, end: u32) -> Option<CopyRun>
         → IsStructsObject m d s w tree count part.now → d + n ≤ depth
         → AreOwed m depth n (option_places result) (below end tree) }
     ensures full { OptionFull result }
-    ensures in_place { StandsIn end (Object.Structs count part.now)
-        → AllByRecursion IsInPlace (option_places result) }
 {
     if count == 0 || part.pointers_left == 0 {
         return None;

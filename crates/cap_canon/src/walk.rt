@@ -1,14 +1,13 @@
 //! The walk over an accepted message, in preorder: one pointer word a turn.
 
 ghost use Rattle.cap_canon.specs.CopyRuns.{root_run};
-ghost use Rattle.cap_canon.specs.CopyTurns.{IsTurn, TurnKeeps, TurnStops};
-ghost use Rattle.cap_canon.specs.InPlace.{StandsIn};
+ghost use Rattle.cap_canon.specs.CopyTurns.{IsTurn, TurnKeeps};
 ghost use Rattle.cap_canon.specs.Kept.{Kept};
 ghost use Rattle.cap_canon.specs.Laying.{Due};
 ghost use Rattle.cap_canon.specs.Roots.{ForTrimmed, HasTree};
 ghost use Rattle.cap_spec.specs.Canonical.{layout};
 ghost use Rattle.cap_spec.specs.Tree.{Tree};
-ghost use Rattle.std.specs.Prelude.{◌≡◌, ◌≤◌, [], ◌∷◌, IfNone, IfSome, IsTrue, List, false, length, ℕ};
+ghost use Rattle.std.specs.Prelude.{◌≡◌, ◌≤◌, [], ◌∷◌, List, length, ℕ};
 
 use crate::objects::{Object, object_at};
 use crate::run::{CopyRun, PointerPlace};
@@ -17,51 +16,35 @@ use cap_frame::Segments;
 
 /// What a walk does at each object.
 pub(crate) trait Pass {
-    // A pass with this fact stops at each object that isn't where a copy has it.
-    ghost in_place: { Type 0 };
-
     // Holds between two turns: of the message and the trimmed tree of its root, of the word of the
     // copy that the contents go on from, and of the pointer words that are due.
     ghost state: { Self → List (List ℕ) → Tree → ℕ → List Due → Type 0 };
-
-    // Holds of a message and that tree if the pass stopped.
-    ghost stopped: { List (List ℕ) → Tree → Type 0 };
 
     // What no turn in a walk over this trimmed tree changes.
     ghost kept: { Self → Tree → Kept };
 
     /// Takes a turn: the pointer word at `place` leads to `object`, and a copy has the words of the
-    /// object itself from `end` on. Returns whether the walk goes on.
-    fn visit<M: Segments>(
-        &mut self,
-        message: &M,
-        object: &Object,
-        place: PointerPlace,
-        end: u32,
-    ) -> bool
+    /// object itself from `end` on.
+    fn visit<M: Segments>(&mut self, message: &M, object: &Object, place: PointerPlace, end: u32)
         requires { let m = M.segments message.now in (whole tree : Tree) × (due : List Due)
-            × IsTurn m in_place whole object.now place end tree due
+            × IsTurn m whole object.now place end tree due
             × state self.old m whole end (record { slot = place.slot; tree = tree } ∷ due) }
-        ensures goes_on { let m = M.segments message.now in IsTrue result
-            → TurnKeeps m in_place object.now place end (state self.old m) (state self.new m) }
-        ensures in_place { IsTrue result → in_place → StandsIn end object.now }
-        ensures stops { let m = M.segments message.now in result ≡ false
-            → TurnStops m in_place object.now place end (state self.old m) (stopped m) }
+        ensures goes_on { let m = M.segments message.now in
+            TurnKeeps m object.now place end (state self.old m) (state self.new m) }
         ensures kept { let m = M.segments message.now in (u t : Tree) (due : List Due) →
-            IsTurn m in_place u object.now place end t due →
+            IsTurn m u object.now place end t due →
             state self.old m u end (record { slot = place.slot; tree = t } ∷ due) →
             kept self.new u ≡ kept self.old u };
 }
 
-/// Walks a message of this depth. Returns how many words its canonical copy has, or `None` if the
-/// pass stopped. Each message initializes its runs, so a walk that can't be deep has few of them.
-pub(crate) fn walk<M: Segments, P: Pass>(message: &M, depth: u32, pass: &mut P) -> Option<u32>
+/// Walks a message of this depth. Returns how many words its canonical copy has. Each message
+/// initializes its runs, so a walk that can't be deep has few of them.
+pub(crate) fn walk<M: Segments, P: Pass>(message: &M, depth: u32, pass: &mut P) -> u32
     requires tree { HasTree (M.segments message.now) depth }
     requires start { let m = M.segments message.now in
         ForTrimmed m (λ u. P.state pass.old m u 1 (record { slot = 0; tree = u } ∷ [])) }
-    ensures done { let m = M.segments message.now in IfSome result (λ end.
-        ForTrimmed m (λ u. (end ≡ length (layout u)) × P.state pass.new m u end [])) }
-    ensures stopped { let m = M.segments message.now in IfNone result (ForTrimmed m (P.stopped m)) }
+    ensures done { let m = M.segments message.now in
+        ForTrimmed m (λ u. (result ≡ length (layout u)) × P.state pass.new m u result []) }
     ensures kept { ForTrimmed (M.segments message.now) (λ u.
         P.kept pass.new u ≡ P.kept pass.old u) }
 {
@@ -76,18 +59,13 @@ pub(crate) fn walk<M: Segments, P: Pass>(message: &M, depth: u32, pass: &mut P) 
 
 // The same with capacity for `N` runs. The current run is beside the stack, so that a word with
 // nothing below it costs no push and no pop.
-fn walk_within<M: Segments, P: Pass, const N: usize>(
-    message: &M,
-    depth: u32,
-    pass: &mut P,
-) -> Option<u32>
+fn walk_within<M: Segments, P: Pass, const N: usize>(message: &M, depth: u32, pass: &mut P) -> u32
     requires capacity { (depth ≤ N) × (N ≤ 256) }
     requires tree { HasTree (M.segments message.now) depth }
     requires start { let m = M.segments message.now in
         ForTrimmed m (λ u. P.state pass.old m u 1 (record { slot = 0; tree = u } ∷ [])) }
-    ensures done { let m = M.segments message.now in IfSome result (λ end.
-        ForTrimmed m (λ u. (end ≡ length (layout u)) × P.state pass.new m u end [])) }
-    ensures stopped { let m = M.segments message.now in IfNone result (ForTrimmed m (P.stopped m)) }
+    ensures done { let m = M.segments message.now in
+        ForTrimmed m (λ u. (result ≡ length (layout u)) × P.state pass.new m u result []) }
     ensures kept { ForTrimmed (M.segments message.now) (λ u.
         P.kept pass.new u ≡ P.kept pass.old u) }
 {
@@ -101,13 +79,11 @@ fn walk_within<M: Segments, P: Pass, const N: usize>(
             slot: run.slot,
         };
         let object = object_at(message, place.segment, place.word);
-        if !pass.visit(message, &object, place, end) {
-            return None;
-        }
+        pass.visit(message, &object, place, end);
         let below = run_of(&object, end);
         end += own_words(&object);
         if !go_on(&mut stack, &mut run, below) {
-            return Some(end);
+            return end;
         }
     }
 }

@@ -1,18 +1,17 @@
 //! Whether an object needs all its words when it is trimmed, where its pointers needn't be followed.
 
-ghost use Rattle.cap_canon.specs.Trimming.{AreElementsAt, ListNeedsAll, ListNeedsLess, NeedFewerPointers, NeedPointers, NeedsAll, NeedsLess, NeedsLessOfRow, NeedsRow, most_data};
+ghost use Rattle.cap_canon.specs.Trimming.{AreElementsAt, EndsFar, ListNeedsAll, ListNeedsLess, NeedFewerPointers, NeedPointers, NeedsAll, NeedsLess, NeedsLessOfRow, NeedsRow, OneEndsFar, most_data};
 ghost use Rattle.cap_spec.specs.Canonical.{data_needed};
 ghost use Rattle.cap_spec.specs.Denoting.{words_from};
 ghost use Rattle.cap_spec.specs.Messages.{HasWord, segment_of};
 ghost use Rattle.cap_spec.specs.Pointers.{kind};
-ghost use Rattle.std.specs.Prelude.{◌+◌, ◌*◌, ◌<◌, ◌^◌, ◌≡◌, ◌≢◌, ◌≤◌, ◌↔◌, IfErr, IfOk, IsTrue, length, ℕ};
+ghost use Rattle.std.specs.Prelude.{◌+◌, ◌*◌, ◌<◌, ◌^◌, ◌≡◌, ◌≢◌, ◌≤◌, ◌↔◌, ◌⊎◌, IsFalse, IsTrue, length, ℕ};
 
-use crate::in_order::Stop;
 use cap_frame::Segments;
 use cap_ptr::kind;
 
-/// Whether a struct needs all of these data words and pointers. Its first word is `start`, in
-/// segment `s`. This is undecided if its last pointer word is far.
+/// Whether a struct needs all of these data words and pointers, and its last pointer isn't far. Its
+/// first word is `start`, in segment `s`.
 #[inline(always)]
 pub(crate) fn needs_all<M: Segments>(
     message: &M,
@@ -20,22 +19,17 @@ pub(crate) fn needs_all<M: Segments>(
     start: u32,
     data_words: u32,
     pointers: u32,
-) -> Result<(), Stop>
+) -> bool
     requires exists { s < length (M.segments message.now) }
     requires inside { start + data_words + pointers
         ≤ length (segment_of (M.segments message.now) s) }
-    ensures ok { let m = M.segments message.now in
-        IfOk result (λ _. NeedsAll m s start data_words pointers) }
-    ensures err { let m = M.segments message.now in IfErr result (λ stop.
-        stop ≡ Stop.NotCanonical → NeedsLess m s start data_words pointers) }
+    ensures yes { IsTrue result → NeedsAll (M.segments message.now) s start data_words pointers }
+    ensures no { IsFalse result → NeedsLess (M.segments message.now) s start data_words pointers }
 {
     if !needs_data(message, s, start, data_words) {
-        return Err(Stop::NotCanonical);
+        return false;
     }
-    match needs_row(message, s, start + data_words, pointers) {
-        Ok(()) => Ok(()),
-        Err(stop) => Err(stop),
-    }
+    needs_row(message, s, start + data_words, pointers)
 }
 
 // Whether it needs all these data words: it has none, or the last isn't zero.
@@ -55,42 +49,33 @@ fn needs_data<M: Segments>(message: &M, s: u32, start: u32, data_words: u32) -> 
     true
 }
 
-// Whether it needs all these pointers.
+// Whether it needs all these pointers, and the last isn't far.
 #[inline(always)]
-fn needs_row<M: Segments>(message: &M, s: u32, start: u32, pointers: u32) -> Result<(), Stop>
+fn needs_row<M: Segments>(message: &M, s: u32, start: u32, pointers: u32) -> bool
     requires exists { s < length (M.segments message.now) }
     requires inside { start + pointers ≤ length (segment_of (M.segments message.now) s) }
-    ensures ok { IfOk result (λ _. NeedsRow (M.segments message.now) s start pointers) }
-    ensures err { let m = M.segments message.now in IfErr result (λ stop.
-        stop ≡ Stop.NotCanonical → NeedsLessOfRow m s start pointers) }
+    ensures yes { IsTrue result → NeedsRow (M.segments message.now) s start pointers }
+    ensures no { let m = M.segments message.now in IsFalse result →
+        NeedsLessOfRow m s start pointers ⊎ EndsFar m s start pointers }
 {
     if pointers == 0 {
-        return Ok(());
+        return true;
     }
-    match is_needed(message.word(s, start + (pointers - 1))) {
-        Ok(()) => Ok(()),
-        Err(stop) => Err(stop),
-    }
+    is_needed(message.word(s, start + (pointers - 1)))
 }
 
-// Whether a last pointer word is needed: not if it is zero. A far one may lead to null.
+// Whether a last pointer word is one of a copy: not if it is zero, and not if it is far.
 #[inline(always)]
-fn is_needed(word: u64) -> Result<(), Stop>
-    ensures ok { IfOk result (λ _. (word ≢ 0) × (kind word ≢ 2)) }
-    ensures err { IfErr result (λ stop. stop ≡ Stop.NotCanonical → word ≡ 0) }
+fn is_needed(word: u64) -> bool
+    ensures yes { IsTrue result → (word ≢ 0) × (kind word ≢ 2) }
+    ensures no { IsFalse result → (word ≡ 0) ⊎ (kind word ≡ 2) }
 {
-    if word == 0 {
-        return Err(Stop::NotCanonical);
-    }
-    if kind(word) == 2 {
-        return Err(Stop::Undecided);
-    }
-    Ok(())
+    word != 0 && kind(word) != 2
 }
 
 /// Whether the structs of a list need these data words and pointers, so that a copy has as many of
-/// each. Their first word is `start`, in segment `s`. This is undecided if the first last pointer
-/// that isn't zero is far.
+/// each, and the first last pointer that isn't zero isn't far. Their first word is `start`, in
+/// segment `s`.
 #[inline(always)]
 pub(crate) fn list_needs_all<M: Segments>(
     message: &M,
@@ -99,20 +84,17 @@ pub(crate) fn list_needs_all<M: Segments>(
     count: u32,
     data_words: u32,
     pointers: u32,
-) -> Result<(), Stop>
+) -> bool
     requires elements { AreElementsAt (M.segments message.now) s start count data_words pointers }
-    ensures ok { let m = M.segments message.now in
-        IfOk result (λ _. ListNeedsAll m s start data_words pointers count) }
-    ensures err { let m = M.segments message.now in IfErr result (λ stop.
-        stop ≡ Stop.NotCanonical → ListNeedsLess m s start data_words pointers count) }
+    ensures yes { let m = M.segments message.now in
+        IsTrue result → ListNeedsAll m s start data_words pointers count }
+    ensures no { let m = M.segments message.now in
+        IsFalse result → ListNeedsLess m s start data_words pointers count }
 {
     if !list_needs_data(message, s, start, count, data_words, pointers) {
-        return Err(Stop::NotCanonical);
+        return false;
     }
-    match list_needs_pointers(message, s, start, count, data_words, pointers) {
-        Ok(()) => Ok(()),
-        Err(stop) => Err(stop),
-    }
+    list_needs_pointers(message, s, start, count, data_words, pointers)
 }
 
 // Whether one of them needs all data words: it has none, or its last isn't zero.
@@ -145,7 +127,7 @@ fn list_needs_data<M: Segments>(
     true
 }
 
-// Whether one of them needs all pointers.
+// Whether one of them needs all pointers, and the last pointer of the first such isn't far.
 #[inline(always)]
 fn list_needs_pointers<M: Segments>(
     message: &M,
@@ -154,22 +136,19 @@ fn list_needs_pointers<M: Segments>(
     count: u32,
     data_words: u32,
     pointers: u32,
-) -> Result<(), Stop>
+) -> bool
     requires elements { AreElementsAt (M.segments message.now) s start count data_words pointers }
-    ensures ok { let m = M.segments message.now in
-        IfOk result (λ _. NeedPointers m s start data_words pointers count) }
-    ensures err { let m = M.segments message.now in IfErr result (λ stop.
-        stop ≡ Stop.NotCanonical → NeedFewerPointers m s start data_words pointers count) }
+    ensures yes { let m = M.segments message.now in
+        IsTrue result → NeedPointers m s start data_words pointers count }
+    ensures no { let m = M.segments message.now in
+        IsFalse result → NeedFewerPointers m s start data_words pointers count
+        ⊎ OneEndsFar m s start data_words pointers count }
 {
     if pointers == 0 {
-        return Ok(());
+        return true;
     }
     let last = data_words + (pointers - 1);
-    let first = first_set(message, s, start + last, data_words + pointers, count);
-    match is_needed(first) {
-        Ok(()) => Ok(()),
-        Err(stop) => Err(stop),
-    }
+    is_needed(first_set(message, s, start + last, data_words + pointers, count))
 }
 
 // The first of `count` words of segment `s` that isn't zero, or 0 if each is. They are word `at`

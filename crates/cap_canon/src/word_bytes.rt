@@ -13,24 +13,12 @@ ghost use Rattle.std.specs.Prelude.{◌*◌, ◌+◌, ◌++◌, ◌/◌, ◌<◌
 use crate::copying::copy_into;
 use crate::objects::read_range;
 use crate::output::CopyOutput;
-use crate::source::CopySource;
 use cap_frame::Segments;
 use cap_words::bytes_of;
 
-/// Writes the layout of a message of this depth, trimmed, over bytes of just its length.
-pub(crate) fn fill<M: CopySource>(message: &M, depth: u32, out: &mut [u8])
-    requires tree { HasTree (M.segments message.now) depth }
-    requires length { let m = M.segments message.now in
-        ForTrimmed m (λ u. length out.old ≡ 8 * length (layout u)) }
-    ensures text { ForTrimmed (M.segments message.now) (λ u. out.new ≡ plain_text (layout u)) }
-    ensures words { ForTrimmed (M.segments message.now) (λ u. plain_words out.new ≡ layout u) }
-{
-    let _words = write_words(message, depth, out);
-}
-
-/// Writes the same over the start of bytes that are long enough for it, and returns how many words
-/// it has.
-pub(crate) fn fill_front<M: CopySource>(message: &M, depth: u32, out: &mut [u8]) -> usize
+/// Writes the layout of a message of this depth, trimmed, over the start of bytes that are long
+/// enough for it, and returns how many words it has.
+pub(crate) fn fill_front<M: Segments>(message: &M, depth: u32, out: &mut [u8]) -> usize
     requires tree { HasTree (M.segments message.now) depth }
     requires length { let m = M.segments message.now in
         ForTrimmed m (λ u. 8 * length (layout u) ≤ length out.old) }
@@ -47,7 +35,7 @@ pub(crate) fn fill_front<M: CopySource>(message: &M, depth: u32, out: &mut [u8])
 }
 
 // The same, as the words that the bytes begin with.
-fn write_words<M: CopySource>(message: &M, depth: u32, out: &mut [u8]) -> usize
+fn write_words<M: Segments>(message: &M, depth: u32, out: &mut [u8]) -> usize
     requires tree { HasTree (M.segments message.now) depth }
     requires length { let m = M.segments message.now in
         ForTrimmed m (λ u. 8 * length (layout u) ≤ length out.old) }
@@ -105,8 +93,8 @@ impl CopyOutput for WordBytes<'_> {
         write_word(self.bytes, place as usize, word);
     }
 
-    fn append_from<M: CopySource>(&mut self, message: &M, segment: u32, start: u32, count: u32) {
-        match message.row(segment, start, count) {
+    fn append_from<M: Segments>(&mut self, message: &M, segment: u32, start: u32, count: u32) {
+        match message.bytes_at(segment, start, count) {
             Some(row) => {
                 read_range(message, segment, start, count);
                 write_row(self.bytes, self.count, row);

@@ -28,6 +28,7 @@ use Rattle.cap_run.specs.Telling.{Tells, TellsEach, TellsSegments, Told, WantsNo
 use Rattle.cap_run.proofs.FilterEnds.{reads_whole}
 use Rattle.cap_run.specs.Demanding.{TellsCheckUnder, TellsDumpUnder, TellsExclusiveUnder, TellsGetUnder}
 use Rattle.cap_run.specs.Demanding.{TellsVerdictUnder, WantsMarksUnder}
+use Rattle.cap_run.specs.Explained.{TellsExplainedExclusiveUnder, TellsExplainedUnder}
 use Rattle.cap_text.specs.declared.fault.Cause.{Cause}
 use Rattle.cap_text.specs.declared.fault.Cause.TheVariants.{TooManyMessages, Frame, Output, Refused}
 use Rattle.cap_text.specs.declared.fault.Cause.TheVariants.{Canon, NotStrict, Memory as no_marks}
@@ -42,7 +43,7 @@ use Rattle.cap_cmd.specs.Jobs.{TellsInput, WritesAll, input_is_cut, input_words}
 use Rattle.cap_cmd.specs.declared.job.Job.{Job}
 use Rattle.cap_cmd.specs.declared.job.Task.{Task}
 use Rattle.cap_cmd.specs.declared.job.Task.TheVariants.{Segments, Vet, Filter, Dump, Get, Check, Pack, Unpack}
-use Rattle.cap_cmd.specs.declared.job.Task.TheVariants.{Canon as canon_task}
+use Rattle.cap_cmd.specs.declared.job.Task.TheVariants.{Canon as canon_task, Explain}
 
 -- bytes that are what others and a text were are those others, continued by the text
 kept_appends : (a b : Option (List ℕ)) (text : List ℕ) → Keeps (append_known a text) b → Appends a b text
@@ -182,6 +183,14 @@ module _ {S O E P U : Type 0} (gs : source.Ghosts S) (go : output.Ghosts O) (ge 
       d.answer (sym d.reported.status_is ∙ e) d.does
   writes_all (Vet true) s demands first before after old new status e d =
       told_all gs go s first d.last (TellsExclusiveUnder demands (words_of s.limits) (depth_of s.limits))
+      (WantsMarksUnder demands (words_of s.limits) (depth_of s.limits)) before after d.answer
+      (sym d.reported.status_is ∙ e) d.does
+  writes_all (Explain false) s demands first before after old new status e d =
+      told_all gs go s first d.last (TellsExplainedUnder demands (words_of s.limits) (depth_of s.limits)) WantsNone
+      before after
+      d.answer (sym d.reported.status_is ∙ e) d.does
+  writes_all (Explain true) s demands first before after old new status e d =
+      told_all gs go s first d.last (TellsExplainedExclusiveUnder demands (words_of s.limits) (depth_of s.limits))
       (WantsMarksUnder demands (words_of s.limits) (depth_of s.limits)) before after d.answer
       (sym d.reported.status_is ∙ e) d.does
   writes_all (Filter form) s demands first before after old new status e d =

@@ -27,6 +27,7 @@ use Rattle.cap_run.specs.Demanding.{TellsCheckUnder, TellsDumpUnder, TellsExclus
 use Rattle.cap_run.specs.Demanding.{TellsGetUnder, TellsVerdictUnder, WantsMarksUnder}
 use Rattle.cap_run.specs.Engines.{TranscodesWords, ShowsStream, TellsStream}
 use Rattle.cap_run.specs.Engines.{most_packed_at_once, most_unpacked_at_once, most_transcoded}
+use Rattle.cap_run.specs.Explained.{TellsExplainedExclusiveUnder, TellsExplainedUnder}
 use Rattle.cap_run.specs.Filtering.{FiltersUnder, PassesOn, TellsIn}
 use Rattle.cap_text.specs.FaultLines.{copy_fault_line, run_fault_line}
 use Rattle.cap_run.specs.Telling.{Tells, TellsEach, TellsSegments, Told, WantsNone}
@@ -41,12 +42,13 @@ use Rattle.cap_cmd.specs.Statuses.{transcode_status, run_status}
 use Rattle.cap_cmd.specs.declared.job.Job.{Job}
 use Rattle.cap_cmd.specs.declared.job.Task.{Task}
 use Rattle.cap_cmd.specs.declared.job.Task.TheVariants.{Segments, Vet, Filter, Dump, Get, Check}
-use Rattle.cap_cmd.specs.declared.job.Task.TheVariants.{Canon, Pack, Unpack}
+use Rattle.cap_cmd.specs.declared.job.Task.TheVariants.{Canon, Explain, Pack, Unpack}
 
 -- the input of unpacking is packed, that of packing is not, and for messages the user decides
 abbrev pub is_packed : Task → Bool → Bool
 is_packed Segments told = told
 is_packed (Vet exclusive) told = told
+is_packed (Explain exclusive) told = told
 is_packed (Filter form) told = told
 is_packed Dump told = told
 is_packed (Get path) told = told
@@ -197,6 +199,13 @@ module _ {S O E P U : Type 0} (gs : source.Ghosts S) (go : output.Ghosts O) (ge 
   DoesTask (Vet true) s demands first before after =
       TellsTask gs go ge (TellsExclusiveUnder demands (words_of s.limits) (depth_of s.limits))
       (WantsMarksUnder demands (words_of s.limits) (depth_of s.limits)) s first before after
+  DoesTask (Explain false) s demands first before after =
+      TellsTask gs go ge (TellsExplainedUnder demands (words_of s.limits) (depth_of s.limits))
+      WantsNone s first before after
+  DoesTask (Explain true) s demands first before after =
+      TellsTask gs go ge
+      (TellsExplainedExclusiveUnder demands (words_of s.limits) (depth_of s.limits))
+      (WantsMarksUnder demands (words_of s.limits) (depth_of s.limits)) s first before after
   DoesTask (Filter form) s demands first before after =
       FiltersTask gs go ge form s demands first before after
   DoesTask Dump s demands first before after =
@@ -269,6 +278,10 @@ WritesAll (Vet false) s demands =
     TellsInput (TellsVerdictUnder demands (words_of s.limits) (depth_of s.limits)) s
 WritesAll (Vet true) s demands =
     TellsInput (TellsExclusiveUnder demands (words_of s.limits) (depth_of s.limits)) s
+WritesAll (Explain false) s demands =
+    TellsInput (TellsExplainedUnder demands (words_of s.limits) (depth_of s.limits)) s
+WritesAll (Explain true) s demands =
+    TellsInput (TellsExplainedExclusiveUnder demands (words_of s.limits) (depth_of s.limits)) s
 WritesAll (Filter form) s demands =
     TellsInput (PassesOn form.pack (TellsIn form demands s.limits)) s
 WritesAll Dump s demands =

@@ -35,6 +35,14 @@ fn parse_fault(alloc: Global, error: &Error) -> JobFault {
     }
 }
 
+// The fault of a text that is not a path.
+fn path_fault(alloc: Global, at: usize, text: &str) -> JobFault {
+    match String::from_str(alloc, text) {
+        Ok(text) => JobFault::Path { at, text },
+        Err(_) => JobFault::Memory,
+    }
+}
+
 // The path of `get`.
 fn path_of(alloc: Global, options: &ArgMatches<'_>) -> Result<Vec<Step>, JobFault> {
     let Some(text) = options.get_str("path") else {
@@ -42,7 +50,7 @@ fn path_of(alloc: Global, options: &ArgMatches<'_>) -> Result<Vec<Step>, JobFaul
     };
     match parse_path(alloc, text) {
         Ok(path) => Ok(path),
-        Err(PathFault::Bad { at }) => Err(JobFault::Path { at }),
+        Err(PathFault::Bad { at }) => Err(path_fault(alloc, at, text)),
         Err(PathFault::Memory) => Err(JobFault::Memory),
     }
 }
@@ -63,6 +71,9 @@ fn task_of(alloc: Global, name: &str, options: &ArgMatches<'_>) -> Result<Task, 
         "vet" => Ok(Task::Vet {
             exclusive: options.get_flag("exclusive"),
         }),
+        "explain" => Ok(Task::Explain {
+            exclusive: options.get_flag("exclusive"),
+        }),
         "filter" => Ok(Task::Filter {
             form: form_of(options),
         }),
@@ -79,7 +90,8 @@ fn task_of(alloc: Global, name: &str, options: &ArgMatches<'_>) -> Result<Task, 
     }
 }
 
-// The limits of the options, or the default ones. The parser lets no other limits through.
+// The limits of the options, or the default ones. The parser lets no other limits through. The
+// input isn't known yet, so it may have to be waited for.
 fn settings_of(options: &ArgMatches<'_>) -> Option<Settings>
     ensures { IfSome result (λ settings. settings.messages ≡ most_messages) }
 {
@@ -90,6 +102,7 @@ fn settings_of(options: &ArgMatches<'_>) -> Option<Settings>
         limits: Limits::new(words, depth)?,
         size: SizeLimit::new(size)?,
         messages: u32::MAX,
+        live: true,
     })
 }
 
@@ -145,8 +158,8 @@ fn job_of(alloc: Global, task: Task, options: &ArgMatches<'_>) -> Result<Job, Jo
 ///
 /// - [`JobFault::Help`]: the user asks for help or for the version; it has the text for the user.
 /// - [`JobFault::Usage`]: there is a mistake in the arguments; it has the text for the user.
-/// - [`JobFault::Path`]: the text of a path is not a path; it has the byte where it goes wrong.
-///   The path is read here, before any input is opened.
+/// - [`JobFault::Path`]: the text of a path is not a path; it has the byte where it goes wrong, and
+///   the text. The path is read here, before any input is opened.
 /// - [`JobFault::Memory`]: an allocation failed, and only then.
 pub fn read_job(alloc: Global, words: Vec<String>) -> Result<Job, JobFault>
     ensures messages { IfOk result (λ job. job.settings.messages ≡ most_messages) }

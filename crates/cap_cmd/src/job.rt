@@ -12,6 +12,11 @@ pub enum Task {
         /// Whether it is refused too where some word is used twice.
         exclusive: bool,
     },
+    /// To report the same, and to explain each refusal.
+    Explain {
+        /// Whether it is refused too where some word is used twice.
+        exclusive: bool,
+    },
     /// To write the frame of each message that is accepted. The line of each other is written to
     /// the output for faults.
     Filter {
@@ -62,7 +67,7 @@ pub enum JobFault {
     Usage { text: String },
     /// The text of a path is not a path. `at` is the first byte, counted from 0, at which it
     /// stops being a prefix of a path's text. If all of it is such a prefix, `at` is its length.
-    Path { at: usize },
+    Path { at: usize, text: String },
     /// An allocation failed.
     Memory,
 }

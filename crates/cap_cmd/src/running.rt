@@ -10,9 +10,9 @@ use crate::job::{Job, Task};
 use crate::status::{stream_status, words_status};
 use cap_pack::{Packer, Unpacker};
 use cap_run::{
-    CopyFault, Outcome, Peek, RunFault, run_canon_with, run_check_with, run_dump_with, run_filter,
-    run_get_with, run_pack, run_segments, run_unpack, run_vet_exclusive_with, run_vet_with,
-    write_copy_fault, write_fault,
+    CopyFault, Outcome, Peek, RunFault, run_canon_with, run_check_with, run_dump_with, run_explain,
+    run_explain_exclusive, run_filter, run_get_with, run_pack, run_segments, run_unpack,
+    run_vet_exclusive_with, run_vet_with, write_copy_fault, write_fault,
 };
 use cap_words::{ByteIn, ByteOut, PlainSink, PlainWords, WordSink, WordSource};
 use std::alloc::Global;
@@ -25,7 +25,8 @@ fn input_is_packed(job: &Job) -> bool
     ensures { result ≡ reads_packed job.now }
 {
     match &job.task {
-        Task::Segments | Task::Vet { .. } | Task::Dump | Task::Get { .. } => job.packed,
+        Task::Segments | Task::Vet { .. } | Task::Explain { .. } => job.packed,
+        Task::Dump | Task::Get { .. } => job.packed,
         Task::Filter { .. } | Task::Check | Task::Canon => job.packed,
         Task::Pack => false,
         Task::Unpack => true,
@@ -55,7 +56,7 @@ fn report_transcode<E: ByteOut>(err: &mut E, answer: &Result<u64, CopyFault>) ->
 
 /// Writes the canonical copies of messages to an output, and returns the exit status and the
 /// output.
-fn canon_over<S: WordSource, O: ByteOut, E: ByteOut>(
+fn canon_over<S: Peek, O: ByteOut, E: ByteOut>(
     alloc: Global,
     job: &Job,
     source: &mut S,
@@ -71,17 +72,23 @@ fn canon_over<S: WordSource, O: ByteOut, E: ByteOut>(
 }
 
 /// Packs words to an output, and returns the exit status and the output.
-fn pack_over<S: WordSource, O: ByteOut, E: ByteOut>(source: &mut S, out: O, err: &mut E) -> (u8, O)
+fn pack_over<S: Peek, O: ByteOut, E: ByteOut>(
+    job: &Job,
+    source: &mut S,
+    out: O,
+    err: &mut E,
+) -> (u8, O)
     ensures { TranscodesTask S.WordSource O.ByteOut E.ByteOut ⟦<Packer<O> as WordSink>⟧ pack_text
         most_packed_at_once source.old out result.1 err.old err.new result.0 }
 {
     let mut sink = Packer::new(out);
-    let answer = run_pack(source, &mut sink, MOST_WORDS);
+    let answer = run_pack(source, &mut sink, MOST_WORDS, job.settings.live);
     (report_transcode(err, &answer), sink.into_inner())
 }
 
 /// Writes words to an output as they are, and returns the exit status and the output.
-fn unpack_over<S: WordSource, O: ByteOut, E: ByteOut>(
+fn unpack_over<S: Peek, O: ByteOut, E: ByteOut>(
+    job: &Job,
     source: &mut S,
     out: O,
     err: &mut E,
@@ -90,12 +97,12 @@ fn unpack_over<S: WordSource, O: ByteOut, E: ByteOut>(
         plain_text most_unpacked_at_once source.old out result.1 err.old err.new result.0 }
 {
     let mut sink = PlainSink::new(out);
-    let answer = run_unpack(source, &mut sink, MOST_WORDS);
+    let answer = run_unpack(source, &mut sink, MOST_WORDS, job.settings.live);
     (report_transcode(err, &answer), sink.into_inner())
 }
 
 /// Vets each message, exclusively if that is asked, and returns the exit status.
-fn vet_over<S: WordSource, O: ByteOut, E: ByteOut>(
+fn vet_over<S: Peek, O: ByteOut, E: ByteOut>(
     alloc: Global,
     exclusive: bool,
     job: &Job,
@@ -113,6 +120,30 @@ fn vet_over<S: WordSource, O: ByteOut, E: ByteOut>(
         report_run(err, &answer)
     } else {
         let answer = run_vet_with(alloc, source, out, settings, demands);
+        report_run(err, &answer)
+    }
+}
+
+/// Vets each message, exclusively if that is asked, explains each refusal, and returns the exit
+/// status.
+fn explain_over<S: Peek, O: ByteOut, E: ByteOut>(
+    alloc: Global,
+    exclusive: bool,
+    job: &Job,
+    source: &mut S,
+    out: &mut O,
+    err: &mut E,
+) -> u8
+    ensures { DoesTask S.WordSource O.ByteOut E.ByteOut ⟦<Packer<O> as WordSink>⟧
+        ⟦<PlainSink<O> as WordSink>⟧ (Task.Explain exclusive) job.now.settings job.now.demands
+        source.old out.old out.new err.old err.new result }
+{
+    let (settings, demands) = (&job.settings, job.demands);
+    if exclusive {
+        let answer = run_explain_exclusive(alloc, source, out, settings, demands);
+        report_run(err, &answer)
+    } else {
+        let answer = run_explain(alloc, source, out, settings, demands);
         report_run(err, &answer)
     }
 }
@@ -139,6 +170,10 @@ fn run_over<S: Peek + Drop, O: ByteOut, E: ByteOut>(
             let status = vet_over(alloc, *exclusive, job, &mut source, &mut out, err);
             (status, out)
         }
+        Task::Explain { exclusive } => {
+            let status = explain_over(alloc, *exclusive, job, &mut source, &mut out, err);
+            (status, out)
+        }
         Task::Filter { form } => {
             let answer = run_filter(alloc, &mut source, &mut out, err, settings, demands, *form);
             (report_run(err, &answer), out)
@@ -157,8 +192,8 @@ fn run_over<S: Peek + Drop, O: ByteOut, E: ByteOut>(
             (report_run(err, &answer), out)
         }
         Task::Canon => canon_over(alloc, job, &mut source, out, err),
-        Task::Pack => pack_over(&mut source, out, err),
-        Task::Unpack => unpack_over(&mut source, out, err),
+        Task::Pack => pack_over(job, &mut source, out, err),
+        Task::Unpack => unpack_over(job, &mut source, out, err),
     }
 }
 

@@ -4,8 +4,8 @@ ghost use Rattle.clap.specs.Words.{is_broken};
 ghost use Rattle.std.specs.Prelude.{◌≡◌, IfOk, false};
 
 use crate::help::{
-    CANON_NOTES, CHECK_NOTES, DUMP_NOTES, FILTER_NOTES, GET_NOTES, PACK_NOTES, PROGRAM_NOTES,
-    SEGMENTS_NOTES, UNPACK_NOTES, VERSION, VET_NOTES,
+    CANON_NOTES, CHECK_NOTES, DUMP_NOTES, EXPLAIN_NOTES, FILTER_NOTES, GET_NOTES, PACK_NOTES,
+    PROGRAM_NOTES, SEGMENTS_NOTES, UNPACK_NOTES, VERSION, VET_NOTES,
 };
 use clap::{Arg, ArgAction, Command, value_parser};
 use std::alloc::{AllocError, Global};
@@ -36,6 +36,11 @@ const STRICT_HELP: &str = "Refuse a message in a form that common readers reject
 
 const UNAMPLIFIED_HELP: &str = "Refuse a charge above the words of the message plus 4096";
 
+const DEFAULT_STRICT_HELP: &str = "Refuse a form that common readers reject: the default here";
+
+const DEFAULT_UNAMPLIFIED_HELP: &str =
+    "Refuse a charge above the words of the message plus 4096: the default here";
+
 const EXCLUSIVE_HELP: &str = "Refuse a message that uses a word twice";
 
 const ALLOW_NONSTRICT_HELP: &str = "Accept a message in a form that common readers reject";
@@ -51,6 +56,8 @@ enum Part {
     Depth,
     Strict,
     Unamplified,
+    DefaultStrict,
+    DefaultUnamplified,
     AllowNonstrict,
     AllowAmplified,
     Pack,
@@ -79,8 +86,20 @@ const VETTING: [Part; 7] = [
     Part::File,
 ];
 
+/// What the commands take that report on each message.
+const REPORTING: [Part; 8] = [
+    Part::Packed,
+    Part::Size,
+    Part::Words,
+    Part::Depth,
+    Part::Strict,
+    Part::Unamplified,
+    Part::Exclusive,
+    Part::File,
+];
+
 /// The commands, in the order in which help lists them.
-static FORMS: [Form; 9] = [
+static FORMS: [Form; 10] = [
     Form {
         name: "segments",
         about: "Prints the segments of each message, their sizes in words, and the root pointer",
@@ -91,16 +110,13 @@ static FORMS: [Form; 9] = [
         name: "vet",
         about: "Checks that each message is safe to traverse",
         notes: VET_NOTES,
-        parts: &[
-            Part::Packed,
-            Part::Size,
-            Part::Words,
-            Part::Depth,
-            Part::Strict,
-            Part::Unamplified,
-            Part::Exclusive,
-            Part::File,
-        ],
+        parts: &REPORTING,
+    },
+    Form {
+        name: "explain",
+        about: "Checks as 'vet' does, and explains each refusal",
+        notes: EXPLAIN_NOTES,
+        parts: &REPORTING,
     },
     Form {
         name: "filter",
@@ -112,6 +128,8 @@ static FORMS: [Form; 9] = [
             Part::Words,
             Part::Depth,
             Part::Exclusive,
+            Part::DefaultStrict,
+            Part::DefaultUnamplified,
             Part::AllowNonstrict,
             Part::AllowAmplified,
             Part::Pack,
@@ -195,16 +213,22 @@ fn depth_option<'a>(alloc: Global) -> Arg<'a> {
 }
 
 // One part of a command.
-fn argument<'a>(alloc: Global, part: Part) -> Arg<'a> {
-    match part {
+fn argument<'a>(alloc: Global, part: Part) -> Result<Arg<'a>, AllocError> {
+    Ok(match part {
         Part::Packed => flag(alloc, "packed", "The input is packed"),
         Part::Size => words_option(alloc, "size", SIZE_HELP),
         Part::Words => words_option(alloc, "words", WORDS_HELP),
         Part::Depth => depth_option(alloc),
         Part::Strict => flag(alloc, "strict", STRICT_HELP),
         Part::Unamplified => flag(alloc, "unamplified", UNAMPLIFIED_HELP),
-        Part::AllowNonstrict => flag(alloc, "allow-nonstrict", ALLOW_NONSTRICT_HELP),
-        Part::AllowAmplified => flag(alloc, "allow-amplified", ALLOW_AMPLIFIED_HELP),
+        Part::DefaultStrict => flag(alloc, "strict", DEFAULT_STRICT_HELP),
+        Part::DefaultUnamplified => flag(alloc, "unamplified", DEFAULT_UNAMPLIFIED_HELP),
+        Part::AllowNonstrict => {
+            flag(alloc, "allow-nonstrict", ALLOW_NONSTRICT_HELP).conflicts_with("strict")?
+        }
+        Part::AllowAmplified => {
+            flag(alloc, "allow-amplified", ALLOW_AMPLIFIED_HELP).conflicts_with("unamplified")?
+        }
         Part::Pack => flag(alloc, "pack", "Pack the output"),
         Part::Stop => flag(alloc, "stop", "End the run after the first refused message"),
         Part::Exclusive => flag(alloc, "exclusive", EXCLUSIVE_HELP),
@@ -215,7 +239,7 @@ fn argument<'a>(alloc: Global, part: Part) -> Arg<'a> {
         Part::File => Arg::new(alloc, "file")
             .value_name("FILE")
             .help("File to read instead of standard input"),
-    }
+    })
 }
 
 // The command of a form.
@@ -226,7 +250,7 @@ fn command_of<'a>(alloc: Global, form: &Form) -> Result<Command<'a>, AllocError>
         .about(form.about)
         .after_help(form.notes);
     for part in form.parts {
-        command = command.arg(argument(alloc, *part))?;
+        command = command.arg(argument(alloc, *part)?)?;
     }
     Ok(command)
 }

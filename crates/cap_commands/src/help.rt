@@ -1,7 +1,7 @@
 //! The texts of help.
 
 /// The version that `--version` prints.
-pub(crate) const VERSION: &str = "1.0.0";
+pub(crate) const VERSION: &str = "1.1.0";
 
 /// The help of the program, after the list of its commands.
 pub(crate) const PROGRAM_NOTES: &str = "\
@@ -48,6 +48,26 @@ then less than the words of the message, apart from list elements that have no b
 Example:
   $ capvet vet --depth 3 examples/contacts.bin
   message 0: refused DepthLimit at 0:7 pointers 3";
+
+/// The help of `explain`, after the list of its options.
+pub(crate) const EXPLAIN_NOTES: &str = "\
+After the line of 'vet', a refused message has lines that explain the refusal. They begin with the
+path to the pointer, as 'get' takes it, and the byte of the pointer in the message. Then comes the
+pointer word with its form and its fields, and so does each word of its landing pad. The next lines
+have the words of its target, its tag if it is a list of structs, and the length of that segment.
+The last ones have the limit that is passed, if one is, and the reason as a sentence. Places are
+SEGMENT:WORD. The options are those of 'vet'.
+
+Example:
+  $ capvet explain --depth 3 examples/contacts.bin
+  message 0: refused DepthLimit at 0:7 pointers 3
+    path /p0/i0/p0
+    byte 64 of the message
+    pointer bd0000000a010000 list of bytes, offset 47, elements 33
+    target 0:55 to 0:59, words 5
+    segment 0, words 392
+    limit level 4, at most 3
+    reason the target is at a deeper level than the limit allows";
 
 /// The help of `filter`, after the list of its options.
 pub(crate) const FILTER_NOTES: &str = "\

@@ -1,13 +1,13 @@
 -- What is kept of a framed message in front of bytes, and its segments.
-use Rattle.std.proofs.Common.{◌≡◌, ◌∙◌, ℕ, ◌+◌, ◌*◌, ◌≤◌, List, [], ◌∷◌, length, drop, take, sum, flat_map, sym, ap, arith, zero-add}
+use Rattle.std.proofs.Common.{◌≡◌, ◌∙◌, ℕ, ◌+◌, ◌*◌, ◌≤◌, List, [], ◌∷◌, length, drop, sum, flat_map, sym, ap, arith, zero-add}
 use Rattle.std.proofs.lemmas.List.{length-drop, length-take-le}
-use Rattle.cap_spec.specs.Frames.{halves, joined, sizes_of}
+use Rattle.cap_spec.specs.Frames.{halves, sizes_of}
 use Rattle.cap_spec.specs.Plain.{plain_words}
 use Rattle.cap_spec.proofs.Frames.Framing.{length_halves}
 use Rattle.cap_frame.specs.Bytes.{cut}
 use Rattle.cap_frame.specs.Fronts.{sizes_told, table_words}
 use Rattle.cap_frame.proofs.Cuts.{cut_length, words_all}
-use Rattle.cap_frame.proofs.InOneBuffer.{held_joined, held_sizes}
+use Rattle.cap_frame.proofs.InOneBuffer.{held_sizes}
 
 -- a table tells as many sizes as there are segments
 pub many_told : (bs : List ℕ) (count : ℕ) → 8 * table_words count ≤ length bs → length (sizes_told count (plain_words bs)) ≡ count
@@ -27,13 +27,6 @@ module _ (bs : List ℕ) (count words : ℕ) (total : words ≡ sum (sizes_told 
   -- of so many words
   pub words_are : words ≡ sum (sizes_of (cut (sizes_told count (plain_words bs)) (drop (8 * table_words count) bs)))
   words_are = total ∙ ap sum (sym (held_sizes (sizes_told count (plain_words bs)) (drop (8 * table_words count) bs) enough))
-
-  -- whose bytes stand behind the table
-  pub contents_are : plain_words (take (8 * words) (drop (8 * table_words count) bs)) ≡ joined
-      (cut (sizes_told count (plain_words bs)) (drop (8 * table_words count) bs))
-  contents_are =
-      ap (λ n. plain_words (take (8 * n) (drop (8 * table_words count) bs))) total
-      ∙ sym (held_joined (sizes_told count (plain_words bs)) (drop (8 * table_words count) bs) enough)
 
 -- a list of one number is its sum
 pub one_size : (ns : List ℕ) → length ns ≡ 1 → ns ≡ sum ns ∷ []

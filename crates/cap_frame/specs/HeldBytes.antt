@@ -1,8 +1,10 @@
 -- What contracts see of a message in one buffer (profile).
-use Rattle.std.specs.Prelude.{ℕ, List}
+use Rattle.std.specs.Prelude.{⊤, ℕ, ◌≡◌, Bool, true, false, List, Result, Ok, Err}
 use Rattle.std.specs.Vec.{vec_capacity}
 use Rattle.cap_frame.specs.Bytes.{cut}
 use Rattle.cap_frame.specs.declared.byte_message.ByteMessage.{ByteMessage}
+use Rattle.cap_frame.specs.declared.fault.FrameFault.{FrameFault}
+use Rattle.cap_frame.specs.declared.fault.FrameFault.TheVariants.{TooManySegments, TooLarge, Truncated, Device, Memory, Spent}
 
 -- the words of each segment
 abbrev pub held_segments : ByteMessage → List (List ℕ)
@@ -11,3 +13,15 @@ held_segments m = cut m.sizes.items m.bytes.items
 -- the capacity of its buffer, in bytes
 abbrev pub room_in : ByteMessage → ℕ
 room_in m = vec_capacity m.bytes
+
+-- The capacity of a buffer that a message was read into, before and after. It stays where the
+-- contents weren't begun, and a buffer for which there is no memory is freed.
+abbrev pub LeavesRoom : Result Bool FrameFault → ℕ → ℕ → Type 0
+LeavesRoom (Ok true) old new = ⊤
+LeavesRoom (Ok false) old new = new ≡ old
+LeavesRoom (Err (TooManySegments count)) old new = new ≡ old
+LeavesRoom (Err (TooLarge words)) old new = new ≡ old
+LeavesRoom (Err (Truncated byte)) old new = ⊤
+LeavesRoom (Err Device) old new = ⊤
+LeavesRoom (Err Memory) old new = new ≡ 0
+LeavesRoom (Err Spent) old new = ⊤

@@ -27,6 +27,7 @@ const FEW: usize = 64;
 pub(crate) fn make_room(alloc: Global, bytes: &mut Vec<u8>, need: usize) -> Result<(), AllocError>
     ensures ok { OnOk result (need ≤ vec_capacity bytes.new) }
     ensures refused { OnErr result (vec_capacity bytes.old < need) }
+    ensures freed { OnErr result (vec_capacity bytes.new ≡ 0) }
 {
     if bytes.capacity() < need {
         *bytes = Vec::new(alloc);

@@ -1,7 +1,7 @@
 //! Reading messages into one buffer.
 
 ghost use Rattle.cap_frame.specs.Bytes.{cut};
-ghost use Rattle.cap_frame.specs.HeldBytes.{held_segments, room_in};
+ghost use Rattle.cap_frame.specs.HeldBytes.{LeavesRoom, held_segments, room_in};
 ghost use Rattle.cap_frame.specs.Limit.{limit_of};
 ghost use Rattle.cap_frame.specs.Reading.{IsResult, LacksMemory, ReadsFrame, has_message};
 ghost use Rattle.cap_spec.specs.GreatestLimits.{most_words};
@@ -34,6 +34,7 @@ fn read_parts<S: WordSource>(
     ensures inside { result ≡ Ok true → 8 * sum sizes.new.items ≤ vec_len bytes.new }
     ensures memory { IsErrOf result FrameFault.Memory → LacksMemory S.WordSource (limit_of limit)
         (vec_capacity bytes.old) source.old source.new }
+    ensures room { LeavesRoom result (vec_capacity bytes.old) (vec_capacity bytes.new) }
 {
     sizes.clear();
     match next_table(source, limit, sizes) {
@@ -62,7 +63,8 @@ fn read_parts<S: WordSource>(
 ///
 /// The errors, the words that are taken, and the state of the source after an error are those of
 /// [`read_byte_message`]. After an error, and after `false`, the message has one segment without
-/// words, as a blank one.
+/// words, as a blank one. After `TooManySegments`, after `TooLarge` and after `false` its buffer has
+/// the capacity that it had. After `Memory` it has none.
 pub fn read_into<S: WordSource>(
     alloc: Global,
     source: &mut S,
@@ -74,6 +76,8 @@ pub fn read_into<S: WordSource>(
     // The capacity was less than the words of the table need.
     ensures memory { IsErrOf result FrameFault.Memory → LacksMemory S.WordSource (limit_of limit)
         (room_in message.old) source.old source.new }
+    // Nothing was allocated for a message past a limit.
+    ensures room { LeavesRoom result (room_in message.old) (room_in message.new) }
     ensures blank { (result ≡ Ok true → ⊥) → held_segments message.new ≡ [] ∷ [] }
 {
     let ByteMessage {

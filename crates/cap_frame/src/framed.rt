@@ -2,15 +2,15 @@
 
 ghost use Rattle.cap_frame.specs.Bytes.{starts_of};
 ghost use Rattle.cap_frame.specs.Fronts.{sizes_told, table_words};
-ghost use Rattle.cap_spec.specs.Frames.{joined, sizes_of};
+ghost use Rattle.cap_spec.specs.Frames.{sizes_of};
 ghost use Rattle.cap_spec.specs.GreatestLimits.{most_words};
-ghost use Rattle.cap_spec.specs.Plain.{plain_text, plain_words};
+ghost use Rattle.cap_spec.specs.Plain.{plain_words};
 ghost use Rattle.std.specs.Prelude.{◌*◌, ◌+◌, ◌≡◌, ◌≤◌, ◌↔◌, IfSome, IsSome, length, sum};
 
 use crate::segment_tables::{SegmentTables, fill_starts};
 use crate::segments::Segments;
 use crate::table::Sizes;
-use crate::view::{ByteView, words_at};
+use crate::view::ByteView;
 use byteorder::{ByteOrder, LittleEndian};
 
 /// The framed message at the start of borrowed bytes: its table is read, and its words are not
@@ -56,15 +56,6 @@ impl<'b> Framed<'b> {
         ensures { result ≡ frame_bytes self.now }
     {
         8 * (self.count as usize / 2 + 1 + self.words as usize)
-    }
-
-    /// The bytes of the segments' words, one segment after the other, unchanged (encoding: 64-bit
-    /// Words).
-    #[inline]
-    pub fn contents(&self) -> &'b [u8]
-        ensures { result.now ≡ plain_text (joined (framed_segments self.now)) }
-    {
-        words_at(self.bytes, self.count as usize / 2 + 1, self.words as usize)
     }
 
     // Puts the tables of the message into `tables`, in place of their contents.

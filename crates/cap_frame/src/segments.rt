@@ -1,7 +1,9 @@
 //! What a message is to everything above: a list of segments.
 
+ghost use Rattle.cap_spec.specs.Denoting.{words_from};
 ghost use Rattle.cap_spec.specs.Messages.{HasWord, IsMessage, segment_of};
-ghost use Rattle.std.specs.Prelude.{◌<◌, ◌≡◌, List, length, ℕ};
+ghost use Rattle.cap_spec.specs.Plain.{plain_text};
+ghost use Rattle.std.specs.Prelude.{◌+◌, ◌<◌, ◌≡◌, ◌≤◌, IfSome, List, length, ℕ};
 
 /// The segments of a message: 1 to 512 of them, each of at most 4294967295 words.
 pub trait Segments {
@@ -23,6 +25,19 @@ pub trait Segments {
         requires exists { s < length (segments self.now) }
         requires inside { w < length (segment_of (segments self.now) s) }
         ensures { HasWord (segments self.now) s w result };
+
+    /// The bytes of `words` words of segment `s` from word `start` on, eight a word, the lowest byte
+    /// first (encoding: 64-bit Words). `None` if there are no such words, and if the message doesn't
+    /// have its words as bytes: [`Segments::word`] then gives each. Allocates nothing.
+    #[inline]
+    fn bytes_at(&self, s: u32, start: u32, words: u32) -> Option<&[u8]>
+        ensures exist { IfSome result (λ _. (s < length (segments self.now))
+            × (start + words ≤ length (segment_of (segments self.now) s))) }
+        ensures bytes { IfSome result (λ bytes.
+            bytes.now ≡ plain_text (words_from (segments self.now) s start words)) }
+    {
+        None
+    }
 
     // There are 1 to 512 segments, and their lengths are numbers of 32 bits.
     ghost is_message: { (m : Self) → IsMessage (segments m) };

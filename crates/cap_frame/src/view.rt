@@ -97,9 +97,9 @@ impl<'b> ByteView<'b> {
     }
 }
 
-/// The bytes of `words` words from word `at` on.
+// The bytes of `words` words from word `at` on.
 #[inline(always)]
-pub(crate) fn words_at<'b>(bytes: &'b [u8], at: usize, words: usize) -> &'b [u8]
+fn words_at<'b>(bytes: &'b [u8], at: usize, words: usize) -> &'b [u8]
     requires { 8 * (at + words) ≤ length bytes.now }
     ensures part { result.now ≡ take (8 * words) (drop (8 * at) bytes.now) }
     ensures text { result.now ≡ plain_text (plain_words result.now) }
@@ -124,6 +124,14 @@ impl<'b> Segments for ByteView<'b> {
     fn word(&self, s: u32, w: u32) -> u64 {
         let at = (self.starts[s as usize] + w) as usize;
         LittleEndian::read_u64(&self.bytes[8 * at..])
+    }
+
+    #[inline]
+    fn bytes_at(&self, s: u32, start: u32, words: u32) -> Option<&[u8]> {
+        if s >= self.count() || u64::from(start) + u64::from(words) > u64::from(self.len(s)) {
+            return None;
+        }
+        Some(self.bytes(s, start, words))
     }
 
     ghost is_message = { λ m. m.is_message };

@@ -2,6 +2,10 @@ pub mod Outcomes
 pub mod FrameBytes
 mod Examples
 mod TreeExamples
+mod ReasonExamples
+mod LimitExamples
+mod CycleExamples
+mod SharedExamples
 mod CanonicalExamples
 mod StrictExamples
 pub mod HighSteps

@@ -1,7 +1,7 @@
 -- What bytes at hand give, one part after the other.
 use Rattle.std.proofs.Common.{◌≡◌, ◌+◌, Bool, false, lit<, ◌*◌, ◌%◌, ◌^◌, ◌<◌, ◌≤◌, ◌∙◌, ℕ, zero, suc, List, []}
 use Rattle.std.proofs.Common.{◌∷◌, ◌++◌, length, take, drop, get_or, replicate, Option, None, Some, refl, sym, ap}
-use Rattle.std.proofs.Common.{subst, arith, unwrap_or, append-nil, append_assoc, length-append, drop-drop}
+use Rattle.std.proofs.Common.{subst, arith, unwrap_or, append-nil, append_assoc, length-append, drop-drop, IfSome}
 use Rattle.std.proofs.Common.{length-drop, length-take, take-take}
 use Rattle.std.proofs.lemmas.List.{length-take-le, nil_from_length, take-append-drop}
 use Rattle.std.proofs.Math.Seq.{take-add}
@@ -217,3 +217,14 @@ words_appended phase a b held z p q n at now is_open none run within small low v
       gives = gives_plain p n q (take (8 * n) held) run long;
     } in
     rw none (words_at_hand phase a b held held 0 p at now done is_open all small low value lost)
+
+-- the words that buffered bytes give, by a source that is open
+pub words_ahead : (phase : Phase) (a : Option (List ℕ)) (held out : List ℕ) (z p at : ℕ) (d : Unpacked) → phase ≡ Open → UnpacksInto z p held out d
+    → at < 2 ^ 64 → IfSome a (λ xs. (rest : List ℕ) × (xs ≡ held ++ rest))
+    → IfSome (option_map (λ bs. course_words (ahead phase z p at bs)) a) (λ ws. (rest : List ℕ) × (ws ≡ plain_words (take d.written out) ++ rest))
+words_ahead phase None held out z p at d is_open u low known = tt
+words_ahead phase (Some xs) held out z p at d is_open u low known =
+    let rest = drop d.read held ++ known.0 in
+    let parts : xs ≡ take d.read held ++ rest = known.1
+    ∙ (ap (λ l. l ++ known.0) (sym (take-append-drop d.read held)) ∙ append_assoc (take d.read held) (drop d.read held) known.0) in
+    rw is_open (_, ap (λ bs. course_words (ahead Open z p at bs)) parts ∙ (u.gives at rest low).words)

@@ -4,10 +4,11 @@ ghost use Rattle.cap_pack.specs.Course.{course_is_cut, course_places, course_wor
 ghost use Rattle.cap_pack.specs.CourseWords.{known_course_words};
 ghost use Rattle.cap_pack.specs.State.{ahead};
 ghost use Rattle.cap_spec.specs.PackedEnds.{packed_ends};
+ghost use Rattle.cap_spec.specs.Plain.{plain_words};
 ghost use Rattle.cap_spec.specs.Unpacking.{packed_is_cut, unpacked};
 ghost use Rattle.cap_words.specs.Phases.{has_ended, has_failed, source_spent};
 ghost use Rattle.std.specs.Option.{option_map};
-ghost use Rattle.std.specs.Prelude.{◌<◌, ◌≡◌, ◌||◌, [], OnSome, false, if◌then◌else◌, unwrap_or, ℕ};
+ghost use Rattle.std.specs.Prelude.{◌++◌, ◌<◌, ◌≡◌, ◌≤◌, ◌||◌, [], IfSome, List, OnSome, false, if◌then◌else◌, length, take, unwrap_or, ℕ};
 
 use super::at_hand::{append_words, unpack};
 use super::reads::{read_head, read_word};
@@ -63,6 +64,24 @@ impl<I: ByteIn> Unpacker<I> {
             zeros: 0,
             plain: 0,
         }
+    }
+
+    /// Writes the bytes of the next words to `out`, as far as buffered bytes encode them and `out`
+    /// has space for whole ones, and returns how many bytes these are. No word is taken, and the
+    /// device isn't called. The bytes of `out` after those written may be overwritten. 0 doesn't say
+    /// that no words are to come or buffered.
+    pub fn peek(&self, out: &mut [u8]) -> usize
+        ensures room { result ≤ length out.new }
+        ensures words { IfSome (⟦<Unpacker<I> as WordSource>⟧.words self.now)
+            (λ ws. (rest : List ℕ) × (ws ≡ plain_words (take result out.new) ++ rest)) }
+    {
+        // For the proof alone: the range of this number.
+        let _read = self.bytes.read;
+        match self.phase {
+            Phase::Open => {}
+            _ => return 0,
+        }
+        unpack(self.bytes.input.held(), out, self.zeros, self.plain).written
     }
 
     /// Gives the input back as it is: after the bytes of the last word that was given, or of its

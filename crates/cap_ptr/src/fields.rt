@@ -78,10 +78,10 @@ pub fn far_segment(word: u64) -> u32
     bits(word, 32, 32) as u32
 }
 
-/// Of a capability: its place in the capability table.
+/// Of a capability: its place in the capability table. It has the bits of a far pointer's segment.
 #[inline(always)]
 pub fn cap_index(word: u64) -> u32
     ensures { result ≡ cap_index word }
 {
-    bits(word, 32, 32) as u32
+    far_segment(word)
 }

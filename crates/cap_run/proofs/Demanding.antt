@@ -1,22 +1,16 @@
--- What engines with demands write is what those without write where nothing is demanded.
-use Rattle.std.proofs.Common.{◌≡◌, ◌∙◌, ap, ◌+◌, ◌≤◌, ℕ, inl, inr, Bool, false, true, if◌then◌else◌, List, [], ◌∷◌}
-use Rattle.std.proofs.Common.{length, Result, Ok, Err, arith, subst}
-use Rattle.std.proofs.lemmas.Bool.{false≢true}
-use Rattle.cap_spec.specs.Texts.{strict_verdict, vet_text}
-use Rattle.cap_spec.specs.declared.StrictRefusal.{StrictRefusal}
-use Rattle.cap_spec.specs.declared.StrictRefusal.TheVariants.{Refused as bad, ManySegments, Pointer}
+-- Demands by default, and texts and allocations that are among others.
+use Rattle.std.proofs.Common.{◌≡◌, ◌∙◌, ap, ◌+◌, ◌≤◌, ℕ, Bool, false, true, if◌then◌else◌, List, [], ◌∷◌}
+use Rattle.std.proofs.Common.{length, Result, Ok, Err, arith}
 use Rattle.cap_words.specs.declared.ends.ByteOut as output
 use Rattle.cap_words.specs.declared.sources.WordSource as source
 use Rattle.cap_spec.specs.Unamplified.{unamplified}
-use Rattle.cap_vet.specs.Demands.{IsDemandFault, words_under}
+use Rattle.cap_vet.specs.Demands.{words_under}
 use Rattle.cap_vet.specs.declared.demands.Demands.{Demands}
-use Rattle.cap_run.specs.Demanding.{OrFault, TellsFault, TellsMarked, WantsMarksUnder, WantsUnder, no_demands}
+use Rattle.cap_run.specs.Demanding.{OrFault, WantsUnder, no_demands}
 use Rattle.cap_run.specs.Engines.{StopsEarly, ReachesEnd, TellsStream}
 use Rattle.cap_run.specs.Running.{RunStops}
 use Rattle.cap_run.specs.Telling.{Tells, TellsEach, Told, WantsNone}
-use Rattle.cap_run.specs.Vetting.{OrRefused, TellsExclusive, TellsRefused, WantsMarks}
 use Rattle.cap_run.specs.declared.engines.stream.Counted.{Counted}
-use Rattle.cap_run.specs.declared.engines.stream.Counted.TheVariants.{Refused as counted_refused}
 use Rattle.cap_text.specs.declared.fault.Cause.{Cause}
 use Rattle.cap_text.specs.declared.fault.Cause.TheVariants.{TooManyMessages, Frame, Output, Refused, NotStrict, Canon}
 use Rattle.cap_text.specs.declared.fault.Cause.TheVariants.{Memory as no_marks}
@@ -84,32 +78,6 @@ under_few demands m words = few demands.unamplified
     few true = omega arith
     few false = omega arith
 
--- a fault without demands is a refusal
-refusal_of : (words depth n : ℕ) (m : List (List ℕ)) (text : List ℕ) (counted : Counted) (fault : StrictRefusal)
-    → IsDemandFault no_demands m words depth fault → text ≡ vet_text n (strict_verdict fault)
-    → counted ≡ counted_refused
-    → TellsRefused words depth n m text counted
-refusal_of words depth n m text counted (bad refusal) f line counts =
-    record { refusal = refusal; is_refused = f; line = line; counts = counts }
-refusal_of words depth n m text counted ManySegments f line counts = absurd (false≢true f.0)
-refusal_of words depth n m text counted (Pointer what s w pointers) f line counts = absurd (false≢true f.0)
-
-told_refused : (words depth n : ℕ) (m : List (List ℕ)) (text : List ℕ) (counted : Counted)
-    → TellsFault no_demands words depth n m text counted
-    → TellsRefused words depth n m text counted
-told_refused words depth n m text counted f = refusal_of words depth n m text counted f.fault f.is_fault f.line f.counts
-
-or_refused : (tells : ℕ → ℕ → Tells) (words depth n : ℕ) (m : List (List ℕ)) (text : List ℕ) (counted : Counted)
-    → OrFault no_demands tells words depth n m text counted → OrRefused tells words depth n m text counted
-or_refused tells words depth n m text counted (inl t) = inl t.1
-or_refused tells words depth n m text counted (inr f) = inr (told_refused words depth n m text counted f)
-
-or_exclusive : (words depth n : ℕ) (m : List (List ℕ)) (text : List ℕ) (counted : Counted)
-    → OrFault no_demands TellsMarked words depth n m text counted → TellsExclusive words depth n m text counted
-or_exclusive words depth n m text counted (inl (s, inl t)) = inl t
-or_exclusive words depth n m text counted (inl (s, inr t)) = inr (inr t)
-or_exclusive words depth n m text counted (inr f) = inr (inl (told_refused words depth n m text counted f))
-
 module _ {S O : Type 0} (gs : source.Ghosts S) (go : output.Ghosts O) (tells : ℕ → ℕ → Tells)
     (words depth limit most : ℕ) (old new : S) (before after : O) (r : Result Outcome RunFault) where
   -- where no message needs an allocation
@@ -121,29 +89,3 @@ module _ {S O : Type 0} (gs : source.Ghosts S) (go : output.Ghosts O) (tells : �
       stream_as (OrFault demands tells words depth) (OrFault demands tells words depth) (λ n m text counted t. t) gs go
       (WantsUnder demands (λ w d. WantsNone) words depth) WantsNone (λ m w. absurd w.1) limit most old new before
       after r e
-
-  -- where nothing is demanded
-  pub without_demands : (demands : Demands) → demands.strict ≡ false → demands.unamplified ≡ false
-      → TellsStream gs go (OrFault demands tells words depth) WantsNone limit most old new before after r
-      → TellsStream gs go (OrRefused tells words depth) WantsNone limit most old new before after r
-  without_demands demands strict plain e =
-      stream_as (OrFault no_demands tells words depth) (OrRefused tells words depth) (or_refused tells words depth)
-      gs go
-      WantsNone WantsNone (λ m w. w) limit most old new before after r
-      (subst (λ (d : Demands). TellsStream gs go (OrFault d tells words depth) WantsNone limit most old new before
-      after r)
-      (default_none demands strict plain) e)
-
-module _ {S O : Type 0} (gs : source.Ghosts S) (go : output.Ghosts O)
-    (words depth limit most : ℕ) (old new : S) (before after : O) (r : Result Outcome RunFault) where
-  -- where nothing is demanded, of exclusive verdicts
-  pub exclusive_without_demands : (demands : Demands) → demands.strict ≡ false → demands.unamplified ≡ false
-      → TellsStream gs go (OrFault demands TellsMarked words depth) (WantsMarksUnder demands words depth) limit most
-      old new before after r
-      → TellsStream gs go (TellsExclusive words depth) (WantsMarks words depth) limit most old new before after r
-  exclusive_without_demands demands strict plain e =
-      stream_as (OrFault no_demands TellsMarked words depth) (TellsExclusive words depth) (or_exclusive words depth)
-      gs go
-      (WantsMarksUnder no_demands words depth) (WantsMarks words depth) (λ m w. w.1) limit most old new before after r
-      (subst (λ (d : Demands). TellsStream gs go (OrFault d TellsMarked words depth) (WantsMarksUnder d words depth)
-      limit most old new before after r) (default_none demands strict plain) e)

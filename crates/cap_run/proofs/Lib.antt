@@ -2,6 +2,7 @@ pub mod CanonEnds
 pub mod Transcoding
 pub mod TranscodeEnds
 pub mod Demanding
+pub mod Explaining
 pub mod FilterEnds
 pub mod FoundNodes
 pub mod Going

@@ -6,7 +6,6 @@ use Rattle.cap_vet.specs.Reports.{IsAccepted}
 use Rattle.cap_vet.specs.declared.report.Report.{Report}
 use Rattle.cap_run.specs.declared.engines.stream.Counted.{Counted}
 use Rattle.cap_run.specs.declared.engines.stream.Counted.TheVariants.{Accepted, NotCanonical}
-use Rattle.cap_run.specs.Vetting.{OrRefused}
 
 -- the text of message n if it is accepted, by whether its words are its own canonical copy
 pub record TellsChecked (words depth n : ℕ) (m : List (List ℕ)) (text : List ℕ)
@@ -17,7 +16,3 @@ pub record TellsChecked (words depth n : ℕ) (m : List (List ℕ)) (text : List
   pub decides : IsTrue canonical ↔ IsCanonical m
   pub line : text ≡ check_text n canonical
   pub counts : counted ≡ (if canonical then Accepted else NotCanonical)
-
--- this, or if it is refused, the first bad pointer and the reason
-abbrev pub TellsCheck : ℕ → ℕ → ℕ → List (List ℕ) → List ℕ → Counted → Type 0
-TellsCheck = OrRefused TellsChecked

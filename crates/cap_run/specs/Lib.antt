@@ -3,9 +3,11 @@ pub mod Checking
 pub mod Transcoding
 pub mod Demanding
 pub mod Engines
+pub mod Explained
 pub mod Filtering
 pub mod Handed
 pub mod Making
+pub mod Peeking
 pub mod PuttingEnds
 pub mod Running
 pub mod Sieves

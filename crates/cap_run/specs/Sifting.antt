@@ -5,7 +5,6 @@ use Rattle.std.specs.Prelude.{Result, Ok, Err, codes}
 use Rattle.cap_spec.specs.Texts.{Verdict, refused, strict_verdict, vet_text}
 use Rattle.cap_words.specs.declared.ends.ByteOut as output
 use Rattle.cap_words.specs.declared.sources.WordSource as source
-use Rattle.cap_frame.specs.Fronts.{IsFront}
 use Rattle.cap_frame.specs.ReadingFaults.{Faults}
 use Rattle.cap_run.specs.Filtering.{Logged, Notes, PassesOn}
 use Rattle.cap_run.specs.Running.{Appended}
@@ -20,10 +19,6 @@ use Rattle.cap_text.specs.Writing.{Stopped}
 use Rattle.cap_text.specs.declared.fault.Cause.{Cause}
 use Rattle.cap_text.specs.declared.fault.Cause.TheVariants.{TooManyMessages, Frame, Output, Refused}
 use Rattle.cap_text.specs.declared.fault.Cause.TheVariants.{Canon, NotStrict, Memory as no_marks}
-
--- these bytes begin with the frame of a message within the limit
-abbrev pub ShowsFrame : ℕ → List ℕ → Type 0
-ShowsFrame limit bytes = (m : List (List ℕ)) × (n : ℕ) × IsFront limit bytes m n
 
 -- what the line of a refused message says
 abbrev pub objection_verdict : Objection → Verdict

@@ -1,10 +1,8 @@
 -- What may be written of a message that is vetted (profile).
-use Rattle.std.specs.Prelude.{ℕ, ◌≡◌, ◌⊎◌, List, ◌++◌, codes}
-use Rattle.cap_spec.specs.Faults.{IsRefused}
-use Rattle.cap_spec.specs.Occupying.{IsDisjoint, IsFirstOverlap}
-use Rattle.cap_spec.specs.Texts.{dump_text, get_text, refusal_verdict, refused, vet_text}
+use Rattle.std.specs.Prelude.{ℕ, ◌≡◌, List, ◌++◌, codes}
+use Rattle.cap_spec.specs.Occupying.{IsFirstOverlap}
+use Rattle.cap_spec.specs.Texts.{dump_text, get_text, refused, vet_text}
 use Rattle.cap_spec.specs.Tree.{Tree, node_at}
-use Rattle.cap_spec.specs.declared.Refusal.{Refusal}
 use Rattle.cap_spec.specs.declared.Step.{Step}
 use Rattle.cap_vet.specs.Reports.{IsAccepted, IsReport}
 use Rattle.cap_vet.specs.declared.report.Report.{Report}
@@ -20,24 +18,6 @@ pub record TellsAccepted (words depth n : ℕ) (m : List (List ℕ)) (text : Lis
   pub line : text ≡ accepted_text n report
   pub counts : counted ≡ Accepted
 
--- and if it is refused, with the first bad pointer and the reason
-pub record TellsRefused (words depth n : ℕ) (m : List (List ℕ)) (text : List ℕ)
-    (counted : Counted) : Type 0 where
-  pub refusal : Refusal
-  pub is_refused : IsRefused m words depth refusal
-  pub line : text ≡ vet_text n (refusal_verdict refusal)
-  pub counts : counted ≡ Refused
-
--- a text of a message that is accepted, or the line of its refusal
-abbrev pub OrRefused : (ℕ → ℕ → ℕ → List (List ℕ) → List ℕ → Counted → Type 0)
-    → ℕ → ℕ → ℕ → List (List ℕ) → List ℕ → Counted → Type 0
-OrRefused tells words depth n m text counted = tells words depth n m text counted
-    ⊎ TellsRefused words depth n m text counted
-
--- the one or the other
-abbrev pub TellsVerdict : ℕ → ℕ → ℕ → List (List ℕ) → List ℕ → Counted → Type 0
-TellsVerdict = OrRefused TellsAccepted
-
 -- if it is accepted and some word is used twice, with the first pointer that overlaps
 pub record TellsOverlap (words depth n : ℕ) (m : List (List ℕ)) (text : List ℕ)
     (counted : Counted) : Type 0 where
@@ -49,12 +29,6 @@ pub record TellsOverlap (words depth n : ℕ) (m : List (List ℕ)) (text : List
   pub is_first : IsFirstOverlap m segment word pointers
   pub line : text ≡ vet_text n (refused (codes "Overlap") segment word pointers)
   pub counts : counted ≡ Refused
-
--- that, or that it is refused, or else that it is accepted
-abbrev pub TellsExclusive : ℕ → ℕ → ℕ → List (List ℕ) → List ℕ → Counted → Type 0
-TellsExclusive words depth n m text counted =
-    (IsDisjoint m × TellsAccepted words depth n m text counted)
-    ⊎ (TellsRefused words depth n m text counted ⊎ TellsOverlap words depth n m text counted)
 
 -- the messages whose words are marked: those that are accepted
 abbrev pub WantsMarks : ℕ → ℕ → List (List ℕ) → Type 0
@@ -70,10 +44,6 @@ pub record TellsTree (words depth n : ℕ) (m : List (List ℕ)) (text : List �
   pub lines : text ≡ accepted_text n report ++ dump_text tree
   pub counts : counted ≡ Accepted
 
--- that, or the line of its refusal
-abbrev pub TellsDump : ℕ → ℕ → ℕ → List (List ℕ) → List ℕ → Counted → Type 0
-TellsDump = OrRefused TellsTree
-
 -- the tree's node at a path, or that there is none, if message n is accepted
 pub record TellsNode (words depth : ℕ) (path : List Step) (n : ℕ) (m : List (List ℕ))
     (text : List ℕ) (counted : Counted) : Type 0 where
@@ -82,7 +52,3 @@ pub record TellsNode (words depth : ℕ) (path : List Step) (n : ℕ) (m : List 
   pub is_report : IsReport m words depth report tree
   pub lines : text ≡ get_text n (node_at tree path)
   pub counts : counted ≡ Accepted
-
--- that, or the line of its refusal
-abbrev pub TellsGet : ℕ → ℕ → List Step → ℕ → List (List ℕ) → List ℕ → Counted → Type 0
-TellsGet words depth path = OrRefused (λ w d. TellsNode w d path) words depth

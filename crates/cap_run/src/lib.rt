@@ -17,6 +17,7 @@ pub use engines::canon::{run_canon, run_canon_with};
 pub use engines::check::{run_check, run_check_with};
 pub use engines::dump::{run_dump, run_dump_with};
 pub use engines::exclusive::{run_vet_exclusive, run_vet_exclusive_with};
+pub use engines::explain::{run_explain, run_explain_exclusive};
 pub use engines::filter::run_filter;
 pub use engines::get::{run_get, run_get_with};
 pub use engines::segments::run_segments;

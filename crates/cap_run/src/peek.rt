@@ -1,39 +1,81 @@
-//! Sources of words that show buffered bytes of their input.
+//! Sources of words that show what is buffered of their input.
 
-ghost use Rattle.cap_spec.specs.Plain.{plain_words};
-ghost use Rattle.cap_words.specs.Inner.{input_of};
-ghost use Rattle.std.specs.Prelude.{◌++◌, ◌≡◌, ◌||◌, [], if◌then◌else◌, IfSome, List, ℕ};
+ghost use Rattle.cap_frame.specs.Limit.{limit_of};
+ghost use Rattle.cap_run.specs.Peeking.{BeginsMessage, ShowsFrame};
+ghost use Rattle.std.specs.Prelude.{◌<◌, ◌↔◌, IfSome, IsTrue, length};
 
+use cap_frame::{FrontFault, SizeLimit, front_of};
 use cap_pack::Unpacker;
 use cap_words::{ByteIn, PlainWords, WordSource};
 
-/// A source of words that shows buffered bytes of its input.
+/// A source of words that shows what is buffered of its input. So a caller knows whether the source
+/// may wait for more bytes.
 pub trait Peek: WordSource {
-    // The bytes that it shows.
-    ghost ahead: { Self → List ℕ };
+    /// Whether buffered bytes hold the whole next message, within the limit. The source then gives
+    /// this message without a call of the device. `room` is a place for words that are looked at.
+    /// `false` doesn't say that the message isn't buffered.
+    fn shows_message(&self, size: SizeLimit, room: &mut [u8]) -> bool
+        ensures { IsTrue result → IfSome (Self.words self.now) (BeginsMessage (limit_of size)) };
 
-    /// Buffered bytes that hold the next words, of which the last may be cut. It may show fewer bytes
-    /// than are buffered, or none.
-    fn ahead(&self) -> &[u8]
-        ensures ahead { result.now ≡ ahead self.now }
-        ensures words { IfSome (Self.words self.now)
-            (λ ws. (rest : List ℕ) × (ws ≡ plain_words result.now ++ rest)) };
+    /// Whether buffered bytes hold the next word. The source then gives it without a call of the
+    /// device. `false` doesn't say that it isn't buffered.
+    fn shows_word(&self) -> bool
+        ensures { IsTrue result → IfSome (Self.words self.now) (λ ws. 0 < length ws) };
+}
+
+/// Whether these bytes begin with a whole message within the limit.
+fn is_whole(bytes: &[u8], size: SizeLimit) -> bool
+    ensures { IsTrue result ↔ ShowsFrame (limit_of size) bytes.now }
+{
+    match front_of(bytes, size) {
+        Ok(Some(_)) => true,
+        Ok(None) => false,
+        Err(_) => false,
+    }
 }
 
 impl<I: ByteIn> Peek for PlainWords<I> {
-    ghost ahead = { λ s. if ⟦<PlainWords<I> as WordSource>⟧.ended s
-        || ⟦<PlainWords<I> as WordSource>⟧.failed s then [] else I.at_hand (input_of s) };
+    fn shows_message(&self, size: SizeLimit, _room: &mut [u8]) -> bool {
+        is_whole(self.held(), size)
+    }
 
-    fn ahead(&self) -> &[u8] {
-        self.held()
+    fn shows_word(&self) -> bool {
+        self.held().len() >= 8
+    }
+}
+
+// How many bytes there have to be to learn more of a message that begins with these bytes. `None` if
+// they hold it whole, or no more bytes make it a message within the limit.
+fn bytes_wanted(bytes: &[u8], size: SizeLimit) -> Option<u64> {
+    match front_of(bytes, size) {
+        Err(FrontFault::Truncated { wanted }) => Some(wanted),
+        _ => None,
     }
 }
 
 impl<I: ByteIn> Peek for Unpacker<I> {
-    ghost ahead = { λ s. [] };
+    // Its first word is looked at, then its table, and then all of it. A message that `room` can't
+    // hold isn't shown.
+    fn shows_message(&self, size: SizeLimit, room: &mut [u8]) -> bool {
+        let mut wanted = 8;
+        for _ in 0..3 {
+            if wanted > room.len() {
+                return false;
+            }
+            let shown = self.peek(&mut room[..wanted]);
+            if is_whole(&room[..shown], size) {
+                return true;
+            }
+            match bytes_wanted(&room[..shown], size) {
+                Some(more) if shown == wanted && more <= room.len() as u64 => wanted =
+                    more as usize,
+                _ => return false,
+            }
+        }
+        false
+    }
 
-    // Packed bytes hold no words by themselves, so none are shown.
-    fn ahead(&self) -> &[u8] {
-        &[]
+    fn shows_word(&self) -> bool {
+        self.peek(&mut [0; 8]) == 8
     }
 }

@@ -1,17 +1,27 @@
 -- What a look at one pointer word of a path finds.
-use Rattle.std.proofs.Common.{◌≡◌, ℕ, ◌+◌, ◌≤◌, List, refl, arith}
+use Rattle.std.proofs.Common.{◌≡◌, ◌≢◌, ℕ, ◌+◌, ◌∙◌, ◌≤◌, ap, inl, inr, List, refl, subst, arith}
 use Rattle.cap_spec.specs.Following.{Leads, Lead, near, one_pad, two_pads, to_null}
+use Rattle.cap_spec.specs.Following.{extra}
 use Rattle.cap_spec.specs.Messages.{HasWord, IsMessage}
+use Rattle.cap_spec.specs.Pointers.{extent}
 use Rattle.cap_spec.specs.Paths.{word}
 use Rattle.cap_spec.specs.declared.Kind.TheVariants.{Null}
+use Rattle.cap_spec.proofs.Frames.Messages.{one_word}
 use Rattle.cap_spec.proofs.Strict.Looking.{near_has_none}
-use Rattle.cap_ptr.specs.Shapes.{FindsTarget}
+use Rattle.cap_spec.proofs.Trees.Charges.{extra_same}
+use Rattle.cap_spec.proofs.Trees.Finding.{one_object}
+use Rattle.cap_ptr.specs.Rows.{FindsRow, HasPointers}
+use Rattle.cap_ptr.specs.Shapes.{FindsTarget, IsShape}
+use Rattle.cap_ptr.specs.declared.near.Row.{Row}
+use Rattle.cap_ptr.specs.declared.shapes.Shape.{Shape}
+use Rattle.cap_ptr.specs.declared.shapes.Shape.TheVariants.{Struct, Scalars, Pointers, Structs}
 use Rattle.cap_ptr.specs.declared.shapes.Followed.TheVariants as followed
 use Rattle.cap_ptr.specs.declared.shapes.Target.{Target}
+use Rattle.cap_ptr.proofs.NearObjects.{pointers-no_extra, pointers-plain}
 use Rattle.cap_vet.specs.Finding.{IsFound}
 use Rattle.cap_vet.specs.Levels.{levels_of}
 use Rattle.cap_vet.specs.Looking.{IsNotLax}
-use Rattle.cap_vet.specs.NearFinding.{FindsNear}
+use Rattle.cap_vet.specs.NearFinding.{FindsNear, IsNearWithin}
 use Rattle.cap_vet.specs.declared.nodes.found.Found.{Found}
 use Rattle.cap_vet.proofs.Founds.{null_found}
 use Rattle.cap_vet.proofs.Looks.{followed_costs, followed_shallow}
@@ -45,3 +55,38 @@ finds_object m left depth s w level x f finds here found within shallow = record
   shallow = followed_shallow m depth s w level (followed.Target x) finds shallow;
   strict = not_lax m s w x.pads _ here finds.2.finds.leads;
 }
+
+-- An object that its word alone describes has no levels below its own,
+row_levels : (q tag n : ℕ) (x : Shape) → HasPointers q n → IsShape q tag x → levels_of x ≡ 0
+row_levels q tag n (Struct d p) has shape = refl
+row_levels q tag n (Scalars c k) has shape = refl
+row_levels q tag n (Pointers k) has shape = refl
+row_levels q tag n (Structs size k d p) has shape = absurd ((pointers-plain q n has).1 shape.kind shape.code)
+
+-- and is charged its words,
+pub row_charged : (m : List (List ℕ)) (s w q : ℕ) (r : Row) (x : Target) → FindsRow m s w q r → FindsTarget m s w x
+    → (x.charge ≡ r.words) × (levels_of x.shape ≡ 0)
+row_charged m s w q r x row (p, tag, finds) =
+    let o = one_object m s w 0 s r.start q x.pads x.segment x.start p row.finds finds.finds in
+    let pointers : HasPointers p r.pointer_count = subst (λ u. HasPointers u r.pointer_count) o.shape row.pointers in
+    let plain = pointers-plain p r.pointer_count pointers in
+    let none : extra p tag ≡ 0 =
+    extra_same p tag 0 plain.0 (λ l c. absurd (plain.1 l c)) ∙ pointers-no_extra p r.pointer_count pointers in (
+      omega (arith, finds.object.charge, none, o.pads, row.words, ap extent o.shape),
+      row_levels p tag r.pointer_count x.shape pointers finds.object.shape,
+    )
+
+-- so the target of such a word within the limits is within them.
+pub near_fits : (m : List (List ℕ)) (left depth s w level p : ℕ) (x : Target) → HasWord m s w p → p ≢ 0 → FindsTarget m s w x
+    → IsNearWithin m left depth s w level → (level + levels_of x.shape ≤ depth) × (x.charge ≤ left)
+near_fits m left depth s w level p x has some finds (inl null) = absurd (some (one_word m s w p 0 has null))
+near_fits m left depth s w level p x has some finds (inr (q, r, hasq, row, within, shallow)) =
+    let e = row_charged m s w q r x row finds in
+    (omega (arith, e.1, shallow), omega (arith, e.0, within))
+
+-- A word that isn't null and describes no object alone isn't such a word.
+pub not_near : (m : List (List ℕ)) (left depth s w level p : ℕ) → HasWord m s w p → p ≢ 0 → ((r : Row) → ¬ FindsRow m s w p r)
+    → ¬ IsNearWithin m left depth s w level
+not_near m left depth s w level p has some none (inl null) = some (one_word m s w p 0 has null)
+not_near m left depth s w level p has some none (inr (q, r, hasq, row, within, shallow)) =
+    none r (subst (λ u. FindsRow m s w u r) (one_word m s w q p hasq has) row)

@@ -1,6 +1,7 @@
 -- A trail up to a path is the tour of it.
-use Rattle.std.proofs.Common.{◌≡◌, ℕ, ◌+◌, ◌⊎◌, inl, inr, List, [], ◌∷◌, length, sym, ◌∙◌, subst, arith}
+use Rattle.std.proofs.Common.{◌≡◌, ℕ, ◌+◌, ◌⊎◌, inl, inr, List, [], ◌∷◌, length, refl, reverse, sym, ◌∙◌, subst, arith}
 use Rattle.std.proofs.lemmas.List.{append-nil}
+use mathlib.Core.List.{reverse_aux}
 use Rattle.cap_spec.specs.Paths.{Before, IsOneOf, IsTour, Rises}
 use Rattle.cap_spec.specs.declared.Step.{Step}
 use Rattle.cap_vet.specs.Trails.{Ahead, Apart, EachApart, Falls, IsUnder, IsTrail}
@@ -16,6 +17,14 @@ onto (p ∷ seen) later = onto seen (p ∷ later)
 -- the paths in preorder
 abbrev pub in_order : List (List Step) → List (List Step)
 in_order seen = onto seen []
+
+-- the paths in preorder are those that were looked at, the other way round
+onto-reverse : (seen later : List (List Step)) → onto seen later ≡ reverse_aux seen later
+onto-reverse [] later = refl
+onto-reverse (p ∷ seen) later = onto-reverse seen (p ∷ later)
+
+pub in_order-reverse : (seen : List (List Step)) → in_order seen ≡ reverse seen
+in_order-reverse seen = onto-reverse seen []
 
 -- the head of the first comes before the head of the second
 abbrev Joins : List (List Step) → List (List Step) → Type 0

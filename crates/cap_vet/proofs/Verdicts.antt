@@ -2,7 +2,7 @@
 use Rattle.cap_vet.specs.Reports.{IsAccepted, IsFirstCapOf, IsVetted}
 use Rattle.cap_vet.specs.Owing.{IsCount}
 use Rattle.cap_spec.proofs.Frames.Messages.{HasWord-at}
-use Rattle.std.proofs.Common.{◌≡◌, ℕ, ◌+◌, ◌<◌, inl, inr, List, [], ◌∷◌, ◌++◌, length, map, refl, sym, subst, arith, Option, None, Some}
+use Rattle.std.proofs.Common.{◌≡◌, ℕ, ◌+◌, ◌<◌, inl, inr, List, [], ◌∷◌, ◌++◌, length, map, refl, reverse, sym, subst, arith, Option, None, Some}
 use Rattle.std.proofs.lemmas.List.{length-append}
 use Rattle.cap_spec.specs.Messages.{segment_of}
 use Rattle.cap_spec.specs.Denoting.{Denotes}
@@ -15,12 +15,14 @@ use Rattle.cap_spec.specs.declared.Step.{Step}
 use Rattle.cap_vet.specs.Trails.{Ahead, IsTrail}
 use Rattle.cap_vet.specs.PointerRuns.{pointer_word_of, root_run}
 use Rattle.cap_vet.specs.Limits.{depth_of, words_of}
-use Rattle.cap_vet.specs.Turns.{IsWalking}
+use Rattle.cap_vet.specs.Turns.{HoldsBefore, IsWalking}
 use Rattle.cap_vet.specs.Walking.{IsFirstOf, IsNext, Progress, HasWalked}
 use Rattle.cap_vet.specs.declared.walk.pointer_run.PointerRun.{PointerRun}
 use Rattle.cap_vet.specs.declared.limits.Limits.{Limits}
 use Rattle.cap_vet.specs.declared.report.Report.{Report}
-use Rattle.cap_vet.proofs.Tours.{in_order, in_order-IsOneOf, length-in_order, onto, tour_of}
+use Rattle.cap_vet.specs.declared.walk.turn.Stopped.{Stopped}
+use Rattle.cap_vet.specs.declared.walk.turn.Stopped.TheVariants.{Refused, ByTurn}
+use Rattle.cap_vet.proofs.Tours.{in_order, in_order-IsOneOf, in_order-reverse, length-in_order, onto, tour_of}
 
 -- paths in order, and one more
 onto-append : (seen later more : List (List Step)) → onto seen (later ++ more) ≡ onto seen later ++ more
@@ -69,6 +71,22 @@ first_fault m words depth s w level runs report v t h =
       pointers = sym many;
       few = omega (arith, t.progress.bound, t.progress.within);
     }
+
+-- It comes after the paths that were looked at.
+pub fault_next : (m : List (List ℕ)) (words depth s w level : ℕ) (runs : List PointerRun) (report : Report) (v : Reason)
+    → (n : IsNext m words depth s w level runs report) → IsFirstReason m words depth report.charge s w level v
+    → (f : IsFirstFault m words depth record { segment = s; word = w; reason = v; pointers = report.pointers + 1 })
+    × (f.before ≡ reverse n.seen)
+unfolding first_fault
+fault_next m words depth s w level runs report v n h =
+    (first_fault m words depth s w level runs report v n h, in_order-reverse n.seen)
+
+-- What follows from what holds of all paths before a fault holds of them too.
+pub before_weaker : {S : Type 0} (m : List (List ℕ)) (limits : Limits) (K L : List (List Step) → Type 0) (stopped : Stopped S)
+    → ((seen : List (List Step)) → K seen → L seen) → HoldsBefore m limits K stopped → HoldsBefore m limits L stopped
+before_weaker m limits K L (Refused refusal) weaker (inl h) = inl (h.0, weaker [] h.1)
+before_weaker m limits K L (Refused refusal) weaker (inr h) = inr (h.0, h.1, h.2, weaker h.1 h.3)
+before_weaker m limits K L (ByTurn stop) weaker h = tt
 
 -- where no word is ahead, none is left on the runs
 pub none_ahead : (ahead : List Ahead) → map pointer_word_of ahead ≡ [] → ahead ≡ []

@@ -1,6 +1,9 @@
 -- What was found by a look at one pointer word of a path (profile).
-use Rattle.std.specs.Prelude.{ℕ, ◌≤◌, List}
+use Rattle.std.specs.Prelude.{ℕ, ◌≤◌, ◌⊎◌, List}
+use Rattle.cap_ptr.specs.Rows.{FindsRow}
+use Rattle.cap_ptr.specs.declared.near.Row.{Row}
 use Rattle.cap_spec.specs.Faults.{IsDeepAt}
+use Rattle.cap_spec.specs.Messages.{HasWord}
 use Rattle.cap_spec.specs.Paths.{Costs, word}
 use Rattle.cap_vet.specs.Finding.{IsFound}
 use Rattle.cap_vet.specs.Looking.{IsNotLax}
@@ -14,3 +17,9 @@ pub record FindsNear (m : List (List ℕ)) (left depth s w level : ℕ) (f : Fou
   pub within : cost ≤ left
   pub shallow : ¬ IsDeepAt m depth s w level
   pub strict : IsNotLax m s w
+
+-- The word at s:w is null. Or it alone describes an object in its segment, which is within the words that are left and
+-- the depth limit.
+abbrev pub IsNearWithin : List (List ℕ) → ℕ → ℕ → ℕ → ℕ → ℕ → Type 0
+IsNearWithin m left depth s w level = HasWord m s w 0
+    ⊎ ((q : ℕ) × (r : Row) × HasWord m s w q × FindsRow m s w q r × (r.words ≤ left) × (level ≤ depth))

@@ -1,5 +1,5 @@
 -- What is given for a path in a message that needn't be vetted, by where it leads (profile).
-use Rattle.std.specs.Prelude.{ℕ, ◌≡◌, ◌+◌, ◌-◌, [], ◌∷◌, ◌++◌, List, length, Option, Some, Result, Ok, IfErr, IfNone, IfOk, IfSome}
+use Rattle.std.specs.Prelude.{ℕ, ◌≡◌, ◌<◌, ◌*◌, ◌+◌, ◌-◌, [], ◌∷◌, ◌++◌, List, length, Option, Some, Result, Ok, IfErr, IfNone, IfOk, IfSome}
 use Rattle.cap_frame.specs.declared.segments.Segments as segments
 use Rattle.cap_spec.specs.Arriving.{ArrivesAt}
 use Rattle.cap_spec.specs.declared.Kind.{Kind}
@@ -9,6 +9,7 @@ use Rattle.cap_spec.specs.declared.Step.TheVariants.{Item, Ptr}
 use Rattle.cap_spec.specs.declared.StrictRefusal.{StrictRefusal}
 use Rattle.cap_vet.specs.Demands.{words_under}
 use Rattle.cap_vet.specs.Views.{kept_place, view_kind}
+use Rattle.cap_vet.specs.NearFinding.{IsNearWithin}
 use Rattle.cap_vet.specs.PathDemands.{IsPathFault, MeetsOnPath}
 use Rattle.cap_vet.specs.PathStrictness.{HasNoFaultBy}
 use Rattle.cap_vet.specs.Ways.{IsWay}
@@ -71,6 +72,22 @@ pub record LeadsToElements {M : Type 0} {g : segments.Ghosts M} (m : List (List 
   pub left : e.left ≡ start.words - at.spent
   pub level : e.level ≡ at.level + 2
   pub depth : e.depth ≡ start.depth
+
+-- The first steps lead to a list of structs, without a fault.
+pub record LeadsToStructs {M : Type 0} {g : segments.Ghosts M} (m : List (List ℕ)) (start : PathStart M g) : Type 0 where
+  pub at : Arrival
+  pub count : ℕ
+  pub data_words : ℕ
+  pub pointers : ℕ
+  pub way : start.way ≡ To at
+  pub strict : HasNoFaultBy start.demands (length m) at.lax
+  pub kind : at.found.kind ≡ Structs count data_words pointers
+
+-- Element i has a pointer j, whose word is null, or alone describes an object within the limits.
+pub record HasPointerNear {M : Type 0} {g : segments.Ghosts M} (m : List (List ℕ)) (e : StructElements M g) (i j : ℕ) : Type 0 where
+  pub element : i < e.count
+  pub pointer : j < e.pointers
+  pub near : IsNearWithin m e.left e.depth e.segment (e.first + i * (e.data_words + e.pointers) + e.data_words + j) e.level
 
 -- Element i of the list, and what pointer j of it leads to, is what paths from there give.
 abbrev pub GivesElement : {M : Type 0} {g : segments.Ghosts M} → List (List ℕ) → StructElements M g → ℕ → View M g → Type 0

@@ -1,8 +1,9 @@
 -- What is known of a walk, and of what its turn knows, between two pointer words (profile).
-use Rattle.std.specs.Prelude.{ℕ, ◌+◌, ◌<◌, ◌≡◌, [], ◌∷◌, ◌++◌, IfOk, IfSome, List, Option, Result}
+use Rattle.std.specs.Prelude.{ℕ, ◌+◌, ◌<◌, ◌≡◌, ◌⊎◌, [], ◌∷◌, ◌++◌, IfOk, IfSome, List, Option, Result, reverse, ⊤}
 use Rattle.std.specs.Option.{option_to_list}
-use Rattle.cap_spec.specs.Faults.{IsRefused}
+use Rattle.cap_spec.specs.Faults.{HasNoRoot, IsFirstFault, IsRefused}
 use Rattle.cap_spec.specs.Paths.{Costs}
+use Rattle.cap_spec.specs.declared.Refusal.{Refusal}
 use Rattle.cap_spec.specs.declared.Step.{Step}
 use Rattle.cap_vet.specs.Limits.{depth_of, words_of}
 use Rattle.cap_vet.specs.Trails.{Ahead, IsTrail}
@@ -65,6 +66,18 @@ GoesOnIf m limits runs before after K result = IfSome result (λ r. IfOk r (λ b
 abbrev pub IsStopped : {S : Type 0} → List (List ℕ) → Limits → (S → Type 0) → Stopped S → Type 0
 IsStopped m limits stops (Refused refusal) = IsRefused m (words_of limits) (depth_of limits) refusal
 IsStopped m limits stops (ByTurn stop) = stops stop
+
+-- The next word is the first fault, after the paths that were looked at.
+abbrev pub IsFaultNext : List (List ℕ) → Limits → ℕ → ℕ → ℕ → Report → Refusal → Type 0
+IsFaultNext m limits s w level report refusal =
+    (runs : List PointerRun) (n : IsNextIn m limits s w level runs report)
+    → (f : IsFirstFault m (words_of limits) (depth_of limits) refusal) × (f.before ≡ reverse n.seen)
+
+-- where a walk stops at the first fault, K holds of all paths before it, the last in preorder first; without a root there is none
+abbrev pub HoldsBefore : {S : Type 0} → List (List ℕ) → Limits → (List (List Step) → Type 0) → Stopped S → Type 0
+HoldsBefore m limits K (Refused refusal) = (HasNoRoot m refusal × K [])
+    ⊎ ((f : IsFirstFault m (words_of limits) (depth_of limits) refusal) × (seen : List (List Step)) × (f.before ≡ reverse seen) × K seen)
+HoldsBefore m limits K (ByTurn stop) = ⊤
 
 -- K holds of all paths that reach pointer words, the last in preorder first
 abbrev pub HoldsOfAll : List (List ℕ) → (List (List Step) → Type 0) → Type 0

@@ -4,7 +4,7 @@ use Rattle.std.specs.Option.{option_to_list}
 use Rattle.cap_spec.specs.declared.Step.{Step}
 use Rattle.cap_vet.specs.Limits.{words_of}
 use Rattle.cap_vet.specs.PointerRuns.{IsRest}
-use Rattle.cap_vet.specs.Turns.{GoesOn, IsStopped}
+use Rattle.cap_vet.specs.Turns.{GoesOn, HoldsBefore, IsStopped}
 use Rattle.cap_vet.specs.Walking.{work_left}
 use Rattle.cap_vet.specs.declared.limits.Limits.{Limits}
 use Rattle.cap_vet.specs.declared.report.Report.{Report}
@@ -45,3 +45,4 @@ pub record TakesTurn {S : Type 0} (m : List (List ℕ)) (limits : Limits) (most 
   pub ok : IfOk result (λ next. GoesOnWith m limits next before old report after new counted K)
   pub room : IfOk result (λ next. LeavesRoom next (length after) most)
   pub err : IfErr result (IsStopped m limits stops)
+  pub known : IfErr result (HoldsBefore m limits K)

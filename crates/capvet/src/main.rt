@@ -3,9 +3,10 @@
 
 use cap_cmd::{Job, JobFault, read_job, run_job};
 use cap_words::{BufferedIn, ByteIn, FromWrite};
-use std::alloc::Global;
-use std::fs::File;
-use std::io::{BufWriter, ErrorKind, Read, Write};
+use std::alloc::AllocError;
+use std::env::Env;
+use std::fs::{File, Metadata, OpenFile};
+use std::io::{BufWriter, ErrorKind, Read, Stdin, Write};
 use std::process::ExitCode;
 use std::{env, fs, io};
 
@@ -14,6 +15,12 @@ const BUFFER: usize = 65536;
 
 // How many bytes of a fault's line are held, which is more than any has.
 const LINE: usize = 256;
+
+// The most bytes of an argument: Linux gives a program no longer one.
+const ARGUMENT: usize = 131072;
+
+// The name of standard input, for its metadata.
+const STANDARD_INPUT: &str = "/dev/stdin";
 
 // The exit statuses of what goes wrong outside a job.
 const USAGE: u8 = 2;
@@ -29,35 +36,95 @@ fn run(rt: &HostRuntime) -> u8 {
     let words = match env::args(rt) {
         Ok(words) => words,
         Err(error) if error.kind() == ErrorKind::OutOfMemory => return out_of_memory(rt),
-        Err(_) => return fail(rt, "capvet: an argument is not UTF-8\n", USAGE),
+        Err(_) => return bad_argument(rt),
     };
     let words = match words.collect(rt.alloc()) {
         Ok(words) => words,
         Err(_) => return out_of_memory(rt),
     };
     match read_job(rt.alloc(), words) {
-        Ok(job) => open_and_run(rt, &job),
+        Ok(job) => open_and_run(rt, job),
         Err(JobFault::Help { text }) => help(rt, text.as_str()),
         Err(JobFault::Usage { text }) => fail(rt, text.as_str(), USAGE),
-        Err(JobFault::Path { at }) => bad_path(rt, at),
+        Err(JobFault::Path { at, text }) => bad_path(rt, at, text.as_str()),
         Err(JobFault::Memory) => out_of_memory(rt),
     }
 }
 
+// What is read: standard input or a file.
+#[derive(Drop)]
+enum Device {
+    Standard(Stdin),
+    File(File),
+}
+
+// An input that keeps the error of the read that failed last. One type for both devices, so that
+// the engines are compiled once.
+#[derive(Drop)]
+struct Input {
+    device: Device,
+    error: Option<io::Error>,
+}
+
+impl Read for Input {
+    fn read(&mut self, buf: &mut [u8]) -> io::Result<usize> {
+        let answer = match &mut self.device {
+            Device::Standard(input) => input.read(buf),
+            Device::File(file) => file.read(buf),
+        };
+        match answer {
+            Ok(count) => Ok(count),
+            Err(error) => {
+                let kind = error.kind();
+                self.error = Some(error);
+                Err(io::Error::from(kind))
+            }
+        }
+    }
+}
+
 // Opens the job's file, or takes standard input, and runs the job on it.
-fn open_and_run(rt: &HostRuntime, job: &Job) -> u8 {
+fn open_and_run(rt: &HostRuntime, job: Job) -> u8 {
+    let mut job = job;
     match &job.file {
-        None => run_on(rt, job, rt.stdin()),
+        None => {
+            job.settings.live = may_wait(&fs::metadata(rt, STANDARD_INPUT));
+            run_on(rt, &job, Device::Standard(rt.stdin()))
+        }
         Some(name) => match File::open(rt, name.as_str()) {
-            Ok(file) => run_on(rt, job, file),
-            Err(_) => cannot_open(rt, name.as_str()),
+            Ok(file) => {
+                job.settings.live = may_wait(&file.metadata());
+                run_on(rt, &job, Device::File(file))
+            }
+            Err(error) => cannot_open(rt, name.as_str(), &error),
         },
+    }
+}
+
+// Whether an input may have to be waited for: all but a regular file.
+fn may_wait(metadata: &io::Result<Metadata>) -> bool {
+    match metadata {
+        Ok(metadata) => !metadata.is_file(),
+        Err(_) => true,
     }
 }
 
 // Runs the job on this input, writes to standard output, and flushes that. It holds the line of a
 // fault until after the flush, so that the line follows the texts if both go to one place.
-fn run_on<R: Read + Drop>(rt: &HostRuntime, job: &Job, input: R) -> u8 {
+fn run_on(rt: &HostRuntime, job: &Job, device: Device) -> u8 {
+    let mut input = Input {
+        device,
+        error: None,
+    };
+    let status = run_over(rt, job, &mut input);
+    if let Some(error) = &input.error {
+        explain(rt, error);
+    }
+    status
+}
+
+// The same, without what the system says of a read that failed.
+fn run_over(rt: &HostRuntime, job: &Job, input: &mut Input) -> u8 {
     let Ok(input) = BufferedIn::new(rt.alloc(), input) else {
         return out_of_memory(rt);
     };
@@ -87,14 +154,43 @@ fn help(rt: &HostRuntime, text: &str) -> u8 {
     }
 }
 
-fn bad_path(rt: &HostRuntime, at: usize) -> u8 {
+fn bad_path(rt: &HostRuntime, at: usize, text: &str) -> u8 {
     let _ = eprintln!(rt; "capvet: bad path at {at}");
+    let _ = eprintln!(rt; "capvet: the path is '{text}'; the order is 'capvet get PATH FILE'");
     USAGE
 }
 
-fn cannot_open(rt: &HostRuntime, name: &str) -> u8 {
+fn cannot_open(rt: &HostRuntime, name: &str, error: &io::Error) -> u8 {
     let _ = eprintln!(rt; "capvet: cannot open {name}");
+    explain(rt, error);
     FAILED
+}
+
+// Writes what the system says of a file or of an input.
+fn explain(rt: &HostRuntime, error: &io::Error) {
+    let _ = eprintln!(rt; "capvet: {error}");
+}
+
+// Names the first argument that is not UTF-8 by its number, from 1.
+fn bad_argument(rt: &HostRuntime) -> u8 {
+    let Ok(number) = first_bad_argument(rt) else {
+        return out_of_memory(rt);
+    };
+    let _ = eprintln!(rt; "capvet: argument {number} is not UTF-8");
+    USAGE
+}
+
+// The number of the first argument that is not UTF-8. The program's name is number 0.
+fn first_bad_argument(rt: &HostRuntime) -> Result<usize, AllocError> {
+    let mut text = Vec::with_capacity(rt.alloc(), ARGUMENT)?;
+    text.resize(ARGUMENT, 0)?;
+    for number in 0..usize::MAX {
+        match rt.arg(number, text.as_mut_slice()) {
+            Ok(length) if str::from_utf8(&text[..length]).is_ok() => {}
+            _ => return Ok(number),
+        }
+    }
+    Ok(usize::MAX)
 }
 
 fn out_of_memory(rt: &HostRuntime) -> u8 {

@@ -10,6 +10,7 @@ ghost use Rattle.cap_calls.specs.ExclusiveCalls.{TellsExclusive};
 ghost use Rattle.cap_calls.specs.NodeCalls.{TellsGet};
 ghost use Rattle.cap_calls.specs.RangeCalls.{TellsRange};
 ghost use Rattle.cap_calls.specs.PackCalls.{TellsPack, TellsUnpack};
+ghost use Rattle.cap_calls.specs.PointerCalls.{TellsPointer};
 ghost use Rattle.cap_calls.specs.SegmentCalls.{AreSegmentWords, TellsSegment};
 ghost use Rattle.cap_calls.specs.SegmentsCalls.{TellsSegments};
 ghost use Rattle.cap_calls.specs.PackedMessages.{TellsPackMessage};
@@ -18,20 +19,21 @@ ghost use Rattle.cap_calls.specs.declared.answer.Answer.{Answer};
 ghost use Rattle.cap_calls.specs.declared.answer.Answer.TheVariants.{Good, Overlap};
 ghost use Rattle.cap_calls.specs.declared.node.CallNode.{CallNode};
 ghost use Rattle.cap_calls.specs.declared.report.CallReport.{CallReport};
+ghost use Rattle.cap_calls.specs.declared.step.CallStep.{CallStep};
 ghost use Rattle.cap_calls.specs.Slices.{bytes_of};
-ghost use Rattle.std.specs.Prelude.{◌*◌, ◌+◌, ◌/◌, ◌≡◌, ◌≤◌, ◌⊎◌, IsFalse, List, drop, length, ℕ};
+ghost use Rattle.std.specs.Prelude.{◌*◌, ◌+◌, ◌/◌, ◌≡◌, ◌≤◌, ◌⊎◌, IsFalse, List, drop, length, min, ℕ};
 
 use cap_calls::{
-    CallLimits, CallNode, CallReport, CallStep, Unpacking, canonical, frame, get, get_range,
-    is_canonical, pack, pack_message, segment_at, unpack, unpack_message, version, vet,
-    vet_exclusive, vet_segments,
+    CallLimits, CallNode, CallReport, CallStep, Unpacking, canonical, canonical_size, frame,
+    frame_size, get, get_range, is_canonical, marks_size, pack, pack_message, pack_size,
+    pointer_path, segment_at, unpack, unpack_message, version, vet, vet_exclusive, vet_segments,
 };
 
 /// Returns the version of the library: 65536 times its major number, 256 times its minor number,
 /// and the number of its patch.
 #[unsafe(no_mangle)]
 pub extern "C" fn capvet_version() -> u32
-    ensures { result ≡ 65536 }
+    ensures { result ≡ 65792 }
 {
     version()
 }
@@ -40,6 +42,41 @@ pub extern "C" fn capvet_version() -> u32
 /// in any other.
 #[unsafe(no_mangle)]
 pub extern "C" fn capvet_abi_1() {}
+
+/// The most bytes of a frame whose segments have `message_words` words: `CAPVET_FRAME_BOUND`.
+/// Above `CAPVET_MAX_MESSAGE_WORDS` it is the bound of that maximum.
+#[unsafe(no_mangle)]
+pub extern "C" fn capvet_frame_bound(message_words: u64) -> usize
+    ensures { result ≡ frame_bound (min message_words 268435456) }
+{
+    frame_size(message_words)
+}
+
+/// The numbers that suffice for the marks of an input of `length` bytes: `CAPVET_MARKS_BOUND`.
+#[unsafe(no_mangle)]
+pub extern "C" fn capvet_marks_bound(length: usize) -> usize
+    ensures { result ≡ marks_bound length }
+{
+    marks_size(length)
+}
+
+/// The most bytes of the canonical copy of an input of `length` bytes that is unamplified:
+/// `CAPVET_CANONICAL_BOUND`, or the greatest `usize`, if it is less.
+#[unsafe(no_mangle)]
+pub extern "C" fn capvet_canonical_bound(length: usize) -> usize
+    ensures { result ≡ min (canonical_bound length) 18446744073709551615 }
+{
+    canonical_size(length)
+}
+
+/// The most bytes that packing `length` bytes gives: `CAPVET_PACK_BOUND`, or the greatest `usize`,
+/// if it is less.
+#[unsafe(no_mangle)]
+pub extern "C" fn capvet_pack_bound(length: usize) -> usize
+    ensures { result ≡ min (pack_bound length) 18446744073709551615 }
+{
+    pack_size(length)
+}
 
 /// Sets the limits to those of `CAPVET_LIMITS_INIT`.
 #[unsafe(no_mangle)]
@@ -266,6 +303,38 @@ pub extern "C" fn capvet_get_range(
         (result ≡ answer_number a) × (found.new ≡ n) × (nodes.new ≡ new) × (report.new ≡ r) }
 {
     get_range(bytes, limits, steps, varying, nodes, found, report).number()
+}
+
+/// Finds the path to the pointer word of this number in the message, in preorder: that of the root
+/// has number 1. `report.pointers` of another call is the number of the pointer that it names. The
+/// pointers before that one are followed, and the limit `depth` applies to them. `CAPVET_NO_NODE`:
+/// there is no such pointer, one before it can't be followed or leads past that limit, or the number
+/// is above the limit `charge` and 1.
+///
+/// With `CAPVET_OK`, the first `required` of `steps` are the path, and the others are unchanged.
+/// With `CAPVET_BUFFER_TOO_SMALL`, `required` is how many steps it has, and with any other result 0.
+/// Without `CAPVET_OK`, `steps` is unchanged. The result is the number of what [`pointer_path`]
+/// returns. The report is written whole. Allocates nothing.
+#[unsafe(no_mangle)]
+pub extern "C" fn capvet_pointer_path(
+    bytes: &[u8],
+    limits: &CallLimits,
+    number: u64,
+    steps: &mut [CallStep],
+    required: &mut usize,
+    report: &mut CallReport,
+) -> u32
+    ensures tells { (a : Answer)
+        × TellsPointer limits.now bytes.now number steps.old a required.new steps.new report.new
+        × (result ≡ answer_number a) }
+    // The bytes, the number and the capacity allow no other result.
+    ensures only { (a : Answer) (n : ℕ) (new : List CallStep) (r : CallReport) →
+        TellsPointer limits.now bytes.now number steps.old a n new r →
+        (result ≡ answer_number a) × (required.new ≡ n) × (steps.new ≡ new) × (report.new ≡ r) }
+    // This capacity is always enough.
+    ensures few { required.new ≤ 256 }
+{
+    pointer_path(bytes, limits, number, steps, required, report).number()
 }
 
 /// Packs the words of `bytes`, all of them, to the start of `out`; they need be no message.

@@ -4,17 +4,16 @@
 use super::held::{message, words};
 use crate::same::{same, same_of};
 use cap_canon::{
-    CanonFault, CopySource, canonical, canonical_bytes, canonical_len, canonical_over, check_with,
-    is_canonical,
+    CanonFault, canonical, canonical_bytes, canonical_len, canonical_over, check_with, is_canonical,
 };
-use cap_frame::OneSegment;
+use cap_frame::{OneSegment, Segments};
 use cap_vet::{Demands, Limits, Vetted, vet};
 use std::alloc::Global;
 use std::process::Abort;
 use std::test::Fail;
 
 // Whether a message is canonical, by the call that vets it too.
-fn is_checked<M: CopySource>(message: &M, limits: Limits) -> Result<bool, Fail> {
+fn is_checked<M: Segments>(message: &M, limits: Limits) -> Result<bool, Fail> {
     match check_with(message, limits, Demands::default()) {
         Ok((_, canonical)) => Ok(canonical),
         Err(_) => Err("refused".into()),
@@ -22,7 +21,7 @@ fn is_checked<M: CopySource>(message: &M, limits: Limits) -> Result<bool, Fail> 
 }
 
 // The copy of a message has these words.
-fn has_copy<M: CopySource>(
+fn has_copy<M: Segments>(
     rt: &impl Abort,
     alloc: Global,
     message: &M,
@@ -95,7 +94,7 @@ fn copies_of_known_messages(rt: HostRuntime) -> Result<(), Fail> {
 }
 
 // Each call names the first capability of a message, and leaves a buffer as it is.
-fn has_none<M: CopySource>(
+fn has_none<M: Segments>(
     rt: &impl Abort,
     alloc: Global,
     vetted: &Vetted<'_, M>,

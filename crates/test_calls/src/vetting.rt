@@ -3,6 +3,7 @@
 
 mod charges;
 mod nodes;
+mod paths;
 
 use super::held::{cloned, message, words};
 use crate::same::{same, same_of};

@@ -12,7 +12,12 @@ fn is_usage(alloc: Global, all: Vec<String>) -> bool {
         Ok(_job) => false,
         Err(JobFault::Help { text: _text }) => false,
         Err(JobFault::Usage { text }) => !text.is_empty(),
-        Err(JobFault::Path { at: _at }) => false,
+        Err(
+            JobFault::Path {
+                at: _at,
+                text: _text,
+            },
+        ) => false,
         Err(JobFault::Memory) => false,
     }
 }
@@ -28,10 +33,11 @@ fn reads_a_command_line(rt: HostRuntime) -> Result<(), Fail> {
 }
 
 // Commands with their options.
-static COMMANDS: [(&str, &[&str]); 8] = [
+static COMMANDS: [(&str, &[&str]); 9] = [
     ("segments", &[]),
     ("vet", &[]),
     ("vet", &["--exclusive"]),
+    ("explain", &[]),
     ("filter", &[]),
     ("dump", &[]),
     ("get", &["/"]),

@@ -30,6 +30,14 @@ const LINES: &[(usize, &str)] = &[
     (80, "capvet: message 3: Device\n"),
 ];
 
+// The second of them.
+const RESERVED: &str = "00000000010000000700000005000000";
+
+const LINES_RESERVED: &[(usize, &str)] = &[
+    (0, "capvet: message 0: Device\n"),
+    (16, "capvet: message 1: Device\n"),
+];
+
 const MESSAGES_PACKED: &str = "1002110119ffffffffffffffffff0010011107051004400211040110010107";
 
 const LINES_PACKED: &[(usize, &str)] = &[
@@ -65,7 +73,7 @@ const GROUPS: &str = "51080302ff616161616161616101616263646566670000013119aa01";
 
 const NO_MESSAGE: &[(usize, &str)] = &[(0, "capvet: Device\n")];
 
-static ROWS: [Row; 19] = [
+static ROWS: [Row; 20] = [
     Row {
         command: "segments",
         options: &[],
@@ -101,6 +109,12 @@ static ROWS: [Row; 19] = [
         options: &["--exclusive", "--packed"],
         stream: MESSAGES_PACKED,
         lines: LINES_PACKED,
+    },
+    Row {
+        command: "explain",
+        options: &[],
+        stream: RESERVED,
+        lines: LINES_RESERVED,
     },
     Row {
         command: "dump",

@@ -9,6 +9,8 @@ mod ends;
 #[cfg(test)]
 mod frames;
 #[cfg(test)]
+mod lanes;
+#[cfg(test)]
 mod packing;
 #[cfg(test)]
 mod same;

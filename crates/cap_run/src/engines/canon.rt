@@ -12,11 +12,13 @@ ghost use Rattle.cap_spec.specs.Plain.{plain_words};
 ghost use Rattle.cap_vet.specs.Limits.{depth_of, words_of};
 ghost use Rattle.std.specs.Prelude.{◌*◌, ◌<◌, ◌≡◌, ◌^◌, [], ◌∷◌, IfErr, List, OnOk, false, length, true, ℕ};
 
+use crate::engines::flushing::{AHEAD, flush_sink, waits_for_message};
 use crate::engines::stream::end_stream;
 use crate::fault::output_fault;
+use crate::peek::Peek;
 use crate::settings::{Outcome, Settings};
-use cap_canon::{CopySource, canonical_over};
-use cap_frame::{ByteMessage, read_into};
+use cap_canon::canonical_over;
+use cap_frame::{ByteMessage, Segments, read_into};
 use cap_spec::StrictRefusal;
 use cap_text::{Cause, RunFault};
 use cap_vet::{Demands, Limits, vet_with};
@@ -62,7 +64,7 @@ fn refused_by(refusal: StrictRefusal) -> Cause
 
 /// Vets a message under demands, writes its canonical copy over the buffer of the last one, and puts
 /// it to the sink. If the message doesn't meet them, or no copy can be made, nothing is put.
-fn put_copy<K: WordSink, M: CopySource>(
+fn put_copy<K: WordSink, M: Segments>(
     alloc: Global,
     sink: &mut K,
     message: &M,
@@ -92,28 +94,22 @@ fn put_copy<K: WordSink, M: CopySource>(
     }
 }
 
-/// Flushes what was put, unless a byte of the next message is buffered.
-fn flush_before_waiting<S: WordSource, K: WordSink>(
-    source: &S,
-    sink: &mut K,
-) -> Result<(), SinkFault>
-    ensures ok { OnOk result ((before : K) (own : List ℕ) →
-        PutsWords K.WordSink before sink.old own → PutsWords K.WordSink before sink.new own) }
-    ensures err { IfErr result (λ fault. (before : K) (own : List ℕ) →
-        PutsWords K.WordSink before sink.old own → Halts K.WordSink before sink.new own fault) }
-{
-    if source.is_at_hand() {
-        return Ok(());
-    }
-    sink.flush()
+/// The buffers of a run, which are filled again at each message.
+#[derive(Drop)]
+struct CanonRoom {
+    /// The message that was read last.
+    message: ByteMessage,
+    /// Its copy.
+    copy: Vec<u8>,
+    /// A place for words that are looked at ahead.
+    ahead: [u8; AHEAD],
 }
 
 /// Reads the next message into the buffer of the last one, and puts its copy, for which there is a
 /// buffer too. `false` if the stream ends before it.
-fn put_next<S: WordSource, K: WordSink>(
+fn put_next<S: Peek, K: WordSink>(
     alloc: Global,
-    message: &mut ByteMessage,
-    copy: &mut Vec<u8>,
+    room: &mut CanonRoom,
     source: &mut S,
     sink: &mut K,
     settings: &Settings,
@@ -128,13 +124,15 @@ fn put_next<S: WordSource, K: WordSink>(
         demands (words_of s.limits) (depth_of s.limits) (limit_of s.size)
         source.old source.new sink.old sink.new cause) }
 {
-    match read_into(alloc, source, settings.size, message) {
+    let (limits, size) = (settings.limits, settings.size);
+    match read_into(alloc, source, size, &mut room.message) {
         Ok(true) => {
-            let view = message.view();
-            if let Err(cause) = put_copy(alloc, sink, &view, copy, settings.limits, demands) {
+            let view = room.message.view();
+            if let Err(cause) = put_copy(alloc, sink, &view, &mut room.copy, limits, demands) {
                 return Err(cause);
             }
-            match flush_before_waiting(source, sink) {
+            let waits = waits_for_message(source, settings, &mut room.ahead);
+            match flush_sink(sink, waits) {
                 Ok(()) => Ok(true),
                 Err(fault) => Err(Cause::Output(output_fault(fault))),
             }
@@ -146,7 +144,7 @@ fn put_next<S: WordSource, K: WordSink>(
 
 /// Puts the copies of the messages of a stream. Returns how many were put, and why there were no
 /// more. The sink isn't finished yet.
-fn put_copies<S: WordSource, K: WordSink>(
+fn put_copies<S: Peek, K: WordSink>(
     alloc: Global,
     source: &mut S,
     sink: &mut K,
@@ -157,18 +155,13 @@ fn put_copies<S: WordSource, K: WordSink>(
         demands (words_of s.limits) (depth_of s.limits) (limit_of s.size) s.messages
         source.old source.new sink.old sink.new result.0 result.1 }
 {
-    let mut message = ByteMessage::blank(alloc);
-    let mut copy = Vec::new(alloc);
+    let mut room = CanonRoom {
+        message: ByteMessage::blank(alloc),
+        copy: Vec::new(alloc),
+        ahead: [0; AHEAD],
+    };
     for number in 0..settings.messages {
-        match put_next(
-            alloc,
-            &mut message,
-            &mut copy,
-            source,
-            sink,
-            settings,
-            demands,
-        ) {
+        match put_next(alloc, &mut room, source, sink, settings, demands) {
             Ok(true) => {}
             Ok(false) => return (number, Ok(())),
             Err(cause) => return (number, Err(cause)),
@@ -188,7 +181,7 @@ fn without_fault(end: &Result<(), Cause>) -> bool
 }
 
 /// Puts the copies of the messages of a stream, and finishes the sink unless the output failed.
-fn make_copies<S: WordSource, K: WordSink>(
+fn make_copies<S: Peek, K: WordSink>(
     alloc: Global,
     source: &mut S,
     sink: &mut K,
@@ -208,33 +201,12 @@ fn make_copies<S: WordSource, K: WordSink>(
     (messages, end)
 }
 
-/// Reads the messages of a stream to its end, and puts the canonical copy of each to a sink. Each
-/// copy is put as a framed message of one segment (encoding: Canonicalization, Serialization Over a
-/// Stream).
-///
-/// The copy of a message is put before the next message is read. It is flushed unless a byte of the
-/// next message is buffered. The sink is finished at the end, and before an error is returned,
-/// unless the output failed. It is closed after the call in any case.
-///
-/// Keeps a buffer for messages and one for copies, which [`canonical_over`](cap_canon::canonical_over)
-/// fills, and allocates a new one only for what doesn't fit.
+/// Does what [`run_canon_with`] does, without demands.
 ///
 /// # Errors
 ///
-/// The error names the message at which the run ended, counted from 0. The copies of all messages
-/// before it were put, and no message after it was read.
-///
-/// - [`Cause::TooManyMessages`]: the stream has more than `settings.messages` messages.
-/// - [`Cause::Frame`]: the message can't be read within `settings.size`, see
-///   [`FrameFault`](cap_frame::FrameFault).
-/// - [`Cause::Refused`]: the message isn't accepted within `settings.limits`. The refusal names the
-///   first bad pointer and the reason.
-/// - [`Cause::Canon`]: the message has a capability, so that it has no copy, or the allocation of
-///   the copy failed.
-/// - [`Cause::Output`]: the output failed as a copy was put or flushed, or as the sink was
-///   finished. It took a prefix of the text of the copies. If finishing the sink fails after
-///   another error, `Output` is returned.
-pub fn run_canon<S: WordSource, K: WordSink>(
+/// Those of [`run_canon_with`], without [`Cause::NotStrict`].
+pub fn run_canon<S: Peek, K: WordSink>(
     alloc: Global,
     source: &mut S,
     sink: &mut K,
@@ -247,10 +219,16 @@ pub fn run_canon<S: WordSource, K: WordSink>(
     run_canon_with(alloc, source, sink, settings, Demands::default())
 }
 
-/// Reads the messages of a stream to its end, and puts the canonical copy of each to a sink, as
-/// [`run_canon`] does. The run also ends at a message that doesn't meet the demands (profile).
+/// Reads the messages of a stream to its end, and puts the canonical copy of each to a sink. Each
+/// copy is put as a framed message of one segment (encoding: Canonicalization, Serialization Over a
+/// Stream). The run ends at a message that isn't accepted, or doesn't meet the demands (profile).
 ///
-/// What is put, flushed and finished, and what is allocated, is as in [`run_canon`].
+/// The copy of a message is put before the next message is read, and flushed as `settings.live` says.
+/// The sink is finished at the end, and before an error is returned, unless the output failed. It is
+/// closed after the call in any case.
+///
+/// Keeps a buffer for messages and one for copies, which [`canonical_over`](cap_canon::canonical_over)
+/// fills, and allocates a new one only for what doesn't fit.
 ///
 /// # Errors
 ///
@@ -270,7 +248,7 @@ pub fn run_canon<S: WordSource, K: WordSink>(
 /// - [`Cause::Output`]: the output failed as a copy was put or flushed, or as the sink was
 ///   finished. It took a prefix of the text of the copies. If finishing the sink fails after
 ///   another error, `Output` is returned.
-pub fn run_canon_with<S: WordSource, K: WordSink>(
+pub fn run_canon_with<S: Peek, K: WordSink>(
     alloc: Global,
     source: &mut S,
     sink: &mut K,

@@ -1,7 +1,7 @@
 //! The engine that writes for each message whether it is canonical.
 
-ghost use Rattle.cap_run.specs.Checking.{TellsCheck, TellsChecked};
-ghost use Rattle.cap_run.specs.Demanding.{OrFaultIn, TellsCheckUnder};
+ghost use Rattle.cap_run.specs.Checking.{TellsChecked};
+ghost use Rattle.cap_run.specs.Demanding.{OrFaultIn, TellsCheckUnder, no_demands};
 ghost use Rattle.cap_run.specs.Engines.{TellsStream};
 ghost use Rattle.cap_run.specs.Telling.{WantsNone};
 ghost use Rattle.cap_frame.specs.Limit.{limit_of};
@@ -10,12 +10,13 @@ ghost use Rattle.std.specs.Prelude.{◌≡◌, if◌then◌else◌};
 
 use crate::engines::stream::Counted;
 use crate::engines::whole::{Judge, after_text, judge_all};
+use crate::peek::Peek;
 use crate::settings::{Outcome, Settings};
 use cap_canon::check_with;
 use cap_frame::Segments;
 use cap_text::{Cause, Page, RunFault, write_check, write_refused};
 use cap_vet::{Demands, Limits};
-use cap_words::{ByteOut, WordSource};
+use cap_words::ByteOut;
 use std::alloc::Global;
 
 /// Vets a message under demands, and writes whether it is canonical if it meets them. Otherwise it
@@ -62,14 +63,32 @@ fn count_of(canonical: bool) -> Counted
     }
 }
 
+/// Does what [`run_check_with`] does, without demands.
+///
+/// # Errors
+///
+/// Those of [`run_check_with`].
+pub fn run_check<S: Peek, O: ByteOut>(
+    alloc: Global,
+    source: &mut S,
+    out: &mut O,
+    settings: &Settings,
+) -> Result<Outcome, RunFault>
+    ensures { let s = settings.now in TellsStream S.WordSource O.ByteOut
+        (TellsCheckUnder no_demands (words_of s.limits) (depth_of s.limits)) WantsNone
+        (limit_of s.size) s.messages source.old source.new out.old out.new result }
+{
+    run_check_with(alloc, source, out, settings, Demands::default())
+}
+
 /// Reads the messages of a stream to its end, and writes for each whether it is canonical. A
 /// message is canonical if it has one segment, whose words are its canonical copy (encoding:
 /// Canonicalization). A message with a capability isn't.
 ///
-/// For a message that isn't accepted within `settings.limits` it writes the line of
-/// [`run_vet`](crate::run_vet). A message that is refused or isn't canonical is counted, and
-/// doesn't end the run. The line of a message is written before the next message is read. It is
-/// flushed unless a byte of the next message is buffered.
+/// For a message that isn't accepted within `settings.limits`, or doesn't meet the demands, it
+/// writes the line of [`run_vet_with`](crate::run_vet_with). A message that is refused or isn't
+/// canonical is counted, and doesn't end the run. The line of a message is written before the next
+/// message is read, and flushed as `settings.live` says.
 ///
 /// Allocates only to hold a message that is larger than all before it: eight bytes for each word.
 ///
@@ -84,37 +103,7 @@ fn count_of(canonical: bool) -> Counted
 ///   [`FrameFault`](cap_frame::FrameFault).
 /// - [`Cause::Output`](crate::Cause::Output): the output failed as the line was written or flushed.
 ///   It took a prefix of the line, or all of it.
-pub fn run_check<S: WordSource, O: ByteOut>(
-    alloc: Global,
-    source: &mut S,
-    out: &mut O,
-    settings: &Settings,
-) -> Result<Outcome, RunFault>
-    ensures { let s = settings.now in TellsStream S.WordSource O.ByteOut
-        (TellsCheck (words_of s.limits) (depth_of s.limits)) WantsNone
-        (limit_of s.size) s.messages source.old source.new out.old out.new result }
-{
-    run_check_with(alloc, source, out, settings, Demands::default())
-}
-
-/// Reads the messages of a stream to its end, and writes for each whether it is canonical, as
-/// [`run_check`] does. For a message that isn't accepted within `settings.limits`, or doesn't meet
-/// the demands, it writes the line of [`run_vet_with`](crate::run_vet_with).
-///
-/// Everything else is as in [`run_check`]: what is counted and flushed, and what is allocated.
-///
-/// # Errors
-///
-/// The error names the message at which the run ended, counted from 0. The lines of all messages
-/// before it were written, and no message after it was read.
-///
-/// - [`Cause::TooManyMessages`](crate::Cause::TooManyMessages): the stream has more than
-///   `settings.messages` messages.
-/// - [`Cause::Frame`](crate::Cause::Frame): the message can't be read within `settings.size`, see
-///   [`FrameFault`](cap_frame::FrameFault).
-/// - [`Cause::Output`](crate::Cause::Output): the output failed as the line was written or flushed.
-///   It took a prefix of the line, or all of it.
-pub fn run_check_with<S: WordSource, O: ByteOut>(
+pub fn run_check_with<S: Peek, O: ByteOut>(
     alloc: Global,
     source: &mut S,
     out: &mut O,

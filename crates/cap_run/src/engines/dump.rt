@@ -1,19 +1,20 @@
 //! The engine that writes the tree of each message.
 
-ghost use Rattle.cap_run.specs.Demanding.{TellsDumpUnder};
+ghost use Rattle.cap_run.specs.Demanding.{TellsDumpUnder, no_demands};
 ghost use Rattle.cap_run.specs.Engines.{TellsStream};
 ghost use Rattle.cap_run.specs.Telling.{WantsNone};
-ghost use Rattle.cap_run.specs.Vetting.{TellsDump, TellsTree};
+ghost use Rattle.cap_run.specs.Vetting.{TellsTree};
 ghost use Rattle.cap_frame.specs.Limit.{limit_of};
 ghost use Rattle.cap_vet.specs.Limits.{depth_of, words_of};
 
 use crate::engines::stream::Counted;
 use crate::engines::whole::{Teller, after_text, vet_all};
+use crate::peek::Peek;
 use crate::settings::{Outcome, Settings};
 use cap_frame::Segments;
 use cap_text::{Cause, Page, RunFault, write_tree};
 use cap_vet::{Demands, Vetted};
-use cap_words::{ByteOut, WordSource};
+use cap_words::ByteOut;
 use std::alloc::Global;
 
 /// Writes the tree of a message.
@@ -36,12 +37,30 @@ impl Teller for DumpTeller {
     }
 }
 
+/// Does what [`run_dump_with`] does, without demands.
+///
+/// # Errors
+///
+/// Those of [`run_dump_with`].
+pub fn run_dump<S: Peek, O: ByteOut>(
+    alloc: Global,
+    source: &mut S,
+    out: &mut O,
+    settings: &Settings,
+) -> Result<Outcome, RunFault>
+    ensures { let s = settings.now in TellsStream S.WordSource O.ByteOut
+        (TellsDumpUnder no_demands (words_of s.limits) (depth_of s.limits)) WantsNone
+        (limit_of s.size) s.messages source.old source.new out.old out.new result }
+{
+    run_dump_with(alloc, source, out, settings, Demands::default())
+}
+
 /// Reads the messages of a stream to its end, and writes for each the line of
-/// [`run_vet`](crate::run_vet). After the line of an accepted message it writes the message's whole
-/// tree, as [`dump`](crate::dump) does.
+/// [`run_vet_with`](crate::run_vet_with). After the line of an accepted message it writes the
+/// message's whole tree, as [`dump`](crate::dump) does.
 ///
 /// A refused message is counted, and doesn't end the run. The text of a message is written before
-/// the next message is read. It is flushed unless a byte of the next message is buffered.
+/// the next message is read, and flushed as `settings.live` says.
 ///
 /// Allocates only to hold a message that is larger than all before it: eight bytes for each word.
 ///
@@ -56,37 +75,7 @@ impl Teller for DumpTeller {
 ///   [`FrameFault`](cap_frame::FrameFault).
 /// - [`Cause::Output`](crate::Cause::Output): the output failed as the text was written or flushed.
 ///   It took a prefix of the text, or all of it.
-pub fn run_dump<S: WordSource, O: ByteOut>(
-    alloc: Global,
-    source: &mut S,
-    out: &mut O,
-    settings: &Settings,
-) -> Result<Outcome, RunFault>
-    ensures { let s = settings.now in TellsStream S.WordSource O.ByteOut
-        (TellsDump (words_of s.limits) (depth_of s.limits)) WantsNone
-        (limit_of s.size) s.messages source.old source.new out.old out.new result }
-{
-    run_dump_with(alloc, source, out, settings, Demands::default())
-}
-
-/// Reads the messages of a stream to its end, and writes for each the line of
-/// [`run_vet_with`](crate::run_vet_with). After the line of an accepted message it writes the
-/// message's whole tree, as [`dump`](crate::dump) does.
-///
-/// Everything else is as in [`run_dump`]: what is counted and flushed, and what is allocated.
-///
-/// # Errors
-///
-/// The error names the message at which the run ended, counted from 0. The texts of all messages
-/// before it were written, and no message after it was read.
-///
-/// - [`Cause::TooManyMessages`](crate::Cause::TooManyMessages): the stream has more than
-///   `settings.messages` messages.
-/// - [`Cause::Frame`](crate::Cause::Frame): the message can't be read within `settings.size`, see
-///   [`FrameFault`](cap_frame::FrameFault).
-/// - [`Cause::Output`](crate::Cause::Output): the output failed as the text was written or flushed.
-///   It took a prefix of the text, or all of it.
-pub fn run_dump_with<S: WordSource, O: ByteOut>(
+pub fn run_dump_with<S: Peek, O: ByteOut>(
     alloc: Global,
     source: &mut S,
     out: &mut O,

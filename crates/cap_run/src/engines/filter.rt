@@ -2,16 +2,16 @@
 
 ghost use Rattle.cap_run.specs.Filtering.{FiltersUnder};
 ghost use Rattle.cap_run.specs.Sieves.{SieveAll, SieveNext, SieveStops, SieveUntil};
-ghost use Rattle.cap_run.specs.Sifting.{ShowsFrame};
 ghost use Rattle.cap_run.specs.Streams.{EndsStream};
 ghost use Rattle.cap_frame.specs.Limit.{limit_of};
-ghost use Rattle.std.specs.Prelude.{◌≡◌, ◌≢◌, ◌↔◌, IfErr, IsFalse, IsTrue};
+ghost use Rattle.std.specs.Prelude.{◌≡◌, ◌≢◌, IfErr, IsFalse, IsTrue};
 
+use crate::engines::flushing::{AHEAD, waits_for_message};
 use crate::engines::sifting::{Passage, Sieve};
 use crate::engines::stream::{Counted, count, end_stream};
 use crate::peek::Peek;
 use crate::settings::{FilterForm, Outcome, Settings};
-use cap_frame::{ByteMessage, SizeLimit, front_of, read_into};
+use cap_frame::{ByteMessage, read_into};
 use cap_text::{Cause, RunFault};
 use cap_vet::Demands;
 use cap_words::ByteOut;
@@ -21,45 +21,35 @@ use std::alloc::Global;
 #[derive(Drop)]
 struct FilterRoom {
     message: ByteMessage,
+    /// A place for words that are looked at ahead.
+    ahead: [u8; AHEAD],
     passage: Passage,
 }
 
-/// Whether the source shows a whole message within the limit, so that it gives this message without
-/// a call of the device.
-fn shows_next<S: Peek>(source: &S, size: SizeLimit) -> bool
-    ensures { IsTrue result ↔ ShowsFrame (limit_of size) (S.ahead source.now) }
-{
-    match front_of(source.ahead(), size) {
-        Ok(Some(_)) => true,
-        Ok(None) => false,
-        Err(_) => false,
-    }
-}
-
 /// Reads the next message and sifts it. `None` if the stream ends before it. The frame of an
-/// accepted message is flushed unless the source shows the whole message after it.
+/// accepted message is flushed if the input may have to be waited for before the next one is whole.
 fn sift_next<S: Peek, O: ByteOut, E: ByteOut>(
     sieve: &Sieve,
     room: &mut FilterRoom,
     source: &mut S,
     out: &mut O,
     log: &mut E,
-    size: SizeLimit,
+    settings: &Settings,
     number: u32,
 ) -> Result<Option<Counted>, Cause>
     ensures some { (counted : Counted) → result ≡ Ok (Some counted) →
-        SieveNext S.WordSource O.ByteOut E.ByteOut sieve.now (limit_of size) number
+        SieveNext S.WordSource O.ByteOut E.ByteOut sieve.now (limit_of settings.now.size) number
         source.old source.new out.old out.new log.old log.new room.old room.new (Ok counted) }
     ensures none { result ≡ Ok None → EndsStream S.WordSource source.old source.new
         × (out.new ≡ out.old) × (log.new ≡ log.old)
         × (room.new.passage.failed ≡ room.old.passage.failed) }
     ensures err { IfErr result (SieveStops S.WordSource O.ByteOut E.ByteOut sieve.now
-        (limit_of size) number source.old source.new out.old out.new log.old log.new
+        (limit_of settings.now.size) number source.old source.new out.old out.new log.old log.new
         room.old room.new) }
 {
-    match read_into(sieve.alloc, source, size, &mut room.message) {
+    match read_into(sieve.alloc, source, settings.size, &mut room.message) {
         Ok(true) => {
-            let wait = shows_next(source, size);
+            let wait = !waits_for_message(source, settings, &mut room.ahead);
             let message = room.message.view();
             match sieve.sift(&mut room.passage, out, log, wait, number, &message) {
                 Ok(counted) => Ok(Some(counted)),
@@ -102,10 +92,11 @@ fn sift_each<S: Peek, O: ByteOut, E: ByteOut>(
     };
     let mut room = FilterRoom {
         message: ByteMessage::blank(sieve.alloc),
+        ahead: [0; AHEAD],
         passage: Passage::new(),
     };
     for number in 0..settings.messages {
-        match sift_next(sieve, &mut room, source, out, log, settings.size, number) {
+        match sift_next(sieve, &mut room, source, out, log, settings, number) {
             Ok(Some(counted)) => {
                 outcome = count(outcome, counted);
                 if ends_after(counted, sieve.form.stop) {
@@ -142,10 +133,9 @@ fn sift_each<S: Peek, O: ByteOut, E: ByteOut>(
 /// vetted. The frame of a message, or its line, is written before the next message is read. If `log`
 /// fails, it isn't called again, and the run goes on.
 ///
-/// A frame is flushed before the next message is read, unless the source shows this message whole
-/// and within `settings.size`, see [`Peek`](crate::Peek). So the input isn't asked for bytes while a
-/// frame waits. The frames that wait are flushed before a line is written. They still wait if the
-/// run ends with [`Cause::TooManyMessages`], or as an allocation fails.
+/// Frames are flushed as `settings.live` says. The frames that wait are flushed before a line is
+/// written. They still wait if the run ends with [`Cause::TooManyMessages`], or as an allocation
+/// fails.
 ///
 /// Allocates to hold a message only if it is larger than all before it: eight bytes for each word.
 /// With `form.exclusive` it allocates the marks for a message that meets the demands: one bit for

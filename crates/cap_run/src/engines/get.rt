@@ -1,20 +1,21 @@
 //! The engine that writes the node of each message at one path.
 
-ghost use Rattle.cap_run.specs.Demanding.{TellsGetUnder};
+ghost use Rattle.cap_run.specs.Demanding.{TellsGetUnder, no_demands};
 ghost use Rattle.cap_run.specs.Engines.{TellsStream};
 ghost use Rattle.cap_run.specs.Telling.{WantsNone};
-ghost use Rattle.cap_run.specs.Vetting.{TellsGet, TellsNode};
+ghost use Rattle.cap_run.specs.Vetting.{TellsNode};
 ghost use Rattle.cap_frame.specs.Limit.{limit_of};
 ghost use Rattle.cap_vet.specs.Limits.{depth_of, words_of};
 
 use crate::engines::stream::Counted;
 use crate::engines::whole::{Teller, after_text, vet_all};
+use crate::peek::Peek;
 use crate::settings::{Outcome, Settings};
 use cap_frame::Segments;
 use cap_spec::Step;
 use cap_text::{Cause, Page, RunFault, write_node};
 use cap_vet::{Demands, Vetted};
-use cap_words::{ByteOut, WordSource};
+use cap_words::ByteOut;
 use std::alloc::Global;
 
 /// Writes the node at this path of a message's tree.
@@ -40,13 +41,33 @@ impl<'p> Teller for GetTeller<'p> {
     }
 }
 
+/// Does what [`run_get_with`] does, without demands.
+///
+/// # Errors
+///
+/// Those of [`run_get_with`].
+pub fn run_get<S: Peek, O: ByteOut>(
+    alloc: Global,
+    source: &mut S,
+    out: &mut O,
+    settings: &Settings,
+    path: &[Step],
+) -> Result<Outcome, RunFault>
+    ensures { let s = settings.now in TellsStream S.WordSource O.ByteOut
+        (TellsGetUnder no_demands (words_of s.limits) (depth_of s.limits) path.now) WantsNone
+        (limit_of s.size) s.messages source.old source.new out.old out.new result }
+{
+    run_get_with(alloc, source, out, settings, Demands::default(), path)
+}
+
 /// Reads the messages of a stream to its end, and writes for each the node of its tree at the path,
-/// without the node's children. If the tree has no node there, it writes `none`. For a refused
-/// message it writes the line of [`run_vet`](crate::run_vet).
+/// without the node's children. If the tree has no node there, it writes `none`. For a message that
+/// is refused or doesn't meet the demands it writes the line of
+/// [`run_vet_with`](crate::run_vet_with).
 ///
 /// A message without such a node isn't refused. A refused message is counted, and doesn't end the
-/// run. The text of a message is written before the next message is read. It is flushed unless a
-/// byte of the next message is buffered.
+/// run. The text of a message is written before the next message is read, and flushed as
+/// `settings.live` says.
 ///
 /// Allocates only to hold a message that is larger than all before it: eight bytes for each word.
 ///
@@ -61,39 +82,7 @@ impl<'p> Teller for GetTeller<'p> {
 ///   [`FrameFault`](cap_frame::FrameFault).
 /// - [`Cause::Output`](crate::Cause::Output): the output failed as the text was written or flushed.
 ///   It took a prefix of the text, or all of it.
-pub fn run_get<S: WordSource, O: ByteOut>(
-    alloc: Global,
-    source: &mut S,
-    out: &mut O,
-    settings: &Settings,
-    path: &[Step],
-) -> Result<Outcome, RunFault>
-    ensures { let s = settings.now in TellsStream S.WordSource O.ByteOut
-        (TellsGet (words_of s.limits) (depth_of s.limits) path.now) WantsNone
-        (limit_of s.size) s.messages source.old source.new out.old out.new result }
-{
-    run_get_with(alloc, source, out, settings, Demands::default(), path)
-}
-
-/// Reads the messages of a stream to its end, and writes for each the node of its tree at the path,
-/// without the node's children. If the tree has no node there, it writes `none`. For a message that
-/// is refused or doesn't meet the demands it writes the line of
-/// [`run_vet_with`](crate::run_vet_with).
-///
-/// Everything else is as in [`run_get`]: what is counted and flushed, and what is allocated.
-///
-/// # Errors
-///
-/// The error names the message at which the run ended, counted from 0. The texts of all messages
-/// before it were written, and no message after it was read.
-///
-/// - [`Cause::TooManyMessages`](crate::Cause::TooManyMessages): the stream has more than
-///   `settings.messages` messages.
-/// - [`Cause::Frame`](crate::Cause::Frame): the message can't be read within `settings.size`, see
-///   [`FrameFault`](cap_frame::FrameFault).
-/// - [`Cause::Output`](crate::Cause::Output): the output failed as the text was written or flushed.
-///   It took a prefix of the text, or all of it.
-pub fn run_get_with<S: WordSource, O: ByteOut>(
+pub fn run_get_with<S: Peek, O: ByteOut>(
     alloc: Global,
     source: &mut S,
     out: &mut O,

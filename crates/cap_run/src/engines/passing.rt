@@ -43,7 +43,7 @@ fn write_first<O: ByteOut>(out: &mut O, bytes: &[u8]) -> Result<(), OutFault>
 }
 
 /// Writes bytes after a text that isn't empty.
-fn write_more<O: ByteOut>(out: &mut O, bytes: &[u8]) -> Result<(), OutFault>
+pub(crate) fn write_more<O: ByteOut>(out: &mut O, bytes: &[u8]) -> Result<(), OutFault>
     ensures { (before : O) (text : List ℕ) → Wrote O.ByteOut before out.old text →
         Writes O.ByteOut before out.new result (text ++ bytes.now) }
 {

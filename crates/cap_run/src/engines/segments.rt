@@ -6,6 +6,7 @@ ghost use Rattle.cap_frame.specs.Limit.{limit_of};
 ghost use Rattle.std.specs.Prelude.{false};
 
 use crate::engines::stream::{Counted, Engine, tell_all};
+use crate::peek::Peek;
 use crate::settings::{Outcome, Settings};
 use cap_frame::{Outline, SizeLimit, read_outline};
 use cap_text::{Cause, Page, RunFault, write_segments};
@@ -60,8 +61,8 @@ impl Engine for SegmentsEngine {
 /// Reads the messages of a stream to its end, and writes for each its segments, their sizes in
 /// words and the root word (encoding: Serialization Over a Stream). The messages aren't vetted.
 ///
-/// The text of a message is written before the next message is read. It is flushed unless a byte of
-/// the next message is buffered. The words of a message aren't held, and nothing is allocated.
+/// The text of a message is written before the next message is read, and flushed as `settings.live`
+/// says. The words of a message aren't held, and nothing is allocated.
 ///
 /// # Errors
 ///
@@ -75,7 +76,7 @@ impl Engine for SegmentsEngine {
 ///   [`FrameFault::Memory`](cap_frame::FrameFault::Memory).
 /// - [`Cause::Output`](crate::Cause::Output): the output failed as the text was written or flushed.
 ///   It took a prefix of the text, or all of it.
-pub fn run_segments<S: WordSource, O: ByteOut>(
+pub fn run_segments<S: Peek, O: ByteOut>(
     source: &mut S,
     out: &mut O,
     settings: &Settings,

@@ -4,10 +4,11 @@ ghost use Rattle.cap_run.specs.Engines.{StopsEarly, ReachesEnd, TellsStream};
 ghost use Rattle.cap_run.specs.Running.{EndStops, StepStops, StepTells};
 ghost use Rattle.cap_run.specs.Streams.{EndsStream};
 ghost use Rattle.cap_run.specs.Telling.{one_noncanonical, one_refused};
-ghost use Rattle.cap_text.specs.Writing.{Writes, Wrote};
 ghost use Rattle.cap_frame.specs.Limit.{limit_of};
 ghost use Rattle.std.specs.Prelude.{◌+◌, ◌-◌, ◌<◌, ◌^◌, ◌≡◌, ◌≤◌, Bool, IfErr, IfOk, IfSome, List, OnOk, true, ℕ};
 
+use crate::engines::flushing::{AHEAD, flush_output, waits_for_message};
+use crate::peek::Peek;
 use crate::settings::{Outcome, Settings};
 use cap_frame::{FrameFault, Outline, SizeLimit, read_outline};
 use cap_text::{Cause, RunFault};
@@ -84,18 +85,6 @@ pub(crate) fn end_stream<S: WordSource>(source: &mut S, limit: SizeLimit) -> Res
     }
 }
 
-/// Flushes what was written, unless a byte of the next message is buffered. After an error the
-/// output has taken all that was written.
-fn flush_before_waiting<S: WordSource, O: ByteOut>(source: &S, out: &mut O) -> Result<(), OutFault>
-    ensures { (before : O) (text : List ℕ) →
-        Wrote O.ByteOut before out.old text → Writes O.ByteOut before out.new result text }
-{
-    if source.is_at_hand() {
-        return Ok(());
-    }
-    out.flush()
-}
-
 /// The fault of an output at a message.
 fn output_fault_at(message: u32, fault: OutFault) -> RunFault
     ensures { result ≡ record { message = message; cause = Cause.Output fault } }
@@ -128,7 +117,7 @@ pub(crate) fn count(outcome: Outcome, counted: Counted) -> Outcome
 }
 
 // Reads the messages of a stream to its end, and writes the text of each.
-fn tell_each<S: WordSource, O: ByteOut, E: Engine>(
+fn tell_each<S: Peek, O: ByteOut, E: Engine>(
     source: &mut S,
     out: &mut O,
     settings: &Settings,
@@ -149,12 +138,16 @@ fn tell_each<S: WordSource, O: ByteOut, E: Engine>(
         noncanonical: 0,
     };
     let mut room = engine.room();
+    let mut ahead = [0; AHEAD];
     for number in 0..settings.messages {
         match engine.tell_next(&mut room, source, out, settings.size, number) {
-            Ok(Some(counted)) => match flush_before_waiting(source, out) {
-                Ok(()) => outcome = count(outcome, counted),
-                Err(fault) => return Err(output_fault_at(number, fault)),
-            },
+            Ok(Some(counted)) => {
+                let waits = waits_for_message(source, settings, &mut ahead);
+                match flush_output(out, waits) {
+                    Ok(()) => outcome = count(outcome, counted),
+                    Err(fault) => return Err(output_fault_at(number, fault)),
+                }
+            }
             Ok(None) => return Ok(outcome),
             Err(cause) => return Err(RunFault {
                 message: number,
@@ -172,8 +165,8 @@ fn tell_each<S: WordSource, O: ByteOut, E: Engine>(
 }
 
 /// Reads the messages of a stream to its end, and writes the text of each before it reads the next.
-/// It flushes the text unless a byte of the next message is buffered.
-pub(crate) fn tell_all<S: WordSource, O: ByteOut, E: Engine>(
+/// It flushes the text if the input may have to be waited for before the next message is whole.
+pub(crate) fn tell_all<S: Peek, O: ByteOut, E: Engine>(
     source: &mut S,
     out: &mut O,
     settings: &Settings,

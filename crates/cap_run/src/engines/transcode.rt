@@ -1,15 +1,19 @@
 //! The engines that put the words of one encoding in another. They don't look at framing.
 
-ghost use Rattle.cap_run.specs.Transcoding.{Transcoded};
+ghost use Rattle.cap_run.specs.Transcoding.{PutsWords, Transcoded};
 ghost use Rattle.cap_run.specs.Engines.{TranscodesWords, most_packed_at_once, most_unpacked_at_once};
 ghost use Rattle.cap_run.specs.Handed.{HandsOver};
 ghost use Rattle.cap_run.specs.PuttingEnds.{Transcodes, StopsPutting, is_open};
-ghost use Rattle.std.specs.Prelude.{◌*◌, ◌/◌, ◌≡◌, ◌≤◌, IfErr, IfOk, length};
+ghost use Rattle.cap_frame.specs.Putting.{Halts};
+ghost use Rattle.cap_words.specs.Sinks.{sink_fault_of};
+ghost use Rattle.std.specs.Prelude.{◌*◌, ◌/◌, ◌≡◌, ◌≤◌, [], ◌∷◌, IfErr, IfOk, OnOk, length};
 
+use crate::engines::flushing::{flush_sink, waits_for_word};
 use crate::fault::output_fault;
+use crate::peek::Peek;
 use cap_pack::Packer;
 use cap_text::CopyFault;
-use cap_words::{ByteOut, OutFault, WordSink, WordSource};
+use cap_words::{ByteOut, OutFault, WordSink};
 
 // The buffer of `run_pack` in bytes. The packer gets at most these 64 words in one call.
 const ROOM_TO_PACK: usize = 8 * 64;
@@ -18,12 +22,14 @@ const ROOM_TO_PACK: usize = 8 * 64;
 const ROOM_TO_UNPACK: usize = 8 * 1024;
 
 /// Puts the buffered words of the source that fit in `room`, in one call, and returns how many
-/// words these are. 0 doesn't say that no words are to come.
+/// words these are. They are flushed if the input may have to be waited for. 0 doesn't say that no
+/// words are to come.
 #[inline]
-fn put_ready<S: WordSource, K: WordSink>(
+fn put_ready<S: Peek, K: WordSink>(
     source: &mut S,
     sink: &mut K,
     room: &mut [u8],
+    live: bool,
 ) -> Result<u64, OutFault>
     ensures few { IfOk result (λ n. 8 * n ≤ length room.old) }
     ensures ok { IfOk result
@@ -35,8 +41,31 @@ fn put_ready<S: WordSource, K: WordSink>(
     if count == 0 {
         return Ok(0);
     }
-    match sink.put_bytes(&room[..count]) {
+    if let Err(fault) = sink.put_bytes(&room[..count]) {
+        return Err(output_fault(fault));
+    }
+    match flush_sink(sink, waits_for_word(source, live)) {
         Ok(()) => Ok(count as u64 / 8),
+        Err(fault) => Err(output_fault(fault)),
+    }
+}
+
+/// Puts a word that was read. It is flushed if the input may have to be waited for.
+fn put_word<S: Peek, K: WordSink>(
+    source: &S,
+    sink: &mut K,
+    word: u64,
+    live: bool,
+) -> Result<(), OutFault>
+    ensures ok { OnOk result (PutsWords K.WordSink sink.old sink.new (word ∷ [])) }
+    ensures err { IfErr result (λ fault.
+        Halts K.WordSink sink.old sink.new (word ∷ []) (sink_fault_of fault)) }
+{
+    if let Err(fault) = sink.put(word) {
+        return Err(output_fault(fault));
+    }
+    match flush_sink(sink, waits_for_word(source, live)) {
+        Ok(()) => Ok(()),
         Err(fault) => Err(output_fault(fault)),
     }
 }
@@ -44,11 +73,12 @@ fn put_ready<S: WordSource, K: WordSink>(
 /// Puts the words of a source to a sink, at most `words` of them, and doesn't finish the sink. One
 /// piece is the buffered words that fit in `room`, or one word if none are buffered. Returns how
 /// many words were put.
-fn put_words<S: WordSource, K: WordSink>(
+fn put_words<S: Peek, K: WordSink>(
     source: &mut S,
     sink: &mut K,
     words: u64,
     room: &mut [u8],
+    live: bool,
 ) -> Result<u64, CopyFault>
     requires { 8 ≤ length room.old }
     ensures { StopsPutting S.WordSource K.WordSink (length room.old / 8) words
@@ -57,7 +87,7 @@ fn put_words<S: WordSource, K: WordSink>(
     let mut put = 0;
     while put < words {
         let most = (words - put).min(room.len() as u64 / 8) as usize;
-        let count = match put_ready(source, sink, &mut room[..8 * most]) {
+        let count = match put_ready(source, sink, &mut room[..8 * most], live) {
             Ok(count) => count,
             Err(fault) => return Err(CopyFault::Output(fault)),
         };
@@ -66,8 +96,8 @@ fn put_words<S: WordSource, K: WordSink>(
             continue;
         }
         match source.next() {
-            Ok(Some(word)) => if let Err(fault) = sink.put(word) {
-                return Err(CopyFault::Output(output_fault(fault)));
+            Ok(Some(word)) => if let Err(fault) = put_word(source, sink, word, live) {
+                return Err(CopyFault::Output(fault));
             },
             Ok(None) => return Ok(put),
             Err(fault) => return Err(CopyFault::Source(fault)),
@@ -93,17 +123,18 @@ fn without_fault(answer: &Result<u64, CopyFault>) -> bool
 
 /// Puts the words of a source to a sink, at most `words` of them, in pieces that fit in `room`.
 /// Finishes the sink unless the output failed before.
-fn transcode<S: WordSource, K: WordSink>(
+fn transcode<S: Peek, K: WordSink>(
     source: &mut S,
     sink: &mut K,
     words: u64,
     room: &mut [u8],
+    live: bool,
 ) -> Result<u64, CopyFault>
     requires { 8 ≤ length room.old }
     ensures { Transcoded S.WordSource K.WordSink (length room.old / 8) words
         source.old source.new sink.old sink.new result }
 {
-    let answer = put_words(source, sink, words, room);
+    let answer = put_words(source, sink, words, room, live);
     if without_fault(&answer) {
         match sink.finish() {
             Ok(()) => answer,
@@ -116,6 +147,9 @@ fn transcode<S: WordSource, K: WordSink>(
 
 /// Packs the words of a source, at most `words` of them, finishes the packer, and returns how many
 /// words there were (encoding: Packing). It doesn't look at what the words mean.
+///
+/// With `live` the output is flushed before the source is asked for a word that isn't buffered. The
+/// group that the packer holds back isn't written then: its text depends on the next word.
 ///
 /// Allocates nothing itself: the words pass through a buffer of 512 bytes on the stack. The packer
 /// is closed after the call in any case.
@@ -132,20 +166,23 @@ fn transcode<S: WordSource, K: WordSink>(
 ///   after the piece was read.
 ///
 /// If finishing the packer fails after another error, `Output` is returned.
-pub fn run_pack<S: WordSource, O: ByteOut>(
+pub fn run_pack<S: Peek, O: ByteOut>(
     source: &mut S,
     sink: &mut Packer<O>,
     words: u64,
+    live: bool,
 ) -> Result<u64, CopyFault>
     ensures { TranscodesWords S.WordSource ⟦<Packer<O> as WordSink>⟧ most_packed_at_once words
         source.old source.new sink.old sink.new result }
 {
-    transcode(source, sink, words, &mut [0; ROOM_TO_PACK])
+    transcode(source, sink, words, &mut [0; ROOM_TO_PACK], live)
 }
 
 /// Puts the words of a source to a sink, at most `words` of them, finishes the sink, and returns
 /// how many words there were. With an unpacker as the source this unpacks (encoding: Packing). It
 /// doesn't look at what the words mean.
+///
+/// With `live` the sink is flushed before the source is asked for a word that isn't buffered.
 ///
 /// Allocates nothing itself: the words pass through a buffer of 8192 bytes on the stack. The sink
 /// is closed after the call in any case.
@@ -162,13 +199,14 @@ pub fn run_pack<S: WordSource, O: ByteOut>(
 ///   piece was read.
 ///
 /// If finishing the sink fails after another error, `Output` is returned.
-pub fn run_unpack<S: WordSource, K: WordSink>(
+pub fn run_unpack<S: Peek, K: WordSink>(
     source: &mut S,
     sink: &mut K,
     words: u64,
+    live: bool,
 ) -> Result<u64, CopyFault>
     ensures { TranscodesWords S.WordSource K.WordSink most_unpacked_at_once words
         source.old source.new sink.old sink.new result }
 {
-    transcode(source, sink, words, &mut [0; ROOM_TO_UNPACK])
+    transcode(source, sink, words, &mut [0; ROOM_TO_UNPACK], live)
 }

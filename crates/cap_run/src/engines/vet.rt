@@ -1,24 +1,25 @@
 //! The engine that writes for each message whether it is accepted.
 
-ghost use Rattle.cap_run.specs.Demanding.{TellsVerdictUnder};
+ghost use Rattle.cap_run.specs.Demanding.{TellsVerdictUnder, no_demands};
 ghost use Rattle.cap_run.specs.Engines.{TellsStream};
 ghost use Rattle.cap_run.specs.Telling.{WantsNone};
-ghost use Rattle.cap_run.specs.Vetting.{TellsAccepted, TellsVerdict};
+ghost use Rattle.cap_run.specs.Vetting.{TellsAccepted};
 ghost use Rattle.cap_frame.specs.Limit.{limit_of};
 ghost use Rattle.cap_vet.specs.Limits.{depth_of, words_of};
 
 use crate::engines::stream::Counted;
 use crate::engines::whole::{Teller, after_text, vet_all};
+use crate::peek::Peek;
 use crate::settings::{Outcome, Settings};
 use cap_frame::Segments;
 use cap_text::{Cause, Page, RunFault, write_accepted};
 use cap_vet::{Demands, Vetted};
-use cap_words::{ByteOut, WordSource};
+use cap_words::ByteOut;
 use std::alloc::Global;
 
 /// Writes the numbers of a message's tree.
 #[derive(Clone, Copy)]
-struct VetTeller;
+pub(crate) struct VetTeller;
 
 impl Teller for VetTeller {
     ghost tells = { λ _. TellsAccepted };
@@ -37,12 +38,33 @@ impl Teller for VetTeller {
     }
 }
 
-/// Reads the messages of a stream to its end, and vets each (encoding: Security Considerations). A
-/// message is accepted if its root denotes a finite tree within `settings.limits`. Its line has the
-/// numbers of the tree. The line of a refused message has the first bad pointer and the reason.
+/// Does what [`run_vet_with`] does, without demands: a message is accepted if its root denotes a
+/// finite tree within `settings.limits`.
+///
+/// # Errors
+///
+/// Those of [`run_vet_with`].
+pub fn run_vet<S: Peek, O: ByteOut>(
+    alloc: Global,
+    source: &mut S,
+    out: &mut O,
+    settings: &Settings,
+) -> Result<Outcome, RunFault>
+    ensures { let s = settings.now in TellsStream S.WordSource O.ByteOut
+        (TellsVerdictUnder no_demands (words_of s.limits) (depth_of s.limits)) WantsNone
+        (limit_of s.size) s.messages source.old source.new out.old out.new result }
+{
+    run_vet_with(alloc, source, out, settings, Demands::default())
+}
+
+/// Reads the messages of a stream to its end, and vets each under demands (encoding: Security
+/// Considerations; the demands are the profile's). A message is accepted if its root denotes a
+/// finite tree within `settings.limits`, and it meets `demands`. The line of a message that is
+/// accepted has the numbers of its tree. The line of one that isn't has the first reason and the
+/// place, see [`vet_with`](cap_vet::vet_with).
 ///
 /// A refused message is counted, and doesn't end the run. The line of a message is written before
-/// the next message is read. It is flushed unless a byte of the next message is buffered.
+/// the next message is read, and flushed as `settings.live` says.
 ///
 /// Allocates only to hold a message that is larger than all before it: eight bytes for each word.
 ///
@@ -57,38 +79,7 @@ impl Teller for VetTeller {
 ///   [`FrameFault`](cap_frame::FrameFault).
 /// - [`Cause::Output`](crate::Cause::Output): the output failed as the line was written or flushed.
 ///   It took a prefix of the line, or all of it.
-pub fn run_vet<S: WordSource, O: ByteOut>(
-    alloc: Global,
-    source: &mut S,
-    out: &mut O,
-    settings: &Settings,
-) -> Result<Outcome, RunFault>
-    ensures { let s = settings.now in TellsStream S.WordSource O.ByteOut
-        (TellsVerdict (words_of s.limits) (depth_of s.limits)) WantsNone
-        (limit_of s.size) s.messages source.old source.new out.old out.new result }
-{
-    run_vet_with(alloc, source, out, settings, Demands::default())
-}
-
-/// Reads the messages of a stream to its end, and vets each under demands (profile). A message is
-/// accepted if its root denotes a finite tree within `settings.limits`, and it meets `demands`. The
-/// line of a message that is accepted has the numbers of its tree. The line of one that isn't has
-/// the first reason and the place, see [`vet_with`](cap_vet::vet_with).
-///
-/// Everything else is as in [`run_vet`]: what is counted and flushed, and what is allocated.
-///
-/// # Errors
-///
-/// The error names the message at which the run ended, counted from 0. The lines of all messages
-/// before it were written, and no message after it was read.
-///
-/// - [`Cause::TooManyMessages`](crate::Cause::TooManyMessages): the stream has more than
-///   `settings.messages` messages.
-/// - [`Cause::Frame`](crate::Cause::Frame): the message can't be read within `settings.size`, see
-///   [`FrameFault`](cap_frame::FrameFault).
-/// - [`Cause::Output`](crate::Cause::Output): the output failed as the line was written or flushed.
-///   It took a prefix of the line, or all of it.
-pub fn run_vet_with<S: WordSource, O: ByteOut>(
+pub fn run_vet_with<S: Peek, O: ByteOut>(
     alloc: Global,
     source: &mut S,
     out: &mut O,

@@ -10,6 +10,7 @@ ghost use Rattle.cap_spec.specs.Tree.{Tree};
 ghost use Rattle.std.specs.Prelude.{◌≡◌, List, true, ℕ};
 
 use crate::engines::stream::{Counted, Engine, tell_all};
+use crate::peek::Peek;
 use crate::settings::{Outcome, Settings};
 use cap_frame::{ByteMessage, Segments, SizeLimit, read_into};
 use cap_text::{Cause, Page, RunFault, write_refused};
@@ -170,7 +171,7 @@ impl<J: Judge> Engine for Whole<J> {
 }
 
 /// Reads each message of a stream whole, and writes the text that comes of it.
-pub(crate) fn judge_all<S: WordSource, O: ByteOut, J: Judge + Drop>(
+pub(crate) fn judge_all<S: Peek, O: ByteOut, J: Judge + Drop>(
     alloc: Global,
     source: &mut S,
     out: &mut O,
@@ -184,7 +185,7 @@ pub(crate) fn judge_all<S: WordSource, O: ByteOut, J: Judge + Drop>(
 }
 
 /// Vets each message of a stream, and writes the text of a teller for each that meets the demands.
-pub(crate) fn vet_all<S: WordSource, O: ByteOut, T: Teller + Drop>(
+pub(crate) fn vet_all<S: Peek, O: ByteOut, T: Teller + Drop>(
     alloc: Global,
     source: &mut S,
     out: &mut O,

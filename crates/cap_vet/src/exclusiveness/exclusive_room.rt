@@ -1,19 +1,16 @@
-//! The verdict of a message of which no word may be used twice, with the caller's buffer for the
-//! marks.
+//! An accepted message as one of which no word is used twice, with the caller's buffer for the marks.
 
-ghost use Rattle.cap_spec.specs.Occupying.{IsDisjoint, empty_count};
-ghost use Rattle.cap_spec.specs.Frames.{sizes_of};
+ghost use Rattle.cap_spec.specs.Occupying.{IsDisjoint};
 ghost use Rattle.cap_spec.specs.GreatestLimits.{most_depth, most_words};
-ghost use Rattle.cap_spec.specs.Tree.{Tree};
 ghost use Rattle.cap_spec.specs.declared.Refusal.{Refusal};
 ghost use Rattle.cap_vet.specs.Exclusives.{IsExclusiveFault, KeepsRoom, OverlapsFirst, vetted_of};
 ghost use Rattle.cap_vet.specs.Limits.{depth_of, words_of};
-ghost use Rattle.cap_vet.specs.Reports.{IsAccepted, IsReport};
+ghost use Rattle.cap_vet.specs.Reports.{IsAccepted};
 ghost use Rattle.cap_vet.specs.Taken.{marks_of, start_of};
-ghost use Rattle.cap_vet.specs.Vettings.{message_of, report_of};
+ghost use Rattle.cap_vet.specs.Vettings.{message_of};
 ghost use Rattle.cap_vet.specs.declared.exclusiveness.exclusive_room.ExclusiveFault.{ExclusiveFault};
 ghost use Rattle.cap_vet.specs.declared.report.Report.{Report};
-ghost use Rattle.std.specs.Prelude.{Err, ◌+◌, ◌*◌, ◌<◌, ◌≡◌, ◌≤◌, IfErr, IfOk, IsErrOf, IsOk, drop, length, sum, ℕ};
+ghost use Rattle.std.specs.Prelude.{Err, ◌*◌, ◌≡◌, ◌≤◌, IfErr, IfOk, IsErrOf, IsOk, drop, length};
 
 use crate::exclusiveness::exclusive::Exclusive;
 use crate::exclusiveness::exclusive_vetting::{Overlap, mark_message};
@@ -21,7 +18,6 @@ use crate::exclusiveness::marks::numbers_for;
 use crate::limits::Limits;
 use crate::nodes::vetted::Vetted;
 use crate::report::Report;
-use crate::walk::vetting::vet;
 use cap_frame::Segments;
 use cap_spec::Refusal;
 
@@ -49,58 +45,11 @@ pub enum ExclusiveFault {
     },
 }
 
-/// Vets a message as `vet_exclusive` does, with the marks in the caller's buffer `marks`. Allocates
-/// nothing. The buffer may hold anything. Its first [`crate::marks_for`] numbers, for the words of
-/// the message, are cleared and used. The numbers after these stay as they are.
-///
-/// # Errors
-///
-/// - [`ExclusiveFault::Refused`]: `vet` refuses the message. The buffer is as it was.
-/// - [`ExclusiveFault::NoRoom`]: the message is accepted, and the buffer has fewer numbers than the
-///   marks take. The buffer is as it was.
-/// - [`ExclusiveFault::Overlap`]: a second walk found a pointer that overlaps. It is the first in
-///   preorder that uses a word which is used already.
-pub fn vet_exclusive_in<'m, M: Segments>(
-    message: &'m M,
-    limits: Limits,
-    marks: &mut [u64],
-) -> Result<Exclusive<'m, M>, ExclusiveFault>
-    ensures ok { let m = M.segments message.now in IfOk result (λ e.
-        IsAccepted m (words_of limits) (depth_of limits) (report_of (vetted_of e))
-        × IsDisjoint m × (marks_of m ≤ length marks.old)) }
-    ensures message { IfOk result (λ e. message_of (vetted_of e) ≡ message.now) }
-
-    // Without that of elements which take no bits or no words, the charge is less than the words of
-    // all segments.
-    ensures bound { let m = M.segments message.now in
-        IfOk result (λ e. let r = report_of (vetted_of e) in
-        (t : Tree) × IsReport m (words_of limits) (depth_of limits) r t
-        × (r.charge < sum (sizes_of m) + empty_count t)) }
-    ensures err { let m = M.segments message.now in
-        IfErr result (IsExclusiveFault m (words_of limits) (depth_of limits) (length marks.old)) }
-
-    // The other direction.
-    ensures accepts { let m = M.segments message.now in (report : Report) →
-        IsAccepted m (words_of limits) (depth_of limits) report → IsDisjoint m →
-        marks_of m ≤ length marks.old → IsOk result }
-    ensures refuses { let m = M.segments message.now in (fault : ExclusiveFault) →
-        IsExclusiveFault m (words_of limits) (depth_of limits) (length marks.old) fault →
-        result ≡ Err fault }
-
-    // The numbers of the buffer after the call.
-    ensures rest { let n = marks_of (M.segments message.now) in
-        drop n marks.new ≡ drop n marks.old }
-    ensures kept { IfErr result (λ fault. KeepsRoom fault marks.old marks.new) }
-{
-    match vet(message, limits) {
-        Ok(vetted) => vetted.into_exclusive_in(marks),
-        Err(refusal) => Err(ExclusiveFault::Refused(refusal)),
-    }
-}
-
 impl<'m, M: Segments> Vetted<'m, M> {
-    /// As [`into_exclusive`](Vetted::into_exclusive), with the marks in the caller's buffer, as for
-    /// [`crate::vet_exclusive_in`]. Walks the message once more. Allocates nothing.
+    /// As [`into_exclusive`](Vetted::into_exclusive), with the marks in the caller's buffer `marks`.
+    /// Walks the message once more. Allocates nothing. The buffer may hold anything. Its first
+    /// [`crate::marks_for`] numbers, for the words of the message, are cleared and used. The numbers
+    /// after these stay as they are.
     ///
     /// # Errors
     ///

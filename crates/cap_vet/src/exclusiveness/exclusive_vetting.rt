@@ -18,7 +18,7 @@ ghost use Rattle.cap_vet.specs.declared.report.Report.{Report};
 ghost use Rattle.std.specs.Prelude.{Err, ◌+◌, ◌*◌, ◌<◌, ◌≡◌, ◌≤◌, ◌⊎◌, IfErr, IfOk, IsErrOf, IsOk, length, sum, ℕ};
 
 use crate::exclusiveness::exclusive::Exclusive;
-use crate::exclusiveness::marks::{Marks, numbers_for, starts_in};
+use crate::exclusiveness::marks::{Marks, fill_starts, numbers_for};
 use crate::exclusiveness::uses::near_use;
 use crate::limits::Limits;
 use crate::nodes::place::Place;
@@ -27,6 +27,7 @@ use crate::report::Report;
 use crate::walk::turn::{Stopped, Turn};
 use crate::walk::vetting::vet;
 use crate::walk::walking::walk;
+use arrayvec::ArrayVec;
 use cap_frame::Segments;
 use cap_spec::Refusal;
 use std::alloc::Global;
@@ -191,7 +192,8 @@ fn mark_segments<M: Segments>(message: &M, limits: &Limits, bits: &mut [u64]) ->
     ensures ok { IfOk result (λ _. IsDisjoint (M.segments message.now)) }
     ensures err { IfErr result (OverlapsFirst (M.segments message.now)) }
 {
-    let starts = starts_in(message);
+    let mut starts = ArrayVec::new();
+    fill_starts(message, &mut starts);
     mark_all(message, limits, starts.as_slice(), bits)
 }
 

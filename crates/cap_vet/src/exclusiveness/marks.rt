@@ -7,7 +7,7 @@ ghost use Rattle.cap_spec.specs.Occupying.{pads_of};
 ghost use Rattle.cap_vet.specs.Marks.{UsesPlace};
 ghost use Rattle.cap_vet.specs.MarkSteps.{HasBits, MarksPlaces, MarksUse};
 ghost use Rattle.cap_vet.specs.Taken.{AreStarts, bit_in, marks_of, start_of};
-ghost use Rattle.std.specs.Prelude.{◌+◌, ◌-◌, ◌*◌, ◌/◌, ◌<◌, ◌^◌, ◌≡◌, ◌≤◌, IfSome, IsFalse, IsTrue, List, length, ℕ};
+ghost use Rattle.std.specs.Prelude.{◌+◌, ◌-◌, ◌*◌, ◌/◌, ◌<◌, ◌^◌, ◌≡◌, ◌≤◌, [], IfSome, IsFalse, IsTrue, List, length, ℕ};
 
 use crate::exclusiveness::uses::structs_use;
 use crate::lengths::message_words;
@@ -40,17 +40,18 @@ pub(crate) struct Marks<'a> {
     pub(crate) bits: &'a mut [u64],
 }
 
-/// Where the bits of each segment's words start, those of one segment after those of the other.
-pub(crate) fn starts_in<M: Segments>(message: &M) -> ArrayVec<u64, 512>
-    ensures { AreStarts (M.segments message.now) result.items }
+/// Fills an empty table with where the bits of each segment's words start, those of one segment after
+/// those of the other.
+// The caller has the table, since a table that is returned takes its 4 KiB of stack once more.
+pub(crate) fn fill_starts<M: Segments>(message: &M, starts: &mut ArrayVec<u64, 512>)
+    requires { starts.old.items ≡ [] }
+    ensures { AreStarts (M.segments message.now) starts.new.items }
 {
-    let mut starts = ArrayVec::new();
     let mut words = 0u64;
     for s in 0..message.count() {
         starts.push(words);
         words += u64::from(message.len(s));
     }
-    starts
 }
 
 impl Marks<'_> {

@@ -2,8 +2,9 @@
 
 ghost use Rattle.cap_ptr.specs.Shapes.{FindsTarget};
 ghost use Rattle.cap_spec.specs.Messages.{segment_of};
-ghost use Rattle.cap_vet.specs.NearFinding.{FindsNear};
-ghost use Rattle.std.specs.Prelude.{◌<◌, ◌^◌, ◌≡◌, IfSome, List, length, ℕ};
+ghost use Rattle.cap_vet.specs.Levels.{levels_of};
+ghost use Rattle.cap_vet.specs.NearFinding.{FindsNear, IsNearWithin};
+ghost use Rattle.std.specs.Prelude.{◌+◌, ◌<◌, ◌^◌, ◌≡◌, ◌≤◌, IfSome, IsSome, List, length, ℕ};
 
 use crate::nodes::found::{Found, object};
 use crate::nodes::place::Place;
@@ -28,7 +29,9 @@ pub(crate) fn found_near<M: Segments>(
     requires exists { s < length (M.segments message.now) }
     requires inside { w < length (segment_of (M.segments message.now) s) }
     requires level { level < 2 ^ 63 }
-    ensures { IfSome result (λ x. FindsNear (M.segments message.now) left depth s w level x.0 x.1) }
+    ensures found { IfSome result (λ x.
+        FindsNear (M.segments message.now) left depth s w level x.0 x.1) }
+    ensures some { IsNearWithin (M.segments message.now) left depth s w level → IsSome result }
 {
     let word = message.word(s, w);
     if word == 0 {
@@ -49,8 +52,9 @@ pub(crate) fn found_near<M: Segments>(
 #[inline(always)]
 fn object_within(target: Target, left: u64, depth: u32, level: u64) -> Option<(Found, u64)>
     requires { level < 2 ^ 63 }
-    ensures { (m : List (List ℕ)) (s w : ℕ) → FindsTarget m s w target → target.pads ≡ 0 →
+    ensures found { (m : List (List ℕ)) (s w : ℕ) → FindsTarget m s w target → target.pads ≡ 0 →
         IfSome result (λ x. FindsNear m left depth s w level x.0 x.1) }
+    ensures some { level + levels_of target.shape ≤ depth → target.charge ≤ left → IsSome result }
 {
     let deepest = level + u64::from(levels_taken(&target.shape));
     if deepest > u64::from(depth) || target.charge > left {

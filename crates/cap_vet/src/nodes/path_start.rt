@@ -43,8 +43,8 @@ impl<'m, M: Segments> Copy for PathStart<'m, M> {}
 
 impl<'m, M: Segments> PathStart<'m, M> {
     ghost use Rattle.cap_vet.specs.Views.{view_message};
-    ghost use Rattle.cap_vet.specs.PathWays.{LeadsToElements, GivesAfter, IsStart, elements_message, start_message};
-    ghost use Rattle.std.specs.Prelude.{IfOk, IfSome};
+    ghost use Rattle.cap_vet.specs.PathWays.{LeadsToElements, LeadsToStructs, GivesAfter, IsStart, elements_message, start_message};
+    ghost use Rattle.std.specs.Prelude.{IfOk, IfSome, IsSome};
 
     /// Follows the first steps of several paths. The limits and demands are those of
     /// [`crate::get_with`], and apply to each of the paths by itself. Allocates nothing.
@@ -71,11 +71,13 @@ impl<'m, M: Segments> PathStart<'m, M> {
         }
     }
 
-    /// The elements of the list of structs that the first steps lead to. `None` says nothing, and
-    /// [`PathStart::get`] then has to decide. Allocates nothing.
+    /// The elements of the list of structs that the first steps lead to. After `None` they lead to no
+    /// such list, or to none without a fault: [`PathStart::get`] then has to decide. Allocates nothing.
     pub fn elements(&self) -> Option<StructElements<'m, M>>
         ensures elements { let m = M.segments (start_message self.now) in
             IfSome result (LeadsToElements m self.now) }
+        ensures found { let m = M.segments (start_message self.now) in
+            LeadsToStructs m self.now → IsSome result }
         ensures message { IfSome result (λ e. elements_message e ≡ start_message self.now) }
     {
         let Way::To(at) = self.way else {

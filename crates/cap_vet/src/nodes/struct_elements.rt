@@ -47,7 +47,7 @@ impl<'m, M: Segments> Copy for StructElements<'m, M> {}
 impl<'m, M: Segments> StructElements<'m, M> {
     ghost use Rattle.cap_vet.specs.Taken.{start_of};
     ghost use Rattle.cap_vet.specs.Views.{kept_place, view_message};
-    ghost use Rattle.cap_vet.specs.PathWays.{GivesElement, GivesPointer, elements_count, elements_message, elements_segment};
+    ghost use Rattle.cap_vet.specs.PathWays.{GivesElement, GivesPointer, HasPointerNear, elements_count, elements_message, elements_segment};
     ghost use Rattle.std.specs.Prelude.{◌↔◌, IfSome, IsSome};
 
     /// How many words of the message come before the segment of the elements, where the segments
@@ -89,12 +89,14 @@ impl<'m, M: Segments> StructElements<'m, M> {
     }
 
     /// What pointer `j` of element `i` leads to, as [`PathStart::get`](crate::PathStart::get) gives
-    /// it for these two steps. `None` says nothing: `PathStart::get` then has to decide. Allocates
-    /// nothing.
+    /// it for these two steps. After `None` the list has no such pointer, or its word alone doesn't
+    /// describe an object within the limits: `PathStart::get` then has to decide. Allocates nothing.
     #[inline(always)]
     pub fn pointer(&self, i: u64, j: u16) -> Option<View<'m, M>>
         ensures given { let m = M.segments (elements_message self.now) in
             IfSome result (GivesPointer m self.now i j) }
+        ensures found { let m = M.segments (elements_message self.now) in
+            HasPointerNear m self.now i j → IsSome result }
         ensures low { IfSome result (λ _. i < 4294967295) }
         ensures message { IfSome result (λ v. view_message v ≡ elements_message self.now) }
     {

@@ -4,12 +4,13 @@ ghost use Rattle.cap_spec.specs.Denoting.{Denotes};
 ghost use Rattle.cap_spec.specs.Faults.{IsRefused};
 ghost use Rattle.cap_spec.specs.Tree.{Tree, pointer_count};
 ghost use Rattle.cap_spec.specs.declared.Refusal.{Refusal};
+ghost use Rattle.cap_spec.specs.declared.Step.{Step};
 ghost use Rattle.cap_spec.specs.Verdicts.{Justified};
 ghost use Rattle.cap_vet.specs.Limits.{depth_of, words_of};
 ghost use Rattle.cap_vet.specs.Reports.{IsAccepted};
-ghost use Rattle.cap_vet.specs.Turns.{HoldsOfAll, IsStopped};
+ghost use Rattle.cap_vet.specs.Turns.{HoldsBefore, HoldsOfAll, IsStopped};
 ghost use Rattle.cap_vet.specs.Vettings.{message_of, report_of};
-ghost use Rattle.std.specs.Prelude.{Err, ◌≡◌, ◌≤◌, IfErr, IfOk, IsOk, ⊤, ℕ};
+ghost use Rattle.std.specs.Prelude.{Err, ◌≡◌, ◌≤◌, IfErr, IfOk, IsOk, List, ⊤, ℕ};
 
 use crate::limits::Limits;
 use crate::nodes::place::Place;
@@ -85,6 +86,10 @@ pub fn vet_with_turn<'m, M: Segments, T: FirstTurn + Drop>(
         IfOk result (λ r. HoldsOfAll m (T.knows r.1 m)) }
     ensures err { let m = M.segments message.now in
         IfErr result (IsStopped m limits (T.stops m)) }
+
+    // Before a refusal the turn was taken up to the fault, and never stopped the walk.
+    ensures before { let m = M.segments message.now in IfErr result
+        (HoldsBefore m limits (λ (seen : List (List Step)). (turn : T) × T.knows turn m seen)) }
 {
     let mut turn = match T::begin(message) {
         Ok(turn) => turn,

@@ -1,9 +1,7 @@
 //! One pointer word of a walk: what it leads to is counted.
 
-ghost use Rattle.cap_spec.specs.Faults.{IsFirstFault};
-ghost use Rattle.cap_vet.specs.Limits.{depth_of, words_of};
 ghost use Rattle.cap_vet.specs.Turning.{added, run_below};
-ghost use Rattle.cap_vet.specs.Turns.{IsNextIn, IsVisited};
+ghost use Rattle.cap_vet.specs.Turns.{IsFaultNext, IsNextIn, IsVisited};
 ghost use Rattle.std.specs.Prelude.{◌<◌, ◌≡◌, ◌^◌, IfErr, IfOk, List};
 
 use crate::limits::Limits;
@@ -28,8 +26,7 @@ pub(crate) fn visit<M: Segments>(
         × IsNextIn m limits.now s w level runs report.old }
     ensures ok { IfOk result (IsVisited (M.segments message.now) limits.now s w level report.old
         report.new) }
-    ensures err { IfErr result
-        (IsFirstFault (M.segments message.now) (words_of limits.now) (depth_of limits.now)) }
+    ensures err { IfErr result (IsFaultNext (M.segments message.now) limits.now s w level report.old) }
 {
     match look(message, limits, report.charge, s, w, level) {
         Err(reason) => Err(Refusal {

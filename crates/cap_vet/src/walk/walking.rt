@@ -5,7 +5,7 @@ ghost use Rattle.cap_spec.specs.declared.Step.{Step};
 ghost use Rattle.cap_vet.specs.Passing.{Passes};
 ghost use Rattle.cap_vet.specs.PointerRuns.{RunIn, kept, root_run};
 ghost use Rattle.cap_vet.specs.Trails.{Ahead};
-ghost use Rattle.cap_vet.specs.Turns.{GoesOnIf, IsAt, IsStopped, IsWalking};
+ghost use Rattle.cap_vet.specs.Turns.{GoesOnIf, HoldsBefore, IsAt, IsStopped, IsWalking};
 ghost use Rattle.cap_vet.specs.Walking.{HasWalked};
 ghost use Rattle.cap_vet.specs.WalkSteps.{Continues, LeavesRoom, TakesTurn};
 ghost use Rattle.std.specs.Option.{option_to_list};
@@ -50,6 +50,8 @@ pub(crate) fn walk<M: Segments, T: Turn>(
         IfOk result (λ _. IsWalking m limits.now [] report.new (T.knows turn.new m)) }
     ensures err { let m = M.segments message.now in
         IfErr result (IsStopped m limits.now (T.stops m)) }
+    ensures known { let m = M.segments message.now in
+        IfErr result (HoldsBefore m limits.now (T.knows turn.new m)) }
 {
     if message.len(0) == 0 {
         return Err(Stopped::Refused(Refusal {
@@ -103,6 +105,8 @@ fn walk_deep<M: Segments, T: Turn>(
         IfOk result (λ _. IsWalking m limits.now [] report.new (T.knows turn.new m)) }
     ensures err { let m = M.segments message.now in
         IfErr result (IsStopped m limits.now (T.stops m)) }
+    ensures known { let m = M.segments message.now in
+        IfErr result (HoldsBefore m limits.now (T.knows turn.new m)) }
 {
     let mut stack: Stack<257> = Stack::new();
     if stack.try_extend_from_slice(few.as_slice()).is_err() {
@@ -139,6 +143,8 @@ fn walk_on<M: Segments, T: Turn, const N: usize>(
         (T.knows turn.new m)) }
     ensures err { let m = M.segments message.now in
         IfErr result (IsStopped m limits.now (T.stops m)) }
+    ensures known { let m = M.segments message.now in
+        IfErr result (HoldsBefore m limits.now (T.knows turn.new m)) }
 {
     // Nothing outside of the loop has these, so they stay in registers.
     let limits = *limits;

@@ -1,72 +1,99 @@
-use Rattle.std.proofs.Common.{◌≡◌, ◌≤◌, ◌+◌, ◌*◌, ◌∙◌, arith, length, ap, sym, subst, Err}
+-- All that the new vector holds is the copy.
+use Rattle.std.proofs.Common.{ℕ, ◌≡◌, ◌<◌, ◌∙◌, Err, ap, ap₂, arith, inl, inr, length, subst, sym, take}
+use Rattle.std.proofs.lemmas.List.{take_all}
 use Rattle.cap_spec.specs.Copies.{HasCopy}
+use Rattle.cap_spec.specs.Paths.{IsFirstCap}
 use Rattle.cap_spec.specs.Plain.{plain_text, plain_words}
 use Rattle.cap_spec.proofs.Bytes.Plain.{length_plain}
-use Rattle.cap_vet.specs.Vettings.{message_of, report_of}
+use Rattle.cap_spec.proofs.Canonical.Copies.{one_copy}
+use Rattle.cap_spec.proofs.Paths.Preorder.{one_first_cap}
 use Rattle.cap_spec.specs.declared.CanonFault.TheVariants.{HasCapability}
-use Rattle.cap_canon.proofs.Copies.{cap_no_copy, copy_charged, copy_length, copy_of, same_fault, has_tree}
-use Rattle.cap_canon.proofs.FirstWords.{written_back}
+use Rattle.cap_vet.specs.Vettings.{message_of}
+use Rattle.cap_canon.proofs.Copies.{cap_no_copy, same_fault}
+use Rattle.cap_canon.proofs.Overs.{new_fault, new_text}
 use Rattle.cap_canon.proofs.bytes.canonical_bytes.Goals as goal
 
-pub fill-requires-clause-tree : goal.fill-requires-clause-tree
-fill-requires-clause-tree g c = let k = c.report-report.ensures.accepted in rw c.message.ensures.value (has_tree _ c.report-report.result k.0 k.1)
-
-pub fill-requires-clause-length : goal.fill-requires-clause-length
-fill-requires-clause-length g c =
+pub returns-in-Ok-clause-ok : goal.returns-in-Ok-clause-ok
+returns-in-Ok-clause-ok g c =
     let m = g.M.Segments.segments (message_of c.args.v.now) in
-    let h = c.in-Ok.ensures.ok in
-    let grown = rw c.unwrap.ensures at c.resize.ensures.len in
-    rw c.message.ensures.value (λ t x d f. let e = copy_length m h.0 t x d h.1 f in omega (arith, e, h.2, c.as_mut_slice.ensures.len, grown))
+    let bytes = c.fill_over.new.buffer.items in
+    let tells = rw c.new-bytes.ensures.items at c.in-Ok.ensures.tells in
+    let (words, h, text, count) = new_text m _ bytes tells in
+    let all : take c.in-Ok.field-0 bytes ≡ bytes = take_all c.in-Ok.field-0 bytes (omega (arith, count)) in
+    let made : HasCopy m (plain_words bytes) = subst (λ xs. HasCopy m (plain_words xs)) all c.in-Ok.ensures.ok in
+    (made, text ∙ ap plain_text (one_copy m words (plain_words bytes) h made))
 
-pub returns-clause-ok : goal.returns-clause-ok
-returns-clause-ok g c =
+pub returns-in-Ok-clause-few : goal.returns-in-Ok-clause-few
+returns-in-Ok-clause-few g c =
     let m = g.M.Segments.segments (message_of c.args.v.now) in
-    let h = c.in-Ok.ensures.ok in
-    let given = c.fill.new.out in
-    let back = written_back _ given _ (c.fill.auto.out ∙ c.as_mut_slice.ensures.len) in
-    let words = rw c.message.ensures.value at c.fill.ensures.words in
-    let spells = rw c.message.ensures.value at c.fill.ensures.text in
-    let made = copy_of m h.0 (plain_words given) h.1 words in
-    let text : given ≡ plain_text (plain_words given) = spells h.1.tree h.1.charge h.1.depth h.1.denotes
-    ∙ ap plain_text (sym (words h.1.tree h.1.charge h.1.depth h.1.denotes)) in
-    subst (λ bytes. HasCopy m (plain_words bytes) × (bytes ≡ plain_text (plain_words bytes))) (sym back) (made, text)
+    let tells = rw c.new-bytes.ensures.items at c.in-Ok.ensures.tells in
+    let (words, h, text, count) = new_text m _ c.fill_over.new.buffer.items tells in
+    omega (arith, c.in-Ok.ensures.few, count)
 
-pub returns-clause-few : goal.returns-clause-few
-returns-clause-few g c =
+pub returns-in-Ok-clause-capacity : goal.returns-in-Ok-clause-capacity
+returns-in-Ok-clause-capacity g c =
     let m = g.M.Segments.segments (message_of c.args.v.now) in
-    let h = c.in-Ok.ensures.ok in
-    let k = c.report-report.ensures.accepted in
-    let given = c.fill.new.out in
-    let back = written_back _ given _ (c.fill.auto.out ∙ c.as_mut_slice.ensures.len) in
-    let words = rw c.message.ensures.value at c.fill.ensures.words in
-    let made = copy_of m h.0 (plain_words given) h.1 words in
-    let some = copy_charged m k.0 c.report-report.result.charge c.report-report.result.depth (plain_words given) k.1.denotes made in
-    let spells = rw c.message.ensures.value at c.fill.ensures.text in
-    let long = ap length (spells h.1.tree h.1.charge h.1.depth h.1.denotes ∙ ap plain_text (sym (words h.1.tree h.1.charge h.1.depth h.1.denotes)))
-    ∙ length_plain (plain_words given) in
-    let same = ap (λ r. r.charge) c.report-report.ensures.value in
-    subst (λ bytes. length bytes ≤ 8 * ((report_of c.args.v.now).charge + 1)) (sym back) (omega (arith, some, long, same))
+    let tells = rw c.new-bytes.ensures.items at c.in-Ok.ensures.tells in
+    let (words, h, text, count) = new_text m _ c.fill_over.new.buffer.items tells in
+    let some : 0 < c.in-Ok.field-0 = omega (arith, count, ap length text, length_plain words, ap length h.laid) in
+    c.in-Ok.ensures.exact (omega (arith, ap length c.new-bytes.ensures.items, some)) ∙ count
 
-pub returns-clause-copy : goal.returns-clause-copy
-returns-clause-copy g c = λ words h.
-    let back = written_back _ c.fill.new.out _ (c.fill.auto.out ∙ c.as_mut_slice.ensures.len) in
-    let spells = rw c.message.ensures.value at c.fill.ensures.text in
-    back ∙ (spells h.tree h.charge h.depth h.denotes ∙ ap plain_text (sym h.laid))
+pub returns-in-Ok-clause-copy : goal.returns-in-Ok-clause-copy
+returns-in-Ok-clause-copy g c = λ words h.
+    let m = g.M.Segments.segments (message_of c.args.v.now) in
+    let tells = rw c.new-bytes.ensures.items at c.in-Ok.ensures.tells in
+    let (other, k, text, count) = new_text m _ c.fill_over.new.buffer.items tells in
+    text ∙ ap plain_text (one_copy m other words k h)
 
-pub returns-clause-first_cap : goal.returns-clause-first_cap
-returns-clause-first_cap g c =
-    let h = c.in-Ok.ensures.ok in
-    λ s w f. absurd (cap_no_copy (g.M.Segments.segments (message_of c.args.v.now)) s w h.0 f h.1)
+pub returns-in-Ok-clause-first_cap : goal.returns-in-Ok-clause-first_cap
+returns-in-Ok-clause-first_cap g c = λ s w f.
+    let m = g.M.Segments.segments (message_of c.args.v.now) in
+    let tells = rw c.new-bytes.ensures.items at c.in-Ok.ensures.tells in
+    let (words, h, text, count) = new_text m _ c.fill_over.new.buffer.items tells in
+    absurd (cap_no_copy m s w words f h)
 
-pub returns-in_default-clause-memory : goal.returns-in_default-clause-memory
-returns-in_default-clause-memory g c =
-    let h = c.in-Ok.ensures.ok in
-    λ e s w f. cap_no_copy (g.M.Segments.segments (message_of c.args.v.now)) s w h.0 f h.1
+first : (a b s w : ℕ) → HasCapability a b ≡ HasCapability s w → a ≡ s
+first a b s w e = cc
 
-pub returns-in_default-clause-first_cap : goal.returns-in_default-clause-first_cap
-returns-in_default-clause-first_cap g c =
-    let h = c.in-Ok.ensures.ok in
-    λ s w f. absurd (cap_no_copy (g.M.Segments.segments (message_of c.args.v.now)) s w h.0 f h.1)
+second : (a b s w : ℕ) → HasCapability a b ≡ HasCapability s w → b ≡ w
+second a b s w e = cc
+
+pub returns-in-Err-clause-cap : goal.returns-in-Err-clause-cap
+returns-in-Err-clause-cap g c = λ s w e.
+    let m = g.M.Segments.segments (message_of c.args.v.now) in
+    let tells = rw c.new-bytes.ensures.items at c.in-Err.ensures.tells in
+    elim (new_fault m _ c.fill_over.new.buffer.items tells) [
+      | inl (s', w', f, k) ↦
+          let same : HasCapability s' w' ≡ HasCapability s w = sym k ∙ same_fault _ (HasCapability s w) e in
+          subst (λ y. IsFirstCap m s y) (second s' w' s w same) (subst (λ x. IsFirstCap m x w') (first s' w' s w same) f)
+      | inr (words, h, k) ↦ absurd (cc)
+    ]
+
+pub returns-in-Err-clause-memory : goal.returns-in-Err-clause-memory
+returns-in-Err-clause-memory g c = λ e s w f.
+    let m = g.M.Segments.segments (message_of c.args.v.now) in
+    let tells = rw c.new-bytes.ensures.items at c.in-Err.ensures.tells in
+    elim (new_fault m _ c.fill_over.new.buffer.items tells) [
+      | inl (s', w', f', k) ↦ absurd (cc)
+      | inr (words, h, k) ↦ absurd (cap_no_copy m s w words f h)
+    ]
+
+pub returns-in-Err-clause-copy : goal.returns-in-Err-clause-copy
+returns-in-Err-clause-copy g c = λ words h.
+    let m = g.M.Segments.segments (message_of c.args.v.now) in
+    let tells = rw c.new-bytes.ensures.items at c.in-Err.ensures.tells in
+    elim (new_fault m _ c.fill_over.new.buffer.items tells) [
+      | inl (s', w', f, k) ↦ absurd (cap_no_copy m s' w' words f h)
+      | inr (words', h', k) ↦ k
+    ]
 
 pub returns-in-Err-clause-first_cap : goal.returns-in-Err-clause-first_cap
-returns-in-Err-clause-first_cap g c = λ s w f. ap Err (same_fault c.in-Err.fault (HasCapability s w) (c.in-Err.ensures.cap s w f))
+returns-in-Err-clause-first_cap g c = λ s w f.
+    let m = g.M.Segments.segments (message_of c.args.v.now) in
+    let tells = rw c.new-bytes.ensures.items at c.in-Err.ensures.tells in
+    elim (new_fault m _ c.fill_over.new.buffer.items tells) [
+      | inl (s', w', f', k) ↦
+          let same = one_first_cap m s' w' s w f' f in
+          ap Err (k ∙ ap₂ (λ x y. HasCapability x y) same.0 same.1)
+      | inr (words, h, k) ↦ absurd (cap_no_copy m s w words f h)
+    ]

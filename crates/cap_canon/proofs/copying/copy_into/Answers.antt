@@ -6,8 +6,8 @@ use Rattle.cap_canon.proofs.Agreeing.{agrees_all}
 use Rattle.cap_canon.proofs.CopyWalks.{root_agrees}
 use Rattle.cap_canon.proofs.copying.copy_into.Goals as goal
 
-pub walk-requires-clause-start : goal.walk-requires-clause-start
-walk-requires-clause-start g c = λ t x d h.
+pub walk-words-requires-clause-start : goal.walk-words-requires-clause-start
+walk-words-requires-clause-start g c = λ t x d h.
     (let u = trim t in
     let first : g.T.CopyOutput.words c.push.new.self ≡ 0 ∷ [] = c.push.ensures.words ∙ ap (λ xs. xs ++ 0 ∷ []) c.requires.empty in (
       refl,
@@ -18,22 +18,19 @@ walk-requires-clause-start g c = λ t x d h.
       },
     ))
 
-pub unreachable-requires : goal.unreachable-requires
-unreachable-requires g c = let h = c.requires.tree in c.in-None.ensures.stopped h.tree h.charge c.args.depth h.denotes
-
 pub returns-clause-words : goal.returns-clause-words
 returns-clause-words g c = λ t x d h.
-    let k = c.in-Some.ensures.done t x d h in
-    let output = c.walk.new.pass.output in
+    let k = c.walk-words.ensures.done t x d h in
+    let output = c.walk-words.new.pass.output in
     let same : length (g.T.CopyOutput.words output.now) ≡ length (layout (trim t)) = k.1.1.ends ∙ k.0 in
     let all : g.T.CopyOutput.words output.now ≡ layout (trim t) = agrees_all (g.T.CopyOutput.words output.now) (layout (trim t)) same k.1.1.agrees in
-    let name = ap (λ (q : Kept). q.name) (c.walk.ensures.kept t x d h) in
+    let name = ap (λ (q : Kept). q.name) (c.walk-words.ensures.kept t x d h) in
     search (rules, all, name)
 
 pub returns-clause-capacity : goal.returns-clause-capacity
 returns-clause-capacity g c =
     let r = c.requires.tree in
-    let same = c.walk.ensures.kept r.tree r.charge c.args.depth r.denotes in
+    let same = c.walk-words.ensures.kept r.tree r.charge c.args.depth r.denotes in
     let name = ap (λ (q : Kept). q.name) same in
     let all = ap (λ (q : Kept). q.capacity) same ∙ c.push.ensures.capacity in
     search (rules, all, name)
@@ -41,14 +38,14 @@ returns-clause-capacity g c =
 pub returns-clause-borrow : goal.returns-clause-borrow
 returns-clause-borrow g c =
     let r = c.requires.tree in
-    let same = c.walk.ensures.kept r.tree r.charge c.args.depth r.denotes in
+    let same = c.walk-words.ensures.kept r.tree r.charge c.args.depth r.denotes in
     let name = ap (λ (q : Kept). q.name) same in
     let all = ap (λ (q : Kept). q.borrow) same ∙ c.push.ensures.borrow in
     search (rules, all, name)
 
 pub returns-clause-after : goal.returns-clause-after
 returns-clause-after g c = λ t x d h.
-    (let same = c.walk.ensures.kept t x d h in
+    (let same = c.walk-words.ensures.kept t x d h in
     let name = ap (λ (q : Kept). q.name) same in
     let first : g.T.CopyOutput.words c.push.new.self ≡ 0 ∷ [] = c.push.ensures.words ∙ ap (λ xs. xs ++ 0 ∷ []) c.requires.empty in
     let one : length (g.T.CopyOutput.words c.push.new.self) ≤ length (layout (trim t)) = rw first (omega arith) in

@@ -1,28 +1,28 @@
-use Rattle.std.proofs.Common.{◌≡◌, ◌∙◌, ◌<◌, ◌^◌, arith, false, rules, sym, true}
+use Rattle.std.proofs.Common.{◌≡◌, ◌∙◌, ◌<◌, ◌^◌, arith, false, inr, rules, sym, true}
 use Rattle.cap_spec.specs.Pointers.{code}
 use Rattle.cap_canon.proofs.InOrder.{pointers_next, values_differ, values_next}
 use Rattle.cap_canon.proofs.in_order.list_end.Goals as goal
 
-pub returns-then-code-eq6-clause-ok : goal.returns-then-code-eq6-clause-ok
-returns-then-code-eq6-clause-ok g c =
+pub returns-then-code-eq6-clause-some : goal.returns-then-code-eq6-clause-some
+returns-then-code-eq6-clause-some g c =
     let a = c.args in
     let small : a.word < 2 ^ 64 = search rules in
-    pointers_next (g.M.Segments.segments a.message.now) a.w a.word a.end a.cost c.requires.leads small c.requires.kind
-    (sym c.code-code.ensures ∙ c.if-code-eq6.true)
+    inr (pointers_next (g.M.Segments.segments a.message.now) a.w a.word a.end a.cost c.requires.leads small c.requires.kind
+    (sym c.code-code.ensures ∙ c.if-code-eq6.true))
 
-pub returns-then-ends_with_values-clause-ok : goal.returns-then-ends_with_values-clause-ok
-returns-then-ends_with_values-clause-ok g c =
+pub returns-then-ends_with_values-clause-some : goal.returns-then-ends_with_values-clause-some
+returns-then-ends_with_values-clause-some g c =
     let a = c.args in
     let small : a.word < 2 ^ 64 = search rules in
     let some : 0 < code a.word = omega (arith, c.code-code.ensures, c.if-code-eq0.false) in
     let few : code a.word < 6 = omega (arith, c.code-code.ensures, c.if-code-eq6.false, c.if-code-eq7.false) in
-    values_next (g.M.Segments.segments a.message.now) a.w a.word a.end a.cost c.requires.leads small c.requires.kind some few
-    (rw (c.code-code.ensures, c.list_size.ensures) at (c.ends_with_values.ensures.0 c.if-ends_with_values.true))
+    inr (values_next (g.M.Segments.segments a.message.now) a.w a.word a.end a.cost c.requires.leads small c.requires.kind some few
+    (rw (c.code-code.ensures, c.list_size.ensures) at (c.ends_with_values.ensures.0 c.if-ends_with_values.true)))
 
-pub returns-clause-err : goal.returns-clause-err
-returns-clause-err g c = λ _.
+pub returns-clause-none : goal.returns-clause-none
+returns-clause-none g c =
     let a = c.args in
     let some : 0 < code a.word = omega (arith, c.code-code.ensures, c.if-code-eq0.false) in
     let few : code a.word < 6 = omega (arith, c.code-code.ensures, c.if-code-eq6.false, c.if-code-eq7.false) in
-    values_differ (g.M.Segments.segments a.message.now) a.w a.word a.end a.cost c.requires.leads c.requires.kind some few (λ stand.
-    let h : false ≡ true = sym c.if-ends_with_values.false ∙ c.ends_with_values.ensures.1 (rw (c.code-code.ensures, c.list_size.ensures) stand) in cc h)
+    inr (values_differ (g.M.Segments.segments a.message.now) a.w a.word a.end a.cost c.requires.leads c.requires.kind some few (λ stand.
+    let h : false ≡ true = sym c.if-ends_with_values.false ∙ c.ends_with_values.ensures.1 (rw (c.code-code.ensures, c.list_size.ensures) stand) in cc h))

@@ -1,10 +1,10 @@
-use Rattle.std.proofs.Common.{◌≡◌, ◌∙◌, ◌+◌, ◌*◌, ◌<◌, length, arith}
+use Rattle.std.proofs.Common.{◌≡◌, ◌∙◌, ◌+◌, ◌*◌, ◌<◌, length, arith, inr}
 use Rattle.cap_spec.specs.Messages.{HasWord, segment_of}
 use Rattle.cap_spec.specs.Pointers.{data_size, list_size, middle, pointer_size}
 use Rattle.cap_spec.proofs.Frames.Messages.{HasWord-segment}
 use Rattle.cap_canon.specs.Trimming.{AreElementsAt}
 use Rattle.cap_canon.proofs.InOrder.{structs_there}
-use Rattle.cap_canon.proofs.InOrderLists.{structs_differ, structs_next}
+use Rattle.cap_canon.proofs.InOrderLists.{structs_differ, structs_next, structs_surplus}
 use Rattle.cap_canon.proofs.in_order_lists.structs_end.Goals as goal
 
 pub word-tag-requires-clause-exists : goal.word-tag-requires-clause-exists
@@ -38,8 +38,8 @@ list_needs_all-requires g c =
     } in
     record { elements = rw c.requires.first at }
 
-pub returns-in-Ok-clause-ok : goal.returns-in-Ok-clause-ok
-returns-in-Ok-clause-ok g c =
+pub returns-clause-some : goal.returns-clause-some
+returns-clause-some g c =
     let a = c.args in
     let m = g.M.Segments.segments a.message.now in
     let tag = c.word-tag.result in
@@ -49,11 +49,23 @@ returns-in-Ok-clause-ok g c =
     let p : c.from-pointers.result ≡ pointer_size tag = c.from-pointers.ensures ∙ c.pointer_size.ensures in
     let fits : middle tag * (data_size tag + pointer_size tag) ≡ list_size a.word =
     rw (c.from.ensures, c.from-2.ensures, c.from-3.ensures, c.middle-count.ensures, d, p, size) at c.if-from.false in
-    rw size (structs_next m a.w a.end a.word tag c.requires.leads.0 c.requires.leads.1 c.requires.list has fits
-    c.ranges.word.fits c.word-tag.type_inv (rw (c.requires.first, d, p, c.middle-count.ensures) at c.in-Ok.ensures.ok))
+    inr (rw size (structs_next m a.w a.end a.word tag c.requires.leads.0 c.requires.leads.1 c.requires.list has fits
+    c.ranges.word.fits c.word-tag.type_inv
+    (rw (c.requires.first, d, p, c.middle-count.ensures) at (c.list_needs_all.ensures.yes c.if-not-list_needs_all.false))))
 
-pub returns-in-Err-clause-err : goal.returns-in-Err-clause-err
-returns-in-Err-clause-err g c = λ e.
+pub returns-then-not-list_needs_all-clause-none : goal.returns-then-not-list_needs_all-clause-none
+returns-then-not-list_needs_all-clause-none g c =
+    let a = c.args in
+    let m = g.M.Segments.segments a.message.now in
+    let tag = c.word-tag.result in
+    let has : HasWord m 0 a.end tag = rw c.requires.first at c.word-tag.ensures in
+    let d : c.from-data_words.result ≡ data_size tag = c.from-data_words.ensures ∙ c.data_size.ensures in
+    let p : c.from-pointers.result ≡ pointer_size tag = c.from-pointers.ensures ∙ c.pointer_size.ensures in
+    inr (structs_differ m a.w a.end a.word tag c.requires.leads.0 c.requires.leads.1 c.requires.list has
+    (rw (c.requires.first, d, p, c.middle-count.ensures) at (c.list_needs_all.ensures.no c.if-not-list_needs_all.true)))
+
+pub returns-then-from-clause-none : goal.returns-then-from-clause-none
+returns-then-from-clause-none g c =
     let a = c.args in
     let m = g.M.Segments.segments a.message.now in
     let tag = c.word-tag.result in
@@ -61,7 +73,5 @@ returns-in-Err-clause-err g c = λ e.
     let size : c.list_size-size.result ≡ list_size a.word = c.list_size-size.ensures in
     let d : c.from-data_words.result ≡ data_size tag = c.from-data_words.ensures ∙ c.data_size.ensures in
     let p : c.from-pointers.result ≡ pointer_size tag = c.from-pointers.ensures ∙ c.pointer_size.ensures in
-    let fits : middle tag * (data_size tag + pointer_size tag) ≡ list_size a.word =
-    rw (c.from.ensures, c.from-2.ensures, c.from-3.ensures, c.middle-count.ensures, d, p, size) at c.if-from.false in
-    structs_differ m a.w a.end a.word tag c.requires.leads.0 c.requires.leads.1 c.requires.list has fits
-    (rw (c.requires.first, d, p, c.middle-count.ensures) at (c.in-Err.ensures.err e))
+    inr (structs_surplus m a.w a.end a.word tag c.requires.leads.0 c.requires.leads.1 c.requires.list has
+    (rw (c.from.ensures, c.from-2.ensures, c.from-3.ensures, c.middle-count.ensures, d, p, size) at c.if-from.true))

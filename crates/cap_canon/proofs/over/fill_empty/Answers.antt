@@ -66,3 +66,12 @@ returns-clause-few g c =
     let long = ap length (texts k.0 _ _ k.1.denotes) in
     let same = ap (λ q. q.charge) c.report-report.ensures.value in
     omega (arith, long, length_plain words, layout_charged m 0 0 k.0 _ _ k.1.denotes, c.len.ensures, same)
+
+pub returns-clause-some : goal.returns-clause-some
+returns-clause-some g c =
+    let m = g.M.Segments.segments (message_of c.args.v.now) in
+    let k = c.report-report.ensures.accepted in
+    let words = layout (trim k.0) in
+    let texts = rw c.message.ensures.value at c.in-Ok.ensures.text in
+    let long = ap length (texts k.0 _ _ k.1.denotes) in
+    omega (arith, long, length_plain words, c.len.ensures)

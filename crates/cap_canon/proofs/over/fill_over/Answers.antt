@@ -7,12 +7,12 @@ use Rattle.cap_vet.specs.Vettings.{message_of}
 use Rattle.cap_canon.specs.CopyOvers.{TellsOver}
 use Rattle.cap_canon.proofs.Copies.{has_tree}
 use Rattle.cap_canon.proofs.FirstWords.{written_back}
-use Rattle.cap_canon.proofs.Overs.{copy_ok, enough_for, tells_err, tells_ok, within_ok}
+use Rattle.cap_canon.proofs.Overs.{copy_ok, enough_for, grows, tells_err, tells_ok, within_ok}
 use Rattle.cap_canon.proofs.over.fill_over.Goals as goal
 
 pub returns-in-Err-clause-tells : goal.returns-in-Err-clause-tells
 returns-in-Err-clause-tells g c =
-    tells_err (g.M.Segments.segments (message_of c.args.v.now)) c.args.buffer.now.items c.make_enough.new.buffer.items c.in-Err.fault c.in-Err.ensures
+    tells_err (g.M.Segments.segments (message_of c.args.v.now)) c.args.buffer.now.items c.make_enough.new.buffer.items c.in-Err.fault c.in-Err.ensures.makes
 
 pub fill_front-words-requires-clause-tree : goal.fill_front-words-requires-clause-tree
 fill_front-words-requires-clause-tree g c = let k = c.report.ensures.accepted in rw c.message.ensures.value (has_tree _ c.report.result k.0 k.1)
@@ -21,7 +21,7 @@ pub fill_front-words-requires-clause-length : goal.fill_front-words-requires-cla
 fill_front-words-requires-clause-length g c =
     let m = g.M.Segments.segments (message_of c.args.v.now) in
     rw c.message.ensures.value (λ t x d f.
-    let e = enough_for m c.args.buffer.now.items c.make_enough.new.buffer.items c.in_default.ensures t x d f in
+    let e = enough_for m c.args.buffer.now.items c.make_enough.new.buffer.items c.in_default.ensures.makes t x d f in
     omega (arith, e, ap length c.as_mut_slice.ensures.value))
 
 pub overflow_mul-result : goal.overflow_mul-result
@@ -43,7 +43,7 @@ returns-clause-tells g c =
     let texts = rw c.message.ensures.value at c.fill_front-words.ensures.text in
     let same : length new ≡ length mid = c.fill_front-words.auto.out ∙ ap length c.as_mut_slice.ensures.value in
     let back = written_back _ new mid (c.fill_front-words.auto.out ∙ c.as_mut_slice.ensures.len) in
-    subst (TellsOver m old (Ok (8 * n))) (sym back) (tells_ok m old mid new n same counts writes texts c.in_default.ensures)
+    subst (TellsOver m old (Ok (8 * n))) (sym back) (tells_ok m old mid new n same counts writes texts c.in_default.ensures.makes)
 
 pub returns-clause-ok : goal.returns-clause-ok
 returns-clause-ok g c =
@@ -57,7 +57,7 @@ returns-clause-ok g c =
     let texts = rw c.message.ensures.value at c.fill_front-words.ensures.text in
     let same : length new ≡ length mid = c.fill_front-words.auto.out ∙ ap length c.as_mut_slice.ensures.value in
     let back = written_back _ new mid (c.fill_front-words.auto.out ∙ c.as_mut_slice.ensures.len) in
-    subst (λ bytes. HasCopy m (plain_words (take (8 * n) bytes))) (sym back) (copy_ok m old mid new n same counts writes texts c.in_default.ensures)
+    subst (λ bytes. HasCopy m (plain_words (take (8 * n) bytes))) (sym back) (copy_ok m old mid new n same counts writes texts c.in_default.ensures.makes)
 
 pub returns-clause-within : goal.returns-clause-within
 returns-clause-within g c =
@@ -71,7 +71,7 @@ returns-clause-within g c =
     let texts = rw c.message.ensures.value at c.fill_front-words.ensures.text in
     let same : length new ≡ length mid = c.fill_front-words.auto.out ∙ ap length c.as_mut_slice.ensures.value in
     let back = written_back _ new mid (c.fill_front-words.auto.out ∙ c.as_mut_slice.ensures.len) in
-    subst (λ bytes. 8 * n ≤ length bytes) (sym back) (within_ok m old mid new n same counts writes texts c.in_default.ensures)
+    subst (λ bytes. 8 * n ≤ length bytes) (sym back) (within_ok m old mid new n same counts writes texts c.in_default.ensures.makes)
 
 pub returns-clause-few : goal.returns-clause-few
 returns-clause-few g c =
@@ -80,3 +80,27 @@ returns-clause-few g c =
     let counts = rw c.message.ensures.value at c.fill_front-words.ensures.count in
     let same = ap (λ r. r.charge) c.report.ensures.value in
     omega (arith, counts k.0 _ _ k.1.denotes, layout_charged m 0 0 k.0 _ _ k.1.denotes, same)
+
+pub returns-clause-kept : goal.returns-clause-kept
+returns-clause-kept g c = λ le.
+    let m = g.M.Segments.segments (message_of c.args.v.now) in
+    let mid = c.make_enough.new.buffer.items in
+    let new = c.fill_front-words.new.out in
+    let counts = rw c.message.ensures.value at c.fill_front-words.ensures.count in
+    let writes = rw c.message.ensures.value at c.fill_front-words.ensures.words in
+    let texts = rw c.message.ensures.value at c.fill_front-words.ensures.text in
+    let same : length new ≡ length mid = c.fill_front-words.auto.out ∙ ap length c.as_mut_slice.ensures.value in
+    let all = grows m c.args.buffer.now.items mid new c.fill_front-words.result same counts writes texts c.in_default.ensures.makes in
+    c.in_default.ensures.kept (all.0 le)
+
+pub returns-clause-exact : goal.returns-clause-exact
+returns-clause-exact g c = λ lt.
+    let m = g.M.Segments.segments (message_of c.args.v.now) in
+    let mid = c.make_enough.new.buffer.items in
+    let new = c.fill_front-words.new.out in
+    let counts = rw c.message.ensures.value at c.fill_front-words.ensures.count in
+    let writes = rw c.message.ensures.value at c.fill_front-words.ensures.words in
+    let texts = rw c.message.ensures.value at c.fill_front-words.ensures.text in
+    let same : length new ≡ length mid = c.fill_front-words.auto.out ∙ ap length c.as_mut_slice.ensures.value in
+    let all = grows m c.args.buffer.now.items mid new c.fill_front-words.result same counts writes texts c.in_default.ensures.makes in
+    c.in_default.ensures.exact (omega (arith, lt, all.1 lt)) ∙ all.1 lt

@@ -8,8 +8,8 @@ use Rattle.cap_canon.specs.CopyOvers.{enough, made, no_copy, refused}
 use Rattle.cap_canon.proofs.Copies.{copy_charged, has_copy}
 use Rattle.cap_canon.proofs.over.make_enough.Goals as goal
 
-pub returns-then-fits_any : goal.returns-then-fits_any
-returns-then-fits_any g c =
+pub returns-then-fits_any-clause-makes : goal.returns-then-fits_any-clause-makes
+returns-then-fits_any-clause-makes g c =
     let m = g.M.Segments.segments (message_of c.args.v.now) in
     let r = c.report.result in
     let k = c.report.ensures.accepted in
@@ -19,25 +19,32 @@ returns-then-fits_any g c =
     let few = copy_charged m k.0 r.charge r.depth words k.1.denotes h in
     enough words h (omega (arith, few, length_plain words, fits.1, c.len.ensures)) refl refl
 
-pub returns-in-Err : goal.returns-in-Err
-returns-in-Err g c =
+pub returns-in-Err-clause-makes : goal.returns-in-Err-clause-makes
+returns-in-Err-clause-makes g c =
     let h = c.in-Err.ensures.err in
     no_copy h.0 h.1 h.3 (ap Err h.2) refl
 
-pub returns-then-len-count : goal.returns-then-len-count
-returns-then-len-count g c =
+pub returns-then-len-count-clause-makes : goal.returns-then-len-count-clause-makes
+returns-then-len-count-clause-makes g c =
     let h = c.in-Ok.ensures.ok in
     let long : length (plain_text h.0) ≡ 8 * c.in-Ok.words = length_plain h.0 ∙ ap (λ (k : ℕ). 8 * k) (sym h.2) in
     enough h.0 h.1 (omega (arith, long, c.if-len-count.true, c.len-2.ensures)) refl refl
 
-pub returns-in-Ok-replace_zeros : goal.returns-in-Ok-replace_zeros
-returns-in-Ok-replace_zeros g c =
+pub returns-in-Ok-replace_zeros-clause-makes : goal.returns-in-Ok-replace_zeros-clause-makes
+returns-in-Ok-replace_zeros-clause-makes g c =
     let h = c.in-Ok.ensures.ok in
     let long : length (plain_text h.0) ≡ 8 * c.in-Ok.words = length_plain h.0 ∙ ap (λ (k : ℕ). 8 * k) (sym h.2) in
     made h.0 h.1 (omega (arith, long, c.if-len-count.false, c.len-2.ensures)) refl (c.in-Ok-replace_zeros.ensures.ok ∙ sym long)
 
-pub returns-in-Err-replace_zeros : goal.returns-in-Err-replace_zeros
-returns-in-Err-replace_zeros g c =
+pub returns-in-Err-replace_zeros-clause-makes : goal.returns-in-Err-replace_zeros-clause-makes
+returns-in-Err-replace_zeros-clause-makes g c =
     let h = c.in-Ok.ensures.ok in
     let long : length (plain_text h.0) ≡ 8 * c.in-Ok.words = length_plain h.0 ∙ ap (λ (k : ℕ). 8 * k) (sym h.2) in
     refused h.0 h.1 (omega (arith, long, c.if-len-count.false, c.len-2.ensures)) refl c.in-Err-replace_zeros.ensures.err
+
+pub returns-in-Ok-replace_zeros-clause-kept : goal.returns-in-Ok-replace_zeros-clause-kept
+returns-in-Ok-replace_zeros-clause-kept g c = λ same.
+    absurd (omega (arith, c.in-Ok-replace_zeros.ensures.ok, same, c.if-len-count.false, c.len-2.ensures))
+
+pub returns-in-Ok-replace_zeros-clause-exact : goal.returns-in-Ok-replace_zeros-clause-exact
+returns-in-Ok-replace_zeros-clause-exact g c = λ _. c.in-Ok-replace_zeros.ensures.exact ∙ sym c.in-Ok-replace_zeros.ensures.ok

@@ -1,7 +1,4 @@
-use Rattle.std.proofs.Common.{◌+◌, arith, subst, sym}
-use Rattle.std.specs.List.{AllByRecursion}
-use Rattle.cap_canon.specs.InPlace.{IsInPlace}
-use Rattle.cap_canon.proofs.Kept.{row_in_place}
+use Rattle.std.proofs.Common.{◌+◌, arith}
 use Rattle.cap_canon.specs.CopyRuns.{option_places}
 use Rattle.cap_canon.proofs.Entering.{pointers_owed, struct_owed}
 use Rattle.cap_canon.proofs.stack.run_of.Goals as goal
@@ -27,20 +24,3 @@ pub returns-in-Structs-clause-owed : goal.returns-in-Structs-clause-owed
 returns-in-Structs-clause-owed c = λ m d s w depth n tree h le.
     let k = rw c.in-Structs.is at h in
     c.structs_run.ensures.owed m k.0 s w depth (n + 1) tree k.2 (omega (arith, k.1, le))
-
-pub returns-in-Struct-clause-in_place : goal.returns-in-Struct-clause-in_place
-returns-in-Struct-clause-in_place c = λ st.
-    (let k = rw c.in-Struct.is at st in
-    let x = c.in-Struct.part in
-    subst (λ ps. AllByRecursion IsInPlace ps) (sym c.row_run.ensures.places)
-    (row_in_place x.segment (x.start + x.data_words) (c.args.end + x.data_left) x.pointers_left k))
-
-pub returns-in-Pointers-clause-in_place : goal.returns-in-Pointers-clause-in_place
-returns-in-Pointers-clause-in_place c = λ st.
-    (let k = rw c.in-Pointers.is at st in
-    let x = c.in-Pointers in
-    subst (λ ps. AllByRecursion IsInPlace ps) (sym c.row_run-in-Pointers.ensures.places)
-    (row_in_place x.segment x.start c.args.end x.count (λ some. (k.0, k.1))))
-
-pub returns-in-Structs-clause-in_place : goal.returns-in-Structs-clause-in_place
-returns-in-Structs-clause-in_place c = λ st. c.structs_run.ensures.in_place (rw c.in-Structs.is at st)

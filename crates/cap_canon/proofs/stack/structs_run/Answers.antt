@@ -1,5 +1,4 @@
-use Rattle.std.proofs.Common.{◌+◌, ◌-◌, arith, inl, inr, refl}
-use Rattle.cap_canon.proofs.Kept.{elements_in_place}
+use Rattle.std.proofs.Common.{arith, inl, inr, refl}
 use Rattle.cap_canon.proofs.Entering.{structs_none_owed, structs_owed, structs_start}
 use Rattle.cap_canon.proofs.stack.structs_run.Goals as goal
 use Rattle.cap_canon.proofs.stack.structs_run.Goals.{then-count-eq0-via-then-count-eq0, then-count-eq0-via-else-count-eq0+then-part-eq0}
@@ -22,10 +21,3 @@ overflow_add-result c =
 pub returns-clause-owed : goal.returns-clause-owed
 returns-clause-owed c = λ m d s w depth n tree k le.
     structs_owed m d depth n c.args.end s w c.args.count c.args.part.now _ tree k le (omega (arith, c.if-count-eq0.false)) refl
-
-pub returns-clause-in_place : goal.returns-clause-in_place
-returns-clause-in_place c = λ k.
-    (let x = c.args.part.now in
-    elements_in_place x.segment (x.start + x.data_words) (c.args.end + 1 + x.data_left) x.pointers_left
-    (x.pointers - x.pointers_left + x.data_words) x.data_left
-    x.pointers_left (c.args.count - 1) k.0 (omega (arith, k.1, k.2)) (omega (arith, k.2, k.3)))

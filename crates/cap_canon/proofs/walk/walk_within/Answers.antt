@@ -4,12 +4,10 @@ use Rattle.cap_spec.specs.Messages.{IsMessage}
 use Rattle.cap_spec.specs.Canonical.{trim}
 use Rattle.cap_spec.proofs.Trees.OneTree.{one_tree}
 use Rattle.cap_canon.specs.CopyRuns.{first_place}
-use Rattle.cap_canon.specs.InPlace.{AreInPlace}
 use Rattle.cap_canon.specs.Laying.{below, own_size}
 use Rattle.cap_canon.specs.StillToLay.{IsWalking, longest_copy, runs_left, work_left}
 use Rattle.cap_canon.specs.declared.run.CopyRun.{CopyRun}
 use Rattle.cap_canon.proofs.Entering.{entered, room_above, work_more}
-use Rattle.cap_canon.proofs.Kept.{entered_in_place}
 use Rattle.cap_canon.proofs.Lengths.{own_within}
 use Rattle.cap_canon.proofs.Owing.{next_work}
 use Rattle.cap_canon.proofs.Runs.{has_rest}
@@ -22,7 +20,7 @@ walk-init g c =
     let is : IsMessage m = search rules in
     let h = c.requires.tree in
     let state = g.P.Pass.state c.args.pass.now in
-    let at = first_run m g.P.Pass.in_place state c.args.depth is h (c.requires.start h.tree h.charge c.args.depth h.denotes) in
+    let at = first_run m state c.args.depth is h (c.requires.start h.tree h.charge c.args.depth h.denotes) in
     record { at = rw (c.new-stack.ensures, c.root-run.ensures) at; kept = λ t x d h. refl }
 
 pub object_at-object-requires : goal.object_at-object-requires
@@ -37,39 +35,16 @@ visit-requires g c =
     let m = g.M.Segments.segments c.args.message.now in
     let w = c.walk in
     let r = has_rest w.run w.invariant.at.full in
-    let h = turn_here m g.P.Pass.in_place (g.P.Pass.state w.pass) c.args.depth w.stack.items w.run w.end c.object_at-object.result w.invariant.at r.0 r.1
+    let h = turn_here m (g.P.Pass.state w.pass) c.args.depth w.stack.items w.run w.end c.object_at-object.result w.invariant.at r.0 r.1
     c.object_at-object.ensures in
     (trim h.at.root, h.at.tree, h.at.due, h.turn, h.at.so_far)
-
-pub returns-then-not-visit-clause-stopped : goal.returns-then-not-visit-clause-stopped
-returns-then-not-visit-clause-stopped g c =
-    let m = g.M.Segments.segments c.args.message.now in
-    let w = c.walk in
-    let r = has_rest w.run w.invariant.at.full in
-    let h = turn_here m g.P.Pass.in_place (g.P.Pass.state w.pass) c.args.depth w.stack.items w.run w.end c.object_at-object.result w.invariant.at r.0 r.1
-    c.object_at-object.ensures in
-    λ t x d k.
-    (let same = one_tree m 0 0 h.at.root t h.at.charge c.args.depth x d h.at.denotes k in
-    subst (λ u. g.P.Pass.stopped m (trim u)) same.part (c.if-not-visit.ensures.stops refl (trim h.at.root) h.at.tree h.at.due h.turn h.at.so_far))
-
-pub returns-then-not-visit-clause-kept : goal.returns-then-not-visit-clause-kept
-returns-then-not-visit-clause-kept g c =
-    let m = g.M.Segments.segments c.args.message.now in
-    let w = c.walk in
-    let r = has_rest w.run w.invariant.at.full in
-    let h = turn_here m g.P.Pass.in_place (g.P.Pass.state w.pass) c.args.depth w.stack.items w.run w.end c.object_at-object.result w.invariant.at r.0 r.1
-    c.object_at-object.ensures in
-    λ t x d k.
-    (let same = one_tree m 0 0 h.at.root t h.at.charge c.args.depth x d h.at.denotes k in
-    subst (λ u. g.P.Pass.kept c.visit.new.self (trim u) ≡ g.P.Pass.kept w.pass (trim u)) same.part
-    (c.visit.ensures.kept (trim h.at.root) h.at.tree h.at.due h.turn h.at.so_far) ∙ w.invariant.kept t x d k)
 
 pub run_of-below-requires : goal.run_of-below-requires
 run_of-below-requires g c =
     let m = g.M.Segments.segments c.args.message.now in
     let w = c.walk in
     let r = has_rest w.run w.invariant.at.full in
-    let h = turn_here m g.P.Pass.in_place (g.P.Pass.state w.pass) c.args.depth w.stack.items w.run w.end c.object_at-object.result w.invariant.at r.0 r.1
+    let h = turn_here m (g.P.Pass.state w.pass) c.args.depth w.stack.items w.run w.end c.object_at-object.result w.invariant.at r.0 r.1
     c.object_at-object.ensures in
     (m, h.met.d, w.run.segment, w.run.at, h.at.tree, h.met.next.message, h.met.is, own_within w.end longest_copy h.at.tree h.at.due w.run.slot h.at.next.small)
 
@@ -78,7 +53,7 @@ own_words-end-requires g c =
     let m = g.M.Segments.segments c.args.message.now in
     let w = c.walk in
     let r = has_rest w.run w.invariant.at.full in
-    let h = turn_here m g.P.Pass.in_place (g.P.Pass.state w.pass) c.args.depth w.stack.items w.run w.end c.object_at-object.result w.invariant.at r.0 r.1
+    let h = turn_here m (g.P.Pass.state w.pass) c.args.depth w.stack.items w.run w.end c.object_at-object.result w.invariant.at r.0 r.1
     c.object_at-object.ensures in
     let l : w.end + own_size h.at.tree ≤ longest_copy = own_within w.end longest_copy h.at.tree h.at.due w.run.slot h.at.next.small in
     (m, h.met.d, w.run.segment, w.run.at, h.at.tree, h.met.is, omega (arith, l))
@@ -88,7 +63,7 @@ overflow_add-end g c =
     let m = g.M.Segments.segments c.args.message.now in
     let w = c.walk in
     let r = has_rest w.run w.invariant.at.full in
-    let h = turn_here m g.P.Pass.in_place (g.P.Pass.state w.pass) c.args.depth w.stack.items w.run w.end c.object_at-object.result w.invariant.at r.0 r.1
+    let h = turn_here m (g.P.Pass.state w.pass) c.args.depth w.stack.items w.run w.end c.object_at-object.result w.invariant.at r.0 r.1
     c.object_at-object.ensures in
     let l : w.end + own_size h.at.tree ≤ longest_copy = own_within w.end longest_copy h.at.tree h.at.due w.run.slot h.at.next.small in
     omega (arith, l, c.own_words-end.ensures m h.met.d w.run.segment w.run.at h.at.tree h.met.is)
@@ -98,7 +73,7 @@ go_on-requires g c =
     let m = g.M.Segments.segments c.args.message.now in
     let w = c.walk in
     let r = has_rest w.run w.invariant.at.full in
-    let h = turn_here m g.P.Pass.in_place (g.P.Pass.state w.pass) c.args.depth w.stack.items w.run w.end c.object_at-object.result w.invariant.at r.0 r.1
+    let h = turn_here m (g.P.Pass.state w.pass) c.args.depth w.stack.items w.run w.end c.object_at-object.result w.invariant.at r.0 r.1
     c.object_at-object.ensures in
     let runs = w.stack.items ++ option_to_list r.0 in
     let owed = c.run_of-below.ensures.owed m h.met.d w.run.segment w.run.at c.args.depth (length runs) h.at.tree h.met.is h.met.levels in
@@ -111,7 +86,7 @@ returns-then-not-go_on-clause-done g c =
     let m = g.M.Segments.segments c.args.message.now in
     let w = c.walk in
     let on = c.go_on.ensures in
-    let h = turn_here m g.P.Pass.in_place (g.P.Pass.state w.pass) c.args.depth w.stack.items w.run w.end c.object_at-object.result w.invariant.at
+    let h = turn_here m (g.P.Pass.state w.pass) c.args.depth w.stack.items w.run w.end c.object_at-object.result w.invariant.at
     on.rest on.is_rest c.object_at-object.ensures in
     let runs = w.stack.items ++ option_to_list on.rest in
     let e = ap (λ n. w.end + n) (c.own_words-end.ensures m h.met.d w.run.segment w.run.at h.at.tree h.met.is) in
@@ -120,8 +95,8 @@ returns-then-not-go_on-clause-done g c =
     c.object_at-object.result h.met e c.run_of-below.ensures.full owed in
     let none = on.runs ∙ ap (λ b. runs_left b c.go_on.new.stack.items c.go_on.new.run) c.if-not-go_on.true in
     let walking = subst (λ (fs : List CopyRun). IsWalking m c.args.depth fs (w.end + c.own_words-end.result) (below w.end h.at.tree ++ h.at.due)) none all in
-    let so_far = c.if-not-visit.ensures.goes_on refl (trim h.at.root) h.at.tree h.at.due h.turn h.at.so_far in
-    last_turn m g.P.Pass.in_place (g.P.Pass.state w.pass) (g.P.Pass.state c.visit.new.self) c.args.depth runs
+    let so_far = c.visit.ensures.goes_on (trim h.at.root) h.at.tree h.at.due h.turn h.at.so_far in
+    last_turn m (g.P.Pass.state w.pass) (g.P.Pass.state c.visit.new.self) c.args.depth runs
     (first_place w.run) w.end (w.end + c.own_words-end.result) h.at e walking so_far
 
 pub returns-then-not-go_on-clause-kept : goal.returns-then-not-go_on-clause-kept
@@ -129,7 +104,7 @@ returns-then-not-go_on-clause-kept g c =
     let m = g.M.Segments.segments c.args.message.now in
     let w = c.walk in
     let r = has_rest w.run w.invariant.at.full in
-    let h = turn_here m g.P.Pass.in_place (g.P.Pass.state w.pass) c.args.depth w.stack.items w.run w.end c.object_at-object.result w.invariant.at r.0 r.1
+    let h = turn_here m (g.P.Pass.state w.pass) c.args.depth w.stack.items w.run w.end c.object_at-object.result w.invariant.at r.0 r.1
     c.object_at-object.ensures in
     λ t x d k.
     (let same = one_tree m 0 0 h.at.root t h.at.charge c.args.depth x d h.at.denotes k in
@@ -141,7 +116,7 @@ walk-smaller g c =
     let m = g.M.Segments.segments c.args.message.now in
     let w = c.walk in
     let on = c.go_on.ensures in
-    let h = turn_here m g.P.Pass.in_place (g.P.Pass.state w.pass) c.args.depth w.stack.items w.run w.end c.object_at-object.result w.invariant.at
+    let h = turn_here m (g.P.Pass.state w.pass) c.args.depth w.stack.items w.run w.end c.object_at-object.result w.invariant.at
     on.rest on.is_rest c.object_at-object.ensures in
     let runs = w.stack.items ++ option_to_list on.rest in
     let new = c.go_on.new in
@@ -159,7 +134,7 @@ walk-preserved g c =
     let m = g.M.Segments.segments c.args.message.now in
     let w = c.walk in
     let on = c.go_on.ensures in
-    let h = turn_here m g.P.Pass.in_place (g.P.Pass.state w.pass) c.args.depth w.stack.items w.run w.end c.object_at-object.result w.invariant.at
+    let h = turn_here m (g.P.Pass.state w.pass) c.args.depth w.stack.items w.run w.end c.object_at-object.result w.invariant.at
     on.rest on.is_rest c.object_at-object.ensures in
     let runs = w.stack.items ++ option_to_list on.rest in
     let e = ap (λ n. w.end + n) (c.own_words-end.ensures m h.met.d w.run.segment w.run.at h.at.tree h.met.is) in
@@ -169,11 +144,9 @@ walk-preserved g c =
     let new = c.go_on.new in
     let same = on.runs ∙ ap (λ b. runs_left b new.stack.items new.run) c.if-not-go_on.false in
     let walking = subst (λ (fs : List CopyRun). IsWalking m c.args.depth fs (w.end + c.own_words-end.result) (below w.end h.at.tree ++ h.at.due)) same all in
-    let so_far = c.if-not-visit.ensures.goes_on refl (trim h.at.root) h.at.tree h.at.due h.turn h.at.so_far in
-    let there = λ (i : g.P.Pass.in_place). subst (λ (fs : List CopyRun). AreInPlace fs) same
-    (entered_in_place runs c.run_of-below.result (h.at.in_place i).1 (c.run_of-below.ensures.in_place (c.if-not-visit.ensures.in_place refl i))) in record {
-      at = next_run m g.P.Pass.in_place (g.P.Pass.state w.pass) (g.P.Pass.state c.visit.new.self) c.args.depth runs new.stack.items
-          (first_place w.run) w.end (w.end + c.own_words-end.result) new.run h.at e walking there so_far;
+    let so_far = c.visit.ensures.goes_on (trim h.at.root) h.at.tree h.at.due h.turn h.at.so_far in record {
+      at = next_run m (g.P.Pass.state w.pass) (g.P.Pass.state c.visit.new.self) c.args.depth runs new.stack.items
+          (first_place w.run) w.end (w.end + c.own_words-end.result) new.run h.at e walking so_far;
       kept = λ t x d k.
           (let same = one_tree m 0 0 h.at.root t h.at.charge c.args.depth x d h.at.denotes k in
           subst (λ u. g.P.Pass.kept c.visit.new.self (trim u) ≡ g.P.Pass.kept w.pass (trim u)) same.part

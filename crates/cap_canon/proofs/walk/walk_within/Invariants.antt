@@ -6,7 +6,7 @@ use Rattle.cap_canon.proofs.walk.walk_within.Given as goal
 
 abbrev pub invariant-walk : goal.invariant-walk
 invariant-walk g l = record {
-  at : AtRun (g.M.Segments.segments l.message) g.P.Pass.in_place (g.P.Pass.state l.pass) l.depth l.stack.items l.run l.end;
+  at : AtRun (g.M.Segments.segments l.message) (g.P.Pass.state l.pass) l.depth l.stack.items l.run l.end;
   kept : ForTrimmed (g.M.Segments.segments l.message) (λ u. g.P.Pass.kept l.pass u ≡ g.P.Pass.kept l.initial.pass u);
 }
 

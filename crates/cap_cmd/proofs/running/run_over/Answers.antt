@@ -11,6 +11,9 @@ returns-in-Segments g c = rw c.in-Segments.is (record {
 pub returns-in-Vet : goal.returns-in-Vet
 returns-in-Vet g c = rw c.in-Vet.is c.vet_over-status.ensures
 
+pub returns-in-Explain : goal.returns-in-Explain
+returns-in-Explain g c = rw c.in-Explain.is c.explain_over-status.ensures
+
 pub returns-in-Filter : goal.returns-in-Filter
 returns-in-Filter g c = rw c.in-Filter.is (
   c.run_filter-answer.new.log,

@@ -17,7 +17,7 @@ lay-requires-clause-is g c =
     (r.3.meets.d, c.args.place.segment, c.args.place.word, r.1, is, omega (arith, r.3.inside, r.4.1.space))
 
 pub returns-clause-goes_on : goal.returns-clause-goes_on
-returns-clause-goes_on g c = λ _ whole tree due turn k.
+returns-clause-goes_on g c = λ whole tree due turn k.
     (let m = g.S.Segments.segments c.args.self.now.source.now in
     let is : IsObject m turn.meets.d c.args.place.segment c.args.place.word tree c.args.object.now =
     subst (λ n. IsObject n turn.meets.d c.args.place.segment c.args.place.word tree c.args.object.now) (sym k.0) turn.meets.is in (

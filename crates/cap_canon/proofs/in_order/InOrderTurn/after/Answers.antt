@@ -1,4 +1,5 @@
-use Rattle.cap_canon.proofs.InOrder.{next_in_order, next_inside, not_canonical, stop_known}
+use Rattle.std.proofs.Common.{inr, refl}
+use Rattle.cap_canon.proofs.InOrder.{compared_on, compared_one, differs_here, has_differed, next_inside, not_lax_word}
 use Rattle.cap_canon.proofs.in_order.InOrderTurn.after.Goals as goal
 
 pub next_end-requires-clause-first : goal.next_end-requires-clause-first
@@ -11,12 +12,21 @@ pub next_end-requires-clause-costs : goal.next_end-requires-clause-costs
 next_end-requires-clause-costs g c = let k = c.requires.known in (next_inside _ k.0 k.1 _ _ _ _ _ k.2 k.3).2
 
 pub next_end-requires-clause-end : goal.next_end-requires-clause-end
-next_end-requires-clause-end g c = let k = c.requires.known in (k.3.inside, k.3.few)
+next_end-requires-clause-end g c = let one = compared_one _ _ _ c.requires.known.3 in (one.2, one.1)
 
-pub returns-in-Ok-clause-ok : goal.returns-in-Ok-clause-ok
-returns-in-Ok-clause-ok g c = λ seen a looked known. next_in_order _ seen a _ _ _ _ _ _ looked c.in-Ok.ensures.ok known
+pub goes_on-requires-clause-exists : goal.goes_on-requires-clause-exists
+goes_on-requires-clause-exists g c = c.requires.known.2.exists
 
-pub returns-in-Err-clause-err : goal.returns-in-Err-clause-err
-returns-in-Err-clause-err g c =
-    let k = c.requires.known in
-    stop_known _ c.in-Err.stop (λ e. not_canonical _ k.0 k.1 _ _ _ _ _ k.2 k.3 (c.in-Err.ensures.err e))
+pub goes_on-requires-clause-inside : goal.goes_on-requires-clause-inside
+goes_on-requires-clause-inside g c = c.requires.known.2.inside
+
+pub returns-in-Some-clause-ok : goal.returns-in-Some-clause-ok
+returns-in-Some-clause-ok g c = λ seen a looked known. compared_on _ seen a _ _ _ _ _ _ looked c.in-Some.ensures.some known
+
+pub returns-else-not-goes_on-clause-ok : goal.returns-else-not-goes_on-clause-ok
+returns-else-not-goes_on-clause-ok g c = λ seen a looked known.
+    let near = not_lax_word _ _ _ c.args.may_be_lax c.requires.strict (c.goes_on.ensures c.if-not-goes_on.false) in
+    inr (refl, has_differed _ seen a _ _ _ _ _ looked near (differs_here _ seen a _ _ _ _ _ looked c.in-None.ensures.none known) known)
+
+pub returns-then-not-goes_on-clause-err : goal.returns-then-not-goes_on-clause-err
+returns-then-not-goes_on-clause-err g c = let k = c.requires.known in differs_here _ k.0 k.1 _ _ _ _ _ k.2 c.in-None.ensures.none k.3

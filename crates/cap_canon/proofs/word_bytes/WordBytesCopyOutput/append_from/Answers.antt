@@ -14,7 +14,7 @@ write_row-requires g c =
     let words = words_from m c.args.segment c.args.start c.args.count in
     let few = first_words_count self.count self.bytes.now (omega arith) in
     let many : length words ≡ c.args.count = range_length m c.args.segment c.args.start c.args.count c.requires.inside in
-    let long : length c.in-Some.row.now ≡ 8 * length words = ap length c.in-Some.ensures ∙ length_plain words in
+    let long : length c.in-Some.row.now ≡ 8 * length words = ap length c.in-Some.ensures.bytes ∙ length_plain words in
     omega (arith, many, long, few, c.requires.capacity)
 
 pub returns-in-Some-clause-words : goal.returns-in-Some-clause-words
@@ -25,7 +25,7 @@ returns-in-Some-clause-words g c =
     let are = range_words m c.args.segment c.args.start c.args.count c.read_range.ensures in
     let many : length words ≡ c.args.count = range_length m c.args.segment c.args.start c.args.count c.requires.inside in
     subst (λ k. first_words (self.count + k) c.write_row.new.bytes ≡ first_words self.count self.bytes.now ++ words) many
-    (c.write_row.ensures.words words are c.in-Some.ensures)
+    (c.write_row.ensures.words words are c.in-Some.ensures.bytes)
 
 pub invariant_of-self : goal.invariant_of-self
 invariant_of-self g c =
@@ -44,6 +44,6 @@ returns-in-Some-clause-after g c = λ n h.
     let words = words_from m c.args.segment c.args.start c.args.count in
     let few = first_words_count self.count self.bytes.now (omega arith) in
     let many : length words ≡ c.args.count = range_length m c.args.segment c.args.start c.args.count c.requires.inside in
-    let size : length c.in-Some.row.now ≡ 8 * length words = ap length c.in-Some.ensures ∙ length_plain words in
+    let size : length c.in-Some.row.now ≡ 8 * length words = ap length c.in-Some.ensures.bytes ∙ length_plain words in
     let long = first_words_count (self.count + c.args.count) c.write_row.new.bytes (omega (arith, few, c.requires.capacity, c.write_row.ensures.len)) in
     c.write_row.ensures.after n (omega (arith, size, many, long, h)))

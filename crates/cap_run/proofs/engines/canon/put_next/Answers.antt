@@ -16,8 +16,8 @@ returns-in-Ok-clause-some g c = λ _.
       c.in-Ok.ensures.ok c.args.sink.now (frame_text (put.0 ∷ [])) put.2,
     )
 
-pub returns-in-Err-flush_before_waiting-clause-err : goal.returns-in-Err-flush_before_waiting-clause-err
-returns-in-Err-flush_before_waiting-clause-err g c =
+pub returns-in-Err-flush_sink-clause-err : goal.returns-in-Err-flush_sink-clause-err
+returns-in-Err-flush_sink-clause-err g c =
     let r = c.in-Ok-true.ensures.read.message (cc) in
     let put = rw c.view-view.ensures at c.in_default.ensures.ok in (
       _,
@@ -25,8 +25,8 @@ returns-in-Err-flush_before_waiting-clause-err g c =
       (
         put.0,
         put.1,
-        subst (λ fault. Halts g.K.WordSink c.args.sink.now c.flush_before_waiting.new.sink (frame_text (put.0 ∷ [])) fault) (sym c.output_fault.ensures)
-            (c.in-Err-flush_before_waiting.ensures.err c.args.sink.now (frame_text (put.0 ∷ [])) put.2),
+        subst (λ fault. Halts g.K.WordSink c.args.sink.now c.flush_sink.new.sink (frame_text (put.0 ∷ [])) fault) (sym c.output_fault.ensures)
+            (c.in-Err-flush_sink.ensures.err c.args.sink.now (frame_text (put.0 ∷ [])) put.2),
       ),
     )
 

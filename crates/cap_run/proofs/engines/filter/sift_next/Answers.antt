@@ -13,12 +13,12 @@ returns-in-Ok-clause-some g c = λ counted e.
     let r = c.in-Ok-true.ensures.read.message (cc) in
     let same : c.in-Ok.counted ≡ counted = cc in
     subst (λ (k : Counted). SiftsNext g.S.WordSource g.O.ByteOut g.E.ByteOut v.form.pack
-    (SieveTells v) (SieveWants v) (limit_of c.args.size) c.args.number
+    (SieveTells v) (SieveWants v) (limit_of c.args.settings.now.size) c.args.number
     c.args.source.now c.read_into.new.source c.args.out.now c.sift.new.out c.args.log.now c.sift.new.log
     c.args.room.now.passage.failed c.sift.new.passage.failed c.args.room.now.passage.waits c.sift.new.passage.waits
     (Ok k)) same (
       _,
-      reads_named g.S.WordSource (limit_of c.args.size) c.args.source.now c.read_into.new.source _ r c.in-Ok-true.ensures.read.next.works,
+      reads_named g.S.WordSource (limit_of c.args.settings.now.size) c.args.source.now c.read_into.new.source _ r c.in-Ok-true.ensures.read.next.works,
       rw c.view-message.ensures at c.in-Ok.ensures,
     )
 
@@ -27,12 +27,12 @@ returns-in-Err-sift-clause-err g c =
     let v = c.args.sieve.now in
     let r = c.in-Ok-true.ensures.read.message (cc) in
     sift_stopped g.S.WordSource g.O.ByteOut g.E.ByteOut v.form.pack
-    (SieveTells v) (SieveWants v) (limit_of c.args.size) c.args.number
+    (SieveTells v) (SieveWants v) (limit_of c.args.settings.now.size) c.args.number
     c.args.source.now c.read_into.new.source c.args.out.now c.sift.new.out c.args.log.now c.sift.new.log
     c.args.room.now.passage.failed c.sift.new.passage.failed c.args.room.now.passage.waits c.sift.new.passage.waits
     c.in-Err-sift.cause (
       _,
-      reads_named g.S.WordSource (limit_of c.args.size) c.args.source.now c.read_into.new.source
+      reads_named g.S.WordSource (limit_of c.args.settings.now.size) c.args.source.now c.read_into.new.source
           _ r c.in-Ok-true.ensures.read.next.works,
       subst (λ (m : List (List ℕ)). SiftsOne g.O.ByteOut g.E.ByteOut v c.args.number m c.args.out.now c.sift.new.out
           c.args.log.now c.sift.new.log c.args.room.now.passage c.sift.new.passage

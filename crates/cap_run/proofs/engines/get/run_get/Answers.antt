@@ -1,13 +1,16 @@
+use Rattle.std.proofs.Common.{subst}
 use Rattle.cap_frame.specs.Limit.{limit_of}
 use Rattle.cap_vet.specs.Limits.{depth_of, words_of}
-use Rattle.cap_run.specs.Vetting.{TellsNode}
-use Rattle.cap_run.proofs.Demanding.{without_demands}
+use Rattle.cap_vet.specs.declared.demands.Demands.{Demands}
+use Rattle.cap_run.specs.Demanding.{TellsGetUnder}
+use Rattle.cap_run.specs.Engines.{TellsStream}
+use Rattle.cap_run.specs.Telling.{WantsNone}
+use Rattle.cap_run.proofs.Demanding.{default_none}
 use Rattle.cap_run.proofs.engines.get.run_get.Goals as goal
 
 pub returns : goal.returns
 returns g c =
     let s = c.args.settings.now in
-    without_demands g.S.WordSource g.O.ByteOut (λ w d. TellsNode w d c.args.path.now) (words_of s.limits)
-    (depth_of s.limits) (limit_of s.size) s.messages
-    c.args.source.now c.run_get_with.new.source c.args.out.now c.run_get_with.new.out c.run_get_with.result
-    c.default.result c.default.ensures.0 c.default.ensures.1 c.run_get_with.ensures
+    subst (λ (d : Demands). TellsStream g.S.WordSource g.O.ByteOut (TellsGetUnder d (words_of s.limits) (depth_of s.limits) c.args.path.now) WantsNone (limit_of s.size) s.messages
+    c.args.source.now c.run_get_with.new.source c.args.out.now c.run_get_with.new.out c.run_get_with.result)
+    (default_none c.default.result c.default.ensures.0 c.default.ensures.1) c.run_get_with.ensures

@@ -27,8 +27,8 @@ returns-in-Err-clause-err g c =
           _ _ c.args.settings.now.messages c.in-Err.cause w (omega arith) c.in-Err.ensures.err,
     )
 
-pub returns-in-Err-flush_before_waiting-clause-err : goal.returns-in-Err-flush_before_waiting-clause-err
-returns-in-Err-flush_before_waiting-clause-err g c =
+pub returns-in-Err-flush_output-clause-err : goal.returns-in-Err-flush_output-clause-err
+returns-in-Err-flush_output-clause-err g c =
     let w = c.loop-number.invariant in
     let r = rw c.in-Ok-Some.field-0-is at c.in-Ok-Some.ensures.some in
     rw c.output_fault_at.ensures (
@@ -38,9 +38,9 @@ returns-in-Err-flush_before_waiting-clause-err g c =
       omega (arith, w.many),
       w.reads,
       w.each,
-      going_stops _ _ _ (g.E.Engine.wants c.args.engine.now) _ _ _ c.tell_next.new.source _ _ c.flush_before_waiting.new.out
-          _ _ c.args.settings.now.messages (Output c.in-Err-flush_before_waiting.fault) w (omega arith)
-          (r.0, r.2, r.3, c.in-Err-flush_before_waiting.ensures c.loop-number.out r.0.text r.4),
+      going_stops _ _ _ (g.E.Engine.wants c.args.engine.now) _ _ _ c.tell_next.new.source _ _ c.flush_output.new.out
+          _ _ c.args.settings.now.messages (Output c.in-Err-flush_output.fault) w (omega arith)
+          (r.0, r.2, r.3, c.in-Err-flush_output.ensures c.loop-number.out r.0.text r.4),
     )
 
 pub loop-number-preserved : goal.loop-number-preserved

@@ -25,7 +25,25 @@ returns-in-Ok-clause-ok g c =
       many = omega (arith, many);
       gives = gives_ready g.S.WordSource c.args.source.now c.ready-count.new.self c.ready-count.result room e.room
           e.words.0 e.words.1 e.usable e.spent e.failures;
-      fills = fills_of g.K.WordSink c.args.sink.now c.put_bytes.new.self ws c.in-Ok.ensures.put c.in-Ok.ensures.ok;
+      fills = c.in-Ok.ensures.ok c.args.sink.now ws
+          (fills_of g.K.WordSink c.args.sink.now c.put_bytes.new.self ws c.in_default.ensures.put c.in_default.ensures.ok);
+    }
+
+pub returns-in-Err-flush_sink-clause-err : goal.returns-in-Err-flush_sink-clause-err
+returns-in-Err-flush_sink-clause-err g c =
+    let e = c.ready-count.ensures in
+    let room = c.ready-count.new.out in
+    let ws = plain_words (take c.ready-count.result room) in
+    let many = words_in c.ready-count.result room e.room e.words.0 in
+    let halts = c.in-Err-flush_sink.ensures.err c.args.sink.now ws
+    (fills_of g.K.WordSink c.args.sink.now c.put_bytes.new.self ws c.in_default.ensures.put c.in_default.ensures.ok) in
+    record {
+      piece = ws;
+      some = omega (arith, many);
+      few = omega (arith, many, e.room, c.ready-count.auto.out);
+      gives = gives_ready g.S.WordSource c.args.source.now c.ready-count.new.self c.ready-count.result room e.room
+          e.words.0 e.words.1 e.usable e.spent e.failures;
+      halts = subst (Halts g.K.WordSink c.args.sink.now c.flush_sink.new.sink ws) (sym c.output_fault-in-Err-flush_sink.ensures) halts;
     }
 
 pub returns-in-Err-clause-err : goal.returns-in-Err-clause-err

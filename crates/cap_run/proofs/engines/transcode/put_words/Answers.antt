@@ -1,10 +1,7 @@
-use Rattle.std.proofs.Common.{[], ◌∷◌, ◌*◌, ◌+◌, ◌≡◌, arith, refl, subst, sym}
+use Rattle.std.proofs.Common.{◌*◌, ◌+◌, ◌≡◌, arith, refl, subst}
 use Rattle.std.proofs.lemmas.List.{length-take-le}
-use Rattle.cap_frame.specs.Putting.{Halts}
-use Rattle.cap_frame.proofs.Putting.{halts_of}
 use Rattle.cap_run.proofs.Transcoding.{copied_stopped, copies_more, copies_stops, gives_one}
 use Rattle.cap_run.proofs.Handed.{copies_both, copies_start, gives_no_next, stops_midway}
-use Rattle.cap_run.proofs.Handing.{fills_of}
 use Rattle.cap_run.specs.PuttingEnds.{Transcodes}
 use Rattle.cap_run.proofs.engines.transcode.put_words.Goals as goal
 
@@ -26,17 +23,14 @@ loop-put-preserved-then-count-gt0 g c =
       copies = copies_both _ _ _ _ _ _ _ _ _ _ c.loop-put.invariant.copies c.in-Ok.ensures.ok;
     }
 
-pub returns-in-Err-put : goal.returns-in-Err-put
-returns-in-Err-put g c =
+pub returns-in-Err-put_word : goal.returns-in-Err-put_word
+returns-in-Err-put_word g c =
     let now = copies_both _ _ _ _ _ _ _ _ _ _ c.loop-put.invariant.copies c.in-Ok.ensures.ok in
     let gives = gives_one g.S.WordSource c.put_ready.new.source c.next.new.self c.in-Ok-Some.word
     (rw c.in-Ok-Some.field-0-is at c.in-Ok-Some.ensures.words) (rw c.in-Ok-Some.field-0-is at c.in-Ok-Some.ensures.word) c.in-Ok-Some.ensures.ok in
-    let halts = halts_of g.K.WordSink c.put_ready.new.sink c.put.new.self
-    (c.in-Ok-Some.word ∷ []) c.put.result c.in-Err-put.fault c.in-Err-put.is c.in-Err-put.ensures.err
-    c.put.ensures.device c.put.ensures.memory c.put.ensures.was_spent in
     copied_stopped _ _ _ _ _ _ _ _ _ (omega arith)
     (copies_stops _ _ _ _ _ _ _ _ _ (c.loop-put.put + c.in-Ok.count) c.in-Ok-Some.word _
-    (omega arith) now gives (subst (Halts g.K.WordSink c.put_ready.new.sink c.put.new.self _) (sym c.output_fault.ensures) halts))
+    (omega arith) now gives c.in-Err-put_word.ensures.err)
 
 pub returns-in-Ok-None : goal.returns-in-Ok-None
 returns-in-Ok-None g c =
@@ -73,8 +67,7 @@ loop-put-preserved g c =
       few = omega arith;
       room = omega arith;
       copies = copies_more _ _ _ _ _ _ _ _ (c.loop-put.put + c.in-Ok.count) c.in-Ok-Some.word now gives
-          (fills_of g.K.WordSink c.put_ready.new.sink c.put.new.self (c.in-Ok-Some.word ∷ []) c.in_default.ensures.put
-          c.in_default.ensures.ok);
+          c.in_default.ensures.ok;
     }
 
 pub returns-in-Ok-Some-next : goal.returns-in-Ok-Some-next

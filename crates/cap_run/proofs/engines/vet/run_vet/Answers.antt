@@ -1,13 +1,16 @@
+use Rattle.std.proofs.Common.{subst}
 use Rattle.cap_frame.specs.Limit.{limit_of}
 use Rattle.cap_vet.specs.Limits.{depth_of, words_of}
-use Rattle.cap_run.specs.Vetting.{TellsAccepted}
-use Rattle.cap_run.proofs.Demanding.{without_demands}
+use Rattle.cap_vet.specs.declared.demands.Demands.{Demands}
+use Rattle.cap_run.specs.Demanding.{TellsVerdictUnder}
+use Rattle.cap_run.specs.Engines.{TellsStream}
+use Rattle.cap_run.specs.Telling.{WantsNone}
+use Rattle.cap_run.proofs.Demanding.{default_none}
 use Rattle.cap_run.proofs.engines.vet.run_vet.Goals as goal
 
 pub returns : goal.returns
 returns g c =
     let s = c.args.settings.now in
-    without_demands g.S.WordSource g.O.ByteOut TellsAccepted (words_of s.limits) (depth_of s.limits) (limit_of s.size)
-    s.messages
-    c.args.source.now c.run_vet_with.new.source c.args.out.now c.run_vet_with.new.out c.run_vet_with.result
-    c.default.result c.default.ensures.0 c.default.ensures.1 c.run_vet_with.ensures
+    subst (λ (d : Demands). TellsStream g.S.WordSource g.O.ByteOut (TellsVerdictUnder d (words_of s.limits) (depth_of s.limits)) WantsNone (limit_of s.size) s.messages
+    c.args.source.now c.run_vet_with.new.source c.args.out.now c.run_vet_with.new.out c.run_vet_with.result)
+    (default_none c.default.result c.default.ensures.0 c.default.ensures.1) c.run_vet_with.ensures

@@ -10,5 +10,5 @@ returns g c =
     let m = g.M.Segments.segments c.args.message.now in
     let some : 0 < length (segment_of m 0) = omega (arith, c.if-len-eq0.false, c.len.ensures) in
     let root : (x : ℕ) × HasWord m 0 0 x = HasWord-at m 0 0 some in
-    let near = c.in_ok-found.ensures in
+    let near = c.in_ok-found.ensures.found in
     arrives_root m _ _ root.0 _ _ None root.1 near.found near.costs near.within near.shallow near.strict

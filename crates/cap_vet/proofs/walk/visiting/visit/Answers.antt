@@ -1,5 +1,5 @@
 use Rattle.cap_vet.proofs.Stacks.{visited}
-use Rattle.cap_vet.proofs.Verdicts.{first_fault}
+use Rattle.cap_vet.proofs.Verdicts.{fault_next}
 use Rattle.cap_vet.proofs.walk.visiting.visit.Goals as goal
 
 pub look-requires-clause-exists : goal.look-requires-clause-exists
@@ -9,7 +9,7 @@ pub look-requires-clause-inside : goal.look-requires-clause-inside
 look-requires-clause-inside g c = c.requires.next.1.within
 
 pub returns-in-Err-clause-err : goal.returns-in-Err-clause-err
-returns-in-Err-clause-err g c = first_fault _ _ _ _ _ _ _ _ _ c.requires.next.1 c.in-Err.ensures.err
+returns-in-Err-clause-err g c = λ runs next. fault_next _ _ _ _ _ _ runs _ _ next c.in-Err.ensures.err
 
 pub returns-in-Ok-clause-ok : goal.returns-in-Ok-clause-ok
 returns-in-Ok-clause-ok g c = λ runs next. rw (c.add.ensures.report, c.add.ensures.run)

@@ -60,10 +60,16 @@ returns-in-Ok-after g c = record {
       c.go_on.ensures.runs;
   room = c.go_on.ensures.room;
   err = tt;
+  known = tt;
 }
 
 pub returns-in-Err : goal.returns-in-Err
-returns-in-Err g c = record { ok = tt; room = tt; err = inr c.in-Err.ensures.err }
+returns-in-Err g c =
+    let f = topmost_in _ _ _ c.args.stack.now.items c.args.run.now c.args.report.now _ _ c.requires.walking.walks in
+    let rest = has_rest c.args.run.now f.some in
+    let at = next_at _ _ c.args.stack.now.items c.args.run.now _ _ _ c.requires.walking rest.1 in
+    let fault = c.in-Err.ensures.err (c.args.stack.now.items ++ option_to_list rest.0) at.next in
+    record { ok = tt; room = tt; err = inr fault.0; known = inr (fault.0, at.next.seen, fault.1, at.known) }
 
 pub after-requires-clause-strict : goal.after-requires-clause-strict
 after-requires-clause-strict g c = λ f. absurd (cc f)

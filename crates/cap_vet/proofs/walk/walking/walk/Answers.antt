@@ -9,6 +9,12 @@ returns-then-len-eq0-clause-err g c =
     let some : 0 < length m = search rules in
     inl (no_root_at m some (omega (arith, c.len.ensures, c.if-len-eq0.true)))
 
+pub returns-then-len-eq0-clause-known : goal.returns-then-len-eq0-clause-known
+returns-then-len-eq0-clause-known g c =
+    let m = g.M.Segments.segments c.args.message.now in
+    let some : 0 < length m = search rules in
+    inl (no_root_at m some (omega (arith, c.len.ensures, c.if-len-eq0.true)), c.requires)
+
 pub walk_on-requires : goal.walk_on-requires
 walk_on-requires g c =
     let m = g.M.Segments.segments c.args.message.now in

@@ -42,7 +42,7 @@ returns-in_ok-found-in-Word g c = λ path a h.
     let step : StepLeads at.found c.args.step (Some (Word c.in-Word.segment c.in-Word.word)) =
     subst (λ (u : Kept). StepLeads at.found c.args.step (Some u)) c.in-Word.is is in
     let goes = step m a h.found in
-    let near = c.in_ok-found-in-Word.ensures in (
+    let near = c.in_ok-found-in-Word.ensures.found in (
       word c.in-Word.segment c.in-Word.word,
       arrives_word m _ _ path a at c.args.step _ _ _ _ None h goes.0 near.found near.costs near.within near.shallow near.strict,
     )

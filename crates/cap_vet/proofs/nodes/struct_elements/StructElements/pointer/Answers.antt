@@ -11,4 +11,4 @@ returns-clause-given g c = λ start are.
     let w = e.first + i * (c.from-2.result + c.from-3.result) + c.from-4.result + c.from-5.result in
     pointer_given _ start e _ are e.exists i lt (element_within e.first e.count e.data_words e.pointers i _ e.inside lt)
     c.args.j w c.in_ok-found.field-0-1 (omega (arith, c.if-j-self.false))
-    (rw (c.from-2.ensures, c.from-3.ensures, c.from-4.ensures, c.from-5.ensures) refl) c.in_ok-found.ensures
+    (rw (c.from-2.ensures, c.from-3.ensures, c.from-4.ensures, c.from-5.ensures) refl) c.in_ok-found.ensures.found

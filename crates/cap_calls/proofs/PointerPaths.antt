@@ -1,0 +1,82 @@
+-- The bytes, the number and the capacity decide what the call for a path finds.
+use Rattle.std.proofs.Common.{ℕ, zero, suc, List, [], ◌∷◌, ◌≡◌, ◌∙◌, ◌≤◌, ◌<◌, ◌+◌, ◌++◌, ap, sym, drop, take, length, map, set, get_or, refl, arith}
+use Rattle.std.specs.Prelude.{not, Bool}
+use Rattle.cap_spec.specs.declared.Step.{Step}
+use Rattle.cap_trace.specs.Traces.{filled}
+use Rattle.cap_trace.proofs.Filling.{take_filled}
+use Rattle.cap_trace.proofs.Numbering.{one_numbered}
+use Rattle.cap_calls.specs.CallFindings.{framed, tells, trailing, without}
+use Rattle.cap_calls.specs.CallFlags.{allows_trailing}
+use Rattle.cap_calls.specs.CallInputs.{TellsInput, of_frame, of_no_words, of_words}
+use Rattle.cap_calls.specs.PointerCalls.{FindsFew, FindsPointer, TellsPointer, call_step, none, steps_found, too_small, written}
+use Rattle.cap_calls.specs.declared.answer.Answer.{Answer}
+use Rattle.cap_calls.specs.declared.answer.Answer.TheVariants as answer
+use Rattle.cap_calls.specs.declared.found.Found.{Found}
+use Rattle.cap_calls.specs.declared.limits.CallLimits.{CallLimits}
+use Rattle.cap_calls.specs.declared.report.CallReport.{CallReport}
+use Rattle.cap_calls.specs.declared.step.CallStep.{CallStep}
+use Rattle.cap_calls.proofs.Answers.{one_input_told, one_returned}
+
+module _ (n : ℕ) (old : List CallStep) (m : List (List ℕ)) (words depth : ℕ) where
+  one_pointer : (x y : List CallStep) (f g : Found) → FindsPointer n old x m words depth f → FindsPointer n old y m words depth g
+      → (f ≡ g) × (x ≡ y)
+  one_pointer x y f g (written p a few e i) (written q b less h k) =
+      let same : p ≡ q = one_numbered m n p q a.traceable.numbered b.traceable.numbered in (
+        e ∙ ap (λ (u : List Step). steps_found answer.Good (length u)) same ∙ sym h,
+        i ∙ ap (λ (u : List Step). map call_step u ++ drop (length u) old) same ∙ sym k,
+      )
+  one_pointer x y f g (written p a few e i) (too_small q b less h k) =
+      let same = ap length (one_numbered m n p q a.traceable.numbered b.traceable.numbered) in absurd (omega (arith, same, few, less))
+  one_pointer x y f g (written p a few e i) (none missing h k) = absurd (missing p a)
+  one_pointer x y f g (too_small p a less e i) (written q b few h k) =
+      let same = ap length (one_numbered m n p q a.traceable.numbered b.traceable.numbered) in absurd (omega (arith, same, few, less))
+  one_pointer x y f g (too_small p a less e i) (too_small q b also h k) =
+      let same : p ≡ q = one_numbered m n p q a.traceable.numbered b.traceable.numbered in
+      (e ∙ ap (λ (u : List Step). steps_found answer.BufferTooSmall (length u)) same ∙ sym h, i ∙ sym k)
+  one_pointer x y f g (too_small p a less e i) (none missing h k) = absurd (missing p a)
+  one_pointer x y f g (none missing e i) (written q b few h k) = absurd (missing q b)
+  one_pointer x y f g (none missing e i) (too_small q b less h k) = absurd (missing q b)
+  one_pointer x y f g (none missing e i) (none also h k) = (e ∙ sym h, i ∙ sym k)
+
+-- The call answers, writes and reports one thing.
+pub one_pointer_told : (l : CallLimits) (bs : List ℕ) (number : ℕ) (old : List CallStep) (a b : Answer) (n k : ℕ)
+    (x y : List CallStep) (r q : CallReport)
+    → TellsPointer l bs number old a n x r → TellsPointer l bs number old b k y q
+    → (a ≡ b) × (n ≡ k) × (x ≡ y) × (r ≡ q)
+one_pointer_told l bs number old a b n k x y r q (f, t, h, e) (g, u, i, j) =
+    let same = one_input_told {S = x ≡ y} (not (allows_trailing l)) l bs f g (λ s v. s ∙ sym v)
+    (λ m v w c d. one_pointer number old m l.charge l.depth x y v w c d) t u in
+    let one = one_returned f g a b r q same.0 h i in
+    (one.0, e ∙ (ap (λ (z : Found). z.count) same.0 ∙ sym j), same.1, one.1)
+
+-- The steps are few, since the depth limit is.
+pub few_told : (whole : Bool) (l : CallLimits) (bs : List ℕ) (n : ℕ) (old new : List CallStep) (f : Found)
+    → TellsInput whole (new ≡ old) (FindsFew n old new) l bs f → f.count ≤ 256
+few_told whole l bs n old new f (of_frame y (trailing m x z t h more e k)) =
+    let count = ap (λ (u : Found). u.count) e in omega (arith, count)
+few_told whole l bs n old new f (of_frame y (tells alone (without c h e k))) =
+    let count = ap (λ (u : Found). u.count) e in omega (arith, count)
+few_told whole l bs n old new f (of_frame y (tells alone (framed m x z g h p e))) =
+    let count = ap (λ (u : Found). u.count) e in omega (arith, count, p.1, h.are_limits.shallow)
+few_told whole l bs n old new f (of_no_words y c h e k) =
+    let count = ap (λ (u : Found). u.count) e in omega (arith, count)
+few_told whole l bs n old new f (of_words y g h p e) =
+    let count = ap (λ (u : Found). u.count) e in omega (arith, count, p.1, h.are_limits.shallow)
+
+-- The path is the start of what was filled.
+pub path_kept : (path old new : List Step) (count : ℕ) → new ≡ filled path old → count ≡ length path → count ≤ length old
+    → take count new ≡ path
+path_kept path old new count e f few =
+    ap (λ (u : List Step). take count u) e ∙ ap (λ (k : ℕ). take k (filled path old)) f
+    ∙ take_filled path old (omega (arith, f, few))
+
+-- One step after the others is put.
+pub put_one : (path : List Step) (old : List CallStep) (at : ℕ) (d : Step) → at < length path → length path ≤ length old
+    → set (map call_step (take at path) ++ drop at old) at (call_step (get_or path at d))
+    ≡ map call_step (take (at + 1) path) ++ drop (at + 1) old
+put_one [] old at d h k = absurd (omega arith)
+put_one (p ∷ path) [] at d h k = absurd (omega arith)
+put_one (p ∷ path) (o ∷ old) zero d h k = refl
+put_one (p ∷ path) (o ∷ old) (suc at) d h k =
+    let e : suc at + 1 ≡ suc (at + 1) = omega arith in
+    rw e (ap (λ (u : List CallStep). call_step p ∷ u) (put_one path old at d (omega arith) (omega arith)))

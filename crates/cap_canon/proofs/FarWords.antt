@@ -1,0 +1,61 @@
+-- No pointer word of a copy is far.
+use Rattle.std.proofs.Common.{ℕ, zero, suc, ◌+◌, ◌-◌, ◌*◌, ◌<◌, ◌^◌, ◌≡◌, ◌⊎◌, inl, inr, List, [], ◌∷◌, ◌++◌, length, refl, subst, ◌∙◌, arith, true, false, append_assoc}
+use Rattle.std.specs.Prelude.{◌==◌}
+use Rattle.std.proofs.lemmas.Bool.Decides.{eqb_tells}
+use Rattle.cap_spec.specs.Canonical.{pointer_to, size, struct_word}
+use Rattle.cap_spec.specs.Messages.{HasWord, segment_of}
+use Rattle.cap_spec.specs.Pointers.{kind}
+use Rattle.cap_spec.specs.Tree.{Tree, null, cap, struct, scalars, pointers, structs, Trees, none, more, tree_count}
+use Rattle.cap_spec.proofs.Canonical.TreeMeasures.{FitElements}
+use Rattle.cap_spec.proofs.Frames.Messages.{one_word}
+use Rattle.cap_canon.specs.Laying.{Due, Laid, element_slots, slots}
+
+-- one that leads to a tree
+near_word : (o word : ℕ) (t : Tree) → word ≡ pointer_to o t → kind word ≡ 2 → ⊥
+near_word o word null e k = omega (arith, e, k)
+near_word o word (cap i) e k = omega (arith, e, k)
+near_word o word (struct ws ts) e k = go (eqb_tells (length ws + tree_count ts) 0)
+  where
+    go : (((length ws + tree_count ts == 0) ≡ true) × (length ws + tree_count ts ≡ 0)) ⊎
+        (((length ws + tree_count ts == 0) ≡ false) × (length ws + tree_count ts ≡ 0 → ⊥)) → ⊥
+    go (inl y) = let n : word ≡ 2 ^ 32 - 4 = e ∙ rw y.0 refl in omega (arith, n, k)
+    go (inr y) = let n : word ≡ struct_word o (length ws) (tree_count ts) = e ∙ rw y.0 refl in omega (arith, n, k)
+near_word o word (scalars c vs) e k = omega (arith, e, k)
+near_word o word (pointers ts) e k = omega (arith, e, k)
+near_word o word (structs d p es) e k = omega (arith, e, k)
+
+-- the last of a row
+pub row_near : (m : List (List ℕ)) (end a : ℕ) (ts : Trees) (due : List Due) (far : ℕ) → Laid (segment_of m 0) end (slots a ts ++ due)
+    → 0 < tree_count ts → HasWord m 0 (a + (tree_count ts - 1)) far → kind far ≡ 2 → ⊥
+row_near m end a none due far l some has k = absurd (omega (arith, some))
+row_near m end a (more t none) due far l some has k =
+    let here : HasWord m 0 a far = subst (λ i. HasWord m 0 i far) (omega arith) has in
+    near_word l.0 far t (one_word m 0 a far (pointer_to l.0 t) here l.2) k
+row_near m end a (more t (more u us)) due far l some has k =
+    row_near m (end + size t) (a + 1) (more u us) due far l.4 (omega arith) (subst (λ i. HasWord m 0 i far) (omega arith) has) k
+
+-- what comes after some that are due
+after_due : (words : List ℕ) (end : ℕ) (xs ys : List Due) → Laid words end (xs ++ ys) → (now : ℕ) × Laid words now ys
+after_due words end [] ys l = (end, l)
+after_due words end (x ∷ xs) ys l = after_due words (end + size x.tree) xs ys l.4
+
+-- the last of an element
+pub elements_near : (m : List (List ℕ)) (end a d p k : ℕ) (es : Trees) (due : List Due) (far : ℕ) → FitElements d p es
+    → Laid (segment_of m 0) end (element_slots d p a es ++ due) → k < tree_count es → 0 < p
+    → HasWord m 0 (a + k * (d + p) + d + (p - 1)) far → kind far ≡ 2 → ⊥
+elements_near m end a d p k none due far f l lt some has e = absurd (omega (arith, lt))
+elements_near m end a d p zero (more (struct ws ts) es) due far f l lt some has e =
+    let first = subst (λ xs. Laid (segment_of m 0) end xs) (append_assoc (slots (a + d) ts) (element_slots d p (a + d + p) es) due) l in
+    row_near m end (a + d) ts (element_slots d p (a + d + p) es ++ due) far first (omega (arith, f.1, some))
+    (subst (λ i. HasWord m 0 i far) (omega (arith, f.1)) has) e
+elements_near m end a d p (suc k) (more (struct ws ts) es) due far f l lt some has e =
+    let first = subst (λ xs. Laid (segment_of m 0) end xs) (append_assoc (slots (a + d) ts) (element_slots d p (a + d + p) es) due) l in
+    let rest = after_due (segment_of m 0) end (slots (a + d) ts) (element_slots d p (a + d + p) es ++ due) first in
+    let once : suc k * (d + p) ≡ d + p + k * (d + p) = omega arith in
+    let at : a + suc k * (d + p) + d + (p - 1) ≡ a + d + p + k * (d + p) + d + (p - 1) = omega (arith, once) in
+    elements_near m rest.0 (a + d + p) d p k es due far f.3 rest.1 (omega (arith, lt)) some (subst (λ i. HasWord m 0 i far) at has) e
+elements_near m end a d p k (more null es) due far f l lt some has e = absurd f
+elements_near m end a d p k (more (cap i) es) due far f l lt some has e = absurd f
+elements_near m end a d p k (more (scalars c vs) es) due far f l lt some has e = absurd f
+elements_near m end a d p k (more (pointers ts) es) due far f l lt some has e = absurd f
+elements_near m end a d p k (more (structs i j xs) es) due far f l lt some has e = absurd f

@@ -1,0 +1,41 @@
+-- A walk within the greatest limits stops only at a message that isn't canonical: it was accepted before.
+use Rattle.std.proofs.Common.{◌≡◌, List, ℕ, arith}
+use Rattle.std.proofs.lemmas.Bool.{false≢true}
+use Rattle.cap_spec.specs.Copies.{IsCanonical}
+use Rattle.cap_spec.specs.GreatestLimits.{most_depth, most_words}
+use Rattle.cap_spec.specs.Tree.{Tree}
+use Rattle.cap_spec.proofs.Verdicts.Refusals.{tree_not_refused}
+use Rattle.cap_vet.specs.Limits.{depth_of, words_of}
+use Rattle.cap_vet.specs.Reports.{IsReport}
+use Rattle.cap_vet.specs.Turns.{IsStopped}
+use Rattle.cap_vet.specs.declared.limits.Limits.{Limits}
+use Rattle.cap_vet.specs.declared.report.Report.{Report}
+use Rattle.cap_vet.specs.declared.walk.turn.Stopped.{Stopped}
+use Rattle.cap_vet.specs.declared.walk.turn.Stopped.TheVariants.{Refused, ByTurn}
+use Rattle.cap_canon.specs.InOrder.{IsNotCanonical}
+use Rattle.cap_canon.proofs.checked_vetting.is_canonical.Goals as goal
+
+not_stopped : {S : Type 0} (m : List (List ℕ)) (limits : Limits) (stopped : Stopped S) (r : Report) (t : Tree) → words_of limits ≡ most_words
+    → depth_of limits ≡ most_depth → IsReport m most_words most_depth r t → IsStopped m limits (λ _. IsNotCanonical m) stopped → IsCanonical m → ⊥
+not_stopped m limits (Refused refusal) r t w d k h canon =
+    tree_not_refused m t r.charge r.depth (words_of limits) (depth_of limits) refusal k.denotes (omega (arith, w, k.within)) (omega (arith, d, k.shallow)) h
+not_stopped m limits (ByTurn stop) r t w d k h canon = h t r.charge r.depth k.denotes k.within canon
+
+pub returns-in-Ok : goal.returns-in-Ok
+returns-in-Ok g c = rw c.message.ensures.value at c.in-Ok.ensures.canonical
+
+pub returns-in-Err-Refused : goal.returns-in-Err-Refused
+returns-in-Err-Refused g c =
+    let k = c.report-report.ensures.accepted in
+    let h = rw c.message.ensures.value at c.in-Err-Refused.ensures.err in (
+      λ yes. absurd (false≢true yes),
+      λ canon. absurd (not_stopped _ c.greatest.result _ c.report-report.result k.0 c.greatest.ensures.0 c.greatest.ensures.1 k.1 h canon),
+    )
+
+pub returns-in-Err-ByTurn : goal.returns-in-Err-ByTurn
+returns-in-Err-ByTurn g c =
+    let k = c.report-report.ensures.accepted in
+    let h = rw c.message.ensures.value at c.in-Err-ByTurn.ensures.err in (
+      λ yes. absurd (false≢true yes),
+      λ canon. absurd (not_stopped _ c.greatest.result _ c.report-report.result k.0 c.greatest.ensures.0 c.greatest.ensures.1 k.1 h canon),
+    )

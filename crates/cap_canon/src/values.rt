@@ -1,0 +1,39 @@
+//! Whether a list of values is as a copy has it.
+
+ghost use Rattle.cap_spec.specs.Denoting.{values_of};
+ghost use Rattle.cap_spec.specs.Messages.{segment_of};
+ghost use Rattle.cap_spec.specs.Placing.{StandAt};
+ghost use Rattle.cap_spec.specs.Pointers.{list_words};
+ghost use Rattle.cap_spec.specs.Scalars.{scalar_words};
+ghost use Rattle.std.specs.Prelude.{◌+◌, ◌<◌, ◌↔◌, ◌≡◌, ◌≤◌, IsTrue, length};
+
+use crate::objects::read_range;
+use crate::words::rest_bits;
+use cap_frame::Segments;
+use cap_words::bits;
+
+/// Whether the words of a list of values have no bits set after the last value. Each is read, since a
+/// word is known to be below 2^64 only once it is read.
+#[inline(always)]
+pub(crate) fn ends_with_values<M: Segments>(
+    message: &M,
+    start: u32,
+    code: u8,
+    count: u32,
+    words: u32,
+) -> bool
+    requires exists { 0 < length (M.segments message.now) }
+    requires inside { start + words ≤ length (segment_of (M.segments message.now) 0) }
+    requires code { code < 6 }
+    requires words { words ≡ list_words code count }
+    ensures { IsTrue result ↔ StandAt (segment_of (M.segments message.now) 0) start
+        (scalar_words code (values_of (M.segments message.now) 0 start code count)) }
+{
+    read_range(message, 0, start, words);
+    let used = rest_bits(code, count);
+    if used == 0 {
+        return true;
+    }
+    let last = message.word(0, start + (words - 1));
+    last == bits(last, 0, used)
+}

@@ -1,0 +1,17 @@
+use Rattle.cap_cmd.proofs.running.explain_over.Goals as goal
+
+pub returns-then-exclusive : goal.returns-then-exclusive
+returns-then-exclusive g c = rw c.if-exclusive.true (record {
+  last = c.run_explain_exclusive-answer.new.source;
+  answer = c.run_explain_exclusive-answer.result;
+  does = c.run_explain_exclusive-answer.ensures;
+  reported = c.report_run.ensures;
+})
+
+pub returns-else-exclusive : goal.returns-else-exclusive
+returns-else-exclusive g c = rw c.if-exclusive.false (record {
+  last = c.run_explain-answer.new.source;
+  answer = c.run_explain-answer.result;
+  does = c.run_explain-answer.ensures;
+  reported = c.report_run-else-exclusive.ensures;
+})

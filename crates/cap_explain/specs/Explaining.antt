@@ -1,0 +1,141 @@
+-- The lines that explain a refusal (profile).
+use Rattle.std.specs.Prelude.{ℕ, ◌+◌, ◌-◌, ◌==◌, nat_lt, if◌then◌else◌, List, [], ◌∷◌, ◌++◌, codes}
+use Rattle.std.specs.Prelude.{decimal, length, Option, Some, None}
+use Rattle.cap_spec.specs.Messages.{segment_of}
+use Rattle.cap_spec.specs.PathTexts.{path_text}
+use Rattle.cap_spec.specs.Pointers.{extent, far_segment, pad}
+use Rattle.cap_spec.specs.Texts.{hex}
+use Rattle.cap_spec.specs.declared.Reason.TheVariants.{DepthLimit, WordLimit}
+use Rattle.cap_spec.specs.declared.Step.{Step}
+use Rattle.cap_spec.specs.declared.StrictRefusal.{StrictRefusal}
+use Rattle.cap_spec.specs.declared.StrictRefusal.TheVariants.{Refused as refused, ManySegments as many}
+use Rattle.cap_spec.specs.declared.StrictRefusal.TheVariants.{Pointer as not_strict}
+use Rattle.cap_explain.specs.Forms.{difference_text, form_text, place_text, tag_text}
+use Rattle.cap_explain.specs.Leading.{byte_of, target_of, landing_of, segment_after, tag_of}
+use Rattle.cap_explain.specs.Leading.{word_of}
+use Rattle.cap_explain.specs.Sentences.{names_pointer, sentence}
+use Rattle.cap_explain.specs.declared.target.Target.{Target}
+use Rattle.cap_explain.specs.declared.landing.Landing.{Landing}
+use Rattle.cap_explain.specs.declared.landing.Landing.TheVariants.{Near, Missing, Outside, One, Two}
+use Rattle.cap_explain.specs.declared.sentences.Fault.{Fault}
+use Rattle.cap_explain.specs.declared.sentences.Fault.TheVariants.{Refused, ManySegments, NotStrict}
+use Rattle.cap_explain.specs.declared.sentences.Fault.TheVariants.{Overlap}
+
+-- where the pointer word is
+abbrev pub byte_line : List (List ℕ) → ℕ → ℕ → List ℕ
+byte_line m s w = codes "  byte " ++ decimal (byte_of m s w) ++ codes " of the message" ++ 10 ∷ []
+
+-- a word, and its form with the fields
+abbrev pub word_text : ℕ → List ℕ
+word_text p = hex p ++ 32 ∷ form_text p ++ 10 ∷ []
+
+abbrev pub pointer_line : ℕ → List ℕ
+pointer_line p = codes "  pointer " ++ word_text p
+
+-- a word of a landing pad
+abbrev pub pad_line : ℕ → ℕ → ℕ → List ℕ
+pad_line s w p = codes "  pad " ++ place_text s w ++ 32 ∷ word_text p
+
+-- the words of the landing pad of the pointer p
+abbrev pub landing_lines : ℕ → Landing → List ℕ
+landing_lines p Near = []
+landing_lines p Missing = []
+landing_lines p Outside = []
+landing_lines p (One word) = pad_line (far_segment p) (pad p) word
+landing_lines p (Two far tag) =
+    pad_line (far_segment p) (pad p) far ++ pad_line (far_segment p) (pad p + 1) tag
+
+-- the place of a word of the target
+abbrev pub target_place : Target → ℕ → List ℕ
+target_place t w = decimal t.segment ++ 58 ∷ difference_text w t.excess
+
+-- from its first word to its last one
+abbrev pub target_range : Target → List ℕ
+target_range t =
+    if extent t.word == 0 then target_place t t.start else
+    (target_place t t.start ++ codes " to " ++ target_place t (t.start + extent t.word - 1))
+
+abbrev pub target_line : Target → List ℕ
+target_line t =
+    codes "  target " ++ target_range t ++ codes ", words " ++ decimal (extent t.word) ++ 10 ∷ []
+
+-- the tag of a list of structs, and its fields
+abbrev pub tag_word : ℕ → List ℕ
+tag_word tag = hex tag ++ 32 ∷ tag_text tag ++ 10 ∷ []
+
+-- the tag of a list of structs at that target
+abbrev pub tag_line : Target → Option ℕ → List ℕ
+tag_line t None = []
+tag_line t (Some tag) = codes "  tag " ++ target_place t t.start ++ 32 ∷ tag_word tag
+
+abbrev pub target_lines : List (List ℕ) → Option Target → List ℕ
+target_lines m None = []
+target_lines m (Some t) = target_line t ++ tag_line t (tag_of m t)
+
+-- how many words a segment has, or that it doesn't exist
+abbrev pub segment_state : List (List ℕ) → ℕ → List ℕ
+segment_state m s =
+    if nat_lt s (length m) then codes ", words " ++ decimal (length (segment_of m s)) else
+    codes " does not exist, segments " ++ decimal (length m)
+
+-- the segment that the pointer leads into
+abbrev pub segment_line : List (List ℕ) → ℕ → List ℕ
+segment_line m s = (codes "  segment " ++ decimal s) ++ segment_state m s ++ 10 ∷ []
+
+-- the lines on the pointer p at word w of segment s, by its landing pad and its target
+abbrev pub pointer_lines : List (List ℕ) → ℕ → ℕ → ℕ → Landing → Option Target → List ℕ
+pointer_lines m s w p landing target =
+    byte_line m s w ++ pointer_line p ++ landing_lines p landing ++ target_lines m target
+    ++ segment_line m (segment_after s p landing)
+
+-- the first level that is deeper than the limit
+abbrev pub level_line : ℕ → List ℕ
+level_line depth =
+    (codes "  limit level " ++ decimal (depth + 1)) ++ (codes ", at most " ++ decimal depth) ++ 10 ∷ []
+
+abbrev pub charge_line : ℕ → List ℕ
+charge_line words = (codes "  limit charge, at most " ++ decimal words) ++ 10 ∷ []
+
+-- the limit that is passed
+abbrev pub limit_line : Fault → ℕ → ℕ → List ℕ
+limit_line (Refused DepthLimit) words depth = level_line depth
+limit_line (Refused WordLimit) words depth = charge_line words
+limit_line _ words depth = []
+
+abbrev pub reason_line : Fault → Landing → Option Target → List ℕ
+reason_line fault landing target =
+    codes "  reason " ++ sentence fault landing target ++ 10 ∷ []
+
+-- the lines if the pointer word is p, by its landing pad and its target
+abbrev pub lines_over : List (List ℕ) → Fault → ℕ → ℕ → ℕ → ℕ → ℕ → Landing → Option Target
+    → List ℕ
+lines_over m fault s w words depth p landing target =
+    (if names_pointer fault then pointer_lines m s w p landing target else [])
+    ++ limit_line fault words depth ++ reason_line fault landing target
+
+-- the lines by the word that is named, if it exists
+abbrev pub lines_at : List (List ℕ) → Fault → ℕ → ℕ → ℕ → ℕ → Option ℕ → List ℕ
+lines_at m fault s w words depth None = reason_line fault Near None
+lines_at m fault s w words depth (Some p) =
+    lines_over m fault s w words depth p (landing_of m p) (target_of s w p (landing_of m p))
+
+-- the lines of a fault that names word w of segment s, under limits of words and levels
+abbrev pub lines_of : List (List ℕ) → Fault → ℕ → ℕ → ℕ → ℕ → List ℕ
+lines_of m fault s w words depth = lines_at m fault s w words depth (word_of m s w)
+
+-- the lines that explain why a message is refused within limits of words and levels
+abbrev pub explanation : List (List ℕ) → StrictRefusal → ℕ → ℕ → List ℕ
+explanation m (refused r) words depth = lines_of m (Refused r.reason) r.segment r.word words depth
+explanation m many words depth = lines_of m ManySegments 0 0 words depth
+explanation m (not_strict what s w pointers) words depth = lines_of m (NotStrict what) s w words depth
+
+-- the lines that explain that a pointer overlaps
+abbrev pub overlap_explanation : List (List ℕ) → ℕ → ℕ → List ℕ
+overlap_explanation m s w = lines_of m Overlap s w 0 0
+
+abbrev pub path_line : List Step → List ℕ
+path_line steps = codes "  path " ++ path_text steps ++ 10 ∷ []
+
+-- the line of the path to a pointer, if the path isn't too long for one
+abbrev pub path_explanation : List Step → List ℕ
+path_explanation steps = if nat_lt 257 (length steps) then [] else path_line steps

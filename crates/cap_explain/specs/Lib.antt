@@ -1,0 +1,4 @@
+pub mod Explaining
+pub mod Forms
+pub mod Leading
+pub mod Sentences

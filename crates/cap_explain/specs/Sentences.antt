@@ -1,0 +1,88 @@
+-- Each reason of a refusal, as a sentence (profile).
+use Rattle.std.specs.Prelude.{ℕ, nat_lt, if◌then◌else◌, List, codes, Option, Some, None, Bool, true, false}
+use Rattle.cap_spec.specs.declared.Lax.{Lax}
+use Rattle.cap_spec.specs.declared.Lax.TheVariants.{NullPad, EmptySegment, CapabilityPad}
+use Rattle.cap_spec.specs.declared.Reason.{Reason}
+use Rattle.cap_spec.specs.declared.Reason.TheVariants.{NoRoot, Reserved, SegmentMissing, PadOutside}
+use Rattle.cap_spec.specs.declared.Reason.TheVariants.{PadIsFar, PadNotFar, TagKind, TagOffset}
+use Rattle.cap_spec.specs.declared.Reason.TheVariants.{OutOfSegment, CompositeTag, CompositeOverrun}
+use Rattle.cap_spec.specs.declared.Reason.TheVariants.{DepthLimit, WordLimit}
+use Rattle.cap_explain.specs.declared.target.Target.{Target}
+use Rattle.cap_explain.specs.Leading.{is_structs}
+use Rattle.cap_explain.specs.declared.landing.Landing.{Landing}
+use Rattle.cap_explain.specs.declared.landing.Landing.TheVariants.{One, Two}
+use Rattle.cap_explain.specs.declared.sentences.Fault.{Fault}
+use Rattle.cap_explain.specs.declared.sentences.Fault.TheVariants.{Refused, ManySegments, NotStrict}
+use Rattle.cap_explain.specs.declared.sentences.Fault.TheVariants.{Overlap}
+
+-- the pointer itself is reserved, or the word of its landing pad
+abbrev pub reserved_sentence : Landing → List ℕ
+reserved_sentence (One word) =
+    codes "the word of the landing pad has kind 3 and is no capability, which the format reserves"
+reserved_sentence _ =
+    codes "the pointer has kind 3 and is no capability, which the format reserves"
+
+-- the pointer itself names the missing segment, or the first word of its landing pad
+abbrev pub missing_sentence : Landing → List ℕ
+missing_sentence (Two far tag) =
+    codes "the first word of the landing pad names a segment that the message does not have"
+missing_sentence _ = codes "the far pointer names a segment that the message does not have"
+
+-- the target begins too early or ends too late
+abbrev pub outside_sentence : Option Target → List ℕ
+outside_sentence None = codes "the target is not all inside its segment"
+outside_sentence (Some t) =
+    if nat_lt t.start t.excess then codes "the target begins before its segment" else
+    codes "the target ends after its segment"
+
+-- the target itself is too deep, or for a list of structs one of these
+abbrev pub deep_sentence : Option Target → List ℕ
+deep_sentence None = codes "the target is at a deeper level than the limit allows"
+deep_sentence (Some t) =
+    if is_structs t.word then
+    codes "the list of structs, or its structs, are at a deeper level than the limit allows" else
+    codes "the target is at a deeper level than the limit allows"
+
+abbrev pub reason_sentence : Reason → Landing → Option Target → List ℕ
+reason_sentence NoRoot pad target =
+    codes "segment 0 has no words, so the message has no root pointer"
+reason_sentence Reserved pad target = reserved_sentence pad
+reason_sentence SegmentMissing pad target = missing_sentence pad
+reason_sentence PadOutside pad target = codes "the landing pad is not all inside its segment"
+reason_sentence PadIsFar pad target =
+    codes "the only word of the landing pad is a far pointer again"
+reason_sentence PadNotFar pad target =
+    codes "the first word of the landing pad is not a far pointer to a pad of one word"
+reason_sentence TagKind pad target =
+    codes "the second word of the landing pad is neither a struct pointer nor a list pointer"
+reason_sentence TagOffset pad target =
+    codes "the second word of the landing pad has an offset other than 0"
+reason_sentence OutOfSegment pad target = outside_sentence target
+reason_sentence CompositeTag pad target =
+    codes "the tag of the list of structs is not a struct pointer"
+reason_sentence CompositeOverrun pad target =
+    codes "the elements that the tag gives take more words than the list has"
+reason_sentence DepthLimit pad target = deep_sentence target
+reason_sentence WordLimit pad target =
+    codes "the charge up to this pointer and its target is more than the limit"
+
+abbrev pub lax_sentence : Lax → List ℕ
+lax_sentence NullPad = codes "the only word of the landing pad is null, which common readers reject"
+lax_sentence EmptySegment =
+    codes "the target is in a segment without words, which common readers reject"
+lax_sentence CapabilityPad =
+    codes "the only word of the landing pad is a capability, which common readers reject"
+
+-- the reason, by the landing pad and the target of the pointer
+abbrev pub sentence : Fault → Landing → Option Target → List ℕ
+sentence (Refused reason) pad target = reason_sentence reason pad target
+sentence ManySegments pad target =
+    codes "the message has 512 segments, and common readers take at most 511"
+sentence (NotStrict what) pad target = lax_sentence what
+sentence Overlap pad target =
+    codes "the pointer uses a word that an earlier pointer uses too"
+
+-- the fault is one of a pointer
+abbrev pub names_pointer : Fault → Bool
+names_pointer ManySegments = false
+names_pointer _ = true

@@ -1,0 +1,153 @@
+//! The explanation of a refusal.
+
+ghost use Rattle.cap_explain.specs.Explaining.{explanation, lines_of, lines_over, overlap_explanation, pointer_lines};
+ghost use Rattle.cap_vet.specs.Limits.{depth_of, words_of};
+ghost use Rattle.std.specs.Prelude.{◌+◌, ◌*◌, ◌++◌, ◌^◌, ◌<◌, ◌≡◌, ◌≤◌, IfSome, length};
+
+use crate::explanation::{CAPACITY, Explanation};
+use crate::landing::{Landing, landing_of};
+use crate::lines::{
+    LINE, PLAIN, push_byte_line, push_landing_lines, push_limit_line, push_pointer_line,
+    push_reason_line, push_segment_line, push_target_lines,
+};
+use crate::sentences::{Fault, names_pointer};
+use crate::target::{Target, segment_after, target_of};
+use crate::words::word_of;
+use cap_frame::Segments;
+use cap_spec::StrictRefusal;
+use cap_vet::Limits;
+
+/// The space for the lines on a pointer.
+const POINTER: usize = 5 * LINE + 2 * PLAIN;
+
+/// A pointer word, and where it leads.
+#[derive(Clone, Copy, Drop)]
+struct Pointer {
+    segment: u32,
+    word: u32,
+    value: u64,
+    landing: Landing,
+}
+
+/// Appends the lines on a pointer.
+fn push_pointer_lines<M: Segments>(
+    text: &mut Explanation,
+    message: &M,
+    pointer: Pointer,
+    target: &Option<Target>,
+)
+    requires exists { pointer.segment < length (M.segments message.now) }
+    requires near { IfSome target.now (λ t. t.start < 2 ^ 34) }
+    requires room { length text.old + POINTER ≤ CAPACITY }
+    ensures items { let p = pointer in text.new ≡ text.old ++ pointer_lines
+        (M.segments message.now) p.segment p.word p.value p.landing target.now }
+    ensures few { length text.new ≤ length text.old + POINTER }
+{
+    push_byte_line(text, message, pointer.segment, pointer.word);
+    push_pointer_line(text, pointer.value);
+    push_landing_lines(text, pointer.value, pointer.landing);
+    push_target_lines(text, message, target);
+    let last = segment_after(pointer.segment, pointer.value, pointer.landing);
+    push_segment_line(text, message, last);
+}
+
+/// Appends the lines if the word that is named exists.
+fn push_lines<M: Segments>(
+    text: &mut Explanation,
+    message: &M,
+    fault: Fault,
+    pointer: Pointer,
+    target: &Option<Target>,
+    words: u64,
+    depth: u32,
+)
+    requires exists { pointer.segment < length (M.segments message.now) }
+    requires near { IfSome target.now (λ t. t.start < 2 ^ 34) }
+    requires room { length text.old + POINTER + 2 * PLAIN ≤ CAPACITY }
+    ensures { let p = pointer in text.new ≡ text.old ++ lines_over
+        (M.segments message.now) fault p.segment p.word words depth p.value p.landing target.now }
+{
+    if names_pointer(fault) {
+        push_pointer_lines(text, message, pointer, target);
+    }
+    push_limit_line(text, fault, words, depth);
+    push_reason_line(text, fault, pointer.landing, target);
+}
+
+/// Writes the lines of a fault that names a word, under limits of words and levels.
+fn explain_fault<M: Segments>(
+    text: &mut Explanation,
+    message: &M,
+    fault: Fault,
+    segment: u32,
+    word: u32,
+    words: u64,
+    depth: u32,
+)
+    ensures { text.new ≡ lines_of (M.segments message.now) fault segment word words depth }
+{
+    text.clear();
+    match word_of(message, segment, u64::from(word)) {
+        Some(value) => {
+            let landing = landing_of(message, value);
+            let target = target_of(segment, word, value, landing);
+            let pointer = Pointer {
+                segment,
+                word,
+                value,
+                landing,
+            };
+            push_lines(text, message, fault, pointer, &target, words, depth);
+        }
+        None => push_reason_line(text, fault, Landing::Near, &None),
+    }
+}
+
+/// Writes the lines that explain why a message is refused within limits (docs/output.md, explain):
+/// the pointer word and its fields, where it leads, the limit that is passed, and the reason as a
+/// sentence. What the text held before is removed. Allocates nothing.
+///
+/// A refusal that names no word of the message has only the line of the reason.
+pub fn explain<M: Segments>(
+    text: &mut Explanation,
+    message: &M,
+    refusal: &StrictRefusal,
+    limits: Limits,
+)
+    ensures { text.new ≡ explanation (M.segments message.now) refusal.now
+        (words_of limits) (depth_of limits) }
+{
+    let (fault, segment, word) = match refusal {
+        StrictRefusal::Refused(refusal) => {
+            (
+                Fault::Refused(refusal.reason),
+                refusal.segment,
+                refusal.word,
+            )
+        }
+        StrictRefusal::ManySegments => (Fault::ManySegments, 0, 0),
+        StrictRefusal::Pointer {
+            what,
+            segment,
+            word,
+            ..
+        } => (Fault::NotStrict(*what), *segment, *word),
+    };
+    explain_fault(
+        text,
+        message,
+        fault,
+        segment,
+        word,
+        limits.words(),
+        limits.depth(),
+    );
+}
+
+/// Writes the lines that explain that the pointer at word `word` of segment `segment` overlaps. See
+/// [`explain`].
+pub fn explain_overlap<M: Segments>(text: &mut Explanation, message: &M, segment: u32, word: u32)
+    ensures { text.new ≡ overlap_explanation (M.segments message.now) segment word }
+{
+    explain_fault(text, message, Fault::Overlap, segment, word, 0, 0);
+}

@@ -1,0 +1,17 @@
+//! The explanation of a refusal: the words that a pointer leads through, with their fields, where it
+//! leads, and the reason as a sentence.
+#![tactic(auto)]
+
+mod explaining;
+mod explanation;
+mod forms;
+mod landing;
+mod lines;
+mod path;
+mod sentences;
+mod target;
+mod words;
+
+pub use explaining::{explain, explain_overlap};
+pub use explanation::Explanation;
+pub use path::explain_path;

@@ -1,0 +1,248 @@
+//! The lines of an explanation.
+
+ghost use Rattle.cap_explain.specs.Explaining.{byte_line, charge_line, target_line, target_lines, target_place, target_range, landing_lines, level_line, limit_line, pad_line, pointer_line, reason_line, segment_line, segment_state, tag_line, tag_word, word_text};
+ghost use Rattle.std.specs.Prelude.{◌+◌, ◌*◌, ◌++◌, ◌^◌, ◌<◌, ◌≡◌, ◌≤◌, IfSome, length};
+
+use crate::explanation::{CAPACITY, DIGITS, Explanation};
+use crate::forms::{FORM, push_form, push_tag};
+use crate::landing::Landing;
+use crate::sentences::{Fault, SENTENCE, sentence};
+use crate::target::{Target, extent, tag_of};
+use crate::words::byte_of;
+use cap_frame::Segments;
+use cap_ptr::{far_segment, pad};
+use cap_spec::Reason;
+
+/// The space for one line without the form of a word.
+pub(crate) const PLAIN: usize = 130;
+
+/// The space for one line.
+pub(crate) const LINE: usize = PLAIN + FORM;
+
+/// The most bytes of the name of a line.
+const NAME: usize = 16;
+
+/// Appends where a pointer word is.
+pub(crate) fn push_byte_line<M: Segments>(
+    text: &mut Explanation,
+    message: &M,
+    segment: u32,
+    word: u32,
+)
+    requires exists { segment < length (M.segments message.now) }
+    requires room { length text.old + LINE ≤ CAPACITY }
+    ensures items { text.new ≡ text.old ++ byte_line (M.segments message.now) segment word }
+    ensures few { length text.new ≤ length text.old + LINE }
+{
+    text.push_named(b"  byte ", byte_of(message, segment, word));
+    text.push_text(b" of the message\n");
+}
+
+/// Appends a word and its form, and ends the line.
+fn push_word(text: &mut Explanation, word: u64)
+    requires { length text.old + FORM + 18 ≤ CAPACITY }
+    ensures items { text.new ≡ text.old ++ word_text word }
+    ensures few { length text.new ≤ length text.old + FORM + 18 }
+{
+    text.push_hex(word);
+    text.push_text(b" ");
+    push_form(text, word);
+    text.push_text(b"\n");
+}
+
+/// Appends the line of the pointer word.
+pub(crate) fn push_pointer_line(text: &mut Explanation, word: u64)
+    requires { length text.old + LINE ≤ CAPACITY }
+    ensures items { text.new ≡ text.old ++ pointer_line word }
+    ensures few { length text.new ≤ length text.old + LINE }
+{
+    text.push_text(b"  pointer ");
+    push_word(text, word);
+}
+
+/// Appends the line of a word of a landing pad.
+fn push_pad_line(text: &mut Explanation, segment: u32, place: u32, word: u64)
+    requires { length text.old + LINE ≤ CAPACITY }
+    ensures items { text.new ≡ text.old ++ pad_line segment place word }
+    ensures few { length text.new ≤ length text.old + LINE }
+{
+    text.push_text(b"  pad ");
+    text.push_place(segment, place);
+    text.push_text(b" ");
+    push_word(text, word);
+}
+
+/// Appends the lines of the landing pad of the pointer `word`.
+pub(crate) fn push_landing_lines(text: &mut Explanation, word: u64, landing: Landing)
+    requires { length text.old + 2 * LINE ≤ CAPACITY }
+    ensures items { text.new ≡ text.old ++ landing_lines word landing }
+    ensures few { length text.new ≤ length text.old + 2 * LINE }
+{
+    match landing {
+        Landing::Near => {}
+        Landing::Missing => {}
+        Landing::Outside => {}
+        Landing::One { word: only } => push_pad_line(text, far_segment(word), pad(word), only),
+        Landing::Two { far, tag } => {
+            push_pad_line(text, far_segment(word), pad(word), far);
+            push_pad_line(text, far_segment(word), pad(word) + 1, tag);
+        }
+    }
+}
+
+/// Appends the place of a word of the target.
+fn push_target_place(text: &mut Explanation, target: &Target, word: u64)
+    requires { length text.old + 2 * DIGITS + 2 ≤ CAPACITY }
+    ensures items { text.new ≡ text.old ++ target_place target.now word }
+    ensures few { length text.new ≤ length text.old + 2 * DIGITS + 2 }
+{
+    text.push_number(u64::from(target.segment));
+    text.push_text(b":");
+    text.push_difference(word, u64::from(target.excess));
+}
+
+/// Appends the first and the last word of the target.
+fn push_target_range(text: &mut Explanation, target: &Target)
+    requires near { target.now.start < 2 ^ 34 }
+    requires room { length text.old + 4 * DIGITS + 8 ≤ CAPACITY }
+    ensures items { text.new ≡ text.old ++ target_range target.now }
+    ensures few { length text.new ≤ length text.old + 4 * DIGITS + 8 }
+{
+    push_target_place(text, target, target.start);
+    let words = extent(target.word);
+    if words > 0 {
+        text.push_text(b" to ");
+        push_target_place(text, target, target.start + words - 1);
+    }
+}
+
+/// Appends the line of the target.
+fn push_target_line(text: &mut Explanation, target: &Target)
+    requires near { target.now.start < 2 ^ 34 }
+    requires room { length text.old + PLAIN ≤ CAPACITY }
+    ensures items { text.new ≡ text.old ++ target_line target.now }
+    ensures few { length text.new ≤ length text.old + PLAIN }
+{
+    text.push_text(b"  target ");
+    push_target_range(text, target);
+    text.push_named(b", words ", extent(target.word));
+    text.push_text(b"\n");
+}
+
+/// Appends the tag of a list of structs and its fields, and ends the line.
+fn push_tag_word(text: &mut Explanation, tag: u64)
+    requires { length text.old + FORM + 18 ≤ CAPACITY }
+    ensures items { text.new ≡ text.old ++ tag_word tag }
+    ensures few { length text.new ≤ length text.old + FORM + 18 }
+{
+    text.push_hex(tag);
+    text.push_text(b" ");
+    push_tag(text, tag);
+    text.push_text(b"\n");
+}
+
+/// Appends the line of the tag of a list of structs, if there is one.
+fn push_tag_line(text: &mut Explanation, target: &Target, tag: Option<u64>)
+    requires { length text.old + LINE ≤ CAPACITY }
+    ensures items { text.new ≡ text.old ++ tag_line target.now tag }
+    ensures few { length text.new ≤ length text.old + LINE }
+{
+    if let Some(tag) = tag {
+        text.push_text(b"  tag ");
+        push_target_place(text, target, target.start);
+        text.push_text(b" ");
+        push_tag_word(text, tag);
+    }
+}
+
+/// Appends the lines of the target, if the words of the pointer say where it is.
+pub(crate) fn push_target_lines<M: Segments>(
+    text: &mut Explanation,
+    message: &M,
+    target: &Option<Target>,
+)
+    requires near { IfSome target.now (λ t. t.start < 2 ^ 34) }
+    requires room { length text.old + PLAIN + LINE ≤ CAPACITY }
+    ensures items { text.new ≡ text.old
+        ++ target_lines (M.segments message.now) target.now }
+    ensures few { length text.new ≤ length text.old + PLAIN + LINE }
+{
+    if let Some(target) = target {
+        push_target_line(text, target);
+        push_tag_line(text, target, tag_of(message, target));
+    }
+}
+
+/// Appends how many words a segment has, or that it doesn't exist.
+fn push_segment_state<M: Segments>(text: &mut Explanation, message: &M, segment: u32)
+    requires { length text.old + 50 ≤ CAPACITY }
+    ensures items { text.new ≡ text.old ++ segment_state (M.segments message.now) segment }
+    ensures few { length text.new ≤ length text.old + 50 }
+{
+    if segment < message.count() {
+        text.push_named(b", words ", u64::from(message.len(segment)));
+    } else {
+        text.push_named(b" does not exist, segments ", u64::from(message.count()));
+    }
+}
+
+/// Appends the line of the segment that a pointer leads into.
+pub(crate) fn push_segment_line<M: Segments>(text: &mut Explanation, message: &M, segment: u32)
+    requires { length text.old + PLAIN ≤ CAPACITY }
+    ensures items { text.new ≡ text.old ++ segment_line (M.segments message.now) segment }
+    ensures few { length text.new ≤ length text.old + PLAIN }
+{
+    text.push_named(b"  segment ", u64::from(segment));
+    push_segment_state(text, message, segment);
+    text.push_text(b"\n");
+}
+
+/// Appends the first level that is deeper than the limit.
+fn push_level_line(text: &mut Explanation, depth: u32)
+    requires { length text.old + PLAIN ≤ CAPACITY }
+    ensures items { text.new ≡ text.old ++ level_line depth }
+    ensures few { length text.new ≤ length text.old + PLAIN }
+{
+    text.push_named(b"  limit level ", u64::from(depth) + 1);
+    text.push_named(b", at most ", u64::from(depth));
+    text.push_text(b"\n");
+}
+
+/// Appends the limit of the charge.
+fn push_charge_line(text: &mut Explanation, words: u64)
+    requires { length text.old + PLAIN ≤ CAPACITY }
+    ensures items { text.new ≡ text.old ++ charge_line words }
+    ensures few { length text.new ≤ length text.old + PLAIN }
+{
+    text.push_named(b"  limit charge, at most ", words);
+    text.push_text(b"\n");
+}
+
+/// Appends the line of the limit that is passed, if one is.
+pub(crate) fn push_limit_line(text: &mut Explanation, fault: Fault, words: u64, depth: u32)
+    requires { length text.old + PLAIN ≤ CAPACITY }
+    ensures items { text.new ≡ text.old ++ limit_line fault words depth }
+    ensures few { length text.new ≤ length text.old + PLAIN }
+{
+    match fault {
+        Fault::Refused(Reason::DepthLimit) => push_level_line(text, depth),
+        Fault::Refused(Reason::WordLimit) => push_charge_line(text, words),
+        _ => {}
+    }
+}
+
+/// Appends the line of the reason.
+pub(crate) fn push_reason_line(
+    text: &mut Explanation,
+    fault: Fault,
+    landing: Landing,
+    target: &Option<Target>,
+)
+    requires { length text.old + PLAIN ≤ CAPACITY }
+    ensures items { text.new ≡ text.old ++ reason_line fault landing target.now }
+    ensures few { length text.new ≤ length text.old + PLAIN }
+{
+    text.push_text(b"  reason ");
+    text.push_text(sentence(fault, landing, target));
+    text.push_text(b"\n");
+}

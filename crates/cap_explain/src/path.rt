@@ -1,0 +1,77 @@
+//! The line of a path.
+
+ghost use Rattle.cap_explain.specs.Explaining.{path_explanation, path_line};
+ghost use Rattle.cap_spec.specs.PathTexts.{path_text, step_text};
+ghost use Rattle.std.specs.List.{flat_map};
+ghost use Rattle.std.specs.Prelude.{◌+◌, ◌*◌, ◌++◌, ◌<◌, ◌≡◌, ◌≤◌, length};
+
+use crate::explanation::{CAPACITY, DIGITS, Explanation};
+use cap_spec::Step;
+
+/// The most steps of a path that has a line.
+const STEPS: usize = 257;
+
+/// The space for the text of one step.
+const STEP: usize = DIGITS + 2;
+
+/// The space for the line of a path without its steps.
+const HEAD: usize = 10;
+
+/// Appends the text of a step.
+fn push_step(text: &mut Explanation, step: Step)
+    requires { length text.old + STEP ≤ CAPACITY }
+    ensures items { text.new ≡ text.old ++ step_text step }
+    ensures few { length text.new ≤ length text.old + STEP }
+{
+    match step {
+        Step::Ptr(index) => text.push_named(b"/p", u64::from(index)),
+        Step::Item(index) => text.push_named(b"/i", u64::from(index)),
+    }
+}
+
+/// Appends the texts of steps.
+fn push_steps(text: &mut Explanation, steps: &[Step])
+    requires { length text.old + STEP * length steps.now ≤ CAPACITY }
+    ensures items { text.new ≡ text.old ++ flat_map step_text steps.now }
+    ensures few { length text.new ≤ length text.old + STEP * length steps.now }
+{
+    for step in steps {
+        push_step(text, *step);
+    }
+}
+
+/// Appends the text of a path.
+fn push_path(text: &mut Explanation, steps: &[Step])
+    requires { length text.old + 1 + STEP * length steps.now ≤ CAPACITY }
+    ensures items { text.new ≡ text.old ++ path_text steps.now }
+    ensures few { length text.new ≤ length text.old + 1 + STEP * length steps.now }
+{
+    if steps.is_empty() {
+        text.push_text(b"/");
+    } else {
+        push_steps(text, steps);
+    }
+}
+
+/// Appends the line of a path.
+fn push_path_line(text: &mut Explanation, steps: &[Step])
+    requires few { length steps.now ≤ STEPS }
+    requires room { length text.old + HEAD + STEP * length steps.now ≤ CAPACITY }
+    ensures { text.new ≡ text.old ++ path_line steps.now }
+{
+    text.push_text(b"  path ");
+    push_path(text, steps);
+    text.push_text(b"\n");
+}
+
+/// Writes the line of the path of a pointer, which leads to the pointer by these steps. What the text
+/// held before is removed. A path of more than 257 steps has no line: no path to a pointer of a
+/// refusal has as many. Allocates nothing.
+pub fn explain_path(text: &mut Explanation, steps: &[Step])
+    ensures { text.new ≡ path_explanation steps.now }
+{
+    text.clear();
+    if steps.len() <= STEPS {
+        push_path_line(text, steps);
+    }
+}

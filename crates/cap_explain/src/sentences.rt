@@ -1,0 +1,148 @@
+//! Each reason of a refusal, as a sentence.
+
+ghost use Rattle.cap_explain.specs.Sentences.{deep_sentence, lax_sentence, missing_sentence, names_pointer, outside_sentence, reason_sentence, reserved_sentence, sentence};
+ghost use Rattle.std.specs.Prelude.{◌≡◌, ◌≤◌, length};
+
+use crate::landing::Landing;
+use crate::target::{Target, is_structs};
+use cap_spec::{Lax, Reason};
+
+/// The most bytes of a sentence.
+pub(crate) const SENTENCE: usize = 100;
+
+/// Why a message is refused.
+#[derive(Clone, Copy, Drop)]
+pub(crate) enum Fault {
+    /// It isn't accepted.
+    Refused(Reason),
+    /// It has 512 segments, and a strict message is demanded.
+    ManySegments,
+    /// A pointer has a form that common readers reject, and a strict message is demanded.
+    NotStrict(Lax),
+    /// A pointer overlaps, and an exclusive message is demanded.
+    Overlap,
+}
+
+/// The fault is one of a pointer.
+pub(crate) fn names_pointer(fault: Fault) -> bool
+    ensures { result ≡ names_pointer fault }
+{
+    !matches!(fault, Fault::ManySegments)
+}
+
+/// The pointer itself is reserved, or the word of its landing pad.
+fn reserved_sentence(landing: Landing) -> &'static [u8]
+    ensures text { result.now ≡ reserved_sentence landing }
+    ensures short { length result.now ≤ SENTENCE }
+{
+    match landing {
+        Landing::One { .. } => {
+            b"the word of the landing pad has kind 3 and is no capability, which the format reserves"
+        }
+        _ => b"the pointer has kind 3 and is no capability, which the format reserves",
+    }
+}
+
+/// The pointer itself names the missing segment, or the first word of its landing pad.
+fn missing_sentence(landing: Landing) -> &'static [u8]
+    ensures text { result.now ≡ missing_sentence landing }
+    ensures short { length result.now ≤ SENTENCE }
+{
+    match landing {
+        Landing::Two { .. } => {
+            b"the first word of the landing pad names a segment that the message does not have"
+        }
+        _ => b"the far pointer names a segment that the message does not have",
+    }
+}
+
+/// The target begins too early or ends too late.
+fn outside_sentence(target: &Option<Target>) -> &'static [u8]
+    ensures text { result.now ≡ outside_sentence target.now }
+    ensures short { length result.now ≤ SENTENCE }
+{
+    match target {
+        None => b"the target is not all inside its segment",
+        Some(target) => {
+            if target.start < u64::from(target.excess) {
+                b"the target begins before its segment"
+            } else {
+                b"the target ends after its segment"
+            }
+        }
+    }
+}
+
+/// The target itself is too deep, or for a list of structs one of these.
+fn deep_sentence(target: &Option<Target>) -> &'static [u8]
+    ensures text { result.now ≡ deep_sentence target.now }
+    ensures short { length result.now ≤ SENTENCE }
+{
+    match target {
+        None => b"the target is at a deeper level than the limit allows",
+        Some(target) => {
+            if is_structs(target.word) {
+                b"the list of structs, or its structs, are at a deeper level than the limit allows"
+            } else {
+                b"the target is at a deeper level than the limit allows"
+            }
+        }
+    }
+}
+
+/// Why the pointer can't be followed, or passes a limit.
+fn reason_sentence(reason: Reason, landing: Landing, target: &Option<Target>) -> &'static [u8]
+    ensures text { result.now ≡ reason_sentence reason landing target.now }
+    ensures short { length result.now ≤ SENTENCE }
+{
+    match reason {
+        Reason::NoRoot => b"segment 0 has no words, so the message has no root pointer",
+        Reason::Reserved => reserved_sentence(landing),
+        Reason::SegmentMissing => missing_sentence(landing),
+        Reason::PadOutside => b"the landing pad is not all inside its segment",
+        Reason::PadIsFar => b"the only word of the landing pad is a far pointer again",
+        Reason::PadNotFar => {
+            b"the first word of the landing pad is not a far pointer to a pad of one word"
+        }
+        Reason::TagKind => {
+            b"the second word of the landing pad is neither a struct pointer nor a list pointer"
+        }
+        Reason::TagOffset => b"the second word of the landing pad has an offset other than 0",
+        Reason::OutOfSegment => outside_sentence(target),
+        Reason::CompositeTag => b"the tag of the list of structs is not a struct pointer",
+        Reason::CompositeOverrun => {
+            b"the elements that the tag gives take more words than the list has"
+        }
+        Reason::DepthLimit => deep_sentence(target),
+        Reason::WordLimit => b"the charge up to this pointer and its target is more than the limit",
+    }
+}
+
+/// Which form common readers reject.
+fn lax_sentence(what: Lax) -> &'static [u8]
+    ensures text { result.now ≡ lax_sentence what }
+    ensures short { length result.now ≤ SENTENCE }
+{
+    match what {
+        Lax::NullPad => b"the only word of the landing pad is null, which common readers reject",
+        Lax::EmptySegment => {
+            b"the target is in a segment without words, which common readers reject"
+        }
+        Lax::CapabilityPad => {
+            b"the only word of the landing pad is a capability, which common readers reject"
+        }
+    }
+}
+
+/// The reason, by the landing pad and the target of the pointer.
+pub(crate) fn sentence(fault: Fault, landing: Landing, target: &Option<Target>) -> &'static [u8]
+    ensures text { result.now ≡ sentence fault landing target.now }
+    ensures short { length result.now ≤ SENTENCE }
+{
+    match fault {
+        Fault::Refused(reason) => reason_sentence(reason, landing, target),
+        Fault::ManySegments => b"the message has 512 segments, and common readers take at most 511",
+        Fault::NotStrict(what) => lax_sentence(what),
+        Fault::Overlap => b"the pointer uses a word that an earlier pointer uses too",
+    }
+}

@@ -1,0 +1,39 @@
+//! The words of a message by their places, and their bytes.
+
+ghost use Rattle.cap_explain.specs.Leading.{byte_of, word_of};
+ghost use Rattle.cap_vet.specs.Taken.{start_of};
+ghost use Rattle.std.specs.Prelude.{◌+◌, ◌*◌, ◌^◌, ◌<◌, ◌≡◌, ◌≤◌, length};
+
+use cap_frame::Segments;
+
+/// Word `w` of segment `s`, if there is one.
+pub(crate) fn word_of<M: Segments>(message: &M, s: u32, w: u64) -> Option<u64>
+    ensures { result ≡ word_of (M.segments message.now) s w }
+{
+    if s >= message.count() || w >= u64::from(message.len(s)) {
+        return None;
+    }
+    Some(message.word(s, w as u32))
+}
+
+/// The words of the first `segments` segments of a message together.
+fn words_before<M: Segments>(message: &M, segments: u32) -> u64
+    requires { segments ≤ length (M.segments message.now) }
+    ensures exact { result ≡ start_of (M.segments message.now) segments }
+    ensures few { result ≤ 512 * 2 ^ 32 }
+{
+    let mut words = 0u64;
+    for s in 0..segments {
+        words += u64::from(message.len(s));
+    }
+    words
+}
+
+/// The first byte of word `w` of segment `s` in the message, its segment table included.
+pub(crate) fn byte_of<M: Segments>(message: &M, s: u32, w: u32) -> u64
+    requires { s < length (M.segments message.now) }
+    ensures { result ≡ byte_of (M.segments message.now) s w }
+{
+    let table = u64::from(message.count() / 2 + 1);
+    8 * (table + words_before(message, s) + u64::from(w))
+}

@@ -1,0 +1,108 @@
+-- A struct of one word, within its limits and past each of them.
+use Rattle.std.proofs.Common.{◌≡◌, ◌⊎◌, [], ◌∷◌, List, ℕ, inl, inr, refl, sym, subst, arith, lit<, lit≤}
+use Rattle.cap_spec.specs.Faults.{IsDeepAt, IsFirstReason, IsRefused, is_deep, is_past}
+use Rattle.cap_spec.specs.Following.{near}
+use Rattle.cap_spec.specs.Denoting.{Denotes, Finds}
+use Rattle.cap_spec.specs.Paths.{Before, IsOneOf, IsTour, Reaches}
+use Rattle.cap_spec.specs.Tree.{struct, none}
+use Rattle.cap_spec.specs.declared.Reason.{Reason}
+use Rattle.cap_spec.specs.declared.Reason.TheVariants.{DepthLimit, WordLimit}
+use Rattle.cap_spec.specs.declared.Step.{Step}
+use Rattle.cap_spec.proofs.Verdicts.OneVerdict.{paths_within_depth}
+
+-- a struct of one word
+abbrev one_word_struct : List (List ℕ)
+one_word_struct = (0x0000000100000000 ∷ 42 ∷ []) ∷ []
+
+finds_word : Finds one_word_struct 0 0 0 0 1 0x0000000100000000
+finds_word = record {
+  leads = near 0x0000000100000000 refl (λ e. omega (arith, e))
+      (lit< tt, (λ e. omega (arith, e)), refl, refl, refl) refl;
+  sits = record { exists = lit< tt; inside = lit≤ tt; composite = λ (a, b). absurd (omega (arith, a)) };
+}
+
+-- it has a charge of 1 and a depth of 1
+denotes_word : Denotes one_word_struct 0 0 (struct (42 ∷ []) none) 1 1
+denotes_word = (
+  0,
+  0,
+  1,
+  0x0000000100000000,
+  0,
+  0,
+  record { finds = finds_word; kind = refl; data_words = refl; charge = refl; depth = refl },
+  (refl, refl, refl),
+)
+
+reaches_word : Reaches one_word_struct [] 1 0 0
+reaches_word = (0x0000000100000000, 0, refl, (refl, refl), refl)
+
+-- so a word limit of none refuses it,
+word_limit : IsFirstReason one_word_struct 0 1 0 0 0 1 WordLimit
+word_limit = is_past 1 refl
+    (λ (k, t, b, q, tag, finds, tagged, past). omega (
+      arith,
+      paths_within_depth one_word_struct (struct (42 ∷ []) none) 1 1 denotes_word [] 1 0 0 k t b q tag reaches_word
+          finds tagged,
+      past,
+    ))
+    (inr (inr (0, 0, 1, 0x0000000100000000, 0, finds_word, (λ (a, b). absurd (omega (arith, a))), refl))) (lit< tt)
+
+-- and a depth limit of none too, which is named first where both are none
+deep_word : IsDeepAt one_word_struct 0 0 0 1
+deep_word = (0, 0, 1, 0x0000000100000000, 0, finds_word, (λ (a, b). absurd (omega (arith, a))), lit< tt)
+
+depth_limit : IsFirstReason one_word_struct 1 0 0 0 0 1 DepthLimit
+depth_limit = is_deep refl deep_word
+
+both_limits : IsFirstReason one_word_struct 0 0 0 0 0 1 DepthLimit
+both_limits = is_deep refl deep_word
+
+-- The root is the first pointer of each message that has one.
+root_tour : (m : List (List ℕ)) → Reaches m [] 1 0 0 → IsTour m [] ([] ∷ [])
+root_tour m r = record {
+  rising = tt;
+  reached = λ q i. reached q i;
+  all = λ q level s w h upto. all q upto;
+  none_after = after;
+}
+  where
+    reached : (q : List Step) → IsOneOf q ([] ∷ []) → (level s w : ℕ) × Reaches m q level s w
+    reached q (inl e) = (1, 0, 0, subst (λ (x : List Step). Reaches m x 1 0 0) (sym e) r)
+    reached q (inr e) = absurd e
+
+    all : (q : List Step) → (q ≡ []) ⊎ Before q [] → IsOneOf q ([] ∷ [])
+    all q (inl e) = inl e
+    all [] (inr b) = absurd b
+    all (x ∷ q) (inr b) = absurd b
+
+    after : (q : List Step) → IsOneOf q ([] ∷ []) → (q ≡ []) ⊎ Before q []
+    after q (inl e) = inl e
+    after q (inr e) = absurd e
+
+-- so a reason that applies at once is the first fault
+refused_at_root : (words depth : ℕ) (v : Reason) → IsFirstReason one_word_struct words depth 0 0 0 1 v
+    → IsRefused one_word_struct words depth record { segment = 0; word = 0; reason = v; pointers = 1 }
+refused_at_root words depth v reason = inr record {
+  path = [];
+  before = [];
+  level = 1;
+  charge = 0;
+  reached = reaches_word;
+  tour = root_tour one_word_struct reaches_word;
+  costs = refl;
+  within = omega arith;
+  shallow = λ p level s w i. absurd i;
+  reason = reason;
+  pointers = refl;
+  few = omega arith;
+}
+
+refused_words : IsRefused one_word_struct 0 1 record { segment = 0; word = 0; reason = WordLimit; pointers = 1 }
+refused_words = refused_at_root 0 1 WordLimit word_limit
+
+refused_depth : IsRefused one_word_struct 1 0 record { segment = 0; word = 0; reason = DepthLimit; pointers = 1 }
+refused_depth = refused_at_root 1 0 DepthLimit depth_limit
+
+refused_both : IsRefused one_word_struct 0 0 record { segment = 0; word = 0; reason = DepthLimit; pointers = 1 }
+refused_both = refused_at_root 0 0 DepthLimit both_limits

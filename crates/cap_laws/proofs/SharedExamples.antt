@@ -1,0 +1,322 @@
+-- A struct of two pointers to one struct of a word: accepted, past a word limit of 3 at the second pointer, and not exclusive
+-- there. A path in it is charged, or refused.
+use Rattle.std.proofs.Common.{ℕ, List, [], ◌∷◌, ◌≡◌, ◌⊎◌, refl, sym, ap, ◌∙◌, subst, arith, lit<, lit≤, inl, inr}
+use Rattle.cap_spec.specs.Denoting.{Finds, Denotes, DenoteEach}
+use Rattle.cap_spec.specs.Faults.{IsDeepAt, IsRefused, is_past}
+use Rattle.cap_spec.specs.Following.{near}
+use Rattle.cap_spec.specs.Getting.{AreOnPath, Charges, IsFaultOnPath}
+use Rattle.cap_spec.specs.Occupying.{AreApart, IsFirstOverlap, IsPlaceOf, Occupies, Overlaps, twice, on_root, on_earlier}
+use Rattle.cap_spec.specs.Paths.{word, Before, Costs, IsOneOf, IsTour, Reaches}
+use Rattle.cap_spec.specs.Tree.{Tree, struct, none, more, cap_count, pointer_count}
+use Rattle.cap_spec.specs.Verdicts.{CostOf}
+use Rattle.cap_spec.specs.declared.Reason.TheVariants.{WordLimit}
+use Rattle.cap_spec.specs.declared.Step.{Step}
+use Rattle.cap_spec.specs.declared.Step.TheVariants.{Ptr}
+use Rattle.cap_spec.proofs.Disjoint.Overlaps.{one_used}
+use Rattle.cap_spec.proofs.Paths.PathCounts.{pointer_path_reached}
+use Rattle.cap_spec.proofs.Paths.Walks.{one_reached}
+use Rattle.cap_spec.proofs.Verdicts.OnPath as listing
+use Rattle.cap_spec.proofs.Verdicts.OneVerdict.{paths_within_depth}
+
+abbrev shared : List (List ℕ)
+shared = (0x0002000000000000 ∷ 0x0000000100000004 ∷ 0x0000000100000000 ∷ 7 ∷ []) ∷ []
+
+abbrev shared_tree : Tree
+shared_tree = struct [] (more (struct (7 ∷ []) none) (more (struct (7 ∷ []) none) none))
+
+-- what each of its pointers finds
+finds_both : Finds shared 0 0 0 0 1 0x0002000000000000
+finds_both = record {
+  leads = near 0x0002000000000000 refl (λ e. omega (arith, e))
+      (lit< tt, (λ e. omega (arith, e)), refl, refl, refl) refl;
+  sits = record { exists = lit< tt; inside = lit≤ tt; composite = λ (a, b). absurd (omega (arith, a)) };
+}
+
+finds_first : Finds shared 0 1 0 0 3 0x0000000100000004
+finds_first = record {
+  leads = near 0x0000000100000004 refl (λ e. omega (arith, e))
+      (lit< tt, (λ e. omega (arith, e)), refl, refl, refl) refl;
+  sits = record { exists = lit< tt; inside = lit≤ tt; composite = λ (a, b). absurd (omega (arith, a)) };
+}
+
+finds_second : Finds shared 0 2 0 0 3 0x0000000100000000
+finds_second = record {
+  leads = near 0x0000000100000000 refl (λ e. omega (arith, e))
+      (lit< tt, (λ e. omega (arith, e)), refl, refl, refl) refl;
+  sits = record { exists = lit< tt; inside = lit≤ tt; composite = λ (a, b). absurd (omega (arith, a)) };
+}
+
+denotes_first : Denotes shared 0 1 (struct (7 ∷ []) none) 1 1
+denotes_first = (
+  0,
+  0,
+  3,
+  0x0000000100000004,
+  0,
+  0,
+  record { finds = finds_first; kind = refl; data_words = refl; charge = refl; depth = refl },
+  (refl, refl, refl),
+)
+
+denotes_second : Denotes shared 0 2 (struct (7 ∷ []) none) 1 1
+denotes_second = (
+  0,
+  0,
+  3,
+  0x0000000100000000,
+  0,
+  0,
+  record { finds = finds_second; kind = refl; data_words = refl; charge = refl; depth = refl },
+  (refl, refl, refl),
+)
+
+denotes_each : DenoteEach shared ((0, 1) ∷ (0, 2) ∷ []) (more (struct (7 ∷ []) none) (more (struct (7 ∷ []) none) none)) 2 1
+denotes_each = (
+  0,
+  1,
+  (0, 2) ∷ [],
+  1,
+  1,
+  1,
+  1,
+  refl,
+  denotes_first,
+  (0, 2, [], 1, 1, 0, 0, refl, denotes_second, (refl, refl, refl), refl, refl),
+  refl,
+  refl,
+)
+
+-- The shared word is charged twice.
+denotes_shared : Denotes shared 0 0 shared_tree 4 2
+denotes_shared = (
+  0,
+  0,
+  1,
+  0x0002000000000000,
+  2,
+  1,
+  record { finds = finds_both; kind = refl; data_words = refl; charge = refl; depth = refl },
+  denotes_each,
+)
+
+counts_shared : (pointer_count shared_tree ≡ 3) × (cap_count shared_tree ≡ 0)
+counts_shared = (refl, refl)
+
+-- its paths
+reaches_both : Reaches shared [] 1 0 0
+reaches_both = (0x0002000000000000, 0, refl, (refl, refl), refl)
+
+reaches_first : Reaches shared (Ptr 0 ∷ []) 2 0 1
+reaches_first = (
+  0x0002000000000000,
+  1,
+  refl,
+  (word 0 1, 0, (0, 0, 1, 0x0002000000000000, finds_both, refl, lit< tt, refl), (refl, refl), refl),
+  refl,
+)
+
+reaches_second : Reaches shared (Ptr 1 ∷ []) 2 0 2
+reaches_second = (
+  0x0002000000000000,
+  1,
+  refl,
+  (word 0 2, 0, (0, 0, 1, 0x0002000000000000, finds_both, refl, lit< tt, refl), (refl, refl), refl),
+  refl,
+)
+
+abbrev all_paths : List (List Step)
+all_paths = [] ∷ (Ptr 0 ∷ []) ∷ (Ptr 1 ∷ []) ∷ []
+
+tour_shared : IsTour shared (Ptr 1 ∷ []) all_paths
+tour_shared = record {
+  rising = (tt, (inl (lit< tt), tt));
+  reached = λ q i. (pointer_path_reached shared shared_tree 4 2 denotes_shared q).0 i;
+  all = λ q level s w g before. (pointer_path_reached shared shared_tree 4 2 denotes_shared q).1 (level, s, w, g);
+  none_after = after;
+}
+  where
+    after : (q : List Step) → IsOneOf q all_paths → (q ≡ Ptr 1 ∷ []) ⊎ Before q (Ptr 1 ∷ [])
+    after q (inl e) = inr (subst (λ (x : List Step). Before x (Ptr 1 ∷ [])) (sym e) tt)
+    after q (inr (inl e)) = inr (subst (λ (x : List Step). Before x (Ptr 1 ∷ [])) (sym e) (inl (lit< tt)))
+    after q (inr (inr (inl e))) = inl e
+    after q (inr (inr (inr e))) = absurd e
+
+-- what following each costs, and that none is too deep
+costs_both : Costs shared 0 0 2
+costs_both = inr (inr (0, 0, 1, 0x0002000000000000, 0, finds_both, (λ (a, b). absurd (omega (arith, a))), refl))
+
+costs_first : Costs shared 0 1 1
+costs_first = inr (inr (0, 0, 3, 0x0000000100000004, 0, finds_first, (λ (a, b). absurd (omega (arith, a))), refl))
+
+costs_second : Costs shared 0 2 1
+costs_second = inr (inr (0, 0, 3, 0x0000000100000000, 0, finds_second, (λ (a, b). absurd (omega (arith, a))), refl))
+
+costs_two_paths : CostOf shared ([] ∷ (Ptr 0 ∷ []) ∷ []) 3
+costs_two_paths = (1, 0, 0, 2, 1, reaches_both, costs_both, (2, 0, 1, 1, 0, reaches_first, costs_first, refl, refl), refl)
+
+none_deep : (p : List Step) (level s w : ℕ) → Reaches shared p level s w → ¬ IsDeepAt shared 2 s w level
+none_deep p level s w r (k, t, b, q, tag, finds, tagged, past) =
+    let within = paths_within_depth shared shared_tree 4 2 denotes_shared p level s w k t b q tag r finds tagged in
+    omega (arith, within, past)
+
+-- A word limit of 3 refuses the second pointer.
+refused_shared : IsRefused shared 3 2 record { segment = 0; word = 2; reason = WordLimit; pointers = 3 }
+refused_shared = inr record {
+  path = Ptr 1 ∷ [];
+  before = [] ∷ (Ptr 0 ∷ []) ∷ [];
+  level = 2;
+  charge = 3;
+  reached = reaches_second;
+  tour = tour_shared;
+  costs = costs_two_paths;
+  within = lit≤ tt;
+  shallow = λ p level s w i r. none_deep p level s w r;
+  reason = is_past 1 refl (none_deep (Ptr 1 ∷ []) 2 0 2 reaches_second) costs_second (lit< tt);
+  pointers = refl;
+  few = lit≤ tt;
+}
+
+-- The places that they use
+used_both : Occupies shared 0 0 ((0, 1) ∷ (0, 2) ∷ [])
+used_both = (0x0002000000000000, refl, inr (inr (0, 0, 1, 0x0002000000000000, finds_both, refl)))
+
+used_first : Occupies shared 0 1 ((0, 3) ∷ [])
+used_first = (0x0000000100000004, refl, inr (inr (0, 0, 3, 0x0000000100000004, finds_first, refl)))
+
+used_second : Occupies shared 0 2 ((0, 3) ∷ [])
+used_second = (0x0000000100000000, refl, inr (inr (0, 0, 3, 0x0000000100000000, finds_second, refl)))
+
+-- So the second uses a place of the first,
+overlaps_second : Overlaps shared (Ptr 1 ∷ [])
+overlaps_second = on_earlier (Ptr 0 ∷ []) (0, 3) (inl (lit< tt))
+    (2, 0, 1, (0, 3) ∷ [], reaches_first, used_first, inl refl)
+    (2, 0, 2, (0, 3) ∷ [], reaches_second, used_second, inl refl)
+
+-- and neither the root nor the first uses one twice, or the root word's, or an earlier one's.
+uses_of : (path : List Step) (level s w : ℕ) (places : List (ℕ × ℕ)) → Reaches shared path level s w → Occupies shared s w places
+    → (level' s' w' : ℕ) (used : List (ℕ × ℕ)) → Reaches shared path level' s' w' → Occupies shared s' w' used → used ≡ places
+uses_of path level s w places r own level' s' w' used r' occupied =
+    let at = one_reached shared path level' level s' w' s w r' r in
+    one_used shared s w used places (rw (at.1, at.2) at occupied) own
+
+zero_not_one : ◌≡◌ {A = ℕ} 0 1 → ⊥
+zero_not_one e = omega (arith, e)
+
+apart_words : (w v : ℕ) → (w ≡ v → ⊥) → ◌≡◌ {A = ℕ × ℕ} (0, w) (0, v) → ⊥
+apart_words w v n e = n (ap (λ (x : ℕ × ℕ). x.1) e)
+
+root_alone : Overlaps shared [] → ⊥
+root_alone (twice level s w used r occupied n) =
+    n (subst AreApart (sym (uses_of [] 1 0 0 ((0, 1) ∷ (0, 2) ∷ []) reaches_both used_both level s w used r occupied))
+    ((λ h. elim h [ inl e ↦ apart_words 1 2 (λ x. omega (arith, x)) e | inr never ↦ never ]), ((λ h. h), tt)))
+root_alone (on_root (level, s, w, used, r, occupied, place)) =
+    elim (subst (IsPlaceOf (0, 0)) (uses_of [] 1 0 0 ((0, 1) ∷ (0, 2) ∷ []) reaches_both used_both level s w used r occupied) place) [
+      | inl e ↦ apart_words 0 1 (λ x. omega (arith, x)) e
+      | inr (inl e) ↦ apart_words 0 2 (λ x. omega (arith, x)) e
+      | inr (inr never) ↦ never
+    ]
+root_alone (on_earlier other x before u v) = absurd before
+
+-- a path before the first pointer's is the root's
+before_first : (q : List Step) → Before q (Ptr 0 ∷ []) → IsOneOf q all_paths → q ≡ []
+before_first q before (inl e) = e
+before_first q before (inr (inl e)) = absurd (late (subst (λ (u : List Step). Before u (Ptr 0 ∷ [])) e before))
+  where
+    late : Before (Ptr 0 ∷ []) (Ptr 0 ∷ []) → ⊥
+    late (inl less) = omega (arith, less)
+    late (inr (same, never)) = never
+before_first q before (inr (inr (inl e))) = absurd (late (subst (λ (u : List Step). Before u (Ptr 0 ∷ [])) e before))
+  where
+    late : Before (Ptr 1 ∷ []) (Ptr 0 ∷ []) → ⊥
+    late (inl less) = omega (arith, less)
+    late (inr (same, never)) = never
+before_first q before (inr (inr (inr never))) = absurd never
+
+-- and one before the second pointer's is the root's or the first's
+before_second : (q : List Step) → Before q (Ptr 1 ∷ []) → IsOneOf q all_paths → (q ≡ []) ⊎ (q ≡ Ptr 0 ∷ [])
+before_second q before (inl e) = inl e
+before_second q before (inr (inl e)) = inr e
+before_second q before (inr (inr (inl e))) = absurd (late (subst (λ (u : List Step). Before u (Ptr 1 ∷ [])) e before))
+  where
+    late : Before (Ptr 1 ∷ []) (Ptr 1 ∷ []) → ⊥
+    late (inl less) = omega (arith, less)
+    late (inr (same, never)) = never
+before_second q before (inr (inr (inr never))) = absurd never
+
+not_third : (x : ℕ × ℕ) → IsPlaceOf x ((0, 1) ∷ (0, 2) ∷ []) → IsPlaceOf x ((0, 3) ∷ []) → ⊥
+not_third x (inl e) (inl f) = apart_words 1 3 (λ n. omega (arith, n)) (sym e ∙ f)
+not_third x (inr (inl e)) (inl f) = apart_words 2 3 (λ n. omega (arith, n)) (sym e ∙ f)
+not_third x (inr (inr never)) (inl f) = never
+not_third x h (inr never) = never
+
+first_alone : Overlaps shared (Ptr 0 ∷ []) → ⊥
+first_alone (twice level s w used r occupied n) =
+    n (subst AreApart (sym (uses_of (Ptr 0 ∷ []) 2 0 1 ((0, 3) ∷ []) reaches_first used_first level s w used r occupied))
+    ((λ h. h), tt))
+first_alone (on_root (level, s, w, used, r, occupied, place)) =
+    elim (subst (IsPlaceOf (0, 0)) (uses_of (Ptr 0 ∷ []) 2 0 1 ((0, 3) ∷ []) reaches_first used_first level s w used r occupied) place) [
+      | inl e ↦ apart_words 0 3 (λ x. omega (arith, x)) e
+      | inr never ↦ never
+    ]
+first_alone (on_earlier other x before (l, s, w, used, r, occupied, place) (l', s', w', used', r', occupied', place')) =
+    let root : other ≡ [] = before_first other before
+    ((pointer_path_reached shared shared_tree 4 2 denotes_shared other).1 (l, s, w, r)) in
+    let here = uses_of [] 1 0 0 ((0, 1) ∷ (0, 2) ∷ []) reaches_both used_both l s w used
+    (subst (λ (u : List Step). Reaches shared u l s w) root r) occupied in
+    let there = uses_of (Ptr 0 ∷ []) 2 0 1 ((0, 3) ∷ []) reaches_first used_first l' s' w' used' r' occupied' in
+    not_third x (subst (IsPlaceOf x) here place) (subst (IsPlaceOf x) there place')
+
+reached_of : (p : List Step) → Overlaps shared p → (level s w : ℕ) × Reaches shared p level s w
+reached_of p (twice level s w used r occupied n) = (level, s, w, r)
+reached_of p (on_root (level, s, w, used, r, occupied, place)) = (level, s, w, r)
+reached_of p (on_earlier other x before u (level, s, w, used, r, occupied, place)) = (level, s, w, r)
+
+-- The second pointer is the first that overlaps.
+first_overlap : IsFirstOverlap shared 0 2 3
+first_overlap = record {
+  path = Ptr 1 ∷ [];
+  level = 2;
+  tour = all_paths;
+  reached = reaches_second;
+  is_tour = tour_shared;
+  number = refl;
+  overlaps = overlaps_second;
+  first = λ other before overlaps.
+      elim (before_second other before
+      ((pointer_path_reached shared shared_tree 4 2 denotes_shared other).1 (reached_of other overlaps))) [
+        | inl e ↦ root_alone (subst (Overlaps shared) e overlaps)
+        | inr e ↦ first_alone (subst (Overlaps shared) e overlaps)
+      ];
+}
+
+-- The pointers on the path to the first: a budget of 5 words has 2 left,
+on_first : AreOnPath shared (Ptr 0 ∷ []) ([] ∷ (Ptr 0 ∷ []) ∷ [])
+on_first = listing.on_word shared [] ([] ∷ []) (Ptr 0) 2 0 1 (listing.on_root shared 0x0002000000000000 refl) reaches_first
+
+charges_first : Charges shared 5 2 (Ptr 0 ∷ []) 2
+charges_first = record {
+  ways = [] ∷ (Ptr 0 ∷ []) ∷ [];
+  on_path = on_first;
+  some = lit< tt;
+  cost = 3;
+  costs = costs_two_paths;
+  shallow = λ p level s w i r. none_deep p level s w r;
+  spent = refl;
+}
+
+-- and one of 2 words is past at the first.
+fault_on_path : IsFaultOnPath shared 2 2 (Ptr 0 ∷ []) record { segment = 0; word = 1; reason = WordLimit; pointers = 2 }
+fault_on_path = record {
+  way = Ptr 0 ∷ [];
+  begin = ([], refl);
+  before = [] ∷ [];
+  level = 2;
+  charge = 2;
+  reached = reaches_first;
+  on_path = on_first;
+  costs = (1, 0, 0, 2, 0, reaches_both, costs_both, refl, refl);
+  within = lit≤ tt;
+  shallow = λ p level s w i r. none_deep p level s w r;
+  reason = is_past 1 refl (none_deep (Ptr 0 ∷ []) 2 0 1 reaches_first) costs_first (lit< tt);
+  pointers = refl;
+}

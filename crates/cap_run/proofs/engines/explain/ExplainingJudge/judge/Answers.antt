@@ -1,0 +1,60 @@
+use Rattle.std.proofs.Common.{◌≡◌, ◌++◌, ◌∙◌, List, ap, inl, inr, refl, subst, ℕ}
+use Rattle.cap_explain.specs.Explaining.{explanation}
+use Rattle.cap_spec.specs.Texts.{strict_verdict, vet_text}
+use Rattle.cap_spec.specs.Tree.{Tree}
+use Rattle.cap_vet.specs.Demands.{words_under}
+use Rattle.cap_vet.specs.Limits.{depth_of, words_of}
+use Rattle.cap_vet.specs.Reports.{IsReport}
+use Rattle.cap_vet.specs.Vettings.{report_of}
+use Rattle.cap_run.specs.Demanding.{WantsUnder}
+use Rattle.cap_run.specs.Explained.{OrFaultLines, fault_path}
+use Rattle.cap_run.specs.Running.{WritesOneOf}
+use Rattle.cap_run.specs.declared.engines.stream.Counted.TheVariants.{Refused}
+use Rattle.cap_run.proofs.Judging.{writes_as, writes_text}
+use Rattle.cap_run.proofs.engines.explain.ExplainingJudge.judge.Goals as goal
+
+pub returns-in-Ok : goal.returns-in-Ok
+returns-in-Ok g c =
+    let v = c.args.self.now in
+    let m = g.M.Segments.segments c.args.message.now in
+    let words = words_under v.demands m (words_of v.limits) in
+    let depth = depth_of v.limits in
+    let met = c.in-Ok.ensures.ok in
+    let told = subst (λ (m : List (List ℕ)). (words depth : ℕ) (t : Tree)
+    → IsReport m words depth (report_of c.in-Ok.vetted) t
+    → WritesOneOf g.O.ByteOut (g.T.Teller.tells v.teller words depth c.args.number m)
+    (g.T.Teller.wants v.teller words depth m)
+    c.args.out.now c.tell.new.out c.tell.result)
+    (ap g.M.Segments.segments c.in-Ok.ensures.message) c.tell.ensures in
+    writes_as g.O.ByteOut (g.T.Teller.tells v.teller words depth c.args.number m)
+    (OrFaultLines v.demands (g.T.Teller.tells v.teller) (words_of v.limits) depth c.args.number m)
+    (g.T.Teller.wants v.teller words depth m)
+    (WantsUnder v.demands (g.T.Teller.wants v.teller) (words_of v.limits) depth m)
+    c.args.out.now c.tell.new.out c.tell.result (λ text counted e. inl (met.1.strict, e)) (λ w. (met.1.strict, w))
+    (told words depth met.0.0 met.0.1)
+
+pub returns-in-Err : goal.returns-in-Err
+returns-in-Err g c =
+    let v = c.args.self.now in
+    let m = g.M.Segments.segments c.args.message.now in
+    let words = words_of v.limits in
+    let depth = depth_of v.limits in
+    let refusal = c.in-Err.refusal in
+    let line = vet_text c.args.number (strict_verdict refusal) in
+    let under = c.limits_under-limits.result in
+    let is_fault = c.in-Err.ensures.err in
+    let path : c.fault_path-path.result ≡ fault_path v.demands m words depth refusal is_fault =
+    c.fault_path-path.ensures v.demands words is_fault in
+    writes_text g.O.ByteOut (line ++ c.fault_path-path.result ++ explanation m refusal (words_of under) (depth_of under)) Refused
+    (OrFaultLines v.demands (g.T.Teller.tells v.teller) words depth c.args.number m)
+    (WantsUnder v.demands (g.T.Teller.wants v.teller) words depth m)
+    c.args.out.now c.write_refusal-written.new.out c.write_refusal-written.result c.after_text.result
+    (inr (record {
+      fault = refusal;
+      is_fault = is_fault;
+      lines = ap (λ p. line ++ p ++ explanation m refusal (words_of under) (depth_of under)) path
+          ∙ ap (λ w. line ++ fault_path v.demands m words depth refusal is_fault ++ explanation m refusal w (depth_of under)) c.limits_under-limits.ensures.words
+          ∙ ap (λ d. line ++ fault_path v.demands m words depth refusal is_fault ++ explanation m refusal (words_under v.demands m words) d) c.limits_under-limits.ensures.depth;
+      counts = refl;
+    }))
+    c.write_refusal-written.ensures c.after_text.ensures

@@ -1,0 +1,58 @@
+use Rattle.std.proofs.Common.{◌≡◌, ◌∙◌, ◌++◌, ap, codes, inl, inr, refl, subst, sym}
+use Rattle.cap_explain.specs.Explaining.{overlap_explanation, path_explanation}
+use Rattle.cap_spec.specs.Texts.{refused, vet_text}
+use Rattle.cap_vet.specs.Vettings.{message_of, report_of}
+use Rattle.cap_text.specs.Lines.{accepted_text}
+use Rattle.cap_spec.specs.GreatestLimits.{most_depth, most_words}
+use Rattle.cap_spec.specs.Strict.{IsWithin}
+use Rattle.cap_run.specs.Explained.{TellsMarkedLines}
+use Rattle.cap_run.specs.Vetting.{WantsMarks}
+use Rattle.cap_run.specs.declared.engines.stream.Counted.TheVariants.{Accepted, Refused}
+use Rattle.cap_run.proofs.Explaining.{accepted_within, overlap_named}
+use Rattle.cap_run.proofs.Judging.{writes_text}
+use Rattle.cap_run.proofs.engines.explain.OverlapTellerTeller.tell.Goals as goal
+
+pub returns-in-Ok : goal.returns-in-Ok
+returns-in-Ok g c = λ words depth t h.
+    let m = g.M.Segments.segments (message_of c.args.vetted.now) in
+    let n = c.args.number in
+    writes_text g.O.ByteOut (accepted_text n c.report.result) Accepted (TellsMarkedLines words depth n m) (WantsMarks words depth m)
+    c.args.out.now c.write_accepted-written.new.out c.write_accepted-written.result c.after_text.result
+    (inl (
+      c.in-Ok.ensures.ok,
+      record { report = report_of c.args.vetted.now; is_accepted = (t, h); line = cc; counts = refl },
+    ))
+    c.write_accepted-written.ensures c.after_text.ensures
+
+pub returns-in-Err-Overlap : goal.returns-in-Err-Overlap
+returns-in-Err-Overlap g c = λ words depth t h.
+    let m = g.M.Segments.segments (message_of c.args.vetted.now) in
+    let n = c.args.number in
+    let refusal = c.in-Err-Overlap in
+    let line = vet_text n (refused (codes "Overlap") refusal.segment refusal.word refusal.pointers) in
+    let is_first = refusal.ensures.overlap refusal.segment refusal.word refusal.pointers (cc) in
+    let path : c.path_line-path.result ≡ path_explanation is_first.path =
+    overlap_named (g.M.Segments.segments c.message-message.result.now) m refusal.segment refusal.word refusal.pointers c.path_line-path.result
+    (ap g.M.Segments.segments c.message-message.ensures.value)
+    (λ f. c.path_line-path.ensures.overlap most_words refusal.segment refusal.word
+    (subst (IsWithin (g.M.Segments.segments c.message-message.result.now) most_words) (sym c.greatest_limits.ensures)
+    (accepted_within (g.M.Segments.segments c.message-message.result.now) most_words most_depth _ c.message-message.ensures.accepted)) f)
+    is_first in
+    writes_text g.O.ByteOut (line ++ c.path_line-path.result ++ overlap_explanation (g.M.Segments.segments c.message-message.result.now) refusal.segment refusal.word)
+    Refused (TellsMarkedLines words depth n m) (WantsMarks words depth m)
+    c.args.out.now c.write_overlap_lines-written.new.out c.write_overlap_lines-written.result c.after_text-in-Err-Overlap.result
+    (inr (record {
+      report = report_of c.args.vetted.now;
+      is_accepted = (t, h);
+      segment = refusal.segment;
+      word = refusal.word;
+      pointers = refusal.pointers;
+      is_first = is_first;
+      lines = ap (λ message. line ++ c.path_line-path.result ++ overlap_explanation (g.M.Segments.segments message) refusal.segment refusal.word) c.message-message.ensures.value
+          ∙ ap (λ p. line ++ p ++ overlap_explanation m refusal.segment refusal.word) path;
+      counts = refl;
+    }))
+    c.write_overlap_lines-written.ensures c.after_text-in-Err-Overlap.ensures
+
+pub returns-in-Err-Memory : goal.returns-in-Err-Memory
+returns-in-Err-Memory g c = λ words depth t h. ((report_of c.args.vetted.now, (t, h)), refl)

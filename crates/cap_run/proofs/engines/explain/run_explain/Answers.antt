@@ -1,0 +1,18 @@
+use Rattle.cap_frame.specs.Limit.{limit_of}
+use Rattle.cap_vet.specs.Limits.{depth_of, words_of}
+use Rattle.cap_run.specs.Demanding.{WantsUnder}
+use Rattle.cap_run.specs.Explained.{OrFaultLines}
+use Rattle.cap_run.specs.Telling.{WantsNone}
+use Rattle.cap_run.specs.Vetting.{TellsAccepted}
+use Rattle.cap_run.proofs.Demanding.{stream_as}
+use Rattle.cap_run.proofs.engines.explain.run_explain.Goals as goal
+
+pub returns : goal.returns
+returns g c =
+    let s = c.args.settings.now in
+    let words = words_of s.limits in
+    let depth = depth_of s.limits in
+    let tells = OrFaultLines c.args.demands TellsAccepted words depth in
+    stream_as tells tells (λ n m text counted t. t) g.S.WordSource g.O.ByteOut
+    (WantsUnder c.args.demands (λ w d. WantsNone) words depth) WantsNone (λ m w. absurd w.1) (limit_of s.size) s.messages
+    c.args.source.now c.judge_all.new.source c.args.out.now c.judge_all.new.out c.judge_all.result c.judge_all.ensures

@@ -1,0 +1,151 @@
+-- A search comes to the pointer words of a message one after the other.
+use Rattle.std.proofs.Common.{sym, ◌⊎◌, ℕ, ◌≡◌, ◌+◌, ◌<◌, ◌≤◌, inl, inr, List, [], ◌∷◌, ◌++◌, length, refl, subst, arith, length-append}
+use Rattle.cap_spec.specs.Messages.{segment_of}
+use Rattle.cap_spec.specs.Paths.{Before, Goes, IsOneOf, IsTour, Reaches, Spot, Walks, element, level_of, word}
+use Rattle.cap_spec.specs.declared.Step.{Step}
+use Rattle.cap_spec.proofs.Frames.Messages.{HasWord-inside}
+use Rattle.cap_spec.proofs.Paths.Preorder.{Before-asymmetric, Before-irreflexive}
+use Rattle.cap_vet.specs.Trails.{IsTrail}
+use Rattle.cap_vet.proofs.OneTrail.{root_trail}
+use Rattle.cap_trace.specs.Branches.{AreBranches, path_of, rest_from, root_branch}
+use Rattle.cap_trace.specs.PointerNumbers.{IsNumbered, IsTraceable, PassesAt}
+use Rattle.cap_spec.proofs.Paths.Walks.{one_reached}
+use Rattle.cap_spec.proofs.Verdicts.OneFault.{one_of_last}
+use Rattle.cap_trace.specs.Traces.{HasCome, IsBlockedAt, word_ahead}
+use Rattle.cap_trace.specs.declared.branch.Branch.{Branch}
+use Rattle.cap_trace.proofs.Branches.{branches_without}
+use Rattle.cap_trace.proofs.Numbering.{number_order}
+use Rattle.cap_trace.proofs.Onward.{next_tour, root_tour, up_to_last}
+
+-- Numbers count from 1.
+pub some_number : (m : List (List ℕ)) (n : ℕ) (p : List Step) → IsNumbered m n p → 0 < n
+some_number m n p a = positive a.tour (a.is_tour.all p a.level a.segment a.at a.reached (inl refl)) a.number
+  where
+    positive : (tour : List (List Step)) → IsOneOf p tour → n ≡ length tour → 0 < n
+    positive [] i e = absurd i
+    positive (q ∷ tour) i e = omega (arith, e)
+
+-- A message with a path has a root word.
+pub has_root : (m : List (List ℕ)) (n : ℕ) (p : List Step) → IsNumbered m n p → 0 < length (segment_of m 0)
+has_root m n p a = HasWord-inside m 0 0 a.reached.0 a.reached.2
+
+-- At first the search is at the root word.
+pub at_root : (m : List (List ℕ)) (depth : ℕ) → 0 < length m → 0 < length (segment_of m 0)
+    → HasCome m depth 1 [] root_branch
+at_root m depth exists some = record {
+  seen = [];
+  trail = root_trail m some;
+  tour = [] ∷ [];
+  is_tour = root_tour m some;
+  number = refl;
+  branches = (
+    record {
+      exists = exists;
+      inside = omega (arith, some);
+      formed = (refl, refl);
+      few = omega arith;
+      elements = omega arith;
+      high = omega arith;
+      low = omega arith;
+    },
+    tt,
+  );
+  passable = λ q b. absurd b;
+}
+
+-- a path reaches one place, so what passes there does
+passes_there : (m : List (List ℕ)) (depth : ℕ) (p : List Step) (l s w l' s' w' : ℕ) → Reaches m p l s w
+    → Reaches m p l' s' w' → PassesAt m depth s w l → PassesAt m depth s' w' l'
+passes_there m depth p l s w l' s' w' r k h =
+    let o = one_reached m p l l' s w s' w' r k in
+    subst (λ (u : ℕ). PassesAt m depth s' w' u) o.0
+    (subst (λ (u : ℕ). PassesAt m depth s' u l) o.2 (subst (λ (u : ℕ). PassesAt m depth u w l) o.1 h))
+
+-- Then it comes to the next word ahead, where the pointer passes.
+pub came_next : (m : List (List ℕ)) (depth n : ℕ) (fs gs : List Branch) (f g : Branch) → (h : HasCome m depth n fs f)
+    → PassesAt m depth f.segment f.at f.level
+    → IsTrail m (path_of (fs ++ f ∷ []) ∷ h.seen) (word_ahead (path_of (gs ++ g ∷ [])) g ∷ rest_from [] (gs ++ g ∷ []))
+    → AreBranches m depth 0 (gs ++ g ∷ []) → HasCome m depth (n + 1) gs g
+came_next m depth n fs gs f g h passes t branches = record {
+  seen = path_of (fs ++ f ∷ []) ∷ h.seen;
+  trail = t;
+  tour = h.tour ++ path_of (gs ++ g ∷ []) ∷ [];
+  is_tour = tour;
+  number = omega (arith, h.number, length-append h.tour (path_of (gs ++ g ∷ []) ∷ []));
+  branches = branches;
+  passable = λ q b level s w r. passed q level s w r (before q b (one_of_last q (path_of (gs ++ g ∷ [])) h.tour (tour.all q level s w r (inr b))));
+}
+  where
+    tour : IsTour m (path_of (gs ++ g ∷ [])) (h.tour ++ path_of (gs ++ g ∷ []) ∷ [])
+    tour = next_tour m (path_of (fs ++ f ∷ [])) h.seen (word_ahead (path_of (gs ++ g ∷ [])) g)
+        (rest_from [] (gs ++ g ∷ [])) h.tour t h.is_tour
+
+    before : (q : List Step) → Before q (path_of (gs ++ g ∷ [])) → (q ≡ path_of (gs ++ g ∷ [])) ⊎ IsOneOf q h.tour
+        → (q ≡ path_of (fs ++ f ∷ [])) ⊎ Before q (path_of (fs ++ f ∷ []))
+    before q b (inl e) = absurd (Before-irreflexive q (subst (λ (u : List Step). Before q u) (sym e) b))
+    before q b (inr i) = h.is_tour.none_after q i
+
+    passed : (q : List Step) (level s w : ℕ) → Reaches m q level s w
+        → (q ≡ path_of (fs ++ f ∷ [])) ⊎ Before q (path_of (fs ++ f ∷ [])) → PassesAt m depth s w level
+    passed q level s w r (inl e) = passes_there m depth (path_of (fs ++ f ∷ [])) f.level f.segment f.at level s w
+        h.trail.ahead_reached.0 (subst (λ (u : List Step). Reaches m u level s w) e r) passes
+    passed q level s w r (inr b) = h.passable q b level s w r
+
+-- The path to where it is has the number that it has come to.
+numbered_here : (m : List (List ℕ)) (depth n : ℕ) (fs : List Branch) (f : Branch) → HasCome m depth n fs f
+    → IsNumbered m n (path_of (fs ++ f ∷ []))
+numbered_here m depth n fs f h = record {
+  level = f.level;
+  segment = f.segment;
+  at = f.at;
+  tour = h.tour;
+  reached = h.trail.ahead_reached.0;
+  is_tour = h.is_tour;
+  number = h.number;
+}
+
+-- It is traceable.
+pub traceable_here : (m : List (List ℕ)) (depth n : ℕ) (fs : List Branch) (f : Branch) → HasCome m depth n fs f
+    → IsTraceable m depth n (path_of (fs ++ f ∷ []))
+traceable_here m depth n fs f h = record { numbered = numbered_here m depth n fs f h; passable = h.passable }
+
+-- Where no word is ahead, no path has a higher number.
+pub none_higher : (m : List (List ℕ)) (depth n more : ℕ) (fs : List Branch) (f : Branch) (q : List Step)
+    → (h : HasCome m depth n fs f) → IsTrail m (path_of (fs ++ f ∷ []) ∷ h.seen) [] → n < more → IsNumbered m more q → ⊥
+none_higher m depth n more fs f q h t less a =
+    let p = path_of (fs ++ f ∷ []) in
+    let b : Before p q = number_order m n more p q (numbered_here m depth n fs f h) a less in
+    elim (t.complete q a.level a.segment a.at a.reached) [
+      | inl i ↦ elim (up_to_last p q h.seen t.falls i) [
+        | inl e ↦ Before-irreflexive p (subst (λ (u : List Step). Before p u) e b)
+        | inr k ↦ Before-asymmetric p q b k
+      ]
+      | inr none ↦ none
+    ]
+
+-- Where there is no way on, no path of a higher number is traceable.
+pub none_past : (m : List (List ℕ)) (depth n more : ℕ) (fs : List Branch) (f : Branch) (q : List Step)
+    → HasCome m depth n fs f → IsBlockedAt m depth f.segment f.at f.level → n < more → IsTraceable m depth more q → ⊥
+none_past m depth n more fs f q h blocked less a =
+    let p = path_of (fs ++ f ∷ []) in
+    let b : Before p q = number_order m n more p q (numbered_here m depth n fs f h) a.numbered less in
+    let on = a.passable p b f.level f.segment f.at h.trail.ahead_reached.0 in
+    elim blocked [ inl wrong ↦ on.0 wrong.0 wrong.1 | inr deep ↦ on.1 deep ]
+
+-- each spot counts one level
+one_level : (m : List (List ℕ)) (a : Spot) (x : Step) (b : Spot) → Goes m a x b → level_of b ≡ 1
+one_level m a x (word s w) g = refl
+one_level m a x (element t b ds ps) g = refl
+
+walk_steps : (m : List (List ℕ)) (a : Spot) (path : List Step) (n : ℕ) (b : Spot) → Walks m a path n b → n ≡ length path
+walk_steps m a [] n b h = h.0
+walk_steps m a (x ∷ path) n b h =
+    omega (arith, h.4, one_level m a x h.0 h.2, walk_steps m h.0 path h.1 b h.3)
+
+-- A path has at most as many steps as there are levels.
+pub few_steps : (m : List (List ℕ)) (depth n : ℕ) (fs : List Branch) (f : Branch) → HasCome m depth n fs f
+    → length (path_of (fs ++ f ∷ [])) ≤ depth
+few_steps m depth n fs f h =
+    let r = h.trail.ahead_reached.0 in
+    let k = (branches_without m depth 0 fs f h.branches).1 in
+    omega (arith, r.4, walk_steps m (word 0 0) (path_of (fs ++ f ∷ [])) r.1 (word f.segment f.at) r.3, k.low)

@@ -1,0 +1,7 @@
+mod Branches
+mod Coming
+pub mod Filling
+pub mod Numbering
+mod Objects
+mod Onward
+mod Traceable

@@ -1,0 +1,107 @@
+-- The pointer that a verdict names can be traced.
+use Rattle.std.proofs.Common.{ℕ, ◌≡◌, ◌⊎◌, inl, inr, List, [], ◌∷◌, ◌++◌, length, sym, ap, ◌∙◌, subst, arith, Option, None, Some}
+use Rattle.cap_spec.specs.Faults.{IsFirstFault}
+use Rattle.cap_spec.specs.Following.{Wrong}
+use Rattle.cap_spec.specs.Occupying.{IsFirstOverlap}
+use Rattle.cap_spec.specs.Paths.{Before, IsOneOf, Reaches}
+use Rattle.cap_spec.specs.Strict.{IsFirstLax, IsWithin}
+use Rattle.cap_spec.specs.Verdicts.{CostOf}
+use Rattle.cap_spec.specs.declared.Lax.{Lax}
+use Rattle.cap_spec.specs.declared.Reason.{Reason}
+use Rattle.cap_spec.specs.declared.Refusal.{Refusal}
+use Rattle.cap_spec.specs.declared.Step.{Step}
+use Rattle.cap_spec.proofs.Paths.Preorder.{Before-irreflexive}
+use Rattle.cap_spec.proofs.Paths.Walks.{one_reached}
+use Rattle.cap_spec.proofs.Verdicts.OneFault.{costs_not_wrong, one_of_last}
+use Rattle.cap_spec.proofs.Verdicts.OneVerdict.{paths_within_depth, reached_not_wrong}
+use Rattle.cap_trace.specs.PointerNumbers.{IsPassable, IsTraceable}
+use Rattle.cap_trace.specs.Traces.{GivesPath, TellsPath, filled}
+use Rattle.cap_trace.proofs.Numbering.{one_numbered}
+
+-- nothing is wrong at the paths that have a cost
+not_wrong_among : (m : List (List ℕ)) (ps : List (List Step)) (x : ℕ) (p : List Step) (level s w : ℕ) (v : Reason)
+    → CostOf m ps x → IsOneOf p ps → Reaches m p level s w → Wrong m s w v → ⊥
+not_wrong_among m [] x p level s w v h i r wrong = absurd i
+not_wrong_among m (q ∷ qs) x p level s w v h (inl e) r wrong =
+    let o = one_reached m q level h.0 s w h.1 h.2 (subst (λ (u : List Step). Reaches m u level s w) e r) h.5 in
+    costs_not_wrong m h.1 h.2 h.3 v h.6
+    (subst (λ (u : ℕ). Wrong m h.1 u v) o.2 (subst (λ (u : ℕ). Wrong m u w v) o.1 wrong))
+not_wrong_among m (q ∷ qs) x p level s w v h (inr i) r wrong = not_wrong_among m qs h.4 p level s w v h.7 i r wrong
+
+-- The paths before the first fault are passable.
+pub fault_traceable : (m : List (List ℕ)) (words depth : ℕ) (r : Refusal) → (f : IsFirstFault m words depth r)
+    → IsTraceable m depth r.pointers f.path
+fault_traceable m words depth r f = record {
+  numbered = record {
+    level = f.level;
+    segment = r.segment;
+    at = r.word;
+    tour = f.before ++ f.path ∷ [];
+    reached = f.reached;
+    is_tour = f.tour;
+    number = f.pointers;
+  };
+  passable = λ q b level s w reach.
+      let i = before q b (one_of_last q f.path f.before (f.tour.all q level s w reach (inr b))) in (
+        (λ v wrong. not_wrong_among m f.before f.charge q level s w v f.costs i reach wrong),
+        f.shallow q level s w i reach,
+      );
+}
+  where
+    before : (q : List Step) → Before q f.path → (q ≡ f.path) ⊎ IsOneOf q f.before → IsOneOf q f.before
+    before q b (inl e) = absurd (Before-irreflexive q (subst (λ (u : List Step). Before q u) (sym e) b))
+    before q b (inr i) = i
+
+-- All paths of an accepted message are passable.
+accepted_passable : (m : List (List ℕ)) (words depth : ℕ) → IsWithin m words depth → (q : List Step) → IsPassable m depth q
+accepted_passable m words depth a q = λ level s w r. (
+  (λ v wrong. reached_not_wrong m a.tree a.charge a.levels a.denotes q level s w v r wrong),
+  (λ (k, t, b, x, tag, f, tagged, past).
+      omega (arith, paths_within_depth m a.tree a.charge a.levels a.denotes q level s w k t b x tag r f tagged, a.few_levels, past)),
+)
+
+pub lax_traceable : (m : List (List ℕ)) (words depth s w : ℕ) (what : Lax) (n : ℕ) → IsWithin m words depth
+    → (f : IsFirstLax m s w what n) → IsTraceable m depth n f.path
+lax_traceable m words depth s w what n a f = record {
+  numbered = record {
+    level = f.level;
+    segment = s;
+    at = w;
+    tour = f.tour;
+    reached = f.reached;
+    is_tour = f.is_tour;
+    number = f.number;
+  };
+  passable = λ q b. accepted_passable m words depth a q;
+}
+
+pub overlap_traceable : (m : List (List ℕ)) (words depth s w n : ℕ) → IsWithin m words depth
+    → (f : IsFirstOverlap m s w n) → IsTraceable m depth n f.path
+overlap_traceable m words depth s w n a f = record {
+  numbered = record {
+    level = f.level;
+    segment = s;
+    at = w;
+    tour = f.tour;
+    reached = f.reached;
+    is_tour = f.is_tour;
+    number = f.number;
+  };
+  passable = λ q b. accepted_passable m words depth a q;
+}
+
+-- What is written is the traceable path of its number.
+pub gives_traceable : (m : List (List ℕ)) (depth n : ℕ) (path old : List Step) (result : Option ℕ) (new : List Step)
+    → TellsPath m depth n old result new → IsTraceable m depth n path → GivesPath path old result new
+gives_traceable m depth n path old None new h a = absurd (h.0 path a)
+gives_traceable m depth n path old (Some count) new h a =
+    let e = one_numbered m n h.0 path h.1.numbered a.numbered in
+    (ap Some (h.2 ∙ ap length e), h.3 ∙ ap (λ (u : List Step). filled u old) e)
+
+-- So it is that of the first fault.
+pub gives_fault : (m : List (List ℕ)) (words depth n : ℕ) (r : Refusal) (old : List Step) (result : Option ℕ)
+    (new : List Step) → TellsPath m depth n old result new → (f : IsFirstFault m words depth r) → r.pointers ≡ n
+    → GivesPath f.path old result new
+gives_fault m words depth n r old result new h f e =
+    gives_traceable m depth n f.path old result new h
+    (subst (λ (u : ℕ). IsTraceable m depth u f.path) e (fault_traceable m words depth r f))

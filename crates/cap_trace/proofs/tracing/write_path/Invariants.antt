@@ -1,0 +1,11 @@
+use Rattle.std.specs.Prelude.{◌*◌, ◌≡◌, ◌≤◌, length, take}
+use Rattle.cap_trace.specs.Branches.{path_of}
+use Rattle.cap_trace.specs.Traces.{filled}
+use Rattle.cap_trace.proofs.tracing.write_path.Given as goal
+
+abbrev pub invariant-branches : goal.invariant-branches
+invariant-branches l = record {
+  count : l.count ≡ length (path_of (take l.branch-index l.branches));
+  few : l.count ≤ 2 * l.branch-index;
+  written : l.steps ≡ filled (path_of (take l.branch-index l.branches)) l.fn.steps;
+}

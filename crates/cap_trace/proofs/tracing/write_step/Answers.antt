@@ -1,0 +1,18 @@
+use Rattle.std.proofs.Common.{◌∙◌, ◌++◌, length, set, ap, sym, arith, ℕ, List, Option}
+use Rattle.std.specs.Option.{option_to_list}
+use Rattle.cap_spec.specs.declared.Step.{Step}
+use Rattle.cap_trace.specs.Traces.{filled}
+use Rattle.cap_trace.proofs.Filling.{fill_past, fill_step}
+use Rattle.cap_trace.proofs.tracing.write_step.Goals as goal
+use Rattle.cap_trace.proofs.tracing.write_step.Goals.{then-at-steps, else-at-steps}
+
+pub returns-clause-steps : goal.returns-clause-steps
+returns-clause-steps c = λ path old e f.
+    let g = sym (ap (λ (u : Option Step). filled (path ++ option_to_list u) old) c.in-Some.is) in
+    elim c.if-at-steps.branch [
+      | then-at-steps w ↦ w.steps-is ∙ ap (λ (u : List Step). set u c.args.at c.in-Some.step) f
+          ∙ ap (λ (u : ℕ). set (filled path old) u c.in-Some.step) e
+          ∙ fill_step path old c.in-Some.step (omega (arith, w.if-at-steps.true, e, ap length f)) ∙ g
+      | else-at-steps w ↦ w.steps-is ∙ f
+          ∙ fill_past path old c.in-Some.step (omega (arith, w.if-at-steps.false, e, ap length f)) ∙ g
+    ]

@@ -1,0 +1,3 @@
+pub mod PointerNumbers
+pub mod Branches
+pub mod Traces

@@ -1,0 +1,9 @@
+//! The path of a pointer word of a message, by the word's number in preorder.
+#![tactic(auto)]
+
+mod below;
+mod branch;
+mod seeking;
+mod tracing;
+
+pub use tracing::path_of_pointer;

@@ -1,0 +1,93 @@
+//! The path of a pointer word, written to a buffer.
+
+ghost use Rattle.cap_spec.specs.Faults.{IsFirstFault};
+ghost use Rattle.cap_spec.specs.Occupying.{IsFirstOverlap};
+ghost use Rattle.cap_spec.specs.Strict.{IsFirstLax, IsWithin};
+ghost use Rattle.cap_spec.specs.declared.Lax.{Lax};
+ghost use Rattle.cap_spec.specs.declared.Refusal.{Refusal};
+ghost use Rattle.cap_spec.specs.declared.Step.{Step};
+ghost use Rattle.cap_trace.specs.Branches.{path_of};
+ghost use Rattle.cap_trace.specs.PointerNumbers.{IsTraceable};
+ghost use Rattle.cap_trace.specs.Traces.{GivesPath, TellsPath, filled};
+ghost use Rattle.cap_vet.specs.Limits.{depth_of};
+ghost use Rattle.std.specs.Option.{option_to_list};
+ghost use Rattle.std.specs.Prelude.{◌+◌, ◌++◌, ◌<◌, ◌≡◌, ◌≤◌, IfSome, List, length, ℕ};
+
+use crate::branch::Branch;
+use crate::seeking::{Way, seek};
+use cap_frame::Segments;
+use cap_spec::Step;
+use cap_vet::Limits;
+
+/// Writes the path to the pointer word of this number in preorder, where the root word is number 1,
+/// and returns how many steps it has. These are at most as many as the depth limit has levels.
+/// `number` may be the `pointers` of a refusal, of a strict refusal or of an overlap: it is then the
+/// path to the pointer that is named. Of a path that has more steps than the buffer, the first ones
+/// are written.
+///
+/// `None` if the message has no such word, or if a pointer before it can't be followed or leads past
+/// the depth limit. The buffer is then unchanged. The word limit has no effect. Allocates nothing.
+pub fn path_of_pointer<M: Segments>(
+    message: &M,
+    limits: Limits,
+    number: u64,
+    steps: &mut [Step],
+) -> Option<usize>
+    ensures tells { let m = M.segments message.now in
+        TellsPath m (depth_of limits) number steps.old result steps.new }
+    ensures few { IfSome result (λ count. count ≤ depth_of limits) }
+
+    // The other direction: the path of this number is written.
+    ensures gives { let m = M.segments message.now in (path : List Step) →
+        IsTraceable m (depth_of limits) number path → GivesPath path steps.old result steps.new }
+
+    // So is that of a refusal, of a pointer that common readers reject, and of an overlap.
+    ensures fault { let m = M.segments message.now in (words : ℕ) (r : Refusal) →
+        (f : IsFirstFault m words (depth_of limits) r) → r.pointers ≡ number →
+        GivesPath f.path steps.old result steps.new }
+    ensures lax { let m = M.segments message.now in (words s w : ℕ) (what : Lax) →
+        IsWithin m words (depth_of limits) → (f : IsFirstLax m s w what number) →
+        GivesPath f.path steps.old result steps.new }
+    ensures overlap { let m = M.segments message.now in (words s w : ℕ) →
+        IsWithin m words (depth_of limits) → (f : IsFirstOverlap m s w number) →
+        GivesPath f.path steps.old result steps.new }
+{
+    let mut branches = Way::new();
+    let mut last = Branch::root();
+    if !seek(message, limits.depth(), number, &mut branches, &mut last) {
+        return None;
+    }
+    branches.push(last);
+    Some(write_path(branches.as_slice(), steps))
+}
+
+// Writes the path over these branches as far as there is capacity, and gives how many steps it has.
+fn write_path(branches: &[Branch], steps: &mut [Step]) -> usize
+    requires { length branches.now ≤ 257 }
+    ensures count { result ≡ length (path_of branches.now) }
+    ensures steps { steps.new ≡ filled (path_of branches.now) steps.old }
+{
+    let mut count = 0;
+    'branches: for branch in branches {
+        let (element, pointer) = branch.steps();
+        count = write_step(steps, count, element);
+        count = write_step(steps, count, pointer);
+    }
+    count
+}
+
+// Writes a step at this place, if there is one, and there is capacity. Gives the next place.
+fn write_step(steps: &mut [Step], at: usize, step: Option<Step>) -> usize
+    requires { at < 1000 }
+    ensures place { result ≡ at + length (option_to_list step) }
+    ensures steps { (path old : List Step) → at ≡ length path → steps.old ≡ filled path old →
+        steps.new ≡ filled (path ++ option_to_list step) old }
+{
+    let Some(step) = step else {
+        return at;
+    };
+    if at < steps.len() {
+        steps[at] = step;
+    }
+    at + 1
+}

@@ -1,0 +1,97 @@
+//! The paths of pointers, by the numbers that verdicts give them.
+
+use crate::held::message;
+use crate::same::{same, same_of};
+use cap_frame::Segments;
+use cap_trace::path_of_pointer;
+use cap_vet::{Limits, Step, StrictRefusal, vet_strict};
+use std::process::Abort;
+use std::test::Fail;
+
+// The words of each segment of a message, and the path to the pointer that `vet_strict` names.
+type Row = (&'static [&'static [u64]], &'static [Step]);
+
+static ROWS: [Row; 5] = [
+    // The root is past the end of its segment.
+    (&[&[0x0000000001000000]], &[]),
+    // The second pointer of a struct, after a null one.
+    (
+        &[&[0x0000000000000200, 0, 0x0000000001000000]],
+        &[Step::Ptr(1)],
+    ),
+    // The third element of a list of pointers, after a struct without words.
+    (
+        &[&[
+            0x010000001e000000,
+            0,
+            0xfcffffff00000000,
+            0x0000000001000000,
+        ]],
+        &[Step::Item(2)],
+    ),
+    // The second pointer of the second of two structs, each of a word of data.
+    (
+        &[&[
+            0x0100000037000000,
+            0x0800000001000200,
+            5,
+            0,
+            0,
+            6,
+            0xfcffffff00000000,
+            0x0000000001000000,
+        ]],
+        &[Step::Item(1), Step::Ptr(1)],
+    ),
+    // A pad of zeros, below a list of structs.
+    (
+        &[&[
+            0x010000000f000000,
+            0x0400000000000100,
+            0x1a00000000000000,
+            0,
+        ]],
+        &[Step::Item(0), Step::Ptr(0)],
+    ),
+];
+
+// How many pointers were looked at up to the one that is named.
+fn pointers_of<M: Segments>(message: &M, limits: Limits) -> Result<u64, Fail> {
+    match vet_strict(message, limits) {
+        Err(StrictRefusal::Refused(refusal)) => Ok(refusal.pointers),
+        Err(StrictRefusal::Pointer { pointers, .. }) => Ok(pointers),
+        Err(StrictRefusal::ManySegments) | Ok(_) => Err("no pointer is named".into()),
+    }
+}
+
+#[test]
+fn paths_of_refusals(rt: HostRuntime) -> Result<(), Fail> {
+    let limits = Limits::new(100, 10).ok_or("no limits")?;
+    for (spelled, path) in &ROWS {
+        let message = message(rt.alloc(), *spelled)?;
+        let number = pointers_of(&message, limits)?;
+        let mut steps = [Step::Item(9); 4];
+        let count = path_of_pointer(&message, limits, number, &mut steps);
+        same_of(&rt, spelled, count, Some(path.len()));
+        assert!(&rt; steps.starts_with(*path));
+        same(&rt, steps.get(path.len()).copied(), Some(Step::Item(9)));
+    }
+    Ok(())
+}
+
+// A struct whose pointer leads to the struct again: the path has one step for each level.
+static CYCLE: [&[u64]; 1] = [&[0x0000000000000100, 0xfcffffff00000100]];
+
+#[test]
+fn the_longest_path(rt: HostRuntime) -> Result<(), Fail> {
+    let limits = Limits::new(1000, 256).ok_or("no limits")?;
+    let cycle = message(rt.alloc(), &CYCLE)?;
+    let number = pointers_of(&cycle, limits)?;
+    let mut steps = [Step::Item(9); 256];
+    let count = path_of_pointer(&cycle, limits, number, &mut steps);
+    same(&rt, count, Some(256));
+    assert!(&rt; steps.iter().all(|step| *step == Step::Ptr(0)));
+    let none = path_of_pointer(&cycle, limits, number.saturating_add(1), &mut steps);
+    same(&rt, none, None);
+    Ok(())
+}
