@@ -2,7 +2,7 @@
 
 # Puts the completions of the current argument into COMPREPLY.
 _capvet() {
-  local commands="segments vet filter dump get check canon pack unpack help"
+  local commands="segments vet explain filter dump get check canon pack unpack help"
   local current=${COMP_WORDS[COMP_CWORD]} previous=${COMP_WORDS[COMP_CWORD - 1]}
   local command="" options="" places=0 file_at=0 ended="" word at
   COMPREPLY=()
@@ -27,8 +27,8 @@ _capvet() {
   case $command in
     "") options="--help --version" ;;
     segments) options="--packed --size --help" ;;
-    vet) options="--packed --size --words --depth --strict --unamplified --exclusive --help" ;;
-    filter) options="--packed --size --words --depth --exclusive --allow-nonstrict --allow-amplified --pack --stop --help" ;;
+    vet | explain) options="--packed --size --words --depth --strict --unamplified --exclusive --help" ;;
+    filter) options="--packed --size --words --depth --exclusive --strict --unamplified --allow-nonstrict --allow-amplified --pack --stop --help" ;;
     dump | get | check | canon)
       options="--packed --size --words --depth --strict --unamplified --help"
       ;;

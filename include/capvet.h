@@ -12,7 +12,7 @@
  * CAPVET_OK means that `bytes` are one message and nothing else, and that a reader can follow every pointer
  * without leaving its segments or looping. A full traversal reads at most 4,096 words (CAPVET_SLACK) more
  * than its segments have. It says nothing about the schema. The program that reads the message still checks
- * the values.
+ * the values. The page docs/c.md has an example of each call.
  *
  * In a buffer of several messages set CAPVET_ALLOW_TRAILING, go on by report.length after each message,
  * refused ones too, and stop where it is 0.
@@ -23,8 +23,10 @@
  *   frames       capvet_frame, capvet_segment_at
  *   canonical    capvet_canonical, capvet_is_canonical
  *   read         capvet_get, capvet_get_range
+ *   explain      capvet_pointer_path
  *   packing      capvet_pack, capvet_unpack, capvet_pack_message, capvet_unpack_message
- *   other        capvet_answer_name, capvet_limits_default, capvet_version
+ *   bounds       capvet_marks_bound, capvet_frame_bound, capvet_canonical_bound, capvet_pack_bound
+ *   other        capvet_answer_name, capvet_limits_default, capvet_version, capvet_cpu_supported
  *
  * TERMS
  *
@@ -33,7 +35,8 @@
  *   - frame: a message as it is sent over a stream: a table of segment sizes, then the segments.
  *   - place: a segment number and a word in that segment, both counted from 0.
  *   - far: a pointer that goes through a landing pad of one or two words, mostly in another segment.
- *   - level: the nesting depth of an object. The root object has level 1.
+ *   - level: the nesting depth of an object. The root object has level 1. A pointer in an object leads
+ *     one level down. The structs of a list are one level below the list.
  *   - charge: the words that a full traversal reads, landing pads included. An object that two pointers reach
  *     counts twice. An element of no bits (Void, a struct without words) counts as one.
  *   - preorder: the order in which pointers are checked: each one before those it leads to.
@@ -57,7 +60,8 @@
  * one `const` buffer together. Writing it during a call is undefined behaviour: the answer means nothing, and
  * the process may be killed. So copy shared memory and mapped files first; then check and use the copy.
  *
- * Memory. Calls allocate nothing, use at most 24 KiB of stack, do not recurse, and leave errno alone.
+ * Memory. Calls allocate nothing, use at most 20 KiB of stack, do not recurse, and leave errno alone. If names are
+ * bound lazily, the first call of memcpy takes up to 3 KiB more in the dynamic linker.
  *
  * Failure. If a call does not return CAPVET_OK, output buffers are unchanged. capvet_vet_exclusive,
  * capvet_get_range and capvet_unpack_message have exceptions. Structs and numbers that are passed to be
@@ -66,7 +70,8 @@
  * Required size. Calls that fill a buffer have a parameter `required`. It is how much of the buffer the
  * result takes, in the units of the buffer's size or count. It is set on CAPVET_OK, where it is the length of
  * the result. It is set on CAPVET_BUFFER_TOO_SMALL, where nothing was written. So a call with (NULL, 0)
- * asks for the size. A CAPVET_..._BOUND macro gives a size that always suffices, without asking. For
+ * asks for the size; if the result is empty, it returns CAPVET_OK. A CAPVET_..._BOUND macro gives a size that
+ * suffices, without asking. With CAPVET_ALLOW_AMPLIFIED, CAPVET_CANONICAL_BOUND does not. For
  * capvet_unpack_message see there.
  *
  * Order. If more than one answer applies, the first of these is returned:
@@ -86,7 +91,9 @@
  * takes at most the words of the segments + CAPVET_SLACK + 1 steps, and with CAPVET_ALLOW_AMPLIFIED
  * limits->charge + 1. (Times are measured, not proved.)
  *
- * Machines. 64-bit only. The archive for x86-64 needs SSSE3, SSE4.1 and POPCNT (x86-64-v2). */
+ * Machines. 64-bit only. On x86-64 the library needs a processor of level x86-64-v2, which has SSSE3, SSE4.1
+ * and POPCNT among others. On an older one a call may end the process by SIGILL. Whether it does depends on the
+ * message, so call capvet_cpu_supported when a program starts. */
 #ifndef CAPVET_H
 #define CAPVET_H
 
@@ -124,16 +131,20 @@ typedef char capvet_needs_64_bits[sizeof(size_t) == 8 ? 1 : -1];
  * ------------------------------------------------------------------------------------------------------ */
 
 #define CAPVET_VERSION_MAJOR 1
-#define CAPVET_VERSION_MINOR 0
+#define CAPVET_VERSION_MINOR 1
 #define CAPVET_VERSION_PATCH 0
+
+/* The version of this header: the number that capvet_version returns for it, for `#if`, and a text. */
+#define CAPVET_VERSION (CAPVET_VERSION_MAJOR * 65536 + CAPVET_VERSION_MINOR * 256 + CAPVET_VERSION_PATCH)
+#define CAPVET_VERSION_STRING "1.1.0"
 
 /* capvet_version -- the version of the library: its major version * 65536 + its minor version * 256 + its
  * patch. The program and the bindings of the same release have the same version.
  *
  * A library is compatible if its major version is equal to this header's and its minor version is equal or
  * higher. Within a major version, numbers and structs keep their values and layout. Calls, answers and
- * flags may be added, and reserved fields may get a meaning. A report field of a later version is 0 from an
- * older library. */
+ * flags may be added, reserved fields may get a meaning, and report->detail may be set for more answers. A
+ * report field of a later version is 0 from an older library. */
 uint32_t capvet_version(void) CAPVET_NOEXCEPT;
 
 /* capvet_abi_1 -- does nothing. A library of another major version lacks it.
@@ -145,6 +156,27 @@ void capvet_abi_1(void) CAPVET_NOEXCEPT;
 #if defined(__GNUC__) && defined(CAPVET_LINK_CHECK)
 static void (*const capvet_link_check)(void) __attribute__((used)) = capvet_abi_1;
 #endif
+
+/* capvet_cpu_supported -- 1 if this processor has what the library needs, else 0.
+ *
+ * On x86-64 it asks the processor for each feature of x86-64-v2. On other processors it returns 1. It is compiled
+ * with the program, so it runs on every x86-64 processor. A program calls it once, before any other call. */
+CAPVET_INLINE int capvet_cpu_supported(void) CAPVET_NOEXCEPT {
+#if defined(__x86_64__) && defined(__GNUC__)
+  uint32_t eax = 1, ebx = 0, ecx = 0, edx = 0;
+  /* bits of ECX: SSE3 0, SSSE3 9, CMPXCHG16B 13, SSE4.1 19, SSE4.2 20, POPCNT 23 */
+  const uint32_t features = 1u | 1u << 9 | 1u << 13 | 1u << 19 | 1u << 20 | 1u << 23;
+  __asm__ volatile("cpuid" : "+a"(eax), "=b"(ebx), "+c"(ecx), "=d"(edx));
+  if ((ecx & features) != features) return 0;
+  /* LAHF and SAHF: bit 0 of ECX, in an extended leaf that every x86-64 processor has */
+  eax = 0x80000001u;
+  ecx = 0;
+  __asm__ volatile("cpuid" : "+a"(eax), "=b"(ebx), "+c"(ecx), "=d"(edx));
+  return (int)(ecx & 1u);
+#else
+  return 1;
+#endif
+}
 
 /* ------------------------------------------------------------------------------------------------------
  * Answers
@@ -194,7 +226,8 @@ typedef enum capvet_answer {
   CAPVET_COMPOSITE_OVERRUN = 42, /* the elements of a list of structs exceed the list's size */
   CAPVET_DEPTH_LIMIT = 43,       /* an object with a level above limits->depth */
   CAPVET_WORD_LIMIT = 44,        /* the charge exceeds limits->charge, or the words of the segments +
-                                    CAPVET_SLACK; pointers in a loop end here or at the depth limit */
+                                    CAPVET_SLACK; it is not reported which of the two; pointers in a loop
+                                    end here or at the depth limit */
 
   CAPVET_ANSWER_32_BITS = 0x7fffffff /* never returned; switches need a default */
 } capvet_answer;
@@ -298,7 +331,8 @@ void capvet_limits_default(capvet_limits *limits) CAPVET_NOEXCEPT;
  * capvet_frame, capvet_get, capvet_pack_message and capvet_unpack_message check no whole message, so they set
  * none.
  *
- * A library of a later minor version may set reserved fields: do not compare reports by memcmp. */
+ * A library of a later minor version may set reserved fields, and `detail` for more answers: do not compare
+ * reports by memcmp. */
 typedef struct capvet_report {
   uint64_t length;         /* bytes of the frame, table included, also of a refused message; 0 after the
                               answers 1 to 4, 8, 10 and 12: the next message of a buffer starts after them;
@@ -307,7 +341,7 @@ typedef struct capvet_report {
                               further: 8, then the bytes of the table, then those of the whole frame;
                               for other inputs see CAPVET_NO_TABLE, capvet_vet_segments and
                               capvet_unpack_message */
-  uint64_t detail;         /* the number that the answer's comment names */
+  uint64_t detail;         /* the number that the answer's comment names; reserved for the other answers */
   uint64_t charge;         /* a tree number */
   uint64_t pointers;       /* a tree number, null pointers included; answers with a place: how many pointers
                               were checked, the named one included (0 after CAPVET_NO_ROOT) */
@@ -375,8 +409,10 @@ capvet_answer capvet_vet_exclusive(const uint8_t *bytes, size_t length, const ca
                                    uint64_t *marks, size_t marks_count, size_t *required,
                                    capvet_report *report) CAPVET_NOEXCEPT;
 
-/* A `marks_count` that suffices for an input of this length in bytes. */
+/* A `marks_count` that suffices for an input of this length in bytes. The function is for languages without C
+ * macros. */
 #define CAPVET_MARKS_BOUND(length) ((length) / UINT64_C(512) + 1)
+size_t capvet_marks_bound(size_t length) CAPVET_NOEXCEPT;
 
 /* One segment of a message that is not framed. */
 typedef struct capvet_segment {
@@ -428,8 +464,10 @@ CAPVET_CALL((3, 4))
 capvet_answer capvet_frame(const uint8_t *bytes, size_t length, const capvet_limits *limits,
                            capvet_report *report) CAPVET_NOEXCEPT;
 
-/* The most bytes that a frame has whose segments have this many words. */
+/* The most bytes that a frame has whose segments have this many words. The function is for languages without C
+ * macros. Above CAPVET_MAX_MESSAGE_WORDS it returns the bound for that maximum. */
 #define CAPVET_FRAME_BOUND(message_words) ((message_words) * UINT64_C(8) + 2056)
+size_t capvet_frame_bound(uint64_t message_words) CAPVET_NOEXCEPT;
 
 /* capvet_segment_at -- where a segment is in the frame that a buffer starts with.
  *
@@ -463,15 +501,18 @@ capvet_answer capvet_segment_at(const uint8_t *bytes, size_t length, uint32_t in
  * An `out_size` of CAPVET_CANONICAL_BOUND(length) always suffices without CAPVET_ALLOW_AMPLIFIED, so one call
  * is enough.
  *
- * Cost: about three walks. Asking for the size first costs two more. */
+ * Cost: about three walks, and copying the words of the result. Asking for the size first costs two more
+ * walks. */
 CAPVET_CALL((3, 6, 7))
 capvet_answer capvet_canonical(const uint8_t *bytes, size_t length, const capvet_limits *limits,
                                uint8_t *out, size_t out_size, size_t *required,
                                capvet_report *report) CAPVET_NOEXCEPT;
 
 /* The most bytes of a canonical form, for an input of this length, without CAPVET_ALLOW_AMPLIFIED. With
- * that flag it is 8 * (report.charge + 1), and so at most 8 * (limits.charge + 1). */
+ * that flag it is 8 * (report.charge + 1), and so at most 8 * (limits.charge + 1). The function is for languages
+ * without C macros. It returns SIZE_MAX if the bound is greater. */
 #define CAPVET_CANONICAL_BOUND(length) ((length) + UINT64_C(8) * (CAPVET_SLACK + 1))
+size_t capvet_canonical_bound(size_t length) CAPVET_NOEXCEPT;
 
 /* capvet_is_canonical -- whether a message is its own canonical form.
  *
@@ -483,7 +524,8 @@ capvet_answer capvet_canonical(const uint8_t *bytes, size_t length, const capvet
  * all default lose their words in them and are still charged. With the same limits, and `message_words` at
  * least the words of these bytes, the answer is CAPVET_OK.
  *
- * Cost: two walks. */
+ * Cost: one walk that compares, at most about twice capvet_vet. Only if the message differs from its form and a
+ * far pointer of an unusual kind comes later, a second walk follows. */
 CAPVET_CALL((3, 4))
 capvet_answer capvet_is_canonical(const uint8_t *bytes, size_t length, const capvet_limits *limits,
                                   capvet_report *report) CAPVET_NOEXCEPT;
@@ -564,8 +606,9 @@ typedef struct capvet_step {
  * they are pointer 2 of each element. With `varying` 2 they are the pointers of element 0, from number 2 on.
  *
  * The message and the limits are as for capvet_get. The limits apply to each path by itself. Each node is
- * what capvet_get has for its path, and so is the answer for a path without a node. Numbers do not wrap: the
- * paths after UINT32_MAX lead to nothing, as do pointers from 65535 on.
+ * what capvet_get has for its path, and so is the answer for a path without a node. One answer differs: for a
+ * pointer's number above 65535 it is CAPVET_BAD_PATH there, and here that of pointer 65535, which no struct has.
+ * Numbers do not wrap: the paths after UINT32_MAX lead to nothing.
  *
  * Returns CAPVET_OK if all nodes were filled in. The limits, the steps and the frame are checked first, also
  * with node_count 0. After these the answer and the report are about the first path without a node.
@@ -582,6 +625,30 @@ CAPVET_CALL((3, 9, 10))
 capvet_answer capvet_get_range(const uint8_t *bytes, size_t length, const capvet_limits *limits,
                                const capvet_step *steps, size_t step_count, size_t varying, capvet_node *nodes,
                                size_t node_count, size_t *found, capvet_report *report) CAPVET_NOEXCEPT;
+
+/* capvet_pointer_path -- the path to a pointer by its number: which field a refusal is about.
+ *
+ *   bytes, length      the message
+ *   limits             as for capvet_vet
+ *   number             of the pointer in preorder; that of the root is 1
+ *   steps, step_count  where to write the steps: CAPVET_MAX_DEPTH of them always suffice
+ *   required           how many steps the path has; the root's has none
+ *
+ * If an answer of capvet_vet or capvet_vet_exclusive names a pointer, report->pointers is its number. With the same
+ * bytes and limits its path is found then. Written as for capvet_get, the path without its last step leads to the
+ * object that has the pointer.
+ *
+ * Returns CAPVET_NO_NODE if the message has no such pointer, or if a pointer before it cannot be followed or leads
+ * past limits->depth. Number 0 is none, and so is one above limits->charge + 1: no answer names it. Otherwise
+ * CAPVET_BUFFER_TOO_SMALL or CAPVET_OK. The pointer itself is not followed. CAPVET_ALLOW_NONSTRICT and
+ * CAPVET_ALLOW_AMPLIFIED have no effect. On CAPVET_OK the steps after the path are unchanged. The report has
+ * `length` and `segments`.
+ *
+ * Cost: one walk up to the pointer, so at most `number` steps. */
+CAPVET_CALL((3, 7, 8))
+capvet_answer capvet_pointer_path(const uint8_t *bytes, size_t length, const capvet_limits *limits, uint64_t number,
+                                  capvet_step *steps, size_t step_count, size_t *required,
+                                  capvet_report *report) CAPVET_NOEXCEPT;
 
 /* ------------------------------------------------------------------------------------------------------
  * Packing
@@ -601,8 +668,10 @@ CAPVET_CALL((5))
 capvet_answer capvet_pack(const uint8_t *bytes, size_t length, uint8_t *out, size_t out_size,
                           size_t *required) CAPVET_NOEXCEPT;
 
-/* The most bytes that packing this many bytes gives. */
+/* The most bytes that packing this many bytes gives. The function is for languages without C macros. It returns
+ * SIZE_MAX if the bound is greater. */
 #define CAPVET_PACK_BOUND(length) ((length) / UINT64_C(8) * 10)
+size_t capvet_pack_bound(size_t length) CAPVET_NOEXCEPT;
 
 /* capvet_unpack -- unpacks packed words, all of them.
  *
@@ -658,7 +727,8 @@ typedef struct capvet_unpacking {
  *   out, out_size  the buffer for the message. Earlier calls wrote its first state->written bytes.
  *   state          all zero at first, then as the last call left it
  *   consumed       set to how many of `bytes` are done with. Drop them before the next call.
- *   required       on CAPVET_OK the length of the frame, on CAPVET_BUFFER_TOO_SMALL the size of `out`, else 0
+ *   required       on CAPVET_OK the length of the frame; on CAPVET_BUFFER_TOO_SMALL the size that `out` needs
+ *                  to go on; else 0
  *
  * Appends words to `out` up to the end of the frame, never further. A run of words may go on into the next
  * message: `state` keeps the rest of it. Every packed stream is read, however it was cut into groups. Words
@@ -670,6 +740,7 @@ typedef struct capvet_unpacking {
  *   - CAPVET_OK: `out` starts with the frame, of report->length bytes. Vet it. Call again before you receive
  *     more, since `state` and the rest of `bytes` may hold whole messages.
  *   - CAPVET_NO_MESSAGE: no input, and nothing is pending. `length`, state->written and both rests are 0.
+ *     report->input_required is 1.
  *   - CAPVET_TRUNCATED: receive more, so that the next input has report->input_required bytes at least (at
  *     most 10). If the connection has ended, the message is cut.
  *   - CAPVET_BUFFER_TOO_SMALL: the next word is there, and `out` has no space for it. Call again with a buffer
