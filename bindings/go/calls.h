@@ -1,5 +1,5 @@
 /* The calls of capvet.h in the form that cgo passes best. Structs are passed and returned by value, so Go
- * allocates none of them. A Go string is passed as it is. */
+ * allocates none of them. */
 #ifndef CAPVET_GO_CALLS_H
 #define CAPVET_GO_CALLS_H
 
@@ -17,6 +17,27 @@ static inline capvet_go_result capvet_go_vet(const uint8_t *bytes, size_t length
   capvet_go_result result = {0};
   result.answer = capvet_vet(bytes, length, &limits, &result.report);
   return result;
+}
+
+/* What a call for all messages of a buffer answers: how many are accepted, the bytes of their frames, and the result of
+ * the next one. */
+typedef struct capvet_go_frames {
+  capvet_go_result result;
+  size_t count;
+  size_t length;
+} capvet_go_frames;
+
+static inline capvet_go_frames capvet_go_vet_all(const uint8_t *bytes, size_t length, capvet_limits limits) {
+  capvet_go_frames frames = {0};
+  for (;;) {
+    const uint8_t *rest = length == 0 ? bytes : bytes + frames.length;
+    frames.result.answer = capvet_vet(rest, length - frames.length, &limits, &frames.result.report);
+    if (frames.result.answer != CAPVET_OK) {
+      return frames;
+    }
+    frames.count++;
+    frames.length += frames.result.report.length;
+  }
 }
 
 static inline capvet_go_result capvet_go_vet_exclusive(const uint8_t *bytes, size_t length, capvet_limits limits,
@@ -105,6 +126,13 @@ static inline capvet_go_counted capvet_go_get_range(const uint8_t *bytes, size_t
   counted.result.answer = capvet_get_range(bytes, length, &limits, steps, step_count, varying, nodes, node_count,
                                            &counted.found, &counted.result.report);
   return counted;
+}
+
+static inline capvet_go_result capvet_go_pointer_path(const uint8_t *bytes, size_t length, capvet_limits limits,
+                                                      uint64_t number, capvet_step *steps, size_t step_count) {
+  capvet_go_result result = {0};
+  result.answer = capvet_pointer_path(bytes, length, &limits, number, steps, step_count, &result.required, &result.report);
+  return result;
 }
 
 /* What a call for a message of a packed stream answers, and the state after it. */

@@ -9,7 +9,7 @@ import (
 	"sync"
 	"testing"
 
-	"capvet"
+	"capvet.invalid/capvet"
 )
 
 // capability is one segment of one word, which is the capability 5.
@@ -106,23 +106,71 @@ func TestErrorsAreTakenApart(t *testing.T) {
 		t.Error(err)
 	}
 	for text, err := range map[string]error{
-		"NoMessage":                        &capvet.FrameError{Reason: capvet.NoMessage, Required: 8},
-		"TooLarge 7":                       &capvet.FrameError{Reason: capvet.TooLarge, Detail: 7},
-		"Truncated":                        &capvet.FrameError{Reason: capvet.Truncated},
-		"Truncated, 16 bytes are required": &capvet.FrameError{Reason: capvet.Truncated, Required: 16},
-		"refused Overlap at 1:2 pointers 3": &capvet.Refusal{Reason: capvet.Overlap,
+		"capvet: NoMessage: at least 8 bytes are required": &capvet.FrameError{Reason: capvet.NoMessage, Required: 8},
+		"capvet: TooManySegments: 513 segments, at most 512 are allowed": &capvet.FrameError{
+			Reason: capvet.TooManySegments, Detail: 513},
+		"capvet: TooLarge: 7 words are above the limit":     &capvet.FrameError{Reason: capvet.TooLarge, Detail: 7},
+		"capvet: Truncated: the packed bytes are cut":       &capvet.FrameError{Reason: capvet.Truncated},
+		"capvet: Truncated: at least 16 bytes are required": &capvet.FrameError{Reason: capvet.Truncated, Required: 16},
+		"capvet: Trailing: 1 bytes after a message of 16 bytes": &capvet.FrameError{
+			Reason: capvet.Trailing, Detail: 1, Length: 16},
+		"capvet: Unknown": &capvet.FrameError{Reason: 99},
+		"capvet: refused Overlap at 1:2 pointers 3": &capvet.Refusal{Reason: capvet.Overlap,
 			Position: capvet.Position{Segment: 1, Word: 2}, Pointers: 3},
-		"refused Unknown at 0:0 pointers 0": &capvet.Refusal{Reason: 99},
-		"HasCapability at 0:0":              &capvet.CapabilityError{},
-		"bad path at 3":                     &capvet.PathError{Path: "/p0x", Offset: 3},
+		"capvet: refused Unknown at 0:0 pointers 0": &capvet.Refusal{Reason: 99},
+		"capvet: HasCapability at 0:0":              &capvet.CapabilityError{},
+		`capvet: bad path "/p0x" at byte 3`:         &capvet.PathError{Path: "/p0x", Offset: 3},
+		"capvet: BadLimits: MessageWords is 268435457, at most 268435456 are allowed": &capvet.LimitsError{
+			Limits: capvet.Limits{MessageWords: 1<<28 + 1}},
+		"capvet: BadLimits: Charge is 268435457, at most 268435456 are allowed": &capvet.LimitsError{
+			Limits: capvet.Limits{Charge: 1<<28 + 1}},
+		"capvet: BadLimits: Depth is 257, at most 256 are allowed": &capvet.LimitsError{Limits: capvet.Limits{Depth: 257}},
+		"capvet: BadLimits: NoTable and AllowTrailing are both set": &capvet.LimitsError{
+			Limits: capvet.Limits{NoTable: true, AllowTrailing: true}},
+		"capvet: BadLimits: NoTable is set for a function that needs a table": &capvet.LimitsError{
+			Limits: capvet.Limits{NoTable: true}},
 	} {
 		if err.Error() != text {
 			t.Errorf("wanted %q, got %q", text, err)
 		}
 	}
-	if text := (&capvet.LimitsError{Limits: capvet.Limits{Depth: 257}}).Error(); !strings.Contains(text, "Depth:257") {
+	if text := (&capvet.LimitsError{}).Error(); !strings.HasPrefix(text, "capvet: BadLimits: {MessageWords:0 ") {
 		t.Error(text)
 	}
+}
+
+// VetAll accepts what Vet accepts, message by message, and ends with its error.
+func TestVetAll(t *testing.T) {
+	contacts, shared := sample("contacts.bin"), sample("shared.bin")
+	accepted := join(contacts, shared, null, sample("contacts-many-segments.bin"), null)
+	for _, rest := range [][]byte{nil, cycle, nullPad, amplified, null[:1], contacts[:3000], many(512), many(513)} {
+		for _, l := range []capvet.Limits{{}, {AllowTrailing: true}, {AllowNonstrict: true, AllowAmplified: true}, {MessageWords: 2}} {
+			b := join(accepted, rest, null)
+			if len(rest) > 0 && len(rest)%8 != 0 || len(rest) == 3000 {
+				b = b[:len(accepted)+len(rest)]
+			}
+			count, length, err := capvet.VetAll(b, l)
+			l.AllowTrailing = true
+			wantedCount, wantedLength, wanted := 0, 0, error(nil)
+			for wantedLength < len(b) {
+				var report capvet.Report
+				if report, wanted = capvet.Vet(b[wantedLength:], l); wanted != nil {
+					break
+				}
+				wantedCount, wantedLength = wantedCount+1, wantedLength+report.Length
+			}
+			same(t, "VetAll", wanted, err)
+			if count != wantedCount || length != wantedLength {
+				t.Errorf("wanted %d of %d bytes, got %d of %d", wantedCount, wantedLength, count, length)
+			}
+		}
+	}
+	count, length, err := capvet.VetAll(nil, capvet.Limits{})
+	if count != 0 || length != 0 || err != nil {
+		t.Error(count, length, err)
+	}
+	_, _, err = capvet.VetAll(null, capvet.Limits{NoTable: true})
+	same(t, "no table", &capvet.LimitsError{Limits: capvet.Limits{NoTable: true, AllowTrailing: true}}, err)
 }
 
 func TestCapabilities(t *testing.T) {
@@ -268,6 +316,9 @@ func TestVetAllocatesNothing(t *testing.T) {
 	allocated := testing.AllocsPerRun(100, func() {
 		if _, err := capvet.Vet(contacts, capvet.Limits{}); err != nil {
 			t.Error(err)
+		}
+		if count, _, err := capvet.VetAll(contacts, capvet.Limits{}); count != 1 || err != nil {
+			t.Error(count, err)
 		}
 	})
 	if allocated != 0 {

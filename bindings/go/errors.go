@@ -59,14 +59,26 @@ type FrameError struct {
 	Length   int    // Trailing: bytes of the frame
 }
 
+// Error returns a text such as "capvet: Trailing: 8 bytes after a message of 16 bytes".
 func (e *FrameError) Error() string {
+	return fmt.Sprintf("capvet: %v%s", e.Reason, e.amounts())
+}
+
+// amounts returns what Error adds to the name of the reason, if there is anything to add.
+func (e *FrameError) amounts() string {
 	switch {
-	case e.Detail > 0:
-		return fmt.Sprintf("%v %d", e.Reason, e.Detail)
-	case e.Reason == Truncated && e.Required > 0:
-		return fmt.Sprintf("%v, %d bytes are required", e.Reason, e.Required)
+	case e.Reason == TooManySegments:
+		return fmt.Sprintf(": %d segments, at most %d are allowed", e.Detail, C.CAPVET_MAX_SEGMENTS)
+	case e.Reason == TooLarge:
+		return fmt.Sprintf(": %d words are above the limit", e.Detail)
+	case e.Reason == Trailing:
+		return fmt.Sprintf(": %d bytes after a message of %d bytes", e.Detail, e.Length)
+	case e.Required > 0:
+		return fmt.Sprintf(": at least %d bytes are required", e.Required)
+	case e.Reason == Truncated:
+		return ": the packed bytes are cut"
 	}
-	return e.Reason.String()
+	return ""
 }
 
 // Is reports whether target is io.EOF or io.ErrUnexpectedEOF and says the same as e.
@@ -83,8 +95,13 @@ type Refusal struct {
 	Length   int      // bytes of the frame: the next message of a buffer starts after them
 }
 
-// Error returns the line that the program capvet prints after "message N: ".
+// Error returns the line with the name of the package before it.
 func (e *Refusal) Error() string {
+	return "capvet: " + e.Line()
+}
+
+// Line returns what the program capvet prints after "message N: ", such as "refused DepthLimit at 0:7 pointers 3".
+func (e *Refusal) Line() string {
 	return fmt.Sprintf("refused %v at %v pointers %d", e.Reason, e.Position, e.Pointers)
 }
 
@@ -93,8 +110,9 @@ type CapabilityError struct {
 	Report Report
 }
 
+// Error names the place of the first capability.
 func (e *CapabilityError) Error() string {
-	return fmt.Sprintf("HasCapability at %v", e.Report.FirstCapability)
+	return fmt.Sprintf("capvet: HasCapability at %v", e.Report.FirstCapability)
 }
 
 // PathError says that a text is not a path.
@@ -103,8 +121,9 @@ type PathError struct {
 	Offset int // the byte at which it stops being one
 }
 
+// Error returns a text such as `capvet: bad path "/x7" at byte 1`.
 func (e *PathError) Error() string {
-	return fmt.Sprintf("bad path at %d", e.Offset)
+	return fmt.Sprintf("capvet: bad path %q at byte %d", e.Path, e.Offset)
 }
 
 // LimitsError says that a number of Limits is above its maximum, or that Limits.NoTable is set together with
@@ -113,8 +132,9 @@ type LimitsError struct {
 	Limits Limits
 }
 
+// Error names the field that is not valid.
 func (e *LimitsError) Error() string {
-	return fmt.Sprintf("BadLimits %+v", e.Limits)
+	return "capvet: BadLimits: " + e.Limits.culprit()
 }
 
 // errorOf returns the error of an answer other than that of an accepted message.

@@ -8,8 +8,9 @@ import (
 	"io"
 	"log"
 	"os"
+	"strings"
 
-	"capvet"
+	"capvet.invalid/capvet"
 )
 
 // null is one segment of one word, which is the null pointer.
@@ -25,6 +26,20 @@ func sample(name string) []byte {
 		log.Fatal(err)
 	}
 	return b
+}
+
+func ExampleVersion() {
+	major, _, _ := strings.Cut(capvet.Version(), ".")
+	fmt.Println("version", major)
+	// Output: version 1
+}
+
+func ExampleCPUSupported() {
+	if !capvet.CPUSupported() {
+		log.Fatal("the processor is too old for capvet")
+	}
+	fmt.Println("supported")
+	// Output: supported
 }
 
 func ExampleVet() {
@@ -43,7 +58,7 @@ func ExampleVet() {
 	// Output:
 	// accepted, charge 391
 	// refused DepthLimit at 0:0
-	// Truncated, 16 bytes are required
+	// capvet: Truncated: at least 16 bytes are required
 }
 
 // The messages of a buffer, one after the other.
@@ -64,10 +79,21 @@ func ExampleVet_buffer() {
 	// accepted charge 78 depth 7 pointers 21 caps 0
 }
 
+// The same by one call of the library. The error is that of the message after the last accepted one.
+func ExampleVetAll() {
+	b := append(append(sample("stream-of-four.bin"), cycle...), null...)
+	count, length, err := capvet.VetAll(b, capvet.Limits{})
+	fmt.Println(count, "messages of", length, "bytes")
+	fmt.Println(err)
+	// Output:
+	// 4 messages of 4472 bytes
+	// capvet: refused DepthLimit at 0:0 pointers 65
+}
+
 func ExampleVetExclusive() {
 	_, err := capvet.VetExclusive(sample("shared.bin"), capvet.Limits{})
 	fmt.Println(err)
-	// Output: refused Overlap at 0:2 pointers 3
+	// Output: capvet: refused Overlap at 0:2 pointers 3
 }
 
 func ExampleAppendCanonical() {
@@ -137,7 +163,7 @@ func ExampleGet() {
 	// Output:
 	// fjord zephyr amber
 	// false <nil>
-	// bad path at 1
+	// capvet: bad path "/x7" at byte 1
 }
 
 // Pointer 0 of each element of a list of structs is a text. A null pointer is an empty text.
@@ -164,7 +190,7 @@ func ExampleGetRange() {
 	// 4 Values "señal salt"
 	// 5 Null ""
 	// 6 Values "lantern thicket 北京 zephyr"
-	// bad path at 6
+	// capvet: bad path "/p0/i0" at byte 6
 }
 
 func ExampleAppendPacked() {
@@ -177,7 +203,7 @@ func ExampleAppendPacked() {
 	// Output:
 	// 10010000
 	// true <nil>
-	// TooLarge 2
+	// capvet: TooLarge: 2 words are above the limit
 }
 
 func ExampleAppendPackedMessage() {
@@ -191,19 +217,19 @@ func ExampleScanner() {
 	s := capvet.NewScanner(stream, capvet.Limits{})
 	for s.Scan() {
 		if refusal := s.Refusal(); refusal != nil {
-			fmt.Printf("message %d: %v\n", s.Number(), refusal)
+			fmt.Printf("message %d at byte %d: %s\n", s.Number(), s.Offset(), refusal.Line())
 			continue
 		}
-		fmt.Printf("message %d: %d bytes\n", s.Number(), len(s.Bytes()))
+		fmt.Printf("message %d at byte %d: %d bytes\n", s.Number(), s.Offset(), len(s.Bytes()))
 	}
 	if err := s.Err(); err != nil {
-		fmt.Printf("message %d: %v\n", s.Number(), err)
+		fmt.Printf("message %d at byte %d: %v\n", s.Number(), s.Offset(), err)
 		fmt.Println("the stream is cut:", errors.Is(err, io.ErrUnexpectedEOF))
 	}
 	// Output:
-	// message 0: 16 bytes
-	// message 1: refused DepthLimit at 0:0 pointers 65
-	// message 2: Truncated, 16 bytes are required
+	// message 0 at byte 0: 16 bytes
+	// message 1 at byte 16: refused DepthLimit at 0:0 pointers 65
+	// message 2 at byte 32: capvet: Truncated: at least 16 bytes are required
 	// the stream is cut: true
 }
 

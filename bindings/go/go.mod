@@ -1,3 +1,3 @@
-module capvet
+module capvet.invalid/capvet
 
 go 1.19

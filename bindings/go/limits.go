@@ -3,6 +3,8 @@ package capvet
 // #include "calls.h"
 import "C"
 
+import "fmt"
+
 // Limits say what a function accepts. A number that is 0 means its default, so Limits{} are the default limits.
 // Each Allow field accepts something that is refused without it.
 type Limits struct {
@@ -41,4 +43,23 @@ func (l Limits) raw() C.capvet_limits {
 		raw.flags |= C.CAPVET_NO_TABLE
 	}
 	return raw
+}
+
+// culprit says which field a function does not accept.
+func (l Limits) culprit() string {
+	const above = "%s is %d, at most %d are allowed"
+	switch {
+	case l.MessageWords > C.CAPVET_MAX_MESSAGE_WORDS:
+		return fmt.Sprintf(above, "MessageWords", l.MessageWords, uint64(C.CAPVET_MAX_MESSAGE_WORDS))
+	case l.Charge > C.CAPVET_MAX_CHARGE:
+		return fmt.Sprintf(above, "Charge", l.Charge, uint64(C.CAPVET_MAX_CHARGE))
+	case l.Depth > C.CAPVET_MAX_DEPTH:
+		return fmt.Sprintf(above, "Depth", l.Depth, C.CAPVET_MAX_DEPTH)
+	case l.NoTable && l.AllowTrailing:
+		return "NoTable and AllowTrailing are both set"
+	case l.NoTable:
+		return "NoTable is set for a function that needs a table"
+	}
+	// (a later library may refuse more)
+	return fmt.Sprintf("%+v", l)
 }

@@ -9,7 +9,7 @@ import (
 	"strings"
 	"testing"
 
-	"capvet"
+	"capvet.invalid/capvet"
 )
 
 // gap is a list of three pointers: to a struct of a null pointer, null, and to a struct whose pointer is out of bounds.

@@ -12,7 +12,7 @@ import (
 	"testing"
 	"testing/iotest"
 
-	"capvet"
+	"capvet.invalid/capvet"
 )
 
 // The program to compare with, how many changed messages there are, and the distance of two cuts of a stream.
@@ -71,13 +71,13 @@ func scanned(s *capvet.Scanner, length int) (text, said string, status int) {
 	for s.Scan() {
 		line := s.Report().String()
 		if refusal := s.Refusal(); refusal != nil {
-			line, status = refusal.Error(), 1
+			line, status = refusal.Line(), 1
 		}
 		fmt.Fprintf(&all, "message %d: %s\n", s.Number(), line)
 	}
 	var frame *capvet.FrameError
 	if errors.As(s.Err(), &frame) {
-		fault := frame.Error()
+		fault := fmt.Sprintf("%v %d", frame.Reason, frame.Detail)
 		if frame.Reason == capvet.Truncated {
 			fault = fmt.Sprintf("Truncated at byte %d", length)
 		}
@@ -191,7 +191,7 @@ func TestCanonicalAsTheProgram(t *testing.T) {
 			line := map[bool]string{false: "not canonical", true: "canonical"}[is]
 			var refusal *capvet.Refusal
 			if errors.As(err, &refusal) {
-				line = refusal.Error()
+				line = refusal.Line()
 			}
 			if len(b) > 0 {
 				line = "message 0: " + line + "\n"
@@ -293,7 +293,11 @@ func TestTreesAsTheProgram(t *testing.T) {
 	for number, b := range messages {
 		report, err := capvet.Vet(b, limits)
 		if err != nil {
-			fmt.Fprintf(&all, "message %d: %v\n", number, err)
+			var refusal *capvet.Refusal
+			if !errors.As(err, &refusal) {
+				t.Fatal(err)
+			}
+			fmt.Fprintf(&all, "message %d: %s\n", number, refusal.Line())
 			continue
 		}
 		fmt.Fprintf(&all, "message %d: %v\n", number, report)

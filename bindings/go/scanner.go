@@ -6,10 +6,12 @@ import "C"
 import (
 	"errors"
 	"io"
+	"sync"
 )
 
 const (
-	// step is how many bytes a Scanner reads ahead of a packed stream, and how many it allocates at first for a message.
+	// step is how many bytes a Scanner reads ahead of a packed stream, how many it allocates at first for a message, and
+	// the largest buffer that it keeps between two messages.
 	step = 64 << 10
 	// emptyReads is how often a reader may return neither bytes nor an error.
 	emptyReads = 100
@@ -20,7 +22,7 @@ const (
 //	s := capvet.NewScanner(conn, capvet.Limits{})
 //	for s.Scan() {
 //		if refusal := s.Refusal(); refusal != nil {
-//			log.Printf("message %d: %v", s.Number(), refusal)
+//			log.Printf("message %d at byte %d: %v", s.Number(), s.Offset(), refusal)
 //			continue
 //		}
 //		handle(s.Bytes())
@@ -29,23 +31,30 @@ const (
 //		return err
 //	}
 //
-// A refused message does not end the scan: its frame says where the next one starts. A Scanner holds one message, whose
-// size Limits.MessageWords bounds. Its buffer grows as bytes arrive, not by what a table claims. It reads exactly the
-// bytes of each frame; a packed stream is read ahead by at most 64 KiB.
+// A refused message does not end the scan: its frame says where the next one starts. Scan returns a message as soon as
+// its bytes have come, whatever comes after them. An error of the reader ends the scan.
+//
+// A Scanner holds one message, whose size Limits.MessageWords bounds. Its buffer grows as bytes arrive, not by what a table
+// claims. While it waits for the next message, the garbage collector may free a buffer of more than 64 KiB. A Scanner
+// reads exactly the bytes of each frame; a packed stream is read ahead by at most 64 KiB.
 type Scanner struct {
 	reader io.Reader
 	limits Limits
 	check  func([]byte, Limits) (Report, error)
 	next   func(*Scanner) error
 
-	buffer  []byte // the message so far
-	readErr error  // what the reader returned together with its last bytes
+	change  func(bytes int) bool // says whether the buffer may grow
+	buffer  []byte               // the message so far
+	large   sync.Pool            // a buffer of more than step bytes, between two messages
+	readErr error                // what the reader returned together with its last bytes
 
 	packed []byte             // a packed stream: what was read and is not unpacked
 	ahead  []byte             // the buffer of packed
 	state  C.capvet_unpacking // how far the message is unpacked
 
 	number  int
+	offset  int64 // where the message starts
+	taken   int64 // the bytes of the stream that messages have, the part of the last one included
 	report  Report
 	refusal *Refusal
 	err     error
@@ -67,13 +76,27 @@ func (s *Scanner) Exclusive() {
 	s.check = VetExclusive
 }
 
+// ErrNoSpace is the error of a scan whose buffer was not allowed to grow: see Bound.
+var ErrNoSpace = errors.New("capvet: the buffer of the message may not grow")
+
+// Bound makes the Scanner ask before its buffer grows. change is called with the bytes that are to be added; if it returns
+// false, the scan ends with ErrNoSpace. It is also called, with a negative number, for bytes that are no longer used. So many
+// scanners can share a bound. The 64 KiB that a packed stream is read ahead are not a part of it. Call Bound before Scan.
+//
+// A scan that has ended uses no bytes. If you stop earlier, the bytes that were added and not taken away are those in use.
+func (s *Scanner) Bound(change func(bytes int) bool) {
+	s.change = change
+}
+
 // Scan reads and checks the next message. It returns false at the end of the stream or at an error of Err.
 func (s *Scanner) Scan() bool {
 	if s.err != nil {
 		return false
 	}
 	s.number++
-	s.buffer, s.report, s.refusal = s.buffer[:0], Report{}, nil
+	s.offset = s.taken
+	s.release()
+	s.report, s.refusal = Report{}, nil
 	if s.err = s.next(s); s.err == nil {
 		s.report, s.err = s.check(s.buffer, s.limits)
 		if errors.As(s.err, &s.refusal) {
@@ -81,7 +104,7 @@ func (s *Scanner) Scan() bool {
 		}
 	}
 	if s.err != nil {
-		s.buffer = s.buffer[:0]
+		s.replace(nil)
 	}
 	return s.err == nil
 }
@@ -89,6 +112,18 @@ func (s *Scanner) Scan() bool {
 // Number returns the number of the message, from 0. After the scan it is how many messages there were.
 func (s *Scanner) Number() int {
 	return s.number
+}
+
+// Offset returns where the message starts: how many bytes of the stream come before it, packed bytes of a packed stream.
+// After the scan it is where the message starts that was not whole or not within the limits, or the length of the stream.
+func (s *Scanner) Offset() int64 {
+	return s.offset
+}
+
+// Inside reports whether a part of the next message has come. A reader may call it from Read, and then wait less long for
+// the rest of a message than for the first byte of one.
+func (s *Scanner) Inside() bool {
+	return len(s.buffer) > 0 || len(s.packed) > 0 || s.state != C.capvet_unpacking{}
 }
 
 // Bytes returns the message as a plain frame, or nil if it was refused. The next call of Scan overwrites it.
@@ -140,10 +175,29 @@ func (s *Scanner) read(b []byte) (int, error) {
 	return 0, s.readErr
 }
 
-// reserve gives the buffer a capacity above its length, at most n, that grows with the bytes that are there.
-func (s *Scanner) reserve(n int) {
+// release empties the buffer. A large one is kept only as long as the garbage collector lets it.
+func (s *Scanner) release() {
+	if cap(s.buffer) > step {
+		large := s.buffer[:0]
+		s.large.Put(&large)
+		s.replace(nil)
+	}
+	s.buffer = s.buffer[:0]
+}
+
+// replace puts another buffer in place of this one, which may have been allowed.
+func (s *Scanner) replace(buffer []byte) {
+	if s.change != nil && cap(s.buffer) > 0 {
+		s.change(-cap(s.buffer))
+	}
+	s.buffer = buffer
+}
+
+// reserve gives the buffer a capacity above its length that grows with the bytes that are there. A new buffer has at most
+// n bytes.
+func (s *Scanner) reserve(n int) error {
 	if len(s.buffer) < cap(s.buffer) {
-		return
+		return nil
 	}
 	size := 2 * len(s.buffer)
 	if size < step {
@@ -152,7 +206,20 @@ func (s *Scanner) reserve(n int) {
 	if size > n {
 		size = n
 	}
-	s.buffer = append(make([]byte, 0, size), s.buffer...)
+	var buffer []byte
+	if n > step {
+		if large, ok := s.large.Get().(*[]byte); ok && cap(*large) > len(s.buffer) {
+			buffer, size = *large, cap(*large)
+		}
+	}
+	if s.change != nil && !s.change(size) {
+		return ErrNoSpace
+	}
+	if buffer == nil {
+		buffer = make([]byte, 0, size)
+	}
+	s.replace(append(buffer, s.buffer...))
+	return nil
 }
 
 // readFrame reads the frame of the next message into the buffer. The error is io.EOF between two messages.
@@ -164,7 +231,9 @@ func (s *Scanner) readFrame() error {
 			return err
 		}
 		for required := int(frame.Required); len(s.buffer) < required; {
-			s.reserve(required)
+			if err := s.reserve(required); err != nil {
+				return err
+			}
 			end := cap(s.buffer)
 			if end > required {
 				end = required
@@ -177,6 +246,7 @@ func (s *Scanner) readFrame() error {
 				return err
 			}
 			s.buffer = s.buffer[:len(s.buffer)+n]
+			s.taken += int64(n)
 		}
 	}
 }
@@ -187,13 +257,16 @@ func (s *Scanner) unpackFrame() error {
 		out, size := spare(s.buffer[:0])
 		u := C.capvet_go_unpack_message(pointer(s.packed), C.size_t(len(s.packed)), s.limits.raw(), out, size, s.state)
 		s.packed, s.state = s.packed[u.consumed:], u.state
+		s.taken += int64(u.consumed)
 		s.buffer = s.buffer[:s.state.written]
 		switch u.result.answer {
 		case C.CAPVET_OK:
 			s.buffer = s.buffer[:u.result.report.length]
 			return nil
 		case C.CAPVET_BUFFER_TOO_SMALL:
-			s.reserve(int(u.result.required))
+			if err := s.reserve(int(u.result.required)); err != nil {
+				return err
+			}
 		case C.CAPVET_NO_MESSAGE, C.CAPVET_TRUNCATED:
 			n := copy(s.ahead, s.packed)
 			more, err := s.read(s.ahead[n:])

@@ -5,20 +5,32 @@ import (
 	"errors"
 	"io"
 	"net"
+	"runtime"
+	"runtime/debug"
 	"strings"
 	"testing"
 	"testing/iotest"
 	"time"
 
-	"capvet"
+	"capvet.invalid/capvet"
 )
+
+// forms are the scanners, each with what makes the bytes of a message for it.
+var forms = []struct {
+	name    string
+	scanner func(io.Reader, capvet.Limits) *capvet.Scanner
+	encode  func(message []byte) []byte
+}{
+	{"plain", capvet.NewScanner, func(message []byte) []byte { return message }},
+	{"packed", capvet.NewPackedScanner, func(message []byte) []byte { return capvet.AppendPacked(nil, message) }},
+}
 
 // scan returns the frames and refusals of a stream, a line for each, and how the scan ended.
 func scan(s *capvet.Scanner) (lines string, err error) {
 	var all strings.Builder
 	for s.Scan() {
 		if refusal := s.Refusal(); refusal != nil {
-			all.WriteString(refusal.Error() + "\n")
+			all.WriteString(refusal.Line() + "\n")
 			continue
 		}
 		all.WriteString(s.Report().String() + "\n")
@@ -122,6 +134,163 @@ func TestScannersGrow(t *testing.T) {
 	}
 }
 
+// heap returns the bytes that are in use after all that can be freed is freed. (A pool is emptied by two cycles.)
+func heap() uint64 {
+	for i := 0; i < 3; i++ {
+		runtime.GC()
+	}
+	var memory runtime.MemStats
+	runtime.ReadMemStats(&memory)
+	return memory.HeapAlloc
+}
+
+// A scanner that waits for its next message doesn't hold the buffer of a large one.
+func TestIdleScannersAreSmall(t *testing.T) {
+	message := large(2 << 20)
+	for _, form := range forms {
+		r, w := io.Pipe()
+		before, s := heap(), form.scanner(r, capvet.Limits{})
+		go w.Write(form.encode(message))
+		if !s.Scan() || !bytes.Equal(s.Bytes(), message) {
+			t.Fatal(s.Err())
+		}
+		if used := int64(heap() - before); used < int64(len(message)) {
+			t.Errorf("%s: %d bytes are in use for a message of %d", form.name, used, len(message))
+		}
+		ended := make(chan bool)
+		go func() { ended <- s.Scan() }()
+		time.Sleep(50 * time.Millisecond)
+		if used := int64(heap() - before); used > 1<<20 {
+			t.Errorf("%s: %d bytes are in use by an idle scanner", form.name, used)
+		}
+		w.Close()
+		if <-ended {
+			t.Error("a message after the end")
+		}
+	}
+}
+
+// Large messages one after the other share a buffer, unless the garbage collector runs between them.
+func TestScannersKeepTheirBuffer(t *testing.T) {
+	defer debug.SetGCPercent(debug.SetGCPercent(-1))
+	// (each processor has a part of a pool that the others don't take from)
+	defer runtime.GOMAXPROCS(runtime.GOMAXPROCS(1))
+	message, count := large(1<<18), 40
+	for _, form := range forms {
+		stream := bytes.Repeat(form.encode(message), count)
+		var before, after runtime.MemStats
+		runtime.ReadMemStats(&before)
+		s := form.scanner(bytes.NewReader(stream), capvet.Limits{})
+		for s.Scan() {
+		}
+		runtime.ReadMemStats(&after)
+		// (without a pool it would be twice as much; the race detector lets a pool lose a part of what it gets)
+		if allocated := int(after.TotalAlloc - before.TotalAlloc); s.Number() != count || allocated > count*len(message)*3/2 {
+			t.Errorf("%s: %d bytes are allocated for %d messages, %v", form.name, allocated, s.Number(), s.Err())
+		}
+	}
+}
+
+// A message is where the bytes before it end, refused and cut ones too.
+func TestOffsets(t *testing.T) {
+	messages := [][]byte{sample("contacts.bin"), cycle, null, large(30000), many(512), nullPad, null}
+	for _, form := range forms {
+		var stream []byte
+		var starts []int64
+		for _, message := range messages {
+			starts = append(starts, int64(len(stream)))
+			stream = append(stream, form.encode(message)...)
+		}
+		ends := append(starts[1:len(starts):len(starts)], int64(len(stream)))
+		for _, cut := range []int{0, 1} {
+			s := form.scanner(iotest.HalfReader(bytes.NewReader(stream[:len(stream)-cut])), capvet.Limits{})
+			if s.Offset() != 0 {
+				t.Error(s.Offset())
+			}
+			for s.Scan() {
+				if s.Offset() != starts[s.Number()] {
+					t.Errorf("%s: message %d is at %d and not at %d", form.name, s.Number(), s.Offset(), starts[s.Number()])
+				}
+			}
+			if s.Number() != len(messages)-cut || s.Offset() != ends[len(ends)-1-cut] && s.Offset() != starts[len(starts)-1] {
+				t.Errorf("%s: the end of %d messages is at %d", form.name, s.Number(), s.Offset())
+			}
+		}
+	}
+}
+
+// Scanners ask before their buffers grow, and give back what they no longer use.
+func TestBoundedScanners(t *testing.T) {
+	messages := [][]byte{null, large(100000), null, large(9000), large(100000)}
+	for _, form := range forms {
+		for _, most := range []int{0, 100, 400000, 1 << 21} {
+			var stream []byte
+			for _, message := range messages {
+				stream = append(stream, form.encode(message)...)
+			}
+			used, peak := 0, 0
+			s := form.scanner(bytes.NewReader(stream), capvet.Limits{})
+			s.Bound(func(n int) bool {
+				if used+n > most {
+					return false
+				}
+				if used += n; used > peak {
+					peak = used
+				}
+				return true
+			})
+			for s.Scan() {
+				if used < len(s.Bytes()) || !bytes.Equal(s.Bytes(), messages[s.Number()]) {
+					t.Errorf("%s: message %d, %d bytes in use", form.name, s.Number(), used)
+				}
+			}
+			wanted, err := len(messages), error(nil)
+			if most < 1<<21 {
+				wanted, err = 0, capvet.ErrNoSpace
+				if most > 0 {
+					wanted = 1
+				}
+			}
+			if s.Number() != wanted || s.Err() != err || used != 0 || peak > most {
+				t.Errorf("%s, at most %d: %d messages, %v, %d in use, %d at one time", form.name, most, s.Number(), s.Err(), used, peak)
+			}
+		}
+	}
+}
+
+// insider is a reader of one byte at a time that notes for each whether its scanner is inside a message.
+type insider struct {
+	r       io.Reader
+	scanner *capvet.Scanner
+	noted   []bool
+}
+
+func (i *insider) Read(b []byte) (int, error) {
+	i.noted = append(i.noted, i.scanner.Inside())
+	return i.r.Read(b[:1])
+}
+
+func TestInside(t *testing.T) {
+	for _, form := range forms {
+		encoded := form.encode(sample("shared.bin"))
+		r := &insider{r: bytes.NewReader(join(encoded, encoded))}
+		r.scanner = form.scanner(r, capvet.Limits{})
+		for r.scanner.Scan() {
+		}
+		if r.scanner.Number() != 2 || r.scanner.Err() != nil {
+			t.Fatal(r.scanner.Number(), r.scanner.Err())
+		}
+		for at, inside := range r.noted {
+			if inside != (at%len(encoded) != 0) {
+				t.Errorf("%s: before byte %d it is inside: %v", form.name, at, inside)
+			}
+		}
+		if len(r.noted) != 2*len(encoded)+1 {
+			t.Error(len(r.noted))
+		}
+	}
+}
+
 // However the bytes of a stream come, and whatever the reader returns with the last of them, the messages are the same.
 func TestScannersOverReaders(t *testing.T) {
 	stream := join(sample("stream-of-four.bin"), cycle, sample("shared.bin"), nullPad, many(512), null)
@@ -201,13 +370,7 @@ func TestExclusiveScanner(t *testing.T) {
 
 // A message that came over a socket is there before its sender sends the next one: the sender waits for a reply to each.
 func TestScannersOverASocket(t *testing.T) {
-	for _, form := range []struct {
-		scanner func(io.Reader, capvet.Limits) *capvet.Scanner
-		encode  func(message []byte) []byte
-	}{
-		{capvet.NewScanner, func(message []byte) []byte { return message }},
-		{capvet.NewPackedScanner, func(message []byte) []byte { return capvet.AppendPacked(nil, message) }},
-	} {
+	for _, form := range forms {
 		listener, err := net.Listen("tcp", "127.0.0.1:0")
 		if err != nil {
 			t.Fatal(err)
@@ -257,4 +420,45 @@ func send(address string, messages [][]byte, encode func([]byte) []byte) error {
 		}
 	}
 	return nil
+}
+
+// pair returns both ends of a connection of this machine.
+func pair(t *testing.T) (here, there net.Conn) {
+	listener, err := net.Listen("tcp", "127.0.0.1:0")
+	if err != nil {
+		t.Fatal(err)
+	}
+	defer listener.Close()
+	if there, err = net.Dial("tcp", listener.Addr().String()); err != nil {
+		t.Fatal(err)
+	}
+	if here, err = listener.Accept(); err != nil {
+		t.Fatal(err)
+	}
+	return here, there
+}
+
+// A message that came over a socket is there while a part of the next one has come, wherever that one is cut.
+func TestAMessageAndAPart(t *testing.T) {
+	for _, form := range forms {
+		first, next := sample("shared.bin"), sample("contacts.bin")
+		encoded := form.encode(next)
+		for cut := 0; cut < len(encoded); cut += 1 + len(encoded)/50 {
+			here, there := pair(t)
+			s := form.scanner(here, capvet.Limits{})
+			if _, err := there.Write(join(form.encode(first), encoded[:cut])); err != nil {
+				t.Fatal(err)
+			}
+			here.SetReadDeadline(time.Now().Add(10 * time.Second))
+			if !s.Scan() || !bytes.Equal(s.Bytes(), first) {
+				t.Fatalf("%s: the message before %d bytes of the next one: %v", form.name, cut, s.Err())
+			}
+			there.Write(encoded[cut:])
+			there.Close()
+			if !s.Scan() || !bytes.Equal(s.Bytes(), next) || s.Scan() || s.Err() != nil {
+				t.Fatal(s.Err())
+			}
+			here.Close()
+		}
+	}
 }

@@ -7,9 +7,10 @@ import subprocess
 from pathlib import Path
 
 from cffi import FFI
+from setuptools.command.build_ext import build_ext
 
 # The least version that has these declarations. (A library of another major version lacks capvet_abi_1.)
-VERSION = "capvet >= 1.0"
+VERSION = "capvet >= 1.1"
 
 # (the compiler compares each declaration with the header, and takes the numbers for `...` from there)
 DECLARATIONS = """
@@ -49,6 +50,11 @@ typedef struct {
 
 uint32_t capvet_version(void);
 void capvet_abi_1(void);
+int capvet_cpu_supported(void);
+size_t capvet_marks_bound(size_t length);
+size_t capvet_frame_bound(uint64_t message_words);
+size_t capvet_canonical_bound(size_t length);
+size_t capvet_pack_bound(size_t length);
 void capvet_limits_default(capvet_limits *limits);
 const char *capvet_answer_name(uint32_t answer);
 capvet_answer capvet_vet(const uint8_t *bytes, size_t length, const capvet_limits *limits, capvet_report *report);
@@ -67,6 +73,8 @@ capvet_answer capvet_get(const uint8_t *bytes, size_t length, const capvet_limit
 capvet_answer capvet_get_range(const uint8_t *bytes, size_t length, const capvet_limits *limits, const capvet_step *steps,
                                size_t step_count, size_t varying, capvet_node *nodes, size_t node_count, size_t *found,
                                capvet_report *report);
+capvet_answer capvet_pointer_path(const uint8_t *bytes, size_t length, const capvet_limits *limits, uint64_t number,
+                                  capvet_step *steps, size_t step_count, size_t *required, capvet_report *report);
 capvet_answer capvet_pack(const uint8_t *bytes, size_t length, uint8_t *out, size_t out_size, size_t *required);
 capvet_answer capvet_unpack(const uint8_t *bytes, size_t length, uint8_t *out, size_t out_size, size_t *required);
 capvet_answer capvet_pack_message(const uint8_t *bytes, size_t length, const capvet_limits *limits, uint8_t *out,
@@ -77,18 +85,24 @@ capvet_answer capvet_unpack_message(const uint8_t *bytes, size_t length, const c
 """
 
 
-def variable(name):
-    """A variable of capvet.pc, as pkg-config prints it."""
+def pkg_config(*words):
+    """What pkg-config prints. If it finds no such library, the build ends with its reason."""
+    program = os.environ.get("PKG_CONFIG", "pkg-config")
     try:
-        program = os.environ.get("PKG_CONFIG", "pkg-config")
-        ran = subprocess.run([program, name, VERSION], capture_output=True, text=True)
-        error = ran.stderr.partition("\n")[0] if ran.returncode else None
+        ran = subprocess.run([program, "--print-errors", *words, VERSION], capture_output=True, text=True)
+        error = ran.stderr.strip().replace("\n", "; ") if ran.returncode else None
     except OSError as fault:
         error = str(fault)
     if error is not None:
         raise SystemExit(f"capvet: libcapvet.a was not found ({error}): "
                          "set CAPVET_LIB_DIR to its folder, or PKG_CONFIG_PATH to that of capvet.pc")
-    return Path(os.environ.get("PKG_CONFIG_SYSROOT_DIR", "") + ran.stdout.strip())
+    return ran.stdout.strip()
+
+
+def variable(name):
+    """A folder that capvet.pc names."""
+    pkg_config("--exists")
+    return Path(os.environ.get("PKG_CONFIG_SYSROOT_DIR", "") + pkg_config(f"--variable={name}"))
 
 
 def places():
@@ -97,15 +111,26 @@ def places():
     if folder:
         archive, include = Path(folder).resolve() / "libcapvet.a", Path(folder).resolve().parent / "include"
     else:
-        archive, include = variable("--variable=libdir") / "libcapvet.a", variable("--variable=includedir")
+        archive, include = variable("libdir") / "libcapvet.a", variable("includedir")
     for file in (archive, include / "capvet.h"):
         if not file.is_file():
             raise SystemExit(f"capvet: there is no file {file}")
     return archive, include
 
 
-archive, include = places()
+class Build(build_ext):
+    """Builds the module. Only now the library has to be there: a source distribution is made without it."""
+
+    def run(self):
+        archive, include = places()
+        for extension in self.extensions:
+            extension.include_dirs.append(str(include))
+            extension.extra_objects.append(str(archive))
+            # (built again if the library is a newer one)
+            extension.depends += [str(archive), str(include / "capvet.h")]
+        super().run()
+
+
 builder = FFI()
 builder.cdef(DECLARATIONS)
-builder.set_source("capvet._capvet", "#define CAPVET_LINK_CHECK\n#include <capvet.h>\n", include_dirs=[str(include)],
-                   extra_objects=[str(archive)], py_limited_api=True)
+builder.set_source("capvet._capvet", "#define CAPVET_LINK_CHECK\n#include <capvet.h>\n", py_limited_api=True)

@@ -4,8 +4,9 @@ use std::path::PathBuf;
 use std::process::{exit, Command};
 use std::{env, str};
 
+const PACKAGE: &str = "capvet";
 // The library has the major version of this crate's declarations, and at least their minor version.
-const VERSIONS: [&str; 2] = ["capvet >= 1.0", "capvet < 2"];
+const VERSIONS: [&str; 2] = ["capvet >= 1.1", "capvet < 2"];
 
 fn main() {
     for name in [
@@ -57,20 +58,20 @@ fn installed() -> Result<PathBuf, String> {
             "the target is another machine, and PKG_CONFIG_SYSROOT_DIR is not set".to_owned(),
         );
     }
-    let flags = pkg_config("--libs-only-L")?;
-    Ok(match flags.split_whitespace().next() {
-        Some(flag) => PathBuf::from(flag.trim_start_matches("-L")),
-        // (it leaves out the system's own folders)
-        None => PathBuf::from(pkg_config("--variable=libdir")?),
-    })
+    pkg_config(&["--print-errors", "--exists", VERSIONS[0], VERSIONS[1]])?;
+    // (of two requirements it would print the flags of the package twice)
+    let flags = pkg_config(&["--libs-only-L", PACKAGE])?;
+    let folder = flags.strip_prefix("-L").unwrap_or(&flags);
+    Ok(PathBuf::from(folder.replace("\\ ", " ")))
 }
 
-// What `pkg-config` prints for this option, or its first line about what is wrong.
-fn pkg_config(option: &str) -> Result<String, String> {
+// What `pkg-config` prints for these words, or its first line about what is wrong.
+fn pkg_config(words: &[&str]) -> Result<String, String> {
     let program = env::var_os("PKG_CONFIG").unwrap_or_else(|| "pkg-config".into());
     let ran = Command::new(program)
-        .arg(option)
-        .args(VERSIONS)
+        .args(words)
+        // (else it leaves out the system's own folders)
+        .env("PKG_CONFIG_ALLOW_SYSTEM_LIBS", "1")
         .output()
         .map_err(|error| format!("pkg-config: {error}"))?;
     let text = if ran.status.success() {

@@ -12,7 +12,7 @@ buffer that Python can write (bytearray, array, most memoryviews) is copied firs
 Pass memoryview(buffer).toreadonly() if no thread writes it, and it is not copied either. A read-only view of memory that
 somebody else writes is your mistake: pass bytes() of a mapped file or of shared memory.
 
-Exceptions can be pickled, so they cross process boundaries as multiprocessing and Dask need.
+Exceptions, reports, messages and nodes can be pickled, so they cross process boundaries as multiprocessing and Dask need.
 
 `python -m capvet --help` has the commands.
 """
@@ -23,12 +23,16 @@ from .calls import (Frame, canonical, frame, is_canonical, pack, pack_message, u
 from .errors import CapabilityError, CapvetError, FrameError, PathError, Refusal, UnpackError
 from .nodes import Kind, Node, node, nodes
 from .reports import DEFAULT, Limits, Position, Report
-from .streams import Message, messages, read_messages
+from .streams import Accepted, Message, MessageFeed, MessageReader, Refused, messages, read_messages
 
-__version__ = "1.0.0"
+__version__ = "1.1.0"
 
-__all__ = ["CapabilityError", "CapvetError", "DEFAULT", "Frame", "FrameError", "Kind", "Limits", "Message", "Node", "PathError",
-           "Position", "Refusal", "Report", "UnpackError", "canonical", "frame", "is_canonical", "messages", "node", "nodes",
-           "pack", "pack_message", "read_messages", "unpack", "vet", "vet_exclusive", "vet_segments"]
+__all__ = ["Accepted", "CapabilityError", "CapvetError", "DEFAULT", "Frame", "FrameError", "Kind", "Limits", "Message",
+           "MessageFeed", "MessageReader", "Node", "PathError", "Position", "Refusal", "Refused", "Report", "UnpackError",
+           "canonical", "frame", "is_canonical", "messages", "node", "nodes", "pack", "pack_message", "read_messages", "unpack",
+           "vet", "vet_exclusive", "vet_segments"]
 
 _lib.capvet_abi_1()
+if not _lib.capvet_cpu_supported():
+    # (or some messages would end the process)
+    raise ImportError("this processor lacks a feature of x86-64-v2, which the library needs")

@@ -1,13 +1,26 @@
-"""Buffers on the way in and out."""
+"""Buffers and files on the way in, and buffers on the way out."""
 
 from __future__ import annotations
 
-from typing import Any, Union
+from typing import TYPE_CHECKING, Any, Optional, Protocol
 
 from ._capvet import ffi
 
-Buffer = Union[bytes, bytearray, memoryview, Any]
-"""Any object with the buffer protocol: bytes, bytearray, memoryview, array, mmap, numpy.ndarray, ..."""
+if TYPE_CHECKING:
+    from _typeshed import ReadableBuffer
+
+    Buffer = ReadableBuffer
+else:
+    Buffer = Any
+    """Any object with the buffer protocol: bytes, bytearray, memoryview, array, mmap, numpy.ndarray, ..."""
+
+
+class Readable(Protocol):
+    """What read_messages() reads: a binary file, gzip.open(), socket.makefile("rb"), or any other object with `read`."""
+
+    def read(self, size: int, /) -> Optional[bytes]:
+        """At most `size` bytes, and none at the end. None if the file is not blocking and has no bytes now."""
+
 
 uncleared = ffi.new_allocator(should_clear_after_alloc=False)
 """Memory whose bytes are not set: for outputs that the library fills in."""

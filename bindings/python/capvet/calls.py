@@ -32,18 +32,19 @@ def vet(data: Buffer, *, limits: Limits = DEFAULT) -> Report:
     return report_of(report)
 
 
-def frame_length(start: Any, length: int, limits: Limits) -> int:
+def frame_length(start: Any, length: int, raw_limits: Any) -> int:
     """Bytes of the frame at this address, or all bytes if there is no frame or no table."""
     report = ffi.new("capvet_report *")
-    answer = lib.capvet_frame(start, length, limits_of(limits), report)
-    return report.length if answer == lib.CAPVET_OK else length
+    answer = lib.capvet_frame(start, length, raw_limits, report)
+    return int(report.length) if answer == lib.CAPVET_OK else length
 
 
-def exclusive_answer(start: Any, length: int, limits: Limits, raw_limits: Any, report: Any) -> int:
+def exclusive_answer(start: Any, length: int, raw_limits: Any, report: Any) -> int:
     """What capvet_vet_exclusive answers, with marks for the words of the first frame."""
-    count = frame_length(start, length, limits) // 512 + 1
+    count = frame_length(start, length, raw_limits) // 512 + 1
     marks, required = uncleared("uint64_t[]", count), ffi.new("size_t *")
-    return lib.capvet_vet_exclusive(start, length, raw_limits, marks, count, required, report)
+    answer: int = lib.capvet_vet_exclusive(start, length, raw_limits, marks, count, required, report)
+    return answer
 
 
 def vet_exclusive(data: Buffer, *, limits: Limits = DEFAULT) -> Report:
@@ -52,7 +53,7 @@ def vet_exclusive(data: Buffer, *, limits: Limits = DEFAULT) -> Report:
     Raises FrameError or Refusal. Allocates one bit for each word of the message.
     """
     view, report = read_only(data), ffi.new("capvet_report *")
-    answer = exclusive_answer(pointer_to(view), len(view), limits, limits_of(limits), report)
+    answer = exclusive_answer(pointer_to(view), len(view), limits_of(limits), report)
     if answer != lib.CAPVET_OK:
         raise error_of(answer, report)
     return report_of(report)
@@ -83,7 +84,7 @@ def is_canonical(data: Buffer, *, limits: Limits = DEFAULT) -> bool:
     answer = lib.capvet_is_canonical(pointer_to(view), len(view), limits_of(limits), report)
     if answer not in (lib.CAPVET_OK, lib.CAPVET_NOT_CANONICAL):
         raise error_of(answer, report)
-    return answer == lib.CAPVET_OK
+    return bool(answer == lib.CAPVET_OK)
 
 
 def canonical(data: Buffer, *, limits: Limits = DEFAULT) -> bytes:
@@ -94,7 +95,7 @@ def canonical(data: Buffer, *, limits: Limits = DEFAULT) -> bytes:
     view, report, required = read_only(data), ffi.new("capvet_report *"), ffi.new("size_t *")
     start, raw_limits = pointer_to(view), limits_of(limits)
     # (CAPVET_CANONICAL_BOUND; it does not hold for amplified messages, which are asked for their size)
-    size = 0 if limits.allow_amplified else frame_length(start, len(view), limits) + 8 * (lib.CAPVET_SLACK + 1)
+    size = 0 if limits.allow_amplified else frame_length(start, len(view), raw_limits) + 8 * (lib.CAPVET_SLACK + 1)
     out = uncleared("uint8_t[]", size)
     answer = lib.capvet_canonical(start, len(view), raw_limits, out, size, required, report)
     if answer == lib.CAPVET_BUFFER_TOO_SMALL:
@@ -106,7 +107,7 @@ def canonical(data: Buffer, *, limits: Limits = DEFAULT) -> bytes:
         raise CapabilityError(text, answer=answer, reason=name_of(answer), report=report_of(report))
     if answer != lib.CAPVET_OK:
         raise error_of(answer, report)
-    return ffi.buffer(out, required[0])[:]
+    return bytes(ffi.buffer(out, required[0]))
 
 
 def frame(data: Buffer, *, limits: Limits = DEFAULT) -> Frame:
@@ -137,7 +138,7 @@ def pack(data: Buffer) -> bytes:
     out = uncleared("uint8_t[]", size)
     if lib.capvet_pack(pointer_to(view), len(view), out, size, required) != lib.CAPVET_OK:
         raise ValueError(f"the length has to be a multiple of 8, and is {len(view)}")
-    return ffi.buffer(out, required[0])[:]
+    return bytes(ffi.buffer(out, required[0]))
 
 
 def pack_message(data: Buffer, *, limits: Limits = DEFAULT) -> bytes:
@@ -152,7 +153,7 @@ def pack_message(data: Buffer, *, limits: Limits = DEFAULT) -> bytes:
     answer = lib.capvet_pack_message(pointer_to(view), len(view), limits_of(limits), out, size, required, report)
     if answer != lib.CAPVET_OK:
         raise error_of(answer, report)
-    return ffi.buffer(out, required[0])[:]
+    return bytes(ffi.buffer(out, required[0]))
 
 
 def unpack(data: Buffer, *, max_size: int = 67_110_920) -> bytes:
@@ -160,6 +161,8 @@ def unpack(data: Buffer, *, max_size: int = 67_110_920) -> bytes:
 
     Raises UnpackError, before anything is allocated.
     """
+    if not isinstance(max_size, int):
+        raise TypeError("max_size has to be an int")
     view, required = read_only(data), ffi.new("size_t *")
     start = pointer_to(view)
     answer = lib.capvet_unpack(start, len(view), ffi.NULL, 0, required)
@@ -171,4 +174,4 @@ def unpack(data: Buffer, *, max_size: int = 67_110_920) -> bytes:
     size = required[0]
     out = uncleared("uint8_t[]", size)
     lib.capvet_unpack(start, len(view), out, size, required)
-    return ffi.buffer(out, size)[:]
+    return bytes(ffi.buffer(out, size))

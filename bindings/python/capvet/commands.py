@@ -3,41 +3,42 @@
 from __future__ import annotations
 
 import argparse
-import contextlib
+import io
 import os
 import sys
-from typing import Any, BinaryIO, Iterator, Optional, Sequence
+import traceback
+from typing import BinaryIO, ContextManager, Iterable, List, Optional, Sequence, TextIO
 
+from . import __version__
 from .errors import FrameError
 from .mapping import write_page
 from .reports import DEFAULT, Limits
-from .streams import Message, read_messages
+from .streams import read_messages
 from .tree import json_pieces, text_lines
-from .vetting import vet_files, write_rows, write_summary
+from .vetting import Bar, Files, How, Tally, header, summary
 
-REFUSED, WRONG, FAILED = 1, 2, 3
+REFUSED, WRONG, FAILED, INTERRUPTED = 1, 2, 3, 130
 
-
-class Counted:
-    """A binary file that counts the bytes that were read."""
-
-    def __init__(self, file: BinaryIO) -> None:
-        self.file, self.count = file, 0
-
-    def read(self, size: int) -> Any:
-        return self._counted(self.file.read(size))
-
-    def read1(self, size: int) -> Any:
-        return self._counted(self.file.read1(size))  # type: ignore[attr-defined]
-
-    def _counted(self, piece: Any) -> Any:
-        self.count += len(piece or b"")
-        return piece
+_OPTIONS = {"message_words": "--size", "charge": "--words", "depth": "--depth"}
 
 
-def fault_text(error: FrameError, read: int) -> str:
+class OutputError(Exception):
+    """An output takes nothing more."""
+
+
+def put(pieces: Iterable[str], out: Optional[TextIO] = None) -> None:
+    """Writes text, and passes it on at once."""
+    out = out or sys.stdout
+    try:
+        out.writelines(pieces)
+        out.flush()
+    except OSError as error:
+        raise OutputError from error
+
+
+def fault_text(error: FrameError, received: int) -> str:
     """What is wrong with a frame, as the program prints it."""
-    return f"{error.reason} at byte {read}" if error.reason == "Truncated" else f"{error.reason} {error.detail}"
+    return f"{error.reason} at byte {received}" if error.reason == "Truncated" else f"{error.reason} {error.detail}"
 
 
 def common(parser: argparse.ArgumentParser) -> None:
@@ -56,58 +57,79 @@ def limits_of(words: argparse.Namespace) -> Limits:
                   allow_amplified=not words.unamplified)
 
 
-def opened(name: Optional[str]) -> Any:
-    """The file of this name, or standard input."""
-    return open(name, "rb") if name is not None else contextlib.nullcontext(sys.stdin.buffer)
+def standard_input() -> BinaryIO:
+    if sys.stdin is None:
+        raise OSError("standard input is closed")
+    return sys.stdin.buffer
 
 
-def read(words: argparse.Namespace, file: Counted) -> Iterator[Message]:
-    return read_messages(file, packed=words.packed, limits=words.limits)  # type: ignore[arg-type]
+def opened(name: Optional[str]) -> ContextManager[BinaryIO]:
+    """The file of this name, or standard input, which stays open."""
+    return open(standard_input().fileno() if name is None else name, "rb", closefd=name is not None)
 
 
 def run_tree(words: argparse.Namespace) -> int:
     """Writes each message's tree. The end of the run is reported as by the program."""
     status, number = 0, 0
-    with opened(words.file) as stream:
-        file = Counted(stream)
+    with opened(words.file) as file:
+        stream = read_messages(file, packed=words.packed, limits=words.limits)
         try:
-            for message in read(words, file):
-                sys.stdout.writelines((json_pieces if words.json else text_lines)(message))
-                sys.stdout.flush()
+            for message in stream:
+                put((json_pieces if words.json else text_lines)(message))
                 number, status = message.number + 1, status or (REFUSED if message.refusal else 0)
         except FrameError as error:
-            sys.stdout.flush()
-            print(f"capvet: message {number}: {fault_text(error, file.count)}", file=sys.stderr)
+            print(f"capvet: message {number}: {fault_text(error, stream.received)}", file=sys.stderr)
             return REFUSED
     return status
 
 
+def names_of(words: argparse.Namespace) -> List[str]:
+    """The names of the files to vet."""
+    if words.names is None:
+        return list(words.files)
+    with opened(None if words.names == "-" else words.names) as file:
+        return [os.fsdecode(name) for name in file.read().split(b"\0") if name]
+
+
 def run_vet(words: argparse.Namespace) -> int:
     """Writes a summary over files, or the refused messages with the summary on standard error."""
-    results = vet_files(words.files, words.jobs, words.packed, words.exclusive, words.limits)
-    rows = [row for result in results for row in result.rows]
-    if words.form:
-        write_rows(rows, words.form, sys.stdout)
-        sys.stdout.flush()
-    write_summary(results, sys.stderr if words.form else sys.stdout)
-    failures = [result.failure for result in results if result.failure]
-    for failure in failures:
-        print(f"capvet: {failure}", file=sys.stderr)
-    return FAILED if failures else REFUSED if rows else 0
+    tally, how = Tally(), How(words.packed, words.exclusive, words.limits, words.form)
+    with Files(names_of(words), words.jobs, how) as files:
+        bar = Bar(sys.stderr, files.size)
+        put([header(words.form)])
+        try:
+            for part in files:
+                if part.rows or part.faults:
+                    bar.hide()
+                put([part.rows])
+                sys.stderr.writelines(f"capvet: {fault}\n" for fault in part.faults)
+                tally.add(part.tally)
+                bar.show(tally.bytes)
+        except KeyboardInterrupt:
+            bar.hide()
+            print(f"capvet: stopped after {tally.files} files", file=sys.stderr)
+            raise
+        except OutputError:
+            bar.hide()
+            raise
+        bar.end(tally.bytes)
+    put([summary(tally)], sys.stderr if words.form else sys.stdout)
+    return FAILED if tally.failed else REFUSED if tally.refused or tally.stopped else 0
 
 
 def run_map(words: argparse.Namespace) -> int:
     """Writes the page about one message of a stream."""
-    with open(words.file, "rb") as stream:
-        file, number = Counted(stream), 0
+    with opened(words.file) as file:
+        stream, number = read_messages(file, packed=words.packed, limits=words.limits), 0
         try:
-            for message in read(words, file):
+            for message in stream:
                 if message.number == words.message:
-                    write_page(message, words.limits, words.output)
+                    name = f"{words.file or 'standard input'}, message {message.number}"
+                    write_page(message, words.limits, name, words.output)
                     return REFUSED if message.refusal else 0
                 number = message.number + 1
         except FrameError as error:
-            print(f"capvet: message {number}: {fault_text(error, file.count)}", file=sys.stderr)
+            print(f"capvet: message {number}: {fault_text(error, stream.received)}", file=sys.stderr)
             return REFUSED
     print(f"capvet: there is no message {words.message}", file=sys.stderr)
     return REFUSED
@@ -116,6 +138,7 @@ def run_map(words: argparse.Namespace) -> int:
 def parsed(argv: Optional[Sequence[str]]) -> argparse.Namespace:
     parser = argparse.ArgumentParser(prog="python -m capvet", description="Looks at untrusted Cap'n Proto messages.",
                                      allow_abbrev=False)
+    parser.add_argument("--version", action="version", version=f"capvet {__version__}")
     commands = parser.add_subparsers(metavar="COMMAND", required=True)
     tree = commands.add_parser("tree", help="print each message's tree, with a guess at texts", allow_abbrev=False,
                                description="Prints the tree of each message as `capvet dump` does. A list of bytes that is valid "
@@ -125,18 +148,18 @@ def parsed(argv: Optional[Sequence[str]]) -> argparse.Namespace:
     common(tree)
     tree.add_argument("file", metavar="FILE", nargs="?", help="default: standard input")
     tree.set_defaults(run=run_tree)
-    drawn = commands.add_parser("map", help="write a page with a picture of a message's words", allow_abbrev=False,
-                                description="Writes one HTML page that loads no other file: the words of a message in rows, "
-                                "by what they are used for. Words of a refused message are shown as used up to the refused pointer.")
+    drawn = commands.add_parser("map", help="write a page that shows a message", allow_abbrev=False,
+                                description="Writes one HTML page that loads no other file. It shows the verdict, the tree, the bytes "
+                                "and a map of the words of a message, and says why a message is refused.")
     drawn.add_argument("-o", "--output", metavar="PAGE", required=True, help="the page to write")
     drawn.add_argument("--message", metavar="N", type=int, default=0, help="the number of the message in the stream, from 0")
     common(drawn)
-    drawn.add_argument("file", metavar="FILE")
+    drawn.add_argument("file", metavar="FILE", nargs="?", help="default: standard input")
     drawn.set_defaults(run=run_map)
     vet = commands.add_parser("vet", help="vet many files, and print a summary", allow_abbrev=False,
                               description="Vets the messages of many files as `capvet vet` does, and prints how many are refused "
-                              "for each reason. A file stops at the first place where it is no stream of messages. On a "
-                              "terminal a bar shows how many bytes are done.")
+                              "for each reason. A file stops at the first place where it is no stream of messages. If a "
+                              "file can't be read, the others are vetted. On a terminal a bar shows how many bytes are done.")
     vet.add_argument("-j", "--jobs", metavar="N", type=int, default=1, help="how many processes vet files side by side")
     vet.add_argument("--exclusive", action="store_true", help="refuse a message that uses a word twice")
     form = vet.add_mutually_exclusive_group()
@@ -144,32 +167,73 @@ def parsed(argv: Optional[Sequence[str]]) -> argparse.Namespace:
                       help="write each refused message and its place as CSV, and the summary on standard error")
     form.add_argument("--json", dest="form", action="store_const", const="json", help="the same, as JSON lines")
     common(vet)
-    vet.add_argument("files", metavar="FILE", nargs="+")
+    vet.add_argument("--files0-from", dest="names", metavar="F",
+                     help="vet the files whose names are in the file F, each ended by a zero byte; - is standard input")
+    vet.add_argument("files", metavar="FILE", nargs="*")
     vet.set_defaults(run=run_vet)
     words = parser.parse_args(argv)
-    if getattr(words, "jobs", 1) < 1:
-        parser.error("--jobs has to be at least 1")
+    if words.run is run_vet and words.jobs < 1:
+        vet.error("--jobs has to be at least 1")
+    if words.run is run_vet and bool(words.files) == (words.names is not None):
+        vet.error("give either FILE.. or --files0-from")
     try:
         words.limits = limits_of(words)
     except ValueError as error:
-        parser.error(str(error))
+        name, _, text = str(error).partition(" ")
+        parser.error(f"{_OPTIONS[name]} {text}")
     return words
+
+
+def is_flushed() -> bool:
+    """Whether standard output has taken all that was written. If not, it takes nothing any more."""
+    try:
+        sys.stdout.flush()
+        return True
+    except OSError:
+        # (or the interpreter would flush again at its end)
+        os.dup2(os.open(os.devnull, os.O_WRONLY), sys.stdout.fileno())
+        return False
+
+
+def failed(text: str) -> int:
+    """Reports what is not about the input."""
+    try:
+        print(text if is_flushed() else "capvet: output failed", file=sys.stderr)
+    except OSError:
+        pass
+    return FAILED
+
+
+def ran(argv: Optional[Sequence[str]]) -> int:
+    words = parsed(argv)
+    for out in (sys.stdout, sys.stderr):
+        if hasattr(out, "reconfigure"):
+            # (a terminal may lack characters that a message or the name of a file has)
+            out.reconfigure(errors="backslashreplace")
+    status: int = words.run(words)
+    return status
+
+
+class Closed(io.TextIOBase):
+    """A standard output that was closed before Python began."""
+
+    def write(self, text: str) -> int:
+        raise OSError("output failed")
 
 
 def main(argv: Optional[Sequence[str]] = None) -> int:
     """Runs the command line, and returns its status: those of the program `capvet`."""
-    words = parsed(argv)
+    sys.stdout = sys.stdout or Closed()  # type: ignore[assignment]
+    sys.stderr = sys.stderr or Closed()  # type: ignore[assignment]
     try:
-        status = words.run(words)
-        sys.stdout.flush()
-        return status
-    except BrokenPipeError:
-        # (or the interpreter would flush again at its end)
-        os.dup2(os.open(os.devnull, os.O_WRONLY), sys.stdout.fileno())
-        print("capvet: output failed", file=sys.stderr)
-        return FAILED
-    except OSError as error:
-        print(f"capvet: {error}", file=sys.stderr)
-        return FAILED
+        return ran(argv)
     except KeyboardInterrupt:
-        return 130
+        return INTERRUPTED if is_flushed() else FAILED
+    except MemoryError:
+        return failed("capvet: out of memory")
+    except OutputError:
+        return failed("capvet: output failed")
+    except OSError as error:
+        return failed(f"capvet: {error}")
+    except Exception:
+        return failed(traceback.format_exc().rstrip())

@@ -2,10 +2,11 @@
 
 from __future__ import annotations
 
-from typing import Any
+from typing import Any, Literal, Optional
 
 from ._capvet import ffi, lib
-from .reports import Position, Report
+from .buffers import Buffer, pointer_to, read_only
+from .reports import DEFAULT, Limits, Position, Report, limits_of
 
 
 class CapvetError(ValueError):
@@ -57,10 +58,29 @@ class Refusal(CapvetError):
     length: int = 0
     """Bytes of the frame: the next message of a stream starts after them."""
 
+    def __bool__(self) -> Literal[True]:
+        """Always true, so that `if message.refusal:` narrows a message to `Refused` for type checkers."""
+        return True
+
     @property
     def position(self) -> Position:
         """The place of the pointer."""
         return Position(self.segment, self.word)
+
+    def path(self, data: Buffer, *, limits: Limits = DEFAULT) -> Optional[str]:
+        """The path to the pointer in the message that `data` are, such as "/p0/i7/p2": which field is refused.
+
+        It is a path as node() takes it, and "/" for the root. It is found by one more walk up to the pointer. It is None if
+        the refusal is about no pointer, and may be None or another path if the data or the limits are not those of the
+        refusal.
+        """
+        view, report, required = read_only(data), ffi.new("capvet_report *"), ffi.new("size_t *")
+        steps = ffi.new("capvet_step[]", lib.CAPVET_MAX_DEPTH)
+        answer = lib.capvet_pointer_path(pointer_to(view), len(view), limits_of(limits), self.pointers, steps, len(steps), required,
+                                         report)
+        if answer != lib.CAPVET_OK:
+            return None
+        return "/" + "/".join(f"{'pi'[step.kind]}{step.number}" for step in steps[0:required[0]])
 
 
 class CapabilityError(CapvetError):
@@ -92,7 +112,7 @@ _FRAME_TEXTS = {
 
 def name_of(answer: int) -> str:
     """The name of an answer."""
-    return ffi.string(lib.capvet_answer_name(answer)).decode()
+    return str(ffi.string(lib.capvet_answer_name(answer)), "ascii")
 
 
 def frame_error(answer: int, report: Any) -> FrameError:

@@ -3,7 +3,7 @@
 from __future__ import annotations
 
 from dataclasses import dataclass, field
-from typing import Any, Iterator, Literal, Optional, Tuple
+from typing import Any, Dict, Iterator, Literal, Optional, Tuple
 
 from ._capvet import ffi, lib
 from .buffers import Buffer, pointer_to, read_only, uncleared
@@ -11,7 +11,7 @@ from .errors import PathError, error_of, name_of
 from .reports import DEFAULT, Limits, limits_of
 
 Kind = Literal["null", "struct", "values", "pointers", "structs", "capability"]
-KINDS = ("null", "struct", "values", "pointers", "structs", "capability")
+KINDS: Tuple[Kind, ...] = ("null", "struct", "values", "pointers", "structs", "capability")
 
 _BLOCK = 256
 """How many nodes one call of the library reads."""
@@ -31,7 +31,7 @@ def text_of(data: bytes) -> Optional[str]:
 
 @dataclass(frozen=True)
 class Node:
-    """A node of a message. Fields that do not apply to its kind are 0."""
+    """A node of a message. Fields that do not apply to its kind are 0. It can be pickled, with a copy of its bytes."""
 
     kind: Kind
     """"null", "struct", "values", "pointers", "structs" or "capability". Texts are lists of values."""
@@ -58,6 +58,19 @@ class Node:
         is_bytes = self.kind == "values" and self.element == 2
         return text_of(bytes(self.data)) if is_bytes else None
 
+    def __getstate__(self) -> Dict[str, Any]:
+        return {**vars(self), "data": bytes(self.data)}
+
+    def __setstate__(self, state: Dict[str, Any]) -> None:
+        vars(self).update(state, data=memoryview(state["data"]))
+
+
+def _encoded(path: str) -> bytes:
+    if not isinstance(path, str):
+        raise TypeError(f"the path has to be a str, and is a {type(path).__name__}")
+    # (what is no text is no path either, and the library says where)
+    return path.encode(errors="surrogatepass")
+
 
 def node(data: Buffer, path: str, *, limits: Limits = DEFAULT) -> Optional[Node]:
     """Return the node at a path such as "/p0/i1/p2", or None if the path leads to nothing.
@@ -67,7 +80,7 @@ def node(data: Buffer, path: str, *, limits: Limits = DEFAULT) -> Optional[Node]
     PathError; Limits.no_table raises ValueError.
     """
     view, report, found = read_only(data), ffi.new("capvet_report *"), ffi.new("capvet_node *")
-    text = path.encode()
+    text = _encoded(path)
     answer = lib.capvet_get(pointer_to(view), len(view), limits_of(limits), text, len(text), found, report)
     if answer == lib.CAPVET_NO_NODE:
         return None
@@ -116,7 +129,7 @@ def nodes(data: Buffer, path: str, *, first: int = 0, count: Optional[int] = Non
 
 def _steps(path: str, limits: Limits) -> Tuple[Any, int]:
     """The steps of a path with one star as C has them, and which of them has the star."""
-    text, report, found = path.replace("*", "0", 1).encode(), ffi.new("capvet_report *"), ffi.new("capvet_node *")
+    text, report, found = _encoded(path).replace(b"*", b"0", 1), ffi.new("capvet_report *"), ffi.new("capvet_node *")
     # (without a message, so that only the limits and the path are looked at)
     answer = lib.capvet_get(ffi.NULL, 0, limits_of(limits), text, len(text), found, report)
     if answer == lib.CAPVET_BAD_PATH:

@@ -2,7 +2,7 @@
 
 from __future__ import annotations
 
-from dataclasses import dataclass, fields
+from dataclasses import dataclass
 from functools import lru_cache
 from typing import Any, NamedTuple, Optional
 
@@ -94,10 +94,7 @@ class Report:
     """The place of the first capability in preorder, or None without one."""
 
 
-_NUMBERS = [field.name for field in fields(Report) if field.name != "first_capability"]
-
-
 def report_of(raw: Any) -> Report:
     """The report of C as a dataclass."""
     first = Position(raw.segment, raw.word) if raw.capabilities else None
-    return Report(*[getattr(raw, name) for name in _NUMBERS], first)
+    return Report(raw.length, raw.segments, raw.charge, raw.depth, raw.pointers, raw.capabilities, first)

@@ -3,20 +3,18 @@
 from __future__ import annotations
 
 from dataclasses import dataclass, field
-from typing import Any, BinaryIO, Iterator, Optional, Tuple
+from typing import Any, Dict, Iterator, Optional, Union
 
 from ._capvet import ffi, lib
-from .buffers import Buffer, pointer_to, read_only
-from .calls import exclusive_answer
-from .errors import FrameError, Refusal, error_of, frame_error
-from .reports import DEFAULT, Limits, Report, limits_of, report_of
-
-_PIECE = 65536
+from .buffers import Buffer, Readable, pointer_to, read_only
+from .errors import Refusal, frame_error, refusal
+from .frames import PIECE, Frames, Vetter, frames_of
+from .reports import DEFAULT, Limits, Report, report_of
 
 
 @dataclass(frozen=True)
 class Message:
-    """One message of a stream. Exactly one of `report` and `refusal` is set."""
+    """One message of a stream: an `Accepted` or a `Refused`. It can be pickled, with a copy of its bytes."""
 
     number: int
     """The number of the message in the stream, from 0."""
@@ -31,127 +29,187 @@ class Message:
     refusal: Optional[Refusal]
     """Why it was refused."""
 
+    def __getstate__(self) -> Dict[str, Any]:
+        return {**vars(self), "data": None, "raw": bytes(self.raw)}
 
-def _vetted(start: Any, length: int, exclusive: bool, limits: Limits, report: Any) -> int:
-    raw_limits = limits_of(limits, allow_trailing=True)
-    if exclusive:
-        return exclusive_answer(start, length, limits, raw_limits, report)
-    return lib.capvet_vet(start, length, raw_limits, report)
+    def __setstate__(self, state: Dict[str, Any]) -> None:
+        raw = memoryview(state["raw"])
+        vars(self).update(state, raw=raw, data=None if state["refusal"] else raw)
 
 
-def _message(number: int, offset: int, raw: memoryview, answer: int, report: Any) -> Message:
+@dataclass(frozen=True)
+class Accepted(Message):
+    """A message that is accepted. `data` and `raw` are the same."""
+
+    data: memoryview = field(repr=False)
+    report: Report
+    refusal: None
+
+
+@dataclass(frozen=True)
+class Refused(Message):
+    """A message that is refused."""
+
+    data: None = field(repr=False)
+    report: None
+    refusal: Refusal
+
+
+def _message(number: int, offset: int, raw: memoryview, answer: int, report: Any) -> Union[Accepted, Refused]:
     if answer == lib.CAPVET_OK:
-        return Message(number, offset, raw, raw, report_of(report), None)
-    return Message(number, offset, None, raw, None, error_of(answer, report))
+        return Accepted(number, offset, raw, raw, report_of(report), None)
+    return Refused(number, offset, None, raw, None, refusal(answer, report))
 
 
-def _with_a_table(limits: Limits) -> None:
-    if limits.no_table:
-        raise ValueError("a stream has messages with tables: no_table does not go with it")
+def _taken(frames: Frames, answer: int) -> Union[Accepted, Refused]:
+    """The message that was found."""
+    if frames.is_at_fault:
+        raise frames.fault()
+    number, offset = frames.number, frames.offset
+    return _message(number, offset, frames.take(), answer, frames.report)
 
 
-def messages(data: Buffer, *, exclusive: bool = False, limits: Limits = DEFAULT) -> Iterator[Message]:
+def messages(data: Buffer, *, exclusive: bool = False, limits: Limits = DEFAULT) -> Iterator[Union[Accepted, Refused]]:
     """Iterate over the messages of a buffer, and go on after a refused one. Copies no message.
 
     Raises FrameError where the buffer stops being a stream of frames. Limits.no_table raises ValueError.
+
+    `data` that Python can write are copied once, by this call. Pass memoryview(data).toreadonly() if no thread writes them.
     """
-    _with_a_table(limits)
-    return _messages(read_only(data), exclusive, limits)
+    return _messages(read_only(data), Vetter(exclusive, limits))
 
 
-def _messages(view: memoryview, exclusive: bool, limits: Limits) -> Iterator[Message]:
+def _messages(view: memoryview, vetter: Vetter) -> Iterator[Union[Accepted, Refused]]:
     start, number, offset = pointer_to(view), 0, 0
     while offset < len(view):
         report = ffi.new("capvet_report *")
-        answer = _vetted(start + offset, len(view) - offset, exclusive, limits, report)
+        answer = vetter.answer(start + offset, len(view) - offset, report)
         if not report.length:
-            raise _placed(frame_error(answer, report), offset)
+            error = frame_error(answer, report)
+            error.offset = offset
+            raise error
         yield _message(number, offset, view[offset:offset + report.length], answer, report)
         number, offset = number + 1, offset + report.length
 
 
-def _placed(error: FrameError, offset: int) -> FrameError:
-    error.offset = offset
-    return error
+class MessageReader(Iterator[Union[Accepted, Refused]]):
+    """The iterator that read_messages() returns."""
 
+    def __init__(self, file: Readable, packed: bool, exclusive: bool, limits: Limits) -> None:
+        self._frames, self._is_packed = frames_of(packed, exclusive, limits), packed
+        if not callable(getattr(file, "read", None)):
+            raise TypeError("the file has to have a method read, as binary files and socket.makefile('rb') have")
+        self._peek = getattr(file, "peek", None)
+        self._read = file.read if self._peek else getattr(file, "read1", file.read)
+        self._is_at_end, self._piece = False, b""
 
-def read_messages(file: BinaryIO, *, packed: bool = False, exclusive: bool = False,
-                  limits: Limits = DEFAULT) -> Iterator[Message]:
-    """Iterate over the messages of a binary file or of socket.makefile("rb"), and go on after a refused one.
+    @property
+    def received(self) -> int:
+        """How many bytes were read."""
+        return self._frames.received
 
-    Holds one message at a time, and never more than Limits.message_words allows. Each message is yielded before the
-    next one is waited for. Plain streams are not read ahead; packed ones by at most 64 KiB.
+    def __iter__(self) -> MessageReader:
+        return self
 
-    Raises FrameError where the stream ends in the middle of a message or stops being one. Limits.no_table raises
-    ValueError.
-    """
-    _with_a_table(limits)
-    return _read(_packed_frames(file, limits) if packed else _plain_frames(file, limits), exclusive, limits)
-
-
-def _read(frames: Iterator[Tuple[int, memoryview]], exclusive: bool, limits: Limits) -> Iterator[Message]:
-    for number, (offset, raw) in enumerate(frames):
-        report = ffi.new("capvet_report *")
-        answer = _vetted(pointer_to(raw), len(raw), exclusive, limits, report)
-        yield _message(number, offset, raw, answer, report)
-
-
-def _some(file: BinaryIO, size: int, read: Any) -> bytes:
-    piece = read(size)
-    if piece is None:
-        raise BlockingIOError("the file has no bytes now: capvet reads from blocking files")
-    return piece
-
-
-def _plain_frames(file: BinaryIO, limits: Limits) -> Iterator[Tuple[int, memoryview]]:
-    """The frames of a stream, each with its offset. No byte after a frame is read before the next one is asked for."""
-    report, raw_limits, offset = ffi.new("capvet_report *"), limits_of(limits), 0
-    while True:
-        frame = bytearray()
+    def __next__(self) -> Union[Accepted, Refused]:
         while True:
-            with memoryview(frame) as view:
-                answer = lib.capvet_frame(pointer_to(view), len(view), raw_limits, report)
-            if answer not in (lib.CAPVET_NO_MESSAGE, lib.CAPVET_TRUNCATED):
-                break
-            while len(frame) < report.input_required:
+            answer = self._frames.find()
+            if answer is not None:
+                return _taken(self._frames, answer)
+            if self._is_at_end and self._frames.is_cut:
+                raise self._frames.fault()
+            if self._is_at_end:
+                raise StopIteration
+            if not self._piece:
                 # (in pieces, so that a table that claims much makes no large buffer)
-                piece = _some(file, min(report.input_required - len(frame), 16 * _PIECE), file.read)
-                if not piece and not frame:
-                    return
-                if not piece:
-                    raise _placed(frame_error(lib.CAPVET_TRUNCATED, report), offset)
-                frame += piece
-        if answer != lib.CAPVET_OK:
-            raise _placed(frame_error(answer, report), offset)
-        yield offset, memoryview(frame).toreadonly()
-        offset += len(frame)
+                self._piece = self._some(PIECE if self._is_packed else min(self._frames.missing, 16 * PIECE))
+                self._is_at_end = not self._piece
+            # (which may find no memory, and then the piece is still there)
+            self._frames.add(self._piece)
+            self._piece = b""
+
+    def _some(self, size: int) -> bytes:
+        """At most so many bytes, and none at the end. If this raises, the file has lost none of them.
+
+        So a buffered file reads its device at most once, and before it takes anything from its buffer.
+        """
+        if self._peek is not None:
+            # (`peek` gives nothing at the end, and of a file that is not blocking: then `read` says which)
+            size = min(size, len(self._peek(1)) or 1)
+        piece: Optional[bytes] = self._read(size)
+        if piece is None:
+            raise BlockingIOError("the file has no bytes now: call next() again when it has")
+        return piece
 
 
-def _packed_frames(file: BinaryIO, limits: Limits) -> Iterator[Tuple[int, memoryview]]:
-    """The frames of a packed stream, each with the packed byte at which it starts."""
-    state, report = ffi.new("capvet_unpacking *"), ffi.new("capvet_report *")
-    consumed, required = ffi.new("size_t *"), ffi.new("size_t *")
-    read, raw_limits = getattr(file, "read1", file.read), limits_of(limits)
-    pending, out, at, offset = b"", bytearray(), 0, 0
-    while True:
-        answer = lib.capvet_unpack_message(ffi.from_buffer("uint8_t[]", pending), len(pending), raw_limits,
-                                           ffi.from_buffer("uint8_t[]", out), len(out), state, consumed, required, report)
-        at += consumed[0]
-        pending = pending[consumed[0]:]
-        if answer == lib.CAPVET_OK:
-            yield offset, memoryview(out).toreadonly()[:report.length]
-            out, offset = bytearray(), at
-        elif answer == lib.CAPVET_BUFFER_TOO_SMALL:
-            # (twice as large at most, so that a table that claims much makes no large buffer)
-            grown = bytearray(min(required[0], max(2 * len(out), _PIECE)))
-            grown[:len(out)] = out
-            out = grown
-        elif answer in (lib.CAPVET_NO_MESSAGE, lib.CAPVET_TRUNCATED):
-            piece = _some(file, _PIECE, read)
-            if not piece and answer == lib.CAPVET_NO_MESSAGE:
-                return
-            if not piece:
-                raise _placed(frame_error(lib.CAPVET_TRUNCATED, report), offset)
-            pending += piece
-        else:
-            raise _placed(frame_error(answer, report), offset)
+def read_messages(file: Readable, *, packed: bool = False, exclusive: bool = False, limits: Limits = DEFAULT) -> MessageReader:
+    """Iterate over the messages of a binary file, of gzip.open() or of socket.makefile("rb"), and go on after a refused one.
+
+    Each message is yielded as soon as its last byte has come. The iterator then keeps nothing of it. It holds the part of
+    the next message that has come, never more than Limits.message_words allows. Plain streams are not read ahead; packed
+    ones by at most 64 KiB.
+
+    Raises FrameError where the stream ends in the middle of a message or stops being one, and again if it is asked again.
+    Limits.no_table raises ValueError.
+
+    If `read` raises, for example TimeoutError, the exception passes through and nothing is lost: the next step goes on.
+    A file that is not blocking raises BlockingIOError so. (After a timeout socket.makefile() can't be read any more. Use
+    MessageFeed with socket.recv there.)
+    """
+    return MessageReader(file, packed, exclusive, limits)
+
+
+class MessageFeed:
+    """The messages of a stream whose bytes you receive yourself, for example by asyncio.
+
+        feed = capvet.MessageFeed()
+        while data := await reader.read(65536):
+            for message in feed.feed(data):
+                ...
+        feed.close()
+
+    It holds the bytes that are not yet yielded. They are at most those of one call of feed() and of one message, and
+    Limits.message_words bounds the message. Limits.no_table raises ValueError. Use a feed from one thread at a time.
+    """
+
+    def __init__(self, *, packed: bool = False, exclusive: bool = False, limits: Limits = DEFAULT) -> None:
+        self._frames, self._is_closed = frames_of(packed, exclusive, limits), False
+
+    @property
+    def received(self) -> int:
+        """How many bytes were fed."""
+        return self._frames.received
+
+    @property
+    def missing(self) -> int:
+        """How many bytes have to come at least before there is a next message. It is asked after feed() has no more."""
+        return self._frames.missing
+
+    def feed(self, data: Buffer) -> Iterator[Union[Accepted, Refused]]:
+        """Add the next bytes of the stream, any number of them, and iterate over the messages that are then complete.
+
+        The call itself copies the bytes. Messages that the iteration does not reach are yielded by that of the next call.
+
+        The iteration raises FrameError where the stream stops being one. It does so again after each later call.
+        ValueError is raised after close().
+        """
+        if self._is_closed:
+            raise ValueError("the feed is closed")
+        self._frames.add(data)
+        return self._complete()
+
+    def _complete(self) -> Iterator[Union[Accepted, Refused]]:
+        while (answer := self._frames.find()) is not None:
+            yield _taken(self._frames, answer)
+
+    def close(self) -> None:
+        """Say that the stream has ended.
+
+        Raises FrameError if it ends inside a message, or has stopped being a stream of messages. Raises ValueError if the
+        last iteration was left before its end: then there are messages that nobody has seen.
+        """
+        self._is_closed = True
+        if self._frames.find() is not None and not self._frames.is_at_fault:
+            raise ValueError("the last messages were not read: go through all that feed() yields")
+        if self._frames.is_at_fault or self._frames.is_cut:
+            raise self._frames.fault()

@@ -1,4 +1,6 @@
-"""`python -m capvet vet`: a summary over many files."""
+"""`python -m capvet vet`: many files by some processes.
+
+The processes send what they find in parts, and keep nothing of it. If one is killed, only the file that it was at is lost."""
 
 from __future__ import annotations
 
@@ -6,21 +8,30 @@ import csv
 import json
 import multiprocessing
 import os
-import sys
-from collections import Counter
-from concurrent.futures import Executor, Future, ProcessPoolExecutor, ThreadPoolExecutor, wait
+import signal
+import stat
+import time
+from collections import Counter, deque
 from dataclasses import dataclass, field
-from typing import Any, List, NamedTuple, Optional, Sequence, TextIO
+from multiprocessing.connection import Connection, wait
+from typing import Any, Deque, Dict, Iterator, List, NamedTuple, Optional, Sequence, TextIO
 
-from .errors import FrameError
+from ._capvet import lib
+from .errors import name_of
+from .frames import Frames, frames_of
 from .reports import Limits
-from .streams import read_messages
 
-_WIDTH = 30
+_PIECE = 1 << 20
+_MOST_ROWS = 1 << 16
+"""How many characters of rows a part has, about."""
+_SECONDS = 0.1
+"""After this time a part is sent, if something is done."""
+_MOST_FILES, _MOST_BYTES = 64, 8 << 20
+"""What a process gets at once: so many files, or fewer if they have so many bytes."""
 
 
 class Row(NamedTuple):
-    """A message that is refused, or the place where a file stops being a stream of messages."""
+    """A message that is refused, the place where a file stops being a stream of messages, or a file that can't be read."""
 
     file: str
     message: int
@@ -32,117 +43,308 @@ class Row(NamedTuple):
 
 
 @dataclass
-class Result:
-    """What is known of a file."""
+class Tally:
+    """What is counted. Parts of it can be added."""
 
+    files: int = 0
+    bytes: int = 0
     messages: int = 0
     accepted: int = 0
-    bytes: int = 0
-    rows: List[Row] = field(default_factory=list)
-    failure: Optional[str] = None
+    refused: Counter[str] = field(default_factory=Counter)
+    stopped: Counter[str] = field(default_factory=Counter)
+    failed: Counter[str] = field(default_factory=Counter)
+
+    def add(self, other: Tally) -> None:
+        for name, counted in vars(other).items():
+            # (the sum of two Counters is one)
+            setattr(self, name, getattr(self, name) + counted)
 
 
-class _Read:
-    """A binary file that adds the bytes that were read to the count of all processes."""
+class How(NamedTuple):
+    """How files are vetted, and what is written of their refused messages: nothing, "csv" or "json"."""
 
-    def __init__(self, file: Any, done: Any) -> None:
-        self.file, self.done, self.count = file, done, 0
-
-    def read(self, size: int) -> bytes:
-        return self._counted(self.file.read(size))
-
-    def read1(self, size: int) -> bytes:
-        return self._counted(self.file.read1(size))
-
-    def _counted(self, piece: bytes) -> bytes:
-        # (one process after the other, and not for each small read)
-        if (self.count + len(piece)) >> 18 != self.count >> 18:
-            with self.done.get_lock():
-                self.done.value += ((self.count + len(piece)) >> 18 << 18) - (self.count >> 18 << 18)
-        self.count += len(piece)
-        return piece
+    packed: bool
+    exclusive: bool
+    limits: Limits
+    form: Optional[str]
 
 
-_done: Any = None
+class Part(NamedTuple):
+    """What a process has found since its last part."""
+
+    tally: Tally
+    rows: str
+    faults: List[str]
+    is_inside: bool
+    """Whether a part of a file has been counted, of which the rest follows."""
+    is_idle: bool
+    """Whether all files are done that the process was given."""
 
 
-def _begin(done: Any) -> None:
-    global _done
-    _done = done
+def header(form: Optional[str]) -> str:
+    """The first line of the rows."""
+    return ",".join(Row._fields) + "\n" if form == "csv" else ""
 
 
-def vet_file(name: str, packed: bool, exclusive: bool, limits: Limits) -> Result:
-    """Vets the messages of a file."""
-    result = Result()
+@dataclass
+class _Batch:
+    """What was found since the last part was sent."""
+
+    tally: Tally = field(default_factory=Tally)
+    rows: List[str] = field(default_factory=list)
+    faults: List[str] = field(default_factory=list)
+    size: int = 0
+    """How many characters the rows have."""
+    begin: float = field(default_factory=time.monotonic)
+
+    def write(self, text: str) -> int:
+        """Adds the line of a row. The writer of CSV calls this."""
+        self.rows.append(text)
+        self.size += len(text)
+        return len(text)
+
+    def row(self, row: Row, form: Optional[str]) -> None:
+        if form == "csv":
+            csv.writer(self, lineterminator="\n").writerow(row)
+        elif form:
+            self.write(json.dumps(row._asdict()) + "\n")
+
+
+class _Run:
+    """Vets files one after the other, and sends parts."""
+
+    def __init__(self, connection: Connection, how: How) -> None:
+        self.connection, self.how, self.batch = connection, how, _Batch()
+
+    def send(self, is_inside: bool, is_idle: bool) -> None:
+        batch, self.batch = self.batch, _Batch()
+        self.connection.send(Part(batch.tally, "".join(batch.rows), batch.faults, is_inside, is_idle))
+
+    def send_if_due(self, is_inside: bool, is_slow: bool = False) -> bool:
+        is_due = is_slow or self.batch.size >= _MOST_ROWS or time.monotonic() - self.batch.begin >= _SECONDS
+        if is_due:
+            self.send(is_inside, False)
+        return is_due
+
+    def vet(self, names: Sequence[str]) -> None:
+        for name in names:
+            is_sent = self.vet_file(name)
+            self.batch.tally.files += 1
+            # (so no file is in a part and in a later one again, if a process is killed)
+            if is_sent:
+                self.send(False, False)
+            else:
+                self.send_if_due(False)
+        self.send(False, True)
+
+    def vet_file(self, name: str) -> bool:
+        """Vets a file, and returns whether a part of it was sent."""
+        frames, is_sent = frames_of(self.how.packed, self.how.exclusive, self.how.limits), False
+        try:
+            with open(name, "rb", buffering=0) as file:
+                # (a pipe may give nothing more for long)
+                is_slow = not stat.S_ISREG(os.fstat(file.fileno()).st_mode)
+                while piece := file.read(_PIECE):
+                    self.batch.tally.bytes += len(piece)
+                    frames.add(piece)
+                    is_sent = self.vet_messages(name, frames) or is_sent
+                    is_sent = self.send_if_due(True, is_slow) or is_sent
+                    if frames.is_at_fault:
+                        break
+                if frames.is_at_fault or frames.is_cut:
+                    self.stop(name, frames, self.batch.tally.stopped, frames.fault().reason)
+        except (OSError, MemoryError) as error:
+            self.stop(name, frames, self.batch.tally.failed, type(error).__name__)
+            self.batch.faults.append(str(error) or f"{name}: out of memory")
+        return is_sent
+
+    def stop(self, name: str, frames: Frames, counter: Counter[str], reason: str) -> None:
+        counter[reason] += 1
+        self.batch.row(Row(name, frames.number, frames.offset, reason), self.how.form)
+
+    def vet_messages(self, name: str, frames: Frames) -> bool:
+        """Vets the messages that have come, and returns whether a part was sent."""
+        is_sent, report = False, frames.report
+        while (answer := frames.find()) is not None and not frames.is_at_fault:
+            self.batch.tally.messages += 1
+            if answer == lib.CAPVET_OK:
+                self.batch.tally.accepted += 1
+            else:
+                reason = name_of(answer)
+                self.batch.tally.refused[reason] += 1
+                self.batch.row(Row(name, frames.number, frames.offset, reason, report.segment, report.word, report.pointers),
+                               self.how.form)
+                if self.batch.size >= _MOST_ROWS:
+                    is_sent = self.send_if_due(True) or is_sent
+            frames.skip()
+        return is_sent
+
+
+def _work(connection: Connection, others: List[Connection], how: How) -> None:
+    """What a process does: it vets the files that it is given, until the other end of the connection is closed."""
+    # (it has inherited the other ends, and they would never be closed)
+    for other in others:
+        other.close()
+    # (a terminal sends the signal to all processes, and the one at the other end decides)
+    signal.signal(signal.SIGINT, signal.SIG_IGN)
     try:
-        with open(name, "rb") as stream:
-            file = _Read(stream, _done)
-            try:
-                for message in read_messages(file, packed=packed, exclusive=exclusive, limits=limits):  # type: ignore[arg-type]
-                    result.messages += 1
-                    if message.refusal is None:
-                        result.accepted += 1
-                    else:
-                        it = message.refusal
-                        result.rows.append(Row(name, message.number, message.offset, it.reason, it.segment, it.word, it.pointers))
-            except FrameError as error:
-                result.rows.append(Row(name, result.messages, error.offset, error.reason))
-            result.bytes = file.count
-    except OSError as error:
-        result.failure = str(error)
-    return result
+        while True:
+            _Run(connection, how).vet(connection.recv())
+    except (EOFError, OSError):
+        pass
 
 
-def _size(name: str) -> int:
+@dataclass
+class _Worker:
+    """A process, and which of the files that it was given it has not reported yet."""
+
+    process: Any
+    connection: Connection
+    names: List[str] = field(default_factory=list)
+    is_inside: bool = False
+
+
+class Files:
+    """Vets files by some processes. Iterate over it for the parts, which come in no fixed order. close() ends it at once."""
+
+    def __init__(self, names: Sequence[str], jobs: int, how: How) -> None:
+        self.size = 0
+        """The bytes of all files."""
+        self._how, self._waiting = how, self._groups(names)
+        self._workers: Dict[Connection, _Worker] = {}
+        self._jobs = min(jobs, len(self._waiting))
+
+    def _groups(self, names: Sequence[str]) -> Deque[List[str]]:
+        """The files in groups, each of which a process gets at once."""
+        groups: Deque[List[str]] = deque()
+        group_size = _MOST_BYTES
+        for name in names:
+            size = _size(name)
+            self.size += size or 0
+            if not groups or size is None or group_size + size > _MOST_BYTES or len(groups[-1]) == _MOST_FILES:
+                groups.append([])
+                group_size = 0
+            groups[-1].append(name)
+            group_size += _MOST_BYTES if size is None else size
+        return groups
+
+    def __enter__(self) -> Files:
+        return self
+
+    def __exit__(self, *_: object) -> None:
+        for worker in self._workers.values():
+            worker.process.kill()
+            worker.process.join()
+            worker.connection.close()
+        self._workers.clear()
+
+    def _begin(self) -> None:
+        here, there = multiprocessing.Pipe()
+        process = multiprocessing.Process(target=_work, args=(there, [here, *self._workers], self._how), daemon=True)
+        # (or the signal could end the process before it ignores it)
+        signal.pthread_sigmask(signal.SIG_BLOCK, (signal.SIGINT,))
+        process.start()
+        signal.pthread_sigmask(signal.SIG_UNBLOCK, (signal.SIGINT,))
+        there.close()
+        self._workers[here] = worker = _Worker(process, here)
+        self._give(worker)
+
+    def _give(self, worker: _Worker) -> None:
+        worker.names, worker.is_inside = self._waiting.popleft(), False
+        try:
+            worker.connection.send(worker.names)
+        except OSError:
+            # (it was killed, which the next look at its connection shows)
+            pass
+
+    def __iter__(self) -> Iterator[Part]:
+        """The parts as they come, and one without anything now and then."""
+        while self._waiting or any(worker.names for worker in self._workers.values()):
+            while self._waiting and len(self._workers) < self._jobs:
+                self._begin()
+            ready = wait(list(self._workers), timeout=_SECONDS)
+            for connection in ready:
+                yield from self._received(self._workers[connection])  # type: ignore[index]
+            if not ready:
+                yield Part(Tally(), "", [], False, False)
+
+    def _received(self, worker: _Worker) -> Iterator[Part]:
+        try:
+            part: Part = worker.connection.recv()
+        except (EOFError, OSError):
+            yield from self._killed(worker)
+            return
+        del worker.names[:part.tally.files]
+        worker.is_inside = part.is_inside
+        yield part
+        if part.is_idle and self._waiting:
+            self._give(worker)
+
+    def _killed(self, worker: _Worker) -> Iterator[Part]:
+        """What is known of the files of a process that was killed. They are given to others, but for the one that it was at."""
+        worker.process.join()
+        worker.connection.close()
+        del self._workers[worker.connection]
+        names = worker.names
+        if names and (worker.is_inside or len(names) == 1):
+            name, names = names[0], names[1:]
+            batch = _Batch(Tally(files=1, failed=Counter(KilledWorker=1)))
+            batch.row(Row(name, 0, 0, "KilledWorker"), self._how.form)
+            fault = f"{name}: the process that vetted it was killed (status {worker.process.exitcode})"
+            yield Part(batch.tally, "".join(batch.rows), [fault], False, False)
+        self._waiting.extendleft([name] for name in reversed(names))
+
+
+def _size(name: str) -> Optional[int]:
+    """How many bytes a file has, or None for a pipe and the like."""
     try:
-        return os.path.getsize(name)
+        status = os.stat(name)
     except OSError:
         return 0
+    return status.st_size if stat.S_ISREG(status.st_mode) else None
 
 
-def _bar(done: int, total: int) -> str:
-    part = min(1.0, done / total) if total else 1.0
-    filled = int(part * _WIDTH)
-    return f"\r[{'#' * filled}{'.' * (_WIDTH - filled)}] {int(part * 100):3}% {done / 1048576:.1f} of {total / 1048576:.1f} MiB"
+def summary(tally: Tally) -> str:
+    """How many files, messages and bytes there are, and how many messages are refused for each reason."""
+    text = (f"files {tally.files} bytes {tally.bytes} messages {tally.messages} accepted {tally.accepted} "
+            f"refused {sum(tally.refused.values())}\n")
+    for word, counts in (("refused", tally.refused), ("stopped", tally.stopped), ("failed", tally.failed)):
+        text += "".join(f"{word} {reason} {count}\n" for reason, count in sorted(counts.items(), key=lambda it: (-it[1], it[0])))
+    return text
 
 
-def _followed(futures: List[Future[Result]], done: Any, total: int) -> None:
-    """Shows a bar on a terminal until all files are done."""
-    left: Any = set(futures)
-    while left and sys.stderr.isatty():
-        _, left = wait(left, timeout=0.2)
-        sys.stderr.write(_bar(done.value if left else total, total))
-        sys.stderr.flush()
-    if futures and sys.stderr.isatty():
-        sys.stderr.write("\n")
+class Bar:
+    """How many bytes are done, on a terminal. Elsewhere it shows nothing."""
 
+    _WIDTH = 30
 
-def vet_files(names: Sequence[str], jobs: int, packed: bool, exclusive: bool, limits: Limits) -> List[Result]:
-    """Vets files by some processes, and returns the result of each, in order."""
-    done = multiprocessing.Value("Q", 0)
-    kind: Any = ProcessPoolExecutor if jobs > 1 else ThreadPoolExecutor
-    pool: Executor
-    with kind(jobs, initializer=_begin, initargs=(done,)) as pool:
-        futures = [pool.submit(vet_file, name, packed, exclusive, limits) for name in names]
-        _followed(futures, done, sum(map(_size, names)))
-        return [future.result() for future in futures]
+    def __init__(self, out: TextIO, total: int) -> None:
+        self._out, self._total, self._is_shown = out if out.isatty() else None, total, False
+        self._time = 0.0
 
+    def show(self, done: int) -> None:
+        """Shows it, if it has changed for long enough or was hidden."""
+        now = time.monotonic()
+        if self._out is None or self._is_shown and now - self._time < _SECONDS:
+            return
+        part = min(1.0, done / self._total) if self._total else 1.0
+        filled = int(part * self._WIDTH)
+        self._out.write(f"\r[{'#' * filled}{'.' * (self._WIDTH - filled)}] {int(part * 100):3}% "
+                        f"{done / 1048576:.1f} of {self._total / 1048576:.1f} MiB")
+        self._out.flush()
+        self._time, self._is_shown = now, True
 
-def write_rows(rows: List[Row], form: str, out: TextIO) -> None:
-    """Writes the rows as CSV or as JSON lines."""
-    if form == "csv":
-        writer = csv.writer(out, lineterminator="\n")
-        writer.writerows([Row._fields, *rows])
-    else:
-        out.writelines(json.dumps(row._asdict()) + "\n" for row in rows)
+    def hide(self) -> None:
+        """Clears it, so that other lines can be written."""
+        if self._out is not None and self._is_shown:
+            self._out.write("\r\x1b[K")
+            self._out.flush()
+            self._is_shown = False
 
-
-def write_summary(results: List[Result], out: TextIO) -> None:
-    """Writes how many files, messages and bytes there are, and how many messages are refused for each reason."""
-    rows = [row for result in results for row in result.rows]
-    refused = Counter(row.reason for row in rows if row.segment is not None)
-    stopped = Counter(row.reason for row in rows if row.segment is None)
-    out.write(f"files {len(results)} bytes {sum(it.bytes for it in results)} messages {sum(it.messages for it in results)} "
-              f"accepted {sum(it.accepted for it in results)} refused {sum(refused.values())}\n")
-    for word, counts in (("refused", refused), ("stopped", stopped)):
-        out.writelines(f"{word} {reason} {count}\n" for reason, count in sorted(counts.items(), key=lambda it: (-it[1], it[0])))
+    def end(self, done: int) -> None:
+        """Shows it a last time, and ends its line."""
+        self._is_shown = False
+        self.show(done)
+        if self._out is not None:
+            self._out.write("\n")
+            self._out.flush()

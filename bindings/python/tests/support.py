@@ -3,18 +3,23 @@
 CAPVET_PROGRAM is the program; CAPVET_CASES is how many cases of each kind are made."""
 import os
 import random
+import shutil
 import struct
 import subprocess
 import sys
 from pathlib import Path
 
+import pytest
+
 import capvet
 
-TOP = Path(__file__).resolve().parents[3]
+HERE = Path(__file__).resolve()
+# (in a source distribution the files of the repository are below this folder)
+TOP = HERE.parent / "shared" if (HERE.parent / "shared").exists() else HERE.parents[3]
 sys.path.insert(0, str(TOP / "tests"))
-from calls import changed, made_up, samples  # noqa: E402
+from made import changed, made_up, samples  # noqa: E402
 
-PROGRAM = os.environ.get("CAPVET_PROGRAM", str(TOP / "build/capvet"))
+PROGRAM = os.environ.get("CAPVET_PROGRAM") or shutil.which("capvet") or str(TOP / "build/capvet")
 CASES = int(os.environ.get("CAPVET_CASES", "1000"))
 FILES = sorted((TOP / "examples").glob("*.bin"))
 LAX = capvet.Limits(allow_nonstrict=True, allow_amplified=True)
@@ -23,6 +28,8 @@ STRICT = ["--strict", "--unamplified"]
 
 def program(*words, data=None):
     """What the program writes on both outputs, and its status."""
+    if not Path(PROGRAM).exists():
+        pytest.skip("no program capvet: it has to be on the path or in CAPVET_PROGRAM")
     ran = subprocess.run([PROGRAM, *map(str, words)], input=data, capture_output=True)
     return ran.stdout, ran.stderr.decode(), ran.returncode
 

@@ -6,6 +6,7 @@ import io
 import mmap
 import pickle
 import re
+from pathlib import Path
 
 import pytest
 
@@ -99,7 +100,7 @@ def test_nodes():
     for path, position in (("", 0), ("/x", 1), ("/p01", 3), ("/p65536", 6)):
         with pytest.raises(capvet.PathError) as error:
             capvet.node(data, path)
-        assert f"capvet: bad path at {error.value.position}\n" == program("get", path, data=b"")[1]
+        assert program("get", path, data=b"")[1].startswith(f"capvet: bad path at {error.value.position}\n")
     assert capvet.node(CAPABILITY, "/p0").capability == 9
 
 
@@ -137,6 +138,15 @@ def test_other_arguments():
     for argument in ("text", 7, None, [1]):
         with pytest.raises(TypeError):
             capvet.vet(argument)
+    for call in (lambda: capvet.node(NULL, None), lambda: capvet.node(NULL, b"/"), lambda: capvet.nodes(NULL, 7),
+                 lambda: capvet.read_messages("name"), lambda: capvet.read_messages(7), lambda: capvet.unpack(b"", max_size=None),
+                 lambda: capvet.vet(NULL, limits=None), lambda: capvet.messages(NULL, limits=None),
+                 lambda: capvet.canonical(NULL, limits=7), lambda: capvet.vet_segments(7), lambda: capvet.vet_segments(["text"]),
+                 lambda: capvet.MessageFeed(limits=[]), lambda: list(capvet.read_messages(io.StringIO("text")))):
+        with pytest.raises(TypeError):
+            call()
+    with pytest.raises(capvet.PathError):
+        capvet.node(NULL, "/\udcff")
     for fields in (dict(depth=257), dict(charge=-1), dict(message_words=1 << 29), dict(no_table=True, allow_trailing=True)):
         with pytest.raises(ValueError):
             capvet.Limits(**fields)
@@ -210,7 +220,7 @@ def declared(text):
 def test_declarations():
     """The package declares each call of the header, as the header does."""
     header = declared((TOP / "include/capvet.h").read_text())
-    text = (TOP / "bindings/python/capvet_build.py").read_text()
+    text = (Path(__file__).resolve().parents[1] / "capvet_build.py").read_text()
     assert len(header) >= 17 and any("capvet_get_range(" in call for call in header)
     assert declared(re.search(r'^DECLARATIONS = """(.*?)"""', text, re.S | re.M)[1]) == header
 

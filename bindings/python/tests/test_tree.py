@@ -6,9 +6,12 @@ import shutil
 import subprocess
 import sys
 
+import capvet as package
 import pytest
 
-from support import FILES, TOP, framed, many, program
+from support import FILES, LAX, TOP, framed, many, program
+
+import needs  # (of tests/, which support.py has put on the path)
 
 GUESS = re.compile(rb"^( *\w+ list 2 \d+) guess (\".*\")$", re.M)
 
@@ -108,7 +111,35 @@ def test_json_of_changed():
     assert ("".join(map(dumped_message, messages)).encode(), error, status) == wanted
 
 
-@pytest.mark.skipif(shutil.which("jq") is None, reason="jq isn't on the path: the JSON was read by Python alone")
+def of_tree(node):
+    """A node of the JSON, and all below it."""
+    yield node
+    for child in node.get("pointers", node.get("elements", [])):
+        yield from of_tree(child)
+
+
+@pytest.mark.parametrize("name", ["contacts.bin", "contacts-many-segments.bin", "telemetry.bin"])
+def test_paths_and_places(name):
+    message = (TOP / "examples" / name).read_bytes()
+    segments, pointers = package.frame(message).segments, 0
+    for node in of_tree(json.loads(capvet("tree", "--json", TOP / "examples" / name)[0])["root"]):
+        found = package.node(message, node["path"], limits=LAX)
+        assert found.kind == node["kind"]
+        at = segments[node["segment"]][0] + 8 * node["word"]
+        if node["kind"] == "struct":
+            assert "".join(node["data"]) == bytes(found.data).hex()
+        # (an element of a list of structs has no pointer: its place is that of its bytes)
+        if at == found.offset and re.search(r"/i\d+$", node["path"]):
+            continue
+        # (a pointer of no known kind is refused where it is)
+        with pytest.raises(package.Refusal) as error:
+            package.vet(message[:at] + b"\7" + bytes(7) + message[at + 8:], limits=LAX)
+        assert (error.value.reason, error.value.segment, error.value.word) == ("Reserved", node["segment"], node["word"])
+        pointers += 1
+    assert pointers == package.vet(message, limits=LAX).pointers
+
+
+@pytest.mark.skipif(shutil.which("jq") is None, reason=needs.line("the JSON of tree, by jq", "jq"))
 def test_jq():
     data, wanted = changed_stream()
     text = capvet("tree", "--json", "--words", 2000, data=data)[0]

@@ -37,17 +37,21 @@
 //! # Linking
 //!
 //! The library is taken from the folder `CAPVET_LIB_DIR`, and otherwise from the place that `pkg-config` names. It needs
-//! an x86-64 processor with SSE4.1, SSSE3 and POPCNT (x86-64-v2).
+//! an x86-64 processor with SSE4.1, SSSE3 and POPCNT (x86-64-v2). Without these some messages end the process by SIGILL, and
+//! others pass. Call `cpu_supported` once, at the start.
 //!
 //! # Errors
 //!
 //! The text of an error includes its cause, so its `source()` is `None`. Texts are the lines of the program `capvet`,
 //! where it has one. Enums and structs may get more variants and fields: match them with `..` and a last arm.
 //!
+//! The operator `?` leads from each error to those that have it as a variant, and from each to [`std::io::Error`]. Its kind is
+//! then `UnexpectedEof` for bytes that end too early, `InvalidInput` for a call that is wrong, and else `InvalidData`.
+//!
 //! # Features
 //!
-//! With the feature `std`, which is on by default, the errors implement `std::error::Error`. Without it the crate is
-//! `no_std`. The feature `alloc`, which is part of `std`, has the calls that return a `Vec`, and `vet_exclusive_alloc`. No
+//! With the feature `std`, which is on by default, the errors implement `std::error::Error`, and [`read_messages`] is there.
+//! Without it the crate is `no_std`. The feature `alloc`, which is part of `std`, has the calls that return a `Vec`, and `vet_exclusive_alloc`. No
 //! other call allocates.
 
 #![cfg_attr(not(feature = "std"), no_std)]
@@ -60,12 +64,16 @@ compile_error!("libcapvet.a is built for 64-bit machines alone");
 extern crate alloc;
 
 mod canonical;
+mod conversions;
 mod exclusive;
 mod limits;
 mod messages;
 mod node;
 mod nodes;
 mod packing;
+mod path;
+#[cfg(feature = "std")]
+mod reading;
 mod refusal;
 mod report;
 mod segments;
@@ -89,6 +97,11 @@ pub use nodes::{nodes, Nodes, Step};
 pub use packing::{pack, pack_message, unpack};
 pub use packing::{pack_into, pack_message_into, unpack_into};
 pub use packing::{PackError, PackMessageError, UnpackError};
+pub use path::Path;
+#[cfg(feature = "std")]
+pub use reading::{
+    read_messages, read_packed_messages, MessageBuf, ReadError, ReadMessages, ReadPackedMessages,
+};
 pub use refusal::{FrameError, Reason, Refusal, VetError};
 pub use report::{Position, Report};
 pub use segments::{segments, vet_segments, Segments};
@@ -188,6 +201,27 @@ fn input_length(bytes: &[u8], limits: Limits) -> Result<usize, VetError> {
         return Ok(bytes.len());
     }
     Ok(frame_length(bytes, limits)?)
+}
+
+/// Returns whether this machine's processor has what the library needs: the features of x86-64-v2. On another one a call may end
+/// the process by SIGILL, depending on the message.
+///
+/// # Examples
+///
+/// ```
+/// assert!(capvet::cpu_supported(), "the processor lacks a feature of x86-64-v2");
+/// ```
+#[cfg(all(feature = "std", target_arch = "x86_64"))]
+#[must_use]
+pub fn cpu_supported() -> bool {
+    use std::arch::is_x86_feature_detected as has;
+    // (each processor with these has LAHF and SAHF too)
+    has!("sse3")
+        && has!("ssse3")
+        && has!("sse4.1")
+        && has!("sse4.2")
+        && has!("popcnt")
+        && has!("cmpxchg16b")
 }
 
 /// Returns the version of the linked library, major and minor. Within a major version nothing is removed or changed.

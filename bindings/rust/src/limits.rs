@@ -15,6 +15,7 @@
 ///
 /// const LIMITS: Limits = Limits::DEFAULT.message_words(65_536).charge(65_536).depth(32).allow_trailing(true);
 /// assert_eq!(LIMITS.frame_bound(), 526_344);
+/// assert_eq!((LIMITS.depth_limit(), LIMITS.allows_trailing()), (32, true));
 /// assert_eq!(Limits::DEFAULT.depth(1000), Limits::DEFAULT.depth(Limits::MAX_DEPTH));
 /// ```
 #[derive(Clone, Copy, Debug, PartialEq, Eq, Hash)]
@@ -110,6 +111,48 @@ impl Limits {
     pub const fn no_table(mut self, no_table: bool) -> Self {
         self.no_table = no_table;
         self
+    }
+
+    /// The most words in all segments.
+    #[must_use]
+    pub const fn message_words_limit(&self) -> u64 {
+        self.message_words
+    }
+
+    /// The highest charge, in words.
+    #[must_use]
+    pub const fn charge_limit(&self) -> u64 {
+        self.charge
+    }
+
+    /// The deepest level of an object.
+    #[must_use]
+    pub const fn depth_limit(&self) -> u32 {
+        self.depth
+    }
+
+    /// Whether bytes may follow the message.
+    #[must_use]
+    pub const fn allows_trailing(&self) -> bool {
+        self.allow_trailing
+    }
+
+    /// Whether the message need not be strict.
+    #[must_use]
+    pub const fn allows_nonstrict(&self) -> bool {
+        self.allow_nonstrict
+    }
+
+    /// Whether the charge may be more than [`SLACK`](Limits::SLACK) words above the words of the segments.
+    #[must_use]
+    pub const fn allows_amplified(&self) -> bool {
+        self.allow_amplified
+    }
+
+    /// Whether the bytes are the words of one segment, without a table.
+    #[must_use]
+    pub const fn has_no_table(&self) -> bool {
+        self.no_table
     }
 
     /// The greatest length of a frame within these limits, in bytes, table included. A receiver holds at most as many.

@@ -261,7 +261,7 @@ impl ExactSizeIterator for Elements<'_> {}
 
 impl FusedIterator for Elements<'_> {}
 
-/// The error of [`node`] and of [`nodes`](crate::nodes).
+/// The error of [`node`] and of [`nodes`](crate::nodes()).
 #[derive(Clone, Copy, Debug, PartialEq, Eq, Hash)]
 #[non_exhaustive]
 pub enum GetError {
@@ -271,7 +271,7 @@ pub enum GetError {
         /// The first byte at which it is no path, counted from 0, or its length if it ends too early.
         position: usize,
     },
-    /// The path has no step that varies. Only [`nodes`](crate::nodes) has this error.
+    /// The path has no step that varies. Only [`nodes`](crate::nodes()) has this error.
     #[non_exhaustive]
     NoStep {
         /// How many steps it has.

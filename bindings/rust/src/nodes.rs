@@ -28,15 +28,18 @@ impl Step {
 
 // How many nodes are found by one call of the library.
 const BLOCK: usize = 16;
+// More steps than any path to a node has. In each level one step leads to an object, and one to an element of it.
+const LONGEST: usize = 2 * Limits::MAX_DEPTH as usize + 2;
 
 /// An iterator over the nodes at paths of which one step varies; see [`nodes`].
 #[derive(Clone, Debug)]
 #[must_use = "an iterator finds nothing before it is asked"]
 pub struct Nodes<'b, S> {
     bytes: &'b [u8],
-    // the path of the next block's first node
     steps: S,
     varying: usize,
+    // the step that varies, as it is in the path of the next block's first node
+    next: Option<Step>,
     limits: Limits,
     block: [RawNode; BLOCK],
     // how many nodes of the block were found, and how many of these were returned
@@ -53,14 +56,14 @@ pub struct Nodes<'b, S> {
 /// steps `[Pointer(0), Element(0)]` and `varying` 1 the nodes are the elements of a list. With
 /// `[Pointer(0), Element(0), Pointer(2)]` and `varying` 1 they are pointer 2 of each element.
 ///
-/// The steps are an array, a `Vec`, or a slice that is borrowed mutably. A slice is changed: its numbers mean nothing
-/// afterwards.
+/// The steps are an array, a slice, a `Vec`, or anything else that is borrowed as a slice. They are not changed.
 ///
-/// Each node is what [`node`](crate::node) returns for its path, and the limits apply to each path by itself. The iterator
+/// Each node is what [`node`](crate::node()) returns for its path, and the limits apply to each path by itself. The iterator
 /// ends at the first path that leads to nothing, after the last element or below a null pointer. Nothing is at a pointer
 /// from number 65535 on. After an error it ends too. To skip such a path, call again with a greater number in the step.
 ///
-/// It finds 16 nodes at a time, and keeps them: it has a size of about 1 KiB.
+/// It finds 16 nodes at a time, and keeps them: it has a size of about 1 KiB. A call of `next` uses 5 KiB of stack for the
+/// steps.
 ///
 /// # Errors
 ///
@@ -69,7 +72,7 @@ pub struct Nodes<'b, S> {
 /// - [`GetError::NotAccepted`] with [`FrameError::BadLimits`](crate::FrameError::BadLimits): the limits have
 ///   [`Limits::no_table`].
 /// - [`GetError::NoStep`]: `varying` is not less than the number of steps.
-/// - [`GetError::NotAccepted`]: as for [`node`](crate::node), for the first path on which anything is wrong.
+/// - [`GetError::NotAccepted`]: as for [`node`](crate::node()), for the first path on which anything is wrong.
 ///
 /// # Examples
 ///
@@ -84,11 +87,12 @@ pub struct Nodes<'b, S> {
 /// let nodes = capvet::nodes(&message, [Step::Pointer(0)], 0, Limits::DEFAULT);
 /// let texts = nodes.map(|node| Ok(node?.text()));
 /// assert_eq!(texts.collect::<Result<Vec<_>, GetError>>()?, [Some("Ada"), Some("Eve")]);
-/// // A struct has no elements.
-/// assert_eq!(capvet::nodes(&message, [Step::Element(0)], 0, Limits::DEFAULT).next(), None);
+/// // A struct has no elements. (The steps are borrowed here.)
+/// let steps: &[Step] = &[Step::Element(0)];
+/// assert_eq!(capvet::nodes(&message, steps, 0, Limits::DEFAULT).next(), None);
 /// # Ok::<(), GetError>(())
 /// ```
-pub fn nodes<S: AsMut<[Step]>>(
+pub fn nodes<S: AsRef<[Step]>>(
     bytes: &[u8],
     steps: S,
     varying: usize,
@@ -96,6 +100,7 @@ pub fn nodes<S: AsMut<[Step]>>(
 ) -> Nodes<'_, S> {
     Nodes {
         bytes,
+        next: steps.as_ref().get(varying).copied(),
         steps,
         varying,
         limits,
@@ -107,38 +112,42 @@ pub fn nodes<S: AsMut<[Step]>>(
     }
 }
 
-impl<S: AsMut<[Step]>> Nodes<'_, S> {
+impl<S: AsRef<[Step]>> Nodes<'_, S> {
     // Finds the nodes of the next block.
     fn find(&mut self) {
-        let steps = self.steps.as_mut();
+        let steps = self.steps.as_ref();
+        // (nothing is at a path that is longer, so the first steps give its answer)
+        let length = steps.len().min(LONGEST);
+        let mut path = [Step::Pointer(0); LONGEST];
+        path[..length].copy_from_slice(&steps[..length]);
+        if let (Some(step), true) = (self.next, self.varying < length) {
+            path[self.varying] = step;
+        }
+        // (without a step that varies the library answers that the path is bad)
+        let varying = match self.next {
+            Some(_) => self.varying.min(length.saturating_sub(1)),
+            None => length,
+        };
         let (answer, found, raw) = sys::get_range(
             self.bytes,
             &self.limits,
-            steps,
-            self.varying,
+            &path[..length],
+            varying,
             &mut self.block,
         );
         (self.found, self.returned) = (found, 0);
-        let next = match answer {
-            Answer::OK => steps[self.varying].plus(BLOCK as u32),
-            Answer::NO_NODE => None,
-            Answer::BAD_PATH => {
-                self.error = Some(GetError::NoStep { steps: steps.len() });
-                None
-            }
-            _ => {
-                self.error = Some(VetError::of(answer, &raw).into());
-                None
-            }
+        self.error = match answer {
+            Answer::OK | Answer::NO_NODE => None,
+            Answer::BAD_PATH => Some(GetError::NoStep { steps: steps.len() }),
+            _ => Some(VetError::of(answer, &raw).into()),
         };
-        match next {
-            Some(step) => steps[self.varying] = step,
-            None => self.is_last_block = true,
-        }
+        let next = self.next.filter(|_| answer == Answer::OK);
+        self.next = next.and_then(|step| step.plus(BLOCK as u32));
+        self.is_last_block = self.next.is_none();
     }
 }
 
-impl<'b, S: AsMut<[Step]>> Iterator for Nodes<'b, S> {
+impl<'b, S: AsRef<[Step]>> Iterator for Nodes<'b, S> {
     type Item = Result<Node<'b>, GetError>;
 
     fn next(&mut self) -> Option<Self::Item> {
@@ -155,7 +164,7 @@ impl<'b, S: AsMut<[Step]>> Iterator for Nodes<'b, S> {
     }
 }
 
-impl<S: AsMut<[Step]>> FusedIterator for Nodes<'_, S> {}
+impl<S: AsRef<[Step]>> FusedIterator for Nodes<'_, S> {}
 
 #[cfg(all(test, feature = "std"))]
 mod tests {
@@ -249,9 +258,12 @@ mod tests {
             let message = list_of(&capabilities(count));
             let wanted: Vec<_> = (0..count as u32).collect();
             assert_eq!(indices(elements(&message, 0)), wanted);
-            // (a slice serves too)
-            let steps = &mut [Pointer(0), Element(0)][..];
+            // (a slice serves too, and a vector that is borrowed)
+            let steps: &[Step] = &[Pointer(0), Element(0)];
             assert_eq!(indices(nodes(&message, steps, 1, Limits::DEFAULT)), wanted);
+            let steps = steps.to_vec();
+            let found = nodes(&message, &steps, 1, Limits::DEFAULT);
+            assert_eq!(indices(found), wanted);
         }
     }
 
@@ -355,6 +367,40 @@ mod tests {
         let limits = Limits::DEFAULT.no_table(true);
         let error = GetError::NotAccepted(FrameError::BadLimits.into());
         assert_eq!(nodes(CONTACTS, [], 0, limits).next(), Some(Err(error)));
+    }
+
+    #[test]
+    fn a_long_path_has_the_answer_of_its_node() {
+        // A struct whose pointer leads back to itself, and a list of pointers that lead back to it.
+        let cycle = [1 << 32, 0xffff_fffc | 1 << 48];
+        let lists = [
+            2 << 32,
+            1 | (6 | 1 << 3) << 32,
+            0xffff_fff9 | (6 | 1 << 3) << 32,
+        ];
+        let of =
+            |words: &[u64]| -> Vec<u8> { words.iter().flat_map(|it| it.to_le_bytes()).collect() };
+        let deepest = Limits::DEFAULT
+            .depth(Limits::MAX_DEPTH)
+            .charge(Limits::MAX_CHARGE)
+            .allow_amplified(true);
+        for (message, step) in [(of(&cycle), Pointer(0)), (of(&lists), Element(0))] {
+            let mut lengths = Vec::new();
+            for length in [200, 255, 256, 257, LONGEST - 1, LONGEST, LONGEST + 1, 2000] {
+                let steps = vec![step; length];
+                let wanted = node(&message, &text(&steps), deepest).transpose();
+                for varying in [0, length / 2, length - 1] {
+                    let found = nodes(&message, &steps, varying, deepest).next();
+                    assert_eq!(found, wanted, "{step:?} {length} {varying}");
+                }
+                lengths.extend(wanted.map(|it| it.is_ok()));
+            }
+            assert_eq!(lengths.first(), Some(&true));
+            assert_eq!(lengths.last(), Some(&false));
+            assert!(nodes(&message, vec![step; 2000], 2000, deepest)
+                .next()
+                .is_some());
+        }
     }
 
     #[test]

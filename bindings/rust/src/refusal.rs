@@ -226,6 +226,21 @@ impl FrameError {
         Self::of(answer, raw).unwrap_or(Self::Other(answer.0))
     }
 
+    /// The name that the program prints, which is that of the variant.
+    #[must_use]
+    pub const fn name(&self) -> &'static str {
+        match self {
+            Self::NoMessage => "NoMessage",
+            Self::TooManySegments { .. } => "TooManySegments",
+            Self::TooLarge { .. } => "TooLarge",
+            Self::Truncated { .. } => "Truncated",
+            Self::Trailing { .. } => "Trailing",
+            Self::BadLimits => "BadLimits",
+            Self::BadSegment { .. } => "BadSegment",
+            Self::Other(_) => "Unknown",
+        }
+    }
+
     /// The least number of bytes that gets further, if more bytes may help: 8 if there are none, and otherwise that of
     /// [`FrameError::Truncated`].
     #[must_use]
@@ -242,12 +257,11 @@ impl FrameError {
 impl fmt::Display for FrameError {
     fn fmt(&self, f: &mut fmt::Formatter<'_>) -> fmt::Result {
         match self {
-            Self::NoMessage => f.write_str("NoMessage"),
-            Self::TooManySegments { count } => write!(f, "TooManySegments {count}"),
-            Self::TooLarge { words } => write!(f, "TooLarge {words}"),
+            Self::NoMessage | Self::BadLimits => f.write_str(self.name()),
+            Self::TooManySegments { count: number }
+            | Self::TooLarge { words: number }
+            | Self::Trailing { bytes: number, .. } => write!(f, "{} {number}", self.name()),
             Self::Truncated { required } => write!(f, "Truncated, {required} bytes are required"),
-            Self::Trailing { bytes, .. } => write!(f, "Trailing {bytes}"),
-            Self::BadLimits => f.write_str("BadLimits"),
             Self::BadSegment { index } => write!(f, "BadSegment {index}"),
             Self::Other(answer) => write!(f, "unknown answer {answer}"),
         }
@@ -310,6 +324,17 @@ impl VetError {
                 segments: raw.segments,
             }),
             None => Self::Other(answer.0),
+        }
+    }
+
+    /// The name of the answer that the program prints: that of the [`Reason`], or of the [`FrameError`].
+    #[must_use]
+    pub const fn name(&self) -> &'static str {
+        match self {
+            Self::Frame(error) => error.name(),
+            Self::Refused(refusal) => refusal.reason.name(),
+            Self::ManySegments { .. } => "ManySegments",
+            Self::Other(_) => "Unknown",
         }
     }
 

@@ -189,6 +189,16 @@ extern "C" {
         found: *mut usize,
         report: *mut RawReport,
     ) -> Answer;
+    fn capvet_pointer_path(
+        bytes: *const u8,
+        length: usize,
+        limits: *const RawLimits,
+        number: u64,
+        steps: *mut Step,
+        step_count: usize,
+        required: *mut usize,
+        report: *mut RawReport,
+    ) -> Answer;
     fn capvet_pack(
         bytes: *const u8,
         length: usize,
@@ -408,6 +418,33 @@ pub(crate) fn get_range(
         )
     };
     (answer, found, report)
+}
+
+/// Writes the steps to the pointer of this number in preorder. The number that is returned is how many they are.
+pub(crate) fn pointer_path(
+    bytes: &[u8],
+    limits: &Limits,
+    number: u64,
+    steps: &mut [Step],
+) -> (Answer, usize) {
+    let (limits, mut report) = (RawLimits::of(limits), RawReport::default());
+    let (mut spare, mut required) = (Step::Pointer(0), 0);
+    // SAFETY: the declaration is the header's. A `Step` is laid out as a `capvet_step`, by its `repr`, and the call writes the
+    // numbers of its variants alone. `bytes` is borrowed for the call, `steps` is borrowed mutably, and the number and structs
+    // are locals.
+    let answer = unsafe {
+        capvet_pointer_path(
+            address(bytes),
+            bytes.len(),
+            &limits,
+            number,
+            address_mut(steps, &mut spare),
+            steps.len(),
+            &mut required,
+            &mut report,
+        )
+    };
+    (answer, required)
 }
 
 /// Packs the words to the start of `out`. The number is the length of the packed bytes.

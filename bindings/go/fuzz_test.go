@@ -1,0 +1,368 @@
+package capvet_test
+
+import (
+	"bytes"
+	"encoding/binary"
+	"errors"
+	"flag"
+	"fmt"
+	"io"
+	"os"
+	"path/filepath"
+	"reflect"
+	"testing"
+
+	"capvet.invalid/capvet"
+)
+
+// corpus is a folder of inputs to begin with. tests/fuzz/fuzz.h says what an input is: 16 bytes of arguments, and then the bytes
+// of a message or of a stream.
+var corpus = flag.String("corpus", "", "a folder of inputs for fuzzing")
+
+// input is an input with its arguments.
+type input struct {
+	limits capvet.Limits
+	bytes  []byte
+	slack  int
+	state  uint64
+}
+
+// inputOf reads the arguments of an input.
+func inputOf(data []byte) (*input, bool) {
+	if len(data) < 16 || len(data) > 1<<16 {
+		return nil, false
+	}
+	in := &input{
+		limits: capvet.Limits{
+			Depth:          uint32(binary.LittleEndian.Uint16(data[2:])),
+			MessageWords:   uint64(binary.LittleEndian.Uint32(data[4:])),
+			Charge:         uint64(binary.LittleEndian.Uint32(data[8:])),
+			AllowTrailing:  data[0]&1 != 0,
+			AllowNonstrict: data[0]&2 != 0,
+			AllowAmplified: data[0]&4 != 0,
+			NoTable:        data[0]&8 != 0,
+		},
+		bytes: data[16:],
+		slack: int(data[1] & 7),
+		state: uint64(binary.LittleEndian.Uint32(data[12:])),
+	}
+	// (a walk of an amplified message would take seconds)
+	if l := &in.limits; l.AllowAmplified && (l.Charge == 0 || l.Charge > 1<<16) {
+		l.Charge = 1 << 16
+	}
+	return in, true
+}
+
+// choose returns a number below n.
+func (in *input) choose(n int) int {
+	in.state = in.state*6364136223846793005 + 1442695040888963407
+	return int((in.state >> 33) % uint64(n))
+}
+
+// seeds adds the inputs of the corpus.
+func seeds(f *testing.F) {
+	f.Add(make([]byte, 16))
+	names, err := filepath.Glob(filepath.Join(*corpus, "*"))
+	if *corpus == "" || err != nil {
+		names = nil
+	}
+	for _, name := range names {
+		data, err := os.ReadFile(name)
+		if err != nil {
+			f.Fatal(err)
+		}
+		f.Add(data)
+	}
+}
+
+// pieces gives bytes in pieces of any size, and sometimes none.
+type pieces struct {
+	in   *input
+	rest []byte
+}
+
+func (p *pieces) Read(b []byte) (int, error) {
+	if len(b) == 0 {
+		panic("a read without space")
+	}
+	if p.in.choose(8) == 0 {
+		return 0, nil
+	}
+	n := len(b)
+	if p.in.choose(2) == 0 {
+		n = 1 + p.in.choose(n)
+	}
+	n = copy(b[:n], p.rest)
+	p.rest = p.rest[n:]
+	if len(p.rest) == 0 && (n == 0 || p.in.choose(2) == 0) {
+		return n, io.EOF
+	}
+	return n, nil
+}
+
+// verdicts returns the lines of the messages of b, by Vet, and the error at its end.
+func verdicts(b []byte, l capvet.Limits, check func([]byte, capvet.Limits) (capvet.Report, error)) (lines []string, err error) {
+	for {
+		n, err := capvet.FrameLength(b, l)
+		if err == nil && len(lines) == most {
+			err = errMost
+		}
+		if err != nil {
+			return lines, err
+		}
+		report, err := check(b[:n:n], l)
+		var refusal *capvet.Refusal
+		if errors.As(err, &refusal) {
+			lines = append(lines, refusal.Line())
+		} else if err != nil {
+			return lines, err
+		} else {
+			lines = append(lines, report.String())
+		}
+		b = b[n:]
+	}
+}
+
+// most is how many messages of a stream are looked at. (a short packed stream may have many)
+const most = 300
+
+// errMost is the error of a stream that has more.
+var errMost = errors.New("more messages")
+
+// scans returns the lines of a Scanner, and its error. Each accepted message is vetted again.
+func scans(t *testing.T, s *capvet.Scanner, l capvet.Limits) (lines []string, err error) {
+	l.AllowTrailing = false
+	for s.Scan() {
+		if len(lines) == most {
+			return lines, errMost
+		}
+		if refusal := s.Refusal(); refusal != nil {
+			if s.Bytes() != nil || len(s.Raw()) != refusal.Length {
+				t.Fatal("bytes of a refused message")
+			}
+			lines = append(lines, refusal.Line())
+			continue
+		}
+		report, err := capvet.Vet(s.Bytes(), l)
+		if err != nil || report != s.Report() {
+			t.Fatal(report, err)
+		}
+		lines = append(lines, report.String())
+	}
+	if s.Scan() {
+		t.Fatal("a scan after the end")
+	}
+	return lines, s.Err()
+}
+
+// sameEnd compares the error of a Scanner with that of the bytes. Of a packed stream only the reason is the same.
+func sameEnd(t *testing.T, wanted, got error, isPacked bool) {
+	var one, other *capvet.FrameError
+	switch {
+	case errors.Is(wanted, io.EOF):
+		wanted = nil
+	case isPacked && errors.As(wanted, &one) && errors.As(got, &other) && one.Reason == other.Reason:
+		return
+	}
+	if !reflect.DeepEqual(wanted, got) {
+		t.Fatalf("wanted %#v, got %#v", wanted, got)
+	}
+}
+
+// FuzzScanner compares Scanners over pieces of a stream, plain and packed, with calls of Vet. The buffers that are counted by
+// Bound are given back.
+func FuzzScanner(f *testing.F) {
+	seeds(f)
+	f.Fuzz(func(t *testing.T, data []byte) {
+		in, ok := inputOf(data)
+		if !ok {
+			return
+		}
+		check, used := capvet.Vet, 0
+		isExclusive := in.choose(2) == 0
+		if isExclusive {
+			check = capvet.VetExclusive
+		}
+		scan := func(s *capvet.Scanner, l capvet.Limits) ([]string, error) {
+			if isExclusive {
+				s.Exclusive()
+			}
+			used = 0
+			s.Bound(func(n int) bool { used += n; return used <= 1<<20 })
+			lines, err := scans(t, s, l)
+			if used != 0 && err != errMost {
+				t.Fatal(used, "bytes are in use after the end")
+			}
+			return lines, err
+		}
+		l := in.limits
+		wanted, end := verdicts(in.bytes, l, func(b []byte, l capvet.Limits) (capvet.Report, error) {
+			l.AllowTrailing = false
+			return check(b, l)
+		})
+		got, err := scan(capvet.NewScanner(&pieces{in, in.bytes}, l), l)
+		if fmt.Sprint(wanted) != fmt.Sprint(got) {
+			t.Fatal(wanted, got)
+		}
+		sameEnd(t, end, err, false)
+		packed := capvet.AppendPacked(nil, in.bytes[:len(in.bytes)/8*8])
+		if len(in.bytes)%8 == 0 {
+			got, err = scan(capvet.NewPackedScanner(&pieces{in, packed}, l), l)
+			if fmt.Sprint(wanted) != fmt.Sprint(got) {
+				t.Fatal(wanted, got)
+			}
+			sameEnd(t, end, err, true)
+		}
+		// (any bytes as a packed stream: however it comes, it has the same messages)
+		wanted, end = scan(capvet.NewPackedScanner(bytes.NewReader(in.bytes), l), l)
+		got, err = scan(capvet.NewPackedScanner(&pieces{in, in.bytes}, l), l)
+		if fmt.Sprint(wanted) != fmt.Sprint(got) {
+			t.Fatal(wanted, got)
+		}
+		sameEnd(t, end, err, true)
+	})
+}
+
+// FuzzCalls compares the functions with each other, over slices with and without spare capacity.
+func FuzzCalls(f *testing.F) {
+	seeds(f)
+	f.Fuzz(func(t *testing.T, data []byte) {
+		in, ok := inputOf(data)
+		if !ok {
+			return
+		}
+		b := append(make([]byte, in.slack, in.slack+len(in.bytes)), in.bytes...)[in.slack:]
+		report, err := capvet.Vet(b, in.limits)
+		fuzzVerdict(t, in, b, report, err)
+		fuzzCanonical(t, in, b, report, err)
+		fuzzPacking(t, in, b)
+		fuzzNodes(t, in, b, err)
+	})
+}
+
+func fuzzVerdict(t *testing.T, in *input, b []byte, report capvet.Report, err error) {
+	if err != nil && (err.Error() == "" || report != capvet.Report{}) {
+		t.Fatal(report, err)
+	}
+	if other, otherErr := capvet.VetExclusive(b, in.limits); otherErr == nil && (err != nil || other != report) {
+		t.Fatal(other, report, err)
+	}
+	// (the first messages that VetAll counts are those that Vet accepts)
+	count, length, end := capvet.VetAll(b, in.limits)
+	rest, l := b, in.limits
+	l.AllowTrailing = true
+	for i := 0; i < count; i++ {
+		report, err := capvet.Vet(rest, l)
+		if err != nil {
+			t.Fatal(err)
+		}
+		rest = rest[report.Length:]
+	}
+	if len(b)-len(rest) != length {
+		t.Fatal(length, len(rest))
+	}
+	if _, err := capvet.Vet(rest, l); !errors.Is(err, io.EOF) && !reflect.DeepEqual(err, end) || (len(rest) == 0) != (end == nil) {
+		if _, isLimits := end.(*capvet.LimitsError); !isLimits {
+			t.Fatal(err, end)
+		}
+	}
+	segments, frameErr := capvet.Segments(b)
+	if err == nil && !in.limits.NoTable && (frameErr != nil || len(segments) != report.Segments) {
+		t.Fatal(len(segments), frameErr)
+	}
+}
+
+func fuzzCanonical(t *testing.T, in *input, b []byte, report capvet.Report, err error) {
+	dst := append(make([]byte, 0, in.choose(200)), "prefix"...)
+	form, formErr := capvet.AppendCanonical(dst, b, in.limits)
+	if (err == nil && report.Capabilities == 0) != (formErr == nil) || string(form[:6]) != "prefix" {
+		t.Fatal(err, formErr)
+	}
+	isCanonical, isErr := capvet.IsCanonical(b, in.limits)
+	if formErr != nil {
+		if len(form) != 6 || isCanonical || (err != nil && isErr == nil) {
+			t.Fatal(len(form), isCanonical, isErr)
+		}
+		return
+	}
+	l := capvet.Limits{NoTable: true, AllowAmplified: true, Charge: in.limits.Charge, Depth: in.limits.Depth}
+	if again, err := capvet.AppendCanonical(nil, form[6:], l); err != nil || !bytes.Equal(again, form[6:]) {
+		t.Fatal(err)
+	}
+	// (the result is in new memory if it would overwrite the message)
+	shared := append(make([]byte, 0, 3*len(b)+64), b...)
+	over, err := capvet.AppendCanonical(shared[:0], shared, in.limits)
+	if err != nil || !bytes.Equal(over, form[6:]) || !bytes.Equal(shared, b) {
+		t.Fatal(err)
+	}
+}
+
+func fuzzPacking(t *testing.T, in *input, b []byte) {
+	words := b[:len(b)/8*8]
+	packed := capvet.AppendPacked(make([]byte, 3, 3+in.choose(99)), words)[3:]
+	unpacked, err := capvet.AppendUnpacked(nil, packed, len(words))
+	if err != nil || !bytes.Equal(unpacked, words) {
+		t.Fatal(err)
+	}
+	if _, err := capvet.AppendUnpacked(nil, packed, len(words)-1); len(words) > 0 && err == nil {
+		t.Fatal("unpacked above the limit")
+	}
+	if all, err := capvet.AppendUnpacked(nil, b, 1<<16); err == nil && len(all) > 1<<16 {
+		t.Fatal(len(all))
+	}
+	message, err := capvet.AppendPackedMessage(nil, b, in.limits)
+	if err != nil {
+		return
+	}
+	n, err := capvet.FrameLength(b, in.limits)
+	if err != nil {
+		t.Fatal(err)
+	}
+	again, err := capvet.AppendUnpacked(nil, message, n)
+	if err != nil || len(again) != n || !bytes.Equal(again[8:], b[8:n]) && again[0]%2 == 0 {
+		t.Fatal(err)
+	}
+}
+
+// fuzzNodes follows a path of any steps, and compares the nodes of a range with those of each path.
+func fuzzNodes(t *testing.T, in *input, b []byte, vetted error) {
+	path := ""
+	for len(path) < 30 {
+		node, ok, err := capvet.Get(b, path+map[bool]string{true: "/"}[path == ""], in.limits)
+		if err != nil && vetted == nil && !in.limits.NoTable {
+			t.Fatal(path, err)
+		}
+		if end := node.Offset + len(node.Data); end > len(b) || (!ok && end != 0) {
+			t.Fatal(path, node)
+		}
+		if !ok {
+			break
+		}
+		letter := map[bool]string{true: "/p", false: "/i"}[node.Kind == capvet.Struct]
+		fuzzRange(t, in, b, path+letter)
+		path += letter + fmt.Sprint(in.choose(8))
+	}
+	// (any text)
+	text := string(b[:in.choose(len(b)+1)%20])
+	var bad *capvet.PathError
+	if _, _, err := capvet.Get(b, text, in.limits); errors.As(err, &bad) && bad.Offset > len(text) {
+		t.Fatal(bad)
+	}
+	if _, err := capvet.GetRange(nil, b, text, 0, in.limits); errors.As(err, &bad) && bad.Offset > len(text) {
+		t.Fatal(bad)
+	}
+}
+
+func fuzzRange(t *testing.T, in *input, b []byte, path string) {
+	dst, first := make([]capvet.Node, in.choose(5)), uint32(in.choose(4))
+	n, err := capvet.GetRange(dst, b, path+"*", first, in.limits)
+	for k := range dst {
+		node, ok, oneErr := capvet.Get(b, path+fmt.Sprint(int(first)+k), in.limits)
+		if k < n && (!ok || !reflect.DeepEqual(node, dst[k])) {
+			t.Fatal(path, k, node, dst[k])
+		}
+		if k == n && (ok || !reflect.DeepEqual(oneErr, err)) {
+			t.Fatal(path, k, oneErr, err)
+		}
+	}
+}

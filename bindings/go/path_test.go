@@ -1,0 +1,60 @@
+package capvet_test
+
+import (
+	"encoding/binary"
+	"errors"
+	"strings"
+	"testing"
+
+	"capvet.invalid/capvet"
+)
+
+// framed returns the message of one segment of these words.
+func framed(words ...uint64) []byte {
+	b := binary.LittleEndian.AppendUint64(nil, uint64(len(words))<<32)
+	for _, word := range words {
+		b = binary.LittleEndian.AppendUint64(b, word)
+	}
+	return b
+}
+
+func TestPath(t *testing.T) {
+	for _, test := range []struct {
+		name string
+		b    []byte
+		l    capvet.Limits
+		path string
+	}{
+		{"the root", framed(1 << 34), capvet.Limits{}, "/"},
+		{"a pointer of a struct", framed(2<<48, 0, 1<<34), capvet.Limits{}, "/p1"},
+		{"a pointer of an element", framed(1|7<<32|4<<35, 2<<2|2<<48, 0, 0, 0, 1<<34), capvet.Limits{}, "/i1/p1"},
+		{"the longest path", framed(0xfffffffc | 1<<48), capvet.Limits{Depth: 256}, strings.Repeat("/p0", 256)},
+		{"not strict", framed(1<<48, 2|2<<3, 0), capvet.Limits{}, "/p0"},
+		{"without a table", framed(1<<48, 1<<34)[8:], capvet.Limits{NoTable: true}, "/p0"},
+		{"no root", framed(), capvet.Limits{}, ""},
+	} {
+		_, err := capvet.Vet(test.b, test.l)
+		var refusal *capvet.Refusal
+		if !errors.As(err, &refusal) {
+			t.Errorf("%s: %v", test.name, err)
+		} else if path := refusal.Path(test.b, test.l); path != test.path {
+			t.Errorf("%s: %q, want %q", test.name, path, test.path)
+		}
+	}
+}
+
+func TestPathOfAnOverlap(t *testing.T) {
+	// (two pointers to one struct of one word)
+	b := framed(2<<48, 1<<2|1<<32, 1<<32, 7)
+	_, err := capvet.VetExclusive(b, capvet.Limits{})
+	var refusal *capvet.Refusal
+	if !errors.As(err, &refusal) || refusal.Reason != capvet.Overlap {
+		t.Fatal(err)
+	}
+	if path := refusal.Path(b, capvet.Limits{}); path != "/p1" {
+		t.Errorf("%q", path)
+	}
+	if path := refusal.Path(nil, capvet.Limits{}); path != "" {
+		t.Errorf("%q of no bytes", path)
+	}
+}
