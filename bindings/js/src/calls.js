@@ -1,0 +1,177 @@
+// The calls about one message.
+import {
+  BUFFER_TOO_SMALL, NOT_CANONICAL, NO_NODE, OK, TOO_LARGE, TRUNCATED, UnpackError, check, nameOf, reportOf,
+} from "./answers.js";
+import { ALLOW_TRAILING, checkNames, limitsOf, numberOf, writeLimits } from "./limits.js";
+import {
+  INPUT, REPORT, REQUIRED, SECOND, address, after, at, bytes, bytesOf, calls, number, place, reserve, setNumber, view,
+} from "./module.js";
+
+// The most bytes of a table, and of the space for a copy whose length is not known.
+const TABLE = 2056, MAX_GUESS = 2 ** 30;
+
+export function version() {
+  const packed = calls.capvet_version();
+  return `${packed >>> 16}.${(packed >>> 8) & 255}.${packed & 255}`;
+}
+
+/** What capvet_frame answers for these bytes. It reads the table only, so only that is copied. The limits are written. */
+export function frameAnswer(input) {
+  reserve(after(input.length));
+  place(input.subarray(0, TABLE));
+  return calls.capvet_frame(at.input, BigInt(input.length), at.limits, at.report);
+}
+
+/** The frame that bytes start with, or if there is none, enough of them for every call to find that. The limits are written. */
+export function firstFrame(input, limits) {
+  const most = input.subarray(0, 8 * limits.messageWords + TABLE);
+  return frameAnswer(most) === OK ? most.subarray(0, number(REPORT)) : most;
+}
+
+/** The bytes of which a call needs a copy. Writes the limits. */
+export function inputOf(data, limits) {
+  const input = bytesOf(data);
+  writeLimits(limits);
+  return limits.flags & ALLOW_TRAILING ? firstFrame(input, limits) : input;
+}
+
+/** What capvet_vet answers. The limits are written. */
+export function vetAnswer(input) {
+  place(input);
+  return calls.capvet_vet(at.input, BigInt(input.length), at.limits, at.report);
+}
+
+/** What capvet_vet_exclusive answers. The limits are written. */
+export function vetExclusiveAnswer(input) {
+  const count = Math.floor(input.length / 512) + 1;
+  place(input, 8 * count);
+  const marks = address(after(input.length));
+  return calls.capvet_vet_exclusive(at.input, BigInt(input.length), at.limits, marks, BigInt(count), at.required, at.report);
+}
+
+export function vet(data, limits) {
+  check(vetAnswer(inputOf(data, limitsOf(limits))));
+  return reportOf();
+}
+
+export function vetExclusive(data, limits) {
+  check(vetExclusiveAnswer(inputOf(data, limitsOf(limits))));
+  return reportOf();
+}
+
+export function vetSegments(segments, limits) {
+  const parts = Array.from(segments, bytesOf);
+  writeLimits(limitsOf(limits));
+  const total = parts.reduce((sum, part) => sum + part.length, 0);
+  place(new Uint8Array(16 * parts.length), total);
+  let next = INPUT + 16 * parts.length;
+  parts.forEach((part, index) => {
+    bytes.set(part, next);
+    setNumber(INPUT + 16 * index, address(next));
+    setNumber(INPUT + 16 * index + 8, part.length);
+    next += part.length;
+  });
+  check(calls.capvet_vet_segments(at.input, BigInt(parts.length), at.limits, at.report));
+  return reportOf();
+}
+
+export function frame(data, limits) {
+  const input = bytesOf(data);
+  writeLimits(limitsOf(limits));
+  check(frameAnswer(input));
+  const length = number(REPORT), segments = [];
+  for (let index = 0, count = view.getUint32(REPORT + 52, true); index < count; index++) {
+    check(calls.capvet_segment_at(at.input, BigInt(input.length), index, at.required, at.second));
+    segments.push({ offset: number(REQUIRED), length: number(SECOND) });
+  }
+  return { length, segments };
+}
+
+export function isCanonical(data, limits) {
+  // (bytes after the message are never allowed, so all are copied)
+  const input = bytesOf(data);
+  writeLimits(limitsOf(limits));
+  place(input);
+  const answer = calls.capvet_is_canonical(at.input, BigInt(input.length), at.limits, at.report);
+  if (answer !== NOT_CANONICAL) check(answer);
+  return answer === OK;
+}
+
+// The most steps of a path: one for each level.
+const MAX_STEPS = 256;
+
+export function pointerPath(data, pointer, limits) {
+  const input = inputOf(data, limitsOf(limits)), start = after(input.length);
+  const asked = BigInt(numberOf("pointer", pointer, Number.MAX_SAFE_INTEGER));
+  place(input, 8 * MAX_STEPS);
+  const answer = calls.capvet_pointer_path(at.input, BigInt(input.length), at.limits, asked, address(start), BigInt(MAX_STEPS),
+    at.required, at.report);
+  if (answer === NO_NODE) return null;
+  check(answer);
+  const field = (index) => view.getUint32(start + 4 * index, true);
+  const steps = Array.from({ length: number(REQUIRED) }, (_, index) => `${field(2 * index) ? "i" : "p"}${field(2 * index + 1)}`);
+  return `/${steps.join("/")}`;
+}
+
+/** A copy of the bytes that a call wrote after an input of this length. */
+function written(length) {
+  const start = after(length);
+  return bytes.slice(start, start + number(REQUIRED));
+}
+
+export function canonical(data, limits) {
+  const input = inputOf(data, limitsOf(limits)), length = BigInt(input.length), start = after(input.length);
+  const out = address(start);
+  const call = (size) => calls.capvet_canonical(at.input, length, at.limits, out, BigInt(size), at.required, at.report);
+  // (few copies are longer than their message)
+  const guess = Math.min(input.length, MAX_GUESS);
+  place(input, guess);
+  let answer = call(guess);
+  if (answer === BUFFER_TOO_SMALL) {
+    const size = number(REQUIRED);
+    reserve(start + size);
+    answer = call(size);
+  }
+  check(answer);
+  return written(input.length);
+}
+
+/** The most bytes that packing gives. */
+function packBound(length) {
+  return Math.floor(length / 8) * 10;
+}
+
+export function pack(data) {
+  const input = bytesOf(data), size = packBound(input.length);
+  place(input, size);
+  const answer = calls.capvet_pack(at.input, BigInt(input.length), address(after(input.length)), BigInt(size), at.required);
+  if (answer !== OK) throw new RangeError(`the length has to be a multiple of 8, and is ${input.length}`);
+  return written(input.length);
+}
+
+export function packMessage(data, limits) {
+  const input = inputOf(data, limitsOf(limits)), size = packBound(input.length), out = address(after(input.length));
+  place(input, size);
+  check(calls.capvet_pack_message(at.input, BigInt(input.length), at.limits, out, BigInt(size), at.required, at.report));
+  return written(input.length);
+}
+
+// The largest frame within the default limits.
+const MAX_SIZE = 67110920;
+
+export function unpack(data, options = {}) {
+  checkNames(options, ["maxSize"]);
+  const most = numberOf("maxSize", options.maxSize ?? MAX_SIZE, Number.MAX_SAFE_INTEGER);
+  const input = bytesOf(data), start = after(input.length);
+  const call = (size) => calls.capvet_unpack(at.input, BigInt(input.length), address(start), BigInt(size), at.required);
+  place(input);
+  let answer = call(0);
+  const size = number(REQUIRED);
+  if (answer === BUFFER_TOO_SMALL && size <= most) {
+    reserve(start + size);
+    answer = call(size);
+  }
+  if (answer === TRUNCATED) throw new UnpackError("Truncated: the data end inside a group", nameOf(TRUNCATED));
+  if (answer !== OK) throw new UnpackError("TooLarge: more than maxSize bytes", nameOf(TOO_LARGE));
+  return written(input.length);
+}
