@@ -1,0 +1,257 @@
+package main
+
+import (
+	"bytes"
+	"errors"
+	"flag"
+	"io"
+	"net"
+	"os"
+	"path/filepath"
+	"testing"
+	"time"
+
+	"capvet.invalid/capvet"
+)
+
+// corpus is a folder of inputs to begin with: 16 bytes of arguments, and then the bytes of a stream. See tests/fuzz/fuzz.h.
+var corpus = flag.String("corpus", "", "a folder of inputs for fuzzing")
+
+// seeds adds the inputs of the corpus.
+func seeds(f *testing.F) {
+	f.Add(make([]byte, 16))
+	names, err := filepath.Glob(filepath.Join(*corpus, "*"))
+	if *corpus == "" || err != nil {
+		names = nil
+	}
+	for _, name := range names {
+		data, err := os.ReadFile(name)
+		if err != nil {
+			f.Fatal(err)
+		}
+		f.Add(data)
+	}
+}
+
+// fuzzConn is a connection that gives bytes in pieces of any size, and now and then none before a deadline. It keeps what is
+// written, and fails after a number of writes.
+type fuzzConn struct {
+	net.Conn
+	state  uint64
+	rest   []byte
+	out    []byte
+	writes int
+}
+
+func (c *fuzzConn) choose(n int) int {
+	c.state = c.state*6364136223846793005 + 1442695040888963407
+	return int((c.state >> 33) % uint64(n))
+}
+
+func (c *fuzzConn) Read(b []byte) (int, error) {
+	if len(b) == 0 {
+		panic("a read without space")
+	}
+	if c.choose(8) == 0 {
+		return 0, os.ErrDeadlineExceeded
+	}
+	if len(c.rest) == 0 {
+		return 0, io.EOF
+	}
+	n := len(b)
+	if c.choose(2) == 0 {
+		n = 1 + c.choose(n)
+	}
+	n = copy(b[:n], c.rest)
+	c.rest = c.rest[n:]
+	return n, nil
+}
+
+var errFull = errors.New("no more writes")
+
+func (c *fuzzConn) Write(b []byte) (int, error) {
+	if c.writes--; c.writes == 0 {
+		return 0, errFull
+	}
+	c.out = append(c.out, b...)
+	return len(b), nil
+}
+
+func (c *fuzzConn) CloseWrite() error                { return nil }
+func (c *fuzzConn) Close() error                     { return nil }
+func (c *fuzzConn) SetDeadline(time.Time) error      { return nil }
+func (c *fuzzConn) SetReadDeadline(time.Time) error  { return nil }
+func (c *fuzzConn) SetWriteDeadline(time.Time) error { return nil }
+
+// passing is what a direction should pass on: the accepted messages, where the next one starts, and why it ends.
+type passing struct {
+	messages [][]byte
+	offset   int64
+	cause    cause
+	err      error
+}
+
+// scanned returns what should be passed on of a stream, by a Scanner over all of it.
+func scanned(b []byte, o *options) passing {
+	s := capvet.NewScanner(bytes.NewReader(b), o.limits)
+	if o.packed[client] {
+		s = capvet.NewPackedScanner(bytes.NewReader(b), o.limits)
+	}
+	if o.exclusive {
+		s.Exclusive()
+	}
+	p := passing{cause: closed}
+	for s.Scan() {
+		if s.Refusal() != nil {
+			p.cause, p.err, p.offset = refused, s.Refusal(), s.Offset()
+			return p
+		}
+		p.messages = append(p.messages, append([]byte(nil), s.Bytes()...))
+	}
+	if p.offset = s.Offset(); s.Err() != nil {
+		p.cause, p.err = refused, s.Err()
+	}
+	return p
+}
+
+// fuzzOptions reads the arguments of an input.
+func fuzzOptions(data []byte) *options {
+	number := func(b []byte, otherwise uint64) uint64 {
+		n := uint64(b[0]) | uint64(b[1])<<8
+		if n == 0 {
+			return otherwise
+		}
+		return n
+	}
+	o := &options{memory: 1 << 30, idleTimeout: time.Hour, messageTimeout: time.Hour, vetted: [2]bool{true, true}}
+	o.limits = capvet.Limits{MessageWords: number(data[4:], 1<<23), Charge: number(data[8:], 1<<16), Depth: uint32(number(data[2:], 64))}
+	if o.limits.Depth > 256 {
+		o.limits.Depth = 256
+	}
+	o.limits.AllowNonstrict, o.limits.AllowAmplified = data[0]&2 != 0, data[0]&4 != 0
+	o.exclusive, o.packed = data[1]&8 != 0, [2]bool{data[1]&16 != 0, data[1]&32 != 0}
+	if data[1]&64 != 0 {
+		o.memory = 5000
+	}
+	o.vetted[requests] = data[1]&128 == 0
+	return o
+}
+
+var fuzzMetrics = newMetrics(&budget{})
+
+// FuzzPump passes a stream through one direction of a session. Exactly the messages before the first refused one arrive, plain
+// or packed, and the ending is about that one. No byte of the budget is in use afterwards.
+func FuzzPump(f *testing.F) {
+	seeds(f)
+	f.Fuzz(func(t *testing.T, data []byte) {
+		if len(data) < 16 || len(data) > 1<<17 {
+			return
+		}
+		o, stream := fuzzOptions(data), data[16:]
+		state := uint64(data[12]) | uint64(data[13])<<8 | uint64(data[14])<<16
+		from, to := &fuzzConn{state: state, rest: stream}, &fuzzConn{}
+		if data[15]%4 == 3 {
+			to.writes = 1 + int(data[15]>>2)
+		}
+		g := &guard{options: o, metrics: fuzzMetrics, memory: budget{most: o.memory}}
+		s := &session{guard: g, ends: [2]half{from, to}}
+		s.activity.touch()
+		e := s.pump(requests).run()
+		if used := g.memory.used.Load(); used != 0 {
+			t.Fatal(used, "bytes of the budget are in use")
+		}
+		if !o.vetted[requests] {
+			if e.cause == closed && !bytes.Equal(to.out, stream) || !bytes.HasPrefix(stream, to.out) {
+				t.Fatal("the bytes are not those that were sent")
+			}
+			return
+		}
+		compareEnding(t, o, scanned(stream, o), e, arrived(t, o, to.out))
+	})
+}
+
+// arrived returns the plain bytes of what arrived.
+func arrived(t *testing.T, o *options, out []byte) []byte {
+	if !o.packed[server] {
+		return out
+	}
+	plain, err := capvet.AppendUnpacked(nil, out, 1<<28)
+	if err != nil {
+		t.Fatal(err)
+	}
+	return plain
+}
+
+func compareEnding(t *testing.T, o *options, wanted passing, e ending, got []byte) {
+	all := join(wanted.messages...)
+	if o.packed[server] {
+		// (the padding of a table is packed as zeros)
+		all = padded(wanted.messages)
+	}
+	if e.cause == noMemory && o.memory < 1<<20 || e.cause == failed && errors.Is(e.err, errFull) {
+		if !bytes.HasPrefix(all, got) {
+			t.Fatal("other bytes arrived before the end")
+		}
+		return
+	}
+	if e.cause != wanted.cause || int(e.message) != len(wanted.messages) || e.offset != wanted.offset || !bytes.Equal(all, got) {
+		t.Fatalf("wanted %v after %d messages at %d, got %+v, the same bytes: %v", wanted.cause, len(wanted.messages), wanted.offset,
+			e, bytes.Equal(all, got))
+	}
+	if wanted.err != nil && (e.reason() != (ending{err: wanted.err}).reason() || e.text() != (ending{err: wanted.err}).text()) {
+		t.Fatal(e.text(), wanted.err)
+	}
+}
+
+// padded returns messages one after the other, with zeros as the padding of their tables.
+func padded(messages [][]byte) []byte {
+	var all []byte
+	for _, b := range messages {
+		start := len(all)
+		all = append(all, b...)
+		if count := int(b[0]) | int(b[1])<<8; count%2 == 1 {
+			copy(all[start+4*(count+2):], []byte{0, 0, 0, 0})
+		}
+	}
+	return all
+}
+
+// FuzzGreeting reads a header of the PROXY protocol. All bytes after it, and no others, can be read from the connection.
+func FuzzGreeting(f *testing.F) {
+	for _, text := range []string{"", "PROXY TCP4 127.0.0.1 127.0.0.2 1 2\r\nrest", "PROXY UNKNOWN\r\n",
+		"\r\n\r\n\x00\r\nQUIT\n\x21\x11\x00\x0c\x7f\x00\x00\x01\x7f\x00\x00\x02\x00\x01\x00\x02rest"} {
+		f.Add([]byte(text), uint32(7))
+	}
+	f.Fuzz(func(t *testing.T, data []byte, state uint32) {
+		conn := &fuzzConn{state: uint64(state), rest: data}
+		rest, header, err := introduced(conn)
+		if err != nil {
+			return
+		}
+		if header == nil {
+			t.Fatal("neither a header nor an error")
+		}
+		var got []byte
+		b := make([]byte, 1+state%99)
+		for {
+			n, err := rest.Read(b)
+			got = append(got, b[:n]...)
+			if err == io.EOF {
+				break
+			} else if err != nil && !isTimeout(err) {
+				t.Fatal(err)
+			}
+		}
+		if end := headerEnd(data, header.Version); !bytes.Equal(got, data[end:]) {
+			t.Fatalf("wanted %q after the header, got %q", data[end:], got)
+		}
+	})
+}
+
+// headerEnd returns where the header of a version ends: after a line, or after the length that it has.
+func headerEnd(data []byte, version byte) int {
+	if version == 1 {
+		return bytes.IndexByte(data, '\n') + 1
+	}
+	return 16 + int(data[14])<<8 + int(data[15])
+}

@@ -1,0 +1,219 @@
+package main
+
+import (
+	"bytes"
+	"errors"
+	"io"
+	"net"
+	"os"
+	"runtime"
+	"strings"
+	"sync"
+	"testing"
+	"time"
+
+	"github.com/prometheus/client_golang/prometheus"
+	"github.com/prometheus/client_golang/prometheus/testutil"
+)
+
+// patience is how long a test waits for what has to come.
+const testPatience = 20 * time.Second
+
+var (
+	// empty is a struct without words, and cycle a struct whose pointer leads back to itself.
+	empty = []byte{0, 0, 0, 0, 1, 0, 0, 0, 0xfc, 0xff, 0xff, 0xff, 0, 0, 0, 0}
+	cycle = []byte{0, 0, 0, 0, 1, 0, 0, 0, 0xfc, 0xff, 0xff, 0xff, 0, 0, 1, 0}
+	// shared is a struct of two pointers to one word.
+	shared = []byte{0, 0, 0, 0, 4, 0, 0, 0,
+		0, 0, 0, 0, 0, 0, 2, 0, 4, 0, 0, 0, 1, 0, 0, 0, 0, 0, 0, 0, 1, 0, 0, 0, 7, 0, 0, 0, 0, 0, 0, 0}
+)
+
+// large returns a message of a number of words: the root is a list of all others.
+func large(words int) []byte {
+	b := make([]byte, 8+8*words)
+	b[4], b[5], b[6] = byte(words), byte(words>>8), byte(words>>16)
+	count := uint32(words-1)<<3 | 5
+	b[8], b[12], b[13], b[14], b[15] = 1, byte(count), byte(count>>8), byte(count>>16), byte(count>>24)
+	for i := 16; i < len(b); i++ {
+		b[i] = byte(i * i >> 7)
+	}
+	return b
+}
+
+// join returns messages one after the other.
+func join(messages ...[]byte) []byte { return bytes.Join(messages, nil) }
+
+// output is what a guard writes.
+type output struct {
+	lock sync.Mutex
+	text strings.Builder
+}
+
+func (o *output) Write(b []byte) (int, error) {
+	o.lock.Lock()
+	defer o.lock.Unlock()
+	return o.text.Write(b)
+}
+
+func (o *output) String() string {
+	o.lock.Lock()
+	defer o.lock.Unlock()
+	return o.text.String()
+}
+
+// rig is a guard before a server that the test plays.
+type rig struct {
+	t        *testing.T
+	guard    *guard
+	listener net.Listener
+	backend  net.Listener
+	log      *output
+}
+
+// until waits for something that has to hold.
+func until(t *testing.T, what string, holds func() bool) {
+	t.Helper()
+	for deadline := time.Now().Add(testPatience); time.Now().Before(deadline); time.Sleep(5 * time.Millisecond) {
+		if holds() {
+			return
+		}
+	}
+	t.Error("never: " + what)
+}
+
+// descriptors returns how many descriptors are open.
+func descriptors() int {
+	files, err := os.ReadDir("/proc/self/fd")
+	if err != nil {
+		return -1
+	}
+	return len(files)
+}
+
+// nothingLeft compares goroutines and descriptors at the end of a test with those of now.
+func nothingLeft(t *testing.T) {
+	routines, files := runtime.NumGoroutine(), descriptors()
+	t.Cleanup(func() {
+		until(t, "goroutines and descriptors are as before", func() bool {
+			return runtime.NumGoroutine() <= routines && descriptors() <= files
+		})
+	})
+}
+
+// newRig starts a guard with options.
+func newRig(t *testing.T, words ...string) *rig {
+	t.Helper()
+	nothingLeft(t)
+	backend, err := net.Listen("tcp", "127.0.0.1:0")
+	if err != nil {
+		t.Fatal(err)
+	}
+	return rigBefore(t, backend, backend.Addr().String(), words...)
+}
+
+// rigBefore starts a guard before a listener.
+func rigBefore(t *testing.T, backend net.Listener, connect string, words ...string) *rig {
+	t.Helper()
+	o, err := parse(append([]string{"--listen", "127.0.0.1:0", "--connect", connect}, words...))
+	if err != nil {
+		t.Fatal(err)
+	}
+	if err := bound(o); err != nil {
+		t.Fatal(err)
+	}
+	r := &rig{t: t, backend: backend, log: &output{}}
+	if r.guard, err = newGuard(o, &logger{out: r.log, isJSON: o.log == "json"}); err != nil {
+		t.Fatal(err)
+	}
+	if r.listener, err = o.listen.open(); err != nil {
+		t.Fatal(err)
+	}
+	go r.guard.serve(r.listener)
+	t.Cleanup(func() {
+		r.listener.Close()
+		backend.Close()
+		r.guard.drain(testPatience, nil)
+		if used := r.guard.memory.used.Load(); used != 0 {
+			t.Errorf("%d bytes of the budget are in use after the end", used)
+		}
+	})
+	return r
+}
+
+// dial connects to the guard.
+func (r *rig) dial() net.Conn {
+	r.t.Helper()
+	conn, err := net.Dial("tcp", r.listener.Addr().String())
+	if err != nil {
+		r.t.Fatal(err)
+	}
+	conn.SetDeadline(time.Now().Add(testPatience))
+	r.t.Cleanup(func() { conn.Close() })
+	return conn
+}
+
+// accept returns the connection of the guard to the server.
+func (r *rig) accept() net.Conn {
+	r.t.Helper()
+	r.backend.(*net.TCPListener).SetDeadline(time.Now().Add(testPatience))
+	conn, err := r.backend.Accept()
+	if err != nil {
+		r.t.Fatal(err)
+	}
+	conn.SetDeadline(time.Now().Add(testPatience))
+	r.t.Cleanup(func() { conn.Close() })
+	return conn
+}
+
+// pair connects a client and the server through the guard.
+func (r *rig) pair() (client, server net.Conn) {
+	r.t.Helper()
+	client = r.dial()
+	return client, r.accept()
+}
+
+// gets checks that these bytes come next.
+func gets(t *testing.T, what string, conn io.Reader, wanted []byte) {
+	t.Helper()
+	got := make([]byte, len(wanted))
+	if n, err := io.ReadFull(conn, got); err != nil || !bytes.Equal(got, wanted) {
+		t.Fatalf("%s: got %d of %d bytes, equal: %v, %v", what, n, len(wanted), bytes.Equal(got, wanted), err)
+	}
+}
+
+// ends checks that these bytes come, and then the end.
+func ends(t *testing.T, what string, conn io.Reader, wanted []byte) {
+	t.Helper()
+	got, err := io.ReadAll(conn)
+	if err != nil && (errors.Is(err, os.ErrDeadlineExceeded) || len(wanted) > 0) || !bytes.Equal(got, wanted) {
+		t.Fatalf("%s: got %d bytes and not %d, %v", what, len(got), len(wanted), err)
+	}
+}
+
+// sends writes bytes, of which the guard may not take all.
+func sends(conn io.Writer, b []byte) { conn.Write(b) }
+
+// logs checks that a line with all these words comes.
+func (r *rig) logs(words ...string) {
+	r.t.Helper()
+	until(r.t, "a line with "+strings.Join(words, ", ")+" in "+r.log.String(), func() bool {
+		for _, line := range strings.Split(r.log.String(), "\n") {
+			found := 0
+			for _, word := range words {
+				if strings.Contains(line, word) {
+					found++
+				}
+			}
+			if found == len(words) {
+				return true
+			}
+		}
+		return false
+	})
+}
+
+// counts checks that a metric gets to a number.
+func (r *rig) counts(what string, c prometheus.Collector, wanted float64) {
+	r.t.Helper()
+	until(r.t, what, func() bool { return testutil.ToFloat64(c) == wanted })
+}

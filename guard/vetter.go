@@ -1,0 +1,42 @@
+package main
+
+import (
+	"io"
+	"runtime"
+	"time"
+
+	"capvet.invalid/capvet"
+)
+
+// turns is how many large buffers are vetted at one time. A call keeps its thread until it returns, and small messages need
+// not wait for large ones.
+var turns = make(chan struct{}, runtime.GOMAXPROCS(0))
+
+// vetter vets the messages of one direction and counts them.
+type vetter struct {
+	rules   rules
+	metrics *directionMetrics
+}
+
+// all vets the messages that b starts with, as rules.all does.
+func (v vetter) all(b []byte) (count, length int, err error) {
+	if len(b) > ample || v.rules.limits.AllowAmplified {
+		turns <- struct{}{}
+		defer func() { <-turns }()
+	}
+	before := time.Now()
+	count, length, err = v.rules.all(b)
+	if missing(err) == 0 || count > 0 {
+		v.metrics.vetSeconds.Observe(time.Since(before).Seconds())
+	}
+	return count, length, err
+}
+
+// scanner returns a scanner for packed messages that refuses what all refuses.
+func (v vetter) scanner(r io.Reader) *capvet.Scanner {
+	s := capvet.NewPackedScanner(r, v.rules.limits)
+	if v.rules.exclusive {
+		s.Exclusive()
+	}
+	return s
+}
