@@ -1,0 +1,138 @@
+#!/usr/bin/env python3
+"""Builds the proved program and library for other machines, over what `make build` has proved.
+
+    targets.py TARGET..
+
+    static     build/x86_64/capvet-static: the program for any Linux on x86-64, as one file without a loader
+    aarch64    build/aarch64: capvet and libcapvet.a for Linux on arm64, and capvet-static
+    wasm       build/capvet.wasm: the library as a WebAssembly module with 32-bit memory
+
+Rattle's compiler makes the object files; it builds only proved code, and proves again what the crate of the program or of the
+exports has itself. The other steps are not proved: the linkers of gcc, packaging/host.c, and binaryen's `wasm-opt`, which turns
+64-bit memory into 32-bit memory. A target whose tools are missing ends in status 2, with the package to install.
+Files that were made of the same program and library are kept.
+"""
+import fcntl
+import hashlib
+import shutil
+import subprocess
+import sys
+import tempfile
+from pathlib import Path
+
+TOP = Path(__file__).resolve().parent.parent
+BUILT = TOP / "build"
+KIT = Path(shutil.which("rt") or "/").resolve().parent.parent
+HOST = TOP / "packaging/host.c"
+ARM, WASM = "aarch64-unknown-linux-gnu", "wasm64-unknown-unknown"
+# For each target what it makes, and the tools that it needs with their Debian packages.
+TARGETS = {
+    "static": (("x86_64/capvet-static",), {"gcc": "gcc"}),
+    "aarch64": (("aarch64/capvet", "aarch64/capvet-static", "aarch64/libcapvet.a"),
+                {"aarch64-linux-gnu-gcc": "gcc-aarch64-linux-gnu libc6-dev-arm64-cross"}),
+    "wasm": (("capvet.wasm",), {"wasm-opt": "binaryen"}),
+}
+# What the lowered module may use: engines have all of it since 2021.
+FEATURES = ("bulk-memory", "sign-ext", "nontrapping-float-to-int", "mutable-globals")
+
+
+def externs(root, crate):
+    """The options that name the libraries of a crate, with those below them."""
+    lines = (TOP / "crates.txt").read_text().splitlines()
+    uses = next(line.partition(":")[2].split() for line in lines if line.split(":")[0].split()[:1] == [crate])
+    words = ["--extern", f"std={KIT}/rlibs/std.rlib", "-L", f"dependency={KIT}/rlibs"]
+    for name in uses:
+        words += ["--extern", f"{name}={root}/crates/{name}/out/rlib/{name}.rlib"]
+    for folder in sorted(root.glob("crates/*/out/rlib")):
+        words += ["-L", f"dependency={folder}"]
+    return words
+
+
+def compile_crate(root, crate, out, scratch, *words):
+    """Builds the program `capvet` or the library `capvet_c`, whose libraries are proved below root. What is proved here is
+    taken from what `rt` kept there, or is kept in `scratch` for the next target. Whether it is built."""
+    kept = root / "crates" / crate / "out/incremental"
+    kind = [] if crate == "capvet" else ["--crate-type", "staticlib"]
+    source = "src/main.rt" if crate == "capvet" else "src/lib.rt"
+    command = [KIT / "bin/rattle", "build", "--crate-name", crate, source, *kind, "--links", f"{crate}=", *externs(root, crate),
+               "--antt-project", KIT / "rattle/logic/antt-project.json", "--logic-built", KIT / "logic_built",
+               "--incremental", kept if kept.is_dir() else scratch / crate, "--toolchain", KIT / "toolchain", "--jobs", "4", *words, "-o", out]
+    return subprocess.run(command, cwd=root / "crates" / crate).returncode == 0
+
+
+def link(compiler, options, objects, out):
+    words = [compiler, "-O2", "-std=c11", "-Wall", "-Wextra", "-Werror", *options, HOST, *objects, "-Wl,-z,noexecstack", "-s", "-o", out]
+    return subprocess.run(words).returncode == 0
+
+
+def static(root, scratch):
+    made = scratch / "capvet-x86_64.o"
+    return compile_crate(root, "capvet", made, scratch) and link("gcc", ["-static"], [made], BUILT / "x86_64/capvet-static")
+
+
+def aarch64(root, scratch):
+    made, folder, compiler = scratch / "capvet-aarch64.o", BUILT / "aarch64", "aarch64-linux-gnu-gcc"
+    return (compile_crate(root, "capvet", made, scratch, "--target", ARM)
+            and compile_crate(root, "capvet_c", folder / "libcapvet.a", scratch, "--target", ARM)
+            and link(compiler, [], [made], folder / "capvet") and link(compiler, ["-static"], [made], folder / "capvet-static"))
+
+
+def wasm(root, scratch):
+    """The module that the toolchain links has 64-bit memory, which few engines run. binaryen lowers it to 32 bits."""
+    archive, module = scratch / "libcapvet-wasm.a", scratch / "capvet-64.wasm"
+    if not compile_crate(root, "capvet_c", archive, scratch, "--target", WASM):
+        return False
+    words = [KIT / "bin/rattle-link", "--target", WASM, "--toolchain", KIT / "toolchain", "-o", module, archive]
+    enabled = [f"--enable-{it}" for it in FEATURES]
+    lowered = ["wasm-opt", *enabled, "--enable-memory64", "--memory64-lowering", module, "-o", BUILT / "capvet.wasm"]
+    return not subprocess.run(words).returncode and not subprocess.run(lowered).returncode
+
+
+def lacking(name):
+    """The tools that a target needs and this machine has not, each with its Debian package."""
+    return {tool: package for tool, package in TARGETS[name][1].items() if not shutil.which(tool)}
+
+
+def stamp():
+    """The checksum of what is built for this machine, which changes with the code and the toolchain."""
+    whole = hashlib.sha256(HOST.read_bytes() + Path(__file__).read_bytes())
+    for name in ("capvet", "libcapvet.a"):
+        whole.update((BUILT / name).read_bytes())
+    return whole.hexdigest()
+
+
+def is_kept(name):
+    """Whether the files of a target are there, and were made beside the program and the library that are in build/ now."""
+    mark = BUILT / f"{name}.of"
+    return all((BUILT / it).is_file() for it in TARGETS[name][0]) and mark.is_file() and mark.read_text() == stamp()
+
+
+def build(names, root, scratch):
+    """Builds the targets over the libraries that are proved below root. Whether all were built."""
+    for name in names:
+        (BUILT / f"{name}.of").unlink(missing_ok=True)
+        for it in TARGETS[name][0]:
+            (BUILT / it).parent.mkdir(parents=True, exist_ok=True)
+        if not {"static": static, "aarch64": aarch64, "wasm": wasm}[name](root, scratch):
+            return False
+        (BUILT / f"{name}.of").write_text(stamp())
+    return True
+
+
+def main(names):
+    if not names or not set(names) <= set(TARGETS):
+        sys.exit(__doc__)
+    # (scripts that run side by side build a target once)
+    with open(BUILT / "targets.lock", "w") as lock:
+        fcntl.flock(lock, fcntl.LOCK_EX)
+        wanted = [name for name in names if not is_kept(name)]
+        for name in wanted:
+            for tool, package in lacking(name).items():
+                print(f"targets: {name} needs {tool}: install {package}", file=sys.stderr)
+                return 2
+        with tempfile.TemporaryDirectory(prefix="capvet-targets-") as folder:
+            return 0 if build(wanted, TOP, Path(folder)) else 1
+
+
+if __name__ == "__main__":
+    sys.exit(main(sys.argv[1:]))

@@ -1,0 +1,38 @@
+#!/usr/bin/env python3
+"""Writes the pages that are made from the sources: docs/believe.md and docs/promises.md.
+
+    write.py [--check]
+
+With --check it writes nothing, and its status is 1 if a page isn't what it would write.
+"""
+import sys
+from pathlib import Path
+
+import believe
+import promises
+from source import TOP
+
+HERE = Path(__file__).resolve().parent
+PAGES = {"believe.md": believe.Page, "promises.md": promises.Page}
+
+
+def stale():
+    """The pages that aren't what they should be: each with its text."""
+    texts = {TOP / "docs" / name: page((HERE / f"{name}.in").read_text()).write() for name, page in PAGES.items()}
+    return {file: text for file, text in texts.items() if not file.exists() or file.read_text() != text}
+
+
+def main(words):
+    for file, text in (found := stale()).items():
+        if "--check" in words:
+            print(f"{file.relative_to(TOP)} is stale: run make pages")
+        else:
+            file.write_text(text)
+    return "--check" in words and len(found) > 0
+
+
+if __name__ == "__main__":
+    try:
+        sys.exit(main(sys.argv[1:]))
+    except LookupError as fault:
+        sys.exit(f"write.py: {fault.args[0]}")
