@@ -1,5 +1,5 @@
 # What capvet does with a sample, all proofs and tests, what is installed, and how fast it is.
-.PHONY: run build install uninstall wheel dist test gate growths times bench
+.PHONY: run build guard inspector install uninstall wheel dist check test gate plant growths fuzz times bench
 
 # Where things are installed. DESTDIR goes before each of these paths, and no installed file has it in its text.
 PREFIX ?= /usr/local
@@ -10,6 +10,8 @@ pkgconfigdir ?= $(libdir)/pkgconfig
 cmakedir ?= $(libdir)/cmake/capvet
 mandir ?= $(PREFIX)/share/man
 completionsdir ?= $(PREFIX)/share/bash-completion/completions
+zshdir ?= $(PREFIX)/share/zsh/site-functions
+fishdir ?= $(PREFIX)/share/fish/vendor_completions.d
 INSTALL ?= install
 
 # What is proved and built, and the files that it is made from. Where build/ is newer, `rt` isn't needed to install.
@@ -27,11 +29,37 @@ run:
 	cd crates/capvet && rt try --cases "$$folder" && \
 	echo "This build is not proved yet: 'make test' proves it."
 
-# Proves the program and the library for C and Rust, and builds both into build/.
+# Proves the program and the library for C and Rust, and builds both into build/. TARGET names other machines to build for as
+# well, as in `make build TARGET=aarch64`: see packaging/targets.py.
 build: build/capvet build/libcapvet.a
+ifdef TARGET
+	python3 packaging/targets.py $(TARGET)
+endif
 
 build/capvet build/libcapvet.a &: $(SOURCES)
 	python3 tests/prove.py --code
+
+# Builds the proxy before services, in Go, by the libraries that Debian has as packages (docs/service.md names them). Nothing
+# comes from a network: Debian's libraries are no modules, so `go` looks for all packages below folders. (CGO_LDFLAGS is
+# something that the build cache of Go looks at, other than what pkg-config answers.) No file has the folder in it, so two
+# builds give the same bytes. GUARD_FLAGS are further words for `go build`.
+BUILT_GUARD = build/capvet-guard
+GUARD_FLAGS ?=
+GOCODE ?= /usr/share/gocode
+guard: $(BUILT_ARCHIVE)
+	@folder=$$(mktemp -d) && trap 'rm -r "$$folder"' EXIT && mkdir -p "$$folder/src/capvet.invalid" "$$folder/lib" && \
+	cp -r bindings/go "$$folder/src/capvet.invalid/capvet" && cp -r guard "$$folder/src/capvet.invalid/guard" && \
+	cp -r include "$$folder/" && cp '$(BUILT_ARCHIVE)' "$$folder/lib/libcapvet.a" && \
+	sed -e "s|@prefix@|$$folder|; s|@libdir@|$$folder/lib|; s|@includedir@|$$folder/include|; s|@version@|$(VERSION)|" \
+	  capvet.pc.in > "$$folder/lib/capvet.pc" && \
+	to=$$(realpath -m '$(BUILT_GUARD)') && cd "$$folder/src/capvet.invalid/guard" && \
+	GO111MODULE=off GOFLAGS= GOPATH="$$folder:$(GOCODE)" PKG_CONFIG_PATH="$$folder/lib" CGO_LDFLAGS="-L$$folder/lib" \
+	go build -trimpath -ldflags '-s -w -buildid=' $(GUARD_FLAGS) -o "$$to" .
+
+# Builds the page that shows messages: build/inspector.html, with the package for JavaScript and the module inside.
+inspector: $(BUILT_ARCHIVE)
+	@python3 packaging/targets.py wasm
+	python3 packaging/inspector.py
 
 # What a description says about this installation. The package for CMake has its folders as paths from its own.
 DESCRIBED = -e 's|@prefix@|$(PREFIX)|' -e 's|@libdir@|$(libdir)|' -e 's|@includedir@|$(includedir)|' \
@@ -40,18 +68,24 @@ DESCRIBED = -e 's|@prefix@|$(PREFIX)|' -e 's|@libdir@|$(libdir)|' -e 's|@include
 PC_FILES = capvet.pc capvet-kj.pc
 CMAKE_FILES = capvetConfig.cmake capvetConfigVersion.cmake
 
+# The headers for programs over libcapnp.
+KJ_HEADERS = kj.h kj-message.h kj-stream.h kj-server.h
+
 # Puts the program and its completions under PREFIX, the library with its headers and what pkg-config and CMake want to
 # know, and the manual pages of both; builds first what has a newer source.
 install: $(BUILT_PROGRAM) $(BUILT_ARCHIVE)
 	@case '$(PREFIX)' in /*) ;; *) echo "PREFIX has to be a path from /, and is '$(PREFIX)'" >&2; exit 2;; esac
-	$(INSTALL) -d '$(DESTDIR)$(bindir)' '$(DESTDIR)$(mandir)/man1' '$(DESTDIR)$(mandir)/man3' '$(DESTDIR)$(completionsdir)'
+	$(INSTALL) -d '$(DESTDIR)$(bindir)' '$(DESTDIR)$(mandir)/man1' '$(DESTDIR)$(mandir)/man3'
+	$(INSTALL) -d '$(DESTDIR)$(completionsdir)' '$(DESTDIR)$(zshdir)' '$(DESTDIR)$(fishdir)'
 	$(INSTALL) -d '$(DESTDIR)$(includedir)/capvet' '$(DESTDIR)$(libdir)' '$(DESTDIR)$(pkgconfigdir)' '$(DESTDIR)$(cmakedir)'
 	$(INSTALL) -m 755 '$(BUILT_PROGRAM)' '$(DESTDIR)$(bindir)/capvet'
 	$(INSTALL) -m 644 docs/capvet.1 '$(DESTDIR)$(mandir)/man1/capvet.1'
 	$(INSTALL) -m 644 docs/capvet.3 '$(DESTDIR)$(mandir)/man3/capvet.3'
 	$(INSTALL) -m 644 completions/capvet.bash '$(DESTDIR)$(completionsdir)/capvet'
+	$(INSTALL) -m 644 completions/_capvet '$(DESTDIR)$(zshdir)/_capvet'
+	$(INSTALL) -m 644 completions/capvet.fish '$(DESTDIR)$(fishdir)/capvet.fish'
 	$(INSTALL) -m 644 include/capvet.h '$(DESTDIR)$(includedir)/capvet.h'
-	$(INSTALL) -m 644 include/capvet/kj.h '$(DESTDIR)$(includedir)/capvet/kj.h'
+	for file in $(KJ_HEADERS); do $(INSTALL) -m 644 "include/capvet/$$file" '$(DESTDIR)$(includedir)/capvet/'"$$file" || exit 1; done
 	$(INSTALL) -m 644 '$(BUILT_ARCHIVE)' '$(DESTDIR)$(libdir)/libcapvet.a'
 	for file in $(PC_FILES); do sed $(DESCRIBED) "$$file.in" > '$(DESTDIR)$(pkgconfigdir)/'"$$file" || exit 1; done
 	for file in $(CMAKE_FILES); do sed $(DESCRIBED) "cmake/$$file.in" > '$(DESTDIR)$(cmakedir)/'"$$file" || exit 1; done
@@ -61,16 +95,19 @@ install: $(BUILT_PROGRAM) $(BUILT_ARCHIVE)
 # Takes away just these files, and leaves their folders.
 uninstall:
 	rm -f '$(DESTDIR)$(bindir)/capvet' '$(DESTDIR)$(completionsdir)/capvet'
+	rm -f '$(DESTDIR)$(zshdir)/_capvet' '$(DESTDIR)$(fishdir)/capvet.fish'
 	rm -f '$(DESTDIR)$(mandir)/man1/capvet.1' '$(DESTDIR)$(mandir)/man3/capvet.3'
-	rm -f '$(DESTDIR)$(includedir)/capvet.h' '$(DESTDIR)$(includedir)/capvet/kj.h' '$(DESTDIR)$(libdir)/libcapvet.a'
+	rm -f '$(DESTDIR)$(includedir)/capvet.h' '$(DESTDIR)$(libdir)/libcapvet.a'
+	for file in $(KJ_HEADERS); do rm -f '$(DESTDIR)$(includedir)/capvet/'"$$file"; done
 	for file in $(PC_FILES); do rm -f '$(DESTDIR)$(pkgconfigdir)/'"$$file"; done
 	for file in $(CMAKE_FILES); do rm -f '$(DESTDIR)$(cmakedir)/'"$$file"; done
 
-# Packs all that is installed, with a shared library, bindings and pages, into dist/; see packaging/dist.py.
+# Packs all for users into dist/: see packaging/dist.py, and there DIST_FLAGS.
+DIST_FLAGS ?=
 dist: $(BUILT_PROGRAM) $(BUILT_ARCHIVE)
-	python3 packaging/dist.py
+	python3 packaging/dist.py $(DIST_FLAGS)
 
-# Builds the wheel of the package for Python, with the archive linked in. It takes cffi, setuptools and wheel from the first
+# Builds the wheel of the package for Python, with the archive linked in, and with the inspector where esbuild is. It takes cffi, setuptools and wheel from the first
 # interpreter that has them, and nothing from a network. (pip builds a copy, so the sources stay as they are)
 wheeldir ?= build
 wheel: $(BUILT_ARCHIVE)
@@ -78,28 +115,57 @@ wheel: $(BUILT_ARCHIVE)
 	test -n "$$python" || { echo 'make wheel: no python3 has cffi, setuptools and wheel' >&2; exit 2; }; \
 	folder=$$(mktemp -d) && trap 'rm -r "$$folder"' EXIT && mkdir "$$folder/lib" && cp -r include "$$folder/" && \
 	cp '$(BUILT_ARCHIVE)' "$$folder/lib/libcapvet.a" && cp -r bindings/python "$$folder/python" && \
+	rm -rf "$$folder/python/build" "$$folder/python/capvet.egg-info" "$$folder"/python/capvet/*.so && \
+	{ $(MAKE) -s --no-print-directory inspector && cp build/inspector.html "$$folder/python/capvet/" || \
+	  echo 'make wheel: without the page of python -m capvet map' >&2; } && \
 	CAPVET_LIB_DIR="$$folder/lib" "$$python" -m pip --disable-pip-version-check wheel -q --no-index --no-deps \
 	  --no-build-isolation -w '$(wheeldir)' "$$folder/python"
 
-# Proves all crates and their tests, and then tests the built program and library as their users run them.
+# Writes the pages that are made from the definitions and contracts.
+.PHONY: pages
+pages:
+	python3 packaging/written/write.py
+
+# Checks a change of one crate, as in `make check CRATE=cap_vet`: the crate, those above it, its must-fail edits, and the scripts
+# that its behaviour is in.
+check:
+	@python3 tests/check.py $(CRATE)
+
+# Proves all crates of code, runs all tests in Rattle, and then tests the built program and library as their users run them.
 test:
 	python3 tests/all.py
 
-# The same with all cases of each script, and the prover has to refuse each must-fail edit. Then each allocation fails in
-# turn, and a node that outlives its message is refused.
+# The same with all cases of each script. The tests in Rattle are proved too, and the prover has to refuse each must-fail edit;
+# ANEW=1 takes nothing of that from earlier gates on this machine. Then each allocation fails in turn, and a node that outlives
+# its message is refused. It fails if anything isn't tested, unless it is for lack of one of the
+# names of tests/needs.py in SKIP, as in `make gate SKIP="go wheel"`.
+SKIP ?=
 gate:
-	python3 tests/all.py --edits --full
+	python3 tests/all.py --edits $(if $(ANEW),--anew) --full --skip "$(SKIP)"
 	@$(MAKE) --no-print-directory growths
 	python3 tests/lifetimes.py
+
+# Tries wrong bodies of public functions, and compares those that the contracts let through with tests/planted.txt.
+plant:
+	python3 tests/plant.py
 
 # Out-of-memory tests: each allocation fails in turn, first of the calls that allocate, then of the built program.
 growths:
 	python3 tests/growths.py
 	python3 tests/refusals.py build/capvet
 
-# Compares times of the packages for Go and Python and of archives, for which the machine may do nothing else.
+# Searches with each fuzz target for SECONDS seconds, side by side: see tests/fuzz.py. What reaches something new is kept in
+# build/fuzz, where the next search begins.
+SECONDS ?= 600
+fuzz: $(BUILT_PROGRAM) $(BUILT_ARCHIVE)
+	python3 tests/fuzz.py '$(BUILT_PROGRAM)' '$(BUILT_ARCHIVE)' --seconds $(SECONDS)
+
+# Compares times of the packages for Go and Python, of the guard and of archives, for which the machine may do nothing else.
 times:
 	python3 tests/go.py build/capvet build/libcapvet.a --idle
+	python3 tests/guard.py build/capvet build/libcapvet.a --idle
+	python3 tests/inspector.py build/capvet build/libcapvet.a --full --idle
+	python3 tests/js.py build/capvet build/libcapvet.a --idle
 	python3 tests/python.py build/capvet build/libcapvet.a --idle
 	python3 tests/scale.py build/capvet build/libcapvet.a --idle
 

@@ -13,7 +13,7 @@ the same job. They don't do just the same work: the programs in peers/ say what 
 --unamplified too, as `capvet filter` has by itself.
 
 With --write the table and the machine also go into docs/speed.md, between the marks there, and the column `peer` into
-docs/speed.svg as a chart, which README.md then shows. All rows have to run for this, beside both libraries.
+docs/speed.svg as a chart. All rows have to run for this, beside both libraries.
 """
 import argparse
 import multiprocessing
@@ -327,7 +327,7 @@ def options():
     parser.add_argument("--rounds", type=int, default=5)
     parser.add_argument("--only", default="", help="run the rows whose name or input has this word")
     parser.add_argument("--program", default=str(TOP / "build/capvet"))
-    parser.add_argument("--write", action="store_true", help="write docs/speed.md, docs/speed.svg and the chart's place in README.md")
+    parser.add_argument("--write", action="store_true", help="write docs/speed.md and docs/speed.svg")
     args = parser.parse_args()
     if not Path(args.program).is_file():
         sys.exit(f"{args.program} isn't there: build it by `make build`")
@@ -413,14 +413,12 @@ def machine():
 
 
 def write_pages(chosen, lines, results, rounds):
-    """Puts the results into docs/speed.svg, docs/speed.md and README.md."""
+    """Puts the results into docs/speed.svg and docs/speed.md."""
     (TOP / "docs/speed.svg").write_text(chart.svg(ratios(chosen, results)))
     picture = "![capvet's time over that of the faster library]({})\n"
     measured = f"Machine: {machine()}. The median of {rounds} rounds.\n\n{chart.table([HEADS, *lines])}\n{picture.format('speed.svg')}"
-    small = '<a href="docs/speed.md"><img src="docs/speed.svg" alt="capvet\'s time over that of the faster library" width="420"></a>\n'
-    for path, name, text in [("docs/speed.md", "measured", measured), ("README.md", "chart", small)]:
-        page = TOP / path
-        page.write_text(chart.between(page.read_text(), name, text))
+    page = TOP / "docs/speed.md"
+    page.write_text(chart.between(page.read_text(), "measured", measured))
 
 
 def main():

@@ -20,6 +20,7 @@ is said in a line of its own. The last line is 'N passed, M failed', and the sta
 import os
 import random
 import re
+import resource
 import shutil
 import socket
 import struct
@@ -30,20 +31,22 @@ import time
 from collections import Counter
 from pathlib import Path
 
-import install
 import readers
 import trees
 from amount import IS_FULL, cases
-from install import PROGRAM, TOP, compare, make, missing
-from readers import Tree, framed
+from harness import PROGRAM, TOP, compare, differ, ended, framed, run
+from install import make
+from library import tidy
+from needs import missing
+from readers import Tree
 
 CPP = TOP / "examples/cpp"
 STRICT = ("-std=c++17", "-Wall", "-Wextra", "-Wpedantic", "-Wconversion", "-Werror")
 CHECKED = ("-O0", "-g", "-fsanitize=address,undefined", "-fno-sanitize-recover=all")
 CARGO = ("--offline", "--quiet")
 MANY = cases(1_000, full=5_000)
-# The most instructions of a call to a server with vetting, as a part of those without. A small one takes fewer.
-MOST = {"small": 1, "list": 1.15}
+# The most instructions of a call to a server with vetting, as a part of those without, for each kind of call.
+MOST = {"with": {"small": 1.03, "list": 1.15}, "served": {"small": 1.03, "list": 1.15}, "bytes": {"small": 1.08, "list": 1.15}}
 # How many of the frames of valid calls come before a changed message.
 VALID = 9
 CALLED = """\
@@ -52,17 +55,16 @@ counted 7 and 8
 received 10000 rows, stored 10000
 failed: remote exception: this call always fails
 """
-PROGRAMS = ("rpc_server", "rpc_client", "vetted", "rpc")
+PROGRAMS = ("rpc_server", "rpc_client", "vetted", "faults", "rpc")
 # What tests/readers/rpc.cpp prints of each stream that reads file descriptors. Its limits are at least those that are
-# asked for, mostly 10 words and 3 levels. A message of several segments has libcapnp's own reader if that has them.
+# asked for, mostly 10 words and 3 levels. A frame that is not accepted is libcapnp's where it reads the stream.
 REFUSED = "  onRefused {0}\n" + 3 * "  {0}; 0 open\n"
 FAILED = "  {0}; 2 open\n" + 2 * "  {0}; 0 open\n"
 READ = "  {}; 2 open\n  0 words, 0 files, limits {}; 0 open\n  ended; 0 open\n"
 STREAMS = {
     "null": READ.format("0 words, 2 files, limits 10 and 3", "10 and 3"),
     "default limits": READ.format("0 words, 2 files, limits 8388608 and 64", "8388608 and 64"),
-    "default limits, two segments":
-        READ.format("2 words, 2 files, limits 8388608 and 64, own reader", "8388608 and 64"),
+    "default limits, two segments": READ.format("2 words, 2 files, limits 8388608 and 64", "8388608 and 64"),
     "default limits, two levels": READ.format("2 words, 2 files, limits 8388608 and 5", "8388608 and 4"),
     "two levels": READ.format("2 words, 2 files, limits 10 and 5", "10 and 3"),
     "two levels, four readings": READ.format("2 words, 2 files, limits 32 and 5", "10 and 3"),
@@ -70,37 +72,72 @@ STREAMS = {
     "one empty segment": REFUSED.format("refused NoRoot at 0:0 pointers 0"),
     "empty segments": REFUSED.format("refused NoRoot at 0:0 pointers 0"),
     "an empty first segment": REFUSED.format("refused NoRoot at 0:0 pointers 0"),
+    "too large": REFUSED.format("refused TooLarge 100"),
+    "511 segments": READ.format("0 words, 2 files, limits 511 and 3", "10 and 3"),
+    "512 segments": REFUSED.format("refused ManySegments at 0:0 pointers 0"),
+}
+AROUND = {
     "too large": FAILED.format(
         "expected totalWords <= getOptions().traversalLimitInWords [100 <= 50]; Message is too large.  "
         "To increase the limit on the receiving end, see capnp::ReaderOptions."),
-    "511 segments": READ.format("0 words, 2 files, limits 511 and 3", "10 and 3"),
     "512 segments": FAILED.format("expected segmentCount() < 512 [512 < 512]; Message has too many segments."),
 }
 # The same of messages that end too early, and of those that fit into the space that is passed.
-PARTS = """\
-  from 0 bytes on: 2 words; then ended; then ended;
+HEAD = "  from 0 bytes on: 2 words; then ended; then ended;\n"
+PARTS_AROUND = HEAD + """\
   from 1 bytes on: 2 words; then disconnected: Premature EOF.; then disconnected: Premature EOF.;
   from 8 bytes on: 2 words; then {0}; then {0};
 """.format("disconnected: stream disconnected prematurely")
-SPACE = "  1 words there; 4 words there; 5 words elsewhere; 4 words there;\n"
+SPACE = "  1 words there; 4 words there; 5 words {0}; 4 words {0};\n"
+# What tests/readers/faults.cpp prints of each case, for each kind of stream.
+CYCLE, LATE = "refused DepthLimit at 0:0 pointers 65", "refused Truncated {}, late"
+LOST = "capvet: a read was canceled inside a message, so the next one is lost; "
 
 
-def run(command, seconds=3600, **how):
-    """What a command wrote, and its status. What it wrote on its standard error comes after the rest."""
-    ran = subprocess.run([str(it) for it in command], capture_output=True, stdin=subprocess.DEVNULL, timeout=seconds,
-                         text=True, errors="replace", **how)
-    return ran.stdout + ran.stderr, ran.returncode
+def after_message(text, length):
+    """The line of a stream that ends with a refusal, after a message."""
+    return f"0 words; {text}; {text};  [{text}, {length} bytes]"
+
+
+FAULTS = {
+    "a circle": after_message(CYCLE, 16),
+    "2^32 segments": after_message("refused TooManySegments 4294967296", 8),
+    "too large": after_message("refused TooLarge 2147483647", 8),
+    "cut in the head": after_message("refused Truncated 8, cut", 3),
+    "cut in the table": after_message("refused Truncated 24, cut", 16),
+    "cut in a segment": after_message("refused Truncated 32, cut", 24),
+    "a large circle": after_message(CYCLE, 24008),
+    "a large message, cut": after_message("refused Truncated 24008, cut", 20001),
+    "files": f"2 given, 2 open; 0 given, 0 open;  [{CYCLE}, 24008 bytes]",
+    "the end": "0 words; end; end; ",
+    "a callback that throws": f"{CYCLE}; {CYCLE}; ",
+    "a callback that drops the stream": f"{CYCLE}; {CYCLE}, 0 letters of a peer",
+    "limits": "throws; throws; throws; valid; ",
+    "canceled reads": f"0 words; {LOST}{LOST}",
+    "late in the head": after_message(LATE.format(8), 3),
+    "late in a large message": after_message(LATE.format(65544), 30000),
+    "slow": "0 words",
+    "unread": "dropped, unread; dropped, unread; end; dropped, unread; [dropped, unread, 0 bytes]",
+    "unread after a circle": f"{CYCLE}; dropped, unread; dropped, unread; {CYCLE}; [{CYCLE}, 16 bytes]",
+    "unread, a callback that drops the stream": "dropped, unread; dropped, unread",
+    "paced": "0 words; waits; 0 words",
+    "mixed": "1200 messages",
+}
+ALONE = ("bytes alone: the same", "bytes in pieces of 1000: the same", "bytes in pieces of 30000: the same", "limits, server: throws")
+# A later KJ, as far as the headers can notice: KJ_IF_SOME in place of KJ_IF_MAYBE, and no Maybe of a null pointer.
+LATER_KJ = """\
+#include <capnp/rpc-twoparty.h>
+#include <kj/async-io.h>
+#include <kj/debug.h>
+#include <kj/timer.h>
+#undef KJ_IF_MAYBE
+#define KJ_IF_SOME(name, maybe) if (auto found = ::kj::_::readMaybe(maybe)) if (auto &name = *found; true)
+#include <capvet/kj-server.h>
+"""
 
 
 def flags(environment, package="capvet-kj"):
-    text, status = run(["pkg-config", "--cflags", "--libs", package], env=environment)
-    return text.split() if status == 0 else None
-
-
-def differences(name, wanted, got):
-    """One case for two lists of lines. The first few that differ are shown."""
-    compare(f"{name}, how many", len(wanted), len(got))
-    compare(name, [], [(number, *pair) for number, pair in enumerate(zip(wanted, got)) if pair[0] != pair[1]][:3])
+    return run(["pkg-config", "--cflags", "--libs", package], env=environment)[0].split()
 
 
 def refusals(messages, folder, *options):
@@ -133,7 +170,7 @@ def vetted(name, command, count, folder):
     found = Counter()
     for batch in range(0, count, 20_000):
         segments = changed(samples(), min(20_000, count - batch), batch)
-        messages = [framed(it) for it in segments]
+        messages = [framed(*it) for it in segments]
         wanted = refusals(messages, folder, "--words", 65536)
         for number, (text, it) in enumerate(zip(wanted, segments)):
             if text == "accepted":
@@ -142,7 +179,7 @@ def vetted(name, command, count, folder):
         found.update(text.split()[0] for text in wanted)
         got, status = run([*command, with_lengths(messages, folder / "messages")])
         compare(f"{name}, status", 0, status)
-        differences(f"{name}, messages from {batch}", wanted, got.splitlines())
+        differ(f"{name}, messages from {batch}", wanted, got.splitlines())
     compare(f"{name}, refuses some and accepts some", True, 10 * min(found.values()) > count)
     print(f"{name}: {found['sum']} accepted and read, {found['refused']} refused")
 
@@ -150,37 +187,53 @@ def vetted(name, command, count, folder):
 def attacked(name, program, count, folder):
     """Changed messages of RPC to a server on loopback."""
     record = subprocess.run([program, "record"], capture_output=True, timeout=60).stdout
-    frames = [framed(message) for message in trees.messages(record)]
+    frames = [framed(*message) for message in trees.messages(record)]
     compare(f"{name}, frames of valid calls", True, len(frames) > VALID)
     (folder / "valid").write_bytes(b"".join(frames[:VALID]))
     same = run([program, "same"])[0].splitlines()
-    compare(f"{name}, servers", ["without", "with", "around"], [line.partition(":")[0] for line in same])
+    compare(f"{name}, servers", ["without", "with", "around", "bytes", "served"], [line.partition(":")[0] for line in same])
     compare(f"{name}, the same results", 1, len({line.partition(":")[2] for line in same}))
     segments = changed([Tree(message) for message in trees.messages(record)], count, 7)
-    messages = [framed(it) for it in segments]
-    wanted = ["not read" if len(it) > 511 else text for it, text in zip(segments, refusals(messages, folder))]
+    messages = [framed(*it) for it in segments]
+    wanted = refusals(messages, folder)
+    for number, it in enumerate(segments):
+        # (libcapnp reads every fourth one by itself)
+        if number % 4 == 1 and len(it) > 511:
+            wanted[number] = "not read"
     text, status = run([program, "attack", with_lengths(messages, folder / "messages"), folder / "valid"])
     lines = text.splitlines()
     compare(f"{name}, status", 0, status)
     compare(f"{name}, exceptions from pointers or limits", [], [line for line in lines if line.startswith("threw")][:3])
-    differences(f"{name}, verdicts", wanted, [line for line in lines if re.match("refused|accepted|not read", line)])
+    differ(f"{name}, verdicts", wanted, [line for line in lines if re.match("refused|accepted|not read", line)])
     compare(f"{name}, a client afterwards", same[1], lines[-1] if lines else "")
     counts = Counter(it.split()[0] for it in wanted)
     compare(f"{name}, refuses some and accepts some", True, 10 * min(counts["refused"], counts["accepted"]) > count)
     print(f"{name}: {dict(counts)}; " + ", ".join(line for line in lines if line.startswith("exceptions")))
 
 
+def cuts(*stages):
+    """What is printed of a message that ends too early: from each length on, what was required at least."""
+    text = HEAD
+    for start, end, least in stages:
+        told = f"disconnected: refused Truncated {least}, cut"
+        line = f"  onRefused refused Truncated {least}, cut\n"
+        text += line + f"  from {start} bytes on: 2 words; then {told}; then {told};\n" + line * (end - start - 1)
+    return text
+
+
 def wanted_of_streams():
     """What is printed of each stream, by the line before."""
     wanted = {}
     for part, read in STREAMS.items():
-        read += "  the same buffer: 1\n  left open: 0\n"
+        read, around = (text + "  the same buffer: 1\n  left open: 0\n" for text in (read, AROUND.get(part, read)))
         not_read = read.replace("2 files", "0 files").replace("2 open", "0 open")
-        around = read.replace(", own reader", "")
         wanted |= {f"{part}, files read": read, f"{part}, files not read": not_read, f"{part}, around": around}
-    for kind in ("files read", "files not read", "around"):
-        wanted |= {f"one segment in parts, {kind}": PARTS, f"two segments in parts, {kind}": PARTS}
-        wanted[f"scratch space, {kind}"] = SPACE
+    for kind in ("files read", "files not read"):
+        wanted[f"one segment in parts, {kind}"] = cuts((1, 8, 8), (8, 32, 32))
+        wanted[f"two segments in parts, {kind}"] = cuts((1, 8, 8), (8, 16, 16), (16, 48, 48))
+        wanted[f"scratch space, {kind}"] = SPACE.format("elsewhere")
+    wanted |= {"one segment in parts, around": PARTS_AROUND, "two segments in parts, around": PARTS_AROUND,
+               "scratch space, around": SPACE.format("there")}
     return wanted
 
 
@@ -201,43 +254,95 @@ def instructions(command):
 
 
 def cost(program):
-    """A call to a server with vetting takes few instructions more than to one without, or fewer."""
+    """A call to a server with vetting and deadlines takes few instructions more than to one without, or fewer."""
     if missing("the cost of vetting in RPC", "valgrind"):
         return
     for kind, few, more in (("small", 300, 800), ("list", 2, 5)):
         costs = {}
-        for server in ("without", "with", "around"):
+        for server in ("without", "with", "bytes", "served", "around"):
             counts = [instructions([program, "calls", server, kind, str(calls)]) for calls in (few, more)]
             costs[server] = (counts[1] - counts[0]) / (more - few)
-        ratios = {server: costs[server] / max(costs["without"], 1) for server in ("with", "around")}
-        most = MOST[kind]
-        compare(f"a {kind} call takes at most {most} of the instructions", True, 0.9 < ratios["with"] <= most)
-        print(f"rpc: a {kind} call takes {ratios['with']:.4f} of the instructions with vetting, "
-              f"and {ratios['around']:.4f} around another stream")
+        ratios = {server: costs[server] / max(costs["without"], 1) for server in costs}
+        for server, most in MOST.items():
+            name = f"a {kind} call of '{server}' takes at most {most[kind]} of the instructions"
+            compare(name, True, 0.9 < ratios[server] <= most[kind])
+        print(f"rpc: a {kind} call takes of the instructions without vetting: "
+              + ", ".join(f"{server} {ratio:.4f}" for server, ratio in ratios.items()))
+
+
+def faults(name, command):
+    """Streams whose peers, callers and callbacks misbehave."""
+    ran = subprocess.run([str(it) for it in command], capture_output=True, text=True, timeout=600)
+    wanted = [f"{part}, {kind}: {line}" for part, line in FAULTS.items() for kind in ("messages", "bytes", "bytes and files")]
+    # (a stream of bytes alone has no files)
+    wanted = [line.replace("2 given, 2 open", "0 given, 0 open") if line.startswith("files, bytes:") else line for line in wanted]
+    compare(f"{name}, status", 0, ran.returncode)
+    differ(name, [*wanted, *ALONE], ran.stdout.splitlines())
+    compare(f"{name}, exceptions of callbacks are logged", 3, ran.stderr.count("onRefused threw"))
+
+
+class Example:
+    """The example's server, with the lines that it prints, in a process that may have few descriptors."""
+
+    def __init__(self, folder, *words, descriptors=1024):
+        self.folder, self.path = folder, folder / "lines"
+        limits = (descriptors, resource.getrlimit(resource.RLIMIT_NOFILE)[1])
+        with open(self.path, "w") as lines, open(folder / "errors", "w") as errors:
+            self.process = subprocess.Popen([folder / "rpc_server", "127.0.0.1:0", *words], stdout=lines, stderr=errors,
+                                            stdin=subprocess.DEVNULL,
+                                            preexec_fn=lambda: resource.setrlimit(resource.RLIMIT_NOFILE, limits))
+        for _ in range(500):
+            if self.path.read_text().endswith("\n"):
+                break
+            time.sleep(0.02)
+        self.port = int(self.path.read_text().split()[0])
+
+    def __enter__(self):
+        return self
+
+    def __exit__(self, *_):
+        self.process.kill()
+        self.process.wait()
+
+    def connect(self):
+        return socket.create_connection(("127.0.0.1", self.port), timeout=60)
+
+    def call(self, name):
+        """The example's client gets its results."""
+        compare(name, (CALLED, 0), run([self.folder / "rpc_client", f"127.0.0.1:{self.port}"], 60))
+
+    def lines(self):
+        return self.path.read_text().splitlines()[1:]
 
 
 def example(folder):
-    """The example's client gets its results from the example's server, and a cycle ends one connection alone."""
-    with open(folder / "lines", "w") as lines:
-        server = subprocess.Popen([folder / "rpc_server", "127.0.0.1:0"], stdout=lines, stdin=subprocess.DEVNULL)
-    try:
-        for _ in range(500):
-            if (folder / "lines").read_text().endswith("\n"):
-                break
-            time.sleep(0.02)
-        port = (folder / "lines").read_text().split()[0]
-        client = [folder / "rpc_client", f"127.0.0.1:{port}"]
-        compare("rpc_client", (CALLED, 0), run(client, 60))
-        with socket.create_connection(("127.0.0.1", int(port)), timeout=60) as peer:
+    """The example's client gets its results from the example's server, and a peer ends its own connection alone."""
+    with Example(folder) as server:
+        server.call("rpc_client")
+        with server.connect() as peer:
+            address = "%s:%d" % peer.getsockname()
             peer.sendall((TOP / "examples/cycle.bin").read_bytes())
             told = b"".join(iter(lambda: peer.recv(4096), b""))
         line = "refused DepthLimit at 0:0 pointers 33"
         compare("the reason that the peer gets", True, line.encode() in told)
-        compare("rpc_client, after a refused message", (CALLED, 0), run(client, 60))
-        compare("the lines of rpc_server", f"{port}\n{line}\n", (folder / "lines").read_text())
-    finally:
-        server.kill()
-        server.wait()
+        server.call("rpc_client, after a refused message")
+        compare("the lines of rpc_server", [f"{address} {line}"], server.lines())
+        text, status = run([folder / "rpc_server", f"127.0.0.1:{server.port}"], 60)
+        compare("an address in use", (True, 3), ("Address already in use" in text, status))
+    with Example(folder, descriptors=40) as server:
+        peers = [server.connect() for _ in range(60)]
+        time.sleep(0.5)
+        for peer in peers:
+            peer.close()
+        server.call("rpc_client, after a lack of descriptors")
+        compare("the lack of descriptors is said", True, "Too many open files" in (folder / "errors").read_text())
+    with Example(folder) as server:
+        peers = [server.connect() for _ in range(110)]
+        ended = [peer for peer in peers[100:] if peer.recv(1) == b""]
+        compare("connections above the limit of an address", 10, len(ended))
+        for peer in peers:
+            peer.close()
+        server.call("rpc_client, after too many connections")
 
 
 def by_cmake(folder, prefix):
@@ -246,7 +351,8 @@ def by_cmake(folder, prefix):
         return
     project = folder / "project"
     project.mkdir()
-    (project / "CMakeLists.txt").write_text(f"""cmake_minimum_required(VERSION 3.16)
+    # (the package also serves a project that asks for an older CMake than it uses)
+    (project / "CMakeLists.txt").write_text(f"""cmake_minimum_required(VERSION 3.0)
 project(test C CXX)
 find_package(capvet 1.0 REQUIRED COMPONENTS kj)
 find_package(capvet 2.0 QUIET)
@@ -262,70 +368,96 @@ target_link_libraries(rpc_client capvet::kj)
     compare("cmake --build", (0, ""), (built[1], built[0] if built[1] else ""))
 
 
-def has_checks(compiler, folder):
+def has_checks(compiler):
     """Whether a compiler is there, with its libraries for checks of memory."""
-    what = f"the checks of memory of {compiler}"
-    if missing(what, compiler):
-        return False
-    empty = folder / "empty.cpp"
-    empty.write_text("int main() {}\n")
-    if run([compiler, *CHECKED, empty, "-o", folder / "empty"])[1] == 0:
-        return True
-    print(f"not tested, without the libraries of {compiler} for them: {what}")
-    return False
+    checks = {"c++": "checks-gcc", "clang++": "checks-clang"}[compiler]
+    return not missing(f"messages before libcapnp, with the checks of memory of {compiler}", compiler, checks)
 
 
-def checkers(folder):
+def checkers():
     """The compilers with checks of memory. Without --full it is the first one, which is also the faster one."""
-    found = (compiler for compiler in ("clang++", "c++") if has_checks(compiler, folder))
+    found = (compiler for compiler in ("clang++", "c++") if has_checks(compiler))
     return list(found) if IS_FULL else list(found)[:1]
 
 
+def headers(folder, link):
+    """The headers compile without a warning, also about names that hide others, and as with a later KJ. With --full each
+    compiles by itself."""
+    later, place = folder / "later", run(["pkg-config", "--variable=includedir", "capnp"])[0].strip()
+    for part in ("kj", "capnp"):
+        shutil.copytree(Path(place) / part, later / part)
+    common = later / "kj/common.h"
+    text = common.read_text()
+    compare("kj/common.h makes a Maybe from a null pointer", True, " Maybe(decltype(nullptr))" in text)
+    common.write_text(re.sub(r"^.*\bMaybe\(decltype\(nullptr\)\)", r"[[deprecated]] \g<0>", text, flags=re.M))
+    (folder / "later.cpp").write_text(LATER_KJ)
+    for compiler in ("c++", "clang++"):
+        if missing(f"the headers by {compiler}", compiler):
+            continue
+        # (the header of the server has all others)
+        for name in sorted(path.name for path in (TOP / "include/capvet").iterdir()) if IS_FULL else ["kj-server.h"]:
+            (folder / "alone.cpp").write_text(f"#include <capvet/{name}>\n")
+            command = [compiler, *STRICT, "-Wshadow", "-fsyntax-only", link[0], folder / "alone.cpp"]
+            compare(f"{compiler} {name}", ("", 0), run(command))
+        command = [compiler, *STRICT, "-fsyntax-only", "-isystem", later, link[0], folder / "later.cpp"]
+        compare(f"{compiler}, as a later KJ", ("", 0), run(command))
+
+
+def under_valgrind(folder):
+    """The archive and libcapnp too, as they are, with valgrind's checks of memory."""
+    if missing("libcapnp with checks of memory", "valgrind"):
+        return
+    valgrind = ["valgrind", "-q", "--error-exitcode=9", "--leak-check=full", "--errors-for-leak-kinds=definite"]
+    faults("faults under valgrind", [*valgrind, folder / "faults"])
+    text, status = run([*valgrind, folder / "rpc", "streams"])
+    compare("rpc streams under valgrind", 0, status)
+
+
 def from_cplusplus(folder, prefix, environment, count):
-    if any(missing("messages before libcapnp", tool) for tool in ("c++", "pkg-config", "capnp")):
+    if missing("messages before libcapnp", "c++", "pkg-config", "capnp", "libcapnp"):
         return
     link = flags(environment)
-    if link is None:
-        print("not tested, without libcapnp for pkg-config: messages before libcapnp")
-        return
     for path in CPP.iterdir():
         shutil.copy(path, folder)
     made = run(["capnp", "compile", "-oc++", "calculator.capnp"], cwd=folder, env={**os.environ, "PWD": str(folder)})
     compare("capnp compile", ("", 0), made)
     made = folder / "calculator.capnp.c++"
     sources = {"rpc_server": folder / "rpc_server.cpp", "rpc_client": folder / "rpc_client.cpp",
-               "vetted": TOP / "tests/readers/vetted.cpp", "rpc": TOP / "tests/readers/rpc.cpp"}
-    for page in ("README.md", "docs/guide.md"):
+               **{name: TOP / f"tests/readers/{name}.cpp" for name in ("vetted", "faults", "rpc")}}
+    for page in ("docs/in-process.md",):
         sources[page] = folder / f"{Path(page).stem}.cpp"
         sources[page].write_text("".join(re.findall(r"^```cpp\n(.*?)^```$", (TOP / page).read_text(), re.M | re.S)))
         compare(f"{page} has a block of C++", True, "capvet" in sources[page].read_text())
     for name, source in sources.items():
-        files = [source] if name == "vetted" else [source, made]
+        files = [source] if name in ("vetted", "faults") else [source, made]
         output = ["-o", folder / name] if name in PROGRAMS else ["-fsyntax-only"]
         compare(f"c++ {name}", ("", 0), run(["c++", *STRICT, "-O1", "-I", folder, *files, *link, *output]))
         if not missing(f"{name} by clang++", "clang++"):
             command = ["clang++", *STRICT, "-fsyntax-only", "-I", folder, *link[:1], source]
             compare(f"clang++ {name}", ("", 0), run(command))
+    headers(folder, link)
     suffixes = {"": count}
-    for compiler in checkers(folder):
+    for compiler in checkers():
         suffix = f"-checked-{compiler}"
         suffixes[suffix] = count // 10
-        for name in ("vetted", "rpc"):
-            files = [sources[name]] if name == "vetted" else [sources[name], made]
+        for name in ("vetted", "faults", "rpc"):
+            files = [sources[name], made] if name == "rpc" else [sources[name]]
             command = [compiler, "-std=c++17", *CHECKED, "-I", folder, *files, *link, "-o", folder / f"{name}{suffix}"]
             compare(f"{compiler} {name}.cpp, checked", ("", 0), run(command))
     for suffix, many in suffixes.items():
         vetted(f"vetted{suffix}", [folder / f"vetted{suffix}"], many, folder)
+        faults(f"faults{suffix}", [folder / f"faults{suffix}"])
         streams(f"rpc{suffix} streams", folder / f"rpc{suffix}")
         attacked(f"rpc{suffix}", folder / f"rpc{suffix}", many, folder)
     if IS_FULL:
         cost(folder / "rpc")
+        under_valgrind(folder)
     example(folder)
     by_cmake(folder, prefix)
 
 
 def from_rust(folder, environment, count):
-    if any(missing("messages before the crate capnp", tool) for tool in ("cargo", "rustc")):
+    if missing("messages before the crate capnp", "cargo", "rustc", "crate-capnp"):
         return
     environment = {**environment, "CARGO_TARGET_DIR": str(folder / "target")}
     environment.pop("CAPVET_LIB_DIR", None)
@@ -333,9 +465,8 @@ def from_rust(folder, environment, count):
         shutil.copytree(TOP / part, folder / "copy" / part, ignore=shutil.ignore_patterns("target", "Cargo.lock"))
     shutil.copytree(TOP / "tests/readers/rust/.cargo", folder / "copy/.cargo")
     crate = folder / "copy/bindings/rust-capnp"
-    if run(["cargo", "fetch", "--offline"], cwd=folder / "copy/tests/readers/rust", env=environment)[1]:
-        print("not tested, without the crate capnp 0.14.11: messages before that crate")
-        return
+    tidy(crate, environment)
+    tidy(folder / "copy/examples/rust/read", environment)
     for words in (["test"], ["doc", "--no-deps"]):
         text, status = run(["cargo", *words, *CARGO], cwd=crate, env={**environment, "RUSTDOCFLAGS": "-D warnings"})
         compare(f"cargo {words[0]} in bindings/rust-capnp", (0, ""), (status, text if status else ""))
@@ -343,9 +474,9 @@ def from_rust(folder, environment, count):
     text, status = run(["cargo", "build", "--release", *CARGO], cwd=rust_vetted, env=environment)
     compare("cargo build of rust-vetted", ("", 0), (text, status))
     vetted("reader, in Rust", [folder / "target/release/vetted"], count, folder)
-    blocks = re.findall(r"^```rust\n(.*?)^```$", (TOP / "docs/guide.md").read_text(), re.M | re.S)
-    blocks = [block for block in blocks if "capvet_capnp" in block]
-    compare("docs/guide.md has a block with capvet_capnp", 1, len(blocks))
+    blocks = re.findall(r"^```rust\n(.*?)^```$", (TOP / "docs/in-process.md").read_text(), re.M | re.S)
+    blocks = [block for block in blocks if "capvet_capnp::" in block]
+    compare("docs/in-process.md has a block with capvet_capnp", 1, len(blocks))
     (folder / "copy/examples/rust/read/src/bin").mkdir()
     guide = folder / "copy/examples/rust/read/src/bin/guide.rs"
     guide.write_text("#![allow(dead_code)]\n" + "".join(blocks) + "fn main() {}\n")
@@ -364,7 +495,7 @@ def main():
         environment = {**os.environ, "PKG_CONFIG_PATH": str(prefix / "lib/pkgconfig")}
         from_cplusplus(folder, prefix, environment, MANY)
         from_rust(folder, environment, MANY)
-    return install.ended()
+    return ended()
 
 
 if __name__ == "__main__":

@@ -8,7 +8,7 @@ import struct
 import subprocess
 import time
 
-from install import PROGRAM, TOP, compare
+from harness import PROGRAM, TOP, compare
 
 # Words of a message that the server takes, and the KiB that it may have besides: its input, its stack and the C library.
 LIMIT = 65536

@@ -6,6 +6,7 @@ program.
 """
 import struct
 
+from harness import framed
 from strict import CASES, many
 from tables import BITLESS, CAPABILITY, CYCLE, NULL, Row, SHARED, STRUCT, word
 
@@ -227,8 +228,8 @@ ROWS = (
     *(row for stream, _, *plain in NOT_STRICT for options in ("", "--unamplified") for row in accepted(options, stream, *plain)),
     *(row for stream, *said in STRICT for options in ("--strict", "--unamplified --strict")
       for row in accepted(options, stream, *said)),
-    *(Row("vet --strict", stream, "message 0: refused {} at {}:{} pointers {}\n".format(*fault), status=1)
-      for stream, fault in CASES if fault),
+    *(Row("vet --strict", framed(digits).hex(), "message 0: refused {} at {}:{} pointers {}\n".format(*fault), status=1)
+      for digits, fault in CASES if fault),
     *ORDER,
     *AFTER_IT,
     *UNAMPLIFIED,

@@ -1,11 +1,13 @@
 #!/usr/bin/env python3
-"""Packs the built program and library twice, in two clones at two paths, and uses the packages as their receivers do.
+"""Packs what is built in a clone, and uses the packages as their receivers do.
 
-    dist.py [PROGRAM [ARCHIVE]]
+    dist.py [PROGRAM [ARCHIVE]] [--full]
 
-The clones have the files of this folder, committed. The archive for Linux is unpacked where there is no `rt`, and its README's
-commands are run word for word, for Go and for the wheel too. The Debian package is installed below a folder and removed. What a
-machine has no tool for is said in a line of its own. The last line is 'N passed, M failed', and the status is 1 if a case failed.
+The clone has the files of this folder, committed. The archive for Linux is unpacked where there is no `rt`, and the commands of its
+README and pages are run word for word. The Debian packages are installed below a folder and removed. Those for arm64 are unpacked,
+and their programs run by qemu. With --full a second clone at another path gives the same sums, the guard is packed too, apt installs
+the packages in fresh roots of Debian (roots.py), and an image is built. What a machine has no tool for is said in a line of its own.
+The last line is 'N passed, M failed', and the status is 1 if a case failed.
 """
 import hashlib
 import os
@@ -14,10 +16,20 @@ import shutil
 import subprocess
 import sys
 import tempfile
+import zipfile
 from pathlib import Path
 
+import debs
 import install
-from install import ARCHIVE, PROGRAM, TOP, compare, missing, run
+import reading
+import roots
+from amount import IS_FULL
+from harness import ARCHIVE, PROGRAM, TOP, compare, ended, run
+from needs import missing
+
+sys.path.insert(0, str(TOP / "packaging"))
+import packing  # noqa: E402 (it is in the folder that the line above names)
+import targets  # noqa: E402
 
 COMMITTED = {f"GIT_{who}_{what}": value for who in ("AUTHOR", "COMMITTER")
              for what, value in (("NAME", "a"), ("EMAIL", "a@b"), ("DATE", "1700000000 +0000"))}
@@ -27,13 +39,16 @@ message 1: accepted charge 76 depth 4 pointers 34 caps 0
 message 2: accepted charge 20 depth 2 pointers 7 caps 0
 message 3: accepted charge 78 depth 7 pointers 21 caps 0
 """
+# Words of maintainers, which are in no page of a package.
+MAINTAINERS = re.compile(r"crates/|tests/|\brt \w|`?make (?:build|install|test|gate|dist|wheel|guard|uninstall|bench|growths|times|run)\b")
+PAGES = ("guide", "service", "output", "c", "go", "python")
 
 
 def sum_of(path):
     return hashlib.sha256(path.read_bytes()).hexdigest()
 
 
-def clone(folder):
+def clone(folder, with_guards=True):
     """A repository of the files of this one, with what is built, and one commit."""
     names = subprocess.run(["git", "ls-files", "-z", "-co", "--exclude-standard"], cwd=TOP, check=True, stdout=subprocess.PIPE,
                            text=True).stdout.split("\0")[:-1]
@@ -43,40 +58,40 @@ def clone(folder):
             shutil.copy(TOP / name, folder / name)
     for command in (["init", "-q"], ["add", "-A"], ["-c", "commit.gpgsign=false", "commit", "-qm", "A release"]):
         subprocess.run(["git", *command], cwd=folder, check=True, env={**os.environ, **COMMITTED})
-    (folder / "build").mkdir()
-    shutil.copyfile(PROGRAM, folder / "build/capvet")
-    shutil.copyfile(ARCHIVE, folder / "build/libcapvet.a")
+    built = ["capvet", "libcapvet.a", "inspector.html", *(f"{name}.of" for name in targets.TARGETS)]
+    built += [it for made, _ in targets.TARGETS.values() for it in made]
+    built += [f"{machine.name}/capvet-guard{end}" for machine in packing.MACHINES for end in ("", ".of", "-static", "-static.of") if with_guards]
+    for name in built:
+        (folder / "build" / name).parent.mkdir(parents=True, exist_ok=True)
+        if (TOP / "build" / name).is_file():
+            shutil.copyfile(TOP / "build" / name, folder / "build" / name)
 
 
 def packed(folder):
     """The packages that `make dist` makes of a clone, each with its sum."""
     environment = {name: value for name, value in os.environ.items() if name not in ("MAKEFLAGS", "MAKELEVEL", "SOURCE_DATE_EPOCH")}
-    text, status = run(["make", "-s", "dist"], timeout=600, cwd=folder, env=environment)
+    flags = "" if IS_FULL else "--without-guard"
+    text, status = run(["make", "-s", "dist", f"DIST_FLAGS={flags}"], timeout=1800, cwd=folder, env=environment)
     compare(f"make dist in {folder.name}", 0, status)
     if status:
         print(text)
-    return {path.name: sum_of(path) for path in sorted((folder / "dist").glob("*"))}
-
-
-def makes_wheel():
-    """Whether there is a target for the wheel, and an interpreter that can build it."""
-    if not re.search(r"^wheel:", (TOP / "Makefile").read_text(), re.M):
-        return False
-    return any(shutil.which(it) and run([it, "-c", "import cffi, setuptools, wheel"])[1] == 0 for it in ("/usr/bin/python3", "python3"))
+    dist = folder / "dist"
+    return {str(path.relative_to(dist)): sum_of(path) for path in sorted(dist.rglob("*")) if path.is_file()}
 
 
 def summed(dist):
     """SHA256SUMS has all packages, and BUILT the sums of what was built."""
     compare("sha256sum -c", 0, run(["sha256sum", "-c", "--quiet", "SHA256SUMS"], cwd=dist)[1])
     named = {line.split("  ")[1] for line in (dist / "SHA256SUMS").read_text().splitlines()}
-    compare("packages of SHA256SUMS", {path.name for path in dist.iterdir()} - {"SHA256SUMS", "BUILT"}, named)
+    there = {str(path.relative_to(dist)) for path in dist.rglob("*") if path.is_file()}
+    compare("packages of SHA256SUMS", there - {"SHA256SUMS", "BUILT"}, named)
     lines = (dist / "BUILT").read_text().splitlines()
     commit = run(["git", "rev-parse", "HEAD"], cwd=dist)[0].strip()
     toolchain = run(["rt", "version"])[0].strip()
     compare("commit and toolchain of BUILT", [f"commit {commit}", f"toolchain {toolchain}"], lines[:2])
     built = dict(reversed(line.split("  ")) for line in lines[2:])
-    compare("sum of the program in BUILT", sum_of(PROGRAM), built["capvet"])
-    compare("sum of the archive in BUILT", sum_of(ARCHIVE), built["libcapvet.a"])
+    compare("sum of the program in BUILT", sum_of(PROGRAM), built["x86_64/capvet"])
+    compare("sum of the archive in BUILT", sum_of(ARCHIVE), built["x86_64/libcapvet.a"])
     return built
 
 
@@ -84,66 +99,122 @@ def without_rt(folder):
     """The environment of a machine that has no `rt`."""
     kept = [part for part in os.environ["PATH"].split(":") if part and not (Path(part) / "rt").exists()]
     environment = {name: value for name, value in os.environ.items() if not name.startswith(("CAPVET_", "PKG_CONFIG", "CARGO_TARGET"))}
-    environment |= {"PATH": ":".join(kept), "CARGO_TARGET_DIR": str(folder / "target"), "LC_ALL": "C.UTF-8"}
+    environment |= {"PATH": ":".join(kept), "CARGO_TARGET_DIR": str(folder / "target"), "LC_ALL": "C.UTF-8", "HOME": str(folder),
+                    "CARGO_HOME": os.environ.get("CARGO_HOME", str(Path.home() / ".cargo")), "GOPROXY": "off", "GOFLAGS": "", "GOWORK": "off",
+                    "GOCACHE": os.environ.get("GOCACHE", str(Path.home() / ".cache/go-build")), "PIP_NO_INDEX": "1",
+                    "RUSTUP_HOME": os.environ.get("RUSTUP_HOME", str(Path.home() / ".rustup"))}
     compare("rt is not on the path", None, shutil.which("rt", path=environment["PATH"]))
     return environment
 
 
-def from_go(root, block, environment):
-    """The Go package of the archive, by the commands of the README."""
-    if any(missing("the Go package of the archive", tool) for tool in ("go", "cc", "pkg-config")):
-        return
-    environment = {**environment, "GOPROXY": "off", "GOFLAGS": "", "GOWORK": "off"}
-    compare("the README's commands for Go", (VETTED, 0), run(["sh", "-ec", block], timeout=600, cwd=root, env=environment))
-    environment["PKG_CONFIG_PATH"] = str(root / "lib/pkgconfig")
-    compare("go vet of the archive's package", ("", 0),
-            run(["go", "vet", "."], timeout=600, cwd=root / "bindings/go", env=environment))
-
-
-def from_python(root, block, dist, environment):
-    """The wheel, by the commands of the README, in a fresh environment."""
-    wheels = list(dist.glob("*.whl"))
-    if not wheels or run(["python3", "-c", "import cffi, venv"], env=environment)[1]:
-        print("not tested, without a wheel, cffi or venv: the package for Python")
-        return
-    shutil.copy(wheels[0], root.parent)
-    compare("the README's commands for Python", ("391\n", 0), run(["sh", "-ec", block], timeout=600, cwd=root, env=environment))
+def contents(dist, folder, machine, built):
+    """Where the archive for a machine is unpacked. It has what was built, and the static programs."""
+    name = next(dist.glob(f"*-{machine}-linux.tar.gz"))
+    subprocess.run(["tar", "xf", name, "-C", folder], check=True)
+    root = folder / name.name.removesuffix(".tar.gz")
+    places = {"bin/capvet": "capvet-static", "lib/libcapvet.a": "libcapvet.a", "lib/libcapvet.so.1": "libcapvet.so.1"}
+    places |= {"bin/capvet-guard": "capvet-guard-static"} if IS_FULL else {}
+    for place, what in places.items():
+        compare(f"{place} of the archive for {machine} is what was built", built[f"{machine}/{what}"], sum_of(root / place))
+    return root
 
 
 def unpacked(dist, folder, built):
-    """The archive for Linux, in another place, by the commands of its README."""
-    name = next(dist.glob("*.tar.gz"))
-    subprocess.run(["tar", "xf", name, "-C", folder], check=True)
-    root = folder / name.name.removesuffix(".tar.gz")
-    for place, what in (("bin/capvet", "capvet"), ("lib/libcapvet.a", "libcapvet.a"), ("lib/libcapvet.so.1", "libcapvet.so.1")):
-        compare(f"the archive's {place} is what was built", built[what], sum_of(root / place))
+    """The archive for Linux, in another place: what it has, and its README's commands."""
+    root = contents(dist, folder, "x86_64", built)
     prefix = folder / "installed"
     compare("make install", ("", 0), install.make("install", folder, f"PREFIX={prefix}"))
     wanted = {file for file in install.files_of(prefix)}
     compare("what is installed is in the archive", set(), wanted - install.files_of(root).keys())
-    for part in ("bindings", "examples", "docs"):
+    for part in ("examples", *packing.BINDINGS):
         there = run(["git", "ls-files", part], cwd=dist.parent)[0].split()
-        missing_there = [it for it in there if not (root / it).exists() and not it.endswith((".1", ".3"))]
-        compare(f"{part} of the archive", [], missing_there)
+        compare(f"{part} of the archive", [], [it for it in there if not (root / it).exists()])
     environment = without_rt(folder)
-    blocks = re.findall(r"^```sh\n(.*?)^```$", (root / "README.md").read_text(), re.M | re.S)
+    blocks = [block for language, block in reading.BLOCK.findall((root / "README.md").read_text()) if language == "sh"]
     compare("the README has five blocks of commands", 5, len(blocks))
-    *blocks, in_go, in_python = blocks
-    from_go(root, in_go, environment)
-    from_python(root, in_python, dist, environment)
-    if any(missing("the archive by its README", tool) for tool in ("cc", "pkg-config", "man")):
-        return root
-    if missing("the crate of the archive", "cargo"):
-        blocks = blocks[:2]
-    text, status = run(["sh", "-ec", "\n".join(blocks)], cwd=root, env=environment)
-    compare("the commands of the README", (VETTED * len(blocks), 0), (text, status))
-    if len(blocks) == 3:
-        ran = run(["cargo", "test", "--offline", "--quiet", "--lib"], cwd=root / "bindings/rust",
-                  env={**environment, "PKG_CONFIG_PATH": str(root / "lib/pkgconfig")})
-        compare("cargo test of the archive's crate", 0, ran[1])
-    flags = run(["pkg-config", "--variable=libdir", "capvet"], env={**environment, "PKG_CONFIG_PATH": str(root / "lib/pkgconfig")})
-    compare("the folder of the library", root / "lib", Path(flags[0].strip()).resolve())
+    tools = ((), ("cc", "pkg-config"), ("cargo", "cc", "pkg-config"), ("go", "cc", "pkg-config"), ("wheel",))
+    wanted, ran = "", []
+    for block, names in zip(blocks, tools):
+        if not missing(f"commands of the README: {block.splitlines()[-1]}", *names):
+            ran.append(block)
+            wanted += "391\n" if "wheel" in names else VETTED
+    compare("the commands of the README", (wanted, 0), run(["sh", "-ec", "\n".join(ran)], cwd=root, env=environment))
+    if not missing("cargo test of the archive's crate", "cargo", "pkg-config"):
+        environment["PKG_CONFIG_PATH"] = str(root / "lib/pkgconfig")
+        compare("cargo test of the archive's crate", 0,
+                run(["cargo", "test", "--offline", "--quiet", "--lib"], cwd=root / "bindings/rust", env=environment)[1])
     return root
+
+
+def pages(root, folder):
+    """The pages of the archive: their links lead to files in it, they are for users, and their commands run at its top."""
+    lead_somewhere(root, "the archive")
+    environment = without_rt(folder) | {"PATH": f"{root}/bin:{os.environ['PATH']}", "PKG_CONFIG_PATH": str(root / "lib/pkgconfig")}
+    for name in PAGES:
+        tools = {"c": ("cc", "pkg-config"), "go": ("go", "cc", "pkg-config"), "python": ("wheel", "jq")}.get(name, ())
+        if missing(f"the commands of {name}.md in the archive", *tools):
+            continue
+        page = (root / f"docs/{name}.md").read_text()
+        text, _ = run(["bash", "-c", reading.script(page, "venv/bin/python")], cwd=root, env=environment)
+        reading.read(f"{name}.md of the archive", page, text, compare, "venv/bin/python")
+
+
+def lead_somewhere(root, whose):
+    """Each link of the pages below a folder leads to a file and a heading there, and no page speaks to maintainers."""
+    texts = {page: page.read_text() for page in root.rglob("*.md")}
+    compare(f"pages of {whose}", True, len(texts) > 9)
+    for page, text in texts.items():
+        prose = reading.BLOCK.sub("", text)
+        for target in re.findall(r"\]\(([^)\s]+)\)", prose):
+            file, _, heading = target.partition("#")
+            place = page.parent / file if file else page
+            leads = "://" in target or place.exists() and (
+                not heading or place.suffix != ".md" or heading in {re.sub(r"[^\w -]", "", it.lower()).replace(" ", "-")
+                                                                    for it in re.findall(r"^#+ (.*)$", place.read_text(), re.M)})
+            compare(f"{page.relative_to(root)} of {whose} links to {target}", True, leads)
+        compare(f"{page.relative_to(root)} of {whose} is for users", [], [it[0] for it in MAINTAINERS.finditer(text)])
+
+
+def installs(dist, folder):
+    """The commands of docs/install.md that need no rights: the archive, Python, Rust and Go."""
+    if missing("the commands of install.md", "wheel", "cargo", "go", "cc", "pkg-config"):
+        return
+    page = (TOP / "docs/install.md").read_text()
+    blocks = [block for language, block in reading.BLOCK.findall(page) if language == "sh" and not any(it in block for it in reading.UNTRIED)]
+    compare("install.md has five blocks of commands", 5, len(blocks))
+    sums, anywhere, python, rust, go = blocks
+    place = folder / "received"
+    shutil.copytree(dist, place)
+    # (without a network, the environment has Debian's `cffi`)
+    python = python.replace("-m venv venv", "-m venv --system-site-packages venv")
+    environment = without_rt(folder) | {"PATH": f"/usr/bin:{os.environ['PATH']}"}
+    compare("install.md: sums, any Linux, Python", (f"capvet {packing.version()}\n{packing.version()}\n", 0),
+            run(["sh", "-ec", sums + anywhere + python.replace("pip install", "pip install -q")], cwd=place, env=environment))
+    environment = without_rt(folder) | {"CAPVET": str(next(place.glob("*-x86_64-linux")))}
+    begins = {"rust": "cargo new --quiet --vcs none rust", "go": "mkdir go && cd go && go mod init hello 2> /dev/null"}
+    for name, commands in (("rust", rust), ("go", go)):
+        compare(f"a new folder for {name}", 0, run(["sh", "-ec", begins[name]], cwd=place, env=environment)[1])
+        compare(f"install.md: {name}", ("", 0), run(["sh", "-ec", commands], cwd=place / name, env=environment))
+
+
+def wheels(dist, folder):
+    """The wheels' tags are true, and the index would take them and the source distribution."""
+    made = sorted(dist.glob("*.whl"))
+    if missing("the wheels", "wheel"):
+        return
+    compare("wheels", ["aarch64", "x86_64"], [re.search(r"manylinux_2_17_(\w+)\.whl", it.name)[1] for it in made])
+    for file in made:
+        with zipfile.ZipFile(file) as archive:
+            archive.extractall(folder / file.stem)
+        module = next((folder / file.stem).rglob("*.so"))
+        if not missing(f"the symbols of {file.name}", "readelf"):
+            needed = [tuple(map(int, it.split("."))) for it in re.findall(r"GLIBC_([\d.]+)", run(["readelf", "-VW", module])[0])]
+            compare(f"{file.name} needs a C library that the tag allows", (True, True), (bool(needed), max(needed) <= (2, 17)))
+            libraries = set(re.findall(r"\(NEEDED\).*\[(.*)\]", run(["readelf", "-dW", module])[0]))
+            compare(f"libraries of {file.name}", {"libc.so.6"}, libraries - {"ld-linux-aarch64.so.1"})
+    if not missing("the metadata of the wheels", "twine"):
+        text, status = run(["twine", "check", "--strict", *made, dist / f"capvet-{packing.version()}.tar.gz"])
+        compare("twine check", 0, status if not status else text)
 
 
 def shared(root, folder):
@@ -170,7 +241,7 @@ def shared(root, folder):
 
 def archive(root, folder):
     """The archive has and lacks what docs/install.md says: symbols, unwind tables, the stack."""
-    if any(missing("the sections of the archive", tool) for tool in ("readelf", "cc")):
+    if missing("the sections of the archive", "readelf", "cc"):
         return
     library = root / "lib/libcapvet.a"
     sections = re.findall(r"^ +\[ *\d+\] (\S+) +\w+ +\w+ +\w+ +\w+ +\w+ +([A-Z]*)", run(["readelf", "-SW", library])[0], re.M)
@@ -186,58 +257,73 @@ def archive(root, folder):
         compare(f"its exports, {hides}", wanted, " capvet_version" in run(["readelf", "--dyn-syms", "-W", plugin])[0])
 
 
-def debian(dist, folder, built):
-    """The package is installed below a folder, and removed without a trace."""
-    package = next(dist.glob("*.deb"))
-    if missing("the Debian package", "dpkg"):
+def for_arm(dist, folder, built):
+    """The packages for arm64 have what was built, and their programs run by qemu."""
+    if missing("the packages for arm64", "aarch64-linux-gnu-gcc", "qemu-aarch64", "dpkg-deb"):
         return
-    root = folder / "root"
-    for name in ("info", "updates", "triggers"):
-        (root / "var/lib/dpkg" / name).mkdir(parents=True)
-    (root / "var/lib/dpkg/status").touch()
-    (root / "var/log").mkdir()
-    before = {name for name in install.files_of(root) if not name.startswith("var/")}
-    dpkg = ["dpkg", f"--root={root}", "--force-depends", "--force-not-root", "--force-script-chrootless"]
-    text, status = run([*dpkg, "-i", package], env={**os.environ, "DEBIAN_FRONTEND": "noninteractive"})
-    compare("dpkg -i", 0, status)
-    if status:
-        print(text)
-        return
-    compare("the package's program", built["capvet"], sum_of(root / "usr/bin/capvet"))
-    library = root / "usr/lib/x86_64-linux-gnu"
-    compare("the package's libraries", [built["libcapvet.a"], built["libcapvet.so.1"]],
+    root, debian = contents(dist, folder, "aarch64", built), folder / "arm64"
+    for name in ("capvet", "libcapvet1", "libcapvet-dev"):
+        subprocess.run(["dpkg-deb", "-x", next(dist.glob(f"apt/{name}_*_arm64.deb")), debian], check=True)
+    library = debian / "usr/lib/aarch64-linux-gnu"
+    compare("the libraries of the package for arm64", [built["aarch64/libcapvet.a"], built["aarch64/libcapvet.so.1"]],
             [sum_of(library / "libcapvet.a"), sum_of(library / "libcapvet.so.1")])
-    compare("the package's program runs", (VETTED, 0), run([root / "usr/bin/capvet", "vet", TOP / "examples/stream-of-four.bin"]))
-    compare("dpkg -P", 0, run([*dpkg, "-P", "capvet"])[1])
-    compare("files left", before, {name for name in install.files_of(root) if not name.startswith("var/")})
-    if not missing("what lintian finds", "lintian"):
-        text, _ = run(["lintian", "--allow-root", "--no-tag-display-limit", package])
-        compare("errors of lintian", [], [line for line in text.splitlines() if line.startswith("E:")])
+    compare("the program of the package for arm64", built["aarch64/capvet"], sum_of(debian / "usr/bin/capvet"))
+    for program in (root / "bin/capvet", debian / "usr/bin/capvet"):
+        command = ["qemu-aarch64", "-L", "/usr/aarch64-linux-gnu", program, "vet", TOP / "examples/stream-of-four.bin"]
+        compare(f"{program.relative_to(folder)} runs", (VETTED, 0), run(command))
+    source, program = TOP / "examples/c/vet.c", folder / "vet-arm64"
+    built_by = ["aarch64-linux-gnu-gcc", f"-I{root}/include", source, f"-L{root}/lib"]
+    for library in ("-lcapvet", "-l:libcapvet.so.1"):
+        compare(f"vet.c for arm64 with {library}", ("", 0), run([*built_by, library, "-o", program]))
+        command = ["qemu-aarch64", "-L", "/usr/aarch64-linux-gnu", "-E", f"LD_LIBRARY_PATH={root}/lib", program, TOP / "examples/stream-of-four.bin"]
+        compare(f"vet.c for arm64 runs, with {library}", (VETTED, 0), run(command))
+
+
+def image(root, folder):
+    """An image by the Containerfile of the archive has the static program, which vets."""
+    if missing("an image by the Containerfile", "buildah", "root"):
+        return
+    storage = ["buildah", "--storage-driver", "vfs", "--root", folder / "images", "--runroot", folder / "running"]
+    compare("buildah build", 0, run([*storage, "build", "--isolation", "chroot", "-t", "capvet", "."], cwd=root)[1])
+    name = run([*storage, "from", "capvet"])[0].strip()
+    sample = (TOP / "examples/contacts.bin").read_bytes()
+    ran = subprocess.run([*storage, "run", "--isolation", "chroot", name, "--", "/capvet", "vet"], input=sample, capture_output=True)
+    compare("the image vets", (install.CONTACTS, 0), (ran.stdout.decode(), ran.returncode))
+    place = run([*storage, "mount", name])[0].strip()
+    compare("the image has the program", sum_of(root / "bin/capvet"), sum_of(Path(place) / "capvet"))
+    run([*storage, "umount", name])
 
 
 def main():
-    if any(missing("the packages", tool) for tool in ("git", "make", "rt", "dpkg-deb")):
-        return install.ended()
-    with tempfile.TemporaryDirectory() as scratch:
+    if missing("the packages", "git", "make", "rt", "dpkg-deb", "dpkg-scanpackages"):
+        return ended()
+    with tempfile.TemporaryDirectory(ignore_cleanup_errors=True) as scratch:
         folder = Path(scratch)
-        clones = folder / "one", folder / "some/other place"
-        for place in clones:
-            place.mkdir(parents=True)
-            clone(place)
-        one, other = (packed(place) for place in clones)
-        compare("packages of two clones", one, other)
-        compare("packages are made", True, len(one) >= 4)
-        compare("a wheel is made", makes_wheel(), any(name.endswith(".whl") for name in one))
-        dist = clones[0] / "dist"
+        first, second = folder / "one", folder / "some/other place"
+        first.mkdir()
+        clone(first)
+        one, dist = packed(first), first / "dist"
+        compare("packages are made", True, len(one) >= 20)
         built = summed(dist)
         root = unpacked(dist, folder, built)
+        pages(root, folder)
         shared(root, folder)
         archive(root, folder)
-        debian(dist, folder, built)
-        (clones[1] / "docs/more.md").write_text("more\n")
-        text, status = run(["make", "-s", "dist"], cwd=clones[1])
+        wheels(dist, folder)
+        installs(dist, folder)
+        debs.check(dist, folder, built)
+        for_arm(dist, folder, built)
+        (first / "docs/more.md").write_text("more\n")
+        text, status = run(["make", "-s", "dist"], cwd=first)
         compare("make dist, with a change that isn't committed", (True, True), ("commit all changes first" in text, status != 0))
-    return install.ended()
+        if IS_FULL:
+            image(root, folder)
+            second.mkdir(parents=True)
+            clone(second, with_guards=False)
+            compare("packages of two clones", one, packed(second))
+            shutil.rmtree(second)
+            roots.check(dist, folder)
+    return ended()
 
 
 if __name__ == "__main__":

@@ -20,7 +20,6 @@ import os
 import random
 import resource
 import select
-import shutil
 import signal
 import struct
 import subprocess
@@ -36,12 +35,16 @@ import demands
 import readers
 import trees
 from amount import cases
-from calls import TOP, made_up
+from harness import PROGRAM, TOP, compare, ended, expect, framed, outputs, table
+from made import made_up
+from needs import missing
 from packing import packed
 
-PROGRAM = Path(sys.argv[1]).resolve()
 MANY = cases(5_000, full=10_000)
 MIB = 1 << 20
+# How many MiB a program has resident beside its messages. (Which pages of its files and of the C library these are depends on
+# what the system has read ahead, so a few tens of KiB come and go)
+SPARE = 3
 SECONDS = 60
 FAILED = b"capvet: output failed\n"
 # The options over all changed messages. `vet` has the first two as --strict and --unamplified.
@@ -51,41 +54,11 @@ OPTIONS = ("", "--allow-nonstrict", "--allow-amplified", "--allow-nonstrict --al
 # What `vet` says of changed messages that `filter` leaves out, and the least of each in 10,000.
 REASONS = {"Reserved": 100, "OutOfSegment": 100, "PadOutside": 50, "NoRoot": 50, "NullPad": 20, "EmptySegment": 20,
            "CapabilityPad": 20, "ManySegments": 5, "WordLimit": 50, "Overlap": 20}
-passed = failed = 0
 
 
-def told(name, holds, *said):
-    """A case, which fails if something doesn't hold."""
-    global passed, failed
-    passed, failed = passed + bool(holds), failed + (not holds)
-    if not holds:
-        print(f"FAILED: {name}", *said[:3], sep="\n  ")
-
-
-def differences(wanted, got):
-    """How two runs differ: where each text does, and the status."""
-    for what, want, came in zip(("standard output", "standard error"), wanted, got):
-        if want != came:
-            at = next((at for at, pair in enumerate(zip(want, came)) if pair[0] != pair[1]), min(len(want), len(came)))
-            part = slice(max(0, at - 16), at + 48)
-            yield f"{what}: {len(came)} bytes, and not {len(want)}; they differ at {at}: {came[part]!r}, {want[part]!r}"
-    if wanted[2] != got[2]:
-        yield f"status {got[2]}, and not {wanted[2]}"
-
-
-def compare(name, wanted, got):
-    """A case: both outputs, and the status."""
-    told(name, wanted == got, *differences(wanted, got))
-
-
-def run(words, stdin=b"", stdout=subprocess.PIPE, stderr=subprocess.PIPE, **how):
+def run(words, stdin=b"", **how):
     """Both outputs of the program, and its status."""
-    stdin = {"stdin": stdin} if hasattr(stdin, "fileno") else {"input": stdin}
-    try:
-        ran = subprocess.run([PROGRAM, *words], **stdin, stdout=stdout, stderr=stderr, cwd=TOP, timeout=SECONDS, **how)
-    except subprocess.TimeoutExpired:
-        return b"", b"", "no end within a minute"
-    return ran.stdout or b"", ran.stderr or b"", ran.returncode
+    return outputs([PROGRAM, *words], stdin, **how)
 
 
 def filtered(options, stream, **how):
@@ -108,14 +81,8 @@ def cut(stream):
         yield segments
 
 
-def table(segments):
-    numbers = [len(segments) - 1, *(len(it) // 8 for it in segments)]
-    numbers += [0] * (len(numbers) % 2)
-    return struct.pack(f"<{len(numbers)}I", *numbers)
-
-
-def frame(segments):
-    return table(segments) + b"".join(segments)
+def table_of(segments):
+    return table([len(it) // 8 for it in segments])
 
 
 @cache
@@ -124,7 +91,7 @@ def packed_part(part):
 
 
 def packed_frame(segments):
-    return b"".join(map(packed_part, (table(segments), *segments)))
+    return b"".join(map(packed_part, (table_of(segments), *segments)))
 
 
 def asked(options):
@@ -141,7 +108,7 @@ def to_pass_on(options, stream, given):
     """What `filter` has to write of a stream that comes as these bytes: both outputs, and the status."""
     options = options.split()
     out, err, status = run(asked(options), given)
-    write = packed_frame if "--pack" in options else frame
+    write = packed_frame if "--pack" in options else lambda segments: framed(*segments)
     frames, lines = [], []
     for line, segments in zip(out.splitlines(keepends=True), cut(stream)):
         if b" accepted " in line:
@@ -179,7 +146,7 @@ def lines_of(*numbers):
 
 def accepted(*messages):
     """The frames of messages that are accepted."""
-    return b"".join(frame(segments) for message in messages for segments in cut(message))
+    return b"".join(framed(*segments) for message in messages for segments in cut(message))
 
 
 def padded(message, chance):
@@ -207,7 +174,7 @@ def runs():
     for word in (bytes(8), b"\x8a" * 8, b"\x8a" * 7 + b"\0"):
         for sizes in (0, 0), (0, 0, 0), (1, 2, 0), (3, 1), (254, 2, 255), (260, 0, 260), (5, 600):
             segments = [bytes(8) + sizes[0] * word, *(size * word for size in sizes[1:])]
-            yield frame(segments)
+            yield framed(*segments)
 
 
 def changed(count):
@@ -220,7 +187,7 @@ def changed(count):
         elif kind < 10:
             yield padded(made_up(chance), chance)
         else:
-            yield padded(readers.framed(readers.changed(chance.choice(bases), chance)), chance)
+            yield padded(framed(*readers.changed(chance.choice(bases), chance)), chance)
 
 
 def over_samples():
@@ -254,13 +221,13 @@ def over_changed(messages):
         again, faults, status = run(words, out)
         count = len(messages) - len(lines)
         again = again.count(b" accepted "), faults, status
-        told(f"filter {options}: all that is passed on is accepted once more", again == (count, b"", 0), count, again)
+        expect(f"filter {options}: all that is passed on is accepted once more", again == (count, b"", 0), count, again)
         few = 10 * min(count, len(lines)) < len(messages)
-        told(f"filter {options}: some are passed on, and some aren't", not few, count, len(lines))
-    with_padding = sum(frame(it) != message for it, message in zip(cut(stream), messages))
-    told("padding that isn't zero occurs", 20 * with_padding >= len(messages), with_padding)
+        expect(f"filter {options}: some are passed on, and some aren't", not few, count, len(lines))
+    with_padding = sum(framed(*it) != message for it, message in zip(cut(stream), messages))
+    expect("padding that isn't zero occurs", 20 * with_padding >= len(messages), with_padding)
     few = {name: reasons[name] for name, least in REASONS.items() if reasons[name] < least * len(messages) // 10_000}
-    told("each reason occurs", not few, few)
+    expect("each reason occurs", not few, few)
     print(f"filter: {len(messages)} messages, refused for {dict(reasons)}")
 
 
@@ -273,7 +240,7 @@ def stopping(messages):
             given = packed(stream) if "--packed" in options else stream
             _, err, _ = case(f"messages from {at}", options, stream, given)
             ended += err.count(b"\n")
-    told("--stop ends some runs", 200 * ended >= len(messages), ended)
+    expect("--stop ends some runs", 200 * ended >= len(messages), ended)
     # what comes after the refused message isn't looked at
     broken = b"\xff" * 8
     for options, given in ("--stop", NULL + CYCLE + broken), ("--stop --packed", packed(NULL + CYCLE) + b"\xff"):
@@ -292,17 +259,13 @@ def converted(conversion, stream):
     command = ["capnp", "convert", "--quiet", conversion]
     # (it warns where PWD is another folder, as after `make -C`)
     environment = {**os.environ, "PWD": os.getcwd()}
-    try:
-        ran = subprocess.run(command, input=stream, capture_output=True, timeout=SECONDS, env=environment)
-    except subprocess.TimeoutExpired:
-        return b"", b"", "no end within a minute"
-    return ran.stdout, ran.stderr[:300], ran.returncode
+    out, err, status = outputs(command, stream, env=environment)
+    return out, err[:300], status
 
 
 def by_libcapnp(messages):
     """`capnp convert` reads packed output, and gets what it gets of the plain frames."""
-    if shutil.which("capnp") is None:
-        print("not tested, without capnp on the path: packed output by capnp convert")
+    if missing("packed output by capnp convert", "capnp"):
         return
     lines = run(["vet", "--strict", "--unamplified"], b"".join(messages))[0].splitlines()
     some = [message for message, line in zip(messages, lines)
@@ -311,9 +274,9 @@ def by_libcapnp(messages):
     compare("filter --pack, for capnp convert", (b"".join(packed_frame(it) for it in cut(b"".join(some))), b"", 0), ran)
     wanted = converted("binary:binary", accepted(*some))
     count = sum(1 for _ in cut(wanted[0]))
-    told("capnp convert reads all of the frames", (count, *wanted[1:]) == (len(some), b"", 0), count, len(some), wanted[1:])
+    expect("capnp convert reads all of the frames", (count, *wanted[1:]) == (len(some), b"", 0), count, len(some), wanted[1:])
     compare("filter --pack, read by capnp convert", wanted, converted("packed:binary", ran[0]))
-    told("these are many", 5 * count >= len(messages), count)
+    expect("these are many", 5 * count >= len(messages), count)
 
 
 # Pipes that stay open
@@ -399,7 +362,7 @@ def halves(options, message, text):
                 faults.append(f"more than the first, with {size} bytes of the next")
         live.send(given[sent:])
         rest = live.end()
-    told(f"filter {options}, a message and the beginning of the next, {message[:24].hex()}", not faults, *faults)
+    expect(f"filter {options}, a message and the beginning of the next, {message[:24].hex()}", not faults, *faults)
     compare(f"filter {options}, the last of them", (text, b"", 0), rest)
 
 
@@ -416,7 +379,7 @@ def refused_halves(options, given):
                 break
         live.send(given[sent:])
         rest = live.end()
-    told(f"filter {options}, a refused message and the beginning of the next", not faults, *faults)
+    expect(f"filter {options}, a refused message and the beginning of the next", not faults, *faults)
     compare(f"filter {options}, the last refused one", (b"", lines_of(len(given)), 1), rest)
 
 
@@ -474,13 +437,13 @@ def whole_and_half():
                     got = live.take(live.ran.stdout, len(text)), live.take(live.ran.stderr, len(lines)), live.waits()
                 if got != (text, lines, True):
                     faults.append(f"{got}, with {size} bytes of the next")
-            told(f"filter {options}, {name} and the beginning of one more", not faults, *faults)
+            expect(f"filter {options}, {name} and the beginning of one more", not faults, *faults)
     for options in ("", "--pack"):
         text = b"".join(map(packed_frame, cut(3 * NULL))) if options else 3 * NULL
         with Live(options) as live:
             live.send(3 * NULL + NULL[:7])
             first = select.select([live.ran.stdout], [], [], SECONDS)[0] and os.read(live.ran.stdout.fileno(), MIB)
-        told(f"filter {options}, three messages share a write", first == text, first)
+        expect(f"filter {options}, three messages share a write", first == text, first)
 
 
 def many_at_once():
@@ -543,7 +506,7 @@ def broken_streams():
         for size in range(1, last):
             given = packed(first) + packed(PADDED)[:size] if is_packed else first + PADDED[:size]
             _, err, _ = case(f"cut behind byte {size} of a message", options, first + PADDED, given)
-            told("the line of a cut frame", err.endswith(f"Truncated at byte {len(given)}\n".encode()), err)
+            expect("the line of a cut frame", err.endswith(f"Truncated at byte {len(given)}\n".encode()), err)
     # (tables that say 513 segments, too many words, and a message that is too large for --size)
     for options, more, said in (("", "0002000000000000", b"TooManySegments 513"),
                                 ("", "0000000001008000", b"TooLarge 8388609"),
@@ -553,10 +516,11 @@ def broken_streams():
             stream = before + bytes.fromhex(more)
             _, err, _ = case(f"then {more}", options + packs, stream, packed(stream) if "packed" in packs else stream)
             last = lines_of(1) + (b"capvet: message 3: " + said + b"\n" if said else lines_of(3))
-            told(f"the lines before and of {more}", err == last, err)
-    compare("filter of a directory", (b"", b"capvet: message 0: Device\n", 3), run(["filter", "examples"]))
+            expect(f"the lines before and of {more}", err == last, err)
+    compare("filter of a directory", (b"", b"capvet: message 0: Device\ncapvet: Is a directory (os error 21)\n", 3), run(["filter", "examples"]))
     missing = "examples/missing.bin"
-    compare("filter of no file", (b"", f"capvet: cannot open {missing}\n".encode(), 3), run(["filter", missing]))
+    compare("filter of no file", (b"", f"capvet: cannot open {missing}\ncapvet: No such file or directory (os error 2)\n".encode(), 3),
+            run(["filter", missing]))
     compare("filter of nothing", (b"", b"", 0), run(["filter"]))
 
 
@@ -607,7 +571,7 @@ def closed_output():
         _, err, status = filtered("", file, stdout=stdout)
         taken = os.lseek(file.fileno(), 0, os.SEEK_CUR)
     compare("filter of eight messages, with an output that is closed", (b"", FAILED, 3), (b"", err, status))
-    told("what it read of them", taken <= MIB + 2 * 65536, taken)
+    expect("what it read of them", taken <= MIB + 2 * 65536, taken)
 
 
 def limit_files(size):
@@ -632,8 +596,8 @@ def short_outputs():
                 got = out.read()
             # (the frames before a refused message are flushed before its line is written)
             said = FAILED if size < before else lines + FAILED
-            told(f"filter {options}, to a file that takes {size} bytes",
-                 (got, err, status) == (text[:size], said, 3), got, err, status)
+            expect(f"filter {options}, to a file that takes {size} bytes",
+                   (got, err, status) == (text[:size], said, 3), got, err, status)
             with Live(options) as live:
                 live.send(given)
                 got = live.take(live.ran.stdout, size)
@@ -641,8 +605,8 @@ def short_outputs():
                 live.ran.stdout = None
                 live.send(given * 20_000)
                 status = live.status()
-            told(f"filter {options}, to a reader that leaves after {size} bytes",
-                 (got, status) == (text[:size], 3), got, status)
+            expect(f"filter {options}, to a reader that leaves after {size} bytes",
+                   (got, status) == (text[:size], 3), got, status)
 
 
 def closed_errors():
@@ -715,7 +679,7 @@ def zeros_packed(count):
 
 def large_packed(segments):
     """The packed frame of such segments. Of a kind of words that repeats, the text repeats too."""
-    parts = [packed(table(segments))]
+    parts = [packed(table_of(segments))]
     for segment in segments:
         head = packed(segment[:8])
         same = segment[8:16] if len(segment) > 8 else b""
@@ -740,24 +704,24 @@ def large(name, options, stream, text, most):
         memory = most_memory(live.ran)
         faults += [f"{memory} KiB"] * (memory > most) + ["there is more"] * (not live.waits())
         faults += [it for it in (live.end(),) if it != (b"", b"", 0)]
-    told(f"filter {options}, {name}", not faults, *faults)
+    expect(f"filter {options}, {name}", not faults, *faults)
 
 
 def large_messages():
-    """Messages of 64 MiB, which the default limits allow. The memory is the message and 2 MiB, and with --exclusive a
+    """Messages of 64 MiB, which the default limits allow. The memory is the message and SPARE MiB, and with --exclusive a
     64th of the message more."""
     words = 64 << 17
     stream = large_message(words)
     kib = 1 << 10
-    large("a message of 64 MiB", "", stream, stream, (64 + 2) * kib)
-    large("a message of 64 MiB", "--exclusive", stream, stream, (64 + 1 + 2) * kib)
+    large("a message of 64 MiB", "", stream, stream, (64 + SPARE) * kib)
+    large("a message of 64 MiB", "--exclusive", stream, stream, (64 + 1 + SPARE) * kib)
     text = packed(stream[:8]) + packed(stream[8:16]) + zeros_packed(words - 1)
-    large("a message of 64 MiB", "--pack", stream, text, (64 + 2) * kib)
-    large("a message of 64 MiB", "--packed", text, stream, (64 + 2) * kib)
+    large("a message of 64 MiB", "--pack", stream, text, (64 + SPARE) * kib)
+    large("a message of 64 MiB", "--packed", text, stream, (64 + SPARE) * kib)
     segments = large_segments(words)
-    stream = frame(segments)
-    large("511 segments of 64 MiB", "", stream, stream, (64 + 2) * kib)
-    large("511 segments of 64 MiB", "--pack", stream, large_packed(segments), (64 + 2) * kib)
+    stream = framed(*segments)
+    large("511 segments of 64 MiB", "", stream, stream, (64 + SPARE) * kib)
+    large("511 segments of 64 MiB", "--pack", stream, large_packed(segments), (64 + SPARE) * kib)
     # from a file, through `cat`
     with tempfile.NamedTemporaryFile() as file:
         file.write(CYCLE + stream + CYCLE + stream + PADDED)
@@ -781,8 +745,7 @@ def main():
     short_outputs()
     closed_errors()
     large_messages()
-    print(f"{passed} passed, {failed} failed")
-    return failed > 0
+    return ended()
 
 
 if __name__ == "__main__":

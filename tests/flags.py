@@ -2,16 +2,16 @@
 
 The messages are the samples, those of tests/strict.py, made ones and changed ones, and some whose charge is one below the
 bound of unamplified messages, at it and one past it. Each comes with and without trailing bytes. The flags are in all
-combinations, and some limits are bad."""
+combinations, and some limits are bad. What a call accepts it accepts with wider limits too, and what capvet_canonical writes
+is canonical with the same limits."""
 import struct
-import subprocess
-import tempfile
 from collections import Counter
-from pathlib import Path
 
 import model
 import strict
-from model import (AMPLIFIED, ANSWERS, CANONICAL, EXCLUSIVE, FIELDS, FRAME, NO_TABLE, NONSTRICT, SEGMENT_AT, SLACK, VET,
+from harness import compare, expect, framed, over_file
+from made import changed, made_up
+from model import (AMPLIFIED, ANSWERS, CANONICAL, EXCLUSIVE, FIELDS, FRAME, IS_CANONICAL, NO_TABLE, NONSTRICT, SEGMENT_AT, SLACK, VET,
                    VET_SEGMENTS, Limits)
 
 MANY = 20_000
@@ -23,12 +23,6 @@ CALLS = ("capvet_frame", "capvet_vet", "capvet_vet_exclusive", "capvet_canonical
          "capvet_segment_at", "capvet_vet_segments")
 
 
-def framed(*segments):
-    sizes = [len(segments) - 1, *map(len, segments)]
-    sizes += [0] * (len(sizes) % 2)
-    return struct.pack(f"<{len(sizes)}I", *sizes) + b"".join(struct.pack(f"<{len(it)}Q", *it) for it in segments)
-
-
 def words_of(message):
     """The bytes after the table."""
     return message[8 * ((struct.unpack_from("<I", message)[0] + 1) // 2 + 1):] if len(message) >= 8 else message
@@ -37,7 +31,7 @@ def words_of(message):
 def separated(message):
     """The segments of a frame after their lengths, and how many they are. Bytes after the frame belong to the last segment, and
     bytes without a frame are one."""
-    segments, _ = model.framed(message, Limits(message_words=1 << 28))
+    segments, _ = model.unframed(message, Limits(message_words=1 << 28))
     if segments is None:
         parts = [message] if message else []
     else:
@@ -79,30 +73,30 @@ OTHERS = ((CYCLE, "DEPTH_LIMIT"), (SHARED, "OVERLAP"), (framed([0]), "OK"), (fra
 ONE, TWO = framed([7, 8, 9]) + bytes(8), struct.pack("<IIII3Q", 1, 1, 2, 0xEEEEEEEE, 7, 8, 9)
 FRONTS = ((ONE[:0], 8), (ONE[:1], 8), (ONE[:7], 8), (ONE[:8], 32), (ONE[:31], 32), (ONE[:32], 0), (ONE, 0), (TWO[:8], 16),
           (TWO[:15], 16), (TWO[:16], 40), (TWO[:39], 40), (TWO, 0), (struct.pack("<II", 511, 0), 2056))
-NOT_STRICT = [(bytes.fromhex(text), fault) for text, fault in strict.CASES] + [
+NOT_STRICT = [(framed(text), fault) for text, fault in strict.CASES] + [
     (strict.many(511), None), (strict.many(512), ("MANY_SEGMENTS", 0, 0, 0))]
 
 
-def are_as_named(told):
+def are_as_named():
     """The messages are what they are made for: by hand, or by the charge of the model."""
     for message, fault in NOT_STRICT:
         answer, _, report, _ = model.called(VET, message, Limits(), 0)
         got = report[-2:] + report[4:5]
-        told(f"the fault of {message.hex()}", (answer, got) == (ANSWERS[fault[0]], fault[1:]) if fault else answer == 0,
-             f"{answer} {got}")
-        told(f"{message.hex()}, accepted", model.called(VET, message, Limits(flags=NONSTRICT), 0)[0] == 0)
+        expect(f"the fault of {message.hex()}", (answer, got) == (ANSWERS[fault[0]], fault[1:]) if fault else answer == 0,
+               f"{answer} {got}")
+        expect(f"{message.hex()}, accepted", model.called(VET, message, Limits(flags=NONSTRICT), 0)[0] == 0)
     for past, message in amplified():
         _, _, report, _ = model.called(VET, message, Limits(flags=AMPLIFIED), 0)
         words = (len(message) - len(framed(*[[]] * report[7]))) // 8
-        told(f"the charge of {message[:40].hex()}", report[3] == words + SLACK + past, f"{report[3]} of {words} words")
+        expect(f"the charge of {message[:40].hex()}", report[3] == words + SLACK + past, f"{report[3]} of {words} words")
     for front, needed in FRONTS:
         answer, _, report, _ = model.called(FRAME, front, Limits(), 0)
-        told(f"the bytes needed of {front.hex()}", (answer == 0, report[1]) == (needed == 0, needed), f"{answer} {report}")
+        expect(f"the bytes needed of {front.hex()}", (answer == 0, report[1]) == (needed == 0, needed), f"{answer} {report}")
     for message, name in OTHERS:
-        told(f"the answer for {message.hex()}", model.called(EXCLUSIVE, message, Limits(), 1)[0] == ANSWERS[name])
+        expect(f"the answer for {message.hex()}", model.called(EXCLUSIVE, message, Limits(), 1)[0] == ANSWERS[name])
 
 
-def requests(small, made_up, changed, chance):
+def requests(small, chance):
     """Calls, each with its input, its limits and the size of its output buffer."""
     known = [message for message, _ in NOT_STRICT]
     bound = [message for _, message in amplified()]
@@ -146,44 +140,71 @@ def requests(small, made_up, changed, chance):
         yield asked(call, message, limits, size)
 
 
-def compare(told, program, many):
+def wider(limits, chance):
+    """Limits of which none is lower, with more of the ALLOW flags. (words without a table have no bytes after them)"""
+    more = chance.randrange(8) & ~(1 if limits.flags & NO_TABLE else 0)
+    return Limits(*(chance.choice((it, it + 1, 1 << 20)) if it < 1 << 20 else it for it in (limits.message_words, limits.charge)),
+                  min(256, limits.depth + chance.choice((0, 1, 100))), limits.flags | more)
+
+
+def that_hold(many, chance):
+    """Of the calls that return CAPVET_OK: the same with wider limits, and the check of each canonical form."""
+    counts = Counter()
+    for call, data, limits, size in many:
+        # (a tenth of them, and no large message)
+        if chance.randrange(10) or len(data) > 2000 or call == SEGMENT_AT:
+            continue
+        answer, required, _, out = model.called(call, data, limits, size)
+        if answer != 0:
+            continue
+        more = wider(limits, chance)
+        answer, least, _, _ = model.called(call, data, more, size)
+        expect(lambda: f"{CALLS[call]} of {data.hex()} with {limits}, and with {more}", (answer, least) == (0, required))
+        counts[call] += 1
+        yield call, data, more, size
+        if call == CANONICAL:
+            words = Limits(max(limits.message_words, len(out) // 8), limits.charge, limits.depth, NO_TABLE | AMPLIFIED)
+            expect(lambda: f"the canonical form of {data.hex()} with {words}", model.called(IS_CANONICAL, out, words, 0)[0] == 0)
+            yield IS_CANONICAL, out, words, 0
+    expect("calls with wider limits, of each kind", len(counts) == len(CALLS) - 1 and min(counts.values()) >= 20, counts)
+
+
+def compare_calls(program, many):
     """Makes all calls in one run of tests/c/flags.c, and compares what each replies with the model."""
-    with tempfile.TemporaryDirectory() as folder:
-        path = Path(folder) / "requests"
-        with path.open("wb") as file:
-            for call, data, limits, size in many:
-                file.write(struct.pack("<II", call, size) + limits.packed() + struct.pack("<I", len(data)) + data)
-        ran = subprocess.run([program, path], capture_output=True)
-    told("the calls with flags, with the compiler's checks", (ran.returncode, ran.stderr) == (0, b""), ran.stderr)
+    described = (struct.pack("<II", call, size) + limits.packed() + struct.pack("<I", len(data)) + data
+                 for call, data, limits, size in many)
+    replies, err, status = over_file([program], b"".join(described))
+    compare("the calls with flags, with the compiler's checks", (b"", 0), (err, status))
     at, answers = 0, Counter()
     for call, data, limits, size in many:
-        if len(ran.stdout) < at + REPLY.size:
-            told("a reply for each call with flags", False)
+        if len(replies) < at + REPLY.size:
+            expect("a reply for each call with flags", False)
             return answers
-        answer, required, *fields = REPLY.unpack_from(ran.stdout, at)
+        answer, required, *fields = REPLY.unpack_from(replies, at)
         at += REPLY.size
         wanted, least, report, out = model.called(call, data, limits, size)
-        got = ran.stdout[at:at + required] if call == CANONICAL and answer == ANSWERS["OK"] else b""
+        got = replies[at:at + required] if call == CANONICAL and answer == ANSWERS["OK"] else b""
         at += len(got)
         answers[call, answer] += 1
         # the report as the header has it, and its reserved fields
         wanted_fields = [*report, 0, 0, 0, 0]
-        told(lambda: f"{CALLS[call]} of {data.hex()} with {limits} and {size}",
-             (answer, required, fields, got) == (wanted, least, wanted_fields, out),
-             lambda: f"  wanted {wanted} {least} {dict(zip(FIELDS, report))} {out.hex()}\n"
-                     f"  got {answer} {required} {fields} {got.hex()}")
-    told("no more replies", at == len(ran.stdout))
+        expect(lambda: f"{CALLS[call]} of {data.hex()} with {limits} and {size}",
+               (answer, required, fields, got) == (wanted, least, wanted_fields, out),
+               lambda: f"wanted {wanted} {least} {dict(zip(FIELDS, report))} {out.hex()}\n"
+                       f"  got {answer} {required} {fields} {got.hex()}")
+    expect("no more replies", at == len(replies))
     return answers
 
 
-def test(told, program, samples, made_up, changed, chance):
-    are_as_named(told)
-    many = list(requests(samples, made_up, changed, chance))
-    answers = compare(told, program, many)
+def test(program, samples, chance):
+    are_as_named()
+    many = list(requests(samples, chance))
+    many += that_hold(many, chance)
+    answers = compare_calls(program, many)
     by_answer = Counter()
     for (call, answer), count in answers.items():
         by_answer[answer] += count
     for name, number in ANSWERS.items():
-        told(f"calls that answer {name}", by_answer[number] >= 10, f"{by_answer[number]}")
+        expect(f"calls that answer {name}", by_answer[number] >= 10, f"{by_answer[number]}")
     refused = sum(count for answer, count in by_answer.items() if answer)
     print(f"calls: {len(many)} calls with flags compared with the model, {refused} of them with an answer other than OK")

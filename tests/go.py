@@ -3,7 +3,8 @@
 
     go.py [PROGRAM [ARCHIVE]] [--full] [--idle]
 
-Its tests run with the race detector and compare it with PROGRAM. The example and the commands of docs/go.md write what the
+Its tests run with the race detector and compare it with PROGRAM. A module outside of the repository imports it, and another
+one imports that module. The example and the commands of docs/go.md write what the
 program and the page show, and a call of a small message is timed beside the same call from C. With --full 20,000 changed
 messages are compared, and the streams are cut at each byte. With --idle the call has to take at most OVERHEAD more than from
 C, for which the machine may do nothing else. A line says what isn't tested without `go`. The last line is 'N passed, M failed', and the status is 1 if a case failed.
@@ -15,15 +16,44 @@ import sys
 import tempfile
 from pathlib import Path
 
-import install
 import library
 from amount import IS_FULL, IS_IDLE
-from install import PROGRAM, TOP, compare, make, missing, run
+from harness import PROGRAM, TOP, compare, ended, run
+from install import make
+from needs import missing
 
 # The most that a call from Go takes above the same call from C, in nanoseconds.
 OVERHEAD = 200
 MODULES = ("bindings/go", "examples/go", "tests/go/cost")
 COUNTS = ["-changed", "20000", "-cuts", "1"] if IS_FULL else []
+PATH = "capvet.invalid/capvet"
+# A module outside of the repository, and a program of another module that imports it and not the package.
+READER = f"""package reader
+
+import "{PATH}"
+
+// Charge returns the charge of a message.
+func Charge(b []byte) (uint64, error) {{
+	report, err := capvet.Vet(b, capvet.Limits{{}})
+	return report.Charge, err
+}}
+"""
+MAIN = """package main
+
+import (
+	"fmt"
+	"os"
+
+	"reader.example/reader"
+)
+
+func main() {
+	b, err := os.ReadFile(os.Args[1])
+	if err == nil {
+		fmt.Println(reader.Charge(b))
+	}
+}
+"""
 
 
 def go(name, words, folder, environment):
@@ -41,13 +71,40 @@ def tested(top, environment):
     for module in MODULES:
         compare(f"gofmt -l {module}", ("", 0), run(["gofmt", "-l", "."], cwd=top / module))
         go(f"go vet {module}", ["vet", "./..."], top / module, environment)
+        checked(module, top, environment)
     words = ["test", "-race", "-count=1", "-v", ".", "-program", str(PROGRAM), *COUNTS]
-    text = go("go test -race", words, top / "bindings/go", environment)
+    text = go("go test -race", words, top / "bindings/go", {**environment, "GODEBUG": "cgocheck=1"})
     cases = re.findall(r"^--- (\w+): (\w+)", text, re.M)
     for verdict, case in cases:
         compare(f"go test -race, {case}", "PASS", verdict)
     compare("go test runs tests and examples", (True, True), tuple(any(case.startswith(kind) for _, case in cases)
                                                                     for kind in ("Test", "Example")))
+
+
+def checked(module, top, environment):
+    """`staticcheck` finds nothing. (Debian calls it `go-staticcheck`)"""
+    if not missing(f"that staticcheck finds nothing in {module}", "go-staticcheck"):
+        cache = {"XDG_CACHE_HOME": environment["HOME"]}
+        compare(f"staticcheck {module}", ("", 0), run(["go-staticcheck", "./..."], cwd=top / module, env={**environment, **cache}))
+
+
+def imported(top, folder, environment):
+    """A module outside of the repository imports the package, and a program of another one imports it through that module."""
+    reader, program = folder / "reader", folder / "program"
+    for module, text in ((reader, READER), (program, MAIN)):
+        module.mkdir()
+        (module / "main.go").write_text(text)
+    needs = [f"-require={PATH}@v0.0.0", f"-replace={PATH}={top / 'bindings/go'}"]
+    for words in (["init", "reader.example/reader"], ["edit", *needs], ["tidy"]):
+        go(f"go mod {words[0]} of a module outside", ["mod", *words], reader, environment)
+    go("go vet of a module outside", ["vet", "."], reader, environment)
+    needs += ["-require=reader.example/reader@v0.0.0", f"-replace=reader.example/reader={reader}"]
+    for words in (["init", "program.example/program"], ["edit", *needs], ["tidy"]):
+        go(f"go mod {words[0]} of a program outside", ["mod", *words], program, environment)
+    text = go("a program outside", ["run", ".", str(TOP / "examples/contacts.bin")], program, environment)
+    compare("the charge by a program outside", "391 <nil>\n", text)
+    listed = go("go list of a program outside", ["list", "-deps", "."], program, environment).splitlines()
+    compare("the package is a dependency of the program", True, PATH in listed)
 
 
 def example(top, folder, environment):
@@ -75,29 +132,27 @@ def timed(top, folder, environment):
 
 
 def as_shown(top, environment):
-    """The commands of docs/go.md run word for word, and its program and the snippet of the README are built."""
-    page, readme = ((TOP / name).read_text() for name in ("docs/go.md", "README.md"))
+    """The commands of docs/go.md run word for word, and its program and its snippet are built."""
+    page = (TOP / "docs/go.md").read_text()
     first, *others = re.search(r"^```sh\n(.*?)^```$", page, re.M | re.S)[1].splitlines()
     # (it is installed already, by `make` without a toolchain)
     compare("the first command of docs/go.md", "make install PREFIX=$HOME/x", first)
     compare("the commands of docs/go.md", 0, run(["sh", "-ec", "\n".join(others)], cwd=top, env=environment)[1])
     programs = re.findall(r"^```go\n(.*?)^```$", page, re.M | re.S)
-    compare("the programs of docs/go.md", 1, len(programs))
+    compare("the program and the snippet of docs/go.md", 2, len(programs))
     hello = top / "hello"
     (hello / "main.go").write_text(programs[0])
     environment = {**environment, "PKG_CONFIG_PATH": f"{environment['HOME']}/x/lib/pkgconfig"}
     for block in re.findall(r"^```console\n(.*?)^```$", page, re.M | re.S):
         for command, wanted in re.findall(r"^\$ (.*)\n((?:(?!\$ ).*\n)*)", block, re.M):
             compare(f"docs/go.md: {command}", wanted, run(["bash", "-c", command], cwd=hello, env=environment)[0])
-    snippets = re.findall(r"^```go\n(.*?)^```$", readme, re.M | re.S)
-    compare("README.md has a snippet of Go", 1, len(snippets))
-    (hello / "main.go").write_text(snippets[0] + "\nfunc main() {}\n")
-    go("go vet of the README's snippet", ["vet", "."], hello, environment)
+    (hello / "main.go").write_text(programs[1] + "\nfunc main() {}\n")
+    go("go vet of the snippet of docs/go.md", ["vet", "."], hello, environment)
 
 
 def main():
-    if any(missing("the Go package", tool) for tool in ("go", "cc", "pkg-config")):
-        return install.ended()
+    if missing("the Go package", "go", "cc", "pkg-config"):
+        return ended()
     with tempfile.TemporaryDirectory() as scratch:
         folder = Path(scratch)
         cache = run(["go", "env", "GOCACHE"])[0].strip()
@@ -109,10 +164,11 @@ def main():
             shutil.copytree(TOP / part, top / part)
         shutil.copytree(TOP / "examples", top / "examples", dirs_exist_ok=True)
         tested(top, environment)
+        imported(top, folder, environment)
         example(top, folder, environment)
         timed(top, folder, environment)
         as_shown(top, environment)
-    return install.ended()
+    return ended()
 
 
 if __name__ == "__main__":

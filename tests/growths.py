@@ -8,11 +8,11 @@ ends well. A test with a number in `GROWTHS` has to end well from the next numbe
 Failures are printed as they come. The last line is 'N passed, M failed', and the status is 1 where a case failed.
 """
 import re
-import subprocess
 import sys
-from pathlib import Path
 
-CRATE = Path(__file__).resolve().parent.parent / "crates/test_memory"
+from harness import TOP, ended, expect, run
+
+CRATE = TOP / "crates/test_memory"
 # How many allocations these tests make, no more and no fewer: one for a canonical copy. A message that is too large is
 # refused before any allocation. So the only one in its test is the test's own, at the end, and that is the one that fails.
 GROWTHS = {
@@ -28,8 +28,7 @@ MOST = 20
 def ends(number):
     """How each test ended where the allocation of this number failed: 'ok', 'refused', or the lines of its failure."""
     command = ["rt", "try", "--test", "--fail-alloc", str(number)]
-    ran = subprocess.run(command, cwd=CRATE, stdin=subprocess.DEVNULL, stdout=subprocess.PIPE, stderr=subprocess.STDOUT)
-    text = ran.stdout.decode()
+    text, _ = run(command, cwd=CRATE)
     found = {}
     for name, end, lines in re.findall(r"^test (\S+) \.\.\. (\w+)\n((?:    .*\n)*)", text, re.M):
         found[name] = "ok" if end == "ok" else "refused" if '    error: "refused"\n' in lines else lines or end
@@ -39,7 +38,6 @@ def ends(number):
     return found
 
 
-passed = failed = 0
 for number in range(1, MOST + 1):
     found = ends(number)
     for name, end in found.items():
@@ -47,18 +45,11 @@ for number in range(1, MOST + 1):
             wanted = {"refused"} if number <= GROWTHS[name] else {"ok"}
         else:
             wanted = {"refused"} if number == 1 else {"ok", "refused"}
-        if end in wanted:
-            passed += 1
-        else:
-            failed += 1
-            print(f"FAILED: {name}, allocation {number}: wanted {' or '.join(sorted(wanted))}, got {end}")
+        expect(f"{name}, allocation {number}", end in wanted, f"wanted {' or '.join(sorted(wanted))}, got {end}")
     count = sum(end == "refused" for end in found.values())
     print(f"allocation {number}: refused in {count} of {len(found)} tests", flush=True)
     if all(end == "ok" for end in found.values()):
         break
 else:
-    failed += 1
-    print(f"FAILED: a test still fails with allocation {MOST}")
-
-print(f"{passed} passed, {failed} failed")
-sys.exit(failed > 0)
+    expect(f"each test ends well with allocation {MOST}", False)
+sys.exit(ended())

@@ -75,6 +75,11 @@ def main():
     told = re.findall(r'^    case CAPVET_([A-Z_]+): return "(\w+)";', (ROOT / "include/capvet.h").read_text(), re.MULTILINE)
     if [name for name, _ in told] != list(header) or {header[name]: text for name, text in told} != names():
         sys.exit(f"header: capvet_answer_name has {told}")
+    version = answers("include/capvet.h", r"^#define CAPVET_VERSION_([A-Z]+) (\d+)$")
+    text = re.findall(r'^#define CAPVET_VERSION_STRING "(.*)"$', (ROOT / "include/capvet.h").read_text(), re.MULTILINE)
+    there = number("crates/cap_calls/src/calls/version.rt", r"^    (\d+)$")
+    if text != [".".join(map(str, version.values()))] or there != sum(a * b for a, b in zip(version.values(), (65536, 256, 1))):
+        sys.exit(f"header: the version is {version} and {text}, and in version.rt {there}")
     kinds = answers("include/capvet.h", r"^\s*CAPVET_KIND_([A-Z_]+) = (\d+)")
     code = answers("crates/cap_calls/src/node.rt", r"Kind(?:::|\.)(\w+)(?:[^=]*=> | [^}]*\}\s*\{\s*)CallNode \{\s*kind: (\d+)")
     specs = answers("crates/cap_calls/specs/CallNodes.antt", r"^kind_node \(?(\w+)[^=]*=\s*record none_node \{\s*kind = (\d+)")

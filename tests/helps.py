@@ -10,6 +10,7 @@ Usage: capvet <COMMAND>
 Commands:
   segments  Prints the segments of each message, their sizes in words, and the root pointer
   vet       Checks that each message is safe to traverse
+  explain   Checks as 'vet' does, and explains each refusal
   filter    Writes each accepted message, and leaves out the others
   dump      Prints the tree of each accepted message
   get       Prints the node at a path in each accepted message
@@ -38,7 +39,7 @@ Example:
   $ capvet vet examples/contacts.bin
   message 0: accepted charge 391 depth 11 pointers 125 caps 0
 """),
-    (("--version", "-V", "--version vet"), "capvet 1.0.0\n"),
+    (("--version", "-V", "--version vet"), "capvet 1.1.0\n"),
     (("segments --help", "segments -h", "help segments"), """\
 Prints the segments of each message, their sizes in words, and the root pointer
 
@@ -95,6 +96,42 @@ Example:
   $ capvet vet --depth 3 examples/contacts.bin
   message 0: refused DepthLimit at 0:7 pointers 3
 """),
+    (("explain --help", "explain -h", "help explain"), """\
+Checks as 'vet' does, and explains each refusal
+
+Usage: capvet explain [OPTIONS] [FILE]
+
+Arguments:
+  [FILE]  File to read instead of standard input
+
+Options:
+      --packed       The input is packed
+      --size <N>     Maximum words of a message, without its table: 0 to 268435456 [default: 8388608]
+      --words <N>    Maximum charge of a message in words: 0 to 268435456 [default: 8388608]
+      --depth <N>    Maximum level of an object: 0 to 256; the root object has level 1 [default: 64]
+      --strict       Refuse a message in a form that common readers reject
+      --unamplified  Refuse a charge above the words of the message plus 4096
+      --exclusive    Refuse a message that uses a word twice
+  -h, --help         Print help
+
+After the line of 'vet', a refused message has lines that explain the refusal. They begin with the
+path to the pointer, as 'get' takes it, and the byte of the pointer in the message. Then comes the
+pointer word with its form and its fields, and so does each word of its landing pad. The next lines
+have the words of its target, its tag if it is a list of structs, and the length of that segment.
+The last ones have the limit that is passed, if one is, and the reason as a sentence. Places are
+SEGMENT:WORD. The options are those of 'vet'.
+
+Example:
+  $ capvet explain --depth 3 examples/contacts.bin
+  message 0: refused DepthLimit at 0:7 pointers 3
+    path /p0/i0/p0
+    byte 64 of the message
+    pointer bd0000000a010000 list of bytes, offset 47, elements 33
+    target 0:55 to 0:59, words 5
+    segment 0, words 392
+    limit level 4, at most 3
+    reason the target is at a deeper level than the limit allows
+"""),
     (("filter --help", "filter -h", "help filter"), """\
 Writes each accepted message, and leaves out the others
 
@@ -109,6 +146,8 @@ Options:
       --words <N>        Maximum charge of a message in words: 0 to 268435456 [default: 8388608]
       --depth <N>        Maximum level of an object: 0 to 256; the root object has level 1 [default: 64]
       --exclusive        Refuse a message that uses a word twice
+      --strict           Refuse a form that common readers reject: the default here
+      --unamplified      Refuse a charge above the words of the message plus 4096: the default here
       --allow-nonstrict  Accept a message in a form that common readers reject
       --allow-amplified  Accept a charge above the words of the message plus 4096
       --pack             Pack the output

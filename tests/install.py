@@ -9,54 +9,30 @@ installed.
 """
 import os
 import re
-import shutil
-import subprocess
 import sys
 import tempfile
 from pathlib import Path
 
-TOP = Path(__file__).resolve().parent.parent
-PROGRAM = Path(sys.argv[1] if len(sys.argv) > 1 else TOP / "build/capvet").resolve()
-ARCHIVE = Path(sys.argv[2] if len(sys.argv) > 2 else TOP / "build/libcapvet.a").resolve()
-COMPLETIONS = "share/bash-completion/completions/capvet"
+from harness import ARCHIVE, PROGRAM, TOP, compare, ended, run
+from needs import missing
+
+COMPLETIONS = {"share/bash-completion/completions/capvet": "capvet.bash", "share/zsh/site-functions/_capvet": "_capvet",
+               "share/fish/vendor_completions.d/capvet.fish": "capvet.fish"}
 PAGE, CALLS_PAGE = "share/man/man1/capvet.1", "share/man/man3/capvet.3"
 DESCRIPTION = "lib/pkgconfig/capvet.pc"
 PACKAGE = "lib/cmake/capvet"
 # What is installed, its mode, and the file that it is a copy of, where it is one.
 FILES = {"bin/capvet": (0o755, PROGRAM), PAGE: (0o644, TOP / "docs/capvet.1"),
          CALLS_PAGE: (0o644, TOP / "docs/capvet.3"),
-         COMPLETIONS: (0o644, TOP / "completions/capvet.bash"), "include/capvet.h": (0o644, TOP / "include/capvet.h"),
-         "include/capvet/kj.h": (0o644, TOP / "include/capvet/kj.h"), "lib/libcapvet.a": (0o644, ARCHIVE),
+         **{place: (0o644, TOP / "completions" / name) for place, name in COMPLETIONS.items()},
+         "include/capvet.h": (0o644, TOP / "include/capvet.h"),
+         "lib/libcapvet.a": (0o644, ARCHIVE),
+         **{f"include/capvet/{name}": (0o644, TOP / "include/capvet" / name)
+            for name in ("kj.h", "kj-message.h", "kj-stream.h", "kj-server.h")},
          DESCRIPTION: (0o644, None), "lib/pkgconfig/capvet-kj.pc": (0o644, None),
          f"{PACKAGE}/capvetConfig.cmake": (0o644, None), f"{PACKAGE}/capvetConfigVersion.cmake": (0o644, None)}
-COMMANDS = ("segments", "vet", "filter", "dump", "get", "check", "canon", "pack", "unpack")
+COMMANDS = ("segments", "vet", "explain", "filter", "dump", "get", "check", "canon", "pack", "unpack")
 CONTACTS = "message 0: accepted charge 391 depth 11 pointers 125 caps 0\n"
-passed = failed = 0
-
-
-def compare(name, wanted, got):
-    """Counts a case as passed where it got what was expected, and else shows both."""
-    global passed, failed
-    if wanted == got:
-        passed += 1
-        return
-    failed += 1
-    print(f"FAILED: {name}\n  wanted {wanted!r}\n     got {got!r}")
-
-
-def missing(what, tool):
-    """Says what isn't tested, since this machine hasn't the tool."""
-    if shutil.which(tool):
-        return False
-    print(f"not tested, without {tool} on the path: {what}")
-    return True
-
-
-def run(command, timeout=600, **how):
-    """What a command wrote, on its standard error too, and its status."""
-    ran = subprocess.run(command, stdout=subprocess.PIPE, stderr=subprocess.STDOUT, stdin=subprocess.DEVNULL,
-                         timeout=timeout, text=True, **how)
-    return ran.stdout, ran.returncode
 
 
 def make(target, folder, *variables):
@@ -66,8 +42,8 @@ def make(target, folder, *variables):
     for tool in ("rt", "cargo", "cc"):
         (refused / tool).write_text(f"#!/bin/sh\necho {tool} was called\nexit 1\n")
         (refused / tool).chmod(0o755)
-    told = ("PREFIX", "DESTDIR", "bindir", "libdir", "includedir", "mandir", "pkgconfigdir", "cmakedir", "completionsdir", "INSTALL",
-            "MAKEFLAGS", "MAKELEVEL")
+    told = ("PREFIX", "DESTDIR", "bindir", "libdir", "includedir", "mandir", "pkgconfigdir", "cmakedir", "completionsdir", "zshdir",
+            "fishdir", "INSTALL", "MAKEFLAGS", "MAKELEVEL")
     environment = {name: value for name, value in os.environ.items() if name not in told}
     environment["PATH"] = f"{refused}:{os.environ['PATH']}"
     return run(["make", "-s", target, f"BUILT_PROGRAM={PROGRAM}", f"BUILT_ARCHIVE={ARCHIVE}", *variables], cwd=TOP, env=environment)
@@ -214,6 +190,33 @@ def completions():
         compare(f"files behind {option}=", samples, completed("vet", option, "=", "7", ""))
 
 
+def by_fish(*words):
+    """What fish offers for the last of these words, in order."""
+    script = 'source "$argv[1]"; complete -C "$argv[2]"'
+    text, _ = run(["fish", "--no-config", "-c", script, TOP / "completions/capvet.fish", " ".join(["capvet", *words])], cwd=TOP / "examples")
+    return sorted(line.partition("\t")[0] for line in text.splitlines() if line)
+
+
+def by_zsh(*words):
+    """What zsh offers for the last of these words, in order."""
+    text, _ = run(["zsh", "-f", TOP / "tests/offers.zsh", TOP / "completions", " ".join(["capvet", *words])], cwd=TOP / "examples")
+    return sorted(text.splitlines())
+
+
+def other_completions(name, offered):
+    """What zsh or fish offers at the places that matter."""
+    samples = sorted(path.name for path in (TOP / "examples").iterdir())
+    compare(f"{name}: commands", sorted([*COMMANDS, "help"]), offered(""))
+    compare(f"{name}: commands of help", sorted(COMMANDS), offered("help", ""))
+    compare(f"{name}: options without a command", {"--help", "--version"}, {it for it in offered("-") if it.startswith("--")})
+    for command in COMMANDS:
+        before = [command, "/p0"] if command == "get" else [command]
+        compare(f"{name}: options of {command}", options_of_help(command), offered(*before, "--"))
+        compare(f"{name}: files of {command}", samples, sorted(it.rstrip("/") for it in offered(*before, "")))
+    compare(f"{name}: files by their beginning", [it for it in samples if it.startswith("contacts-")], offered("vet", "--packed", "contacts-"))
+    compare(f"{name}: nothing for a number", [], offered("vet", "--size", ""))
+
+
 def main():
     with tempfile.TemporaryDirectory() as scratch:
         prefix = Path(scratch) / "some where"
@@ -230,13 +233,10 @@ def main():
     examples()
     if not missing("what bash completes", "bash"):
         completions()
+    for name, offered in (("zsh", by_zsh), ("fish", by_fish)):
+        if not missing(f"what {name} completes", name):
+            other_completions(name, offered)
     return ended()
-
-
-def ended():
-    """Writes how many cases passed; the status."""
-    print(f"{passed} passed, {failed} failed")
-    return failed > 0
 
 
 if __name__ == "__main__":

@@ -19,7 +19,10 @@ from pathlib import Path
 
 import connections
 import install
-from install import PROGRAM, TOP, compare, make, missing, run
+import needs
+from harness import PROGRAM, TOP, compare, ended, run
+from install import make
+from needs import missing
 
 SAMPLES = ("contacts.bin", "contacts-many-segments.bin", "telemetry.bin", "stream-of-four.bin")
 CYCLE = bytes.fromhex("0000000001000000fcffffff00000100")
@@ -86,7 +89,7 @@ def described(prefix, environment):
 
 def of_pages(language, folder, whole="{}", block="{}"):
     """What the pages show in a language, the blocks of each page as one file, by the forms of a file and of a block."""
-    for page in ("README.md", "docs/guide.md"):
+    for page in ["docs/in-process.md"] + ["README.md"] * (language == "c"):
         blocks = re.findall(rf"^```{language}\n(.*?)^```$", (TOP / page).read_text(), re.M | re.S)
         # (tests/before_readers.py builds those that need the crate capnp)
         blocks = [block for block in blocks if "capvet_capnp" not in block]
@@ -100,13 +103,15 @@ def as_shown(folder):
     """The commands of the README, which install under the home folder and build the example there."""
     if missing("the README's commands for C", "cc"):
         return
-    first, *others = re.search(r"^```sh\n(.*?)^```$", (TOP / "README.md").read_text(), re.M | re.S)[1].splitlines()
+    blocks = re.findall(r"^```sh\n(.*?)^```$", (TOP / "README.md").read_text(), re.M | re.S)
+    first, *others = "".join(blocks).splitlines()
     # (it is installed already, by `make` without a toolchain)
     compare("the README's first command", "make install PREFIX=$HOME/x", first)
     shutil.copytree(TOP / "examples", folder / "shown/examples")
     environment = {**os.environ, "HOME": str(folder)}
     shown = run(["sh", "-ec", "\n".join(others)], cwd=folder / "shown", env=environment)
-    compare("the README's commands for C", run([PROGRAM, "vet", TOP / "examples/stream-of-four.bin"]), shown)
+    wanted = [run([PROGRAM, *words]) for words in (["--version"], ["vet", TOP / "examples/stream-of-four.bin"])]
+    compare("the README's commands for C", ("".join(text for text, _ in wanted), 0), shown)
 
 
 def from_c(folder, environment, files):
@@ -206,10 +211,7 @@ def routed(name, program, folder):
 
 def signs_from_c(folder, environment):
     """What the example signs is the canonical words of the message and no others: openssl verifies it, and so does the example."""
-    if any(missing("the example in C that signs", tool) for tool in ("cc", "openssl")):
-        return
-    if run(["pkg-config", "libcrypto"], env=environment)[1]:
-        print("not tested, without libcrypto for pkg-config: the example in C that signs")
+    if missing("the example in C that signs", "cc", "openssl", "libcrypto"):
         return
     program, key, public, signature, words = (folder / name for name in ("sign", "key.pem", "public.pem", "signature", "words"))
     built = run(["cc", "-std=c99", *STRICT, TOP / "examples/c/sign.c", *flags(environment, "capvet", "libcrypto"), "-o", program])
@@ -265,10 +267,7 @@ def receives_from_rust(program, files, folder):
 
 def from_cplusplus(folder, environment, files):
     """The server that vets messages before it passes them to libcapnp."""
-    if missing("the server in front of libcapnp", "c++"):
-        return
-    if run(["pkg-config", "capnp-rpc"], env=environment)[1]:
-        print("not tested, without libcapnp for pkg-config: the server in front of it")
+    if missing("the server in front of libcapnp", "c++", "libcapnp"):
         return
     program, cycle = folder / "serve", folder / "cycle.bin"
     cycle.write_bytes(CYCLE)
@@ -294,13 +293,37 @@ def without_a_library(folder, environment):
     compare("cargo check, CAPVET_LIB_DIR", ("", 0), run(["cargo", "check", *CARGO], cwd=folder / "copy/bindings/rust", env=found))
 
 
+def in_other_folders(folder, environment):
+    """The crate finds the library in a folder whose name has a blank, and in one that pkg-config takes for the system's."""
+    for name in ("some where", "system"):
+        place = folder / name
+        shutil.copytree(folder / "x/lib", place)
+        description = place / "pkgconfig/capvet.pc"
+        description.write_text(re.sub("(?m)^libdir=.*", f"libdir={place}", description.read_text()))
+        variables = {"PKG_CONFIG_PATH": str(description.parent), "PKG_CONFIG_SYSTEM_LIBRARY_PATH": str(folder / "system")}
+        words = ["cargo", "test", "--lib", "--no-run", *CARGO]
+        ran = run(words, cwd=folder / "copy/bindings/rust", env={**environment, **variables})
+        compare(f"cargo test over the folder '{name}'", ("", 0), ran)
+
+
+def tidy(crate, environment):
+    """A crate is formatted, clippy finds nothing in it, and the oldest Rust that it is for compiles it."""
+    if not missing(f"the layout of {crate.name}", "rustfmt"):
+        compare(f"rustfmt --check of {crate.name}", ("", 0), run(["rustfmt", "--check", "--edition", "2021", *crate.glob("src/*.rs")]))
+    if not missing(f"clippy of {crate.name}", "cargo-clippy"):
+        # (in Rust 1.63 this lint is of the group that is on by default)
+        words = ["cargo", "clippy", *CARGO, "--all-targets", "--", "-D", "warnings", "-A", "clippy::format_push_string"]
+        compare(f"clippy of {crate.name}", ("", 0), run(words, cwd=crate, env=environment))
+    if not missing(f"{crate.name} by Rust 1.63", "oldest-rust"):
+        environment = {**environment, "PATH": f"{needs.OLDEST_RUST}:{environment['PATH']}",
+                       "CARGO_TARGET_DIR": f"{environment['CARGO_TARGET_DIR']}-oldest"}
+        (crate / "Cargo.lock").unlink(missing_ok=True)
+        compare(f"{crate.name} by Rust 1.63", ("", 0), run(["cargo", "check", *CARGO, "--all-targets"], cwd=crate, env=environment))
+
+
 def from_rust(folder, environment, files):
     """The tests of the crate, those of its pages too, and the example over it."""
-    if any(missing("the crate and the example in Rust", tool) for tool in ("cargo", "rustc")):
-        return
-    version = re.match(r"rustc 1\.(\d+)", run(["rustc", "--version"])[0])
-    if not version or int(version[1]) < 63:
-        print("not tested, with a rustc before 1.63: the crate and the example in Rust")
+    if missing("the crate and the example in Rust", "cargo", "rustc"):
         return
     environment = {**environment, "CARGO_TARGET_DIR": str(folder / "target"), "CAPVET_PROGRAM": str(PROGRAM),
                    "RUSTDOCFLAGS": "-D warnings"}
@@ -314,7 +337,10 @@ def from_rust(folder, environment, files):
         compare(f"cargo {words}", 0, status)
         if status:
             print(text)
+    tidy(folder / "copy/bindings/rust", environment)
+    tidy(folder / "copy/examples/rust", environment)
     without_a_library(folder, environment)
+    in_other_folders(folder, environment)
     for file in of_pages("rust", folder, "#![allow(dead_code)]\n{}fn main() {{}}\n", "mod block{number} {{\n{}}}\n"):
         file.rename(folder / f"copy/examples/rust/src/bin/{file.stem}.rs")
     built = run(["cargo", "build", *CARGO], cwd=folder / "copy/examples/rust", env=environment)
@@ -331,7 +357,7 @@ def main():
         compare("make install", ("", 0), make("install", scratch, f"PREFIX={prefix}"))
         compare("make install, staged", ("", 0), make("install", scratch, "PREFIX=/opt/capvet", f"DESTDIR={stage}"))
         if missing("the library, by pkg-config", "pkg-config"):
-            return install.ended()
+            return ended()
         files = inputs(folder)
         environment = {**os.environ, "PKG_CONFIG_PATH": str(prefix / "lib/pkgconfig")}
         described(prefix, environment)
@@ -344,7 +370,7 @@ def main():
         environment["PKG_CONFIG_SYSROOT_DIR"] = str(stage)
         wanted = [f"-I{stage}/opt/capvet/include", f"-L{stage}/opt/capvet/lib", "-lcapvet"]
         compare("the flags of a staged tree", wanted, flags(environment, "capvet"))
-    return install.ended()
+    return ended()
 
 
 if __name__ == "__main__":

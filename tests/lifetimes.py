@@ -7,12 +7,12 @@ first, the one error has to be that the message doesn't live long enough. Failur
 line is 'N passed, M failed', and the status is 1 where a case failed.
 """
 import shutil
-import subprocess
 import sys
 import tempfile
 from pathlib import Path
 
-TOP = Path(__file__).resolve().parent.parent
+from harness import TOP, compare, ended, run
+
 LEFT_OUT = shutil.ignore_patterns("out", "must-fail")
 ROOT = """//! A node and its message.
 #![tactic(auto)]
@@ -71,14 +71,12 @@ def below(names, lines):
 def errors(folder, first):
     """The lines of errors that compiling and running the test gives."""
     (folder / "src/tests.rt").write_text(TEST.format(first=first))
-    ran = subprocess.run(["rt", "try", "--test"], cwd=folder, stdin=subprocess.DEVNULL, stdout=subprocess.PIPE,
-                         stderr=subprocess.STDOUT, text=True)
-    found = [line for line in ran.stdout.splitlines() if "error" in line]
-    return found or (["no error, and the status " + str(ran.returncode)] if ran.returncode else [])
+    text, status = run(["rt", "try", "--test"], cwd=folder)
+    found = [line for line in text.splitlines() if "error" in line]
+    return found or ([f"no error, and the status {status}"] if status else [])
 
 
 def main():
-    passed = failed = 0
     with tempfile.TemporaryDirectory(prefix="capvet-") as root:
         root = Path(root)
         lines = listed(TOP)
@@ -92,13 +90,9 @@ def main():
         (folder / "src/lib.rt").write_text(ROOT)
         for name, first, expected in CASES:
             found = errors(folder, first)
-            if not found if expected is None else len(found) == 1 and expected in found[0]:
-                passed += 1
-            else:
-                failed += 1
-                print(f"FAILED: {name}: expected {expected}, got {found}")
-    print(f"{passed} passed, {failed} failed")
-    return failed > 0
+            # (where one is expected, its line begins with the place)
+            compare(name, [expected] if expected else [], [expected if expected and expected in line else line for line in found])
+    return ended()
 
 
 if __name__ == "__main__":

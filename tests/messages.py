@@ -3,18 +3,7 @@
 Words are digits from the first byte on, and ' | ' comes between segments. Verdicts, copies and nodes were worked out by hand,
 from docs/format.md and docs/output.md. Nothing here was computed by the program.
 """
-import struct
-
-from tables import word
-
-
-def framed(digits):
-    """The frame of a message."""
-    segments = [word(segment) for segment in digits.split("|")]
-    sizes = [len(segments) - 1, *(len(segment) // 8 for segment in segments)]
-    sizes += [0] * (len(sizes) % 2)
-    return struct.pack(f"<{len(sizes)}I", *sizes) + b"".join(segments)
-
+from harness import framed
 
 # A message, and what `vet` says of it with these options.
 VERDICTS = (

@@ -256,7 +256,7 @@ def canonical(message):
     return out
 
 
-def framed(data, limits):
+def unframed(data, limits):
     """The segments that the bytes start with, and the length of their frame. Otherwise the answer with its fields."""
     if not data:
         return None, ("NO_MESSAGE", dict(input_required=8))
@@ -321,7 +321,7 @@ def taken(call, data, limits, size):
     """The message of a call's input, and its length. Otherwise the answer with its fields."""
     if call == VET_SEGMENTS:
         return of_parts(separate(data, size), limits)
-    return (of_words if limits.flags & NO_TABLE else framed)(data, limits)
+    return (of_words if limits.flags & NO_TABLE else unframed)(data, limits)
 
 
 def called(call, data, limits, size):
@@ -333,7 +333,7 @@ def called(call, data, limits, size):
         return ANSWERS[answer], count, tuple(fields.get(name, 0) for name in FIELDS), out
 
     if call == SEGMENT_AT:
-        message, frame = framed(data, Limits(message_words=1 << 28))
+        message, frame = unframed(data, Limits(message_words=1 << 28))
         if message is None:
             return result(frame[0])
         if size >= len(message):

@@ -1,19 +1,22 @@
-"""Compares capvet_get, from C, field by field with a model that follows the path only. tests/calls.py runs it.
+"""Compares capvet_get and capvet_get_range, from C, field by field with a model that follows the path only. tests/calls.py
+runs it.
 
 The messages are the samples, changed, cut and made ones, each with some paths: most lead along the pointers that are
 there, others to what isn't, and some are no paths. Of the messages that are accepted, no path is refused, and the nodes
-are compared with what the program's `get` prints. The bytes of each node are those of its object."""
-import shutil
+are compared with what the program's `get` prints. The bytes of each node are those of its object.
+
+Of a range one step varies, often from 0 and at times from near the highest number. At times a step has an unknown kind, or
+there is no varying step. tests/c/ranges.c compares each node with that of capvet_get too. The ranges of BY_HAND have known
+answers."""
 import struct
-import subprocess
-import tempfile
 from collections import Counter
-from pathlib import Path
 
 import model
 from amount import cases
-from flags import framed as made
-from model import FIELDS, SLACK, Limits, Refused, followed, framed, lax_form
+from harness import compare, expect, framed, over_file, under_valgrind
+from made import changed, made_up
+from model import FIELDS, SLACK, Limits, Refused, followed, lax_form, unframed
+from needs import missing
 from trees import BITS, bits, hexadecimal
 
 ANSWERS = model.ANSWERS | dict(BAD_PATH=10, NO_NODE=21)
@@ -21,8 +24,27 @@ KINDS = dict(null=0, struct=1, list=2, pointers=3, structs=4, cap=5)
 NODE = ("kind", "element", "count", "data_words", "pointers", "capability", "offset", "length")
 # the answer, the node and the report, with the reserved fields
 REPLY = struct.Struct("<I6I2Q2Q6Q4I4Q")
-MANY = cases(20_000, full=100_000)
+NODE_FIELDS, REPORT = struct.Struct("<6I2Q2Q"), struct.Struct("<6Q4I4Q")
+MANY, RANGES = cases(20_000, full=100_000), cases(10_000, full=40_000)
 LEAST = MANY // 5
+HIGHEST = 0xFFFFFFFF
+# A root of two pointers. The first is to a list of three structs of a word and a pointer: to a byte, null, and out of bounds.
+THREE = framed([2 << 48, 1 | 1 << 2 | 7 << 32 | 6 << 35, 3 | 5 << 32, 3 << 2 | 1 << 32 | 1 << 48,
+                    10, 1 | 4 << 2 | 2 << 32 | 1 << 35, 11, 0, 12, 1 | 1000 << 2 | 2 << 32 | 1 << 35, 7])
+# Roots of two pointers, the first of which is null. The second is to a struct of five words, or far to a null landing pad.
+DEEPER, FAR = framed([2 << 48, 0, 5 << 32, 1, 2, 3, 4, 5]), framed([2 << 48, 0, 2 | 1 << 32], [0])
+# A root of a list of three pointers: to a struct of a null pointer, null, and to such a struct.
+GAP = framed([1 << 48, 1 | 6 << 32 | 3 << 35, 2 << 2 | 1 << 48, 0, 1 << 2 | 1 << 48, 0, 0])
+# The steps, which of them varies, how many nodes are asked for; the answer, how many are found, and `detail`.
+BY_HAND = (
+    (((0, 0), (1, 0)), 1, 3, "OK", 3, 0), (((0, 0), (1, 0)), 1, 4, "NO_NODE", 3, 0), (((0, 0), (1, 2)), 1, 9, "NO_NODE", 1, 0),
+    (((0, 0), (1, 0), (0, 0)), 1, 2, "OK", 2, 0), (((0, 0), (1, 0), (0, 0)), 1, 3, "OUT_OF_SEGMENT", 2, 0),
+    (((0, 0), (1, 1), (0, 0)), 2, 2, "NO_NODE", 1, 0), (((0, 0), (1, 0)), 0, 2, "NO_NODE", 1, 0),
+    (((0, 0),), 0, 2, "OK", 2, 0), (((0, 1),), 0, 2, "NO_NODE", 1, 0), (((0, 0), (1, 3)), 1, 0, "OK", 0, 0),
+    (((0, 65535),), 0, 2, "NO_NODE", 0, 0), (((0, 65536),), 0, 2, "NO_NODE", 0, 0), (((0, HIGHEST),), 0, 3, "NO_NODE", 0, 0),
+    (((0, 0), (1, HIGHEST)), 1, 3, "NO_NODE", 0, 0), (((0, 65536), (1, 0)), 1, 3, "NO_NODE", 0, 0),
+    ((), 0, 2, "BAD_PATH", 0, 0), (((2, 0),), 0, 2, "BAD_PATH", 0, 0), (((0, 0), (7, 1), (HIGHEST, 0)), 9, 1, "BAD_PATH", 0, 1),
+    (((0, 0), (1, 0)), 2, 1, "BAD_PATH", 0, 2), (((0, 0), (1, 0)), (1 << 64) - 1, 0, "BAD_PATH", 0, 2))
 
 
 def steps_of(text):
@@ -134,7 +156,7 @@ def frame_of(data, limits, bad_step):
         return result("BAD_LIMITS")
     if bad_step is not None:
         return result("BAD_PATH", detail=bad_step)
-    message, frame = framed(data, limits)
+    message, frame = unframed(data, limits)
     if message is None:
         answer, fields = frame
         return result(answer, **fields)
@@ -163,7 +185,7 @@ def along(message, extent, limits, steps):
 
 def path_in(data, limits, chance):
     """A path of a few steps, most of which lead somewhere."""
-    message, _ = framed(data, limits)
+    message, _ = unframed(data, limits)
     try:
         walk = Walk(message, 1 << 28, 256)
     except (Refused, TypeError):
@@ -193,7 +215,7 @@ def spoiled(path, chance):
     return bytes(text)
 
 
-def requests(samples, made_up, changed, chance):
+def requests(samples, chance):
     """Calls with their message, limits and path."""
     small = [message for message in samples if len(message) < 1000]
     known = [*samples, *strict_messages()]
@@ -217,23 +239,22 @@ def requests(samples, made_up, changed, chance):
 
 def strict_messages():
     """Messages that aren't strict, each for another reason, and one of 512 segments."""
-    yield made([2 | 1 << 32], [0, 0])
-    yield made([2 | 1 << 32], [3 | 9 << 32])
-    yield made([1 << 48, 2 | 1 << 32], [3 | 9 << 32])
-    yield made([1 << 48, 6 | 1 << 32], [2 | 2 << 32, 0], [])
-    yield made([1 << 48, 0], *[[] for _ in range(511)])
+    yield framed([2 | 1 << 32], [0, 0])
+    yield framed([2 | 1 << 32], [3 | 9 << 32])
+    yield framed([1 << 48, 2 | 1 << 32], [3 | 9 << 32])
+    yield framed([1 << 48, 6 | 1 << 32], [2 | 2 << 32, 0], [])
+    yield framed([1 << 48, 0], *[[] for _ in range(511)])
+
+
+def described(many):
+    """The calls as tests/c/nodes.c reads them."""
+    return b"".join(limits.packed() + struct.pack("<II", len(text), len(data)) + text + data for data, limits, text in many)
 
 
 def replies(program, many):
-    """What C answers to these calls, from a program and its words."""
-    with tempfile.TemporaryDirectory() as folder:
-        path = Path(folder) / "requests"
-        with path.open("wb") as file:
-            for data, limits, text in many:
-                file.write(limits.packed() + struct.pack("<II", len(text), len(data)) + text + data)
-        ran = subprocess.run([*program, path], capture_output=True)
-    size = REPLY.size
-    return ran, [REPLY.unpack_from(ran.stdout, at) for at in range(0, len(ran.stdout) - size + 1, size)]
+    """What C answers to these calls, what it writes on standard error, and its status."""
+    out, *end = over_file([program], described(many))
+    return list(REPLY.iter_unpack(out[:len(out) // REPLY.size * REPLY.size])), *end
 
 
 def is_beside(data, limits):
@@ -264,17 +285,17 @@ def own_lines(data, node):
     return lines
 
 
-def compare(told, program, many):
+def compare_nodes(program, many):
     """The calls beside the model. How often each answer came, and paths with a fault beside them and on them."""
-    ran, found = replies([program], many)
-    told("nodes, with the compiler's checks", (ran.returncode, ran.stderr) == (0, b""), ran.stderr)
-    told("a reply to each call", len(found) == len(many), f"{len(found)}")
+    found, *end = replies(program, many)
+    compare("nodes, with the compiler's checks", [b"", 0], end)
+    compare("a reply to each call", len(many), len(found))
     answers, beside, on, seen = Counter(), 0, 0, {}
     for (data, limits, path), reply in zip(many, found):
         wanted = got(data, limits, path)
         node, report = reply[1:11], reply[11:]
-        told(lambda: f"get {path} of {data.hex()} in {limits}",
-             (reply[0], node[:8], report[:10]) == wanted and not any(node[8:] + report[10:]), lambda: f"  {reply}\n  {wanted}")
+        expect(lambda: f"get {path} of {data.hex()} in {limits}",
+               (reply[0], node[:8], report[:10]) == wanted and not any(node[8:] + report[10:]), lambda: f"{reply}\n  {wanted}")
         answers[reply[0]] += 1
         if reply[0] >= 18 and reply[0] != ANSWERS["NO_NODE"]:
             on += 1
@@ -283,15 +304,15 @@ def compare(told, program, many):
         if reply[0] in (0, ANSWERS["NO_NODE"]):
             beside += seen[data, limits]
         elif reply[0] not in (ANSWERS["BAD_LIMITS"], ANSWERS["BAD_PATH"]):
-            told(lambda: f"{path} of {data.hex()} in {limits} is refused, so the message is", seen[data, limits],
-                 lambda: f"  {reply}")
+            expect(lambda: f"{path} of {data.hex()} in {limits} is refused, so the message is", seen[data, limits],
+                   lambda: f"{reply}")
         if reply[0] == 0:
-            told(lambda: f"bytes of {path} of {data.hex()}", object_bytes(data[:report[0]], node[:8]) is not None,
-                 lambda: f"  {reply}")
+            expect(lambda: f"bytes of {path} of {data.hex()}", object_bytes(data[:report[0]], node[:8]) is not None,
+                   lambda: f"{reply}")
     return answers, beside, on
 
 
-def compare_with_program(told, asking, program, samples, made_up, changed, chance):
+def compare_with_program(asking, program, samples, chance):
     """The nodes of accepted messages, beside what the program prints for them."""
     small = [message for message in samples if len(message) < 1000]
     limits, nodes, times = Limits(flags=6), 0, cases(40, full=200)
@@ -300,40 +321,144 @@ def compare_with_program(told, asking, program, samples, made_up, changed, chanc
                               for _ in range(120)]
         good = [data for data in messages if model.called(model.VET, data, limits, 0)[0] == 0]
         text = path_in(chance.choice(good), limits, chance)
-        with tempfile.TemporaryDirectory() as folder:
-            path = Path(folder) / "stream"
-            path.write_bytes(b"".join(good))
-            ran = subprocess.run([program, "get", text, path], capture_output=True, text=True)
+        out = over_file([program, "get", text], b"".join(good))[0].decode()
         lines = []
-        for number, (data, reply) in enumerate(zip(good, replies([asking], [(data, limits, text) for data in good])[1])):
+        for number, (data, reply) in enumerate(zip(good, replies(asking, [(data, limits, text) for data in good])[0])):
             is_node = reply[0] == 0
             nodes += is_node
             lines += [f"message {number}: {'found' if is_node else 'none'}", *(own_lines(data, reply[1:9]) if is_node else ())]
-        told(f"get {text} of {len(good)} messages", ran.stdout == "".join(line + "\n" for line in lines), ran.stdout[:500])
-    told("nodes of accepted messages", nodes >= 10 * times, f"{nodes}")
+        compare(f"get {text} of {len(good)} messages", "".join(line + "\n" for line in lines), out)
+    expect("nodes of accepted messages", nodes >= 10 * times, f"{nodes}")
     return nodes
 
 
-def watch(told, watched, asking, many):
-    """The same replies under valgrind, where that is installed."""
-    if watched is not None and shutil.which("valgrind"):
-        ran, wanted = (replies(program, many)[0] for program in (["valgrind", "-q", "--error-exitcode=9", watched], [asking]))
-        told("nodes, under valgrind", (ran.returncode, ran.stdout) == (0, wanted.stdout), ran.stderr)
-
-
-def test(told, asking, watched, program, samples, made_up, changed, chance):
-    calls = requests(samples, made_up, changed, chance)
-    watch(told, watched, asking, [next(calls) for _ in range(2000)])
+def test(asking, watched, program, samples, chance):
+    calls = requests(samples, chance)
+    first = [next(calls) for _ in range(2000)]
+    if watched is not None and not missing("nodes under valgrind", "valgrind"):
+        under_valgrind("nodes, under valgrind", watched, asking, described(first))
     answers, beside, on, paths = Counter(), 0, 0, 0
     while paths < MANY:
         many = [next(calls) for _ in range(min(20_000, MANY))]
-        more, off, at = compare(told, asking, many)
+        more, off, at = compare_nodes(asking, many)
         answers, beside, on, paths = answers + more, beside + off, on + at, paths + len(many)
-    told("paths with a fault beside them", beside >= LEAST, f"{beside}")
-    told("paths with a fault on them", on >= LEAST, f"{on}")
+    expect("paths with a fault beside them", beside >= LEAST, f"{beside}")
+    expect("paths with a fault on them", on >= LEAST, f"{on}")
     for name in ("OK", "BAD_LIMITS", "BAD_PATH", "NO_NODE", "TRAILING", "TRUNCATED", "NullPad", "EmptySegment",
                  "CapabilityPad", "MANY_SEGMENTS", "NO_ROOT", "DEPTH_LIMIT", "WORD_LIMIT", "OUT_OF_SEGMENT"):
-        told(f"paths that answer {name}", answers[ANSWERS[name]] >= 10, f"{answers[ANSWERS[name]]}")
-    nodes = compare_with_program(told, asking, program, samples, made_up, changed, chance)
+        expect(f"paths that answer {name}", answers[ANSWERS[name]] >= 10, f"{answers[ANSWERS[name]]}")
+    nodes = compare_with_program(asking, program, samples, chance)
     print(f"calls: {paths} paths compared with the model, {beside} with a fault beside them, {on} with one on them; "
           f"{nodes} nodes with the program's")
+
+
+# Ranges
+
+def by_hand():
+    """The calls of BY_HAND at each alignment, each with what it answers; then null elements, bad limits, faults after a node,
+    and no input."""
+    for steps, varying, count, *wanted in BY_HAND:
+        for odd in range(8):
+            yield (THREE, Limits(), steps, varying, count, odd), wanted
+    for first, count, *wanted in (0, 3, "NO_NODE", 1, 0), (1, 2, "NO_NODE", 0, 0), (2, 1, "OK", 1, 0), (2, 2, "NO_NODE", 1, 0):
+        yield (GAP, Limits(), ((0, 0), (1, first), (0, 0)), 1, count, 0), wanted
+    for limits in (Limits(flags=8), Limits(flags=16), Limits(depth=257), Limits(reserved=(0, 1))):
+        yield (THREE, limits, ((2, 0),), 3, 2, 0), ["BAD_LIMITS", 0, 0]
+    for data, limits, *wanted in (
+            (DEEPER, Limits(), "OK", 2, 0), (DEEPER, Limits(charge=4), "WORD_LIMIT", 1, 0),
+            (DEEPER, Limits(depth=1), "DEPTH_LIMIT", 1, 0), (FAR, Limits(), "NullPad", 1, 0), (FAR, Limits(flags=2), "OK", 2, 0),
+            (DEEPER + bytes(3), Limits(), "TRAILING", 0, 3), (DEEPER + bytes(3), Limits(flags=1), "OK", 2, 0),
+            (DEEPER[:-1], Limits(), "TRUNCATED", 0, 0)):
+        yield (data, limits, ((0, 0),), 0, 2, 0), wanted
+    yield (b"", Limits(), ((0, 0),), 0, 2, 0), ["NO_MESSAGE", 0, 0]
+    yield (b"", Limits(), ((0, 0),), 0, 0, 0), ["NO_MESSAGE", 0, 0]
+    yield (b"", Limits(), (), 0, 0, 0), ["BAD_PATH", 0, 0]
+
+
+def got_range(data, limits, steps, varying, count):
+    """The answer of capvet_get_range, the fields of the nodes that are found, and those of the report."""
+    unknown = [at for at, (kind, _) in enumerate(steps) if kind > 1]
+    bad = unknown[0] if unknown else len(steps) if varying >= len(steps) else None
+    opened = frame_of(data, limits, bad)
+    if len(opened) == 3:
+        return opened[0], [], opened[2]
+    message, extent = opened
+    answer, _, report = result("OK", **extent)
+    found = []
+    for k in range(count):
+        path = [("pi"[kind], number + (k if at == varying else 0)) for at, (kind, number) in enumerate(steps)]
+        answer, node, report = along(message, extent, limits, path)
+        if answer:
+            break
+        found.append(node)
+    return answer, found, report
+
+
+def range_requests(calls, chance):
+    """Calls for a range, from those for a node."""
+    while True:
+        data, limits, path = next(calls)
+        steps = steps_of(path)
+        if isinstance(steps, int):
+            continue
+        steps = [["pi".index(letter), number] for letter, number in steps] or [[chance.randrange(2), 0]]
+        varying, odd = chance.randrange(len(steps)), chance.randrange(100)
+        if odd < 70:
+            steps[varying][1] = chance.choice((0, 0, 0, 1, max(0, steps[varying][1] - 2)))
+        elif odd < 80:
+            chance.choice(steps)[1] = chance.choice((65533, 65534, 65535, 65536, 65537, 1 << 31, HIGHEST - 1, HIGHEST))
+        elif odd < 84:
+            chance.choice(steps)[0] = chance.choice((2, 3, 255, 256, 1 << 16, 1 << 31, HIGHEST))
+        # (at 83 the path is bad for both reasons)
+        if odd in (83, 84):
+            varying = chance.choice((len(steps), len(steps) + 1, 1 << 32, (1 << 64) - 1))
+        count = chance.choice((0, 1, 2, 2, 3, 5, 8, 8, 20))
+        yield data, limits, tuple(map(tuple, steps)), varying, count, chance.randrange(8)
+
+
+def described_ranges(many):
+    """The calls as tests/c/ranges.c reads them."""
+    return b"".join(limits.packed() + struct.pack("<Q4I", varying, len(steps), count, odd, len(data))
+                    + b"".join(struct.pack("<II", *step) for step in steps) + data
+                    for data, limits, steps, varying, count, odd in many)
+
+
+def compare_ranges(program, many):
+    """The calls beside the model. What each of them answers, how many nodes it finds, and its report."""
+    replies, err, status = over_file([program], described_ranges(many))
+    compare("ranges, with the compiler's checks", (b"", 0), (err, status))
+    made, at = [], 0
+    for data, limits, steps, varying, count, odd in many if status == 0 else ():
+        answer, number = struct.unpack_from("<IQ", replies, at)
+        found = [NODE_FIELDS.unpack_from(replies, at + 12 + k * NODE_FIELDS.size) for k in range(number)]
+        at += 12 + number * NODE_FIELDS.size
+        report = REPORT.unpack_from(replies, at)
+        at += REPORT.size
+        wanted = got_range(data, limits, steps, varying, count)
+        # (the fields of a node and of a report are followed by reserved ones)
+        reserved = [*report[10:], *(field for node in found for field in node[len(NODE):])]
+        expect(lambda: f"range {steps} {varying} {count} of {data.hex()} in {limits}",
+               (answer, [node[:len(NODE)] for node in found], report[:10]) == wanted and not any(reserved),
+               lambda: f"{answer} {found} {report}\n  {wanted}")
+        made.append((answer, number, report))
+    expect("a reply to each call for a range", (len(made), at) == (len(many), len(replies)), len(made))
+    return made
+
+
+def test_ranges(asking, watched, samples, chance):
+    known = list(by_hand())
+    for (request, wanted), (answer, found, report) in zip(known, compare_ranges(asking, [request for request, _ in known])):
+        compare(f"the range {request}", [ANSWERS[wanted[0]], *wanted[1:]], [answer, found, report[2]])
+    asked = range_requests(requests(samples, chance), chance)
+    if watched is not None and not missing("ranges of paths under valgrind", "valgrind"):
+        under_valgrind("ranges, under valgrind", watched, asking, described_ranges([next(asked) for _ in range(2000)]))
+    many = [next(asked) for _ in range(RANGES)]
+    made = compare_ranges(asking, many)
+    answers, stops = Counter(answer for answer, _, _ in made), Counter(answer for answer, found, _ in made if found)
+    for name in ("OK", "BAD_LIMITS", "BAD_PATH", "NO_NODE", "TRAILING", "TRUNCATED", "OUT_OF_SEGMENT"):
+        expect(f"ranges that answer {name}", answers[ANSWERS[name]] >= 10, f"{answers[ANSWERS[name]]}")
+    for name in ("OK", "NO_NODE", "OUT_OF_SEGMENT"):
+        expect(f"ranges that answer {name} after a node", stops[ANSWERS[name]] >= 10, f"{stops[ANSWERS[name]]}")
+    longer = sum(found > 1 for _, found, _ in made)
+    expect("ranges of two nodes and more", longer >= RANGES // 20, f"{longer}")
+    print(f"calls: {len(many)} ranges compared with the model and with capvet_get, {longer} of them with two nodes and more")

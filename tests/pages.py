@@ -5,41 +5,30 @@
 
 A block of a page that has lines '$ COMMAND' is run line by line in a folder with the samples. Each command has to print
 exactly what the page shows after it. A block of docs/proofs.md has to be in a file that the page names; a block of shell
-there has to run at the top of the repository. Links lead to a file and to a heading that exist. The pages, the manual
-pages, the header and help have no word of docs/words.md, no sentence of more than 40 words, and one tagline. The last line
-is 'N passed, M failed', and the status is 1 if a case failed.
+there has to run at the top of the repository. Links lead to a file and to a heading that exist, and files that a page
+names exist. The pages that packaging/written/write.py makes are what it would write. The pages, the manual pages, the header
+and help have no word of tests/words.md, no sentence of more than 40 words, and one tagline. The last line is
+'N passed, M failed', and the status is 1 if a case failed.
 """
 import os
 import re
 import shutil
-import subprocess
 import sys
 import tempfile
 from pathlib import Path
 
+from harness import PROGRAM, TOP, compare, ended, run
 from helps import HELPS
 
-TOP = Path(__file__).resolve().parent.parent
-PROGRAM = Path(sys.argv[1] if len(sys.argv) > 1 else TOP / "build/capvet").resolve()
-PAGES = ("README.md", "docs/guide.md", "docs/output.md", "docs/format.md")
-MARKDOWN = ("README.md", "CHANGELOG.md", "SECURITY.md", *(f"docs/{path.name}" for path in sorted((TOP / "docs").glob("*.md"))))
+PAGES = ("README.md", "docs/guide.md", "docs/service.md", "docs/output.md", "docs/format.md")
+MARKDOWN = ("README.md", "CHANGELOG.md", "CONTRIBUTING.md", "SECURITY.md",
+            *(f"docs/{path.name}" for path in sorted((TOP / "docs").glob("*.md"))))
 TAGLINE = "untrusted Cap'n Proto messages without a schema"
 TAGGED = ("README.md", "docs/capvet.1", "docs/capvet.3", "include/capvet.h", "capvet.pc.in", "crates/cap_commands/src/commands.rt",
-          "bindings/rust/Cargo.toml", "bindings/rust/src/lib.rs", "packaging/README.md", "packaging/debian/control",
+          "bindings/rust/Cargo.toml", "bindings/rust/src/lib.rs", "packaging/README-archive.md", "packaging/README-debian.md", "packaging/debian/capvet/control",
           "bindings/go/capvet.go")
 LONGEST = 40
 BLOCK = re.compile(r"^```(\w*)\n(.*?)^```$", re.M | re.S)
-passed = failed = 0
-
-
-def compare(name, wanted, got):
-    """Counts a case as passed if `got` is what was expected, and otherwise shows both."""
-    global passed, failed
-    if wanted == got:
-        passed += 1
-        return
-    failed += 1
-    print(f"FAILED: {name}\n  wanted {wanted!r}\n     got {got!r}")
 
 
 def commands(block):
@@ -55,9 +44,7 @@ def shown(page):
         count = 0
         for _, block in BLOCK.findall((TOP / page).read_text()):
             for command, wanted in commands(block):
-                ran = subprocess.run(["bash", "-c", command], cwd=folder, env=environment, timeout=600, text=True,
-                                     stdin=subprocess.DEVNULL, stdout=subprocess.PIPE, stderr=subprocess.STDOUT)
-                compare(f"{page}: {command}", wanted, ran.stdout)
+                compare(f"{page}: {command}", wanted, run(["bash", "-c", command], cwd=folder, env=environment)[0])
                 count += 1
         compare(f"{page} shows commands", True, count > 0)
 
@@ -69,16 +56,53 @@ def quoted(page):
     blocks = BLOCK.findall(text)
     for language, block in blocks:
         if language == "sh":
-            ran = subprocess.run(["sh", "-ec", block], cwd=TOP, timeout=600, text=True, stdin=subprocess.DEVNULL,
-                                 stdout=subprocess.PIPE, stderr=subprocess.STDOUT)
-            lines = ran.stdout.splitlines()
-            compare(f"{page} runs {block!r}", 0, ran.returncode)
+            output, status = run(["sh", "-ec", block], cwd=TOP)
+            lines = output.splitlines()
+            compare(f"{page} runs {block!r}", 0, status)
             # (one of a public function, one of a member of a trait, and nothing else)
             compare(f"{page} finds by {block!r}", True, all("requires" in line for line in lines)
-                    and all(f"/{name}.rt:" in ran.stdout for name in ("following", "segments")))
+                    and all(f"/{name}.rt:" in output for name in ("following", "segments")))
         else:
             compare(f"{page} quotes {block!r}", True, any(block in file for file in named.values()))
     compare(f"{page} quotes", True, len(blocks) > 1)
+
+
+# What is taken from the page of definitions, what is there instead, and the first fault that the script then finds.
+LACKS = (
+    ("TagFits Sits}", "Sits}", "Following.Sits cites TagFits of cap_spec, Following, which is not on the page before it"),
+    ("IsTag Leads}", "Leads IsTag}", "Following.Leads cites IsTag of cap_spec, Following, which is not on the page before it"),
+    ("{type cap_spec Lax}", "", "Strict.IsLaxAt cites Lax of cap_spec, declared, which is not on the page before it"),
+    ("vet: ok message err accepts", "vet: ok message accepts", "vet has the clauses ok message err justified accepts refuses one"),
+    (", `A ↔ B`", "", "new uses ↔, which the notation doesn't explain"),
+    ("{alias cap_vet/specs/Spots.antt Kept}", "This", "Spots.spot_of uses Kept for Spot of cap_vet, which the page doesn't explain"),
+    ("`{g : segments.Ghosts M}`, ", "", "Vettings.report_of uses segments.Ghosts, which the notation doesn't explain"),
+    (" `a % b`,", "", "Words.field uses %, which the notation doesn't explain"),
+    (", `v.items`", "", "canonical uses .items, which the notation doesn't explain"),
+    (", `Global`", "", "canonical uses Global, which the notation doesn't explain"),
+    ("Words: field", "Words: IsWord field", "nothing on the page cites Words.IsWord"),
+    ("`IsTrue b`, ", "`IsTrue b`, `IsFalse b`, ", "the notation explains IsFalse, which nothing uses"),
+)
+
+
+def written():
+    """The pages that a script writes from the sources are up to date. It refuses a page of definitions that lacks one."""
+    folder = TOP / "packaging/written"
+    sys.path.insert(0, str(folder))
+    from believe import Page
+    from write import stale
+    try:
+        found = [file.name for file in stale()]
+    except LookupError as fault:
+        found = [fault.args[0]]
+    compare("pages that are stale: run make pages", [], found)
+    template = (folder / "believe.md.in").read_text()
+    for taken, left, wanted in LACKS:
+        compare(f"the page of definitions has {taken}", 1, template.count(taken))
+        try:
+            said = f"{len(Page(template.replace(taken, left)).write())} characters"
+        except LookupError as fault:
+            said = fault.args[0].split("\n")[0]
+        compare(f"the page of definitions without {taken}", wanted, said)
 
 
 def links(page):
@@ -96,6 +120,12 @@ def links(page):
             compare(f"{page} links to {target}", True, heading in slugs)
 
 
+def named(page):
+    """Each file of the repository that a page names exists."""
+    for file in re.findall(r"`((?:bench|crates|examples|guard|include|packaging|tests)/[\w./-]+)`", (TOP / page).read_text()):
+        compare(f"{page} names {file}", True, "/NAME/" in file or (TOP / file).exists())
+
+
 def paragraphs(name, text):
     """The prose of a page, of the manual page, of a header or of help: paragraphs, items and cells, without code."""
     if name.endswith((".1", ".3")):
@@ -106,7 +136,8 @@ def paragraphs(name, text):
         text = "\n\n".join(re.findall(r"/\*(.*?)\*/", text, re.S))
         text = re.sub(r"^ +\* ?", "", text, flags=re.M)
     elif name.endswith(".md"):
-        text = re.sub(r"^    .*$", "", text, flags=re.M)
+        text = re.sub(r"^    .*$|^<!-- /?(?:sources -->|packages)$|^-->$", "\n", text, flags=re.M)
+        text = re.sub(r"<!-- /?sources -->", "", text)
     else:
         text = re.sub(r"\n(?=  \S|      -)", "\n\n", text.partition("\nExample:\n")[0])
     # (a sentence may begin with a name of code)
@@ -123,13 +154,13 @@ def plain(name, text, banned):
     for part in paragraphs(name, text):
         found += [match[0] for match in banned.finditer(part)]
         long += [said for said in re.split(r"(?<=[.!?:;]) (?=[A-Z\"(])", part) if len(said.split()) > LONGEST]
-    compare(f"{name}: words of docs/words.md", [], found)
+    compare(f"{name}: words of tests/words.md", [], found)
     compare(f"{name}: sentences of more than {LONGEST} words", [], long)
 
 
 def list_of_words():
     """The words that the list refuses, as one pattern."""
-    rows = re.findall(r"^\| (`.*?) \|", (TOP / "docs/words.md").read_text(), re.M)
+    rows = re.findall(r"^\| (`.*?) \|", (TOP / "tests/words.md").read_text(), re.M)
     words = [word for row in rows for word in re.findall(r"`([^`]+)`", row)]
     compare("the list has words", True, len(words) > 20)
     return re.compile(r"\b(?:" + "|".join(map(re.escape, sorted(words, key=len, reverse=True))) + r")\b", re.I)
@@ -138,14 +169,16 @@ def list_of_words():
 for name in PAGES:
     shown(name)
 quoted("docs/proofs.md")
+written()
 for name in MARKDOWN:
     links(name)
+    named(name)
 BANNED = list_of_words()
-for name in (*MARKDOWN, "packaging/README.md", "docs/capvet.1", "docs/capvet.3", "include/capvet.h"):
+for name in (*MARKDOWN, "packaging/README-archive.md", "packaging/README-debian.md", "docs/capvet.1", "docs/capvet-guard.1", "docs/capvet.3",
+             "include/capvet.h"):
     plain(name, (TOP / name).read_text(), BANNED)
 for asked, text in HELPS:
     plain(f"capvet {asked[0]}", text, BANNED)
 for name in TAGGED:
     compare(f"{name} has the tagline", True, TAGLINE in (TOP / name).read_text())
-print(f"{passed} passed, {failed} failed")
-sys.exit(failed > 0)
+sys.exit(ended())

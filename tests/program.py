@@ -26,58 +26,44 @@ import demands
 import filtering
 import messages
 import tables
+from harness import PROGRAM, TOP, compare, ended, framed, outputs
 from helps import HELPS
 from packing import packed
+from tables import word
 from trees import dump_text, get_text
 
-TOP = Path(__file__).resolve().parent.parent
-PROGRAM = Path(sys.argv[1] if len(sys.argv) > 1 else TOP / "build/capvet").resolve()
 MIB = 1 << 20
-passed = failed = 0
+# How many MiB a program has resident beside its messages. (Which pages of its files and of the C library these are depends on
+# what the system has read ahead, so a few tens of KiB come and go)
+SPARE = 3
+# Each case that was run: the arguments, the input, and what is expected. Tables share messages, and several rows pack the same one.
+DONE = set()
 
 
 def encoded(text):
     return text.encode() if isinstance(text, str) else text
 
 
-def compare(name, wanted, got):
-    """Counts a case as passed where each part of it is what was expected, and else shows both."""
-    global passed, failed
-    if wanted == got:
-        passed += 1
-        return
-    failed += 1
-    print(f"FAILED: {name}")
-    for what, want, came in zip(("standard output", "standard error", "status"), wanted, got):
-        if want != came:
-            print(f"  {what}: wanted {want!r}\n  {' ' * len(what)}     got {came!r}")
-
-
-def run(command, **how):
-    """What a command that ends within a minute wrote, and its status."""
-    try:
-        ran = subprocess.run(command, stderr=subprocess.PIPE, cwd=TOP, timeout=60, **how)
-    except subprocess.TimeoutExpired:
-        return b"", b"", "no end within a minute"
-    return ran.stdout or b"", ran.stderr, ran.returncode
-
-
 def case(words, out="", err="", status=0, stdin=b"", stdout=subprocess.PIPE):
     """The program with these arguments, split at spaces where they are a text. Where a `stdout` is given, what the
-    program writes to it isn't looked at."""
-    words = words.split() if isinstance(words, str) else words
+    program writes to it isn't looked at. A case that was run before isn't run again."""
+    words = tuple(words.split() if isinstance(words, str) else words)
+    wanted = encoded(out), encoded(err), status
+    if stdout == subprocess.PIPE and (words, stdin, wanted) in DONE:
+        return
+    DONE.add((words, stdin, wanted))
     name = "capvet " + " ".join(it if isinstance(it, str) else repr(it) for it in words)
     if stdin:
         name += f", of {stdin[:80].hex()}"
     if stdout != subprocess.PIPE:
         name += ", with an output that fails"
-    compare(name, (encoded(out), encoded(err), status), run([PROGRAM, *words], input=stdin, stdout=stdout))
+    compare(name, wanted, outputs([PROGRAM, *words], stdin, stdout=stdout))
 
 
 def shell_case(line, out, status=0):
     """A line of shell, at the top of the repository and with the program on its path."""
     environment = {**os.environ, "PATH": f"{PROGRAM.parent}:{os.environ['PATH']}"}
-    got = run(line, shell=True, stdin=subprocess.DEVNULL, stdout=subprocess.PIPE, env=environment)
+    got = outputs(line, shell=True, env=environment)
     compare(line, (encoded(out), b"", status), got)
 
 
@@ -88,7 +74,7 @@ def mistake(words, text):
 
 def mistake_beginning(words, beginning):
     """A command line that is wrong, and how what is said of it begins."""
-    out, err, status = run([PROGRAM, *words.split()], input=NULL, stdout=subprocess.PIPE)
+    out, err, status = outputs([PROGRAM, *words.split()], NULL)
     compare(f"capvet {words}", (b"", beginning.encode(), 2), (out, err[:len(beginning)], status))
 
 
@@ -97,15 +83,6 @@ def closed_pipe():
     reader, writer = os.pipe()
     os.close(reader)
     return writer
-
-
-def word(text):
-    return bytes.fromhex(text)
-
-
-def framed(*words):
-    """One message of one segment, of words in hexadecimal digits."""
-    return struct.pack("<II", 0, len(words)) + b"".join(map(word, words))
 
 
 def rows(table, also_packed=False):
@@ -139,9 +116,18 @@ NULL_DUMP = NULL_ACCEPTED + "root null\n"
 NULL_FOUND = "message 0: found\nnode null\n"
 CYCLE = framed("fcffffff00000100")
 CAPABILITY = framed("0300000005000000")
-SHARED = framed("0000000000000200", "0400000001000000", "0000000001000000", "0700000000000000")
+SHARED = framed("0000000000000200 0400000001000000 0000000001000000 0700000000000000")
 OVERLAP = "message 1: refused Overlap at 0:2 pointers 3\n"
 CYCLE_REFUSED = "message 0: refused DepthLimit at 0:0 pointers 65\n"
+CYCLE_EXPLAINED = f"""\
+  path {"/p0" * 64}
+  byte 8 of the message
+  pointer fcffffff00000100 struct, offset -1, data words 0, pointers 1
+  target 0:0 to 0:0, words 1
+  segment 0, words 1
+  limit level 65, at most 64
+  reason the target is at a deeper level than the limit allows
+"""
 
 # ------------------------------------------------------------------ samples
 CONTACTS = "message 0: accepted charge 391 depth 11 pointers 125 caps 0\n"
@@ -170,9 +156,9 @@ COPIES = {
     "telemetry.bin": "telemetry.bin",
     "stream-of-four.bin": "stream-of-four.bin",
 }
-COMMANDS = ("segments", "vet", "filter", "dump", "get", "check", "canon", "pack", "unpack")
+COMMANDS = ("segments", "vet", "explain", "filter", "dump", "get", "check", "canon", "pack", "unpack")
 # Those that read messages, with what each of them needs besides its input; and all of them.
-READERS = ("segments", "vet", "filter", "dump", "get /", "check", "canon")
+READERS = ("segments", "vet", "explain", "filter", "dump", "get /", "check", "canon")
 RUNS = (*READERS, "pack", "unpack")
 PATHS = ("/", "/p0", "/p1/p0", "/p0/i0", "/p0/i1/p4", "/i0", "/p65535")
 
@@ -195,7 +181,7 @@ def canonical_copies():
     """The copies of each sample's messages, plain and packed, against those of another program; each is canonical."""
     for name, copies in COPIES.items():
         wanted = (sample(f"canonical/{copies}"), b"", 0)
-        text, err, status = run([PROGRAM, "canon", f"examples/{name}"], stdout=subprocess.PIPE)
+        text, err, status = outputs([PROGRAM, "canon", f"examples/{name}"])
         compare(f"capvet canon examples/{name}", wanted, (contents(text), err, status))
         case("canon", text, stdin=text)
         shell_case(f"capvet pack examples/{name} | capvet canon --packed", text)
@@ -209,7 +195,7 @@ def samples():
         for name, verdicts in VERDICTS.items():
             file, packed = f"examples/{name}", f"{folder}/{name}.packed"
             stream = sample(name)
-            texts = {"vet": verdicts, "vet --exclusive": verdicts, "segments": segments_text(stream), "dump": dump_text(stream, verdicts)}
+            texts = {"vet": verdicts, "vet --exclusive": verdicts, "explain": verdicts, "segments": segments_text(stream), "dump": dump_text(stream, verdicts)}
             texts["check"] = CHECKS[name]
             texts |= {f"get {path}": get_text(stream, path) for path in PATHS}
             # (samples are strict and unamplified)
@@ -250,6 +236,23 @@ def live_pipe(command, wanted, status=0):
         text += ran.stdout.read()
         compare(f"capvet {command}, with an input that stays open", (wanted, b"", status),
                 (text, ran.stderr.read(), ran.wait(60)))
+
+
+def of_file(command, given, stdout):
+    """What a command does with a regular file as its input."""
+    with tempfile.TemporaryFile() as file:
+        file.write(given)
+        file.seek(0)
+        return outputs([PROGRAM, *command.split()], file, stdout=stdout)
+
+
+def not_blocking(command, wanted):
+    """A command whose input has nothing yet, and doesn't wait for it."""
+    reader, writer = os.pipe()
+    os.set_blocking(reader, False)
+    with os.fdopen(reader, "rb") as stdin, os.fdopen(writer, "wb"):
+        got = outputs([PROGRAM, *command.split()], stdin)
+    compare(f"capvet {command}, of an input that doesn't wait", (b"", encoded(wanted), 3), got)
 
 
 def most_memory(process):
@@ -329,19 +332,19 @@ def large_segments(words):
 
 
 def large_messages():
-    """Messages of 64 MiB, which the default limits allow, and of 96 MiB. The memory is the message and 2 MiB. With
+    """Messages of 64 MiB, which the default limits allow, and of 96 MiB. The memory is the message and SPARE MiB. With
     `--exclusive` the marks come to it, a 64th of the message, and in `canon` the copy, which equals the message."""
     stream, accepted = large_message(64 << 17)
-    resident("vet", "a message of 64 MiB", stream, accepted, (64 + 2) << 10)
-    resident("vet --exclusive", "a message of 64 MiB", stream, accepted, (64 + 1 + 2) << 10)
-    resident("vet --strict --unamplified", "a message of 64 MiB", stream, accepted, (64 + 2) << 10)
-    resident("filter", "a message of 64 MiB", stream, stream, (64 + 2) << 10)
-    resident("canon", "a message of 64 MiB", stream, stream, (64 + 64 + 2) << 10)
+    resident("vet", "a message of 64 MiB", stream, accepted, (64 + SPARE) << 10)
+    resident("vet --exclusive", "a message of 64 MiB", stream, accepted, (64 + 1 + SPARE) << 10)
+    resident("vet --strict --unamplified", "a message of 64 MiB", stream, accepted, (64 + SPARE) << 10)
+    resident("filter", "a message of 64 MiB", stream, stream, (64 + SPARE) << 10)
+    resident("canon", "a message of 64 MiB", stream, stream, (64 + 64 + SPARE) << 10)
     words = 96 << 17
     limits = f"--size {words} --words {words}"
     for name, (stream, accepted) in {"a message": large_message(words), "512 segments": large_segments(words)}.items():
-        resident(f"vet {limits}", f"{name} of 96 MiB", stream, accepted, (96 + 2) << 10)
-        resident(f"vet --exclusive {limits}", f"{name} of 96 MiB", stream, accepted, (96 + 2 + 2) << 10)
+        resident(f"vet {limits}", f"{name} of 96 MiB", stream, accepted, (96 + SPARE) << 10)
+        resident(f"vet --exclusive {limits}", f"{name} of 96 MiB", stream, accepted, (96 + 2 + SPARE) << 10)
 
 
 large_messages()
@@ -350,6 +353,7 @@ case("vet --packed examples/contacts.packed", CONTACTS)
 
 # ------------------------------------------------------------------ inputs that are refused, cut short or past a limit
 case("vet", CYCLE_REFUSED, status=1, stdin=CYCLE)
+case("explain", CYCLE_REFUSED + CYCLE_EXPLAINED, status=1, stdin=CYCLE)
 case("dump", CYCLE_REFUSED, status=1, stdin=CYCLE)
 case("get /p0", CYCLE_REFUSED, status=1, stdin=CYCLE)
 case("vet --strict --unamplified examples/cycle.bin", CYCLE_REFUSED, status=1)
@@ -363,6 +367,7 @@ case("canon", NULL, "capvet: message 1: HasCapability at 0:0\n", 1, NULL + CAPAB
 case("canon --depth 3 examples/contacts.bin", err="capvet: message 0: refused DepthLimit at 0:7\n", status=1)
 case("canon", NULL, "capvet: message 1: Truncated at byte 23\n", 1, NULL + NULL[:7])
 case("vet", NULL_ACCEPTED, "capvet: message 1: Truncated at byte 23\n", 1, NULL + NULL[:7])
+case("explain", NULL_ACCEPTED, "capvet: message 1: Truncated at byte 23\n", 1, NULL + NULL[:7])
 case("dump", NULL_DUMP, "capvet: message 1: Truncated at byte 23\n", 1, NULL + NULL[:7])
 case("get /", NULL_FOUND, "capvet: message 1: Truncated at byte 23\n", 1, NULL + NULL[:7])
 case("segments", segments_text(NULL), "capvet: message 1: TooManySegments 513\n", 1, NULL + word("0002000000000000"))
@@ -376,7 +381,7 @@ def deepest_dump():
     """The deepest of all trees, 128 lists of one struct, each the pointer of the struct before it, dumped with a
     stack of 8 MiB and of 1 MiB."""
     list_pointer, tag, null = "010000000f000000", "0400000000000100", "0000000000000000"
-    stream = framed(*[list_pointer, tag] * 128, null)
+    stream = framed((list_pointer + tag) * 128 + null)
     wanted = "message 0: accepted charge 256 depth 256 pointers 129 caps 0\nroot structs 1 0 1\n"
     for level in range(1, 256, 2):
         below = "structs 1 0 1" if level < 255 else "null"
@@ -399,7 +404,7 @@ for table in (tables.LEVELS, tables.NESTED, tables.LEVELS_WITH_A_POINTER_LEFT, t
     rows(table, also_packed=True)
 def overlaps(stream, overlap):
     """An accepted message, and what `vet --exclusive` writes of it: the overlap, or what `vet` writes."""
-    text, err, status = run([PROGRAM, "vet"], input=stream, stdout=subprocess.PIPE)
+    text, err, status = outputs([PROGRAM, "vet"], stream)
     compare("capvet vet accepts a message", (b"message 0: accepted ", b"", 0), (text[:20], err, status))
     wanted = text if overlap is None else f"message 0: refused Overlap at {overlap}\n"
     case("vet --exclusive", wanted, status=0 if overlap is None else 1, stdin=stream)
@@ -427,17 +432,17 @@ def known_messages():
     """The messages of messages.py: their verdicts, canonical copies and nodes."""
     for digits, verdicts in messages.VERDICTS:
         for options, said in verdicts.items():
-            case(f"vet {options}", f"message 0: {said}\n", status=int(said.startswith("refused")), stdin=messages.framed(digits))
+            case(f"vet {options}", f"message 0: {said}\n", status=int(said.startswith("refused")), stdin=framed(digits))
     for message, copy in messages.copies():
         for given in message, copy:
             said = "canonical" if given == copy else "not canonical"
             case("canon --words 268435456 --depth 256", copy, stdin=given)
             case("check --words 268435456 --depth 256", f"message 0: {said}\n", status=int(given != copy), stdin=given)
     for digits, place in messages.CAPABILITIES:
-        case("canon", err=f"capvet: message 0: HasCapability at {place}\n", status=1, stdin=messages.framed(digits))
+        case("canon", err=f"capvet: message 0: HasCapability at {place}\n", status=1, stdin=framed(digits))
     for digits, nodes in messages.NODES:
         for path, text in nodes.items():
-            case(f"get {path}", f"message 0: found\nnode {text}" if text else "message 0: none\n", stdin=messages.framed(digits))
+            case(f"get {path}", f"message 0: found\nnode {text}" if text else "message 0: none\n", stdin=framed(digits))
 
 
 known_messages()
@@ -592,7 +597,7 @@ def runs_about_edges():
 
 def many_messages():
     """300 messages, of which each second one is refused, at once and in sips."""
-    stream = (word("0000000000000000") + framed("0000000001000000", "2a00000000000000")) * 150
+    stream = (word("0000000000000000") + framed("0000000001000000 2a00000000000000")) * 150
     text = "".join(f"message {2 * at}: refused NoRoot at 0:0 pointers 0\n"
                    f"message {2 * at + 1}: accepted charge 1 depth 1 pointers 1 caps 0\n" for at in range(150))
     case("vet", text, status=1, stdin=stream)
@@ -619,25 +624,35 @@ many_messages()
 tagged_sips()
 
 # ------------------------------------------------------------------ paths, which are read before any input is opened
+def bad_path(at, path):
+    return f"capvet: bad path at {at}\ncapvet: the path is '{path}'; the order is 'capvet get PATH FILE'\n"
+
+
 for path, at in tables.BAD_PATHS:
     for words in (["get", path], ["get", "--packed", path, "examples/missing.bin"]):
-        case(words, err=f"capvet: bad path at {at}\n", status=2, stdin=NULL)
+        case(words, err=bad_path(at, path), status=2, stdin=NULL)
 case("get /p0", "message 0: none\n", stdin=NULL)
 # Paths to the deepest node of a message of 64 levels, and of 10,000 steps.
 CHAIN = word(tables.MOST_LEVELS)
 case(["get", 63 * "/p0"], "message 0: found\nnode struct 0 0\n", stdin=CHAIN)
 case(["get", 10000 * "/p0"], "message 0: none\n", stdin=CHAIN)
-case(["get", 9999 * "/p0" + "/p65536"], err="capvet: bad path at 30003\n", status=2, stdin=CHAIN)
+case(["get", 9999 * "/p0" + "/p65536"], err=bad_path(30003, 9999 * "/p0" + "/p65536"), status=2, stdin=CHAIN)
+case("get examples/shared.bin /p0", err=bad_path(0, "examples/shared.bin"), status=2, stdin=NULL)
 
 # ------------------------------------------------------------------ files and devices
-MISSING = "capvet: cannot open examples/missing.bin\n"
+def cannot_open(name):
+    return f"capvet: cannot open {name}\ncapvet: No such file or directory (os error 2)\n"
+
+
+IS_DIRECTORY = "capvet: Is a directory (os error 21)\n"
 FAILED = "capvet: output failed\n"
 LONG = NULL * 20000
 for command in RUNS:
-    case(f"{command} examples/missing.bin", err=MISSING, status=3, stdin=NULL)
-    case(f"{command} -", err="capvet: cannot open -\n", status=3, stdin=NULL)
+    case(f"{command} examples/missing.bin", err=cannot_open("examples/missing.bin"), status=3, stdin=NULL)
+    case(f"{command} -", err=cannot_open("-"), status=3, stdin=NULL)
     at = "" if command.endswith("pack") else "message 0: "
-    case(f"{command} examples", err=f"capvet: {at}Device\n", status=3, stdin=NULL)
+    case(f"{command} examples", err=f"capvet: {at}Device\n" + IS_DIRECTORY, status=3, stdin=NULL)
+    not_blocking(command, f"capvet: {at}Device\ncapvet: Resource temporarily unavailable (os error 11)\n")
 with open("/dev/full", "wb") as full:
     for stdout in (full, closed_pipe()):
         for command in (*READERS, "pack"):
@@ -645,15 +660,17 @@ with open("/dev/full", "wb") as full:
             case(command, err=FAILED, status=3, stdin=LONG, stdout=stdout)
         case("unpack", err=FAILED, status=3, stdin=word("0000"), stdout=stdout)
         case("vet", err=FAILED, status=3, stdin=CYCLE, stdout=stdout)
+        # The line of the first message is flushed before the rest of the second one is waited for. From a file both come.
+        case("vet", err=FAILED, status=3, stdin=NULL + b"\0", stdout=stdout)
         cut = "capvet: message 1: Truncated at byte 17\n"
-        case("vet", err=cut + FAILED, status=3, stdin=NULL + b"\0", stdout=stdout)
+        compare("capvet vet of a file, with an output that fails", (b"", encoded(cut + FAILED), 3),
+                of_file("vet", NULL + b"\0", stdout))
         case("vet", stdout=stdout)
         for words in ("help", "help vet", "--version"):
             case(words, err=FAILED, status=3, stdout=stdout)
 
 # ------------------------------------------------------------------ faults at each byte, and out of memory
-# A message of two pointers to one struct, its packed encoding, and what each command writes for it.
-SHARED = framed("0000000000000200", "0400000001000000", "0000000001000000", "0700000000000000")
+# The packed encoding of SHARED, and what each command writes for it.
 SHARED_PACKED = word("1004400211040110010107")
 SHARED_VET = "message 0: accepted charge 4 depth 2 pointers 3 caps 0\n"
 SHARED_TEXTS = {
@@ -663,7 +680,7 @@ SHARED_TEXTS = {
     "dump": dump_text(SHARED, SHARED_VET),
     "get /p1": get_text(SHARED, "/p1"),
     "check": "message 0: not canonical\n",
-    "canon": framed("0000000000000200", "0400000001000000", "0400000001000000", "0700000000000000", "0700000000000000"),
+    "canon": framed("0000000000000200 0400000001000000 0400000001000000 0700000000000000 0700000000000000"),
     "filter": SHARED,
 }
 
@@ -698,8 +715,7 @@ def short_outputs():
     for command, stream, text in runs:
         for size in (0, 1, 8191, 8192, 8193, 9255) if stream == many else range(len(text)):
             with tempfile.TemporaryFile() as out:
-                _, err, status = run([PROGRAM, *command.split()], input=stream, stdout=out,
-                                     preexec_fn=lambda: limit_files(size))
+                _, err, status = outputs([PROGRAM, *command.split()], stream, stdout=out, preexec_fn=lambda: limit_files(size))
                 out.seek(0)
                 compare(f"capvet {command}, to a file that takes {size} bytes", (text[:size], FAILED.encode(), 3),
                         (out.read(), err, status))
@@ -714,15 +730,14 @@ def short_errors():
                                          ("filter", (NULL + CYCLE) * 2 + NULL, NULL * 3, refused)):
         for size in range(len(lines)):
             with tempfile.TemporaryFile() as err:
-                ran = subprocess.run([PROGRAM, command], input=stream, stdout=subprocess.PIPE, stderr=err, timeout=60,
-                                     preexec_fn=lambda: limit_files(size))
+                out, _, status = outputs([PROGRAM, command], stream, stderr=err, preexec_fn=lambda: limit_files(size))
                 err.seek(0)
                 compare(f"capvet {command}, with standard error that takes {size} bytes", (text, lines[:size], 1),
-                        (ran.stdout, err.read(), ran.returncode))
+                        (out, err.read(), status))
     with open("/dev/full", "wb") as full:
         # (a directory is a device that fails)
-        ran = subprocess.run([PROGRAM, "vet", "examples"], cwd=TOP, stdout=subprocess.PIPE, stderr=full, timeout=60)
-        compare("capvet vet examples, with standard error that takes nothing", (b"", b"", 3), (ran.stdout, b"", ran.returncode))
+        got = outputs([PROGRAM, "vet", "examples"], stderr=full)
+        compare("capvet vet examples, with standard error that takes nothing", (b"", b"", 3), got)
 
 
 def closing_pipe(command, text):
@@ -751,8 +766,7 @@ def wants_memory(command, stream, *wanted):
     """The ends of runs with more and more memory, from too little for a start until a run ends with status 0."""
     seen = []
     for kibibytes in range(1 << 10, 64 << 10, 16):
-        got = run([PROGRAM, *command.split()], input=stream, stdout=subprocess.PIPE,
-                  preexec_fn=lambda: limit_memory(kibibytes))
+        got = outputs([PROGRAM, *command.split()], stream, preexec_fn=lambda: limit_memory(kibibytes))
         # (at first the loader has too little memory for the program itself)
         started = got[2] in (0, 1, 2, 3)
         if started and got not in seen[-1:]:
@@ -804,13 +818,15 @@ for command, text in SHARED_TEXTS.items():
 wants()
 
 # ------------------------------------------------------------------ command lines
-case([b"vet", b"\xff"], err="capvet: an argument is not UTF-8\n", status=2, stdin=NULL)
+case([b"vet", b"\xff"], err="capvet: argument 2 is not UTF-8\n", status=2, stdin=NULL)
+case([b"get", b"/", b"examples/\xffshared.bin", b"\xfe"], err="capvet: argument 3 is not UTF-8\n", status=2, stdin=NULL)
+case([b"vet", 100_000 * b"a" + b"\xff"], err="capvet: argument 2 is not UTF-8\n", status=2, stdin=NULL)
 for words, text in tables.MISTAKES:
     mistake(words, text)
 for words, beginning in tables.MISTAKE_BEGINNINGS:
     mistake_beginning(words, beginning)
 for words, name in tables.NAMES:
-    case(words, err=f"capvet: cannot open {name}\n", status=3, stdin=NULL)
+    case(words, err=cannot_open(name), status=3, stdin=NULL)
 for lines, text in HELPS:
     for words in lines:
         case(words, text)
@@ -818,7 +834,7 @@ for lines, text in HELPS:
 
 def help_example(command, status):
     """The example at the end of a command's help, run as it is there. It shows standard error too."""
-    help_text, _, _ = run([PROGRAM, "help", *command.split()], stdout=subprocess.PIPE)
+    help_text, _, _ = outputs([PROGRAM, "help", *command.split()])
     _, _, example = help_text.decode().partition("\nExample:\n  $ ")
     line, _, wanted = example.partition("\n")
     wanted = wanted.replace("  ", "", 1).replace("\n  ", "\n")
@@ -826,8 +842,8 @@ def help_example(command, status):
 
 
 for command in ("", *COMMANDS):
-    # (that of `vet` is a refused message)
-    help_example(command, status=1 if command == "vet" else 0)
+    # (those of `vet` and `explain` are a refused message)
+    help_example(command, status=1 if command in ("vet", "explain") else 0)
 # Where both outputs go to one place, a fault's line comes after the texts of the messages before it.
 shell_case(
     "head -c 3200 examples/stream-of-four.bin | capvet vet 2>&1",
@@ -835,5 +851,4 @@ shell_case(
     status=1,
 )
 
-print(f"{passed} passed, {failed} failed")
-sys.exit(failed > 0)
+sys.exit(ended())

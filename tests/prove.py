@@ -1,13 +1,17 @@
 #!/usr/bin/env python3
-"""Proves the crates, and leaves the proved program and the proved archive in build/.
+"""Proves the crates, and leaves the proved program and the proved archive in build/. Unless it proves the code alone, it also
+builds for the other machines whose tools are there (packaging/targets.py).
 
-    prove.py            every crate; its tests are proved and run, its layout and HANDLES are checked
-    prove.py --code     only the crates that the program and the archive are built from
-    prove.py --edits    every crate from nothing, and the prover has to refuse each must-fail edit
+    prove.py                     each library and the program; the tests in Rattle run, the layout and HANDLES are checked
+    prove.py --code              only the crates that the program and the archive are built from
+    prove.py --edits [--anew]    every crate and its tests, and the prover has to refuse each must-fail edit
 
 `rt` keeps in crates/*/out what it has proved, and proves only what has changed since. Where nothing has changed since build/
-was made, `rt` isn't run at all. With --edits `rt ci` does the work on a copy of the tree, and uses nothing that was kept there.
-The last line of the output is 'N passed, M failed'. The status is 1 where something failed, and then build/ stays as it was.
+was made, `rt` isn't run at all. The tests in Rattle run beside the proofs, with checks and without a proof that they are safe.
+
+With --edits `rt ci` does the work on a copy of the tree, and proves the tests too. Then tests/edits.py tries the edits over what
+was proved, since `rt ci` doesn't look at why an edit is refused. Both take from earlier runs on this machine what has read the
+same, and with --anew nothing. The last line of the output is 'N passed, M failed'. The status is 1 where something failed, and then build/ stays as it was.
 """
 import hashlib
 import os
@@ -16,21 +20,27 @@ import shutil
 import subprocess
 import sys
 import tempfile
+import time
+from concurrent.futures import ThreadPoolExecutor
 from pathlib import Path
 
 TOP = Path(__file__).resolve().parent.parent
+sys.path.insert(0, str(TOP / "packaging"))
+import targets  # noqa: E402 (it is in the folder that the line above names)
+
 KIT = Path(shutil.which("rt") or "/").resolve().parent.parent
 BUILT = TOP / "build"
 PROGRAM, ARCHIVE = Path("crates/capvet/out/capvet"), Path("crates/capvet_c/out/libcapvet_c.a")
+CORES = str(len(os.sched_getaffinity(0)))
 HANDLES = "Handles allowed: none.\n"
 # What is called of the C library for a thread, for a socket, or for another program.
 BEYOND = re.compile(r"pthread_create|thrd_create|socket|socketpair|bind|connect|listen|accept4?|getaddrinfo|epoll_\w+|eventfd|"
                     r"send|sendto|sendmsg|recv|recvfrom|recvmsg|posix_spawnp?|v?fork|clone3?|exec[vl]\w*|fexecve|system|popen")
 
 
-def crates():
+def crates(root=TOP):
     """The crates of crates.txt, each with those that it names. A crate comes after those."""
-    lines = (TOP / "crates.txt").read_text().splitlines()
+    lines = (root / "crates.txt").read_text().splitlines()
     words = [line.replace(":", " ").split() for line in lines if line and not line.startswith("#")]
     return {name: uses for name, *uses in words}
 
@@ -58,74 +68,117 @@ def holds_handles():
     return not any(beyond.values())
 
 
+def below(names):
+    """These crates and all that they use, in the order of crates.txt."""
+    known, found = crates(), set(names)
+    for name in reversed(known):
+        found |= set(known[name]) if name in found else set()
+    return [name for name in known if name in found]
+
+
+def above(name):
+    """This crate and all that use it, in the order of crates.txt."""
+    return [it for it in crates() if name in below([it])]
+
+
+def has_tests(name):
+    """Whether this is a crate of tests in Rattle."""
+    return any("#[test]" in file.read_text() for file in (TOP / "crates" / name).glob("src/**/*.rt"))
+
+
+def prove(name, rt=rt):
+    """Proves a crate over those below it, and builds what the crates above need of it. Of the program the stored run is compared."""
+    begin, folder = time.monotonic(), TOP / "crates" / name
+    # (`rt` works in one crate at a time, and in those below it. So each crate gets all cores)
+    is_proved = rt(folder, *(["all", "test"] if (folder / "src/main.rt").exists() else ["lib"]), "--jobs", CORES)
+    print(f"{name} took {time.monotonic() - begin:.0f} s")
+    return is_proved
+
+
+def run_tests(name):
+    """Runs the tests of a crate, and proves nothing. Whether they pass, and there are some."""
+    ran = subprocess.run(["rt", "try", "--test", "--seconds", "600"], cwd=TOP / "crates" / name, stdin=subprocess.DEVNULL,
+                         stdout=subprocess.PIPE, stderr=subprocess.STDOUT, text=True, errors="replace")
+    counted = re.search(r"(?m)^tests: (\d+)$", ran.stdout)
+    passed = ran.returncode == 0 and counted is not None and int(counted[1]) > 0
+    print(f"{name}: {counted[1]} tests" if passed else f"{ran.stdout}{name}: its tests failed with status {ran.returncode}")
+    return passed
+
+
+def has_layout(names):
+    """Whether each file of these crates has the layout that `rt fmt` gives."""
+    files = [file for name in names for file in sorted((TOP / "crates" / name).glob("*/**/*"))
+             if is_read(file) and file.suffix in (".rt", ".antt")]
+    return subprocess.run([KIT / "bin/rattle", "fmt", "--check", *files]).returncode == 0
+
+
+def prove_each(names, tests, rt=rt):
+    """Proves these crates one by one, and beside that runs the tests of others. Whether all passed."""
+    with ThreadPoolExecutor(1) as beside:
+        running = [beside.submit(run_tests, name) for name in tests]
+        if not all(prove(name, rt) for name in names):
+            beside.shutdown(cancel_futures=True)
+            return False
+    return all(it.result() for it in running)
+
+
 def prove_code():
     """Proves the program, the archive and all that they are built from. Returns what passed: these two."""
-    # (`rt run` runs the program too)
-    is_proved = rt(TOP / PROGRAM.parents[1], "run", "--", "--version") and rt(TOP / ARCHIVE.parents[1], "lib")
-    return 2 if is_proved and holds_handles() else None
+    return 2 if prove_each(below([PROGRAM.parts[1], ARCHIVE.parts[1]]), ()) and holds_handles() else None
 
 
 def prove_all():
-    """Proves every crate, and proves and runs its tests. Returns how many crates there are, or None where something failed."""
-    cores, known = str(len(os.sched_getaffinity(0))), crates()
-    # (the crates that others need come first, one by one on all cores. `rt all` has one core for each crate, so that its longest
-    # chain would take twice as long. It also reads all that isn't proved yet once for each crate that nothing uses)
-    for name in known:
-        if any(name in uses for uses in known.values()) and not rt(TOP / "crates" / name, "lib", "--jobs", cores):
-            return None
-    return len(known) if rt(TOP, "all", "test", "--jobs", cores) and holds_handles() else None
+    """Proves every crate but those of tests, whose tests run beside that. Returns how many crates there are, or None where
+    something failed."""
+    tests = [name for name in crates() if has_tests(name)]
+    others = [name for name in crates() if name not in tests]
+    return len(crates()) if has_layout(crates()) and prove_each(others, tests) and holds_handles() else None
 
 
-def take(root):
+def take(root, files=(PROGRAM, ARCHIVE)):
     """Puts the program and the archive that were built below root into build/, each under its name only once it is whole."""
     BUILT.mkdir(exist_ok=True)
-    for file, name in ((PROGRAM, "capvet"), (ARCHIVE, "libcapvet.a")):
+    for file in files:
+        name = "capvet" if file == PROGRAM else "libcapvet.a"
         shutil.copy(root / file, BUILT / f"{name}.new")
         (BUILT / f"{name}.new").replace(BUILT / name)
 
 
 def copy(root):
-    """Copies the tree, but what git and the builds keep in it."""
+    """Copies the tree, but what git and the builds keep in it, and the edits."""
     def ignored(folder, names):
-        return (".git", "build") if Path(folder) == TOP else ("out", "target")
+        return (".git", "build") if Path(folder) == TOP else ("out", "target", "must-fail")
     shutil.copytree(TOP, root, ignore=ignored)
 
 
-def run_ci(root):
-    """Runs `rt ci`, shows its output, and returns how many cases passed, or None where one failed."""
+def counted(words, folder):
+    """Runs a command, shows its output, and returns how many cases passed, or None where one failed."""
     passed = None
-    with subprocess.Popen(["rt", "ci"], cwd=root, stdout=subprocess.PIPE, text=True, errors="replace") as ran:
+    with subprocess.Popen(words, cwd=folder, stdout=subprocess.PIPE, text=True, errors="replace") as ran:
         for line in ran.stdout:
             print(line, end="", flush=True)
-            counted = re.fullmatch(r"(\d+) passed, 0 failed\n", line)
-            passed = int(counted[1]) if counted else passed
+            found = re.fullmatch(r"(\d+) passed, 0 failed\n", line)
+            passed = int(found[1]) if found else passed
     return None if ran.returncode else passed
 
 
-def build_archive(root):
-    """Builds the archive for C over the libraries that `rt ci` left proved below root; its exports are proved again here."""
-    folder, archive = root / ARCHIVE.parents[1], root / ARCHIVE
-    archive.parent.mkdir(exist_ok=True)
-    words = ["--crate-name", folder.name, "src/lib.rt", "--crate-type", "staticlib", "--links", f"{folder.name}="]
-    words += ["--extern", f"std={KIT}/rlibs/std.rlib"]
-    words += ["--extern", f"cap_calls={root}/crates/cap_calls/out/rlib/cap_calls.rlib"]
-    for libraries in [KIT / "rlibs", *sorted(root.glob("crates/*/out/rlib"))]:
-        words += ["-L", f"dependency={libraries}"]
-    words += ["--antt-project", f"{KIT}/rattle/logic/antt-project.json", "--logic-built", f"{KIT}/logic_built"]
-    words += ["--toolchain", f"{KIT}/toolchain", "--jobs", "1", "-o", archive]
-    return subprocess.run([KIT / "bin/rattle", "build", *words], cwd=folder).returncode == 0
-
-
-def prove_anew():
-    """Proves everything from nothing, on a copy, and tries the edits. Returns how many cases passed, or None where one failed."""
+def prove_and_edit(words):
+    """Proves everything on a copy, and tries the edits. Returns how many cases passed, or None where one failed.
+    The exports for C are proved again over the libraries that `rt ci` left proved there, once for all targets."""
     with tempfile.TemporaryDirectory(prefix="capvet-") as folder:
-        root = Path(folder) / "capvet"
+        root, scratch = Path(folder) / "capvet", Path(folder) / "scratch"
         copy(root)
-        passed = run_ci(root)
-        if passed is None or not build_archive(root):
+        scratch.mkdir()
+        passed = counted(["rt", "ci", *words], root)
+        (root / ARCHIVE).parent.mkdir(exist_ok=True)
+        if passed is None or not targets.compile_crate(root, ARCHIVE.parts[1], root / ARCHIVE, scratch):
+            return None
+        refused = counted([sys.executable, TOP / "tests/edits.py", "--proved", root, *words], TOP)
+        if refused is None:
             return None
         take(root)
-        return passed
+        is_built = targets.build([name for name in targets.TARGETS if not targets.lacking(name)], root, scratch)
+        return passed + refused if is_built else None
 
 
 def is_read(file):
@@ -150,22 +203,29 @@ def kept():
     return int(passed) if found == checksum() else None
 
 
+def has_targets():
+    """Builds for other machines over what is proved here, as far as this machine has the tools, where build/ lacks them."""
+    names = [name for name in targets.TARGETS if not targets.lacking(name)]
+    return not names or targets.main(names) == 0
+
+
 def main(words):
     sys.stdout.reconfigure(line_buffering=True)
-    ways = {(): prove_all, ("--code",): prove_code, ("--edits",): prove_anew}
+    ways = {(): prove_all, ("--code",): prove_code, ("--edits",): lambda: prove_and_edit([]),
+            ("--edits", "--anew"): lambda: prove_and_edit(["--anew"])}
     if tuple(words) not in ways:
         sys.exit(__doc__)
-    passed = None if words == ["--edits"] else kept()
+    passed = None if "--edits" in words else kept()
     if passed is not None:
-        print(f"nothing has changed since build/ was proved\n{passed} passed, 0 failed")
-        return 0
-    (BUILT / "proved").unlink(missing_ok=True)
-    passed = ways[tuple(words)]()
-    if passed is None:
+        print("nothing has changed since build/ was proved")
+    else:
+        (BUILT / "proved").unlink(missing_ok=True)
+        passed = ways[tuple(words)]()
+        if passed is not None and "--edits" not in words:
+            take(TOP)
+    if passed is None or words == [] and not has_targets():
         print("0 passed, 1 failed")
         return 1
-    if words != ["--edits"]:
-        take(TOP)
     if words != ["--code"]:
         (BUILT / "proved").write_text(f"{checksum()} {passed}\n")
     print(f"{passed} passed, 0 failed")

@@ -3,44 +3,29 @@
 
     python.py [PROGRAM [ARCHIVE]] [--full] [--idle]
 
-With --full the tests make 20,000 cases and a million calls, and valgrind counts the instructions of a call. With --idle they
-compare times, for which the machine may do nothing else. The environments
-take cffi, pytest and hypothesis from the interpreter that has them: Debian's, or the first python3 on the path. Without a
-tool, a line says what isn't tested. The last line is 'N passed, M failed', and the status is 1 where a case failed.
+With --full the tests make 20,000 cases and a million calls, and valgrind counts the instructions of a call. The package is
+installed in place, and the tests of its source distribution run. With --idle times are compared, for which the machine may do
+nothing else. The environments take cffi, pytest and hypothesis from the interpreter that has them: Debian's, or the first
+python3 on the path. Without a tool, a line says what isn't tested. The last line is 'N passed, M failed', and the status is 1
+where a case failed.
 """
 import os
 import re
 import shutil
 import struct
-import subprocess
 import sys
+import tarfile
 import tempfile
 from pathlib import Path
 
-import install
+import needs
 from amount import IS_FULL, IS_IDLE, cases
-from install import ARCHIVE, PROGRAM, TOP, compare, make, missing
+from harness import ARCHIVE, PROGRAM, TOP, compare, count, ended, run
+from install import make
+from needs import MODULES, missing, python_with
 
-BUILDERS = "import cffi, setuptools, venv, wheel"
-TESTERS = "import hypothesis, pytest"
 PIP = ("-m", "pip", "--disable-pip-version-check")
-
-
-def run(command, **how):
-    """What a command wrote, on its standard error too, and its status."""
-    ran = subprocess.run([str(word) for word in command], stdout=subprocess.PIPE, stderr=subprocess.STDOUT,
-                         stdin=subprocess.DEVNULL, timeout=900, text=True, **how)
-    return ran.stdout, ran.returncode
-
-
-def interpreter(modules):
-    """The first interpreter that has these modules."""
-    for name in ("/usr/bin/python3", "python3", sys.executable):
-        python = shutil.which(name)
-        if python and run([python, "-c", modules])[1] == 0:
-            return python
-    print(f"not tested, without an interpreter for '{modules}': the package for Python, or a part of it")
-    return None
+VERSION = re.search(r"^version = (.*)$", (TOP / "bindings/python/setup.cfg").read_text(), re.M)[1]
 
 
 def wheel_of(folder):
@@ -48,7 +33,7 @@ def wheel_of(folder):
     text, status = run(["make", "-s", "wheel", f"BUILT_PROGRAM={PROGRAM}", f"BUILT_ARCHIVE={ARCHIVE}", f"wheeldir={folder}"],
                        cwd=TOP)
     wheels = [file.name for file in folder.glob("*.whl")]
-    compare("make wheel", (0, ["capvet-1.0.0-cp39-abi3-linux_x86_64.whl"]), (status, wheels))
+    compare("make wheel", (0, [f"capvet-{VERSION}-cp39-abi3-linux_x86_64.whl"]), (status, wheels))
     if status or len(wheels) != 1:
         print(text)
         return None
@@ -61,18 +46,30 @@ def environment(python, folder):
     return folder / "bin/python"
 
 
-def needs(python, folder):
+def links(python, folder):
     """The module needs the C library alone, and no text of it has the place where it was built."""
     where = "import capvet._capvet as it; print(it.__file__)"
     file = Path(run([python, "-c", where], cwd=folder)[0].strip())
-    text = run(["readelf", "-d", file])[0] if shutil.which("readelf") else ""
+    if missing("the libraries of the module for Python", "readelf"):
+        return
+    text = run(["readelf", "-d", file])[0]
     compare("the libraries of the module", True, set(re.findall(r"NEEDED.*\[(.*)\]", text)) <= {"libc.so.6", "libpthread.so.0"})
+
+
+def on_processors(python, folder):
+    """The package is imported on a processor that has what the library needs, and on no other."""
+    if missing("the package for Python on older processors", "qemu-x86_64"):
+        return
+    script = "import capvet; print(capvet.vet(bytes([0, 0, 0, 0, 1] + [0] * 11)).pointers)"
+    for processor, status, line in (("Nehalem", 0, "1\n"), ("Conroe", 1, "ImportError: this processor lacks a feature of x86-64-v2")):
+        said = run(["qemu-x86_64", "-cpu", processor, python, "-c", script], cwd=folder)
+        compare(f"import capvet on {processor}", (True, status), (line in said[0], said[1]))
 
 
 def tested(python, folder):
     """The tests of the package, against the installed wheel."""
-    if run([python, "-c", TESTERS])[1]:
-        print("not tested, without pytest and hypothesis: the calls of the package for Python")
+    if run([python, "-c", "import hypothesis, pytest"])[1]:
+        print(needs.line("the calls of the package for Python", "pytest"))
         return
     counts = dict(CAPVET_CASES=str(cases(600, full=20_000)), CAPVET_CALLS=str(cases(100_000, full=1_000_000)))
     counts |= dict(CAPVET_IDLE="1") if IS_IDLE else {}
@@ -80,11 +77,55 @@ def tested(python, folder):
     text, status = run([python, "-m", "pytest", "-q", "-rs", "-p", "no:cacheprovider", *["-s"] * IS_IDLE, "."],
                        cwd=TOP / "bindings/python/tests", env=variables)
     counted = {word: int(number) for number, word in re.findall(r"(\d+) (passed|failed|error|skipped)", text)}
-    install.passed += counted.get("passed", 0)
-    install.failed += counted.get("failed", 0) + counted.get("error", 0)
+    count(counted.get("passed", 0), counted.get("failed", 0) + counted.get("error", 0))
     compare("pytest", (0, True), (status, counted.get("passed", 0) > 0))
-    print("\n".join(line for line in text.splitlines() if status or line.startswith(("SKIPPED", "python:", "two threads"))))
+    # (a test that is skipped for lack of something says so by a line of `needs`)
+    shown = (re.sub(r"SKIPPED .*?: (?=not tested)", "", it) for it in text.splitlines())
+    print("\n".join(it for it in shown if status or it.startswith(("SKIPPED", "not tested", "python:", "two threads"))))
     print(f"python: {counted} of pytest")
+
+
+# What a call of the package may not get, and what a message is known to have.
+WRONG = """import capvet, gzip, socket
+reveal_type([it.report for it in capvet.messages(b"") if it.refusal is None])
+reveal_type([it.data for it in capvet.read_messages(gzip.open("")) if not it.refusal])
+reveal_type([it.refusal for it in capvet.read_messages(socket.socket().makefile("rb", buffering=0)) if it.data is None])
+capvet.vet("text")
+capvet.vet(None)
+capvet.read_messages("name")
+capvet.MessageFeed().feed("text")
+[it.report.charge for it in capvet.messages(b"")]
+"""
+
+
+def typed(python, folder):
+    """mypy finds no fault in the package, in each program of the pages, and in the examples; and it finds the faults above."""
+    if missing("the type hints of the package for Python", "mypy"):
+        return
+    programs = folder / "programs"
+    programs.mkdir()
+    for page in ("docs/python.md", "docs/scale.md", "bindings/python/README.md"):
+        blocks = re.findall(r"^```python\n(.*?)^```$", (TOP / page).read_text(), re.M | re.S)
+        for number, block in enumerate(blocks):
+            name = re.sub(r"\W", "_", page) + f"_{number}.py"
+            (programs / name).write_text("message = b''\n" * ("vet(message)" in block and "message =" not in block) + block)
+    compare("the pages have programs", True, len(list(programs.iterdir())) >= 6)
+    # (Dask would be looked through for half a minute, and has few types)
+    (folder / "mypy.ini").write_text("[mypy]\n[mypy-distributed.*,fsspec.*]\nfollow_imports = skip\n")
+    command = ["mypy", "--strict", "--ignore-missing-imports", "--config-file", folder / "mypy.ini", "--cache-dir", folder / "mypy",
+               "--python-executable", python]
+    for what in (["-p", "capvet"], [programs], sorted((TOP / "examples/python").glob("*.py"))):
+        text, status = run([*command, *what], cwd=folder)
+        compare(f"mypy --strict of {what}", (0, True), (status, text.startswith("Success")))
+        if status:
+            print(text)
+    (folder / "wrong.py").write_text(WRONG)
+    text, status = run([*command, "wrong.py"], cwd=folder)
+    found = re.findall(r"^wrong.py:(\d+): (?:error|note): (?:Revealed type is \"(.*)\"|.*)$", text, re.M)
+    kinds = {2: "builtins.list[capvet.reports.Report]", 3: "builtins.list[builtins.memoryview]",
+             4: "builtins.list[capvet.errors.Refusal]"}
+    wanted = {(str(number), kinds.get(number, "")) for number in range(2, 10)}
+    compare("mypy of what is wrong", (1, wanted), (status, set(found)))
 
 
 def instructions(command):
@@ -127,7 +168,7 @@ def from_sources(python, folder, prefix):
         ("by CAPVET_LIB_DIR", {"CAPVET_LIB_DIR": str(prefix / "lib"), "PKG_CONFIG_LIBDIR": str(nothing)}, None),
         ("without the library", {"CAPVET_LIB_DIR": str(nothing)}, f"capvet: there is no file {nothing}/libcapvet.a"),
         ("without capvet.pc", {"PKG_CONFIG_PATH": str(nothing), "PKG_CONFIG_LIBDIR": str(nothing)},
-         "capvet: libcapvet.a was not found ("),
+         "capvet: libcapvet.a was not found (Package capvet was not found in the pkg-config search path."),
     ):
         at = folder / name.replace(" ", "-")
         shutil.copytree(sources, at)
@@ -138,6 +179,63 @@ def from_sources(python, folder, prefix):
         if line is None and status == 0:
             said = run([python, "-c", "import capvet; print(capvet.vet(bytes([0, 0, 0, 0, 1] + [0] * 11)).pointers)"], cwd=folder)
             compare(f"the package {name}", ("1\n", 0), said)
+
+
+def editable(python, folder, prefix):
+    """pip installs the package in place. Git leaves the module alone that it builds there."""
+    shutil.copytree(TOP / "bindings/python", folder, ignore=shutil.ignore_patterns("build", "*.egg-info", "__pycache__", "*.so"))
+    variables = {**os.environ, "PKG_CONFIG_PATH": str(prefix / "lib/pkgconfig")}
+    compare("pip install -e", ("", 0), run([python, *PIP, "install", "-q", "--no-build-isolation", "--no-index", "--no-deps",
+                                            "--force-reinstall", "-e", folder], env=variables, cwd=folder))
+    said = run([python, "-c", "import capvet._capvet as it; print(it.__file__)"], cwd=folder.parent)
+    compare("the module in place", (True, 0), (said[0].startswith(str(folder / "capvet/_capvet.")), said[1]))
+    if (TOP / ".git").exists() and not missing("what git sees of an editable install", "git"):
+        name = Path(said[0].strip()).name
+        compare("git", 0, run(["git", "check-ignore", "-q", f"bindings/python/capvet/{name}"], cwd=TOP)[1])
+
+
+def source_distribution(python, folder, prefix):
+    """A source distribution is made without the library. pip builds it over an installed one, and its own tests pass."""
+    copied = shutil.ignore_patterns("build", "*.egg-info", "__pycache__", "*.so", "target")
+    for part in ("bindings/python", "examples", "include", "tests"):
+        shutil.copytree(TOP / part, folder / part, ignore=copied)
+    made, nothing = folder / "made", folder / "nothing"
+    nothing.mkdir()
+    variables = {**os.environ, "PKG_CONFIG_LIBDIR": str(nothing), "PKG_CONFIG_PATH": str(nothing), "CAPVET_LIB_DIR": ""}
+    build = "import sys, setuptools.build_meta as it; it.build_sdist(sys.argv[1])"
+    text, status = run([python, "-c", build, made], cwd=folder / "bindings/python", env=variables)
+    names = [file.name for file in made.glob("*")]
+    compare("a source distribution, without the library", (0, [f"capvet-{VERSION}.tar.gz"]), (status, names))
+    if status:
+        print(text)
+        return None
+    archive = made / names[0]
+    variables = {**os.environ, "PKG_CONFIG_PATH": str(prefix / "lib/pkgconfig")}
+    compare("pip install of it", ("", 0), run([python, *PIP, "install", "-q", "--no-build-isolation", "--no-index", "--no-deps",
+                                               "--force-reinstall", archive], env=variables, cwd=folder))
+    with tarfile.open(archive) as files:
+        files.extractall(folder)
+    if IS_FULL and not missing("the tests of the source distribution", "pytest"):
+        variables = {**os.environ, "CAPVET_PROGRAM": str(prefix / "bin/capvet"), "CAPVET_CASES": "600", "CAPVET_CALLS": "10000"}
+        text, status = run([python, "-m", "pytest", "-q", "-p", "no:cacheprovider", "."], env=variables,
+                           cwd=folder / f"capvet-{VERSION}/tests")
+        compare("its tests", (0, True), (status, bool(re.search(r"^\d+ passed", text, re.M))))
+        if status:
+            print(text[-2000:])
+    return archive
+
+
+def described(folder, archives):
+    """What a registry shows of the packages."""
+    if not missing("what a registry shows of the wheel", "unzip"):
+        text = run(["unzip", "-p", archives[0], "capvet-*/METADATA"])[0]
+        lines = (f"Version: {VERSION}", "Author: The owner of the repository", "Requires-Dist: cffi ?\\(?>=1.15\\)?",
+                 "Requires-Python: >=3.9", ".*There is no licence yet: .*")
+        compare("the metadata", [], [line for line in lines if not re.search(f"^{line}$", text, re.M)])
+        compare("no licence that nobody has chosen", False, "\nLicense" in text)
+    if not missing("that a registry takes the packages for Python", "twine"):
+        text, status = run(["twine", "check", "--strict", *archives], cwd=folder)
+        compare("twine check", (0, len(archives)), (status, text.count("PASSED")))
 
 
 def shown(python, folder):
@@ -157,6 +255,8 @@ def shown(python, folder):
         (place / "build").mkdir()
         shutil.copy(ARCHIVE, place / "build/libcapvet.a")
         shutil.copy(PROGRAM, place / "build/capvet")
+        if (TOP / "build/inspector.html").exists():
+            shutil.copy(TOP / "build/inspector.html", place / "build")
         variables = {**os.environ, "HOME": str(place), "PATH": f"{folder / 'bin'}:{os.environ['PATH']}"}
         text, status = run(["sh", "-ec", block], cwd=place, env=variables)
         compare(f"docs/python.md, its commands {number}", (True, 0), (text.endswith(line), status))
@@ -169,19 +269,16 @@ def shown(python, folder):
     variables = {**os.environ, "PATH": f"{place / 'venv/bin'}:{os.environ['PATH']}"}
     for command, wanted in (it for language, text in blocks if language == "console"
                             for it in re.findall(r"^\$ (.*)\n((?:(?!\$ ).*\n)*)", text, re.M)):
-        if "jq" in command and missing(f"docs/python.md: {command}", "jq"):
+        needed = ["jq"] * ("jq" in command) + ["esbuild"] * (" map " in command)
+        if missing(f"docs/python.md: {command}", *needed):
             continue
         compare(f"docs/python.md: {command}", wanted, run(["bash", "-c", command], cwd=place, env=variables)[0])
-    block = "import capvet\nmessage = open('examples/contacts.bin', 'rb').read()\n" + re.search(
-        r"^```python\n(.*?)^```$", (TOP / "README.md").read_text(), re.M | re.S)[1]
-    text, status = run([place / "venv/bin/python", "-c", block], cwd=place)
-    compare("the README's program in Python", (4, 0), (text.count("Report("), status))
 
 
 def main():
-    python = interpreter(BUILDERS)
-    if python is None or missing("the package for Python", "cc") or missing("the package for Python", "pkg-config"):
-        return install.ended()
+    if missing("the package for Python", "wheel", "cc", "pkg-config"):
+        return ended()
+    python = python_with(MODULES["wheel"][0])
     with tempfile.TemporaryDirectory() as scratch:
         folder = Path(scratch)
         prefix = folder / "x"
@@ -190,13 +287,21 @@ def main():
         if wheel is not None:
             installed = environment(python, folder / "fresh")
             compare("pip install of the wheel", ("", 0), run([installed, *PIP, "install", "-q", "--no-index", wheel], cwd=folder))
-            needs(installed, folder)
+            links(installed, folder)
+            typed(installed, folder)
+            on_processors(installed, folder)
             tested(installed, folder)
             if IS_FULL:
                 cost_of_a_call(installed, folder)
         shown(python, folder / "shown")
-        from_sources(environment(python, folder / "other"), folder, prefix)
-    return install.ended()
+        other = environment(python, folder / "other")
+        from_sources(other, folder, prefix)
+        if IS_FULL:
+            editable(other, folder / "editable", prefix)
+        archive = source_distribution(other, folder / "sdist", prefix)
+        if wheel and archive:
+            described(folder, [wheel, archive])
+    return ended()
 
 
 if __name__ == "__main__":

@@ -6,7 +6,7 @@
 A message is strict if it is accepted, has at most 511 segments, and no pointer that a path reaches is of one of three
 constructs that a reader fails on. 20,000 messages of fixed seeds are changed, or 200,000 with --full. Each strict one
 is read under the limits that the guide gives for a reader. No reading may fail. The readers have to find the bytes, the
-pointers and the capabilities that a model here finds, and to make the canonical copy that the program makes.
+pointers and the capabilities that tests/model.py finds, and to make the canonical copy that the program makes.
 
 Messages of the C++ library's own encoder, and those under examples/, have to be strict and unamplified. What is not strict
 has to be refused by the option --strict, with the reason, the place and the count of the model. The option --unamplified has
@@ -17,7 +17,6 @@ What isn't installed is said in a line of its own. The last line is 'N passed, M
 import random
 import shutil
 import struct
-import subprocess
 import sys
 import tempfile
 from collections import Counter, defaultdict
@@ -25,13 +24,15 @@ from dataclasses import dataclass
 from itertools import zip_longest
 from pathlib import Path
 
+import model
 import trees
 from amount import cases
-from calls import TOP, made_up
+from harness import PROGRAM, TOP, ended, expect, framed, outputs, over_file, run
+from made import made_up
 from model import SLACK
+from needs import missing
 
 HERE = TOP / "tests/readers"
-BITS = (0, 1, 8, 16, 32, 64)
 MANY = cases(20_000, full=200_000)
 BATCH = 50_000
 CONTENTS = 30
@@ -40,36 +41,20 @@ WORDS = 65536
 # The smallest message of each construct, how many pointers are looked at, and the readers that fail on it or read it wrong.
 # The place that is named is 0:0 for each.
 CONSTRUCTS = {
-    "NullPad": ("0000000002000000 0a00000000000000 0000000000000000", 1, ("C++", "Rust")),
-    "EmptySegment": ("0200000001000000 0200000000000000 0600000001000000 0200000002000000 0000000000000000", 1, ("C++",)),
-    "CapabilityPad": ("0000000002000000 0a00000000000000 0300000000000000", 1, ("C++", "Rust")),
-    "ManySegments": ("ff01000001000000" + 256 * "0000000000000000" + " 0000000000000000", 0, ("C++", "Rust")),
+    "NullPad": ("0a00000000000000 0000000000000000", 1, ("C++", "Rust")),
+    "EmptySegment": ("0600000001000000 | 0200000002000000 0000000000000000 | ", 1, ("C++",)),
+    "CapabilityPad": ("0a00000000000000 0300000000000000", 1, ("C++", "Rust")),
+    "ManySegments": ("0000000000000000" + 511 * " | ", 0, ("C++", "Rust")),
 }
-passed = failed = 0
 
 
-def told(name, faults):
+def no_faults(name, faults):
     """A case, which fails if there are faults. The first few are shown."""
-    global passed, failed
     faults = list(faults)
-    passed, failed = passed + (not faults), failed + bool(faults)
-    if faults:
-        print(f"FAILED: {name}, {len(faults)} times", *faults[:3], sep="\n  ")
+    expect(name, not faults, f"{len(faults)} times", *faults[:3])
 
 
 # Messages, as lists of lists of words
-
-def framed(segments):
-    table = [len(segments) - 1, *map(len, segments)]
-    table += [0] * (len(table) % 2)
-    words = [word for segment in segments for word in segment]
-    return struct.pack(f"<{len(table)}I{len(words)}Q", *table, *words)
-
-
-def offset_of(word):
-    """The offset of a struct or list pointer, with its sign."""
-    return (word >> 2 & 0x3FFFFFFF) - (1 << 30 if word & 0x80000000 else 0)
-
 
 def near(word, offset):
     """The struct or list pointer with another offset."""
@@ -81,74 +66,33 @@ def far(segment, at, two_words=False):
 
 
 class Tree:
-    """What is to be found in an accepted message, by a walk in preorder: the place of each pointer, how many of them are
+    """What is to be found in an accepted message, by tests/model.py: the place of each pointer in preorder, how many of them are
     capabilities, the sum of all bytes, and the first pointer that isn't strict."""
 
     def __init__(self, segments):
         self.segments = segments
-        self.bytes = [struct.pack(f"<{len(words)}Q", *words) for words in segments]
-        self.places, self.caps, self.sum, self.lax = [], 0, 0, None
-        ahead = [(0, 0)]
-        while ahead:
-            self.places.append(ahead.pop())
-            below = self.object_at(*self.places[-1])
-            below.reverse()
-            ahead += below
-        if len(segments) > 511:
-            self.lax = "ManySegments at 0:0 pointers 0"
+        tree = model.vetted(segments, 1 << 28, 256)
+        self.places, self.caps, self.lax = [place for place, _ in tree.steps], tree.capabilities, None
+        self.sum = sum(sum(own_bytes(segments, found)) for _, found in tree.steps)
+        try:
+            model.strictly(segments, tree)
+        except model.Refused as fault:
+            form, segment, at, pointers = fault.args
+            self.lax = f"{'ManySegments' if form == 'MANY_SEGMENTS' else form} at {segment}:{at} pointers {pointers}"
 
-    def note(self, what):
-        """The last place is the first pointer that isn't strict, unless there was one before."""
-        segment, at = self.places[-1]
-        self.lax = self.lax or f"{what} at {segment}:{at} pointers {len(self.places)}"
 
-    def object_at(self, segment, at):
-        """The places of the pointers in the object that the pointer at a place leads to."""
-        word = self.segments[segment][at]
-        if word == 0:
-            return []
-        start = at + 1 + offset_of(word)
-        if word & 3 == 2:
-            pads, pad = self.segments[word >> 32], word >> 3 & 0x1FFFFFFF
-            if word & 4:
-                first, word = pads[pad:pad + 2]
-                segment, start = first >> 32, first >> 3 & 0x1FFFFFFF
-                if not self.segments[segment]:
-                    self.note("EmptySegment")
-            else:
-                segment, word = word >> 32, pads[pad]
-                start = pad + 1 + offset_of(word)
-                if word == 0:
-                    self.note("NullPad")
-                    return []
-                if word & 3 == 3:
-                    self.note("CapabilityPad")
-        if word & 3 == 3:
-            self.caps += 1
-            return []
-        if word & 3 == 0:
-            return self.struct_at(segment, start, word >> 32 & 0xFFFF, word >> 48)
-        return self.list_at(segment, start, word >> 32 & 7, word >> 35)
-
-    def struct_at(self, segment, start, data, pointers):
-        self.add(segment, start, 8 * data)
-        return [(segment, at) for at in range(start + data, start + data + pointers)]
-
-    def list_at(self, segment, start, code, size):
-        if code == 6:
-            return self.struct_at(segment, start, 0, size)
-        if code == 7:
-            tag = self.segments[segment][start]
-            data, pointers = tag >> 32 & 0xFFFF, tag >> 48
-            below = []
-            for at in range(start + 1, start + 1 + (tag >> 2 & 0x3FFFFFFF) * (data + pointers), data + pointers or 1):
-                below += self.struct_at(segment, at, data, pointers)
-            return below
-        self.add(segment, start, (BITS[code] * size + 7) // 8)
-        return []
-
-    def add(self, segment, start, count):
-        self.sum += sum(self.bytes[segment][8 * start:8 * start + count])
+def own_bytes(segments, found):
+    """The bytes of the values of an object: the data of structs, and the elements of other lists."""
+    words, count = segments[found.segment][found.start:found.start + found.words], None
+    if found.kind == "struct":
+        words = words[:found.sizes[0]]
+    elif found.kind == "structs":
+        elements, data, pointers = found.sizes
+        starts = range(1, 1 + elements * (data + pointers), data + pointers) if data else ()
+        words = [word for start in starts for word in words[start:start + data]]
+    else:
+        count = (model.ELEMENT_BITS[found.sizes[0]] * found.sizes[1] + 7) // 8 if found.kind == "list" else 0
+    return struct.pack(f"<{len(words)}Q", *words)[:count]
 
 
 # Changes of a message. Each is at one of its pointers.
@@ -178,14 +122,14 @@ def one_pad(segments, segment, at, chance):
     """A landing pad at the end of the segment: null, a capability, or the pointer, which leads to the same place."""
     words, pad = segments[segment], len(segments[segment])
     word = words[at]
-    moved = near(word, offset_of(word) + at - pad) if word & 3 < 2 and word else word
+    moved = near(word, trees.offset(word) + at - pad) if word & 3 < 2 and word else word
     words[at] = far(segment, pad)
     words.append(chance.choice((moved, moved, moved, 0, 3)))
 
 
 def two_pads(segments, segment, at, chance):
     """A landing pad of two words at the end of any segment. It leads to the same place, or to a place with a tag of zeros."""
-    word, start = segments[segment][at], at + 1 + offset_of(segments[segment][at])
+    word, start = segments[segment][at], at + 1 + trees.offset(segments[segment][at])
     to = chance.randrange(len(segments))
     segments[segment][at] = far(to, len(segments[to]), True)
     segments[to] += [far(segment, start & 0x1FFFFFFF), chance.choice((near(word, 0), near(word, 0), near(word, 0), 0))]
@@ -227,26 +171,20 @@ def changed(tree, chance):
 
 # Programs, and what they find
 
-def run(command, folder=TOP):
-    return subprocess.run([str(word) for word in command], capture_output=True, text=True, errors="replace", cwd=folder)
-
-
 def build(folder):
     """The programs over the libraries that are installed, by name. A line says what isn't."""
     programs = {}
-    flags = run(["pkg-config", "--cflags", "--libs", "capnp-rpc"]).stdout.split() if shutil.which("pkg-config") else []
-    if not flags or not shutil.which("c++"):
-        print("not tested, without libcapnp for pkg-config and a C++ compiler: strict messages by libcapnp")
-    else:
+    if not missing("strict messages by libcapnp", "c++", "pkg-config", "libcapnp"):
+        flags = run(["pkg-config", "--cflags", "--libs", "capnp-rpc"])[0].split()
         for name, file in (("C++", "read"), ("encoder", "encode")):
             command = ["c++", "-std=c++17", "-O2", "-Wall", "-Wextra", HERE / f"{file}.cpp", "-o", folder / file, *flags]
-            told(f"{file}.cpp", run(command).stderr.splitlines())
+            no_faults(f"{file}.cpp", run(command)[0].splitlines())
             programs[name] = folder / file
-    shutil.copytree(HERE / "rust", folder / "rust")
-    command = ["cargo", "build", "--quiet", "--release", "--offline", "--target-dir", "target"]
-    if not shutil.which("cargo") or run(command, folder / "rust").returncode:
-        print("not tested, without cargo and the crate capnp 0.14.11: strict messages by that crate")
-    else:
+    if not missing("strict messages by the crate capnp", "cargo", "rustc", "crate-capnp"):
+        shutil.copytree(HERE / "rust", folder / "rust")
+        command = ["cargo", "build", "--quiet", "--release", "--offline", "--target-dir", "target"]
+        text, status = run(command, cwd=folder / "rust")
+        no_faults("cargo build of the reader", text.splitlines() if status else [])
         programs["Rust"] = folder / "rust/target/release/read"
     return programs
 
@@ -269,24 +207,21 @@ class Accepted:
 
 
 class Tests:
-    def __init__(self, program, programs, folder):
-        self.program, self.path = program, folder / "input"
+    def __init__(self, programs):
         self.encoder = programs.pop("encoder", None)
         self.readers = programs
         self.counts = Counter()
 
     def lines(self, command, stream):
         """The lines that a command writes for a file of these bytes."""
-        self.path.write_bytes(stream)
-        return run([*command, self.path]).stdout.splitlines()
+        return over_file(command, stream)[0].decode(errors="replace").splitlines()
 
     def vet(self, stream, *options):
-        return self.lines([self.program, "vet", "--words", WORDS, *options], stream)
+        return self.lines([PROGRAM, "vet", "--words", str(WORDS), *options], stream)
 
     def copies(self, stream):
         """The words of the canonical copies of messages that have one, in hexadecimal."""
-        self.path.write_bytes(stream)
-        copies = subprocess.run([self.program, "canon", "--words", str(WORDS), self.path], capture_output=True).stdout
+        copies = over_file([PROGRAM, "canon", "--words", str(WORDS)], stream)[0]
         at = 0
         while at < len(copies):
             end = at + 8 + 8 * struct.unpack_from("<I", copies, at + 4)[0]
@@ -295,10 +230,10 @@ class Tests:
 
     def accepted(self, name, messages):
         """Those of the messages that are accepted. The model and the program have to agree about them."""
-        messages = [(segments, framed(segments)) for segments in messages]
+        messages = [(segments, framed(*segments)) for segments in messages]
         stream = b"".join(message for _, message in messages)
         plain, accepted, faults = self.vet(stream), [], []
-        told(f"{name}: a verdict for each", [len(plain)] if len(plain) != len(messages) else [])
+        no_faults(f"{name}: a verdict for each", [len(plain)] if len(plain) != len(messages) else [])
         verdicts = list(plain)
         for number, ((segments, message), verdict) in enumerate(zip(messages, plain)):
             _, _, word, *numbers = verdict.split()
@@ -310,14 +245,14 @@ class Tests:
                     faults.append(f"{message.hex()}: {verdict}, and not {len(tree.places)} and {tree.caps}")
                 if tree.lax:
                     verdicts[number] = f"message {number}: refused {tree.lax}"
-        told(f"{name}: the counts of the model", faults)
+        no_faults(f"{name}: the counts of the model", faults)
         bounded = self.bounded(messages)
         self.counts["amplified"] += sum(" accepted " in line and line != bounded[n] for n, line in enumerate(plain))
         # (where both apply, the word limit is what is named)
         both = [strict if " accepted " in line else line for strict, line in zip(verdicts, bounded)]
         for options, lines in (("--strict", verdicts), ("--unamplified", bounded), ("--strict --unamplified", both)):
             got = self.vet(stream, *options.split())
-            told(f"{name}: verdicts by {options}", [pair for pair in zip_longest(got, lines) if pair[0] != pair[1]])
+            no_faults(f"{name}: verdicts by {options}", [pair for pair in zip_longest(got, lines) if pair[0] != pair[1]])
         return accepted
 
     def bounded(self, messages):
@@ -326,7 +261,7 @@ class Tests:
         for number, (segments, message) in enumerate(messages):
             by_limit[min(WORDS, sum(map(len, segments)) + SLACK)].append((number, message))
         for words, group in by_limit.items():
-            lines = self.lines([self.program, "vet", "--words", words], b"".join(message for _, message in group))
+            lines = self.lines([PROGRAM, "vet", "--words", str(words)], b"".join(message for _, message in group))
             verdicts |= {number: f"message {number}:{line.partition(':')[2]}" for (number, _), line in zip(group, lines)}
         return [verdicts.get(number, "") for number in range(len(messages))]
 
@@ -346,8 +281,8 @@ class Tests:
         self.counts.update(it.tree.lax.split()[0] if it.tree.lax else "strict" for it in accepted)
         right, lines = self.read(strict)
         for reader, got in lines.items():
-            told(f"{name}: a line of {reader} for each", [len(got)] if len(got) != len(strict) else [])
-            told(f"{name}: {reader} reads strict messages", [
+            no_faults(f"{name}: a line of {reader} for each", [len(got)] if len(got) != len(strict) else [])
+            no_faults(f"{name}: {reader} reads strict messages", [
                 f"{it.message.hex()}\n    {line}\n    {expected}"
                 for it, line, expected in zip(strict, got, right) if line != expected])
         return strict
@@ -355,24 +290,24 @@ class Tests:
     def constructs(self):
         """Each construct alone: its name, place and count. `compare` would notice what readers make of it."""
         for name, (text, pointers, failing) in CONSTRUCTS.items():
-            accepted = self.accepted(name, [next(trees.messages(bytes.fromhex(text)))])
-            told(f"{name}: accepted, and not strict", {it.tree.lax for it in accepted} ^ {f"{name} at 0:0 pointers {pointers}"})
+            accepted = self.accepted(name, [next(trees.messages(framed(text)))])
+            no_faults(f"{name}: accepted, and not strict", {it.tree.lax for it in accepted} ^ {f"{name} at 0:0 pointers {pointers}"})
             right, lines = self.read(accepted)
             for reader, got in lines.items():
-                told(f"{name}: {reader} reads it", [got] if (got == right) == (reader in failing) else [])
+                no_faults(f"{name}: {reader} reads it", [got] if (got == right) == (reader in failing) else [])
 
     def of_encoders(self):
         """The messages under examples/ but the cycle, and those of the library's encoder. All are strict and unamplified."""
         files = [path for path in sorted((TOP / "examples").glob("*.bin")) if path.name != "cycle.bin"]
         messages = [message for path in files for message in trees.messages(path.read_bytes())]
         if self.encoder:
-            encoded = list(trees.messages(subprocess.run([self.encoder, str(CONTENTS)], capture_output=True).stdout))
-            told("messages of the encoder", [len(encoded)] if len(encoded) < 200 else [])
-            told("their segments", set(range(1, 21)) ^ {len(segments) for segments in encoded})
+            encoded = list(trees.messages(outputs([self.encoder, str(CONTENTS)])[0]))
+            no_faults("messages of the encoder", [len(encoded)] if len(encoded) < 200 else [])
+            no_faults("their segments", set(range(1, 21)) ^ {len(segments) for segments in encoded})
             messages += encoded
         strict = self.compare("messages of encoders", messages)
-        told("messages of encoders that aren't strict", [len(strict)] if len(strict) != len(messages) else [])
-        told("messages of encoders that are amplified", (it.message.hex() for it in strict if it.charge > it.words() + SLACK))
+        no_faults("messages of encoders that aren't strict", [len(strict)] if len(strict) != len(messages) else [])
+        no_faults("messages of encoders that are amplified", (it.message.hex() for it in strict if it.charge > it.words() + SLACK))
         return [it.tree for it in strict]
 
     def many(self, bases, count):
@@ -386,20 +321,18 @@ class Tests:
                         for _ in range(min(BATCH, count - batch))]
             self.compare(f"messages {batch} to {batch + len(messages) - 1}", messages)
         for name in CONSTRUCTS:
-            told(f"{name} occurs", [self.counts[name]] if 2000 * self.counts[name] < count else [])
-        told("strict messages occur", [self.counts["strict"]] if 4 * self.counts["strict"] < count else [])
-        told("amplified messages occur", [self.counts["amplified"]] if 2000 * self.counts["amplified"] < count else [])
+            no_faults(f"{name} occurs", [self.counts[name]] if 2000 * self.counts[name] < count else [])
+        no_faults("strict messages occur", [self.counts["strict"]] if 4 * self.counts["strict"] < count else [])
+        no_faults("amplified messages occur", [self.counts["amplified"]] if 2000 * self.counts["amplified"] < count else [])
         print(f"readers: {dict(self.counts)}, the strict ones read by {', '.join(self.readers) or 'none'}")
 
 
 def main():
-    program = Path(sys.argv[1]).resolve()
     with tempfile.TemporaryDirectory() as folder:
-        tests = Tests(program, build(Path(folder)), Path(folder))
+        tests = Tests(build(Path(folder)))
         tests.constructs()
         tests.many(tests.of_encoders(), MANY)
-    print(f"{passed} passed, {failed} failed")
-    return 1 if failed else 0
+    return ended()
 
 
 if __name__ == "__main__":

@@ -16,8 +16,9 @@ import sys
 import tempfile
 from pathlib import Path
 
-TOP = Path(__file__).resolve().parent.parent
-PROGRAM = Path(sys.argv[1] if len(sys.argv) > 1 else TOP / "build/capvet").resolve()
+from harness import PROGRAM, TOP, ended, expect, framed, outputs
+from packing import packed
+
 KIT = Path(shutil.which("rt") or "/").resolve().parent.parent
 # This machine's C compiler, or else the one that the kit links programs with.
 COMPILERS = (
@@ -26,17 +27,6 @@ COMPILERS = (
 )
 # More allocations than any run makes.
 MOST = 20000
-passed = failed = 0
-
-
-def count(name, holds, text, cases=1):
-    """Counts cases, and prints them where they failed."""
-    global passed, failed
-    if holds:
-        passed += cases
-    else:
-        failed += cases
-        print(f"FAILED: {name}: {text}")
 
 
 def library(folder):
@@ -53,17 +43,16 @@ def run(words, stream, refusing, number):
     """What the program wrote and its status, and whether the allocation of this number was refused."""
     told, tell = os.pipe()
     environment = {"LD_PRELOAD": str(refusing), "REFUSE": str(number), "TELL": str(tell)}
-    ran = subprocess.run([PROGRAM, *words], input=stream, stdout=subprocess.PIPE, stderr=subprocess.PIPE, cwd=TOP,
-                         env=environment, pass_fds=[tell], timeout=60)
+    got = outputs([PROGRAM, *words], stream, env=environment, pass_fds=[tell])
     os.close(tell)
     with open(told, "rb") as pipe:
-        return (ran.stdout, ran.stderr, ran.returncode), pipe.read() != b""
+        return got, pipe.read() != b""
 
 
 OUT_OF_MEMORY = (b"", b"capvet: out of memory\n", 3)
 
 
-def expect(command, stream, refusing, texts=()):
+def refuse(command, stream, refusing, texts=()):
     """Each allocation of a command refused in turn. Where it holds messages, a run is out of memory for one after each
     of these texts."""
     words = command.split()
@@ -75,33 +64,32 @@ def expect(command, stream, refusing, texts=()):
         if not was_refused:
             break
         ended.setdefault(end, []).append(number)
-    count(f"capvet {command}", end == whole and not was_refused, f"wanted {whole} in the end, got {end}")
+    expect(f"capvet {command}", end == whole and not was_refused, f"wanted {whole} in the end, got {end}")
     for end, numbers in ended.items():
-        count(f"capvet {command}, allocations {numbers}", end in (whole, *wants), f"got {end}", len(numbers))
+        expect(f"capvet {command}, allocations {numbers}", end in (whole, *wants), f"got {end}", cases=len(numbers))
     for end in wants:
-        count(f"capvet {command}", end in ended, f"never ended with {end}")
+        expect(f"capvet {command}", end in ended, f"never ended with {end}")
     print(f"capvet {command}: {number - 1} allocations refused", flush=True)
 
 
 # A null root, and two pointers to one struct: the second message needs a larger buffer. Their packed encoding.
-NULL = bytes.fromhex("00000000010000000000000000000000")
-SHARED = bytes.fromhex("00000000040000000000000000000200040000000100000000000000010000000700000000000000")
-PACKED = bytes.fromhex("100100001004400211040110010107")
+NULL = framed("0000000000000000")
+SHARED = framed("0000000000000200 0400000001000000 0000000001000000 0700000000000000")
+PACKED = packed(NULL + SHARED)
 
 with tempfile.TemporaryDirectory() as folder:
     refusing = library(folder)
-    for command in ("vet", "vet --exclusive", "filter", "filter --exclusive", "dump", "get /p1", "check", "canon"):
+    for command in ("vet", "vet --exclusive", "explain", "explain --exclusive", "filter", "filter --exclusive", "dump", "get /p1", "check", "canon"):
         first, _ = run(command.split(), NULL, refusing, 0)
-        expect(command, NULL + SHARED, refusing, (b"", first[0]))
+        refuse(command, NULL + SHARED, refusing, (b"", first[0]))
     first, _ = run(["vet"], NULL, refusing, 0)
-    expect("vet --packed", PACKED, refusing, (b"", first[0]))
-    expect("vet examples/contacts.bin", b"", refusing, (b"",))
+    refuse("vet --packed", PACKED, refusing, (b"", first[0]))
+    refuse("vet examples/contacts.bin", b"", refusing, (b"",))
     # These hold nothing of a message, or read none.
-    expect("segments", NULL + SHARED, refusing)
-    expect("pack", NULL + SHARED, refusing)
-    expect("unpack", PACKED, refusing)
+    refuse("segments", NULL + SHARED, refusing)
+    refuse("pack", NULL + SHARED, refusing)
+    refuse("unpack", PACKED, refusing)
     for command in ("help vet", "vet --depth 257", "vat", "get /p01", "vet examples/missing.bin"):
-        expect(command, b"", refusing)
+        refuse(command, b"", refusing)
 
-print(f"{passed} passed, {failed} failed")
-sys.exit(failed > 0)
+sys.exit(ended())

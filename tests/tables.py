@@ -783,7 +783,7 @@ MISTAKES = (
      "Usage: capvet vet --depth <N> [FILE]\n"),
     ("",
      "'capvet' requires a subcommand but one was not provided\n"
-     "  [subcommands: segments, vet, filter, dump, get, check, canon, pack, unpack, help]\n"
+     "  [subcommands: segments, vet, explain, filter, dump, get, check, canon, pack, unpack, help]\n"
      "\n"
      "Usage: capvet <COMMAND>\n"),
     ("vat",
@@ -815,7 +815,8 @@ MISTAKE_BEGINNINGS = (
     ("segments --strict", "error: unexpected argument '--strict' found"),
     ("pack --unamplified", "error: unexpected argument '--unamplified' found"),
     ("unpack --size 1", "error: unexpected argument '--size' found"),
-    ("filter --strict", "error: unexpected argument '--strict' found"),
+    ("filter --strict --allow-nonstrict", "error: the argument '--strict' cannot be used with '--allow-nonstrict'"),
+    ("filter --allow-amplified --unamplified", "error: the argument '--allow-amplified' cannot be used with '--unamplified'"),
     ("vet --allow-nonstrict", "error: unexpected argument '--allow-nonstrict' found"),
 )
 
@@ -855,6 +856,8 @@ NAMES = (
     ("vet --strict --exclusive --unamplified a", "a"),
     ("canon a --unamplified --packed --strict", "a"),
     ("filter --allow-nonstrict a --allow-amplified --packed --stop --pack --exclusive", "a"),
+    ("filter --strict a --unamplified", "a"),
+    ("filter --allow-amplified --strict a", "a"),
     ("get /p65535 some.bin --packed", "some.bin"),
     ("get --size=1 --words=2 --depth=3 /i4294967295 -", "-"),
     ("pack a", "a"),

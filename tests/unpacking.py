@@ -4,16 +4,15 @@ The streams are packed messages, cut into groups in many ways, packed texts of t
 bytes. Each is unpacked a piece at a time: the model says what a call leaves, and the next call begins with that. Some
 calls have other limits, bad ones, or a state that is not the one that was left. Compared are the answer, the bytes that
 were consumed, the required size, the state, each field of the report, and the whole buffer."""
-import shutil
 import struct
-import subprocess
-import tempfile
 from collections import Counter
-from pathlib import Path
 
 import model
 from amount import cases
-from model import ANSWERS, FIELDS, Limits, framed
+from harness import compare, expect, over_file, under_valgrind
+from made import made_up
+from model import ANSWERS, FIELDS, Limits, unframed
+from needs import missing
 
 # the answer, consumed, required, the state and the report, with the reserved fields
 REPLY = struct.Struct("<I2QQ2I2Q6Q4I4Q")
@@ -46,7 +45,7 @@ def is_state(state, out, limits):
     written, zeros, literal, *reserved = state
     if any(reserved) or max(zeros, literal) > 255 or (zeros and literal) or written % 8 or written > len(out):
         return False
-    return framed(out[:written], limits)[0] is None
+    return unframed(out[:written], limits)[0] is None
 
 
 def unpacked(data, out, state, limits):
@@ -59,7 +58,7 @@ def unpacked(data, out, state, limits):
         return result("BAD_LIMITS", 0, 0, state)
     out, (written, zeros, literal, *_), at = bytearray(out), state, 0
     while True:
-        message, fault = framed(bytes(out[:written]), limits)
+        message, fault = unframed(bytes(out[:written]), limits)
         answer, fields = ("OK", {}) if message is not None else fault
         if answer not in ("NO_MESSAGE", "TRUNCATED"):
             break
@@ -99,7 +98,31 @@ def packed(frame, chance):
     return text
 
 
-def streams(texts, made_up, made_text, changed_text, chance):
+def made_text(chance):
+    """A packed text of a few groups, whose last one is whole."""
+    text = b""
+    for _ in range(chance.randrange(12)):
+        tag = chance.choice((0, 0, 0xFF, chance.randrange(256), chance.randrange(256)))
+        more = chance.choice((0, 0, 1, 2, chance.randrange(8), 255 if chance.randrange(40) == 0 else 3))
+        if tag == 0:
+            text += bytes((0, more))
+        elif tag == 0xFF:
+            text += b"\xff" + chance.randbytes(8) + bytes((more,)) + chance.randbytes(8 * more)
+        else:
+            text += bytes((tag,)) + chance.randbytes(bin(tag).count("1"))
+    return text
+
+
+def changed_text(text, chance):
+    """The text with some bytes changed, left out or put between."""
+    text = bytearray(text)
+    for _ in range(chance.choice((1, 1, 2, 3))):
+        at, more = chance.randrange(len(text) + 1), chance.randrange(1, 9)
+        text[at:at + chance.choice((0, 1, 1, more))] = chance.randbytes(chance.choice((0, 1, 1, more)))
+    return bytes(text)
+
+
+def streams(texts, chance):
     """Packed streams: of messages, of their texts one after another, changed ones, and made ones."""
     small = [text for text in texts if len(text) < 300]
     # tables of more than 512 segments, of many words, and of just 512
@@ -158,52 +181,41 @@ def calls_over(text, chance):
             return
 
 
-def replies(program, calls):
-    """What C answers to these calls, from a program and its words, each as the model has it."""
-    with tempfile.TemporaryDirectory() as folder:
-        path = Path(folder) / "requests"
-        with path.open("wb") as file:
-            for (data, out, state, limits), _ in calls:
-                file.write(limits.packed() + struct.pack("<Q2I2Q2I", *state, len(data), len(out)) + data + out)
-        ran = subprocess.run([*program, path], capture_output=True)
-    found, at = [], 0
-    for (_, out, _, _), _ in calls:
-        if at + REPLY.size + len(out) > len(ran.stdout):
-            break
-        reply = REPLY.unpack_from(ran.stdout, at)
-        at += REPLY.size
-        found.append((*reply[:3], reply[3:8], reply[8:18], ran.stdout[at:at + len(out)], reply[18:]))
-        at += len(out)
-    return ran, found, at == len(ran.stdout)
+def described(calls):
+    """The calls as tests/c/unpacking.c reads them."""
+    return b"".join(limits.packed() + struct.pack("<Q2I2Q2I", *state, len(data), len(out)) + data + out
+                    for (data, out, state, limits), _ in calls)
 
 
-def compare(told, program, calls):
+def compare_calls(program, calls):
     """The calls beside the model, and how often each answer came."""
-    ran, found, is_all = replies([program], calls)
-    told("unpacking, with the compiler's checks", (ran.returncode, ran.stderr) == (0, b""), ran.stderr)
-    told("a reply to each call of unpacking", is_all and len(found) == len(calls), f"{len(found)}")
-    for (call, wanted), reply in zip(calls, found):
-        holds = reply[:-1] == wanted and not any(reply[-1])
-        told(lambda: f"unpacking {call}", holds, lambda: f"  {reply}\n  {wanted}")
+    replies, err, status = over_file([program], described(calls))
+    compare("unpacking, with the compiler's checks", (b"", 0), (err, status))
+    at, answers = 0, Counter()
+    for call, wanted in calls:
+        end = at + REPLY.size + len(call[1])
+        if end > len(replies):
+            break
+        reply, out = REPLY.unpack_from(replies, at), replies[end - len(call[1]):end]
+        holds = (*reply[:3], reply[3:8], reply[8:18], out) == wanted and not any(reply[18:])
+        expect(lambda: f"unpacking {call}", holds, lambda: f"{reply} {out}\n  {wanted}")
         most = 8 * call[3].message_words + 2056
-        told("the bound of a frame", reply[2] <= most, lambda: f"  {reply} is above {most}")
-    return Counter(reply[0] for reply in found)
+        expect("the bound of a frame", reply[2] <= most, lambda: f"{reply} is above {most}")
+        answers[reply[0]] += 1
+        at = end
+    expect("a reply to each call of unpacking", (answers.total(), at) == (len(calls), len(replies)), answers.total())
+    return answers
 
 
-def watch(told, watched, asking, calls):
-    """The same replies under valgrind, where that is installed."""
-    if watched is not None and shutil.which("valgrind"):
-        ran, wanted = (replies(program, calls)[0] for program in (["valgrind", "-q", "--error-exitcode=9", watched], [asking]))
-        told("unpacking, under valgrind", (ran.returncode, ran.stdout) == (0, wanted.stdout), ran.stderr)
-
-
-def test(told, asking, watched, texts, made_up, made_text, changed_text, chance):
-    source, answers, count = streams(texts, made_up, made_text, changed_text, chance), Counter(), 0
-    watch(told, watched, asking, [call for _ in range(500) for call in calls_over(next(source), chance)])
+def test(asking, watched, texts, chance):
+    source, answers, count = streams(texts, chance), Counter(), 0
+    first = [call for _ in range(500) for call in calls_over(next(source), chance)]
+    if watched is not None and not missing("packed streams, call by call under valgrind", "valgrind"):
+        under_valgrind("unpacking, under valgrind", watched, asking, described(first))
     for _ in range(STREAMS // 10_000):
         calls = [call for _ in range(10_000) for call in calls_over(next(source), chance)]
-        answers, count = answers + compare(told, asking, calls), count + len(calls)
+        answers, count = answers + compare_calls(asking, calls), count + len(calls)
     for name in ("OK", "NO_MESSAGE", "TOO_MANY_SEGMENTS", "TOO_LARGE", "TRUNCATED", "BAD_LIMITS", "BUFFER_TOO_SMALL"):
-        told(f"calls of unpacking that answer {name}", answers[ANSWERS[name]] >= LEAST, f"{answers[ANSWERS[name]]}")
-    told("no other answer of unpacking", len(answers) == 7, f"{answers}")
+        expect(f"calls of unpacking that answer {name}", answers[ANSWERS[name]] >= LEAST, f"{answers[ANSWERS[name]]}")
+    expect("no other answer of unpacking", len(answers) == 7, f"{answers}")
     print(f"calls: {count} calls over {STREAMS} packed streams compared with the model")

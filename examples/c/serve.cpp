@@ -105,7 +105,8 @@ void handle(capvet::Vetted &message) try {
 // Vets a message, and returns whether it was accepted.
 bool take(const Buffer &buffer) {
   capvet::Refusal refusal;
-  KJ_IF_MAYBE(message, capvet::tryVetted(buffer.bytes(), refusal, options)) {
+  auto vetted = capvet::tryVetted(buffer.bytes(), refusal, options);
+  if (auto *message = capvet::valueOf(vetted)) {
     handle(*message);
     return true;
   }

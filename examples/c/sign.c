@@ -85,8 +85,11 @@ static int sign_copy(EVP_PKEY *key, const uint8_t *bytes, size_t length) {
   if (answer != CAPVET_OK) {
     free(copy);
     if (answer == CAPVET_TRAILING) return fputs("sign: bytes follow the message\n", stderr), 1;
-    fprintf(stderr, "sign: no canonical form, %s at %" PRIu32 ":%" PRIu32 "\n", capvet_answer_name(answer), report.segment,
-            report.word);
+    fprintf(stderr, "sign: no canonical form, %s", capvet_answer_name(answer));
+    /* Without a frame there is no place, and a message of too many segments has none either. */
+    if (report.length != 0 && answer != CAPVET_MANY_SEGMENTS)
+      fprintf(stderr, " at %" PRIu32 ":%" PRIu32, report.segment, report.word);
+    fputc('\n', stderr);
     return 1;
   }
   good = sign(key, copy, required);

@@ -56,7 +56,7 @@ int main(int count, char **words) {
     capvet_answer answer = capvet_vet(bytes + at, length - at, &limits, &report);
     if (report.length == 0) {
       /* The start of the next message is unknown. */
-      fprintf(stderr, "vet: message %u: no frame, answer %" PRIu32 "\n", number, answer);
+      fprintf(stderr, "vet: message %u: no frame, %s\n", number, capvet_answer_name(answer));
       status = 1;
       break;
     }

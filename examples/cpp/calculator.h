@@ -34,7 +34,7 @@ class CalculatorServer final : public Calculator::Server {
 
   kj::Promise<void> rows(RowsContext context) override {
     const auto count = context.getParams().getCount();
-    KJ_REQUIRE(count <= 100'000, "too many rows");
+    KJ_REQUIRE(count <= 20'000, "too many rows");
     auto rows = context.getResults().initRows(count);
     for (uint32_t at = 0; at < count; at++) {
       rows[at].setId(at);

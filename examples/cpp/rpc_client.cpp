@@ -37,8 +37,10 @@ void call(Calculator::Client calculator, kj::WaitScope &scope) {
   store.setRows(received.getRows());
   print(kj::str("received ", received.getRows().size(), " rows, stored ", store.send().wait(scope).getCount()));
 
-  KJ_IF_MAYBE(exception, kj::runCatchingExceptions([&]() { calculator.failRequest().send().wait(scope); })) {
-    print(kj::str("failed: ", exception->getDescription()));
+  try {
+    calculator.failRequest().send().wait(scope);
+  } catch (const kj::Exception &exception) {
+    print(kj::str("failed: ", exception.getDescription()));
   }
 }
 

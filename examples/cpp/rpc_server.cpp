@@ -5,68 +5,49 @@
 //     c++ -std=c++17 rpc_server.cpp calculator.capnp.c++ $(pkg-config --cflags --libs capvet-kj) -o rpc_server
 //     ./rpc_server 127.0.0.1:0
 //
-// It prints its port, and then a line for each refused message. A refused message costs its sender the connection, and
-// no other one. It serves until it is stopped.
-#include <capnp/rpc-twoparty.h>
-#include <capvet/kj.h>
+// It prints its port, and then a line for each connection that it ends, with the peer and the reason. A refused message
+// costs its sender the connection, and no other one. A peer has SECONDS for each message, 20 unless it is the second
+// word of the command. It has three times as long to read one. It serves until it is stopped. The status is 3 if it
+// can't listen.
+#include <capvet/kj-server.h>
 #include <kj/async-io.h>
 
 #include <cstdio>
+#include <cstdlib>
 
 #include "calculator.h"
 
 namespace {
 
 // What a peer may send: 1 MiB, as many words of charge, 32 levels.
-const capvet::Options options{{1 << 17, 1 << 17, 32, 0, {0, 0}}, 1};
+capvet::ServerOptions optionsFor(long seconds) {
+  capvet::ServerOptions options;
+  options.messages.limits = {1 << 17, 1 << 17, 32, 0, {0, 0}};
+  options.messages.deadline = seconds * kj::SECONDS;
+  options.messages.unread = 3 * seconds * kj::SECONDS;
+  return options;
+}
 
 void printRefusal(const capvet::Refusal &refusal) {
-  std::puts(kj::str(refusal).cStr());
+  std::puts(kj::str(refusal.peer, " ", refusal).cStr());
   std::fflush(stdout);
 }
 
-// A connection. The stream and the network outlive what uses them.
-struct Connection {
-  Connection(kj::Own<kj::AsyncIoStream> accepted, capnp::Capability::Client service)
-      : stream(kj::mv(accepted)), rpc(capnp::makeRpcServer(network, kj::mv(service))) {}
-
-  kj::Own<kj::AsyncIoStream> stream;
-  capvet::VettingStream vetting{*stream, options, printRefusal};
-  capnp::TwoPartyVatNetwork network{vetting, capnp::rpc::twoparty::Side::SERVER};
-  capnp::RpcSystem<capnp::rpc::twoparty::VatId> rpc;
-};
-
-class Server final : private kj::TaskSet::ErrorHandler {
- public:
-  explicit Server(kj::ConnectionReceiver &listener) : listener(listener), tasks(*this) {}
-
-  // Accepts connections, and never ends.
-  kj::Promise<void> serve() {
-    return listener.accept().then([this](kj::Own<kj::AsyncIoStream> &&stream) {
-      auto connection = kj::heap<Connection>(kj::mv(stream), service);
-      auto ended = connection->network.onDisconnect();
-      tasks.add(ended.attach(kj::mv(connection)));
-      return serve();
-    });
-  }
-
- private:
-  void taskFailed(kj::Exception &&exception) override {
-    std::fprintf(stderr, "%s\n", exception.getDescription().cStr());
-  }
-
-  kj::ConnectionReceiver &listener;
-  capnp::Capability::Client service = kj::heap<CalculatorServer>();
-  kj::TaskSet tasks;
-};
+void printError(const kj::Exception &exception) { std::fprintf(stderr, "%s\n", exception.getDescription().cStr()); }
 
 }  // namespace
 
-int main(int count, char **words) {
-  if (count != 2) return std::fputs("usage: rpc_server ADDRESS\n", stderr), 2;
+int main(int count, char **words) try {
+  const long seconds = count == 3 ? std::atol(words[2]) : 20;
+  if (count < 2 || count > 3 || seconds < 1) return std::fputs("usage: rpc_server ADDRESS [SECONDS]\n", stderr), 2;
   auto io = kj::setupAsyncIo();
   auto listener = io.provider->getNetwork().parseAddress(words[1]).wait(io.waitScope)->listen();
   std::printf("%u\n", listener->getPort());
   std::fflush(stdout);
-  Server(*listener).serve().wait(io.waitScope);
+  capvet::Server server(kj::heap<CalculatorServer>(), io.provider->getTimer(), optionsFor(seconds), printRefusal,
+                        printError);
+  server.listen(*listener).wait(io.waitScope);
+} catch (const kj::Exception &exception) {
+  printError(exception);
+  return 3;
 }

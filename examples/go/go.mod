@@ -1,7 +1,7 @@
-module examples
+module capvet.invalid/examples
 
 go 1.19
 
-require capvet v0.0.0
+require capvet.invalid/capvet v0.0.0
 
-replace capvet => ../../bindings/go
+replace capvet.invalid/capvet => ../../bindings/go

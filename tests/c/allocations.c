@@ -78,8 +78,8 @@ static const struct {
 } CALLS[] = {{"capvet_frame", capvet_frame}, {"capvet_vet", capvet_vet}, {"capvet_is_canonical", capvet_is_canonical}};
 
 enum {
-  FRAME, VET, IS_CANONICAL, UNPACK, PACK, EXCLUSIVE, SEGMENT_AT, VET_SEGMENTS, GET, GET_RANGE, PACK_MESSAGE,
-  UNPACK_MESSAGE, COUNT
+  FRAME, VET, IS_CANONICAL, UNPACK, PACK, EXCLUSIVE, SEGMENT_AT, VET_SEGMENTS, GET, GET_RANGE, POINTER_PATH,
+  PACK_MESSAGE, UNPACK_MESSAGE, COUNT
 };
 
 /* How often each call gave each answer. */
@@ -88,7 +88,7 @@ static unsigned long seen[COUNT][64];
 static void answered(int call, unsigned long before, uint32_t answer) {
   static const char *const others[] = {"capvet_unpack", "capvet_pack", "capvet_vet_exclusive", "capvet_segment_at",
                                        "capvet_vet_segments", "capvet_get", "capvet_get_range",
-                                       "capvet_pack_message", "capvet_unpack_message"};
+                                       "capvet_pointer_path", "capvet_pack_message", "capvet_unpack_message"};
   const char *name = call >= UNPACK ? others[call - UNPACK] : CALLS[call].name;
   expect(taken == before, name, taken - before);
   if (answer < 64) seen[call][answer]++;
@@ -164,6 +164,24 @@ static void ranges(const uint8_t *bytes, size_t length) {
   }
 }
 
+/* The pointer that a verdict names or the last one, with and without capacity, and one that there isn't. */
+static void paths(const uint8_t *bytes, size_t length) {
+  capvet_step steps[CAPVET_MAX_DEPTH];
+  capvet_report report;
+  size_t required, room;
+  uint64_t number;
+  uint32_t answer = capvet_vet(bytes, length, &LIMITS[1], &report);
+  number = report.pointers;
+  for (room = 0; room <= CAPVET_MAX_DEPTH; room += CAPVET_MAX_DEPTH) {
+    unsigned long before = taken;
+    answer = capvet_pointer_path(bytes, length, &LIMITS[1], room == 0 ? number : number + 1, steps, room, &required, &report);
+    answered(POINTER_PATH, before, answer);
+    before = taken;
+    answer = capvet_pointer_path(bytes, length, &LIMITS[1], number, steps, room, &required, &report);
+    answered(POINTER_PATH, before, answer);
+  }
+}
+
 /* Each of the first two segments, and these as separate ones. */
 static void segments(const uint8_t *bytes, size_t length) {
   capvet_segment parts[2] = {{NULL, 0}, {NULL, 0}};
@@ -227,6 +245,7 @@ static void parts(const uint8_t *bytes, size_t length) {
     segments(bytes, at);
     nodes(bytes, at);
     ranges(bytes, at);
+    paths(bytes, at);
     messages(bytes, at);
     spells(UNPACK, capvet_unpack, bytes, at);
     spells(PACK, capvet_pack, bytes, at);
@@ -268,6 +287,10 @@ static const struct {
               {GET_RANGE, CAPVET_NO_NODE},
               {GET_RANGE, CAPVET_BAD_PATH},
               {GET_RANGE, CAPVET_TRUNCATED},
+              {POINTER_PATH, CAPVET_OK},
+              {POINTER_PATH, CAPVET_NO_NODE},
+              {POINTER_PATH, CAPVET_BUFFER_TOO_SMALL},
+              {POINTER_PATH, CAPVET_TRUNCATED},
               {PACK_MESSAGE, CAPVET_OK},
               {PACK_MESSAGE, CAPVET_BUFFER_TOO_SMALL},
               {PACK_MESSAGE, CAPVET_TRUNCATED},

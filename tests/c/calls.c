@@ -467,6 +467,8 @@ static void words(void) {
   EXPECT(capvet_is_canonical(whole + 1, 32, &l, &r) == CAPVET_OK && r.charge == 3, "is_canonical of words", r.charge);
   EXPECT(capvet_vet_exclusive(whole + 1, 32, &l, NULL, 0, &required, &r) == CAPVET_BUFFER_TOO_SMALL && required == 1,
          "vet_exclusive of words", required);
+  EXPECT(capvet_pack(NULL, 0, NULL, 0, &required) == CAPVET_OK && required == 0, "an empty result", required);
+  EXPECT(capvet_unpack(NULL, 0, NULL, 0, &required) == CAPVET_OK && required == 0, "no words of nothing", required);
   EXPECT(capvet_canonical(whole + 1, 32, &l, NULL, 0, &required, &r) == CAPVET_BUFFER_TOO_SMALL && required == 32,
          "canonical of words", required);
   EXPECT(capvet_vet(whole + 1, 31, &l, &r) == CAPVET_TRUNCATED && r.input_required == 32, "a part of a word", r.input_required);

@@ -1,24 +1,23 @@
-// Runs an RPC server over capvet::VettingStream, and one without it, on this machine alone.
+// Runs RPC servers with vetting in each way of host.h, and one without it, on this machine alone.
 //
 //     rpc same                      the results of calls by each server, over loopback
 //     rpc record                    the frames that a client sends for these calls, to standard output
 //     rpc attack FILE VALID         sends each message of FILE to a server with vetting, over loopback
 //     rpc streams                   file descriptors, refusals, limits and ends of a stream, in process
-//     rpc cost CALLS                the time of calls to each server, over a pipe in process
+//     rpc cost CALLS                the time of calls to each server, over a pipe in process and over loopback
 //     rpc calls SERVER KIND CALLS   these calls alone, so that another program can count their instructions
 //
-// SERVER is 'without', 'with' or 'around': a VettingStream of the connection, or one around another stream of messages.
+// SERVER is a name of host.h: 'without', 'with', 'around', 'bytes' or 'served'.
 // KIND is 'small' for a call with two numbers, or 'list' for one with 20,000 structs that each have a text.
 //
 // FILE has for each message its length in bytes (4 bytes, the lowest first), and then its frame. Each is sent on a
-// connection of its own, every third one after the frames of VALID. The servers 'with' and 'around' take turns. The
-// line of a message is the text of its refusal, or 'accepted', or 'not read' where libcapnp's own stream refuses the
-// frame. The last lines count exceptions by the file of libcapnp that they come from. Then the results of calls follow,
+// connection of its own, every third one after the frames of VALID. The servers with vetting take turns. The line of a
+// message is the text of its refusal, or 'accepted', or 'not read' where libcapnp's own stream refuses the frame, below
+// the VettingStream 'around' it. The last lines count exceptions by the file of libcapnp that they come from. Then the results of calls follow,
 // as for `same`.
 //
 // An exception from reading pointers or from limits is a line 'threw'. Those about what a schema expects are counted.
 #include <capnp/rpc-twoparty.h>
-#include <capvet/kj.h>
 #include <fcntl.h>
 #include <kj/async-io.h>
 #include <kj/debug.h>
@@ -33,7 +32,7 @@
 #include <string>
 #include <vector>
 
-#include "calculator.h"
+#include "host.h"
 
 namespace {
 
@@ -72,68 +71,35 @@ class Watch final : public kj::ExceptionCallback {
   }
 };
 
-// Whether a stream vets: not at all, as one of a connection, or as one around another stream.
-enum class Vetting { WITHOUT, WITH, AROUND };
-const char *const NAMES[] = {"without", "with", "around"};
-const Vetting ALL[] = {Vetting::WITHOUT, Vetting::WITH, Vetting::AROUND};
-
-// A connection to the server.
-struct Connection {
-  Connection(kj::Own<kj::AsyncIoStream> accepted, capnp::Capability::Client service, Vetting vetting,
-             capvet::VettingStream::OnRefused onRefused)
-      : stream(kj::mv(accepted)),
-        messages(streamOf(vetting, kj::mv(onRefused))),
-        network(*messages, Side::SERVER),
-        rpc(capnp::makeRpcServer(network, kj::mv(service))) {}
-
-  kj::Own<capnp::MessageStream> streamOf(Vetting vetting, capvet::VettingStream::OnRefused onRefused) {
-    const capvet::Options options;
-    if (vetting == Vetting::WITH) return kj::heap<capvet::VettingStream>(*stream, options, kj::mv(onRefused));
-    auto plain = kj::heap<capnp::AsyncIoMessageStream>(*stream);
-    if (vetting == Vetting::WITHOUT) return plain;
-    auto around = kj::heap<capvet::VettingStream>(*plain, options, kj::mv(onRefused));
-    return around.attach(kj::mv(plain));
-  }
-
-  kj::Own<kj::AsyncIoStream> stream;
-  kj::Own<capnp::MessageStream> messages;
-  capnp::TwoPartyVatNetwork network;
-  capnp::RpcSystem<VatId> rpc;
-};
-
-class Server final : private kj::TaskSet::ErrorHandler {
+// A server on loopback.
+class Server final {
  public:
-  Server(kj::AsyncIoProvider &provider, kj::WaitScope &scope, Vetting vetting)
-      : vetting(vetting),
+  Server(kj::AsyncIoProvider &provider, kj::WaitScope &scope, Way way)
+      : way(way),
         listener(provider.getNetwork().parseAddress("127.0.0.1").wait(scope)->listen()),
         address(provider.getNetwork().parseAddress(kj::str("127.0.0.1:", listener->getPort())).wait(scope)),
-        tasks(*this) {
-    tasks.add(serve());
-  }
+        host(provider.getTimer(), [this](const capvet::Refusal &refusal) { refused = kj::str(refusal).cStr(); }),
+        serving(serve().eagerlyEvaluate(print)) {}
 
   kj::Own<kj::AsyncIoStream> connect(kj::WaitScope &scope) { return address->connect().wait(scope); }
 
-  // How the connections after this are vetted.
-  Vetting vetting;
+  // How the connections after this are served.
+  Way way;
   std::string refused;
 
  private:
   kj::Promise<void> serve() {
     return listener->accept().then([this](kj::Own<kj::AsyncIoStream> &&stream) {
-      // (moved, since kj::Function keeps what has a name by reference)
-      auto onRefused = [this](const capvet::Refusal &refusal) { refused = kj::str(refusal).cStr(); };
-      auto connection = kj::heap<Connection>(kj::mv(stream), service, vetting, kj::mv(onRefused));
-      auto ended = connection->network.onDisconnect();
-      tasks.add(ended.attach(kj::mv(connection)));
+      host.serve(kj::mv(stream), way);
       return serve();
     });
   }
-  void taskFailed(kj::Exception &&exception) override { printf("task: %s\n", exception.getDescription().cStr()); }
+  static void print(kj::Exception &&exception) { printf("serving: %s\n", exception.getDescription().cStr()); }
 
   kj::Own<kj::ConnectionReceiver> listener;
   kj::Own<kj::NetworkAddress> address;
-  capnp::Capability::Client service = kj::heap<CalculatorServer>();
-  kj::TaskSet tasks;
+  Host host;
+  kj::Promise<void> serving;
 };
 
 // A client of one connection.
@@ -186,7 +152,7 @@ std::string resultsOf(Calculator::Client calculator, uint32_t calls, std::vector
             std::to_string(store.send().wait(scope).getCount());
   }
   auto failed = kj::runCatchingExceptions([&]() { calculator.failRequest().send().wait(scope); });
-  KJ_IF_MAYBE(exception, failed) { text += std::string(" failed ") + exception->getDescription().cStr(); }
+  if (auto *exception = capvet::valueOf(failed)) text += std::string(" failed ") + exception->getDescription().cStr();
   return text;
 }
 
@@ -196,13 +162,13 @@ void printResults(Server &server, kj::WaitScope &scope) {
   auto stream = server.connect(scope);
   capnp::AsyncIoMessageStream messages(*stream);
   Client client(messages);
-  const char *name = NAMES[static_cast<int>(server.vetting)];
+  const char *name = NAMES[static_cast<int>(server.way)];
   printf("%s: %s\n", name, resultsOf(client.calculator, 300, LISTS, scope).c_str());
 }
 
 int same(kj::AsyncIoContext &io) {
-  for (auto vetting : ALL) {
-    Server server(*io.provider, io.waitScope, vetting);
+  for (auto way : ALL) {
+    Server server(*io.provider, io.waitScope, way);
     printResults(server, io.waitScope);
   }
   return 0;
@@ -236,7 +202,7 @@ class Recorder final : public capnp::MessageStream {
 };
 
 int record(kj::AsyncIoContext &io) {
-  Server server(*io.provider, io.waitScope, Vetting::WITH);
+  Server server(*io.provider, io.waitScope, Way::WITH);
   auto stream = server.connect(io.waitScope);
   capnp::AsyncIoMessageStream messages(*stream);
   Recorder recorder(messages);
@@ -265,7 +231,7 @@ void send(Server &server, const Bytes &bytes, kj::AsyncIoContext &io) {
 }
 
 int attack(kj::AsyncIoContext &io, const char *path, const char *validPath) {
-  Server server(*io.provider, io.waitScope, Vetting::WITH);
+  Server server(*io.provider, io.waitScope, Way::WITH);
   const Bytes all = contentOf(path), valid = contentOf(validPath);
   Watch watch;
   unsigned number = 0;
@@ -277,14 +243,14 @@ int attack(kj::AsyncIoContext &io, const char *path, const char *validPath) {
     bytes.insert(bytes.end(), &all[at + 4], &all[at + 4] + length);
     at += 4 + length;
     server.refused.clear();
-    server.vetting = number % 2 == 0 ? Vetting::WITH : Vetting::AROUND;
+    server.way = VETTED[number % 4];
     const auto unread = watch.counts["serialize-async.c++"];
     send(server, bytes, io);
     const char *otherwise = watch.counts["serialize-async.c++"] > unread ? "not read" : "accepted";
     puts(server.refused.empty() ? otherwise : server.refused.c_str());
   }
   for (auto &[file, count] : watch.counts) printf("exceptions %s: %u\n", file.c_str(), count);
-  server.vetting = Vetting::WITH;
+  server.way = Way::WITH;
   printResults(server, io.waitScope);
   return 0;
 }
@@ -305,29 +271,22 @@ unsigned openFiles() {
   return count;
 }
 
-// Whether a reader is libcapnp's own.
-bool isOwn(capnp::MessageReader &reader) {
-  return dynamic_cast<capvet::VettedMessageReader<kj::Own<capnp::MessageReader>> *>(&reader) == nullptr &&
-         dynamic_cast<capvet::VettedMessageReader<kj::Array<capnp::word>> *>(&reader) == nullptr;
-}
-
-// A read of a stream: the words of its root, the file descriptors that came with it, its limits, and whether the reader
-// is libcapnp's own. Otherwise the exception, with its type unless that is FAILED.
+// A read of a stream: the words of its root, the file descriptors that came with it, and its limits. Otherwise the
+// exception, with its type unless that is FAILED.
 std::string read(capnp::MessageStream &stream, kj::ArrayPtr<kj::AutoCloseFd> fds, capnp::ReaderOptions options,
                  kj::WaitScope &scope) {
   std::string text;
   auto failed = kj::runCatchingExceptions([&]() {
     auto got = stream.tryReadMessage(fds, options).wait(scope);
     text = "ended";
-    KJ_IF_MAYBE(message, got) {
+    if (auto *message = capvet::valueOf(got)) {
       auto root = message->reader->getRoot<capnp::AnyPointer>().targetSize();
       auto limits = message->reader->getOptions();
       text = std::to_string(root.wordCount) + " words, " + std::to_string(message->fds.size()) + " files, limits " +
              std::to_string(limits.traversalLimitInWords) + " and " + std::to_string(limits.nestingLimit);
-      text += isOwn(*message->reader) ? ", own reader" : "";
     }
   });
-  KJ_IF_MAYBE(exception, failed) {
+  if (auto *exception = capvet::valueOf(failed)) {
     const bool is_failed = exception->getType() == kj::Exception::Type::FAILED;
     text = is_failed ? "" : kj::str(exception->getType(), ": ").cStr();
     text += exception->getDescription().cStr();
@@ -422,7 +381,7 @@ void readParts(const char *name, kj::ArrayPtr<const kj::ArrayPtr<const capnp::wo
   }
 }
 
-// Reads messages into a scratch space of four words, if they fit.
+// Reads messages into a scratch space of five words, if they fit.
 void readIntoScratch(kj::AsyncIoContext &io) {
   const auto word = wordsOf({0}), four = wordsOf({0, 0, 0, 0}), five = wordsOf({0, 0, 0, 0, 0}), empty = wordsOf({});
   for (auto kind : KINDS) {
@@ -430,12 +389,13 @@ void readIntoScratch(kj::AsyncIoContext &io) {
     auto pipe = io.provider->newCapabilityPipe();
     capnp::AsyncCapabilityMessageStream in(*pipe.ends[0]), out(*pipe.ends[1]);
     auto vetting = vettingBy(kind, *pipe.ends[0], in);
-    auto space = kj::heapArray<capnp::word>(4);
+    auto space = kj::heapArray<capnp::word>(5);
     for (auto segments : {std::vector<kj::ArrayPtr<const capnp::word>>{word}, {four}, {five}, {four, empty}}) {
       out.writeMessage(nullptr, kj::arrayPtr(segments.data(), segments.size())).wait(io.waitScope);
       auto reader = vetting->readMessage({}, space).wait(io.waitScope);
       const auto first = reader->getSegment(0);
-      printf(" %zu words %s;", first.size(), first.begin() == space.begin() ? "there" : "elsewhere");
+      const bool isThere = first.begin() >= space.begin() && first.end() <= space.end();
+      printf(" %zu words %s;", first.size(), isThere ? "there" : "elsewhere");
     }
     printf("\n");
   }
@@ -471,18 +431,34 @@ int streams(kj::AsyncIoContext &io) {
   return 0;
 }
 
-// A client and a server in one process, with a pipe between them.
+// The ends of a connection over loopback.
+kj::TwoWayPipe overLoopback(kj::AsyncIoContext &io) {
+  auto &network = io.provider->getNetwork();
+  auto listener = network.parseAddress("127.0.0.1").wait(io.waitScope)->listen();
+  auto address = network.parseAddress(kj::str("127.0.0.1:", listener->getPort())).wait(io.waitScope);
+  auto connecting = address->connect();
+  auto accepted = listener->accept().wait(io.waitScope);
+  return {{kj::mv(accepted), connecting.wait(io.waitScope)}};
+}
+
+// A client and a server in one process, with a pipe between them or a connection over loopback.
 struct Pair {
-  explicit Pair(Vetting vetting)
-      : pipe(kj::newTwoWayPipe()),
-        server(kj::mv(pipe.ends[0]), kj::heap<CalculatorServer>(), vetting, [](auto &) {}),
-        messages(*pipe.ends[1]),
-        client(messages) {}
+  Pair(Way way, bool isPipe, kj::AsyncIoContext &io)
+      : pipe(isPipe ? kj::newTwoWayPipe() : overLoopback(io)),
+        host(io.provider->getTimer(), capvet::ignore, timed(io.provider->getTimer())) {
+    host.serve(kj::mv(pipe.ends[0]), way);
+  }
+
+  static capvet::ServerOptions timed(kj::Timer &timer) {
+    capvet::ServerOptions options;
+    options.messages.timer = &timer;
+    return options;
+  }
 
   kj::TwoWayPipe pipe;
-  Connection server;
-  capnp::AsyncIoMessageStream messages;
-  Client client;
+  Host host;
+  capnp::AsyncIoMessageStream messages{*pipe.ends[1]};
+  Client client{messages};
 };
 
 // The nanoseconds that the process has run for. Those of other processes don't count.
@@ -535,9 +511,9 @@ class Calls {
 };
 
 // Alternates blocks of calls to the server without vetting and to another, and prints the median of the ratios.
-void compare(Vetting vetting, bool is_small, unsigned rounds, unsigned calls, kj::AsyncIoContext &io) {
+void compare(Way way, bool isPipe, bool is_small, unsigned rounds, unsigned calls, kj::AsyncIoContext &io) {
   Calls all(io.waitScope);
-  Pair plain(Vetting::WITHOUT), vetted(vetting);
+  Pair plain(Way::WITHOUT, isPipe, io), vetted(way, isPipe, io);
   std::vector<double> ratios, without, with;
   for (unsigned round = 0; round <= rounds; round++) {
     const bool is_first = round % 2;
@@ -552,23 +528,25 @@ void compare(Vetting vetting, bool is_small, unsigned rounds, unsigned calls, kj
     without.push_back(times[0]);
     with.push_back(times[1]);
   }
-  printf("%s, %s: ratio %.4f, %.0f ns without, %.0f ns with\n", is_small ? "small" : "list",
-         NAMES[static_cast<int>(vetting)], median(ratios), median(without), median(with));
+  printf("%s, %s, %s: ratio %.4f, %.0f ns without, %.0f ns with\n", isPipe ? "pipe" : "loopback",
+         is_small ? "small" : "list", NAMES[static_cast<int>(way)], median(ratios), median(without), median(with));
 }
 
 int cost(kj::AsyncIoContext &io, unsigned calls) {
-  for (auto vetting : {Vetting::WITH, Vetting::AROUND}) {
-    compare(vetting, true, 200, std::max(1u, calls / 200), io);
-    compare(vetting, false, std::max(1u, calls / 1000), 1, io);
+  for (auto isPipe : {true, false}) {
+    for (auto way : VETTED) {
+      compare(way, isPipe, true, 200, std::max(1u, calls / 200), io);
+      compare(way, isPipe, false, std::max(1u, calls / 1000), 1, io);
+    }
   }
   return 0;
 }
 
 int callsAlone(kj::AsyncIoContext &io, const std::string &server, const std::string &kind, unsigned calls) {
-  const auto vetting = std::find(std::begin(NAMES), std::end(NAMES), server) - std::begin(NAMES);
-  KJ_REQUIRE(vetting < 3 && (kind == "small" || kind == "list"), "no such server, or no such call");
+  const auto way = std::find(std::begin(NAMES), std::end(NAMES), server) - std::begin(NAMES);
+  KJ_REQUIRE(way < std::end(NAMES) - std::begin(NAMES) && (kind == "small" || kind == "list"), "no such server, or no such call");
   Calls all(io.waitScope);
-  Pair pair(ALL[vetting]);
+  Pair pair(ALL[way], true, io);
   for (unsigned at = 0; at < calls; at++) all.call(pair.client.calculator, kind == "small");
   return 0;
 }

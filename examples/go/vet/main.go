@@ -13,7 +13,7 @@ import (
 	"io"
 	"os"
 
-	"capvet"
+	"capvet.invalid/capvet"
 )
 
 func main() {
@@ -40,7 +40,7 @@ func vet(stream io.Reader) int {
 	s := capvet.NewScanner(stream, capvet.Limits{})
 	for s.Scan() {
 		if refusal := s.Refusal(); refusal != nil {
-			fmt.Printf("message %d: %v\n", s.Number(), refusal)
+			fmt.Printf("message %d: %s\n", s.Number(), refusal.Line())
 			status = 1
 			continue
 		}

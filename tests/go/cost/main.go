@@ -24,7 +24,7 @@ import (
 	"time"
 	"unsafe"
 
-	"capvet"
+	"capvet.invalid/capvet"
 )
 
 const (

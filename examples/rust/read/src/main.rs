@@ -6,9 +6,10 @@
 //!
 //! The status is 0 if the message is read, 1 if it is refused, 2 for a wrong command line, and 3 if the file can't be read.
 
-use capnp::any_pointer;
+use capnp::message::Reader;
+use capnp::{any_pointer, Result};
 use capvet::Limits;
-use std::error::Error;
+use capvet_capnp::Vetted;
 use std::process::ExitCode;
 use std::{env, fs};
 
@@ -31,21 +32,25 @@ fn main() -> ExitCode {
             return ExitCode::from(3);
         }
     };
-    match read(&bytes) {
+    match received(bytes).and_then(|message| words(&message)) {
         Ok(words) => {
             println!("accepted, {words} words in capnp");
             ExitCode::SUCCESS
         }
         Err(error) => {
-            eprintln!("read: {error}");
+            eprintln!("read: {}", error.description);
             ExitCode::from(1)
         }
     }
 }
 
+// The message, which owns its bytes.
+fn received(bytes: Vec<u8>) -> Result<Reader<Vetted<Vec<u8>>>> {
+    Ok(capvet_capnp::vetted(bytes, LIMITS)?.into_reader())
+}
+
 // The words of the tree below the root. With a schema the root is asked for as its type: `get_root::<book::Reader>()`.
-fn read(bytes: &[u8]) -> Result<u64, Box<dyn Error>> {
-    let message = capvet_capnp::reader(bytes, LIMITS)?;
+fn words(message: &Reader<Vetted<Vec<u8>>>) -> Result<u64> {
     let root = message.get_root::<any_pointer::Reader>()?;
     Ok(root.target_size()?.word_count)
 }

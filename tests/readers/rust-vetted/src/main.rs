@@ -6,18 +6,18 @@
 #[path = "../../rust/src/walk.rs"]
 mod walk;
 
-use capnp::message::Reader;
-use capnp::{any_pointer, Word};
-use capvet::Limits;
-use capvet_capnp::Segments;
+use capnp::message::{Reader, ReaderOptions};
+use capnp::{any_pointer, serialize, Word};
+use capvet::{Limits, Report};
+use capvet_capnp::Vetted;
 use std::fs::File;
 use std::io::{BufReader, BufWriter, Read, Write};
 use std::process::exit;
 
 /// What the readings of an accepted message find, under the limits for one reading, and then for four.
-fn readings(segments: &Segments<'_>) -> capnp::Result<String> {
-    let text = walk::walk(&Reader::new(segments, segments.least_options(1)), false)?;
-    let message = Reader::new(segments, segments.least_options(4));
+fn readings(vetted: &Vetted<&[u8]>) -> capnp::Result<String> {
+    let text = walk::walk(&Reader::new(vetted, vetted.least_options(1)), false)?;
+    let message = Reader::new(vetted, vetted.least_options(4));
     if walk::walk(&message, false)? != text || walk::walk(&message, true)? != text {
         return Ok(format!("two readings differ: {text}"));
     }
@@ -31,16 +31,37 @@ fn readings(segments: &Segments<'_>) -> capnp::Result<String> {
 /// The line of a message at this address.
 fn line(bytes: &[u8]) -> String {
     let limits = Limits::DEFAULT.charge(65_536);
-    match capvet_capnp::segments(bytes, limits) {
-        Err(error) => match capvet_capnp::reader(bytes, limits) {
-            Err(again) if again.to_string() == error.to_string() => error.to_string(),
-            _ => "segments refuses, and reader doesn't".into(),
-        },
-        Ok(segments) => match (readings(&segments), capvet_capnp::reader(bytes, limits)) {
-            (Ok(line), Ok(_)) => line,
-            (Err(error), _) => format!("threw {error}"),
-            (_, Err(error)) => format!("segments accepts, and reader says {error}"),
-        },
+    let verdict = capvet_capnp::vetted(bytes, limits);
+    if !agrees(bytes, limits, verdict.as_ref().map_err(ToString::to_string)) {
+        return "an owner of the bytes or its segments have another verdict".into();
+    }
+    match verdict {
+        Err(error) => error.to_string(),
+        Ok(vetted) => readings(&vetted).unwrap_or_else(|error| format!("threw {error}")),
+    }
+}
+
+/// Whether an owner of the same bytes, and the segments by the reader of `capnp`, have this verdict.
+fn agrees(bytes: &[u8], limits: Limits, verdict: Result<&Vetted<&[u8]>, String>) -> bool {
+    let owned = capvet_capnp::vetted(bytes.to_vec(), limits).map_err(|error| error.to_string());
+    let is_same = |report: &Report| match (&verdict, &owned) {
+        (Ok(one), Ok(other)) => {
+            one.report() == other.report() && one.report().charge == report.charge
+        }
+        _ => false,
+    };
+    // (that reader takes fewer segments, and none that are longer than its limit)
+    let mut options = ReaderOptions::new();
+    options.traversal_limit_in_words(None);
+    let separate = match serialize::read_message(bytes, options) {
+        Ok(message) => capvet_capnp::vet_segments(&message.into_segments(), limits),
+        Err(_) => return verdict.as_ref().err() == owned.as_ref().err(),
+    };
+    match separate {
+        Ok(report) => is_same(&report),
+        Err(error) => {
+            verdict.err() == Some(error.to_string()) && owned.err() == Some(error.to_string())
+        }
     }
 }
 

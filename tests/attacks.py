@@ -1,0 +1,408 @@
+#!/usr/bin/env python3
+"""Attacks servers of libcapnp's RPC that have capvet before it, on loopback.
+
+    attacks.py PROGRAM ARCHIVE [--full]
+
+There is a server for each way that include/capvet has: over `VettingStream`, over `VettingIoStream` below `TwoPartyServer`,
+and `capvet::Server` (tests/readers/served.cpp). After each attack a client gets the same results as before. The memory that
+the server has allocated is back within 10 %, and so are its descriptors.
+
+The attacks are: changed messages, each on a connection of its own; more idle connections than there are descriptors; peers
+that send a byte a second; frames that are cut, too large or of too many segments; peers that read no reply; a refused
+message after many calls at once; connections that end in half, or by a reset. Each refusal has to be reported, with the
+peer, the length of what came and the text of `capvet vet`.
+
+With --full there are more of each. What isn't installed is said in a line of its own. The last line is 'N passed, M failed',
+and the status is 1 if a case failed.
+"""
+import os
+import re
+import resource
+import shutil
+import socket
+import struct
+import subprocess
+import sys
+import tempfile
+import time
+from concurrent.futures import ThreadPoolExecutor
+from pathlib import Path
+
+import trees
+from amount import cases
+from before_readers import CPP, VALID, changed, refusals
+from harness import TOP, compare, ended, framed, run
+from install import make
+from needs import missing
+from readers import Tree
+
+WAYS = ("with", "bytes", "served")
+FLAGS = ("-std=c++17", "-O1", "-Wall", "-Wextra", "-Wpedantic", "-Wconversion", "-Werror")
+SECONDS = 60
+# What a server gives its peers, in seconds, and the slack for this machine.
+TIME, SLACK = cases(2, full=3), 20
+MUTATED = cases(150, full=20_000)
+IDLE, DESCRIPTORS = cases((150, 128), full=(1_100, 1_024))
+SLOW = cases(8, full=50)
+FRAMES = cases(8, full=100)
+CALLS = cases(2_000, full=20_000)
+# Calls with large replies, and the bytes of the rows in one.
+LARGE, REPLY = cases(100, full=300), 20_000 * 4 * 8
+CYCLE = (TOP / "examples/cycle.bin").read_bytes()
+CIRCLE = "refused DepthLimit at 0:0 pointers 33"
+
+
+class Server:
+    """A server of one way, and the lines that it prints."""
+
+    def __init__(self, folder, way, connections=100_000, paced=False, descriptors=4_096):
+        self.folder, self.way = folder, way
+        self.scratch = folder / f"way-{way}"
+        self.scratch.mkdir(exist_ok=True)
+        self.path = self.scratch / "lines"
+        words = [folder / "served", "serve", way, str(TIME), str(connections), str(int(paced))]
+        # (what glibc keeps for a thread would count as allocated)
+        environment = {**os.environ, "GLIBC_TUNABLES": "glibc.malloc.tcache_count=0"}
+        with open(self.path, "w") as lines:
+            self.process = subprocess.Popen(words, stdin=subprocess.PIPE, stdout=lines, text=True, env=environment)
+        resource.prlimit(self.process.pid, resource.RLIMIT_NOFILE, (descriptors, descriptors))
+        self.seen = 0
+        self.port = int(self.wait("", 1)[0])
+        self.results = self.call()
+        # (the first calls allocate what stays)
+        self.call()
+        self.before = self.memory()
+        self.files = self.open_files()
+
+    def __enter__(self):
+        return self
+
+    def __exit__(self, *_):
+        self.process.stdin.close()
+        compare(f"{self.way}: the server's status", 0, self.process.wait(SECONDS))
+
+    def lines(self, word):
+        """The whole lines so far that begin with a word."""
+        lines = self.path.read_text().splitlines(keepends=True)
+        return [line[:-1] for line in lines if line.endswith("\n") and line.startswith(word)]
+
+    def wait(self, word, count):
+        """The lines that begin with a word, when there are that many, or when the time is over."""
+        until = time.monotonic() + SECONDS
+        while len(self.lines(word)) < count and time.monotonic() < until:
+            time.sleep(0.01)
+        return self.lines(word)
+
+    def refused(self, count):
+        """The refusals since the last call: peer, length and text. Waits until there are so many."""
+        lines = self.wait("refused ", self.seen + count)[self.seen:]
+        self.seen += len(lines)
+        return [line.split(" ", 3)[1:] for line in lines]
+
+    def memory(self):
+        """The bytes that the server has allocated."""
+        count = len(self.lines("memory ")) + 1
+        self.process.stdin.write("\n")
+        self.process.stdin.flush()
+        line = self.wait("memory ", count)[-1]
+        self.counters = {name: int(number) for name, number in re.findall(r"([a-z][a-z ]*) (\d+)", line.partition("counters ")[2])}
+        return int(line.split()[1])
+
+    def open_files(self):
+        return len(os.listdir(f"/proc/{self.process.pid}/fd"))
+
+    def resident(self):
+        """The KiB that are resident."""
+        with open(f"/proc/{self.process.pid}/status") as status:
+            return next(int(line.split()[1]) for line in status if line.startswith("VmRSS"))
+
+    def call(self):
+        """What a client without vetting gets."""
+        return run([self.folder / "ez", "call", f"127.0.0.1:{self.port}"], timeout=SECONDS)
+
+    def connect(self):
+        peer = socket.create_connection(("127.0.0.1", self.port), timeout=SECONDS)
+        peer.setsockopt(socket.IPPROTO_TCP, socket.TCP_NODELAY, 1)
+        return peer
+
+    def survived(self, name):
+        """After an attack a client is served, and nothing is left of it."""
+        compare(f"{self.way}, after {name}: a client", self.results, self.call())
+        until = time.monotonic() + SLACK
+        while self.open_files() > self.files and time.monotonic() < until:
+            time.sleep(0.05)
+        compare(f"{self.way}, after {name}: descriptors", self.files, self.open_files())
+        now = self.memory()
+        compare(f"{self.way}, after {name}: {now} bytes after {self.before}", True, now <= 1.1 * self.before)
+
+
+def name_of(peer):
+    return "%s:%d" % peer.getsockname()
+
+
+def all_of(peer):
+    """What comes until the server ends the connection, and whether it does."""
+    text = []
+    try:
+        while part := peer.recv(1 << 16):
+            text.append(part)
+    except TimeoutError:
+        return b"".join(text), False
+    except ConnectionError:
+        pass
+    return b"".join(text), True
+
+
+def send(peer, data):
+    """Sends bytes. The server may end the connection before all are sent."""
+    try:
+        peer.sendall(data)
+    except ConnectionError:
+        pass
+
+
+def mutated(server, frames, valid):
+    """Changed messages, each on a connection of its own, every third one after valid ones."""
+    segments = changed([Tree(message) for message in trees.messages(frames)], MUTATED, 11)
+    messages = [framed(*it) for it in segments]
+    wanted, count = [], 0
+    texts = refusals(messages, server.scratch, "--size", "131072", "--words", "131072", "--depth", "32")
+    for number, (message, text) in enumerate(zip(messages, texts)):
+        with server.connect() as peer:
+            if text != "accepted":
+                wanted.append([name_of(peer), str(len(message)), text])
+            send(peer, (valid if number % 3 == 0 else b"") + message)
+            try:
+                peer.shutdown(socket.SHUT_WR)
+            except OSError:
+                pass
+            count += all_of(peer)[1]
+    compare(f"{server.way}: connections of changed messages that ended", len(messages), count)
+    # (calls in accepted messages may be anything, so their results can be too: only refusals are compared)
+    compare(f"{server.way}: refused messages", wanted, server.refused(len(wanted)))
+    server.survived(f"{len(messages)} changed messages, {len(wanted)} of them refused")
+
+
+def cut_and_large(server, valid):
+    """Frames that are cut, too large or of too many segments. Each one is reported."""
+    wanted = []
+    for number in range(FRAMES):
+        words = 3 + number % 2000
+        message = struct.pack("<II", 0, words) + bytes(8 * words)
+        length = 1 + (7 * number) % (len(message) - 1)
+        least = 8 if length < 8 else len(message)
+        for data, text, came in (
+                (message[:length], f"refused Truncated {least}, cut", length),
+                (struct.pack("<II", 0, 131073 + number), f"refused TooLarge {131073 + number}", 8),
+                (struct.pack("<II", 512 + number, 1), f"refused TooManySegments {513 + number}", 8),
+                (struct.pack("<II", 0xffffffff, 1), "refused TooManySegments 4294967296", 8)):
+            with server.connect() as peer:
+                wanted.append([name_of(peer), str(came), text])
+                send(peer, (valid if number % 3 == 0 else b"") + data)
+                if "cut" in text:
+                    peer.shutdown(socket.SHUT_WR)
+                compare(f"{server.way}: a connection with {text}", True, all_of(peer)[1])
+    compare(f"{server.way}: frames that are cut or too large", wanted, server.refused(len(wanted)))
+    server.survived("frames that are cut or too large")
+
+
+def idle(folder, way):
+    """More idle connections than the server has descriptors."""
+    with Server(folder, way, descriptors=DESCRIPTORS) as server:
+        peers = [server.connect() for _ in range(IDLE)]
+        time.sleep(0.5)
+        for peer in peers:
+            peer.close()
+        server.survived(f"{IDLE} idle connections under {DESCRIPTORS} descriptors")
+
+
+def slow(server):
+    """Peers that send a byte a second lose the connection at the deadline."""
+    peers = [server.connect() for _ in range(SLOW)]
+    names, begin = sorted(name_of(peer) for peer in peers), time.monotonic()
+    message = struct.pack("<II", 0, 100) + bytes(800)
+    dropped = {}
+    while len(dropped) < len(peers) and time.monotonic() < begin + TIME + SLACK:
+        at = int(time.monotonic() - begin)
+        for peer in peers:
+            if peer in dropped:
+                continue
+            peer.setblocking(False)
+            try:
+                if dropped.get((peer, at)) is None and peer not in dropped:
+                    peer.send(message[at:at + 1])
+                while peer.recv(4096):
+                    pass
+                dropped[peer] = time.monotonic() - begin
+            except BlockingIOError:
+                pass
+            except ConnectionError:
+                dropped[peer] = time.monotonic() - begin
+        time.sleep(1)
+    for peer in peers:
+        peer.close()
+    compare(f"{server.way}: slow peers that are dropped", len(peers), len(dropped))
+    compare(f"{server.way}: not before their time", True, min(dropped.values(), default=0) >= TIME)
+    got = server.refused(len(peers))
+    compare(f"{server.way}: slow peers that are reported", names, sorted(it[0] for it in got))
+    compare(f"{server.way}: their texts", {"late"}, {it[2].rpartition(", ")[2] for it in got})
+    print(f"{server.way}: {len(dropped)} peers at a byte a second were dropped after {max(dropped.values(), default=0):.1f} s at most")
+    server.survived(f"{SLOW} slow peers")
+
+
+def unread(folder, way, last):
+    """A peer that makes many calls with large replies, and reads nothing. It ends with a refused message, or in half, or
+    the server is paced and so reads few of the calls."""
+    calls = subprocess.run([folder / "served", "frames", str(LARGE), "20000"], capture_output=True, check=True).stdout
+    with Server(folder, way, paced=last == "paced") as server:
+        with server.connect() as peer:
+            peer.sendall(calls)
+            if last == "refused":
+                peer.sendall(CYCLE)
+            elif last == "ended":
+                peer.shutdown(socket.SHUT_WR)
+            name, most, begin = name_of(peer), 0, time.monotonic()
+            while server.open_files() == server.files and time.monotonic() < begin + SLACK:
+                time.sleep(0.01)
+            while server.open_files() > server.files and time.monotonic() < begin + TIME + SLACK:
+                most = max(most, server.memory())
+                time.sleep(0.05)
+            took = time.monotonic() - begin
+            compare(f"{way}, {last}: the peer that reads nothing is dropped", server.files, server.open_files())
+        line = [name, "16", CIRCLE] if last == "refused" else [name, "0", "dropped, unread"]
+        compare(f"{way}, {last}: its line", [line], server.refused(1))
+        if last == "paced":
+            compare(f"{way}: {most} bytes are held for a peer that reads nothing", True, most < LARGE * REPLY / 4)
+        print(f"{way}, {last}: a peer that read nothing was dropped after {took:.1f} s, with {most / 1e6:.1f} MB held at most "
+              f"for replies of {LARGE * REPLY / 1e6:.0f} MB")
+        server.survived(f"a peer that reads nothing, {last}")
+
+
+def replies_of(data):
+    """How many returned calls are among the messages of a server, and whether all are whole."""
+    count = 0
+    at = 0
+    while at + 8 <= len(data):
+        segments = struct.unpack_from("<I", data, at)[0] + 1
+        sizes = struct.unpack_from(f"<{segments}I", data, at + 4)
+        length = 8 * (segments // 2 + 1) + 8 * sum(sizes)
+        # (the union's tag of rpc::Message is the first 16 bits of the root's data; 3 is a return)
+        root = at + 8 * (segments // 2 + 1)
+        pointer = struct.unpack_from("<Q", data, root)[0]
+        offset = (pointer & 0xffffffff) >> 2
+        count += struct.unpack_from("<H", data, root + 8 + 8 * offset)[0] == 3
+        at += length
+    return count
+
+
+def pipelined(server):
+    """A refused message after many calls at once: all of them are answered. Then one amid of them."""
+    calls = subprocess.run([server.folder / "served", "frames", str(CALLS), "0"], capture_output=True, check=True).stdout
+    with server.connect() as peer, ThreadPoolExecutor(1) as other:
+        name, reading = name_of(peer), other.submit(all_of, peer)
+        send(peer, calls + CYCLE)
+        data, is_ended = reading.result(2 * SECONDS)
+    # (one return is for the bootstrap)
+    compare(f"{server.way}: calls that are answered before a refused message", (CALLS + 1, True), (replies_of(data), is_ended))
+    compare(f"{server.way}: the peer gets the reason", True, CIRCLE.encode() in data)
+    compare(f"{server.way}: its line", [[name, "16", CIRCLE]], server.refused(1))
+    with server.connect() as peer, ThreadPoolExecutor(1) as other:
+        name, reading = name_of(peer), other.submit(all_of, peer)
+        send(peer, calls + CYCLE + calls)
+        # (some replies may be lost, since the connection is closed with bytes that nobody reads)
+        compare(f"{server.way}: a refused message amid calls ends the connection", True, reading.result(2 * SECONDS)[1])
+    compare(f"{server.way}: its line, amid calls", [[name, "16", CIRCLE]], server.refused(1))
+    server.survived(f"a refused message after {CALLS} calls")
+
+
+def endings(server, valid):
+    """Connections that end in half after valid calls, or by a reset: between messages and inside of one."""
+    for number in range(FRAMES):
+        with server.connect() as peer:
+            send(peer, valid)
+            peer.shutdown(socket.SHUT_WR)
+            compare(f"{server.way}: a connection that ends in half", True, all_of(peer)[1])
+        for data in (valid, valid + CYCLE[:5 + number % 8], b""):
+            peer = server.connect()
+            send(peer, data)
+            peer.setsockopt(socket.SOL_SOCKET, socket.SO_LINGER, struct.pack("ii", 1, 0))
+            peer.close()
+    server.survived("connections that end in half or by a reset")
+    server.refused(0)
+
+
+def counted(server):
+    """The counters of capvet::Server, after all of this."""
+    server.memory()
+    lines = server.lines("refused ")
+    texts = [line.split(" ", 3)[3] for line in lines]
+    wanted = {"open": 0, "turned away": 0, "late": SLOW, "unread": 0, "refused": len(lines)}
+    compare("the counters", wanted, {name: number for name, number in server.counters.items() if name != "accepted"})
+    compare("late messages among the lines", SLOW, sum(text.endswith(", late") for text in texts))
+    compare("more connections are accepted than end by a refusal", True, server.counters["accepted"] > len(lines))
+
+
+def limited(folder):
+    """Connections above the limit of capvet::Server are closed at once. When others have ended, new ones are served."""
+    with Server(folder, "served", connections=5) as server:
+        peers = [server.connect() for _ in range(8)]
+        ended = [all_of(peer)[1] for peer in peers[5:]]
+        compare("connections above the limit are closed", [True] * 3, ended)
+        server.memory()
+        compare("the counters at the limit", (5, 3), (server.counters["open"], server.counters["turned away"]))
+        for peer in peers:
+            peer.close()
+        server.survived("connections above the limit")
+
+
+def build(folder):
+    """The servers and the client, or nothing without a compiler or libcapnp."""
+    if missing("attacks on servers of RPC", "c++", "pkg-config", "capnp", "libcapnp"):
+        return False
+    prefix = folder / "x"
+    compare("make install", ("", 0), make("install", folder, f"PREFIX={prefix}"))
+    environment = {**os.environ, "PKG_CONFIG_PATH": str(prefix / "lib/pkgconfig"), "PWD": str(folder)}
+    flags = run(["pkg-config", "--cflags", "--libs", "capvet-kj"], env=environment)[0]
+    for name in ("calculator.capnp", "calculator.h"):
+        shutil.copy(CPP / name, folder)
+    compare("capnp compile", ("", 0), run(["capnp", "compile", "-oc++", "calculator.capnp"], cwd=folder, env=environment))
+    for name in ("served", "ez", "rpc"):
+        command = ["c++", *FLAGS, "-I", folder, TOP / f"tests/readers/{name}.cpp", folder / "calculator.capnp.c++", *flags.split(),
+                   "-o", folder / name]
+        compare(f"c++ {name}.cpp", ("", 0), run(command))
+    return True
+
+
+def attacked(folder, way):
+    """All attacks on the servers of one way."""
+    frames = subprocess.run([folder / "rpc", "record"], capture_output=True, check=True, timeout=SECONDS).stdout
+    valid = b"".join([framed(*message) for message in trees.messages(frames)][:VALID])
+    with Server(folder, way) as server:
+        mutated(server, frames, valid)
+        cut_and_large(server, valid)
+        slow(server)
+        pipelined(server)
+        endings(server, valid)
+        if way == "served":
+            counted(server)
+    idle(folder, way)
+    for last in ("refused", "ended", "paced"):
+        unread(folder, way, last)
+    if way == "served":
+        limited(folder)
+
+
+def main():
+    most = resource.getrlimit(resource.RLIMIT_NOFILE)[1]
+    resource.setrlimit(resource.RLIMIT_NOFILE, (min(most, 8_192), most))
+    with tempfile.TemporaryDirectory() as scratch:
+        folder = Path(scratch)
+        if build(folder):
+            # (they mostly wait)
+            with ThreadPoolExecutor(len(WAYS)) as side_by_side:
+                list(side_by_side.map(attacked, [folder] * len(WAYS), WAYS))
+    return ended()
+
+
+if __name__ == "__main__":
+    sys.exit(main())

@@ -1,0 +1,127 @@
+#!/usr/bin/env python3
+"""Checks a change of one crate as far as it reaches, in a part of the time of `make test`.
+
+    check.py CRATE
+
+ 1. the proof of the crate, and its layout;
+ 2. the crates above that use it, and beside that their tests in Rattle, without a proof that these are safe;
+ 3. its must-fail edits, first those of files that have changed. What an earlier try refused counts, if it read the same;
+ 4. the scripts that its behaviour is in: those of the built program, or of the archive from C, or both.
+
+Each step takes all cores. Of what it writes only errors and warnings are shown, and the time that it took. The first step that
+fails is the last one, and then the status is 1. `make test` also has the packages, the bindings and the servers.
+"""
+import contextlib
+import io
+import os
+import re
+import resource
+import subprocess
+import sys
+import time
+from concurrent.futures import ThreadPoolExecutor
+
+import all as every
+import edits
+import prove
+
+# For the program and for the archive the scripts that show their behaviour.
+SCRIPTS = {prove.PROGRAM: ("program.py", "filter.py", "live.py", "readers.py", "pages.py"),
+           prove.ARCHIVE: ("calls.py", "header.py", "stack.py")}
+CORES = len(os.sched_getaffinity(0))
+# Lines of `rt` that matter in any case, and lines that don't even matter where it fails.
+LOUD = re.compile(r"\b(error|warning)\b|cannot be applied")
+QUIET = re.compile(r".*: proved$|(statements|library|crate|logic |axioms|by-macro)|.*(has a line that is not read|large solution)")
+
+
+def rt(folder, *words):
+    """Runs `rt` in a folder, and shows what matters of what it writes. Whether it ended well."""
+    ran = subprocess.run(["rt", *words], cwd=folder, stdin=subprocess.DEVNULL, stdout=subprocess.PIPE, stderr=subprocess.STDOUT,
+                         text=True, errors="replace")
+    for line in ran.stdout.splitlines():
+        if not QUIET.match(line) if ran.returncode else LOUD.search(line):
+            print(line)
+    return ran.returncode == 0
+
+
+def check(name):
+    """Checks the crate alone. Of a crate of tests it proves that they are safe."""
+    words = ["check", *["--test"] * prove.has_tests(name), "--jobs", str(CORES)]
+    return prove.has_layout([name]) and rt(prove.TOP / "crates" / name, *words)
+
+
+def prove_above(name):
+    """Proves the crates that use it, and runs their tests."""
+    above = prove.above(name)
+    tests = [it for it in above if prove.has_tests(it)]
+    return prove.prove_each([it for it in above if it not in tests], tests, rt)
+
+
+def changed():
+    """The files that have changed since the last commit, or else those that it changed."""
+    def listed(*words):
+        ran = subprocess.run(["git", *words], cwd=prove.TOP, stdout=subprocess.PIPE, stderr=subprocess.DEVNULL, text=True)
+        return ran.stdout.split()
+    now = listed("diff", "--name-only", "HEAD") + listed("ls-files", "--others", "--exclude-standard")
+    return now or listed("diff", "--name-only", "HEAD~1")
+
+
+def try_edits(name):
+    """Tries the edits of the crate, each group of them on one core. The kept work of each group begins with that of the crate."""
+    crate, files = prove.TOP / "crates" / name, changed()
+    def is_other(edit):
+        return not any(f"crates/{name}/{line.removeprefix('file: ').strip()}" in files for line in edit.read_text().splitlines()
+                       if line.startswith("file: "))
+    found = sorted(sorted(crate.glob("must-fail/*.edit")), key=is_other)
+    groups = [group for group in (found[at::CORES] for at in range(CORES)) if group]
+    with contextlib.redirect_stdout(io.StringIO()) as said, ThreadPoolExecutor(CORES) as cores:
+        counts = list(cores.map(lambda group: edits.try_edits(crate, group), groups))
+    for line in said.getvalue().splitlines():
+        if "BAD EDIT" in line or "not proved without" in line:
+            print(line)
+    passed, known = (sum(column) for column in zip((0, 0), *counts))
+    print(f"{passed} of {len(found)} edits are refused, {known} of them by an earlier try")
+    return passed == len(found)
+
+
+def run_scripts(name):
+    """Runs the scripts over what the crates above have built."""
+    built = [file for file in SCRIPTS if file.parts[1] in prove.above(name)]
+    prove.take(prove.TOP, built)
+    names = {script for file in built for script in SCRIPTS[file]}
+    with ThreadPoolExecutor(CORES) as cores:
+        steps = list(cores.map(lambda it: every.run_apart(*it, None), (it for it in every.SCRIPTS if it[1][0] in names)))
+    for step in steps:
+        print(step.text * bool(step.failed) + step.line)
+    every.show_untested(steps)
+    return not any(step.failed for step in steps)
+
+
+def processor_time():
+    """The processor time of all processes that have ended, in seconds."""
+    used = resource.getrusage(resource.RUSAGE_CHILDREN)
+    return used.ru_utime + used.ru_stime
+
+
+STEPS = {"the crate": check, "the crates above": prove_above, "its must-fail edits": try_edits, "the scripts": run_scripts}
+
+
+def main(words):
+    sys.stdout.reconfigure(line_buffering=True)
+    if len(words) != 1 or words[0] not in prove.crates():
+        sys.exit(f"{__doc__}\nCRATE is one of: {' '.join(prove.crates())}")
+    begin = time.monotonic()
+    for name, work in STEPS.items():
+        began, used = time.monotonic(), processor_time()
+        print(f"== {name}")
+        passes = work(words[0])
+        print(f"{name}: {'passed' if passes else 'FAILED'} in {every.minutes(time.monotonic() - began)}, "
+              f"{every.minutes(processor_time() - used)} of processor time")
+        if not passes:
+            return 1
+    print(f"all of it took {every.minutes(time.monotonic() - begin)}, {every.minutes(processor_time())} of processor time")
+    return 0
+
+
+if __name__ == "__main__":
+    sys.exit(main(sys.argv[1:]))

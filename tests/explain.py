@@ -1,0 +1,310 @@
+#!/usr/bin/env python3
+"""Compares what `capvet explain` writes of changed messages with the lines that this script writes of them.
+
+    explain.py PROGRAM [--full]
+
+The verdict of a message is that of tests/model.py. The lines after it are written here as docs/output.md defines them, from
+the words of the message alone. 6,000 messages of a fixed seed are changed or made up, or 100,000 with --full, and each goes
+through the program once with one of the lines of OPTIONS. Each reason has to be among the refusals, as often as LEAST says
+for 6,000 messages. The last line is 'N passed, M failed', and the status is 1 if a case failed.
+"""
+import random
+import re
+import struct
+import sys
+from collections import Counter
+
+import model
+from amount import cases
+from harness import PROGRAM, compare, ended, expect, framed, outputs
+from made import changed, made_up, samples
+from packing import packed
+from trees import bits, offset
+
+MANY = cases(6_000, full=100_000)
+# How many messages a run of the program has.
+RUN = 500
+OPTIONS = ("", "--strict --unamplified", "--exclusive", "--strict --exclusive", "--words 60 --depth 4", "--packed",
+           "--depth 2 --unamplified")
+LEAST = {"NoRoot": 5, "Reserved": 50, "SegmentMissing": 50, "PadOutside": 50, "PadIsFar": 5, "PadNotFar": 5, "TagKind": 5,
+         "TagOffset": 5, "OutOfSegment": 100, "CompositeTag": 20, "CompositeOverrun": 20, "DepthLimit": 50, "WordLimit": 50,
+         "ManySegments": 2, "NullPad": 5, "EmptySegment": 5, "CapabilityPad": 5, "Overlap": 20}
+ELEMENTS = ("empty elements", "bits", "bytes", "2 bytes each", "4 bytes each", "8 bytes each", "pointers", "structs")
+# The sentences that depend on the reason alone.
+SENTENCES = {
+    "NoRoot": "segment 0 has no words, so the message has no root pointer",
+    "PadOutside": "the landing pad is not all inside its segment",
+    "PadIsFar": "the only word of the landing pad is a far pointer again",
+    "PadNotFar": "the first word of the landing pad is not a far pointer to a pad of one word",
+    "TagKind": "the second word of the landing pad is neither a struct pointer nor a list pointer",
+    "TagOffset": "the second word of the landing pad has an offset other than 0",
+    "CompositeTag": "the tag of the list of structs is not a struct pointer",
+    "CompositeOverrun": "the elements that the tag gives take more words than the list has",
+    "WordLimit": "the charge up to this pointer and its target is more than the limit",
+    "ManySegments": "the message has 512 segments, and common readers take at most 511",
+    "NullPad": "the only word of the landing pad is null, which common readers reject",
+    "EmptySegment": "the target is in a segment without words, which common readers reject",
+    "CapabilityPad": "the only word of the landing pad is a capability, which common readers reject",
+    "Overlap": "the pointer uses a word that an earlier pointer uses too",
+}
+
+
+# The lines of docs/output.md
+
+def sizes(word):
+    return f", data words {bits(word, 32, 16)}, pointers {bits(word, 48, 16)}"
+
+
+def form(word):
+    """A pointer word's form and fields."""
+    kind = bits(word, 0, 2)
+    if word == 0:
+        return "null"
+    if kind == 0:
+        return f"struct, offset {offset(word)}{sizes(word)}"
+    if kind == 1:
+        code = bits(word, 32, 3)
+        return f"list of {ELEMENTS[code]}, offset {offset(word)}, {'words' if code == 7 else 'elements'} {bits(word, 35, 29)}"
+    if kind == 2:
+        return f"far pointer to {bits(word, 32, 32)}:{bits(word, 3, 29)}, pad words {1 + bits(word, 2, 1)}"
+    return "reserved" if bits(word, 2, 30) else f"capability, index {bits(word, 32, 32)}"
+
+
+def tag_form(word):
+    return f"struct, elements {bits(word, 2, 30)}{sizes(word)}" if bits(word, 0, 2) == 0 else form(word)
+
+
+def hexed(word):
+    return word.to_bytes(8, "little").hex()
+
+
+def extent(word):
+    """The words of a struct or list pointer's target, a tag with them."""
+    if bits(word, 0, 2) == 0:
+        return bits(word, 32, 16) + bits(word, 48, 16)
+    code, count = bits(word, 32, 3), bits(word, 35, 29)
+    return 1 + count if code == 7 else -(-model.ELEMENT_BITS[code] * count // 64)
+
+
+def pads(message, word):
+    """The words of a landing pad that is all inside its segment, each with its place."""
+    if bits(word, 0, 2) != 2:
+        return []
+    segment, at, count = bits(word, 32, 32), bits(word, 3, 29), 1 + bits(word, 2, 1)
+    if segment >= len(message) or at + count > len(message[segment]):
+        return []
+    return [(segment, place, message[segment][place]) for place in range(at, at + count)]
+
+
+def led_to(segment, at, word, landing):
+    """The segment, the first word and the pointer word of the target, or nothing, and the segment that the pointer leads into."""
+    def near(segment, at, word):
+        return (segment, at + 1 + offset(word), word) if word and bits(word, 0, 2) < 2 else None
+    if bits(word, 0, 2) != 2:
+        return near(segment, at, word), segment
+    if len(landing) == 1:
+        return near(*landing[0]), landing[0][0]
+    into = bits(word, 32, 32)
+    if not landing or bits(landing[0][2], 0, 3) != 2:
+        return None, into
+    far, tag = landing[0][2], landing[1][2]
+    is_tag = bits(tag, 0, 2) < 2 and bits(tag, 2, 30) == 0
+    return (bits(far, 32, 32), bits(far, 3, 29), tag) if is_tag else None, bits(far, 32, 32)
+
+
+def target_lines(message, target):
+    segment, start, word = target
+    words = extent(word)
+    last = f" to {segment}:{start + words - 1}" if words else ""
+    yield f"target {segment}:{start}{last}, words {words}"
+    is_structs = bits(word, 0, 2) == 1 and bits(word, 32, 3) == 7
+    if is_structs and segment < len(message) and 0 <= start < len(message[segment]):
+        tag = message[segment][start]
+        yield f"tag {segment}:{start} {hexed(tag)} {tag_form(tag)}"
+
+
+def below(found, path):
+    """The places of the pointers of an object at a path, each with its path."""
+    places, _ = model.children(found)
+    if found.kind == "structs":
+        count = found.sizes[2]
+        return [(f"{path}/i{number // count}/p{number % count}", place) for number, place in enumerate(places)]
+    return [(f"{path}/{'p' if found.kind == 'struct' else 'i'}{number}", place) for number, place in enumerate(places)]
+
+
+def path_to(message, number):
+    """The path to the pointer of this number in preorder, where the root pointer has number 1."""
+    ahead = [("", (0, 0))]
+    while True:
+        path, place = ahead.pop()
+        number -= 1
+        if number == 0:
+            return path or "/"
+        ahead += reversed(below(model.followed(message, *place), path))
+
+
+def pointer_lines(message, segment, at):
+    """The lines on a pointer word, its landing pad, and its target."""
+    word = message[segment][at]
+    table = len(message) // 2 + 1
+    yield f"byte {8 * (table + sum(map(len, message[:segment])) + at)} of the message"
+    yield f"pointer {hexed(word)} {form(word)}"
+    landing = pads(message, word)
+    for place in landing:
+        yield f"pad {place[0]}:{place[1]} {hexed(place[2])} {form(place[2])}"
+    target, into = led_to(segment, at, word, landing)
+    if target:
+        yield from target_lines(message, target)
+    yield (f"segment {into}, words {len(message[into])}" if into < len(message)
+           else f"segment {into} does not exist, segments {len(message)}")
+
+
+def sentence(message, reason, segment, at):
+    """The reason as a sentence."""
+    if reason in SENTENCES:
+        return SENTENCES[reason]
+    word = message[segment][at]
+    landing = pads(message, word)
+    if reason == "Reserved":
+        what = "the word of the landing pad" if landing else "the pointer"
+        return f"{what} has kind 3 and is no capability, which the format reserves"
+    if reason == "SegmentMissing":
+        what = "first word of the landing pad" if landing else "far pointer"
+        return f"the {what} names a segment that the message does not have"
+    _, start, shape = led_to(segment, at, word, landing)[0]
+    if reason == "DepthLimit":
+        what = "list of structs, or its structs, are" if bits(shape, 0, 2) == 1 and bits(shape, 32, 3) == 7 else "target is"
+        return f"the {what} at a deeper level than the limit allows"
+    return f"the target {'begins before' if start < 0 else 'ends after'} its segment"
+
+
+def explanation(message, reason, segment, at, pointers, words, depth):
+    if reason not in ("NoRoot", "ManySegments"):
+        yield f"path {path_to(message, pointers)}"
+        yield from pointer_lines(message, segment, at)
+    if reason == "DepthLimit":
+        yield f"limit level {depth + 1}, at most {depth}"
+    if reason == "WordLimit":
+        yield f"limit charge, at most {words}"
+    yield f"reason {sentence(message, reason, segment, at)}"
+
+
+def lines_of(number, message, options):
+    """All lines of a message, and the reason if it is refused."""
+    words = int(options[options.index("--words") + 1]) if "--words" in options else 8388608
+    depth = int(options[options.index("--depth") + 1]) if "--depth" in options else 64
+    if "--unamplified" in options:
+        words = min(words, sum(map(len, message)) + model.SLACK)
+    try:
+        tree = model.vetted(message, words, depth)
+        if "--strict" in options:
+            model.strictly(message, tree)
+        if "--exclusive" in options:
+            model.exclusively(tree)
+    except model.Refused as refused:
+        answer, segment, at, pointers = refused.args
+        reason = answer.title().replace("_", "") if answer.isupper() else answer
+        lines = explanation(message, reason, segment, at, pointers, words, depth)
+        return [f"message {number}: refused {reason} at {segment}:{at} pointers {pointers}", *(f"  {it}" for it in lines)], reason
+    return [f"message {number}: accepted charge {tree.charge} depth {tree.depth} pointers {tree.pointers} "
+            f"caps {tree.capabilities}"], "accepted"
+
+
+# Messages
+
+def segments_of(frame):
+    """The segments of a framed message, as lists of words."""
+    count = struct.unpack_from("<I", frame)[0] + 1
+    at, segments = 8 * (count // 2 + 1), []
+    for size in struct.unpack_from(f"<{count}I", frame, 4):
+        segments.append(struct.unpack_from(f"<{size}Q", frame, at))
+        at += 8 * size
+    return segments
+
+
+def word_of(chance):
+    """A pointer word with small fields."""
+    kind, low = chance.randrange(4), chance.randrange(-3, 6) << 2 & 0xFFFFFFFC
+    if kind == 1:
+        return 1 | low | chance.randrange(8) << 32 | chance.randrange(8) << 35
+    if kind == 2:
+        return 2 | chance.randrange(2) << 2 | chance.randrange(4) << 3 | chance.randrange(4) << 32
+    if kind == 3:
+        return 3 | (low if chance.random() < 0.3 else 0) | chance.randrange(4) << 32
+    return low | chance.randrange(3) << 32 | chance.randrange(3) << 48
+
+
+def far_message(chance):
+    """A message of small segments, in which far pointers and pads of two words are common."""
+    segments = [[word_of(chance) if chance.random() < 0.8 else 0 for _ in range(chance.randrange(5))]
+                for _ in range(chance.choice((1, 2, 3, 3)))]
+    if segments[0] and chance.random() < 0.7:
+        segments[0][0] = 2 | chance.randrange(2) << 2 | chance.randrange(3) << 3 | chance.randrange(3) << 32
+        for segment in segments[1:]:
+            if segment and chance.random() < 0.7:
+                segment[0] = 2 | chance.randrange(4) << 3 | chance.randrange(4) << 32
+    return framed(*segments)
+
+
+def double_far_message(chance):
+    """A message whose root leads over a landing pad of two words into a segment that may be empty."""
+    tag = chance.choice((0, chance.randrange(2), word_of(chance)))
+    return framed([6 | 1 << 32], [2 | chance.randrange(2) << 3 | 2 << 32, tag], [0] * chance.randrange(3))
+
+
+def structs_message(chance):
+    """A message whose root is a list of structs, or should be."""
+    count = chance.randrange(5)
+    tag = chance.randrange(4) << 2 | chance.choice((0, 0, 0, 1, 3)) | chance.randrange(3) << 32 | chance.randrange(3) << 48
+    return framed([1 | 7 << 32 | count << 35, tag, *(word_of(chance) for _ in range(count))])
+
+
+def messages():
+    """As many framed messages as are asked for, of a fixed seed."""
+    chance, known = random.Random("explain"), samples()
+    # (few of these, since they are large)
+    many = framed([0], *[[]] * 511)
+    for number in range(MANY):
+        kind = number % 8
+        if number % 1000 == 0:
+            yield many
+        elif kind < 3:
+            yield changed(chance.choice(known), chance)
+        elif kind == 3:
+            yield made_up(chance)
+        elif kind == 4:
+            yield structs_message(chance)
+        elif kind == 5:
+            yield double_far_message(chance)
+        else:
+            yield far_message(chance)
+
+
+def compare_lines(options, stream, first, seen):
+    """One run of the program over some messages, of which the first has this number in all."""
+    words = options.split()
+    given = b"".join(stream)
+    out, err, status = outputs([PROGRAM, "explain", *words], packed(given) if "--packed" in words else given)
+    got = re.split(r"^(?=message )", out.decode(), flags=re.M)[1:]
+    compare(f"{options}: messages from {first}", (len(stream), b""), (len(got), err))
+    reasons = Counter()
+    for number, (frame, text) in enumerate(zip(stream, got)):
+        lines, reason = lines_of(number, segments_of(frame), words)
+        reasons[reason] += 1
+        compare(f"capvet explain {options}, {frame.hex()[:400]}", "\n".join(lines) + "\n", text)
+    compare(f"the status with {options}", int(reasons.total() > reasons["accepted"]), status)
+    seen += reasons
+
+
+def main():
+    seen, stream = Counter(), list(messages())
+    for at in range(0, len(stream), RUN):
+        compare_lines(OPTIONS[at // RUN % len(OPTIONS)], stream[at:at + RUN], at, seen)
+    for reason, least in LEAST.items():
+        expect(f"{reason} among the refusals", seen[reason] >= least, f"{seen[reason]} times, and not {least}")
+    print(", ".join(f"{reason} {count}" for reason, count in sorted(seen.items())))
+    return ended()
+
+
+if __name__ == "__main__":
+    sys.exit(main())

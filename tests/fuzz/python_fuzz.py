@@ -1,0 +1,273 @@
+#!/usr/bin/env python3
+"""Fuzz target: the package for Python. hypothesis makes the inputs: those of a corpus, changed by bytes and by words, and made
+messages.
+
+    python_fuzz.py CORPUS [SECONDS]
+
+Without SECONDS each input of the corpus runs once. An input is 16 bytes of arguments and then a message or a stream: see fuzz.h.
+The last line is 'Done N runs'. A broken rule is an AssertionError, with the smallest input that hypothesis finds.
+
+- What is accepted is accepted by just the limits that it needs, and in separate segments.
+- Streams give the same messages from a buffer, from a file, from a feed, and packed, in pieces of any size.
+- `nodes` gives what `node` gives.
+- The canonical form of a canonical form is the same, and unpacking gives what was packed.
+"""
+import dataclasses
+import io
+import random
+import struct
+import sys
+import time
+from pathlib import Path
+
+from hypothesis import HealthCheck, Phase, given, seed, settings
+from hypothesis import strategies as st
+
+import capvet
+
+ARGUMENTS, MOST = 16, 1 << 14
+# The most messages of a stream that are looked at. (a short packed stream may have many)
+MESSAGES = 300
+runs = 0
+
+
+def limits_of(data):
+    """The limits of an input, or None if the package refuses them."""
+    flags, depth, words, charge = data[0], *struct.unpack_from("<HII", data, 2)
+    is_amplified = bool(flags & 4)
+    charge = charge - 1 if charge else 8388608
+    numbers = dict(depth=depth - 1 if depth else 64, message_words=words - 1 if words else 8388608,
+                   charge=min(charge, 1 << 16) if is_amplified else charge)
+    flags = dict(allow_trailing=bool(flags & 1), allow_nonstrict=bool(flags & 2), allow_amplified=is_amplified, no_table=bool(flags & 8))
+    try:
+        return capvet.Limits(**numbers, **flags)
+    except ValueError:
+        return None
+
+
+def result(call, *words, **options):
+    """What a call returns, or the exception that says why the message isn't accepted."""
+    try:
+        return call(*words, **options)
+    except (capvet.CapvetError, ValueError) as error:
+        return error
+
+
+def is_error(it):
+    return isinstance(it, Exception)
+
+
+def same(one, other):
+    """Whether two results are equal: the same values, or exceptions of the same text."""
+    return str(one) == str(other) if is_error(one) or is_error(other) else one == other
+
+
+def check_verdict(data, limits):
+    report = result(capvet.vet, data, limits=limits)
+    exclusive = result(capvet.vet_exclusive, data, limits=limits)
+    assert is_error(exclusive) or same(report, exclusive)
+    assert same(report, result(capvet.vet, memoryview(bytearray(data)), limits=limits))
+    frame = result(capvet.frame, data, limits=limits)
+    if is_error(report):
+        return report
+    tight = dataclasses.replace(limits, charge=report.charge, depth=report.depth)
+    assert same(report, result(capvet.vet, data, limits=tight))
+    if not limits.no_table:
+        assert frame.length == report.length and len(frame.segments) == report.segments
+        parts = [data[at:at + size] for at, size in frame.segments]
+        assert capvet.vet_segments(parts, limits=limits).charge == report.charge
+    return report
+
+
+def check_canonical(data, limits, report):
+    form = result(capvet.canonical, data, limits=limits)
+    is_canonical = result(capvet.is_canonical, data, limits=limits)
+    if is_error(form):
+        assert is_error(report) or (isinstance(form, capvet.CapabilityError) and form.report == report)
+        return
+    assert is_error(is_canonical) or not is_canonical or data.endswith(form)
+    words = dataclasses.replace(limits, no_table=True, allow_amplified=True, allow_trailing=False, allow_nonstrict=False,
+                                message_words=max(limits.message_words, len(form) // 8))
+    assert capvet.canonical(form, limits=words) == form and capvet.is_canonical(form, limits=words)
+
+
+def seen(messages):
+    """The messages of an iterator, and the text of the exception at its end."""
+    found = []
+    try:
+        for it in messages:
+            if len(found) == MESSAGES:
+                return found, "more"
+            assert (it.data is None) == (it.refusal is not None) and it.raw is not None
+            found.append((it.number, bytes(it.raw), str(it.refusal or it.report)))
+    except capvet.FrameError as error:
+        return found, error.reason
+    return found, None
+
+
+class Pieces(io.RawIOBase):
+    """A file that gives its bytes in pieces of any size, and sometimes fails once."""
+
+    def __init__(self, data, chance):
+        self.data, self.chance, self.has_failed = data, chance, False
+
+    def readable(self):
+        return True
+
+    def readinto(self, buffer):
+        if not self.has_failed and self.chance.randrange(4) == 0:
+            self.has_failed = True
+            raise TimeoutError
+        self.has_failed = False
+        count = min(len(buffer), len(self.data), self.chance.choice((1, 7, 8, 50, MOST)))
+        buffer[:count], self.data = self.data[:count], self.data[count:]
+        return count
+
+
+def again(reader):
+    """The items of a reader that is asked again after a timeout."""
+    while True:
+        try:
+            yield next(reader)
+        except TimeoutError:
+            continue
+        except StopIteration:
+            return
+
+
+def fed(data, chance, **options):
+    """The messages of a feed, by pieces, and what `close` says."""
+    feed, at, number = capvet.MessageFeed(**options), 0, 0
+    while at < len(data):
+        size = chance.choice((1, 7, 8, 50, MOST))
+        for it in feed.feed(data[at:at + size]):
+            assert it.number == number
+            number += 1
+            yield it
+        at += size
+        assert feed.received == min(at, len(data)) and feed.missing > 0
+    feed.close()
+
+
+def check_streams(data, limits, chance):
+    options = dict(exclusive=chance.randrange(2) == 0, limits=limits)
+    if limits.no_table:
+        assert is_error(result(capvet.MessageFeed, **options))
+        return
+    wanted = seen(capvet.messages(data, **options))
+    assert wanted == seen(again(capvet.read_messages(Pieces(data, chance), **options)))
+    assert wanted == seen(again(capvet.read_messages(io.BufferedReader(Pieces(data, chance), 16), **options)))
+    assert wanted == seen(fed(data, chance, **options))
+    # (any bytes as a packed stream, and this stream packed)
+    for packed in (data, capvet.pack(data[:len(data) // 8 * 8])):
+        one = seen(capvet.read_messages(io.BytesIO(packed), packed=True, **options))
+        assert one == seen(again(capvet.read_messages(Pieces(packed, chance), packed=True, **options)))
+        assert one == seen(fed(packed, chance, packed=True, **options))
+    # (of a part of a word nothing is packed, so then the end may be another one)
+    assert one[0] == wanted[0] and (one[1] == wanted[1] or len(data) % 8 > 0)
+
+
+def check_nodes(data, limits, chance, report):
+    path = ""
+    for _ in range(5):
+        found = result(capvet.node, data, path or "/", limits=limits)
+        assert is_error(report) or not is_error(found) or limits.no_table
+        if is_error(found) or found is None:
+            return
+        assert found.offset + len(found.data) <= len(data)
+        letter = "p" if found.kind == "struct" else "i"
+        first = chance.randrange(3)
+        iterator = result(capvet.nodes, data, f"{path}/{letter}*", first=first, count=5, limits=limits)
+        for number, node in enumerate(iterator, first):
+            one = result(capvet.node, data, f"{path}/{letter}{number}", limits=limits)
+            assert same(one, node)
+        path += f"/{letter}{chance.randrange(6)}"
+
+
+def check_nodes_or_refusal(data, limits, chance, report):
+    try:
+        check_nodes(data, limits, chance, report)
+    except capvet.CapvetError as error:
+        assert is_error(report) or limits.no_table, error
+    text = data[:chance.randrange(12)].decode("latin-1") + chance.choice(("", "/p0", "/i*", "*/p1"))
+    for call in (capvet.node, capvet.nodes):
+        found = result(call, data, text, limits=limits)
+        assert not isinstance(found, capvet.PathError) or found.position <= len(text.encode())
+
+
+def check_packing(data, limits):
+    words = data[:len(data) // 8 * 8]
+    assert capvet.unpack(capvet.pack(words)) == words
+    if words != data:
+        assert is_error(result(capvet.pack, data))
+    unpacked = result(capvet.unpack, data, max_size=MOST)
+    assert is_error(unpacked) or (len(unpacked) <= MOST and capvet.unpack(capvet.pack(unpacked)) == unpacked)
+    message = result(capvet.pack_message, data, limits=limits)
+    if not is_error(message):
+        frame = capvet.frame(data, limits=limits)
+        assert len(capvet.unpack(message)) == frame.length
+
+
+def check(data):
+    """The rules for one input."""
+    global runs
+    runs += 1
+    if len(data) < ARGUMENTS or len(data) > 1 << 16:
+        return
+    limits, chance, data = limits_of(data), random.Random(data[12:ARGUMENTS]), data[ARGUMENTS:]
+    if limits is None:
+        return
+    report = check_verdict(data, limits)
+    check_canonical(data, limits, report)
+    check_streams(data, limits, chance)
+    check_nodes_or_refusal(data, limits, chance, report)
+    check_packing(data, limits)
+
+
+WORDS = st.one_of(st.just(0), st.integers(0, 2**64 - 1), st.builds(
+    lambda kind, ahead, low, high: (kind | ahead << 2) & 0xFFFFFFFF | low << 32 | high << 48, st.integers(0, 3), st.integers(-3, 8),
+    st.integers(0, 9), st.integers(0, 3)))
+ARGUED = st.one_of(st.just(bytes(12)), st.builds(
+    lambda flags, depth, words, charge: struct.pack("<BBHII", flags, 0, depth, words, charge), st.integers(0, 15),
+    st.integers(0, 300), st.integers(0, 60), st.integers(0, 90)))
+
+
+@st.composite
+def inputs(draw, corpus):
+    """Inputs of the corpus with changed words and bytes, or made messages, sometimes several."""
+    data = draw(st.sampled_from(corpus))[ARGUMENTS:] if draw(st.integers(0, 3)) else b""
+    data = bytearray(data)
+    for place, word in draw(st.lists(st.tuples(st.integers(0, 400), WORDS), max_size=4)):
+        if len(data) >= 8:
+            at = place * 8 % (len(data) // 8 * 8)
+            data[at:at + 8] = struct.pack("<Q", word)
+    for words in draw(st.lists(st.lists(WORDS, max_size=8), max_size=2)):
+        data += struct.pack(f"<II{len(words)}Q", 0, len(words), *words)
+    end = draw(st.integers(0, 30))
+    data = data[:len(data) - end % 9] if end < 9 else data
+    return draw(ARGUED) + draw(st.integers(0, 2**32 - 1)).to_bytes(4, "little") + bytes(data)
+
+
+def search(corpus, seconds):
+    """Makes inputs until the time is over."""
+    small = [data for data in corpus if len(data) < 1000]
+    end, number = time.monotonic() + seconds, random.SystemRandom().randrange(2**32)
+    phases = (Phase.generate, Phase.shrink)
+    while time.monotonic() < end:
+        number += 1
+        made = given(inputs(small))(check)
+        made = settings(max_examples=200, deadline=None, database=None, phases=phases, suppress_health_check=list(HealthCheck))(made)
+        seed(number)(made)()
+
+
+def main(folder, seconds=0):
+    corpus = [path.read_bytes() for path in sorted(Path(folder).iterdir())]
+    for data in corpus:
+        check(data)
+    if float(seconds) > 0:
+        search(corpus, float(seconds))
+    print(f"Done {runs} runs")
+
+
+if __name__ == "__main__":
+    main(*sys.argv[1:])

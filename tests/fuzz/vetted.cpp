@@ -1,0 +1,114 @@
+/* Fuzz target: `vetted` and `tryVetted` of kj-message.h. The answer and the report are those of capvet_vet, at any address,
+ * borrowed and owned. What is accepted as strict is read by libcapnp under the limits for that message alone, once and four
+ * times: nothing throws, and pointers, capabilities and the canonical form are those of capvet. */
+#include <capvet/kj.h>
+
+#include <string>
+
+#include "../readers/walk.h"
+#include "fuzz.h"
+
+namespace {
+
+const capnp::ReaderOptions NONE{0, 0};
+
+struct Wanted {
+  capvet_answer answer;
+  capvet_report report;
+};
+
+bool isEqual(const capvet_report &one, const capvet_report &two) { return memcmp(&one, &two, sizeof one) == 0; }
+
+Wanted wantedOf(const fuzz_input &in, kj::ArrayPtr<const kj::byte> bytes) {
+  Wanted wanted = {CAPVET_BAD_LIMITS, {}};
+  if ((in.limits.flags & CAPVET_NO_TABLE) != 0) return wanted;
+  wanted.answer = capvet_vet(bytes.begin(), bytes.size(), &in.limits, &wanted.report);
+  return wanted;
+}
+
+// The canonical form, as hexadecimal digits.
+std::string formOf(const fuzz_input &in, kj::ArrayPtr<const kj::byte> bytes) {
+  capvet_report report;
+  size_t required;
+  std::string form(2 << 19, 0);
+  auto *out = reinterpret_cast<uint8_t *>(&form[0]);
+  const auto answer = capvet_canonical(bytes.begin(), bytes.size(), &in.limits, out, form.size(), &required, &report);
+  RULE(answer == CAPVET_OK);
+  return hexadecimal(kj::arrayPtr(out, required));
+}
+
+// Whether common readers take what the limits accept.
+bool isStrict(const fuzz_input &in) { return (in.limits.flags & CAPVET_ALLOW_NONSTRICT) == 0; }
+
+// The readings of an accepted message: one, or four.
+void read(const fuzz_input &in, capvet::Vetted &message, kj::ArrayPtr<const kj::byte> bytes, bool isAll) {
+  static EveryCapability caps;
+  auto root = rootOf(message.reader(), caps);
+  const auto walk = walkOf(root, false);
+  RULE(walk.pointers == message.report().pointers && walk.caps == message.report().capabilities);
+  reached_number(1, walk.pointers);
+  if (!isAll) return;
+  RULE(walkOf(root, true).text() == walk.text());
+  root.targetSize();
+  if (walk.caps == 0) RULE(copyOf(root) == formOf(in, bytes));
+}
+
+void readAll(const fuzz_input &in, capvet::Vetted &message, kj::ArrayPtr<const kj::byte> bytes, bool isAll) {
+  auto thrown = kj::runCatchingExceptions([&]() { read(in, message, bytes, isAll); });
+  if (auto *exception = capvet::valueOf(thrown)) {
+    if (isStrict(in)) fprintf(stderr, "%s\n", kj::str(*exception).cStr());
+    RULE(!isStrict(in));
+  }
+}
+
+// The bytes that are borrowed, by both functions.
+void checkBorrowed(const fuzz_input &in, const capvet::Options &options, kj::ArrayPtr<const kj::byte> bytes) {
+  const auto wanted = wantedOf(in, bytes);
+  capvet::Refusal refusal;
+  auto tried = capvet::tryVetted(bytes, refusal, options, NONE);
+  auto *message = capvet::valueOf(tried);
+  reached_answer(0, refusal.answer);
+  RULE(refusal.answer == wanted.answer && isEqual(refusal.report, wanted.report));
+  RULE((message != nullptr) == (wanted.answer == CAPVET_OK));
+  RULE(refusal.bytes.begin() == bytes.begin() && refusal.bytes.size() == bytes.size());
+  auto thrown = kj::runCatchingExceptions([&]() {
+    auto same = capvet::vetted(bytes, options, NONE);
+    RULE(isEqual(same.report(), wanted.report));
+  });
+  auto *exception = capvet::valueOf(thrown);
+  RULE((exception != nullptr) == (wanted.answer != CAPVET_OK));
+  if (exception != nullptr) RULE(exception->getDescription() == kj::str(refusal));
+  if (message != nullptr) readAll(in, *message, bytes.slice(0, wanted.report.length), options.readings > 1);
+}
+
+// The bytes that are passed on, which the message keeps when it is moved.
+void checkOwned(const fuzz_input &in, const capvet::Options &options, kj::ArrayPtr<const kj::byte> bytes) {
+  const auto wanted = wantedOf(in, bytes);
+  capvet::Refusal refusal;
+  auto tried = capvet::tryVetted(kj::heapArray<kj::byte>(bytes), refusal, options, NONE);
+  RULE(refusal.answer == wanted.answer && isEqual(refusal.report, wanted.report) && refusal.bytes.size() == 0);
+  auto thrown = kj::runCatchingExceptions([&]() {
+    auto same = capvet::vetted(kj::heapArray<kj::byte>(bytes), options, NONE);
+    auto moved = kj::mv(same);
+    readAll(in, moved, bytes.slice(0, wanted.report.length), options.readings > 1);
+  });
+  RULE((capvet::valueOf(thrown) != nullptr) == (wanted.answer != CAPVET_OK));
+  RULE((capvet::valueOf(tried) != nullptr) == (wanted.answer == CAPVET_OK));
+}
+
+}  // namespace
+
+extern "C" int LLVMFuzzerTestOneInput(const uint8_t *data, size_t size) {
+  fuzz_input in;
+  if (!fuzz_read(&in, data, size) || in.length > 1 << 16) return 0;
+  // (a block of just these bytes, so that the compiler's checks see a read after them)
+  auto block = kj::heapArray<kj::byte>(in.length + in.slack);
+  auto bytes = block.slice(in.slack, block.size());
+  std::copy_n(in.bytes, in.length, bytes.begin());
+  capvet::Options options;
+  options.limits = in.limits;
+  options.readings = in.kind % 2 != 0 ? 4 : 1;
+  checkBorrowed(in, options, bytes);
+  checkOwned(in, options, bytes);
+  return 0;
+}

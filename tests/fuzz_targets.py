@@ -1,0 +1,327 @@
+"""The fuzz targets: how each is built over a copy of the repository's files, replays inputs, searches, and counts the lines that
+its inputs reach. Used by tests/fuzz.py."""
+import json
+import os
+import re
+import shutil
+import signal
+import subprocess
+import time
+from dataclasses import dataclass, field
+from pathlib import Path
+
+from harness import ARCHIVE, TOP
+from install import make
+from needs import CRATES, GOCODE, MODULES, OLDEST_RUST, python_with
+
+CHECKS = ("-g", "-O1", "-fno-omit-frame-pointer", "-fsanitize=fuzzer,address,undefined", "-fno-sanitize-recover=all")
+COVERAGE = ("-g", "-O0", "-fsanitize=fuzzer", "-fprofile-instr-generate", "-fcoverage-mapping")
+# The most bytes of an input, and the most seconds that one may take.
+LIBFUZZER = ("-max_len=20000", "-timeout=30", "-rss_limit_mb=3000", "-print_final_stats=1")
+# The most bytes of an input that goes into the corpus.
+MERGED_MOST = 600
+# What is copied, so that a fault can be put in.
+PARTS = ("include", "packaging", "bindings", "guard", "examples", "tests/fuzz", "tests/readers")
+# How rustc counts what is reached, for libFuzzer.
+SANCOV = "-Cpasses=sancov-module " + " ".join(f"-Cllvm-args=-sanitizer-coverage-{it}" for it in (
+    "level=4", "inline-8bit-counters", "pc-table", "trace-compares")) + " --cfg fuzzing -Cdebuginfo=1"
+SOURCES = """[source.crates-io]
+replace-with = "debian"
+
+[source.debian]
+directory = "{}"
+"""
+
+
+def run(command, seconds=3600, **how):
+    """What a command wrote on both outputs, and its status. (124: it took too long, and was ended with its children)"""
+    child = subprocess.Popen([str(it) for it in command], stdout=subprocess.PIPE, stderr=subprocess.STDOUT, stdin=subprocess.DEVNULL,
+                             start_new_session=True, text=True, errors="replace", **how)
+    try:
+        return child.communicate(timeout=seconds)[0], child.returncode
+    except subprocess.TimeoutExpired:
+        # (Go then prints what each goroutine does)
+        os.killpg(child.pid, signal.SIGQUIT)
+        time.sleep(5)
+        os.killpg(child.pid, signal.SIGKILL)
+        return child.communicate()[0] + f"\nERROR: no end within {seconds} seconds", 124
+
+
+@dataclass
+class Tree:
+    """A copy of what the targets are built from, with the installed library and what was built."""
+    folder: Path
+
+    def __post_init__(self):
+        self.top, self.prefix, self.out = self.folder / "copy", self.folder / "x", self.folder / "out"
+        self.out.mkdir(parents=True)
+        ignored = shutil.ignore_patterns("target", "Cargo.lock", "__pycache__", "*.so", "corpus")
+        for part in PARTS:
+            shutil.copytree(TOP / part, self.top / part, ignore=ignored)
+        text, status = make("install", self.folder, f"PREFIX={self.prefix}")
+        if status:
+            raise OSError(text)
+
+    @property
+    def environment(self):
+        return {**os.environ, "PKG_CONFIG_PATH": f"{self.prefix}/lib/pkgconfig", "GOFLAGS": "", "GOPROXY": "off", "GOWORK": "off"}
+
+
+@dataclass
+class Result:
+    """What a run of a target gave: how many inputs ran, what was found, and where the input of a finding is."""
+    runs: int = 0
+    finding: str = ""
+    input: Path = None
+    text: str = field(default="", repr=False)
+
+
+# A line that says what a finding is about.
+SAYING = re.compile(r"RULE BROKEN .*|.*ERROR: (?:AddressSanitizer|LeakSanitizer|libFuzzer): .*|.*runtime error: .*"
+                    r"|thread '.*' panicked at .*|ERROR: no end .*|\s+fuzz_test\.go:\d+: .*|panic: .*|AssertionError.*|E? *\w*Error: .*")
+
+
+def finding_of(text):
+    """The line that says what was found, or the last one."""
+    lines = text.splitlines()
+    return next((line.strip() for line in lines if SAYING.fullmatch(line)), lines[-1] if lines else "no output")
+
+
+class Target:
+    """A fuzz target. `needs` are names of tests/needs.py."""
+    name, needs, files = "", (), ()
+
+    def folders(self, kept):
+        """Where inputs that were found are kept, and the corpus."""
+        kept.mkdir(parents=True, exist_ok=True)
+        return [kept, TOP / "tests/fuzz/corpus"]
+
+
+class LibFuzzer(Target):
+    """A target of libFuzzer in C or C++."""
+
+    def __init__(self, source, *needs, files, libraries=()):
+        self.name, self.source, self.files, self.libraries = source.partition(".")[0], source, files, libraries
+        self.needs = ("clang", "checks-clang", *needs)
+
+    def compiler(self):
+        is_c = self.source.endswith(".c")
+        return ["clang", "-std=gnu11"] if is_c else ["clang++", "-std=c++17"]
+
+    def build(self, tree, options=CHECKS):
+        """Builds it, and returns what was wrong or an empty text."""
+        mutator, program = tree.out / f"{self.name}-mutator.o", tree.out / self.name
+        text, status = run(["clang", "-std=gnu11", "-O1", "-c", tree.top / "tests/fuzz/mutator.c", "-o", mutator])
+        if status == 0:
+            asked = ["pkg-config", "--cflags", "--libs", *self.libraries]
+            flags = run(asked, env=tree.environment)[0].split() if self.libraries else []
+            words = [*self.compiler(), "-Wall", "-Wextra", "-Wno-unused-function", *options, f"-I{tree.top}/include"]
+            source = tree.top / "tests/fuzz" / self.source
+            text, status = run([*words, source, mutator, *flags, "-o", program, *([] if self.libraries else [ARCHIVE])])
+        return text if status else ""
+
+    def command(self, tree):
+        return [tree.out / self.name]
+
+    def ran(self, tree, kept, *options, seconds=3600):
+        folder = kept.parent / f"{self.name}-findings"
+        folder.mkdir(parents=True, exist_ok=True)
+        words = [*self.command(tree), *self.folders(kept), *LIBFUZZER, f"-artifact_prefix={folder}/", *options,
+                 f"-dict={TOP}/tests/fuzz/words.dict"]
+        variables = {**tree.environment, "ASAN_OPTIONS": "allocator_may_return_null=1:detect_leaks=1"}
+        text, status = run(words, seconds, env=variables, cwd=tree.out)
+        found = re.findall(r"stat::number_of_executed_units: (\d+)|Done (\d+) runs", text)
+        result = Result(max((int(one or other) for one, other in found), default=0), text=text)
+        if status:
+            result.finding = finding_of(text)
+            written = re.search(r"Test unit written to (\S+)|Running: (\S+)", text)
+            result.input = Path(written[1] or written[2]) if written else None
+        return result
+
+    def replay(self, tree, kept):
+        return self.ran(tree, kept, "-runs=0")
+
+    def search(self, tree, kept, seconds):
+        return self.ran(tree, kept, f"-max_total_time={seconds}", seconds=seconds + 300)
+
+    def merged(self, tree, kept, folder):
+        """The inputs that were kept and reach something that the corpus doesn't."""
+        folder.mkdir()
+        words = [*self.command(tree), "-merge=1", f"-max_len={MERGED_MOST}", folder, TOP / "tests/fuzz/corpus", kept]
+        run(words, env=tree.environment, cwd=tree.out)
+        known = {path.read_bytes() for path in (TOP / "tests/fuzz/corpus").iterdir()}
+        return [data for data in (path.read_bytes() for path in folder.iterdir()) if data not in known]
+
+    def coverage(self, tree, kept):
+        """For each file the lines that can be reached, each with the times that the inputs reached it."""
+        wrong = self.build(tree, COVERAGE)
+        profile, data = tree.out / f"{self.name}.profraw", tree.out / f"{self.name}.profdata"
+        if wrong:
+            return {}
+        variables = {**tree.environment, "LLVM_PROFILE_FILE": str(profile)}
+        run([*self.command(tree), *self.folders(kept), *LIBFUZZER, "-runs=0"], env=variables)
+        return lines_of(tree, profile, data, tree.out / self.name, self.files)
+
+
+def lines_of(tree, profile, data, program, files):
+    """The lines of a report of llvm-cov."""
+    run(["llvm-profdata-14", "merge", "-sparse", profile, "-o", data])
+    paths = [path for pattern in files for path in sorted(tree.top.glob(pattern))]
+    text = run(["llvm-cov-14", "export", "-format=lcov", f"-instr-profile={data}", program, *paths])[0]
+    found = {}
+    for part in text.split("end_of_record"):
+        if name := re.search(r"^SF:(.*)$", part, re.M):
+            lines = {int(line): int(count) for line, count in re.findall(r"^DA:(\d+),(\d+)", part, re.M)}
+            found[str(Path(name[1]).relative_to(tree.top))] = lines
+    return found
+
+
+class Rust(LibFuzzer):
+    """The target in Rust. cargo makes an archive, which clang links with libFuzzer."""
+
+    def __init__(self):
+        super().__init__("rust", "oldest-rust", "crate-capnp", files=())
+
+    def build(self, tree, options=CHECKS):
+        crate, target = tree.top / "tests/fuzz/rust", tree.folder / "rust"
+        (crate / ".cargo").mkdir(exist_ok=True)
+        (crate / ".cargo/config.toml").write_text(SOURCES.format(CRATES))
+        variables = {**tree.environment, "CARGO_TARGET_DIR": str(target), "RUSTC": str(OLDEST_RUST / "rustc"),
+                     "CAPVET_LIB_DIR": str(ARCHIVE.parent), "RUSTFLAGS": SANCOV}
+        host = re.search(r"^host: (.*)$", run([OLDEST_RUST / "rustc", "-vV"])[0], re.M)[1]
+        # (with --target the flags are not for build scripts)
+        cargo = [OLDEST_RUST / "cargo", "build", "--release", "--offline", "--quiet", "--target", host]
+        text, status = run(cargo, env=variables, cwd=crate)
+        if status:
+            return text
+        mutator, library = tree.out / "rust-mutator.o", target / host / "release/libfuzz.a"
+        text, status = run(["clang", "-std=gnu11", "-O1", "-c", tree.top / "tests/fuzz/mutator.c", "-o", mutator])
+        # (the compiler's checks see only what the archive and Rust ask of the allocator)
+        words = ["clang++", "-fsanitize=fuzzer,address", mutator, "-Wl,--whole-archive", library, "-Wl,--no-whole-archive",
+                 "-lpthread", "-ldl", "-lm", "-o", tree.out / "rust"]
+        text, status = run(words) if status == 0 else (text, status)
+        return text if status else ""
+
+    def coverage(self, tree, kept):
+        print("fuzz: rust: lines are not counted, since Debian's rustc has no runtime that counts them")
+        return {}
+
+
+class Go(Target):
+    """A fuzz test of Go, by `go test -fuzz`."""
+    needs = ("go", "cc", "pkg-config")
+
+    def __init__(self, folder, test, *needs):
+        self.folder, self.test, self.needs = folder, test, (*Go.needs, *needs)
+        self.name, self.files = f"go-{test[4:].lower()}", (f"{folder}/*.go",)
+
+    def place(self, tree):
+        """The folder of the package, and the environment. (The guard takes Debian's libraries, which are no modules)"""
+        environment, parts = tree.environment, tree.folder / "path/src/capvet.invalid"
+        if self.folder != "guard":
+            return tree.top / self.folder, environment
+        environment |= {"GO111MODULE": "off", "GOPATH": f"{tree.folder / 'path'}:{GOCODE.parent}", "PWD": str(parts / "guard")}
+        return parts / "guard", environment
+
+    def build(self, tree):
+        parts = tree.folder / "path/src/capvet.invalid"
+        if not parts.exists():
+            shutil.copytree(tree.top / "bindings/go", parts / "capvet")
+            shutil.copytree(tree.top / "guard", parts / "guard")
+        place, environment = self.place(tree)
+        text, status = run(["go", "vet", "."], cwd=place, env=environment)
+        return text if status else ""
+
+    def corpus(self):
+        return ["-corpus", TOP / "tests/fuzz/corpus"]
+
+    def replay(self, tree, kept):
+        place, environment = self.place(tree)
+        words = ["go", "test", "-count=1", "-v", f"-run=^{self.test}$", ".", *self.corpus()]
+        text, status = run(words, cwd=place, env=environment)
+        return Result(len(re.findall(r"^    --- PASS", text, re.M)), finding_of(text) if status else "", text=text)
+
+    def search(self, tree, kept, seconds):
+        place, environment = self.place(tree)
+        cache = kept.parent / "go-cache"
+        cache.mkdir(parents=True, exist_ok=True)
+        words = ["go", "test", "-run=^$", f"-fuzz=^{self.test}$", f"-fuzztime={seconds}s", "-fuzzminimizetime=2s", "-parallel=1", "."]
+        words += [*self.corpus(), f"-test.fuzzcachedir={cache}"]
+        text, status = run(words, seconds + 300, cwd=place, env=environment)
+        runs = re.findall(r"execs: (\d+)", text)
+        result = Result(int(runs[-1]) if runs else 0, text=text)
+        if status:
+            result.finding = finding_of(text)
+            written = sorted((place / "testdata/fuzz").rglob("*")) if (place / "testdata").exists() else []
+            files = [path for path in written if path.is_file()]
+            if files:
+                result.input = kept.parent / f"{self.name}-findings" / files[-1].name
+                result.input.parent.mkdir(exist_ok=True)
+                shutil.copy(files[-1], result.input)
+        return result
+
+    def coverage(self, tree, kept):
+        self.build(tree)
+        place, environment = self.place(tree)
+        cached = kept.parent / "go-cache" / self.test
+        if cached.is_dir():
+            shutil.copytree(cached, place / "testdata/fuzz" / self.test, dirs_exist_ok=True)
+        profile = tree.out / f"{self.name}.cover"
+        words = ["go", "test", "-count=1", f"-run=^{self.test}$", f"-coverprofile={profile}", ".", *self.corpus()]
+        run(words, cwd=place, env=environment)
+        found = {}
+        for name, first, last, count in re.findall(r"^\S*/(\S+\.go):(\d+)\.\d+,(\d+)\.\d+ \d+ (\d+)$", profile.read_text(), re.M):
+            lines = found.setdefault(f"{self.folder}/{name}", {})
+            for line in range(int(first), int(last) + 1):
+                lines[line] = max(lines.get(line, 0), int(count))
+        return found
+
+
+class Python(Target):
+    """The package for Python, with inputs of hypothesis."""
+    name, needs, files = "python", ("wheel", "pytest", "cc", "pkg-config"), ("bindings/python/capvet/*.py",)
+
+    def build(self, tree):
+        python, place = python_with(MODULES["wheel"][0]), tree.folder / "python"
+        shutil.copytree(tree.top / "bindings/python", place)
+        text, status = run([python, "setup.py", "-q", "build_ext", "--inplace"], cwd=place, env=tree.environment)
+        return text if status else ""
+
+    def ran(self, tree, kept, *words, modules=(), seconds=3600):
+        python = python_with(MODULES["pytest"][0])
+        words = [python, *modules, tree.top / "tests/fuzz/python_fuzz.py", TOP / "tests/fuzz/corpus", *words]
+        variables = {**tree.environment, "PYTHONPATH": str(tree.folder / "python"), "PYTHONDONTWRITEBYTECODE": "1"}
+        text, status = run(words, seconds, env=variables, cwd=tree.out)
+        runs = re.search(r"Done (\d+) runs", text)
+        return Result(int(runs[1]) if runs else 0, finding_of(text) if status else "", text=text)
+
+    def replay(self, tree, kept):
+        return self.ran(tree, kept)
+
+    def search(self, tree, kept, seconds):
+        return self.ran(tree, kept, str(seconds), seconds=seconds + 300)
+
+    def coverage(self, tree, kept):
+        self.build(tree)
+        self.ran(tree, kept, "20", modules=("-m", "coverage", "run", "--include", f"{tree.folder}/python/capvet/*"))
+        text = run([python_with(MODULES["coverage"][0]), "-m", "coverage", "json", "-q", "-o", "-"], cwd=tree.out)[0]
+        found = {}
+        for name, part in json.loads(text)["files"].items():
+            lines = {line: 1 for line in part["executed_lines"]} | {line: 0 for line in part["missing_lines"]}
+            found[f"bindings/python/capvet/{Path(name).name}"] = lines
+        return found
+
+
+# JavaScript's package gets its target here: the module beside the native library.
+TARGETS = (
+    LibFuzzer("calls.c", files=("include/capvet.h",)),
+    LibFuzzer("vetted.cpp", "libcapnp", files=("include/capvet/kj-message.h",), libraries=("capvet-kj",)),
+    LibFuzzer("streams.cpp", "libcapnp", files=("include/capvet/kj-stream.h",), libraries=("capvet-kj",)),
+    LibFuzzer("host.c", files=("packaging/host.c",)),
+    Rust(),
+    Go("bindings/go", "FuzzCalls"),
+    Go("bindings/go", "FuzzScanner"),
+    Go("guard", "FuzzPump", "go-prometheus", "go-proxyproto", "go-systemd"),
+    Go("guard", "FuzzGreeting", "go-prometheus", "go-proxyproto", "go-systemd"),
+    Python(),
+)

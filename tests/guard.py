@@ -1,0 +1,425 @@
+#!/usr/bin/env python3
+"""Builds the proxy in guard/ and puts it before servers on loopback.
+
+    guard.py [PROGRAM [ARCHIVE]] [--full] [--idle]
+
+Its Go tests run with the race detector. The RPC suite of rpc.py runs through it, plain, and by TLS through two of it. Streams
+of changed messages have to pass as by `capvet filter --stop`. Then tests/guard plays clients and a server: many connections at
+once, of which some send a refused message in between, and PROGRAM vets all that arrived. Others send nothing, a byte a second,
+or a claim of 64 MiB, or they reset, while descriptors are scarce. Times are compared with those of the same proxy that vets
+nothing.
+
+With --full there are 5,000 connections and 1,000,000 messages, else 500 and 50,000. With --idle the times have to be within
+RATES and LATENCY, for which the machine may do nothing else. A line says what isn't tested. The last line is 'N passed, M
+failed', and the status is 1 if a case failed.
+"""
+import json
+import os
+import re
+import resource
+import shutil
+import signal
+import socket
+import struct
+import subprocess
+import sys
+import tempfile
+import time
+import urllib.request
+from pathlib import Path
+
+import filter
+import install
+import rpc
+from amount import IS_IDLE, cases
+from harness import ARCHIVE, PROGRAM, TOP, compare, ended, run
+from needs import GOCODE, missing
+from packing import packed
+from rpc import CYCLE, EMPTY, SECONDS, all_of, exactly, free_port, is_open, until
+
+# Options that the program's `filter` has too. (--packed is about the client's side alone)
+FILTERS = ([], ["--exclusive"], ["--allow-nonstrict", "--allow-amplified"], ["--words", "60", "--depth", "4"], ["--packed"])
+# The least part of the rate of a proxy without vetting, by the bytes of a message, and the most microseconds that vetting
+# adds to the median of a call of 1 KiB.
+RATES = {256: 0.5, 1024: 0.5, 65536: 0.8, 1 << 20: 0.8}
+LATENCY = 20
+# The memory that docs/service.md gives: for the guard, for each connection, and for messages.
+MEMORY = 64 << 20, 48 << 10, 256 << 20
+
+
+class Guard:
+    """A guard before a server, with its metrics. It is used as that of rpc.py."""
+
+    program = None
+    options = ()
+
+    def __init__(self, folder, server, *options, files=None, errors="guard-errors"):
+        self.port, self.http, self.errors = free_port(), free_port(), folder / errors
+        self.errors.unlink(missing_ok=True)
+        limit = None if files is None else lambda: resource.setrlimit(resource.RLIMIT_NOFILE, (files, files))
+        words = ["--listen", f"127.0.0.1:{self.port}", "--connect", server, "--metrics", f"127.0.0.1:{self.http}",
+                 "--log", "json", *self.options, *options]
+        with open(self.errors, "a") as errors:
+            self.ran = subprocess.Popen([self.program, *words], stdin=subprocess.DEVNULL, stdout=errors, stderr=errors,
+                                        preexec_fn=limit)
+
+    def __enter__(self):
+        compare("the guard listens", True, until(lambda: is_open(self.port) and is_open(self.http)))
+        self.before = {name: self.value(name) for name in ("go_goroutines", "process_open_fds")}
+        return self
+
+    def __exit__(self, *_):
+        compare("connections of the guard are over", True, until(lambda: self.value("capvet_guard_connections") == 0))
+        compare("bytes of buffers afterwards", 0, self.value("capvet_guard_buffer_bytes"))
+        for name, before in self.before.items():
+            # (the connection that asks is one more, now and before)
+            compare(f"{name} are as before", True, until(lambda: self.value(name) <= before))
+        self.ran.send_signal(signal.SIGTERM)
+        compare("the status of the guard", 0, self.ran.wait(SECONDS))
+
+    def value(self, name):
+        """A metric. It is 0 where nothing was counted."""
+        with urllib.request.urlopen(f"http://127.0.0.1:{self.http}/metrics", timeout=SECONDS) as page:
+            found = re.search(rf"^{re.escape(name)} (\S+)$", page.read().decode(), re.M)
+        return float(found[1]) if found else 0
+
+    def connect(self, host="127.0.0.1"):
+        return socket.create_connection(("127.0.0.1", self.port), timeout=SECONDS, source_address=(host, 0))
+
+    def records(self):
+        """What was written about messages since the last call. A line may come a little after the connection has ended."""
+        until(lambda: self.value("capvet_guard_connections") == 0)
+        lines = [json.loads(line) for line in self.errors.read_text().splitlines()]
+        os.truncate(self.errors, 0)
+        return [line for line in lines if "direction" in line]
+
+    def lines(self):
+        """The same as the program writes it."""
+        return "".join(f"{'' if line['text'].startswith('refused') else 'capvet: '}message {line['message']}: {line['text']}\n"
+                       for line in self.records())
+
+    def memory(self):
+        """The most bytes that were resident at one time."""
+        return 1024 * int(re.search(r"^VmHWM:\s+(\d+) kB", Path(f"/proc/{self.ran.pid}/status").read_text(), re.M)[1])
+
+
+class SecuredGuard(Guard):
+    """Two guards, one after the other, with TLS between them, and one certificate that both show."""
+
+    def __init__(self, folder, server, *options):
+        self.inner = Guard(folder, server, "--listen-cert", folder / "cert.pem", "--listen-key", folder / "key.pem",
+                           "--listen-client-ca", folder / "cert.pem", errors="inner-errors")
+        super().__init__(folder, f"127.0.0.1:{self.inner.port}", "--connect-tls", "--connect-ca", folder / "cert.pem",
+                         "--connect-cert", folder / "cert.pem", "--connect-key", folder / "key.pem", *options)
+
+    def __enter__(self):
+        self.inner.__enter__()
+        return super().__enter__()
+
+    def __exit__(self, *words):
+        super().__exit__(*words)
+        self.inner.__exit__(*words)
+
+    def records(self):
+        """Those of both: a refused reply ends at the guard that is next to the server."""
+        return super().records() + self.inner.records()
+
+
+def tested(folder):
+    """The guard is formatted, vetted, and passes each of its tests."""
+    top = folder / "path/src/capvet.invalid"
+    shutil.copytree(TOP / "bindings/go", top / "capvet")
+    shutil.copytree(TOP / "guard", top / "guard")
+    compare("make install", ("", 0), install.make("install", folder, f"PREFIX={folder / 'x'}"))
+    environment = {**os.environ, "GO111MODULE": "off", "GOPATH": f"{folder / 'path'}:{GOCODE.parent}", "GOFLAGS": "",
+                   "PKG_CONFIG_PATH": str(folder / "x/lib/pkgconfig")}
+    compare("gofmt -l guard", ("", 0), run(["gofmt", "-l", TOP / "guard", TOP / "tests/guard"]))
+    compare("go vet guard", ("", 0), run(["go", "vet", "."], cwd=top / "guard", env={**environment, "PWD": str(top / "guard")}))
+    if not missing("that staticcheck finds nothing in the guard", "go-staticcheck"):
+        compare("staticcheck guard", ("", 0), run(["go-staticcheck", "."], cwd=top / "guard", env={**environment, "PWD": str(top / "guard")}))
+    text, status = run(["go", "test", "-race", "-count=1", "-v", "."], cwd=top / "guard", env={**environment, "PWD": str(top / "guard")})
+    compare("go test -race guard", 0, status)
+    if status:
+        print(text)
+    found = re.findall(r"^--- (\w+): (\w+)", text, re.M)
+    compare("the guard has tests", True, len(found) > 20)
+    for verdict, case in found:
+        compare(f"go test -race guard, {case}", "PASS", verdict)
+
+
+def command_line(program):
+    """Help, version, statuses, and that the manual page has the options of the help."""
+    text, status = run([program, "--help"])
+    options = re.findall(r"^      (--[a-z-]+)", text, re.M)
+    compare("the status of --help", 0, status)
+    page = (TOP / "docs/capvet-guard.1").read_text().replace("\\-", "-")
+    compare("options of the manual page", options, re.findall(r"^\.TP\n\.BI? (--[a-z-]+)", page, re.M))
+    version = run([PROGRAM, "--version"])[0].split()[1]
+    compare("the version of the guard", (f"capvet-guard {version}\n", 0), run([program, "--version"]))
+    both = ["--listen", "127.0.0.1:0", "--connect", "127.0.0.1:1"]
+    for words in ([], both[:2], [*both, "--no"], [*both, "x"], [*both, "--listen", "nowhere"], [*both, "--connect", "nowhere"]):
+        compare(f"the status of {words}", 2, run([program, *words])[1])
+    with socket.create_server(("127.0.0.1", 0)) as taken:
+        at = f"127.0.0.1:{taken.getsockname()[1]}"
+        for words in ([*both, "--listen", at], [*both, "--metrics", at], [*both, "--listen-cert", "no", "--listen-key", "no"],
+                      [*both, "--listen", "systemd"]):
+            text, status = run([program, *words])
+            compare(f"the status of {words}, {text}", 3, status)
+
+
+def signals(folder):
+    """The guard drains after SIGTERM, reads certificates after SIGHUP, and takes a socket of systemd."""
+    with rpc.Listener() as listener:
+        guard = Guard(folder, listener.address)
+        with guard:
+            guard.ran.send_signal(signal.SIGHUP)
+            with guard.connect() as peer, listener.accept() as server:
+                peer.sendall(EMPTY)
+                compare("a message after SIGHUP", EMPTY, exactly(server, 16))
+        guard = Guard(folder, listener.address, "--drain-timeout", "4s")
+        guard.__enter__()
+        with guard.connect() as peer, listener.accept() as server:
+            guard.ran.send_signal(signal.SIGTERM)
+            compare("nobody is accepted after SIGTERM", True, until(lambda: not is_open(guard.port)))
+            peer.sendall(EMPTY)
+            compare("a message after SIGTERM", EMPTY, exactly(server, 16))
+            compare("the end after SIGTERM", ((b"", "closed"), 0), (all_of(peer), guard.ran.wait(SECONDS)))
+        with socket.create_server(("127.0.0.1", 0)) as opened:
+            activated(listener, opened)
+
+
+def activated(listener, opened):
+    """A guard that gets a listening socket as systemd passes it."""
+    def pass_on():
+        os.dup2(opened.fileno(), 3)
+        os.set_inheritable(3, True)
+
+    shell = 'LISTEN_PID=$$ LISTEN_FDS=1 LISTEN_FDNAMES=guard exec "$@"'
+    guard = subprocess.Popen(["sh", "-c", shell, "sh", Guard.program, "--listen", "systemd:guard", "--connect", listener.address],
+                             preexec_fn=pass_on, close_fds=False, stdin=subprocess.DEVNULL, stderr=subprocess.DEVNULL)
+    with socket.create_connection(opened.getsockname(), timeout=SECONDS) as peer, listener.accept() as server:
+        peer.sendall(EMPTY + CYCLE)
+        compare("a message by a socket of systemd", (EMPTY, "closed"), all_of(server))
+    guard.terminate()
+    compare("the status of a guard by systemd", 0, guard.wait(SECONDS))
+
+
+def certificate(folder):
+    """A certificate for 127.0.0.1 that signs itself. Whether there is one."""
+    if missing("TLS through the guard, RPC", "openssl"):
+        return False
+    command = ["openssl", "req", "-x509", "-newkey", "ec", "-pkeyopt", "ec_paramgen_curve:P-256", "-nodes", "-days", "2",
+               "-subj", "/CN=guard", "-addext", "subjectAltName=IP:127.0.0.1", "-keyout", folder / "key.pem",
+               "-out", folder / "cert.pem"]
+    compare("openssl req", 0, run(command)[1])
+    return True
+
+
+def as_rpc(folder):
+    """The suite of rpc.py, through a guard, and through two with TLS between them."""
+    ez = rpc.build(folder)
+    for kind in (Guard, *[SecuredGuard] * certificate(folder)):
+        rpc.Guard = kind
+        with rpc.Listener() as listener, kind(folder, listener.address) as guard:
+            for part in (rpc.requests, rpc.replies, rpc.endings, rpc.side_by_side):
+                part(guard, listener)
+        rpc.without_server(folder)
+        if ez is not None:
+            rpc.rpc(folder, ez)
+
+
+def as_filter(folder):
+    """Streams of a few changed messages, some of them cut: as many are passed on as by `capvet filter --stop`, as they came."""
+    messages, ended = list(filter.changed(cases(2000, 20_000))), 0
+    for options in FILTERS:
+        is_packed = "--packed" in options
+        words = ["--listen-packed" if word == "--packed" else word for word in options]
+        with rpc.Listener() as listener, Guard(folder, listener.address, *words) as guard:
+            lines = ""
+            for at in range(0, len(messages), 25):
+                frames = messages[at:at + 1 + at // 25 % 7]
+                stream = b"".join(frames)
+                given = packed(stream) if is_packed else stream
+                given = given[:len(given) - at // 25 % 3]
+                out, err, _ = filter.run(["filter", "--stop", *options], given)
+                lines += re.sub(r" at byte \d+", "", err.decode())
+                count = len(list(filter.cut(out)))
+                with guard.connect() as peer, listener.accept() as server:
+                    half = len(given) // 2
+                    send_quietly(peer, given[:half])
+                    send_quietly(peer, given[half:])
+                    peer.shutdown(socket.SHUT_WR)
+                    compare(f"messages from {at} {options}", (b"".join(frames[:count]), "closed"), all_of(server))
+            said = guard.lines()
+            compare(f"the lines of {options}", lines, said)
+            ended += said.count("\n")
+    compare("some streams are refused", True, ended > len(messages) // 25)
+
+
+class Listener(rpc.Listener):
+    """A server that many may connect to before it accepts."""
+
+    def __init__(self):
+        super().__init__()
+        self.listener.listen(2000)
+
+
+def hostile(folder):
+    """A good client is served beside peers that hold descriptors, send slowly, claim much, or reset."""
+    with Listener() as listener, Guard(folder, listener.address, "--max-per-peer", "400", "--message-timeout", "2s",
+                                       "--idle-timeout", "20s", "--connect-timeout", "60s", files=1024) as guard:
+        peers = [guard.connect() for _ in range(1100)]
+        compare("idle connections of one peer", 400, until(lambda: guard.value("capvet_guard_connections") == 400) and 400)
+        served = [listener.accept() for _ in range(400)]
+        good(guard, listener, "idle ones")
+        for peer in peers[:400]:
+            send_quietly(peer, struct.pack("<II", 0, 1 << 23) + bytes(1000))
+        good(guard, listener, "claims of 64 MiB")
+        used = guard.memory()
+        compare(f"memory for 400 claims: {used}", True, used < MEMORY[0] + 512 * MEMORY[1])
+        compare("claims end", True, until(lambda: guard.value("capvet_guard_connections") == 0))
+        for peer in [*peers, *served]:
+            peer.close()
+        slow(guard, listener)
+        resets(guard, listener)
+
+
+def send_quietly(peer, text):
+    try:
+        peer.sendall(text)
+    except OSError:
+        pass
+
+
+def good(guard, listener, beside):
+    """A client at another address sends and gets messages."""
+    with guard.connect("127.0.0.9") as peer, listener.accept() as server:
+        peer.sendall(EMPTY * 50)
+        server.sendall(EMPTY * 50)
+        compare(f"a good client beside {beside}", (EMPTY * 50, EMPTY * 50), (exactly(server, 800), exactly(peer, 800)))
+
+
+def slow(guard, listener):
+    """Peers that send a byte a second are closed after the timeout of a message."""
+    peers = [guard.connect() for _ in range(100)]
+    served = [listener.accept() for _ in peers]
+    begin = time.monotonic()
+    for _ in range(4):
+        for peer in peers:
+            send_quietly(peer, b"\0")
+        time.sleep(1)
+    good(guard, listener, "slow ones")
+    compare("slow peers are closed", True, until(lambda: guard.value("capvet_guard_connections") == 0))
+    compare("slow peers have 2 seconds", True, time.monotonic() - begin < 10)
+    causes = [record["event"] for record in guard.records() if record["event"] == "message_timeout"]
+    compare("slow peers in the log", True, len(causes) >= 100)
+    for peer in [*peers, *served]:
+        peer.close()
+
+
+def resets(guard, listener):
+    """Peers that reset, at either side, end their own connections."""
+    for number in range(200):
+        with guard.connect() as peer, listener.accept() as server:
+            peer.sendall(EMPTY[:number % 17])
+            for end in (peer, server)[number % 2:][:1]:
+                end.setsockopt(socket.SOL_SOCKET, socket.SO_LINGER, struct.pack("ii", 1, 0))
+    good(guard, listener, "resets")
+
+
+def budget(folder):
+    """Peers that send a MiB of a larger message get no more memory than the guard may have. A good client is served beside them."""
+    most, part = 32 << 20, struct.pack("<II", 0, 1 << 23) + bytes(1 << 20)
+    with Listener() as listener, Guard(folder, listener.address, "--memory", str(most), "--message-timeout", "10s") as guard:
+        peers = [guard.connect() for _ in range(200)]
+        served = [listener.accept() for _ in peers]
+        for peer in peers:
+            send_quietly(peer, part)
+        good(guard, listener, "parts of large messages")
+        used, bound = guard.memory(), MEMORY[0] + 201 * MEMORY[1] + most
+        compare(f"memory for parts of 200 MiB: {used}, at most {bound}", True, used <= bound)
+        for peer in [*peers, *served]:
+            peer.close()
+        ended = [record["event"] for record in guard.records()]
+        compare("some have no memory", True, 100 <= ended.count("memory") < 200)
+        compare("the others are cut", 200, ended.count("memory") + ended.count("refused"))
+
+
+def built_load(folder):
+    """The program that plays clients and servers."""
+    compare("go build of the load", ("", 0), run(["go", "build", "-o", folder / "load", "."], cwd=TOP / "tests/guard",
+                                                env={**os.environ, "GOFLAGS": "", "GOPROXY": "off"}))
+    return folder / "load"
+
+
+def storm(folder, load):
+    """Many connections at once. Nothing is lost, and the program accepts all that arrived."""
+    connections, messages = cases(500, 5000), cases(100, 200)
+    refused = len([i for i in range(connections) if i % 7 == 3])
+    passed = connections * messages - refused * (messages - messages // 2)
+    if missing(f"{connections} connections at once", "descriptors"):
+        return
+    server = f"127.0.0.1:{free_port()}"
+    with Guard(folder, server, "--memory", str(MEMORY[2]), "--max-connections", str(connections)) as guard:
+        text, status = run([load, "storm", f"127.0.0.1:{guard.port}", server, str(connections), str(messages), folder / "got"])
+        # (messages that arrived; connections of which some were lost, and that got more; replies that were whole)
+        compare(f"{connections} connections at once", (f"{passed} 0 0 {connections}\n", 0), (text, status))
+        used, bound = guard.memory(), MEMORY[0] + connections * MEMORY[1] + MEMORY[2]
+        compare(f"memory: {used} bytes, at most {bound}", True, used <= bound)
+        print(f"{connections} connections and {passed} messages each way: {used >> 20} MiB, bound {bound >> 20} MiB")
+        until(lambda: guard.value("capvet_guard_connections") == 0)
+        label = 'capvet_guard_refusals_total{direction="requests",reason="DepthLimit"}'
+        compare("refused messages", refused, guard.value(label))
+        compare("messages that are counted", passed, guard.value('capvet_guard_messages_total{direction="requests"}'))
+    with open(folder / "got", "rb") as got:
+        ran = subprocess.run([PROGRAM, "vet", "--strict", "--unamplified"], stdin=got, stdout=subprocess.PIPE, timeout=600)
+    compare("the program accepts all that arrived", (passed, 0), (ran.stdout.count(b": accepted "), ran.returncode))
+    (folder / "got").unlink()
+
+
+def times(folder, load):
+    """Rates and times of calls, beside the same proxy that vets nothing."""
+    server = f"127.0.0.1:{free_port()}"
+    with Guard(folder, server, "--direction", "none") as none, Guard(folder, server) as both:
+        proxies = [f"127.0.0.1:{guard.port}" for guard in (none, both)]
+        for size, least in RATES.items():
+            text, status = run([load, "rate", server, str(size), str(cases(1 << 27, 1 << 30)), *proxies])
+            compare(f"rates of {size} bytes", 0, status)
+            if status == 0:
+                without, vetted = map(float, text.split())
+                print(f"messages of {size} bytes: {without} MB/s without vetting, {vetted} with it: {vetted / without:.2f}")
+                if IS_IDLE:
+                    compare(f"the rate of {size} bytes", True, vetted >= least * without)
+        text, status = run([load, "latency", server, str(cases(5000, 50000)), server, *proxies])
+        compare("calls of 1 KiB", 0, status)
+        if status == 0:
+            direct, p_direct, without, p_without, vetted, p_vetted = map(float, text.split())
+            print(f"a call of 1 KiB takes {direct} us without a proxy (99 %: {p_direct}), {without} by one that vets nothing "
+                  f"({p_without}), {vetted} by the guard ({p_vetted})")
+            if IS_IDLE:
+                compare("the median of a call", True, vetted - without <= LATENCY)
+
+
+def main():
+    if missing("the guard", "go", "cc", "pkg-config", "go-prometheus", "go-proxyproto", "go-systemd"):
+        return ended()
+    with tempfile.TemporaryDirectory() as scratch:
+        folder = Path(scratch)
+        Guard.program = folder / "capvet-guard"
+        compare("make guard", ("", 0), run(["make", "-s", "guard", f"BUILT_GUARD={Guard.program}", f"BUILT_ARCHIVE={ARCHIVE}",
+                                            "-o", ARCHIVE], cwd=TOP))
+        command_line(Guard.program)
+        tested(folder)
+        signals(folder)
+        as_rpc(folder)
+        as_filter(folder)
+        hostile(folder)
+        budget(folder)
+        load = built_load(folder)
+        storm(folder, load)
+        times(folder, load)
+    return ended()
+
+
+if __name__ == "__main__":
+    sys.exit(main())

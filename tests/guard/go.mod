@@ -1,0 +1,3 @@
+module capvet.invalid/load
+
+go 1.19

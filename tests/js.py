@@ -1,0 +1,247 @@
+#!/usr/bin/env python3
+"""Takes the package in bindings/js as its users do: put together in a folder, and imported by its name.
+
+    js.py [PROGRAM [ARCHIVE]] [--full] [--idle]
+
+`node --test` runs its tests. `tsc` checks its types, each program of the pages, and that wrong programs are refused. The programs
+and commands of docs/js.md write what the page shows.
+
+The package answers requests in Node, and in a page and a worker of headless Chromium: the commands of PROGRAM over MANY changed
+messages of a fixed seed, packed and cut streams, and changed tables. Each answer has to be what PROGRAM writes. Packed texts are
+unpacked as the library for C does. The worker has the form with the module inlined.
+
+A call of a message of about 4 KiB is timed beside the same call from C. With --idle it takes at most MOST times as long, for which
+the machine may do nothing else. With --full there are more messages, and streams of 1 GB are read in bounded memory. The last line
+is 'N passed, M failed', and the status is 1 if a case failed.
+"""
+import json
+import os
+import re
+import shutil
+import subprocess
+import sys
+import tempfile
+from pathlib import Path
+
+from amount import IS_FULL, IS_IDLE
+from harness import ARCHIVE, TOP, compare, count, ended, run
+from js_browser import in_chromium
+from js_requests import HERE, in_node, unpacker
+from needs import missing
+
+BINDING, MODULE = TOP / "bindings/js", TOP / "build/capvet.wasm"
+# The most that a call may take, as a multiple of the time from C.
+MOST = 3
+# The most bytes of the process that reads a gigabyte, and the bytes of a large message.
+MEMORY, LARGE = 200 << 20, 1 << 28
+
+
+# ------------------------------------------------------------------ the package
+
+def package(folder):
+    """The package in a folder, as npm would install it there."""
+    where = folder / "node_modules/capvet"
+    compare("build.mjs", ("", 0), run(["node", BINDING / "build.mjs", MODULE, where]))
+    about = json.loads((where / "package.json").read_text())
+    listed = sorted(["README.md", "package.json", *about["files"]])
+    compare("the files of the package", listed, sorted(file.name for file in where.iterdir()))
+    version = re.search(r'CAPVET_VERSION_STRING "(.*)"', (TOP / "include/capvet.h").read_text())[1]
+    compare("the version of package.json", version, about["version"])
+    script = 'import { version } from "capvet"; import * as it from "capvet/inlined"; console.log(version(), it.version())'
+    compare("the version of the module", (f"{version} {version}\n", 0), run(["node", "--input-type=module", "-e", script], cwd=folder))
+    return where
+
+
+def answers_of_header():
+    """The names of answers in the package are those of the header."""
+    names = dict(re.findall(r'\[(\d+), "(\w+)"\]', (BINDING / "src/answers.js").read_text()))
+    header = (TOP / "include/capvet.h").read_text()
+    numbers = dict(re.findall(r"^  CAPVET_(\w+) = (\d+),", header, re.M))
+    wanted = {numbers[name]: text for name, text in re.findall(r'case CAPVET_(\w+): return "(\w+)"', header) if name != "OK"}
+    compare("the names of the answers", wanted, names)
+
+
+def tested(folder):
+    """The tests of the package, by Node."""
+    shutil.copytree(BINDING / "test", folder / "test")
+    environment = {**os.environ, "CAPVET_EXAMPLES": str(TOP / "examples")}
+    files = sorted(str(file) for file in (folder / "test").glob("*.test.mjs"))
+    text, status = run(["node", "--test", "--test-reporter=tap", *files], env=environment, cwd=folder)
+    counted = {word: int(number) for word, number in re.findall(r"^# (pass|fail|cancelled|skipped) (\d+)$", text, re.M)}
+    count(counted.get("pass", 0), counted.get("fail", 0) + counted.get("cancelled", 0))
+    compare("node --test", (0, True, 0), (status, counted.get("pass", 0) > 0, counted.get("skipped")))
+    if status:
+        print(text[-5000:])
+
+
+# ------------------------------------------------------------------ types
+
+# The parts of Node that the programs use, since Debian has no package with their types.
+NODE_TYPES = """declare module "node:fs" {
+  export function readFileSync(name: string): Uint8Array;
+  export function createReadStream(name: string): AsyncIterable<Uint8Array>;
+}
+declare module "node:fs/promises" { export function readFile(name: string): Promise<Uint8Array>; }
+declare module "node:crypto" {
+  interface Hmac { update(data: string | Uint8Array): Hmac; digest(): Uint8Array; }
+  export function createHmac(name: string, key: string): Hmac;
+  export function timingSafeEqual(one: Uint8Array, two: Uint8Array): boolean;
+}
+declare const process: { argv: string[] };
+declare const message: Uint8Array;
+"""
+RIGHT = """import * as capvet from "capvet";
+import { vet as inlined } from "capvet/inlined";
+const bytes = new Uint8Array(8);
+const report: capvet.Report = inlined(bytes.buffer, { depth: 3 });
+const first: capvet.Position | null = report.firstCapability;
+for (const it of capvet.messages(bytes, { exclusive: true })) {
+  if (it.refusal) console.log(it.refusal.pointers, it.raw.length);
+  else console.log(it.data.length, it.report.charge);
+}
+export async function all(body: ReadableStream<Uint8Array>, file: AsyncIterable<Uint8Array>) {
+  for await (const it of capvet.readMessages(body, { packed: true })) console.log(it.number);
+  for await (const it of capvet.readMessages(file)) console.log(it.offset);
+  const reader = body.pipeThrough(new capvet.MessageStream()).getReader();
+  const { value } = await reader.read();
+  console.log(value?.report?.depth);
+}
+for (const it of capvet.nodes(bytes, "/p*", { first: 1, count: 2 })) console.log(it?.kind, it?.data.length, first);
+"""
+# Each of these lines has a fault.
+WRONG = """import * as capvet from "capvet";
+capvet.vet("text");
+capvet.vet(new Uint8Array(8), { dept: 3 });
+capvet.vet(new Uint8Array(8), { depth: 3n });
+capvet.vet(new Uint8Array(8)).charge.length;
+capvet.node(new Uint8Array(8), "/").kind;
+capvet.readMessages(new Uint8Array(8));
+capvet.messages(new Uint8Array(8), { packed: true });
+for (const it of capvet.messages(new Uint8Array(8))) console.log(it.report.charge);
+for (const it of capvet.messages(new Uint8Array(8))) console.log(it.refusal ? it.data.length : 0);
+new capvet.Refusal();
+"""
+TSC = ("tsc", "--noEmit", "--strict", "--target", "es2022", "--lib", "es2022,dom,dom.iterable", "--module", "nodenext",
+       "--moduleResolution", "nodenext", "--allowJs", "--checkJs", "--maxNodeModuleJsDepth", "0")
+
+
+def programs():
+    """The programs of the pages, by name."""
+    pages = ("docs/js.md", "README.md", "bindings/js/README.md")
+    found = {f"{re.sub(r'[^a-z]', '_', page.lower())}_{number}.mjs": block for page in pages
+             for number, block in enumerate(re.findall(r"^```js\n(.*?)^```$", (TOP / page).read_text(), re.M | re.S))}
+    compare("the pages have programs", True, len(found) >= 6)
+    return found
+
+
+def typed(folder):
+    """tsc finds no fault in the types and in the programs of the pages, and it finds the faults above."""
+    if missing("the types of the package for JavaScript", "tsc"):
+        return
+    here = folder / "types"
+    here.mkdir()
+    files = {"node.d.ts": NODE_TYPES, "right.mts": RIGHT, "wrong.mts": WRONG, **programs()}
+    for name, text in files.items():
+        (here / name).write_text(text)
+    right = sorted(name for name in files if name != "wrong.mts")
+    # (the functions of the programs do not say what types their arguments have)
+    compare("tsc of the programs", ("", 0), run([*TSC, "--noImplicitAny", "false", *right], cwd=here))
+    text, status = run([*TSC, "wrong.mts"], cwd=here)
+    lines = sorted({int(line) for line in re.findall(r"^wrong.mts\((\d+),", text, re.M)})
+    compare("tsc of what is wrong", (True, list(range(2, 12))), (status != 0, lines))
+
+
+# ------------------------------------------------------------------ costs
+
+def timed(folder, where):
+    """Prints the times of calls of a message of about 4 KiB. With --idle they take at most MOST times as long as from C."""
+    if missing("the time of a call beside that from C", "cc"):
+        return
+    built = folder / "calls"
+    words = ["cc", "-O2", "-std=c11", "-D_POSIX_C_SOURCE=200809L", f"-I{TOP / 'include'}", TOP / "bench/peers/wasm/calls.c", ARCHIVE]
+    compare("calls.c", ("", 0), run([*words, "-o", built]))
+    seconds = "2" if IS_IDLE else "0.3"
+    for name in ("contacts.bin", "contacts-many-segments.bin"):
+        file = TOP / "examples" / name
+        from_c = run([built, file, seconds])[0].split()[1:]
+        text, status = run(["node", HERE / "cost.mjs", where / "capvet.js", file, seconds])
+        compare("cost.mjs", 0, status)
+        for call, one, other in zip(("vet", "canonical"), from_c, text.split()):
+            ratio = float(other) / float(one)
+            print(f"{call} of {name} takes {one} ns from C and {other} ns from JavaScript: {ratio:.2f} times")
+            if IS_IDLE:
+                compare(f"{call} of {name} takes at most {MOST} times as long", True, ratio <= MOST)
+
+
+def given_back(where):
+    """The memory for a message of 256 MiB is given back."""
+    text, status = run(["node", "--expose-gc", HERE / "memory.mjs", where / "capvet.js", "back"])
+    length, before, during, later = (int(word) for word in text.split()) if status == 0 else (0, 0, 0, 0)
+    compare("a message of 256 MiB", (0, LARGE), (status, length))
+    # (other memory is given back meanwhile)
+    compare(f"a message of 256 MiB takes memory: {before}, {during}", True, during >= before + LARGE // 2)
+    compare(f"the memory for it is given back: {before}, {during}, {later}", True, later <= before + LARGE // 8)
+
+
+def bounded(where):
+    """Streams of a gigabyte take little memory."""
+    for form in ("plain", "packed"):
+        text, status = run(["node", HERE / "memory.mjs", where / "capvet.js", form])
+        length, most = (int(word) for word in text.split()) if status == 0 else (0, 0)
+        compare(f"a {form} stream of 1 GB", (0, 1 << 30), (status, length))
+        compare(f"a {form} stream of 1 GB, in at most {MEMORY} bytes", True, 0 < most <= MEMORY)
+        print(f"js: a {form} stream of 1 GB took {most >> 20} MiB")
+
+
+# ------------------------------------------------------------------ the page
+
+def as_shown(folder):
+    """The commands and programs of docs/js.md write what the page shows."""
+    page = (TOP / "docs/js.md").read_text()
+    first, *others = re.search(r"^```sh\n(.*?)^```$", page, re.M | re.S)[1].splitlines()
+    # (it is built already)
+    compare("the first command of docs/js.md", "make build TARGET=wasm", first)
+    top = folder / "top"
+    for part in ("bindings/js", "examples"):
+        shutil.copytree(TOP / part, top / part)
+    (top / "build").mkdir()
+    shutil.copy(MODULE, top / "build")
+    compare("the commands of docs/js.md", ("", 0), run(["sh", "-ec", "\n".join(others)], cwd=top))
+    blocks = re.findall(r"^```(\w*)\n(.*?)^```$", page, re.M | re.S)
+    hello, last = top / "hello", ""
+    for kind, block in blocks:
+        if kind == "js":
+            (hello / "vet.mjs").write_text(block)
+            last, status = run(["node", "vet.mjs", "../examples/contacts.bin"], cwd=hello)
+            compare(f"a program of docs/js.md: {block[:60]}", 0, status)
+        for command, wanted in re.findall(r"^\$ (.*)\n((?:(?!\$ ).*\n)*)", block, re.M) if kind == "console" else ():
+            compare(f"docs/js.md: {command}", wanted, run(["bash", "-c", command], cwd=hello)[0])
+        if kind == "" and not block.startswith("Content-Security-Policy"):
+            compare("what a program of docs/js.md prints", block, last)
+    compare("the last program of docs/js.md", "true\n", last)
+
+
+def main():
+    if missing("the package for JavaScript", "node", "wasm-opt"):
+        return ended()
+    compare("the module is built", 0, subprocess.run([sys.executable, TOP / "packaging/targets.py", "wasm"]).returncode)
+    with tempfile.TemporaryDirectory() as scratch:
+        folder = Path(scratch)
+        where = package(folder)
+        answers_of_header()
+        tested(folder)
+        typed(folder)
+        texts = unpacker(folder)
+        in_node(folder, where, texts)
+        if not missing("the package for JavaScript in a browser", "chromium"):
+            in_chromium(folder, where, texts)
+        timed(folder, where)
+        given_back(where)
+        if IS_FULL:
+            bounded(where)
+        as_shown(folder)
+    return ended()
+
+
+if __name__ == "__main__":
+    sys.exit(main())

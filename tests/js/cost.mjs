@@ -1,0 +1,19 @@
+// Prints the least nanoseconds of a call of vet, canonical and node for the message of a file: cost.mjs PACKAGE FILE SECONDS
+import { readFileSync } from "node:fs";
+import { pathToFileURL } from "node:url";
+
+const [name, file, seconds] = process.argv.slice(2), ROUND = 200;
+const { vet, canonical } = await import(pathToFileURL(name).href);
+const message = new Uint8Array(readFileSync(file));
+
+function least(call) {
+  let found = Infinity;
+  for (const first = performance.now(); performance.now() - first < 1000 * seconds;) {
+    const begin = performance.now();
+    for (let time = 0; time < ROUND; time++) call(message);
+    found = Math.min(found, ((performance.now() - begin) * 1e6) / ROUND);
+  }
+  return found.toFixed(1);
+}
+
+console.log(least(vet), least(canonical));

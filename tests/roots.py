@@ -1,0 +1,244 @@
+"""Installs the Debian packages by apt in fresh roots of Debian 12 and 13, uses them as an ordinary user, and removes them.
+
+mmdebstrap makes a small root, with nothing but what Debian itself needs. Each session is a layer over it, in which a script runs with
+its own mounts. So nothing outside the folder of the test changes. In the first sessions each package is installed alone, used, and
+purged: then no file has its name. In the others the tools of developers are there, and all packages are installed. The commands of
+the installed README and pages are run word for word, and after the purge the root has the files of before. The last of these leaves
+out /usr/share/doc.
+
+A root for arm64 is run by qemu. So that the kernel starts qemu for its programs, and only there, the session has a user namespace
+with a list of such formats of its own (Linux 6.7 or later).
+"""
+import os
+import re
+import shutil
+import subprocess
+import time
+from pathlib import Path
+
+import reading
+from harness import TOP, compare
+from install import CONTACTS
+from needs import mirror, missing
+
+# (`usr-is-merged` and its hook save the packages that merge an old root)
+MMDEBSTRAP = ["mmdebstrap", "--quiet", "--variant=minbase", "--hook-dir=/usr/share/mmdebstrap/hooks/merged-usr", "--include=usr-is-merged",
+              "--dpkgopt=force-unsafe-io"]
+# What the commands of the pages need, beside the packages. (No package of these is needed by another reader)
+TOOLS = ("g++ pkgconf cmake make cargo golang-go man-db jq parallel python3-venv python3-pip python3-cffi python3-distributed "
+         "libcapnp-dev bash-completion librust-capnp-dev librust-futures-io-dev")
+PAGES = ("guide", "service", "output", "c", "go", "python", "scale")
+USED = "export HOME=/home/reader LC_ALL=C.UTF-8; cd; rm -rf work; mkdir work; cd work"
+# A crate over both crates for other crates of Debian.
+RUST = r"""mkdir -p src .cargo
+printf '[package]\nname = "it"\nversion = "0.1.0"\nedition = "2021"\n[dependencies]\n' > Cargo.toml
+printf 'capvet_capnp = "1.1"\ncapvet_capnp_rpc = "1.1"\n' >> Cargo.toml
+printf '[source.crates-io]\nreplace-with = "debian"\n[source.debian]\ndirectory = "/usr/share/cargo/registry"\n' > .cargo/config.toml
+printf 'pub use capvet_capnp::vetted;\npub use capvet_capnp_rpc::vetting;\n' > src/lib.rs
+cargo build --quiet --offline && echo built"""
+CHARGE = "import capvet; print(capvet.vet(open(\"/srv/examples/contacts.bin\", \"rb\").read()).charge)"
+# What a user does with each package that is installed alone: the command, and what it prints.
+ALONE = {
+    "capvet": ("capvet vet /srv/examples/contacts.bin", CONTACTS),
+    "libcapvet1": ("ls /usr/lib/*/libcapvet.so.1 | wc -l", "1\n"),
+    "libcapvet-dev": ("ls /usr/include/capvet.h", "/usr/include/capvet.h\n"),
+    "python3-capvet": (f"python3 -c '{CHARGE}'", "391\n"),
+    "librust-capvet-dev": ("ls -d /usr/share/cargo/registry/capvet-*/src", None),
+    "golang-capvet-dev": ("ls /usr/share/gocode/src/capvet.invalid/capvet/go.mod", None),
+    "capvet-guard": ("capvet-guard --version | cut -d' ' -f1", "capvet-guard\n"),
+    "capvet-doc": ("ls /usr/share/doc/capvet/docs/guide.md", None),
+}
+# Those that depend on the C library, which are tested on Debian 13 too.
+COMPILED = ("capvet", "libcapvet1", "python3-capvet", "capvet-guard")
+# Files of apt, dpkg and the linker's cache, which each installation changes.
+CHANGING = r"/(proc|sys|dev|tmp|run|var/lib/(apt|dpkg)|var/cache|var/log|srv|home)(/|$)|/etc/ld.so.cache$|/__pycache__(/|$)"
+FILES = f"find / -xdev | grep -Ev '{CHANGING}' | sort"
+
+
+# What docs/install.md says to purge.
+PURGED = re.search(r"apt-get purge ('[^']*')", (TOP / "docs/install.md").read_text())[1]
+EXCLUDED = r"path-exclude=/usr/share/doc/*\npath-include=/usr/share/doc/*/copyright\n"
+PLAIN = {"PATH": "/usr/sbin:/usr/bin:/sbin:/bin", "DEBIAN_FRONTEND": "noninteractive"}
+
+
+def session(base, layer, script):
+    """What a script of bash writes in a layer over a root, and its status."""
+    shutil.rmtree(layer, ignore_errors=True)
+    for name in ("upper", "work", "merged"):
+        (layer / name).mkdir(parents=True)
+    mounted = f"""set -e
+mount -t overlay overlay -o lowerdir='{base}',upperdir='{layer}/upper',workdir='{layer}/work' '{layer}/merged'
+mount -t proc proc '{layer}/merged/proc'
+mount --bind /sys '{layer}/merged/sys'
+mount --bind /dev '{layer}/merged/dev'
+mount -t tmpfs tmpfs '{layer}/merged/dev/shm'
+cat > '{layer}/merged/srv/script'
+exec chroot '{layer}/merged' bash /srv/script"""
+    ran = subprocess.run(["unshare", "--mount", "--propagation", "private", "bash", "-c", mounted], input=script, text=True, timeout=3600,
+                         stdout=subprocess.PIPE, stderr=subprocess.STDOUT, env=PLAIN)
+    return ran.stdout, ran.returncode
+
+
+def make_root(folder, dist, suite):
+    """A root of a release of Debian with a user, the samples, and the repository, by the line of docs/install.md."""
+    base = folder / suite
+    made = subprocess.run([*MMDEBSTRAP, suite, base, mirror()], capture_output=True, text=True)
+    compare(f"a root of {suite}", 0, made.returncode if not made.returncode else made.stderr)
+    if made.returncode:
+        return None
+    shutil.copy("/etc/resolv.conf", base / "etc/resolv.conf")
+    shutil.copytree(dist, base / "srv/dist")
+    shutil.copytree(TOP / "examples", base / "srv/examples")
+    page = (TOP / "docs/install.md").read_text()
+    first, update, last = next(it for _, it in reading.BLOCK.findall(page) if "sources.list.d" in it).splitlines()
+    compare("the last command for Debian", "sudo apt-get install capvet", last)
+    # (the user of this session is root, and there is no `sudo`)
+    text, status = session(base, folder / "first", f"set -e\ncd /srv/dist\nsudo() {{ \"$@\"; }}\n{first}\n{update}\n"
+                           "useradd -m reader")
+    compare(f"the commands of install.md on {suite}", 0, status if not status else text)
+    merge(base, folder / "first/upper")
+    return base
+
+
+def merge(base, upper):
+    """Keeps what a session has written in its root. (nothing was removed)"""
+    subprocess.run(["cp", "-a", f"{upper}/.", base], check=True)
+    shutil.rmtree(upper.parent)
+
+
+def as_user(script):
+    """Commands that run a script as an ordinary user in a new folder."""
+    return f"cat > /srv/user <<'END-OF-USER'\n{USED}\n{script}\nEND-OF-USER\nsetpriv --reuid=reader --regid=reader --clear-groups bash /srv/user"
+
+
+def alone(base, folder, packages):
+    """Each package by itself: apt installs it with what it needs, it works, and nothing of it is left."""
+    for package in packages:
+        command, wanted = ALONE[package]
+        script = f"""set -e
+apt-get -qq install -y --no-install-recommends {package} > /srv/log 2>&1 || {{ cat /srv/log; exit 1; }}
+echo @@; {as_user(command)}; echo @@
+apt-get -qq purge -y --autoremove {package} > /srv/log 2>&1 || {{ cat /srv/log; exit 1; }}
+find / -xdev -iname '*capvet*' | grep -Ev '^/(proc|srv|var/lib/apt|etc/apt)' || true
+dpkg -l '*capvet*' 2>/dev/null | grep '^[a-z]i\\|^rc' || true
+"""
+        text, status = session(base, folder / "alone", script)
+        before, got, left = text.split("@@\n") if text.count("@@\n") == 2 else (text, None, None)
+        compare(f"apt installs {package} on {base.name}, and it is used and purged", (0, ""), (status, before))
+        if got is not None:
+            compare(f"{package} works", wanted, got if wanted is not None else None)
+            compare(f"left of {package}", "", left)
+
+
+def together(base, folder, packages, excluded):
+    """All packages on a machine with tools: the README and the pages word for word, and the files after the purge."""
+    docs = Path("/usr/share/doc/capvet")
+    texts = {name: next(folder.glob(f"pages/usr/share/doc/capvet/{place}")).read_text()
+             for name, place in {"README": "README.md", **{name: f"docs/{name}.md" for name in PAGES}}.items()}
+    exclude = f"printf '{EXCLUDED}' > /etc/dpkg/dpkg.cfg.d/docs\n" if excluded else ""
+    copy = "cp -r /srv/examples .\n" if excluded else f"cp -r {docs}/examples .\n"
+    scripts = {}
+    for name, page in texts.items():
+        page = page.replace(f"cp -r {docs}/examples .\n", "") if name == "README" else page
+        scripts[name] = page, f"echo '@@@ {name}'\n{as_user(copy + reading.script(page))}\n"
+    chosen = {"README": scripts["README"]} if excluded else scripts
+    script = f"""set -e
+{exclude}{FILES} > /srv/before
+apt-get -qq install -y --no-install-recommends {' '.join(packages)} > /srv/log 2>&1 || {{ cat /srv/log; exit 1; }}
+{''.join(it for _, it in chosen.values())}
+echo '@@@ crates'
+{as_user(RUST)}
+echo '@@@ documents'
+test -e {docs}/docs/guide.md && echo there || echo excluded
+ls /usr/share/doc/capvet/copyright
+echo '@@@ left'
+rm -rf /home/reader/work
+apt-get -qq purge -y {PURGED} > /srv/log 2>&1 || {{ cat /srv/log; exit 1; }}
+{FILES} > /srv/after
+diff /srv/before /srv/after || true
+"""
+    text, status = session(base, folder / "all", script)
+    compare(f"a session with all packages, documents {'excluded' if excluded else 'there'}", 0, status if not status else text[-3000:])
+    parts = dict(part.split("\n", 1) for part in text.split("@@@ ")[1:])
+    for name, (page, _) in chosen.items():
+        reading.read(f"{name} on Debian", page, parts.get(name, ""), compare)
+    compare("the crates over other crates of Debian", "built\n", parts.get("crates"))
+    compare("documents", f"{'excluded' if excluded else 'there'}\n/usr/share/doc/capvet/copyright\n", parts.get("documents"))
+    compare("files left of all packages", "", parts.get("left"))
+
+
+ARM_FORMAT = (r":qemu-aarch64:M::\x7fELF\x02\x01\x01\x00\x00\x00\x00\x00\x00\x00\x00\x00\x02\x00\xb7\x00:"
+              r"\xff\xff\xff\xff\xff\xff\xff\x00\xff\xff\xff\xff\xff\xff\xff\xff\xfe\xff\xff\xff:/usr/bin/qemu-aarch64-static:OCF")
+ARM_PACKAGES = ("capvet", "libcapvet1", "libcapvet-dev", "python3-capvet", "capvet-guard")
+# The kernel has to give a user namespace a list of formats of its own.
+ARM_PREPARED = f"""mount -t proc proc /proc
+mount -t binfmt_misc binfmt_misc /proc/sys/fs/binfmt_misc
+test ! -e /proc/sys/fs/binfmt_misc/qemu-aarch64
+printf '%s' '{ARM_FORMAT}' > /proc/sys/fs/binfmt_misc/register
+"""
+
+
+def emulated(script):
+    """What a script of bash writes in a user namespace in which programs for arm64 are run by qemu, and its status."""
+    words = ["unshare", "--user", "--mount", "--pid", "--fork", "--propagation", "private", "bash", "-c", "read -r go; exec bash -c \"$0\"",
+             f"set -e\n{ARM_PREPARED}{script}"]
+    ran = subprocess.Popen(words, stdin=subprocess.PIPE, stdout=subprocess.PIPE, stderr=subprocess.STDOUT, text=True, env=PLAIN)
+    ours = os.readlink("/proc/self/ns/user")
+    while ran.poll() is None and os.readlink(f"/proc/{ran.pid}/ns/user") == ours:
+        time.sleep(0.01)
+    for name in ("uid_map", "gid_map"):
+        Path(f"/proc/{ran.pid}/{name}").write_text("0 0 65536")
+    text, _ = ran.communicate("go\n", timeout=3600)
+    return text, ran.returncode
+
+
+def on_arm(dist, folder):
+    """The packages for arm64 are installed by apt in a root for arm64, used, and purged."""
+    if missing("the packages in a root for arm64", "qemu-aarch64-static", "arch-test"):
+        return
+    base = folder / "arm64"
+    used = ["capvet vet /srv/examples/contacts.bin", ALONE["python3-capvet"][0], "python3 -m capvet vet /srv/examples/shared.bin | tail -n 1",
+            ALONE["capvet-guard"][0], "ls /usr/include/capvet.h"]
+    wanted = CONTACTS + "391\nfiles 1 bytes 40 messages 1 accepted 1 refused 0\ncapvet-guard\n/usr/include/capvet.h\n"
+    inside = f"""set -e
+echo 'deb [trusted=yes] file:/srv/dist/apt ./' > /etc/apt/sources.list.d/capvet.list
+apt-get -qq update; useradd -m reader
+{FILES} > /srv/before
+apt-get -qq install -y --no-install-recommends {' '.join(ARM_PACKAGES)} > /srv/log 2>&1 || {{ cat /srv/log; exit 1; }}
+{as_user("; ".join(used))}
+apt-get -qq purge -y {' '.join(ARM_PACKAGES)} > /srv/log 2>&1 || {{ cat /srv/log; exit 1; }}
+{FILES} > /srv/after
+diff /srv/before /srv/after || true
+"""
+    (folder / "inside").write_text(inside)
+    text, status = emulated(f"""{' '.join(MMDEBSTRAP)} --mode=root --arch=arm64 --include=python3,python3-cffi-backend bookworm '{base}' {mirror()} \\
+  > '{folder}/log' 2>&1 || {{ cat '{folder}/log'; exit 1; }}
+cp /etc/resolv.conf '{base}/etc'; cp -r '{dist}' '{base}/srv/dist'; cp -r '{TOP}/examples' '{base}/srv/examples'
+mount -t proc proc '{base}/proc'
+mount --rbind /dev '{base}/dev'
+chroot '{base}' bash < '{folder}/inside'
+""")
+    compare("the packages in a root for arm64", (wanted, 0), (text, status))
+
+
+def check(dist, folder):
+    """All of it."""
+    if missing("the packages in fresh roots of Debian", "root", "mmdebstrap", "debian-mirror"):
+        return
+    place = folder / "roots"
+    place.mkdir()
+    newer, base = make_root(place, dist, "trixie"), make_root(place, dist, "bookworm")
+    if newer is None or base is None:
+        return
+    alone(newer, place, COMPILED)
+    shutil.rmtree(newer)
+    alone(base, place, ALONE)
+    subprocess.run(["dpkg-deb", "-x", next(dist.glob("apt/capvet-doc_*.deb")), place / "pages"], check=True)
+    text, status = session(base, place / "tools", f"apt-get -qq install -y --no-install-recommends {TOOLS} > /srv/log 2>&1 || cat /srv/log")
+    compare("tools of developers", ("", 0), (text, status))
+    merge(base, place / "tools/upper")
+    packages = sorted({it.name.split("_")[0] for it in dist.glob("apt/*.deb") if not it.name.endswith("_arm64.deb")})
+    for excluded in (False, True):
+        together(base, place, packages, excluded)
+    on_arm(dist, place)
+    shutil.rmtree(place)

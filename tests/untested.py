@@ -1,0 +1,101 @@
+#!/usr/bin/env python3
+"""Runs scripts as `make gate` does, where a tool is missing, and looks at what tests/all.py makes of it.
+
+    untested.py [PROGRAM]
+
+A tool is missing because it isn't in the only folder of the path. The names that the scripts ask for have to be names of
+needs.py. The last line is 'N passed, M failed', and the status is 1 if a case failed.
+"""
+import ast
+import os
+import re
+import sys
+import tempfile
+from pathlib import Path
+
+import all as steps
+import needs
+from harness import TOP, compare, ended, run
+
+HIDDEN = "man"
+LINE = needs.line("that the manual pages are found and read", HIDDEN)
+# What a script prints that the gate refuses, and the reason that it gives.
+REFUSED = (("print('0 passed, 0 failed')", "{} tested nothing"),
+           ("print('not tested: a part\\n1 passed, 0 failed')", "not tested: a part"),
+           ("print('not tested, without go (install golang-go): a part\\n1 passed, 0 failed')",
+            "not tested, without go (install golang-go): a part"),
+           ("print('1 passed, 0 failed'); print('not tested: all\\n1 passed, 0 failed')", "not tested: all"),
+           ("print('1 passed, 0 failed'); raise SystemExit(1)", "{} ended with status 1"))
+
+
+def without(tool, folder):
+    """The environment of a machine that has all commands of this one but one."""
+    for part in reversed(os.environ["PATH"].split(":")):
+        for file in Path(part).glob("*") if part else ():
+            if file.name != tool:
+                (folder / file.name).unlink(missing_ok=True)
+                (folder / file.name).symlink_to(file)
+    return {**os.environ, "PATH": str(folder)}
+
+
+def gate(words, environment):
+    """The status of all.py over install.py alone, with the line of the failure, and with what was not tested."""
+    text, status = run([sys.executable, TOP / "tests/all.py", "--scripts", "install.py", *words], env=environment)
+    return status, f"FAILED: {LINE}\n" in text, f"what was not tested:\n{LINE}\nto test it on Debian 12: apt-get install man-db\n" in text
+
+
+def of_a_tool(folder):
+    """A missing tool is a failure where no part may be left out, and else a line at the end."""
+    if needs.missing("a script that lacks a tool", HIDDEN):
+        return
+    environment = without(HIDDEN, folder)
+    for words, wanted in (((), (0, False, True)), (("--skip", ""), (1, True, True)), (("--skip", "go"), (1, True, True)),
+                          (("--skip", f"go {HIDDEN}"), (0, False, True))):
+        compare(f"all.py {words} without {HIDDEN}", wanted, gate(words, environment))
+    compare("all.py --skip '', with all tools", (0, False, False), gate(("--skip", ""), os.environ))
+    text, status = run([sys.executable, TOP / "tests/needs.py"], env=environment)
+    compare("needs.py names the package", (True, 0), ("man-db" in text.splitlines(), status))
+    text, status = run([sys.executable, TOP / "tests/all.py", "--skip", "nothing"])
+    compare("all.py --skip of a name that is unknown", (True, 2), (text.endswith("unknown: nothing\n"), status))
+
+
+def of_a_script(folder):
+    """A script that tests nothing, or leaves out a part without a name that is allowed, has failed."""
+    script = folder / "script.py"
+    words = [os.path.relpath(script, TOP / "tests")]
+    for text, reason in REFUSED:
+        script.write_text(text)
+        shown = []
+        step = steps.run("a script", words, {"jq"}, shown.append)
+        compare(f"the gate, of a script {text}", True, step.failed > 0)
+        compare(f"its reason, of a script {text}", [f"FAILED: {reason.format(words[0])}\n"], shown[-1:])
+    script.write_text("print('not tested, without jq (install jq): a part\\n0 passed, 0 failed')")
+    compare("the gate, of a script that a skip names", 0, steps.run("a script", words, {"jq"}, lambda _: None).failed)
+
+
+def names_of(script):
+    """The names that a script passes to `missing` and `line`."""
+    calls = (node for node in ast.walk(ast.parse(script.read_text())) if isinstance(node, ast.Call))
+    for call in calls:
+        if getattr(call.func, "id", getattr(call.func, "attr", None)) in ("missing", "line"):
+            yield from (word.value for word in call.args[1:] if isinstance(word, ast.Constant))
+
+
+def main():
+    scripts = [*(TOP / "tests").glob("*.py"), *(TOP / "bindings/python/tests").glob("*.py")]
+    names = {name for script in scripts for name in names_of(script)}
+    compare("names that needs.py lacks", set(), names - needs.NEEDS.keys())
+    compare("scripts ask for tools", True, len(names) > 10)
+    silent = [script.name for script in scripts if re.search(r"if [^\n]*shutil\.which\(\"", script.read_text())]
+    compare("scripts that look for a tool and say nothing", [], silent)
+    own = [script.name for script in scripts if re.search(r'print\(f?["\']not tested', script.read_text())]
+    compare("scripts with a line of their own for what isn't tested", ["untested.py"], own)
+    with tempfile.TemporaryDirectory() as scratch:
+        for part in (of_a_tool, of_a_script):
+            (Path(scratch) / part.__name__).mkdir()
+            part(Path(scratch) / part.__name__)
+    return ended()
+
+
+if __name__ == "__main__":
+    sys.exit(main())
