@@ -27,7 +27,8 @@ from harness import TOP, compare, ended
 from needs import missing
 
 KEPT = TOP / "build/fuzz"
-FULL_SECONDS = 60
+# The gate searches for a minute, from the same seed each time. (Go takes none)
+FULL_SECONDS, FULL_SEED = 60, 1
 
 
 def usable(names):
@@ -67,9 +68,9 @@ def replay(tree, targets):
             report(target, result, 1 if target.name == "go-greeting" else least)
 
 
-def search(tree, targets, seconds):
-    """Searches, and prints how much each target did."""
-    for target, result in side_by_side(lambda it: it.search(tree, KEPT / it.name, seconds), targets):
+def search(tree, targets, seconds, seed=0):
+    """Searches, and prints how much each target did. The seed 0 is another one each time."""
+    for target, result in side_by_side(lambda it: it.search(tree, KEPT / it.name, seconds, seed), targets):
         report(target, result, 1)
         print(f"fuzz: {target.name}: {result.runs} runs in {seconds} seconds, found {result.finding or 'nothing'}", flush=True)
 
@@ -144,7 +145,7 @@ def main():
         else:
             replay(tree, targets)
             if IS_FULL:
-                search(tree, targets, FULL_SECONDS)
+                search(tree, targets, FULL_SECONDS, FULL_SEED)
     return ended()
 
 

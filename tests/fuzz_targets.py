@@ -141,8 +141,8 @@ class LibFuzzer(Target):
     def replay(self, tree, kept):
         return self.ran(tree, kept, "-runs=0")
 
-    def search(self, tree, kept, seconds):
-        return self.ran(tree, kept, f"-max_total_time={seconds}", seconds=seconds + 300)
+    def search(self, tree, kept, seconds, seed=0):
+        return self.ran(tree, kept, f"-max_total_time={seconds}", f"-seed={seed}", seconds=seconds + 300)
 
     def merged(self, tree, kept, folder):
         """The inputs that were kept and reach something that the corpus doesn't."""
@@ -241,7 +241,8 @@ class Go(Target):
         text, status = run(words, cwd=place, env=environment)
         return Result(len(re.findall(r"^    --- PASS", text, re.M)), finding_of(text) if status else "", text=text)
 
-    def search(self, tree, kept, seconds):
+    def search(self, tree, kept, seconds, seed=0):
+        """Go takes another seed each time."""
         place, environment = self.place(tree)
         cache = kept.parent / "go-cache"
         cache.mkdir(parents=True, exist_ok=True)
@@ -298,8 +299,8 @@ class Python(Target):
     def replay(self, tree, kept):
         return self.ran(tree, kept)
 
-    def search(self, tree, kept, seconds):
-        return self.ran(tree, kept, str(seconds), seconds=seconds + 300)
+    def search(self, tree, kept, seconds, seed=0):
+        return self.ran(tree, kept, str(seconds), str(seed), seconds=seconds + 300)
 
     def coverage(self, tree, kept):
         self.build(tree)

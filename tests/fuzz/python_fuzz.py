@@ -2,7 +2,7 @@
 """Fuzz target: the package for Python. hypothesis makes the inputs: those of a corpus, changed by bytes and by words, and made
 messages.
 
-    python_fuzz.py CORPUS [SECONDS]
+    python_fuzz.py CORPUS [SECONDS [SEED]]
 
 Without SECONDS each input of the corpus runs once. An input is 16 bytes of arguments and then a message or a stream: see fuzz.h.
 The last line is 'Done N runs'. A broken rule is an AssertionError, with the smallest input that hypothesis finds.
@@ -248,10 +248,10 @@ def inputs(draw, corpus):
     return draw(ARGUED) + draw(st.integers(0, 2**32 - 1)).to_bytes(4, "little") + bytes(data)
 
 
-def search(corpus, seconds):
-    """Makes inputs until the time is over."""
+def search(corpus, seconds, number):
+    """Makes inputs until the time is over. The seed 0 is another one each time."""
     small = [data for data in corpus if len(data) < 1000]
-    end, number = time.monotonic() + seconds, random.SystemRandom().randrange(2**32)
+    end, number = time.monotonic() + seconds, number or random.SystemRandom().randrange(2**32)
     phases = (Phase.generate, Phase.shrink)
     while time.monotonic() < end:
         number += 1
@@ -260,12 +260,12 @@ def search(corpus, seconds):
         seed(number)(made)()
 
 
-def main(folder, seconds=0):
+def main(folder, seconds=0, number=0):
     corpus = [path.read_bytes() for path in sorted(Path(folder).iterdir())]
     for data in corpus:
         check(data)
     if float(seconds) > 0:
-        search(corpus, float(seconds))
+        search(corpus, float(seconds), int(number))
     print(f"Done {runs} runs")
 
 

@@ -45,12 +45,15 @@ void read(const fuzz_input &in, capvet::Vetted &message, kj::ArrayPtr<const kj::
   static EveryCapability caps;
   auto root = rootOf(message.reader(), caps);
   const auto walk = walkOf(root, false);
-  RULE(walk.pointers == message.report().pointers && walk.caps == message.report().capabilities);
   reached_number(1, walk.pointers);
-  if (!isAll) return;
-  RULE(walkOf(root, true).text() == walk.text());
-  root.targetSize();
-  if (walk.caps == 0) RULE(copyOf(root) == formOf(in, bytes));
+  const auto again = isAll ? walkOf(root, true) : walk;
+  if (isAll) root.targetSize();
+  const auto copy = isAll && walk.caps == 0 ? copyOf(root) : "";
+  // (libcapnp takes a landing pad of zeros for a struct without words, where the format has a null pointer)
+  if (!isStrict(in)) return;
+  RULE(walk.pointers == message.report().pointers && walk.caps == message.report().capabilities);
+  RULE(again.text() == walk.text());
+  if (!copy.empty()) RULE(copy == formOf(in, bytes));
 }
 
 void readAll(const fuzz_input &in, capvet::Vetted &message, kj::ArrayPtr<const kj::byte> bytes, bool isAll) {
