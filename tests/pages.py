@@ -22,7 +22,7 @@ from helps import HELPS
 
 PAGES = ("README.md", "docs/guide.md", "docs/service.md", "docs/output.md", "docs/format.md")
 MARKDOWN = ("README.md", "CHANGELOG.md", "CONTRIBUTING.md", "SECURITY.md",
-            *(f"docs/{path.name}" for path in sorted((TOP / "docs").glob("*.md"))))
+            *(str(path.relative_to(TOP)) for path in sorted((TOP / "docs").rglob("*.md"))))
 TAGLINE = "untrusted Cap'n Proto messages without a schema"
 TAGGED = ("README.md", "docs/capvet.1", "docs/capvet.3", "include/capvet.h", "capvet.pc.in", "crates/cap_commands/src/commands.rt",
           "bindings/rust/Cargo.toml", "bindings/rust/src/lib.rs", "packaging/README-archive.md", "packaging/README-debian.md", "packaging/debian/capvet/control",
