@@ -58,17 +58,17 @@ def number(node):
 
 
 class Page:
-    def __init__(self, template):
-        self.template = template
-        self.names = re.findall(r'^    \("([^"]+)", \["(\w+\.py)"', (TESTS / "all.py").read_text(), re.M)
-        self.files = sorted(TESTS.glob("*.py"))
+    def __init__(self, template, tests=TESTS):
+        self.template, self.tests = template, tests
+        self.names = re.findall(r'^    \("([^"]+)", \["(\w+\.py)"', (tests / "all.py").read_text(), re.M)
+        self.files = sorted(tests.glob("*.py"))
 
     def section(self, file, text):
         titles = os.path.commonprefix([title for title, name in self.names if name == file.name]).rstrip(", ")
         return f"### `{file.name}`\n\n{f'*{titles[0].upper()}{titles[1:]}.* ' if titles else ''}{prose(text)}"
 
     def scripts(self):
-        files = [TESTS / name for name in dict.fromkeys(name for _, name in self.names)]
+        files = [self.tests / name for name in dict.fromkeys(name for _, name in self.names)]
         return "\n\n".join(self.section(file, docstring(file)) for file in files)
 
     def others(self):
@@ -99,7 +99,7 @@ class Page:
     def tables(self):
         found = []
         for name in TABLES:
-            text = (TESTS / f"{name}.py").read_text()
+            text = (self.tests / f"{name}.py").read_text()
             for comment, table in re.findall(r"((?:^# [^\n]*\n)+)([A-Z_]+) = [({\[]", text, re.M):
                 said = " ".join(line[2:] for line in comment.strip().split("\n"))
                 if said[0].isupper():
