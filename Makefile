@@ -121,7 +121,7 @@ wheel: $(BUILT_ARCHIVE)
 	CAPVET_LIB_DIR="$$folder/lib" "$$python" -m pip --disable-pip-version-check wheel -q --no-index --no-deps \
 	  --no-build-isolation -w '$(wheeldir)' "$$folder/python"
 
-# Writes the pages that are made from the definitions and contracts.
+# Writes the pages that are made from the definitions, the contracts and the comments of the tests.
 .PHONY: pages
 pages:
 	python3 packaging/written/write.py

@@ -12,7 +12,7 @@ program that it starts inherits. `peer` is capvet's seconds over those of the fa
 the same job. They don't do just the same work: the programs in peers/ say what differs. `capvet vet --strict` has
 --unamplified too, as `capvet filter` has by itself.
 
-With --write the table and the machine also go into docs/speed.md, between the marks there, and the column `peer` into
+With --write the table and the machine also go into docs/internals/speed.md, between the marks there, and the column `peer` into
 docs/speed.svg as a chart. All rows have to run for this, beside both libraries.
 """
 import argparse
@@ -327,7 +327,7 @@ def options():
     parser.add_argument("--rounds", type=int, default=5)
     parser.add_argument("--only", default="", help="run the rows whose name or input has this word")
     parser.add_argument("--program", default=str(TOP / "build/capvet"))
-    parser.add_argument("--write", action="store_true", help="write docs/speed.md and docs/speed.svg")
+    parser.add_argument("--write", action="store_true", help="write docs/internals/speed.md and docs/speed.svg")
     args = parser.parse_args()
     if not Path(args.program).is_file():
         sys.exit(f"{args.program} isn't there: build it by `make build`")
@@ -413,11 +413,11 @@ def machine():
 
 
 def write_pages(chosen, lines, results, rounds):
-    """Puts the results into docs/speed.svg and docs/speed.md."""
+    """Puts the results into docs/speed.svg and docs/internals/speed.md."""
     (TOP / "docs/speed.svg").write_text(chart.svg(ratios(chosen, results)))
     picture = "![capvet's time over that of the faster library]({})\n"
-    measured = f"Machine: {machine()}. The median of {rounds} rounds.\n\n{chart.table([HEADS, *lines])}\n{picture.format('speed.svg')}"
-    page = TOP / "docs/speed.md"
+    measured = f"Machine: {machine()}. The median of {rounds} rounds.\n\n{chart.table([HEADS, *lines])}\n{picture.format('../speed.svg')}"
+    page = TOP / "docs/internals/speed.md"
     page.write_text(chart.between(page.read_text(), "measured", measured))
 
 

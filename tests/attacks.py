@@ -7,9 +7,15 @@ There is a server for each way that include/capvet has: over `VettingStream`, ov
 and `capvet::Server` (tests/readers/served.cpp). After each attack a client gets the same results as before. The memory that
 the server has allocated is back within 10 %, and so are its descriptors.
 
-The attacks are: changed messages, each on a connection of its own; more idle connections than there are descriptors; peers
-that send a byte a second; frames that are cut, too large or of too many segments; peers that read no reply; a refused
-message after many calls at once; connections that end in half, or by a reset. Each refusal has to be reported, with the
+These are the attacks:
+
+- changed messages, each on a connection of its own;
+- frames that are cut, too large or of too many segments;
+- more idle connections than there are descriptors, and peers that send a byte a second;
+- peers that read no reply, and a refused message after many calls at once;
+- connections that end in half, or by a reset.
+
+Each refusal has to be reported, with the
 peer, the length of what came and the text of `capvet vet`.
 
 With --full there are more of each. What isn't installed is said in a line of its own. The last line is 'N passed, M failed',
@@ -40,14 +46,14 @@ WAYS = ("with", "bytes", "served")
 FLAGS = ("-std=c++17", "-O1", "-Wall", "-Wextra", "-Wpedantic", "-Wconversion", "-Werror")
 SECONDS = 60
 # What a server gives its peers, in seconds, and the slack for this machine.
-TIME, SLACK = cases(2, full=3), 20
-MUTATED = cases(150, full=20_000)
-IDLE, DESCRIPTORS = cases((150, 128), full=(1_100, 1_024))
-SLOW = cases(8, full=50)
-FRAMES = cases(8, full=100)
-CALLS = cases(2_000, full=20_000)
+TIME, SLACK = cases(2, full=3), 20  # seconds that a server gives its peers
+MUTATED = cases(150, full=20_000)  # changed messages, each on a connection of its own
+IDLE, DESCRIPTORS = cases((150, 128), full=(1_100, 1_024))  # idle connections, and descriptors of the server
+SLOW = cases(8, full=50)  # peers that send a byte a second
+FRAMES = cases(8, full=100)  # frames that are cut, too large or of too many segments
+CALLS = cases(2_000, full=20_000)  # calls at once before a refused message
 # Calls with large replies, and the bytes of the rows in one.
-LARGE, REPLY = cases(100, full=300), 20_000 * 4 * 8
+LARGE, REPLY = cases(100, full=300), 20_000 * 4 * 8  # calls with large replies that nobody reads
 CYCLE = (TOP / "examples/cycle.bin").read_bytes()
 CIRCLE = "refused DepthLimit at 0:0 pointers 33"
 

@@ -4,10 +4,10 @@ by bindings/rust-capnp.
 
     before_readers.py PROGRAM ARCHIVE [--full]
 
-Many messages of fixed seeds are changed and vetted in process: 1,000, or 5,000 with --full. What is refused has to
-have the line of `capvet vet --strict --unamplified`. What is accepted is read under no more than the limits that a
-message needs, and no reading may fail: the readers have to find the bytes, the pointers and the capabilities of the
-model in tests/readers.py.
+Many messages of fixed seeds are changed and vetted in process: 1,000, or 5,000 with --full. A refused one has to
+have the line of `capvet vet --strict --unamplified`. An accepted one is read under no more than the limits that it needs,
+and no reading may fail. The readers have to find the bytes, the pointers and the capabilities of the model in
+tests/readers.py. Peers, callers and callbacks of the streams misbehave too (tests/readers/faults.cpp).
 
 As many changed messages of RPC are also sent to a server over `VettingStream`, on loopback, each on a connection of its
 own. Each has to be refused or accepted as the program does. No exception may come from reading pointers or from limits,
@@ -44,7 +44,7 @@ CPP = TOP / "examples/cpp"
 STRICT = ("-std=c++17", "-Wall", "-Wextra", "-Wpedantic", "-Wconversion", "-Werror")
 CHECKED = ("-O0", "-g", "-fsanitize=address,undefined", "-fno-sanitize-recover=all")
 CARGO = ("--offline", "--quiet")
-MANY = cases(1_000, full=5_000)
+MANY = cases(1_000, full=5_000)  # changed messages, and as many connections
 # The most instructions of a call to a server with vetting, as a part of those without, for each kind of call.
 MOST = {"with": {"small": 1.03, "list": 1.15}, "served": {"small": 1.03, "list": 1.15}, "bytes": {"small": 1.08, "list": 1.15}}
 # How many of the frames of valid calls come before a changed message.

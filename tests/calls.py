@@ -21,13 +21,14 @@ the samples, of each prefix of one, and of some that are made up. `texts` unpack
 `packing` looks at known words, and packs MANY lists of words, as the program does. They are the samples, each prefix
 of one, changed ones, runs of about the greatest length of a group, and words of few kinds.
 
-`messages` packs the samples and made messages of 1 to 20 segments, a fifth of MANY. Where Cap'n Proto's C++ library is
-installed, the bytes are those that its writePackedMessage gives. `pieces` unpacks packed streams a piece at a time, and what
-it finds is compared with a model here: samples and made messages, packed each by itself or as a whole, and cut at each byte.
+`messages` packs the samples and made messages of 1 to 20 segments, a fifth of MANY. The bytes are those that
+writePackedMessage of Cap'n Proto's C++ library gives, where that is installed. `pieces` unpacks packed streams a piece at a time,
+and a model here has the messages. The streams are samples and made messages, packed each by itself or as a whole, and cut at
+each byte.
 `unpacking` makes the calls over packed streams, many with changed bytes, and each is compared with tests/unpacking.py.
 
-All but `allocations` run with the compiler's checks of memory, and `calls`, `texts`, `packing`, `messages`, `pieces`,
-`unpacking`, `nodes`, `ranges` and `paths` under valgrind, where these are installed. The last line is 'N passed, M failed', and the
+All but `allocations` run with the compiler's checks of memory, and all but `allocations`, `lines` and `flags` under valgrind,
+where these are installed. The last line is 'N passed, M failed', and the
 status is 1 where something failed.
 """
 import random
@@ -55,12 +56,12 @@ from unpacking import changed_text, made_text, next_word
 
 WARN = ["-Wall", "-Wextra", "-pedantic", "-Werror", f"-I{TOP / 'include'}"]
 CHECKS = ["-fsanitize=address,undefined", "-fno-sanitize-recover=all"]
-MANY = cases(20_000, full=100_000)
+MANY = cases(20_000, full=100_000)  # changed messages, canonical copies, lists of words, packed texts: of each
 SEED = 20240229
 # Packed texts that the program and the library unpack each by a run of its own.
-TEXTS = cases(400, full=1000)
+TEXTS = cases(400, full=1000)  # packed texts, each by a run of its own
 # Of this number of lists of words one is also packed under valgrind, and of packed texts one is unpacked.
-WATCHED = cases(10, full=1)
+WATCHED = cases(10, full=1)  # under valgrind: one of as many lists of words and packed texts
 
 
 def compiled(folder, name, compiler, standard, archive, *options):
@@ -320,14 +321,14 @@ def packed_streams(texts, frames, program, chance):
     small_frames = [frame for frame in frames if len(frame) < 300]
     for text in texts[:7]:
         yield 1000, text
-    for number in range(cases(100, full=400)):
+    for number in range(cases(100, full=400)):  # packed streams of several messages, unpacked in pieces
         some = [chance.choice(small) for _ in range(chance.randrange(1, 5))]
         joined = b"".join(chance.choice(small_frames) for _ in range(chance.randrange(1, 5)))
         joined += chance.choice((b"", bytes(8), bytes(32)))
         for text in (b"".join(some), outputs([program, "pack"], joined)[0]):
             for piece in (1, 7, 64, 1 << 20):
                 yield piece, text
-            if number < cases(5, full=20) and len(text) < 600:
+            if number < cases(5, full=20) and len(text) < 600:  # of these, streams that are cut at each byte
                 for end in range(len(text)):
                     yield chance.choice((1, 3, 1 << 20)), text[:end]
 

@@ -5,8 +5,10 @@
 
 The clone has the files of this folder, committed. The archive for Linux is unpacked where there is no `rt`, and the commands of its
 README and pages are run word for word. The Debian packages are installed below a folder and removed. Those for arm64 are unpacked,
-and their programs run by qemu. With --full a second clone at another path gives the same sums, the guard is packed too, apt installs
-the packages in fresh roots of Debian (roots.py), and an image is built. What a machine has no tool for is said in a line of its own.
+and their programs run by qemu. The programs and archives in all packages are the built ones, and SHA256SUMS and BUILT have their
+sums. The shared library exports the calls and nothing else. The wheels need no newer C library than their tag says. A change that
+is not committed is refused. With --full a second clone at another path gives the same sums, and the guard is packed
+too. Then apt installs the packages in fresh roots of Debian (roots.py), and an image is built. What a machine has no tool for is said in a line of its own.
 The last line is 'N passed, M failed', and the status is 1 if a case failed.
 """
 import hashlib

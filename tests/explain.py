@@ -4,8 +4,8 @@
     explain.py PROGRAM [--full]
 
 The verdict of a message is that of tests/model.py. The lines after it are written here as docs/output.md defines them, from
-the words of the message alone. 6,000 messages of a fixed seed are changed or made up, or 100,000 with --full, and each goes
-through the program once with one of the lines of OPTIONS. Each reason has to be among the refusals, as often as LEAST says
+the words of the message alone. Messages of a fixed seed are changed or made up: 6,000, or 100,000 with --full. Each
+goes through the program once with one of the lines of OPTIONS. Each reason has to be among the refusals, as often as LEAST says
 for 6,000 messages. The last line is 'N passed, M failed', and the status is 1 if a case failed.
 """
 import random
@@ -21,7 +21,7 @@ from made import changed, made_up, samples
 from packing import packed
 from trees import bits, offset
 
-MANY = cases(6_000, full=100_000)
+MANY = cases(6_000, full=100_000)  # changed messages
 # How many messages a run of the program has.
 RUN = 500
 OPTIONS = ("", "--strict --unamplified", "--exclusive", "--strict --exclusive", "--words 60 --depth 4", "--packed",

@@ -9,8 +9,12 @@ error. 5,000 messages of a fixed seed are changed, or 10,000 with --full. What i
 `vet --strict --unamplified`. Packed output has to be each table and each segment packed by itself, and `capnp convert`
 has to read it.
 
-Streams also come in pieces, break off, and have messages larger than a limit. Outputs are closed, full, or take a
-number of bytes.
+A message is passed on while the input stays open, with each length of the next one in the same write. So is the line of a refused
+one. `--stop` ends a run after the first refused message, and doesn't look at what follows. Streams that are cut at each byte, or
+have a message that is too large, have exactly the messages before.
+
+Outputs are closed, full, or take a number of bytes: what was taken is a prefix, the status is 3, and nothing more is read. A
+standard error that fails in these ways changes nothing else. Messages of 64 MiB have one segment and 511.
 
 What isn't installed is said in a line of its own. The last line is 'N passed, M failed', and the status is 1 if a case
 failed.
@@ -40,7 +44,7 @@ from made import made_up
 from needs import missing
 from packing import packed
 
-MANY = cases(5_000, full=10_000)
+MANY = cases(5_000, full=10_000)  # changed messages
 MIB = 1 << 20
 # How many MiB a program has resident beside its messages. (Which pages of its files and of the C library these are depends on
 # what the system has read ahead, so a few tens of KiB come and go)

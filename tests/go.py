@@ -3,8 +3,12 @@
 
     go.py [PROGRAM [ARCHIVE]] [--full] [--idle]
 
-Its tests run with the race detector and compare it with PROGRAM. A module outside of the repository imports it, and another
-one imports that module. The example and the commands of docs/go.md write what the
+Its tests run with the race detector and compare it with PROGRAM: verdicts, trees, segments, canonical and packed forms. The
+inputs are samples, cut streams, changed tables, and changed messages under five sets of limits. `GetRange` gives the nodes
+and the errors of `Get`. A scanner reads no byte after a plain frame, and a message is there while a part of the next one has
+come, wherever that is cut. Over a socket each message is there before the next is sent. A claim of 64 MiB without its words
+allocates less than 256 KiB, and a scanner that waits holds no large buffer. A module outside of the repository imports the
+package, and another one imports that module. The example and the commands of docs/go.md write what the
 program and the page show, and a call of a small message is timed beside the same call from C. With --full 20,000 changed
 messages are compared, and the streams are cut at each byte. With --idle the call has to take at most OVERHEAD more than from
 C, for which the machine may do nothing else. A line says what isn't tested without `go`. The last line is 'N passed, M failed', and the status is 1 if a case failed.

@@ -230,7 +230,7 @@ def as_rpc(folder):
 
 def as_filter(folder):
     """Streams of a few changed messages, some of them cut: as many are passed on as by `capvet filter --stop`, as they came."""
-    messages, ended = list(filter.changed(cases(2000, 20_000))), 0
+    messages, ended = list(filter.changed(cases(2000, 20_000))), 0  # changed messages, of which streams are made
     for options in FILTERS:
         is_packed = "--packed" in options
         words = ["--listen-packed" if word == "--packed" else word for word in options]
@@ -354,7 +354,8 @@ def built_load(folder):
 
 def storm(folder, load):
     """Many connections at once. Nothing is lost, and the program accepts all that arrived."""
-    connections, messages = cases(500, 5000), cases(100, 200)
+    connections = cases(500, 5000)  # connections at once
+    messages = cases(100, 200)  # messages on each of them
     refused = len([i for i in range(connections) if i % 7 == 3])
     passed = connections * messages - refused * (messages - messages // 2)
     if missing(f"{connections} connections at once", "descriptors"):
@@ -383,14 +384,14 @@ def times(folder, load):
     with Guard(folder, server, "--direction", "none") as none, Guard(folder, server) as both:
         proxies = [f"127.0.0.1:{guard.port}" for guard in (none, both)]
         for size, least in RATES.items():
-            text, status = run([load, "rate", server, str(size), str(cases(1 << 27, 1 << 30)), *proxies])
+            text, status = run([load, "rate", server, str(size), str(cases(1 << 27, 1 << 30)), *proxies])  # bytes of each size of a message
             compare(f"rates of {size} bytes", 0, status)
             if status == 0:
                 without, vetted = map(float, text.split())
                 print(f"messages of {size} bytes: {without} MB/s without vetting, {vetted} with it: {vetted / without:.2f}")
                 if IS_IDLE:
                     compare(f"the rate of {size} bytes", True, vetted >= least * without)
-        text, status = run([load, "latency", server, str(cases(5000, 50000)), server, *proxies])
+        text, status = run([load, "latency", server, str(cases(5000, 50000)), server, *proxies])  # calls for a time
         compare("calls of 1 KiB", 0, status)
         if status == 0:
             direct, p_direct, without, p_without, vetted, p_vetted = map(float, text.split())

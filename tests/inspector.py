@@ -3,8 +3,8 @@
 
     inspector.py PROGRAM ARCHIVE [--full]
 
-The page is built here. What it finds out by itself, by tests/inspector/check.mjs in Node: the way to a refused pointer, the reason
-there, and the use of each word, over MANY changed messages and made-up ones. The other tests are in the browser, by its keys and
+The page is built here. Its decoder and walk run in Node, by tests/inspector/check.mjs, over MANY changed messages and made-up ones.
+They are compared by the way to a refused pointer, the reason there, and the use of each word. The other tests are in the browser, by its keys and
 controls: the samples, damaged, cut and packed streams, limits, files that are saved, and a name for each control. No request leaves
 the page, and its console stays empty. With --full a stream of 100,000 messages and a message of 64 MiB are opened too. With --idle
 as well, the view of each selection there is drawn within 50 ms, for which the machine may do nothing else.
@@ -32,7 +32,9 @@ from harness import PROGRAM, TOP, compare, ended, expect
 from needs import missing
 
 PAGE = TOP / "build/inspector.html"
-MANY, SHOWN, SEED = cases(2_000, full=50_000), cases(60, full=1_000), 20261126
+MANY = cases(2_000, full=50_000)  # changed messages, in Node
+SHOWN = cases(60, full=1_000)  # changed messages, in the browser
+SEED = 20261126
 SECONDS = 60
 # How many milliseconds a selection may take. (beside other work a time means little)
 LATEST = 50 if IS_IDLE else 1_000

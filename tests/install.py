@@ -1,6 +1,10 @@
 #!/usr/bin/env python3
 """Installs the built program and library into scratch folders as their users do, and compares what is there.
 
+`make install` puts each file where PREFIX and DESTDIR say, with its mode, and `make uninstall` removes just these. The manual
+pages are read without a warning. The page of the program has the commands and options of help, and shows what the program
+writes. The page of the library has each call of the header. Bash completes each place of a command line.
+
     install.py [PROGRAM [ARCHIVE]]
 
 A case is one call of `compare`. Failures are printed as they come. The last line is 'N passed, M failed', and the

@@ -6,8 +6,8 @@
 `node --test` runs its tests. `tsc` checks its types, each program of the pages, and that wrong programs are refused. The programs
 and commands of docs/js.md write what the page shows.
 
-The package answers requests in Node, and in a page and a worker of headless Chromium: the commands of PROGRAM over MANY changed
-messages of a fixed seed, packed and cut streams, and changed tables. Each answer has to be what PROGRAM writes. Packed texts are
+The package answers requests in Node, and in a page and a worker of headless Chromium. They are the commands of PROGRAM over MANY
+changed messages of a fixed seed, packed and cut streams, and changed tables. Each answer has to be what PROGRAM writes. Packed texts are
 unpacked as the library for C does. The worker has the form with the module inlined.
 
 A call of a message of about 4 KiB is timed beside the same call from C. With --idle it takes at most MOST times as long, for which

@@ -12,7 +12,7 @@ from needs import missing
 from unpacking import changed_text, made_text
 
 HERE = TOP / "tests/js"
-MANY, PIECE = cases(1_000, full=100_000), 1_000
+MANY, PIECE = cases(1_000, full=100_000), 1_000  # changed messages, in Node and in Chromium
 SEED = 20261126
 # How many requests are answered by one run of Node.
 GROUP = 40
@@ -96,7 +96,7 @@ def faults(chance, messages):
     """Requests about streams that are cut, and about messages with changed tables."""
     stream = b"".join(messages[:4])
     packed = written("pack", stream)
-    for _ in range(cases(40, full=400)):
+    for _ in range(cases(40, full=400)):  # cut streams and changed tables, each in two ways
         yield request("vet", STRICT, stream[:chance.randrange(len(stream) + 1)], chance)
         yield request("vet", LAX, packed[:chance.randrange(len(packed) + 1)], chance, packed=True)
         message = bytearray(chance.choice(messages))

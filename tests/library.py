@@ -3,7 +3,20 @@
 
     library.py [PROGRAM [ARCHIVE]]
 
-Each example is built against an installed tree, and has to write what PROGRAM writes of the same bytes. What a machine has
+Each example is built against an installed tree and a staged one, without a warning. It has to write what PROGRAM writes of the
+same bytes: of samples, of cut streams and of messages with a bit turned.
+
+- Each program of docs/c.md is built by gcc and clang, and prints what the page shows. The page has each call.
+- `sign.c` verifies what it signs, and refuses other words. `route.c` sorts made messages.
+- `packed_server.c` answers peers on a socket (connections.py): cut streams, messages at its limit and
+  above, slow peers, a signal within a message. Every second call to the system is interrupted. Its memory
+  is bounded while a gigabyte comes in a packed megabyte.
+- The tests of the crate and of its pages pass. It is formatted, clippy finds nothing, and Rust 1.63
+  compiles it. Each of its declarations is that of the header.
+- The crate returns what PROGRAM prints, for the samples and for 500 changed messages under five sets of
+  limits. Without the library its build says so in one line.
+
+ What a machine has
 no compiler for is said in a line of its own. The last line is 'N passed, M failed', and the status is 1 where a case failed.
 """
 import hashlib

@@ -4,8 +4,8 @@
     live.py [PROGRAM]
 
 A message and a part of the next one come in one write, for each length of the part, or for some if the message is long.
-The result of the first has to come within 0.2 s, before anything more is sent. What the command writes of a file is the
-measure. A case that is late is tried again, since the machine may do other work: a result that is held back comes in no
+The result of the first has to come within 0.2 s, before anything more is sent. The command has to write what it writes of
+a file. A case that is late is tried again, since the machine may do other work: a result that is held back comes in no
 trial. Another case counts the writes of a command: small messages have to share them. The last line is 'N passed, M
 failed', and the status is 1 if a case failed.
 """
@@ -48,9 +48,9 @@ MESSAGES = {
 
 def parts_of(size):
     """The lengths of a part of this many bytes: each, or some if there are many."""
-    if size <= cases(50, full=200):
+    if size <= cases(50, full=200):  # bytes of a part of which each length is tried
         return list(range(size))
-    some = random.Random(size).sample(range(size), cases(10, full=60))
+    some = random.Random(size).sample(range(size), cases(10, full=60))  # other lengths of a longer part
     return sorted({0, 1, 4, 7, 8, 9, 16, size - 9, size - 8, size - 1, *some})
 
 

@@ -9,12 +9,12 @@ and a stream of MANY changed messages, by each command. Outputs and statuses hav
 
 The libraries are the archive for arm64, by qemu, and the WebAssembly module, in Node and in headless Chromium. Both make the
 calls of tests/machines/replay.c and replay.mjs: every call of the header that takes bytes, over MANY changed messages and packed
-texts of a fixed seed, with all kinds of limits, flags, paths and sizes of buffers. tests/c/calls.c runs over the archive for arm64. What each call leaves has to be equal to what
-the archive for this machine leaves, byte for byte.
+texts of a fixed seed. Limits, flags, paths and sizes of buffers are of all kinds. tests/c/calls.c runs over the archive for arm64.
+Each call has to leave, byte for byte, what it leaves by the archive for this machine.
 
-A described call is `c`, the number of the call, how many arguments there are and 8 bytes for each, the range of the arena that is
-filled before the call and written after it, and what is prepared between. What is prepared is a list of bytes, each with its place
-and length, and a list of places that get the address of another place. `w` only prepares. All numbers but the arguments take 4
+A described call is `c`, the number of the call, how many arguments there are, and 8 bytes for each. Then comes the range of the
+arena that is filled before the call and written after it. The preparation follows: a list of bytes, each with its place and
+length, and a list of places that get the address of another place. `w` only prepares. All numbers but the arguments take 4
 bytes. A place is an offset from the start of the arena, and all ones are NULL.
 
 The last line is 'N passed, M failed', and the status is 1 where a case failed.
@@ -38,7 +38,7 @@ from needs import missing
 from unpacking import made_text
 
 BUILT, HERE = TOP / "build", TOP / "tests/machines"
-MANY = cases(1_000, full=50_000)
+MANY = cases(1_000, full=50_000)  # changed messages by each command and each call, on each build
 # How many messages are described at once.
 PIECE = 1_000
 SEED = 20260801

@@ -1,5 +1,5 @@
 #!/usr/bin/env python3
-"""What the scripts need of a machine, and the packages of Debian 12 that have it.
+"""The tools and libraries that the scripts need, and the packages of Debian 12 that have them.
 
     needs.py            prints the packages that this machine lacks, one a line
 

@@ -25,7 +25,8 @@ NODE = ("kind", "element", "count", "data_words", "pointers", "capability", "off
 # the answer, the node and the report, with the reserved fields
 REPLY = struct.Struct("<I6I2Q2Q6Q4I4Q")
 NODE_FIELDS, REPORT = struct.Struct("<6I2Q2Q"), struct.Struct("<6Q4I4Q")
-MANY, RANGES = cases(20_000, full=100_000), cases(10_000, full=40_000)
+MANY = cases(20_000, full=100_000)  # paths
+RANGES = cases(10_000, full=40_000)  # ranges of paths
 LEAST = MANY // 5
 HIGHEST = 0xFFFFFFFF
 # A root of two pointers. The first is to a list of three structs of a word and a pointer: to a byte, null, and out of bounds.
@@ -315,7 +316,7 @@ def compare_nodes(program, many):
 def compare_with_program(asking, program, samples, chance):
     """The nodes of accepted messages, beside what the program prints for them."""
     small = [message for message in samples if len(message) < 1000]
-    limits, nodes, times = Limits(flags=6), 0, cases(40, full=200)
+    limits, nodes, times = Limits(flags=6), 0, cases(40, full=200)  # runs of `get` beside the nodes
     for _ in range(times):
         messages = samples + [made_up(chance) if chance.randrange(3) == 0 else changed(chance.choice(small), chance)
                               for _ in range(120)]

@@ -22,7 +22,7 @@ from helps import HELPS
 
 PAGES = ("README.md", "docs/guide.md", "docs/service.md", "docs/output.md", "docs/format.md")
 MARKDOWN = ("README.md", "CHANGELOG.md", "CONTRIBUTING.md", "SECURITY.md",
-            *(f"docs/{path.name}" for path in sorted((TOP / "docs").glob("*.md"))))
+            *(str(path.relative_to(TOP)) for path in sorted((TOP / "docs").rglob("*.md"))))
 TAGLINE = "untrusted Cap'n Proto messages without a schema"
 TAGGED = ("README.md", "docs/capvet.1", "docs/capvet.3", "include/capvet.h", "capvet.pc.in", "crates/cap_commands/src/commands.rt",
           "bindings/rust/Cargo.toml", "bindings/rust/src/lib.rs", "packaging/README-archive.md", "packaging/README-debian.md", "packaging/debian/capvet/control",
@@ -85,9 +85,11 @@ LACKS = (
 
 
 def written():
-    """The pages that a script writes from the sources are up to date. It refuses a page of definitions that lacks one."""
+    """The pages that a script writes from the sources are up to date. It refuses a page of definitions that lacks one, and a
+    number of cases without a comment."""
     folder = TOP / "packaging/written"
     sys.path.insert(0, str(folder))
+    import scripts
     from believe import Page
     from write import stale
     try:
@@ -103,6 +105,15 @@ def written():
         except LookupError as fault:
             said = fault.args[0].split("\n")[0]
         compare(f"the page of definitions without {taken}", wanted, said)
+    for comment, wanted in (("  # messages", "| `some.py` | messages | 1 | 2,000 |"), ("", "")):
+        with tempfile.TemporaryDirectory() as place:
+            (Path(place) / "all.py").touch()
+            (Path(place) / "some.py").write_text(f"MANY = cases(1, full=2_000){comment}\n")
+            try:
+                said = scripts.Page("{cases}", Path(place)).write().split("\n")[-1]
+            except LookupError as fault:
+                said = "" if "some.py, line 1" in fault.args[0] else fault.args[0]
+            compare(f"the number of cases with {comment!r}", wanted, said)
 
 
 def links(page):

@@ -16,7 +16,7 @@ from needs import missing
 
 ANSWERS = model.ANSWERS | dict(NO_NODE=21)
 HEAD = struct.Struct("<IQ6Q4I4Q")
-MANY = cases(10_000, full=100_000)
+MANY = cases(10_000, full=100_000)  # numbers of pointers
 POINTER, ELEMENT = 0, 1
 NAMED = ("OVERLAP", "NullPad", "EmptySegment", "CapabilityPad", "RESERVED", "SEGMENT_MISSING", "PAD_OUTSIDE", "PAD_IS_FAR",
          "PAD_NOT_FAR", "TAG_KIND", "TAG_OFFSET", "OUT_OF_SEGMENT", "COMPOSITE_TAG", "COMPOSITE_OVERRUN", "DEPTH_LIMIT", "WORD_LIMIT")

@@ -7,6 +7,18 @@ A case is one call of `case`. Failures are printed as they come. The last line i
 the status is 1 where a case failed. The expected texts were written from docs/output.md, and the numbers of the
 samples counted by another program. The texts of a wrong command line are the library clap's. Streams and command
 lines are in tables.py, with what the program has to write for them, and the texts of help are in helps.py.
+
+- Each command runs over each sample, from a file and from standard input, plain, packed and back.
+  tests/trees.py reads the trees too. Canonical copies are those of Cap'n Proto's own tool.
+- The deepest tree is dumped with a stack of 1 MiB.
+- Inputs are cut at each byte of a message, and come one, three or seven bytes at a time.
+- Each form that `--strict` refuses comes alone and before other faults, with messages near to it.
+- Lists of up to 600 words of each kind are packed and unpacked, beside another packer in Python.
+- Outputs and standard error fail after each number of bytes. Pipes are closed at each byte of a text.
+- There is too little address space, for the program or for a message. A file is missing, or is a
+  directory, and a device is full.
+- Memory is bounded: less than 4 MiB for a table that claims 64 MiB without contents and for 64 MiB of
+  small messages. A message of 64 MiB takes its size and 3 MiB, and a 64th of it for `--exclusive`.
 """
 import fcntl
 import os

@@ -3,9 +3,8 @@
 
     readers.py PROGRAM [--full]
 
-A message is strict if it is accepted, has at most 511 segments, and no pointer that a path reaches is of one of three
-constructs that a reader fails on. 20,000 messages of fixed seeds are changed, or 200,000 with --full. Each strict one
-is read under the limits that the guide gives for a reader. No reading may fail. The readers have to find the bytes, the
+A message is strict if it is accepted, has at most 511 segments, and none of its pointers is of three constructs that a
+reader fails on. Messages of fixed seeds are changed: 20,000, or 200,000 with --full. Each strict one is read under the limits that the guide gives for a reader. No reading may fail. The readers have to find the bytes, the
 pointers and the capabilities that tests/model.py finds, and to make the canonical copy that the program makes.
 
 Messages of the C++ library's own encoder, and those under examples/, have to be strict and unamplified. What is not strict
@@ -33,7 +32,7 @@ from model import SLACK
 from needs import missing
 
 HERE = TOP / "tests/readers"
-MANY = cases(20_000, full=200_000)
+MANY = cases(20_000, full=200_000)  # changed messages
 BATCH = 50_000
 CONTENTS = 30
 # The limit of the charge, which a reader goes through word by word.

@@ -3,8 +3,8 @@
 
     rust_rpc.py [PROGRAM [ARCHIVE]] [--full]
 
-The server is examples/rust/rpc. Its own client and one of libcapnp get the same results as from libcapnp's server. 1,000 changed
-messages of RPC, or 20,000 with --full, have connections of their own, and the server has to say of each what PROGRAM says.
+The server is examples/rust/rpc. Its own client and one of libcapnp get the same results as from libcapnp's server. Changed
+messages of RPC have connections of their own: 1,000, or 20,000 with --full. The server has to say of each what PROGRAM says.
 Then come frames that are cut or too large, peers that send slowly or don't read, more connections than descriptors, and
 connections that are reset. After each attack a client gets its results, and the server's memory is no more than before.
 With --full valgrind counts the instructions of calls, with vetting and without. Without the crates a line says what isn't
@@ -38,7 +38,7 @@ from library import CARGO, tidy
 from needs import missing
 from readers import Tree
 
-MANY = cases(1_000, full=20_000)
+MANY = cases(1_000, full=20_000)  # changed messages, and as many connections
 LIMITS = ("--size", 1 << 17, "--words", 1 << 17, "--depth", 32)
 # The limits of the server's command line.
 MOST, PER_PEER, SECONDS = 5_000, 5_000, 2

@@ -3,9 +3,11 @@
 
     scale.py [PROGRAM [ARCHIVE]] [--idle]
 
-The summary of the Dask example is that of PROGRAM, also if a worker is killed halfway, and if the run is stopped and resumed.
-With --idle, for which the machine may do nothing else, the archive has 1 GiB and not 32 MiB, and two workers have to need at
-most 0.6 of the time of one. A line says what isn't tested without `parallel` or Dask. The last line is 'N passed, M failed',
+The summary of the Dask example is that of PROGRAM, also if a worker is killed halfway, and if the run is stopped and resumed. Its
+rows are those of `python -m capvet vet`. A file that is cut, missing or given twice, or that kills the process that opens it, costs
+its own row. Files are packed and compressed too. Nothing is tested over SSH or on several machines.
+With --idle the archive has 1 GiB and not 32 MiB, and two workers have to need at most 0.6 of the time of one. The machine
+may do nothing else then. A line says what isn't tested without `parallel` or Dask. The last line is 'N passed, M failed',
 and the status is 1 if a case failed.
 """
 import csv

@@ -4,7 +4,7 @@
     stack.py ARCHIVE [--full]
 
 tests/c/stack.c paints a stack before each call. The messages are the ones that take most: one of eleven segments in which each
-landing pad is of two words, the deepest trees, the most segments, and 2,000 made ones, or 20,000 with --full. In these each
+landing pad is of two words, the deepest trees, and the most segments. Others are made: 2,000, or 20,000 with --full. In these each
 pointer is near, or far over a pad of one word or two. Some are changed, so that they are refused. The message of eleven
 segments is also vetted on a thread with 24 KiB of stack. The figure of each call is printed.
 
@@ -25,7 +25,7 @@ from model import AMPLIFIED, NO_TABLE, NONSTRICT
 from needs import missing
 from readers import far, near
 
-MANY = cases(2_000, full=20_000)
+MANY = cases(2_000, full=20_000)  # made messages
 THREAD = 24 * 1024
 FLAGS = (0, 0, NONSTRICT | AMPLIFIED, NONSTRICT | AMPLIFIED | 1, NO_TABLE | AMPLIFIED)
 COMPOSITE = 7

@@ -16,7 +16,7 @@ from needs import missing
 
 # the answer, consumed, required, the state and the report, with the reserved fields
 REPLY = struct.Struct("<I2QQ2I2Q6Q4I4Q")
-STREAMS = cases(20_000, full=100_000)
+STREAMS = cases(20_000, full=100_000)  # packed streams, unpacked call by call
 LEAST = STREAMS // 100
 ZERO = (0, 0, 0, 0, 0)
 

@@ -43,10 +43,11 @@ type Scanner struct {
 	check  func([]byte, Limits) (Report, error)
 	next   func(*Scanner) error
 
-	change  func(bytes int) bool // says whether the buffer may grow
-	buffer  []byte               // the message so far
-	large   sync.Pool            // a buffer of more than step bytes, between two messages
-	readErr error                // what the reader returned together with its last bytes
+	change func(bytes int) bool // says whether the buffer may grow
+	buffer []byte               // the message so far
+	// (a pool for all scanners would show the bytes of one connection to another that kept a slice too long)
+	large   sync.Pool // a buffer of more than step bytes, between two messages
+	readErr error     // what the reader returned together with its last bytes
 
 	packed []byte             // a packed stream: what was read and is not unpacked
 	ahead  []byte             // the buffer of packed

@@ -84,7 +84,7 @@ class Page:
             for file in files:
                 defined = set(" ".join(re.findall(rf"\{{define {crate} {file}: ([^}}]*)\}}", believed)).split())
                 whole = all(set(chunk.names) & defined for chunk in chunks(spec(crate, file)))
-                texts.append(f"`{file}` (*believe*)" if whole else f"`{file}`: {self.heading(crate, file)}")
+                texts.append(f"`{file}`" if whole else f"`{file}`: {self.heading(crate, file)}")
             rows.append(f"| `{crate}/specs` | {sum(lines[crate, file] for file in files)} | {'; '.join(texts)} |")
         return "\n".join(rows)
 

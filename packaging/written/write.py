@@ -1,5 +1,5 @@
 #!/usr/bin/env python3
-"""Writes the pages that are made from the sources: docs/believe.md and docs/promises.md.
+"""Writes the pages that are made from the sources: docs/believe.md, docs/promises.md and docs/internals/tests.md.
 
     write.py [--check]
 
@@ -10,15 +10,16 @@ from pathlib import Path
 
 import believe
 import promises
+import scripts
 from source import TOP
 
 HERE = Path(__file__).resolve().parent
-PAGES = {"believe.md": believe.Page, "promises.md": promises.Page}
+PAGES = {"believe.md": believe.Page, "promises.md": promises.Page, "internals/tests.md": scripts.Page}
 
 
 def stale():
     """The pages that aren't what they should be: each with its text."""
-    texts = {TOP / "docs" / name: page((HERE / f"{name}.in").read_text()).write() for name, page in PAGES.items()}
+    texts = {TOP / "docs" / name: page((HERE / f"{Path(name).name}.in").read_text()).write() for name, page in PAGES.items()}
     return {file: text for file, text in texts.items() if not file.exists() or file.read_text() != text}
 
 

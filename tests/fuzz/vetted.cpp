@@ -1,6 +1,6 @@
 /* Fuzz target: `vetted` and `tryVetted` of kj-message.h. The answer and the report are those of capvet_vet, at any address,
- * borrowed and owned. What is accepted as strict is read by libcapnp under the limits for that message alone, once and four
- * times: nothing throws, and pointers, capabilities and the canonical form are those of capvet. */
+ * borrowed and owned. Each accepted strict message is read by libcapnp under the limits for that message alone, once and
+ * four times. Nothing throws, and pointers, capabilities and the canonical form are those of capvet. */
 #include <capvet/kj.h>
 
 #include <string>

@@ -99,6 +99,8 @@ class MessageReader(Iterator[Union[Accepted, Refused]]):
         self._frames, self._is_packed = frames_of(packed, exclusive, limits), packed
         if not callable(getattr(file, "read", None)):
             raise TypeError("the file has to have a method read, as binary files and socket.makefile('rb') have")
+        # (`read` of a buffered file loses its bytes if the device fails, and `read1` returns nothing of one that is not
+        # blocking, as at the end)
         self._peek = getattr(file, "peek", None)
         self._read = file.read if self._peek else getattr(file, "read1", file.read)
         self._is_at_end, self._piece = False, b""
