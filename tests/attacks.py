@@ -10,7 +10,7 @@ the server has allocated is back within 10 %, and so are its descriptors.
 The attacks are: changed messages, each on a connection of its own; more idle connections than there are descriptors; peers
 that send a byte a second; frames that are cut, too large or of too many segments; peers that read no reply; a refused
 message after many calls at once; connections that end in half, or by a reset. Each refusal has to be reported, with the
-peer, the length of what came and the text of `capvet vet`.
+peer, the length of what came, the text of `capvet vet`, and the path of `capvet explain`.
 
 With --full there are more of each. What isn't installed is said in a line of its own. The last line is 'N passed, M failed',
 and the status is 1 if a case failed.
@@ -50,6 +50,7 @@ CALLS = cases(2_000, full=20_000)
 LARGE, REPLY = cases(100, full=300), 20_000 * 4 * 8
 CYCLE = (TOP / "examples/cycle.bin").read_bytes()
 CIRCLE = "refused DepthLimit at 0:0 pointers 33"
+CIRCLE_LINE = f"{CIRCLE} path {'/p0' * 32}"
 
 
 class Server:
@@ -269,7 +270,7 @@ def unread(folder, way, last):
                 time.sleep(0.05)
             took = time.monotonic() - begin
             compare(f"{way}, {last}: the peer that reads nothing is dropped", server.files, server.open_files())
-        line = [name, "16", CIRCLE] if last == "refused" else [name, "0", "dropped, unread"]
+        line = [name, "16", CIRCLE_LINE] if last == "refused" else [name, "0", "dropped, unread"]
         compare(f"{way}, {last}: its line", [line], server.refused(1))
         if last == "paced":
             compare(f"{way}: {most} bytes are held for a peer that reads nothing", True, most < LARGE * REPLY / 4)
@@ -305,13 +306,13 @@ def pipelined(server):
     # (one return is for the bootstrap)
     compare(f"{server.way}: calls that are answered before a refused message", (CALLS + 1, True), (replies_of(data), is_ended))
     compare(f"{server.way}: the peer gets the reason", True, CIRCLE.encode() in data)
-    compare(f"{server.way}: its line", [[name, "16", CIRCLE]], server.refused(1))
+    compare(f"{server.way}: its line", [[name, "16", CIRCLE_LINE]], server.refused(1))
     with server.connect() as peer, ThreadPoolExecutor(1) as other:
         name, reading = name_of(peer), other.submit(all_of, peer)
         send(peer, calls + CYCLE + calls)
         # (some replies may be lost, since the connection is closed with bytes that nobody reads)
         compare(f"{server.way}: a refused message amid calls ends the connection", True, reading.result(2 * SECONDS)[1])
-    compare(f"{server.way}: its line, amid calls", [[name, "16", CIRCLE]], server.refused(1))
+    compare(f"{server.way}: its line, amid calls", [[name, "16", CIRCLE_LINE]], server.refused(1))
     server.survived(f"a refused message after {CALLS} calls")
 
 

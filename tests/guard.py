@@ -32,6 +32,7 @@ import filter
 import install
 import rpc
 from amount import IS_IDLE, cases
+from before_readers import explained
 from harness import ARCHIVE, PROGRAM, TOP, compare, ended, run
 from needs import GOCODE, missing
 from packing import packed
@@ -95,12 +96,17 @@ class Guard:
 
     def lines(self):
         """The same as the program writes it."""
-        return "".join(f"{'' if line['text'].startswith('refused') else 'capvet: '}message {line['message']}: {line['text']}\n"
-                       for line in self.records())
+        return lines_of(self.records())
 
     def memory(self):
         """The most bytes that were resident at one time."""
         return 1024 * int(re.search(r"^VmHWM:\s+(\d+) kB", Path(f"/proc/{self.ran.pid}/status").read_text(), re.M)[1])
+
+
+def lines_of(records):
+    """What the program writes about these messages."""
+    return "".join(f"{'' if it['text'].startswith('refused') else 'capvet: '}message {it['message']}: {it['text']}\n"
+                   for it in records)
 
 
 class SecuredGuard(Guard):
@@ -228,11 +234,20 @@ def as_rpc(folder):
             rpc.rpc(folder, ez)
 
 
+def paths_of(messages, folder, options):
+    """For each message the path of its refusal by the program, or None."""
+    allowed = {"--allow-nonstrict": "--strict", "--allow-amplified": "--unamplified"}
+    words = [word for word in options if word not in (*allowed, "--packed")]
+    words += [word for option, word in allowed.items() if option not in options]
+    return [text.partition(" path ")[2] or None for text in explained(messages, folder, *words)]
+
+
 def as_filter(folder):
-    """Streams of a few changed messages, some of them cut: as many are passed on as by `capvet filter --stop`, as they came."""
+    """Streams of a few changed messages, some of them cut: as many are passed on as by `capvet filter --stop`, as they came. The
+    refused one has the path of `capvet explain`."""
     messages, ended = list(filter.changed(cases(2000, 20_000))), 0
     for options in FILTERS:
-        is_packed = "--packed" in options
+        is_packed, paths, wanted = "--packed" in options, paths_of(messages, folder, options), []
         words = ["--listen-packed" if word == "--packed" else word for word in options]
         with rpc.Listener() as listener, Guard(folder, listener.address, *words) as guard:
             lines = ""
@@ -244,15 +259,18 @@ def as_filter(folder):
                 out, err, _ = filter.run(["filter", "--stop", *options], given)
                 lines += re.sub(r" at byte \d+", "", err.decode())
                 count = len(list(filter.cut(out)))
+                if err:
+                    wanted.append(paths[at + count] if b": refused " in err else None)
                 with guard.connect() as peer, listener.accept() as server:
                     half = len(given) // 2
                     send_quietly(peer, given[:half])
                     send_quietly(peer, given[half:])
                     peer.shutdown(socket.SHUT_WR)
                     compare(f"messages from {at} {options}", (b"".join(frames[:count]), "closed"), all_of(server))
-            said = guard.lines()
-            compare(f"the lines of {options}", lines, said)
-            ended += said.count("\n")
+            said = guard.records()
+            compare(f"the lines of {options}", lines, lines_of(said))
+            compare(f"the paths of {options}", wanted, [record.get("path") for record in said])
+            ended += len(said)
     compare("some streams are refused", True, ended > len(messages) // 25)
 
 

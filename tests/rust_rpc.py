@@ -52,7 +52,8 @@ MOST_MEMORY = 1.1
 # are copied once more)
 MOST_COST = {"small": 1.05, "list": 1.15}
 CYCLE = (TOP / "examples/cycle.bin").read_bytes()
-LINE = re.compile(r"127\.0\.0\.1:(\d+): (.*), after (\d+) messages and (\d+) bytes")
+LINE = re.compile(r"127\.0\.0\.1:(\d+): (.*), after (\d+) messages and (\d+) bytes(?:,( path [/\w]+))?")
+CIRCLE = "refused DepthLimit at 0:0 pointers 33 path " + "/p0" * 32
 
 
 class Server:
@@ -82,10 +83,11 @@ class Server:
         return socket.create_connection(("127.0.0.1", self.port), timeout=rpc.SECONDS)
 
     def lines(self):
-        """What the server printed of connections since the last call: the texts, each with messages and bytes."""
+        """What the server printed of connections since the last call: texts with paths, each with messages and bytes."""
         text = self.output.read_text()[self.seen:]
         self.seen += len(text)
-        return [LINE.fullmatch(line).groups()[1:] for line in text.splitlines() if LINE.fullmatch(line)]
+        found = [LINE.fullmatch(line) for line in text.splitlines()]
+        return [(line[2] + (line[5] or ""), line[3], line[4]) for line in found if line]
 
     def counters(self):
         """The counters by their names."""
@@ -284,7 +286,7 @@ def answered(server, frames, count):
     text, ended = received[0]
     replies = [it for it in trees.messages(text)] if text else []
     returns = sum(struct.unpack_from("<H", framed(*it), 16)[0] == 3 for it in replies)
-    compare("pipelined calls before a refused message", ("closed", [("refused DepthLimit at 0:0 pointers 33", str(count + 1))]),
+    compare("pipelined calls before a refused message", ("closed", [(CIRCLE, str(count + 1))]),
             (ended, [line[:2] for line in server.lines()]))
     compare("replies to pipelined calls before a refused message", count + 1, returns)
 

@@ -383,6 +383,7 @@ class Guard final {
     refusal.report = report_;
     refusal.cause = cause;
     refusal.bytes = bytes;
+    refusal.limits = options_.limits;
     return refusal;
   }
 
@@ -494,9 +495,12 @@ class Segments {
     if (second.bytes != nullptr) all_ = allOf(reader, first_, second);
   }
 
+  kj::ArrayPtr<const capvet_segment> all() const {
+    return all_.size() == 0 ? kj::arrayPtr(&first_, 1) : kj::arrayPtr(all_.begin(), all_.size());
+  }
+
   capvet_answer vet(const capvet_limits &limits, capvet_report &report) const {
-    if (all_.size() == 0) return capvet_vet_segments(&first_, 1, &limits, &report);
-    return capvet_vet_segments(all_.begin(), all_.size(), &limits, &report);
+    return capvet_vet_segments(all().begin(), all().size(), &limits, &report);
   }
 
   kj::ArrayPtr<const capnp::word> get(unsigned int id) const {
@@ -668,6 +672,8 @@ class VettingStream final : public capnp::MessageStream {
     Refusal refusal;
     refusal.answer = segments.vet(around_->options.limits, refusal.report);
     if (refusal.answer != CAPVET_OK) {
+      refusal.segments = segments.all();
+      refusal.limits = around_->options.limits;
       for (auto &fd : message.fds) fd = nullptr;
       return around_->ending.refuse(refusal);
     }
