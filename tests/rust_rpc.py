@@ -6,7 +6,7 @@
 The server is examples/rust/rpc. Its own client and one of libcapnp get the same results as from libcapnp's server. 1,000 changed
 messages of RPC, or 20,000 with --full, have connections of their own, and the server has to say of each what PROGRAM says.
 Then come frames that are cut or too large, peers that send slowly or don't read, more connections than descriptors, and
-connections that are reset. After each attack a client gets its results, and the server's memory is no more than before.
+connections that are reset. After each attack a client gets its results, and the server's memory is within 10 % of that before.
 With --full valgrind counts the instructions of calls, with vetting and without. Without the crates a line says what isn't
 tested. The last line is 'N passed, M failed', and the status is 1 if a case failed.
 """
@@ -64,8 +64,10 @@ class Server:
             resource.setrlimit(resource.RLIMIT_NOFILE, (descriptors, descriptors))
         self.output, self.errors = folder / "server.lines", folder / "server.errors"
         with open(self.output, "w") as output, open(self.errors, "w") as errors:
+            # (blocks that glibc keeps for a thread would keep it from returning what is freed below them)
+            environment = {**os.environ, "GLIBC_TUNABLES": "glibc.malloc.tcache_count=0"}
             self.ran = subprocess.Popen([folder / "target/debug/rpc_server", "127.0.0.1:0", *map(str, limits)],
-                                        stdin=subprocess.DEVNULL, stdout=output, stderr=errors,
+                                        stdin=subprocess.DEVNULL, stdout=output, stderr=errors, env=environment,
                                         preexec_fn=limit if descriptors else None)
         rpc.until(lambda: self.output.read_text().endswith("\n"))
         self.port = int(self.output.read_text().split()[0])
@@ -112,6 +114,15 @@ def called(name, folder, server):
     """A client gets its results."""
     client = [folder / "target/debug/rpc_client", f"127.0.0.1:{server.port}"]
     compare(f"rpc_client, {name}", (CALLED, 0), run(client, timeout=60))
+
+
+def survived(name, folder, server, memory):
+    """After an attack a client gets its results, and no memory is held for it."""
+    called(name, folder, server)
+    compare(f"connections are closed, {name}", True, server.closes())
+    now = server.memory()
+    print(f"rust rpc: {now} KiB {name}, {memory} KiB before")
+    compare(f"memory, {name}: {now} KiB, and {memory} KiB before", True, now <= MOST_MEMORY * memory)
 
 
 def recorded(folder, server):
@@ -243,7 +254,7 @@ def not_read(server, frames):
     compare("there is a call for rows", True, frame is not None)
     if frame is None:
         return
-    unread, memory = server.counters()["unread"], []
+    unread = server.counters()["unread"]
     for name, count, last in (("many calls", 3000, b""), ("a refused message", 300, CYCLE), ("an end", 300, None)) * 3:
         calls = b"".join(call_frame(frame, question) for question in range(100, 100 + count))
         with server.connect() as peer:
@@ -251,25 +262,11 @@ def not_read(server, frames):
             if last is None:
                 peer.shutdown(socket.SHUT_WR)
             compare(f"unread replies, {name}: the connection is dropped", True, server.closes(UNREAD))
-        memory.append(server.memory())
     compare("lines of unread replies", {"replies unread"}, {text for text, _, _ in server.lines()})
-    compare("connections with unread replies that are counted", len(memory), server.counters()["unread"] - unread)
-    # (the allocator keeps what is freed)
-    compare("unread replies: memory", True, memory[-1] <= MOST_MEMORY * memory[2])
-    print(f"rust rpc: unread replies: {memory} KiB after each connection")
+    compare("connections with unread replies that are counted", 9, server.counters()["unread"] - unread)
 
 
 def pipelined(server, frames, count):
-    """Calls before a refused message are answered, and no call after it. The next time takes no more memory."""
-    memory = []
-    for _ in range(2):
-        answered(server, frames, count)
-        compare("connections of pipelined calls are closed", True, server.closes())
-        memory.append(server.memory())
-    compare("memory of pipelined calls", True, memory[1] <= MOST_MEMORY * memory[0])
-
-
-def answered(server, frames, count):
     """Calls before a refused message are answered, and no call after it."""
     frame = rows_frame(frames)
     adds = [it for it in frames if it[:4] == bytes(4) and struct.unpack_from("<H", it, 16)[0] == 2 and it is not frame][:1]
@@ -360,14 +357,16 @@ def attacks(folder):
         compare("a cycle has its reason", True, b"refused DepthLimit at 0:0 pointers 33" in exchanged(server, frames[0] + CYCLE)[0])
         server.lines()
         memory = server.memory()
-        for attack in (lambda: attacked(folder, server, frames), lambda: frames_of(server, frames), lambda: slow(server, frames),
-                       lambda: not_read(server, frames), lambda: pipelined(server, frames, 20_000), lambda: reset(server, frames),
-                       lambda: half_closed(server, frames)):
+        for name, attack in (("changed messages", lambda: attacked(folder, server, frames)),
+                             ("frames that are cut or too large", lambda: frames_of(server, frames)),
+                             ("slow peers", lambda: slow(server, frames)),
+                             ("peers that don't read", lambda: not_read(server, frames)),
+                             ("20000 pipelined calls", lambda: pipelined(server, frames, 20_000)),
+                             ("resets", lambda: reset(server, frames)),
+                             ("ends in half", lambda: half_closed(server, frames))):
             attack()
-            called("after an attack", folder, server)
-        compare("connections are closed", True, server.closes())
-        counters = server.counters()
-        print(f"rust rpc: {memory} KiB before the attacks, {server.memory()} KiB after; {counters}")
+            survived(f"after {name}", folder, server, memory)
+        print(f"rust rpc: {server.counters()}")
 
 
 def by_libcapnp(folder):
