@@ -48,6 +48,8 @@ FRAMES = cases(8, full=100)
 CALLS = cases(2_000, full=20_000)
 # Calls with large replies, and the bytes of the rows in one.
 LARGE, REPLY = cases(100, full=300), 20_000 * 4 * 8
+# Kinds of messages of RPC.
+CALL, RETURN, BOOTSTRAP = 2, 3, 8
 CYCLE = (TOP / "examples/cycle.bin").read_bytes()
 CIRCLE = "refused DepthLimit at 0:0 pointers 33"
 CIRCLE_LINE = f"{CIRCLE} path {'/p0' * 32}"
@@ -279,21 +281,26 @@ def unread(folder, way, last):
         server.survived(f"a peer that reads nothing, {last}")
 
 
-def replies_of(data):
-    """How many returned calls are among the messages of a server, and whether all are whole."""
+def count_of(data, *kinds):
+    """How many whole messages of RPC are of these kinds, which are numbers of the union in rpc::Message."""
     count = 0
     at = 0
     while at + 8 <= len(data):
         segments = struct.unpack_from("<I", data, at)[0] + 1
         sizes = struct.unpack_from(f"<{segments}I", data, at + 4)
         length = 8 * (segments // 2 + 1) + 8 * sum(sizes)
-        # (the union's tag of rpc::Message is the first 16 bits of the root's data; 3 is a return)
+        # (the union's tag is the first 16 bits of the root's data)
         root = at + 8 * (segments // 2 + 1)
         pointer = struct.unpack_from("<Q", data, root)[0]
         offset = (pointer & 0xffffffff) >> 2
-        count += struct.unpack_from("<H", data, root + 8 + 8 * offset)[0] == 3
+        count += struct.unpack_from("<H", data, root + 8 + 8 * offset)[0] in kinds
         at += length
     return count
+
+
+def replies_of(data):
+    """How many returned calls are among the messages of a server."""
+    return count_of(data, RETURN)
 
 
 def pipelined(server):
@@ -318,11 +325,13 @@ def pipelined(server):
 
 def endings(server, valid):
     """Connections that end in half after valid calls, or by a reset: between messages and inside of one."""
+    asked = count_of(valid, CALL, BOOTSTRAP)
     for number in range(FRAMES):
         with server.connect() as peer:
             send(peer, valid)
             peer.shutdown(socket.SHUT_WR)
-            compare(f"{server.way}: a connection that ends in half", True, all_of(peer)[1])
+            data, is_ended = all_of(peer)
+            compare(f"{server.way}: the replies to a peer that ends in half", (asked, True), (replies_of(data), is_ended))
         for data in (valid, valid + CYCLE[:5 + number % 8], b""):
             peer = server.connect()
             send(peer, data)

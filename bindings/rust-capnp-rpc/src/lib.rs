@@ -339,14 +339,14 @@ impl<R, H: Watch> VettingRead<R, H> {
     // Vets the next message, if it is whole. Else it returns how many bytes get further.
     fn vet(&mut self) -> Result<usize, Error> {
         let bytes = &self.buffer[self.start..self.filled];
-        match capvet::frame_length(bytes, self.limits) {
-            Ok(length) => {
-                capvet::vet(&bytes[..length], self.limits)?;
-                (self.passing, self.deadline) = (length, None);
+        match capvet::vet(bytes, self.limits.allow_trailing(true)) {
+            Ok(report) => {
+                (self.passing, self.deadline) = (report.length, None);
                 self.messages += 1;
                 Ok(0)
             }
-            Err(error) => error.required().ok_or_else(|| error.into()),
+            Err(VetError::Frame(error)) => error.required().ok_or_else(|| error.into()),
+            Err(error) => Err(error.into()),
         }
     }
 
