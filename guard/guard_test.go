@@ -83,7 +83,7 @@ func TestRefusals(t *testing.T) {
 	r := newRig(t)
 	other, otherServer := r.pair()
 	many, deep := bytes.Repeat(empty, 100000), " path "+strings.Repeat("/p0", 64)+"\n"
-	outside, root := pastTheEnd(shared, 16), pastTheEnd(shared, 8)
+	outside, root := pastTheEnd(shared, 24), pastTheEnd(shared, 8)
 	for i, row := range []struct {
 		name         string
 		sent, passed []byte

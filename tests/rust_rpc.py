@@ -64,8 +64,9 @@ class Server:
             resource.setrlimit(resource.RLIMIT_NOFILE, (descriptors, descriptors))
         self.output, self.errors = folder / "server.lines", folder / "server.errors"
         with open(self.output, "w") as output, open(self.errors, "w") as errors:
-            # (blocks that glibc keeps for a thread would keep it from returning what is freed below them)
-            environment = {**os.environ, "GLIBC_TUNABLES": "glibc.malloc.tcache_count=0"}
+            # (what glibc keeps for a thread would count as allocated, and keep it from returning what is freed below)
+            environment = {**os.environ, "GLIBC_TUNABLES": "glibc.malloc.tcache_count=0",
+                           "LD_PRELOAD": str(folder / "allocated.so")}
             self.ran = subprocess.Popen([folder / "target/debug/rpc_server", "127.0.0.1:0", *map(str, limits)],
                                         stdin=subprocess.DEVNULL, stdout=output, stderr=errors, env=environment,
                                         preexec_fn=limit if descriptors else None)
@@ -93,12 +94,21 @@ class Server:
 
     def counters(self):
         """The counters by their names."""
+        line = self.answer(signal.SIGUSR1, r"(?m)^open .*\n")
+        return {name: int(count) for name, count in re.findall(r"([A-Za-z ]+?) (\d+) ?", line)}
+
+    def answer(self, number, pattern):
+        """What the server prints at a signal."""
         before, found = len(self.output.read_text()), []
-        self.ran.send_signal(signal.SIGUSR1)
-        rpc.until(lambda: found.extend(re.findall(r"(?m)^open .*\n", self.output.read_text()[before:])) or found)
-        return {name: int(count) for name, count in re.findall(r"([A-Za-z ]+?) (\d+) ?", found[0])}
+        self.ran.send_signal(number)
+        rpc.until(lambda: found.extend(re.findall(pattern, self.output.read_text()[before:])) or found)
+        return found[0]
 
     def memory(self):
+        """The bytes that are allocated."""
+        return int(self.answer(signal.SIGUSR2, r"(?m)^allocated (\d+)\n"))
+
+    def resident(self):
         """The memory that is resident, in KiB."""
         return int(re.search(r"VmRSS:\s+(\d+)", Path(f"/proc/{self.ran.pid}/status").read_text())[1])
 
@@ -116,13 +126,27 @@ def called(name, folder, server):
     compare(f"rpc_client, {name}", (CALLED, 0), run(client, timeout=60))
 
 
+def settled(folder, server):
+    """The bytes that are allocated, after the first calls and connections: the runtime keeps tables of that size."""
+    peers = [server.connect() for _ in range(150)]
+    compare("connections at once", True, rpc.until(lambda: server.counters()["open"] == len(peers)))
+    for peer in peers:
+        peer.close()
+    compare("connections are closed, at first", True, server.closes())
+    called("again", folder, server)
+    compare("connections are closed, before the attacks", True, server.closes())
+    return server.memory()
+
+
 def survived(name, folder, server, memory):
     """After an attack a client gets its results, and no memory is held for it."""
     called(name, folder, server)
     compare(f"connections are closed, {name}", True, server.closes())
+    # (an event lets the runtime drop what is over)
+    rpc.until(lambda: server.counters() and server.memory() <= MOST_MEMORY * memory)
     now = server.memory()
-    print(f"rust rpc: {now} KiB {name}, {memory} KiB before")
-    compare(f"memory, {name}: {now} KiB, and {memory} KiB before", True, now <= MOST_MEMORY * memory)
+    print(f"rust rpc: {now} bytes are allocated {name}, {memory} before; {server.resident()} KiB are resident")
+    compare(f"memory, {name}: {now} bytes, and {memory} before", True, now <= MOST_MEMORY * memory)
 
 
 def recorded(folder, server):
@@ -356,7 +380,7 @@ def attacks(folder):
         compare("frames of valid calls", True, len(frames) > 8)
         compare("a cycle has its reason", True, b"refused DepthLimit at 0:0 pointers 33" in exchanged(server, frames[0] + CYCLE)[0])
         server.lines()
-        memory = server.memory()
+        memory = settled(folder, server)
         for name, attack in (("changed messages", lambda: attacked(folder, server, frames)),
                              ("frames that are cut or too large", lambda: frames_of(server, frames)),
                              ("slow peers", lambda: slow(server, frames)),
@@ -412,12 +436,14 @@ def build(folder, environment):
     blocks = re.findall(r"^```rust\n(.*?)^```$", (TOP / "docs/in-process.md").read_text(), re.M | re.S)
     blocks = [block for block in blocks if "capvet_capnp_rpc" in block]
     compare("docs/in-process.md has a block with capvet_capnp_rpc", 1, len(blocks))
+    words = ["cc", "-shared", "-fPIC", "-O1", "-Wall", "-Wextra", "-Werror", TOP / "tests/readers/allocated.c"]
+    compare("cc allocated.c", ("", 0), run([*words, "-o", folder / "allocated.so"]))
     (example / "src/bin/guide.rs").write_text("#![allow(dead_code)]\n" + "".join(blocks) + "fn main() {}\n")
     compare("cargo build of the example", ("", 0), run(["cargo", "build", *CARGO], cwd=example, env=environment))
 
 
 def main():
-    if missing("RPC of Rust", "cargo", "rustc", "pkg-config", "crate-capnp-rpc", "crate-tokio"):
+    if missing("RPC of Rust", "cc", "cargo", "rustc", "pkg-config", "crate-capnp-rpc", "crate-tokio"):
         return ended()
     with tempfile.TemporaryDirectory() as scratch:
         folder = Path(scratch)
