@@ -55,6 +55,7 @@ type ending struct {
 	message   uint64 // how many messages were passed on before
 	offset    int64  // where the next one starts: how many bytes came before it
 	err       error
+	path      string // to the pointer that is refused, if one is
 }
 
 // reason returns the name of the reason of a refused message, as the program prints it.

@@ -89,6 +89,7 @@ type passing struct {
 	offset   int64
 	cause    cause
 	err      error
+	path     string
 }
 
 // scanned returns what should be passed on of a stream, by a Scanner over all of it.
@@ -104,6 +105,7 @@ func scanned(b []byte, o *options) passing {
 	for s.Scan() {
 		if s.Refusal() != nil {
 			p.cause, p.err, p.offset = refused, s.Refusal(), s.Offset()
+			p.path = s.Refusal().Path(s.Raw(), o.limits)
 			return p
 		}
 		p.messages = append(p.messages, append([]byte(nil), s.Bytes()...))
@@ -200,6 +202,9 @@ func compareEnding(t *testing.T, o *options, wanted passing, e ending, got []byt
 	}
 	if wanted.err != nil && (e.reason() != (ending{err: wanted.err}).reason() || e.text() != (ending{err: wanted.err}).text()) {
 		t.Fatal(e.text(), wanted.err)
+	}
+	if e.path != wanted.path {
+		t.Fatal(e.path, wanted.path)
 	}
 }
 

@@ -4,6 +4,7 @@ import (
 	"bytes"
 	"io"
 	"net"
+	"strings"
 	"testing"
 	"time"
 
@@ -70,22 +71,33 @@ func TestAMessageAndAPart(t *testing.T) {
 	}
 }
 
+// pastTheEnd returns a message whose pointer at this byte leads past the end of its segment.
+func pastTheEnd(message []byte, at int) []byte {
+	b := append([]byte(nil), message...)
+	b[at+1] = 1
+	return b
+}
+
 // What comes before a refused message arrives, and nothing of it. Both ends are closed, and no other connection.
 func TestRefusals(t *testing.T) {
 	r := newRig(t)
 	other, otherServer := r.pair()
-	many := bytes.Repeat(empty, 100000)
+	many, deep := bytes.Repeat(empty, 100000), " path "+strings.Repeat("/p0", 64)+"\n"
+	outside, root := pastTheEnd(shared, 24), pastTheEnd(shared, 8)
 	for i, row := range []struct {
 		name         string
 		sent, passed []byte
 		said         string
 	}{
-		{"a circle at first", cycle, nil, "message 0: refused DepthLimit at 0:0 pointers 65 offset 0"},
-		{"a circle", join(empty, shared, cycle), join(empty, shared), "message 2: refused DepthLimit at 0:0 pointers 65 offset 56"},
-		{"a circle after many", join(many, cycle), many, "message 100000: refused DepthLimit at 0:0 pointers 65 offset 1600000"},
+		{"a circle at first", cycle, nil, "message 0: refused DepthLimit at 0:0 pointers 65 offset 0" + deep},
+		{"a circle", join(empty, shared, cycle), join(empty, shared), "message 2: refused DepthLimit at 0:0 pointers 65 offset 56" + deep},
+		{"a circle after many", join(many, cycle), many, "message 100000: refused DepthLimit at 0:0 pointers 65 offset 1600000" + deep},
+		{"a pointer past the end", join(shared, outside), shared, "message 1: refused OutOfSegment at 0:2 pointers 3 offset 40 path /p1\n"},
+		{"a root past the end", root, nil, "message 0: refused OutOfSegment at 0:0 pointers 1 offset 0 path /\n"},
 		{"a circle before many", join(empty, cycle, many), empty, "message 1: refused DepthLimit"},
-		{"too many segments", join(empty, []byte{0, 2, 0, 0, 0, 0, 0, 0}), empty, "message 1: TooManySegments 513 offset 16"},
-		{"too many words", []byte{0, 0, 0, 0, 1, 0, 128, 0}, nil, "message 0: TooLarge 8388609 offset 0"},
+		{"too many segments", join(empty, []byte{0, 2, 0, 0, 0, 0, 0, 0}), empty, "message 1: TooManySegments 513 offset 16\n"},
+		{"too many words", []byte{0, 0, 0, 0, 1, 0, 128, 0}, nil, "message 0: TooLarge 8388609 offset 0\n"},
+		{"no root", []byte{0, 0, 0, 0, 0, 0, 0, 0}, nil, "message 0: refused NoRoot at 0:0 pointers 0 offset 0\n"},
 	} {
 		for _, isReply := range []bool{false, true} {
 			client, server := r.pair()
@@ -228,7 +240,7 @@ func TestPackedSides(t *testing.T) {
 		}
 		ends(t, "a circle", server, nil)
 		ends(t, "a circle, back", client, nil)
-		r.logs("requests message ", ": refused DepthLimit at 0:0 pointers 65 offset ")
+		r.logs("requests message ", ": refused DepthLimit at 0:0 pointers 65 offset ", " path "+strings.Repeat("/p0", 64))
 	}
 }
 

@@ -21,6 +21,7 @@ type record struct {
 	Reason    string  `json:"reason,omitempty"`
 	Place     string  `json:"place,omitempty"`
 	Pointers  *uint64 `json:"pointers,omitempty"`
+	Path      string  `json:"path,omitempty"`
 	Offset    *int64  `json:"offset,omitempty"`
 	Text      string  `json:"text,omitempty"`
 }
@@ -35,7 +36,7 @@ type logger struct {
 // ended writes why the guard ended a connection.
 func (l *logger) ended(peer string, e ending) {
 	r := record{Event: string(e.cause), Peer: peer, Direction: e.direction.String(), Message: &e.message, Offset: &e.offset,
-		Reason: e.reason(), Text: e.text()}
+		Reason: e.reason(), Path: e.path, Text: e.text()}
 	var refusal *capvet.Refusal
 	if errors.As(e.err, &refusal) {
 		r.Place, r.Pointers = refusal.Position.String(), &refusal.Pointers
@@ -74,7 +75,11 @@ func (r record) line() string {
 		line += " " + r.Peer
 	}
 	if r.Direction != "" {
-		return fmt.Sprintf("%s %s message %d: %s offset %d", line, r.Direction, *r.Message, r.Text, *r.Offset)
+		line += fmt.Sprintf(" %s message %d: %s offset %d", r.Direction, *r.Message, r.Text, *r.Offset)
+		if r.Path != "" {
+			line += " path " + r.Path
+		}
+		return line
 	}
 	line += " " + r.Event
 	if r.Text != "" {

@@ -55,6 +55,7 @@ func (p *packer) clear() {
 type unpacker struct {
 	link      link
 	direction direction
+	vetter    vetter
 	packer    *packer // nil if the receiver takes plain messages
 	metrics   *directionMetrics
 	scanner   *capvet.Scanner
@@ -86,7 +87,7 @@ func (u *unpacker) run() ending {
 	end := ending{cause: "", direction: u.direction}
 	for end.cause == "" && u.scan() {
 		if refusal := u.scanner.Refusal(); refusal != nil {
-			end.cause, end.err = refused, refusal
+			end.cause, end.err, end.path = refused, refusal, u.vetter.path(u.scanner.Raw(), refusal)
 			break
 		}
 		end.cause, end.err = u.deliver(u.scanner.Bytes())

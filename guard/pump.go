@@ -84,7 +84,7 @@ func (f *filter) pass() (required int, end ending) {
 		return required, ending{}
 	}
 	if wrong != nil {
-		return 0, ending{cause: refused, err: wrong}
+		return 0, ending{cause: refused, err: wrong, path: f.vetter.path(f.buffer.held(), wrong)}
 	}
 	f.link.started = 0
 	return 0, ending{}

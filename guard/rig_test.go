@@ -197,7 +197,7 @@ func sends(conn io.Writer, b []byte) { conn.Write(b) }
 func (r *rig) logs(words ...string) {
 	r.t.Helper()
 	until(r.t, "a line with "+strings.Join(words, ", ")+" in "+r.log.String(), func() bool {
-		for _, line := range strings.Split(r.log.String(), "\n") {
+		for _, line := range strings.SplitAfter(r.log.String(), "\n") {
 			found := 0
 			for _, word := range words {
 				if strings.Contains(line, word) {

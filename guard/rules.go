@@ -30,6 +30,15 @@ func (r rules) all(b []byte) (count, length int, err error) {
 	return count, length, nil
 }
 
+// path returns the path to the pointer that err names in the message that b starts with. It is empty if it names none.
+func (r rules) path(b []byte, err error) string {
+	var refusal *capvet.Refusal
+	if !errors.As(err, &refusal) {
+		return ""
+	}
+	return refusal.Path(b[:refusal.Length], r.limits)
+}
+
 // missing returns how many bytes the message has at least of which err says that a part of it is there. It is 0 if err
 // says something else.
 func missing(err error) int {

@@ -297,5 +297,5 @@ func TestLogAsJSON(t *testing.T) {
 	sends(server, join(shared, cycle))
 	ends(t, "the client", client, shared)
 	r.logs(`"event":"refused"`, `"peer":"`+client.LocalAddr().String()+`"`, `"direction":"replies"`, `"message":1`,
-		`"reason":"DepthLimit"`, `"place":"0:0"`, `"pointers":65`, `"offset":40`)
+		`"reason":"DepthLimit"`, `"place":"0:0"`, `"pointers":65`, `"path":"`+strings.Repeat("/p0", 64)+`"`, `"offset":40`)
 }

@@ -43,7 +43,7 @@ func (s *session) pump(d direction) pump {
 	case !o.vetted[d]:
 		return &copier{link: l, buffer: newBuffer(&s.guard.memory), direction: d, metrics: metrics}
 	case o.packed[d.from()]:
-		u := &unpacker{link: l, direction: d, packer: toPacked, metrics: metrics, memory: &s.guard.memory}
+		u := &unpacker{link: l, direction: d, vetter: v, packer: toPacked, metrics: metrics, memory: &s.guard.memory}
 		u.scanner = v.scanner(u)
 		return u
 	}

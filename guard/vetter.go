@@ -18,12 +18,24 @@ type vetter struct {
 	metrics *directionMetrics
 }
 
+// await waits for a turn, if a walk over b may take long. The function that it returns ends the turn.
+func (v vetter) await(b []byte) (leave func()) {
+	if len(b) <= ample && !v.rules.limits.AllowAmplified {
+		return func() {}
+	}
+	turns <- struct{}{}
+	return func() { <-turns }
+}
+
+// path returns the path to a refused pointer, as rules.path does.
+func (v vetter) path(b []byte, err error) string {
+	defer v.await(b)()
+	return v.rules.path(b, err)
+}
+
 // all vets the messages that b starts with, as rules.all does.
 func (v vetter) all(b []byte) (count, length int, err error) {
-	if len(b) > ample || v.rules.limits.AllowAmplified {
-		turns <- struct{}{}
-		defer func() { <-turns }()
-	}
+	defer v.await(b)()
 	// (a clock for each message would cost more than the vetting)
 	before := time.Now()
 	count, length, err = v.rules.all(b)

@@ -15,8 +15,7 @@ These are the attacks:
 - peers that read no reply, and a refused message after many calls at once;
 - connections that end in half, or by a reset.
 
-Each refusal has to be reported, with the
-peer, the length of what came and the text of `capvet vet`.
+Each refusal has to be reported, with the peer, the length of what came, the text of `capvet vet`, and the path of `capvet explain`.
 
 With --full there are more of each. What isn't installed is said in a line of its own. The last line is 'N passed, M failed',
 and the status is 1 if a case failed.
@@ -54,8 +53,11 @@ FRAMES = cases(8, full=100)  # frames that are cut, too large or of too many seg
 CALLS = cases(2_000, full=20_000)  # calls at once before a refused message
 # Calls with large replies, and the bytes of the rows in one.
 LARGE, REPLY = cases(100, full=300), 20_000 * 4 * 8  # calls with large replies that nobody reads
+# Kinds of messages of RPC.
+CALL, RETURN, BOOTSTRAP = 2, 3, 8
 CYCLE = (TOP / "examples/cycle.bin").read_bytes()
 CIRCLE = "refused DepthLimit at 0:0 pointers 33"
+CIRCLE_LINE = f"{CIRCLE} path {'/p0' * 32}"
 
 
 class Server:
@@ -275,7 +277,7 @@ def unread(folder, way, last):
                 time.sleep(0.05)
             took = time.monotonic() - begin
             compare(f"{way}, {last}: the peer that reads nothing is dropped", server.files, server.open_files())
-        line = [name, "16", CIRCLE] if last == "refused" else [name, "0", "dropped, unread"]
+        line = [name, "16", CIRCLE_LINE] if last == "refused" else [name, "0", "dropped, unread"]
         compare(f"{way}, {last}: its line", [line], server.refused(1))
         if last == "paced":
             compare(f"{way}: {most} bytes are held for a peer that reads nothing", True, most < LARGE * REPLY / 4)
@@ -284,21 +286,26 @@ def unread(folder, way, last):
         server.survived(f"a peer that reads nothing, {last}")
 
 
-def replies_of(data):
-    """How many returned calls are among the messages of a server, and whether all are whole."""
+def count_of(data, *kinds):
+    """How many whole messages of RPC are of these kinds, which are numbers of the union in rpc::Message."""
     count = 0
     at = 0
     while at + 8 <= len(data):
         segments = struct.unpack_from("<I", data, at)[0] + 1
         sizes = struct.unpack_from(f"<{segments}I", data, at + 4)
         length = 8 * (segments // 2 + 1) + 8 * sum(sizes)
-        # (the union's tag of rpc::Message is the first 16 bits of the root's data; 3 is a return)
+        # (the union's tag is the first 16 bits of the root's data)
         root = at + 8 * (segments // 2 + 1)
         pointer = struct.unpack_from("<Q", data, root)[0]
         offset = (pointer & 0xffffffff) >> 2
-        count += struct.unpack_from("<H", data, root + 8 + 8 * offset)[0] == 3
+        count += struct.unpack_from("<H", data, root + 8 + 8 * offset)[0] in kinds
         at += length
     return count
+
+
+def replies_of(data):
+    """How many returned calls are among the messages of a server."""
+    return count_of(data, RETURN)
 
 
 def pipelined(server):
@@ -311,23 +318,25 @@ def pipelined(server):
     # (one return is for the bootstrap)
     compare(f"{server.way}: calls that are answered before a refused message", (CALLS + 1, True), (replies_of(data), is_ended))
     compare(f"{server.way}: the peer gets the reason", True, CIRCLE.encode() in data)
-    compare(f"{server.way}: its line", [[name, "16", CIRCLE]], server.refused(1))
+    compare(f"{server.way}: its line", [[name, "16", CIRCLE_LINE]], server.refused(1))
     with server.connect() as peer, ThreadPoolExecutor(1) as other:
         name, reading = name_of(peer), other.submit(all_of, peer)
         send(peer, calls + CYCLE + calls)
         # (some replies may be lost, since the connection is closed with bytes that nobody reads)
         compare(f"{server.way}: a refused message amid calls ends the connection", True, reading.result(2 * SECONDS)[1])
-    compare(f"{server.way}: its line, amid calls", [[name, "16", CIRCLE]], server.refused(1))
+    compare(f"{server.way}: its line, amid calls", [[name, "16", CIRCLE_LINE]], server.refused(1))
     server.survived(f"a refused message after {CALLS} calls")
 
 
 def endings(server, valid):
     """Connections that end in half after valid calls, or by a reset: between messages and inside of one."""
+    asked = count_of(valid, CALL, BOOTSTRAP)
     for number in range(FRAMES):
         with server.connect() as peer:
             send(peer, valid)
             peer.shutdown(socket.SHUT_WR)
-            compare(f"{server.way}: a connection that ends in half", True, all_of(peer)[1])
+            data, is_ended = all_of(peer)
+            compare(f"{server.way}: the replies to a peer that ends in half", (asked, True), (replies_of(data), is_ended))
         for data in (valid, valid + CYCLE[:5 + number % 8], b""):
             peer = server.connect()
             send(peer, data)

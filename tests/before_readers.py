@@ -141,11 +141,21 @@ def flags(environment, package="capvet-kj"):
 
 
 def refusals(messages, folder, *options):
-    """For each message the text of its refusal by the program, or 'accepted'."""
+    """As `explained`, of messages that have to be strict and unamplified."""
+    return explained(messages, folder, "--strict", "--unamplified", *options)
+
+
+def explained(messages, folder, *options):
+    """For each message the text of its refusal by the program, with the path to the pointer if there is one, or 'accepted'."""
     (folder / "stream").write_bytes(b"".join(messages))
-    lines = run([PROGRAM, "vet", "--strict", "--unamplified", *options, folder / "stream"])[0].splitlines()
-    texts = [line.partition(": ")[2] for line in lines]
-    return ["accepted" if text.startswith("accepted") else text for text in texts]
+    texts = []
+    for line in run([PROGRAM, "explain", *options, folder / "stream"])[0].splitlines():
+        if line.startswith("message "):
+            text = line.partition(": ")[2]
+            texts.append("accepted" if text.startswith("accepted") else text)
+        elif line.startswith("  path "):
+            texts[-1] += line[1:]
+    return texts
 
 
 def changed(bases, count, seed):
@@ -325,8 +335,12 @@ def example(folder):
             told = b"".join(iter(lambda: peer.recv(4096), b""))
         line = "refused DepthLimit at 0:0 pointers 33"
         compare("the reason that the peer gets", True, line.encode() in told)
+        with server.connect() as peer:
+            other = "%s:%d" % peer.getsockname()
+            peer.sendall(bytes(5))
         server.call("rpc_client, after a refused message")
-        compare("the lines of rpc_server", [f"{address} {line}"], server.lines())
+        compare("the lines of rpc_server", [f"{address} {line} path {'/p0' * 32}", f"{other} refused Truncated 8, cut"],
+                server.lines())
         text, status = run([folder / "rpc_server", f"127.0.0.1:{server.port}"], 60)
         compare("an address in use", (True, 3), ("Address already in use" in text, status))
     with Example(folder, descriptors=40) as server:

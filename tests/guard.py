@@ -6,13 +6,14 @@
 Its Go tests run with the race detector. The RPC suite of rpc.py runs through it, plain, and by TLS through two of it. Streams
 of changed messages have to pass as by `capvet filter --stop`. Then tests/guard plays clients and a server: many connections at
 once, of which some send a refused message in between, and PROGRAM vets all that arrived. Others send nothing, a byte a second,
-or a claim of 64 MiB, or they reset, while descriptors are scarce. Times are compared with those of the same proxy that vets
+or a claim of 64 MiB, or they reset, while descriptors are scarce or none is left. Times are compared with those of the same proxy that vets
 nothing.
 
 With --full there are 5,000 connections and 1,000,000 messages, else 500 and 50,000. With --idle the times have to be within
 RATES and LATENCY, for which the machine may do nothing else. A line says what isn't tested. The last line is 'N passed, M
 failed', and the status is 1 if a case failed.
 """
+import itertools
 import json
 import os
 import re
@@ -32,6 +33,7 @@ import filter
 import install
 import rpc
 from amount import IS_IDLE, cases
+from before_readers import explained
 from harness import ARCHIVE, PROGRAM, TOP, compare, ended, run
 from needs import GOCODE, missing
 from packing import packed
@@ -41,7 +43,7 @@ from rpc import CYCLE, EMPTY, SECONDS, all_of, exactly, free_port, is_open, unti
 FILTERS = ([], ["--exclusive"], ["--allow-nonstrict", "--allow-amplified"], ["--words", "60", "--depth", "4"], ["--packed"])
 # The least part of the rate of a proxy without vetting, by the bytes of a message, and the most microseconds that vetting
 # adds to the median of a call of 1 KiB.
-RATES = {256: 0.5, 1024: 0.5, 65536: 0.8, 1 << 20: 0.8}
+RATES = {40: 0.5, 128: 0.5, 256: 0.5, 1024: 0.5, 65536: 0.8, 1 << 20: 0.8}
 LATENCY = 20
 # The memory that docs/service.md gives: for the guard, for each connection, and for messages.
 MEMORY = 64 << 20, 48 << 10, 256 << 20
@@ -95,12 +97,17 @@ class Guard:
 
     def lines(self):
         """The same as the program writes it."""
-        return "".join(f"{'' if line['text'].startswith('refused') else 'capvet: '}message {line['message']}: {line['text']}\n"
-                       for line in self.records())
+        return lines_of(self.records())
 
     def memory(self):
         """The most bytes that were resident at one time."""
         return 1024 * int(re.search(r"^VmHWM:\s+(\d+) kB", Path(f"/proc/{self.ran.pid}/status").read_text(), re.M)[1])
+
+
+def lines_of(records):
+    """What the program writes about these messages."""
+    return "".join(f"{'' if it['text'].startswith('refused') else 'capvet: '}message {it['message']}: {it['text']}\n"
+                   for it in records)
 
 
 class SecuredGuard(Guard):
@@ -228,11 +235,20 @@ def as_rpc(folder):
             rpc.rpc(folder, ez)
 
 
+def paths_of(messages, folder, options):
+    """For each message the path of its refusal by the program, or None."""
+    allowed = {"--allow-nonstrict": "--strict", "--allow-amplified": "--unamplified"}
+    words = [word for word in options if word not in (*allowed, "--packed")]
+    words += [word for option, word in allowed.items() if option not in options]
+    return [text.partition(" path ")[2] or None for text in explained(messages, folder, *words)]
+
+
 def as_filter(folder):
-    """Streams of a few changed messages, some of them cut: as many are passed on as by `capvet filter --stop`, as they came."""
+    """Streams of a few changed messages, some of them cut: as many are passed on as by `capvet filter --stop`, as they came. The
+    refused one has the path of `capvet explain`."""
     messages, ended = list(filter.changed(cases(2000, 20_000))), 0  # changed messages, of which streams are made
     for options in FILTERS:
-        is_packed = "--packed" in options
+        is_packed, paths, wanted = "--packed" in options, paths_of(messages, folder, options), []
         words = ["--listen-packed" if word == "--packed" else word for word in options]
         with rpc.Listener() as listener, Guard(folder, listener.address, *words) as guard:
             lines = ""
@@ -244,15 +260,18 @@ def as_filter(folder):
                 out, err, _ = filter.run(["filter", "--stop", *options], given)
                 lines += re.sub(r" at byte \d+", "", err.decode())
                 count = len(list(filter.cut(out)))
+                if err:
+                    wanted.append(paths[at + count] if b": refused " in err else None)
                 with guard.connect() as peer, listener.accept() as server:
                     half = len(given) // 2
                     send_quietly(peer, given[:half])
                     send_quietly(peer, given[half:])
                     peer.shutdown(socket.SHUT_WR)
                     compare(f"messages from {at} {options}", (b"".join(frames[:count]), "closed"), all_of(server))
-            said = guard.lines()
-            compare(f"the lines of {options}", lines, said)
-            ended += said.count("\n")
+            said = guard.records()
+            compare(f"the lines of {options}", lines, lines_of(said))
+            compare(f"the paths of {options}", wanted, [record.get("path") for record in said])
+            ended += len(said)
     compare("some streams are refused", True, ended > len(messages) // 25)
 
 
@@ -262,6 +281,15 @@ class Listener(rpc.Listener):
     def __init__(self):
         super().__init__()
         self.listener.listen(2000)
+
+    def forget(self):
+        """Closes the connections that wait, until none comes for a second."""
+        self.listener.settimeout(1)
+        try:
+            while True:
+                self.listener.accept()[0].close()
+        except TimeoutError:
+            self.listener.settimeout(SECONDS)
 
 
 def hostile(folder):
@@ -282,6 +310,19 @@ def hostile(folder):
             peer.close()
         slow(guard, listener)
         resets(guard, listener)
+
+
+def without_descriptors(folder):
+    """More idle connections than descriptors, under a limit of connections that is higher. The guard accepts again once they
+    have ended."""
+    with Listener() as listener, Guard(folder, listener.address, "--max-connections", "5000", files=1024) as guard:
+        peers = [guard.connect() for _ in range(1100)]
+        compare("the guard says that descriptors are missing", True,
+                until(lambda: "too many open files" in guard.errors.read_text()))
+        for peer in peers:
+            peer.close()
+        listener.forget()
+        good(guard, listener, "more connections than descriptors")
 
 
 def send_quietly(peer, text):
@@ -383,14 +424,15 @@ def times(folder, load):
     server = f"127.0.0.1:{free_port()}"
     with Guard(folder, server, "--direction", "none") as none, Guard(folder, server) as both:
         proxies = [f"127.0.0.1:{guard.port}" for guard in (none, both)]
-        for size, least in RATES.items():
-            text, status = run([load, "rate", server, str(size), str(cases(1 << 27, 1 << 30)), *proxies])  # bytes of each size of a message
-            compare(f"rates of {size} bytes", 0, status)
+        for way, (size, least) in itertools.product(("requests", "replies"), RATES.items()):
+            amount = cases(1 << 27, 1 << 30)  # bytes of each size of a message
+            text, status = run([load, "rate", server, way, str(size), str(amount), *proxies])
+            compare(f"rates of {way} of {size} bytes", 0, status)
             if status == 0:
                 without, vetted = map(float, text.split())
-                print(f"messages of {size} bytes: {without} MB/s without vetting, {vetted} with it: {vetted / without:.2f}")
+                print(f"{way} of {size} bytes: {without} MB/s without vetting, {vetted} with it: {vetted / without:.2f}")
                 if IS_IDLE:
-                    compare(f"the rate of {size} bytes", True, vetted >= least * without)
+                    compare(f"the rate of {way} of {size} bytes", True, vetted >= least * without)
         text, status = run([load, "latency", server, str(cases(5000, 50000)), server, *proxies])  # calls for a time
         compare("calls of 1 KiB", 0, status)
         if status == 0:
@@ -415,6 +457,7 @@ def main():
         as_rpc(folder)
         as_filter(folder)
         hostile(folder)
+        without_descriptors(folder)
         budget(folder)
         load = built_load(folder)
         storm(folder, load)

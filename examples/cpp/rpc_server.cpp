@@ -5,8 +5,8 @@
 //     c++ -std=c++17 rpc_server.cpp calculator.capnp.c++ $(pkg-config --cflags --libs capvet-kj) -o rpc_server
 //     ./rpc_server 127.0.0.1:0
 //
-// It prints its port, and then a line for each connection that it ends, with the peer and the reason. A refused message
-// costs its sender the connection, and no other one. A peer has SECONDS for each message, 20 unless it is the second
+// It prints its port, and then a line for each connection that it ends, with the peer, the reason, and the path to the
+// pointer that is refused. A refused message costs its sender the connection, and no other one. A peer has SECONDS for each message, 20 unless it is the second
 // word of the command. It has three times as long to read one. It serves until it is stopped. The status is 3 if it
 // can't listen.
 #include <capvet/kj-server.h>
@@ -29,7 +29,8 @@ capvet::ServerOptions optionsFor(long seconds) {
 }
 
 void printRefusal(const capvet::Refusal &refusal) {
-  std::puts(kj::str(refusal.peer, " ", refusal).cStr());
+  const auto path = refusal.path();
+  std::puts(kj::str(refusal.peer, " ", refusal, path.size() > 0 ? " path " : "", path).cStr());
   std::fflush(stdout);
 }
 

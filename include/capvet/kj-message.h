@@ -70,9 +70,45 @@ struct Refusal {
    * empty for another stream of messages. It is borrowed, from the stream only during `onRefused`. */
   kj::ArrayPtr<const kj::byte> bytes = nullptr;
 
+  /* The segments of a message of another stream of messages. They are empty for all others. Borrowed as above. */
+  kj::ArrayPtr<const capvet_segment> segments = nullptr;
+
+  /* The limits that the message was vetted with. */
+  capvet_limits limits = {};
+
   /* The peer of the connection, such as "127.0.0.1:4000". It is empty if the connection doesn't say. Borrowed as above. */
   kj::StringPtr peer = nullptr;
+
+  /* The path to the pointer that is refused, such as "/p0/i7/p2": which field it is. "/" is the root pointer. It is empty if
+   * the refusal is about no pointer. Call it while what is borrowed is there: it takes one more walk up to the pointer. */
+  kj::String path() const;
 };
+
+/* The path to a pointer of the message that the bytes start with, by its number. It is empty if there is none. */
+inline kj::String pathTo(uint64_t number, kj::ArrayPtr<const kj::byte> bytes, capvet_limits limits) {
+  limits.flags |= CAPVET_ALLOW_TRAILING;
+  capvet_step steps[CAPVET_MAX_DEPTH];
+  capvet_report report;
+  size_t count = 0;
+  const auto answer = capvet_pointer_path(bytes.begin(), bytes.size(), &limits, number, steps, CAPVET_MAX_DEPTH, &count,
+                                          &report);
+  if (answer != CAPVET_OK) return kj::String();
+  if (count == 0) return kj::str("/");
+  auto texts = KJ_MAP(step, kj::arrayPtr(steps, count)) {
+    return kj::str(step.kind == CAPVET_STEP_ELEMENT ? "/i" : "/p", step.number);
+  };
+  return kj::strArray(texts, "");
+}
+
+inline kj::String Refusal::path() const {
+  if (report.pointers == 0) return kj::String();
+  if (segments.size() == 0) return pathTo(report.pointers, bytes, limits);
+  // (the call for paths reads a frame)
+  auto words = KJ_MAP(segment, segments) {
+    return kj::arrayPtr(reinterpret_cast<const capnp::word *>(segment.bytes), segment.length / sizeof(capnp::word));
+  };
+  return pathTo(report.pointers, capnp::messageToFlatArray(words).asBytes(), limits);
+}
 
 /* "refused DepthLimit at 0:7 pointers 3", as `capvet vet` prints it. If the bytes are no frame, or more than one,
  * it has a number in place of a pointer's: that of `report.input_required` or else of `report.detail`. After a cause
@@ -178,7 +214,9 @@ inline bool isAccepted(kj::ArrayPtr<const kj::byte> bytes, Refusal &refusal, con
   const bool hasTable = (options.limits.flags & CAPVET_NO_TABLE) == 0;
   refusal.answer =
       hasTable ? capvet_vet(bytes.begin(), bytes.size(), &options.limits, &refusal.report) : CAPVET_BAD_LIMITS;
-  return refusal.answer == CAPVET_OK;
+  if (refusal.answer == CAPVET_OK) return true;
+  refusal.limits = options.limits;
+  return false;
 }
 
 /* Vets the message that the bytes are, and gives a reader over them. With CAPVET_ALLOW_TRAILING they may go on after
@@ -195,7 +233,8 @@ inline kj::Maybe<Vetted> tryVetted(kj::ArrayPtr<const kj::byte> bytes, Refusal &
   return Vetted(bytes, refusal.report, options, atLeast);
 }
 
-/* The same for an array that is passed on, such as a temporary one: the result keeps it. `refusal.bytes` is empty. */
+/* The same for an array that is passed on, such as a temporary one: the result keeps it. `refusal.bytes` is empty, and so is
+ * its path. */
 template <typename Byte>
 kj::Maybe<Vetted> tryVetted(kj::Array<Byte> &&bytes, Refusal &refusal, const Options &options = {},
                             capnp::ReaderOptions atLeast = capnp::ReaderOptions()) {

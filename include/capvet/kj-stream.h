@@ -106,7 +106,10 @@ class Guard final {
       : connection_(connection),
         files_(files),
         options_(options),
-        ending_(options, kj::mv(onRefused), peerOf(connection)) {}
+        ending_(options, kj::mv(onRefused), peerOf(connection)) {
+    // (the buffer may have messages after the one that is vetted)
+    options_.limits.flags |= CAPVET_ALLOW_TRAILING;
+  }
   KJ_DISALLOW_COPY(Guard);
 
   const Options &options() const { return options_; }
@@ -230,8 +233,17 @@ class Guard final {
   // Goes on with a message, as far as its bytes are there.
   template <typename Take>
   Taken<Take> advance(Take &take) {
-    const auto answer = capvet_frame(bytes(), held_, &options_.limits, &report_);
-    if (answer == CAPVET_TRUNCATED || answer == CAPVET_NO_MESSAGE) {
+    if (held_ == 0) {
+      report_ = capvet_report();
+      report_.input_required = sizeof(capnp::word);
+      return receive(sizeof(capnp::word), take);
+    }
+    const auto answer = capvet_vet(bytes(), held_, &options_.limits, &report_);
+    if (answer == CAPVET_OK) {
+      length_ = report_.length;
+      return take(true);
+    }
+    if (answer == CAPVET_TRUNCATED) {
       const size_t required = report_.input_required;
       if (!tableFirst_ || required <= CAPACITY) return receive(required, take);
       // (what is required is the frame then, since no table is so long)
@@ -239,12 +251,8 @@ class Guard final {
       rest_ = required - length_;
       return take(true);
     }
-    if (answer != CAPVET_OK) return refuse(answer, Cause::MESSAGE, held());
-    const size_t length = report_.length;
-    const auto verdict = capvet_vet(bytes(), length, &options_.limits, &report_);
-    if (verdict != CAPVET_OK) return refuse(verdict, Cause::MESSAGE, held().slice(0, length));
-    length_ = length;
-    return take(true);
+    // (a frame that is refused has no length)
+    return refuse(answer, Cause::MESSAGE, held().slice(0, report_.length > 0 ? report_.length : held_));
   }
 
   // Reads until `required` bytes of this message are held.
@@ -383,6 +391,7 @@ class Guard final {
     refusal.report = report_;
     refusal.cause = cause;
     refusal.bytes = bytes;
+    refusal.limits = options_.limits;
     return refusal;
   }
 
@@ -494,9 +503,12 @@ class Segments {
     if (second.bytes != nullptr) all_ = allOf(reader, first_, second);
   }
 
+  kj::ArrayPtr<const capvet_segment> all() const {
+    return all_.size() == 0 ? kj::arrayPtr(&first_, 1) : kj::arrayPtr(all_.begin(), all_.size());
+  }
+
   capvet_answer vet(const capvet_limits &limits, capvet_report &report) const {
-    if (all_.size() == 0) return capvet_vet_segments(&first_, 1, &limits, &report);
-    return capvet_vet_segments(all_.begin(), all_.size(), &limits, &report);
+    return capvet_vet_segments(all().begin(), all().size(), &limits, &report);
   }
 
   kj::ArrayPtr<const capnp::word> get(unsigned int id) const {
@@ -668,6 +680,8 @@ class VettingStream final : public capnp::MessageStream {
     Refusal refusal;
     refusal.answer = segments.vet(around_->options.limits, refusal.report);
     if (refusal.answer != CAPVET_OK) {
+      refusal.segments = segments.all();
+      refusal.limits = around_->options.limits;
       for (auto &fd : message.fds) fd = nullptr;
       return around_->ending.refuse(refusal);
     }

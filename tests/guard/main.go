@@ -1,10 +1,10 @@
 // Load plays clients and a server at both ends of a proxy, for tests/guard.py.
 //
 //	load storm PROXY SERVER CONNECTIONS MESSAGES FILE
-//	load rate SERVER MESSAGE_BYTES TOTAL_BYTES PROXY..
+//	load rate SERVER DIRECTION MESSAGE_BYTES TOTAL_BYTES PROXY..
 //	load latency SERVER CALLS PROXY..
 //
-// SERVER is where it listens, and each PROXY is an address that leads there.
+// SERVER is where it listens, and each PROXY is an address that leads there. DIRECTION is `requests` or `replies`.
 package main
 
 import (
@@ -24,7 +24,7 @@ func main() {
 	case "storm":
 		fmt.Println(storm(words[0], words[1], number(words[2]), number(words[3]), words[4]))
 	case "rate":
-		for _, rate := range rates(words[0], number(words[1]), number(words[2]), words[3:]) {
+		for _, rate := range rates(words[0], words[1] == "replies", number(words[2]), number(words[3]), words[4:]) {
 			fmt.Printf("%.1f ", rate)
 		}
 		fmt.Println()

@@ -10,8 +10,8 @@ import (
 // rounds is how often each proxy has its turn. The best rate of each counts.
 const rounds = 5
 
-// rates returns how many MB a second go through each proxy, in messages of this many bytes.
-func rates(at string, messageBytes, total int, proxies []string) []float64 {
+// rates returns how many MB a second go through each proxy in one direction, in messages of this many bytes.
+func rates(at string, areReplies bool, messageBytes, total int, proxies []string) []float64 {
 	listener, err := net.Listen("tcp", at)
 	must(err)
 	one := of(messageBytes)
@@ -22,7 +22,7 @@ func rates(at string, messageBytes, total int, proxies []string) []float64 {
 	best := make([]float64, len(proxies))
 	for round := 0; round < rounds; round++ {
 		for i, proxy := range proxies {
-			if rate := rate(listener, proxy, block, total/len(block)+1); rate > best[i] {
+			if rate := rate(listener, proxy, areReplies, block, total/len(block)+1); rate > best[i] {
 				best[i] = rate
 			}
 		}
@@ -31,21 +31,25 @@ func rates(at string, messageBytes, total int, proxies []string) []float64 {
 }
 
 // rate sends a block so many times, and returns the MB a second at which they arrive.
-func rate(listener net.Listener, proxy string, block []byte, times int) float64 {
+func rate(listener net.Listener, proxy string, areReplies bool, block []byte, times int) float64 {
 	conn := dial(proxy)
 	defer conn.Close()
 	server, err := listener.Accept()
 	must(err)
 	defer server.Close()
+	from, to := conn, server
+	if areReplies {
+		from, to = server, conn
+	}
 	begin := time.Now()
 	go func() {
 		for i := 0; i < times; i++ {
-			_, err := conn.Write(block)
+			_, err := from.Write(block)
 			must(err)
 		}
-		must(conn.(*net.TCPConn).CloseWrite())
+		must(from.(*net.TCPConn).CloseWrite())
 	}()
-	n, err := io.CopyBuffer(struct{ io.Writer }{io.Discard}, struct{ io.Reader }{server}, make([]byte, 1<<18))
+	n, err := io.CopyBuffer(struct{ io.Writer }{io.Discard}, struct{ io.Reader }{to}, make([]byte, 1<<18))
 	must(err)
 	if n != int64(len(block)*times) {
 		must(io.ErrUnexpectedEOF)

@@ -12,9 +12,9 @@
 //
 // FILE has for each message its length in bytes (4 bytes, the lowest first), and then its frame. Each is sent on a
 // connection of its own, every third one after the frames of VALID. The servers with vetting take turns. The line of a
-// message is the text of its refusal, or 'accepted', or 'not read' where libcapnp's own stream refuses the frame, below
-// the VettingStream 'around' it. The last lines count exceptions by the file of libcapnp that they come from. Then the results of calls follow,
-// as for `same`.
+// message is the text of its refusal with the path, or 'accepted'. It is 'not read' where libcapnp's own stream refuses the
+// frame, below the VettingStream 'around' it. The last lines count exceptions by the file of libcapnp that they come from.
+// Then the results of calls follow, as for `same`.
 //
 // An exception from reading pointers or from limits is a line 'threw'. Those about what a schema expects are counted.
 #include <capnp/rpc-twoparty.h>
@@ -33,6 +33,7 @@
 #include <vector>
 
 #include "host.h"
+#include "refusal.h"
 
 namespace {
 
@@ -78,7 +79,7 @@ class Server final {
       : way(way),
         listener(provider.getNetwork().parseAddress("127.0.0.1").wait(scope)->listen()),
         address(provider.getNetwork().parseAddress(kj::str("127.0.0.1:", listener->getPort())).wait(scope)),
-        host(provider.getTimer(), [this](const capvet::Refusal &refusal) { refused = kj::str(refusal).cStr(); }),
+        host(provider.getTimer(), [this](const capvet::Refusal &refusal) { refused = textOf(refusal); }),
         serving(serve().eagerlyEvaluate(print)) {}
 
   kj::Own<kj::AsyncIoStream> connect(kj::WaitScope &scope) { return address->connect().wait(scope); }

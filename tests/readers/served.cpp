@@ -5,8 +5,8 @@
 //
 // `serve` serves the calculator of examples/cpp in a way of host.h. A peer has SECONDS for a message and to read one.
 // At most CONNECTIONS are open, if the way has a limit. PACED is 0 or 1. The first line is the port. Then there is a line
-// for each refusal: 'refused', the peer, the length of the bytes, and the text. For each line of standard input there is
-// one 'memory', with the bytes that are allocated, and 'counters', with those of capvet::Server.
+// for each refusal: 'refused', the peer, the length of the bytes, the text, and the path if there is one. For each line of
+// standard input there is one 'memory', with the bytes that are allocated, and 'counters', with those of capvet::Server.
 //
 // `frames` writes the messages of a client that makes CALLS calls at once: `rows` of ROWS rows, or `add`
 // where ROWS is 0.
@@ -20,6 +20,7 @@
 #include <string>
 
 #include "host.h"
+#include "refusal.h"
 
 namespace {
 
@@ -59,7 +60,7 @@ int serve(const std::string &name, int seconds, uint32_t connections, bool paced
   options.messages.paced = paced;
   options.connections = options.connectionsOfAddress = connections;
   auto told = [](const capvet::Refusal &refusal) {
-    print(kj::str("refused ", refusal.peer, " ", refusal.bytes.size(), " ", refusal).cStr());
+    print(kj::str("refused ", refusal.peer, " ", refusal.bytes.size(), " ", textOf(refusal)).cStr());
   };
   Host host(io.provider->getTimer(), told, options);
   auto listener = io.provider->getNetwork().parseAddress("127.0.0.1").wait(io.waitScope)->listen();

@@ -7,13 +7,14 @@
 // reader has those for one reading, a `walk`. Another has those for four: `walk`, `upgraded`, `size` and `copy` of
 // read.cpp.
 //
-// The line is the text of the refusal, or 'sum N pointers N caps N'. Where the library throws, or two readings differ,
-// it says so.
+// The line is the text of the refusal with the path to the pointer, or 'sum N pointers N caps N'. Where the library throws,
+// or two readings differ, it says so.
 #include <capvet/kj.h>
 #include <stdio.h>
 
 #include <string>
 
+#include "refusal.h"
 #include "walk.h"
 
 namespace {
@@ -44,7 +45,7 @@ std::string lineAt(kj::ArrayPtr<const kj::byte> bytes, uint32_t readings, EveryC
   }
   auto exception = kj::runCatchingExceptions([&]() { capvet::vetted(bytes, options); });
   KJ_IF_MAYBE(thrown, exception) {
-    if (thrown->getDescription() == kj::str(refusal)) return kj::str(refusal).cStr();
+    if (thrown->getDescription() == kj::str(refusal)) return textOf(refusal);
   }
   return "tryVetted refuses, and vetted doesn't";
 } catch (const kj::Exception &thrown) {

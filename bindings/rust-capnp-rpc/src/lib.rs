@@ -41,12 +41,13 @@
 #![warn(missing_docs, missing_debug_implementations)]
 
 use capnp::message::ReaderOptions;
-use capvet::Limits;
+use capvet::{Limits, Path, VetError};
 use capvet_capnp::Error;
 use futures_io::AsyncRead;
 use std::fmt;
 use std::future::{Future, Pending};
 use std::io;
+use std::mem::take;
 use std::pin::Pin;
 use std::sync::{Arc, Mutex};
 use std::task::{Context, Poll};
@@ -87,6 +88,35 @@ pub struct Ended {
     pub bytes: u64,
     /// How many of these bytes are of the message that isn't accepted or isn't whole, as far as it had come.
     pub partial: usize,
+    message: Message,
+}
+
+// The last message, while `Watch::ended` runs. It is no part of a copy.
+#[derive(Default)]
+struct Message {
+    buffer: Vec<u8>,
+    start: usize,
+    limits: Limits,
+}
+
+impl Clone for Message {
+    fn clone(&self) -> Self {
+        Self::default()
+    }
+}
+
+impl PartialEq for Message {
+    fn eq(&self, _: &Self) -> bool {
+        true
+    }
+}
+
+impl Eq for Message {}
+
+impl fmt::Debug for Message {
+    fn fmt(&self, f: &mut fmt::Formatter<'_>) -> fmt::Result {
+        f.write_str("..")
+    }
 }
 
 /// As in the lines of the program, where it has one.
@@ -103,6 +133,26 @@ impl fmt::Display for Ended {
 }
 
 impl Ended {
+    /// Returns the path to the pointer that is refused, such as `/p0/i7/p2`: which field it is. It is found by one more walk up
+    /// to this pointer.
+    ///
+    /// It is `None` if the reason names no pointer, if [`Watch::ended`] has returned, and for a clone: the message is dropped
+    /// with the connection's buffer.
+    #[must_use]
+    pub fn path(&self) -> Option<Path> {
+        let error = match &self.reason {
+            Reason::NotAccepted(error) => error,
+            _ => return None,
+        };
+        match error.reason() {
+            VetError::Refused(refusal) => {
+                let bytes = &self.message.buffer[self.message.start..];
+                refusal.path(bytes, self.message.limits.allow_trailing(true))
+            }
+            _ => None,
+        }
+    }
+
     // The error that reading fails with, or none where it ends.
     fn error(&self) -> Option<io::Error> {
         let kind = match &self.reason {
@@ -247,14 +297,21 @@ impl<R, H: Watch> VettingRead<R, H> {
 
     // Ends reading, and reports why.
     fn end(&mut self, reason: Reason) -> io::Result<usize> {
+        let mut buffer = take(&mut self.buffer);
+        buffer.truncate(self.filled);
         let ended = Ended {
             reason,
             messages: self.messages,
             bytes: self.bytes,
             partial: self.filled - self.start,
+            message: Message {
+                buffer,
+                start: self.start,
+                limits: self.limits,
+            },
         };
         let error = ended.error();
-        (self.buffer, self.start, self.filled) = (Vec::new(), 0, 0);
+        (self.start, self.filled) = (0, 0);
         self.deadline = None;
         // (before the call, which may be of anyone)
         self.ended = Some(ended.clone());
@@ -282,14 +339,14 @@ impl<R, H: Watch> VettingRead<R, H> {
     // Vets the next message, if it is whole. Else it returns how many bytes get further.
     fn vet(&mut self) -> Result<usize, Error> {
         let bytes = &self.buffer[self.start..self.filled];
-        match capvet::frame_length(bytes, self.limits) {
-            Ok(length) => {
-                capvet::vet(&bytes[..length], self.limits)?;
-                (self.passing, self.deadline) = (length, None);
+        match capvet::vet(bytes, self.limits.allow_trailing(true)) {
+            Ok(report) => {
+                (self.passing, self.deadline) = (report.length, None);
                 self.messages += 1;
                 Ok(0)
             }
-            Err(error) => error.required().ok_or_else(|| error.into()),
+            Err(VetError::Frame(error)) => error.required().ok_or_else(|| error.into()),
+            Err(error) => Err(error.into()),
         }
     }
 

@@ -63,6 +63,7 @@ type Deadline = Map<oneshot::Receiver<()>, fn(Result<(), oneshot::Canceled>)>;
 #[derive(Clone, Default)]
 struct Log {
     ended: Rc<RefCell<Vec<Ended>>>,
+    paths: Rc<RefCell<Vec<Option<String>>>>,
     deadlines: Rc<RefCell<Vec<oneshot::Sender<()>>>>,
     unread: Rc<RefCell<Vec<oneshot::Sender<()>>>>,
 }
@@ -86,6 +87,8 @@ impl Watch for Log {
     }
 
     fn ended(&mut self, ended: &Ended) {
+        let path = ended.path().map(|it| it.to_string());
+        self.paths.borrow_mut().push(path);
         self.ended.borrow_mut().push(ended.clone());
     }
 }
@@ -143,6 +146,38 @@ fn nothing_of_a_refused_message_comes_through() {
             },
             other => panic!("{other:?}"),
         }
+    }
+}
+
+// The paths that are reported of a stream, and those that there are afterwards.
+fn paths(stream: &[u8], limits: Limits) -> (Vec<Option<String>>, Option<capvet::Path>) {
+    let log = Log::default();
+    let mut vetting = VettingRead::new(Pieces::of(stream, 1000), limits, log.clone());
+    let _ = block_on(vetting.read_to_end(&mut Vec::new()));
+    let after = vetting.ended().and_then(Ended::path);
+    (log.paths.take(), after)
+}
+
+#[test]
+fn a_refused_pointer_has_its_path() {
+    // (a struct of two pointers, of which the second leads past the end)
+    let outside = [
+        0, 0, 0, 0, 3, 0, 0, 0, 0, 0, 0, 0, 0, 0, 2, 0, 0, 0, 0, 0, 0, 0, 0, 0, 0, 0, 0, 0, 1, 0,
+        0, 0,
+    ];
+    let path = |text: &str| (vec![Some(text.to_owned())], None);
+    let stream = [STREAM, &outside, STREAM].concat();
+    assert_eq!(paths(&stream, Limits::DEFAULT), path("/p1"));
+    let deep = "/p0".repeat(3);
+    assert_eq!(paths(CYCLE, Limits::DEFAULT.depth(3)), path(&deep));
+    let root = [0, 0, 0, 0, 1, 0, 0, 0, 4, 0, 0, 0, 1, 0, 0, 0];
+    assert_eq!(paths(&root, Limits::DEFAULT), path("/"));
+}
+
+#[test]
+fn an_end_without_a_pointer_has_no_path() {
+    for stream in [STREAM, &STREAM[..9], &[0, 0, 0, 0, 0, 0, 0, 0]] {
+        assert_eq!(paths(stream, Limits::DEFAULT), (vec![None], None));
     }
 }
 

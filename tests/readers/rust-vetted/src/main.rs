@@ -8,7 +8,7 @@ mod walk;
 
 use capnp::message::{Reader, ReaderOptions};
 use capnp::{any_pointer, serialize, Word};
-use capvet::{Limits, Report};
+use capvet::{Limits, Report, VetError};
 use capvet_capnp::Vetted;
 use std::fs::File;
 use std::io::{BufReader, BufWriter, Read, Write};
@@ -36,7 +36,13 @@ fn line(bytes: &[u8]) -> String {
         return "an owner of the bytes or its segments have another verdict".into();
     }
     match verdict {
-        Err(error) => error.to_string(),
+        Err(error) => match error.reason() {
+            VetError::Refused(refusal) => match refusal.path(bytes, limits) {
+                Some(path) => format!("{error} path {path}"),
+                None => error.to_string(),
+            },
+            _ => error.to_string(),
+        },
         Ok(vetted) => readings(&vetted).unwrap_or_else(|error| format!("threw {error}")),
     }
 }

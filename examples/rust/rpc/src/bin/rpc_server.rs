@@ -2,9 +2,10 @@
 //!
 //!     PKG_CONFIG_PATH=PREFIX/lib/pkgconfig cargo run --bin rpc_server -- 127.0.0.1:0 [CONNECTIONS [PER_PEER [SECONDS]]]
 //!
-//! It prints its port, and then a line for each connection that ended otherwise than by its peer, between two messages. It
-//! accepts at most CONNECTIONS at once, and PER_PEER of one address. A message has SECONDS from its first byte on. When it
-//! gets the signal USR1 it prints its counters. It serves until it is stopped.
+//! It prints its port, and then a line for each connection that ended otherwise than by its peer, between two messages. The line
+//! of a refused message ends with the path to the pointer. The server accepts at most CONNECTIONS at once, and PER_PEER of one
+//! address. A message has SECONDS from its first byte on. When it gets the signal USR1 it prints its counters. It serves until
+//! it is stopped.
 //!
 //! The status is 2 for a wrong command line, and 3 if the address can't be listened at.
 
@@ -180,9 +181,13 @@ impl Watch for Peer {
             _ => counters.failed += 1,
         }
         if ended.reason != Reason::Closed {
+            let path = ended.path().map(|it| format!(", path {it}"));
             println!(
-                "{}: {ended}, after {} messages and {} bytes",
-                self.address, ended.messages, ended.bytes
+                "{}: {ended}, after {} messages and {} bytes{}",
+                self.address,
+                ended.messages,
+                ended.bytes,
+                path.unwrap_or_default()
             );
         }
     }
