@@ -6,9 +6,10 @@ import { ALLOW_TRAILING, checkNames, limitsOf, numberOf, writeLimits } from "./l
 import {
   INPUT, REPORT, REQUIRED, SECOND, address, after, at, bytes, bytesOf, calls, number, place, reserve, setNumber, view,
 } from "./module.js";
+import { MAX_TABLE, frameLength } from "./table.js";
 
-// The most bytes of a table, and of the space for a copy whose length is not known.
-const TABLE = 2056, MAX_GUESS = 2 ** 30;
+// The most bytes of the space for a copy whose length is not known.
+const MAX_GUESS = 2 ** 30;
 
 export function version() {
   const packed = calls.capvet_version();
@@ -18,14 +19,13 @@ export function version() {
 /** What capvet_frame answers for these bytes. It reads the table only, so only that is copied. The limits are written. */
 export function frameAnswer(input) {
   reserve(after(input.length));
-  place(input.subarray(0, TABLE));
+  place(input.subarray(0, MAX_TABLE));
   return calls.capvet_frame(at.input, BigInt(input.length), at.limits, at.report);
 }
 
-/** The frame that bytes start with, or if there is none, enough of them for every call to find that. The limits are written. */
+/** The frame that bytes start with, or if there is none, enough of them for every call to find that. */
 export function firstFrame(input, limits) {
-  const most = input.subarray(0, 8 * limits.messageWords + TABLE);
-  return frameAnswer(most) === OK ? most.subarray(0, number(REPORT)) : most;
+  return input.subarray(0, frameLength(input, limits.messageWords));
 }
 
 /** The bytes of which a call needs a copy. Writes the limits. */
@@ -75,9 +75,9 @@ export function vetSegments(segments, limits) {
   return reportOf();
 }
 
-export function frame(data, limits) {
-  const input = bytesOf(data);
-  writeLimits(limitsOf(limits));
+export function frame(data, options) {
+  const limits = limitsOf(options), input = firstFrame(bytesOf(data), limits);
+  writeLimits(limits);
   check(frameAnswer(input));
   const length = number(REPORT), segments = [];
   for (let index = 0, count = view.getUint32(REPORT + 52, true); index < count; index++) {

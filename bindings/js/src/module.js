@@ -89,8 +89,13 @@ export function setNumber(from, value) {
   view.setBigUint64(from, BigInt(value), true);
 }
 
-/** Any bytes as a Uint8Array over the same memory. */
+/** Any bytes as a Uint8Array over the same memory, or one of a class below it. */
 export function bytesOf(data) {
+  return data instanceof Uint8Array ? data : plainBytesOf(data);
+}
+
+/** The same as a Uint8Array that is of no class below it: what the package returns parts of. */
+export function plainBytesOf(data) {
   if (ArrayBuffer.isView(data)) return new Uint8Array(data.buffer, data.byteOffset, data.byteLength);
   const isShared = typeof SharedArrayBuffer !== "undefined" && data instanceof SharedArrayBuffer;
   if (isShared || data instanceof ArrayBuffer) return new Uint8Array(data);
