@@ -47,6 +47,9 @@ ARENA, OUT, INPUT, SECOND, LIMITS = 1 << 24, 1 << 20, 1 << 13, 64, 0
 # The range that a call fills: a report, two numbers, a state, and a buffer.
 REPORT, REQUIRED, CONSUMED, STATE, BUFFER = OUT, OUT + 96, OUT + 104, OUT + 112, OUT + 144
 NULL = 2**64 - 1
+# The calls that give a size for a length, and lengths of 32 bits for them.
+BOUNDS = range(16, 20)
+SIZES = (0, 1, 511, 512, 3144, 2**31, 3435973836, 3435973840, 2**32 - 32777, 2**32 - 32776, 2**32 - 1)
 COMMANDS = ("vet", "vet --strict --unamplified", "vet --exclusive", "explain", "explain --exclusive", "segments", "dump", "check", "canon", "filter --exclusive",
             "get /p0/i1/p4", "vet --words 40 --depth 3", "pack", "unpack", "vet --packed")
 
@@ -117,10 +120,11 @@ def described(message, text, chance):
 
 
 def pieces():
-    """The described calls, for PIECE messages at a time. The first two calls take no bytes."""
+    """The described calls, for PIECE messages at a time. The first ones take no bytes."""
     chance, whole = random.Random(SEED), samples()
     small = [message for message in whole if len(message) < 5000]
-    first = call(0, ()) + call(1, (BUFFER,), 40)
+    bounds = b"".join(call(number, (size,)) for number in BOUNDS for size in SIZES)
+    first = call(0, ()) + call(1, (BUFFER,), 40) + bounds
     for _ in range(0, MANY, PIECE):
         listed = [first]
         for _ in range(min(MANY, PIECE)):

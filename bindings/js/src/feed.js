@@ -91,7 +91,7 @@ class Packed {
     setNumber(STATE, 8);
     view.setUint32(STATE + 8, this.zeroWords, true);
     view.setUint32(STATE + 12, this.literalWords, true);
-    const answer = calls.capvet_unpack_message(at.input, BigInt(packed.length), at.pieceLimits, address(out), BigInt(size),
+    const answer = calls.capvet_unpack_message(at.input, packed.length, at.pieceLimits, address(out), size,
       at.state, at.second, at.required, at.report);
     if (answer !== OK && answer !== TRUNCATED && answer !== NO_MESSAGE) throw errorOf(answer);
     const consumed = number(SECOND);

@@ -57,7 +57,7 @@ function getAnswer(input, path) {
   // (a letter takes at most three bytes)
   place(input, 3 * path.length);
   const { written } = ENCODER.encodeInto(path, bytes.subarray(start));
-  return calls.capvet_get(at.input, BigInt(input.length), at.limits, address(start), BigInt(written), at.nodes, at.report);
+  return calls.capvet_get(at.input, input.length, at.limits, address(start), written, at.nodes, at.report);
 }
 
 export function node(data, path, limits) {
@@ -102,8 +102,8 @@ function reader(all, { steps, varying }, limits) {
     writeLimits(limits);
     const start = after(input.length);
     view.setUint32(start + 8 * varying + 4, first, true);
-    return calls.capvet_get_range(at.input, BigInt(input.length), at.limits, address(start), BigInt(steps.length / 8),
-      BigInt(varying), at.nodes, BigInt(count), at.required, at.report);
+    return calls.capvet_get_range(at.input, input.length, at.limits, address(start), steps.length / 8,
+      varying, at.nodes, count, at.required, at.report);
   };
 }
 
