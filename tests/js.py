@@ -10,9 +10,9 @@ The package answers requests in Node, and in a page and a worker of headless Chr
 messages of a fixed seed, packed and cut streams, and changed tables. Each answer has to be what PROGRAM writes. Packed texts are
 unpacked as the library for C does. The worker has the form with the module inlined.
 
-A call of a message of about 4 KiB is timed beside the same call from C. With --idle it takes at most MOST times as long, for which
-the machine may do nothing else. With --full there are more messages, and streams of 1 GB are read in bounded memory. The last line
-is 'N passed, M failed', and the status is 1 if a case failed.
+Calls of messages of about 4 KiB are timed beside the same calls from C. With --idle they take at most MOST times as long, or
+MOST_FLAT times where there is next to nothing to check. For that the machine may do nothing else. With --full there are more
+messages, and streams of 1 GB are read in bounded memory. The last line is 'N passed, M failed', and the status is 1 if a case failed.
 """
 import json
 import os
@@ -32,8 +32,8 @@ from js_requests import HERE, SEED, in_node, unpacker
 from needs import missing
 
 BINDING, MODULE = TOP / "bindings/js", TOP / "build/capvet.wasm"
-# The most that a call may take, as a multiple of the time from C.
-MOST = 3
+# The most that a call may take, as a multiple of the time from C. (to copy a flat list into the module takes longer than to vet it)
+MOST, MOST_FLAT = 3, 5
 # The bytes of a flat list.
 LENGTH = 4072
 # The most bytes of the process that reads a gigabyte, and the bytes of a large message.
@@ -165,7 +165,7 @@ def flat():
 
 
 def timed(folder, where):
-    """Prints the times of calls of a message of about 4 KiB. With --idle they take at most MOST times as long as from C."""
+    """Prints the times of calls of messages of about 4 KiB. With --idle they take at most so many times as long as from C."""
     if missing("the time of a call beside that from C", "cc"):
         return
     built = folder / "calls"
@@ -173,7 +173,8 @@ def timed(folder, where):
     compare("calls.c", ("", 0), run([*words, "-o", built]))
     seconds = "2" if IS_IDLE else "0.3"
     (folder / "flat.bin").write_bytes(flat())
-    for file in (*(TOP / "examples" / name for name in ("contacts.bin", "contacts-many-segments.bin")), folder / "flat.bin"):
+    examples = TOP / "examples"
+    for file, most in ((examples / "contacts.bin", MOST), (examples / "contacts-many-segments.bin", MOST), (folder / "flat.bin", MOST_FLAT)):
         from_c = run([built, file, seconds])[0].split()[1:]
         text, status = run(["node", HERE / "cost.mjs", where / "capvet.js", file, seconds])
         compare("cost.mjs", 0, status)
@@ -182,7 +183,7 @@ def timed(folder, where):
             ratio = float(other) / float(one)
             print(f"{call} of {file.name} takes {one} ns from C and {other} ns from JavaScript: {ratio:.2f} times")
             if IS_IDLE and call != "canonical":
-                compare(f"{call} of {file.name} takes at most {MOST} times as long", True, ratio <= MOST)
+                compare(f"{call} of {file.name} takes at most {most} times as long", True, ratio <= most)
 
 
 def given_back(where):
