@@ -9,7 +9,7 @@ const CALLS = [
   ["capvet_vet_segments", "pspp"], ["capvet_frame", "pspp"], ["capvet_segment_at", "psnpp"], ["capvet_canonical", "psppspp"],
   ["capvet_is_canonical", "pspp"], ["capvet_get", "psppspp"], ["capvet_get_range", "psppsspspp"], ["capvet_pack", "pspsp"],
   ["capvet_unpack", "pspsp"], ["capvet_pack_message", "psppspp"], ["capvet_unpack_message", "psppspppp"],
-  ["capvet_pointer_path", "pspspspp"],
+  ["capvet_pointer_path", "pspspspp"], ["capvet_explain", "psppspp"],
 ];
 const NOTHING = 0xffffffffffffffffn;
 
