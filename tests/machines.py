@@ -48,7 +48,7 @@ ARENA, OUT, INPUT, SECOND, LIMITS = 1 << 24, 1 << 20, 1 << 13, 64, 0
 REPORT, REQUIRED, CONSUMED, STATE, BUFFER = OUT, OUT + 96, OUT + 104, OUT + 112, OUT + 144
 NULL = 2**64 - 1
 # The calls that give a size for a length, and lengths of 32 bits for them.
-BOUNDS = range(16, 20)
+BOUNDS = range(17, 21)
 SIZES = (0, 1, 511, 512, 3144, 2**31, 3435973836, 3435973840, 2**32 - 32777, 2**32 - 32776, 2**32 - 1)
 COMMANDS = ("vet", "vet --strict --unamplified", "vet --exclusive", "explain", "explain --exclusive", "segments", "dump", "check", "canon", "filter --exclusive",
             "get /p0/i1/p4", "vet --words 40 --depth 3", "pack", "unpack", "vet --packed")
@@ -111,6 +111,7 @@ def described(message, text, chance):
     yield call(9, (*over, SECOND, len(path), BUFFER, REPORT), 56, [(SECOND, path)])
     yield call(10, (*over, SECOND, count, chance.randrange(count + 1), BUFFER, nodes, *frame), 56 * nodes, [(SECOND, steps)])
     yield call(15, (*over, chance.choice((0, 1, 2, 3, 5, 9, 20, 2**40)), BUFFER, size // 8, *frame), size // 8 * 8)
+    yield call(16, (*over, BUFFER, size, *frame), size)
     yield call(11, (where, len(message), BUFFER, size, REQUIRED), size)
     yield call(13, (*over, BUFFER, size, *frame), size)
     yield b"w" + prepared([(where, text)])
