@@ -23,7 +23,7 @@
  *   frames       capvet_frame, capvet_segment_at
  *   canonical    capvet_canonical, capvet_is_canonical
  *   read         capvet_get, capvet_get_range
- *   explain      capvet_pointer_path
+ *   explain      capvet_explain, capvet_pointer_path
  *   packing      capvet_pack, capvet_unpack, capvet_pack_message, capvet_unpack_message
  *   bounds       capvet_marks_bound, capvet_frame_bound, capvet_canonical_bound, capvet_pack_bound
  *   other        capvet_answer_name, capvet_limits_default, capvet_version, capvet_cpu_supported
@@ -209,7 +209,7 @@ typedef enum capvet_answer {
   CAPVET_OVERLAP = 18,        /* a word is used twice; the place is the pointer's that uses it again */
   CAPVET_NULL_PAD = 19,       /* not strict: a one-word landing pad of zeros */
   CAPVET_EMPTY_SEGMENT = 20,  /* not strict: a two-word landing pad leads into a segment without words */
-  CAPVET_NO_NODE = 21,        /* the path leads to nothing */
+  CAPVET_NO_NODE = 21,        /* nothing is there: at the path, of this number, or to be explained */
   CAPVET_CAPABILITY_PAD = 22, /* not strict: a one-word landing pad that is a capability */
   CAPVET_MANY_SEGMENTS = 23,  /* not strict: 512 segments, which few readers take */
 
@@ -289,8 +289,9 @@ CAPVET_INLINE const char *capvet_answer_name(uint32_t answer) CAPVET_NOEXCEPT {
 #define CAPVET_NO_TABLE 0x8u        /* the input is the words of one segment: no table, nothing after them */
 
 /* CAPVET_NO_TABLE is for what was stored without a table, such as the result of capvet_canonical. It works in
- * capvet_vet, capvet_vet_exclusive, capvet_canonical and capvet_is_canonical. report->length is then the
- * length of the input, and report->segments is 1. In place of the answers about the frame:
+ * capvet_vet, capvet_vet_exclusive, capvet_canonical, capvet_is_canonical, capvet_pointer_path and
+ * capvet_explain. report->length is then the length of the input, and report->segments is 1. In place of the
+ * answers about the frame:
  *
  *   - CAPVET_NO_MESSAGE: the input is empty
  *   - CAPVET_TOO_LARGE: it has more than limits->message_words words, where a part of a word counts as one
@@ -329,7 +330,7 @@ void capvet_limits_default(capvet_limits *limits) CAPVET_NOEXCEPT;
  * The tree numbers (charge, pointers, capabilities, depth) are set if the call checked the whole message and
  * accepted it: CAPVET_OK, CAPVET_NOT_CANONICAL, CAPVET_HAS_CAPABILITY, CAPVET_BUFFER_TOO_SMALL.
  * capvet_frame, capvet_get, capvet_pack_message and capvet_unpack_message check no whole message, so they set
- * none.
+ * none. capvet_explain sets none either.
  *
  * A library of a later minor version may set reserved fields, and `detail` for more answers: do not compare
  * reports by memcmp. */
@@ -344,14 +345,15 @@ typedef struct capvet_report {
   uint64_t detail;         /* the number that the answer's comment names; reserved for the other answers */
   uint64_t charge;         /* a tree number */
   uint64_t pointers;       /* a tree number, null pointers included; answers with a place: how many pointers
-                              were checked, the named one included (0 after CAPVET_NO_ROOT) */
+                              were checked, the named one included (0 after CAPVET_NO_ROOT); capvet_explain:
+                              as for the answer that it explains */
   uint64_t capabilities;   /* a tree number */
   uint32_t depth;          /* a tree number: the deepest level */
   uint32_t segments;       /* how many segments, whenever `length` is set */
   uint32_t segment;        /* the place of the pointer that the answer is about: CAPVET_OVERLAP, */
   uint32_t word;           /* CAPVET_NULL_PAD, CAPVET_EMPTY_SEGMENT, CAPVET_CAPABILITY_PAD, and from
-                              CAPVET_NO_ROOT on; else the place of the first capability, if
-                              `capabilities` is not 0 */
+                              CAPVET_NO_ROOT on; capvet_explain: as for the answer that it explains;
+                              else the place of the first capability, if `capabilities` is not 0 */
   uint64_t reserved[4];    /* 0 */
 } capvet_report;
 
@@ -649,6 +651,33 @@ CAPVET_CALL((3, 7, 8))
 capvet_answer capvet_pointer_path(const uint8_t *bytes, size_t length, const capvet_limits *limits, uint64_t number,
                                   capvet_step *steps, size_t step_count, size_t *required,
                                   capvet_report *report) CAPVET_NOEXCEPT;
+
+/* capvet_explain -- the reason of a refusal as lines of text, for a log.
+ *
+ *   bytes, length    the message, as for capvet_vet
+ *   limits           as for capvet_vet
+ *   text, text_size  where to write the lines: CAPVET_EXPLANATION_BOUND bytes always suffice
+ *   required         their length in bytes
+ *
+ * The text is the lines that the program's command `explain` writes after the line of the verdict. They give the
+ * path to the pointer that capvet_vet names, its place in bytes, the pointer word with its fields, where it leads, the
+ * limit that is passed, and the reason as a sentence. docs/output.md describes them. Each line begins with two
+ * blanks and ends with a line feed. The text is ASCII, and has no zero byte at its end.
+ *
+ * CAPVET_OK DOES NOT MEAN THAT THE MESSAGE IS ACCEPTED: it means that a text was written. Returns CAPVET_NO_NODE if
+ * the message is accepted, and the answer of capvet_vet if there is no frame or if bytes follow it. Otherwise
+ * CAPVET_BUFFER_TOO_SMALL or CAPVET_OK. The report has `length`, `segments`, and with the last two answers also the
+ * place and `pointers` of the refusal. On CAPVET_OK the bytes after the text are unchanged.
+ *
+ * Overlaps are not looked for. For CAPVET_OVERLAP, capvet_pointer_path gives the path.
+ *
+ * Cost: two walks up to the pointer. */
+CAPVET_CALL((3, 6, 7))
+capvet_answer capvet_explain(const uint8_t *bytes, size_t length, const capvet_limits *limits, char *text,
+                             size_t text_size, size_t *required, capvet_report *report) CAPVET_NOEXCEPT;
+
+/* A `text_size` that suffices for every message. */
+#define CAPVET_EXPLANATION_BOUND 6144
 
 /* ------------------------------------------------------------------------------------------------------
  * Packing

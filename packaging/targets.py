@@ -8,8 +8,8 @@
     wasm       build/capvet.wasm: the library as a WebAssembly module with 32-bit memory
 
 Rattle's compiler makes the object files; it builds only proved code, and proves again what the crate of the program or of the
-exports has itself. The other steps are not proved: the linkers of gcc, packaging/host.c, and binaryen's `wasm-opt`, which turns
-64-bit memory into 32-bit memory. A target whose tools are missing ends in status 2, with the package to install.
+exports has itself. The other steps are not proved: the linkers of gcc, packaging/host.c, and packaging/lowering.py, which turns
+64-bit memory into 32-bit memory by binaryen's `wasm-opt`. A target whose tools are missing ends in status 2, with the package to install.
 Files that were made of the same program and library are kept.
 """
 import fcntl
@@ -20,10 +20,12 @@ import sys
 import tempfile
 from pathlib import Path
 
+from lowering import lower
+
 TOP = Path(__file__).resolve().parent.parent
 BUILT = TOP / "build"
 KIT = Path(shutil.which("rt") or "/").resolve().parent.parent
-HOST = TOP / "packaging/host.c"
+HOST, LOWERING = TOP / "packaging/host.c", TOP / "packaging/lowering.py"
 ARM, WASM = "aarch64-unknown-linux-gnu", "wasm64-unknown-unknown"
 # For each target what it makes, and the tools that it needs with their Debian packages.
 TARGETS = {
@@ -32,8 +34,6 @@ TARGETS = {
                 {"aarch64-linux-gnu-gcc": "gcc-aarch64-linux-gnu libc6-dev-arm64-cross"}),
     "wasm": (("capvet.wasm",), {"wasm-opt": "binaryen"}),
 }
-# What the lowered module may use: engines have all of it since 2021.
-FEATURES = ("bulk-memory", "sign-ext", "nontrapping-float-to-int", "mutable-globals")
 
 
 def externs(root, crate):
@@ -78,14 +78,11 @@ def aarch64(root, scratch):
 
 
 def wasm(root, scratch):
-    """The module that the toolchain links has 64-bit memory, which few engines run. binaryen lowers it to 32 bits."""
     archive, module = scratch / "libcapvet-wasm.a", scratch / "capvet-64.wasm"
     if not compile_crate(root, "capvet_c", archive, scratch, "--target", WASM):
         return False
     words = [KIT / "bin/rattle-link", "--target", WASM, "--toolchain", KIT / "toolchain", "-o", module, archive]
-    enabled = [f"--enable-{it}" for it in FEATURES]
-    lowered = ["wasm-opt", *enabled, "--enable-memory64", "--memory64-lowering", module, "-o", BUILT / "capvet.wasm"]
-    return not subprocess.run(words).returncode and not subprocess.run(lowered).returncode
+    return not subprocess.run(words).returncode and lower(module, scratch, BUILT / "capvet.wasm")
 
 
 def lacking(name):
@@ -95,7 +92,7 @@ def lacking(name):
 
 def stamp():
     """The checksum of what is built for this machine, which changes with the code and the toolchain."""
-    whole = hashlib.sha256(HOST.read_bytes() + Path(__file__).read_bytes())
+    whole = hashlib.sha256(b"".join(file.read_bytes() for file in (HOST, LOWERING, Path(__file__))))
     for name in ("capvet", "libcapvet.a"):
         whole.update((BUILT / name).read_bytes())
     return whole.hexdigest()

@@ -50,7 +50,7 @@ SCRIPTS = (
     ("the built program", ["program.py", PROGRAM]),
     ("the calls from C, packed messages", ["calls.py", ARCHIVE, PROGRAM, "streams"]),
     ("the filter", ["filter.py", PROGRAM]),
-    ("refusals that are explained", ["explain.py", PROGRAM]),
+    ("refusals that are explained", ["explain.py", PROGRAM, ARCHIVE]),
     ("pipes that stay open", ["live.py", PROGRAM]),
     ("the calls from C, flags and reports", ["calls.py", ARCHIVE, PROGRAM, "flags"]),
     ("the calls from C, messages", ["calls.py", ARCHIVE, PROGRAM, "messages"]),

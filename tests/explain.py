@@ -1,27 +1,38 @@
 #!/usr/bin/env python3
-"""Compares what `capvet explain` writes of changed messages with the lines that this script writes of them.
+"""Compares what `capvet explain` and capvet_explain write of changed messages with the lines that this script writes of them.
 
-    explain.py PROGRAM [--full]
+    explain.py PROGRAM ARCHIVE [--full]
 
 The verdict of a message is that of tests/model.py. The lines after it are written here as docs/output.md defines them, from
 the words of the message alone. Messages of a fixed seed are changed or made up: 6,000, or 100,000 with --full. Each
 goes through the program once with one of the lines of OPTIONS. Each reason has to be among the refusals, as often as LEAST says
-for 6,000 messages. The last line is 'N passed, M failed', and the status is 1 if a case failed.
+for 6,000 messages.
+
+tests/c/explain.c explains each of these messages too, with the limits and flags of the same options, and buffers of various
+sizes. It writes the lines after that of the verdict. It looks for no overlap. The last line is 'N passed, M failed', and the
+status is 1 if a case failed.
 """
 import random
 import re
 import struct
 import sys
+import tempfile
 from collections import Counter
+from pathlib import Path
 
 import model
 from amount import cases
-from harness import PROGRAM, compare, ended, expect, framed, outputs
+from calls import CHECKS, compiled
+from harness import ARCHIVE, PROGRAM, compare, ended, expect, framed, outputs, over_file
 from made import changed, made_up, samples
+from needs import missing
 from packing import packed
 from trees import bits, offset
 
 MANY = cases(6_000, full=100_000)  # changed messages
+# The answers of capvet_explain that come here, and the most bytes of a text.
+OK, BUFFER_TOO_SMALL, NO_NODE, BOUND = 0, 9, 21, 6144
+REPLY = struct.Struct("<IQ6Q4I4Q")
 # How many messages a run of the program has.
 RUN = 500
 OPTIONS = ("", "--strict --unamplified", "--exclusive", "--strict --exclusive", "--words 60 --depth 4", "--packed",
@@ -296,10 +307,59 @@ def compare_lines(options, stream, first, seen):
     seen += reasons
 
 
+def limits_of(words):
+    """The limits and flags of a call by the options of a run."""
+    flags = model.NONSTRICT * ("--strict" not in words) | model.AMPLIFIED * ("--unamplified" not in words)
+    charge, depth = (int(words[words.index(name) + 1]) if name in words else default
+                     for name, default in (("--words", 8388608), ("--depth", 64)))
+    return model.Limits(charge=charge, depth=depth, flags=flags)
+
+
+def told_of(frame, words):
+    """The text on a message and the place of the refusal, or nothing and zeros if it is accepted."""
+    lines, reason = lines_of(0, segments_of(frame), words)
+    if reason == "accepted":
+        return "", (0, 0, 0)
+    return "".join(f"{line}\n" for line in lines[1:]), tuple(map(int, re.findall(r"\d+", lines[0].partition(" at ")[2])))
+
+
+def compare_calls(built, options, stream, first, chance):
+    """One run of tests/c/explain.c over some messages."""
+    words = [word for word in options.split() if word != "--exclusive"]
+    sizes, limits = [chance.choice((BOUND, BOUND, 1000, 400, 250, 90, 0)) for _ in stream], limits_of(words)
+    out, err, status = over_file([built], b"".join(
+        limits.packed() + struct.pack("<3I", size, chance.randrange(8), len(frame)) + frame for size, frame in zip(sizes, stream)))
+    compare(f"capvet_explain, {options}: messages from {first}", (0, b""), (status, err))
+    at = 0
+    for frame, size in zip(stream, sizes):
+        told, place = told_of(frame, words)
+        wanted = NO_NODE if not told else OK if len(told) <= size else BUFFER_TOO_SMALL
+        fields = dict.fromkeys(model.FIELDS, 0) | dict(zip(("segment", "word", "pointers"), place))
+        fields |= dict(length=len(frame), segments=len(segments_of(frame)))
+        reply = REPLY.pack(wanted, len(told), *fields.values(), 0, 0, 0, 0) + told.encode() * (wanted == OK)
+        compare(f"capvet_explain {options} {size}, {frame.hex()[:400]}", reply, out[at:at + len(reply)])
+        at += len(reply)
+    compare(f"capvet_explain, {options}: replies from {first}", at, len(out))
+
+
+def explained_in_c(stream):
+    """All messages, explained by the call."""
+    if missing("explanations from C", "cc"):
+        return
+    chance, checks = random.Random("calls"), CHECKS
+    if missing("explanations from C with the compiler's checks", "checks-gcc"):
+        checks = []
+    with tempfile.TemporaryDirectory() as folder:
+        built = compiled(Path(folder), "explain", "cc", "c11", ARCHIVE, *checks)
+        for at in range(0, len(stream) if built else 0, RUN):
+            compare_calls(built, OPTIONS[at // RUN % len(OPTIONS)], stream[at:at + RUN], at, chance)
+
+
 def main():
     seen, stream = Counter(), list(messages())
     for at in range(0, len(stream), RUN):
         compare_lines(OPTIONS[at // RUN % len(OPTIONS)], stream[at:at + RUN], at, seen)
+    explained_in_c(stream)
     for reason, least in LEAST.items():
         expect(f"{reason} among the refusals", seen[reason] >= least, f"{seen[reason]} times, and not {least}")
     print(", ".join(f"{reason} {count}" for reason, count in sorted(seen.items())))

@@ -20,6 +20,7 @@ CONSTANTS = (
     ("MAX_DEPTH", LIMITS, r"^const MOST_DEPTH: u32 = (\d+);"),
     ("MAX_SEGMENTS", "crates/cap_spec/specs/Messages.antt", r"length m ≤ (\d+)"),
     ("SLACK", DEMANDS, r"^const SLACK: u64 = (\d+);"),
+    ("EXPLANATION_BOUND", "crates/cap_calls/specs/CallBounds.antt", r"^explanation_bound = (\d+)$"),
     # (the lowest bit is divided by nothing)
     ("ALLOW_TRAILING", FLAGS, r"^allows_trailing l = l\.flags(?: / (\d+))? % 2 == 1$"),
     ("ALLOW_NONSTRICT", FLAGS, r"^allows_nonstrict l = l\.flags(?: / (\d+))? % 2 == 1$"),

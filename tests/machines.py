@@ -47,6 +47,9 @@ ARENA, OUT, INPUT, SECOND, LIMITS = 1 << 24, 1 << 20, 1 << 13, 64, 0
 # The range that a call fills: a report, two numbers, a state, and a buffer.
 REPORT, REQUIRED, CONSUMED, STATE, BUFFER = OUT, OUT + 96, OUT + 104, OUT + 112, OUT + 144
 NULL = 2**64 - 1
+# The calls that give a size for a length, and lengths of 32 bits for them.
+BOUNDS = range(17, 21)
+SIZES = (0, 1, 511, 512, 3144, 2**31, 3435973836, 3435973840, 2**32 - 32777, 2**32 - 32776, 2**32 - 1)
 COMMANDS = ("vet", "vet --strict --unamplified", "vet --exclusive", "explain", "explain --exclusive", "segments", "dump", "check", "canon", "filter --exclusive",
             "get /p0/i1/p4", "vet --words 40 --depth 3", "pack", "unpack", "vet --packed")
 
@@ -108,6 +111,7 @@ def described(message, text, chance):
     yield call(9, (*over, SECOND, len(path), BUFFER, REPORT), 56, [(SECOND, path)])
     yield call(10, (*over, SECOND, count, chance.randrange(count + 1), BUFFER, nodes, *frame), 56 * nodes, [(SECOND, steps)])
     yield call(15, (*over, chance.choice((0, 1, 2, 3, 5, 9, 20, 2**40)), BUFFER, size // 8, *frame), size // 8 * 8)
+    yield call(16, (*over, BUFFER, size, *frame), size)
     yield call(11, (where, len(message), BUFFER, size, REQUIRED), size)
     yield call(13, (*over, BUFFER, size, *frame), size)
     yield b"w" + prepared([(where, text)])
@@ -117,10 +121,11 @@ def described(message, text, chance):
 
 
 def pieces():
-    """The described calls, for PIECE messages at a time. The first two calls take no bytes."""
+    """The described calls, for PIECE messages at a time. The first ones take no bytes."""
     chance, whole = random.Random(SEED), samples()
     small = [message for message in whole if len(message) < 5000]
-    first = call(0, ()) + call(1, (BUFFER,), 40)
+    bounds = b"".join(call(number, (size,)) for number in BOUNDS for size in SIZES)
+    first = call(0, ()) + call(1, (BUFFER,), 40) + bounds
     for _ in range(0, MANY, PIECE):
         listed = [first]
         for _ in range(min(MANY, PIECE)):

@@ -9,7 +9,7 @@ import { fileURLToPath } from "node:url";
 
 const HERE = fileURLToPath(new URL(".", import.meta.url));
 // (each file after those that it imports)
-const SOURCES = ["module", "answers", "limits", "calls", "nodes", "messages", "feed", "streams"];
+const SOURCES = ["module", "answers", "limits", "table", "calls", "nodes", "messages", "feed", "streams"];
 
 const text = (name) => readFileSync(join(HERE, name), "utf8");
 

@@ -157,6 +157,14 @@ export function frame(data: Bytes, limits?: Limits): Frame;
 export function canonical(data: Bytes, limits?: Limits): Uint8Array;
 
 /**
+ * Writes the canonical words of a message into `out`, and returns how many bytes they take. So a program that hashes many
+ * messages allocates nothing for each. With default limits the result is at most 32,776 bytes longer than the message.
+ *
+ * Throws what `canonical` throws, and RangeError if `out` is too small. Then `out` is as it was.
+ */
+export function canonicalInto(data: Bytes, out: Uint8Array, limits?: Limits): number;
+
+/**
  * Whether a message is its own canonical form. A message with a capability is not.
  *
  * Throws FrameError or Refusal. Bytes after the message throw FrameError with any limits. For bytes that `canonical`

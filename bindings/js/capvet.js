@@ -12,7 +12,7 @@
 //   buffers    messages(data, { exclusive?, ..limits }?)                an iterator of messages, accepted and refused
 //   streams    readMessages(source, { packed?, exclusive?, ..limits }?)   the same, an async iterator
 //              new MessageStream({ packed?, exclusive?, ..limits }?)      the same, for pipeThrough
-//   canonical  canonical(data, limits?), isCanonical(data, limits?)
+//   canonical  canonical(data, limits?), canonicalInto(data, out, limits?), isCanonical(data, limits?)
 //   read       node(data, path, limits?), nodes(data, path, { first?, count?, ..limits }?)
 //   explain    pointerPath(data, refusal.pointers, limits?)   which field is refused, as a path
 //   packing    pack(data), packMessage(data, limits?), unpack(data, { maxSize? }?)
@@ -35,7 +35,7 @@ import { load } from "./src/module.js";
 
 export { CapabilityError, CapvetError, FrameError, PathError, Refusal, UnpackError } from "./src/answers.js";
 export {
-  canonical, frame, isCanonical, pack, packMessage, pointerPath, unpack, version, vet, vetExclusive, vetSegments,
+  canonical, canonicalInto, frame, isCanonical, pack, packMessage, pointerPath, unpack, version, vet, vetExclusive, vetSegments,
 } from "./src/calls.js";
 export { Node, node, nodes } from "./src/nodes.js";
 export { MessageStream, messages, readMessages } from "./src/streams.js";

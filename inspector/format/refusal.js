@@ -24,8 +24,8 @@ export function pathOf(steps) {
 const SENTENCES = {
   NoRoot: () => "The first segment has no words, so the message has no root pointer.",
   ManySegments: () => "The message has 512 segments, more than common readers take.",
-  Reserved: (it) => (it.found.pads ? "The word of the landing pad has a kind that the format reserves."
-    : "The pointer has a kind that the format reserves."),
+  Reserved: (it) => `${it.found.pads ? "The word of the landing pad" : "The pointer"
+  } has kind 3 and is no capability, which the format reserves.`,
   SegmentMissing: (it) => `${it.isSecond ? "The landing pad" : "The pointer"} leads to segment ${it.missing}, and the message has ${
     amount(it.message.sizes.length, "segment")}.`,
   PadOutside: (it) => `The landing pad would take ${it.padRange}, and ${it.ends(it.found.padSegment)}.`,

@@ -150,7 +150,9 @@ export class MapView {
     for (const it of chain.slice(0, -1)) this.ring(it, top, ink.text, 1.5);
     if (explanation && explanation.at !== null) this.ring(explanation.at, top, ink.bad, 2);
     const after = [at, ...pads.slice(0, 1), ...(target?.words && !selection.isElement ? [target.start] : [])];
-    this.links([...after.map((it) => this.centre(it, top)), ...(isRefused ? this.ghostCentre(top) : [])], colour);
+    const ghost = isRefused ? this.ghostRow() : null;
+    this.links([...after.map((it) => this.centre(it, top)), ...(ghost ? [this.ghostCentre(ghost, top)] : [])], colour);
+    this.edgeText(after, ghost, top, colour);
     this.ring(at, top, ink.panel, 4);
     this.ring(at, top, colour, 2);
   }
@@ -160,10 +162,32 @@ export class MapView {
     for (let i = 1; i < after.length; i++) this.link(after[i - 1], after[i], colour, 1.5, i === after.length - 1);
   }
 
-  /** The middle of the first cell of a word that doesn't exist, if there is one. */
-  ghostCentre(top) {
-    const { ghostRow } = this.layout, half = this.side / 2;
-    return ghostRow < 0 ? [] : [[this.ghostLeft(this.layout.row(ghostRow).ghost) + half, ghostRow * this.side - top + half]];
+  /** The row of the first word that doesn't exist, and its number, or null. */
+  ghostRow() {
+    const { ghostRow } = this.layout;
+    return ghostRow < 0 ? null : { ...this.layout.row(ghostRow), number: ghostRow };
+  }
+
+  /** The middle of the first cell of that row. */
+  ghostCentre({ ghost, number }, top) {
+    const half = this.side / 2;
+    return [this.ghostLeft(ghost) + half, number * this.side - top + half];
+  }
+
+  /** Says where the last arrow leads, at the edge where it leaves the view. */
+  edgeText(after, ghost, top, colour) {
+    const { pen, scroller, view, ink } = this, last = after[after.length - 1], from = ghost ? last : after[after.length - 2];
+    if (from === undefined) return;
+    const [x1, y1] = this.centre(from, top), [x2, y2] = ghost ? this.ghostCentre(ghost, top) : this.centre(last, top);
+    const isBelow = y2 > scroller.height;
+    if (!isBelow && y2 > 0) return;
+    const y = isBelow ? scroller.height - 8 : 8, text = `${isBelow ? "↓" : "↑"} ${ghost ? ghostText(ghost) : this.message.place(last)}`;
+    const { width } = pen.measureText(text), crossing = x1 + (x2 - x1) * (y - y1) / (y2 - y1);
+    const x = Math.max(4, Math.min(crossing + 12, view.clientWidth - width - 8));
+    pen.fillStyle = ink.panel;
+    pen.fillRect(x - 3, y - 7, width + 6, 14);
+    pen.fillStyle = colour;
+    pen.fillText(text, x, y);
   }
 
   /** An arc from one place to another, with an arrow at its end. */
@@ -229,6 +253,12 @@ export class MapView {
     event.preventDefault();
     this.select(Math.max(0, Math.min(last, moves[event.key])));
   }
+}
+
+/** Where the words that don't exist would be. */
+function ghostText({ section, ghost }) {
+  if (section.isMissing) return `${section.name} does not exist`;
+  return `${ghost.what}, ${ghost.start < 0 ? "before the start" : "after the end"} of ${section.name}`;
 }
 
 function gapText(ghost) {

@@ -1,7 +1,7 @@
 // The bytes of an input: from a file, or from pasted text.
 
 import { bytesOfBase64 } from "../format/base64.js";
-import { frameLength } from "./stream.js";
+import { frame } from "./library.js";
 
 const SPACE = /[\s,;:]|0x|\\x/gi;
 
@@ -20,10 +20,20 @@ function bytesOfEncoded(text) {
   }
 }
 
+/** Whether bytes begin with a whole frame. */
+function isFrame(bytes) {
+  try {
+    return frame(bytes, { messageWords: 2 ** 28 }).length > 0;
+  } catch (error) {
+    if (!error.reason) throw error;
+    return false;
+  }
+}
+
 /** The bytes of hexadecimal digits or base64, or null if the text is neither. If it is both, those that begin with a message. */
 export function bytesOfText(text) {
   const both = [bytesOfHex(text), bytesOfEncoded(text)].filter((bytes) => bytes !== null);
-  return both.find((bytes) => frameLength(bytes) <= bytes.length) ?? both[0] ?? null;
+  return both.find(isFrame) ?? both[0] ?? null;
 }
 
 /** Reads a file, and reports how many bytes have come. */

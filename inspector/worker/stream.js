@@ -86,27 +86,8 @@ async function* all(input, isPacked, limits, plain) {
       if (plain.length > MOST_UNPACKED) throw Object.assign(new Error(), { reason: "TooLarge", detail: "to unpack here" });
     }
   } else {
-    yield* plainMessages(input, options);
+    yield* messages(input, options);
   }
-}
-
-/** The messages of plain bytes. The package gets each one by itself, since it sets memory aside for all that it gets. */
-function* plainMessages(input, options) {
-  for (let offset = 0; offset < input.length;) {
-    const rest = input.subarray(offset), raw = rest.subarray(0, frameLength(rest));
-    for (const message of messages(raw, options)) yield message;
-    offset += raw.length;
-  }
-}
-
-/** The length that the segment table announces, or of as much as shows that there is no message. */
-export function frameLength(bytes) {
-  const view = new DataView(bytes.buffer, bytes.byteOffset, bytes.length);
-  const segments = bytes.length < 8 ? 0 : view.getUint32(0, true) + 1;
-  let length = 8 * ((segments >> 1) + 1);
-  if (segments > 512 || length > bytes.length) return length;
-  for (let i = 1; i <= segments; i++) length += 8 * view.getUint32(4 * i, true);
-  return length;
 }
 
 /**
@@ -148,5 +129,5 @@ async function beginsWell(source) {
 export async function looksPacked(input) {
   // (the charge bounds the time)
   const lax = { messageWords: 2 ** 28, charge: 2 ** 20, allowNonstrict: true, allowAmplified: true };
-  return !await beginsWell(plainMessages(input, lax)) && await beginsWell(readMessages([input], { ...lax, packed: true }));
+  return !await beginsWell(messages(input, lax)) && await beginsWell(readMessages([input], { ...lax, packed: true }));
 }

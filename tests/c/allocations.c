@@ -78,7 +78,7 @@ static const struct {
 } CALLS[] = {{"capvet_frame", capvet_frame}, {"capvet_vet", capvet_vet}, {"capvet_is_canonical", capvet_is_canonical}};
 
 enum {
-  FRAME, VET, IS_CANONICAL, UNPACK, PACK, EXCLUSIVE, SEGMENT_AT, VET_SEGMENTS, GET, GET_RANGE, POINTER_PATH,
+  FRAME, VET, IS_CANONICAL, UNPACK, PACK, EXCLUSIVE, SEGMENT_AT, VET_SEGMENTS, GET, GET_RANGE, POINTER_PATH, EXPLAIN,
   PACK_MESSAGE, UNPACK_MESSAGE, COUNT
 };
 
@@ -88,7 +88,7 @@ static unsigned long seen[COUNT][64];
 static void answered(int call, unsigned long before, uint32_t answer) {
   static const char *const others[] = {"capvet_unpack", "capvet_pack", "capvet_vet_exclusive", "capvet_segment_at",
                                        "capvet_vet_segments", "capvet_get", "capvet_get_range",
-                                       "capvet_pointer_path", "capvet_pack_message", "capvet_unpack_message"};
+                                       "capvet_pointer_path", "capvet_explain", "capvet_pack_message", "capvet_unpack_message"};
   const char *name = call >= UNPACK ? others[call - UNPACK] : CALLS[call].name;
   expect(taken == before, name, taken - before);
   if (answer < 64) seen[call][answer]++;
@@ -182,6 +182,19 @@ static void paths(const uint8_t *bytes, size_t length) {
   }
 }
 
+/* Within each of the limits, without a buffer, and with one. */
+static void explanations(const uint8_t *bytes, size_t length) {
+  static char text[CAPVET_EXPLANATION_BOUND];
+  size_t limits, room, required;
+  for (limits = 0; limits < sizeof LIMITS / sizeof *LIMITS; limits++)
+    for (room = 0; room <= sizeof text; room += sizeof text) {
+      capvet_report report;
+      unsigned long before = taken;
+      uint32_t answer = capvet_explain(bytes, length, &LIMITS[limits], text, room, &required, &report);
+      answered(EXPLAIN, before, answer);
+    }
+}
+
 /* Each of the first two segments, and these as separate ones. */
 static void segments(const uint8_t *bytes, size_t length) {
   capvet_segment parts[2] = {{NULL, 0}, {NULL, 0}};
@@ -246,6 +259,7 @@ static void parts(const uint8_t *bytes, size_t length) {
     nodes(bytes, at);
     ranges(bytes, at);
     paths(bytes, at);
+    explanations(bytes, at);
     messages(bytes, at);
     spells(UNPACK, capvet_unpack, bytes, at);
     spells(PACK, capvet_pack, bytes, at);
@@ -291,6 +305,12 @@ static const struct {
               {POINTER_PATH, CAPVET_NO_NODE},
               {POINTER_PATH, CAPVET_BUFFER_TOO_SMALL},
               {POINTER_PATH, CAPVET_TRUNCATED},
+              {EXPLAIN, CAPVET_OK},
+              {EXPLAIN, CAPVET_BAD_LIMITS},
+              {EXPLAIN, CAPVET_BUFFER_TOO_SMALL},
+              {EXPLAIN, CAPVET_NO_NODE},
+              {EXPLAIN, CAPVET_TRAILING},
+              {EXPLAIN, CAPVET_TRUNCATED},
               {PACK_MESSAGE, CAPVET_OK},
               {PACK_MESSAGE, CAPVET_BUFFER_TOO_SMALL},
               {PACK_MESSAGE, CAPVET_TRUNCATED},

@@ -8,6 +8,7 @@
  *   - A message in separate segments has the same answer as its frame.
  *   - The canonical form of a canonical form is the same, and capvet_is_canonical accepts no other bytes.
  *   - capvet_get_range gives the nodes of capvet_get, and these are inside the frame.
+ *   - What capvet_vet refuses is explained, with the path of capvet_pointer_path, and nothing else is.
  *   - Unpacking gives what was packed, however the packed bytes are cut.
  *   - Nothing is written after the end of an output, or anywhere if the call fails. */
 #include "fuzz.h"
@@ -15,7 +16,7 @@
 #define HASH UINT64_C(0xcbf29ce484222325)
 
 enum { OUT_MOST = 1 << 20, STEPS_MOST = 6, NODES_MOST = 8, FRAMES_MOST = 300 };
-enum { FRAME, SEGMENT_AT, VET, SEGMENTS, EXCLUSIVE, CANONICAL, IS_CANONICAL, GET, RANGE, PACK, UNPACK, PACK_MESSAGE, PIECES };
+enum { FRAME, SEGMENT_AT, VET, SEGMENTS, EXCLUSIVE, CANONICAL, IS_CANONICAL, GET, RANGE, PACK, UNPACK, PACK_MESSAGE, PIECES, EXPLAIN };
 
 static fuzz_arena input, output, other, numbers;
 
@@ -372,6 +373,56 @@ static void check_texts(fuzz_input *in) {
   if (answer == CAPVET_BAD_PATH) RULE(report.detail == (steps[0].kind > 1 ? 0 : steps[1].kind > 1 ? 1 : 2));
 }
 
+/* The path to the pointer that a refusal names. */
+static void check_path_line(const fuzz_input *in, const capvet_report *report, const char *text) {
+  static char line[16 * CAPVET_MAX_DEPTH];
+  capvet_step steps[CAPVET_MAX_DEPTH];
+  capvet_report again;
+  size_t count = CAPVET_MAX_DEPTH + 1;
+  const capvet_answer found = capvet_pointer_path(in->bytes, in->length, &in->limits, report->pointers, steps,
+                                                  CAPVET_MAX_DEPTH, &count, &again);
+  RULE(found == CAPVET_OK && count <= CAPVET_MAX_DEPTH);
+  const size_t length = text_of(steps, count, line);
+  RULE(memcmp(text, "  path ", 7) == 0 && memcmp(text + 7, line, length) == 0 && text[7 + length] == '\n');
+}
+
+/* Each line begins with two blanks, and the last one has the reason. */
+static void check_explanation(const char *text, size_t length) {
+  size_t last = 0;
+  RULE(length != 0 && text[length - 1] == '\n');
+  for (size_t at = 0; at < length; at++) {
+    const bool begins = at == 0 || text[at - 1] == '\n';
+    RULE(text[at] == '\n' ? !begins : text[at] >= ' ' && text[at] <= '~');
+    RULE(!begins || (length - at > 3 && text[at] == ' ' && text[at + 1] == ' ' && text[at + 2] != ' '));
+    if (begins) last = at;
+  }
+  RULE(length - last > 10 && memcmp(text + last, "  reason ", 9) == 0);
+}
+
+/* What the verdict refuses is explained, in a buffer of just its length or of a longer one. */
+static void check_explain(fuzz_input *in, capvet_answer answer, const capvet_report *report) {
+  capvet_report again;
+  size_t required = 1, sized = 1;
+  const capvet_answer asked = capvet_explain(in->bytes, in->length, &in->limits, NULL, 0, &required, &again);
+  check_report(in, EXPLAIN, asked, &again);
+  if (answer < 16) {
+    RULE(asked == (answer == CAPVET_OK ? CAPVET_NO_NODE : answer) && required == 0);
+    RULE(answer == CAPVET_OK ? again.length == report->length && again.pointers == 0 : is_equal(report, &again));
+    return;
+  }
+  RULE(asked == CAPVET_BUFFER_TOO_SMALL && is_equal(report, &again) && required <= CAPVET_EXPLANATION_BOUND);
+  const size_t less = choose(in, required), more = required + choose(in, 40);
+  char *text = (char *)fuzz_place(&output, less, in->slack);
+  RULE(capvet_explain(in->bytes, in->length, &in->limits, text, less, &sized, &again) == CAPVET_BUFFER_TOO_SMALL);
+  RULE(sized == required && is_untouched_after((uint8_t *)text, 0, less, in->slack));
+  text = (char *)fuzz_place(&output, more, in->slack);
+  RULE(capvet_explain(in->bytes, in->length, &in->limits, text, more, &sized, &again) == CAPVET_OK);
+  RULE(sized == required && is_equal(report, &again));
+  RULE(is_untouched_after((uint8_t *)text, required, more, in->slack));
+  check_explanation(text, required);
+  if (report->pointers != 0) check_path_line(in, report, text);
+}
+
 /* Unpacking gives the words that were packed. */
 static void check_pack(fuzz_input *in) {
   const size_t whole = in->length / 8 * 8, bound = CAPVET_PACK_BOUND(whole);
@@ -579,6 +630,7 @@ int LLVMFuzzerTestOneInput(const uint8_t *data, size_t size) {
   const size_t length = check_canonical(&in, answer, &report, &form);
   check_is_canonical(&in, answer, &report, form, length);
   check_paths(&in, answer);
+  check_explain(&in, answer, &report);
   check_texts(&in);
   check_pack(&in);
   check_unpack(&in);

@@ -1,10 +1,10 @@
-// Prints the least nanoseconds of a call of vet, canonical and node for the message of a file: cost.mjs PACKAGE FILE SECONDS
+// Prints the least nanoseconds of a call of vet, canonicalInto and canonical for the message of a file: cost.mjs PACKAGE FILE SECONDS
 import { readFileSync } from "node:fs";
 import { pathToFileURL } from "node:url";
 
 const [name, file, seconds] = process.argv.slice(2), ROUND = 200;
-const { vet, canonical } = await import(pathToFileURL(name).href);
-const message = new Uint8Array(readFileSync(file));
+const { canonical, canonicalInto, vet } = await import(pathToFileURL(name).href);
+const message = new Uint8Array(readFileSync(file)), out = canonical(message);
 
 function least(call) {
   let found = Infinity;
@@ -16,4 +16,4 @@ function least(call) {
   return found.toFixed(1);
 }
 
-console.log(least(vet), least(canonical));
+console.log(least(vet), least((it) => canonicalInto(it, out)), least(canonical));

@@ -26,6 +26,9 @@ static void *at(uint64_t place) { return place == UINT64_MAX ? NULL : arena + pl
 #define N(i) ((size_t)a[i])
 #define P(i) at(a[i])
 
+/* A size as the module returns it. */
+static uint32_t least(size_t size) { return size < UINT32_MAX ? (uint32_t)size : UINT32_MAX; }
+
 static uint32_t answer(uint32_t call, const uint64_t *a) {
   switch (call) {
     case 0: return capvet_version();
@@ -44,6 +47,11 @@ static uint32_t answer(uint32_t call, const uint64_t *a) {
     case 13: return capvet_pack_message(P(0), N(1), P(2), P(3), N(4), P(5), P(6));
     case 14: return capvet_unpack_message(P(0), N(1), P(2), P(3), N(4), P(5), P(6), P(7), P(8));
     case 15: return capvet_pointer_path(P(0), N(1), P(2), a[3], P(4), N(5), P(6), P(7));
+    case 16: return capvet_explain(P(0), N(1), P(2), P(3), N(4), P(5), P(6));
+    case 17: return least(capvet_marks_bound(N(0)));
+    case 18: return least(capvet_frame_bound(N(0)));
+    case 19: return least(capvet_canonical_bound(N(0)));
+    case 20: return least(capvet_pack_bound(N(0)));
   }
   exit(2);
 }

@@ -2,22 +2,23 @@
 
 const FILLED = 0xee, PAGE = 65536;
 
-// For each call of replay.c its name, and for each argument whether it is a place, a size or number of 64 bits, or a number of
-// 32 bits.
+// For each call of replay.c its name, and for each argument whether it is a place, a size or number of 64 bits in C, or a number of
+// 32 bits. The module takes 32 bits for each: a number above them is passed as the greatest one, which no message reaches either.
 const CALLS = [
   ["capvet_version", ""], ["capvet_limits_default", "p"], ["capvet_vet", "pspp"], ["capvet_vet_exclusive", "psppspp"],
   ["capvet_vet_segments", "pspp"], ["capvet_frame", "pspp"], ["capvet_segment_at", "psnpp"], ["capvet_canonical", "psppspp"],
   ["capvet_is_canonical", "pspp"], ["capvet_get", "psppspp"], ["capvet_get_range", "psppsspspp"], ["capvet_pack", "pspsp"],
   ["capvet_unpack", "pspsp"], ["capvet_pack_message", "psppspp"], ["capvet_unpack_message", "psppspppp"],
-  ["capvet_pointer_path", "pspspspp"],
+  ["capvet_pointer_path", "pspspspp"], ["capvet_explain", "psppspp"], ["capvet_marks_bound", "s"], ["capvet_frame_bound", "s"],
+  ["capvet_canonical_bound", "s"], ["capvet_pack_bound", "s"],
 ];
-const NOTHING = 0xffffffffffffffffn;
+const NOTHING = 0xffffffffffffffffn, MOST = 0xffffffffn;
 
 // The module's bytes, the described calls, and how long the arena is. The answers are given to `write` in order.
 export async function replay(module, calls, arenaSize, write) {
   const { instance } = await WebAssembly.instantiate(module, {});
   const { memory, __heap_base, ...exported } = instance.exports;
-  const base = Number(__heap_base.value);
+  const base = __heap_base.value;
   const lacking = base + arenaSize - memory.buffer.byteLength;
   if (lacking > 0) memory.grow(Math.ceil(lacking / PAGE));
   const arena = new Uint8Array(memory.buffer, base, arenaSize), view = new DataView(memory.buffer, base, arenaSize);
@@ -37,8 +38,8 @@ export async function replay(module, calls, arenaSize, write) {
     }
   };
   const as = {
-    p: (value) => (value === NOTHING ? 0n : BigInt(base) + value),
-    s: (value) => BigInt.asIntN(64, value),
+    p: (value) => (value === NOTHING ? 0 : base + Number(value)),
+    s: (value) => Number(value > MOST ? MOST : value),
     n: (value) => Number(BigInt.asIntN(32, value)),
   };
   while (next < calls.length) {

@@ -1,10 +1,14 @@
 /* Times calls of the archive over the messages of a file: calls FILE SECONDS. Writes how many there are, and for
- * capvet_vet and capvet_canonical the least nanoseconds a message. calls.mjs does the same with the module. */
+ * capvet_vet and capvet_canonical the least nanoseconds a message. It passes over the file so often that reading the clock counts
+ * for little. calls.mjs does the same with the module. */
 #include <capvet.h>
 
 #include <stdio.h>
 #include <stdlib.h>
 #include <time.h>
+
+/* The least nanoseconds between two looks at the clock. */
+#define SPAN 1e5
 
 static const capvet_limits LIMITS = {CAPVET_MAX_MESSAGE_WORDS, CAPVET_MAX_CHARGE, CAPVET_MAX_DEPTH, 7, {0, 0}};
 
@@ -27,14 +31,18 @@ int main(int count, char **words) {
   capvet_report report;
   for (int call = 0; call < 2; call++) {
     double begin, end, first = now();
+    size_t passes = 1;
     do {
       begin = now();
-      for (at = 0, messages = 0; at < length; at += report.length, messages++)
-        if ((call == 0 ? capvet_vet(bytes + at, length - at, &LIMITS, &report)
-                       : capvet_canonical(bytes + at, length - at, &LIMITS, out, 2 * length + 64, &required, &report)) != CAPVET_OK)
-          return 1;
+      for (size_t pass = 0; pass < passes; pass++)
+        for (at = 0, messages = 0; at < length; at += report.length, messages++)
+          if ((call == 0 ? capvet_vet(bytes + at, length - at, &LIMITS, &report)
+                         : capvet_canonical(bytes + at, length - at, &LIMITS, out, 2 * length + 64, &required, &report)) != CAPVET_OK)
+            return 1;
       end = now();
-      if ((end - begin) / (double)messages < least[call]) least[call] = (end - begin) / (double)messages;
+      const double each = (end - begin) / (double)(passes * messages);
+      if (each < least[call]) least[call] = each;
+      if (end - begin < SPAN) passes *= 2;
     } while (end - first < 1e9 * atof(words[2]));
   }
   printf("%zu %.1f %.1f\n", messages, least[0], least[1]);

@@ -6,9 +6,10 @@ import { ALLOW_TRAILING, checkNames, limitsOf, numberOf, writeLimits } from "./l
 import {
   INPUT, REPORT, REQUIRED, SECOND, address, after, at, bytes, bytesOf, calls, number, place, reserve, setNumber, view,
 } from "./module.js";
+import { MAX_TABLE, frameLength } from "./table.js";
 
-// The most bytes of a table, and of the space for a copy whose length is not known.
-const TABLE = 2056, MAX_GUESS = 2 ** 30;
+// The most bytes of the space for a copy whose length is not known.
+const MAX_GUESS = 2 ** 30;
 
 export function version() {
   const packed = calls.capvet_version();
@@ -18,14 +19,13 @@ export function version() {
 /** What capvet_frame answers for these bytes. It reads the table only, so only that is copied. The limits are written. */
 export function frameAnswer(input) {
   reserve(after(input.length));
-  place(input.subarray(0, TABLE));
-  return calls.capvet_frame(at.input, BigInt(input.length), at.limits, at.report);
+  place(input.subarray(0, MAX_TABLE));
+  return calls.capvet_frame(at.input, input.length, at.limits, at.report);
 }
 
-/** The frame that bytes start with, or if there is none, enough of them for every call to find that. The limits are written. */
+/** The frame that bytes start with, or if there is none, enough of them for every call to find that. */
 export function firstFrame(input, limits) {
-  const most = input.subarray(0, 8 * limits.messageWords + TABLE);
-  return frameAnswer(most) === OK ? most.subarray(0, number(REPORT)) : most;
+  return input.subarray(0, frameLength(input, limits.messageWords));
 }
 
 /** The bytes of which a call needs a copy. Writes the limits. */
@@ -38,7 +38,7 @@ export function inputOf(data, limits) {
 /** What capvet_vet answers. The limits are written. */
 export function vetAnswer(input) {
   place(input);
-  return calls.capvet_vet(at.input, BigInt(input.length), at.limits, at.report);
+  return calls.capvet_vet(at.input, input.length, at.limits, at.report);
 }
 
 /** What capvet_vet_exclusive answers. The limits are written. */
@@ -46,7 +46,7 @@ export function vetExclusiveAnswer(input) {
   const count = Math.floor(input.length / 512) + 1;
   place(input, 8 * count);
   const marks = address(after(input.length));
-  return calls.capvet_vet_exclusive(at.input, BigInt(input.length), at.limits, marks, BigInt(count), at.required, at.report);
+  return calls.capvet_vet_exclusive(at.input, input.length, at.limits, marks, count, at.required, at.report);
 }
 
 export function vet(data, limits) {
@@ -71,17 +71,17 @@ export function vetSegments(segments, limits) {
     setNumber(INPUT + 16 * index + 8, part.length);
     next += part.length;
   });
-  check(calls.capvet_vet_segments(at.input, BigInt(parts.length), at.limits, at.report));
+  check(calls.capvet_vet_segments(at.input, parts.length, at.limits, at.report));
   return reportOf();
 }
 
-export function frame(data, limits) {
-  const input = bytesOf(data);
-  writeLimits(limitsOf(limits));
+export function frame(data, options) {
+  const limits = limitsOf(options), input = firstFrame(bytesOf(data), limits);
+  writeLimits(limits);
   check(frameAnswer(input));
   const length = number(REPORT), segments = [];
   for (let index = 0, count = view.getUint32(REPORT + 52, true); index < count; index++) {
-    check(calls.capvet_segment_at(at.input, BigInt(input.length), index, at.required, at.second));
+    check(calls.capvet_segment_at(at.input, input.length, index, at.required, at.second));
     segments.push({ offset: number(REQUIRED), length: number(SECOND) });
   }
   return { length, segments };
@@ -92,7 +92,7 @@ export function isCanonical(data, limits) {
   const input = bytesOf(data);
   writeLimits(limitsOf(limits));
   place(input);
-  const answer = calls.capvet_is_canonical(at.input, BigInt(input.length), at.limits, at.report);
+  const answer = calls.capvet_is_canonical(at.input, input.length, at.limits, at.report);
   if (answer !== NOT_CANONICAL) check(answer);
   return answer === OK;
 }
@@ -102,9 +102,10 @@ const MAX_STEPS = 256;
 
 export function pointerPath(data, pointer, limits) {
   const input = inputOf(data, limitsOf(limits)), start = after(input.length);
-  const asked = BigInt(numberOf("pointer", pointer, Number.MAX_SAFE_INTEGER));
+  // (the module takes 32 bits, and no message has so many pointers)
+  const asked = Math.min(numberOf("pointer", pointer, Number.MAX_SAFE_INTEGER), 2 ** 32 - 1);
   place(input, 8 * MAX_STEPS);
-  const answer = calls.capvet_pointer_path(at.input, BigInt(input.length), at.limits, asked, address(start), BigInt(MAX_STEPS),
+  const answer = calls.capvet_pointer_path(at.input, input.length, at.limits, asked, address(start), MAX_STEPS,
     at.required, at.report);
   if (answer === NO_NODE) return null;
   check(answer);
@@ -113,27 +114,43 @@ export function pointerPath(data, pointer, limits) {
   return `/${steps.join("/")}`;
 }
 
-/** A copy of the bytes that a call wrote after an input of this length. */
+/** The bytes that a call wrote after an input of this length. The next call writes others there. */
 function written(length) {
   const start = after(length);
-  return bytes.slice(start, start + number(REQUIRED));
+  return bytes.subarray(start, start + number(REQUIRED));
+}
+
+/** The canonical words of a message, in the module. */
+function canonicalWords(data, limits) {
+  const input = inputOf(data, limitsOf(limits)), { length } = input;
+  // (few copies are longer than their message)
+  const guess = Math.min(length, MAX_GUESS);
+  place(input, guess);
+  let answer = canonicalAnswer(length, guess);
+  if (answer === BUFFER_TOO_SMALL) {
+    const size = number(REQUIRED);
+    reserve(after(length) + size);
+    answer = canonicalAnswer(length, size);
+  }
+  check(answer);
+  return written(length);
+}
+
+/** What capvet_canonical answers about the input that was placed, with so many bytes for its result. */
+function canonicalAnswer(length, size) {
+  return calls.capvet_canonical(at.input, length, at.limits, address(after(length)), size, at.required, at.report);
 }
 
 export function canonical(data, limits) {
-  const input = inputOf(data, limitsOf(limits)), length = BigInt(input.length), start = after(input.length);
-  const out = address(start);
-  const call = (size) => calls.capvet_canonical(at.input, length, at.limits, out, BigInt(size), at.required, at.report);
-  // (few copies are longer than their message)
-  const guess = Math.min(input.length, MAX_GUESS);
-  place(input, guess);
-  let answer = call(guess);
-  if (answer === BUFFER_TOO_SMALL) {
-    const size = number(REQUIRED);
-    reserve(start + size);
-    answer = call(size);
-  }
-  check(answer);
-  return written(input.length);
+  return canonicalWords(data, limits).slice();
+}
+
+export function canonicalInto(data, out, limits) {
+  if (!(out instanceof Uint8Array)) throw new TypeError("out has to be a Uint8Array");
+  const words = canonicalWords(data, limits);
+  if (words.length > out.length) throw new RangeError(`the result has ${words.length} bytes, and out has ${out.length}`);
+  out.set(words);
+  return words.length;
 }
 
 /** The most bytes that packing gives. */
@@ -144,16 +161,16 @@ function packBound(length) {
 export function pack(data) {
   const input = bytesOf(data), size = packBound(input.length);
   place(input, size);
-  const answer = calls.capvet_pack(at.input, BigInt(input.length), address(after(input.length)), BigInt(size), at.required);
+  const answer = calls.capvet_pack(at.input, input.length, address(after(input.length)), size, at.required);
   if (answer !== OK) throw new RangeError(`the length has to be a multiple of 8, and is ${input.length}`);
-  return written(input.length);
+  return written(input.length).slice();
 }
 
 export function packMessage(data, limits) {
   const input = inputOf(data, limitsOf(limits)), size = packBound(input.length), out = address(after(input.length));
   place(input, size);
-  check(calls.capvet_pack_message(at.input, BigInt(input.length), at.limits, out, BigInt(size), at.required, at.report));
-  return written(input.length);
+  check(calls.capvet_pack_message(at.input, input.length, at.limits, out, size, at.required, at.report));
+  return written(input.length).slice();
 }
 
 // The largest frame within the default limits.
@@ -163,7 +180,7 @@ export function unpack(data, options = {}) {
   checkNames(options, ["maxSize"]);
   const most = numberOf("maxSize", options.maxSize ?? MAX_SIZE, Number.MAX_SAFE_INTEGER);
   const input = bytesOf(data), start = after(input.length);
-  const call = (size) => calls.capvet_unpack(at.input, BigInt(input.length), address(start), BigInt(size), at.required);
+  const call = (size) => calls.capvet_unpack(at.input, input.length, address(start), size, at.required);
   place(input);
   let answer = call(0);
   const size = number(REQUIRED);
@@ -173,5 +190,5 @@ export function unpack(data, options = {}) {
   }
   if (answer === TRUNCATED) throw new UnpackError("Truncated: the data end inside a group", nameOf(TRUNCATED));
   if (answer !== OK) throw new UnpackError("TooLarge: more than maxSize bytes", nameOf(TOO_LARGE));
-  return written(input.length);
+  return written(input.length).slice();
 }

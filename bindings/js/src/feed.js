@@ -4,8 +4,9 @@ import { frameAnswer } from "./calls.js";
 import { MAX_WORDS, writeLimits } from "./limits.js";
 import { kindOf, messageOf } from "./messages.js";
 import {
-  PIECE_LIMITS, REPORT, SECOND, STATE, address, after, at, bytes, bytesOf, calls, number, place, setNumber, view,
+  PIECE_LIMITS, REPORT, SECOND, STATE, address, after, at, bytes, calls, number, place, plainBytesOf, setNumber, view,
 } from "./module.js";
+import { frameLength } from "./table.js";
 
 // The most bytes of the first buffer for a message, and of the words that are unpacked at once.
 const PIECE = 65536;
@@ -90,7 +91,7 @@ class Packed {
     setNumber(STATE, 8);
     view.setUint32(STATE + 8, this.zeroWords, true);
     view.setUint32(STATE + 12, this.literalWords, true);
-    const answer = calls.capvet_unpack_message(at.input, BigInt(packed.length), at.pieceLimits, address(out), BigInt(size),
+    const answer = calls.capvet_unpack_message(at.input, packed.length, at.pieceLimits, address(out), size,
       at.state, at.second, at.required, at.report);
     if (answer !== OK && answer !== TRUNCATED && answer !== NO_MESSAGE) throw errorOf(answer);
     const consumed = number(SECOND);
@@ -121,7 +122,7 @@ export class Feed {
 
   /** Adds a chunk, after `next` has returned null. */
   add(chunk) {
-    this.#source.add(bytesOf(chunk));
+    this.#source.add(plainBytesOf(chunk));
   }
 
   /** The next message, or null if more bytes are required. */
@@ -129,11 +130,9 @@ export class Feed {
     for (const held = this.#held; ;) {
       this.#source.fill(held);
       if (held.missing > 0) return null;
-      writeLimits(this.#kind.limits);
-      const answer = frameAnswer(held.bytes.subarray(0, held.length));
-      if (answer === OK) return this.#message();
-      if (answer !== TRUNCATED) throw errorOf(answer, this.#offset);
-      held.required = number(REPORT + 8);
+      const required = frameLength(held.bytes, this.#kind.limits.messageWords);
+      if (required <= held.length) return this.#message();
+      held.required = required;
     }
   }
 

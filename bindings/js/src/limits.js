@@ -3,10 +3,11 @@ import { LIMITS, view } from "./module.js";
 
 export const ALLOW_TRAILING = 1, NO_TABLE = 8, MAX_WORDS = 2 ** 28;
 
-const MOST = { messageWords: MAX_WORDS, charge: 2 ** 28, depth: 256 };
-const FLAGS = { allowTrailing: ALLOW_TRAILING, allowNonstrict: 2, allowAmplified: 4, noTable: NO_TABLE };
-const LIMIT_NAMES = [...Object.keys(MOST), ...Object.keys(FLAGS)];
+const MAX_CHARGE = 2 ** 28, MAX_DEPTH = 256;
+const FLAGS = [["allowTrailing", ALLOW_TRAILING], ["allowNonstrict", 2], ["allowAmplified", 4], ["noTable", NO_TABLE]];
 const DEFAULT = Object.freeze({ messageWords: 8388608, charge: 8388608, depth: 64, flags: 0 });
+/** The names of limits and flags. */
+export const LIMIT_NAMES = ["messageWords", "charge", "depth", ...FLAGS.map(([name]) => name)];
 
 /** A whole number from 0 to `most`, or an error that names it. */
 export function numberOf(name, value, most) {
@@ -26,18 +27,26 @@ export function checkNames(options, names) {
   for (const name in options) if (!names.includes(name)) throw new TypeError(`this call has no option ${name}`);
 }
 
-/** The limits among the options of a call, which may also have options of these other names. */
-export function limitsOf(options, ...others) {
+/** The limits among the options of a call, which may have options of these names. */
+export function limitsOf(options, names = LIMIT_NAMES) {
   if (options === undefined) return DEFAULT;
-  checkNames(options, [...LIMIT_NAMES, ...others]);
-  const limits = { ...DEFAULT };
-  for (const [name, most] of Object.entries(MOST)) {
-    if (options[name] !== undefined) limits[name] = numberOf(name, options[name], most);
+  checkNames(options, names);
+  const { messageWords = DEFAULT.messageWords, charge = DEFAULT.charge, depth = DEFAULT.depth } = options;
+  return {
+    messageWords: numberOf("messageWords", messageWords, MAX_WORDS),
+    charge: numberOf("charge", charge, MAX_CHARGE),
+    depth: numberOf("depth", depth, MAX_DEPTH),
+    flags: flagsOf(options),
+  };
+}
+
+function flagsOf(options) {
+  let flags = 0;
+  for (const [name, flag] of FLAGS) {
+    const value = options[name];
+    if (value !== undefined && flagOf(name, value)) flags |= flag;
   }
-  for (const [name, flag] of Object.entries(FLAGS)) {
-    if (options[name] !== undefined && flagOf(name, options[name])) limits.flags |= flag;
-  }
-  return limits;
+  return flags;
 }
 
 /** Writes limits for the next call. (the upper halves of numbers and the reserved fields are never written, so they are 0) */

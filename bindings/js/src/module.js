@@ -15,7 +15,7 @@ let module, base, isReplacing = false;
 export let calls;
 /** The memory from place 0 on. Both are others after `reserve`. */
 export let bytes, view;
-/** The addresses of the places, as the calls take them. */
+/** The addresses of the places. */
 export let at;
 /** A number that changes whenever other bytes are placed at INPUT. */
 export let generation = 0;
@@ -30,7 +30,7 @@ export async function load(source) {
 
 function use(instance) {
   calls = instance.exports;
-  base = Math.ceil(Number(calls.__heap_base.value) / 16) * 16;
+  base = Math.ceil(calls.__heap_base.value / 16) * 16;
   at = {
     limits: address(LIMITS), pieceLimits: address(PIECE_LIMITS), report: address(REPORT), required: address(REQUIRED),
     second: address(SECOND), state: address(STATE), nodes: address(NODES), input: address(INPUT),
@@ -39,9 +39,9 @@ function use(instance) {
   grow(INPUT);
 }
 
-/** The address of a place, as the calls take it. */
+/** The address of a place. */
 export function address(place) {
-  return BigInt(base + place);
+  return base + place;
 }
 
 function grow(size) {
@@ -86,11 +86,17 @@ export function number(from) {
 
 /** Writes a number of 64 bits. */
 export function setNumber(from, value) {
-  view.setBigUint64(from, BigInt(value), true);
+  view.setUint32(from, value % 4294967296, true);
+  view.setUint32(from + 4, value / 4294967296, true);
 }
 
-/** Any bytes as a Uint8Array over the same memory. */
+/** Any bytes as a Uint8Array over the same memory, or one of a class below it. */
 export function bytesOf(data) {
+  return data instanceof Uint8Array ? data : plainBytesOf(data);
+}
+
+/** The same as a Uint8Array that is of no class below it: what the package returns parts of. */
+export function plainBytesOf(data) {
   if (ArrayBuffer.isView(data)) return new Uint8Array(data.buffer, data.byteOffset, data.byteLength);
   const isShared = typeof SharedArrayBuffer !== "undefined" && data instanceof SharedArrayBuffer;
   if (isShared || data instanceof ArrayBuffer) return new Uint8Array(data);

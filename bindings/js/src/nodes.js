@@ -1,21 +1,32 @@
 // Reading nodes at a path.
 import { NO_MESSAGE, NO_NODE, OK, check, errorOf, pathError } from "./answers.js";
 import { inputOf } from "./calls.js";
-import { limitsOf, numberOf, writeLimits } from "./limits.js";
+import { LIMIT_NAMES, limitsOf, numberOf, writeLimits } from "./limits.js";
 import {
-  BLOCK, NODES, NODE_SIZE, REQUIRED, address, after, at, bytes, bytesOf, calls, generation, number, place, view,
+  BLOCK, NODES, NODE_SIZE, REQUIRED, address, after, at, bytes, calls, generation, number, place, plainBytesOf, view,
 } from "./module.js";
 
 const KINDS = ["null", "struct", "values", "pointers", "structs", "capability"];
 // Elements have numbers below this.
 const NUMBERS = 2 ** 32;
+const NODES_NAMES = [...LIMIT_NAMES, "first", "count"];
 
 // The code of an element of one byte.
 const BYTE = 2;
 
+const ENCODER = new TextEncoder(), DECODER = new TextDecoder("utf-8", { fatal: true, ignoreBOM: true });
+
 export class Node {
-  constructor(fields) {
-    Object.assign(this, fields);
+  // (each field by itself, since that takes a tenth of the time of Object.assign)
+  constructor({ kind, element, count, dataWords, pointers, capability, offset, data }) {
+    this.kind = kind;
+    this.element = element;
+    this.count = count;
+    this.dataWords = dataWords;
+    this.pointers = pointers;
+    this.capability = capability;
+    this.offset = offset;
+    this.data = data;
   }
 
   text() {
@@ -23,7 +34,7 @@ export class Node {
     if (kind !== "values" || element !== BYTE || data.length === 0 || data.indexOf(0) !== data.length - 1) return null;
     try {
       // (a copy, since a decoder takes no bytes that are shared)
-      return new TextDecoder("utf-8", { fatal: true, ignoreBOM: true }).decode(data.slice(0, -1));
+      return DECODER.decode(data.slice(0, -1));
     } catch {
       return null;
     }
@@ -42,17 +53,18 @@ function nodeAt(from, input) {
 /** What capvet_get answers. The limits are written. */
 function getAnswer(input, path) {
   if (typeof path !== "string") throw new TypeError("the path has to be a string");
-  const text = new TextEncoder().encode(path), start = after(input.length);
-  place(input, text.length);
-  bytes.set(text, start);
-  return calls.capvet_get(at.input, BigInt(input.length), at.limits, address(start), BigInt(text.length), at.nodes, at.report);
+  const start = after(input.length);
+  // (a letter takes at most three bytes)
+  place(input, 3 * path.length);
+  const { written } = ENCODER.encodeInto(path, bytes.subarray(start));
+  return calls.capvet_get(at.input, input.length, at.limits, address(start), written, at.nodes, at.report);
 }
 
 export function node(data, path, limits) {
   const answer = getAnswer(inputOf(data, limitsOf(limits)), path);
   if (answer === NO_NODE) return null;
   check(answer);
-  return nodeAt(NODES, bytesOf(data));
+  return nodeAt(NODES, plainBytesOf(data));
 }
 
 /** The steps of a path with one star, as pairs of numbers in bytes, and which of them has the star. */
@@ -71,7 +83,7 @@ function stepsOf(path, limits) {
 }
 
 export function nodes(data, path, options = {}) {
-  const limits = limitsOf(options, "first", "count"), { first = 0, count = NUMBERS } = options, all = bytesOf(data);
+  const limits = limitsOf(options, NODES_NAMES), { first = 0, count = NUMBERS } = options, all = plainBytesOf(data);
   const begin = numberOf("first", first, Number.MAX_SAFE_INTEGER);
   const end = Math.min(begin + numberOf("count", count, Number.MAX_SAFE_INTEGER), NUMBERS);
   return walkNodes(all, path, stepsOf(path, limits), begin, end, limits);
@@ -90,8 +102,8 @@ function reader(all, { steps, varying }, limits) {
     writeLimits(limits);
     const start = after(input.length);
     view.setUint32(start + 8 * varying + 4, first, true);
-    return calls.capvet_get_range(at.input, BigInt(input.length), at.limits, address(start), BigInt(steps.length / 8),
-      BigInt(varying), at.nodes, BigInt(count), at.required, at.report);
+    return calls.capvet_get_range(at.input, input.length, at.limits, address(start), steps.length / 8,
+      varying, at.nodes, count, at.required, at.report);
   };
 }
 

@@ -1,19 +1,17 @@
 // The messages of a buffer, and of a stream.
 import { firstFrame } from "./calls.js";
 import { Feed } from "./feed.js";
-import { writeLimits } from "./limits.js";
 import { kindOf, messageOf } from "./messages.js";
-import { bytesOf } from "./module.js";
+import { plainBytesOf } from "./module.js";
 
 export function messages(data, options) {
   const kind = kindOf(options);
   if (kind.isPacked) throw new TypeError("packed bytes are a stream: pass them to readMessages");
-  return walkMessages(bytesOf(data), kind);
+  return walkMessages(plainBytesOf(data), kind);
 }
 
 function* walkMessages(input, kind) {
   for (let index = 0, offset = 0; offset < input.length; index++) {
-    writeLimits(kind.limits);
     const raw = firstFrame(input.subarray(offset), kind.limits);
     yield messageOf(raw, kind, index, offset);
     offset += raw.length;

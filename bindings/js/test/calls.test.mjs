@@ -156,6 +156,21 @@ test("canonical gives equal bytes for equal content", () => {
   assert.equal(thrown(() => capvet.isCanonical(sample("cycle.bin"))).reason, "DepthLimit");
 });
 
+test("canonicalInto writes what canonical returns", () => {
+  for (const [message, limits] of [[contacts], [many], [four, { allowTrailing: true }]]) {
+    const words = capvet.canonical(message, limits), out = new Uint8Array(words.length + 3).fill(9);
+    assert.equal(capvet.canonicalInto(message, out, limits), words.length);
+    assert.deepEqual(out, joined(words, new Uint8Array(3).fill(9)));
+    assert.equal(capvet.canonicalInto(message, out.subarray(3), limits), words.length);
+    assert.deepEqual(out.subarray(3), words);
+    const short = new Uint8Array(words.length - 1).fill(9);
+    assert.equal(thrown(() => capvet.canonicalInto(message, short, limits)).constructor, RangeError);
+    assert.ok(short.every((byte) => byte === 9));
+  }
+  assert.equal(thrown(() => capvet.canonicalInto(sample("cycle.bin"), new Uint8Array(9))).reason, "DepthLimit");
+  for (const out of [undefined, null, new ArrayBuffer(9999), [], 9]) assert.throws(() => capvet.canonicalInto(contacts, out), TypeError);
+});
+
 test("a capability has no canonical form", () => {
   is(thrown(() => capvet.canonical(CAPABILITY)), CapabilityError, { reason: "HasCapability", report: vet(CAPABILITY) });
   assert.equal(capvet.isCanonical(CAPABILITY), false);

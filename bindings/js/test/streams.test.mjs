@@ -2,7 +2,7 @@ import assert from "node:assert/strict";
 import { Readable } from "node:stream";
 import { setImmediate as turn } from "node:timers/promises";
 import { test } from "node:test";
-import { FrameError, MessageStream, Refusal, messages, pack, packMessage, readMessages, vet } from "capvet";
+import { FrameError, MessageStream, Refusal, frame, messages, pack, packMessage, readMessages, vet } from "capvet";
 import { CAPABILITY, NULL_ROOT, STRUCT, all, framed, joined, sample, thrown, withBytes, word } from "./samples.mjs";
 
 const contacts = sample("contacts.bin"), many = sample("contacts-many-segments.bin");
@@ -50,6 +50,29 @@ test("messages of a buffer end where it stops being a stream", () => {
   assert.equal(thrown(() => [...messages(joined(contacts, contacts), { messageWords: 391 })]).reason, "TooLarge");
   assert.equal(thrown(() => messages(contacts, { packed: true })).constructor, TypeError);
   assert.equal(thrown(() => messages(contacts, { packed: 1 })).constructor, TypeError);
+});
+
+test("a buffer takes memory for one message at a time", async () => {
+  const large = new Uint8Array(1 << 25), grow = WebAssembly.Memory.prototype.grow;
+  for (let at = 0; at < large.length; at += STRUCT.length) large.set(STRUCT.subarray(0, large.length - at), at);
+  let pages = 0, count = 0;
+  WebAssembly.Memory.prototype.grow = function (more) {
+    pages += more;
+    return grow.call(this, more);
+  };
+  try {
+    for (const it of messages(large)) {
+      assert.deepEqual(it.data, STRUCT);
+      if (++count === 1000) break;
+      if (count % 100 === 0) await turn();
+    }
+    assert.equal(vet(large, { allowTrailing: true }).length, STRUCT.length);
+    assert.equal(frame(large).length, STRUCT.length);
+  } finally {
+    WebAssembly.Memory.prototype.grow = grow;
+  }
+  assert.equal(count, 1000);
+  assert.ok(pages <= 4, `${pages} pages`);
 });
 
 test("streams in chunks of any size have the messages of the buffer", async () => {

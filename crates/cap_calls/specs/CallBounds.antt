@@ -16,3 +16,7 @@ canonical_bound long = long + 8 * (4096 + 1)
 -- the most bytes that packing gives, by the length of the words in bytes: CAPVET_PACK_BOUND
 abbrev pub pack_bound : ℕ → ℕ
 pack_bound long = long / 8 * 10
+
+-- the most bytes of an explanation: CAPVET_EXPLANATION_BOUND
+abbrev pub explanation_bound : ℕ
+explanation_bound = 6144

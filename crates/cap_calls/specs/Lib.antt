@@ -9,6 +9,7 @@ pub mod CallReports
 pub mod Calls
 pub mod CanonicalCalls
 pub mod ExclusiveCalls
+pub mod ExplainCalls
 pub mod MessageStages
 pub mod NodeCalls
 pub mod PackCalls

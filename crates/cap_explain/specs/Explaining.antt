@@ -123,19 +123,28 @@ lines_at m fault s w words depth (Some p) =
 abbrev pub lines_of : List (List ℕ) → Fault → ℕ → ℕ → ℕ → ℕ → List ℕ
 lines_of m fault s w words depth = lines_at m fault s w words depth (word_of m s w)
 
--- the lines that explain why a message is refused within limits of words and levels
-abbrev pub explanation : List (List ℕ) → StrictRefusal → ℕ → ℕ → List ℕ
-explanation m (refused r) words depth = lines_of m (Refused r.reason) r.segment r.word words depth
-explanation m many words depth = lines_of m ManySegments 0 0 words depth
-explanation m (not_strict what s w pointers) words depth = lines_of m (NotStrict what) s w words depth
-
--- the lines that explain that a pointer overlaps
-abbrev pub overlap_explanation : List (List ℕ) → ℕ → ℕ → List ℕ
-overlap_explanation m s w = lines_of m Overlap s w 0 0
-
 abbrev pub path_line : List Step → List ℕ
 path_line steps = codes "  path " ++ path_text steps ++ 10 ∷ []
 
 -- the line of the path to a pointer, if the path isn't too long for one
 abbrev pub path_explanation : List Step → List ℕ
 path_explanation steps = if nat_lt 257 (length steps) then [] else path_line steps
+
+-- the same, if there is a path
+abbrev pub path_lines : Option (List Step) → List ℕ
+path_lines None = []
+path_lines (Some steps) = path_explanation steps
+
+-- the lines on a message that is refused within limits of words and levels
+abbrev pub refusal_lines : List (List ℕ) → StrictRefusal → ℕ → ℕ → List ℕ
+refusal_lines m (refused r) words depth = lines_of m (Refused r.reason) r.segment r.word words depth
+refusal_lines m many words depth = lines_of m ManySegments 0 0 words depth
+refusal_lines m (not_strict what s w pointers) words depth = lines_of m (NotStrict what) s w words depth
+
+-- the lines that explain why, with the path to the pointer
+abbrev pub explanation : Option (List Step) → List (List ℕ) → StrictRefusal → ℕ → ℕ → List ℕ
+explanation path m refusal words depth = path_lines path ++ refusal_lines m refusal words depth
+
+-- the lines that explain that a pointer overlaps
+abbrev pub overlap_explanation : Option (List Step) → List (List ℕ) → ℕ → ℕ → List ℕ
+overlap_explanation path m s w = path_lines path ++ lines_of m Overlap s w 0 0

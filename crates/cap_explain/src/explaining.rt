@@ -2,6 +2,7 @@
 
 ghost use Rattle.cap_explain.specs.Explaining.{explanation, lines_of, lines_over, overlap_explanation, pointer_lines};
 ghost use Rattle.cap_vet.specs.Limits.{depth_of, words_of};
+ghost use Rattle.std.specs.Option.{option_map};
 ghost use Rattle.std.specs.Prelude.{◌+◌, ◌*◌, ◌++◌, ◌^◌, ◌<◌, ◌≡◌, ◌≤◌, IfSome, length};
 
 use crate::explanation::{CAPACITY, Explanation};
@@ -10,11 +11,12 @@ use crate::lines::{
     LINE, PLAIN, push_byte_line, push_landing_lines, push_limit_line, push_pointer_line,
     push_reason_line, push_segment_line, push_target_lines,
 };
+use crate::path::push_path_lines;
 use crate::sentences::{Fault, names_pointer};
 use crate::target::{Target, segment_after, target_of};
 use crate::words::word_of;
 use cap_frame::Segments;
-use cap_spec::StrictRefusal;
+use cap_spec::{Step, StrictRefusal};
 use cap_vet::Limits;
 
 /// The space for the lines on a pointer.
@@ -74,8 +76,11 @@ fn push_lines<M: Segments>(
     push_reason_line(text, fault, pointer.landing, target);
 }
 
-/// Writes the lines of a fault that names a word, under limits of words and levels.
-fn explain_fault<M: Segments>(
+/// The space for all lines on a fault but that of the path.
+const LINES: usize = POINTER + 2 * PLAIN;
+
+/// Appends the lines of a fault that names a word, under limits of words and levels.
+fn push_fault<M: Segments>(
     text: &mut Explanation,
     message: &M,
     fault: Fault,
@@ -84,9 +89,10 @@ fn explain_fault<M: Segments>(
     words: u64,
     depth: u32,
 )
-    ensures { text.new ≡ lines_of (M.segments message.now) fault segment word words depth }
+    requires { length text.old + LINES ≤ CAPACITY }
+    ensures { text.new ≡ text.old
+        ++ lines_of (M.segments message.now) fault segment word words depth }
 {
-    text.clear();
     match word_of(message, segment, u64::from(word)) {
         Some(value) => {
             let landing = landing_of(message, value);
@@ -104,18 +110,21 @@ fn explain_fault<M: Segments>(
 }
 
 /// Writes the lines that explain why a message is refused within limits (docs/output.md, explain):
-/// the pointer word and its fields, where it leads, the limit that is passed, and the reason as a
-/// sentence. What the text held before is removed. Allocates nothing.
+/// the path to the pointer, the pointer word and its fields, where it leads, the limit that is
+/// passed, and the reason as a sentence. What the text held before is removed. Allocates nothing.
 ///
-/// A refusal that names no word of the message has only the line of the reason.
+/// A refusal that names no word of the message has only the line of the reason, and that of a path
+/// if one is given. A path of more than 257 steps has no line: no path to a pointer of a refusal has
+/// as many.
 pub fn explain<M: Segments>(
     text: &mut Explanation,
     message: &M,
     refusal: &StrictRefusal,
     limits: Limits,
+    path: Option<&[Step]>,
 )
-    ensures { text.new ≡ explanation (M.segments message.now) refusal.now
-        (words_of limits) (depth_of limits) }
+    ensures { text.new ≡ explanation (option_map (λ steps. steps.now) path.entry)
+        (M.segments message.now) refusal.now (words_of limits) (depth_of limits) }
 {
     let (fault, segment, word) = match refusal {
         StrictRefusal::Refused(refusal) => {
@@ -133,7 +142,9 @@ pub fn explain<M: Segments>(
             ..
         } => (Fault::NotStrict(*what), *segment, *word),
     };
-    explain_fault(
+    text.clear();
+    push_path_lines(text, path);
+    push_fault(
         text,
         message,
         fault,
@@ -146,8 +157,17 @@ pub fn explain<M: Segments>(
 
 /// Writes the lines that explain that the pointer at word `word` of segment `segment` overlaps. See
 /// [`explain`].
-pub fn explain_overlap<M: Segments>(text: &mut Explanation, message: &M, segment: u32, word: u32)
-    ensures { text.new ≡ overlap_explanation (M.segments message.now) segment word }
+pub fn explain_overlap<M: Segments>(
+    text: &mut Explanation,
+    message: &M,
+    segment: u32,
+    word: u32,
+    path: Option<&[Step]>,
+)
+    ensures { text.new ≡ overlap_explanation (option_map (λ steps. steps.now) path.entry)
+        (M.segments message.now) segment word }
 {
-    explain_fault(text, message, Fault::Overlap, segment, word, 0, 0);
+    text.clear();
+    push_path_lines(text, path);
+    push_fault(text, message, Fault::Overlap, segment, word, 0, 0);
 }

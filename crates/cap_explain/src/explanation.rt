@@ -2,7 +2,7 @@
 
 ghost use Rattle.cap_explain.specs.Forms.{difference_text, place_text};
 ghost use Rattle.cap_spec.specs.Texts.{hex};
-ghost use Rattle.std.specs.Prelude.{◌+◌, ◌*◌, ◌++◌, ◌≡◌, ◌≤◌, [], decimal, length, take};
+ghost use Rattle.std.specs.Prelude.{◌+◌, ◌*◌, ◌++◌, ◌^◌, ◌<◌, ◌≡◌, ◌≤◌, [], decimal, length, take};
 
 use cap_words::bytes_of;
 use itoa::Buffer;
@@ -13,6 +13,9 @@ pub(crate) const CAPACITY: usize = 6144;
 
 /// The most digits of a number.
 pub(crate) const DIGITS: usize = 20;
+
+/// The most digits of a number of 32 bits.
+pub(crate) const FEW_DIGITS: usize = 10;
 
 /// The lines that explain a refusal, in a buffer of 6144 bytes. A caller may keep one for many
 /// refusals.
@@ -43,10 +46,11 @@ impl Explanation {
         }
     }
 
-    /// Its lines.
+    /// Its lines, of at most 6144 bytes.
     #[inline]
     pub fn text(&self) -> &[u8]
-        ensures { result.now ≡ self.now }
+        ensures lines { result.now ≡ self.now }
+        ensures few { length result.now ≤ 6144 }
     {
         &self.bytes[..self.len]
     }
@@ -73,6 +77,7 @@ impl Explanation {
         requires { length self.old + DIGITS ≤ CAPACITY }
         ensures items { self.new ≡ self.old ++ decimal n }
         ensures few { length self.new ≤ length self.old + DIGITS }
+        ensures fewer { n < 2 ^ 32 → length self.new ≤ length self.old + FEW_DIGITS }
     {
         let mut buffer = Buffer::new();
         let digits = buffer.format(n);
@@ -98,6 +103,8 @@ impl Explanation {
         requires room { length self.old + length name.now + DIGITS ≤ CAPACITY }
         ensures items { self.new ≡ self.old ++ (name.now ++ decimal number) }
         ensures few { length self.new ≤ length self.old + length name.now + DIGITS }
+        ensures fewer { number < 2 ^ 32 →
+            length self.new ≤ length self.old + length name.now + FEW_DIGITS }
     {
         self.push_text(name);
         self.push_number(number);

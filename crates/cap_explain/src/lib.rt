@@ -14,4 +14,3 @@ mod words;
 
 pub use explaining::{explain, explain_overlap};
 pub use explanation::Explanation;
-pub use path::explain_path;

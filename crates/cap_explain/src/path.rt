@@ -1,25 +1,29 @@
 //! The line of a path.
 
-ghost use Rattle.cap_explain.specs.Explaining.{path_explanation, path_line};
+ghost use Rattle.cap_explain.specs.Explaining.{path_explanation, path_line, path_lines};
 ghost use Rattle.cap_spec.specs.PathTexts.{path_text, step_text};
 ghost use Rattle.std.specs.List.{flat_map};
+ghost use Rattle.std.specs.Option.{option_map};
 ghost use Rattle.std.specs.Prelude.{◌+◌, ◌*◌, ◌++◌, ◌<◌, ◌≡◌, ◌≤◌, length};
 
-use crate::explanation::{CAPACITY, DIGITS, Explanation};
+use crate::explanation::{CAPACITY, DIGITS, Explanation, FEW_DIGITS};
 use cap_spec::Step;
 
 /// The most steps of a path that has a line.
 const STEPS: usize = 257;
 
 /// The space for the text of one step.
-const STEP: usize = DIGITS + 2;
+const STEP: usize = FEW_DIGITS + 2;
 
 /// The space for the line of a path without its steps.
 const HEAD: usize = 10;
 
+/// The space for the line of a path.
+pub(crate) const PATH: usize = HEAD + STEP * STEPS;
+
 /// Appends the text of a step.
 fn push_step(text: &mut Explanation, step: Step)
-    requires { length text.old + STEP ≤ CAPACITY }
+    requires { length text.old + DIGITS + 2 ≤ CAPACITY }
     ensures items { text.new ≡ text.old ++ step_text step }
     ensures few { length text.new ≤ length text.old + STEP }
 {
@@ -31,7 +35,7 @@ fn push_step(text: &mut Explanation, step: Step)
 
 /// Appends the texts of steps.
 fn push_steps(text: &mut Explanation, steps: &[Step])
-    requires { length text.old + STEP * length steps.now ≤ CAPACITY }
+    requires { length text.old + STEP * length steps.now + DIGITS ≤ CAPACITY }
     ensures items { text.new ≡ text.old ++ flat_map step_text steps.now }
     ensures few { length text.new ≤ length text.old + STEP * length steps.now }
 {
@@ -42,7 +46,7 @@ fn push_steps(text: &mut Explanation, steps: &[Step])
 
 /// Appends the text of a path.
 fn push_path(text: &mut Explanation, steps: &[Step])
-    requires { length text.old + 1 + STEP * length steps.now ≤ CAPACITY }
+    requires { length text.old + 1 + STEP * length steps.now + DIGITS ≤ CAPACITY }
     ensures items { text.new ≡ text.old ++ path_text steps.now }
     ensures few { length text.new ≤ length text.old + 1 + STEP * length steps.now }
 {
@@ -56,22 +60,24 @@ fn push_path(text: &mut Explanation, steps: &[Step])
 /// Appends the line of a path.
 fn push_path_line(text: &mut Explanation, steps: &[Step])
     requires few { length steps.now ≤ STEPS }
-    requires room { length text.old + HEAD + STEP * length steps.now ≤ CAPACITY }
-    ensures { text.new ≡ text.old ++ path_line steps.now }
+    requires room { length text.old + PATH + DIGITS ≤ CAPACITY }
+    ensures items { text.new ≡ text.old ++ path_line steps.now }
+    ensures few { length text.new ≤ length text.old + PATH }
 {
     text.push_text(b"  path ");
     push_path(text, steps);
     text.push_text(b"\n");
 }
 
-/// Writes the line of the path of a pointer, which leads to the pointer by these steps. What the text
-/// held before is removed. A path of more than 257 steps has no line: no path to a pointer of a
-/// refusal has as many. Allocates nothing.
-pub fn explain_path(text: &mut Explanation, steps: &[Step])
-    ensures { text.new ≡ path_explanation steps.now }
+/// Appends the line of a path, if there is a path of at most 257 steps.
+pub(crate) fn push_path_lines(text: &mut Explanation, path: Option<&[Step]>)
+    requires { length text.old + PATH + DIGITS ≤ CAPACITY }
+    ensures items { text.new ≡ text.old ++ path_lines (option_map (λ steps. steps.now) path.entry) }
+    ensures few { length text.new ≤ length text.old + PATH }
 {
-    text.clear();
-    if steps.len() <= STEPS {
+    if let Some(steps) = path
+        && steps.len() <= STEPS
+    {
         push_path_line(text, steps);
     }
 }

@@ -1,13 +1,10 @@
 -- What may be written of a message whose refusal is explained (profile).
-use Rattle.std.specs.Prelude.{ℕ, ◌≡◌, ◌⊎◌, List, [], ◌++◌, codes}
-use Rattle.std.proofs.Common.{inl, inr}
-use Rattle.cap_spec.specs.Faults.{IsRefused}
+use Rattle.std.specs.Prelude.{ℕ, ◌≡◌, ◌⊎◌, List, ◌++◌, codes, Some}
 use Rattle.cap_spec.specs.Occupying.{IsDisjoint, IsFirstOverlap}
 use Rattle.cap_spec.specs.Texts.{refused, strict_verdict, vet_text}
-use Rattle.cap_spec.specs.declared.Refusal.{Refusal}
 use Rattle.cap_spec.specs.declared.StrictRefusal.{StrictRefusal}
-use Rattle.cap_spec.specs.declared.StrictRefusal.TheVariants.{Refused as bad, ManySegments, Pointer}
-use Rattle.cap_explain.specs.Explaining.{explanation, overlap_explanation, path_explanation}
+use Rattle.cap_explain.specs.Explaining.{explanation, overlap_explanation}
+use Rattle.cap_trace.specs.NamedPaths.{fault_path}
 use Rattle.cap_vet.specs.Demands.{IsDemandFault, words_under}
 use Rattle.cap_vet.specs.Limits.{depth_of, words_of}
 use Rattle.cap_vet.specs.Reports.{IsAccepted}
@@ -20,28 +17,13 @@ use Rattle.cap_run.specs.Vetting.{TellsAccepted}
 use Rattle.cap_run.specs.declared.engines.stream.Counted.{Counted}
 use Rattle.cap_run.specs.declared.engines.stream.Counted.TheVariants.{Refused}
 
--- the line of the path to the pointer that a refusal names, if it names one
-abbrev pub refused_path : (m : List (List ℕ)) (words depth : ℕ) (r : Refusal)
-    → IsRefused m words depth r → List ℕ
-refused_path m words depth r (inl none) = []
-refused_path m words depth r (inr f) = path_explanation f.path
-
--- the same if it doesn't meet the demands
-abbrev pub fault_path : (demands : Demands) (m : List (List ℕ)) (words depth : ℕ)
-    (fault : StrictRefusal) → IsDemandFault demands m words depth fault → List ℕ
-fault_path demands m words depth (bad r) h =
-    refused_path m (words_under demands m words) depth r h
-fault_path demands m words depth ManySegments h = []
-fault_path demands m words depth (Pointer what s w pointers) h = path_explanation h.1.2.path
-
 -- The line of message n if it doesn't meet the demands, and the lines that explain the first reason.
 pub record TellsFaultLines (demands : Demands) (words depth n : ℕ) (m : List (List ℕ))
     (text : List ℕ) (counted : Counted) : Type 0 where
   pub fault : StrictRefusal
   pub is_fault : IsDemandFault demands m words depth fault
   pub lines : text ≡ vet_text n (strict_verdict fault)
-      ++ fault_path demands m words depth fault is_fault
-      ++ explanation m fault (words_under demands m words) depth
+      ++ explanation (fault_path demands m words depth fault is_fault) m fault (words_under demands m words) depth
   pub counts : counted ≡ Refused
 
 -- a text of a message that meets the demands, or those lines
@@ -66,7 +48,7 @@ pub record TellsOverlapLines (words depth n : ℕ) (m : List (List ℕ)) (text :
   pub pointers : ℕ
   pub is_first : IsFirstOverlap m segment word pointers
   pub lines : text ≡ vet_text n (refused (codes "Overlap") segment word pointers)
-      ++ path_explanation is_first.path ++ overlap_explanation m segment word
+      ++ overlap_explanation (Some is_first.path) m segment word
   pub counts : counted ≡ Refused
 
 -- the text of a message that is accepted: it uses no word twice, or the first overlap is explained

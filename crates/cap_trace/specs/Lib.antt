@@ -1,3 +1,4 @@
 pub mod PointerNumbers
 pub mod Branches
+pub mod NamedPaths
 pub mod Traces

@@ -3,7 +3,9 @@
 
 mod below;
 mod branch;
+mod naming;
 mod seeking;
 mod tracing;
 
+pub use naming::NamedPath;
 pub use tracing::path_of_pointer;

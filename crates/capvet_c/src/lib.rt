@@ -7,6 +7,7 @@ ghost use Rattle.cap_calls.specs.CallBounds.{canonical_bound, frame_bound, marks
 ghost use Rattle.cap_calls.specs.CallFlags.{allows_amplified, default_limits};
 ghost use Rattle.cap_calls.specs.CanonicalCalls.{TellsCopy};
 ghost use Rattle.cap_calls.specs.ExclusiveCalls.{TellsExclusive};
+ghost use Rattle.cap_calls.specs.ExplainCalls.{TellsExplanation};
 ghost use Rattle.cap_calls.specs.NodeCalls.{TellsGet};
 ghost use Rattle.cap_calls.specs.RangeCalls.{TellsRange};
 ghost use Rattle.cap_calls.specs.PackCalls.{TellsPack, TellsUnpack};
@@ -24,8 +25,8 @@ ghost use Rattle.cap_calls.specs.Slices.{bytes_of};
 ghost use Rattle.std.specs.Prelude.{◌*◌, ◌+◌, ◌/◌, ◌≡◌, ◌≤◌, ◌⊎◌, IsFalse, List, drop, length, min, ℕ};
 
 use cap_calls::{
-    CallLimits, CallNode, CallReport, CallStep, Unpacking, canonical, canonical_size, frame,
-    frame_size, get, get_range, is_canonical, marks_size, pack, pack_message, pack_size,
+    CallLimits, CallNode, CallReport, CallStep, Unpacking, canonical, canonical_size, explain,
+    frame, frame_size, get, get_range, is_canonical, marks_size, pack, pack_message, pack_size,
     pointer_path, segment_at, unpack, unpack_message, version, vet, vet_exclusive, vet_segments,
 };
 
@@ -335,6 +336,35 @@ pub extern "C" fn capvet_pointer_path(
     ensures few { required.new ≤ 256 }
 {
     pointer_path(bytes, limits, number, steps, required, report).number()
+}
+
+/// Writes the lines that explain why [`capvet_vet`] refuses the message, to the start of `text`. They
+/// are the lines that the program's command `explain` writes after the line of the verdict.
+/// `CAPVET_NO_NODE`: the message is accepted.
+///
+/// With `CAPVET_OK`, `required` is the length of the lines in bytes, and the bytes after them are
+/// unchanged. With `CAPVET_BUFFER_TOO_SMALL` it is that length too, and with any other result 0. With
+/// both the report has the place of the refusal. Without `CAPVET_OK`, `text` is unchanged. The result
+/// is the number of what [`explain`] returns. The report is written whole. Allocates nothing.
+#[unsafe(no_mangle)]
+pub extern "C" fn capvet_explain(
+    bytes: &[u8],
+    limits: &CallLimits,
+    text: &mut [u8],
+    required: &mut usize,
+    report: &mut CallReport,
+) -> u32
+    ensures tells { (a : Answer)
+        × TellsExplanation limits.now bytes.now text.old a required.new text.new report.new
+        × (result ≡ answer_number a) }
+    // The bytes and the capacity allow no other result.
+    ensures only { (a : Answer) (n : ℕ) (new : List ℕ) (r : CallReport) →
+        TellsExplanation limits.now bytes.now text.old a n new r →
+        (result ≡ answer_number a) × (required.new ≡ n) × (text.new ≡ new) × (report.new ≡ r) }
+    // This capacity is always enough.
+    ensures few { required.new ≤ 6144 }
+{
+    explain(bytes, limits, text, required, report).number()
 }
 
 /// Packs the words of `bytes`, all of them, to the start of `out`; they need be no message.

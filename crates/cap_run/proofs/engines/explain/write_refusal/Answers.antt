@@ -1,21 +1,23 @@
-use Rattle.std.proofs.Common.{List, ℕ, ◌++◌, append_assoc, subst, sym}
+use Rattle.std.proofs.Common.{◌∙◌, ◌++◌, ap, subst, List, ℕ}
 use Rattle.cap_explain.specs.Explaining.{explanation}
 use Rattle.cap_spec.specs.Texts.{strict_verdict, vet_text}
 use Rattle.cap_vet.specs.Limits.{depth_of, words_of}
-use Rattle.cap_text.specs.Writing.{Stopped, Writes}
+use Rattle.cap_text.specs.Writing.{Writes}
 use Rattle.cap_text.proofs.Writing.{stopped_more}
 use Rattle.cap_run.proofs.engines.explain.write_refusal.Goals as goal
 
 pub returns-in-Ok : goal.returns-in-Ok
 returns-in-Ok g c =
+    let m = g.M.Segments.segments c.args.message.now in
     let line = vet_text c.args.number (strict_verdict c.args.refusal.now) in
-    subst (λ (lines : List ℕ). Writes g.O.ByteOut c.args.out.now c.write_lines.new.out c.write_lines.result (line ++ c.args.path.now ++ lines))
-    c.explain.ensures (c.write_lines.ensures c.args.out.now line c.in-Ok.ensures)
+    let lines = c.text.ensures.lines ∙ c.explain.ensures
+    ∙ ap (λ path. explanation path m c.args.refusal.now (words_of c.args.limits) (depth_of c.args.limits)) c.steps.ensures in
+    subst (λ (lines : List ℕ). Writes g.O.ByteOut c.args.out.now c.write_more.new.out c.write_more.result (line ++ lines)) lines
+    (c.write_more.ensures c.args.out.now line c.in-Ok.ensures)
 
 pub returns-in-Err : goal.returns-in-Err
 returns-in-Err g c =
     let m = g.M.Segments.segments c.args.message.now in
     let line = vet_text c.args.number (strict_verdict c.args.refusal.now) in
-    let lines = explanation m c.args.refusal.now (words_of c.args.limits) (depth_of c.args.limits) in
-    subst (Stopped g.O.ByteOut c.args.out.now c.write_refused.new.out c.in-Err.fault) (sym (append_assoc line c.args.path.now lines))
-    (stopped_more g.O.ByteOut c.args.out.now c.write_refused.new.out c.in-Err.fault line (c.args.path.now ++ lines) c.in-Err.ensures)
+    let lines = explanation c.args.path.now m c.args.refusal.now (words_of c.args.limits) (depth_of c.args.limits) in
+    stopped_more g.O.ByteOut c.args.out.now c.write_refused.new.out c.in-Err.fault line lines c.in-Err.ensures

@@ -7,7 +7,8 @@ use Rattle.cap_vet.specs.Limits.{depth_of, words_of}
 use Rattle.cap_vet.specs.Reports.{IsReport}
 use Rattle.cap_vet.specs.Vettings.{report_of}
 use Rattle.cap_run.specs.Demanding.{WantsUnder}
-use Rattle.cap_run.specs.Explained.{OrFaultLines, fault_path}
+use Rattle.cap_run.specs.Explained.{OrFaultLines}
+use Rattle.cap_trace.specs.NamedPaths.{fault_path}
 use Rattle.cap_run.specs.Running.{WritesOneOf}
 use Rattle.cap_run.specs.declared.engines.stream.Counted.TheVariants.{Refused}
 use Rattle.cap_run.proofs.Judging.{writes_as, writes_text}
@@ -43,18 +44,18 @@ returns-in-Err g c =
     let line = vet_text c.args.number (strict_verdict refusal) in
     let under = c.limits_under-limits.result in
     let is_fault = c.in-Err.ensures.err in
-    let path : c.fault_path-path.result ≡ fault_path v.demands m words depth refusal is_fault =
-    c.fault_path-path.ensures v.demands words is_fault in
-    writes_text g.O.ByteOut (line ++ c.fault_path-path.result ++ explanation m refusal (words_of under) (depth_of under)) Refused
-    (OrFaultLines v.demands (g.T.Teller.tells v.teller) words depth c.args.number m)
-    (WantsUnder v.demands (g.T.Teller.wants v.teller) words depth m)
+    let path : c.find_refused.new.self ≡ fault_path v.demands m words depth refusal is_fault =
+    c.find_refused.ensures v.demands words is_fault in
+    writes_text g.O.ByteOut (line ++ explanation c.find_refused.new.self m refusal (words_of under) (depth_of under)) Refused
+    (OrFaultLines v.demands (g.T.Teller.tells v.teller) (words_of v.limits) depth c.args.number m)
+    (WantsUnder v.demands (g.T.Teller.wants v.teller) (words_of v.limits) depth m)
     c.args.out.now c.write_refusal-written.new.out c.write_refusal-written.result c.after_text.result
     (inr (record {
       fault = refusal;
       is_fault = is_fault;
-      lines = ap (λ p. line ++ p ++ explanation m refusal (words_of under) (depth_of under)) path
-          ∙ ap (λ w. line ++ fault_path v.demands m words depth refusal is_fault ++ explanation m refusal w (depth_of under)) c.limits_under-limits.ensures.words
-          ∙ ap (λ d. line ++ fault_path v.demands m words depth refusal is_fault ++ explanation m refusal (words_under v.demands m words) d) c.limits_under-limits.ensures.depth;
+      lines = ap (λ p. line ++ explanation p m refusal (words_of under) (depth_of under)) path
+          ∙ ap (λ w. line ++ explanation (fault_path v.demands m words depth refusal is_fault) m refusal w (depth_of under)) c.limits_under-limits.ensures.words
+          ∙ ap (λ d. line ++ explanation (fault_path v.demands m words depth refusal is_fault) m refusal (words_under v.demands m words) d) c.limits_under-limits.ensures.depth;
       counts = refl;
     }))
     c.write_refusal-written.ensures c.after_text.ensures

@@ -1,5 +1,5 @@
-use Rattle.std.proofs.Common.{◌≡◌, ◌∙◌, ◌++◌, ap, codes, inl, inr, refl, subst, sym}
-use Rattle.cap_explain.specs.Explaining.{overlap_explanation, path_explanation}
+use Rattle.std.proofs.Common.{◌≡◌, ◌∙◌, ◌++◌, Some, ap, codes, inl, inr, refl, subst, sym}
+use Rattle.cap_explain.specs.Explaining.{overlap_explanation}
 use Rattle.cap_spec.specs.Texts.{refused, vet_text}
 use Rattle.cap_vet.specs.Vettings.{message_of, report_of}
 use Rattle.cap_text.specs.Lines.{accepted_text}
@@ -31,14 +31,15 @@ returns-in-Err-Overlap g c = λ words depth t h.
     let refusal = c.in-Err-Overlap in
     let line = vet_text n (refused (codes "Overlap") refusal.segment refusal.word refusal.pointers) in
     let is_first = refusal.ensures.overlap refusal.segment refusal.word refusal.pointers (cc) in
-    let path : c.path_line-path.result ≡ path_explanation is_first.path =
-    overlap_named (g.M.Segments.segments c.message-message.result.now) m refusal.segment refusal.word refusal.pointers c.path_line-path.result
+    let seen = g.M.Segments.segments c.message-message.result.now in
+    let path : c.find.new.self ≡ Some is_first.path =
+    overlap_named seen m refusal.segment refusal.word refusal.pointers c.find.new.self
     (ap g.M.Segments.segments c.message-message.ensures.value)
-    (λ f. c.path_line-path.ensures.overlap most_words refusal.segment refusal.word
-    (subst (IsWithin (g.M.Segments.segments c.message-message.result.now) most_words) (sym c.greatest_limits.ensures)
-    (accepted_within (g.M.Segments.segments c.message-message.result.now) most_words most_depth _ c.message-message.ensures.accepted)) f)
+    (λ f. c.find.ensures.overlap most_words refusal.segment refusal.word
+    (subst (IsWithin seen most_words) (sym c.greatest_limits.ensures)
+    (accepted_within seen most_words most_depth _ c.message-message.ensures.accepted)) f)
     is_first in
-    writes_text g.O.ByteOut (line ++ c.path_line-path.result ++ overlap_explanation (g.M.Segments.segments c.message-message.result.now) refusal.segment refusal.word)
+    writes_text g.O.ByteOut (line ++ overlap_explanation c.find.new.self seen refusal.segment refusal.word)
     Refused (TellsMarkedLines words depth n m) (WantsMarks words depth m)
     c.args.out.now c.write_overlap_lines-written.new.out c.write_overlap_lines-written.result c.after_text-in-Err-Overlap.result
     (inr (record {
@@ -48,8 +49,8 @@ returns-in-Err-Overlap g c = λ words depth t h.
       word = refusal.word;
       pointers = refusal.pointers;
       is_first = is_first;
-      lines = ap (λ message. line ++ c.path_line-path.result ++ overlap_explanation (g.M.Segments.segments message) refusal.segment refusal.word) c.message-message.ensures.value
-          ∙ ap (λ p. line ++ p ++ overlap_explanation m refusal.segment refusal.word) path;
+      lines = ap (λ message. line ++ overlap_explanation c.find.new.self (g.M.Segments.segments message) refusal.segment refusal.word) c.message-message.ensures.value
+          ∙ ap (λ p. line ++ overlap_explanation p m refusal.segment refusal.word) path;
       counts = refl;
     }))
     c.write_overlap_lines-written.ensures c.after_text-in-Err-Overlap.ensures

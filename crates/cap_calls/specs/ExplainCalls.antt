@@ -1,0 +1,43 @@
+-- What the call that explains a refusal returns and writes, from the bytes and the capacity alone (profile).
+use Rattle.std.specs.Prelude.{ℕ, ◌≡◌, ◌≤◌, not, List}
+use Rattle.cap_spec.specs.declared.StrictRefusal.{StrictRefusal}
+use Rattle.cap_explain.specs.Explaining.{explanation}
+use Rattle.cap_trace.specs.NamedPaths.{fault_path}
+use Rattle.cap_vet.specs.Demands.{IsDemandFault, Meets, words_under}
+use Rattle.cap_vet.specs.declared.demands.Demands.{Demands}
+use Rattle.cap_calls.specs.CallBounds.{explanation_bound}
+use Rattle.cap_calls.specs.CallFindings.{Returns}
+use Rattle.cap_calls.specs.CallFlags.{allows_trailing, demands_of}
+use Rattle.cap_calls.specs.CallInputs.{TellsInput}
+use Rattle.cap_calls.specs.CallReports.{refused_report}
+use Rattle.cap_calls.specs.NodeCalls.{path_found}
+use Rattle.cap_calls.specs.PackCalls.{TellsText}
+use Rattle.cap_calls.specs.declared.answer.Answer.{Answer}
+use Rattle.cap_calls.specs.declared.answer.Answer.TheVariants.{NoNode}
+use Rattle.cap_calls.specs.declared.found.Found.{Found}
+use Rattle.cap_calls.specs.declared.limits.CallLimits.{CallLimits}
+use Rattle.cap_calls.specs.declared.report.CallReport.{CallReport}
+
+-- the lines that explain why a message doesn't meet the demands, the path first
+abbrev pub fault_lines : (demands : Demands) (m : List (List ℕ)) (words depth : ℕ) (fault : StrictRefusal)
+    → IsDemandFault demands m words depth fault → List ℕ
+fault_lines demands m words depth fault h =
+    explanation (fault_path demands m words depth fault h) m fault (words_under demands m words) depth
+
+-- Of a message, for a buffer that held `old`, and then holds `new`: the lines that explain why the message doesn't meet the
+-- demands, or that it meets them.
+pub data FindsLines (old new : List ℕ) (demands : Demands) (m : List (List ℕ)) (words depth : ℕ) (f : Found) : Type 0 where
+  explained : (fault : StrictRefusal) (h : IsDemandFault demands m words depth fault)
+      → TellsText (fault_lines demands m words depth fault h) old f.answer f.count new → f.report ≡ refused_report fault
+      → FindsLines old new demands m words depth f
+  accepted : Meets demands m words depth → f ≡ path_found NoNode → new ≡ old → FindsLines old new demands m words depth f
+
+-- the same, with at most as many bytes as always suffice
+abbrev pub FindsFewLines : List ℕ → List ℕ → Demands → List (List ℕ) → ℕ → ℕ → Found → Type 0
+FindsFewLines old new demands m words depth f = FindsLines old new demands m words depth f × (f.count ≤ explanation_bound)
+
+-- Of the message that the input is or starts with.
+abbrev pub TellsExplanation : CallLimits → List ℕ → List ℕ → Answer → ℕ → List ℕ → CallReport → Type 0
+TellsExplanation l bytes old a n new r =
+    (f : Found) × TellsInput (not (allows_trailing l)) (new ≡ old) (FindsLines old new (demands_of l)) l bytes f
+    × Returns f a r × (n ≡ f.count)

@@ -1,0 +1,145 @@
+//! The call that explains a refusal.
+
+ghost use Rattle.cap_calls.specs.CallReports.{refused_report};
+ghost use Rattle.cap_calls.specs.ExplainCalls.{FindsFewLines, TellsExplanation, fault_lines};
+ghost use Rattle.cap_calls.specs.PackCalls.{TellsText};
+ghost use Rattle.cap_calls.specs.declared.answer.Answer.{Answer};
+ghost use Rattle.cap_calls.specs.declared.report.CallReport.{CallReport};
+ghost use Rattle.cap_explain.specs.Explaining.{explanation};
+ghost use Rattle.cap_vet.specs.Demands.{IsDemandFault};
+ghost use Rattle.cap_vet.specs.Limits.{depth_of, words_of};
+ghost use Rattle.std.specs.Prelude.{◌≡◌, ◌≤◌, List, length, ℕ};
+
+use crate::answer::Answer;
+use crate::calls::get::path_answer;
+use crate::found::Found;
+use crate::input::over_input;
+use crate::limits::CallLimits;
+use crate::over::Call;
+use crate::report::CallReport;
+use cap_explain::{Explanation, explain as explain_refusal};
+use cap_frame::{ByteView, Segments};
+use cap_spec::StrictRefusal;
+use cap_trace::NamedPath;
+use cap_vet::{Demands, Limits, limits_under, vet_with};
+
+/// Writes the lines that explain why [`crate::vet`] refuses the message that bytes are, to the start
+/// of `text` (docs/output.md, explain). They are the lines that `capvet explain` writes after the
+/// line of the verdict. The flags are as for [`crate::vet`]. Allocates nothing.
+///
+/// The first of these that applies is returned:
+/// - why there is no frame, or [`Answer::Trailing`], as for [`crate::vet`]; `required` is 0;
+/// - [`Answer::NoNode`], if the message is accepted, so that no pointer is to be explained;
+///   `required` is 0;
+/// - [`Answer::BufferTooSmall`], if `text` is too small; `required` is the length of the lines in
+///   bytes;
+/// - [`Answer::Good`], and `required` is how many bytes were written.
+///
+/// With the last two the report has the place of the refusal. Without [`Answer::Good`], `text` is
+/// unchanged; with it, the bytes after the lines are. The report is written whole.
+pub fn explain(
+    bytes: &[u8],
+    limits: &CallLimits,
+    text: &mut [u8],
+    required: &mut usize,
+    report: &mut CallReport,
+) -> Answer
+    ensures tells { TellsExplanation limits.now bytes.now text.old result required.new text.new
+        report.new }
+    // The bytes and the capacity allow no other result.
+    ensures only { (a : Answer) (n : ℕ) (new : List ℕ) (r : CallReport) →
+        TellsExplanation limits.now bytes.now text.old a n new r →
+        (result ≡ a) × (required.new ≡ n) × (text.new ≡ new) × (report.new ≡ r) }
+    // This capacity is always enough.
+    ensures few { required.new ≤ 6144 }
+{
+    let whole = !limits.allows_trailing();
+    let (answer, count) = over_input(&Explaining, whole, bytes, limits, text, report);
+    *required = count;
+    answer
+}
+
+// The call on a message.
+struct Explaining;
+
+impl Call for Explaining {
+    type Item = u8;
+
+    ghost finds = { λ _ demands m words depth old f new.
+        FindsFewLines old new demands m words depth f };
+
+    #[inline(never)]
+    fn on<'b>(
+        &self,
+        view: &ByteView<'b>,
+        _words: u64,
+        limits: Limits,
+        demands: Demands,
+        out: &mut [u8],
+    ) -> Found {
+        match vet_with(view, limits, demands) {
+            Ok(_) => path_answer(Answer::NoNode),
+            Err(refusal) => explained(view, refusal, limits, demands, out),
+        }
+    }
+}
+
+// What is found of a message that doesn't meet the demands within limits, for this reason.
+#[inline(never)]
+fn explained<'b>(
+    view: &ByteView<'b>,
+    refusal: StrictRefusal,
+    limits: Limits,
+    demands: Demands,
+    out: &mut [u8],
+) -> Found
+    ensures lines { let m = ⟦<ByteView<'b> as Segments>⟧.segments view.now in
+        (h : IsDemandFault demands m (words_of limits) (depth_of limits) refusal) →
+        TellsText (fault_lines demands m (words_of limits) (depth_of limits) refusal h) out.old
+        result.answer result.count out.new }
+    ensures few { result.count ≤ 6144 }
+    ensures report { result.report ≡ refused_report refusal }
+{
+    let mut path = NamedPath::new();
+    path.find_refused(view, limits, &refusal);
+    let within = limits_under(view, limits, demands);
+    let (answer, count) = put_lines(view, &refusal, within, &path, out);
+    Found {
+        answer,
+        count,
+        report: CallReport::of_refused(refusal),
+    }
+}
+
+// Puts the lines to the start of a buffer, if they fit. They have a buffer of their own first, which
+// takes no stack before the path is found.
+#[inline(never)]
+fn put_lines<'b>(
+    view: &ByteView<'b>,
+    refusal: &StrictRefusal,
+    limits: Limits,
+    path: &NamedPath,
+    out: &mut [u8],
+) -> (Answer, usize)
+    ensures tells { let m = ⟦<ByteView<'b> as Segments>⟧.segments view.now in
+        TellsText (explanation path.now m refusal.now (words_of limits) (depth_of limits)) out.old
+        result.0 result.1 out.new }
+    ensures few { result.1 ≤ 6144 }
+{
+    let mut lines = Explanation::new();
+    explain_refusal(&mut lines, view, refusal, limits, path.steps());
+    put_text(lines.text(), out)
+}
+
+// Puts a text to the start of a buffer, if it fits. Gives its length too.
+fn put_text(text: &[u8], out: &mut [u8]) -> (Answer, usize)
+    ensures tells { TellsText text.now out.old result.0 result.1 out.new }
+    ensures count { result.1 ≡ length text.now }
+{
+    let count = text.len();
+    if count > out.len() {
+        return (Answer::BufferTooSmall, count);
+    }
+    out[..count].copy_from_slice(text);
+    (Answer::Good, count)
+}

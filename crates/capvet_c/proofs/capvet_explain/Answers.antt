@@ -1,0 +1,11 @@
+-- The number is that of the one answer.
+use Rattle.std.proofs.Common.{ap, ◌∙◌}
+use Rattle.cap_calls.specs.AnswerNumbers.{answer_number}
+use Rattle.capvet_c.proofs.capvet_explain.Goals as goal
+
+pub returns-clause-tells : goal.returns-clause-tells
+returns-clause-tells c = (c.explain.result, c.explain.ensures.tells, c.number.ensures)
+
+pub returns-clause-only : goal.returns-clause-only
+returns-clause-only c = λ a n new r h.
+    let same = c.explain.ensures.only a n new r h in (c.number.ensures ∙ ap answer_number same.0, same.1, same.2, same.3)
