@@ -100,6 +100,8 @@ def made():
     found["packed-large"] = packed_list(9000) + packed_list(9001) + packed_list(3)
     found["packed-huge"] = packed_list(200000) + packed_list(3)
     found["packed-zeros"] = packed_zeros((1 << 21) + 1)
+    # (a list of bytes that is a text, and one that ends as a text does and isn't valid UTF-8)
+    found["text"], found["text-wrong"] = (struct.pack("<IIQ8s", 0, 2, 1 | 2 << 32 | 3 << 35, text) for text in (b"\xc2\xa7", b"\xff\xc2"))
     found["segments-511"] = strict.many(511)
     found["segments-512"] = strict.many(512)
     found["empty"] = b""
