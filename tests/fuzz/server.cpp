@@ -175,7 +175,8 @@ class Run {
     if (choose(&in, 4) == 0) options.messages.paced = false;
     if (choose(&in, 2) == 0) options.connections = uint32_t(choose(&in, 5));
     if (choose(&in, 2) == 0) options.connectionsOfAddress = uint32_t(choose(&in, 4));
-    if (choose(&in, 2) == 0) options.callWords = choose(&in, 4 * wordsOfCall());
+    // (libcapnp never reads on after a call where this is 0)
+    if (choose(&in, 2) == 0) options.callWords = 1 + choose(&in, 4 * wordsOfCall());
     service = kj::heap<Service>(in, clients);
     serviceHere = service.get();
     isForged = memmem(in.bytes, in.length, reinterpret_cast<const char *>(&MARK) + 4, 4) != nullptr;
