@@ -39,6 +39,8 @@ type fuzzConn struct {
 	net.Conn
 	state  uint64
 	rest   []byte
+	end    error  // after the bytes
+	stop   func() // called now and then, if there is one
 	out    []byte
 	writes int
 }
@@ -52,11 +54,14 @@ func (c *fuzzConn) Read(b []byte) (int, error) {
 	if len(b) == 0 {
 		panic("a read without space")
 	}
+	if c.stop != nil && c.choose(16) == 0 {
+		c.stop()
+	}
 	if c.choose(8) == 0 {
 		return 0, os.ErrDeadlineExceeded
 	}
 	if len(c.rest) == 0 {
-		return 0, io.EOF
+		return 0, c.end
 	}
 	n := len(b)
 	if c.choose(2) == 0 {
@@ -67,7 +72,7 @@ func (c *fuzzConn) Read(b []byte) (int, error) {
 	return n, nil
 }
 
-var errFull = errors.New("no more writes")
+var errFull, errGone = errors.New("no more writes"), errors.New("the connection is gone")
 
 func (c *fuzzConn) Write(b []byte) (int, error) {
 	if c.writes--; c.writes == 0 {
@@ -151,24 +156,33 @@ func FuzzPump(f *testing.F) {
 		}
 		o, stream := fuzzOptions(data), data[16:]
 		state := uint64(data[12]) | uint64(data[13])<<8 | uint64(data[14])<<16
-		from, to := &fuzzConn{state: state, rest: stream}, &fuzzConn{}
+		ends := []error{io.EOF, errGone, net.ErrClosed}
+		from, to := &fuzzConn{state: state, rest: stream, end: ends[int(data[14]>>6)%len(ends)]}, &fuzzConn{}
 		if data[15]%4 == 3 {
 			to.writes = 1 + int(data[15]>>2)
 		}
 		g := &guard{options: o, metrics: fuzzMetrics, memory: budget{most: o.memory}}
 		s := &session{guard: g, ends: [2]half{from, to}}
 		s.activity.touch()
+		switch data[15] % 16 {
+		case 4:
+			from.stop = s.stop
+		case 5:
+			o.messageTimeout = 1
+		case 6:
+			o.idleTimeout = 1
+		}
 		e := s.pump(requests).run()
 		if used := g.memory.used.Load(); used != 0 {
 			t.Fatal(used, "bytes of the budget are in use")
 		}
 		if !o.vetted[requests] {
-			if e.cause == closed && !bytes.Equal(to.out, stream) || !bytes.HasPrefix(stream, to.out) {
+			if (e.cause == closed || e.err == errGone) && !bytes.Equal(to.out, stream) || !bytes.HasPrefix(stream, to.out) {
 				t.Fatal("the bytes are not those that were sent")
 			}
 			return
 		}
-		compareEnding(t, o, scanned(stream, o), e, arrived(t, o, to.out))
+		compareEnding(t, o, scanned(stream, o), from.end, e, arrived(t, o, to.out))
 	})
 }
 
@@ -184,17 +198,39 @@ func arrived(t *testing.T, o *options, out []byte) []byte {
 	return plain
 }
 
-func compareEnding(t *testing.T, o *options, wanted passing, e ending, got []byte) {
+// isBefore reports whether a direction may end so before the first refused message, or where none is refused.
+func isBefore(o *options, e ending) bool {
+	switch e.cause {
+	case noMemory:
+		return o.memory < 1<<20
+	case messageTimeout:
+		return o.messageTimeout == 1
+	case idleTimeout:
+		return o.idleTimeout == 1
+	case failed:
+		return errors.Is(e.err, errFull) || errors.Is(e.err, errGone)
+	}
+	return e.cause == stopped
+}
+
+// compareEnding compares an ending, and what arrived before it, with what should be passed on. `end` is the error after the
+// last byte.
+func compareEnding(t *testing.T, o *options, wanted passing, end error, e ending, got []byte) {
 	all := join(wanted.messages...)
 	if o.packed[server] {
 		// (the padding of a table is packed as zeros)
 		all = padded(wanted.messages)
 	}
-	if e.cause == noMemory && o.memory < 1<<20 || e.cause == failed && errors.Is(e.err, errFull) {
-		if !bytes.HasPrefix(all, got) {
+	var cut *capvet.FrameError
+	isCut := errors.As(wanted.err, &cut) && cut.Reason == capvet.Truncated
+	if isBefore(o, e) {
+		if !bytes.HasPrefix(all, got) || end != io.EOF && e.err == end && !bytes.Equal(all, got) {
 			t.Fatal("other bytes arrived before the end")
 		}
 		return
+	}
+	if end != io.EOF && (isCut || wanted.cause == closed) {
+		t.Fatal("the connection has failed, and that is not the end", e)
 	}
 	if e.cause != wanted.cause || int(e.message) != len(wanted.messages) || e.offset != wanted.offset || !bytes.Equal(all, got) {
 		t.Fatalf("wanted %v after %d messages at %d, got %+v, the same bytes: %v", wanted.cause, len(wanted.messages), wanted.offset,
@@ -228,7 +264,7 @@ func FuzzGreeting(f *testing.F) {
 		f.Add([]byte(text), uint32(7))
 	}
 	f.Fuzz(func(t *testing.T, data []byte, state uint32) {
-		conn := &fuzzConn{state: uint64(state), rest: data}
+		conn := &fuzzConn{state: uint64(state), rest: data, end: io.EOF}
 		rest, header, err := introduced(conn)
 		if err != nil {
 			return

@@ -65,7 +65,7 @@ def replay(tree, targets):
     least = 4 if not targets else len(list(fuzz_corpus.CORPUS.iterdir())) // 2
     with tempfile.TemporaryDirectory() as folder:
         for target, result in side_by_side(lambda it: it.replay(tree, Path(folder) / it.name), targets):
-            report(target, result, 1 if target.name == "go-greeting" else least)
+            report(target, result, least if target.uses_corpus else 1)
 
 
 def search(tree, targets, seconds, seed=0):

@@ -62,6 +62,29 @@ def least():
     return by_name
 
 
+def packed_word(word):
+    """A word as packing writes it, if it is neither zero nor without a zero byte."""
+    data = word.to_bytes(8, "little")
+    return bytes([sum((byte > 0) << at for at, byte in enumerate(data))]) + bytes(byte for byte in data if byte)
+
+
+def packed_zeros(count):
+    """So many words of zeros, packed."""
+    return b"".join(bytes([0, min(count - done, 256) - 1]) for done in range(0, count, 256))
+
+
+def packed_list(words):
+    """A packed message of so many words: a list of zeros after its pointer."""
+    return packed_word(words << 32) + packed_word(1 | 5 << 32 | words - 1 << 35) + packed_zeros(words - 1)
+
+
+def cut_short():
+    """The table of a large message and the start of its segments, for each way and end of tests/fuzz/streams.cpp."""
+    data = struct.pack("<IIQ", 0, LARGE, 1 | 5 << 32 | LARGE - 1 << 35)
+    for kind in range(32):
+        yield f"cut-short-{kind}", bytes([0, kind << 3]) + ARGUMENTS[2:] + data
+
+
 def made():
     """The inputs that are made here, by their names."""
     found = {f"sample-{number}": message for number, message in enumerate(dict.fromkeys(samples()))}
@@ -73,10 +96,16 @@ def made():
     found["large-stream"] = b"".join(samples()[:3]) + (TOP / "examples/stream-of-four.bin").read_bytes()
     for name, root in (("accepted", 1 | 5 << 32 | LARGE - 1 << 35), ("refused", 2 << 2 | LARGE << 32)):
         found[f"large-{name}"] = struct.pack("<IIQ", 0, LARGE, root) + bytes(8 * (LARGE - 1)) + samples()[0]
+    # (packed messages for buffers of more than 64 KiB and of more than 1 MiB, and more than the JavaScript module keeps)
+    found["packed-large"] = packed_list(9000) + packed_list(9001) + packed_list(3)
+    found["packed-huge"] = packed_list(200000) + packed_list(3)
+    found["packed-zeros"] = packed_zeros((1 << 21) + 1)
+    # (a list of bytes that is a text, and one that ends as a text does and isn't valid UTF-8)
+    found["text"], found["text-wrong"] = (struct.pack("<IIQ8s", 0, 2, 1 | 2 << 32 | 3 << 35, text) for text in (b"\xc2\xa7", b"\xff\xc2"))
     found["segments-511"] = strict.many(511)
     found["segments-512"] = strict.many(512)
     found["empty"] = b""
-    return {name: ARGUMENTS + data for name, data in found.items()}
+    return {name: ARGUMENTS + data for name, data in found.items()} | dict(cut_short())
 
 
 def is_current():

@@ -6,6 +6,7 @@ import re
 import shutil
 import signal
 import subprocess
+import sys
 import time
 from dataclasses import dataclass, field
 from pathlib import Path
@@ -25,6 +26,9 @@ PARTS = ("include", "packaging", "bindings", "guard", "examples", "tests/fuzz", 
 # How rustc counts what is reached, for libFuzzer.
 SANCOV = "-Cpasses=sancov-module " + " ".join(f"-Cllvm-args=-sanitizer-coverage-{it}" for it in (
     "level=4", "inline-8bit-counters", "pc-table", "trace-compares")) + " --cfg fuzzing -Cdebuginfo=1"
+# How rustc counts lines. Debian's rustc has no runtime for it, so that of clang is linked, which is of the same LLVM. (An option
+# that is not stable says so)
+COUNTED = "-Cinstrument-coverage -Zno-profiler-runtime --cfg fuzzing"
 SOURCES = """[source.crates-io]
 replace-with = "debian"
 
@@ -90,6 +94,8 @@ def finding_of(text):
 class Target:
     """A fuzz target. `needs` are names of tests/needs.py."""
     name, needs, files = "", (), ()
+    # Whether it runs the inputs of the corpus.
+    uses_corpus = True
 
     def folders(self, kept):
         """Where inputs that were found are kept, and the corpus."""
@@ -180,14 +186,20 @@ class Rust(LibFuzzer):
     """The target in Rust. cargo makes an archive, which clang links with libFuzzer."""
 
     def __init__(self):
-        super().__init__("rust", "oldest-rust", "crate-capnp", files=())
+        super().__init__("rust", "oldest-rust", "crate-capnp", files=("bindings/rust/src/*.rs", "bindings/rust-capnp/src/*.rs"))
 
     def build(self, tree, options=CHECKS):
-        crate, target = tree.top / "tests/fuzz/rust", tree.folder / "rust"
+        # (the compiler's checks see only what the archive and Rust ask of the allocator)
+        counted, flags, linked = "", SANCOV, ["-fsanitize=fuzzer,address"]
+        if options is COVERAGE:
+            counted, flags, linked = "1", COUNTED, ["-fsanitize=fuzzer", "-fprofile-instr-generate"]
+        crate, target = tree.top / "tests/fuzz/rust", tree.folder / f"rust{counted}"
         (crate / ".cargo").mkdir(exist_ok=True)
         (crate / ".cargo/config.toml").write_text(SOURCES.format(CRATES))
         variables = {**tree.environment, "CARGO_TARGET_DIR": str(target), "RUSTC": str(OLDEST_RUST / "rustc"),
-                     "CAPVET_LIB_DIR": str(ARCHIVE.parent), "RUSTFLAGS": SANCOV}
+                     "CAPVET_LIB_DIR": str(ARCHIVE.parent), "RUSTFLAGS": flags}
+        if counted:
+            variables["RUSTC_BOOTSTRAP"] = counted
         host = re.search(r"^host: (.*)$", run([OLDEST_RUST / "rustc", "-vV"])[0], re.M)[1]
         # (with --target the flags are not for build scripts)
         cargo = [OLDEST_RUST / "cargo", "build", "--release", "--offline", "--quiet", "--target", host]
@@ -196,15 +208,10 @@ class Rust(LibFuzzer):
             return text
         mutator, library = tree.out / "rust-mutator.o", target / host / "release/libfuzz.a"
         text, status = run(["clang", "-std=gnu11", "-O1", "-c", tree.top / "tests/fuzz/mutator.c", "-o", mutator])
-        # (the compiler's checks see only what the archive and Rust ask of the allocator)
-        words = ["clang++", "-fsanitize=fuzzer,address", mutator, "-Wl,--whole-archive", library, "-Wl,--no-whole-archive",
+        words = ["clang++", *linked, mutator, "-Wl,--whole-archive", library, "-Wl,--no-whole-archive",
                  "-lpthread", "-ldl", "-lm", "-o", tree.out / "rust"]
         text, status = run(words) if status == 0 else (text, status)
         return text if status else ""
-
-    def coverage(self, tree, kept):
-        print("fuzz: rust: lines are not counted, since Debian's rustc has no runtime that counts them")
-        return {}
 
 
 class Go(Target):
@@ -214,6 +221,7 @@ class Go(Target):
     def __init__(self, folder, test, *needs):
         self.folder, self.test, self.needs = folder, test, (*Go.needs, *needs)
         self.name, self.files = f"go-{test[4:].lower()}", (f"{folder}/*.go",)
+        self.uses_corpus = test not in ("FuzzGreeting", "FuzzOptions")
 
     def place(self, tree):
         """The folder of the package, and the environment. (The guard takes Debian's libraries, which are no modules)"""
@@ -313,16 +321,54 @@ class Python(Target):
         return found
 
 
-# JavaScript's package gets its target here: the module beside the native library.
+class JavaScript(Target):
+    """The package for JavaScript beside the native library, in Node. The search goes by the blocks that V8 counts."""
+    name, needs, files = "js", ("node", "wasm-opt", "clang", "checks-clang"), ("bindings/js/capvet.js", "bindings/js/src/*.js")
+
+    def build(self, tree):
+        text, status = run([sys.executable, TOP / "packaging/targets.py", "wasm"])
+        package, source = tree.top / "bindings/js", tree.top / "tests/fuzz/js/native.c"
+        if status == 0:
+            text, status = run(["node", package / "build.mjs", TOP / "build/capvet.wasm", tree.folder / "js"])
+        if status == 0:
+            checks = [it for it in CHECKS if "fuzzer" not in it] + ["-fsanitize=address,undefined"]
+            text, status = run(["clang", "-std=gnu11", "-Wall", "-Wextra", *checks, f"-I{tree.top}/include", source, ARCHIVE,
+                                "-o", tree.out / "native"])
+        return text if status else ""
+
+    def ran(self, tree, kept, *words, seconds=3600):
+        fuzz, package = tree.top / "tests/fuzz/js/fuzz.mjs", tree.folder / "js/capvet.js"
+        text, status = run(["node", fuzz, package, tree.out / "native", TOP / "tests/fuzz/corpus", kept, *words], seconds)
+        runs, written = re.search(r"Done (\d+) runs", text), re.search(r"Test unit written to (\S+)", text)
+        return Result(int(runs[1]) if runs else 0, finding_of(text) if status else "", Path(written[1]) if written else None, text)
+
+    def replay(self, tree, kept):
+        return self.ran(tree, kept)
+
+    def search(self, tree, kept, seconds):
+        return self.ran(tree, kept, str(seconds), seconds=seconds + 300)
+
+    def coverage(self, tree, kept):
+        self.build(tree)
+        lines = tree.out / "js.json"
+        self.ran(tree, kept, "0", lines)
+        return {f"bindings/js/{name}": {int(line): count for line, count in counts.items()}
+                for name, counts in json.loads(lines.read_text()).items()}
+
+
 TARGETS = (
     LibFuzzer("calls.c", files=("include/capvet.h",)),
     LibFuzzer("vetted.cpp", "libcapnp", files=("include/capvet/kj-message.h",), libraries=("capvet-kj",)),
     LibFuzzer("streams.cpp", "libcapnp", files=("include/capvet/kj-stream.h",), libraries=("capvet-kj",)),
+    LibFuzzer("server.cpp", "libcapnp", files=("include/capvet/kj-server.h", "include/capvet/kj-stream.h"), libraries=("capvet-kj",)),
     LibFuzzer("host.c", files=("packaging/host.c",)),
     Rust(),
     Go("bindings/go", "FuzzCalls"),
     Go("bindings/go", "FuzzScanner"),
     Go("guard", "FuzzPump", "go-prometheus", "go-proxyproto", "go-systemd"),
     Go("guard", "FuzzGreeting", "go-prometheus", "go-proxyproto", "go-systemd"),
+    Go("guard", "FuzzServe", "go-prometheus", "go-proxyproto", "go-systemd"),
+    Go("guard", "FuzzOptions", "go-prometheus", "go-proxyproto", "go-systemd"),
     Python(),
+    JavaScript(),
 )

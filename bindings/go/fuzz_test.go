@@ -75,10 +75,31 @@ func seeds(f *testing.F) {
 	}
 }
 
-// pieces gives bytes in pieces of any size, and sometimes none.
+// pieces gives bytes in pieces of any size, and sometimes none. After them comes an error, or nothing ever again.
 type pieces struct {
 	in   *input
 	rest []byte
+	end  error
+}
+
+// errGone is the error of a reader that has failed.
+var errGone = errors.New("the connection is gone")
+
+// piecesOf returns a reader of bytes, which mostly end as they should.
+func piecesOf(in *input, b []byte) *pieces {
+	return &pieces{in, b, []error{io.EOF, io.EOF, io.EOF, errGone, nil}[in.choose(5)]}
+}
+
+// ends returns the error of a stream of these bytes that ends with this one where it is whole.
+func (p *pieces) ends(end error) error {
+	var frame *capvet.FrameError
+	if p.end == io.EOF || !errors.Is(end, io.EOF) && end != nil && !(errors.As(end, &frame) && frame.Reason == capvet.Truncated) {
+		return end
+	}
+	if p.end == nil {
+		return io.ErrNoProgress
+	}
+	return p.end
 }
 
 func (p *pieces) Read(b []byte) (int, error) {
@@ -95,7 +116,7 @@ func (p *pieces) Read(b []byte) (int, error) {
 	n = copy(b[:n], p.rest)
 	p.rest = p.rest[n:]
 	if len(p.rest) == 0 && (n == 0 || p.in.choose(2) == 0) {
-		return n, io.EOF
+		return n, p.end
 	}
 	return n, nil
 }
@@ -178,49 +199,62 @@ func FuzzScanner(f *testing.F) {
 		if !ok {
 			return
 		}
-		check, used := capvet.Vet, 0
+		check, used, most := capvet.Vet, 0, []int{1 << 20, 70000}[in.choose(2)]
 		isExclusive := in.choose(2) == 0
 		if isExclusive {
 			check = capvet.VetExclusive
 		}
-		scan := func(s *capvet.Scanner, l capvet.Limits) ([]string, error) {
+		scan := func(s *capvet.Scanner) ([]string, error) {
 			if isExclusive {
 				s.Exclusive()
 			}
 			used = 0
-			s.Bound(func(n int) bool { used += n; return used <= 1<<20 })
-			lines, err := scans(t, s, l)
+			s.Bound(func(n int) bool {
+				if used+n > most {
+					return false
+				}
+				used += n
+				return true
+			})
+			lines, err := scans(t, s, in.limits)
 			if used != 0 && err != errMost {
 				t.Fatal(used, "bytes are in use after the end")
 			}
 			return lines, err
 		}
-		l := in.limits
-		wanted, end := verdicts(in.bytes, l, func(b []byte, l capvet.Limits) (capvet.Report, error) {
+		wanted, end := verdicts(in.bytes, in.limits, func(b []byte, l capvet.Limits) (capvet.Report, error) {
 			l.AllowTrailing = false
 			return check(b, l)
 		})
-		got, err := scan(capvet.NewScanner(&pieces{in, in.bytes}, l), l)
-		if fmt.Sprint(wanted) != fmt.Sprint(got) {
-			t.Fatal(wanted, got)
-		}
-		sameEnd(t, end, err, false)
-		packed := capvet.AppendPacked(nil, in.bytes[:len(in.bytes)/8*8])
+		plain := piecesOf(in, in.bytes)
+		got, err := scan(capvet.NewScanner(plain, in.limits))
+		sameScan(t, wanted, got, plain.ends(end), err, false)
 		if len(in.bytes)%8 == 0 {
-			got, err = scan(capvet.NewPackedScanner(&pieces{in, packed}, l), l)
-			if fmt.Sprint(wanted) != fmt.Sprint(got) {
-				t.Fatal(wanted, got)
-			}
-			sameEnd(t, end, err, true)
+			packed := piecesOf(in, capvet.AppendPacked(nil, in.bytes))
+			got, err = scan(capvet.NewPackedScanner(packed, in.limits))
+			sameScan(t, wanted, got, packed.ends(end), err, true)
 		}
 		// (any bytes as a packed stream: however it comes, it has the same messages)
-		wanted, end = scan(capvet.NewPackedScanner(bytes.NewReader(in.bytes), l), l)
-		got, err = scan(capvet.NewPackedScanner(&pieces{in, in.bytes}, l), l)
-		if fmt.Sprint(wanted) != fmt.Sprint(got) {
-			t.Fatal(wanted, got)
-		}
-		sameEnd(t, end, err, true)
+		wanted, end = scan(capvet.NewPackedScanner(bytes.NewReader(in.bytes), in.limits))
+		packed := piecesOf(in, in.bytes)
+		got, err = scan(capvet.NewPackedScanner(packed, in.limits))
+		sameScan(t, wanted, got, packed.ends(end), err, true)
 	})
+}
+
+// sameScan compares what two scans gave. Without space one may have ended before the other.
+func sameScan(t *testing.T, wanted, got []string, end, err error, isPacked bool) {
+	if end == capvet.ErrNoSpace || err == capvet.ErrNoSpace {
+		if n := len(wanted); n < len(got) {
+			got = got[:n]
+		}
+		wanted = wanted[:len(got)]
+		end, err = nil, nil
+	}
+	if fmt.Sprint(wanted) != fmt.Sprint(got) {
+		t.Fatal(wanted, got)
+	}
+	sameEnd(t, end, err, isPacked)
 }
 
 // FuzzCalls compares the functions with each other, over slices with and without spare capacity.

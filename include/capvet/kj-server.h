@@ -144,7 +144,8 @@ class Server final : private kj::TaskSet::ErrorHandler {
 
   bool isFull(const std::string &address) const {
     const auto found = open_.find(address);
-    return !address.empty() && found != open_.end() && found->second >= options_.connectionsOfAddress;
+    const uint32_t open = found == open_.end() ? 0 : found->second;
+    return !address.empty() && open >= options_.connectionsOfAddress;
   }
 
   void count(const Refusal &refusal) {

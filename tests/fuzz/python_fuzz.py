@@ -11,9 +11,13 @@ The last line is 'Done N runs'. A broken rule is an AssertionError, with the sma
 - Streams give the same messages from a buffer, from a file, from a feed, and packed, in pieces of any size.
 - `nodes` gives what `node` gives.
 - The canonical form of a canonical form is the same, and unpacking gives what was packed.
+- What is pickled is the same afterwards, and so is the path of a refusal.
+- The commands of `python -m capvet` say the same: see python_commands.py.
 """
+import array
 import dataclasses
 import io
+import pickle
 import random
 import struct
 import sys
@@ -24,6 +28,7 @@ from hypothesis import HealthCheck, Phase, given, seed, settings
 from hypothesis import strategies as st
 
 import capvet
+import python_commands
 
 ARGUMENTS, MOST = 16, 1 << 14
 # The most messages of a stream that are looked at. (a short packed stream may have many)
@@ -53,6 +58,27 @@ def result(call, *words, **options):
         return error
 
 
+def raised(call, *words, **options):
+    """The exception about a wrong argument."""
+    try:
+        return call(*words, **options)
+    except (TypeError, ValueError, OverflowError) as error:
+        return error
+
+
+def check_arguments(data, limits, chance):
+    """Wrong arguments raise TypeError or ValueError themselves."""
+    wrong, kind = chance.choice((
+        (lambda: capvet.vet(7, limits=limits), TypeError), (lambda: capvet.vet(data, limits=7), TypeError),
+        (lambda: capvet.Limits(depth=True), TypeError), (lambda: capvet.Limits(depth=-1), ValueError),
+        (lambda: capvet.Limits(no_table=1), TypeError), (lambda: capvet.Limits(no_table=True, allow_trailing=True), ValueError),
+        (lambda: capvet.node(data, b"/"), TypeError), (lambda: capvet.nodes(data, "/p*", first=-1), ValueError),
+        (lambda: capvet.nodes(data, "/p*", count="1"), TypeError), (lambda: capvet.read_messages(data), TypeError),
+        (lambda: capvet.messages(data, limits=capvet.Limits(no_table=True)), ValueError)))
+    found = raised(wrong)
+    assert isinstance(found, kind) and not isinstance(found, capvet.CapvetError)
+
+
 def is_error(it):
     return isinstance(it, Exception)
 
@@ -69,6 +95,7 @@ def check_verdict(data, limits):
     assert same(report, result(capvet.vet, memoryview(bytearray(data)), limits=limits))
     frame = result(capvet.frame, data, limits=limits)
     if is_error(report):
+        check_refusal(data, limits, report)
         return report
     tight = dataclasses.replace(limits, charge=report.charge, depth=report.depth)
     assert same(report, result(capvet.vet, data, limits=tight))
@@ -77,6 +104,29 @@ def check_verdict(data, limits):
         parts = [data[at:at + size] for at, size in frame.segments]
         assert capvet.vet_segments(parts, limits=limits).charge == report.charge
     return report
+
+
+def check_refusal(data, limits, error):
+    """The path of a refusal leads to what is refused."""
+    if not isinstance(error, capvet.Refusal):
+        return
+    kept = pickle.loads(pickle.dumps(error))
+    assert error and vars(kept) == vars(error) and str(error.position) == f"{error.segment}:{error.word}"
+    path = result(error.path, data, limits=limits)
+    if path is not None and not is_error(path) and not limits.no_table:
+        found = result(capvet.node, data, path, limits=limits)
+        # (other reasons than those of a pointer come later)
+        assert not isinstance(found, capvet.PathError), path
+
+
+def check_buffers(data, limits):
+    """Buffers of other kinds have the same bytes: with gaps, of other items, and of structs."""
+    report = result(capvet.vet, data, limits=limits)
+    gaps = memoryview(bytes(byte for byte in data for _ in range(2)))[::2]
+    assert same(report, result(capvet.vet, gaps, limits=limits))
+    if len(data) % 8 == 0 and data:
+        for other in (array.array("Q", data), memoryview(data).cast("Q"), memoryview(data).cast("Q", (1, len(data) // 8))):
+            assert same(report, result(capvet.vet, other, limits=limits))
 
 
 def check_canonical(data, limits, report):
@@ -99,6 +149,9 @@ def seen(messages):
             if len(found) == MESSAGES:
                 return found, "more"
             assert (it.data is None) == (it.refusal is not None) and it.raw is not None
+            if not found:
+                kept = pickle.loads(pickle.dumps(it))
+                assert kept.raw == it.raw and (kept.data is None) == (it.data is None) and kept.report == it.report
             found.append((it.number, bytes(it.raw), str(it.refusal or it.report)))
     except capvet.FrameError as error:
         return found, error.reason
@@ -117,6 +170,9 @@ class Pieces(io.RawIOBase):
     def readinto(self, buffer):
         if not self.has_failed and self.chance.randrange(4) == 0:
             self.has_failed = True
+            if self.chance.randrange(2) == 0:
+                # (a file that is not blocking)
+                return None
             raise TimeoutError
         self.has_failed = False
         count = min(len(buffer), len(self.data), self.chance.choice((1, 7, 8, 50, MOST)))
@@ -129,7 +185,7 @@ def again(reader):
     while True:
         try:
             yield next(reader)
-        except TimeoutError:
+        except (TimeoutError, BlockingIOError):
             continue
         except StopIteration:
             return
@@ -146,7 +202,10 @@ def fed(data, chance, **options):
             yield it
         at += size
         assert feed.received == min(at, len(data)) and feed.missing > 0
-    feed.close()
+    try:
+        feed.close()
+    finally:
+        assert isinstance(raised(feed.feed, data), ValueError)
 
 
 def check_streams(data, limits, chance):
@@ -175,12 +234,15 @@ def check_nodes(data, limits, chance, report):
         if is_error(found) or found is None:
             return
         assert found.offset + len(found.data) <= len(data)
+        assert pickle.loads(pickle.dumps(found)) == found and (found.text() is None or found.text().encode() + b"\0" == found.data)
         letter = "p" if found.kind == "struct" else "i"
-        first = chance.randrange(3)
-        iterator = result(capvet.nodes, data, f"{path}/{letter}*", first=first, count=5, limits=limits)
+        first, rest = chance.randrange(3), chance.choice(("", "", "/p0", "/i1"))
+        iterator = result(capvet.nodes, data, f"{path}/{letter}*{rest}", first=first, count=chance.choice((5, None)), limits=limits)
         for number, node in enumerate(iterator, first):
-            one = result(capvet.node, data, f"{path}/{letter}{number}", limits=limits)
+            one = result(capvet.node, data, f"{path}/{letter}{number}{rest}", limits=limits)
             assert same(one, node)
+            if number > 600:
+                break
         path += f"/{letter}{chance.randrange(6)}"
 
 
@@ -198,6 +260,8 @@ def check_nodes_or_refusal(data, limits, chance, report):
 def check_packing(data, limits):
     words = data[:len(data) // 8 * 8]
     assert capvet.unpack(capvet.pack(words)) == words
+    for wrong in ("8", None, 1.5):
+        assert isinstance(raised(capvet.unpack, data, max_size=wrong), TypeError)
     if words != data:
         assert is_error(result(capvet.pack, data))
     unpacked = result(capvet.unpack, data, max_size=MOST)
@@ -222,6 +286,9 @@ def check(data):
     check_streams(data, limits, chance)
     check_nodes_or_refusal(data, limits, chance, report)
     check_packing(data, limits)
+    check_buffers(data, limits)
+    check_arguments(data, limits, chance)
+    python_commands.check(data, limits, chance)
 
 
 WORDS = st.one_of(st.just(0), st.integers(0, 2**64 - 1), st.builds(

@@ -1,0 +1,249 @@
+// The calls of the package for an input. Each has the lines that native.c has to write for it.
+
+const CALLS = ["vet", "exclusive", "segments", "frame", "isCanonical", "canonical", "pointerPath", "get", "range", "pack", "packMessage",
+  "unpack", "plain", "plainExclusive", "packed", "packedExclusive"];
+// The most messages of a stream that are looked at.
+const MESSAGES = 300;
+const decoder = new TextDecoder("latin1");
+
+/** A hash of a result, to compare it by. */
+function sumOf(bytes) {
+  let hash = 2166136261;
+  for (const byte of bytes) hash = Math.imul(hash ^ byte, 16777619);
+  return `${bytes.length}:${hash >>> 0}`;
+}
+
+const placeOf = ({ segment, word }) => `${segment}:${word}`;
+
+function treeOf(it) {
+  const first = it.firstCapability === null ? "" : ` ${placeOf(it.firstCapability)}`;
+  return `${it.length} ${it.segments} ${it.charge} ${it.depth} ${it.pointers} ${it.capabilities}${first}`;
+}
+
+const KINDS = ["null", "struct", "values", "pointers", "structs", "capability"];
+
+function nodeLine(it) {
+  if (it === null) return "NoNode";
+  const { element, count, dataWords, pointers, capability, offset, data } = it;
+  return `Ok ${KINDS.indexOf(it.kind)} ${element} ${count} ${dataWords} ${pointers} ${capability} ${offset} ${sumOf(data)}`;
+}
+
+/** A text is that of the bytes, without the zero after it. */
+function checkText(node) {
+  const text = node?.text() ?? null;
+  if (text !== null) rule(sumOf(new TextEncoder().encode(`${text}\0`)) === sumOf(node.data), "a text has the bytes of its node");
+}
+
+function rule(holds, text) {
+  if (!holds) throw new Error(`RULE BROKEN js: ${text}`);
+}
+
+/** The calls for one input. */
+export class Asks {
+  constructor(capvet, { limits, data, chance }) {
+    Object.assign(this, { capvet, limits, data, chance });
+    this.all = [];
+  }
+
+  /** The line of an error. */
+  errorLine(error) {
+    const { CapabilityError, FrameError, PathError, Refusal, UnpackError } = this.capvet;
+    if (error instanceof PathError) return `${error.reason} ${error.position}`;
+    if (error instanceof FrameError) return `${error.reason} ${error.required} ${error.detail} ${error.length}`;
+    if (error instanceof CapabilityError) return `${error.reason} ${treeOf(error.report)}`;
+    if (error instanceof Refusal) return `${error.reason} ${placeOf(error)} ${error.pointers} ${error.length}`;
+    if (error instanceof UnpackError) return error.reason;
+    if (error instanceof RangeError) return "BadLimits";
+    throw error;
+  }
+
+  /** Runs a call, and keeps its line. Returns the result, or undefined after an error. */
+  ask(call, run, lineOf, { first = 0, second = 0, text = "" } = {}) {
+    let result, line;
+    try {
+      result = run();
+      line = lineOf(result);
+    } catch (error) {
+      line = this.errorLine(error);
+    }
+    this.all.push({ call: CALLS.indexOf(call), first, second, text, line });
+    return result;
+  }
+
+  async run() {
+    this.verdicts();
+    this.copies();
+    this.paths();
+    this.packing();
+    this.wrongArguments();
+    await this.streams();
+  }
+
+  /** Wrong arguments throw the errors of the language. */
+  wrongArguments() {
+    const { capvet, data, chance } = this;
+    const call = chance.of(() => capvet.vet("text"), () => capvet.vet(data, { dept: 3 }), () => capvet.vet(data, null),
+      () => capvet.vet(data, { depth: "3" }), () => capvet.vet(data, { depth: 257 }), () => capvet.vet(data, { noTable: 1 }),
+      () => capvet.node(data, 7), () => capvet.nodes(data, "/p*", { first: -1 }), () => capvet.readMessages("text"),
+      () => capvet.messages(data, { packed: true }), () => capvet.readMessages([data], { noTable: true }));
+    let thrown = null;
+    try {
+      call();
+    } catch (error) {
+      thrown = error;
+    }
+    rule(thrown instanceof TypeError || thrown instanceof RangeError, `wrong arguments give ${thrown}`);
+    rule(/^\d+\.\d+\.\d+$/.test(capvet.version()), "the version has three numbers");
+  }
+
+  verdicts() {
+    const { capvet, data, limits, chance } = this;
+    const treeLine = (report) => `Ok ${treeOf(report)}`;
+    // (as a view of any kind)
+    const given = chance.below(8) === 0 ? data.slice().buffer : chance.below(8) === 0 ? new DataView(data.buffer, data.byteOffset, data.length) : data;
+    this.ask("vet", () => capvet.vet(given, limits), treeLine);
+    this.ask("exclusive", () => capvet.vetExclusive(given, limits), treeLine);
+    const frame = this.ask("frame", () => capvet.frame(data, limits),
+      ({ length, segments }) => `Ok ${length} ${segments.map((it) => `${it.offset}+${it.length}`).join(" ")}`.trim());
+    const parts = (frame?.segments ?? []).map(({ offset, length }) => data.subarray(offset, offset + length));
+    this.ask("segments", () => capvet.vetSegments(parts, limits), treeLine);
+    const piece = 1 + chance.below(40), pieces = Math.min(Math.ceil(data.length / piece), 513);
+    const cut = Array.from({ length: pieces }, (_, at) => data.subarray(piece * at, piece * (at + 1)));
+    this.ask("segments", () => capvet.vetSegments(cut, limits), treeLine, { first: piece });
+  }
+
+  copies() {
+    const { capvet, data, limits } = this;
+    this.ask("isCanonical", () => capvet.isCanonical(data, limits), (it) => (it ? "Ok" : "NotCanonical"));
+    const form = this.ask("canonical", () => capvet.canonical(data, limits), (it) => `Ok ${sumOf(it)}`);
+    if (form === undefined) return;
+    const words = { ...limits, noTable: true, allowTrailing: false, allowNonstrict: false, allowAmplified: true, messageWords: 2 ** 28 };
+    rule(capvet.isCanonical(form, words) && sumOf(capvet.canonical(form, words)) === sumOf(form), "a form is its own form");
+  }
+
+  paths() {
+    const { capvet, data, limits, chance } = this;
+    const pointer = chance.below(12);
+    this.ask("pointerPath", () => capvet.pointerPath(data, pointer, limits), (it) => (it === null ? "NoNode" : `Ok ${it}`), { first: pointer });
+    for (let path = "", level = 0; level < 5; level++) {
+      const text = path || "/", node = this.ask("get", () => capvet.node(data, text, limits), nodeLine, { text });
+      const letter = node?.kind === "struct" ? "p" : "i";
+      this.range(`${path}/${letter}*${chance.of("", "", "/p0", "/i1")}`);
+      path += `/${letter}${chance.below(6)}`;
+    }
+    const text = decoder.decode(data.subarray(0, chance.below(12))) + chance.of("", "/p0", "/i*", "*/p1");
+    this.ask("get", () => capvet.node(data, text, limits), nodeLine, { text });
+    try {
+      [...capvet.nodes(data, text, { ...limits, count: 3 })].forEach(nodeLine);
+    } catch (error) {
+      this.errorLine(error);
+    }
+  }
+
+  /** The nodes of a range, up to an error. */
+  range(text) {
+    const { capvet, data, limits, chance } = this;
+    const first = chance.below(4), second = chance.below(40) > 0 ? chance.below(6) : 300, lines = [];
+    try {
+      for (const it of capvet.nodes(data, text, { ...limits, first, count: second })) {
+        lines.push(nodeLine(it));
+        checkText(it);
+        // (another call, so that the module has other bytes)
+        if (chance.below(8) === 0) capvet.pack(new Uint8Array(8));
+      }
+    } catch (error) {
+      lines.push(this.errorLine(error));
+    }
+    this.all.push({ call: CALLS.indexOf("range"), first, second, text, lines });
+  }
+
+  packing() {
+    const { capvet, data, limits, chance } = this;
+    const part = (bytes) => `Ok ${sumOf(bytes)}`, isWhole = data.length % 8 === 0;
+    const packed = this.ask("pack", () => {
+      try {
+        return capvet.pack(data);
+      } catch (error) {
+        if (error instanceof RangeError && !isWhole) return null;
+        throw error;
+      }
+    }, (it) => (it === null ? "Truncated" : part(it)));
+    if (packed) rule(sumOf(capvet.unpack(packed, { maxSize: data.length })) === sumOf(data), "what is packed is unpacked");
+    this.ask("packMessage", () => capvet.packMessage(data, limits), part);
+    for (const most of [chance.of(0, 64, 1 << 14), 1 << 25]) {
+      this.ask("unpack", () => capvet.unpack(data, { maxSize: most }), part, { first: most });
+    }
+  }
+
+  async streams() {
+    const { capvet, data, limits, chance } = this;
+    const exclusive = chance.below(2) === 0, options = { ...limits, exclusive };
+    const name = (kind) => (exclusive ? `${kind}Exclusive` : kind);
+    await this.stream(name("plain"), () => capvet.messages(data, options));
+    await this.stream(name("plain"), () => this.chunked({ ...options, packed: false }));
+    await this.stream(name("packed"), () => this.chunked({ ...options, packed: true }));
+  }
+
+  /** The messages of the data in chunks, which are overwritten afterwards, by one of the ways to pass them. */
+  chunked(options) {
+    const { capvet, data, chance } = this, sizes = chance.of([1], [7, 8, 9], [0, 50], [20000]);
+    const chunks = function* () {
+      for (let at = 0; at < data.length;) {
+        const chunk = data.slice(at, at + chance.of(...sizes));
+        at += chunk.length;
+        yield chunk;
+        chunk.fill(0xee);
+      }
+    };
+    const way = chance.below(4), source = chunks();
+    if (way === 0) return capvet.readMessages(source, options);
+    const readable = new ReadableStream({
+      pull(controller) {
+        const { done, value } = source.next();
+        if (done) controller.close();
+        else controller.enqueue(value.slice());
+      },
+    });
+    if (way === 1) return capvet.readMessages(readable, options);
+    const piped = readable.pipeThrough(new capvet.MessageStream(options));
+    return way === 2 ? piped : { [Symbol.asyncIterator]: () => ({ next: () => this.reader(piped).read() }) };
+  }
+
+  reader(stream) {
+    this.open ??= new WeakMap();
+    if (!this.open.has(stream)) this.open.set(stream, stream.getReader());
+    return this.open.get(stream);
+  }
+
+  async stream(call, messages) {
+    const lines = [];
+    try {
+      for await (const it of messages()) {
+        rule((it.data === null) === (it.refusal !== null) && (it.report === null) === (it.refusal !== null), "a message is accepted or refused");
+        const verdict = it.refusal === null ? `Ok ${treeOf(it.report)}` : this.errorLine(it.refusal);
+        lines.push(`${it.number} ${it.offset} ${verdict} ${sumOf(it.raw)}`);
+        if (lines.length === MESSAGES) break;
+      }
+      if (lines.length < MESSAGES) lines.push("end");
+    } catch (error) {
+      lines.push(error instanceof this.capvet.FrameError ? `${error.reason} ${error.offset}` : `${this.errorLine(error)} 0`);
+    }
+    this.all.push({ call: CALLS.indexOf(call), first: 0, second: 0, text: "", line: lines.join("\n") });
+  }
+}
+
+/** What is wrong with the lines of native.c for these asks, or null. */
+export function difference(asks, answers) {
+  for (const [at, it] of asks.entries()) {
+    const name = `${CALLS[it.call]} ${it.first} ${it.second} ${it.text}`;
+    if (it.lines === undefined) {
+      if (it.line !== answers[at].trimEnd()) return `${name}: ${it.line}, and by the native library ${answers[at]}`;
+      continue;
+    }
+    const wanted = answers[at].split("\n").slice(0, it.second);
+    const isSame = wanted.every((line, index) => line === it.lines[index] || (index >= it.lines.length && line === "NoNode") ||
+      (index >= it.lines.length && !/^(Ok|NoNode)/.test(it.lines.at(-1) ?? "Ok")));
+    if (!isSame) return `${name}: ${it.lines}, and by the native library ${wanted}`;
+  }
+  return null;
+}
