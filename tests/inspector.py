@@ -47,8 +47,15 @@ def program(words, stream):
     return ran.stdout.decode().splitlines(), ran.stderr.decode().splitlines()
 
 
-def output(words, stream):
-    return subprocess.run([PROGRAM, *words], input=stream, capture_output=True, check=True).stdout
+def explanations(words, stream):
+    """For each message the line of its verdict, and the lines that explain it."""
+    found = re.findall(r"^(message .*)\n((?:  .*\n)*)", output(["explain", *words], stream, False).decode(), re.M)
+    assert found, "the program explains nothing"
+    return found
+
+
+def output(words, stream, must=True):
+    return subprocess.run([PROGRAM, *map(str, words)], input=stream, capture_output=True, check=must).stdout
 
 
 def many(count, seed):
@@ -71,13 +78,13 @@ def uses(message):
 
 def test_decoder(folder):
     messages = many(MANY, SEED)
-    stream = b"".join(messages)
-    verdicts = zip(*(program(["vet", *words], stream)[0] for words in ([], ["--strict"], ["--exclusive"])))
+    explained = zip(*(explanations(words, b"".join(messages)) for words in ([], ["--strict"], ["--exclusive"])))
     with open(folder / "messages", "w") as file:
-        for message, lines in zip(messages, verdicts):
+        for message, pairs in zip(messages, explained):
+            lines, texts = zip(*pairs)
             charge = re.search(r"accepted charge (\d+)", lines[0])
             numbers = uses(message) if charge and int(charge[1]) < 5000 else None
-            file.write(json.dumps(dict(hex=message.hex(), lines=lines, uses=numbers)) + "\n")
+            file.write(json.dumps(dict(hex=message.hex(), lines=lines, texts=texts, uses=numbers)) + "\n")
     ran = subprocess.run(["node", TOP / "tests/inspector/check.mjs", folder / "messages"], capture_output=True, text=True)
     counted = re.search(r"^(\d+) passed, (\d+) failed$", ran.stdout, re.M)
     holds = counted and counted[2] == "0" and int(counted[1]) > 5 * MANY
@@ -190,11 +197,25 @@ def test_samples(page):
     page.is_quiet("the samples")
 
 
+def as_lines(page):
+    """What the page says of a refused message, as the program writes it."""
+    names, texts = (page.texts(f"#verdict {part}") for part in ("dt", "dd"))
+    found = [("path", page.value("document.getElementById('path').value"))] if page.texts("#verdict .title button") else []
+    for name, text in zip(names, texts):
+        if name == "byte":
+            text = re.sub(r",.*", "", re.sub(r"(\d),(?=\d{3})", r"\1", text))
+        if name not in ("circle", "not looked at"):
+            found.append((name, text))
+    sentence = page.texts("#verdict .sentence")[0]
+    found.append(("reason", sentence[0].lower() + sentence[1:-1]))
+    return "".join(f"  {name} {text}\n" for name, text in found)
+
+
 def test_numbers(page, folder):
     """The numbers of words, and the hash, of messages that are accepted; and the way of those that are refused."""
     messages = [*made.samples(), *many(SHOWN, SEED + 1)]
     (folder / "changed.bin").write_bytes(b"".join(messages))
-    lines, _ = program(["vet", *DEFAULT], b"".join(messages))
+    lines, texts = zip(*explanations(DEFAULT, b"".join(messages)))
     page.fresh()
     page.load(folder / "changed.bin")
     for number, (message, line) in enumerate(zip(messages, lines)):
@@ -202,6 +223,7 @@ def test_numbers(page, folder):
         page.keys("Home" if number == 0 else "ArrowDown")
         compare("the line", line, page.text("line"))
         if "refused" in line:
+            compare(f"{line}: the explanation", texts[number], as_lines(page))
             place = re.search(r"at (\S+)", line)[1]
             if " pointers 0" not in line:
                 compare(f"{line}: the selected word", (place, place), (page.place(), page.chosen()))
@@ -232,9 +254,8 @@ def test_refusal(page, folder):
     page.fresh()
     page.load(folder / "damaged.bin")
     compare("the reason and the path", ["OutOfSegment", "/p0/i0/p0"], page.texts("#verdict .title b, #verdict .title button"))
-    sentence = "The list of 33 bytes would take words 0:1048631 to 0:1048635, and segment 0 ends at word 391."
-    compare("the sentence", [sentence], page.texts(".sentence"))
-    compare("the facts", ["byte", "pointer", "content", "segment", "not looked at"], page.texts("#verdict dt"))
+    compare("the sentence", ["The target ends after its segment."], page.texts(".sentence"))
+    compare("the facts", ["byte", "pointer", "target", "segment", "not looked at"], page.texts("#verdict dt"))
     compare("the crumbs", ["root", "p0", "i0", "p0"], page.texts("#crumbs > *"))
     compare("the tree", ["OutOfSegment"], page.texts(".item.refused .flag"))
     compare("rows that were not looked at", 7, len(page.texts(".item.unseen")))

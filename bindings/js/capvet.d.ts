@@ -237,6 +237,15 @@ export function node(data: Bytes, path: string, limits?: Limits): Node | null;
  */
 export function pointerPath(data: Bytes, pointer: number, limits?: Limits): string | null;
 
+/**
+ * The reason of a refusal as lines of text, for a log, or null if the message is accepted.
+ *
+ * The lines are those of the program's command `explain`: the path to the pointer that `vet` names, its place in bytes,
+ * the pointer word with its fields, where it leads, the limit that is passed, and the reason as a sentence. Each line
+ * begins with two blanks and ends with a line feed. Overlaps are not looked for. Throws FrameError.
+ */
+export function explain(data: Bytes, limits?: Limits): string | null;
+
 /** Which of the nodes to read, and the limits of each path. */
 export interface NodesOptions extends Limits {
   /** The first number of the star, by default 0. */

@@ -14,7 +14,8 @@
 //              new MessageStream({ packed?, exclusive?, ..limits }?)      the same, for pipeThrough
 //   canonical  canonical(data, limits?), canonicalInto(data, out, limits?), isCanonical(data, limits?)
 //   read       node(data, path, limits?), nodes(data, path, { first?, count?, ..limits }?)
-//   explain    pointerPath(data, refusal.pointers, limits?)   which field is refused, as a path
+//   explain    explain(data, limits?)                   lines that explain a refusal, or null
+//              pointerPath(data, refusal.pointers, limits?)   which field is refused, as a path
 //   packing    pack(data), packMessage(data, limits?), unpack(data, { maxSize? }?)
 //   other      version()
 //
@@ -35,7 +36,7 @@ import { load } from "./src/module.js";
 
 export { CapabilityError, CapvetError, FrameError, PathError, Refusal, UnpackError } from "./src/answers.js";
 export {
-  canonical, canonicalInto, frame, isCanonical, pack, packMessage, pointerPath, unpack, version, vet, vetExclusive, vetSegments,
+  canonical, canonicalInto, explain, frame, isCanonical, pack, packMessage, pointerPath, unpack, version, vet, vetExclusive, vetSegments,
 } from "./src/calls.js";
 export { Node, node, nodes } from "./src/nodes.js";
 export { MessageStream, messages, readMessages } from "./src/streams.js";

@@ -1,16 +1,16 @@
-// Explains a refusal: the way to the refused pointer, what its words say, and why it is refused.
+// Explains a refusal: the lines of the library, the words that they are about, and the way to the refused pointer.
 
-import {
-  Found, STRUCT, STRUCTS, amount, follow, foundText, grouped, listText, pointerText, structText, structsText,
-} from "./pointer.js";
+import { Found, STRUCT, follow, pointerText } from "./pointer.js";
 
-export const SLACK = 4096;
 /** Reasons of messages that are accepted within other demands. */
 const DEMANDS = new Set(["ManySegments", "NullPad", "EmptySegment", "CapabilityPad", "Overlap"]);
 
 /** Reasons that come before the place of the target is known. */
 const NO_TARGET = new Set(["NoRoot", "ManySegments", "Reserved", "SegmentMissing", "PadOutside", "PadIsFar", "PadNotFar", "TagKind",
   "TagOffset"]);
+
+/** Lines that the page shows elsewhere. */
+const ELSEWHERE = new Set(["path", "byte", "reason"]);
 
 export function isDemand(reason) {
   return DEMANDS.has(reason);
@@ -20,102 +20,31 @@ export function pathOf(steps) {
   return steps.length ? steps.map((step) => `/${step.label}`).join("") : "/";
 }
 
-/** The sentence of each reason, about a subject such as "The pointer". `it` is what `Explained` knows. */
-const SENTENCES = {
-  NoRoot: () => "The first segment has no words, so the message has no root pointer.",
-  ManySegments: () => "The message has 512 segments, more than common readers take.",
-  Reserved: (it) => `${it.found.pads ? "The word of the landing pad" : "The pointer"
-  } has kind 3 and is no capability, which the format reserves.`,
-  SegmentMissing: (it) => `${it.isSecond ? "The landing pad" : "The pointer"} leads to segment ${it.missing}, and the message has ${
-    amount(it.message.sizes.length, "segment")}.`,
-  PadOutside: (it) => `The landing pad would take ${it.padRange}, and ${it.ends(it.found.padSegment)}.`,
-  PadIsFar: () => "The landing pad has one word, and this word is a far pointer.",
-  PadNotFar: () => "The landing pad has two words, and the first is not a far pointer to one word.",
-  TagKind: () => "The second word of the landing pad is neither a struct pointer nor a list pointer.",
-  TagOffset: (it) => `The second word of the landing pad has offset ${grouped(it.tag.offset)}, and it has to be 0.`,
-  OutOfSegment: (it) => `The ${it.what} would take ${it.range}, and ${
-    it.found.start < 0 ? `segment ${it.found.segment} begins at word 0` : it.ends(it.found.segment)}.`,
-  CompositeTag: () => "The list has structs, and its first word, the tag, is not a struct pointer.",
-  CompositeOverrun: (it) => `${amount(it.found.size, "struct")} of ${amount(it.found.data + it.found.pointers, "word")} take ${
-    amount(it.found.size * (it.found.data + it.found.pointers), "word")}, and the list has ${grouped(it.found.words - 1)}.`,
-  DepthLimit: (it) => `The pointer leads to level ${it.level}, and at most ${it.limits.depth} are allowed.${
-    it.circle ? " The pointers lead in a circle." : ""}`,
-  WordLimit: (it) => `The charge up to this pointer is ${grouped(it.charge)} words, and at most ${
-    grouped(it.charges)} are allowed.`,
-  NullPad: () => "The landing pad is a word of zeros. Common readers reject that.",
-  EmptySegment: (it) => `The landing pad leads into segment ${it.found.segment}, which has no words. Common readers reject that.`,
-  CapabilityPad: () => "The landing pad of one word is a capability. Common readers reject that.",
-  Overlap: (it) => (it.earlier ? `The pointer uses word ${it.earlier.place}, which ${it.earlier.path} uses too.`
-    : "The pointer uses a word twice."),
-};
-
-/** What is known of a refused pointer. `way` is where the walk stopped, and `limits` are those of the call. */
-class Explained {
-  constructor(message, way, limits, reason) {
-    this.message = message;
-    this.way = way;
-    this.limits = limits;
-    this.found = new Found();
-    this.reason = reason;
-    if (way) this.readPointer();
-  }
-
-  readPointer() {
-    const { message, way, found } = this;
-    // (what a pointer leads to is read also where only a limit refuses it)
-    follow(message, way.at, way.segment, found);
-    this.isSecond = found.pads === 2 && found.padSegment < message.sizes.length;
-    this.charge = way.charge + found.charge;
-    this.charges = this.limits.isUnamplified ? Math.min(this.limits.charge, message.words + SLACK) : this.limits.charge;
-    const hasDeeper = found.kind === STRUCTS && found.size > 0 && way.level <= this.limits.depth;
-    this.level = way.level + (hasDeeper ? 1 : 0);
-    if (this.hasPad) this.readPad();
-    this.circle = circleOf(way);
-  }
-
-  get hasPad() {
-    const { pads, padSegment, padWord } = this.found, { sizes } = this.message;
-    return pads > 0 && padSegment < sizes.length && padWord + pads <= sizes[padSegment];
-  }
-
-  readPad() {
-    this.pads = this.message.padsOf(this.found);
-    [this.second, this.tag] = this.pads.map((at) => this.message.decode(at));
-  }
-
-  get missing() {
-    return this.isSecond ? this.second.segment : this.found.padSegment;
-  }
-
-  /** Whether the place of the target is known. */
-  get hasContent() {
-    return this.way !== null && !NO_TARGET.has(this.reason) && this.found.kind >= STRUCT;
-  }
-
-  get what() {
-    const { found } = this;
-    if (found.kind === STRUCT) return structText(found.data, found.pointers);
-    return listText(found.element, found.kind === STRUCTS ? found.words - 1 : found.size);
-  }
-
-  get range() {
-    const { found } = this;
-    return rangeText(found.segment, found.start, found.words);
-  }
-
-  get padRange() {
-    return rangeText(this.found.padSegment, this.found.padWord, this.found.pads);
-  }
-
-  ends(segment) {
-    const size = this.message.sizes[segment];
-    return size ? `segment ${segment} ends at word ${grouped(size - 1)}` : `segment ${segment} has no words`;
-  }
+/** A line of an explanation: its first word, and the rest. */
+function lineOf(text) {
+  const [, name, rest] = /^ {2}(\w+) (.*)$/.exec(text);
+  return { name, text: rest };
 }
 
-function rangeText(segment, start, words) {
-  if (words < 2) return `word ${segment}:${start}`;
-  return `words ${segment}:${start} to ${segment}:${start + words - 1}`;
+/** The words that a refused pointer leads to. */
+class Target {
+  constructor(message, way, reason) {
+    const found = new Found(), { sizes, starts } = message;
+    // (what a pointer leads to is read also where only a limit refuses it)
+    if (way) follow(message, way.at, way.segment, found);
+    const { pads, padSegment, padWord, segment, start, words, kind } = found;
+    const hasPad = pads > 0 && padSegment < sizes.length && padWord + pads <= sizes[padSegment];
+    this.pads = hasPad ? message.padsOf(found) : [];
+    this.missingPad = pads && !hasPad ? { segment: padSegment, start: padWord, words: pads } : null;
+    this.range = way && !NO_TARGET.has(reason) && kind >= STRUCT ? { segment, start, words } : null;
+    const isInside = this.range && start >= 0 && start + words <= sizes[segment] && words > 0;
+    this.first = isInside ? starts[segment] + start : null;
+  }
+
+  /** The words that the lines of each name are about, in their order. */
+  get named() {
+    return { pad: this.pads, target: [this.first], tag: [this.first] };
+  }
 }
 
 /** The first step that leads to the same word as an earlier one, or null. */
@@ -128,71 +57,38 @@ function circleOf(way) {
   return null;
 }
 
+/** What the library says nothing of: where pointers lead in a circle. */
+function circleFacts(message, way) {
+  const circle = circleOf(way);
+  if (!circle) return [];
+  const [first, again] = [circle.from, circle.to].map((number) => pathOf(way.steps.slice(0, number + 1))), { at } = way.steps[circle.from];
+  return [{ name: "circle", text: `${again} leads to ${message.place(at)} again, first at ${first}`, at }];
+}
+
+/** The lines about an overlap, which the library does not look for. */
+function overlapText(message, way, earlier) {
+  const used = earlier ? `word ${earlier.place}, which ${earlier.path} uses too` : "a word twice";
+  return `  pointer ${message.hex(way.at)} ${pointerText(message.decode(way.at))}\n  reason the pointer uses ${used}\n`;
+}
+
+function sentenceOf(reason) {
+  return `${reason[0].toUpperCase()}${reason.slice(1)}.`;
+}
+
 /**
  * What the page says of a refusal: `path`, a `sentence`, and `facts`, each a name, a text, and the word that it is about or null.
- * `target` and `pad` have the places that the pointer names, also if nothing is there.
+ * `target` and `pad` have the places that the pointer names, also if nothing is there. `way` is where the walk stopped, or null.
+ * `text` is what the library says, and `earlier` the earlier pointer of an overlap.
  */
-export function explain(message, refusal, way, limits, earlier) {
-  const it = new Explained(message, way, limits, refusal.reason), facts = [];
-  it.earlier = earlier;
-  if (way) addFacts(it, (name, text, at = null) => facts.push({ name, text, at }));
-  const { found, pads = [] } = it, isMissing = way && found.pads && !pads.length;
+export function explained(message, refusal, way, text, earlier) {
+  const { reason } = refusal, lines = (text ?? overlapText(message, way, earlier)).trimEnd().split("\n").map(lineOf);
+  const target = new Target(message, way, reason), named = { pointer: [way?.at], ...target.named };
+  const facts = lines.filter(({ name }) => !ELSEWHERE.has(name)).map((it) => ({ ...it, at: named[it.name]?.shift() ?? null }));
+  if (way) facts.push(...circleFacts(message, way));
+  if (earlier) facts.push({ name: "earlier", text: `${earlier.path} at ${earlier.pointer} uses ${earlier.place} too`, at: earlier.at });
   return {
-    reason: refusal.reason, sentence: SENTENCES[refusal.reason]?.(it) ?? refusal.reason, facts, pads,
+    reason, sentence: sentenceOf(lines.find(({ name }) => name === "reason").text), facts, pads: target.pads,
     at: way ? way.at : null, steps: way ? way.steps : [], path: way ? pathOf(way.steps) : null,
-    text: way ? pointerText(message.decode(way.at)) : "",
-    pad: isMissing ? { segment: found.padSegment, start: found.padWord, words: found.pads } : null,
-    target: it.hasContent ? { segment: found.segment, start: found.start, words: found.words } : null,
+    text: way ? pointerText(message.decode(way.at)) : "", pad: target.missingPad, target: target.range,
   };
-}
-
-function addFacts(it, add) {
-  const { message, way, pads = [] } = it;
-  add("pointer", `${message.hex(way.at)}  ${pointerText(message.decode(way.at))}`, way.at);
-  for (const [number, at] of pads.entries()) {
-    const text = number ? tagText(it.tag) : pointerText(message.decode(at));
-    add(number ? "tag" : "pad", `${message.place(at)}  ${message.hex(at)}  ${text}`, at);
-  }
-  addContent(it, add);
-}
-
-function addContent(it, add) {
-  const { message, found, reason } = it;
-  const addWord = (name, text, at) => add(name, `${message.place(at)}  ${message.hex(at)}  ${text}`, at);
-  if (it.hasContent) {
-    const start = message.starts[found.segment] + found.start, end = found.start + found.words;
-    const isInside = found.start >= 0 && end <= message.sizes[found.segment] && found.words > 0;
-    const text = found.words ? `${it.range}, ${contentText(it)}` : `at ${found.segment}:${found.start}, no words`;
-    add("content", text, isInside ? start : null);
-    if (isInside && found.kind === STRUCTS) addWord("tag", tagOfStructs(message, start), start);
-  }
-  if (["OutOfSegment", "PadOutside", "EmptySegment"].includes(reason)) {
-    const segment = reason === "PadOutside" ? found.padSegment : found.segment;
-    add("segment", `${segment} has ${amount(message.sizes[segment], "word")}`);
-  }
-  if (it.circle) addCircle(it, add);
-  if (it.earlier) add("earlier", `${it.earlier.path} at ${it.earlier.pointer} uses ${it.earlier.place} too`, it.earlier.at);
-}
-
-function addCircle({ message, way, circle }, add) {
-  const [first, again] = [circle.from, circle.to].map((number) => pathOf(way.steps.slice(0, number + 1)));
-  const { at } = way.steps[circle.from];
-  add("circle", `${again} leads to ${message.place(at)} again, first at ${first}`, at);
-}
-
-function contentText(it) {
-  return it.reason === "OutOfSegment" || it.reason === "CompositeTag" ? it.what : foundText(it.found);
-}
-
-function tagText(tag) {
-  if (tag.form === "null") return structText(0, 0);
-  if (tag.form === "struct") return structText(tag.data, tag.pointers);
-  return tag.form === "list" ? listText(tag.element, tag.size) : tag.form;
-}
-
-/** The tag of a list of structs, whose offset is the number of elements. */
-function tagOfStructs(message, at) {
-  const tag = message.decode(at);
-  if (tag.form === "null") return "no structs";
-  return tag.form === "struct" ? structsText(message.halves[2 * at] >>> 2, tag.data, tag.pointers) : pointerText(tag);
 }

@@ -1,9 +1,9 @@
 // What the page shows of one message.
 
-import { canonical, isCanonical, packMessage } from "./library.js";
+import { canonical, explain, isCanonical, packMessage } from "./library.js";
 import { Message } from "../format/message.js";
 import { Found, follow } from "../format/pointer.js";
-import { explain, isDemand, pathOf } from "../format/refusal.js";
+import { explained, isDemand, pathOf } from "../format/refusal.js";
 import { KIND, TABLE, TWICE, UNUSED, WordMap, walk } from "../format/walk.js";
 import { optionsOf } from "./stream.js";
 
@@ -24,14 +24,15 @@ export async function analyse(bytes, verdict, limits, progress) {
     await walked(message, { isOnce: true, map }, progress);
     return { map, explanation: null, isPartial };
   }
+  const text = reason === "Overlap" ? null : explain(bytes, optionsOf(limits));
   if (pointers === 0) {
     if (!isPartial) await walked(message, { isOnce: true, map }, progress);
-    return { map, explanation: explain(message, verdict, null, limits), isPartial };
+    return { map, explanation: explained(message, verdict, null, text, null), isPartial };
   }
   const way = await walked(message, isPartial ? { last: pointers, map } : { last: pointers }, progress);
   const earlier = reason === "Overlap" ? await overlap(message, way, progress) : null;
   if (!isPartial) await walked(message, { isOnce: true, map }, progress);
-  const explanation = { ...explain(message, verdict, way, limits, earlier), isAccepted: !isPartial };
+  const explanation = { ...explained(message, verdict, way, text, earlier), isAccepted: !isPartial };
   return { map, explanation, isPartial };
 }
 

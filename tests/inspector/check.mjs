@@ -1,13 +1,13 @@
 // Compares what the page finds out by itself with the program's verdicts: check.mjs FILE
 //
 // Each line of FILE is a JSON object: `hex`, the message; `lines`, by `vet`, `vet --strict` and `vet --exclusive`, each a verdict;
-// `uses`, how many words nothing uses and how many are used twice, or null if it is refused. The last line is how many checks passed
+// `texts`, the lines that `explain` adds to each; `uses`, how many words nothing uses and how many are used twice, or null if it is refused. The last line is how many checks passed
 // and how many failed.
 import { readFileSync } from "node:fs";
 import { Message } from "../../inspector/format/message.js";
 import { Node, parsePath } from "../../inspector/format/nodes.js";
 import { Found, follow, laxForm } from "../../inspector/format/pointer.js";
-import { explain } from "../../inspector/format/refusal.js";
+import { explained } from "../../inspector/format/refusal.js";
 import { selectionOf } from "../../inspector/format/selection.js";
 import { KIND, LOOKED, TABLE, TWICE, UNUSED, WordMap, walk } from "../../inspector/format/walk.js";
 
@@ -59,17 +59,27 @@ function checkAccepted(it, message, { charge, pointers }) {
   }
 }
 
-function checkRefused(it, message, verdict) {
+/** What the text of a fact begins with, by the word that it is about. */
+function beginning(message, { name, at }) {
+  const place = message.place(at), hex = message.hex(at);
+  return { pointer: `${hex} `, target: `${place} to `, pad: `${place} ${hex} `, tag: `${place} ${hex} ` }[name] ?? "";
+}
+
+function checkRefused(it, message, verdict, text) {
   const { reason, place, pointers } = verdict;
-  const way = pointers ? result(walk(message, { last: pointers })) : null, explanation = explain(message, verdict, way, LIMITS, null);
-  const texts = [explanation.sentence, ...explanation.facts.map((fact) => fact.text)];
-  check("the sentence", explanation.sentence.endsWith(".") && !/undefined|NaN/.test(texts.join()), it);
+  const way = pointers ? result(walk(message, { last: pointers })) : null;
+  const { sentence, facts, path } = explained(message, verdict, way, reason === "Overlap" ? null : text, null);
+  const said = `  reason ${sentence[0].toLowerCase()}${sentence.slice(1, -1)}\n`;
+  check("the sentence", sentence.endsWith(".") && (reason === "Overlap" || text.endsWith(said)), it);
   if (!way) return;
+  const names = facts.filter((fact) => fact.at !== null).map((fact) => fact.name);
+  check("the words of the facts", facts.every((fact) => fact.at === null || fact.text.startsWith(beginning(message, fact))), it);
+  check("the pointer is a fact", names[0] === "pointer", it);
+  check("each pad is a fact with a word", facts.every(({ name, at }) => name !== "pad" || at !== null), it);
   check("the place", message.place(way.at) === place, it);
-  check("the path", wordAt(message, explanation.path) === way.at, it);
+  check("the path", wordAt(message, path) === way.at && (reason === "Overlap" || text.startsWith(`  path ${path}\n`)), it);
   const followedWay = followed(message, way);
   if (!OTHERS.has(reason)) check("the reason", (followedWay.reason ?? laxForm(message, followedWay.found)) === reason, it);
-  if (reason === "DepthLimit") check("the level", explanation.sentence.includes("level 65,"), it);
   const charge = way.charge + followedWay.found.charge;
   if (reason === "WordLimit") check("the charge", way.charge <= LIMITS.charge && charge > LIMITS.charge, it);
 }
@@ -83,9 +93,10 @@ function verdictOf(line) {
 
 for (const text of readFileSync(process.argv[2], "utf8").trimEnd().split("\n")) {
   const it = JSON.parse(text), message = new Message(new Uint8Array(Buffer.from(it.hex, "hex")).slice());
-  for (const line of new Set(it.lines)) {
+  for (const [number, line] of it.lines.entries()) {
     const verdict = verdictOf(line);
-    if (verdict.reason) checkRefused(it, message, verdict);
+    if (it.lines.indexOf(line) < number) continue;
+    if (verdict.reason) checkRefused(it, message, verdict, it.texts[number]);
     else if (it.uses) checkAccepted(it, message, verdict);
   }
 }

@@ -114,6 +114,18 @@ export function pointerPath(data, pointer, limits) {
   return `/${steps.join("/")}`;
 }
 
+// The most bytes of an explanation.
+const MAX_EXPLANATION = 6144;
+
+export function explain(data, limits) {
+  const input = inputOf(data, limitsOf(limits)), text = address(after(input.length));
+  place(input, MAX_EXPLANATION);
+  const answer = calls.capvet_explain(at.input, input.length, at.limits, text, MAX_EXPLANATION, at.required, at.report);
+  if (answer === NO_NODE) return null;
+  check(answer);
+  return String.fromCharCode(...written(input.length));
+}
+
 /** The bytes that a call wrote after an input of this length. The next call writes others there. */
 function written(length) {
   const start = after(length);
