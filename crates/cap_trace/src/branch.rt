@@ -95,6 +95,7 @@ impl Branch {
         ensures next { IsTrue result → (base : List Step) →
             rest_of base self.old ≡ word_of base self.new ∷ rest_of base self.new }
         ensures last { IsFalse result → (base : List Step) → rest_of base self.old ≡ [] }
+        ensures kept { IsFalse result → self.new ≡ self.old }
         ensures branch { IsTrue result → (m : List (List ℕ)) (depth n : ℕ) →
             IsBranch m depth n self.old → IsBranch m depth n self.new }
     {

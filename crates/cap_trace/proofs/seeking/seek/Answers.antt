@@ -1,26 +1,33 @@
-use Rattle.std.proofs.Common.{◌<◌, length, arith, rules}
-use Rattle.cap_spec.specs.Messages.{segment_of}
-use Rattle.cap_trace.proofs.Coming.{at_root, has_root, some_number}
+use Rattle.std.proofs.Common.{◌+◌, ◌∙◌, ap, arith, length, List, subst, sym}
+use Rattle.cap_trace.specs.Seeking.{Passes}
+use Rattle.cap_trace.specs.Traces.{HasCome}
+use Rattle.cap_trace.specs.declared.branch.Branch.{Branch}
+use Rattle.cap_trace.specs.declared.seeking.Passed.{Passed}
 use Rattle.cap_trace.proofs.seeking.seek.Goals as goal
-use Rattle.cap_trace.proofs.seeking.seek.Goals.{then-number-eq0-via-then-number-eq0, then-number-eq0-via-else-number-eq0+then-len-eq0}
 
-pub returns-then-number-eq0-clause-missing : goal.returns-then-number-eq0-clause-missing
-returns-then-number-eq0-clause-missing g c = λ t path a.
+pub pass_nulls-at-requires : goal.pass_nulls-at-requires
+pass_nulls-at-requires g c =
     let m = g.M.Segments.segments c.args.message.now in
-    let some : 0 < c.args.number = some_number m c.args.number path a.numbered in
-    let root : 0 < length (segment_of m 0) = has_root m c.args.number path a.numbered in
-    elim c.then-number-eq0.branch [
-      | then-number-eq0-via-then-number-eq0 w ↦ omega (arith, w.if-number-eq0.true)
-      | then-number-eq0-via-else-number-eq0+then-len-eq0 w ↦ omega (arith, w.len.ensures, w.if-len-eq0.true)
-    ]
+    let k = subst (λ (u : Passed). Passes m c.args.depth c.words.at g.row.N c.words.others.items c.words.here c.pass.new.others.items c.pass.new.last u)
+    c.in-On.is (c.pass.ensures c.words.at c.words.invariant.come) in
+    (c.args.depth, c.words.at + 1, c.pass.new.others.items, k)
 
-pub words-init : goal.words-init
-words-init g c =
+pub words-preserved : goal.words-preserved
+words-preserved g c =
     let m = g.M.Segments.segments c.args.message.now in
-    let exists : 0 < length m = search rules in
-    let some : 0 < length (segment_of m 0) = omega (arith, c.len.ensures, c.if-len-eq0.false) in
-    rw (c.requires.empty, c.root.ensures) (at_root m c.args.depth exists some)
+    let k = subst (λ (u : Passed). Passes m c.args.depth c.words.at g.row.N c.words.others.items c.words.here c.pass.new.others.items c.pass.new.last u)
+    c.in-On.is (c.pass.ensures c.words.at c.words.invariant.come) in record {
+      before = omega (arith, c.pass_nulls-at.ensures.few, c.words-test.true);
+      come = c.pass_nulls-at.ensures.passed c.args.depth (c.words.at + 1) c.pass.new.others.items k;
+    }
 
-pub returns-then-not-pass-clause-missing : goal.returns-then-not-pass-clause-missing
-returns-then-not-pass-clause-missing g c = λ t.
-    c.pass.ensures.none (search rules) c.words.at c.args.number c.words.invariant c.words-test.true
+pub returns-in-Full : goal.returns-in-Full
+returns-in-Full g c =
+    let m = g.M.Segments.segments c.args.message.now in
+    let k = subst (λ (u : Passed). Passes m c.args.depth c.words.at g.row.N c.words.others.items c.words.here c.pass.new.others.items c.pass.new.last u)
+    c.in-Full.is (c.pass.ensures c.words.at c.words.invariant.come) in (
+      ap length k.1 ∙ k.0,
+      c.words.invariant.before,
+      subst (λ (u : Branch). HasCome m c.args.depth c.words.at c.pass.new.others.items u) (sym k.2)
+          (subst (λ (u : List Branch). HasCome m c.args.depth c.words.at u c.words.here) (sym k.1) c.words.invariant.come),
+    )
