@@ -8,7 +8,7 @@ ghost use Rattle.cap_trace.specs.declared.branch.Branch.{Branch};
 ghost use Rattle.std.specs.Prelude.{◌+◌, ◌++◌, ◌≡◌, ◌≤◌, [], ◌∷◌, IsFalse, IsTrue, List, ℕ};
 
 use crate::below::{Below, look_below};
-use crate::branch::Branch;
+use crate::branch::{Branch, Form};
 use arrayvec::ArrayVec;
 use cap_frame::Segments;
 
@@ -58,20 +58,21 @@ pub(crate) fn seek<M: Segments, const N: usize>(
     // Nothing outside of the loop has this, so it stays in registers.
     let mut here = *last;
     let mut at = first;
-    'words: while at < number {
+    'words: loop {
+        at += pass_nulls(message, number - at, &mut here);
+        if at == number {
+            *last = here;
+            return Sought::Found;
+        }
         match pass(message, depth, others, &mut here) {
-            Passed::On => {}
+            Passed::On => at += 1,
             Passed::Ended => return Sought::Missing,
             Passed::Full => {
                 *last = here;
                 return Sought::Full(at);
             }
         }
-        at += 1;
-        at += pass_nulls(message, number - at, &mut here);
     }
-    *last = here;
-    Sought::Found
 }
 
 // Goes on over null words while others of the same object follow, and over at most as many as `most`.
@@ -85,11 +86,24 @@ fn pass_nulls<M: Segments>(message: &M, most: u64, last: &mut Branch) -> u64
         HasCome m depth n others last.old → HasCome m depth (n + result) others last.new }
 {
     let mut count = 0;
-    'nulls: while count < most && message.word(last.segment, last.at) == 0 {
-        if last.advance() {
-            count += 1;
-        } else {
-            return count;
+    match last.form {
+        Form::Pointers => {
+            'elements: while count < most
+                && last.more > 0
+                && message.word(last.segment, last.at) == 0
+            {
+                last.next_pointer();
+                count += 1;
+            }
+        }
+        _ => {
+            'nulls: while count < most && message.word(last.segment, last.at) == 0 {
+                if last.advance() {
+                    count += 1;
+                } else {
+                    return count;
+                }
+            }
         }
     }
     count
