@@ -6,4 +6,5 @@ pub mod Named
 mod Nulls
 mod Objects
 mod Onward
+mod RowBranches
 mod Traceable

@@ -10,4 +10,4 @@ returns-then-word-eq0 g c =
 pub returns-in-Some : goal.returns-in-Some
 returns-in-Some g c =
     let m = g.M.Segments.segments c.args.message.now in
-    c.below_target.ensures m (c.in-Some.ensures.target m c.word-word.ensures (sym c.len.ensures))
+    c.below_row.ensures m (c.in-Some.ensures.row m c.args.from.now.segment c.word-word.ensures (sym c.len.ensures))

@@ -17,9 +17,13 @@ word-requires-clause-inside g c =
 
 pub next_pointer-requires-clause-branch : goal.next_pointer-requires-clause-branch
 next_pointer-requires-clause-branch g c =
-    let (depth, n, others, h) = c.requires in
-    (_, depth, _, g.met.M.Segments.is_message c.args.message.now,
-    (branches_without _ depth 0 others _ (c.elements.invariant.passed depth n others h).branches).1)
+    let (depth, n, others, h) = c.requires in (
+      _,
+      depth,
+      _,
+      g.met.M.Segments.is_message c.args.message.now,
+      (branches_without _ depth 0 others _ (c.elements.invariant.passed depth n others h).branches).1,
+    )
 
 pub elements-preserved : goal.elements-preserved
 elements-preserved g c = record {
@@ -42,9 +46,13 @@ word-requires-in-nulls g c =
 
 pub advance-requires : goal.advance-requires
 advance-requires g c =
-    let (depth, n, others, h) = c.requires in
-    (_, depth, _, g.met.M.Segments.is_message c.args.message.now,
-    (branches_without _ depth 0 others _ (c.nulls.invariant.passed depth n others h).branches).1)
+    let (depth, n, others, h) = c.requires in (
+      _,
+      depth,
+      _,
+      g.met.M.Segments.is_message c.args.message.now,
+      (branches_without _ depth 0 others _ (c.nulls.invariant.passed depth n others h).branches).1,
+    )
 
 pub nulls-preserved : goal.nulls-preserved
 nulls-preserved g c = record {

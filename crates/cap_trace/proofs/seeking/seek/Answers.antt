@@ -1,4 +1,4 @@
-use Rattle.std.proofs.Common.{◌+◌, ◌<◌, ◌∙◌, ap, arith, length, List, rules, subst, sym, ℕ}
+use Rattle.std.proofs.Common.{◌+◌, ◌<◌, ◌∙◌, ap, arith, length, List, rules, subst, sym}
 use Rattle.cap_trace.specs.Seeking.{Passes}
 use Rattle.cap_trace.specs.Traces.{HasCome}
 use Rattle.cap_trace.specs.declared.branch.Branch.{Branch}
@@ -6,9 +6,16 @@ use Rattle.cap_trace.specs.declared.seeking.Passed.{Passed}
 use Rattle.cap_trace.proofs.seeking.seek.Goals as goal
 
 pub pass-requires : goal.pass-requires
-pass-requires g c =
-    (search rules, (c.requires.shallow, (c.words.at + c.pass_nulls-at.result,
-    c.pass_nulls-at.ensures.passed c.args.depth c.words.at c.words.others.items c.words.invariant.come)))
+pass-requires g c = (
+  search rules,
+  (
+    c.requires.shallow,
+    (
+      c.words.at + c.pass_nulls-at.result,
+      c.pass_nulls-at.ensures.passed c.args.depth c.words.at c.words.others.items c.words.invariant.come,
+    ),
+  ),
+)
 
 pub words-preserved : goal.words-preserved
 words-preserved g c =
