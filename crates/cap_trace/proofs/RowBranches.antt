@@ -16,7 +16,7 @@ use Rattle.cap_vet.specs.Trails.{Ahead, IsTrail}
 use Rattle.cap_vet.proofs.OneTrail.{object_trail}
 use Rattle.cap_trace.specs.Branches.{IsBranch, rest_of, word_of}
 use Rattle.cap_trace.specs.PointerNumbers.{PassesAt}
-use Rattle.cap_trace.specs.Traces.{GoesBelow}
+use Rattle.cap_trace.specs.Traces.{GoesBelow, IsBlockedAt}
 use Rattle.cap_trace.specs.declared.below.Below.TheVariants.{Object}
 use Rattle.cap_trace.specs.declared.branch.Branch.{Branch}
 use Rattle.cap_trace.specs.declared.branch.Form.TheVariants.{Pointers}
@@ -41,6 +41,11 @@ row_passes m depth s w level q r f within = (
       let same = one_object m s w 0 s r.start q k t b p f.finds g in
       omega (arith, row_levels q r.pointer_count other f.pointers, ap (λ (u : ℕ). levels_below u other) same.shape, within, past),
 )
+
+pub row_blocked : (m : List (List ℕ)) (depth s w level q : ℕ) (r : Row) → FindsRow m s w q r → depth < level
+    → IsBlockedAt m depth s w level
+row_blocked m depth s w level q r f past =
+    inr (0, s, r.start, q, 0, f.finds, no_tag m s w q r f, omega (arith, row_levels q r.pointer_count 0 f.pointers, past))
 
 -- without pointers it has no pointer words
 no_children : (base : List Step) (q n t b level : ℕ) → HasPointers q n → n ≡ 0

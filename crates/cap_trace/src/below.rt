@@ -1,18 +1,17 @@
 //! What a pointer word leads to, as the object that the way goes on through.
 
-ghost use Rattle.cap_ptr.specs.Rows.{FindsRow};
 ghost use Rattle.cap_ptr.specs.Shapes.{FindsTarget, FindsTargetBy};
 ghost use Rattle.cap_spec.specs.Messages.{IsMessage, segment_of};
 ghost use Rattle.cap_spec.specs.declared.Step.{Step};
-ghost use Rattle.cap_trace.specs.Branches.{IsBranch, rest_of, word_of, words_of_object};
+ghost use Rattle.cap_trace.specs.Branches.{IsBranch, words_of_object};
 ghost use Rattle.cap_trace.specs.Traces.{GoesBelow, OptionBranch};
 ghost use Rattle.cap_vet.specs.Levels.{levels_of};
 ghost use Rattle.cap_vet.specs.Looking.{object_children};
-ghost use Rattle.std.specs.Prelude.{◌+◌, ◌<◌, ◌^◌, ◌≡◌, ◌≤◌, ◌∷◌, List, length, ℕ};
+ghost use Rattle.std.specs.Prelude.{◌+◌, ◌<◌, ◌^◌, ◌≡◌, ◌≤◌, List, length, ℕ};
 
 use crate::branch::{Branch, Form};
 use cap_frame::Segments;
-use cap_ptr::{Followed, Row, Shape, Target, follow, kind, near_row};
+use cap_ptr::{Followed, Shape, Target, follow};
 
 /// Where a way goes on after a pointer word.
 pub(crate) enum Below {
@@ -23,69 +22,8 @@ pub(crate) enum Below {
 }
 
 /// Where a way goes on after this pointer word.
-// Most words are null, or describe their objects alone.
 #[inline(always)]
 pub(crate) fn look_below<M: Segments>(message: &M, depth: u32, from: &Branch) -> Below
-    requires shallow { depth ≤ 256 }
-    requires branch { (n : ℕ) × IsBranch (M.segments message.now) depth n from.now }
-    ensures { GoesBelow (M.segments message.now) depth from.now result }
-{
-    let word = message.word(from.segment, from.at);
-    if word == 0 {
-        return Below::Object(None);
-    }
-    match near_row(word, from.at, message.len(from.segment)) {
-        Some(row) => below_row(word, &row, depth, from),
-        None => look_far(message, depth, from),
-    }
-}
-
-// The same of a word that describes its object, which has these words.
-#[inline(always)]
-fn below_row(word: u64, row: &Row, depth: u32, from: &Branch) -> Below
-    requires found { (m : List (List ℕ))
-        × FindsRow m from.now.segment from.now.at word row.now }
-    requires level { from.now.level ≤ 257 }
-    ensures { (m : List (List ℕ)) → FindsRow m from.now.segment from.now.at word row.now →
-        GoesBelow m depth from.now result }
-{
-    if from.level > depth {
-        return Below::Blocked;
-    }
-    if row.pointer_count == 0 {
-        return Below::Object(None);
-    }
-    Below::Object(Some(branch_of_row(word, row, from)))
-}
-
-// The first pointer word of such an object.
-#[inline(always)]
-fn branch_of_row(word: u64, row: &Row, from: &Branch) -> Branch
-    requires found { (m : List (List ℕ))
-        × FindsRow m from.now.segment from.now.at word row.now }
-    requires some { 0 < row.now.pointer_count }
-    requires level { from.now.level ≤ 257 }
-    ensures words { (m : List (List ℕ)) → FindsRow m from.now.segment from.now.at word row.now →
-        (base : List Step) → word_of base result ∷ rest_of base result
-        ≡ object_children base word 0 from.now.segment row.now.start from.now.level }
-    ensures branch { (m : List (List ℕ)) (depth n : ℕ) →
-        FindsRow m from.now.segment from.now.at word row.now → n + 1 ≤ from.now.level →
-        from.now.level ≤ depth → IsBranch m depth (n + 1) result }
-{
-    let (segment, at, level) = (from.segment, row.pointers_start, from.level + 1);
-    let left = row.pointer_count - 1;
-    if kind(word) == 0 {
-        return Branch::first(Form::Struct, segment, at, left as u16, 0, level);
-    }
-    Branch {
-        pointers: 1,
-        ..Branch::first(Form::Pointers, segment, at, 0, left, level)
-    }
-}
-
-// The same of any word.
-#[inline(never)]
-fn look_far<M: Segments>(message: &M, depth: u32, from: &Branch) -> Below
     requires shallow { depth ≤ 256 }
     requires branch { (n : ℕ) × IsBranch (M.segments message.now) depth n from.now }
     ensures { GoesBelow (M.segments message.now) depth from.now result }

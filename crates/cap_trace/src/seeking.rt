@@ -3,14 +3,17 @@
 ghost use Rattle.cap_spec.specs.Messages.{IsMessage};
 ghost use Rattle.cap_trace.specs.Branches.{AreBranches, path_of, rest_from};
 ghost use Rattle.cap_trace.specs.Seeking.{IsSought, Passes};
-ghost use Rattle.cap_trace.specs.Traces.{HasCome, word_ahead};
+ghost use Rattle.cap_trace.specs.Traces.{GoesBelow, HasCome, word_ahead};
+ghost use Rattle.cap_trace.specs.declared.below.Below.TheVariants.{Object};
 ghost use Rattle.cap_trace.specs.declared.branch.Branch.{Branch};
-ghost use Rattle.std.specs.Prelude.{◌+◌, ◌++◌, ◌≡◌, ◌≤◌, [], ◌∷◌, IsFalse, IsTrue, List, ℕ};
+ghost use Rattle.std.specs.Prelude.{◌+◌, ◌++◌, ◌≡◌, ◌≤◌, [], ◌∷◌, IsFalse, IsTrue, List, None, Some, ℕ};
 
 use crate::below::{Below, look_below};
 use crate::branch::{Branch, Form};
+use crate::row::branch_of_row;
 use arrayvec::ArrayVec;
 use cap_frame::Segments;
+use cap_ptr::near_row;
 
 /// The branches on the way down to a pointer word, the first one at the root. 257 are enough for the
 /// greatest depth.
@@ -85,6 +88,9 @@ fn pass_nulls<M: Segments>(message: &M, most: u64, last: &mut Branch) -> u64
     ensures passed { let m = M.segments message.now in (depth n : ℕ) (others : List Branch) →
         HasCome m depth n others last.old → HasCome m depth (n + result) others last.new }
 {
+    if message.word(last.segment, last.at) != 0 {
+        return 0;
+    }
     let mut count = 0;
     match last.form {
         Form::Pointers => {
@@ -109,7 +115,7 @@ fn pass_nulls<M: Segments>(message: &M, most: u64, last: &mut Branch) -> u64
     count
 }
 
-// Goes on to the next pointer word in preorder.
+// Goes on to the next pointer word in preorder. Most words are null, or describe their objects alone.
 #[inline(always)]
 fn pass<M: Segments, const N: usize>(
     message: &M,
@@ -123,23 +129,72 @@ fn pass<M: Segments, const N: usize>(
         HasCome m depth n others.old.items last.old →
         Passes m depth n N others.old.items last.old others.new.items last.new result }
 {
+    let word = message.word(last.segment, last.at);
+    if word == 0 {
+        return leave(others, last);
+    }
+    let Some(row) = near_row(word, last.at, message.len(last.segment)) else {
+        return pass_far(message, depth, others, last);
+    };
+    if last.level > depth {
+        return Passed::Ended;
+    }
+    if row.pointer_count == 0 {
+        return leave(others, last);
+    }
+    let branch = branch_of_row(word, &row, last);
+    enter(others, last, branch)
+}
+
+// The same of any word.
+#[inline(never)]
+fn pass_far<M: Segments, const N: usize>(
+    message: &M,
+    depth: u32,
+    others: &mut Way<N>,
+    last: &mut Branch,
+) -> Passed
+    requires shallow { depth ≤ 256 }
+    requires come { (n : ℕ) × HasCome (M.segments message.now) depth n others.old.items last.old }
+    ensures { let m = M.segments message.now in (n : ℕ) →
+        HasCome m depth n others.old.items last.old →
+        Passes m depth n N others.old.items last.old others.new.items last.new result }
+{
     match look_below(message, depth, last) {
-        Below::Object(Some(branch)) => {
-            if others.is_full() {
-                return Passed::Full;
-            }
-            others.push(*last);
-            *last = branch;
-            Passed::On
-        }
-        Below::Object(None) => {
-            if go_on(others, last) {
-                return Passed::On;
-            }
-            Passed::Ended
-        }
+        Below::Object(Some(branch)) => enter(others, last, branch),
+        Below::Object(None) => leave(others, last),
         Below::Blocked => Passed::Ended,
     }
+}
+
+// Goes on to the first pointer word of the object that the last one leads to.
+#[inline(always)]
+fn enter<const N: usize>(others: &mut Way<N>, last: &mut Branch, branch: Branch) -> Passed
+    ensures { (m : List (List ℕ)) (depth n : ℕ) → HasCome m depth n others.old.items last.old →
+        GoesBelow m depth last.old (Object (Some branch)) →
+        Passes m depth n N others.old.items last.old others.new.items last.new result }
+{
+    if others.is_full() {
+        return Passed::Full;
+    }
+    others.push(*last);
+    *last = branch;
+    Passed::On
+}
+
+// Goes on from a word with no pointer words below it.
+#[inline(always)]
+fn leave<const N: usize>(others: &mut Way<N>, last: &mut Branch) -> Passed
+    requires { (m : List (List ℕ)) × (depth n : ℕ) × IsMessage m
+        × HasCome m depth n others.old.items last.old }
+    ensures { (m : List (List ℕ)) (depth n : ℕ) → HasCome m depth n others.old.items last.old →
+        GoesBelow m depth last.old (Object None) →
+        Passes m depth n N others.old.items last.old others.new.items last.new result }
+{
+    if go_on(others, last) {
+        return Passed::On;
+    }
+    Passed::Ended
 }
 
 // Goes on to the next pointer word that comes after the last one and is not below it. `false` if

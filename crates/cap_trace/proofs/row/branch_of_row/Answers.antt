@@ -2,7 +2,7 @@ use Rattle.std.proofs.Common.{◌-◌, ◌≡◌, suc, arith}
 use Rattle.cap_spec.specs.Pointers.{list_size}
 use Rattle.cap_spec.proofs.Trees.Charges.{extent_pointers}
 use Rattle.cap_trace.proofs.RowBranches.{list_count, row_list_words}
-use Rattle.cap_trace.proofs.below.branch_of_row.Goals as goal
+use Rattle.cap_trace.proofs.row.branch_of_row.Goals as goal
 
 pub returns-clause-words : goal.returns-clause-words
 returns-clause-words c = λ m f base.
