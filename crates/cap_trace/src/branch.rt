@@ -5,7 +5,7 @@ ghost use Rattle.cap_spec.specs.declared.Step.{Step};
 ghost use Rattle.cap_trace.specs.Branches.{IsBranch, first_branch, rest_of, root_branch, steps_of, word_of};
 ghost use Rattle.cap_trace.specs.declared.branch.Form.TheVariants.{Pointers};
 ghost use Rattle.std.specs.Option.{option_to_list};
-ghost use Rattle.std.specs.Prelude.{◌++◌, ◌<◌, ◌≡◌, [], ◌∷◌, IsFalse, IsTrue, List, ℕ};
+ghost use Rattle.std.specs.Prelude.{◌+◌, ◌++◌, ◌<◌, ◌≡◌, [], ◌∷◌, IsFalse, IsTrue, List, ℕ};
 
 use cap_spec::Step;
 
@@ -129,6 +129,7 @@ impl Branch {
         ensures branch { (m : List (List ℕ)) (depth n : ℕ) →
             IsBranch m depth n self.old → IsBranch m depth n self.new }
         ensures form { self.new.form ≡ Pointers }
+        ensures more { self.new.more + 1 ≡ self.old.more }
     {
         self.at += 1;
         self.element += 1;

@@ -94,10 +94,8 @@ fn pass_nulls<M: Segments>(message: &M, most: u64, last: &mut Branch) -> u64
     let mut count = 0;
     match last.form {
         Form::Pointers => {
-            'elements: while count < most
-                && last.more > 0
-                && message.word(last.segment, last.at) == 0
-            {
+            let most = most.min(u64::from(last.more));
+            'elements: while count < most && message.word(last.segment, last.at) == 0 {
                 last.next_pointer();
                 count += 1;
             }

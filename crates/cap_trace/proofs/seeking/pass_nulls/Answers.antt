@@ -13,13 +13,13 @@ word-requires-clause-inside g c =
     let (depth, n, others, h) = c.requires in
     let b = (branches_without _ depth 0 others _ h.branches).1 in omega (arith, b.inside)
 
-pub word-requires-then-last-gt0-clause-exists : goal.word-requires-then-last-gt0-clause-exists
-word-requires-then-last-gt0-clause-exists g c =
+pub word-requires-in-elements-clause-exists : goal.word-requires-in-elements-clause-exists
+word-requires-in-elements-clause-exists g c =
     let (depth, n, others, h) = c.requires in
     (branches_without _ depth 0 others _ (c.elements.invariant.passed depth n others h).branches).1.exists
 
-pub word-requires-then-last-gt0-clause-inside : goal.word-requires-then-last-gt0-clause-inside
-word-requires-then-last-gt0-clause-inside g c =
+pub word-requires-in-elements-clause-inside : goal.word-requires-in-elements-clause-inside
+word-requires-in-elements-clause-inside g c =
     let (depth, n, others, h) = c.requires in
     let b = (branches_without _ depth 0 others _ (c.elements.invariant.passed depth n others h).branches).1 in
     omega (arith, b.inside)
@@ -38,12 +38,13 @@ pub elements-preserved : goal.elements-preserved
 elements-preserved g c = record {
   few = omega arith;
   form = c.next_pointer.ensures.form;
+  more = omega (arith, c.elements.invariant.more, c.next_pointer.ensures.more);
   passed = λ depth n others h.
       let m = g.M.Segments.segments c.args.message.now in
       let e : n + c.elements.count + 1 ≡ n + (c.elements.count + 1) = omega arith in
       subst (λ (u : ℕ). HasCome m depth u others c.next_pointer.new.self) e
       (came_over_null m depth _ others c.elements.last c.next_pointer.new.self (c.elements.invariant.passed depth n others h)
-      (rw c.if-word-eq0.true at c.word-then-last-gt0.ensures) c.next_pointer.ensures.next
+      (rw c.if-word-eq0.true at c.word-in-elements.ensures) c.next_pointer.ensures.next
       (λ i b. c.next_pointer.ensures.branch m depth i b));
 }
 

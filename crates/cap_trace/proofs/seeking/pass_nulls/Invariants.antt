@@ -8,6 +8,7 @@ abbrev pub invariant-elements : goal.invariant-elements
 invariant-elements g l = record {
   few : l.count ≤ l.most;
   form : l.last.form ≡ Pointers;
+  more : l.most ≤ l.count + l.last.more;
   passed : (depth n : ℕ) (others : List Branch) → HasCome (g.M.Segments.segments l.message) depth n others l.fn.last
       → HasCome (g.M.Segments.segments l.message) depth (n + l.count) others l.last;
 }
