@@ -161,6 +161,38 @@ branch_element m depth n form s b i left e (suc more) ds ps level none some shor
       low = h.low;
     }
 
+-- In a list of pointers the next word is the next element.
+pub next_of_list : (form : Form) (s b i left e more ds ps level : ℕ) → form ≡ Pointers → 0 < more → (base : List Step)
+    → rest_of base (branch form s b i left e more ds ps level)
+    ≡ word_of base (branch form s (b + 1) i left (e + 1) (more - 1) ds ps level)
+    ∷ rest_of base (branch form s (b + 1) i left (e + 1) (more - 1) ds ps level)
+next_of_list Root s b i left e more ds ps level is some base = absurd (cc)
+next_of_list Struct s b i left e more ds ps level is some base = absurd (cc)
+next_of_list Pointers s b i left e zero ds ps level is some base = absurd (omega arith)
+next_of_list Pointers s b i left e (suc more) ds ps level is some base =
+    let f : suc more - 1 ≡ more = omega arith in rw f refl
+next_of_list Structs s b i left e more ds ps level is some base = absurd (cc)
+
+pub branch_of_list : (m : List (List ℕ)) (depth n : ℕ) (form : Form) (s b i left e more ds ps level : ℕ) → form ≡ Pointers
+    → 0 < more → IsBranch m depth n (branch form s b i left e more ds ps level)
+    → IsBranch m depth n (branch form s (b + 1) i left (e + 1) (more - 1) ds ps level)
+branch_of_list m depth n Root s b i left e more ds ps level is some h = absurd (cc)
+branch_of_list m depth n Struct s b i left e more ds ps level is some h = absurd (cc)
+branch_of_list m depth n Pointers s b i left e zero ds ps level is some h = absurd (omega arith)
+branch_of_list m depth n Pointers s b i left e (suc more) ds ps level is some h =
+    let f : suc more - 1 ≡ more = omega arith in
+    let each : ds + ps ≡ 1 = omega (arith, h.formed.1, h.formed.2) in
+    record {
+      exists = h.exists;
+      inside = rw f (let g : b + 1 + left + suc more * (ds + ps) ≤ length (segment_of m s) = h.inside in omega (arith, g, each));
+      formed = h.formed;
+      few = h.few;
+      elements = let g : e + suc more < 2 ^ 32 = h.elements in omega (arith, g);
+      high = h.high;
+      low = h.low;
+    }
+branch_of_list m depth n Structs s b i left e more ds ps level is some h = absurd (cc)
+
 -- The last branch goes on to the next word of its object.
 pub went_next : (fs : List Branch) (f g : Branch) → rest_of (path_of fs) f ≡ word_of (path_of fs) g ∷ rest_of (path_of fs) g
     → rest_from [] (fs ++ f ∷ []) ≡ word_ahead (path_of (fs ++ g ∷ [])) g ∷ rest_from [] (fs ++ g ∷ [])

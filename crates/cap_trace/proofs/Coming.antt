@@ -1,5 +1,5 @@
 -- A search comes to the pointer words of a message one after the other.
-use Rattle.std.proofs.Common.{sym, ◌⊎◌, ℕ, ◌≡◌, ◌+◌, ◌<◌, ◌≤◌, inl, inr, List, [], ◌∷◌, ◌++◌, length, refl, subst, arith, length-append}
+use Rattle.std.proofs.Common.{sym, ◌⊎◌, ℕ, ◌≡◌, ◌∙◌, ◌+◌, ◌<◌, ◌≤◌, ap, inl, inr, List, [], ◌∷◌, ◌++◌, length, refl, subst, arith, length-append, Some}
 use Rattle.cap_spec.specs.Messages.{segment_of}
 use Rattle.cap_spec.specs.Paths.{Before, Goes, IsOneOf, IsTour, Reaches, Spot, Walks, element, level_of, word}
 use Rattle.cap_spec.specs.declared.Step.{Step}
@@ -11,7 +11,7 @@ use Rattle.cap_trace.specs.Branches.{AreBranches, path_of, rest_from, root_branc
 use Rattle.cap_trace.specs.PointerNumbers.{IsNumbered, IsTraceable, PassesAt}
 use Rattle.cap_spec.proofs.Paths.Walks.{one_reached}
 use Rattle.cap_spec.proofs.Verdicts.OneFault.{one_of_last}
-use Rattle.cap_trace.specs.Traces.{HasCome, IsBlockedAt, word_ahead}
+use Rattle.cap_trace.specs.Traces.{HasCome, IsBlockedAt, TellsPath, filled, word_ahead}
 use Rattle.cap_trace.specs.declared.branch.Branch.{Branch}
 use Rattle.cap_trace.proofs.Branches.{branches_without}
 use Rattle.cap_trace.proofs.Numbering.{number_order}
@@ -149,3 +149,25 @@ few_steps m depth n fs f h =
     let r = h.trail.ahead_reached.0 in
     let k = (branches_without m depth 0 fs f h.branches).1 in
     omega (arith, r.4, walk_steps m (word 0 0) (path_of (fs ++ f ∷ [])) r.1 (word f.segment f.at) r.3, k.low)
+
+-- Its path is what is written, and has few steps.
+pub found_told : (m : List (List ℕ)) (depth n : ℕ) (fs : List Branch) (f : Branch) (others : List Branch) (count : ℕ)
+    (old new : List Step) → HasCome m depth n fs f → others ≡ fs → count ≡ length (path_of (others ++ f ∷ []))
+    → new ≡ filled (path_of (others ++ f ∷ [])) old → TellsPath m depth n old (Some count) new × (count ≤ depth)
+found_told m depth n fs f others count old new h e many written =
+    let same = ap (λ (u : List Branch). path_of (u ++ f ∷ [])) e in
+    let long = ap (λ (u : List Step). length u) same in (
+      (
+        path_of (fs ++ f ∷ []),
+        traceable_here m depth n fs f h,
+        many ∙ long,
+        written ∙ ap (λ (u : List Step). filled u old) same,
+      ),
+      omega (arith, many, long, few_steps m depth n fs f h),
+    )
+
+-- The branches have more space than the greatest depth needs.
+pub never_full : (m : List (List ℕ)) (depth n : ℕ) (fs : List Branch) (f : Branch) → depth ≤ 256 → HasCome m depth n fs f
+    → length fs ≡ 257 → ⊥
+never_full m depth n fs f shallow h full =
+    let k = (branches_without m depth 0 fs f h.branches).1 in omega (arith, k.high, k.low, shallow, full)

@@ -1,5 +1,5 @@
 -- Steps are written one after the other, as far as there is capacity.
-use Rattle.std.proofs.Common.{ℕ, zero, suc, ◌≡◌, ◌+◌, ◌<◌, ◌≤◌, List, [], ◌∷◌, ◌++◌, length, take, set, get_or, refl, sym, ap, ◌∙◌, arith, append_assoc, Option, None, Some}
+use Rattle.std.proofs.Common.{ℕ, zero, suc, ◌≡◌, ◌+◌, ◌<◌, ◌≤◌, List, [], ◌∷◌, ◌++◌, length, take, set, get_or, length-append, refl, ap, sym, ◌∙◌, arith, Option, None, Some}
 use Rattle.std.specs.Option.{option_to_list}
 use Rattle.std.proofs.lemmas.List.{take_more}
 use Rattle.cap_spec.specs.declared.Step.{Step}
@@ -29,11 +29,9 @@ fill_past (p ∷ path) [] x h = refl
 fill_past (p ∷ path) (o ∷ old) x h = ap (λ (u : List Step). p ∷ u) (fill_past path old x (omega arith))
 
 -- the path over one branch more
-pub path_more : (branches : List Branch) (i : ℕ) (d : Branch) (e p : List Step) → i < length branches
-    → e ++ p ≡ steps_of (get_or branches i d) → path_of (take (i + 1) branches) ≡ (path_of (take i branches) ++ e) ++ p
-path_more branches i d e p h k =
-    ap path_of (take_more branches i d h) ∙ path_from-last [] (take i branches) (get_or branches i d)
-    ∙ ap (λ (u : List Step). path_of (take i branches) ++ u) (sym k) ∙ sym (append_assoc (path_of (take i branches)) e p)
+path_more : (branches : List Branch) (i : ℕ) (d : Branch) → i < length branches
+    → path_of (take (i + 1) branches) ≡ path_of (take i branches) ++ steps_of (get_or branches i d)
+path_more branches i d h = ap path_of (take_more branches i d h) ∙ path_from-last [] (take i branches) (get_or branches i d)
 
 -- an option has at most one step
 pub few_steps : (step : Option Step) → length (option_to_list step) ≤ 1
@@ -45,3 +43,13 @@ pub take_filled : (path old : List Step) → length path ≤ length old → take
 take_filled [] old h = refl
 take_filled (p ∷ path) [] h = absurd (omega arith)
 take_filled (p ∷ path) (o ∷ old) h = ap (λ (u : List Step). p ∷ u) (take_filled path old (omega arith))
+
+-- the path over one branch more, written
+pub written_more : (branches : List Branch) (i : ℕ) (d : Branch) (old steps : List Step) (count next : ℕ) → i < length branches
+    → count ≡ length (path_of (take i branches)) → next ≡ count + length (steps_of (get_or branches i d))
+    → steps ≡ filled (path_of (take i branches) ++ steps_of (get_or branches i d)) old
+    → (next ≡ length (path_of (take (i + 1) branches))) × (steps ≡ filled (path_of (take (i + 1) branches)) old)
+written_more branches i d old steps count next h many place written =
+    let more = path_more branches i d h in
+    let long = ap (λ (u : List Step). length u) more ∙ length-append (path_of (take i branches)) (steps_of (get_or branches i d)) in
+    (omega (arith, many, place, long), written ∙ sym (ap (λ (u : List Step). filled u old) more))

@@ -1,4 +1,5 @@
 pub mod PointerNumbers
 pub mod Branches
 pub mod NamedPaths
+pub mod Seeking
 pub mod Traces

@@ -1,6 +1,6 @@
 //! What a pointer word leads to, as the object that the way goes on through.
 
-ghost use Rattle.cap_ptr.specs.Shapes.{FindsTargetBy};
+ghost use Rattle.cap_ptr.specs.Shapes.{FindsTarget, FindsTargetBy};
 ghost use Rattle.cap_spec.specs.Messages.{IsMessage, segment_of};
 ghost use Rattle.cap_spec.specs.declared.Step.{Step};
 ghost use Rattle.cap_trace.specs.Branches.{IsBranch, words_of_object};
@@ -29,16 +29,26 @@ pub(crate) fn look_below<M: Segments>(message: &M, depth: u32, from: &Branch) ->
     ensures { GoesBelow (M.segments message.now) depth from.now result }
 {
     match follow(message, from.segment, from.at) {
-        Ok(Followed::Target(target)) => {
-            if from.level + levels_taken(&target.shape) > depth {
-                return Below::Blocked;
-            }
-            Below::Object(branch_of(&target, from.level))
-        }
+        Ok(Followed::Target(target)) => below_target(&target, depth, from),
         Ok(Followed::Null { .. }) => Below::Object(None),
         Ok(Followed::Cap { .. }) => Below::Object(None),
         Err(_) => Below::Blocked,
     }
+}
+
+// The same of a word that leads to this target.
+#[inline(always)]
+fn below_target(target: &Target, depth: u32, from: &Branch) -> Below
+    requires found { (m : List (List ℕ)) × IsMessage m
+        × FindsTarget m from.now.segment from.now.at target.now }
+    requires level { from.now.level ≤ 257 }
+    ensures { (m : List (List ℕ)) → FindsTarget m from.now.segment from.now.at target.now →
+        GoesBelow m depth from.now result }
+{
+    if from.level + levels_taken(&target.shape) > depth {
+        return Below::Blocked;
+    }
+    Below::Object(branch_of(target, from.level))
 }
 
 // How many levels an object takes below its own.

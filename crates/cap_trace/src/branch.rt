@@ -3,8 +3,9 @@
 ghost use Rattle.cap_spec.specs.Messages.{IsMessage};
 ghost use Rattle.cap_spec.specs.declared.Step.{Step};
 ghost use Rattle.cap_trace.specs.Branches.{IsBranch, first_branch, rest_of, root_branch, steps_of, word_of};
+ghost use Rattle.cap_trace.specs.declared.branch.Form.TheVariants.{Pointers};
 ghost use Rattle.std.specs.Option.{option_to_list};
-ghost use Rattle.std.specs.Prelude.{◌++◌, ◌≡◌, [], ◌∷◌, IsFalse, IsTrue, List, ℕ};
+ghost use Rattle.std.specs.Prelude.{◌+◌, ◌++◌, ◌<◌, ◌≡◌, [], ◌∷◌, IsFalse, IsTrue, List, ℕ};
 
 use cap_spec::Step;
 
@@ -95,6 +96,7 @@ impl Branch {
         ensures next { IsTrue result → (base : List Step) →
             rest_of base self.old ≡ word_of base self.new ∷ rest_of base self.new }
         ensures last { IsFalse result → (base : List Step) → rest_of base self.old ≡ [] }
+        ensures kept { IsFalse result → self.new ≡ self.old }
         ensures branch { IsTrue result → (m : List (List ℕ)) (depth n : ℕ) →
             IsBranch m depth n self.old → IsBranch m depth n self.new }
     {
@@ -113,6 +115,25 @@ impl Branch {
             return true;
         }
         false
+    }
+
+    /// Goes on to the next pointer of a list of pointers, as [`Branch::advance`] does.
+    #[inline(always)]
+    pub(crate) fn next_pointer(&mut self)
+        requires form { self.old.form ≡ Pointers }
+        requires some { 0 < self.old.more }
+        requires branch { (m : List (List ℕ)) × (depth n : ℕ) × IsMessage m
+            × IsBranch m depth n self.old }
+        ensures next { (base : List Step) →
+            rest_of base self.old ≡ word_of base self.new ∷ rest_of base self.new }
+        ensures branch { (m : List (List ℕ)) (depth n : ℕ) →
+            IsBranch m depth n self.old → IsBranch m depth n self.new }
+        ensures form { self.new.form ≡ Pointers }
+        ensures more { self.new.more + 1 ≡ self.old.more }
+    {
+        self.at += 1;
+        self.element += 1;
+        self.more -= 1;
     }
 
     /// The steps from the object to the word: that to an element, and that to a pointer.

@@ -2,74 +2,203 @@
 
 ghost use Rattle.cap_spec.specs.Messages.{IsMessage};
 ghost use Rattle.cap_trace.specs.Branches.{AreBranches, path_of, rest_from};
-ghost use Rattle.cap_trace.specs.Traces.{HasCome, IsMissing, word_ahead};
-ghost use Rattle.std.specs.Prelude.{◌+◌, ◌++◌, ◌<◌, ◌≡◌, ◌≤◌, [], ◌∷◌, IsFalse, IsTrue, List, ℕ};
+ghost use Rattle.cap_trace.specs.Seeking.{IsSought, Passes};
+ghost use Rattle.cap_trace.specs.Traces.{GoesBelow, HasCome, word_ahead};
+ghost use Rattle.cap_trace.specs.declared.below.Below.TheVariants.{Object};
+ghost use Rattle.cap_trace.specs.declared.branch.Branch.{Branch};
+ghost use Rattle.std.specs.Prelude.{◌+◌, ◌++◌, ◌≡◌, ◌≤◌, [], ◌∷◌, IsFalse, IsTrue, List, None, Some, ℕ};
 
 use crate::below::{Below, look_below};
-use crate::branch::Branch;
+use crate::branch::{Branch, Form};
+use crate::row::branch_of_row;
 use arrayvec::ArrayVec;
 use cap_frame::Segments;
+use cap_ptr::near_row;
 
 /// The branches on the way down to a pointer word, the first one at the root. 257 are enough for the
 /// greatest depth.
-pub(crate) type Way = ArrayVec<Branch, 257>;
+pub(crate) type Way<const N: usize> = ArrayVec<Branch, N>;
 
-/// Looks at the pointer words of a message in preorder, up to that of this number. `last` is then
-/// that word, and `others` are the branches before it on the way down. `false` if there is no such
-/// word, or if a pointer before it can't be followed or leads past the depth limit.
-pub(crate) fn seek<M: Segments>(
-    message: &M,
-    depth: u32,
-    number: u64,
-    others: &mut Way,
-    last: &mut Branch,
-) -> bool
-    requires shallow { depth ≤ 256 }
-    requires empty { others.old.items ≡ [] }
-    ensures found { let m = M.segments message.now in
-        IsTrue result → HasCome m depth number others.new.items last.new }
-    ensures missing { let m = M.segments message.now in
-        IsFalse result → IsMissing m depth number }
-{
-    if number == 0 || message.len(0) == 0 {
-        return false;
-    }
-    *last = Branch::root();
-    'words: for at in 1..number {
-        if !pass(message, depth, others, last) {
-            return false;
-        }
-    }
-    true
+/// What a search has come to.
+#[derive(Clone, Copy, Drop)]
+pub(crate) enum Sought {
+    /// The pointer word.
+    Found,
+    /// There is no such word, or a pointer before it can't be followed or leads past the depth limit.
+    Missing,
+    /// The pointer word of this number, where the branches are full.
+    Full(u64),
 }
 
-// Goes on to the next pointer word in preorder. `false` if there is none, or if the pointer at the
-// last one can't be followed or leads past the depth limit.
+/// What comes of passing a pointer word.
+#[derive(Clone, Copy, Drop)]
+enum Passed {
+    /// The search is at the next one.
+    On,
+    /// There is no way on.
+    Ended,
+    /// The branches are full, and nothing has changed.
+    Full,
+}
+
+/// Looks at the pointer words of a message in preorder, from number `first` up to that of `number`.
+/// `last` is the word that the search has come to, and `others` are the branches before it on the way
+/// down.
 #[inline(always)]
-fn pass<M: Segments>(message: &M, depth: u32, others: &mut Way, last: &mut Branch) -> bool
+pub(crate) fn seek<M: Segments, const N: usize>(
+    message: &M,
+    depth: u32,
+    first: u64,
+    number: u64,
+    others: &mut Way<N>,
+    last: &mut Branch,
+) -> Sought
     requires shallow { depth ≤ 256 }
-    requires at { (n : ℕ) × HasCome (M.segments message.now) depth n others.old.items last.old }
-    ensures next { let m = M.segments message.now in IsTrue result → (n : ℕ) →
+    requires before { first ≤ number }
+    requires come { HasCome (M.segments message.now) depth first others.old.items last.old }
+    ensures { IsSought (M.segments message.now) depth number N others.new.items last.new result }
+{
+    // Nothing outside of the loop has this, so it stays in registers.
+    let mut here = *last;
+    let mut at = first;
+    'words: loop {
+        at += pass_nulls(message, number - at, &mut here);
+        if at == number {
+            *last = here;
+            return Sought::Found;
+        }
+        match pass(message, depth, others, &mut here) {
+            Passed::On => at += 1,
+            Passed::Ended => return Sought::Missing,
+            Passed::Full => {
+                *last = here;
+                return Sought::Full(at);
+            }
+        }
+    }
+}
+
+// Goes on over null words while others of the same object follow, and over at most as many as `most`.
+// Gives how many. In many lists of pointers nearly every word is null.
+#[inline(always)]
+fn pass_nulls<M: Segments>(message: &M, most: u64, last: &mut Branch) -> u64
+    requires { (depth n : ℕ) × (others : List Branch)
+        × HasCome (M.segments message.now) depth n others last.old }
+    ensures few { result ≤ most }
+    ensures passed { let m = M.segments message.now in (depth n : ℕ) (others : List Branch) →
+        HasCome m depth n others last.old → HasCome m depth (n + result) others last.new }
+{
+    if message.word(last.segment, last.at) != 0 {
+        return 0;
+    }
+    let mut count = 0;
+    match last.form {
+        Form::Pointers => {
+            let most = most.min(u64::from(last.more));
+            'elements: while count < most && message.word(last.segment, last.at) == 0 {
+                last.next_pointer();
+                count += 1;
+            }
+        }
+        _ => {
+            'nulls: while count < most && message.word(last.segment, last.at) == 0 {
+                if last.advance() {
+                    count += 1;
+                } else {
+                    return count;
+                }
+            }
+        }
+    }
+    count
+}
+
+// Goes on to the next pointer word in preorder. Most words are null, or describe their objects alone.
+#[inline(always)]
+fn pass<M: Segments, const N: usize>(
+    message: &M,
+    depth: u32,
+    others: &mut Way<N>,
+    last: &mut Branch,
+) -> Passed
+    requires shallow { depth ≤ 256 }
+    requires come { (n : ℕ) × HasCome (M.segments message.now) depth n others.old.items last.old }
+    ensures { let m = M.segments message.now in (n : ℕ) →
         HasCome m depth n others.old.items last.old →
-        HasCome m depth (n + 1) others.new.items last.new }
-    ensures none { let m = M.segments message.now in IsFalse result → (n more : ℕ) →
-        HasCome m depth n others.old.items last.old → n < more → IsMissing m depth more }
+        Passes m depth n N others.old.items last.old others.new.items last.new result }
+{
+    let word = message.word(last.segment, last.at);
+    if word == 0 {
+        return leave(others, last);
+    }
+    let Some(row) = near_row(word, last.at, message.len(last.segment)) else {
+        return pass_far(message, depth, others, last);
+    };
+    if last.level > depth {
+        return Passed::Ended;
+    }
+    if row.pointer_count == 0 {
+        return leave(others, last);
+    }
+    let branch = branch_of_row(word, &row, last);
+    enter(others, last, branch)
+}
+
+// The same of any word.
+#[inline(never)]
+fn pass_far<M: Segments, const N: usize>(
+    message: &M,
+    depth: u32,
+    others: &mut Way<N>,
+    last: &mut Branch,
+) -> Passed
+    requires shallow { depth ≤ 256 }
+    requires come { (n : ℕ) × HasCome (M.segments message.now) depth n others.old.items last.old }
+    ensures { let m = M.segments message.now in (n : ℕ) →
+        HasCome m depth n others.old.items last.old →
+        Passes m depth n N others.old.items last.old others.new.items last.new result }
 {
     match look_below(message, depth, last) {
-        Below::Object(Some(branch)) => {
-            others.push(*last);
-            *last = branch;
-            true
-        }
-        Below::Object(None) => go_on(others, last),
-        Below::Blocked => false,
+        Below::Object(Some(branch)) => enter(others, last, branch),
+        Below::Object(None) => leave(others, last),
+        Below::Blocked => Passed::Ended,
     }
+}
+
+// Goes on to the first pointer word of the object that the last one leads to.
+#[inline(always)]
+fn enter<const N: usize>(others: &mut Way<N>, last: &mut Branch, branch: Branch) -> Passed
+    ensures { (m : List (List ℕ)) (depth n : ℕ) → HasCome m depth n others.old.items last.old →
+        GoesBelow m depth last.old (Object (Some branch)) →
+        Passes m depth n N others.old.items last.old others.new.items last.new result }
+{
+    if others.is_full() {
+        return Passed::Full;
+    }
+    others.push(*last);
+    *last = branch;
+    Passed::On
+}
+
+// Goes on from a word with no pointer words below it.
+#[inline(always)]
+fn leave<const N: usize>(others: &mut Way<N>, last: &mut Branch) -> Passed
+    requires { (m : List (List ℕ)) × (depth n : ℕ) × IsMessage m
+        × HasCome m depth n others.old.items last.old }
+    ensures { (m : List (List ℕ)) (depth n : ℕ) → HasCome m depth n others.old.items last.old →
+        GoesBelow m depth last.old (Object None) →
+        Passes m depth n N others.old.items last.old others.new.items last.new result }
+{
+    if go_on(others, last) {
+        return Passed::On;
+    }
+    Passed::Ended
 }
 
 // Goes on to the next pointer word that comes after the last one and is not below it. `false` if
 // there is none.
 #[inline(always)]
-fn go_on(others: &mut Way, last: &mut Branch) -> bool
+fn go_on<const N: usize>(others: &mut Way<N>, last: &mut Branch) -> bool
     requires { (m : List (List ℕ)) × (depth : ℕ) × IsMessage m
         × AreBranches m depth 0 (others.old.items ++ last.old ∷ []) }
     ensures next { let ways = others.new.items ++ last.new ∷ [] in

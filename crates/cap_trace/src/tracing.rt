@@ -6,15 +6,15 @@ ghost use Rattle.cap_spec.specs.Strict.{IsFirstLax, IsWithin};
 ghost use Rattle.cap_spec.specs.declared.Lax.{Lax};
 ghost use Rattle.cap_spec.specs.declared.Refusal.{Refusal};
 ghost use Rattle.cap_spec.specs.declared.Step.{Step};
-ghost use Rattle.cap_trace.specs.Branches.{path_of};
+ghost use Rattle.cap_trace.specs.Branches.{path_of, steps_of};
 ghost use Rattle.cap_trace.specs.PointerNumbers.{IsTraceable};
-ghost use Rattle.cap_trace.specs.Traces.{GivesPath, TellsPath, filled};
+ghost use Rattle.cap_trace.specs.Traces.{GivesPath, HasCome, TellsPath, filled};
 ghost use Rattle.cap_vet.specs.Limits.{depth_of};
 ghost use Rattle.std.specs.Option.{option_to_list};
-ghost use Rattle.std.specs.Prelude.{◌+◌, ◌++◌, ◌<◌, ◌≡◌, ◌≤◌, IfSome, List, length, ℕ};
+ghost use Rattle.std.specs.Prelude.{◌+◌, ◌++◌, ◌<◌, ◌≡◌, ◌≤◌, [], ◌∷◌, IfSome, List, length, ℕ};
 
 use crate::branch::Branch;
-use crate::seeking::{Way, seek};
+use crate::seeking::{Sought, Way, seek};
 use cap_frame::Segments;
 use cap_spec::Step;
 use cap_vet::Limits;
@@ -52,28 +52,83 @@ pub fn path_of_pointer<M: Segments>(
         IsWithin m words (depth_of limits) → (f : IsFirstOverlap m s w number) →
         GivesPath f.path steps.old result steps.new }
 {
-    let mut branches = Way::new();
-    let mut last = Branch::root();
-    if !seek(message, limits.depth(), number, &mut branches, &mut last) {
+    traced(message, limits.depth(), number, steps)
+}
+
+// The same by the depth limit alone.
+fn traced<M: Segments>(message: &M, depth: u32, number: u64, steps: &mut [Step]) -> Option<usize>
+    requires { depth ≤ 256 }
+    ensures tells { TellsPath (M.segments message.now) depth number steps.old result steps.new }
+    ensures few { IfSome result (λ count. count ≤ depth) }
+{
+    if number == 0 || message.len(0) == 0 {
         return None;
     }
-    branches.push(last);
-    Some(write_path(branches.as_slice(), steps))
+    // Most paths are short, and each search initializes its branches.
+    let mut others: Way<8> = Way::new();
+    let mut last = Branch::root();
+    match seek(message, depth, 1, number, &mut others, &mut last) {
+        Sought::Found => Some(write_path(others.as_slice(), &last, steps)),
+        Sought::Missing => None,
+        Sought::Full(at) => traced_deep(message, depth, at, number, &others, last, steps),
+    }
+}
+
+// Goes on from the pointer word of number `at`, where those few branches are full, with as many as the
+// deepest path can have.
+#[cold]
+#[inline(never)]
+fn traced_deep<M: Segments>(
+    message: &M,
+    depth: u32,
+    at: u64,
+    number: u64,
+    few: &Way<8>,
+    from: Branch,
+    steps: &mut [Step],
+) -> Option<usize>
+    requires shallow { depth ≤ 256 }
+    requires before { at ≤ number }
+    requires come { HasCome (M.segments message.now) depth at few.now.items from }
+    ensures tells { TellsPath (M.segments message.now) depth number steps.old result steps.new }
+    ensures few { IfSome result (λ count. count ≤ depth) }
+{
+    let mut others: Way<257> = Way::new();
+    let mut last = from;
+    if others.try_extend_from_slice(few.as_slice()).is_err() {
+        unreachable!();
+    }
+    match seek(message, depth, at, number, &mut others, &mut last) {
+        Sought::Found => Some(write_path(others.as_slice(), &last, steps)),
+        Sought::Missing => None,
+        Sought::Full(_) => unreachable!(),
+    }
 }
 
 // Writes the path over these branches as far as there is capacity, and gives how many steps it has.
-fn write_path(branches: &[Branch], steps: &mut [Step]) -> usize
-    requires { length branches.now ≤ 257 }
-    ensures count { result ≡ length (path_of branches.now) }
-    ensures steps { steps.new ≡ filled (path_of branches.now) steps.old }
+fn write_path(others: &[Branch], last: &Branch, steps: &mut [Step]) -> usize
+    requires { length others.now ≤ 257 }
+    ensures count { result ≡ length (path_of (others.now ++ last.now ∷ [])) }
+    ensures steps { steps.new ≡ filled (path_of (others.now ++ last.now ∷ [])) steps.old }
 {
     let mut count = 0;
-    'branches: for branch in branches {
-        let (element, pointer) = branch.steps();
-        count = write_step(steps, count, element);
-        count = write_step(steps, count, pointer);
+    'branches: for branch in others {
+        count = write_steps(branch, steps, count);
     }
-    count
+    write_steps(last, steps, count)
+}
+
+// Writes the steps of a branch at this place, as far as there is capacity. Gives the next place.
+fn write_steps(branch: &Branch, steps: &mut [Step], at: usize) -> usize
+    requires { at < 998 }
+    ensures place { result ≡ at + length (steps_of branch.now) }
+    ensures few { result ≤ at + 2 }
+    ensures steps { (path old : List Step) → at ≡ length path → steps.old ≡ filled path old →
+        steps.new ≡ filled (path ++ steps_of branch.now) old }
+{
+    let (element, pointer) = branch.steps();
+    let next = write_step(steps, at, element);
+    write_step(steps, next, pointer)
 }
 
 // Writes a step at this place, if there is one, and there is capacity. Gives the next place.

@@ -1,26 +1,52 @@
-use Rattle.std.proofs.Common.{◌<◌, length, arith, rules}
-use Rattle.cap_spec.specs.Messages.{segment_of}
-use Rattle.cap_trace.proofs.Coming.{at_root, has_root, some_number}
+use Rattle.std.proofs.Common.{◌+◌, ◌<◌, ◌∙◌, ap, arith, length, List, rules, subst, sym}
+use Rattle.cap_trace.specs.Seeking.{Passes}
+use Rattle.cap_trace.specs.Traces.{HasCome}
+use Rattle.cap_trace.specs.declared.branch.Branch.{Branch}
+use Rattle.cap_trace.specs.declared.seeking.Passed.{Passed}
 use Rattle.cap_trace.proofs.seeking.seek.Goals as goal
-use Rattle.cap_trace.proofs.seeking.seek.Goals.{then-number-eq0-via-then-number-eq0, then-number-eq0-via-else-number-eq0+then-len-eq0}
 
-pub returns-then-number-eq0-clause-missing : goal.returns-then-number-eq0-clause-missing
-returns-then-number-eq0-clause-missing g c = λ t path a.
+pub pass-requires : goal.pass-requires
+pass-requires g c = (
+  search rules,
+  (
+    c.requires.shallow,
+    (
+      c.words.at + c.pass_nulls-at.result,
+      c.pass_nulls-at.ensures.passed c.args.depth c.words.at c.words.others.items c.words.invariant.come,
+    ),
+  ),
+)
+
+pub words-preserved : goal.words-preserved
+words-preserved g c =
     let m = g.M.Segments.segments c.args.message.now in
-    let some : 0 < c.args.number = some_number m c.args.number path a.numbered in
-    let root : 0 < length (segment_of m 0) = has_root m c.args.number path a.numbered in
-    elim c.then-number-eq0.branch [
-      | then-number-eq0-via-then-number-eq0 w ↦ omega (arith, w.if-number-eq0.true)
-      | then-number-eq0-via-else-number-eq0+then-len-eq0 w ↦ omega (arith, w.len.ensures, w.if-len-eq0.true)
-    ]
+    let at = c.words.at + c.pass_nulls-at.result in
+    let come = c.pass_nulls-at.ensures.passed c.args.depth c.words.at c.words.others.items c.words.invariant.come in
+    let k = subst (λ (u : Passed). Passes m c.args.depth at g.row.N c.words.others.items c.pass_nulls-at.new.last c.pass.new.others.items c.pass.new.last u)
+    c.in-On.is (c.pass.ensures at come) in record {
+      before = omega (arith, c.pass_nulls-at.ensures.few, c.words.invariant.before, c.if-at-number.false);
+      come = k;
+    }
 
-pub words-init : goal.words-init
-words-init g c =
+pub returns-in-Ended : goal.returns-in-Ended
+returns-in-Ended g c = λ path a.
     let m = g.M.Segments.segments c.args.message.now in
-    let exists : 0 < length m = search rules in
-    let some : 0 < length (segment_of m 0) = omega (arith, c.len.ensures, c.if-len-eq0.false) in
-    rw (c.requires.empty, c.root.ensures) (at_root m c.args.depth exists some)
+    let at = c.words.at + c.pass_nulls-at.result in
+    let come = c.pass_nulls-at.ensures.passed c.args.depth c.words.at c.words.others.items c.words.invariant.come in
+    let k = subst (λ (u : Passed). Passes m c.args.depth at g.row.N c.words.others.items c.pass_nulls-at.new.last c.pass.new.others.items c.pass.new.last u)
+    c.in-Ended.is (c.pass.ensures at come) in
+    let less : at < c.args.number = omega (arith, c.pass_nulls-at.ensures.few, c.words.invariant.before, c.if-at-number.false) in
+    k c.args.number less path a
 
-pub returns-then-not-pass-clause-missing : goal.returns-then-not-pass-clause-missing
-returns-then-not-pass-clause-missing g c = λ t.
-    c.pass.ensures.none (search rules) c.words.at c.args.number c.words.invariant c.words-test.true
+pub returns-in-Full : goal.returns-in-Full
+returns-in-Full g c =
+    let m = g.M.Segments.segments c.args.message.now in
+    let at = c.words.at + c.pass_nulls-at.result in
+    let come = c.pass_nulls-at.ensures.passed c.args.depth c.words.at c.words.others.items c.words.invariant.come in
+    let k = subst (λ (u : Passed). Passes m c.args.depth at g.row.N c.words.others.items c.pass_nulls-at.new.last c.pass.new.others.items c.pass.new.last u)
+    c.in-Full.is (c.pass.ensures at come) in (
+      ap length k.1 ∙ k.0,
+      omega (arith, c.pass_nulls-at.ensures.few, c.words.invariant.before),
+      subst (λ (u : Branch). HasCome m c.args.depth at c.pass.new.others.items u) (sym k.2)
+          (subst (λ (u : List Branch). HasCome m c.args.depth at u c.pass_nulls-at.new.last) (sym k.1) come),
+    )

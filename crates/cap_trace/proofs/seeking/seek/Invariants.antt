@@ -1,5 +1,12 @@
+use Rattle.std.specs.Prelude.{◌-◌, ◌≤◌}
 use Rattle.cap_trace.specs.Traces.{HasCome}
 use Rattle.cap_trace.proofs.seeking.seek.Given as goal
 
 abbrev pub invariant-words : goal.invariant-words
-invariant-words g l = HasCome (g.M.Segments.segments l.message) l.depth l.at l.others.items l.last
+invariant-words g l = record {
+  before : l.at ≤ l.number;
+  come : HasCome (g.M.Segments.segments l.message) l.depth l.at l.others.items l.here;
+}
+
+abbrev pub decreases-words : goal.decreases-words
+decreases-words g l = l.number - l.at

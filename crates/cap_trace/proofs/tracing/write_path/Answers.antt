@@ -1,32 +1,36 @@
-use Rattle.std.proofs.Common.{◌≡◌, ◌∙◌, ◌+◌, ◌++◌, length, length-append, ap, sym, take, arith}
-use Rattle.std.specs.Option.{option_to_list}
-use Rattle.cap_trace.specs.Branches.{path_of}
+use Rattle.std.proofs.Common.{◌≡◌, ◌∙◌, ◌++◌, [], arith, ap, length, length-append, List, sym, take}
+use Rattle.std.proofs.lemmas.List.{take_all}
+use Rattle.cap_spec.specs.declared.Step.{Step}
+use Rattle.cap_trace.specs.Branches.{path_of, steps_of}
 use Rattle.cap_trace.specs.Traces.{filled}
-use Rattle.cap_trace.proofs.Filling.{few_steps, path_more}
+use Rattle.cap_trace.specs.declared.branch.Branch.{Branch}
+use Rattle.cap_trace.proofs.Branches.{path_from-last}
+use Rattle.cap_trace.proofs.Filling.{written_more}
 use Rattle.cap_trace.proofs.tracing.write_path.Goals as goal
 
 pub branches-preserved : goal.branches-preserved
 branches-preserved c =
     let h = c.branches.invariant in
-    let path = path_of (take c.branches.branch-index c.args.branches.now) in
-    let e = option_to_list c.steps-element.result.0 in
-    let p = option_to_list c.steps-element.result.1 in
-    let more : path_of (take (c.branches.branch-index + 1) c.args.branches.now) ≡ (path ++ e) ++ p =
-    path_more c.args.branches.now c.branches.branch-index _ e p c.branches-test.true c.steps-element.ensures in
-    let first = c.write_step-count.ensures.steps path c.args.steps.now h.count h.written in
-    let at : c.write_step-count.result ≡ length (path ++ e) =
-    omega (arith, c.write_step-count.ensures.place, h.count, length-append path e) in
-    let second = c.write_step-count-in-branches.ensures.steps (path ++ e) c.args.steps.now at first in
-    let count : c.write_step-count-in-branches.result ≡ length ((path ++ e) ++ p) =
-    omega (arith, c.write_step-count-in-branches.ensures.place, at, length-append (path ++ e) p) in record {
-      count = count ∙ sym (ap length more);
-      few = omega (
-        arith,
-        c.write_step-count.ensures.place,
-        c.write_step-count-in-branches.ensures.place,
-        h.few,
-        few_steps c.steps-element.result.0,
-        few_steps c.steps-element.result.1,
-      );
-      written = second ∙ sym (ap (λ u. filled u c.args.steps.now) more);
-    }
+    let path = path_of (take c.branches.branch-index c.args.others.now) in
+    let more = written_more c.args.others.now c.branches.branch-index _ c.args.steps.now _ _ _ c.branches-test.true h.count
+    c.write_steps-count.ensures.place (c.write_steps-count.ensures.steps path c.args.steps.now h.count h.written) in
+    record { count = more.0; few = omega (arith, c.write_steps-count.ensures.few, h.few); written = more.1 }
+
+pub returns-clause-count : goal.returns-clause-count
+returns-clause-count c =
+    let others = c.args.others.now in
+    let last = c.args.last.now in
+    let all : take c.branches.branch-index others ≡ others = take_all c.branches.branch-index others (omega (arith, c.branches-test.false)) in
+    let many = ap (λ (u : List Branch). length (path_of u)) all in
+    let long = ap (λ (u : List Step). length u) (path_from-last [] others last) ∙ length-append (path_of others) (steps_of last) in
+    omega (arith, c.write_steps.ensures.place, c.branches.invariant.count, many, long)
+
+pub returns-clause-steps : goal.returns-clause-steps
+returns-clause-steps c =
+    let others = c.args.others.now in
+    let last = c.args.last.now in
+    let all : take c.branches.branch-index others ≡ others = take_all c.branches.branch-index others (omega (arith, c.branches-test.false)) in
+    let path = path_of (take c.branches.branch-index others) in
+    c.write_steps.ensures.steps path c.args.steps.now c.branches.invariant.count c.branches.invariant.written
+    ∙ ap (λ (u : List Branch). filled (path_of u ++ steps_of last) c.args.steps.now) all
+    ∙ sym (ap (λ (u : List Step). filled u c.args.steps.now) (path_from-last [] others last))

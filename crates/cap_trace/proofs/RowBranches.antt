@@ -1,0 +1,90 @@
+-- The first pointer word of an object that its pointer word alone describes.
+use Rattle.std.proofs.Common.{ℕ, suc, ◌+◌, ◌<◌, ◌≤◌, ◌≡◌, ◌∙◌, ◌==◌, inl, inr, List, [], ◌∷◌, ◌++◌, false, None, Some, refl, sym, ap, subst, arith}
+use Rattle.std.proofs.lemmas.Bool.{ne_eqb}
+use Rattle.cap_spec.specs.Following.{IsComposite}
+use Rattle.cap_spec.specs.Messages.{HasWord}
+use Rattle.cap_spec.specs.Pointers.{code, kind, list_size, pointer_size}
+use Rattle.cap_spec.specs.Verdicts.{levels_below}
+use Rattle.cap_spec.specs.declared.Step.{Step}
+use Rattle.cap_spec.proofs.Pointers.Following.{object-not_wrong}
+use Rattle.cap_spec.proofs.Trees.Finding.{one_object}
+use Rattle.cap_ptr.specs.Rows.{FindsRow, HasPointers}
+use Rattle.cap_ptr.specs.declared.near.Row.{Row}
+use Rattle.cap_ptr.proofs.NearObjects.{pointers-plain}
+use Rattle.cap_vet.specs.Looking.{object_children}
+use Rattle.cap_vet.specs.Trails.{Ahead, IsTrail}
+use Rattle.cap_vet.proofs.OneTrail.{object_trail}
+use Rattle.cap_trace.specs.Branches.{IsBranch, rest_of, word_of}
+use Rattle.cap_trace.specs.PointerNumbers.{PassesAt}
+use Rattle.cap_trace.specs.Traces.{GoesBelow, IsBlockedAt}
+use Rattle.cap_trace.specs.declared.below.Below.TheVariants.{Object}
+use Rattle.cap_trace.specs.declared.branch.Branch.{Branch}
+use Rattle.cap_trace.specs.declared.branch.Form.TheVariants.{Pointers}
+use Rattle.cap_trace.proofs.Branches.{branch}
+
+-- such an object takes no levels below its own
+row_levels : (q n other : ℕ) → HasPointers q n → levels_below q other ≡ 0
+row_levels q n other (inl (k, e)) = rw k refl
+row_levels q n other (inr (inl (k, c, e))) = rw (k, c) refl
+row_levels q n other (inr (inr (k, some, few, e))) =
+    let seven : (code q == 7) ≡ false = ne_eqb (code q) 7 (λ h. omega (arith, h, few)) in rw (k, seven) refl
+
+-- and has no tag
+no_tag : (m : List (List ℕ)) (s w q : ℕ) (r : Row) → FindsRow m s w q r → IsComposite q → HasWord m s r.start 0
+no_tag m s w q r f h = absurd ((pointers-plain q r.pointer_count f.pointers).1 h.0 h.1)
+
+row_passes : (m : List (List ℕ)) (depth s w level q : ℕ) (r : Row) → FindsRow m s w q r → level ≤ depth
+    → PassesAt m depth s w level
+row_passes m depth s w level q r f within = (
+  object-not_wrong m _ _ _ _ _ q f.finds,
+  λ (k, t, b, p, other, g, tagged, past).
+      let same = one_object m s w 0 s r.start q k t b p f.finds g in
+      omega (arith, row_levels q r.pointer_count other f.pointers, ap (λ (u : ℕ). levels_below u other) same.shape, within, past),
+)
+
+pub row_blocked : (m : List (List ℕ)) (depth s w level q : ℕ) (r : Row) → FindsRow m s w q r → depth < level
+    → IsBlockedAt m depth s w level
+row_blocked m depth s w level q r f past =
+    inr (0, s, r.start, q, 0, f.finds, no_tag m s w q r f, omega (arith, row_levels q r.pointer_count 0 f.pointers, past))
+
+-- without pointers it has no pointer words
+no_children : (base : List Step) (q n t b level : ℕ) → HasPointers q n → n ≡ 0
+    → ◌≡◌ {A = List Ahead} (object_children base q 0 t b level) []
+no_children base q n t b level (inl (k, e)) z = let p : pointer_size q ≡ 0 = sym e ∙ z in rw (k, p) refl
+no_children base q n t b level (inr (inl (k, c, e))) z = let p : list_size q ≡ 0 = sym e ∙ z in rw (k, c, p) refl
+no_children base q n t b level (inr (inr (k, some, few, e))) z =
+    let six : (code q == 6) ≡ false = ne_eqb (code q) 6 (λ h. omega (arith, h, few)) in
+    let seven : (code q == 7) ≡ false = ne_eqb (code q) 7 (λ h. omega (arith, h, few)) in rw (k, six, seven) refl
+
+pub row_none : (m : List (List ℕ)) (depth : ℕ) (from : Branch) (q : ℕ) (r : Row) → FindsRow m from.segment from.at q r
+    → from.level ≤ depth → r.pointer_count ≡ 0 → GoesBelow m depth from (Object None)
+row_none m depth from q r f within none = (
+  row_passes m depth from.segment from.at from.level q r f within,
+  (λ n h. tt),
+  (λ seen path ahead t. subst (λ (u : List Ahead). IsTrail m (path ∷ seen) (u ++ ahead))
+      (no_children path q r.pointer_count from.segment r.start from.level f.pointers none)
+      (object_trail m seen _ ahead _ _ _ q 0 t f.finds (no_tag m from.segment from.at q r f))),
+)
+
+pub row_some : (m : List (List ℕ)) (depth : ℕ) (from : Branch) (q : ℕ) (r : Row) (b : Branch)
+    → FindsRow m from.segment from.at q r → from.level ≤ depth
+    → ((base : List Step) → word_of base b ∷ rest_of base b ≡ object_children base q 0 from.segment r.start from.level)
+    → ((n : ℕ) → n + 1 ≤ from.level → IsBranch m depth (n + 1) b) → GoesBelow m depth from (Object (Some b))
+row_some m depth from q r b f within words branches = (
+  row_passes m depth from.segment from.at from.level q r f within,
+  (λ n h. branches n h.high),
+  (λ seen path ahead t. subst (λ (u : List Ahead). IsTrail m (path ∷ seen) (u ++ ahead)) (sym (words path))
+      (object_trail m seen _ ahead _ _ _ q 0 t f.finds (no_tag m from.segment from.at q r f))),
+)
+
+-- What isn't a struct and has pointers is a list of them.
+pub list_count : (q n : ℕ) → HasPointers q n → (kind q ≡ 0 → ⊥) → 0 < n → (kind q ≡ 1) × (code q ≡ 6) × (n ≡ list_size q)
+list_count q n (inl (k, e)) other some = absurd (other k)
+list_count q n (inr (inl (k, c, e))) other some = (k, c, e)
+list_count q n (inr (inr (k, s, few, e))) other some = absurd (omega (arith, e, some))
+
+-- Its words are those of the branch.
+pub row_list_words : (q t b at more level : ℕ) → kind q ≡ 1 → code q ≡ 6 → at ≡ b → list_size q ≡ suc more → (base : List Step)
+    → word_of base (branch Pointers t at 0 0 0 more 0 1 (level + 1)) ∷ rest_of base (branch Pointers t at 0 0 0 more 0 1 (level + 1))
+    ≡ object_children base q 0 t b level
+row_list_words q t b at more level k c start many base = rw (k, c, start, many) refl
