@@ -230,7 +230,7 @@ def test_refusal(page, folder):
     page.fresh()
     page.load(folder / "damaged.bin")
     compare("the reason and the path", ["OutOfSegment", "/p0/i0/p0"], page.texts("#verdict .title b, #verdict .title button"))
-    sentence = "The list of 33 bytes would take words 0:1048631 to 0:1048635, and segment 0 ends at word 391."
+    sentence = "The target runs past the end of its segment. The list of 33 bytes would take words 0:1048631 to 0:1048635, and segment 0 ends at word 391."
     compare("the sentence", [sentence], page.texts(".sentence"))
     compare("the facts", ["byte", "pointer", "content", "segment", "not looked at"], page.texts("#verdict dt"))
     compare("the crumbs", ["root", "p0", "i0", "p0"], page.texts("#crumbs > *"))

@@ -24,19 +24,20 @@ export function pathOf(steps) {
 const SENTENCES = {
   NoRoot: () => "The first segment has no words, so the message has no root pointer.",
   ManySegments: () => "The message has 512 segments, more than common readers take.",
-  Reserved: (it) => (it.found.pads ? "The word of the landing pad has a kind that the format reserves."
-    : "The pointer has a kind that the format reserves."),
-  SegmentMissing: (it) => `${it.isSecond ? "The landing pad" : "The pointer"} leads to segment ${it.missing}, and the message has ${
-    amount(it.message.sizes.length, "segment")}.`,
+  Reserved: (it) => `The low two bits of the ${
+    it.found.pads ? "landing pad" : "pointer"} are 3, but it is not a valid capability pointer; the format reserves such words.`,
+  SegmentMissing: (it) => `${it.isSecond ? "The landing pad" : "The pointer"} leads to segment ${
+    it.missing}, and the message has segments 0 to ${it.message.sizes.length - 1}.`,
   PadOutside: (it) => `The landing pad would take ${it.padRange}, and ${it.ends(it.found.padSegment)}.`,
   PadIsFar: () => "The landing pad has one word, and this word is a far pointer.",
   PadNotFar: () => "The landing pad has two words, and the first is not a far pointer to one word.",
   TagKind: () => "The second word of the landing pad is neither a struct pointer nor a list pointer.",
   TagOffset: (it) => `The second word of the landing pad has offset ${grouped(it.tag.offset)}, and it has to be 0.`,
-  OutOfSegment: (it) => `The ${it.what} would take ${it.range}, and ${
+  OutOfSegment: (it) => `The target ${it.found.start < 0 ? "begins before the start" : "runs past the end"} of its segment. The ${
+    it.what} would take ${it.range}, and ${
     it.found.start < 0 ? `segment ${it.found.segment} begins at word 0` : it.ends(it.found.segment)}.`,
-  CompositeTag: () => "The list has structs, and its first word, the tag, is not a struct pointer.",
-  CompositeOverrun: (it) => `${amount(it.found.size, "struct")} of ${amount(it.found.data + it.found.pointers, "word")} take ${
+  CompositeTag: () => "The first word of the list of structs is not a struct tag.",
+  CompositeOverrun: (it) => `${amount(it.found.size, "struct")} of ${amount(it.found.data + it.found.pointers, "word")} need ${
     amount(it.found.size * (it.found.data + it.found.pointers), "word")}, and the list has ${grouped(it.found.words - 1)}.`,
   DepthLimit: (it) => `The pointer leads to level ${it.level}, and at most ${it.limits.depth} are allowed.${
     it.circle ? " The pointers lead in a circle." : ""}`,
@@ -45,8 +46,8 @@ const SENTENCES = {
   NullPad: () => "The landing pad is a word of zeros. Common readers reject that.",
   EmptySegment: (it) => `The landing pad leads into segment ${it.found.segment}, which has no words. Common readers reject that.`,
   CapabilityPad: () => "The landing pad of one word is a capability. Common readers reject that.",
-  Overlap: (it) => (it.earlier ? `The pointer uses word ${it.earlier.place}, which ${it.earlier.path} uses too.`
-    : "The pointer uses a word twice."),
+  Overlap: (it) => `The pointer uses ${it.earlier ? `word ${it.earlier.place}, which ${it.earlier.path} uses before it in preorder`
+    : "a word twice"}; the option Exclusive forbids that.`,
 };
 
 /** What is known of a refused pointer. `way` is where the walk stopped, and `limits` are those of the call. */
@@ -162,7 +163,8 @@ function addContent(it, add) {
   if (it.hasContent) {
     const start = message.starts[found.segment] + found.start, end = found.start + found.words;
     const isInside = found.start >= 0 && end <= message.sizes[found.segment] && found.words > 0;
-    const text = found.words ? `${it.range}, ${contentText(it)}` : `at ${found.segment}:${found.start}, no words`;
+    const tag = found.kind === STRUCTS ? " with the tag" : "";
+    const text = found.words ? `${it.range}${tag}, ${contentText(it)}` : `at ${found.segment}:${found.start}, no words`;
     add("content", text, isInside ? start : null);
     if (isInside && found.kind === STRUCTS) addWord("tag", tagOfStructs(message, start), start);
   }
@@ -194,5 +196,6 @@ function tagText(tag) {
 function tagOfStructs(message, at) {
   const tag = message.decode(at);
   if (tag.form === "null") return "no structs";
-  return tag.form === "struct" ? structsText(message.halves[2 * at] >>> 2, tag.data, tag.pointers) : pointerText(tag);
+  if (tag.form !== "struct") return `not a struct tag: ${pointerText(tag)}`;
+  return structsText(message.halves[2 * at] >>> 2, tag.data, tag.pointers);
 }
