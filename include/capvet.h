@@ -660,9 +660,9 @@ capvet_answer capvet_pointer_path(const uint8_t *bytes, size_t length, const cap
  *   required         their length in bytes
  *
  * The text is the lines that the program's command `explain` writes after the line of the verdict. They give the
- * path to the pointer that capvet_vet names, its place in bytes, the pointer word with its fields, where it leads, the
- * limit that is passed, and the reason as a sentence. docs/output.md describes them. Each line begins with two
- * blanks and ends with a line feed. The text is ASCII, and has no zero byte at its end.
+ * path to the pointer that capvet_vet names, its place in bytes, the pointer word with its fields, where it leads, what
+ * is exceeded, and the reason as a sentence. docs/output.md describes them. Each line begins with two blanks and ends
+ * with a line feed. The text is ASCII, and has no zero byte at its end.
  *
  * CAPVET_OK DOES NOT MEAN THAT THE MESSAGE IS ACCEPTED: it means that a text was written. Returns CAPVET_NO_NODE if
  * the message is accepted, and the answer of capvet_vet if there is no frame or if bytes follow it. Otherwise

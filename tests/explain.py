@@ -49,14 +49,14 @@ SENTENCES = {
     "PadNotFar": "the first word of the landing pad is not a far pointer to a pad of one word",
     "TagKind": "the second word of the landing pad is neither a struct pointer nor a list pointer",
     "TagOffset": "the second word of the landing pad has an offset other than 0",
-    "CompositeTag": "the tag of the list of structs is not a struct pointer",
-    "CompositeOverrun": "the elements that the tag gives take more words than the list has",
+    "CompositeTag": "the first word of the list of structs is not a struct tag",
+    "CompositeOverrun": "the elements that the tag gives need more words than the list has",
     "WordLimit": "the charge up to this pointer and its target is more than the limit",
     "ManySegments": "the message has 512 segments, and common readers take at most 511",
     "NullPad": "the only word of the landing pad is null, which common readers reject",
     "EmptySegment": "the target is in a segment without words, which common readers reject",
     "CapabilityPad": "the only word of the landing pad is a capability, which common readers reject",
-    "Overlap": "the pointer uses a word that an earlier pointer uses too",
+    "Overlap": "the pointer uses a word twice, or one that is used before it in preorder; --exclusive forbids both",
 }
 
 
@@ -82,7 +82,7 @@ def form(word):
 
 
 def tag_form(word):
-    return f"struct, elements {bits(word, 2, 30)}{sizes(word)}" if bits(word, 0, 2) == 0 else form(word)
+    return f"struct, elements {bits(word, 2, 30)}{sizes(word)}" if bits(word, 0, 2) == 0 else f"not a struct tag: {form(word)}"
 
 
 def hexed(word):
@@ -123,13 +123,16 @@ def led_to(segment, at, word, landing):
     return (bits(far, 32, 32), bits(far, 3, 29), tag) if is_tag else None, bits(far, 32, 32)
 
 
+def is_structs(word):
+    return bits(word, 0, 2) == 1 and bits(word, 32, 3) == 7
+
+
 def target_lines(message, target):
     segment, start, word = target
-    words = extent(word)
+    words, note = extent(word), " with the tag" if is_structs(word) else ""
     last = f" to {segment}:{start + words - 1}" if words else ""
-    yield f"target {segment}:{start}{last}, words {words}"
-    is_structs = bits(word, 0, 2) == 1 and bits(word, 32, 3) == 7
-    if is_structs and segment < len(message) and 0 <= start < len(message[segment]):
+    yield f"target {segment}:{start}{last}, words {words}{note}"
+    if is_structs(word) and segment < len(message) and 0 <= start < len(message[segment]):
         tag = message[segment][start]
         yield f"tag {segment}:{start} {hexed(tag)} {tag_form(tag)}"
 
@@ -167,7 +170,7 @@ def pointer_lines(message, segment, at):
     if target:
         yield from target_lines(message, target)
     yield (f"segment {into}, words {len(message[into])}" if into < len(message)
-           else f"segment {into} does not exist, segments {len(message)}")
+           else f"segment {into} does not exist, segments 0 to {len(message) - 1}")
 
 
 def sentence(message, reason, segment, at):
@@ -177,22 +180,34 @@ def sentence(message, reason, segment, at):
     word = message[segment][at]
     landing = pads(message, word)
     if reason == "Reserved":
-        what = "the word of the landing pad" if landing else "the pointer"
-        return f"{what} has kind 3 and is no capability, which the format reserves"
+        what = "landing pad" if landing else "pointer"
+        return (f"the low two bits of the {what} are 3, but it is not a valid capability pointer; "
+                "the format reserves such words")
     if reason == "SegmentMissing":
         what = "first word of the landing pad" if landing else "far pointer"
         return f"the {what} names a segment that the message does not have"
     _, start, shape = led_to(segment, at, word, landing)[0]
     if reason == "DepthLimit":
-        what = "list of structs, or its structs, are" if bits(shape, 0, 2) == 1 and bits(shape, 32, 3) == 7 else "target is"
+        what = "list of structs, or its structs, are" if is_structs(shape) else "target is"
         return f"the {what} at a deeper level than the limit allows"
-    return f"the target {'begins before' if start < 0 else 'ends after'} its segment"
+    return f"the target {'begins before the start' if start < 0 else 'runs past the end'} of its segment"
+
+
+def elements_line(message, segment, at):
+    """The words that the elements of an overrun list need, beside those that it has."""
+    word = message[segment][at]
+    its, start, shape = led_to(segment, at, word, pads(message, word))[0]
+    tag = message[its][start]
+    needed = bits(tag, 2, 30) * (bits(tag, 32, 16) + bits(tag, 48, 16))
+    return f"elements need words {needed}, list has words {bits(shape, 35, 29)}"
 
 
 def explanation(message, reason, segment, at, pointers, words, depth):
     if reason not in ("NoRoot", "ManySegments"):
         yield f"path {path_to(message, pointers)}"
         yield from pointer_lines(message, segment, at)
+    if reason == "CompositeOverrun":
+        yield elements_line(message, segment, at)
     if reason == "DepthLimit":
         yield f"limit level {depth + 1}, at most {depth}"
     if reason == "WordLimit":

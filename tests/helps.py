@@ -118,8 +118,12 @@ After the line of 'vet', a refused message has lines that explain the refusal. T
 path to the pointer, as 'get' takes it, and the byte of the pointer in the message. Then comes the
 pointer word with its form and its fields, and so does each word of its landing pad. The next lines
 have the words of its target, its tag if it is a list of structs, and the length of that segment.
-The last ones have the limit that is passed, if one is, and the reason as a sentence. Places are
-SEGMENT:WORD. The options are those of 'vet'.
+The last ones have what is exceeded, if something is, and the reason as a sentence. The options are
+those of 'vet'.
+
+'pointers N' counts the pointers that were looked at, the named one included. In a path, pN is
+pointer N and iN is element N, both counted from 0. A place is SEGMENT:WORD, both counted from 0,
+and 'A to B' includes both places. A word in hex is its bytes, in the order of the unpacked input.
 
 Example:
   $ capvet explain --depth 3 examples/contacts.bin

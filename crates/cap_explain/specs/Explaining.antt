@@ -1,18 +1,19 @@
 -- The lines that explain a refusal (profile).
-use Rattle.std.specs.Prelude.{ℕ, ◌+◌, ◌-◌, ◌==◌, nat_lt, if◌then◌else◌, List, [], ◌∷◌, ◌++◌, codes}
+use Rattle.std.specs.Prelude.{ℕ, ◌+◌, ◌-◌, ◌*◌, ◌==◌, nat_lt, if◌then◌else◌, List, [], ◌∷◌, ◌++◌, codes}
 use Rattle.std.specs.Prelude.{decimal, length, Option, Some, None}
 use Rattle.cap_spec.specs.Messages.{segment_of}
 use Rattle.cap_spec.specs.PathTexts.{path_text}
-use Rattle.cap_spec.specs.Pointers.{extent, far_segment, pad}
+use Rattle.cap_spec.specs.Pointers.{data_size, extent, far_segment, list_size, middle, pad}
+use Rattle.cap_spec.specs.Pointers.{pointer_size}
 use Rattle.cap_spec.specs.Texts.{hex}
-use Rattle.cap_spec.specs.declared.Reason.TheVariants.{DepthLimit, WordLimit}
+use Rattle.cap_spec.specs.declared.Reason.TheVariants.{CompositeOverrun, DepthLimit, WordLimit}
 use Rattle.cap_spec.specs.declared.Step.{Step}
 use Rattle.cap_spec.specs.declared.StrictRefusal.{StrictRefusal}
 use Rattle.cap_spec.specs.declared.StrictRefusal.TheVariants.{Refused as refused, ManySegments as many}
 use Rattle.cap_spec.specs.declared.StrictRefusal.TheVariants.{Pointer as not_strict}
 use Rattle.cap_explain.specs.Forms.{difference_text, form_text, place_text, tag_text}
 use Rattle.cap_explain.specs.Leading.{byte_of, target_of, landing_of, segment_after, tag_of}
-use Rattle.cap_explain.specs.Leading.{word_of}
+use Rattle.cap_explain.specs.Leading.{is_structs, word_of}
 use Rattle.cap_explain.specs.Sentences.{names_pointer, sentence}
 use Rattle.cap_explain.specs.declared.target.Target.{Target}
 use Rattle.cap_explain.specs.declared.landing.Landing.{Landing}
@@ -55,9 +56,14 @@ target_range t =
     if extent t.word == 0 then target_place t t.start else
     (target_place t t.start ++ codes " to " ++ target_place t (t.start + extent t.word - 1))
 
+-- the words of a list of structs include its tag
+abbrev pub tag_note : ℕ → List ℕ
+tag_note p = if is_structs p then codes " with the tag" else []
+
 abbrev pub target_line : Target → List ℕ
 target_line t =
-    codes "  target " ++ target_range t ++ codes ", words " ++ decimal (extent t.word) ++ 10 ∷ []
+    codes "  target " ++ target_range t ++ codes ", words " ++ decimal (extent t.word)
+    ++ tag_note t.word ++ 10 ∷ []
 
 -- the tag of a list of structs, and its fields
 abbrev pub tag_word : ℕ → List ℕ
@@ -72,11 +78,11 @@ abbrev pub target_lines : List (List ℕ) → Option Target → List ℕ
 target_lines m None = []
 target_lines m (Some t) = target_line t ++ tag_line t (tag_of m t)
 
--- how many words a segment has, or that it doesn't exist
+-- how many words a segment has, or that it doesn't exist, and which do
 abbrev pub segment_state : List (List ℕ) → ℕ → List ℕ
 segment_state m s =
     if nat_lt s (length m) then codes ", words " ++ decimal (length (segment_of m s)) else
-    codes " does not exist, segments " ++ decimal (length m)
+    (codes " does not exist, segments 0 to " ++ decimal (length m - 1))
 
 -- the segment that the pointer leads into
 abbrev pub segment_line : List (List ℕ) → ℕ → List ℕ
@@ -96,11 +102,32 @@ level_line depth =
 abbrev pub charge_line : ℕ → List ℕ
 charge_line words = (codes "  limit charge, at most " ++ decimal words) ++ 10 ∷ []
 
--- the limit that is passed
-abbrev pub limit_line : Fault → ℕ → ℕ → List ℕ
-limit_line (Refused DepthLimit) words depth = level_line depth
-limit_line (Refused WordLimit) words depth = charge_line words
-limit_line _ words depth = []
+-- how many words the elements of a tag need
+abbrev pub needed : ℕ → ℕ
+needed tag = middle tag * (data_size tag + pointer_size tag)
+
+-- the words that the elements of the list of structs p need by its tag, and those that it has
+abbrev pub elements_line : ℕ → ℕ → List ℕ
+elements_line p tag =
+    (codes "  elements need words " ++ decimal (needed tag))
+    ++ (codes ", list has words " ++ decimal (list_size p)) ++ 10 ∷ []
+
+-- the same, if there is a tag
+abbrev pub tagged_line : ℕ → Option ℕ → List ℕ
+tagged_line p None = []
+tagged_line p (Some tag) = elements_line p tag
+
+-- the same of the list at a target
+abbrev pub overrun_line : List (List ℕ) → Option Target → List ℕ
+overrun_line m None = []
+overrun_line m (Some t) = tagged_line t.word (tag_of m t)
+
+-- what is exceeded: a limit, or the words of a list of structs
+abbrev pub excess_line : List (List ℕ) → Fault → Option Target → ℕ → ℕ → List ℕ
+excess_line m (Refused CompositeOverrun) target words depth = overrun_line m target
+excess_line m (Refused DepthLimit) target words depth = level_line depth
+excess_line m (Refused WordLimit) target words depth = charge_line words
+excess_line m _ target words depth = []
 
 abbrev pub reason_line : Fault → Landing → Option Target → List ℕ
 reason_line fault landing target =
@@ -111,7 +138,7 @@ abbrev pub lines_over : List (List ℕ) → Fault → ℕ → ℕ → ℕ → �
     → List ℕ
 lines_over m fault s w words depth p landing target =
     (if names_pointer fault then pointer_lines m s w p landing target else [])
-    ++ limit_line fault words depth ++ reason_line fault landing target
+    ++ excess_line m fault target words depth ++ reason_line fault landing target
 
 -- the lines by the word that is named, if it exists
 abbrev pub lines_at : List (List ℕ) → Fault → ℕ → ℕ → ℕ → ℕ → Option ℕ → List ℕ

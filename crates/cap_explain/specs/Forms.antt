@@ -56,8 +56,8 @@ form_text p =
     (if kind p == 0 then codes "struct" ++ offset_text p ++ sizes_text p else
     (if kind p == 1 then list_text p else (if kind p == 2 then far_text p else other_text p)))
 
--- of the tag of a list of structs, whose bits of an offset count the elements
+-- of the first word of a list of structs. In a tag the bits of an offset count the elements
 abbrev pub tag_text : ℕ → List ℕ
 tag_text p =
     if kind p == 0 then codes "struct, elements " ++ decimal (middle p) ++ sizes_text p else
-    form_text p
+    (codes "not a struct tag: " ++ form_text p)

@@ -18,9 +18,9 @@ use Rattle.cap_explain.specs.declared.sentences.Fault.TheVariants.{Overlap}
 -- the pointer itself is reserved, or the word of its landing pad
 abbrev pub reserved_sentence : Landing → List ℕ
 reserved_sentence (One word) =
-    codes "the word of the landing pad has kind 3 and is no capability, which the format reserves"
+    codes "the low two bits of the landing pad are 3, but it is not a valid capability pointer; the format reserves such words"
 reserved_sentence _ =
-    codes "the pointer has kind 3 and is no capability, which the format reserves"
+    codes "the low two bits of the pointer are 3, but it is not a valid capability pointer; the format reserves such words"
 
 -- the pointer itself names the missing segment, or the first word of its landing pad
 abbrev pub missing_sentence : Landing → List ℕ
@@ -32,8 +32,8 @@ missing_sentence _ = codes "the far pointer names a segment that the message doe
 abbrev pub outside_sentence : Option Target → List ℕ
 outside_sentence None = codes "the target is not all inside its segment"
 outside_sentence (Some t) =
-    if nat_lt t.start t.excess then codes "the target begins before its segment" else
-    codes "the target ends after its segment"
+    if nat_lt t.start t.excess then codes "the target begins before the start of its segment" else
+    codes "the target runs past the end of its segment"
 
 -- the target itself is too deep, or for a list of structs one of these
 abbrev pub deep_sentence : Option Target → List ℕ
@@ -59,9 +59,9 @@ reason_sentence TagOffset pad target =
     codes "the second word of the landing pad has an offset other than 0"
 reason_sentence OutOfSegment pad target = outside_sentence target
 reason_sentence CompositeTag pad target =
-    codes "the tag of the list of structs is not a struct pointer"
+    codes "the first word of the list of structs is not a struct tag"
 reason_sentence CompositeOverrun pad target =
-    codes "the elements that the tag gives take more words than the list has"
+    codes "the elements that the tag gives need more words than the list has"
 reason_sentence DepthLimit pad target = deep_sentence target
 reason_sentence WordLimit pad target =
     codes "the charge up to this pointer and its target is more than the limit"
@@ -80,7 +80,7 @@ sentence ManySegments pad target =
     codes "the message has 512 segments, and common readers take at most 511"
 sentence (NotStrict what) pad target = lax_sentence what
 sentence Overlap pad target =
-    codes "the pointer uses a word that an earlier pointer uses too"
+    codes "the pointer uses a word twice, or one that is used before it in preorder; --exclusive forbids both"
 
 -- the fault is one of a pointer
 abbrev pub names_pointer : Fault → Bool

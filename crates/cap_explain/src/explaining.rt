@@ -8,7 +8,7 @@ ghost use Rattle.std.specs.Prelude.{◌+◌, ◌*◌, ◌++◌, ◌^◌, ◌<◌
 use crate::explanation::{CAPACITY, Explanation};
 use crate::landing::{Landing, landing_of};
 use crate::lines::{
-    LINE, PLAIN, push_byte_line, push_landing_lines, push_limit_line, push_pointer_line,
+    LINE, PLAIN, push_byte_line, push_excess_line, push_landing_lines, push_pointer_line,
     push_reason_line, push_segment_line, push_target_lines,
 };
 use crate::path::push_path_lines;
@@ -72,7 +72,7 @@ fn push_lines<M: Segments>(
     if names_pointer(fault) {
         push_pointer_lines(text, message, pointer, target);
     }
-    push_limit_line(text, fault, words, depth);
+    push_excess_line(text, message, fault, target, words, depth);
     push_reason_line(text, fault, pointer.landing, target);
 }
 
@@ -110,8 +110,8 @@ fn push_fault<M: Segments>(
 }
 
 /// Writes the lines that explain why a message is refused within limits (docs/output.md, explain):
-/// the path to the pointer, the pointer word and its fields, where it leads, the limit that is
-/// passed, and the reason as a sentence. What the text held before is removed. Allocates nothing.
+/// the path to the pointer, the pointer word and its fields, where it leads, what is exceeded, and
+/// the reason as a sentence. What the text held before is removed. Allocates nothing.
 ///
 /// A refusal that names no word of the message has only the line of the reason, and that of a path
 /// if one is given. A path of more than 257 steps has no line: no path to a pointer of a refusal has

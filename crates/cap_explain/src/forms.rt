@@ -11,6 +11,9 @@ use cap_ptr::{
 /// The space for the text of a pointer word.
 pub(crate) const FORM: usize = 120;
 
+/// The space for the text of the first word of a list of structs.
+pub(crate) const TAG: usize = FORM + 18;
+
 /// The space for the offset of a pointer word.
 const OFFSET: usize = 30;
 
@@ -142,16 +145,17 @@ pub(crate) fn push_form(text: &mut Explanation, word: u64)
     }
 }
 
-/// Appends the fields of the tag of a list of structs.
+/// Appends the fields of the first word of a list of structs, which should be a tag.
 pub(crate) fn push_tag(text: &mut Explanation, word: u64)
-    requires { length text.old + FORM ≤ CAPACITY }
+    requires { length text.old + TAG ≤ CAPACITY }
     ensures items { text.new ≡ text.old ++ tag_text word }
-    ensures few { length text.new ≤ length text.old + FORM }
+    ensures few { length text.new ≤ length text.old + TAG }
 {
     if kind(word) == 0 {
         text.push_named(b"struct, elements ", middle(word) as u64);
         push_sizes(text, word);
     } else {
+        text.push_text(b"not a struct tag: ");
         push_form(text, word);
     }
 }

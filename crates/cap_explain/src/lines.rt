@@ -1,20 +1,20 @@
 //! The lines of an explanation.
 
-ghost use Rattle.cap_explain.specs.Explaining.{byte_line, charge_line, target_line, target_lines, target_place, target_range, landing_lines, level_line, limit_line, pad_line, pointer_line, reason_line, segment_line, segment_state, tag_line, tag_word, word_text};
+ghost use Rattle.cap_explain.specs.Explaining.{byte_line, charge_line, elements_line, excess_line, target_line, target_lines, target_place, target_range, landing_lines, level_line, overrun_line, pad_line, pointer_line, reason_line, segment_line, segment_state, tag_line, tag_note, tag_word, word_text};
 ghost use Rattle.std.specs.Prelude.{◌+◌, ◌*◌, ◌++◌, ◌^◌, ◌<◌, ◌≡◌, ◌≤◌, IfSome, length};
 
 use crate::explanation::{CAPACITY, DIGITS, Explanation};
-use crate::forms::{FORM, push_form, push_tag};
+use crate::forms::{FORM, TAG, push_form, push_tag};
 use crate::landing::Landing;
 use crate::sentences::{Fault, SENTENCE, sentence};
-use crate::target::{Target, extent, tag_of};
+use crate::target::{Target, extent, is_structs, needed, tag_of};
 use crate::words::byte_of;
 use cap_frame::Segments;
-use cap_ptr::{far_segment, pad};
+use cap_ptr::{far_segment, list_size, pad};
 use cap_spec::Reason;
 
 /// The space for one line without the form of a word.
-pub(crate) const PLAIN: usize = 130;
+pub(crate) const PLAIN: usize = 140;
 
 /// The space for one line.
 pub(crate) const LINE: usize = PLAIN + FORM;
@@ -116,6 +116,18 @@ fn push_target_range(text: &mut Explanation, target: &Target)
     }
 }
 
+/// The words of a list of structs include its tag.
+fn tag_note(word: u64) -> &'static [u8]
+    ensures note { result.now ≡ tag_note word }
+    ensures short { length result.now ≤ NAME }
+{
+    if is_structs(word) {
+        b" with the tag"
+    } else {
+        b""
+    }
+}
+
 /// Appends the line of the target.
 fn push_target_line(text: &mut Explanation, target: &Target)
     requires near { target.now.start < 2 ^ 34 }
@@ -126,14 +138,15 @@ fn push_target_line(text: &mut Explanation, target: &Target)
     text.push_text(b"  target ");
     push_target_range(text, target);
     text.push_named(b", words ", extent(target.word));
+    text.push_text(tag_note(target.word));
     text.push_text(b"\n");
 }
 
 /// Appends the tag of a list of structs and its fields, and ends the line.
 fn push_tag_word(text: &mut Explanation, tag: u64)
-    requires { length text.old + FORM + 18 ≤ CAPACITY }
+    requires { length text.old + TAG + 18 ≤ CAPACITY }
     ensures items { text.new ≡ text.old ++ tag_word tag }
-    ensures few { length text.new ≤ length text.old + FORM + 18 }
+    ensures few { length text.new ≤ length text.old + TAG + 18 }
 {
     text.push_hex(tag);
     text.push_text(b" ");
@@ -173,16 +186,17 @@ pub(crate) fn push_target_lines<M: Segments>(
     }
 }
 
-/// Appends how many words a segment has, or that it doesn't exist.
+/// Appends how many words a segment has, or that it doesn't exist, and which do.
 fn push_segment_state<M: Segments>(text: &mut Explanation, message: &M, segment: u32)
-    requires { length text.old + 50 ≤ CAPACITY }
+    requires { length text.old + 60 ≤ CAPACITY }
     ensures items { text.new ≡ text.old ++ segment_state (M.segments message.now) segment }
-    ensures few { length text.new ≤ length text.old + 50 }
+    ensures few { length text.new ≤ length text.old + 60 }
 {
     if segment < message.count() {
         text.push_named(b", words ", u64::from(message.len(segment)));
     } else {
-        text.push_named(b" does not exist, segments ", u64::from(message.count()));
+        let last = message.count() - 1;
+        text.push_named(b" does not exist, segments 0 to ", u64::from(last));
     }
 }
 
@@ -218,13 +232,47 @@ fn push_charge_line(text: &mut Explanation, words: u64)
     text.push_text(b"\n");
 }
 
-/// Appends the line of the limit that is passed, if one is.
-pub(crate) fn push_limit_line(text: &mut Explanation, fault: Fault, words: u64, depth: u32)
+/// Appends the words that the elements of the list of structs `word` need by its tag, and those that
+/// it has.
+fn push_elements_line(text: &mut Explanation, word: u64, tag: u64)
     requires { length text.old + PLAIN ≤ CAPACITY }
-    ensures items { text.new ≡ text.old ++ limit_line fault words depth }
+    ensures items { text.new ≡ text.old ++ elements_line word tag }
+    ensures few { length text.new ≤ length text.old + PLAIN }
+{
+    text.push_named(b"  elements need words ", needed(tag));
+    text.push_named(b", list has words ", u64::from(list_size(word)));
+    text.push_text(b"\n");
+}
+
+/// Appends the same of the list at a target, if there is one.
+fn push_overrun_line<M: Segments>(text: &mut Explanation, message: &M, target: &Option<Target>)
+    requires { length text.old + PLAIN ≤ CAPACITY }
+    ensures items { text.new ≡ text.old ++ overrun_line (M.segments message.now) target.now }
+    ensures few { length text.new ≤ length text.old + PLAIN }
+{
+    if let Some(target) = target
+        && let Some(tag) = tag_of(message, target)
+    {
+        push_elements_line(text, target.word, tag);
+    }
+}
+
+/// Appends the line of what is exceeded, if something is: a limit, or the words of a list of structs.
+pub(crate) fn push_excess_line<M: Segments>(
+    text: &mut Explanation,
+    message: &M,
+    fault: Fault,
+    target: &Option<Target>,
+    words: u64,
+    depth: u32,
+)
+    requires { length text.old + PLAIN ≤ CAPACITY }
+    ensures items { text.new ≡ text.old
+        ++ excess_line (M.segments message.now) fault target.now words depth }
     ensures few { length text.new ≤ length text.old + PLAIN }
 {
     match fault {
+        Fault::Refused(Reason::CompositeOverrun) => push_overrun_line(text, message, target),
         Fault::Refused(Reason::DepthLimit) => push_level_line(text, depth),
         Fault::Refused(Reason::WordLimit) => push_charge_line(text, words),
         _ => {}

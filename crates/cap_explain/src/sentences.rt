@@ -8,7 +8,7 @@ use crate::target::{Target, is_structs};
 use cap_spec::{Lax, Reason};
 
 /// The most bytes of a sentence.
-pub(crate) const SENTENCE: usize = 100;
+pub(crate) const SENTENCE: usize = 120;
 
 /// Why a message is refused.
 #[derive(Clone, Copy, Drop)]
@@ -37,9 +37,10 @@ fn reserved_sentence(landing: Landing) -> &'static [u8]
 {
     match landing {
         Landing::One { .. } => {
-            b"the word of the landing pad has kind 3 and is no capability, which the format reserves"
+            b"the low two bits of the landing pad are 3, but it is not a valid capability pointer; the format reserves such words"
         }
-        _ => b"the pointer has kind 3 and is no capability, which the format reserves",
+        _ =>
+            b"the low two bits of the pointer are 3, but it is not a valid capability pointer; the format reserves such words",
     }
 }
 
@@ -65,9 +66,9 @@ fn outside_sentence(target: &Option<Target>) -> &'static [u8]
         None => b"the target is not all inside its segment",
         Some(target) => {
             if target.start < u64::from(target.excess) {
-                b"the target begins before its segment"
+                b"the target begins before the start of its segment"
             } else {
-                b"the target ends after its segment"
+                b"the target runs past the end of its segment"
             }
         }
     }
@@ -109,9 +110,9 @@ fn reason_sentence(reason: Reason, landing: Landing, target: &Option<Target>) ->
         }
         Reason::TagOffset => b"the second word of the landing pad has an offset other than 0",
         Reason::OutOfSegment => outside_sentence(target),
-        Reason::CompositeTag => b"the tag of the list of structs is not a struct pointer",
+        Reason::CompositeTag => b"the first word of the list of structs is not a struct tag",
         Reason::CompositeOverrun => {
-            b"the elements that the tag gives take more words than the list has"
+            b"the elements that the tag gives need more words than the list has"
         }
         Reason::DepthLimit => deep_sentence(target),
         Reason::WordLimit => b"the charge up to this pointer and its target is more than the limit",
@@ -143,6 +144,7 @@ pub(crate) fn sentence(fault: Fault, landing: Landing, target: &Option<Target>) 
         Fault::Refused(reason) => reason_sentence(reason, landing, target),
         Fault::ManySegments => b"the message has 512 segments, and common readers take at most 511",
         Fault::NotStrict(what) => lax_sentence(what),
-        Fault::Overlap => b"the pointer uses a word that an earlier pointer uses too",
+        Fault::Overlap =>
+            b"the pointer uses a word twice, or one that is used before it in preorder; --exclusive forbids both",
     }
 }

@@ -1,5 +1,6 @@
 //! Where the target of a pointer is.
 
+ghost use Rattle.cap_explain.specs.Explaining.{needed};
 ghost use Rattle.cap_explain.specs.Leading.{target_after, target_of, target_over, is_structs, segment_after, tag_of};
 ghost use Rattle.cap_spec.specs.Pointers.{extent};
 ghost use Rattle.std.specs.Prelude.{◌^◌, ◌<◌, ◌≡◌, ◌≤◌, IfSome};
@@ -112,6 +113,13 @@ pub(crate) fn tag_of<M: Segments>(message: &M, target: &Target) -> Option<u64>
         return None;
     }
     word_of(message, target.segment, target.start - excess)
+}
+
+/// How many words the elements of a tag need.
+pub(crate) fn needed(tag: u64) -> u64
+    ensures { result ≡ needed tag }
+{
+    u64::from(middle(tag)) * (u64::from(data_size(tag)) + u64::from(pointer_size(tag)))
 }
 
 /// How many words the target of a struct or list pointer takes, with a tag.

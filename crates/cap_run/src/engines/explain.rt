@@ -170,7 +170,7 @@ impl<T: Teller> Judge for Explaining<T> {
 
 /// Does what [`run_vet_with`](crate::run_vet_with) does, and explains each refusal. After the line of
 /// a refused message come lines with the path to its pointer, the pointer word and where it leads,
-/// the limit that is passed, and the reason as a sentence.
+/// what is exceeded, and the reason as a sentence.
 ///
 /// # Errors
 ///
