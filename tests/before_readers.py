@@ -46,7 +46,7 @@ CHECKED = ("-O0", "-g", "-fsanitize=address,undefined", "-fno-sanitize-recover=a
 CARGO = ("--offline", "--quiet")
 MANY = cases(1_000, full=5_000)  # changed messages, and as many connections
 # The most instructions of a call to a server with vetting, as a part of those without, for each kind of call.
-MOST = {"with": {"small": 1.03, "list": 1.15}, "served": {"small": 1.03, "list": 1.15}, "bytes": {"small": 1.08, "list": 1.15}}
+MOST = {"with": {"small": 1.03, "list": 1.15}, "served": {"small": 1.03, "list": 1.15}, "bytes": {"small": 1.07, "list": 1.15}}
 # How many of the frames of valid calls come before a changed message.
 VALID = 9
 CALLED = """\

@@ -56,6 +56,7 @@ class Run {
       refusals++;
       text = kj::str(refusal);
       if (refusal.cause != capvet::Cause::UNREAD && refusal.bytes.size() > 0) checkBytes(refusal);
+      checkPath(refusal);
       if (throws) kj::throwFatalException(KJ_EXCEPTION(FAILED, "a callback that throws"));
     };
     auto &files = static_cast<kj::AsyncCapabilityStream &>(peer);
@@ -91,6 +92,13 @@ class Run {
     RULE(refusal.bytes.size() <= rest.size() && memcmp(refusal.bytes.begin(), rest.begin(), refusal.bytes.size()) == 0);
     if (model.answer >= CAPVET_NOT_CANONICAL) RULE(refusal.bytes.size() == model.report.length);
     if (model.answer == CAPVET_TRUNCATED) RULE(refusal.bytes.size() == rest.size());
+  }
+
+  // The path is that of the pointer in the frame, if one is refused.
+  void checkPath(const capvet::Refusal &refusal) {
+    const bool isRefused = model.answer >= CAPVET_NOT_CANONICAL && refusal.cause == capvet::Cause::MESSAGE;
+    const uint64_t number = isRefused ? model.report.pointers : 0;
+    RULE(refusal.path() == capvet::pathTo(number, model.rest, options.limits));
   }
 
   // Whether libcapnp itself refuses a message that the limits accept.
