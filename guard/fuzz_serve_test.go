@@ -102,7 +102,7 @@ func FuzzServe(f *testing.F) {
 		if err != nil {
 			t.Fatal(err)
 		}
-		o.maxConnections, o.connectTimeout = int(data[12]>>5), 10*time.Second
+		o.maxConnections, o.connectTimeout = 7-int(data[12]>>5), 10*time.Second
 		out := &output{}
 		g, err := newGuard(o, &logger{out: out, isJSON: o.log == "json"})
 		if err != nil {
