@@ -218,8 +218,9 @@ func padding(b []byte) []byte {
 
 // FuzzOptions reads command lines of options and values that the input chooses. What is read is within the bounds.
 func FuzzOptions(f *testing.F) {
-	for i := byte(0); i < 60; i++ {
-		f.Add([]byte{i, i % 7, i + 1, i, i * 3, 1})
+	for i := uint32(0); i < 600; i++ {
+		n := i*2654435761 + 12345
+		f.Add([]byte{byte(n >> 8), byte(n >> 24), byte(n >> 16), byte(n >> 4), byte(i), byte(n >> 12)})
 	}
 	names := []string{"--listen", "--connect", "--metrics", "--direction", "--size", "--words", "--depth", "--exclusive",
 		"--allow-nonstrict", "--allow-amplified", "--listen-packed", "--connect-packed", "--max-connections", "--max-per-peer",

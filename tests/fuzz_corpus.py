@@ -93,7 +93,7 @@ def each_way():
     # (each flag of a guard, with the headers that come before a stream)
     stream = (TOP / "examples/stream-of-four.bin").read_bytes()
     for number, flags in enumerate((1, 2, 4, 8, 16, 32, 33, 96, 97, 40, 48, 112)):
-        yield f"flags-{number}", argued(flags, number % 8, 3 * number + 64) + stream
+        yield f"flags-{number}", argued(flags, 5 * number % 32, 3 * number + 64) + stream
 
 
 def made():
