@@ -364,7 +364,7 @@ class Python(Target):
 
 
 class JavaScript(Target):
-    """The package for JavaScript beside the native library, in Node. The search goes by the blocks that V8 counts."""
+    """The package for JavaScript beside the native library, in Node. The search goes by the blocks that Node counts."""
     name, needs, files = "js", ("node", "wasm-opt", "clang", "checks-clang"), ("bindings/js/capvet.js", "bindings/js/src/*.js")
 
     def build(self, tree):
