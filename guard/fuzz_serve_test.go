@@ -102,7 +102,7 @@ func FuzzServe(f *testing.F) {
 		if err != nil {
 			t.Fatal(err)
 		}
-		o.maxConnections, o.connectTimeout = int(data[12]>>5), 10*time.Second
+		o.maxConnections, o.connectTimeout = 7-int(data[12]>>5), 10*time.Second
 		out := &output{}
 		g, err := newGuard(o, &logger{out: out, isJSON: o.log == "json"})
 		if err != nil {
@@ -218,8 +218,9 @@ func padding(b []byte) []byte {
 
 // FuzzOptions reads command lines of options and values that the input chooses. What is read is within the bounds.
 func FuzzOptions(f *testing.F) {
-	for i := byte(0); i < 60; i++ {
-		f.Add([]byte{i, i % 7, i + 1, i, i * 3, 1})
+	for i := uint32(0); i < 600; i++ {
+		n := i*2654435761 + 12345
+		f.Add([]byte{byte(n >> 8), byte(n >> 24), byte(n >> 16), byte(n >> 4), byte(i), byte(n >> 12)})
 	}
 	names := []string{"--listen", "--connect", "--metrics", "--direction", "--size", "--words", "--depth", "--exclusive",
 		"--allow-nonstrict", "--allow-amplified", "--listen-packed", "--connect-packed", "--max-connections", "--max-per-peer",

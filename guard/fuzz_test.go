@@ -75,8 +75,12 @@ func (c *fuzzConn) Read(b []byte) (int, error) {
 var errFull, errGone = errors.New("no more writes"), errors.New("the connection is gone")
 
 func (c *fuzzConn) Write(b []byte) (int, error) {
+	if c.stop != nil && c.choose(4) == 0 {
+		c.stop()
+		return 0, os.ErrDeadlineExceeded
+	}
 	if c.writes--; c.writes == 0 {
-		return 0, errFull
+		return 0, c.end
 	}
 	c.out = append(c.out, b...)
 	return len(b), nil
@@ -157,7 +161,8 @@ func FuzzPump(f *testing.F) {
 		o, stream := fuzzOptions(data), data[16:]
 		state := uint64(data[12]) | uint64(data[13])<<8 | uint64(data[14])<<16
 		ends := []error{io.EOF, errGone, net.ErrClosed}
-		from, to := &fuzzConn{state: state, rest: stream, end: ends[int(data[14]>>6)%len(ends)]}, &fuzzConn{}
+		from := &fuzzConn{state: state, rest: stream, end: ends[int(data[14]>>6)%len(ends)]}
+		to := &fuzzConn{state: state, end: []error{errFull, os.ErrDeadlineExceeded}[data[14]>>5&1]}
 		if data[15]%4 == 3 {
 			to.writes = 1 + int(data[15]>>2)
 		}
@@ -171,6 +176,10 @@ func FuzzPump(f *testing.F) {
 			o.messageTimeout = 1
 		case 6:
 			o.idleTimeout = 1
+		case 8:
+			o.idleTimeout, o.messageTimeout = 0, 0
+		case 9:
+			to.stop = s.stop
 		}
 		e := s.pump(requests).run()
 		if used := g.memory.used.Load(); used != 0 {
@@ -181,6 +190,9 @@ func FuzzPump(f *testing.F) {
 				t.Fatal("the bytes are not those that were sent")
 			}
 			return
+		}
+		if e.cause == idleTimeout && to.writes <= 0 && to.end == os.ErrDeadlineExceeded {
+			o.idleTimeout = 1
 		}
 		compareEnding(t, o, scanned(stream, o), from.end, e, arrived(t, o, to.out))
 	})

@@ -78,11 +78,22 @@ def packed_list(words):
     return packed_word(words << 32) + packed_word(1 | 5 << 32 | words - 1 << 35) + packed_zeros(words - 1)
 
 
-def cut_short():
-    """The table of a large message and the start of its segments, for each way and end of tests/fuzz/streams.cpp."""
-    data = struct.pack("<IIQ", 0, LARGE, 1 | 5 << 32 | LARGE - 1 << 35)
+def argued(flags, kind, number):
+    """Arguments: flags, a kind of test, and a seed that follows from a number."""
+    return struct.pack("<BBHIII", flags, kind << 3 | number % 8, 0, 0, 0, number * 0x9E3779B1 & 0xFFFFFFFF)
+
+
+def each_way():
+    """For each kind of test: the table of a large message and the start of its segments, and a packed stream of large messages."""
+    cut = struct.pack("<IIQ", 0, LARGE, 1 | 5 << 32 | LARGE - 1 << 35)
+    packed = packed_list(9000) + packed_list(9001) + packed_list(3)
     for kind in range(32):
-        yield f"cut-short-{kind}", bytes([0, kind << 3]) + ARGUMENTS[2:] + data
+        yield f"cut-short-{kind}", argued(0, kind, kind) + cut
+        yield f"packed-large-{kind}", argued(0, kind, kind + 32) + packed
+    # (each flag of a guard, with the headers that come before a stream)
+    stream = (TOP / "examples/stream-of-four.bin").read_bytes()
+    for number, flags in enumerate((1, 2, 4, 8, 16, 32, 33, 96, 97, 40, 48, 112)):
+        yield f"flags-{number}", argued(flags, 5 * number % 32, 3 * number + 64) + stream
 
 
 def made():
@@ -96,8 +107,7 @@ def made():
     found["large-stream"] = b"".join(samples()[:3]) + (TOP / "examples/stream-of-four.bin").read_bytes()
     for name, root in (("accepted", 1 | 5 << 32 | LARGE - 1 << 35), ("refused", 2 << 2 | LARGE << 32)):
         found[f"large-{name}"] = struct.pack("<IIQ", 0, LARGE, root) + bytes(8 * (LARGE - 1)) + samples()[0]
-    # (packed messages for buffers of more than 64 KiB and of more than 1 MiB, and more than the JavaScript module keeps)
-    found["packed-large"] = packed_list(9000) + packed_list(9001) + packed_list(3)
+    # (a packed message for a buffer of more than 1 MiB, and more words than the JavaScript module keeps)
     found["packed-huge"] = packed_list(200000) + packed_list(3)
     found["packed-zeros"] = packed_zeros((1 << 21) + 1)
     # (a list of bytes that is a text, and one that ends as a text does and isn't valid UTF-8)
@@ -105,7 +115,7 @@ def made():
     found["segments-511"] = strict.many(511)
     found["segments-512"] = strict.many(512)
     found["empty"] = b""
-    return {name: ARGUMENTS + data for name, data in found.items()} | dict(cut_short())
+    return {name: ARGUMENTS + data for name, data in found.items()} | dict(each_way())
 
 
 def is_current():

@@ -1,5 +1,6 @@
 """The fuzz targets: how each is built over a copy of the repository's files, replays inputs, searches, and counts the lines that
 its inputs reach. Used by tests/fuzz.py."""
+import ast
 import json
 import os
 import re
@@ -214,6 +215,13 @@ class Rust(LibFuzzer):
         return text if status else ""
 
 
+def go_bytes(path):
+    """The bytes of an input as Go keeps it."""
+    text = re.search(rb"^\[\]byte\((.*)\)$", path.read_bytes(), re.M)[1].decode()
+    # (Go quotes as Python does, but for two letters)
+    return ast.literal_eval("b" + text) if text.isascii() else text[1:-1].encode()
+
+
 class Go(Target):
     """A fuzz test of Go, by `go test -fuzz`."""
     needs = ("go", "cc", "pkg-config")
@@ -271,18 +279,53 @@ class Go(Target):
 
     def coverage(self, tree, kept):
         self.build(tree)
-        place, environment = self.place(tree)
+        place, _ = self.place(tree)
         cached = kept.parent / "go-cache" / self.test
         if cached.is_dir():
             shutil.copytree(cached, place / "testdata/fuzz" / self.test, dirs_exist_ok=True)
+        return self.covered(tree, TOP / "tests/fuzz/corpus")
+
+    def covered(self, tree, corpus):
+        """The lines that the inputs of a folder reach."""
+        place, environment = self.place(tree)
         profile = tree.out / f"{self.name}.cover"
-        words = ["go", "test", "-count=1", f"-run=^{self.test}$", f"-coverprofile={profile}", ".", *self.corpus()]
-        run(words, cwd=place, env=environment)
+        words = ["go", "test", f"-run=^{self.test}$", f"-coverprofile={profile}", ".", "-corpus", corpus]
+        run([*words[:2], "-count=1", *words[2:]], cwd=place, env=environment)
         found = {}
         for name, first, last, count in re.findall(r"^\S*/(\S+\.go):(\d+)\.\d+,(\d+)\.\d+ \d+ (\d+)$", profile.read_text(), re.M):
             lines = found.setdefault(f"{self.folder}/{name}", {})
             for line in range(int(first), int(last) + 1):
                 lines[line] = max(lines.get(line, 0), int(count))
+        return found
+
+    def merged(self, tree, kept, folder):
+        """The inputs of earlier searches that reach a line that the corpus doesn't."""
+        cached = kept.parent / "go-cache" / self.test
+        if not self.uses_corpus or not cached.is_dir():
+            return []
+        shutil.copytree(TOP / "tests/fuzz/corpus", folder)
+        found = []
+
+        def reached(inputs):
+            for number, data in enumerate(inputs):
+                (folder / f"more-{number}").write_bytes(data)
+            lines = {(name, line) for name, counts in self.covered(tree, folder).items() for line, count in counts.items() if count}
+            for path in folder.glob("more-*"):
+                path.unlink()
+            return lines
+
+        def add(inputs, before):
+            """Adds those of these inputs that reach more than the lines before. Returns the lines that are then reached."""
+            after = reached([*found, *inputs])
+            if not inputs or after <= before:
+                return before
+            if len(inputs) == 1:
+                found.extend(inputs)
+                return after
+            half = len(inputs) // 2
+            return add(inputs[half:], add(inputs[:half], before))
+        inputs = [data for data in map(go_bytes, sorted(cached.iterdir())) if len(data) <= MERGED_MOST]
+        add(inputs, reached([]))
         return found
 
 
@@ -322,7 +365,7 @@ class Python(Target):
 
 
 class JavaScript(Target):
-    """The package for JavaScript beside the native library, in Node. The search goes by the blocks that V8 counts."""
+    """The package for JavaScript beside the native library, in Node. The search goes by the blocks that Node counts."""
     name, needs, files = "js", ("node", "wasm-opt", "clang", "checks-clang"), ("bindings/js/capvet.js", "bindings/js/src/*.js")
 
     def build(self, tree):

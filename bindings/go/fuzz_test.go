@@ -10,6 +10,7 @@ import (
 	"os"
 	"path/filepath"
 	"reflect"
+	"strings"
 	"testing"
 
 	"capvet.invalid/capvet"
@@ -78,8 +79,11 @@ func seeds(f *testing.F) {
 // pieces gives bytes in pieces of any size, and sometimes none. After them comes an error, or nothing ever again.
 type pieces struct {
 	in   *input
+	all  int // the bytes at first
 	rest []byte
 	end  error
+	// inside reports whether the reader of these bytes is inside a message, if it says so.
+	inside func() bool
 }
 
 // errGone is the error of a reader that has failed.
@@ -87,7 +91,7 @@ var errGone = errors.New("the connection is gone")
 
 // piecesOf returns a reader of bytes, which mostly end as they should.
 func piecesOf(in *input, b []byte) *pieces {
-	return &pieces{in, b, []error{io.EOF, io.EOF, io.EOF, errGone, nil}[in.choose(5)]}
+	return &pieces{in: in, all: len(b), rest: b, end: []error{io.EOF, io.EOF, io.EOF, errGone, nil}[in.choose(5)]}
 }
 
 // ends returns the error of a stream of these bytes that ends with this one where it is whole.
@@ -105,6 +109,9 @@ func (p *pieces) ends(end error) error {
 func (p *pieces) Read(b []byte) (int, error) {
 	if len(b) == 0 {
 		panic("a read without space")
+	}
+	if p.inside != nil && p.inside() && len(p.rest) == p.all {
+		panic("inside a message before its first byte")
 	}
 	if p.in.choose(8) == 0 {
 		return 0, nil
@@ -153,7 +160,12 @@ var errMost = errors.New("more messages")
 // scans returns the lines of a Scanner, and its error. Each accepted message is vetted again.
 func scans(t *testing.T, s *capvet.Scanner, l capvet.Limits) (lines []string, err error) {
 	l.AllowTrailing = false
+	offset := int64(-1)
 	for s.Scan() {
+		if s.Number() != len(lines) || s.Offset() < offset {
+			t.Fatal(s.Number(), s.Offset())
+		}
+		offset = s.Offset()
 		if len(lines) == most {
 			return lines, errMost
 		}
@@ -227,7 +239,9 @@ func FuzzScanner(f *testing.F) {
 			return check(b, l)
 		})
 		plain := piecesOf(in, in.bytes)
-		got, err := scan(capvet.NewScanner(plain, in.limits))
+		scanner := capvet.NewScanner(plain, in.limits)
+		plain.inside = scanner.Inside
+		got, err := scan(scanner)
 		sameScan(t, wanted, got, plain.ends(end), err, false)
 		if len(in.bytes)%8 == 0 {
 			packed := piecesOf(in, capvet.AppendPacked(nil, in.bytes))
@@ -271,7 +285,42 @@ func FuzzCalls(f *testing.F) {
 		fuzzCanonical(t, in, b, report, err)
 		fuzzPacking(t, in, b)
 		fuzzNodes(t, in, b, err)
+		fuzzErrors(t, in, b)
 	})
+}
+
+// fuzzErrors reads all that the errors of the functions say. The path of a refusal is a path.
+func fuzzErrors(t *testing.T, in *input, b []byte) {
+	_, vetErr := capvet.Vet(b, in.limits)
+	_, exclusiveErr := capvet.VetExclusive(b, in.limits)
+	_, frameErr := capvet.FrameLength(b, in.limits)
+	_, formErr := capvet.AppendCanonical(nil, b, in.limits)
+	_, messageErr := capvet.AppendPackedMessage(nil, b, in.limits)
+	_, unpackErr := capvet.AppendUnpacked(nil, b, in.choose(64))
+	_, segmentErr := capvet.Segments(b[:in.choose(len(b)+1)])
+	_, pathErr := capvet.GetRange(nil, b, []string{"/p0", "p*", "/p*/x", "/p70000/i*"}[in.choose(4)], 0, in.limits)
+	for _, err := range []error{vetErr, exclusiveErr, frameErr, formErr, messageErr, unpackErr, segmentErr, pathErr} {
+		var refusal *capvet.Refusal
+		if err != nil && !strings.HasPrefix(err.Error(), "capvet: ") {
+			t.Fatal(err)
+		}
+		if errors.As(err, &refusal) {
+			path := refusal.Path(b, in.limits)
+			var bad *capvet.PathError
+			if _, _, err := capvet.Get(b, path, in.limits); path != "" && errors.As(err, &bad) {
+				t.Fatal(path, err)
+			}
+		}
+	}
+	if !capvet.CPUSupported() || strings.Count(capvet.Version(), ".") != 2 {
+		t.Fatal(capvet.Version())
+	}
+	defer func() {
+		if (recover() != nil) != (len(b)%8 != 0) {
+			t.Error("a part of a word is packed")
+		}
+	}()
+	capvet.AppendPacked(nil, b)
 }
 
 func fuzzVerdict(t *testing.T, in *input, b []byte, report capvet.Report, err error) {
@@ -365,6 +414,9 @@ func fuzzNodes(t *testing.T, in *input, b []byte, vetted error) {
 		node, ok, err := capvet.Get(b, path+map[bool]string{true: "/"}[path == ""], in.limits)
 		if err != nil && vetted == nil && !in.limits.NoTable {
 			t.Fatal(path, err)
+		}
+		if strings.HasPrefix(node.Kind.String(), "Kind(") {
+			t.Fatal(node.Kind)
 		}
 		if end := node.Offset + len(node.Data); end > len(b) || (!ok && end != 0) {
 			t.Fatal(path, node)

@@ -26,9 +26,25 @@ def words_of(limits):
     return words + ["--strict"] * (not limits.allow_nonstrict) + ["--unamplified"] * (not limits.allow_amplified)
 
 
-def ran(*words):
+class Terminal(io.StringIO):
+    """An output that says that it is a terminal, or is closed."""
+
+    def __init__(self, is_closed=False):
+        super().__init__()
+        self.is_closed = is_closed
+
+    def isatty(self):
+        return True
+
+    def write(self, text):
+        if self.is_closed:
+            raise OSError("closed")
+        return super().write(text)
+
+
+def ran(*words, out=None, err=None):
     """The status of a command, and what it writes on both outputs."""
-    out, err = io.StringIO(), io.StringIO()
+    out, err = out or io.StringIO(), err or io.StringIO()
     with contextlib.redirect_stdout(out), contextlib.redirect_stderr(err):
         try:
             status = commands.main([str(it) for it in words])
@@ -125,6 +141,12 @@ def check_files(file, words):
     names.write_bytes(f"{file}\0{file}\0".encode())
     one, other = ran("vet", "--jobs", 2, *words, file, file), ran("vet", "--jobs", 2, *words, "--files0-from", names)
     assert one == other and one[1].startswith(f"files 2 bytes {2 * file.stat().st_size} ")
+    status, _, said = ran("vet", "--json", *words, file, file, err=Terminal())
+    assert status == one[0] and said.count("%") > 0 and said.endswith(one[1])
+    assert ran("vet", *words, file, out=Terminal(is_closed=True))[0] == 3
+    # (standard input has nothing here)
+    assert ran("tree") == (0, "", "") and ran("vet", "--files0-from", "-")[1].startswith("files 0 ")
+    assert ran("tree", file.parent / "none")[0] == 3
     status, rows, said = ran("vet", "--csv", *words, file)
     assert rows.startswith("file,message,offset") and said.startswith("files 1 ") and status == one[0]
 

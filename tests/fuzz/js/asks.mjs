@@ -100,7 +100,8 @@ export class Asks {
     const { capvet, data, limits, chance } = this;
     const treeLine = (report) => `Ok ${treeOf(report)}`;
     // (as a view of any kind)
-    const given = chance.below(8) === 0 ? data.slice().buffer : chance.below(8) === 0 ? new DataView(data.buffer, data.byteOffset, data.length) : data;
+    const view = new DataView(data.buffer, data.byteOffset, data.length);
+    const given = chance.of(data, data, data, data, data, view, data.slice().buffer);
     this.ask("vet", () => capvet.vet(given, limits), treeLine);
     this.ask("exclusive", () => capvet.vetExclusive(given, limits), treeLine);
     const frame = this.ask("frame", () => capvet.frame(data, limits),
@@ -117,14 +118,16 @@ export class Asks {
     this.ask("isCanonical", () => capvet.isCanonical(data, limits), (it) => (it ? "Ok" : "NotCanonical"));
     const form = this.ask("canonical", () => capvet.canonical(data, limits), (it) => `Ok ${sumOf(it)}`);
     if (form === undefined) return;
-    const words = { ...limits, noTable: true, allowTrailing: false, allowNonstrict: false, allowAmplified: true, messageWords: 2 ** 28 };
+    const flags = { noTable: true, allowTrailing: false, allowNonstrict: false, allowAmplified: true };
+    const words = { ...limits, ...flags, messageWords: 2 ** 28 };
     rule(capvet.isCanonical(form, words) && sumOf(capvet.canonical(form, words)) === sumOf(form), "a form is its own form");
   }
 
   paths() {
     const { capvet, data, limits, chance } = this;
     const pointer = chance.below(12);
-    this.ask("pointerPath", () => capvet.pointerPath(data, pointer, limits), (it) => (it === null ? "NoNode" : `Ok ${it}`), { first: pointer });
+    const pathLine = (it) => (it === null ? "NoNode" : `Ok ${it}`);
+    this.ask("pointerPath", () => capvet.pointerPath(data, pointer, limits), pathLine, { first: pointer });
     for (let path = "", level = 0; level < 5; level++) {
       const text = path || "/", node = this.ask("get", () => capvet.node(data, text, limits), nodeLine, { text });
       const letter = node?.kind === "struct" ? "p" : "i";
@@ -219,7 +222,8 @@ export class Asks {
     const lines = [];
     try {
       for await (const it of messages()) {
-        rule((it.data === null) === (it.refusal !== null) && (it.report === null) === (it.refusal !== null), "a message is accepted or refused");
+        const isRefused = it.refusal !== null;
+        rule((it.data === null) === isRefused && (it.report === null) === isRefused, "a message is accepted or refused");
         const verdict = it.refusal === null ? `Ok ${treeOf(it.report)}` : this.errorLine(it.refusal);
         lines.push(`${it.number} ${it.offset} ${verdict} ${sumOf(it.raw)}`);
         if (lines.length === MESSAGES) break;

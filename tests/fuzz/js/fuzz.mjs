@@ -2,10 +2,10 @@
 //
 //     fuzz.mjs PACKAGE NATIVE CORPUS KEPT [SECONDS [LINES]]
 //
-// PACKAGE is capvet.js of the package, and NATIVE the program that native.c is. Each input of the folders CORPUS and KEPT runs once. For
-// SECONDS inputs are then changed, and those that run something new of the package, by the blocks that V8 counts, are kept in KEPT and
-// changed further. LINES is a file for the lines that were run. An input is 16 bytes of arguments and then a message or a stream: see
-// fuzz.h. A difference ends the process, with status 1. The last line is 'Done N runs'.
+// PACKAGE is capvet.js of the package, and NATIVE the program that native.c is. Each input of the folders CORPUS and KEPT runs once.
+// For SECONDS inputs are then changed. Those that run something new of the package, by the blocks that Node counts, are kept in
+// KEPT and changed further. LINES is a file for the lines that were run. An input is 16 bytes of arguments and then a message or
+// a stream: see fuzz.h. A difference ends the process, with status 1. The last line is 'Done N runs'.
 import { createHash } from "node:crypto";
 import { mkdirSync, readFileSync, readdirSync, writeFileSync } from "node:fs";
 import { join } from "node:path";
@@ -32,7 +32,9 @@ async function runOne(whole) {
   const wrong = difference(asks.all, await native.answers(input, asks.all));
   let isNew = reached.take();
   // (and what the answers are, since the module is not counted)
-  for (const { call, line, lines: several } of asks.all) isNew = reached.add(`${call} ${(line ?? several[0] ?? "").split(" ")[0]}`) || isNew;
+  for (const { call, line, lines: several } of asks.all) {
+    isNew = reached.add(`${call} ${(line ?? several[0] ?? "").split(" ")[0]}`) || isNew;
+  }
   if (isNew) found.push(whole);
   return wrong;
 }
@@ -49,7 +51,8 @@ async function check(whole) {
   const folder = `${kept}-findings`, file = join(folder, createHash("sha1").update(whole).digest("hex"));
   mkdirSync(folder, { recursive: true });
   writeFileSync(file, whole);
-  console.log(`${wrong.startsWith("Error: RULE") ? wrong.slice(7) : `RULE BROKEN js: ${wrong}`}\nTest unit written to ${file}\nDone ${runs} runs`);
+  const said = wrong.startsWith("Error: RULE") ? wrong.slice(7) : `RULE BROKEN js: ${wrong}`;
+  console.log(`${said}\nTest unit written to ${file}\nDone ${runs} runs`);
   process.exit(1);
 }
 

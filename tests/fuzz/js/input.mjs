@@ -28,9 +28,11 @@ export class Chance {
 export function inputOf(whole) {
   if (whole.length < ARGUMENTS) return null;
   const view = new DataView(whole.buffer, whole.byteOffset), number = (value, otherwise) => (value > 0 ? value - 1 : otherwise);
-  const flags = whole[0], limits = { messageWords: number(view.getUint32(4, true), 8388608), charge: number(view.getUint32(8, true), 8388608),
+  const flags = whole[0], limits = {
+    messageWords: number(view.getUint32(4, true), 8388608), charge: number(view.getUint32(8, true), 8388608),
     depth: number(view.getUint16(2, true), 64), allowTrailing: (flags & 1) > 0, allowNonstrict: (flags & 2) > 0,
-    allowAmplified: (flags & 4) > 0, noTable: (flags & 8) > 0 };
+    allowAmplified: (flags & 4) > 0, noTable: (flags & 8) > 0,
+  };
   if (limits.allowAmplified && limits.charge <= 2 ** 28) limits.charge = Math.min(limits.charge, AMPLIFIED);
   // (at any address)
   const slack = whole[1] & 7, data = new Uint8Array(whole.length - ARGUMENTS + slack).subarray(slack);
@@ -51,7 +53,8 @@ function changeWord(view, chance) {
   const words = Math.floor(view.byteLength / 8);
   if (words === 0) return;
   const at = 8 * chance.below(words), from = 8 * chance.below(words);
-  const [low, high] = chance.of(() => [view.getUint32(from, true), view.getUint32(from + 4, true)], () => [0, 0], () => pointer(chance),
+  const [low, high] = chance.of(() => [view.getUint32(from, true), view.getUint32(from + 4, true)],
+    () => [0, 0], () => pointer(chance),
     () => [view.getUint32(at, true) + chance.of(4, -4), view.getUint32(at + 4, true) + chance.of(0, 1, -1, 8, -8)],
     () => [view.getUint32(at, true), view.getUint32(at + 4, true) ^ 2 ** chance.below(32)])();
   view.setUint32(at, low, true);
@@ -68,7 +71,8 @@ function spliced(bytes, chance) {
 
 /** Other arguments of an input. */
 function changeArguments(view, chance) {
-  chance.of(() => view.setUint8(0, chance.below(16)), () => view.setUint8(1, chance.below(256)), () => view.setUint16(2, chance.below(300), true),
+  chance.of(() => view.setUint8(0, chance.below(16)), () => view.setUint8(1, chance.below(256)),
+    () => view.setUint16(2, chance.below(300), true),
     () => view.setUint32(4, chance.below(60), true), () => view.setUint32(8, chance.below(90), true),
     () => view.setUint32(12, chance.below(2 ** 32), true), () => { for (let at = 0; at < 12; at += 4) view.setUint32(at, 0, true); })();
 }

@@ -34,7 +34,8 @@ export class Native {
     this.child = spawn(program, { stdio: ["pipe", "pipe", "inherit"] });
     this.held = Buffer.alloc(0);
     this.child.stdout.on("data", (chunk) => this.take(chunk));
-    this.child.on("exit", (status) => { if (this.fail) this.fail(new Error(`RULE BROKEN js: the native library ended with ${status}`)); });
+    const onExit = (status) => this.fail?.(new Error(`RULE BROKEN js: the native library ended with ${status}`));
+    this.child.on("exit", onExit);
   }
 
   take(chunk) {

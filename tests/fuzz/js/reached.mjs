@@ -1,9 +1,9 @@
-// What of the package was run, as V8 counts it.
+// What of the package was run, as Node counts it.
 import { readFileSync } from "node:fs";
 import { Session } from "node:inspector";
 import { fileURLToPath } from "node:url";
 
-/** The counts of a file. A count belongs to each character; V8 leaves out a block that runs as often as what is around it. */
+/** The counts of a file. A count belongs to each character; Node leaves out a block that runs as often as what is around it. */
 class File {
   constructor(url) {
     this.text = readFileSync(fileURLToPath(url), "utf8");
@@ -28,7 +28,8 @@ class File {
     let at = 0;
     for (const [index, line] of this.text.split("\n").entries()) {
       const code = line.trim(), begin = at + line.length - line.trimStart().length;
-      if (/\w/.test(code) && !/^(\/\/|\/?\*)/.test(code)) lines[index + 1] = Math.max(...this.total.subarray(begin, begin + code.length));
+      const isCode = /\w/.test(code) && !/^(\/\/|\/?\*)/.test(code);
+      if (isCode) lines[index + 1] = Math.max(...this.total.subarray(begin, begin + code.length));
       at += line.length + 1;
     }
     return lines;

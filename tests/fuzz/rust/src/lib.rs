@@ -9,6 +9,7 @@
 #[path = "../../../readers/rust/src/walk.rs"]
 mod walk;
 
+mod errors;
 mod input;
 
 use capnp::message::Reader;
@@ -140,9 +141,16 @@ where
 {
     items
         .filter_map(|item| match item {
-            Ok(message) => Some(Ok(*message.report())),
+            Ok(message) => {
+                let report = *message.report();
+                assert_eq!(message.bytes().len(), report.length);
+                assert_eq!(message.as_ref().to_vec(), message.into_bytes());
+                Some(Ok(report))
+            }
             Err(ReadError::NotAccepted(error)) => Some(Err(error)),
-            Err(ReadError::Io(error)) => {
+            Err(error @ ReadError::Io(_)) => {
+                assert_ne!(error.to_string(), "");
+                let error = std::io::Error::from(error);
                 assert_eq!(error.kind(), std::io::ErrorKind::WouldBlock);
                 None
             }
@@ -244,6 +252,7 @@ fn paths(it: &mut Input, is_accepted: bool) {
         assert_ne!(node.to_string(), "");
         let _ = (
             node.text(),
+            node.u8_at(it.choose(9)),
             node.u16_at(it.choose(9)),
             node.u32_at(it.choose(9)),
         );
@@ -311,6 +320,10 @@ pub unsafe extern "C" fn LLVMFuzzerTestOneInput(data: *const u8, size: usize) ->
         streams(&mut it);
         paths(&mut it, verdict.is_ok());
         readers(&mut it);
+        errors::errors(&mut it);
+        errors::packed_message(&mut it);
+        errors::for_capnp(&it);
+        errors::limits(it.limits);
     }
     0
 }

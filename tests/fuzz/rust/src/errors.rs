@@ -1,0 +1,158 @@
+//! What the errors say and become, the paths of refusals, and packed messages.
+
+use crate::input::Input;
+use capvet::{
+    CanonicalError, ExclusiveError, FrameError, GetError, Limits, PackMessageError, Refusal, Step,
+    UnpackMessageError, Unpacking, VetError,
+};
+use std::fmt::Display;
+use std::io;
+
+/// An error has a text, and keeps it as an error of `std::io`.
+fn check<T, E: Copy + Display + Into<io::Error>>(result: Result<T, E>) {
+    if let Err(error) = result {
+        assert_ne!(error.to_string(), "");
+        assert_eq!(error.into().to_string(), error.to_string());
+    }
+}
+
+/// An error of a frame keeps its text as an error of any call.
+fn check_frame(error: FrameError) {
+    check::<(), _>(Err(error));
+    let texts = [
+        VetError::from(error).to_string(),
+        CanonicalError::from(error).to_string(),
+        ExclusiveError::from(error).to_string(),
+        GetError::from(error).to_string(),
+        PackMessageError::from(error).to_string(),
+        UnpackMessageError::from(error).to_string(),
+        capvet_capnp::Error::from(error).to_string(),
+    ];
+    assert!(texts.iter().all(|text| *text == error.to_string()));
+}
+
+/// The path of a refusal is one that leads somewhere, or to what is refused.
+fn check_path(it: &Input, refusal: Refusal) {
+    check::<(), _>(Err(refusal));
+    assert_eq!(VetError::from(refusal).to_string(), refusal.to_string());
+    if let Some(path) = refusal.path(it.bytes, it.limits) {
+        let found = capvet::node(it.bytes, &path.to_string(), it.limits);
+        assert!(!matches!(found, Err(GetError::BadPath { .. })));
+        assert_eq!(Some(&path), refusal.path(it.bytes, it.limits).as_ref());
+        assert!(path.to_string().matches('/').count() == path.steps().len().max(1));
+        assert!(format!("{:?}", path).starts_with("Path("));
+    }
+}
+
+/// The errors of all calls.
+pub fn errors(it: &mut Input) {
+    let (bytes, limits) = (it.bytes, it.limits);
+    if let Err(error) = capvet::frame_length(bytes, limits) {
+        check_frame(error);
+    }
+    let verdict = capvet::vet(bytes, limits);
+    check(verdict);
+    if let Err(VetError::Refused(refusal)) = verdict {
+        check_path(it, refusal);
+    }
+    let mut small = vec![0; it.choose(20)];
+    let mut marks = vec![0; it.choose(2)];
+    let steps = [Step::Pointer(it.choose(3) as u32)];
+    let text = String::from_utf8_lossy(&bytes[..it.choose(bytes.len() + 1) % 20]);
+    check(capvet::vet_exclusive(bytes, limits, &mut marks));
+    check(capvet::canonical_into(bytes, limits, &mut small));
+    check(capvet::node(bytes, &text, limits));
+    for varying in 0..2 {
+        if let Some(found) = capvet::nodes(bytes, steps, varying, limits).next() {
+            check(found);
+        }
+    }
+    check(capvet::pack(bytes));
+    check(capvet::pack_into(bytes, &mut small));
+    check(capvet::unpack(bytes, it.choose(99)));
+    check(capvet::unpack_into(bytes, &mut small));
+    check(capvet::pack_message_into(bytes, limits, &mut small));
+    assert!(capvet::cpu_supported() && capvet::version().0 == 1);
+}
+
+/// A message that is packed by itself is unpacked to its frame, in pieces of any size.
+pub fn packed_message(it: &mut Input) {
+    let packed = match capvet::pack_message(it.bytes, it.limits) {
+        Ok(packed) => packed,
+        Err(error) => return check::<(), _>(Err(error)),
+    };
+    let length = capvet::frame_length(it.bytes, it.limits).expect("what is packed is a frame");
+    let limits = it.limits.allow_trailing(false);
+    let (mut rest, mut held) = (&packed[..0], 0);
+    let (mut out, mut state) = (vec![0; it.choose(64)], Unpacking::default());
+    loop {
+        match capvet::unpack_message(&mut rest, limits, &mut out, &mut state) {
+            Ok(found) => break assert!(found == length && rest.is_empty() && held == packed.len()),
+            Err(UnpackMessageError::BufferTooSmall { required, .. }) => out.resize(required, 0),
+            Err(error) => {
+                assert_ne!(error.to_string(), "");
+                check::<(), _>(Err(error));
+                assert!(error.required() > Some(0) && held < packed.len());
+                let begin = held - rest.len();
+                held = packed.len().min(held + 1 + it.choose(20));
+                rest = &packed[begin..held];
+            }
+        }
+    }
+    // (the padding of a table is packed as zeros)
+    assert_eq!(out[8..length].len(), it.bytes[8..length].len());
+    assert_eq!(
+        capvet::unpack(&packed, length).as_deref(),
+        Ok(&out[..length])
+    );
+    assert!(length <= limits.frame_bound());
+}
+
+/// The calls for the crate `capnp` say the same, and their options are never below those that are needed.
+#[allow(deprecated)]
+pub fn for_capnp(it: &Input) {
+    let by_reader = capvet_capnp::reader(it.bytes, it.limits);
+    let by_segments = capvet_capnp::segments(it.bytes, it.limits);
+    match capvet_capnp::vetted(it.bytes, it.limits) {
+        Ok(vetted) => {
+            assert!(by_reader.is_ok() && by_segments.is_ok());
+            let (least, most) = (vetted.least_options(2), vetted.options(2));
+            assert!(most.traversal_limit_in_words >= least.traversal_limit_in_words);
+            assert!(most.nesting_limit >= least.nesting_limit);
+            let same = capvet_capnp::options(vetted.report(), 2);
+            assert!(same.traversal_limit_in_words >= least.traversal_limit_in_words);
+            let any = capvet_capnp::options_for(it.limits);
+            assert!(
+                any.traversal_limit_in_words >= vetted.least_options(1).traversal_limit_in_words
+            );
+            assert!(any.nesting_limit >= least.nesting_limit);
+            assert!(format!("{:?}", vetted).starts_with("Vetted"));
+        }
+        Err(error) => {
+            assert_eq!(by_reader.err(), Some(*error.reason()));
+            assert_eq!(by_segments.err(), Some(VetError::from(error)));
+            let text = error.to_string();
+            assert_eq!(io::Error::from(error).to_string(), text);
+            assert_eq!(capnp::Error::from(error).description, text);
+        }
+    }
+}
+
+/// The limits that are set are those that are asked for.
+pub fn limits(limits: Limits) {
+    let flags = [
+        limits.allows_trailing(),
+        limits.allows_nonstrict(),
+        limits.allows_amplified(),
+        limits.has_no_table(),
+    ];
+    let same = Limits::default()
+        .message_words(limits.message_words_limit())
+        .charge(limits.charge_limit())
+        .depth(limits.depth_limit())
+        .allow_trailing(flags[0])
+        .allow_nonstrict(flags[1])
+        .allow_amplified(flags[2])
+        .no_table(flags[3]);
+    assert_eq!(same, limits);
+}
