@@ -47,10 +47,12 @@ class Target {
   }
 }
 
-/** The first step that leads to the same word as an earlier one, or null. */
+/** The first pointer that is at the same word as an earlier one, or null. */
 function circleOf(way) {
   const seen = new Map();
   for (const [number, step] of way.steps.entries()) {
+    // (an element begins with its first pointer, if it has no data)
+    if (step.isElement) continue;
     if (seen.has(step.at)) return { from: seen.get(step.at), to: number };
     seen.set(step.at, number);
   }
