@@ -63,7 +63,8 @@ function circleOf(way) {
 function circleFacts(message, way) {
   const circle = circleOf(way);
   if (!circle) return [];
-  const [first, again] = [circle.from, circle.to].map((number) => pathOf(way.steps.slice(0, number + 1))), { at } = way.steps[circle.from];
+  const [first, again] = [circle.from, circle.to].map((number) => pathOf(way.steps.slice(0, number + 1)));
+  const { at } = way.steps[circle.from];
   return [{ name: "circle", text: `${again} leads to ${message.place(at)} again, first at ${first}`, at }];
 }
 
@@ -85,7 +86,8 @@ function sentenceOf(reason) {
 export function explained(message, refusal, way, text, earlier) {
   const { reason } = refusal, lines = (text ?? overlapText(message, way, earlier)).trimEnd().split("\n").map(lineOf);
   const target = new Target(message, way, reason), named = { pointer: [way?.at], ...target.named };
-  const facts = lines.filter(({ name }) => !ELSEWHERE.has(name)).map((it) => ({ ...it, at: named[it.name]?.shift() ?? null }));
+  const facts = lines.filter(({ name }) => !ELSEWHERE.has(name));
+  for (const fact of facts) fact.at = named[fact.name]?.shift() ?? null;
   if (way) facts.push(...circleFacts(message, way));
   if (earlier) facts.push({ name: "earlier", text: `${earlier.path} at ${earlier.pointer} uses ${earlier.place} too`, at: earlier.at });
   return {
