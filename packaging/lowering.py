@@ -1,8 +1,8 @@
 """Makes the WebAssembly module that engines run, of the one that the toolchain links. targets.py runs it.
 
-The linked module has 64-bit memory, which few engines have. binaryen's `wasm-opt` lowers it to 32 bits and leaves sizes and addresses
-64-bit integers, which hosts in JavaScript have to make for each call. So each export gets a function in front that takes 32 bits. What
-is proved is changed by `wasm-opt` alone, and not here.
+The linked module has 64-bit memory, which few engines have. binaryen's `wasm-opt` lowers it to 32 bits, and leaves sizes and
+addresses 64-bit integers, which hosts in JavaScript have to make for each call. So each export gets a function before it that takes
+32 bits. What is proved is changed by `wasm-opt` alone, and not here.
 """
 import re
 import subprocess

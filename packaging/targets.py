@@ -9,8 +9,8 @@
 
 Rattle's compiler makes the object files; it builds only proved code, and proves again what the crate of the program or of the
 exports has itself. The other steps are not proved: the linkers of gcc, packaging/host.c, and packaging/lowering.py, which turns
-64-bit memory into 32-bit memory by binaryen's `wasm-opt`. A target whose tools are missing ends in status 2, with the package to install.
-Files that were made of the same program and library are kept.
+64-bit memory into 32-bit memory by binaryen's `wasm-opt`. A target whose tools are missing ends in status 2, with the package to
+install. Files that were made of the same program and library are kept.
 """
 import fcntl
 import hashlib

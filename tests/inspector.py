@@ -248,6 +248,14 @@ def damaged():
     return bytes(data)
 
 
+# How many points are red in the last rows of the map.
+RED = """(() => { const map = document.querySelector('#map canvas'), rows = 16 * devicePixelRatio;
+  const { data } = map.getContext('2d').getImageData(0, map.height - rows, map.width, rows);
+  let count = 0;
+  for (let i = 0; i < data.length; i += 4) if (data[i] > data[i + 1] + 80) count++;
+  return count; })()"""
+
+
 def test_refusal(page, folder):
     """What the page says of a refused message, and the words that aren't there."""
     (folder / "damaged.bin").write_bytes(damaged())
@@ -266,6 +274,14 @@ def test_refusal(page, folder):
     expect("words that aren't there", len(ghosts) == 6 and "1,048,239 words further" in ghosts[0] and "0:1048631" in ghosts[1], ghosts)
     page.keys("r")
     compare("the key to the refused pointer", ("0:7", "0:7"), (page.place(), page.chosen()))
+    many = bytearray((TOP / "examples/contacts-many-segments.bin").read_bytes())
+    many[630] = 0x67
+    (folder / "missing.bin").write_bytes(many)
+    page.load(folder / "missing.bin")
+    compare("a missing segment", "message 0: refused SegmentMissing at 2:19 pointers 24", page.text("line"))
+    # (the arrow alone has some 40 red points there)
+    red = page.value(RED)
+    expect("the map says at its edge where the arrow leads", red > 120, red)
     page.is_quiet("a damaged message")
 
 

@@ -110,6 +110,9 @@ export async function all(body: ReadableStream<Uint8Array>, file: AsyncIterable<
   const { value } = await reader.read();
   console.log(value?.report?.depth);
 }
+const count: number = capvet.canonicalInto(bytes, new Uint8Array(9), { depth: 3 });
+const lines: string | null = capvet.explain(bytes.buffer);
+console.log(count, lines);
 for (const it of capvet.nodes(bytes, "/p*", { first: 1, count: 2 })) console.log(it?.kind, it?.data.length, first);
 """
 # Each of these lines has a fault.
@@ -119,6 +122,8 @@ capvet.vet(new Uint8Array(8), { dept: 3 });
 capvet.vet(new Uint8Array(8), { depth: 3n });
 capvet.vet(new Uint8Array(8)).charge.length;
 capvet.node(new Uint8Array(8), "/").kind;
+capvet.explain(new Uint8Array(8)).length;
+capvet.canonicalInto(new Uint8Array(8), new ArrayBuffer(8));
 capvet.readMessages(new Uint8Array(8));
 capvet.messages(new Uint8Array(8), { packed: true });
 for (const it of capvet.messages(new Uint8Array(8))) console.log(it.report.charge);
@@ -152,7 +157,7 @@ def typed(folder):
     compare("tsc of the programs", ("", 0), run([*TSC, "--noImplicitAny", "false", *right], cwd=here))
     text, status = run([*TSC, "wrong.mts"], cwd=here)
     lines = sorted({int(line) for line in re.findall(r"^wrong.mts\((\d+),", text, re.M)})
-    compare("tsc of what is wrong", (True, list(range(2, 12))), (status != 0, lines))
+    compare("tsc of what is wrong", (True, list(range(2, 14))), (status != 0, lines))
 
 
 # ------------------------------------------------------------------ costs

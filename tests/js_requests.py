@@ -73,6 +73,8 @@ def batch(messages, chance):
     for it in (STRICT, LAX):
         yield request("dump", it, stream, chance)
         yield request("check", it, stream, chance)
+        yield request("explain", it, stream, chance)
+    yield request("explain", RUNS[-1], stream, chance)
     for path in (some_path(chance) for _ in range(3)):
         it = request("get", LAX, stream, chance, words=path)
         it.asked["path"] = path

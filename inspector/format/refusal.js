@@ -47,10 +47,12 @@ class Target {
   }
 }
 
-/** The first step that leads to the same word as an earlier one, or null. */
+/** The first pointer that is at the same word as an earlier one, or null. */
 function circleOf(way) {
   const seen = new Map();
   for (const [number, step] of way.steps.entries()) {
+    // (an element begins with its first pointer, if it has no data)
+    if (step.isElement) continue;
     if (seen.has(step.at)) return { from: seen.get(step.at), to: number };
     seen.set(step.at, number);
   }
@@ -61,7 +63,8 @@ function circleOf(way) {
 function circleFacts(message, way) {
   const circle = circleOf(way);
   if (!circle) return [];
-  const [first, again] = [circle.from, circle.to].map((number) => pathOf(way.steps.slice(0, number + 1))), { at } = way.steps[circle.from];
+  const [first, again] = [circle.from, circle.to].map((number) => pathOf(way.steps.slice(0, number + 1)));
+  const { at } = way.steps[circle.from];
   return [{ name: "circle", text: `${again} leads to ${message.place(at)} again, first at ${first}`, at }];
 }
 
@@ -83,7 +86,8 @@ function sentenceOf(reason) {
 export function explained(message, refusal, way, text, earlier) {
   const { reason } = refusal, lines = (text ?? overlapText(message, way, earlier)).trimEnd().split("\n").map(lineOf);
   const target = new Target(message, way, reason), named = { pointer: [way?.at], ...target.named };
-  const facts = lines.filter(({ name }) => !ELSEWHERE.has(name)).map((it) => ({ ...it, at: named[it.name]?.shift() ?? null }));
+  const facts = lines.filter(({ name }) => !ELSEWHERE.has(name));
+  for (const fact of facts) fact.at = named[fact.name]?.shift() ?? null;
   if (way) facts.push(...circleFacts(message, way));
   if (earlier) facts.push({ name: "earlier", text: `${earlier.path} at ${earlier.pointer} uses ${earlier.place} too`, at: earlier.at });
   return {

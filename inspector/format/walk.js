@@ -132,7 +132,7 @@ class Rows {
   steps(isPointers) {
     const at = this.first + this.row * (this.data + this.pointers);
     const step = { label: `${isPointers ? "i" : "p"}${this.index}`, at: at + this.data + this.index };
-    return this.isStructs ? [{ label: `i${this.row}`, at }, step] : [step];
+    return this.isStructs ? [{ label: `i${this.row}`, at, isElement: true }, step] : [step];
   }
 }
 

@@ -181,7 +181,8 @@ export class MapView {
     const [x1, y1] = this.centre(from, top), [x2, y2] = ghost ? this.ghostCentre(ghost, top) : this.centre(last, top);
     const isBelow = y2 > scroller.height;
     if (!isBelow && y2 > 0) return;
-    const y = isBelow ? scroller.height - 8 : 8, text = `${isBelow ? "↓" : "↑"} ${ghost ? ghostText(ghost) : this.message.place(last)}`;
+    const text = `${isBelow ? "↓" : "↑"} ${ghost ? ghostText(ghost) : this.message.place(last)}`;
+    const y = isBelow ? scroller.height - 8 : 8;
     const { width } = pen.measureText(text), crossing = x1 + (x2 - x1) * (y - y1) / (y2 - y1);
     const x = Math.max(4, Math.min(crossing + 12, view.clientWidth - width - 8));
     pen.fillStyle = ink.panel;

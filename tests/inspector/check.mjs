@@ -32,15 +32,21 @@ function followed(message, way) {
   return { found, reason };
 }
 
-/** The word to which a path leads, step by step. */
+/** The node to which a path leads, step by step. */
+function nodeAt(message, path) {
+  let node = Node.root(message);
+  for (const label of parsePath(path).labels) node = node.child(node.indexOf(label));
+  return node;
+}
+
 function wordAt(message, path) {
-  let node = Node.root(message), at = node.at;
-  for (const label of parsePath(path).labels) {
-    const index = node.indexOf(label);
-    at = node.childAt(index);
-    node = node.child(index);
-  }
-  return at;
+  return nodeAt(message, path).at;
+}
+
+/** Whether two paths lead to one pointer. */
+function isCircle(message, { text, at }) {
+  const [, ...paths] = /^(\S+) leads to \S+ again, first at (\S+)$/.exec(text), nodes = paths.map((path) => nodeAt(message, path));
+  return nodes.every((node) => node.at === at && !node.isElement);
 }
 
 function checkAccepted(it, message, { charge, pointers }) {
@@ -75,6 +81,7 @@ function checkRefused(it, message, verdict, text) {
   const names = facts.filter((fact) => fact.at !== null).map((fact) => fact.name);
   check("the words of the facts", facts.every((fact) => fact.at === null || fact.text.startsWith(beginning(message, fact))), it);
   check("the pointer is a fact", names[0] === "pointer", it);
+  check("a circle", facts.every((fact) => fact.name !== "circle" || isCircle(message, fact)), it);
   check("each pad is a fact with a word", facts.every(({ name, at }) => name !== "pad" || at !== null), it);
   check("the place", message.place(way.at) === place, it);
   check("the path", wordAt(message, path) === way.at && (reason === "Overlap" || text.startsWith(`  path ${path}\n`)), it);

@@ -181,7 +181,8 @@ function canonParts(capvet, { options }, message) {
   try {
     const words = capvet.canonical(message.raw, limitsOf(options)), table = new DataView(new ArrayBuffer(8));
     table.setUint32(4, words.length / 8, true);
-    return [new Uint8Array(table.buffer), words];
+    const out = new Uint8Array(words.length), count = capvet.canonicalInto(message.raw, out, limitsOf(options));
+    return [new Uint8Array(table.buffer), count === words.length ? out : `canonicalInto gives ${count} bytes\n`];
   } catch (error) {
     const isSame = error instanceof capvet.CapabilityError ? error.report.capabilities === message.report.capabilities
       : error instanceof capvet.Refusal && verdict({ refusal: error }) === verdict(message);
@@ -216,6 +217,8 @@ const COMMANDS = {
   dump: each(dumpLines),
   get: each(getLines),
   check: each(checkLines),
+  explain: each((capvet, { options }, { number, raw, ...message }) => (
+    [`message ${number}: ${verdict(message)}\n`, capvet.explain(raw, limitsOf(options)) ?? ""])),
   canon: each(canonParts),
   // (the program writes accepted messages here, and the lines of the others to standard error)
   filter: each((capvet, asked, { refusal, raw }) => (refusal === null ? [capvet.packMessage(raw, limitsOf(asked.options))] : [])),

@@ -22,8 +22,8 @@ int main(int count, char **words) {
   if (count != 3) return 2;
   FILE *file = fopen(words[1], "rb");
   if (file == NULL || fseek(file, 0, SEEK_END) != 0) return 2;
-  const size_t length = (size_t)ftell(file);
-  uint8_t *bytes = malloc(length), *out = malloc(2 * length + 64);
+  const size_t length = (size_t)ftell(file), size = 2 * length + 64;
+  uint8_t *bytes = malloc(length), *out = malloc(size);
   rewind(file);
   if (bytes == NULL || out == NULL || fread(bytes, 1, length, file) != length) return 2;
   double least[2] = {1e18, 1e18};
@@ -37,7 +37,7 @@ int main(int count, char **words) {
       for (size_t pass = 0; pass < passes; pass++)
         for (at = 0, messages = 0; at < length; at += report.length, messages++)
           if ((call == 0 ? capvet_vet(bytes + at, length - at, &LIMITS, &report)
-                         : capvet_canonical(bytes + at, length - at, &LIMITS, out, 2 * length + 64, &required, &report)) != CAPVET_OK)
+                         : capvet_canonical(bytes + at, length - at, &LIMITS, out, size, &required, &report)) != CAPVET_OK)
             return 1;
       end = now();
       const double each = (end - begin) / (double)(passes * messages);

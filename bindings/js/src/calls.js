@@ -191,16 +191,22 @@ const MAX_SIZE = 67110920;
 export function unpack(data, options = {}) {
   checkNames(options, ["maxSize"]);
   const most = numberOf("maxSize", options.maxSize ?? MAX_SIZE, Number.MAX_SAFE_INTEGER);
-  const input = bytesOf(data), start = after(input.length);
-  const call = (size) => calls.capvet_unpack(at.input, input.length, address(start), size, at.required);
-  place(input);
-  let answer = call(0);
+  const input = bytesOf(data), { length } = input;
+  // (few packed bytes give more than four times as many)
+  const guess = Math.min(4 * length, most, MAX_GUESS);
+  place(input, guess);
+  let answer = unpackAnswer(length, guess);
   const size = number(REQUIRED);
   if (answer === BUFFER_TOO_SMALL && size <= most) {
-    reserve(start + size);
-    answer = call(size);
+    reserve(after(length) + size);
+    answer = unpackAnswer(length, size);
   }
   if (answer === TRUNCATED) throw new UnpackError("Truncated: the data end inside a group", nameOf(TRUNCATED));
   if (answer !== OK) throw new UnpackError("TooLarge: more than maxSize bytes", nameOf(TOO_LARGE));
-  return written(input.length).slice();
+  return written(length).slice();
+}
+
+/** What capvet_unpack answers about the input that was placed, with so many bytes for its result. */
+function unpackAnswer(length, size) {
+  return calls.capvet_unpack(at.input, length, address(after(length)), size, at.required);
 }

@@ -97,6 +97,8 @@ export function bytesOf(data) {
 
 /** The same as a Uint8Array that is of no class below it: what the package returns parts of. */
 export function plainBytesOf(data) {
+  // (a view takes longer to make than most calls do)
+  if (data instanceof Uint8Array && Object.getPrototypeOf(data) === Uint8Array.prototype) return data;
   if (ArrayBuffer.isView(data)) return new Uint8Array(data.buffer, data.byteOffset, data.byteLength);
   const isShared = typeof SharedArrayBuffer !== "undefined" && data instanceof SharedArrayBuffer;
   if (isShared || data instanceof ArrayBuffer) return new Uint8Array(data);

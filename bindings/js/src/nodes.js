@@ -50,14 +50,24 @@ function nodeAt(from, input) {
   });
 }
 
+/** Writes a path, and returns how many bytes it takes. */
+function writePath(path, start) {
+  for (let index = 0; index < path.length; index++) {
+    const code = path.charCodeAt(index);
+    // (no path has such a letter, and an encoder takes longer than the call)
+    if (code > 127) return ENCODER.encodeInto(path, bytes.subarray(start)).written;
+    bytes[start + index] = code;
+  }
+  return path.length;
+}
+
 /** What capvet_get answers. The limits are written. */
 function getAnswer(input, path) {
   if (typeof path !== "string") throw new TypeError("the path has to be a string");
   const start = after(input.length);
   // (a letter takes at most three bytes)
   place(input, 3 * path.length);
-  const { written } = ENCODER.encodeInto(path, bytes.subarray(start));
-  return calls.capvet_get(at.input, input.length, at.limits, address(start), written, at.nodes, at.report);
+  return calls.capvet_get(at.input, input.length, at.limits, address(start), writePath(path, start), at.nodes, at.report);
 }
 
 export function node(data, path, limits) {
