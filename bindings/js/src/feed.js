@@ -43,6 +43,16 @@ class Plain {
     this.rest = chunk;
   }
 
+  /** A copy of the message that begins here, if all of it has come, or null. */
+  whole(messageWords) {
+    const length = frameLength(this.rest, messageWords);
+    if (length > this.rest.length) return null;
+    const raw = this.rest.slice(0, length);
+    this.rest = this.rest.subarray(length);
+    this.taken += length;
+    return raw;
+  }
+
   /** Moves up to `held.missing` bytes. */
   fill(held) {
     const part = this.rest.subarray(0, held.missing);
@@ -72,6 +82,11 @@ class Packed {
     rest.set(this.rest);
     rest.set(chunk, this.rest.length);
     this.rest = rest;
+  }
+
+  /** A packed message shows its length only as it is unpacked. */
+  whole() {
+    return null;
   }
 
   fill(held) {
@@ -127,18 +142,21 @@ export class Feed {
 
   /** The next message, or null if more bytes are required. */
   next() {
-    for (const held = this.#held; ;) {
+    const { messageWords } = this.#kind.limits, held = this.#held, whole = held.length > 0 ? null : this.#source.whole(messageWords);
+    if (whole !== null) return this.#message(whole);
+    for (;;) {
       this.#source.fill(held);
       if (held.missing > 0) return null;
-      const required = frameLength(held.bytes, this.#kind.limits.messageWords);
-      if (required <= held.length) return this.#message();
+      const required = frameLength(held.bytes, messageWords);
+      if (required <= held.length) break;
       held.required = required;
     }
+    this.#held = new Held();
+    return this.#message(held.bytes);
   }
 
-  #message() {
-    const message = messageOf(this.#held.bytes, this.#kind, this.#index, this.#offset);
-    this.#held = new Held();
+  #message(raw) {
+    const message = messageOf(raw, this.#kind, this.#index, this.#offset);
     this.#index++;
     this.#offset = this.#source.taken;
     return message;
