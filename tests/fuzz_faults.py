@@ -98,7 +98,7 @@ FAULTS = (
           "reader.Buffered() <= 1 {\n\t\treturn conn"),
     Fault("go-serve", "an address is counted after its connections", "guard/peers.go", "if p.count[peer]--; p.count[peer] == 0 {",
           "if p.count[peer]--; p.count[peer] < 0 {"),
-    Fault("go-serve", "the bytes after a header are lost", "guard/guard.go", "c.conn = next", "c.conn = conn"),
+    Fault("go-serve", "the bytes after a header are lost", "guard/guard.go", "c.conn = next", "c.conn, _ = conn, next"),
     Fault("go-options", "a size has no bound", "guard/options.go", "if errors.As(err, &limits) {", "if errors.As(err, &limits) && false {"),
     Fault("python", "the bound of packing is too low", "bindings/python/capvet/calls.py", "size = len(view) // 8 * 10",
           "size = len(view) // 8 * 9"),

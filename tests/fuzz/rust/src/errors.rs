@@ -156,3 +156,33 @@ pub fn limits(limits: Limits) {
         .no_table(flags[3]);
     assert_eq!(same, limits);
 }
+
+/// A reader that is left gives back what it has not read, and the part of a message that it holds.
+pub fn readers(it: &Input) {
+    let (bytes, limits) = (it.bytes, it.limits.allow_trailing(false));
+    let mut plain = capvet::read_messages(bytes, limits);
+    let mut packed = capvet::read_packed_messages(bytes, limits);
+    let mut all = capvet::messages(bytes, limits);
+    for _ in 0..2 {
+        assert_eq!(
+            plain
+                .next()
+                .and_then(Result::ok)
+                .map(capvet::MessageBuf::into_bytes),
+            all.next()
+                .and_then(Result::ok)
+                .map(|message| message.bytes().to_vec())
+        );
+        packed.next();
+    }
+    assert!(format!("{:?}", plain).starts_with("ReadMessages"));
+    assert!(format!("{:?}", packed).starts_with("ReadPackedMessages"));
+    assert!(format!("{:?}", all).starts_with("Messages"));
+    let held = plain.partial().len();
+    let left = plain.into_inner();
+    assert!(bytes.ends_with(left) && held + left.len() <= bytes.len());
+    assert!(bytes.ends_with(packed.into_inner()));
+    let many = vec![&bytes[..0]; 511 + bytes.len() % 4];
+    let verdict = capvet::vet_segments(&many, it.limits);
+    assert!(verdict.is_err());
+}

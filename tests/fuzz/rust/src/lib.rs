@@ -323,6 +323,7 @@ pub unsafe extern "C" fn LLVMFuzzerTestOneInput(data: *const u8, size: usize) ->
         errors::errors(&mut it);
         errors::packed_message(&mut it);
         errors::for_capnp(&it);
+        errors::readers(&it);
         errors::limits(it.limits);
     }
     0
