@@ -2,6 +2,7 @@ package main
 
 import (
 	"bytes"
+	"errors"
 	"fmt"
 	"io"
 	"net"
@@ -245,7 +246,7 @@ func FuzzOptions(f *testing.F) {
 		if err != nil || o.isHelp || o.isVersion {
 			return
 		}
-		if _, err := capvet.Vet(nil, o.limits); err != io.EOF || o.memory < 1<<20 || o.connectTimeout <= 0 || o.connect.network == "" ||
+		if _, err := capvet.Vet(nil, o.limits); !errors.Is(err, io.EOF) || o.memory < 1<<20 || o.connectTimeout <= 0 || o.connect.network == "" ||
 			o.maxConnections < 0 || o.maxPerPeer < 0 || o.sendProxy > 2 || o.messageTimeout < 0 || o.idleTimeout < 0 || o.drainTimeout < 0 {
 			t.Fatal(words, o)
 		}

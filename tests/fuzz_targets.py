@@ -388,13 +388,13 @@ class JavaScript(Target):
     def replay(self, tree, kept):
         return self.ran(tree, kept)
 
-    def search(self, tree, kept, seconds):
-        return self.ran(tree, kept, str(seconds), seconds=seconds + 300)
+    def search(self, tree, kept, seconds, seed=0):
+        return self.ran(tree, kept, str(seconds), str(seed), seconds=seconds + 300)
 
     def coverage(self, tree, kept):
         self.build(tree)
         lines = tree.out / "js.json"
-        self.ran(tree, kept, "0", lines)
+        self.ran(tree, kept, "0", "0", lines)
         return {f"bindings/js/{name}": {int(line): count for line, count in counts.items()}
                 for name, counts in json.loads(lines.read_text()).items()}
 

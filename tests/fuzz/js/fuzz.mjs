@@ -1,11 +1,12 @@
 // Fuzz target: the package for JavaScript beside the native library.
 //
-//     fuzz.mjs PACKAGE NATIVE CORPUS KEPT [SECONDS [LINES]]
+//     fuzz.mjs PACKAGE NATIVE CORPUS KEPT [SECONDS [SEED [LINES]]]
 //
 // PACKAGE is capvet.js of the package, and NATIVE the program that native.c is. Each input of the folders CORPUS and KEPT runs once.
 // For SECONDS inputs are then changed. Those that run something new of the package, by the blocks that Node counts, are kept in
-// KEPT and changed further. LINES is a file for the lines that were run. An input is 16 bytes of arguments and then a message or
-// a stream: see fuzz.h. A difference ends the process, with status 1. The last line is 'Done N runs'.
+// KEPT and changed further. The SEED 0 is another one each time. LINES is a file for the lines that were run. An input is 16 bytes
+// of arguments and then a message or a stream: see fuzz.h. A difference ends the process, with status 1. The last line is
+// 'Done N runs'.
 import { createHash } from "node:crypto";
 import { mkdirSync, readFileSync, readdirSync, writeFileSync } from "node:fs";
 import { join } from "node:path";
@@ -15,7 +16,7 @@ import { Chance, changed, inputOf } from "./input.mjs";
 import { Native } from "./native.mjs";
 import { Reached } from "./reached.mjs";
 
-const [name, program, corpus, kept, seconds = "0", lines] = process.argv.slice(2);
+const [name, program, corpus, kept, seconds = "0", seed = "0", lines] = process.argv.slice(2);
 const source = pathToFileURL(name).href;
 const reached = new Reached(source.slice(0, source.lastIndexOf("/") + 1));
 const capvet = await import(source), native = new Native(program);
@@ -60,7 +61,7 @@ const inputsOf = (folder) => readdirSync(folder).sort().map((file) => new Uint8A
 
 mkdirSync(kept, { recursive: true });
 for (const whole of [...inputsOf(corpus), ...inputsOf(kept)]) await check(whole);
-const chance = new Chance(Date.now()), end = performance.now() + 1000 * Number(seconds);
+const chance = new Chance(Number(seed) || Date.now()), end = performance.now() + 1000 * Number(seconds);
 while (performance.now() < end) {
   const before = found.length, [one, other] = [0, 0].map(() => found[chance.below(before)]);
   const whole = changed(one, other, chance);
