@@ -107,7 +107,9 @@ class Run {
     for (const auto &report : model.reports) {
       if (report.segments >= CAPVET_MAX_SEGMENTS) return true;
     }
-    return false;
+    // (also one that is cut after its table)
+    const auto rest = model.rest;
+    return model.answer == CAPVET_TRUNCATED && rest.size() >= 4 && fuzz_number(rest.begin(), 4) + 1 >= CAPVET_MAX_SEGMENTS;
   }
 
   // Whether a promise is done, after what it may wait for: writes, and the deadline of a message.

@@ -103,7 +103,6 @@ impl fmt::Display for ReadError {
 impl std::error::Error for ReadError {}
 
 /// An iterator over the messages of a stream; see [`read_messages`].
-#[derive(Debug)]
 #[must_use = "an iterator reads nothing before it is asked"]
 pub struct ReadMessages<R> {
     reader: R,
@@ -112,6 +111,18 @@ pub struct ReadMessages<R> {
     bytes: Vec<u8>,
     required: usize,
     is_over: bool,
+}
+
+// (how many bytes are held, and not the bytes: they may be many)
+impl<R: fmt::Debug> fmt::Debug for ReadMessages<R> {
+    fn fmt(&self, f: &mut fmt::Formatter<'_>) -> fmt::Result {
+        f.debug_struct("ReadMessages")
+            .field("reader", &self.reader)
+            .field("limits", &self.limits)
+            .field("held", &self.bytes.len())
+            .field("is_over", &self.is_over)
+            .finish_non_exhaustive()
+    }
 }
 
 /// Returns an iterator over the messages that `reader` gives, one after the other (encoding: Serialization Over a Stream). It
@@ -228,7 +239,6 @@ fn is_last(read: &Result<Option<Vec<u8>>, ReadError>) -> bool {
 }
 
 /// An iterator over the messages of a packed stream; see [`read_packed_messages`].
-#[derive(Debug)]
 #[must_use = "an iterator reads nothing before it is asked"]
 pub struct ReadPackedMessages<R> {
     reader: R,
@@ -239,6 +249,18 @@ pub struct ReadPackedMessages<R> {
     out: Vec<u8>,
     state: Unpacking,
     is_over: bool,
+}
+
+// (how many bytes are held, and not the bytes: they may be many)
+impl<R: fmt::Debug> fmt::Debug for ReadPackedMessages<R> {
+    fn fmt(&self, f: &mut fmt::Formatter<'_>) -> fmt::Result {
+        f.debug_struct("ReadPackedMessages")
+            .field("reader", &self.reader)
+            .field("limits", &self.limits)
+            .field("held", &(self.packed.len() - self.start))
+            .field("is_over", &self.is_over)
+            .finish_non_exhaustive()
+    }
 }
 
 /// Returns an iterator over the messages of the packed stream that `reader` gives (encoding: Packing). It vets each one as it
