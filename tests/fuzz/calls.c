@@ -8,7 +8,7 @@
  *   - A message in separate segments has the same answer as its frame.
  *   - The canonical form of a canonical form is the same, and capvet_is_canonical accepts no other bytes.
  *   - capvet_get_range gives the nodes of capvet_get, and these are inside the frame.
- *   - What capvet_vet refuses is explained, with the path of capvet_pointer_path, and nothing else is.
+ *   - Each refusal of capvet_vet is explained, with the path of capvet_pointer_path, and nothing else is.
  *   - Unpacking gives what was packed, however the packed bytes are cut.
  *   - Nothing is written after the end of an output, or anywhere if the call fails. */
 #include "fuzz.h"

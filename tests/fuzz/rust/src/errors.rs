@@ -31,7 +31,7 @@ fn check_frame(error: FrameError) {
     assert!(texts.iter().all(|text| *text == error.to_string()));
 }
 
-/// The path of a refusal is one that leads somewhere, or to what is refused.
+/// The path of a refusal leads to a node, or to the pointer that is refused.
 fn check_path(it: &Input, refusal: Refusal) {
     check::<(), _>(Err(refusal));
     assert_eq!(VetError::from(refusal).to_string(), refusal.to_string());
