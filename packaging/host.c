@@ -13,6 +13,8 @@ typedef struct {
   uint8_t *p;
 } Tried;
 
+enum { LINE = 64, LARGE = 4096 };
+
 static uint8_t nothing;
 static int argument_count;
 static char **arguments;
@@ -26,7 +28,11 @@ static Tried tried(void *p) {
  * malloc(0) may return NULL. */
 _Static_assert(_Alignof(max_align_t) == 16, "malloc aligns to 16 bytes");
 
-Tried rattle_alloc(size_t size, size_t alignment) { return tried(malloc(size != 0 ? size : alignment)); }
+Tried rattle_alloc(size_t size, size_t alignment) {
+  /* A large block begins at a cache line, since the system copies to one faster. (docs/internals/speed.md has the times.) */
+  if (size >= LARGE && size <= SIZE_MAX - LINE) return tried(aligned_alloc(LINE, (size + LINE - 1) / LINE * LINE));
+  return tried(malloc(size != 0 ? size : alignment));
+}
 
 /* The first `kept` bytes stay as they are. Without memory the block stays whole. */
 Tried rattle_realloc(uint8_t *p, size_t kept, size_t size, size_t alignment) {
