@@ -1,11 +1,12 @@
 -- The one canonical copy of an accepted message.
 use Rattle.std.proofs.Common.{ℕ, ◌+◌, ◌<◌, ◌≤◌, ◌^◌, List, ◌≡◌, ◌≢◌, ap, refl, sym, subst, ◌∙◌, arith, length, true, false, None, [], ◌∷◌}
 use Rattle.std.proofs.lemmas.Bool.{eqb-true, false≢true}
+use Rattle.cap_spec.specs.Lists.{IsOneOf}
 use Rattle.cap_spec.specs.Tree.{Tree, cap_count, has_cap}
 use Rattle.cap_spec.specs.Denoting.{Denotes}
 use Rattle.cap_spec.specs.Canonical.{layout, trim}
 use Rattle.cap_spec.specs.Following.{Leads, to_cap}
-use Rattle.cap_spec.specs.Paths.{IsFirstCap, IsOneOf, Reaches}
+use Rattle.cap_spec.specs.Paths.{IsFirstCap, Reaches}
 use Rattle.cap_spec.specs.declared.Step.{Step}
 use Rattle.cap_spec.proofs.Trees.OneTree.{one_tree}
 use Rattle.cap_spec.proofs.Paths.PathCounts.{caps_counted, first_cap}

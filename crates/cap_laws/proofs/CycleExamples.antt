@@ -1,10 +1,11 @@
 -- A struct whose one pointer leads back to the struct: the pointer that passes a limit is the first fault.
 use Rattle.std.proofs.Common.{◌≡◌, ◌≤◌, ◌<◌, ◌+◌, ◌⊎◌, ◌++◌, [], ◌∷◌, List, ℕ, zero, suc, length, inl, inr, refl, sym, subst, ap, ap₂, ◌∙◌, arith, lit<, lit≤}
 use Rattle.std.proofs.lemmas.Bool.{cases_lt}
+use Rattle.cap_spec.specs.Lists.{IsOneOf}
 use Rattle.cap_spec.specs.Faults.{AreShallow, IsFirstReason, IsRefused, is_deep, is_past}
 use Rattle.cap_spec.specs.Following.{near}
 use Rattle.cap_spec.specs.Denoting.{Finds}
-use Rattle.cap_spec.specs.Paths.{Before, Costs, Goes, IsOneOf, IsTour, Reaches, Rises, Spot, Walks, word}
+use Rattle.cap_spec.specs.Paths.{Before, Costs, Goes, IsTour, Reaches, Rises, Spot, Walks, word}
 use Rattle.cap_spec.specs.Verdicts.{CostOf}
 use Rattle.cap_spec.specs.declared.Reason.{Reason}
 use Rattle.cap_spec.specs.declared.Reason.TheVariants.{DepthLimit, WordLimit}

@@ -2,10 +2,11 @@
 -- and one with a two-word pad that is strict.
 use Rattle.std.proofs.Common.{◌≡◌, ◌⊎◌, [], ◌∷◌, List, ℕ, inl, inr, refl, sym, subst, arith, lit<, lit≤}
 use Rattle.std.specs.Prelude.{pos}
+use Rattle.cap_spec.specs.Lists.{IsOneOf}
 use Rattle.cap_spec.specs.Denoting.{Denotes, Finds}
 use Rattle.cap_spec.specs.Following.{near, one_pad, two_pads, to_object, to_null, to_cap}
 use Rattle.cap_spec.specs.Messages.{segment_of}
-use Rattle.cap_spec.specs.Paths.{Before, IsOneOf, IsTour, Reaches}
+use Rattle.cap_spec.specs.Paths.{Before, IsTour, Reaches}
 use Rattle.cap_spec.specs.Strict.{IsFirstLax, IsLaxAt, IsStrict}
 use Rattle.cap_spec.specs.Tree.{null}
 use Rattle.cap_spec.specs.declared.Lax.{Lax}

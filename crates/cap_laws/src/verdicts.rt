@@ -1,16 +1,17 @@
 //! What a message's root denotes, and how a message may be refused.
 
 ghost use Rattle.std.specs.Prelude.{ℕ, List, ◌≡◌, ◌≤◌, ◌<◌, ◌+◌, ◌↔◌, length};
+ghost use Rattle.cap_spec.specs.Lists.{IsOneOf, AreDistinct};
 ghost use Rattle.cap_spec.specs.declared.Step.{Step};
 ghost use Rattle.cap_spec.specs.declared.Reason.{Reason};
 ghost use Rattle.cap_spec.specs.declared.Refusal.{Refusal};
 ghost use Rattle.cap_spec.specs.Following.{Wrong};
 ghost use Rattle.cap_spec.specs.Tree.{Tree};
 ghost use Rattle.cap_spec.specs.Denoting.{Denotes};
-ghost use Rattle.cap_spec.specs.Paths.{Reaches, Rises, IsOneOf};
+ghost use Rattle.cap_spec.specs.Paths.{Reaches, Rises};
 ghost use Rattle.cap_spec.specs.Faults.{IsRefused};
 ghost use Rattle.cap_spec.specs.Getting.{AreOnPath, Charges, IsRefusedOnPath};
-ghost use Rattle.cap_spec.specs.Verdicts.{CostOf, AreDistinct, Justified, levels_below};
+ghost use Rattle.cap_spec.specs.Verdicts.{CostOf, Justified, levels_below};
 ghost use Rattle.cap_laws.specs.ReachingLaws.{ReachesObject, ReachesSome};
 
 /// The charge of the root's tree is what following the pointer words that its paths reach costs,

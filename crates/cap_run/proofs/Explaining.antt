@@ -1,7 +1,7 @@
 -- The path to the pointer that overlaps.
 use Rattle.std.proofs.Common.{◌≡◌, ℕ, List, Option, Some, subst}
 use Rattle.cap_spec.specs.Occupying.{IsFirstOverlap}
-use Rattle.cap_spec.specs.Strict.{IsWithin}
+use Rattle.cap_spec.specs.Accepting.{IsWithin}
 use Rattle.cap_spec.specs.declared.Step.{Step}
 use Rattle.cap_vet.specs.Reports.{IsAccepted}
 use Rattle.cap_vet.specs.declared.report.Report.{Report}

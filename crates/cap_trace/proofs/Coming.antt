@@ -1,7 +1,8 @@
 -- A search comes to the pointer words of a message one after the other.
 use Rattle.std.proofs.Common.{sym, ◌⊎◌, ℕ, ◌≡◌, ◌∙◌, ◌+◌, ◌<◌, ◌≤◌, ap, inl, inr, List, [], ◌∷◌, ◌++◌, length, refl, subst, arith, length-append, Some}
+use Rattle.cap_spec.specs.Lists.{IsOneOf}
 use Rattle.cap_spec.specs.Messages.{segment_of}
-use Rattle.cap_spec.specs.Paths.{Before, Goes, IsOneOf, IsTour, Reaches, Spot, Walks, element, level_of, word}
+use Rattle.cap_spec.specs.Paths.{Before, Goes, IsTour, Reaches, Spot, Walks, element, level_of, word}
 use Rattle.cap_spec.specs.declared.Step.{Step}
 use Rattle.cap_spec.proofs.Frames.Messages.{HasWord-inside}
 use Rattle.cap_spec.proofs.Paths.Preorder.{Before-asymmetric, Before-irreflexive}

@@ -2,8 +2,9 @@
 use Rattle.std.proofs.Common.{ℕ, ◌≡◌, ◌≤◌, ◌∙◌, inl, inr, List, Option, None, Some, ap, arith, length, refl, subst, sym, take}
 use Rattle.std.specs.Option.{option_map}
 use Rattle.std.specs.Prelude.{IfSome}
+use Rattle.cap_spec.specs.Accepting.{IsWithin}
 use Rattle.cap_spec.specs.Faults.{IsFirstFault, IsRefused}
-use Rattle.cap_spec.specs.Strict.{IsFirstLax, IsWithin}
+use Rattle.cap_spec.specs.Strict.{IsFirstLax}
 use Rattle.cap_spec.specs.declared.Lax.{Lax}
 use Rattle.cap_spec.specs.declared.Refusal.{Refusal}
 use Rattle.cap_spec.specs.declared.Step.{Step}

@@ -1,6 +1,7 @@
 -- Of two paths the one with the smaller number comes first.
 use Rattle.std.proofs.Common.{ℕ, ◌≡◌, ◌<◌, ◌≤◌, ◌⊎◌, inl, inr, List, [], ◌∷◌, ◌++◌, length, refl, sym, ap, ◌∙◌, subst, arith, length-append}
-use Rattle.cap_spec.specs.Paths.{Before, IsOneOf, IsTour, Reaches, Rises, word}
+use Rattle.cap_spec.specs.Lists.{IsOneOf}
+use Rattle.cap_spec.specs.Paths.{Before, IsTour, Reaches, Rises, word}
 use Rattle.cap_spec.specs.declared.Step.{Step}
 use Rattle.cap_spec.proofs.Paths.Preorder.{Before-irreflexive, Before-total_coming, Before-trans}
 use Rattle.cap_spec.proofs.Paths.Preorder.{Rises-first, Rises-rest, one_tour}

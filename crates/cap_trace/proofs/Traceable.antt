@@ -1,10 +1,12 @@
 -- The pointer that a verdict names can be traced.
 use Rattle.std.proofs.Common.{ℕ, ◌≡◌, ◌⊎◌, inl, inr, List, [], ◌∷◌, ◌++◌, length, sym, ap, ◌∙◌, subst, arith, Option, None, Some}
+use Rattle.cap_spec.specs.Accepting.{IsWithin}
+use Rattle.cap_spec.specs.Lists.{IsOneOf}
 use Rattle.cap_spec.specs.Faults.{IsFirstFault}
 use Rattle.cap_spec.specs.Following.{Wrong}
 use Rattle.cap_spec.specs.Occupying.{IsFirstOverlap}
-use Rattle.cap_spec.specs.Paths.{Before, IsOneOf, Reaches}
-use Rattle.cap_spec.specs.Strict.{IsFirstLax, IsWithin}
+use Rattle.cap_spec.specs.Paths.{Before, Reaches}
+use Rattle.cap_spec.specs.Strict.{IsFirstLax}
 use Rattle.cap_spec.specs.Verdicts.{CostOf}
 use Rattle.cap_spec.specs.declared.Lax.{Lax}
 use Rattle.cap_spec.specs.declared.Reason.{Reason}

@@ -1,6 +1,6 @@
 -- The paths of a message by the numbers of their pointer words in preorder (profile).
 use Rattle.std.specs.Prelude.{ℕ, ◌≡◌, List, length}
-use Rattle.cap_spec.specs.Faults.{IsDeepAt}
+use Rattle.cap_spec.specs.Verdicts.{IsDeepAt}
 use Rattle.cap_spec.specs.Following.{Wrong}
 use Rattle.cap_spec.specs.Paths.{Before, IsTour, Reaches}
 use Rattle.cap_spec.specs.declared.Reason.{Reason}

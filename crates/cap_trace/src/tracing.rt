@@ -1,8 +1,9 @@
 //! The path of a pointer word, written to a buffer.
 
+ghost use Rattle.cap_spec.specs.Accepting.{IsWithin};
 ghost use Rattle.cap_spec.specs.Faults.{IsFirstFault};
 ghost use Rattle.cap_spec.specs.Occupying.{IsFirstOverlap};
-ghost use Rattle.cap_spec.specs.Strict.{IsFirstLax, IsWithin};
+ghost use Rattle.cap_spec.specs.Strict.{IsFirstLax};
 ghost use Rattle.cap_spec.specs.declared.Lax.{Lax};
 ghost use Rattle.cap_spec.specs.declared.Refusal.{Refusal};
 ghost use Rattle.cap_spec.specs.declared.Step.{Step};

@@ -4,13 +4,13 @@ use Rattle.std.proofs.Common.{inl, inr, length, length-append, Option, None}
 use Rattle.std.proofs.lemmas.Bool.Decides.{leb_tells}
 use Rattle.cap_spec.specs.Arriving.{ArrivesAt}
 use Rattle.cap_spec.specs.Denoting.{Finds, element_levels}
-use Rattle.cap_spec.specs.Faults.{AreShallow, IsDeepAt, IsFirstReason}
+use Rattle.cap_spec.specs.Faults.{AreShallow, IsFirstReason}
 use Rattle.cap_spec.specs.Following.{IsComposite}
 use Rattle.cap_spec.specs.Getting.{AreOnPath, Charges, IsFaultOnPath}
 use Rattle.cap_spec.specs.Messages.{HasWord, segment_of}
 use Rattle.cap_spec.specs.Pointers.{middle}
 use Rattle.cap_spec.specs.Paths.{Comes, Costs, Goes, Reaches, Spot, element, word}
-use Rattle.cap_spec.specs.Verdicts.{CostOf, levels_below}
+use Rattle.cap_spec.specs.Verdicts.{CostOf, levels_below, IsDeepAt}
 use Rattle.cap_spec.specs.declared.Kind.{Kind}
 use Rattle.cap_spec.specs.declared.Reason.{Reason}
 use Rattle.cap_spec.specs.declared.Refusal.{Refusal}

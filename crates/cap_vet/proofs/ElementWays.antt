@@ -3,7 +3,7 @@ use Rattle.std.proofs.Common.{◌≡◌, ℕ, ◌+◌, ◌*◌, ◌<◌, ◌≤�
 use Rattle.std.proofs.Common.{Ok, Some, None, Option, append_assoc, length, refl, subst, sym, arith}
 use Rattle.std.proofs.Math.Nat.{mul-le-mul_right}
 use Rattle.cap_frame.specs.declared.segments.Segments as segments
-use Rattle.cap_spec.specs.Faults.{IsDeepAt}
+use Rattle.cap_spec.specs.Verdicts.{IsDeepAt}
 use Rattle.cap_spec.specs.Messages.{segment_of}
 use Rattle.cap_spec.specs.Paths.{Goes, Spot, word, element}
 use Rattle.cap_spec.specs.declared.Step.{Step}

@@ -2,10 +2,11 @@
 use Rattle.std.proofs.Common.{ℕ, ◌<◌, ◌≤◌, ◌≡◌, ◌≢◌, List, [], ◌∷◌, length, inl, inr}
 use Rattle.std.proofs.Common.{subst, arith, Option, None, Some}
 use Rattle.std.specs.Prelude.{false, is_some}
+use Rattle.cap_spec.specs.Accepting.{IsWithin}
 use Rattle.cap_spec.specs.Messages.{HasWord, IsMessage}
 use Rattle.cap_spec.specs.Paths.{Before, Costs}
 use Rattle.cap_spec.specs.Pointers.{far_segment, kind, pad, two}
-use Rattle.cap_spec.specs.Strict.{IsFirstLax, IsLax, IsLaxAt, IsStrict, IsWithin}
+use Rattle.cap_spec.specs.Strict.{IsFirstLax, IsLax, IsLaxAt, IsStrict}
 use Rattle.cap_spec.specs.declared.Lax.{Lax}
 use Rattle.cap_spec.specs.declared.Lax.TheVariants.{CapabilityPad, NullPad}
 use Rattle.cap_spec.specs.declared.Step.{Step}

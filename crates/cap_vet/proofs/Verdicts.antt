@@ -4,10 +4,11 @@ use Rattle.cap_vet.specs.Owing.{IsCount}
 use Rattle.cap_spec.proofs.Frames.Messages.{HasWord-at}
 use Rattle.std.proofs.Common.{◌≡◌, ℕ, ◌+◌, ◌<◌, inl, inr, List, [], ◌∷◌, ◌++◌, length, map, refl, reverse, sym, subst, arith, Option, None, Some}
 use Rattle.std.proofs.lemmas.List.{length-append}
+use Rattle.cap_spec.specs.Lists.{IsOneOf}
 use Rattle.cap_spec.specs.Messages.{segment_of}
 use Rattle.cap_spec.specs.Denoting.{Denotes}
 use Rattle.cap_spec.specs.Faults.{HasNoRoot, IsFirstFault, IsFirstReason}
-use Rattle.cap_spec.specs.Paths.{IsOneOf, IsTour, Reaches}
+use Rattle.cap_spec.specs.Paths.{IsTour, Reaches}
 use Rattle.cap_spec.specs.Verdicts.{CostOf}
 use Rattle.cap_spec.specs.declared.Reason.{Reason}
 use Rattle.cap_spec.specs.declared.Reason.TheVariants.{NoRoot}

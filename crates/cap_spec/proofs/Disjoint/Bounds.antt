@@ -9,10 +9,10 @@ use Rattle.cap_spec.specs.Pointers.{middle, data_size, pointer_size, list_size, 
 use Rattle.cap_spec.specs.Following.{to_null, to_cap, to_object, Leads, extra}
 use Rattle.cap_spec.specs.Tree.{Tree, null, cap, struct, scalars, pointers, structs, Trees, none, more, tree_count}
 use Rattle.cap_spec.specs.Denoting.{Finds, Denotes, DenoteEach, AreElements, places}
-use Rattle.cap_spec.specs.Occupying.{AreApart, IsDisjoint, IsPlaceOf, Occupies, Uses}
+use Rattle.cap_spec.specs.Occupying.{IsDisjoint, Occupies, Uses}
 use Rattle.cap_spec.specs.Occupying.{empty_count, empty_counts, pads_of}
-use Rattle.cap_spec.specs.Paths.{Spot, word, element, Goes, IsOneOf, Walks, level_of}
-use Rattle.cap_spec.specs.Verdicts.{AreDistinct}
+use Rattle.cap_spec.specs.Paths.{Spot, word, element, Goes, Walks, level_of}
+use Rattle.cap_spec.specs.Lists.{AreDistinct, IsOneOf}
 use Rattle.cap_spec.specs.declared.Step.{Step}
 use Rattle.cap_spec.specs.declared.Step.TheVariants.{Ptr, Item}
 use Rattle.cap_spec.proofs.Trees.OneTree.{Formed, formed, cons_parts}
@@ -204,21 +204,21 @@ mutual
 
 -- a place of these is used by one of the paths
 place_used : (m : List (List ℕ)) (root : ℕ) → HasWord m 0 0 root → (ps : List (List Step)) (us : List (ℕ × ℕ))
-    → UsedFrom m (word 0 0) ps us → (x : ℕ × ℕ) → IsPlaceOf x us
+    → UsedFrom m (word 0 0) ps us → (x : ℕ × ℕ) → IsOneOf x us
     → (p : List Step) × IsOneOf p ps × Uses m p x
-place_used m root has [] us g x i = absurd (subst (λ (u : List (ℕ × ℕ)). IsPlaceOf x u) g i)
+place_used m root has [] us g x i = absurd (subst (λ (u : List (ℕ × ℕ)). IsOneOf x u) g i)
 place_used m root has (p ∷ ps) us g x i =
-    elim (place_either x g.3 g.4 (subst (λ (u : List (ℕ × ℕ)). IsPlaceOf x u) g.8 i)) [
+    elim (place_either x g.3 g.4 (subst (λ (u : List (ℕ × ℕ)). IsOneOf x u) g.8 i)) [
       | inl j ↦ (p, inl refl, (1 + g.0, g.1, g.2, g.3, (root, g.0, has, g.5, refl), g.6, j))
       | inr j ↦ let r = place_used m root has ps g.4 g.7 x j in (r.0, inr r.1, r.2)
     ]
 
 -- the places that distinct paths of a disjoint message use are distinct
 used_apart : (m : List (List ℕ)) → IsDisjoint m → (root : ℕ) → HasWord m 0 0 root → (ps : List (List Step))
-    → AreDistinct ps → (us : List (ℕ × ℕ)) → UsedFrom m (word 0 0) ps us → AreApart us
-used_apart m d root has [] a us g = subst AreApart (sym g) tt
+    → AreDistinct ps → (us : List (ℕ × ℕ)) → UsedFrom m (word 0 0) ps us → AreDistinct us
+used_apart m d root has [] a us g = subst AreDistinct (sym g) tt
 used_apart m d root has (p ∷ ps) a us g =
-    subst AreApart (sym g.8)
+    subst AreDistinct (sym g.8)
     (apart_append g.3 g.4 (d.each p (1 + g.0) g.1 g.2 g.3 (root, g.0, has, g.5, refl) g.6)
     (used_apart m d root has ps a.1 g.4 g.7)
     (λ x i j. let r = place_used m root has ps g.4 g.7 x j in
@@ -228,12 +228,12 @@ used_apart m d root has (p ∷ ps) a us g =
 used_inside : (m : List (List ℕ)) (p : List Step) (t x : ℕ) → Uses m p (t, x)
     → (t < length m) × (x < length (segment_of m t))
 used_inside m path t x (level, s, w, used, r, (p, has, inl (k, h, e)), i) =
-    pad_inside m s w k p to_null t x h has (subst (λ (u : List (ℕ × ℕ)). IsPlaceOf (t, x) u) e i)
+    pad_inside m s w k p to_null t x h has (subst (λ (u : List (ℕ × ℕ)). IsOneOf (t, x) u) e i)
 used_inside m path t x (level, s, w, used, r, (p, has, inr (inl (k, j, h, e))), i) =
-    pad_inside m s w k p (to_cap j) t x h has (subst (λ (u : List (ℕ × ℕ)). IsPlaceOf (t, x) u) e i)
+    pad_inside m s w k p (to_cap j) t x h has (subst (λ (u : List (ℕ × ℕ)). IsOneOf (t, x) u) e i)
 used_inside m path t x (level, s, w, used, r, (p, has, inr (inr (k, u, b, q, f, e))), i) =
     elim (place_either (t, x) (pads_of p) (places u b (extent q))
-    (subst (λ (v : List (ℕ × ℕ)). IsPlaceOf (t, x) v) e i)) [
+    (subst (λ (v : List (ℕ × ℕ)). IsOneOf (t, x) v) e i)) [
       | inl j ↦ pad_inside m s w k p (to_object u (pos b) q) t x f.leads has j
       | inr j ↦
           let c = in_places u b (extent q) t x j in
@@ -249,18 +249,18 @@ charge_below_words m t c d h dis =
     let f : Formed m 0 0 t = formed m 0 0 t c d h in
     let p = lead_word m 0 0 f.k f.r f.leads in
     let k = tree_counted m 0 0 t c d h in
-    let apart : AreApart k.0 = used_apart m dis p.0 p.1 (pointer_paths t)
+    let apart : AreDistinct k.0 = used_apart m dis p.0 p.1 (pointer_paths t)
     (Rises-distinct (pointer_paths t) (listed_rise is_pointer false t)) k.0 k.1 in
     let few = few_places ((0, 0) ∷ k.0) (all_places 0 m)
     ((λ i. let r = place_used m p.0 p.1 (pointer_paths t) k.0 k.1 (0, 0) i in dis.root r.0 r.2), apart) inside in
     omega (arith, few, k.2, length_all 0 m)
   where
-    inside : (x : ℕ × ℕ) → IsPlaceOf x ((0, 0) ∷ (tree_counted m 0 0 t c d h).0) → IsPlaceOf x (all_places 0 m)
+    inside : (x : ℕ × ℕ) → IsOneOf x ((0, 0) ∷ (tree_counted m 0 0 t c d h).0) → IsOneOf x (all_places 0 m)
     inside (s, w) (inl e) =
         let f : Formed m 0 0 t = formed m 0 0 t c d h in
         let p = lead_word m 0 0 f.k f.r f.leads in
         let root = in_all 0 m 0 0 (HasWord-segment m 0 0 p.0 p.1) (HasWord-inside m 0 0 p.0 p.1) in
-        subst (λ (u : ℕ × ℕ). IsPlaceOf u (all_places 0 m)) (sym e) root
+        subst (λ (u : ℕ × ℕ). IsOneOf u (all_places 0 m)) (sym e) root
     inside (s, w) (inr i) =
         let f : Formed m 0 0 t = formed m 0 0 t c d h in
         let p = lead_word m 0 0 f.k f.r f.leads in
@@ -268,4 +268,4 @@ charge_below_words m t c d h dis =
         (tree_counted m 0 0 t c d h).1 (s, w) i in
         let y = used_inside m r.0 s w r.2 in
         let e : 0 + s ≡ s = omega arith in
-        subst (λ (u : ℕ). IsPlaceOf (u, w) (all_places 0 m)) e (in_all 0 m s w y.0 y.1)
+        subst (λ (u : ℕ). IsOneOf (u, w) (all_places 0 m)) e (in_all 0 m s w y.0 y.1)

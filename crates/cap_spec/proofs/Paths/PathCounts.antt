@@ -1,12 +1,13 @@
 -- The pointers and the capabilities of the tree that the root denotes are as many as the paths that reach them.
 use Rattle.std.proofs.Common.{ℕ, zero, suc, ◌+◌, ◌*◌, ◌<◌, List, [], ◌∷◌, ◌≡◌, ◌↔◌, sym, ap, refl, subst, ◌∙◌, arith}
 use Rattle.std.proofs.Common.{inl, inr, Bool, true, false, not, length, eqb, ne_eqb}
+use Rattle.cap_spec.specs.Lists.{IsOneOf}
 use Rattle.cap_spec.specs.Pointers.{kind, code}
 use Rattle.cap_spec.specs.Following.{Lead, Leads, to_cap}
 use Rattle.cap_spec.specs.Tree.{Tree, null, cap, struct, scalars, pointers, structs, pointer_count, cap_count, has_cap}
 use Rattle.cap_spec.specs.Denoting.{Denotes}
-use Rattle.cap_spec.specs.Paths.{Spot, word, element, Goes, Walks, Reaches, Before}
-use Rattle.cap_spec.specs.Paths.{Rises, IsOneOf, IsFirstCap, level_of}
+use Rattle.cap_spec.specs.Paths.{ReachesCap, Spot, word, element, Goes, Walks, Reaches, Before}
+use Rattle.cap_spec.specs.Paths.{Rises, IsFirstCap, level_of}
 use Rattle.cap_spec.specs.Standing.{DenotesAt}
 use Rattle.cap_spec.specs.declared.Step.{Step}
 use Rattle.cap_spec.specs.declared.Step.TheVariants.{Ptr, Item}
@@ -152,10 +153,10 @@ pointer_path_reached m t c d h q = (to, from)
 
 -- The paths that reach a capability are exactly the listed ones.
 pub cap_path_reached : (m : List (List ℕ)) (t : Tree) (c d : ℕ) → Denotes m 0 0 t c d → (q : List Step)
-    → IsOneOf q (cap_paths t) ↔ ((level s w k i : ℕ) × Reaches m q level s w × Leads m s w k (to_cap i))
+    → IsOneOf q (cap_paths t) ↔ ReachesCap m q
 cap_path_reached m t c d h q = (to, from)
   where
-    to : IsOneOf q (cap_paths t) → (level s w k i : ℕ) × Reaches m q level s w × Leads m s w k (to_cap i)
+    to : IsOneOf q (cap_paths t) → ReachesCap m q
     to g =
         let f : Formed m 0 0 t = formed m 0 0 t c d h in
         let p = lead_word m 0 0 f.k f.r f.leads in
@@ -176,7 +177,7 @@ cap_path_reached m t c d h q = (to, from)
           r.3.5,
         )
 
-    from : (level s w k i : ℕ) × Reaches m q level s w × Leads m s w k (to_cap i) → IsOneOf q (cap_paths t)
+    from : ReachesCap m q → IsOneOf q (cap_paths t)
     from g = wanted_listed wants_cap false t q
         (walk_wanted m wants_cap (IsCapSpot m) (cap_wanted m) (word 0 0) t q (c, d, h) g.5.1 (word g.1 g.2) g.5.3
         (g.1, g.2, g.3, g.4, refl, g.6))
@@ -195,13 +196,12 @@ pointers_counted m t c d h = (
 -- and one of exactly those that reach a capability, of as many as its capabilities.
 pub caps_counted : (m : List (List ℕ)) (t : Tree) (c d : ℕ) → Denotes m 0 0 t c d
     → (paths : List (List Step)) × Rises paths × (length paths ≡ cap_count t)
-    × ((q : List Step) → IsOneOf q paths ↔ ((level s w k i : ℕ) × Reaches m q level s w × Leads m s w k (to_cap i)))
+    × ((q : List Step) → IsOneOf q paths ↔ ReachesCap m q)
 caps_counted m t c d h = (cap_paths t, listed_rise wants_cap false t, caps_listed false t, cap_path_reached m t c d h)
 
 -- The first of the paths to capabilities is the first in preorder.
 first_of : (m : List (List ℕ)) (t : Tree) (c d : ℕ) → Denotes m 0 0 t c d → (paths : List (List Step)) → Rises paths
-    → ((q : List Step) → IsOneOf q paths ↔ ((level s w k i : ℕ) × Reaches m q level s w
-    × Leads m s w k (to_cap i))) → 0 < length paths
+    → ((q : List Step) → IsOneOf q paths ↔ ReachesCap m q) → 0 < length paths
     → (s w : ℕ) × IsFirstCap m s w
 first_of m t c d h [] rises exact some = absurd (omega arith)
 first_of m t c d h (p ∷ ps) rises exact some =
@@ -211,11 +211,8 @@ first_of m t c d h (p ∷ ps) rises exact some =
       record {
         path = p;
         level = r.0;
-        k = r.3;
-        index = r.4;
         reached = r.5;
-        leads = r.6;
-        first = λ q level s w k i before reached leads. late q before ((exact q).1 (level, s, w, k, i, reached, leads));
+        first = record { holds = r; first = λ q before reaches. late q before ((exact q).1 reaches) };
       },
     )
   where
@@ -248,5 +245,5 @@ first_cap m t c d h = (to, from)
     from : (s w : ℕ) × IsFirstCap m s w → has_cap t ≡ true
     from g =
         let f = g.2 in
-        let i = (cap_path_reached m t c d h f.path).1 (f.level, g.0, g.1, f.k, f.index, f.reached, f.leads) in
+        let i = (cap_path_reached m t c d h f.path).1 f.first.holds in
         not_none (cap_count t) (omega (arith, caps_listed false t, member_some f.path (cap_paths t) i))

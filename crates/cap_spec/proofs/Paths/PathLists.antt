@@ -1,9 +1,10 @@
 -- The paths to some of a tree's nodes, in preorder: they rise, they are exactly those, and how many they are.
 use Rattle.std.proofs.Common.{ℕ, zero, suc, ◌+◌, ◌<◌, List, [], ◌∷◌, ◌++◌, ◌≡◌, ◌⊎◌, sym, ap, refl, subst, ◌∙◌, arith}
 use Rattle.std.proofs.Common.{inl, inr, Some, Bool, true, false, not, length, length-append}
+use Rattle.cap_spec.specs.Lists.{IsOneOf}
 use Rattle.cap_spec.specs.Tree.{Tree, null, cap, struct, scalars, pointers, structs, Trees, none, more, tree_at}
 use Rattle.cap_spec.specs.Tree.{part_at, tree_count, child_count, child_counts, cap_count, cap_counts}
-use Rattle.cap_spec.specs.Paths.{number_of, Before, Rises, IsOneOf}
+use Rattle.cap_spec.specs.Paths.{number_of, Before, Rises}
 use Rattle.cap_spec.specs.declared.Step.{Step}
 use Rattle.cap_spec.specs.declared.Step.TheVariants.{Ptr, Item}
 

@@ -2,11 +2,12 @@
 use Rattle.std.proofs.Common.{ℕ, ◌+◌, ◌<◌, ◌≤◌, List, [], ◌∷◌, ◌++◌, ◌≡◌, ◌⊎◌, sym, ap, refl, subst, ◌∙◌, arith, inl}
 use Rattle.std.proofs.Common.{inr, length, length-append, append_assoc}
 use Rattle.std.proofs.lemmas.List.{append-nil}
+use Rattle.cap_spec.specs.Lists.{IsOneOf}
 use Rattle.cap_spec.specs.Messages.{HasWord}
-use Rattle.cap_spec.specs.Faults.{AreShallow, IsDeepAt}
+use Rattle.cap_spec.specs.Faults.{AreShallow}
 use Rattle.cap_spec.specs.Getting.{AreOnPath, IsStartOf, IsFaultOnPath, IsRefusedOnPath}
-use Rattle.cap_spec.specs.Paths.{Before, Comes, Costs, Goes, IsOneOf, Reaches, Rises, Spot, Walks, element, word}
-use Rattle.cap_spec.specs.Verdicts.{CostOf}
+use Rattle.cap_spec.specs.Paths.{Before, Comes, Costs, Goes, Reaches, Rises, Spot, Walks, element, word}
+use Rattle.cap_spec.specs.Verdicts.{CostOf, IsDeepAt}
 use Rattle.cap_spec.specs.declared.Refusal.{Refusal}
 use Rattle.cap_spec.specs.declared.Step.{Step}
 use Rattle.cap_spec.proofs.Verdicts.OneFault.{distinct_last, kept_without_fault, last_is_one, one_of_last}
@@ -193,7 +194,7 @@ pub path_not_refused : (m : List (List ℕ)) (words depth : ℕ) (path : List St
     → AreShallow m depth ways → cost ≤ words → IsRefusedOnPath m words depth path r → ⊥
 path_not_refused m words depth path [] cost r on some costs shallow within (inl h) = omega (arith, some)
 path_not_refused m words depth path (q ∷ qs) cost r on some costs shallow within (inl h) =
-    let x = on.reached q (inl refl) in rootless m q x.0 x.1 x.2 h.empty x.3
+    let x = on.reached q (inl refl) in rootless m q x.0 x.1 x.2 h.lacks.empty x.3
 path_not_refused m words depth path ways cost r on some costs shallow within (inr f) =
     kept_without_fault m words depth f.level f.charge cost r f.way f.before ways f.reached f.costs f.reason
     (distinct_last f.before f.way (Rises-distinct (f.before ++ f.way ∷ []) f.on_path.rising)) all costs shallow within
@@ -263,9 +264,9 @@ pub one_path_refusal : (m : List (List ℕ)) (words depth : ℕ) (path : List St
     → IsRefusedOnPath m words depth path r → IsRefusedOnPath m words depth path r' → r ≡ r'
 one_path_refusal m words depth path r r' (inl h) (inl k) = one_rootless m r r' h k
 one_path_refusal m words depth path r r' (inl h) (inr f) =
-    absurd (rootless m f.way f.level r'.segment r'.word h.empty f.reached)
+    absurd (rootless m f.way f.level r'.segment r'.word h.lacks.empty f.reached)
 one_path_refusal m words depth path r r' (inr f) (inl h) =
-    absurd (rootless m f.way f.level r.segment r.word h.empty f.reached)
+    absurd (rootless m f.way f.level r.segment r.word h.lacks.empty f.reached)
 one_path_refusal m words depth path r r' (inr f) (inr f') = by_order (begins_one f.way f'.way path f.begin f'.begin)
   where
     same : f'.way ≡ f.way → r ≡ r'

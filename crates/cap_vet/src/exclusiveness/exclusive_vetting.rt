@@ -5,7 +5,7 @@ ghost use Rattle.cap_spec.specs.Faults.{IsRefused};
 ghost use Rattle.cap_spec.specs.Messages.{segment_of};
 ghost use Rattle.cap_spec.specs.Frames.{sizes_of};
 ghost use Rattle.cap_spec.specs.Occupying.{IsDisjoint, IsFirstOverlap, empty_count};
-ghost use Rattle.cap_spec.specs.Strict.{IsWithin};
+ghost use Rattle.cap_spec.specs.Accepting.{IsWithin};
 ghost use Rattle.cap_spec.specs.Tree.{Tree};
 ghost use Rattle.cap_spec.specs.declared.Refusal.{Refusal};
 ghost use Rattle.cap_vet.specs.Exclusives.{OverlapsFirst, vetted_of};
