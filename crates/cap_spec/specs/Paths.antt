@@ -37,7 +37,7 @@ Walks m a (step ∷ path) n b =
     (mid : Spot) × (n' : ℕ) × Goes m a step mid × Walks m mid path n' b × (n ≡ level_of mid + n')
 
 -- The path from the root comes to this spot, at this level, whether or not the pointer at the spot
--- is wrong.
+-- can be followed.
 abbrev pub Comes : List (List ℕ) → List Step → ℕ → Spot → Type 0
 Comes m path level spot =
     (root n : ℕ) × HasWord m 0 0 root × Walks m (word 0 0) path n spot × (level ≡ 1 + n)
@@ -46,7 +46,7 @@ Comes m path level spot =
 abbrev pub Reaches : List (List ℕ) → List Step → ℕ → ℕ → ℕ → Type 0
 Reaches m path level s w = Comes m path level (word s w)
 
--- what following the pointer at s:w costs, where it isn't wrong
+-- the pointer at s:w can be followed, which costs this many words
 abbrev pub Costs : List (List ℕ) → ℕ → ℕ → ℕ → Type 0
 Costs m s w cost =
     Leads m s w cost to_null

@@ -10,7 +10,7 @@ use Rattle.cap_spec.specs.declared.Refusal.{Refusal}
 use Rattle.cap_spec.specs.declared.Reason.{Reason}
 use Rattle.cap_spec.specs.declared.Reason.TheVariants.{NoRoot, DepthLimit, WordLimit}
 
--- these paths reach words that aren't wrong, and following them costs this much in all
+-- these paths reach pointers that can be followed, which costs this many words in all
 abbrev pub CostOf : List (List ℕ) → List (List Step) → ℕ → Type 0
 CostOf m [] cost = cost ≡ 0
 CostOf m (p ∷ ps) cost =

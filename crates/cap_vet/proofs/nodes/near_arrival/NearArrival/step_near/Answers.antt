@@ -5,7 +5,7 @@ use Rattle.cap_spec.specs.Paths.{word, element}
 use Rattle.cap_vet.specs.Charging.{arrival_of}
 use Rattle.cap_vet.specs.Finding.{StepLeads}
 use Rattle.cap_vet.specs.declared.nodes.near_arrival.NearArrival.{NearArrival}
-use Rattle.cap_vet.specs.declared.nodes.spot.Spot.{Spot as Kept}
+use Rattle.cap_vet.specs.declared.nodes.spot.Spot.{Spot}
 use Rattle.cap_vet.specs.declared.nodes.spot.Spot.TheVariants.{Word, Element}
 use Rattle.cap_vet.proofs.Charging.{arrives_element, arrives_word}
 use Rattle.cap_vet.proofs.Somewhere.{arrival_somewhere, arrival_within, step_exists, step_inside}
@@ -25,14 +25,14 @@ found_near-requires-clause-exists g c =
     let f = c.args.self.now.found in
     let is : StepLeads f c.args.step (Some c.in_ok-segment.field-0) = c.in_ok-segment.ensures in
     step_exists _ _ _ (arrival_of c.args.self.now) c.requires.arrived c.args.step _ _
-    (subst (λ (u : Kept). StepLeads f c.args.step (Some u)) c.in-Word.is is)
+    (subst (λ (u : Spot). StepLeads f c.args.step (Some u)) c.in-Word.is is)
 
 pub found_near-requires-clause-inside : goal.found_near-requires-clause-inside
 found_near-requires-clause-inside g c =
     let f = c.args.self.now.found in
     let is : StepLeads f c.args.step (Some c.in_ok-segment.field-0) = c.in_ok-segment.ensures in
     step_inside _ _ _ (arrival_of c.args.self.now) c.requires.arrived c.args.step _ _
-    (subst (λ (u : Kept). StepLeads f c.args.step (Some u)) c.in-Word.is is)
+    (subst (λ (u : Spot). StepLeads f c.args.step (Some u)) c.in-Word.is is)
 
 pub returns-in_ok-found-in-Word : goal.returns-in_ok-found-in-Word
 returns-in_ok-found-in-Word g c = λ path a h.
@@ -40,7 +40,7 @@ returns-in_ok-found-in-Word g c = λ path a h.
     let at = arrival_of c.args.self.now in
     let is : StepLeads at.found c.args.step (Some c.in_ok-segment.field-0) = c.in_ok-segment.ensures in
     let step : StepLeads at.found c.args.step (Some (Word c.in-Word.segment c.in-Word.word)) =
-    subst (λ (u : Kept). StepLeads at.found c.args.step (Some u)) c.in-Word.is is in
+    subst (λ (u : Spot). StepLeads at.found c.args.step (Some u)) c.in-Word.is is in
     let goes = step m a h.found in
     let near = c.in_ok-found-in-Word.ensures.found in (
       word c.in-Word.segment c.in-Word.word,
@@ -54,7 +54,7 @@ returns-in-Element g c = λ path a h.
     let e = c.in-Element in
     let is : StepLeads at.found c.args.step (Some c.in_ok-segment.field-0) = c.in_ok-segment.ensures in
     let step : StepLeads at.found c.args.step (Some (Element e.segment e.start e.data_words e.pointers)) =
-    subst (λ (u : Kept). StepLeads at.found c.args.step (Some u)) e.is is in
+    subst (λ (u : Spot). StepLeads at.found c.args.step (Some u)) e.is is in
     let goes = step m a h.found in
     let same = c.at_element.ensures in (
       element e.segment e.start e.data_words e.pointers,
