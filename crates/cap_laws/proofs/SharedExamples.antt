@@ -276,18 +276,16 @@ reached_of p (on_earlier other x before u (level, s, w, used, r, occupied, place
 first_overlap : IsFirstOverlap shared 0 2 3
 first_overlap = record {
   path = Ptr 1 ∷ [];
-  level = 2;
-  tour = all_paths;
-  reached = reaches_second;
-  is_tour = tour_shared;
-  number = refl;
-  overlaps = overlaps_second;
-  first = λ other before overlaps.
-      elim (before_second other before
-      ((pointer_path_reached shared shared_tree 4 2 denotes_shared other).1 (reached_of other overlaps))) [
-        | inl e ↦ root_alone (subst (Overlaps shared) e overlaps)
-        | inr e ↦ first_alone (subst (Overlaps shared) e overlaps)
-      ];
+  numbered = record { level = 2; tour = all_paths; reached = reaches_second; is_tour = tour_shared; count = refl };
+  first = record {
+    holds = overlaps_second;
+    first = λ other before overlaps.
+        elim (before_second other before
+        ((pointer_path_reached shared shared_tree 4 2 denotes_shared other).1 (reached_of other overlaps))) [
+          | inl e ↦ root_alone (subst (Overlaps shared) e overlaps)
+          | inr e ↦ first_alone (subst (Overlaps shared) e overlaps)
+        ];
+  };
 }
 
 -- The pointers on the path to the first: a budget of 5 words has 2 left,

@@ -75,14 +75,7 @@ null-denoted = (near 0 refl (λ e. absurd (omega (arith, e))) refl refl, refl)
 
 strict-null : IsStrict ((0 ∷ []) ∷ []) 0 0
 strict-null = record {
-  accepted = record {
-    tree = null;
-    charge = 0;
-    levels = 0;
-    denotes = null-denoted;
-    few_words = lit≤ tt;
-    few_levels = lit≤ tt;
-  };
+  accepted = (null, 0, 0, record { denotes = null-denoted; few_words = lit≤ tt; few_levels = lit≤ tt });
   few_segments = lit≤ tt;
   none = none_lax ((0 ∷ []) ∷ []) null 0 0 null-denoted (lit≤ tt);
 }

@@ -59,7 +59,7 @@ pub fn strict_or_one_fault()
 /// It is strict within wider limits too.
 pub fn strict_is_accepted()
     ensures tree { (m : List (List ℕ)) (words depth : ℕ) → IsStrict m words depth →
-        (t : Tree) × (c d : ℕ) × Denotes m 0 0 t c d × (c ≤ words) × (d ≤ depth) }
+        IsWithin m words depth }
     ensures not_refused { (m : List (List ℕ)) (words depth : ℕ) (refusal : Refusal) →
         IsStrict m words depth → ¬ IsRefused m words depth refusal }
     ensures wider { (m : List (List ℕ)) (words depth words' depth' : ℕ) →

@@ -12,7 +12,7 @@ use Rattle.cap_spec.specs.declared.Lax.TheVariants.{CapabilityPad, NullPad}
 use Rattle.cap_spec.specs.declared.Step.{Step}
 use Rattle.cap_spec.proofs.Paths.Preorder.{Before-irreflexive}
 use Rattle.cap_spec.proofs.Strict.Faults.{strict_kept, strict_wider}
-use Rattle.cap_spec.proofs.Strict.FirstLax.{first_by_tour, first_is_lax}
+use Rattle.cap_spec.proofs.Strict.FirstLax.{first_by_tour}
 use Rattle.cap_spec.proofs.Strict.Looking.{cap_pad, other_pad, zero_pad}
 use Rattle.cap_vet.specs.StrictNulls.{not_lax_path, still_knows}
 use Rattle.cap_vet.specs.Limits.{depth_of, words_of}
@@ -82,14 +82,7 @@ none_at_end m words depth report seen ahead w k path x =
 -- what is accepted is within the limits
 pub within_of : (m : List (List ℕ)) (words depth : ℕ) (report : Report) → IsAccepted m words depth report
     → IsWithin m words depth
-within_of m words depth report (t, a) = record {
-  tree = t;
-  charge = report.charge;
-  levels = report.depth;
-  denotes = a.denotes;
-  few_words = a.within;
-  few_levels = a.shallow;
-}
+within_of m words depth report (t, a) = (t, report.charge, report.depth, a.within)
 
 -- what may be strict is strict, where it is accepted
 pub strict_held : (m : List (List ℕ)) (report : Report) → ∥ IsVetted m report ∥₁ → ∥ IsStrict m 268435456 256 ∥₁
@@ -119,7 +112,7 @@ strict_within m limits h = strict_wider m (words_of limits) (depth_of limits) 26
 -- Where there is a first lax pointer, the message isn't strict.
 pub first_not_strict : (m : List (List ℕ)) (words depth s w : ℕ) (what : Lax) (n : ℕ) → IsStrict m words depth
     → IsFirstLax m s w what n → ⊥
-first_not_strict m words depth s w what n h f = h.none f.path (first_is_lax m s w what n f)
+first_not_strict m words depth s w what n h f = h.none f.path f.first.holds
 
 -- more than 511 segments are 512
 pub many : (m : List (List ℕ)) (count : ℕ) → IsMessage m → count ≡ length m → 511 < count → length m ≡ 512

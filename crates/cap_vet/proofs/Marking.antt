@@ -72,13 +72,17 @@ pub first_overlap : (m : List (List ℕ)) (seen : List (List Step)) (a : Ahead) 
     → n ≡ length seen + 1 → IsFirstOverlap m a.segment a.word n
 first_overlap m seen a ahead T used n t k o c e = record {
   path = a.path;
-  level = a.level;
-  tour = in_order (a.path ∷ seen);
-  reached = r;
-  is_tour = tour_of m seen a ahead t;
-  number = omega (arith, e, length-in_order (a.path ∷ seen));
-  overlaps = over c;
-  first = λ other b h. let g = reached_overlap m other h in k.clear other (seen_before m seen a ahead other g.0 g.1 g.2 t g.3 b) h;
+  numbered = record {
+    level = a.level;
+    tour = in_order (a.path ∷ seen);
+    reached = r;
+    is_tour = tour_of m seen a ahead t;
+    count = omega (arith, e, length-in_order (a.path ∷ seen));
+  };
+  first = record {
+    holds = over c;
+    first = λ other b h. let g = reached_overlap m other h in k.clear other (seen_before m seen a ahead other g.0 g.1 g.2 t g.3 b) h;
+  };
 }
   where
     r : Reaches m a.path a.level a.segment a.word

@@ -29,17 +29,17 @@ root_node m r h = ∥∥₁_map h (λ (t, a). record {
   tree = t;
   charge = r.charge;
   depth = r.depth;
-  denotes = a.denotes;
-  shallow = a.shallow;
+  denotes = a.within.denotes;
+  shallow = a.within.few_levels;
   path = [];
   level = 1;
-  comes = (let p = root_word m t r.charge r.depth a.denotes in (p.0, 0, p.1, (refl, refl), refl));
+  comes = (let p = root_word m t r.charge r.depth a.within.denotes in (p.0, 0, p.1, (refl, refl), refl));
 })
 
 pub root_inside : (m : List (List ℕ)) (r : Report) → ∥ IsVetted m r ∥₁ → 0 < length (segment_of m 0)
 root_inside m r h =
     let one : IsProp (0 < length (segment_of m 0)) = hlevel props in
-    ∥∥₁_elim h one (λ (t, a). let p = root_word m t r.charge r.depth a.denotes in HasWord-inside m 0 0 p.0 p.1)
+    ∥∥₁_elim h one (λ (t, a). let p = root_word m t r.charge r.depth a.within.denotes in HasWord-inside m 0 0 p.0 p.1)
 
 pub root_comes : (m : List (List ℕ)) → 0 < length (segment_of m 0) → Comes m [] 1 (word 0 0)
 root_comes m h = let p = HasWord-at m 0 0 h in (p.0, 0, p.1, (refl, refl), refl)
