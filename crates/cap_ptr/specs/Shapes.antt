@@ -4,7 +4,7 @@ use Rattle.cap_spec.specs.Messages.{HasWord}
 use Rattle.cap_spec.specs.Pointers.{kind, code, list_size, extent}
 use Rattle.cap_spec.specs.Following.{Leads, to_null, to_cap, IsComposite, TagFits, Wrong, extra}
 use Rattle.cap_spec.specs.Denoting.{Finds}
-use Rattle.cap_spec.specs.Shapes.{IsPointersShape, IsScalarsShape, IsStructShape, IsStructsShape}
+use Rattle.cap_spec.specs.ObjectShapes.{IsPointersShape, IsScalarsShape, IsStructShape, IsStructsShape}
 use Rattle.cap_spec.specs.declared.Reason.{Reason}
 use Rattle.cap_ptr.specs.declared.shapes.Shape.{Shape}
 use Rattle.cap_ptr.specs.declared.shapes.Shape.TheVariants.{Struct, Scalars, Pointers, Structs}

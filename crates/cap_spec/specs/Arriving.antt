@@ -5,7 +5,7 @@ use Rattle.cap_spec.specs.Pointers.{extent}
 use Rattle.cap_spec.specs.Following.{HasTag, Leads, to_null, to_cap}
 use Rattle.cap_spec.specs.Denoting.{Finds, values_of, words_from}
 use Rattle.cap_spec.specs.Paths.{Comes, Spot, word, element}
-use Rattle.cap_spec.specs.Shapes.{HasKind}
+use Rattle.cap_spec.specs.ObjectShapes.{HasKind}
 use Rattle.cap_spec.specs.Showing.{Own, own_null, own_cap, own_struct, own_scalars, own_pointers, own_structs}
 use Rattle.cap_spec.specs.declared.Step.{Step}
 use Rattle.cap_spec.specs.declared.Kind.{Kind}

@@ -8,7 +8,7 @@ use Rattle.cap_spec.specs.declared.Kind.TheVariants.{Cap, Null}
 use Rattle.cap_spec.proofs.Trees.Charges.{extent_struct}
 use Rattle.cap_spec.proofs.Canonical.TreeMeasures.{extent_scalars}
 use Rattle.cap_spec.specs.Arriving.{StandsObject}
-use Rattle.cap_spec.specs.Shapes.{HasKind}
+use Rattle.cap_spec.specs.ObjectShapes.{HasKind}
 use Rattle.cap_ptr.specs.Shapes.{FindsObject, IsShape}
 use Rattle.cap_ptr.specs.declared.shapes.Shape.{Shape}
 use Rattle.cap_ptr.specs.declared.shapes.Shape.TheVariants as shape
