@@ -4,7 +4,6 @@ ghost use Rattle.std.specs.Prelude.{ℕ, true, length, List, [], ◌∷◌, ◌+
 ghost use Rattle.cap_spec.specs.declared.Step.{Step};
 ghost use Rattle.cap_spec.specs.declared.Step.TheVariants.{Item, Ptr};
 ghost use Rattle.cap_spec.specs.Tree.{Tree, node_at, pointer_count, cap_count, has_cap};
-ghost use Rattle.cap_spec.specs.Following.{Leads, to_cap};
 ghost use Rattle.cap_spec.specs.Denoting.{Denotes};
 ghost use Rattle.cap_spec.specs.Paths.{Spot, Goes, Walks, Comes, Reaches, Before, Rises, IsTour, IsFirstCap, level_of, ReachesCap};
 ghost use Rattle.cap_spec.specs.Lists.{IsOneOf, AreDistinct};

@@ -1,6 +1,6 @@
 //! What a message's root denotes, and how a message may be refused.
 
-ghost use Rattle.std.specs.Prelude.{ℕ, List, ◌≡◌, ◌≤◌, ◌<◌, ◌+◌, ◌↔◌, length};
+ghost use Rattle.std.specs.Prelude.{ℕ, List, ◌≡◌, ◌≤◌, ◌<◌, ◌+◌, ◌↔◌};
 ghost use Rattle.cap_spec.specs.Lists.{IsOneOf, AreDistinct};
 ghost use Rattle.cap_spec.specs.declared.Step.{Step};
 ghost use Rattle.cap_spec.specs.declared.Reason.{Reason};

@@ -1,5 +1,5 @@
 -- Of the pointers of a tree one is the first that common readers reject, or none is such a pointer.
-use Rattle.std.proofs.Common.{ℕ, ◌≡◌, ◌⊎◌, List, [], ◌∷◌, ◌++◌, length, inl, inr, refl, sym, ap, subst, ◌∙◌, false}
+use Rattle.std.proofs.Common.{ℕ, ◌≡◌, ◌⊎◌, List, [], ◌∷◌, ◌++◌, length, inl, inr, refl, sym, ap, subst, false}
 use Rattle.cap_spec.specs.Lists.{IsOneOf}
 use Rattle.cap_spec.specs.Tree.{Tree}
 use Rattle.cap_spec.specs.Denoting.{Denotes}

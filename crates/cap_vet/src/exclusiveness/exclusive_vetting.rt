@@ -1,6 +1,5 @@
 //! The verdict of a message of which no word may be used twice.
 
-ghost use Rattle.cap_spec.specs.Denoting.{Denotes};
 ghost use Rattle.cap_spec.specs.Faults.{IsRefused};
 ghost use Rattle.cap_spec.specs.Messages.{segment_of};
 ghost use Rattle.cap_spec.specs.Frames.{sizes_of};
