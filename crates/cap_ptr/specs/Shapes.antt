@@ -1,6 +1,6 @@
 -- What the answer of a following says of a pointer word (standard: Structs, Lists; the charge is the profile's).
-use Rattle.std.specs.Prelude.{ℕ, ◌+◌, ◌^◌, ◌<◌, ◌≡◌, ◌≢◌, List, Result, Ok, Err}
-use Rattle.cap_spec.specs.Messages.{HasWord}
+use Rattle.std.specs.Prelude.{ℕ, ◌+◌, ◌^◌, ◌<◌, ◌≤◌, ◌≡◌, ◌≢◌, List, length, Result, Ok, Err}
+use Rattle.cap_spec.specs.Messages.{HasWord, segment_of}
 use Rattle.cap_spec.specs.Pointers.{kind, middle, code, data_size, pointer_size, list_size, extent}
 use Rattle.cap_spec.specs.Following.{Leads, to_null, to_cap, IsComposite, TagFits, Wrong, extra}
 use Rattle.cap_spec.specs.Denoting.{Finds}
@@ -70,6 +70,13 @@ FindsTargetBy m s w q tag x = FindsObject m s w x.pads x.segment x.start q tag x
 -- the pointer word at s:w leads to this target
 abbrev pub FindsTarget : List (List ℕ) → ℕ → ℕ → Target → Type 0
 FindsTarget m s w x = (q tag : ℕ) × FindsTargetBy m s w q tag x
+
+-- The words of the list of structs of the word q at t:b lie inside their segment, this tag first.
+pub record HasListAt (m : List (List ℕ)) (t b q tag : ℕ) : Type 0 where
+  pub list : IsComposite q
+  pub exists : t < length m
+  pub inside : b + extent q ≤ length (segment_of m t)
+  pub has : HasWord m t b tag
 
 -- what the pointer word at s:w leads to
 abbrev pub IsFollowed : List (List ℕ) → ℕ → ℕ → Followed → Type 0
