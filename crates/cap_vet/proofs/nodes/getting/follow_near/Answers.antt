@@ -2,9 +2,7 @@
 use Rattle.std.proofs.Common.{◌∙◌, ◌++◌, ◌∷◌, [], List, ap, arith, refl, subst, sym, append_assoc}
 use Rattle.cap_spec.specs.Paths.{word}
 use Rattle.cap_spec.specs.declared.Step.{Step}
-use Rattle.cap_vet.specs.Charging.{arrival_of}
-use Rattle.cap_vet.specs.Ways.{IsWay, SomeArrives}
-use Rattle.cap_vet.specs.declared.nodes.charged.Arrival.{Arrival}
+use Rattle.cap_vet.specs.Ways.{IsWay}
 use Rattle.cap_vet.specs.declared.nodes.way.Way.TheVariants.{To}
 use Rattle.cap_vet.proofs.PathWays.{done_steps}
 use Rattle.cap_vet.proofs.Somewhere.{arrival_few, arrival_levels}
@@ -20,12 +18,12 @@ step_near-requires-clause-arrived g c =
 
 pub step_near-requires-clause-levels : goal.step_near-requires-clause-levels
 step_near-requires-clause-levels g c =
-    let l = arrival_levels _ _ _ (arrival_of c.loop-step.at) (step_near-requires-clause-arrived g c) in
+    let l = arrival_levels _ _ _ c.loop-step.at (step_near-requires-clause-arrived g c) in
     omega (arith, l)
 
 pub step_near-requires-clause-few : goal.step_near-requires-clause-few
 step_near-requires-clause-few g c =
-    let l = arrival_few _ _ _ (arrival_of c.loop-step.at) (step_near-requires-clause-arrived g c) in
+    let l = arrival_few _ _ _ c.loop-step.at (step_near-requires-clause-arrived g c) in
     omega (arith, l)
 
 pub loop-step-preserved : goal.loop-step-preserved
@@ -47,12 +45,7 @@ returns-clause-way g c = λ steps left.
     let h = c.loop-step.invariant in
     let k = h.2 steps left in
     let none = no_step_given g.S.StepSource.gives c.loop-step.left c.next_step.new.self c.next_step.result k.0 c.in_default.is c.next_step.ensures.some k.2 in
-    subst (λ (at : Arrival). IsWay m c.args.words c.args.depth steps (To at)) (sym c.arrival.ensures)
-    (subst (λ (ss : List Step). IsWay m c.args.words c.args.depth ss (To (arrival_of c.loop-step.at)))
-    (done_steps [] h.0 steps k.0 k.1 none) (h.1.0, h.1.1))
+    subst (λ (ss : List Step). IsWay m c.args.words c.args.depth ss (To c.loop-step.at)) (done_steps [] h.0 steps k.0 k.1 none) h.1
 
 pub returns-clause-leads : goal.returns-clause-leads
-returns-clause-leads g c =
-    let h = c.loop-step.invariant in
-    subst (λ (at : Arrival). SomeArrives (g.M.Segments.segments c.args.message.now) c.args.words c.args.depth at)
-    (sym c.arrival.ensures) ∣ (h.0, h.1.0, h.1.1) ∣₁
+returns-clause-leads g c = let h = c.loop-step.invariant in ∣ (h.0, h.1.0, h.1.1) ∣₁
