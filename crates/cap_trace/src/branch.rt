@@ -89,6 +89,18 @@ impl Branch {
         }
     }
 
+    /// The same of elements of these sizes.
+    #[inline(always)]
+    pub(crate) fn of_elements(self, data_words: u16, pointers: u16) -> Branch
+        ensures { result ≡ record self { data_words = data_words; pointers = pointers } }
+    {
+        Branch {
+            data_words,
+            pointers,
+            ..self
+        }
+    }
+
     /// Goes on to the next pointer word of the object. `false` if there is none.
     #[inline(always)]
     pub(crate) fn advance(&mut self) -> bool

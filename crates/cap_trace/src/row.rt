@@ -28,8 +28,5 @@ pub(crate) fn branch_of_row(word: u64, row: &Row, from: &Branch) -> Branch
     if kind(word) == 0 {
         return Branch::first(Form::Struct, segment, at, left as u16, 0, level);
     }
-    Branch {
-        pointers: 1,
-        ..Branch::first(Form::Pointers, segment, at, 0, left, level)
-    }
+    Branch::first(Form::Pointers, segment, at, 0, left, level).of_elements(0, 1)
 }
