@@ -17,7 +17,7 @@ use cap_ptr::near_row;
 
 /// The branches on the way down to a pointer word, the first one at the root. 257 are enough for the
 /// greatest depth.
-pub(crate) type Way<const N: usize> = ArrayVec<Branch, N>;
+pub(crate) type BranchStack<const N: usize> = ArrayVec<Branch, N>;
 
 /// What a search has come to.
 #[derive(Clone, Copy, Drop)]
@@ -50,7 +50,7 @@ pub(crate) fn seek<M: Segments, const N: usize>(
     depth: u32,
     first: u64,
     number: u64,
-    others: &mut Way<N>,
+    others: &mut BranchStack<N>,
     last: &mut Branch,
 ) -> Sought
     requires shallow { depth ≤ 256 }
@@ -118,7 +118,7 @@ fn pass_nulls<M: Segments>(message: &M, most: u64, last: &mut Branch) -> u64
 fn pass<M: Segments, const N: usize>(
     message: &M,
     depth: u32,
-    others: &mut Way<N>,
+    others: &mut BranchStack<N>,
     last: &mut Branch,
 ) -> Passed
     requires shallow { depth ≤ 256 }
@@ -132,7 +132,7 @@ fn pass<M: Segments, const N: usize>(
         return leave(others, last);
     }
     let Some(row) = near_row(word, last.at, message.len(last.segment)) else {
-        return pass_far(message, depth, others, last);
+        return pass_followed(message, depth, others, last);
     };
     if last.level > depth {
         return Passed::Ended;
@@ -146,10 +146,10 @@ fn pass<M: Segments, const N: usize>(
 
 // The same of any word.
 #[inline(never)]
-fn pass_far<M: Segments, const N: usize>(
+fn pass_followed<M: Segments, const N: usize>(
     message: &M,
     depth: u32,
-    others: &mut Way<N>,
+    others: &mut BranchStack<N>,
     last: &mut Branch,
 ) -> Passed
     requires shallow { depth ≤ 256 }
@@ -167,7 +167,7 @@ fn pass_far<M: Segments, const N: usize>(
 
 // Goes on to the first pointer word of the object that the last one leads to.
 #[inline(always)]
-fn enter<const N: usize>(others: &mut Way<N>, last: &mut Branch, branch: Branch) -> Passed
+fn enter<const N: usize>(others: &mut BranchStack<N>, last: &mut Branch, branch: Branch) -> Passed
     ensures { (m : List (List ℕ)) (depth n : ℕ) → HasCome m depth n others.old.items last.old →
         GoesBelow m depth last.old (Object (Some branch)) →
         Passes m depth n N others.old.items last.old others.new.items last.new result }
@@ -182,7 +182,7 @@ fn enter<const N: usize>(others: &mut Way<N>, last: &mut Branch, branch: Branch)
 
 // Goes on from a word with no pointer words below it.
 #[inline(always)]
-fn leave<const N: usize>(others: &mut Way<N>, last: &mut Branch) -> Passed
+fn leave<const N: usize>(others: &mut BranchStack<N>, last: &mut Branch) -> Passed
     requires { (m : List (List ℕ)) × (depth n : ℕ) × IsMessage m
         × HasCome m depth n others.old.items last.old }
     ensures { (m : List (List ℕ)) (depth n : ℕ) → HasCome m depth n others.old.items last.old →
@@ -198,7 +198,7 @@ fn leave<const N: usize>(others: &mut Way<N>, last: &mut Branch) -> Passed
 // Goes on to the next pointer word that comes after the last one and is not below it. `false` if
 // there is none.
 #[inline(always)]
-fn go_on<const N: usize>(others: &mut Way<N>, last: &mut Branch) -> bool
+fn go_on<const N: usize>(others: &mut BranchStack<N>, last: &mut Branch) -> bool
     requires { (m : List (List ℕ)) × (depth : ℕ) × IsMessage m
         × AreBranches m depth 0 (others.old.items ++ last.old ∷ []) }
     ensures next { let ways = others.new.items ++ last.new ∷ [] in

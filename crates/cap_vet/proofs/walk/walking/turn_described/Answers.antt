@@ -1,7 +1,7 @@
 use Rattle.std.proofs.Common.{◌∷◌}
 use Rattle.cap_spec.specs.Messages.{HasWord}
 use Rattle.cap_vet.proofs.Stacks.{looked_at, looked_costs, null_visited, visited}
-use Rattle.cap_vet.proofs.walk.walking.turn_near.Goals as goal
+use Rattle.cap_vet.proofs.walk.walking.turn_described.Goals as goal
 
 pub word-requires-clause-exists : goal.word-requires-clause-exists
 word-requires-clause-exists g c = c.requires.1.next.exists
@@ -15,11 +15,11 @@ before-used-requires-clause-exists g c = c.requires.1.next.exists
 pub before-used-requires-clause-inside : goal.before-used-requires-clause-inside
 before-used-requires-clause-inside g c = c.requires.1.next.within
 
-pub looked_near-requires-clause-exists : goal.looked_near-requires-clause-exists
-looked_near-requires-clause-exists g c = c.requires.1.next.exists
+pub look_described-requires-clause-exists : goal.look_described-requires-clause-exists
+look_described-requires-clause-exists g c = c.requires.1.next.exists
 
-pub looked_near-requires-clause-inside : goal.looked_near-requires-clause-inside
-looked_near-requires-clause-inside g c = c.requires.1.next.within
+pub look_described-requires-clause-inside : goal.look_described-requires-clause-inside
+look_described-requires-clause-inside g c = c.requires.1.next.within
 
 pub after-requires-clause-known : goal.after-requires-clause-known
 after-requires-clause-known g c =

@@ -13,7 +13,7 @@ use cap_ptr::{far_segment, kind, pad, two};
 /// Looks at word `w` of segment `s`, as `look_near` does, and also at a far pointer with a pad of one
 /// word that describes the object.
 #[inline(always)]
-pub(crate) fn looked_near<M: Segments>(
+pub(crate) fn look_described<M: Segments>(
     message: &M,
     limits: &Limits,
     spent: u64,

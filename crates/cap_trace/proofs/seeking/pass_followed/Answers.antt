@@ -4,7 +4,7 @@ use Rattle.cap_trace.specs.declared.below.Below.{Below}
 use Rattle.cap_trace.specs.declared.below.Below.TheVariants.{Object}
 use Rattle.cap_trace.proofs.Branches.{branches_without}
 use Rattle.cap_trace.proofs.Coming.{none_past}
-use Rattle.cap_trace.proofs.seeking.pass_far.Goals as goal
+use Rattle.cap_trace.proofs.seeking.pass_followed.Goals as goal
 
 pub look_below-requires-clause-branch : goal.look_below-requires-clause-branch
 look_below-requires-clause-branch g c =

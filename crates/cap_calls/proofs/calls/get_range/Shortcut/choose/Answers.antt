@@ -4,8 +4,8 @@ use Rattle.std.proofs.lemmas.Bool.{eqb-true}
 use Rattle.std.proofs.lemmas.Bool.Decides.{nat_tests}
 use Rattle.cap_spec.specs.declared.Step.{Step}
 use Rattle.cap_calls.specs.declared.step.CallStep.{CallStep}
-use Rattle.cap_calls.proofs.RangeNear.{no_steps, one_step}
-use Rattle.cap_calls.proofs.calls.get_range.Near.choose.Goals as goal
+use Rattle.cap_calls.proofs.RangeShortcut.{no_steps, one_step}
+use Rattle.cap_calls.proofs.calls.get_range.Shortcut.choose.Goals as goal
 
 pub returns-then-is_empty : goal.returns-then-is_empty
 returns-then-is_empty g c = (

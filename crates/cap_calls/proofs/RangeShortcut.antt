@@ -17,9 +17,9 @@ use Rattle.cap_calls.specs.declared.answer.Answer.TheVariants.{Good}
 use Rattle.cap_calls.specs.CallNodes.{kind_node, offset_of}
 use Rattle.cap_calls.specs.NodeCalls.{Gets, a_node, path_found}
 use Rattle.cap_calls.specs.RangeCalls.{path_after, step_after, step_of}
-use Rattle.cap_calls.specs.RangeNear.{HasCount, HasNodeAfter, IsNear}
-use Rattle.cap_calls.specs.declared.calls.get_range.Near.{Near}
-use Rattle.cap_calls.specs.declared.calls.get_range.Near.TheVariants.{Elements, Pointers, Unknown}
+use Rattle.cap_calls.specs.RangeShortcut.{HasCount, HasNodeAfter, IsShortcut}
+use Rattle.cap_calls.specs.declared.calls.get_range.Shortcut.{Shortcut}
+use Rattle.cap_calls.specs.declared.calls.get_range.Shortcut.TheVariants.{Elements, Pointers, Unknown}
 use Rattle.cap_calls.specs.declared.node.CallNode.{CallNode}
 use Rattle.cap_calls.specs.declared.step.CallStep.{CallStep}
 
@@ -37,10 +37,10 @@ node_after m start step rest v node given e = λ demands words depth first is.
     a_node v.found.kind v.found.place.segment v.found.place.start v.found.place.words h.meets h.some refl e
 
 -- The same by other names.
-pub near_node : {M : Type 0} {g : segments.Ghosts M} (m n : List (List ℕ)) (start : PathStart M g) (s t : Step) (rest others : List Step)
+pub shortcut_node : {M : Type 0} {g : segments.Ghosts M} (m n : List (List ℕ)) (start : PathStart M g) (s t : Step) (rest others : List Step)
     (v : View M g) (node : CallNode) → n ≡ m → s ≡ t → rest ≡ others → GivesAfter n start s rest (Ok (Some v))
     → node ≡ kind_node v.found.kind (offset_of n v.found.place.segment v.found.place.start) → HasNodeAfter m start t others node
-near_node m n start s t rest others v node e f h given is =
+shortcut_node m n start s t rest others v node e f h given is =
     subst (λ (x : List (List ℕ)). HasNodeAfter x start t others node) e
     (subst (λ (x : Step). HasNodeAfter n start x others node) f
     (subst (λ (x : List Step). HasNodeAfter n start s x node) h (node_after n start s rest v node given is)))
@@ -65,36 +65,36 @@ node_of_elements {M} {g} list v node of same =
 
 -- The nodes of elements, and of pointers of them, by their number.
 module _ {M : Type 0} {g : segments.Ghosts M} (m : List (List ℕ)) (start : PathStart M g) (step : CallStep) (rest : List CallStep)
-    (near : Near M g) (list : StructElements M g) (number i k : ℕ) (v : View M g) (node : CallNode) (low : i < 4294967295)
+    (shortcut : Shortcut M g) (list : StructElements M g) (number i k : ℕ) (v : View M g) (node : CallNode) (low : i < 4294967295)
     (of : node ≡ kind_node v.found.kind (offset_of (g.segments (elements_message list)) v.found.place.segment v.found.place.start)) where
   the_step : 1 ≤ step.kind → i ≡ step.number + k → Item i ≡ step_after step k
   the_step some is =
       ap (λ (x : ℕ). Item x) is ∙ sym (item_of step.kind (step.number + k) some (omega (arith, low, is)))
 
-  pub elements_node : near ≡ Elements list number → i ≡ number + k → GivesElement (g.segments (elements_message list)) list i v
-      → IsNear m start step rest near → HasNodeAfter m start (step_after step k) (path_after rest 0 0) node
+  pub elements_node : shortcut ≡ Elements list number → i ≡ number + k → GivesElement (g.segments (elements_message list)) list i v
+      → IsShortcut m start step rest shortcut → HasNodeAfter m start (step_after step k) (path_after rest 0 0) node
   elements_node is at gives found =
-      let h : IsNear m start step rest (Elements list number) = subst (λ (x : Near M g). IsNear m start step rest x) is found in
+      let h : IsShortcut m start step rest (Elements list number) = subst (λ (x : Shortcut M g). IsShortcut m start step rest x) is found in
       let n = g.segments (elements_message list) in
       let are : LeadsToElements n start list = subst (λ (x : List (List ℕ)). LeadsToElements x start list) (sym h.0) h.1 in
       let on : Item i ≡ step_after step k = the_step h.2 (at ∙ ap (λ (x : ℕ). x + k) h.3) in
-      near_node m n start (Item i) (step_after step k) [] (path_after rest 0 0) v node h.0 on (sym h.4) (gives start are) of
+      shortcut_node m n start (Item i) (step_after step k) [] (path_after rest 0 0) v node h.0 on (sym h.4) (gives start are) of
 
-  pub pointers_node : (j : ℕ) → near ≡ Pointers list number j → i ≡ number + k
+  pub pointers_node : (j : ℕ) → shortcut ≡ Pointers list number j → i ≡ number + k
       → GivesPointer (g.segments (elements_message list)) list i j v
-      → IsNear m start step rest near → HasNodeAfter m start (step_after step k) (path_after rest 0 0) node
+      → IsShortcut m start step rest shortcut → HasNodeAfter m start (step_after step k) (path_after rest 0 0) node
   pointers_node j is at gives found =
-      let h : IsNear m start step rest (Pointers list number j) = subst (λ (x : Near M g). IsNear m start step rest x) is found in
+      let h : IsShortcut m start step rest (Pointers list number j) = subst (λ (x : Shortcut M g). IsShortcut m start step rest x) is found in
       let n = g.segments (elements_message list) in
       let are : LeadsToElements n start list = subst (λ (x : List (List ℕ)). LeadsToElements x start list) (sym h.0) h.1 in
       let on : Item i ≡ step_after step k = the_step h.2 (at ∙ ap (λ (x : ℕ). x + k) h.3) in
-      near_node m n start (Item i) (step_after step k) (Ptr j ∷ []) (path_after rest 0 0) v node h.0 on (sym h.4) (gives start are) of
+      shortcut_node m n start (Item i) (step_after step k) (Ptr j ∷ []) (path_after rest 0 0) v node h.0 on (sym h.4) (gives start are) of
 
 -- A node after the first steps is got at the path as a whole.
-pub gets_near : {M : Type 0} {g : segments.Ghosts M} (demands : Demands) (m n : List (List ℕ)) (words depth : ℕ) (first rest path : List Step)
+pub gets_shortcut : {M : Type 0} {g : segments.Ghosts M} (demands : Demands) (m n : List (List ℕ)) (words depth : ℕ) (first rest path : List Step)
     (step : Step) (start : PathStart M g) (node : CallNode) → n ≡ m → IsStart demands m words depth first start
     → path ≡ first ++ step ∷ rest → HasNodeAfter n start step rest node → Gets path node demands m words depth (path_found Good)
-gets_near demands m n words depth first rest path step start node e is f has =
+gets_shortcut demands m n words depth first rest path step start node e is f has =
     let after = subst (λ (x : List (List ℕ)). HasNodeAfter x start step rest node) e has in
     subst (λ (p : List Step). Gets p node demands m words depth (path_found Good)) (sym f) (after demands words depth first is)
 
@@ -109,8 +109,8 @@ one_step (s ∷ []) d e = refl
 one_step (s ∷ t ∷ steps) d e = absurd (omega (arith, e))
 
 -- how many segments the message has
-pub count_near : {M : Type 0} {g : segments.Ghosts M} (m : List (List ℕ)) (start : PathStart M g) (step : CallStep) (rest : List CallStep)
-    (near : Near M g) (n : ℕ) → n ≡ length m → IsNear m start step rest near → HasCount n near
-count_near m start step rest (Elements list number) n e h = e ∙ ap (λ (x : List (List ℕ)). length x) (sym h.0)
-count_near m start step rest (Pointers list number j) n e h = e ∙ ap (λ (x : List (List ℕ)). length x) (sym h.0)
-count_near m start step rest Unknown n e h = tt
+pub count_shortcut : {M : Type 0} {g : segments.Ghosts M} (m : List (List ℕ)) (start : PathStart M g) (step : CallStep) (rest : List CallStep)
+    (shortcut : Shortcut M g) (n : ℕ) → n ≡ length m → IsShortcut m start step rest shortcut → HasCount n shortcut
+count_shortcut m start step rest (Elements list number) n e h = e ∙ ap (λ (x : List (List ℕ)). length x) (sym h.0)
+count_shortcut m start step rest (Pointers list number j) n e h = e ∙ ap (λ (x : List (List ℕ)). length x) (sym h.0)
+count_shortcut m start step rest Unknown n e h = tt

@@ -4,7 +4,7 @@ use Rattle.cap_spec.specs.Messages.{IsMessage}
 use Rattle.cap_vet.proofs.Runs.{has_rest}
 use Rattle.cap_vet.proofs.Passing.{topmost_in}
 use Rattle.cap_vet.proofs.Stacks.{cost_charged, looked_at, next_at, steps_on}
-use Rattle.cap_vet.proofs.walk.walking.turn_far.Goals as goal
+use Rattle.cap_vet.proofs.walk.walking.turn_followed.Goals as goal
 
 pub before-used-requires-clause-exists : goal.before-used-requires-clause-exists
 before-used-requires-clause-exists g c = (topmost_in _ _ _ c.args.stack.now.items c.args.run.now c.args.report.now _ _ c.requires.walking.walks).exists

@@ -1,5 +1,5 @@
 use Rattle.cap_vet.proofs.Pointing.{marks_use}
-use Rattle.cap_vet.proofs.exclusiveness.marks.Marks.mark_far.Goals as goal
+use Rattle.cap_vet.proofs.exclusiveness.marks.Marks.mark_other.Goals as goal
 
 pub mark_words-requires : goal.mark_words-requires
 mark_words-requires g c =

@@ -1,6 +1,6 @@
 use Rattle.std.proofs.Common.{rules}
 use Rattle.cap_spec.specs.Messages.{IsMessage}
-use Rattle.cap_vet.proofs.nodes.found.found_far.Goals as goal
+use Rattle.cap_vet.proofs.nodes.found.found_followed.Goals as goal
 
 pub returns : goal.returns
 returns g c =
