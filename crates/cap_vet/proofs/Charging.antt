@@ -1,5 +1,5 @@
 -- What a path arrives at, step by step, and what following the pointers on it costs.
-use Rattle.std.proofs.Common.{ℕ, zero, suc, ◌+◌, ◌-◌, ◌<◌, ◌≤◌, List, [], ◌∷◌, ◌++◌, ◌≡◌, refl, subst, sym, ◌∙◌, arith}
+use Rattle.std.proofs.Common.{ℕ, zero, suc, ◌+◌, ◌-◌, ◌<◌, ◌≤◌, List, [], ◌∷◌, ◌++◌, ◌≡◌, refl, subst, arith}
 use Rattle.std.proofs.Common.{inl, inr, length, length-append, Option, None}
 use Rattle.std.proofs.lemmas.Bool.Decides.{leb_tells}
 use Rattle.cap_spec.specs.Arriving.{ArrivesAt}
@@ -10,7 +10,7 @@ use Rattle.cap_spec.specs.Getting.{AreOnPath, Charges, IsFaultOnPath}
 use Rattle.cap_spec.specs.Messages.{HasWord, segment_of}
 use Rattle.cap_spec.specs.Pointers.{middle}
 use Rattle.cap_spec.specs.Paths.{Comes, Costs, Goes, Reaches, Spot, element, word}
-use Rattle.cap_spec.specs.Verdicts.{CostOf, levels_below}
+use Rattle.cap_spec.specs.Verdicts.{levels_below}
 use Rattle.cap_spec.specs.declared.Kind.{Kind}
 use Rattle.cap_spec.specs.declared.Reason.{Reason}
 use Rattle.cap_spec.specs.declared.Refusal.{Refusal}
@@ -177,10 +177,10 @@ fault_word m words depth path a at step s w v h g reason =
 
 -- and at an element.
 pub arrives_element : (m : List (List ℕ)) (words depth : ℕ) (path : List Step) (a : Spot) (at : Arrival) (step : Step)
-    (t b ds ps : ℕ) → Arrives m words depth path a at → Goes m a step (element t b ds ps) → t < length m
-    → b + ds + ps ≤ length (segment_of m t)
-    → Arrives m words depth (path ++ step ∷ []) (element t b ds ps) record at { found = element_of t b ds ps; level = at.level + 1 }
-arrives_element m words depth path a at step t b ds ps h g exists inside =
+    (t b ds ps : ℕ) (lax : Option LaxPointer) → at.lax ≡ lax → Arrives m words depth path a at → Goes m a step (element t b ds ps)
+    → t < length m → b + ds + ps ≤ length (segment_of m t) → Arrives m words depth (path ++ step ∷ []) (element t b ds ps)
+    record at { found = element_of t b ds ps; level = at.level + 1; lax = lax }
+arrives_element m words depth path a at step t b ds ps lax e h g exists inside =
     let c : Comes m (path ++ step ∷ []) (at.level + 1) (element t b ds ps) =
     (coming_last m path step (at.level + 1) (element t b ds ps)).1 (a, at.level, h.comes, g, refl) in
     record {
@@ -200,7 +200,7 @@ arrives_element m words depth path a at step t b ds ps h g exists inside =
       pointers = h.pointers;
       levels = low_element m words depth path a at step t b ds ps h g;
       few = omega (arith, h.few);
-      lax = lax_same m path (step ∷ []) h.ways at.lax h.lax;
+      lax = subst (λ o. KnowsLaxOnPath m (path ++ step ∷ []) h.ways o) e (lax_same m path (step ∷ []) h.ways at.lax h.lax);
     }
 
 -- The first fault on the beginning of a path is the first on the path.

@@ -1,6 +1,6 @@
 -- Paths that go on at the elements of a list of structs.
 use Rattle.std.proofs.Common.{◌≡◌, ℕ, ◌+◌, ◌*◌, ◌<◌, ◌≤◌, List, [], ◌∷◌, ◌++◌}
-use Rattle.std.proofs.Common.{Ok, Some, None, Option, append_assoc, length, refl, subst, sym, arith}
+use Rattle.std.proofs.Common.{Ok, Some, Option, append_assoc, length, refl, subst, sym, arith}
 use Rattle.std.proofs.Math.Nat.{mul-le-mul_right}
 use Rattle.cap_frame.specs.declared.segments.Segments as segments
 use Rattle.cap_spec.specs.Faults.{IsDeepAt}
@@ -12,9 +12,8 @@ use Rattle.cap_vet.specs.Charging.{Arrives}
 use Rattle.cap_vet.specs.Demands.{words_under}
 use Rattle.cap_vet.specs.Finding.{element_of}
 use Rattle.cap_vet.specs.NearFinding.{FindsNear}
-use Rattle.cap_vet.specs.PathStrictness.{AddsPointer, HasNoFaultBy}
+use Rattle.cap_vet.specs.PathStrictness.{HasNoFaultBy}
 use Rattle.cap_vet.specs.PathWays.{LeadsToElements, GivesAfter}
-use Rattle.cap_vet.specs.Looking.{IsNotLax}
 use Rattle.cap_vet.specs.Ways.{IsWay}
 use Rattle.cap_vet.specs.declared.demands.Demands.{Demands}
 use Rattle.cap_vet.specs.declared.nodes.charged.Arrival.{Arrival}
@@ -56,7 +55,7 @@ module _ {M : Type 0} {g : segments.Ghosts M} (m : List (List ℕ)) (start : Pat
       let goes : Goes m there.0 (Item i) (element_spot e i) =
       rw (are.segment, are.first) (element_goes m there.0 are.at.found e.count e.data_words e.pointers i there.1.found are.kind lt) in
       arrives_element m start.words start.depth first there.0 are.at (Item i) e.segment
-      (e.first + i * (e.data_words + e.pointers)) e.data_words e.pointers there.1 goes exists inside
+      (e.first + i * (e.data_words + e.pointers)) e.data_words e.pointers are.at.lax refl there.1 goes exists inside
 
   -- A path on that arrives where the view is, without a lax pointer more, gives the view.
   gives : (rest : List Step) (a : Spot) (at : Arrival) → at.lax ≡ are.at.lax → v.found ≡ at.found

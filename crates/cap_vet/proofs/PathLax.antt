@@ -66,3 +66,6 @@ lax_added m prev more ways level s w n None (Some x) on r e k a = record {
 pub adds_strict : (m : List (List ℕ)) (s w n : ℕ) (lax : Option LaxPointer) → IsNotLax m s w → AddsPointer m s w n lax lax
 adds_strict m s w n None strict = strict
 adds_strict m s w n (Some first) strict = refl
+
+pub adds_none : (m : List (List ℕ)) (s w n : ℕ) (lax : Option LaxPointer) → lax ≡ None → IsNotLax m s w → AddsPointer m s w n lax None
+adds_none m s w n lax e strict = subst (λ (o : Option LaxPointer). AddsPointer m s w n o None) (sym e) strict

@@ -4,7 +4,7 @@ ghost use Rattle.cap_spec.specs.Paths.{Spot as Where, word};
 ghost use Rattle.cap_spec.specs.declared.Step.{Step};
 ghost use Rattle.cap_vet.specs.Charging.{Arrives};
 ghost use Rattle.cap_vet.specs.Ways.{SomeArrives};
-ghost use Rattle.std.specs.Prelude.{[], ◌∷◌, ◌++◌, ◌<◌, ◌^◌, IfSome, List};
+ghost use Rattle.std.specs.Prelude.{[], ◌∷◌, ◌++◌, ◌<◌, ◌≡◌, ◌^◌, IfSome, List, None};
 
 use crate::nodes::charged::Arrival;
 use crate::nodes::near_found::found_near;
@@ -15,7 +15,8 @@ use cap_spec::Step;
 // Arrives at the root, if a look at its pointer shows where that leads.
 #[inline(always)]
 pub(crate) fn at_root_near<M: Segments>(message: &M, words: u64, depth: u32) -> Option<Arrival>
-    ensures { IfSome result (Arrives (M.segments message.now) words depth [] (word 0 0)) }
+    ensures at { IfSome result (Arrives (M.segments message.now) words depth [] (word 0 0)) }
+    ensures strict { IfSome result (λ at. at.lax ≡ None) }
 {
     if message.len(0) == 0 {
         return None;
@@ -32,7 +33,7 @@ pub(crate) fn at_root_near<M: Segments>(message: &M, words: u64, depth: u32) -> 
 
 impl Arrival {
     // Takes one step, if a look at the step's pointer shows where it leads, or to an element. Common
-    // readers reject no such pointer.
+    // readers reject no such pointer, and none before it. So `lax` needs no register in a loop.
     #[inline(always)]
     pub(crate) fn step_near<M: Segments>(
         &self,
@@ -44,9 +45,11 @@ impl Arrival {
         requires arrived { SomeArrives (M.segments message.now) words depth self.now }
         requires levels { self.now.level < 2 ^ 61 }
         requires few { self.now.pointers < 2 ^ 61 }
-        ensures { let m = M.segments message.now in
+        requires strict { self.now.lax ≡ None }
+        ensures on { let m = M.segments message.now in
             (path : List Step) (a : Where) → Arrives m words depth path a self.now →
             IfSome result (λ next. (b : Where) × Arrives m words depth (path ++ step ∷ []) b next) }
+        ensures strict { IfSome result (λ next. next.lax ≡ None) }
     {
         match self.found.step(step) {
             None => None,
@@ -59,7 +62,7 @@ impl Arrival {
                     level,
                     spent: self.spent + charge,
                     pointers: self.pointers + 1,
-                    lax: self.lax,
+                    lax: None,
                 })
             }
             Some(
@@ -69,7 +72,10 @@ impl Arrival {
                     data_words,
                     pointers,
                 },
-            ) => Some(self.at_element(segment, start, data_words, pointers)),
+            ) => Some(Arrival {
+                lax: None,
+                ..self.at_element(segment, start, data_words, pointers)
+            }),
         }
     }
 }

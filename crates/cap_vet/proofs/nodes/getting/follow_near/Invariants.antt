@@ -1,4 +1,4 @@
-use Rattle.std.proofs.Common.{◌≡◌, List, ◌++◌}
+use Rattle.std.proofs.Common.{◌≡◌, List, ◌++◌, None}
 use Rattle.cap_spec.specs.Paths.{Spot}
 use Rattle.cap_spec.specs.declared.Step.{Step}
 use Rattle.cap_vet.specs.Charging.{Arrives}
@@ -9,6 +9,7 @@ invariant-loop-step g l =
     (done : List Step)
     × ((b : Spot) × Arrives (g.M.Segments.segments l.message) l.words l.depth done b l.at)
     × ((steps : List Step) → g.S.StepSource.gives l.fn.path steps → (more : List Step) × (steps ≡ done ++ more) × g.S.StepSource.gives l.left more)
+    × (l.at.lax ≡ None)
 
 abbrev pub decreases-loop-step : goal.decreases-loop-step
 decreases-loop-step g l = g.S.StepSource.most l.left

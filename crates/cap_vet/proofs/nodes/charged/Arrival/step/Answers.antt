@@ -39,7 +39,7 @@ returns-in-Some-Element-clause-some g c = λ path a h.
     let goes = (rw e.field-0-is at e.ensures) m a h.found in (
       element e.segment e.start e.data_words e.pointers,
       rw c.at_element.ensures
-          (arrives_element m _ _ path a c.args.self.now c.args.step e.segment e.start e.data_words e.pointers h goes.0 goes.1.0 goes.1.1),
+          (arrives_element m _ _ path a c.args.self.now c.args.step e.segment e.start e.data_words e.pointers _ refl h goes.0 goes.1.0 goes.1.1),
     )
 
 pub step-requires : goal.step-requires
