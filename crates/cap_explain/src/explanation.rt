@@ -1,6 +1,6 @@
 //! The buffer that holds the text of an explanation.
 
-ghost use Rattle.cap_explain.specs.Forms.{difference_text, place_text};
+ghost use Rattle.cap_explain.specs.FormTexts.{difference_text, place_text};
 ghost use Rattle.cap_spec.specs.Texts.{hex};
 ghost use Rattle.std.specs.Prelude.{◌+◌, ◌*◌, ◌++◌, ◌^◌, ◌<◌, ◌≡◌, ◌≤◌, [], decimal, length, take};
 
