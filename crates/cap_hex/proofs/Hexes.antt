@@ -1,8 +1,6 @@
 -- The digits of a word's bytes, as the crate `hex` writes them.
-use Rattle.std.proofs.Common.{◌≡◌, ℕ, ◌+◌, ◌/◌, ◌%◌, ◌<◌, ◌≤◌, eqb, true, List, [], ◌∷◌, ◌++◌, length, length-append, slice_index, take, refl, ap, ◌∙◌, arith}
+use Rattle.std.proofs.Common.{◌≡◌, ℕ, ◌/◌, ◌%◌, ◌<◌, eqb, true, List, [], ◌∷◌, slice_index, refl, ap, ◌∙◌, arith}
 use Rattle.std.proofs.lemmas.Bool.{agree_below_at, eqb-true}
-use Rattle.std.proofs.lemmas.Slice.{take-put_mid}
-use borrow.Rule.Slice.PartMut.{put_mid}
 use Rattle.std.specs.List.{flat_map}
 use Rattle.std.specs.Simd.Lanes.{Each1}
 use Rattle.cap_spec.specs.Plain.{word_bytes}
@@ -26,14 +24,3 @@ small_bytes w = (omega arith, (omega arith, (omega arith, (omega arith, (omega a
 -- they are the sixteen digits of the word
 pub encode_is_hex : (w : ℕ) → encode_lower (word_bytes w) ≡ hex w
 encode_is_hex w = digits_of_bytes (word_bytes w) (small_bytes w)
-
--- sixteen digits that were put behind the first bytes of a page
-pub hex_put : (len k w : ℕ) (bytes out old : List ℕ) → out ≡ hex w → len ≤ length bytes → take len bytes ≡ old
-    → take (len + 16) (put_mid len k bytes out) ≡ old ++ hex w
-hex_put len k w bytes out old e fits front =
-    let sixteen : length out ≡ 16 = ap length e in
-    take-put_mid len k bytes out (len + 16) (omega (arith, sixteen)) fits ∙ ap (λ l. l ++ out) front ∙ ap (λ l. old ++ l) e
-
-pub hex_put_length : (len k w : ℕ) (bytes out old : List ℕ) → out ≡ hex w → len ≤ length bytes → take len bytes ≡ old
-    → length (take (len + 16) (put_mid len k bytes out)) ≡ length old + 16
-hex_put_length len k w bytes out old e fits front = ap length (hex_put len k w bytes out old e fits front) ∙ length-append old (hex w)
