@@ -7,7 +7,7 @@ ghost use Rattle.std.specs.Prelude.{◌≡◌};
 use cap_words::bytes_of;
 
 /// The 16 hexadecimal digits of a word's bytes, the lowest byte first.
-#[inline]
+#[inline(always)]
 pub fn hex_of(word: u64) -> [u8; 16]
     ensures { result ≡ hex word }
 {
