@@ -36,9 +36,9 @@ pub(crate) fn look_below<M: Segments>(message: &M, depth: u32, from: &Branch) ->
     }
 }
 
-// The same of a word that leads to this target.
+/// The same of a word that leads to this target.
 #[inline(always)]
-fn below_target(target: &Target, depth: u32, from: &Branch) -> Below
+pub(crate) fn below_target(target: &Target, depth: u32, from: &Branch) -> Below
     requires found { (m : List (List ℕ)) × IsMessage m
         × FindsTarget m from.now.segment from.now.at target.now }
     requires level { from.now.level ≤ 257 }

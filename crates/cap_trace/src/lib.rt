@@ -4,6 +4,7 @@
 mod below;
 mod branch;
 mod naming;
+mod near;
 mod row;
 mod seeking;
 mod tracing;

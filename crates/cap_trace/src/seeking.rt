@@ -6,14 +6,16 @@ ghost use Rattle.cap_trace.specs.Seeking.{IsSought, Passes};
 ghost use Rattle.cap_trace.specs.Traces.{GoesBelow, HasCome, word_ahead};
 ghost use Rattle.cap_trace.specs.declared.below.Below.TheVariants.{Object};
 ghost use Rattle.cap_trace.specs.declared.branch.Branch.{Branch};
-ghost use Rattle.std.specs.Prelude.{◌+◌, ◌++◌, ◌≡◌, ◌≤◌, [], ◌∷◌, IsFalse, IsTrue, List, None, Some, ℕ};
+ghost use Rattle.std.specs.Prelude.{◌+◌, ◌++◌, ◌≡◌, ◌≤◌, [], ◌∷◌, IfNone, IfSome, IsFalse, IsTrue, List, None, Some, ℕ};
 
-use crate::below::{Below, look_below};
-use crate::branch::{Branch, Form};
+use crate::below::{Below, below_target, look_below};
+use crate::branch::Branch;
+use crate::near::near_pointer;
 use crate::row::branch_of_row;
 use arrayvec::ArrayVec;
 use cap_frame::Segments;
-use cap_ptr::near_row;
+use cap_ptr::{kind, middle, near_row};
+use cap_vet::struct_list;
 
 /// The branches on the way down to a pointer word, the first one at the root. 257 are enough for the
 /// greatest depth.
@@ -78,7 +80,7 @@ pub(crate) fn seek<M: Segments, const N: usize>(
     }
 }
 
-// Goes on over null words while others of the same object follow, and over at most as many as `most`.
+// Goes on over null words while others of the same row follow, and over at most as many as `most`.
 // Gives how many. In many lists of pointers nearly every word is null.
 #[inline(always)]
 fn pass_nulls<M: Segments>(message: &M, most: u64, last: &mut Branch) -> u64
@@ -91,29 +93,16 @@ fn pass_nulls<M: Segments>(message: &M, most: u64, last: &mut Branch) -> u64
     if message.word(last.segment, last.at) != 0 {
         return 0;
     }
+    let most = most.min(u64::from(last.row_left())) as u32;
     let mut count = 0;
-    match last.form {
-        Form::Pointers => {
-            let most = most.min(u64::from(last.more));
-            'elements: while count < most && message.word(last.segment, last.at) == 0 {
-                last.next_pointer();
-                count += 1;
-            }
-        }
-        _ => {
-            'nulls: while count < most && message.word(last.segment, last.at) == 0 {
-                if last.advance() {
-                    count += 1;
-                } else {
-                    return count;
-                }
-            }
-        }
+    'nulls: while count < most && message.word(last.segment, last.at + count) == 0 {
+        count += 1;
     }
-    count
+    last.skip(count);
+    u64::from(count)
 }
 
-// Goes on to the next pointer word in preorder. Most words are null, or describe their objects alone.
+// Goes on to the next pointer word in preorder.
 #[inline(always)]
 fn pass<M: Segments, const N: usize>(
     message: &M,
@@ -127,24 +116,81 @@ fn pass<M: Segments, const N: usize>(
         HasCome m depth n others.old.items last.old →
         Passes m depth n N others.old.items last.old others.new.items last.new result }
 {
-    let word = message.word(last.segment, last.at);
-    if word == 0 {
-        return leave(others, last);
+    match go_below(message, depth, others, last) {
+        Some(passed) => passed,
+        None => leave(others, last),
     }
-    let Some(row) = near_row(word, last.at, message.len(last.segment)) else {
-        return pass_far(message, depth, others, last);
-    };
-    if last.level > depth {
-        return Passed::Ended;
-    }
-    if row.pointer_count == 0 {
-        return leave(others, last);
-    }
-    let branch = branch_of_row(word, &row, last);
-    enter(others, last, branch)
 }
 
-// The same of any word.
+// Goes on to the next pointer word, unless the last one is null, a capability, or that of an object
+// without pointer words: it then changes nothing. Most words are null, or describe their objects.
+#[inline(always)]
+fn go_below<M: Segments, const N: usize>(
+    message: &M,
+    depth: u32,
+    others: &mut Way<N>,
+    last: &mut Branch,
+) -> Option<Passed>
+    requires shallow { depth ≤ 256 }
+    requires come { (n : ℕ) × HasCome (M.segments message.now) depth n others.old.items last.old }
+    ensures below { let m = M.segments message.now in (n : ℕ) →
+        HasCome m depth n others.old.items last.old → IfSome result
+        (Passes m depth n N others.old.items last.old others.new.items last.new) }
+    ensures none { IfNone result ((others.new ≡ others.old) × (last.new ≡ last.old)
+        × GoesBelow (M.segments message.now) depth last.old (Object None)) }
+{
+    let word = message.word(last.segment, last.at);
+    if word == 0 {
+        return None;
+    }
+    let Some(near) = near_pointer(message, last.segment, last.at, word) else {
+        return Some(pass_other(message, depth, others, last));
+    };
+    if let Some(row) = near_row(near.word, near.at, message.len(near.segment)) {
+        if last.level > depth {
+            return Some(Passed::Ended);
+        }
+        if row.pointer_count == 0 {
+            return None;
+        }
+        let branch = branch_of_row(&near, &row, last.level);
+        return Some(enter(others, last, branch));
+    }
+    if let Some(list) = struct_list(message, near.pads, near.segment, near.at, near.word) {
+        return match below_target(&list, depth, last) {
+            Below::Object(Some(branch)) => Some(enter(others, last, branch)),
+            Below::Object(None) => None,
+            Below::Blocked => Some(Passed::Ended),
+        };
+    }
+    if kind(near.word) == 3 && middle(near.word) == 0 {
+        return None;
+    }
+    Some(pass_other(message, depth, others, last))
+}
+
+// The same of any word. It works on a copy, so that the branch of the loop has no address outside of
+// it.
+#[inline(always)]
+fn pass_other<M: Segments, const N: usize>(
+    message: &M,
+    depth: u32,
+    others: &mut Way<N>,
+    last: &mut Branch,
+) -> Passed
+    requires shallow { depth ≤ 256 }
+    requires come { (n : ℕ) × HasCome (M.segments message.now) depth n others.old.items last.old }
+    ensures { let m = M.segments message.now in (n : ℕ) →
+        HasCome m depth n others.old.items last.old →
+        Passes m depth n N others.old.items last.old others.new.items last.new result }
+{
+    let mut from = *last;
+    let passed = pass_far(message, depth, others, &mut from);
+    *last = from;
+    passed
+}
+
+// The same, and not inlined: few words need it.
 #[inline(never)]
 fn pass_far<M: Segments, const N: usize>(
     message: &M,

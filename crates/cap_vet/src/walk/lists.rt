@@ -12,7 +12,7 @@ use cap_ptr::{Shape, Target, code, data_size, kind, list_size, middle, pointer_s
 /// the word and its elements have words (encoding: Lists). The word takes the place of a pointer
 /// word, over some pads.
 #[inline(always)]
-pub(crate) fn struct_list<M: Segments>(
+pub fn struct_list<M: Segments>(
     message: &M,
     pads: u8,
     segment: u32,

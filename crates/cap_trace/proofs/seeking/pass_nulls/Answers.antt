@@ -1,7 +1,8 @@
-use Rattle.std.proofs.Common.{◌+◌, ◌≡◌, arith, subst, ℕ}
-use Rattle.cap_trace.specs.Traces.{HasCome}
-use Rattle.cap_trace.proofs.Branches.{branches_without}
-use Rattle.cap_trace.proofs.Nulls.{came_over_null}
+use Rattle.std.proofs.Common.{◌+◌, ◌<◌, ◌≡◌, arith}
+use Rattle.cap_spec.proofs.Frames.Messages.{short_segment}
+use Rattle.cap_trace.specs.Branches.{row_left}
+use Rattle.cap_trace.proofs.Branches.{branches_without, row_inside}
+use Rattle.cap_trace.proofs.Nulls.{came_in_row}
 use Rattle.cap_trace.proofs.seeking.pass_nulls.Goals as goal
 
 pub word-requires-clause-exists : goal.word-requires-clause-exists
@@ -13,65 +14,33 @@ word-requires-clause-inside g c =
     let (depth, n, others, h) = c.requires in
     let b = (branches_without _ depth 0 others _ h.branches).1 in omega (arith, b.inside)
 
-pub word-requires-in-elements-clause-exists : goal.word-requires-in-elements-clause-exists
-word-requires-in-elements-clause-exists g c =
+pub overflow_add-last : goal.overflow_add-last
+overflow_add-last g c =
+    let m = g.M.Segments.segments c.args.message.now in
     let (depth, n, others, h) = c.requires in
-    (branches_without _ depth 0 others _ (c.elements.invariant.passed depth n others h).branches).1.exists
+    let b = (branches_without m depth 0 others _ h.branches).1 in
+    omega (arith, row_inside m depth _ c.args.last.now b, short_segment m c.args.last.now.segment (g.met.M.Segments.is_message c.args.message.now) b.exists, c.nulls-test.true, c.min-most.ensures, c.from.ensures, c.row_left.ensures)
 
-pub word-requires-in-elements-clause-inside : goal.word-requires-in-elements-clause-inside
-word-requires-in-elements-clause-inside g c =
+pub word-requires-in-nulls-clause-inside : goal.word-requires-in-nulls-clause-inside
+word-requires-in-nulls-clause-inside g c =
+    let m = g.M.Segments.segments c.args.message.now in
     let (depth, n, others, h) = c.requires in
-    let b = (branches_without _ depth 0 others _ (c.elements.invariant.passed depth n others h).branches).1 in
-    omega (arith, b.inside)
-
-pub next_pointer-requires-clause-branch : goal.next_pointer-requires-clause-branch
-next_pointer-requires-clause-branch g c =
-    let (depth, n, others, h) = c.requires in (
-      _,
-      depth,
-      _,
-      g.met.M.Segments.is_message c.args.message.now,
-      (branches_without _ depth 0 others _ (c.elements.invariant.passed depth n others h).branches).1,
-    )
-
-pub elements-preserved : goal.elements-preserved
-elements-preserved g c = record {
-  few = omega arith;
-  form = c.next_pointer.ensures.form;
-  more = omega (arith, c.elements.invariant.more, c.next_pointer.ensures.more);
-  passed = λ depth n others h.
-      let m = g.M.Segments.segments c.args.message.now in
-      let e : n + c.elements.count + 1 ≡ n + (c.elements.count + 1) = omega arith in
-      subst (λ (u : ℕ). HasCome m depth u others c.next_pointer.new.self) e
-      (came_over_null m depth _ others c.elements.last c.next_pointer.new.self (c.elements.invariant.passed depth n others h)
-      (rw c.if-word-eq0.true at c.word-in-elements.ensures) c.next_pointer.ensures.next
-      (λ i b. c.next_pointer.ensures.branch m depth i b));
-}
-
-pub word-requires-in-nulls : goal.word-requires-in-nulls
-word-requires-in-nulls g c =
-    let (depth, n, others, h) = c.requires in
-    let b = (branches_without _ depth 0 others _ (c.nulls.invariant.passed depth n others h).branches).1 in
-    record { exists = b.exists; inside = omega (arith, b.inside) }
-
-pub advance-requires : goal.advance-requires
-advance-requires g c =
-    let (depth, n, others, h) = c.requires in (
-      _,
-      depth,
-      _,
-      g.met.M.Segments.is_message c.args.message.now,
-      (branches_without _ depth 0 others _ (c.nulls.invariant.passed depth n others h).branches).1,
-    )
+    let b = (branches_without m depth 0 others _ h.branches).1 in
+    omega (arith, row_inside m depth _ c.args.last.now b, c.nulls-test.true, c.min-most.ensures, c.from.ensures, c.row_left.ensures)
 
 pub nulls-preserved : goal.nulls-preserved
 nulls-preserved g c = record {
   few = omega arith;
   passed = λ depth n others h.
       let m = g.M.Segments.segments c.args.message.now in
-      let e : n + c.nulls.count + 1 ≡ n + (c.nulls.count + 1) = omega arith in
-      subst (λ (u : ℕ). HasCome m depth u others c.advance.new.self) e
-      (came_over_null m depth _ others c.nulls.last c.advance.new.self (c.nulls.invariant.passed depth n others h)
-      (rw c.if-word-eq0-2.true at c.word-in-nulls.ensures) (c.advance.ensures.next c.if-advance.true)
-      (λ i b. c.advance.ensures.branch c.if-advance.true m depth i b));
+      let b = (branches_without m depth 0 others _ h.branches).1 in
+      let some : c.nulls.count < row_left c.args.last.now = omega (arith, c.nulls-test.true, c.min-most.ensures, c.from.ensures, c.row_left.ensures) in
+      came_in_row m depth n c.nulls.count others c.args.last.now b.formed some (rw c.if-word-eq0.true at c.word-in-nulls.ensures)
+      (c.nulls.invariant.passed depth n others h);
 }
+
+pub skip-requires-clause-branch : goal.skip-requires-clause-branch
+skip-requires-clause-branch g c =
+    let m = g.M.Segments.segments c.args.message.now in
+    let (depth, n, others, h) = c.requires in
+    (m, depth, _, g.met.M.Segments.is_message c.args.message.now, (branches_without m depth 0 others _ h.branches).1)

@@ -1,26 +1,14 @@
-use Rattle.std.specs.Prelude.{◌+◌, ◌-◌, ◌≡◌, ◌≤◌, List, ℕ}
+use Rattle.std.specs.Prelude.{◌+◌, ◌-◌, ◌≤◌, List, ℕ}
+use Rattle.cap_trace.specs.Branches.{skipped}
 use Rattle.cap_trace.specs.Traces.{HasCome}
 use Rattle.cap_trace.specs.declared.branch.Branch.{Branch}
-use Rattle.cap_trace.specs.declared.branch.Form.TheVariants.{Pointers}
 use Rattle.cap_trace.proofs.seeking.pass_nulls.Given as goal
-
-abbrev pub invariant-elements : goal.invariant-elements
-invariant-elements g l = record {
-  few : l.count ≤ l.most;
-  form : l.last.form ≡ Pointers;
-  more : l.most ≤ l.count + l.last.more;
-  passed : (depth n : ℕ) (others : List Branch) → HasCome (g.M.Segments.segments l.message) depth n others l.fn.last
-      → HasCome (g.M.Segments.segments l.message) depth (n + l.count) others l.last;
-}
-
-abbrev pub decreases-elements : goal.decreases-elements
-decreases-elements g l = l.most - l.count
 
 abbrev pub invariant-nulls : goal.invariant-nulls
 invariant-nulls g l = record {
   few : l.count ≤ l.most;
-  passed : (depth n : ℕ) (others : List Branch) → HasCome (g.M.Segments.segments l.message) depth n others l.fn.last
-      → HasCome (g.M.Segments.segments l.message) depth (n + l.count) others l.last;
+  passed : (depth n : ℕ) (others : List Branch) → HasCome (g.M.Segments.segments l.message) depth n others l.last
+      → HasCome (g.M.Segments.segments l.message) depth (n + l.count) others (skipped l.last l.count);
 }
 
 abbrev pub decreases-nulls : goal.decreases-nulls
