@@ -39,7 +39,7 @@ cap_below m depth k i from lead = (
 )
 
 -- The search comes to the next word of the same object.
-came_over_null : (m : List (List ℕ)) (depth n : ℕ) (fs : List Branch) (f g : Branch) → HasCome m depth n fs f
+pub came_over_null : (m : List (List ℕ)) (depth n : ℕ) (fs : List Branch) (f g : Branch) → HasCome m depth n fs f
     → HasWord m f.segment f.at 0 → ((base : List Step) → rest_of base f ≡ word_of base g ∷ rest_of base g)
     → ((i : ℕ) → IsBranch m depth i f → IsBranch m depth i g) → HasCome m depth (n + 1) fs g
 came_over_null m depth n fs f g h null next branch =

@@ -1,20 +1,23 @@
 //! The search for a pointer word by its number in preorder.
 
+ghost use Rattle.cap_ptr.specs.Rows.{FindsRow};
+ghost use Rattle.cap_ptr.specs.Shapes.{FindsTarget};
 ghost use Rattle.cap_spec.specs.Messages.{IsMessage};
 ghost use Rattle.cap_trace.specs.Branches.{AreBranches, path_of, rest_from};
-ghost use Rattle.cap_trace.specs.Seeking.{IsSought, Passes};
+ghost use Rattle.cap_trace.specs.NearPointers.{IsNearPointer};
+ghost use Rattle.cap_trace.specs.Seeking.{IsLooked, IsSought, Passes};
 ghost use Rattle.cap_trace.specs.Traces.{GoesBelow, HasCome, word_ahead};
 ghost use Rattle.cap_trace.specs.declared.below.Below.TheVariants.{Object};
 ghost use Rattle.cap_trace.specs.declared.branch.Branch.{Branch};
-ghost use Rattle.std.specs.Prelude.{◌+◌, ◌++◌, ◌≡◌, ◌≤◌, [], ◌∷◌, IfNone, IfSome, IsFalse, IsTrue, List, None, Some, ℕ};
+ghost use Rattle.std.specs.Prelude.{◌+◌, ◌++◌, ◌≡◌, ◌≤◌, [], ◌∷◌, IsFalse, IsTrue, List, None, Some, ℕ};
 
 use crate::below::{Below, below_target, look_below};
-use crate::branch::Branch;
-use crate::near::near_pointer;
-use crate::row::branch_of_row;
+use crate::branch::{Branch, Form};
+use crate::near::{NearPointer, one_word_pad};
+use crate::row::{branch_of_list, branch_of_struct};
 use arrayvec::ArrayVec;
 use cap_frame::Segments;
-use cap_ptr::{kind, middle, near_row};
+use cap_ptr::{Row, Target, kind, middle, near_row};
 use cap_vet::struct_list;
 
 /// The branches on the way down to a pointer word, the first one at the root. 257 are enough for the
@@ -43,6 +46,17 @@ enum Passed {
     Full,
 }
 
+/// What comes of looking at a pointer word.
+#[derive(Clone, Copy, Drop)]
+enum Looked {
+    /// The search went on below it.
+    Went(Passed),
+    /// Nothing is below it, and nothing has changed.
+    Nothing,
+    /// It has to be followed, and nothing has changed.
+    Unknown,
+}
+
 /// Looks at the pointer words of a message in preorder, from number `first` up to that of `number`.
 /// `last` is the word that the search has come to, and `others` are the branches before it on the way
 /// down.
@@ -60,7 +74,7 @@ pub(crate) fn seek<M: Segments, const N: usize>(
     requires come { HasCome (M.segments message.now) depth first others.old.items last.old }
     ensures { IsSought (M.segments message.now) depth number N others.new.items last.new result }
 {
-    // Nothing outside of the loop has this, so it stays in registers.
+    // Nothing outside of this function has it, and it goes to `others` and back in two moves.
     let mut here = *last;
     let mut at = first;
     'words: loop {
@@ -80,7 +94,7 @@ pub(crate) fn seek<M: Segments, const N: usize>(
     }
 }
 
-// Goes on over null words while others of the same row follow, and over at most as many as `most`.
+// Goes on over null words while others of the same object follow, and over at most as many as `most`.
 // Gives how many. In many lists of pointers nearly every word is null.
 #[inline(always)]
 fn pass_nulls<M: Segments>(message: &M, most: u64, last: &mut Branch) -> u64
@@ -93,6 +107,21 @@ fn pass_nulls<M: Segments>(message: &M, most: u64, last: &mut Branch) -> u64
     if message.word(last.segment, last.at) != 0 {
         return 0;
     }
+    match last.form {
+        Form::Structs => pass_null_elements(message, most, last),
+        _ => pass_null_row(message, most, last),
+    }
+}
+
+// The same of a struct or of a list of pointers, whose words are in one row.
+#[inline(always)]
+fn pass_null_row<M: Segments>(message: &M, most: u64, last: &mut Branch) -> u64
+    requires { (depth n : ℕ) × (others : List Branch)
+        × HasCome (M.segments message.now) depth n others last.old }
+    ensures few { result ≤ most }
+    ensures passed { let m = M.segments message.now in (depth n : ℕ) (others : List Branch) →
+        HasCome m depth n others last.old → HasCome m depth (n + result) others last.new }
+{
     let most = most.min(u64::from(last.row_left())) as u32;
     let mut count = 0;
     'nulls: while count < most && message.word(last.segment, last.at + count) == 0 {
@@ -102,7 +131,27 @@ fn pass_nulls<M: Segments>(message: &M, most: u64, last: &mut Branch) -> u64
     u64::from(count)
 }
 
-// Goes on to the next pointer word in preorder.
+// The same of a list of structs.
+#[inline(always)]
+fn pass_null_elements<M: Segments>(message: &M, most: u64, last: &mut Branch) -> u64
+    requires { (depth n : ℕ) × (others : List Branch)
+        × HasCome (M.segments message.now) depth n others last.old }
+    ensures few { result ≤ most }
+    ensures passed { let m = M.segments message.now in (depth n : ℕ) (others : List Branch) →
+        HasCome m depth n others last.old → HasCome m depth (n + result) others last.new }
+{
+    let mut count = 0;
+    'nulls: while count < most && message.word(last.segment, last.at) == 0 {
+        if last.advance() {
+            count += 1;
+        } else {
+            return count;
+        }
+    }
+    count
+}
+
+// Goes on to the next pointer word in preorder. Most words are null, or describe their objects.
 #[inline(always)]
 fn pass<M: Segments, const N: usize>(
     message: &M,
@@ -116,81 +165,148 @@ fn pass<M: Segments, const N: usize>(
         HasCome m depth n others.old.items last.old →
         Passes m depth n N others.old.items last.old others.new.items last.new result }
 {
-    match go_below(message, depth, others, last) {
-        Some(passed) => passed,
-        None => leave(others, last),
+    match look(message, depth, others, last) {
+        Looked::Went(passed) => passed,
+        Looked::Nothing => leave(others, last),
+        Looked::Unknown => pass_far(message, depth, others, last),
     }
 }
 
-// Goes on to the next pointer word, unless the last one is null, a capability, or that of an object
-// without pointer words: it then changes nothing. Most words are null, or describe their objects.
+// Looks at the last word, and goes on below it.
 #[inline(always)]
-fn go_below<M: Segments, const N: usize>(
+fn look<M: Segments, const N: usize>(
     message: &M,
     depth: u32,
     others: &mut Way<N>,
     last: &mut Branch,
-) -> Option<Passed>
+) -> Looked
     requires shallow { depth ≤ 256 }
     requires come { (n : ℕ) × HasCome (M.segments message.now) depth n others.old.items last.old }
-    ensures below { let m = M.segments message.now in (n : ℕ) →
-        HasCome m depth n others.old.items last.old → IfSome result
-        (Passes m depth n N others.old.items last.old others.new.items last.new) }
-    ensures none { IfNone result ((others.new ≡ others.old) × (last.new ≡ last.old)
-        × GoesBelow (M.segments message.now) depth last.old (Object None)) }
+    ensures { IsLooked (M.segments message.now) depth N others.old.items last.old
+        others.new.items last.new result }
 {
     let word = message.word(last.segment, last.at);
     if word == 0 {
-        return None;
+        return Looked::Nothing;
     }
-    let Some(near) = near_pointer(message, last.segment, last.at, word) else {
-        return Some(pass_other(message, depth, others, last));
+    let near = NearPointer {
+        pads: 0,
+        segment: last.segment,
+        at: last.at,
+        word,
     };
-    if let Some(row) = near_row(near.word, near.at, message.len(near.segment)) {
-        if last.level > depth {
-            return Some(Passed::Ended);
-        }
-        if row.pointer_count == 0 {
-            return None;
-        }
-        let branch = branch_of_row(&near, &row, last.level);
-        return Some(enter(others, last, branch));
+    if let Some(row) = near_row(word, last.at, message.len(last.segment)) {
+        return look_row(depth, others, last, &near, &row);
     }
-    if let Some(list) = struct_list(message, near.pads, near.segment, near.at, near.word) {
-        return match below_target(&list, depth, last) {
-            Below::Object(Some(branch)) => Some(enter(others, last, branch)),
-            Below::Object(None) => None,
-            Below::Blocked => Some(Passed::Ended),
-        };
+    if kind(word) != 2 {
+        return look_other(message, depth, others, last, &near);
     }
-    if kind(near.word) == 3 && middle(near.word) == 0 {
-        return None;
+    match one_word_pad(message, last.segment, last.at, word) {
+        Some(pad) => look_near(message, depth, others, last, &pad),
+        None => Looked::Unknown,
     }
-    Some(pass_other(message, depth, others, last))
 }
 
-// The same of any word. It works on a copy, so that the branch of the loop has no address outside of
-// it.
+// The same by a word that takes the place of the last word.
 #[inline(always)]
-fn pass_other<M: Segments, const N: usize>(
+fn look_near<M: Segments, const N: usize>(
     message: &M,
     depth: u32,
     others: &mut Way<N>,
     last: &mut Branch,
-) -> Passed
+    near: &NearPointer,
+) -> Looked
     requires shallow { depth ≤ 256 }
     requires come { (n : ℕ) × HasCome (M.segments message.now) depth n others.old.items last.old }
-    ensures { let m = M.segments message.now in (n : ℕ) →
-        HasCome m depth n others.old.items last.old →
-        Passes m depth n N others.old.items last.old others.new.items last.new result }
+    requires near { let m = M.segments message.now in
+        IsNearPointer m last.old.segment last.old.at near.now }
+    ensures { IsLooked (M.segments message.now) depth N others.old.items last.old
+        others.new.items last.new result }
 {
-    let mut from = *last;
-    let passed = pass_far(message, depth, others, &mut from);
-    *last = from;
-    passed
+    match near_row(near.word, near.at, message.len(near.segment)) {
+        Some(row) => look_row(depth, others, last, near, &row),
+        None => look_other(message, depth, others, last, near),
+    }
 }
 
-// The same, and not inlined: few words need it.
+// The same of a word that describes an object of these words.
+#[inline(always)]
+fn look_row<const N: usize>(
+    depth: u32,
+    others: &mut Way<N>,
+    last: &mut Branch,
+    near: &NearPointer,
+    row: &Row,
+) -> Looked
+    requires found { (m : List (List ℕ)) × IsNearPointer m last.old.segment last.old.at near.now
+        × FindsRow m near.now.segment near.now.at near.now.word row.now }
+    requires level { last.old.level ≤ 257 }
+    ensures { (m : List (List ℕ)) → IsNearPointer m last.old.segment last.old.at near.now →
+        FindsRow m near.now.segment near.now.at near.now.word row.now →
+        IsLooked m depth N others.old.items last.old others.new.items last.new result }
+{
+    if last.level > depth {
+        return Looked::Went(Passed::Ended);
+    }
+    if row.pointer_count == 0 {
+        return Looked::Nothing;
+    }
+    // A struct and a list each have code of their own, since most numbers of their branches are 0.
+    if kind(near.word) == 0 {
+        let branch = branch_of_struct(near, row, last.level);
+        return Looked::Went(enter(others, last, branch));
+    }
+    let branch = branch_of_list(near, row, last.level);
+    Looked::Went(enter(others, last, branch))
+}
+
+// The same of a word that describes no object alone: the list's tag may, or it is a capability.
+#[inline(always)]
+fn look_other<M: Segments, const N: usize>(
+    message: &M,
+    depth: u32,
+    others: &mut Way<N>,
+    last: &mut Branch,
+    near: &NearPointer,
+) -> Looked
+    requires shallow { depth ≤ 256 }
+    requires come { (n : ℕ) × HasCome (M.segments message.now) depth n others.old.items last.old }
+    requires near { let m = M.segments message.now in
+        IsNearPointer m last.old.segment last.old.at near.now }
+    ensures { IsLooked (M.segments message.now) depth N others.old.items last.old
+        others.new.items last.new result }
+{
+    if let Some(list) = struct_list(message, near.pads, near.segment, near.at, near.word) {
+        return look_target(depth, others, last, &list);
+    }
+    if kind(near.word) == 3 && middle(near.word) == 0 {
+        return Looked::Nothing;
+    }
+    Looked::Unknown
+}
+
+// The same of a word that leads to this target.
+#[inline(always)]
+fn look_target<const N: usize>(
+    depth: u32,
+    others: &mut Way<N>,
+    last: &mut Branch,
+    target: &Target,
+) -> Looked
+    requires found { (m : List (List ℕ)) × IsMessage m
+        × FindsTarget m last.old.segment last.old.at target.now }
+    requires level { last.old.level ≤ 257 }
+    ensures { (m : List (List ℕ)) → FindsTarget m last.old.segment last.old.at target.now →
+        IsLooked m depth N others.old.items last.old others.new.items last.new result }
+{
+    match below_target(target, depth, last) {
+        Below::Object(Some(branch)) => Looked::Went(enter(others, last, branch)),
+        Below::Object(None) => Looked::Nothing,
+        Below::Blocked => Looked::Went(Passed::Ended),
+    }
+}
+
+// Goes on to the next pointer word, over any word. It is not inlined, since few words need it.
 #[inline(never)]
 fn pass_far<M: Segments, const N: usize>(
     message: &M,

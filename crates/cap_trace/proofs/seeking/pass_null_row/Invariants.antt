@@ -2,7 +2,7 @@ use Rattle.std.specs.Prelude.{◌+◌, ◌-◌, ◌≤◌, List, ℕ}
 use Rattle.cap_trace.specs.Branches.{skipped}
 use Rattle.cap_trace.specs.Traces.{HasCome}
 use Rattle.cap_trace.specs.declared.branch.Branch.{Branch}
-use Rattle.cap_trace.proofs.seeking.pass_nulls.Given as goal
+use Rattle.cap_trace.proofs.seeking.pass_null_row.Given as goal
 
 abbrev pub invariant-nulls : goal.invariant-nulls
 invariant-nulls g l = record {
