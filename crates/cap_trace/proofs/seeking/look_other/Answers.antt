@@ -1,14 +1,21 @@
-use Rattle.std.proofs.Common.{arith, refl}
+use Rattle.std.proofs.Common.{arith, refl, rules}
 use Rattle.cap_spec.specs.Following.{to_cap}
 use Rattle.cap_spec.specs.Pointers.{cap_index}
 use Rattle.cap_trace.proofs.Branches.{branches_without}
 use Rattle.cap_trace.proofs.Nulls.{cap_below}
 use Rattle.cap_trace.proofs.seeking.look_other.Goals as goal
 
-pub look_target-requires-clause-level : goal.look_target-requires-clause-level
-look_target-requires-clause-level g c =
-    let b = (branches_without (g.M.Segments.segments c.args.message.now) c.args.depth 0 _ _ c.requires.come.1.branches).1 in
-    omega (arith, b.low, c.requires.shallow)
+pub look_target-requires : goal.look_target-requires
+look_target-requires g c =
+    let m = g.M.Segments.segments c.args.message.now in
+    let last = c.args.last.now in
+    let b = (branches_without m c.args.depth 0 _ _ c.requires.come.1.branches).1 in (
+      search rules,
+      (
+        (m, g.met.M.Segments.is_message c.args.message.now, c.in-Some.ensures.found last.segment last.at c.requires.near.stands),
+        omega (arith, b.low, c.requires.shallow),
+      ),
+    )
 
 pub returns-in-Some : goal.returns-in-Some
 returns-in-Some g c =

@@ -23,11 +23,11 @@ returns-in-Nothing g c = λ n h.
     c.in-Nothing.is c.look.ensures in
     rw (← k.0, ← k.1) (c.leave.ensures m c.args.depth n (rw (k.0, k.1) h) (rw k.1 k.2))
 
-pub pass_far-requires-clause-come : goal.pass_far-requires-clause-come
-pass_far-requires-clause-come g c =
+pub pass_far-requires : goal.pass_far-requires
+pass_far-requires g c =
     let m = g.M.Segments.segments c.args.message.now in
     let k = subst (λ (u : Looked). IsLooked m c.args.depth g.row.N c.args.others.now.items c.args.last.now c.look.new.others.items c.look.new.last u)
-    c.in-Unknown.is c.look.ensures in (c.requires.come.0, rw (k.0, k.1) c.requires.come.1)
+    c.in-Unknown.is c.look.ensures in (search rules, (c.requires.shallow, (c.requires.come.0, rw (k.0, k.1) c.requires.come.1)))
 
 pub returns-in-Unknown : goal.returns-in-Unknown
 returns-in-Unknown g c = λ n h.

@@ -12,6 +12,10 @@ overflow_add-last g c =
     let b = (branches_without m depth 0 others _ h.branches).1 in
     omega (arith, row_inside m depth _ c.args.last.now b, short_segment m c.args.last.now.segment (g.met.M.Segments.is_message c.args.message.now) b.exists, c.nulls-test.true, c.min-most.ensures, c.from.ensures, c.row_left.ensures)
 
+pub word-requires-clause-exists : goal.word-requires-clause-exists
+word-requires-clause-exists g c =
+    let (depth, n, others, h) = c.requires in (branches_without _ depth 0 others _ h.branches).1.exists
+
 pub word-requires-clause-inside : goal.word-requires-clause-inside
 word-requires-clause-inside g c =
     let m = g.M.Segments.segments c.args.message.now in
