@@ -56,11 +56,13 @@ look_other-requires g c =
       search rules,
       (
         c.requires.shallow,
-        c.requires.come,
-        record {
-          has = c.word-word.ensures;
-          stands = stands-near _ last.segment last.at c.word-word.result c.word-word.ensures (λ e. omega (arith, c.kind.ensures, c.if-kind-ne2.true, e));
-          few = omega arith;
-        },
+        (
+          c.requires.come,
+          record {
+            has = c.word-word.ensures;
+            stands = stands-near _ last.segment last.at c.word-word.result c.word-word.ensures (λ e. omega (arith, c.kind.ensures, c.if-kind-ne2.true, e));
+            few = omega arith;
+          },
+        ),
       ),
     )
