@@ -5,7 +5,7 @@ use Rattle.cap_spec.specs.Messages.{segment_of}
 use Rattle.cap_spec.specs.declared.Step.{Step}
 use Rattle.cap_spec.specs.declared.Step.TheVariants.{Ptr, Item}
 use Rattle.cap_vet.specs.Trails.{Ahead}
-use Rattle.cap_trace.specs.Branches.{AreBranches, IsBranch, IsFormed, form_row, form_skipped, path_from, path_of, rest_from, rest_of, row_left, skipped, steps_of, word_of, words_of_object}
+use Rattle.cap_trace.specs.Branches.{AreBranches, IsBranch, IsFormed, form_row, path_from, path_of, rest_from, rest_of, row_left, skipped, steps_of, word_of, words_of_object}
 use Rattle.cap_trace.specs.Traces.{word_ahead}
 use Rattle.cap_trace.specs.declared.branch.Branch.{Branch}
 use Rattle.cap_trace.specs.declared.branch.Form.{Form}

@@ -1,4 +1,4 @@
-use Rattle.std.proofs.Common.{◌++◌, List, rules, subst}
+use Rattle.std.proofs.Common.{rules, subst}
 use Rattle.cap_trace.specs.Seeking.{IsLooked}
 use Rattle.cap_trace.specs.declared.seeking.Looked.{Looked}
 use Rattle.cap_trace.proofs.seeking.pass.Goals as goal
