@@ -21,6 +21,8 @@ ARGUMENTS = bytes(16)
 FOUND = "found-"
 # The words of a message that is larger than 8 KiB.
 LARGE = 1100
+# Flags and kinds of runs of a guard: see guard/fuzz_run_test.go.
+RUNS = (10, 0), (12, 8), (14, 16), (78, 1), (76, 2), (74, 0), (26, 24), (8, 25), (46, 3), (15, 24)
 
 
 def tried():
@@ -94,6 +96,9 @@ def each_way():
     stream = (TOP / "examples/stream-of-four.bin").read_bytes()
     for number, flags in enumerate((1, 2, 4, 8, 16, 32, 33, 96, 97, 40, 48, 112)):
         yield f"flags-{number}", argued(flags, 5 * number % 32, 3 * number + 64) + stream
+    # (TLS and metrics of a guard, in each way to end it)
+    for number, (flags, kind) in enumerate(RUNS):
+        yield f"run-{number}", argued(flags, kind, 3 * number + 128) + stream
 
 
 def made():

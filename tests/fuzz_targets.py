@@ -411,6 +411,7 @@ TARGETS = (
     Go("guard", "FuzzPump", "go-prometheus", "go-proxyproto", "go-systemd"),
     Go("guard", "FuzzGreeting", "go-prometheus", "go-proxyproto", "go-systemd"),
     Go("guard", "FuzzServe", "go-prometheus", "go-proxyproto", "go-systemd"),
+    Go("guard", "FuzzRun", "go-prometheus", "go-proxyproto", "go-systemd"),
     Go("guard", "FuzzOptions", "go-prometheus", "go-proxyproto", "go-systemd"),
     Python(),
     JavaScript(),

@@ -15,6 +15,7 @@ The last line is 'Done N runs'. A broken rule is an AssertionError, with the sma
 - The commands of `python -m capvet` say the same: see python_commands.py.
 """
 import array
+import ctypes
 import dataclasses
 import io
 import pickle
@@ -125,7 +126,10 @@ def check_buffers(data, limits):
     gaps = memoryview(bytes(byte for byte in data for _ in range(2)))[::2]
     assert same(report, result(capvet.vet, gaps, limits=limits))
     if len(data) % 8 == 0 and data:
-        for other in (array.array("Q", data), memoryview(data).cast("Q"), memoryview(data).cast("Q", (1, len(data) // 8))):
+        # (Python casts no items of the other byte order)
+        swapped = (ctypes.c_uint64.__ctype_be__ * (len(data) // 8)).from_buffer_copy(data)
+        for other in (array.array("Q", data), memoryview(data).cast("Q"), memoryview(data).cast("Q", (1, len(data) // 8)),
+                      memoryview(swapped).toreadonly()):
             assert same(report, result(capvet.vet, other, limits=limits))
 
 

@@ -254,8 +254,9 @@ class Files:
         try:
             worker.connection.send(worker.names)
         except OSError:
-            # (it was killed, which the next look at its connection shows)
-            pass
+            # (it was killed, which the next look at its connection shows, and has none of these files)
+            self._waiting.appendleft(worker.names)
+            worker.names = []
 
     def __iter__(self) -> Iterator[Part]:
         """The parts as they come, and one without anything now and then."""
