@@ -32,7 +32,7 @@ func newFuzzBackend(f *testing.F, path string, config *tls.Config) *fuzzBackend 
 	if config != nil {
 		listener = tls.NewListener(listener, config)
 	}
-	b := &fuzzBackend{listener, make(chan bool, 1), make(chan []byte)}
+	b := &fuzzBackend{listener, make(chan bool, 1), make(chan []byte, 64)}
 	f.Cleanup(func() { listener.Close() })
 	go func() {
 		for {
