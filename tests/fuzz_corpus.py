@@ -115,8 +115,9 @@ def made():
     # (a packed message for a buffer of more than 1 MiB, and more words than the JavaScript module keeps)
     found["packed-huge"] = packed_list(200000) + packed_list(3)
     found["packed-zeros"] = packed_zeros((1 << 21) + 1)
-    # (a list of bytes that is a text, and one that ends as a text does and isn't valid UTF-8)
-    found["text"], found["text-wrong"] = (struct.pack("<IIQ8s", 0, 2, 1 | 2 << 32 | 3 << 35, text) for text in (b"\xc2\xa7", b"\xff\xc2"))
+    # (a list of bytes that is a text, one whose characters are escaped, and one that isn't valid UTF-8)
+    for name, text in (("text", b"\xc2\xa7"), ("text-escaped", b"\"\n"), ("text-wrong", b"\xff\xc2")):
+        found[name] = struct.pack("<IIQ8s", 0, 2, 1 | 2 << 32 | 3 << 35, text)
     found["segments-511"] = strict.many(511)
     found["segments-512"] = strict.many(512)
     found["empty"] = b""

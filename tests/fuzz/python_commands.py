@@ -212,11 +212,13 @@ def check_ends(file, words):
     none, broken = file.parent / "n\u00f6ne", OSError("broken")
     said = ran("tree", none, err=Ascii())
     assert said[0] == 3 and said[1] == "" and "n\\xf6ne" in said[2]
-    status, text, said = ran("vet", *words, file, none, err=Terminal())
-    assert status == 3 and "failed FileNotFoundError 1\n" in text and said.count(f"capvet: [Errno 2] No such file or directory: '{none}'") == 1
-    for out in (Terminal(broken, writes=0), Terminal(broken, flushes=1), None):
-        status, _, said = ran("vet", *words, file, out=out, err=Terminal())
-        assert status == 3 and said.endswith("capvet: output failed\n")
+    # (each file is a part, which hides the bar if there is a line about it)
+    with mock.patch.object(vetting, "_SECONDS", 0):
+        status, text, said = ran("vet", *words, file, none, err=Terminal())
+    assert status == 3 and "\r\x1b[K" in said and "failed FileNotFoundError 1\n" in text and said.count(f"capvet: [Errno 2] No such file or directory: '{none}'") == 1
+    for out in (Terminal(broken, writes=0), *(Terminal(broken, flushes=number) for number in range(4)), None):
+        status, _, said = ran("vet", *words, file, none, out=out, err=Terminal())
+        assert status == 3 and said.endswith("capvet: output failed\n") and not signal.pthread_sigmask(signal.SIG_BLOCK, ())
     out = Terminal(broken, flushes=1)
     assert ran("vet", *words, file, out=out, err=Terminal(broken, writes=0))[0] == 3
     # (nothing is written to it any more)
@@ -243,6 +245,7 @@ def check_killed(file, words, chance):
     def vet_or_end(run, given):
         vet(run, given)
         if lost == "none":
+            run.connection.close()
             os._exit(1)
 
     def file_or_end(run, name):
