@@ -15,6 +15,9 @@ import (
 	"time"
 )
 
+// fuzzPatience is how long a run waits for what has to come. (Go ends a fuzz target that takes 10 seconds)
+const fuzzPatience = 5 * time.Second
+
 // fuzzPlace is what is at the address of a guard before it begins.
 type fuzzPlace int
 
@@ -162,15 +165,23 @@ func (r *fuzzRun) start() {
 
 // says waits for a word in the log.
 func (r *fuzzRun) says(t *testing.T, word string) {
-	for deadline := time.Now().Add(testPatience); !strings.Contains(r.out.String(), word); time.Sleep(100 * time.Microsecond) {
+	t.Helper()
+	r.holds(t, word, func() bool { return strings.Contains(r.out.String(), word) })
+}
+
+// holds waits for something that has to hold.
+func (r *fuzzRun) holds(t *testing.T, what string, holds func() bool) {
+	t.Helper()
+	for deadline := time.Now().Add(fuzzPatience); !holds(); time.Sleep(100 * time.Microsecond) {
 		if time.Now().After(deadline) {
-			t.Fatalf("no %q in %q", word, r.out.String())
+			t.Fatalf("never: %s, in %q", what, r.out.String())
 		}
 	}
 }
 
 // ends waits for the end, and compares the status.
 func (r *fuzzRun) ends(t *testing.T, status int) {
+	t.Helper()
 	if got := await(t, "the guard ends", r.status); got != status {
 		t.Fatalf("the status %d and not %d: %q", got, status, r.out.String())
 	}
@@ -181,7 +192,7 @@ func await[T any](t *testing.T, what string, from <-chan T) (it T) {
 	t.Helper()
 	select {
 	case it = <-from:
-	case <-time.After(testPatience):
+	case <-time.After(fuzzPatience):
 		t.Fatal("never: ", what)
 	}
 	return it
@@ -257,7 +268,7 @@ func (r *fuzzRun) dial(t *testing.T) half {
 	if err != nil {
 		t.Fatal(err)
 	}
-	conn.SetDeadline(time.Now().Add(testPatience))
+	conn.SetDeadline(time.Now().Add(fuzzPatience))
 	if !r.isSecret[client] {
 		return conn.(half)
 	}
@@ -321,7 +332,7 @@ func (r *fuzzRun) endTwice(t *testing.T, wanted passing) {
 	r.signals <- syscall.SIGTERM
 	r.says(t, "draining")
 	if r.hasMetrics && wanted.cause == closed && !r.isRejected() {
-		until(t, "the guard is draining", func() bool { return r.get(t, "/health") == "draining\n" })
+		r.holds(t, "the guard is draining", func() bool { return r.get(t, "/health") == "draining\n" })
 	}
 	r.signals <- syscall.SIGTERM
 	r.ends(t, statusDone)
@@ -359,7 +370,7 @@ func (r *fuzzRun) check(t *testing.T, o *options, wanted passing, all, got, repl
 // get asks the metrics' address for a page.
 func (r *fuzzRun) get(t *testing.T, path string) string {
 	dial := func(context.Context, string, string) (net.Conn, error) { return net.Dial("unix", r.metric) }
-	by := &http.Client{Transport: &http.Transport{DialContext: dial, DisableKeepAlives: true}, Timeout: testPatience}
+	by := &http.Client{Transport: &http.Transport{DialContext: dial, DisableKeepAlives: true}, Timeout: fuzzPatience}
 	answer, err := by.Get("http://guard" + path)
 	if err != nil {
 		t.Fatal(err)
@@ -384,7 +395,7 @@ func (r *fuzzRun) checkMetrics(t *testing.T, wanted passing) {
 	case r.isWrong && r.isSecret[server]:
 		line = `connections_rejected_total{cause="connect"} 1`
 	}
-	until(t, line, func() bool { return strings.Contains(r.get(t, "/metrics"), "\ncapvet_guard_"+line) })
+	r.holds(t, line, func() bool { return strings.Contains(r.get(t, "/metrics"), "\ncapvet_guard_"+line) })
 	if text := r.get(t, "/health"); text != "ok\n" {
 		t.Fatal(text)
 	}

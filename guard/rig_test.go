@@ -71,7 +71,7 @@ type rig struct {
 }
 
 // until waits for something that has to hold.
-func until(t testing.TB, what string, holds func() bool) {
+func until(t *testing.T, what string, holds func() bool) {
 	t.Helper()
 	for deadline := time.Now().Add(testPatience); time.Now().Before(deadline); time.Sleep(5 * time.Millisecond) {
 		if holds() {

@@ -83,7 +83,7 @@ class Result:
 
 # A line that says what a finding is about.
 SAYING = re.compile(r"RULE BROKEN .*|.*ERROR: (?:AddressSanitizer|LeakSanitizer|libFuzzer): .*|.*runtime error: .*"
-                    r"|thread '.*' panicked at .*|ERROR: no end .*|\s+fuzz\w*_test\.go:\d+: .*|panic: .*|AssertionError.*|E? *\w*Error: .*")
+                    r"|thread '.*' panicked at .*|ERROR: no end .*|\s+fuzzing process hung .*|\s+fuzz\w*_test\.go:\d+: .*|panic: .*|AssertionError.*|E? *\w*Error: .*")
 
 
 def finding_of(text):
