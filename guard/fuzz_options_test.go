@@ -4,7 +4,6 @@ import (
 	"errors"
 	"fmt"
 	"io"
-	"math"
 	"os"
 	"runtime/debug"
 	"strings"
@@ -26,7 +25,7 @@ func FuzzOptions(f *testing.F) {
 		"--listen-client-ca", "--listen-proxy", "--connect-tls", "--connect-ca", "--connect-name", "--connect-cert", "--connect-key",
 		"--connect-proxy", "--log", "--help", "--version", "--none", "word"}
 	values := []string{"", "0", "1", "-1", "8", "256", "257", "268435457", "9999999999", "30s", "-5s", "unix:", "unix:/a", "systemd",
-		"systemd:a", "127.0.0.1:0", "::1", "none", "both", "requests", "json", "text", os.DevNull, fmt.Sprint(math.MaxInt64)}
+		"systemd:a", "127.0.0.1:0", "::1", "none", "both", "requests", "json", "text", os.DevNull}
 	f.Fuzz(func(t *testing.T, data []byte) {
 		words := []string{"--listen=127.0.0.1:0", "--connect=unix:/a"}
 		if len(data) > 0 && data[0]&1 != 0 {
@@ -47,6 +46,9 @@ func FuzzOptions(f *testing.F) {
 		if _, err := capvet.Vet(nil, o.limits); !errors.Is(err, io.EOF) || o.memory < 1<<20 || o.connectTimeout <= 0 || o.connect.network == "" ||
 			o.maxConnections < 0 || o.maxPerPeer < 0 || o.sendProxy > 2 || o.messageTimeout < 0 || o.idleTimeout < 0 || o.drainTimeout < 0 {
 			t.Fatal(words, o)
+		}
+		if o.connectTLS.isOn && o.connectTLS.name == "" && o.connect.host() == "" {
+			t.Fatal(words, "have no name for the certificate")
 		}
 		defer debug.SetMemoryLimit(debug.SetMemoryLimit(-1))
 		if err := bound(o); err != nil || o.maxConnections == 0 || debug.SetMemoryLimit(-1) < o.memory {

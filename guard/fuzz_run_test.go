@@ -98,8 +98,9 @@ func (w *fuzzWorld) run(data []byte) *fuzzRun {
 var fuzzMissing = []string{
 	"--listen=unix:none/guard", "--metrics=unix:none/metrics", "--listen-cert=none --listen-key=KEY",
 	"--listen-cert=CERT --listen-key=CERT", "--listen-cert=CERT --listen-key=KEY --listen-client-ca=KEY",
-	"--listen-cert=CERT --listen-key=KEY --listen-client-ca=none", "--connect-tls --connect-ca=none", "--connect-tls --connect-ca=KEY",
-	"--connect-tls --connect-cert=CERT --connect-key=none",
+	"--listen-cert=CERT --listen-key=KEY --listen-client-ca=none",
+	"--connect-tls --connect-name=a --connect-ca=none", "--connect-tls --connect-name=a --connect-ca=KEY",
+	"--connect-tls --connect-name=a --connect-cert=CERT --connect-key=none",
 }
 
 // words are the options of the guard.

@@ -175,7 +175,7 @@ func TestCommandLines(t *testing.T) {
 		append(both, "--listen-client-ca", "x"), append(both, "--connect-ca", "x"), append(both, "--connect-proxy", "3"),
 		append(both, "--connect-tls", "--connect-key", "x"), append(both, "--log", "x"), append(both, "--memory", "1"),
 		append(both, "--idle-timeout", "3"), append(both, "--idle-timeout", "-3s"), append(both, "--connect-timeout", "0"),
-		append(both, "--max-per-peer", "-1"),
+		append(both, "--max-per-peer", "-1"), append(both, "--connect-tls"), append(both, "--connect", "unix:/a", "--connect-tls"),
 	} {
 		if o, err := parse(words); err == nil {
 			t.Error(words, o)
