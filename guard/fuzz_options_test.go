@@ -15,10 +15,6 @@ import (
 // FuzzOptions reads command lines of options and values that the input chooses. What is read is within the bounds, and a run
 // says what is wrong. The collector of garbage lets the guard have all that --memory allows.
 func FuzzOptions(f *testing.F) {
-	for i := uint32(0); i < 600; i++ {
-		n := i*2654435761 + 12345
-		f.Add([]byte{byte(n >> 8), byte(n >> 24), byte(n >> 16), byte(n >> 4), byte(i), byte(n >> 12)})
-	}
 	names := []string{"--listen", "--connect", "--metrics", "--direction", "--size", "--words", "--depth", "--exclusive",
 		"--allow-nonstrict", "--allow-amplified", "--listen-packed", "--connect-packed", "--max-connections", "--max-per-peer",
 		"--message-timeout", "--idle-timeout", "--connect-timeout", "--drain-timeout", "--memory", "--listen-cert", "--listen-key",
@@ -26,6 +22,14 @@ func FuzzOptions(f *testing.F) {
 		"--connect-proxy", "--log", "--help", "--version", "--none", "word"}
 	values := []string{"", "0", "1", "-1", "8", "256", "257", "268435457", "9999999999", "30s", "-5s", "unix:", "unix:/a", "systemd",
 		"systemd:a", "127.0.0.1:0", "::1", "none", "both", "requests", "json", "text", os.DevNull}
+	// (each option with each value, and a command line that lacks an address)
+	for i := range names {
+		for j := range values {
+			f.Add([]byte{byte(i << 1), byte(j)})
+		}
+	}
+	f.Add([]byte{1})
+	f.Add([]byte{1, 12})
 	f.Fuzz(func(t *testing.T, data []byte) {
 		words := []string{"--listen=127.0.0.1:0", "--connect=unix:/a"}
 		if len(data) > 0 && data[0]&1 != 0 {

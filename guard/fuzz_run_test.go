@@ -73,7 +73,7 @@ type fuzzRun struct {
 	hasMetrics     bool
 	isPacked       bool
 	isExclusive    bool
-	isWrong        bool // a peer shows no certificate, or has another name
+	isWrong        bool // a peer shows no certificate or has another name, or the server isn't there
 	missing        int  // which of the options of fuzzMissing
 	listen, metric string
 	backend        *fuzzBackend
@@ -106,7 +106,11 @@ var fuzzMissing = []string{
 // words are the options of the guard.
 func (r *fuzzRun) words() []string {
 	w := r.world
-	words := []string{"--listen=unix:" + r.listen, "--connect=unix:" + r.backend.listener.Addr().String(), "--max-connections=9"}
+	to := r.backend.listener.Addr().String()
+	if r.isWrong && r.isReached() && !r.isSecret[server] {
+		to = w.path("nobody")
+	}
+	words := []string{"--listen=unix:" + r.listen, "--connect=unix:" + to, "--max-connections=9"}
 	add := func(is bool, more ...string) {
 		if is {
 			words = append(words, more...)
@@ -126,8 +130,11 @@ func (r *fuzzRun) words() []string {
 	return words
 }
 
-// isRejected reports whether the guard serves no client: the handshake of a side is wrong.
-func (r *fuzzRun) isRejected() bool { return r.isWrong && (r.isSecret[client] || r.isSecret[server]) }
+// isReached reports whether the guard takes the client, and so connects to the server.
+func (r *fuzzRun) isReached() bool { return !r.isWrong || !r.isSecret[client] }
+
+// hasServer reports whether the server gets a connection.
+func (r *fuzzRun) hasServer() bool { return !r.isWrong || r.isReached() && r.isSecret[server] }
 
 // FuzzRun runs the guard as `main` does, over Unix sockets, plain or by TLS, until signals end it. It listens only where
 // nobody else does, and leaves what is there. The messages before the first refused one arrive, and no others. The log, the
@@ -311,7 +318,7 @@ func (r *fuzzRun) serve(t *testing.T, stream []byte) {
 		r.endTwice(t, wanted)
 	}
 	var got []byte
-	if !r.isSecret[client] || !r.isWrong {
+	if r.hasServer() {
 		got = await(t, "bytes arrive", r.backend.got)
 		r.backend.forget()
 	}
@@ -327,12 +334,12 @@ func (r *fuzzRun) serve(t *testing.T, stream []byte) {
 
 // endTwice ends the guard by two signals, though its client is there.
 func (r *fuzzRun) endTwice(t *testing.T, wanted passing) {
-	if !r.isWrong || !r.isSecret[client] {
+	if r.hasServer() {
 		await(t, "the server is connected to", r.backend.begun)
 	}
 	r.signals <- syscall.SIGTERM
 	r.says(t, "draining")
-	if r.hasMetrics && wanted.cause == closed && !r.isRejected() {
+	if r.hasMetrics && wanted.cause == closed && !r.isWrong {
 		r.holds(t, "the guard is draining", func() bool { return r.get(t, "/health") == "draining\n" })
 	}
 	r.signals <- syscall.SIGTERM
@@ -351,7 +358,7 @@ func (r *fuzzRun) check(t *testing.T, o *options, wanted passing, all, got, repl
 		}
 		return
 	}
-	if r.isRejected() {
+	if r.isWrong {
 		if len(got)+len(replies) > 0 || !strings.Contains(log, "greeting") && !strings.Contains(log, "connect") {
 			t.Fatalf("a client was served: %q", log)
 		}
@@ -391,9 +398,9 @@ func (r *fuzzRun) checkMetrics(t *testing.T, wanted passing) {
 	}
 	line := `connections_ended_total{cause="` + string(wanted.cause) + `"} 1`
 	switch {
-	case r.isWrong && r.isSecret[client]:
+	case !r.isReached():
 		line = `connections_rejected_total{cause="greeting"} 1`
-	case r.isWrong && r.isSecret[server]:
+	case r.isWrong:
 		line = `connections_rejected_total{cause="connect"} 1`
 	}
 	r.holds(t, line, func() bool { return strings.Contains(r.get(t, "/metrics"), "\ncapvet_guard_"+line) })

@@ -128,7 +128,8 @@ func FuzzServe(f *testing.F) {
 		if err != nil {
 			t.Fatal(err)
 		}
-		go g.serve(listener)
+		failing := &fuzzListener{Listener: listener, failures: int(data[14] % 16 / 15)}
+		go g.serve(failing)
 		header, peer := "", "unix"
 		if o.listenProxy {
 			it := fuzzHeaders[int(data[13])%len(fuzzHeaders)]
@@ -145,8 +146,28 @@ func FuzzServe(f *testing.F) {
 			}
 		}
 		g.drain(testPatience, nil)
-		fuzzServed(t, g, o, peer, out.String(), served{got, replies, data[16:], sent})
+		log := out.String()
+		if data[14]%16 == 15 {
+			var line string
+			if line, log, _ = strings.Cut(log, "\n"); !strings.Contains(line, "accept") || !strings.Contains(line, errFull.Error()) {
+				t.Fatal(line)
+			}
+		}
+		fuzzServed(t, g, o, peer, log, served{got, replies, data[16:], sent})
 	})
+}
+
+// fuzzListener fails so often before it accepts connections.
+type fuzzListener struct {
+	net.Listener
+	failures int
+}
+
+func (l *fuzzListener) Accept() (net.Conn, error) {
+	if l.failures--; l.failures >= 0 {
+		return nil, errFull
+	}
+	return l.Listener.Accept()
 }
 
 // fuzzClient sends a stream, and returns what comes back and whether all was sent.

@@ -332,8 +332,15 @@ func FuzzGreeting(f *testing.F) {
 // addresses of two families in version 1, which has no form for them.
 func fuzzSentOn(t *testing.T, g *guard, c caller) {
 	from, isTCP := c.source.(*net.TCPAddr)
-	if isTCP && !prefixOf(from).Contains(from.AddrPort().Addr().Unmap()) {
+	peer, counted := prefixOf(c.source), &peers{most: 1}
+	if isTCP && !peer.Contains(from.AddrPort().Addr().Unmap()) {
 		t.Fatal("a peer without an address: ", name(from))
+	}
+	if !counted.enter(peer) || counted.enter(peer) == isTCP {
+		t.Fatal("a peer has a connection too many, or none: ", name(c.source))
+	}
+	if counted.leave(peer); len(counted.count) > 0 {
+		t.Fatal("a peer is left: ", counted.count)
 	}
 	to := &fuzzConn{}
 	if err := g.introduce(to, c); err != nil {
