@@ -235,31 +235,38 @@ def check_ends(file, words):
 
 
 def check_killed(file, words, chance):
-    """Processes that end at a file, or once they have sent all. Each file is counted once, and only the first kind costs its file."""
+    """Processes that end at a file, inside of it, or once they have sent all. Each file is counted once, and at most one is lost."""
     names = [file.parent / f"copy-{number}" for number in range(3)]
     for name in names:
         name.write_bytes(file.read_bytes())
-    lost, most = str(chance.choice((*names, "none"))), chance.choice((1, vetting._MOST_FILES))
-    vet, vet_file = vetting._Run.vet, vetting._Run.vet_file
+    lost, way, most = str(chance.choice(names)), chance.choice(("at", "inside", "after")), chance.choice((1, vetting._MOST_FILES))
+    vet, vet_file, send = vetting._Run.vet, vetting._Run.vet_file, vetting._Run.send
 
     def vet_or_end(run, given):
         vet(run, given)
-        if lost == "none":
+        if way == "after":
             run.connection.close()
             os._exit(1)
 
     def file_or_end(run, name):
-        return os._exit(9) if name == lost else vet_file(run, name)
-    wanted = ran("vet", *words, *(it for it in names if str(it) != lost))
-    with mock.patch.object(vetting._Run, "vet", vet_or_end), mock.patch.object(vetting._Run, "vet_file", file_or_end), \
-            mock.patch.object(vetting, "_MOST_FILES", most):
+        run.is_at_lost = name == lost
+        return os._exit(9) if run.is_at_lost and way == "at" else vet_file(run, name)
+
+    def send_or_end(run, is_inside, is_idle):
+        send(run, is_inside, is_idle)
+        if is_inside and run.is_at_lost and way == "inside":
+            os._exit(9)
+    wanted = ran("vet", *words, *(it for it in names if way != "at" or str(it) != lost))
+    with mock.patch.multiple(vetting._Run, vet=vet_or_end, vet_file=file_or_end, send=send_or_end), \
+            mock.patch.multiple(vetting, _MOST_FILES=most, _SECONDS=0 if way == "inside" else vetting._SECONDS):
         status, text, said = ran("vet", *words, "--jobs", chance.choice((1, 2)), *names)
-    if lost == "none":
+    if way == "after" or file.stat().st_size == 0:
         # (one that ends between two files may have got the second one)
-        assert most == 1 and text.startswith("files 3 ") or (status, text, said) == wanted
+        assert way == "after" and most == 1 and text.startswith("files 3 ") or way == "at" or (status, text, said) == wanted
         return
     head, _, rest = wanted[1].partition("\n")
-    assert status == 3 and text == f"{head.replace('files 2', 'files 3')}\n{rest}failed KilledWorker 1\n"
+    end = f"{head.replace('files 2', 'files 3')}\n{rest}failed KilledWorker 1\n"
+    assert status == 3 and text.startswith("files 3 ") and text.endswith("failed KilledWorker 1\n") and (way == "inside" or text == end)
     assert said == f"capvet: {lost}: the process that vetted it was killed (status 9)\n"
 
 
@@ -278,7 +285,7 @@ def check(data, limits, chance):
             check_vet((file, folder / "none"), data, packed, limits, exclusive, chance.choice((None, "csv", "json")),
                       chance.choice((1, 1 << 16)))
             check_map(file, data, packed, limits, words, folder)
-        if chance.randrange(100) == 0:
+        if chance.randrange(50) == 0:
             check_files(file, words)
             check_ends(file, words)
             check_killed(file, words, chance)
