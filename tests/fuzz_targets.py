@@ -402,7 +402,7 @@ class JavaScript(Target):
 TARGETS = (
     LibFuzzer("calls.c", files=("include/capvet.h",)),
     LibFuzzer("vetted.cpp", "libcapnp", files=("include/capvet/kj-message.h",), libraries=("capvet-kj",)),
-    LibFuzzer("streams.cpp", "libcapnp", files=("include/capvet/kj-stream.h",), libraries=("capvet-kj",)),
+    LibFuzzer("streams.cpp", "libcapnp", files=("include/capvet/kj-message.h", "include/capvet/kj-stream.h"), libraries=("capvet-kj",)),
     LibFuzzer("server.cpp", "libcapnp", files=("include/capvet/kj-server.h", "include/capvet/kj-stream.h"), libraries=("capvet-kj",)),
     LibFuzzer("host.c", files=("packaging/host.c",)),
     Rust(),
