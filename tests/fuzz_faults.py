@@ -90,7 +90,7 @@ FAULTS = (
     Fault("go-scanner", "a buffer is not given back", "bindings/go/scanner.go", "s.change(-cap(s.buffer))",
           "s.change(-len(s.buffer))"),
     Fault("go-scanner", "a scanner reads past the frame", "bindings/go/scanner.go", "if end > required {", "if end > required+step {"),
-    Fault("go-pump", "what was passed on is held again", "guard/buffer.go", "copy(b.bytes, b.bytes[n:b.length])",
+    Fault("go-pump", "bytes that were passed on are held again", "guard/buffer.go", "copy(b.bytes, b.bytes[n:b.length])",
           "copy(b.bytes, b.bytes[n:])"),
     Fault("go-pump", "the place after a message is wrong", "guard/pump.go", "f.offset+int64(length)",
           "f.offset+int64(length)&^1024"),
