@@ -10,6 +10,7 @@ import contextlib
 import csv
 import io
 import json
+import math
 import os
 import signal
 import sys
@@ -35,7 +36,7 @@ def words_of(limits):
 class Terminal(io.StringIO):
     """An output that says that it is a terminal. It raises an error after some writes or flushes, as often as `times` says."""
 
-    def __init__(self, error=None, writes=1000, flushes=1000, times=1000):
+    def __init__(self, error=None, writes=math.inf, flushes=math.inf, times=math.inf):
         super().__init__()
         self.error, self.writes, self.flushes, self.times = error, writes, flushes, times
         self.descriptor = os.memfd_create("terminal")
