@@ -85,9 +85,9 @@ type fuzzRun struct {
 func (w *fuzzWorld) run(data []byte) *fuzzRun {
 	kind, flag := data[1]>>3, func(n int) bool { return data[0]>>n&1 != 0 }
 	r := &fuzzRun{world: w, place: fuzzPlace(kind % 8), end: fuzzEnd(kind / 8), isJSON: flag(0), isSecret: [2]bool{flag(1), flag(2)},
-		hasMetrics: flag(3), isPacked: flag(4), isExclusive: flag(5), isWrong: flag(6), listen: w.path("guard"), metric: w.path("metrics"),
-		backend: w.servers[0], signals: make(chan os.Signal, 2), status: make(chan int, 1)}
-	r.missing = int(data[12]) % len(fuzzMissing)
+		hasMetrics: flag(3), isPacked: flag(4), isExclusive: flag(5), isWrong: flag(6), missing: int(data[12]) % len(fuzzMissing),
+		listen: w.path("guard"), metric: w.path("metrics"), backend: w.servers[0], signals: make(chan os.Signal, 2),
+		status: make(chan int, 1)}
 	if r.isSecret[server] {
 		r.backend = w.servers[1]
 	}

@@ -216,7 +216,8 @@ def check_ends(file, words):
     # (each file is a part, which hides the bar if there is a line about it)
     with mock.patch.object(vetting, "_SECONDS", 0):
         status, text, said = ran("vet", *words, file, none, err=Terminal())
-    assert status == 3 and "\r\x1b[K" in said and "failed FileNotFoundError 1\n" in text and said.count(f"capvet: [Errno 2] No such file or directory: '{none}'") == 1
+    fault = f"capvet: [Errno 2] No such file or directory: '{none}'"
+    assert status == 3 and "\r\x1b[K" in said and "failed FileNotFoundError 1\n" in text and said.count(fault) == 1
     for out in (Terminal(broken, writes=0), *(Terminal(broken, flushes=number) for number in range(4)), None):
         status, _, said = ran("vet", *words, file, none, out=out, err=Terminal())
         assert status == 3 and said.endswith("capvet: output failed\n") and not signal.pthread_sigmask(signal.SIG_BLOCK, ())
@@ -267,7 +268,8 @@ def check_killed(file, words, chance):
         return
     head, _, rest = wanted[1].partition("\n")
     end = f"{head.replace('files 2', 'files 3')}\n{rest}failed KilledWorker 1\n"
-    assert status == 3 and text.startswith("files 3 ") and text.endswith("failed KilledWorker 1\n") and (way == "inside" or text == end)
+    assert status == 3 and text.startswith("files 3 ") and text.endswith("failed KilledWorker 1\n")
+    assert way == "inside" or text == end
     assert said == f"capvet: {lost}: the process that vetted it was killed (status 9)\n"
 
 

@@ -73,7 +73,8 @@ void checkPath(const fuzz_input &in, const capvet::Refusal &refusal) {
   if (path.size() == 0) return;
   capvet_node node;
   capvet_report report;
-  const auto answer = capvet_get(refusal.bytes.begin(), refusal.bytes.size(), &in.limits, path.begin(), path.size(), &node, &report);
+  const auto answer = capvet_get(refusal.bytes.begin(), refusal.bytes.size(), &in.limits, path.begin(), path.size(), &node,
+                                 &report);
   RULE(answer != CAPVET_BAD_PATH && answer != CAPVET_TRUNCATED);
   if (answer == refusal.answer) RULE(report.segment == refusal.report.segment && report.word == refusal.report.word);
 }
