@@ -14,7 +14,7 @@ use Rattle.cap_spec.proofs.Paths.Arrivals.{lead_word, node_to_coming, part_to_st
 use Rattle.cap_spec.proofs.Frames.Messages.{HasWord-at, HasWord-inside}
 use Rattle.cap_spec.proofs.Trees.OneTree.{formed}
 use Rattle.cap_spec.proofs.Verdicts.OneVerdict.{reached_not_wrong}
-use Rattle.cap_spec.proofs.Paths.Walks.{coming_last, one_walk, walk_parts}
+use Rattle.cap_spec.proofs.Paths.Walks.{coming_last, comes_beyond}
 use Rattle.cap_vet.specs.Nodes.{IsNode}
 use Rattle.cap_vet.specs.Reports.{IsVetted}
 use Rattle.cap_vet.specs.declared.report.Report.{Report}
@@ -90,10 +90,7 @@ pub comes_nowhere : (m : List (List ℕ)) (path done rest : List Step) (step : S
     → ((b : Spot) → Goes m a step b → ⊥) → (level' : ℕ) (b : Spot) → Comes m path level' b → ⊥
 comes_nowhere m path done rest step level a e h none level' b g =
     let g' : Comes m (done ++ step ∷ rest) level' b = subst (λ u. Comes m u level' b) e g in
-    let r = walk_parts m (word 0 0) b done (step ∷ rest) g'.1 g'.3 in
-    let same : a ≡ r.0 = (one_walk m (word 0 0) done h.1 r.1 a r.0 h.3 r.3).1 in
-    let w : Walks m r.0 (step ∷ rest) r.2 b = r.4 in
-    none w.0 (subst (λ u. Goes m u step w.0) (sym same) w.2)
+    let w = (comes_beyond m done (step ∷ rest) level level' a b h g').1 in none w.0 w.2
 
 -- one more step
 pub comes_on : (m : List (List ℕ)) (done : List Step) (step : Step) (level : ℕ) (a b : Spot) → Comes m done level a

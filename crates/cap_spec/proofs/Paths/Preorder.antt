@@ -50,8 +50,8 @@ pub Before-total : (m : List (List ℕ)) (a : Spot) (p q : List Step) (n n' : �
 Before-total m a [] [] n n' b c g h = inl refl
 Before-total m a [] (y ∷ q) n n' b c g h = inr (inl tt)
 Before-total m a (x ∷ p) [] n n' b c g h = inr (inr tt)
-Before-total m a (x ∷ p) (y ∷ q) n n' b c g h =
-    go (λ k. Before-total m h.0 p q g.1 h.1 b c (subst (λ (z : Spot). Walks m z p g.1 b) k g.3) h.3)
+Before-total m a (x ∷ p) (y ∷ q) n n' b c (mid, below, goes, walks, level) (mid', below', goes', walks', level') =
+    go (λ k. Before-total m mid' p q below below' b c (subst (λ (z : Spot). Walks m z p below b) k walks) walks')
     (three_ways (number_of x) (number_of y))
   where
     one : x ≡ y → (p ≡ q) ⊎ Before p q ⊎ Before q p → (x ∷ p ≡ y ∷ q) ⊎ Before (x ∷ p) (y ∷ q) ⊎ Before (y ∷ q) (x ∷ p)
@@ -59,12 +59,12 @@ Before-total m a (x ∷ p) (y ∷ q) n n' b c g h =
     one e (inr (inl f)) = inr (inl (inr (e, f)))
     one e (inr (inr f)) = inr (inr (inr (sym e, f)))
 
-    go : (g.0 ≡ h.0 → (p ≡ q) ⊎ Before p q ⊎ Before q p)
+    go : (mid ≡ mid' → (p ≡ q) ⊎ Before p q ⊎ Before q p)
         → (number_of x ≡ number_of y) ⊎ (number_of x < number_of y) ⊎ (number_of y < number_of x)
         → (x ∷ p ≡ y ∷ q) ⊎ Before (x ∷ p) (y ∷ q) ⊎ Before (y ∷ q) (x ∷ p)
     go r (inl e) =
-        let f : x ≡ y = same_number m a x y g.0 h.0 g.2 h.2 e in
-        one f (r (one_step m a y g.0 h.0 (subst (λ (z : Step). Goes m a z g.0) f g.2) h.2))
+        let f : x ≡ y = same_number m a x y mid mid' goes goes' e in
+        one f (r (one_step m a y mid mid' (subst (λ (z : Step). Goes m a z mid) f goes) goes'))
     go r (inr (inl e)) = inr (inl (inl e))
     go r (inr (inr e)) = inr (inr (inl e))
 

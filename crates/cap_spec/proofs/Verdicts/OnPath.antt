@@ -5,7 +5,7 @@ use Rattle.std.proofs.lemmas.List.{append-nil}
 use Rattle.cap_spec.specs.Messages.{HasWord}
 use Rattle.cap_spec.specs.Faults.{AreShallow, IsDeepAt}
 use Rattle.cap_spec.specs.Getting.{AreOnPath, IsStartOf, IsFaultOnPath, IsRefusedOnPath}
-use Rattle.cap_spec.specs.Paths.{Before, Comes, Costs, Goes, IsOneOf, Reaches, Rises, Spot, Walks, element, word}
+use Rattle.cap_spec.specs.Paths.{Before, Comes, Costs, Goes, IsOneOf, Reaches, Rises, Spot, element, word}
 use Rattle.cap_spec.specs.Verdicts.{CostOf}
 use Rattle.cap_spec.specs.declared.Refusal.{Refusal}
 use Rattle.cap_spec.specs.declared.Step.{Step}
@@ -13,7 +13,7 @@ use Rattle.cap_spec.proofs.Verdicts.OneFault.{distinct_last, kept_without_fault,
 use Rattle.cap_spec.proofs.Verdicts.OneFault.{one_rootless, rootless, same_fault}
 use Rattle.cap_spec.proofs.Verdicts.OneVerdict.{cost_reached}
 use Rattle.cap_spec.proofs.Paths.Preorder.{Before-longer, Rises-distinct, Rises-same}
-use Rattle.cap_spec.proofs.Paths.Walks.{one_coming, one_reached, one_walk, walk_parts}
+use Rattle.cap_spec.proofs.Paths.Walks.{one_coming, one_reached, comes_beyond}
 
 -- a path that begins another begins what goes on from it
 pub begins_longer : (q done more : List Step) → IsStartOf q done → IsStartOf q (done ++ more)
@@ -169,10 +169,7 @@ on_nowhere m done rest ways step level a h c none = record {
     past : (q more : List Step) (level' s' w' : ℕ) → Reaches m q level' s' w' → q ≡ done ++ step ∷ more → ⊥
     past q more level' s' w' r e =
         let g : Comes m (done ++ step ∷ more) level' (word s' w') = subst (λ x. Comes m x level' (word s' w')) e r in
-        let p = walk_parts m (word 0 0) (word s' w') done (step ∷ more) g.1 g.3 in
-        let same : a ≡ p.0 = (one_walk m (word 0 0) done c.1 p.1 a p.0 c.3 p.3).1 in
-        let w : Walks m p.0 (step ∷ more) p.2 (word s' w') = p.4 in
-        none w.0 (subst (λ x. Goes m x step w.0) (sym same) w.2)
+        let w = (comes_beyond m done (step ∷ more) level level' a (word s' w') c g).1 in none w.0 w.2
 
     all : (q on : List Step) (level' s' w' : ℕ) → Reaches m q level' s' w'
         → IsStartOf q done ⊎ ((more : List Step) × (q ≡ done ++ step ∷ more) × (rest ≡ more ++ on)) → IsOneOf q ways
