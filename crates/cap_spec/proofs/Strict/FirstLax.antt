@@ -130,12 +130,12 @@ module _ (m : List (List ℕ)) (t : Tree) (c d : ℕ) (denotes : Denotes m 0 0 t
   first_of_tree : FirstOf (IsLax m) (pointer_paths t)
       → (s w : ℕ) × (what : Lax) × (pointers : ℕ) × IsFirstLax m s w what pointers
   first_of_tree f =
-      let l = f.holds in (
-        l.1,
-        l.2,
-        l.3,
+      let (level, s, w, what, reached, lax) = f.holds in (
+        s,
+        w,
+        what,
         length (f.before ++ f.path ∷ []),
-        first_by_tour m f.path l.0 l.1 l.2 l.3 (f.before ++ f.path ∷ []) l.4 is_tour l.5 none_before,
+        first_by_tour m f.path level s w what (f.before ++ f.path ∷ []) reached is_tour lax none_before,
       )
     where
       rises : Rises (f.before ++ f.path ∷ f.after)

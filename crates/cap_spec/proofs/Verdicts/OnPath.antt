@@ -69,8 +69,8 @@ rises_last (q ∷ r ∷ ps) p h k = (h.0, rises_last (r ∷ ps) p h.1 (λ x i. k
 pub cost_last : (m : List (List ℕ)) (ps : List (List Step)) (p : List Step) (level s w one x : ℕ) → CostOf m ps x
     → Reaches m p level s w → Costs m s w one → CostOf m (ps ++ p ∷ []) (x + one)
 cost_last m [] p level s w one x h r c = (level, s, w, one, 0, r, c, refl, omega (arith, h))
-cost_last m (q ∷ ps) p level s w one x h r c =
-    (h.0, h.1, h.2, h.3, h.4 + one, h.5, h.6, cost_last m ps p level s w one h.4 h.7 r c, omega (arith, h.8))
+cost_last m (q ∷ ps) p level s w one x (level', s', w', one', rest, reached, costs, after, sum) r c =
+    (level', s', w', one', rest + one, reached, costs, cost_last m ps p level s w one rest after r c, omega (arith, sum))
 
 -- none too deep, a last path neither
 pub shallow_last : (m : List (List ℕ)) (depth : ℕ) (ps : List (List Step)) (p : List Step) (level s w : ℕ)
