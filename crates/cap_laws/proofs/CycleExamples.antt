@@ -39,12 +39,12 @@ goes_around (Ptr i) spot (k, t, b, q, finds, zero_kind, few, e) =
     let less : i < 1 = rw o.shape at few in
     let none : i ≡ 0 = omega (arith, less) in
     (ap Ptr none, rw (o.segment, o.start, o.shape, none) at e)
-goes_around (Item i) spot (inl h) =
-    let o = one_object circle 0 0 h.0 h.1 h.2 h.3 0 0 0 0x00010000fffffffc h.4 finds_circle in
-    absurd (omega (arith, rw o.shape at h.5))
-goes_around (Item i) spot (inr h) =
-    let o = one_object circle 0 0 h.0 h.1 h.2 h.3 0 0 0 0x00010000fffffffc h.5 finds_circle in
-    absurd (omega (arith, rw o.shape at h.6))
+goes_around (Item i) spot (inl (k, t, b, q, finds, is_list, of_pointers, less, ends)) =
+    let o = one_object circle 0 0 k t b q 0 0 0 0x00010000fffffffc finds finds_circle in
+    absurd (omega (arith, rw o.shape at is_list))
+goes_around (Item i) spot (inr (k, t, b, q, tag, finds, is_list, of_structs, has_tag, less, ends)) =
+    let o = one_object circle 0 0 k t b q 0 0 0 0x00010000fffffffc finds finds_circle in
+    absurd (omega (arith, rw o.shape at is_list))
 
 -- so each path goes around
 walks_around : (n : ℕ) → Walks circle (word 0 0) (around n) n (word 0 0)
