@@ -2,11 +2,10 @@ package main
 
 import (
 	"bytes"
-	"errors"
+	"crypto/tls"
 	"fmt"
 	"io"
 	"net"
-	"os"
 	"path/filepath"
 	"strings"
 	"testing"
@@ -20,22 +19,30 @@ import (
 // fuzzBackend is a server that sends back what it gets, once its client has sent all.
 type fuzzBackend struct {
 	listener net.Listener
-	got      chan []byte
+	begun    chan bool   // has an item once a connection has begun
+	got      chan []byte // what came by a connection that has ended
 }
 
-// newFuzzBackend listens at a Unix socket, since ports would be used up.
-func newFuzzBackend(f *testing.F, folder string) *fuzzBackend {
-	listener, err := net.Listen("unix", filepath.Join(folder, "backend"))
+// newFuzzBackend listens at a Unix socket, since ports would be used up. With a configuration it serves by TLS.
+func newFuzzBackend(f *testing.F, path string, config *tls.Config) *fuzzBackend {
+	listener, err := net.Listen("unix", path)
 	if err != nil {
 		f.Fatal(err)
 	}
-	b := &fuzzBackend{listener, make(chan []byte)}
+	if config != nil {
+		listener = tls.NewListener(listener, config)
+	}
+	b := &fuzzBackend{listener, make(chan bool, 1), make(chan []byte, 64)}
 	f.Cleanup(func() { listener.Close() })
 	go func() {
 		for {
 			conn, err := listener.Accept()
 			if err != nil {
 				return
+			}
+			select {
+			case b.begun <- true:
+			default:
 			}
 			all, _ := io.ReadAll(conn)
 			conn.Write(all[headerLength(all):])
@@ -44,6 +51,14 @@ func newFuzzBackend(f *testing.F, folder string) *fuzzBackend {
 		}
 	}()
 	return b
+}
+
+// forget forgets that a connection has begun.
+func (b *fuzzBackend) forget() {
+	select {
+	case <-b.begun:
+	default:
+	}
 }
 
 // headerLength returns the length of a header of the PROXY protocol, or 0 if there is none.
@@ -94,7 +109,7 @@ func fuzzWords(data []byte, folder string) []string {
 func FuzzServe(f *testing.F) {
 	seeds(f)
 	folder := f.TempDir()
-	backend := newFuzzBackend(f, folder)
+	backend := newFuzzBackend(f, filepath.Join(folder, "backend"), nil)
 	f.Fuzz(func(t *testing.T, data []byte) {
 		if len(data) < 16 || len(data) > 1<<17 {
 			return
@@ -113,7 +128,8 @@ func FuzzServe(f *testing.F) {
 		if err != nil {
 			t.Fatal(err)
 		}
-		go g.serve(listener)
+		failing := &fuzzListener{Listener: listener, failures: int(data[14] % 16 / 15)}
+		go g.serve(failing)
 		header, peer := "", "unix"
 		if o.listenProxy {
 			it := fuzzHeaders[int(data[13])%len(fuzzHeaders)]
@@ -130,8 +146,28 @@ func FuzzServe(f *testing.F) {
 			}
 		}
 		g.drain(testPatience, nil)
-		fuzzServed(t, g, o, peer, out.String(), served{got, replies, data[16:], sent})
+		log := out.String()
+		if data[14]%16 == 15 {
+			var line string
+			if line, log, _ = strings.Cut(log, "\n"); !strings.Contains(line, "accept") || !strings.Contains(line, errFull.Error()) {
+				t.Fatal(line)
+			}
+		}
+		fuzzServed(t, g, o, peer, log, served{got, replies, data[16:], sent})
 	})
+}
+
+// fuzzListener fails so often before it accepts connections.
+type fuzzListener struct {
+	net.Listener
+	failures int
+}
+
+func (l *fuzzListener) Accept() (net.Conn, error) {
+	if l.failures--; l.failures >= 0 {
+		return nil, errFull
+	}
+	return l.Listener.Accept()
 }
 
 // fuzzClient sends a stream, and returns what comes back and whether all was sent.
@@ -215,40 +251,4 @@ func padding(b []byte) []byte {
 		messages, b = append(messages, b[:n]), b[n:]
 	}
 	return padded(messages)
-}
-
-// FuzzOptions reads command lines of options and values that the input chooses. What is read is within the bounds.
-func FuzzOptions(f *testing.F) {
-	for i := uint32(0); i < 600; i++ {
-		n := i*2654435761 + 12345
-		f.Add([]byte{byte(n >> 8), byte(n >> 24), byte(n >> 16), byte(n >> 4), byte(i), byte(n >> 12)})
-	}
-	names := []string{"--listen", "--connect", "--metrics", "--direction", "--size", "--words", "--depth", "--exclusive",
-		"--allow-nonstrict", "--allow-amplified", "--listen-packed", "--connect-packed", "--max-connections", "--max-per-peer",
-		"--message-timeout", "--idle-timeout", "--connect-timeout", "--drain-timeout", "--memory", "--listen-cert", "--listen-key",
-		"--listen-client-ca", "--listen-proxy", "--connect-tls", "--connect-ca", "--connect-name", "--connect-cert", "--connect-key",
-		"--connect-proxy", "--log", "--help", "--version", "--none", "word"}
-	values := []string{"", "0", "1", "-1", "8", "256", "257", "268435457", "9999999999", "30s", "-5s", "unix:", "unix:/a", "systemd",
-		"systemd:a", "127.0.0.1:0", "::1", "none", "both", "requests", "json", "text", os.DevNull}
-	f.Fuzz(func(t *testing.T, data []byte) {
-		words := []string{"--listen=127.0.0.1:0", "--connect=unix:/a"}
-		if len(data) > 0 && data[0]&1 != 0 {
-			words = nil
-		}
-		for ; len(data) >= 2; data = data[2:] {
-			word := names[int(data[0]>>1)%len(names)]
-			if data[1] > 0 {
-				word += "=" + values[int(data[1])%len(values)]
-			}
-			words = append(words, word)
-		}
-		o, err := parse(words)
-		if err != nil || o.isHelp || o.isVersion {
-			return
-		}
-		if _, err := capvet.Vet(nil, o.limits); !errors.Is(err, io.EOF) || o.memory < 1<<20 || o.connectTimeout <= 0 || o.connect.network == "" ||
-			o.maxConnections < 0 || o.maxPerPeer < 0 || o.sendProxy > 2 || o.messageTimeout < 0 || o.idleTimeout < 0 || o.drainTimeout < 0 {
-			t.Fatal(words, o)
-		}
-	})
 }

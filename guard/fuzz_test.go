@@ -1,6 +1,7 @@
 package main
 
 import (
+	"bufio"
 	"bytes"
 	"errors"
 	"flag"
@@ -12,6 +13,7 @@ import (
 	"time"
 
 	"capvet.invalid/capvet"
+	"github.com/pires/go-proxyproto"
 )
 
 // corpus is a folder of inputs to begin with: 16 bytes of arguments, and then the bytes of a stream. See tests/fuzz/fuzz.h.
@@ -269,25 +271,49 @@ func padded(messages [][]byte) []byte {
 	return all
 }
 
-// FuzzGreeting reads a header of the PROXY protocol. All bytes after it, and no others, can be read from the connection.
+// fuzzAddresses are those of a connection without a header.
+var fuzzAddresses = [2]net.Addr{&net.TCPAddr{IP: net.IPv4(192, 0, 2, 1), Port: 3}, &net.TCPAddr{IP: net.IPv4(192, 0, 2, 2), Port: 4}}
+
+func (c *fuzzConn) RemoteAddr() net.Addr { return fuzzAddresses[0] }
+func (c *fuzzConn) LocalAddr() net.Addr  { return fuzzAddresses[1] }
+
+// fuzzBinary is a header of version 2 with a command, a family and addresses.
+func fuzzBinary(command, family byte, addresses ...byte) string {
+	n := len(addresses)
+	return "\r\n\r\n\x00\r\nQUIT\n" + string(append([]byte{command, family, byte(n >> 8), byte(n)}, addresses...))
+}
+
+// FuzzGreeting reads a header of the PROXY protocol. All bytes after it, and no others, can be read from the connection. The
+// addresses of the header are valid, and the header that is sent to the server has the same ones, or none.
 func FuzzGreeting(f *testing.F) {
-	for _, text := range []string{"", "PROXY TCP4 127.0.0.1 127.0.0.2 1 2\r\nrest", "PROXY UNKNOWN\r\n",
-		"\r\n\r\n\x00\r\nQUIT\n\x21\x11\x00\x0c\x7f\x00\x00\x01\x7f\x00\x00\x02\x00\x01\x00\x02rest"} {
+	mapped, other := net.IPv4(10, 1, 2, 3).To16(), net.ParseIP("2001:db8::1")
+	ports := []byte{0, 1, 0, 2}
+	for _, text := range []string{"", "PROXY TCP4 127.0.0.1 127.0.0.2 1 2\r\nrest", "PROXY UNKNOWN\r\n", "PROXY TCP6 2001:db8::1 ::2 1 2\r\n",
+		"PROXY TCP6 a b 1 2\r\n", fuzzBinary(0x21, 0x11, 127, 0, 0, 1, 127, 0, 0, 2, 0, 1, 0, 2) + "rest", fuzzBinary(0x20, 0),
+		fuzzBinary(0x21, 0x12, 127, 0, 0, 1, 127, 0, 0, 2, 0, 1, 0, 2), fuzzBinary(0x21, 0x31, make([]byte, 216)...),
+		fuzzBinary(0x21, 0x21, join(mapped, mapped, ports)...), fuzzBinary(0x21, 0x21, join(other, mapped, ports)...),
+		fuzzBinary(0x21, 0x21, join(mapped, other, ports)...), fuzzBinary(0x21, 0x21, join(other, other, ports, []byte{4, 0, 1, 7})...)} {
 		f.Add([]byte(text), uint32(7))
+		f.Add([]byte(text), uint32(8))
 	}
 	f.Fuzz(func(t *testing.T, data []byte, state uint32) {
 		conn := &fuzzConn{state: uint64(state), rest: data, end: io.EOF}
-		rest, header, err := introduced(conn)
+		g := &guard{options: &options{listenProxy: true, sendProxy: 1 + int(state%2)}}
+		c, err := g.introduced(conn)
 		if err != nil {
 			return
 		}
-		if header == nil {
-			t.Fatal("neither a header nor an error")
+		if c.source == nil || c.target == nil {
+			t.Fatal("a connection without addresses")
+		}
+		version := byte(2)
+		if data[0] == 'P' {
+			version = 1
 		}
 		var got []byte
 		b := make([]byte, 1+state%99)
 		for {
-			n, err := rest.Read(b)
+			n, err := c.conn.Read(b)
 			got = append(got, b[:n]...)
 			if err == io.EOF {
 				break
@@ -295,10 +321,49 @@ func FuzzGreeting(f *testing.F) {
 				t.Fatal(err)
 			}
 		}
-		if end := headerEnd(data, header.Version); !bytes.Equal(got, data[end:]) {
+		if end := headerEnd(data, version); !bytes.Equal(got, data[end:]) {
 			t.Fatalf("wanted %q after the header, got %q", data[end:], got)
 		}
+		fuzzSentOn(t, g, c)
 	})
+}
+
+// fuzzSentOn compares the header that is sent to the server with the addresses of a client. Over TCP they are always sent, but for
+// addresses of two families in version 1, which has no form for them.
+func fuzzSentOn(t *testing.T, g *guard, c caller) {
+	from, isTCP := c.source.(*net.TCPAddr)
+	peer, counted := prefixOf(c.source), &peers{most: 1}
+	if isTCP && !peer.Contains(from.AddrPort().Addr().Unmap()) {
+		t.Fatal("a peer without an address: ", name(from))
+	}
+	if !counted.enter(peer) || counted.enter(peer) == isTCP {
+		t.Fatal("a peer has a connection too many, or none: ", name(c.source))
+	}
+	if counted.leave(peer); len(counted.count) > 0 {
+		t.Fatal("a peer is left: ", counted.count)
+	}
+	to := &fuzzConn{}
+	if err := g.introduce(to, c); err != nil {
+		if isTCP {
+			t.Fatal(err, c.source, c.target)
+		}
+		return
+	}
+	reader := bufio.NewReader(bytes.NewReader(to.out))
+	header, err := proxyproto.Read(reader)
+	if err != nil || int(header.Version) != g.options.sendProxy || reader.Buffered() > 0 {
+		t.Fatalf("%v in %q", err, to.out)
+	}
+	target, _ := c.target.(*net.TCPAddr)
+	if header.Command == proxyproto.LOCAL {
+		if isTCP && (header.Version == 2 || (from.IP.To4() == nil) == (target.IP.To4() == nil)) {
+			t.Fatalf("%v to %v became %q", c.source, c.target, to.out)
+		}
+		return
+	}
+	if header.SourceAddr.String() != c.source.String() || header.DestinationAddr.String() != c.target.String() {
+		t.Fatalf("%v to %v became %q", c.source, c.target, to.out)
+	}
 }
 
 // headerEnd returns where the header of a version ends: after a line, or after the length that it has.

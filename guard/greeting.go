@@ -42,10 +42,32 @@ func (a *ahead) Read(b []byte) (int, error) {
 func introduced(conn half) (half, *proxyproto.Header, error) {
 	reader := bufio.NewReaderSize(conn, small)
 	header, err := proxyproto.Read(reader)
-	if err != nil || reader.Buffered() == 0 {
-		return conn, header, err
+	if err != nil {
+		return conn, nil, err
+	}
+	// (the library takes any text for an address of IPv6)
+	if source, target, ok := header.TCPAddrs(); ok && (source.IP == nil || target.IP == nil) {
+		return conn, nil, proxyproto.ErrInvalidAddress
+	}
+	if reader.Buffered() == 0 {
+		return conn, header, nil
 	}
 	return &ahead{conn, reader}, header, nil
+}
+
+// headerOf returns the header of the PROXY protocol about a client. Version 2 sends addresses of two families as those of IPv6.
+// Version 1 has no form for them, and so sends none.
+func headerOf(version int, source, target net.Addr) *proxyproto.Header {
+	header := proxyproto.HeaderProxyFromAddrs(byte(version), source, target)
+	from, to, ok := header.TCPAddrs()
+	switch {
+	case !ok || (from.IP.To4() == nil) == (to.IP.To4() == nil):
+	case version == 1:
+		return proxyproto.HeaderProxyFromAddrs(1, nil, nil)
+	default:
+		header.TransportProtocol = proxyproto.TCPv6
+	}
+	return header
 }
 
 // secured makes a TLS connection of a client's, if there is a configuration.

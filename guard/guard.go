@@ -140,7 +140,7 @@ func (g *guard) introduce(to net.Conn, c caller) error {
 	if g.options.sendProxy == 0 {
 		return nil
 	}
-	_, err := proxyproto.HeaderProxyFromAddrs(byte(g.options.sendProxy), c.source, c.target).WriteTo(to)
+	_, err := headerOf(g.options.sendProxy, c.source, c.target).WriteTo(to)
 	return err
 }
 

@@ -198,6 +198,8 @@ func (o *options) checkSides() error {
 		return errors.New("--connect-cert and --connect-key belong together")
 	case !tls.isOn && tls != clientFiles{}:
 		return errors.New("--connect-ca, --connect-name, --connect-cert and --connect-key need --connect-tls")
+	case tls.isOn && tls.name == "" && o.connect.host() == "":
+		return errors.New("--connect-tls needs --connect-name, since --connect has no host")
 	case o.sendProxy < 0 || o.sendProxy > 2:
 		return errors.New("--connect-proxy is 1 or 2")
 	}

@@ -1,6 +1,7 @@
 package main
 
 import (
+	"io"
 	"net"
 	"os"
 	"path/filepath"
@@ -48,6 +49,36 @@ func TestBuffers(t *testing.T) {
 	b.close()
 	if used := b.budget.used.Load(); used != 0 {
 		t.Error(used)
+	}
+}
+
+// The header that the server gets for one of a client's. Without a text there is none: the client is not served.
+func TestHeadersForServers(t *testing.T) {
+	const version2 = "\r\n\r\n\x00\r\nQUIT\n"
+	mapped, other, ports := net.IPv4(10, 1, 2, 3).To16(), net.ParseIP("2001:db8::1"), []byte{0, 1, 0, 2}
+	mixed := version2 + "\x21\x21\x00\x24" + string(join(mapped, other, ports))
+	for _, row := range []struct{ from, one, two string }{
+		{"PROXY TCP4 10.1.2.3 10.4.5.6 1 2\r\n", "PROXY TCP4 10.1.2.3 10.4.5.6 1 2\r\n",
+			version2 + "\x21\x11\x00\x0c\x0a\x01\x02\x03\x0a\x04\x05\x06" + string(ports)},
+		{"PROXY TCP6 2001:db8::1 2001:db8::1 1 2\r\n", "PROXY TCP6 2001:db8::1 2001:db8::1 1 2\r\n",
+			version2 + "\x21\x21\x00\x24" + string(join(other, other, ports))},
+		{mixed, "PROXY UNKNOWN\r\n", mixed},
+		{version2 + "\x21\x21\x00\x24" + string(join(other, mapped, ports)), "PROXY UNKNOWN\r\n",
+			version2 + "\x21\x21\x00\x24" + string(join(other, mapped, ports))},
+		{"PROXY TCP6 a b 1 2\r\n", "", ""},
+		{"PROXY TCP6 2001:db8::1 b 1 2\r\n", "", ""},
+	} {
+		for version, wanted := range []string{row.one, row.two} {
+			g := &guard{options: &options{listenProxy: true, sendProxy: version + 1}}
+			got := &fuzzConn{}
+			c, err := g.introduced(&fuzzConn{state: 1, rest: []byte(row.from), end: io.EOF})
+			if err == nil {
+				err = g.introduce(got, c)
+			}
+			if (err == nil) != (wanted != "") || string(got.out) != wanted {
+				t.Errorf("%q became %q, and not %q: %v", row.from, got.out, wanted, err)
+			}
+		}
 	}
 }
 
@@ -144,7 +175,7 @@ func TestCommandLines(t *testing.T) {
 		append(both, "--listen-client-ca", "x"), append(both, "--connect-ca", "x"), append(both, "--connect-proxy", "3"),
 		append(both, "--connect-tls", "--connect-key", "x"), append(both, "--log", "x"), append(both, "--memory", "1"),
 		append(both, "--idle-timeout", "3"), append(both, "--idle-timeout", "-3s"), append(both, "--connect-timeout", "0"),
-		append(both, "--max-per-peer", "-1"),
+		append(both, "--max-per-peer", "-1"), append(both, "--connect-tls"), append(both, "--connect", "unix:/a", "--connect-tls"),
 	} {
 		if o, err := parse(words); err == nil {
 			t.Error(words, o)

@@ -25,14 +25,14 @@ import (
 
 // authority signs certificates for a test.
 type authority struct {
-	t           *testing.T
+	t           testing.TB
 	folder      string
 	certificate *x509.Certificate
 	key         *ecdsa.PrivateKey
 	file        string
 }
 
-func newAuthority(t *testing.T) *authority {
+func newAuthority(t testing.TB) *authority {
 	t.Helper()
 	a := &authority{t: t, folder: t.TempDir()}
 	a.file, _ = a.sign("authority")

@@ -62,6 +62,7 @@ def report(target, result, least):
 def replay(tree, targets):
     """Each input of the corpus, by each target."""
     compare("the corpus is what tests/fuzz_corpus.py makes", True, fuzz_corpus.is_current())
+    compare("each fault has its place", [], fuzz_faults.displaced())
     least = 4 if not targets else len(list(fuzz_corpus.CORPUS.iterdir())) // 2
     with tempfile.TemporaryDirectory() as folder:
         for target, result in side_by_side(lambda it: it.replay(tree, Path(folder) / it.name), targets):

@@ -21,6 +21,8 @@ ARGUMENTS = bytes(16)
 FOUND = "found-"
 # The words of a message that is larger than 8 KiB.
 LARGE = 1100
+# Flags and kinds of runs of a guard: see guard/fuzz_run_test.go.
+RUNS = (10, 0), (12, 8), (14, 16), (78, 1), (76, 2), (74, 0), (26, 24), (8, 25), (46, 3), (15, 24)
 
 
 def tried():
@@ -94,6 +96,9 @@ def each_way():
     stream = (TOP / "examples/stream-of-four.bin").read_bytes()
     for number, flags in enumerate((1, 2, 4, 8, 16, 32, 33, 96, 97, 40, 48, 112)):
         yield f"flags-{number}", argued(flags, 5 * number % 32, 3 * number + 64) + stream
+    # (TLS and metrics of a guard, in each way to end it)
+    for number, (flags, kind) in enumerate(RUNS):
+        yield f"run-{number}", argued(flags, kind, 3 * number + 128) + stream
 
 
 def made():
@@ -110,8 +115,9 @@ def made():
     # (a packed message for a buffer of more than 1 MiB, and more words than the JavaScript module keeps)
     found["packed-huge"] = packed_list(200000) + packed_list(3)
     found["packed-zeros"] = packed_zeros((1 << 21) + 1)
-    # (a list of bytes that is a text, and one that ends as a text does and isn't valid UTF-8)
-    found["text"], found["text-wrong"] = (struct.pack("<IIQ8s", 0, 2, 1 | 2 << 32 | 3 << 35, text) for text in (b"\xc2\xa7", b"\xff\xc2"))
+    # (a list of bytes that is a text, one whose characters are escaped, and one that isn't valid UTF-8)
+    for name, text in (("text", b"\xc2\xa7"), ("text-escaped", b"\"\n"), ("text-wrong", b"\xff\xc2")):
+        found[name] = struct.pack("<IIQ8s", 0, 2, 1 | 2 << 32 | 3 << 35, text)
     found["segments-511"] = strict.many(511)
     found["segments-512"] = strict.many(512)
     found["empty"] = b""

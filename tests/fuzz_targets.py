@@ -83,7 +83,8 @@ class Result:
 
 # A line that says what a finding is about.
 SAYING = re.compile(r"RULE BROKEN .*|.*ERROR: (?:AddressSanitizer|LeakSanitizer|libFuzzer): .*|.*runtime error: .*"
-                    r"|thread '.*' panicked at .*|ERROR: no end .*|\s+fuzz\w*_test\.go:\d+: .*|panic: .*|AssertionError.*|E? *\w*Error: .*")
+                    r"|thread '.*' panicked at .*|ERROR: no end .*|\s+fuzzing process hung .*|\s+fuzz\w*_test\.go:\d+: .*|panic: .*"
+                    r"|AssertionError.*|E? *\w*Error: .*")
 
 
 def finding_of(text):
@@ -402,7 +403,8 @@ class JavaScript(Target):
 TARGETS = (
     LibFuzzer("calls.c", files=("include/capvet.h",)),
     LibFuzzer("vetted.cpp", "libcapnp", files=("include/capvet/kj-message.h",), libraries=("capvet-kj",)),
-    LibFuzzer("streams.cpp", "libcapnp", files=("include/capvet/kj-stream.h",), libraries=("capvet-kj",)),
+    LibFuzzer("streams.cpp", "libcapnp", files=("include/capvet/kj-message.h", "include/capvet/kj-stream.h"),
+              libraries=("capvet-kj",)),
     LibFuzzer("server.cpp", "libcapnp", files=("include/capvet/kj-server.h", "include/capvet/kj-stream.h"), libraries=("capvet-kj",)),
     LibFuzzer("host.c", files=("packaging/host.c",)),
     Rust(),
@@ -411,6 +413,7 @@ TARGETS = (
     Go("guard", "FuzzPump", "go-prometheus", "go-proxyproto", "go-systemd"),
     Go("guard", "FuzzGreeting", "go-prometheus", "go-proxyproto", "go-systemd"),
     Go("guard", "FuzzServe", "go-prometheus", "go-proxyproto", "go-systemd"),
+    Go("guard", "FuzzRun", "go-prometheus", "go-proxyproto", "go-systemd"),
     Go("guard", "FuzzOptions", "go-prometheus", "go-proxyproto", "go-systemd"),
     Python(),
     JavaScript(),

@@ -3,8 +3,8 @@
 
     go.py [PROGRAM [ARCHIVE]] [--full] [--idle]
 
-Its tests run with the race detector and compare it with PROGRAM: verdicts, trees, segments, canonical and packed forms. The
-inputs are samples, cut streams, changed tables, and changed messages under five sets of limits. `GetRange` gives the nodes
+Its tests run with the race detector and compare it with PROGRAM: verdicts, explanations, trees, segments, canonical and packed
+forms. The inputs are samples, cut streams, changed tables, and changed messages under five sets of limits. `GetRange` gives the nodes
 and the errors of `Get`. A scanner reads no byte after a plain frame, and a message is there while a part of the next one has
 come, wherever that is cut. Over a socket each message is there before the next is sent. A claim of 64 MiB without its words
 allocates less than 256 KiB, and a scanner that waits holds no large buffer. A module outside of the repository imports the

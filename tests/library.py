@@ -14,7 +14,7 @@ same bytes: of samples, of cut streams and of messages with a bit turned.
 - The tests of the crate and of its pages pass. It is formatted, clippy finds nothing, and Rust 1.63
   compiles it. Each of its declarations is that of the header.
 - The crate returns what PROGRAM prints, for the samples and for 500 changed messages under five sets of
-  limits. Without the library its build says so in one line.
+  limits. It explains 2,000 as PROGRAM does. Without the library its build says so in one line.
 
  What a machine has
 no compiler for is said in a line of its own. The last line is 'N passed, M failed', and the status is 1 where a case failed.

@@ -6,7 +6,7 @@
 Its calls return what PROGRAM prints: for the samples, for one that is cut at each byte, for changed messages, and for those that
 hypothesis makes. Streams arrive in pieces, plain and packed, in a file and in a feed. A socket sends a message and a half, and
 the first one comes before the rest is sent. After timeouts and failed reads no byte is lost. `nodes` yields what `node` returns
-for each path, and `tree` prints the lines of `capvet dump`.
+for each path, `tree` prints the lines of `capvet dump`, and `explain` returns those of `capvet explain` for 2,000 messages.
 
 The rows and the summary of `python -m capvet vet` are those of PROGRAM, by one process and by three. An interrupt ends it within
 a second. If its processes are killed, the file that they were at has its row. The page of `map` shows the line of PROGRAM in a
@@ -277,10 +277,15 @@ def shown(python, folder):
         compare(f"docs/python.md, its commands {number}", (True, 0), (text.endswith(line), status))
         if status:
             print(text)
+    printed = dict(re.findall(r"^```python\n((?:(?!```).*\n)*)```\n\nIt prints:\n\n```\n((?:(?!```).*\n)*)```$", page, re.M))
+    compare("docs/python.md has a program with its output", True, len(printed) > 0)
     for number, block in enumerate(text for language, text in blocks if language == "python"):
         text, status = run([place / "venv/bin/python", "-c", block], cwd=place)
         compare(f"docs/python.md, its program {number}", 0, status)
-        compare(f"docs/python.md, its program {number} prints", True, text.count("\n") in (1, 4) and "Error" not in text)
+        if block in printed:
+            compare(f"docs/python.md, its program {number} prints", printed[block], text)
+        else:
+            compare(f"docs/python.md, its program {number} prints", True, text.count("\n") in (1, 4) and "Error" not in text)
     variables = {**os.environ, "PATH": f"{place / 'venv/bin'}:{os.environ['PATH']}"}
     for command, wanted in (it for language, text in blocks if language == "console"
                             for it in re.findall(r"^\$ (.*)\n((?:(?!\$ ).*\n)*)", text, re.M)):

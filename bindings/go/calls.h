@@ -153,6 +153,13 @@ static inline capvet_go_result capvet_go_pointer_path(const uint8_t *bytes, size
   return result;
 }
 
+static inline capvet_go_result capvet_go_explain(const uint8_t *bytes, size_t length, capvet_limits limits, char *text,
+                                                 size_t text_size) {
+  capvet_go_result result = {0};
+  result.answer = capvet_explain(bytes, length, &limits, text, text_size, &result.required, &result.report);
+  return result;
+}
+
 /* What a call for a message of a packed stream answers, and the state after it. */
 typedef struct capvet_go_unpacked {
   capvet_go_result result;

@@ -96,6 +96,30 @@ func ExampleVetExclusive() {
 	// Output: capvet: refused Overlap at 0:2 pointers 3
 }
 
+func ExampleExplain() {
+	// (a struct of two pointers, of which the second leads past the end of the segment)
+	message := []byte{
+		0, 0, 0, 0, 3, 0, 0, 0, 0, 0, 0, 0, 0, 0, 2, 0,
+		0, 0, 0, 0, 0, 0, 0, 0, 0, 0, 0, 0, 1, 0, 0, 0,
+	}
+	if _, err := capvet.Vet(message, capvet.Limits{}); err != nil {
+		fmt.Println(err)
+		lines, err := capvet.Explain(message, capvet.Limits{})
+		if err != nil {
+			log.Fatal(err)
+		}
+		fmt.Print(lines)
+	}
+	// Output:
+	// capvet: refused OutOfSegment at 0:2 pointers 3
+	//   path /p1
+	//   byte 24 of the message
+	//   pointer 0000000001000000 struct, offset 0, data words 1, pointers 0
+	//   target 0:3 to 0:3, words 1
+	//   segment 0, words 3
+	//   reason the target runs past the end of its segment
+}
+
 func ExampleAppendCanonical() {
 	for _, name := range []string{"contacts.bin", "contacts-many-segments.bin"} {
 		words, err := capvet.AppendCanonical(nil, sample(name), capvet.Limits{})

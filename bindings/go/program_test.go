@@ -8,6 +8,7 @@ import (
 	"io"
 	"math/rand"
 	"os/exec"
+	"path/filepath"
 	"strings"
 	"testing"
 	"testing/iotest"
@@ -143,6 +144,53 @@ func TestChangedMessagesAsTheProgram(t *testing.T) {
 	}
 	if accepted < len(messages)/10 || accepted > len(messages)*9/10 {
 		t.Errorf("%d of %d are accepted", accepted, len(messages))
+	}
+}
+
+// frames returns the messages of all samples.
+func frames(t *testing.T) (messages [][]byte) {
+	t.Helper()
+	files, err := filepath.Glob("../../examples/*.bin")
+	if err != nil || len(files) == 0 {
+		t.Fatal("there are no samples", err)
+	}
+	for _, file := range files {
+		for rest := sample(filepath.Base(file)); len(rest) > 0; {
+			length, err := capvet.FrameLength(rest, capvet.Limits{})
+			if err != nil {
+				t.Fatal(file, err)
+			}
+			messages, rest = append(messages, rest[:length]), rest[length:]
+		}
+	}
+	return messages
+}
+
+func TestExplanationsAsTheProgram(t *testing.T) {
+	messages := append(changed(*count), frames(t)...)
+	for _, it := range runs {
+		var stream, text bytes.Buffer
+		number := 0
+		for _, b := range messages {
+			lines, err := capvet.Explain(b, it.limits)
+			report, fault := capvet.Vet(b, it.limits)
+			verdict := report.String()
+			var refusal *capvet.Refusal
+			if errors.As(fault, &refusal) {
+				verdict, fault = refusal.Line(), nil
+			}
+			same(t, "Explain", fault, err)
+			// (the program ends at a message without a frame)
+			if err == nil {
+				fmt.Fprintf(&text, "message %d: %s\n%s", number, verdict, lines)
+				stream.Write(b)
+				number++
+			}
+		}
+		wanted, _, _ := run(t, stream.Bytes(), append([]string{"explain"}, it.options...)...)
+		if text.String() != wanted || !strings.Contains(wanted, "  reason ") {
+			t.Errorf("%v: the lines of %d bytes differ from those of the program, of %d", it.options, text.Len(), len(wanted))
+		}
 	}
 }
 

@@ -19,8 +19,9 @@ from source import CRATES, TOP, sentence, summary
 TESTS = TOP / "tests"
 # Files with tables of cases, and the folder or files with comments that begin with 'Fuzz'.
 TABLES = ("tables", "demands", "filtering", "messages")
-TARGETS = ("tests/fuzz/calls.c", "tests/fuzz/vetted.cpp", "tests/fuzz/streams.cpp", "tests/fuzz/host.c", "tests/fuzz/rust/src/lib.rs",
-           "bindings/go/fuzz_test.go", "guard/fuzz_test.go", "tests/fuzz/python_fuzz.py")
+TARGETS = ("tests/fuzz/calls.c", "tests/fuzz/vetted.cpp", "tests/fuzz/streams.cpp", "tests/fuzz/server.cpp", "tests/fuzz/host.c",
+           "tests/fuzz/rust/src/lib.rs", "bindings/go/fuzz_test.go", "guard/fuzz_test.go", "guard/fuzz_serve_test.go",
+           "guard/fuzz_run_test.go", "guard/fuzz_options_test.go", "tests/fuzz/python_fuzz.py", "tests/fuzz/js/fuzz.mjs")
 # Sentences that hold of each script: the page says them once.
 OF_ALL = (r"(?:The last line(?: of the output)? is 'N passed, [^']*'|Failures are printed as they come|A case is one call of"
           r"|What isn't installed is said|What a machine has no (?:tool|compiler) for is said)[^.]*\.\s*")
@@ -124,7 +125,7 @@ class Page:
             elif name.endswith(".py"):
                 comments = [(name.rpartition("/")[2], docstring(TOP / name))]
             else:
-                comment = re.match(r"/\*(.*?)\*/|((?://![^\n]*\n)+)", text, re.S)
+                comment = re.match(r"/\*(.*?)\*/|((?://[^\n]*\n)+)", text, re.S)
                 comments = [(name.partition("fuzz/")[2].partition("/")[0], comment[1] or comment[2])]
             if not comments:
                 raise LookupError(f"{name} has no comment of a fuzz target")

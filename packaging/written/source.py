@@ -13,7 +13,7 @@ CRATES = TOP / "crates"
 # A name that is no part of a value, an import, and the names that a definition gives, at the margin and in a mutual one.
 WORD = re.compile(r"(?<![\w.'])[A-Za-z_][\w']*(?:-[\w']+)*")
 USE = re.compile(r"^\s*(?:ghost |pub )*use (Rattle\.[\w.]+?)(?:\.\{([^}]*)\}| as (\w+));?$", re.M)
-START = re.compile(r"^(?:abbrev )?(?:pub )?(?:abbrev |record |data )?([\w'-]+)(?= :| [({]|$)", re.M)
+START = re.compile(r"^(?:abbrev |unfoldable )?(?:pub )?(?:abbrev |record |data )?([\w'-]+)(?= :| [({]|$)", re.M)
 INNER = re.compile(r"^  (?:pub )?(?:abbrev |record |data )?([\w'-]+)(?= :| [({])", re.M)
 
 

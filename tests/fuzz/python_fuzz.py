@@ -15,6 +15,7 @@ The last line is 'Done N runs'. A broken rule is an AssertionError, with the sma
 - The commands of `python -m capvet` say the same: see python_commands.py.
 """
 import array
+import ctypes
 import dataclasses
 import io
 import pickle
@@ -94,6 +95,9 @@ def check_verdict(data, limits):
     assert is_error(exclusive) or same(report, exclusive)
     assert same(report, result(capvet.vet, memoryview(bytearray(data)), limits=limits))
     frame = result(capvet.frame, data, limits=limits)
+    if not is_error(frame) and not isinstance(report, capvet.FrameError):
+        separate = result(capvet.vet_segments, [data[at:at + size] for at, size in frame.segments], limits=limits)
+        assert same(separate, report) if is_error(report) else separate.charge == report.charge
     if is_error(report):
         check_refusal(data, limits, report)
         return report
@@ -101,8 +105,6 @@ def check_verdict(data, limits):
     assert same(report, result(capvet.vet, data, limits=tight))
     if not limits.no_table:
         assert frame.length == report.length and len(frame.segments) == report.segments
-        parts = [data[at:at + size] for at, size in frame.segments]
-        assert capvet.vet_segments(parts, limits=limits).charge == report.charge
     return report
 
 
@@ -125,7 +127,9 @@ def check_buffers(data, limits):
     gaps = memoryview(bytes(byte for byte in data for _ in range(2)))[::2]
     assert same(report, result(capvet.vet, gaps, limits=limits))
     if len(data) % 8 == 0 and data:
-        for other in (array.array("Q", data), memoryview(data).cast("Q"), memoryview(data).cast("Q", (1, len(data) // 8))):
+        swapped = (ctypes.c_uint64.__ctype_be__ * (len(data) // 8)).from_buffer_copy(data)
+        for other in (array.array("Q", data), memoryview(data).cast("Q"), memoryview(data).cast("Q", (1, len(data) // 8)),
+                      memoryview(swapped).toreadonly()):
             assert same(report, result(capvet.vet, other, limits=limits))
 
 
@@ -217,6 +221,9 @@ def check_streams(data, limits, chance):
     assert wanted == seen(again(capvet.read_messages(Pieces(data, chance), **options)))
     assert wanted == seen(again(capvet.read_messages(io.BufferedReader(Pieces(data, chance), 16), **options)))
     assert wanted == seen(fed(data, chance, **options))
+    left = capvet.MessageFeed(**options)
+    left.feed(data)
+    assert not wanted[0] or "were not read" in str(raised(left.close))
     # (any bytes as a packed stream, and this stream packed)
     for packed in (data, capvet.pack(data[:len(data) // 8 * 8])):
         one = seen(capvet.read_messages(io.BytesIO(packed), packed=True, **options))
@@ -235,6 +242,8 @@ def check_nodes(data, limits, chance, report):
             return
         assert found.offset + len(found.data) <= len(data)
         assert pickle.loads(pickle.dumps(found)) == found and (found.text() is None or found.text().encode() + b"\0" == found.data)
+        beyond = capvet.nodes(data, f"{path}/p{found.pointers}/i*", limits=limits)
+        assert found.kind != "struct" or result(list, beyond) == []
         letter = "p" if found.kind == "struct" else "i"
         first, rest = chance.randrange(3), chance.choice(("", "", "/p0", "/i1"))
         iterator = result(capvet.nodes, data, f"{path}/{letter}*{rest}", first=first, count=chance.choice((5, None)), limits=limits)

@@ -1,6 +1,7 @@
 /* Fuzz target: `vetted` and `tryVetted` of kj-message.h. The answer and the report are those of capvet_vet, at any address,
  * borrowed and owned. Each accepted strict message is read by libcapnp under the limits for that message alone, once and
- * four times. Nothing throws, and pointers, capabilities and the canonical form are those of capvet. */
+ * four times. Nothing throws, and pointers, capabilities and the canonical form are those of capvet. The path of a refusal leads
+ * to its pointer. */
 #include <capvet/kj.h>
 
 #include <string>
@@ -64,6 +65,20 @@ void readAll(const fuzz_input &in, capvet::Vetted &message, kj::ArrayPtr<const k
   }
 }
 
+// The path of a refused pointer leads to it, for the call that reads paths. (It may accept the pointer: it reads no others)
+void checkPath(const fuzz_input &in, const capvet::Refusal &refusal) {
+  if (refusal.answer < CAPVET_NOT_CANONICAL) return;
+  const auto path = refusal.path();
+  RULE((path.size() == 0) == (refusal.report.pointers == 0));
+  if (path.size() == 0) return;
+  capvet_node node;
+  capvet_report report;
+  const auto answer = capvet_get(refusal.bytes.begin(), refusal.bytes.size(), &in.limits, path.begin(), path.size(), &node,
+                                 &report);
+  RULE(answer != CAPVET_BAD_PATH && answer != CAPVET_TRUNCATED);
+  if (answer == refusal.answer) RULE(report.segment == refusal.report.segment && report.word == refusal.report.word);
+}
+
 // The bytes that are borrowed, by both functions.
 void checkBorrowed(const fuzz_input &in, const capvet::Options &options, kj::ArrayPtr<const kj::byte> bytes) {
   const auto wanted = wantedOf(in, bytes);
@@ -74,6 +89,7 @@ void checkBorrowed(const fuzz_input &in, const capvet::Options &options, kj::Arr
   RULE(refusal.answer == wanted.answer && isEqual(refusal.report, wanted.report));
   RULE((message != nullptr) == (wanted.answer == CAPVET_OK));
   RULE(refusal.bytes.begin() == bytes.begin() && refusal.bytes.size() == bytes.size());
+  checkPath(in, refusal);
   auto thrown = kj::runCatchingExceptions([&]() {
     auto same = capvet::vetted(bytes, options, NONE);
     RULE(isEqual(same.report(), wanted.report));

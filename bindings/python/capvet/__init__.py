@@ -18,7 +18,7 @@ Exceptions, reports, messages and nodes can be pickled, so they cross process bo
 """
 
 from ._capvet import lib as _lib
-from .calls import (Frame, canonical, frame, is_canonical, pack, pack_message, unpack, vet, vet_exclusive,
+from .calls import (Frame, canonical, explain, frame, is_canonical, pack, pack_message, unpack, vet, vet_exclusive,
                     vet_segments)
 from .errors import CapabilityError, CapvetError, FrameError, PathError, Refusal, UnpackError
 from .nodes import Kind, Node, node, nodes
@@ -29,8 +29,8 @@ __version__ = "1.1.0"
 
 __all__ = ["Accepted", "CapabilityError", "CapvetError", "DEFAULT", "Frame", "FrameError", "Kind", "Limits", "Message",
            "MessageFeed", "MessageReader", "Node", "PathError", "Position", "Refusal", "Refused", "Report", "UnpackError",
-           "canonical", "frame", "is_canonical", "messages", "node", "nodes", "pack", "pack_message", "read_messages", "unpack",
-           "vet", "vet_exclusive", "vet_segments"]
+           "canonical", "explain", "frame", "is_canonical", "messages", "node", "nodes", "pack", "pack_message",
+           "read_messages", "unpack", "vet", "vet_exclusive", "vet_segments"]
 
 _lib.capvet_abi_1()
 if not _lib.capvet_cpu_supported():

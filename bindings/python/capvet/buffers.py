@@ -30,13 +30,7 @@ def read_only(data: Buffer) -> memoryview:
     """The bytes of a buffer. They are copied only if Python could write them during a call, or if they have gaps."""
     view = memoryview(data)
     if view.readonly and view.c_contiguous and view.nbytes:
-        if view.format == "B" and view.ndim == 1:
-            return view
-        try:
-            return view.cast("B")
-        except TypeError:
-            # (memoryview casts no formats of other byte orders, and no structs)
-            pass
+        return view if view.format == "B" and view.ndim == 1 else view.cast("B")
     return memoryview(view.tobytes())
 
 

@@ -2,7 +2,7 @@
 
 from __future__ import annotations
 
-from typing import Any, NamedTuple, Sequence, Tuple
+from typing import Any, NamedTuple, Optional, Sequence, Tuple
 
 from ._capvet import ffi, lib
 from .buffers import Buffer, pointer_to, read_only, uncleared
@@ -72,6 +72,26 @@ def vet_segments(segments: Sequence[Buffer], *, limits: Limits = DEFAULT) -> Rep
     if answer != lib.CAPVET_OK:
         raise error_of(answer, report)
     return report_of(report)
+
+
+def explain(data: Buffer, *, limits: Limits = DEFAULT) -> Optional[str]:
+    """Return why vet() raises Refusal for a message, as lines for a log; None if the message is accepted.
+
+    The lines are those that the program `capvet explain` writes after the line of the verdict: the path to the pointer that
+    the refusal names, its place in bytes, the pointer word with its fields, where it leads, what is exceeded, and the
+    reason as a sentence. Each begins with two blanks and ends with a line feed. Overlaps are not looked for; Refusal.path()
+    has the path to the pointer of one.
+
+    Vets the message again: pass the data and the limits of the refusal. Raises FrameError.
+    """
+    view, report, required = read_only(data), ffi.new("capvet_report *"), ffi.new("size_t *")
+    text = uncleared("char[]", lib.CAPVET_EXPLANATION_BOUND)
+    answer = lib.capvet_explain(pointer_to(view), len(view), limits_of(limits), text, len(text), required, report)
+    if answer == lib.CAPVET_NO_NODE:
+        return None
+    if answer != lib.CAPVET_OK:
+        raise error_of(answer, report)
+    return str(ffi.buffer(text, required[0]), "ascii")
 
 
 def is_canonical(data: Buffer, *, limits: Limits = DEFAULT) -> bool:

@@ -191,7 +191,8 @@ def is_flushed() -> bool:
         return True
     except OSError:
         # (or the interpreter would flush again at its end)
-        os.dup2(os.open(os.devnull, os.O_WRONLY), sys.stdout.fileno())
+        with open(os.devnull, "wb") as nothing:
+            os.dup2(nothing.fileno(), sys.stdout.fileno())
         return False
 
 

@@ -46,7 +46,7 @@ def text_lines(message: Union[Accepted, Refused]) -> Iterator[str]:
     if message.report is None:
         return
     segments = segments_of(message.raw)
-    for spot in walk(segments, message.report.pointers):
+    for spot in walk(segments):
         indent = "  " * spot.level
         yield f"{indent}{spot.label} {_head(spot)}"
         yield from _guess(segments, spot, ' guess "', quoted)
@@ -91,7 +91,7 @@ def json_pieces(message: Union[Accepted, Refused]) -> Iterator[str]:
     segments = segments_of(message.raw)
     closers: List[str] = []
     path: List[str] = []
-    for spot in walk(segments, report.pointers):
+    for spot in walk(segments):
         is_next = len(closers) > spot.level
         while len(closers) > spot.level:
             yield closers.pop()

@@ -243,8 +243,10 @@ class Files:
         process = multiprocessing.Process(target=_work, args=(there, [here, *self._workers], self._how), daemon=True)
         # (or the signal could end the process before it ignores it)
         signal.pthread_sigmask(signal.SIG_BLOCK, (signal.SIGINT,))
-        process.start()
-        signal.pthread_sigmask(signal.SIG_UNBLOCK, (signal.SIGINT,))
+        try:
+            process.start()
+        finally:
+            signal.pthread_sigmask(signal.SIG_UNBLOCK, (signal.SIGINT,))
         there.close()
         self._workers[here] = worker = _Worker(process, here)
         self._give(worker)
@@ -254,8 +256,9 @@ class Files:
         try:
             worker.connection.send(worker.names)
         except OSError:
-            # (it was killed, which the next look at its connection shows)
-            pass
+            # (it was killed, which the next look at its connection shows, and has none of these files)
+            self._waiting.appendleft(worker.names)
+            worker.names = []
 
     def __iter__(self) -> Iterator[Part]:
         """The parts as they come, and one without anything now and then."""

@@ -96,10 +96,8 @@ def _children(spot: Spot) -> Iterator[Tuple[str, int, bool]]:
             yield f"i{i}", start + i * step, False
 
 
-def walk(segments: Segments, pointers: int) -> Iterator[Spot]:
-    """The spots of a message in preorder, before the first pointer after this many. Not recursive.
-
-    The library has to have checked these pointers: as many as a Report has, or those before a refused one."""
+def walk(segments: Segments) -> Iterator[Spot]:
+    """The spots of a message in preorder. Not recursive. The library has to have accepted the message."""
     root = Spot(-1, "", "pointers", 0, 0, size=1)
     stack = [(root, iter((("root", 0, True),)))]
     while stack:
@@ -110,9 +108,6 @@ def walk(segments: Segments, pointers: int) -> Iterator[Spot]:
             continue
         label, at, is_pointer = child
         if is_pointer:
-            if not pointers:
-                return
-            pointers -= 1
             spot = _followed(segments, parent.level + 1, label, parent.segment, at)
         else:
             spot = Spot(parent.level + 1, label, "struct", parent.segment, at, data_words=parent.data_words, pointers=parent.pointers,

@@ -66,6 +66,7 @@ extern crate alloc;
 mod canonical;
 mod conversions;
 mod exclusive;
+mod explanation;
 mod limits;
 mod messages;
 mod node;
@@ -89,6 +90,7 @@ pub use canonical::{canonical_into, is_canonical, CanonicalError};
 #[cfg(feature = "alloc")]
 pub use exclusive::vet_exclusive_alloc;
 pub use exclusive::{vet_exclusive, ExclusiveError};
+pub use explanation::{explain, Explanation};
 pub use limits::Limits;
 pub use messages::{messages, Message, Messages};
 pub use node::{node, Elements, GetError, Kind, Node};

@@ -199,6 +199,15 @@ extern "C" {
         required: *mut usize,
         report: *mut RawReport,
     ) -> Answer;
+    fn capvet_explain(
+        bytes: *const u8,
+        length: usize,
+        limits: *const RawLimits,
+        text: *mut u8,
+        text_size: usize,
+        required: *mut usize,
+        report: *mut RawReport,
+    ) -> Answer;
     fn capvet_pack(
         bytes: *const u8,
         length: usize,
@@ -445,6 +454,33 @@ pub(crate) fn pointer_path(
         )
     };
     (answer, required)
+}
+
+/// The most bytes of an explanation.
+pub(crate) const EXPLANATION_BOUND: usize = 6144;
+
+/// Writes why the message is refused to the start of `text`. The number is the length of the lines in bytes.
+pub(crate) fn explain(
+    bytes: &[u8],
+    limits: &Limits,
+    text: &mut [u8; EXPLANATION_BOUND],
+) -> (Answer, usize, RawReport) {
+    let (limits, mut report) = (RawLimits::of(limits), RawReport::default());
+    let mut required = 0;
+    // SAFETY: the declaration is the header's. `bytes` is borrowed for the call, `text` is borrowed mutably, and the
+    // number and structs are locals.
+    let answer = unsafe {
+        capvet_explain(
+            address(bytes),
+            bytes.len(),
+            &limits,
+            text.as_mut_ptr(),
+            text.len(),
+            &mut required,
+            &mut report,
+        )
+    };
+    (answer, required, report)
 }
 
 /// Packs the words to the start of `out`. The number is the length of the packed bytes.

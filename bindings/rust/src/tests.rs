@@ -1,7 +1,8 @@
 //! The declarations against the header, and the answers of the library against what is known of the samples.
 
 use crate::sys::{
-    Answer, RawLimits, RawReport, ALLOW_AMPLIFIED, ALLOW_NONSTRICT, ALLOW_TRAILING, NO_TABLE,
+    Answer, RawLimits, RawReport, ALLOW_AMPLIFIED, ALLOW_NONSTRICT, ALLOW_TRAILING,
+    EXPLANATION_BOUND, NO_TABLE,
 };
 use crate::{
     canonical_into, frame_length, is_canonical, messages, vet, vet_exclusive, CanonicalError,
@@ -125,6 +126,7 @@ fn limits_are_those_of_the_header() {
         format!("#define CAPVET_MAX_CHARGE UINT64_C({})", Limits::MAX_CHARGE),
         format!("#define CAPVET_MAX_DEPTH {}", Limits::MAX_DEPTH),
         format!("#define CAPVET_SLACK {}", Limits::SLACK),
+        format!("#define CAPVET_EXPLANATION_BOUND {EXPLANATION_BOUND}"),
         format!("#define CAPVET_ALLOW_TRAILING {ALLOW_TRAILING:#x}u"),
         format!("#define CAPVET_ALLOW_NONSTRICT {ALLOW_NONSTRICT:#x}u"),
         format!("#define CAPVET_ALLOW_AMPLIFIED {ALLOW_AMPLIFIED:#x}u"),
@@ -227,7 +229,7 @@ fn calls_are_declared_as_in_the_header() {
     let code = header();
     let declared = between(SYS, "extern \"C\" {", "\n}");
     let calls: Vec<_> = declared.split("fn ").skip(1).collect();
-    assert_eq!(calls.len(), 15);
+    assert_eq!(calls.len(), 16);
     for call in calls {
         let (name, here) = call.split_once('(').expect("parameters");
         let there = between(&code, &format!(" {name}("), ")");

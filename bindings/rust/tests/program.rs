@@ -10,6 +10,7 @@ use std::{env, fs};
 
 const CONTACTS: &[u8] = include_bytes!("../../../examples/contacts.bin");
 const MANY_SEGMENTS: &[u8] = include_bytes!("../../../examples/contacts-many-segments.bin");
+const CYCLE: &[u8] = include_bytes!("../../../examples/cycle.bin");
 const SHARED: &[u8] = include_bytes!("../../../examples/shared.bin");
 const STREAM: &[u8] = include_bytes!("../../../examples/stream-of-four.bin");
 const TELEMETRY: &[u8] = include_bytes!("../../../examples/telemetry.bin");
@@ -51,8 +52,13 @@ fn verdict<T: ToString>(result: Result<T, VetError>) -> Result<String, VetError>
     }
 }
 
-// 500 messages, each of them a sample of which one bit after the table is changed.
+// 500 changed messages.
 fn changed() -> Vec<Vec<u8>> {
+    some_changed(500)
+}
+
+// So many messages, each of them a sample of which one bit after the table is changed.
+fn some_changed(count: usize) -> Vec<Vec<u8>> {
     let mut state = 7_u64;
     let mut random = |below: usize| {
         state ^= state << 13;
@@ -60,7 +66,7 @@ fn changed() -> Vec<Vec<u8>> {
         state ^= state << 17;
         (state % below as u64) as usize
     };
-    let changed = (0..500).map(|_| {
+    let changed = (0..count).map(|_| {
         let mut message = [CONTACTS, MANY_SEGMENTS, TELEMETRY, SHARED][random(4)].to_vec();
         let table = (usize::from(message[0]) + 3) / 2 * 8;
         let at = table + random(message.len() - table);
@@ -130,6 +136,49 @@ fn vet_exclusive(message: &[u8], limits: Limits) -> Result<Report, VetError> {
         ExclusiveError::NotAccepted(error) => error,
         other => panic!("{other:?}"),
     })
+}
+
+// The frames of a stream.
+fn frames(mut stream: &[u8]) -> Vec<&[u8]> {
+    let mut frames = Vec::new();
+    while !stream.is_empty() {
+        let length = capvet::frame_length(stream, Limits::DEFAULT).expect("it has a frame");
+        let (frame, rest) = stream.split_at(length);
+        frames.push(frame);
+        stream = rest;
+    }
+    frames
+}
+
+#[test]
+#[ignore = "CAPVET_PROGRAM has to be the path of the program"]
+fn explanations_are_those_of_the_program() {
+    let samples = [CONTACTS, MANY_SEGMENTS, TELEMETRY, STREAM, SHARED, CYCLE];
+    let stream = [samples.concat(), some_changed(2000).concat()].concat();
+    for (options, limits) in limits() {
+        let (mut text, mut known) = (String::new(), Vec::new());
+        for frame in frames(&stream) {
+            let found = capvet::explain(frame, limits);
+            let verdict = match (verdict(capvet::vet(frame, limits)), &found) {
+                (Err(error), Err(frame)) => {
+                    assert_eq!(error, VetError::Frame(*frame));
+                    // (the program ends at a message without a frame)
+                    continue;
+                }
+                (verdict, _) => verdict.expect("both have a frame"),
+            };
+            let found = found.expect("both have a frame");
+            assert_eq!(found.is_none(), verdict.starts_with("accepted"));
+            let number = known.len();
+            text += &format!("message {number}: {verdict}\n");
+            text += &found.map_or(String::new(), |it| it.to_string());
+            known.push(frame);
+        }
+        let options = [&["explain"][..], options].concat();
+        let (printed, status) = program("explain", &options, &known.concat());
+        assert_eq!(status, Some(1));
+        assert!(printed == text.into_bytes(), "{options:?}");
+    }
 }
 
 #[test]

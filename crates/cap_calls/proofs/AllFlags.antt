@@ -52,17 +52,7 @@ fault_refused m w d (strict.Pointer what s v n) h = absurd (false≢true h.0)
 -- And it meets no demand if it is accepted.
 meets_none : (m : List (List ℕ)) (w d : ℕ) (r : Report) → IsAccepted m w d r → Meets none m w d
 meets_none m w d r (t, h) =
-    record {
-      within = record {
-        tree = t;
-        charge = r.charge;
-        levels = r.depth;
-        denotes = h.denotes;
-        few_words = h.within;
-        few_levels = h.shallow;
-      };
-      strict = λ e. absurd (false≢true e);
-    }
+    record { within = (t, r.charge, r.depth, h.within); strict = λ e. absurd (false≢true e) }
 
 module _ {K : Type 0} {P : List (List ℕ) → Report → Found → Type 0} (m : List (List ℕ)) (w d : ℕ) (f : Found) where
   judges_less : Judges none K P m w d f → JudgesAny K P m w d f

@@ -7,7 +7,8 @@ use Rattle.cap_spec.proofs.Frames.Framing.{one_frame}
 use Rattle.cap_spec.specs.Strict.{IsStrictFault}
 use Rattle.cap_spec.specs.declared.StrictRefusal.{StrictRefusal}
 use Rattle.cap_spec.specs.declared.StrictRefusal.TheVariants.{Refused, ManySegments, Pointer}
-use Rattle.cap_spec.proofs.Strict.Faults.{one_strict_fault, strict_not_fault, within_not_refused}
+use Rattle.cap_spec.proofs.Strict.Faults.{one_strict_fault, strict_not_fault}
+use Rattle.cap_spec.proofs.Verdicts.Refusals.{within_not_refused}
 use Rattle.cap_frame.specs.Framed.{TellsFront}
 use Rattle.cap_frame.specs.declared.fault.FrontFault.{FrontFault}
 use Rattle.cap_frame.specs.declared.fault.FrontFault.TheVariants.{TooManySegments, TooLarge, Truncated}

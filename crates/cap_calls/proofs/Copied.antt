@@ -67,7 +67,7 @@ one_copy_told l bs old a b n k xs ys r q (f, t, h, e) (g, u, i, j) =
 -- the report of a message in which a capability is reached names the first
 cap_named : (m : List (List ℕ)) (first : Option (ℕ × ℕ)) (s w : ℕ) → IsFirstCapOf m first → IsFirstCap m s w
     → IsFirstCap m (unwrap_or first (0, 0)).0 (unwrap_or first (0, 0)).1
-cap_named m None s w h k = absurd (h k.path k.level s w k.k k.index k.reached k.leads)
+cap_named m None s w h k = absurd (h k.path k.first.holds)
 cap_named m (Some (t, x)) s w h k = h
 
 -- What is found of the capacity is what the call finds.
@@ -103,7 +103,7 @@ few_copied demands old new m w d f (refused q h e k) = let none = ap (λ (x : Fo
 few_copied demands old new m w d f (accepted q h n (has_capability c e k)) = let none = ap (λ (x : Found). x.count) e
     in omega (arith, none)
 few_copied demands old new m w d f (accepted q (t, h) n (copied ws j u i)) =
-    let few = copy_charged m t q.charge q.depth ws h.denotes j in
+    let few = copy_charged m t q.charge q.depth ws h.within.denotes j in
     let long = text_told (plain_text ws) old f.answer f.count new u in
     let same : f.report.charge ≡ q.charge = ap (λ (z : CallReport). z.charge) i in
     omega (arith, few, long, length_plain ws, same)
@@ -140,10 +140,10 @@ short_copied demands old new m w d f un (refused q h e k) = let none = ap (λ (x
 short_copied demands old new m w d f un (accepted q h n (has_capability c e k)) = let none = ap
     (λ (x : Found). x.count) e in omega (arith, none)
 short_copied demands old new m w d f un (accepted q (t, h) n (copied ws j u i)) =
-    let few = copy_charged m t q.charge q.depth ws h.denotes j in
+    let few = copy_charged m t q.charge q.depth ws h.within.denotes j in
     let long = text_told (plain_text ws) old f.answer f.count new u in
     let within : q.charge ≤ unamplified m w = subst (λ (z : Bool). q.charge ≤ (if z then unamplified m w else w)) un
-    h.within in
+    h.within.few_words in
     let most : q.charge ≤ sum (sizes_of m) + 4096 = ((within_both m w q.charge).0 within).1 in
     omega (arith, few, long, length_plain ws, most)
 

@@ -16,7 +16,7 @@ pub mod Packed
 pub mod PathCharges
 pub mod PointerPaths
 pub mod RangeGotten
-pub mod RangeNear
+pub mod RangeShortcut
 pub mod RangePaths
 pub mod Segments
 pub mod SeparateSegments

@@ -39,10 +39,10 @@ one_marked size m r f g (overlap s w n enough h e) (too_small few i) = absurd (o
 one_marked size m r f g (overlap s w n enough h e) (overlap t v k also j i) =
     (let same = one_overlap m s w n t v k h j in cc)
 one_marked size m r f g (overlap s w n enough h e) (exclusive also j i) = absurd
-    (none_of_disjoint m j h.path h.overlaps)
+    (none_of_disjoint m j h.path h.first.holds)
 one_marked size m r f g (exclusive enough j e) (too_small few i) = absurd (omega (arith, few, enough))
 one_marked size m r f g (exclusive enough j e) (overlap s w n also h i) = absurd
-    (none_of_disjoint m j h.path h.overlaps)
+    (none_of_disjoint m j h.path h.first.holds)
 one_marked size m r f g (exclusive enough j e) (exclusive also k i) = e ∙ sym i
 
 -- The call answers and reports one thing.

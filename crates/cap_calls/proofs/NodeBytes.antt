@@ -72,23 +72,23 @@ module _ (m : List (List ℕ)) (frame : ℕ)
       → (kind_node k (offset_of m t b)).offset + (kind_node k (offset_of m t b)).length ≤ frame
   node_within (word s w) Null t b n h f = omega arith
   node_within (word s w) (Cap i) t b n h f = omega arith
-  node_within (word s w) (Struct d p) t b n h (x, q, f) =
+  node_within (word s w) (Struct d p) t b n h (x, q, tag, f) =
       let r = bound t b n f.finds.sits.exists (omega (arith, f.words, f.finds.sits.inside)) in
-      omega (arith, r, f.words, f.data_words, extent_struct q f.kind)
-  node_within (word s w) (Scalars c y) t b n h (x, q, f) =
+      omega (arith, r, f.words, f.shape.data_words, extent_struct q f.shape.kind)
+  node_within (word s w) (Scalars c y) t b n h (x, q, tag, f) =
       let r = bound t b n f.finds.sits.exists (omega (arith, f.words, f.finds.sits.inside)) in
       let words : n ≡ list_words c y =
-      f.words ∙ (extent_scalars q c f.kind f.code f.scalar ∙ sym (ap (list_words c) f.count)) in
+      f.words ∙ (extent_scalars q c f.shape.kind f.shape.code f.shape.scalar ∙ sym (ap (list_words c) f.shape.count)) in
       omega (arith, r, words, value_bytes c y)
-  node_within (word s w) (Pointers y) t b n h (x, q, f) =
+  node_within (word s w) (Pointers y) t b n h (x, q, tag, f) =
       let r = bound t b n f.finds.sits.exists (omega (arith, f.words, f.finds.sits.inside)) in omega (arith, r)
   node_within (word s w) (Structs y d p) t b n h (x, q, tag, f) =
       let r = bound t b n f.finds.sits.exists (omega (arith, f.words, f.finds.sits.inside)) in
-      let fits = f.finds.sits.composite (f.kind, f.code) in
+      let fits = f.finds.sits.composite (f.shape.kind, f.shape.code) in
       let room : middle tag * (data_size tag + pointer_size tag) ≤ list_size q =
-      subst (λ u. middle u * (data_size u + pointer_size u) ≤ list_size q) (one_word m t b fits.0 tag fits.1 f.has_tag) fits.2.1 in
-      let few : y * (d + p) ≤ list_size q = rw (f.count, f.data_words, f.pointers) room in
-      omega (arith, r, few, f.words, extent_structs q f.kind f.code)
+      subst (λ u. middle u * (data_size u + pointer_size u) ≤ list_size q) (one_word m t b fits.0 tag fits.1 (f.tagged (f.shape.kind, f.shape.code))) fits.2.1 in
+      let few : y * (d + p) ≤ list_size q = rw (f.shape.count, f.shape.data_words, f.shape.pointers) room in
+      omega (arith, r, few, f.words, extent_structs q f.shape.kind f.shape.code)
   node_within (element u v ds ps) (Struct d p) t b n h f =
       let g : (t < length m) × (b + (ds + ps) ≤ length (segment_of m t)) = rw (f.segment, f.start) h in
       let r = bound t b (ds + ps) g.0 g.1 in

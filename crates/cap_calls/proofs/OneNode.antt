@@ -54,12 +54,12 @@ data Seen (m : List (List ℕ)) (s w : ℕ) (k : Kind) (t b : ℕ) : Type 0 wher
 seen : (m : List (List ℕ)) (s w : ℕ) (k : Kind) (t b n : ℕ) → StandsAs m (word s w) k t b n → Seen m s w k t b
 seen m s w Null t b n (x, h) = null x h refl
 seen m s w (Cap i) t b n (x, h) = cap x i h refl
-seen m s w (Struct d p) t b n (x, q, h) = object x q h.finds (struct h.kind (ap₂ Struct h.data_words h.pointers))
-seen m s w (Scalars c y) t b n (x, q, h) =
-    object x q h.finds (scalars h.kind (omega (arith, h.scalar, h.code)) (ap₂ Scalars h.code h.count))
-seen m s w (Pointers y) t b n (x, q, h) = object x q h.finds (pointers h.kind h.code (ap Pointers h.count))
+seen m s w (Struct d p) t b n (x, q, tag, h) = object x q h.finds (struct h.shape.kind (ap₂ Struct h.shape.data_words h.shape.pointers))
+seen m s w (Scalars c y) t b n (x, q, tag, h) =
+    object x q h.finds (scalars h.shape.kind (omega (arith, h.shape.scalar, h.shape.code)) (ap₂ Scalars h.shape.code h.shape.count))
+seen m s w (Pointers y) t b n (x, q, tag, h) = object x q h.finds (pointers h.shape.kind h.shape.code (ap Pointers h.shape.count))
 seen m s w (Structs y d p) t b n (x, q, tag, h) =
-    object x q h.finds (structs tag h.kind h.code h.has_tag (structs_of y d p tag h.count h.data_words h.pointers))
+    object x q h.finds (structs tag h.shape.kind h.shape.code (h.tagged (h.shape.kind, h.shape.code)) (structs_of y d p tag h.shape.count h.shape.data_words h.shape.pointers))
   where
     structs_of : (y d p tag : ℕ) → y ≡ middle tag → d ≡ data_size tag → p ≡ pointer_size tag
         → Structs y d p ≡ Structs (middle tag) (data_size tag) (pointer_size tag)

@@ -1,6 +1,6 @@
 -- Words out of a packed stream, one step after the other.
 use Rattle.std.proofs.Common.{ℕ, zero, suc, List, [], ◌∷◌, ◌++◌, ◌≡◌, ◌≢◌, ◌∙◌, ◌<◌, ◌≤◌, ◌+◌, ◌-◌, ◌*◌, ap}
-use Rattle.std.proofs.Common.{refl, sym, subst, inl, inr, length, take, drop, replicate, arith, append_assoc, append-nil}
+use Rattle.std.proofs.Common.{◌⊎◌, refl, sym, subst, inl, inr, length, take, drop, replicate, arith, append_assoc, append-nil}
 use Rattle.std.proofs.Common.{length-append, length-drop, length-take, take-append-drop, take_all, ◌==◌}
 use Rattle.std.specs.Prelude.{slice_index}
 use Rattle.std.specs.List.{AllByRecursion}
@@ -12,7 +12,12 @@ use Rattle.cap_spec.specs.Unpacking.{given_of, marked, marks, spread, unpacked, 
 use Rattle.cap_spec.proofs.Bytes.Lists.{all_take}
 use Rattle.cap_spec.proofs.Bytes.Plain.{plain_short, words_exact}
 use Rattle.cap_spec.proofs.Packed.Groups.{group_off}
-use Rattle.cap_spec.proofs.Packed.Unpacking.{length_marked, unpacked_front, unpacked_short}
+use Rattle.cap_spec.proofs.Packed.Unpacking.{length_marked, spread_append, unpacked_front, unpacked_short}
+use Rattle.byteorder.specs.Endian.{little_number}
+use Rattle.cap_pack.specs.Course.{first_word, head_rest, plain_of, zeros_of}
+use Rattle.cap_pack.proofs.Heads.{first_word-marked, first_word-plain, first_word-zeros, head_rest-marked, head_rest-plain}
+use Rattle.cap_pack.proofs.Heads.{head_rest-zeros, little-append, plain_of-others, plain_of-plain, zeros_of-others, zeros_of-zeros}
+use Rattle.cap_pack.proofs.PuttingEach.{word_first}
 use Rattle.cap_words.proofs.Filling.{plain_join}
 use Rattle.cap_calls.specs.PackedStreams.{GivesWords, head_length, words_to_come}
 
@@ -181,6 +186,71 @@ leads_literal p n m bytes e h =
           omega (arith, ap length come, words_exact part, words_exact front, few, l, long);
     }
 
+same_leads : (bytes : List ℕ) (w t z p w' t' z' p' : ℕ) → w ≡ w' → t ≡ t' → z ≡ z' → p ≡ p'
+    → GivesWords 0 0 bytes (w' ∷ []) t' z' p' → GivesWords 0 0 bytes (w ∷ []) t z p
+same_leads bytes w t z p w' t' z' p' a b c d leads = rw (a, b, c, d) leads
+
+-- the head of the first group, by what it says
+pub leads_head : (bytes : List ℕ) (w t z p : ℕ) → AllByRecursion (λ b. b < 256) bytes → head_rest (slice_index bytes 0) < length bytes
+    → w ≡ first_word (slice_index bytes 0) (drop 1 bytes) → t ≡ 1 + head_rest (slice_index bytes 0)
+    → z ≡ zeros_of (slice_index bytes 0) (drop 1 bytes) → p ≡ plain_of (slice_index bytes 0) (drop 1 bytes)
+    → GivesWords 0 0 bytes (w ∷ []) t z p
+leads_head [] w t z p all l e long f g = absurd (omega (arith, l))
+leads_head (tag ∷ rest) w t z p all l e long f g = elim (cases_eq tag 0) [
+  | inl none ↦
+      let one = head_rest-zeros tag none in
+      same_leads (tag ∷ rest) w t z p 0 2 z 0 (e ∙ sym (first_word-zeros tag rest none)) (omega (arith, long, one)) refl
+      (g ∙ sym (plain_of-others tag rest (omega (arith, none))))
+      (leads_zeros_head (tag ∷ rest) z all (omega (arith, l, one)) none (f ∙ sym (zeros_of-zeros tag rest none)))
+  | inr some ↦ elim (cases_eq tag 255) [
+    | inl full ↦
+        let nine = head_rest-plain tag full in
+        let front = take 8 rest in
+        let eight : 8 ≤ length front = omega (arith, length-take 8 rest, l, nine) in
+        let no_more : drop 8 front ≡ [] = drop_all 8 front (omega (arith, length-take 8 rest)) in
+        let same : little_number 8 front ≡ w =
+        sym (little-append front (drop 8 rest) eight) ∙ (ap (little_number 8) (take-append-drop 8 rest) ∙ (first_word-plain tag rest full ∙ sym e)) in
+        let first : plain_words front ≡ w ∷ [] =
+        word_first front eight ∙ (ap (λ (x : ℕ). x ∷ plain_words (drop 8 front)) same ∙ ap (λ (x : List ℕ). w ∷ plain_words x) no_more) in
+        same_leads (tag ∷ rest) w t z p w 10 0 p refl (omega (arith, long, nine)) (f ∙ sym (zeros_of-others tag rest some)) refl
+        (leads_plain_head (tag ∷ rest) p w all (omega (arith, l, nine)) full (g ∙ sym (plain_of-plain tag rest full)) first)
+    | inr part ↦
+        let n = marks 8 tag in
+        let many = head_rest-marked tag some part in
+        let own : length (take n rest) ≡ n = length-take-le n rest (omega (arith, l, many)) in
+        let word : w ≡ spread 8 tag (take n rest) =
+        e ∙ (sym (first_word-marked tag rest some part) ∙ (ap (spread 8 tag) (sym (take-append-drop n rest)) ∙ spread_append 8 tag (take n rest) (drop n rest) own)) in
+        same_leads (tag ∷ rest) w t z p w (1 + n) 0 0 refl (omega (arith, long, many)) (f ∙ sym (zeros_of-others tag rest some))
+        (g ∙ sym (plain_of-others tag rest part))
+        (leads_marked_head (tag ∷ rest) tag n w all (omega (arith, l, many)) refl some part refl word)
+  ]
+]
+
+-- a head begins one run at most
+pub one_run : (tag : ℕ) (bytes : List ℕ) → (zeros_of tag bytes ≡ 0) ⊎ (plain_of tag bytes ≡ 0)
+one_run tag bytes = elim (cases_eq tag 0) [
+  | inl none ↦ inr (sym (plain_of-others tag bytes (omega (arith, none))))
+  | inr some ↦ inl (sym (zeros_of-others tag bytes some))
+]
+
+-- how long a head is
+pub head_is : (bytes : List ℕ) → 0 < length bytes → head_length bytes ≡ 1 + head_rest (slice_index bytes 0)
+head_is [] l = absurd (omega (arith, l))
+head_is (tag ∷ b) l = elim (cases_eq tag 0) [
+  | inl none ↦ ap (λ (t : ℕ). head_length (t ∷ b)) none ∙ sym (ap (λ (n : ℕ). 1 + n) (head_rest-zeros tag none))
+  | inr some ↦ elim (cases_eq tag 255) [
+    | inl full ↦ ap (λ (t : ℕ). head_length (t ∷ b)) full ∙ sym (ap (λ (n : ℕ). 1 + n) (head_rest-plain tag full))
+    | inr part ↦
+        cond-false (tag == 0) _ _ (ne_eqb tag 0 some)
+        ∙ (cond-false (tag == 255) _ _ (ne_eqb tag 255 part) ∙ sym (ap (λ (n : ℕ). 1 + n) (head_rest-marked tag some part)))
+  ]
+]
+
+-- without a whole head there is no word
+pub no_head : (bytes : List ℕ) → AllByRecursion (λ b. b < 256) bytes → length bytes ≤ head_rest (slice_index bytes 0) → unpacked bytes ≡ []
+no_head [] all l = refl
+no_head (tag ∷ b) all l = head_part (tag ∷ b) all (omega (arith, l, head_is (tag ∷ b) (omega arith)))
+
 -- some words, and then others
 pub leads_both : (z p y q x r t u : ℕ) (bytes rest ws vs : List ℕ) → GivesWords z p bytes ws t y q → rest ≡ drop t bytes
     → GivesWords y q rest vs u x r → GivesWords z p bytes (ws ++ vs) (t + u) x r
@@ -206,24 +276,6 @@ leads_both z p y q x r t u bytes rest ws vs f e g =
             omega (arith, ap length come, length-append ws (words_to_come y q (take k rest)), length-append ws vs, few)
       ];
     }
-
--- how long a head is, by its tag
-pub head_zeros : (bytes : List ℕ) → 0 < length bytes → slice_index bytes 0 ≡ 0 → head_length bytes ≡ 2
-head_zeros [] l e = absurd (omega (arith, l))
-head_zeros (x ∷ b) l e = let t : x ≡ 0 = e in ap (λ (k : ℕ). head_length (k ∷ b)) t
-
-pub head_marked : (bytes : List ℕ) (tag : ℕ) → 0 < length bytes → slice_index bytes 0 ≡ tag → tag ≢ 0 → tag ≢ 255
-    → head_length bytes ≡ 1 + marks 8 tag
-head_marked [] tag l e z f = absurd (omega (arith, l))
-head_marked (x ∷ b) tag l e z f =
-    let t : x ≡ tag = e in
-    ap (λ (k : ℕ). head_length (k ∷ b)) t
-    ∙ (cond-false (tag == 0) _ _ (ne_eqb tag 0 z) ∙ cond-false (tag == 255) _ _ (ne_eqb tag 255 f))
-
--- without bytes there is no group
-pub no_bytes : (bytes : List ℕ) → length bytes ≡ 0 → unpacked bytes ≡ []
-no_bytes [] e = refl
-no_bytes (x ∷ b) e = absurd (omega (arith, e))
 
 -- fewer bytes than a literal word has
 pub literal_part : (p : ℕ) (bytes : List ℕ) → 0 < p → length bytes < 8 → words_to_come 0 p bytes ≡ []

@@ -1,8 +1,8 @@
 -- The pointers on each path of an accepted message keep to the limits.
-use Rattle.std.proofs.Common.{ℕ, ◌+◌, ◌-◌, ◌<◌, ◌≤◌, ◌≡◌, List, [], ◌∷◌, ◌++◌, length, length-append, append_assoc}
+use Rattle.std.proofs.Common.{ℕ, ◌+◌, ◌-◌, ◌<◌, ◌≡◌, List, [], ◌∷◌, ◌++◌, length, length-append, append_assoc}
 use Rattle.std.proofs.Common.{Option, None, Some, arith, refl, subst, sym}
 use Rattle.std.proofs.lemmas.List.{append-nil}
-use Rattle.cap_spec.specs.Denoting.{Denotes}
+use Rattle.cap_spec.specs.Accepting.{IsWithin}
 use Rattle.cap_spec.specs.Getting.{AreOnPath}
 use Rattle.cap_spec.specs.Paths.{Comes, Spot, element, level_of, word}
 use Rattle.cap_spec.specs.Standing.{DenotesAt}
@@ -87,9 +87,10 @@ goes_on m done (step ∷ rest) level a u c d k = elim (steps_on m done step rest
 ]
 
 -- The pointers on each path of an accepted message keep to the limits.
-pub path_charged : (m : List (List ℕ)) (t : Tree) (c d words depth : ℕ) → Denotes m 0 0 t c d → c ≤ words → d ≤ depth
-    → (path : List Step) → KeepsToLimits m words depth path
-path_charged m t c d words depth h few low path =
+pub path_charged : (m : List (List ℕ)) (words depth : ℕ) → IsWithin m words depth → (path : List Step)
+    → KeepsToLimits m words depth path
+path_charged m words depth (t, c, d, a) path =
+    let h = a.denotes in
     let f = formed m 0 0 t c d h in
     let root = lead_word m 0 0 f.k f.r f.leads in
     let own = own_cost m 0 0 t c d h in
@@ -112,7 +113,7 @@ path_charged m t c d words depth h few low path =
         cost = k.cost;
         costs = k.costs;
         shallow = λ p level s w i r (x, y, b, q, tag, found, tagged, past).
-            omega (arith, low, past, paths_within_depth m t c d h p level s w x y b q tag r found tagged);
-        spent = omega (arith, within, few);
+            omega (arith, a.few_levels, past, paths_within_depth m t c d h p level s w x y b q tag r found tagged);
+        spent = omega (arith, within, a.few_words);
       },
     )

@@ -18,7 +18,7 @@ use Rattle.cap_calls.specs.CallNodes.{none_node}
 use Rattle.cap_calls.specs.NodeCalls.{Gets, bad_path_found, path_found}
 use Rattle.cap_calls.specs.RangeCalls.{AreSteps, EndsRange, GetsRange, IsBadStep, TellsRange, TellsSteps, bad_limits}
 use Rattle.cap_calls.specs.RangeCalls.{bad_steps, full, past, path_after, range, stops, unknown}
-use Rattle.cap_calls.specs.RangeNear.{WritesFirst}
+use Rattle.cap_calls.specs.RangeShortcut.{WritesFirst}
 use Rattle.cap_calls.specs.declared.answer.Answer.{Answer}
 use Rattle.cap_calls.specs.declared.answer.Answer.TheVariants.{Good, NoNode}
 use Rattle.cap_calls.specs.declared.found.Found.{Found}

@@ -36,8 +36,7 @@ pub meets_on_path : (demands : Demands) (m : List (List ℕ)) (words depth : ℕ
     → (path : List Step) → MeetsOnPath demands m words depth path
 meets_on_path demands m words depth h path =
     record {
-      within = path_charged m h.within.tree h.within.charge h.within.levels (words_under demands m words) depth
-          h.within.denotes h.within.few_words h.within.few_levels path;
+      within = path_charged m (words_under demands m words) depth h.within path;
       strict = λ e. let s = h.strict e in (s.few_segments, λ q b. s.none q);
     }
 

@@ -11,7 +11,7 @@ use Rattle.cap_spec.specs.declared.Reason.{Reason}
 use Rattle.cap_spec.specs.declared.Reason.TheVariants as reason
 use Rattle.cap_spec.specs.declared.StrictRefusal.{StrictRefusal}
 use Rattle.cap_spec.specs.declared.StrictRefusal.TheVariants as strict
-use Rattle.cap_spec.proofs.Strict.Faults.{strict_wider}
+use Rattle.cap_spec.proofs.Strict.Faults.{strict_wider, within_wider}
 use Rattle.cap_vet.specs.Demands.{Meets, words_under}
 use Rattle.cap_vet.specs.Reports.{IsAccepted}
 use Rattle.cap_vet.specs.declared.report.Report.{Report}
@@ -91,9 +91,11 @@ module _ (l k : CallLimits) (more : AllowsMore l k) where
   accepts m r (t, h) = (
     t,
     record {
-      denotes = h.denotes;
-      within = omega (arith, h.within, limit m);
-      shallow = omega (arith, h.shallow, more.depth);
+      within = record {
+        denotes = h.within.denotes;
+        few_words = omega (arith, h.within.few_words, limit m);
+        few_levels = omega (arith, h.within.few_levels, more.depth);
+      };
       pointers = h.pointers;
       caps = h.caps;
       first_cap = h.first_cap;
@@ -104,14 +106,8 @@ module _ (l k : CallLimits) (more : AllowsMore l k) where
   meets : (m : List (List ℕ)) → Meets (demands_of l) m l.charge l.depth → Meets (demands_of k) m k.charge k.depth
   meets m h =
       record {
-        within = record {
-          tree = h.within.tree;
-          charge = h.within.charge;
-          levels = h.within.levels;
-          denotes = h.within.denotes;
-          few_words = omega (arith, h.within.few_words, limit m);
-          few_levels = omega (arith, h.within.few_levels, more.depth);
-        };
+        within = within_wider m (words_under (demands_of l) m l.charge) l.depth
+            (words_under (demands_of k) m k.charge) k.depth h.within (limit m) more.depth;
         strict = λ e. strict_wider m (words_under (demands_of l) m l.charge) l.depth
             (words_under (demands_of k) m k.charge) k.depth
             (h.strict (unset (allows_nonstrict l) (allows_nonstrict k) more.nonstrict e)) (limit m) more.depth;

@@ -17,7 +17,7 @@ pub mod PointerCalls
 pub mod SegmentCalls
 pub mod SegmentsCalls
 pub mod RangeCalls
-pub mod RangeNear
+pub mod RangeShortcut
 pub mod Slices
 pub mod PackedMessages
 pub mod PackedStreams

@@ -4,8 +4,8 @@ ghost use Rattle.cap_calls.specs.PackedStreams.{WritesWords, IsRunRest, GivesWor
 ghost use Rattle.cap_calls.specs.UnpackingMessages.{bytes_needed};
 ghost use Rattle.std.specs.Prelude.{◌+◌, ◌<◌, ◌≡◌, ◌≢◌, ◌≤◌, [], ◌∷◌, IfNone, IfSome, drop, false, length, slice_index, true};
 
-use cap_pack::lanes::scatter;
-use cap_words::{bytes_of, word_of};
+use cap_pack::{front_head, head_len};
+use cap_words::bytes_of;
 
 /// What some bytes gave.
 #[derive(Clone, Copy)]
@@ -18,101 +18,6 @@ pub(crate) struct Given {
     pub(crate) zeros: u32,
     /// how many literal words of the run are still to come
     pub(crate) literal: u32,
-}
-
-// The head of a group.
-#[derive(Clone, Copy)]
-struct Head {
-    // how many bytes it has
-    length: usize,
-    // the first word of the group
-    word: u64,
-    // how many zero words, or literal words, follow that one
-    zeros: u32,
-    literal: u32,
-}
-
-// The head at the start of the bytes, or `None` if they end inside it.
-fn head_of(bytes: &[u8]) -> Option<Head>
-    ensures leads { IfSome result (λ h.
-        GivesWords 0 0 bytes.now (h.word ∷ []) h.length h.zeros h.literal) }
-    ensures left { IfSome result (λ h. IsRunRest h.zeros h.literal) }
-    ensures none { IfNone result (words_to_come 0 0 bytes.now ≡ []) }
-{
-    if bytes.is_empty() {
-        return None;
-    }
-    match bytes[0] {
-        0 => zeros_head(bytes),
-        0xff => literal_head(bytes),
-        tag => marked_head(bytes, tag),
-    }
-}
-
-// The same of a tag of no bytes, which the number of more words of zeros follows.
-fn zeros_head(bytes: &[u8]) -> Option<Head>
-    requires some { 0 < length bytes.now }
-    requires tag { slice_index bytes.now 0 ≡ 0 }
-    ensures leads { IfSome result (λ h.
-        GivesWords 0 0 bytes.now (h.word ∷ []) h.length h.zeros h.literal) }
-    ensures left { IfSome result (λ h. IsRunRest h.zeros h.literal) }
-    ensures none { IfNone result (words_to_come 0 0 bytes.now ≡ []) }
-{
-    if bytes.len() < 2 {
-        return None;
-    }
-    Some(Head {
-        length: 2,
-        word: 0,
-        zeros: u32::from(bytes[1]),
-        literal: 0,
-    })
-}
-
-// Of a tag of all bytes, after whose word the number of more words as they are follows.
-fn literal_head(bytes: &[u8]) -> Option<Head>
-    requires some { 0 < length bytes.now }
-    requires tag { slice_index bytes.now 0 ≡ 255 }
-    ensures leads { IfSome result (λ h.
-        GivesWords 0 0 bytes.now (h.word ∷ []) h.length h.zeros h.literal) }
-    ensures left { IfSome result (λ h. IsRunRest h.zeros h.literal) }
-    ensures none { IfNone result (words_to_come 0 0 bytes.now ≡ []) }
-{
-    if bytes.len() < 10 {
-        return None;
-    }
-    let mut word = [0; 8];
-    word.copy_from_slice(&bytes[1..9]);
-    Some(Head {
-        length: 10,
-        word: word_of(&word),
-        zeros: 0,
-        literal: u32::from(bytes[9]),
-    })
-}
-
-// Of any other tag, which its word's bytes other than 0 follow.
-fn marked_head(bytes: &[u8], tag: u8) -> Option<Head>
-    requires some { 0 < length bytes.now }
-    requires tag { slice_index bytes.now 0 ≡ tag }
-    requires marked { (tag ≢ 0) × (tag ≢ 255) }
-    ensures leads { IfSome result (λ h.
-        GivesWords 0 0 bytes.now (h.word ∷ []) h.length h.zeros h.literal) }
-    ensures left { IfSome result (λ h. IsRunRest h.zeros h.literal) }
-    ensures none { IfNone result (words_to_come 0 0 bytes.now ≡ []) }
-{
-    let length = 1 + tag.count_ones() as usize;
-    if bytes.len() < length {
-        return None;
-    }
-    let mut present = [0; 8];
-    present[..length - 1].copy_from_slice(&bytes[1..length]);
-    Some(Head {
-        length,
-        word: scatter(tag, &present),
-        zeros: 0,
-        literal: 0,
-    })
 }
 
 // Zero words of a run, as many as there are and the buffer has space for.
@@ -155,14 +60,14 @@ fn give_first(bytes: &[u8], out: &mut [u8]) -> Given
     ensures none { result.written ≡ 0 →
         words_to_come result.zeros result.literal (drop result.taken bytes.now) ≡ [] }
 {
-    match head_of(bytes) {
+    match front_head(bytes) {
         Some(head) => {
             out[..8].copy_from_slice(&bytes_of(head.word));
             Given {
-                taken: head.length,
+                taken: 1 + head_len(bytes[0]),
                 written: 8,
-                zeros: head.zeros,
-                literal: head.literal,
+                zeros: u32::from(head.zeros),
+                literal: u32::from(head.plain),
             }
         }
         None => Given {
@@ -236,7 +141,7 @@ pub(crate) fn has_word(bytes: &[u8], zeros: u32, literal: u32) -> bool
     if literal > 0 {
         return bytes.len() >= 8;
     }
-    match head_of(bytes) {
+    match front_head(bytes) {
         Some(_) => true,
         None => false,
     }
@@ -252,9 +157,5 @@ pub(crate) fn needed(bytes: &[u8], literal: u32) -> u64
     if bytes.is_empty() {
         return 1;
     }
-    match bytes[0] {
-        0 => 2,
-        0xff => 10,
-        tag => 1 + u64::from(tag.count_ones()),
-    }
+    1 + head_len(bytes[0]) as u64
 }

@@ -1,11 +1,12 @@
 -- The one canonical copy of an accepted message.
 use Rattle.std.proofs.Common.{ℕ, ◌+◌, ◌<◌, ◌≤◌, ◌^◌, List, ◌≡◌, ◌≢◌, ap, refl, sym, subst, ◌∙◌, arith, length, true, false, None, [], ◌∷◌}
 use Rattle.std.proofs.lemmas.Bool.{eqb-true, false≢true}
+use Rattle.cap_spec.specs.Lists.{IsOneOf}
 use Rattle.cap_spec.specs.Tree.{Tree, cap_count, has_cap}
 use Rattle.cap_spec.specs.Denoting.{Denotes}
 use Rattle.cap_spec.specs.Canonical.{layout, trim}
 use Rattle.cap_spec.specs.Following.{Leads, to_cap}
-use Rattle.cap_spec.specs.Paths.{IsFirstCap, IsOneOf, Reaches}
+use Rattle.cap_spec.specs.Paths.{IsFirstCap, Reaches}
 use Rattle.cap_spec.specs.declared.Step.{Step}
 use Rattle.cap_spec.proofs.Trees.OneTree.{one_tree}
 use Rattle.cap_spec.proofs.Paths.PathCounts.{caps_counted, first_cap}
@@ -30,17 +31,17 @@ bool_cases false f g = g refl
 
 -- an accepted message has a tree
 pub has_tree : (m : List (List ℕ)) (r : Report) (t : Tree) → IsReport m 268435456 256 r t → HasTree m r.depth
-has_tree m r t k = record { tree = t; charge = r.charge; denotes = k.denotes; few = k.within; shallow = k.shallow }
+has_tree m r t k = record { tree = t; charge = r.charge; denotes = k.within.denotes; few = k.within.few_words; shallow = k.within.few_levels }
 
 -- where no path leads to one, it has
 pub has_copy : (m : List (List ℕ)) (r : Report) (t : Tree) → IsReport m 268435456 256 r t → r.first_cap ≡ None → HasCopy m (layout (trim t))
-has_copy m r t k e = record { tree = t; charge = r.charge; depth = r.depth; denotes = k.denotes; no_caps = bool_cases (has_cap t) some (λ x. x); laid = refl }
+has_copy m r t k e = record { tree = t; charge = r.charge; depth = r.depth; denotes = k.within.denotes; no_caps = bool_cases (has_cap t) some (λ x. x); laid = refl }
   where
     none : IsFirstCapOf m None
     none = subst (IsFirstCapOf m) e k.first_cap
 
     some : has_cap t ≡ true → has_cap t ≡ false
-    some h = (let f = (first_cap m t r.charge r.depth k.denotes).0 h in absurd (none f.2.path f.2.level f.0 f.1 f.2.k f.2.index f.2.reached f.2.leads))
+    some h = (let f = (first_cap m t r.charge r.depth k.within.denotes).0 h in absurd (none f.2.path f.2.first.holds))
 
 -- it has at most one word more than the charge
 pub copy_charged : (m : List (List ℕ)) (t : Tree) (c d : ℕ) (words : List ℕ) → Denotes m 0 0 t c d → HasCopy m words → length words ≤ c + 1
@@ -58,9 +59,9 @@ copy_length m words t c d k h =
 -- the charge of an accepted message is below the greatest of an offset
 pub few_charged : (m : List (List ℕ)) (r : Report) (t u : Tree) (c d : ℕ) → IsReport m 268435456 256 r t → Denotes m 0 0 u c d → c < 2 ^ 29
 few_charged m r t u c d k h =
-    let same = one_tree m 0 0 t u r.charge r.depth c d k.denotes h in
+    let same = one_tree m 0 0 t u r.charge r.depth c d k.within.denotes h in
     let e : r.charge ≡ c = same.charge in
-    omega (arith, k.within, e)
+    omega (arith, k.within.few_words, e)
 
 -- words that are the layout of every tree that is denoted are the copy
 pub copy_of : (m : List (List ℕ)) (words made : List ℕ) → HasCopy m words → ((t : Tree) (c d : ℕ) → Denotes m 0 0 t c d → made ≡ layout (trim t))
@@ -78,7 +79,7 @@ copy_of m words made k f = record {
 -- a message with a capability is not its own copy
 pub not_with_caps : (m : List (List ℕ)) (r : Report) (t : Tree) → IsReport m 268435456 256 r t → r.caps ≢ 0 → IsCanonical m → ⊥
 not_with_caps m r t k some (words, h, e) =
-    let same = one_tree m 0 0 h.tree t h.charge h.depth r.charge r.depth h.denotes k.denotes in
+    let same = one_tree m 0 0 h.tree t h.charge h.depth r.charge r.depth h.denotes k.within.denotes in
     bool_cases (cap_count t == 0) (λ z. some (k.caps ∙ eqb-true (cap_count t) 0 z)) (λ z. false≢true (sym h.no_caps ∙ (ap has_cap same.part ∙ rw z refl)))
 
 -- equal faults, whatever the answers would be

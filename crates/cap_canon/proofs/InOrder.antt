@@ -426,7 +426,7 @@ pub canonical_at_end : (m : List (List ℕ)) (seen : List (List Step)) (end : �
 canonical_at_end m seen end r t trail k report caps = (to, from)
   where
     laid : (end ≡ length (segment_of m 0)) ↔ (segment_of m 0 ≡ layout (trim t))
-    laid = (checked_at_end m seen end trail k t r.charge r.depth report.denotes).laid
+    laid = (checked_at_end m seen end trail k t r.charge r.depth report.within.denotes).laid
 
     no_caps : has_cap t ≡ false
     no_caps = ap (λ n. not (n == 0)) (sym report.caps ∙ caps)
@@ -434,13 +434,13 @@ canonical_at_end m seen end r t trail k report caps = (to, from)
     to : end ≡ length (segment_of m 0) → IsCanonical m
     to e = (
       segment_of m 0,
-      record { tree = t; charge = r.charge; depth = r.depth; denotes = report.denotes; no_caps = no_caps; laid = laid.0 e },
+      record { tree = t; charge = r.charge; depth = r.depth; denotes = report.within.denotes; no_caps = no_caps; laid = laid.0 e },
       one_segment m k.one,
     )
 
     from : IsCanonical m → end ≡ length (segment_of m 0)
     from (words, h, e) =
-        let same = one_tree m 0 0 h.tree t h.charge h.depth r.charge r.depth h.denotes report.denotes in
+        let same = one_tree m 0 0 h.tree t h.charge h.depth r.charge r.depth h.denotes report.within.denotes in
         laid.1 (ap (λ u. segment_of u 0) e ∙ (h.laid ∙ ap (λ u. layout (trim u)) same.part))
 
 -- After a difference it isn't.
@@ -449,7 +449,7 @@ pub compared_at_end : (m : List (List ℕ)) (seen : List (List Step)) (end : ℕ
 compared_at_end m seen end r t trail (inl k) report caps = canonical_at_end m seen end r t trail k report caps
 compared_at_end m seen end r t trail (inr (e, k)) report caps = (
   λ same. absurd (omega (arith, e, same, k.some)),
-  λ canon. absurd (k.differs t r.charge r.depth report.denotes report.within canon),
+  λ canon. absurd (k.differs t r.charge r.depth report.within.denotes report.within.few_words canon),
 )
 
 -- It is strict all the same.

@@ -3,7 +3,7 @@ use Rattle.std.specs.Prelude.{ℕ, ◌+◌, ◌^◌, ◌<◌, ◌≤◌, ◌≡�
 use Rattle.cap_spec.specs.Canonical.{trim}
 use Rattle.cap_spec.specs.Copies.{IsCanonical}
 use Rattle.cap_spec.specs.Denoting.{Denotes, Finds}
-use Rattle.cap_spec.specs.Following.{IsComposite}
+use Rattle.cap_spec.specs.Following.{HasTag}
 use Rattle.cap_spec.specs.GreatestLimits.{most_words}
 use Rattle.cap_spec.specs.Messages.{HasWord, segment_of}
 use Rattle.cap_spec.specs.Paths.{Costs}
@@ -84,7 +84,7 @@ pub record IsNextInOrder (m : List (List ℕ)) (w end now : ℕ) : Type 0 where
   pub q : ℕ
   pub tag : ℕ
   pub finds : Finds m 0 w k t b q
-  pub tagged : IsComposite q → HasWord m t b tag
+  pub tagged : HasTag m t b q tag
   pub own : HasOwn m w end now q tag t b
 
 -- It is as a copy has it: null, or such an object.

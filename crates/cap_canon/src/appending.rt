@@ -184,7 +184,7 @@ fn append_values<M: Segments, T: CopyOutput>(
     }
     let before = words - 1;
     let last = message.word(segment, start + before);
-    let kept = last_word(code, count, words, last);
+    let kept = last_word(code, count, last);
     if kept == last {
         append_row(message, segment, start, words, copy);
         return;

@@ -35,13 +35,6 @@ pub fn canonical_into<M: Segments>(v: &Vetted<'_, M>, out: &mut [u8]) -> Result<
         (other : Result ℕ RoomFault) (new : List ℕ) → TellsRoom m out.old other new
         → (result ≡ other) × (out.new ≡ new) }
 {
-    fill_start(v, out)
-}
-
-// The same, by the result.
-fn fill_start<M: Segments>(v: &Vetted<'_, M>, out: &mut [u8]) -> Result<usize, RoomFault>
-    ensures { TellsRoom (M.segments (message_of v.now)) out.old result out.new }
-{
     if let Err(fault) = check_room(v, out.len()) {
         return Err(fault);
     }

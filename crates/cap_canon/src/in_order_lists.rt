@@ -6,7 +6,7 @@ ghost use Rattle.std.specs.Prelude.{◌≡◌, IfNone, IfSome, ℕ};
 
 use crate::wholeness::list_needs_all;
 use cap_frame::Segments;
-use cap_ptr::{data_size, list_size, middle, pointer_size};
+use cap_ptr::{data_size, list_size, middle, pointer_size, words_of_elements};
 
 /// Where a copy has the next object, if it has pointer word `w` of segment 0 and its object's own
 /// words as they are here, these from `end` on. The word is that of a list of structs, and leads to
@@ -27,12 +27,12 @@ pub(crate) fn structs_end<M: Segments>(
     ensures none { IfNone result (Differs (M.segments message.now) w end) }
 {
     let tag = message.word(s, end);
-    let (count, size) = (middle(tag), list_size(word));
-    let (data_words, pointers) = (u32::from(data_size(tag)), u32::from(pointer_size(tag)));
-    if u64::from(count) * u64::from(data_words + pointers) != u64::from(size) {
+    let size = list_size(word);
+    if words_of_elements(tag) != u64::from(size) {
         return None;
     }
-    if !list_needs_all(message, s, end + 1, count, data_words, pointers) {
+    let (data_words, pointers) = (u32::from(data_size(tag)), u32::from(pointer_size(tag)));
+    if !list_needs_all(message, s, end + 1, middle(tag), data_words, pointers) {
         return None;
     }
     Some(end + 1 + size)

@@ -8,9 +8,8 @@ ghost use Rattle.cap_spec.specs.Scalars.{scalar_words};
 ghost use Rattle.std.specs.Prelude.{◌+◌, ◌<◌, ◌↔◌, ◌≡◌, ◌≤◌, IsTrue, length};
 
 use crate::objects::read_range;
-use crate::words::rest_bits;
+use crate::words::{last_word, rest_bits};
 use cap_frame::Segments;
-use cap_words::bits;
 
 /// Whether the words of a list of values have no bits set after the last value. Each is read, since a
 /// word is known to be below 2^64 only once it is read.
@@ -30,10 +29,9 @@ pub(crate) fn ends_with_values<M: Segments>(
         (scalar_words code (values_of (M.segments message.now) 0 start code count)) }
 {
     read_range(message, 0, start, words);
-    let used = rest_bits(code, count);
-    if used == 0 {
+    if rest_bits(code, count) == 0 {
         return true;
     }
     let last = message.word(0, start + (words - 1));
-    last == bits(last, 0, used)
+    last == last_word(code, count, last)
 }

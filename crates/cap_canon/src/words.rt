@@ -10,7 +10,7 @@ ghost use Rattle.cap_canon.specs.Values.{used_bits};
 ghost use Rattle.std.specs.Prelude.{◌+◌, ◌-◌, ◌*◌, ◌%◌, ◌<◌, ◌≤◌, ◌^◌, ◌≡◌, ◌==◌, if◌then◌else◌, List, ℕ};
 
 use crate::objects::Object;
-use cap_ptr::Pointer;
+use cap_ptr::{Pointer, element_bits};
 use cap_words::bits;
 
 /// The word that leads from a pointer word to what is left of an object, which starts `offset`
@@ -91,26 +91,17 @@ fn cap_pointer(index: u32) -> u64
     pointer.word()
 }
 
-/// The last word of a list of values that has `words` words, without the bits after the last value.
-pub(crate) fn last_word(code: u8, count: u32, words: u32, word: u64) -> u64
-    requires code { code < 6 }
-    requires words { words ≡ list_words code count }
-    requires some { 0 < words }
-    ensures { result ≡ field word 0 (used_bits code count (words - 1)) }
+/// The last word of a list of values, without the bits after the last value.
+pub(crate) fn last_word(code: u8, count: u32, word: u64) -> u64
+    requires { code < 6 }
+    ensures { (before : ℕ) → list_words code count ≡ before + 1 →
+        result ≡ field word 0 (used_bits code count before) }
 {
-    bits(word, 0, last_bits(code, count, words))
-}
-
-// How many bits of the last word of such a list its values take.
-fn last_bits(code: u8, count: u32, words: u32) -> u32
-    requires code { code < 6 }
-    requires words { words ≡ list_words code count }
-    requires some { 0 < words }
-    ensures value { result ≡ used_bits code count (words - 1) }
-    ensures few { result ≤ 64 }
-{
-    let (each, per) = value_sizes(code);
-    (count - (words - 1) * per) * each
+    let used = rest_bits(code, count);
+    if used == 0 {
+        return word;
+    }
+    bits(word, 0, used)
 }
 
 /// How many bits of the last word of a list of values its values take, or 0 if they take all of them
@@ -119,34 +110,5 @@ fn last_bits(code: u8, count: u32, words: u32) -> u32
 pub(crate) fn rest_bits(code: u8, count: u32) -> u32
     ensures { result ≡ (element_bits code * count) % 64 }
 {
-    (count << value_shift(code)) % 64
-}
-
-// A value of a code has 2 to the power of this many bits, or whole words or none, if this is 6.
-#[inline(always)]
-fn value_shift(code: u8) -> u32
-    ensures few { result ≤ 6 }
-    ensures shift { (n : ℕ) → (n * 2 ^ result) % 64 ≡ (element_bits code * n) % 64 }
-{
-    match code {
-        1 => 0,
-        2 => 3,
-        3 => 4,
-        4 => 5,
-        _ => 6,
-    }
-}
-
-// How many bits a value of a code has, and how many of them a word has.
-fn value_sizes(code: u8) -> (u32, u32)
-    requires { (0 < code) × (code < 6) }
-    ensures { (result.0 ≡ element_bits code) × (result.0 * result.1 ≡ 64) }
-{
-    match code {
-        1 => (1, 64),
-        2 => (8, 8),
-        3 => (16, 4),
-        4 => (32, 2),
-        _ => (64, 1),
-    }
+    (u64::from(element_bits(code)) * u64::from(count) % 64) as u32
 }

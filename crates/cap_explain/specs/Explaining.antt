@@ -11,7 +11,7 @@ use Rattle.cap_spec.specs.declared.Step.{Step}
 use Rattle.cap_spec.specs.declared.StrictRefusal.{StrictRefusal}
 use Rattle.cap_spec.specs.declared.StrictRefusal.TheVariants.{Refused as refused, ManySegments as many}
 use Rattle.cap_spec.specs.declared.StrictRefusal.TheVariants.{Pointer as not_strict}
-use Rattle.cap_explain.specs.Forms.{difference_text, form_text, place_text, tag_text}
+use Rattle.cap_explain.specs.FormTexts.{difference_text, form_text, place_text, tag_text}
 use Rattle.cap_explain.specs.Leading.{byte_of, target_of, landing_of, segment_after, tag_of}
 use Rattle.cap_explain.specs.Leading.{is_structs, word_of}
 use Rattle.cap_explain.specs.Sentences.{names_pointer, sentence}

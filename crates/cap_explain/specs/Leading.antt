@@ -5,7 +5,7 @@ use Rattle.std.specs.Prelude.{length, Option, Some, None, slice_get}
 use Rattle.cap_spec.specs.Messages.{segment_of}
 use Rattle.cap_spec.specs.Pointers.{code, far_segment, kind, middle, pad, two}
 use Rattle.cap_vet.specs.Taken.{start_of}
-use Rattle.cap_explain.specs.Forms.{excess}
+use Rattle.cap_explain.specs.FormTexts.{excess}
 use Rattle.cap_explain.specs.declared.target.Target.{Target}
 use Rattle.cap_explain.specs.declared.landing.Landing.{Landing}
 use Rattle.cap_explain.specs.declared.landing.Landing.TheVariants.{Near, Missing, Outside, One, Two}

@@ -1,4 +1,4 @@
 pub mod Explaining
-pub mod Forms
+pub mod FormTexts
 pub mod Leading
 pub mod Sentences

@@ -1,6 +1,6 @@
 //! The texts of pointer words, by their forms and fields.
 
-ghost use Rattle.cap_explain.specs.Forms.{elements_name, excess, far_text, form_text, list_text, offset_text, other_text, size_name, sizes_text, tag_text};
+ghost use Rattle.cap_explain.specs.FormTexts.{elements_name, excess, far_text, form_text, list_text, offset_text, other_text, size_name, sizes_text, tag_text};
 ghost use Rattle.std.specs.Prelude.{◌+◌, ◌++◌, ◌≡◌, ◌≤◌, codes, length};
 
 use crate::explanation::{CAPACITY, Explanation};

@@ -1,10 +1,11 @@
 -- A struct whose one pointer leads back to the struct: the pointer that passes a limit is the first fault.
 use Rattle.std.proofs.Common.{◌≡◌, ◌≤◌, ◌<◌, ◌+◌, ◌⊎◌, ◌++◌, [], ◌∷◌, List, ℕ, zero, suc, length, inl, inr, refl, sym, subst, ap, ap₂, ◌∙◌, arith, lit<, lit≤}
 use Rattle.std.proofs.lemmas.Bool.{cases_lt}
+use Rattle.cap_spec.specs.Lists.{IsOneOf}
 use Rattle.cap_spec.specs.Faults.{AreShallow, IsFirstReason, IsRefused, is_deep, is_past}
 use Rattle.cap_spec.specs.Following.{near}
 use Rattle.cap_spec.specs.Denoting.{Finds}
-use Rattle.cap_spec.specs.Paths.{Before, Costs, Goes, IsOneOf, IsTour, Reaches, Rises, Spot, Walks, word}
+use Rattle.cap_spec.specs.Paths.{Before, Costs, Goes, IsTour, Reaches, Rises, Spot, Walks, word}
 use Rattle.cap_spec.specs.Verdicts.{CostOf}
 use Rattle.cap_spec.specs.declared.Reason.{Reason}
 use Rattle.cap_spec.specs.declared.Reason.TheVariants.{DepthLimit, WordLimit}
@@ -39,12 +40,12 @@ goes_around (Ptr i) spot (k, t, b, q, finds, zero_kind, few, e) =
     let less : i < 1 = rw o.shape at few in
     let none : i ≡ 0 = omega (arith, less) in
     (ap Ptr none, rw (o.segment, o.start, o.shape, none) at e)
-goes_around (Item i) spot (inl h) =
-    let o = one_object circle 0 0 h.0 h.1 h.2 h.3 0 0 0 0x00010000fffffffc h.4 finds_circle in
-    absurd (omega (arith, rw o.shape at h.5))
-goes_around (Item i) spot (inr h) =
-    let o = one_object circle 0 0 h.0 h.1 h.2 h.3 0 0 0 0x00010000fffffffc h.5 finds_circle in
-    absurd (omega (arith, rw o.shape at h.6))
+goes_around (Item i) spot (inl (k, t, b, q, finds, is_list, of_pointers, less, ends)) =
+    let o = one_object circle 0 0 k t b q 0 0 0 0x00010000fffffffc finds finds_circle in
+    absurd (omega (arith, rw o.shape at is_list))
+goes_around (Item i) spot (inr (k, t, b, q, tag, finds, is_list, of_structs, has_tag, less, ends)) =
+    let o = one_object circle 0 0 k t b q 0 0 0 0x00010000fffffffc finds finds_circle in
+    absurd (omega (arith, rw o.shape at is_list))
 
 -- so each path goes around
 walks_around : (n : ℕ) → Walks circle (word 0 0) (around n) n (word 0 0)

@@ -12,10 +12,13 @@ HasFewPointers (word s w) = ⊤
 HasFewPointers (element t b ds ps) = ps < 2 ^ 16
 
 step_few : (m : List (List ℕ)) (a : Spot) (step : Step) (b : Spot) → Goes m a step b → HasFewPointers b
-step_few m (word s w) (Ptr i) b g = subst (λ (z : Spot). HasFewPointers z) (sym g.7) tt
-step_few m (word s w) (Item i) b (inl g) = subst (λ (z : Spot). HasFewPointers z) (sym g.8) tt
+step_few m (word s w) (Ptr i) b (k, t, b', q, finds, is_struct, less, ends) =
+    subst (λ (z : Spot). HasFewPointers z) (sym ends) tt
+step_few m (word s w) (Item i) b (inl (k, t, b', q, finds, is_list, of_pointers, less, ends)) =
+    subst (λ (z : Spot). HasFewPointers z) (sym ends) tt
 step_few m (word s w) (Item i) b (inr g) =
-    subst (λ (z : Spot). HasFewPointers z) (sym g.10) (field_below g.4 48 16)
+    let (k, t, b', q, tag, finds, is_list, of_structs, has_tag, less, ends) = g in
+    subst (λ (z : Spot). HasFewPointers z) (sym ends) (field_below tag 48 16)
 step_few m (element t b ds ps) (Ptr i) c g = subst (λ (z : Spot). HasFewPointers z) (sym g.1) tt
 step_few m (element t b ds ps) (Item i) c g = absurd g
 
@@ -26,7 +29,8 @@ walk_few m a (step ∷ path) n b h g = walk_few m g.0 path g.1 b (step_few m a s
 
 -- So no step to a pointer has a higher number,
 pointer_below : (m : List (List ℕ)) (a : Spot) (i : ℕ) (b : Spot) → HasFewPointers a → Goes m a (Ptr i) b → i < 65535
-pointer_below m (word s w) i b h g = let few = field_below g.3 48 16 in omega (arith, few, g.6)
+pointer_below m (word s w) i b h (k, t, b', q, finds, is_struct, less, ends) =
+    let few = field_below q 48 16 in omega (arith, few, less)
 pointer_below m (element t c ds ps) i b h g = omega (arith, h, g.0)
 
 pub no_high_pointer : (m : List (List ℕ)) (path : List Step) (level i : ℕ) (a b : Spot) → Comes m path level a → 65535 ≤ i
@@ -36,6 +40,9 @@ no_high_pointer m path level i a b c high g =
 
 -- and none to an element.
 pub no_high_element : (m : List (List ℕ)) (a b : Spot) (i : ℕ) → 2 ^ 30 ≤ i → Goes m a (Item i) b → ⊥
-no_high_element m (word s w) b i high (inl g) = let few = field_below g.3 35 29 in omega (arith, high, few, g.7)
-no_high_element m (word s w) b i high (inr g) = let few = field_below g.4 2 30 in omega (arith, high, few, g.9)
+no_high_element m (word s w) b i high (inl (k, t, b', q, finds, is_list, of_pointers, less, ends)) =
+    let few = field_below q 35 29 in omega (arith, high, few, less)
+no_high_element m (word s w) b i high (inr g) =
+    let (k, t, b', q, tag, finds, is_list, of_structs, has_tag, less, ends) = g in
+    let few = field_below tag 2 30 in omega (arith, high, few, less)
 no_high_element m (element t c ds ps) b i high g = g

@@ -1,9 +1,11 @@
 -- A struct of one word, within its limits and past each of them.
 use Rattle.std.proofs.Common.{◌≡◌, ◌⊎◌, [], ◌∷◌, List, ℕ, inl, inr, refl, sym, subst, arith, lit<, lit≤}
-use Rattle.cap_spec.specs.Faults.{IsDeepAt, IsFirstReason, IsRefused, is_deep, is_past}
+use Rattle.cap_spec.specs.Lists.{IsOneOf}
+use Rattle.cap_spec.specs.Verdicts.{IsDeepAt}
+use Rattle.cap_spec.specs.Faults.{IsFirstReason, IsRefused, is_deep, is_past}
 use Rattle.cap_spec.specs.Following.{near}
 use Rattle.cap_spec.specs.Denoting.{Denotes, Finds}
-use Rattle.cap_spec.specs.Paths.{Before, IsOneOf, IsTour, Reaches}
+use Rattle.cap_spec.specs.Paths.{Before, IsTour, Reaches}
 use Rattle.cap_spec.specs.Tree.{struct, none}
 use Rattle.cap_spec.specs.declared.Reason.{Reason}
 use Rattle.cap_spec.specs.declared.Reason.TheVariants.{DepthLimit, WordLimit}

@@ -1,14 +1,15 @@
 -- A struct of two pointers to one struct of a word: accepted, past a word limit of 3 at the second pointer, and not exclusive
 -- there. A path in it is charged, or refused.
 use Rattle.std.proofs.Common.{ℕ, List, [], ◌∷◌, ◌≡◌, ◌⊎◌, refl, sym, ap, ◌∙◌, subst, arith, lit<, lit≤, inl, inr}
+use Rattle.cap_spec.specs.Lists.{AreDistinct, IsOneOf}
 use Rattle.cap_spec.specs.Denoting.{Finds, Denotes, DenoteEach}
-use Rattle.cap_spec.specs.Faults.{IsDeepAt, IsRefused, is_past}
+use Rattle.cap_spec.specs.Faults.{IsRefused, is_past}
 use Rattle.cap_spec.specs.Following.{near}
 use Rattle.cap_spec.specs.Getting.{AreOnPath, Charges, IsFaultOnPath}
-use Rattle.cap_spec.specs.Occupying.{AreApart, IsFirstOverlap, IsPlaceOf, Occupies, Overlaps, twice, on_root, on_earlier}
-use Rattle.cap_spec.specs.Paths.{word, Before, Costs, IsOneOf, IsTour, Reaches}
+use Rattle.cap_spec.specs.Occupying.{IsFirstOverlap, Occupies, Overlaps, twice, on_root, on_earlier}
+use Rattle.cap_spec.specs.Paths.{word, Before, Costs, IsTour, Reaches}
 use Rattle.cap_spec.specs.Tree.{Tree, struct, none, more, cap_count, pointer_count}
-use Rattle.cap_spec.specs.Verdicts.{CostOf}
+use Rattle.cap_spec.specs.Verdicts.{CostOf, IsDeepAt}
 use Rattle.cap_spec.specs.declared.Reason.TheVariants.{WordLimit}
 use Rattle.cap_spec.specs.declared.Step.{Step}
 use Rattle.cap_spec.specs.declared.Step.TheVariants.{Ptr}
@@ -207,10 +208,10 @@ apart_words w v n e = n (ap (λ (x : ℕ × ℕ). x.1) e)
 
 root_alone : Overlaps shared [] → ⊥
 root_alone (twice level s w used r occupied n) =
-    n (subst AreApart (sym (uses_of [] 1 0 0 ((0, 1) ∷ (0, 2) ∷ []) reaches_both used_both level s w used r occupied))
+    n (subst AreDistinct (sym (uses_of [] 1 0 0 ((0, 1) ∷ (0, 2) ∷ []) reaches_both used_both level s w used r occupied))
     ((λ h. elim h [ inl e ↦ apart_words 1 2 (λ x. omega (arith, x)) e | inr never ↦ never ]), ((λ h. h), tt)))
 root_alone (on_root (level, s, w, used, r, occupied, place)) =
-    elim (subst (IsPlaceOf (0, 0)) (uses_of [] 1 0 0 ((0, 1) ∷ (0, 2) ∷ []) reaches_both used_both level s w used r occupied) place) [
+    elim (subst (IsOneOf (0, 0)) (uses_of [] 1 0 0 ((0, 1) ∷ (0, 2) ∷ []) reaches_both used_both level s w used r occupied) place) [
       | inl e ↦ apart_words 0 1 (λ x. omega (arith, x)) e
       | inr (inl e) ↦ apart_words 0 2 (λ x. omega (arith, x)) e
       | inr (inr never) ↦ never
@@ -243,7 +244,7 @@ before_second q before (inr (inr (inl e))) = absurd (late (subst (λ (u : List S
     late (inr (same, never)) = never
 before_second q before (inr (inr (inr never))) = absurd never
 
-not_third : (x : ℕ × ℕ) → IsPlaceOf x ((0, 1) ∷ (0, 2) ∷ []) → IsPlaceOf x ((0, 3) ∷ []) → ⊥
+not_third : (x : ℕ × ℕ) → IsOneOf x ((0, 1) ∷ (0, 2) ∷ []) → IsOneOf x ((0, 3) ∷ []) → ⊥
 not_third x (inl e) (inl f) = apart_words 1 3 (λ n. omega (arith, n)) (sym e ∙ f)
 not_third x (inr (inl e)) (inl f) = apart_words 2 3 (λ n. omega (arith, n)) (sym e ∙ f)
 not_third x (inr (inr never)) (inl f) = never
@@ -251,10 +252,10 @@ not_third x h (inr never) = never
 
 first_alone : Overlaps shared (Ptr 0 ∷ []) → ⊥
 first_alone (twice level s w used r occupied n) =
-    n (subst AreApart (sym (uses_of (Ptr 0 ∷ []) 2 0 1 ((0, 3) ∷ []) reaches_first used_first level s w used r occupied))
+    n (subst AreDistinct (sym (uses_of (Ptr 0 ∷ []) 2 0 1 ((0, 3) ∷ []) reaches_first used_first level s w used r occupied))
     ((λ h. h), tt))
 first_alone (on_root (level, s, w, used, r, occupied, place)) =
-    elim (subst (IsPlaceOf (0, 0)) (uses_of (Ptr 0 ∷ []) 2 0 1 ((0, 3) ∷ []) reaches_first used_first level s w used r occupied) place) [
+    elim (subst (IsOneOf (0, 0)) (uses_of (Ptr 0 ∷ []) 2 0 1 ((0, 3) ∷ []) reaches_first used_first level s w used r occupied) place) [
       | inl e ↦ apart_words 0 3 (λ x. omega (arith, x)) e
       | inr never ↦ never
     ]
@@ -264,7 +265,7 @@ first_alone (on_earlier other x before (l, s, w, used, r, occupied, place) (l', 
     let here = uses_of [] 1 0 0 ((0, 1) ∷ (0, 2) ∷ []) reaches_both used_both l s w used
     (subst (λ (u : List Step). Reaches shared u l s w) root r) occupied in
     let there = uses_of (Ptr 0 ∷ []) 2 0 1 ((0, 3) ∷ []) reaches_first used_first l' s' w' used' r' occupied' in
-    not_third x (subst (IsPlaceOf x) here place) (subst (IsPlaceOf x) there place')
+    not_third x (subst (IsOneOf x) here place) (subst (IsOneOf x) there place')
 
 reached_of : (p : List Step) → Overlaps shared p → (level s w : ℕ) × Reaches shared p level s w
 reached_of p (twice level s w used r occupied n) = (level, s, w, r)
@@ -275,18 +276,16 @@ reached_of p (on_earlier other x before u (level, s, w, used, r, occupied, place
 first_overlap : IsFirstOverlap shared 0 2 3
 first_overlap = record {
   path = Ptr 1 ∷ [];
-  level = 2;
-  tour = all_paths;
-  reached = reaches_second;
-  is_tour = tour_shared;
-  number = refl;
-  overlaps = overlaps_second;
-  first = λ other before overlaps.
-      elim (before_second other before
-      ((pointer_path_reached shared shared_tree 4 2 denotes_shared other).1 (reached_of other overlaps))) [
-        | inl e ↦ root_alone (subst (Overlaps shared) e overlaps)
-        | inr e ↦ first_alone (subst (Overlaps shared) e overlaps)
-      ];
+  numbered = record { level = 2; tour = all_paths; reached = reaches_second; is_tour = tour_shared; count = refl };
+  first = record {
+    holds = overlaps_second;
+    first = λ other before overlaps.
+        elim (before_second other before
+        ((pointer_path_reached shared shared_tree 4 2 denotes_shared other).1 (reached_of other overlaps))) [
+          | inl e ↦ root_alone (subst (Overlaps shared) e overlaps)
+          | inr e ↦ first_alone (subst (Overlaps shared) e overlaps)
+        ];
+  };
 }
 
 -- The pointers on the path to the first: a budget of 5 words has 2 left,

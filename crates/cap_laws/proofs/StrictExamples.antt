@@ -2,10 +2,11 @@
 -- and one with a two-word pad that is strict.
 use Rattle.std.proofs.Common.{◌≡◌, ◌⊎◌, [], ◌∷◌, List, ℕ, inl, inr, refl, sym, subst, arith, lit<, lit≤}
 use Rattle.std.specs.Prelude.{pos}
+use Rattle.cap_spec.specs.Lists.{IsOneOf}
 use Rattle.cap_spec.specs.Denoting.{Denotes, Finds}
 use Rattle.cap_spec.specs.Following.{near, one_pad, two_pads, to_object, to_null, to_cap}
 use Rattle.cap_spec.specs.Messages.{segment_of}
-use Rattle.cap_spec.specs.Paths.{Before, IsOneOf, IsTour, Reaches}
+use Rattle.cap_spec.specs.Paths.{Before, IsTour, Reaches}
 use Rattle.cap_spec.specs.Strict.{IsFirstLax, IsLaxAt, IsStrict}
 use Rattle.cap_spec.specs.Tree.{null}
 use Rattle.cap_spec.specs.declared.Lax.{Lax}
@@ -74,14 +75,7 @@ null-denoted = (near 0 refl (λ e. absurd (omega (arith, e))) refl refl, refl)
 
 strict-null : IsStrict ((0 ∷ []) ∷ []) 0 0
 strict-null = record {
-  accepted = record {
-    tree = null;
-    charge = 0;
-    levels = 0;
-    denotes = null-denoted;
-    few_words = lit≤ tt;
-    few_levels = lit≤ tt;
-  };
+  accepted = (null, 0, 0, record { denotes = null-denoted; few_words = lit≤ tt; few_levels = lit≤ tt });
   few_segments = lit≤ tt;
   none = none_lax ((0 ∷ []) ∷ []) null 0 0 null-denoted (lit≤ tt);
 }

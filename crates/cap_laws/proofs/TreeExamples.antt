@@ -2,13 +2,14 @@
 use Rattle.std.proofs.Common.{ℕ, List, [], ◌∷◌, ◌≡◌, ◌<◌, ◌⊎◌, refl, sym, ap, ◌∙◌, subst}
 use Rattle.std.proofs.Common.{pos, arith, lit<, lit≤, inl, inr}
 use Rattle.std.specs.List.{AllByRecursion}
+use Rattle.cap_spec.specs.Lists.{IsOneOf, AreDistinct}
 use Rattle.cap_spec.specs.Words.{IsWord}
 use Rattle.cap_spec.specs.Following.{near, rank, to_cap, to_null, to_object, Condition, Wrong}
 use Rattle.cap_spec.specs.Tree.{Tree, cap, struct, structs, none, more, IsTree, pointer_count, cap_count}
 use Rattle.cap_spec.specs.Denoting.{Finds, Denotes, DenoteEach, AreElements}
 use Rattle.cap_spec.specs.Faults.{IsFirstReason, IsRefused, is_past}
-use Rattle.cap_spec.specs.Paths.{word, Reaches, Before, IsOneOf, IsPlace, IsTour, IsFirstCap}
-use Rattle.cap_spec.specs.Occupying.{AreApart, IsDisjoint, IsPlaceOf, Occupies}
+use Rattle.cap_spec.specs.Paths.{word, Reaches, Before, IsPlace, IsTour, IsFirstCap}
+use Rattle.cap_spec.specs.Occupying.{IsDisjoint, Occupies}
 use Rattle.cap_spec.specs.Verdicts.{CostOf, Justified}
 use Rattle.cap_spec.specs.declared.Reason.{Reason}
 use Rattle.cap_spec.specs.declared.Reason.TheVariants.{NoRoot, Reserved, WordLimit}
@@ -347,12 +348,12 @@ used_on_path path level s w used r occupied = let a = root_alone path level s w 
 disjoint_lone : IsDisjoint lone
 disjoint_lone = record {
   root = λ path (level, s, w, used, r, occupied, place).
-      elim (subst (IsPlaceOf (0, 0)) (used_on_path path level s w used r occupied) place) [
+      elim (subst (IsOneOf (0, 0)) (used_on_path path level s w used r occupied) place) [
         | inl e ↦
             zero_not_one (ap (λ (x : ℕ × ℕ). x.1) e)
         | inr e ↦ e
       ];
-  each = λ path level s w used r occupied. subst AreApart
+  each = λ path level s w used r occupied. subst AreDistinct
       (sym (used_on_path path level s w used r occupied)) ((λ h. h), tt);
   apart = λ path other x (level, s, w, used, r, occupied, place) (level', s', w', used', r', occupied', place').
       (root_alone path level s w r).0 ∙ sym (root_alone other level' s' w' r').0;

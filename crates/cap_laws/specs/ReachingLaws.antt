@@ -1,7 +1,6 @@
 -- Where paths lead, as the laws of paths and verdicts say it (profile; standard: Objects).
 use Rattle.std.specs.Prelude.{ℕ, List}
-use Rattle.cap_spec.specs.Messages.{HasWord}
-use Rattle.cap_spec.specs.Following.{IsComposite, Leads, to_cap}
+use Rattle.cap_spec.specs.Following.{HasTag}
 use Rattle.cap_spec.specs.Denoting.{Finds}
 use Rattle.cap_spec.specs.Paths.{Reaches}
 use Rattle.cap_spec.specs.declared.Step.{Step}
@@ -10,12 +9,8 @@ use Rattle.cap_spec.specs.declared.Step.{Step}
 abbrev pub ReachesSome : List (List ℕ) → List Step → Type 0
 ReachesSome m path = (level s w : ℕ) × Reaches m path level s w
 
--- it reaches one that leads to a capability
-abbrev pub ReachesCap : List (List ℕ) → List Step → Type 0
-ReachesCap m path = (level s w k i : ℕ) × Reaches m path level s w × Leads m s w k (to_cap i)
-
 -- It reaches one that leads to an object, whose shape is in the word q. The tag of a composite list is
 -- the word before its elements.
 abbrev pub ReachesObject : List (List ℕ) → List Step → ℕ → ℕ → ℕ → Type 0
 ReachesObject m path level q tag = (s w k u b : ℕ) × Reaches m path level s w × Finds m s w k u b q
-    × (IsComposite q → HasWord m u b tag)
+    × HasTag m u b q tag

@@ -4,14 +4,13 @@ ghost use Rattle.std.specs.Prelude.{ℕ, true, length, List, [], ◌∷◌, ◌+
 ghost use Rattle.cap_spec.specs.declared.Step.{Step};
 ghost use Rattle.cap_spec.specs.declared.Step.TheVariants.{Item, Ptr};
 ghost use Rattle.cap_spec.specs.Tree.{Tree, node_at, pointer_count, cap_count, has_cap};
-ghost use Rattle.cap_spec.specs.Following.{Leads, to_cap};
 ghost use Rattle.cap_spec.specs.Denoting.{Denotes};
-ghost use Rattle.cap_spec.specs.Paths.{Spot, Goes, Walks, Comes, Reaches, Before, Rises, IsOneOf, IsTour, IsFirstCap, level_of};
-ghost use Rattle.cap_spec.specs.Verdicts.{AreDistinct};
+ghost use Rattle.cap_spec.specs.Paths.{Spot, Goes, Walks, Comes, Reaches, Before, Rises, IsTour, IsFirstCap, level_of, ReachesCap};
+ghost use Rattle.cap_spec.specs.Lists.{IsOneOf, AreDistinct};
 ghost use Rattle.cap_spec.specs.Standing.{DenotesAt};
 ghost use Rattle.cap_spec.specs.PathTexts.{IsPath, IsBadAt, IsStep, path_text};
 ghost use Rattle.std.specs.List.{AllByRecursion};
-ghost use Rattle.cap_laws.specs.ReachingLaws.{ReachesCap, ReachesSome};
+ghost use Rattle.cap_laws.specs.ReachingLaws.{ReachesSome};
 
 /// A path reaches at most one pointer word, at one level: one step leads from a spot to one spot,
 /// and a path comes to one spot.

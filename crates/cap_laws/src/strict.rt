@@ -1,6 +1,7 @@
 //! Messages without the forms that common readers reject.
 
 ghost use Rattle.std.specs.Prelude.{ℕ, List, [], ◌∷◌, ◌≡◌, ◌≤◌, ◌<◌, ◌^◌, ◌⊎◌, length};
+ghost use Rattle.cap_spec.specs.Accepting.{IsWithin};
 ghost use Rattle.cap_spec.specs.declared.Lax.{Lax};
 ghost use Rattle.cap_spec.specs.declared.Refusal.{Refusal};
 ghost use Rattle.cap_spec.specs.declared.Step.{Step};
@@ -11,7 +12,7 @@ ghost use Rattle.cap_spec.specs.Faults.{IsRefused};
 ghost use Rattle.cap_spec.specs.Following.{Lead, Leads};
 ghost use Rattle.cap_spec.specs.Messages.{segment_of};
 ghost use Rattle.cap_spec.specs.Pointers.{extent};
-ghost use Rattle.cap_spec.specs.Strict.{IsFirstLax, IsLax, IsLaxAt, IsStrict, IsStrictFault, IsWithin};
+ghost use Rattle.cap_spec.specs.Strict.{IsFirstLax, IsLax, IsLaxAt, IsStrict, IsStrictFault};
 ghost use Rattle.cap_spec.specs.Tree.{Tree};
 
 /// A pointer has at most one of the forms that common readers reject, and then it has a landing
@@ -58,7 +59,7 @@ pub fn strict_or_one_fault()
 /// It is strict within wider limits too.
 pub fn strict_is_accepted()
     ensures tree { (m : List (List ℕ)) (words depth : ℕ) → IsStrict m words depth →
-        (t : Tree) × (c d : ℕ) × Denotes m 0 0 t c d × (c ≤ words) × (d ≤ depth) }
+        IsWithin m words depth }
     ensures not_refused { (m : List (List ℕ)) (words depth : ℕ) (refusal : Refusal) →
         IsStrict m words depth → ¬ IsRefused m words depth refusal }
     ensures wider { (m : List (List ℕ)) (words depth words' depth' : ℕ) →

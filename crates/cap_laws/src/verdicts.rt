@@ -1,16 +1,18 @@
 //! What a message's root denotes, and how a message may be refused.
 
-ghost use Rattle.std.specs.Prelude.{ℕ, List, ◌≡◌, ◌≤◌, ◌<◌, ◌+◌, ◌↔◌, length};
+ghost use Rattle.std.specs.Prelude.{ℕ, List, ◌≡◌, ◌≤◌, ◌<◌, ◌+◌, ◌↔◌};
+ghost use Rattle.cap_spec.specs.Lists.{IsOneOf, AreDistinct};
 ghost use Rattle.cap_spec.specs.declared.Step.{Step};
 ghost use Rattle.cap_spec.specs.declared.Reason.{Reason};
 ghost use Rattle.cap_spec.specs.declared.Refusal.{Refusal};
+ghost use Rattle.cap_spec.specs.Accepting.{IsWithin};
 ghost use Rattle.cap_spec.specs.Following.{Wrong};
 ghost use Rattle.cap_spec.specs.Tree.{Tree};
 ghost use Rattle.cap_spec.specs.Denoting.{Denotes};
-ghost use Rattle.cap_spec.specs.Paths.{Reaches, Rises, IsOneOf};
+ghost use Rattle.cap_spec.specs.Paths.{Reaches, Rises};
 ghost use Rattle.cap_spec.specs.Faults.{IsRefused};
 ghost use Rattle.cap_spec.specs.Getting.{AreOnPath, Charges, IsRefusedOnPath};
-ghost use Rattle.cap_spec.specs.Verdicts.{CostOf, AreDistinct, Justified, levels_below};
+ghost use Rattle.cap_spec.specs.Verdicts.{CostOf, Justified, levels_below};
 ghost use Rattle.cap_laws.specs.ReachingLaws.{ReachesObject, ReachesSome};
 
 /// The charge of the root's tree is what following the pointer words that its paths reach costs,
@@ -38,8 +40,8 @@ pub fn reached_pointers_of_tree()
 
 /// A message whose root denotes a tree within the limits has no justified refusal.
 pub fn tree_within_limits_is_not_refused()
-    ensures { (m : List (List ℕ)) (t : Tree) (c d words depth : ℕ) (refusal : Refusal) →
-        Denotes m 0 0 t c d → c ≤ words → d ≤ depth → ¬ Justified m words depth refusal }
+    ensures { (m : List (List ℕ)) (words depth : ℕ) (refusal : Refusal) →
+        IsWithin m words depth → ¬ Justified m words depth refusal }
 {}
 
 /// A refusal at the first fault is justified: its place is reached, and its reason holds there.
@@ -51,8 +53,8 @@ pub fn refused_is_justified()
 /// A message isn't both accepted and refused under the same limits: where the root denotes a tree
 /// within them, there is no first fault.
 pub fn accepted_is_not_refused()
-    ensures { (m : List (List ℕ)) (t : Tree) (c d words depth : ℕ) (refusal : Refusal) →
-        Denotes m 0 0 t c d → c ≤ words → d ≤ depth → ¬ IsRefused m words depth refusal }
+    ensures { (m : List (List ℕ)) (words depth : ℕ) (refusal : Refusal) →
+        IsWithin m words depth → ¬ IsRefused m words depth refusal }
 {}
 
 /// A message is refused in one way: of two refusals under the same limits, each at the first fault,

@@ -3,7 +3,7 @@ use Rattle.std.proofs.Common.{◌≡◌, ◌≢◌, subst, ℕ, zero, suc, ◌+�
 use Rattle.std.proofs.Common.{Bool, true, false, List, [], ◌∷◌, ◌++◌, length, take, drop, length-take, refl}
 use Rattle.std.proofs.Common.{sym, ap, ◌∙◌, arith, get_or, ⊎_elim}
 use Rattle.std.proofs.lemmas.Bool.{eqb-true, eq-eqb, ne_eqb, cond-true, cond-false, cases_lt}
-use Rattle.std.proofs.lemmas.List.{take-append-drop}
+use Rattle.std.proofs.lemmas.List.{length-take-le, take-append-drop}
 use Rattle.std.proofs.Math.Nat.{pow-succ'}
 use lib.Count.{ones, ones_step}
 use Rattle.std.proofs.Math.ListN.{get_or-append}
@@ -77,6 +77,14 @@ plain_same q false tag bs ys o e = refl
 pub plain_of-append : (tag : ℕ) (bs ys : List ℕ) → length bs ≡ head_rest tag → plain_of tag (bs ++ ys) ≡ plain_of tag bs
 unfolding head_rest plain_of
 plain_of-append tag bs ys e = plain_same (eqb tag 0) (eqb tag 255) tag bs ys (λ t. let z = eqb-true tag 0 t in ap (λ x. eqb x 255) z) e
+
+-- What goes by the first bytes is the same of two lists that begin with the same.
+pub by_front : (f : List ℕ → ℕ) (n : ℕ) (bs ys : List ℕ) → ((xs more : List ℕ) → length xs ≡ n → f (xs ++ more) ≡ f xs)
+    → n ≤ length ys → take n bs ≡ take n ys → f bs ≡ f ys
+by_front f n bs ys own fits same =
+    let front : length (take n ys) ≡ n = length-take-le n ys fits in
+    ap f (sym (take-append-drop n bs)) ∙ own (take n bs) (drop n bs) (ap length same ∙ front) ∙ ap f same
+    ∙ sym (own (take n ys) (drop n ys) front) ∙ ap f (take-append-drop n ys)
 
 -- how many bytes the tags of runs name, and any other
 pub head_rest-zeros : (tag : ℕ) → tag ≡ 0 → head_rest tag ≡ 1

@@ -2,25 +2,25 @@
 //! what comes after that one (encoding: Packing).
 
 ghost use Rattle.cap_pack.specs.Course.{first_word, head_rest, plain_of, zeros_of};
-ghost use Rattle.std.specs.Prelude.{◌<◌, ◌≡◌, ◌≤◌};
+ghost use Rattle.std.specs.Prelude.{◌<◌, ◌≡◌, ◌≤◌, IfNone, IfSome, drop, length, slice_index, take};
 
 use super::lanes::scatter;
 use byteorder::{ByteOrder, LittleEndian};
 
 /// What the head of a group says.
 #[derive(Clone, Copy)]
-pub(crate) struct Head {
-    /// the first word
-    pub(crate) word: u64,
-    /// how many zero words come after it
-    pub(crate) zeros: u8,
-    /// how many literal words come after it, each by its own eight bytes
-    pub(crate) plain: u8,
+pub struct Head {
+    /// The first word.
+    pub word: u64,
+    /// How many zero words come after it.
+    pub zeros: u8,
+    /// How many literal words come after it, each by its own eight bytes.
+    pub plain: u8,
 }
 
 /// How many bytes of a head follow the tag.
 #[inline(always)]
-pub(crate) fn head_len(tag: u8) -> usize
+pub fn head_len(tag: u8) -> usize
     ensures rest { result ≡ head_rest tag }
     ensures some { 0 < result }
     ensures few { result ≤ 9 }
@@ -60,4 +60,42 @@ pub(crate) fn head_of(tag: u8, room: &[u8; 9]) -> Head
             }
         }
     }
+}
+
+/// What the head of the first group says, or `None` if the bytes end before it does.
+#[inline(always)]
+pub fn front_head(bytes: &[u8]) -> Option<Head>
+    ensures word { IfSome result (λ h.
+        h.word ≡ first_word (slice_index bytes.now 0) (drop 1 bytes.now)) }
+    ensures zeros { IfSome result (λ h.
+        h.zeros ≡ zeros_of (slice_index bytes.now 0) (drop 1 bytes.now)) }
+    ensures plain { IfSome result (λ h.
+        h.plain ≡ plain_of (slice_index bytes.now 0) (drop 1 bytes.now)) }
+    ensures whole { IfSome result (λ _. head_rest (slice_index bytes.now 0) < length bytes.now) }
+    ensures none { IfNone result (length bytes.now ≤ head_rest (slice_index bytes.now 0)) }
+{
+    if bytes.is_empty() {
+        return None;
+    }
+    let tag = bytes[0];
+    let len = head_len(tag);
+    if bytes.len() <= len {
+        return None;
+    }
+    Some(head_of(tag, &after_tag(bytes, len)))
+}
+
+// The nine bytes after a tag, or as many as its head has and then zeros.
+#[inline(always)]
+fn after_tag(bytes: &[u8], len: usize) -> [u8; 9]
+    requires { (len ≤ 9) × (len < length bytes.now) }
+    ensures { take len result ≡ take len (drop 1 bytes.now) }
+{
+    let mut room = [0; 9];
+    if bytes.len() > 9 {
+        room.copy_from_slice(&bytes[1..10]);
+        return room;
+    }
+    room[..len].copy_from_slice(&bytes[1..1 + len]);
+    room
 }

@@ -15,6 +15,7 @@ mod spelling;
 mod unpacker;
 
 pub use buffers::pack_into;
+pub use head::{Head, front_head, head_len};
 pub use in_parts::{PART_BYTES, PackedPart, pack_part};
 pub use packer::Packer;
 pub use unpacker::Unpacker;

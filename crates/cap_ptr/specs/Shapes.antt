@@ -1,9 +1,10 @@
 -- What the answer of a following says of a pointer word (standard: Structs, Lists; the charge is the profile's).
-use Rattle.std.specs.Prelude.{ℕ, ◌+◌, ◌^◌, ◌<◌, ◌≡◌, ◌≢◌, List, Result, Ok, Err}
-use Rattle.cap_spec.specs.Messages.{HasWord}
+use Rattle.std.specs.Prelude.{ℕ, ◌+◌, ◌^◌, ◌<◌, ◌≤◌, ◌≡◌, ◌≢◌, List, length, Result, Ok, Err}
+use Rattle.cap_spec.specs.Messages.{HasWord, segment_of}
 use Rattle.cap_spec.specs.Pointers.{kind, middle, code, data_size, pointer_size, list_size, extent}
 use Rattle.cap_spec.specs.Following.{Leads, to_null, to_cap, IsComposite, TagFits, Wrong, extra}
 use Rattle.cap_spec.specs.Denoting.{Finds}
+use Rattle.cap_spec.specs.ObjectShapes.{IsPointersShape, IsScalarsShape, IsStructShape, IsStructsShape}
 use Rattle.cap_spec.specs.declared.Reason.{Reason}
 use Rattle.cap_ptr.specs.declared.shapes.Shape.{Shape}
 use Rattle.cap_ptr.specs.declared.shapes.Shape.TheVariants.{Struct, Scalars, Pointers, Structs}
@@ -14,34 +15,6 @@ use Rattle.cap_ptr.specs.declared.shapes.Followed.TheVariants as followed
 -- the word q is that of a struct, or of a list that has no tag
 abbrev pub IsPlain : ℕ → Type 0
 IsPlain q = (kind q < 2) × (kind q ≡ 1 → code q ≢ 7)
-
--- the word q encodes a struct of d data words and n pointers
-pub record IsStructShape (q d n : ℕ) : Type 0 where
-  pub kind : kind q ≡ 0
-  pub data_words : d ≡ data_size q
-  pub pointers : n ≡ pointer_size q
-
--- a list of n values of code c that aren't pointers
-pub record IsScalarsShape (q c n : ℕ) : Type 0 where
-  pub kind : kind q ≡ 1
-  pub code : c ≡ code q
-  pub scalar : c < 6
-  pub count : n ≡ list_size q
-
--- a list of n pointers
-pub record IsPointersShape (q n : ℕ) : Type 0 where
-  pub kind : kind q ≡ 1
-  pub code : code q ≡ 6
-  pub count : n ≡ list_size q
-
--- a list of n structs of d data words and p pointers, by its tag word, in size words
-pub record IsStructsShape (q tag size n d p : ℕ) : Type 0 where
-  pub kind : kind q ≡ 1
-  pub code : code q ≡ 7
-  pub words : size ≡ list_size q
-  pub count : n ≡ middle tag
-  pub data_words : d ≡ data_size tag
-  pub pointers : p ≡ pointer_size tag
 
 -- the shape that the word q encodes, for a list of structs with its tag word
 abbrev pub IsShape : ℕ → ℕ → Shape → Type 0
@@ -70,6 +43,13 @@ FindsTargetBy m s w q tag x = FindsObject m s w x.pads x.segment x.start q tag x
 -- the pointer word at s:w leads to this target
 abbrev pub FindsTarget : List (List ℕ) → ℕ → ℕ → Target → Type 0
 FindsTarget m s w x = (q tag : ℕ) × FindsTargetBy m s w q tag x
+
+-- The words of the list of structs of the word q at t:b lie inside their segment, this tag first.
+pub record HasListAt (m : List (List ℕ)) (t b q tag : ℕ) : Type 0 where
+  pub list : IsComposite q
+  pub exists : t < length m
+  pub inside : b + extent q ≤ length (segment_of m t)
+  pub has : HasWord m t b tag
 
 -- what the pointer word at s:w leads to
 abbrev pub IsFollowed : List (List ℕ) → ℕ → ℕ → Followed → Type 0

@@ -4,6 +4,7 @@
 mod fields;
 mod following;
 mod forms;
+mod lists;
 mod near;
 mod placing;
 mod shapes;
@@ -15,6 +16,7 @@ pub use fields::{
 };
 pub use following::follow;
 pub use forms::Pointer;
-pub use near::{Row, near_row, near_target};
+pub use lists::{structs_target, words_of_elements};
+pub use near::{Row, near_row, near_target, tag_at};
 pub use shapes::{Followed, Shape, Target};
 pub use sizes::element_bits;

@@ -1,13 +1,16 @@
-//! Objects that their pointer word alone describes, in the word's segment.
+//! Objects that their pointer word describes, alone or with a tag, in the word's segment.
 
 ghost use Rattle.cap_ptr.specs.Rows.{FindsRow, HasPointers};
 ghost use Rattle.cap_ptr.specs.Shapes.{FindsTarget, IsPlain};
 ghost use Rattle.cap_ptr.specs.declared.near.Row.{Row};
+ghost use Rattle.cap_spec.specs.Following.{IsComposite};
 ghost use Rattle.cap_spec.specs.Messages.{HasWord, segment_of};
 ghost use Rattle.cap_spec.specs.Pointers.{extent, list_words};
-ghost use Rattle.std.specs.Prelude.{◌+◌, ◌<◌, ◌^◌, ◌≡◌, ◌≤◌, ◌⊎◌, IfNone, IfSome, List, length, ℕ};
+ghost use Rattle.cap_spec.specs.Words.{signed_offset_of};
+ghost use Rattle.std.specs.Prelude.{◌+◌, ◌<◌, ◌^◌, ◌≡◌, ◌≤◌, ◌⊎◌, ◌+ℤ◌, pos, IfNone, IfSome, List, length, ℕ};
 
 use crate::fields::{code, data_size, kind, list_size, pointer_size};
+use crate::lists::is_structs;
 use crate::placing::start_of;
 use crate::shapes::Target;
 use crate::sizes::plain_shape;
@@ -78,7 +81,31 @@ pub fn near_row(word: u64, at: u32, len: u32) -> Option<Row>
     })
 }
 
-// How many words such an object has before its pointers, and how many pointers.
+/// Where the tag of a list of structs is, if a word describes such a list with all its words in a
+/// segment (encoding: Lists). The word is word `at` of that segment, which has `len` words. With the
+/// tag [`structs_target`](crate::structs_target) gives the list.
+#[inline(always)]
+pub fn tag_at(word: u64, at: u32, len: u32) -> Option<u32>
+    ensures list { IfSome result (λ _. IsComposite word) }
+    ensures start { IfSome result (λ start.
+        pos start ≡ pos (at + 1) +ℤ signed_offset_of word) }
+    ensures inside { IfSome result (λ start. start + extent word ≤ len) }
+    // The other direction: no such list has all its words in the segment.
+    ensures none { IfNone result (IsComposite word → (start : ℕ) →
+        pos start ≡ pos (at + 1) +ℤ signed_offset_of word → len < start + extent word) }
+{
+    if !is_structs(word) {
+        return None;
+    }
+    let start = start_of(at, word)?;
+    if start + 1 + u64::from(list_size(word)) > u64::from(len) {
+        return None;
+    }
+    Some(start as u32)
+}
+
+// How many words an object that a word alone describes has before its pointers, and how many
+// pointers.
 #[inline(always)]
 fn parts_of(word: u64) -> Option<(u64, u64)>
     ensures words { IfSome result (λ parts. parts.0 + parts.1 ≡ extent word) }

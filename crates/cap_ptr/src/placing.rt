@@ -4,12 +4,13 @@ ghost use Rattle.cap_ptr.specs.Reaching.{LeadsTo};
 ghost use Rattle.cap_ptr.specs.Shapes.{IsAnswer, IsPlain};
 ghost use Rattle.cap_spec.specs.Following.{extra, IsComposite};
 ghost use Rattle.cap_spec.specs.Messages.{segment_of};
-ghost use Rattle.cap_spec.specs.Pointers.{data_size, extent, kind, middle, pointer_size};
+ghost use Rattle.cap_spec.specs.Pointers.{extent, kind};
 ghost use Rattle.cap_spec.specs.Words.{signed_offset_of};
-ghost use Rattle.std.specs.Prelude.{◌+◌, ◌*◌, ◌<◌, ◌^◌, ◌≡◌, ◌≤◌, ◌↔◌, ◌==◌, ◌+ℤ◌, ◌<ℤ◌, pos, if◌then◌else◌, IfNone, IfSome, IsTrue, MatchBool, length, ℕ};
+ghost use Rattle.std.specs.Prelude.{◌+◌, ◌<◌, ◌^◌, ◌≡◌, ◌≤◌, ◌+ℤ◌, ◌<ℤ◌, pos, IfNone, IfSome, length, ℕ};
 
-use crate::fields::{code, data_size, kind, list_size, middle, pointer_size};
-use crate::shapes::{Followed, Shape, Target};
+use crate::fields::{code, kind, list_size};
+use crate::lists::{is_structs, structs_target};
+use crate::shapes::{Followed, Target};
 use crate::sizes::{extent, plain_shape};
 use cap_frame::Segments;
 use cap_spec::Reason;
@@ -36,7 +37,7 @@ pub(crate) fn target_at<M: Segments>(
         return Err(Reason::OutOfSegment);
     }
     let start = start as u32;
-    if is_composite(word) {
+    if is_structs(word) {
         return composite(message, pads, segment, start, word);
     }
     let charge = u64::from(pads) + u64::from(words) + empty_elements(word);
@@ -76,55 +77,10 @@ fn composite<M: Segments>(
     ensures { let m = M.segments message.now in (s w : ℕ) →
         LeadsTo m s w pads segment start word → IsAnswer m s w result }
 {
-    let words = list_size(word);
     let tag = message.word(segment, start);
-    if kind(tag) != 0 {
-        return Err(Reason::CompositeTag);
-    }
-    if overruns(tag, words) {
-        return Err(Reason::CompositeOverrun);
-    }
-    let charge = u64::from(pads) + 1 + u64::from(words) + u64::from(empty_structs(tag));
-    Ok(Followed::Target(Target {
-        segment,
-        start,
-        words: 1 + words,
-        pads,
-        charge,
-        shape: Shape::Structs {
-            words,
-            count: middle(tag),
-            data_words: data_size(tag),
-            pointers: pointer_size(tag),
-        },
-    }))
-}
-
-// A word is of a list of structs.
-fn is_composite(word: u64) -> bool
-    ensures { IsTrue result ↔ IsComposite word }
-{
-    kind(word) == 1 && code(word) == 7
-}
-
-// The elements that a tag gives take more words than their list has without it.
-fn overruns(tag: u64, words: u32) -> bool
-    ensures { let needed = middle tag * (data_size tag + pointer_size tag) in
-        MatchBool result (words < needed) (needed ≤ words) }
-{
-    let each = u64::from(data_size(tag)) + u64::from(pointer_size(tag));
-    u64::from(words) < u64::from(middle(tag)) * each
-}
-
-// How many elements a tag gives that have no words.
-fn empty_structs(tag: u64) -> u32
-    ensures value { result ≡ (if data_size tag + pointer_size tag == 0 then middle tag else 0) }
-    ensures within { result ≤ middle tag }
-{
-    if data_size(tag) == 0 && pointer_size(tag) == 0 {
-        middle(tag)
-    } else {
-        0
+    match structs_target(word, tag, segment, start, pads) {
+        Ok(target) => Ok(Followed::Target(target)),
+        Err(reason) => Err(reason),
     }
 }
 

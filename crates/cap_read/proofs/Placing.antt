@@ -42,7 +42,7 @@ placed_there m path level a (Some p) h s e i = record { is_place = (level, a, h,
 -- the one tree
 only_tree : (m : List (List ℕ)) (words depth : ℕ) (r : Report) (t : Tree) → IsReport m words depth r t → (u : Tree) (c d : ℕ) → Denotes m 0 0 u c d →
     (u ≡ t) × (c ≡ r.charge) × (d ≡ r.depth)
-only_tree m words depth r t h u c d g = let o = one_tree m 0 0 u t c d r.charge r.depth g h.denotes in (o.part, o.charge, o.depth)
+only_tree m words depth r t h u c d g = let o = one_tree m 0 0 u t c d r.charge r.depth g h.within.denotes in (o.part, o.charge, o.depth)
 
 -- Nothing is read where the tree has no node.
 pub nothing_read : (m : List (List ℕ)) (words depth : ℕ) (path : List Step) (r : Report) (t : Tree) → IsReport m words depth r t
@@ -52,7 +52,7 @@ nothing_read m words depth path r t h none empty = record {
   tree = t;
   report = h;
   only = only_tree m words depth r t h;
-  node = ap (option_map own_of) (sym (empty t r.charge r.depth h.denotes));
+  node = ap (option_map own_of) (sym (empty t r.charge r.depth h.within.denotes));
   placed = no_place m path none;
 }
 
@@ -66,7 +66,7 @@ pub node_read : (m : List (List ℕ)) (words depth : ℕ) (path : List Step) (r 
     → IfSome o (λ p. p.segment < length m) → IfSome o (λ p. p.start + p.words ≤ length (segment_of m p.segment))
     → IsRead m words depth path r (Some own) o
 node_read m words depth path r t a own o o' h come node shows same s e i =
-    let x = node t r.charge r.depth h.denotes in
+    let x = node t r.charge r.depth h.within.denotes in
     let there : MatchOption o ((t b n : ℕ) → Stands m a t b n → ⊥) (λ p. Stands m a p.segment p.start p.words) = rw same s in record {
       tree = t;
       report = h;

@@ -1,15 +1,15 @@
 //! A message in one buffer is vetted, and the bytes of the object at a path are returned.
 
-ghost use Rattle.cap_spec.specs.Denoting.{Denotes, words_from};
+ghost use Rattle.cap_spec.specs.Accepting.{IsWithin};
+ghost use Rattle.cap_spec.specs.Denoting.{words_from};
 ghost use Rattle.cap_spec.specs.Faults.{IsRefused};
 ghost use Rattle.cap_spec.specs.Paths.{IsPlace};
 ghost use Rattle.cap_spec.specs.Plain.{plain_text};
-ghost use Rattle.cap_spec.specs.Tree.{Tree};
 ghost use Rattle.cap_spec.specs.declared.Refusal.{Refusal};
 ghost use Rattle.cap_vet.specs.Limits.{depth_of, words_of};
 ghost use Rattle.cap_vet.specs.Reports.{IsAccepted};
 ghost use Rattle.cap_vet.specs.declared.report.Report.{Report};
-ghost use Rattle.std.specs.Prelude.{◌≡◌, ◌≤◌, [], Err, IfErr, IfOk, IsOk, ℕ};
+ghost use Rattle.std.specs.Prelude.{◌≡◌, [], Err, IfErr, IfOk, IsOk, ℕ};
 
 use cap_frame::{ByteView, Segments};
 use cap_vet::{Limits, Refusal, Step, vet};
@@ -39,8 +39,7 @@ pub fn read_bytes<'b>(
     ensures err { let m = ⟦<ByteView<'b> as Segments>⟧.segments message.now in
         IfErr result (IsRefused m (words_of limits) (depth_of limits)) }
     ensures accepts { let m = ⟦<ByteView<'b> as Segments>⟧.segments message.now in
-        (t : Tree) (c d : ℕ) → Denotes m 0 0 t c d → c ≤ words_of limits → d ≤ depth_of limits →
-        IsOk result }
+        IsWithin m (words_of limits) (depth_of limits) → IsOk result }
     ensures refuses { let m = ⟦<ByteView<'b> as Segments>⟧.segments message.now in
         (r : Refusal) → IsRefused m (words_of limits) (depth_of limits) r → result ≡ Err r }
 {

@@ -8,7 +8,7 @@ use Rattle.cap_spec.specs.Frames.{Stream, frame_text, sizes_of}
 use Rattle.cap_spec.proofs.Frames.FrameTexts.{one_stream}
 use Rattle.cap_spec.proofs.Bytes.Lists.{all_back}
 use Rattle.cap_spec.proofs.Strict.Faults.{strict_not_fault}
-use Rattle.cap_spec.proofs.Verdicts.Refusals.{tree_not_refused}
+use Rattle.cap_spec.proofs.Verdicts.Refusals.{within_not_refused}
 use Rattle.cap_spec.specs.declared.StrictRefusal.{StrictRefusal}
 use Rattle.cap_spec.specs.declared.StrictRefusal.TheVariants.{Refused as bad, ManySegments, Pointer}
 use Rattle.cap_words.specs.declared.sinks.WordSink as sink
@@ -109,8 +109,8 @@ module _ {S K : Type 0} (gs : source.Ghosts S) (gk : sink.Ghosts K) (demands : D
   canon_behind mid cs ds own (Refused refusal) P w c s l a few reads stops =
       let h = next_has mid cs ds own stops.0.1 w s a reads stops.0.2 in
       let k = h.1.is_accepted in
-      absurd (tree_not_refused stops.0.1 k.0 h.1.report.charge h.1.report.depth (words_under demands stops.0.1 words)
-      depth refusal k.1.denotes k.1.within k.1.shallow stops.0.3)
+      absurd (within_not_refused stops.0.1 (words_under demands stops.0.1 words) depth refusal
+      (k.0, h.1.report.charge, h.1.report.depth, k.1.within) stops.0.3)
   canon_behind mid cs ds own (NotStrict fault) P w c s l a few reads stops =
       let h = next_has mid cs ds own stops.0.1 w s a reads stops.0.2 in
       absurd (strict_is_strict demands stops.0.1 words depth fault h.1.is_strict stops.0.3)

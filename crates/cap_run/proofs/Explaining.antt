@@ -1,7 +1,7 @@
 -- The path to the pointer that overlaps.
 use Rattle.std.proofs.Common.{◌≡◌, ℕ, List, Option, Some, subst}
 use Rattle.cap_spec.specs.Occupying.{IsFirstOverlap}
-use Rattle.cap_spec.specs.Strict.{IsWithin}
+use Rattle.cap_spec.specs.Accepting.{IsWithin}
 use Rattle.cap_spec.specs.declared.Step.{Step}
 use Rattle.cap_vet.specs.Reports.{IsAccepted}
 use Rattle.cap_vet.specs.declared.report.Report.{Report}
@@ -15,11 +15,4 @@ overlap_named m other s w n path e g =
 -- an accepted message is within the limits
 pub accepted_within : (m : List (List ℕ)) (words depth : ℕ) (report : Report) → IsAccepted m words depth report
     → IsWithin m words depth
-accepted_within m words depth report a = record {
-  tree = a.0;
-  charge = report.charge;
-  levels = report.depth;
-  denotes = a.1.denotes;
-  few_words = a.1.within;
-  few_levels = a.1.shallow;
-}
+accepted_within m words depth report (t, a) = (t, report.charge, report.depth, a.within)

@@ -1,50 +1,21 @@
 -- What is at a spot of a message: its kind, and its n words from t:b on, the tag of a list of
 -- structs among them (standard: Objects; paths are the profile's).
-use Rattle.std.specs.Prelude.{ℕ, ◌+◌, ◌<◌, ◌≡◌, List}
-use Rattle.cap_spec.specs.Messages.{HasWord}
-use Rattle.cap_spec.specs.Pointers.{kind, middle, code, data_size, pointer_size, list_size, extent}
-use Rattle.cap_spec.specs.Following.{Leads, to_null, to_cap}
+use Rattle.std.specs.Prelude.{ℕ, ◌+◌, ◌≡◌, List}
+use Rattle.cap_spec.specs.Pointers.{extent}
+use Rattle.cap_spec.specs.Following.{HasTag, Leads, to_null, to_cap}
 use Rattle.cap_spec.specs.Denoting.{Finds, values_of, words_from}
 use Rattle.cap_spec.specs.Paths.{Comes, Spot, word, element}
+use Rattle.cap_spec.specs.ObjectShapes.{HasKind}
 use Rattle.cap_spec.specs.Showing.{Own, own_null, own_cap, own_struct, own_scalars, own_pointers, own_structs}
 use Rattle.cap_spec.specs.declared.Step.{Step}
 use Rattle.cap_spec.specs.declared.Kind.{Kind}
 use Rattle.cap_spec.specs.declared.Kind.TheVariants.{Null, Cap, Struct, Scalars, Pointers, Structs}
 
--- a struct of d data words and p pointers is found at s:w
-pub record StandsStruct (m : List (List ℕ)) (s w d p t b n k q : ℕ) : Type 0 where
+-- An object of this kind is found at s:w: n words from t:b on.
+pub record StandsObject (m : List (List ℕ)) (s w : ℕ) (kind : Kind) (t b n k q tag : ℕ) : Type 0 where
   pub finds : Finds m s w k t b q
-  pub kind : kind q ≡ 0
-  pub data_words : d ≡ data_size q
-  pub pointers : p ≡ pointer_size q
-  pub words : n ≡ extent q
-
--- a list of x values of code c
-pub record StandScalars (m : List (List ℕ)) (s w c x t b n k q : ℕ) : Type 0 where
-  pub finds : Finds m s w k t b q
-  pub kind : kind q ≡ 1
-  pub code : c ≡ code q
-  pub scalar : c < 6
-  pub count : x ≡ list_size q
-  pub words : n ≡ extent q
-
--- a list of x pointers
-pub record StandPointers (m : List (List ℕ)) (s w x t b n k q : ℕ) : Type 0 where
-  pub finds : Finds m s w k t b q
-  pub kind : kind q ≡ 1
-  pub code : code q ≡ 6
-  pub count : x ≡ list_size q
-  pub words : n ≡ extent q
-
--- a list of x structs of d data words and p pointers
-pub record StandStructs (m : List (List ℕ)) (s w x d p t b n k q tag : ℕ) : Type 0 where
-  pub finds : Finds m s w k t b q
-  pub kind : kind q ≡ 1
-  pub code : code q ≡ 7
-  pub has_tag : HasWord m t b tag
-  pub count : x ≡ middle tag
-  pub data_words : d ≡ data_size tag
-  pub pointers : p ≡ pointer_size tag
+  pub tagged : HasTag m t b q tag
+  pub shape : HasKind q tag kind
   pub words : n ≡ extent q
 
 -- a struct that is an element has the words that its spot gives
@@ -59,10 +30,7 @@ pub record StandsElement (t' b' ds ps d p t b n : ℕ) : Type 0 where
 abbrev pub StandsAs : List (List ℕ) → Spot → Kind → ℕ → ℕ → ℕ → Type 0
 StandsAs m (word s w) Null t b n = (k : ℕ) × Leads m s w k to_null
 StandsAs m (word s w) (Cap i) t b n = (k : ℕ) × Leads m s w k (to_cap i)
-StandsAs m (word s w) (Struct d p) t b n = (k q : ℕ) × StandsStruct m s w d p t b n k q
-StandsAs m (word s w) (Scalars c x) t b n = (k q : ℕ) × StandScalars m s w c x t b n k q
-StandsAs m (word s w) (Pointers x) t b n = (k q : ℕ) × StandPointers m s w x t b n k q
-StandsAs m (word s w) (Structs x d p) t b n = (k q tag : ℕ) × StandStructs m s w x d p t b n k q tag
+StandsAs m (word s w) kind t b n = (k q tag : ℕ) × StandsObject m s w kind t b n k q tag
 StandsAs m (element t' b' ds ps) (Struct d p) t b n = StandsElement t' b' ds ps d p t b n
 StandsAs m (element t' b' ds ps) _ t b n = ⊥
 

@@ -12,7 +12,7 @@ use Rattle.cap_spec.specs.Tree.{Tree, null, cap, struct, scalars, pointers, stru
 abbrev pub places : ℕ → ℕ → ℕ → List (ℕ × ℕ)
 places t b n = map (λ w. (t, w)) (range_with_len b n)
 
--- The pointer word at s:w isn't wrong and leads with k pads to the object of shape q at t:b.
+-- The pointer word at s:w leads with k pads to the object of shape q at t:b, which is inside its segment.
 pub record Finds (m : List (List ℕ)) (s w k t b q : ℕ) : Type 0 where
   pub leads : Leads m s w k (to_object t (pos b) q)
   pub sits : Sits m t b q
@@ -34,71 +34,72 @@ abbrev pub element_levels : ℕ → ℕ
 element_levels zero = 0
 element_levels (suc n) = 1
 
--- A struct with these data words is found at s:w. Its children's charges and greatest depth are inner and deep.
-pub record FindsStruct (m : List (List ℕ)) (s w : ℕ) (words : List ℕ) (k t b q inner deep c d : ℕ) : Type 0 where
+-- A struct with these data words is found at s:w. Its children's charges and greatest depth are inner and deep,
+-- and its own are cost and levels.
+pub record FindsStruct (m : List (List ℕ)) (s w : ℕ) (words : List ℕ) (k t b q inner deep cost levels : ℕ) : Type 0 where
   pub finds : Finds m s w k t b q
   pub kind : kind q ≡ 0
   pub data_words : words ≡ words_from m t b (data_size q)
-  pub charge : c ≡ k + extent q + inner
-  pub depth : d ≡ 1 + deep
+  pub charge : cost ≡ k + extent q + inner
+  pub depth : levels ≡ 1 + deep
 
 -- a list of values that aren't pointers
-pub record FindsScalars (m : List (List ℕ)) (s w e : ℕ) (values : List ℕ) (k t b q c d : ℕ) : Type 0 where
+pub record FindsScalars (m : List (List ℕ)) (s w e : ℕ) (values : List ℕ) (k t b q cost levels : ℕ) : Type 0 where
   pub finds : Finds m s w k t b q
   pub kind : kind q ≡ 1
   pub code : e ≡ code q
   pub scalar : e < 6
   pub elements : values ≡ values_of m t b e (list_size q)
-  pub charge : c ≡ k + extent q + extra q 0
-  pub depth : d ≡ 1
+  pub charge : cost ≡ k + extent q + extra q 0
+  pub depth : levels ≡ 1
 
 -- a list of pointers
-pub record FindsPointers (m : List (List ℕ)) (s w k t b q inner deep c d : ℕ) : Type 0 where
+pub record FindsPointers (m : List (List ℕ)) (s w k t b q inner deep cost levels : ℕ) : Type 0 where
   pub finds : Finds m s w k t b q
   pub kind : kind q ≡ 1
   pub code : code q ≡ 6
-  pub charge : c ≡ k + extent q + inner
-  pub depth : d ≡ 1 + deep
+  pub charge : cost ≡ k + extent q + inner
+  pub depth : levels ≡ 1 + deep
 
 -- a list of structs of ds data words and ps pointers, with its tag
-pub record FindsStructs (m : List (List ℕ)) (s w ds ps k t b q tag inner deep c d : ℕ) : Type 0 where
+pub record FindsStructs (m : List (List ℕ)) (s w ds ps k t b q tag inner deep cost levels : ℕ) : Type 0 where
   pub finds : Finds m s w k t b q
   pub kind : kind q ≡ 1
   pub code : code q ≡ 7
   pub has_tag : HasWord m t b tag
   pub data_sizes : ds ≡ data_size tag
   pub pointer_sizes : ps ≡ pointer_size tag
-  pub charge : c ≡ k + extent q + extra q tag + inner
-  pub depth : d ≡ 1 + element_levels (middle tag) + deep
+  pub charge : cost ≡ k + extent q + extra q tag + inner
+  pub depth : levels ≡ 1 + element_levels (middle tag) + deep
 
 abbrev mutual
-  -- The pointer word at s:w denotes the tree t, at charge c and depth d. Since t is finite, this is the least such relation.
+  -- The pointer word at s:w denotes the tree t, at this charge and depth. Since t is finite, this is the least such relation.
   pub Denotes : List (List ℕ) → ℕ → ℕ → Tree → ℕ → ℕ → Type 0
-  Denotes m s w null c d = Leads m s w c to_null × (d ≡ 0)
-  Denotes m s w (cap i) c d = Leads m s w c (to_cap i) × (d ≡ 0)
-  Denotes m s w (struct words ts) c d =
-      (k t b q inner deep : ℕ) × FindsStruct m s w words k t b q inner deep c d
+  Denotes m s w null charge depth = Leads m s w charge to_null × (depth ≡ 0)
+  Denotes m s w (cap i) charge depth = Leads m s w charge (to_cap i) × (depth ≡ 0)
+  Denotes m s w (struct words ts) charge depth =
+      (k t b q inner deep : ℕ) × FindsStruct m s w words k t b q inner deep charge depth
       × DenoteEach m (places t (b + data_size q) (pointer_size q)) ts inner deep
-  Denotes m s w (scalars e values) c d = (k t b q : ℕ) × FindsScalars m s w e values k t b q c d
-  Denotes m s w (pointers ts) c d =
-      (k t b q inner deep : ℕ) × FindsPointers m s w k t b q inner deep c d
+  Denotes m s w (scalars e values) charge depth = (k t b q : ℕ) × FindsScalars m s w e values k t b q charge depth
+  Denotes m s w (pointers ts) charge depth =
+      (k t b q inner deep : ℕ) × FindsPointers m s w k t b q inner deep charge depth
       × DenoteEach m (places t b (list_size q)) ts inner deep
-  Denotes m s w (structs ds ps es) c d =
-      (k t b q tag inner deep : ℕ) × FindsStructs m s w ds ps k t b q tag inner deep c d
+  Denotes m s w (structs ds ps es) charge depth =
+      (k t b q tag inner deep : ℕ) × FindsStructs m s w ds ps k t b q tag inner deep charge depth
       × AreElements m t (b + 1) ds ps (middle tag) es inner deep
 
   -- pointer words at these places denote these trees, in order
   pub DenoteEach : List (List ℕ) → List (ℕ × ℕ) → Trees → ℕ → ℕ → Type 0
-  DenoteEach m ps none c d = (ps ≡ []) × (c ≡ 0) × (d ≡ 0)
-  DenoteEach m ps (more t ts) c d =
+  DenoteEach m ps none charge depth = (ps ≡ []) × (charge ≡ 0) × (depth ≡ 0)
+  DenoteEach m ps (more t ts) charge depth =
       (s w : ℕ) × (rest : List (ℕ × ℕ)) × (c1 d1 c2 d2 : ℕ) × (ps ≡ (s, w) ∷ rest)
-      × Denotes m s w t c1 d1 × DenoteEach m rest ts c2 d2 × (c ≡ c1 + c2) × (d ≡ max d1 d2)
+      × Denotes m s w t c1 d1 × DenoteEach m rest ts c2 d2 × (charge ≡ c1 + c2) × (depth ≡ max d1 d2)
 
   -- n elements of ds data words and ps pointers, from t:b on, are these structs
   pub AreElements : List (List ℕ) → ℕ → ℕ → ℕ → ℕ → ℕ → Trees → ℕ → ℕ → Type 0
-  AreElements m t b ds ps n none c d = (n ≡ 0) × (c ≡ 0) × (d ≡ 0)
-  AreElements m t b ds ps n (more (struct words ts) es) c d =
+  AreElements m t b ds ps n none charge depth = (n ≡ 0) × (charge ≡ 0) × (depth ≡ 0)
+  AreElements m t b ds ps n (more (struct words ts) es) charge depth =
       (n' c1 d1 c2 d2 : ℕ) × (n ≡ suc n') × (words ≡ words_from m t b ds)
       × DenoteEach m (places t (b + ds) ps) ts c1 d1
-      × AreElements m t (b + ds + ps) ds ps n' es c2 d2 × (c ≡ c1 + c2) × (d ≡ max d1 d2)
-  AreElements m t b ds ps n (more _ es) c d = ⊥
+      × AreElements m t (b + ds + ps) ds ps n' es c2 d2 × (charge ≡ c1 + c2) × (depth ≡ max d1 d2)
+  AreElements m t b ds ps n (more _ es) charge depth = ⊥

@@ -1,18 +1,13 @@
 -- The first pointer in preorder at which anything is wrong, or a limit is passed (profile; standard: Security Considerations).
-use Rattle.std.specs.Prelude.{ℕ, ◌+◌, ◌<◌, ◌≤◌, ◌≡◌, ◌⊎◌, List, [], ◌∷◌, ◌++◌, length, Some, slice_get}
-use Rattle.cap_spec.specs.Messages.{HasWord}
-use Rattle.cap_spec.specs.Following.{IsComposite, Wrong}
-use Rattle.cap_spec.specs.Denoting.{Finds}
-use Rattle.cap_spec.specs.Paths.{Costs, IsOneOf, IsTour, Reaches}
-use Rattle.cap_spec.specs.Verdicts.{CostOf, levels_below}
+use Rattle.std.specs.Prelude.{ℕ, ◌+◌, ◌<◌, ◌≤◌, ◌≡◌, ◌⊎◌, List, [], ◌∷◌, ◌++◌, length}
+use Rattle.cap_spec.specs.Lists.{IsOneOf}
+use Rattle.cap_spec.specs.Following.{Wrong}
+use Rattle.cap_spec.specs.Paths.{Costs, IsTour, Reaches}
+use Rattle.cap_spec.specs.Verdicts.{CostOf, IsDeepAt, LacksRoot}
 use Rattle.cap_spec.specs.declared.Refusal.{Refusal}
 use Rattle.cap_spec.specs.declared.Reason.{Reason}
-use Rattle.cap_spec.specs.declared.Reason.TheVariants.{NoRoot, DepthLimit, WordLimit}
+use Rattle.cap_spec.specs.declared.Reason.TheVariants.{DepthLimit, WordLimit}
 use Rattle.cap_spec.specs.declared.Step.{Step}
-
--- the pointer at s:w leads to an object of this level that takes levels past the limit
-abbrev pub IsDeepAt : List (List ℕ) → ℕ → ℕ → ℕ → ℕ → Type 0
-IsDeepAt m depth s w level = (k t b q tag : ℕ) × Finds m s w k t b q × (IsComposite q → HasWord m t b tag) × (depth < level + levels_below q tag)
 
 -- none of these paths leads to an object past the depth limit
 abbrev pub AreShallow : List (List ℕ) → ℕ → List (List Step) → Type 0
@@ -41,12 +36,9 @@ pub record IsFirstFault (m : List (List ℕ)) (words depth : ℕ) (refusal : Ref
   pub pointers : refusal.pointers ≡ length (before ++ path ∷ [])
   pub few : refusal.pointers ≤ words + 1
 
--- there is no root pointer
+-- The refusal says that there is no root pointer.
 pub record HasNoRoot (m : List (List ℕ)) (refusal : Refusal) : Type 0 where
-  pub empty : slice_get m 0 ≡ Some []
-  pub segment : refusal.segment ≡ 0
-  pub word : refusal.word ≡ 0
-  pub reason : refusal.reason ≡ NoRoot
+  pub lacks : LacksRoot m refusal.segment refusal.word refusal.reason
   pub pointers : refusal.pointers ≡ 0
 
 -- why a message is refused

@@ -45,6 +45,10 @@ pub data Leads (m : List (List ℕ)) (s w k : ℕ) (r : Lead) : Type 0 where
 abbrev pub IsComposite : ℕ → Type 0
 IsComposite q = (kind q ≡ 1) × (code q ≡ 7)
 
+-- if q is the word of a composite list at t:b, this is its tag
+abbrev pub HasTag : List (List ℕ) → ℕ → ℕ → ℕ → ℕ → Type 0
+HasTag m t b q tag = IsComposite q → HasWord m t b tag
+
 -- the elements that a tag gives fit into the size
 abbrev pub TagFits : ℕ → ℕ → Type 0
 TagFits tag size = (kind tag ≡ 0) × (middle tag * (data_size tag + pointer_size tag) ≤ size)

@@ -1,10 +1,10 @@
 -- The greatest limits that a caller may set (profile).
 use Rattle.std.specs.Prelude.{ℕ}
 
--- the most words of a message, and of the charge of a walk through it
+-- the greatest word limit, of the words of a message and of its charge
 abbrev pub most_words : ℕ
 most_words = 268435456
 
--- the deepest level of an object
+-- the greatest depth limit
 abbrev pub most_depth : ℕ
 most_depth = 256

@@ -1,8 +1,9 @@
 -- Where the steps of a path lead in a message, and at what level (profile).
-use Rattle.std.specs.Prelude.{ℕ, ◌+◌, ◌*◌, ◌<◌, ◌≡◌, ◌⊎◌, List, [], ◌∷◌, ⊤}
+use Rattle.std.specs.Prelude.{ℕ, ◌+◌, ◌*◌, ◌<◌, ◌≡◌, ◌⊎◌, List, [], ◌∷◌, length, ⊤}
+use Rattle.cap_spec.specs.Lists.{IsOneOf}
 use Rattle.cap_spec.specs.Messages.{HasWord}
 use Rattle.cap_spec.specs.Pointers.{kind, middle, code, data_size, pointer_size, list_size, extent}
-use Rattle.cap_spec.specs.Following.{to_null, to_cap, Leads, extra}
+use Rattle.cap_spec.specs.Following.{to_null, to_cap, HasTag, Leads, extra}
 use Rattle.cap_spec.specs.Denoting.{Finds, element_levels}
 use Rattle.cap_spec.specs.declared.Step.{Step}
 use Rattle.cap_spec.specs.declared.Step.TheVariants.{Ptr, Item}
@@ -36,7 +37,7 @@ Walks m a (step ∷ path) n b =
     (mid : Spot) × (n' : ℕ) × Goes m a step mid × Walks m mid path n' b × (n ≡ level_of mid + n')
 
 -- The path from the root comes to this spot, at this level, whether or not the pointer at the spot
--- is wrong.
+-- can be followed.
 abbrev pub Comes : List (List ℕ) → List Step → ℕ → Spot → Type 0
 Comes m path level spot =
     (root n : ℕ) × HasWord m 0 0 root × Walks m (word 0 0) path n spot × (level ≡ 1 + n)
@@ -45,12 +46,12 @@ Comes m path level spot =
 abbrev pub Reaches : List (List ℕ) → List Step → ℕ → ℕ → ℕ → Type 0
 Reaches m path level s w = Comes m path level (word s w)
 
--- what following the pointer at s:w costs, where it isn't wrong
+-- the pointer at s:w can be followed, which costs this many words
 abbrev pub Costs : List (List ℕ) → ℕ → ℕ → ℕ → Type 0
 Costs m s w cost =
     Leads m s w cost to_null
     ⊎ ((i : ℕ) × Leads m s w cost (to_cap i))
-    ⊎ ((k t b q tag : ℕ) × Finds m s w k t b q × (((kind q ≡ 1) × (code q ≡ 7)) → HasWord m t b tag) × (cost ≡ k + extent q + extra q tag))
+    ⊎ ((k t b q tag : ℕ) × Finds m s w k t b q × HasTag m t b q tag × (cost ≡ k + extent q + extra q tag))
 
 abbrev pub number_of : Step → ℕ
 number_of (Ptr i) = i
@@ -62,14 +63,15 @@ Before p [] = ⊥
 Before [] (y ∷ ys) = Unit {0}
 Before (x ∷ xs) (y ∷ ys) = (number_of x < number_of y) ⊎ ((x ≡ y) × Before xs ys)
 
+-- P holds of this path, and of none before it in preorder.
+pub record IsFirst (P : List Step → Type 0) (path : List Step) : Type 0 where
+  pub holds : P path
+  pub first : (other : List Step) → Before other path → ¬ P other
+
 abbrev pub Rises : List (List Step) → Type 0
 Rises [] = ⊤
 Rises (p ∷ []) = ⊤
 Rises (p ∷ q ∷ ps) = Before p q × Rises (q ∷ ps)
-
-abbrev pub IsOneOf : List Step → List (List Step) → Type 0
-IsOneOf p [] = ⊥
-IsOneOf p (q ∷ qs) = (p ≡ q) ⊎ IsOneOf p qs
 
 -- the paths to pointer words up to p, in preorder
 pub record IsTour (m : List (List ℕ)) (p : List Step) (tour : List (List Step)) : Type 0 where
@@ -77,6 +79,14 @@ pub record IsTour (m : List (List ℕ)) (p : List Step) (tour : List (List Step)
   pub reached : (q : List Step) → IsOneOf q tour → (level s w : ℕ) × Reaches m q level s w
   pub all : (q : List Step) (level s w : ℕ) → Reaches m q level s w → (q ≡ p) ⊎ Before q p → IsOneOf q tour
   pub none_after : (q : List Step) → IsOneOf q tour → (q ≡ p) ⊎ Before q p
+
+-- The path reaches the pointer word at s:w, which has this number in preorder. The root word has number 1.
+pub record IsNumbered (m : List (List ℕ)) (path : List Step) (s w number : ℕ) : Type 0 where
+  pub level : ℕ
+  pub tour : List (List Step)
+  pub reached : Reaches m path level s w
+  pub is_tour : IsTour m path tour
+  pub count : number ≡ length tour
 
 -- What is at a spot: the object that its pointer finds, or the element, as segment, start and
 -- words.
@@ -88,12 +98,13 @@ Stands m (element t' b' ds ps) t b n = (t ≡ t') × (b ≡ b') × (n ≡ ds + p
 abbrev pub IsPlace : List (List ℕ) → List Step → ℕ → ℕ → ℕ → Type 0
 IsPlace m path t b n = (level : ℕ) × (spot : Spot) × Comes m path level spot × Stands m spot t b n
 
+-- The path reaches a pointer word that leads to a capability.
+abbrev pub ReachesCap : List (List ℕ) → List Step → Type 0
+ReachesCap m path = (level s w k index : ℕ) × Reaches m path level s w × Leads m s w k (to_cap index)
+
 -- The pointer word at s:w is the first in preorder that leads to a capability.
 pub record IsFirstCap (m : List (List ℕ)) (s w : ℕ) : Type 0 where
   pub path : List Step
   pub level : ℕ
-  pub k : ℕ
-  pub index : ℕ
   pub reached : Reaches m path level s w
-  pub leads : Leads m s w k (to_cap index)
-  pub first : (other : List Step) (level' s' w' k' index' : ℕ) → Before other path → Reaches m other level' s' w' → ¬ Leads m s' w' k' (to_cap index')
+  pub first : IsFirst (ReachesCap m) path

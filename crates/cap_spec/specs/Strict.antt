@@ -2,10 +2,10 @@
 use Rattle.std.specs.Prelude.{ℕ, ◌≤◌, ◌≡◌, List, [], length}
 use Rattle.cap_spec.specs.Messages.{segment_of}
 use Rattle.cap_spec.specs.Following.{to_null, to_cap, Leads}
-use Rattle.cap_spec.specs.Denoting.{Denotes, Finds}
-use Rattle.cap_spec.specs.Paths.{Before, IsTour, Reaches}
+use Rattle.cap_spec.specs.Accepting.{IsWithin}
+use Rattle.cap_spec.specs.Denoting.{Finds}
+use Rattle.cap_spec.specs.Paths.{IsFirst, IsNumbered, Reaches}
 use Rattle.cap_spec.specs.Faults.{IsRefused}
-use Rattle.cap_spec.specs.Tree.{Tree}
 use Rattle.cap_spec.specs.declared.Lax.{Lax}
 use Rattle.cap_spec.specs.declared.Lax.TheVariants.{NullPad, EmptySegment, CapabilityPad}
 use Rattle.cap_spec.specs.declared.StrictRefusal.{StrictRefusal}
@@ -23,26 +23,13 @@ IsLaxAt m s w CapabilityPad = (i : ℕ) × Leads m s w 1 (to_cap i)
 abbrev pub IsLax : List (List ℕ) → List Step → Type 0
 IsLax m path = (level s w : ℕ) × (what : Lax) × Reaches m path level s w × IsLaxAt m s w what
 
--- The pointer at s:w is the first in preorder of one of these forms. Up to it `pointers` pointer words
--- were looked at.
-pub record IsFirstLax (m : List (List ℕ)) (s w : ℕ) (what : Lax) (pointers : ℕ) : Type 0 where
+-- The pointer word at s:w is the first in preorder of one of these forms, has this one, and has this
+-- number in preorder.
+pub record IsFirstLax (m : List (List ℕ)) (s w : ℕ) (what : Lax) (number : ℕ) : Type 0 where
   pub path : List Step
-  pub level : ℕ
-  pub tour : List (List Step)
-  pub reached : Reaches m path level s w
-  pub is_tour : IsTour m path tour
-  pub number : pointers ≡ length tour
+  pub numbered : IsNumbered m path s w number
   pub lax : IsLaxAt m s w what
-  pub first : (other : List Step) → Before other path → ¬ IsLax m other
-
--- the root denotes a tree within the limits, so the message is accepted
-pub record IsWithin (m : List (List ℕ)) (words depth : ℕ) : Type 0 where
-  pub tree : Tree
-  pub charge : ℕ
-  pub levels : ℕ
-  pub denotes : Denotes m 0 0 tree charge levels
-  pub few_words : charge ≤ words
-  pub few_levels : levels ≤ depth
+  pub first : IsFirst (IsLax m) path
 
 -- It is accepted, has at most 511 segments, and no path reaches a pointer of one of these forms.
 pub record IsStrict (m : List (List ℕ)) (words depth : ℕ) : Type 0 where

@@ -1,8 +1,8 @@
 -- When a refusal is justified (profile; standard: Security Considerations).
-use Rattle.std.specs.Prelude.{ℕ, ◌+◌, ◌<◌, ◌≤◌, ◌≡◌, ◌≢◌, List, [], ◌∷◌, Some, slice_get, ◌==◌, if◌then◌else◌}
-use Rattle.cap_spec.specs.Messages.{HasWord}
+use Rattle.std.specs.Prelude.{ℕ, ◌+◌, ◌<◌, ◌≤◌, ◌≡◌, List, [], ◌∷◌, Some, slice_get, ◌==◌, if◌then◌else◌}
+use Rattle.cap_spec.specs.Lists.{AreDistinct}
 use Rattle.cap_spec.specs.Pointers.{kind, middle, code}
-use Rattle.cap_spec.specs.Following.{Wrong, IsComposite}
+use Rattle.cap_spec.specs.Following.{HasTag, Wrong}
 use Rattle.cap_spec.specs.Denoting.{Finds, element_levels}
 use Rattle.cap_spec.specs.Paths.{Reaches, Costs}
 use Rattle.cap_spec.specs.declared.Step.{Step}
@@ -10,19 +10,11 @@ use Rattle.cap_spec.specs.declared.Refusal.{Refusal}
 use Rattle.cap_spec.specs.declared.Reason.{Reason}
 use Rattle.cap_spec.specs.declared.Reason.TheVariants.{NoRoot, DepthLimit, WordLimit}
 
--- these paths reach words that aren't wrong, and following them costs this much in all
+-- these paths reach pointers that can be followed, which costs this many words in all
 abbrev pub CostOf : List (List ℕ) → List (List Step) → ℕ → Type 0
 CostOf m [] cost = cost ≡ 0
 CostOf m (p ∷ ps) cost =
     (level s w one rest : ℕ) × Reaches m p level s w × Costs m s w one × CostOf m ps rest × (cost ≡ one + rest)
-
-abbrev pub IsNoneOf : List Step → List (List Step) → Type 0
-IsNoneOf p [] = Unit {0}
-IsNoneOf p (q ∷ qs) = (p ≢ q) × IsNoneOf p qs
-
-abbrev pub AreDistinct : List (List Step) → Type 0
-AreDistinct [] = Unit {0}
-AreDistinct (p ∷ ps) = IsNoneOf p ps × AreDistinct ps
 
 -- The word limit: paths that cost at most the limit, and with one more path to s:w more than that
 pub record PastLimit (m : List (List ℕ)) (limit s w : ℕ) : Type 0 where
@@ -46,14 +38,24 @@ IsReachedWrong m s w v = (path : List Step) × (level : ℕ) × Reaches m path l
 abbrev pub levels_below : ℕ → ℕ → ℕ
 levels_below q tag = if kind q == 0 then 0 else (if code q == 7 then element_levels (middle tag) else 0)
 
+-- The pointer at s:w leads to an object of this level that takes levels past the limit.
+abbrev pub IsDeepAt : List (List ℕ) → ℕ → ℕ → ℕ → ℕ → Type 0
+IsDeepAt m depth s w level =
+    (k t b q tag : ℕ) × Finds m s w k t b q × HasTag m t b q tag × (depth < level + levels_below q tag)
+
 -- A path reaches s:w, which leads to an object past the depth limit.
 abbrev pub IsTooDeep : List (List ℕ) → ℕ → ℕ → ℕ → Type 0
-IsTooDeep m depth s w =
-    (path : List Step) × (level k t b q tag : ℕ) × Reaches m path level s w × Finds m s w k t b q
-    × (IsComposite q → HasWord m t b tag) × (depth < level + levels_below q tag)
+IsTooDeep m depth s w = (path : List Step) × (level : ℕ) × Reaches m path level s w × IsDeepAt m depth s w level
+
+-- There is no root pointer, which is the reason. The place 0:0 is named.
+pub record LacksRoot (m : List (List ℕ)) (s w : ℕ) (v : Reason) : Type 0 where
+  pub empty : slice_get m 0 ≡ Some []
+  pub segment : s ≡ 0
+  pub word : w ≡ 0
+  pub reason : v ≡ NoRoot
 
 pub data JustifiedBy (m : List (List ℕ)) (words depth s w : ℕ) (v : Reason) : Type 0 where
-  no_root : v ≡ NoRoot → slice_get m 0 ≡ Some [] → s ≡ 0 → w ≡ 0 → JustifiedBy m words depth s w v
+  no_root : LacksRoot m s w v → JustifiedBy m words depth s w v
   is_wrong : IsReachedWrong m s w v → JustifiedBy m words depth s w v
   too_deep : v ≡ DepthLimit → IsTooDeep m depth s w → JustifiedBy m words depth s w v
   past_limit : v ≡ WordLimit → PastLimit m words s w → JustifiedBy m words depth s w v

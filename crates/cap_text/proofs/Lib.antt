@@ -1,5 +1,4 @@
 pub mod Dumping
-pub mod Hexes
 pub mod Nodes
 pub mod Numbers
 pub mod Paging

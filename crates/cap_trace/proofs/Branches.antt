@@ -5,7 +5,7 @@ use Rattle.cap_spec.specs.Messages.{segment_of}
 use Rattle.cap_spec.specs.declared.Step.{Step}
 use Rattle.cap_spec.specs.declared.Step.TheVariants.{Ptr, Item}
 use Rattle.cap_vet.specs.Trails.{Ahead}
-use Rattle.cap_trace.specs.Branches.{AreBranches, IsBranch, IsFormed, path_from, path_of, rest_from, rest_of, steps_of, word_of, words_of_object}
+use Rattle.cap_trace.specs.Branches.{AreBranches, IsBranch, IsFormed, form_row, path_from, path_of, rest_from, rest_of, row_left, skipped, steps_of, word_of, words_of_object}
 use Rattle.cap_trace.specs.Traces.{word_ahead}
 use Rattle.cap_trace.specs.declared.branch.Branch.{Branch}
 use Rattle.cap_trace.specs.declared.branch.Form.{Form}
@@ -162,24 +162,18 @@ branch_element m depth n form s b i left e (suc more) ds ps level none some shor
     }
 
 -- In a list of pointers the next word is the next element.
-pub next_of_list : (form : Form) (s b i left e more ds ps level : ℕ) → form ≡ Pointers → 0 < more → (base : List Step)
-    → rest_of base (branch form s b i left e more ds ps level)
-    ≡ word_of base (branch form s (b + 1) i left (e + 1) (more - 1) ds ps level)
-    ∷ rest_of base (branch form s (b + 1) i left (e + 1) (more - 1) ds ps level)
-next_of_list Root s b i left e more ds ps level is some base = absurd (cc)
-next_of_list Struct s b i left e more ds ps level is some base = absurd (cc)
-next_of_list Pointers s b i left e zero ds ps level is some base = absurd (omega arith)
-next_of_list Pointers s b i left e (suc more) ds ps level is some base =
-    let f : suc more - 1 ≡ more = omega arith in rw f refl
-next_of_list Structs s b i left e more ds ps level is some base = absurd (cc)
+next_of_list : (s b i left e more ds ps level : ℕ) → 0 < more → (base : List Step)
+    → rest_of base (branch Pointers s b i left e more ds ps level)
+    ≡ word_of base (branch Pointers s (b + 1) i left (e + 1) (more - 1) ds ps level)
+    ∷ rest_of base (branch Pointers s (b + 1) i left (e + 1) (more - 1) ds ps level)
+next_of_list s b i left e zero ds ps level some base = absurd (omega arith)
+next_of_list s b i left e (suc more) ds ps level some base = let f : suc more - 1 ≡ more = omega arith in rw f refl
 
-pub branch_of_list : (m : List (List ℕ)) (depth n : ℕ) (form : Form) (s b i left e more ds ps level : ℕ) → form ≡ Pointers
-    → 0 < more → IsBranch m depth n (branch form s b i left e more ds ps level)
-    → IsBranch m depth n (branch form s (b + 1) i left (e + 1) (more - 1) ds ps level)
-branch_of_list m depth n Root s b i left e more ds ps level is some h = absurd (cc)
-branch_of_list m depth n Struct s b i left e more ds ps level is some h = absurd (cc)
-branch_of_list m depth n Pointers s b i left e zero ds ps level is some h = absurd (omega arith)
-branch_of_list m depth n Pointers s b i left e (suc more) ds ps level is some h =
+branch_of_list : (m : List (List ℕ)) (depth n : ℕ) (s b i left e more ds ps level : ℕ) → 0 < more
+    → IsBranch m depth n (branch Pointers s b i left e more ds ps level)
+    → IsBranch m depth n (branch Pointers s (b + 1) i left (e + 1) (more - 1) ds ps level)
+branch_of_list m depth n s b i left e zero ds ps level some h = absurd (omega arith)
+branch_of_list m depth n s b i left e (suc more) ds ps level some h =
     let f : suc more - 1 ≡ more = omega arith in
     let each : ds + ps ≡ 1 = omega (arith, h.formed.1, h.formed.2) in
     record {
@@ -191,7 +185,79 @@ branch_of_list m depth n Pointers s b i left e (suc more) ds ps level is some h 
       high = h.high;
       low = h.low;
     }
-branch_of_list m depth n Structs s b i left e more ds ps level is some h = absurd (cc)
+
+-- the same by the words of a row that come before it
+next_skipped : (form : Form) (s b i left e more ds ps level n : ℕ) → n < row_left (branch form s b i left e more ds ps level)
+    → IsFormed form (branch form s b i left e more ds ps level) → (base : List Step)
+    → rest_of base (skipped (branch form s b i left e more ds ps level) n)
+    ≡ word_of base (skipped (branch form s b i left e more ds ps level) (n + 1))
+    ∷ rest_of base (skipped (branch form s b i left e more ds ps level) (n + 1))
+next_skipped Root s b i left e more ds ps level n some h base = absurd (omega (arith, some, h.0))
+next_skipped Struct s b i left e more ds ps level n some h base =
+    let at : b + (n + 1) ≡ b + n + 1 = omega arith in
+    let index : i + (n + 1) ≡ i + n + 1 = omega arith in
+    let rest : left - (n + 1) ≡ left - n - 1 = omega arith in
+    rw (at, index, rest) (next_pointer Struct s (b + n) (i + n) (left - n) e more ds ps level (omega (arith, some)) h base)
+next_skipped Pointers s b i left e more ds ps level n some h base =
+    let at : b + (n + 1) ≡ b + n + 1 = omega arith in
+    let index : e + (n + 1) ≡ e + n + 1 = omega arith in
+    let rest : more - (n + 1) ≡ more - n - 1 = omega arith in
+    rw (at, index, rest) (next_of_list s (b + n) i left (e + n) (more - n) ds ps level (omega (arith, some)) base)
+next_skipped Structs s b i left e more ds ps level n some h base =
+    let at : b + (n + 1) ≡ b + n + 1 = omega arith in
+    let index : i + (n + 1) ≡ i + n + 1 = omega arith in
+    let rest : left - (n + 1) ≡ left - n - 1 = omega arith in
+    rw (at, index, rest) (next_pointer Structs s (b + n) (i + n) (left - n) e more ds ps level (omega (arith, some)) h base)
+
+branch_skipped : (m : List (List ℕ)) (depth k : ℕ) (form : Form) (s b i left e more ds ps level n : ℕ)
+    → n < row_left (branch form s b i left e more ds ps level)
+    → IsBranch m depth k (skipped (branch form s b i left e more ds ps level) n)
+    → IsBranch m depth k (skipped (branch form s b i left e more ds ps level) (n + 1))
+branch_skipped m depth k Root s b i left e more ds ps level n some h =
+    let at : b + (n + 1) ≡ b + n + 1 = omega arith in
+    let index : i + (n + 1) ≡ i + n + 1 = omega arith in
+    let rest : left - (n + 1) ≡ left - n - 1 = omega arith in
+    rw (at, index, rest) (branch_pointer m depth k Root s (b + n) (i + n) (left - n) e more ds ps level (omega (arith, some)) h)
+branch_skipped m depth k Struct s b i left e more ds ps level n some h =
+    let at : b + (n + 1) ≡ b + n + 1 = omega arith in
+    let index : i + (n + 1) ≡ i + n + 1 = omega arith in
+    let rest : left - (n + 1) ≡ left - n - 1 = omega arith in
+    rw (at, index, rest) (branch_pointer m depth k Struct s (b + n) (i + n) (left - n) e more ds ps level (omega (arith, some)) h)
+branch_skipped m depth k Pointers s b i left e more ds ps level n some h =
+    let at : b + (n + 1) ≡ b + n + 1 = omega arith in
+    let index : e + (n + 1) ≡ e + n + 1 = omega arith in
+    let rest : more - (n + 1) ≡ more - n - 1 = omega arith in
+    rw (at, index, rest) (branch_of_list m depth k s (b + n) i left (e + n) (more - n) ds ps level (omega (arith, some)) h)
+branch_skipped m depth k Structs s b i left e more ds ps level n some h =
+    let at : b + (n + 1) ≡ b + n + 1 = omega arith in
+    let index : i + (n + 1) ≡ i + n + 1 = omega arith in
+    let rest : left - (n + 1) ≡ left - n - 1 = omega arith in
+    rw (at, index, rest) (branch_pointer m depth k Structs s (b + n) (i + n) (left - n) e more ds ps level (omega (arith, some)) h)
+
+-- The words of a row come one after the other.
+pub next_in_row : (f : Branch) (n : ℕ) → n < row_left f → IsFormed f.form f → (base : List Step)
+    → rest_of base (skipped f n) ≡ word_of base (skipped f (n + 1)) ∷ rest_of base (skipped f (n + 1))
+next_in_row f n some h base =
+    next_skipped f.form f.segment f.at f.index f.left f.element f.more f.data_words f.pointers f.level n some h base
+
+pub branch_in_row : (m : List (List ℕ)) (depth k : ℕ) (f : Branch) (n : ℕ) → n < row_left f
+    → IsBranch m depth k (skipped f n) → IsBranch m depth k (skipped f (n + 1))
+branch_in_row m depth k f n some h =
+    branch_skipped m depth k f.form f.segment f.at f.index f.left f.element f.more f.data_words f.pointers f.level n some h
+
+fits_row : (form : Form) (f : Branch) (n : ℕ) → IsFormed form f → f.at + 1 + f.left + f.more * (f.data_words + f.pointers) ≤ n
+    → f.at + form_row form f < n
+fits_row Root f n h inside = omega (arith, inside)
+fits_row Struct f n h inside = omega (arith, inside)
+fits_row Pointers f n h inside =
+    let each : f.data_words + f.pointers ≡ 1 = omega (arith, h.1, h.2) in
+    let g : f.at + 1 + f.left + f.more * 1 ≤ n = rw each at inside in omega (arith, g)
+fits_row Structs f n h inside = omega (arith, inside)
+
+-- They lie inside their segment.
+pub row_inside : (m : List (List ℕ)) (depth k : ℕ) (f : Branch) → IsBranch m depth k f
+    → f.at + row_left f < length (segment_of m f.segment)
+row_inside m depth k f h = fits_row f.form f (length (segment_of m f.segment)) h.formed h.inside
 
 -- The last branch goes on to the next word of its object.
 pub went_next : (fs : List Branch) (f g : Branch) → rest_of (path_of fs) f ≡ word_of (path_of fs) g ∷ rest_of (path_of fs) g

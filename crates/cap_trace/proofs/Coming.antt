@@ -1,14 +1,15 @@
 -- A search comes to the pointer words of a message one after the other.
 use Rattle.std.proofs.Common.{sym, ◌⊎◌, ℕ, ◌≡◌, ◌∙◌, ◌+◌, ◌<◌, ◌≤◌, ap, inl, inr, List, [], ◌∷◌, ◌++◌, length, refl, subst, arith, length-append, Some}
+use Rattle.cap_spec.specs.Lists.{IsOneOf}
 use Rattle.cap_spec.specs.Messages.{segment_of}
-use Rattle.cap_spec.specs.Paths.{Before, Goes, IsOneOf, IsTour, Reaches, Spot, Walks, element, level_of, word}
+use Rattle.cap_spec.specs.Paths.{Before, Goes, IsNumbered, IsTour, Reaches, Spot, Walks, element, level_of, word}
 use Rattle.cap_spec.specs.declared.Step.{Step}
 use Rattle.cap_spec.proofs.Frames.Messages.{HasWord-inside}
 use Rattle.cap_spec.proofs.Paths.Preorder.{Before-asymmetric, Before-irreflexive}
 use Rattle.cap_vet.specs.Trails.{IsTrail}
 use Rattle.cap_vet.proofs.OneTrail.{root_trail}
 use Rattle.cap_trace.specs.Branches.{AreBranches, path_of, rest_from, root_branch}
-use Rattle.cap_trace.specs.PointerNumbers.{IsNumbered, IsTraceable, PassesAt}
+use Rattle.cap_trace.specs.PointerNumbers.{IsTraceable, PassesAt}
 use Rattle.cap_spec.proofs.Paths.Walks.{one_reached}
 use Rattle.cap_spec.proofs.Verdicts.OneFault.{one_of_last}
 use Rattle.cap_trace.specs.Traces.{HasCome, IsBlockedAt, TellsPath, filled, word_ahead}
@@ -18,16 +19,16 @@ use Rattle.cap_trace.proofs.Numbering.{number_order}
 use Rattle.cap_trace.proofs.Onward.{next_tour, root_tour, up_to_last}
 
 -- Numbers count from 1.
-pub some_number : (m : List (List ℕ)) (n : ℕ) (p : List Step) → IsNumbered m n p → 0 < n
-some_number m n p a = positive a.tour (a.is_tour.all p a.level a.segment a.at a.reached (inl refl)) a.number
+pub some_number : (m : List (List ℕ)) (n : ℕ) (p : List Step) (s w : ℕ) → IsNumbered m p s w n → 0 < n
+some_number m n p s w a = positive a.tour (a.is_tour.all p a.level s w a.reached (inl refl)) a.count
   where
     positive : (tour : List (List Step)) → IsOneOf p tour → n ≡ length tour → 0 < n
     positive [] i e = absurd i
     positive (q ∷ tour) i e = omega (arith, e)
 
 -- A message with a path has a root word.
-pub has_root : (m : List (List ℕ)) (n : ℕ) (p : List Step) → IsNumbered m n p → 0 < length (segment_of m 0)
-has_root m n p a = HasWord-inside m 0 0 a.reached.0 a.reached.2
+pub has_root : (m : List (List ℕ)) (n : ℕ) (p : List Step) (s w : ℕ) → IsNumbered m p s w n → 0 < length (segment_of m 0)
+has_root m n p s w a = HasWord-inside m 0 0 a.reached.0 a.reached.2
 
 -- At first the search is at the root word.
 pub at_root : (m : List (List ℕ)) (depth : ℕ) → 0 < length m → 0 < length (segment_of m 0)
@@ -93,29 +94,24 @@ came_next m depth n fs gs f g h passes t branches = record {
 
 -- The path to where it is has the number that it has come to.
 numbered_here : (m : List (List ℕ)) (depth n : ℕ) (fs : List Branch) (f : Branch) → HasCome m depth n fs f
-    → IsNumbered m n (path_of (fs ++ f ∷ []))
-numbered_here m depth n fs f h = record {
-  level = f.level;
-  segment = f.segment;
-  at = f.at;
-  tour = h.tour;
-  reached = h.trail.ahead_reached.0;
-  is_tour = h.is_tour;
-  number = h.number;
-}
+    → IsNumbered m (path_of (fs ++ f ∷ [])) f.segment f.at n
+numbered_here m depth n fs f h =
+    record { level = f.level; tour = h.tour; reached = h.trail.ahead_reached.0; is_tour = h.is_tour; count = h.number }
 
 -- It is traceable.
 pub traceable_here : (m : List (List ℕ)) (depth n : ℕ) (fs : List Branch) (f : Branch) → HasCome m depth n fs f
     → IsTraceable m depth n (path_of (fs ++ f ∷ []))
-traceable_here m depth n fs f h = record { numbered = numbered_here m depth n fs f h; passable = h.passable }
+traceable_here m depth n fs f h =
+    record { segment = f.segment; at = f.at; numbered = numbered_here m depth n fs f h; passable = h.passable }
 
 -- Where no word is ahead, no path has a higher number.
-pub none_higher : (m : List (List ℕ)) (depth n more : ℕ) (fs : List Branch) (f : Branch) (q : List Step)
-    → (h : HasCome m depth n fs f) → IsTrail m (path_of (fs ++ f ∷ []) ∷ h.seen) [] → n < more → IsNumbered m more q → ⊥
-none_higher m depth n more fs f q h t less a =
+pub none_higher : (m : List (List ℕ)) (depth n more : ℕ) (fs : List Branch) (f : Branch) (q : List Step) (s w : ℕ)
+    → (h : HasCome m depth n fs f) → IsTrail m (path_of (fs ++ f ∷ []) ∷ h.seen) [] → n < more
+    → IsNumbered m q s w more → ⊥
+none_higher m depth n more fs f q s w h t less a =
     let p = path_of (fs ++ f ∷ []) in
-    let b : Before p q = number_order m n more p q (numbered_here m depth n fs f h) a less in
-    elim (t.complete q a.level a.segment a.at a.reached) [
+    let b : Before p q = number_order m n more p q f.segment f.at s w (numbered_here m depth n fs f h) a less in
+    elim (t.complete q a.level s w a.reached) [
       | inl i ↦ elim (up_to_last p q h.seen t.falls i) [
         | inl e ↦ Before-irreflexive p (subst (λ (u : List Step). Before p u) e b)
         | inr k ↦ Before-asymmetric p q b k
@@ -128,7 +124,7 @@ pub none_past : (m : List (List ℕ)) (depth n more : ℕ) (fs : List Branch) (f
     → HasCome m depth n fs f → IsBlockedAt m depth f.segment f.at f.level → n < more → IsTraceable m depth more q → ⊥
 none_past m depth n more fs f q h blocked less a =
     let p = path_of (fs ++ f ∷ []) in
-    let b : Before p q = number_order m n more p q (numbered_here m depth n fs f h) a.numbered less in
+    let b : Before p q = number_order m n more p q f.segment f.at a.segment a.at (numbered_here m depth n fs f h) a.numbered less in
     let on = a.passable p b f.level f.segment f.at h.trail.ahead_reached.0 in
     elim blocked [ inl wrong ↦ on.0 wrong.0 wrong.1 | inr deep ↦ on.1 deep ]
 

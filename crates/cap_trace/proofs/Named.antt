@@ -2,8 +2,9 @@
 use Rattle.std.proofs.Common.{ℕ, ◌≡◌, ◌≤◌, ◌∙◌, inl, inr, List, Option, None, Some, ap, arith, length, refl, subst, sym, take}
 use Rattle.std.specs.Option.{option_map}
 use Rattle.std.specs.Prelude.{IfSome}
+use Rattle.cap_spec.specs.Accepting.{IsWithin}
 use Rattle.cap_spec.specs.Faults.{IsFirstFault, IsRefused}
-use Rattle.cap_spec.specs.Strict.{IsFirstLax, IsWithin}
+use Rattle.cap_spec.specs.Strict.{IsFirstLax}
 use Rattle.cap_spec.specs.declared.Lax.{Lax}
 use Rattle.cap_spec.specs.declared.Refusal.{Refusal}
 use Rattle.cap_spec.specs.declared.Step.{Step}
@@ -22,7 +23,7 @@ use Rattle.cap_trace.proofs.Traceable.{fault_traceable, lax_traceable}
 -- There is no path of number 0.
 none_traced : (m : List (List ℕ)) (depth n : ℕ) (path : Option (List Step)) → n ≡ 0 → IsTraced m depth n path → path ≡ None
 none_traced m depth n None z t = refl
-none_traced m depth n (Some path) z t = absurd (omega (arith, z, some_number m n path t.numbered))
+none_traced m depth n (Some path) z t = absurd (omega (arith, z, some_number m n path t.segment t.at t.numbered))
 
 -- What is found by the number of a refusal is the path of the refusal.
 pub path_named : (demands : Demands) (m : List (List ℕ)) (words depth n : ℕ) (found : Option (List Step))
@@ -61,11 +62,11 @@ one_refused : (m : List (List ℕ)) (words depth : ℕ) (r : Refusal) (h k : IsR
     → refused_path m words depth r h ≡ refused_path m words depth r k
 one_refused m words depth r (inl none) (inl also) = refl
 one_refused m words depth r (inl none) (inr g) =
-    absurd (omega (arith, none.pointers, some_number m r.pointers g.path (fault_traceable m words depth r g).numbered))
+    absurd (omega (arith, none.pointers, some_number m r.pointers g.path _ _ (fault_traceable m words depth r g).numbered))
 one_refused m words depth r (inr f) (inl none) =
-    absurd (omega (arith, none.pointers, some_number m r.pointers f.path (fault_traceable m words depth r f).numbered))
+    absurd (omega (arith, none.pointers, some_number m r.pointers f.path _ _ (fault_traceable m words depth r f).numbered))
 one_refused m words depth r (inr f) (inr g) =
-    ap Some (one_numbered m r.pointers f.path g.path (fault_traceable m words depth r f).numbered
+    ap Some (one_numbered m r.pointers f.path g.path _ _ _ _ (fault_traceable m words depth r f).numbered
     (fault_traceable m words depth r g).numbered)
 
 pub one_path : (demands : Demands) (m : List (List ℕ)) (words depth : ℕ) (fault : StrictRefusal)
@@ -75,5 +76,5 @@ one_path demands m words depth (Refused r) h k = one_refused m (words_under dema
 one_path demands m words depth ManySegments h k = refl
 one_path demands m words depth (Pointer what s w n) h k =
     let limit = words_under demands m words in
-    ap Some (one_numbered m n h.1.2.path k.1.2.path (lax_traceable m limit depth s w what n h.1.0 h.1.2).numbered
+    ap Some (one_numbered m n h.1.2.path k.1.2.path _ _ _ _ (lax_traceable m limit depth s w what n h.1.0 h.1.2).numbered
     (lax_traceable m limit depth s w what n k.1.0 k.1.2).numbered)

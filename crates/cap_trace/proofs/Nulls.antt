@@ -1,27 +1,42 @@
--- A search goes on past null words.
-use Rattle.std.proofs.Common.{ℕ, ◌+◌, ◌≡◌, List, [], ◌∷◌, ◌++◌, None, arith, refl, subst}
-use Rattle.cap_spec.specs.Following.{Leads, near, to_null}
+-- A search goes on past words with nothing below them.
+use Rattle.std.proofs.Common.{ℕ, ◌+◌, ◌<◌, ◌≡◌, List, [], ◌∷◌, ◌++◌, None, arith, refl, subst}
+use Rattle.cap_spec.specs.Following.{Leads, near, to_cap, to_null}
 use Rattle.cap_spec.specs.Messages.{HasWord}
 use Rattle.cap_spec.specs.declared.Step.{Step}
-use Rattle.cap_spec.proofs.Pointers.Following.{null-not_wrong}
+use Rattle.cap_spec.proofs.Pointers.Following.{cap-not_wrong, null-not_wrong}
 use Rattle.cap_vet.specs.Trails.{Ahead, IsTrail}
-use Rattle.cap_trace.specs.Branches.{IsBranch, path_of, rest_from, rest_of, word_of}
+use Rattle.cap_trace.specs.Branches.{IsBranch, IsFormed, form_skipped, path_of, rest_from, rest_of, row_left, skipped, word_of}
 use Rattle.cap_trace.specs.Traces.{GoesBelow, HasCome}
 use Rattle.cap_trace.specs.declared.below.Below.TheVariants.{Object}
 use Rattle.cap_trace.specs.declared.branch.Branch.{Branch}
-use Rattle.cap_trace.proofs.Branches.{branches_with, branches_without, went_next}
+use Rattle.cap_trace.specs.declared.branch.Form.{Form}
+use Rattle.cap_trace.specs.declared.branch.Form.TheVariants.{Root, Struct, Pointers, Structs}
+use Rattle.cap_trace.proofs.Branches.{branch_in_row, branches_with, branches_without, next_in_row, went_next}
 use Rattle.cap_trace.proofs.Coming.{came_next}
-use Rattle.cap_trace.proofs.Onward.{leaf_trail, null_finds_none}
+use Rattle.cap_trace.proofs.Onward.{cap_finds_none, leaf_trail, null_finds_none}
 
--- Nothing is below a null word.
+-- Nothing is below a pointer that leads to null,
+pub nothing_below : (m : List (List ℕ)) (depth k : ℕ) (from : Branch) → Leads m from.segment from.at k to_null
+    → GoesBelow m depth from (Object None)
+nothing_below m depth k from lead = (
+  (null-not_wrong m _ _ _ lead, λ deep. null_finds_none m _ _ _ lead deep.0 deep.1 deep.2 deep.3 deep.5),
+  (λ n h. tt),
+  (λ seen path ahead t. leaf_trail m seen _ ahead t (null_finds_none m _ _ _ lead)),
+)
+
+-- as a null word does,
 pub null_below : (m : List (List ℕ)) (depth : ℕ) (from : Branch) → HasWord m from.segment from.at 0
     → GoesBelow m depth from (Object None)
-null_below m depth from null =
-    let lead : Leads m from.segment from.at 0 to_null = near 0 null (omega arith) refl refl in (
-      (null-not_wrong m _ _ _ lead, λ deep. null_finds_none m _ _ _ lead deep.0 deep.1 deep.2 deep.3 deep.5),
-      (λ n h. tt),
-      (λ seen path ahead t. leaf_trail m seen _ ahead t (null_finds_none m _ _ _ lead)),
-    )
+null_below m depth from null = nothing_below m depth 0 from (near 0 null (omega arith) refl refl)
+
+-- or to a capability.
+pub cap_below : (m : List (List ℕ)) (depth k i : ℕ) (from : Branch) → Leads m from.segment from.at k (to_cap i)
+    → GoesBelow m depth from (Object None)
+cap_below m depth k i from lead = (
+  (cap-not_wrong m _ _ _ _ lead, λ deep. cap_finds_none m _ _ _ _ lead deep.0 deep.1 deep.2 deep.3 deep.5),
+  (λ n h. tt),
+  (λ seen path ahead t. leaf_trail m seen _ ahead t (cap_finds_none m _ _ _ _ lead)),
+)
 
 -- The search comes to the next word of the same object.
 pub came_over_null : (m : List (List ℕ)) (depth n : ℕ) (fs : List Branch) (f g : Branch) → HasCome m depth n fs f
@@ -34,3 +49,21 @@ came_over_null m depth n fs f g h null next branch =
     (subst (λ (u : List Ahead). IsTrail m (path_of (fs ++ f ∷ []) ∷ h.seen) u) (went_next fs f g (next (path_of fs)))
     (below.2 h.seen (path_of (fs ++ f ∷ [])) (rest_from [] (fs ++ f ∷ [])) h.trail))
     (branches_with m depth 0 fs g b.0 (branch _ b.1))
+
+-- the word after n words of a row
+word_in_row : (m : List (List ℕ)) (form : Form) (f : Branch) (n q : ℕ) → HasWord m f.segment (f.at + n) q
+    → HasWord m (form_skipped form f n).segment (form_skipped form f n).at q
+word_in_row m Root f n q h = h
+word_in_row m Struct f n q h = h
+word_in_row m Pointers f n q h = h
+word_in_row m Structs f n q h = h
+
+-- It comes to the next word of the row.
+pub came_in_row : (m : List (List ℕ)) (depth k n : ℕ) (fs : List Branch) (f : Branch) → IsFormed f.form f → n < row_left f
+    → HasWord m f.segment (f.at + n) 0 → HasCome m depth (k + n) fs (skipped f n)
+    → HasCome m depth (k + (n + 1)) fs (skipped f (n + 1))
+came_in_row m depth k n fs f formed some null h =
+    let e : k + n + 1 ≡ k + (n + 1) = omega arith in
+    subst (λ (u : ℕ). HasCome m depth u fs (skipped f (n + 1))) e
+    (came_over_null m depth (k + n) fs (skipped f n) (skipped f (n + 1)) h (word_in_row m f.form f n 0 null)
+    (next_in_row f n some formed) (λ i b. branch_in_row m depth i f n some b))

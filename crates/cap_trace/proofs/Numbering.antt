@@ -1,11 +1,11 @@
 -- Of two paths the one with the smaller number comes first.
-use Rattle.std.proofs.Common.{ℕ, ◌≡◌, ◌<◌, ◌≤◌, ◌⊎◌, inl, inr, List, [], ◌∷◌, ◌++◌, length, refl, sym, ap, ◌∙◌, subst, arith, length-append}
-use Rattle.cap_spec.specs.Paths.{Before, IsOneOf, IsTour, Reaches, Rises, word}
+use Rattle.std.proofs.Common.{ℕ, ◌≡◌, ◌<◌, ◌≤◌, ◌⊎◌, inl, inr, List, [], ◌∷◌, ◌++◌, length, refl, sym, subst, arith, length-append}
+use Rattle.cap_spec.specs.Lists.{IsOneOf}
+use Rattle.cap_spec.specs.Paths.{Before, IsNumbered, Reaches, Rises, word}
 use Rattle.cap_spec.specs.declared.Step.{Step}
 use Rattle.cap_spec.proofs.Paths.Preorder.{Before-irreflexive, Before-total_coming, Before-trans}
-use Rattle.cap_spec.proofs.Paths.Preorder.{Rises-first, Rises-rest, one_tour}
+use Rattle.cap_spec.proofs.Paths.Preorder.{Rises-first, Rises-rest, one_number}
 use Rattle.cap_spec.proofs.Verdicts.OneFault.{one_of_last}
-use Rattle.cap_trace.specs.PointerNumbers.{IsNumbered}
 
 -- A rising list of some of the paths of another isn't longer than that.
 rises_fewer : (ps qs : List (List Step)) → Rises ps → Rises qs → ((x : List Step) → IsOneOf x ps → IsOneOf x qs)
@@ -47,41 +47,38 @@ pub before_later : (x p q : List Step) → Before p q → (x ≡ p) ⊎ Before x
 before_later x p q b (inl e) = subst (λ (u : List Step). Before u q) (sym e) b
 before_later x p q b (inr k) = Before-trans x p q k b
 
-fewer_before : (m : List (List ℕ)) (i j : ℕ) (p q : List Step) → IsNumbered m i p → IsNumbered m j q → Before p q → i < j
-fewer_before m i j p q a c b =
+fewer_before : (m : List (List ℕ)) (i j : ℕ) (p q : List Step) (s w s' w' : ℕ) → IsNumbered m p s w i
+    → IsNumbered m q s' w' j → Before p q → i < j
+fewer_before m i j p q s w s' w' a c b =
     let r = rises_fewer (a.tour ++ q ∷ []) c.tour
     (Rises-last a.tour q a.is_tour.rising (λ x k. before_later x p q b (a.is_tour.none_after x k))) c.is_tour.rising
     (λ x k. among x (one_of_last x q a.tour k)) in
-    omega (arith, r, length-append a.tour (q ∷ []), a.number, c.number)
+    omega (arith, r, length-append a.tour (q ∷ []), a.count, c.count)
   where
     among : (x : List Step) → (x ≡ q) ⊎ IsOneOf x a.tour → IsOneOf x c.tour
     among x (inl e) =
-        c.is_tour.all x c.level c.segment c.at
-        (subst (λ (u : List Step). Reaches m u c.level c.segment c.at) (sym e) c.reached) (inl e)
+        c.is_tour.all x c.level s' w'
+        (subst (λ (u : List Step). Reaches m u c.level s' w') (sym e) c.reached) (inl e)
     among x (inr k) =
         let r = a.is_tour.reached x k in
         c.is_tour.all x r.0 r.1 r.2 r.3 (inr (before_later x p q b (a.is_tour.none_after x k)))
 
--- Paths have one number.
-same_path : (m : List (List ℕ)) (i j : ℕ) (p q : List Step) → IsNumbered m i p → IsNumbered m j q → p ≡ q → i ≡ j
-same_path m i j p q a c e =
-    let t = one_tour m q a.tour c.tour (subst (λ (u : List Step). IsTour m u a.tour) e a.is_tour) c.is_tour in
-    a.number ∙ ap length t ∙ sym c.number
-
-pub number_order : (m : List (List ℕ)) (i j : ℕ) (p q : List Step) → IsNumbered m i p → IsNumbered m j q → i < j → Before p q
-number_order m i j p q a c less =
-    go (Before-total_coming m p q a.level c.level (word a.segment a.at) (word c.segment c.at) a.reached c.reached)
+pub number_order : (m : List (List ℕ)) (i j : ℕ) (p q : List Step) (s w s' w' : ℕ) → IsNumbered m p s w i
+    → IsNumbered m q s' w' j → i < j → Before p q
+number_order m i j p q s w s' w' a c less =
+    go (Before-total_coming m p q a.level c.level (word s w) (word s' w') a.reached c.reached)
   where
     go : (p ≡ q) ⊎ Before p q ⊎ Before q p → Before p q
-    go (inl e) = absurd (omega (arith, same_path m i j p q a c e))
+    go (inl e) = absurd (omega (arith, (one_number m p q s w i s' w' j a c e).2))
     go (inr (inl b)) = b
-    go (inr (inr b)) = absurd (omega (arith, fewer_before m j i q p c a b))
+    go (inr (inr b)) = absurd (omega (arith, fewer_before m j i q p s' w' s w c a b))
 
-pub one_numbered : (m : List (List ℕ)) (n : ℕ) (p q : List Step) → IsNumbered m n p → IsNumbered m n q → p ≡ q
-one_numbered m n p q a c =
-    go (Before-total_coming m p q a.level c.level (word a.segment a.at) (word c.segment c.at) a.reached c.reached)
+pub one_numbered : (m : List (List ℕ)) (n : ℕ) (p q : List Step) (s w s' w' : ℕ) → IsNumbered m p s w n
+    → IsNumbered m q s' w' n → p ≡ q
+one_numbered m n p q s w s' w' a c =
+    go (Before-total_coming m p q a.level c.level (word s w) (word s' w') a.reached c.reached)
   where
     go : (p ≡ q) ⊎ Before p q ⊎ Before q p → p ≡ q
     go (inl e) = e
-    go (inr (inl b)) = absurd (omega (arith, fewer_before m n n p q a c b))
-    go (inr (inr b)) = absurd (omega (arith, fewer_before m n n q p c a b))
+    go (inr (inl b)) = absurd (omega (arith, fewer_before m n n p q s w s' w' a c b))
+    go (inr (inr b)) = absurd (omega (arith, fewer_before m n n q p s' w' s w c a b))

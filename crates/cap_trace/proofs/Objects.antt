@@ -9,10 +9,9 @@ use Rattle.cap_spec.specs.declared.Step.TheVariants.{Ptr, Item}
 use Rattle.cap_spec.proofs.Frames.Messages.{short_segment}
 use Rattle.cap_spec.proofs.Trees.Charges.{extent_structs}
 use Rattle.std.proofs.lemmas.Bool.Decides.{eqb_tells}
-use Rattle.cap_spec.specs.Verdicts.{levels_below}
+use Rattle.cap_spec.specs.Verdicts.{levels_below, IsDeepAt}
 use Rattle.cap_ptr.specs.Shapes.{FindsObject, FindsTargetBy, IsShape}
 use Rattle.cap_ptr.specs.declared.shapes.Target.{Target}
-use Rattle.cap_spec.specs.Faults.{IsDeepAt}
 use Rattle.cap_spec.specs.Messages.{HasWord}
 use Rattle.cap_spec.proofs.Frames.Messages.{one_word}
 use Rattle.cap_spec.proofs.Trees.Finding.{one_object}

@@ -2,15 +2,16 @@
 use Rattle.std.proofs.Common.{ℕ, ◌≡◌, ◌<◌, ◌⊎◌, inl, inr, List, [], ◌∷◌, ◌++◌, length, refl, sym, ◌∙◌, subst}
 use Rattle.std.proofs.lemmas.List.{append-nil}
 use Rattle.std.specs.Prelude.{pos}
+use Rattle.cap_spec.specs.Lists.{IsOneOf}
 use Rattle.cap_spec.specs.Denoting.{Finds}
 use Rattle.cap_spec.specs.Following.{Leads, to_cap, to_null, to_object}
 use Rattle.cap_spec.specs.Messages.{segment_of}
-use Rattle.cap_spec.specs.Paths.{Before, Goes, IsOneOf, IsTour, Reaches, Spot, word}
+use Rattle.cap_spec.specs.Paths.{Before, Goes, IsTour, Reaches, Spot, word}
 use Rattle.cap_spec.specs.declared.Step.{Step}
 use Rattle.cap_spec.specs.declared.Step.TheVariants.{Ptr, Item}
 use Rattle.cap_spec.proofs.Frames.Messages.{HasWord-at}
 use Rattle.cap_spec.proofs.Paths.Preorder.{Before-asymmetric, Before-irreflexive, Before-longer, Before-trans}
-use Rattle.cap_spec.proofs.Paths.Walks.{one_walk, walk_parts}
+use Rattle.cap_spec.proofs.Paths.Walks.{comes_beyond}
 use Rattle.cap_spec.proofs.Pointers.Following.{one_lead}
 use Rattle.cap_spec.proofs.Verdicts.OneFault.{last_is_one, one_of_last}
 use Rattle.cap_vet.specs.Trails.{Ahead, Apart, EachApart, Falls, IsTrail, IsUnder, Precedes}
@@ -110,16 +111,15 @@ step_finds : (m : List (List ℕ)) (s w : ℕ) (x : Step) (mid : Spot) → Goes 
     → (k t b q : ℕ) × Finds m s w k t b q
 step_finds m s w (Ptr i) mid g = (g.0, g.1, g.2, g.3, g.4)
 step_finds m s w (Item i) mid (inl g) = (g.0, g.1, g.2, g.3, g.4)
-step_finds m s w (Item i) mid (inr g) = (g.0, g.1, g.2, g.3, g.5)
+step_finds m s w (Item i) mid (inr (k, t, b, q, tag, finds, is_list, of_structs, has_tag, less, ends)) =
+    (k, t, b, q, finds)
 
 -- no path goes on from a word that finds no object
 ends_there : (m : List (List ℕ)) (p : List Step) (level s w : ℕ) (x : Step) (v : List Step) (l s' w' : ℕ)
     → Reaches m p level s w → ((k t b q : ℕ) → Finds m s w k t b q → ⊥) → Reaches m (p ++ x ∷ v) l s' w' → ⊥
 ends_there m p level s w x v l s' w' r none h =
-    let parts = walk_parts m (word 0 0) (word s' w') p (x ∷ v) h.1 h.3 in
-    let same = one_walk m (word 0 0) p parts.1 r.1 parts.0 (word s w) parts.3 r.3 in
-    let on = parts.4 in
-    let f = step_finds m s w x on.0 (subst (λ (u : Spot). Goes m u x on.0) same.1 on.2) in
+    let on = (comes_beyond m p (x ∷ v) level l (word s w) (word s' w') r h).1 in
+    let f = step_finds m s w x on.0 on.2 in
     none f.0 f.1 f.2 f.3 f.4
 
 -- After a word that finds no object the others are ahead.

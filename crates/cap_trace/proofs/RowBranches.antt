@@ -1,12 +1,14 @@
--- The first pointer word of an object that its pointer word alone describes.
+-- The first pointer word of an object that one word describes alone.
 use Rattle.std.proofs.Common.{ℕ, suc, ◌+◌, ◌<◌, ◌≤◌, ◌≡◌, ◌∙◌, ◌==◌, inl, inr, List, [], ◌∷◌, ◌++◌, false, None, Some, refl, sym, ap, subst, arith}
 use Rattle.std.proofs.lemmas.Bool.{ne_eqb}
-use Rattle.cap_spec.specs.Following.{IsComposite}
+use Rattle.std.specs.Prelude.{pos}
+use Rattle.cap_spec.specs.Following.{IsComposite, to_object}
+use Rattle.cap_spec.specs.Denoting.{Finds}
 use Rattle.cap_spec.specs.Messages.{HasWord}
 use Rattle.cap_spec.specs.Pointers.{code, kind, list_size, pointer_size}
 use Rattle.cap_spec.specs.Verdicts.{levels_below}
 use Rattle.cap_spec.specs.declared.Step.{Step}
-use Rattle.cap_spec.proofs.Pointers.Following.{object-not_wrong}
+use Rattle.cap_spec.proofs.Pointers.Following.{leads-near, object-not_wrong}
 use Rattle.cap_spec.proofs.Trees.Finding.{one_object}
 use Rattle.cap_ptr.specs.Rows.{FindsRow, HasPointers}
 use Rattle.cap_ptr.specs.declared.near.Row.{Row}
@@ -15,10 +17,12 @@ use Rattle.cap_vet.specs.Looking.{object_children}
 use Rattle.cap_vet.specs.Trails.{Ahead, IsTrail}
 use Rattle.cap_vet.proofs.OneTrail.{object_trail}
 use Rattle.cap_trace.specs.Branches.{IsBranch, rest_of, word_of}
+use Rattle.cap_trace.specs.NearPointers.{IsNearPointer}
 use Rattle.cap_trace.specs.PointerNumbers.{PassesAt}
 use Rattle.cap_trace.specs.Traces.{GoesBelow, IsBlockedAt}
 use Rattle.cap_trace.specs.declared.below.Below.TheVariants.{Object}
 use Rattle.cap_trace.specs.declared.branch.Branch.{Branch}
+use Rattle.cap_trace.specs.declared.near.NearPointer.{NearPointer}
 use Rattle.cap_trace.specs.declared.branch.Form.TheVariants.{Pointers}
 use Rattle.cap_trace.proofs.Branches.{branch}
 
@@ -30,22 +34,32 @@ row_levels q n other (inr (inr (k, some, few, e))) =
     let seven : (code q == 7) ≡ false = ne_eqb (code q) 7 (λ h. omega (arith, h, few)) in rw (k, seven) refl
 
 -- and has no tag
-no_tag : (m : List (List ℕ)) (s w q : ℕ) (r : Row) → FindsRow m s w q r → IsComposite q → HasWord m s r.start 0
-no_tag m s w q r f h = absurd ((pointers-plain q r.pointer_count f.pointers).1 h.0 h.1)
+no_tag : (m : List (List ℕ)) (t at q : ℕ) (r : Row) → FindsRow m t at q r → IsComposite q → HasWord m t r.start 0
+no_tag m t at q r f h = absurd ((pointers-plain q r.pointer_count f.pointers).1 h.0 h.1)
 
-row_passes : (m : List (List ℕ)) (depth s w level q : ℕ) (r : Row) → FindsRow m s w q r → level ≤ depth
-    → PassesAt m depth s w level
-row_passes m depth s w level q r f within = (
-  object-not_wrong m _ _ _ _ _ q f.finds,
-  λ (k, t, b, p, other, g, tagged, past).
-      let same = one_object m s w 0 s r.start q k t b p f.finds g in
-      omega (arith, row_levels q r.pointer_count other f.pointers, ap (λ (u : ℕ). levels_below u other) same.shape, within, past),
-)
+-- The pointer word whose place the word takes leads to that object.
+near_finds : (m : List (List ℕ)) (s w : ℕ) (p : NearPointer) (r : Row) → IsNearPointer m s w p
+    → FindsRow m p.segment p.at p.word r → Finds m s w p.pads p.segment r.start p.word
+near_finds m s w p r h f =
+    let plain = (pointers-plain p.word r.pointer_count f.pointers).0 in record {
+      leads = h.stands.leads (to_object p.segment (pos r.start) p.word) (leads-near m p.segment p.at 0 _ f.finds.leads p.word h.has (λ e. omega (arith, plain, e))).1;
+      sits = f.finds.sits;
+    }
 
-pub row_blocked : (m : List (List ℕ)) (depth s w level q : ℕ) (r : Row) → FindsRow m s w q r → depth < level
-    → IsBlockedAt m depth s w level
-row_blocked m depth s w level q r f past =
-    inr (0, s, r.start, q, 0, f.finds, no_tag m s w q r f, omega (arith, row_levels q r.pointer_count 0 f.pointers, past))
+row_passes : (m : List (List ℕ)) (depth s w level : ℕ) (p : NearPointer) (r : Row) → IsNearPointer m s w p
+    → FindsRow m p.segment p.at p.word r → level ≤ depth → PassesAt m depth s w level
+row_passes m depth s w level p r h f within =
+    let finds = near_finds m s w p r h f in (
+      object-not_wrong m _ _ _ _ _ p.word finds,
+      λ (k, t, b, q, other, g, tagged, past).
+          let same = one_object m s w p.pads p.segment r.start p.word k t b q finds g in
+          omega (arith, row_levels p.word r.pointer_count other f.pointers, ap (λ (u : ℕ). levels_below u other) same.shape, within, past),
+    )
+
+pub row_blocked : (m : List (List ℕ)) (depth s w level : ℕ) (p : NearPointer) (r : Row) → IsNearPointer m s w p
+    → FindsRow m p.segment p.at p.word r → depth < level → IsBlockedAt m depth s w level
+row_blocked m depth s w level p r h f past =
+    inr (p.pads, p.segment, r.start, p.word, 0, near_finds m s w p r h f, no_tag m p.segment p.at p.word r f, omega (arith, row_levels p.word r.pointer_count 0 f.pointers, past))
 
 -- without pointers it has no pointer words
 no_children : (base : List Step) (q n t b level : ℕ) → HasPointers q n → n ≡ 0
@@ -56,25 +70,26 @@ no_children base q n t b level (inr (inr (k, some, few, e))) z =
     let six : (code q == 6) ≡ false = ne_eqb (code q) 6 (λ h. omega (arith, h, few)) in
     let seven : (code q == 7) ≡ false = ne_eqb (code q) 7 (λ h. omega (arith, h, few)) in rw (k, six, seven) refl
 
-pub row_none : (m : List (List ℕ)) (depth : ℕ) (from : Branch) (q : ℕ) (r : Row) → FindsRow m from.segment from.at q r
-    → from.level ≤ depth → r.pointer_count ≡ 0 → GoesBelow m depth from (Object None)
-row_none m depth from q r f within none = (
-  row_passes m depth from.segment from.at from.level q r f within,
-  (λ n h. tt),
+pub row_none : (m : List (List ℕ)) (depth : ℕ) (from : Branch) (p : NearPointer) (r : Row)
+    → IsNearPointer m from.segment from.at p → FindsRow m p.segment p.at p.word r → from.level ≤ depth
+    → r.pointer_count ≡ 0 → GoesBelow m depth from (Object None)
+row_none m depth from p r h f within none = (
+  row_passes m depth from.segment from.at from.level p r h f within,
+  (λ n k. tt),
   (λ seen path ahead t. subst (λ (u : List Ahead). IsTrail m (path ∷ seen) (u ++ ahead))
-      (no_children path q r.pointer_count from.segment r.start from.level f.pointers none)
-      (object_trail m seen _ ahead _ _ _ q 0 t f.finds (no_tag m from.segment from.at q r f))),
+      (no_children path p.word r.pointer_count p.segment r.start from.level f.pointers none)
+      (object_trail m seen _ ahead _ _ _ p.word 0 t (near_finds m from.segment from.at p r h f) (no_tag m p.segment p.at p.word r f))),
 )
 
-pub row_some : (m : List (List ℕ)) (depth : ℕ) (from : Branch) (q : ℕ) (r : Row) (b : Branch)
-    → FindsRow m from.segment from.at q r → from.level ≤ depth
-    → ((base : List Step) → word_of base b ∷ rest_of base b ≡ object_children base q 0 from.segment r.start from.level)
+pub row_some : (m : List (List ℕ)) (depth : ℕ) (from : Branch) (p : NearPointer) (r : Row) (b : Branch)
+    → IsNearPointer m from.segment from.at p → FindsRow m p.segment p.at p.word r → from.level ≤ depth
+    → ((base : List Step) → word_of base b ∷ rest_of base b ≡ object_children base p.word 0 p.segment r.start from.level)
     → ((n : ℕ) → n + 1 ≤ from.level → IsBranch m depth (n + 1) b) → GoesBelow m depth from (Object (Some b))
-row_some m depth from q r b f within words branches = (
-  row_passes m depth from.segment from.at from.level q r f within,
-  (λ n h. branches n h.high),
+row_some m depth from p r b h f within words branches = (
+  row_passes m depth from.segment from.at from.level p r h f within,
+  (λ n k. branches n k.high),
   (λ seen path ahead t. subst (λ (u : List Ahead). IsTrail m (path ∷ seen) (u ++ ahead)) (sym (words path))
-      (object_trail m seen _ ahead _ _ _ q 0 t f.finds (no_tag m from.segment from.at q r f))),
+      (object_trail m seen _ ahead _ _ _ p.word 0 t (near_finds m from.segment from.at p r h f) (no_tag m p.segment p.at p.word r f))),
 )
 
 -- What isn't a struct and has pointers is a list of them.

@@ -1,10 +1,12 @@
 -- The pointer that a verdict names can be traced.
 use Rattle.std.proofs.Common.{ℕ, ◌≡◌, ◌⊎◌, inl, inr, List, [], ◌∷◌, ◌++◌, length, sym, ap, ◌∙◌, subst, arith, Option, None, Some}
+use Rattle.cap_spec.specs.Accepting.{IsWithin}
+use Rattle.cap_spec.specs.Lists.{IsOneOf}
 use Rattle.cap_spec.specs.Faults.{IsFirstFault}
 use Rattle.cap_spec.specs.Following.{Wrong}
 use Rattle.cap_spec.specs.Occupying.{IsFirstOverlap}
-use Rattle.cap_spec.specs.Paths.{Before, IsOneOf, Reaches}
-use Rattle.cap_spec.specs.Strict.{IsFirstLax, IsWithin}
+use Rattle.cap_spec.specs.Paths.{Before, Reaches}
+use Rattle.cap_spec.specs.Strict.{IsFirstLax}
 use Rattle.cap_spec.specs.Verdicts.{CostOf}
 use Rattle.cap_spec.specs.declared.Lax.{Lax}
 use Rattle.cap_spec.specs.declared.Reason.{Reason}
@@ -32,14 +34,14 @@ not_wrong_among m (q ∷ qs) x p level s w v h (inr i) r wrong = not_wrong_among
 pub fault_traceable : (m : List (List ℕ)) (words depth : ℕ) (r : Refusal) → (f : IsFirstFault m words depth r)
     → IsTraceable m depth r.pointers f.path
 fault_traceable m words depth r f = record {
+  segment = r.segment;
+  at = r.word;
   numbered = record {
     level = f.level;
-    segment = r.segment;
-    at = r.word;
     tour = f.before ++ f.path ∷ [];
     reached = f.reached;
     is_tour = f.tour;
-    number = f.pointers;
+    count = f.pointers;
   };
   passable = λ q b level s w reach.
       let i = before q b (one_of_last q f.path f.before (f.tour.all q level s w reach (inr b))) in (
@@ -54,39 +56,27 @@ fault_traceable m words depth r f = record {
 
 -- All paths of an accepted message are passable.
 accepted_passable : (m : List (List ℕ)) (words depth : ℕ) → IsWithin m words depth → (q : List Step) → IsPassable m depth q
-accepted_passable m words depth a q = λ level s w r. (
-  (λ v wrong. reached_not_wrong m a.tree a.charge a.levels a.denotes q level s w v r wrong),
-  (λ (k, t, b, x, tag, f, tagged, past).
-      omega (arith, paths_within_depth m a.tree a.charge a.levels a.denotes q level s w k t b x tag r f tagged, a.few_levels, past)),
+accepted_passable m words depth (t, c, d, a) q = λ level s w r. (
+  (λ v wrong. reached_not_wrong m t c d a.denotes q level s w v r wrong),
+  (λ (k, t', b, x, tag, f, tagged, past).
+      omega (arith, paths_within_depth m t c d a.denotes q level s w k t' b x tag r f tagged, a.few_levels, past)),
 )
 
 pub lax_traceable : (m : List (List ℕ)) (words depth s w : ℕ) (what : Lax) (n : ℕ) → IsWithin m words depth
     → (f : IsFirstLax m s w what n) → IsTraceable m depth n f.path
 lax_traceable m words depth s w what n a f = record {
-  numbered = record {
-    level = f.level;
-    segment = s;
-    at = w;
-    tour = f.tour;
-    reached = f.reached;
-    is_tour = f.is_tour;
-    number = f.number;
-  };
+  segment = s;
+  at = w;
+  numbered = f.numbered;
   passable = λ q b. accepted_passable m words depth a q;
 }
 
 pub overlap_traceable : (m : List (List ℕ)) (words depth s w n : ℕ) → IsWithin m words depth
     → (f : IsFirstOverlap m s w n) → IsTraceable m depth n f.path
 overlap_traceable m words depth s w n a f = record {
-  numbered = record {
-    level = f.level;
-    segment = s;
-    at = w;
-    tour = f.tour;
-    reached = f.reached;
-    is_tour = f.is_tour;
-    number = f.number;
-  };
+  segment = s;
+  at = w;
+  numbered = f.numbered;
   passable = λ q b. accepted_passable m words depth a q;
 }
 
@@ -95,7 +85,7 @@ pub gives_traceable : (m : List (List ℕ)) (depth n : ℕ) (path old : List Ste
     → TellsPath m depth n old result new → IsTraceable m depth n path → GivesPath path old result new
 gives_traceable m depth n path old None new h a = absurd (h.0 path a)
 gives_traceable m depth n path old (Some count) new h a =
-    let e = one_numbered m n h.0 path h.1.numbered a.numbered in
+    let e = one_numbered m n h.0 path h.1.segment h.1.at a.segment a.at h.1.numbered a.numbered in
     (ap Some (h.2 ∙ ap length e), h.3 ∙ ap (λ (u : List Step). filled u old) e)
 
 -- So it is that of the first fault.

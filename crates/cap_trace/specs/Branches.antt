@@ -1,5 +1,5 @@
 -- The objects on the way down to a pointer word, and the pointer words that come after it (profile).
-use Rattle.std.specs.Prelude.{ℕ, ◌+◌, ◌*◌, ◌<◌, ◌≤◌, ◌≡◌, ◌^◌, List, [], ◌∷◌, ◌++◌, length, Option, None, Some, ⊤}
+use Rattle.std.specs.Prelude.{ℕ, ◌+◌, ◌-◌, ◌*◌, ◌<◌, ◌≤◌, ◌≡◌, ◌^◌, List, [], ◌∷◌, ◌++◌, length, Option, None, Some, ⊤}
 use Rattle.cap_spec.specs.Messages.{segment_of}
 use Rattle.cap_spec.specs.declared.Step.{Step}
 use Rattle.cap_spec.specs.declared.Step.TheVariants.{Ptr, Item}
@@ -74,6 +74,26 @@ pub record IsBranch (m : List (List ℕ)) (depth n : ℕ) (f : Branch) : Type 0 
 abbrev pub AreBranches : List (List ℕ) → ℕ → ℕ → List Branch → Type 0
 AreBranches m depth n [] = ⊤
 AreBranches m depth n (f ∷ branches) = IsBranch m depth n f × AreBranches m depth (n + 1) branches
+
+-- how many words of the object come after it with no other word between
+abbrev pub form_row : Form → Branch → ℕ
+form_row Root f = f.left
+form_row Struct f = f.left
+form_row Pointers f = f.more
+form_row Structs f = f.left
+
+abbrev pub row_left : Branch → ℕ
+row_left f = form_row f.form f
+
+-- the branch after n of these words
+abbrev pub form_skipped : Form → Branch → ℕ → Branch
+form_skipped Root f n = record f { at = f.at + n; index = f.index + n; left = f.left - n }
+form_skipped Struct f n = record f { at = f.at + n; index = f.index + n; left = f.left - n }
+form_skipped Pointers f n = record f { at = f.at + n; element = f.element + n; more = f.more - n }
+form_skipped Structs f n = record f { at = f.at + n; index = f.index + n; left = f.left - n }
+
+abbrev pub skipped : Branch → ℕ → Branch
+skipped f n = form_skipped f.form f n
 
 -- the branch of the root word alone
 abbrev pub root_branch : Branch

@@ -1,5 +1,6 @@
 pub mod PointerNumbers
 pub mod Branches
 pub mod NamedPaths
+pub mod NearPointers
 pub mod Seeking
 pub mod Traces

@@ -1,7 +1,10 @@
 -- How a search for the pointer word of a number goes on, with space for N branches (profile).
-use Rattle.std.specs.Prelude.{ℕ, ◌+◌, ◌<◌, ◌≡◌, ◌≤◌, List, length}
-use Rattle.cap_trace.specs.Traces.{HasCome, IsMissing}
+use Rattle.std.specs.Prelude.{ℕ, ◌+◌, ◌<◌, ◌≡◌, ◌≤◌, List, None, length}
+use Rattle.cap_trace.specs.Traces.{GoesBelow, HasCome, IsMissing}
+use Rattle.cap_trace.specs.declared.below.Below.TheVariants.{Object}
 use Rattle.cap_trace.specs.declared.branch.Branch.{Branch}
+use Rattle.cap_trace.specs.declared.seeking.Looked.{Looked}
+use Rattle.cap_trace.specs.declared.seeking.Looked.TheVariants.{Went, Nothing, Unknown}
 use Rattle.cap_trace.specs.declared.seeking.Passed.{Passed}
 use Rattle.cap_trace.specs.declared.seeking.Passed.TheVariants.{On, Ended, Full}
 use Rattle.cap_trace.specs.declared.seeking.Sought.{Sought}
@@ -13,6 +16,14 @@ abbrev pub Passes : List (List ℕ) → ℕ → ℕ → ℕ → List Branch → 
 Passes m depth n space others last next branch On = HasCome m depth (n + 1) next branch
 Passes m depth n space others last next branch Ended = (more : ℕ) → n < more → IsMissing m depth more
 Passes m depth n space others last next branch Full = (length others ≡ space) × (next ≡ others) × (branch ≡ last)
+
+-- What comes of looking at the word of a branch: the search went on below it, or nothing is below it, or neither is known.
+abbrev pub IsLooked : List (List ℕ) → ℕ → ℕ → List Branch → Branch → List Branch → Branch → Looked → Type 0
+IsLooked m depth space others last next branch (Went passed) = (n : ℕ) → HasCome m depth n others last
+    → Passes m depth n space others last next branch passed
+IsLooked m depth space others last next branch Nothing =
+    (next ≡ others) × (branch ≡ last) × GoesBelow m depth last (Object None)
+IsLooked m depth space others last next branch Unknown = (next ≡ others) × (branch ≡ last)
 
 -- The search for number n has come to it, or it is missing, or the branches are full before it.
 abbrev pub IsSought : List (List ℕ) → ℕ → ℕ → ℕ → List Branch → Branch → Sought → Type 0

@@ -1,6 +1,6 @@
 -- How a search for the pointer word of a number goes on, and what it comes to (profile).
 use Rattle.std.specs.Prelude.{ℕ, ◌+◌, ◌≡◌, ◌⊎◌, List, [], ◌∷◌, ◌++◌, drop, length, take, Option, None, Some, ⊤}
-use Rattle.cap_spec.specs.Faults.{IsDeepAt}
+use Rattle.cap_spec.specs.Verdicts.{IsDeepAt}
 use Rattle.cap_spec.specs.Following.{Wrong}
 use Rattle.cap_spec.specs.Paths.{Before, IsTour}
 use Rattle.cap_spec.specs.declared.Reason.{Reason}

@@ -36,9 +36,9 @@ pub(crate) fn look_below<M: Segments>(message: &M, depth: u32, from: &Branch) ->
     }
 }
 
-// The same of a word that leads to this target.
+/// The same of a word that leads to this target.
 #[inline(always)]
-fn below_target(target: &Target, depth: u32, from: &Branch) -> Below
+pub(crate) fn below_target(target: &Target, depth: u32, from: &Branch) -> Below
     requires found { (m : List (List ℕ)) × IsMessage m
         × FindsTarget m from.now.segment from.now.at target.now }
     requires level { from.now.level ≤ 257 }
@@ -93,10 +93,8 @@ fn branch_of(target: &Target, level: u32) -> Option<Branch>
             if count == 0 {
                 return None;
             }
-            Some(Branch {
-                pointers: 1,
-                ..Branch::first(Form::Pointers, segment, start, 0, count - 1, level + 1)
-            })
+            let list = Branch::first(Form::Pointers, segment, start, 0, count - 1, level + 1);
+            Some(list.of_elements(0, 1))
         }
         Shape::Structs {
             count,
@@ -108,18 +106,9 @@ fn branch_of(target: &Target, level: u32) -> Option<Branch>
                 return None;
             }
             let at = start + 1 + u32::from(data_words);
-            Some(Branch {
-                data_words,
-                pointers,
-                ..Branch::first(
-                    Form::Structs,
-                    segment,
-                    at,
-                    pointers - 1,
-                    count - 1,
-                    level + 2,
-                )
-            })
+            let (left, more) = (pointers - 1, count - 1);
+            let structs = Branch::first(Form::Structs, segment, at, left, more, level + 2);
+            Some(structs.of_elements(data_words, pointers))
         }
     }
 }

@@ -2,10 +2,9 @@
 
 ghost use Rattle.cap_spec.specs.Messages.{IsMessage};
 ghost use Rattle.cap_spec.specs.declared.Step.{Step};
-ghost use Rattle.cap_trace.specs.Branches.{IsBranch, first_branch, rest_of, root_branch, steps_of, word_of};
-ghost use Rattle.cap_trace.specs.declared.branch.Form.TheVariants.{Pointers};
+ghost use Rattle.cap_trace.specs.Branches.{IsBranch, first_branch, rest_of, root_branch, row_left, skipped, steps_of, word_of};
 ghost use Rattle.std.specs.Option.{option_to_list};
-ghost use Rattle.std.specs.Prelude.{◌+◌, ◌++◌, ◌<◌, ◌≡◌, [], ◌∷◌, IsFalse, IsTrue, List, ℕ};
+ghost use Rattle.std.specs.Prelude.{◌++◌, ◌≡◌, ◌≤◌, [], ◌∷◌, IsFalse, IsTrue, List, ℕ};
 
 use cap_spec::Step;
 
@@ -89,6 +88,18 @@ impl Branch {
         }
     }
 
+    /// The same of elements of these sizes.
+    #[inline(always)]
+    pub(crate) fn of_elements(self, data_words: u16, pointers: u16) -> Branch
+        ensures { result ≡ record self { data_words = data_words; pointers = pointers } }
+    {
+        Branch {
+            data_words,
+            pointers,
+            ..self
+        }
+    }
+
     /// Goes on to the next pointer word of the object. `false` if there is none.
     #[inline(always)]
     pub(crate) fn advance(&mut self) -> bool
@@ -117,23 +128,36 @@ impl Branch {
         false
     }
 
-    /// Goes on to the next pointer of a list of pointers, as [`Branch::advance`] does.
+    /// How many pointer words of the object come after this one with no other word between.
     #[inline(always)]
-    pub(crate) fn next_pointer(&mut self)
-        requires form { self.old.form ≡ Pointers }
-        requires some { 0 < self.old.more }
+    pub(crate) fn row_left(&self) -> u32
+        ensures { result ≡ row_left self.now }
+    {
+        match self.form {
+            Form::Pointers => self.more,
+            _ => u32::from(self.left),
+        }
+    }
+
+    /// Goes on over this many of these words.
+    #[inline(always)]
+    pub(crate) fn skip(&mut self, words: u32)
+        requires few { words ≤ row_left self.old }
         requires branch { (m : List (List ℕ)) × (depth n : ℕ) × IsMessage m
             × IsBranch m depth n self.old }
-        ensures next { (base : List Step) →
-            rest_of base self.old ≡ word_of base self.new ∷ rest_of base self.new }
-        ensures branch { (m : List (List ℕ)) (depth n : ℕ) →
-            IsBranch m depth n self.old → IsBranch m depth n self.new }
-        ensures form { self.new.form ≡ Pointers }
-        ensures more { self.new.more + 1 ≡ self.old.more }
+        ensures { self.new ≡ skipped self.old words }
     {
-        self.at += 1;
-        self.element += 1;
-        self.more -= 1;
+        self.at += words;
+        match self.form {
+            Form::Pointers => {
+                self.element += words;
+                self.more -= words;
+            }
+            _ => {
+                self.index += words as u16;
+                self.left -= words as u16;
+            }
+        }
     }
 
     /// The steps from the object to the word: that to an element, and that to a pointer.

@@ -3,7 +3,9 @@
 
 mod below;
 mod branch;
+mod lists;
 mod naming;
+mod near;
 mod row;
 mod seeking;
 mod tracing;

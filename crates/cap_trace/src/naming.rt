@@ -35,7 +35,8 @@ impl Model for NamedPath {
 impl NamedPath {
     ghost use Rattle.cap_spec.specs.Faults.{IsFirstFault};
     ghost use Rattle.cap_spec.specs.Occupying.{IsFirstOverlap};
-    ghost use Rattle.cap_spec.specs.Strict.{IsFirstLax, IsWithin};
+    ghost use Rattle.cap_spec.specs.Accepting.{IsWithin};
+    ghost use Rattle.cap_spec.specs.Strict.{IsFirstLax};
     ghost use Rattle.cap_spec.specs.declared.Lax.{Lax};
     ghost use Rattle.cap_spec.specs.declared.Refusal.{Refusal};
     ghost use Rattle.cap_trace.specs.NamedPaths.{IsTraced, fault_path};

@@ -1,23 +1,28 @@
 //! The search for a pointer word by its number in preorder.
 
+ghost use Rattle.cap_ptr.specs.Rows.{FindsRow};
+ghost use Rattle.cap_ptr.specs.Shapes.{FindsTarget};
 ghost use Rattle.cap_spec.specs.Messages.{IsMessage};
 ghost use Rattle.cap_trace.specs.Branches.{AreBranches, path_of, rest_from};
-ghost use Rattle.cap_trace.specs.Seeking.{IsSought, Passes};
+ghost use Rattle.cap_trace.specs.NearPointers.{IsNearPointer};
+ghost use Rattle.cap_trace.specs.Seeking.{IsLooked, IsSought, Passes};
 ghost use Rattle.cap_trace.specs.Traces.{GoesBelow, HasCome, word_ahead};
 ghost use Rattle.cap_trace.specs.declared.below.Below.TheVariants.{Object};
 ghost use Rattle.cap_trace.specs.declared.branch.Branch.{Branch};
 ghost use Rattle.std.specs.Prelude.{◌+◌, ◌++◌, ◌≡◌, ◌≤◌, [], ◌∷◌, IsFalse, IsTrue, List, None, Some, ℕ};
 
-use crate::below::{Below, look_below};
+use crate::below::{Below, below_target, look_below};
 use crate::branch::{Branch, Form};
-use crate::row::branch_of_row;
+use crate::lists::struct_list;
+use crate::near::{NearPointer, one_word_pad};
+use crate::row::{branch_of_list, branch_of_struct};
 use arrayvec::ArrayVec;
 use cap_frame::Segments;
-use cap_ptr::near_row;
+use cap_ptr::{Row, Target, kind, middle, near_row};
 
 /// The branches on the way down to a pointer word, the first one at the root. 257 are enough for the
 /// greatest depth.
-pub(crate) type Way<const N: usize> = ArrayVec<Branch, N>;
+pub(crate) type BranchStack<const N: usize> = ArrayVec<Branch, N>;
 
 /// What a search has come to.
 #[derive(Clone, Copy, Drop)]
@@ -41,6 +46,17 @@ enum Passed {
     Full,
 }
 
+/// What comes of looking at a pointer word.
+#[derive(Clone, Copy, Drop)]
+enum Looked {
+    /// The search went on below it.
+    Went(Passed),
+    /// Nothing is below it, and nothing has changed.
+    Nothing,
+    /// It has to be followed, and nothing has changed.
+    Unknown,
+}
+
 /// Looks at the pointer words of a message in preorder, from number `first` up to that of `number`.
 /// `last` is the word that the search has come to, and `others` are the branches before it on the way
 /// down.
@@ -50,7 +66,7 @@ pub(crate) fn seek<M: Segments, const N: usize>(
     depth: u32,
     first: u64,
     number: u64,
-    others: &mut Way<N>,
+    others: &mut BranchStack<N>,
     last: &mut Branch,
 ) -> Sought
     requires shallow { depth ≤ 256 }
@@ -58,7 +74,7 @@ pub(crate) fn seek<M: Segments, const N: usize>(
     requires come { HasCome (M.segments message.now) depth first others.old.items last.old }
     ensures { IsSought (M.segments message.now) depth number N others.new.items last.new result }
 {
-    // Nothing outside of the loop has this, so it stays in registers.
+    // Nothing outside of this function has it, and it goes to `others` and back in two moves.
     let mut here = *last;
     let mut at = first;
     'words: loop {
@@ -91,34 +107,56 @@ fn pass_nulls<M: Segments>(message: &M, most: u64, last: &mut Branch) -> u64
     if message.word(last.segment, last.at) != 0 {
         return 0;
     }
-    let mut count = 0;
     match last.form {
-        Form::Pointers => {
-            let most = most.min(u64::from(last.more));
-            'elements: while count < most && message.word(last.segment, last.at) == 0 {
-                last.next_pointer();
-                count += 1;
-            }
-        }
-        _ => {
-            'nulls: while count < most && message.word(last.segment, last.at) == 0 {
-                if last.advance() {
-                    count += 1;
-                } else {
-                    return count;
-                }
-            }
+        Form::Structs => pass_null_elements(message, most, last),
+        _ => pass_null_row(message, most, last),
+    }
+}
+
+// The same of a struct or of a list of pointers, whose words are in one row.
+#[inline(always)]
+fn pass_null_row<M: Segments>(message: &M, most: u64, last: &mut Branch) -> u64
+    requires { (depth n : ℕ) × (others : List Branch)
+        × HasCome (M.segments message.now) depth n others last.old }
+    ensures few { result ≤ most }
+    ensures passed { let m = M.segments message.now in (depth n : ℕ) (others : List Branch) →
+        HasCome m depth n others last.old → HasCome m depth (n + result) others last.new }
+{
+    let most = most.min(u64::from(last.row_left())) as u32;
+    let mut count = 0;
+    'nulls: while count < most && message.word(last.segment, last.at + count) == 0 {
+        count += 1;
+    }
+    last.skip(count);
+    u64::from(count)
+}
+
+// The same of a list of structs.
+#[inline(always)]
+fn pass_null_elements<M: Segments>(message: &M, most: u64, last: &mut Branch) -> u64
+    requires { (depth n : ℕ) × (others : List Branch)
+        × HasCome (M.segments message.now) depth n others last.old }
+    ensures few { result ≤ most }
+    ensures passed { let m = M.segments message.now in (depth n : ℕ) (others : List Branch) →
+        HasCome m depth n others last.old → HasCome m depth (n + result) others last.new }
+{
+    let mut count = 0;
+    'nulls: while count < most && message.word(last.segment, last.at) == 0 {
+        if last.advance() {
+            count += 1;
+        } else {
+            return count;
         }
     }
     count
 }
 
-// Goes on to the next pointer word in preorder. Most words are null, or describe their objects alone.
+// Goes on to the next pointer word in preorder. Most words are null, or describe their objects.
 #[inline(always)]
 fn pass<M: Segments, const N: usize>(
     message: &M,
     depth: u32,
-    others: &mut Way<N>,
+    others: &mut BranchStack<N>,
     last: &mut Branch,
 ) -> Passed
     requires shallow { depth ≤ 256 }
@@ -127,29 +165,153 @@ fn pass<M: Segments, const N: usize>(
         HasCome m depth n others.old.items last.old →
         Passes m depth n N others.old.items last.old others.new.items last.new result }
 {
-    let word = message.word(last.segment, last.at);
-    if word == 0 {
-        return leave(others, last);
+    match look(message, depth, others, last) {
+        Looked::Went(passed) => passed,
+        Looked::Nothing => leave(others, last),
+        Looked::Unknown => pass_followed(message, depth, others, last),
     }
-    let Some(row) = near_row(word, last.at, message.len(last.segment)) else {
-        return pass_far(message, depth, others, last);
-    };
-    if last.level > depth {
-        return Passed::Ended;
-    }
-    if row.pointer_count == 0 {
-        return leave(others, last);
-    }
-    let branch = branch_of_row(word, &row, last);
-    enter(others, last, branch)
 }
 
-// The same of any word.
-#[inline(never)]
-fn pass_far<M: Segments, const N: usize>(
+// Looks at the last word, and goes on below it.
+#[inline(always)]
+fn look<M: Segments, const N: usize>(
     message: &M,
     depth: u32,
-    others: &mut Way<N>,
+    others: &mut BranchStack<N>,
+    last: &mut Branch,
+) -> Looked
+    requires shallow { depth ≤ 256 }
+    requires come { (n : ℕ) × HasCome (M.segments message.now) depth n others.old.items last.old }
+    ensures { IsLooked (M.segments message.now) depth N others.old.items last.old
+        others.new.items last.new result }
+{
+    let word = message.word(last.segment, last.at);
+    if word == 0 {
+        return Looked::Nothing;
+    }
+    let near = NearPointer {
+        pads: 0,
+        segment: last.segment,
+        at: last.at,
+        word,
+    };
+    if let Some(row) = near_row(word, last.at, message.len(last.segment)) {
+        return look_row(depth, others, last, &near, &row);
+    }
+    if kind(word) != 2 {
+        return look_other(message, depth, others, last, &near);
+    }
+    match one_word_pad(message, last.segment, last.at, word) {
+        Some(pad) => look_near(message, depth, others, last, &pad),
+        None => Looked::Unknown,
+    }
+}
+
+// The same by a word that takes the place of the last word.
+#[inline(always)]
+fn look_near<M: Segments, const N: usize>(
+    message: &M,
+    depth: u32,
+    others: &mut BranchStack<N>,
+    last: &mut Branch,
+    near: &NearPointer,
+) -> Looked
+    requires shallow { depth ≤ 256 }
+    requires come { (n : ℕ) × HasCome (M.segments message.now) depth n others.old.items last.old }
+    requires near { let m = M.segments message.now in
+        IsNearPointer m last.old.segment last.old.at near.now }
+    ensures { IsLooked (M.segments message.now) depth N others.old.items last.old
+        others.new.items last.new result }
+{
+    match near_row(near.word, near.at, message.len(near.segment)) {
+        Some(row) => look_row(depth, others, last, near, &row),
+        None => look_other(message, depth, others, last, near),
+    }
+}
+
+// The same of a word that describes an object of these words.
+#[inline(always)]
+fn look_row<const N: usize>(
+    depth: u32,
+    others: &mut BranchStack<N>,
+    last: &mut Branch,
+    near: &NearPointer,
+    row: &Row,
+) -> Looked
+    requires found { (m : List (List ℕ)) × IsNearPointer m last.old.segment last.old.at near.now
+        × FindsRow m near.now.segment near.now.at near.now.word row.now }
+    requires level { last.old.level ≤ 257 }
+    ensures { (m : List (List ℕ)) → IsNearPointer m last.old.segment last.old.at near.now →
+        FindsRow m near.now.segment near.now.at near.now.word row.now →
+        IsLooked m depth N others.old.items last.old others.new.items last.new result }
+{
+    if last.level > depth {
+        return Looked::Went(Passed::Ended);
+    }
+    if row.pointer_count == 0 {
+        return Looked::Nothing;
+    }
+    // A struct and a list each have code of their own, since most numbers of their branches are 0.
+    if kind(near.word) == 0 {
+        let branch = branch_of_struct(near, row, last.level);
+        return Looked::Went(enter(others, last, branch));
+    }
+    let branch = branch_of_list(near, row, last.level);
+    Looked::Went(enter(others, last, branch))
+}
+
+// The same of a word that describes no object alone: the list's tag may, or it is a capability.
+#[inline(always)]
+fn look_other<M: Segments, const N: usize>(
+    message: &M,
+    depth: u32,
+    others: &mut BranchStack<N>,
+    last: &mut Branch,
+    near: &NearPointer,
+) -> Looked
+    requires shallow { depth ≤ 256 }
+    requires come { (n : ℕ) × HasCome (M.segments message.now) depth n others.old.items last.old }
+    requires near { let m = M.segments message.now in
+        IsNearPointer m last.old.segment last.old.at near.now }
+    ensures { IsLooked (M.segments message.now) depth N others.old.items last.old
+        others.new.items last.new result }
+{
+    if let Some(list) = struct_list(message, near.pads, near.segment, near.at, near.word) {
+        return look_target(depth, others, last, &list);
+    }
+    if kind(near.word) == 3 && middle(near.word) == 0 {
+        return Looked::Nothing;
+    }
+    Looked::Unknown
+}
+
+// The same of a word that leads to this target.
+#[inline(always)]
+fn look_target<const N: usize>(
+    depth: u32,
+    others: &mut BranchStack<N>,
+    last: &mut Branch,
+    target: &Target,
+) -> Looked
+    requires found { (m : List (List ℕ)) × IsMessage m
+        × FindsTarget m last.old.segment last.old.at target.now }
+    requires level { last.old.level ≤ 257 }
+    ensures { (m : List (List ℕ)) → FindsTarget m last.old.segment last.old.at target.now →
+        IsLooked m depth N others.old.items last.old others.new.items last.new result }
+{
+    match below_target(target, depth, last) {
+        Below::Object(Some(branch)) => Looked::Went(enter(others, last, branch)),
+        Below::Object(None) => Looked::Nothing,
+        Below::Blocked => Looked::Went(Passed::Ended),
+    }
+}
+
+// Goes on to the next pointer word, over any word. It is not inlined, since few words need it.
+#[inline(never)]
+fn pass_followed<M: Segments, const N: usize>(
+    message: &M,
+    depth: u32,
+    others: &mut BranchStack<N>,
     last: &mut Branch,
 ) -> Passed
     requires shallow { depth ≤ 256 }
@@ -167,7 +329,7 @@ fn pass_far<M: Segments, const N: usize>(
 
 // Goes on to the first pointer word of the object that the last one leads to.
 #[inline(always)]
-fn enter<const N: usize>(others: &mut Way<N>, last: &mut Branch, branch: Branch) -> Passed
+fn enter<const N: usize>(others: &mut BranchStack<N>, last: &mut Branch, branch: Branch) -> Passed
     ensures { (m : List (List ℕ)) (depth n : ℕ) → HasCome m depth n others.old.items last.old →
         GoesBelow m depth last.old (Object (Some branch)) →
         Passes m depth n N others.old.items last.old others.new.items last.new result }
@@ -182,7 +344,7 @@ fn enter<const N: usize>(others: &mut Way<N>, last: &mut Branch, branch: Branch)
 
 // Goes on from a word with no pointer words below it.
 #[inline(always)]
-fn leave<const N: usize>(others: &mut Way<N>, last: &mut Branch) -> Passed
+fn leave<const N: usize>(others: &mut BranchStack<N>, last: &mut Branch) -> Passed
     requires { (m : List (List ℕ)) × (depth n : ℕ) × IsMessage m
         × HasCome m depth n others.old.items last.old }
     ensures { (m : List (List ℕ)) (depth n : ℕ) → HasCome m depth n others.old.items last.old →
@@ -198,7 +360,7 @@ fn leave<const N: usize>(others: &mut Way<N>, last: &mut Branch) -> Passed
 // Goes on to the next pointer word that comes after the last one and is not below it. `false` if
 // there is none.
 #[inline(always)]
-fn go_on<const N: usize>(others: &mut Way<N>, last: &mut Branch) -> bool
+fn go_on<const N: usize>(others: &mut BranchStack<N>, last: &mut Branch) -> bool
     requires { (m : List (List ℕ)) × (depth : ℕ) × IsMessage m
         × AreBranches m depth 0 (others.old.items ++ last.old ∷ []) }
     ensures next { let ways = others.new.items ++ last.new ∷ [] in

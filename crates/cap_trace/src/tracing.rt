@@ -1,8 +1,9 @@
 //! The path of a pointer word, written to a buffer.
 
+ghost use Rattle.cap_spec.specs.Accepting.{IsWithin};
 ghost use Rattle.cap_spec.specs.Faults.{IsFirstFault};
 ghost use Rattle.cap_spec.specs.Occupying.{IsFirstOverlap};
-ghost use Rattle.cap_spec.specs.Strict.{IsFirstLax, IsWithin};
+ghost use Rattle.cap_spec.specs.Strict.{IsFirstLax};
 ghost use Rattle.cap_spec.specs.declared.Lax.{Lax};
 ghost use Rattle.cap_spec.specs.declared.Refusal.{Refusal};
 ghost use Rattle.cap_spec.specs.declared.Step.{Step};
@@ -14,7 +15,7 @@ ghost use Rattle.std.specs.Option.{option_to_list};
 ghost use Rattle.std.specs.Prelude.{◌+◌, ◌++◌, ◌<◌, ◌≡◌, ◌≤◌, [], ◌∷◌, IfSome, List, length, ℕ};
 
 use crate::branch::Branch;
-use crate::seeking::{Sought, Way, seek};
+use crate::seeking::{BranchStack, Sought, seek};
 use cap_frame::Segments;
 use cap_spec::Step;
 use cap_vet::Limits;
@@ -65,7 +66,7 @@ fn traced<M: Segments>(message: &M, depth: u32, number: u64, steps: &mut [Step])
         return None;
     }
     // Most paths are short, and each search initializes its branches.
-    let mut others: Way<8> = Way::new();
+    let mut others: BranchStack<8> = BranchStack::new();
     let mut last = Branch::root();
     match seek(message, depth, 1, number, &mut others, &mut last) {
         Sought::Found => Some(write_path(others.as_slice(), &last, steps)),
@@ -83,7 +84,7 @@ fn traced_deep<M: Segments>(
     depth: u32,
     at: u64,
     number: u64,
-    few: &Way<8>,
+    few: &BranchStack<8>,
     from: Branch,
     steps: &mut [Step],
 ) -> Option<usize>
@@ -93,7 +94,7 @@ fn traced_deep<M: Segments>(
     ensures tells { TellsPath (M.segments message.now) depth number steps.old result steps.new }
     ensures few { IfSome result (λ count. count ≤ depth) }
 {
-    let mut others: Way<257> = Way::new();
+    let mut others: BranchStack<257> = BranchStack::new();
     let mut last = from;
     if others.try_extend_from_slice(few.as_slice()).is_err() {
         unreachable!();

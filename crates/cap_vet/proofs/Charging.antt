@@ -1,16 +1,16 @@
 -- What a path arrives at, step by step, and what following the pointers on it costs.
-use Rattle.std.proofs.Common.{ℕ, zero, suc, ◌+◌, ◌-◌, ◌<◌, ◌≤◌, List, [], ◌∷◌, ◌++◌, ◌≡◌, refl, subst, sym, ◌∙◌, arith}
+use Rattle.std.proofs.Common.{ℕ, zero, suc, ◌+◌, ◌-◌, ◌<◌, ◌≤◌, List, [], ◌∷◌, ◌++◌, ◌≡◌, refl, subst, arith}
 use Rattle.std.proofs.Common.{inl, inr, length, length-append, Option, None}
 use Rattle.std.proofs.lemmas.Bool.Decides.{leb_tells}
 use Rattle.cap_spec.specs.Arriving.{ArrivesAt}
 use Rattle.cap_spec.specs.Denoting.{Finds, element_levels}
-use Rattle.cap_spec.specs.Faults.{AreShallow, IsDeepAt, IsFirstReason}
+use Rattle.cap_spec.specs.Faults.{AreShallow, IsFirstReason}
 use Rattle.cap_spec.specs.Following.{IsComposite}
 use Rattle.cap_spec.specs.Getting.{AreOnPath, Charges, IsFaultOnPath}
 use Rattle.cap_spec.specs.Messages.{HasWord, segment_of}
 use Rattle.cap_spec.specs.Pointers.{middle}
 use Rattle.cap_spec.specs.Paths.{Comes, Costs, Goes, Reaches, Spot, element, word}
-use Rattle.cap_spec.specs.Verdicts.{CostOf, levels_below}
+use Rattle.cap_spec.specs.Verdicts.{levels_below, IsDeepAt}
 use Rattle.cap_spec.specs.declared.Kind.{Kind}
 use Rattle.cap_spec.specs.declared.Reason.{Reason}
 use Rattle.cap_spec.specs.declared.Refusal.{Refusal}
@@ -176,34 +176,31 @@ fault_word m words depth path a at step s w v h g reason =
     }
 
 -- and at an element.
-pub arrives_element : (m : List (List ℕ)) (words depth : ℕ) (path : List Step) (a : Spot) (at next : Arrival)
-    (step : Step) (t b ds ps : ℕ) → Arrives m words depth path a at
-    → Goes m a step (element t b ds ps) → t < length m → b + ds + ps ≤ length (segment_of m t)
-    → next.found ≡ element_of t b ds ps → next.level ≡ at.level + element_levels 1
-    → next.spent ≡ at.spent → next.pointers ≡ at.pointers → next.lax ≡ at.lax
-    → Arrives m words depth (path ++ step ∷ []) (element t b ds ps) next
-arrives_element m words depth path a at next step t b ds ps h g exists inside e1 e2 e3 e4 e5 =
-    let c : Comes m (path ++ step ∷ []) next.level (element t b ds ps) =
-    (coming_last m path step next.level (element t b ds ps)).1 (a, at.level, h.comes, g, e2) in
+pub arrives_element : (m : List (List ℕ)) (words depth : ℕ) (path : List Step) (a : Spot) (at : Arrival) (step : Step)
+    (t b ds ps : ℕ) (lax : Option LaxPointer) → at.lax ≡ lax → Arrives m words depth path a at → Goes m a step (element t b ds ps)
+    → t < length m → b + ds + ps ≤ length (segment_of m t) → Arrives m words depth (path ++ step ∷ []) (element t b ds ps)
+    record at { found = element_of t b ds ps; level = at.level + 1; lax = lax }
+arrives_element m words depth path a at step t b ds ps lax e h g exists inside =
+    let c : Comes m (path ++ step ∷ []) (at.level + 1) (element t b ds ps) =
+    (coming_last m path step (at.level + 1) (element t b ds ps)).1 (a, at.level, h.comes, g, refl) in
     record {
       comes = c;
-      found = subst (λ x. IsFound m (element t b ds ps) x) (sym e1)
-          record {
-            stands = record { segment = refl; start = refl; data_words = refl; pointers = refl; words = refl };
-            exists = exists;
-            inside = omega (arith, inside);
-            own = omega arith;
-          };
+      found = record {
+        stands = record { segment = refl; start = refl; data_words = refl; pointers = refl; words = refl };
+        exists = exists;
+        inside = omega (arith, inside);
+        own = omega arith;
+      };
       ways = h.ways;
-      on_path = on_element m path h.ways step next.level t b ds ps h.on_path c;
+      on_path = on_element m path h.ways step (at.level + 1) t b ds ps h.on_path c;
       some = h.some;
-      costs = subst (λ x. CostOf m h.ways x) (sym e3) h.costs;
+      costs = h.costs;
       shallow = h.shallow;
-      within = omega (arith, e3, h.within);
-      pointers = e4 ∙ h.pointers;
-      levels = omega (arith, e2, low_element m words depth path a at step t b ds ps h g);
-      few = omega (arith, e2, e4, h.few);
-      lax = subst (λ o. KnowsLaxOnPath m (path ++ step ∷ []) h.ways o) (sym e5) (lax_same m path (step ∷ []) h.ways at.lax h.lax);
+      within = h.within;
+      pointers = h.pointers;
+      levels = low_element m words depth path a at step t b ds ps h g;
+      few = omega (arith, h.few);
+      lax = subst (λ o. KnowsLaxOnPath m (path ++ step ∷ []) h.ways o) e (lax_same m path (step ∷ []) h.ways at.lax h.lax);
     }
 
 -- The first fault on the beginning of a path is the first on the path.

@@ -9,16 +9,14 @@ use Rattle.cap_spec.specs.declared.Step.TheVariants.{Ptr, Item}
 use Rattle.cap_vet.specs.Trails.{EachApart, AreReached, GoOnFrom, IsUnder, row}
 use Rattle.cap_vet.proofs.Apart.{Apart-steps}
 use Rattle.cap_vet.proofs.Trails.{AreChildren}
-use Rattle.cap_spec.proofs.Paths.Walks.{walk_parts, walk_on, one_walk}
+use Rattle.cap_spec.proofs.Paths.Walks.{comes_beyond, walk_on}
 
 -- what reaches a pointer word behind one that is reached goes on from it by steps of its own
 pub beyond : (m : List (List ℕ)) (base : List Step) (x : Step) (v : List Step) (level level' s w s' w' : ℕ)
     → Reaches m base level s w → Reaches m (base ++ x ∷ v) level' s' w'
     → (mid : Spot) × (n : ℕ) × Goes m (word s w) x mid × Walks m mid v n (word s' w')
-beyond m base x v level level' s w s' w' (root, n, has, walks, e) (root', n', has', walks', e') =
-    let (b, n1, n2, first, rest, total) = walk_parts m (word 0 0) (word s' w') base (x ∷ v) n' walks' in
-    let same = one_walk m (word 0 0) base n1 n b (word s w) first walks in
-    let here : Walks m (word s w) (x ∷ v) n2 (word s' w') = subst (λ u. Walks m u (x ∷ v) n2 (word s' w')) same.1 rest in
+beyond m base x v level level' s w s' w' g h =
+    let here = (comes_beyond m base (x ∷ v) level level' (word s w) (word s' w') g h).1 in
     (here.0, here.1, here.2, here.3)
 
 -- a path goes on by a step

@@ -1,5 +1,6 @@
 -- Which faults a message has under demands.
 use Rattle.std.proofs.Common.{ℕ, ◌≡◌, List, subst}
+use Rattle.std.specs.Prelude.{IsTrue}
 use Rattle.cap_spec.specs.Strict.{IsStrict, IsStrictFault}
 use Rattle.cap_spec.specs.declared.StrictRefusal.{StrictRefusal}
 use Rattle.cap_spec.specs.declared.StrictRefusal.TheVariants.{Refused, ManySegments, Pointer}
@@ -25,6 +26,18 @@ module _ (demands : Demands) (m : List (List ℕ)) (words depth limit levels : �
       one_strict_fault m (words_under demands m words) depth a b
       (subst (λ u. IsStrictFault m u depth a) same (subst (λ u. IsStrictFault m limit u a) deep h))
       (fault_of demands m words depth b k)
+
+  -- each reason not to be strict is a fault, where a strict message is demanded,
+  pub fault_demanded : (fault : StrictRefusal) → IsTrue demands.strict → IsStrictFault m limit levels fault
+      → IsDemandFault demands m words depth fault
+  fault_demanded fault strict h = by_reason fault
+      (subst (λ u. IsStrictFault m u depth fault) same (subst (λ u. IsStrictFault m limit u fault) deep h))
+    where
+      by_reason : (f : StrictRefusal) → IsStrictFault m (words_under demands m words) depth f
+          → IsDemandFault demands m words depth f
+      by_reason (Refused refusal) k = k
+      by_reason ManySegments k = (strict, k)
+      by_reason (Pointer what s w pointers) k = (strict, k)
 
   -- and none of a strict message.
   pub strict_meets : (fault : StrictRefusal) → IsStrict m limit levels → IsDemandFault demands m words depth fault → ⊥

@@ -1,9 +1,9 @@
 -- Paths that go on at the elements of a list of structs.
 use Rattle.std.proofs.Common.{◌≡◌, ℕ, ◌+◌, ◌*◌, ◌<◌, ◌≤◌, List, [], ◌∷◌, ◌++◌}
-use Rattle.std.proofs.Common.{Ok, Some, None, Option, append_assoc, length, refl, subst, sym, arith}
+use Rattle.std.proofs.Common.{Ok, Some, Option, append_assoc, length, refl, subst, sym, arith}
 use Rattle.std.proofs.Math.Nat.{mul-le-mul_right}
 use Rattle.cap_frame.specs.declared.segments.Segments as segments
-use Rattle.cap_spec.specs.Faults.{IsDeepAt}
+use Rattle.cap_spec.specs.Verdicts.{IsDeepAt}
 use Rattle.cap_spec.specs.Messages.{segment_of}
 use Rattle.cap_spec.specs.Paths.{Goes, Spot, word, element}
 use Rattle.cap_spec.specs.declared.Step.{Step}
@@ -12,9 +12,8 @@ use Rattle.cap_vet.specs.Charging.{Arrives}
 use Rattle.cap_vet.specs.Demands.{words_under}
 use Rattle.cap_vet.specs.Finding.{element_of}
 use Rattle.cap_vet.specs.NearFinding.{FindsNear}
-use Rattle.cap_vet.specs.PathStrictness.{AddsPointer, HasNoFaultBy}
+use Rattle.cap_vet.specs.PathStrictness.{HasNoFaultBy}
 use Rattle.cap_vet.specs.PathWays.{LeadsToElements, GivesAfter}
-use Rattle.cap_vet.specs.Looking.{IsNotLax}
 use Rattle.cap_vet.specs.Ways.{IsWay}
 use Rattle.cap_vet.specs.declared.demands.Demands.{Demands}
 use Rattle.cap_vet.specs.declared.nodes.charged.Arrival.{Arrival}
@@ -26,27 +25,19 @@ use Rattle.cap_vet.specs.declared.nodes.way.Way.{Way}
 use Rattle.cap_vet.specs.declared.nodes.way.Way.TheVariants.{To}
 use Rattle.cap_vet.specs.declared.strictness.strict_turn.LaxPointer.{LaxPointer}
 use Rattle.cap_vet.proofs.Charging.{arrives_element, arrives_word}
+use Rattle.cap_vet.proofs.PathLax.{adds_strict}
 use Rattle.cap_vet.proofs.PathWays.{something_given, way_as}
 use Rattle.cap_vet.proofs.Stepping.{element_goes, pointer_goes}
-
--- a pointer that isn't lax changes nothing
-pub adds_strict : (m : List (List ℕ)) (s w n : ℕ) (lax : Option LaxPointer) → IsNotLax m s w → AddsPointer m s w n lax lax
-adds_strict m s w n None strict = strict
-adds_strict m s w n (Some first) strict = refl
 
 -- what the path to element i arrives at, from the list at `at`
 abbrev element_spot : {M : Type 0} {g : segments.Ghosts M} → StructElements M g → ℕ → Spot
 element_spot e i = element e.segment (e.first + i * (e.data_words + e.pointers)) e.data_words e.pointers
 
 abbrev element_arrival : {M : Type 0} {g : segments.Ghosts M} → Arrival → StructElements M g → ℕ → Arrival
-element_arrival at e i =
-    record {
-      found = element_of e.segment (e.first + i * (e.data_words + e.pointers)) e.data_words e.pointers;
-      level = at.level + 1;
-      spent = at.spent;
-      pointers = at.pointers;
-      lax = at.lax;
-    }
+element_arrival at e i = record at {
+  found = element_of e.segment (e.first + i * (e.data_words + e.pointers)) e.data_words e.pointers;
+  level = at.level + 1;
+}
 
 -- and what the path to a pointer of it arrives at
 abbrev pointer_arrival : Arrival → Found → ℕ → Arrival
@@ -63,8 +54,8 @@ module _ {M : Type 0} {g : segments.Ghosts M} (m : List (List ℕ)) (start : Pat
       subst (λ (x : Way). IsWay m start.words start.depth first x) are.way way in
       let goes : Goes m there.0 (Item i) (element_spot e i) =
       rw (are.segment, are.first) (element_goes m there.0 are.at.found e.count e.data_words e.pointers i there.1.found are.kind lt) in
-      arrives_element m start.words start.depth first there.0 are.at (element_arrival are.at e i) (Item i) e.segment
-      (e.first + i * (e.data_words + e.pointers)) e.data_words e.pointers there.1 goes exists inside refl refl refl refl refl
+      arrives_element m start.words start.depth first there.0 are.at (Item i) e.segment
+      (e.first + i * (e.data_words + e.pointers)) e.data_words e.pointers are.at.lax refl there.1 goes exists inside
 
   -- A path on that arrives where the view is, without a lax pointer more, gives the view.
   gives : (rest : List Step) (a : Spot) (at : Arrival) → at.lax ≡ are.at.lax → v.found ≡ at.found

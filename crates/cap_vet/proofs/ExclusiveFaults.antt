@@ -30,4 +30,4 @@ pub no_exclusive_fault : (m : List (List ℕ)) (words depth room : ℕ) (report 
     → IsExclusiveFault m words depth room x → ⊥
 no_exclusive_fault m words depth room report (Refused r) a d l h = not_both m words depth report r a h
 no_exclusive_fault m words depth room report (NoRoom n b) a d l h = omega (arith, l, h.1, h.2)
-no_exclusive_fault m words depth room report (Overlap s w n) a d l h = none_of_disjoint m d h.3.path h.3.overlaps
+no_exclusive_fault m words depth room report (Overlap s w n) a d l h = none_of_disjoint m d h.3.path h.3.first.holds

@@ -1,5 +1,5 @@
 -- What following a pointer word finds.
-use Rattle.std.proofs.Common.{ℕ, List, ap, arith}
+use Rattle.std.proofs.Common.{ℕ, List, ap, arith, refl}
 use Rattle.cap_spec.specs.Messages.{IsMessage}
 use Rattle.cap_spec.specs.Pointers.{list_words}
 use Rattle.cap_spec.specs.Following.{Leads, to_null, to_cap}
@@ -7,7 +7,9 @@ use Rattle.cap_spec.specs.Paths.{word}
 use Rattle.cap_spec.specs.declared.Kind.TheVariants.{Cap, Null}
 use Rattle.cap_spec.proofs.Trees.Charges.{extent_struct}
 use Rattle.cap_spec.proofs.Canonical.TreeMeasures.{extent_scalars}
-use Rattle.cap_ptr.specs.Shapes.{FindsObject}
+use Rattle.cap_spec.specs.Arriving.{StandsObject}
+use Rattle.cap_spec.specs.ObjectShapes.{HasKind}
+use Rattle.cap_ptr.specs.Shapes.{FindsObject, IsShape}
 use Rattle.cap_ptr.specs.declared.shapes.Shape.{Shape}
 use Rattle.cap_ptr.specs.declared.shapes.Shape.TheVariants as shape
 use Rattle.cap_vet.specs.Finding.{IsFound, kind_of_shape}
@@ -22,65 +24,47 @@ pub cap_found : (m : List (List ℕ)) (s w k i : ℕ) → IsMessage m → Leads 
     → IsFound m (word s w) record { kind = Cap i; place = record { segment = 0; start = 0; words = 0 } }
 cap_found m s w k i h l = record { stands = (k, l); exists = h.some; inside = omega arith; own = omega arith }
 
+-- the kind of its shape
+kind_shape : (q tag : ℕ) (x : Shape) → IsShape q tag x → HasKind q tag (kind_of_shape x)
+kind_shape q tag (shape.Struct d p) h = h
+kind_shape q tag (shape.Scalars c n) h = h
+kind_shape q tag (shape.Pointers n) h = h
+kind_shape q tag (shape.Structs size n d p) h =
+    record { kind = h.kind; code = h.code; words = refl; count = h.count; data_words = h.data_words; pointers = h.pointers }
+
 -- an object
-pub object_found : (m : List (List ℕ)) (s w k t b q tag n c : ℕ) (x : Shape) → FindsObject m s w k t b q tag n c x
-    → IsFound m (word s w) record { kind = kind_of_shape x; place = record { segment = t; start = b; words = n } }
-object_found m s w k t b q tag n c (shape.Struct d p) f = record {
-  stands = (
-    k,
-    q,
-    record {
-      finds = f.finds;
-      kind = f.object.shape.kind;
-      data_words = f.object.shape.data_words;
-      pointers = f.object.shape.pointers;
-      words = f.object.words;
-    },
-  );
-  exists = f.finds.sits.exists;
-  inside = omega (arith, f.finds.sits.inside, f.object.words);
-  own = omega (arith, f.object.words, extent_struct q f.object.shape.kind, f.object.shape.data_words, f.object.shape.pointers);
-}
-object_found m s w k t b q tag n c (shape.Scalars e x) f = record {
-  stands = (
-    k,
-    q,
-    record {
-      finds = f.finds;
-      kind = f.object.shape.kind;
-      code = f.object.shape.code;
-      scalar = f.object.shape.scalar;
-      count = f.object.shape.count;
-      words = f.object.words;
-    },
-  );
-  exists = f.finds.sits.exists;
-  inside = omega (arith, f.finds.sits.inside, f.object.words);
-  own = omega (arith, f.object.words, extent_scalars q e f.object.shape.kind f.object.shape.code f.object.shape.scalar, ap (list_words e) f.object.shape.count);
-}
-object_found m s w k t b q tag n c (shape.Pointers x) f = record {
-  stands = (k, q, record { finds = f.finds; kind = f.object.shape.kind; code = f.object.shape.code; count = f.object.shape.count; words = f.object.words });
-  exists = f.finds.sits.exists;
-  inside = omega (arith, f.finds.sits.inside, f.object.words);
-  own = omega arith;
-}
-object_found m s w k t b q tag n c (shape.Structs size x d p) f = record {
-  stands = (
-    k,
-    q,
-    tag,
-    record {
-      finds = f.finds;
-      kind = f.object.shape.kind;
-      code = f.object.shape.code;
-      has_tag = (f.object.tagged (f.object.shape.kind, f.object.shape.code)).0;
-      count = f.object.shape.count;
-      data_words = f.object.shape.data_words;
-      pointers = f.object.shape.pointers;
-      words = f.object.words;
-    },
-  );
-  exists = f.finds.sits.exists;
-  inside = omega (arith, f.finds.sits.inside, f.object.words);
-  own = omega arith;
-}
+module _ (m : List (List ℕ)) (s w k t b q tag n c : ℕ) where
+  object_at : (x : Shape) → FindsObject m s w k t b q tag n c x → StandsObject m s w (kind_of_shape x) t b n k q tag
+  object_at x f = record {
+    finds = f.finds;
+    tagged = λ composite. (f.object.tagged composite).0;
+    shape = kind_shape q tag x f.object.shape;
+    words = f.object.words;
+  }
+
+  pub object_found : (x : Shape) → FindsObject m s w k t b q tag n c x
+      → IsFound m (word s w) record { kind = kind_of_shape x; place = record { segment = t; start = b; words = n } }
+  object_found (shape.Struct d p) f = record {
+    stands = (k, q, tag, object_at (shape.Struct d p) f);
+    exists = f.finds.sits.exists;
+    inside = omega (arith, f.finds.sits.inside, f.object.words);
+    own = omega (arith, f.object.words, extent_struct q f.object.shape.kind, f.object.shape.data_words, f.object.shape.pointers);
+  }
+  object_found (shape.Scalars e x) f = record {
+    stands = (k, q, tag, object_at (shape.Scalars e x) f);
+    exists = f.finds.sits.exists;
+    inside = omega (arith, f.finds.sits.inside, f.object.words);
+    own = omega (arith, f.object.words, extent_scalars q e f.object.shape.kind f.object.shape.code f.object.shape.scalar, ap (list_words e) f.object.shape.count);
+  }
+  object_found (shape.Pointers x) f = record {
+    stands = (k, q, tag, object_at (shape.Pointers x) f);
+    exists = f.finds.sits.exists;
+    inside = omega (arith, f.finds.sits.inside, f.object.words);
+    own = omega arith;
+  }
+  object_found (shape.Structs size x d p) f = record {
+    stands = (k, q, tag, object_at (shape.Structs size x d p) f);
+    exists = f.finds.sits.exists;
+    inside = omega (arith, f.finds.sits.inside, f.object.words);
+    own = omega arith;
+  }

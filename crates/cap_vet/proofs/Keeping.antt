@@ -16,7 +16,7 @@ use Rattle.cap_vet.specs.declared.report.Report.{Report}
 first_cap_kept : (m : List (List ℕ)) (t : Tree) (c d : ℕ) → Denotes m 0 0 t c d → (first : Option (ℕ × ℕ)) → ∥ IsFirstCapOf m first ∥₁ → IsFirstCapOf m first
 first_cap_kept m t c d h None p =
     let one : IsProp ⊥ = hlevel props in
-    λ path level s w k i r lead. ∥∥₁_elim p one (λ g. g path level s w k i r lead)
+    λ path reaches. ∥∥₁_elim p one (λ g. g path reaches)
 first_cap_kept m t c d h (Some place) p =
     let one_bool : IsProp (has_cap t ≡ true) = hlevel props in
     let has : has_cap t ≡ true = ∥∥₁_elim p one_bool (λ g. (first_cap m t c d h).1 (place.0, place.1, g)) in
@@ -28,19 +28,21 @@ first_cap_kept m t c d h (Some place) p =
 -- A message that may be accepted is accepted.
 pub vetted_kept : (m : List (List ℕ)) (r : Report) → ∥ IsVetted m r ∥₁ → IsVetted m r
 vetted_kept m r h =
-    let x : TreeWithin m 256 0 0 = tree_within m 256 0 0 (∥∥₁_map h (λ (t, a). (t, r.charge, r.depth, a.denotes, a.shallow))) in
+    let x : TreeWithin m 256 0 0 = tree_within m 256 0 0 (∥∥₁_map h (λ (t, a). (t, r.charge, r.depth, a.within.denotes, a.within.few_levels))) in
     let t : Tree = x.0 in
     let same : (u : Tree) → IsReport m 268435456 256 r u → Same t u x.1 r.charge x.2 r.depth = λ u a. one_tree m 0 0 t u
-    x.1 x.2 r.charge r.depth x.3 a.denotes in
+    x.1 x.2 r.charge r.depth x.3 a.within.denotes in
     let one : (a b : ℕ) → IsProp (a ≡ b) = λ a b. hlevel props in
     let one_le : (a b : ℕ) → IsProp (a ≤ b) = λ a b. hlevel props in
     let charge : x.1 ≡ r.charge = ∥∥₁_elim h (one x.1 r.charge) (λ (u, a). (same u a).charge) in
     let depth : x.2 ≡ r.depth = ∥∥₁_elim h (one x.2 r.depth) (λ (u, a). (same u a).depth) in (
       t,
       record {
-        denotes = subst (λ c. Denotes m 0 0 t c r.depth) charge (subst (λ d. Denotes m 0 0 t x.1 d) depth x.3);
-        within = ∥∥₁_elim h (one_le r.charge 268435456) (λ (u, a). a.within);
-        shallow = ∥∥₁_elim h (one_le r.depth 256) (λ (u, a). a.shallow);
+        within = record {
+          denotes = subst (λ c. Denotes m 0 0 t c r.depth) charge (subst (λ d. Denotes m 0 0 t x.1 d) depth x.3);
+          few_words = ∥∥₁_elim h (one_le r.charge 268435456) (λ (u, a). a.within.few_words);
+          few_levels = ∥∥₁_elim h (one_le r.depth 256) (λ (u, a). a.within.few_levels);
+        };
         pointers = ∥∥₁_elim h (one r.pointers (pointer_count t)) (λ (u, a). a.pointers ∙ ap pointer_count (sym (same u a).part));
         caps = ∥∥₁_elim h (one r.caps (cap_count t)) (λ (u, a). a.caps ∙ ap cap_count (sym (same u a).part));
         first_cap = first_cap_kept m t x.1 x.2 x.3 r.first_cap (∥∥₁_map h (λ (u, a). a.first_cap));

@@ -2,24 +2,29 @@
 use Rattle.std.proofs.Common.{ℕ, ◌<◌, ◌≤◌, ◌≡◌, ◌≢◌, List, [], ◌∷◌, length, inl, inr}
 use Rattle.std.proofs.Common.{subst, arith, Option, None, Some}
 use Rattle.std.specs.Prelude.{false, is_some}
+use Rattle.cap_spec.specs.Accepting.{IsWithin}
 use Rattle.cap_spec.specs.Messages.{HasWord, IsMessage}
 use Rattle.cap_spec.specs.Paths.{Before, Costs}
 use Rattle.cap_spec.specs.Pointers.{far_segment, kind, pad, two}
-use Rattle.cap_spec.specs.Strict.{IsFirstLax, IsLax, IsLaxAt, IsStrict, IsWithin}
+use Rattle.cap_spec.specs.Strict.{IsFirstLax, IsLax, IsLaxAt, IsStrict, IsStrictFault}
 use Rattle.cap_spec.specs.declared.Lax.{Lax}
 use Rattle.cap_spec.specs.declared.Lax.TheVariants.{CapabilityPad, NullPad}
 use Rattle.cap_spec.specs.declared.Step.{Step}
+use Rattle.cap_spec.specs.declared.StrictRefusal.{StrictRefusal}
+use Rattle.cap_spec.specs.declared.StrictRefusal.TheVariants.{Refused, ManySegments, Pointer}
 use Rattle.cap_spec.proofs.Paths.Preorder.{Before-irreflexive}
 use Rattle.cap_spec.proofs.Strict.Faults.{strict_kept, strict_wider}
-use Rattle.cap_spec.proofs.Strict.FirstLax.{first_by_tour, first_is_lax}
+use Rattle.cap_spec.proofs.Strict.FirstLax.{first_by_tour}
 use Rattle.cap_spec.proofs.Strict.Looking.{cap_pad, other_pad, zero_pad}
 use Rattle.cap_vet.specs.StrictNulls.{not_lax_path, still_knows}
 use Rattle.cap_vet.specs.Limits.{depth_of, words_of}
 use Rattle.cap_vet.specs.Looking.{IsNotLax}
+use Rattle.cap_vet.specs.PathStrictness.{IsFaultBy}
 use Rattle.cap_vet.specs.Reports.{IsAccepted, IsVetted}
 use Rattle.cap_vet.specs.Stricts.{KnowsLax}
 use Rattle.cap_vet.specs.Trails.{Ahead, IsTrail}
 use Rattle.cap_vet.specs.Walking.{IsLookedAt, HasWalked}
+use Rattle.cap_vet.specs.declared.demands.Demands.{Demands}
 use Rattle.cap_vet.specs.declared.limits.Limits.{Limits}
 use Rattle.cap_vet.specs.declared.report.Report.{Report}
 use Rattle.cap_vet.specs.declared.strictness.strict_turn.LaxPointer.{LaxPointer}
@@ -81,14 +86,7 @@ none_at_end m words depth report seen ahead w k path x =
 -- what is accepted is within the limits
 pub within_of : (m : List (List ℕ)) (words depth : ℕ) (report : Report) → IsAccepted m words depth report
     → IsWithin m words depth
-within_of m words depth report (t, a) = record {
-  tree = t;
-  charge = report.charge;
-  levels = report.depth;
-  denotes = a.denotes;
-  few_words = a.within;
-  few_levels = a.shallow;
-}
+within_of m words depth report (t, a) = (t, report.charge, report.depth, a.within)
 
 -- what may be strict is strict, where it is accepted
 pub strict_held : (m : List (List ℕ)) (report : Report) → ∥ IsVetted m report ∥₁ → ∥ IsStrict m 268435456 256 ∥₁
@@ -115,11 +113,13 @@ pub strict_within : (m : List (List ℕ)) (limits : Limits) → IsStrict m (word
     → IsStrict m 268435456 256
 strict_within m limits h = strict_wider m (words_of limits) (depth_of limits) 268435456 256 h limits.few limits.shallow
 
--- Where there is a first lax pointer, the message isn't strict.
-pub first_not_strict : (m : List (List ℕ)) (words depth s w : ℕ) (what : Lax) (n : ℕ) → IsStrict m words depth
-    → IsFirstLax m s w what n → ⊥
-first_not_strict m words depth s w what n h f = h.none f.path (first_is_lax m s w what n f)
-
--- more than 511 segments are 512
-pub many : (m : List (List ℕ)) (count : ℕ) → IsMessage m → count ≡ length m → 511 < count → length m ≡ 512
-many m count message e h = omega (arith, message.few)
+-- Why an accepted message isn't strict, by what a walk through it has found.
+pub fault_at_end : (demands : Demands) (m : List (List ℕ)) (words depth : ℕ) (seen : List (List Step))
+    (found : Option LaxPointer) (fault : StrictRefusal) → IsMessage m → IsWithin m words depth → KnowsLax m seen found
+    → IsFaultBy demands (length m) found fault → IsStrictFault m words depth fault
+fault_at_end demands m words depth seen found (Refused refusal) message within known f = absurd f
+fault_at_end demands m words depth seen found ManySegments message within known f =
+    (within, omega (arith, message.few, f.1))
+fault_at_end demands m words depth seen None (Pointer what s w n) message within known f = absurd f
+fault_at_end demands m words depth seen (Some first) (Pointer what s w n) message within known f =
+    (within, f.1, rw (f.2, f.3, f.4, f.5) known)

@@ -15,7 +15,6 @@ mod Verdicts
 mod ObjectRuns
 mod Looks
 mod Near
-mod FoundLists
 mod Keeping
 mod Founds
 mod NodeSteps

@@ -5,9 +5,9 @@ use Rattle.cap_spec.specs.Messages.{HasWord}
 use Rattle.cap_spec.specs.Pointers.{code}
 use Rattle.cap_spec.specs.Following.{IsComposite}
 use Rattle.cap_spec.specs.Denoting.{element_levels}
-use Rattle.cap_spec.specs.Faults.{IsDeepAt, IsFirstReason, is_deep, is_past}
+use Rattle.cap_spec.specs.Faults.{IsFirstReason, is_deep, is_past}
 use Rattle.cap_spec.specs.Paths.{Costs}
-use Rattle.cap_spec.specs.Verdicts.{levels_below}
+use Rattle.cap_spec.specs.Verdicts.{levels_below, IsDeepAt}
 use Rattle.cap_spec.specs.declared.Reason.TheVariants.{DepthLimit, WordLimit}
 use Rattle.cap_ptr.specs.Shapes.{FindsTargetBy, IsFollowed, IsShape, charge_of}
 use Rattle.cap_ptr.specs.declared.shapes.Shape.{Shape}

@@ -1,7 +1,8 @@
 -- How the marks of a second walk go on, and what they tell at its end.
 use Rattle.std.proofs.Common.{ℕ, ◌+◌, ◌≡◌, ◌⊎◌, List, [], ◌∷◌, length, inl, inr, refl, sym, subst, arith}
-use Rattle.cap_spec.specs.Occupying.{Occupies, AreApart, IsPlaceOf, Uses, IsDisjoint, Overlaps, twice, on_root, on_earlier, IsFirstOverlap}
-use Rattle.cap_spec.specs.Paths.{Before, IsOneOf, Reaches}
+use Rattle.cap_spec.specs.Lists.{AreDistinct, IsOneOf}
+use Rattle.cap_spec.specs.Occupying.{Occupies, Uses, IsDisjoint, Overlaps, twice, on_root, on_earlier, IsFirstOverlap}
+use Rattle.cap_spec.specs.Paths.{Before, Reaches}
 use Rattle.cap_spec.specs.declared.Step.{Step}
 use Rattle.cap_spec.proofs.Disjoint.Overlaps.{disjoint_of_none, one_used}
 use Rattle.cap_spec.proofs.Paths.Preorder.{Before-irreflexive}
@@ -27,11 +28,11 @@ seen_before m seen a ahead q level s w t r b = elim (up_to_head a seen ahead q t
 
 -- what the path uses is what is used at its word
 uses_of : (m : List (List ℕ)) (p : List Step) (level s w : ℕ) (used : List (ℕ × ℕ)) (x : ℕ × ℕ) → Reaches m p level s w
-    → Occupies m s w used → Uses m p x → IsPlaceOf x used
+    → Occupies m s w used → Uses m p x → IsOneOf x used
 uses_of m p level s w used x r o (level', s', w', used', r', o', i) =
     let same = one_reached m p level level' s w s' w' r r' in
     let o2 : Occupies m s w used' = subst (λ (v : ℕ). Occupies m v w used') (sym same.1) (subst (λ (v : ℕ). Occupies m s' v used') (sym same.2) o') in
-    subst (λ (v : List (ℕ × ℕ)). IsPlaceOf x v) (one_used m s w used' used o2 o) i
+    subst (λ (v : List (ℕ × ℕ)). IsOneOf x v) (one_used m s w used' used o2 o) i
 
 -- The next pointer's places were free: it doesn't overlap, and its places are marked.
 pub marks_on : (m : List (List ℕ)) (seen : List (List Step)) (a : Ahead) (ahead : List Ahead) (T T' : ℕ → ℕ → Type 0) (used : List (ℕ × ℕ))
@@ -60,7 +61,7 @@ marks_on m seen a ahead T T' used t k o h = record {
         let same = one_reached m a.path a.level level a.segment a.word s w r r' in
         let o2 : Occupies m a.segment a.word used' = subst (λ (v : ℕ). Occupies m v a.word used') (sym same.1)
         (subst (λ (v : ℕ). Occupies m s v used') (sym same.2) o') in
-        n (subst (λ (v : List (ℕ × ℕ)). AreApart v) (one_used m a.segment a.word used used' o o2) h.apart)
+        n (subst (λ (v : List (ℕ × ℕ)). AreDistinct v) (one_used m a.segment a.word used used' o o2) h.apart)
     never (on_root u) = h.free 0 0 (uses_of m a.path a.level a.segment a.word used (0, 0) r o u) k.root
     never (on_earlier other (s, w) b u v) =
         h.free s w (uses_of m a.path a.level a.segment a.word used (s, w) r o v) (k.used other s w (seen_before m seen a ahead other u.0 u.1 u.2 t u.4 b) u)
@@ -71,13 +72,17 @@ pub first_overlap : (m : List (List ℕ)) (seen : List (List Step)) (a : Ahead) 
     → n ≡ length seen + 1 → IsFirstOverlap m a.segment a.word n
 first_overlap m seen a ahead T used n t k o c e = record {
   path = a.path;
-  level = a.level;
-  tour = in_order (a.path ∷ seen);
-  reached = r;
-  is_tour = tour_of m seen a ahead t;
-  number = omega (arith, e, length-in_order (a.path ∷ seen));
-  overlaps = over c;
-  first = λ other b h. let g = reached_overlap m other h in k.clear other (seen_before m seen a ahead other g.0 g.1 g.2 t g.3 b) h;
+  numbered = record {
+    level = a.level;
+    tour = in_order (a.path ∷ seen);
+    reached = r;
+    is_tour = tour_of m seen a ahead t;
+    count = omega (arith, e, length-in_order (a.path ∷ seen));
+  };
+  first = record {
+    holds = over c;
+    first = λ other b h. let g = reached_overlap m other h in k.clear other (seen_before m seen a ahead other g.0 g.1 g.2 t g.3 b) h;
+  };
 }
   where
     r : Reaches m a.path a.level a.segment a.word
@@ -87,7 +92,7 @@ first_overlap m seen a ahead T used n t k o c e = record {
     over (inl n') = twice a.level a.segment a.word used r o n'
     over (inr (s, w, i, taken)) = by_mark s w i (k.only s w taken)
       where
-        by_mark : (s w : ℕ) → IsPlaceOf (s, w) used → ((s ≡ 0) × (w ≡ 0)) ⊎ ((p : List Step) × IsOneOf p seen × Uses m p (s, w)) → Overlaps m a.path
+        by_mark : (s w : ℕ) → IsOneOf (s, w) used → ((s ≡ 0) × (w ≡ 0)) ⊎ ((p : List Step) × IsOneOf p seen × Uses m p (s, w)) → Overlaps m a.path
         by_mark s w i (inl z) = on_root (
           a.level,
           a.segment,
@@ -96,7 +101,7 @@ first_overlap m seen a ahead T used n t k o c e = record {
           r,
           o,
           subst
-              (λ (u : ℕ). IsPlaceOf (0, u) used) z.1 (subst (λ (u : ℕ). IsPlaceOf (u, w) used) z.0 i),
+              (λ (u : ℕ). IsOneOf (0, u) used) z.1 (subst (λ (u : ℕ). IsOneOf (u, w) used) z.0 i),
         )
         by_mark s w i (inr (p, one, u)) = on_earlier p (s, w)
             (Falls-before a.path p seen (falls-step a seen ahead t.falls t.precedes) one) u

@@ -14,7 +14,7 @@ use Rattle.cap_spec.proofs.Paths.Arrivals.{lead_word, node_to_coming, part_to_st
 use Rattle.cap_spec.proofs.Frames.Messages.{HasWord-at, HasWord-inside}
 use Rattle.cap_spec.proofs.Trees.OneTree.{formed}
 use Rattle.cap_spec.proofs.Verdicts.OneVerdict.{reached_not_wrong}
-use Rattle.cap_spec.proofs.Paths.Walks.{coming_last, one_walk, walk_parts}
+use Rattle.cap_spec.proofs.Paths.Walks.{coming_last, comes_beyond}
 use Rattle.cap_vet.specs.Nodes.{IsNode}
 use Rattle.cap_vet.specs.Reports.{IsVetted}
 use Rattle.cap_vet.specs.declared.report.Report.{Report}
@@ -29,17 +29,17 @@ root_node m r h = ∥∥₁_map h (λ (t, a). record {
   tree = t;
   charge = r.charge;
   depth = r.depth;
-  denotes = a.denotes;
-  shallow = a.shallow;
+  denotes = a.within.denotes;
+  shallow = a.within.few_levels;
   path = [];
   level = 1;
-  comes = (let p = root_word m t r.charge r.depth a.denotes in (p.0, 0, p.1, (refl, refl), refl));
+  comes = (let p = root_word m t r.charge r.depth a.within.denotes in (p.0, 0, p.1, (refl, refl), refl));
 })
 
 pub root_inside : (m : List (List ℕ)) (r : Report) → ∥ IsVetted m r ∥₁ → 0 < length (segment_of m 0)
 root_inside m r h =
     let one : IsProp (0 < length (segment_of m 0)) = hlevel props in
-    ∥∥₁_elim h one (λ (t, a). let p = root_word m t r.charge r.depth a.denotes in HasWord-inside m 0 0 p.0 p.1)
+    ∥∥₁_elim h one (λ (t, a). let p = root_word m t r.charge r.depth a.within.denotes in HasWord-inside m 0 0 p.0 p.1)
 
 pub root_comes : (m : List (List ℕ)) → 0 < length (segment_of m 0) → Comes m [] 1 (word 0 0)
 root_comes m h = let p = HasWord-at m 0 0 h in (p.0, 0, p.1, (refl, refl), refl)
@@ -90,10 +90,7 @@ pub comes_nowhere : (m : List (List ℕ)) (path done rest : List Step) (step : S
     → ((b : Spot) → Goes m a step b → ⊥) → (level' : ℕ) (b : Spot) → Comes m path level' b → ⊥
 comes_nowhere m path done rest step level a e h none level' b g =
     let g' : Comes m (done ++ step ∷ rest) level' b = subst (λ u. Comes m u level' b) e g in
-    let r = walk_parts m (word 0 0) b done (step ∷ rest) g'.1 g'.3 in
-    let same : a ≡ r.0 = (one_walk m (word 0 0) done h.1 r.1 a r.0 h.3 r.3).1 in
-    let w : Walks m r.0 (step ∷ rest) r.2 b = r.4 in
-    none w.0 (subst (λ u. Goes m u step w.0) (sym same) w.2)
+    let w = (comes_beyond m done (step ∷ rest) level level' a b h g').1 in none w.0 w.2
 
 -- one more step
 pub comes_on : (m : List (List ℕ)) (done : List Step) (step : Step) (level : ℕ) (a b : Spot) → Comes m done level a

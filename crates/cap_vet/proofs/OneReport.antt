@@ -5,15 +5,15 @@ use Rattle.cap_spec.specs.Tree.{cap_count, pointer_count}
 use Rattle.cap_spec.specs.declared.Refusal.{Refusal}
 use Rattle.cap_spec.proofs.Paths.Preorder.{one_first_cap}
 use Rattle.cap_spec.proofs.Trees.OneTree.{one_tree}
-use Rattle.cap_spec.proofs.Verdicts.Refusals.{tree_not_refused}
+use Rattle.cap_spec.proofs.Verdicts.Refusals.{within_not_refused}
 use Rattle.cap_vet.specs.Reports.{IsAccepted, IsFirstCapOf}
 use Rattle.cap_vet.specs.declared.report.Report.{Report}
 
 -- there is one first capability, or none
 one_cap : (m : List (List ℕ)) (a b : Option (ℕ × ℕ)) → IsFirstCapOf m a → IsFirstCapOf m b → a ≡ b
 one_cap m None None h k = refl
-one_cap m None (Some (s, w)) h k = absurd (h k.path k.level s w k.k k.index k.reached k.leads)
-one_cap m (Some (s, w)) None h k = absurd (k h.path h.level s w h.k h.index h.reached h.leads)
+one_cap m None (Some (s, w)) h k = absurd (h k.path k.first.holds)
+one_cap m (Some (s, w)) None h k = absurd (k h.path h.first.holds)
 one_cap m (Some (s, w)) (Some (t, x)) h k = (let same = one_first_cap m s w t x h k in ap₂ (λ (a b : ℕ). Some (a, b)) same.0 same.1)
 
 same_report : (a b : Report) → a.charge ≡ b.charge → a.depth ≡ b.depth → a.pointers ≡ b.pointers → a.caps ≡ b.caps → a.first_cap ≡ b.first_cap → a ≡ b
@@ -26,10 +26,10 @@ same_report a b e1 e2 e3 e4 e5 =
 -- An accepted message has one report.
 pub one_report : (m : List (List ℕ)) (words depth : ℕ) (a b : Report) → IsAccepted m words depth a → IsAccepted m words depth b → a ≡ b
 one_report m words depth a b (t, h) (u, k) =
-    let same = one_tree m 0 0 t u a.charge a.depth b.charge b.depth h.denotes k.denotes in
+    let same = one_tree m 0 0 t u a.charge a.depth b.charge b.depth h.within.denotes k.within.denotes in
     same_report a b same.charge same.depth (h.pointers ∙ (ap pointer_count same.part ∙ sym k.pointers))
     (h.caps ∙ (ap cap_count same.part ∙ sym k.caps)) (one_cap m a.first_cap b.first_cap h.first_cap k.first_cap)
 
 -- A message isn't both accepted and refused.
 pub not_both : (m : List (List ℕ)) (words depth : ℕ) (a : Report) (r : Refusal) → IsAccepted m words depth a → IsRefused m words depth r → ⊥
-not_both m words depth a r (t, h) k = tree_not_refused m t a.charge a.depth words depth r h.denotes h.within h.shallow k
+not_both m words depth a r (t, h) k = within_not_refused m words depth r (t, a.charge, a.depth, h.within) k

@@ -1,10 +1,11 @@
 -- What is ahead of a walk follows from the paths that it has looked at.
 use Rattle.std.proofs.Common.{◌≡◌, ℕ, inl, inr, List, [], ◌∷◌, ◌++◌, refl, sym, ap, ap₂, ◌∙◌, subst, arith, append_assoc, length, ◌<◌}
 use Rattle.std.proofs.lemmas.List.{append-nil}
+use Rattle.cap_spec.specs.Lists.{IsOneOf}
 use Rattle.cap_spec.specs.Denoting.{Finds}
 use Rattle.cap_spec.specs.Following.{IsComposite, near}
 use Rattle.cap_spec.specs.Messages.{HasWord, segment_of}
-use Rattle.cap_spec.specs.Paths.{Before, IsOneOf, Reaches}
+use Rattle.cap_spec.specs.Paths.{Before, Reaches}
 use Rattle.cap_spec.specs.declared.Step.{Step}
 use Rattle.cap_vet.specs.Looking.{object_children}
 use Rattle.cap_vet.specs.Trails.{Ahead, Apart, EachApart, AreReached, Falls, IsUnder, IsTrail, Precedes}

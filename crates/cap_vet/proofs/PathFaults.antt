@@ -1,7 +1,8 @@
 -- The pointers on a path meet the demands, or have one fault.
 use Rattle.std.proofs.Common.{ℕ, ◌≡◌, ◌∙◌, ◌⊎◌, List, [], ◌∷◌, ◌++◌, inl, inr, length, length-append, ap, subst, sym, arith, refl}
+use Rattle.cap_spec.specs.Lists.{IsOneOf}
 use Rattle.cap_spec.specs.Getting.{AreOnPath, IsRefusedOnPath}
-use Rattle.cap_spec.specs.Paths.{IsOneOf, Reaches}
+use Rattle.cap_spec.specs.Paths.{Reaches}
 use Rattle.cap_spec.specs.Strict.{IsLax, IsLaxAt}
 use Rattle.cap_spec.specs.declared.Lax.{Lax}
 use Rattle.cap_spec.specs.declared.Refusal.{Refusal}

@@ -1,5 +1,5 @@
 -- What is known of the pointers on a path that common readers reject, step by step.
-use Rattle.std.proofs.Common.{ℕ, ◌≡◌, ◌∙◌, List, [], ◌∷◌, ◌++◌, Option, None, Some, inl, inr, length, subst, sym}
+use Rattle.std.proofs.Common.{ℕ, ◌≡◌, ◌∙◌, List, [], ◌∷◌, ◌++◌, Option, None, Some, inl, inr, length, refl, subst, sym}
 use Rattle.cap_spec.specs.Getting.{AreOnPath}
 use Rattle.cap_spec.specs.Paths.{Reaches}
 use Rattle.cap_spec.specs.Strict.{IsLaxAt}
@@ -8,6 +8,7 @@ use Rattle.cap_spec.specs.declared.Step.{Step}
 use Rattle.cap_spec.proofs.Paths.Walks.{one_reached}
 use Rattle.cap_spec.proofs.Verdicts.OneFault.{one_of_last}
 use Rattle.cap_spec.proofs.Verdicts.OnPath.{begins_itself, begins_longer}
+use Rattle.cap_vet.specs.Looking.{IsNotLax}
 use Rattle.cap_vet.specs.PathDemands.{IsFirstLaxOnPath}
 use Rattle.cap_vet.specs.PathStrictness.{AddsPointer, KnowsLaxOnPath}
 use Rattle.cap_vet.specs.declared.strictness.strict_turn.LaxPointer.{LaxPointer}
@@ -60,3 +61,11 @@ lax_added m prev more ways level s w n None (Some x) on r e k a = record {
   first = k;
   number = a.3 ∙ e;
 }
+
+-- A pointer that isn't lax adds nothing.
+pub adds_strict : (m : List (List ℕ)) (s w n : ℕ) (lax : Option LaxPointer) → IsNotLax m s w → AddsPointer m s w n lax lax
+adds_strict m s w n None strict = strict
+adds_strict m s w n (Some first) strict = refl
+
+pub adds_none : (m : List (List ℕ)) (s w n : ℕ) (lax : Option LaxPointer) → lax ≡ None → IsNotLax m s w → AddsPointer m s w n lax None
+adds_none m s w n lax e strict = subst (λ (o : Option LaxPointer). AddsPointer m s w n o None) (sym e) strict

@@ -8,7 +8,7 @@ use Rattle.std.proofs.lemmas.List.Sums.{sum_by-cons}
 use Rattle.cap_spec.specs.Frames.{sizes_of}
 use Rattle.cap_spec.specs.Messages.{IsMessage, segment_of}
 use Rattle.cap_spec.specs.Denoting.{places}
-use Rattle.cap_spec.specs.Occupying.{IsPlaceOf}
+use Rattle.cap_spec.specs.Lists.{IsOneOf}
 use Rattle.cap_spec.proofs.Disjoint.Places.{apart_places, at_place, in_places}
 use Rattle.cap_vet.specs.Marks.{MarksAll}
 use Rattle.cap_vet.specs.Taken.{AreStarts, IsTaken, bit_in, start_of}
@@ -57,7 +57,7 @@ marks_range m old new s from len at h inside e set free below above = record {
     | inl x ↦ inl (q.0, q.1, sym (below (start_of m s' + w') x) ∙ q.2)
     | inr x ↦ elim (cases_lt (start_of m s' + w') (at + len)) [
       | inl y ↦ let r = same_place m s from len s' w' h q.0 inside q.1 (omega (arith, e)) (omega (arith, e)) in
-          inr (subst (λ (u : ℕ). IsPlaceOf (u, w') (places s from len)) (sym r.0) (at_place s from len w' r.1 r.2))
+          inr (subst (λ (u : ℕ). IsOneOf (u, w') (places s from len)) (sym r.0) (at_place s from len w' r.1 r.2))
       | inr y ↦ inl (q.0, q.1, sym (above (start_of m s' + w') y) ∙ q.2)
     ]
   ];
@@ -65,7 +65,7 @@ marks_range m old new s from len at h inside e set free below above = record {
 
 -- a bit of the range that was set before is a place of it
 pub range_conflict : (m : List (List ℕ)) (old : List ℕ) (s from len at i : ℕ) → s < length m → from + len ≤ length (segment_of m s) → at ≡ start_of m s + from
-    → at ≤ i → i < at + len → bit_in old i ≡ 1 → (w : ℕ) × IsPlaceOf (s, w) (places s from len) × IsTaken m old s w
+    → at ≤ i → i < at + len → bit_in old i ≡ 1 → (w : ℕ) × IsOneOf (s, w) (places s from len) × IsTaken m old s w
 range_conflict m old s from len at i h inside e low high taken =
     let w : ℕ = from + (i - at) in
     let f : i ≡ start_of m s + w = omega (arith, e) in

@@ -70,7 +70,7 @@ root_marked m T T' none h = record {
 -- an accepted message has a root word
 pub root_there : (m : List (List ℕ)) (words depth : ℕ) (report : Report) → IsAccepted m words depth report → 0 < length (segment_of m 0)
 root_there m words depth report (t, a) =
-    let f : Formed m 0 0 t = formed m 0 0 t report.charge report.depth a.denotes in
+    let f : Formed m 0 0 t = formed m 0 0 t report.charge report.depth a.within.denotes in
     let p = lead_word m 0 0 f.k f.r f.leads in
     HasWord-inside m 0 0 p.0 p.1
 

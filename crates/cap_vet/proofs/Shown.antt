@@ -91,12 +91,14 @@ structs_own m s w x c d k t b q tag h f e g y = absurd (omega (arith, number_lis
 pub stands_own : (m : List (List ℕ)) (a : Spot) (k : Kind) (t b n : ℕ) (x : Tree) → StandsAs m a k t b n → DenotesAt m a x → own_at m k t b ≡ own_of x
 stands_own m (word s w) Null t b n x f h = sym (null_own m s w x h.0 h.1 f.0 h.2 f.1)
 stands_own m (word s w) (Cap i) t b n x f h = sym (cap_own m s w x h.0 h.1 f.0 i h.2 f.1)
-stands_own m (word s w) (Struct d p) t b n x f h = rw (f.2.data_words, f.2.pointers) (sym (struct_own m s w x h.0 h.1 f.0 t b f.1 h.2 f.2.finds f.2.kind))
-stands_own m (word s w) (Scalars c y) t b n x f h =
-    rw (f.2.code, f.2.count) (sym (scalars_own m s w x h.0 h.1 f.0 t b f.1 h.2 f.2.finds f.2.kind (omega (arith, f.2.code, f.2.scalar))))
-stands_own m (word s w) (Pointers y) t b n x f h = rw f.2.count (sym (pointers_own m s w x h.0 h.1 f.0 t b f.1 h.2 f.2.finds f.2.kind f.2.code))
-stands_own m (word s w) (Structs y d p) t b n x f h = rw (f.3.count, f.3.data_words, f.3.pointers)
-    (sym (structs_own m s w x h.0 h.1 f.0 t b f.1 f.2 h.2 f.3.finds f.3.kind f.3.code f.3.has_tag))
+stands_own m (word s w) (Struct d p) t b n x (k, q, tag, f) h = rw (f.shape.data_words, f.shape.pointers)
+    (sym (struct_own m s w x h.0 h.1 k t b q h.2 f.finds f.shape.kind))
+stands_own m (word s w) (Scalars c y) t b n x (k, q, tag, f) h = rw (f.shape.code, f.shape.count)
+    (sym (scalars_own m s w x h.0 h.1 k t b q h.2 f.finds f.shape.kind (omega (arith, f.shape.code, f.shape.scalar))))
+stands_own m (word s w) (Pointers y) t b n x (k, q, tag, f) h = rw f.shape.count
+    (sym (pointers_own m s w x h.0 h.1 k t b q h.2 f.finds f.shape.kind f.shape.code))
+stands_own m (word s w) (Structs y d p) t b n x (k, q, tag, f) h = rw (f.shape.count, f.shape.data_words, f.shape.pointers)
+    (sym (structs_own m s w x h.0 h.1 k t b q tag h.2 f.finds f.shape.kind f.shape.code (f.tagged (f.shape.kind, f.shape.code))))
 stands_own m (element t' b' ds ps) (Struct d p) t b n (struct ws ts) f h =
     let e : StandsElement t' b' ds ps d p t b n = f in
     let count = (each_charged m (places t' (b' + ds) ps) ts h.0 h.1 h.3).0 ∙ length-places t' (b' + ds) ps in

@@ -36,4 +36,4 @@ module _ {M E : Type 0} {g : segments.Ghosts M} (message : M) (words depth : ℕ
   exclusive_bound (Ok e) value disjoint =
       let a = exclusive_ok (Ok e) value disjoint in
       let report : Report = report_of (vetted_of e) in
-      (a.0.0, a.0.1, charge_below_words (g.segments message) a.0.0 report.charge report.depth a.0.1.denotes a.1)
+      (a.0.0, a.0.1, charge_below_words (g.segments message) a.0.0 report.charge report.depth a.0.1.within.denotes a.1)

@@ -28,11 +28,11 @@ pointer_goes m (word s w) f d p i x h e lt ex =
       f.place.segment,
       f.place.start,
       y.1,
-      y.2.finds,
-      y.2.kind,
-      omega (arith, lt, y.2.pointers),
+      y.3.finds,
+      y.3.shape.kind,
+      omega (arith, lt, y.3.shape.pointers),
       ap (word f.place.segment)
-          (omega (arith, ex, y.2.data_words)),
+          (omega (arith, ex, y.3.shape.data_words)),
     )
 pointer_goes m (element t' b' ds ps) f d p i x h e lt ex =
     let y : StandsElement t' b' ds ps d p f.place.segment f.place.start f.place.words = as_kind m (element t' b' ds ps) f (Struct d p) h e in
@@ -46,16 +46,16 @@ no_pointer m (word s w) f (Cap x) i b e none h g = let y = as_kind m (word s w) 
 no_pointer m (word s w) f (Struct d p) i b e none h g = none d p e
 no_pointer m (word s w) f (Scalars c x) i b e none h g =
     let y = as_kind m (word s w) f (Scalars c x) h e in
-    let o = one_object m s w y.0 f.place.segment f.place.start y.1 g.0 g.1 g.2 g.3 y.2.finds g.4 in
-    omega (arith, ap kind o.shape, y.2.kind, g.5)
+    let o = one_object m s w y.0 f.place.segment f.place.start y.1 g.0 g.1 g.2 g.3 y.3.finds g.4 in
+    omega (arith, ap kind o.shape, y.3.shape.kind, g.5)
 no_pointer m (word s w) f (Pointers x) i b e none h g =
     let y = as_kind m (word s w) f (Pointers x) h e in
-    let o = one_object m s w y.0 f.place.segment f.place.start y.1 g.0 g.1 g.2 g.3 y.2.finds g.4 in
-    omega (arith, ap kind o.shape, y.2.kind, g.5)
+    let o = one_object m s w y.0 f.place.segment f.place.start y.1 g.0 g.1 g.2 g.3 y.3.finds g.4 in
+    omega (arith, ap kind o.shape, y.3.shape.kind, g.5)
 no_pointer m (word s w) f (Structs x d p) i b e none h g =
     let y = as_kind m (word s w) f (Structs x d p) h e in
     let o = one_object m s w y.0 f.place.segment f.place.start y.1 g.0 g.1 g.2 g.3 y.3.finds g.4 in
-    omega (arith, ap kind o.shape, y.3.kind, g.5)
+    omega (arith, ap kind o.shape, y.3.shape.kind, g.5)
 no_pointer m (element t' b' ds ps) f (Struct d p) i b e none h g = none d p e
 no_pointer m (element t' b' ds ps) f k i b e none h g = absurd (as_kind m (element t' b' ds ps) f k h e)
 
@@ -68,7 +68,7 @@ pub entry_goes : (m : List (List ℕ)) (a : Spot) (f : Found) (n i x : ℕ) → 
     → Goes m a (Item i) (word f.place.segment x)
 entry_goes m (word s w) f n i x h e lt ex =
     let y = as_kind m (word s w) f (Pointers n) h e in
-    inl (y.0, f.place.segment, f.place.start, y.1, y.2.finds, y.2.kind, y.2.code, omega (arith, lt, y.2.count), ap (word f.place.segment) ex)
+    inl (y.0, f.place.segment, f.place.start, y.1, y.3.finds, y.3.shape.kind, y.3.shape.code, omega (arith, lt, y.3.shape.count), ap (word f.place.segment) ex)
 entry_goes m (element t' b' ds ps) f n i x h e lt ex = absurd (as_kind m (element t' b' ds ps) f (Pointers n) h e)
 
 -- which lie inside their segment
@@ -76,18 +76,18 @@ pub entry_inside : (m : List (List ℕ)) (a : Spot) (f : Found) (n i : ℕ) → 
     → f.place.start + i + 1 ≤ length (segment_of m f.place.segment)
 entry_inside m (word s w) f n i h e lt =
     let y = as_kind m (word s w) f (Pointers n) h e in
-    omega (arith, lt, y.2.count, y.2.words, extent_pointers y.1 y.2.kind y.2.code, h.inside)
+    omega (arith, lt, y.3.shape.count, y.3.words, extent_pointers y.1 y.3.shape.kind y.3.shape.code, h.inside)
 entry_inside m (element t' b' ds ps) f n i h e lt = absurd (as_kind m (element t' b' ds ps) f (Pointers n) h e)
 
 pub entry_past : (m : List (List ℕ)) (a : Spot) (f : Found) (n i : ℕ) (b : Spot) → IsFound m a f → f.kind ≡ Pointers n → n ≤ i → Goes m a (Item i) b → ⊥
 entry_past m (word s w) f n i b h e past (inl g) =
     let y = as_kind m (word s w) f (Pointers n) h e in
-    let o = one_object m s w y.0 f.place.segment f.place.start y.1 g.0 g.1 g.2 g.3 y.2.finds g.4 in
-    omega (arith, past, ap list_size o.shape, y.2.count, g.7)
+    let o = one_object m s w y.0 f.place.segment f.place.start y.1 g.0 g.1 g.2 g.3 y.3.finds g.4 in
+    omega (arith, past, ap list_size o.shape, y.3.shape.count, g.7)
 entry_past m (word s w) f n i b h e past (inr g) =
     let y = as_kind m (word s w) f (Pointers n) h e in
-    let o = one_object m s w y.0 f.place.segment f.place.start y.1 g.0 g.1 g.2 g.3 y.2.finds g.5 in
-    omega (arith, ap code o.shape, y.2.code, g.7)
+    let o = one_object m s w y.0 f.place.segment f.place.start y.1 g.0 g.1 g.2 g.3 y.3.finds g.5 in
+    omega (arith, ap code o.shape, y.3.shape.code, g.7)
 entry_past m (element t' b' ds ps) f n i b h e past g = absurd g
 
 -- the elements of a list of structs
@@ -102,11 +102,11 @@ element_goes m (word s w) f n d p i h e lt =
       y.1,
       y.2,
       y.3.finds,
-      y.3.kind,
-      y.3.code,
-      y.3.has_tag,
-      omega (arith, lt, y.3.count),
-      rw (← y.3.data_words, ← y.3.pointers) refl,
+      y.3.shape.kind,
+      y.3.shape.code,
+      (y.3.tagged (y.3.shape.kind, y.3.shape.code)),
+      omega (arith, lt, y.3.shape.count),
+      rw (← y.3.shape.data_words, ← y.3.shape.pointers) refl,
     )
 element_goes m (element t' b' ds ps) f n d p i h e lt = absurd (as_kind m (element t' b' ds ps) f (Structs n d p) h e)
 
@@ -115,13 +115,13 @@ pub element_past : (m : List (List ℕ)) (a : Spot) (f : Found) (n d p i : ℕ) 
 element_past m (word s w) f n d p i b h e past (inl g) =
     let y = as_kind m (word s w) f (Structs n d p) h e in
     let o = one_object m s w y.0 f.place.segment f.place.start y.1 g.0 g.1 g.2 g.3 y.3.finds g.4 in
-    omega (arith, ap code o.shape, y.3.code, g.6)
+    omega (arith, ap code o.shape, y.3.shape.code, g.6)
 element_past m (word s w) f n d p i b h e past (inr g) =
     let y = as_kind m (word s w) f (Structs n d p) h e in
     let o : SameObject y.0 f.place.segment f.place.start y.1 g.0 g.1 g.2 g.3 = one_object m s w y.0 f.place.segment f.place.start y.1 g.0 g.1 g.2 g.3
     y.3.finds g.5 in
-    let z : y.2 ≡ g.4 = one_word m f.place.segment f.place.start y.2 g.4 y.3.has_tag (rw (o.segment, o.start) g.8) in
-    omega (arith, past, ap middle z, y.3.count, g.9)
+    let z : y.2 ≡ g.4 = one_word m f.place.segment f.place.start y.2 g.4 (y.3.tagged (y.3.shape.kind, y.3.shape.code)) (rw (o.segment, o.start) g.8) in
+    omega (arith, past, ap middle z, y.3.shape.count, g.9)
 element_past m (element t' b' ds ps) f n d p i b h e past g = absurd g
 
 -- a product of equal numbers
@@ -133,14 +133,14 @@ pub element_inside : (m : List (List ℕ)) (a : Spot) (f : Found) (n d p i : ℕ
     → f.place.start + 1 + i * (d + p) + d + p ≤ length (segment_of m f.place.segment)
 element_inside m (word s w) f n d p i h e lt =
     let y = as_kind m (word s w) f (Structs n d p) h e in
-    let fits = y.3.finds.sits.composite (y.3.kind, y.3.code) in
-    let z : fits.0 ≡ y.2 = one_word m f.place.segment f.place.start fits.0 y.2 fits.1 y.3.has_tag in
+    let fits = y.3.finds.sits.composite (y.3.shape.kind, y.3.shape.code) in
+    let z : fits.0 ≡ y.2 = one_word m f.place.segment f.place.start fits.0 y.2 fits.1 (y.3.tagged (y.3.shape.kind, y.3.shape.code)) in
     let room : middle y.2 * (data_size y.2 + pointer_size y.2) ≤ list_size y.1 = subst
     (λ u. middle u * (data_size u + pointer_size u) ≤ list_size y.1) z fits.2.1 in
     let all : n * (d + p) ≤ list_size y.1 = equal_product n (middle y.2) d (data_size y.2) p (pointer_size y.2)
-    (list_size y.1) y.3.count y.3.data_words y.3.pointers room in
+    (list_size y.1) y.3.shape.count y.3.shape.data_words y.3.shape.pointers room in
     let some : (i + 1) * (d + p) ≤ n * (d + p) = mul-le-mul_right (d + p) (omega (arith, lt)) in
-    omega (arith, some, all, y.3.words, extent_structs y.1 y.3.kind y.3.code, h.inside)
+    omega (arith, some, all, y.3.words, extent_structs y.1 y.3.shape.kind y.3.shape.code, h.inside)
 element_inside m (element t' b' ds ps) f n d p i h e lt = absurd (as_kind m (element t' b' ds ps) f (Structs n d p) h e)
 
 -- and so do all of them together
@@ -148,11 +148,11 @@ pub elements_inside : (m : List (List ℕ)) (a : Spot) (f : Found) (n d p : ℕ)
     → f.place.start + 1 + n * (d + p) ≤ length (segment_of m f.place.segment)
 elements_inside m (word s w) f n d p h e =
     let y = as_kind m (word s w) f (Structs n d p) h e in
-    let fits = y.3.finds.sits.composite (y.3.kind, y.3.code) in
-    let z : fits.0 ≡ y.2 = one_word m f.place.segment f.place.start fits.0 y.2 fits.1 y.3.has_tag in
+    let fits = y.3.finds.sits.composite (y.3.shape.kind, y.3.shape.code) in
+    let z : fits.0 ≡ y.2 = one_word m f.place.segment f.place.start fits.0 y.2 fits.1 (y.3.tagged (y.3.shape.kind, y.3.shape.code)) in
     let room : middle y.2 * (data_size y.2 + pointer_size y.2) ≤ list_size y.1 = subst
     (λ u. middle u * (data_size u + pointer_size u) ≤ list_size y.1) z fits.2.1 in
     let all : n * (d + p) ≤ list_size y.1 = equal_product n (middle y.2) d (data_size y.2) p (pointer_size y.2)
-    (list_size y.1) y.3.count y.3.data_words y.3.pointers room in
-    omega (arith, all, y.3.words, extent_structs y.1 y.3.kind y.3.code, h.inside)
+    (list_size y.1) y.3.shape.count y.3.shape.data_words y.3.shape.pointers room in
+    omega (arith, all, y.3.words, extent_structs y.1 y.3.shape.kind y.3.shape.code, h.inside)
 elements_inside m (element t' b' ds ps) f n d p h e = absurd (as_kind m (element t' b' ds ps) f (Structs n d p) h e)

@@ -2,7 +2,8 @@
 use Rattle.std.proofs.Common.{◌≡◌, ℕ, ◌+◌, ◌⊎◌, inl, inr, List, [], ◌∷◌, length, refl, reverse, sym, ◌∙◌, subst, arith}
 use Rattle.std.proofs.lemmas.List.{append-nil}
 use mathlib.Core.List.{reverse_aux}
-use Rattle.cap_spec.specs.Paths.{Before, IsOneOf, IsTour, Rises}
+use Rattle.cap_spec.specs.Lists.{IsOneOf}
+use Rattle.cap_spec.specs.Paths.{Before, IsTour, Rises}
 use Rattle.cap_spec.specs.declared.Step.{Step}
 use Rattle.cap_vet.specs.Trails.{Ahead, Apart, EachApart, Falls, IsUnder, IsTrail}
 use Rattle.cap_spec.proofs.Paths.Preorder.{Before-trans}

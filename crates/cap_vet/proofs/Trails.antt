@@ -1,7 +1,8 @@
 -- How a trail goes on.
 use Rattle.std.proofs.Common.{◌≡◌, ℕ, ◌⊎◌, inl, inr, List, [], ◌∷◌, ◌++◌, sym, ◌∙◌, subst}
 use Rattle.std.proofs.lemmas.List.{append-nil}
-use Rattle.cap_spec.specs.Paths.{Before, IsOneOf, Reaches}
+use Rattle.cap_spec.specs.Lists.{IsOneOf}
+use Rattle.cap_spec.specs.Paths.{Before, Reaches}
 use Rattle.cap_spec.specs.declared.Step.{Step}
 use Rattle.cap_vet.specs.Trails.{Ahead, Apart, EachApart, Falls, Precedes, GoOnFrom, IsUnder, AreReached, IsTrail}
 use Rattle.cap_spec.proofs.Paths.Preorder.{Before-longer}

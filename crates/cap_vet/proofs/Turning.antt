@@ -3,13 +3,14 @@ use Rattle.std.proofs.Common.{◌≡◌, ℕ, ◌+◌, ◌<◌, ◌≤◌, max, 
 use Rattle.std.proofs.Common.{refl, sym, ap, ◌∙◌, subst, arith, Option, None, Some}
 use Rattle.std.specs.Prelude.{pos}
 use Rattle.std.proofs.lemmas.List.{length-append}
+use Rattle.cap_spec.specs.Lists.{IsOneOf}
 use Rattle.cap_spec.specs.Messages.{HasWord}
 use Rattle.cap_spec.specs.Pointers.{code, extent, kind, middle}
 use Rattle.cap_spec.specs.Following.{Leads, IsComposite, to_null, to_cap, extra}
 use Rattle.cap_spec.specs.Denoting.{Finds, element_levels}
-use Rattle.cap_spec.specs.Faults.{AreShallow, IsDeepAt}
-use Rattle.cap_spec.specs.Paths.{Before, Costs, Goes, IsOneOf, Reaches, Spot, Walks, word}
-use Rattle.cap_spec.specs.Verdicts.{CostOf, levels_below}
+use Rattle.cap_spec.specs.Faults.{AreShallow}
+use Rattle.cap_spec.specs.Paths.{Before, Costs, Goes, Reaches, Spot, Walks, word}
+use Rattle.cap_spec.specs.Verdicts.{CostOf, levels_below, IsDeepAt}
 use Rattle.cap_spec.specs.declared.Step.{Step}
 use Rattle.cap_spec.specs.declared.Step.TheVariants.{Ptr, Item}
 use Rattle.cap_spec.proofs.Paths.Walks.{one_reached}

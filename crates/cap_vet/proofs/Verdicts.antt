@@ -4,10 +4,11 @@ use Rattle.cap_vet.specs.Owing.{IsCount}
 use Rattle.cap_spec.proofs.Frames.Messages.{HasWord-at}
 use Rattle.std.proofs.Common.{◌≡◌, ℕ, ◌+◌, ◌<◌, inl, inr, List, [], ◌∷◌, ◌++◌, length, map, refl, reverse, sym, subst, arith, Option, None, Some}
 use Rattle.std.proofs.lemmas.List.{length-append}
+use Rattle.cap_spec.specs.Lists.{IsOneOf}
 use Rattle.cap_spec.specs.Messages.{segment_of}
 use Rattle.cap_spec.specs.Denoting.{Denotes}
 use Rattle.cap_spec.specs.Faults.{HasNoRoot, IsFirstFault, IsFirstReason}
-use Rattle.cap_spec.specs.Paths.{IsOneOf, IsTour, Reaches}
+use Rattle.cap_spec.specs.Paths.{IsTour, Reaches}
 use Rattle.cap_spec.specs.Verdicts.{CostOf}
 use Rattle.cap_spec.specs.declared.Reason.{Reason}
 use Rattle.cap_spec.specs.declared.Reason.TheVariants.{NoRoot}
@@ -41,7 +42,10 @@ CostOf-in_order m seen c h = subst (CostOf m (in_order seen)) (omega arith) (Cos
 -- A first segment without words has no root.
 pub no_root_at : (m : List (List ℕ)) → 0 < length m → length (segment_of m 0) ≡ 0 → HasNoRoot m record { segment = 0; word = 0; reason = NoRoot; pointers = 0 }
 no_root_at [] some e = absurd (omega arith)
-no_root_at ([] ∷ m) some e = record { empty = refl; segment = refl; word = refl; reason = refl; pointers = refl }
+no_root_at ([] ∷ m) some e = record {
+  lacks = record { empty = refl; segment = refl; word = refl; reason = refl };
+  pointers = refl;
+}
 no_root_at ((x ∷ xs) ∷ m) some e = let f : length (x ∷ xs) ≡ 0 = e in absurd (omega (arith, f))
 
 -- The first reason that applies at the next word makes it the first fault.
@@ -99,15 +103,15 @@ all_seen m seen q level s w t r = elim (t.complete q level s w r) [ inl h ↦ h 
 
 -- the first capability of all paths
 whole_first_cap : (m : List (List ℕ)) (seen : List (List Step)) (first : Option (ℕ × ℕ)) → IsTrail m seen [] → IsFirstOf m seen first → IsFirstCapOf m first
-whole_first_cap m seen None t h = λ path level s w k i r lead. h path s w (all_seen m seen path level s w t r) (level, k, i, r, lead)
+whole_first_cap m seen None t h = λ path (level, s, w, k, i, r, lead). h path s w (all_seen m seen path level s w t r) (level, k, i, r, lead)
 whole_first_cap m seen (Some place) t (p, one, (level, k, i, r, lead), first) = record {
   path = p;
   level = level;
-  k = k;
-  index = i;
   reached = r;
-  leads = lead;
-  first = λ other level' s' w' k' i' before r' lead'. first other s' w' (all_seen m seen other level' s' w' t r') before (level', k', i', r', lead');
+  first = record {
+    holds = (level, place.0, place.1, k, i, r, lead);
+    first = λ other before (level', s', w', k', i', r', lead'). first other s' w' (all_seen m seen other level' s' w' t r') before (level', k', i', r', lead');
+  };
 }
 
 -- A walk with nothing ahead has the whole tree.
@@ -123,9 +127,11 @@ accepted_at_end m words depth report seen ahead w =
     let f : d ≡ report.depth = omega (arith, whole.depth) in (
       t,
       record {
-        denotes = subst (λ u. Denotes m 0 0 t u report.depth) e (subst (λ u. Denotes m 0 0 t (report.charge + 0) u) f whole.denotes);
-        within = p.within;
-        shallow = p.shallow;
+        within = record {
+          denotes = subst (λ u. Denotes m 0 0 t u report.depth) e (subst (λ u. Denotes m 0 0 t (report.charge + 0) u) f whole.denotes);
+          few_words = p.within;
+          few_levels = p.shallow;
+        };
         pointers = omega (arith, whole.pointer_total);
         caps = omega (arith, whole.cap_total);
         first_cap = whole_first_cap m seen report.first_cap p.trail p.first_cap;
@@ -138,9 +144,11 @@ pub vetted_within : (m : List (List ℕ)) (limits : Limits) (report : Report) �
 vetted_within m limits report (t, a) = (
   t,
   record {
-    denotes = a.denotes;
-    within = omega (arith, a.within, limits.few);
-    shallow = omega (arith, a.shallow, limits.shallow);
+    within = record {
+      denotes = a.within.denotes;
+      few_words = omega (arith, a.within.few_words, limits.few);
+      few_levels = omega (arith, a.within.few_levels, limits.shallow);
+    };
     pointers = a.pointers;
     caps = a.caps;
     first_cap = a.first_cap;

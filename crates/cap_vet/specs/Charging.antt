@@ -1,5 +1,5 @@
 -- How far a path was followed in a message that needn't be vetted (profile).
-use Rattle.std.specs.Prelude.{ℕ, ◌+◌, ◌<◌, ◌≤◌, ◌≡◌, List, ◌∷◌, ◌++◌, length, Bool, true, false, None}
+use Rattle.std.specs.Prelude.{ℕ, ◌+◌, ◌<◌, ◌≤◌, ◌≡◌, List, ◌∷◌, ◌++◌, length, Bool, true, false}
 use Rattle.cap_spec.specs.Faults.{AreShallow}
 use Rattle.cap_spec.specs.Getting.{AreOnPath}
 use Rattle.cap_spec.specs.Paths.{Comes, Goes, Spot, word, element}
@@ -8,7 +8,6 @@ use Rattle.cap_spec.specs.declared.Step.{Step}
 use Rattle.cap_vet.specs.Finding.{IsFound}
 use Rattle.cap_vet.specs.PathStrictness.{KnowsLaxOnPath}
 use Rattle.cap_vet.specs.declared.nodes.charged.Arrival.{Arrival}
-use Rattle.cap_vet.specs.declared.nodes.near_arrival.NearArrival.{NearArrival}
 
 -- the deepest level that a path within the depth limit comes to
 abbrev pub deepest_at : ℕ → Spot → ℕ
@@ -30,10 +29,6 @@ pub record Arrives (m : List (List ℕ)) (words depth : ℕ) (path : List Step) 
   pub levels : at.level ≤ deepest_at depth spot
   pub few : at.pointers ≤ at.level
   pub lax : KnowsLaxOnPath m path ways at.lax
-
--- an arrival over pointers that common readers take
-abbrev pub arrival_of : NearArrival → Arrival
-arrival_of at = record { found = at.found; level = at.level; spent = at.spent; pointers = at.pointers; lax = None }
 
 -- The path leads to nothing: its beginning arrives at something from which the next step leads to nothing.
 pub record EndsEarly (m : List (List ℕ)) (words depth : ℕ) (path : List Step) (at : Arrival) : Type 0 where

@@ -1,7 +1,8 @@
 -- What may be demanded of a message beside the limits (profile).
 use Rattle.std.specs.Prelude.{ℕ, List, IsTrue, if◌then◌else◌}
+use Rattle.cap_spec.specs.Accepting.{IsWithin}
 use Rattle.cap_spec.specs.Faults.{IsRefused}
-use Rattle.cap_spec.specs.Strict.{IsStrict, IsStrictFault, IsWithin}
+use Rattle.cap_spec.specs.Strict.{IsStrict, IsStrictFault}
 use Rattle.cap_spec.specs.Unamplified.{unamplified}
 use Rattle.cap_spec.specs.declared.StrictRefusal.{StrictRefusal}
 use Rattle.cap_spec.specs.declared.StrictRefusal.TheVariants.{Refused, ManySegments, Pointer}

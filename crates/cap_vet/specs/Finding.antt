@@ -3,7 +3,7 @@ use Rattle.std.specs.Prelude.{ℕ, ◌+◌, ◌<◌, ◌≤◌, List, length, Op
 use Rattle.cap_spec.specs.Messages.{IsMessage, segment_of}
 use Rattle.cap_spec.specs.Pointers.{list_words}
 use Rattle.cap_spec.specs.Arriving.{StandsAs}
-use Rattle.cap_spec.specs.Paths.{Goes, Spot}
+use Rattle.cap_spec.specs.Paths.{Goes, Spot as Where}
 use Rattle.cap_spec.specs.declared.Kind.{Kind}
 use Rattle.cap_spec.specs.declared.Kind.TheVariants.{Struct, Scalars, Pointers, Structs}
 use Rattle.cap_spec.specs.declared.Step.{Step}
@@ -11,7 +11,7 @@ use Rattle.cap_ptr.specs.declared.shapes.Shape.{Shape}
 use Rattle.cap_ptr.specs.declared.shapes.Shape.TheVariants as shape
 use Rattle.cap_vet.specs.Spots.{SpotIn, spot_of}
 use Rattle.cap_vet.specs.declared.nodes.found.Found.{Found}
-use Rattle.cap_vet.specs.declared.nodes.spot.Spot.{Spot as Kept}
+use Rattle.cap_vet.specs.declared.nodes.spot.Spot.{Spot}
 
 -- the kind of an object
 abbrev pub kind_of_shape : Shape → Kind
@@ -32,7 +32,7 @@ own_words _ = 0
 
 -- its kind and its place are those of the object at the spot, and its words lie inside their
 -- segment
-pub record IsFound (m : List (List ℕ)) (a : Spot) (f : Found) : Type 0 where
+pub record IsFound (m : List (List ℕ)) (a : Where) (f : Found) : Type 0 where
   pub stands : StandsAs m a f.kind f.place.segment f.place.start f.place.words
   pub exists : f.place.segment < length m
   pub inside : f.place.start + f.place.words ≤ length (segment_of m f.place.segment)
@@ -40,11 +40,11 @@ pub record IsFound (m : List (List ℕ)) (a : Spot) (f : Found) : Type 0 where
 
 -- it is found in some message
 abbrev pub IsSomewhere : Found → Type 0
-IsSomewhere f = ∥ ((m : List (List ℕ)) × (a : Spot) × IsMessage m × IsFound m a f) ∥₁
+IsSomewhere f = ∥ ((m : List (List ℕ)) × (a : Where) × IsMessage m × IsFound m a f) ∥₁
 
 -- the answer says where a step leads from what was found
-abbrev pub StepLeads : Found → Step → Option Kept → Type 0
+abbrev pub StepLeads : Found → Step → Option Spot → Type 0
 StepLeads f step None =
-    (m : List (List ℕ)) (a : Spot) → IsFound m a f → (b : Spot) → ¬ Goes m a step b
+    (m : List (List ℕ)) (a : Where) → IsFound m a f → (b : Where) → ¬ Goes m a step b
 StepLeads f step (Some b) =
-    (m : List (List ℕ)) (a : Spot) → IsFound m a f → Goes m a step (spot_of b) × SpotIn m b
+    (m : List (List ℕ)) (a : Where) → IsFound m a f → Goes m a step (spot_of b) × SpotIn m b

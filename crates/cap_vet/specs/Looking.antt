@@ -2,7 +2,7 @@
 use Rattle.std.specs.Prelude.{ℕ, ◌+◌, ◌<◌, ◌≤◌, ◌≡◌, ◌≢◌, ◌==◌, if◌then◌else◌, List, [], Option, None, Some, ⊤}
 use Rattle.cap_spec.specs.Messages.{HasWord}
 use Rattle.cap_spec.specs.Pointers.{kind, middle, code, data_size, pointer_size, list_size, extent}
-use Rattle.cap_spec.specs.Following.{Leads, to_null, to_cap, extra, IsComposite}
+use Rattle.cap_spec.specs.Following.{Leads, to_null, to_cap, extra, HasTag}
 use Rattle.cap_spec.specs.Denoting.{Finds, element_levels}
 use Rattle.cap_spec.specs.Strict.{IsLaxAt}
 use Rattle.cap_spec.specs.Verdicts.{levels_below}
@@ -54,7 +54,7 @@ IsNotLax m s w = (what : Lax) → ¬ IsLaxAt m s w what
 -- An object is found, which keeps to the limits. Its pointer words are those of the run.
 pub record LooksObject (m : List (List ℕ)) (words depth spent s w level cost deep : ℕ) (run : Option PointerRun) (k t b q tag : ℕ) : Type 0 where
   pub finds : Finds m s w k t b q
-  pub tagged : IsComposite q → HasWord m t b tag
+  pub tagged : HasTag m t b q tag
   pub charge : cost ≡ k + extent q + extra q tag
   pub within : spent + cost ≤ words
   pub deepest : deep ≡ level + levels_below q tag

@@ -1,7 +1,8 @@
 -- What marking the words of one pointer does to the marks (profile).
 use Rattle.std.specs.Prelude.{ℕ, ◌+◌, ◌<◌, ◌≤◌, Bool, IsFalse, IsTrue, List, length}
+use Rattle.cap_spec.specs.Lists.{IsOneOf}
 use Rattle.cap_spec.specs.Messages.{segment_of}
-use Rattle.cap_spec.specs.Occupying.{IsPlaceOf, Occupies}
+use Rattle.cap_spec.specs.Occupying.{Occupies}
 use Rattle.cap_vet.specs.Marks.{Conflicts, MarksAll}
 use Rattle.cap_vet.specs.Taken.{HasRoom, IsTaken}
 use Rattle.cap_vet.specs.declared.exclusiveness.marks.Marks.{Marks}
@@ -24,7 +25,7 @@ pub record HasBits (m : List (List ℕ)) (marks : Marks) (s from count : ℕ) : 
 pub record MarksPlaces (m : List (List ℕ)) (old new : Marks) (used : List (ℕ × ℕ)) (marked : Bool) : Type 0 where
   pub room : HaveRoom m new
   pub taken : IsTrue marked → MarksAll (IsMarkedIn m old) (IsMarkedIn m new) used
-  pub conflict : IsFalse marked → (s w : ℕ) × IsPlaceOf (s, w) used × IsMarkedIn m old s w
+  pub conflict : IsFalse marked → (s w : ℕ) × IsOneOf (s, w) used × IsMarkedIn m old s w
 
 -- What following the pointer at s:w uses is marked, or a part of it is used twice or was marked before.
 pub record MarksUse (m : List (List ℕ)) (old new : Marks) (s w : ℕ) (marked : Bool) : Type 0 where

@@ -2,7 +2,7 @@
 use Rattle.std.specs.Prelude.{ℕ, ◌≤◌, ◌⊎◌, List}
 use Rattle.cap_ptr.specs.Rows.{FindsRow}
 use Rattle.cap_ptr.specs.declared.near.Row.{Row}
-use Rattle.cap_spec.specs.Faults.{IsDeepAt}
+use Rattle.cap_spec.specs.Verdicts.{IsDeepAt}
 use Rattle.cap_spec.specs.Messages.{HasWord}
 use Rattle.cap_spec.specs.Paths.{Costs, word}
 use Rattle.cap_vet.specs.Finding.{IsFound}

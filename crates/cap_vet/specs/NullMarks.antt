@@ -1,9 +1,10 @@
 -- A null word leaves the marks as they are: the law of the turn that marks words (profile).
 use Rattle.std.specs.Prelude.{ℕ, ◌≡◌, List, [], ◌∷◌, refl}
 use Rattle.std.proofs.Common.{arith, inl, inr, subst, sym}
+use Rattle.cap_spec.specs.Lists.{AreDistinct, IsOneOf}
 use Rattle.cap_spec.specs.Following.{near}
 use Rattle.cap_spec.specs.Messages.{HasWord}
-use Rattle.cap_spec.specs.Occupying.{AreApart, IsPlaceOf, Occupies, Overlaps, Uses, twice, on_root, on_earlier}
+use Rattle.cap_spec.specs.Occupying.{Occupies, Overlaps, Uses, twice, on_root, on_earlier}
 use Rattle.cap_spec.specs.Paths.{Reaches}
 use Rattle.cap_spec.specs.declared.Step.{Step}
 use Rattle.cap_spec.proofs.Disjoint.Overlaps.{one_used}
@@ -23,11 +24,11 @@ null_uses_none m p level s w level' s' w' used r has r' o =
 
 null_no_use : (m : List (List ℕ)) (p : List Step) (level s w : ℕ) (x : ℕ × ℕ) → Reaches m p level s w → HasWord m s w 0 → Uses m p x → ⊥
 null_no_use m p level s w x r has (level', s', w', used, r', o, i) =
-    subst (λ (v : List (ℕ × ℕ)). IsPlaceOf x v) (null_uses_none m p level s w level' s' w' used r has r' o) i
+    subst (λ (v : List (ℕ × ℕ)). IsOneOf x v) (null_uses_none m p level s w level' s' w' used r has r' o) i
 
 null_no_overlap : (m : List (List ℕ)) (p : List Step) (level s w : ℕ) → Reaches m p level s w → HasWord m s w 0 → Overlaps m p → ⊥
 null_no_overlap m p level s w r has (twice level' s' w' used r' o n) =
-    n (subst AreApart (sym (null_uses_none m p level s w level' s' w' used r has r' o)) tt)
+    n (subst AreDistinct (sym (null_uses_none m p level s w level' s' w' used r has r' o)) tt)
 null_no_overlap m p level s w r has (on_root u) = null_no_use m p level s w (0, 0) r has u
 null_no_overlap m p level s w r has (on_earlier other x b u v) = null_no_use m p level s w x r has v
 

@@ -1,7 +1,8 @@
 -- What may be demanded of the pointers on a path beside the limits (profile).
 use Rattle.std.specs.Prelude.{ℕ, ◌≤◌, ◌≡◌, List, [], ◌∷◌, ◌++◌, length, IsTrue}
+use Rattle.cap_spec.specs.Lists.{IsOneOf}
 use Rattle.cap_spec.specs.Getting.{AreOnPath, IsStartOf, Charges, IsRefusedOnPath}
-use Rattle.cap_spec.specs.Paths.{IsOneOf, Reaches}
+use Rattle.cap_spec.specs.Paths.{Reaches}
 use Rattle.cap_spec.specs.Strict.{IsLax, IsLaxAt}
 use Rattle.cap_spec.specs.declared.Lax.{Lax}
 use Rattle.cap_spec.specs.declared.Step.{Step}

@@ -1,6 +1,6 @@
 -- What is known of the pointers on a path that common readers reject (profile).
 use Rattle.std.specs.Prelude.{ℕ, ◌<◌, ◌≤◌, ◌≡◌, List, Option, None, Some, IsTrue}
-use Rattle.cap_spec.specs.Paths.{IsOneOf}
+use Rattle.cap_spec.specs.Lists.{IsOneOf}
 use Rattle.cap_spec.specs.Strict.{IsLax, IsLaxAt}
 use Rattle.cap_spec.specs.declared.Lax.{Lax}
 use Rattle.cap_spec.specs.declared.Step.{Step}

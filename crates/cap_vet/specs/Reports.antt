@@ -1,23 +1,20 @@
 -- What an accepted message's report says of its tree (profile).
 use Rattle.std.specs.Prelude.{ℕ, ◌+◌, ◌≤◌, ◌≡◌, List, Option, None, Some}
-use Rattle.cap_spec.specs.Following.{Leads, to_cap}
-use Rattle.cap_spec.specs.Denoting.{Denotes}
+use Rattle.cap_spec.specs.Accepting.{DenotesWithin}
 use Rattle.cap_spec.specs.GreatestLimits.{most_depth, most_words}
-use Rattle.cap_spec.specs.Paths.{IsFirstCap, Reaches}
+use Rattle.cap_spec.specs.Paths.{IsFirstCap, ReachesCap}
 use Rattle.cap_spec.specs.Tree.{Tree, pointer_count, cap_count}
 use Rattle.cap_spec.specs.declared.Step.{Step}
 use Rattle.cap_vet.specs.declared.report.Report.{Report}
 
 -- the place of the first capability in preorder, or that no path leads to one
 abbrev pub IsFirstCapOf : List (List ℕ) → Option (ℕ × ℕ) → Type 0
-IsFirstCapOf m None = (path : List Step) (level s w k i : ℕ) → Reaches m path level s w → ¬ Leads m s w k (to_cap i)
+IsFirstCapOf m None = (path : List Step) → ¬ ReachesCap m path
 IsFirstCapOf m (Some place) = IsFirstCap m place.0 place.1
 
--- The root denotes this tree, of these numbers, within the limits.
+-- The root denotes this tree within the limits, and these are its numbers.
 pub record IsReport (m : List (List ℕ)) (words depth : ℕ) (r : Report) (t : Tree) : Type 0 where
-  pub denotes : Denotes m 0 0 t r.charge r.depth
-  pub within : r.charge ≤ words
-  pub shallow : r.depth ≤ depth
+  pub within : DenotesWithin m words depth t r.charge r.depth
   pub pointers : r.pointers ≡ pointer_count t
   pub caps : r.caps ≡ cap_count t
   pub first_cap : IsFirstCapOf m r.first_cap

@@ -1,7 +1,7 @@
 -- What a strict message is, and what a walk that looks for lax pointers knows (profile).
 use Rattle.std.specs.Prelude.{ℕ, List, Option, None, Some}
 use Rattle.cap_frame.specs.declared.segments.Segments as segments
-use Rattle.cap_spec.specs.Paths.{IsOneOf}
+use Rattle.cap_spec.specs.Lists.{IsOneOf}
 use Rattle.cap_spec.specs.Strict.{IsFirstLax, IsLax}
 use Rattle.cap_spec.specs.declared.Step.{Step}
 use Rattle.cap_vet.specs.declared.strictness.strict.Strict.{Strict}

@@ -1,6 +1,7 @@
 -- What a walk in preorder has seen of a message, and what it still has to look at (profile).
 use Rattle.std.specs.Prelude.{ℕ, zero, suc, ◌+◌, ◌<◌, ◌≡◌, ◌⊎◌, List, [], ◌∷◌, ◌++◌, ⊤}
-use Rattle.cap_spec.specs.Paths.{Before, IsOneOf, Reaches, number_of}
+use Rattle.cap_spec.specs.Lists.{IsOneOf}
+use Rattle.cap_spec.specs.Paths.{Before, Reaches, number_of}
 use Rattle.cap_spec.specs.declared.Step.{Step}
 use Rattle.cap_spec.specs.declared.Step.TheVariants.{Ptr, Item}
 

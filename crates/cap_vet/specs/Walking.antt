@@ -1,9 +1,10 @@
 -- What holds of a walk between two turns (profile).
 use Rattle.std.specs.Prelude.{ℕ, suc, ◌+◌, ◌-◌, ◌≤◌, ◌≡◌, List, [], ◌∷◌, length, map, reverse, Option, None, Some, ⊤, ◌<◌}
 use Rattle.std.specs.List.{AllByRecursion}
+use Rattle.cap_spec.specs.Lists.{IsOneOf}
 use Rattle.cap_spec.specs.Messages.{HasWord, segment_of}
 use Rattle.cap_spec.specs.Following.{Leads, to_cap}
-use Rattle.cap_spec.specs.Paths.{Before, Costs, IsOneOf, Reaches}
+use Rattle.cap_spec.specs.Paths.{Before, Costs, Reaches}
 use Rattle.cap_spec.specs.Verdicts.{CostOf}
 use Rattle.cap_spec.specs.Faults.{AreShallow}
 use Rattle.cap_spec.specs.declared.Step.{Step}

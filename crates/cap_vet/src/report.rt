@@ -7,10 +7,11 @@ pub struct Report {
     pub charge: u64,
     /// The deepest level of an object, a struct of a list among them, or 0 where there is none.
     pub depth: u32,
-    /// The pointer words, the root and null ones too.
+    /// The paths that reach a pointer word, the root and null ones too: a word that two paths reach
+    /// counts twice.
     pub pointers: u64,
-    /// The pointer words that denote a capability.
+    /// The paths that reach a capability.
     pub caps: u64,
-    /// The segment and the word of the first of them in preorder.
+    /// The segment and the word of the pointer that the first of them in preorder reaches.
     pub first_cap: Option<(u32, u32)>,
 }

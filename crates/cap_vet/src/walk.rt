@@ -1,7 +1,7 @@
 //! The walk through a message in preorder, one pointer word a turn, and the verdict.
 
-pub(crate) mod far_looking;
 pub(crate) mod lists;
+pub(crate) mod look_described;
 pub(crate) mod looking;
 pub(crate) mod pointer_run;
 pub(crate) mod targets;

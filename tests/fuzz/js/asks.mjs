@@ -1,10 +1,12 @@
 // The calls of the package for an input. Each has the lines that native.c has to write for it.
 
 const CALLS = ["vet", "exclusive", "segments", "frame", "isCanonical", "canonical", "pointerPath", "get", "range", "pack", "packMessage",
-  "unpack", "plain", "plainExclusive", "packed", "packedExclusive"];
+  "unpack", "plain", "plainExclusive", "packed", "packedExclusive", "explain"];
+// A struct without words.
+const EMPTY = Uint8Array.of(0, 0, 0, 0, 1, 0, 0, 0, 252, 255, 255, 255, 0, 0, 0, 0);
 // The most messages of a stream that are looked at.
 const MESSAGES = 300;
-const decoder = new TextDecoder("latin1");
+const decoder = new TextDecoder("latin1"), encoder = new TextEncoder();
 
 /** A hash of a result, to compare it by. */
 function sumOf(bytes) {
@@ -31,7 +33,7 @@ function nodeLine(it) {
 /** A text is that of the bytes, without the zero after it. */
 function checkText(node) {
   const text = node?.text() ?? null;
-  if (text !== null) rule(sumOf(new TextEncoder().encode(`${text}\0`)) === sumOf(node.data), "a text has the bytes of its node");
+  if (text !== null) rule(sumOf(encoder.encode(`${text}\0`)) === sumOf(node.data), "a text has the bytes of its node");
 }
 
 function rule(holds, text) {
@@ -85,7 +87,8 @@ export class Asks {
     const call = chance.of(() => capvet.vet("text"), () => capvet.vet(data, { dept: 3 }), () => capvet.vet(data, null),
       () => capvet.vet(data, { depth: "3" }), () => capvet.vet(data, { depth: 257 }), () => capvet.vet(data, { noTable: 1 }),
       () => capvet.node(data, 7), () => capvet.nodes(data, "/p*", { first: -1 }), () => capvet.readMessages("text"),
-      () => capvet.messages(data, { packed: true }), () => capvet.readMessages([data], { noTable: true }));
+      () => capvet.messages(data, { packed: true }), () => capvet.readMessages([data], { noTable: true }),
+      () => capvet.canonicalInto(data, [], this.limits), () => capvet.canonicalInto(EMPTY, new Uint8Array(7)));
     let thrown = null;
     try {
       call();
@@ -118,6 +121,9 @@ export class Asks {
     this.ask("isCanonical", () => capvet.isCanonical(data, limits), (it) => (it ? "Ok" : "NotCanonical"));
     const form = this.ask("canonical", () => capvet.canonical(data, limits), (it) => `Ok ${sumOf(it)}`);
     if (form === undefined) return;
+    const out = new Uint8Array(form.length + this.chance.below(9));
+    rule(capvet.canonicalInto(data, out, limits) === form.length && sumOf(out.subarray(0, form.length)) === sumOf(form),
+      "a form is written to the front of an array");
     const flags = { noTable: true, allowTrailing: false, allowNonstrict: false, allowAmplified: true };
     const words = { ...limits, ...flags, messageWords: 2 ** 28 };
     rule(capvet.isCanonical(form, words) && sumOf(capvet.canonical(form, words)) === sumOf(form), "a form is its own form");
@@ -128,6 +134,7 @@ export class Asks {
     const pointer = chance.below(12);
     const pathLine = (it) => (it === null ? "NoNode" : `Ok ${it}`);
     this.ask("pointerPath", () => capvet.pointerPath(data, pointer, limits), pathLine, { first: pointer });
+    this.ask("explain", () => capvet.explain(data, limits), (it) => (it === null ? "NoNode" : `Ok ${sumOf(encoder.encode(it))}`));
     for (let path = "", level = 0; level < 5; level++) {
       const text = path || "/", node = this.ask("get", () => capvet.node(data, text, limits), nodeLine, { text });
       const letter = node?.kind === "struct" ? "p" : "i";

@@ -11,7 +11,7 @@
 #include <string.h>
 
 enum { VET, EXCLUSIVE, SEGMENTS, FRAME, IS_CANONICAL, CANONICAL, POINTER_PATH, GET, RANGE, PACK, PACK_MESSAGE, UNPACK, PLAIN,
-       PLAIN_EXCLUSIVE, PACKED, PACKED_EXCLUSIVE, CALLS };
+       PLAIN_EXCLUSIVE, PACKED, PACKED_EXCLUSIVE, EXPLAIN };
 /* The most messages of a stream that are looked at. (a short packed stream may have many) */
 enum { MESSAGES = 300, STEPS_MOST = 256 };
 
@@ -147,6 +147,19 @@ static void print_pointer_path(uint64_t number) {
   }
 }
 
+static void print_explanation(void) {
+  capvet_report report;
+  size_t required;
+  char text[CAPVET_EXPLANATION_BOUND];
+  const capvet_answer answer = capvet_explain(data, length, &limits, text, sizeof text, &required, &report);
+  if (answer != CAPVET_OK) {
+    print_answer(answer, &report);
+    return;
+  }
+  fprintf(lines, "Ok");
+  print_bytes((const uint8_t *)text, required);
+}
+
 static void print_node(const char *text, size_t text_length) {
   capvet_report report;
   capvet_node node;
@@ -276,6 +289,7 @@ static void answer_ask(const ask *it) {
     case PLAIN_EXCLUSIVE: print_plain(it->of.call == PLAIN_EXCLUSIVE); break;
     case PACKED:
     case PACKED_EXCLUSIVE: print_packed(it->of.call == PACKED_EXCLUSIVE); break;
+    case EXPLAIN: print_explanation(); break;
     default: abort();
   }
 }

@@ -170,10 +170,10 @@ impl<'s> Call for GettingRange<'s> {
     ) -> Found {
         let (first, step, rest) = self.parts();
         let start = PathStart::new(view, limits, demands, first);
-        let near = Near::choose(&start, step, rest);
-        let done = near.elements(view.count(), out);
+        let shortcut = Shortcut::choose(&start, step, rest);
+        let done = shortcut.elements(view.count(), out);
         'nodes: for k in done..out.len() {
-            match near.pointed(k as u64, view.count()) {
+            match shortcut.pointed(k as u64, view.count()) {
                 Some(node) => out[k] = node,
                 None => match start.get(step.after(k as u64), rest) {
                     Ok(Some(at)) => out[k] = CallNode::of(&at, view.count()),
@@ -188,7 +188,7 @@ impl<'s> Call for GettingRange<'s> {
 
 // How most nodes of a range are found: by their number alone, or by one pointer more.
 #[derive(Drop)]
-enum Near<'m, M: Segments> {
+enum Shortcut<'m, M: Segments> {
     // The elements of this list of structs, from the one of this number on.
     Elements(StructElements<'m, M>, u32),
     // What this pointer of each of them leads to.
@@ -197,28 +197,28 @@ enum Near<'m, M: Segments> {
     Unknown,
 }
 
-impl<'m, M: Segments> Near<'m, M> {
-    ghost use Rattle.cap_calls.specs.RangeNear.{HasCount, IsNear, IsNearNode, WritesFirst};
+impl<'m, M: Segments> Shortcut<'m, M> {
+    ghost use Rattle.cap_calls.specs.RangeShortcut.{HasCount, IsShortcut, IsShortcutNode, WritesFirst};
     ghost use Rattle.cap_vet.specs.PathWays.{start_message};
     ghost use Rattle.std.specs.Prelude.{◌^◌};
 
     // How to find the nodes after this start, at the step that varies and the others.
-    fn choose(start: &PathStart<'m, M>, step: CallStep, rest: FixedSteps<'_>) -> Near<'m, M>
-        ensures { IsNear (M.segments (start_message start.now)) start.now step rest.entry.rest.now
+    fn choose(start: &PathStart<'m, M>, step: CallStep, rest: FixedSteps<'_>) -> Shortcut<'m, M>
+        ensures { IsShortcut (M.segments (start_message start.now)) start.now step rest.entry.rest.now
             result }
     {
         if step.kind == 0 || rest.rest.len() > 1 {
-            return Near::Unknown;
+            return Shortcut::Unknown;
         }
         let Some(list) = start.elements() else {
-            return Near::Unknown;
+            return Shortcut::Unknown;
         };
         if rest.rest.is_empty() {
-            return Near::Elements(list, step.number);
+            return Shortcut::Elements(list, step.number);
         }
         match rest.rest[0].after(0) {
-            Step::Ptr(j) => Near::Pointers(list, step.number, j),
-            Step::Item(_) => Near::Unknown,
+            Step::Ptr(j) => Shortcut::Pointers(list, step.number, j),
+            Step::Item(_) => Shortcut::Unknown,
         }
     }
 
@@ -226,9 +226,9 @@ impl<'m, M: Segments> Near<'m, M> {
     // segments. Gives how many they are. The bytes before their segment are counted once for all.
     fn elements(&self, segments: u32, nodes: &mut [CallNode]) -> usize
         requires { HasCount segments self.now }
-        ensures { WritesFirst (λ k node. IsNearNode self.now k node) result nodes.old nodes.new }
+        ensures { WritesFirst (λ k node. IsShortcutNode self.now k node) result nodes.old nodes.new }
     {
-        let Near::Elements(list, number) = self else {
+        let Shortcut::Elements(list, number) = self else {
             return 0;
         };
         let list = *list;
@@ -249,9 +249,9 @@ impl<'m, M: Segments> Near<'m, M> {
     fn pointed(&self, k: u64, segments: u32) -> Option<CallNode>
         requires count { HasCount segments self.now }
         requires low { k < 2 ^ 63 }
-        ensures { IfSome result (λ node. IsNearNode self.now k node) }
+        ensures { IfSome result (λ node. IsShortcutNode self.now k node) }
     {
-        let Near::Pointers(list, number, j) = self else {
+        let Shortcut::Pointers(list, number, j) = self else {
             return None;
         };
         let view = list.pointer(u64::from(*number) + k, *j)?;

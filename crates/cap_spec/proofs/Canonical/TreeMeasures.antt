@@ -202,31 +202,31 @@ mutual
   pub measured : (m : List (List ℕ)) (s w : ℕ) (t : Tree) (c d : ℕ) → Denotes m s w t c d → Measured t c d
   measured m s w null c d h = record { fits = tt; charged = omega arith; deep = sym h.1 }
   measured m s w (cap i) c d h = record { fits = cap_fits m s w c i h.0; charged = omega arith; deep = sym h.1 }
-  measured m s w (struct words ts) c d h =
-      struct_measured m s w words ts h.0 h.1 h.2 h.3 h.4 h.5 c d h.6
-      ((each_charged m (places h.1 (h.2 + data_size h.3) (pointer_size h.3)) ts h.4 h.5 h.7).0
-      ∙ length-places h.1 (h.2 + data_size h.3) (pointer_size h.3))
-      (each_measured m (places h.1 (h.2 + data_size h.3) (pointer_size h.3)) ts h.4 h.5 h.7)
-  measured m s w (scalars e vs) c d h = scalars_measured m s w e vs h.0 h.1 h.2 h.3 c d h.4
-  measured m s w (pointers ts) c d h =
-      pointers_measured m s w ts h.0 h.1 h.2 h.3 h.4 h.5 c d h.6
-      ((each_charged m (places h.1 h.2 (list_size h.3)) ts h.4 h.5 h.7).0 ∙ length-places h.1 h.2 (list_size h.3))
-      (each_measured m (places h.1 h.2 (list_size h.3)) ts h.4 h.5 h.7)
-  measured m s w (structs ds ps es) c d h =
-      structs_measured m s w ds ps es h.0 h.1 h.2 h.3 h.4 h.5 h.6 c d h.7
-      (elements_measured m h.1 (h.2 + 1) ds ps (middle h.4) es h.5 h.6
-      (elements_inside m s w ds ps h.0 h.1 h.2 h.3 h.4 h.5 h.6 c d h.7) h.8)
+  measured m s w (struct words ts) c d (k, t, b, q, inner, deep, found, each) =
+      struct_measured m s w words ts k t b q inner deep c d found
+      ((each_charged m (places t (b + data_size q) (pointer_size q)) ts inner deep each).0
+      ∙ length-places t (b + data_size q) (pointer_size q))
+      (each_measured m (places t (b + data_size q) (pointer_size q)) ts inner deep each)
+  measured m s w (scalars e vs) c d (k, t, b, q, found) = scalars_measured m s w e vs k t b q c d found
+  measured m s w (pointers ts) c d (k, t, b, q, inner, deep, found, each) =
+      pointers_measured m s w ts k t b q inner deep c d found
+      ((each_charged m (places t b (list_size q)) ts inner deep each).0 ∙ length-places t b (list_size q))
+      (each_measured m (places t b (list_size q)) ts inner deep each)
+  measured m s w (structs ds ps es) c d (k, t, b, q, tag, inner, deep, found, each) =
+      structs_measured m s w ds ps es k t b q tag inner deep c d found
+      (elements_measured m t (b + 1) ds ps (middle tag) es inner deep
+      (elements_inside m s w ds ps k t b q tag inner deep c d found) each)
 
   pub each_measured : (m : List (List ℕ)) (ps : List (ℕ × ℕ)) (ts : Trees) (c d : ℕ) → DenoteEach m ps ts c d
       → EachMeasured ts c d
   each_measured m ps none c d h = record { fits = tt; charged = omega arith; deep = sym h.2 }
-  each_measured m ps (more t ts) c d h =
-      let a : Measured t h.3 h.4 = measured m h.0 h.1 t h.3 h.4 h.8 in
-      let b : EachMeasured ts h.5 h.6 = each_measured m h.2 ts h.5 h.6 h.9 in
+  each_measured m ps (more t ts) c d (s, w, rest, c1, d1, c2, d2, begins, denotes, after, charge, depth) =
+      let a : Measured t c1 d1 = measured m s w t c1 d1 denotes in
+      let b : EachMeasured ts c2 d2 = each_measured m rest ts c2 d2 after in
       record {
         fits = (a.fits, b.fits);
-        charged = omega (arith, a.charged, b.charged, h.10);
-        deep = ap₂ max a.deep b.deep ∙ sym h.11;
+        charged = omega (arith, a.charged, b.charged, charge);
+        deep = ap₂ max a.deep b.deep ∙ sym depth;
       }
 
   pub elements_measured : (m : List (List ℕ)) (t b ds ps n : ℕ) (es : Trees) (c d : ℕ)
@@ -235,22 +235,23 @@ mutual
   elements_measured m t b ds ps n none c d le h =
       record { fits = tt; count = sym h.0; charged = omega arith; deep = sym h.2 }
   elements_measured m t b ds ps n (more (struct words ts) es) c d le h =
-      let x : n * ds ≡ ds + h.0 * ds = rw h.5 (omega arith) in
-      let y : n * ps ≡ ps + h.0 * ps = rw h.5 (omega arith) in
-      let l : length words ≡ ds = ap length h.6 ∙ range_length m t b ds (omega (arith, le, x, y)) in
-      let a : EachMeasured ts h.1 h.2 = each_measured m (places t (b + ds) ps) ts h.1 h.2 h.7 in
-      let e : ElementsMeasured ds ps h.0 es h.3 h.4 =
-      elements_measured m t (b + ds + ps) ds ps h.0 es h.3 h.4 (omega (arith, le, x, y)) h.8 in
+      let (fewer, c1, d1, c2, d2, counted, own, each, after, charge, depth) = h in
+      let x : n * ds ≡ ds + fewer * ds = rw counted (omega arith) in
+      let y : n * ps ≡ ps + fewer * ps = rw counted (omega arith) in
+      let l : length words ≡ ds = ap length own ∙ range_length m t b ds (omega (arith, le, x, y)) in
+      let a : EachMeasured ts c1 d1 = each_measured m (places t (b + ds) ps) ts c1 d1 each in
+      let e : ElementsMeasured ds ps fewer es c2 d2 =
+      elements_measured m t (b + ds + ps) ds ps fewer es c2 d2 (omega (arith, le, x, y)) after in
       record {
         fits = (
           l,
-          (each_charged m (places t (b + ds) ps) ts h.1 h.2 h.7).0
+          (each_charged m (places t (b + ds) ps) ts c1 d1 each).0
               ∙ length-places t (b + ds) ps,
           a.fits,
           e.fits,
         );
-        count = ap suc e.count ∙ sym h.5;
-        charged = omega (arith, a.charged, e.charged, h.9);
-        deep = ap₂ max a.deep e.deep ∙ sym h.10;
+        count = ap suc e.count ∙ sym counted;
+        charged = omega (arith, a.charged, e.charged, charge);
+        deep = ap₂ max a.deep e.deep ∙ sym depth;
       }
   elements_measured m t b ds ps n (more x es) c d le h = absurd h

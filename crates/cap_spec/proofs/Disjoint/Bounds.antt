@@ -9,10 +9,10 @@ use Rattle.cap_spec.specs.Pointers.{middle, data_size, pointer_size, list_size, 
 use Rattle.cap_spec.specs.Following.{to_null, to_cap, to_object, Leads, extra}
 use Rattle.cap_spec.specs.Tree.{Tree, null, cap, struct, scalars, pointers, structs, Trees, none, more, tree_count}
 use Rattle.cap_spec.specs.Denoting.{Finds, Denotes, DenoteEach, AreElements, places}
-use Rattle.cap_spec.specs.Occupying.{AreApart, IsDisjoint, IsPlaceOf, Occupies, Uses}
+use Rattle.cap_spec.specs.Occupying.{IsDisjoint, Occupies, Uses}
 use Rattle.cap_spec.specs.Occupying.{empty_count, empty_counts, pads_of}
-use Rattle.cap_spec.specs.Paths.{Spot, word, element, Goes, IsOneOf, Walks, level_of}
-use Rattle.cap_spec.specs.Verdicts.{AreDistinct}
+use Rattle.cap_spec.specs.Paths.{Spot, word, element, Goes, Walks, level_of}
+use Rattle.cap_spec.specs.Lists.{AreDistinct, IsOneOf}
 use Rattle.cap_spec.specs.declared.Step.{Step}
 use Rattle.cap_spec.specs.declared.Step.TheVariants.{Ptr, Item}
 use Rattle.cap_spec.proofs.Trees.OneTree.{Formed, formed, cons_parts}
@@ -68,24 +68,24 @@ used_append : (m : List (List ℕ)) (a : Spot) (ps qs : List (List Step)) (xs ys
     → UsedFrom m a qs ys → UsedFrom m a (ps ++ qs) (xs ++ ys)
 used_append m a [] qs xs ys g h = subst (λ (z : List (ℕ × ℕ)). UsedFrom m a qs z)
     (sym (ap (λ (u : List (ℕ × ℕ)). u ++ ys) g)) h
-used_append m a (p ∷ ps) qs xs ys g h = (
-  g.0,
-  g.1,
-  g.2,
-  g.3,
-  g.4 ++ ys,
-  g.5,
-  g.6,
-  used_append m a ps qs g.4 ys g.7 h,
-  ap (λ (u : List (ℕ × ℕ)). u ++ ys) g.8
-      ∙ append_assoc g.3 g.4 ys,
+used_append m a (p ∷ ps) qs xs ys (n, s, w, one, rest, walks, occupies, after, parts) h = (
+  n,
+  s,
+  w,
+  one,
+  rest ++ ys,
+  walks,
+  occupies,
+  used_append m a ps qs rest ys after h,
+  ap (λ (u : List (ℕ × ℕ)). u ++ ys) parts
+      ∙ append_assoc one rest ys,
 )
 
 used_behind : (m : List (List ℕ)) (a b : Spot) (step : Step) (ps : List (List Step)) (us : List (ℕ × ℕ))
     → Goes m a step b → UsedFrom m b ps us → UsedFrom m a (behind step ps) us
 used_behind m a b step [] us g h = h
-used_behind m a b step (p ∷ ps) us g h =
-    (level_of b + h.0, h.1, h.2, h.3, h.4, (b, h.0, g, h.5, refl), h.6, used_behind m a b step ps h.4 g h.7, h.8)
+used_behind m a b step (p ∷ ps) us g (n, s, w, one, rest, walks, occupies, after, parts) =
+    (level_of b + n, s, w, one, rest, (b, n, g, walks, refl), occupies, used_behind m a b step ps rest g after, parts)
 
 -- and these are so many as the charge is but for e
 abbrev Counted : List (List ℕ) → Spot → List (List Step) → ℕ → ℕ → Type 0
@@ -114,72 +114,73 @@ mutual
       ([], refl, refl) (omega arith) refl
   tree_counted m s w (cap i) c d h = counted_own m s w [] c 0 0 0 c 0 (owns_cap m s w c i h.0)
       ([], refl, refl) (omega arith) refl
-  tree_counted m s w (struct ws ts) c d h =
-      counted_own m s w (paths_below is_pointer (struct ws ts)) (h.0 + extent h.3 + 0) 0 h.4 (empty_counts ts)
+  tree_counted m s w (struct ws ts) c d (k, t, b, q, inner, deep, found, each) =
+      counted_own m s w (paths_below is_pointer (struct ws ts)) (k + extent q + 0) 0 inner (empty_counts ts)
       c (empty_counts ts)
-      (owns_object m s w h.0 h.1 h.2 h.3 0 h.6.finds)
-      (each_counted m (word s w) Ptr h.1 (h.2 + data_size h.3) (pointer_size h.3) 0 (pointer_size h.3)
-      (h.2 + data_size h.3) ts h.4 h.5
-      (λ j lt. (h.0, h.1, h.2, h.3, h.6.finds, h.6.kind, lt, refl)) (omega arith) (omega arith) h.7)
-      (omega (arith, h.6.charge)) (omega arith)
-  tree_counted m s w (scalars e vs) c d h =
-      let l : length vs ≡ list_size h.3 = ap length h.4.elements ∙ length-values m h.1 h.2 e (list_size h.3) in
-      let x : extra h.3 0 ≡ idle e (length vs) = extra_scalars h.3 e h.4.kind h.4.code h.4.scalar
+      (owns_object m s w k t b q 0 found.finds)
+      (each_counted m (word s w) Ptr t (b + data_size q) (pointer_size q) 0 (pointer_size q)
+      (b + data_size q) ts inner deep
+      (λ j lt. (k, t, b, q, found.finds, found.kind, lt, refl)) (omega arith) (omega arith) each)
+      (omega (arith, found.charge)) (omega arith)
+  tree_counted m s w (scalars e vs) c d (k, t, b, q, found) =
+      let l : length vs ≡ list_size q = ap length found.elements ∙ length-values m t b e (list_size q) in
+      let x : extra q 0 ≡ idle e (length vs) = extra_scalars q e found.kind found.code found.scalar
       ∙ ap (idle e) (sym l) in
-      counted_own m s w [] (h.0 + extent h.3 + extra h.3 0) (extra h.3 0) 0 0 c (idle e (length vs))
-      (owns_object m s w h.0 h.1 h.2 h.3 (extra h.3 0) h.4.finds) ([], refl, refl)
-      (h.4.charge ∙ omega arith) (sym x ∙ omega arith)
-  tree_counted m s w (pointers ts) c d h =
-      counted_own m s w (paths_below is_pointer (pointers ts)) (h.0 + extent h.3 + 0) 0 h.4 (empty_counts ts)
+      counted_own m s w [] (k + extent q + extra q 0) (extra q 0) 0 0 c (idle e (length vs))
+      (owns_object m s w k t b q (extra q 0) found.finds) ([], refl, refl)
+      (found.charge ∙ omega arith) (sym x ∙ omega arith)
+  tree_counted m s w (pointers ts) c d (k, t, b, q, inner, deep, found, each) =
+      counted_own m s w (paths_below is_pointer (pointers ts)) (k + extent q + 0) 0 inner (empty_counts ts)
       c (empty_counts ts)
-      (owns_object m s w h.0 h.1 h.2 h.3 0 h.6.finds)
-      (each_counted m (word s w) Item h.1 h.2 (list_size h.3) 0 (list_size h.3) h.2 ts h.4 h.5
-      (λ j lt. inl (h.0, h.1, h.2, h.3, h.6.finds, h.6.kind, h.6.code, lt, refl)) (omega arith) (omega arith) h.7)
-      (omega (arith, h.6.charge)) (omega arith)
-  tree_counted m s w (structs ds ps es) c d h =
-      let n : middle h.4 ≡ tree_count es = (elements_depth m h.1 (h.2 + 1) ds ps (middle h.4) es h.5 h.6 h.8).0 in
-      let y : extra h.3 h.4 ≡ idle (data_size h.4 + pointer_size h.4) (middle h.4) =
-      extra_structs h.3 h.4 h.7.kind h.7.code in
-      let x : extra h.3 h.4 ≡ idle (ds + ps) (tree_count es) = y ∙ rw (h.7.data_sizes, h.7.pointer_sizes, n) refl in
-      counted_own m s w (paths_below is_pointer (structs ds ps es)) (h.0 + extent h.3 + extra h.3 h.4) (extra h.3 h.4)
-      h.5 (empty_counts es) c (idle (ds + ps) (tree_count es) + empty_counts es)
-      (owns_object m s w h.0 h.1 h.2 h.3 (extra h.3 h.4) h.7.finds)
-      (elements_counted m (word s w) h.1 (h.2 + 1) ds ps (middle h.4) 0 (middle h.4) (h.2 + 1) es h.5 h.6
+      (owns_object m s w k t b q 0 found.finds)
+      (each_counted m (word s w) Item t b (list_size q) 0 (list_size q) b ts inner deep
+      (λ j lt. inl (k, t, b, q, found.finds, found.kind, found.code, lt, refl)) (omega arith) (omega arith) each)
+      (omega (arith, found.charge)) (omega arith)
+  tree_counted m s w (structs ds ps es) c d (k, t, b, q, tag, inner, deep, found, each) =
+      let n : middle tag ≡ tree_count es = (elements_depth m t (b + 1) ds ps (middle tag) es inner deep each).0 in
+      let y : extra q tag ≡ idle (data_size tag + pointer_size tag) (middle tag) =
+      extra_structs q tag found.kind found.code in
+      let x : extra q tag ≡ idle (ds + ps) (tree_count es) = y ∙ rw (found.data_sizes, found.pointer_sizes, n) refl in
+      counted_own m s w (paths_below is_pointer (structs ds ps es)) (k + extent q + extra q tag) (extra q tag)
+      inner (empty_counts es) c (idle (ds + ps) (tree_count es) + empty_counts es)
+      (owns_object m s w k t b q (extra q tag) found.finds)
+      (elements_counted m (word s w) t (b + 1) ds ps (middle tag) 0 (middle tag) (b + 1) es inner deep
       (λ j lt. inr (
-        h.0,
-        h.1,
-        h.2,
-        h.3,
-        h.4,
-        h.7.finds,
-        h.7.kind,
-        h.7.code,
-        h.7.has_tag,
+        k,
+        t,
+        b,
+        q,
+        tag,
+        found.finds,
+        found.kind,
+        found.code,
+        found.has_tag,
         lt,
-        rw (h.7.data_sizes, h.7.pointer_sizes) refl,
+        rw (found.data_sizes, found.pointer_sizes) refl,
       ))
-      (omega arith) (omega arith) h.8)
-      h.7.charge (ap (λ (u : ℕ). u + empty_counts es) (sym x))
+      (omega arith) (omega arith) each)
+      found.charge (ap (λ (u : ℕ). u + empty_counts es) (sym x))
 
   -- the same of words at places, which steps from one spot lead to
   each_counted : (m : List (List ℕ)) (a : Spot) (step : ℕ → Step) (t b n i all start : ℕ) (ts : Trees) (c d : ℕ)
       → ((j : ℕ) → j < all → Goes m a (step j) (word t (start + j))) → i + n ≡ all → b ≡ start + i
       → DenoteEach m (places t b n) ts c d → Counted m a (paths_from is_pointer false step i ts) c (empty_counts ts)
   each_counted m a step t b n i all start none c d goes e f h = ([], refl, omega (arith, h.1))
-  each_counted m a step t b zero i all start (more u ts) c d goes e f h = absurd (cc h.7)
+  each_counted m a step t b zero i all start (more u ts) c d goes e f h = absurd cc
   each_counted m a step t b (suc n) i all start (more u ts) c d goes e f h =
-      let p = cons_parts (t, b) (h.0, h.1) (places t (b + 1) n) h.2 h.7 in
-      let g : Denotes m t b u h.3 h.4 = subst (λ (y : ℕ × ℕ). Denotes m y.0 y.1 u h.3 h.4) (sym p.0) h.8 in
-      let x : Counted m (word t b) ([] ∷ paths_below is_pointer u) h.3 (empty_count u) =
-      tree_counted m t b u h.3 h.4 g in
+      let (s, w, rest, c1, d1, c2, d2, begins, denotes, after, charge, depth) = h in
+      let p = cons_parts (t, b) (s, w) (places t (b + 1) n) rest begins in
+      let g : Denotes m t b u c1 d1 = subst (λ (y : ℕ × ℕ). Denotes m y.0 y.1 u c1 d1) (sym p.0) denotes in
+      let x : Counted m (word t b) ([] ∷ paths_below is_pointer u) c1 (empty_count u) =
+      tree_counted m t b u c1 d1 g in
       let y : Goes m a (step i) (word t b) =
       subst (λ (v : ℕ). Goes m a (step i) (word t v)) (sym f) (goes i (omega arith)) in
       subst (λ (v : ℕ). Counted m a (paths_from is_pointer false step i (more u ts)) v
-      (empty_counts (more u ts))) (sym h.10)
+      (empty_counts (more u ts))) (sym charge)
       (counted_append m a (behind (step i) ([] ∷ paths_below is_pointer u))
-      (paths_from is_pointer false step (suc i) ts) h.3 h.5 (empty_count u) (empty_counts ts)
-      (counted_behind m a (word t b) (step i) ([] ∷ paths_below is_pointer u) h.3 (empty_count u) y x)
-      (each_counted m a step t (b + 1) n (suc i) all start ts h.5 h.6 goes (omega arith) (omega arith) (rw p.1 h.9)))
+      (paths_from is_pointer false step (suc i) ts) c1 c2 (empty_count u) (empty_counts ts)
+      (counted_behind m a (word t b) (step i) ([] ∷ paths_below is_pointer u) c1 (empty_count u) y x)
+      (each_counted m a step t (b + 1) n (suc i) all start ts c2 d2 goes (omega arith) (omega arith) (rw p.1 after)))
 
   -- and of the elements of a struct list
   elements_counted : (m : List (List ℕ)) (a : Spot) (t b ds ps n i all start : ℕ) (es : Trees) (c d : ℕ)
@@ -188,52 +189,53 @@ mutual
       → AreElements m t b ds ps n es c d → Counted m a (paths_from is_pointer true Item i es) c (empty_counts es)
   elements_counted m a t b ds ps n i all start none c d goes e f h = ([], refl, omega (arith, h.1))
   elements_counted m a t b ds ps n i all start (more (struct ws ts) es) c d goes e f h =
+      let (fewer, c1, d1, c2, d2, counted, own, each, after, charge, depth) = h in
       let y : Goes m a (Item i) (element t b ds ps) =
-      subst (λ (v : ℕ). Goes m a (Item i) (element t v ds ps)) (sym f) (goes i (omega (arith, h.5))) in
-      let x : Counted m (element t b ds ps) (paths_from is_pointer false Ptr 0 ts) h.1 (empty_counts ts) =
-      each_counted m (element t b ds ps) Ptr t (b + ds) ps 0 ps (b + ds) ts h.1 h.2 (λ j lt. (lt, refl)) (omega arith)
-      (omega arith) h.7 in
+      subst (λ (v : ℕ). Goes m a (Item i) (element t v ds ps)) (sym f) (goes i (omega (arith, counted))) in
+      let x : Counted m (element t b ds ps) (paths_from is_pointer false Ptr 0 ts) c1 (empty_counts ts) =
+      each_counted m (element t b ds ps) Ptr t (b + ds) ps 0 ps (b + ds) ts c1 d1 (λ j lt. (lt, refl)) (omega arith)
+      (omega arith) each in
       subst (λ (v : ℕ). Counted m a (paths_from is_pointer true Item i (more (struct ws ts) es)) v
-      (empty_counts (more (struct ws ts) es))) (sym h.9)
+      (empty_counts (more (struct ws ts) es))) (sym charge)
       (counted_append m a (behind (Item i) (paths_from is_pointer false Ptr 0 ts))
-      (paths_from is_pointer true Item (suc i) es) h.1 h.3 (empty_counts ts) (empty_counts es)
-      (counted_behind m a (element t b ds ps) (Item i) (paths_from is_pointer false Ptr 0 ts) h.1 (empty_counts ts) y x)
-      (elements_counted m a t (b + ds + ps) ds ps h.0 (suc i) all start es h.3 h.4 goes (omega (arith, h.5))
-      (omega arith) h.8))
+      (paths_from is_pointer true Item (suc i) es) c1 c2 (empty_counts ts) (empty_counts es)
+      (counted_behind m a (element t b ds ps) (Item i) (paths_from is_pointer false Ptr 0 ts) c1 (empty_counts ts) y x)
+      (elements_counted m a t (b + ds + ps) ds ps fewer (suc i) all start es c2 d2 goes (omega (arith, counted))
+      (omega arith) after))
   elements_counted m a t b ds ps n i all start (more x es) c d goes e f h = absurd h
 
 -- a place of these is used by one of the paths
 place_used : (m : List (List ℕ)) (root : ℕ) → HasWord m 0 0 root → (ps : List (List Step)) (us : List (ℕ × ℕ))
-    → UsedFrom m (word 0 0) ps us → (x : ℕ × ℕ) → IsPlaceOf x us
+    → UsedFrom m (word 0 0) ps us → (x : ℕ × ℕ) → IsOneOf x us
     → (p : List Step) × IsOneOf p ps × Uses m p x
-place_used m root has [] us g x i = absurd (subst (λ (u : List (ℕ × ℕ)). IsPlaceOf x u) g i)
-place_used m root has (p ∷ ps) us g x i =
-    elim (place_either x g.3 g.4 (subst (λ (u : List (ℕ × ℕ)). IsPlaceOf x u) g.8 i)) [
-      | inl j ↦ (p, inl refl, (1 + g.0, g.1, g.2, g.3, (root, g.0, has, g.5, refl), g.6, j))
-      | inr j ↦ let r = place_used m root has ps g.4 g.7 x j in (r.0, inr r.1, r.2)
+place_used m root has [] us g x i = absurd (subst (λ (u : List (ℕ × ℕ)). IsOneOf x u) g i)
+place_used m root has (p ∷ ps) us (n, s, w, one, rest, walks, occupies, after, parts) x i =
+    elim (place_either x one rest (subst (λ (u : List (ℕ × ℕ)). IsOneOf x u) parts i)) [
+      | inl j ↦ (p, inl refl, (1 + n, s, w, one, (root, n, has, walks, refl), occupies, j))
+      | inr j ↦ let r = place_used m root has ps rest after x j in (r.0, inr r.1, r.2)
     ]
 
 -- the places that distinct paths of a disjoint message use are distinct
 used_apart : (m : List (List ℕ)) → IsDisjoint m → (root : ℕ) → HasWord m 0 0 root → (ps : List (List Step))
-    → AreDistinct ps → (us : List (ℕ × ℕ)) → UsedFrom m (word 0 0) ps us → AreApart us
-used_apart m d root has [] a us g = subst AreApart (sym g) tt
-used_apart m d root has (p ∷ ps) a us g =
-    subst AreApart (sym g.8)
-    (apart_append g.3 g.4 (d.each p (1 + g.0) g.1 g.2 g.3 (root, g.0, has, g.5, refl) g.6)
-    (used_apart m d root has ps a.1 g.4 g.7)
-    (λ x i j. let r = place_used m root has ps g.4 g.7 x j in
-    not_one_of p r.0 ps a.0 r.1 (d.apart p r.0 x (1 + g.0, g.1, g.2, g.3, (root, g.0, has, g.5, refl), g.6, i) r.2)))
+    → AreDistinct ps → (us : List (ℕ × ℕ)) → UsedFrom m (word 0 0) ps us → AreDistinct us
+used_apart m d root has [] a us g = subst AreDistinct (sym g) tt
+used_apart m d root has (p ∷ ps) a us (n, s, w, one, rest, walks, occupies, after, parts) =
+    subst AreDistinct (sym parts)
+    (apart_append one rest (d.each p (1 + n) s w one (root, n, has, walks, refl) occupies)
+    (used_apart m d root has ps a.1 rest after)
+    (λ x i j. let r = place_used m root has ps rest after x j in
+    not_one_of p r.0 ps a.0 r.1 (d.apart p r.0 x (1 + n, s, w, one, (root, n, has, walks, refl), occupies, i) r.2)))
 
 -- a place that is used is a word of the message
 used_inside : (m : List (List ℕ)) (p : List Step) (t x : ℕ) → Uses m p (t, x)
     → (t < length m) × (x < length (segment_of m t))
 used_inside m path t x (level, s, w, used, r, (p, has, inl (k, h, e)), i) =
-    pad_inside m s w k p to_null t x h has (subst (λ (u : List (ℕ × ℕ)). IsPlaceOf (t, x) u) e i)
+    pad_inside m s w k p to_null t x h has (subst (λ (u : List (ℕ × ℕ)). IsOneOf (t, x) u) e i)
 used_inside m path t x (level, s, w, used, r, (p, has, inr (inl (k, j, h, e))), i) =
-    pad_inside m s w k p (to_cap j) t x h has (subst (λ (u : List (ℕ × ℕ)). IsPlaceOf (t, x) u) e i)
+    pad_inside m s w k p (to_cap j) t x h has (subst (λ (u : List (ℕ × ℕ)). IsOneOf (t, x) u) e i)
 used_inside m path t x (level, s, w, used, r, (p, has, inr (inr (k, u, b, q, f, e))), i) =
     elim (place_either (t, x) (pads_of p) (places u b (extent q))
-    (subst (λ (v : List (ℕ × ℕ)). IsPlaceOf (t, x) v) e i)) [
+    (subst (λ (v : List (ℕ × ℕ)). IsOneOf (t, x) v) e i)) [
       | inl j ↦ pad_inside m s w k p (to_object u (pos b) q) t x f.leads has j
       | inr j ↦
           let c = in_places u b (extent q) t x j in
@@ -249,18 +251,18 @@ charge_below_words m t c d h dis =
     let f : Formed m 0 0 t = formed m 0 0 t c d h in
     let p = lead_word m 0 0 f.k f.r f.leads in
     let k = tree_counted m 0 0 t c d h in
-    let apart : AreApart k.0 = used_apart m dis p.0 p.1 (pointer_paths t)
+    let apart : AreDistinct k.0 = used_apart m dis p.0 p.1 (pointer_paths t)
     (Rises-distinct (pointer_paths t) (listed_rise is_pointer false t)) k.0 k.1 in
     let few = few_places ((0, 0) ∷ k.0) (all_places 0 m)
     ((λ i. let r = place_used m p.0 p.1 (pointer_paths t) k.0 k.1 (0, 0) i in dis.root r.0 r.2), apart) inside in
     omega (arith, few, k.2, length_all 0 m)
   where
-    inside : (x : ℕ × ℕ) → IsPlaceOf x ((0, 0) ∷ (tree_counted m 0 0 t c d h).0) → IsPlaceOf x (all_places 0 m)
+    inside : (x : ℕ × ℕ) → IsOneOf x ((0, 0) ∷ (tree_counted m 0 0 t c d h).0) → IsOneOf x (all_places 0 m)
     inside (s, w) (inl e) =
         let f : Formed m 0 0 t = formed m 0 0 t c d h in
         let p = lead_word m 0 0 f.k f.r f.leads in
         let root = in_all 0 m 0 0 (HasWord-segment m 0 0 p.0 p.1) (HasWord-inside m 0 0 p.0 p.1) in
-        subst (λ (u : ℕ × ℕ). IsPlaceOf u (all_places 0 m)) (sym e) root
+        subst (λ (u : ℕ × ℕ). IsOneOf u (all_places 0 m)) (sym e) root
     inside (s, w) (inr i) =
         let f : Formed m 0 0 t = formed m 0 0 t c d h in
         let p = lead_word m 0 0 f.k f.r f.leads in
@@ -268,4 +270,4 @@ charge_below_words m t c d h dis =
         (tree_counted m 0 0 t c d h).1 (s, w) i in
         let y = used_inside m r.0 s w r.2 in
         let e : 0 + s ≡ s = omega arith in
-        subst (λ (u : ℕ). IsPlaceOf (u, w) (all_places 0 m)) e (in_all 0 m s w y.0 y.1)
+        subst (λ (u : ℕ). IsOneOf (u, w) (all_places 0 m)) e (in_all 0 m s w y.0 y.1)

@@ -1,38 +1,38 @@
 -- Where no pointer overlaps, the tree is disjoint, and the other way round. One pointer is the first that overlaps.
-use Rattle.std.proofs.Common.{ℕ, ◌≡◌, ◌⊎◌, List, [], ◌∷◌, ◌++◌, length, inl, inr, sym, ap, subst, ◌∙◌}
+use Rattle.std.proofs.Common.{ℕ, ◌≡◌, ◌⊎◌, List, [], ◌∷◌, ◌++◌, inl, inr, sym, ap, subst, ◌∙◌}
 use Rattle.std.specs.Prelude.{pos}
 use Rattle.std.proofs.lemmas.Bool.{cases_eq}
+use Rattle.cap_spec.specs.Lists.{IsOneOf, AreDistinct}
 use Rattle.cap_spec.specs.Pointers.{extent}
 use Rattle.cap_spec.specs.Following.{Lead, to_null, to_cap, to_object, Leads}
 use Rattle.cap_spec.specs.Denoting.{Finds, places}
-use Rattle.cap_spec.specs.Paths.{Before, IsTour, Reaches, word}
-use Rattle.cap_spec.specs.Occupying.{pads_of, Occupies, IsPlaceOf, AreApart, IsDisjoint, Overlaps, twice}
+use Rattle.cap_spec.specs.Paths.{Before, word}
+use Rattle.cap_spec.specs.Occupying.{pads_of, Occupies, IsDisjoint, Overlaps, twice}
 use Rattle.cap_spec.specs.Occupying.{on_root, on_earlier, IsFirstOverlap}
 use Rattle.cap_spec.specs.declared.Step.{Step}
 use Rattle.cap_spec.proofs.Trees.Finding.{one_object}
 use Rattle.cap_spec.proofs.Pointers.Following.{one_lead}
 use Rattle.cap_spec.proofs.Frames.Messages.{one_word}
-use Rattle.cap_spec.proofs.Paths.Preorder.{Before-irreflexive, Before-total_coming, one_tour}
-use Rattle.cap_spec.proofs.Paths.Walks.{one_reached}
+use Rattle.cap_spec.proofs.Paths.Preorder.{Before-irreflexive, Before-total_coming, one_first, one_number}
 
 -- a place is one of these, or isn't
-place_decided : (x : ℕ × ℕ) (xs : List (ℕ × ℕ)) → IsPlaceOf x xs ⊎ (IsPlaceOf x xs → ⊥)
+place_decided : (x : ℕ × ℕ) (xs : List (ℕ × ℕ)) → IsOneOf x xs ⊎ (IsOneOf x xs → ⊥)
 place_decided x [] = inr (λ h. h)
 place_decided (s, w) ((t, b) ∷ ys) = by_parts (cases_eq s t) (cases_eq w b) (place_decided (s, w) ys)
   where
-    by_parts : (s ≡ t) ⊎ (s ≡ t → ⊥) → (w ≡ b) ⊎ (w ≡ b → ⊥) → IsPlaceOf (s, w) ys ⊎ (IsPlaceOf (s, w) ys → ⊥)
-        → IsPlaceOf (s, w) ((t, b) ∷ ys) ⊎ (IsPlaceOf (s, w) ((t, b) ∷ ys) → ⊥)
+    by_parts : (s ≡ t) ⊎ (s ≡ t → ⊥) → (w ≡ b) ⊎ (w ≡ b → ⊥) → IsOneOf (s, w) ys ⊎ (IsOneOf (s, w) ys → ⊥)
+        → IsOneOf (s, w) ((t, b) ∷ ys) ⊎ (IsOneOf (s, w) ((t, b) ∷ ys) → ⊥)
     by_parts x y (inl h) = inl (inr h)
     by_parts (inl x) (inl y) (inr n) = inl (inl cc)
     by_parts (inr x) y (inr n) = inr (λ h. elim h [ inl e ↦ x (ap (λ u. u.0) e) | inr k ↦ n k ])
     by_parts (inl x) (inr y) (inr n) = inr (λ h. elim h [ inl e ↦ y (ap (λ u. u.1) e) | inr k ↦ n k ])
 
-apart_decided : (xs : List (ℕ × ℕ)) → AreApart xs ⊎ (AreApart xs → ⊥)
+apart_decided : (xs : List (ℕ × ℕ)) → AreDistinct xs ⊎ (AreDistinct xs → ⊥)
 apart_decided [] = inl tt
 apart_decided (x ∷ xs) = by_parts (place_decided x xs) (apart_decided xs)
   where
-    by_parts : IsPlaceOf x xs ⊎ (IsPlaceOf x xs → ⊥) → AreApart xs ⊎ (AreApart xs → ⊥)
-        → AreApart (x ∷ xs) ⊎ (AreApart (x ∷ xs) → ⊥)
+    by_parts : IsOneOf x xs ⊎ (IsOneOf x xs → ⊥) → AreDistinct xs ⊎ (AreDistinct xs → ⊥)
+        → AreDistinct (x ∷ xs) ⊎ (AreDistinct (x ∷ xs) → ⊥)
     by_parts (inl h) b = inr (λ k. k.0 h)
     by_parts (inr n) (inl k) = inl (n, k)
     by_parts (inr n) (inr k) = inr (λ l. k l.1)
@@ -96,15 +96,6 @@ none_of_disjoint m d p (on_earlier other x b u v) =
 pub one_overlap : (m : List (List ℕ)) (s w n s' w' n' : ℕ) → IsFirstOverlap m s w n → IsFirstOverlap m s' w' n'
     → (s ≡ s') × (w ≡ w') × (n ≡ n')
 one_overlap m s w n s' w' n' f g =
-    elim (Before-total_coming m f.path g.path f.level g.level (word s w) (word s' w') f.reached g.reached) [
-      | inl e ↦
-          let r = one_reached m f.path f.level g.level s w s' w' f.reached
-          (subst (λ (u : List Step). Reaches m u g.level s' w') (sym e) g.reached) in (
-            r.1,
-            r.2,
-            f.number ∙ ap length (one_tour m f.path f.tour g.tour f.is_tour
-                (subst (λ (u : List Step). IsTour m u g.tour) (sym e) g.is_tour)) ∙ sym g.number,
-          )
-      | inr (inl b) ↦ absurd (g.first f.path b f.overlaps)
-      | inr (inr b) ↦ absurd (f.first g.path b g.overlaps)
-    ]
+    one_number m f.path g.path s w n s' w' n' f.numbered g.numbered
+    (one_first m (Overlaps m) f.path g.path f.numbered.level g.numbered.level s w s' w' f.numbered.reached
+    g.numbered.reached f.first g.first)

@@ -6,16 +6,17 @@ use Rattle.std.specs.List.{sum_by}
 use Rattle.std.proofs.lemmas.List.{length-append}
 use Rattle.std.proofs.lemmas.List.Sums.{sum_by_from}
 use Rattle.cap_spec.proofs.Trees.Charges.{length-places}
+use Rattle.cap_spec.specs.Lists.{AreDistinct, IsOneOf}
 use Rattle.cap_spec.specs.Messages.{HasWord, segment_of}
 use Rattle.cap_spec.specs.Frames.{sizes_of}
 use Rattle.cap_spec.specs.Pointers.{far_segment, kind, pad, two}
 use Rattle.cap_spec.specs.Following.{Lead, Leads, near, one_pad, two_pads}
 use Rattle.cap_spec.specs.Denoting.{places}
-use Rattle.cap_spec.specs.Occupying.{AreApart, IsPlaceOf, pads_of}
+use Rattle.cap_spec.specs.Occupying.{pads_of}
 use Rattle.cap_spec.proofs.Frames.Messages.{HasWord-inside, HasWord-segment, one_word}
 
 -- the places of a range
-pub in_places : (t b n s w : ℕ) → IsPlaceOf (s, w) (places t b n) → (s ≡ t) × (b ≤ w) × (w < b + n)
+pub in_places : (t b n s w : ℕ) → IsOneOf (s, w) (places t b n) → (s ≡ t) × (b ≤ w) × (w < b + n)
 in_places t b zero s w h = absurd h
 in_places t b (suc n) s w (inl e) = (
   ap (λ u. u.0) e,
@@ -24,35 +25,35 @@ in_places t b (suc n) s w (inl e) = (
 )
 in_places t b (suc n) s w (inr h) = let r = in_places t (b + 1) n s w h in (r.0, omega (arith, r.1), omega (arith, r.2))
 
-pub at_place : (t b n w : ℕ) → b ≤ w → w < b + n → IsPlaceOf (t, w) (places t b n)
+pub at_place : (t b n w : ℕ) → b ≤ w → w < b + n → IsOneOf (t, w) (places t b n)
 at_place t b zero w h k = absurd (omega arith)
 at_place t b (suc n) w h k = elim (cases_eq w b) [
   | inl e ↦ inl cc
   | inr e ↦ inr (at_place t (b + 1) n w (omega arith) (omega arith))
 ]
 
-pub apart_places : (t b n : ℕ) → AreApart (places t b n)
+pub apart_places : (t b n : ℕ) → AreDistinct (places t b n)
 apart_places t b zero = tt
 apart_places t b (suc n) = ((λ h. let r = in_places t (b + 1) n t b h in omega (arith, r.1)), apart_places t (b + 1) n)
 
 -- a place of two lists joined is one of the first or one of the second
-pub place_left : (x : ℕ × ℕ) (xs ys : List (ℕ × ℕ)) → IsPlaceOf x xs → IsPlaceOf x (xs ++ ys)
+pub place_left : (x : ℕ × ℕ) (xs ys : List (ℕ × ℕ)) → IsOneOf x xs → IsOneOf x (xs ++ ys)
 place_left x [] ys h = absurd h
 place_left x (z ∷ xs) ys (inl e) = inl e
 place_left x (z ∷ xs) ys (inr h) = inr (place_left x xs ys h)
 
-pub place_right : (x : ℕ × ℕ) (xs ys : List (ℕ × ℕ)) → IsPlaceOf x ys → IsPlaceOf x (xs ++ ys)
+pub place_right : (x : ℕ × ℕ) (xs ys : List (ℕ × ℕ)) → IsOneOf x ys → IsOneOf x (xs ++ ys)
 place_right x [] ys h = h
 place_right x (z ∷ xs) ys h = inr (place_right x xs ys h)
 
-pub place_either : (x : ℕ × ℕ) (xs ys : List (ℕ × ℕ)) → IsPlaceOf x (xs ++ ys) → IsPlaceOf x xs ⊎ IsPlaceOf x ys
+pub place_either : (x : ℕ × ℕ) (xs ys : List (ℕ × ℕ)) → IsOneOf x (xs ++ ys) → IsOneOf x xs ⊎ IsOneOf x ys
 place_either x [] ys h = inr h
 place_either x (z ∷ xs) ys (inl e) = inl (inl e)
 place_either x (z ∷ xs) ys (inr h) = elim (place_either x xs ys h) [ inl k ↦ inl (inr k) | inr k ↦ inr k ]
 
 -- two lists of places without a common one
-pub apart_append : (xs ys : List (ℕ × ℕ)) → AreApart xs → AreApart ys
-    → ((x : ℕ × ℕ) → IsPlaceOf x xs → IsPlaceOf x ys → ⊥) → AreApart (xs ++ ys)
+pub apart_append : (xs ys : List (ℕ × ℕ)) → AreDistinct xs → AreDistinct ys
+    → ((x : ℕ × ℕ) → IsOneOf x xs → IsOneOf x ys → ⊥) → AreDistinct (xs ++ ys)
 apart_append [] ys h k none = k
 apart_append (x ∷ xs) ys h k none = (
   (λ p. elim (place_either x xs ys p) [ inl q ↦ h.0 q | inr q ↦ none x (inl refl) q ]),
@@ -93,17 +94,17 @@ pads_inside m s w k p r (two_pads p' f q has (far', both) hasf hasq one tag e e'
     )
 
 pub pad_inside : (m : List (List ℕ)) (s w k p : ℕ) (r : Lead) (t x : ℕ) → Leads m s w k r → HasWord m s w p
-    → IsPlaceOf (t, x) (pads_of p)
+    → IsOneOf (t, x) (pads_of p)
     → (t < length m) × (x < length (segment_of m t))
 pad_inside m s w k p r t x leads has i = elim (cases_eq (kind p) 2) [
   | inl far ↦
       let c = in_places (far_segment p) (pad p) (1 + two p) t x
-      (subst (λ (u : List (ℕ × ℕ)). IsPlaceOf (t, x) u) (pads_in_a_row p far) i) in
+      (subst (λ (u : List (ℕ × ℕ)). IsOneOf (t, x) u) (pads_in_a_row p far) i) in
       let y = pads_inside m s w k p r leads has far in
       let l : length (segment_of m t) ≡ length (segment_of m (far_segment p)) =
       ap (λ (u : ℕ). length (segment_of m u)) c.0 in
       (omega (arith, c.0, y.0), omega (arith, c.2, y.1, l))
-  | inr n ↦ absurd (subst (λ (u : List (ℕ × ℕ)). IsPlaceOf (t, x) u) (no_pads p n) i)
+  | inr n ↦ absurd (subst (λ (u : List (ℕ × ℕ)). IsOneOf (t, x) u) (no_pads p n) i)
 ]
 
 -- they are as many as the pointer leads over
@@ -125,21 +126,21 @@ pads_number m s w k p r (two_pads p' f q has (far', both) hasf hasq one tag e e'
     l ∙ sym e'
 
 -- a list of places without one of them
-remove : (x : ℕ × ℕ) (ys : List (ℕ × ℕ)) → IsPlaceOf x ys
+remove : (x : ℕ × ℕ) (ys : List (ℕ × ℕ)) → IsOneOf x ys
     → (zs : List (ℕ × ℕ)) × (length ys ≡ suc (length zs))
-    × ((y : ℕ × ℕ) → IsPlaceOf y ys → (y ≡ x → ⊥) → IsPlaceOf y zs)
+    × ((y : ℕ × ℕ) → IsOneOf y ys → (y ≡ x → ⊥) → IsOneOf y zs)
 remove x [] h = absurd h
 remove x (y ∷ ys) (inl e) = (ys, refl, λ z i n. elim i [ inl f ↦ absurd (n (f ∙ sym e)) | inr j ↦ j ])
 remove x (y ∷ ys) (inr h) = let r = remove x ys h in
     (y ∷ r.0, ap suc r.1, λ z i n. elim i [ inl f ↦ inl f | inr j ↦ inr (r.2 z j n) ])
 
 -- distinct places of a list are at most as many as it has
-pub few_places : (xs ys : List (ℕ × ℕ)) → AreApart xs → ((x : ℕ × ℕ) → IsPlaceOf x xs → IsPlaceOf x ys)
+pub few_places : (xs ys : List (ℕ × ℕ)) → AreDistinct xs → ((x : ℕ × ℕ) → IsOneOf x xs → IsOneOf x ys)
     → length xs ≤ length ys
 few_places [] ys a h = omega arith
 few_places (x ∷ xs) ys a h =
     let r = remove x ys (h x (inl refl)) in
-    let k = few_places xs r.0 a.1 (λ y i. r.2 y (h y (inr i)) (λ e. a.0 (subst (λ (u : ℕ × ℕ). IsPlaceOf u xs) e i))) in
+    let k = few_places xs r.0 a.1 (λ y i. r.2 y (h y (inr i)) (λ e. a.0 (subst (λ (u : ℕ × ℕ). IsOneOf u xs) e i))) in
     omega (arith, r.1, k)
 
 -- all places of the segments, the first of them segment s
@@ -158,14 +159,14 @@ length_all s (segment ∷ m) =
     length-append (places s 0 (length segment)) (all_places (suc s) m) ∙ omega (arith, e, l, f, g)
 
 pub in_all : (s : ℕ) (m : List (List ℕ)) (t w : ℕ) → t < length m → w < length (segment_of m t)
-    → IsPlaceOf (s + t, w) (all_places s m)
+    → IsOneOf (s + t, w) (all_places s m)
 in_all s [] t w h k = absurd (omega arith)
 in_all s (segment ∷ m) zero w h k =
     let e : s + 0 ≡ s = omega arith in
     place_left (s + 0, w) (places s 0 (length segment)) (all_places (suc s) m)
-    (subst (λ (u : ℕ). IsPlaceOf (u, w) (places s 0 (length segment))) (sym e)
+    (subst (λ (u : ℕ). IsOneOf (u, w) (places s 0 (length segment))) (sym e)
     (at_place s 0 (length segment) w (omega arith) (omega arith)))
 in_all s (segment ∷ m) (suc t) w h k =
     let e : suc s + t ≡ s + suc t = omega arith in
     place_right (s + suc t, w) (places s 0 (length segment)) (all_places (suc s) m)
-    (subst (λ (u : ℕ). IsPlaceOf (u, w) (all_places (suc s) m)) e (in_all (suc s) m t w (omega arith) k))
+    (subst (λ (u : ℕ). IsOneOf (u, w) (all_places (suc s) m)) e (in_all (suc s) m t w (omega arith) k))

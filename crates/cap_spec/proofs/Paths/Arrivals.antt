@@ -32,27 +32,31 @@ each_at m t b zero none c d i x h lt e = absurd (omega arith)
 each_at m t b (suc n) none c d i x h lt e = absurd (cc h.0)
 each_at m t b zero (more u ts) c d i x h lt e = absurd (omega arith)
 each_at m t b (suc n) (more u ts) c d zero x h lt e =
-    let p = cons_parts (t, b) (h.0, h.1) (places t (b + 1) n) h.2 h.7 in
+    let (s, w, rest, c1, d1, c2, d2, begins, denotes, after, charge, depth) = h in
+    let p = cons_parts (t, b) (s, w) (places t (b + 1) n) rest begins in
     let f : x ≡ b = omega arith in
-    (u, refl, h.3, h.4, rw f (subst (λ (y : ℕ × ℕ). Denotes m y.0 y.1 u h.3 h.4) (sym p.0) h.8))
+    (u, refl, c1, d1, rw f (subst (λ (y : ℕ × ℕ). Denotes m y.0 y.1 u c1 d1) (sym p.0) denotes))
 each_at m t b (suc n) (more u ts) c d (suc i) x h lt e =
-    let p = cons_parts (t, b) (h.0, h.1) (places t (b + 1) n) h.2 h.7 in
-    each_at m t (b + 1) n ts h.5 h.6 i x (rw p.1 h.9) (omega arith) (omega arith)
+    let (s, w, rest, c1, d1, c2, d2, begins, denotes, after, charge, depth) = h in
+    let p = cons_parts (t, b) (s, w) (places t (b + 1) n) rest begins in
+    each_at m t (b + 1) n ts c2 d2 i x (rw p.1 after) (omega arith) (omega arith)
 
 -- and each part of a list of trees is what one of the words denotes
 each_of : (m : List (List ℕ)) (t b n : ℕ) (ts : Trees) (c d i x : ℕ) (u : Tree) → DenoteEach m (places t b n) ts c d
     → tree_at ts i ≡ Some u → x ≡ b + i
     → (i < n) × (c' d' : ℕ) × Denotes m t x u c' d'
 each_of m t b n none c d i x u h f e = absurd (cc f)
-each_of m t b zero (more v ts) c d i x u h f e = absurd (cc h.7)
+each_of m t b zero (more v ts) c d i x u h f e = absurd cc
 each_of m t b (suc n) (more v ts) c d zero x u h f e =
-    let p = cons_parts (t, b) (h.0, h.1) (places t (b + 1) n) h.2 h.7 in
+    let (s, w, rest, c1, d1, c2, d2, begins, denotes, after, charge, depth) = h in
+    let p = cons_parts (t, b) (s, w) (places t (b + 1) n) rest begins in
     let g : x ≡ b = omega arith in
     let v_is_u : v ≡ u = cc f in
-    (omega arith, h.3, h.4, rw (g, ← v_is_u) (subst (λ (y : ℕ × ℕ). Denotes m y.0 y.1 v h.3 h.4) (sym p.0) h.8))
+    (omega arith, c1, d1, rw (g, ← v_is_u) (subst (λ (y : ℕ × ℕ). Denotes m y.0 y.1 v c1 d1) (sym p.0) denotes))
 each_of m t b (suc n) (more v ts) c d (suc i) x u h f e =
-    let p = cons_parts (t, b) (h.0, h.1) (places t (b + 1) n) h.2 h.7 in
-    let r = each_of m t (b + 1) n ts h.5 h.6 i x u (rw p.1 h.9) f (omega arith) in
+    let (s, w, rest, c1, d1, c2, d2, begins, denotes, after, charge, depth) = h in
+    let p = cons_parts (t, b) (s, w) (places t (b + 1) n) rest begins in
+    let r = each_of m t (b + 1) n ts c2 d2 i x u (rw p.1 after) f (omega arith) in
     (omega (arith, r.0), r.1, r.2, r.3)
 
 -- the elements of a struct list are its parts
@@ -61,10 +65,12 @@ elements_at : (m : List (List ℕ)) (t b ds ps n : ℕ) (es : Trees) (c d i x : 
     → (u : Tree) × (tree_at es i ≡ Some u) × DenotesAt m (element t x ds ps) u
 elements_at m t b ds ps n none c d i x h lt e = absurd (omega (arith, h.0))
 elements_at m t b ds ps n (more (struct ws ts) es) c d zero x h lt e =
+    let (fewer, c1, d1, c2, d2, counted, own, each, after, charge, depth) = h in
     let f : x ≡ b = omega arith in
-    (struct ws ts, refl, (h.1, h.2, rw f h.6, rw f h.7))
+    (struct ws ts, refl, (c1, d1, rw f own, rw f each))
 elements_at m t b ds ps n (more (struct ws ts) es) c d (suc i) x h lt e =
-    elements_at m t (b + ds + ps) ds ps h.0 es h.3 h.4 i x h.8 (omega (arith, h.5)) (omega arith)
+    let (fewer, c1, d1, c2, d2, counted, own, each, after, charge, depth) = h in
+    elements_at m t (b + ds + ps) ds ps fewer es c2 d2 i x after (omega (arith, counted)) (omega arith)
 elements_at m t b ds ps n (more y es) c d i x h lt e = absurd h
 
 elements_of : (m : List (List ℕ)) (t b ds ps n : ℕ) (es : Trees) (c d i x : ℕ) (u : Tree)
@@ -72,21 +78,23 @@ elements_of : (m : List (List ℕ)) (t b ds ps n : ℕ) (es : Trees) (c d i x : 
     → (i < n) × DenotesAt m (element t x ds ps) u
 elements_of m t b ds ps n none c d i x u h f e = absurd (cc f)
 elements_of m t b ds ps n (more (struct ws ts) es) c d zero x u h f e =
+    let (fewer, c1, d1, c2, d2, counted, own, each, after, charge, depth) = h in
     let g : x ≡ b = omega arith in
     let y : struct ws ts ≡ u = cc f in
-    (omega (arith, h.5), subst (λ (z : Tree). DenotesAt m (element t x ds ps) z) y (h.1, h.2, rw g h.6, rw g h.7))
+    (omega (arith, counted), subst (λ (z : Tree). DenotesAt m (element t x ds ps) z) y (c1, d1, rw g own, rw g each))
 elements_of m t b ds ps n (more (struct ws ts) es) c d (suc i) x u h f e =
-    let r = elements_of m t (b + ds + ps) ds ps h.0 es h.3 h.4 i x u h.8 f (omega arith) in
-    (omega (arith, h.5, r.0), r.1)
+    let (fewer, c1, d1, c2, d2, counted, own, each, after, charge, depth) = h in
+    let r = elements_of m t (b + ds + ps) ds ps fewer es c2 d2 i x u after f (omega arith) in
+    (omega (arith, counted, r.0), r.1)
 elements_of m t b ds ps n (more y es) c d i x u h f e = absurd h
 
 -- a word that finds a struct denotes a struct, whose children its pointer words denote
 struct_at : (m : List (List ℕ)) (s w : ℕ) (x : Tree) (c d k t b q i : ℕ) → Denotes m s w x c d → Finds m s w k t b q
     → kind q ≡ 0 → i < pointer_size q
     → (u : Tree) × (part_at x (Ptr i) ≡ Some u) × DenotesAt m (word t (b + data_size q + i)) u
-struct_at m s w (struct ws ts) c d k t b q i h f e lt =
-    let o : SameObject k t b q h.0 h.1 h.2 h.3 = one_object m s w k t b q h.0 h.1 h.2 h.3 f h.6.finds in
-    let r = each_at m h.1 (h.2 + data_size h.3) (pointer_size h.3) ts h.4 h.5 i (b + data_size q + i) h.7
+struct_at m s w (struct ws ts) c d k t b q i (k', t', b', q', inner, deep, found, each) f e lt =
+    let o : SameObject k t b q k' t' b' q' = one_object m s w k t b q k' t' b' q' f found.finds in
+    let r = each_at m t' (b' + data_size q') (pointer_size q') ts inner deep i (b + data_size q + i) each
     (rw (← o.shape) lt) (rw (o.start, o.shape) refl) in
     (r.0, r.1, (r.2, r.3, subst (λ (y : ℕ). Denotes m y (b + data_size q + i) r.0 r.2 r.3) (sym o.segment) r.4))
 struct_at m s w x c d k t b q i h f e lt =
@@ -96,9 +104,9 @@ struct_at m s w x c d k t b q i h f e lt =
 pointers_at : (m : List (List ℕ)) (s w : ℕ) (x : Tree) (c d k t b q i : ℕ) → Denotes m s w x c d → Finds m s w k t b q
     → kind q ≡ 1 → code q ≡ 6 → i < list_size q
     → (u : Tree) × (part_at x (Item i) ≡ Some u) × DenotesAt m (word t (b + i)) u
-pointers_at m s w (pointers ts) c d k t b q i h f e g lt =
-    let o : SameObject k t b q h.0 h.1 h.2 h.3 = one_object m s w k t b q h.0 h.1 h.2 h.3 f h.6.finds in
-    let r = each_at m h.1 h.2 (list_size h.3) ts h.4 h.5 i (b + i) h.7 (rw (← o.shape) lt) (rw o.start refl) in
+pointers_at m s w (pointers ts) c d k t b q i (k', t', b', q', inner, deep, found, each) f e g lt =
+    let o : SameObject k t b q k' t' b' q' = one_object m s w k t b q k' t' b' q' f found.finds in
+    let r = each_at m t' b' (list_size q') ts inner deep i (b + i) each (rw (← o.shape) lt) (rw o.start refl) in
     (r.0, r.1, (r.2, r.3, subst (λ (y : ℕ). Denotes m y (b + i) r.0 r.2 r.3) (sym o.segment) r.4))
 pointers_at m s w x c d k t b q i h f e g lt =
     absurd (omega (arith, number_list (kind q) (code q) e, g, found_form m s w x c d k t b q h f))
@@ -115,16 +123,17 @@ structs_at : (m : List (List ℕ)) (s w : ℕ) (x : Tree) (c d k t b q tag i : �
     → (u : Tree) × (part_at x (Item i) ≡ Some u)
     × DenotesAt m (element t (b + 1 + i * (data_size tag + pointer_size tag)) (data_size tag) (pointer_size tag)) u
 structs_at m s w (structs ds ps es) c d k t b q tag i h f e g y lt =
-    let o : SameObject k t b q h.0 h.1 h.2 h.3 = one_object m s w k t b q h.0 h.1 h.2 h.3 f h.7.finds in
-    let z : tag ≡ h.4 = one_word m t b tag h.4 y (rw (o.segment, o.start) h.7.has_tag) in
-    let r = elements_at m h.1 (h.2 + 1) ds ps (middle h.4) es h.5 h.6 i
-    (b + 1 + i * (data_size tag + pointer_size tag)) h.8 (rw (← z) lt)
-    (rw (o.start, z, h.7.data_sizes, h.7.pointer_sizes) refl) in
-    let y1 : ds ≡ data_size tag = h.7.data_sizes ∙ ap data_size (sym z) in
-    let y2 : ps ≡ pointer_size tag = h.7.pointer_sizes ∙ ap pointer_size (sym z) in (
+    let (k', t', b', q', tag', inner, deep, found, each) = h in
+    let o : SameObject k t b q k' t' b' q' = one_object m s w k t b q k' t' b' q' f found.finds in
+    let z : tag ≡ tag' = one_word m t b tag tag' y (rw (o.segment, o.start) found.has_tag) in
+    let r = elements_at m t' (b' + 1) ds ps (middle tag') es inner deep i
+    (b + 1 + i * (data_size tag + pointer_size tag)) each (rw (← z) lt)
+    (rw (o.start, z, found.data_sizes, found.pointer_sizes) refl) in
+    let y1 : ds ≡ data_size tag = found.data_sizes ∙ ap data_size (sym z) in
+    let y2 : ps ≡ pointer_size tag = found.pointer_sizes ∙ ap pointer_size (sym z) in (
       r.0,
       r.1,
-      element_moved m h.1 t (b + 1 + i * (data_size tag + pointer_size tag)) ds (data_size tag) ps
+      element_moved m t' t (b + 1 + i * (data_size tag + pointer_size tag)) ds (data_size tag) ps
           (pointer_size tag) r.0 (sym o.segment) y1 y2 r.2,
     )
 structs_at m s w x c d k t b q tag i h f e g y lt =
@@ -134,17 +143,18 @@ structs_at m s w x c d k t b q tag i h f e g y lt =
 pub step_to_part : (m : List (List ℕ)) (a : Spot) (step : Step) (b : Spot) (x : Tree)
     → DenotesAt m a x → Goes m a step b
     → (u : Tree) × (part_at x step ≡ Some u) × DenotesAt m b u
-step_to_part m (word s w) (Ptr i) b x h g =
-    let r = struct_at m s w x h.0 h.1 g.0 g.1 g.2 g.3 i h.2 g.4 g.5 g.6 in
-    (r.0, r.1, subst (λ (y : Spot). DenotesAt m y r.0) (sym g.7) r.2)
-step_to_part m (word s w) (Item i) b x h (inl g) =
-    let r = pointers_at m s w x h.0 h.1 g.0 g.1 g.2 g.3 i h.2 g.4 g.5 g.6 g.7 in
-    (r.0, r.1, subst (λ (y : Spot). DenotesAt m y r.0) (sym g.8) r.2)
+step_to_part m (word s w) (Ptr i) b x h (k, t, b', q, finds, is_struct, less, ends) =
+    let r = struct_at m s w x h.0 h.1 k t b' q i h.2 finds is_struct less in
+    (r.0, r.1, subst (λ (y : Spot). DenotesAt m y r.0) (sym ends) r.2)
+step_to_part m (word s w) (Item i) b x h (inl (k, t, b', q, finds, is_list, of_pointers, less, ends)) =
+    let r = pointers_at m s w x h.0 h.1 k t b' q i h.2 finds is_list of_pointers less in
+    (r.0, r.1, subst (λ (y : Spot). DenotesAt m y r.0) (sym ends) r.2)
 step_to_part m (word s w) (Item i) b x h (inr g) =
-    let r = structs_at m s w x h.0 h.1 g.0 g.1 g.2 g.3 g.4 i h.2 g.5 g.6 g.7 g.8 g.9 in
-    (r.0, r.1, subst (λ (y : Spot). DenotesAt m y r.0) (sym g.10) r.2)
-step_to_part m (element t b ds ps) (Ptr i) y (struct ws ts) h g =
-    let r = each_at m t (b + ds) ps ts h.0 h.1 i (b + ds + i) h.3 g.0 refl in
+    let (k, t, b', q, tag, finds, is_list, of_structs, has_tag, less, ends) = g in
+    let r = structs_at m s w x h.0 h.1 k t b' q tag i h.2 finds is_list of_structs has_tag less in
+    (r.0, r.1, subst (λ (y : Spot). DenotesAt m y r.0) (sym ends) r.2)
+step_to_part m (element t b ds ps) (Ptr i) y (struct ws ts) (c, d, own, each) g =
+    let r = each_at m t (b + ds) ps ts c d i (b + ds + i) each g.0 refl in
     (r.0, r.1, subst (λ (z : Spot). DenotesAt m z r.0) (sym g.1) (r.2, r.3, r.4))
 step_to_part m (element t b ds ps) (Ptr i) y x h g = absurd h
 step_to_part m (element t b ds ps) (Item i) y x h g = absurd g
@@ -153,35 +163,35 @@ step_to_part m (element t b ds ps) (Item i) y x h g = absurd g
 pub part_to_step : (m : List (List ℕ)) (a : Spot) (step : Step) (x u : Tree) → DenotesAt m a x → part_at x step ≡ Some u
     → (b : Spot) × Goes m a step b × DenotesAt m b u
 part_to_step m (word s w) (Ptr i) (struct ws ts) u h e =
-    let f = h.2 in
-    let r = each_of m f.1 (f.2 + data_size f.3) (pointer_size f.3) ts f.4 f.5 i
-    (f.2 + data_size f.3 + i) u f.7 e refl in
-    (word f.1 (f.2 + data_size f.3 + i), (f.0, f.1, f.2, f.3, f.6.finds, f.6.kind, r.0, refl), (r.1, r.2, r.3))
+    let (k, t, b, q, inner, deep, found, each) = h.2 in
+    let r = each_of m t (b + data_size q) (pointer_size q) ts inner deep i
+    (b + data_size q + i) u each e refl in
+    (word t (b + data_size q + i), (k, t, b, q, found.finds, found.kind, r.0, refl), (r.1, r.2, r.3))
 part_to_step m (word s w) (Item i) (pointers ts) u h e =
-    let f = h.2 in
-    let r = each_of m f.1 f.2 (list_size f.3) ts f.4 f.5 i (f.2 + i) u f.7 e refl in
-    (word f.1 (f.2 + i), inl (f.0, f.1, f.2, f.3, f.6.finds, f.6.kind, f.6.code, r.0, refl), (r.1, r.2, r.3))
+    let (k, t, b, q, inner, deep, found, each) = h.2 in
+    let r = each_of m t b (list_size q) ts inner deep i (b + i) u each e refl in
+    (word t (b + i), inl (k, t, b, q, found.finds, found.kind, found.code, r.0, refl), (r.1, r.2, r.3))
 part_to_step m (word s w) (Item i) (structs ds ps es) u h e =
-    let f = h.2 in
-    let r = elements_of m f.1 (f.2 + 1) ds ps (middle f.4) es f.5 f.6 i (f.2 + 1 + i * (ds + ps)) u f.8 e refl in (
-      element f.1 (f.2 + 1 + i * (ds + ps)) ds ps,
+    let (k, t, b, q, tag, inner, deep, found, each) = h.2 in
+    let r = elements_of m t (b + 1) ds ps (middle tag) es inner deep i (b + 1 + i * (ds + ps)) u each e refl in (
+      element t (b + 1 + i * (ds + ps)) ds ps,
       inr (
-        f.0,
-        f.1,
-        f.2,
-        f.3,
-        f.4,
-        f.7.finds,
-        f.7.kind,
-        f.7.code,
-        f.7.has_tag,
+        k,
+        t,
+        b,
+        q,
+        tag,
+        found.finds,
+        found.kind,
+        found.code,
+        found.has_tag,
         r.0,
-        rw (f.7.data_sizes, f.7.pointer_sizes) refl,
+        rw (found.data_sizes, found.pointer_sizes) refl,
       ),
       r.1,
     )
-part_to_step m (element t b ds ps) (Ptr i) (struct ws ts) u h e =
-    let r = each_of m t (b + ds) ps ts h.0 h.1 i (b + ds + i) u h.3 e refl in
+part_to_step m (element t b ds ps) (Ptr i) (struct ws ts) u (c, d, own, each) e =
+    let r = each_of m t (b + ds) ps ts c d i (b + ds + i) u each e refl in
     (word t (b + ds + i), (r.0, refl), (r.1, r.2, r.3))
 part_to_step m (element t b ds ps) (Item i) (struct ws ts) u h e = absurd (cc e)
 part_to_step m (word s w) step x u h e = absurd (cc e)
@@ -197,9 +207,9 @@ pub path_to_node : (m : List (List ℕ)) (a : Spot) (path : List Step) (n : ℕ)
     → Walks m a path n b
     → (u : Tree) × (node_at x path ≡ Some u) × DenotesAt m b u
 path_to_node m a [] n b x h g = (x, refl, subst (λ (y : Spot). DenotesAt m y x) (sym g.1) h)
-path_to_node m a (step ∷ path) n b x h g =
-    let r = step_to_part m a step g.0 x h g.2 in
-    let z = path_to_node m g.0 path g.1 b r.0 r.2 g.3 in
+path_to_node m a (step ∷ path) n b x h (mid, below, goes, walks, level) =
+    let r = step_to_part m a step mid x h goes in
+    let z = path_to_node m mid path below b r.0 r.2 walks in
     (z.0, node_behind x r.0 step path r.1 ∙ z.1, z.2)
 
 -- a node behind one step is a node of a part

@@ -1,13 +1,13 @@
 -- A pointer word that a longer path reaches again denotes no tree.
-use Rattle.std.proofs.Common.{ℕ, zero, suc, ◌+◌, ◌<◌, ◌≤◌, List, [], ◌∷◌, ◌++◌, ◌≡◌, ap, subst, arith, Some}
+use Rattle.std.proofs.Common.{ℕ, zero, suc, ◌+◌, ◌<◌, ◌≤◌, List, [], ◌∷◌, ◌++◌, ◌≡◌, ap, arith, Some}
 use Rattle.cap_spec.specs.Tree.{Tree, null, cap, struct, scalars, pointers, structs, Trees, none}
 use Rattle.cap_spec.specs.Tree.{more, tree_at, part_at, node_at}
 use Rattle.cap_spec.specs.Denoting.{Denotes}
-use Rattle.cap_spec.specs.Paths.{Spot, word, Walks, Reaches}
+use Rattle.cap_spec.specs.Paths.{word, Walks, Reaches}
 use Rattle.cap_spec.specs.declared.Step.{Step}
 use Rattle.cap_spec.specs.declared.Step.TheVariants.{Ptr, Item}
 use Rattle.cap_spec.proofs.Trees.OneTree.{Same, one_tree}
-use Rattle.cap_spec.proofs.Paths.Walks.{one_walk, walk_parts}
+use Rattle.cap_spec.proofs.Paths.Walks.{comes_beyond}
 use Rattle.cap_spec.proofs.Paths.Arrivals.{path_to_node, coming_to_node, node_parts}
 
 -- how many nodes a tree has
@@ -64,9 +64,7 @@ no_tree_in_cycle m s w step path n g t c d h =
 pub no_tree_at_cycle : (m : List (List ℕ)) (path : List Step) (step : Step) (on : List Step) (l l' s w : ℕ)
     → Reaches m path l s w → Reaches m (path ++ step ∷ on) l' s w → (t : Tree) (c d : ℕ) → Denotes m s w t c d → ⊥
 no_tree_at_cycle m path step on l l' s w g h =
-    let p = walk_parts m (word 0 0) (word s w) path (step ∷ on) h.1 h.3 in
-    let e : p.0 ≡ word s w = (one_walk m (word 0 0) path p.1 g.1 p.0 (word s w) p.3 g.3).1 in
-    no_tree_in_cycle m s w step on p.2 (subst (λ (y : Spot). Walks m y (step ∷ on) p.2 (word s w)) e p.4)
+    let r = comes_beyond m path (step ∷ on) l l' (word s w) (word s w) g h in no_tree_in_cycle m s w step on r.0 r.1
 
 -- and the root denotes none.
 pub no_tree_above_cycle : (m : List (List ℕ)) (path : List Step) (step : Step) (on : List Step) (l l' s w : ℕ)

@@ -86,47 +86,47 @@ mutual
   tree_deepest : (m : List (List ℕ)) (s w : ℕ) (t : Tree) (c d : ℕ) → Denotes m s w t c d → 0 < d → Deep m (word s w) d
   tree_deepest m s w null c d h lt = absurd (omega (arith, h.1))
   tree_deepest m s w (cap i) c d h lt = absurd (omega (arith, h.1))
-  tree_deepest m s w (struct ws ts) c d h lt =
-      elim (none_or_more h.5) [
-        | inl e ↦ own_depth m s w h.0 h.1 h.2 h.3 0 d h.6.finds (λ z. absurd (omega (arith, h.6.kind, z.0)))
-            (omega (arith, h.6.depth, e, below_struct h.3 0 h.6.kind))
-        | inr e ↦ deep_moved m (word s w) (1 + h.5) d (sym h.6.depth)
-            (each_deepest m (word s w) Ptr h.1 (h.2 + data_size h.3) (pointer_size h.3) 0 (pointer_size h.3)
-            (h.2 + data_size h.3) ts h.4 h.5
-            (λ j less. (h.0, h.1, h.2, h.3, h.6.finds, h.6.kind, less, refl)) (omega arith) (omega arith) h.7 e)
+  tree_deepest m s w (struct ws ts) c d (k, t, b, q, inner, deep, found, each) lt =
+      elim (none_or_more deep) [
+        | inl e ↦ own_depth m s w k t b q 0 d found.finds (λ z. absurd (omega (arith, found.kind, z.0)))
+            (omega (arith, found.depth, e, below_struct q 0 found.kind))
+        | inr e ↦ deep_moved m (word s w) (1 + deep) d (sym found.depth)
+            (each_deepest m (word s w) Ptr t (b + data_size q) (pointer_size q) 0 (pointer_size q)
+            (b + data_size q) ts inner deep
+            (λ j less. (k, t, b, q, found.finds, found.kind, less, refl)) (omega arith) (omega arith) each e)
       ]
-  tree_deepest m s w (scalars e vs) c d h lt =
-      own_depth m s w h.0 h.1 h.2 h.3 0 d h.4.finds (λ z. absurd (omega (arith, h.4.code, h.4.scalar, z.1)))
-      (omega (arith, h.4.depth, below_scalars h.3 0 h.4.kind (omega (arith, h.4.code, h.4.scalar))))
-  tree_deepest m s w (pointers ts) c d h lt =
-      elim (none_or_more h.5) [
-        | inl e ↦ own_depth m s w h.0 h.1 h.2 h.3 0 d h.6.finds (λ z. absurd (omega (arith, h.6.code, z.1)))
-            (omega (arith, h.6.depth, e, below_pointers h.3 0 h.6.kind h.6.code))
-        | inr e ↦ deep_moved m (word s w) (1 + h.5) d (sym h.6.depth)
-            (each_deepest m (word s w) Item h.1 h.2 (list_size h.3) 0 (list_size h.3) h.2 ts h.4 h.5
-            (λ j less. inl (h.0, h.1, h.2, h.3, h.6.finds, h.6.kind, h.6.code, less, refl)) (omega arith)
-            (omega arith) h.7 e)
+  tree_deepest m s w (scalars e vs) c d (k, t, b, q, found) lt =
+      own_depth m s w k t b q 0 d found.finds (λ z. absurd (omega (arith, found.code, found.scalar, z.1)))
+      (omega (arith, found.depth, below_scalars q 0 found.kind (omega (arith, found.code, found.scalar))))
+  tree_deepest m s w (pointers ts) c d (k, t, b, q, inner, deep, found, each) lt =
+      elim (none_or_more deep) [
+        | inl e ↦ own_depth m s w k t b q 0 d found.finds (λ z. absurd (omega (arith, found.code, z.1)))
+            (omega (arith, found.depth, e, below_pointers q 0 found.kind found.code))
+        | inr e ↦ deep_moved m (word s w) (1 + deep) d (sym found.depth)
+            (each_deepest m (word s w) Item t b (list_size q) 0 (list_size q) b ts inner deep
+            (λ j less. inl (k, t, b, q, found.finds, found.kind, found.code, less, refl)) (omega arith)
+            (omega arith) each e)
       ]
-  tree_deepest m s w (structs ds ps es) c d h lt =
-      elim (none_or_more h.6) [
-        | inl e ↦ own_depth m s w h.0 h.1 h.2 h.3 h.4 d h.7.finds (λ z. h.7.has_tag)
-            (omega (arith, h.7.depth, e, below_structs h.3 h.4 h.7.kind h.7.code))
-        | inr e ↦ deep_moved m (word s w) (element_levels (middle h.4) + (1 + h.6)) d (omega (arith, h.7.depth))
-            (elements_deepest m (word s w) h.1 (h.2 + 1) ds ps (middle h.4) 0 (middle h.4) (h.2 + 1) es h.5 h.6
+  tree_deepest m s w (structs ds ps es) c d (k, t, b, q, tag, inner, deep, found, each) lt =
+      elim (none_or_more deep) [
+        | inl e ↦ own_depth m s w k t b q tag d found.finds (λ z. found.has_tag)
+            (omega (arith, found.depth, e, below_structs q tag found.kind found.code))
+        | inr e ↦ deep_moved m (word s w) (element_levels (middle tag) + (1 + deep)) d (omega (arith, found.depth))
+            (elements_deepest m (word s w) t (b + 1) ds ps (middle tag) 0 (middle tag) (b + 1) es inner deep
             (λ j less. inr (
-              h.0,
-              h.1,
-              h.2,
-              h.3,
-              h.4,
-              h.7.finds,
-              h.7.kind,
-              h.7.code,
-              h.7.has_tag,
+              k,
+              t,
+              b,
+              q,
+              tag,
+              found.finds,
+              found.kind,
+              found.code,
+              found.has_tag,
               less,
-              rw (h.7.data_sizes, h.7.pointer_sizes) refl,
+              rw (found.data_sizes, found.pointer_sizes) refl,
             ))
-            (omega arith) (omega arith) h.8 e)
+            (omega arith) (omega arith) each e)
       ]
 
   -- the same of words at places, which steps from one spot lead to
@@ -134,20 +134,21 @@ mutual
       → ((j : ℕ) → j < all → Goes m a (step j) (word t (start + j))) → i + n ≡ all → b ≡ start + i
       → DenoteEach m (places t b n) ts c d → 0 < d → Deep m a (1 + d)
   each_deepest m a step t b n i all start none c d goes e f h lt = absurd (omega (arith, h.2))
-  each_deepest m a step t b zero i all start (more u ts) c d goes e f h lt = absurd (cc h.7)
+  each_deepest m a step t b zero i all start (more u ts) c d goes e f h lt = absurd cc
   each_deepest m a step t b (suc n) i all start (more u ts) c d goes e f h lt =
-      let p = cons_parts (t, b) (h.0, h.1) (places t (b + 1) n) h.2 h.7 in
-      elim (greater h.4 h.6) [
+      let (s, w, rest, c1, d1, c2, d2, begins, denotes, after, charge, depth) = h in
+      let p = cons_parts (t, b) (s, w) (places t (b + 1) n) rest begins in
+      elim (greater d1 d2) [
         | inl x ↦
-            let g : Denotes m t b u h.3 h.4 = subst (λ (y : ℕ × ℕ). Denotes m y.0 y.1 u h.3 h.4) (sym p.0) h.8 in
+            let g : Denotes m t b u c1 d1 = subst (λ (y : ℕ × ℕ). Denotes m y.0 y.1 u c1 d1) (sym p.0) denotes in
             let y : Goes m a (step i) (word t b) =
             subst (λ (v : ℕ). Goes m a (step i) (word t v)) (sym f) (goes i (omega arith)) in
-            deep_moved m a (1 + h.4) (1 + d) (omega (arith, x, h.11))
-            (deeper m a (word t b) (step i) h.4 y (tree_deepest m t b u h.3 h.4 g (omega (arith, x, h.11))))
+            deep_moved m a (1 + d1) (1 + d) (omega (arith, x, depth))
+            (deeper m a (word t b) (step i) d1 y (tree_deepest m t b u c1 d1 g (omega (arith, x, depth))))
         | inr x ↦
-            deep_moved m a (1 + h.6) (1 + d) (omega (arith, x.0, h.11))
-            (each_deepest m a step t (b + 1) n (suc i) all start ts h.5 h.6 goes (omega arith) (omega arith)
-            (rw p.1 h.9) (omega (arith, x.0, h.11)))
+            deep_moved m a (1 + d2) (1 + d) (omega (arith, x.0, depth))
+            (each_deepest m a step t (b + 1) n (suc i) all start ts c2 d2 goes (omega arith) (omega arith)
+            (rw p.1 after) (omega (arith, x.0, depth)))
       ]
 
   -- and of the elements of a struct list
@@ -157,19 +158,20 @@ mutual
       → AreElements m t b ds ps n es c d → 0 < d → Deep m a (element_levels all + (1 + d))
   elements_deepest m a t b ds ps n i all start none c d goes e f h lt = absurd (omega (arith, h.2))
   elements_deepest m a t b ds ps n i all start (more (struct ws ts) es) c d goes e f h lt =
-      elim (greater h.2 h.4) [
+      let (fewer, c1, d1, c2, d2, counted, own, each, after, charge, depth) = h in
+      elim (greater d1 d2) [
         | inl x ↦
             let y : Goes m a (Item i) (element t b ds ps) =
-            subst (λ (v : ℕ). Goes m a (Item i) (element t v ds ps)) (sym f) (goes i (omega (arith, h.5))) in
-            deep_moved m a (element_levels 1 + (1 + h.2)) (element_levels all + (1 + d))
-            (omega (arith, x, h.10, levels_of_some all (omega (arith, h.5))))
-            (deeper m a (element t b ds ps) (Item i) (1 + h.2) y
-            (each_deepest m (element t b ds ps) Ptr t (b + ds) ps 0 ps (b + ds) ts h.1 h.2 (λ j less. (less, refl))
-            (omega arith) (omega arith) h.7 (omega (arith, x, h.10))))
+            subst (λ (v : ℕ). Goes m a (Item i) (element t v ds ps)) (sym f) (goes i (omega (arith, counted))) in
+            deep_moved m a (element_levels 1 + (1 + d1)) (element_levels all + (1 + d))
+            (omega (arith, x, depth, levels_of_some all (omega (arith, counted))))
+            (deeper m a (element t b ds ps) (Item i) (1 + d1) y
+            (each_deepest m (element t b ds ps) Ptr t (b + ds) ps 0 ps (b + ds) ts c1 d1 (λ j less. (less, refl))
+            (omega arith) (omega arith) each (omega (arith, x, depth))))
         | inr x ↦
-            deep_moved m a (element_levels all + (1 + h.4)) (element_levels all + (1 + d)) (omega (arith, x.0, h.10))
-            (elements_deepest m a t (b + ds + ps) ds ps h.0 (suc i) all start es h.3 h.4 goes (omega (arith, h.5))
-            (omega arith) h.8 (omega (arith, x.0, h.10)))
+            deep_moved m a (element_levels all + (1 + d2)) (element_levels all + (1 + d)) (omega (arith, x.0, depth))
+            (elements_deepest m a t (b + ds + ps) ds ps fewer (suc i) all start es c2 d2 goes (omega (arith, counted))
+            (omega arith) after (omega (arith, x.0, depth)))
       ]
   elements_deepest m a t b ds ps n i all start (more x es) c d goes e f h lt = absurd h
 

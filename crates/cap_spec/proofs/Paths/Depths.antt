@@ -46,30 +46,31 @@ mutual
   pub denoted_depth : (m : List (List ℕ)) (s w : ℕ) (t : Tree) (c d : ℕ) → Denotes m s w t c d → d ≡ depth_of t
   denoted_depth m s w null c d h = h.1
   denoted_depth m s w (cap i) c d h = h.1
-  denoted_depth m s w (struct ws ts) c d h =
-      h.6.depth ∙ ap (λ x. 1 + x) (each_depth m (places h.1 (h.2 + data_size h.3) (pointer_size h.3)) ts h.4 h.5 h.7)
-  denoted_depth m s w (scalars e vs) c d h = h.4.depth
-  denoted_depth m s w (pointers ts) c d h = h.6.depth
-      ∙ ap (λ x. 1 + x) (each_depth m (places h.1 h.2 (list_size h.3)) ts h.4 h.5 h.7)
-  denoted_depth m s w (structs ds ps es) c d h =
-      let r = elements_depth m h.1 (h.2 + 1) ds ps (middle h.4) es h.5 h.6 h.8 in
-      h.7.depth ∙ ap (λ x. 1 + element_levels x + h.6) r.0 ∙ ap (λ x. 1 + element_levels (tree_count es) + x) r.1
+  denoted_depth m s w (struct ws ts) c d (k, t, b, q, inner, deep, found, each) =
+      found.depth ∙ ap (λ x. 1 + x) (each_depth m (places t (b + data_size q) (pointer_size q)) ts inner deep each)
+  denoted_depth m s w (scalars e vs) c d (k, t, b, q, found) = found.depth
+  denoted_depth m s w (pointers ts) c d (k, t, b, q, inner, deep, found, each) = found.depth
+      ∙ ap (λ x. 1 + x) (each_depth m (places t b (list_size q)) ts inner deep each)
+  denoted_depth m s w (structs ds ps es) c d (k, t, b, q, tag, inner, deep, found, each) =
+      let r = elements_depth m t (b + 1) ds ps (middle tag) es inner deep each in
+      found.depth ∙ ap (λ x. 1 + element_levels x + deep) r.0 ∙ ap (λ x. 1 + element_levels (tree_count es) + x) r.1
 
   pub each_depth : (m : List (List ℕ)) (ps : List (ℕ × ℕ)) (ts : Trees) (c d : ℕ) → DenoteEach m ps ts c d
       → d ≡ depth_each ts
   each_depth m ps none c d h = h.2
-  each_depth m ps (more t ts) c d h =
-      let a = denoted_depth m h.0 h.1 t h.3 h.4 h.8 in
-      let b = each_depth m h.2 ts h.5 h.6 h.9 in
-      h.11 ∙ ap (λ x. max x h.6) a ∙ ap (λ x. max (depth_of t) x) b
+  each_depth m ps (more t ts) c d (s, w, rest, c1, d1, c2, d2, begins, denotes, after, charge, depth) =
+      let a = denoted_depth m s w t c1 d1 denotes in
+      let b = each_depth m rest ts c2 d2 after in
+      depth ∙ ap (λ x. max x d2) a ∙ ap (λ x. max (depth_of t) x) b
 
   pub elements_depth : (m : List (List ℕ)) (t b ds ps n : ℕ) (es : Trees) (c d : ℕ) → AreElements m t b ds ps n es c d
       → (n ≡ tree_count es) × (d ≡ depth_elements es)
   elements_depth m t b ds ps n none c d h = (h.0, h.2)
   elements_depth m t b ds ps n (more (struct ws ts) es) c d h =
-      let a = each_depth m (places t (b + ds) ps) ts h.1 h.2 h.7 in
-      let r = elements_depth m t (b + ds + ps) ds ps h.0 es h.3 h.4 h.8 in
-      (h.5 ∙ ap suc r.0, h.10 ∙ ap (λ x. max x h.4) a ∙ ap (λ x. max (depth_each ts) x) r.1)
+      let (fewer, c1, d1, c2, d2, counted, own, each, after, charge, depth) = h in
+      let a = each_depth m (places t (b + ds) ps) ts c1 d1 each in
+      let r = elements_depth m t (b + ds + ps) ds ps fewer es c2 d2 after in
+      (counted ∙ ap suc r.0, depth ∙ ap (λ x. max x d2) a ∙ ap (λ x. max (depth_each ts) x) r.1)
   elements_depth m t b ds ps n (more x es) c d h = absurd h
 
 -- the levels of a step to a part
@@ -106,7 +107,8 @@ elements_are_structs : (m : List (List ℕ)) (t b ds ps n : ℕ) (es : Trees) (c
     → AreElements m t b ds ps n es c d → AreStructs es
 elements_are_structs m t b ds ps n none c d h = tt
 elements_are_structs m t b ds ps n (more (struct ws ts) es) c d h =
-    elements_are_structs m t (b + ds + ps) ds ps h.0 es h.3 h.4 h.8
+    let (fewer, c1, d1, c2, d2, counted, own, each, after, charge, depth) = h in
+    elements_are_structs m t (b + ds + ps) ds ps fewer es c2 d2 after
 elements_are_structs m t b ds ps n (more x es) c d h = absurd h
 
 -- a part is less deep than its tree by the levels of the step
@@ -115,8 +117,8 @@ part_depth : (m : List (List ℕ)) (a : Spot) (t : Tree) (step : Step) (u : Tree
 part_depth m a (struct ws ts) (Ptr i) u h e = omega (arith, tree_depth ts i u e)
 part_depth m a (pointers ts) (Item i) u h e = omega (arith, tree_depth ts i u e)
 part_depth m (word s w) (structs d p es) (Item i) u h e =
-    let f = h.2 in
-    let r = element_depth es i u (elements_are_structs m f.1 (f.2 + 1) d p (middle f.4) es f.5 f.6 f.8) e in
+    let (k, x, b, q, tag, inner, deep, found, each) = h.2 in
+    let r = element_depth es i u (elements_are_structs m x (b + 1) d p (middle tag) es inner deep each) e in
     omega (arith, r.0, levels_of_some (tree_count es) r.1)
 part_depth m (element x b ds ps) (structs d p es) (Item i) u h e = absurd h
 part_depth m a t step u h e = absurd (cc e)
@@ -131,13 +133,13 @@ pub walk_depth : (m : List (List ℕ)) (a : Spot) (path : List Step) (n : ℕ) (
     → Walks m a path n b
     → (u : Tree) × DenotesAt m b u × (n + depth_of u ≤ depth_of t)
 walk_depth m a [] n b t h g = (t, subst (λ (y : Spot). DenotesAt m y t) (sym g.1) h, omega (arith, g.0))
-walk_depth m a (step ∷ path) n b t h g =
-    let r = step_to_part m a step g.0 t h g.2 in
-    let k = step_kind m a step g.0 t h g.2 in
+walk_depth m a (step ∷ path) n b t h (mid, below, goes, walks, level) =
+    let r = step_to_part m a step mid t h goes in
+    let k = step_kind m a step mid t h goes in
     let x : level_if (is_structs t) + depth_of r.0 ≤ depth_of t = part_depth m a t step r.0 h r.1 in
-    let l : level_of g.0 ≡ level_if (is_structs t) = spot_level g.0 ∙ ap level_if k in
-    let z = walk_depth m g.0 path g.1 b r.0 r.2 g.3 in
-    (z.0, z.1, omega (arith, z.2, x, l, g.4))
+    let l : level_of mid ≡ level_if (is_structs t) = spot_level mid ∙ ap level_if k in
+    let z = walk_depth m mid path below b r.0 r.2 walks in
+    (z.0, z.1, omega (arith, z.2, x, l, level))
 
 -- the levels of what stands in an object, by its form
 pub below_struct : (q tag : ℕ) → kind q ≡ 0 → levels_below q tag ≡ 0
@@ -160,23 +162,24 @@ object_depth m s w null c d k t b q tag h f has =
     absurd (cc (one_lead m s w c k to_null (to_object t (pos b) q) h.0 f.leads).1)
 object_depth m s w (cap i) c d k t b q tag h f has =
     absurd (cc (one_lead m s w c k (to_cap i) (to_object t (pos b) q) h.0 f.leads).1)
-object_depth m s w (struct ws ts) c d k t b q tag h f has =
-    let o : SameObject k t b q h.0 h.1 h.2 h.3 = one_object m s w k t b q h.0 h.1 h.2 h.3 f h.6.finds in
-    omega (arith, below_struct q tag (ap kind o.shape ∙ h.6.kind), h.6.depth)
-object_depth m s w (scalars e vs) c d k t b q tag h f has =
-    let o : SameObject k t b q h.0 h.1 h.2 h.3 = one_object m s w k t b q h.0 h.1 h.2 h.3 f h.4.finds in
+object_depth m s w (struct ws ts) c d k t b q tag (k', t', b', q', inner, deep, found, each) f has =
+    let o : SameObject k t b q k' t' b' q' = one_object m s w k t b q k' t' b' q' f found.finds in
+    omega (arith, below_struct q tag (ap kind o.shape ∙ found.kind), found.depth)
+object_depth m s w (scalars e vs) c d k t b q tag (k', t', b', q', found) f has =
+    let o : SameObject k t b q k' t' b' q' = one_object m s w k t b q k' t' b' q' f found.finds in
     omega (
       arith,
-      below_scalars q tag (ap kind o.shape ∙ h.4.kind)
-          (omega (arith, ap code o.shape, h.4.code, h.4.scalar)),
-      h.4.depth,
+      below_scalars q tag (ap kind o.shape ∙ found.kind)
+          (omega (arith, ap code o.shape, found.code, found.scalar)),
+      found.depth,
     )
-object_depth m s w (pointers ts) c d k t b q tag h f has =
-    let o : SameObject k t b q h.0 h.1 h.2 h.3 = one_object m s w k t b q h.0 h.1 h.2 h.3 f h.6.finds in
-    omega (arith, below_pointers q tag (ap kind o.shape ∙ h.6.kind) (ap code o.shape ∙ h.6.code), h.6.depth)
+object_depth m s w (pointers ts) c d k t b q tag (k', t', b', q', inner, deep, found, each) f has =
+    let o : SameObject k t b q k' t' b' q' = one_object m s w k t b q k' t' b' q' f found.finds in
+    omega (arith, below_pointers q tag (ap kind o.shape ∙ found.kind) (ap code o.shape ∙ found.code), found.depth)
 object_depth m s w (structs ds ps es) c d k t b q tag h f has =
-    let o : SameObject k t b q h.0 h.1 h.2 h.3 = one_object m s w k t b q h.0 h.1 h.2 h.3 f h.7.finds in
-    let y : kind q ≡ 1 = ap kind o.shape ∙ h.7.kind in
-    let z : code q ≡ 7 = ap code o.shape ∙ h.7.code in
-    let e : tag ≡ h.4 = one_word m t b tag h.4 (has (y, z)) (rw (o.segment, o.start) h.7.has_tag) in
-    omega (arith, below_structs q tag y z, ap (λ v. element_levels (middle v)) e, h.7.depth)
+    let (k', t', b', q', tag', inner, deep, found, each) = h in
+    let o : SameObject k t b q k' t' b' q' = one_object m s w k t b q k' t' b' q' f found.finds in
+    let y : kind q ≡ 1 = ap kind o.shape ∙ found.kind in
+    let z : code q ≡ 7 = ap code o.shape ∙ found.code in
+    let e : tag ≡ tag' = one_word m t b tag tag' (has (y, z)) (rw (o.segment, o.start) found.has_tag) in
+    omega (arith, below_structs q tag y z, ap (λ v. element_levels (middle v)) e, found.depth)

@@ -26,24 +26,15 @@ CostFrom m a (p ∷ ps) cost =
 cost_append : (m : List (List ℕ)) (a : Spot) (ps qs : List (List Step)) (x y : ℕ) → CostFrom m a ps x
     → CostFrom m a qs y → CostFrom m a (ps ++ qs) (x + y)
 cost_append m a [] qs x y g h = subst (λ (z : ℕ). CostFrom m a qs z) (omega arith) h
-cost_append m a (p ∷ ps) qs x y g h = (
-  g.0,
-  g.1,
-  g.2,
-  g.3,
-  g.4 + y,
-  g.5,
-  g.6,
-  cost_append m a ps qs g.4 y g.7 h,
-  omega (arith, g.8),
-)
+cost_append m a (p ∷ ps) qs x y (n, s, w, one, rest, walks, costs, after, sum) h =
+    (n, s, w, one, rest + y, walks, costs, cost_append m a ps qs rest y after h, omega (arith, sum))
 
 -- behind one step paths cost what they cost from its end
 cost_behind : (m : List (List ℕ)) (a b : Spot) (step : Step) (ps : List (List Step)) (x : ℕ) → Goes m a step b
     → CostFrom m b ps x → CostFrom m a (behind step ps) x
 cost_behind m a b step [] x g h = h
-cost_behind m a b step (p ∷ ps) x g h =
-    (level_of b + h.0, h.1, h.2, h.3, h.4, (b, h.0, g, h.5, refl), h.6, cost_behind m a b step ps h.4 g h.7, h.8)
+cost_behind m a b step (p ∷ ps) x g (n, s, w, one, rest, walks, costs, after, sum) =
+    (level_of b + n, s, w, one, rest, (b, n, g, walks, refl), costs, cost_behind m a b step ps rest g after, sum)
 
 -- a word's own cost, and that of the paths below it
 cost_own : (m : List (List ℕ)) (s w : ℕ) (ps : List (List Step)) (one rest c : ℕ) → Costs m s w one
@@ -62,62 +53,63 @@ mutual
       → CostFrom m (word s w) ([] ∷ paths_below is_pointer t) c
   tree_cost m s w null c d h = cost_own m s w [] c 0 c (inl h.0) refl (omega arith)
   tree_cost m s w (cap i) c d h = cost_own m s w [] c 0 c (inr (inl (i, h.0))) refl (omega arith)
-  tree_cost m s w (struct ws ts) c d h =
-      cost_own m s w (paths_below is_pointer (struct ws ts)) (h.0 + extent h.3) h.4 c
-      (cost_alone m s w h.0 h.1 h.2 h.3 h.6.finds (λ z y. absurd (omega (arith, h.6.kind, z)))
-      (extra_struct h.3 h.6.kind))
-      (each_cost m (word s w) Ptr h.1 (h.2 + data_size h.3) (pointer_size h.3) 0 (pointer_size h.3)
-      (h.2 + data_size h.3) ts h.4 h.5
-      (λ j lt. (h.0, h.1, h.2, h.3, h.6.finds, h.6.kind, lt, refl)) (omega arith) (omega arith) h.7)
-      h.6.charge
-  tree_cost m s w (scalars e vs) c d h =
-      cost_own m s w [] (h.0 + extent h.3 + extra h.3 0) 0 c
-      (inr (inr (h.0, h.1, h.2, h.3, 0, h.4.finds, λ z. absurd (omega (arith, h.4.code, h.4.scalar, z.1)), refl))) refl
-      (h.4.charge ∙ omega arith)
-  tree_cost m s w (pointers ts) c d h =
-      cost_own m s w (paths_below is_pointer (pointers ts)) (h.0 + extent h.3) h.4 c
-      (cost_alone m s w h.0 h.1 h.2 h.3 h.6.finds (λ z y. absurd (omega (arith, h.6.code, y)))
-      (extra_pointers h.3 h.6.kind h.6.code))
-      (each_cost m (word s w) Item h.1 h.2 (list_size h.3) 0 (list_size h.3) h.2 ts h.4 h.5
-      (λ j lt. inl (h.0, h.1, h.2, h.3, h.6.finds, h.6.kind, h.6.code, lt, refl)) (omega arith) (omega arith) h.7)
-      h.6.charge
-  tree_cost m s w (structs ds ps es) c d h =
-      cost_own m s w (paths_below is_pointer (structs ds ps es)) (h.0 + extent h.3 + extra h.3 h.4) h.5 c
-      (inr (inr (h.0, h.1, h.2, h.3, h.4, h.7.finds, λ z. h.7.has_tag, refl)))
-      (elements_cost m (word s w) h.1 (h.2 + 1) ds ps (middle h.4) 0 (middle h.4) (h.2 + 1) es h.5 h.6
+  tree_cost m s w (struct ws ts) c d (k, t, b, q, inner, deep, found, each) =
+      cost_own m s w (paths_below is_pointer (struct ws ts)) (k + extent q) inner c
+      (cost_alone m s w k t b q found.finds (λ z y. absurd (omega (arith, found.kind, z)))
+      (extra_struct q found.kind))
+      (each_cost m (word s w) Ptr t (b + data_size q) (pointer_size q) 0 (pointer_size q)
+      (b + data_size q) ts inner deep
+      (λ j lt. (k, t, b, q, found.finds, found.kind, lt, refl)) (omega arith) (omega arith) each)
+      found.charge
+  tree_cost m s w (scalars e vs) c d (k, t, b, q, found) =
+      cost_own m s w [] (k + extent q + extra q 0) 0 c
+      (inr (inr (k, t, b, q, 0, found.finds, λ z. absurd (omega (arith, found.code, found.scalar, z.1)), refl))) refl
+      (found.charge ∙ omega arith)
+  tree_cost m s w (pointers ts) c d (k, t, b, q, inner, deep, found, each) =
+      cost_own m s w (paths_below is_pointer (pointers ts)) (k + extent q) inner c
+      (cost_alone m s w k t b q found.finds (λ z y. absurd (omega (arith, found.code, y)))
+      (extra_pointers q found.kind found.code))
+      (each_cost m (word s w) Item t b (list_size q) 0 (list_size q) b ts inner deep
+      (λ j lt. inl (k, t, b, q, found.finds, found.kind, found.code, lt, refl)) (omega arith) (omega arith) each)
+      found.charge
+  tree_cost m s w (structs ds ps es) c d (k, t, b, q, tag, inner, deep, found, each) =
+      cost_own m s w (paths_below is_pointer (structs ds ps es)) (k + extent q + extra q tag) inner c
+      (inr (inr (k, t, b, q, tag, found.finds, λ z. found.has_tag, refl)))
+      (elements_cost m (word s w) t (b + 1) ds ps (middle tag) 0 (middle tag) (b + 1) es inner deep
       (λ j lt. inr (
-        h.0,
-        h.1,
-        h.2,
-        h.3,
-        h.4,
-        h.7.finds,
-        h.7.kind,
-        h.7.code,
-        h.7.has_tag,
+        k,
+        t,
+        b,
+        q,
+        tag,
+        found.finds,
+        found.kind,
+        found.code,
+        found.has_tag,
         lt,
-        rw (h.7.data_sizes, h.7.pointer_sizes) refl,
+        rw (found.data_sizes, found.pointer_sizes) refl,
       ))
-      (omega arith) (omega arith) h.8)
-      h.7.charge
+      (omega arith) (omega arith) each)
+      found.charge
 
   -- the same of words at places, which steps from one spot lead to
   pub each_cost : (m : List (List ℕ)) (a : Spot) (step : ℕ → Step) (t b n i all start : ℕ) (ts : Trees) (c d : ℕ)
       → ((j : ℕ) → j < all → Goes m a (step j) (word t (start + j))) → i + n ≡ all → b ≡ start + i
       → DenoteEach m (places t b n) ts c d → CostFrom m a (paths_from is_pointer false step i ts) c
   each_cost m a step t b n i all start none c d goes e f h = h.1
-  each_cost m a step t b zero i all start (more u ts) c d goes e f h = absurd (cc h.7)
+  each_cost m a step t b zero i all start (more u ts) c d goes e f h = absurd cc
   each_cost m a step t b (suc n) i all start (more u ts) c d goes e f h =
-      let p = cons_parts (t, b) (h.0, h.1) (places t (b + 1) n) h.2 h.7 in
-      let g : Denotes m t b u h.3 h.4 = subst (λ (y : ℕ × ℕ). Denotes m y.0 y.1 u h.3 h.4) (sym p.0) h.8 in
-      let x : CostFrom m (word t b) ([] ∷ paths_below is_pointer u) h.3 = tree_cost m t b u h.3 h.4 g in
+      let (s, w, rest, c1, d1, c2, d2, begins, denotes, after, charge, depth) = h in
+      let p = cons_parts (t, b) (s, w) (places t (b + 1) n) rest begins in
+      let g : Denotes m t b u c1 d1 = subst (λ (y : ℕ × ℕ). Denotes m y.0 y.1 u c1 d1) (sym p.0) denotes in
+      let x : CostFrom m (word t b) ([] ∷ paths_below is_pointer u) c1 = tree_cost m t b u c1 d1 g in
       let y : Goes m a (step i) (word t b) =
       subst (λ (v : ℕ). Goes m a (step i) (word t v)) (sym f) (goes i (omega arith)) in
-      subst (λ (v : ℕ). CostFrom m a (paths_from is_pointer false step i (more u ts)) v) (sym h.10)
+      subst (λ (v : ℕ). CostFrom m a (paths_from is_pointer false step i (more u ts)) v) (sym charge)
       (cost_append m a (behind (step i) ([] ∷ paths_below is_pointer u))
-      (paths_from is_pointer false step (suc i) ts) h.3 h.5
-      (cost_behind m a (word t b) (step i) ([] ∷ paths_below is_pointer u) h.3 y x)
-      (each_cost m a step t (b + 1) n (suc i) all start ts h.5 h.6 goes (omega arith) (omega arith) (rw p.1 h.9)))
+      (paths_from is_pointer false step (suc i) ts) c1 c2
+      (cost_behind m a (word t b) (step i) ([] ∷ paths_below is_pointer u) c1 y x)
+      (each_cost m a step t (b + 1) n (suc i) all start ts c2 d2 goes (omega arith) (omega arith) (rw p.1 after)))
 
   -- and of the elements of a struct list
   pub elements_cost : (m : List (List ℕ)) (a : Spot) (t b ds ps n i all start : ℕ) (es : Trees) (c d : ℕ)
@@ -126,34 +118,26 @@ mutual
       → AreElements m t b ds ps n es c d → CostFrom m a (paths_from is_pointer true Item i es) c
   elements_cost m a t b ds ps n i all start none c d goes e f h = h.1
   elements_cost m a t b ds ps n i all start (more (struct ws ts) es) c d goes e f h =
+      let (fewer, c1, d1, c2, d2, counted, own, each, after, charge, depth) = h in
       let y : Goes m a (Item i) (element t b ds ps) =
-      subst (λ (v : ℕ). Goes m a (Item i) (element t v ds ps)) (sym f) (goes i (omega (arith, h.5))) in
-      let x : CostFrom m (element t b ds ps) (paths_from is_pointer false Ptr 0 ts) h.1 =
-      each_cost m (element t b ds ps) Ptr t (b + ds) ps 0 ps (b + ds) ts h.1 h.2 (λ j lt. (lt, refl)) (omega arith)
-      (omega arith) h.7 in
-      subst (λ (v : ℕ). CostFrom m a (paths_from is_pointer true Item i (more (struct ws ts) es)) v) (sym h.9)
+      subst (λ (v : ℕ). Goes m a (Item i) (element t v ds ps)) (sym f) (goes i (omega (arith, counted))) in
+      let x : CostFrom m (element t b ds ps) (paths_from is_pointer false Ptr 0 ts) c1 =
+      each_cost m (element t b ds ps) Ptr t (b + ds) ps 0 ps (b + ds) ts c1 d1 (λ j lt. (lt, refl)) (omega arith)
+      (omega arith) each in
+      subst (λ (v : ℕ). CostFrom m a (paths_from is_pointer true Item i (more (struct ws ts) es)) v) (sym charge)
       (cost_append m a (behind (Item i) (paths_from is_pointer false Ptr 0 ts))
-      (paths_from is_pointer true Item (suc i) es) h.1 h.3
-      (cost_behind m a (element t b ds ps) (Item i) (paths_from is_pointer false Ptr 0 ts) h.1 y x)
-      (elements_cost m a t (b + ds + ps) ds ps h.0 (suc i) all start es h.3 h.4 goes (omega (arith, h.5))
-      (omega arith) h.8))
+      (paths_from is_pointer true Item (suc i) es) c1 c2
+      (cost_behind m a (element t b ds ps) (Item i) (paths_from is_pointer false Ptr 0 ts) c1 y x)
+      (elements_cost m a t (b + ds + ps) ds ps fewer (suc i) all start es c2 d2 goes (omega (arith, counted))
+      (omega arith) after))
   elements_cost m a t b ds ps n i all start (more x es) c d goes e f h = absurd h
 
 -- costs from the root are costs of paths
 cost_of : (m : List (List ℕ)) (root : ℕ) → HasWord m 0 0 root → (ps : List (List Step)) (x : ℕ)
     → CostFrom m (word 0 0) ps x → CostOf m ps x
 cost_of m root has [] x h = h
-cost_of m root has (p ∷ ps) x h = (
-  1 + h.0,
-  h.1,
-  h.2,
-  h.3,
-  h.4,
-  (root, h.0, has, h.5, refl),
-  h.6,
-  cost_of m root has ps h.4 h.7,
-  h.8,
-)
+cost_of m root has (p ∷ ps) x (n, s, w, one, rest, walks, costs, after, sum) =
+    (1 + n, s, w, one, rest, (root, n, has, walks, refl), costs, cost_of m root has ps rest after, sum)
 
 -- The charge of the root's tree is what the paths that reach a pointer word cost.
 pub charge_is_cost : (m : List (List ℕ)) (t : Tree) (c d : ℕ) → Denotes m 0 0 t c d → CostOf m (pointer_paths t) c

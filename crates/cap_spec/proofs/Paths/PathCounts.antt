@@ -1,12 +1,13 @@
 -- The pointers and the capabilities of the tree that the root denotes are as many as the paths that reach them.
 use Rattle.std.proofs.Common.{ℕ, zero, suc, ◌+◌, ◌*◌, ◌<◌, List, [], ◌∷◌, ◌≡◌, ◌↔◌, sym, ap, refl, subst, ◌∙◌, arith}
 use Rattle.std.proofs.Common.{inl, inr, Bool, true, false, not, length, eqb, ne_eqb}
+use Rattle.cap_spec.specs.Lists.{IsOneOf}
 use Rattle.cap_spec.specs.Pointers.{kind, code}
 use Rattle.cap_spec.specs.Following.{Lead, Leads, to_cap}
 use Rattle.cap_spec.specs.Tree.{Tree, null, cap, struct, scalars, pointers, structs, pointer_count, cap_count, has_cap}
 use Rattle.cap_spec.specs.Denoting.{Denotes}
-use Rattle.cap_spec.specs.Paths.{Spot, word, element, Goes, Walks, Reaches, Before}
-use Rattle.cap_spec.specs.Paths.{Rises, IsOneOf, IsFirstCap, level_of}
+use Rattle.cap_spec.specs.Paths.{ReachesCap, Spot, word, element, Goes, Walks, Reaches, Before}
+use Rattle.cap_spec.specs.Paths.{Rises, IsFirstCap, level_of}
 use Rattle.cap_spec.specs.Standing.{DenotesAt}
 use Rattle.cap_spec.specs.declared.Step.{Step}
 use Rattle.cap_spec.specs.declared.Step.TheVariants.{Ptr, Item}
@@ -38,18 +39,19 @@ all_structs (structs d p es) f = refl
 -- a step leads to an element where the tree of the spot is a struct list
 pub step_kind : (m : List (List ℕ)) (a : Spot) (step : Step) (b : Spot) (t : Tree) → DenotesAt m a t → Goes m a step b
     → is_element b ≡ is_structs t
-step_kind m (word s w) (Ptr i) b t h g =
-    let f = found_form m s w t h.0 h.1 g.0 g.1 g.2 g.3 h.2 g.4 in
-    ap is_element g.7 ∙ sym (no_structs t (2 + kind g.3 * (1 + code g.3)) f
-    (omega (arith, number_struct (kind g.3) (code g.3) g.5)))
-step_kind m (word s w) (Item i) b t h (inl g) =
-    let f = found_form m s w t h.0 h.1 g.0 g.1 g.2 g.3 h.2 g.4 in
-    ap is_element g.8 ∙ sym (no_structs t (2 + kind g.3 * (1 + code g.3)) f
-    (omega (arith, number_list (kind g.3) (code g.3) g.5, g.6)))
+step_kind m (word s w) (Ptr i) b t h (k, t', b', q, finds, is_struct, less, ends) =
+    let f = found_form m s w t h.0 h.1 k t' b' q h.2 finds in
+    ap is_element ends ∙ sym (no_structs t (2 + kind q * (1 + code q)) f
+    (omega (arith, number_struct (kind q) (code q) is_struct)))
+step_kind m (word s w) (Item i) b t h (inl (k, t', b', q, finds, is_list, of_pointers, less, ends)) =
+    let f = found_form m s w t h.0 h.1 k t' b' q h.2 finds in
+    ap is_element ends ∙ sym (no_structs t (2 + kind q * (1 + code q)) f
+    (omega (arith, number_list (kind q) (code q) is_list, of_pointers)))
 step_kind m (word s w) (Item i) b t h (inr g) =
-    let f = found_form m s w t h.0 h.1 g.0 g.1 g.2 g.3 h.2 g.5 in
-    let e : 2 + kind g.3 * (1 + code g.3) ≡ 10 = omega (arith, number_list (kind g.3) (code g.3) g.6, g.7) in
-    ap is_element g.10 ∙ sym (all_structs t (subst (λ (n : ℕ). HasForm t n) e f))
+    let (k, t', b', q, tag, finds, is_list, of_structs, has_tag, less, ends) = g in
+    let f = found_form m s w t h.0 h.1 k t' b' q h.2 finds in
+    let e : 2 + kind q * (1 + code q) ≡ 10 = omega (arith, number_list (kind q) (code q) is_list, of_structs) in
+    ap is_element ends ∙ sym (all_structs t (subst (λ (n : ℕ). HasForm t n) e f))
 step_kind m (element x y ds ps) (Ptr i) b (struct words ts) h g = ap is_element g.1
 step_kind m (element x y ds ps) (Ptr i) b t h g = absurd h
 step_kind m (element x y ds ps) (Item i) b t h g = absurd g
@@ -72,10 +74,10 @@ pub walk_wanted : (m : List (List ℕ)) (test : Bool → Tree → Bool) (P : Spo
     → (a : Spot) (t : Tree) (q : List Step) → DenotesAt m a t → (n : ℕ) (b : Spot) → Walks m a q n b → P b
     → Wants test (is_element a) t q
 walk_wanted m test P own a t [] h n b g p = own a t h (subst P g.1 p)
-walk_wanted m test P own a t (step ∷ path) h n b g p =
-    let r = step_to_part m a step g.0 t h g.2 in
-    let k = step_kind m a step g.0 t h g.2 in
-    (r.0, r.1, subst (λ (e : Bool). Wants test e r.0 path) k (walk_wanted m test P own g.0 r.0 path r.2 g.1 b g.3 p))
+walk_wanted m test P own a t (step ∷ path) h n b (mid, below, goes, walks, level) p =
+    let r = step_to_part m a step mid t h goes in
+    let k = step_kind m a step mid t h goes in
+    (r.0, r.1, subst (λ (e : Bool). Wants test e r.0 path) k (walk_wanted m test P own mid r.0 path r.2 below b walks p))
 
 -- a spot that is a pointer word
 abbrev pub IsWordSpot : Spot → Type 0
@@ -117,11 +119,10 @@ LeadsAt m (element t b ds ps) k r = ⊥
 
 cap_wanted : (m : List (List ℕ)) (a : Spot) (t : Tree) → DenotesAt m a t → IsCapSpot m a
     → wants_cap (is_element a) t ≡ true
-cap_wanted m (word s w) t h p =
-    let f : Formed m s w t = formed m s w t h.0 h.1 h.2 in
-    let e : word s w ≡ word p.0 p.1 = p.4 in
-    let l : Leads m s w p.2 (to_cap p.3) = subst (λ (z : Spot). LeadsAt m z p.2 (to_cap p.3)) (sym e) p.5 in
-    let r = one_lead m s w f.k p.2 f.r (to_cap p.3) f.leads l in
+cap_wanted m (word s w) t (c, d, h) (s', w', k, i, is, leads) =
+    let f : Formed m s w t = formed m s w t c d h in
+    let l : Leads m s w k (to_cap i) = subst (λ (z : Spot). LeadsAt m z k (to_cap i)) (sym is) leads in
+    let r = one_lead m s w f.k k f.r (to_cap i) f.leads l in
     cap_form t (subst (λ (z : Lead). HasForm t (form_of z)) r.1 f.form)
 cap_wanted m (element x b ds ps) t h p = absurd (cc p.4)
 
@@ -141,45 +142,34 @@ pointer_path_reached m t c d h q = (to, from)
     to g =
         let f : Formed m 0 0 t = formed m 0 0 t c d h in
         let p = lead_word m 0 0 f.k f.r f.leads in
-        let r = wanted_walk m is_pointer IsWordSpot (wanted_word m) (word 0 0) t q (c, d, h)
+        let (n, b, walks, found) = wanted_walk m is_pointer IsWordSpot (wanted_word m) (word 0 0) t q (c, d, h)
         (listed_wanted is_pointer false t q g) in
-        (1 + r.0, r.3.0, r.3.1, (p.0, r.0, p.1, subst (λ (z : Spot). Walks m (word 0 0) q r.0 z) r.3.2 r.2, refl))
+        let (s, w, is) = found in
+        (1 + n, s, w, (p.0, n, p.1, subst (λ (z : Spot). Walks m (word 0 0) q n z) is walks, refl))
 
     from : (level s w : ℕ) × Reaches m q level s w → IsOneOf q (pointer_paths t)
-    from g = wanted_listed is_pointer false t q
-        (walk_wanted m is_pointer IsWordSpot (word_wanted m) (word 0 0) t q (c, d, h) g.3.1 (word g.1 g.2)
-        g.3.3 (g.1, g.2, refl))
+    from (level, s, w, (root, n, has, walks, is)) = wanted_listed is_pointer false t q
+        (walk_wanted m is_pointer IsWordSpot (word_wanted m) (word 0 0) t q (c, d, h) n (word s w) walks (s, w, refl))
 
 -- The paths that reach a capability are exactly the listed ones.
 pub cap_path_reached : (m : List (List ℕ)) (t : Tree) (c d : ℕ) → Denotes m 0 0 t c d → (q : List Step)
-    → IsOneOf q (cap_paths t) ↔ ((level s w k i : ℕ) × Reaches m q level s w × Leads m s w k (to_cap i))
+    → IsOneOf q (cap_paths t) ↔ ReachesCap m q
 cap_path_reached m t c d h q = (to, from)
   where
-    to : IsOneOf q (cap_paths t) → (level s w k i : ℕ) × Reaches m q level s w × Leads m s w k (to_cap i)
+    to : IsOneOf q (cap_paths t) → ReachesCap m q
     to g =
         let f : Formed m 0 0 t = formed m 0 0 t c d h in
         let p = lead_word m 0 0 f.k f.r f.leads in
-        let r = wanted_walk m wants_cap (IsCapSpot m) (wanted_cap m) (word 0 0) t q (c, d, h)
-        (listed_wanted wants_cap false t q g) in (
-          1 + r.0,
-          r.3.0,
-          r.3.1,
-          r.3.2,
-          r.3.3,
-          (
-            p.0,
-            r.0,
-            p.1,
-            subst (λ (z : Spot). Walks m (word 0 0) q r.0 z) r.3.4 r.2,
-            refl,
-          ),
-          r.3.5,
-        )
+        let (n, b, walks, found) = wanted_walk m wants_cap (IsCapSpot m) (wanted_cap m) (word 0 0) t q (c, d, h)
+        (listed_wanted wants_cap false t q g) in
+        let (s, w, k, i, is, leads) = found in
+        let there : Walks m (word 0 0) q n (word s w) = subst (λ (z : Spot). Walks m (word 0 0) q n z) is walks in
+        (1 + n, s, w, k, i, (p.0, n, p.1, there, refl), leads)
 
-    from : (level s w k i : ℕ) × Reaches m q level s w × Leads m s w k (to_cap i) → IsOneOf q (cap_paths t)
-    from g = wanted_listed wants_cap false t q
-        (walk_wanted m wants_cap (IsCapSpot m) (cap_wanted m) (word 0 0) t q (c, d, h) g.5.1 (word g.1 g.2) g.5.3
-        (g.1, g.2, g.3, g.4, refl, g.6))
+    from : ReachesCap m q → IsOneOf q (cap_paths t)
+    from (level, s, w, k, i, (root, n, has, walks, is), leads) = wanted_listed wants_cap false t q
+        (walk_wanted m wants_cap (IsCapSpot m) (cap_wanted m) (word 0 0) t q (c, d, h) n (word s w) walks
+        (s, w, k, i, refl, leads))
 
 -- There is a rising list of exactly the paths that reach a pointer word, of as many as the tree's pointers,
 pub pointers_counted : (m : List (List ℕ)) (t : Tree) (c d : ℕ) → Denotes m 0 0 t c d
@@ -195,27 +185,26 @@ pointers_counted m t c d h = (
 -- and one of exactly those that reach a capability, of as many as its capabilities.
 pub caps_counted : (m : List (List ℕ)) (t : Tree) (c d : ℕ) → Denotes m 0 0 t c d
     → (paths : List (List Step)) × Rises paths × (length paths ≡ cap_count t)
-    × ((q : List Step) → IsOneOf q paths ↔ ((level s w k i : ℕ) × Reaches m q level s w × Leads m s w k (to_cap i)))
+    × ((q : List Step) → IsOneOf q paths ↔ ReachesCap m q)
 caps_counted m t c d h = (cap_paths t, listed_rise wants_cap false t, caps_listed false t, cap_path_reached m t c d h)
 
 -- The first of the paths to capabilities is the first in preorder.
 first_of : (m : List (List ℕ)) (t : Tree) (c d : ℕ) → Denotes m 0 0 t c d → (paths : List (List Step)) → Rises paths
-    → ((q : List Step) → IsOneOf q paths ↔ ((level s w k i : ℕ) × Reaches m q level s w
-    × Leads m s w k (to_cap i))) → 0 < length paths
+    → ((q : List Step) → IsOneOf q paths ↔ ReachesCap m q) → 0 < length paths
     → (s w : ℕ) × IsFirstCap m s w
 first_of m t c d h [] rises exact some = absurd (omega arith)
 first_of m t c d h (p ∷ ps) rises exact some =
-    let r = (exact p).0 (inl refl) in (
-      r.1,
-      r.2,
+    let (level, s, w, k, i, reached, leads) = (exact p).0 (inl refl) in (
+      s,
+      w,
       record {
         path = p;
-        level = r.0;
-        k = r.3;
-        index = r.4;
-        reached = r.5;
-        leads = r.6;
-        first = λ q level s w k i before reached leads. late q before ((exact q).1 (level, s, w, k, i, reached, leads));
+        level = level;
+        reached = reached;
+        first = record {
+          holds = (level, s, w, k, i, reached, leads);
+          first = λ q before reaches. late q before ((exact q).1 reaches);
+        };
       },
     )
   where
@@ -248,5 +237,5 @@ first_cap m t c d h = (to, from)
     from : (s w : ℕ) × IsFirstCap m s w → has_cap t ≡ true
     from g =
         let f = g.2 in
-        let i = (cap_path_reached m t c d h f.path).1 (f.level, g.0, g.1, f.k, f.index, f.reached, f.leads) in
+        let i = (cap_path_reached m t c d h f.path).1 f.first.holds in
         not_none (cap_count t) (omega (arith, caps_listed false t, member_some f.path (cap_paths t) i))

@@ -1,9 +1,10 @@
 -- The paths to some of a tree's nodes, in preorder: they rise, they are exactly those, and how many they are.
 use Rattle.std.proofs.Common.{ℕ, zero, suc, ◌+◌, ◌<◌, List, [], ◌∷◌, ◌++◌, ◌≡◌, ◌⊎◌, sym, ap, refl, subst, ◌∙◌, arith}
 use Rattle.std.proofs.Common.{inl, inr, Some, Bool, true, false, not, length, length-append}
+use Rattle.cap_spec.specs.Lists.{IsOneOf}
 use Rattle.cap_spec.specs.Tree.{Tree, null, cap, struct, scalars, pointers, structs, Trees, none, more, tree_at}
 use Rattle.cap_spec.specs.Tree.{part_at, tree_count, child_count, child_counts, cap_count, cap_counts}
-use Rattle.cap_spec.specs.Paths.{number_of, Before, Rises, IsOneOf}
+use Rattle.cap_spec.specs.Paths.{number_of, Before, Rises}
 use Rattle.cap_spec.specs.declared.Step.{Step}
 use Rattle.cap_spec.specs.declared.Step.TheVariants.{Ptr, Item}
 
@@ -77,32 +78,49 @@ behind_member step p [] h = absurd h
 behind_member step p (q ∷ qs) (inl e) = inl (ap (λ x. step ∷ x) e)
 behind_member step p (q ∷ qs) (inr h) = inr (behind_member step p qs h)
 
+-- a path into one of the parts, whose rest is one of the part's
+record IntoPart (test : Bool → Tree → Bool) (e : Bool) (step : ℕ → Step) (i : ℕ) (ts : Trees) (q : List Step) : Type 0 where
+  number : ℕ
+  part : Tree
+  rest : List Step
+  is : q ≡ step (i + number) ∷ rest
+  at : tree_at ts number ≡ Some part
+  listed : IsOneOf rest (with_own (test e part) (paths_below test part))
+
 -- each of these paths goes into one of the parts
 from_to_part : (test : Bool → Tree → Bool) (e : Bool) (step : ℕ → Step) (i : ℕ) (ts : Trees) (q : List Step)
-    → IsOneOf q (paths_from test e step i ts)
-    → (j : ℕ) × (u : Tree) × (p : List Step) × (q ≡ step (i + j) ∷ p) × (tree_at ts j ≡ Some u)
-    × IsOneOf p (with_own (test e u) (paths_below test u))
+    → IsOneOf q (paths_from test e step i ts) → IntoPart test e step i ts q
 from_to_part test e step i none q h = absurd h
 from_to_part test e step i (more t ts) q h =
     go (λ g. from_to_part test e step (suc i) ts q g)
     (member_append q (behind (step i) (with_own (test e t) (paths_below test t)))
     (paths_from test e step (suc i) ts) h)
   where
-    go : (IsOneOf q (paths_from test e step (suc i) ts)
-        → (j : ℕ) × (u : Tree) × (p : List Step) × (q ≡ step (suc i + j) ∷ p) × (tree_at ts j ≡ Some u)
-        × IsOneOf p (with_own (test e u) (paths_below test u)))
+    go : (IsOneOf q (paths_from test e step (suc i) ts) → IntoPart test e step (suc i) ts q)
         → IsOneOf q (behind (step i) (with_own (test e t) (paths_below test t)))
-        ⊎ IsOneOf q (paths_from test e step (suc i) ts)
-        → (j : ℕ) × (u : Tree) × (p : List Step) × (q ≡ step (i + j) ∷ p) × (tree_at (more t ts) j ≡ Some u)
-        × IsOneOf p (with_own (test e u) (paths_below test u))
+        ⊎ IsOneOf q (paths_from test e step (suc i) ts) → IntoPart test e step i (more t ts) q
     go later (inl g) =
         let r = member_behind (step i) q (with_own (test e t) (paths_below test t)) g in
         let k : i ≡ i + 0 = omega arith in
-        (0, t, r.0, subst (λ (x : ℕ). q ≡ step x ∷ r.0) k r.1, refl, r.2)
+        record {
+          number = 0;
+          part = t;
+          rest = r.0;
+          is = subst (λ (x : ℕ). q ≡ step x ∷ r.0) k r.1;
+          at = refl;
+          listed = r.2;
+        }
     go later (inr g) =
-        let r = later g in
-        let k : suc i + r.0 ≡ i + suc r.0 = omega arith in
-        (suc r.0, r.1, r.2, subst (λ (x : ℕ). q ≡ step x ∷ r.2) k r.3, r.4, r.5)
+        let r : IntoPart test e step (suc i) ts q = later g in
+        let k : suc i + r.number ≡ i + suc r.number = omega arith in
+        record {
+          number = suc r.number;
+          part = r.part;
+          rest = r.rest;
+          is = subst (λ (x : ℕ). q ≡ step x ∷ r.rest) k r.is;
+          at = r.at;
+          listed = r.listed;
+        }
 
 -- and each path that the test wants in a part is one of them
 part_to_from : (test : Bool → Tree → Bool) (e : Bool) (step : ℕ → Step) (i : ℕ) (ts : Trees) (j x : ℕ) (u : Tree)
@@ -122,16 +140,37 @@ part_to_from test e step i (more t ts) (suc j) x u p f k h =
     (paths_from test e step (suc i) ts)
     (part_to_from test e step (suc i) ts j x u p f (omega arith) h)
 
+-- a path into a part of a tree
+record BelowPart (test : Bool → Tree → Bool) (t : Tree) (q : List Step) : Type 0 where
+  step : Step
+  part : Tree
+  rest : List Step
+  is : q ≡ step ∷ rest
+  at : part_at t step ≡ Some part
+  listed : IsOneOf rest (with_own (test (is_structs t) part) (paths_below test part))
+
+-- a part by its number is a part by its step
+part_by_step : (test : Bool → Tree → Bool) (t : Tree) (step : ℕ → Step) (ts : Trees) (q : List Step)
+    → ((j : ℕ) → part_at t (step j) ≡ tree_at ts j) → IntoPart test (is_structs t) step 0 ts q → BelowPart test t q
+part_by_step test t step ts q same r =
+    record {
+      step = step r.number;
+      part = r.part;
+      rest = r.rest;
+      is = r.is ∙ ap (λ x. step x ∷ r.rest) (omega arith);
+      at = same r.number ∙ r.at;
+      listed = r.listed;
+    }
+
 -- the same of the paths below a tree
 below_to_part : (test : Bool → Tree → Bool) (t : Tree) (q : List Step) → IsOneOf q (paths_below test t)
-    → (step : Step) × (u : Tree) × (p : List Step) × (q ≡ step ∷ p) × (part_at t step ≡ Some u)
-    × IsOneOf p (with_own (test (is_structs t) u) (paths_below test u))
-below_to_part test (struct words ts) q h = let r = from_to_part test false Ptr 0 ts q h in
-    (Ptr r.0, r.1, r.2, r.3 ∙ ap (λ x. Ptr x ∷ r.2) (omega arith), r.4, r.5)
-below_to_part test (pointers ts) q h = let r = from_to_part test false Item 0 ts q h in
-    (Item r.0, r.1, r.2, r.3 ∙ ap (λ x. Item x ∷ r.2) (omega arith), r.4, r.5)
-below_to_part test (structs d ps es) q h = let r = from_to_part test true Item 0 es q h in
-    (Item r.0, r.1, r.2, r.3 ∙ ap (λ x. Item x ∷ r.2) (omega arith), r.4, r.5)
+    → BelowPart test t q
+below_to_part test (struct words ts) q h =
+    part_by_step test (struct words ts) Ptr ts q (λ j. refl) (from_to_part test false Ptr 0 ts q h)
+below_to_part test (pointers ts) q h =
+    part_by_step test (pointers ts) Item ts q (λ j. refl) (from_to_part test false Item 0 ts q h)
+below_to_part test (structs d ps es) q h =
+    part_by_step test (structs d ps es) Item es q (λ j. refl) (from_to_part test true Item 0 es q h)
 below_to_part test t q h = absurd h
 
 part_to_below : (test : Bool → Tree → Bool) (t : Tree) (step : Step) (u : Tree) (p : List Step)
@@ -144,7 +183,7 @@ part_to_below test t step u p f h = absurd (cc f)
 
 -- the empty path is none of those below
 empty_not_below : (test : Bool → Tree → Bool) (t : Tree) → IsOneOf [] (paths_below test t) → ⊥
-empty_not_below test t h = let r = below_to_part test t [] h in absurd (cc r.3)
+empty_not_below test t h = let r : BelowPart test t [] = below_to_part test t [] h in absurd (cc r.is)
 
 -- The listed paths are those to the nodes that the test wants,
 pub listed_wanted : (test : Bool → Tree → Bool) (e : Bool) (t : Tree) (q : List Step)
@@ -155,14 +194,14 @@ listed_wanted test e t [] h = go (test e t) h
     go true g = refl
     go false g = absurd (empty_not_below test t g)
 listed_wanted test e t (step ∷ path) h =
-    let r = below_to_part test t (step ∷ path) (go (test e t) h) in
-    let x : step ≡ r.0 = cc r.3 in
-    let y : path ≡ r.2 = cc r.3 in (
-      r.1,
-      subst (λ (z : Step). part_at t z ≡ Some r.1) (sym x) r.4,
-      listed_wanted test (is_structs t) r.1 path
-          (subst (λ (z : List Step). IsOneOf z (with_own (test (is_structs t) r.1)
-          (paths_below test r.1))) (sym y) r.5),
+    let r : BelowPart test t (step ∷ path) = below_to_part test t (step ∷ path) (go (test e t) h) in
+    let x : step ≡ r.step = cc r.is in
+    let y : path ≡ r.rest = cc r.is in (
+      r.part,
+      subst (λ (z : Step). part_at t z ≡ Some r.part) (sym x) r.at,
+      listed_wanted test (is_structs t) r.part path
+          (subst (λ (z : List Step). IsOneOf z (with_own (test (is_structs t) r.part)
+          (paths_below test r.part))) (sym y) r.listed),
     )
   where
     go : (b : Bool) → IsOneOf (step ∷ path) (with_own b (paths_below test t))
@@ -208,9 +247,8 @@ Rises-own test t true (p ∷ ps) e h = (
   h,
 )
   where
-    first : (q : List Step) → (step : Step) × (u : Tree) × (r : List Step) × (q ≡ step ∷ r) × (part_at t step ≡ Some u)
-        × IsOneOf r (with_own (test (is_structs t) u) (paths_below test u)) → Before [] q
-    first q r = subst (λ (x : List Step). Before [] x) (sym r.3) tt
+    first : (q : List Step) → BelowPart test t q → Before [] q
+    first q r = subst (λ (x : List Step). Before [] x) (sym r.is) tt
 
 -- a path into one part comes before those into later parts
 steps_before : (test : Bool → Tree → Bool) (e : Bool) (step : ℕ → Step) → ((i : ℕ) → number_of (step i) ≡ i)
@@ -219,10 +257,11 @@ steps_before : (test : Bool → Tree → Bool) (e : Bool) (step : ℕ → Step) 
     → IsOneOf y (paths_from test e step (suc i) ts) → Before x y
 steps_before test e step numbers i t ts x y f g =
     let a = member_behind (step i) x (with_own (test e t) (paths_below test t)) f in
-    let b = from_to_part test e step (suc i) ts y g in
-    let lt : number_of (step i) < number_of (step (suc i + b.0)) = omega (arith, numbers i, numbers (suc i + b.0)) in
+    let b : IntoPart test e step (suc i) ts y = from_to_part test e step (suc i) ts y g in
+    let lt : number_of (step i) < number_of (step (suc i + b.number)) =
+    omega (arith, numbers i, numbers (suc i + b.number)) in
     subst (λ (z : List Step). Before z y) (sym a.1)
-    (subst (λ (z : List Step). Before (step i ∷ a.0) z) (sym b.3) (inl lt))
+    (subst (λ (z : List Step). Before (step i ∷ a.0) z) (sym b.is) (inl lt))
 
 mutual
   -- The listed paths rise,

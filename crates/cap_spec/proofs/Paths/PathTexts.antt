@@ -27,9 +27,9 @@ EndsNumber (b ∷ bs) = b ≡ 47
 pub one_number : (xs ys r s : List ℕ) → AllByRecursion IsDigit xs → AllByRecursion IsDigit ys → EndsNumber r → EndsNumber s
     → xs ++ r ≡ ys ++ s → (xs ≡ ys) × (r ≡ s)
 one_number [] [] r s a b p q e = (refl, e)
-one_number [] (y ∷ ys) [] s a b p q e = absurd (cc)
+one_number [] (y ∷ ys) [] s a b p q e = absurd cc
 one_number [] (y ∷ ys) (c ∷ r) s a b p q e = let f : c ≡ y = cc in absurd (omega (arith, f, p, b.0.0))
-one_number (x ∷ xs) [] r [] a b p q e = absurd (cc)
+one_number (x ∷ xs) [] r [] a b p q e = absurd cc
 one_number (x ∷ xs) [] r (c ∷ s) a b p q e = let f : x ≡ c = cc in absurd (omega (arith, f, q, a.0.0))
 one_number (x ∷ xs) (y ∷ ys) r s a b p q e =
     let f : x ≡ y = cc in
@@ -65,10 +65,10 @@ item_front i j xs ys e = cc
 pub one_steps : (xs ys : List Step) → AllByRecursion IsStep xs → AllByRecursion IsStep ys
     → flat_map step_text xs ≡ flat_map step_text ys → xs ≡ ys
 one_steps [] [] a b e = refl
-one_steps [] (Ptr j ∷ ys) a b e = absurd (cc)
-one_steps [] (Item j ∷ ys) a b e = absurd (cc)
-one_steps (Ptr i ∷ xs) [] a b e = absurd (cc)
-one_steps (Item i ∷ xs) [] a b e = absurd (cc)
+one_steps [] (Ptr j ∷ ys) a b e = absurd cc
+one_steps [] (Item j ∷ ys) a b e = absurd cc
+one_steps (Ptr i ∷ xs) [] a b e = absurd cc
+one_steps (Item i ∷ xs) [] a b e = absurd cc
 one_steps (Ptr i ∷ xs) (Item j ∷ ys) a b e = let f : 112 ≡ 105 = ap (λ l. get_or l 1 0) e in absurd (omega (arith, f))
 one_steps (Item i ∷ xs) (Ptr j ∷ ys) a b e = let f : 105 ≡ 112 = ap (λ l. get_or l 1 0) e in absurd (omega (arith, f))
 one_steps (Ptr i ∷ xs) (Ptr j ∷ ys) a b e =
@@ -84,10 +84,10 @@ one_steps (Item i ∷ xs) (Item j ∷ ys) a b e =
 pub one_path_text : (xs ys : List Step) → AllByRecursion IsStep xs → AllByRecursion IsStep ys
     → path_text xs ≡ path_text ys → xs ≡ ys
 one_path_text [] [] a b e = refl
-one_path_text [] (Ptr j ∷ ys) a b e = absurd (cc)
-one_path_text [] (Item j ∷ ys) a b e = absurd (cc)
-one_path_text (Ptr i ∷ xs) [] a b e = absurd (cc)
-one_path_text (Item i ∷ xs) [] a b e = absurd (cc)
+one_path_text [] (Ptr j ∷ ys) a b e = absurd cc
+one_path_text [] (Item j ∷ ys) a b e = absurd cc
+one_path_text (Ptr i ∷ xs) [] a b e = absurd cc
+one_path_text (Item i ∷ xs) [] a b e = absurd cc
 one_path_text (x ∷ xs) (y ∷ ys) a b e = one_steps (x ∷ xs) (y ∷ ys) a b e
 
 -- a text that is of no path is bad at one place

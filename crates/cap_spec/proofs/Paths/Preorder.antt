@@ -1,8 +1,8 @@
 -- Preorder is a strict total order on the paths of one message, and a tour is one list.
-use Rattle.std.proofs.Common.{ℕ, ◌<◌, List, [], ◌∷◌, ◌++◌, ◌≡◌, ◌≢◌, ◌⊎◌, sym, ap, refl, subst, ◌∙◌, arith, inl, inr}
+use Rattle.std.proofs.Common.{ℕ, ◌<◌, List, [], ◌∷◌, ◌++◌, ◌≡◌, ◌⊎◌, length, sym, ap, refl, subst, ◌∙◌, arith, inl, inr}
+use Rattle.cap_spec.specs.Lists.{IsOneOf, AreDistinct}
 use Rattle.cap_spec.specs.Paths.{Spot, Goes, Walks, Comes, Reaches, word, number_of, Before}
-use Rattle.cap_spec.specs.Paths.{Rises, IsOneOf, IsTour, IsFirstCap}
-use Rattle.cap_spec.specs.Verdicts.{IsNoneOf, AreDistinct}
+use Rattle.cap_spec.specs.Paths.{Rises, IsFirst, IsNumbered, IsTour, IsFirstCap, ReachesCap}
 use Rattle.cap_spec.specs.declared.Step.{Step}
 use Rattle.cap_spec.specs.declared.Step.TheVariants.{Ptr, Item}
 use Rattle.cap_spec.proofs.Paths.Walks.{one_step, one_kind_of_step, one_reached}
@@ -50,8 +50,8 @@ pub Before-total : (m : List (List ℕ)) (a : Spot) (p q : List Step) (n n' : �
 Before-total m a [] [] n n' b c g h = inl refl
 Before-total m a [] (y ∷ q) n n' b c g h = inr (inl tt)
 Before-total m a (x ∷ p) [] n n' b c g h = inr (inr tt)
-Before-total m a (x ∷ p) (y ∷ q) n n' b c g h =
-    go (λ k. Before-total m h.0 p q g.1 h.1 b c (subst (λ (z : Spot). Walks m z p g.1 b) k g.3) h.3)
+Before-total m a (x ∷ p) (y ∷ q) n n' b c (mid, below, goes, walks, level) (mid', below', goes', walks', level') =
+    go (λ k. Before-total m mid' p q below below' b c (subst (λ (z : Spot). Walks m z p below b) k walks) walks')
     (three_ways (number_of x) (number_of y))
   where
     one : x ≡ y → (p ≡ q) ⊎ Before p q ⊎ Before q p → (x ∷ p ≡ y ∷ q) ⊎ Before (x ∷ p) (y ∷ q) ⊎ Before (y ∷ q) (x ∷ p)
@@ -59,12 +59,12 @@ Before-total m a (x ∷ p) (y ∷ q) n n' b c g h =
     one e (inr (inl f)) = inr (inl (inr (e, f)))
     one e (inr (inr f)) = inr (inr (inr (sym e, f)))
 
-    go : (g.0 ≡ h.0 → (p ≡ q) ⊎ Before p q ⊎ Before q p)
+    go : (mid ≡ mid' → (p ≡ q) ⊎ Before p q ⊎ Before q p)
         → (number_of x ≡ number_of y) ⊎ (number_of x < number_of y) ⊎ (number_of y < number_of x)
         → (x ∷ p ≡ y ∷ q) ⊎ Before (x ∷ p) (y ∷ q) ⊎ Before (y ∷ q) (x ∷ p)
     go r (inl e) =
-        let f : x ≡ y = same_number m a x y g.0 h.0 g.2 h.2 e in
-        one f (r (one_step m a y g.0 h.0 (subst (λ (z : Step). Goes m a z g.0) f g.2) h.2))
+        let f : x ≡ y = same_number m a x y mid mid' goes goes' e in
+        one f (r (one_step m a y mid mid' (subst (λ (z : Step). Goes m a z mid) f goes) goes'))
     go r (inr (inl e)) = inr (inl (inl e))
     go r (inr (inr e)) = inr (inr (inl e))
 
@@ -112,14 +112,9 @@ Rises-same (p ∷ ps) (q ∷ qs) g h to from =
 pub Rises-distinct : (ps : List (List Step)) → Rises ps → AreDistinct ps
 Rises-distinct [] h = tt
 Rises-distinct (p ∷ ps) h = (
-  none_of ps
-      (λ q i e. Before-irreflexive p (subst (λ (v : List Step). Before p v) (sym e) (Rises-first p ps q h i))),
+  (λ i. Before-irreflexive p (Rises-first p ps p h i)),
   Rises-distinct ps (Rises-rest p ps h),
 )
-  where
-    none_of : (qs : List (List Step)) → ((q : List Step) → IsOneOf q qs → p ≢ q) → IsNoneOf p qs
-    none_of [] k = tt
-    none_of (q ∷ qs) k = (k q (inl refl), none_of qs (λ r i. k r (inr i)))
 
 -- the tour up to a path is one list
 pub one_tour : (m : List (List ℕ)) (p : List Step) (tour tour' : List (List Step)) → IsTour m p tour
@@ -129,14 +124,29 @@ one_tour m p tour tour' g h =
     (λ q i. let r = g.reached q i in h.all q r.0 r.1 r.2 r.3 (g.none_after q i))
     (λ q i. let r = h.reached q i in g.all q r.0 r.1 r.2 r.3 (h.none_after q i))
 
+-- of the paths to pointer words one is the first at which P holds
+pub one_first : (m : List (List ℕ)) (P : List Step → Type 0) (p q : List Step) (l l' s w s' w' : ℕ) → Reaches m p l s w
+    → Reaches m q l' s' w' → IsFirst P p → IsFirst P q → p ≡ q
+one_first m P p q l l' s w s' w' g h f f' =
+    elim (Before-total_coming m p q l l' (word s w) (word s' w') g h) [
+      | inl e ↦ e
+      | inr (inl b) ↦ absurd (f'.first p b f.holds)
+      | inr (inr b) ↦ absurd (f.first q b f'.holds)
+    ]
+
+-- a path reaches one pointer word, of one number
+pub one_number : (m : List (List ℕ)) (p q : List Step) (s w n s' w' n' : ℕ) → IsNumbered m p s w n
+    → IsNumbered m q s' w' n' → p ≡ q → (s ≡ s') × (w ≡ w') × (n ≡ n')
+one_number m p q s w n s' w' n' g h e =
+    let r = one_reached m p g.level h.level s w s' w' g.reached
+    (subst (λ (v : List Step). Reaches m v h.level s' w') (sym e) h.reached) in
+    let t = one_tour m p g.tour h.tour g.is_tour (subst (λ (v : List Step). IsTour m v h.tour) (sym e) h.is_tour) in
+    (r.1, r.2, g.count ∙ ap length t ∙ sym h.count)
+
 -- the first capability in preorder is one pointer word
 pub one_first_cap : (m : List (List ℕ)) (s w s' w' : ℕ) → IsFirstCap m s w → IsFirstCap m s' w' → (s ≡ s') × (w ≡ w')
-one_first_cap m s w s' w' g h = go (Before-total_coming m g.path h.path g.level h.level (word s w) (word s' w')
-    g.reached h.reached)
-  where
-    go : (g.path ≡ h.path) ⊎ Before g.path h.path ⊎ Before h.path g.path → (s ≡ s') × (w ≡ w')
-    go (inl e) =
-        let r = one_reached m h.path g.level h.level s w s' w'
-        (subst (λ (v : List Step). Reaches m v g.level s w) e g.reached) h.reached in (r.1, r.2)
-    go (inr (inl b)) = absurd (h.first g.path g.level s w g.k g.index b g.reached g.leads)
-    go (inr (inr b)) = absurd (g.first h.path h.level s' w' h.k h.index b h.reached h.leads)
+one_first_cap m s w s' w' g h =
+    let e = one_first m (ReachesCap m) g.path h.path g.level h.level s w s' w' g.reached h.reached g.first h.first in
+    let r = one_reached m g.path g.level h.level s w s' w' g.reached
+    (subst (λ (v : List Step). Reaches m v h.level s' w') (sym e) h.reached) in
+    (r.1, r.2)

@@ -9,59 +9,87 @@ use Rattle.cap_spec.proofs.Frames.Messages.{one_word}
 
 -- one step leads to one spot
 pub one_step : (m : List (List ℕ)) (a : Spot) (step : Step) (b b' : Spot) → Goes m a step b → Goes m a step b' → b ≡ b'
-one_step m (word s w) (Ptr i) x y g h =
-    let o : SameObject g.0 g.1 g.2 g.3 h.0 h.1 h.2 h.3 = one_object m s w g.0 g.1 g.2 g.3 h.0 h.1 h.2 h.3 g.4 h.4 in
-    g.7 ∙ rw (o.segment, o.start, o.shape) refl ∙ sym h.7
-one_step m (word s w) (Item i) x y (inl g) (inl h) =
-    let o : SameObject g.0 g.1 g.2 g.3 h.0 h.1 h.2 h.3 = one_object m s w g.0 g.1 g.2 g.3 h.0 h.1 h.2 h.3 g.4 h.4 in
-    g.8 ∙ rw (o.segment, o.start) refl ∙ sym h.8
-one_step m (word s w) (Item i) x y (inl g) (inr h) =
-    let o : SameObject g.0 g.1 g.2 g.3 h.0 h.1 h.2 h.3 = one_object m s w g.0 g.1 g.2 g.3 h.0 h.1 h.2 h.3 g.4 h.5 in
-    absurd (omega (arith, ap code o.shape, g.6, h.7))
+one_step m (word s w) (Ptr i) x y (k, t, b, q, finds, is_struct, less, ends) h =
+    let (k', t', b', q', finds', is_struct', less', ends') = h in
+    let o : SameObject k t b q k' t' b' q' = one_object m s w k t b q k' t' b' q' finds finds' in
+    ends ∙ rw (o.segment, o.start, o.shape) refl ∙ sym ends'
+one_step m (word s w) (Item i) x y (inl (k, t, b, q, finds, is_list, of_pointers, less, ends)) (inl h) =
+    let (k', t', b', q', finds', is_list', of_pointers', less', ends') = h in
+    let o : SameObject k t b q k' t' b' q' = one_object m s w k t b q k' t' b' q' finds finds' in
+    ends ∙ rw (o.segment, o.start) refl ∙ sym ends'
+one_step m (word s w) (Item i) x y (inl (k, t, b, q, finds, is_list, of_pointers, less, ends)) (inr h) =
+    let (k', t', b', q', tag, finds', is_list', of_structs, has_tag, less', ends') = h in
+    let o : SameObject k t b q k' t' b' q' = one_object m s w k t b q k' t' b' q' finds finds' in
+    absurd (omega (arith, ap code o.shape, of_pointers, of_structs))
 one_step m (word s w) (Item i) x y (inr g) (inl h) =
-    let o : SameObject g.0 g.1 g.2 g.3 h.0 h.1 h.2 h.3 = one_object m s w g.0 g.1 g.2 g.3 h.0 h.1 h.2 h.3 g.5 h.4 in
-    absurd (omega (arith, ap code o.shape, g.7, h.6))
+    let (k, t, b, q, tag, finds, is_list, of_structs, has_tag, less, ends) = g in
+    let (k', t', b', q', finds', is_list, of_pointers, less, ends) = h in
+    let o : SameObject k t b q k' t' b' q' = one_object m s w k t b q k' t' b' q' finds finds' in
+    absurd (omega (arith, ap code o.shape, of_structs, of_pointers))
 one_step m (word s w) (Item i) x y (inr g) (inr h) =
-    let o : SameObject g.0 g.1 g.2 g.3 h.0 h.1 h.2 h.3 = one_object m s w g.0 g.1 g.2 g.3 h.0 h.1 h.2 h.3 g.5 h.5 in
-    let e : g.4 ≡ h.4 = one_word m g.1 g.2 g.4 h.4 g.8 (rw (o.segment, o.start) h.8) in
-    g.10 ∙ rw (o.segment, o.start, e) refl ∙ sym h.10
+    let (k, t, b, q, tag, finds, is_list, of_structs, has_tag, less, ends) = g in
+    let (k', t', b', q', tag', finds', is_list, of_structs, has_tag', less, ends') = h in
+    let o : SameObject k t b q k' t' b' q' = one_object m s w k t b q k' t' b' q' finds finds' in
+    let e : tag ≡ tag' = one_word m t b tag tag' has_tag (rw (o.segment, o.start) has_tag') in
+    ends ∙ rw (o.segment, o.start, e) refl ∙ sym ends'
 one_step m (element t b ds ps) (Ptr i) x y g h = g.1 ∙ sym h.1
 one_step m (element t b ds ps) (Item i) x y g h = absurd g
 
 -- from one spot no step by a struct's pointer and a step by a list's element
 pub one_kind_of_step : (m : List (List ℕ)) (a : Spot) (i j : ℕ) (b b' : Spot) → Goes m a (Ptr i) b
     → Goes m a (Item j) b' → ⊥
-one_kind_of_step m (word s w) i j x y g (inl h) =
-    let o : SameObject g.0 g.1 g.2 g.3 h.0 h.1 h.2 h.3 = one_object m s w g.0 g.1 g.2 g.3 h.0 h.1 h.2 h.3 g.4 h.4 in
-    omega (arith, ap kind o.shape, g.5, h.5)
-one_kind_of_step m (word s w) i j x y g (inr h) =
-    let o : SameObject g.0 g.1 g.2 g.3 h.0 h.1 h.2 h.3 = one_object m s w g.0 g.1 g.2 g.3 h.0 h.1 h.2 h.3 g.4 h.5 in
-    omega (arith, ap kind o.shape, g.5, h.6)
+one_kind_of_step m (word s w) i j x y (k, t, b, q, finds, is_struct, less, ends) (inl h) =
+    let (k', t', b', q', finds', is_list, of_pointers, less', ends') = h in
+    let o : SameObject k t b q k' t' b' q' = one_object m s w k t b q k' t' b' q' finds finds' in
+    omega (arith, ap kind o.shape, is_struct, is_list)
+one_kind_of_step m (word s w) i j x y (k, t, b, q, finds, is_struct, less, ends) (inr h) =
+    let (k', t', b', q', tag, finds', is_list, of_structs, has_tag, less', ends') = h in
+    let o : SameObject k t b q k' t' b' q' = one_object m s w k t b q k' t' b' q' finds finds' in
+    omega (arith, ap kind o.shape, is_struct, is_list)
 one_kind_of_step m (element t b ds ps) i j x y g h = h
 
 -- a path from one spot leads to one spot, by one number of levels
 pub one_walk : (m : List (List ℕ)) (a : Spot) (path : List Step) (n n' : ℕ) (b b' : Spot) → Walks m a path n b
     → Walks m a path n' b' → (n ≡ n') × (b ≡ b')
 one_walk m a [] n n' x y g h = (g.0 ∙ sym h.0, g.1 ∙ sym h.1)
-one_walk m a (step ∷ path) n n' x y g h =
-    let e : g.0 ≡ h.0 = one_step m a step g.0 h.0 g.2 h.2 in
-    let r = one_walk m g.0 path g.1 h.1 x y g.3 (rw e h.3) in
-    (omega (arith, r.0, ap level_of e, g.4, h.4), r.1)
+one_walk m a (step ∷ path) n n' x y (mid, below, goes, walks, level) h =
+    let (mid', below', goes', walks', level') = h in
+    let e : mid ≡ mid' = one_step m a step mid mid' goes goes' in
+    let r = one_walk m mid path below below' x y walks (rw e walks') in
+    (omega (arith, r.0, ap level_of e, level, level'), r.1)
 
 -- a longer path goes on from where its beginning leads
 pub walk_on : (m : List (List ℕ)) (a b c : Spot) (p q : List Step) (n n' : ℕ) → Walks m a p n b → Walks m b q n' c
     → Walks m a (p ++ q) (n + n') c
 walk_on m a b c [] q n n' g h = subst (λ x. Walks m x q (n + n') c) g.1
     (subst (λ k. Walks m b q k c) (omega (arith, g.0)) h)
-walk_on m a b c (step ∷ p) q n n' g h = (g.0, g.1 + n', g.2, walk_on m g.0 b c p q g.1 n' g.3 h, omega (arith, g.4))
+walk_on m a b c (step ∷ p) q n n' (mid, below, goes, walks, level) h =
+    (mid, below + n', goes, walk_on m mid b c p q below n' walks h, omega (arith, level))
+
+-- a walk in two parts, with the spot between them and the levels of each
+record WalkParts (m : List (List ℕ)) (a c : Spot) (p q : List Step) (n : ℕ) : Type 0 where
+  mid : Spot
+  above : ℕ
+  below : ℕ
+  first : Walks m a p above mid
+  second : Walks m mid q below c
+  levels : n ≡ above + below
 
 -- and each beginning of a path leads somewhere
-pub walk_parts : (m : List (List ℕ)) (a c : Spot) (p q : List Step) (n : ℕ) → Walks m a (p ++ q) n c
-    → (b : Spot) × (n1 n2 : ℕ) × Walks m a p n1 b × Walks m b q n2 c × (n ≡ n1 + n2)
-walk_parts m a c [] q n h = (a, 0, n, (refl, refl), h, omega arith)
-walk_parts m a c (step ∷ p) q n h =
-    let r = walk_parts m h.0 c p q h.1 h.3 in
-    (r.0, level_of h.0 + r.1, r.2, (h.0, r.1, h.2, r.3, refl), r.4, omega (arith, h.4, r.5))
+walk_parts : (m : List (List ℕ)) (a c : Spot) (p q : List Step) (n : ℕ) → Walks m a (p ++ q) n c
+    → WalkParts m a c p q n
+walk_parts m a c [] q n h =
+    record { mid = a; above = 0; below = n; first = (refl, refl); second = h; levels = omega arith }
+walk_parts m a c (step ∷ p) q n (mid, below, goes, walks, level) =
+    let r : WalkParts m mid c p q below = walk_parts m mid c p q below walks in
+    record {
+      mid = r.mid;
+      above = level_of mid + r.above;
+      below = r.below;
+      first = (mid, r.above, goes, r.first, refl);
+      second = r.second;
+      levels = omega (arith, level, r.levels);
+    }
 
 -- one more step, at the end
 pub walk_last : (m : List (List ℕ)) (a c : Spot) (p : List Step) (step : Step) (n : ℕ)
@@ -72,14 +100,14 @@ walk_last m a c p step n = (to, from)
     to : Walks m a (p ++ step ∷ []) n c → (b : Spot) × (n' : ℕ) × Walks m a p n' b × Goes m b step c
         × (n ≡ n' + level_of c)
     to h =
-        let r = walk_parts m a c p (step ∷ []) n h in
-        let g = r.4 in
-        let e : c ≡ g.0 = g.3.1 in (
-          r.0,
-          r.1,
-          r.3,
-          subst (λ (x : Spot). Goes m r.0 step x) (sym e) g.2,
-          omega (arith, r.5, g.4, g.3.0, ap level_of e),
+        let r : WalkParts m a c p (step ∷ []) n = walk_parts m a c p (step ∷ []) n h in
+        let (spot, below, goes, walks, level) = r.second in
+        let e : c ≡ spot = walks.1 in (
+          r.mid,
+          r.above,
+          r.first,
+          subst (λ (x : Spot). Goes m r.mid step x) (sym e) goes,
+          omega (arith, r.levels, level, walks.0, ap level_of e),
         )
 
     from : (b : Spot) × (n' : ℕ) × Walks m a p n' b × Goes m b step c × (n ≡ n' + level_of c)
@@ -92,6 +120,14 @@ pub one_coming : (m : List (List ℕ)) (path : List Step) (l l' : ℕ) (a b : Sp
     → (l ≡ l') × (a ≡ b)
 one_coming m path l l' a b g h =
     let r = one_walk m (word 0 0) path g.1 h.1 a b g.3 h.3 in (omega (arith, g.4, h.4, r.0), r.1)
+
+-- a longer path goes on from the spot to which its beginning comes
+pub comes_beyond : (m : List (List ℕ)) (done on : List Step) (level level' : ℕ) (a b : Spot) → Comes m done level a
+    → Comes m (done ++ on) level' b → (n : ℕ) × Walks m a on n b
+comes_beyond m done on level level' a b (root, n, has, walks, e) (root', n', has', walks', e') =
+    let p : WalkParts m (word 0 0) b done on n' = walk_parts m (word 0 0) b done on n' walks' in
+    let same : p.mid ≡ a = (one_walk m (word 0 0) done p.above n p.mid a p.first walks).1 in
+    (p.below, subst (λ (x : Spot). Walks m x on p.below b) same p.second)
 
 -- and reaches one pointer word
 pub one_reached : (m : List (List ℕ)) (path : List Step) (l l' s w s' w' : ℕ) → Reaches m path l s w

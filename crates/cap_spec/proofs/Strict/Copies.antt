@@ -36,14 +36,16 @@ copy_strict m words limit depth k few within shallow =
     subst (λ ws. Denotes (ws ∷ []) 0 0 (trim k.tree) (cost (trim k.tree)) (height (trim k.tree))) (sym k.laid) i in
     let j : height (trim k.tree) ≡ k.depth = b.deep ∙ a.deep in
     record {
-      accepted = record {
-        tree = trim k.tree;
-        charge = cost (trim k.tree);
-        levels = height (trim k.tree);
-        denotes = h;
-        few_words = omega (arith, a.charged, b.charged, within);
-        few_levels = omega (arith, j, shallow);
-      };
+      accepted = (
+        trim k.tree,
+        cost (trim k.tree),
+        height (trim k.tree),
+        record {
+          denotes = h;
+          few_words = omega (arith, a.charged, b.charged, within);
+          few_levels = omega (arith, j, shallow);
+        },
+      );
       few_segments = omega arith;
       none = none_lax (words ∷ []) (trim k.tree) (cost (trim k.tree)) (height (trim k.tree)) h (omega arith);
     }

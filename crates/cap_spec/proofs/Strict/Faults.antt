@@ -3,31 +3,24 @@ use Rattle.std.proofs.Common.{ℕ, ◌≤◌, ◌≡◌, ◌⊎◌, List, length
 use Rattle.std.proofs.Props.{props}
 use Rattle.std.proofs.Math.Logic.{∥∥₁_elim}
 use Rattle.std.proofs.lemmas.Bool.{cases_lt}
-use Rattle.cap_spec.specs.Faults.{IsRefused}
-use Rattle.cap_spec.specs.Strict.{IsLax, IsStrict, IsStrictFault, IsWithin}
+use Rattle.cap_spec.specs.Accepting.{IsWithin}
+use Rattle.cap_spec.specs.Strict.{IsLax, IsStrict, IsStrictFault}
 use Rattle.cap_spec.specs.declared.Lax.{Lax}
-use Rattle.cap_spec.specs.declared.Refusal.{Refusal}
 use Rattle.cap_spec.specs.declared.Step.{Step}
 use Rattle.cap_spec.specs.declared.StrictRefusal.{StrictRefusal}
 use Rattle.cap_spec.specs.declared.StrictRefusal.TheVariants.{Refused, ManySegments, Pointer}
 use Rattle.cap_spec.proofs.Verdicts.OneFault.{one_refusal}
-use Rattle.cap_spec.proofs.Verdicts.Refusals.{tree_not_refused}
-use Rattle.cap_spec.proofs.Strict.FirstLax.{first_is_lax, first_lax_or_none, one_first_lax}
-
--- an accepted message isn't refused
-pub within_not_refused : (m : List (List ℕ)) (words depth : ℕ) (refusal : Refusal) → IsWithin m words depth
-    → ¬ IsRefused m words depth refusal
-within_not_refused m words depth refusal a h =
-    tree_not_refused m a.tree a.charge a.levels words depth refusal a.denotes a.few_words a.few_levels h
+use Rattle.cap_spec.proofs.Verdicts.Refusals.{within_not_refused}
+use Rattle.cap_spec.proofs.Strict.FirstLax.{first_lax_or_none, one_first_lax}
 
 -- An accepted message is strict, or has a fault.
 pub strict_or_fault : (m : List (List ℕ)) (words depth : ℕ) → IsWithin m words depth → length m ≤ 512
     → IsStrict m words depth ⊎ ((fault : StrictRefusal) × IsStrictFault m words depth fault)
-strict_or_fault m words depth a few = elim (cases_lt 511 (length m)) [
-  | inl many ↦ inr (ManySegments, (a, omega (arith, many, few)))
-  | inr fits ↦ elim (first_lax_or_none m a.tree a.charge a.levels a.denotes) [
-    | inl (s, w, what, pointers, first) ↦ inr (Pointer what s w pointers, (a, fits, first))
-    | inr none ↦ inl (record { accepted = a; few_segments = fits; none = none })
+strict_or_fault m words depth (t, c, d, a) few = elim (cases_lt 511 (length m)) [
+  | inl many ↦ inr (ManySegments, ((t, c, d, a), omega (arith, many, few)))
+  | inr fits ↦ elim (first_lax_or_none m t c d a.denotes) [
+    | inl (s, w, what, pointers, first) ↦ inr (Pointer what s w pointers, ((t, c, d, a), fits, first))
+    | inr none ↦ inl (record { accepted = (t, c, d, a); few_segments = fits; none = none })
   ]
 ]
 
@@ -36,7 +29,7 @@ pub strict_not_fault : (m : List (List ℕ)) (words depth : ℕ) (fault : Strict
     → ¬ IsStrictFault m words depth fault
 strict_not_fault m words depth (Refused refusal) h f = within_not_refused m words depth refusal h.accepted f
 strict_not_fault m words depth ManySegments h f = absurd (omega (arith, h.few_segments, f.1))
-strict_not_fault m words depth (Pointer what s w pointers) h f = h.none f.2.path (first_is_lax m s w what pointers f.2)
+strict_not_fault m words depth (Pointer what s w pointers) h f = h.none f.2.path f.2.first.holds
 
 -- faults of equal parts are equal
 pub same_pointer : (u v : Lax) (s w n s' w' n' : ℕ) → s ≡ s' → w ≡ w' → u ≡ v → n ≡ n'
@@ -58,18 +51,25 @@ one_strict_fault m words depth (Pointer u s w n) (Pointer v s' w' n') h k =
     let e = one_first_lax m s w u n s' w' v n' h.2 k.2 in
     same_pointer u v s w n s' w' n' e.0 e.1 e.2 e.3
 
--- What is strict within limits is strict within wider ones.
+-- What is accepted within limits is accepted within wider ones,
+pub within_wider : (m : List (List ℕ)) (words depth words' depth' : ℕ) → IsWithin m words depth → words ≤ words'
+    → depth ≤ depth' → IsWithin m words' depth'
+within_wider m words depth words' depth' (t, c, n, a) w d = (
+  t,
+  c,
+  n,
+  record {
+    denotes = a.denotes;
+    few_words = omega (arith, a.few_words, w);
+    few_levels = omega (arith, a.few_levels, d);
+  },
+)
+
+-- and strict where it is strict.
 pub strict_wider : (m : List (List ℕ)) (words depth words' depth' : ℕ) → IsStrict m words depth → words ≤ words'
     → depth ≤ depth' → IsStrict m words' depth'
 strict_wider m words depth words' depth' h w d = record {
-  accepted = record {
-    tree = h.accepted.tree;
-    charge = h.accepted.charge;
-    levels = h.accepted.levels;
-    denotes = h.accepted.denotes;
-    few_words = omega (arith, h.accepted.few_words, w);
-    few_levels = omega (arith, h.accepted.few_levels, d);
-  };
+  accepted = within_wider m words depth words' depth' h.accepted w d;
   few_segments = h.few_segments;
   none = h.none;
 }

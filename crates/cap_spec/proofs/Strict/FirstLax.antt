@@ -1,8 +1,9 @@
 -- Of the pointers of a tree one is the first that common readers reject, or none is such a pointer.
-use Rattle.std.proofs.Common.{ℕ, ◌≡◌, ◌⊎◌, List, [], ◌∷◌, ◌++◌, length, inl, inr, refl, sym, ap, subst, ◌∙◌, false}
+use Rattle.std.proofs.Common.{ℕ, ◌≡◌, ◌⊎◌, List, [], ◌∷◌, ◌++◌, length, inl, inr, refl, sym, ap, subst, false}
+use Rattle.cap_spec.specs.Lists.{IsOneOf}
 use Rattle.cap_spec.specs.Tree.{Tree}
 use Rattle.cap_spec.specs.Denoting.{Denotes}
-use Rattle.cap_spec.specs.Paths.{Before, IsOneOf, IsTour, Reaches, Rises, word}
+use Rattle.cap_spec.specs.Paths.{Before, IsTour, Reaches, Rises, word}
 use Rattle.cap_spec.specs.Strict.{IsFirstLax, IsLax, IsLaxAt}
 use Rattle.cap_spec.specs.declared.Lax.{Lax}
 use Rattle.cap_spec.specs.declared.Step.{Step}
@@ -10,8 +11,8 @@ use Rattle.cap_spec.proofs.Trees.OneTree.{Formed, formed}
 use Rattle.cap_spec.proofs.Paths.Arrivals.{coming_to_node, lead_word}
 use Rattle.cap_spec.proofs.Paths.PathCounts.{pointer_paths, pointer_path_reached}
 use Rattle.cap_spec.proofs.Paths.PathLists.{is_pointer, listed_rise}
-use Rattle.cap_spec.proofs.Paths.Preorder.{Before-asymmetric, Before-irreflexive, Before-total_coming}
-use Rattle.cap_spec.proofs.Paths.Preorder.{Rises-first, Rises-rest, one_tour}
+use Rattle.cap_spec.proofs.Paths.Preorder.{Before-asymmetric, Before-irreflexive}
+use Rattle.cap_spec.proofs.Paths.Preorder.{Rises-first, Rises-rest, one_first, one_number}
 use Rattle.cap_spec.proofs.Paths.Walks.{one_reached}
 use Rattle.cap_spec.proofs.Verdicts.OneFault.{one_of_last}
 use Rattle.cap_spec.proofs.Strict.LaxForms.{lax_decided, one_lax}
@@ -101,13 +102,12 @@ pub first_by_tour : (m : List (List ℕ)) (path : List Step) (level s w : ℕ) (
     → IsFirstLax m s w what (length tour)
 first_by_tour m path level s w what tour reached is_tour lax none = record {
   path = path;
-  level = level;
-  tour = tour;
-  reached = reached;
-  is_tour = is_tour;
-  number = refl;
+  numbered = record { level = level; tour = tour; reached = reached; is_tour = is_tour; count = refl };
   lax = lax;
-  first = λ other b x. none other (is_tour.all other x.0 x.1 x.2 x.4 (inr b)) b x;
+  first = record {
+    holds = (level, s, w, what, reached, lax);
+    first = λ other b x. none other (is_tour.all other x.0 x.1 x.2 x.4 (inr b)) b x;
+  };
 }
 
 -- The root denotes a tree.
@@ -130,12 +130,12 @@ module _ (m : List (List ℕ)) (t : Tree) (c d : ℕ) (denotes : Denotes m 0 0 t
   first_of_tree : FirstOf (IsLax m) (pointer_paths t)
       → (s w : ℕ) × (what : Lax) × (pointers : ℕ) × IsFirstLax m s w what pointers
   first_of_tree f =
-      let l = f.holds in (
-        l.1,
-        l.2,
-        l.3,
+      let (level, s, w, what, reached, lax) = f.holds in (
+        s,
+        w,
+        what,
         length (f.before ++ f.path ∷ []),
-        first_by_tour m f.path l.0 l.1 l.2 l.3 (f.before ++ f.path ∷ []) l.4 is_tour l.5 none_before,
+        first_by_tour m f.path level s w what (f.before ++ f.path ∷ []) reached is_tour lax none_before,
       )
     where
       rises : Rises (f.before ++ f.path ∷ f.after)
@@ -185,22 +185,8 @@ pub one_first_lax : (m : List (List ℕ)) (s w : ℕ) (u : Lax) (n s' w' : ℕ) 
     → IsFirstLax m s' w' v n'
     → (s ≡ s') × (w ≡ w') × (u ≡ v) × (n ≡ n')
 one_first_lax m s w u n s' w' v n' f g =
-    elim (Before-total_coming m f.path g.path f.level g.level (word s w) (word s' w') f.reached g.reached) [
-      | inl e ↦
-          let r = one_reached m f.path f.level g.level s w s' w' f.reached
-          (subst (λ (x : List Step). Reaches m x g.level s' w') (sym e) g.reached) in
-          let x : IsLaxAt m s w v = subst (λ y. IsLaxAt m s y v) (sym r.2)
-          (subst (λ y. IsLaxAt m y w' v) (sym r.1) g.lax) in (
-            r.1,
-            r.2,
-            one_lax m s w u v f.lax x,
-            f.number ∙ ap length (one_tour m f.path f.tour g.tour f.is_tour
-                (subst (λ (y : List Step). IsTour m y g.tour) (sym e) g.is_tour)) ∙ sym g.number,
-          )
-      | inr (inl b) ↦ absurd (g.first f.path b (f.level, s, w, u, f.reached, f.lax))
-      | inr (inr b) ↦ absurd (f.first g.path b (g.level, s', w', v, g.reached, g.lax))
-    ]
-
--- The first is one of them.
-pub first_is_lax : (m : List (List ℕ)) (s w : ℕ) (what : Lax) (n : ℕ) → (f : IsFirstLax m s w what n) → IsLax m f.path
-first_is_lax m s w what n f = (f.level, s, w, what, f.reached, f.lax)
+    let e = one_first m (IsLax m) f.path g.path f.numbered.level g.numbered.level s w s' w' f.numbered.reached
+    g.numbered.reached f.first g.first in
+    let (x, y, z) = one_number m f.path g.path s w n s' w' n' f.numbered g.numbered e in
+    let lax : IsLaxAt m s w v = subst (λ i. IsLaxAt m s i v) (sym y) (subst (λ i. IsLaxAt m i w' v) (sym x) g.lax) in
+    (x, y, one_lax m s w u v f.lax lax, z)

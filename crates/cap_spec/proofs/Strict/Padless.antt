@@ -89,29 +89,29 @@ pub own_padless : (m : List (List ℕ)) (s w : ℕ) (t : Tree) (c d k : ℕ) (r 
     → Leads m s w k r → k ≡ 0
 own_padless m s w null c d k r h le l = omega (arith, le, one_lead m s w c k to_null r h.0 l)
 own_padless m s w (cap i) c d k r h le l = omega (arith, le, one_lead m s w c k (to_cap i) r h.0 l)
-own_padless m s w (struct words ts) c d k r h le l =
+own_padless m s w (struct words ts) c d k r (k', t, b, q, inner, deep, found, each) le l =
     omega (
       arith,
-      one_lead m s w h.0 k (to_object h.1 (pos h.2) h.3) r h.6.finds.leads l,
-      struct_tight m s w words ts h.0 h.1 h.2 h.3 h.4 h.5 c d h.6 h.7 le,
+      one_lead m s w k' k (to_object t (pos b) q) r found.finds.leads l,
+      struct_tight m s w words ts k' t b q inner deep c d found each le,
     )
-own_padless m s w (scalars e vs) c d k r h le l =
-    let f = h.4 in
-    let n : length vs ≡ list_size h.3 = ap length f.elements ∙ length-values m h.1 h.2 e (list_size h.3) in
-    let x = extent_scalars h.3 e f.kind f.code f.scalar ∙ ap (list_words e) (sym n) in
-    let y = extra_scalars h.3 e f.kind f.code f.scalar ∙ ap (idle e) (sym n) in
-    let z : h.0 ≡ 0 = no_pads_scalars h.0 (extent h.3) (extra h.3 0) (list_words e (length vs)) (idle e (length vs))
+own_padless m s w (scalars e vs) c d k r (k', t, b, q, found) le l =
+    let f = found in
+    let n : length vs ≡ list_size q = ap length f.elements ∙ length-values m t b e (list_size q) in
+    let x = extent_scalars q e f.kind f.code f.scalar ∙ ap (list_words e) (sym n) in
+    let y = extra_scalars q e f.kind f.code f.scalar ∙ ap (idle e) (sym n) in
+    let z : k' ≡ 0 = no_pads_scalars k' (extent q) (extra q 0) (list_words e (length vs)) (idle e (length vs))
     c f.charge x y le in
-    omega (arith, one_lead m s w h.0 k (to_object h.1 (pos h.2) h.3) r f.finds.leads l, z)
-own_padless m s w (pointers ts) c d k r h le l =
+    omega (arith, one_lead m s w k' k (to_object t (pos b) q) r f.finds.leads l, z)
+own_padless m s w (pointers ts) c d k r (k', t, b, q, inner, deep, found, each) le l =
     omega (
       arith,
-      one_lead m s w h.0 k (to_object h.1 (pos h.2) h.3) r h.6.finds.leads l,
-      pointers_tight m s w ts h.0 h.1 h.2 h.3 h.4 h.5 c d h.6 h.7 le,
+      one_lead m s w k' k (to_object t (pos b) q) r found.finds.leads l,
+      pointers_tight m s w ts k' t b q inner deep c d found each le,
     )
-own_padless m s w (structs ds ps es) c d k r h le l =
-    let a = structs_tight m s w ds ps es h.0 h.1 h.2 h.3 h.4 h.5 h.6 c d h.7 h.8 le in
-    omega (arith, one_lead m s w h.0 k (to_object h.1 (pos h.2) h.3) r h.7.finds.leads l, a)
+own_padless m s w (structs ds ps es) c d k r (k', t, b, q, tag, inner, deep, found, each) le l =
+    let a = structs_tight m s w ds ps es k' t b q tag inner deep c d found each le in
+    omega (arith, one_lead m s w k' k (to_object t (pos b) q) r found.finds.leads l, a)
 
 -- a word of a row, where the row is charged no more than its cost
 each_tight : (m : List (List ℕ)) (t b n : ℕ) (ts : Trees) (c d i x : ℕ) → DenoteEach m (places t b n) ts c d
@@ -121,21 +121,23 @@ each_tight m t b zero none c d i x h le lt e = absurd (omega arith)
 each_tight m t b (suc n) none c d i x h le lt e = absurd (cc h.0)
 each_tight m t b zero (more u ts) c d i x h le lt e = absurd (omega arith)
 each_tight m t b (suc n) (more u ts) c d zero x h le lt e =
-    let p = cons_parts (t, b) (h.0, h.1) (places t (b + 1) n) h.2 h.7 in
+    let (s, w, rest, c1, d1, c2, d2, begins, denotes, after, charge, depth) = h in
+    let p = cons_parts (t, b) (s, w) (places t (b + 1) n) rest begins in
     let f : x ≡ b = omega arith in
-    let a = each_measured m h.2 ts h.5 h.6 h.9 in (
+    let a = each_measured m rest ts c2 d2 after in (
       u,
       (
-        h.3,
-        h.4,
-        rw f (subst (λ (y : ℕ × ℕ). Denotes m y.0 y.1 u h.3 h.4) (sym p.0) h.8),
-        omega (arith, h.10, le, a.charged),
+        c1,
+        d1,
+        rw f (subst (λ (y : ℕ × ℕ). Denotes m y.0 y.1 u c1 d1) (sym p.0) denotes),
+        omega (arith, charge, le, a.charged),
       ),
     )
 each_tight m t b (suc n) (more u ts) c d (suc i) x h le lt e =
-    let p = cons_parts (t, b) (h.0, h.1) (places t (b + 1) n) h.2 h.7 in
-    let a = measured m h.0 h.1 u h.3 h.4 h.8 in
-    each_tight m t (b + 1) n ts h.5 h.6 i x (rw p.1 h.9) (omega (arith, h.10, le, a.charged))
+    let (s, w, rest, c1, d1, c2, d2, begins, denotes, after, charge, depth) = h in
+    let p = cons_parts (t, b) (s, w) (places t (b + 1) n) rest begins in
+    let a = measured m s w u c1 d1 denotes in
+    each_tight m t (b + 1) n ts c2 d2 i x (rw p.1 after) (omega (arith, charge, le, a.charged))
     (omega arith) (omega arith)
 
 -- the elements after the first lie inside too
@@ -152,25 +154,27 @@ elements_tight : (m : List (List ℕ)) (t b ds ps n : ℕ) (es : Trees) (c d i x
     → (u : Tree) × Tight m (element t x ds ps) u
 elements_tight m t b ds ps n none c d i x inside h le lt e = absurd (omega (arith, h.0))
 elements_tight m t b ds ps n (more (struct ws ts) es) c d zero x inside h le lt e =
+    let (fewer, c1, d1, c2, d2, counted, own, each, after, charge, depth) = h in
     let f : x ≡ b = omega arith in
-    let later = elements_measured m t (b + ds + ps) ds ps h.0 es h.3 h.4
-    (elements_after b ds ps n h.0 (length (segment_of m t)) inside h.5) h.8 in
-    (struct ws ts, (h.1, h.2, rw f h.7, omega (arith, h.9, le, later.charged)))
+    let later = elements_measured m t (b + ds + ps) ds ps fewer es c2 d2
+    (elements_after b ds ps n fewer (length (segment_of m t)) inside counted) after in
+    (struct ws ts, (c1, d1, rw f each, omega (arith, charge, le, later.charged)))
 elements_tight m t b ds ps n (more (struct ws ts) es) c d (suc i) x inside h le lt e =
-    let own = each_measured m (places t (b + ds) ps) ts h.1 h.2 h.7 in
-    elements_tight m t (b + ds + ps) ds ps h.0 es h.3 h.4 i x
-    (elements_after b ds ps n h.0 (length (segment_of m t)) inside h.5) h.8
-    (omega (arith, h.9, le, own.charged)) (omega (arith, lt, h.5)) (omega (arith, e))
+    let (fewer, c1, d1, c2, d2, counted, own', each, after, charge, depth) = h in
+    let own = each_measured m (places t (b + ds) ps) ts c1 d1 each in
+    elements_tight m t (b + ds + ps) ds ps fewer es c2 d2 i x
+    (elements_after b ds ps n fewer (length (segment_of m t)) inside counted) after
+    (omega (arith, charge, le, own.charged)) (omega (arith, lt, counted)) (omega (arith, e))
 elements_tight m t b ds ps n (more y es) c d i x inside h le lt e = absurd h
 
 -- a step from a word to a struct's pointer, to an entry of a list of pointers, and to an element
 to_pointer : (m : List (List ℕ)) (s w : ℕ) (x : Tree) (c d k t b q i : ℕ) → Denotes m s w x c d → c ≤ cost x
     → Finds m s w k t b q
     → kind q ≡ 0 → i < pointer_size q → (u : Tree) × Tight m (word t (b + data_size q + i)) u
-to_pointer m s w (struct ws ts) c d k t b q i h le f e lt =
-    let o : SameObject k t b q h.0 h.1 h.2 h.3 = one_object m s w k t b q h.0 h.1 h.2 h.3 f h.6.finds in
-    let a = struct_tight m s w ws ts h.0 h.1 h.2 h.3 h.4 h.5 c d h.6 h.7 le in
-    let r = each_tight m h.1 (h.2 + data_size h.3) (pointer_size h.3) ts h.4 h.5 i (b + data_size q + i) h.7 a.1
+to_pointer m s w (struct ws ts) c d k t b q i (k', t', b', q', inner, deep, found, each) le f e lt =
+    let o : SameObject k t b q k' t' b' q' = one_object m s w k t b q k' t' b' q' f found.finds in
+    let a = struct_tight m s w ws ts k' t' b' q' inner deep c d found each le in
+    let r = each_tight m t' (b' + data_size q') (pointer_size q') ts inner deep i (b + data_size q + i) each a.1
     (rw (← o.shape) lt) (rw (o.start, o.shape) refl) in
     (r.0, subst (λ (y : ℕ). Tight m (word y (b + data_size q + i)) r.0) (sym o.segment) r.1)
 to_pointer m s w x c d k t b q i h le f e lt =
@@ -179,10 +183,10 @@ to_pointer m s w x c d k t b q i h le f e lt =
 to_entry : (m : List (List ℕ)) (s w : ℕ) (x : Tree) (c d k t b q i : ℕ) → Denotes m s w x c d → c ≤ cost x
     → Finds m s w k t b q
     → kind q ≡ 1 → code q ≡ 6 → i < list_size q → (u : Tree) × Tight m (word t (b + i)) u
-to_entry m s w (pointers ts) c d k t b q i h le f e g lt =
-    let o : SameObject k t b q h.0 h.1 h.2 h.3 = one_object m s w k t b q h.0 h.1 h.2 h.3 f h.6.finds in
-    let a = pointers_tight m s w ts h.0 h.1 h.2 h.3 h.4 h.5 c d h.6 h.7 le in
-    let r = each_tight m h.1 h.2 (list_size h.3) ts h.4 h.5 i (b + i) h.7 a.1 (rw (← o.shape) lt) (rw o.start refl) in
+to_entry m s w (pointers ts) c d k t b q i (k', t', b', q', inner, deep, found, each) le f e g lt =
+    let o : SameObject k t b q k' t' b' q' = one_object m s w k t b q k' t' b' q' f found.finds in
+    let a = pointers_tight m s w ts k' t' b' q' inner deep c d found each le in
+    let r = each_tight m t' b' (list_size q') ts inner deep i (b + i) each a.1 (rw (← o.shape) lt) (rw o.start refl) in
     (r.0, subst (λ (y : ℕ). Tight m (word y (b + i)) r.0) (sym o.segment) r.1)
 to_entry m s w x c d k t b q i h le f e g lt =
     absurd (omega (arith, number_list (kind q) (code q) e, g, found_form m s w x c d k t b q h f))
@@ -198,17 +202,18 @@ to_element : (m : List (List ℕ)) (s w : ℕ) (x : Tree) (c d k t b q tag i : �
     → (u : Tree) × Tight m (element t (b + 1 + i * (data_size tag + pointer_size tag)) (data_size tag)
     (pointer_size tag)) u
 to_element m s w (structs ds ps es) c d k t b q tag i h le f e g y lt =
-    let o : SameObject k t b q h.0 h.1 h.2 h.3 = one_object m s w k t b q h.0 h.1 h.2 h.3 f h.7.finds in
-    let z : tag ≡ h.4 = one_word m t b tag h.4 y (rw (o.segment, o.start) h.7.has_tag) in
-    let a = structs_tight m s w ds ps es h.0 h.1 h.2 h.3 h.4 h.5 h.6 c d h.7 h.8 le in
-    let r = elements_tight m h.1 (h.2 + 1) ds ps (middle h.4) es h.5 h.6 i
+    let (k', t', b', q', tag', inner, deep, found, each) = h in
+    let o : SameObject k t b q k' t' b' q' = one_object m s w k t b q k' t' b' q' f found.finds in
+    let z : tag ≡ tag' = one_word m t b tag tag' y (rw (o.segment, o.start) found.has_tag) in
+    let a = structs_tight m s w ds ps es k' t' b' q' tag' inner deep c d found each le in
+    let r = elements_tight m t' (b' + 1) ds ps (middle tag') es inner deep i
     (b + 1 + i * (data_size tag + pointer_size tag))
-    (elements_inside m s w ds ps h.0 h.1 h.2 h.3 h.4 h.5 h.6 c d h.7) h.8 a.1 (rw (← z) lt)
-    (rw (o.start, z, h.7.data_sizes, h.7.pointer_sizes) refl) in
-    let y1 : ds ≡ data_size tag = h.7.data_sizes ∙ ap data_size (sym z) in
-    let y2 : ps ≡ pointer_size tag = h.7.pointer_sizes ∙ ap pointer_size (sym z) in (
+    (elements_inside m s w ds ps k' t' b' q' tag' inner deep c d found) each a.1 (rw (← z) lt)
+    (rw (o.start, z, found.data_sizes, found.pointer_sizes) refl) in
+    let y1 : ds ≡ data_size tag = found.data_sizes ∙ ap data_size (sym z) in
+    let y2 : ps ≡ pointer_size tag = found.pointer_sizes ∙ ap pointer_size (sym z) in (
       r.0,
-      tight_moved m h.1 t (b + 1 + i * (data_size tag + pointer_size tag)) ds (data_size tag) ps (pointer_size tag)
+      tight_moved m t' t (b + 1 + i * (data_size tag + pointer_size tag)) ds (data_size tag) ps (pointer_size tag)
           r.0 (sym o.segment) y1 y2 r.1,
     )
 to_element m s w x c d k t b q tag i h le f e g y lt =
@@ -217,15 +222,16 @@ to_element m s w x c d k t b q tag i h le f e g y lt =
 -- a step from a spot that is charged no more than its cost leads to another one
 step_tight : (m : List (List ℕ)) (a : Spot) (step : Step) (b : Spot) (x : Tree) → Tight m a x → Goes m a step b
     → (u : Tree) × Tight m b u
-step_tight m (word s w) (Ptr i) b x h g =
-    let r = to_pointer m s w x h.0 h.1 g.0 g.1 g.2 g.3 i h.2 h.3 g.4 g.5 g.6 in
-    (r.0, subst (λ (y : Spot). Tight m y r.0) (sym g.7) r.1)
-step_tight m (word s w) (Item i) b x h (inl g) =
-    let r = to_entry m s w x h.0 h.1 g.0 g.1 g.2 g.3 i h.2 h.3 g.4 g.5 g.6 g.7 in
-    (r.0, subst (λ (y : Spot). Tight m y r.0) (sym g.8) r.1)
+step_tight m (word s w) (Ptr i) b x h (k, t, b', q, finds, is_struct, less, ends) =
+    let r = to_pointer m s w x h.0 h.1 k t b' q i h.2 h.3 finds is_struct less in
+    (r.0, subst (λ (y : Spot). Tight m y r.0) (sym ends) r.1)
+step_tight m (word s w) (Item i) b x h (inl (k, t, b', q, finds, is_list, of_pointers, less, ends)) =
+    let r = to_entry m s w x h.0 h.1 k t b' q i h.2 h.3 finds is_list of_pointers less in
+    (r.0, subst (λ (y : Spot). Tight m y r.0) (sym ends) r.1)
 step_tight m (word s w) (Item i) b x h (inr g) =
-    let r = to_element m s w x h.0 h.1 g.0 g.1 g.2 g.3 g.4 i h.2 h.3 g.5 g.6 g.7 g.8 g.9 in
-    (r.0, subst (λ (y : Spot). Tight m y r.0) (sym g.10) r.1)
+    let (k, t, b', q, tag, finds, is_list, of_structs, has_tag, less, ends) = g in
+    let r = to_element m s w x h.0 h.1 k t b' q tag i h.2 h.3 finds is_list of_structs has_tag less in
+    (r.0, subst (λ (y : Spot). Tight m y r.0) (sym ends) r.1)
 step_tight m (element t b ds ps) (Ptr i) y (struct ws ts) h g =
     let r = each_tight m t (b + ds) ps ts h.0 h.1 i (b + ds + i) h.2 h.3 g.0 refl in
     (r.0, subst (λ (z : Spot). Tight m z r.0) (sym g.1) r.1)
@@ -236,6 +242,6 @@ step_tight m (element t b ds ps) (Item i) y x h g = absurd g
 pub walk_tight : (m : List (List ℕ)) (a : Spot) (path : List Step) (n : ℕ) (b : Spot) (x : Tree) → Tight m a x
     → Walks m a path n b → (u : Tree) × Tight m b u
 walk_tight m a [] n b x h g = (x, subst (λ (y : Spot). Tight m y x) (sym g.1) h)
-walk_tight m a (step ∷ path) n b x h g =
-    let r = step_tight m a step g.0 x h g.2 in
-    walk_tight m g.0 path g.1 b r.0 r.1 g.3
+walk_tight m a (step ∷ path) n b x h (mid, below, goes, walks, level) =
+    let r = step_tight m a step mid x h goes in
+    walk_tight m mid path below b r.0 r.1 walks

@@ -29,14 +29,14 @@ pub pads_charged : (m : List (List ℕ)) (s w : ℕ) (t : Tree) (c d k : ℕ) (r
     → Leads m s w k r → k ≤ c
 pads_charged m s w null c d k r h l = omega (arith, one_lead m s w c k to_null r h.0 l)
 pads_charged m s w (cap i) c d k r h l = omega (arith, one_lead m s w c k (to_cap i) r h.0 l)
-pads_charged m s w (struct words ts) c d k r h l =
-    omega (arith, one_lead m s w h.0 k (to_object h.1 (pos h.2) h.3) r h.6.finds.leads l, h.6.charge)
-pads_charged m s w (scalars e values) c d k r h l =
-    omega (arith, one_lead m s w h.0 k (to_object h.1 (pos h.2) h.3) r h.4.finds.leads l, h.4.charge)
-pads_charged m s w (pointers ts) c d k r h l =
-    omega (arith, one_lead m s w h.0 k (to_object h.1 (pos h.2) h.3) r h.6.finds.leads l, h.6.charge)
-pads_charged m s w (structs ds ps es) c d k r h l =
-    omega (arith, one_lead m s w h.0 k (to_object h.1 (pos h.2) h.3) r h.7.finds.leads l, h.7.charge)
+pads_charged m s w (struct words ts) c d k r (k', t, b, q, inner, deep, found, each) l =
+    omega (arith, one_lead m s w k' k (to_object t (pos b) q) r found.finds.leads l, found.charge)
+pads_charged m s w (scalars e values) c d k r (k', t, b, q, found) l =
+    omega (arith, one_lead m s w k' k (to_object t (pos b) q) r found.finds.leads l, found.charge)
+pads_charged m s w (pointers ts) c d k r (k', t, b, q, inner, deep, found, each) l =
+    omega (arith, one_lead m s w k' k (to_object t (pos b) q) r found.finds.leads l, found.charge)
+pads_charged m s w (structs ds ps es) c d k r (k', t, b, q, tag, inner, deep, found, each) l =
+    omega (arith, one_lead m s w k' k (to_object t (pos b) q) r found.finds.leads l, found.charge)
 
 -- as many places as pointers
 pub length-places : (t b n : ℕ) → length (places t b n) ≡ n
@@ -58,47 +58,48 @@ mutual
   pub children_charged : (m : List (List ℕ)) (s w : ℕ) (t : Tree) (c d : ℕ) → Denotes m s w t c d → child_count t ≤ c
   children_charged m s w null c d h = omega arith
   children_charged m s w (cap i) c d h = omega arith
-  children_charged m s w (struct words ts) c d h =
-      let a = each_charged m (places h.1 (h.2 + data_size h.3) (pointer_size h.3)) ts h.4 h.5 h.7 in
+  children_charged m s w (struct words ts) c d (k, t, b, q, inner, deep, found, each) =
+      let a = each_charged m (places t (b + data_size q) (pointer_size q)) ts inner deep each in
       omega (
         arith,
         a,
-        length-places h.1 (h.2 + data_size h.3) (pointer_size h.3),
-        extent_struct h.3 h.6.kind,
-        h.6.charge,
+        length-places t (b + data_size q) (pointer_size q),
+        extent_struct q found.kind,
+        found.charge,
       )
   children_charged m s w (scalars e values) c d h = omega arith
-  children_charged m s w (pointers ts) c d h =
-      let a = each_charged m (places h.1 h.2 (list_size h.3)) ts h.4 h.5 h.7 in
-      omega (arith, a, length-places h.1 h.2 (list_size h.3), extent_pointers h.3 h.6.kind h.6.code, h.6.charge)
-  children_charged m s w (structs ds ps es) c d h =
-      let a = elements_charged m h.1 (h.2 + 1) ds ps (middle h.4) es h.5 h.6 h.8 in
+  children_charged m s w (pointers ts) c d (k, t, b, q, inner, deep, found, each) =
+      let a = each_charged m (places t b (list_size q)) ts inner deep each in
+      omega (arith, a, length-places t b (list_size q), extent_pointers q found.kind found.code, found.charge)
+  children_charged m s w (structs ds ps es) c d (k, t, b, q, tag, inner, deep, found, each) =
+      let a = elements_charged m t (b + 1) ds ps (middle tag) es inner deep each in
       omega (
         arith,
         a,
-        elements_fit m s w ds ps h.0 h.1 h.2 h.3 h.4 h.5 h.6 c d h.7,
-        extent_structs h.3 h.7.kind h.7.code,
-        h.7.charge,
+        elements_fit m s w ds ps k t b q tag inner deep c d found,
+        extent_structs q found.kind found.code,
+        found.charge,
       )
 
   -- the trees are as many as the places, and their children are charged
   pub each_charged : (m : List (List ℕ)) (ps : List (ℕ × ℕ)) (ts : Trees) (c d : ℕ) → DenoteEach m ps ts c d
       → (tree_count ts ≡ length ps) × (child_counts ts ≤ c)
   each_charged m ps none c d h = (rw h.0 refl, omega arith)
-  each_charged m ps (more t ts) c d h =
-      let a = children_charged m h.0 h.1 t h.3 h.4 h.8 in
-      let b = each_charged m h.2 ts h.5 h.6 h.9 in
-      (rw h.7 (ap suc b.0), omega (arith, a, b.1, h.10))
+  each_charged m ps (more t ts) c d (s, w, rest, c1, d1, c2, d2, begins, denotes, after, charge, depth) =
+      let a = children_charged m s w t c1 d1 denotes in
+      let b = each_charged m rest ts c2 d2 after in
+      (rw begins (ap suc b.0), omega (arith, a, b.1, charge))
 
   -- the pointers of n elements are n times those of one, and those below them are charged
   pub elements_charged : (m : List (List ℕ)) (t b ds ps n : ℕ) (es : Trees) (c d : ℕ) → AreElements m t b ds ps n es c d
       → child_counts es ≤ n * ps + c
   elements_charged m t b ds ps n none c d h = omega arith
   elements_charged m t b ds ps n (more (struct words ts) es) c d h =
-      let a = each_charged m (places t (b + ds) ps) ts h.1 h.2 h.7 in
-      let e = elements_charged m t (b + ds + ps) ds ps h.0 es h.3 h.4 h.8 in
-      let x : n * ps ≡ ps + h.0 * ps = rw h.5 (omega arith) in
-      omega (arith, a, e, x, length-places t (b + ds) ps, h.9)
+      let (fewer, c1, d1, c2, d2, counted, own, each, after, charge, depth) = h in
+      let a = each_charged m (places t (b + ds) ps) ts c1 d1 each in
+      let e = elements_charged m t (b + ds + ps) ds ps fewer es c2 d2 after in
+      let x : n * ps ≡ ps + fewer * ps = rw counted (omega arith) in
+      omega (arith, a, e, x, length-places t (b + ds) ps, charge)
   elements_charged m t b ds ps n (more x es) c d h = absurd h
 
 -- what following costs beside words depends on the tag of a composite list alone
@@ -122,22 +123,22 @@ lead_kind m s w k t b q (two_pads p f x has two first second one tag r pads) = l
 pub one_cost : (m : List (List ℕ)) (s w x y : ℕ) → Costs m s w x → Costs m s w y → x ≡ y
 one_cost m s w x y (inl h) (inl h') = (one_lead m s w x y to_null to_null h h').0
 one_cost m s w x y (inl h) (inr (inl h')) = (one_lead m s w x y to_null (to_cap h'.0) h h'.1).0
-one_cost m s w x y (inl h) (inr (inr h')) =
-    absurd (cc (one_lead m s w x h'.0 to_null (to_object h'.1 (pos h'.2) h'.3) h h'.5.leads).1)
+one_cost m s w x y (inl h) (inr (inr (k, t, b, q, tag, finds, tagged, cost))) =
+    absurd (cc (one_lead m s w x k to_null (to_object t (pos b) q) h finds.leads).1)
 one_cost m s w x y (inr (inl h)) (inl h') = (one_lead m s w x y (to_cap h.0) to_null h.1 h').0
 one_cost m s w x y (inr (inl h)) (inr (inl h')) = (one_lead m s w x y (to_cap h.0) (to_cap h'.0) h.1 h'.1).0
-one_cost m s w x y (inr (inl h)) (inr (inr h')) =
-    absurd (cc (one_lead m s w x h'.0 (to_cap h.0) (to_object h'.1 (pos h'.2) h'.3) h.1 h'.5.leads).1)
-one_cost m s w x y (inr (inr h)) (inl h') =
-    absurd (cc (one_lead m s w h.0 y (to_object h.1 (pos h.2) h.3) to_null h.5.leads h').1)
-one_cost m s w x y (inr (inr h)) (inr (inl h')) =
-    absurd (cc (one_lead m s w h.0 y (to_object h.1 (pos h.2) h.3) (to_cap h'.0) h.5.leads h'.1).1)
-one_cost m s w x y (inr (inr h)) (inr (inr h')) =
-    let o : SameObject h.0 h.1 h.2 h.3 h'.0 h'.1 h'.2 h'.3 =
-    one_object m s w h.0 h.1 h.2 h.3 h'.0 h'.1 h'.2 h'.3 h.5 h'.5 in
-    let e : extra h.3 h.4 ≡ extra h.3 h'.4 = extra_same h.3 h.4 h'.4 (lead_kind m s w h.0 h.1 (pos h.2) h.3 h.5.leads)
-    (λ a b. one_word m h.1 h.2 h.4 h'.4 (h.6 (a, b)) (rw (o.segment, o.start) (h'.6 (rw (← o.shape) (a, b))))) in
-    h.7 ∙ ap (λ z. h.0 + extent h.3 + z) e ∙ ap₂ (λ u z. u + extent z + extra z h'.4) o.pads o.shape ∙ sym h'.7
+one_cost m s w x y (inr (inl h)) (inr (inr (k, t, b, q, tag, finds, tagged, cost))) =
+    absurd (cc (one_lead m s w x k (to_cap h.0) (to_object t (pos b) q) h.1 finds.leads).1)
+one_cost m s w x y (inr (inr (k, t, b, q, tag, finds, tagged, cost))) (inl h') =
+    absurd (cc (one_lead m s w k y (to_object t (pos b) q) to_null finds.leads h').1)
+one_cost m s w x y (inr (inr (k, t, b, q, tag, finds, tagged, cost))) (inr (inl h')) =
+    absurd (cc (one_lead m s w k y (to_object t (pos b) q) (to_cap h'.0) finds.leads h'.1).1)
+one_cost m s w x y (inr (inr (k, t, b, q, tag, finds, tagged, cost))) (inr (inr h')) =
+    let (k', t', b', q', tag', finds', tagged', cost') = h' in
+    let o : SameObject k t b q k' t' b' q' = one_object m s w k t b q k' t' b' q' finds finds' in
+    let e : extra q tag ≡ extra q tag' = extra_same q tag tag' (lead_kind m s w k t (pos b) q finds.leads)
+    (λ i j. one_word m t b tag tag' (tagged (i, j)) (rw (o.segment, o.start) (tagged' (rw (← o.shape) (i, j))))) in
+    cost ∙ ap (λ z. k + extent q + z) e ∙ ap₂ (λ u z. u + extent z + extra z tag') o.pads o.shape ∙ sym cost'
 
 -- structs and lists of pointers cost nothing beside words
 pub extra_struct : (q : ℕ) → kind q ≡ 0 → extra q 0 ≡ 0
@@ -158,28 +159,28 @@ pub own_cost : (m : List (List ℕ)) (s w : ℕ) (t : Tree) (c d : ℕ) → Deno
     → (x : ℕ) × Costs m s w x × (x ≤ c)
 own_cost m s w null c d h = (c, inl h.0, omega arith)
 own_cost m s w (cap i) c d h = (c, inr (inl (i, h.0)), omega arith)
-own_cost m s w (struct words ts) c d h = (
-  h.0 + extent h.3 + extra h.3 0,
+own_cost m s w (struct words ts) c d (k, t, b, q, inner, deep, found, each) = (
+  k + extent q + extra q 0,
   inr (inr
-      (h.0, h.1, h.2, h.3, 0, h.6.finds, λ z. absurd (omega (arith, h.6.kind, z.0)), refl)),
-  own_below_alone (h.0 + extent h.3) (extra h.3 0) h.4 c (extra_struct h.3 h.6.kind) h.6.charge,
+      (k, t, b, q, 0, found.finds, λ z. absurd (omega (arith, found.kind, z.0)), refl)),
+  own_below_alone (k + extent q) (extra q 0) inner c (extra_struct q found.kind) found.charge,
 )
-own_cost m s w (scalars e values) c d h = (
-  h.0 + extent h.3 + extra h.3 0,
+own_cost m s w (scalars e values) c d (k, t, b, q, found) = (
+  k + extent q + extra q 0,
   inr (inr
-      (h.0, h.1, h.2, h.3, 0, h.4.finds, λ z. absurd (omega (arith, h.4.code, h.4.scalar, z.1)), refl)),
-  le_of_eq (sym h.4.charge),
+      (k, t, b, q, 0, found.finds, λ z. absurd (omega (arith, found.code, found.scalar, z.1)), refl)),
+  le_of_eq (sym found.charge),
 )
-own_cost m s w (pointers ts) c d h = (
-  h.0 + extent h.3 + extra h.3 0,
+own_cost m s w (pointers ts) c d (k, t, b, q, inner, deep, found, each) = (
+  k + extent q + extra q 0,
   inr (inr
-      (h.0, h.1, h.2, h.3, 0, h.6.finds, λ z. absurd (omega (arith, h.6.code, z.1)), refl)),
-  own_below_alone (h.0 + extent h.3) (extra h.3 0) h.4 c (extra_pointers h.3 h.6.kind h.6.code) h.6.charge,
+      (k, t, b, q, 0, found.finds, λ z. absurd (omega (arith, found.code, z.1)), refl)),
+  own_below_alone (k + extent q) (extra q 0) inner c (extra_pointers q found.kind found.code) found.charge,
 )
-own_cost m s w (structs ds ps es) c d h = (
-  h.0 + extent h.3 + extra h.3 h.4,
-  inr (inr (h.0, h.1, h.2, h.3, h.4, h.7.finds, λ z. h.7.has_tag, refl)),
-  own_below (h.0 + extent h.3 + extra h.3 h.4) h.5 c h.7.charge,
+own_cost m s w (structs ds ps es) c d (k, t, b, q, tag, inner, deep, found, each) = (
+  k + extent q + extra q tag,
+  inr (inr (k, t, b, q, tag, found.finds, λ z. found.has_tag, refl)),
+  own_below (k + extent q + extra q tag) inner c found.charge,
 )
 
 -- The pointers of what a word denotes are at most its charge and one.

@@ -70,36 +70,38 @@ mutual
       → Denotes m s w t c d → IsTree t
   denoted_is_tree m a s w null c d h = tt
   denoted_is_tree m a s w (cap i) c d h = cap_fits m s w c i h.0
-  denoted_is_tree m a s w (struct words ts) c d h = (
-    rw h.6.data_words (range_words m h.1 h.2 (data_size h.3) a),
-    each_is_tree m a (places h.1 (h.2 + data_size h.3) (pointer_size h.3)) ts h.4 h.5 h.7,
+  denoted_is_tree m a s w (struct words ts) c d (k, t, b, q, inner, deep, found, each) = (
+    rw found.data_words (range_words m t b (data_size q) a),
+    each_is_tree m a (places t (b + data_size q) (pointer_size q)) ts inner deep each,
   )
-  denoted_is_tree m a s w (scalars e values) c d h =
-      (h.4.scalar, rw h.4.elements (values_fit (segment_of m h.1) h.2 (element_bits e) 0 (list_size h.3)))
-  denoted_is_tree m a s w (pointers ts) c d h = each_is_tree m a (places h.1 h.2 (list_size h.3)) ts h.4 h.5 h.7
-  denoted_is_tree m a s w (structs ds ps es) c d h =
-      elements_are_trees m a h.1 (h.2 + 1) ds ps (middle h.4) es h.5 h.6
-      (elements_inside m s w ds ps h.0 h.1 h.2 h.3 h.4 h.5 h.6 c d h.7) h.8
+  denoted_is_tree m a s w (scalars e values) c d (k, t, b, q, found) =
+      (found.scalar, rw found.elements (values_fit (segment_of m t) b (element_bits e) 0 (list_size q)))
+  denoted_is_tree m a s w (pointers ts) c d (k, t, b, q, inner, deep, found, each) =
+      each_is_tree m a (places t b (list_size q)) ts inner deep each
+  denoted_is_tree m a s w (structs ds ps es) c d (k, t, b, q, tag, inner, deep, found, each) =
+      elements_are_trees m a t (b + 1) ds ps (middle tag) es inner deep
+      (elements_inside m s w ds ps k t b q tag inner deep c d found) each
 
   -- and what words at places denote are trees
   pub each_is_tree : (m : List (List ℕ)) → AreWords m → (ps : List (ℕ × ℕ)) (ts : Trees) (c d : ℕ)
       → DenoteEach m ps ts c d → AreTrees ts
   each_is_tree m a ps none c d h = tt
-  each_is_tree m a ps (more t ts) c d h =
-      (denoted_is_tree m a h.0 h.1 t h.3 h.4 h.8, each_is_tree m a h.2 ts h.5 h.6 h.9)
+  each_is_tree m a ps (more t ts) c d (s, w, rest, c1, d1, c2, d2, begins, denotes, after, charge, depth) =
+      (denoted_is_tree m a s w t c1 d1 denotes, each_is_tree m a rest ts c2 d2 after)
 
   -- the elements of a list that lies inside its segment are structs of its sizes
   pub elements_are_trees : (m : List (List ℕ)) → AreWords m → (t b ds ps n : ℕ) (es : Trees) (c d : ℕ)
       → b + n * ds + n * ps ≤ length (segment_of m t) → AreElements m t b ds ps n es c d → AreElementTrees ds ps es
   elements_are_trees m a t b ds ps n none c d le h = tt
   elements_are_trees m a t b ds ps n (more (struct words ts) es) c d le h =
-      let x : n * ds ≡ ds + h.0 * ds = rw h.5 (omega arith) in
-      let y : n * ps ≡ ps + h.0 * ps = rw h.5 (omega arith) in
-      let l : length words ≡ ds = ap length h.6 ∙ range_length m t b ds (omega arith) in (
-        rw h.6 (range_words m t b ds a),
+      let (fewer, c1, d1, c2, d2, counted, own, each, after, charge, depth) = h in
+      let x : n * ds ≡ ds + fewer * ds = rw counted (omega arith) in
+      let y : n * ps ≡ ps + fewer * ps = rw counted (omega arith) in
+      let l : length words ≡ ds = ap length own ∙ range_length m t b ds (omega arith) in (
+        rw own (range_words m t b ds a),
         l,
-        (each_charged m (places t (b + ds) ps) ts h.1 h.2 h.7).0 ∙ length-places t (b + ds) ps,
-        each_is_tree m a (places t (b + ds) ps) ts h.1 h.2 h.7,
-        elements_are_trees m a t (b + ds + ps) ds ps h.0 es h.3 h.4 (omega arith) h.8,
+        (each_charged m (places t (b + ds) ps) ts c1 d1 each).0 ∙ length-places t (b + ds) ps,
+        each_is_tree m a (places t (b + ds) ps) ts c1 d1 each,
+        elements_are_trees m a t (b + ds + ps) ds ps fewer es c2 d2 (omega arith) after,
       )
   elements_are_trees m a t b ds ps n (more x es) c d le h = absurd h

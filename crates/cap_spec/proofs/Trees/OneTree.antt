@@ -49,28 +49,27 @@ number_list x y e = rw e (omega arith)
 pub formed : (m : List (List ℕ)) (s w : ℕ) (t : Tree) (c d : ℕ) → Denotes m s w t c d → Formed m s w t
 formed m s w null c d h = record { k = c; r = to_null; leads = h.0; form = refl }
 formed m s w (cap i) c d h = record { k = c; r = to_cap i; leads = h.0; form = refl }
-formed m s w (struct words ts) c d h =
+formed m s w (struct words ts) c d (k, t, b, q, inner, deep, found, each) =
     record {
-      k = h.0;
-      r = to_object h.1 (pos h.2) h.3;
-      leads = h.6.finds.leads;
-      form = number_struct (kind h.3) (code h.3) h.6.kind;
+      k = k;
+      r = to_object t (pos b) q;
+      leads = found.finds.leads;
+      form = number_struct (kind q) (code q) found.kind;
     }
-formed m s w (scalars e values) c d h =
-    let n : 2 + kind h.3 * (1 + code h.3) ≡ 3 + code h.3 = number_list (kind h.3) (code h.3) h.4.kind in
-    let f = h.4 in
+formed m s w (scalars e values) c d (k, t, b, q, found) =
+    let n : 2 + kind q * (1 + code q) ≡ 3 + code q = number_list (kind q) (code q) found.kind in
     record {
-      k = h.0;
-      r = to_object h.1 (pos h.2) h.3;
-      leads = f.finds.leads;
-      form = (omega (arith, n, f.scalar, f.code), omega (arith, n, f.scalar, f.code));
+      k = k;
+      r = to_object t (pos b) q;
+      leads = found.finds.leads;
+      form = (omega (arith, n, found.scalar, found.code), omega (arith, n, found.scalar, found.code));
     }
-formed m s w (pointers ts) c d h =
-    let n : 2 + kind h.3 * (1 + code h.3) ≡ 3 + code h.3 = number_list (kind h.3) (code h.3) h.6.kind in
-    record { k = h.0; r = to_object h.1 (pos h.2) h.3; leads = h.6.finds.leads; form = n ∙ ap (λ x. 3 + x) h.6.code }
-formed m s w (structs ds ps es) c d h =
-    let n : 2 + kind h.3 * (1 + code h.3) ≡ 3 + code h.3 = number_list (kind h.3) (code h.3) h.7.kind in
-    record { k = h.0; r = to_object h.1 (pos h.2) h.3; leads = h.7.finds.leads; form = n ∙ ap (λ x. 3 + x) h.7.code }
+formed m s w (pointers ts) c d (k, t, b, q, inner, deep, found, each) =
+    let n : 2 + kind q * (1 + code q) ≡ 3 + code q = number_list (kind q) (code q) found.kind in
+    record { k = k; r = to_object t (pos b) q; leads = found.finds.leads; form = n ∙ ap (λ x. 3 + x) found.code }
+formed m s w (structs ds ps es) c d (k, t, b, q, tag, inner, deep, found, each) =
+    let n : 2 + kind q * (1 + code q) ≡ 3 + code q = number_list (kind q) (code q) found.kind in
+    record { k = k; r = to_object t (pos b) q; leads = found.finds.leads; form = n ∙ ap (λ x. 3 + x) found.code }
 
 -- two trees of one word have one number
 same_form : (m : List (List ℕ)) (s w : ℕ) (t t' : Tree) (c d c' d' : ℕ) → Denotes m s w t c d → Denotes m s w t' c' d'
@@ -222,36 +221,40 @@ mutual
       let o = one_lead m s w c c' (to_cap i) (to_cap i') h.0 h'.0 in
       let e : i ≡ i' = cc o.1 in
       record { part = ap cap e; charge = o.0; depth = omega (arith, h.1, h'.1) }
-  one_tree m s w (struct ws ts) (struct ws' ts') c d c' d' h h' =
-      let o : SameObject h.0 h.1 h.2 h.3 h'.0 h'.1 h'.2 h'.3 =
-      one_object m s w h.0 h.1 h.2 h.3 h'.0 h'.1 h'.2 h'.3 h.6.finds h'.6.finds in
-      struct_same m s w ws ws' ts ts' h.0 h.1 h.2 h.3 h.4 h.5 c d h'.0 h'.1 h'.2 h'.3 h'.4 h'.5 c' d' h.6 h'.6
-      (one_each m (places h.1 (h.2 + data_size h.3) (pointer_size h.3))
-      (places h'.1 (h'.2 + data_size h'.3) (pointer_size h'.3))
-      (places_same (λ x y z. places x (y + data_size z) (pointer_size z)) h.1 h.2 h.3 h'.1 h'.2 h'.3
+  one_tree m s w (struct ws ts) (struct ws' ts') c d c' d' (k, t, b, q, inner, deep, found, each) h' =
+      let (k', t', b', q', inner', deep', found', each') = h' in
+      let o : SameObject k t b q k' t' b' q' =
+      one_object m s w k t b q k' t' b' q' found.finds found'.finds in
+      struct_same m s w ws ws' ts ts' k t b q inner deep c d k' t' b' q' inner' deep' c' d' found found'
+      (one_each m (places t (b + data_size q) (pointer_size q))
+      (places t' (b' + data_size q') (pointer_size q'))
+      (places_same (λ x y z. places x (y + data_size z) (pointer_size z)) t b q t' b' q'
       o.segment o.start o.shape)
-      ts ts' h.4 h.5 h'.4 h'.5 h.7 h'.7)
-  one_tree m s w (scalars e vs) (scalars e' vs') c d c' d' h h' =
-      scalars_same m s w e e' vs vs' h.0 h.1 h.2 h.3 c d h'.0 h'.1 h'.2 h'.3 c' d' h.4 h'.4
-  one_tree m s w (pointers ts) (pointers ts') c d c' d' h h' =
-      let o : SameObject h.0 h.1 h.2 h.3 h'.0 h'.1 h'.2 h'.3 =
-      one_object m s w h.0 h.1 h.2 h.3 h'.0 h'.1 h'.2 h'.3 h.6.finds h'.6.finds in
-      pointers_same m s w ts ts' h.0 h.1 h.2 h.3 h.4 h.5 c d h'.0 h'.1 h'.2 h'.3 h'.4 h'.5 c' d' h.6 h'.6
-      (one_each m (places h.1 h.2 (list_size h.3)) (places h'.1 h'.2 (list_size h'.3))
-      (places_same (λ x y z. places x y (list_size z)) h.1 h.2 h.3 h'.1 h'.2 h'.3 o.segment o.start o.shape)
-      ts ts' h.4 h.5 h'.4 h'.5 h.7 h'.7)
+      ts ts' inner deep inner' deep' each each')
+  one_tree m s w (scalars e vs) (scalars e' vs') c d c' d' (k, t, b, q, found) (k', t', b', q', found') =
+      scalars_same m s w e e' vs vs' k t b q c d k' t' b' q' c' d' found found'
+  one_tree m s w (pointers ts) (pointers ts') c d c' d' (k, t, b, q, inner, deep, found, each) h' =
+      let (k', t', b', q', inner', deep', found', each') = h' in
+      let o : SameObject k t b q k' t' b' q' =
+      one_object m s w k t b q k' t' b' q' found.finds found'.finds in
+      pointers_same m s w ts ts' k t b q inner deep c d k' t' b' q' inner' deep' c' d' found found'
+      (one_each m (places t b (list_size q)) (places t' b' (list_size q'))
+      (places_same (λ x y z. places x y (list_size z)) t b q t' b' q' o.segment o.start o.shape)
+      ts ts' inner deep inner' deep' each each')
   one_tree m s w (structs ds ps es) (structs ds' ps' es') c d c' d' h h' =
-      let o : SameObject h.0 h.1 h.2 h.3 h'.0 h'.1 h'.2 h'.3 =
-      one_object m s w h.0 h.1 h.2 h.3 h'.0 h'.1 h'.2 h'.3 h.7.finds h'.7.finds in
-      let x : h.4 ≡ h'.4 = one_tag m s w ds ps h.0 h.1 h.2 h.3 h.4 h.5 h.6 c d ds' ps' h'.0 h'.1 h'.2 h'.3 h'.4 h'.5
-      h'.6 c' d' h.7 h'.7 in
-      structs_same m s w ds ps es es' h.0 h.1 h.2 h.3 h.4 h.5 h.6 c d ds' ps' h'.0 h'.1 h'.2 h'.3 h'.4 h'.5
-      h'.6 c' d' h.7 h'.7
-      (one_elements m h.1 (h.2 + 1) ds ps (middle h.4) (middle h.4) refl es es' h.5 h.6 h'.5 h'.6 h.8
-      (elements_moved m es' h.1 (h.2 + 1) ds ps (middle h.4) h'.5 h'.6 h'.1 (h'.2 + 1) ds' ps' (middle h'.4) o.segment
+      let (k, t, b, q, tag, inner, deep, found, each) = h in
+      let (k', t', b', q', tag', inner', deep', found', each') = h' in
+      let o : SameObject k t b q k' t' b' q' =
+      one_object m s w k t b q k' t' b' q' found.finds found'.finds in
+      let x : tag ≡ tag' = one_tag m s w ds ps k t b q tag inner deep c d ds' ps' k' t' b' q' tag' inner'
+      deep' c' d' found found' in
+      structs_same m s w ds ps es es' k t b q tag inner deep c d ds' ps' k' t' b' q' tag' inner'
+      deep' c' d' found found'
+      (one_elements m t (b + 1) ds ps (middle tag) (middle tag) refl es es' inner deep inner' deep' each
+      (elements_moved m es' t (b + 1) ds ps (middle tag) inner' deep' t' (b' + 1) ds' ps' (middle tag') o.segment
       (ap (λ y. y + 1) o.start)
-      (h.7.data_sizes ∙ ap data_size x ∙ sym h'.7.data_sizes)
-      (h.7.pointer_sizes ∙ ap pointer_size x ∙ sym h'.7.pointer_sizes) (ap middle x) h'.8))
+      (found.data_sizes ∙ ap data_size x ∙ sym found'.data_sizes)
+      (found.pointer_sizes ∙ ap pointer_size x ∙ sym found'.pointer_sizes) (ap middle x) each'))
   one_tree m s w t t' c d c' d' h h' =
       let f = same_form m s w t t' c d c' d' h h' in absurd (omega (arith, f.1, f.2))
 
@@ -260,27 +263,31 @@ mutual
       → DenoteEach m ps ts c d → DenoteEach m ps' ts' c' d' → Same ts ts' c c' d d'
   one_each m ps ps' e none none c d c' d' h h' =
       record { part = refl; charge = omega (arith, h.1, h'.1); depth = omega (arith, h.2, h'.2) }
-  one_each m ps ps' e none (more t' ts') c d c' d' h h' = absurd (cc (h.0, h'.7))
-  one_each m ps ps' e (more t ts) none c d c' d' h h' = absurd (cc (h.7, h'.0))
+  one_each m ps ps' e none (more t' ts') c d c' d' h h' = absurd cc
+  one_each m ps ps' e (more t ts) none c d c' d' h h' = absurd cc
   one_each m ps ps' e (more t ts) (more t' ts') c d c' d' h h' =
-      let p = cons_parts (h.0, h.1) (h'.0, h'.1) h.2 h'.2 (sym h.7 ∙ e ∙ h'.7) in
-      each_same t t' ts ts' h.3 h.4 h.5 h.6 c d h'.3 h'.4 h'.5 h'.6 c' d'
-      (one_tree m h.0 h.1 t t' h.3 h.4 h'.3 h'.4 h.8
-      (subst (λ (x : ℕ × ℕ). Denotes m x.0 x.1 t' h'.3 h'.4) (sym p.0) h'.8))
-      (one_each m h.2 h'.2 p.1 ts ts' h.5 h.6 h'.5 h'.6 h.9 h'.9) h.10 h.11 h'.10 h'.11
+      let (s, w, rest, c1, d1, c2, d2, begins, denotes, after, charge, depth) = h in
+      let (s', w', rest', c1', d1', c2', d2', begins', denotes', after', charge', depth') = h' in
+      let p = cons_parts (s, w) (s', w') rest rest' (sym begins ∙ e ∙ begins') in
+      each_same t t' ts ts' c1 d1 c2 d2 c d c1' d1' c2' d2' c' d'
+      (one_tree m s w t t' c1 d1 c1' d1' denotes
+      (subst (λ (x : ℕ × ℕ). Denotes m x.0 x.1 t' c1' d1') (sym p.0) denotes'))
+      (one_each m rest rest' p.1 ts ts' c2 d2 c2' d2' after after') charge depth charge' depth'
 
   -- the elements of a struct list
   pub one_elements : (m : List (List ℕ)) (t b ds ps n n' : ℕ) → n ≡ n' → (es es' : Trees) (c d c' d' : ℕ)
       → AreElements m t b ds ps n es c d → AreElements m t b ds ps n' es' c' d' → Same es es' c c' d d'
   one_elements m t b ds ps n n' e none none c d c' d' h h' =
       record { part = refl; charge = omega (arith, h.1, h'.1); depth = omega (arith, h.2, h'.2) }
-  one_elements m t b ds ps n n' e none (more (struct ws' ts') es') c d c' d' h h' = absurd (omega (arith, h.0, h'.5))
-  one_elements m t b ds ps n n' e (more (struct ws ts) es) none c d c' d' h h' = absurd (omega (arith, h.5, h'.0))
+  one_elements m t b ds ps n n' e none (more (struct ws' ts') es') c d c' d' h h' = absurd (omega arith)
+  one_elements m t b ds ps n n' e (more (struct ws ts) es) none c d c' d' h h' = absurd (omega arith)
   one_elements m t b ds ps n n' e (more (struct ws ts) es) (more (struct ws' ts') es') c d c' d' h h' =
-      elements_same ws ws' ts ts' es es' h.1 h.2 h.3 h.4 c d h'.1 h'.2 h'.3 h'.4 c' d' (h.6 ∙ sym h'.6)
-      (one_each m (places t (b + ds) ps) (places t (b + ds) ps) refl ts ts' h.1 h.2 h'.1 h'.2 h.7 h'.7)
-      (one_elements m t (b + ds + ps) ds ps h.0 h'.0 (omega (arith, h.5, h'.5)) es es' h.3 h.4 h'.3 h'.4 h.8 h'.8)
-      h.9 h.10 h'.9 h'.10
+      let (fewer, c1, d1, c2, d2, counted, own, each, after, charge, depth) = h in
+      let (fewer', c1', d1', c2', d2', counted', own', each', after', charge', depth') = h' in
+      elements_same ws ws' ts ts' es es' c1 d1 c2 d2 c d c1' d1' c2' d2' c' d' (own ∙ sym own')
+      (one_each m (places t (b + ds) ps) (places t (b + ds) ps) refl ts ts' c1 d1 c1' d1' each each')
+      (one_elements m t (b + ds + ps) ds ps fewer fewer' (omega (arith, counted, counted')) es es' c2 d2 c2' d2' after after')
+      charge depth charge' depth'
   one_elements m t b ds ps n n' e none (more x es') c d c' d' h h' = absurd h'
   one_elements m t b ds ps n n' e (more (struct ws ts) es) (more x es') c d c' d' h h' = absurd h'
   one_elements m t b ds ps n n' e (more x es) es' c d c' d' h h' = absurd h

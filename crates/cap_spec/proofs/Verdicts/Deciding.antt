@@ -39,14 +39,16 @@ ElementsWithin m n t b ds ps k = (es : Trees) × (c d : ℕ) × AreElements m t 
 first_each : (m : List (List ℕ)) (n s w : ℕ) (ps : List (ℕ × ℕ)) → EachWithin m n ((s, w) ∷ ps) → TreeWithin m n s w
 first_each m n s w ps (none, c, d, h, le) = absurd (cc h.0)
 first_each m n s w ps (more t ts, c, d, h, le) =
-    let p = cons_parts (s, w) (h.0, h.1) ps h.2 h.7 in
-    (t, h.3, h.4, subst (λ (y : ℕ × ℕ). Denotes m y.0 y.1 t h.3 h.4) (sym p.0) h.8, omega (arith, h.11, le))
+    let (s', w', rest, c1, d1, c2, d2, begins, denotes, after, charge, depth) = h in
+    let p = cons_parts (s, w) (s', w') ps rest begins in
+    (t, c1, d1, subst (λ (y : ℕ × ℕ). Denotes m y.0 y.1 t c1 d1) (sym p.0) denotes, omega (arith, depth, le))
 
 rest_each : (m : List (List ℕ)) (n s w : ℕ) (ps : List (ℕ × ℕ)) → EachWithin m n ((s, w) ∷ ps) → EachWithin m n ps
 rest_each m n s w ps (none, c, d, h, le) = absurd (cc h.0)
 rest_each m n s w ps (more t ts, c, d, h, le) =
-    let p = cons_parts (s, w) (h.0, h.1) ps h.2 h.7 in
-    (ts, h.5, h.6, subst (λ (y : List (ℕ × ℕ)). DenoteEach m y ts h.5 h.6) (sym p.1) h.9, omega (arith, h.11, le))
+    let (s', w', rest, c1, d1, c2, d2, begins, denotes, after, charge, depth) = h in
+    let p = cons_parts (s, w) (s', w') ps rest begins in
+    (ts, c2, d2, subst (λ (y : List (ℕ × ℕ)). DenoteEach m y ts c2 d2) (sym p.1) after, omega (arith, depth, le))
 
 -- Where it is decided of each word, it is decided of all.
 each_decided : (m : List (List ℕ)) (n : ℕ) → ((s w : ℕ) → Decided (TreeWithin m n s w)) → (ps : List (ℕ × ℕ))
@@ -64,15 +66,18 @@ each_decided m n one ((s, w) ∷ ps) = both (one s w) (each_decided m n one ps)
 first_element : (m : List (List ℕ)) (n t b ds ps k : ℕ) → ElementsWithin m n t b ds ps (suc k)
     → EachWithin m n (places t (b + ds) ps)
 first_element m n t b ds ps k (none, c, d, h, le) = absurd (omega (arith, h.0))
-first_element m n t b ds ps k (more (struct ws ts) es, c, d, h, le) = (ts, h.1, h.2, h.7, omega (arith, h.10, le))
+first_element m n t b ds ps k (more (struct ws ts) es, c, d, h, le) =
+    let (fewer, c1, d1, c2, d2, counted, own, each, after, charge, depth) = h in
+    (ts, c1, d1, each, omega (arith, depth, le))
 first_element m n t b ds ps k (more x es, c, d, h, le) = absurd h
 
 rest_elements : (m : List (List ℕ)) (n t b ds ps k : ℕ) → ElementsWithin m n t b ds ps (suc k)
     → ElementsWithin m n t (b + ds + ps) ds ps k
 rest_elements m n t b ds ps k (none, c, d, h, le) = absurd (omega (arith, h.0))
 rest_elements m n t b ds ps k (more (struct ws ts) es, c, d, h, le) =
-    let e : h.0 ≡ k = omega (arith, h.5) in
-    (es, h.3, h.4, subst (λ i. AreElements m t (b + ds + ps) ds ps i es h.3 h.4) e h.8, omega (arith, h.10, le))
+    let (fewer, c1, d1, c2, d2, counted, own, each, after, charge, depth) = h in
+    let e : fewer ≡ k = omega (arith, counted) in
+    (es, c2, d2, subst (λ i. AreElements m t (b + ds + ps) ds ps i es c2 d2) e after, omega (arith, depth, le))
 rest_elements m n t b ds ps k (more x es, c, d, h, le) = absurd h
 
 -- The same of elements.
@@ -99,17 +104,17 @@ elements_decided m n one t b ds ps (suc k) =
 module _ (m : List (List ℕ)) (n s w k t b q : ℕ) (f : Finds m s w k t b q) where
   -- what a struct's pointers denote
   in_struct : kind q ≡ 0 → TreeWithin m (suc n) s w → EachWithin m n (places t (b + data_size q) (pointer_size q))
-  in_struct e (struct ws ts, c, d, h, le) =
-      let o : SameObject k t b q h.0 h.1 h.2 h.3 = one_object m s w k t b q h.0 h.1 h.2 h.3 f h.6.finds in
-      (ts, h.4, h.5, rw (o.segment, o.start, o.shape) h.7, omega (arith, h.6.depth, le))
+  in_struct e (struct ws ts, c, d, (k', t', b', q', inner, deep, found, each), le) =
+      let o : SameObject k t b q k' t' b' q' = one_object m s w k t b q k' t' b' q' f found.finds in
+      (ts, inner, deep, rw (o.segment, o.start, o.shape) each, omega (arith, found.depth, le))
   in_struct e (x, c, d, h, le) = absurd (omega
       (arith, number_struct (kind q) (code q) e, found_form m s w x c d k t b q h f))
 
   -- what the entries of a list of pointers denote
   in_pointers : kind q ≡ 1 → code q ≡ 6 → TreeWithin m (suc n) s w → EachWithin m n (places t b (list_size q))
-  in_pointers e g (pointers ts, c, d, h, le) =
-      let o : SameObject k t b q h.0 h.1 h.2 h.3 = one_object m s w k t b q h.0 h.1 h.2 h.3 f h.6.finds in
-      (ts, h.4, h.5, rw (o.segment, o.start, o.shape) h.7, omega (arith, h.6.depth, le))
+  in_pointers e g (pointers ts, c, d, (k', t', b', q', inner, deep, found, each), le) =
+      let o : SameObject k t b q k' t' b' q' = one_object m s w k t b q k' t' b' q' f found.finds in
+      (ts, inner, deep, rw (o.segment, o.start, o.shape) each, omega (arith, found.depth, le))
   in_pointers e g (x, c, d, h, le) = absurd (omega
       (arith, number_list (kind q) (code q) e, g, found_form m s w x c d k t b q h f))
 
@@ -117,18 +122,18 @@ module _ (m : List (List ℕ)) (n s w k t b q : ℕ) (f : Finds m s w k t b q) w
   in_structs : (tag : ℕ) → kind q ≡ 1 → code q ≡ 7 → HasWord m t b tag → TreeWithin m (suc n) s w
       → ElementsWithin m (n - element_levels (middle tag)) t (b + 1) (data_size tag) (pointer_size tag) (middle tag)
       × (element_levels (middle tag) ≤ n)
-  in_structs tag e g y (structs ds ps es, c, d, h, le) =
-      let o : SameObject k t b q h.0 h.1 h.2 h.3 = one_object m s w k t b q h.0 h.1 h.2 h.3 f h.7.finds in
-      let z : tag ≡ h.4 = one_word m t b tag h.4 y (rw (o.segment, o.start) h.7.has_tag) in
-      let levels : element_levels (middle tag) ≡ element_levels (middle h.4) = ap (λ u. element_levels (middle u)) z in (
+  in_structs tag e g y (structs ds ps es, c, d, (k', t', b', q', tag', inner, deep, found, each), le) =
+      let o : SameObject k t b q k' t' b' q' = one_object m s w k t b q k' t' b' q' f found.finds in
+      let z : tag ≡ tag' = one_word m t b tag tag' y (rw (o.segment, o.start) found.has_tag) in
+      let levels : element_levels (middle tag) ≡ element_levels (middle tag') = ap (λ u. element_levels (middle u)) z in (
         (
           es,
-          h.5,
-          h.6,
-          rw (o.segment, o.start, z, ← h.7.data_sizes, ← h.7.pointer_sizes) h.8,
-          omega (arith, h.7.depth, le, levels),
+          inner,
+          deep,
+          rw (o.segment, o.start, z, ← found.data_sizes, ← found.pointer_sizes) each,
+          omega (arith, found.depth, le, levels),
         ),
-        omega (arith, h.7.depth, le, levels),
+        omega (arith, found.depth, le, levels),
       )
   in_structs tag e g y (x, c, d, h, le) =
       absurd (omega (arith, number_list (kind q) (code q) e, g, found_form m s w x c d k t b q h f))
@@ -141,10 +146,10 @@ module _ (m : List (List ℕ)) (n s w k t b q : ℕ) (f : Finds m s w k t b q) w
     lead_kind m s w k t (pos b) q f.leads,
     found_form m s w (cap i) c d k t b q h f,
   )
-  no_level (struct ws ts, c, d, h, le) = omega (arith, h.6.depth, le)
-  no_level (scalars e vs, c, d, h, le) = omega (arith, h.4.depth, le)
-  no_level (pointers ts, c, d, h, le) = omega (arith, h.6.depth, le)
-  no_level (structs ds ps es, c, d, h, le) = omega (arith, h.7.depth, le)
+  no_level (struct ws ts, c, d, (k', t', b', q', inner, deep, found, each), le) = omega (arith, found.depth, le)
+  no_level (scalars e vs, c, d, (k', t', b', q', found), le) = omega (arith, found.depth, le)
+  no_level (pointers ts, c, d, (k', t', b', q', inner, deep, found, each), le) = omega (arith, found.depth, le)
+  no_level (structs ds ps es, c, d, (k', t', b', q', tag', inner, deep, found, each), le) = omega (arith, found.depth, le)
 
   -- Where it is decided of each word with fewer levels, it is decided of the object.
   module _ (one : (j : ℕ) → j ≤ n → (s w : ℕ) → Decided (TreeWithin m j s w)) where

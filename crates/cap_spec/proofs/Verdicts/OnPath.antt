@@ -2,18 +2,19 @@
 use Rattle.std.proofs.Common.{ℕ, ◌+◌, ◌<◌, ◌≤◌, List, [], ◌∷◌, ◌++◌, ◌≡◌, ◌⊎◌, sym, ap, refl, subst, ◌∙◌, arith, inl}
 use Rattle.std.proofs.Common.{inr, length, length-append, append_assoc}
 use Rattle.std.proofs.lemmas.List.{append-nil}
+use Rattle.cap_spec.specs.Lists.{IsOneOf}
 use Rattle.cap_spec.specs.Messages.{HasWord}
-use Rattle.cap_spec.specs.Faults.{AreShallow, IsDeepAt}
+use Rattle.cap_spec.specs.Faults.{AreShallow}
 use Rattle.cap_spec.specs.Getting.{AreOnPath, IsStartOf, IsFaultOnPath, IsRefusedOnPath}
-use Rattle.cap_spec.specs.Paths.{Before, Comes, Costs, Goes, IsOneOf, Reaches, Rises, Spot, Walks, element, word}
-use Rattle.cap_spec.specs.Verdicts.{CostOf}
+use Rattle.cap_spec.specs.Paths.{Before, Comes, Costs, Goes, Reaches, Rises, Spot, element, word}
+use Rattle.cap_spec.specs.Verdicts.{CostOf, IsDeepAt}
 use Rattle.cap_spec.specs.declared.Refusal.{Refusal}
 use Rattle.cap_spec.specs.declared.Step.{Step}
 use Rattle.cap_spec.proofs.Verdicts.OneFault.{distinct_last, kept_without_fault, last_is_one, one_of_last}
 use Rattle.cap_spec.proofs.Verdicts.OneFault.{one_rootless, rootless, same_fault}
 use Rattle.cap_spec.proofs.Verdicts.OneVerdict.{cost_reached}
 use Rattle.cap_spec.proofs.Paths.Preorder.{Before-longer, Rises-distinct, Rises-same}
-use Rattle.cap_spec.proofs.Paths.Walks.{one_coming, one_reached, one_walk, walk_parts}
+use Rattle.cap_spec.proofs.Paths.Walks.{one_coming, one_reached, comes_beyond}
 
 -- a path that begins another begins what goes on from it
 pub begins_longer : (q done more : List Step) → IsStartOf q done → IsStartOf q (done ++ more)
@@ -69,8 +70,8 @@ rises_last (q ∷ r ∷ ps) p h k = (h.0, rises_last (r ∷ ps) p h.1 (λ x i. k
 pub cost_last : (m : List (List ℕ)) (ps : List (List Step)) (p : List Step) (level s w one x : ℕ) → CostOf m ps x
     → Reaches m p level s w → Costs m s w one → CostOf m (ps ++ p ∷ []) (x + one)
 cost_last m [] p level s w one x h r c = (level, s, w, one, 0, r, c, refl, omega (arith, h))
-cost_last m (q ∷ ps) p level s w one x h r c =
-    (h.0, h.1, h.2, h.3, h.4 + one, h.5, h.6, cost_last m ps p level s w one h.4 h.7 r c, omega (arith, h.8))
+cost_last m (q ∷ ps) p level s w one x (level', s', w', one', rest, reached, costs, after, sum) r c =
+    (level', s', w', one', rest + one, reached, costs, cost_last m ps p level s w one rest after r c, omega (arith, sum))
 
 -- none too deep, a last path neither
 pub shallow_last : (m : List (List ℕ)) (depth : ℕ) (ps : List (List Step)) (p : List Step) (level s w : ℕ)
@@ -169,10 +170,7 @@ on_nowhere m done rest ways step level a h c none = record {
     past : (q more : List Step) (level' s' w' : ℕ) → Reaches m q level' s' w' → q ≡ done ++ step ∷ more → ⊥
     past q more level' s' w' r e =
         let g : Comes m (done ++ step ∷ more) level' (word s' w') = subst (λ x. Comes m x level' (word s' w')) e r in
-        let p = walk_parts m (word 0 0) (word s' w') done (step ∷ more) g.1 g.3 in
-        let same : a ≡ p.0 = (one_walk m (word 0 0) done c.1 p.1 a p.0 c.3 p.3).1 in
-        let w : Walks m p.0 (step ∷ more) p.2 (word s' w') = p.4 in
-        none w.0 (subst (λ x. Goes m x step w.0) (sym same) w.2)
+        let w = (comes_beyond m done (step ∷ more) level level' a (word s' w') c g).1 in none w.0 w.2
 
     all : (q on : List Step) (level' s' w' : ℕ) → Reaches m q level' s' w'
         → IsStartOf q done ⊎ ((more : List Step) × (q ≡ done ++ step ∷ more) × (rest ≡ more ++ on)) → IsOneOf q ways
@@ -193,7 +191,7 @@ pub path_not_refused : (m : List (List ℕ)) (words depth : ℕ) (path : List St
     → AreShallow m depth ways → cost ≤ words → IsRefusedOnPath m words depth path r → ⊥
 path_not_refused m words depth path [] cost r on some costs shallow within (inl h) = omega (arith, some)
 path_not_refused m words depth path (q ∷ qs) cost r on some costs shallow within (inl h) =
-    let x = on.reached q (inl refl) in rootless m q x.0 x.1 x.2 h.empty x.3
+    let x = on.reached q (inl refl) in rootless m q x.0 x.1 x.2 h.lacks.empty x.3
 path_not_refused m words depth path ways cost r on some costs shallow within (inr f) =
     kept_without_fault m words depth f.level f.charge cost r f.way f.before ways f.reached f.costs f.reason
     (distinct_last f.before f.way (Rises-distinct (f.before ++ f.way ∷ []) f.on_path.rising)) all costs shallow within
@@ -263,9 +261,9 @@ pub one_path_refusal : (m : List (List ℕ)) (words depth : ℕ) (path : List St
     → IsRefusedOnPath m words depth path r → IsRefusedOnPath m words depth path r' → r ≡ r'
 one_path_refusal m words depth path r r' (inl h) (inl k) = one_rootless m r r' h k
 one_path_refusal m words depth path r r' (inl h) (inr f) =
-    absurd (rootless m f.way f.level r'.segment r'.word h.empty f.reached)
+    absurd (rootless m f.way f.level r'.segment r'.word h.lacks.empty f.reached)
 one_path_refusal m words depth path r r' (inr f) (inl h) =
-    absurd (rootless m f.way f.level r.segment r.word h.empty f.reached)
+    absurd (rootless m f.way f.level r.segment r.word h.lacks.empty f.reached)
 one_path_refusal m words depth path r r' (inr f) (inr f') = by_order (begins_one f.way f'.way path f.begin f'.begin)
   where
     same : f'.way ≡ f.way → r ≡ r'

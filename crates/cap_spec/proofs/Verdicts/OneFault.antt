@@ -3,11 +3,12 @@ use Rattle.std.proofs.Common.{ℕ, ◌+◌, ◌≤◌, ◌≡◌, ◌⊎◌, Lis
 use Rattle.std.proofs.Common.{refl, sym, ap, ◌∙◌, subst, arith}
 use Rattle.std.specs.Prelude.{slice_get}
 use Rattle.std.proofs.lemmas.List.{append_cancel_right}
+use Rattle.cap_spec.specs.Lists.{IsOneOf, AreDistinct}
 use Rattle.cap_spec.specs.Following.{Wrong}
 use Rattle.cap_spec.specs.Faults.{AreShallow, HasNoRoot, IsFirstFault, IsFirstReason}
 use Rattle.cap_spec.specs.Faults.{IsRefused, is_deep, is_past, is_wrong}
-use Rattle.cap_spec.specs.Paths.{Before, Costs, IsOneOf, IsTour, Reaches, Rises}
-use Rattle.cap_spec.specs.Verdicts.{AreDistinct, CostOf, IsNoneOf}
+use Rattle.cap_spec.specs.Paths.{Before, Costs, IsTour, Reaches, Rises}
+use Rattle.cap_spec.specs.Verdicts.{CostOf}
 use Rattle.cap_spec.specs.declared.Reason.{Reason}
 use Rattle.cap_spec.specs.declared.Refusal.{Refusal}
 use Rattle.cap_spec.specs.declared.Step.{Step}
@@ -16,22 +17,6 @@ use Rattle.cap_spec.proofs.Verdicts.OneVerdict.{cost_reached, distinct_cost, tak
 use Rattle.cap_spec.proofs.Paths.Preorder.{Before-irreflexive, Before-total_coming}
 use Rattle.cap_spec.proofs.Paths.Preorder.{Before-trans, Rises-distinct, one_tour}
 use Rattle.cap_spec.proofs.Paths.Walks.{one_reached}
-
--- distinct paths without the last one, and the last one
-pub distinct_last : (paths : List (List Step)) (p : List Step) → AreDistinct (paths ++ p ∷ []) → AreDistinct (p ∷ paths)
-distinct_last paths p h = (none paths h, front paths h)
-  where
-    others : (x : List Step) (ps : List (List Step)) → IsNoneOf x (ps ++ p ∷ []) → IsNoneOf x ps × (x ≡ p → ⊥)
-    others x [] k = (tt, k.0)
-    others x (q ∷ ps) k = let r = others x ps k.1 in ((k.0, r.0), r.1)
-
-    none : (ps : List (List Step)) → AreDistinct (ps ++ p ∷ []) → IsNoneOf p ps
-    none [] k = tt
-    none (q ∷ ps) k = (λ e. (others q ps k.0).1 (sym e), none ps k.1)
-
-    front : (ps : List (List Step)) → AreDistinct (ps ++ p ∷ []) → AreDistinct ps
-    front [] k = tt
-    front (q ∷ ps) k = ((others q ps k.0).0, front ps k.1)
 
 -- one of some paths and a last one
 pub one_of_last : (q p : List Step) (ps : List (List Step)) → IsOneOf q (ps ++ p ∷ []) → (q ≡ p) ⊎ IsOneOf q ps
@@ -44,6 +29,23 @@ pub last_is_one : (p q : List Step) (ps : List (List Step)) → IsOneOf q ps →
 last_is_one p q [] h = absurd h
 last_is_one p q (r ∷ ps) (inl e) = inl e
 last_is_one p q (r ∷ ps) (inr h) = inr (last_is_one p q ps h)
+
+-- distinct paths without the last one, and the last one
+pub distinct_last : (paths : List (List Step)) (p : List Step) → AreDistinct (paths ++ p ∷ []) → AreDistinct (p ∷ paths)
+distinct_last paths p h = (none paths h, front paths h)
+  where
+    own : (ps : List (List Step)) → IsOneOf p (ps ++ p ∷ [])
+    own [] = inl refl
+    own (q ∷ ps) = inr (own ps)
+
+    none : (ps : List (List Step)) → AreDistinct (ps ++ p ∷ []) → ¬ IsOneOf p ps
+    none [] k i = i
+    none (q ∷ ps) k (inl e) = k.0 (subst (λ (u : List Step). IsOneOf u (ps ++ p ∷ [])) e (own ps))
+    none (q ∷ ps) k (inr i) = none ps k.1 i
+
+    front : (ps : List (List Step)) → AreDistinct (ps ++ p ∷ []) → AreDistinct ps
+    front [] k = tt
+    front (q ∷ ps) k = ((λ i. k.0 (last_is_one p q ps i)), front ps k.1)
 
 -- what has a cost isn't wrong
 pub costs_not_wrong : (m : List (List ℕ)) (s w c : ℕ) (v : Reason) → Costs m s w c → Wrong m s w v → ⊥
@@ -163,8 +165,8 @@ same_first_fault m words depth r r' f f' e =
 
 -- Refusals of a message without a root are one.
 pub one_rootless : (m : List (List ℕ)) (r r' : Refusal) → HasNoRoot m r → HasNoRoot m r' → r ≡ r'
-one_rootless m r r' h k = same_refusal r r' (h.segment ∙ sym k.segment) (h.word ∙ sym k.word) (h.reason ∙ sym k.reason)
-    (h.pointers ∙ sym k.pointers)
+one_rootless m r r' h k = same_refusal r r' (h.lacks.segment ∙ sym k.lacks.segment)
+    (h.lacks.word ∙ sym k.lacks.word) (h.lacks.reason ∙ sym k.lacks.reason) (h.pointers ∙ sym k.pointers)
 
 -- a message without a root has no pointer that a path reaches
 pub rootless : (m : List (List ℕ)) (p : List Step) (level s w : ℕ) → slice_get m 0 ≡ Some [] → Reaches m p level s w → ⊥
@@ -179,8 +181,8 @@ rootless (x ∷ m) p level s w e (root, n, has, walks, up) =
 pub one_refusal : (m : List (List ℕ)) (words depth : ℕ) (r r' : Refusal) → IsRefused m words depth r
     → IsRefused m words depth r' → r ≡ r'
 one_refusal m words depth r r' (inl h) (inl k) = one_rootless m r r' h k
-one_refusal m words depth r r' (inl h) (inr f) = absurd (rootless m f.path f.level r'.segment r'.word h.empty f.reached)
-one_refusal m words depth r r' (inr f) (inl h) = absurd (rootless m f.path f.level r.segment r.word h.empty f.reached)
+one_refusal m words depth r r' (inl h) (inr f) = absurd (rootless m f.path f.level r'.segment r'.word h.lacks.empty f.reached)
+one_refusal m words depth r r' (inr f) (inl h) = absurd (rootless m f.path f.level r.segment r.word h.lacks.empty f.reached)
 one_refusal m words depth r r' (inr f) (inr f') =
     by_order (Before-total_coming m f.path f'.path f.level f'.level _ _ f.reached f'.reached)
   where

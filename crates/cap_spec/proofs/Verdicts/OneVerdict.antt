@@ -1,16 +1,18 @@
--- A message whose root denotes a tree within the limits has no justified refusal.
+-- An accepted message has no justified refusal.
 use Rattle.std.proofs.Common.{ℕ, ◌+◌, ◌≤◌, List, [], ◌∷◌, ◌≡◌, ◌≢◌, ◌⊎◌, sym, refl, subst, ◌∙◌, arith, inl, inr, Some}
 use Rattle.std.specs.Prelude.{slice_get}
+use Rattle.cap_spec.specs.Lists.{IsOneOf, AreDistinct}
 use Rattle.cap_spec.specs.Messages.{HasWord}
-use Rattle.cap_spec.specs.Pointers.{kind, code}
 use Rattle.cap_spec.specs.Tree.{Tree, null, cap, struct, scalars, pointers, structs}
 use Rattle.cap_spec.specs.Denoting.{Finds, Denotes}
-use Rattle.cap_spec.specs.Following.{Wrong}
-use Rattle.cap_spec.specs.Paths.{word, Reaches, Costs, IsOneOf}
-use Rattle.cap_spec.specs.Verdicts.{CostOf, IsNoneOf, AreDistinct, JustifiedBy, no_root, is_wrong}
+use Rattle.cap_spec.specs.Accepting.{IsWithin}
+use Rattle.cap_spec.specs.Following.{HasTag, Wrong}
+use Rattle.cap_spec.specs.Paths.{word, Reaches, Costs}
+use Rattle.cap_spec.specs.Verdicts.{CostOf, Justified, no_root, is_wrong}
 use Rattle.cap_spec.specs.Verdicts.{too_deep, past_limit, levels_below}
 use Rattle.cap_spec.specs.declared.Step.{Step}
 use Rattle.cap_spec.specs.declared.Reason.{Reason}
+use Rattle.cap_spec.specs.declared.Refusal.{Refusal}
 use Rattle.cap_spec.proofs.Pointers.Following.{null-not_wrong, cap-not_wrong, object-not_wrong}
 use Rattle.cap_spec.proofs.Trees.OneTree.{Formed, formed}
 use Rattle.cap_spec.proofs.Trees.Charges.{one_cost}
@@ -37,37 +39,37 @@ pub record TakenOut (m : List (List ℕ)) (p : List Step) (qs : List (List Step)
 pub take_out : (m : List (List ℕ)) (p : List Step) (qs : List (List Step)) (y : ℕ) → IsOneOf p qs → CostOf m qs y
     → TakenOut m p qs y
 take_out m p [] y i h = absurd i
-take_out m p (q ∷ qs) y (inl e) h =
+take_out m p (q ∷ qs) y (inl e) (level, s, w, one, rest, reached, costs, after, sum) =
     record {
-      level = h.0;
-      s = h.1;
-      w = h.2;
-      one = h.3;
-      rest = h.4;
+      level = level;
+      s = s;
+      w = w;
+      one = one;
+      rest = rest;
       others = qs;
-      reached = subst (λ (v : List Step). Reaches m v h.0 h.1 h.2) (sym e) h.5;
-      costs = h.6;
-      cost = h.7;
-      sum = h.8;
+      reached = subst (λ (v : List Step). Reaches m v level s w) (sym e) reached;
+      costs = costs;
+      cost = after;
+      sum = sum;
       left = λ r j n. other r j n;
     }
   where
     other : (r : List Step) → IsOneOf r (q ∷ qs) → p ≢ r → IsOneOf r qs
     other r (inl f) n = absurd (n (e ∙ sym f))
     other r (inr f) n = f
-take_out m p (q ∷ qs) y (inr i) h =
-    let t : TakenOut m p qs h.4 = take_out m p qs h.4 i h.7 in
+take_out m p (q ∷ qs) y (inr i) (level, s, w, one, rest, reached, costs, after, sum) =
+    let t : TakenOut m p qs rest = take_out m p qs rest i after in
     record {
       level = t.level;
       s = t.s;
       w = t.w;
       one = t.one;
-      rest = h.3 + t.rest;
+      rest = one + t.rest;
       others = q ∷ t.others;
       reached = t.reached;
       costs = t.costs;
-      cost = (h.0, h.1, h.2, h.3, t.rest, h.5, h.6, t.cost, refl);
-      sum = omega (arith, t.sum, h.8);
+      cost = (level, s, w, one, t.rest, reached, costs, t.cost, refl);
+      sum = omega (arith, t.sum, sum);
       left = λ r j n. other t.others t.left r j n;
     }
   where
@@ -77,34 +79,34 @@ take_out m p (q ∷ qs) y (inr i) h =
     other os k r (inr f) n = inr (k r f n)
 
 -- a path that is none of a list differs from each of them
-pub not_one_of : (p q : List Step) (ps : List (List Step)) → IsNoneOf p ps → IsOneOf q ps → p ≢ q
-not_one_of p q [] n i = absurd i
-not_one_of p q (r ∷ rs) n (inl e) = λ f. n.0 (f ∙ e)
-not_one_of p q (r ∷ rs) n (inr i) = not_one_of p q rs n.1 i
+pub not_one_of : (p q : List Step) (ps : List (List Step)) → ¬ IsOneOf p ps → IsOneOf q ps → p ≢ q
+not_one_of p q ps n i e = n (subst (λ (u : List Step). IsOneOf u ps) (sym e) i)
 
 -- distinct paths among others cost at most what those cost
 pub distinct_cost : (m : List (List ℕ)) (ps qs : List (List Step)) (x y : ℕ) → AreDistinct ps
     → ((p : List Step) → IsOneOf p ps → IsOneOf p qs) → CostOf m ps x → CostOf m qs y → x ≤ y
 distinct_cost m [] qs x y d k g h = omega (arith, g)
-distinct_cost m (p ∷ ps) qs x y d k g h =
+distinct_cost m (p ∷ ps) qs x y d k (level, s, w, one, rest, reached, costs, after, sum) h =
     let t : TakenOut m p qs y = take_out m p qs y (k p (inl refl)) h in
-    let o = one_reached m p g.0 t.level g.1 g.2 t.s t.w g.5 t.reached in
-    let c : g.3 ≡ t.one = one_cost m g.1 g.2 g.3 t.one g.6 (rw (o.1, o.2) t.costs) in
+    let o = one_reached m p level t.level s w t.s t.w reached t.reached in
+    let c : one ≡ t.one = one_cost m s w one t.one costs (rw (o.1, o.2) t.costs) in
     omega (
       arith,
       c,
       t.sum,
-      g.8,
-      distinct_cost m ps t.others g.4 t.rest d.1
-          (λ q i. t.left q (k q (inr i)) (not_one_of p q ps d.0 i)) g.7 t.cost,
+      sum,
+      distinct_cost m ps t.others rest t.rest d.1
+          (λ q i. t.left q (k q (inr i)) (not_one_of p q ps d.0 i)) after t.cost,
     )
 
 -- paths that have a cost reach words
 pub cost_reached : (m : List (List ℕ)) (ps : List (List Step)) (x : ℕ) (p : List Step) → CostOf m ps x → IsOneOf p ps
     → (level s w : ℕ) × Reaches m p level s w
 cost_reached m [] x p h i = absurd i
-cost_reached m (q ∷ qs) x p h (inl e) = (h.0, h.1, h.2, subst (λ (v : List Step). Reaches m v h.0 h.1 h.2) (sym e) h.5)
-cost_reached m (q ∷ qs) x p h (inr i) = cost_reached m qs h.4 p h.7 i
+cost_reached m (q ∷ qs) x p (level, s, w, one, rest, reached, costs, after, sum) (inl e) =
+    (level, s, w, subst (λ (v : List Step). Reaches m v level s w) (sym e) reached)
+cost_reached m (q ∷ qs) x p (level, s, w, one, rest, reached, costs, after, sum) (inr i) =
+    cost_reached m qs rest p after i
 
 -- Distinct paths cost at most the charge of the root's tree.
 pub paths_cost_charge : (m : List (List ℕ)) (t : Tree) (c d : ℕ) → Denotes m 0 0 t c d → (ps : List (List Step)) (x : ℕ)
@@ -117,7 +119,7 @@ paths_cost_charge m t c d h ps x a g =
 -- No path leads deeper than the root's tree.
 pub paths_within_depth : (m : List (List ℕ)) (t : Tree) (c d : ℕ) → Denotes m 0 0 t c d
     → (p : List Step) (level s w k t' b q tag : ℕ) → Reaches m p level s w
-    → Finds m s w k t' b q → ((kind q ≡ 1) × (code q ≡ 7) → HasWord m t' b tag) → level + levels_below q tag ≤ d
+    → Finds m s w k t' b q → HasTag m t' b q tag → level + levels_below q tag ≤ d
 paths_within_depth m t c d h p level s w k t' b q tag g f has =
     let r = walk_depth m (word 0 0) p g.1 (word s w) t (c, d, h) g.3 in
     let o = object_depth m s w r.0 r.1.0 r.1.1 k t' b q tag r.1.2 f has in
@@ -128,10 +130,14 @@ pub denoted_not_wrong : (m : List (List ℕ)) (s w : ℕ) (t : Tree) (c d : ℕ)
     → Wrong m s w v → ⊥
 denoted_not_wrong m s w null c d h v g = null-not_wrong m s w c h.0 v g
 denoted_not_wrong m s w (cap i) c d h v g = cap-not_wrong m s w c i h.0 v g
-denoted_not_wrong m s w (struct ws ts) c d h v g = object-not_wrong m s w h.0 h.1 h.2 h.3 h.6.finds v g
-denoted_not_wrong m s w (scalars e vs) c d h v g = object-not_wrong m s w h.0 h.1 h.2 h.3 h.4.finds v g
-denoted_not_wrong m s w (pointers ts) c d h v g = object-not_wrong m s w h.0 h.1 h.2 h.3 h.6.finds v g
-denoted_not_wrong m s w (structs ds ps es) c d h v g = object-not_wrong m s w h.0 h.1 h.2 h.3 h.7.finds v g
+denoted_not_wrong m s w (struct ws ts) c d (k, t, b, q, inner, deep, found, each) v g =
+    object-not_wrong m s w k t b q found.finds v g
+denoted_not_wrong m s w (scalars e vs) c d (k, t, b, q, found) v g =
+    object-not_wrong m s w k t b q found.finds v g
+denoted_not_wrong m s w (pointers ts) c d (k, t, b, q, inner, deep, found, each) v g =
+    object-not_wrong m s w k t b q found.finds v g
+denoted_not_wrong m s w (structs ds ps es) c d (k, t, b, q, tag, inner, deep, found, each) v g =
+    object-not_wrong m s w k t b q found.finds v g
 
 -- Where the root denotes a tree, nothing is wrong at a pointer word that a path reaches.
 pub reached_not_wrong : (m : List (List ℕ)) (t : Tree) (c d : ℕ) → Denotes m 0 0 t c d
@@ -144,19 +150,22 @@ rootless : (m : List (List ℕ)) (p : ℕ) → slice_get m 0 ≡ Some [] → Has
 rootless [] p e h = cc e
 rootless (x ∷ xs) p e h = let f : x ≡ [] = cc e in let g : slice_get [] 0 ≡ Some p = rw f at h in cc g
 
--- A message whose root denotes a tree within the limits has no justified refusal.
-pub no_refusal_of_tree : (m : List (List ℕ)) (t : Tree) (c d words depth s w : ℕ) (v : Reason) → Denotes m 0 0 t c d
-    → c ≤ words → d ≤ depth → JustifiedBy m words depth s w v → ⊥
-no_refusal_of_tree m t c d words depth s w v h a b (no_root e f g x) =
-    let r : Formed m 0 0 t = formed m 0 0 t c d h in
-    let p = lead_word m 0 0 r.k r.r r.leads in rootless m p.0 f p.1
-no_refusal_of_tree m t c d words depth s w v h a b (is_wrong g) = reached_not_wrong m t c d h g.0 g.1 s w v g.2 g.3
-no_refusal_of_tree m t c d words depth s w v h a b (too_deep e g) =
-    omega (arith, paths_within_depth m t c d h g.0 g.1 s w g.2 g.3 g.4 g.5 g.6 g.7 g.8 g.9, g.10)
-no_refusal_of_tree m t c d words depth s w v h a b (past_limit e g) =
+-- An accepted message has no justified refusal.
+pub within_not_justified : (m : List (List ℕ)) (words depth : ℕ) (r : Refusal) → IsWithin m words depth
+    → ¬ Justified m words depth r
+within_not_justified m words depth r (t, c, d, a) (no_root g) =
+    let f : Formed m 0 0 t = formed m 0 0 t c d a.denotes in
+    let p = lead_word m 0 0 f.k f.r f.leads in rootless m p.0 g.empty p.1
+within_not_justified m words depth r (t, c, d, a) (is_wrong g) =
+    reached_not_wrong m t c d a.denotes g.0 g.1 r.segment r.word r.reason g.2 g.3
+within_not_justified m words depth r (t, c, d, a) (too_deep e (path, level, reached, (k, t', b, q, tag, finds, has, past))) =
+    let within = paths_within_depth m t c d a.denotes path level r.segment r.word k t' b q tag reached finds has in
+    omega (arith, within, past, a.few_levels)
+within_not_justified m words depth r (t, c, d, a) (past_limit e g) =
     omega (
       arith,
-      paths_cost_charge m t c d h (g.last ∷ g.paths) (g.one + g.before) g.distinct
-          (g.level, s, w, g.one, g.before, g.reached, g.costs, g.others, refl),
+      paths_cost_charge m t c d a.denotes (g.last ∷ g.paths) (g.one + g.before) g.distinct
+          (g.level, r.segment, r.word, g.one, g.before, g.reached, g.costs, g.others, refl),
       g.past,
+      a.few_words,
     )

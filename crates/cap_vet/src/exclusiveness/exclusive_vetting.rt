@@ -1,11 +1,10 @@
 //! The verdict of a message of which no word may be used twice.
 
-ghost use Rattle.cap_spec.specs.Denoting.{Denotes};
 ghost use Rattle.cap_spec.specs.Faults.{IsRefused};
 ghost use Rattle.cap_spec.specs.Messages.{segment_of};
 ghost use Rattle.cap_spec.specs.Frames.{sizes_of};
 ghost use Rattle.cap_spec.specs.Occupying.{IsDisjoint, IsFirstOverlap, empty_count};
-ghost use Rattle.cap_spec.specs.Strict.{IsWithin};
+ghost use Rattle.cap_spec.specs.Accepting.{IsWithin};
 ghost use Rattle.cap_spec.specs.Tree.{Tree};
 ghost use Rattle.cap_spec.specs.declared.Refusal.{Refusal};
 ghost use Rattle.cap_vet.specs.Exclusives.{OverlapsFirst, vetted_of};
@@ -97,9 +96,9 @@ pub fn vet_exclusive<'m, M: Segments>(
     ensures refuses { let m = M.segments message.now in (r : Refusal) →
         IsRefused m (words_of limits) (depth_of limits) r →
         result ≡ Err (ExclusiveRefusal.Refused r) }
-    ensures accepts { let m = M.segments message.now in (t : Tree) (c d : ℕ) →
-        Denotes m 0 0 t c d → c ≤ words_of limits → d ≤ depth_of limits →
-        IsDisjoint m → IsOk result ⊎ (result ≡ Err ExclusiveRefusal.Memory) }
+    ensures accepts { let m = M.segments message.now in
+        IsWithin m (words_of limits) (depth_of limits) → IsDisjoint m →
+        IsOk result ⊎ (result ≡ Err ExclusiveRefusal.Memory) }
     ensures names { let m = M.segments message.now in (s w n : ℕ) →
         IsWithin m (words_of limits) (depth_of limits) → IsFirstOverlap m s w n →
         (result ≡ Err (ExclusiveRefusal.Overlap s w n)) ⊎ (result ≡ Err ExclusiveRefusal.Memory) }

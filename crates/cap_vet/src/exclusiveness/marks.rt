@@ -73,13 +73,13 @@ impl Marks<'_> {
     {
         match near {
             Some(place) => self.mark_words(place.segment, place.start, place.words),
-            None => self.mark_far(message, s, w),
+            None => self.mark_other(message, s, w),
         }
     }
 
     // The same of a word that doesn't say it alone.
     #[inline(never)]
-    fn mark_far<M: Segments>(&mut self, message: &M, s: u32, w: u32) -> bool
+    fn mark_other<M: Segments>(&mut self, message: &M, s: u32, w: u32) -> bool
         requires { HasBits (M.segments message.now) self.old s w 1 }
         ensures { MarksUse (M.segments message.now) self.old self.new s w result }
     {

@@ -25,7 +25,7 @@ pub(crate) fn near_use<M: Segments>(message: &M, s: u32, w: u32) -> Option<Place
     Some(Place::of(&target))
 }
 
-/// The same of a list of structs after the word, from the word and the list's tag.
+/// The same of a list of structs, from the word and the list's tag.
 // A second walk asks here before it follows: of the other words most lead to such lists.
 pub(crate) fn structs_use<M: Segments>(message: &M, s: u32, w: u32) -> Option<Place>
     requires exists { s < length (M.segments message.now) }

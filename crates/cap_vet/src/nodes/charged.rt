@@ -9,7 +9,7 @@ ghost use Rattle.cap_spec.specs.declared.Kind.{Kind};
 ghost use Rattle.cap_spec.specs.declared.Step.{Step};
 ghost use Rattle.cap_vet.specs.Budgets.{left_of};
 ghost use Rattle.cap_vet.specs.Charging.{Arrives};
-ghost use Rattle.cap_vet.specs.Finding.{IsFound};
+ghost use Rattle.cap_vet.specs.Finding.{IsFound, element_of};
 ghost use Rattle.cap_vet.specs.Views.{kept_place, view_kind, view_message};
 ghost use Rattle.cap_vet.specs.Ways.{SomeArrives};
 ghost use Rattle.std.specs.Prelude.{[], ◌∷◌, ◌++◌, ◌+◌, ◌-◌, ◌<◌, ◌≡◌, ◌≤◌, ◌^◌, IfErr, IfNone, IfOk, IfSome, IsOk, List, OnErr, OnOk, length, ℕ};
@@ -131,13 +131,29 @@ impl Arrival {
                     data_words,
                     pointers,
                 },
-            ) => Ok(Some(Arrival {
-                found: element(segment, start, data_words, pointers),
-                level: self.level + u64::from(levels_of_elements(1)),
-                spent: self.spent,
-                pointers: self.pointers,
-                lax: self.lax,
-            })),
+            ) => Ok(Some(self.at_element(segment, start, data_words, pointers))),
+        }
+    }
+
+    // What a step to this element arrives at.
+    #[inline(always)]
+    pub(crate) fn at_element(
+        &self,
+        segment: u32,
+        start: u32,
+        data_words: u16,
+        pointers: u16,
+    ) -> Arrival
+        requires { self.now.level < 2 ^ 61 }
+        ensures { result ≡ record self.now {
+          found = element_of segment start data_words pointers;
+          level = self.now.level + 1;
+        } }
+    {
+        Arrival {
+            found: element(segment, start, data_words, pointers),
+            level: self.level + u64::from(levels_of_elements(1)),
+            ..*self
         }
     }
 }

@@ -163,13 +163,13 @@ pub(crate) fn found_at<M: Segments>(message: &M, s: u32, w: u32) -> Found
     // Most pointer words alone describe their objects.
     match near_target(message.word(s, w), s, w, message.len(s)) {
         Some(target) => object(target),
-        None => found_far(message, s, w),
+        None => found_followed(message, s, w),
     }
 }
 
 // The same, where it takes a following.
 #[inline(never)]
-fn found_far<M: Segments>(message: &M, s: u32, w: u32) -> Found
+fn found_followed<M: Segments>(message: &M, s: u32, w: u32) -> Found
     requires exists { s < length (M.segments message.now) }
     requires inside { w < length (segment_of (M.segments message.now) s) }
     requires right { (v : Reason) → ¬ Wrong (M.segments message.now) s w v }

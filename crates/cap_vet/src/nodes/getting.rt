@@ -163,7 +163,7 @@ fn follow_near<M: Segments, S: StepSource + Copy>(
             None => return None,
         }
     }
-    Some(at.arrival())
+    Some(Arrival { lax: None, ..at })
 }
 
 // Follows any path from the root as far as it leads.

@@ -43,7 +43,8 @@ pub(crate) fn first_lax<M: Segments>(
     }
 }
 
-/// Why a message isn't strict, if that is demanded and this is the first such pointer on a path.
+/// Why a message isn't strict, if that is demanded and this is the first such pointer, on a path or of
+/// all.
 #[inline(always)]
 pub(crate) fn strict_fault<M: Segments>(
     message: &M,

@@ -8,18 +8,17 @@ ghost use Rattle.cap_vet.specs.Stricts.{vetted_of};
 ghost use Rattle.cap_vet.specs.Vettings.{message_of, report_of};
 ghost use Rattle.std.specs.Prelude.{Err, ◌≡◌, IfErr, IfOk, IsOk};
 
+use crate::demands::Demands;
 use crate::limits::Limits;
 use crate::nodes::vetted::Vetted;
 use crate::report::Report;
+use crate::strictness::path_strictness::strict_fault;
 use crate::strictness::strict::Strict;
 use crate::strictness::strict_turn::LaxSearch;
 use crate::walk::turn::Stopped;
 use crate::walk::walking::walk;
 use cap_frame::Segments;
 use cap_spec::StrictRefusal;
-
-/// The most segments of a strict message.
-const MOST_SEGMENTS: u32 = 511;
 
 /// Vets a message, and accepts it if it is also strict (profile). Then it has at most 511 segments,
 /// and no path reaches a pointer of a form in [`crate::Lax`]. Walks once. Allocates nothing.
@@ -55,18 +54,14 @@ pub fn vet_strict<'m, M: Segments>(
         Err(Stopped::Refused(refusal)) => return Err(StrictRefusal::Refused(refusal)),
         Err(Stopped::ByTurn(never)) => match never {},
     }
-    if message.count() > MOST_SEGMENTS {
-        return Err(StrictRefusal::ManySegments);
-    }
-    match search.first {
+    let demands = Demands {
+        strict: true,
+        unamplified: false,
+    };
+    match strict_fault(message, demands, search.first) {
         None => Ok(Strict {
             vetted: Vetted { message, report },
         }),
-        Some(first) => Err(StrictRefusal::Pointer {
-            what: first.what,
-            segment: first.segment,
-            word: first.word,
-            pointers: first.pointers,
-        }),
+        Some(fault) => Err(fault),
     }
 }

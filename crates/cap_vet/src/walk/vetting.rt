@@ -1,5 +1,6 @@
 //! The verdict of a message.
 
+ghost use Rattle.cap_spec.specs.Accepting.{IsWithin};
 ghost use Rattle.cap_spec.specs.Denoting.{Denotes};
 ghost use Rattle.cap_spec.specs.Faults.{IsRefused};
 ghost use Rattle.cap_spec.specs.Tree.{Tree, pointer_count};
@@ -10,7 +11,7 @@ ghost use Rattle.cap_vet.specs.Limits.{depth_of, words_of};
 ghost use Rattle.cap_vet.specs.Reports.{IsAccepted};
 ghost use Rattle.cap_vet.specs.Turns.{HoldsBefore, HoldsOfAll, IsStopped};
 ghost use Rattle.cap_vet.specs.Vettings.{message_of, report_of};
-ghost use Rattle.std.specs.Prelude.{Err, ◌≡◌, ◌≤◌, IfErr, IfOk, IsOk, List, ⊤, ℕ};
+ghost use Rattle.std.specs.Prelude.{Err, ◌≡◌, IfErr, IfOk, IsOk, List, ⊤, ℕ};
 
 use crate::limits::Limits;
 use crate::nodes::place::Place;
@@ -48,8 +49,8 @@ pub fn vet<'m, M: Segments>(message: &'m M, limits: Limits) -> Result<Vetted<'m,
         IfErr result (Justified m (words_of limits) (depth_of limits)) }
 
     // The other direction: what denotes a tree within the limits is accepted.
-    ensures accepts { let m = M.segments message.now in (t : Tree) (c d : ℕ) →
-        Denotes m 0 0 t c d → c ≤ words_of limits → d ≤ depth_of limits → IsOk result }
+    ensures accepts { let m = M.segments message.now in
+        IsWithin m (words_of limits) (depth_of limits) → IsOk result }
     ensures refuses { let m = M.segments message.now in (r : Refusal) →
         IsRefused m (words_of limits) (depth_of limits) r → result ≡ Err r }
 

@@ -13,7 +13,7 @@ ghost use Rattle.std.specs.Prelude.{◌++◌, ◌<◌, ◌≡◌, ◌≤◌, [],
 
 use crate::limits::Limits;
 use crate::report::Report;
-use crate::walk::far_looking::looked_near;
+use crate::walk::look_described::look_described;
 use crate::walk::looking::Looked;
 use crate::walk::pointer_run::PointerRun;
 use crate::walk::turn::{Stopped, Turn};
@@ -152,7 +152,7 @@ fn walk_on<M: Segments, T: Turn, const N: usize>(
     let mut report = *counts;
     'walk: loop {
         let is_null = message.word(run.segment, run.at) == 0;
-        match turn_near(
+        match turn_described(
             message,
             &limits,
             turn,
@@ -195,7 +195,7 @@ fn walk_on<M: Segments, T: Turn, const N: usize>(
     }
 }
 
-// Takes the turn at a word where `turn_near` returns nothing, and goes on after it. It works on
+// Takes the turn at a word where `turn_described` returns nothing, and goes on after it. It works on
 // copies, so that the values of the loop have no address outside of it.
 #[inline(always)]
 fn turn_other<M: Segments, T: Turn, const N: usize>(
@@ -216,7 +216,7 @@ fn turn_other<M: Segments, T: Turn, const N: usize>(
     let limits = *limits;
     let mut at = *run;
     let mut counts = *report;
-    let next = turn_far(message, &limits, turn, stack, &mut at, &mut counts);
+    let next = turn_followed(message, &limits, turn, stack, &mut at, &mut counts);
     *run = at;
     *report = counts;
     next
@@ -225,7 +225,7 @@ fn turn_other<M: Segments, T: Turn, const N: usize>(
 // The same, and not inlined: few words need it, and only these may be such as common readers reject.
 #[cold]
 #[inline(never)]
-fn turn_far<M: Segments, T: Turn, const N: usize>(
+fn turn_followed<M: Segments, T: Turn, const N: usize>(
     message: &M,
     limits: &Limits,
     turn: &mut T,
@@ -255,10 +255,10 @@ fn turn_far<M: Segments, T: Turn, const N: usize>(
 }
 
 // Looks at the next pointer word, and takes the turn there. Gives the run of its object's pointers.
-// Returns a result only of words that `looked_near` has one of, and of null, at which no turn is
+// Returns a result only of words that `look_described` has one of, and of null, at which no turn is
 // taken. Otherwise it changes nothing.
 #[inline(always)]
-fn turn_near<M: Segments, T: Turn>(
+fn turn_described<M: Segments, T: Turn>(
     message: &M,
     limits: &Limits,
     turn: &mut T,
@@ -281,7 +281,7 @@ fn turn_near<M: Segments, T: Turn>(
         return Some(Ok(add(report, s, w, Looked::Null(0))));
     }
     let used = turn.before(message, s, w);
-    match looked_near(message, limits, report.charge, s, w, level) {
+    match look_described(message, limits, report.charge, s, w, level) {
         None => None,
         Some(looked) => {
             let cost = looked.cost();

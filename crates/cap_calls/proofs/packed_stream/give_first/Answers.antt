@@ -1,11 +1,14 @@
 -- The first word of a group.
-use Rattle.std.proofs.Common.{List, ℕ, [], ◌∷◌, ◌≡◌, ◌∙◌, ◌++◌, ap, arith, drop, inl, length, refl, rules, subst, sym, take}
+use Rattle.std.proofs.Common.{List, ℕ, [], ◌∷◌, ◌+◌, ◌≡◌, ◌∙◌, ◌++◌, ap, arith, drop, inl, length, refl, rules, subst, sym, take}
+use Rattle.std.specs.Prelude.{slice_index}
 use Rattle.std.proofs.lemmas.List.{drop_at, length-append, length-drop, take_at}
 use Rattle.cap_spec.specs.Plain.{plain_words, word_bytes}
 use Rattle.cap_spec.specs.Words.{IsWord}
 use Rattle.cap_spec.proofs.Bytes.Plain.{plain_back}
 use Rattle.cap_calls.specs.PackedStreams.{GivesWords}
+use Rattle.cap_words.proofs.AtHand.{bytes_small}
 use Rattle.cap_calls.proofs.GivenWords.{gives_none}
+use Rattle.cap_calls.proofs.PackedStreams.{leads_head, no_head, one_run}
 use Rattle.cap_calls.proofs.packed_stream.give_first.Goals as goal
 
 pub returns-in-Some-clause-gives : goal.returns-in-Some-clause-gives
@@ -25,13 +28,23 @@ returns-in-Some-clause-gives c =
       fits = c.requires;
       long = omega (arith, length-append given (drop 8 out), length-drop 8 out, long, c.requires);
       whole = refl;
-      leads = subst (λ (ws : List ℕ). GivesWords 0 0 bs ws h.length h.zeros h.literal) (sym words) c.in-Some.ensures.leads;
+      leads = subst (λ (ws : List ℕ). GivesWords 0 0 bs ws (1 + c.head_len.result) c.from.result c.from-in-Some.result) (sym words)
+          (leads_head bs h.word _ _ _ (bytes_small bs (λ i. c.type_inv.bytes i)) c.in-Some.ensures.whole c.in-Some.ensures.word
+          (ap (λ (n : ℕ). 1 + n) c.head_len.ensures.rest) (c.from.ensures ∙ c.in-Some.ensures.zeros) (c.from-in-Some.ensures ∙ c.in-Some.ensures.plain));
       front = refl;
       rest = drop_at given (drop 8 out) 8 long;
-      left = c.in-Some.ensures.left;
+      left = record {
+        zeros_fit = omega (arith, c.from.ensures);
+        literal_fit = omega (arith, c.from-in-Some.ensures);
+        one = rw (c.from.ensures ∙ c.in-Some.ensures.zeros, c.from-in-Some.ensures ∙ c.in-Some.ensures.plain) (one_run (slice_index bs 0) (drop 1 bs));
+      };
     }
 
 pub returns-in-None-clause-gives : goal.returns-in-None-clause-gives
 returns-in-None-clause-gives c =
     gives_none 0 0 0 c.args.bytes.now c.args.out.now (omega arith) refl
     (record { zeros_fit = omega arith; literal_fit = omega arith; one = inl refl })
+
+pub returns-in-None-clause-none : goal.returns-in-None-clause-none
+returns-in-None-clause-none c = λ _.
+    no_head c.args.bytes.now (bytes_small c.args.bytes.now (λ i. c.type_inv.bytes i)) c.in-None.ensures.none

@@ -1,7 +1,8 @@
 -- A whole head has a word.
-use Rattle.std.proofs.Common.{ℕ, [], ◌∷◌, ◌≡◌, ◌∙◌, ap₂, arith}
+use Rattle.std.proofs.Common.{ℕ, [], ◌∷◌, ◌≡◌, ◌∙◌, ap₂, arith, refl, sym}
+use Rattle.cap_words.proofs.AtHand.{bytes_small}
 use Rattle.cap_calls.specs.PackedStreams.{words_to_come}
-use Rattle.cap_calls.proofs.PackedStreams.{some_come}
+use Rattle.cap_calls.proofs.PackedStreams.{leads_head, no_head, some_come}
 use Rattle.cap_calls.proofs.packed_stream.has_word.Goals as goal
 
 pub returns-in-Some-clause-some : goal.returns-in-Some-clause-some
@@ -10,5 +11,13 @@ returns-in-Some-clause-some c = λ _ e.
     let h = c.in-Some.field-0 in
     let z : 0 ≡ c.args.zeros = omega (arith, c.if-zeros-gt0.false) in
     let p : 0 ≡ c.args.literal = omega (arith, c.if-literal-gt0.false) in
-    some_come 0 0 h.zeros h.literal h.length bs (h.word ∷ []) (omega arith) c.in-Some.ensures.leads
-    (ap₂ (λ (x y : ℕ). words_to_come x y bs) z p ∙ e)
+    let leads = leads_head bs h.word _ h.zeros h.plain (bytes_small bs (λ i. c.type_inv.bytes i)) c.in-Some.ensures.whole c.in-Some.ensures.word
+    refl c.in-Some.ensures.zeros c.in-Some.ensures.plain in
+    some_come 0 0 h.zeros h.plain _ bs (h.word ∷ []) (omega arith) leads (ap₂ (λ (x y : ℕ). words_to_come x y bs) z p ∙ e)
+
+pub returns-in-None-clause-none : goal.returns-in-None-clause-none
+returns-in-None-clause-none c = λ _.
+    let bs = c.args.bytes.now in
+    let z : c.args.zeros ≡ 0 = omega (arith, c.if-zeros-gt0.false) in
+    let p : c.args.literal ≡ 0 = omega (arith, c.if-literal-gt0.false) in
+    ap₂ (λ (x y : ℕ). words_to_come x y bs) z p ∙ no_head bs (bytes_small bs (λ i. c.type_inv.bytes i)) c.in-None.ensures.none

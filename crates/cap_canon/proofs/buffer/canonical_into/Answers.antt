@@ -1,7 +1,55 @@
--- Nothing else is told of the message and the capacity.
+-- No room, or the copy at the start of the buffer.
+use Rattle.std.proofs.Common.{ℕ, ◌*◌, ◌≡◌, ◌∙◌, ◌++◌, Ok, ap, arith, drop, length, refl, sym}
+use Rattle.cap_spec.specs.Plain.{plain_text}
+use Rattle.cap_spec.proofs.Bytes.Plain.{length_plain}
+use Rattle.cap_spec.proofs.Canonical.Sizes.{layout_charged}
 use Rattle.cap_vet.specs.Vettings.{message_of}
+use Rattle.cap_canon.specs.CopyRooms.{written}
+use Rattle.cap_canon.proofs.Afters.{front_and_after}
 use Rattle.cap_canon.proofs.Buffers.{one_room}
+use Rattle.cap_canon.proofs.Copies.{copy_length, has_tree}
 use Rattle.cap_canon.proofs.buffer.canonical_into.Goals as goal
 
+pub returns-in-Err-clause-tells : goal.returns-in-Err-clause-tells
+returns-in-Err-clause-tells g c = c.in-Err.ensures.err c.args.out.now refl
+
+pub returns-in-Err-clause-only : goal.returns-in-Err-clause-only
+returns-in-Err-clause-only g c = λ told new h.
+    one_room (g.M.Segments.segments (message_of c.args.v.now)) c.args.out.now _ told _ new (returns-in-Err-clause-tells g c) h
+
+pub fill_front-words-requires-clause-tree : goal.fill_front-words-requires-clause-tree
+fill_front-words-requires-clause-tree g c = let k = c.report.ensures.accepted in rw c.message.ensures.value (has_tree _ c.report.result k.0 k.1)
+
+pub fill_front-words-requires-clause-length : goal.fill_front-words-requires-clause-length
+fill_front-words-requires-clause-length g c =
+    let m = g.M.Segments.segments (message_of c.args.v.now) in
+    let h = c.in_default.ensures.ok in
+    rw c.message.ensures.value (λ t x d f. omega (arith, copy_length m h.0 t x d h.1 f, h.2))
+
+pub overflow_mul-result : goal.overflow_mul-result
+overflow_mul-result g c =
+    let m = g.M.Segments.segments (message_of c.args.v.now) in
+    let k = c.report.ensures.accepted in
+    let counts = rw c.message.ensures.value at c.fill_front-words.ensures.count in
+    omega (arith, counts k.0 _ _ k.1.within.denotes, layout_charged m 0 0 k.0 _ _ k.1.within.denotes, k.1.within.few_words)
+
+pub returns-clause-tells : goal.returns-clause-tells
+returns-clause-tells g c =
+    let h = c.in_default.ensures.ok in
+    let words = h.0 in
+    let denotes = h.1.denotes in
+    let new = c.fill_front-words.new.out in
+    let long = length_plain words in
+    let counts = rw c.message.ensures.value at c.fill_front-words.ensures.count in
+    let texts = rw c.message.ensures.value at c.fill_front-words.ensures.text in
+    let afters = rw c.message.ensures.value at c.fill_front-words.ensures.after in
+    let same = ap length h.1.laid in
+    let n : c.fill_front-words.result ≡ length words = counts h.1.tree h.1.charge h.1.depth denotes ∙ sym same in
+    let whole = front_and_after _ c.args.out.now new _ (texts h.1.tree h.1.charge h.1.depth denotes) (afters h.1.tree h.1.charge h.1.depth denotes) in
+    written words h.1 (omega (arith, long, h.2)) (ap Ok (omega (arith, n, long)))
+    (whole ∙ (ap (λ ws. plain_text ws ++ drop (8 * length ws) c.args.out.now) (sym h.1.laid)
+    ∙ ap (λ (k : ℕ). plain_text words ++ drop k c.args.out.now) (sym long)))
+
 pub returns-clause-only : goal.returns-clause-only
-returns-clause-only g c = λ told new h. one_room (g.M.Segments.segments (message_of c.args.v.now)) c.args.out.now _ told _ new c.fill_start.ensures h
+returns-clause-only g c = λ told new h.
+    one_room (g.M.Segments.segments (message_of c.args.v.now)) c.args.out.now _ told _ new (returns-clause-tells g c) h

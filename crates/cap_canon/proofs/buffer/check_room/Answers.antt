@@ -18,7 +18,7 @@ returns-then-fits_any-clause-ok g c =
     let fits = c.fits_any.ensures.0 c.if-fits_any.true in
     let words = layout (trim k.0) in
     let h = has_copy m r k.0 k.1 fits.0 in
-    let few = copy_charged m k.0 r.charge r.depth words k.1.denotes h in
+    let few = copy_charged m k.0 r.charge r.depth words k.1.within.denotes h in
     (words, h, omega (arith, few, fits.1))
 
 pub returns-in-Err-HasCapability-clause-err : goal.returns-in-Err-HasCapability-clause-err
@@ -30,7 +30,7 @@ pub overflow_mul-needed : goal.overflow_mul-needed
 overflow_mul-needed g c =
     let k = c.report.ensures.accepted in
     let same = ap (λ r. r.charge) c.report.ensures.value in
-    omega (arith, k.1.within, c.in-Ok.ensures.few, same)
+    omega (arith, k.1.within.few_words, c.in-Ok.ensures.few, same)
 
 pub returns-then-len-needed-clause-err : goal.returns-then-len-needed-clause-err
 returns-then-len-needed-clause-err g c = λ old same.

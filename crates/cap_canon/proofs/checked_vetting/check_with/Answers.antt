@@ -1,6 +1,6 @@
 use Rattle.std.proofs.Common.{Err, ap}
 use Rattle.cap_spec.specs.declared.StrictRefusal.TheVariants.{Refused}
-use Rattle.cap_spec.proofs.Verdicts.Refusals.{tree_not_refused}
+use Rattle.cap_spec.proofs.Verdicts.Refusals.{within_not_refused}
 use Rattle.cap_vet.specs.Demands.{words_under}
 use Rattle.cap_vet.specs.Limits.{depth_of, words_of}
 use Rattle.cap_vet.proofs.Demanding.{one_demand_fault, strict_meets}
@@ -16,9 +16,7 @@ returns-in-Err-Refused-clause-accepts g c = λ meets.
     let m = g.M.Segments.segments c.args.message.now in
     let d = c.args.demands in
     let refused = rw c.in-Err-Refused.field-0-is at c.in-Err-Refused.ensures.err in
-    let within = meets.within in
-    absurd (tree_not_refused m within.tree within.charge within.levels (words_under d m (words_of c.args.limits)) (depth_of c.args.limits)
-    c.in-Err-Refused.refusal within.denotes within.few_words within.few_levels
+    absurd (within_not_refused m (words_under d m (words_of c.args.limits)) (depth_of c.args.limits) c.in-Err-Refused.refusal meets.within
     (rw (← c.limits_under.ensures.words, ← c.limits_under.ensures.depth) refused))
 
 pub returns-in-Err-Refused-clause-refuses : goal.returns-in-Err-Refused-clause-refuses

@@ -4,7 +4,8 @@ use Rattle.std.proofs.lemmas.Bool.{false≢true}
 use Rattle.cap_spec.specs.Copies.{IsCanonical}
 use Rattle.cap_spec.specs.GreatestLimits.{most_depth, most_words}
 use Rattle.cap_spec.specs.Tree.{Tree}
-use Rattle.cap_spec.proofs.Verdicts.Refusals.{tree_not_refused}
+use Rattle.cap_spec.proofs.Verdicts.Refusals.{within_not_refused}
+use Rattle.cap_spec.proofs.Strict.Faults.{within_wider}
 use Rattle.cap_vet.specs.Limits.{depth_of, words_of}
 use Rattle.cap_vet.specs.Reports.{IsReport}
 use Rattle.cap_vet.specs.Turns.{IsStopped}
@@ -18,8 +19,9 @@ use Rattle.cap_canon.proofs.checked_vetting.is_canonical.Goals as goal
 not_stopped : {S : Type 0} (m : List (List ℕ)) (limits : Limits) (stopped : Stopped S) (r : Report) (t : Tree) → words_of limits ≡ most_words
     → depth_of limits ≡ most_depth → IsReport m most_words most_depth r t → IsStopped m limits (λ _. IsNotCanonical m) stopped → IsCanonical m → ⊥
 not_stopped m limits (Refused refusal) r t w d k h canon =
-    tree_not_refused m t r.charge r.depth (words_of limits) (depth_of limits) refusal k.denotes (omega (arith, w, k.within)) (omega (arith, d, k.shallow)) h
-not_stopped m limits (ByTurn stop) r t w d k h canon = h t r.charge r.depth k.denotes k.within canon
+    within_not_refused m (words_of limits) (depth_of limits) refusal
+    (within_wider m most_words most_depth (words_of limits) (depth_of limits) (t, r.charge, r.depth, k.within) (omega (arith, w)) (omega (arith, d))) h
+not_stopped m limits (ByTurn stop) r t w d k h canon = h t r.charge r.depth k.within.denotes k.within.few_words canon
 
 pub returns-in-Ok : goal.returns-in-Ok
 returns-in-Ok g c = rw c.message.ensures.value at c.in-Ok.ensures.canonical

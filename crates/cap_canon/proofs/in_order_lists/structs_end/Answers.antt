@@ -1,4 +1,4 @@
-use Rattle.std.proofs.Common.{◌≡◌, ◌∙◌, ◌+◌, ◌*◌, ◌<◌, length, arith, inr}
+use Rattle.std.proofs.Common.{◌≡◌, ◌∙◌, ◌+◌, ◌*◌, ◌<◌, length, arith, inr, sym}
 use Rattle.cap_spec.specs.Messages.{HasWord, segment_of}
 use Rattle.cap_spec.specs.Pointers.{data_size, list_size, middle, pointer_size}
 use Rattle.cap_spec.proofs.Frames.Messages.{HasWord-segment}
@@ -26,10 +26,12 @@ list_needs_all-requires g c =
     let m = g.M.Segments.segments a.message.now in
     let (cost, leads) = c.requires.leads in
     let there = structs_there m a.w a.word a.end cost leads c.requires.list.0 c.requires.list.1 in
-    let n = c.middle-count.result in
+    let n = c.middle.result in
     let d = c.from-data_words.result in
     let p = c.from-pointers.result in
-    let fits : n * (d + p) ≡ list_size a.word = rw (c.from.ensures, c.from-2.ensures, c.from-3.ensures, c.list_size-size.ensures) at c.if-from.false in
+    let fits : n * (d + p) ≡ list_size a.word =
+    rw (c.middle.ensures, c.from-data_words.ensures, c.data_size.ensures, c.from-pointers.ensures, c.pointer_size.ensures)
+    (sym c.words_of_elements.ensures ∙ c.if-words_of_elements-from.false ∙ c.from.ensures ∙ c.list_size-size.ensures) in
     let at : AreElementsAt m 0 (a.end + 1) n d p = record {
       exists = HasWord-segment m 0 a.w a.word leads.has;
       few = leads.stands.few;
@@ -48,10 +50,10 @@ returns-clause-some g c =
     let d : c.from-data_words.result ≡ data_size tag = c.from-data_words.ensures ∙ c.data_size.ensures in
     let p : c.from-pointers.result ≡ pointer_size tag = c.from-pointers.ensures ∙ c.pointer_size.ensures in
     let fits : middle tag * (data_size tag + pointer_size tag) ≡ list_size a.word =
-    rw (c.from.ensures, c.from-2.ensures, c.from-3.ensures, c.middle-count.ensures, d, p, size) at c.if-from.false in
+    sym c.words_of_elements.ensures ∙ c.if-words_of_elements-from.false ∙ c.from.ensures ∙ size in
     inr (rw size (structs_next m a.w a.end a.word tag c.requires.leads.0 c.requires.leads.1 c.requires.list has fits
     c.ranges.word.fits c.word-tag.type_inv
-    (rw (c.requires.first, d, p, c.middle-count.ensures) at (c.list_needs_all.ensures.yes c.if-not-list_needs_all.false))))
+    (rw (c.requires.first, d, p, c.middle.ensures) at (c.list_needs_all.ensures.yes c.if-not-list_needs_all.false))))
 
 pub returns-then-not-list_needs_all-clause-none : goal.returns-then-not-list_needs_all-clause-none
 returns-then-not-list_needs_all-clause-none g c =
@@ -62,16 +64,14 @@ returns-then-not-list_needs_all-clause-none g c =
     let d : c.from-data_words.result ≡ data_size tag = c.from-data_words.ensures ∙ c.data_size.ensures in
     let p : c.from-pointers.result ≡ pointer_size tag = c.from-pointers.ensures ∙ c.pointer_size.ensures in
     inr (structs_differ m a.w a.end a.word tag c.requires.leads.0 c.requires.leads.1 c.requires.list has
-    (rw (c.requires.first, d, p, c.middle-count.ensures) at (c.list_needs_all.ensures.no c.if-not-list_needs_all.true)))
+    (rw (c.requires.first, d, p, c.middle.ensures) at (c.list_needs_all.ensures.no c.if-not-list_needs_all.true)))
 
-pub returns-then-from-clause-none : goal.returns-then-from-clause-none
-returns-then-from-clause-none g c =
+pub returns-then-words_of_elements-from-clause-none : goal.returns-then-words_of_elements-from-clause-none
+returns-then-words_of_elements-from-clause-none g c =
     let a = c.args in
     let m = g.M.Segments.segments a.message.now in
     let tag = c.word-tag.result in
     let has : HasWord m 0 a.end tag = rw c.requires.first at c.word-tag.ensures in
     let size : c.list_size-size.result ≡ list_size a.word = c.list_size-size.ensures in
-    let d : c.from-data_words.result ≡ data_size tag = c.from-data_words.ensures ∙ c.data_size.ensures in
-    let p : c.from-pointers.result ≡ pointer_size tag = c.from-pointers.ensures ∙ c.pointer_size.ensures in
     inr (structs_surplus m a.w a.end a.word tag c.requires.leads.0 c.requires.leads.1 c.requires.list has
-    (rw (c.from.ensures, c.from-2.ensures, c.from-3.ensures, c.middle-count.ensures, d, p, size) at c.if-from.true))
+    (rw (c.words_of_elements.ensures, c.from.ensures, size) at c.if-words_of_elements-from.true))

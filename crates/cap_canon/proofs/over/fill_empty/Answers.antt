@@ -18,7 +18,7 @@ copy_within-requires-clause-most g c =
     let r = c.report-report.result in
     let k = c.report-report.ensures.accepted in
     rw c.message.ensures.value (λ t x d f.
-    let same = one_tree m 0 0 k.0 t r.charge r.depth x d k.1.denotes f in
+    let same = one_tree m 0 0 k.0 t r.charge r.depth x d k.1.within.denotes f in
     omega (arith, layout_charged m 0 0 t x d f, same.charge))
 
 pub returns-in_default-clause-tells : goal.returns-in_default-clause-tells
@@ -39,7 +39,7 @@ returns-clause-tells g c =
     let words = layout (trim k.0) in
     let new = c.in-Ok.bytes.items in
     let texts = rw c.message.ensures.value at c.in-Ok.ensures.text in
-    let text : new ≡ plain_text words = texts k.0 _ _ k.1.denotes in
+    let text : new ≡ plain_text words = texts k.0 _ _ k.1.within.denotes in
     let long : length new ≡ length (plain_text words) = ap length text in
     grown words (has_copy m r k.0 k.1 none) (omega (arith, ap length c.requires.empty, length_plain words)) (ap Ok (omega (arith, c.len.ensures, long)))
     (take_all (length (plain_text words)) new (omega (arith, long)) ∙ text) long
@@ -54,7 +54,7 @@ returns-clause-ok g c =
     let new = c.in-Ok.bytes.items in
     let spells = rw c.message.ensures.value at c.in-Ok.ensures.words in
     let same : plain_words (take c.len.result new) ≡ words = ap plain_words (take_all c.len.result new (omega (arith, c.len.ensures)))
-    ∙ spells k.0 _ _ k.1.denotes in
+    ∙ spells k.0 _ _ k.1.within.denotes in
     subst (HasCopy m) (sym same) (has_copy m r k.0 k.1 none)
 
 pub returns-clause-few : goal.returns-clause-few
@@ -63,9 +63,9 @@ returns-clause-few g c =
     let k = c.report-report.ensures.accepted in
     let words = layout (trim k.0) in
     let texts = rw c.message.ensures.value at c.in-Ok.ensures.text in
-    let long = ap length (texts k.0 _ _ k.1.denotes) in
+    let long = ap length (texts k.0 _ _ k.1.within.denotes) in
     let same = ap (λ q. q.charge) c.report-report.ensures.value in
-    omega (arith, long, length_plain words, layout_charged m 0 0 k.0 _ _ k.1.denotes, c.len.ensures, same)
+    omega (arith, long, length_plain words, layout_charged m 0 0 k.0 _ _ k.1.within.denotes, c.len.ensures, same)
 
 pub returns-clause-some : goal.returns-clause-some
 returns-clause-some g c =
@@ -73,5 +73,5 @@ returns-clause-some g c =
     let k = c.report-report.ensures.accepted in
     let words = layout (trim k.0) in
     let texts = rw c.message.ensures.value at c.in-Ok.ensures.text in
-    let long = ap length (texts k.0 _ _ k.1.denotes) in
+    let long = ap length (texts k.0 _ _ k.1.within.denotes) in
     omega (arith, long, length_plain words, c.len.ensures)

@@ -29,7 +29,7 @@ overflow_mul-result g c =
     let m = g.M.Segments.segments (message_of c.args.v.now) in
     let k = c.report.ensures.accepted in
     let counts = rw c.message.ensures.value at c.fill_front-words.ensures.count in
-    omega (arith, counts k.0 _ _ k.1.denotes, layout_charged m 0 0 k.0 _ _ k.1.denotes, k.1.within)
+    omega (arith, counts k.0 _ _ k.1.within.denotes, layout_charged m 0 0 k.0 _ _ k.1.within.denotes, k.1.within.few_words)
 
 pub returns-clause-tells : goal.returns-clause-tells
 returns-clause-tells g c =
@@ -79,7 +79,7 @@ returns-clause-few g c =
     let k = c.report.ensures.accepted in
     let counts = rw c.message.ensures.value at c.fill_front-words.ensures.count in
     let same = ap (λ r. r.charge) c.report.ensures.value in
-    omega (arith, counts k.0 _ _ k.1.denotes, layout_charged m 0 0 k.0 _ _ k.1.denotes, same)
+    omega (arith, counts k.0 _ _ k.1.within.denotes, layout_charged m 0 0 k.0 _ _ k.1.within.denotes, same)
 
 pub returns-clause-kept : goal.returns-clause-kept
 returns-clause-kept g c = λ le.

@@ -16,7 +16,7 @@ returns-then-fits_any-clause-makes g c =
     let words = layout (trim k.0) in
     let fits = c.fits_any.ensures.0 c.if-fits_any.true in
     let h = has_copy m r k.0 k.1 fits.0 in
-    let few = copy_charged m k.0 r.charge r.depth words k.1.denotes h in
+    let few = copy_charged m k.0 r.charge r.depth words k.1.within.denotes h in
     enough words h (omega (arith, few, length_plain words, fits.1, c.len.ensures)) refl refl
 
 pub returns-in-Err-clause-makes : goal.returns-in-Err-clause-makes

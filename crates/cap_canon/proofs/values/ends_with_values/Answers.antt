@@ -1,40 +1,36 @@
-use Rattle.std.proofs.Common.{◌≡◌, ◌≢◌, ◌∙◌, ◌+◌, ◌-◌, ◌*◌, ◌%◌, ◌<◌, ap, arith, length, refl, sym, eq-eqb}
+use Rattle.std.proofs.Common.{◌≡◌, ◌≢◌, ◌∙◌, ◌+◌, ◌-◌, ◌*◌, ◌%◌, ◌<◌, arith, length, refl, sym, eq-eqb}
 use Rattle.std.proofs.lemmas.Bool.{eqb-true}
 use Rattle.cap_spec.specs.Messages.{segment_of}
 use Rattle.cap_spec.specs.Pointers.{element_bits, list_words}
-use Rattle.cap_spec.specs.Words.{field}
-use Rattle.cap_canon.specs.Values.{used_bits}
-use Rattle.cap_canon.proofs.Rests.{rest_part, rest_words, values_full}
+use Rattle.cap_canon.proofs.Rests.{rest_words, values_full}
 use Rattle.cap_canon.proofs.Standing.{range_words, stand_values, values_stand}
 use Rattle.cap_canon.proofs.values.ends_with_values.Goals as goal
 
-pub returns-then-used-eq0 : goal.returns-then-used-eq0
-returns-then-used-eq0 g c =
+pub returns-then-rest_bits-eq0 : goal.returns-then-rest_bits-eq0
+returns-then-rest_bits-eq0 g c =
     let m = g.M.Segments.segments c.args.message.now in
     let full = values_full m 0 c.args.start c.args.code c.args.count c.args.words c.requires.code c.requires.words c.requires.inside c.read_range.ensures
-    (sym c.rest_bits-used.ensures ∙ c.if-used-eq0.true) in
+    (sym c.rest_bits.ensures ∙ c.if-rest_bits-eq0.true) in
     (λ _. full, λ _. refl)
 
 pub overflow_sub-words : goal.overflow_sub-words
 overflow_sub-words g c =
-    let over : (element_bits c.args.code * c.args.count) % 64 ≢ 0 = λ z. c.if-used-eq0.false (c.rest_bits-used.ensures ∙ z) in
+    let over : (element_bits c.args.code * c.args.count) % 64 ≢ 0 = λ z. c.if-rest_bits-eq0.false (c.rest_bits.ensures ∙ z) in
     omega (arith, c.requires.words, rest_words c.args.code c.args.count c.requires.code over)
 
 pub returns : goal.returns
 returns g c =
     let m = g.M.Segments.segments c.args.message.now in
     let before = c.args.words - 1 in
-    let over : (element_bits c.args.code * c.args.count) % 64 ≢ 0 = λ z. c.if-used-eq0.false (c.rest_bits-used.ensures ∙ z) in
+    let over : (element_bits c.args.code * c.args.count) % 64 ≢ 0 = λ z. c.if-rest_bits-eq0.false (c.rest_bits.ensures ∙ z) in
     let some = rest_words c.args.code c.args.count c.requires.code over in
     let many : list_words c.args.code c.args.count ≡ before + 1 = omega (arith, c.requires.words, some) in
-    let part = rest_part c.args.code c.args.count before c.requires.code many over in
     let last = c.word-last.result in
-    let kept : c.bits.result ≡ field last 0 (used_bits c.args.code c.args.count before) = c.bits.ensures
-    ∙ ap (λ n. field last 0 n) (c.rest_bits-used.ensures ∙ sym part) in
+    let kept = c.last_word.ensures before many in
     let inside : c.args.start + before < length (segment_of m 0) = omega (arith, c.requires.inside, c.requires.words, some) in
     let words = range_words m 0 c.args.start before (λ k lt. c.read_range.ensures k (omega (arith, lt))) in (
       λ h. values_stand m 0 c.args.start c.args.code c.args.count before last c.requires.code many inside words c.word-last.ensures
-          (eqb-true last c.bits.result h ∙ kept),
-      λ st. eq-eqb last c.bits.result
+          (eqb-true last c.last_word.result h ∙ kept),
+      λ st. eq-eqb last c.last_word.result
           (stand_values m 0 c.args.start c.args.code c.args.count before last c.requires.code many inside words c.word-last.ensures st ∙ sym kept),
     )

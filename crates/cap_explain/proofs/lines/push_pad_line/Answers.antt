@@ -1,6 +1,6 @@
 use Rattle.std.proofs.Common.{◌++◌, ◌∷◌, codes}
 use Rattle.cap_explain.specs.Explaining.{word_text}
-use Rattle.cap_explain.specs.Forms.{place_text}
+use Rattle.cap_explain.specs.FormTexts.{place_text}
 use Rattle.cap_explain.proofs.Appends.{then}
 use Rattle.cap_explain.proofs.lines.push_pad_line.Goals as goal
 

@@ -10,7 +10,7 @@ returns-then-start-from g c = λ s w leads.
 
 pub returns : goal.returns
 returns g c = λ s w leads.
-    let plain : ¬ IsComposite c.args.word = λ y. let e = c.if-is_composite.ensures.1 y in cc in (
+    let plain : ¬ IsComposite c.args.word = λ y. let e = c.if-is_structs.ensures.1 y in cc in (
       c.args.word,
       0,
       found-plain _ s w c.args.pads c.args.segment c.args.start c.args.word leads c.requires.exists

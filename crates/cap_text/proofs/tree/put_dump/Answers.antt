@@ -11,12 +11,12 @@ put_children-requires-clause-low g c = (
       (g.M.Segments.segments (node_message c.root-root.result)) (node_spot c.root-root.result)
       c.report-levels.ensures.accepted.0 c.report-levels.result.charge c.report-levels.result.depth
       (ap g.M.Segments.segments c.root-root.ensures.message) c.root-root.ensures.comes
-      c.report-levels.ensures.accepted.1.denotes),
+      c.report-levels.ensures.accepted.1.within.denotes),
   omega (
     arith,
     height_denoted (g.M.Segments.segments (message_of c.args.vetted.now)) 0 0
         c.report-levels.ensures.accepted.0 c.report-levels.result.charge c.report-levels.result.depth
-        c.report-levels.ensures.accepted.1.denotes,
+        c.report-levels.ensures.accepted.1.within.denotes,
   ),
 )
 

@@ -25,7 +25,7 @@ pub returns-else-count-eq0-clause-words : goal.returns-else-count-eq0-clause-wor
 returns-else-count-eq0-clause-words c = λ m s w q tag f base.
     let g = rw c.in-Pointers.is at f in
     let some : 0 < c.in-Pointers.count = omega (arith, c.if-count-eq0.false) in
-    rw c.first-in-Pointers.ensures (pointers_words m s w _ _ _ q tag _ _ _ _ c.args.level g some (omega arith) base)
+    rw (c.of_elements.ensures, c.first-list.ensures) (pointers_words m s w _ _ _ q tag _ _ _ _ c.args.level g some (omega arith) base)
 
 pub returns-else-pointers-eq0-2-clause-words : goal.returns-else-pointers-eq0-2-clause-words
 returns-else-pointers-eq0-2-clause-words c = λ m s w q tag f base.
@@ -34,7 +34,7 @@ returns-else-pointers-eq0-2-clause-words c = λ m s w q tag f base.
     let each : 0 < c.in-Structs.count = omega (arith, c.if-count-eq0-2.false) in
     let at_start : c.args.target.now.start + 1 + c.from-in-Structs.result ≡ c.args.target.now.start + 1
     + c.in-Structs.data_words = omega (arith, c.from-in-Structs.ensures) in
-    rw c.first-in-Structs.ensures
+    rw (c.of_elements-in-Structs.ensures, c.first-structs.ensures)
     (structs_words m s w _ _ _ q tag _ _ _ _ _ _ _ _ _ c.args.level g at_start some (omega arith) each (omega arith) base)
 
 pub returns-else-pointers-eq0-2-clause-branch : goal.returns-else-pointers-eq0-2-clause-branch
@@ -46,6 +46,6 @@ returns-else-pointers-eq0-2-clause-branch c = λ m s w q tag depth n f high low.
     + c.in-Structs.data_words = omega (arith, c.from-in-Structs.ensures) in
     let short : c.in-Structs.pointers < 2 ^ 16 = search rules in
     let small : c.in-Structs.count < 2 ^ 32 = search rules in
-    rw c.first-in-Structs.ensures
+    rw (c.of_elements-in-Structs.ensures, c.first-structs.ensures)
     (structs_branch m s w _ _ _ q tag _ _ _ _ _ _ _ _ _ c.args.level depth n g at_start some (omega arith) each (omega arith)
     short small high (rw c.in-Structs.is at low))

@@ -22,4 +22,4 @@ returns g c = λ m depth n h k more less path a.
     let last = c.args.last.now in
     let trail = subst (λ (u : List Ahead). IsTrail m (path_of (others ++ last ∷ []) ∷ h.seen) u) (c.go_on.ensures.none c.if-go_on.false)
     (k.2 h.seen (path_of (others ++ last ∷ [])) (rest_from [] (others ++ last ∷ [])) h.trail) in
-    none_higher m depth n more others last path h trail less a.numbered
+    none_higher m depth n more others last path _ _ h trail less a.numbered

@@ -10,8 +10,8 @@ pub returns-then-number-eq0-clause-tells : goal.returns-then-number-eq0-clause-t
 returns-then-number-eq0-clause-tells g c = (
   (λ path a.
       let m = g.M.Segments.segments c.args.message.now in
-      let some : 0 < c.args.number = some_number m c.args.number path a.numbered in
-      let root : 0 < length (segment_of m 0) = has_root m c.args.number path a.numbered in
+      let some : 0 < c.args.number = some_number m c.args.number path _ _ a.numbered in
+      let root : 0 < length (segment_of m 0) = has_root m c.args.number path _ _ a.numbered in
       elim c.then-number-eq0.branch [
         | then-number-eq0-via-then-number-eq0 w ↦ omega (arith, w.if-number-eq0.true)
         | then-number-eq0-via-else-number-eq0+then-len-eq0 w ↦ omega (arith, w.len.ensures, w.if-len-eq0.true)

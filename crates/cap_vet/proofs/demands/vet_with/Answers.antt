@@ -1,13 +1,18 @@
 use Rattle.std.proofs.Common.{Err, ap}
 use Rattle.cap_spec.specs.declared.StrictRefusal.TheVariants.{Refused}
 use Rattle.cap_vet.specs.Limits.{words_of}
-use Rattle.cap_vet.proofs.Demanding.{one_demand_fault, strict_meets}
+use Rattle.cap_vet.proofs.Demanding.{fault_demanded, one_demand_fault, strict_meets}
 use Rattle.cap_vet.proofs.demands.vet_with.Goals as goal
 
 pub returns-in-Ok-clause-refuses : goal.returns-in-Ok-clause-refuses
 returns-in-Ok-clause-refuses g c = λ r h. absurd
     (strict_meets c.args.demands (g.M.Segments.segments c.args.message.now) (words_of c.args.limits) _ _ _
     c.limits_under-limits.ensures.words c.limits_under-limits.ensures.depth r c.in-Ok.ensures.ok.1 h)
+
+pub returns-in-Err-clause-err : goal.returns-in-Err-clause-err
+returns-in-Err-clause-err g c = fault_demanded c.args.demands (g.M.Segments.segments c.args.message.now)
+    (words_of c.args.limits) _ _ _ c.limits_under-limits.ensures.words c.limits_under-limits.ensures.depth
+    c.in-Err.refusal c.if-demands.true c.in-Err.ensures.err
 
 pub returns-in-Err-clause-refuses : goal.returns-in-Err-clause-refuses
 returns-in-Err-clause-refuses g c = λ r h. ap Err

@@ -3,7 +3,7 @@ use Rattle.cap_spec.specs.Faults.{IsRefused}
 use Rattle.cap_spec.specs.Occupying.{IsFirstOverlap}
 use Rattle.cap_spec.specs.declared.Refusal.{Refusal}
 use Rattle.cap_spec.proofs.Verdicts.OneFault.{one_refusal}
-use Rattle.cap_spec.proofs.Verdicts.Refusals.{tree_not_refused}
+use Rattle.cap_spec.proofs.Verdicts.Refusals.{within_not_refused}
 use Rattle.cap_vet.specs.Limits.{depth_of, words_of}
 use Rattle.cap_vet.specs.declared.exclusiveness.exclusive_vetting.ExclusiveRefusal.TheVariants.{Refused}
 use Rattle.cap_vet.proofs.OneReport.{not_both}
@@ -40,15 +40,13 @@ returns-in-Err-clause-refuses g c =
 
 pub returns-in-Err-clause-accepts : goal.returns-in-Err-clause-accepts
 returns-in-Err-clause-accepts g c =
-    λ t charge d h e f disjoint. absurd (tree_not_refused (g.M.Segments.segments c.args.message.now) t charge d
-    (words_of c.args.limits)
-    (depth_of c.args.limits) c.in-Err.refusal h e f c.in-Err.ensures.err)
+    λ h disjoint. absurd (within_not_refused (g.M.Segments.segments c.args.message.now) (words_of c.args.limits)
+    (depth_of c.args.limits) c.in-Err.refusal h c.in-Err.ensures.err)
 
 pub returns-in-Err-clause-names : goal.returns-in-Err-clause-names
 returns-in-Err-clause-names g c =
-    λ s w n h first. absurd (tree_not_refused (g.M.Segments.segments c.args.message.now) h.tree h.charge h.levels
-    (words_of c.args.limits)
-    (depth_of c.args.limits) c.in-Err.refusal h.denotes h.few_words h.few_levels c.in-Err.ensures.err)
+    λ s w n h first. absurd (within_not_refused (g.M.Segments.segments c.args.message.now) (words_of c.args.limits)
+    (depth_of c.args.limits) c.in-Err.refusal h c.in-Err.ensures.err)
 
 pub returns-in-Err-clause-refused : goal.returns-in-Err-clause-refused
 returns-in-Err-clause-refused g c = λ r e.

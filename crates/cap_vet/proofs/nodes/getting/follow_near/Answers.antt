@@ -1,18 +1,17 @@
 -- The path is followed by looks alone.
-use Rattle.std.proofs.Common.{◌∙◌, ◌++◌, ◌∷◌, [], List, ap, arith, refl, subst, sym, append_assoc}
+use Rattle.std.proofs.Common.{◌∙◌, ◌++◌, ◌∷◌, [], List, ap, arith, refl, subst, sym, append_assoc, Option}
 use Rattle.cap_spec.specs.Paths.{word}
 use Rattle.cap_spec.specs.declared.Step.{Step}
-use Rattle.cap_vet.specs.Charging.{arrival_of}
 use Rattle.cap_vet.specs.Ways.{IsWay, SomeArrives}
-use Rattle.cap_vet.specs.declared.nodes.charged.Arrival.{Arrival}
 use Rattle.cap_vet.specs.declared.nodes.way.Way.TheVariants.{To}
+use Rattle.cap_vet.specs.declared.strictness.strict_turn.LaxPointer.{LaxPointer}
 use Rattle.cap_vet.proofs.PathWays.{done_steps}
 use Rattle.cap_vet.proofs.Somewhere.{arrival_few, arrival_levels}
 use Rattle.cap_vet.proofs.StepsGiven.{no_step_given, step_given}
 use Rattle.cap_vet.proofs.nodes.getting.follow_near.Goals as goal
 
 pub loop-step-init : goal.loop-step-init
-loop-step-init g c = ([], (word 0 0, c.in_ok-at.ensures), λ steps left. (steps, refl, left))
+loop-step-init g c = ([], (word 0 0, c.in_ok-at.ensures.at), λ steps left. (steps, refl, left), c.in_ok-at.ensures.strict)
 
 pub step_near-requires-clause-arrived : goal.step_near-requires-clause-arrived
 step_near-requires-clause-arrived g c =
@@ -20,25 +19,29 @@ step_near-requires-clause-arrived g c =
 
 pub step_near-requires-clause-levels : goal.step_near-requires-clause-levels
 step_near-requires-clause-levels g c =
-    let l = arrival_levels _ _ _ (arrival_of c.loop-step.at) (step_near-requires-clause-arrived g c) in
+    let l = arrival_levels _ _ _ c.loop-step.at (step_near-requires-clause-arrived g c) in
     omega (arith, l)
 
 pub step_near-requires-clause-few : goal.step_near-requires-clause-few
 step_near-requires-clause-few g c =
-    let l = arrival_few _ _ _ (arrival_of c.loop-step.at) (step_near-requires-clause-arrived g c) in
+    let l = arrival_few _ _ _ c.loop-step.at (step_near-requires-clause-arrived g c) in
     omega (arith, l)
+
+pub step_near-requires-clause-strict : goal.step_near-requires-clause-strict
+step_near-requires-clause-strict g c = c.loop-step.invariant.3
 
 pub loop-step-preserved : goal.loop-step-preserved
 loop-step-preserved g c =
     let h = c.loop-step.invariant in
     let step = c.in-Some.step in (
       h.0 ++ step ∷ [],
-      c.in-Some-step_near.ensures h.0 h.1.0 h.1.1,
+      c.in-Some-step_near.ensures.on h.0 h.1.0 h.1.1,
       λ steps left.
           let k = h.2 steps left in
           let n = step_given g.S.StepSource.gives c.loop-step.left c.next_step.new.self c.next_step.result step k.0 c.in-Some.is
           c.next_step.ensures.some c.next_step.ensures.none k.2 in
           (n.0, k.1 ∙ ap (λ (ss : List Step). h.0 ++ ss) n.1 ∙ sym (append_assoc h.0 (step ∷ []) n.0), n.2),
+      c.in-Some-step_near.ensures.strict,
     )
 
 pub returns-clause-way : goal.returns-clause-way
@@ -47,12 +50,13 @@ returns-clause-way g c = λ steps left.
     let h = c.loop-step.invariant in
     let k = h.2 steps left in
     let none = no_step_given g.S.StepSource.gives c.loop-step.left c.next_step.new.self c.next_step.result k.0 c.in_default.is c.next_step.ensures.some k.2 in
-    subst (λ (at : Arrival). IsWay m c.args.words c.args.depth steps (To at)) (sym c.arrival.ensures)
-    (subst (λ (ss : List Step). IsWay m c.args.words c.args.depth ss (To (arrival_of c.loop-step.at)))
-    (done_steps [] h.0 steps k.0 k.1 none) (h.1.0, h.1.1))
+    let at = c.loop-step.at in
+    subst (λ (o : Option LaxPointer). IsWay m c.args.words c.args.depth steps (To record at { lax = o })) h.3
+    (subst (λ (ss : List Step). IsWay m c.args.words c.args.depth ss (To at)) (done_steps [] h.0 steps k.0 k.1 none) h.1)
 
 pub returns-clause-leads : goal.returns-clause-leads
 returns-clause-leads g c =
+    let m = g.M.Segments.segments c.args.message.now in
     let h = c.loop-step.invariant in
-    subst (λ (at : Arrival). SomeArrives (g.M.Segments.segments c.args.message.now) c.args.words c.args.depth at)
-    (sym c.arrival.ensures) ∣ (h.0, h.1.0, h.1.1) ∣₁
+    let at = c.loop-step.at in
+    subst (λ (o : Option LaxPointer). SomeArrives m c.args.words c.args.depth record at { lax = o }) h.3 ∣ (h.0, h.1.0, h.1.1) ∣₁

@@ -5,8 +5,8 @@ use Rattle.cap_spec.proofs.Frames.Messages.{HasWord-at}
 use Rattle.cap_vet.proofs.Charging.{arrives_root}
 use Rattle.cap_vet.proofs.nodes.near_arrival.at_root_near.Goals as goal
 
-pub returns : goal.returns
-returns g c =
+pub returns-clause-at : goal.returns-clause-at
+returns-clause-at g c =
     let m = g.M.Segments.segments c.args.message.now in
     let some : 0 < length (segment_of m 0) = omega (arith, c.if-len-eq0.false, c.len.ensures) in
     let root : (x : ℕ) × HasWord m 0 0 x = HasWord-at m 0 0 some in

@@ -2,7 +2,7 @@ use Rattle.std.proofs.Common.{ap, ◌∙◌, Err}
 use Rattle.cap_spec.specs.Tree.{pointer_count}
 use Rattle.cap_spec.proofs.Verdicts.OneFault.{one_refusal}
 use Rattle.cap_spec.proofs.Trees.OneTree.{one_tree}
-use Rattle.cap_spec.proofs.Verdicts.Refusals.{refused_justified, tree_not_refused}
+use Rattle.cap_spec.proofs.Verdicts.Refusals.{refused_justified, within_not_refused}
 use Rattle.cap_vet.proofs.Verdicts.{accepted_at_end, vetted_within}
 use Rattle.cap_vet.proofs.walk.vetting.vet.Goals as goal
 
@@ -13,13 +13,13 @@ pub returns-clause-refuses : goal.returns-clause-refuses
 returns-clause-refuses g c = λ r h.
     let w = c.in-Ok.ensures.ok in
     let a = accepted_at_end _ _ _ _ w.seen w.ahead w.walks in
-    absurd (tree_not_refused _ a.0 _ _ _ _ r a.1.denotes a.1.within a.1.shallow h)
+    absurd (within_not_refused _ _ _ r (a.0, _, _, a.1.within) h)
 
 pub returns-clause-one : goal.returns-clause-one
 returns-clause-one g c = λ t charge d h.
     let w = c.in-Ok.ensures.ok in
     let a = accepted_at_end _ _ _ _ w.seen w.ahead w.walks in
-    let same = one_tree _ 0 0 a.0 t _ _ charge d a.1.denotes h in
+    let same = one_tree _ 0 0 a.0 t _ _ charge d a.1.within.denotes h in
     (same.charge, same.depth, a.1.pointers ∙ ap pointer_count same.part)
 
 pub returns-in-Err-Refused-clause-err : goal.returns-in-Err-Refused-clause-err
@@ -30,8 +30,8 @@ returns-in-Err-Refused-clause-justified g c = rw c.in-Err-Refused.field-0-is
     (refused_justified _ _ _ c.in-Err-Refused.refusal (rw c.in-Err-Refused.field-0-is at c.in-Err-Refused.ensures.err))
 
 pub returns-in-Err-Refused-clause-accepts : goal.returns-in-Err-Refused-clause-accepts
-returns-in-Err-Refused-clause-accepts g c = λ t charge d h e f.
-    absurd (tree_not_refused _ t charge d _ _ _ h e f (rw c.in-Err-Refused.field-0-is at c.in-Err-Refused.ensures.err))
+returns-in-Err-Refused-clause-accepts g c = λ within.
+    absurd (within_not_refused _ _ _ _ within (rw c.in-Err-Refused.field-0-is at c.in-Err-Refused.ensures.err))
 
 pub returns-in-Err-Refused-clause-refuses : goal.returns-in-Err-Refused-clause-refuses
 returns-in-Err-Refused-clause-refuses g c = λ r h.

@@ -7,8 +7,8 @@ use Rattle.cap_vet.proofs.Passing.{topmost_in}
 use Rattle.cap_vet.proofs.Stacks.{known_past, next_at, steps_on}
 use Rattle.cap_vet.proofs.walk.walking.walk_on.Goals as goal
 
-pub turn_near-requires : goal.turn_near-requires
-turn_near-requires g c =
+pub turn_described-requires : goal.turn_described-requires
+turn_described-requires g c =
     let walking = c.walk.invariant.walking in
     let f = topmost_in _ _ _ c.walk.stack.items c.walk.run c.walk.report _ _ walking.walks in
     let rest = has_rest c.walk.run f.some in
@@ -43,20 +43,20 @@ turn_other-requires g c = (
 pub pass_nulls-requires : goal.pass_nulls-requires
 pass_nulls-requires g c =
     let m = g.M.Segments.segments c.args.message.now in
-    let on = rw c.in-More.is at (steps_on m c.args.limits.now c.walk.stack.items c.walk.run c.walk.report c.turn_near.new.report _
-    (g.T.Turn.knows c.turn_near.new.turn m) c.in-Some-Ok.below c.go_on.result c.go_on.new.stack.items c.go_on.new.run c.walk.invariant.walking
+    let on = rw c.in-More.is at (steps_on m c.args.limits.now c.walk.stack.items c.walk.run c.walk.report c.turn_described.new.report _
+    (g.T.Turn.knows c.turn_described.new.turn m) c.in-Some-Ok.below c.go_on.result c.go_on.new.stack.items c.go_on.new.run c.walk.invariant.walking
     (λ runs at. rw c.in-Some-Ok.field-0-is at (c.in-Some-Ok.ensures.ok runs at)) c.go_on.ensures.runs) in
     (_, _, c.go_on.new.stack.items, on.walking.seen, on.walking.ahead, on.walking.walks)
 
 pub walk-preserved-then-is_null : goal.walk-preserved-then-is_null
 walk-preserved-then-is_null g c =
     let m = g.M.Segments.segments c.args.message.now in
-    let on = rw c.in-More.is at (steps_on m c.args.limits.now c.walk.stack.items c.walk.run c.walk.report c.turn_near.new.report _
-    (g.T.Turn.knows c.turn_near.new.turn m) c.in-Some-Ok.below c.go_on.result c.go_on.new.stack.items c.go_on.new.run c.walk.invariant.walking
+    let on = rw c.in-More.is at (steps_on m c.args.limits.now c.walk.stack.items c.walk.run c.walk.report c.turn_described.new.report _
+    (g.T.Turn.knows c.turn_described.new.turn m) c.in-Some-Ok.below c.go_on.result c.go_on.new.stack.items c.go_on.new.run c.walk.invariant.walking
     (λ runs at. rw c.in-Some-Ok.field-0-is at (c.in-Some-Ok.ensures.ok runs at)) c.go_on.ensures.runs) in
     let passed = c.pass_nulls.ensures (words_of c.args.limits.now) (depth_of c.args.limits.now) c.go_on.new.stack.items _ _ on.walking.walks in
-    let known = known_past m (g.T.Turn.knows c.turn_near.new.turn m) passed.nulls on.walking.seen
-    (g.met.T.Turn.passes c.turn_near.new.turn m) passed.are_null on.walking.known in
+    let known = known_past m (g.T.Turn.knows c.turn_described.new.turn m) passed.nulls on.walking.seen
+    (g.met.T.Turn.passes c.turn_described.new.turn m) passed.are_null on.walking.known in
     record {
       room = rw c.in-More.is at c.go_on.ensures.room;
       walking = record { seen = passed.nulls ++ on.walking.seen; ahead = passed.later; walks = passed.walks; known = known };
@@ -65,8 +65,8 @@ walk-preserved-then-is_null g c =
 pub walk-smaller-then-is_null : goal.walk-smaller-then-is_null
 walk-smaller-then-is_null g c =
     let m = g.M.Segments.segments c.args.message.now in
-    let on = rw c.in-More.is at (steps_on m c.args.limits.now c.walk.stack.items c.walk.run c.walk.report c.turn_near.new.report _
-    (g.T.Turn.knows c.turn_near.new.turn m) c.in-Some-Ok.below c.go_on.result c.go_on.new.stack.items c.go_on.new.run c.walk.invariant.walking
+    let on = rw c.in-More.is at (steps_on m c.args.limits.now c.walk.stack.items c.walk.run c.walk.report c.turn_described.new.report _
+    (g.T.Turn.knows c.turn_described.new.turn m) c.in-Some-Ok.below c.go_on.result c.go_on.new.stack.items c.go_on.new.run c.walk.invariant.walking
     (λ runs at. rw c.in-Some-Ok.field-0-is at (c.in-Some-Ok.ensures.ok runs at)) c.go_on.ensures.runs) in
     let passed = c.pass_nulls.ensures (words_of c.args.limits.now) (depth_of c.args.limits.now) c.go_on.new.stack.items _ _ on.walking.walks in
     omega (arith, on.less, passed.less)
@@ -74,32 +74,32 @@ walk-smaller-then-is_null g c =
 pub walk-preserved-else-is_null : goal.walk-preserved-else-is_null
 walk-preserved-else-is_null g c =
     let m = g.M.Segments.segments c.args.message.now in
-    let on = rw c.in-More.is at (steps_on m c.args.limits.now c.walk.stack.items c.walk.run c.walk.report c.turn_near.new.report _
-    (g.T.Turn.knows c.turn_near.new.turn m) c.in-Some-Ok.below c.go_on.result c.go_on.new.stack.items c.go_on.new.run c.walk.invariant.walking
+    let on = rw c.in-More.is at (steps_on m c.args.limits.now c.walk.stack.items c.walk.run c.walk.report c.turn_described.new.report _
+    (g.T.Turn.knows c.turn_described.new.turn m) c.in-Some-Ok.below c.go_on.result c.go_on.new.stack.items c.go_on.new.run c.walk.invariant.walking
     (λ runs at. rw c.in-Some-Ok.field-0-is at (c.in-Some-Ok.ensures.ok runs at)) c.go_on.ensures.runs) in
     record { room = rw c.in-More.is at c.go_on.ensures.room; walking = on.walking }
 
 pub walk-smaller-else-is_null : goal.walk-smaller-else-is_null
 walk-smaller-else-is_null g c =
     let m = g.M.Segments.segments c.args.message.now in
-    let on = rw c.in-More.is at (steps_on m c.args.limits.now c.walk.stack.items c.walk.run c.walk.report c.turn_near.new.report _
-    (g.T.Turn.knows c.turn_near.new.turn m) c.in-Some-Ok.below c.go_on.result c.go_on.new.stack.items c.go_on.new.run c.walk.invariant.walking
+    let on = rw c.in-More.is at (steps_on m c.args.limits.now c.walk.stack.items c.walk.run c.walk.report c.turn_described.new.report _
+    (g.T.Turn.knows c.turn_described.new.turn m) c.in-Some-Ok.below c.go_on.result c.go_on.new.stack.items c.go_on.new.run c.walk.invariant.walking
     (λ runs at. rw c.in-Some-Ok.field-0-is at (c.in-Some-Ok.ensures.ok runs at)) c.go_on.ensures.runs) in
     on.less
 
 pub returns-in-Full-clause-full : goal.returns-in-Full-clause-full
 returns-in-Full-clause-full g c = λ f.
     let m = g.M.Segments.segments c.args.message.now in
-    let on = rw c.in-Full.is at (steps_on m c.args.limits.now c.walk.stack.items c.walk.run c.walk.report c.turn_near.new.report _
-    (g.T.Turn.knows c.turn_near.new.turn m) c.in-Some-Ok.below c.go_on.result c.go_on.new.stack.items c.go_on.new.run c.walk.invariant.walking
+    let on = rw c.in-Full.is at (steps_on m c.args.limits.now c.walk.stack.items c.walk.run c.walk.report c.turn_described.new.report _
+    (g.T.Turn.knows c.turn_described.new.turn m) c.in-Some-Ok.below c.go_on.result c.go_on.new.stack.items c.go_on.new.run c.walk.invariant.walking
     (λ runs at. rw c.in-Some-Ok.field-0-is at (c.in-Some-Ok.ensures.ok runs at)) c.go_on.ensures.runs) in
     (rw c.in-Full.is at c.go_on.ensures.room, on.walking)
 
 pub returns-in-Done-clause-done : goal.returns-in-Done-clause-done
 returns-in-Done-clause-done g c = λ f.
     let m = g.M.Segments.segments c.args.message.now in
-    let on = rw c.in-Done.is at (steps_on m c.args.limits.now c.walk.stack.items c.walk.run c.walk.report c.turn_near.new.report _
-    (g.T.Turn.knows c.turn_near.new.turn m) c.in-Some-Ok.below c.go_on.result c.go_on.new.stack.items c.go_on.new.run c.walk.invariant.walking
+    let on = rw c.in-Done.is at (steps_on m c.args.limits.now c.walk.stack.items c.walk.run c.walk.report c.turn_described.new.report _
+    (g.T.Turn.knows c.turn_described.new.turn m) c.in-Some-Ok.below c.go_on.result c.go_on.new.stack.items c.go_on.new.run c.walk.invariant.walking
     (λ runs at. rw c.in-Some-Ok.field-0-is at (c.in-Some-Ok.ensures.ok runs at)) c.go_on.ensures.runs) in
     on.walking
 

@@ -7,11 +7,11 @@ use Rattle.cap_calls.specs.CallFindings.{refused_found}
 use Rattle.cap_calls.specs.CallNodes.{kind_node, offset_of}
 use Rattle.cap_calls.specs.NodeCalls.{Gets, a_node, no_meeting, no_node, path_found}
 use Rattle.cap_calls.specs.RangeCalls.{path_after, step_after}
-use Rattle.cap_calls.specs.RangeNear.{IsNearNode}
+use Rattle.cap_calls.specs.RangeShortcut.{IsShortcutNode}
 use Rattle.cap_calls.specs.declared.answer.Answer.TheVariants.{Good, NoNode}
 use Rattle.cap_calls.specs.declared.found.Found.{Found}
 use Rattle.cap_calls.proofs.RangeGotten.{more_so_far, nothing_not_good, range_full, range_stops, refused_not_good, written_also}
-use Rattle.cap_calls.proofs.RangeNear.{count_near, gets_near}
+use Rattle.cap_calls.proofs.RangeShortcut.{count_shortcut, gets_shortcut}
 use Rattle.cap_calls.proofs.RangePaths.{given_fault, given_node, given_nothing, given_path}
 use Rattle.cap_calls.proofs.calls.get_range.GettingRangeCall.on.Goals as goal
 use Rattle.cap_calls.proofs.calls.get_range.GettingRangeCall.on.Goals.{in-Some, in-None+in-Ok-Some}
@@ -28,24 +28,24 @@ nodes-init c =
     let n = cut start.message.now.sizes.now start.message.now.bytes.now in
     let seen : n ≡ m = ap (λ (v : ByteView). cut v.sizes.now v.bytes.now) c.new-start.ensures.message in
     let is = c.new-start.ensures.start first refl in
-    written_also (λ k node. IsNearNode c.choose-near.result k node)
+    written_also (λ k node. IsShortcutNode c.choose-shortcut.result k node)
     (λ k node. Gets (path k) node c.args.demands m c.args.limits.words c.args.limits.depth (path_found Good)) _ _ _
-    (λ k node near. gets_near c.args.demands m n c.args.limits.words c.args.limits.depth first rest (path k) (step_after step k) start
-    node seen is (c.parts.ensures k) (near n start step c.parts.result.2.rest.now c.choose-near.ensures))
+    (λ k node shortcut. gets_shortcut c.args.demands m n c.args.limits.words c.args.limits.depth first rest (path k) (step_after step k) start
+    node seen is (c.parts.ensures k) (shortcut n start step c.parts.result.2.rest.now c.choose-shortcut.ensures))
     c.elements-done.ensures
 
 pub elements-done-requires : goal.elements-done-requires
 elements-done-requires c =
     let start = c.new-start.result in
-    count_near (cut start.message.now.sizes.now start.message.now.bytes.now) start c.parts.result.1 c.parts.result.2.rest.now c.choose-near.result _
-    (c.count.ensures ∙ ap (λ (v : ByteView). length (cut v.sizes.now v.bytes.now)) (sym c.new-start.ensures.message)) c.choose-near.ensures
+    count_shortcut (cut start.message.now.sizes.now start.message.now.bytes.now) start c.parts.result.1 c.parts.result.2.rest.now c.choose-shortcut.result _
+    (c.count.ensures ∙ ap (λ (v : ByteView). length (cut v.sizes.now v.bytes.now)) (sym c.new-start.ensures.message)) c.choose-shortcut.ensures
 
 pub pointed-requires-clause-count : goal.pointed-requires-clause-count
 pointed-requires-clause-count c =
     let start = c.new-start.result in
-    count_near (cut start.message.now.sizes.now start.message.now.bytes.now) start c.parts.result.1 c.parts.result.2.rest.now c.choose-near.result _
+    count_shortcut (cut start.message.now.sizes.now start.message.now.bytes.now) start c.parts.result.1 c.parts.result.2.rest.now c.choose-shortcut.result _
     (c.count-in-nodes.ensures ∙ ap (λ (v : ByteView). length (cut v.sizes.now v.bytes.now)) (sym c.new-start.ensures.message))
-    c.choose-near.ensures
+    c.choose-shortcut.ensures
 
 pub returns-in-Ok-None : goal.returns-in-Ok-None
 returns-in-Ok-None c =
@@ -96,8 +96,8 @@ nodes-preserved c =
     let lt : c.nodes.k < length c.nodes.out = omega (arith, c.nodes-test.true, c.nodes.invariant.size) in
     elim c.match-pointed.branch [
       | in-Some w ↦ (
-          let has = w.in-Some.ensures n start step c.parts.result.2.rest.now c.choose-near.ensures in
-          let gets = gets_near c.args.demands m n c.args.limits.words c.args.limits.depth first rest path (step_after step c.nodes.k) start
+          let has = w.in-Some.ensures n start step c.parts.result.2.rest.now c.choose-shortcut.ensures in
+          let gets = gets_shortcut c.args.demands m n c.args.limits.words c.args.limits.depth first rest path (step_after step c.nodes.k) start
           w.in-Some.node seen is (c.parts.ensures c.nodes.k) has in
           more_so_far (λ k. path_after self.steps.now self.varying k) _ _ _ _ _ c.nodes.out _ c.nodes.k w.in-Some.node c.nodes.invariant
           lt gets w.out-is)

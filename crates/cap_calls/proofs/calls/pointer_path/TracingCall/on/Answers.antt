@@ -2,7 +2,7 @@ use Rattle.std.proofs.Common.{◌∙◌, ◌≤◌, ◌++◌, ap, arith, drop, l
 use Rattle.std.proofs.lemmas.List.{length-replicate}
 use Rattle.cap_spec.specs.declared.Step.{Step}
 use Rattle.cap_spec.specs.declared.Step.TheVariants.{Ptr}
-use Rattle.cap_calls.specs.PointerCalls.{call_step, steps_found, too_small, written}
+use Rattle.cap_calls.specs.PointerCalls.{call_step, none, steps_found, too_small, written}
 use Rattle.cap_calls.specs.declared.answer.Answer.TheVariants.{BufferTooSmall, Good}
 use Rattle.cap_calls.specs.declared.found.Found.{Found}
 use Rattle.cap_calls.proofs.PointerPaths.{path_kept}
@@ -14,6 +14,12 @@ returns-then-count-out c =
     let found = c.found_of_steps.ensures ∙ ap (steps_found BufferTooSmall) t.2 in
     let count = ap (λ (f : Found). f.count) c.found_of_steps.ensures in
     (too_small t.0 (record { traceable = t.1; within = omega (arith, c.if-self-words.false, c.words.ensures.value) }) (omega (arith, c.if-count-out.true, t.2)) found refl, omega (arith, count, c.in-Some.ensures.few))
+
+pub returns-in_default : goal.returns-in_default
+returns-in_default c =
+    let missing = c.in_default.ensures.tells.0 in
+    let count = ap (λ (f : Found). f.count) c.path_answer-in_default.ensures in
+    (none (λ path counted. missing path counted.traceable) c.path_answer-in_default.ensures refl, omega (arith, count))
 
 pub returns : goal.returns
 returns c =

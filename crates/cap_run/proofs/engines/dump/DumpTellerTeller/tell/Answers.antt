@@ -14,4 +14,4 @@ returns g c = λ words depth t h.
     writes_text g.O.ByteOut (accepted_text c.args.number report ++ dump_text t) Accepted texts ⊥
     c.args.out.now c.write_tree.new.out c.write_tree.result c.after_text.result
     (record { report = report; tree = t; is_report = h; lines = refl; counts = refl })
-    (c.write_tree.ensures t report.charge report.depth h.denotes) c.after_text.ensures
+    (c.write_tree.ensures t report.charge report.depth h.within.denotes) c.after_text.ensures

@@ -20,5 +20,5 @@ returns g c = λ words depth t h.
     (record { report = report; tree = t; is_report = h; lines = refl; counts = refl })
     (node_told g.M.Segments (Writes g.O.ByteOut c.args.out.now written.new.out written.result) c.args.number
     (node_at t path) (message_of c.args.vetted.now) c.get.result written.ensures.found written.ensures.none
-    c.get.ensures.message (c.get.ensures.node t report.charge report.depth h.denotes))
+    c.get.ensures.message (c.get.ensures.node t report.charge report.depth h.within.denotes))
     c.after_text.ensures

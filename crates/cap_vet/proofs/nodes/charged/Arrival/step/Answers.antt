@@ -1,5 +1,4 @@
-use Rattle.std.proofs.Common.{◌+◌, ◌≡◌, ◌∙◌, ap, arith, refl, rules}
-use Rattle.cap_spec.specs.Denoting.{element_levels}
+use Rattle.std.proofs.Common.{arith, refl, rules}
 use Rattle.cap_spec.specs.Messages.{IsMessage}
 use Rattle.cap_spec.specs.Paths.{word, element}
 use Rattle.cap_ptr.specs.Shapes.{charge_of}
@@ -37,12 +36,10 @@ pub returns-in-Some-Element-clause-some : goal.returns-in-Some-Element-clause-so
 returns-in-Some-Element-clause-some g c = λ path a h.
     let m = g.M.Segments.segments c.args.message.now in
     let e = c.in-Some-Element in
-    let goes = (rw e.field-0-is at e.ensures) m a h.found in
-    let level : c.args.self.now.level + c.from.result ≡ c.args.self.now.level + element_levels 1 =
-    ap (λ x. c.args.self.now.level + x) (c.from.ensures ∙ c.levels_of_elements.ensures.value) in (
+    let goes = (rw e.field-0-is at e.ensures) m a h.found in (
       element e.segment e.start e.data_words e.pointers,
-      arrives_element m _ _ path a c.args.self.now _ c.args.step e.segment e.start e.data_words e.pointers h goes.0 goes.1.0 goes.1.1
-          c.element.ensures level refl refl refl,
+      rw c.at_element.ensures
+          (arrives_element m _ _ path a c.args.self.now c.args.step e.segment e.start e.data_words e.pointers _ refl h goes.0 goes.1.0 goes.1.1),
     )
 
 pub step-requires : goal.step-requires

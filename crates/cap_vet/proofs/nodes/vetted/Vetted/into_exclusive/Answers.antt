@@ -9,11 +9,11 @@ mark_message-requires-clause-accepted g c =
 
 pub returns-in-Ok-mark_message-clause-names : goal.returns-in-Ok-mark_message-clause-names
 returns-in-Ok-mark_message-clause-names g c = λ s w n first. absurd
-    (none_of_disjoint _ c.in-Ok-mark_message.ensures.ok first.path first.overlaps)
+    (none_of_disjoint _ c.in-Ok-mark_message.ensures.ok first.path first.first.holds)
 
 pub returns-clause-accepts : goal.returns-clause-accepts
 returns-clause-accepts g c = λ disjoint. absurd
-    (none_of_disjoint _ disjoint c.in-Err.ensures.err.path c.in-Err.ensures.err.overlaps)
+    (none_of_disjoint _ disjoint c.in-Err.ensures.err.path c.in-Err.ensures.err.first.holds)
 
 pub returns-clause-names : goal.returns-clause-names
 returns-clause-names g c = λ s w n first.

@@ -40,7 +40,7 @@ returns-in-Err-clause-err g c = (
 
 pub returns-in-Err-clause-accepts : goal.returns-in-Err-clause-accepts
 returns-in-Err-clause-accepts g c = λ disjoint room. absurd
-    (none_of_disjoint _ disjoint c.in-Err.ensures.err.path c.in-Err.ensures.err.overlaps)
+    (none_of_disjoint _ disjoint c.in-Err.ensures.err.path c.in-Err.ensures.err.first.holds)
 
 pub returns-in-Err-clause-refuses : goal.returns-in-Err-clause-refuses
 returns-in-Err-clause-refuses g c =

@@ -1,0 +1,12 @@
+use Rattle.cap_vet.proofs.Pointing.{marks_use}
+use Rattle.cap_vet.proofs.exclusiveness.marks.Marks.mark_other.Goals as goal
+
+pub mark_words-requires : goal.mark_words-requires
+mark_words-requires g c =
+    let list = c.in-Some.ensures in
+    (g.M.Segments.segments c.args.message.now, record { room = c.requires.room; exists = list.exists; inside = list.inside })
+
+pub returns-in-Some : goal.returns-in-Some
+returns-in-Some g c =
+    let list = c.in-Some.ensures in
+    marks_use _ _ _ _ _ _ _ list.used (c.mark_words.ensures _ (record { room = c.requires.room; exists = list.exists; inside = list.inside }))

@@ -1,0 +1,46 @@
+-- One step on, by a look at its pointer.
+use Rattle.std.proofs.Common.{None, arith, rules}
+use Rattle.cap_spec.specs.Messages.{IsMessage}
+use Rattle.cap_spec.specs.Paths.{word, element}
+use Rattle.cap_vet.proofs.Charging.{arrives_element, arrives_word}
+use Rattle.cap_vet.proofs.PathLax.{adds_none}
+use Rattle.cap_vet.proofs.Somewhere.{arrival_somewhere, arrival_within, step_exists, step_inside}
+use Rattle.cap_vet.proofs.nodes.charged.Arrival.step_near.Goals as goal
+
+pub step-requires : goal.step-requires
+step-requires g c =
+    let m = g.M.Segments.segments c.args.message.now in
+    let message : IsMessage m = search rules in
+    arrival_somewhere m _ _ c.args.self.now c.requires.arrived message
+
+pub overflow_sub-left : goal.overflow_sub-left
+overflow_sub-left g c = let l = arrival_within _ _ _ c.args.self.now c.requires.arrived in omega (arith, l)
+
+pub found_near-requires-clause-exists : goal.found_near-requires-clause-exists
+found_near-requires-clause-exists g c =
+    step_exists _ _ _ c.args.self.now c.requires.arrived c.args.step _ _ (rw c.in-Some-Word.field-0-is at c.in-Some-Word.ensures)
+
+pub found_near-requires-clause-inside : goal.found_near-requires-clause-inside
+found_near-requires-clause-inside g c =
+    step_inside _ _ _ c.args.self.now c.requires.arrived c.args.step _ _ (rw c.in-Some-Word.field-0-is at c.in-Some-Word.ensures)
+
+pub returns-in_ok-found-in-Some-Word-clause-on : goal.returns-in_ok-found-in-Some-Word-clause-on
+returns-in_ok-found-in-Some-Word-clause-on g c = λ path a h.
+    let m = g.M.Segments.segments c.args.message.now in
+    let at = c.args.self.now in
+    let goes = (rw c.in-Some-Word.field-0-is at c.in-Some-Word.ensures) m a h.found in
+    let near = c.in_ok-found-in-Some-Word.ensures.found in (
+      word c.in-Some-Word.segment c.in-Some-Word.word,
+      arrives_word m _ _ path a at c.args.step _ _ _ _ None h goes.0 near.found near.costs near.within near.shallow
+          (adds_none m _ _ _ at.lax c.requires.strict near.strict),
+    )
+
+pub returns-in-Some-Element-clause-on : goal.returns-in-Some-Element-clause-on
+returns-in-Some-Element-clause-on g c = λ path a h.
+    let m = g.M.Segments.segments c.args.message.now in
+    let e = c.in-Some-Element in
+    let goes = (rw e.field-0-is at e.ensures) m a h.found in (
+      element e.segment e.start e.data_words e.pointers,
+      rw c.at_element.ensures
+          (arrives_element m _ _ path a c.args.self.now c.args.step e.segment e.start e.data_words e.pointers None c.requires.strict h goes.0 goes.1.0 goes.1.1),
+    )

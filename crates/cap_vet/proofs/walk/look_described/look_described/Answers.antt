@@ -1,0 +1,38 @@
+use Rattle.std.proofs.Common.{Option, None, Some, ◌≡◌, arith, rules}
+use Rattle.std.specs.Prelude.{IfSome}
+use Rattle.cap_spec.specs.Pointers.{kind, two}
+use Rattle.cap_spec.proofs.Frames.Messages.{HasWord-at}
+use Rattle.cap_ptr.proofs.Pads.{stands-one_pad}
+use Rattle.cap_vet.proofs.Laxness.{object_form}
+use Rattle.cap_vet.proofs.walk.look_described.look_described.Goals as goal
+
+some_mapped : {A B C : Type 0} (o : Option A) → IfSome o (λ _. B) → (B → C) → IfSome o (λ _. C)
+some_mapped None b f = tt
+some_mapped (Some x) b f = f b
+
+pub described_within-requires-clause-stands : goal.described_within-requires-clause-stands
+described_within-requires-clause-stands g c = (
+  c.args.s,
+  c.args.w,
+  λ q has object. stands-one_pad _ c.args.s c.args.w c.word-word.result c.far_segment-segment.result c.pad-at.result q c.word-word.ensures
+      (omega (arith, c.kind.ensures, c.if-kind-ne2.false), omega (arith, c.two.ensures, c.if-two-ne0.false)) c.far_segment-segment.ensures
+      c.pad-at.ensures has,
+)
+
+pub returns-clause-looked : goal.returns-clause-looked
+returns-clause-looked g c =
+    c.described_within.ensures.looked c.args.s c.args.w (λ q has object. stands-one_pad _ c.args.s c.args.w c.word-word.result c.far_segment-segment.result
+    c.pad-at.result q c.word-word.ensures (omega (arith, c.kind.ensures, c.if-kind-ne2.false), omega (arith, c.two.ensures, c.if-two-ne0.false))
+    c.far_segment-segment.ensures c.pad-at.ensures has)
+
+pub returns-clause-strict : goal.returns-clause-strict
+returns-clause-strict g c =
+    let m = g.M.Segments.segments c.args.message.now in
+    let t = c.far_segment-segment.result in
+    let b = c.pad-at.result in
+    let far : kind c.word-word.result ≡ 2 = omega (arith, c.kind.ensures, c.if-kind-ne2.false) in
+    let one : two c.word-word.result ≡ 0 = omega (arith, c.two.ensures, c.if-two-ne0.false) in
+    some_mapped c.described_within.result c.described_within.ensures.object (λ object.
+    let (q, has) = HasWord-at m t b (search rules) in
+    object_form m c.args.s c.args.w c.word-word.result t b q c.word-word.ensures far one c.far_segment-segment.ensures
+    c.pad-at.ensures has (object q has))

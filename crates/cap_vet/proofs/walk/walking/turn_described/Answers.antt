@@ -1,0 +1,60 @@
+use Rattle.std.proofs.Common.{◌∷◌}
+use Rattle.cap_spec.specs.Messages.{HasWord}
+use Rattle.cap_vet.proofs.Stacks.{looked_at, looked_costs, null_visited, visited}
+use Rattle.cap_vet.proofs.walk.walking.turn_described.Goals as goal
+
+pub word-requires-clause-exists : goal.word-requires-clause-exists
+word-requires-clause-exists g c = c.requires.1.next.exists
+
+pub word-requires-clause-inside : goal.word-requires-clause-inside
+word-requires-clause-inside g c = c.requires.1.next.within
+
+pub before-used-requires-clause-exists : goal.before-used-requires-clause-exists
+before-used-requires-clause-exists g c = c.requires.1.next.exists
+
+pub before-used-requires-clause-inside : goal.before-used-requires-clause-inside
+before-used-requires-clause-inside g c = c.requires.1.next.within
+
+pub look_described-requires-clause-exists : goal.look_described-requires-clause-exists
+look_described-requires-clause-exists g c = c.requires.1.next.exists
+
+pub look_described-requires-clause-inside : goal.look_described-requires-clause-inside
+look_described-requires-clause-inside g c = c.requires.1.next.within
+
+pub after-requires-clause-known : goal.after-requires-clause-known
+after-requires-clause-known g c =
+    let n = c.requires.1.next in
+    let v = visited _ c.args.limits.now _ _ _ c.requires.0 _ _ n c.in-Some.ensures.looked in
+    let costs = looked_costs _ _ _ _ _ _ _ _ c.in-Some.ensures.looked in
+    (n.seen, n.a, rw (c.add-below.ensures.report, c.cost-cost.ensures) (looked_at _ _ _ _ _ _ _ _ _ _ _ n v.walks _ costs), c.requires.1.known)
+
+pub returns-then-word-eq0-clause-ok : goal.returns-then-word-eq0-clause-ok
+returns-then-word-eq0-clause-ok g c = λ runs at.
+    let n = at.next in
+    let m = g.M.Segments.segments c.args.message.now in
+    let null : HasWord m c.args.s c.args.w 0 = rw c.if-word-eq0.true at c.word.ensures in
+    let v = null_visited m c.args.limits.now c.args.s c.args.w c.args.level runs c.args.report.now n null in
+    rw (c.add.ensures.run, c.add.ensures.report) (record {
+      walking = record {
+        seen = n.a.path ∷ n.seen;
+        ahead = v.later;
+        walks = v.walks;
+        known = g.met.T.Turn.passes c.args.turn.now m n.seen n.a.path n.a.level n.a.segment n.a.word n.progress.trail.ahead_reached.0
+            (rw (n.segment, n.at) null) at.known;
+      };
+      less = v.less;
+    })
+
+pub returns-in-Ok-clause-ok : goal.returns-in-Ok-clause-ok
+returns-in-Ok-clause-ok g c = λ runs at.
+    let n = at.next in
+    let v = visited _ c.args.limits.now _ _ _ runs _ _ n c.in-Some.ensures.looked in
+    let costs = looked_costs _ _ _ _ _ _ _ _ c.in-Some.ensures.looked in
+    let known = c.in-Ok.ensures.ok n.seen n.a (rw (c.add-below.ensures.report, c.cost-cost.ensures) (looked_at _ _ _ _ _ _ _ _ _ _ _ n v.walks _ costs)) at.known in
+    rw (c.add-below.ensures.run, c.add-below.ensures.report) (record {
+      walking = record { seen = n.a.path ∷ n.seen; ahead = v.later; walks = v.walks; known = known };
+      less = v.less;
+    })
+
+pub after-requires-clause-strict : goal.after-requires-clause-strict
+after-requires-clause-strict g c = λ _. c.in-Some.ensures.strict
