@@ -20,7 +20,7 @@ SAID = {
         ("at the top of the repository", "at the top of the unpacked archive"),
         ("make install PREFIX=$HOME/x\n", ""),
         ("$HOME/x/", "$PWD/"),
-        ("make guard\nbuild/capvet-guard", "bin/capvet-guard"),
+        ("```sh\ncapvet-guard --listen", "```sh\nbin/capvet-guard --listen"),
         ("man ./docs/capvet-guard.1", "man share/man/man1/capvet-guard.1"),
     ),
     "debian": (
@@ -31,7 +31,6 @@ SAID = {
         ("The commands of this page are for the folder `venv`, into which all these ways install.\n\n", ""),
         ("venv/bin/python", "python3"),
         ("../bindings/go", "/usr/share/gocode/src/capvet.invalid/capvet"),
-        ("make guard\nbuild/capvet-guard", "capvet-guard"),
         ("man ./docs/capvet-guard.1", "man capvet-guard"),
     ),
 }
