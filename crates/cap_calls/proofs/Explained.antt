@@ -5,7 +5,6 @@ use Rattle.cap_spec.specs.declared.StrictRefusal.{StrictRefusal}
 use Rattle.cap_explain.specs.Explaining.{explanation}
 use Rattle.cap_spec.specs.declared.Step.{Step}
 use Rattle.std.specs.Prelude.{Option}
-use Rattle.cap_trace.specs.NamedPaths.{fault_path}
 use Rattle.cap_trace.proofs.Named.{one_path}
 use Rattle.cap_vet.specs.Demands.{IsDemandFault, words_under}
 use Rattle.cap_vet.specs.declared.demands.Demands.{Demands}

@@ -11,6 +11,7 @@ pub mod MessageStages
 pub mod NodeBytes
 pub mod NodeFrames
 pub mod OneNode
+pub mod OneSegments
 pub mod OneStop
 pub mod Packed
 pub mod PathCharges

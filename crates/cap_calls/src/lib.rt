@@ -11,6 +11,7 @@ mod laws;
 mod limits;
 mod node;
 mod node_laws;
+mod one_slice;
 mod over;
 mod packed_stream;
 mod packing_laws;

@@ -38,6 +38,24 @@ pub(crate) trait Call {
         requires { words ≡ sum (sizes_of (⟦<ByteView<'b> as Segments>⟧.segments view.now)) }
         ensures { let m = ⟦<ByteView<'b> as Segments>⟧.segments view.now in
             finds self.now demands m (words_of limits) (depth_of limits) out.old result out.new };
+
+    /// The same of a message of one segment, as most are.
+    #[inline(always)]
+    fn on_one<'b>(
+        &self,
+        view: &ByteView<'b>,
+        words: u64,
+        limits: Limits,
+        demands: Demands,
+        out: &mut [Self::Item],
+    ) -> Found
+        requires words { words ≡ sum (sizes_of (⟦<ByteView<'b> as Segments>⟧.segments view.now)) }
+        requires one { length (⟦<ByteView<'b> as Segments>⟧.segments view.now) ≡ 1 }
+        ensures { let m = ⟦<ByteView<'b> as Segments>⟧.segments view.now in
+            finds self.now demands m (words_of limits) (depth_of limits) out.old result out.new }
+    {
+        self.on(view, words, limits, demands, out)
+    }
 }
 
 /// What a call finds of the message that bytes start with, or of bytes without one. If the bytes
@@ -91,7 +109,7 @@ fn over_framed<C: Call>(
     let framed = *framed;
     let mut size = [0];
     match framed.one_segment(&mut size) {
-        Some(view) => call.on(&view, framed.words(), limits, demands, out),
+        Some(view) => call.on_one(&view, framed.words(), limits, demands, out),
         None => over_segments(call, &framed, limits, demands, out),
     }
 }

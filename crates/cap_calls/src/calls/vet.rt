@@ -4,15 +4,17 @@ ghost use Rattle.cap_calls.specs.CallFindings.{Judges};
 ghost use Rattle.cap_calls.specs.Calls.{IsGood, TellsVet};
 ghost use Rattle.cap_calls.specs.declared.answer.Answer.{Answer};
 ghost use Rattle.cap_calls.specs.declared.report.CallReport.{CallReport};
+ghost use Rattle.cap_vet.specs.Limits.{depth_of, words_of};
 ghost use Rattle.std.specs.Prelude.{◌≡◌, ⊤};
 
 use crate::answer::Answer;
 use crate::found::Found;
 use crate::input::over_input;
 use crate::limits::CallLimits;
+use crate::one_slice::OneSlice;
 use crate::over::Call;
 use crate::report::CallReport;
-use cap_frame::ByteView;
+use cap_frame::{ByteView, Segments};
 use cap_vet::{Demands, Limits, vet_with};
 
 /// Vets the message that bytes are, within limits. With the flag 1 the bytes may start with it, and
@@ -53,9 +55,32 @@ impl Call for Vetting {
         demands: Demands,
         _out: &mut [u8],
     ) -> Found {
-        match vet_with(view, limits, demands) {
-            Ok(vetted) => Found::accepted(Answer::Good, 0, vetted.report()),
-            Err(refusal) => Found::refused(refusal),
-        }
+        judged(view, limits, demands)
+    }
+
+    // A walk of its own, which is inlined. Its numbers stay in registers up to the report, and a
+    // small message doesn't pay for copies of them.
+    #[inline(always)]
+    fn on_one<'b>(
+        &self,
+        view: &ByteView<'b>,
+        _words: u64,
+        limits: Limits,
+        demands: Demands,
+        _out: &mut [u8],
+    ) -> Found {
+        judged(&OneSlice::of(view), limits, demands)
+    }
+}
+
+/// What is found of a message.
+#[inline(always)]
+pub(crate) fn judged<M: Segments>(message: &M, limits: Limits, demands: Demands) -> Found
+    ensures { let m = M.segments message.now in
+        Judges demands ⊤ IsGood m (words_of limits) (depth_of limits) result }
+{
+    match vet_with(message, limits, demands) {
+        Ok(vetted) => Found::accepted(Answer::Good, 0, vetted.report()),
+        Err(refusal) => Found::refused(refusal),
     }
 }

@@ -1,23 +1,20 @@
 //! The call that vets a message whose segments are separate.
 
-ghost use Rattle.cap_calls.specs.CallFindings.{Judges};
 ghost use Rattle.cap_calls.specs.CallFlags.{demands_of};
-ghost use Rattle.cap_calls.specs.Calls.{IsGood};
 ghost use Rattle.cap_calls.specs.SegmentsCalls.{FindsSegments, TellsSegments, no_segments_found};
 ghost use Rattle.cap_calls.specs.declared.answer.Answer.{Answer};
 ghost use Rattle.cap_calls.specs.declared.report.CallReport.{CallReport};
 ghost use Rattle.cap_calls.specs.Slices.{bytes_of};
-ghost use Rattle.cap_vet.specs.Limits.{depth_of, words_of};
-ghost use Rattle.std.specs.Prelude.{◌≡◌, ⊤};
+ghost use Rattle.std.specs.Prelude.{◌≡◌};
 
 use crate::answer::Answer;
+use crate::calls::vet::judged;
 use crate::found::Found;
 use crate::front::{NoFrame, checked};
 use crate::limits::CallLimits;
 use crate::report::CallReport;
 use crate::slices::{SliceMessage, SlicesFault};
 use cap_frame::Segments;
-use cap_vet::{Demands, Limits, vet_with};
 
 /// Vets the message whose segments are these slices, as [`crate::vet`] vets its frame. Nothing is
 /// copied. Allocates nothing (encoding: Messages, Security Considerations).
@@ -57,17 +54,6 @@ fn found_of(segments: &[&[u8]], limits: &CallLimits) -> Found
             judged(&message, walk, limits.demands()).extent(8 * words, message.count())
         }
         Err(fault) => without_message(fault),
-    }
-}
-
-// What is found of their message.
-fn judged<'b>(message: &SliceMessage<'b>, limits: Limits, demands: Demands) -> Found
-    ensures { let m = ⟦<SliceMessage<'b> as Segments>⟧.segments message.now in
-        Judges demands ⊤ IsGood m (words_of limits) (depth_of limits) result }
-{
-    match vet_with(message, limits, demands) {
-        Ok(vetted) => Found::accepted(Answer::Good, 0, vetted.report()),
-        Err(refusal) => Found::refused(refusal),
     }
 }
 

@@ -1,0 +1,54 @@
+//! Messages whose one segment is a slice.
+
+ghost use Rattle.cap_spec.specs.Messages.{IsMessage};
+ghost use Rattle.cap_spec.specs.Plain.{plain_words};
+ghost use Rattle.std.proofs.Props.{props};
+ghost use Rattle.std.specs.Prelude.{◌≡◌, [], ◌∷◌, length};
+
+use byteorder::{ByteOrder, LittleEndian};
+use cap_frame::{ByteView, Segments};
+
+/// A message of one segment, with each word in eight bytes of a slice, the lowest first (encoding:
+/// Messages, 64-bit Words).
+// A walk through it looks up neither the start nor the size of a segment.
+#[derive(Clone, Copy, Drop)]
+pub(crate) struct OneSlice<'b> {
+    bytes: &'b [u8],
+    ghost is_message: { IsMessage (plain_words bytes.now ∷ []) } by { Prim.hlevel props },
+}
+
+impl<'b> OneSlice<'b> {
+    /// The message that is seen, which has one segment.
+    #[inline(always)]
+    pub(crate) fn of(view: &ByteView<'b>) -> OneSlice<'b>
+        requires { length (⟦<ByteView<'b> as Segments>⟧.segments view.now) ≡ 1 }
+        ensures { ⟦<OneSlice<'b> as Segments>⟧.segments result
+            ≡ ⟦<ByteView<'b> as Segments>⟧.segments view.now }
+    {
+        let Some(bytes) = view.segment(0) else {
+            unreachable!();
+        };
+        OneSlice { bytes }
+    }
+}
+
+impl<'b> Segments for OneSlice<'b> {
+    ghost segments = { λ m. plain_words m.bytes.now ∷ [] };
+
+    #[inline]
+    fn count(&self) -> u32 {
+        1
+    }
+
+    #[inline]
+    fn len(&self, _s: u32) -> u32 {
+        (self.bytes.len() / 8) as u32
+    }
+
+    #[inline]
+    fn word(&self, _s: u32, w: u32) -> u64 {
+        LittleEndian::read_u64(&self.bytes[8 * w as usize..])
+    }
+
+    ghost is_message = { λ m. m.is_message };
+}
