@@ -45,7 +45,7 @@ gives_more start z p k bytes rest old out part given d e first s place size more
     let space : length part ≤ length out - at = omega (arith, ap length place, length-take k (drop at out), length-drop at out) in
     let behind : drop at out ≡ part ++ post =
     sym (take-append-drop k (drop at out)) ∙ ap (λ (l : List ℕ). l ++ post) (sym place) in
-    let text : take (at + n) longer ≡ take at out ++ take n given = filled at k n out given inside few in
+    let text : take (at + n) longer ≡ take at out ++ take n given = filled k out given inside few in
     let front : length (take at out) ≡ at = length-take-le at out inside in
     let own = drop start (take at out) in
     let both : drop start (take (at + n) longer) ≡ own ++ take n given =

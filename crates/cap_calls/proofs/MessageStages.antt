@@ -121,7 +121,7 @@ still_open limit wanted at k n out given whole eight from within less inside o =
     let sum_is : n ≡ at + m = omega (arith, from) in
     let few : m ≤ length given = omega (arith, within) in
     let text : take n (put_mid at k out given) ≡ take at out ++ take m given =
-    ap (λ (i : ℕ). take i (put_mid at k out given)) sum_is ∙ filled at k m out given inside few in
+    ap (λ (i : ℕ). take i (put_mid at k out given)) sum_is ∙ filled k out given inside few in
     let front : length (take at out) ≡ at = length-take-le at out inside in
     let long : length (take n (put_mid at k out given)) ≡ n =
     omega (arith, ap length text, length-append (take at out) (take m given), front, length-take-le m given few, sum_is) in

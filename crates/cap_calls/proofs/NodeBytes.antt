@@ -24,8 +24,10 @@ IsElementInside m (word s w) = ⊤
 IsElementInside m (element t b ds ps) = (t < length m) × (b + (ds + ps) ≤ length (segment_of m t))
 
 step_inside : (m : List (List ℕ)) (a : Spot) (step : Step) (b : Spot) → Goes m a step b → IsElementInside m b
-step_inside m (word s w) (Ptr i) b g = subst (λ (z : Spot). IsElementInside m z) (sym g.7) tt
-step_inside m (word s w) (Item i) b (inl g) = subst (λ (z : Spot). IsElementInside m z) (sym g.8) tt
+step_inside m (word s w) (Ptr i) b (k, t, b', q, finds, is_struct, less, ends) =
+    subst (λ (z : Spot). IsElementInside m z) (sym ends) tt
+step_inside m (word s w) (Item i) b (inl (k, t, b', q, finds, is_list, of_pointers, less, ends)) =
+    subst (λ (z : Spot). IsElementInside m z) (sym ends) tt
 step_inside m (word s w) (Item i) b (inr (k, t, c, q, tag, finds, list, code, has, less, e)) =
     let fits = finds.sits.composite (list, code) in
     let room : middle tag * (data_size tag + pointer_size tag) ≤ list_size q =

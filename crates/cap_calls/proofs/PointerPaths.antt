@@ -21,17 +21,17 @@ module _ (n : ℕ) (old : List CallStep) (m : List (List ℕ)) (words depth : �
   one_pointer : (x y : List CallStep) (f g : Found) → FindsPointer n old x m words depth f → FindsPointer n old y m words depth g
       → (f ≡ g) × (x ≡ y)
   one_pointer x y f g (written p a few e i) (written q b less h k) =
-      let same : p ≡ q = one_numbered m n p q _ _ _ _ a.traceable.numbered b.traceable.numbered in (
+      let same : p ≡ q = one_numbered m n p q a.traceable.numbered b.traceable.numbered in (
         e ∙ ap (λ (u : List Step). steps_found answer.Good (length u)) same ∙ sym h,
         i ∙ ap (λ (u : List Step). map call_step u ++ drop (length u) old) same ∙ sym k,
       )
   one_pointer x y f g (written p a few e i) (too_small q b less h k) =
-      let same = ap length (one_numbered m n p q _ _ _ _ a.traceable.numbered b.traceable.numbered) in absurd (omega (arith, same, few, less))
+      let same = ap length (one_numbered m n p q a.traceable.numbered b.traceable.numbered) in absurd (omega (arith, same, few, less))
   one_pointer x y f g (written p a few e i) (none missing h k) = absurd (missing p a)
   one_pointer x y f g (too_small p a less e i) (written q b few h k) =
-      let same = ap length (one_numbered m n p q _ _ _ _ a.traceable.numbered b.traceable.numbered) in absurd (omega (arith, same, few, less))
+      let same = ap length (one_numbered m n p q a.traceable.numbered b.traceable.numbered) in absurd (omega (arith, same, few, less))
   one_pointer x y f g (too_small p a less e i) (too_small q b also h k) =
-      let same : p ≡ q = one_numbered m n p q _ _ _ _ a.traceable.numbered b.traceable.numbered in
+      let same : p ≡ q = one_numbered m n p q a.traceable.numbered b.traceable.numbered in
       (e ∙ ap (λ (u : List Step). steps_found answer.BufferTooSmall (length u)) same ∙ sym h, i ∙ sym k)
   one_pointer x y f g (too_small p a less e i) (none missing h k) = absurd (missing p a)
   one_pointer x y f g (none missing e i) (written q b few h k) = absurd (missing q b)

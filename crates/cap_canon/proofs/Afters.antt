@@ -29,6 +29,6 @@ pub front_and_after : (n : ℕ) (old new front : List ℕ) → take n new ≡ fr
 front_and_after n old new front e f = sym (take-append-drop n new) ∙ ap₂ (λ xs ys. xs ++ ys) e f
 
 -- what is kept of an output, part by part
-pub kept_so : (a b x y name : ℕ) (p q : List ℕ) → a ≡ b → x ≡ y → p ≡ q
+pub kept_so : {a b x y : ℕ} (name : ℕ) {p q : List ℕ} → a ≡ b → x ≡ y → p ≡ q
     → ◌≡◌ {A = Kept} (record { capacity = a; borrow = x; name = name; after = p }) (record { capacity = b; borrow = y; name = name; after = q })
-kept_so a b x y name p q e f g = λ i. record { capacity = e i; borrow = f i; name = name; after = g i }
+kept_so name e f g = λ i. record { capacity = e i; borrow = f i; name = name; after = g i }

@@ -24,18 +24,18 @@ pub record Row (m : List (List ℕ)) (t b n : ℕ) (x : Tree) (xs : Trees) (c d 
   pub depth : d ≡ max d1 d2
 
 pub row_parts : (m : List (List ℕ)) (t b n : ℕ) (x : Tree) (xs : Trees) (c d : ℕ) → DenoteEach m (places t b n) (more x xs) c d → Row m t b n x xs c d
-row_parts m t b zero x xs c d h = absurd (cc h.7)
-row_parts m t b (suc n) x xs c d h =
-    let e = cons_parts (t, b) (h.0, h.1) (places t (b + 1) n) h.2 h.7 in record {
+row_parts m t b zero x xs c d (s, w, rest, c1, d1, c2, d2, begins, denotes, after, charge, depth) = absurd (cc begins)
+row_parts m t b (suc n) x xs c d (s, w, rest, c1, d1, c2, d2, begins, denotes, after, charge, depth) =
+    let e = cons_parts (t, b) (s, w) (places t (b + 1) n) rest begins in record {
       others = n;
-      c1 = h.3;
-      d1 = h.4;
-      c2 = h.5;
-      d2 = h.6;
+      c1 = c1;
+      d1 = d1;
+      c2 = c2;
+      d2 = d2;
       many = refl;
-      first = subst (λ (p : ℕ × ℕ). Denotes m p.0 p.1 x h.3 h.4) (sym e.0) h.8;
-      rest = subst (λ ps. DenoteEach m ps xs h.5 h.6) (sym e.1) h.9;
-      depth = h.11;
+      first = subst (λ (p : ℕ × ℕ). Denotes m p.0 p.1 x c1 d1) (sym e.0) denotes;
+      rest = subst (λ ps. DenoteEach m ps xs c2 d2) (sym e.1) after;
+      depth = depth;
     }
 
 -- the tree of the word at a place of the row

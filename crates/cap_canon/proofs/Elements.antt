@@ -27,18 +27,20 @@ pub record FirstElement (m : List (List ℕ)) (t b ds ps n : ℕ) (ws : List ℕ
 
 pub element_parts : (m : List (List ℕ)) (t b ds ps n : ℕ) (ws : List ℕ) (ts es : Trees) (c d : ℕ) → AreElements m t b ds ps n (more (struct ws ts) es) c d
     → FirstElement m t b ds ps n ws ts es c d
-element_parts m t b ds ps n ws ts es c d h = record {
-  others = h.0;
-  c1 = h.1;
-  d1 = h.2;
-  c2 = h.3;
-  d2 = h.4;
-  many = h.5;
-  data_words = h.6;
-  children = h.7;
-  rest = h.8;
-  depth = h.10;
-}
+element_parts m t b ds ps n ws ts es c d h =
+    let (fewer, c1, d1, c2, d2, counted, own, each, after, charge, depth) = h in
+    record {
+      others = fewer;
+      c1 = c1;
+      d1 = d1;
+      c2 = c2;
+      d2 = d2;
+      many = counted;
+      data_words = own;
+      children = each;
+      rest = after;
+      depth = depth;
+    }
 
 -- the data words that no element can do without, as they stand
 pub most_data_of : (m : List (List ℕ)) (t b ds ps n : ℕ) (es : Trees) (c d : ℕ) → AreElements m t b ds ps n es c d → most_data m t b ds ps n ≡ data_of es

@@ -121,8 +121,8 @@ struct_appended m deep s w u x old new h e = subst (λ (v : Tree). OwnAppended o
     }
 
 -- a list of values
-pub scalars_size : (m : List (List ℕ)) (s w : ℕ) (u : Tree) (t b c n words : ℕ) → IsScalarsObject m s w u t b c n words → own_size u ≡ words
-scalars_size m s w u t b c n words h =
+pub scalars_size : (m : List (List ℕ)) (s w : ℕ) (u : Tree) {t b c n words : ℕ} → IsScalarsObject m s w u t b c n words → own_size u ≡ words
+scalars_size m s w u {t} {b} {c} {n} h =
     ap own_size h.tree ∙ (ap (list_words c) (length-map-range_with_len (value_at (segment_of m t) b (element_bits c)) 0 n) ∙ sym h.extent)
 
 pub scalars_appended : (m : List (List ℕ)) (s w : ℕ) (u : Tree) (t b c n words : ℕ) (old new : List ℕ) → IsScalarsObject m s w u t b c n words

@@ -27,10 +27,10 @@ use Rattle.cap_canon.proofs.Elements.{elements_left, left_take, most_data_of, ro
 use Rattle.cap_canon.proofs.Trimmed.{children_needed-trim, children_of-trim, data_of-trim, tree_count-trim_elements}
 
 -- a struct
-pub struct_found : (m : List (List ℕ)) (s w : ℕ) (x : Tree) (c d k t b q tag n charge ds ps : ℕ) → Denotes m s w x c d
+pub struct_found : (m : List (List ℕ)) (s w : ℕ) (x : Tree) (c d : ℕ) {k t b q tag n charge ds ps : ℕ} → Denotes m s w x c d
     → FindsObject m s w k t b q tag n charge (shape.Struct ds ps)
     → IsStructAt m s w t b ds ps x d
-struct_found m s w x c d k t b q tag n charge ds ps h f = go x form h
+struct_found m s w x c d {k} {t} {b} {q} {ds} {ps} h f = go x form h
   where
     form : HasForm x 2
     form = subst (HasForm x) (number_struct (kind q) (code q) f.object.shape.kind) (found_form m s w x c d k t b q h f.finds)
@@ -38,11 +38,11 @@ struct_found m s w x c d k t b q tag n charge ds ps h f = go x form h
     go : (x : Tree) → HasForm x 2 → Denotes m s w x c d → IsStructAt m s w t b ds ps x d
     go null g h = absurd (omega (arith, g))
     go (cap i) g h = absurd (omega (arith, g))
-    go (struct ws ts) g h =
-        let o : SameObject h.0 h.1 h.2 h.3 k t b q = one_object m s w h.0 h.1 h.2 h.3 k t b q h.6.finds f.finds in
-        let x : data_size h.3 ≡ ds = ap data_size o.shape ∙ sym f.object.shape.data_words in
-        let y : pointer_size h.3 ≡ ps = ap pointer_size o.shape ∙ sym f.object.shape.pointers in
-        let e : places h.1 (h.2 + data_size h.3) (pointer_size h.3) ≡ places t (b + ds) ps = rw (o.segment, o.start, x, y) refl in record {
+    go (struct ws ts) g (k', t', b', q', inner, deep, found', each) =
+        let o : SameObject k' t' b' q' k t b q = one_object m s w k' t' b' q' k t b q found'.finds f.finds in
+        let x : data_size q' ≡ ds = ap data_size o.shape ∙ sym f.object.shape.data_words in
+        let y : pointer_size q' ≡ ps = ap pointer_size o.shape ∙ sym f.object.shape.pointers in
+        let e : places t' (b' + data_size q') (pointer_size q') ≡ places t (b + ds) ps = rw (o.segment, o.start, x, y) refl in record {
           found = record {
             k = k;
             q = q;
@@ -54,12 +54,12 @@ struct_found m s w x c d k t b q tag n charge ds ps h f = go x form h
           };
           words = ws;
           children = ts;
-          inner = h.4;
-          deep = h.5;
+          inner = inner;
+          deep = deep;
           tree = refl;
-          data_words = h.6.data_words ∙ rw (o.segment, o.start, x) refl;
-          below = subst (λ p. DenoteEach m p ts h.4 h.5) e h.7;
-          levels = omega (arith, h.6.depth);
+          data_words = found'.data_words ∙ rw (o.segment, o.start, x) refl;
+          below = subst (λ p. DenoteEach m p ts inner deep) e each;
+          levels = omega (arith, found'.depth);
         }
     go (scalars e vs) g h = absurd (omega (arith, g.0))
     go (pointers ts) g h = absurd (omega (arith, g))
@@ -90,9 +90,9 @@ struct_object m s w d p x k e dle f cle =
     )
 
 -- a list of values
-pub scalars_object : (m : List (List ℕ)) (s w : ℕ) (x : Tree) (c d k t b q tag words charge code count : ℕ) → Denotes m s w x c d
+pub scalars_object : (m : List (List ℕ)) (s w : ℕ) (x : Tree) (c d : ℕ) {k t b q tag words charge : ℕ} (code count : ℕ) → Denotes m s w x c d
     → FindsObject m s w k t b q tag words charge (shape.Scalars code count) → IsObject m d s w (trim x) (object.Scalars t b code count words)
-scalars_object m s w x c d k t b q tag words charge code' count h f = go x form h
+scalars_object m s w x c d {k} {t} {b} {q} {words} code' count h f = go x form h
   where
     form : HasForm x (3 + code q)
     form = subst (HasForm x) (number_list (kind q) (code q) f.object.shape.kind) (found_form m s w x c d k t b q h f.finds)
@@ -131,9 +131,9 @@ scalars_object m s w x c d k t b q tag words charge code' count h f = go x form 
     go (structs y z es) g h = absurd (omega (arith, g, small))
 
 -- a list of pointers
-pub pointers_object : (m : List (List ℕ)) (s w : ℕ) (x : Tree) (c d k t b q tag words charge count : ℕ) → Denotes m s w x c d
+pub pointers_object : (m : List (List ℕ)) (s w : ℕ) (x : Tree) (c d : ℕ) {k t b q tag words charge : ℕ} (count : ℕ) → Denotes m s w x c d
     → FindsObject m s w k t b q tag words charge (shape.Pointers count) → IsObject m d s w (trim x) (object.Pointers t b count)
-pointers_object m s w x c d k t b q tag words charge count h f = go x form h
+pointers_object m s w x c d {k} {t} {b} {q} count h f = go x form h
   where
     form : HasForm x 9
     form = subst (HasForm x) (number_list (kind q) (code q) f.object.shape.kind ∙ ap (λ n. 3 + n) f.object.shape.code)
@@ -144,13 +144,13 @@ pointers_object m s w x c d k t b q tag words charge count h f = go x form h
     go (cap i) g h = absurd (omega (arith, g))
     go (struct ws ts) g h = absurd (omega (arith, g))
     go (scalars e vs) g h = absurd (omega (arith, g.1))
-    go (pointers ts) g h =
-        let o : SameObject h.0 h.1 h.2 h.3 k t b q = one_object m s w h.0 h.1 h.2 h.3 k t b q h.6.finds f.finds in
-        let z : list_size h.3 ≡ count = ap list_size o.shape ∙ sym f.object.shape.count in
-        let e : places h.1 h.2 (list_size h.3) ≡ places t b count = rw (o.segment, o.start, z) refl in
-        let row : DenoteEach m (places t b count) ts h.4 h.5 = subst (λ p. DenoteEach m p ts h.4 h.5) e h.7 in (
-          h.5,
-          omega (arith, h.6.depth),
+    go (pointers ts) g (k', t', b', q', inner, deep, found, each) =
+        let o : SameObject k' t' b' q' k t b q = one_object m s w k' t' b' q' k t b q found.finds f.finds in
+        let z : list_size q' ≡ count = ap list_size o.shape ∙ sym f.object.shape.count in
+        let e : places t' b' (list_size q') ≡ places t b count = rw (o.segment, o.start, z) refl in
+        let row : DenoteEach m (places t b count) ts inner deep = subst (λ p. DenoteEach m p ts inner deep) e each in (
+          deep,
+          omega (arith, found.depth),
           record {
             k = k;
             q = q;
@@ -160,17 +160,17 @@ pointers_object m s w x c d k t b q tag words charge count h f = go x form h
             count = f.object.shape.count;
             children = trim_all ts;
             tree = refl;
-            many = tree_count-trim_all ts ∙ row_count m t b count ts h.4 h.5 row;
+            many = tree_count-trim_all ts ∙ row_count m t b count ts inner deep row;
             inside = omega (arith, f.finds.sits.inside, extent_pointers q f.object.shape.kind f.object.shape.code, f.object.shape.count);
-            below = row_left m t b count h.5 ts h.4 h.5 row (omega arith);
+            below = row_left m t b count deep ts inner deep row (omega arith);
           },
         )
     go (structs y z es) g h = absurd (omega (arith, g))
 
 -- a list of structs
-pub structs_found : (m : List (List ℕ)) (s w : ℕ) (x : Tree) (c d k t b q tag words charge size n ds ps : ℕ) → Denotes m s w x c d
+pub structs_found : (m : List (List ℕ)) (s w : ℕ) (x : Tree) (c d : ℕ) {k t b q tag words charge : ℕ} (size : ℕ) {n ds ps : ℕ} → Denotes m s w x c d
     → FindsObject m s w k t b q tag words charge (shape.Structs size n ds ps) → IsStructsAt m s w t b n ds ps x d
-structs_found m s w x c d k t b q tag words charge size n ds ps h f = go x form h
+structs_found m s w x c d {k} {t} {b} {q} {tag} size {n} {ds} {ps} h f = go x form h
   where
     form : HasForm x 10
     form = subst (HasForm x) (number_list (kind q) (code q) f.object.shape.kind ∙ ap (λ i. 3 + i) f.object.shape.code)
@@ -188,12 +188,12 @@ structs_found m s w x c d k t b q tag words charge size n ds ps h f = go x form 
     go (struct ws ts) g h = absurd (omega (arith, g))
     go (scalars e vs) g h = absurd (omega (arith, g.1))
     go (pointers ts) g h = absurd (omega (arith, g))
-    go (structs y z es) g h =
-        let o : SameObject h.0 h.1 h.2 h.3 k t b q = one_object m s w h.0 h.1 h.2 h.3 k t b q h.7.finds f.finds in
-        let same : tag ≡ h.4 = one_word m t b tag h.4 tagged.0 (rw (← o.segment, ← o.start) h.7.has_tag) in
-        let dsame : ds ≡ y = f.object.shape.data_words ∙ (ap data_size same ∙ sym h.7.data_sizes) in
-        let psame : ps ≡ z = f.object.shape.pointers ∙ (ap pointer_size same ∙ sym h.7.pointer_sizes) in
-        let nsame : n ≡ middle h.4 = f.object.shape.count ∙ ap middle same in record {
+    go (structs y z es) g (k', t', b', q', tag', inner, deep, found', each) =
+        let o : SameObject k' t' b' q' k t b q = one_object m s w k' t' b' q' k t b q found'.finds f.finds in
+        let same : tag ≡ tag' = one_word m t b tag tag' tagged.0 (rw (← o.segment, ← o.start) found'.has_tag) in
+        let dsame : ds ≡ y = f.object.shape.data_words ∙ (ap data_size same ∙ sym found'.data_sizes) in
+        let psame : ps ≡ z = f.object.shape.pointers ∙ (ap pointer_size same ∙ sym found'.pointer_sizes) in
+        let nsame : n ≡ middle tag' = f.object.shape.count ∙ ap middle same in record {
           found = record {
             k = k;
             q = q;
@@ -209,12 +209,12 @@ structs_found m s w x c d k t b q tag words charge size n ds ps h f = go x form 
             inside = omega (arith, fits, f.finds.sits.inside, extent_structs q f.object.shape.kind f.object.shape.code);
           };
           elements = es;
-          inner = h.5;
-          deep = h.6;
+          inner = inner;
+          deep = deep;
           tree = rw (dsame, psame) refl;
-          below = elements_moved m es t (b + 1) ds ps n h.5 h.6 h.1 (h.2 + 1) y z (middle h.4) (sym o.segment)
-              (ap (λ i. i + 1) (sym o.start)) dsame psame nsame h.8;
-          levels = omega (arith, h.7.depth);
+          below = elements_moved m es t (b + 1) ds ps n inner deep t' (b' + 1) y z (middle tag') (sym o.segment)
+              (ap (λ i. i + 1) (sym o.start)) dsame psame nsame each;
+          levels = omega (arith, found'.depth);
         }
 
 pub structs_object : (m : List (List ℕ)) (s w b n d : ℕ) (p : Part) (x : Tree) → p.start ≡ b + 1 → IsStructsAt m s w p.segment b n p.data_words p.pointers x d

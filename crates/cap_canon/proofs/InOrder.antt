@@ -118,7 +118,7 @@ pub struct_own : (m : List (List ℕ)) (w end k t b q tag words charge d p : ℕ
     → HasOwn m w end (end + words) q tag t b
 struct_own m w end k t b q tag words charge d p s f has sizes children x c deep h =
     let part : Part = record { segment = t; start = b; data_words = d; pointers = p; data_left = d; pointers_left = p } in
-    let o = struct_object m 0 w deep part x (struct_found m 0 w x c deep k t b q tag words charge d p h f) sizes (omega arith) children (omega arith) in
+    let o = struct_object m 0 w deep part x (struct_found m 0 w x c deep h f) sizes (omega arith) children (omega arith) in
     let l : length o.2.words ≡ d = ap length o.2.data_words ∙ range_length m t b d (omega (arith, o.2.found.inside)) in
     let e : pointer_to (end - w - 1) (trim x) ≡ (if (d + p) == 0 then 2 ^ 32 - 4 else struct_word (end - w - 1) d p) =
     ap (pointer_to (end - w - 1)) o.2.tree
@@ -142,7 +142,7 @@ pub pointers_own : (m : List (List ℕ)) (w end k t b q tag words charge n : ℕ
     → FindsObject m 0 w k t b q tag words charge (shape.Pointers n) → HasWord m 0 w (list_word (end - w - 1) 6 n)
     → HasOwn m w end (end + words) q tag t b
 pointers_own m w end k t b q tag words charge n s f has x c deep h =
-    let o = pointers_object m 0 w x c deep k t b q tag words charge n h f in
+    let o = pointers_object m 0 w x c deep n h f in
     let e : pointer_to (end - w - 1) (trim x) ≡ list_word (end - w - 1) 6 n =
     ap (pointer_to (end - w - 1)) o.2.tree ∙ ap (λ i. list_word (end - w - 1) 6 i) o.2.many in
     let here : HasWord m 0 w (pointer_to (end - w - 1) (trim x)) = subst (λ z. HasWord m 0 w z) (sym e) has in
@@ -162,7 +162,7 @@ pub values_own : (m : List (List ℕ)) (w end k t b q tag words charge c n : ℕ
     → FindsObject m 0 w k t b q tag words charge (shape.Scalars c n) → HasWord m 0 w (list_word (end - w - 1) c n)
     → StandAt (segment_of m 0) end (scalar_words c (values_of m 0 end c n)) → HasOwn m w end (end + words) q tag t b
 values_own m w end k t b q tag words charge c n s f has stand x cost deep h =
-    let o = scalars_object m 0 w x cost deep k t b q tag words charge c n h f in
+    let o = scalars_object m 0 w x cost deep c n h f in
     let many : length (values_of m t b c n) ≡ n = length-map-range_with_len (value_at (segment_of m t) b (element_bits c)) 0 n in
     let e : pointer_to (end - w - 1) (trim x) ≡ list_word (end - w - 1) c n =
     ap (pointer_to (end - w - 1)) o.1.tree ∙ ap (λ i. list_word (end - w - 1) c i) many in
@@ -209,7 +209,7 @@ pub structs_own : (m : List (List ℕ)) (w end k t b q tag words charge size n d
     → HasOwn m w end (end + words) q tag t b
 structs_own m w end k t b q tag words charge size n d p s f has has_tag sizes children x c deep h =
     let part : Part = record { segment = t; start = b + 1; data_words = d; pointers = p; data_left = d; pointers_left = p } in
-    let o = structs_object m 0 w b n deep part x refl (structs_found m 0 w x c deep k t b q tag words charge size n d p h f) sizes (omega arith) children
+    let o = structs_object m 0 w b n deep part x refl (structs_found m 0 w x c deep size h f) sizes (omega arith) children
     (omega arith) in
     let e : pointer_to (end - w - 1) (trim x) ≡ list_word (end - w - 1) 7 (n * (d + p)) =
     ap (pointer_to (end - w - 1)) o.2.tree ∙ ap (λ i. list_word (end - w - 1) 7 (i * (d + p))) o.2.many in
@@ -280,9 +280,9 @@ compared_one m end seen (inl k) = (k.one, k.few, k.inside)
 compared_one m end seen (inr (e, k)) = (k.one, k.few, omega (arith, e))
 
 -- the word looked at is one of segment 0, and has its cost there
-pub next_inside : (m : List (List ℕ)) (seen : List (List Step)) (a : Ahead) (s w n cost end : ℕ) → IsLookedAt m seen a s w n cost
+pub next_inside : {m : List (List ℕ)} (seen : List (List Step)) (a : Ahead) {s w n cost : ℕ} (end : ℕ) → IsLookedAt m seen a s w n cost
     → IsCompared m end seen → (s ≡ 0) × (w < length (segment_of m 0)) × Costs m 0 w cost
-next_inside m seen a s w n cost end l k =
+next_inside {m} seen a {s} {w} {cost} end l k =
     let first : s ≡ 0 = omega (arith, l.exists, (compared_one m end seen k).0) in
     (first, subst (λ v. w < length (segment_of m v)) first l.inside, subst (λ v. Costs m v w cost) first l.costs)
 
@@ -330,11 +330,11 @@ leads_to_cap m s w cost word has c (inr (inr (k, t, b, q, tag, f, has', e))) =
     let low = (says_near m s w k word (to_object t (pos b) q) has c f.leads).0 in absurd (omega (arith, low, c))
 
 -- A message isn't canonical after an object that no copy has as it is, or after a capability.
-pub differs_here : (m : List (List ℕ)) (seen : List (List Step)) (a : Ahead) (s w n cost end : ℕ) → IsLookedAt m seen a s w n cost
+pub differs_here : {m : List (List ℕ)} (seen : List (List Step)) (a : Ahead) {s w n cost : ℕ} (end : ℕ) → IsLookedAt m seen a s w n cost
     → Differs m w end → IsCompared m end seen → IsNotCanonical m
-differs_here m seen a s w n cost end l d (inr (e, k)) = k.differs
-differs_here m seen a s w n cost end l (inr unlike) (inl k) = λ t c d h few canon. not_canonical m seen a s w n cost end l k unlike canon
-differs_here m seen a s w n cost end l (inl (word, has, cap)) (inl k) = λ t c d h few canon.
+differs_here seen a end l d (inr (e, k)) = k.differs
+differs_here {m} seen a {s} {w} {n} {cost} end l (inr unlike) (inl k) = λ t c d h few canon. not_canonical m seen a s w n cost end l k unlike canon
+differs_here {m} seen a {s} {w} {cost} end l (inl (word, has, cap)) (inl k) = λ t c d h few canon.
     let first : s ≡ 0 = omega (arith, l.exists, k.one) in
     let here : HasWord m s w word = subst (λ v. HasWord m v w word) (sym first) has in
     let lead = leads_to_cap m s w cost word here cap l.costs in
@@ -343,10 +343,10 @@ differs_here m seen a s w n cost end l (inl (word, has, cap)) (inl k) = λ t c d
     no_cap_reached m copy.tree copy.charge copy.depth a.path a.level s w lead.0 lead.1 copy.denotes copy.no_caps reached lead.2
 
 -- What is known of a message after that.
-pub has_differed : (m : List (List ℕ)) (seen : List (List Step)) (a : Ahead) (s w n cost end : ℕ) → IsLookedAt m seen a s w n cost
+pub has_differed : {m : List (List ℕ)} (seen : List (List Step)) (a : Ahead) {s w n cost : ℕ} (end : ℕ) → IsLookedAt m seen a s w n cost
     → IsNotLax m s w → IsNotCanonical m → IsCompared m end seen → HasDiffered m (a.path ∷ seen)
-has_differed m seen a s w n cost end l lax differs k =
-    let inside = (next_inside m seen a s w n cost end l k).1 in record {
+has_differed {m} seen a {s} {w} {n} {cost} end l lax differs k =
+    let inside = (next_inside seen a end l k).1 in record {
       one = (compared_one m end seen k).0;
       few = (compared_one m end seen k).1;
       some = omega (arith, inside);
@@ -365,15 +365,15 @@ not_lax_word m s w false f g = f refl
 not_lax_word m s w true f g = let (word, has, n) = g refl in near_has_none m s w word has n
 
 -- The walk goes on after a null word, and after an object that is as a copy has it.
-pub compared_on : (m : List (List ℕ)) (seen : List (List Step)) (a : Ahead) (s w n cost end now : ℕ) → IsLookedAt m seen a s w n cost
+pub compared_on : {m : List (List ℕ)} (seen : List (List Step)) (a : Ahead) {s w n cost : ℕ} (end now : ℕ) → IsLookedAt m seen a s w n cost
     → IsAsInCopy m w end now → IsCompared m end seen → IsCompared m now (a.path ∷ seen)
-compared_on m seen a s w n cost end now l (inl (null, e)) k =
-    let first = (next_inside m seen a s w n cost end l k).0 in
+compared_on {m} seen a {s} {w} {n} {cost} end now l (inl (null, e)) k =
+    let first = (next_inside seen a end l k).0 in
     let here : HasWord m s w 0 = subst (λ v. HasWord m v w 0) (sym first) null in
     let reached : Reaches m a.path a.level s w = rw (l.segment, l.word) at l.trail.ahead_reached.0 in
     subst (λ i. IsCompared m i (a.path ∷ seen)) (sym e) (null_compared m end seen a.path a.level s w reached here k)
-compared_on m seen a s w n cost end now l (inr x) (inl k) = inl (next_in_order m seen a s w n cost end now l x k)
-compared_on m seen a s w n cost end now l (inr x) (inr (e, k)) = absurd (omega (arith, e, x.after))
+compared_on {m} seen a {s} {w} {n} {cost} end now l (inr x) (inl k) = inl (next_in_order m seen a s w n cost end now l x k)
+compared_on seen a end now l (inr x) (inr (e, k)) = absurd (omega (arith, e, x.after))
 
 -- A message of another number of segments than one, one without words, and one that is too long aren't canonical.
 pub other_count : (m : List (List ℕ)) → length m ≢ 1 → IsNotCanonical m
@@ -631,7 +631,7 @@ module _ (m : List (List ℕ)) (w word end cost : ℕ) (l : LeadsToEnd m w word 
   pub values_differ : kind word ≡ 1 → 0 < code word → code word < 6
       → (StandAt (segment_of m 0) end (scalar_words (code word) (values_of m 0 end (code word) (list_size word))) → ⊥) → NoCopyHas m w end
   values_differ k some few stand x charge deep h lt small pointed own due laid =
-      let o = scalars_object m 0 w x charge deep 0 0 end word 0 cost cost (code word) (list_size word) h
+      let o = scalars_object m 0 w x charge deep (code word) (list_size word) h
       (object_of 0 (shape.Scalars (code word) (list_size word)) (inr (inr (k, some, few, refl))) (list_some k)
       (record { kind = k; code = refl; scalar = few; count = refl })) in
       stand (subst (λ (u : Tree). OwnAt (segment_of m 0) end u) o.1.tree own)

@@ -91,7 +91,7 @@ struct_needs : (m : List (List ℕ)) (w end word words charge : ℕ) (x : Tree) 
 struct_needs m w end word words charge x c d f has next h lt small pointed = go (eqb_tells (length front + tree_count first) 0)
   where
     k : IsStructAt m 0 w 0 end (data_size word) (pointer_size word) x d
-    k = struct_found m 0 w x c d 0 0 end word 0 words charge (data_size word) (pointer_size word) h f
+    k = struct_found m 0 w x c d h f
 
     us : Trees
     us = trim_all k.children
@@ -177,7 +177,7 @@ structs_need : (m : List (List ℕ)) (w end word tag words charge size n d p : �
     → FindsObject m 0 w 0 0 end word tag words charge (shape.Structs size n d p) → Denotes m 0 w x c deep → OwnAt (segment_of m 0) end (trim x)
     → StructsNeed m end n d p (trim x)
 structs_need m w end word tag words charge size n d p x c deep f h own =
-    let k = structs_found m 0 w x c deep 0 0 end word tag words charge size n d p h f in
+    let k = structs_found m 0 w x c deep size h f in
     let us = trim_elements k.elements in
     let cs = cut_elements (data_of us) (children_of us) us in
     let tree : trim x ≡ structs (data_of us) (children_of us) cs = ap trim k.tree in

@@ -36,7 +36,7 @@ no_words_next m w end s has =
       };
     } in
     let none = range_needed m 0 w 0 (omega (arith, s.after, s.inside)) in
-    let own = struct_own m w end 0 0 w (2 ^ 32 - 4) 0 0 0 0 0 s f has (omega (arith, none)) (λ ts c d h. row_empty m 0 (w + 0) 0 ts c d refl h) in
+    let own = struct_own m w end 0 0 w (2 ^ 32 - 4) 0 0 0 0 0 s f has (omega (arith, none)) (λ ts c d h. row_empty m 0 (w + 0) ts c d refl h) in
     let e : end + 0 ≡ end = omega arith in record {
       word = 2 ^ 32 - 4;
       has = has;

@@ -7,7 +7,7 @@ use Rattle.cap_canon.specs.declared.run.CopyRun.{CopyRun}
 use Rattle.cap_canon.specs.declared.run.PointerPlace.{PointerPlace}
 
 -- behind the first of several words in a row
-pub rest_of_row : (s b a n more skip gap p : ℕ) → 1 < n → IsFull record {
+pub rest_of_row : (s b a : ℕ) {n : ℕ} (more skip gap p : ℕ) → 1 < n → IsFull record {
   segment = s;
   at = b;
   slot = a;
@@ -20,8 +20,8 @@ pub rest_of_row : (s b a n more skip gap p : ℕ) → 1 < n → IsFull record {
 }
     → IsRest record { segment = s; at = b; slot = a; left = n; more = more; skip = skip; gap = gap; pointers = p }
     (Some record { segment = s; at = b + 1; slot = a + 1; left = n - 1; more = more; skip = skip; gap = gap; pointers = p })
-rest_of_row s b a zero more skip gap p h full = absurd (omega arith)
-rest_of_row s b a (suc n) more skip gap p h full =
+rest_of_row s b a {n = zero} more skip gap p h full = absurd (omega arith)
+rest_of_row s b a {n = suc n} more skip gap p h full =
     let e : suc n - 1 ≡ n = omega arith in
     let f : b + 1 + n ≡ b + suc n = omega arith in
     let g : a + 1 + n ≡ a + suc n = omega arith in record {
@@ -30,30 +30,30 @@ rest_of_row s b a (suc n) more skip gap p h full =
     }
 
 -- behind the last of them, the next element's
-pub rest_of_elements : (s b a n more skip gap p : ℕ) → n ≡ 1 → 0 < more
+pub rest_of_elements : (s b a : ℕ) {n more : ℕ} (skip gap p : ℕ) → n ≡ 1 → 0 < more
     → IsFull record { segment = s; at = b; slot = a; left = n; more = more; skip = skip; gap = gap; pointers = p }
     → IsRest record { segment = s; at = b; slot = a; left = n; more = more; skip = skip; gap = gap; pointers = p }
     (Some record { segment = s; at = b + 1 + skip; slot = a + 1 + gap; left = p; more = more - 1; skip = skip; gap = gap; pointers = p })
-rest_of_elements s b a n zero skip gap p e h full = absurd (omega arith)
-rest_of_elements s b a n (suc more) skip gap p e h full =
+rest_of_elements s b a {more = zero} skip gap p e h full = absurd (omega arith)
+rest_of_elements s b a {more = suc more} skip gap p e h full =
     let f : suc more - 1 ≡ more = omega arith in record {
       words = rw (e, f) refl;
       full = record { some = full.each h; each = λ k. full.each h };
     }
 
 -- behind the last of all
-pub rest_of_last : (s b a n more skip gap p : ℕ) → n ≡ 1 → more ≡ 0
+pub rest_of_last : (s b a : ℕ) {n more : ℕ} (skip gap p : ℕ) → n ≡ 1 → more ≡ 0
     → IsRest record { segment = s; at = b; slot = a; left = n; more = more; skip = skip; gap = gap; pointers = p } None
-rest_of_last s b a n more skip gap p e f = record { words = rw (e, f) refl; full = tt }
+rest_of_last s b a skip gap p e f = record { words = rw (e, f) refl; full = tt }
 
 -- what is left of a run after its first word
 has_rest_of : (s b a n more skip gap p : ℕ)
     → IsFull record { segment = s; at = b; slot = a; left = n; more = more; skip = skip; gap = gap; pointers = p }
     → (rest : Option CopyRun) × IsRest record { segment = s; at = b; slot = a; left = n; more = more; skip = skip; gap = gap; pointers = p } rest
 has_rest_of s b a zero more skip gap p full = absurd (omega (arith, full.some))
-has_rest_of s b a (suc zero) zero skip gap p full = (None, rest_of_last s b a 1 0 skip gap p refl refl)
-has_rest_of s b a (suc zero) (suc more) skip gap p full = (_, rest_of_elements s b a 1 (suc more) skip gap p refl (omega arith) full)
-has_rest_of s b a (suc (suc n)) more skip gap p full = (_, rest_of_row s b a (suc (suc n)) more skip gap p (omega arith) full)
+has_rest_of s b a (suc zero) zero skip gap p full = (None, rest_of_last s b a skip gap p refl refl)
+has_rest_of s b a (suc zero) (suc more) skip gap p full = (_, rest_of_elements s b a skip gap p refl (omega arith) full)
+has_rest_of s b a (suc (suc n)) more skip gap p full = (_, rest_of_row s b a more skip gap p (omega arith) full)
 
 pub has_rest : (f : CopyRun) → IsFull f → (rest : Option CopyRun) × IsRest f rest
 has_rest f full = has_rest_of f.segment f.at f.slot f.left f.more f.skip f.gap f.pointers full

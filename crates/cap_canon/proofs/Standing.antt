@@ -166,7 +166,7 @@ scalars_place m slot end u t b c n words h lt small w =
     let seg : length (segment_of m t) ≡ length (segment_of m 0) = ap (λ s. length (segment_of m s)) r.segment in record {
       tree = h.tree ∙ (ap (λ s. scalars c (values_of m s b c n)) r.segment ∙ ap (λ a. scalars c (values_of m 0 a c n)) r.start);
       inside = omega (arith, h.inside, r.start, seg);
-      size = scalars_size m 0 slot u t b c n words h;
+      size = scalars_size m 0 slot u h;
     }
 
 -- the data words of elements of which nothing was cut

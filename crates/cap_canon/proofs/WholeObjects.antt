@@ -36,14 +36,14 @@ pub row_whole : (m : List (List ℕ)) (t b p : ℕ) (ts : Trees) (c d : ℕ) →
 row_whole m t b p ts c d some last h =
     child_here m t b p p 0 false ts c d some (omega arith) h (λ u c' d' k. sym (last u c' d' k)) refl (row_needed m t b p ts c d h)
 
-pub row_empty : (m : List (List ℕ)) (t b p : ℕ) (ts : Trees) (c d : ℕ) → p ≡ 0 → DenoteEach m (places t b p) ts c d
+pub row_empty : (m : List (List ℕ)) (t b : ℕ) {p : ℕ} (ts : Trees) (c d : ℕ) → p ≡ 0 → DenoteEach m (places t b p) ts c d
     → p ≡ max 0 (children_needed ts)
-row_empty m t b p ts c d e h = omega (arith, e, row_needed m t b p ts c d h)
+row_empty m t b {p} ts c d e h = omega (arith, e, row_needed m t b p ts c d h)
 
 -- elements without pointers
-pub elements_empty : (m : List (List ℕ)) (t b ds ps n : ℕ) (es : Trees) (c d : ℕ) → ps ≡ 0 → AreElements m t b ds ps n es c d
+pub elements_empty : (m : List (List ℕ)) (t b ds : ℕ) {ps : ℕ} (n : ℕ) (es : Trees) (c d : ℕ) → ps ≡ 0 → AreElements m t b ds ps n es c d
     → ps ≡ children_of es
-elements_empty m t b ds ps n es c d e h = omega (arith, e, children_within m t b ds ps n es c d h)
+elements_empty m t b ds {ps} n es c d e h = omega (arith, e, children_within m t b ds ps n es c d h)
 
 -- and those of which one has a last pointer that isn't null
 pub elements_whole : (m : List (List ℕ)) (t b ds ps n i : ℕ) (es : Trees) (c d : ℕ) → 0 < ps → i < n

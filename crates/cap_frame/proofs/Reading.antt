@@ -76,7 +76,7 @@ module _ {X : Type 0} (g : source.Ghosts X) where
   next_first limit old mid new word r f reads works err some =
       next_after g limit old mid new r f.going f.working f.usable f.reads reads works err some
 
-module _ {X : Type 0} (g : source.Ghosts X) (is : List (List ℕ) → Type 0) (limit : ℕ) (old new : X) where
+module _ {X : Type 0} (g : source.Ghosts X) {is : List (List ℕ) → Type 0} {limit : ℕ} {old new : X} where
   -- what follows where the words are known
   pub read_frame : (r : Result Bool FrameFault) → (r ≡ Ok true → (m : List (List ℕ)) × TakesFrame g limit old new m × is m)
       → ReadsNext g limit old new r → ReadsFrame g is limit old new r
@@ -93,18 +93,18 @@ module _ {X : Type 0} (g : source.Ghosts X) (is : List (List ℕ) → Type 0) (l
       no_frame (Err Memory) (λ i. absurd (cc)) (next_later g limit old new new (Err Memory) n (reads_none g new) tt ((sizes, table, within), n.works)
       (λ i. absurd (cc)))
 
-module _ {X : Type 0} (g : source.Ghosts X) (is : List (List ℕ) → Type 0) (limit : ℕ) (old mid new : X) (sizes : List ℕ) where
+module _ {X : Type 0} (g : source.Ghosts X) {is : List (List ℕ) → Type 0} {limit : ℕ} {old mid new : X} (sizes : List ℕ) where
   -- the contents after a table were read
   pub frame_taken : (m : List (List ℕ)) → ReadsNext g limit old mid (Ok true) → TakesTable g old mid sizes → sum sizes ≤ limit
       → Takes g mid new (joined m) → sizes_of m ≡ sizes → IsUsable g mid new → ReadsInput g mid new → is m → ReadsFrame g is limit old new (Ok true)
   frame_taken m n table within takes e works reads i =
       let t = behind_message g old mid new sizes m table takes e in
       let frame : TakesFrame g limit old new m = record { own = t.0; takes = t.1; frames = t.2; within = subst (λ ns. sum ns ≤ limit) (sym e) within } in
-      read_frame g is limit old new (Ok true) (λ _. (m, frame, i)) (next_later g limit old mid new (Ok true) n reads works tt (λ h. absurd (cc)))
+      read_frame g (Ok true) (λ _. (m, frame, i)) (next_later g limit old mid new (Ok true) n reads works tt (λ h. absurd (cc)))
 
   -- the source stopped inside them
   pub frame_stopped : (fault : SourceFault) (f : FrameFault) → f ≡ frame_fault_of fault → ReadsNext g limit old mid (Ok true) → TakesTable g old mid sizes
       → sum sizes ≤ limit → Stops g (sum sizes) mid new fault → ReadsInput g mid new → ReadsFrame g is limit old new (Err f)
   frame_stopped fault f e n table within stops reads =
       let faults = subst (Faults g limit old new) (sym e) (behind_contents g limit old mid new sizes fault table n.works within stops) in
-      no_frame g is limit old new (Err f) (λ i. absurd (cc)) (next_later g limit old mid new (Err f) n reads tt faults (λ i. absurd (cc)))
+      no_frame g (Err f) (λ i. absurd (cc)) (next_later g limit old mid new (Err f) n reads tt faults (λ i. absurd (cc)))

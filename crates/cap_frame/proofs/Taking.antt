@@ -49,8 +49,7 @@ module _ {X : Type 0} (g : source.Ghosts X) where
   -- the next word
   pub takes_one : (old new : X) (word : ℕ) → Consumes (g.words old) (g.words new) (word ∷ [])
       → OnSome (g.words old) ((g.is_cut new ≡ g.is_cut old) × (g.places old ≡ g.place new ∷ g.places new)) → Takes g old new (word ∷ [])
-  takes_one old new word =
-      one_taken (g.words old) (g.words new) word (g.is_cut old) (g.is_cut new) (g.place old) (g.place new) (g.places old) (g.places new)
+  takes_one old new word taken on = one_taken word taken on
 
   -- no bytes
   pub reads_none : (s : X) → ReadsInput g s s
@@ -59,17 +58,15 @@ module _ {X : Type 0} (g : source.Ghosts X) where
   -- those of one call
   pub reads_one : (old new : X) → (bs : List ℕ) × Consumes (g.unread old) (g.unread new) bs × (g.place new ≡ min (g.place old + length bs) (2 ^ 64 - 1))
       → ReadsInput g old new
-  reads_one old new = one_read (g.unread old) (g.unread new) (g.place old) (g.place new)
+  reads_one old new read = one_read read
 
   -- some bytes, and then others
   pub reads_both : (old mid new : X) → ReadsInput g old mid → ReadsInput g mid new → ReadsInput g old new
-  reads_both old mid new = both_read (g.unread old) (g.unread mid) (g.unread new) (g.place old) (g.place mid) (g.place new)
+  reads_both old mid new first second = both_read first second
 
   -- some words, and then others
   pub takes_both : (old mid new : X) (taken own : List ℕ) → Takes g old mid taken → Takes g mid new own → Takes g old new (taken ++ own)
-  takes_both old mid new taken own =
-      both_taken (g.words old) (g.words mid) (g.words new) taken own (g.is_cut old) (g.is_cut mid) (g.is_cut new) (g.place old) (g.place mid)
-      (g.place new) (g.places old) (g.places mid) (g.places new)
+  takes_both old mid new taken own first second = both_taken first second
 
   -- two calls without a fault
   pub usable_both : (old mid new : X) → IsUsable g old mid → IsUsable g mid new → IsUsable g old new

@@ -10,9 +10,9 @@ use Rattle.cap_spec.specs.Plain.{capped}
 use Rattle.cap_pack.specs.Course.{ends, stops, gives, course, course_in, head_rest, first_word, zeros_of, plain_of, zeros_then}
 
 -- two choices are the same where they are so in the branch that is taken
-branches_same : {A : Type 0} (b : Bool) (x y z : A) → (b ≡ false → y ≡ z) → cond b x y ≡ cond b x z
-branches_same true x y z h = refl
-branches_same false x y z h = h refl
+branches_same : {A : Type 0} {b : Bool} (x : A) {y z : A} → (b ≡ false → y ≡ z) → cond b x y ≡ cond b x z
+branches_same {b = true} x h = refl
+branches_same {b = false} x h = h refl
 
 -- what is left behind some of the bytes is shorter
 left_shorter : (k f : ℕ) (bytes : List ℕ) → 0 < k → k ≤ length bytes → length bytes < suc f → length (drop k bytes) < f
@@ -30,7 +30,7 @@ enough (suc f) (suc g) zero at (tag ∷ bytes) p q =
     let b : length (drop (head_rest tag) bytes) < g = omega arith in
     let e = enough f g (plain_of tag bytes) (capped (at + (suc (head_rest tag)))) (drop (head_rest tag) bytes) a b in
     rw e refl
-enough (suc f) (suc g) (suc n) at bytes p q = branches_same _ _ _ _ (λ t.
+enough (suc f) (suc g) (suc n) at bytes p q = branches_same _ (λ t.
     ap (gives (little_number 8 bytes) (capped (at + 8)))
     (enough f g n (capped (at + 8)) (drop 8 bytes) (left_shorter 8 f bytes (lit< tt) (ltb-false (length bytes) 8 t) p)
     (left_shorter 8 g bytes (lit< tt) (ltb-false (length bytes) 8 t) q)))

@@ -1,5 +1,5 @@
 -- The tag of eight bytes of which none is zero.
-use Rattle.std.proofs.Common.{◌≡◌, ℕ, ◌+◌, ◌<◌, ◌%◌, ◌/◌, ⊎_elim, ap, Bool, true, false, [], ◌∷◌, refl, arith}
+use Rattle.std.proofs.Common.{◌≡◌, ℕ, ◌+◌, ◌<◌, ◌%◌, ◌/◌, ⊎_elim, ap, Bool, true, false, List, [], ◌∷◌, length, refl, arith}
 use Rattle.std.proofs.lemmas.Bool.Decides.{eqb_tells}
 use Rattle.std.specs.Prelude.{◌==◌, if◌then◌else◌}
 use Rattle.cap_spec.specs.Plain.{word_bytes}
@@ -11,21 +11,23 @@ one_of true = refl
 one_of false = refl
 
 -- where all bits of the tag are set, no byte is zero
-pub full_from_tag : (a b c d e f g h : ℕ) → tag_of (a ∷ b ∷ c ∷ d ∷ e ∷ f ∷ g ∷ h ∷ []) ≡ 255 → zeros_in (a ∷ b ∷ c ∷ d ∷ e ∷ f ∷ g ∷ h ∷ []) ≡ 0
-full_from_tag a b c d e f g h t =
+full_from_tag : (bs : List ℕ) → length bs ≡ 8 → tag_of bs ≡ 255 → zeros_in bs ≡ 0
+full_from_tag (a ∷ b ∷ c ∷ d ∷ e ∷ f ∷ g ∷ h ∷ []) eight t =
     omega (arith, t, one_of (a == 0), one_of (b == 0), one_of (c == 0), one_of (d == 0), one_of (e == 0), one_of (f == 0), one_of (g == 0), one_of (h == 0))
+full_from_tag bs eight t = absurd (omega arith)
 
 -- and the other way round
-pub tag_from_full : (a b c d e f g h : ℕ) → zeros_in (a ∷ b ∷ c ∷ d ∷ e ∷ f ∷ g ∷ h ∷ []) ≡ 0 → tag_of (a ∷ b ∷ c ∷ d ∷ e ∷ f ∷ g ∷ h ∷ []) ≡ 255
-tag_from_full a b c d e f g h z =
+tag_from_full : (bs : List ℕ) → length bs ≡ 8 → zeros_in bs ≡ 0 → tag_of bs ≡ 255
+tag_from_full (a ∷ b ∷ c ∷ d ∷ e ∷ f ∷ g ∷ h ∷ []) eight z =
     omega (arith, z, one_of (a == 0), one_of (b == 0), one_of (c == 0), one_of (d == 0), one_of (e == 0), one_of (f == 0), one_of (g == 0), one_of (h == 0))
+tag_from_full bs eight z = absurd (omega arith)
 
 -- the same of a word
 pub full_word : (w : ℕ) → tag_of (word_bytes w) ≡ 255 → zero_bytes w ≡ 0
-full_word w t = full_from_tag _ _ _ _ _ _ _ _ t
+full_word w t = full_from_tag (word_bytes w) refl t
 
 pub word_tag : (w : ℕ) → zero_bytes w ≡ 0 → tag_of (word_bytes w) ≡ 255
-word_tag w z = tag_from_full _ _ _ _ _ _ _ _ z
+word_tag w z = tag_from_full (word_bytes w) refl z
 
 -- where no bit is set, every byte is zero, and so is the word
 no_bit : (b : ℕ) → ◌≡◌ {A = ℕ} (if b == 0 then 0 else 1) 0 → b ≡ 0

@@ -13,9 +13,9 @@ use Rattle.cap_spec.proofs.Packed.Unpacking.{spread_append}
 use Rattle.cap_pack.specs.Course.{head_rest, first_word, zeros_of, plain_of}
 
 -- two choices are the same where both their branches are
-pub both_same : {A : Type 0} (b : Bool) (x y v w : A) → (b ≡ true → x ≡ v) → (b ≡ false → y ≡ w) → cond b x y ≡ cond b v w
-both_same true x y v w h k = h refl
-both_same false x y v w h k = k refl
+pub both_same : {A : Type 0} (b : Bool) {x y v w : A} → (b ≡ true → x ≡ v) → (b ≡ false → y ≡ w) → cond b x y ≡ cond b v w
+both_same true h k = h refl
+both_same false h k = k refl
 
 -- a tag has no bits for more bytes than these
 pub spread_front : (n tag : ℕ) (bs ys : List ℕ) → n ≤ length bs → spread n tag (bs ++ ys) ≡ spread n tag bs
@@ -24,7 +24,7 @@ spread_front (suc n) tag [] ys l = absurd (omega arith)
 spread_front (suc n) tag (b ∷ bs) ys l =
     let less : n ≤ length (b ∷ bs) = omega arith in
     let rest : n ≤ length bs = omega arith in
-    both_same (eqb (tag % 2) 0) _ _ _ _
+    both_same (eqb (tag % 2) 0)
     (λ t. ap (λ x. 256 * x) (spread_front n (tag / 2) (b ∷ bs) ys less))
     (λ t. ap (λ x. b + 256 * x) (spread_front n (tag / 2) bs ys rest))
 

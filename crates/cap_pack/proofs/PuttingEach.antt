@@ -63,9 +63,10 @@ module _ {K : Type 0} (text : K → List ℕ → Option (List ℕ)) (taken : K �
     pub same_spent : spent now ≡ spent old
     pub none_failed : failures now ≡ failures old
 
+module _ {K : Type 0} {text : K → List ℕ → Option (List ℕ)} {taken : K → Option (List ℕ)} {closed spent : K → Bool} {failures : K → Failures} where
   -- the next ones were put
-  pub put_more : (old now new : K) (all rest less xs : List ℕ) → rest ≡ xs ++ less → PutSoFar old now all rest → WasPut text now new xs
-      → (closed now ≡ false) × (closed new ≡ false) × (spent new ≡ spent now) × (failures new ≡ failures now) → PutSoFar old new all less
+  pub put_more : (old now new : K) (all rest less xs : List ℕ) → rest ≡ xs ++ less → PutSoFar text taken closed spent failures old now all rest → WasPut text now new xs
+      → (closed now ≡ false) × (closed new ≡ false) × (spent new ≡ spent now) × (failures new ≡ failures now) → PutSoFar text taken closed spent failures old new all less
   put_more old now new all rest less xs e s p o = record {
     done = s.done ++ xs;
     whole = s.whole ∙ ap (λ (ws : List ℕ). s.done ++ ws) e ∙ sym (append_assoc s.done xs less);
@@ -78,11 +79,11 @@ module _ {K : Type 0} (text : K → List ℕ → Option (List ℕ)) (taken : K �
   }
 
   -- all were put
-  pub put_all : (old now : K) (all rest : List ℕ) → rest ≡ [] → PutSoFar old now all rest → WasPut text old now all
+  pub put_all : (old now : K) (all rest : List ℕ) → rest ≡ [] → PutSoFar text taken closed spent failures old now all rest → WasPut text old now all
   put_all old now all rest e s = subst (WasPut text old now) (sym (s.whole ∙ ap (λ (ws : List ℕ). s.done ++ ws) e ∙ append-nil s.done)) s.put
 
   -- a fault came at the next ones
-  pub put_stops : (old now new : K) (all rest less xs : List ℕ) → rest ≡ xs ++ less → PutSoFar old now all rest
+  pub put_stops : (old now new : K) (all rest less xs : List ℕ) → rest ≡ xs ++ less → PutSoFar text taken closed spent failures old now all rest
       → ((ws : List ℕ) → Begins (text now (xs ++ ws)) (taken new)) → StoppedPutting text taken old new all
   put_stops old now new all rest less xs e s h = λ ws.
       let same : s.done ++ (xs ++ (less ++ ws)) ≡ all ++ ws =

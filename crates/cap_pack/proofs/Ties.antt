@@ -35,17 +35,17 @@ tells_zeros : {c : Course} {ws : List ℕ} {u : Bool} {ps : List ℕ} (n at : �
 tells_zeros zero at t = t
 tells_zeros (suc n) at t = tells_one 0 at (tells_zeros n at t)
 
-tells_true : {c : Course} {x : List ℕ} {u : Bool} {p : List ℕ} (y : List ℕ) (v : Bool) (q : List ℕ) (b : Bool) → b ≡ true → Tells c x u p →
+tells_true : {c : Course} {x : List ℕ} {u : Bool} {p : List ℕ} (y : List ℕ) (v : Bool) (q : List ℕ) {b : Bool} → b ≡ true → Tells c x u p →
     Tells c (cond b x y) (cond b u v) (cond b p q)
-tells_true {x = x} {u = u} {p = p} y v q b e t = record {
+tells_true {x = x} {u = u} {p = p} y v q {b} e t = record {
   words = t.words ∙ sym (cond-true b x y e);
   cut = t.cut ∙ sym (cond-true b u v e);
   ends = t.ends ∙ sym (cond-true b p q e);
 }
 
-tells_false : {c : Course} {y : List ℕ} {v : Bool} {q : List ℕ} (x : List ℕ) (u : Bool) (p : List ℕ) (b : Bool) → b ≡ false → Tells c y v q →
+tells_false : {c : Course} {y : List ℕ} {v : Bool} {q : List ℕ} (x : List ℕ) (u : Bool) (p : List ℕ) {b : Bool} → b ≡ false → Tells c y v q →
     Tells c (cond b x y) (cond b u v) (cond b p q)
-tells_false {y = y} {v = v} {q = q} x u p b e t = record {
+tells_false {y = y} {v = v} {q = q} x u p {b} e t = record {
   words = t.words ∙ sym (cond-false b x y e);
   cut = t.cut ∙ sym (cond-false b u v e);
   ends = t.ends ∙ sym (cond-false b p q e);
@@ -141,7 +141,7 @@ unfolding Told head_rest first_word zeros_of plain_of
 zeros_told k t at [] p = tells_along (course_head_stops (capped at) 0 [] (lit< tt)) refl refl refl (tells_stop at 1)
 zeros_told k t at (n ∷ rest) p =
     let many : 1 + n ≡ suc n = omega arith in
-    tells_false _ _ _ _ (le-ltb (suc (suc (length rest))) 2 (omega arith))
+    tells_false _ _ _ (le-ltb (suc (suc (length rest))) 2 (omega arith))
     (tells_along (head_behind at 0 (n ∷ []) rest refl) (ap (λ m. replicate m 0 ++ given_in k rest) many) refl
     (ap (λ m. replicate m (capped (at + 2)) ++ ends_in k (at + 2) rest) many)
     (tells_one 0 (capped (at + 2)) (tells_zeros n (capped (at + 2)) (t (at + 2) rest (omega arith)))))
@@ -160,14 +160,14 @@ plain_run_told k t at (a ∷ b ∷ c ∷ d ∷ e ∷ f ∷ g ∷ h ∷ n ∷ res
     (λ q. let s = behind_short k n (at + 10) rest q in
     let given : given_of (255 ∷ bytes) ≡ one ∷ plain_words rest = cond-false _ _ _ (le-ltb (length bytes) 9 (omega arith)) in
     let last : at + length (255 ∷ bytes) ≡ (at + 10) + length rest = omega arith in
-    tells_true _ _ _ _ (lt-ltb (length (255 ∷ bytes)) (10 + 8 * n) (omega arith))
+    tells_true _ _ _ (lt-ltb (length (255 ∷ bytes)) (10 + 8 * n) (omega arith))
     (tells_along step (given ∙ ap (λ l. one ∷ l) (sym s.0)) (sym s.1)
     (ap (λ ws. take (length ws) (capped (at + 10) ∷ word_ends (at + 10) n) ++ capped (at + length (255 ∷ bytes)) ∷ []) given
     ∙ ap (λ p. capped (at + 10) ∷ (take (length (plain_words rest)) (word_ends (at + 10) n) ++ capped p ∷ [])) last ∙ ap (λ l. capped (at + 10) ∷ l) (sym s.2))
     (tells_one one (capped (at + 10)) after)))
     (λ q. let l = behind_long k n (at + 10) rest q in
     let next : at + suc (suc (suc (suc (suc (suc (suc (suc (suc (suc (8 * n)))))))))) ≡ (at + 10) + 8 * n = omega arith in
-    tells_false _ _ _ _ (le-ltb (length (255 ∷ bytes)) (10 + 8 * n) (omega arith))
+    tells_false _ _ _ (le-ltb (length (255 ∷ bytes)) (10 + 8 * n) (omega arith))
     (tells_along step
     (ap (λ m. one ∷ (plain_words (take (8 * n) rest) ++ given_in k (drop m (255 ∷ bytes)))) head ∙ ap (λ w. one ∷ w) (sym l.0))
     (ap (λ m. is_cut_in k (drop m (255 ∷ bytes))) head ∙ sym l.1)
@@ -190,14 +190,14 @@ marked_in : (k : ℕ) → Told k → (at tag m x : ℕ) (bytes : List ℕ) → l
     (cond (ltb (suc (length bytes)) (suc m)) (capped (at + suc (length bytes)) ∷ []) (capped (at + suc m) ∷ ends_in k (at + suc m) (drop m bytes)))
 unfolding Told
 marked_in k t at tag m x bytes p r e z o = ⊎_elim
-    (λ q. tells_true _ _ _ _ (lt-ltb (suc (length bytes)) (suc m) (omega arith))
+    (λ q. tells_true _ _ _ (lt-ltb (suc (length bytes)) (suc m) (omega arith))
     (tells_along (course_head_stops (capped at) tag bytes (omega arith)) refl refl refl (tells_stop at (suc (length bytes)))))
     (λ q. let size : length (take m bytes) ≡ head_rest tag = omega (arith, length-take m bytes) in
     let whole : length (take m bytes) ≡ m = omega (arith, size, r) in
     let step = head_behind at tag (take m bytes) (drop m bytes) size in
     let short : length (drop m bytes) ≤ k = omega (arith, length-drop m bytes) in
     let place : capped (at + suc (length (take m bytes))) ≡ capped (at + suc m) = ap (λ n. capped (at + suc n)) whole in
-    tells_false _ _ _ _ (le-ltb (suc (length bytes)) (suc m) (omega arith))
+    tells_false _ _ _ (le-ltb (suc (length bytes)) (suc m) (omega arith))
     (tells_along (ap (λ l. course 0 (capped at) (tag ∷ l)) (sym (take-append-drop m bytes)) ∙ step
     ∙ ap (λ p. gives (first_word tag (take m bytes)) p
     (zeros_then (zeros_of tag (take m bytes)) p (course (plain_of tag (take m bytes)) p (drop m bytes)))) place) refl refl refl

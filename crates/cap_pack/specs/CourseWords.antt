@@ -42,11 +42,11 @@ unfolding course_in
 course_gives_words zero n at bytes all = tt
 course_gives_words (suc f) zero at [] all = tt
 course_gives_words (suc f) zero at (tag ∷ bytes) all =
-    given_are_words (nat_lt (length bytes) (head_rest tag)) _ _ _ _ (first_is_word tag bytes all.1)
+    given_are_words (nat_lt (length bytes) (head_rest tag)) _ (first_word tag bytes) _ _ (first_is_word tag bytes all.1)
     (zeros_are_words (zeros_of tag bytes) _ _
     (course_gives_words f (plain_of tag bytes) _ (drop (head_rest tag) bytes) (all_drop (λ b. b < 256) (head_rest tag) bytes all.1)))
 course_gives_words (suc f) (suc n) at bytes all =
-    given_are_words (nat_lt (length bytes) 8) _ _ _ _ (eight_bytes_below bytes all)
+    given_are_words (nat_lt (length bytes) 8) _ (little_number 8 bytes) _ _ (eight_bytes_below bytes all)
     (course_gives_words f n _ (drop 8 bytes) (all_drop (λ b. b < 256) 8 bytes all))
 
 -- what a source has still to give

@@ -45,10 +45,10 @@ only_tree : (m : List (List ℕ)) (words depth : ℕ) (r : Report) (t : Tree) �
 only_tree m words depth r t h u c d g = let o = one_tree m 0 0 u t c d r.charge r.depth g h.within.denotes in (o.part, o.charge, o.depth)
 
 -- Nothing is read where the tree has no node.
-pub nothing_read : (m : List (List ℕ)) (words depth : ℕ) (path : List Step) (r : Report) (t : Tree) → IsReport m words depth r t
+pub nothing_read : {m : List (List ℕ)} {words depth : ℕ} {path : List Step} {r : Report} (t : Tree) → IsReport m words depth r t
     → ((level : ℕ) (a : Spot) → Comes m path level a → ⊥) → ((u : Tree) (c d : ℕ) → Denotes m 0 0 u c d → node_at u path ≡ None)
     → IsRead m words depth path r None None
-nothing_read m words depth path r t h none empty = record {
+nothing_read {m} {words} {depth} {path} {r} t h none empty = record {
   tree = t;
   report = h;
   only = only_tree m words depth r t h;
@@ -57,7 +57,7 @@ nothing_read m words depth path r t h none empty = record {
 }
 
 -- Else the node is read.
-pub node_read : (m : List (List ℕ)) (words depth : ℕ) (path : List Step) (r : Report) (t : Tree) (a : Spot) (own : Own) (o o' : Option Place) →
+pub node_read : {m : List (List ℕ)} {words depth : ℕ} {path : List Step} {r : Report} (t : Tree) (a : Spot) {own : Own} {o o' : Option Place} →
     IsReport m words depth r t
     → ((level : ℕ) × Comes m path level a)
     → ((u : Tree) (c d : ℕ) → Denotes m 0 0 u c d → (x : Tree) × (node_at u path ≡ Some x) × DenotesAt m a x)
@@ -65,7 +65,7 @@ pub node_read : (m : List (List ℕ)) (words depth : ℕ) (path : List Step) (r 
     → o ≡ o' → MatchOption o' ((t b n : ℕ) → Stands m a t b n → ⊥) (λ p. Stands m a p.segment p.start p.words)
     → IfSome o (λ p. p.segment < length m) → IfSome o (λ p. p.start + p.words ≤ length (segment_of m p.segment))
     → IsRead m words depth path r (Some own) o
-node_read m words depth path r t a own o o' h come node shows same s e i =
+node_read {m} {words} {depth} {path} {r} t a {o} h come node shows same s e i =
     let x = node t r.charge r.depth h.within.denotes in
     let there : MatchOption o ((t b n : ℕ) → Stands m a t b n → ⊥) (λ p. Stands m a p.segment p.start p.words) = rw same s in record {
       tree = t;

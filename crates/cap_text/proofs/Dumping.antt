@@ -127,27 +127,29 @@ mutual
   pub height_denoted : (m : List (List ℕ)) (s w : ℕ) (t : Tree) (c d : ℕ) → Denotes m s w t c d → height t ≤ d
   height_denoted m s w null c d h = omega arith
   height_denoted m s w (cap i) c d h = omega arith
-  height_denoted m s w (struct words ts) c d h =
-      omega (arith, h.6.depth, heights_each m (places h.1 (h.2 + data_size h.3) (pointer_size h.3)) ts h.4 h.5 h.7)
+  height_denoted m s w (struct words ts) c d (k, t, b, q, inner, deep, found, each) =
+      omega (arith, found.depth, heights_each m (places t (b + data_size q) (pointer_size q)) ts inner deep each)
   height_denoted m s w (scalars e vs) c d h = omega arith
-  height_denoted m s w (pointers ts) c d h = omega (arith, h.6.depth, heights_each m (places h.1 h.2 (list_size h.3)) ts h.4 h.5 h.7)
-  height_denoted m s w (structs ds ps es) c d h =
-      let r = heights_elements m h.1 (h.2 + 1) ds ps (middle h.4) es h.5 h.6 h.8 in
-      elim (eqb_tells (ds + ps) 0) [ inl e ↦ rw e.0 (omega arith) | inr e ↦ rw e.0 (omega (arith, h.7.depth, r)) ]
+  height_denoted m s w (pointers ts) c d (k, t, b, q, inner, deep, found, each) =
+      omega (arith, found.depth, heights_each m (places t b (list_size q)) ts inner deep each)
+  height_denoted m s w (structs ds ps es) c d (k, t, b, q, tag, inner, deep, found, each) =
+      let r = heights_elements m t (b + 1) ds ps (middle tag) es inner deep each in
+      elim (eqb_tells (ds + ps) 0) [ inl e ↦ rw e.0 (omega arith) | inr e ↦ rw e.0 (omega (arith, found.depth, r)) ]
 
   heights_each : (m : List (List ℕ)) (ps : List (ℕ × ℕ)) (ts : Trees) (c d : ℕ) → DenoteEach m ps ts c d → heights ts ≤ 1 + d
   heights_each m ps none c d h = omega arith
-  heights_each m ps (more t ts) c d h =
-      let a = height_denoted m h.0 h.1 t h.3 h.4 h.8 in
-      let b = heights_each m h.2 ts h.5 h.6 h.9 in
-      omega (arith, a, b, h.11)
+  heights_each m ps (more t ts) c d (s, w, rest, c1, d1, c2, d2, begins, denotes, after, charge, depth) =
+      let a = height_denoted m s w t c1 d1 denotes in
+      let b = heights_each m rest ts c2 d2 after in
+      omega (arith, a, b, depth)
 
   heights_elements : (m : List (List ℕ)) (t b ds ps n : ℕ) (es : Trees) (c d : ℕ) → AreElements m t b ds ps n es c d → heights es ≤ element_levels n + (1 + d)
   heights_elements m t b ds ps n none c d h = omega arith
   heights_elements m t b ds ps n (more (struct words ts) es) c d h =
-      let a = heights_each m (places t (b + ds) ps) ts h.1 h.2 h.7 in
-      let r = heights_elements m t (b + ds + ps) ds ps h.0 es h.3 h.4 h.8 in
-      omega (arith, a, r, h.10, ap element_levels h.5, levels_of_few h.0)
+      let (fewer, c1, d1, c2, d2, counted, own, each, after, charge, depth) = h in
+      let a = heights_each m (places t (b + ds) ps) ts c1 d1 each in
+      let r = heights_elements m t (b + ds + ps) ds ps fewer es c2 d2 after in
+      omega (arith, a, r, depth, ap element_levels counted, levels_of_few fewer)
   heights_elements m t b ds ps n (more x es) c d h = absurd h
 
 module _ {O : Type 0} (g : output.Ghosts O) (level : ℕ) (t : Tree) (kind : Kind) where

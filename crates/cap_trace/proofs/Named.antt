@@ -66,7 +66,7 @@ one_refused m words depth r (inl none) (inr g) =
 one_refused m words depth r (inr f) (inl none) =
     absurd (omega (arith, none.pointers, some_number m r.pointers f.path _ _ (fault_traceable m words depth r f).numbered))
 one_refused m words depth r (inr f) (inr g) =
-    ap Some (one_numbered m r.pointers f.path g.path _ _ _ _ (fault_traceable m words depth r f).numbered
+    ap Some (one_numbered m r.pointers f.path g.path (fault_traceable m words depth r f).numbered
     (fault_traceable m words depth r g).numbered)
 
 pub one_path : (demands : Demands) (m : List (List ℕ)) (words depth : ℕ) (fault : StrictRefusal)
@@ -76,5 +76,5 @@ one_path demands m words depth (Refused r) h k = one_refused m (words_under dema
 one_path demands m words depth ManySegments h k = refl
 one_path demands m words depth (Pointer what s w n) h k =
     let limit = words_under demands m words in
-    ap Some (one_numbered m n h.1.2.path k.1.2.path _ _ _ _ (lax_traceable m limit depth s w what n h.1.0 h.1.2).numbered
+    ap Some (one_numbered m n h.1.2.path k.1.2.path (lax_traceable m limit depth s w what n h.1.0 h.1.2).numbered
     (lax_traceable m limit depth s w what n k.1.0 k.1.2).numbered)

@@ -19,7 +19,7 @@ use Rattle.cap_trace.proofs.Onward.{cap_finds_none, leaf_trail, null_finds_none}
 pub nothing_below : (m : List (List ℕ)) (depth k : ℕ) (from : Branch) → Leads m from.segment from.at k to_null
     → GoesBelow m depth from (Object None)
 nothing_below m depth k from lead = (
-  (null-not_wrong m _ _ _ lead, λ deep. null_finds_none m _ _ _ lead deep.0 deep.1 deep.2 deep.3 deep.5),
+  (null-not_wrong m _ _ _ lead, λ (k', t, b, q, tag, finds, tagged, past). null_finds_none m _ _ _ lead k' t b q finds),
   (λ n h. tt),
   (λ seen path ahead t. leaf_trail m seen _ ahead t (null_finds_none m _ _ _ lead)),
 )
@@ -33,9 +33,9 @@ null_below m depth from null = nothing_below m depth 0 from (near 0 null (omega 
 pub cap_below : (m : List (List ℕ)) (depth k i : ℕ) (from : Branch) → Leads m from.segment from.at k (to_cap i)
     → GoesBelow m depth from (Object None)
 cap_below m depth k i from lead = (
-  (cap-not_wrong m _ _ _ _ lead, λ deep. cap_finds_none m _ _ _ _ lead deep.0 deep.1 deep.2 deep.3 deep.5),
+  (cap-not_wrong m from.segment from.at k i lead, λ (k', t, b, q, tag, finds, tagged, past). cap_finds_none m i lead k' t b q finds),
   (λ n h. tt),
-  (λ seen path ahead t. leaf_trail m seen _ ahead t (cap_finds_none m _ _ _ _ lead)),
+  (λ seen path ahead t. leaf_trail m seen _ ahead t (cap_finds_none m i lead)),
 )
 
 -- The search comes to the next word of the same object.

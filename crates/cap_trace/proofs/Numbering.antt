@@ -73,9 +73,9 @@ number_order m i j p q s w s' w' a c less =
     go (inr (inl b)) = b
     go (inr (inr b)) = absurd (omega (arith, fewer_before m j i q p s' w' s w c a b))
 
-pub one_numbered : (m : List (List ℕ)) (n : ℕ) (p q : List Step) (s w s' w' : ℕ) → IsNumbered m p s w n
+pub one_numbered : (m : List (List ℕ)) (n : ℕ) (p q : List Step) {s w s' w' : ℕ} → IsNumbered m p s w n
     → IsNumbered m q s' w' n → p ≡ q
-one_numbered m n p q s w s' w' a c =
+one_numbered m n p q {s} {w} {s'} {w'} a c =
     go (Before-total_coming m p q a.level c.level (word s w) (word s' w') a.reached c.reached)
   where
     go : (p ≡ q) ⊎ Before p q ⊎ Before q p → p ≡ q

@@ -24,24 +24,24 @@ use Rattle.cap_trace.specs.Branches.{IsBranch, word_of, rest_of}
 use Rattle.cap_trace.specs.declared.branch.Form.TheVariants.{Struct, Pointers, Structs}
 use Rattle.cap_trace.proofs.Branches.{branch}
 
-pub struct_words : (m : List (List ℕ)) (s w k t b q tag n c d p at left level : ℕ)
+pub struct_words : (m : List (List ℕ)) (s w : ℕ) {k t b : ℕ} (q tag : ℕ) {n c : ℕ} (d : ℕ) {p at left : ℕ} (level : ℕ)
     → FindsObject m s w k t b q tag n c (shape.Struct d p) → at ≡ b + d → 0 < p → left ≡ p - 1 → (base : List Step)
     → word_of base (branch Struct t at 0 left 0 0 0 0 (level + 1)) ∷ rest_of base (branch Struct t at 0 left 0 0 0 0 (level + 1))
     ≡ object_children base q tag t b level
-struct_words m s w k t b q tag n c d zero at left level f e some g base = absurd (omega arith)
-struct_words m s w k t b q tag n c d (suc p) at left level f e some g base =
+struct_words m s w q tag d {p = zero} level f e some g base = absurd (omega arith)
+struct_words m s w {b} q tag d {p = suc p} {at} {left} level f e some g base =
     let start : at ≡ b + data_size q = omega (arith, e, f.object.shape.data_words) in
     let many : pointer_size q ≡ suc p = sym f.object.shape.pointers in
     let one : left ≡ p = omega (arith, g) in
     rw (f.object.shape.kind, start, many, one) refl
 
 -- a list of pointers
-pub pointers_words : (m : List (List ℕ)) (s w k t b q tag n c many more level : ℕ)
+pub pointers_words : (m : List (List ℕ)) (s w : ℕ) {k t b : ℕ} (q tag : ℕ) {n c many more : ℕ} (level : ℕ)
     → FindsObject m s w k t b q tag n c (shape.Pointers many) → 0 < many → more ≡ many - 1 → (base : List Step)
     → word_of base (branch Pointers t b 0 0 0 more 0 1 (level + 1)) ∷ rest_of base (branch Pointers t b 0 0 0 more 0 1 (level + 1))
     ≡ object_children base q tag t b level
-pointers_words m s w k t b q tag n c zero more level f some e base = absurd (omega arith)
-pointers_words m s w k t b q tag n c (suc many) more level f some e base =
+pointers_words m s w q tag {many = zero} level f some e base = absurd (omega arith)
+pointers_words m s w q tag {many = suc many} {more} level f some e base =
     let count : list_size q ≡ suc many = sym f.object.shape.count in
     let one : more ≡ many = omega (arith, e) in
     rw (f.object.shape.kind, f.object.shape.code, count, one) refl
@@ -51,12 +51,12 @@ no_pointers : (base : List Step) (level t b ds i n : ℕ) → element_rows base 
 no_pointers base level t b ds i zero = refl
 no_pointers base level t b ds i (suc n) = no_pointers base level t (b + ds + 0) ds (i + 1) n
 
-pub structs_empty : (m : List (List ℕ)) (s w k t b q tag n c size count d p level : ℕ)
+pub structs_empty : (m : List (List ℕ)) (s w : ℕ) {k t b : ℕ} (q tag : ℕ) {n c : ℕ} (size : ℕ) {count : ℕ} (d : ℕ) {p : ℕ} (level : ℕ)
     → FindsObject m s w k t b q tag n c (shape.Structs size count d p) → (count ≡ 0) ⊎ (p ≡ 0) → (base : List Step)
     → ◌≡◌ {A = List Ahead} [] (object_children base q tag t b level)
-structs_empty m s w k t b q tag n c size count d p level f (inl e) base =
+structs_empty m s w q tag size {count} d level f (inl e) base =
     let x : middle tag ≡ 0 = sym f.object.shape.count ∙ e in rw (f.object.shape.kind, f.object.shape.code, x) refl
-structs_empty m s w k t b q tag n c size count d p level f (inr e) base =
+structs_empty m s w {t} {b} q tag size d level f (inr e) base =
     let x : pointer_size tag ≡ 0 = sym f.object.shape.pointers ∙ e in
     rw (f.object.shape.kind, f.object.shape.code, x)
     (sym (no_pointers base (level + (element_levels 1 + 1)) t (b + 1) (data_size tag) 0 (middle tag)))
@@ -71,14 +71,14 @@ structs_fit m s w k t b q tag n c size count d p f =
     rw (f.object.shape.count, f.object.shape.data_words, f.object.shape.pointers) fits.1 in
     omega (arith, room, f.finds.sits.inside, extent_structs q f.object.shape.kind f.object.shape.code)
 
-pub structs_words : (m : List (List ℕ)) (s w k t b q tag n c size count d p at left more level : ℕ)
+pub structs_words : (m : List (List ℕ)) (s w : ℕ) {k t b : ℕ} (q tag : ℕ) {n c : ℕ} (size : ℕ) {count : ℕ} (d : ℕ) {p at left more : ℕ} (level : ℕ)
     → FindsObject m s w k t b q tag n c (shape.Structs size count d p) → at ≡ b + 1 + d → 0 < p → left ≡ p - 1
     → 0 < count → more ≡ count - 1 → (base : List Step)
     → word_of base (branch Structs t at 0 left 0 more d p (level + 2)) ∷ rest_of base (branch Structs t at 0 left 0 more d p (level + 2))
     ≡ object_children base q tag t b level
-structs_words m s w k t b q tag n c size zero d p at left more level f e some g each h base = absurd (omega arith)
-structs_words m s w k t b q tag n c size (suc count) d zero at left more level f e some g each h base = absurd (omega arith)
-structs_words m s w k t b q tag n c size (suc count) d (suc p) at left more level f e some g each h base =
+structs_words m s w q tag size {count = zero} d level f e some g each h base = absurd (omega arith)
+structs_words m s w q tag size {count = suc count} d {p = zero} level f e some g each h base = absurd (omega arith)
+structs_words m s w {b} q tag size {count = suc count} d {p = suc p} {left} {more} level f e some g each h base =
     let x : middle tag ≡ suc count = sym f.object.shape.count in
     let y : data_size tag ≡ d = sym f.object.shape.data_words in
     let z : pointer_size tag ≡ suc p = sym f.object.shape.pointers in
@@ -90,13 +90,13 @@ structs_words m s w k t b q tag n c size (suc count) d (suc p) at left more leve
     rw (f.object.shape.kind, f.object.shape.code, x, y, z, one, rest, e, end, path) refl
 
 -- the branch of a list of structs
-pub structs_branch : (m : List (List ℕ)) (s w k t b q tag n c size count d p at left more level depth i : ℕ)
+pub structs_branch : (m : List (List ℕ)) (s w : ℕ) {k t b : ℕ} (q tag : ℕ) {n c : ℕ} (size : ℕ) {count : ℕ} (d : ℕ) {p at left more : ℕ} (level depth i : ℕ)
     → FindsObject m s w k t b q tag n c (shape.Structs size count d p) → at ≡ b + 1 + d → 0 < p → left ≡ p - 1
     → 0 < count → more ≡ count - 1 → p < 2 ^ 16 → count < 2 ^ 32 → i + 1 ≤ level → level + element_levels count ≤ depth
     → IsBranch m depth (i + 1) (branch Structs t at 0 left 0 more d p (level + 2))
-structs_branch m s w k t b q tag n c size zero d p at left more level depth i f e some g each h short small high low =
+structs_branch m s w q tag size {count = zero} d level depth i f e some g each h short small high low =
     absurd (omega arith)
-structs_branch m s w k t b q tag n c size (suc count) d p at left more level depth i f e some g each h short small high
+structs_branch m s w {k} {t} {b} q tag {n} {c} size {count = suc count} d {p} {more} level depth i f e some g each h short small high
     low =
     let rest : more ≡ count = omega (arith, h) in record {
       exists = f.finds.sits.exists;
@@ -132,9 +132,9 @@ not_deep m depth s w level q tag x f within (k, t, b, q', other, g, tagged, past
     omega (arith, levels, ap (λ (u : ℕ). levels_below u other) same.shape, within)
 
 -- an element's start is a number of 32 bits
-pub start_fits : (m : List (List ℕ)) (s w k t b q tag n c size count d p at : ℕ) → IsMessage m
+pub start_fits : (m : List (List ℕ)) (s w : ℕ) {k t b : ℕ} (q tag : ℕ) {n c : ℕ} (size : ℕ) {count d : ℕ} (p at : ℕ) → IsMessage m
     → FindsObject m s w k t b q tag n c (shape.Structs size count d p) → at ≡ d → (count ≡ 0 → ⊥) → Fits w32 (b + 1 + at)
-start_fits m s w k t b q tag n c size zero d p at h f e some = absurd (some refl)
-start_fits m s w k t b q tag n c size (suc count) d p at h f e some =
+start_fits m s w q tag size {count = zero} p at h f e some = absurd (some refl)
+start_fits m s w {k} {t} {b} q tag {n} {c} size {count = suc count} {d} p at h f e some =
     let short = short_segment m t h f.finds.sits.exists in
     omega (arith, e, short, structs_fit m s w k t b q tag n c size (suc count) d p f)

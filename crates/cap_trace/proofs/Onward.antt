@@ -170,7 +170,7 @@ pub null_finds_none : (m : List (List ℕ)) (s w n : ℕ) → Leads m s w n to_n
 null_finds_none m s w n h k t b q f =
     let e : to_null ≡ to_object t (pos b) q = (one_lead m s w n k to_null (to_object t (pos b) q) h f.leads).1 in cc
 
-pub cap_finds_none : (m : List (List ℕ)) (s w n i : ℕ) → Leads m s w n (to_cap i) → (k t b q : ℕ)
+pub cap_finds_none : (m : List (List ℕ)) {s w n : ℕ} (i : ℕ) → Leads m s w n (to_cap i) → (k t b q : ℕ)
     → Finds m s w k t b q → ⊥
-cap_finds_none m s w n i h k t b q f =
+cap_finds_none m {s} {w} {n} i h k t b q f =
     let e : to_cap i ≡ to_object t (pos b) q = (one_lead m s w n k (to_cap i) (to_object t (pos b) q) h f.leads).1 in cc

@@ -50,7 +50,7 @@ row_passes : (m : List (List ℕ)) (depth s w level : ℕ) (p : NearPointer) (r 
     → FindsRow m p.segment p.at p.word r → level ≤ depth → PassesAt m depth s w level
 row_passes m depth s w level p r h f within =
     let finds = near_finds m s w p r h f in (
-      object-not_wrong m _ _ _ _ _ p.word finds,
+      object-not_wrong m s w _ _ _ p.word finds,
       λ (k, t, b, q, other, g, tagged, past).
           let same = one_object m s w p.pads p.segment r.start p.word k t b q finds g in
           omega (arith, row_levels p.word r.pointer_count other f.pointers, ap (λ (u : ℕ). levels_below u other) same.shape, within, past),

@@ -25,10 +25,13 @@ not_wrong_among : (m : List (List ℕ)) (ps : List (List Step)) (x : ℕ) (p : L
     → CostOf m ps x → IsOneOf p ps → Reaches m p level s w → Wrong m s w v → ⊥
 not_wrong_among m [] x p level s w v h i r wrong = absurd i
 not_wrong_among m (q ∷ qs) x p level s w v h (inl e) r wrong =
-    let o = one_reached m q level h.0 s w h.1 h.2 (subst (λ (u : List Step). Reaches m u level s w) e r) h.5 in
-    costs_not_wrong m h.1 h.2 h.3 v h.6
-    (subst (λ (u : ℕ). Wrong m h.1 u v) o.2 (subst (λ (u : ℕ). Wrong m u w v) o.1 wrong))
-not_wrong_among m (q ∷ qs) x p level s w v h (inr i) r wrong = not_wrong_among m qs h.4 p level s w v h.7 i r wrong
+    let (level', s', w', one, rest, reached, costs, after, sum) = h in
+    let o = one_reached m q level level' s w s' w' (subst (λ (u : List Step). Reaches m u level s w) e r) reached in
+    costs_not_wrong m s' w' one v costs
+    (subst (λ (u : ℕ). Wrong m s' u v) o.2 (subst (λ (u : ℕ). Wrong m u w v) o.1 wrong))
+not_wrong_among m (q ∷ qs) x p level s w v h (inr i) r wrong =
+    let (level', s', w', one, rest, reached, costs, after, sum) = h in
+    not_wrong_among m qs rest p level s w v after i r wrong
 
 -- The paths before the first fault are passable.
 pub fault_traceable : (m : List (List ℕ)) (words depth : ℕ) (r : Refusal) → (f : IsFirstFault m words depth r)
@@ -85,7 +88,7 @@ pub gives_traceable : (m : List (List ℕ)) (depth n : ℕ) (path old : List Ste
     → TellsPath m depth n old result new → IsTraceable m depth n path → GivesPath path old result new
 gives_traceable m depth n path old None new h a = absurd (h.0 path a)
 gives_traceable m depth n path old (Some count) new h a =
-    let e = one_numbered m n h.0 path h.1.segment h.1.at a.segment a.at h.1.numbered a.numbered in
+    let e = one_numbered m n h.0 path h.1.numbered a.numbered in
     (ap Some (h.2 ∙ ap length e), h.3 ∙ ap (λ (u : List Step). filled u old) e)
 
 -- So it is that of the first fault.

@@ -128,13 +128,13 @@ arrives_low m words depth path (word s w) at h = (h.levels, omega (arith, h.leve
 arrives_low m words depth path (element t b ds ps) at h = (omega (arith, h.levels), omega (arith, h.levels, h.few))
 
 -- One step on at a pointer word,
-pub arrives_word : (m : List (List ℕ)) (words depth : ℕ) (path : List Step) (a : Spot) (at : Arrival) (step : Step)
-    (s w cost : ℕ) (f : Found) (lax : Option LaxPointer) → Arrives m words depth path a at → Goes m a step (word s w)
+pub arrives_word : (m : List (List ℕ)) {words depth : ℕ} (path : List Step) (a : Spot) (at : Arrival) (step : Step)
+    {s w cost : ℕ} {f : Found} (lax : Option LaxPointer) → Arrives m words depth path a at → Goes m a step (word s w)
     → IsFound m (word s w) f → Costs m s w cost → cost ≤ words - at.spent → ¬ IsDeepAt m depth s w (at.level + 1)
     → AddsPointer m s w (at.pointers + 1) at.lax lax
     → Arrives m words depth (path ++ step ∷ []) (word s w)
     record { found = f; level = at.level + 1; spent = at.spent + cost; pointers = at.pointers + 1; lax = lax }
-arrives_word m words depth path a at step s w cost f lax h g found costs within shallow adds =
+arrives_word m {words} {depth} path a at step {s} {w} {cost} lax h g found costs within shallow adds =
     let r : Reaches m (path ++ step ∷ []) (at.level + 1) s w = next_comes m words depth path a at step s w h g in
     let l = length-append h.ways ((path ++ step ∷ []) ∷ []) in
     record {

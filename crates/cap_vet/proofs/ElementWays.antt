@@ -53,7 +53,7 @@ module _ {M : Type 0} {g : segments.Ghosts M} (m : List (List ℕ)) (start : Pat
       let there : IsWay m start.words start.depth first (To are.at) =
       subst (λ (x : Way). IsWay m start.words start.depth first x) are.way way in
       let goes : Goes m there.0 (Item i) (element_spot e i) =
-      rw (are.segment, are.first) (element_goes m there.0 are.at.found e.count e.data_words e.pointers i there.1.found are.kind lt) in
+      rw (are.segment, are.first) (element_goes m there.0 e.data_words e.pointers there.1.found are.kind lt) in
       arrives_element m start.words start.depth first there.0 are.at (Item i) e.segment
       (e.first + i * (e.data_words + e.pointers)) e.data_words e.pointers are.at.lax refl there.1 goes exists inside
 
@@ -65,7 +65,7 @@ module _ {M : Type 0} {g : segments.Ghosts M} (m : List (List ℕ)) (start : Pat
   gives rest a at lax found leads = λ demands words depth first is.
       let path = first ++ Item i ∷ rest in
       let way : IsWay m (words_under demands m words) depth path (To at) =
-      way_as m _ _ _ _ path (To at) is.limit is.deepest (a, leads first is.way) in
+      way_as m path (To at) is.limit is.deepest (a, leads first is.way) in
       let none : HasNoFaultBy demands (length m) at.lax =
       subst (λ (o : Option LaxPointer). HasNoFaultBy demands (length m) o) (sym lax)
       (subst (λ (d : Demands). HasNoFaultBy d (length m) are.at.lax) is.under are.strict) in
@@ -85,13 +85,13 @@ module _ {M : Type 0} {g : segments.Ghosts M} (m : List (List ℕ)) (start : Pat
   pointer_arrives j w cost few is near first way =
       let at = element_arrival are.at e i in
       let a = element_arrives first way in
-      let goes = pointer_goes m (element_spot e i) at.found e.data_words e.pointers j w a.found refl few is in
+      let goes = pointer_goes m (element_spot e i) e.data_words a.found refl few is in
       let level : e.level ≡ at.level + 1 = omega (arith, are.level) in
       let shallow : IsDeepAt m start.depth e.segment w (at.level + 1) → ⊥ =
       subst (λ x. IsDeepAt m x e.segment w (at.level + 1) → ⊥) are.depth (subst (λ x. IsDeepAt m e.depth e.segment w x → ⊥) level near.shallow) in
       subst (λ (p : List Step). Arrives m start.words start.depth p (word e.segment w) (pointer_arrival at v.found cost))
       (append_assoc first (Item i ∷ []) (Ptr j ∷ []))
-      (arrives_word m start.words start.depth (first ++ Item i ∷ []) (element_spot e i) at (Ptr j) e.segment w cost v.found at.lax a goes
+      (arrives_word m (first ++ Item i ∷ []) (element_spot e i) at (Ptr j) at.lax a goes
       near.found near.costs (omega (arith, near.within, are.left)) shallow (adds_strict m e.segment w (at.pointers + 1) at.lax near.strict))
 
   pub pointer_given : (j w cost : ℕ) → j < e.pointers → w ≡ e.first + i * (e.data_words + e.pointers) + e.data_words + j

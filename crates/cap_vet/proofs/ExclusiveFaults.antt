@@ -25,9 +25,9 @@ one_exclusive_fault m words depth room (Overlap s w n) (NoRoom n' b) h k = absur
 one_exclusive_fault m words depth room (Overlap s w n) (Overlap s' w' n') h k = (let same = one_overlap m s w n s' w' n' h.3 k.3 in cc)
 
 -- and none where it is accepted and disjoint and there is room
-pub no_exclusive_fault : (m : List (List ℕ)) (words depth room : ℕ) (report : Report) (x : ExclusiveFault)
+pub no_exclusive_fault : (m : List (List ℕ)) (words : ℕ) {depth room : ℕ} (report : Report) (x : ExclusiveFault)
     → IsAccepted m words depth report → IsDisjoint m → marks_of m ≤ room
     → IsExclusiveFault m words depth room x → ⊥
-no_exclusive_fault m words depth room report (Refused r) a d l h = not_both m words depth report r a h
-no_exclusive_fault m words depth room report (NoRoom n b) a d l h = omega (arith, l, h.1, h.2)
-no_exclusive_fault m words depth room report (Overlap s w n) a d l h = none_of_disjoint m d h.3.path h.3.first.holds
+no_exclusive_fault m words {depth} report (Refused r) a d l h = not_both m words depth report r a h
+no_exclusive_fault m words report (NoRoom n b) a d l h = omega (arith, l, h.1, h.2)
+no_exclusive_fault m words report (Overlap s w n) a d l h = none_of_disjoint m d h.3.path h.3.first.holds

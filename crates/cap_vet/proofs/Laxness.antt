@@ -99,11 +99,11 @@ strict_held m report vetted h =
     }
 
 -- A walk that has found none is through a strict message.
-pub strict_at_end : (m : List (List ℕ)) (words depth : ℕ) (report : Report) (seen : List (List Step))
+pub strict_at_end : {m : List (List ℕ)} {words depth : ℕ} {report : Report} (seen : List (List Step))
     (ahead : List Ahead)
     → HasWalked m words depth [] report seen ahead → KnowsLax m seen None → length m ≤ 511 → IsStrict m words depth
-strict_at_end m words depth report seen ahead w k few = record {
-  accepted = within_of m words depth report (accepted_at_end m words depth report seen ahead w);
+strict_at_end {m} {words} {depth} {report} seen ahead w k few = record {
+  accepted = within_of m words depth report (accepted_at_end seen ahead w);
   few_segments = few;
   none = none_at_end m words depth report seen ahead w k;
 }

@@ -45,32 +45,34 @@ followed_costs m s w (followed.Target x) (q, tag, h) =
     inr (inr (x.pads, x.segment, x.start, q, tag, h.finds, tagged_of m s w q tag x h, h.object.charge))
 
 -- what takes no level past the limit isn't too deep
-pub followed_shallow : (m : List (List ℕ)) (depth s w level : ℕ) (f : Followed) → IsFollowed m s w f → deepest_of level f ≤ depth → ¬ IsDeepAt m depth s w level
-followed_shallow m depth s w level (followed.Null k) h e = λ deep. null_no_object m s w k deep.0 deep.1 deep.2 deep.3 h deep.5
-followed_shallow m depth s w level (followed.Cap k i) h e = λ deep. cap_no_object m s w k i deep.0 deep.1 deep.2 deep.3 h deep.5
-followed_shallow m depth s w level (followed.Target x) (q, tag, h) e =
+pub followed_shallow : (m : List (List ℕ)) {depth s w : ℕ} (level : ℕ) (f : Followed) → IsFollowed m s w f → deepest_of level f ≤ depth → ¬ IsDeepAt m depth s w level
+followed_shallow m {s} {w} level (followed.Null k) h e =
+    λ (k', t, b, q, tag, finds, has_tag, deep). null_no_object m s w k k' t b q h finds
+followed_shallow m {s} {w} level (followed.Cap k i) h e =
+    λ (k', t, b, q, tag, finds, has_tag, deep). cap_no_object m s w k i k' t b q h finds
+followed_shallow m {depth} {s} {w} level (followed.Target x) (q, tag, h) e =
     deep_once m depth s w level x.pads x.segment x.start q tag h.finds (tagged_of m s w q tag x h) (omega (arith, e, levels_shape q tag x.shape h.object.shape))
 
 -- and what takes one is
-pub followed_deep : (m : List (List ℕ)) (words depth spent s w level : ℕ) (f : Followed) → IsFollowed m s w f → depth < deepest_of level f
+pub followed_deep : {m : List (List ℕ)} {words depth spent s w level : ℕ} (f : Followed) → IsFollowed m s w f → depth < deepest_of level f
     → IsFirstReason m words depth spent s w level DepthLimit
-followed_deep m words depth spent s w level (followed.Null k) h e = absurd (omega arith)
-followed_deep m words depth spent s w level (followed.Cap k i) h e = absurd (omega arith)
-followed_deep m words depth spent s w level (followed.Target x) (q, tag, h) e =
+followed_deep (followed.Null k) h e = absurd (omega arith)
+followed_deep (followed.Cap k i) h e = absurd (omega arith)
+followed_deep {m} {s} {w} (followed.Target x) (q, tag, h) e =
     is_deep refl (x.pads, x.segment, x.start, q, tag, h.finds, tagged_of m s w q tag x h, omega (arith, e, levels_shape q tag x.shape h.object.shape))
 
 -- what costs more than the words that are left is past the word limit
-pub followed_past : (m : List (List ℕ)) (words depth spent s w level : ℕ) (f : Followed) → IsFollowed m s w f → deepest_of level f ≤ depth
+pub followed_past : {m : List (List ℕ)} {words depth spent s w level : ℕ} (f : Followed) → IsFollowed m s w f → deepest_of level f ≤ depth
     → words - spent < charge_of f → spent ≤ words → IsFirstReason m words depth spent s w level WordLimit
-followed_past m words depth spent s w level f h shallow past room =
-    is_past (charge_of f) refl (followed_shallow m depth s w level f h shallow) (followed_costs m s w f h) (omega arith)
+followed_past {m} {s} {w} {level} f h shallow past room =
+    is_past (charge_of f) refl (followed_shallow m level f h shallow) (followed_costs m s w f h) (omega arith)
 
 -- an object within the limits
-pub looks_object : (m : List (List ℕ)) (words depth spent s w level q tag below : ℕ) (x : Target) (run : Option PointerRun) → FindsTargetBy m s w q tag x
+pub looks_object : {m : List (List ℕ)} {words depth spent s w level : ℕ} (q tag : ℕ) {below : ℕ} (x : Target) (run : Option PointerRun) → FindsTargetBy m s w q tag x
     → below ≡ levels_of x.shape → level + levels_of x.shape ≤ depth → x.charge ≤ words - spent → spent ≤ words
     → option_spots run ≡ object_places q tag x.segment x.start level → OptionIn m run → RunRises level depth run
     → LooksObject m words depth spent s w level x.charge (level + below) run x.pads x.segment x.start q tag
-looks_object m words depth spent s w level q tag below x run f e shallow within room places inside rises = record {
+looks_object {m} {s} {w} q tag x run f e shallow within room places inside rises = record {
   finds = f.finds;
   tagged = tagged_of m s w q tag x f;
   charge = f.object.charge;

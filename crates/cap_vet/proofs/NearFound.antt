@@ -41,7 +41,7 @@ finds_null m left depth s w level p message has e =
       found = null_found m s w 0 message leads;
       costs = followed_costs m s w (followed.Null 0) leads;
       within = omega arith;
-      shallow = followed_shallow m depth s w level (followed.Null 0) leads (omega arith);
+      shallow = followed_shallow m level (followed.Null 0) leads (omega arith);
       strict = not_lax m s w 0 to_null refl leads;
     }
 
@@ -52,7 +52,7 @@ finds_object m left depth s w level x f finds here found within shallow = record
   found = found;
   costs = followed_costs m s w (followed.Target x) finds;
   within = within;
-  shallow = followed_shallow m depth s w level (followed.Target x) finds shallow;
+  shallow = followed_shallow m level (followed.Target x) finds shallow;
   strict = not_lax m s w x.pads _ here finds.2.finds.leads;
 }
 

@@ -12,8 +12,8 @@ use Rattle.cap_vet.specs.PointerRuns.{RunIn, PointerWord, element_places, row_pl
 use Rattle.cap_vet.specs.Looking.{object_places}
 
 -- a struct's words lie inside its segment
-pub struct_room : (m : List (List ℕ)) (s w k t b q tag n c d p : ℕ) → FindsObject m s w k t b q tag n c (Struct d p) → b + d + p ≤ length (segment_of m t)
-struct_room m s w k t b q tag n c d p f =
+pub struct_room : (m : List (List ℕ)) (s w : ℕ) {k t b : ℕ} (q tag : ℕ) {n c : ℕ} (d p : ℕ) → FindsObject m s w k t b q tag n c (Struct d p) → b + d + p ≤ length (segment_of m t)
+struct_room m s w q tag d p f =
     omega (
       arith,
       f.finds.sits.inside,
@@ -23,10 +23,10 @@ struct_room m s w k t b q tag n c d p f =
     )
 
 -- its pointer words are those behind its data
-pub struct_places : (m : List (List ℕ)) (s w k t b q tag n c d p at left level : ℕ)
+pub struct_places : (m : List (List ℕ)) (s w : ℕ) {k t b : ℕ} (q tag : ℕ) {n c : ℕ} (d : ℕ) {p at left : ℕ} (level : ℕ)
     → FindsObject m s w k t b q tag n c (Struct d p) → at ≡ b + d → left ≡ p
     → row_places (level + 1) t at left ≡ object_places q tag t b level
-struct_places m s w k t b q tag n c d p at left level f e g =
+struct_places m s w {b} q tag d {at} {left} level f e g =
     let start : at ≡ b + data_size q = omega (arith, e, f.object.shape.data_words) in
     let many : left ≡ pointer_size q = g ∙ f.object.shape.pointers in
     rw (f.object.shape.kind, start, many) refl
@@ -36,13 +36,13 @@ no_pointers : (level t b ds n : ℕ) → element_places level t b ds 0 n ≡ []
 no_pointers level t b ds zero = refl
 no_pointers level t b ds (suc n) = no_pointers level t (b + ds + 0) ds n
 
-pub structs_empty : (m : List (List ℕ)) (s w k t b q tag n c size count d p level : ℕ)
+pub structs_empty : (m : List (List ℕ)) (s w : ℕ) {k t b : ℕ} (q tag : ℕ) {n c : ℕ} (size : ℕ) {count : ℕ} (d : ℕ) {p : ℕ} (level : ℕ)
     → FindsObject m s w k t b q tag n c (Structs size count d p) → (count ≡ 0) ⊎ (p ≡ 0)
     → ◌≡◌ {A = List PointerWord} [] (object_places q tag t b level)
-structs_empty m s w k t b q tag n c size count d p level f (inl e) =
+structs_empty m s w q tag size {count} d level f (inl e) =
     let x : middle tag ≡ 0 = sym f.object.shape.count ∙ e in
     rw (f.object.shape.kind, f.object.shape.code, x) refl
-structs_empty m s w k t b q tag n c size count d p level f (inr e) =
+structs_empty m s w {t} {b} q tag size d level f (inr e) =
     let x : pointer_size tag ≡ 0 = sym f.object.shape.pointers ∙ e in
     rw (f.object.shape.kind, f.object.shape.code, x) (sym (no_pointers (level + (element_levels 1 + 1)) t (b + 1) (data_size tag) (middle tag)))
 
@@ -55,12 +55,12 @@ structs_fit m s w k t b q tag n c size count d p f =
     omega (arith, room, f.finds.sits.inside, extent_structs q f.object.shape.kind f.object.shape.code)
 
 -- the run of a list of structs
-pub structs_inside : (m : List (List ℕ)) (s w k t b q tag n c size count d p at left more ds ps level : ℕ)
+pub structs_inside : (m : List (List ℕ)) (s w : ℕ) {k t b : ℕ} (q tag : ℕ) {n c : ℕ} (size : ℕ) {count d p at left more ds ps : ℕ} (level : ℕ)
     → FindsObject m s w k t b q tag n c (Structs size count d p)
     → at ≡ b + 1 + d → left ≡ p → more ≡ count - 1 → ds ≡ d → ps ≡ p → 0 < count → 0 < p
     → RunIn m record { segment = t; at = at; left = left; more = more; data_words = ds; pointers = ps; level = level }
-structs_inside m s w k t b q tag n c size zero d p at left more ds ps level f e1 e2 e3 e4 e5 some each = absurd (omega arith)
-structs_inside m s w k t b q tag n c size (suc count) d p at left more ds ps level f e1 e2 e3 e4 e5 some each =
+structs_inside m s w q tag size {count = zero} level f e1 e2 e3 e4 e5 some each = absurd (omega arith)
+structs_inside m s w {k} {t} {b} q tag {n} {c} size {count = suc count} {d} {p} {more} level f e1 e2 e3 e4 e5 some each =
     let e : more ≡ count = omega (arith, e3) in record {
       exists = f.finds.sits.exists;
       some = omega arith;
@@ -68,12 +68,12 @@ structs_inside m s w k t b q tag n c size (suc count) d p at left more ds ps lev
       inside = rw (e, e4, e5) (omega (arith, e1, e2, structs_fit m s w k t b q tag n c size (suc count) d p f));
     }
 
-pub structs_places : (m : List (List ℕ)) (s w k t b q tag n c size count d p at left more ds ps level here : ℕ)
+pub structs_places : (m : List (List ℕ)) (s w : ℕ) {k t b : ℕ} (q tag : ℕ) {n c : ℕ} (size : ℕ) {count d p at left more ds ps : ℕ} (level : ℕ) {here : ℕ}
     → FindsObject m s w k t b q tag n c (Structs size count d p)
     → at ≡ b + 1 + d → left ≡ p → more ≡ count - 1 → ds ≡ d → ps ≡ p → 0 < count → here ≡ level + (element_levels 1 + 1)
     → spots record { segment = t; at = at; left = left; more = more; data_words = ds; pointers = ps; level = here } ≡ object_places q tag t b level
-structs_places m s w k t b q tag n c size zero d p at left more ds ps level here f e1 e2 e3 e4 e5 some e6 = absurd (omega arith)
-structs_places m s w k t b q tag n c size (suc count) d p at left more ds ps level here f e1 e2 e3 e4 e5 some e6 =
+structs_places m s w q tag size {count = zero} level f e1 e2 e3 e4 e5 some e6 = absurd (omega arith)
+structs_places m s w q tag size {count = suc count} {d} {p} {more} level f e1 e2 e3 e4 e5 some e6 =
     let e : more ≡ count = omega (arith, e3) in
     let x : middle tag ≡ suc count = sym f.object.shape.count in
     let y : data_size tag ≡ d = sym f.object.shape.data_words in
@@ -81,10 +81,10 @@ structs_places m s w k t b q tag n c size (suc count) d p at left more ds ps lev
     rw (f.object.shape.kind, f.object.shape.code, x, y, z, e, e1, e2, e4, e5, e6) refl
 
 -- an element's start is a number of 32 bits
-pub start_fits : (m : List (List ℕ)) (s w k t b q tag n c size count d p at : ℕ) → IsMessage m
+pub start_fits : (m : List (List ℕ)) (s w : ℕ) {k t b : ℕ} (q tag : ℕ) {n c : ℕ} (size : ℕ) {count d : ℕ} (p at : ℕ) → IsMessage m
     → FindsObject m s w k t b q tag n c (Structs size count d p) → at ≡ d → (count ≡ 0 → ⊥)
     → Fits w32 (b + 1 + at)
-start_fits m s w k t b q tag n c size zero d p at h f e some = absurd (some refl)
-start_fits m s w k t b q tag n c size (suc count) d p at h f e some =
+start_fits m s w q tag size {count = zero} p at h f e some = absurd (some refl)
+start_fits m s w {k} {t} {b} q tag {n} {c} size {count = suc count} {d} p at h f e some =
     let short = short_segment m t h f.finds.sits.exists in
     omega (arith, e, short, structs_fit m s w k t b q tag n c size (suc count) d p f)

@@ -37,16 +37,16 @@ unpadded m s w p r (one_pad p' q has far hasq n says e) h = absurd (omega (arith
 unpadded m s w p r (two_pads p' f q has far hasf hasq one tag e e') h = absurd (omega (arith, e'))
 
 -- What a pointer word that isn't wrong uses: of null and of a capability its pads,
-pub null_used : (m : List (List ℕ)) (s w k : ℕ) → Leads m s w k to_null → (p : ℕ) × HasWord m s w p × Occupies m s w (pads_of p)
-null_used m s w k h = let p = lead_word m s w k to_null h in (p.0, p.1, (p.0, p.1, inl (k, h, refl)))
+pub null_used : {m : List (List ℕ)} {s w k : ℕ} → Leads m s w k to_null → (p : ℕ) × HasWord m s w p × Occupies m s w (pads_of p)
+null_used {m} {s} {w} {k} h = let p = lead_word m s w k to_null h in (p.0, p.1, (p.0, p.1, inl (k, h, refl)))
 
-pub cap_used : (m : List (List ℕ)) (s w k i : ℕ) → Leads m s w k (to_cap i) → (p : ℕ) × HasWord m s w p × Occupies m s w (pads_of p)
-cap_used m s w k i h = let p = lead_word m s w k (to_cap i) h in (p.0, p.1, (p.0, p.1, inr (inl (k, i, h, refl))))
+pub cap_used : {m : List (List ℕ)} {s w k : ℕ} (i : ℕ) → Leads m s w k (to_cap i) → (p : ℕ) × HasWord m s w p × Occupies m s w (pads_of p)
+cap_used {m} {s} {w} {k} i h = let p = lead_word m s w k (to_cap i) h in (p.0, p.1, (p.0, p.1, inr (inl (k, i, h, refl))))
 
 -- and of an object also its words.
-pub object_used : (m : List (List ℕ)) (s w k t b q n : ℕ) → Finds m s w k t b q → n ≡ extent q → (p : ℕ)
+pub object_used : {m : List (List ℕ)} {s w k t b q n : ℕ} → Finds m s w k t b q → n ≡ extent q → (p : ℕ)
     × HasWord m s w p × Occupies m s w (pads_of p ++ places t b n)
-object_used m s w k t b q n f e =
+object_used {m} {s} {w} {k} {t} {b} {q} f e =
     let p = lead_word m s w k (to_object t (pos b) q) f.leads in
     (p.0, p.1, (p.0, p.1, inr (inr (k, t, b, q, f, ap (λ (u : ℕ). pads_of p.0 ++ places t b u) e))))
 
@@ -54,13 +54,13 @@ object_used m s w k t b q n f e =
 pub zero_used : (m : List (List ℕ)) (s w q : ℕ) → HasWord m s w q → q ≡ 0 → Occupies m s w []
 zero_used m s w q has e =
     let l : Leads m s w 0 to_null = near q has (omega (arith, e)) e refl in
-    let r = null_used m s w 0 l in
+    let r = null_used l in
     subst (λ (u : List (ℕ × ℕ)). Occupies m s w u) (unpadded m s w r.0 to_null l r.1) r.2
 
 -- and one that leads to an object over no pad its words alone.
 pub found_used : (m : List (List ℕ)) (s w t b q n : ℕ) → Finds m s w 0 t b q → n ≡ extent q → Occupies m s w (places t b n)
 found_used m s w t b q n f e =
-    let r = object_used m s w 0 t b q n f e in
+    let r = object_used f e in
     subst (λ (u : List (ℕ × ℕ)). Occupies m s w (u ++ places t b n)) (unpadded m s w r.0 (to_object t (pos b) q) f.leads r.1) r.2
 
 -- a pointer word that is wrong uses nothing

@@ -30,7 +30,7 @@ pub passes_on : (m : List (List ℕ)) (words depth : ℕ) (runs : List PointerRu
     → HasWord m f.segment f.at 0
     → Passes m words depth runs seen old before f r → Passes m words depth runs seen old before (behind f) (counted r)
 passes_on m words depth runs seen old f before r left null passed =
-    let rest : IsRest f (Some (behind f)) = rest_of_row f.segment f.at f.left f.more f.data_words f.pointers f.level left in
+    let rest : IsRest f (Some (behind f)) = rest_of_row f.segment f.at f.more f.data_words f.pointers f.level left in
     let (next, same_seen) = next_seen m words depth runs f (Some (behind f)) r (passed.nulls ++ seen) passed.later passed.walks rest in
     let looked : IsLooked m words depth r.charge f.segment f.at f.level (Null 0) = (near 0 null (omega arith) refl refl, omega (arith, next.progress.within)) in
     let (later, turned) = walks_on m words depth f.segment f.at f.level (runs ++ behind f ∷ []) r (Null 0) next looked in

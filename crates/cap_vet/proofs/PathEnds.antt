@@ -105,11 +105,11 @@ fault_by : (demands : Demands) (m : List (List ℕ)) (words depth : ℕ) (path :
 fault_by demands m words depth path at o few e h (Refused r) f = absurd f
 fault_by demands m words depth path at o few e h ManySegments f = (f.0, (h.left, h.charges), omega (arith, f.1, few))
 fault_by demands m words depth path at None few e h (Pointer what s w n) f = absurd f
-fault_by demands m words depth path at (Some x) few e h (Pointer what s w n) f = (
-  f.0,
+fault_by demands m words depth path at (Some x) few e h (Pointer what s w n) (strict, count, form, segment, word, pointers) = (
+  strict,
   (h.left, h.charges),
-  f.1,
-  first_fields m path h.ways x what s w n (subst (λ o. KnowsLaxOnPath m path h.ways o) e h.lax) f.2 f.3 f.4 f.5,
+  count,
+  first_fields m path h.ways x what s w n (subst (λ o. KnowsLaxOnPath m path h.ways o) e h.lax) form segment word pointers,
 )
 
 pub fault_at : (demands : Demands) (m : List (List ℕ)) (words depth : ℕ) (path : List Step) (at : Arrival) (found : Bool)

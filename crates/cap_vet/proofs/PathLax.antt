@@ -43,11 +43,11 @@ pub lax_added : (m : List (List ℕ)) (prev more : List Step) (ways : List (List
 lax_added m prev more ways level s w n (Some x) after on r e k a =
     subst (λ (o : Option LaxPointer). KnowsLaxOnPath m (prev ++ more) (ways ++ (prev ++ more) ∷ []) o) (sym a)
     (lax_longer m prev more x.segment x.word x.what x.pointers k)
-lax_added m prev more ways level s w n None None on r e k a = λ q i l. elim (one_of_last q (prev ++ more) ways i) [
+lax_added m prev more ways level s w n None None on r e k a = λ q i (level', s', w', what, reached, lax). elim (one_of_last q (prev ++ more) ways i) [
   | inl same ↦
-      let z = one_reached m (prev ++ more) l.0 level l.1 l.2 s w (subst (λ y. Reaches m y l.0 l.1 l.2) same l.4) r in
-      a l.3 (subst (λ y. IsLaxAt m s y l.3) z.2 (subst (λ y. IsLaxAt m y l.2 l.3) z.1 l.5))
-  | inr j ↦ k q j l
+      let z = one_reached m (prev ++ more) level' level s' w' s w (subst (λ y. Reaches m y level' s' w') same reached) r in
+      a what (subst (λ y. IsLaxAt m s y what) z.2 (subst (λ y. IsLaxAt m y w' what) z.1 lax))
+  | inr j ↦ k q j (level', s', w', what, reached, lax)
 ]
 lax_added m prev more ways level s w n None (Some x) on r e k a = record {
   way = prev ++ more;

@@ -63,9 +63,9 @@ step_on m words depth path rest step way h =
     subst (λ (ss : List Step). IsWay m words depth ss way) (append_assoc path (step ∷ []) rest) h
 
 -- The limits by other names.
-pub way_as : (m : List (List ℕ)) (w x d y : ℕ) (path : List Step) (way : Way) → w ≡ x → d ≡ y → IsWay m w d path way
+pub way_as : (m : List (List ℕ)) {w x d y : ℕ} (path : List Step) (way : Way) → w ≡ x → d ≡ y → IsWay m w d path way
     → IsWay m x y path way
-way_as m w x d y path way e f h =
+way_as m {x} {d} path way e f h =
     subst (λ z. IsWay m x z path way) f (subst (λ z. IsWay m z d path way) e h)
 
 module _ {M : Type 0} {g : segments.Ghosts M} (demands : Demands) (m : List (List ℕ)) (words depth : ℕ) (path : List Step) where
@@ -143,5 +143,5 @@ pub given_after : {M : Type 0} {g : segments.Ghosts M} (m : List (List ℕ)) (st
 given_after m start step rest way result given on = λ demands words depth first is.
     let path = first ++ step ∷ rest in
     let limit : start.words ≡ words_under start.demands m words = is.limit ∙ ap (λ (d : Demands). words_under d m words) (sym is.under) in
-    let leads : IsWay m (words_under start.demands m words) depth path way = way_as m _ _ _ _ path way limit is.deepest (on first is.way) in
+    let leads : IsWay m (words_under start.demands m words) depth path way = way_as m path way limit is.deepest (on first is.way) in
     subst (λ (d : Demands). IsGiven d m words depth path result) is.under (given words depth path leads)

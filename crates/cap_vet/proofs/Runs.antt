@@ -9,11 +9,11 @@ use Rattle.cap_vet.specs.PointerRuns.{pointer_word_of, row_places, element_place
 use Rattle.cap_vet.specs.declared.walk.pointer_run.PointerRun.{PointerRun}
 
 -- behind the first of several words in a row
-pub rest_of_row : (s b n more ds ps level : ℕ) → 1 < n → IsRest
+pub rest_of_row : (s b : ℕ) {n : ℕ} (more ds ps level : ℕ) → 1 < n → IsRest
     record { segment = s; at = b; left = n; more = more; data_words = ds; pointers = ps; level = level }
     (Some record { segment = s; at = b + 1; left = n - 1; more = more; data_words = ds; pointers = ps; level = level })
-rest_of_row s b zero more ds ps level h = absurd (omega arith)
-rest_of_row s b (suc n) more ds ps level h =
+rest_of_row s b {n = zero} more ds ps level h = absurd (omega arith)
+rest_of_row s b {n = suc n} more ds ps level h =
     let e : suc n - 1 ≡ n = omega arith in
     let f : b + 1 + n ≡ b + suc n = omega arith in record {
       words = rw (e, f) refl;
@@ -27,7 +27,7 @@ rest_of_row s b (suc n) more ds ps level h =
     }
 
 -- behind the last of them, the next element's
-pub rest_of_elements : (s b n more ds ps level : ℕ) → n ≡ 1 → 0 < more
+pub rest_of_elements : (s b : ℕ) {n more : ℕ} (ds ps level : ℕ) → n ≡ 1 → 0 < more
     → IsRest record { segment = s; at = b; left = n; more = more; data_words = ds; pointers = ps; level = level }
     (Some record {
       segment = s;
@@ -39,8 +39,8 @@ pub rest_of_elements : (s b n more ds ps level : ℕ) → n ≡ 1 → 0 < more
       level =
           level;
     })
-rest_of_elements s b n zero ds ps level e h = absurd (omega arith)
-rest_of_elements s b n (suc more) ds ps level e h =
+rest_of_elements s b {more = zero} ds ps level e h = absurd (omega arith)
+rest_of_elements s b {n} {more = suc more} ds ps level e h =
     let f : suc more - 1 ≡ more = omega arith in record {
       words = rw (e, f) refl;
       inside = λ m i. record {
@@ -53,17 +53,17 @@ rest_of_elements s b n (suc more) ds ps level e h =
     }
 
 -- behind the last of them all, nothing
-pub rest_of_last : (s b n more ds ps level : ℕ) → n ≡ 1 → more ≡ 0
+pub rest_of_last : (s b : ℕ) {n more : ℕ} (ds ps level : ℕ) → n ≡ 1 → more ≡ 0
     → IsRest record { segment = s; at = b; left = n; more = more; data_words = ds; pointers = ps; level = level } None
-rest_of_last s b n more ds ps level e h = record { words = rw (e, h) refl; inside = λ m i. tt; level = tt }
+rest_of_last s b ds ps level e h = record { words = rw (e, h) refl; inside = λ m i. tt; level = tt }
 
 -- There is always such a rest.
 has_rest_of : (s b n more ds ps level : ℕ) → 0 < n → (rest : Option PointerRun) × IsRest
     record { segment = s; at = b; left = n; more = more; data_words = ds; pointers = ps; level = level } rest
 has_rest_of s b zero more ds ps level h = absurd (omega arith)
-has_rest_of s b (suc zero) zero ds ps level h = (None, rest_of_last s b 1 0 ds ps level refl refl)
-has_rest_of s b (suc zero) (suc more) ds ps level h = (_, rest_of_elements s b 1 (suc more) ds ps level refl (omega arith))
-has_rest_of s b (suc (suc n)) more ds ps level h = (_, rest_of_row s b (suc (suc n)) more ds ps level (omega arith))
+has_rest_of s b (suc zero) zero ds ps level h = (None, rest_of_last s b ds ps level refl refl)
+has_rest_of s b (suc zero) (suc more) ds ps level h = (_, rest_of_elements s b ds ps level refl (omega arith))
+has_rest_of s b (suc (suc n)) more ds ps level h = (_, rest_of_row s b more ds ps level (omega arith))
 
 pub has_rest : (f : PointerRun) → 0 < f.left → (rest : Option PointerRun) × IsRest f rest
 has_rest f some = has_rest_of f.segment f.at f.left f.more f.data_words f.pointers f.level some

@@ -29,26 +29,26 @@ used_at m s w cost (inr (inr (k, t, b, q, tag, f, has, e))) = let p =
     lead_word m s w k _ f.leads in (pads_of p.0 ++ places t b (extent q), (p.0, p.1, inr (inr (k, t, b, q, f, refl))))
 
 -- a turn at a word whose places were free
-pub turn_on : (m : List (List ℕ)) (seen : List (List Step)) (a : Ahead) (s w n cost : ℕ) (T T' : ℕ → ℕ → Type 0) → IsLookedAt m seen a s w n cost
+pub turn_on : {m : List (List ℕ)} (seen : List (List Step)) (a : Ahead) {s w n cost : ℕ} {T T' : ℕ → ℕ → Type 0} → IsLookedAt m seen a s w n cost
     → IsMarked m seen T
     → ((used : List (ℕ × ℕ)) → Occupies m s w used → MarksAll T T' used) → IsMarked m (a.path ∷ seen) T'
-turn_on m seen a s w n cost T T' l k marks =
+turn_on {m} seen a {s} {w} {cost} {T} {T'} l k marks =
     let u = used_at m s w cost l.costs in
     let o : Occupies m a.segment a.word u.0 = rw (l.segment, l.word) u.1 in
     marks_on m seen a l.later T T' u.0 l.trail k o (marks u.0 u.1)
 
 -- a word whose places weren't all free
-pub turn_overlap : (m : List (List ℕ)) (seen : List (List Step)) (a : Ahead) (s w n cost : ℕ) (T : ℕ → ℕ → Type 0) → IsLookedAt m seen a s w n cost
+pub turn_overlap : {m : List (List ℕ)} (seen : List (List Step)) (a : Ahead) {s w n cost : ℕ} {T : ℕ → ℕ → Type 0} → IsLookedAt m seen a s w n cost
     → IsMarked m seen T
     → ((used : List (ℕ × ℕ)) × Occupies m s w used × Conflicts T used) → IsFirstOverlap m s w n
-turn_overlap m seen a s w n cost T l k (used, o, c) =
+turn_overlap {m} seen a {n} {T} l k (used, o, c) =
     let o2 : Occupies m a.segment a.word used = rw (l.segment, l.word) o in
     rw (← l.segment, ← l.word) (first_overlap m seen a l.later T used n l.trail k o2 c l.number)
 
 -- the end
-pub ends_disjoint : (m : List (List ℕ)) (words depth : ℕ) (report : Report) (seen : List (List Step)) (ahead : List Ahead) (T : ℕ → ℕ → Type 0)
+pub ends_disjoint : {m : List (List ℕ)} {words depth : ℕ} {report : Report} (seen : List (List Step)) (ahead : List Ahead) {T : ℕ → ℕ → Type 0}
     → HasWalked m words depth [] report seen ahead → IsMarked m seen T → IsDisjoint m
-ends_disjoint m words depth report seen ahead T w k =
+ends_disjoint {m} seen ahead {T} w k =
     all_disjoint m seen T (subst (λ (u : List Ahead). IsTrail m seen u) (none_ahead ahead w.places) w.progress.trail) k
 
 -- there is room whatever is marked

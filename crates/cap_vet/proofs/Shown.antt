@@ -46,12 +46,12 @@ cap_own m s w x c d k i h l = absurd (omega (arith, lead_form m s w x c d k (to_
 
 struct_own : (m : List (List ℕ)) (s w : ℕ) (x : Tree) (c d k t b q : ℕ) → Denotes m s w x c d → Finds m s w k t b q
     → kind q ≡ 0 → own_of x ≡ own_struct (words_from m t b (data_size q)) (pointer_size q)
-struct_own m s w (struct ws ts) c d k t b q h f e =
-    let o : SameObject k t b q h.0 h.1 h.2 h.3 = one_object m s w k t b q h.0 h.1 h.2 h.3 f h.6.finds in
-    let n = (each_charged m (places h.1 (h.2 + data_size h.3) (pointer_size h.3)) ts h.4 h.5 h.7).0
-    ∙ length-places h.1 (h.2 + data_size h.3) (pointer_size h.3) in
+struct_own m s w (struct ws ts) c d k t b q (k', t', b', q', inner, deep, found, each) f e =
+    let o : SameObject k t b q k' t' b' q' = one_object m s w k t b q k' t' b' q' f found.finds in
+    let n = (each_charged m (places t' (b' + data_size q') (pointer_size q')) ts inner deep each).0
+    ∙ length-places t' (b' + data_size q') (pointer_size q') in
     same_struct ws (words_from m t b (data_size q)) (tree_count ts) (pointer_size q)
-    (rw (o.segment, o.start, o.shape) h.6.data_words) (n ∙ ap pointer_size (sym o.shape))
+    (rw (o.segment, o.start, o.shape) found.data_words) (n ∙ ap pointer_size (sym o.shape))
 struct_own m s w (scalars g vs) c d k t b q h f e =
     let y = found_form m s w (scalars g vs) c d k t b q h f in absurd (omega (arith, number_struct (kind q) (code q) e, y.0))
 struct_own m s w x c d k t b q h f e = absurd (omega (arith, number_struct (kind q) (code q) e, found_form m s w x c d k t b q h f))
@@ -66,9 +66,9 @@ scalars_own m s w x c d k t b q h f e lt = absurd (omega (arith, number_list (ki
 
 pointers_own : (m : List (List ℕ)) (s w : ℕ) (x : Tree) (c d k t b q : ℕ) → Denotes m s w x c d → Finds m s w k t b q
     → kind q ≡ 1 → code q ≡ 6 → own_of x ≡ own_pointers (list_size q)
-pointers_own m s w (pointers ts) c d k t b q h f e g =
-    let o : SameObject k t b q h.0 h.1 h.2 h.3 = one_object m s w k t b q h.0 h.1 h.2 h.3 f h.6.finds in
-    let n = (each_charged m (places h.1 h.2 (list_size h.3)) ts h.4 h.5 h.7).0 ∙ length-places h.1 h.2 (list_size h.3) in
+pointers_own m s w (pointers ts) c d k t b q (k', t', b', q', inner, deep, found, each) f e g =
+    let o : SameObject k t b q k' t' b' q' = one_object m s w k t b q k' t' b' q' f found.finds in
+    let n = (each_charged m (places t' b' (list_size q')) ts inner deep each).0 ∙ length-places t' b' (list_size q') in
     ap own_pointers (n ∙ ap list_size (sym o.shape))
 pointers_own m s w (scalars z vs) c d k t b q h f e g =
     let y = found_form m s w (scalars z vs) c d k t b q h f in absurd (omega (arith, number_list (kind q) (code q) e, g, y.1))
@@ -78,11 +78,12 @@ structs_own : (m : List (List ℕ)) (s w : ℕ) (x : Tree) (c d k t b q tag : �
     → kind q ≡ 1 → code q ≡ 7 → HasWord m t b tag
     → own_of x ≡ own_structs (middle tag) (data_size tag) (pointer_size tag)
 structs_own m s w (structs ds ps es) c d k t b q tag h f e g y =
-    let o : SameObject k t b q h.0 h.1 h.2 h.3 = one_object m s w k t b q h.0 h.1 h.2 h.3 f h.7.finds in
-    let z : tag ≡ h.4 = one_word m t b tag h.4 y (rw (o.segment, o.start) h.7.has_tag) in
-    let n = (elements_depth m h.1 (h.2 + 1) ds ps (middle h.4) es h.5 h.6 h.8).0 in
+    let (k', t', b', q', tag', inner, deep, found, each) = h in
+    let o : SameObject k t b q k' t' b' q' = one_object m s w k t b q k' t' b' q' f found.finds in
+    let z : tag ≡ tag' = one_word m t b tag tag' y (rw (o.segment, o.start) found.has_tag) in
+    let n = (elements_depth m t' (b' + 1) ds ps (middle tag') es inner deep each).0 in
     same_structs (tree_count es) (middle tag) ds (data_size tag) ps (pointer_size tag) (sym n ∙ ap middle (sym z))
-    (h.7.data_sizes ∙ ap data_size (sym z)) (h.7.pointer_sizes ∙ ap pointer_size (sym z))
+    (found.data_sizes ∙ ap data_size (sym z)) (found.pointer_sizes ∙ ap pointer_size (sym z))
 structs_own m s w (scalars z vs) c d k t b q tag h f e g y =
     let v = found_form m s w (scalars z vs) c d k t b q h f in absurd (omega (arith, number_list (kind q) (code q) e, g, v.1))
 structs_own m s w x c d k t b q tag h f e g y = absurd (omega (arith, number_list (kind q) (code q) e, g, found_form m s w x c d k t b q h f))

@@ -52,7 +52,7 @@ somewhere_element f n d p i h e lt =
     let one : IsProp (f.place.start + 1 + i * (d + p) + d + p < 2 ^ 32) = hlevel props in
     ∥∥₁_elim h one (λ x.
     let few = short_segment x.0 f.place.segment x.2 x.3.exists in
-    let inside = element_inside x.0 x.1 f n d p i x.3 e lt in
+    let inside = element_inside x.0 x.1 d p x.3 e lt in
     omega (arith, few, inside))
 
 -- Where some path arrives.
@@ -95,9 +95,9 @@ module _ (m : List (List ℕ)) (words depth : ℕ) (at : Arrival) (h : SomeArriv
       ∥∥₁_elim h one (λ x. elements_inside m x.1 at.found n d p x.2.found e)
 
 -- A way to something is one that some path arrives by.
-pub way_arrives : (m : List (List ℕ)) (words depth : ℕ) (way : Way) (at : Arrival) → IsSomeWay m words depth way → way ≡ To at
+pub way_arrives : (m : List (List ℕ)) (words depth : ℕ) {way : Way} (at : Arrival) → IsSomeWay m words depth way → way ≡ To at
     → SomeArrives m words depth at
-way_arrives m words depth way at h e =
+way_arrives m words depth at h e =
     let there : IsSomeWay m words depth (To at) = subst (λ (x : Way). IsSomeWay m words depth x) e h in
     ∥∥₁_map there (λ x. (x.0, x.1.0, x.1.1))
 

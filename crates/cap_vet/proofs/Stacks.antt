@@ -212,11 +212,11 @@ charge_added report s w (looked.Cap cost) = refl
 charge_added report s w (looked.Object cost deep below) = refl
 
 -- So where the next word was looked at, the walk goes on.
-pub visited : (m : List (List ℕ)) (limits : Limits) (s w level : ℕ) (runs : List PointerRun) (report : Report) (l : Looked)
+pub visited : {m : List (List ℕ)} {limits : Limits} {s w level : ℕ} (runs : List PointerRun) {report : Report} (l : Looked)
     (n : IsNext m (words_of limits) (depth_of limits) s w level runs report)
     → IsLooked m (words_of limits) (depth_of limits) report.charge s w level l
     → HasVisited m limits s w level runs report n (run_below l) (added report s w l)
-visited m limits s w level runs report l n h =
+visited {m} {limits} {s} {w} {level} runs {report} l n h =
     let on = walks_on m (words_of limits) (depth_of limits) s w level runs report l n h in
     record {
       later = on.0;
@@ -228,14 +228,16 @@ visited m limits s w level runs report l n h =
     }
 
 -- what was charged at a word is its cost
-pub cost_charged : (m : List (List ℕ)) (s w before after cost : ℕ) → Costs m s w cost → after ≡ before + cost → Costs m s w (after - before)
-cost_charged m s w before after cost costs e = let same : cost ≡ after - before = omega (arith, e) in subst (Costs m s w) same costs
+pub cost_charged : {m : List (List ℕ)} {s w : ℕ} (before : ℕ) {after cost : ℕ} → Costs m s w cost → after ≡ before + cost
+    → Costs m s w (after - before)
+cost_charged {m} {s} {w} before {after} {cost} costs e =
+    let same : cost ≡ after - before = omega (arith, e) in subst (Costs m s w) same costs
 
 -- What a turn gets of a word that was looked at.
-pub looked_at : (m : List (List ℕ)) (words depth s w level : ℕ) (runs below : List PointerRun) (report after : Report) (later : List Ahead)
+pub looked_at : {m : List (List ℕ)} {words depth s w level : ℕ} {runs below : List PointerRun} {report after : Report} {later : List Ahead}
     (n : IsNext m words depth s w level runs report) → HasWalked m words depth below after (n.a.path ∷ n.seen) later
-    → (cost : ℕ) → Costs m s w cost → IsLookedAt m n.seen n.a s w after.pointers cost
-looked_at m words depth s w level runs below report after later n r cost costs = record {
+    → {cost : ℕ} → Costs m s w cost → IsLookedAt m n.seen n.a s w after.pointers cost
+looked_at {later} n r costs = record {
   later = n.ahead;
   trail = n.progress.trail;
   segment = n.segment;
@@ -269,4 +271,4 @@ pub null_visited : (m : List (List ℕ)) (limits : Limits) (s w level : ℕ) (ru
     (n : IsNext m (words_of limits) (depth_of limits) s w level runs report) → HasWord m s w 0
     → HasVisited m limits s w level runs report n None (added report s w (looked.Null 0))
 null_visited m limits s w level runs report n null =
-    visited m limits s w level runs report (looked.Null 0) n (near 0 null (omega arith) refl refl, omega (arith, n.progress.within))
+    visited runs (looked.Null 0) n (near 0 null (omega arith) refl refl, omega (arith, n.progress.within))

@@ -129,7 +129,7 @@ turn_null m words depth charge deepest pointers caps cost first seen a ahead t h
       shallow = t.shallow;
       costs = costs_on m a.path seen a.level a.segment a.word cost charge r (inl h) t.costs;
       levels = shallow_on m depth a.level a.segment a.word a.path seen r
-          (λ deep. null_no_object m a.segment a.word cost deep.0 deep.1 deep.2 deep.3 h deep.5) t.levels;
+          (λ (k, t, b, q, tag, finds, has_tag, deep). null_no_object m a.segment a.word cost k t b q h finds) t.levels;
       number = omega (arith, t.number);
       bound = omega (arith, t.bound);
       few = omega (arith, t.few);
@@ -155,7 +155,7 @@ turn_cap m words depth charge deepest pointers caps cost i first seen a ahead t 
       shallow = t.shallow;
       costs = costs_on m a.path seen a.level a.segment a.word cost charge r (inr (inl (i, h))) t.costs;
       levels = shallow_on m depth a.level a.segment a.word a.path seen r
-          (λ deep. cap_no_object m a.segment a.word cost i deep.0 deep.1 deep.2 deep.3 h deep.5) t.levels;
+          (λ (k, t, b, q, tag, finds, has_tag, deep). cap_no_object m a.segment a.word cost i k t b q h finds) t.levels;
       number = omega (arith, t.number);
       bound = omega (arith, t.bound);
       few = omega (arith, t.few);

@@ -77,12 +77,12 @@ first_fault m words depth s w level runs report v t h =
     }
 
 -- It comes after the paths that were looked at.
-pub fault_next : (m : List (List ℕ)) (words depth s w level : ℕ) (runs : List PointerRun) (report : Report) (v : Reason)
+pub fault_next : {m : List (List ℕ)} {words depth s w level : ℕ} (runs : List PointerRun) {report : Report} {v : Reason}
     → (n : IsNext m words depth s w level runs report) → IsFirstReason m words depth report.charge s w level v
     → (f : IsFirstFault m words depth record { segment = s; word = w; reason = v; pointers = report.pointers + 1 })
     × (f.before ≡ reverse n.seen)
 unfolding first_fault
-fault_next m words depth s w level runs report v n h =
+fault_next {m} {words} {depth} {s} {w} {level} runs {report} {v} n h =
     (first_fault m words depth s w level runs report v n h, in_order-reverse n.seen)
 
 -- What follows from what holds of all paths before a fault holds of them too.
@@ -115,10 +115,10 @@ whole_first_cap m seen (Some place) t (p, one, (level, k, i, r, lead), first) = 
 }
 
 -- A walk with nothing ahead has the whole tree.
-pub accepted_at_end : (m : List (List ℕ)) (words depth : ℕ) (report : Report) (seen : List (List Step)) (ahead : List Ahead)
+pub accepted_at_end : {m : List (List ℕ)} {words depth : ℕ} {report : Report} (seen : List (List Step)) (ahead : List Ahead)
     → HasWalked m words depth [] report seen ahead
     → IsAccepted m words depth report
-accepted_at_end m words depth report seen ahead w =
+accepted_at_end {m} {words} {depth} {report} seen ahead w =
     let none : ahead ≡ [] = none_ahead ahead w.places in
     let p : Progress m words depth report.charge report.depth report.pointers report.caps report.first_cap seen [] =
     subst (Progress m words depth report.charge report.depth report.pointers report.caps report.first_cap seen) none w.progress in

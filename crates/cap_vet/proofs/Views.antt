@@ -21,74 +21,74 @@ use Rattle.cap_vet.specs.Finding.{own_words}
 use Rattle.cap_spec.proofs.Frames.Messages.{short_segment}
 
 -- the kind of what is shown
-pub kind_shown : (m : List (List ℕ)) (k : Kind) (t b n : ℕ) → own_words k ≤ n → b + n ≤ length (segment_of m t) → k ≡ kind_of (own_at m k t b)
-kind_shown m Null t b n own inside = refl
-kind_shown m (Cap i) t b n own inside = refl
-kind_shown m (Struct d p) t b n own inside = ap (λ x. Struct x p) (sym (range_length m t b d (omega (arith, own, inside))))
-kind_shown m (Scalars c x) t b n own inside = ap (Scalars c) (sym (length-values m t b c x))
-kind_shown m (Pointers x) t b n own inside = refl
-kind_shown m (Structs x d p) t b n own inside = refl
+pub kind_shown : (m : List (List ℕ)) {k : Kind} (t b : ℕ) {n : ℕ} → own_words k ≤ n → b + n ≤ length (segment_of m t) → k ≡ kind_of (own_at m k t b)
+kind_shown m {k = Null} t b own inside = refl
+kind_shown m {k = Cap i} t b own inside = refl
+kind_shown m {k = Struct d p} t b own inside = ap (λ x. Struct x p) (sym (range_length m t b d (omega (arith, own, inside))))
+kind_shown m {k = Scalars c x} t b own inside = ap (Scalars c) (sym (length-values m t b c x))
+kind_shown m {k = Pointers x} t b own inside = refl
+kind_shown m {k = Structs x d p} t b own inside = refl
 
 -- how many elements a list shows
-pub count_shown : (m : List (List ℕ)) (k : Kind) (t b n : ℕ) → ((c : ℕ) × (k ≡ Scalars c n))
+pub count_shown : (m : List (List ℕ)) {k : Kind} (t b : ℕ) {n : ℕ} → ((c : ℕ) × (k ≡ Scalars c n))
     ⊎ ((k ≡ Pointers n) ⊎ ((d p : ℕ) × (k ≡ Structs n d p))) → Some n ≡ count_of (own_at m k t b)
-count_shown m k t b n (inl (c, e)) = rw e (ap Some (sym (length-values m t b c n)))
-count_shown m k t b n (inr (inl e)) = rw e refl
-count_shown m k t b n (inr (inr (d, p, e))) = rw e refl
+count_shown m t b {n} (inl (c, e)) = rw e (ap Some (sym (length-values m t b c n)))
+count_shown m t b (inr (inl e)) = rw e refl
+count_shown m t b (inr (inr (d, p, e))) = rw e refl
 
 -- the words that a list of values shows lie inside its segment
-pub few_shown : (m : List (List ℕ)) (k : Kind) (t b c x n : ℕ) → IsMessage m → t < length m → k ≡ Scalars c x
+pub few_shown : (m : List (List ℕ)) {k : Kind} {t : ℕ} (b c x : ℕ) {n : ℕ} → IsMessage m → t < length m → k ≡ Scalars c x
     → own_words k ≤ n → b + n ≤ length (segment_of m t)
     → length (words_of_own (own_at m k t b)) < 2 ^ 32
-few_shown m k t b c x n message exists e own inside =
+few_shown m {t} b c x {n} message exists e own inside =
     let h : list_words c x ≤ n = subst (λ (y : Kind). own_words y ≤ n) e own in
     rw e (omega (arith, h, inside, short_segment m t message exists, length-values_words m t b c x))
 
 -- element i of a list of values
-pub scalar_past : (m : List (List ℕ)) (k : Kind) (t b c n i : ℕ) → k ≡ Scalars c n → n ≤ i → None ≡ scalar_of (own_at m k t b) i
-scalar_past m k t b c n i e past = rw e (sym (value_past m t b c n i past))
+pub scalar_past : (m : List (List ℕ)) {k : Kind} (t b c : ℕ) {n i : ℕ} → k ≡ Scalars c n → n ≤ i → None ≡ scalar_of (own_at m k t b) i
+scalar_past m t b c {n} {i} e past = rw e (sym (value_past m t b c n i past))
 
-pub scalar_there : (m : List (List ℕ)) (k : Kind) (t b c n i x : ℕ) → k ≡ Scalars c n → i < n
+pub scalar_there : (m : List (List ℕ)) {k : Kind} (t b c : ℕ) {n i x : ℕ} → k ≡ Scalars c n → i < n
     → x ≡ value_at (segment_of m t) b (element_bits c) i → Some x ≡ scalar_of (own_at m k t b) i
-scalar_there m k t b c n i x e lt f = rw e (ap Some f ∙ sym (value_there m t b c n i lt))
+scalar_there m t b c {n} {i} e lt f = rw e (ap Some f ∙ sym (value_there m t b c n i lt))
 
 -- byte i of a struct
-pub shown_byte : (m : List (List ℕ)) (k : Kind) (t b d p i w : ℕ) (r : Option ℕ) → k ≡ Struct d p → r ≡ slice_get (words_from m t b d) (i / 8) → r ≡ Some w
+pub shown_byte : (m : List (List ℕ)) {k : Kind} (t b d p i : ℕ) {w : ℕ} (r : Option ℕ) → k ≡ Struct d p → r ≡ slice_get (words_from m t b d) (i / 8) → r ≡ Some w
     → Some (get_or (word_bytes w) (i % 8) 0) ≡ byte_of (own_at m k t b) i
-shown_byte m k t b d p i w r e f g =
+shown_byte m t b d p i {w} r e f g =
     let l : i % 8 < length (word_bytes w) = omega arith in
     let h : i / 8 * 8 + i % 8 ≡ i = omega arith in
     rw e (sym (slice_get-get_or (word_bytes w) (i % 8) 0 l)
     ∙ (sym (byte_there (words_from m t b d) (i / 8) (i % 8) w (omega arith) (sym f ∙ g))
     ∙ ap (λ (y : ℕ). byte_of (own_at m (Struct d p) t b) y) h))
 
-pub shown_no_byte : (m : List (List ℕ)) (k : Kind) (t b d p i : ℕ) (r : Option ℕ) → k ≡ Struct d p
+pub shown_no_byte : (m : List (List ℕ)) {k : Kind} (t b d p i : ℕ) (r : Option ℕ) → k ≡ Struct d p
     → r ≡ slice_get (words_from m t b d) (i / 8) → r ≡ None → None ≡ byte_of (own_at m k t b) i
-shown_no_byte m k t b d p i r e f g =
+shown_no_byte m t b d p i r e f g =
     let h : i / 8 * 8 + i % 8 ≡ i = omega arith in
     rw e (sym (byte_past (words_from m t b d) (i / 8) (i % 8) (sym f ∙ g)) ∙ ap (λ (y : ℕ). byte_of (own_at m (Struct d p) t b) y) h)
 
 -- bit i of a struct
-pub shown_bit : (m : List (List ℕ)) (k : Kind) (t b d p i w : ℕ) (r : Option ℕ) → k ≡ Struct d p
+pub shown_bit : (m : List (List ℕ)) {k : Kind} (t b d p i : ℕ) {w : ℕ} (r : Option ℕ) → k ≡ Struct d p
     → r ≡ slice_get (words_from m t b d) (i / 64) → r ≡ Some w → Some (field w (i % 64) 1 == 1) ≡ bit_of
     (own_at m k t b) i
-shown_bit m k t b d p i w r e f g = rw e (ap (option_map (λ (x : ℕ). field x (i % 64) 1 == 1)) (sym g ∙ f))
+shown_bit m t b d p i r e f g = rw e (ap (option_map (λ (x : ℕ). field x (i % 64) 1 == 1)) (sym g ∙ f))
 
-pub shown_no_bit : (m : List (List ℕ)) (k : Kind) (t b d p i : ℕ) (r : Option ℕ) → k ≡ Struct d p
+pub shown_no_bit : (m : List (List ℕ)) {k : Kind} (t b d p i : ℕ) (r : Option ℕ) → k ≡ Struct d p
     → r ≡ slice_get (words_from m t b d) (i / 64) → r ≡ None → None ≡ bit_of (own_at m k t b) i
-shown_no_bit m k t b d p i r e f g = rw e (ap (option_map (λ (x : ℕ). field x (i % 64) 1 == 1)) (sym g ∙ f))
+shown_no_bit m t b d p i r e f g = rw e (ap (option_map (λ (x : ℕ). field x (i % 64) 1 == 1)) (sym g ∙ f))
 
 -- a word of a list of values, where `size` is the bits of a value, of which there are `count`
-pub shown_no_word : (m : List (List ℕ)) (t b c n i size count at : ℕ) → size ≡ element_bits c → count ≡ n → at ≡ i
+pub shown_no_word : (m : List (List ℕ)) (t b c : ℕ) {n i size count at : ℕ} → size ≡ element_bits c → count ≡ n → at ≡ i
     → size * count ≤ at * 64 → None ≡ slice_get (scalar_words c (values_of m t b c n)) i
-shown_no_word m t b c n i size count at e f g past =
+shown_no_word m t b c {n} {i} e f g past =
     let p : element_bits c * n ≤ i * 64 = rw (← e, ← f, ← g) past in
     sym (values_word_past m t b c n i (word_past c n i p))
 
-pub shown_word : (m : List (List ℕ)) (t b c n i size count at x used y : ℕ) → size ≡ element_bits c → count ≡ n → at ≡ i
+pub shown_word : (m : List (List ℕ)) (t b c : ℕ) {n i size count at : ℕ} (x : ℕ) {used y : ℕ} → size ≡ element_bits c → count ≡ n → at ≡ i
     → at * 64 < size * count → used ≡ min (size * count - at * 64) 64
     → HasWord m t (b + i) x → y ≡ field x 0 used → Some y ≡ slice_get (scalar_words c (values_of m t b c n)) i
-shown_word m t b c n i size count at x used y e f g lt u has h =
+shown_word m t b c {n} {i} x {used} e f g lt u has h =
     let p : i * 64 < element_bits c * n = rw (← e, ← f, ← g) lt in
     let v : used ≡ min 64 (element_bits c * n - i * 64) = rw (← e, ← f, ← g) (omega (arith, u)) in
     ap Some (h ∙ ap (field x 0) v) ∙ sym (values_word_there m t b c n i x (word_within c n i p) has)

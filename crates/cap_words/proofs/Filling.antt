@@ -29,9 +29,9 @@ plain_join (a ∷ b ∷ c ∷ d ∷ x ∷ f ∷ g ∷ []) ys e = absurd (omega a
 plain_join (a ∷ b ∷ c ∷ d ∷ x ∷ f ∷ g ∷ h ∷ xs) ys e = let t = plain_join xs ys (omega arith) in cc
 
 -- some words were taken, and then others
-pub takes_both : (a b c : Option (List ℕ)) (own more : List ℕ) (d e f : Bool) (p q r : ℕ) (ps qs rs : List ℕ)
+pub takes_both : {a b c : Option (List ℕ)} {own more : List ℕ} {d e f : Bool} {p q r : ℕ} {ps qs rs : List ℕ}
     → TakesAll a b d e p q ps qs own → TakesAll b c e f q r qs rs more → TakesAll a c d f p r ps rs (own ++ more)
-takes_both a b c own more d e f p q r ps qs rs t u = record {
+takes_both {a} {b} {c} {own} {more} {d} {e} {f} {p} {q} {r} {ps} {qs} {rs} t u = record {
   consumed = Consumes-trans a b c own more t.consumed u.consumed;
   goes_on = go a b t.consumed t.goes_on u.goes_on;
 }
@@ -48,19 +48,19 @@ takes_both a b c own more d e f p q r ps qs rs t u = record {
     )
 
 -- the next word, as a call gives it
-pub takes_one : (a b : Option (List ℕ)) (word : ℕ) (c d : Bool) (p q : ℕ) (ps qs : List ℕ) → Consumes a b (word ∷ []) →
+pub takes_one : {a b : Option (List ℕ)} (word : ℕ) {c d : Bool} {p q : ℕ} {ps qs : List ℕ} → Consumes a b (word ∷ []) →
     OnSome a ((d ≡ c) × (ps ≡ q ∷ qs)) → TakesAll a b c d p q ps qs (word ∷ [])
-takes_one a b word c d p q ps qs t g = record { consumed = t; goes_on = go a g }
+takes_one {a} word {c} {d} {p} {q} {ps} {qs} t g = record { consumed = t; goes_on = go a g }
   where
     go : (a : Option (List ℕ)) → OnSome a ((d ≡ c) × (ps ≡ q ∷ qs)) → OnSome a ((d ≡ c) × (q ∷ qs ≡ drop 1 (p ∷ ps)))
     go None g = tt
     go (Some x) g = (g.0, sym g.1)
 
 -- the input ended behind words that were taken, fewer than were wanted
-pub ends_both : (a b : Option (List ℕ)) (own : List ℕ) (count at p q : ℕ) (ps qs : List ℕ) (c d inside : Bool) → length own < count →
+pub ends_both : {a b : Option (List ℕ)} {own : List ℕ} {count : ℕ} (at : ℕ) {p q : ℕ} {ps qs : List ℕ} {c d : Bool} (inside : Bool) → length own < count →
     TakesAll a b c d p q ps qs own
     → OnSome b ((b ≡ Some []) × (d ≡ inside) × (qs ≡ at ∷ [])) → EndsWithin count a c inside ps at
-ends_both a b own count at p q ps qs c d inside few t s = go a b t.consumed t.goes_on s
+ends_both {a} {b} {own} {count} at {p} {q} {ps} {qs} {c} {d} inside few t s = go a b t.consumed t.goes_on s
   where
     go : (a b : Option (List ℕ)) → Consumes a b own → OnSome a ((d ≡ c) × (q ∷ qs ≡ drop (length own) (p ∷ ps))) →
         OnSome b ((b ≡ Some []) × (d ≡ inside) × (qs ≡ at ∷ [])) → EndsWithin count a c inside ps at
@@ -74,46 +74,46 @@ ends_both a b own count at p q ps qs c d inside few t s = go a b t.consumed t.go
         rw all (few, sym g.0 ∙ s.1, places ∙ s.2)
 
 -- bytes that a call read
-pub reads_one : (a b : Option (List ℕ)) (p q : ℕ) → (bs : List ℕ) × Consumes a b bs × (q ≡ min (p + length bs) (2 ^ 64 - 1)) → ReadsBytes a b p q
-reads_one a b p q r = record { bytes = r.0; lost = r.1; counted = let e = r.2 in omega (arith, e) }
+pub reads_one : {a b : Option (List ℕ)} {p q : ℕ} → (bs : List ℕ) × Consumes a b bs × (q ≡ min (p + length bs) (2 ^ 64 - 1)) → ReadsBytes a b p q
+reads_one r = record { bytes = r.0; lost = r.1; counted = let e = r.2 in omega (arith, e) }
 
 -- and then others
-pub reads_both : (a b c : Option (List ℕ)) (p q r : ℕ) → ReadsBytes a b p q → ReadsBytes b c q r → ReadsBytes a c p r
-reads_both a b c p q r s t = record {
+pub reads_both : {a b c : Option (List ℕ)} {p q r : ℕ} → ReadsBytes a b p q → ReadsBytes b c q r → ReadsBytes a c p r
+reads_both {a} {b} {c} s t = record {
   bytes = s.bytes ++ t.bytes;
   lost = Consumes-trans a b c s.bytes t.bytes s.lost t.lost;
   counted = rw (length-append s.bytes t.bytes) (omega (arith, s.counted, t.counted));
 }
 
 -- a call that gave bytes at hand worked
-pub ready_works : {A : Type 0} (n : ℕ) (was is : Bool) (before after : A) → 0 < n → (n ≡ 0) ⊎ (was ≡ false) → is ≡ was → after ≡ before →
+pub ready_works : {A : Type 0} (n : ℕ) {was is : Bool} {before after : A} → 0 < n → (n ≡ 0) ⊎ (was ≡ false) → is ≡ was → after ≡ before →
     Works was is before after
-ready_works n was is before after some (inl none) still same = absurd (omega arith)
-ready_works n was is before after some (inr usable) still same = record { usable = usable; still = still ∙ usable; none_failed = same }
+ready_works n some (inl none) still same = absurd (omega arith)
+ready_works n some (inr usable) still same = record { usable = usable; still = still ∙ usable; none_failed = same }
 
 -- what stands before a piece of a room stays
 pub front_kept : (at k : ℕ) (room given : List ℕ) → at ≤ length room → take at (put_mid at k room given) ≡ take at room
 front_kept at k room given h =
-    ap (λ n. take n (put_mid at k room given)) {y = at + 0} (omega arith) ∙ (filled at k 0 room given h (omega arith) ∙ append-nil (take at room))
+    ap (λ n. take n (put_mid at k room given)) {y = at + 0} (omega arith) ∙ (filled k room given h (omega arith) ∙ append-nil (take at room))
 
 -- the bytes of a word, in a room that was written to before
-pub word_filled : (at k l : ℕ) (room before given : List ℕ) → at ≤ length room → 8 ≤ length given
+pub word_filled : {at : ℕ} (k l : ℕ) (room before given : List ℕ) → at ≤ length room → 8 ≤ length given
     → take (at + 8) (put_mid at l (put_mid at k room before) given) ≡ take at room ++ take 8 given
-word_filled at k l room before given h long =
-    let within : at + 0 ≤ length (put_mid at k room before) = filled_within at k 0 room before h (omega arith) in
-    filled at l 8 (put_mid at k room before) given (omega arith) long ∙ ap (λ xs. xs ++ take 8 given) (front_kept at k room before h)
+word_filled {at} k l room before given h long =
+    let within : at + 0 ≤ length (put_mid at k room before) = filled_within k room before h (omega arith) in
+    filled l (put_mid at k room before) given (omega arith) long ∙ ap (λ xs. xs ++ take 8 given) (front_kept at k room before h)
 
-pub word_within : (at k l : ℕ) (room before given : List ℕ) → at ≤ length room → 8 ≤ length given →
+pub word_within : {at : ℕ} (k l : ℕ) (room before given : List ℕ) → at ≤ length room → 8 ≤ length given →
     at + 8 ≤ length (put_mid at l (put_mid at k room before) given)
-word_within at k l room before given h long =
-    let within : at + 0 ≤ length (put_mid at k room before) = filled_within at k 0 room before h (omega arith) in
-    filled_within at l 8 (put_mid at k room before) given (omega arith) long
+word_within {at} k l room before given h long =
+    let within : at + 0 ≤ length (put_mid at k room before) = filled_within k room before h (omega arith) in
+    filled_within l (put_mid at k room before) given (omega arith) long
 
 -- no bytes were appended
-pub none_appended : (items : List ℕ) (words : Option (List ℕ)) (cut : Bool) (place : ℕ) (places : List ℕ)
+pub none_appended : {items : List ℕ} {words : Option (List ℕ)} {cut : Bool} {place : ℕ} {places : List ℕ}
     → (given : List ℕ) × (items ≡ items ++ given) × (length given ≡ 0) × (given ≡ plain_text (plain_words given))
     × TakesAll words words cut cut place place places places (plain_words given)
-none_appended items words cut place places =
+none_appended {items} {words} {place} {places} =
     ([], sym (append-nil items), refl, refl, record { consumed = Consumes-nil words; goes_on = on_some words _ (refl, refl) })
 
 module _ {X : Type 0} (g : source.Ghosts X) where
@@ -156,7 +156,7 @@ module _ {X : Type 0} (g : source.Ghosts X) where
         some = omega arith;
         within = let long : length given ≡ 8 = ap length e in omega arith;
         text = bytes ∙ sym (ap plain_text one);
-        takes = subst P (sym one) (takes_one _ _ word _ _ _ _ _ _ t p);
+        takes = subst P (sym one) (takes_one word t p);
         reads = r;
         works = w;
         not_ended = λ x. absurd (not_ended x);
@@ -175,14 +175,14 @@ module _ {X : Type 0} (g : source.Ghosts X) where
   }
 
   -- so many words are that
-  pub filled_words : (old now : X) (done : ℕ) (out : List ℕ) → FilledSoFar old now done out → 8 * length (plain_words (take done out)) ≡ done
-  filled_words old now done out f = sym (length_plain (plain_words (take done out))) ∙ (sym (ap length f.text) ∙ length-take-le done out f.within)
+  pub filled_words : (old : X) {now : X} {done : ℕ} {out : List ℕ} → FilledSoFar old now done out → 8 * length (plain_words (take done out)) ≡ done
+  filled_words old {done} {out} f = sym (length_plain (plain_words (take done out))) ∙ (sym (ap length f.text) ∙ length-take-le done out f.within)
 
   -- one more piece
   pub filled_more : (old now new : X) (done n : ℕ) (out longer given : List ℕ) → FilledSoFar old now done out → GivesSome now new n given
       → take (done + n) longer ≡ take done out ++ take n given → done + n ≤ length longer → FilledSoFar old new (done + n) longer
   filled_more old now new done n out longer given f p e room =
-      let many = filled_words old now done out f in
+      let many = filled_words old f in
       let more : 8 * length (plain_words (take n given)) ≡ n = sym (length_plain (plain_words (take n given)))
       ∙ (sym (ap length p.text) ∙ length-take-le n given p.within) in
       let front : length (take done out) % 8 ≡ 0 = ap (λ k. k % 8) (length-take-le done out f.within) ∙ f.whole in
@@ -196,8 +196,8 @@ module _ {X : Type 0} (g : source.Ghosts X) where
         text =
             e ∙ (ap (λ l. l ++ take n given) f.text ∙ (ap (λ l. plain_text (plain_words (take done out)) ++ l) p.text
             ∙ (sym (flat_map-append word_bytes (plain_words (take done out)) (plain_words (take n given))) ∙ ap plain_text (sym words))));
-        takes = subst P (sym words) (takes_both _ _ _ _ _ _ _ _ _ _ _ _ _ _ f.takes p.takes);
-        reads = reads_both _ _ _ _ _ _ f.reads p.reads;
+        takes = subst P (sym words) (takes_both f.takes p.takes);
+        reads = reads_both f.reads p.reads;
         none = λ none. absurd (let s = p.some in omega arith);
         some = λ some. works_both old now new done out f p.works;
         ended = λ is. let z = f.ended is in let y = p.not_ended (ap g.ended (f.none z) ∙ is) in omega arith;
@@ -205,8 +205,8 @@ module _ {X : Type 0} (g : source.Ghosts X) where
       }
 
   -- a source that nothing was taken from is where it was
-  pub filled_still : (old now same : X) (done : ℕ) (out : List ℕ) → same ≡ now → FilledSoFar old now done out → FilledSoFar old same done out
-  filled_still old now same done out e f = subst (λ (s : X). FilledSoFar old s done out) (sym e) f
+  pub filled_still : (old : X) {now same : X} {done : ℕ} {out : List ℕ} → same ≡ now → FilledSoFar old now done out → FilledSoFar old same done out
+  filled_still old {done} {out} e f = subst (λ (s : X). FilledSoFar old s done out) (sym e) f
 
   -- the words that are filled in at last
   pub filled_all : (old now : X) (done : ℕ) (out : List ℕ) (count : ℕ) → FilledSoFar old now done out → count ≡ length out / 8 → done ≡ count * 8
@@ -214,7 +214,7 @@ module _ {X : Type 0} (g : source.Ghosts X) where
       × TakesAll (g.words old) (g.words now) (g.is_cut old) (g.is_cut now) (g.place old) (g.place now) (g.places old) (g.places now) (plain_words out)
   filled_all old now done out count f c d =
       let ws = plain_words (take done out) in
-      let many : 8 * length ws ≡ done = filled_words old now done out f in
+      let many : 8 * length ws ≡ done = filled_words old f in
       let front : length (take done out) % 8 ≡ 0 = ap (λ k. k % 8) (length-take-le done out f.within) ∙ f.whole in
       let few : length (drop done out) < 8 = omega (arith, length-drop done out) in
       let same : plain_words out ≡ ws =

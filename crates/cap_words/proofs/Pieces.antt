@@ -41,12 +41,12 @@ plain_end at (a ∷ b ∷ c ∷ d ∷ e ∷ f ∷ g ∷ h ∷ rest) low =
     }
 
 -- the input ended behind these bytes, by a source that is open
-pub ends_within : (phase : Phase) (a b : Option (List ℕ)) (bytes : List ℕ) (count at next : ℕ) (inside : Bool) → phase ≡ Open → at < 2 ^ 64 →
+pub ends_within : {phase : Phase} (a b : Option (List ℕ)) (bytes : List ℕ) (count : ℕ) {at next : ℕ} {inside : Bool} → phase ≡ Open → at < 2 ^ 64 →
     length bytes < 8 * count → next ≡ capped (at + length bytes)
     → plain_is_cut bytes ≡ inside → Consumes a b bytes → IsAtEnd b
     → EndsWithin count (option_map plain_words (bytes_left phase a)) (plain_is_cut (unwrap_or (bytes_left phase a) [])) inside
     (plain_ends at (unwrap_or (bytes_left phase a) [])) next
-ends_within phase a b bytes count at next inside is_open low few value cut p end = rw is_open (go a b p end)
+ends_within a b bytes count {at} {next} {inside} is_open low few value cut p end = rw is_open (go a b p end)
   where
     go : (a b : Option (List ℕ)) → Consumes a b bytes → IsAtEnd b →
         EndsWithin count (option_map plain_words a) (plain_is_cut (unwrap_or a [])) inside (plain_ends at (unwrap_or a [])) next
@@ -63,10 +63,10 @@ on_some None P h = tt
 on_some (Some x) P h = h
 
 -- nothing was asked for
-pub none_filled : (words : Option (List ℕ)) (cut : Bool) (at : ℕ) (places out : List ℕ) (count : ℕ) → length out < 8 → count ≡ 0
+pub none_filled : {words : Option (List ℕ)} {cut : Bool} {at : ℕ} {places : List ℕ} (out : List ℕ) {count : ℕ} → length out < 8 → count ≡ 0
     → (length (plain_words out) ≡ count) × (take (8 * length (plain_words out)) out ≡ plain_text (plain_words out))
     × TakesAll words words cut cut at at places places (plain_words out)
-none_filled words cut at places out count few none =
+none_filled {words} out few none =
     rw (plain_short out few) (sym none, refl, record { consumed = Consumes-nil words; goes_on = on_some words _ (refl, refl) })
 
 -- the front of bytes are bytes

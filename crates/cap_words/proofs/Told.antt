@@ -50,10 +50,10 @@ told_read a b (Ok n) buf p = (told_consumes a b _ p.0, λ none some. told_end b 
 told_read a b (Err e) buf p = told_keeps a b p
 
 -- a read past a buffer that holds nothing
-pub told_past : {E : Type 0} (a b : Option (List ℕ)) (held left : List ℕ) (answer : Result ℕ E) (buf : List ℕ) → held ≡ [] → left ≡ [] →
+pub told_past : {E : Type 0} (a b : Option (List ℕ)) {held left : List ℕ} (answer : Result ℕ E) (buf : List ℕ) → held ≡ [] → left ≡ [] →
     ReadConsumes a b answer buf
     → ReadConsumes (told_bytes (prepend_known held a)) (told_bytes (prepend_known left b)) answer buf
-told_past a b held left answer buf none nothing p =
+told_past a b {held} {left} answer buf none nothing p =
     let before : prepend_known held a ≡ a = ap (λ l. prepend_known l a) none ∙ prepend_known-nil a in
     let after : prepend_known left b ≡ b = ap (λ l. prepend_known l b) nothing ∙ prepend_known-nil b in
     subst (λ k. ReadConsumes (told_bytes k) (told_bytes (prepend_known left b)) answer buf) (sym before)

@@ -27,22 +27,22 @@ moved_more spent failures (suc m) n old mid new before some works =
     }
 
 -- a buffer that was filled up to a place, and then by a read into the rest of it
-pub filled : (at k n : ℕ) (buf given : List ℕ) → at ≤ length buf → n ≤ length given → take (at + n) (put_mid at k buf given) ≡ take at buf ++ take n given
-filled at k n buf given h within =
+pub filled : {at : ℕ} (k : ℕ) {n : ℕ} (buf given : List ℕ) → at ≤ length buf → n ≤ length given → take (at + n) (put_mid at k buf given) ≡ take at buf ++ take n given
+filled {at} k {n} buf given h within =
     ap (λ m. take (m + n) (put_mid at k buf given)) (sym (length-take-le at buf h))
     ∙ take-append-add (take at buf) (given ++ post_of at k buf) n
     ∙ ap (λ l. take at buf ++ l) (take-append-le n given (post_of at k buf) within)
 
 -- such a buffer is as long as what was filled
-pub filled_within : (at k n : ℕ) (buf given : List ℕ) → at ≤ length buf → n ≤ length given → at + n ≤ length (put_mid at k buf given)
-filled_within at k n buf given h within =
+pub filled_within : {at : ℕ} (k : ℕ) {n : ℕ} (buf given : List ℕ) → at ≤ length buf → n ≤ length given → at + n ≤ length (put_mid at k buf given)
+filled_within {at} k buf given h within =
     omega (arith, length-append (take at buf) (given ++ post_of at k buf), length-append given (post_of at k buf), length-take-le at buf h)
 
 -- what came before and what one more read gave
 pub read_more : (a b c : Option (List ℕ)) (at k n : ℕ) (buf given : List ℕ) → at ≤ length buf → n ≤ length given
     → Consumes a b (take at buf) → Consumes b c (take n given) → Consumes a c (take (at + n) (put_mid at k buf given))
 read_more a b c at k n buf given h within before now =
-    subst (Consumes a c) (sym (filled at k n buf given h within)) (Consumes-trans a b c _ _ before now)
+    subst (Consumes a c) (sym (filled k buf given h within)) (Consumes-trans a b c _ _ before now)
 
 -- what went out before and what one more write took of the rest
 pub write_more : (a b c : Option (List ℕ)) (done n : ℕ) (bytes : List ℕ)

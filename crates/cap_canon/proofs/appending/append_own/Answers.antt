@@ -9,8 +9,7 @@ append_values-requires-clause-capacity g c =
     omega (
       arith,
       c.requires.5,
-      scalars_size m c.requires.1 c.requires.2 c.requires.3 c.in-Scalars.segment c.in-Scalars.start c.in-Scalars.code
-          c.in-Scalars.count c.in-Scalars.words k.1,
+      scalars_size m c.requires.1 c.requires.2 c.requires.3 k.1,
     )
 
 pub returns-in-Struct-clause-own : goal.returns-in-Struct-clause-own

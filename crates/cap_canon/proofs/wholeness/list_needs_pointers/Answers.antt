@@ -5,7 +5,7 @@ use Rattle.cap_canon.proofs.WholeObjects.{element_inside, elements_empty, elemen
 use Rattle.cap_canon.proofs.wholeness.list_needs_pointers.Goals as goal
 
 pub returns-then-pointers-eq0-clause-yes : goal.returns-then-pointers-eq0-clause-yes
-returns-then-pointers-eq0-clause-yes g c = λ _ es c' d h. elements_empty _ _ _ _ _ _ es c' d c.if-pointers-eq0.true h
+returns-then-pointers-eq0-clause-yes g c = λ _ es c' d h. elements_empty (g.M.Segments.segments c.args.message.now) c.args.s c.args.start _ _ es c' d c.if-pointers-eq0.true h
 
 pub first_set-requires-clause-inside : goal.first_set-requires-clause-inside
 first_set-requires-clause-inside g c = λ k lt.

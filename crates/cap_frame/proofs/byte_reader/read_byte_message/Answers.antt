@@ -6,7 +6,7 @@ pub returns-in-Ok-true : goal.returns-in-Ok-true
 returns-in-Ok-true g c = rw c.in-Ok-true.field-0-test at c.in-Ok-true.ensures.read
 
 pub returns-in-Ok-false : goal.returns-in-Ok-false
-returns-in-Ok-false g c = no_frame g.S.WordSource _ _ _ _ (Ok false) (λ h. absurd (cc)) (rw c.in-Ok-false.field-0-test at c.in-Ok-false.ensures.read.next)
+returns-in-Ok-false g c = no_frame g.S.WordSource (Ok false) (λ h. absurd (cc)) (rw c.in-Ok-false.field-0-test at c.in-Ok-false.ensures.read.next)
 
 pub returns-in-Err : goal.returns-in-Err
-returns-in-Err g c = no_frame g.S.WordSource _ _ _ _ (Err c.in-Err.fault) (λ h. absurd (cc)) c.in-Err.ensures.read.next
+returns-in-Err g c = no_frame g.S.WordSource (Err c.in-Err.fault) (λ h. absurd (cc)) c.in-Err.ensures.read.next

@@ -6,21 +6,21 @@ use Rattle.cap_frame.proofs.Reading.{frame_stopped, frame_taken, no_frame, no_me
 use Rattle.cap_frame.proofs.reader.read_message.Goals as goal
 
 pub returns-in-Ok-false : goal.returns-in-Ok-false
-returns-in-Ok-false g c = no_frame g.S.WordSource _ _ _ _ (Ok false) (λ h. absurd (cc)) (rw c.in-Ok-false.field-0-test at c.in-Ok-false.ensures.next)
+returns-in-Ok-false g c = no_frame g.S.WordSource (Ok false) (λ h. absurd (cc)) (rw c.in-Ok-false.field-0-test at c.in-Ok-false.ensures.next)
 
 pub returns-in-Err : goal.returns-in-Err
-returns-in-Err g c = no_frame g.S.WordSource _ _ _ _ (Err c.in-Err.fault) (λ h. absurd (cc)) c.in-Err.ensures.next
+returns-in-Err g c = no_frame g.S.WordSource (Err c.in-Err.fault) (λ h. absurd (cc)) c.in-Err.ensures.next
 
 pub returns-in_default : goal.returns-in_default
 returns-in_default g c =
     let e = c.in-Ok-true.ensures in
-    no_memory g.S.WordSource _ _ _ _ c.next_table.new.sizes.items (rw c.in-Ok-true.field-0-test at e.next) (e.table (cc)) (e.within (cc))
+    no_memory g.S.WordSource c.next_table.new.sizes.items (rw c.in-Ok-true.field-0-test at e.next) (e.table (cc)) (e.within (cc))
 
 pub returns-in-Err-read_contents : goal.returns-in-Err-read_contents
 returns-in-Err-read_contents g c =
     let e = c.in-Ok-true.ensures in
     let stops = rw c.deref-2.ensures.0 at c.in-Err-read_contents.ensures.err in
-    frame_stopped g.S.WordSource _ _ _ _ _ c.next_table.new.sizes.items _ _ c.frame_fault.ensures (rw c.in-Ok-true.field-0-test at e.next) (e.table (cc))
+    frame_stopped g.S.WordSource c.next_table.new.sizes.items _ _ c.frame_fault.ensures (rw c.in-Ok-true.field-0-test at e.next) (e.table (cc))
     (e.within (cc)) stops
     c.read_contents.ensures.reads
 
@@ -36,6 +36,6 @@ returns g c =
     let e = c.in-Ok-true.ensures in
     let read = c.in_default-read_contents.ensures in
     let held = rw c.unwrap.ensures at c.new.ensures.segments in
-    frame_taken g.S.WordSource _ _ _ _ _ c.next_table.new.sizes.items (map (λ v. v.items) c.read_contents.new.segments.items)
+    frame_taken g.S.WordSource c.next_table.new.sizes.items (map (λ v. v.items) c.read_contents.new.segments.items)
     (rw c.in-Ok-true.field-0-test at e.next) (e.table (cc))
     (e.within (cc)) read.ok (read.sizes ∙ c.deref-2.ensures.0) read.works c.read_contents.ensures.reads held

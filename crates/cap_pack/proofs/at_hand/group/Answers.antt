@@ -10,4 +10,4 @@ returns-clause-unpacks c =
     let was = c.first-head.ensures.unpacks in
     let part = take_rest c.args.from.now head.read in
     unpacks_both 0 0 c.args.from.now c.first-head.new.out _ _ c.run-more.new.out head more was c.run-more.ensures part
-    (filled _ _ _ _ _ was.fits c.run-more.ensures.fits) (filled_within _ _ _ _ _ was.fits c.run-more.ensures.fits)
+    (filled _ _ _ was.fits c.run-more.ensures.fits) (filled_within _ _ _ was.fits c.run-more.ensures.fits)

@@ -31,14 +31,14 @@ returns c =
     let front : length (take (8 * n) out) % 8 ≡ 0 = omega (arith, length-take-le (8 * n) out c.zero_words-given.ensures.room) in
     let bytes : take (8 * (n + m)) room ≡ take (8 * n) out ++ copied =
     ap (λ (k : ℕ). take k room) eight
-    ∙ (filled (8 * n) _ (8 * m) out given c.zero_words-given.ensures.room c.plain_words-copied.ensures.room
+    ∙ (filled _ out given c.zero_words-given.ensures.room c.plain_words-copied.ensures.room
     ∙ ap (λ (l : List ℕ). take (8 * n) out ++ l) c.plain_words-copied.ensures.copied) in
     let words : plain_words (take (8 * (n + m)) room) ≡ replicate n 0 ++ plain_words copied =
     ap plain_words bytes ∙ (plain_join (take (8 * n) out) copied front ∙ ap (λ (l : List ℕ). l ++ plain_words copied) zeros) in
     let long : length copied ≡ 8 * m = length-take-le (8 * m) c.args.from.now c.plain_words-copied.ensures.held in
     record {
       within = c.plain_words-copied.ensures.held;
-      fits = omega (arith, filled_within (8 * n) (length out - 8 * n) (8 * m) out given c.zero_words-given.ensures.room c.plain_words-copied.ensures.room);
+      fits = omega (arith, filled_within (length out - 8 * n) out given c.zero_words-given.ensures.room c.plain_words-copied.ensures.room);
       whole = omega arith;
       gives = rw words (gives_both c.args.zeros c.args.plain 0 c.args.plain 0 (c.args.plain - m) [] copied (replicate n 0) (plain_words copied)
           (gives_zeros c.args.zeros n 0 c.args.plain (omega (arith, c.zero_words-given.ensures.within)))

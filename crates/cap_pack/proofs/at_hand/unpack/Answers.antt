@@ -9,4 +9,4 @@ loop-done-preserved c =
     let next = c.group-next.ensures.unpacks in
     unpacks_between c.args.zeros c.args.plain c.args.from.now c.loop-done.out _ _ c.group-next.new.out c.loop-done.done c.group-next.result far next
     c.loop-done-test.true c.if-done-eq0.true
-    (take_rest c.args.from.now c.loop-done.done.read) (filled _ _ _ _ _ far.fits next.fits) (filled_within _ _ _ _ _ far.fits next.fits)
+    (take_rest c.args.from.now c.loop-done.done.read) (filled _ _ _ far.fits next.fits) (filled_within _ _ _ far.fits next.fits)

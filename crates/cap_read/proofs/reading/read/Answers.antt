@@ -18,7 +18,7 @@ returns-in-None-clause-ok g c =
     let none = subst (λ u. (level : ℕ) (a : Spot) → Comes (g.M.Segments.segments u) path level a → ⊥) message c.in-None.ensures.none in
     let empty = subst (λ u. (t : Tree) (x d : ℕ) → Denotes (g.M.Segments.segments u) 0 0 t x d → node_at t path ≡ None) message c.in-None.ensures.node in
     let tree = c.in-Ok.ensures.ok in
-    nothing_read _ _ _ _ _ tree.0 (rw c.report-report.ensures.value tree.1) none empty
+    nothing_read tree.0 (rw c.report-report.ensures.value tree.1) none empty
 
 pub returns-in-Some-clause-ok : goal.returns-in-Some-clause-ok
 returns-in-Some-clause-ok g c =
@@ -38,7 +38,7 @@ returns-in-Some-clause-ok g c =
     let inside = subst (λ u. IfSome c.place.result (λ (p : Place). p.start + p.words ≤ length (segment_of (g.M.Segments.segments u) p.segment)))
     of_view c.place.ensures.inside in
     let tree = c.in-Ok.ensures.ok in
-    node_read _ _ _ _ _ tree.0 spot _ _ _ (rw c.report-report.ensures.value tree.1) comes node shows c.place.ensures.value stands exists inside
+    node_read tree.0 spot (rw c.report-report.ensures.value tree.1) comes node shows c.place.ensures.value stands exists inside
 
 pub returns-in-Err-clause-refuses : goal.returns-in-Err-clause-refuses
 returns-in-Err-clause-refuses g c = λ r h.

@@ -20,7 +20,7 @@ returns-then-from-levels_taken c = λ m f.
 
 pub returns : goal.returns
 returns c = λ m f. (
-  (object-not_wrong m _ _ _ _ _ f.0 f.2.finds, not_deep m c.args.depth _ _ c.args.from.now.level f.0 f.1 _ f.2 (omega (arith, c.levels_taken.ensures.value))),
+  (object-not_wrong m c.args.from.now.segment c.args.from.now.at _ _ _ f.0 f.2.finds, not_deep m c.args.depth _ _ c.args.from.now.level f.0 f.1 _ f.2 (omega (arith, c.levels_taken.ensures.value))),
   (λ n h. c.branch_of.ensures.branch m _ _ f.0 f.1 c.args.depth n f.2 h.high (omega (arith, c.levels_taken.ensures.value))),
   (λ seen path ahead t. subst (λ (u : List Ahead). IsTrail m (path ∷ seen) (u ++ ahead))
       (sym (c.branch_of.ensures.words m _ _ f.0 f.1 f.2 path))

@@ -5,27 +5,27 @@ use Rattle.cap_trace.proofs.below.branch_of.Goals as goal
 pub returns-then-count-eq0-2-clause-words : goal.returns-then-count-eq0-2-clause-words
 returns-then-count-eq0-2-clause-words c = λ m s w q tag f base.
     let g = rw c.in-Structs.is at f in
-    structs_empty m s w _ _ _ q tag _ _ _ _ _ _ c.args.level g
+    structs_empty m s w q tag _ _ c.args.level g
     (elim c.then-count-eq0-2.either [ inl h ↦ inl h | inr h ↦ inr h.1 ]) base
 
 pub overflow_add-at-in-Structs-2 : goal.overflow_add-at-in-Structs-2
 overflow_add-at-in-Structs-2 c =
-    let g = rw c.in-Structs.is at c.requires.found.6 in
-    start_fits c.requires.found.0 c.requires.found.1 c.requires.found.2 _ _ _ c.requires.found.3 c.requires.found.4 _ _
-    _ _ _ _ c.from-in-Structs.result c.requires.found.5 g c.from-in-Structs.ensures c.if-count-eq0-2.false
+    let (m, s, w, q, tag, message, found) = c.requires.found in
+    let g = rw c.in-Structs.is at found in
+    start_fits m s w q tag _ _ c.from-in-Structs.result message g c.from-in-Structs.ensures c.if-count-eq0-2.false
 
 pub returns-else-pointers-eq0-clause-words : goal.returns-else-pointers-eq0-clause-words
 returns-else-pointers-eq0-clause-words c = λ m s w q tag f base.
     let g = rw c.in-Struct.is at f in
     let some : 0 < c.in-Struct.pointers = omega (arith, c.if-pointers-eq0.false) in
     rw c.first.ensures
-    (struct_words m s w _ _ _ q tag _ _ _ _ _ _ c.args.level g (omega (arith, c.from.ensures)) some (omega arith) base)
+    (struct_words m s w q tag _ c.args.level g (omega (arith, c.from.ensures)) some (omega arith) base)
 
 pub returns-else-count-eq0-clause-words : goal.returns-else-count-eq0-clause-words
 returns-else-count-eq0-clause-words c = λ m s w q tag f base.
     let g = rw c.in-Pointers.is at f in
     let some : 0 < c.in-Pointers.count = omega (arith, c.if-count-eq0.false) in
-    rw (c.of_elements.ensures, c.first-list.ensures) (pointers_words m s w _ _ _ q tag _ _ _ _ c.args.level g some (omega arith) base)
+    rw (c.of_elements.ensures, c.first-list.ensures) (pointers_words m s w q tag c.args.level g some (omega arith) base)
 
 pub returns-else-pointers-eq0-2-clause-words : goal.returns-else-pointers-eq0-2-clause-words
 returns-else-pointers-eq0-2-clause-words c = λ m s w q tag f base.
@@ -35,7 +35,7 @@ returns-else-pointers-eq0-2-clause-words c = λ m s w q tag f base.
     let at_start : c.args.target.now.start + 1 + c.from-in-Structs.result ≡ c.args.target.now.start + 1
     + c.in-Structs.data_words = omega (arith, c.from-in-Structs.ensures) in
     rw (c.of_elements-in-Structs.ensures, c.first-structs.ensures)
-    (structs_words m s w _ _ _ q tag _ _ _ _ _ _ _ _ _ c.args.level g at_start some (omega arith) each (omega arith) base)
+    (structs_words m s w q tag _ _ c.args.level g at_start some (omega arith) each (omega arith) base)
 
 pub returns-else-pointers-eq0-2-clause-branch : goal.returns-else-pointers-eq0-2-clause-branch
 returns-else-pointers-eq0-2-clause-branch c = λ m s w q tag depth n f high low.
@@ -47,5 +47,5 @@ returns-else-pointers-eq0-2-clause-branch c = λ m s w q tag depth n f high low.
     let short : c.in-Structs.pointers < 2 ^ 16 = search rules in
     let small : c.in-Structs.count < 2 ^ 32 = search rules in
     rw (c.of_elements-in-Structs.ensures, c.first-structs.ensures)
-    (structs_branch m s w _ _ _ q tag _ _ _ _ _ _ _ _ _ c.args.level depth n g at_start some (omega arith) each (omega arith)
+    (structs_branch m s w q tag _ _ c.args.level depth n g at_start some (omega arith) each (omega arith)
     short small high (rw c.in-Structs.is at low))

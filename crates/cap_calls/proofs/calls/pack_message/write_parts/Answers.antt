@@ -84,7 +84,7 @@ segments-preserved c =
       at = omega (arith, far.at, long, ap length next, length-append done own);
       size = same_len_mid at (length text - at) text given
           (omega (arith, ap length new, length-append own (drop n part), length-drop n part, long, room, fit)) ∙ far.size;
-      written = filled at (length text - at) n text given (omega (arith, fit)) enough
+      written = filled {at = at} (length text - at) {n = n} text given (omega (arith, fit)) enough
           ∙ (ap (λ (t : List ℕ). take at text ++ take n t) new
           ∙ (ap (λ (t : List ℕ). take at text ++ t) (take_at own (drop n part) n (sym long))
           ∙ (ap (λ (t : List ℕ). t ++ own) far.written ∙ sym next)));

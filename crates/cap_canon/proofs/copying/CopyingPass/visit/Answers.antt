@@ -36,4 +36,4 @@ returns-clause-kept g c = λ whole tree due turn k.
     subst (λ n. IsObject n turn.meets.d c.args.place.segment c.args.place.word tree c.args.object.now) (sym k.0) turn.meets.is in
     let long = c.lay.ensures.ends turn.meets.d c.args.place.segment c.args.place.word tree is in
     let after = c.lay.ensures.after (length (layout whole)) (omega (arith, long, turn.inside)) in
-    kept_so _ _ _ _ c.args.self.now.output.ghost_name _ _ c.lay.ensures.capacity c.lay.ensures.borrow after)
+    kept_so c.args.self.now.output.ghost_name c.lay.ensures.capacity c.lay.ensures.borrow after)

@@ -3,13 +3,13 @@ use Rattle.cap_canon.proofs.InOrder.{compared_on, compared_one, differs_here, ha
 use Rattle.cap_canon.proofs.in_order.InOrderTurn.after.Goals as goal
 
 pub next_end-requires-clause-first : goal.next_end-requires-clause-first
-next_end-requires-clause-first g c = let k = c.requires.known in (next_inside _ k.0 k.1 _ _ _ _ _ k.2 k.3).0
+next_end-requires-clause-first g c = let k = c.requires.known in (next_inside k.0 k.1 _ k.2 k.3).0
 
 pub next_end-requires-clause-inside : goal.next_end-requires-clause-inside
-next_end-requires-clause-inside g c = let k = c.requires.known in (next_inside _ k.0 k.1 _ _ _ _ _ k.2 k.3).1
+next_end-requires-clause-inside g c = let k = c.requires.known in (next_inside k.0 k.1 _ k.2 k.3).1
 
 pub next_end-requires-clause-costs : goal.next_end-requires-clause-costs
-next_end-requires-clause-costs g c = let k = c.requires.known in (next_inside _ k.0 k.1 _ _ _ _ _ k.2 k.3).2
+next_end-requires-clause-costs g c = let k = c.requires.known in (next_inside k.0 k.1 _ k.2 k.3).2
 
 pub next_end-requires-clause-end : goal.next_end-requires-clause-end
 next_end-requires-clause-end g c = let one = compared_one _ _ _ c.requires.known.3 in (one.2, one.1)
@@ -21,12 +21,12 @@ pub goes_on-requires-clause-inside : goal.goes_on-requires-clause-inside
 goes_on-requires-clause-inside g c = c.requires.known.2.inside
 
 pub returns-in-Some-clause-ok : goal.returns-in-Some-clause-ok
-returns-in-Some-clause-ok g c = λ seen a looked known. compared_on _ seen a _ _ _ _ _ _ looked c.in-Some.ensures.some known
+returns-in-Some-clause-ok g c = λ seen a looked known. compared_on seen a _ _ looked c.in-Some.ensures.some known
 
 pub returns-else-not-goes_on-clause-ok : goal.returns-else-not-goes_on-clause-ok
 returns-else-not-goes_on-clause-ok g c = λ seen a looked known.
     let near = not_lax_word _ _ _ c.args.may_be_lax c.requires.strict (c.goes_on.ensures c.if-not-goes_on.false) in
-    inr (refl, has_differed _ seen a _ _ _ _ _ looked near (differs_here _ seen a _ _ _ _ _ looked c.in-None.ensures.none known) known)
+    inr (refl, has_differed seen a _ looked near (differs_here seen a _ looked c.in-None.ensures.none known) known)
 
 pub returns-then-not-goes_on-clause-err : goal.returns-then-not-goes_on-clause-err
-returns-then-not-goes_on-clause-err g c = let k = c.requires.known in differs_here _ k.0 k.1 _ _ _ _ _ k.2 c.in-None.ensures.none k.3
+returns-then-not-goes_on-clause-err g c = let k = c.requires.known in differs_here k.0 k.1 _ k.2 c.in-None.ensures.none k.3

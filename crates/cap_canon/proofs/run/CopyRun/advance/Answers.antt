@@ -56,14 +56,18 @@ overflow_add-self-then-self-gt0-4 c =
     omega (arith, k.1)
 
 pub returns-then-self-gt1 : goal.returns-then-self-gt1
-returns-then-self-gt1 c = rest_of_row _ _ _ _ _ _ _ _ c.if-self-gt1.true c.requires.full
+returns-then-self-gt1 c =
+    let run = c.args.self.now in
+    rest_of_row run.segment run.at run.slot run.more run.skip run.gap run.pointers c.if-self-gt1.true c.requires.full
 
 pub returns-then-self-gt0 : goal.returns-then-self-gt0
 returns-then-self-gt0 c =
-    let one : c.args.self.now.left ≡ 1 = omega (arith, c.requires.full.some, c.if-self-gt1.false) in
-    rest_of_elements _ _ _ _ _ _ _ _ one c.if-self-gt0.true c.requires.full
+    let run = c.args.self.now in
+    let one : run.left ≡ 1 = omega (arith, c.requires.full.some, c.if-self-gt1.false) in
+    rest_of_elements run.segment run.at run.slot run.skip run.gap run.pointers one c.if-self-gt0.true c.requires.full
 
 pub returns : goal.returns
 returns c =
-    let one : c.args.self.now.left ≡ 1 = omega (arith, c.requires.full.some, c.if-self-gt1.false) in
-    rest_of_last _ _ _ _ _ _ _ _ one (omega (arith, c.if-self-gt0.false))
+    let run = c.args.self.now in
+    let one : run.left ≡ 1 = omega (arith, c.requires.full.some, c.if-self-gt1.false) in
+    rest_of_last run.segment run.at run.slot run.skip run.gap run.pointers one (omega (arith, c.if-self-gt0.false))

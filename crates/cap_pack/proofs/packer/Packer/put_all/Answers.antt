@@ -6,7 +6,7 @@ use Rattle.cap_pack.proofs.packer.Packer.put_all.Goals as goal
 pub returns-in-Err-clause-err : goal.returns-in-Err-clause-err
 returns-in-Err-clause-err g c = (
   refl,
-  put_stops _ _ _ _ _ c.args.self.now c.loop-done.self c.put_piece.new.self _ _ (drop c.min-end.result c.args.words.now) _
+  put_stops c.args.self.now c.loop-done.self c.put_piece.new.self _ _ (drop c.min-end.result c.args.words.now) _
       (piece_split c.args.words.now c.loop-done.done c.min-end.result (omega (arith, c.min-end.ensures))) c.loop-done.invariant.put c.in-Err.ensures.err,
 )
 
@@ -16,7 +16,7 @@ loop-done-preserved g c =
     record {
       within = omega (arith, c.min-end.ensures);
       put =
-          put_more _ _ _ _ _ c.args.self.now c.loop-done.self c.put_piece.new.self _ _ (drop c.min-end.result c.args.words.now) _
+          put_more c.args.self.now c.loop-done.self c.put_piece.new.self _ _ (drop c.min-end.result c.args.words.now) _
           (piece_split c.args.words.now c.loop-done.done c.min-end.result (omega (arith, c.min-end.ensures))) c.loop-done.invariant.put
           c.in_default.ensures.ok (
             is_open,

@@ -11,7 +11,7 @@ returns-in-Err-clause-err g c =
     let next = words_next bytes xs c.loop-done.done count c.loop-done.invariant.within (omega (arith, c.read_words-count.ensures.within))
     c.read_words-count.ensures.words in (
       refl,
-      put_stops _ _ _ _ _ c.args.self.now c.loop-done.self c.put_piece.new.self _ _ (plain_words (drop (c.loop-done.done + 8 * count) bytes)) xs next
+      put_stops c.args.self.now c.loop-done.self c.put_piece.new.self _ _ (plain_words (drop (c.loop-done.done + 8 * count) bytes)) xs next
           c.loop-done.invariant.put c.in-Err.ensures.err,
     )
 
@@ -26,7 +26,7 @@ loop-done-preserved g c =
     record {
       within = omega (arith, c.read_words-count.ensures.within);
       put =
-          put_more _ _ _ _ _ c.args.self.now c.loop-done.self c.put_piece.new.self _ _ (plain_words (drop (c.loop-done.done + 8 * count) bytes)) xs
+          put_more c.args.self.now c.loop-done.self c.put_piece.new.self _ _ (plain_words (drop (c.loop-done.done + 8 * count) bytes)) xs
           next c.loop-done.invariant.put
           c.in_default.ensures.ok (
             is_open,
@@ -40,4 +40,4 @@ loop-done-preserved g c =
 
 pub returns-clause-put : goal.returns-clause-put
 returns-clause-put g c =
-    put_all _ _ _ _ _ c.args.self.now c.loop-done.self _ _ (no_word c.args.bytes.now c.loop-done.done (omega arith)) c.loop-done.invariant.put
+    put_all c.args.self.now c.loop-done.self _ _ (no_word c.args.bytes.now c.loop-done.done (omega arith)) c.loop-done.invariant.put

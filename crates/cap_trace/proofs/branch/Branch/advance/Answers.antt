@@ -3,9 +3,12 @@ use Rattle.cap_trace.proofs.Branches.{next_element, next_pointer}
 use Rattle.cap_trace.proofs.branch.Branch.advance.Goals as goal
 
 pub returns-then-self-gt0-clause-next : goal.returns-then-self-gt0-clause-next
-returns-then-self-gt0-clause-next c = λ t base. next_pointer _ _ _ _ _ _ _ _ _ _ c.if-self-gt0.true c.requires.4.formed base
+returns-then-self-gt0-clause-next c = λ t base.
+    let from = c.args.self.now in
+    next_pointer from.form from.segment from.at from.index from.left from.element from.more from.data_words from.pointers from.level c.if-self-gt0.true c.requires.4.formed base
 
 pub returns-then-self-gt0-2-clause-next : goal.returns-then-self-gt0-2-clause-next
 returns-then-self-gt0-2-clause-next c = λ t base.
+    let from = c.args.self.now in
     rw c.from.ensures
-    (next_element _ _ _ _ _ _ _ _ _ _ (omega (arith, c.if-self-gt0.false)) c.if-self-gt0-2.true c.requires.4.formed base)
+    (next_element from.form from.segment from.at from.index from.left from.element from.more from.data_words from.pointers from.level (omega (arith, c.if-self-gt0.false)) c.if-self-gt0-2.true c.requires.4.formed base)

@@ -19,7 +19,7 @@ pub loop-at-preserved : goal.loop-at-preserved
 loop-at-preserved c = record {
   after = omega (arith, c.loop-at.invariant.after);
   before = omega (arith, c.min-high.ensures, c.loop-at-test.true);
-  reached = rw c.mask-ones.ensures (reaches_on _ _ _ _ _ _ c.loop-at.invariant.after (omega arith) c.loop-at.invariant.reached
+  reached = rw c.mask-ones.ensures (reaches_on c.loop-at.invariant.after (omega arith) c.loop-at.invariant.reached
       (sets_word c.loop-at.words c.loop-at.at c.min-high.result (omega (arith, c.loop-at.auto.words, c.requires.inside, c.loop-at-test.true))
       (omega (arith, c.min-high.ensures, c.loop-at-test.true)) (omega (arith, c.min-high.ensures))
       (subst (λ u. bit_and (slice_index_or c.loop-at.words (c.loop-at.at / 64) 0) u ≡ 0) c.mask-ones.ensures c.if-words-k-ne0.false)));

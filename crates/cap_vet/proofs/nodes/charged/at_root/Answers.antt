@@ -22,7 +22,7 @@ returns-in-Ok-clause-ok g c =
     let h = c.in-Ok.ensures.ok in
     arrives_root m _ _ root.0 _ _ c.first_lax.result root.1 (c.found_of.ensures m 0 0 message h.followed)
     (rw c.charge.ensures (followed_costs m 0 0 c.in-Ok.followed h.followed))
-    (omega (arith, c.charge.ensures, h.within)) (followed_shallow m _ 0 0 1 c.in-Ok.followed h.followed h.shallow)
+    (omega (arith, c.charge.ensures, h.within)) (followed_shallow m _ c.in-Ok.followed h.followed h.shallow)
     c.first_lax.ensures
 
 pub first_lax-requires-clause-followed : goal.first_lax-requires-clause-followed

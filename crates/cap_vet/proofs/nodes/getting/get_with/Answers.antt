@@ -26,10 +26,10 @@ returns-clause-err g c = λ steps left.
 
 pub returns-clause-accepts : goal.returns-clause-accepts
 returns-clause-accepts g c = λ steps left meets.
-    given_accepts _ _ _ _ steps c.given_within.result (c.given_within.ensures.given (words_of c.args.limits) (depth_of c.args.limits) steps left
+    given_accepts _ _ (words_of c.args.limits) (depth_of c.args.limits) steps c.given_within.result (c.given_within.ensures.given (words_of c.args.limits) (depth_of c.args.limits) steps left
     (c.words.ensures.value ∙ c.limits_under-limits.ensures.words) (c.depth.ensures.value ∙ c.limits_under-limits.ensures.depth)) meets
 
 pub returns-clause-refuses : goal.returns-clause-refuses
 returns-clause-refuses g c = λ steps r left refused.
-    given_refuses _ _ _ _ steps c.given_within.result r (c.given_within.ensures.given (words_of c.args.limits) (depth_of c.args.limits) steps left
+    given_refuses _ _ (words_of c.args.limits) (depth_of c.args.limits) steps c.given_within.result r (c.given_within.ensures.given (words_of c.args.limits) (depth_of c.args.limits) steps left
     (c.words.ensures.value ∙ c.limits_under-limits.ensures.words) (c.depth.ensures.value ∙ c.limits_under-limits.ensures.depth)) refused

@@ -1,6 +1,5 @@
 -- What looks alone find is given, or else what any following finds.
 use Rattle.std.proofs.Math.Logic.{∥∥₁_map}
-use Rattle.cap_vet.specs.Demands.{words_under}
 use Rattle.cap_vet.specs.declared.nodes.way.Way.TheVariants.{To}
 use Rattle.cap_vet.proofs.PathWays.{way_as}
 use Rattle.cap_vet.proofs.Somewhere.{way_found}
@@ -13,7 +12,7 @@ pub returns-in-Some-clause-given : goal.returns-in-Some-clause-given
 returns-in-Some-clause-given g c = λ most deepest steps left under deep.
     let m = g.M.Segments.segments c.args.message.now in
     c.given.ensures.given most deepest steps
-    (way_as m c.args.words (words_under c.args.demands m most) c.args.depth deepest steps (To c.in-Some.at) under deep
+    (way_as m steps (To c.in-Some.at) under deep
     (c.in-Some.ensures.way steps left))
 
 pub given-requires-in-None : goal.given-requires-in-None
@@ -25,5 +24,5 @@ pub returns-in-None-clause-given : goal.returns-in-None-clause-given
 returns-in-None-clause-given g c = λ most deepest steps left under deep.
     let m = g.M.Segments.segments c.args.message.now in
     c.given-in-None.ensures.given most deepest steps
-    (way_as m c.args.words (words_under c.args.demands m most) c.args.depth deepest steps c.follow_any.result under deep
+    (way_as m steps c.follow_any.result under deep
     (c.follow_any.ensures.way steps left))

@@ -22,21 +22,21 @@ returns-in-Err-Refused-clause-refuses g c = λ r h.
 pub invariant_of-result : goal.invariant_of-result
 invariant_of-result g c =
     let w = c.in-Ok.ensures.ok in
-    record { accepted = ∣ vetted_within _ c.args.limits _ (accepted_at_end _ _ _ _ w.seen w.ahead w.walks) ∣₁ }
+    record { accepted = ∣ vetted_within _ c.args.limits _ (accepted_at_end w.seen w.ahead w.walks) ∣₁ }
 
 pub invariant_of-result-in-None : goal.invariant_of-result-in-None
 invariant_of-result-in-None g c =
     let w = c.in-Ok.ensures.ok in
     let none = c.in-None.ensures.none refl in
     record {
-      strict = ∣ strict_within _ c.args.limits (strict_at_end _ _ _ _ w.seen w.ahead w.walks (rw none.1 at w.known) none.0) ∣₁;
+      strict = ∣ strict_within _ c.args.limits (strict_at_end w.seen w.ahead w.walks (rw none.1 at w.known) none.0) ∣₁;
     }
 
 pub returns-in-None-clause-ok : goal.returns-in-None-clause-ok
 returns-in-None-clause-ok g c =
     let w = c.in-Ok.ensures.ok in
     let none = c.in-None.ensures.none refl in
-    (accepted_at_end _ _ _ _ w.seen w.ahead w.walks, strict_at_end _ _ _ _ w.seen w.ahead w.walks (rw none.1 at w.known) none.0)
+    (accepted_at_end w.seen w.ahead w.walks, strict_at_end w.seen w.ahead w.walks (rw none.1 at w.known) none.0)
 
 pub returns-in-None-clause-refuses : goal.returns-in-None-clause-refuses
 returns-in-None-clause-refuses g c = λ r h.
@@ -49,7 +49,7 @@ returns-in-Some-clause-err g c =
     let message : IsMessage m = search rules in
     let w = c.in-Ok.ensures.ok in
     fault_at_end (record { strict = true; unamplified = false }) m (words_of c.args.limits) (depth_of c.args.limits) w.seen _
-    c.in-Some.fault message (within_of m _ _ _ (accepted_at_end m _ _ _ w.seen w.ahead w.walks)) w.known c.in-Some.ensures.some
+    c.in-Some.fault message (within_of m _ _ _ (accepted_at_end w.seen w.ahead w.walks)) w.known c.in-Some.ensures.some
 
 pub returns-in-Some-clause-accepts : goal.returns-in-Some-clause-accepts
 returns-in-Some-clause-accepts g c = λ strict.

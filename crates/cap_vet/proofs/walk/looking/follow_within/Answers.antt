@@ -4,12 +4,12 @@ use Rattle.cap_vet.proofs.walk.looking.follow_within.Goals as goal
 
 pub returns-then-deepest_level-from-clause-err : goal.returns-then-deepest_level-from-clause-err
 returns-then-deepest_level-from-clause-err g c = λ words before e le.
-    followed_deep _ _ _ _ _ _ _ c.in_ok-followed.followed c.in_ok-followed.ensures.ok
+    followed_deep c.in_ok-followed.followed c.in_ok-followed.ensures.ok
     (omega (arith, c.if-deepest_level-from.true, c.deepest_level.ensures, c.from.ensures))
 
 pub returns-then-charge-left-clause-err : goal.returns-then-charge-left-clause-err
 returns-then-charge-left-clause-err g c = λ words before e le.
-    followed_past _ _ _ _ _ _ _ c.in_ok-followed.followed c.in_ok-followed.ensures.ok
+    followed_past c.in_ok-followed.followed c.in_ok-followed.ensures.ok
     (omega (arith, c.if-deepest_level-from.false, c.deepest_level.ensures, c.from.ensures)) (omega (arith, c.if-charge-left.true, c.charge.ensures, e)) le
 
 pub returns-clause-ok : goal.returns-clause-ok

@@ -24,7 +24,7 @@ returns-in-Target-clause-ok g c =
       _,
       f.0,
       f.1,
-      looks_object _ _ _ _ _ _ _ f.0 f.1 _ c.in-Target.target c.run_of.result f.2 c.levels_taken.ensures.value (omega (arith, c.depth.ensures.value, shallow))
+      looks_object f.0 f.1 c.in-Target.target c.run_of.result f.2 c.levels_taken.ensures.value (omega (arith, c.depth.ensures.value, shallow))
           (omega (arith, c.words.ensures.value, h.within)) c.requires.spent (c.run_of.ensures.places _ _ _ f.0 f.1 f.2)
           (c.run_of.ensures.inside _ _ _ f.0 f.1 f.2) (c.run_of.ensures.rises _ (omega (arith, c.depth.ensures.value, shallow))),
     )

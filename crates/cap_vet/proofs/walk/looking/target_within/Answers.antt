@@ -12,7 +12,7 @@ returns c = λ m s w f.
       _,
       f.0,
       f.1,
-      looks_object m _ _ c.args.spent s w c.args.level f.0 f.1 _ x c.run_of.result f.2 c.levels_taken.ensures.value
+      looks_object f.0 f.1 x c.run_of.result f.2 c.levels_taken.ensures.value
           (omega (arith, c.depth.ensures.value, shallow)) (omega (arith, c.words.ensures.value, c.if-spent-target.false)) c.requires.spent
           (c.run_of.ensures.places m s w f.0 f.1 f.2) (c.run_of.ensures.inside m s w f.0 f.1 f.2)
           (c.run_of.ensures.rises _ (omega (arith, c.depth.ensures.value, shallow))),

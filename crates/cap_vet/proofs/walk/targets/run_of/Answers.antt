@@ -5,23 +5,23 @@ use Rattle.cap_vet.proofs.walk.targets.run_of.Goals as goal
 pub returns-then-count-eq0-clause-places : goal.returns-then-count-eq0-clause-places
 returns-then-count-eq0-clause-places c = λ m s w q tag f.
     let g = rw c.in-Structs.is at f in
-    structs_empty m s w _ _ _ q tag _ _ _ _ _ _ c.args.level g (elim c.then-count-eq0.either [ inl h ↦ inl h | inr h ↦ inr h.1 ])
+    structs_empty m s w q tag _ _ c.args.level g (elim c.then-count-eq0.either [ inl h ↦ inl h | inr h ↦ inr h.1 ])
 
 pub overflow_add-result-in-Structs : goal.overflow_add-result-in-Structs
 overflow_add-result-in-Structs c =
-    let g = rw c.in-Structs.is at c.requires.found.6 in
-    start_fits c.requires.found.0 c.requires.found.1 c.requires.found.2 _ _ _ c.requires.found.3 c.requires.found.4 _ _
-    _ _ _ _ c.from-in-Structs.result c.requires.found.5 g c.from-in-Structs.ensures c.if-count-eq0.false
+    let (m, s, w, q, tag, fits, found) = c.requires.found in
+    let g = rw c.in-Structs.is at found in
+    start_fits m s w q tag _ _ c.from-in-Structs.result fits g c.from-in-Structs.ensures c.if-count-eq0.false
 
 pub returns-in-Struct-clause-places : goal.returns-in-Struct-clause-places
 returns-in-Struct-clause-places c = λ m s w q tag f.
     let g = rw c.in-Struct.is at f in
-    c.row_run.ensures.places ∙ struct_places m s w _ _ _ q tag _ _ _ _ _ _ c.args.level g (omega (arith, c.from.ensures)) c.from-in-Struct.ensures
+    c.row_run.ensures.places ∙ struct_places m s w q tag _ c.args.level g (omega (arith, c.from.ensures)) c.from-in-Struct.ensures
 
 pub returns-in-Struct-clause-inside : goal.returns-in-Struct-clause-inside
 returns-in-Struct-clause-inside c = λ m s w q tag f.
     let g = rw c.in-Struct.is at f in
-    c.row_run.ensures.inside m g.finds.sits.exists (omega (arith, c.from.ensures, c.from-in-Struct.ensures, struct_room m s w _ _ _ q tag _ _ _ _ g))
+    c.row_run.ensures.inside m g.finds.sits.exists (omega (arith, c.from.ensures, c.from-in-Struct.ensures, struct_room m s w q tag _ _ g))
 
 pub returns-else-pointers-eq0-clause-places : goal.returns-else-pointers-eq0-clause-places
 returns-else-pointers-eq0-clause-places c = λ m s w q tag f.
@@ -29,7 +29,7 @@ returns-else-pointers-eq0-clause-places c = λ m s w q tag f.
     let some : 0 < c.in-Structs.count = omega (arith, c.if-count-eq0.false) in
     let at_start : c.args.target.now.start + 1 + c.from-in-Structs.result ≡ c.args.target.now.start + 1
     + c.in-Structs.data_words = omega (arith, c.from-in-Structs.ensures) in
-    structs_places m s w _ _ _ q tag _ _ _ _ _ _ _ _ _ _ _ c.args.level _ g at_start c.from-in-Structs-2.ensures
+    structs_places m s w q tag _ c.args.level g at_start c.from-in-Structs-2.ensures
     (omega arith) c.from-in-Structs-3.ensures c.from-in-Structs-4.ensures some
     (omega (arith, c.levels_of_elements.ensures.value))
 
@@ -40,5 +40,5 @@ returns-else-pointers-eq0-clause-inside c = λ m s w q tag f.
     let each : 0 < c.in-Structs.pointers = omega (arith, c.if-pointers-eq0.false) in
     let at_start : c.args.target.now.start + 1 + c.from-in-Structs.result ≡ c.args.target.now.start + 1
     + c.in-Structs.data_words = omega (arith, c.from-in-Structs.ensures) in
-    structs_inside m s w _ _ _ q tag _ _ _ _ _ _ _ _ _ _ _ _ g at_start c.from-in-Structs-2.ensures
+    structs_inside m s w q tag _ _ g at_start c.from-in-Structs-2.ensures
     (omega arith) c.from-in-Structs-3.ensures c.from-in-Structs-4.ensures some each

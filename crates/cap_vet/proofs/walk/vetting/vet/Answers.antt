@@ -7,18 +7,18 @@ use Rattle.cap_vet.proofs.Verdicts.{accepted_at_end, vetted_within}
 use Rattle.cap_vet.proofs.walk.vetting.vet.Goals as goal
 
 pub returns-clause-ok : goal.returns-clause-ok
-returns-clause-ok g c = let w = c.in-Ok.ensures.ok in accepted_at_end _ _ _ _ w.seen w.ahead w.walks
+returns-clause-ok g c = let w = c.in-Ok.ensures.ok in accepted_at_end w.seen w.ahead w.walks
 
 pub returns-clause-refuses : goal.returns-clause-refuses
 returns-clause-refuses g c = λ r h.
     let w = c.in-Ok.ensures.ok in
-    let a = accepted_at_end _ _ _ _ w.seen w.ahead w.walks in
+    let a = accepted_at_end w.seen w.ahead w.walks in
     absurd (within_not_refused _ _ _ r (a.0, _, _, a.1.within) h)
 
 pub returns-clause-one : goal.returns-clause-one
 returns-clause-one g c = λ t charge d h.
     let w = c.in-Ok.ensures.ok in
-    let a = accepted_at_end _ _ _ _ w.seen w.ahead w.walks in
+    let a = accepted_at_end w.seen w.ahead w.walks in
     let same = one_tree _ 0 0 a.0 t _ _ charge d a.1.within.denotes h in
     (same.charge, same.depth, a.1.pointers ∙ ap pointer_count same.part)
 
@@ -31,7 +31,7 @@ returns-in-Err-Refused-clause-justified g c = rw c.in-Err-Refused.field-0-is
 
 pub returns-in-Err-Refused-clause-accepts : goal.returns-in-Err-Refused-clause-accepts
 returns-in-Err-Refused-clause-accepts g c = λ within.
-    absurd (within_not_refused _ _ _ _ within (rw c.in-Err-Refused.field-0-is at c.in-Err-Refused.ensures.err))
+    absurd (within_not_refused _ _ _ c.in-Err-Refused.refusal within (rw c.in-Err-Refused.field-0-is at c.in-Err-Refused.ensures.err))
 
 pub returns-in-Err-Refused-clause-refuses : goal.returns-in-Err-Refused-clause-refuses
 returns-in-Err-Refused-clause-refuses g c = λ r h.
@@ -41,4 +41,4 @@ returns-in-Err-Refused-clause-refuses g c = λ r h.
 pub invariant_of-result : goal.invariant_of-result
 invariant_of-result g c =
     let w = c.in-Ok.ensures.ok in
-    record { accepted = ∣ vetted_within _ c.args.limits _ (accepted_at_end _ _ _ _ w.seen w.ahead w.walks) ∣₁ }
+    record { accepted = ∣ vetted_within _ c.args.limits _ (accepted_at_end w.seen w.ahead w.walks) ∣₁ }

@@ -9,8 +9,8 @@ pub look-requires-clause-inside : goal.look-requires-clause-inside
 look-requires-clause-inside g c = c.requires.next.1.within
 
 pub returns-in-Err-clause-err : goal.returns-in-Err-clause-err
-returns-in-Err-clause-err g c = λ runs next. fault_next _ _ _ _ _ _ runs _ _ next c.in-Err.ensures.err
+returns-in-Err-clause-err g c = λ runs next. fault_next runs next c.in-Err.ensures.err
 
 pub returns-in-Ok-clause-ok : goal.returns-in-Ok-clause-ok
 returns-in-Ok-clause-ok g c = λ runs next. rw (c.add.ensures.report, c.add.ensures.run)
-    (visited _ _ _ _ _ runs _ _ next c.in-Ok.ensures.ok)
+    (visited runs _ next c.in-Ok.ensures.ok)

@@ -24,9 +24,9 @@ look_described-requires-clause-inside g c = c.requires.1.next.within
 pub after-requires-clause-known : goal.after-requires-clause-known
 after-requires-clause-known g c =
     let n = c.requires.1.next in
-    let v = visited _ c.args.limits.now _ _ _ c.requires.0 _ _ n c.in-Some.ensures.looked in
-    let costs = looked_costs _ _ _ _ _ _ _ _ c.in-Some.ensures.looked in
-    (n.seen, n.a, rw (c.add-below.ensures.report, c.cost-cost.ensures) (looked_at _ _ _ _ _ _ _ _ _ _ _ n v.walks _ costs), c.requires.1.known)
+    let v = visited {limits = c.args.limits.now} c.requires.0 _ n c.in-Some.ensures.looked in
+    let costs = looked_costs (g.M.Segments.segments c.args.message.now) _ _ _ c.args.s c.args.w _ _ c.in-Some.ensures.looked in
+    (n.seen, n.a, rw (c.add-below.ensures.report, c.cost-cost.ensures) (looked_at n v.walks costs), c.requires.1.known)
 
 pub returns-then-word-eq0-clause-ok : goal.returns-then-word-eq0-clause-ok
 returns-then-word-eq0-clause-ok g c = λ runs at.
@@ -48,9 +48,9 @@ returns-then-word-eq0-clause-ok g c = λ runs at.
 pub returns-in-Ok-clause-ok : goal.returns-in-Ok-clause-ok
 returns-in-Ok-clause-ok g c = λ runs at.
     let n = at.next in
-    let v = visited _ c.args.limits.now _ _ _ runs _ _ n c.in-Some.ensures.looked in
-    let costs = looked_costs _ _ _ _ _ _ _ _ c.in-Some.ensures.looked in
-    let known = c.in-Ok.ensures.ok n.seen n.a (rw (c.add-below.ensures.report, c.cost-cost.ensures) (looked_at _ _ _ _ _ _ _ _ _ _ _ n v.walks _ costs)) at.known in
+    let v = visited {limits = c.args.limits.now} runs _ n c.in-Some.ensures.looked in
+    let costs = looked_costs (g.M.Segments.segments c.args.message.now) _ _ _ c.args.s c.args.w _ _ c.in-Some.ensures.looked in
+    let known = c.in-Ok.ensures.ok n.seen n.a (rw (c.add-below.ensures.report, c.cost-cost.ensures) (looked_at n v.walks costs)) at.known in
     rw (c.add-below.ensures.run, c.add-below.ensures.report) (record {
       walking = record { seen = n.a.path ∷ n.seen; ahead = v.later; walks = v.walks; known = known };
       less = v.less;

@@ -32,7 +32,7 @@ after-requires-clause-known g c =
     let at = next_at _ _ c.args.stack.now.items c.args.run.now _ _ _ c.requires.walking rest.1 in
     let n = at.next in
     let on = c.in-Ok.ensures.ok (c.args.stack.now.items ++ option_to_list rest.0) n in
-    (n.seen, n.a, looked_at _ _ _ _ _ _ _ _ _ _ _ n on.walks _ (cost_charged _ _ _ _ _ _ on.costs on.charge), at.known)
+    (n.seen, n.a, looked_at n on.walks (cost_charged _ on.costs on.charge), at.known)
 
 pub overflow_sub-cost : goal.overflow_sub-cost
 overflow_sub-cost g c =
@@ -55,7 +55,7 @@ returns-in-Ok-after g c = record {
       c.go_on.new.run c.requires.walking (λ runs at.
       let n = at.next in
       let on = c.in-Ok.ensures.ok runs n in
-      let known = c.in-Ok-after.ensures.ok n.seen n.a (looked_at _ _ _ _ _ _ _ _ _ _ _ n on.walks _ (cost_charged _ _ _ _ _ _ on.costs on.charge)) at.known in
+      let known = c.in-Ok-after.ensures.ok n.seen n.a (looked_at n on.walks (cost_charged _ on.costs on.charge)) at.known in
       record { walking = record { seen = n.a.path ∷ n.seen; ahead = on.later; walks = on.walks; known = known }; less = on.less })
       c.go_on.ensures.runs;
   room = c.go_on.ensures.room;

@@ -19,7 +19,7 @@ returns-clause-bytes g c =
       | then-self+else-buf-ge-BUFFER+in_default w ↦ rw w.self-is w.refill.ensures.bytes
       | else-self w ↦ rw w.self-is (Keeps-refl _)
     ] in
-    let read = prepend_known-read _ _ _ _ _ _ kept split (λ (p : (given.result ≡ 0) × (0 < length given.new.to)).
+    let read = prepend_known-read _ _ (slice_range s.buffer.items s.start s.end) _ _ _ kept split (λ (p : (given.result ≡ 0) × (0 < length given.new.to)).
     let none : length (slice_range held s.start s.end) ≡ 0 =
     zero_unless_positive _ _ (λ some. given.ensures.some some (omega (arith, p.1, given.auto.to))) p.0 in
     let empty : s.start ≡ s.end =
@@ -37,5 +37,5 @@ returns-then-buf-ge-BUFFER-clause-bytes g c =
     let old = c.args.self.now in
     let new = c.read_past.new.self in
     let held = c.read_past.ensures.held in
-    told_past _ _ _ _ _ _ (none_between old.buffer.items old.start old.end c.if-self.true)
+    told_past _ _ c.read_past.result _ (none_between old.buffer.items old.start old.end c.if-self.true)
     (none_between new.buffer.items new.start new.end (held.1 ∙ c.if-self.true ∙ sym held.2)) c.read_past.ensures.bytes

@@ -6,7 +6,7 @@ use Rattle.cap_words.proofs.Pieces.{ends_within, none_filled, piece_filled, plai
 use Rattle.cap_words.proofs.plain_words.PlainWordsWordSource.fill.Goals as goal
 
 pub returns-then-whole-eq0-clause-full : goal.returns-then-whole-eq0-clause-full
-returns-then-whole-eq0-clause-full g c = λ is. none_filled _ _ _ _ c.args.out.now _ (omega arith) (omega arith)
+returns-then-whole-eq0-clause-full g c = λ is. none_filled c.args.out.now (omega arith) (omega arith)
 
 pub returns-then-count-whole-clause-full : goal.returns-then-count-whole-clause-full
 returns-then-count-whole-clause-full g c = λ is.
@@ -31,7 +31,7 @@ returns-then-count-eq0-clause-ended g c = λ is.
     let count : length (take n given) ≡ n = length-take-le n given c.in-Ok.ensures.len in
     let took = c.in-Ok.ensures.took in (
       refl,
-      ends_within _ _ _ (take n given) _ _ _ _ c.in-Open.is (omega arith) (omega (arith, long, count, c.in-Ok.ensures.len)) took.place
+      ends_within _ _ (take n given) _ c.in-Open.is (omega arith) (omega (arith, long, count, c.in-Ok.ensures.len)) took.place
           ((plain_end c.args.self.now.bytes.read (take n given) (omega arith)).whole (omega (arith, count))) took.lost
           (c.in-Ok.ensures.end (omega (arith, long, c.in-Ok.ensures.len))),
     )
@@ -44,6 +44,6 @@ returns-else-count-eq0-clause-truncated g c = λ byte is.
     omega (arith, c.fill.auto.buf, length-take-le (length c.args.out.now / 8 * 8) c.args.out.now (omega arith)) in
     let count : length (take n given) ≡ n = length-take-le n given c.in-Ok.ensures.len in
     let took = c.in-Ok.ensures.took in
-    ends_within _ _ _ (take n given) _ _ _ _ c.in-Open.is (omega arith) (omega (arith, long, count, c.in-Ok.ensures.len)) took.place
+    ends_within _ _ (take n given) _ c.in-Open.is (omega arith) (omega (arith, long, count, c.in-Ok.ensures.len)) took.place
     ((plain_end c.args.self.now.bytes.read (take n given) (omega arith)).cut (omega (arith, count))) took.lost
     (c.in-Ok.ensures.end (omega (arith, long, c.in-Ok.ensures.len)))

@@ -20,11 +20,11 @@ loop-done-preserved-then-count-gt0 g c =
             text = e.words.0;
             takes = e.words.1;
             reads = e.reads;
-            works = ready_works c.ready-count.result _ _ _ _ c.if-count-gt0.true e.usable e.spent e.failures;
+            works = ready_works c.ready-count.result c.if-count-gt0.true e.usable e.spent e.failures;
             not_ended = e.stays;
             not_failed = e.for_good;
           }
-          (filled _ _ _ _ _ far.within e.room) (filled_within _ _ _ _ _ far.within e.room);
+          (filled _ _ _ far.within e.room) (filled_within _ _ _ far.within e.room);
       rest = search (rules, overwrites);
     }
 
@@ -33,45 +33,46 @@ loop-done-preserved g c =
     let s = g.Self.WordSource in
     let far = c.loop-done.invariant.filled in
     let e = rw c.in-Ok-Some.field-0-is at c.in-Ok-Some.ensures in
-    let still = filled_still s _ _ _ _ _ (c.ready-count.ensures.none (omega arith)) far in
+    let still = filled_still s _ (c.ready-count.ensures.none (omega arith)) far in
     let given = c.copy_from_slice.new.self in
     let bytes : given ≡ word_bytes c.in-Ok-Some.word = c.copy_from_slice.ensures.after ∙ c.bytes_of.ensures.value in
     let long : length given ≡ 8 = ap length bytes in
     record {
       filled =
           filled_more s _ _ _ c.loop-done.done 8 c.loop-done.out _ given still
-          (next_gives s _ _ given c.in-Ok-Some.word bytes (search rules) e.words e.word (reads_one _ _ _ _ c.next.ensures.reads) e.ok
+          (next_gives s _ _ given c.in-Ok-Some.word bytes (search rules) e.words e.word (reads_one c.next.ensures.reads) e.ok
           (λ is. let h = (e.stays is).0 in cc) (λ is. let h = (e.for_good is).0 in cc))
-          (word_filled _ _ _ _ _ given far.within (omega arith)) (word_within _ _ _ _ _ given far.within (omega arith));
+          (word_filled _ _ c.loop-done.out _ given far.within (omega arith))
+          (word_within _ _ c.loop-done.out _ given far.within (omega arith));
       rest = search (rules, overwrites);
     }
 
 pub returns-in-Ok-None-clause-reads : goal.returns-in-Ok-None-clause-reads
 returns-in-Ok-None-clause-reads g c =
-    let still = filled_still g.Self.WordSource _ _ _ _ _ (c.ready-count.ensures.none (omega arith)) c.loop-done.invariant.filled in
-    reads_both _ _ _ _ _ _ still.reads (reads_one _ _ _ _ c.next.ensures.reads)
+    let still = filled_still g.Self.WordSource _ (c.ready-count.ensures.none (omega arith)) c.loop-done.invariant.filled in
+    reads_both still.reads (reads_one c.next.ensures.reads)
 
 pub returns-in-Err-clause-reads : goal.returns-in-Err-clause-reads
 returns-in-Err-clause-reads g c =
-    let still = filled_still g.Self.WordSource _ _ _ _ _ (c.ready-count.ensures.none (omega arith)) c.loop-done.invariant.filled in
-    reads_both _ _ _ _ _ _ still.reads (reads_one _ _ _ _ c.next.ensures.reads)
+    let still = filled_still g.Self.WordSource _ (c.ready-count.ensures.none (omega arith)) c.loop-done.invariant.filled in
+    reads_both still.reads (reads_one c.next.ensures.reads)
 
 pub returns-in-Ok-None-clause-ended : goal.returns-in-Ok-None-clause-ended
 returns-in-Ok-None-clause-ended g c = λ is.
     let far = c.loop-done.invariant.filled in
-    let still = filled_still g.Self.WordSource _ _ _ _ _ (c.ready-count.ensures.none (omega arith)) far in
+    let still = filled_still g.Self.WordSource _ (c.ready-count.ensures.none (omega arith)) far in
     let few : length (plain_words (take c.loop-done.done c.loop-done.out)) < length c.args.out.now / 8 =
-    omega (arith, filled_words g.Self.WordSource _ _ _ _ far) in
+    omega (arith, filled_words g.Self.WordSource _ far) in
     let e = rw c.in-Ok-None.field-0-is at c.in-Ok-None.ensures in
-    (e.ended refl, ends_both _ _ _ _ _ _ _ _ _ _ _ _ few still.takes (e.none refl))
+    (e.ended refl, ends_both _ _ few still.takes (e.none refl))
 
 pub returns-in-Err-clause-truncated : goal.returns-in-Err-clause-truncated
 returns-in-Err-clause-truncated g c = λ byte is.
     let far = c.loop-done.invariant.filled in
-    let still = filled_still g.Self.WordSource _ _ _ _ _ (c.ready-count.ensures.none (omega arith)) far in
+    let still = filled_still g.Self.WordSource _ (c.ready-count.ensures.none (omega arith)) far in
     let few : length (plain_words (take c.loop-done.done c.loop-done.out)) < length c.args.out.now / 8 =
-    omega (arith, filled_words g.Self.WordSource _ _ _ _ far) in
-    ends_both _ _ _ _ _ _ _ _ _ _ _ _ few still.takes (c.in-Err.ensures.truncated byte (cc))
+    omega (arith, filled_words g.Self.WordSource _ far) in
+    ends_both _ _ few still.takes (c.in-Err.ensures.truncated byte (cc))
 
 pub returns-clause-full : goal.returns-clause-full
 returns-clause-full g c = λ is.

@@ -10,10 +10,10 @@ mark_pointer-requires-clause-word g c =
 pub returns-then-mark_pointer-clause-ok : goal.returns-then-mark_pointer-clause-ok
 returns-then-mark_pointer-clause-ok g c = λ seen a looked known. record {
   room = c.mark_pointer.ensures.room;
-  marked = turn_on _ seen a _ _ _ _ _ _ looked known.marked (c.mark_pointer.ensures.taken c.if-mark_pointer.true);
+  marked = turn_on seen a looked known.marked (c.mark_pointer.ensures.taken c.if-mark_pointer.true);
 }
 
 pub returns-clause-err : goal.returns-clause-err
 returns-clause-err g c =
-    turn_overlap _ c.requires.known.0 c.requires.known.1 _ _ _ _ _ c.requires.known.2 c.requires.known.3.marked
+    turn_overlap c.requires.known.0 c.requires.known.1 c.requires.known.2 c.requires.known.3.marked
     (c.mark_pointer.ensures.conflict c.if-mark_pointer.false)

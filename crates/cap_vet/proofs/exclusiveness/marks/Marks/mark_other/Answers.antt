@@ -9,4 +9,4 @@ mark_words-requires g c =
 pub returns-in-Some : goal.returns-in-Some
 returns-in-Some g c =
     let list = c.in-Some.ensures in
-    marks_use _ _ _ _ _ _ _ list.used (c.mark_words.ensures _ (record { room = c.requires.room; exists = list.exists; inside = list.inside }))
+    marks_use list.used (c.mark_words.ensures _ (record { room = c.requires.room; exists = list.exists; inside = list.inside }))

@@ -17,7 +17,7 @@ pub mark_words-requires : goal.mark_words-requires
 mark_words-requires g c =
     let m = g.M.Segments.segments c.args.message.now in
     let f = c.in-Far.ensures.form in
-    let r = pads_inside _ _ _ _ c.word.result _ c.requires.leads.2 c.word.ensures f.0 in
+    let r = pads_inside m c.args.s c.args.w _ c.word.result _ c.requires.leads.2 c.word.ensures f.0 in
     let n : c.if-two.pads ≡ 1 + two c.word.result = many_pads c.word.result c.if-two.pads c.in-Far.two f.1
     (elim c.if-two.branch [ then-two w ↦ inl (w.if-two.true, w.pads-is) | else-two w ↦ inr (w.if-two.false, w.pads-is) ]) in
     let e : length (segment_of m c.in-Far.segment) ≡ length (segment_of m (far_segment c.word.result)) = ap (λ (u : ℕ). length (segment_of m u)) f.3 in
@@ -28,7 +28,7 @@ pub returns-after-two : goal.returns-after-two
 returns-after-two g c = λ p has.
     let m = g.M.Segments.segments c.args.message.now in
     let f = c.in-Far.ensures.form in
-    let r = pads_inside _ _ _ _ c.word.result _ c.requires.leads.2 c.word.ensures f.0 in
+    let r = pads_inside m c.args.s c.args.w _ c.word.result _ c.requires.leads.2 c.word.ensures f.0 in
     let n : c.if-two.pads ≡ 1 + two c.word.result = many_pads c.word.result c.if-two.pads c.in-Far.two f.1
     (elim c.if-two.branch [ then-two w ↦ inl (w.if-two.true, w.pads-is) | else-two w ↦ inr (w.if-two.false, w.pads-is) ]) in
     let e : length (segment_of m c.in-Far.segment) ≡ length (segment_of m (far_segment c.word.result)) = ap (λ (u : ℕ). length (segment_of m u)) f.3 in

@@ -9,4 +9,4 @@ mark_words-requires g c =
 pub returns-in-Some : goal.returns-in-Some
 returns-in-Some g c =
     let near = rw c.in-Some.is at c.requires.near in
-    marks_use _ _ _ _ _ _ _ near.used (c.mark_words.ensures _ (record { room = c.requires.word.room; exists = near.exists; inside = near.inside }))
+    marks_use near.used (c.mark_words.ensures _ (record { room = c.requires.word.room; exists = near.exists; inside = near.inside }))

@@ -17,10 +17,10 @@ returns-in-Ok-clause-some g c = λ path a h.
     let goes = (rw c.in-Some-Word.field-0-is at c.in-Some-Word.ensures) m a h.found in
     let r = c.in-Ok.ensures.ok in (
       word c.in-Some-Word.segment c.in-Some-Word.word,
-      arrives_word m _ _ path a c.args.self.now c.args.step _ _ _ _ c.first_lax.result h goes.0
+      arrives_word m path a c.args.self.now c.args.step c.first_lax.result h goes.0
           (c.found_of.ensures m _ _ message r.followed)
           (rw c.charge.ensures (followed_costs m _ _ c.in-Ok.followed r.followed)) (omega (arith, c.charge.ensures, r.within))
-          (followed_shallow m _ _ _ _ c.in-Ok.followed r.followed r.shallow) c.first_lax.ensures,
+          (followed_shallow m _ c.in-Ok.followed r.followed r.shallow) c.first_lax.ensures,
     )
 
 pub first_lax-requires-clause-followed : goal.first_lax-requires-clause-followed

@@ -31,7 +31,7 @@ returns-in_ok-found-in-Some-Word-clause-on g c = λ path a h.
     let goes = (rw c.in-Some-Word.field-0-is at c.in-Some-Word.ensures) m a h.found in
     let near = c.in_ok-found-in-Some-Word.ensures.found in (
       word c.in-Some-Word.segment c.in-Some-Word.word,
-      arrives_word m _ _ path a at c.args.step _ _ _ _ None h goes.0 near.found near.costs near.within near.shallow
+      arrives_word m path a at c.args.step None h goes.0 near.found near.costs near.within near.shallow
           (adds_none m _ _ _ at.lax c.requires.strict near.strict),
     )
 

@@ -7,18 +7,18 @@ pub returns-then-i-count : goal.returns-then-i-count
 returns-then-i-count c = λ m a h b g. entry_past m a _ _ _ b h c.in-Pointers.is c.if-i-count.true g
 
 pub returns-then-i-count-2 : goal.returns-then-i-count-2
-returns-then-i-count-2 c = λ m a h b g. element_past m a _ _ _ _ _ b h c.in-Structs.is c.if-i-count-2.true g
+returns-then-i-count-2 c = λ m a h b g. element_past m a _ _ b h c.in-Structs.is c.if-i-count-2.true g
 
 pub returns-else-i-count : goal.returns-else-i-count
 returns-else-i-count c = λ m a h. (
-  entry_goes m a _ _ _ _ h c.in-Pointers.is (omega (arith, c.if-i-count.false)) (omega arith),
+  entry_goes m a h c.in-Pointers.is (omega (arith, c.if-i-count.false)) (omega arith),
   (h.exists, entry_inside m a _ _ _ h c.in-Pointers.is (omega (arith, c.if-i-count.false))),
 )
 
 pub returns-else-i-count-2 : goal.returns-else-i-count-2
 returns-else-i-count-2 c = λ m a h. rw (c.from.ensures, c.from-in-Structs.ensures) (
-  element_goes m a _ _ _ _ _ h c.in-Structs.is (omega (arith, c.if-i-count-2.false)),
-  (h.exists, element_inside m a _ _ _ _ _ h c.in-Structs.is (omega (arith, c.if-i-count-2.false))),
+  element_goes m a _ _ h c.in-Structs.is (omega (arith, c.if-i-count-2.false)),
+  (h.exists, element_inside m a _ _ h c.in-Structs.is (omega (arith, c.if-i-count-2.false))),
 )
 
 pub overflow_add-result : goal.overflow_add-result

@@ -9,7 +9,7 @@ returns-in_default c = λ m a h b g. pointer_of_other m a _ _ b (λ d p e. c.in_
 pub returns : goal.returns
 returns c = λ m a h.
     let own = rw c.in-Struct.is at h.own in (
-      pointer_goes m a _ _ _ _ _ h c.in-Struct.is (omega (arith, c.if-i-pointers.false)) (omega (arith, c.from.ensures, c.from-2.ensures)),
+      pointer_goes m a _ h c.in-Struct.is (omega (arith, c.if-i-pointers.false)) (omega (arith, c.from.ensures, c.from-2.ensures)),
       (h.exists, omega (arith, own, h.inside, c.from.ensures, c.from-2.ensures, c.if-i-pointers.false)),
     )
 

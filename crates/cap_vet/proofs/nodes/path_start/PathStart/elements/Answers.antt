@@ -21,7 +21,7 @@ pub invariant_of-result : goal.invariant_of-result
 invariant_of-result g c =
     let m = g.M.Segments.segments c.args.self.now.message.now in
     let h : SomeArrives m c.args.self.now.words c.args.self.now.depth c.in-To.at =
-    way_arrives _ _ _ _ c.in-To.at c.args.self.now.leads c.in-To.is in
+    way_arrives _ _ _ c.in-To.at c.args.self.now.leads c.in-To.is in
     let l = arrival_levels _ _ _ c.in-To.at h in
     record {
       exists = arrival_exists _ _ _ c.in-To.at h;

@@ -9,7 +9,7 @@ use Rattle.cap_vet.proofs.nodes.path_start.PathStart.get.Goals as goal
 use Rattle.cap_vet.proofs.nodes.path_start.PathStart.get.Goals.{in-To+in-Ok-Some, in-To+in-Ok-None, in-To+in-Err, in-Nowhere, in-Refused}
 
 pub step-requires-clause-arrived : goal.step-requires-clause-arrived
-step-requires-clause-arrived g c = way_arrives _ _ _ _ c.in-To.at c.args.self.now.leads c.in-To.is
+step-requires-clause-arrived g c = way_arrives _ _ _ c.in-To.at c.args.self.now.leads c.in-To.is
 
 pub step-requires-clause-levels : goal.step-requires-clause-levels
 step-requires-clause-levels g c =
@@ -23,7 +23,7 @@ step-requires-clause-few g c =
 
 pub along-requires : goal.along-requires
 along-requires g c = record {
-  arrived = ∥∥₁_map (way_arrives _ _ _ _ c.in-To.at c.args.self.now.leads c.in-To.is) (λ r.
+  arrived = ∥∥₁_map (way_arrives _ _ _ c.in-To.at c.args.self.now.leads c.in-To.is) (λ r.
       let next = rw c.in-Ok-Some.field-0-is at (c.in-Ok-Some.ensures.some r.0 r.1 r.2) in
       (r.0 ++ c.args.step ∷ [], next.0, next.1));
 }

@@ -27,7 +27,7 @@ pub returns-in-Ok-clause-refuses : goal.returns-in-Ok-clause-refuses
 returns-in-Ok-clause-refuses g c =
     let room : marks_of (g.M.Segments.segments c.args.self.message.now) ≤ length c.args.marks.now =
     omega (arith, c.numbers_for-needed.ensures.exact, c.if-marks-needed.false) in
-    λ x h. absurd (no_exclusive_fault _ _ _ _ c.args.self.report x (vetted_kept _ _ c.args.self.accepted)
+    λ x h. absurd (no_exclusive_fault _ _ c.args.self.report x (vetted_kept _ _ c.args.self.accepted)
     c.in-Ok.ensures.ok room h)
 
 pub returns-in-Err-clause-err : goal.returns-in-Err-clause-err
