@@ -4,9 +4,9 @@ use Rattle.std.proofs.Common.{ap, arith, inl, inr, subst, sym}
 use Rattle.std.specs.Prelude.{⊤}
 use Rattle.std.proofs.Math.Nat.{mul-le-mul_right}
 use Rattle.std.proofs.lemmas.Bool.{cases_lt}
-use Rattle.cap_spec.specs.Arriving.{StandsAs}
+use Rattle.cap_spec.specs.Arriving.{HasObject}
 use Rattle.cap_spec.specs.Messages.{segment_of}
-use Rattle.cap_spec.specs.Paths.{Comes, Goes, IsPlace, Spot, Stands, Walks, element, word}
+use Rattle.cap_spec.specs.Paths.{ReachesSpot, StepsTo, IsPlace, Spot, HasPlace, PathLeads, element, word}
 use Rattle.cap_spec.specs.Pointers.{data_size, element_bits, list_size, list_words, middle, pointer_size}
 use Rattle.cap_spec.specs.declared.Kind.{Kind}
 use Rattle.cap_spec.specs.declared.Kind.TheVariants.{Null, Cap, Struct, Scalars, Pointers, Structs}
@@ -23,7 +23,7 @@ abbrev IsElementInside : List (List ℕ) → Spot → Type 0
 IsElementInside m (word s w) = ⊤
 IsElementInside m (element t b ds ps) = (t < length m) × (b + (ds + ps) ≤ length (segment_of m t))
 
-step_inside : (m : List (List ℕ)) (a : Spot) (step : Step) (b : Spot) → Goes m a step b → IsElementInside m b
+step_inside : (m : List (List ℕ)) (a : Spot) (step : Step) (b : Spot) → StepsTo m a step b → IsElementInside m b
 step_inside m (word s w) (Ptr i) b (k, t, b', q, finds, is_struct, less, ends) =
     subst (λ (z : Spot). IsElementInside m z) (sym ends) tt
 step_inside m (word s w) (Item i) b (inl (k, t, b', q, finds, is_list, of_pointers, less, ends)) =
@@ -40,15 +40,15 @@ step_inside m (element t b ds ps) (Ptr i) c g = subst (λ (z : Spot). IsElementI
 step_inside m (element t b ds ps) (Item i) c g = absurd g
 
 walk_inside : (m : List (List ℕ)) (a : Spot) (path : List Step) (n : ℕ) (b : Spot) → IsElementInside m a
-    → Walks m a path n b → IsElementInside m b
+    → PathLeads m a path n b → IsElementInside m b
 walk_inside m a [] n b h g = subst (λ (z : Spot). IsElementInside m z) (sym g.1) h
 walk_inside m a (step ∷ path) n b h g = walk_inside m g.0 path g.1 b (step_inside m a step g.0 g.2) g.3
 
-comes_inside : (m : List (List ℕ)) (path : List Step) (level : ℕ) (a : Spot) → Comes m path level a → IsElementInside m a
+comes_inside : (m : List (List ℕ)) (path : List Step) (level : ℕ) (a : Spot) → ReachesSpot m path level a → IsElementInside m a
 comes_inside m path level a c = walk_inside m (word 0 0) path c.1 a tt c.3
 
 -- The words of the place of a path are inside their segment.
-stands_inside : (m : List (List ℕ)) (a : Spot) (t b n : ℕ) → IsElementInside m a → Stands m a t b n
+stands_inside : (m : List (List ℕ)) (a : Spot) (t b n : ℕ) → IsElementInside m a → HasPlace m a t b n
     → (t < length m) × (b + n ≤ length (segment_of m t))
 stands_inside m (word s w) t b n h (k, q, finds, e) = (finds.sits.exists, omega (arith, e, finds.sits.inside))
 stands_inside m (element u v ds ps) t b n h (e, f, g) = rw (e, f, g) h
@@ -70,7 +70,7 @@ value_bytes c n = elim (cases_lt (list_words c n * 64) (element_bits c * n)) [
 -- The bytes of a node are inside what its words are inside of.
 module _ (m : List (List ℕ)) (frame : ℕ)
     (bound : (t b n : ℕ) → t < length m → b + n ≤ length (segment_of m t) → offset_of m t b + 8 * n ≤ frame) where
-  node_within : (a : Spot) (k : Kind) (t b n : ℕ) → IsElementInside m a → StandsAs m a k t b n
+  node_within : (a : Spot) (k : Kind) (t b n : ℕ) → IsElementInside m a → HasObject m a k t b n
       → (kind_node k (offset_of m t b)).offset + (kind_node k (offset_of m t b)).length ≤ frame
   node_within (word s w) Null t b n h f = omega arith
   node_within (word s w) (Cap i) t b n h f = omega arith
@@ -97,6 +97,6 @@ module _ (m : List (List ℕ)) (frame : ℕ)
       omega (arith, r, f.data_words)
   node_within (element u v ds ps) k t b n h f = absurd f
 
-  pub node_bounded : (path : List Step) (k : Kind) (t b n level : ℕ) (a : Spot) → Comes m path level a → StandsAs m a k t b n
+  pub node_bounded : (path : List Step) (k : Kind) (t b n level : ℕ) (a : Spot) → ReachesSpot m path level a → HasObject m a k t b n
       → (kind_node k (offset_of m t b)).offset + (kind_node k (offset_of m t b)).length ≤ frame
   node_bounded path k t b n level a c f = node_within a k t b n (comes_inside m path level a c) f

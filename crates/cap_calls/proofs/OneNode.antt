@@ -1,7 +1,7 @@
 -- One node is at a path.
 use Rattle.std.proofs.Common.{ℕ, ◌<◌, ◌≡◌, ◌∙◌, List, ap, ap₂, arith, refl, subst, sym}
 use Rattle.std.specs.Prelude.{pos}
-use Rattle.cap_spec.specs.Arriving.{ArrivesAt, StandsAs}
+use Rattle.cap_spec.specs.Arriving.{PathFinds, HasObject}
 use Rattle.cap_spec.specs.Denoting.{Finds}
 use Rattle.cap_spec.specs.Following.{Leads, to_cap, to_null, to_object}
 use Rattle.cap_spec.specs.Messages.{HasWord}
@@ -51,7 +51,7 @@ data Seen (m : List (List ℕ)) (s w : ℕ) (k : Kind) (t b : ℕ) : Type 0 wher
   cap : (x i : ℕ) → Leads m s w x (to_cap i) → k ≡ Cap i → Seen m s w k t b
   object : (x q : ℕ) → Finds m s w x t b q → KindOf m t b q k → Seen m s w k t b
 
-seen : (m : List (List ℕ)) (s w : ℕ) (k : Kind) (t b n : ℕ) → StandsAs m (word s w) k t b n → Seen m s w k t b
+seen : (m : List (List ℕ)) (s w : ℕ) (k : Kind) (t b n : ℕ) → HasObject m (word s w) k t b n → Seen m s w k t b
 seen m s w Null t b n (x, h) = null x h refl
 seen m s w (Cap i) t b n (x, h) = cap x i h refl
 seen m s w (Struct d p) t b n (x, q, tag, h) = object x q h.finds (struct h.shape.kind (ap₂ Struct h.shape.data_words h.shape.pointers))
@@ -103,7 +103,7 @@ record IsElement (t' b' ds ps : ℕ) (k : Kind) (t b : ℕ) : Type 0 where
   segment : t ≡ t'
   start : b ≡ b'
 
-element_seen : (m : List (List ℕ)) (t' b' ds ps : ℕ) (k : Kind) (t b n : ℕ) → StandsAs m (element t' b' ds ps) k t b n
+element_seen : (m : List (List ℕ)) (t' b' ds ps : ℕ) (k : Kind) (t b n : ℕ) → HasObject m (element t' b' ds ps) k t b n
     → IsElement t' b' ds ps k t b
 element_seen m t' b' ds ps Null t b n h = absurd h
 element_seen m t' b' ds ps (Cap i) t b n h = absurd h
@@ -113,8 +113,8 @@ element_seen m t' b' ds ps (Scalars c x) t b n h = absurd h
 element_seen m t' b' ds ps (Pointers x) t b n h = absurd h
 element_seen m t' b' ds ps (Structs x d p) t b n h = absurd h
 
-one_stand : (m : List (List ℕ)) (a : Spot) (k k' : Kind) (t b n t' b' n' : ℕ) → StandsAs m a k t b n
-    → StandsAs m a k' t' b' n' → node_at m k t b ≡ node_at m k' t' b'
+one_stand : (m : List (List ℕ)) (a : Spot) (k k' : Kind) (t b n t' b' n' : ℕ) → HasObject m a k t b n
+    → HasObject m a k' t' b' n' → node_at m k t b ≡ node_at m k' t' b'
 one_stand m (word s w) k k' t b n t' b' n' h g = one_seen m s w k k' t b t' b' (seen m s w k t b n h) (seen m s w k' t' b' n' g)
 one_stand m (element u v ds ps) k k' t b n t' b' n' h g =
     let e = element_seen m u v ds ps k t b n h in
@@ -123,8 +123,8 @@ one_stand m (element u v ds ps) k k' t b n t' b' n' h g =
     ∙ ap₂ (λ (x y : ℕ). node_at m k' x y) (e.segment ∙ sym f.segment) (e.start ∙ sym f.start)
 
 -- The node at a path is one.
-pub one_node : (m : List (List ℕ)) (path : List Step) (k k' : Kind) (t b n t' b' n' : ℕ) → ArrivesAt m path k t b n
-    → ArrivesAt m path k' t' b' n' → kind_node k (offset_of m t b) ≡ kind_node k' (offset_of m t' b')
+pub one_node : (m : List (List ℕ)) (path : List Step) (k k' : Kind) (t b n t' b' n' : ℕ) → PathFinds m path k t b n
+    → PathFinds m path k' t' b' n' → kind_node k (offset_of m t b) ≡ kind_node k' (offset_of m t' b')
 one_node m path k k' t b n t' b' n' (l, a, c, h) (l', a', c', g) =
     let same : a ≡ a' = (one_coming m path l l' a a' c c').1 in
-    one_stand m a k k' t b n t' b' n' h (subst (λ (x : Spot). StandsAs m x k' t' b' n') (sym same) g)
+    one_stand m a k k' t b n t' b' n' h (subst (λ (x : Spot). HasObject m x k' t' b' n') (sym same) g)

@@ -4,7 +4,7 @@ use Rattle.std.proofs.Common.{Option, None, Some, arith, refl, subst, sym}
 use Rattle.std.proofs.lemmas.List.{append-nil}
 use Rattle.cap_spec.specs.Accepting.{IsWithin}
 use Rattle.cap_spec.specs.Getting.{AreOnPath}
-use Rattle.cap_spec.specs.Paths.{Comes, Spot, element, level_of, word}
+use Rattle.cap_spec.specs.Paths.{ReachesSpot, Spot, element, level_of, word}
 use Rattle.cap_spec.specs.Standing.{DenotesAt}
 use Rattle.cap_spec.specs.Tree.{Tree, part_at}
 use Rattle.cap_spec.specs.Verdicts.{CostOf}
@@ -28,7 +28,7 @@ record IsCosted (m : List (List ℕ)) (path : List Step) : Type 0 where
 
 -- one more step to a pointer word, which denotes a tree
 word_costed : (m : List (List ℕ)) (done : List Step) (step : Step) (level s w : ℕ) (v : Tree) → IsCosted m done
-    → Comes m (done ++ step ∷ []) level (word s w) → DenotesAt m (word s w) v → IsCosted m (done ++ step ∷ [])
+    → ReachesSpot m (done ++ step ∷ []) level (word s w) → DenotesAt m (word s w) v → IsCosted m (done ++ step ∷ [])
 word_costed m done step level s w v k next h =
     let own = own_cost m s w v h.0 h.1 h.2 in
     record {
@@ -41,7 +41,7 @@ word_costed m done step level s w v k next h =
 
 -- one more step to a spot that has a tree
 step_costed : (m : List (List ℕ)) (done : List Step) (step : Step) (level : ℕ) (b : Spot) (v : Tree) → IsCosted m done
-    → Comes m (done ++ step ∷ []) level b → DenotesAt m b v → IsCosted m (done ++ step ∷ [])
+    → ReachesSpot m (done ++ step ∷ []) level b → DenotesAt m b v → IsCosted m (done ++ step ∷ [])
 step_costed m done step level (word s w) v k next h = word_costed m done step level s w v k next h
 step_costed m done step level (element t b ds ps) v k next h =
     record {
@@ -54,12 +54,12 @@ step_costed m done step level (element t b ds ps) v k next h =
 
 -- one more step leads to a part of the tree, or nowhere
 data StepsOn (m : List (List ℕ)) (done : List Step) (step : Step) (rest : List Step) : Type 0 where
-  on : (level : ℕ) (b : Spot) (v : Tree) → Comes m (done ++ step ∷ []) level b → DenotesAt m b v
+  on : (level : ℕ) (b : Spot) (v : Tree) → ReachesSpot m (done ++ step ∷ []) level b → DenotesAt m b v
       → IsCosted m (done ++ step ∷ []) → StepsOn m done step rest
   over : IsCosted m (done ++ step ∷ rest) → StepsOn m done step rest
 
 steps_on : (m : List (List ℕ)) (done : List Step) (step : Step) (rest : List Step) (level : ℕ) (a : Spot) (u : Tree)
-    → Comes m done level a → DenotesAt m a u → IsCosted m done → StepsOn m done step rest
+    → ReachesSpot m done level a → DenotesAt m a u → IsCosted m done → StepsOn m done step rest
 steps_on m done step rest level a u c d k = by_part (part_at u step) refl
   where
     by_part : (o : Option Tree) → part_at u step ≡ o → StepsOn m done step rest
@@ -77,7 +77,7 @@ steps_on m done step rest level a u c d k = by_part (part_at u step) refl
         on (level + level_of p.0) p.0 v next p.2 (step_costed m done step (level + level_of p.0) p.0 v k next p.2)
 
 -- From a spot that has a tree each path goes on so.
-goes_on : (m : List (List ℕ)) (done rest : List Step) (level : ℕ) (a : Spot) (u : Tree) → Comes m done level a
+goes_on : (m : List (List ℕ)) (done rest : List Step) (level : ℕ) (a : Spot) (u : Tree) → ReachesSpot m done level a
     → DenotesAt m a u → IsCosted m done → IsCosted m (done ++ rest)
 goes_on m done [] level a u c d k = subst (λ (p : List Step). IsCosted m p) (sym (append-nil done)) k
 goes_on m done (step ∷ rest) level a u c d k = elim (steps_on m done step rest level a u c d k) [
@@ -94,7 +94,7 @@ path_charged m words depth (t, c, d, a) path =
     let f = formed m 0 0 t c d h in
     let root = lead_word m 0 0 f.k f.r f.leads in
     let own = own_cost m 0 0 t c d h in
-    let comes : Comes m [] 1 (word 0 0) = (root.0, 0, root.1, (refl, refl), refl) in
+    let comes : ReachesSpot m [] 1 (word 0 0) = (root.0, 0, root.1, (refl, refl), refl) in
     let first : IsCosted m [] =
     record {
       ways = [] ∷ [];

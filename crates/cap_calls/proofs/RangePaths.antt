@@ -2,7 +2,7 @@
 use Rattle.std.proofs.Common.{ℕ, zero, suc, ◌<◌, ◌≡◌, ◌++◌, ◌∷◌, List, [], Err, Ok, None, Option, Some, ap, arith, drop, get_or, length, refl, subst, sym, take}
 use Rattle.std.specs.Prelude.{Result}
 use Rattle.cap_frame.specs.declared.segments.Segments as segments
-use Rattle.cap_spec.specs.Arriving.{ArrivesAt}
+use Rattle.cap_spec.specs.Arriving.{PathFinds}
 use Rattle.cap_spec.specs.declared.Kind.{Kind}
 use Rattle.cap_spec.specs.declared.Step.{Step}
 use Rattle.cap_spec.specs.declared.StrictRefusal.{StrictRefusal}
@@ -36,7 +36,7 @@ module _ {M : Type 0} {g : segments.Ghosts M} (demands : Demands) (m : List (Lis
     (r : Result (Option (View M g)) StrictRefusal) where
   pub given_node : (o : Option (View M g)) (v : View M g) → r ≡ Ok o → o ≡ Some v → IsGiven demands m words depth path r
       → MeetsOnPath demands m words depth path
-      × ArrivesAt m path v.found.kind v.found.place.segment v.found.place.start v.found.place.words
+      × PathFinds m path v.found.kind v.found.place.segment v.found.place.start v.found.place.words
   given_node o v e f h =
       let k : IsGiven demands m words depth path (Ok (Some v)) =
       subst (λ (x : Option (View M g)). IsGiven demands m words depth path (Ok x)) f
@@ -44,7 +44,7 @@ module _ {M : Type 0} {g : segments.Ghosts M} (demands : Demands) (m : List (Lis
       (k.meets, k.some)
 
   pub given_nothing : (o : Option (View M g)) → r ≡ Ok o → o ≡ None → IsGiven demands m words depth path r
-      → MeetsOnPath demands m words depth path × ((k : Kind) (t b n : ℕ) → ArrivesAt m path k t b n → ⊥)
+      → MeetsOnPath demands m words depth path × ((k : Kind) (t b n : ℕ) → PathFinds m path k t b n → ⊥)
   given_nothing o e f h =
       let k : IsGiven {M = M} {g = g} demands m words depth path (Ok None) =
       subst (λ (x : Option (View M g)). IsGiven demands m words depth path (Ok x)) f

@@ -1,7 +1,7 @@
 -- What the call for the node at a path returns and reports, from the bytes and the path alone (profile).
 use Rattle.std.specs.Prelude.{ℕ, ◌≡◌, List, slice_set}
 use Rattle.std.specs.List.{AllByRecursion}
-use Rattle.cap_spec.specs.Arriving.{ArrivesAt}
+use Rattle.cap_spec.specs.Arriving.{PathFinds}
 use Rattle.cap_spec.specs.PathTexts.{IsBadAt, IsStep, path_text}
 use Rattle.cap_spec.specs.declared.Kind.{Kind}
 use Rattle.cap_spec.specs.declared.Step.{Step}
@@ -36,10 +36,10 @@ pub data Gets (path : List Step) (node : CallNode) (demands : Demands) (m : List
   no_meeting : (refusal : StrictRefusal) → IsPathFault demands m words depth path refusal → f ≡ refused_found refusal
       → node ≡ none_node
       → Gets path node demands m words depth f
-  no_node : MeetsOnPath demands m words depth path → ((k : Kind) (t b n : ℕ) → ¬ ArrivesAt m path k t b n)
+  no_node : MeetsOnPath demands m words depth path → ((k : Kind) (t b n : ℕ) → ¬ PathFinds m path k t b n)
       → f ≡ path_found NoNode → node ≡ none_node
       → Gets path node demands m words depth f
-  a_node : (k : Kind) (t b n : ℕ) → MeetsOnPath demands m words depth path → ArrivesAt m path k t b n
+  a_node : (k : Kind) (t b n : ℕ) → MeetsOnPath demands m words depth path → PathFinds m path k t b n
       → f ≡ path_found Good → node ≡ kind_node k (offset_of m t b)
       → Gets path node demands m words depth f
 

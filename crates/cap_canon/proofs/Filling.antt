@@ -11,7 +11,7 @@ use Rattle.cap_spec.specs.Pointers.{element_bits, list_words}
 use Rattle.std.proofs.lemmas.List.FromFn.{length-map-range_with_len}
 use Rattle.cap_spec.specs.Scalars.{scalar_words}
 use Rattle.cap_spec.specs.Canonical.{struct_word}
-use Rattle.cap_spec.specs.Placing.{StandAt}
+use Rattle.cap_spec.specs.Placing.{HasWordsAt}
 use Rattle.cap_spec.proofs.Canonical.Placing.{stand_word}
 use Rattle.cap_spec.proofs.Trees.ReadingBack.{length-scalar_words}
 use Rattle.cap_spec.proofs.Trees.DenotedTrees.{range_length}
@@ -57,7 +57,7 @@ fills_join whole b c xs ys due next e f g k lt = go (sides k (length xs))
     go (inr l) = second l (g (k - length xs) (omega (arith, lt, length-append xs ys, l)))
 
 -- words that stand there
-pub fills_stand : (whole : List ℕ) (b : ℕ) (xs : List ℕ) → StandAt whole b xs → Fills whole b [] xs
+pub fills_stand : (whole : List ℕ) (b : ℕ) (xs : List ℕ) → HasWordsAt whole b xs → Fills whole b [] xs
 fills_stand whole b xs h k lt = inr (sym (stand_word whole b xs h k lt))
 
 -- pointer words in a row, whatever they hold
@@ -80,7 +80,7 @@ elements_fill m whole deep t b c ds ps d p (more (struct ws us) es) hd hp h a at
     let x : length (words_from m t b d) ≡ d = range_length m t b d (omega (arith, hd, h, e)) in
     let y : length (words_from m t (b + ds) p) ≡ p = range_length m t (b + ds) p (omega (arith, hp, h, e)) in
     let l = length-append (words_from m t b d) (words_from m t (b + ds) p) in
-    let own : Fills whole c [] (words_from m t b d) = fills_stand whole c (words_from m t b d) (subst (λ xs. StandAt whole c xs) a.0 at.0) in
+    let own : Fills whole c [] (words_from m t b d) = fills_stand whole c (words_from m t b d) (subst (λ xs. HasWordsAt whole c xs) a.0 at.0) in
     let row : Fills whole (c + d) (slots (c + d) us) (words_from m t (b + ds) p) = fills_slots whole (c + d) us (words_from m t (b + ds) p) (y ∙ sym a.1) in
     fills_join whole c (c + d + p) (words_from m t b d ++ words_from m t (b + ds) p) (elements_from m t (b + ds + ps) ds ps d p (tree_count es))
     (slots (c + d) us) (element_slots d p (c + d + p) es)
@@ -116,7 +116,7 @@ struct_appended m deep s w u x old new h e = subst (λ (v : Tree). OwnAppended o
       many = let a = length-append front row in omega (arith, a, y, z, l, h.many);
       fill = λ whole at.
           fills_join whole (length old) (length old + length h.words) front row [] (slots (length old + length h.words) h.children) (omega (arith, y, l))
-          (fills_stand whole (length old) front (subst (λ xs. StandAt whole (length old) xs) h.data_words at))
+          (fills_stand whole (length old) front (subst (λ xs. HasWordsAt whole (length old) xs) h.data_words at))
           (fills_slots whole (length old + length h.words) h.children row (z ∙ sym h.many));
     }
 

@@ -11,7 +11,7 @@ use Rattle.cap_spec.specs.Denoting.{AreElements, DenoteEach, Denotes, Finds, ele
 use Rattle.cap_spec.specs.Following.{IsComposite, Lead, Leads, Says, extra, near, one_pad, to_cap, to_null, to_object, two_pads}
 use Rattle.cap_spec.specs.Messages.{HasWord, segment_of}
 use Rattle.cap_spec.specs.Paths.{Costs, Reaches}
-use Rattle.cap_spec.specs.Placing.{StandAt}
+use Rattle.cap_spec.specs.Placing.{HasWordsAt}
 use Rattle.cap_spec.specs.Pointers.{code, data_size, element_bits, extent, kind, list_size, list_words, middle, pointer_size}
 use Rattle.cap_spec.specs.Scalars.{scalar_words}
 use Rattle.cap_spec.specs.Strict.{IsStrict}
@@ -160,7 +160,7 @@ pointers_own m w end k t b q tag words charge n s f has x c deep h =
 -- a list of values
 pub values_own : (m : List (List ℕ)) (w end k t b q tag words charge c n : ℕ) → MayStand m w end
     → FindsObject m 0 w k t b q tag words charge (shape.Scalars c n) → HasWord m 0 w (list_word (end - w - 1) c n)
-    → StandAt (segment_of m 0) end (scalar_words c (values_of m 0 end c n)) → HasOwn m w end (end + words) q tag t b
+    → HasWordsAt (segment_of m 0) end (scalar_words c (values_of m 0 end c n)) → HasOwn m w end (end + words) q tag t b
 values_own m w end k t b q tag words charge c n s f has stand x cost deep h =
     let o = scalars_object m 0 w x cost deep c n h f in
     let many : length (values_of m t b c n) ≡ n = length-map-range_with_len (value_at (segment_of m t) b (element_bits c)) 0 n in
@@ -617,7 +617,7 @@ module _ (m : List (List ℕ)) (w word end cost : ℕ) (l : LeadsToEnd m w word 
       (words ∙ extent_scalars word (code word) k refl few, inside)
 
   pub values_next : word < 2 ^ 64 → kind word ≡ 1 → 0 < code word → code word < 6
-      → StandAt (segment_of m 0) end (scalar_words (code word) (values_of m 0 end (code word) (list_size word))) → IsNextInOrder m w end (end + cost)
+      → HasWordsAt (segment_of m 0) end (scalar_words (code word) (values_of m 0 end (code word) (list_size word))) → IsNextInOrder m w end (end + cost)
   values_next small k some few stand =
       let c = code word in
       let n = list_size word in
@@ -629,7 +629,7 @@ module _ (m : List (List ℕ)) (w word end cost : ℕ) (l : LeadsToEnd m w word 
       (subst (HasWord m 0 w) same l.has) stand)
 
   pub values_differ : kind word ≡ 1 → 0 < code word → code word < 6
-      → (StandAt (segment_of m 0) end (scalar_words (code word) (values_of m 0 end (code word) (list_size word))) → ⊥) → NoCopyHas m w end
+      → (HasWordsAt (segment_of m 0) end (scalar_words (code word) (values_of m 0 end (code word) (list_size word))) → ⊥) → NoCopyHas m w end
   values_differ k some few stand x charge deep h lt small pointed own due laid =
       let o = scalars_object m 0 w x charge deep (code word) (list_size word) h
       (object_of 0 (shape.Scalars (code word) (list_size word)) (inr (inr (k, some, few, refl))) (list_some k)

@@ -4,7 +4,7 @@ use Rattle.std.proofs.lemmas.List.{append_assoc}
 use Rattle.std.specs.Prelude.{Some, slice_get}
 use Rattle.cap_spec.specs.Tree.{Tree, null, cap, struct, scalars, pointers, structs, Trees, none, more, tree_count}
 use Rattle.cap_spec.specs.Canonical.{struct_word, size, sizes, element_sizes, contents, element_contents, pointer_words, element_words}
-use Rattle.cap_spec.specs.Placing.{StandAt}
+use Rattle.cap_spec.specs.Placing.{HasWordsAt}
 use Rattle.cap_spec.proofs.Canonical.ElementPlaces.{children_begin, element_end, rest_begin}
 use Rattle.cap_spec.proofs.Canonical.Placing.{stand_front, stand_back}
 use Rattle.cap_spec.proofs.Canonical.TreeMeasures.{Fits, FitElements}
@@ -14,15 +14,15 @@ use Rattle.cap_canon.proofs.Laying.{stand_join, laid_inside, row_due, due_row}
 
 -- elements in a row, and the contents behind them
 pub elements_due : (words : List ℕ) (d p b c after : ℕ) (es : Trees) (due : List Due) → c ≡ b + tree_count es * (d + p) + after → FitElements d p es
-    → StandAt words b (element_words (d + p) after es) → StandAt words c (element_contents es) → Laid words (c + element_sizes es) due
+    → HasWordsAt words b (element_words (d + p) after es) → HasWordsAt words c (element_contents es) → Laid words (c + element_sizes es) due
     → DataAt words b d p es × Laid words c (element_slots d p b es ++ due)
 elements_due words d p b c after none due e f sp sc l = let i : c + 0 ≡ c = omega arith in (sp, subst (λ n. Laid words n due) i l)
 elements_due words d p b c after (more (struct ws ts) es) due e f sp sc l =
     let pw = pointer_words (tree_count es * (d + p) + after) ts in
     let ew = element_words (d + p) (after + sizes ts) es in
-    let front : StandAt words b (ws ++ pw) = stand_front words b (ws ++ pw) ew sp in
-    let own : StandAt words b ws = stand_front words b ws pw front in
-    let below : StandAt words (b + d) pw = stand_back words b (b + d) ws pw (ap (λ n. b + n) (sym f.0)) front in
+    let front : HasWordsAt words b (ws ++ pw) = stand_front words b (ws ++ pw) ew sp in
+    let own : HasWordsAt words b ws = stand_front words b ws pw front in
+    let below : HasWordsAt words (b + d) pw = stand_back words b (b + d) ws pw (ap (λ n. b + n) (sym f.0)) front in
     let i : c + element_sizes (more (struct ws ts) es) ≡ c + sizes ts + element_sizes es = omega arith in
     let r = elements_due words d p (b + d + p) (c + sizes ts) (after + sizes ts) es due
     (rest_begin c b (tree_count es) d p after (sizes ts) e) f.3
@@ -37,8 +37,8 @@ elements_due words d p b c after (more _ es) due e f sp sc l = absurd f
 
 -- the parts of elements that are laid
 pub record ElementsLaid (words : List ℕ) (each b c after : ℕ) (es : Trees) (due : List Due) : Type 0 where
-  pub row : StandAt words b (element_words each after es)
-  pub below : StandAt words c (element_contents es)
+  pub row : HasWordsAt words b (element_words each after es)
+  pub below : HasWordsAt words c (element_contents es)
   pub rest : Laid words (c + element_sizes es) due
 
 pub due_elements : (words : List ℕ) (d p b c after : ℕ) (es : Trees) (due : List Due) → c ≡ b + tree_count es * (d + p) + after → FitElements d p es
@@ -54,7 +54,7 @@ due_elements words d p b c after (more (struct ws ts) es) due e f da l =
     let r = due_elements words d p (b + d + p) (c + sizes ts) (after + sizes ts) es due
     (rest_begin c b (tree_count es) d p after (sizes ts) e) f.3 da.1 first.rest in
     let i : c + sizes ts + element_sizes es ≡ c + element_sizes (more (struct ws ts) es) = omega arith in
-    let own : StandAt words b (ws ++ pw) = stand_join words b (b + d) ws pw (ap (λ n. b + n) (sym f.0)) da.0 first.row in record {
+    let own : HasWordsAt words b (ws ++ pw) = stand_join words b (b + d) ws pw (ap (λ n. b + n) (sym f.0)) da.0 first.row in record {
       row = stand_join words b (b + d + p) (ws ++ pw) ew (element_end b d p ws pw (tree_count ts) f.0
           (length-pointer_words (tree_count es * (d + p) + after) ts) f.1) own r.row;
       below = stand_join words c (c + sizes ts) (contents ts) (element_contents es) (ap (λ n. c + n) (sym (length-contents ts f.2))) first.below r.below;
@@ -65,14 +65,14 @@ due_elements words d p b c after (more _ es) due e f da l = absurd f
 -- A struct: its pointer, its data words, and then its children are due.
 pub struct_laid : (words : List ℕ) (end slot : ℕ) (ws : List ℕ) (ts : Trees) (due : List Due) → Fits (struct ws ts)
     → Laid words end (record { slot = slot; tree = struct ws ts } ∷ due)
-    ↔ (IsPointed words end slot (struct ws ts) × StandAt words end ws × Laid words (end + length ws + tree_count ts) (slots (end + length ws) ts ++ due))
+    ↔ (IsPointed words end slot (struct ws ts) × HasWordsAt words end ws × Laid words (end + length ws + tree_count ts) (slots (end + length ws) ts ++ due))
 struct_laid words end slot ws ts due f = (to, from)
   where
     to : Laid words end (record { slot = slot; tree = struct ws ts } ∷ due)
-        → IsPointed words end slot (struct ws ts) × StandAt words end ws × Laid words (end + length ws + tree_count ts) (slots (end + length ws) ts ++ due)
+        → IsPointed words end slot (struct ws ts) × HasWordsAt words end ws × Laid words (end + length ws + tree_count ts) (slots (end + length ws) ts ++ due)
     to (offset, e, p, s, l) =
         let pw = pointer_words 0 ts in
-        let front : StandAt words end (ws ++ pw) = stand_front words end (ws ++ pw) (contents ts) s in
+        let front : HasWordsAt words end (ws ++ pw) = stand_front words end (ws ++ pw) (contents ts) s in
         let i : end + size (struct ws ts) ≡ end + length ws + tree_count ts + sizes ts = omega arith in (
           (offset, e, p),
           stand_front words end ws pw front,
@@ -82,7 +82,7 @@ struct_laid words end slot ws ts due f = (to, from)
               (subst (λ n. Laid words n due) i l),
         )
 
-    from : IsPointed words end slot (struct ws ts) × StandAt words end ws × Laid words (end + length ws + tree_count ts) (slots (end + length ws) ts ++ due)
+    from : IsPointed words end slot (struct ws ts) × HasWordsAt words end ws × Laid words (end + length ws + tree_count ts) (slots (end + length ws) ts ++ due)
         → Laid words end (record { slot = slot; tree = struct ws ts } ∷ due)
     from ((offset, e, p), own, l) =
         let pw = pointer_words 0 ts in

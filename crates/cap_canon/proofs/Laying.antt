@@ -4,14 +4,14 @@ use Rattle.std.specs.Prelude.{Some, slice_get}
 use Rattle.cap_spec.specs.Tree.{Trees, none, more, tree_count}
 use Rattle.cap_spec.specs.Canonical.{pointer_to, size, sizes, content, contents, pointer_words}
 use Rattle.cap_canon.specs.Laying.{Due, Laid, slots}
-use Rattle.cap_spec.specs.Placing.{StandAt}
+use Rattle.cap_spec.specs.Placing.{HasWordsAt}
 use Rattle.cap_spec.proofs.Canonical.Placing.{stand_front, stand_back, stand_inside}
 use Rattle.cap_spec.proofs.Canonical.TreeMeasures.{FitEach}
 use Rattle.cap_spec.proofs.Canonical.Sizes.{length-content}
 
 -- parts that stand one behind the other stand joined
-pub stand_join : (words : List ℕ) (b c : ℕ) (xs ys : List ℕ) → c ≡ b + length xs → StandAt words b xs → StandAt words c ys → StandAt words b (xs ++ ys)
-stand_join words b c [] ys e h k = let i : c ≡ b = omega arith in subst (λ n. StandAt words n ys) i k
+pub stand_join : (words : List ℕ) (b c : ℕ) (xs ys : List ℕ) → c ≡ b + length xs → HasWordsAt words b xs → HasWordsAt words c ys → HasWordsAt words b (xs ++ ys)
+stand_join words b c [] ys e h k = let i : c ≡ b = omega arith in subst (λ n. HasWordsAt words n ys) i k
 stand_join words b c (x ∷ xs) ys e h k = (h.0, stand_join words (b + 1) c xs ys (omega arith) h.1 k)
 
 -- what is laid lies inside
@@ -21,7 +21,7 @@ laid_inside words end (x ∷ due) (offset, e, p, s, rest) = let l = stand_inside
 
 -- pointer words in a row, and the contents behind them
 pub row_due : (words : List ℕ) (a c after : ℕ) (ts : Trees) (due : List Due) → c ≡ a + tree_count ts + after → FitEach ts
-    → StandAt words a (pointer_words after ts) → StandAt words c (contents ts) → Laid words (c + sizes ts) due → Laid words c (slots a ts ++ due)
+    → HasWordsAt words a (pointer_words after ts) → HasWordsAt words c (contents ts) → Laid words (c + sizes ts) due → Laid words c (slots a ts ++ due)
 row_due words a c after none due e f sp sc l = let i : c + 0 ≡ c = omega arith in subst (λ n. Laid words n due) i l
 row_due words a c after (more t ts) due e f sp sc l =
     let i : c + sizes (more t ts) ≡ c + size t + sizes ts = omega arith in (
@@ -36,8 +36,8 @@ row_due words a c after (more t ts) due e f sp sc l =
 
 -- the parts of a row that is laid
 pub record RowLaid (words : List ℕ) (a c after : ℕ) (ts : Trees) (due : List Due) : Type 0 where
-  pub row : StandAt words a (pointer_words after ts)
-  pub below : StandAt words c (contents ts)
+  pub row : HasWordsAt words a (pointer_words after ts)
+  pub below : HasWordsAt words c (contents ts)
   pub rest : Laid words (c + sizes ts) due
 
 pub due_row : (words : List ℕ) (a c after : ℕ) (ts : Trees) (due : List Due) → c ≡ a + tree_count ts + after → FitEach ts

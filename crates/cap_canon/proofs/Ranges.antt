@@ -11,7 +11,7 @@ use Rattle.cap_spec.specs.Messages.{HasWord, segment_of}
 use Rattle.cap_spec.specs.Pointers.{element_bits, list_words}
 use Rattle.cap_spec.specs.Denoting.{words_from, values_of, value_at}
 use Rattle.cap_spec.specs.Scalars.{scalar_words}
-use Rattle.cap_spec.specs.Placing.{StandAt}
+use Rattle.cap_spec.specs.Placing.{HasWordsAt}
 use Rattle.cap_spec.proofs.Frames.Messages.{HasWord-at}
 use Rattle.cap_spec.proofs.Canonical.Placing.{rest_at}
 use Rattle.cap_spec.proofs.Trees.ReadingBack.{length-scalar_words}
@@ -60,14 +60,14 @@ all_front P [] ys a = tt
 all_front P (x ∷ xs) ys a = (a.0, all_front P xs ys a.1)
 
 -- a range stands in its segment
-pub range_stands : (m : List (List ℕ)) (t b n : ℕ) → b + n ≤ length (segment_of m t) → StandAt (segment_of m t) b (words_from m t b n)
+pub range_stands : (m : List (List ℕ)) (t b n : ℕ) → b + n ≤ length (segment_of m t) → HasWordsAt (segment_of m t) b (words_from m t b n)
 range_stands m t b zero h = let e : b + 0 - b ≡ 0 = omega arith in rw e (omega (arith, h))
 range_stands m t b (suc n) h =
     let x = HasWord-at m t b (omega (arith, h)) in
-    let r : StandAt (segment_of m t) (b + 1) (words_from m t (b + 1) n) = range_stands m t (b + 1) n (omega (arith, h)) in
+    let r : HasWordsAt (segment_of m t) (b + 1) (words_from m t (b + 1) n) = range_stands m t (b + 1) n (omega (arith, h)) in
     let e : words_from m t b (suc n) ≡ x.0 ∷ words_from m t (b + 1) n = range_is m t b (suc n)
     ∙ (ap (take (suc n)) (rest_at (segment_of m t) b x.0 x.1) ∙ ap (λ xs. x.0 ∷ xs) (sym (range_is m t (b + 1) n))) in
-    subst (λ xs. StandAt (segment_of m t) b xs) (sym e) (x.1, r)
+    subst (λ xs. HasWordsAt (segment_of m t) b xs) (sym e) (x.1, r)
 
 -- elements have the words that are left of each
 pub length-elements_from : (m : List (List ℕ)) (t b ds ps d p n : ℕ) → d ≤ ds → p ≤ ps → b + n * (ds + ps) ≤ length (segment_of m t)

@@ -7,7 +7,7 @@ use Rattle.cap_spec.specs.Messages.{HasWord, segment_of}
 use Rattle.cap_spec.specs.Pointers.{element_bits, list_words}
 use Rattle.cap_spec.specs.Denoting.{value_at, values_of}
 use Rattle.cap_spec.specs.Scalars.{scalar_words}
-use Rattle.cap_spec.specs.Placing.{StandAt}
+use Rattle.cap_spec.specs.Placing.{HasWordsAt}
 use Rattle.cap_spec.proofs.Trees.ReadingBack.{length-scalar_words}
 use Rattle.cap_canon.specs.Values.{used_bits}
 use Rattle.cap_canon.proofs.Ranges.{whole_field}
@@ -46,12 +46,12 @@ rest_words (suc (suc (suc (suc (suc (suc c)))))) n lt e = absurd (omega (arith, 
 -- A list stands there where no bits are over.
 pub values_full : (m : List (List ℕ)) (t b c n words : ℕ) → c < 6 → words ≡ list_words c n → b + words ≤ length (segment_of m t)
     → ((k : ℕ) → k < words → (x : ℕ) × HasWord m t (b + k) x × IsWord x) → (element_bits c * n) % 64 ≡ 0
-    → StandAt (segment_of m t) b (scalar_words c (values_of m t b c n))
+    → HasWordsAt (segment_of m t) b (scalar_words c (values_of m t b c n))
 values_full m t b c n zero lt e inside h rest =
     let vs = values_of m t b c n in
     let many : length vs ≡ n = length-map-range_with_len (value_at (segment_of m t) b (element_bits c)) 0 n in
     let none : length (scalar_words c vs) ≡ 0 = length-scalar_words c vs ∙ (ap (list_words c) many ∙ sym e) in
-    subst (λ xs. StandAt (segment_of m t) b xs) (sym (nil_from_length (scalar_words c vs) none)) (omega (arith, inside))
+    subst (λ xs. HasWordsAt (segment_of m t) b xs) (sym (nil_from_length (scalar_words c vs) none)) (omega (arith, inside))
 values_full m t b c n (suc before) lt e inside h rest =
     let some : list_words c n ≡ before + 1 = omega (arith, e) in
     let last = h before (omega arith) in

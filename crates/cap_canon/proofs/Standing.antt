@@ -13,7 +13,7 @@ use Rattle.cap_spec.specs.Tree.{Tree, null, cap, struct, scalars, Trees, none, m
 use Rattle.cap_spec.specs.Denoting.{Finds, words_from, value_at, values_of}
 use Rattle.cap_spec.specs.Canonical.{pointer_to, struct_word, list_word}
 use Rattle.cap_spec.specs.Scalars.{scalar_words}
-use Rattle.cap_spec.specs.Placing.{StandAt}
+use Rattle.cap_spec.specs.Placing.{HasWordsAt}
 use Rattle.std.proofs.lemmas.List.FromFn.{length-map-range_with_len}
 use Rattle.cap_spec.proofs.Bytes.Lists.{all_append}
 use Rattle.cap_spec.proofs.Frames.Messages.{one_word}
@@ -43,22 +43,22 @@ range_words m t b (suc n) h =
 -- a list of values stands there where the last word has no bits behind the last value
 pub values_stand : (m : List (List ℕ)) (t b c n before x : ℕ) → c < 6 → list_words c n ≡ before + 1 → b + before < length (segment_of m t)
     → AllByRecursion IsWord (words_from m t b before) → HasWord m t (b + before) x → x ≡ field x 0 (used_bits c n before)
-    → StandAt (segment_of m t) b (scalar_words c (values_of m t b c n))
+    → HasWordsAt (segment_of m t) b (scalar_words c (values_of m t b c n))
 values_stand m t b c n before x lt e inside words last same =
     let laid = values_laid m t b c n before x lt e inside words last in
     let all : words_from m t b before ++ x ∷ [] ≡ scalar_words c (values_of m t b c n) = ap (λ y. words_from m t b before ++ y ∷ []) same ∙ sym laid in
-    let whole : StandAt (segment_of m t) b (words_from m t b (before + 1)) = range_stands m t b (before + 1) (omega (arith, inside)) in
-    subst (λ xs. StandAt (segment_of m t) b xs) (range_more m t b before x last ∙ all) whole
+    let whole : HasWordsAt (segment_of m t) b (words_from m t b (before + 1)) = range_stands m t b (before + 1) (omega (arith, inside)) in
+    subst (λ xs. HasWordsAt (segment_of m t) b xs) (range_more m t b before x last ∙ all) whole
 
 pub stand_values : (m : List (List ℕ)) (t b c n before x : ℕ) → c < 6 → list_words c n ≡ before + 1 → b + before < length (segment_of m t)
-    → AllByRecursion IsWord (words_from m t b before) → HasWord m t (b + before) x → StandAt (segment_of m t) b (scalar_words c (values_of m t b c n))
+    → AllByRecursion IsWord (words_from m t b before) → HasWord m t (b + before) x → HasWordsAt (segment_of m t) b (scalar_words c (values_of m t b c n))
     → x ≡ field x 0 (used_bits c n before)
 stand_values m t b c n before x lt e inside words last st =
     let laid = values_laid m t b c n before x lt e inside words last in
-    let there : StandAt (segment_of m t) b (words_from m t b before ++ field x 0 (used_bits c n before) ∷ []) =
-    subst (λ xs. StandAt (segment_of m t) b xs) laid st in
+    let there : HasWordsAt (segment_of m t) b (words_from m t b before ++ field x 0 (used_bits c n before) ∷ []) =
+    subst (λ xs. HasWordsAt (segment_of m t) b xs) laid st in
     let l : length (words_from m t b before) ≡ before = range_length m t b before (omega (arith, inside)) in
-    let back : StandAt (segment_of m t) (b + before) (field x 0 (used_bits c n before) ∷ []) =
+    let back : HasWordsAt (segment_of m t) (b + before) (field x 0 (used_bits c n before) ∷ []) =
     stand_back (segment_of m t) b (b + before) (words_from m t b before) (field x 0 (used_bits c n before) ∷ []) (omega (arith, l)) there in
     one_word m t (b + before) x (field x 0 (used_bits c n before)) last back.0
 
@@ -113,7 +113,7 @@ struct_place m deep slot end u x h lt small le w = subst (λ (v : Tree). StructP
         (((length h.words + tree_count h.children == 0) ≡ false) × (length h.words + tree_count h.children ≡ 0 → ⊥))
         → StructPlace m (struct h.words h.children) x end
     go (inl z) = record {
-      own = subst (λ xs. StandAt (segment_of m 0) end xs) (sym (nil_from_length h.words (omega (arith, z.1)))) le;
+      own = subst (λ xs. HasWordsAt (segment_of m 0) end xs) (sym (nil_from_length h.words (omega (arith, z.1)))) le;
       inside = omega (arith, z.1, le);
       place = λ some. absurd (omega (arith, some, z.1, h.many));
     }
@@ -127,7 +127,7 @@ struct_place m deep slot end u x h lt small le w = subst (λ (v : Tree). StructP
         let seg : length (segment_of m x.segment) ≡ length (segment_of m 0) = ap (λ s. length (segment_of m s)) r.0 in
         let there : words_from m 0 end x.data_left ≡ h.words = ap (λ s. words_from m s end x.data_left) (sym r.0)
         ∙ (ap (λ a. words_from m x.segment a x.data_left) (sym start) ∙ sym h.data_words) in record {
-          own = subst (λ xs. StandAt (segment_of m 0) end xs) there (range_stands m 0 end x.data_left (omega (arith, h.found.inside, h.fewer, start, seg)));
+          own = subst (λ xs. HasWordsAt (segment_of m 0) end xs) there (range_stands m 0 end x.data_left (omega (arith, h.found.inside, h.fewer, start, seg)));
           inside = omega (arith, l, h.many, h.found.inside, dw, pw, start, seg);
           place = λ some. (r.0, omega (arith, start, dw));
         }
@@ -175,7 +175,7 @@ elements_at : (m : List (List ℕ)) (deep b d p : ℕ) (es : Trees) → AreEleme
 elements_at m deep b d p none a h = omega (arith, h)
 elements_at m deep b d p (more (struct ws us) es) a h =
     let e : suc (tree_count es) * (d + p) ≡ d + p + tree_count es * (d + p) = omega arith in (
-      subst (λ xs. StandAt (segment_of m 0) b xs) (sym a.0) (range_stands m 0 b d (omega (arith, h, e))),
+      subst (λ xs. HasWordsAt (segment_of m 0) b xs) (sym a.0) (range_stands m 0 b d (omega (arith, h, e))),
       elements_at m deep (b + d + p) d p es a.3 (omega (arith, h, e)),
     )
 elements_at m deep b d p (more _ es) a h = absurd a

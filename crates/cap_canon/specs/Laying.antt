@@ -4,7 +4,7 @@ use Rattle.cap_spec.specs.Pointers.{list_words}
 use Rattle.cap_spec.specs.Tree.{Tree, null, cap, struct, scalars, pointers, structs, Trees, none, more, tree_count}
 use Rattle.cap_spec.specs.Canonical.{pointer_to, struct_word, size, content}
 use Rattle.cap_spec.specs.Scalars.{scalar_words}
-use Rattle.cap_spec.specs.Placing.{StandAt}
+use Rattle.cap_spec.specs.Placing.{HasWordsAt}
 
 -- a pointer word of the copy, and the trimmed tree that it leads to
 pub record Due : Type 0 where
@@ -16,7 +16,7 @@ pub record Due : Type 0 where
 abbrev pub Laid : List ℕ → ℕ → List Due → Type 0
 Laid words end [] = end ≡ length words
 Laid words end (x ∷ due) =
-    (offset : ℕ) × (end ≡ x.slot + 1 + offset) × (slice_get words x.slot ≡ Some (pointer_to offset x.tree)) × StandAt words end (content x.tree)
+    (offset : ℕ) × (end ≡ x.slot + 1 + offset) × (slice_get words x.slot ≡ Some (pointer_to offset x.tree)) × HasWordsAt words end (content x.tree)
     × Laid words (end + size x.tree) due
 
 -- pointer words in a row
@@ -61,15 +61,15 @@ AreBefore end (x ∷ due) = (x.slot < end) × AreBefore end due
 -- the data words of elements are in their places
 abbrev pub DataAt : List ℕ → ℕ → ℕ → ℕ → Trees → Type 0
 DataAt words b d p none = b ≤ length words
-DataAt words b d p (more (struct ws ts) es) = StandAt words b ws × DataAt words (b + d + p) d p es
+DataAt words b d p (more (struct ws ts) es) = HasWordsAt words b ws × DataAt words (b + d + p) d p es
 DataAt words b d p (more t es) = ⊥
 
 -- a tree's own words that aren't pointers are there from end on
 abbrev pub OwnAt : List ℕ → ℕ → Tree → Type 0
 OwnAt words end null = ⊤
 OwnAt words end (cap i) = ⊤
-OwnAt words end (struct ws ts) = StandAt words end ws
-OwnAt words end (scalars c vs) = StandAt words end (scalar_words c vs)
+OwnAt words end (struct ws ts) = HasWordsAt words end ws
+OwnAt words end (scalars c vs) = HasWordsAt words end (scalar_words c vs)
 OwnAt words end (pointers ts) = ⊤
 OwnAt words end (structs d p es) = (slice_get words end ≡ Some (struct_word (tree_count es) d p)) × DataAt words (end + 1) d p es
 

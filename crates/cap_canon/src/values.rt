@@ -2,7 +2,7 @@
 
 ghost use Rattle.cap_spec.specs.Denoting.{values_of};
 ghost use Rattle.cap_spec.specs.Messages.{segment_of};
-ghost use Rattle.cap_spec.specs.Placing.{StandAt};
+ghost use Rattle.cap_spec.specs.Placing.{HasWordsAt};
 ghost use Rattle.cap_spec.specs.Pointers.{list_words};
 ghost use Rattle.cap_spec.specs.Scalars.{scalar_words};
 ghost use Rattle.std.specs.Prelude.{◌+◌, ◌<◌, ◌↔◌, ◌≡◌, ◌≤◌, IsTrue, length};
@@ -25,7 +25,7 @@ pub(crate) fn ends_with_values<M: Segments>(
     requires inside { start + words ≤ length (segment_of (M.segments message.now) 0) }
     requires code { code < 6 }
     requires words { words ≡ list_words code count }
-    ensures { IsTrue result ↔ StandAt (segment_of (M.segments message.now) 0) start
+    ensures { IsTrue result ↔ HasWordsAt (segment_of (M.segments message.now) 0) start
         (scalar_words code (values_of (M.segments message.now) 0 start code count)) }
 {
     read_range(message, 0, start, words);

@@ -5,7 +5,7 @@ use Rattle.cap_spec.specs.Lists.{IsOneOf}
 use Rattle.cap_spec.specs.Faults.{AreShallow, IsFirstReason, IsRefused, is_deep, is_past}
 use Rattle.cap_spec.specs.Following.{near}
 use Rattle.cap_spec.specs.Denoting.{Finds}
-use Rattle.cap_spec.specs.Paths.{Before, Costs, Goes, IsTour, Reaches, Rises, Spot, Walks, word}
+use Rattle.cap_spec.specs.Paths.{Before, Costs, StepsTo, IsTour, Reaches, Rises, Spot, PathLeads, word}
 use Rattle.cap_spec.specs.Verdicts.{CostOf}
 use Rattle.cap_spec.specs.declared.Reason.{Reason}
 use Rattle.cap_spec.specs.declared.Reason.TheVariants.{DepthLimit, WordLimit}
@@ -34,7 +34,7 @@ length-around zero = refl
 length-around (suc n) = let e = length-around n in omega (arith, e)
 
 -- a step leads around
-goes_around : (step : Step) (spot : Spot) → Goes circle (word 0 0) step spot → (step ≡ Ptr 0) × (spot ≡ word 0 0)
+goes_around : (step : Step) (spot : Spot) → StepsTo circle (word 0 0) step spot → (step ≡ Ptr 0) × (spot ≡ word 0 0)
 goes_around (Ptr i) spot (k, t, b, q, finds, zero_kind, few, e) =
     let o = one_object circle 0 0 k t b q 0 0 0 0x00010000fffffffc finds finds_circle in
     let less : i < 1 = rw o.shape at few in
@@ -48,16 +48,16 @@ goes_around (Item i) spot (inr (k, t, b, q, tag, finds, is_list, of_structs, has
     absurd (omega (arith, rw o.shape at is_list))
 
 -- so each path goes around
-walks_around : (n : ℕ) → Walks circle (word 0 0) (around n) n (word 0 0)
+walks_around : (n : ℕ) → PathLeads circle (word 0 0) (around n) n (word 0 0)
 walks_around zero = (refl, refl)
 walks_around (suc n) =
     (word 0 0, n, (0, 0, 0, 0x00010000fffffffc, finds_circle, refl, lit< tt, refl), walks_around n, omega arith)
 
-walk_is_around : (path : List Step) (n : ℕ) (spot : Spot) → Walks circle (word 0 0) path n spot → path ≡ around n
+walk_is_around : (path : List Step) (n : ℕ) (spot : Spot) → PathLeads circle (word 0 0) path n spot → path ≡ around n
 walk_is_around [] n spot (e, same) = ap around (sym e)
 walk_is_around (step ∷ path) n spot (mid, less, goes, rest, sum) =
     let g = goes_around step mid goes in
-    let below = walk_is_around path less spot (subst (λ u. Walks circle u path less spot) g.1 rest) in
+    let below = walk_is_around path less spot (subst (λ u. PathLeads circle u path less spot) g.1 rest) in
     let more : n ≡ suc less = omega (arith, rw g.1 at sum) in
     ap₂ (λ x xs. x ∷ xs) g.0 below ∙ ap around (sym more)
 

@@ -1,7 +1,7 @@
 -- Steps of high numbers lead nowhere.
 use Rattle.std.proofs.Common.{ℕ, ◌^◌, ◌<◌, ◌≤◌, List, [], ◌∷◌, arith, inl, inr, subst, sym}
 use Rattle.std.specs.Prelude.{⊤}
-use Rattle.cap_spec.specs.Paths.{Comes, Goes, Spot, Walks, element, word}
+use Rattle.cap_spec.specs.Paths.{ReachesSpot, StepsTo, Spot, PathLeads, element, word}
 use Rattle.cap_spec.specs.declared.Step.{Step}
 use Rattle.cap_spec.specs.declared.Step.TheVariants.{Ptr, Item}
 use Rattle.cap_spec.proofs.Trees.DenotedTrees.{field_below}
@@ -11,7 +11,7 @@ abbrev HasFewPointers : Spot → Type 0
 HasFewPointers (word s w) = ⊤
 HasFewPointers (element t b ds ps) = ps < 2 ^ 16
 
-step_few : (m : List (List ℕ)) (a : Spot) (step : Step) (b : Spot) → Goes m a step b → HasFewPointers b
+step_few : (m : List (List ℕ)) (a : Spot) (step : Step) (b : Spot) → StepsTo m a step b → HasFewPointers b
 step_few m (word s w) (Ptr i) b (k, t, b', q, finds, is_struct, less, ends) =
     subst (λ (z : Spot). HasFewPointers z) (sym ends) tt
 step_few m (word s w) (Item i) b (inl (k, t, b', q, finds, is_list, of_pointers, less, ends)) =
@@ -22,24 +22,24 @@ step_few m (word s w) (Item i) b (inr g) =
 step_few m (element t b ds ps) (Ptr i) c g = subst (λ (z : Spot). HasFewPointers z) (sym g.1) tt
 step_few m (element t b ds ps) (Item i) c g = absurd g
 
-walk_few : (m : List (List ℕ)) (a : Spot) (path : List Step) (n : ℕ) (b : Spot) → HasFewPointers a → Walks m a path n b
+walk_few : (m : List (List ℕ)) (a : Spot) (path : List Step) (n : ℕ) (b : Spot) → HasFewPointers a → PathLeads m a path n b
     → HasFewPointers b
 walk_few m a [] n b h g = subst (λ (z : Spot). HasFewPointers z) (sym g.1) h
 walk_few m a (step ∷ path) n b h g = walk_few m g.0 path g.1 b (step_few m a step g.0 g.2) g.3
 
 -- So no step to a pointer has a higher number,
-pointer_below : (m : List (List ℕ)) (a : Spot) (i : ℕ) (b : Spot) → HasFewPointers a → Goes m a (Ptr i) b → i < 65535
+pointer_below : (m : List (List ℕ)) (a : Spot) (i : ℕ) (b : Spot) → HasFewPointers a → StepsTo m a (Ptr i) b → i < 65535
 pointer_below m (word s w) i b h (k, t, b', q, finds, is_struct, less, ends) =
     let few = field_below q 48 16 in omega (arith, few, less)
 pointer_below m (element t c ds ps) i b h g = omega (arith, h, g.0)
 
-pub no_high_pointer : (m : List (List ℕ)) (path : List Step) (level i : ℕ) (a b : Spot) → Comes m path level a → 65535 ≤ i
-    → Goes m a (Ptr i) b → ⊥
+pub no_high_pointer : (m : List (List ℕ)) (path : List Step) (level i : ℕ) (a b : Spot) → ReachesSpot m path level a → 65535 ≤ i
+    → StepsTo m a (Ptr i) b → ⊥
 no_high_pointer m path level i a b c high g =
     omega (arith, high, pointer_below m a i b (walk_few m (word 0 0) path c.1 a tt c.3) g)
 
 -- and none to an element.
-pub no_high_element : (m : List (List ℕ)) (a b : Spot) (i : ℕ) → 2 ^ 30 ≤ i → Goes m a (Item i) b → ⊥
+pub no_high_element : (m : List (List ℕ)) (a b : Spot) (i : ℕ) → 2 ^ 30 ≤ i → StepsTo m a (Item i) b → ⊥
 no_high_element m (word s w) b i high (inl (k, t, b', q, finds, is_list, of_pointers, less, ends)) =
     let few = field_below q 35 29 in omega (arith, high, few, less)
 no_high_element m (word s w) b i high (inr g) =

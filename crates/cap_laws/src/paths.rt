@@ -5,7 +5,7 @@ ghost use Rattle.cap_spec.specs.declared.Step.{Step};
 ghost use Rattle.cap_spec.specs.declared.Step.TheVariants.{Item, Ptr};
 ghost use Rattle.cap_spec.specs.Tree.{Tree, node_at, pointer_count, cap_count, has_cap};
 ghost use Rattle.cap_spec.specs.Denoting.{Denotes};
-ghost use Rattle.cap_spec.specs.Paths.{Spot, Goes, Walks, Comes, Reaches, Before, Rises, IsTour, IsFirstCap, level_of, ReachesCap};
+ghost use Rattle.cap_spec.specs.Paths.{Spot, StepsTo, PathLeads, ReachesSpot, Reaches, Before, Rises, IsTour, IsFirstCap, level_of, ReachesCap};
 ghost use Rattle.cap_spec.specs.Lists.{IsOneOf, AreDistinct};
 ghost use Rattle.cap_spec.specs.Standing.{DenotesAt};
 ghost use Rattle.cap_spec.specs.PathTexts.{IsPath, IsBadAt, IsStep, path_text};
@@ -16,11 +16,11 @@ ghost use Rattle.cap_laws.specs.ReachingLaws.{ReachesSome};
 /// and a path comes to one spot.
 pub fn one_spot()
     ensures step { (m : List (List ℕ)) (a : Spot) (step : Step) (b b' : Spot) →
-        Goes m a step b → Goes m a step b' → b ≡ b' }
+        StepsTo m a step b → StepsTo m a step b' → b ≡ b' }
     ensures walk { (m : List (List ℕ)) (a : Spot) (path : List Step) (n n' : ℕ) (b b' : Spot) →
-        Walks m a path n b → Walks m a path n' b' → (n ≡ n') × (b ≡ b') }
+        PathLeads m a path n b → PathLeads m a path n' b' → (n ≡ n') × (b ≡ b') }
     ensures path { (m : List (List ℕ)) (path : List Step) (level level' : ℕ) (a b : Spot) →
-        Comes m path level a → Comes m path level' b → (level ≡ level') × (a ≡ b) }
+        ReachesSpot m path level a → ReachesSpot m path level' b → (level ≡ level') × (a ≡ b) }
     ensures pointer_word { (m : List (List ℕ)) (path : List Step) (level level' s w s' w' : ℕ) →
         Reaches m path level s w → Reaches m path level' s' w' →
         (level ≡ level') × (s ≡ s') × (w ≡ w') }
@@ -30,11 +30,11 @@ pub fn one_spot()
 /// add up.
 pub fn last_step()
     ensures walk { (m : List (List ℕ)) (a c : Spot) (path : List Step) (step : Step) (n : ℕ) →
-        Walks m a (path ++ step ∷ []) n c
-        ↔ ((b : Spot) × (n' : ℕ) × Walks m a path n' b × Goes m b step c × (n ≡ n' + level_of c)) }
+        PathLeads m a (path ++ step ∷ []) n c
+        ↔ ((b : Spot) × (n' : ℕ) × PathLeads m a path n' b × StepsTo m b step c × (n ≡ n' + level_of c)) }
     ensures path { (m : List (List ℕ)) (path : List Step) (step : Step) (level : ℕ) (c : Spot) →
-        Comes m (path ++ step ∷ []) level c
-        ↔ ((b : Spot) × (level' : ℕ) × Comes m path level' b × Goes m b step c
+        ReachesSpot m (path ++ step ∷ []) level c
+        ↔ ((b : Spot) × (level' : ℕ) × ReachesSpot m path level' b × StepsTo m b step c
         × (level ≡ level' + level_of c)) }
 {}
 
@@ -42,19 +42,19 @@ pub fn last_step()
 /// element 2^30 or a later one ever does.
 pub fn high_numbers_lead_nowhere()
     ensures pointer { (m : List (List ℕ)) (path : List Step) (level i : ℕ) (a b : Spot) →
-        Comes m path level a → 65535 ≤ i → ¬ Goes m a (Ptr i) b }
-    ensures element { (m : List (List ℕ)) (a b : Spot) (i : ℕ) → 2 ^ 30 ≤ i → ¬ Goes m a (Item i) b }
+        ReachesSpot m path level a → 65535 ≤ i → ¬ StepsTo m a (Ptr i) b }
+    ensures element { (m : List (List ℕ)) (a b : Spot) (i : ℕ) → 2 ^ 30 ≤ i → ¬ StepsTo m a (Item i) b }
 {}
 
 /// If the root denotes a tree, a path comes to a spot exactly if the tree has a node at the path,
 /// and that node is at the spot.
 pub fn path_arrives_at_node()
     ensures node { (m : List (List ℕ)) (t : Tree) (c d : ℕ) → Denotes m 0 0 t c d →
-        (path : List Step) (level : ℕ) (spot : Spot) → Comes m path level spot →
+        (path : List Step) (level : ℕ) (spot : Spot) → ReachesSpot m path level spot →
         (u : Tree) × (node_at t path ≡ Some u) × DenotesAt m spot u }
     ensures spot { (m : List (List ℕ)) (t : Tree) (c d : ℕ) → Denotes m 0 0 t c d →
         (path : List Step) (u : Tree) → node_at t path ≡ Some u →
-        (level : ℕ) × (spot : Spot) × Comes m path level spot × DenotesAt m spot u }
+        (level : ℕ) × (spot : Spot) × ReachesSpot m path level spot × DenotesAt m spot u }
 {}
 
 /// Preorder is a strict order of all paths. Of two paths that lead to spots in one message, one
@@ -64,7 +64,7 @@ pub fn preorder_is_a_strict_total_order()
     ensures irreflexive { (p : List Step) → ¬ Before p p }
     ensures transitive { (p q r : List Step) → Before p q → Before q r → Before p r }
     ensures total { (m : List (List ℕ)) (p q : List Step) (level level' : ℕ) (a b : Spot) →
-        Comes m p level a → Comes m q level' b → (p ≡ q) ⊎ Before p q ⊎ Before q p }
+        ReachesSpot m p level a → ReachesSpot m q level' b → (p ≡ q) ⊎ Before p q ⊎ Before q p }
     ensures beginning_first { (p : List Step) (step : Step) (q : List Step) →
         Before p (p ++ step ∷ q) }
 {}

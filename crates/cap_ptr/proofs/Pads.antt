@@ -6,7 +6,7 @@ use Rattle.cap_spec.specs.Pointers.{kind, middle, pad, far_segment}
 use Rattle.cap_spec.specs.Following.{Lead, to_null, to_cap, to_object, Says, IsOnePad, Leads, near, one_pad, two_pads, Wrong}
 use Rattle.cap_spec.specs.declared.Reason.TheVariants.{PadNotFar, TagKind, TagOffset, OutOfSegment}
 use Rattle.cap_spec.proofs.Pointers.Following.{wrong-reserved, wrong-pad_reserved, wrong-pad_far, wrong-pad_near, wrong-tag_kind, wrong-tag_offset, wrong-out}
-use Rattle.cap_ptr.specs.Reaching.{StandsFor, HasTwoPad, LeadsTo}
+use Rattle.cap_ptr.specs.Reaching.{ResolvesTo, HasTwoPad, LeadsTo}
 
 -- a word that says something isn't far
 says_near : (t b q : ℕ) (r : Lead) → Says t b q r → kind q ≢ 2
@@ -19,7 +19,7 @@ says_near t b q (to_object u x y) h f =
     absurd (omega arith)
 
 -- a word that isn't far stands for itself
-pub stands-near : (m : List (List ℕ)) (s w p : ℕ) → HasWord m s w p → kind p ≢ 2 → StandsFor m s w 0 s w p
+pub stands-near : (m : List (List ℕ)) (s w p : ℕ) → HasWord m s w p → kind p ≢ 2 → ResolvesTo m s w 0 s w p
 stands-near m s w p h n = record {
   leads = λ r says. near p h n says refl;
   reserved = wrong-reserved m s w p h;
@@ -28,7 +28,7 @@ stands-near m s w p h n = record {
 
 -- the word of a one-word pad stands for its pointer word
 pub stands-one_pad : (m : List (List ℕ)) (s w p t b q : ℕ) → HasWord m s w p → IsOnePad p → t ≡ far_segment p → b ≡ pad p → HasWord m t b q
-    → StandsFor m s w 1 t b q
+    → ResolvesTo m s w 1 t b q
 stands-one_pad m s w p t b q h one t_is b_is hq =
     let hq' : HasWord m (far_segment p) (pad p) q = subst (λ y. HasWord m (far_segment p) y q) b_is (subst (λ x. HasWord m x b q) t_is hq) in
     record {
@@ -52,7 +52,7 @@ module _ (m : List (List ℕ)) (s w p f q : ℕ) (h : HasTwoPad m s w p f q) whe
   content-lead t b t_is b_is one k z = two_pads p f q h.word h.both h.first h.second one (k, z) (cc) refl
 
 -- the word of an object leads there
-pub object-lead : (m : List (List ℕ)) (s w k t b q : ℕ) (start : ℤ) → StandsFor m s w k t b q → kind q < 2 → q ≢ 0
+pub object-lead : (m : List (List ℕ)) (s w k t b q : ℕ) (start : ℤ) → ResolvesTo m s w k t b q → kind q < 2 → q ≢ 0
     → start ≡ pos (b + 1) +ℤ signed_offset_of q → Leads m s w k (to_object t start q)
 object-lead m s w k t b q start stands kind_below some e = stands.leads (to_object t start q) (kind_below, some, refl, e, refl)
 

@@ -7,7 +7,7 @@ use Rattle.cap_spec.specs.Following.{Lead, to_object, Leads, Says, IsTwoPad, Wro
 use Rattle.cap_spec.specs.declared.Reason.TheVariants.{Reserved, PadIsFar}
 
 -- Over k pads, the word q at t:b takes the place of the pointer word at s:w.
-pub record StandsFor (m : List (List ℕ)) (s w k t b q : ℕ) : Type 0 where
+pub record ResolvesTo (m : List (List ℕ)) (s w k t b q : ℕ) : Type 0 where
   pub leads : (r : Lead) → Says t b q r → Leads m s w k r
   pub reserved : IsReserved q → Wrong m s w Reserved
   pub far : IsFar q → Wrong m s w PadIsFar

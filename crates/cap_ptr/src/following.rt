@@ -1,6 +1,6 @@
 //! Following a pointer word, through its landing pads.
 
-ghost use Rattle.cap_ptr.specs.Reaching.{HasTwoPad, StandsFor};
+ghost use Rattle.cap_ptr.specs.Reaching.{HasTwoPad, ResolvesTo};
 ghost use Rattle.cap_ptr.specs.Shapes.{AnswersObject, IsAnswer, IsFollowed};
 ghost use Rattle.cap_spec.specs.Denoting.{Finds};
 ghost use Rattle.cap_spec.specs.Following.{IsOnePad, IsTwoPad, Leads, Wrong, to_cap, to_null};
@@ -91,7 +91,7 @@ fn resolved<M: Segments>(
     requires exists { segment < length (M.segments message.now) }
     requires pads { pads ≤ 2 }
     ensures { let m = M.segments message.now in (s w : ℕ) →
-        StandsFor m s w pads segment place word → IsAnswer m s w result }
+        ResolvesTo m s w pads segment place word → IsAnswer m s w result }
 {
     match Pointer::of(word) {
         Pointer::Null => Ok(Followed::Null { pads }),
@@ -118,7 +118,7 @@ fn object<M: Segments>(
     requires object { kind word < 2 }
     requires not_null { word ≢ 0 }
     ensures { let m = M.segments message.now in (s w : ℕ) →
-        StandsFor m s w pads segment place word → IsAnswer m s w result }
+        ResolvesTo m s w pads segment place word → IsAnswer m s w result }
 {
     let Some(start) = start_of(place, word) else {
         return Err(Reason::OutOfSegment);

@@ -5,7 +5,7 @@ use Rattle.std.specs.Option.{option_map}
 use Rattle.cap_spec.specs.Denoting.{Denotes, words_from}
 use Rattle.cap_spec.specs.Following.{to_object}
 use Rattle.cap_spec.specs.Messages.{segment_of}
-use Rattle.cap_spec.specs.Paths.{Comes, IsPlace, Spot, Stands, word, element}
+use Rattle.cap_spec.specs.Paths.{ReachesSpot, IsPlace, Spot, HasPlace, word, element}
 use Rattle.cap_spec.specs.Plain.{plain_text}
 use Rattle.cap_spec.specs.Pointers.{extent}
 use Rattle.cap_spec.specs.Showing.{Own, own_of}
@@ -22,18 +22,18 @@ use Rattle.cap_vet.specs.declared.report.Report.{Report}
 use Rattle.cap_read.specs.ReadNodes.{IsPlaceInside, IsRead}
 
 -- nothing has a place where a path doesn't come to a spot,
-pub no_place : (m : List (List ℕ)) (path : List Step) → ((level : ℕ) (a : Spot) → Comes m path level a → ⊥) → (t b n : ℕ) → IsPlace m path t b n → ⊥
+pub no_place : (m : List (List ℕ)) (path : List Step) → ((level : ℕ) (a : Spot) → ReachesSpot m path level a → ⊥) → (t b n : ℕ) → IsPlace m path t b n → ⊥
 no_place m path none t b n h = none h.0 h.1 h.2
 
 -- or where nothing stands at that spot;
-no_place_there : (m : List (List ℕ)) (path : List Step) (level : ℕ) (a : Spot) → Comes m path level a → ((t b n : ℕ) → Stands m a t b n → ⊥) →
+no_place_there : (m : List (List ℕ)) (path : List Step) (level : ℕ) (a : Spot) → ReachesSpot m path level a → ((t b n : ℕ) → HasPlace m a t b n → ⊥) →
     (t b n : ℕ) → IsPlace m path t b n → ⊥
 no_place_there m path level a h none t b n g =
-    none t b n (subst (λ (x : Spot). Stands m x t b n) (sym (one_coming m path level g.0 a g.1 h g.2).1) g.3)
+    none t b n (subst (λ (x : Spot). HasPlace m x t b n) (sym (one_coming m path level g.0 a g.1 h g.2).1) g.3)
 
 -- and else the place of the path is that of what stands there.
-placed_there : (m : List (List ℕ)) (path : List Step) (level : ℕ) (a : Spot) (o : Option Place) → Comes m path level a
-    → MatchOption o ((t b n : ℕ) → Stands m a t b n → ⊥) (λ p. Stands m a p.segment p.start p.words)
+placed_there : (m : List (List ℕ)) (path : List Step) (level : ℕ) (a : Spot) (o : Option Place) → ReachesSpot m path level a
+    → MatchOption o ((t b n : ℕ) → HasPlace m a t b n → ⊥) (λ p. HasPlace m a p.segment p.start p.words)
     → IfSome o (λ p. p.segment < length m) → IfSome o (λ p. p.start + p.words ≤ length (segment_of m p.segment))
     → MatchOption o ((t b n : ℕ) → IsPlace m path t b n → ⊥) (IsPlaceInside m path)
 placed_there m path level a None h s e i = no_place_there m path level a h s
@@ -46,7 +46,7 @@ only_tree m words depth r t h u c d g = let o = one_tree m 0 0 u t c d r.charge 
 
 -- Nothing is read where the tree has no node.
 pub nothing_read : {m : List (List ℕ)} {words depth : ℕ} {path : List Step} {r : Report} (t : Tree) → IsReport m words depth r t
-    → ((level : ℕ) (a : Spot) → Comes m path level a → ⊥) → ((u : Tree) (c d : ℕ) → Denotes m 0 0 u c d → node_at u path ≡ None)
+    → ((level : ℕ) (a : Spot) → ReachesSpot m path level a → ⊥) → ((u : Tree) (c d : ℕ) → Denotes m 0 0 u c d → node_at u path ≡ None)
     → IsRead m words depth path r None None
 nothing_read {m} {words} {depth} {path} {r} t h none empty = record {
   tree = t;
@@ -59,15 +59,15 @@ nothing_read {m} {words} {depth} {path} {r} t h none empty = record {
 -- Else the node is read.
 pub node_read : {m : List (List ℕ)} {words depth : ℕ} {path : List Step} {r : Report} (t : Tree) (a : Spot) {own : Own} {o o' : Option Place} →
     IsReport m words depth r t
-    → ((level : ℕ) × Comes m path level a)
+    → ((level : ℕ) × ReachesSpot m path level a)
     → ((u : Tree) (c d : ℕ) → Denotes m 0 0 u c d → (x : Tree) × (node_at u path ≡ Some x) × DenotesAt m a x)
     → ((x : Tree) → DenotesAt m a x → own ≡ own_of x)
-    → o ≡ o' → MatchOption o' ((t b n : ℕ) → Stands m a t b n → ⊥) (λ p. Stands m a p.segment p.start p.words)
+    → o ≡ o' → MatchOption o' ((t b n : ℕ) → HasPlace m a t b n → ⊥) (λ p. HasPlace m a p.segment p.start p.words)
     → IfSome o (λ p. p.segment < length m) → IfSome o (λ p. p.start + p.words ≤ length (segment_of m p.segment))
     → IsRead m words depth path r (Some own) o
 node_read {m} {words} {depth} {path} {r} t a {o} h come node shows same s e i =
     let x = node t r.charge r.depth h.within.denotes in
-    let there : MatchOption o ((t b n : ℕ) → Stands m a t b n → ⊥) (λ p. Stands m a p.segment p.start p.words) = rw same s in record {
+    let there : MatchOption o ((t b n : ℕ) → HasPlace m a t b n → ⊥) (λ p. HasPlace m a p.segment p.start p.words) = rw same s in record {
       tree = t;
       report = h;
       only = only_tree m words depth r t h;
@@ -76,7 +76,7 @@ node_read {m} {words} {depth} {path} {r} t a {o} h come node shows same s e i =
     }
 
 -- one thing stands at a spot
-one_stands : (m : List (List ℕ)) (a : Spot) (t b n t' b' n' : ℕ) → Stands m a t b n → Stands m a t' b' n' → (t ≡ t') × (b ≡ b') × (n ≡ n')
+one_stands : (m : List (List ℕ)) (a : Spot) (t b n t' b' n' : ℕ) → HasPlace m a t b n → HasPlace m a t' b' n' → (t ≡ t') × (b ≡ b') × (n ≡ n')
 one_stands m (word s w) t b n t' b' n' h g =
     let l : to_object t (pos b) h.1 ≡ to_object t' (pos b') g.1 =
     (one_lead m s w h.0 g.0 (to_object t (pos b) h.1) (to_object t' (pos b') g.1) h.2.leads g.2.leads).1 in
@@ -85,19 +85,19 @@ one_stands m (word s w) t b n t' b' n' h g =
 one_stands m (element t'' b'' ds ps) t b n t' b' n' h g = (h.0 ∙ sym g.0, h.1 ∙ sym g.1, h.2 ∙ sym g.2)
 
 -- the bytes of the place of what stands at the end of a path are those of the place of the path
-pub bytes_there : (m : List (List ℕ)) (path : List Step) (level : ℕ) (a : Spot) (o : Option Place) → Comes m path level a
-    → MatchOption o ((t b n : ℕ) → Stands m a t b n → ⊥) (λ p. Stands m a p.segment p.start p.words)
+pub bytes_there : (m : List (List ℕ)) (path : List Step) (level : ℕ) (a : Spot) (o : Option Place) → ReachesSpot m path level a
+    → MatchOption o ((t b n : ℕ) → HasPlace m a t b n → ⊥) (λ p. HasPlace m a p.segment p.start p.words)
     → (t b n : ℕ) → IsPlace m path t b n → bytes_of_place m o ≡ plain_text (words_from m t b n)
 bytes_there m path level a None h s t b n g = absurd (no_place_there m path level a h s t b n g)
 bytes_there m path level a (Some p) h s t b n g =
     let same : g.1 ≡ a = sym (one_coming m path level g.0 a g.1 h g.2).1 in
-    let e = one_stands m a p.segment p.start p.words t b n s (subst (λ (x : Spot). Stands m x t b n) same g.3) in
+    let e = one_stands m a p.segment p.start p.words t b n s (subst (λ (x : Spot). HasPlace m x t b n) same g.3) in
     ap (λ x. plain_text (words_from m x p.start p.words)) e.0
     ∙ (ap (λ x. plain_text (words_from m t x p.words)) e.1 ∙ ap (λ x. plain_text (words_from m t b x)) e.2)
 
 -- and there are none where the path has no place
-pub no_bytes_there : (m : List (List ℕ)) (path : List Step) (level : ℕ) (a : Spot) (o : Option Place) → Comes m path level a
-    → MatchOption o ((t b n : ℕ) → Stands m a t b n → ⊥) (λ p. Stands m a p.segment p.start p.words)
+pub no_bytes_there : (m : List (List ℕ)) (path : List Step) (level : ℕ) (a : Spot) (o : Option Place) → ReachesSpot m path level a
+    → MatchOption o ((t b n : ℕ) → HasPlace m a t b n → ⊥) (λ p. HasPlace m a p.segment p.start p.words)
     → ((t b n : ℕ) → IsPlace m path t b n → ⊥) → bytes_of_place m o ≡ []
 no_bytes_there m path level a None h s none = refl
 no_bytes_there m path level a (Some p) h s none = absurd (none p.segment p.start p.words (level, a, h, s))

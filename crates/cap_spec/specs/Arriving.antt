@@ -4,7 +4,7 @@ use Rattle.std.specs.Prelude.{ℕ, ◌+◌, ◌≡◌, List}
 use Rattle.cap_spec.specs.Pointers.{extent}
 use Rattle.cap_spec.specs.Following.{HasTag, Leads, to_null, to_cap}
 use Rattle.cap_spec.specs.Denoting.{Finds, values_of, words_from}
-use Rattle.cap_spec.specs.Paths.{Comes, Spot, word, element}
+use Rattle.cap_spec.specs.Paths.{ReachesSpot, Spot, word, element}
 use Rattle.cap_spec.specs.ObjectShapes.{HasKind}
 use Rattle.cap_spec.specs.Showing.{Own, own_null, own_cap, own_struct, own_scalars, own_pointers, own_structs}
 use Rattle.cap_spec.specs.declared.Step.{Step}
@@ -12,14 +12,14 @@ use Rattle.cap_spec.specs.declared.Kind.{Kind}
 use Rattle.cap_spec.specs.declared.Kind.TheVariants.{Null, Cap, Struct, Scalars, Pointers, Structs}
 
 -- An object of this kind is found at s:w: n words from t:b on.
-pub record StandsObject (m : List (List ℕ)) (s w : ℕ) (kind : Kind) (t b n k q tag : ℕ) : Type 0 where
+pub record HasObjectAt (m : List (List ℕ)) (s w : ℕ) (kind : Kind) (t b n k q tag : ℕ) : Type 0 where
   pub finds : Finds m s w k t b q
   pub tagged : HasTag m t b q tag
   pub shape : HasKind q tag kind
   pub words : n ≡ extent q
 
 -- a struct that is an element has the words that its spot gives
-pub record StandsElement (t' b' ds ps d p t b n : ℕ) : Type 0 where
+pub record IsElementAt (t' b' ds ps d p t b n : ℕ) : Type 0 where
   pub segment : t ≡ t'
   pub start : b ≡ b'
   pub data_words : d ≡ ds
@@ -27,16 +27,16 @@ pub record StandsElement (t' b' ds ps d p t b n : ℕ) : Type 0 where
   pub words : n ≡ ds + ps
 
 -- what of this kind is at a spot; null and a capability have no words
-abbrev pub StandsAs : List (List ℕ) → Spot → Kind → ℕ → ℕ → ℕ → Type 0
-StandsAs m (word s w) Null t b n = (k : ℕ) × Leads m s w k to_null
-StandsAs m (word s w) (Cap i) t b n = (k : ℕ) × Leads m s w k (to_cap i)
-StandsAs m (word s w) kind t b n = (k q tag : ℕ) × StandsObject m s w kind t b n k q tag
-StandsAs m (element t' b' ds ps) (Struct d p) t b n = StandsElement t' b' ds ps d p t b n
-StandsAs m (element t' b' ds ps) _ t b n = ⊥
+abbrev pub HasObject : List (List ℕ) → Spot → Kind → ℕ → ℕ → ℕ → Type 0
+HasObject m (word s w) Null t b n = (k : ℕ) × Leads m s w k to_null
+HasObject m (word s w) (Cap i) t b n = (k : ℕ) × Leads m s w k (to_cap i)
+HasObject m (word s w) kind t b n = (k q tag : ℕ) × HasObjectAt m s w kind t b n k q tag
+HasObject m (element t' b' ds ps) (Struct d p) t b n = IsElementAt t' b' ds ps d p t b n
+HasObject m (element t' b' ds ps) _ t b n = ⊥
 
 -- the path from the root arrives at this
-abbrev pub ArrivesAt : List (List ℕ) → List Step → Kind → ℕ → ℕ → ℕ → Type 0
-ArrivesAt m path kind t b n = (level : ℕ) × (spot : Spot) × Comes m path level spot × StandsAs m spot kind t b n
+abbrev pub PathFinds : List (List ℕ) → List Step → Kind → ℕ → ℕ → ℕ → Type 0
+PathFinds m path kind t b n = (level : ℕ) × (spot : Spot) × ReachesSpot m path level spot × HasObject m spot kind t b n
 
 -- what an object of this kind at t:b is by itself
 abbrev pub own_at : List (List ℕ) → Kind → ℕ → ℕ → Own

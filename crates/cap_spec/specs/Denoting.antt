@@ -5,7 +5,7 @@ use Rattle.std.specs.List.{range_with_len}
 use Rattle.cap_spec.specs.Words.{field}
 use Rattle.cap_spec.specs.Messages.{HasWord, segment_of}
 use Rattle.cap_spec.specs.Pointers.{kind, middle, code, data_size, pointer_size, list_size, extent, element_bits}
-use Rattle.cap_spec.specs.Following.{to_null, to_cap, to_object, Leads, Sits, extra}
+use Rattle.cap_spec.specs.Following.{to_null, to_cap, to_object, Leads, IsInside, extra}
 use Rattle.cap_spec.specs.Tree.{Tree, null, cap, struct, scalars, pointers, structs, Trees, none, more}
 
 -- the places t:b, t:b+1 and so on, n of them
@@ -15,7 +15,7 @@ places t b n = map (λ w. (t, w)) (range_with_len b n)
 -- The pointer word at s:w leads with k pads to the object of shape q at t:b, which is inside its segment.
 pub record Finds (m : List (List ℕ)) (s w k t b q : ℕ) : Type 0 where
   pub leads : Leads m s w k (to_object t (pos b) q)
-  pub sits : Sits m t b q
+  pub sits : IsInside m t b q
 
 -- n words from b on
 abbrev pub words_from : List (List ℕ) → ℕ → ℕ → ℕ → List ℕ

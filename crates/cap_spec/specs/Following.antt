@@ -54,7 +54,7 @@ abbrev pub TagFits : ℕ → ℕ → Type 0
 TagFits tag size = (kind tag ≡ 0) × (middle tag * (data_size tag + pointer_size tag) ≤ size)
 
 -- the object lies inside its segment, from start b on, and a composite list's elements inside the list
-pub record Sits (m : List (List ℕ)) (t b q : ℕ) : Type 0 where
+pub record IsInside (m : List (List ℕ)) (t b q : ℕ) : Type 0 where
   pub exists : t < length m
   pub inside : b + extent q ≤ length (segment_of m t)
   pub composite : IsComposite q → (tag : ℕ) × HasWord m t b tag × TagFits tag (list_size q)

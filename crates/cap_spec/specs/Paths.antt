@@ -15,15 +15,15 @@ pub data Spot : Type 0 where
   element : ℕ → ℕ → ℕ → ℕ → Spot
 
 -- One step leads from one spot to another.
-abbrev pub Goes : List (List ℕ) → Spot → Step → Spot → Type 0
-Goes m (word s w) (Ptr i) spot =
+abbrev pub StepsTo : List (List ℕ) → Spot → Step → Spot → Type 0
+StepsTo m (word s w) (Ptr i) spot =
     (k t b q : ℕ) × Finds m s w k t b q × (kind q ≡ 0) × (i < pointer_size q) × (spot ≡ word t (b + data_size q + i))
-Goes m (word s w) (Item i) spot =
+StepsTo m (word s w) (Item i) spot =
     ((k t b q : ℕ) × Finds m s w k t b q × (kind q ≡ 1) × (code q ≡ 6) × (i < list_size q) × (spot ≡ word t (b + i)))
     ⊎ ((k t b q tag : ℕ) × Finds m s w k t b q × (kind q ≡ 1) × (code q ≡ 7) × HasWord m t b tag × (i < middle tag)
     × (spot ≡ element t (b + 1 + i * (data_size tag + pointer_size tag)) (data_size tag) (pointer_size tag)))
-Goes m (element t b ds ps) (Ptr i) spot = (i < ps) × (spot ≡ word t (b + ds + i))
-Goes m (element t b ds ps) (Item i) spot = ⊥
+StepsTo m (element t b ds ps) (Ptr i) spot = (i < ps) × (spot ≡ word t (b + ds + i))
+StepsTo m (element t b ds ps) (Item i) spot = ⊥
 
 -- a pointer word counts one level, an element what element_levels says
 abbrev pub level_of : Spot → ℕ
@@ -31,20 +31,20 @@ level_of (word s w) = 1
 level_of (element t b ds ps) = element_levels 1
 
 -- The path leads from the first spot to the second, n levels below it: each spot that it arrives at counts level_of.
-abbrev pub Walks : List (List ℕ) → Spot → List Step → ℕ → Spot → Type 0
-Walks m a [] n b = (n ≡ 0) × (b ≡ a)
-Walks m a (step ∷ path) n b =
-    (mid : Spot) × (n' : ℕ) × Goes m a step mid × Walks m mid path n' b × (n ≡ level_of mid + n')
+abbrev pub PathLeads : List (List ℕ) → Spot → List Step → ℕ → Spot → Type 0
+PathLeads m a [] n b = (n ≡ 0) × (b ≡ a)
+PathLeads m a (step ∷ path) n b =
+    (mid : Spot) × (n' : ℕ) × StepsTo m a step mid × PathLeads m mid path n' b × (n ≡ level_of mid + n')
 
 -- The path from the root comes to this spot, at this level, whether or not the pointer at the spot
 -- can be followed.
-abbrev pub Comes : List (List ℕ) → List Step → ℕ → Spot → Type 0
-Comes m path level spot =
-    (root n : ℕ) × HasWord m 0 0 root × Walks m (word 0 0) path n spot × (level ≡ 1 + n)
+abbrev pub ReachesSpot : List (List ℕ) → List Step → ℕ → Spot → Type 0
+ReachesSpot m path level spot =
+    (root n : ℕ) × HasWord m 0 0 root × PathLeads m (word 0 0) path n spot × (level ≡ 1 + n)
 
 -- The path reaches the pointer word at s:w.
 abbrev pub Reaches : List (List ℕ) → List Step → ℕ → ℕ → ℕ → Type 0
-Reaches m path level s w = Comes m path level (word s w)
+Reaches m path level s w = ReachesSpot m path level (word s w)
 
 -- the pointer at s:w can be followed, which costs this many words
 abbrev pub Costs : List (List ℕ) → ℕ → ℕ → ℕ → Type 0
@@ -90,13 +90,13 @@ pub record IsNumbered (m : List (List ℕ)) (path : List Step) (s w number : ℕ
 
 -- What is at a spot: the object that its pointer finds, or the element, as segment, start and
 -- words.
-abbrev pub Stands : List (List ℕ) → Spot → ℕ → ℕ → ℕ → Type 0
-Stands m (word s w) t b n = (k q : ℕ) × Finds m s w k t b q × (n ≡ extent q)
-Stands m (element t' b' ds ps) t b n = (t ≡ t') × (b ≡ b') × (n ≡ ds + ps)
+abbrev pub HasPlace : List (List ℕ) → Spot → ℕ → ℕ → ℕ → Type 0
+HasPlace m (word s w) t b n = (k q : ℕ) × Finds m s w k t b q × (n ≡ extent q)
+HasPlace m (element t' b' ds ps) t b n = (t ≡ t') × (b ≡ b') × (n ≡ ds + ps)
 
 -- the place of a path
 abbrev pub IsPlace : List (List ℕ) → List Step → ℕ → ℕ → ℕ → Type 0
-IsPlace m path t b n = (level : ℕ) × (spot : Spot) × Comes m path level spot × Stands m spot t b n
+IsPlace m path t b n = (level : ℕ) × (spot : Spot) × ReachesSpot m path level spot × HasPlace m spot t b n
 
 -- The path reaches a pointer word that leads to a capability.
 abbrev pub ReachesCap : List (List ℕ) → List Step → Type 0

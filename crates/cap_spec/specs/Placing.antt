@@ -2,6 +2,6 @@
 use Rattle.std.specs.Prelude.{ℕ, ◌+◌, ◌≤◌, ◌≡◌, List, [], ◌∷◌, length, Some, slice_get}
 
 -- these words are in a segment, from b on
-abbrev pub StandAt : List ℕ → ℕ → List ℕ → Type 0
-StandAt words b [] = b ≤ length words
-StandAt words b (x ∷ xs) = (slice_get words b ≡ Some x) × StandAt words (b + 1) xs
+abbrev pub HasWordsAt : List ℕ → ℕ → List ℕ → Type 0
+HasWordsAt words b [] = b ≤ length words
+HasWordsAt words b (x ∷ xs) = (slice_get words b ≡ Some x) × HasWordsAt words (b + 1) xs

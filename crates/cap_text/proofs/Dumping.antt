@@ -8,7 +8,7 @@ use Rattle.cap_spec.specs.Pointers.{data_size, list_size, middle, pointer_size}
 use Rattle.cap_spec.specs.Showing.{Own, own_of, kind_of}
 use Rattle.cap_spec.specs.Standing.{DenotesAt}
 use Rattle.cap_spec.specs.Texts.{all_lines, child_lines, dump_text, label, own_text}
-use Rattle.cap_spec.specs.Paths.{Comes, Spot, word}
+use Rattle.cap_spec.specs.Paths.{ReachesSpot, Spot, word}
 use Rattle.cap_spec.specs.Tree.{Tree, null, cap, struct, scalars, pointers, structs, Trees, none, more, part_at, tree_at, tree_count}
 use Rattle.cap_spec.specs.declared.Kind.{Kind}
 use Rattle.cap_spec.specs.declared.Step.{Step}
@@ -213,7 +213,7 @@ module _ {O : Type 0} (g : output.Ghosts O) (level : ℕ) (t : Tree) (kind : Kin
         (halted_then g b c d fault (own_text level (label letter i) u) (child_lines (level + 1) u) v q))
 
 -- The tree of a message stands at the spot to which the empty path comes.
-pub at_root : (m m' : List (List ℕ)) (a : Spot) (t : Tree) (c d : ℕ) → m' ≡ m → Comes m [] 1 a → Denotes m 0 0 t c d → DenotesAt m' a t
+pub at_root : (m m' : List (List ℕ)) (a : Spot) (t : Tree) (c d : ℕ) → m' ≡ m → ReachesSpot m [] 1 a → Denotes m 0 0 t c d → DenotesAt m' a t
 at_root m m' a t c d same comes h =
     subst (λ x. DenotesAt x a t) (sym same) (subst (λ x. DenotesAt m x t) (sym comes.3.1) (let at : DenotesAt m (word 0 0) t = (c, d, h) in at))
 

@@ -2,7 +2,7 @@
 use Rattle.std.proofs.Common.{sym, ◌⊎◌, ℕ, ◌≡◌, ◌∙◌, ◌+◌, ◌<◌, ◌≤◌, ap, inl, inr, List, [], ◌∷◌, ◌++◌, length, refl, subst, arith, length-append, Some}
 use Rattle.cap_spec.specs.Lists.{IsOneOf}
 use Rattle.cap_spec.specs.Messages.{segment_of}
-use Rattle.cap_spec.specs.Paths.{Before, Goes, IsNumbered, IsTour, Reaches, Spot, Walks, element, level_of, word}
+use Rattle.cap_spec.specs.Paths.{Before, StepsTo, IsNumbered, IsTour, Reaches, Spot, PathLeads, element, level_of, word}
 use Rattle.cap_spec.specs.declared.Step.{Step}
 use Rattle.cap_spec.proofs.Frames.Messages.{HasWord-inside}
 use Rattle.cap_spec.proofs.Paths.Preorder.{Before-asymmetric, Before-irreflexive}
@@ -129,11 +129,11 @@ none_past m depth n more fs f q h blocked less a =
     elim blocked [ inl wrong ↦ on.0 wrong.0 wrong.1 | inr deep ↦ on.1 deep ]
 
 -- each spot counts one level
-one_level : (m : List (List ℕ)) (a : Spot) (x : Step) (b : Spot) → Goes m a x b → level_of b ≡ 1
+one_level : (m : List (List ℕ)) (a : Spot) (x : Step) (b : Spot) → StepsTo m a x b → level_of b ≡ 1
 one_level m a x (word s w) g = refl
 one_level m a x (element t b ds ps) g = refl
 
-walk_steps : (m : List (List ℕ)) (a : Spot) (path : List Step) (n : ℕ) (b : Spot) → Walks m a path n b → n ≡ length path
+walk_steps : (m : List (List ℕ)) (a : Spot) (path : List Step) (n : ℕ) (b : Spot) → PathLeads m a path n b → n ≡ length path
 walk_steps m a [] n b h = h.0
 walk_steps m a (x ∷ path) n b h =
     omega (arith, h.4, one_level m a x h.0 h.2, walk_steps m h.0 path h.1 b h.3)

@@ -6,7 +6,7 @@ use Rattle.cap_spec.specs.Lists.{IsOneOf}
 use Rattle.cap_spec.specs.Denoting.{Finds}
 use Rattle.cap_spec.specs.Following.{Leads, to_cap, to_null, to_object}
 use Rattle.cap_spec.specs.Messages.{segment_of}
-use Rattle.cap_spec.specs.Paths.{Before, Goes, IsTour, Reaches, Spot, word}
+use Rattle.cap_spec.specs.Paths.{Before, StepsTo, IsTour, Reaches, Spot, word}
 use Rattle.cap_spec.specs.declared.Step.{Step}
 use Rattle.cap_spec.specs.declared.Step.TheVariants.{Ptr, Item}
 use Rattle.cap_spec.proofs.Frames.Messages.{HasWord-at}
@@ -107,7 +107,7 @@ root_tour m some =
     empty q (inr i) = absurd i
 
 -- a step leads on only from a word that finds an object
-step_finds : (m : List (List ℕ)) (s w : ℕ) (x : Step) (mid : Spot) → Goes m (word s w) x mid
+step_finds : (m : List (List ℕ)) (s w : ℕ) (x : Step) (mid : Spot) → StepsTo m (word s w) x mid
     → (k t b q : ℕ) × Finds m s w k t b q
 step_finds m s w (Ptr i) mid g = (g.0, g.1, g.2, g.3, g.4)
 step_finds m s w (Item i) mid (inl g) = (g.0, g.1, g.2, g.3, g.4)

@@ -1,6 +1,6 @@
 //! Lists of structs that a pointer word describes with the list's tag.
 
-ghost use Rattle.cap_ptr.specs.Reaching.{StandsFor};
+ghost use Rattle.cap_ptr.specs.Reaching.{ResolvesTo};
 ghost use Rattle.cap_ptr.specs.Shapes.{FindsTarget};
 ghost use Rattle.cap_spec.specs.Pointers.{kind};
 ghost use Rattle.std.specs.Prelude.{◌<◌, ◌≡◌, ◌≤◌, IfSome, length, ℕ};
@@ -23,7 +23,7 @@ pub(crate) fn struct_list<M: Segments>(
     ensures list { IfSome result (λ _. kind word ≡ 1) }
     ensures over { IfSome result (λ x. x.pads ≡ pads) }
     ensures found { let m = M.segments message.now in (s w : ℕ) →
-        StandsFor m s w pads segment at word → IfSome result (FindsTarget m s w) }
+        ResolvesTo m s w pads segment at word → IfSome result (FindsTarget m s w) }
 {
     let start = tag_at(word, at, message.len(segment))?;
     match structs_target(word, message.word(segment, start), segment, start, pads) {

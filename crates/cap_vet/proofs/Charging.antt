@@ -2,14 +2,14 @@
 use Rattle.std.proofs.Common.{ℕ, zero, suc, ◌+◌, ◌-◌, ◌<◌, ◌≤◌, List, [], ◌∷◌, ◌++◌, ◌≡◌, refl, subst, arith}
 use Rattle.std.proofs.Common.{inl, inr, length, length-append, Option, None}
 use Rattle.std.proofs.lemmas.Bool.Decides.{leb_tells}
-use Rattle.cap_spec.specs.Arriving.{ArrivesAt}
+use Rattle.cap_spec.specs.Arriving.{PathFinds}
 use Rattle.cap_spec.specs.Denoting.{Finds, element_levels}
 use Rattle.cap_spec.specs.Faults.{AreShallow, IsFirstReason}
 use Rattle.cap_spec.specs.Following.{IsComposite}
 use Rattle.cap_spec.specs.Getting.{AreOnPath, Charges, IsFaultOnPath}
 use Rattle.cap_spec.specs.Messages.{HasWord, segment_of}
 use Rattle.cap_spec.specs.Pointers.{middle}
-use Rattle.cap_spec.specs.Paths.{Comes, Costs, Goes, Reaches, Spot, element, word}
+use Rattle.cap_spec.specs.Paths.{ReachesSpot, Costs, StepsTo, Reaches, Spot, element, word}
 use Rattle.cap_spec.specs.Verdicts.{levels_below, IsDeepAt}
 use Rattle.cap_spec.specs.declared.Kind.{Kind}
 use Rattle.cap_spec.specs.declared.Reason.{Reason}
@@ -74,7 +74,7 @@ fault_root m words depth root path v has reason = record {
 
 -- where a path comes to with one step more
 pub next_comes : (m : List (List ℕ)) (words depth : ℕ) (path : List Step) (a : Spot) (at : Arrival) (step : Step)
-    (s w : ℕ) → Arrives m words depth path a at → Goes m a step (word s w)
+    (s w : ℕ) → Arrives m words depth path a at → StepsTo m a step (word s w)
     → Reaches m (path ++ step ∷ []) (at.level + 1) s w
 next_comes m words depth path a at step s w h g = (coming_last m path step (at.level + 1) (word s w)).1 (a, at.level, h.comes, g, refl)
 
@@ -94,7 +94,7 @@ no_tag m t b q none c = absurd (none c)
 
 -- So its pointers are at most one level past the limit,
 low_word : (m : List (List ℕ)) (words depth : ℕ) (path : List Step) (a : Spot) (at : Arrival) (step : Step) (s w : ℕ)
-    → Arrives m words depth path a at → Goes m a step (word s w) → at.level ≤ depth
+    → Arrives m words depth path a at → StepsTo m a step (word s w) → at.level ≤ depth
 low_word m words depth path (element t b ds ps) at step s w h g = h.levels
 low_word m words depth path (word s' w') at (Ptr i) s w h (k, t, b, q, f, struct, lt, e) =
     let l = shallow_here m words depth path s' w' k t b q 0 at h f (no_tag m t b q (λ c. omega (arith, c.0, struct))) in
@@ -111,7 +111,7 @@ some_elements i (suc n) h = refl
 
 -- and its elements are within it.
 low_element : (m : List (List ℕ)) (words depth : ℕ) (path : List Step) (a : Spot) (at : Arrival) (step : Step) (t b ds ps : ℕ)
-    → Arrives m words depth path a at → Goes m a step (element t b ds ps) → at.level + 1 ≤ depth
+    → Arrives m words depth path a at → StepsTo m a step (element t b ds ps) → at.level + 1 ≤ depth
 low_element m words depth path (element t' b' d p) at (Ptr i) t b ds ps h (lt, e) = absurd (cc e)
 low_element m words depth path (element t' b' d p) at (Item i) t b ds ps h g = absurd g
 low_element m words depth path (word s' w') at (Ptr i) t b ds ps h (k, t', b', q, f, struct, lt, e) = absurd (cc e)
@@ -129,7 +129,7 @@ arrives_low m words depth path (element t b ds ps) at h = (omega (arith, h.level
 
 -- One step on at a pointer word,
 pub arrives_word : (m : List (List ℕ)) {words depth : ℕ} (path : List Step) (a : Spot) (at : Arrival) (step : Step)
-    {s w cost : ℕ} {f : Found} (lax : Option LaxPointer) → Arrives m words depth path a at → Goes m a step (word s w)
+    {s w cost : ℕ} {f : Found} (lax : Option LaxPointer) → Arrives m words depth path a at → StepsTo m a step (word s w)
     → IsFound m (word s w) f → Costs m s w cost → cost ≤ words - at.spent → ¬ IsDeepAt m depth s w (at.level + 1)
     → AddsPointer m s w (at.pointers + 1) at.lax lax
     → Arrives m words depth (path ++ step ∷ []) (word s w)
@@ -155,7 +155,7 @@ arrives_word m {words} {depth} path a at step {s} {w} {cost} lax h g found costs
 
 -- whose fault is the first,
 pub fault_word : (m : List (List ℕ)) (words depth : ℕ) (path : List Step) (a : Spot) (at : Arrival) (step : Step)
-    (s w : ℕ) (v : Reason) → Arrives m words depth path a at → Goes m a step (word s w)
+    (s w : ℕ) (v : Reason) → Arrives m words depth path a at → StepsTo m a step (word s w)
     → IsFirstReason m words depth at.spent s w (at.level + 1) v → IsFaultOnPath m words depth
     (path ++ step ∷ []) record { segment = s; word = w; reason = v; pointers = at.pointers + 1 }
 fault_word m words depth path a at step s w v h g reason =
@@ -177,11 +177,11 @@ fault_word m words depth path a at step s w v h g reason =
 
 -- and at an element.
 pub arrives_element : (m : List (List ℕ)) (words depth : ℕ) (path : List Step) (a : Spot) (at : Arrival) (step : Step)
-    (t b ds ps : ℕ) (lax : Option LaxPointer) → at.lax ≡ lax → Arrives m words depth path a at → Goes m a step (element t b ds ps)
+    (t b ds ps : ℕ) (lax : Option LaxPointer) → at.lax ≡ lax → Arrives m words depth path a at → StepsTo m a step (element t b ds ps)
     → t < length m → b + ds + ps ≤ length (segment_of m t) → Arrives m words depth (path ++ step ∷ []) (element t b ds ps)
     record at { found = element_of t b ds ps; level = at.level + 1; lax = lax }
 arrives_element m words depth path a at step t b ds ps lax e h g exists inside =
-    let c : Comes m (path ++ step ∷ []) (at.level + 1) (element t b ds ps) =
+    let c : ReachesSpot m (path ++ step ∷ []) (at.level + 1) (element t b ds ps) =
     (coming_last m path step (at.level + 1) (element t b ds ps)).1 (a, at.level, h.comes, g, refl) in
     record {
       comes = c;
@@ -224,7 +224,7 @@ fault_longer m words depth done rest path r e f = record {
 -- What was charged where a step leads nowhere.
 pub charges_nowhere : (m : List (List ℕ)) (words depth : ℕ) (done rest path : List Step) (step : Step) (a : Spot)
     (at : Arrival) → done ++ step ∷ rest ≡ path → Arrives m words depth done a at
-    → ((b : Spot) → Goes m a step b → ⊥) → Charges m words depth path (words - at.spent)
+    → ((b : Spot) → StepsTo m a step b → ⊥) → Charges m words depth path (words - at.spent)
 charges_nowhere m words depth done rest path step a at e h none = record {
   ways = h.ways;
   on_path = subst (λ x. AreOnPath m x h.ways) e (on_nowhere m done rest h.ways step at.level a h.on_path h.comes none);
@@ -237,6 +237,6 @@ charges_nowhere m words depth done rest path step a at e h none = record {
 
 pub arrives_nowhere : (m : List (List ℕ)) (words depth : ℕ) (done rest path : List Step) (step : Step) (a : Spot)
     (at : Arrival) → path ≡ done ++ step ∷ rest → Arrives m words depth done a at
-    → ((b : Spot) → Goes m a step b → ⊥) → (k : Kind) (t b n : ℕ) → ArrivesAt m path k t b n → ⊥
+    → ((b : Spot) → StepsTo m a step b → ⊥) → (k : Kind) (t b n : ℕ) → PathFinds m path k t b n → ⊥
 arrives_nowhere m words depth done rest path step a at e h none k t b n
     (level, spot, comes, stands) = comes_nowhere m path done rest step at.level a e h.comes none level spot comes

@@ -3,7 +3,7 @@ use Rattle.std.proofs.Common.{◌≡◌, ℕ, zero, suc, ◌+◌, ◌<◌, inl, 
 use Rattle.cap_spec.specs.Pointers.{kind, code, data_size, pointer_size, list_size}
 use Rattle.cap_spec.specs.Denoting.{Finds}
 use Rattle.cap_spec.proofs.Trees.Finding.{SameObject, one_object}
-use Rattle.cap_spec.specs.Paths.{Goes, Reaches, Spot, Walks, number_of, word}
+use Rattle.cap_spec.specs.Paths.{StepsTo, Reaches, Spot, PathLeads, number_of, word}
 use Rattle.cap_spec.specs.declared.Step.{Step}
 use Rattle.cap_spec.specs.declared.Step.TheVariants.{Ptr, Item}
 use Rattle.cap_vet.specs.Trails.{EachApart, AreReached, GoOnFrom, IsUnder, row}
@@ -14,14 +14,14 @@ use Rattle.cap_spec.proofs.Paths.Walks.{comes_beyond, walk_on}
 -- what reaches a pointer word behind one that is reached goes on from it by steps of its own
 pub beyond : (m : List (List ℕ)) (base : List Step) (x : Step) (v : List Step) (level level' s w s' w' : ℕ)
     → Reaches m base level s w → Reaches m (base ++ x ∷ v) level' s' w'
-    → (mid : Spot) × (n : ℕ) × Goes m (word s w) x mid × Walks m mid v n (word s' w')
+    → (mid : Spot) × (n : ℕ) × StepsTo m (word s w) x mid × PathLeads m mid v n (word s' w')
 beyond m base x v level level' s w s' w' g h =
     let here = (comes_beyond m base (x ∷ v) level level' (word s w) (word s' w') g h).1 in
     (here.0, here.1, here.2, here.3)
 
 -- a path goes on by a step
 pub reaches_on : (m : List (List ℕ)) (base : List Step) (x : Step) (v : List Step) (level n s w s' w' : ℕ)
-    → Reaches m base level s w → Walks m (word s w) (x ∷ v) n (word s' w') → Reaches m (base ++ x ∷ v) (level + n) s' w'
+    → Reaches m base level s w → PathLeads m (word s w) (x ∷ v) n (word s' w') → Reaches m (base ++ x ∷ v) (level + n) s' w'
 reaches_on m base x v level n s w s' w' (root, k, has, walks, e) on =
     (root, k + n, has, walk_on m (word 0 0) (word s w) (word s' w') base (x ∷ v) k n walks on, omega (arith, e))
 
@@ -68,12 +68,12 @@ AreReached-row m base level step t b i (suc n) h = (
 
 -- one step that leads to a pointer word
 pub one_step : (m : List (List ℕ)) (base : List Step) (x : Step) (level s w t v : ℕ) → Reaches m base level s w
-    → Goes m (word s w) x (word t v) → Reaches m (base ++ x ∷ []) (level + 1) t v
+    → StepsTo m (word s w) x (word t v) → Reaches m (base ++ x ∷ []) (level + 1) t v
 one_step m base x level s w t v h g = reaches_on m base x [] level 1 s w t v h (word t v, 0, g, (refl, refl), refl)
 
 -- what has no step to go on by has no children
 pub no_children : (m : List (List ℕ)) (base : List Step) (level s w : ℕ) → Reaches m base level s w
-    → ((x : Step) (v : List Step) (mid : Spot) (n s' w' : ℕ) → Goes m (word s w) x mid → Walks m mid v n (word s' w') → ⊥) → AreChildren m base []
+    → ((x : Step) (v : List Step) (mid : Spot) (n s' w' : ℕ) → StepsTo m (word s w) x mid → PathLeads m mid v n (word s' w') → ⊥) → AreChildren m base []
 no_children m base level s w h none = record {
   apart = tt;
   go_on = tt;
@@ -99,7 +99,7 @@ struct_children m base level s w k t b q h f e = record {
   complete = λ x v level' s' w' r. let (mid, n, goes, walks) = beyond m base x v level level' s w s' w' h r in under x v mid goes;
 }
   where
-    under : (x : Step) (v : List Step) (mid : Spot) → Goes m (word s w) x mid
+    under : (x : Step) (v : List Step) (mid : Spot) → StepsTo m (word s w) x mid
         → IsUnder (base ++ x ∷ v) (row base (level + 1) Ptr t (b + data_size q) 0 (pointer_size q))
     under (Ptr i) v mid (k', t', b', q', f', e', l, spot) =
         let same = one_object m s w k t b q k' t' b' q' f f' in
@@ -130,7 +130,7 @@ pointers_children m base level s w k t b q h f e c = record {
   complete = λ x v level' s' w' r. let (mid, n, goes, walks) = beyond m base x v level level' s w s' w' h r in under x v mid goes;
 }
   where
-    under : (x : Step) (v : List Step) (mid : Spot) → Goes m (word s w) x mid → IsUnder (base ++ x ∷ v) (row base (level + 1) Item t b 0 (list_size q))
+    under : (x : Step) (v : List Step) (mid : Spot) → StepsTo m (word s w) x mid → IsUnder (base ++ x ∷ v) (row base (level + 1) Item t b 0 (list_size q))
     under (Ptr i) v mid (k', t', b', q', f', e', l, spot) =
         let same = one_object m s w k t b q k' t' b' q' f f' in
         absurd (struct_no_list k' t' b' q' k t b q

@@ -5,7 +5,7 @@ use Rattle.std.proofs.Math.Nat.{mul-le-mul_right}
 use Rattle.cap_frame.specs.declared.segments.Segments as segments
 use Rattle.cap_spec.specs.Verdicts.{IsDeepAt}
 use Rattle.cap_spec.specs.Messages.{segment_of}
-use Rattle.cap_spec.specs.Paths.{Goes, Spot, word, element}
+use Rattle.cap_spec.specs.Paths.{StepsTo, Spot, word, element}
 use Rattle.cap_spec.specs.declared.Step.{Step}
 use Rattle.cap_spec.specs.declared.Step.TheVariants.{Item, Ptr}
 use Rattle.cap_vet.specs.Charging.{Arrives}
@@ -52,7 +52,7 @@ module _ {M : Type 0} {g : segments.Ghosts M} (m : List (List ℕ)) (start : Pat
   element_arrives first way =
       let there : IsWay m start.words start.depth first (To are.at) =
       subst (λ (x : Way). IsWay m start.words start.depth first x) are.way way in
-      let goes : Goes m there.0 (Item i) (element_spot e i) =
+      let goes : StepsTo m there.0 (Item i) (element_spot e i) =
       rw (are.segment, are.first) (element_goes m there.0 e.data_words e.pointers there.1.found are.kind lt) in
       arrives_element m start.words start.depth first there.0 are.at (Item i) e.segment
       (e.first + i * (e.data_words + e.pointers)) e.data_words e.pointers are.at.lax refl there.1 goes exists inside

@@ -3,7 +3,7 @@ use Rattle.std.proofs.Common.{◌≡◌, ℕ, zero, suc, ◌+◌, ◌*◌, ◌<�
 use Rattle.cap_spec.specs.Messages.{HasWord}
 use Rattle.cap_spec.specs.Pointers.{kind, middle, code, data_size, pointer_size}
 use Rattle.cap_spec.specs.Denoting.{Finds, element_levels}
-use Rattle.cap_spec.specs.Paths.{Goes, Reaches, Spot, Walks, element, word}
+use Rattle.cap_spec.specs.Paths.{StepsTo, Reaches, Spot, PathLeads, element, word}
 use Rattle.cap_spec.specs.declared.Step.{Step}
 use Rattle.cap_spec.specs.declared.Step.TheVariants.{Ptr, Item}
 use Rattle.cap_spec.proofs.Trees.Finding.{one_object}
@@ -135,7 +135,7 @@ structs_children m base level s w k t b q tag h f is_list is_structs has = recor
   complete = λ x v level' s' w' r. let (mid, n, goes, walks) = beyond m base x v level level' s w s' w' h r in under x v mid n s' w' goes walks;
 }
   where
-    under : (x : Step) (v : List Step) (mid : Spot) (n s' w' : ℕ) → Goes m (word s w) x mid → Walks m mid v n (word s' w')
+    under : (x : Step) (v : List Step) (mid : Spot) (n s' w' : ℕ) → StepsTo m (word s w) x mid → PathLeads m mid v n (word s' w')
         → IsUnder (base ++ x ∷ v) (element_rows base (level + (element_levels 1 + 1)) t (b + 1) (data_size tag) (pointer_size tag) 0 (middle tag))
     under (Ptr i) v mid n s' w' (k', t', b', q', f', e', l, spot) walks =
         let same = one_object m s w k' t' b' q' k t b q f' f in
@@ -146,9 +146,9 @@ structs_children m base level s w k t b q tag h f is_list is_structs has = recor
     under (Item i) [] mid n s' w' (inr (k', t', b', q', tag', f', e', c', has', l, spot)) walks =
         absurd (word_no_element s' w' t' (b' + 1 + i * (data_size tag' + pointer_size tag')) (data_size tag') (pointer_size tag') (walks.1 ∙ spot))
     under (Item i) (Item j ∷ v) mid n s' w' (inr (k', t', b', q', tag', f', e', c', has', l, spot)) walks =
-        let here = subst (λ u. Walks m u (Item j ∷ v) n (word s' w')) spot walks in absurd here.2
+        let here = subst (λ u. PathLeads m u (Item j ∷ v) n (word s' w')) spot walks in absurd here.2
     under (Item i) (Ptr j ∷ v) mid n s' w' (inr (k', t', b', q', tag', f', e', c', has', l, spot)) walks =
-        let here = subst (λ u. Walks m u (Ptr j ∷ v) n (word s' w')) spot walks in
+        let here = subst (λ u. PathLeads m u (Ptr j ∷ v) n (word s' w')) spot walks in
         let same = one_object m s w k' t' b' q' k t b q f' f in
         let one : tag' ≡ tag = one_word m t b tag' tag (subst (λ u. HasWord m t u tag') same.start (subst (λ u. HasWord m u b' tag') same.segment has')) has in
         let inside : i < middle tag = subst (λ u. i < middle u) one l in

@@ -7,7 +7,7 @@ use Rattle.cap_spec.specs.Paths.{word}
 use Rattle.cap_spec.specs.declared.Kind.TheVariants.{Cap, Null}
 use Rattle.cap_spec.proofs.Trees.Charges.{extent_struct}
 use Rattle.cap_spec.proofs.Canonical.TreeMeasures.{extent_scalars}
-use Rattle.cap_spec.specs.Arriving.{StandsObject}
+use Rattle.cap_spec.specs.Arriving.{HasObjectAt}
 use Rattle.cap_spec.specs.ObjectShapes.{HasKind}
 use Rattle.cap_ptr.specs.Shapes.{FindsObject, IsShape}
 use Rattle.cap_ptr.specs.declared.shapes.Shape.{Shape}
@@ -34,7 +34,7 @@ kind_shape q tag (shape.Structs size n d p) h =
 
 -- an object
 module _ (m : List (List ℕ)) (s w k t b q tag n c : ℕ) where
-  object_at : (x : Shape) → FindsObject m s w k t b q tag n c x → StandsObject m s w (kind_of_shape x) t b n k q tag
+  object_at : (x : Shape) → FindsObject m s w k t b q tag n c x → HasObjectAt m s w (kind_of_shape x) t b n k q tag
   object_at x f = record {
     finds = f.finds;
     tagged = λ composite. (f.object.tagged composite).0;

@@ -8,7 +8,7 @@ use Rattle.cap_spec.specs.Denoting.{Finds}
 use Rattle.cap_spec.specs.Following.{Leads, Says, near, one_pad, two_pads, to_object}
 use Rattle.cap_spec.specs.Verdicts.{levels_below}
 use Rattle.cap_spec.proofs.Trees.Charges.{extent_pointers, extent_struct}
-use Rattle.cap_ptr.specs.Reaching.{StandsFor}
+use Rattle.cap_ptr.specs.Reaching.{ResolvesTo}
 use Rattle.cap_ptr.specs.Rows.{FindsRow, HasPointers}
 use Rattle.cap_ptr.specs.declared.near.Row.{Row}
 use Rattle.cap_ptr.proofs.NearObjects.{pointers-no_extra, pointers-plain}
@@ -56,12 +56,12 @@ says_own m t at q b (one_pad p x h one hx n says e) = absurd (omega (arith, e))
 says_own m t at q b (two_pads p f x h two hf hx one tag says e) = absurd (omega (arith, e))
 
 -- So the pointer word whose place it takes leads there too.
-finds_over : (m : List (List ℕ)) (s w k t at b q : ℕ) → StandsFor m s w k t at q → Finds m t at 0 t b q → Finds m s w k t b q
+finds_over : (m : List (List ℕ)) (s w k t at b q : ℕ) → ResolvesTo m s w k t at q → Finds m t at 0 t b q → Finds m s w k t b q
 finds_over m s w k t at b q stands f = record { leads = stands.leads (to_object t (pos b) q) (says_own m t at q (pos b) f.leads); sits = f.sits }
 
 -- such an object within the limits
 pub looks_row : (m : List (List ℕ)) (words depth spent s w level k t at q : ℕ) (r : Row) (run : Option PointerRun) → FindsRow m t at q r
-    → StandsFor m s w k t at q → level ≤ depth → k + r.words ≤ words - spent → spent ≤ words
+    → ResolvesTo m s w k t at q → level ≤ depth → k + r.words ≤ words - spent → spent ≤ words
     → option_spots run ≡ row_places (level + 1) t r.pointers_start r.pointer_count → OptionIn m run → LevelIs (level + 1) run
     → IsLooked m words depth spent s w level (Object (k + r.words) level run)
 looks_row m words depth spent s w level k t at q r run f stands shallow charge within places inside here =

@@ -5,7 +5,7 @@ use Rattle.std.proofs.Math.Logic.{∥∥₁_elim, ∥∥₁_map}
 use Rattle.cap_spec.specs.Messages.{HasWord, segment_of}
 use Rattle.cap_spec.specs.Following.{Wrong}
 use Rattle.cap_spec.specs.Denoting.{Denotes}
-use Rattle.cap_spec.specs.Paths.{Comes, Goes, Spot, Walks, level_of, word}
+use Rattle.cap_spec.specs.Paths.{ReachesSpot, StepsTo, Spot, PathLeads, level_of, word}
 use Rattle.cap_spec.specs.Standing.{DenotesAt}
 use Rattle.cap_spec.specs.Tree.{Tree, node_at, part_at}
 use Rattle.cap_spec.specs.declared.Reason.{Reason}
@@ -41,11 +41,11 @@ root_inside m r h =
     let one : IsProp (0 < length (segment_of m 0)) = hlevel props in
     ∥∥₁_elim h one (λ (t, a). let p = root_word m t r.charge r.depth a.within.denotes in HasWord-inside m 0 0 p.0 p.1)
 
-pub root_comes : (m : List (List ℕ)) → 0 < length (segment_of m 0) → Comes m [] 1 (word 0 0)
+pub root_comes : (m : List (List ℕ)) → 0 < length (segment_of m 0) → ReachesSpot m [] 1 (word 0 0)
 root_comes m h = let p = HasWord-at m 0 0 h in (p.0, 0, p.1, (refl, refl), refl)
 
 -- and so is what a step leads to.
-pub next_node : (m : List (List ℕ)) (a b : Spot) (step : Step) → ∥ IsNode m a ∥₁ → Goes m a step b → ∥ IsNode m b ∥₁
+pub next_node : (m : List (List ℕ)) (a b : Spot) (step : Step) → ∥ IsNode m a ∥₁ → StepsTo m a step b → ∥ IsNode m b ∥₁
 next_node m a b step h g = ∥∥₁_map h (λ n. record {
   tree = n.tree;
   charge = n.charge;
@@ -64,12 +64,12 @@ node_not_wrong m s w v h x =
     ∥∥₁_elim h one (λ n. reached_not_wrong m n.tree n.charge n.depth n.denotes n.path n.level s w v n.comes x)
 
 -- where a step leads, the part of the tree stands
-pub part_stands : (m : List (List ℕ)) (a b : Spot) (step : Step) (t : Tree) → Goes m a step b → DenotesAt m a t
+pub part_stands : (m : List (List ℕ)) (a b : Spot) (step : Step) (t : Tree) → StepsTo m a step b → DenotesAt m a t
     → (u : Tree) × (part_at t step ≡ Some u) × DenotesAt m b u
 part_stands m a b step t g h = step_to_part m a step b t h g
 
 -- and where it leads nowhere, there is no part
-pub no_part : (m : List (List ℕ)) (a : Spot) (step : Step) (t : Tree) → ((b : Spot) → Goes m a step b → ⊥) → DenotesAt m a t → part_at t step ≡ None
+pub no_part : (m : List (List ℕ)) (a : Spot) (step : Step) (t : Tree) → ((b : Spot) → StepsTo m a step b → ⊥) → DenotesAt m a t → part_at t step ≡ None
 no_part m a step t none h = go (part_at t step) refl
   where
     go : (o : Option Tree) → part_at t step ≡ o → part_at t step ≡ None
@@ -78,7 +78,7 @@ no_part m a step t none h = go (part_at t step) refl
 
 -- a path that leads nowhere has no node
 pub no_node : (m : List (List ℕ)) (path : List Step) (t : Tree) (c d : ℕ)
-    → ((level : ℕ) (a : Spot) → Comes m path level a → ⊥) → Denotes m 0 0 t c d → node_at t path ≡ None
+    → ((level : ℕ) (a : Spot) → ReachesSpot m path level a → ⊥) → Denotes m 0 0 t c d → node_at t path ≡ None
 no_node m path t c d none h = go (node_at t path) refl
   where
     go : (o : Option Tree) → node_at t path ≡ o → node_at t path ≡ None
@@ -86,13 +86,13 @@ no_node m path t c d none h = go (node_at t path) refl
     go (Some u) e = let r = node_to_coming m t c d h path u e in absurd (none r.0 r.1 r.2)
 
 -- where the path up to here leads, and the next step leads nowhere, the whole path does
-pub comes_nowhere : (m : List (List ℕ)) (path done rest : List Step) (step : Step) (level : ℕ) (a : Spot) → path ≡ done ++ step ∷ rest → Comes m done level a
-    → ((b : Spot) → Goes m a step b → ⊥) → (level' : ℕ) (b : Spot) → Comes m path level' b → ⊥
+pub comes_nowhere : (m : List (List ℕ)) (path done rest : List Step) (step : Step) (level : ℕ) (a : Spot) → path ≡ done ++ step ∷ rest → ReachesSpot m done level a
+    → ((b : Spot) → StepsTo m a step b → ⊥) → (level' : ℕ) (b : Spot) → ReachesSpot m path level' b → ⊥
 comes_nowhere m path done rest step level a e h none level' b g =
-    let g' : Comes m (done ++ step ∷ rest) level' b = subst (λ u. Comes m u level' b) e g in
+    let g' : ReachesSpot m (done ++ step ∷ rest) level' b = subst (λ u. ReachesSpot m u level' b) e g in
     let w = (comes_beyond m done (step ∷ rest) level level' a b h g').1 in none w.0 w.2
 
 -- one more step
-pub comes_on : (m : List (List ℕ)) (done : List Step) (step : Step) (level : ℕ) (a b : Spot) → Comes m done level a
-    → Goes m a step b → (level' : ℕ) × Comes m (done ++ step ∷ []) level' b
+pub comes_on : (m : List (List ℕ)) (done : List Step) (step : Step) (level : ℕ) (a b : Spot) → ReachesSpot m done level a
+    → StepsTo m a step b → (level' : ℕ) × ReachesSpot m (done ++ step ∷ []) level' b
 comes_on m done step level a b h g = (level + level_of b, (coming_last m done step (level + level_of b) b).1 (a, level, h, g, refl))

@@ -8,7 +8,7 @@ use Rattle.cap_spec.specs.Messages.{HasWord}
 use Rattle.cap_spec.specs.Pointers.{kind, middle, code, data_size, pointer_size, list_size, extent}
 use Rattle.cap_spec.specs.Following.{IsComposite, TagFits, extra}
 use Rattle.cap_spec.specs.Denoting.{Finds, element_levels}
-use Rattle.cap_spec.specs.Paths.{Goes, Reaches, Spot, Walks, word}
+use Rattle.cap_spec.specs.Paths.{StepsTo, Reaches, Spot, PathLeads, word}
 use Rattle.cap_spec.specs.Verdicts.{levels_below}
 use Rattle.cap_spec.specs.declared.Step.{Step}
 use Rattle.cap_spec.specs.declared.Step.TheVariants.{Ptr, Item}
@@ -97,7 +97,7 @@ struct-brings m a k t b q tag low r f e =
 
 -- a list of values has no step to go on by
 scalars_end : (m : List (List ℕ)) (s w k t b q : ℕ) → Finds m s w k t b q → kind q ≡ 1 → (code q == 6) ≡ false → (code q == 7) ≡ false
-    → (x : Step) (v : List Step) (mid : Spot) (n s' w' : ℕ) → Goes m (word s w) x mid → Walks m mid v n (word s' w') → ⊥
+    → (x : Step) (v : List Step) (mid : Spot) (n s' w' : ℕ) → StepsTo m (word s w) x mid → PathLeads m mid v n (word s' w') → ⊥
 scalars_end m s w k t b q f e no_pointers no_structs (Ptr i) v mid n s' w' (k', t', b', q', f', e', l, spot) walks =
     let g : kind q ≡ kind q' = ap kind (one_object m s w k t b q k' t' b' q' f f').shape in
     omega (arith, e, e', g)

@@ -1,7 +1,7 @@
 -- What the end of a path says of the pointers on it.
 use Rattle.std.proofs.Common.{ℕ, ◌-◌, ◌≤◌, ◌≡◌, List, ◌∷◌, ◌++◌, Option, None, Some, length, refl, subst, sym, arith}
 use Rattle.std.specs.Prelude.{Bool, true, false}
-use Rattle.cap_spec.specs.Arriving.{ArrivesAt}
+use Rattle.cap_spec.specs.Arriving.{PathFinds}
 use Rattle.cap_spec.specs.Getting.{AreOnPath, IsStartOf, Charges}
 use Rattle.cap_spec.specs.Paths.{Spot}
 use Rattle.cap_spec.specs.Strict.{IsLax}
@@ -61,14 +61,14 @@ known m words depth path at false e =
 
 -- Nothing is at the path.
 pub nothing_at : (m : List (List ℕ)) (words depth : ℕ) (path : List Step) (at : Arrival)
-    → EndsEarly m words depth path at → (k : Kind) (t b n : ℕ) → ¬ ArrivesAt m path k t b n
+    → EndsEarly m words depth path at → (k : Kind) (t b n : ℕ) → ¬ PathFinds m path k t b n
 nothing_at m words depth path at e k t b n =
     arrives_nowhere m words depth e.done e.rest path e.step e.spot at e.whole e.arrives e.nowhere k t b n
 
 -- Something is.
 pub something_at : (m : List (List ℕ)) (words depth : ℕ) (path : List Step) (at : Arrival) (a : Spot)
     → Arrives m words depth path a at
-    → ArrivesAt m path at.found.kind at.found.place.segment at.found.place.start at.found.place.words
+    → PathFinds m path at.found.kind at.found.place.segment at.found.place.start at.found.place.words
 something_at m words depth path at a h = (at.level, a, h.comes, h.found.stands)
 
 -- No pointer on it is rejected where none is known,

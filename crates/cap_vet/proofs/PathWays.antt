@@ -3,9 +3,9 @@ use Rattle.std.proofs.Common.{ℕ, ◌≡◌, ◌∙◌, ◌≤◌, List, [], �
 use Rattle.std.proofs.Common.{Option, Some, ap, append_assoc, append-nil, inl, inr, length, refl, subst, sym}
 use Rattle.std.specs.Prelude.{true, false, IsOk, Result}
 use Rattle.cap_frame.specs.declared.segments.Segments as segments
-use Rattle.cap_spec.specs.Arriving.{ArrivesAt}
+use Rattle.cap_spec.specs.Arriving.{PathFinds}
 use Rattle.cap_spec.specs.Getting.{IsFaultOnPath, IsRefusedOnPath}
-use Rattle.cap_spec.specs.Paths.{Goes, Spot}
+use Rattle.cap_spec.specs.Paths.{StepsTo, Spot}
 use Rattle.cap_spec.specs.declared.Refusal.{Refusal}
 use Rattle.cap_spec.specs.declared.Step.{Step}
 use Rattle.cap_spec.specs.declared.StrictRefusal.{StrictRefusal}
@@ -46,7 +46,7 @@ module _ (m : List (List ℕ)) (words depth : ℕ) (path more : List Step) where
 
 -- One step more leads to nothing,
 pub step_nowhere : (m : List (List ℕ)) (words depth : ℕ) (path rest : List Step) (step : Step) (a : Spot) (at : Arrival)
-    → Arrives m words depth path a at → ((b : Spot) → Goes m a step b → ⊥) → EndsEarly m words depth (path ++ step ∷ rest) at
+    → Arrives m words depth path a at → ((b : Spot) → StepsTo m a step b → ⊥) → EndsEarly m words depth (path ++ step ∷ rest) at
 step_nowhere m words depth path rest step a at h none =
     record { done = path; step = step; rest = rest; spot = a; whole = refl; arrives = h; nowhere = none }
 
@@ -90,7 +90,7 @@ module _ {M : Type 0} {g : segments.Ghosts M} (demands : Demands) (m : List (Lis
   something_given at v e h none = record {
     meets = meets_at demands m words depth path at true h none;
     none = tt;
-    some = subst (λ (f : Found). ArrivesAt m path f.kind f.place.segment f.place.start f.place.words) (sym e)
+    some = subst (λ (f : Found). PathFinds m path f.kind f.place.segment f.place.start f.place.words) (sym e)
         (something_at m (words_under demands m words) depth path at h.0 h.1);
     err = tt;
   }

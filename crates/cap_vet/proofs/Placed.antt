@@ -1,8 +1,8 @@
 -- The place of what stands at a spot.
 use Rattle.std.proofs.Common.{ℕ, List}
 use Rattle.std.specs.Prelude.{MatchOption}
-use Rattle.cap_spec.specs.Arriving.{StandsAs, StandsElement}
-use Rattle.cap_spec.specs.Paths.{Spot, Stands, word, element}
+use Rattle.cap_spec.specs.Arriving.{HasObject, IsElementAt}
+use Rattle.cap_spec.specs.Paths.{Spot, HasPlace, word, element}
 use Rattle.cap_spec.specs.declared.Kind.{Kind}
 use Rattle.cap_spec.specs.declared.Kind.TheVariants.{Null, Cap, Struct, Scalars, Pointers, Structs}
 use Rattle.cap_vet.specs.Views.{place_of_kind}
@@ -10,8 +10,8 @@ use Rattle.cap_vet.specs.declared.nodes.place.Place.{Place}
 use Rattle.cap_vet.proofs.Steps.{cap_no_object, null_no_object}
 
 -- Null and a capability have no place, and all else has the words that were found.
-pub stands_place : (m : List (List ℕ)) (a : Spot) (k : Kind) (p : Place) → StandsAs m a k p.segment p.start p.words
-    → MatchOption (place_of_kind k p) ((t b n : ℕ) → Stands m a t b n → ⊥) (λ q. Stands m a q.segment q.start q.words)
+pub stands_place : (m : List (List ℕ)) (a : Spot) (k : Kind) (p : Place) → HasObject m a k p.segment p.start p.words
+    → MatchOption (place_of_kind k p) ((t b n : ℕ) → HasPlace m a t b n → ⊥) (λ q. HasPlace m a q.segment q.start q.words)
 stands_place m (word s w) Null p f = λ t b n h. null_no_object m s w f.0 h.0 t b h.1 f.1 h.2
 stands_place m (word s w) (Cap i) p f = λ t b n h. cap_no_object m s w f.0 i h.0 t b h.1 f.1 h.2
 stands_place m (word s w) (Struct d e) p (k, q, tag, f) = (k, q, f.finds, f.words)
@@ -19,5 +19,5 @@ stands_place m (word s w) (Scalars c x) p (k, q, tag, f) = (k, q, f.finds, f.wor
 stands_place m (word s w) (Pointers x) p (k, q, tag, f) = (k, q, f.finds, f.words)
 stands_place m (word s w) (Structs x d e) p (k, q, tag, f) = (k, q, f.finds, f.words)
 stands_place m (element t' b' ds ps) (Struct d e) p f =
-    let y : StandsElement t' b' ds ps d e p.segment p.start p.words = f in (y.segment, y.start, y.words)
+    let y : IsElementAt t' b' ds ps d e p.segment p.start p.words = f in (y.segment, y.start, y.words)
 stands_place m (element t' b' ds ps) k p f = absurd f

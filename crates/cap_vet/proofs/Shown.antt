@@ -16,7 +16,7 @@ use Rattle.cap_spec.proofs.Trees.Finding.{SameObject, one_object}
 use Rattle.cap_spec.proofs.Pointers.Following.{one_lead}
 use Rattle.cap_spec.proofs.Frames.Messages.{one_word}
 use Rattle.cap_spec.proofs.Trees.OneTree.{HasForm, form_of, formed, number_list, number_struct}
-use Rattle.cap_spec.specs.Arriving.{StandsAs, StandsElement, own_at}
+use Rattle.cap_spec.specs.Arriving.{HasObject, IsElementAt, own_at}
 use Rattle.cap_spec.specs.Showing.{own_of, own_null, own_cap, own_struct, own_scalars, own_pointers, own_structs}
 
 -- a tree has the form of what its word leads to
@@ -89,7 +89,7 @@ structs_own m s w (scalars z vs) c d k t b q tag h f e g y =
 structs_own m s w x c d k t b q tag h f e g y = absurd (omega (arith, number_list (kind q) (code q) e, g, found_form m s w x c d k t b q h f))
 
 -- What stands at a spot is the node of the tree there.
-pub stands_own : (m : List (List ℕ)) (a : Spot) (k : Kind) (t b n : ℕ) (x : Tree) → StandsAs m a k t b n → DenotesAt m a x → own_at m k t b ≡ own_of x
+pub stands_own : (m : List (List ℕ)) (a : Spot) (k : Kind) (t b n : ℕ) (x : Tree) → HasObject m a k t b n → DenotesAt m a x → own_at m k t b ≡ own_of x
 stands_own m (word s w) Null t b n x f h = sym (null_own m s w x h.0 h.1 f.0 h.2 f.1)
 stands_own m (word s w) (Cap i) t b n x f h = sym (cap_own m s w x h.0 h.1 f.0 i h.2 f.1)
 stands_own m (word s w) (Struct d p) t b n x (k, q, tag, f) h = rw (f.shape.data_words, f.shape.pointers)
@@ -101,7 +101,7 @@ stands_own m (word s w) (Pointers y) t b n x (k, q, tag, f) h = rw f.shape.count
 stands_own m (word s w) (Structs y d p) t b n x (k, q, tag, f) h = rw (f.shape.count, f.shape.data_words, f.shape.pointers)
     (sym (structs_own m s w x h.0 h.1 k t b q tag h.2 f.finds f.shape.kind f.shape.code (f.tagged (f.shape.kind, f.shape.code))))
 stands_own m (element t' b' ds ps) (Struct d p) t b n (struct ws ts) f h =
-    let e : StandsElement t' b' ds ps d p t b n = f in
+    let e : IsElementAt t' b' ds ps d p t b n = f in
     let count = (each_charged m (places t' (b' + ds) ps) ts h.0 h.1 h.3).0 ∙ length-places t' (b' + ds) ps in
     rw (e.segment, e.start, e.data_words, e.pointers) (same_struct (words_from m t' b' ds) ws ps (tree_count ts) (sym h.2) (sym count))
 stands_own m (element t' b' ds ps) (Struct d p) t b n x f h = absurd h

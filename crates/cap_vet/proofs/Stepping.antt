@@ -3,25 +3,25 @@ use Rattle.std.proofs.Common.{◌≡◌, ℕ, ◌+◌, ◌*◌, ◌<◌, ◌≤�
 use Rattle.std.proofs.Math.Nat.{mul-le-mul_right}
 use Rattle.cap_spec.specs.Messages.{segment_of}
 use Rattle.cap_spec.specs.Pointers.{kind, code, middle, data_size, pointer_size, list_size}
-use Rattle.cap_spec.specs.Paths.{Goes, Spot, word, element}
+use Rattle.cap_spec.specs.Paths.{StepsTo, Spot, word, element}
 use Rattle.cap_spec.specs.declared.Kind.{Kind}
 use Rattle.cap_spec.specs.declared.Kind.TheVariants.{Null, Cap, Struct, Scalars, Pointers, Structs}
 use Rattle.cap_spec.specs.declared.Step.TheVariants.{Ptr, Item}
 use Rattle.cap_spec.proofs.Trees.Charges.{extent_pointers, extent_structs}
 use Rattle.cap_spec.proofs.Trees.Finding.{SameObject, one_object}
 use Rattle.cap_spec.proofs.Frames.Messages.{one_word}
-use Rattle.cap_spec.specs.Arriving.{StandsAs, StandsElement}
+use Rattle.cap_spec.specs.Arriving.{HasObject, IsElementAt}
 use Rattle.cap_vet.specs.Finding.{IsFound}
 use Rattle.cap_vet.specs.declared.nodes.found.Found.{Found}
 use Rattle.cap_vet.proofs.Steps.{cap_no_object, null_no_object}
 
 -- what stands there, where its kind is known
-as_kind : (m : List (List ℕ)) (a : Spot) (f : Found) (x : Kind) → IsFound m a f → f.kind ≡ x → StandsAs m a x f.place.segment f.place.start f.place.words
-as_kind m a f x h e = subst (λ u. StandsAs m a u f.place.segment f.place.start f.place.words) e h.stands
+as_kind : (m : List (List ℕ)) (a : Spot) (f : Found) (x : Kind) → IsFound m a f → f.kind ≡ x → HasObject m a x f.place.segment f.place.start f.place.words
+as_kind m a f x h e = subst (λ u. HasObject m a u f.place.segment f.place.start f.place.words) e h.stands
 
 -- a struct's pointers
 pub pointer_goes : (m : List (List ℕ)) (a : Spot) {f : Found} (d : ℕ) {p i x : ℕ} → IsFound m a f → f.kind ≡ Struct d p → i < p → x ≡ f.place.start + d + i
-    → Goes m a (Ptr i) (word f.place.segment x)
+    → StepsTo m a (Ptr i) (word f.place.segment x)
 pointer_goes m (word s w) {f} d {p} h e lt ex =
     let y = as_kind m (word s w) f (Struct d p) h e in (
       y.0,
@@ -35,12 +35,12 @@ pointer_goes m (word s w) {f} d {p} h e lt ex =
           (omega (arith, ex, y.3.shape.data_words)),
     )
 pointer_goes m (element t' b' ds ps) {f} d {p} {x} h e lt ex =
-    let y : StandsElement t' b' ds ps d p f.place.segment f.place.start f.place.words = as_kind m (element t' b' ds ps) f (Struct d p) h e in
+    let y : IsElementAt t' b' ds ps d p f.place.segment f.place.start f.place.words = as_kind m (element t' b' ds ps) f (Struct d p) h e in
     (omega (arith, lt, y.pointers), ap (λ u. word u x) y.segment ∙ ap (word t') (omega (arith, ex, y.start, y.data_words)))
 
 -- what isn't a struct has none
 no_pointer : (m : List (List ℕ)) (a : Spot) (f : Found) (k : Kind) (i : ℕ) (b : Spot) → f.kind ≡ k → ((d p : ℕ) → f.kind ≡ Struct d p → ⊥)
-    → IsFound m a f → Goes m a (Ptr i) b → ⊥
+    → IsFound m a f → StepsTo m a (Ptr i) b → ⊥
 no_pointer m (word s w) f Null i b e none h g = let y = as_kind m (word s w) f Null h e in null_no_object m s w y.0 g.0 g.1 g.2 g.3 y.1 g.4
 no_pointer m (word s w) f (Cap x) i b e none h g = let y = as_kind m (word s w) f (Cap x) h e in cap_no_object m s w y.0 x g.0 g.1 g.2 g.3 y.1 g.4
 no_pointer m (word s w) f (Struct d p) i b e none h g = none d p e
@@ -60,12 +60,12 @@ no_pointer m (element t' b' ds ps) f (Struct d p) i b e none h g = none d p e
 no_pointer m (element t' b' ds ps) f k i b e none h g = absurd (as_kind m (element t' b' ds ps) f k h e)
 
 pub pointer_of_other : (m : List (List ℕ)) (a : Spot) (f : Found) (i : ℕ) (b : Spot) → ((d p : ℕ) → f.kind ≡ Struct d p → ⊥) → IsFound m a f
-    → Goes m a (Ptr i) b → ⊥
+    → StepsTo m a (Ptr i) b → ⊥
 pointer_of_other m a f i b none h g = no_pointer m a f f.kind i b refl none h g
 
 -- the entries of a list of pointers
 pub entry_goes : (m : List (List ℕ)) (a : Spot) {f : Found} {n i x : ℕ} → IsFound m a f → f.kind ≡ Pointers n → i < n → x ≡ f.place.start + i
-    → Goes m a (Item i) (word f.place.segment x)
+    → StepsTo m a (Item i) (word f.place.segment x)
 entry_goes m (word s w) {f} {n} h e lt ex =
     let y = as_kind m (word s w) f (Pointers n) h e in
     inl (y.0, f.place.segment, f.place.start, y.1, y.3.finds, y.3.shape.kind, y.3.shape.code, omega (arith, lt, y.3.shape.count), ap (word f.place.segment) ex)
@@ -79,7 +79,7 @@ entry_inside m (word s w) f n i h e lt =
     omega (arith, lt, y.3.shape.count, y.3.words, extent_pointers y.1 y.3.shape.kind y.3.shape.code, h.inside)
 entry_inside m (element t' b' ds ps) f n i h e lt = absurd (as_kind m (element t' b' ds ps) f (Pointers n) h e)
 
-pub entry_past : (m : List (List ℕ)) (a : Spot) (f : Found) (n i : ℕ) (b : Spot) → IsFound m a f → f.kind ≡ Pointers n → n ≤ i → Goes m a (Item i) b → ⊥
+pub entry_past : (m : List (List ℕ)) (a : Spot) (f : Found) (n i : ℕ) (b : Spot) → IsFound m a f → f.kind ≡ Pointers n → n ≤ i → StepsTo m a (Item i) b → ⊥
 entry_past m (word s w) f n i b h e past (inl g) =
     let y = as_kind m (word s w) f (Pointers n) h e in
     let o = one_object m s w y.0 f.place.segment f.place.start y.1 g.0 g.1 g.2 g.3 y.3.finds g.4 in
@@ -92,7 +92,7 @@ entry_past m (element t' b' ds ps) f n i b h e past g = absurd g
 
 -- the elements of a list of structs
 pub element_goes : (m : List (List ℕ)) (a : Spot) {f : Found} {n : ℕ} (d p : ℕ) {i : ℕ} → IsFound m a f → f.kind ≡ Structs n d p → i < n
-    → Goes m a (Item i) (element f.place.segment (f.place.start + 1 + i * (d + p)) d p)
+    → StepsTo m a (Item i) (element f.place.segment (f.place.start + 1 + i * (d + p)) d p)
 element_goes m (word s w) {f} {n} d p h e lt =
     let y = as_kind m (word s w) f (Structs n d p) h e in
     inr (
@@ -111,7 +111,7 @@ element_goes m (word s w) {f} {n} d p h e lt =
 element_goes m (element t' b' ds ps) {f} {n} d p h e lt = absurd (as_kind m (element t' b' ds ps) f (Structs n d p) h e)
 
 pub element_past : (m : List (List ℕ)) (a : Spot) {f : Found} {n : ℕ} (d p : ℕ) {i : ℕ} (b : Spot) → IsFound m a f → f.kind ≡ Structs n d p → n ≤ i
-    → Goes m a (Item i) b → ⊥
+    → StepsTo m a (Item i) b → ⊥
 element_past m (word s w) {f} {n} d p b h e past (inl g) =
     let y = as_kind m (word s w) f (Structs n d p) h e in
     let o = one_object m s w y.0 f.place.segment f.place.start y.1 g.0 g.1 g.2 g.3 y.3.finds g.4 in

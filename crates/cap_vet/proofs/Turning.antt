@@ -9,7 +9,7 @@ use Rattle.cap_spec.specs.Pointers.{code, extent, kind, middle}
 use Rattle.cap_spec.specs.Following.{Leads, IsComposite, to_null, to_cap, extra}
 use Rattle.cap_spec.specs.Denoting.{Finds, element_levels}
 use Rattle.cap_spec.specs.Faults.{AreShallow}
-use Rattle.cap_spec.specs.Paths.{Before, Costs, Goes, Reaches, Spot, Walks, word}
+use Rattle.cap_spec.specs.Paths.{Before, Costs, StepsTo, Reaches, Spot, PathLeads, word}
 use Rattle.cap_spec.specs.Verdicts.{CostOf, levels_below, IsDeepAt}
 use Rattle.cap_spec.specs.declared.Step.{Step}
 use Rattle.cap_spec.specs.declared.Step.TheVariants.{Ptr, Item}
@@ -60,13 +60,13 @@ next_ahead x places (a ∷ ahead) e =
 
 -- null and capabilities lead nowhere
 pub null_ends : (m : List (List ℕ)) (s w k : ℕ) → Leads m s w k to_null
-    → (x : Step) (v : List Step) (mid : Spot) (n s' w' : ℕ) → Goes m (word s w) x mid → Walks m mid v n (word s' w') → ⊥
+    → (x : Step) (v : List Step) (mid : Spot) (n s' w' : ℕ) → StepsTo m (word s w) x mid → PathLeads m mid v n (word s' w') → ⊥
 null_ends m s w k h (Ptr i) v mid n s' w' (k', t', b', q', f', e, l, spot) walks = null_no_object m s w k k' t' b' q' h f'
 null_ends m s w k h (Item i) v mid n s' w' (inl (k', t', b', q', f', e, c, l, spot)) walks = null_no_object m s w k k' t' b' q' h f'
 null_ends m s w k h (Item i) v mid n s' w' (inr (k', t', b', q', tag, f', e, c, has, l, spot)) walks = null_no_object m s w k k' t' b' q' h f'
 
 pub cap_ends : (m : List (List ℕ)) (s w k i : ℕ) → Leads m s w k (to_cap i)
-    → (x : Step) (v : List Step) (mid : Spot) (n s' w' : ℕ) → Goes m (word s w) x mid → Walks m mid v n (word s' w') → ⊥
+    → (x : Step) (v : List Step) (mid : Spot) (n s' w' : ℕ) → StepsTo m (word s w) x mid → PathLeads m mid v n (word s' w') → ⊥
 cap_ends m s w k i h (Ptr j) v mid n s' w' (k', t', b', q', f', e, l, spot) walks = cap_no_object m s w k i k' t' b' q' h f'
 cap_ends m s w k i h (Item j) v mid n s' w' (inl (k', t', b', q', f', e, c, l, spot)) walks = cap_no_object m s w k i k' t' b' q' h f'
 cap_ends m s w k i h (Item j) v mid n s' w' (inr (k', t', b', q', tag, f', e, c, has, l, spot)) walks = cap_no_object m s w k i k' t' b' q' h f'

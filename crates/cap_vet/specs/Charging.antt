@@ -2,7 +2,7 @@
 use Rattle.std.specs.Prelude.{ℕ, ◌+◌, ◌<◌, ◌≤◌, ◌≡◌, List, ◌∷◌, ◌++◌, length, Bool, true, false}
 use Rattle.cap_spec.specs.Faults.{AreShallow}
 use Rattle.cap_spec.specs.Getting.{AreOnPath}
-use Rattle.cap_spec.specs.Paths.{Comes, Goes, Spot, word, element}
+use Rattle.cap_spec.specs.Paths.{ReachesSpot, StepsTo, Spot, word, element}
 use Rattle.cap_spec.specs.Verdicts.{CostOf}
 use Rattle.cap_spec.specs.declared.Step.{Step}
 use Rattle.cap_vet.specs.Finding.{IsFound}
@@ -17,7 +17,7 @@ deepest_at depth (element t b ds ps) = depth
 -- The path comes to this spot. Following the pointers on it keeps to the limits, and costs the
 -- words that were charged. The first of them that common readers reject is known.
 pub record Arrives (m : List (List ℕ)) (words depth : ℕ) (path : List Step) (spot : Spot) (at : Arrival) : Type 0 where
-  pub comes : Comes m path at.level spot
+  pub comes : ReachesSpot m path at.level spot
   pub found : IsFound m spot at.found
   pub ways : List (List Step)
   pub on_path : AreOnPath m path ways
@@ -38,7 +38,7 @@ pub record EndsEarly (m : List (List ℕ)) (words depth : ℕ) (path : List Step
   pub spot : Spot
   pub whole : path ≡ done ++ step ∷ rest
   pub arrives : Arrives m words depth done spot at
-  pub nowhere : (b : Spot) → ¬ Goes m spot step b
+  pub nowhere : (b : Spot) → ¬ StepsTo m spot step b
 
 -- something is at the end of the path, or nothing
 abbrev pub EndsAt : List (List ℕ) → ℕ → ℕ → List Step → Arrival → Bool → Type 0

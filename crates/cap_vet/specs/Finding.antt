@@ -2,8 +2,8 @@
 use Rattle.std.specs.Prelude.{ℕ, ◌+◌, ◌<◌, ◌≤◌, List, length, Option, None, Some}
 use Rattle.cap_spec.specs.Messages.{IsMessage, segment_of}
 use Rattle.cap_spec.specs.Pointers.{list_words}
-use Rattle.cap_spec.specs.Arriving.{StandsAs}
-use Rattle.cap_spec.specs.Paths.{Goes, Spot as Where}
+use Rattle.cap_spec.specs.Arriving.{HasObject}
+use Rattle.cap_spec.specs.Paths.{StepsTo, Spot as Where}
 use Rattle.cap_spec.specs.declared.Kind.{Kind}
 use Rattle.cap_spec.specs.declared.Kind.TheVariants.{Struct, Scalars, Pointers, Structs}
 use Rattle.cap_spec.specs.declared.Step.{Step}
@@ -33,7 +33,7 @@ own_words _ = 0
 -- its kind and its place are those of the object at the spot, and its words lie inside their
 -- segment
 pub record IsFound (m : List (List ℕ)) (a : Where) (f : Found) : Type 0 where
-  pub stands : StandsAs m a f.kind f.place.segment f.place.start f.place.words
+  pub stands : HasObject m a f.kind f.place.segment f.place.start f.place.words
   pub exists : f.place.segment < length m
   pub inside : f.place.start + f.place.words ≤ length (segment_of m f.place.segment)
   pub own : own_words f.kind ≤ f.place.words
@@ -45,6 +45,6 @@ IsSomewhere f = ∥ ((m : List (List ℕ)) × (a : Where) × IsMessage m × IsFo
 -- the answer says where a step leads from what was found
 abbrev pub StepLeads : Found → Step → Option Spot → Type 0
 StepLeads f step None =
-    (m : List (List ℕ)) (a : Where) → IsFound m a f → (b : Where) → ¬ Goes m a step b
+    (m : List (List ℕ)) (a : Where) → IsFound m a f → (b : Where) → ¬ StepsTo m a step b
 StepLeads f step (Some b) =
-    (m : List (List ℕ)) (a : Where) → IsFound m a f → Goes m a step (spot_of b) × SpotIn m b
+    (m : List (List ℕ)) (a : Where) → IsFound m a f → StepsTo m a step (spot_of b) × SpotIn m b

@@ -9,7 +9,7 @@ use Rattle.cap_spec.specs.Verdicts.{levels_below}
 use Rattle.cap_spec.specs.declared.Lax.{Lax}
 use Rattle.cap_spec.specs.declared.Step.{Step}
 use Rattle.cap_spec.specs.declared.Step.TheVariants.{Ptr, Item}
-use Rattle.cap_ptr.specs.Reaching.{StandsFor}
+use Rattle.cap_ptr.specs.Reaching.{ResolvesTo}
 use Rattle.cap_ptr.specs.Shapes.{IsFollowed, charge_of}
 use Rattle.cap_ptr.specs.declared.shapes.Followed.{Followed}
 use Rattle.cap_ptr.specs.declared.shapes.Followed.TheVariants as followed
@@ -41,7 +41,7 @@ RunRises level depth (Some f) = (level + 1 ≤ f.level) × (f.level ≤ depth + 
 
 -- the word at t:b takes the place of the pointer word at s:w, over k pads, if it is that of an object
 abbrev pub MayStandFor : List (List ℕ) → ℕ → ℕ → ℕ → ℕ → ℕ → Type 0
-MayStandFor m s w k t b = (q : ℕ) → HasWord m t b q → kind q < 2 → StandsFor m s w k t b q
+MayStandFor m s w k t b = (q : ℕ) → HasWord m t b q → kind q < 2 → ResolvesTo m s w k t b q
 
 -- the word at s:w is neither null nor far nor a capability
 abbrev pub IsObjectWord : List (List ℕ) → ℕ → ℕ → Type 0

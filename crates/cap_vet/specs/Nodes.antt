@@ -2,7 +2,7 @@
 use Rattle.std.specs.Prelude.{ℕ, ◌≤◌, List}
 use Rattle.cap_spec.specs.Denoting.{Denotes}
 use Rattle.cap_spec.specs.GreatestLimits.{most_depth}
-use Rattle.cap_spec.specs.Paths.{Comes, Spot}
+use Rattle.cap_spec.specs.Paths.{ReachesSpot, Spot}
 use Rattle.cap_spec.specs.Tree.{Tree}
 use Rattle.cap_spec.specs.declared.Step.{Step}
 
@@ -15,4 +15,4 @@ pub record IsNode (m : List (List ℕ)) (spot : Spot) : Type 0 where
   pub shallow : depth ≤ most_depth
   pub path : List Step
   pub level : ℕ
-  pub comes : Comes m path level spot
+  pub comes : ReachesSpot m path level spot

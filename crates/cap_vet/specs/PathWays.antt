@@ -1,7 +1,7 @@
 -- What is given for a path in a message that needn't be vetted, by where it leads (profile).
 use Rattle.std.specs.Prelude.{ℕ, ◌≡◌, ◌<◌, ◌*◌, ◌+◌, ◌-◌, [], ◌∷◌, ◌++◌, List, length, Option, Some, Result, Ok, IfErr, IfNone, IfOk, IfSome}
 use Rattle.cap_frame.specs.declared.segments.Segments as segments
-use Rattle.cap_spec.specs.Arriving.{ArrivesAt}
+use Rattle.cap_spec.specs.Arriving.{PathFinds}
 use Rattle.cap_spec.specs.declared.Kind.{Kind}
 use Rattle.cap_spec.specs.declared.Kind.TheVariants.{Structs}
 use Rattle.cap_spec.specs.declared.Step.{Step}
@@ -24,9 +24,9 @@ use Rattle.cap_vet.specs.declared.nodes.way.Way.TheVariants.{To}
 pub record IsGiven {M : Type 0} {g : segments.Ghosts M} (demands : Demands) (m : List (List ℕ)) (words depth : ℕ)
     (path : List Step) (result : Result (Option (View M g)) StrictRefusal) : Type 0 where
   pub meets : IfOk result (λ o. MeetsOnPath demands m words depth path)
-  pub none : IfOk result (λ o. IfNone o ((k : Kind) (t b n : ℕ) → ¬ ArrivesAt m path k t b n))
+  pub none : IfOk result (λ o. IfNone o ((k : Kind) (t b n : ℕ) → ¬ PathFinds m path k t b n))
   pub some : IfOk result (λ o. IfSome o (λ v.
-      ArrivesAt m path (view_kind v) (kept_place v).segment (kept_place v).start (kept_place v).words))
+      PathFinds m path (view_kind v) (kept_place v).segment (kept_place v).start (kept_place v).words))
   pub err : IfErr result (IsPathFault demands m words depth path)
 
 -- the message of a start

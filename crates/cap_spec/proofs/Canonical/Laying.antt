@@ -15,7 +15,7 @@ use Rattle.cap_spec.specs.Canonical.{struct_word, pointer_to}
 use Rattle.cap_spec.specs.Scalars.{scalar_words}
 use Rattle.cap_spec.proofs.Trees.Charges.{extent_struct, extent_pointers, extent_structs}
 use Rattle.cap_spec.proofs.Trees.ReadingBack.{scalars_read, length-scalar_words}
-use Rattle.cap_spec.specs.Placing.{StandAt}
+use Rattle.cap_spec.specs.Placing.{HasWordsAt}
 use Rattle.cap_spec.proofs.Canonical.Placing.{stand_inside, stand_word, stand_read}
 use Rattle.cap_spec.proofs.Canonical.PointerFields.{StructFields, struct_fields, ListFields, start_after, start_before}
 use Rattle.cap_spec.proofs.Canonical.TreeMeasures.{idle, extent_scalars, extra_scalars, extra_structs}
@@ -68,7 +68,7 @@ list_finds seg a b offset q c n h f e lt le tagged =
 struct_laid : (seg ws : List ℕ) (ts : Trees) (a b offset q inner deep : ℕ) → HasWord (seg ∷ []) 0 a q
     → StructFields q offset (length ws) (tree_count ts)
     → 0 < length ws + tree_count ts → b ≡ a + 1 + offset → offset < 2 ^ 29
-    → b + length ws + tree_count ts ≤ length seg → StandAt seg b ws
+    → b + length ws + tree_count ts ≤ length seg → HasWordsAt seg b ws
     → DenoteEach (seg ∷ []) (places 0 (b + length ws) (tree_count ts)) ts inner deep
     → Denotes (seg ∷ []) 0 a (struct ws ts) (length ws + tree_count ts + inner) (1 + deep)
 struct_laid seg ws ts a b offset q inner deep h f some e lt le st each =
@@ -139,7 +139,7 @@ some_words seg a offset d p some h =
 pub any_struct_laid : (seg ws : List ℕ) (ts : Trees) (a b offset inner deep : ℕ)
     → HasWord (seg ∷ []) 0 a (pointer_to offset (struct ws ts))
     → length ws < 2 ^ 16 → tree_count ts < 2 ^ 16 → b ≡ a + 1 + offset → offset < 2 ^ 29
-    → b + length ws + tree_count ts ≤ length seg → StandAt seg b ws
+    → b + length ws + tree_count ts ≤ length seg → HasWordsAt seg b ws
     → DenoteEach (seg ∷ []) (places 0 (b + length ws) (tree_count ts)) ts inner deep
     → Denotes (seg ∷ []) 0 a (struct ws ts) (length ws + tree_count ts + inner) (1 + deep)
 any_struct_laid seg [] none a b offset inner deep h hd hp e lt le st each =
@@ -165,7 +165,7 @@ any_struct_laid seg [] (more t ts) a b offset inner deep h hd hp e lt le st each
 pub scalars_laid : (seg : List ℕ) (e : ℕ) (vs : List ℕ) (a b offset q : ℕ) → HasWord (seg ∷ []) 0 a q
     → ListFields q offset e (length vs) → e < 6
     → AllByRecursion (λ v. v < 2 ^ element_bits e) vs → b ≡ a + 1 + offset → offset < 2 ^ 29
-    → StandAt seg b (scalar_words e vs)
+    → HasWordsAt seg b (scalar_words e vs)
     → Denotes (seg ∷ []) 0 a (scalars e vs) (list_words e (length vs) + idle e (length vs)) 1
 scalars_laid seg e vs a b offset q h f lt fit i lo st =
     let x : extent q ≡ list_words e (length vs) = extent_scalars q e f.kind (sym f.code) lt

@@ -8,7 +8,7 @@ use Rattle.cap_spec.specs.Denoting.{Denotes, DenoteEach, AreElements, places}
 use Rattle.cap_spec.specs.Canonical.{struct_word, list_word, size, sizes, element_sizes, pointer_to, pointer_words}
 use Rattle.cap_spec.specs.Canonical.{element_words, content, contents, element_contents, layout, trim}
 use Rattle.cap_spec.proofs.Trees.OneTree.{one_tree}
-use Rattle.cap_spec.specs.Placing.{StandAt}
+use Rattle.cap_spec.specs.Placing.{HasWordsAt}
 use Rattle.cap_spec.proofs.Canonical.Placing.{stand_front, stand_back, stand_inside, stand_read, stand_whole}
 use Rattle.cap_spec.proofs.Canonical.PointerFields.{struct_fields, list_fields, CapFields, cap_fields}
 use Rattle.cap_spec.proofs.Canonical.TreeMeasures.{cost, costs, element_costs, height, heights, element_heights, Fits}
@@ -34,14 +34,14 @@ nothing_more x = omega arith
 mutual
   -- a pointer word to where a tree's content stands denotes the tree
   pub word_denotes : (seg : List ℕ) (t : Tree) (a offset b : ℕ) → HasWord (seg ∷ []) 0 a (pointer_to offset t)
-      → StandAt seg b (content t)
+      → HasWordsAt seg b (content t)
       → b ≡ a + 1 + offset → Fits t → offset < 2 ^ 29 → size t < 2 ^ 29 → Denotes (seg ∷ []) 0 a t (cost t) (height t)
   word_denotes seg null a offset b h st e f lo ls = (near 0 h (λ z. absurd (omega (arith, z))) refl refl, refl)
   word_denotes seg (cap i) a offset b h st e f lo ls =
       let c : CapFields (3 + 2 ^ 32 * i) i = cap_fields i f in
       (near (3 + 2 ^ 32 * i) h (not_far _ c.kind) ((c.kind, c.middle), c.index) refl, refl)
   word_denotes seg (struct ws ts) a offset b h st e f lo ls =
-      let front : StandAt seg b (ws ++ pointer_words 0 ts) =
+      let front : HasWordsAt seg b (ws ++ pointer_words 0 ts) =
       stand_front seg b (ws ++ pointer_words 0 ts) (contents ts) st in
       let n : length (ws ++ pointer_words 0 ts) ≡ length ws + tree_count ts =
       (let x = length-append ws (pointer_words 0 ts) in omega (arith, x, length-pointer_words 0 ts)) in
@@ -57,7 +57,7 @@ mutual
       scalars_laid seg c vs a b offset (list_word offset c (length vs)) h
       (list_fields offset c (length vs) (omega (arith, lo)) (omega (arith, f.0)) f.1) f.0 f.2 e lo st
   word_denotes seg (pointers ts) a offset b h st e f lo ls =
-      let front : StandAt seg b (pointer_words 0 ts) = stand_front seg b (pointer_words 0 ts) (contents ts) st in
+      let front : HasWordsAt seg b (pointer_words 0 ts) = stand_front seg b (pointer_words 0 ts) (contents ts) st in
       let le : b + tree_count ts ≤ length seg =
       (let x = stand_inside seg b (pointer_words 0 ts) front in omega (arith, x, length-pointer_words 0 ts)) in
       pointers_laid seg ts a b offset (list_word offset 6 (tree_count ts)) (costs ts) (heights ts) h
@@ -67,7 +67,7 @@ mutual
       (omega (arith, length-pointer_words 0 ts)) st)
       (omega arith) f.1 (omega (arith, ls)))
   word_denotes seg (structs d p es) a offset b h st e f lo ls =
-      let front : StandAt seg (b + 1) (element_words (d + p) 0 es) =
+      let front : HasWordsAt seg (b + 1) (element_words (d + p) 0 es) =
       stand_front seg (b + 1) (element_words (d + p) 0 es) (element_contents es) st.1 in
       let n : length (element_words (d + p) 0 es) ≡ tree_count es * (d + p) =
       length-element_words (d + p) 0 d p es f.4 in
@@ -84,8 +84,8 @@ mutual
       (without_tag (tree_count es * (d + p)) (element_sizes es) (2 ^ 29) ls))
 
   -- pointer words in a row, and the contents that they lead to
-  pub each_denote : (seg : List ℕ) (ts : Trees) (after pb cb : ℕ) → StandAt seg pb (pointer_words after ts)
-      → StandAt seg cb (contents ts)
+  pub each_denote : (seg : List ℕ) (ts : Trees) (after pb cb : ℕ) → HasWordsAt seg pb (pointer_words after ts)
+      → HasWordsAt seg cb (contents ts)
       → cb ≡ pb + tree_count ts + after → FitEach ts → after + tree_count ts + sizes ts < 2 ^ 29
       → DenoteEach (seg ∷ []) (places 0 pb (tree_count ts)) ts (costs ts) (heights ts)
   each_denote seg none after pb cb sp sc e f l = (refl, refl, refl)
@@ -109,7 +109,7 @@ mutual
 
   -- elements in a row, and the contents that their pointers lead to
   pub elements_denote : (seg : List ℕ) (d p : ℕ) (es : Trees) (after eb cb : ℕ)
-      → StandAt seg eb (element_words (d + p) after es) → StandAt seg cb (element_contents es)
+      → HasWordsAt seg eb (element_words (d + p) after es) → HasWordsAt seg cb (element_contents es)
       → cb ≡ eb + tree_count es * (d + p) + after → FitElements d p es
       → after + tree_count es * (d + p) + element_sizes es < 2 ^ 29
       → AreElements (seg ∷ []) 0 eb d p (tree_count es) es (element_costs es) (element_heights es)
@@ -117,9 +117,9 @@ mutual
   elements_denote seg d p (more (struct ws ts) es) after eb cb sp sc e f l =
       let pw = pointer_words (tree_count es * (d + p) + after) ts in
       let ew = element_words (d + p) (after + sizes ts) es in
-      let front : StandAt seg eb (ws ++ pw) = stand_front seg eb (ws ++ pw) ew sp in
-      let own : StandAt seg eb ws = stand_front seg eb ws pw front in
-      let below : StandAt seg (eb + d) pw = stand_back seg eb (eb + d) ws pw (ap (λ n. eb + n) (sym f.0)) front in
+      let front : HasWordsAt seg eb (ws ++ pw) = stand_front seg eb (ws ++ pw) ew sp in
+      let own : HasWordsAt seg eb ws = stand_front seg eb ws pw front in
+      let below : HasWordsAt seg (eb + d) pw = stand_back seg eb (eb + d) ws pw (ap (λ n. eb + n) (sym f.0)) front in
       let each : DenoteEach (seg ∷ []) (places 0 (eb + d) (tree_count ts)) ts (costs ts) (heights ts) =
       each_denote seg ts (tree_count es * (d + p) + after) (eb + d) cb below
       (stand_front seg cb (contents ts) (element_contents es) sc)

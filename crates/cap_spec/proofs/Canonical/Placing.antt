@@ -5,28 +5,28 @@ use Rattle.std.specs.Prelude.{Some, slice_get}
 use Rattle.std.proofs.lemmas.List.{length_push}
 use Rattle.std.proofs.lemmas.Option.{slice_get_within, get_or_from_slice_get, same_Some}
 use Rattle.cap_spec.specs.Denoting.{words_from}
-use Rattle.cap_spec.specs.Placing.{StandAt}
+use Rattle.cap_spec.specs.Placing.{HasWordsAt}
 use Rattle.cap_spec.proofs.Trees.ReadingBack.{WordsAt}
 
 -- of words that stand joined each part stands at its place
-pub stand_front : (words : List ℕ) (b : ℕ) (xs ys : List ℕ) → StandAt words b (xs ++ ys) → StandAt words b xs
+pub stand_front : (words : List ℕ) (b : ℕ) (xs ys : List ℕ) → HasWordsAt words b (xs ++ ys) → HasWordsAt words b xs
 stand_front words b [] [] h = h
 stand_front words b [] (y ∷ ys) h = let l : b < length words = slice_get_within words b y h.0 in omega arith
 stand_front words b (x ∷ xs) ys h = (h.0, stand_front words (b + 1) xs ys h.1)
 
-pub stand_back : (words : List ℕ) (b c : ℕ) (xs ys : List ℕ) → c ≡ b + length xs → StandAt words b (xs ++ ys)
-    → StandAt words c ys
-stand_back words b c [] ys e h = let i : b ≡ c = omega arith in subst (λ x. StandAt words x ys) i h
+pub stand_back : (words : List ℕ) (b c : ℕ) (xs ys : List ℕ) → c ≡ b + length xs → HasWordsAt words b (xs ++ ys)
+    → HasWordsAt words c ys
+stand_back words b c [] ys e h = let i : b ≡ c = omega arith in subst (λ x. HasWordsAt words x ys) i h
 stand_back words b c (x ∷ xs) ys e h = stand_back words (b + 1) c xs ys (omega arith) h.1
 
 -- words lie inside the segment that they stand in
-pub stand_inside : (words : List ℕ) (b : ℕ) (xs : List ℕ) → StandAt words b xs → b + length xs ≤ length words
+pub stand_inside : (words : List ℕ) (b : ℕ) (xs : List ℕ) → HasWordsAt words b xs → b + length xs ≤ length words
 stand_inside words b [] h = omega (arith, h)
 stand_inside words b (x ∷ xs) h = let r : b + 1 + length xs ≤ length words =
     stand_inside words (b + 1) xs h.1 in omega arith
 
 -- the word at a position
-pub stand_word : (words : List ℕ) (b : ℕ) (xs : List ℕ) → StandAt words b xs → WordsAt words b xs
+pub stand_word : (words : List ℕ) (b : ℕ) (xs : List ℕ) → HasWordsAt words b xs → WordsAt words b xs
 stand_word words b [] h k lt = absurd (omega (arith, lt))
 stand_word words b (x ∷ xs) h zero lt = ap (λ i. get_or words i 0) (omega arith) ∙ get_or_from_slice_get words b x 0 h.0
 stand_word words b (x ∷ xs) h (suc k) lt =
@@ -42,12 +42,12 @@ rest_at (y ∷ ys) (suc b) x h =
     rest_at ys b x h ∙ ap (λ n. x ∷ drop n (y ∷ ys)) e
 
 -- words that stand from b on are the words that are read there
-pub stand_taken : (words : List ℕ) (b : ℕ) (xs : List ℕ) → StandAt words b xs → take (length xs) (drop b words) ≡ xs
+pub stand_taken : (words : List ℕ) (b : ℕ) (xs : List ℕ) → HasWordsAt words b xs → take (length xs) (drop b words) ≡ xs
 stand_taken words b [] h = refl
 stand_taken words b (x ∷ xs) h =
     ap (take (suc (length xs))) (rest_at words b x h.0) ∙ ap (λ ys. x ∷ ys) (stand_taken words (b + 1) xs h.1)
 
-pub stand_read : (words : List ℕ) (b n : ℕ) (xs : List ℕ) → n ≡ length xs → StandAt words b xs
+pub stand_read : (words : List ℕ) (b n : ℕ) (xs : List ℕ) → n ≡ length xs → HasWordsAt words b xs
     → words_from (words ∷ []) 0 b n ≡ xs
 stand_read words b n xs e h =
     let l : b + n - b ≡ length xs = omega arith in
@@ -59,16 +59,16 @@ word_behind [] x xs = refl
 word_behind (y ∷ ys) x xs = word_behind ys x xs
 
 -- a list stands in itself behind each of its fronts
-stand_behind : (front xs : List ℕ) → StandAt (front ++ xs) (length front) xs
+stand_behind : (front xs : List ℕ) → HasWordsAt (front ++ xs) (length front) xs
 stand_behind front [] = let e : length (front ++ []) ≡ length front = ap length (append-nil front) in omega arith
 stand_behind front (x ∷ xs) =
-    let r : StandAt ((front ++ x ∷ []) ++ xs) (length (front ++ x ∷ [])) xs = stand_behind (front ++ x ∷ []) xs in
+    let r : HasWordsAt ((front ++ x ∷ []) ++ xs) (length (front ++ x ∷ [])) xs = stand_behind (front ++ x ∷ []) xs in
     let e : (front ++ x ∷ []) ++ xs ≡ front ++ x ∷ xs = append_assoc front (x ∷ []) xs in (
       word_behind front x xs,
-      subst (λ n. StandAt (front ++ x ∷ xs) n xs) (length_push front x)
-          (subst (λ ws. StandAt ws (length (front ++ x ∷ [])) xs) e r),
+      subst (λ n. HasWordsAt (front ++ x ∷ xs) n xs) (length_push front x)
+          (subst (λ ws. HasWordsAt ws (length (front ++ x ∷ [])) xs) e r),
     )
 
 -- a list stands at the beginning of itself
-pub stand_whole : (xs : List ℕ) → StandAt xs 0 xs
+pub stand_whole : (xs : List ℕ) → HasWordsAt xs 0 xs
 stand_whole xs = stand_behind [] xs

@@ -11,7 +11,7 @@ use Rattle.cap_spec.specs.Tree.{Tree, null, cap, struct, scalars, pointers, stru
 use Rattle.cap_spec.specs.Denoting.{Finds, Denotes, DenoteEach, AreElements, places}
 use Rattle.cap_spec.specs.Occupying.{IsDisjoint, Occupies, Uses}
 use Rattle.cap_spec.specs.Occupying.{empty_count, empty_counts, pads_of}
-use Rattle.cap_spec.specs.Paths.{Spot, word, element, Goes, Walks, level_of}
+use Rattle.cap_spec.specs.Paths.{Spot, word, element, StepsTo, PathLeads, level_of}
 use Rattle.cap_spec.specs.Lists.{AreDistinct, IsOneOf}
 use Rattle.cap_spec.specs.declared.Step.{Step}
 use Rattle.cap_spec.specs.declared.Step.TheVariants.{Ptr, Item}
@@ -61,7 +61,7 @@ owns_object m s w k t b q x f =
 abbrev UsedFrom : List (List ℕ) → Spot → List (List Step) → List (ℕ × ℕ) → Type 0
 UsedFrom m a [] us = us ≡ []
 UsedFrom m a (p ∷ ps) us =
-    (n s w : ℕ) × (one rest : List (ℕ × ℕ)) × Walks m a p n (word s w) × Occupies m s w one × UsedFrom m a ps rest
+    (n s w : ℕ) × (one rest : List (ℕ × ℕ)) × PathLeads m a p n (word s w) × Occupies m s w one × UsedFrom m a ps rest
     × (us ≡ one ++ rest)
 
 used_append : (m : List (List ℕ)) (a : Spot) (ps qs : List (List Step)) (xs ys : List (ℕ × ℕ)) → UsedFrom m a ps xs
@@ -82,7 +82,7 @@ used_append m a (p ∷ ps) qs xs ys (n, s, w, one, rest, walks, occupies, after,
 )
 
 used_behind : (m : List (List ℕ)) (a b : Spot) (step : Step) (ps : List (List Step)) (us : List (ℕ × ℕ))
-    → Goes m a step b → UsedFrom m b ps us → UsedFrom m a (behind step ps) us
+    → StepsTo m a step b → UsedFrom m b ps us → UsedFrom m a (behind step ps) us
 used_behind m a b step [] us g h = h
 used_behind m a b step (p ∷ ps) us g (n, s, w, one, rest, walks, occupies, after, parts) =
     (level_of b + n, s, w, one, rest, (b, n, g, walks, refl), occupies, used_behind m a b step ps rest g after, parts)
@@ -96,7 +96,7 @@ counted_append : (m : List (List ℕ)) (a : Spot) (ps qs : List (List Step)) (c 
 counted_append m a ps qs c c' e e' (xs, g, k) (ys, h, l) =
     (xs ++ ys, used_append m a ps qs xs ys g h, omega (arith, k, l, length-append xs ys))
 
-counted_behind : (m : List (List ℕ)) (a b : Spot) (step : Step) (ps : List (List Step)) (c e : ℕ) → Goes m a step b
+counted_behind : (m : List (List ℕ)) (a b : Spot) (step : Step) (ps : List (List Step)) (c e : ℕ) → StepsTo m a step b
     → Counted m b ps c e → Counted m a (behind step ps) c e
 counted_behind m a b step ps c e g (us, h, k) = (us, used_behind m a b step ps us g h, k)
 
@@ -163,7 +163,7 @@ mutual
 
   -- the same of words at places, which steps from one spot lead to
   each_counted : (m : List (List ℕ)) (a : Spot) (step : ℕ → Step) (t b n i all start : ℕ) (ts : Trees) (c d : ℕ)
-      → ((j : ℕ) → j < all → Goes m a (step j) (word t (start + j))) → i + n ≡ all → b ≡ start + i
+      → ((j : ℕ) → j < all → StepsTo m a (step j) (word t (start + j))) → i + n ≡ all → b ≡ start + i
       → DenoteEach m (places t b n) ts c d → Counted m a (paths_from is_pointer false step i ts) c (empty_counts ts)
   each_counted m a step t b n i all start none c d goes e f h = ([], refl, omega (arith, h.1))
   each_counted m a step t b zero i all start (more u ts) c d goes e f h = absurd cc
@@ -173,8 +173,8 @@ mutual
       let g : Denotes m t b u c1 d1 = subst (λ (y : ℕ × ℕ). Denotes m y.0 y.1 u c1 d1) (sym p.0) denotes in
       let x : Counted m (word t b) ([] ∷ paths_below is_pointer u) c1 (empty_count u) =
       tree_counted m t b u c1 d1 g in
-      let y : Goes m a (step i) (word t b) =
-      subst (λ (v : ℕ). Goes m a (step i) (word t v)) (sym f) (goes i (omega arith)) in
+      let y : StepsTo m a (step i) (word t b) =
+      subst (λ (v : ℕ). StepsTo m a (step i) (word t v)) (sym f) (goes i (omega arith)) in
       subst (λ (v : ℕ). Counted m a (paths_from is_pointer false step i (more u ts)) v
       (empty_counts (more u ts))) (sym charge)
       (counted_append m a (behind (step i) ([] ∷ paths_below is_pointer u))
@@ -184,14 +184,14 @@ mutual
 
   -- and of the elements of a struct list
   elements_counted : (m : List (List ℕ)) (a : Spot) (t b ds ps n i all start : ℕ) (es : Trees) (c d : ℕ)
-      → ((j : ℕ) → j < all → Goes m a (Item j) (element t (start + j * (ds + ps)) ds ps)) → i + n ≡ all
+      → ((j : ℕ) → j < all → StepsTo m a (Item j) (element t (start + j * (ds + ps)) ds ps)) → i + n ≡ all
       → b ≡ start + i * (ds + ps)
       → AreElements m t b ds ps n es c d → Counted m a (paths_from is_pointer true Item i es) c (empty_counts es)
   elements_counted m a t b ds ps n i all start none c d goes e f h = ([], refl, omega (arith, h.1))
   elements_counted m a t b ds ps n i all start (more (struct ws ts) es) c d goes e f h =
       let (fewer, c1, d1, c2, d2, counted, own, each, after, charge, depth) = h in
-      let y : Goes m a (Item i) (element t b ds ps) =
-      subst (λ (v : ℕ). Goes m a (Item i) (element t v ds ps)) (sym f) (goes i (omega (arith, counted))) in
+      let y : StepsTo m a (Item i) (element t b ds ps) =
+      subst (λ (v : ℕ). StepsTo m a (Item i) (element t v ds ps)) (sym f) (goes i (omega (arith, counted))) in
       let x : Counted m (element t b ds ps) (paths_from is_pointer false Ptr 0 ts) c1 (empty_counts ts) =
       each_counted m (element t b ds ps) Ptr t (b + ds) ps 0 ps (b + ds) ts c1 d1 (λ j lt. (lt, refl)) (omega arith)
       (omega arith) each in

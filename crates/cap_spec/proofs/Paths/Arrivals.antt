@@ -7,7 +7,7 @@ use Rattle.cap_spec.specs.Pointers.{kind, code, middle, data_size, pointer_size,
 use Rattle.cap_spec.specs.Following.{Lead, Leads, near, one_pad, two_pads, to_object}
 use Rattle.cap_spec.specs.Tree.{Tree, struct, pointers, structs, Trees, none, more, tree_at, part_at, node_at}
 use Rattle.cap_spec.specs.Denoting.{Finds, Denotes, DenoteEach, AreElements, places}
-use Rattle.cap_spec.specs.Paths.{Spot, word, element, Goes, Walks, Comes, level_of}
+use Rattle.cap_spec.specs.Paths.{Spot, word, element, StepsTo, PathLeads, ReachesSpot, level_of}
 use Rattle.cap_spec.specs.Standing.{DenotesAt}
 use Rattle.cap_spec.specs.declared.Step.{Step}
 use Rattle.cap_spec.specs.declared.Step.TheVariants.{Ptr, Item}
@@ -141,7 +141,7 @@ structs_at m s w x c d k t b q tag i h f e g y lt =
 
 -- A step from a spot that has a tree leads to where the tree's part stands.
 pub step_to_part : (m : List (List ℕ)) (a : Spot) (step : Step) (b : Spot) (x : Tree)
-    → DenotesAt m a x → Goes m a step b
+    → DenotesAt m a x → StepsTo m a step b
     → (u : Tree) × (part_at x step ≡ Some u) × DenotesAt m b u
 step_to_part m (word s w) (Ptr i) b x h (k, t, b', q, finds, is_struct, less, ends) =
     let r = struct_at m s w x h.0 h.1 k t b' q i h.2 finds is_struct less in
@@ -161,7 +161,7 @@ step_to_part m (element t b ds ps) (Item i) y x h g = absurd g
 
 -- Each part of the tree of a spot stands where a step leads.
 pub part_to_step : (m : List (List ℕ)) (a : Spot) (step : Step) (x u : Tree) → DenotesAt m a x → part_at x step ≡ Some u
-    → (b : Spot) × Goes m a step b × DenotesAt m b u
+    → (b : Spot) × StepsTo m a step b × DenotesAt m b u
 part_to_step m (word s w) (Ptr i) (struct ws ts) u h e =
     let (k, t, b, q, inner, deep, found, each) = h.2 in
     let r = each_of m t (b + data_size q) (pointer_size q) ts inner deep i
@@ -204,7 +204,7 @@ node_behind x u step path e = rw e refl
 
 -- Where a path leads from a spot that has a tree, the tree's node at the path stands.
 pub path_to_node : (m : List (List ℕ)) (a : Spot) (path : List Step) (n : ℕ) (b : Spot) (x : Tree) → DenotesAt m a x
-    → Walks m a path n b
+    → PathLeads m a path n b
     → (u : Tree) × (node_at x path ≡ Some u) × DenotesAt m b u
 path_to_node m a [] n b x h g = (x, refl, subst (λ (y : Spot). DenotesAt m y x) (sym g.1) h)
 path_to_node m a (step ∷ path) n b x h (mid, below, goes, walks, level) =
@@ -224,7 +224,7 @@ node_parts x u step path e = go (part_at x step) refl
 -- Each node of the tree of a spot stands where its path leads.
 pub node_to_path : (m : List (List ℕ)) (a : Spot) (path : List Step) (x u : Tree) → DenotesAt m a x
     → node_at x path ≡ Some u
-    → (n : ℕ) × (b : Spot) × Walks m a path n b × DenotesAt m b u
+    → (n : ℕ) × (b : Spot) × PathLeads m a path n b × DenotesAt m b u
 node_to_path m a [] x u h e = let y : x ≡ u = cc e in (0, a, (refl, refl), subst (λ (z : Tree). DenotesAt m a z) y h)
 node_to_path m a (step ∷ path) x u h e =
     let r = node_parts x u step path e in
@@ -240,14 +240,14 @@ lead_word m s w k r (two_pads p f x has two first second one tag e pads) = (p, h
 
 -- Where the root denotes a tree, a path comes to where the tree's node at the path stands,
 pub coming_to_node : (m : List (List ℕ)) (x : Tree) (c d : ℕ) → Denotes m 0 0 x c d
-    → (path : List Step) (level : ℕ) (spot : Spot) → Comes m path level spot
+    → (path : List Step) (level : ℕ) (spot : Spot) → ReachesSpot m path level spot
     → (u : Tree) × (node_at x path ≡ Some u) × DenotesAt m spot u
 coming_to_node m x c d h path level spot g = path_to_node m (word 0 0) path g.1 spot x (c, d, h) g.3
 
 -- and each node of the tree stands where its path comes to.
 pub node_to_coming : (m : List (List ℕ)) (x : Tree) (c d : ℕ) → Denotes m 0 0 x c d → (path : List Step) (u : Tree)
     → node_at x path ≡ Some u
-    → (level : ℕ) × (spot : Spot) × Comes m path level spot × DenotesAt m spot u
+    → (level : ℕ) × (spot : Spot) × ReachesSpot m path level spot × DenotesAt m spot u
 node_to_coming m x c d h path u e =
     let f : Formed m 0 0 x = formed m 0 0 x c d h in
     let p = lead_word m 0 0 f.k f.r f.leads in

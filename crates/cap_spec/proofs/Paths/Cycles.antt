@@ -3,7 +3,7 @@ use Rattle.std.proofs.Common.{ℕ, zero, suc, ◌+◌, ◌<◌, ◌≤◌, List,
 use Rattle.cap_spec.specs.Tree.{Tree, null, cap, struct, scalars, pointers, structs, Trees, none}
 use Rattle.cap_spec.specs.Tree.{more, tree_at, part_at, node_at}
 use Rattle.cap_spec.specs.Denoting.{Denotes}
-use Rattle.cap_spec.specs.Paths.{word, Walks, Reaches}
+use Rattle.cap_spec.specs.Paths.{word, PathLeads, Reaches}
 use Rattle.cap_spec.specs.declared.Step.{Step}
 use Rattle.cap_spec.specs.declared.Step.TheVariants.{Ptr, Item}
 use Rattle.cap_spec.proofs.Trees.OneTree.{Same, one_tree}
@@ -53,7 +53,7 @@ proper_node_below t step path u e =
 
 -- A pointer word from which some steps lead back to it denotes no tree.
 pub no_tree_in_cycle : (m : List (List ℕ)) (s w : ℕ) (step : Step) (path : List Step) (n : ℕ)
-    → Walks m (word s w) (step ∷ path) n (word s w)
+    → PathLeads m (word s w) (step ∷ path) n (word s w)
     → (t : Tree) (c d : ℕ) → Denotes m s w t c d → ⊥
 no_tree_in_cycle m s w step path n g t c d h =
     let r = path_to_node m (word s w) (step ∷ path) n (word s w) t (c, d, h) g in

@@ -6,7 +6,7 @@ use Rattle.cap_spec.specs.Pointers.{middle, data_size, pointer_size, list_size}
 use Rattle.cap_spec.specs.Following.{IsComposite}
 use Rattle.cap_spec.specs.Tree.{Tree, null, cap, struct, scalars, pointers, structs, Trees, none, more}
 use Rattle.cap_spec.specs.Denoting.{Finds, Denotes, DenoteEach, AreElements, places, element_levels}
-use Rattle.cap_spec.specs.Paths.{Spot, word, element, Goes, Walks, Reaches, level_of}
+use Rattle.cap_spec.specs.Paths.{Spot, word, element, StepsTo, PathLeads, Reaches, level_of}
 use Rattle.cap_spec.specs.Verdicts.{levels_below}
 use Rattle.cap_spec.specs.declared.Step.{Step}
 use Rattle.cap_spec.specs.declared.Step.TheVariants.{Ptr, Item}
@@ -25,13 +25,13 @@ pub record Deep (m : List (List ℕ)) (a : Spot) (d : ℕ) : Type 0 where
   pub b : ℕ
   pub q : ℕ
   pub tag : ℕ
-  pub walks : Walks m a path n (word s w)
+  pub walks : PathLeads m a path n (word s w)
   pub finds : Finds m s w k t b q
   pub has_tag : IsComposite q → HasWord m t b tag
   pub depth : d ≡ n + 1 + levels_below q tag
 
 -- behind one step
-deeper : (m : List (List ℕ)) (a b : Spot) (step : Step) (d : ℕ) → Goes m a step b → Deep m b d
+deeper : (m : List (List ℕ)) (a b : Spot) (step : Step) (d : ℕ) → StepsTo m a step b → Deep m b d
     → Deep m a (level_of b + d)
 deeper m a b step d g h = record {
   path = step ∷ h.path;
@@ -131,7 +131,7 @@ mutual
 
   -- the same of words at places, which steps from one spot lead to
   each_deepest : (m : List (List ℕ)) (a : Spot) (step : ℕ → Step) (t b n i all start : ℕ) (ts : Trees) (c d : ℕ)
-      → ((j : ℕ) → j < all → Goes m a (step j) (word t (start + j))) → i + n ≡ all → b ≡ start + i
+      → ((j : ℕ) → j < all → StepsTo m a (step j) (word t (start + j))) → i + n ≡ all → b ≡ start + i
       → DenoteEach m (places t b n) ts c d → 0 < d → Deep m a (1 + d)
   each_deepest m a step t b n i all start none c d goes e f h lt = absurd (omega (arith, h.2))
   each_deepest m a step t b zero i all start (more u ts) c d goes e f h lt = absurd cc
@@ -141,8 +141,8 @@ mutual
       elim (greater d1 d2) [
         | inl x ↦
             let g : Denotes m t b u c1 d1 = subst (λ (y : ℕ × ℕ). Denotes m y.0 y.1 u c1 d1) (sym p.0) denotes in
-            let y : Goes m a (step i) (word t b) =
-            subst (λ (v : ℕ). Goes m a (step i) (word t v)) (sym f) (goes i (omega arith)) in
+            let y : StepsTo m a (step i) (word t b) =
+            subst (λ (v : ℕ). StepsTo m a (step i) (word t v)) (sym f) (goes i (omega arith)) in
             deep_moved m a (1 + d1) (1 + d) (omega (arith, x, depth))
             (deeper m a (word t b) (step i) d1 y (tree_deepest m t b u c1 d1 g (omega (arith, x, depth))))
         | inr x ↦
@@ -153,7 +153,7 @@ mutual
 
   -- and of the elements of a struct list
   elements_deepest : (m : List (List ℕ)) (a : Spot) (t b ds ps n i all start : ℕ) (es : Trees) (c d : ℕ)
-      → ((j : ℕ) → j < all → Goes m a (Item j) (element t (start + j * (ds + ps)) ds ps)) → i + n ≡ all
+      → ((j : ℕ) → j < all → StepsTo m a (Item j) (element t (start + j * (ds + ps)) ds ps)) → i + n ≡ all
       → b ≡ start + i * (ds + ps)
       → AreElements m t b ds ps n es c d → 0 < d → Deep m a (element_levels all + (1 + d))
   elements_deepest m a t b ds ps n i all start none c d goes e f h lt = absurd (omega (arith, h.2))
@@ -161,8 +161,8 @@ mutual
       let (fewer, c1, d1, c2, d2, counted, own, each, after, charge, depth) = h in
       elim (greater d1 d2) [
         | inl x ↦
-            let y : Goes m a (Item i) (element t b ds ps) =
-            subst (λ (v : ℕ). Goes m a (Item i) (element t v ds ps)) (sym f) (goes i (omega (arith, counted))) in
+            let y : StepsTo m a (Item i) (element t b ds ps) =
+            subst (λ (v : ℕ). StepsTo m a (Item i) (element t v ds ps)) (sym f) (goes i (omega (arith, counted))) in
             deep_moved m a (element_levels 1 + (1 + d1)) (element_levels all + (1 + d))
             (omega (arith, x, depth, levels_of_some all (omega (arith, counted))))
             (deeper m a (element t b ds ps) (Item i) (1 + d1) y

@@ -8,7 +8,7 @@ use Rattle.cap_spec.specs.Following.{to_null, to_cap, to_object, IsComposite}
 use Rattle.cap_spec.specs.Tree.{Tree, null, cap, struct, scalars, pointers, structs, Trees, none}
 use Rattle.cap_spec.specs.Tree.{more, tree_count, tree_at, part_at}
 use Rattle.cap_spec.specs.Denoting.{Finds, Denotes, DenoteEach, AreElements, places, element_levels}
-use Rattle.cap_spec.specs.Paths.{Spot, word, element, Walks, level_of}
+use Rattle.cap_spec.specs.Paths.{Spot, word, element, PathLeads, level_of}
 use Rattle.cap_spec.specs.Verdicts.{levels_below}
 use Rattle.cap_spec.specs.Standing.{DenotesAt}
 use Rattle.cap_spec.specs.declared.Step.{Step}
@@ -130,7 +130,7 @@ spot_level (element t b ds ps) = refl
 
 -- What stands where a path leads is less deep than the tree of its first spot by the levels on the way.
 pub walk_depth : (m : List (List ℕ)) (a : Spot) (path : List Step) (n : ℕ) (b : Spot) (t : Tree) → DenotesAt m a t
-    → Walks m a path n b
+    → PathLeads m a path n b
     → (u : Tree) × DenotesAt m b u × (n + depth_of u ≤ depth_of t)
 walk_depth m a [] n b t h g = (t, subst (λ (y : Spot). DenotesAt m y t) (sym g.1) h, omega (arith, g.0))
 walk_depth m a (step ∷ path) n b t h (mid, below, goes, walks, level) =

@@ -6,7 +6,7 @@ use Rattle.cap_spec.specs.Pointers.{kind, code, middle, data_size, pointer_size,
 use Rattle.cap_spec.specs.Following.{extra}
 use Rattle.cap_spec.specs.Tree.{Tree, null, cap, struct, scalars, pointers, structs, Trees, none, more}
 use Rattle.cap_spec.specs.Denoting.{Finds, Denotes, DenoteEach, AreElements, places}
-use Rattle.cap_spec.specs.Paths.{Spot, word, element, Goes, Walks, Costs, level_of}
+use Rattle.cap_spec.specs.Paths.{Spot, word, element, StepsTo, PathLeads, Costs, level_of}
 use Rattle.cap_spec.specs.Verdicts.{CostOf}
 use Rattle.cap_spec.specs.declared.Step.{Step}
 use Rattle.cap_spec.specs.declared.Step.TheVariants.{Ptr, Item}
@@ -20,7 +20,7 @@ use Rattle.cap_spec.proofs.Paths.PathCounts.{pointer_paths}
 abbrev pub CostFrom : List (List ℕ) → Spot → List (List Step) → ℕ → Type 0
 CostFrom m a [] cost = cost ≡ 0
 CostFrom m a (p ∷ ps) cost =
-    (n s w one rest : ℕ) × Walks m a p n (word s w) × Costs m s w one × CostFrom m a ps rest × (cost ≡ one + rest)
+    (n s w one rest : ℕ) × PathLeads m a p n (word s w) × Costs m s w one × CostFrom m a ps rest × (cost ≡ one + rest)
 
 -- the costs of two lists add up
 cost_append : (m : List (List ℕ)) (a : Spot) (ps qs : List (List Step)) (x y : ℕ) → CostFrom m a ps x
@@ -30,7 +30,7 @@ cost_append m a (p ∷ ps) qs x y (n, s, w, one, rest, walks, costs, after, sum)
     (n, s, w, one, rest + y, walks, costs, cost_append m a ps qs rest y after h, omega (arith, sum))
 
 -- behind one step paths cost what they cost from its end
-cost_behind : (m : List (List ℕ)) (a b : Spot) (step : Step) (ps : List (List Step)) (x : ℕ) → Goes m a step b
+cost_behind : (m : List (List ℕ)) (a b : Spot) (step : Step) (ps : List (List Step)) (x : ℕ) → StepsTo m a step b
     → CostFrom m b ps x → CostFrom m a (behind step ps) x
 cost_behind m a b step [] x g h = h
 cost_behind m a b step (p ∷ ps) x g (n, s, w, one, rest, walks, costs, after, sum) =
@@ -94,7 +94,7 @@ mutual
 
   -- the same of words at places, which steps from one spot lead to
   pub each_cost : (m : List (List ℕ)) (a : Spot) (step : ℕ → Step) (t b n i all start : ℕ) (ts : Trees) (c d : ℕ)
-      → ((j : ℕ) → j < all → Goes m a (step j) (word t (start + j))) → i + n ≡ all → b ≡ start + i
+      → ((j : ℕ) → j < all → StepsTo m a (step j) (word t (start + j))) → i + n ≡ all → b ≡ start + i
       → DenoteEach m (places t b n) ts c d → CostFrom m a (paths_from is_pointer false step i ts) c
   each_cost m a step t b n i all start none c d goes e f h = h.1
   each_cost m a step t b zero i all start (more u ts) c d goes e f h = absurd cc
@@ -103,8 +103,8 @@ mutual
       let p = cons_parts (t, b) (s, w) (places t (b + 1) n) rest begins in
       let g : Denotes m t b u c1 d1 = subst (λ (y : ℕ × ℕ). Denotes m y.0 y.1 u c1 d1) (sym p.0) denotes in
       let x : CostFrom m (word t b) ([] ∷ paths_below is_pointer u) c1 = tree_cost m t b u c1 d1 g in
-      let y : Goes m a (step i) (word t b) =
-      subst (λ (v : ℕ). Goes m a (step i) (word t v)) (sym f) (goes i (omega arith)) in
+      let y : StepsTo m a (step i) (word t b) =
+      subst (λ (v : ℕ). StepsTo m a (step i) (word t v)) (sym f) (goes i (omega arith)) in
       subst (λ (v : ℕ). CostFrom m a (paths_from is_pointer false step i (more u ts)) v) (sym charge)
       (cost_append m a (behind (step i) ([] ∷ paths_below is_pointer u))
       (paths_from is_pointer false step (suc i) ts) c1 c2
@@ -113,14 +113,14 @@ mutual
 
   -- and of the elements of a struct list
   pub elements_cost : (m : List (List ℕ)) (a : Spot) (t b ds ps n i all start : ℕ) (es : Trees) (c d : ℕ)
-      → ((j : ℕ) → j < all → Goes m a (Item j) (element t (start + j * (ds + ps)) ds ps)) → i + n ≡ all
+      → ((j : ℕ) → j < all → StepsTo m a (Item j) (element t (start + j * (ds + ps)) ds ps)) → i + n ≡ all
       → b ≡ start + i * (ds + ps)
       → AreElements m t b ds ps n es c d → CostFrom m a (paths_from is_pointer true Item i es) c
   elements_cost m a t b ds ps n i all start none c d goes e f h = h.1
   elements_cost m a t b ds ps n i all start (more (struct ws ts) es) c d goes e f h =
       let (fewer, c1, d1, c2, d2, counted, own, each, after, charge, depth) = h in
-      let y : Goes m a (Item i) (element t b ds ps) =
-      subst (λ (v : ℕ). Goes m a (Item i) (element t v ds ps)) (sym f) (goes i (omega (arith, counted))) in
+      let y : StepsTo m a (Item i) (element t b ds ps) =
+      subst (λ (v : ℕ). StepsTo m a (Item i) (element t v ds ps)) (sym f) (goes i (omega (arith, counted))) in
       let x : CostFrom m (element t b ds ps) (paths_from is_pointer false Ptr 0 ts) c1 =
       each_cost m (element t b ds ps) Ptr t (b + ds) ps 0 ps (b + ds) ts c1 d1 (λ j lt. (lt, refl)) (omega arith)
       (omega arith) each in

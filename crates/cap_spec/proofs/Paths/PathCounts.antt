@@ -6,7 +6,7 @@ use Rattle.cap_spec.specs.Pointers.{kind, code}
 use Rattle.cap_spec.specs.Following.{Lead, Leads, to_cap}
 use Rattle.cap_spec.specs.Tree.{Tree, null, cap, struct, scalars, pointers, structs, pointer_count, cap_count, has_cap}
 use Rattle.cap_spec.specs.Denoting.{Denotes}
-use Rattle.cap_spec.specs.Paths.{ReachesCap, Spot, word, element, Goes, Walks, Reaches, Before}
+use Rattle.cap_spec.specs.Paths.{ReachesCap, Spot, word, element, StepsTo, PathLeads, Reaches, Before}
 use Rattle.cap_spec.specs.Paths.{Rises, IsFirstCap, level_of}
 use Rattle.cap_spec.specs.Standing.{DenotesAt}
 use Rattle.cap_spec.specs.declared.Step.{Step}
@@ -37,7 +37,7 @@ all_structs (pointers ts) f = absurd (omega arith)
 all_structs (structs d p es) f = refl
 
 -- a step leads to an element where the tree of the spot is a struct list
-pub step_kind : (m : List (List ℕ)) (a : Spot) (step : Step) (b : Spot) (t : Tree) → DenotesAt m a t → Goes m a step b
+pub step_kind : (m : List (List ℕ)) (a : Spot) (step : Step) (b : Spot) (t : Tree) → DenotesAt m a t → StepsTo m a step b
     → is_element b ≡ is_structs t
 step_kind m (word s w) (Ptr i) b t h (k, t', b', q, finds, is_struct, less, ends) =
     let f = found_form m s w t h.0 h.1 k t' b' q h.2 finds in
@@ -61,7 +61,7 @@ step_kind m (element x y ds ps) (Item i) b t h g = absurd g
 pub wanted_walk : (m : List (List ℕ)) (test : Bool → Tree → Bool) (P : Spot → Type 0)
     → ((a : Spot) (t : Tree) → DenotesAt m a t → test (is_element a) t ≡ true → P a)
     → (a : Spot) (t : Tree) (q : List Step) → DenotesAt m a t → Wants test (is_element a) t q
-    → (n : ℕ) × (b : Spot) × Walks m a q n b × P b
+    → (n : ℕ) × (b : Spot) × PathLeads m a q n b × P b
 wanted_walk m test P own a t [] h g = (0, a, (refl, refl), own a t h g)
 wanted_walk m test P own a t (step ∷ path) h g =
     let r = part_to_step m a step t g.0 h g.1 in
@@ -71,7 +71,7 @@ wanted_walk m test P own a t (step ∷ path) h g =
 
 pub walk_wanted : (m : List (List ℕ)) (test : Bool → Tree → Bool) (P : Spot → Type 0)
     → ((a : Spot) (t : Tree) → DenotesAt m a t → P a → test (is_element a) t ≡ true)
-    → (a : Spot) (t : Tree) (q : List Step) → DenotesAt m a t → (n : ℕ) (b : Spot) → Walks m a q n b → P b
+    → (a : Spot) (t : Tree) (q : List Step) → DenotesAt m a t → (n : ℕ) (b : Spot) → PathLeads m a q n b → P b
     → Wants test (is_element a) t q
 walk_wanted m test P own a t [] h n b g p = own a t h (subst P g.1 p)
 walk_wanted m test P own a t (step ∷ path) h n b (mid, below, goes, walks, level) p =
@@ -145,7 +145,7 @@ pointer_path_reached m t c d h q = (to, from)
         let (n, b, walks, found) = wanted_walk m is_pointer IsWordSpot (wanted_word m) (word 0 0) t q (c, d, h)
         (listed_wanted is_pointer false t q g) in
         let (s, w, is) = found in
-        (1 + n, s, w, (p.0, n, p.1, subst (λ (z : Spot). Walks m (word 0 0) q n z) is walks, refl))
+        (1 + n, s, w, (p.0, n, p.1, subst (λ (z : Spot). PathLeads m (word 0 0) q n z) is walks, refl))
 
     from : (level s w : ℕ) × Reaches m q level s w → IsOneOf q (pointer_paths t)
     from (level, s, w, (root, n, has, walks, is)) = wanted_listed is_pointer false t q
@@ -163,7 +163,7 @@ cap_path_reached m t c d h q = (to, from)
         let (n, b, walks, found) = wanted_walk m wants_cap (IsCapSpot m) (wanted_cap m) (word 0 0) t q (c, d, h)
         (listed_wanted wants_cap false t q g) in
         let (s, w, k, i, is, leads) = found in
-        let there : Walks m (word 0 0) q n (word s w) = subst (λ (z : Spot). Walks m (word 0 0) q n z) is walks in
+        let there : PathLeads m (word 0 0) q n (word s w) = subst (λ (z : Spot). PathLeads m (word 0 0) q n z) is walks in
         (1 + n, s, w, k, i, (p.0, n, p.1, there, refl), leads)
 
     from : ReachesCap m q → IsOneOf q (cap_paths t)

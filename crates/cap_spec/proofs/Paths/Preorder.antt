@@ -1,7 +1,7 @@
 -- Preorder is a strict total order on the paths of one message, and a tour is one list.
 use Rattle.std.proofs.Common.{ℕ, ◌<◌, List, [], ◌∷◌, ◌++◌, ◌≡◌, ◌⊎◌, length, sym, ap, refl, subst, ◌∙◌, arith, inl, inr}
 use Rattle.cap_spec.specs.Lists.{IsOneOf, AreDistinct}
-use Rattle.cap_spec.specs.Paths.{Spot, Goes, Walks, Comes, Reaches, word, number_of, Before}
+use Rattle.cap_spec.specs.Paths.{Spot, StepsTo, PathLeads, ReachesSpot, Reaches, word, number_of, Before}
 use Rattle.cap_spec.specs.Paths.{Rises, IsFirst, IsNumbered, IsTour, IsFirstCap, ReachesCap}
 use Rattle.cap_spec.specs.declared.Step.{Step}
 use Rattle.cap_spec.specs.declared.Step.TheVariants.{Ptr, Item}
@@ -33,7 +33,7 @@ Before-longer [] step q = tt
 Before-longer (x ∷ xs) step q = inr (refl, Before-longer xs step q)
 
 -- steps from one spot that have one number are one step
-pub same_number : (m : List (List ℕ)) (a : Spot) (x y : Step) (b c : Spot) → Goes m a x b → Goes m a y c
+pub same_number : (m : List (List ℕ)) (a : Spot) (x y : Step) (b c : Spot) → StepsTo m a x b → StepsTo m a y c
     → number_of x ≡ number_of y → x ≡ y
 same_number m a (Ptr i) (Ptr j) b c g h e = ap Ptr e
 same_number m a (Ptr i) (Item j) b c g h e = absurd (one_kind_of_step m a i j b c g h)
@@ -45,13 +45,13 @@ three_ways : (x y : ℕ) → (x ≡ y) ⊎ (x < y) ⊎ (y < x)
 three_ways x y = grind arith
 
 -- of two paths that lead somewhere from one spot, they are one, or one comes before the other
-pub Before-total : (m : List (List ℕ)) (a : Spot) (p q : List Step) (n n' : ℕ) (b c : Spot) → Walks m a p n b
-    → Walks m a q n' c → (p ≡ q) ⊎ Before p q ⊎ Before q p
+pub Before-total : (m : List (List ℕ)) (a : Spot) (p q : List Step) (n n' : ℕ) (b c : Spot) → PathLeads m a p n b
+    → PathLeads m a q n' c → (p ≡ q) ⊎ Before p q ⊎ Before q p
 Before-total m a [] [] n n' b c g h = inl refl
 Before-total m a [] (y ∷ q) n n' b c g h = inr (inl tt)
 Before-total m a (x ∷ p) [] n n' b c g h = inr (inr tt)
 Before-total m a (x ∷ p) (y ∷ q) n n' b c (mid, below, goes, walks, level) (mid', below', goes', walks', level') =
-    go (λ k. Before-total m mid' p q below below' b c (subst (λ (z : Spot). Walks m z p below b) k walks) walks')
+    go (λ k. Before-total m mid' p q below below' b c (subst (λ (z : Spot). PathLeads m z p below b) k walks) walks')
     (three_ways (number_of x) (number_of y))
   where
     one : x ≡ y → (p ≡ q) ⊎ Before p q ⊎ Before q p → (x ∷ p ≡ y ∷ q) ⊎ Before (x ∷ p) (y ∷ q) ⊎ Before (y ∷ q) (x ∷ p)
@@ -64,12 +64,12 @@ Before-total m a (x ∷ p) (y ∷ q) n n' b c (mid, below, goes, walks, level) (
         → (x ∷ p ≡ y ∷ q) ⊎ Before (x ∷ p) (y ∷ q) ⊎ Before (y ∷ q) (x ∷ p)
     go r (inl e) =
         let f : x ≡ y = same_number m a x y mid mid' goes goes' e in
-        one f (r (one_step m a y mid mid' (subst (λ (z : Step). Goes m a z mid) f goes) goes'))
+        one f (r (one_step m a y mid mid' (subst (λ (z : Step). StepsTo m a z mid) f goes) goes'))
     go r (inr (inl e)) = inr (inl (inl e))
     go r (inr (inr e)) = inr (inr (inl e))
 
 -- so it is of two paths that come to spots of one message
-pub Before-total_coming : (m : List (List ℕ)) (p q : List Step) (l l' : ℕ) (b c : Spot) → Comes m p l b → Comes m q l' c
+pub Before-total_coming : (m : List (List ℕ)) (p q : List Step) (l l' : ℕ) (b c : Spot) → ReachesSpot m p l b → ReachesSpot m q l' c
     → (p ≡ q) ⊎ Before p q ⊎ Before q p
 Before-total_coming m p q l l' b c g h = Before-total m (word 0 0) p q g.1 h.1 b c g.3 h.3
 

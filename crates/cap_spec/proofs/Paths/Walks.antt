@@ -1,14 +1,14 @@
 -- A path leads to one spot, at one level, and a longer path goes on from there.
 use Rattle.std.proofs.Common.{ℕ, ◌+◌, List, [], ◌∷◌, ◌++◌, ◌≡◌, ◌↔◌, sym, ap, refl, subst, ◌∙◌, arith, inl, inr}
 use Rattle.cap_spec.specs.Pointers.{kind, code}
-use Rattle.cap_spec.specs.Paths.{Spot, word, element, Goes, Walks, Comes, Reaches, level_of}
+use Rattle.cap_spec.specs.Paths.{Spot, word, element, StepsTo, PathLeads, ReachesSpot, Reaches, level_of}
 use Rattle.cap_spec.specs.declared.Step.{Step}
 use Rattle.cap_spec.specs.declared.Step.TheVariants.{Ptr, Item}
 use Rattle.cap_spec.proofs.Trees.Finding.{SameObject, one_object}
 use Rattle.cap_spec.proofs.Frames.Messages.{one_word}
 
 -- one step leads to one spot
-pub one_step : (m : List (List ℕ)) (a : Spot) (step : Step) (b b' : Spot) → Goes m a step b → Goes m a step b' → b ≡ b'
+pub one_step : (m : List (List ℕ)) (a : Spot) (step : Step) (b b' : Spot) → StepsTo m a step b → StepsTo m a step b' → b ≡ b'
 one_step m (word s w) (Ptr i) x y (k, t, b, q, finds, is_struct, less, ends) h =
     let (k', t', b', q', finds', is_struct', less', ends') = h in
     let o : SameObject k t b q k' t' b' q' = one_object m s w k t b q k' t' b' q' finds finds' in
@@ -36,8 +36,8 @@ one_step m (element t b ds ps) (Ptr i) x y g h = g.1 ∙ sym h.1
 one_step m (element t b ds ps) (Item i) x y g h = absurd g
 
 -- from one spot no step by a struct's pointer and a step by a list's element
-pub one_kind_of_step : (m : List (List ℕ)) (a : Spot) (i j : ℕ) (b b' : Spot) → Goes m a (Ptr i) b
-    → Goes m a (Item j) b' → ⊥
+pub one_kind_of_step : (m : List (List ℕ)) (a : Spot) (i j : ℕ) (b b' : Spot) → StepsTo m a (Ptr i) b
+    → StepsTo m a (Item j) b' → ⊥
 one_kind_of_step m (word s w) i j x y (k, t, b, q, finds, is_struct, less, ends) (inl h) =
     let (k', t', b', q', finds', is_list, of_pointers, less', ends') = h in
     let o : SameObject k t b q k' t' b' q' = one_object m s w k t b q k' t' b' q' finds finds' in
@@ -49,8 +49,8 @@ one_kind_of_step m (word s w) i j x y (k, t, b, q, finds, is_struct, less, ends)
 one_kind_of_step m (element t b ds ps) i j x y g h = h
 
 -- a path from one spot leads to one spot, by one number of levels
-pub one_walk : (m : List (List ℕ)) (a : Spot) (path : List Step) (n n' : ℕ) (b b' : Spot) → Walks m a path n b
-    → Walks m a path n' b' → (n ≡ n') × (b ≡ b')
+pub one_walk : (m : List (List ℕ)) (a : Spot) (path : List Step) (n n' : ℕ) (b b' : Spot) → PathLeads m a path n b
+    → PathLeads m a path n' b' → (n ≡ n') × (b ≡ b')
 one_walk m a [] n n' x y g h = (g.0 ∙ sym h.0, g.1 ∙ sym h.1)
 one_walk m a (step ∷ path) n n' x y (mid, below, goes, walks, level) h =
     let (mid', below', goes', walks', level') = h in
@@ -59,10 +59,10 @@ one_walk m a (step ∷ path) n n' x y (mid, below, goes, walks, level) h =
     (omega (arith, r.0, ap level_of e, level, level'), r.1)
 
 -- a longer path goes on from where its beginning leads
-pub walk_on : (m : List (List ℕ)) (a b c : Spot) (p q : List Step) (n n' : ℕ) → Walks m a p n b → Walks m b q n' c
-    → Walks m a (p ++ q) (n + n') c
-walk_on m a b c [] q n n' g h = subst (λ x. Walks m x q (n + n') c) g.1
-    (subst (λ k. Walks m b q k c) (omega (arith, g.0)) h)
+pub walk_on : (m : List (List ℕ)) (a b c : Spot) (p q : List Step) (n n' : ℕ) → PathLeads m a p n b → PathLeads m b q n' c
+    → PathLeads m a (p ++ q) (n + n') c
+walk_on m a b c [] q n n' g h = subst (λ x. PathLeads m x q (n + n') c) g.1
+    (subst (λ k. PathLeads m b q k c) (omega (arith, g.0)) h)
 walk_on m a b c (step ∷ p) q n n' (mid, below, goes, walks, level) h =
     (mid, below + n', goes, walk_on m mid b c p q below n' walks h, omega (arith, level))
 
@@ -71,12 +71,12 @@ record WalkParts (m : List (List ℕ)) (a c : Spot) (p q : List Step) (n : ℕ) 
   mid : Spot
   above : ℕ
   below : ℕ
-  first : Walks m a p above mid
-  second : Walks m mid q below c
+  first : PathLeads m a p above mid
+  second : PathLeads m mid q below c
   levels : n ≡ above + below
 
 -- and each beginning of a path leads somewhere
-walk_parts : (m : List (List ℕ)) (a c : Spot) (p q : List Step) (n : ℕ) → Walks m a (p ++ q) n c
+walk_parts : (m : List (List ℕ)) (a c : Spot) (p q : List Step) (n : ℕ) → PathLeads m a (p ++ q) n c
     → WalkParts m a c p q n
 walk_parts m a c [] q n h =
     record { mid = a; above = 0; below = n; first = (refl, refl); second = h; levels = omega arith }
@@ -93,11 +93,11 @@ walk_parts m a c (step ∷ p) q n (mid, below, goes, walks, level) =
 
 -- one more step, at the end
 pub walk_last : (m : List (List ℕ)) (a c : Spot) (p : List Step) (step : Step) (n : ℕ)
-    → Walks m a (p ++ step ∷ []) n c ↔ ((b : Spot) × (n' : ℕ) × Walks m a p n' b × Goes m b step c
+    → PathLeads m a (p ++ step ∷ []) n c ↔ ((b : Spot) × (n' : ℕ) × PathLeads m a p n' b × StepsTo m b step c
     × (n ≡ n' + level_of c))
 walk_last m a c p step n = (to, from)
   where
-    to : Walks m a (p ++ step ∷ []) n c → (b : Spot) × (n' : ℕ) × Walks m a p n' b × Goes m b step c
+    to : PathLeads m a (p ++ step ∷ []) n c → (b : Spot) × (n' : ℕ) × PathLeads m a p n' b × StepsTo m b step c
         × (n ≡ n' + level_of c)
     to h =
         let r : WalkParts m a c p (step ∷ []) n = walk_parts m a c p (step ∷ []) n h in
@@ -106,28 +106,28 @@ walk_last m a c p step n = (to, from)
           r.mid,
           r.above,
           r.first,
-          subst (λ (x : Spot). Goes m r.mid step x) (sym e) goes,
+          subst (λ (x : Spot). StepsTo m r.mid step x) (sym e) goes,
           omega (arith, r.levels, level, walks.0, ap level_of e),
         )
 
-    from : (b : Spot) × (n' : ℕ) × Walks m a p n' b × Goes m b step c × (n ≡ n' + level_of c)
-        → Walks m a (p ++ step ∷ []) n c
-    from h = subst (λ k. Walks m a (p ++ step ∷ []) k c) (sym h.4)
+    from : (b : Spot) × (n' : ℕ) × PathLeads m a p n' b × StepsTo m b step c × (n ≡ n' + level_of c)
+        → PathLeads m a (p ++ step ∷ []) n c
+    from h = subst (λ k. PathLeads m a (p ++ step ∷ []) k c) (sym h.4)
         (walk_on m a h.0 c p (step ∷ []) h.1 (level_of c) h.2 (c, 0, h.3, (refl, refl), omega arith))
 
 -- a path from the root comes to one spot, at one level
-pub one_coming : (m : List (List ℕ)) (path : List Step) (l l' : ℕ) (a b : Spot) → Comes m path l a → Comes m path l' b
+pub one_coming : (m : List (List ℕ)) (path : List Step) (l l' : ℕ) (a b : Spot) → ReachesSpot m path l a → ReachesSpot m path l' b
     → (l ≡ l') × (a ≡ b)
 one_coming m path l l' a b g h =
     let r = one_walk m (word 0 0) path g.1 h.1 a b g.3 h.3 in (omega (arith, g.4, h.4, r.0), r.1)
 
 -- a longer path goes on from the spot to which its beginning comes
-pub comes_beyond : (m : List (List ℕ)) (done on : List Step) (level level' : ℕ) (a b : Spot) → Comes m done level a
-    → Comes m (done ++ on) level' b → (n : ℕ) × Walks m a on n b
+pub comes_beyond : (m : List (List ℕ)) (done on : List Step) (level level' : ℕ) (a b : Spot) → ReachesSpot m done level a
+    → ReachesSpot m (done ++ on) level' b → (n : ℕ) × PathLeads m a on n b
 comes_beyond m done on level level' a b (root, n, has, walks, e) (root', n', has', walks', e') =
     let p : WalkParts m (word 0 0) b done on n' = walk_parts m (word 0 0) b done on n' walks' in
     let same : p.mid ≡ a = (one_walk m (word 0 0) done p.above n p.mid a p.first walks).1 in
-    (p.below, subst (λ (x : Spot). Walks m x on p.below b) same p.second)
+    (p.below, subst (λ (x : Spot). PathLeads m x on p.below b) same p.second)
 
 -- and reaches one pointer word
 pub one_reached : (m : List (List ℕ)) (path : List Step) (l l' s w s' w' : ℕ) → Reaches m path l s w
@@ -137,18 +137,18 @@ one_reached m path l l' s w s' w' g h =
 
 -- a path and one more step
 pub coming_last : (m : List (List ℕ)) (path : List Step) (step : Step) (l : ℕ) (c : Spot)
-    → Comes m (path ++ step ∷ []) l c ↔ ((b : Spot) × (l' : ℕ) × Comes m path l' b × Goes m b step c
+    → ReachesSpot m (path ++ step ∷ []) l c ↔ ((b : Spot) × (l' : ℕ) × ReachesSpot m path l' b × StepsTo m b step c
     × (l ≡ l' + level_of c))
 coming_last m path step l c = (to, from)
   where
-    to : Comes m (path ++ step ∷ []) l c → (b : Spot) × (l' : ℕ) × Comes m path l' b × Goes m b step c
+    to : ReachesSpot m (path ++ step ∷ []) l c → (b : Spot) × (l' : ℕ) × ReachesSpot m path l' b × StepsTo m b step c
         × (l ≡ l' + level_of c)
     to h =
         let r = (walk_last m (word 0 0) c path step h.1).0 h.3 in
         (r.0, 1 + r.1, (h.0, r.1, h.2, r.2, refl), r.3, omega (arith, h.4, r.4))
 
-    from : (b : Spot) × (l' : ℕ) × Comes m path l' b × Goes m b step c × (l ≡ l' + level_of c)
-        → Comes m (path ++ step ∷ []) l c
+    from : (b : Spot) × (l' : ℕ) × ReachesSpot m path l' b × StepsTo m b step c × (l ≡ l' + level_of c)
+        → ReachesSpot m (path ++ step ∷ []) l c
     from h =
         let g = h.2 in (
           g.0,

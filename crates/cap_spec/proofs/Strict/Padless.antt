@@ -8,7 +8,7 @@ use Rattle.cap_spec.specs.Following.{Lead, Leads, extra, to_null, to_cap, to_obj
 use Rattle.cap_spec.specs.Tree.{Tree, null, cap, struct, scalars, pointers, structs, Trees, none, more, tree_count}
 use Rattle.cap_spec.specs.Denoting.{Finds, FindsStruct, FindsPointers, FindsStructs, Denotes}
 use Rattle.cap_spec.specs.Denoting.{DenoteEach, AreElements, places}
-use Rattle.cap_spec.specs.Paths.{Spot, word, element, Goes, Walks}
+use Rattle.cap_spec.specs.Paths.{Spot, word, element, StepsTo, PathLeads}
 use Rattle.cap_spec.specs.declared.Step.{Step}
 use Rattle.cap_spec.specs.declared.Step.TheVariants.{Ptr, Item}
 use Rattle.cap_spec.proofs.Pointers.Following.{one_lead}
@@ -220,7 +220,7 @@ to_element m s w x c d k t b q tag i h le f e g y lt =
     absurd (omega (arith, number_list (kind q) (code q) e, g, found_form m s w x c d k t b q h f))
 
 -- a step from a spot that is charged no more than its cost leads to another one
-step_tight : (m : List (List ℕ)) (a : Spot) (step : Step) (b : Spot) (x : Tree) → Tight m a x → Goes m a step b
+step_tight : (m : List (List ℕ)) (a : Spot) (step : Step) (b : Spot) (x : Tree) → Tight m a x → StepsTo m a step b
     → (u : Tree) × Tight m b u
 step_tight m (word s w) (Ptr i) b x h (k, t, b', q, finds, is_struct, less, ends) =
     let r = to_pointer m s w x h.0 h.1 k t b' q i h.2 h.3 finds is_struct less in
@@ -240,7 +240,7 @@ step_tight m (element t b ds ps) (Item i) y x h g = absurd g
 
 -- and so does a path
 pub walk_tight : (m : List (List ℕ)) (a : Spot) (path : List Step) (n : ℕ) (b : Spot) (x : Tree) → Tight m a x
-    → Walks m a path n b → (u : Tree) × Tight m b u
+    → PathLeads m a path n b → (u : Tree) × Tight m b u
 walk_tight m a [] n b x h g = (x, subst (λ (y : Spot). Tight m y x) (sym g.1) h)
 walk_tight m a (step ∷ path) n b x h (mid, below, goes, walks, level) =
     let r = step_tight m a step mid x h goes in

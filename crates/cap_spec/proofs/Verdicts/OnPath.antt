@@ -6,7 +6,7 @@ use Rattle.cap_spec.specs.Lists.{IsOneOf}
 use Rattle.cap_spec.specs.Messages.{HasWord}
 use Rattle.cap_spec.specs.Faults.{AreShallow}
 use Rattle.cap_spec.specs.Getting.{AreOnPath, IsStartOf, IsFaultOnPath, IsRefusedOnPath}
-use Rattle.cap_spec.specs.Paths.{Before, Comes, Costs, Goes, Reaches, Rises, Spot, element, word}
+use Rattle.cap_spec.specs.Paths.{Before, ReachesSpot, Costs, StepsTo, Reaches, Rises, Spot, element, word}
 use Rattle.cap_spec.specs.Verdicts.{CostOf, IsDeepAt}
 use Rattle.cap_spec.specs.declared.Refusal.{Refusal}
 use Rattle.cap_spec.specs.declared.Step.{Step}
@@ -138,7 +138,7 @@ on_word m done ways step level s w h r = record {
 
 -- with one to an element nothing is added,
 pub on_element : (m : List (List ℕ)) (done : List Step) (ways : List (List Step)) (step : Step) (level t b ds ps : ℕ)
-    → AreOnPath m done ways → Comes m (done ++ step ∷ []) level (element t b ds ps)
+    → AreOnPath m done ways → ReachesSpot m (done ++ step ∷ []) level (element t b ds ps)
     → AreOnPath m (done ++ step ∷ []) ways
 on_element m done ways step level t b ds ps h c = record {
   rising = h.rising;
@@ -158,8 +158,8 @@ on_element m done ways step level t b ds ps h c = record {
 
 -- and where a step leads nowhere, neither.
 pub on_nowhere : (m : List (List ℕ)) (done rest : List Step) (ways : List (List Step)) (step : Step) (level : ℕ)
-    (a : Spot) → AreOnPath m done ways → Comes m done level a
-    → ((b : Spot) → Goes m a step b → ⊥) → AreOnPath m (done ++ step ∷ rest) ways
+    (a : Spot) → AreOnPath m done ways → ReachesSpot m done level a
+    → ((b : Spot) → StepsTo m a step b → ⊥) → AreOnPath m (done ++ step ∷ rest) ways
 on_nowhere m done rest ways step level a h c none = record {
   rising = h.rising;
   begin = λ q i. begins_longer q done (step ∷ rest) (h.begin q i);
@@ -169,7 +169,7 @@ on_nowhere m done rest ways step level a h c none = record {
   where
     past : (q more : List Step) (level' s' w' : ℕ) → Reaches m q level' s' w' → q ≡ done ++ step ∷ more → ⊥
     past q more level' s' w' r e =
-        let g : Comes m (done ++ step ∷ more) level' (word s' w') = subst (λ x. Comes m x level' (word s' w')) e r in
+        let g : ReachesSpot m (done ++ step ∷ more) level' (word s' w') = subst (λ x. ReachesSpot m x level' (word s' w')) e r in
         let w = (comes_beyond m done (step ∷ more) level level' a (word s' w') c g).1 in none w.0 w.2
 
     all : (q on : List Step) (level' s' w' : ℕ) → Reaches m q level' s' w'

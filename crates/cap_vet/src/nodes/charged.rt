@@ -1,9 +1,9 @@
 //! Getters of messages that weren't vetted.
 
-ghost use Rattle.cap_spec.specs.Arriving.{ArrivesAt};
+ghost use Rattle.cap_spec.specs.Arriving.{PathFinds};
 ghost use Rattle.cap_spec.specs.Faults.{AreShallow};
 ghost use Rattle.cap_spec.specs.Getting.{AreOnPath, Charges, IsFaultOnPath, IsRefusedOnPath};
-ghost use Rattle.cap_spec.specs.Paths.{Goes, Spot as Where, word};
+ghost use Rattle.cap_spec.specs.Paths.{StepsTo, Spot as Where, word};
 ghost use Rattle.cap_spec.specs.Verdicts.{CostOf};
 ghost use Rattle.cap_spec.specs.declared.Kind.{Kind};
 ghost use Rattle.cap_spec.specs.declared.Step.{Step};
@@ -97,7 +97,7 @@ impl Arrival {
             IfSome o (λ next. next.pointers ≤ self.now.pointers + 1)) }
         ensures none { let m = M.segments message.now in
             (path : List Step) (a : Where) → Arrives m words depth path a self.now →
-            IfOk result (λ o. IfNone o ((b : Where) → ¬ Goes m a step b)) }
+            IfOk result (λ o. IfNone o ((b : Where) → ¬ StepsTo m a step b)) }
         ensures err { let m = M.segments message.now in
             (path : List Step) (a : Where) → Arrives m words depth path a self.now →
             IfErr result (IsFaultOnPath m words depth (path ++ step ∷ [])) }
@@ -184,10 +184,10 @@ pub fn get_charged<'m, M: Segments>(
     ensures ok { let m = M.segments message.now in
         OnOk result (Charges m (left_of budget.old) depth path.now (left_of budget.new)) }
     ensures none { let m = M.segments message.now in IfOk result (λ o. IfNone o (
-        (k : Kind) (t b n : ℕ) → ¬ ArrivesAt m path.now k t b n)) }
+        (k : Kind) (t b n : ℕ) → ¬ PathFinds m path.now k t b n)) }
     ensures some { let m = M.segments message.now in IfOk result (λ o. IfSome o (λ v.
         let place = kept_place v in
-        ArrivesAt m path.now (view_kind v) place.segment place.start place.words)) }
+        PathFinds m path.now (view_kind v) place.segment place.start place.words)) }
     ensures message { IfOk result (λ o. IfSome o (λ v. view_message v ≡ message.now)) }
     ensures err { let m = M.segments message.now in
         IfErr result (IsRefusedOnPath m (left_of budget.old) depth path.now) }

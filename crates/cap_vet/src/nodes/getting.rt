@@ -1,6 +1,6 @@
 //! Getters of messages that weren't vetted, under demands.
 
-ghost use Rattle.cap_spec.specs.Arriving.{ArrivesAt};
+ghost use Rattle.cap_spec.specs.Arriving.{PathFinds};
 ghost use Rattle.cap_spec.specs.Paths.{Spot as Where};
 ghost use Rattle.cap_spec.specs.declared.Kind.{Kind};
 ghost use Rattle.cap_spec.specs.declared.Step.{Step};
@@ -51,11 +51,11 @@ pub fn get_with<'m, M: Segments, S: StepSource + Copy>(
         MeetsOnPath demands m (words_of limits) (depth_of limits) steps) }
     ensures none { let m = M.segments message.now in
         (steps : List Step) → S.gives path steps → IfOk result (λ o. IfNone o (
-        (k : Kind) (t b n : ℕ) → ¬ ArrivesAt m steps k t b n)) }
+        (k : Kind) (t b n : ℕ) → ¬ PathFinds m steps k t b n)) }
     ensures some { let m = M.segments message.now in
         (steps : List Step) → S.gives path steps → IfOk result (λ o. IfSome o (λ v.
         let place = kept_place v in
-        ArrivesAt m steps (view_kind v) place.segment place.start place.words)) }
+        PathFinds m steps (view_kind v) place.segment place.start place.words)) }
     ensures message { IfOk result (λ o. IfSome o (λ v. view_message v ≡ message.now)) }
     ensures err { let m = M.segments message.now in
         (steps : List Step) → S.gives path steps →

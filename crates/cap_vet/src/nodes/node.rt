@@ -36,8 +36,8 @@ impl<'m, M: Segments> Clone for Node<'m, M> {
 impl<'m, M: Segments> Copy for Node<'m, M> {}
 
 impl<'m, M: Segments> Node<'m, M> {
-    ghost use Rattle.cap_spec.specs.Arriving.{StandsAs};
-    ghost use Rattle.cap_spec.specs.Paths.{Goes, Spot as Where, Stands};
+    ghost use Rattle.cap_spec.specs.Arriving.{HasObject};
+    ghost use Rattle.cap_spec.specs.Paths.{StepsTo, Spot as Where, HasPlace};
     ghost use Rattle.cap_spec.specs.Showing.{own_of};
     ghost use Rattle.cap_spec.specs.Standing.{DenotesAt};
     ghost use Rattle.cap_spec.specs.Tree.{Tree, part_at};
@@ -69,7 +69,7 @@ impl<'m, M: Segments> Node<'m, M> {
         ensures message { view_message result ≡ node_message self.now }
         ensures stands { let m = M.segments (node_message self.now) in
             let spot = node_spot self.now in let place = kept_place result in
-            StandsAs m spot (view_kind result) place.segment place.start place.words }
+            HasObject m spot (view_kind result) place.segment place.start place.words }
 
         // There is a tree at the node, and the view shows what it is by itself.
         ensures tree { let m = M.segments (node_message self.now) in
@@ -77,8 +77,8 @@ impl<'m, M: Segments> Node<'m, M> {
         ensures shows { let m = M.segments (node_message self.now) in
             (t : Tree) → DenotesAt m (node_spot self.now) t → shown result ≡ own_of t }
         ensures place { let m = M.segments (node_message self.now) in
-            MatchOption (view_place result) ((t b n : ℕ) → ¬ Stands m (node_spot self.now) t b n)
-            (λ p. Stands m (node_spot self.now) p.segment p.start p.words) }
+            MatchOption (view_place result) ((t b n : ℕ) → ¬ HasPlace m (node_spot self.now) t b n)
+            (λ p. HasPlace m (node_spot self.now) p.segment p.start p.words) }
     {
         View {
             message: self.message,
@@ -93,9 +93,9 @@ impl<'m, M: Segments> Node<'m, M> {
     pub fn child(&self, step: Step) -> Option<Node<'m, M>>
         ensures message { IfSome result (λ n. node_message n ≡ node_message self.now) }
         ensures some { let m = M.segments (node_message self.now) in
-            IfSome result (λ n. Goes m (node_spot self.now) step (node_spot n)) }
+            IfSome result (λ n. StepsTo m (node_spot self.now) step (node_spot n)) }
         ensures none { let m = M.segments (node_message self.now) in
-            IfNone result ((b : Where) → ¬ Goes m (node_spot self.now) step b) }
+            IfNone result ((b : Where) → ¬ StepsTo m (node_spot self.now) step b) }
         ensures part { let m = M.segments (node_message self.now) in
             (t : Tree) → DenotesAt m (node_spot self.now) t →
             MatchOption result (part_at t step ≡ None)

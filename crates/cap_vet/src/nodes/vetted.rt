@@ -32,7 +32,7 @@ impl<'m, M: Segments> Copy for Vetted<'m, M> {}
 
 impl<'m, M: Segments> Vetted<'m, M> {
     ghost use Rattle.cap_spec.specs.Denoting.{Denotes};
-    ghost use Rattle.cap_spec.specs.Paths.{Comes, Spot as Where};
+    ghost use Rattle.cap_spec.specs.Paths.{ReachesSpot, Spot as Where};
     ghost use Rattle.cap_spec.specs.Standing.{DenotesAt};
     ghost use Rattle.cap_spec.specs.Tree.{Tree, node_at};
     ghost use Rattle.cap_vet.specs.Views.{node_message, node_spot};
@@ -59,7 +59,7 @@ impl<'m, M: Segments> Vetted<'m, M> {
     /// The node of the empty path: what the root pointer denotes. Takes no memory.
     pub fn root(&self) -> Node<'m, M>
         ensures message { node_message result ≡ message_of self.now }
-        ensures comes { Comes (M.segments (message_of self.now)) [] 1 (node_spot result) }
+        ensures comes { ReachesSpot (M.segments (message_of self.now)) [] 1 (node_spot result) }
     {
         Node {
             message: self.message,
@@ -77,9 +77,9 @@ impl<'m, M: Segments> Vetted<'m, M> {
     pub fn get(&self, path: &[Step]) -> Option<Node<'m, M>>
         ensures message { IfSome result (λ n. node_message n ≡ message_of self.now) }
         ensures some { let m = M.segments (message_of self.now) in
-            IfSome result (λ n. (level : ℕ) × Comes m path.now level (node_spot n)) }
+            IfSome result (λ n. (level : ℕ) × ReachesSpot m path.now level (node_spot n)) }
         ensures none { let m = M.segments (message_of self.now) in
-            IfNone result ((level : ℕ) (a : Where) → ¬ Comes m path.now level a) }
+            IfNone result ((level : ℕ) (a : Where) → ¬ ReachesSpot m path.now level a) }
         ensures node { let m = M.segments (message_of self.now) in
             (t : Tree) (c d : ℕ) → Denotes m 0 0 t c d →
             MatchOption result (node_at t path.now ≡ None)

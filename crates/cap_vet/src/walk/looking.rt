@@ -1,6 +1,6 @@
 //! Looking at one pointer word within limits.
 
-ghost use Rattle.cap_ptr.specs.Reaching.{StandsFor};
+ghost use Rattle.cap_ptr.specs.Reaching.{ResolvesTo};
 ghost use Rattle.cap_ptr.specs.Rows.{FindsRow};
 ghost use Rattle.cap_ptr.specs.Shapes.{FindsTarget, FindsTargetBy};
 ghost use Rattle.cap_spec.specs.Faults.{IsFirstReason};
@@ -202,7 +202,7 @@ fn row_within(
     requires spent { spent ≤ words_of limits.now }
     requires level { level ≤ depth_of limits.now + 1 }
     ensures { (m : List (List ℕ)) (s w at q : ℕ) → FindsRow m segment at q row.now →
-        StandsFor m s w pads segment at q →
+        ResolvesTo m s w pads segment at q →
         IfSome result (IsLooked m (words_of limits.now) (depth_of limits.now) spent s w level) }
 {
     let cost = u64::from(pads) + u64::from(row.words);

@@ -3,7 +3,7 @@ use Rattle.std.proofs.Common.{◌≡◌, ap, Err, ℕ, ◌∙◌, List, subst}
 use Rattle.std.specs.Prelude.{MatchOption}
 use Rattle.cap_frame.specs.Bytes.{cut}
 use Rattle.cap_frame.specs.declared.view.ByteView.{ByteView}
-use Rattle.cap_spec.specs.Paths.{Comes, Spot, Stands}
+use Rattle.cap_spec.specs.Paths.{ReachesSpot, Spot, HasPlace}
 use Rattle.cap_vet.specs.Views.{bytes_of_place, node_spot, view_place}
 use Rattle.cap_vet.specs.declared.nodes.place.Place.{Place}
 use Rattle.cap_read.proofs.Placing.{bytes_there, no_bytes_there, no_place}
@@ -15,7 +15,7 @@ seg u = cut u.sizes.now u.bytes.now
 
 pub returns-in-None-clause-bytes : goal.returns-in-None-clause-bytes
 returns-in-None-clause-bytes c = λ t b n h.
-    let none = subst (λ u. (level : ℕ) (a : Spot) → Comes (seg u) c.args.path.now level a → ⊥) c.in-Ok.ensures.message c.in-None.ensures.none in
+    let none = subst (λ u. (level : ℕ) (a : Spot) → ReachesSpot (seg u) c.args.path.now level a → ⊥) c.in-Ok.ensures.message c.in-None.ensures.none in
     absurd (no_place (seg c.args.message.now) c.args.path.now none t b n h)
 
 pub returns-in-Some-clause-bytes : goal.returns-in-Some-clause-bytes
@@ -25,9 +25,9 @@ returns-in-Some-clause-bytes c = λ t b n h.
     let of_view = c.view-view.ensures.message ∙ of_node in
     let spot = node_spot c.in-Some.node in
     let view = c.view-view.result in
-    let comes = subst (λ u. (level : ℕ) × Comes (seg u) c.args.path.now level spot) message c.in-Some.ensures.some in
-    let stands = subst (λ u. MatchOption (view_place view) ((t b n : ℕ) → Stands (seg u) spot t b n → ⊥)
-    (λ (p : Place). Stands (seg u) spot p.segment p.start p.words)) of_node c.view-view.ensures.place in
+    let comes = subst (λ u. (level : ℕ) × ReachesSpot (seg u) c.args.path.now level spot) message c.in-Some.ensures.some in
+    let stands = subst (λ u. MatchOption (view_place view) ((t b n : ℕ) → HasPlace (seg u) spot t b n → ⊥)
+    (λ (p : Place). HasPlace (seg u) spot p.segment p.start p.words)) of_node c.view-view.ensures.place in
     let bytes = subst (λ u. c.bytes.result.now ≡ bytes_of_place (seg u) (view_place view)) of_view c.bytes.ensures in
     bytes ∙ bytes_there (seg c.args.message.now) c.args.path.now comes.0 spot (view_place view) comes.1 stands t b n h
 
@@ -38,9 +38,9 @@ returns-in-Some-clause-empty c = λ none.
     let of_view = c.view-view.ensures.message ∙ of_node in
     let spot = node_spot c.in-Some.node in
     let view = c.view-view.result in
-    let comes = subst (λ u. (level : ℕ) × Comes (seg u) c.args.path.now level spot) message c.in-Some.ensures.some in
-    let stands = subst (λ u. MatchOption (view_place view) ((t b n : ℕ) → Stands (seg u) spot t b n → ⊥)
-    (λ (p : Place). Stands (seg u) spot p.segment p.start p.words)) of_node c.view-view.ensures.place in
+    let comes = subst (λ u. (level : ℕ) × ReachesSpot (seg u) c.args.path.now level spot) message c.in-Some.ensures.some in
+    let stands = subst (λ u. MatchOption (view_place view) ((t b n : ℕ) → HasPlace (seg u) spot t b n → ⊥)
+    (λ (p : Place). HasPlace (seg u) spot p.segment p.start p.words)) of_node c.view-view.ensures.place in
     let bytes = subst (λ u. c.bytes.result.now ≡ bytes_of_place (seg u) (view_place view)) of_view c.bytes.ensures in
     bytes ∙ no_bytes_there (seg c.args.message.now) c.args.path.now comes.0 spot (view_place view) comes.1 stands none
 

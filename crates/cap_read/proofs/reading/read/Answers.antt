@@ -2,7 +2,7 @@ use Rattle.std.proofs.Common.{◌≡◌, ap, Err, ℕ, ◌+◌, ◌<◌, ◌≤�
 use Rattle.std.specs.Prelude.{IfSome, MatchOption}
 use Rattle.cap_spec.specs.Denoting.{Denotes}
 use Rattle.cap_spec.specs.Messages.{segment_of}
-use Rattle.cap_spec.specs.Paths.{Comes, Spot, Stands}
+use Rattle.cap_spec.specs.Paths.{ReachesSpot, Spot, HasPlace}
 use Rattle.cap_spec.specs.Showing.{own_of}
 use Rattle.cap_spec.specs.Standing.{DenotesAt}
 use Rattle.cap_spec.specs.Tree.{Tree, node_at}
@@ -15,7 +15,7 @@ pub returns-in-None-clause-ok : goal.returns-in-None-clause-ok
 returns-in-None-clause-ok g c =
     let message = c.in-Ok.ensures.message in
     let path = c.args.path.now in
-    let none = subst (λ u. (level : ℕ) (a : Spot) → Comes (g.M.Segments.segments u) path level a → ⊥) message c.in-None.ensures.none in
+    let none = subst (λ u. (level : ℕ) (a : Spot) → ReachesSpot (g.M.Segments.segments u) path level a → ⊥) message c.in-None.ensures.none in
     let empty = subst (λ u. (t : Tree) (x d : ℕ) → Denotes (g.M.Segments.segments u) 0 0 t x d → node_at t path ≡ None) message c.in-None.ensures.node in
     let tree = c.in-Ok.ensures.ok in
     nothing_read tree.0 (rw c.report-report.ensures.value tree.1) none empty
@@ -28,12 +28,12 @@ returns-in-Some-clause-ok g c =
     let path = c.args.path.now in
     let spot = node_spot c.in-Some.node in
     let view = c.view-view.result in
-    let comes = subst (λ u. (level : ℕ) × Comes (g.M.Segments.segments u) path level spot) message c.in-Some.ensures.some in
+    let comes = subst (λ u. (level : ℕ) × ReachesSpot (g.M.Segments.segments u) path level spot) message c.in-Some.ensures.some in
     let node = subst (λ u. (t : Tree) (x d : ℕ) → Denotes (g.M.Segments.segments u) 0 0 t x d →
     (y : Tree) × (node_at t path ≡ Some y) × DenotesAt (g.M.Segments.segments u) spot y) message c.in-Some.ensures.node in
     let shows = subst (λ u. (t : Tree) → DenotesAt (g.M.Segments.segments u) spot t → shown view ≡ own_of t) of_node c.view-view.ensures.shows in
-    let stands = subst (λ u. MatchOption (view_place view) ((t b n : ℕ) → Stands (g.M.Segments.segments u) spot t b n → ⊥)
-    (λ (p : Place). Stands (g.M.Segments.segments u) spot p.segment p.start p.words)) of_node c.view-view.ensures.place in
+    let stands = subst (λ u. MatchOption (view_place view) ((t b n : ℕ) → HasPlace (g.M.Segments.segments u) spot t b n → ⊥)
+    (λ (p : Place). HasPlace (g.M.Segments.segments u) spot p.segment p.start p.words)) of_node c.view-view.ensures.place in
     let exists = subst (λ u. IfSome c.place.result (λ (p : Place). p.segment < length (g.M.Segments.segments u))) of_view c.place.ensures.exists in
     let inside = subst (λ u. IfSome c.place.result (λ (p : Place). p.start + p.words ≤ length (segment_of (g.M.Segments.segments u) p.segment)))
     of_view c.place.ensures.inside in

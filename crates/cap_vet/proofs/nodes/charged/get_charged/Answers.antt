@@ -2,7 +2,7 @@ use Rattle.std.proofs.Common.{◌≡◌, ◌++◌, ◌∷◌, ◌<◌, ◌∙◌
 use Rattle.std.proofs.Math.Seq.{split_at}
 use Rattle.std.proofs.lemmas.List.{take_all, take_more}
 use Rattle.cap_spec.specs.Getting.{AreOnPath}
-use Rattle.cap_spec.specs.Paths.{Comes}
+use Rattle.cap_spec.specs.Paths.{ReachesSpot}
 use Rattle.cap_spec.specs.declared.Step.{Step}
 use Rattle.cap_spec.specs.declared.Step.TheVariants.{Ptr}
 use Rattle.cap_spec.proofs.Verdicts.OnPath.{one_path_refusal, path_not_refused}
@@ -88,7 +88,7 @@ returns-clause-some g c =
     let i = c.loop-step.step-index in
     let h = c.loop-step.invariant.arrived in
     let whole : take i path ≡ path = take_all i path (omega (arith, c.loop-step-test.false)) in
-    (c.loop-step.at.level, h.0, subst (λ u. Comes m u c.loop-step.at.level h.0) whole h.1.comes, h.1.found.stands)
+    (c.loop-step.at.level, h.0, subst (λ u. ReachesSpot m u c.loop-step.at.level h.0) whole h.1.comes, h.1.found.stands)
 
 pub returns-clause-refuses : goal.returns-clause-refuses
 returns-clause-refuses g c = λ r refused.

@@ -1,7 +1,7 @@
 use Rattle.std.proofs.Common.{◌≡◌, ◌<◌, ◌∙◌, length, take, drop, get_or, subst, sym, suc, arith}
 use Rattle.std.proofs.Math.Seq.{split_at}
 use Rattle.std.proofs.lemmas.List.{take_all, take_more}
-use Rattle.cap_spec.specs.Paths.{Comes, Goes, Spot}
+use Rattle.cap_spec.specs.Paths.{ReachesSpot, StepsTo, Spot}
 use Rattle.cap_spec.specs.declared.Step.TheVariants.{Ptr}
 use Rattle.cap_spec.proofs.Paths.Arrivals.{coming_to_node}
 use Rattle.cap_vet.specs.Views.{node_spot}
@@ -13,7 +13,7 @@ pub returns-in-None-clause-none : goal.returns-in-None-clause-none
 returns-in-None-clause-none g c =
     let path = c.args.path.now in
     let i = c.loop-step.step-index in
-    let none = subst (λ u. (b : Spot) → Goes (g.M.Segments.segments u) (node_spot c.loop-step.node)
+    let none = subst (λ u. (b : Spot) → StepsTo (g.M.Segments.segments u) (node_spot c.loop-step.node)
     (get_or path i (Ptr 0)) b → ⊥) c.loop-step.invariant.0 c.in-None.ensures.none in
     let lt : i < length path = omega (arith, c.loop-step-test.true) in
     comes_nowhere _ path (take i path) (drop (suc i) path) (get_or path i (Ptr 0)) _ _ (split_at path i (Ptr 0) lt) c.loop-step.invariant.1.1 none
@@ -26,13 +26,13 @@ loop-step-preserved g c =
     let path = c.args.path.now in
     let i = c.loop-step.step-index in
     let lt : i < length path = omega (arith, c.loop-step-test.true) in
-    let goes = subst (λ u. Goes (g.M.Segments.segments u) (node_spot c.loop-step.node) (get_or path i (Ptr 0))
+    let goes = subst (λ u. StepsTo (g.M.Segments.segments u) (node_spot c.loop-step.node) (get_or path i (Ptr 0))
     (node_spot c.in-Some.child)) c.loop-step.invariant.0 c.in-Some.ensures.some in
     let r = comes_on _ (take i path) (get_or path i (Ptr 0)) _ _ _ c.loop-step.invariant.1.1 goes in (
       c.in-Some.ensures.message ∙ c.loop-step.invariant.0,
       (
         r.0,
-        subst (λ u. Comes (g.M.Segments.segments (message_of c.args.self.now)) u r.0 (node_spot c.in-Some.child))
+        subst (λ u. ReachesSpot (g.M.Segments.segments (message_of c.args.self.now)) u r.0 (node_spot c.in-Some.child))
             (sym (take_more path i (Ptr 0) lt)) r.1,
       ),
     )
@@ -42,5 +42,5 @@ returns-clause-node g c = λ t x d h.
     let whole : take c.loop-step.step-index c.args.path.now ≡ c.args.path.now = take_all c.loop-step.step-index
     c.args.path.now (omega (arith, c.loop-step-test.false)) in
     coming_to_node _ t x d h c.args.path.now c.loop-step.invariant.1.0 _
-    (subst (λ u. Comes (g.M.Segments.segments (message_of c.args.self.now)) u c.loop-step.invariant.1.0
+    (subst (λ u. ReachesSpot (g.M.Segments.segments (message_of c.args.self.now)) u c.loop-step.invariant.1.0
     (node_spot c.loop-step.node)) whole c.loop-step.invariant.1.1)

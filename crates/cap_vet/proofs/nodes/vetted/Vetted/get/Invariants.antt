@@ -1,5 +1,5 @@
 use Rattle.std.proofs.Common.{◌≡◌, ℕ, take}
-use Rattle.cap_spec.specs.Paths.{Comes}
+use Rattle.cap_spec.specs.Paths.{ReachesSpot}
 use Rattle.cap_vet.specs.Views.{node_message, node_spot}
 use Rattle.cap_vet.specs.Vettings.{message_of}
 use Rattle.cap_vet.proofs.nodes.vetted.Vetted.get.Given as goal
@@ -7,4 +7,4 @@ use Rattle.cap_vet.proofs.nodes.vetted.Vetted.get.Given as goal
 abbrev pub invariant-loop-step : goal.invariant-loop-step
 invariant-loop-step g l =
     (node_message l.node ≡ message_of l.self)
-    × ((level : ℕ) × Comes (g.M.Segments.segments (message_of l.self)) (take l.step-index l.path) level (node_spot l.node))
+    × ((level : ℕ) × ReachesSpot (g.M.Segments.segments (message_of l.self)) (take l.step-index l.path) level (node_spot l.node))
