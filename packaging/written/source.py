@@ -12,7 +12,7 @@ TOP = Path(__file__).resolve().parents[2]
 CRATES = TOP / "crates"
 # A name that is no part of a value, an import, and the names that a definition gives, at the margin and in a mutual one.
 WORD = re.compile(r"(?<![\w.'])[A-Za-z_][\w']*(?:-[\w']+)*")
-USE = re.compile(r"^\s*(?:ghost |pub )*use (Rattle\.[\w.]+?)(?:\.\{([^}]*)\}| as (\w+));?$", re.M)
+USE = re.compile(r"^\s*((?:ghost |pub )*)use (Rattle\.[\w.]+?)(?:\.\{([^}]*)\}| as (\w+));?$", re.M)
 START = re.compile(r"^(?:abbrev |unfoldable )?(?:pub )?(?:abbrev |record |data )?([\w'-]+)(?= :| [({]|$)", re.M)
 INNER = re.compile(r"^  (?:pub )?(?:abbrev |record |data )?([\w'-]+)(?= :| [({])", re.M)
 
@@ -28,8 +28,11 @@ class Chunk(NamedTuple):
 
 
 def target(path, name):
-    """What an imported name is."""
+    """What an imported name is: the one that is behind it, where a file passes it on."""
     parts = path.split(".")[1:]
+    file = CRATES.joinpath(*parts).with_suffix(".antt")
+    if file.is_file() and name in imports(file, passed_on=True):
+        return imports(file, passed_on=True)[name]
     if len(parts) > 2 and "declared" in parts:
         types = [part for part in parts if part != "TheVariants"]
         return parts[0], "declared", types[-1]
@@ -37,13 +40,15 @@ def target(path, name):
 
 
 @cache
-def imports(file):
-    """What the names that a file imports are."""
+def imports(file, passed_on=False):
+    """What the names that a file imports are, or only those that it passes on."""
     found, text = {}, file.read_text()
     lines = re.findall(r"^\s*(?:ghost |pub )*use Rattle\b.*$", text, re.M)
     if unread := [line for line in lines if not USE.match(line)]:
         raise LookupError(f"{file} has an import in another form: {unread[0]}")
-    for path, names, alias in USE.findall(text):
+    for marks, path, names, alias in USE.findall(text):
+        if passed_on and "pub" not in marks:
+            continue
         if alias:
             found[alias] = target(path, alias)
         for name in filter(None, re.split(r",\s*", names)):
@@ -56,7 +61,7 @@ def imports(file):
 def renamed(file):
     """The names that a file itself gives to what it imports."""
     uses = USE.findall(file.read_text())
-    return {alias for *_, alias in uses if alias} | {new for _, names, _ in uses for new in re.findall(r" as ([\w']+)", names)}
+    return {alias for *_, alias in uses if alias} | {new for *_, names, _ in uses for new in re.findall(r" as ([\w']+)", names)}
 
 
 @cache

@@ -1,25 +1,17 @@
 -- With all three flags nothing but acceptance is demanded.
-use Rattle.std.proofs.Common.{ℕ, List, ◌≡◌, ◌∙◌, ap, arith, inl, inr, refl, subst, sym}
-use Rattle.std.specs.Prelude.{Bool, false, not}
-use Rattle.std.proofs.lemmas.Bool.{false≢true}
-use Rattle.cap_spec.specs.Faults.{IsRefused}
 use Rattle.cap_spec.specs.declared.Refusal.{Refusal}
-use Rattle.cap_spec.specs.declared.StrictRefusal.{StrictRefusal}
-use Rattle.cap_spec.specs.declared.StrictRefusal.TheVariants as strict
-use Rattle.cap_vet.specs.Demands.{IsDemandFault, Meets}
-use Rattle.cap_vet.specs.Reports.{IsAccepted}
-use Rattle.cap_vet.specs.Taken.{marks_of}
-use Rattle.cap_vet.specs.declared.demands.Demands.{Demands}
-use Rattle.cap_vet.specs.declared.exclusiveness.exclusive_room.ExclusiveFault.TheVariants as fault
-use Rattle.cap_vet.specs.declared.report.Report.{Report}
-use Rattle.cap_calls.specs.CallFindings.{Judges, JudgesAny, Tells, TellsWhole, accepted, framed}
-use Rattle.cap_calls.specs.CallFindings.{refused, refused_found, tells, trailing, without}
-use Rattle.cap_calls.specs.CallFlags.{allows_trailing, demands_of, has_no_table}
-use Rattle.cap_calls.specs.CallInputs.{TellsInput, of_frame, of_no_words, of_words}
-use Rattle.cap_calls.specs.ExclusiveCalls.{Marks, MarksAny, exclusive, overlap, too_small}
-use Rattle.cap_calls.specs.declared.found.Found.{Found}
-use Rattle.cap_calls.specs.declared.limits.CallLimits.{CallLimits}
+use Rattle.cap_spec.proofs.Prelude.{Bool, List, ap, arith, false, inl, inr, not, refl, subst, sym, ℕ, ◌∙◌, ◌≡◌}
+use Rattle.cap_spec.proofs.Prelude.{false≢true, IsRefused}
+use Rattle.cap_vet.specs.Prelude.{IsDemandFault, Meets, IsAccepted, marks_of}
+use Rattle.cap_calls.specs.CallFindings.{JudgesAny, accepted, without}
+use Rattle.cap_calls.specs.ExclusiveCalls.{MarksAny, too_small}
+use Rattle.cap_calls.specs.Prelude.{StrictRefusal, Demands, Report, Judges, Tells, TellsWhole, framed, refused}
+use Rattle.cap_calls.specs.Prelude.{refused_found, tells, trailing, allows_trailing, demands_of, has_no_table}
+use Rattle.cap_calls.specs.Prelude.{TellsInput, of_frame, of_no_words, of_words, Marks, exclusive, overlap, Found}
+use Rattle.cap_calls.specs.Prelude.{CallLimits}
 use Rattle.cap_calls.proofs.Words.{one_input}
+use Rattle.cap_spec.specs.declared.StrictRefusal.TheVariants as strict
+use Rattle.cap_vet.specs.declared.exclusiveness.exclusive_room.ExclusiveFault.TheVariants as fault
 
 -- no demand
 abbrev none : Demands

@@ -1,36 +1,22 @@
 -- The bytes decide what each call finds.
-use Rattle.std.proofs.Common.{ℕ, ap₂, List, [], ◌∷◌, ◌≡◌, ◌∙◌, ◌*◌, ap, sym, subst, refl, length, Option}
-use Rattle.std.proofs.Common.{None, Result, Ok, Err}
-use Rattle.std.specs.Prelude.{◌-◌, Bool, ⊤, not, true}
-use Rattle.cap_spec.specs.Plain.{plain_words}
-use Rattle.cap_spec.proofs.Frames.Framing.{one_frame}
-use Rattle.cap_spec.specs.Strict.{IsStrictFault}
-use Rattle.cap_spec.specs.declared.StrictRefusal.{StrictRefusal}
-use Rattle.cap_spec.specs.declared.StrictRefusal.TheVariants.{Refused, ManySegments, Pointer}
-use Rattle.cap_spec.proofs.Strict.Faults.{one_strict_fault, strict_not_fault}
-use Rattle.cap_spec.proofs.Verdicts.Refusals.{within_not_refused}
+use Rattle.cap_spec.specs.declared.StrictRefusal.TheVariants.{Refused}
+use Rattle.cap_spec.proofs.Lemmas.{one_frame, strict_not_fault, within_not_refused}
+use Rattle.cap_spec.proofs.Prelude.{Bool, Err, List, None, Ok, Option, Result, [], ap, ap₂, length, not, refl, subst}
+use Rattle.cap_spec.proofs.Prelude.{sym, true, ℕ, ◌*◌, ◌-◌, ◌∙◌, ◌∷◌, ◌≡◌, ⊤, plain_words, IsStrictFault}
+use Rattle.cap_spec.proofs.Strict.Faults.{one_strict_fault}
 use Rattle.cap_frame.specs.Framed.{TellsFront}
-use Rattle.cap_frame.specs.declared.fault.FrontFault.{FrontFault}
-use Rattle.cap_frame.specs.declared.fault.FrontFault.TheVariants.{TooManySegments, TooLarge, Truncated}
-use Rattle.cap_frame.specs.declared.framed.Framed.{Framed}
+use Rattle.cap_frame.specs.declared.fault.FrontFault.TheVariants.{TooLarge, TooManySegments, Truncated}
 use Rattle.cap_frame.proofs.FrontAnswers.{empty_answer, large_answer, many_answer, short_answer, whole_answer}
-use Rattle.cap_vet.specs.Demands.{IsDemandFault, Meets, words_under}
-use Rattle.cap_vet.specs.Reports.{IsAccepted}
-use Rattle.cap_vet.specs.declared.demands.Demands.{Demands}
+use Rattle.cap_vet.specs.Prelude.{IsDemandFault, Meets, words_under, IsAccepted}
 use Rattle.cap_vet.proofs.OneReport.{one_report}
-use Rattle.cap_vet.specs.declared.report.Report.{Report}
-use Rattle.cap_calls.specs.CallFindings.{Judges, Returns, Tells, TellsWhole, accepted, framed, framed_found}
-use Rattle.cap_calls.specs.CallFindings.{none_found, refused, refused_found, tells, trailing, trailing_found, without}
-use Rattle.cap_calls.specs.CallFlags.{allows_trailing, demands_of}
-use Rattle.cap_calls.specs.CallFrames.{HasFrame, HasNoFrame}
-use Rattle.cap_calls.specs.CallInputs.{TellsInput, of_frame, of_no_words, of_words}
-use Rattle.cap_calls.specs.Calls.{IsCheck, TellsCheck, TellsFrame, TellsVet, canonical, not_canonical, TellsMessage}
-use Rattle.cap_calls.specs.declared.answer.Answer.{Answer}
-use Rattle.cap_calls.specs.declared.found.Found.{Found}
-use Rattle.cap_calls.specs.declared.front.NoFrame.{NoFrame}
-use Rattle.cap_calls.specs.declared.front.NoFrame.TheVariants.{BadLimits, NoMessage, Fault}
-use Rattle.cap_calls.specs.declared.limits.CallLimits.{CallLimits}
-use Rattle.cap_calls.specs.declared.report.CallReport.{CallReport}
+use Rattle.cap_calls.specs.CallFindings.{Returns, accepted, trailing_found, without}
+use Rattle.cap_calls.specs.Calls.{IsCheck, TellsCheck, TellsFrame, canonical, not_canonical}
+use Rattle.cap_calls.specs.Prelude.{StrictRefusal, ManySegments, Pointer, FrontFault, Framed, Demands, Report, Judges}
+use Rattle.cap_calls.specs.Prelude.{Tells, TellsWhole, framed, framed_found, none_found, refused, refused_found, tells}
+use Rattle.cap_calls.specs.Prelude.{trailing, allows_trailing, demands_of, HasFrame, HasNoFrame, TellsInput, of_frame}
+use Rattle.cap_calls.specs.Prelude.{of_no_words, of_words, TellsMessage, TellsVet, Answer, Found, NoFrame, BadLimits}
+use Rattle.cap_calls.specs.Prelude.{Fault, CallLimits, CallReport}
+use Rattle.cap_calls.specs.declared.front.NoFrame.TheVariants.{NoMessage}
 use Rattle.cap_calls.proofs.Words.{no_word_cause, one_input, one_word_cause}
 
 -- an answer without a frame

@@ -1,15 +1,10 @@
 -- The words that a call gave are appended to the message.
-use Rattle.std.proofs.Common.{ℕ, List, [], ◌++◌, ◌≡◌, ◌∙◌, ◌<◌, ◌≤◌, ◌+◌, ◌*◌, ◌%◌, ap, ap₂, sym, arith}
-use Rattle.std.proofs.Common.{append-nil, append_assoc, drop, length, length-drop, take, take-append-drop, take-take}
-use Rattle.std.specs.List.{AllByRecursion}
-use Rattle.std.proofs.lemmas.List.{drop_all, length-take-le}
-use Rattle.cap_spec.specs.Plain.{plain_text, plain_words}
-use Rattle.cap_spec.proofs.Bytes.Lists.{all_drop, all_take}
-use Rattle.cap_spec.proofs.Bytes.Plain.{plain_split, words_exact}
-use Rattle.cap_calls.specs.PackedStreams.{WritesWords}
-use Rattle.cap_calls.specs.UnpackingMessages.{Appends, IsOpen}
+use Rattle.cap_spec.proofs.Lemmas.{all_drop, all_take, plain_split, words_exact}
+use Rattle.cap_spec.proofs.Prelude.{List, [], ap, append-nil, append_assoc, ap₂, arith, drop, length, length-drop}
+use Rattle.cap_spec.proofs.Prelude.{length-take-le, sym, take, take-append-drop, take-take, ℕ, ◌%◌, ◌*◌, ◌++◌, ◌+◌, ◌<◌}
+use Rattle.cap_spec.proofs.Prelude.{◌∙◌, ◌≡◌, ◌≤◌, drop_all, AllByRecursion, plain_text, plain_words}
+use Rattle.cap_calls.specs.Prelude.{WritesWords, Appends, IsOpen, Unpacking}
 use Rattle.cap_calls.specs.declared.packed_stream.Given.{Given}
-use Rattle.cap_calls.specs.declared.unpacking.Unpacking.{Unpacking}
 
 -- the words of the buffer from where the call began
 abbrev pub words_given : ℕ → List ℕ → Given → List ℕ

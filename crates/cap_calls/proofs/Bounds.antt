@@ -1,22 +1,14 @@
 -- The bounds of the header suffice.
-use Rattle.std.proofs.Common.{ℕ, List, ◌≡◌, ◌∙◌, ◌≤◌, ap, arith, length, length-append}
-use Rattle.std.specs.Prelude.{Bool, ⊤}
+use Rattle.cap_spec.proofs.Lemmas.{words_exact, length_joined, table_length}
+use Rattle.cap_spec.proofs.Prelude.{Bool, List, ap, arith, length, length-append, ℕ, ◌∙◌, ◌≡◌, ◌≤◌, ⊤, joined, sizes_of}
 use Rattle.cap_frame.specs.Fronts.{IsFront}
-use Rattle.cap_frame.specs.declared.fault.FrontFault.TheVariants.{TooManySegments, TooLarge, Truncated}
-use Rattle.cap_spec.specs.Frames.{joined, sizes_of}
-use Rattle.cap_spec.proofs.Bytes.Plain.{words_exact}
-use Rattle.cap_spec.proofs.Frames.Endings.{length_joined}
-use Rattle.cap_spec.proofs.Frames.Framing.{table_length}
-use Rattle.cap_calls.specs.CallBounds.{frame_bound}
-use Rattle.cap_calls.specs.CallFindings.{Tells, TellsWhole, framed, tells, trailing, without}
-use Rattle.cap_calls.specs.CallFrames.{HasNoFrame}
-use Rattle.cap_calls.specs.CallInputs.{TellsInput, of_frame, of_no_words, of_words}
+use Rattle.cap_frame.specs.declared.fault.FrontFault.TheVariants.{TooLarge, TooManySegments, Truncated}
+use Rattle.cap_calls.specs.CallFindings.{without}
 use Rattle.cap_calls.specs.CallReports.{cause_input_required}
 use Rattle.cap_calls.specs.Calls.{FindsFrame}
-use Rattle.cap_calls.specs.declared.found.Found.{Found}
-use Rattle.cap_calls.specs.declared.front.NoFrame.{NoFrame}
-use Rattle.cap_calls.specs.declared.front.NoFrame.TheVariants.{BadLimits, NoMessage, Fault}
-use Rattle.cap_calls.specs.declared.limits.CallLimits.{CallLimits}
+use Rattle.cap_calls.specs.Prelude.{frame_bound, Tells, TellsWhole, framed, tells, trailing, HasNoFrame, TellsInput}
+use Rattle.cap_calls.specs.Prelude.{of_frame, of_no_words, of_words, Found, NoFrame, BadLimits, Fault, CallLimits}
+use Rattle.cap_calls.specs.declared.front.NoFrame.TheVariants.{NoMessage}
 
 -- a frame within the limit, which is in the bytes
 pub frame_short : (limit : ℕ) (bs : List ℕ) (m : List (List ℕ)) (n : ℕ) → IsFront limit bs m n → n ≤ frame_bound limit

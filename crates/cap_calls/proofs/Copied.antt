@@ -1,36 +1,24 @@
 -- The bytes and the buffer decide what the call for a canonical copy finds and writes.
-use Rattle.std.proofs.Common.{ℕ, List, [], ◌∷◌, ◌≡◌, ◌∙◌, ◌≤◌, ◌+◌, ◌*◌, ap, ap₂, subst, sym, length, length-append, sum, arith}
-use Rattle.std.specs.Prelude.{Bool, true, false, not, if◌then◌else◌, Option, None, Some, Result, unwrap_or}
-use Rattle.cap_spec.specs.Frames.{joined, sizes_of}
-use Rattle.cap_spec.specs.Unamplified.{unamplified}
-use Rattle.cap_spec.proofs.Frames.Endings.{length_joined}
+use Rattle.cap_spec.proofs.Lemmas.{length_plain, one_copy, length_joined}
+use Rattle.cap_spec.proofs.Prelude.{Bool, List, None, Option, Result, Some, [], ap, ap₂, arith, false, if◌then◌else◌}
+use Rattle.cap_spec.proofs.Prelude.{length, length-append, not, subst, sum, sym, true, unwrap_or, ℕ, ◌*◌, ◌+◌, ◌∙◌, ◌∷◌}
+use Rattle.cap_spec.proofs.Prelude.{◌≡◌, ◌≤◌, joined, sizes_of, IsFirstCap, plain_text, plain_words, unamplified}
 use Rattle.cap_spec.proofs.Strict.Unamplified.{within_both}
-use Rattle.cap_vet.specs.declared.demands.Demands.{Demands}
-use Rattle.cap_spec.specs.Paths.{IsFirstCap}
-use Rattle.cap_spec.specs.Plain.{plain_text, plain_words}
-use Rattle.cap_spec.proofs.Bytes.Plain.{length_plain}
-use Rattle.cap_spec.proofs.Canonical.Copies.{one_copy}
-use Rattle.cap_canon.proofs.Copies.{cap_no_copy, copy_charged}
-use Rattle.cap_canon.specs.CopyRooms.{TellsRoom}
-use Rattle.cap_canon.specs.CopyRooms as room
-use Rattle.cap_canon.specs.declared.fault.RoomFault.{RoomFault}
 use Rattle.cap_vet.specs.Reports.{IsFirstCapOf}
-use Rattle.cap_vet.specs.declared.report.Report.{Report}
-use Rattle.cap_calls.specs.CanonicalCalls.{Copies, FindsCopy, TellsCopy, has_capability, copied, size_found}
-use Rattle.cap_calls.specs.CallFindings.{TellsWhole, accepted, accepted_found, framed, refused, tells, trailing}
-use Rattle.cap_calls.specs.CallFindings.{without}
-use Rattle.cap_calls.specs.CallFlags.{allows_amplified, allows_trailing, demands_of}
-use Rattle.cap_calls.specs.CallFrames.{HasFrame}
-use Rattle.cap_calls.specs.CallInputs.{TellsInput, of_frame, of_no_words, of_words}
-use Rattle.cap_calls.specs.PackCalls.{TellsText, too_small, written}
-use Rattle.cap_calls.specs.declared.answer.Answer.{Answer}
-use Rattle.cap_calls.specs.declared.answer.Answer.TheVariants as answer
-use Rattle.cap_calls.specs.declared.found.Found.{Found}
-use Rattle.cap_calls.specs.declared.limits.CallLimits.{CallLimits}
-use Rattle.cap_calls.specs.declared.report.CallReport.{CallReport}
+use Rattle.cap_canon.specs.CopyRooms.{TellsRoom}
+use Rattle.cap_canon.specs.declared.fault.RoomFault.{RoomFault}
+use Rattle.cap_canon.proofs.Copies.{cap_no_copy, copy_charged}
+use Rattle.cap_calls.specs.CallFindings.{accepted, without}
+use Rattle.cap_calls.specs.CanonicalCalls.{Copies, FindsCopy, TellsCopy, copied, has_capability}
+use Rattle.cap_calls.specs.PackCalls.{too_small, written}
+use Rattle.cap_calls.specs.Prelude.{Demands, Report, TellsWhole, accepted_found, framed, refused, tells, trailing}
+use Rattle.cap_calls.specs.Prelude.{allows_amplified, allows_trailing, demands_of, HasFrame, TellsInput, of_frame}
+use Rattle.cap_calls.specs.Prelude.{of_no_words, of_words, size_found, TellsText, Answer, Found, CallLimits, CallReport}
 use Rattle.cap_calls.proofs.Answers.{one_input_told, one_judged, one_returned}
 use Rattle.cap_calls.proofs.Texts.{one_text}
 use Rattle.cap_calls.proofs.Words.{few_words}
+use Rattle.cap_canon.specs.CopyRooms as room
+use Rattle.cap_calls.specs.declared.answer.Answer.TheVariants as answer
 
 abbrev found : Answer → ℕ → CallReport → Found
 found a n r = record { answer = a; count = n; report = r }

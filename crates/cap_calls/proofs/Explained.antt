@@ -1,23 +1,14 @@
 -- The bytes and the buffer decide what the call that explains a refusal finds and writes.
-use Rattle.std.proofs.Common.{ℕ, List, ◌≡◌, ◌∙◌, ◌≤◌, ap, subst, sym, arith}
-use Rattle.std.specs.Prelude.{Bool, not}
-use Rattle.cap_spec.specs.declared.StrictRefusal.{StrictRefusal}
-use Rattle.cap_explain.specs.Explaining.{explanation}
-use Rattle.cap_spec.specs.declared.Step.{Step}
-use Rattle.std.specs.Prelude.{Option}
-use Rattle.cap_trace.proofs.Named.{one_path}
+use Rattle.std.proofs.Common.{Bool, List, Option, ap, arith, not, subst, sym, ℕ, ◌∙◌, ◌≡◌, ◌≤◌}
 use Rattle.cap_vet.specs.Demands.{IsDemandFault, words_under}
-use Rattle.cap_vet.specs.declared.demands.Demands.{Demands}
-use Rattle.cap_calls.specs.CallFindings.{framed, tells, trailing, without}
-use Rattle.cap_calls.specs.CallFlags.{allows_trailing, demands_of}
-use Rattle.cap_calls.specs.CallInputs.{TellsInput, of_frame, of_no_words, of_words}
+use Rattle.cap_explain.specs.Explaining.{explanation}
+use Rattle.cap_trace.proofs.Named.{one_path}
+use Rattle.cap_calls.specs.CallFindings.{without}
 use Rattle.cap_calls.specs.CallReports.{refused_report}
 use Rattle.cap_calls.specs.ExplainCalls.{FindsFewLines, FindsLines, TellsExplanation, accepted, explained, fault_lines}
-use Rattle.cap_calls.specs.PackCalls.{TellsText}
-use Rattle.cap_calls.specs.declared.answer.Answer.{Answer}
-use Rattle.cap_calls.specs.declared.found.Found.{Found}
-use Rattle.cap_calls.specs.declared.limits.CallLimits.{CallLimits}
-use Rattle.cap_calls.specs.declared.report.CallReport.{CallReport}
+use Rattle.cap_calls.specs.Prelude.{Step, StrictRefusal, Demands, framed, tells, trailing, allows_trailing, demands_of}
+use Rattle.cap_calls.specs.Prelude.{TellsInput, of_frame, of_no_words, of_words, TellsText, Answer, Found, CallLimits}
+use Rattle.cap_calls.specs.Prelude.{CallReport}
 use Rattle.cap_calls.proofs.Answers.{meets_no_fault, one_demand_fault, one_input_told, one_returned}
 use Rattle.cap_calls.proofs.Copied.{same_found}
 use Rattle.cap_calls.proofs.Texts.{one_text}

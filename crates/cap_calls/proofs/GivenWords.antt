@@ -1,16 +1,13 @@
 -- Words in a buffer, one step after the other.
-use Rattle.std.proofs.Common.{ℕ, List, [], ◌++◌, ◌≡◌, ◌∙◌, ◌≤◌, ◌+◌, ◌-◌, ◌%◌, ap, refl, sym, subst}
-use Rattle.std.proofs.Common.{arith, drop, drop-drop, length, length-append, length-drop, length-take, take}
-use Rattle.std.proofs.Common.{take-append-drop}
-use Rattle.std.proofs.lemmas.List.{drop-append-le, drop_at, length-take-le, nil_from_length}
-use Rattle.std.proofs.lemmas.Slice.{take-put_mid_below}
-use Rattle.cap_spec.specs.Plain.{plain_words}
+use Rattle.cap_spec.proofs.Prelude.{List, [], ap, arith, drop, drop-drop, drop_at, length, length-append, length-drop}
+use Rattle.cap_spec.proofs.Prelude.{length-take, length-take-le, refl, subst, sym, take, take-append-drop, ℕ, ◌%◌, ◌++◌}
+use Rattle.cap_spec.proofs.Prelude.{◌+◌, ◌-◌, ◌∙◌, ◌≡◌, ◌≤◌, drop-append-le, nil_from_length, take-put_mid_below}
+use Rattle.cap_spec.proofs.Prelude.{post_of, put_mid, plain_words}
 use Rattle.cap_words.proofs.Filling.{plain_join}
 use Rattle.cap_words.proofs.Turns.{filled}
-use Rattle.cap_calls.specs.PackedStreams.{WritesWords, IsRunRest, GivesWords}
+use Rattle.cap_calls.specs.PackedStreams.{GivesWords, IsRunRest, WritesWords}
 use Rattle.cap_calls.specs.declared.packed_stream.Given.{Given}
 use Rattle.cap_calls.proofs.PackedStreams.{leads_both, leads_none}
-use borrow.Rule.Slice.PartMut.{post_of, put_mid}
 
 -- nothing yet
 pub gives_none : (start z p : ℕ) (bytes old : List ℕ) → start ≤ length old → start % 8 ≡ 0 → IsRunRest z p

@@ -1,24 +1,16 @@
 -- The bytes and the path decide what the call for the node at a path finds.
-use Rattle.std.proofs.Common.{ℕ, List, [], ◌∷◌, ◌≡◌, ◌∙◌, ap, get_or, subst, sym}
-use Rattle.std.specs.Prelude.{Bool, not, slice_set}
-use Rattle.cap_spec.specs.declared.Step.{Step}
+use Rattle.std.proofs.Common.{Bool, List, [], ap, get_or, not, slice_set, subst, sym, ℕ, ◌∙◌, ◌∷◌, ◌≡◌}
 use Rattle.cap_spec.proofs.Paths.PathTexts.{one_bad_place, one_path_text, path_not_bad}
-use Rattle.cap_vet.specs.declared.demands.Demands.{Demands}
-use Rattle.cap_vet.proofs.PathFaults.{meets_no_path_fault, one_path_fault}
 use Rattle.cap_path.specs.PathSteps.{AreLeft}
 use Rattle.cap_path.specs.declared.steps.PathSteps.{PathSteps}
-use Rattle.cap_calls.specs.CallFindings.{TellsWhole, framed, none_found, refused_found, tells, trailing, without}
-use Rattle.cap_calls.specs.CallFlags.{allows_trailing, demands_of}
-use Rattle.cap_calls.specs.CallFrames.{AreLimits}
-use Rattle.cap_calls.specs.CallNodes.{none_node}
-use Rattle.cap_calls.specs.Calls.{TellsMessage}
-use Rattle.cap_calls.specs.NodeCalls.{Gets, GetsFirst, TellsGet, TellsPath, a_node, a_path, bad_limits, bad_path, bad_path_found, no_meeting, no_node}
-use Rattle.cap_calls.specs.declared.answer.Answer.{Answer}
-use Rattle.cap_calls.specs.declared.found.Found.{Found}
-use Rattle.cap_calls.specs.declared.front.NoFrame.TheVariants.{BadLimits, NoMessage, Fault}
-use Rattle.cap_calls.specs.declared.limits.CallLimits.{CallLimits}
-use Rattle.cap_calls.specs.declared.node.CallNode.{CallNode}
-use Rattle.cap_calls.specs.declared.report.CallReport.{CallReport}
+use Rattle.cap_vet.proofs.PathFaults.{meets_no_path_fault, one_path_fault}
+use Rattle.cap_calls.specs.CallFindings.{without}
+use Rattle.cap_calls.specs.NodeCalls.{GetsFirst, TellsPath, bad_limits}
+use Rattle.cap_calls.specs.Prelude.{Step, Demands, TellsWhole, framed, none_found, refused_found, tells, trailing}
+use Rattle.cap_calls.specs.Prelude.{allows_trailing, demands_of, AreLimits, none_node, TellsMessage, Gets, TellsGet}
+use Rattle.cap_calls.specs.Prelude.{a_node, a_path, bad_path, bad_path_found, no_meeting, no_node, Answer, Found}
+use Rattle.cap_calls.specs.Prelude.{BadLimits, Fault, CallLimits, CallNode, CallReport}
+use Rattle.cap_calls.specs.declared.front.NoFrame.TheVariants.{NoMessage}
 use Rattle.cap_calls.proofs.Answers.{one_returned, one_whole_told}
 use Rattle.cap_calls.proofs.OneNode.{one_node}
 

@@ -1,33 +1,20 @@
 -- The bytes and the capacity decide what the call that vets exclusively finds.
-use Rattle.std.proofs.Common.{ℕ, List, [], ◌∷◌, ◌≡◌, ◌∙◌, ◌≤◌, ◌+◌, ◌/◌, ap, sym, drop, length, length-append}
-use Rattle.std.proofs.Common.{arith, inl, inr}
-use Rattle.std.specs.Prelude.{Bool, not, ⊤}
-use Rattle.cap_spec.specs.Frames.{joined}
-use Rattle.cap_spec.specs.Plain.{plain_words}
-use Rattle.cap_spec.proofs.Disjoint.Overlaps.{none_of_disjoint, one_overlap}
-use Rattle.cap_spec.proofs.Frames.Endings.{length_joined}
-use Rattle.cap_vet.specs.Exclusives.{IsExclusiveFault, KeepsRoom}
-use Rattle.cap_vet.specs.Reports.{IsVetted}
-use Rattle.cap_vet.specs.Taken.{marks_of}
-use Rattle.cap_vet.specs.declared.demands.Demands.{Demands}
+use Rattle.cap_spec.proofs.Lemmas.{none_of_disjoint, one_overlap, length_joined}
+use Rattle.cap_spec.proofs.Prelude.{Bool, List, [], ap, arith, drop, inl, inr, length, length-append, not, sym, ℕ, ◌+◌}
+use Rattle.cap_spec.proofs.Prelude.{◌/◌, ◌∙◌, ◌∷◌, ◌≡◌, ◌≤◌, ⊤, joined, plain_words}
+use Rattle.cap_vet.specs.Exclusives.{KeepsRoom}
+use Rattle.cap_vet.specs.Prelude.{IsExclusiveFault, IsVetted, marks_of}
 use Rattle.cap_vet.specs.declared.exclusiveness.exclusive_room.ExclusiveFault.{ExclusiveFault}
-use Rattle.cap_vet.specs.declared.exclusiveness.exclusive_room.ExclusiveFault.TheVariants.{Refused, NoRoom, Overlap}
-use Rattle.cap_vet.specs.declared.report.Report.{Report}
+use Rattle.cap_vet.specs.declared.exclusiveness.exclusive_room.ExclusiveFault.TheVariants.{NoRoom, Overlap, Refused}
 use Rattle.cap_vet.proofs.OneReport.{not_both, one_report}
-use Rattle.cap_calls.specs.CallFindings.{TellsWhole, accepted, accepted_found, framed, refused, tells, trailing}
-use Rattle.cap_calls.specs.CallFindings.{without}
-use Rattle.cap_calls.specs.CallFlags.{allows_trailing, demands_of}
-use Rattle.cap_calls.specs.CallFrames.{HasFrame}
-use Rattle.cap_calls.specs.CallInputs.{TellsInput, of_frame, of_no_words, of_words}
-use Rattle.cap_calls.specs.ExclusiveCalls.{FindsMarks, KeepsMarks, Marks, MarksIn, TellsExclusive, exclusive, fault_found}
-use Rattle.cap_calls.specs.ExclusiveCalls.{overlap, too_small}
-use Rattle.cap_calls.specs.declared.answer.Answer.{Answer}
-use Rattle.cap_calls.specs.declared.answer.Answer.TheVariants as answer
-use Rattle.cap_calls.specs.declared.found.Found.{Found}
-use Rattle.cap_calls.specs.declared.limits.CallLimits.{CallLimits}
-use Rattle.cap_calls.specs.declared.report.CallReport.{CallReport}
+use Rattle.cap_calls.specs.CallFindings.{accepted, without}
+use Rattle.cap_calls.specs.ExclusiveCalls.{FindsMarks, KeepsMarks, MarksIn, TellsExclusive, too_small}
+use Rattle.cap_calls.specs.Prelude.{Demands, Report, TellsWhole, accepted_found, framed, refused, tells, trailing}
+use Rattle.cap_calls.specs.Prelude.{allows_trailing, demands_of, HasFrame, TellsInput, of_frame, of_no_words, of_words}
+use Rattle.cap_calls.specs.Prelude.{Marks, exclusive, fault_found, overlap, Answer, Found, CallLimits, CallReport}
 use Rattle.cap_calls.proofs.Answers.{one_input_told, one_judged, one_returned}
 use Rattle.cap_calls.proofs.Words.{few_words}
+use Rattle.cap_calls.specs.declared.answer.Answer.TheVariants as answer
 
 -- of an accepted message
 one_marked : (size : ℕ) (m : List (List ℕ)) (r : Report) (f g : Found) → FindsMarks size m r f → FindsMarks size m r g

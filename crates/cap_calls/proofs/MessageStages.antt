@@ -1,32 +1,23 @@
 -- A message that more words belong to, and the end of one.
-use Rattle.std.proofs.Common.{ℕ, List, [], ◌∷◌, ◌++◌, ◌≡◌, ◌∙◌, ◌<◌, ◌≤◌, ◌+◌, ◌-◌, ◌*◌, ◌/◌, ◌%◌, ◌^◌, ap, refl, sym}
-use Rattle.std.proofs.Common.{inl, inr, arith, append_assoc, length, length-append}
-use Rattle.std.proofs.Common.{Err, Option, Result, sum, take}
-use Rattle.std.proofs.Math.Seq.{take-append-add}
-use Rattle.std.proofs.lemmas.Bool.{cases_lt, false≢true}
-use Rattle.std.proofs.lemmas.List.{length-take-le, nil_from_length}
-use Rattle.cap_spec.specs.Endings.{BeginsMessage, message, partial, too_large, too_many}
-use Rattle.cap_spec.specs.Frames.{IsPartial, in_contents, in_table, in_word}
-use Rattle.cap_spec.specs.Plain.{plain_is_cut, plain_words}
 use Rattle.cap_spec.proofs.Frames.Endings.{frame_some}
 use Rattle.cap_spec.proofs.Frames.OneEnding.{one_ending}
+use Rattle.cap_spec.proofs.Prelude.{Err, List, Option, Result, [], ap, append_assoc, arith, inl, inr, length}
+use Rattle.cap_spec.proofs.Prelude.{length-append, length-take-le, refl, sum, sym, take, ℕ, ◌%◌, ◌*◌, ◌++◌, ◌+◌, ◌-◌}
+use Rattle.cap_spec.proofs.Prelude.{◌/◌, ◌<◌, ◌^◌, ◌∙◌, ◌∷◌, ◌≡◌, ◌≤◌, take-append-add, cases_lt, false≢true}
+use Rattle.cap_spec.proofs.Prelude.{nil_from_length, put_mid, BeginsMessage, message, partial, too_large, too_many}
+use Rattle.cap_spec.proofs.Prelude.{IsPartial, in_contents, in_table, in_word, plain_is_cut, plain_words}
+use Rattle.cap_words.proofs.Filling.{plain_join}
+use Rattle.cap_words.proofs.Turns.{filled}
 use Rattle.cap_frame.specs.Framed.{TellsFront}
 use Rattle.cap_frame.specs.Fronts.{IsFront, TellsLarge, TellsMany, Wants, a_frame, a_table, a_word, table_words}
-use Rattle.cap_frame.specs.declared.fault.FrontFault.{FrontFault}
 use Rattle.cap_frame.specs.declared.fault.FrontFault.TheVariants.{Truncated}
-use Rattle.cap_frame.specs.declared.framed.Framed.{Framed}
 use Rattle.cap_frame.proofs.Cuts.{words_inside}
 use Rattle.cap_frame.proofs.FrontAnswers.{short_answer}
 use Rattle.cap_frame.proofs.Parts.{take_words}
-use Rattle.cap_words.proofs.Filling.{plain_join}
-use Rattle.cap_words.proofs.Turns.{filled}
 use Rattle.cap_calls.specs.MessageStages.{CannotAppend}
-use Rattle.cap_calls.specs.PackedStreams.{words_to_come}
-use Rattle.cap_calls.specs.UnpackingMessages.{IsOpen}
-use Rattle.cap_calls.specs.declared.calls.unpack_message.Stage.{Stage}
+use Rattle.cap_calls.specs.Prelude.{FrontFault, Framed, words_to_come, IsOpen, Stage}
 use Rattle.cap_calls.specs.declared.calls.unpack_message.Stage.TheVariants.{Open, TooLarge, TooMany, Whole}
 use Rattle.cap_calls.specs.declared.packed_stream.Given.{Given}
-use borrow.Rule.Slice.PartMut.{put_mid}
 use Rattle.cap_calls.proofs.Packed.{whole_by_length}
 
 abbrev Fault : ℕ → Result (Option Framed) FrontFault

@@ -1,22 +1,11 @@
 -- The bytes of a node are inside its frame.
-use Rattle.std.proofs.Common.{ℕ, ◌+◌, ◌*◌, ◌/◌, ◌<◌, ◌≤◌, ◌≡◌, ◌∙◌, List, [], ◌∷◌, length}
-use Rattle.std.proofs.Common.{ap, arith, inl, inr, subst, sym}
-use Rattle.std.specs.Prelude.{⊤}
-use Rattle.std.proofs.Math.Nat.{mul-le-mul_right}
-use Rattle.std.proofs.lemmas.Bool.{cases_lt}
-use Rattle.cap_spec.specs.Arriving.{HasObject}
-use Rattle.cap_spec.specs.Messages.{segment_of}
-use Rattle.cap_spec.specs.Paths.{ReachesSpot, StepsTo, IsPlace, Spot, HasPlace, PathLeads, element, word}
-use Rattle.cap_spec.specs.Pointers.{data_size, element_bits, list_size, list_words, middle, pointer_size}
-use Rattle.cap_spec.specs.declared.Kind.{Kind}
-use Rattle.cap_spec.specs.declared.Kind.TheVariants.{Null, Cap, Struct, Scalars, Pointers, Structs}
-use Rattle.cap_spec.specs.declared.Step.{Step}
-use Rattle.cap_spec.specs.declared.Step.TheVariants.{Ptr, Item}
-use Rattle.cap_spec.proofs.Canonical.TreeMeasures.{extent_scalars}
-use Rattle.cap_spec.proofs.Frames.Messages.{one_word}
-use Rattle.cap_spec.proofs.Trees.Charges.{extent_struct, extent_structs}
-use Rattle.cap_spec.proofs.Trees.Readings.{word_within}
-use Rattle.cap_calls.specs.CallNodes.{kind_node, offset_of}
+use Rattle.cap_spec.specs.declared.Kind.TheVariants.{Pointers}
+use Rattle.cap_spec.proofs.Lemmas.{extent_scalars, one_word, extent_struct, extent_structs, word_within}
+use Rattle.cap_spec.proofs.Prelude.{List, [], ap, arith, inl, inr, length, mul-le-mul_right, subst, sym, ℕ, ◌*◌, ◌+◌}
+use Rattle.cap_spec.proofs.Prelude.{◌/◌, ◌<◌, ◌∙◌, ◌∷◌, ◌≡◌, ◌≤◌, cases_lt, ⊤, HasObject, segment_of, HasPlace, IsPlace}
+use Rattle.cap_spec.proofs.Prelude.{PathLeads, ReachesSpot, Spot, StepsTo, element, word, data_size, element_bits}
+use Rattle.cap_spec.proofs.Prelude.{list_size, list_words, middle, pointer_size}
+use Rattle.cap_calls.specs.Prelude.{Kind, Cap, Null, Scalars, Struct, Structs, Step, Item, Ptr, kind_node, offset_of}
 
 -- The words of an element are inside their segment.
 abbrev IsElementInside : List (List ℕ) → Spot → Type 0

@@ -1,24 +1,15 @@
 -- The bytes of each node that a call reports are inside the frame that it reports.
-use Rattle.std.proofs.Common.{ℕ, List, ◌+◌, ◌<◌, ◌≤◌, ◌≡◌, ◌∙◌, ap, arith, length}
-use Rattle.std.specs.Prelude.{Bool, not, slice_index_or}
-use Rattle.cap_spec.specs.declared.Step.{Step}
-use Rattle.cap_vet.specs.declared.demands.Demands.{Demands}
-use Rattle.cap_calls.specs.CallFindings.{TellsWhole, framed, tells, trailing, without}
-use Rattle.cap_calls.specs.CallFlags.{allows_trailing, demands_of}
-use Rattle.cap_calls.specs.CallFrames.{HasFrame}
-use Rattle.cap_calls.specs.CallNodes.{none_node}
-use Rattle.cap_calls.specs.NodeCalls.{Gets, TellsGet, a_node, a_path, bad_limits, bad_path, no_meeting, no_node}
-use Rattle.cap_calls.specs.RangeCalls.{GetsRange, TellsRange, path_after}
-use Rattle.cap_calls.specs.RangeCalls as range
-use Rattle.cap_calls.specs.declared.answer.Answer.{Answer}
-use Rattle.cap_calls.specs.declared.found.Found.{Found}
-use Rattle.cap_calls.specs.declared.limits.CallLimits.{CallLimits}
-use Rattle.cap_calls.specs.declared.node.CallNode.{CallNode}
-use Rattle.cap_calls.specs.declared.report.CallReport.{CallReport}
-use Rattle.cap_calls.specs.declared.step.CallStep.{CallStep}
+use Rattle.std.proofs.Common.{Bool, List, ap, arith, length, not, slice_index_or, ℕ, ◌+◌, ◌<◌, ◌∙◌, ◌≡◌, ◌≤◌}
+use Rattle.cap_calls.specs.CallFindings.{without}
+use Rattle.cap_calls.specs.NodeCalls.{bad_limits}
+use Rattle.cap_calls.specs.Prelude.{Step, Demands, TellsWhole, framed, tells, trailing, allows_trailing, demands_of}
+use Rattle.cap_calls.specs.Prelude.{HasFrame, none_node, Gets, TellsGet, a_node, a_path, bad_path, no_meeting, no_node}
+use Rattle.cap_calls.specs.Prelude.{GetsRange, TellsRange, path_after, Answer, Found, CallLimits, CallNode, CallReport}
+use Rattle.cap_calls.specs.Prelude.{CallStep}
+use Rattle.cap_calls.proofs.Bounds.{length_inside}
 use Rattle.cap_calls.proofs.NodeBytes.{node_bounded}
 use Rattle.cap_calls.proofs.SegmentPlaces.{offset_inside}
-use Rattle.cap_calls.proofs.Bounds.{length_inside}
+use Rattle.cap_calls.specs.RangeCalls as range
 
 -- how many bytes there are up to the end of a node's
 abbrev end_of : CallNode → ℕ

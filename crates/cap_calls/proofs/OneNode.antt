@@ -1,21 +1,10 @@
 -- One node is at a path.
-use Rattle.std.proofs.Common.{ℕ, ◌<◌, ◌≡◌, ◌∙◌, List, ap, ap₂, arith, refl, subst, sym}
-use Rattle.std.specs.Prelude.{pos}
-use Rattle.cap_spec.specs.Arriving.{PathFinds, HasObject}
-use Rattle.cap_spec.specs.Denoting.{Finds}
-use Rattle.cap_spec.specs.Following.{Leads, to_cap, to_null, to_object}
-use Rattle.cap_spec.specs.Messages.{HasWord}
-use Rattle.cap_spec.specs.Paths.{Spot, element, word}
-use Rattle.cap_spec.specs.Pointers.{code, data_size, kind, list_size, middle, pointer_size}
-use Rattle.cap_spec.specs.declared.Kind.{Kind}
-use Rattle.cap_spec.specs.declared.Kind.TheVariants.{Null, Cap, Struct, Scalars, Pointers, Structs}
-use Rattle.cap_spec.specs.declared.Step.{Step}
-use Rattle.cap_spec.proofs.Frames.Messages.{one_word}
-use Rattle.cap_spec.proofs.Paths.Walks.{one_coming}
-use Rattle.cap_spec.proofs.Pointers.Following.{one_lead}
-use Rattle.cap_spec.proofs.Trees.Finding.{one_object}
-use Rattle.cap_calls.specs.CallNodes.{kind_node, offset_of}
-use Rattle.cap_calls.specs.declared.node.CallNode.{CallNode}
+use Rattle.cap_spec.specs.declared.Kind.TheVariants.{Pointers}
+use Rattle.cap_spec.proofs.Lemmas.{one_word, one_coming, one_lead, one_object}
+use Rattle.cap_spec.proofs.Prelude.{List, ap, ap₂, arith, pos, refl, subst, sym, ℕ, ◌<◌, ◌∙◌, ◌≡◌, HasObject, PathFinds}
+use Rattle.cap_spec.proofs.Prelude.{Finds, Leads, to_cap, to_null, to_object, HasWord, Spot, element, word, code}
+use Rattle.cap_spec.proofs.Prelude.{data_size, kind, list_size, middle, pointer_size}
+use Rattle.cap_calls.specs.Prelude.{Kind, Cap, Null, Scalars, Struct, Structs, Step, kind_node, offset_of, CallNode}
 
 -- the kind of an object of shape q
 data KindOf (m : List (List ℕ)) (t b q : ℕ) (k : Kind) : Type 0 where

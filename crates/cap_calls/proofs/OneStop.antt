@@ -1,20 +1,16 @@
 -- A call that unpacks a message stops for one reason.
-use Rattle.std.proofs.Common.{ℕ, List, [], ◌≡◌, ◌≢◌, ◌∙◌, ap, refl, sym, inl, inr}
-use Rattle.std.proofs.Common.{length}
+use Rattle.std.proofs.Common.{List, [], ap, inl, inr, length, refl, sym, ℕ, ◌∙◌, ◌≡◌, ◌≢◌}
 use Rattle.cap_spec.specs.Endings.{Ending, EndsIn, message, none, partial, too_large, too_many}
 use Rattle.cap_spec.specs.Plain.{plain_is_cut, plain_words}
-use Rattle.cap_spec.proofs.Frames.Framing.{one_frame}
-use Rattle.cap_spec.proofs.Frames.OneEnding.{one_ending}
+use Rattle.cap_spec.proofs.Lemmas.{one_frame, one_ending}
 use Rattle.cap_frame.specs.Fronts.{IsFront, TellsLarge, TellsMany}
 use Rattle.cap_frame.specs.declared.fault.FrontFault.TheVariants.{TooLarge, TooManySegments, Truncated}
 use Rattle.cap_frame.proofs.FrontAnswers.{empty_answer, large_answer, many_answer, short_answer}
 use Rattle.cap_calls.specs.CallReports.{none_report}
-use Rattle.cap_calls.specs.PackedStreams.{words_to_come}
-use Rattle.cap_calls.specs.UnpackingMessages.{IsOpen, StopsCall, bytes_needed, no_message, too_small, truncated}
-use Rattle.cap_calls.specs.UnpackingMessages as stop
-use Rattle.cap_calls.specs.declared.answer.Answer.{Answer}
-use Rattle.cap_calls.specs.declared.report.CallReport.{CallReport}
+use Rattle.cap_calls.specs.Prelude.{words_to_come, IsOpen, StopsCall, truncated, Answer, CallReport}
+use Rattle.cap_calls.specs.UnpackingMessages.{no_message, too_small}
 use Rattle.cap_calls.proofs.Answers.{Without}
+use Rattle.cap_calls.specs.UnpackingMessages as stop
 
 module _ (limit : ℕ) (held : List ℕ) where
   ends_whole : (m : List (List ℕ)) (n : ℕ) → IsFront limit held m n → EndsIn limit (plain_words held) (plain_is_cut held) message

@@ -1,19 +1,12 @@
 -- The packed text of a message.
-use Rattle.std.proofs.Common.{ℕ, List, [], ◌∷◌, ◌++◌, ◌≡◌, ◌∙◌, ◌<◌, ◌≤◌, ◌+◌, ◌-◌, ◌/◌, ap}
-use Rattle.std.proofs.Common.{ap₂, refl, sym, length, take, drop, get_or, flat_map, sum, arith}
-use Rattle.std.proofs.Common.{append-nil, length-append, take-append-drop, zero-add}
-use Rattle.std.specs.List.{AllByRecursion}
-use Rattle.std.proofs.lemmas.List.{length-map, map-append, take_more}
 use Rattle.std.proofs.lemmas.List.Concat.{flat_map-append}
-use Rattle.std.proofs.lemmas.List.Sums.{sum_by-append}
-use Rattle.cap_spec.specs.Frames.{frame_text, joined, paired, sizes_of}
-use Rattle.cap_spec.specs.Messages.{IsMessage}
-use Rattle.cap_spec.specs.Packing.{pack_text}
-use Rattle.cap_spec.specs.PackedFrames.{packed_frame, table_of}
-use Rattle.cap_spec.specs.Unpacking.{IsGroup, Unpacks}
-use Rattle.cap_spec.specs.Words.{IsWord}
 use Rattle.cap_spec.proofs.Bytes.Lists.{all_append}
 use Rattle.cap_spec.proofs.Packed.Repacking.{pack_text_unpacks}
+use Rattle.cap_spec.proofs.Prelude.{List, [], ap, append-nil, ap₂, arith, drop, flat_map, get_or, length, length-append}
+use Rattle.cap_spec.proofs.Prelude.{refl, sum, sym, take, take-append-drop, zero-add, ℕ, ◌++◌, ◌+◌, ◌-◌, ◌/◌, ◌<◌, ◌∙◌}
+use Rattle.cap_spec.proofs.Prelude.{◌∷◌, ◌≡◌, ◌≤◌, length-map, map-append, take_more, sum_by-append, AllByRecursion}
+use Rattle.cap_spec.proofs.Prelude.{frame_text, joined, paired, sizes_of, IsMessage, packed_frame, table_of, pack_text}
+use Rattle.cap_spec.proofs.Prelude.{IsGroup, Unpacks, IsWord}
 use Rattle.cap_frame.proofs.TableBytes.{numbers_fit, paired_words}
 
 -- texts that unpack to words do so one after the other

@@ -1,19 +1,11 @@
 -- The bytes and the buffer decide what the call that packs a message finds and writes.
-use Rattle.std.proofs.Common.{ℕ, List, ◌≡◌, ◌∙◌, ◌≤◌, ◌*◌, ◌/◌, ap, arith, length, length-append, sym}
-use Rattle.std.proofs.lemmas.List.{length-map}
-use Rattle.std.specs.Prelude.{Bool, not}
-use Rattle.cap_spec.specs.Frames.{joined, sizes_of}
-use Rattle.cap_spec.specs.PackedFrames.{packed_frame}
-use Rattle.cap_spec.proofs.Frames.Endings.{length_joined}
-use Rattle.cap_spec.proofs.Frames.Framing.{table_length}
-use Rattle.cap_calls.specs.CallFindings.{TellsWhole, framed, tells, trailing, without}
-use Rattle.cap_calls.specs.CallFlags.{allows_trailing}
-use Rattle.cap_calls.specs.Calls.{TellsMessage}
+use Rattle.cap_spec.proofs.Lemmas.{length_joined, table_length}
+use Rattle.cap_spec.proofs.Prelude.{Bool, List, ap, arith, length, length-append, not, sym, ℕ, ◌*◌, ◌/◌, ◌∙◌, ◌≡◌, ◌≤◌}
+use Rattle.cap_spec.proofs.Prelude.{length-map, joined, sizes_of, packed_frame}
+use Rattle.cap_calls.specs.CallFindings.{without}
 use Rattle.cap_calls.specs.PackedMessages.{Packs, PacksShort, TellsPackMessage}
-use Rattle.cap_calls.specs.declared.answer.Answer.{Answer}
-use Rattle.cap_calls.specs.declared.found.Found.{Found}
-use Rattle.cap_calls.specs.declared.limits.CallLimits.{CallLimits}
-use Rattle.cap_calls.specs.declared.report.CallReport.{CallReport}
+use Rattle.cap_calls.specs.Prelude.{TellsWhole, framed, tells, trailing, allows_trailing, TellsMessage, Answer, Found}
+use Rattle.cap_calls.specs.Prelude.{CallLimits, CallReport}
 use Rattle.cap_calls.proofs.Answers.{message_by_flag, one_returned, one_whole_told, tells_less}
 use Rattle.cap_calls.proofs.Copied.{same_found}
 use Rattle.cap_calls.proofs.Texts.{one_text}

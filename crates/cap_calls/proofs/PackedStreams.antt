@@ -1,24 +1,20 @@
 -- Words out of a packed stream, one step after the other.
-use Rattle.std.proofs.Common.{ℕ, zero, suc, List, [], ◌∷◌, ◌++◌, ◌≡◌, ◌≢◌, ◌∙◌, ◌<◌, ◌≤◌, ◌+◌, ◌-◌, ◌*◌, ap}
-use Rattle.std.proofs.Common.{◌⊎◌, refl, sym, subst, inl, inr, length, take, drop, replicate, arith, append_assoc, append-nil}
-use Rattle.std.proofs.Common.{length-append, length-drop, length-take, take-append-drop, take_all, ◌==◌}
-use Rattle.std.specs.Prelude.{slice_index}
-use Rattle.std.specs.List.{AllByRecursion}
-use Rattle.std.proofs.Math.Seq.{drop-append-add, take-add, take-append-add}
-use Rattle.std.proofs.lemmas.Bool.{cases_eq, cases_lt, cond-false, cond-true, le-ltb, lt-ltb, ne_eqb}
-use Rattle.std.proofs.lemmas.List.{drop_all, length-take-le, replicate-append-replicate}
-use Rattle.cap_spec.specs.Plain.{plain_words}
-use Rattle.cap_spec.specs.Unpacking.{given_of, marked, marks, spread, unpacked, zeros}
-use Rattle.cap_spec.proofs.Bytes.Lists.{all_take}
-use Rattle.cap_spec.proofs.Bytes.Plain.{plain_short, words_exact}
+use Rattle.cap_spec.proofs.Lemmas.{all_take, plain_short, words_exact}
 use Rattle.cap_spec.proofs.Packed.Groups.{group_off}
 use Rattle.cap_spec.proofs.Packed.Unpacking.{length_marked, spread_append, unpacked_front, unpacked_short}
-use Rattle.byteorder.specs.Endian.{little_number}
-use Rattle.cap_pack.specs.Course.{first_word, head_rest, plain_of, zeros_of}
-use Rattle.cap_pack.proofs.Heads.{first_word-marked, first_word-plain, first_word-zeros, head_rest-marked, head_rest-plain}
-use Rattle.cap_pack.proofs.Heads.{head_rest-zeros, little-append, plain_of-others, plain_of-plain, zeros_of-others, zeros_of-zeros}
-use Rattle.cap_pack.proofs.PuttingEach.{word_first}
+use Rattle.cap_spec.proofs.Prelude.{List, [], ap, append-nil, append_assoc, arith, drop, inl, inr, le-ltb, length}
+use Rattle.cap_spec.proofs.Prelude.{length-append, length-drop, length-take, length-take-le, lt-ltb, ne_eqb, refl}
+use Rattle.cap_spec.proofs.Prelude.{replicate, slice_index, subst, suc, sym, take, take-add, take-append-drop, take_all}
+use Rattle.cap_spec.proofs.Prelude.{zero, ℕ, ◌*◌, ◌++◌, ◌+◌, ◌-◌, ◌<◌, ◌==◌, ◌∙◌, ◌∷◌, ◌≡◌, ◌≢◌, ◌≤◌, ◌⊎◌}
+use Rattle.cap_spec.proofs.Prelude.{drop-append-add, take-append-add, cases_eq, cases_lt, cond-false, cond-true}
+use Rattle.cap_spec.proofs.Prelude.{drop_all, replicate-append-replicate, AllByRecursion, little_number, plain_words}
+use Rattle.cap_spec.proofs.Prelude.{given_of, marked, marks, spread, unpacked, zeros}
 use Rattle.cap_words.proofs.Filling.{plain_join}
+use Rattle.cap_pack.specs.Course.{first_word, head_rest, plain_of, zeros_of}
+use Rattle.cap_pack.proofs.Heads.{first_word-marked, first_word-plain, first_word-zeros, head_rest-marked}
+use Rattle.cap_pack.proofs.Heads.{head_rest-plain, head_rest-zeros, little-append, plain_of-others, plain_of-plain}
+use Rattle.cap_pack.proofs.Heads.{zeros_of-others, zeros_of-zeros}
+use Rattle.cap_pack.proofs.PuttingEach.{word_first}
 use Rattle.cap_calls.specs.PackedStreams.{GivesWords, head_length, words_to_come}
 
 -- part of a head gives no word

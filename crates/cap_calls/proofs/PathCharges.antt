@@ -1,21 +1,14 @@
 -- The pointers on each path of an accepted message keep to the limits.
-use Rattle.std.proofs.Common.{ℕ, ◌+◌, ◌-◌, ◌<◌, ◌≡◌, List, [], ◌∷◌, ◌++◌, length, length-append, append_assoc}
-use Rattle.std.proofs.Common.{Option, None, Some, arith, refl, subst, sym}
-use Rattle.std.proofs.lemmas.List.{append-nil}
-use Rattle.cap_spec.specs.Accepting.{IsWithin}
-use Rattle.cap_spec.specs.Getting.{AreOnPath}
-use Rattle.cap_spec.specs.Paths.{ReachesSpot, Spot, element, level_of, word}
-use Rattle.cap_spec.specs.Standing.{DenotesAt}
-use Rattle.cap_spec.specs.Tree.{Tree, part_at}
-use Rattle.cap_spec.specs.Verdicts.{CostOf}
 use Rattle.cap_spec.specs.declared.Step.{Step}
-use Rattle.cap_spec.proofs.Paths.Arrivals.{lead_word, part_to_step, step_to_part}
+use Rattle.cap_spec.proofs.Lemmas.{lead_word, part_to_step, step_to_part, coming_last, formed, paths_cost_charge}
+use Rattle.cap_spec.proofs.Lemmas.{paths_within_depth}
 use Rattle.cap_spec.proofs.Paths.Preorder.{Rises-distinct}
-use Rattle.cap_spec.proofs.Paths.Walks.{coming_last}
+use Rattle.cap_spec.proofs.Prelude.{List, None, Option, Some, [], append-nil, append_assoc, arith, length}
+use Rattle.cap_spec.proofs.Prelude.{length-append, refl, subst, sym, ℕ, ◌++◌, ◌+◌, ◌-◌, ◌<◌, ◌∷◌, ◌≡◌, IsWithin}
+use Rattle.cap_spec.proofs.Prelude.{AreOnPath, ReachesSpot, Spot, element, level_of, word, DenotesAt, Tree, part_at}
+use Rattle.cap_spec.proofs.Prelude.{CostOf}
 use Rattle.cap_spec.proofs.Trees.Charges.{own_cost}
-use Rattle.cap_spec.proofs.Trees.OneTree.{formed}
 use Rattle.cap_spec.proofs.Verdicts.OnPath.{cost_last, on_element, on_nowhere, on_root, on_word}
-use Rattle.cap_spec.proofs.Verdicts.OneVerdict.{paths_cost_charge, paths_within_depth}
 use Rattle.cap_vet.specs.PathDemands.{KeepsToLimits}
 
 -- the pointers on a path, the root's among them, and what following them costs

@@ -1,21 +1,15 @@
 -- The bytes, the number and the capacity decide what the call for a path finds.
-use Rattle.std.proofs.Common.{ℕ, zero, suc, List, [], ◌∷◌, ◌≡◌, ◌∙◌, ◌≤◌, ◌<◌, ◌+◌, ◌++◌, ap, sym, drop, take, length, map, set, get_or, refl, arith}
-use Rattle.std.specs.Prelude.{not, Bool}
-use Rattle.cap_spec.specs.declared.Step.{Step}
+use Rattle.std.proofs.Common.{Bool, List, [], ap, arith, drop, get_or, length, map, not, refl, set, suc, sym, take}
+use Rattle.std.proofs.Common.{zero, ℕ, ◌++◌, ◌+◌, ◌<◌, ◌∙◌, ◌∷◌, ◌≡◌, ◌≤◌}
 use Rattle.cap_trace.specs.Traces.{filled}
 use Rattle.cap_trace.proofs.Filling.{take_filled}
 use Rattle.cap_trace.proofs.Numbering.{one_numbered}
-use Rattle.cap_calls.specs.CallFindings.{framed, tells, trailing, without}
-use Rattle.cap_calls.specs.CallFlags.{allows_trailing}
-use Rattle.cap_calls.specs.CallInputs.{TellsInput, of_frame, of_no_words, of_words}
-use Rattle.cap_calls.specs.PointerCalls.{FindsFew, FindsPointer, TellsPointer, call_step, none, steps_found, too_small, written}
-use Rattle.cap_calls.specs.declared.answer.Answer.{Answer}
-use Rattle.cap_calls.specs.declared.answer.Answer.TheVariants as answer
-use Rattle.cap_calls.specs.declared.found.Found.{Found}
-use Rattle.cap_calls.specs.declared.limits.CallLimits.{CallLimits}
-use Rattle.cap_calls.specs.declared.report.CallReport.{CallReport}
-use Rattle.cap_calls.specs.declared.step.CallStep.{CallStep}
+use Rattle.cap_calls.specs.CallFindings.{without}
+use Rattle.cap_calls.specs.PointerCalls.{FindsFew, FindsPointer, TellsPointer, none, too_small, written}
+use Rattle.cap_calls.specs.Prelude.{Step, framed, tells, trailing, allows_trailing, TellsInput, of_frame, of_no_words}
+use Rattle.cap_calls.specs.Prelude.{of_words, call_step, steps_found, Answer, Found, CallLimits, CallReport, CallStep}
 use Rattle.cap_calls.proofs.Answers.{one_input_told, one_returned}
+use Rattle.cap_calls.specs.declared.answer.Answer.TheVariants as answer
 
 module _ (n : ℕ) (old : List CallStep) (m : List (List ℕ)) (words depth : ℕ) where
   one_pointer : (x y : List CallStep) (f g : Found) → FindsPointer n old x m words depth f → FindsPointer n old y m words depth g

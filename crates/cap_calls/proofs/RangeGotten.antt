@@ -1,33 +1,20 @@
 -- The bytes and the steps decide what the call for the nodes of a range finds.
-use Rattle.std.proofs.Common.{ℕ, ◌+◌, ◌<◌, ◌≤◌, ◌≡◌, ◌∙◌, ◌⊎◌, inl, inr, List, ap, arith, eqb, ext_get_or, get_or, length, length-set, refl, subst, sym}
-use Rattle.std.proofs.Common.{get_or-set_same, get_or-set_other}
-use Rattle.std.specs.Prelude.{true, false, not, slice_set}
-use Rattle.std.proofs.lemmas.Bool.Decides.{eqb_tells, leb_tells}
+use Rattle.std.proofs.Common.{ext_get_or, get_or-set_other, get_or-set_same, slice_set}
 use Rattle.cap_spec.specs.declared.Lax.{Lax}
-use Rattle.cap_spec.specs.declared.Lax.TheVariants as lax
-use Rattle.cap_spec.specs.declared.Reason.{Reason}
-use Rattle.cap_spec.specs.declared.Reason.TheVariants as reason
-use Rattle.cap_spec.specs.declared.Step.{Step}
-use Rattle.cap_spec.specs.declared.StrictRefusal.{StrictRefusal}
-use Rattle.cap_spec.specs.declared.StrictRefusal.TheVariants.{Refused, ManySegments, Pointer}
-use Rattle.cap_vet.specs.declared.demands.Demands.{Demands}
-use Rattle.cap_calls.specs.AnswerNumbers.{lax_answer, reason_answer, refusal_answer}
-use Rattle.cap_calls.specs.CallFindings.{refused_found}
-use Rattle.cap_calls.specs.CallFlags.{allows_trailing, demands_of}
-use Rattle.cap_calls.specs.CallNodes.{none_node}
-use Rattle.cap_calls.specs.NodeCalls.{Gets, bad_path_found, path_found}
-use Rattle.cap_calls.specs.RangeCalls.{AreSteps, EndsRange, GetsRange, IsBadStep, TellsRange, TellsSteps, bad_limits}
-use Rattle.cap_calls.specs.RangeCalls.{bad_steps, full, past, path_after, range, stops, unknown}
-use Rattle.cap_calls.specs.RangeShortcut.{WritesFirst}
-use Rattle.cap_calls.specs.declared.answer.Answer.{Answer}
-use Rattle.cap_calls.specs.declared.answer.Answer.TheVariants.{Good, NoNode}
-use Rattle.cap_calls.specs.declared.found.Found.{Found}
-use Rattle.cap_calls.specs.declared.limits.CallLimits.{CallLimits}
-use Rattle.cap_calls.specs.declared.node.CallNode.{CallNode}
-use Rattle.cap_calls.specs.declared.report.CallReport.{CallReport}
-use Rattle.cap_calls.specs.declared.step.CallStep.{CallStep}
+use Rattle.cap_spec.specs.declared.StrictRefusal.TheVariants.{Refused}
+use Rattle.cap_spec.proofs.Prelude.{List, ap, arith, eqb, false, get_or, inl, inr, length, length-set, not, refl, subst}
+use Rattle.cap_spec.proofs.Prelude.{sym, true, ℕ, ◌+◌, ◌<◌, ◌∙◌, ◌≡◌, ◌≤◌, ◌⊎◌, eqb_tells, leb_tells}
+use Rattle.cap_calls.specs.AnswerNumbers.{lax_answer}
+use Rattle.cap_calls.specs.Prelude.{Reason, Step, StrictRefusal, ManySegments, Pointer, Demands, reason_answer}
+use Rattle.cap_calls.specs.Prelude.{refusal_answer, refused_found, allows_trailing, demands_of, none_node, Gets}
+use Rattle.cap_calls.specs.Prelude.{bad_path_found, path_found, AreSteps, EndsRange, GetsRange, TellsRange, full, past}
+use Rattle.cap_calls.specs.Prelude.{path_after, stops, unknown, WritesFirst, Answer, Good, NoNode, Found, CallLimits}
+use Rattle.cap_calls.specs.Prelude.{CallNode, CallReport, CallStep}
+use Rattle.cap_calls.specs.RangeCalls.{IsBadStep, TellsSteps, bad_limits, bad_steps, range}
 use Rattle.cap_calls.proofs.Answers.{one_returned, one_whole_told}
 use Rattle.cap_calls.proofs.Gotten.{limits_alone, one_gets}
+use Rattle.cap_spec.specs.declared.Lax.TheVariants as lax
+use Rattle.cap_spec.specs.declared.Reason.TheVariants as reason
 
 -- A refusal isn't good.
 no_good_reason : (r : Reason) → reason_answer r ≡ Good → ⊥

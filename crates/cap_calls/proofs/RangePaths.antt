@@ -1,18 +1,11 @@
 -- The paths of a range go through the same steps but for one.
-use Rattle.std.proofs.Common.{ℕ, zero, suc, ◌<◌, ◌≡◌, ◌++◌, ◌∷◌, List, [], Err, Ok, None, Option, Some, ap, arith, drop, get_or, length, refl, subst, sym, take}
-use Rattle.std.specs.Prelude.{Result}
-use Rattle.cap_frame.specs.declared.segments.Segments as segments
-use Rattle.cap_spec.specs.Arriving.{PathFinds}
-use Rattle.cap_spec.specs.declared.Kind.{Kind}
-use Rattle.cap_spec.specs.declared.Step.{Step}
-use Rattle.cap_spec.specs.declared.StrictRefusal.{StrictRefusal}
+use Rattle.cap_spec.proofs.Prelude.{Err, List, None, Ok, Option, Result, Some, [], ap, arith, drop, get_or, length}
+use Rattle.cap_spec.proofs.Prelude.{refl, subst, suc, sym, take, zero, ℕ, ◌++◌, ◌<◌, ◌∷◌, ◌≡◌, PathFinds}
 use Rattle.cap_vet.specs.PathDemands.{IsPathFault, MeetsOnPath}
 use Rattle.cap_vet.specs.PathWays.{GivesAfter, IsGiven, IsStart}
-use Rattle.cap_vet.specs.declared.demands.Demands.{Demands}
-use Rattle.cap_vet.specs.declared.nodes.path_start.PathStart.{PathStart}
-use Rattle.cap_vet.specs.declared.nodes.view.View.{View}
-use Rattle.cap_calls.specs.RangeCalls.{path_after, step_after}
-use Rattle.cap_calls.specs.declared.step.CallStep.{CallStep}
+use Rattle.cap_calls.specs.Prelude.{Kind, Step, StrictRefusal, Demands, PathStart, View, path_after, step_after}
+use Rattle.cap_calls.specs.Prelude.{CallStep}
+use Rattle.cap_frame.specs.declared.segments.Segments as segments
 
 -- A path goes through the steps before the one that varies, that one, and those after it.
 pub path_parts : (steps : List CallStep) (v k : ℕ) (d : CallStep) → v < length steps

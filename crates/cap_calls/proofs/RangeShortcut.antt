@@ -1,27 +1,18 @@
 -- Nodes of a range that are found by their number.
-use Rattle.std.proofs.Common.{ℕ, zero, suc, ◌≡◌, ◌∙◌, ◌+◌, ◌*◌, ◌<◌, ◌≤◌, ◌∷◌, ◌++◌, List, [], Ok, Some, ap, arith, get_or, length, refl, subst, sym}
-use Rattle.std.specs.Prelude.{min}
+use Rattle.std.proofs.Common.{List, Ok, Some, [], ap, arith, get_or, length, min, refl, subst, suc, sym, zero, ℕ, ◌*◌}
+use Rattle.std.proofs.Common.{◌++◌, ◌+◌, ◌<◌, ◌∙◌, ◌∷◌, ◌≡◌, ◌≤◌}
 use Rattle.cap_frame.specs.Fronts.{table_words}
-use Rattle.cap_frame.specs.declared.segments.Segments as segments
-use Rattle.cap_spec.specs.declared.Kind.{Kind}
-use Rattle.cap_spec.specs.declared.Step.{Step}
-use Rattle.cap_spec.specs.declared.Step.TheVariants.{Item, Ptr}
-use Rattle.cap_vet.specs.PathWays.{LeadsToElements, GivesAfter, GivesElement, GivesPointer, elements_message, IsStart}
+use Rattle.cap_vet.specs.PathWays.{GivesAfter, GivesElement, GivesPointer, IsStart, LeadsToElements, elements_message}
 use Rattle.cap_vet.specs.Taken.{start_of}
 use Rattle.cap_vet.specs.Views.{view_message}
-use Rattle.cap_vet.specs.declared.nodes.path_start.PathStart.{PathStart}
 use Rattle.cap_vet.specs.declared.nodes.struct_elements.StructElements.{StructElements}
-use Rattle.cap_vet.specs.declared.nodes.view.View.{View}
-use Rattle.cap_vet.specs.declared.demands.Demands.{Demands}
-use Rattle.cap_calls.specs.declared.answer.Answer.TheVariants.{Good}
-use Rattle.cap_calls.specs.CallNodes.{kind_node, offset_of}
-use Rattle.cap_calls.specs.NodeCalls.{Gets, a_node, path_found}
-use Rattle.cap_calls.specs.RangeCalls.{path_after, step_after, step_of}
-use Rattle.cap_calls.specs.RangeShortcut.{HasCount, HasNodeAfter, IsShortcut}
-use Rattle.cap_calls.specs.declared.calls.get_range.Shortcut.{Shortcut}
-use Rattle.cap_calls.specs.declared.calls.get_range.Shortcut.TheVariants.{Elements, Pointers, Unknown}
-use Rattle.cap_calls.specs.declared.node.CallNode.{CallNode}
-use Rattle.cap_calls.specs.declared.step.CallStep.{CallStep}
+use Rattle.cap_calls.specs.Prelude.{Kind, Step, Item, Ptr, Demands, PathStart, View, kind_node, offset_of, Gets, a_node}
+use Rattle.cap_calls.specs.Prelude.{path_found, path_after, step_after, HasCount, Good, Shortcut, Elements, CallNode}
+use Rattle.cap_calls.specs.Prelude.{CallStep}
+use Rattle.cap_calls.specs.RangeCalls.{step_of}
+use Rattle.cap_calls.specs.RangeShortcut.{HasNodeAfter, IsShortcut}
+use Rattle.cap_calls.specs.declared.calls.get_range.Shortcut.TheVariants.{Pointers, Unknown}
+use Rattle.cap_frame.specs.declared.segments.Segments as segments
 
 -- a step to an element, whose number is none of the highest
 pub item_of : (kind number : ℕ) → 1 ≤ kind → number < 4294967295 → step_of kind number ≡ Item number

@@ -1,15 +1,11 @@
 -- The bytes decide where a segment is.
-use Rattle.std.proofs.Common.{ℕ, List, ◌≡◌, ◌∙◌, ◌*◌, ap, arith, length, refl, sym}
+use Rattle.cap_spec.proofs.Prelude.{List, ap, arith, length, refl, sym, ℕ, ◌*◌, ◌∙◌, ◌≡◌, segment_of}
 use Rattle.cap_frame.specs.Fronts.{IsFront}
-use Rattle.cap_calls.proofs.SegmentPlaces.{segment_words}
-use Rattle.cap_spec.specs.Messages.{segment_of}
 use Rattle.cap_calls.specs.CallFlags.{HasKnownFlags}
-use Rattle.cap_calls.specs.CallFrames.{AreLimits, HasFrame}
-use Rattle.cap_calls.specs.CallNodes.{offset_of}
-use Rattle.cap_calls.specs.CallReports.{cause_answer}
-use Rattle.cap_calls.specs.SegmentCalls.{AreSegmentWords, TellsSegment, any_size, found, none, without}
-use Rattle.cap_calls.specs.declared.answer.Answer.{Answer}
+use Rattle.cap_calls.specs.Prelude.{AreLimits, HasFrame, offset_of, cause_answer, found, Answer}
+use Rattle.cap_calls.specs.SegmentCalls.{AreSegmentWords, TellsSegment, any_size, none, without}
 use Rattle.cap_calls.proofs.Answers.{no_cause, one_cause, one_extent}
+use Rattle.cap_calls.proofs.SegmentPlaces.{segment_words}
 
 -- one frame has as many segments as another
 same_count : (bs : List ℕ) (a b x y : ℕ) (m n : List (List ℕ)) → HasFrame any_size bs a x m → HasFrame any_size bs b y n

@@ -1,19 +1,10 @@
 -- Separate segments are vetted as the frame of them is.
-use Rattle.std.proofs.Common.{ℕ, List, ◌∙◌, ◌≡◌, ◌/◌, ap, arith, length, refl, sym}
-use Rattle.std.proofs.lemmas.List.{length-map}
-use Rattle.cap_calls.specs.Slices.{AreSegments, segments_in}
-use Rattle.cap_spec.specs.Plain.{plain_words}
-use Rattle.cap_calls.specs.CallFindings.{framed, framed_found, tells}
-use Rattle.cap_calls.specs.CallFlags.{has_no_table}
-use Rattle.cap_calls.specs.CallFrames.{AreLimits, HasFrame, HasTrailing}
-use Rattle.cap_calls.specs.CallInputs.{of_frame}
-use Rattle.cap_calls.specs.Calls.{TellsVet}
-use Rattle.cap_calls.specs.SegmentsCalls.{TellsSegments, bad_limits, message, no_message}
-use Rattle.cap_calls.specs.declared.answer.Answer.{Answer}
-use Rattle.cap_calls.specs.declared.found.Found.{Found}
-use Rattle.cap_calls.specs.declared.limits.CallLimits.{CallLimits}
-use Rattle.cap_calls.specs.declared.report.CallReport.{CallReport}
-use Rattle.std.specs.Prelude.{false}
+use Rattle.cap_spec.proofs.Prelude.{List, ap, arith, false, length, refl, sym, ℕ, ◌/◌, ◌∙◌, ◌≡◌, length-map}
+use Rattle.cap_spec.proofs.Prelude.{plain_words}
+use Rattle.cap_calls.specs.Prelude.{framed, framed_found, tells, has_no_table, AreLimits, HasFrame, HasTrailing}
+use Rattle.cap_calls.specs.Prelude.{of_frame, TellsVet, TellsSegments, message, AreSegments, segments_in, Answer, Found}
+use Rattle.cap_calls.specs.Prelude.{CallLimits, CallReport}
+use Rattle.cap_calls.specs.SegmentsCalls.{bad_limits, no_message}
 use Rattle.cap_calls.proofs.Answers.{one_extent}
 use Rattle.cap_calls.proofs.SeparateSegments.{not_both}
 

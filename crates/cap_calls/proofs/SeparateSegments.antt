@@ -1,19 +1,12 @@
 -- The bytes of separate segments decide what the call over them finds.
-use Rattle.std.proofs.Common.{ℕ, List, [], ◌∙◌, ◌*◌, ◌<◌, ◌≡◌, ap, arith, inl, inr, length, refl, sym}
-use Rattle.std.specs.Prelude.{⊤}
-use Rattle.std.proofs.lemmas.Bool.{cases_lt}
-use Rattle.cap_calls.specs.Slices.{AreSegments, AreWhole, IsBadSegment, TellsNoSegments, segments_in, words_in}
+use Rattle.cap_spec.proofs.Prelude.{List, [], ap, arith, inl, inr, length, refl, sym, ℕ, ◌*◌, ◌<◌, ◌∙◌, ◌≡◌, cases_lt}
+use Rattle.cap_spec.proofs.Prelude.{⊤}
+use Rattle.cap_calls.specs.Prelude.{framed_found, demands_of, IsGood, TellsSegments, message, AreSegments}
+use Rattle.cap_calls.specs.Prelude.{TellsNoSegments, segments_in, words_in, Answer, Found, CallLimits, CallReport}
+use Rattle.cap_calls.specs.SegmentsCalls.{FindsSegments, bad_limits, no_message, no_segments_found}
+use Rattle.cap_calls.specs.Slices.{AreWhole, IsBadSegment}
 use Rattle.cap_calls.specs.declared.slices.SlicesFault.{SlicesFault}
-use Rattle.cap_calls.specs.declared.slices.SlicesFault.TheVariants.{NoSegments, TooManySegments, BadSegment, TooLarge}
-use Rattle.cap_calls.specs.CallFindings.{framed_found}
-use Rattle.cap_calls.specs.CallFlags.{demands_of}
-use Rattle.cap_calls.specs.Calls.{IsGood}
-use Rattle.cap_calls.specs.SegmentsCalls.{FindsSegments, TellsSegments, bad_limits, message, no_message}
-use Rattle.cap_calls.specs.SegmentsCalls.{no_segments_found}
-use Rattle.cap_calls.specs.declared.answer.Answer.{Answer}
-use Rattle.cap_calls.specs.declared.found.Found.{Found}
-use Rattle.cap_calls.specs.declared.limits.CallLimits.{CallLimits}
-use Rattle.cap_calls.specs.declared.report.CallReport.{CallReport}
+use Rattle.cap_calls.specs.declared.slices.SlicesFault.TheVariants.{BadSegment, NoSegments, TooLarge, TooManySegments}
 use Rattle.cap_calls.proofs.Answers.{one_judged, one_returned}
 
 module _ (limit : ℕ) (parts : List (List ℕ)) where

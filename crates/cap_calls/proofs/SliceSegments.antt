@@ -1,14 +1,11 @@
 -- Segments that are separate slices.
-use Rattle.std.proofs.Common.{◌≡◌, ◌∙◌, ℕ, ◌+◌, ◌/◌, ◌%◌, ◌^◌, ◌<◌, ◌≤◌, List, [], ◌∷◌, length, take}
-use Rattle.std.proofs.Common.{sum, get_or, arith, ap, subst, zero-add, Bor, below_more}
-use Rattle.std.proofs.lemmas.List.{get_or-map, get_or_default, length-map, take_more}
-use Rattle.std.proofs.lemmas.List.Sums.{sum_by-append}
-use Rattle.cap_spec.specs.Frames.{sizes_of}
-use Rattle.cap_spec.specs.Messages.{IsMessage}
-use Rattle.cap_spec.specs.Plain.{capped, plain_words}
+use Rattle.std.proofs.Common.{Bor}
 use Rattle.cap_spec.proofs.Bytes.Plain.{words_exact}
-use Rattle.cap_calls.specs.Slices.{bytes_of, segments_in, words_in}
+use Rattle.cap_spec.proofs.Prelude.{List, [], ap, arith, below_more, get_or, length, subst, sum, take, zero-add, ℕ, ◌%◌}
+use Rattle.cap_spec.proofs.Prelude.{◌+◌, ◌/◌, ◌<◌, ◌^◌, ◌∙◌, ◌∷◌, ◌≡◌, ◌≤◌, get_or-map, get_or_default, length-map}
+use Rattle.cap_spec.proofs.Prelude.{take_more, sum_by-append, sizes_of, IsMessage, capped, plain_words}
 use Rattle.cap_frame.proofs.Cuts.{front_sum}
+use Rattle.cap_calls.specs.Slices.{bytes_of, segments_in, words_in}
 
 -- no slice
 abbrev pub no_slice : Bor (List ℕ)

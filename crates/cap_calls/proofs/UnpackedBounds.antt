@@ -1,12 +1,8 @@
 -- A message that is unpacked has no more bytes than a frame within the limit.
-use Rattle.std.proofs.Common.{ℕ, List, ◌≤◌, arith, inl, inr, length}
-use Rattle.cap_calls.specs.CallBounds.{frame_bound}
-use Rattle.cap_calls.specs.UnpackingMessages.{IsOpen, StopsCall, TellsUnpackMessage, bad, no_message, too_large, too_many, too_small}
-use Rattle.cap_calls.specs.UnpackingMessages.{truncated, unpacks, whole}
-use Rattle.cap_calls.specs.declared.answer.Answer.{Answer}
-use Rattle.cap_calls.specs.declared.limits.CallLimits.{CallLimits}
-use Rattle.cap_calls.specs.declared.report.CallReport.{CallReport}
-use Rattle.cap_calls.specs.declared.unpacking.Unpacking.{Unpacking}
+use Rattle.std.proofs.Common.{List, arith, inl, inr, length, ℕ, ◌≤◌}
+use Rattle.cap_calls.specs.Prelude.{frame_bound, IsOpen, StopsCall, TellsUnpackMessage, bad, too_many, truncated}
+use Rattle.cap_calls.specs.Prelude.{unpacks, Answer, CallLimits, CallReport, Unpacking}
+use Rattle.cap_calls.specs.UnpackingMessages.{no_message, too_large, too_small, whole}
 use Rattle.cap_calls.proofs.Bounds.{frame_short}
 
 -- how many bytes an open message has

@@ -1,17 +1,11 @@
 -- What a call that unpacks a message tells, by the words that it gave and the stage of the message.
-use Rattle.std.proofs.Common.{ℕ, List, ◌≡◌, ◌∙◌, ◌<◌, ◌≤◌, ◌+◌, ◌*◌, sym, subst, arith, drop, length, take, take-take}
-use Rattle.std.specs.List.{AllByRecursion}
-use Rattle.std.proofs.lemmas.List.{length-take-le}
+use Rattle.cap_spec.proofs.Prelude.{List, arith, drop, length, length-take-le, subst, sym, take, take-take, ℕ, ◌*◌, ◌+◌}
+use Rattle.cap_spec.proofs.Prelude.{◌<◌, ◌∙◌, ◌≡◌, ◌≤◌, AllByRecursion}
 use Rattle.cap_frame.specs.Fronts.{IsFront}
-use Rattle.cap_calls.specs.CallFrames.{AreLimits}
-use Rattle.cap_calls.specs.MessageStages.{IsEnd, ReachesStage}
-use Rattle.cap_calls.specs.UnpackingMessages.{Appends, IsOpen, IsState, StopsCall, TellsUnpackMessage, state_of, unpacks}
-use Rattle.cap_calls.specs.declared.answer.Answer.{Answer}
-use Rattle.cap_calls.specs.declared.calls.unpack_message.Stage.{Stage}
-use Rattle.cap_calls.specs.declared.limits.CallLimits.{CallLimits}
+use Rattle.cap_calls.specs.MessageStages.{ReachesStage}
+use Rattle.cap_calls.specs.Prelude.{AreLimits, IsEnd, Appends, IsOpen, IsState, StopsCall, TellsUnpackMessage, state_of}
+use Rattle.cap_calls.specs.Prelude.{unpacks, Answer, Stage, CallLimits, CallReport, Unpacking}
 use Rattle.cap_calls.specs.declared.packed_stream.Given.{Given}
-use Rattle.cap_calls.specs.declared.report.CallReport.{CallReport}
-use Rattle.cap_calls.specs.declared.unpacking.Unpacking.{Unpacking}
 use Rattle.cap_calls.proofs.AppendedWords.{appended, given_long, words_given}
 use Rattle.cap_calls.proofs.MessageStages.{all_of_message}
 

@@ -1,24 +1,17 @@
 -- The bytes, the state and the buffer decide what the call that unpacks a message returns and writes.
-use Rattle.std.proofs.Common.{ℕ, List, [], ◌∷◌, ◌++◌, ◌≡◌, ◌∙◌, ◌<◌, ◌≤◌, ◌+◌, ◌-◌, ◌*◌, ap, ap₂, refl, sym, subst}
-use Rattle.std.proofs.Common.{inl, inr, arith, append-nil, append_assoc, drop, length, length-append, replicate, take}
-use Rattle.std.proofs.Common.{take-append-drop, take_all, take_at}
-use Rattle.std.proofs.lemmas.Bool.{cases_lt}
-use Rattle.std.proofs.lemmas.List.{append_cancel_left, drop-replicate, drop_all, length-replicate, length-take-le, take-append-le}
-use Rattle.std.proofs.lemmas.List.{take-replicate}
-use Rattle.cap_spec.specs.Plain.{plain_text, plain_words, word_bytes}
-use Rattle.cap_spec.specs.Unpacking.{unpacked}
-use Rattle.cap_spec.proofs.Bytes.Plain.{length_plain, words_exact}
+use Rattle.std.proofs.lemmas.List.{append_cancel_left, drop-replicate}
 use Rattle.std.proofs.lemmas.List.Concat.{flat_map-append}
-use Rattle.cap_spec.specs.Endings.{too_large, too_many}
-use Rattle.cap_calls.specs.PackedStreams.{GivesWords, words_to_come}
-use Rattle.cap_calls.specs.UnpackingMessages.{Appends, IsOpen, StopsCall, TellsUnpackMessage, bad, state_of, unpacks}
-use Rattle.cap_calls.specs.UnpackingMessages as stop
-use Rattle.cap_calls.specs.declared.answer.Answer.{Answer}
-use Rattle.cap_calls.specs.declared.limits.CallLimits.{CallLimits}
-use Rattle.cap_calls.specs.declared.report.CallReport.{CallReport}
-use Rattle.cap_calls.specs.declared.unpacking.Unpacking.{Unpacking}
+use Rattle.cap_spec.proofs.Bytes.Plain.{length_plain, words_exact}
+use Rattle.cap_spec.proofs.Prelude.{List, [], ap, append-nil, append_assoc, ap₂, arith, drop, inl, inr, length}
+use Rattle.cap_spec.proofs.Prelude.{length-append, length-take-le, refl, replicate, subst, sym, take, take-append-drop}
+use Rattle.cap_spec.proofs.Prelude.{take_all, take_at, ℕ, ◌*◌, ◌++◌, ◌+◌, ◌-◌, ◌<◌, ◌∙◌, ◌∷◌, ◌≡◌, ◌≤◌, cases_lt}
+use Rattle.cap_spec.proofs.Prelude.{drop_all, length-replicate, take-append-le, take-replicate, too_large, too_many}
+use Rattle.cap_spec.proofs.Prelude.{plain_text, plain_words, word_bytes, unpacked}
+use Rattle.cap_calls.specs.Prelude.{GivesWords, words_to_come, Appends, IsOpen, StopsCall, TellsUnpackMessage, bad}
+use Rattle.cap_calls.specs.Prelude.{state_of, unpacks, Answer, CallLimits, CallReport, Unpacking}
 use Rattle.cap_calls.proofs.MessageStages.{open_not_whole}
 use Rattle.cap_calls.proofs.OneStop.{never_open, none_comes, one_stop}
+use Rattle.cap_calls.specs.UnpackingMessages as stop
 
 -- no bytes give the zero words of a run alone
 nothing_more : (z p : ℕ) → words_to_come z p [] ≡ replicate z 0

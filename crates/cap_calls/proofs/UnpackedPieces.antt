@@ -1,22 +1,17 @@
 -- Two pieces of a stream, one after the other, are unpacked as one.
-use Rattle.std.proofs.Common.{ℕ, List, ◌++◌, ◌≡◌, ◌∙◌, ◌<◌, ◌≤◌, ◌+◌, ◌-◌, ◌*◌, ◌⊎◌, ap, ap₂, refl, sym, subst, inl, inr}
-use Rattle.std.proofs.Common.{append_assoc, arith, drop, drop-drop, drop_at, length, length-append, length-take, take, take_at}
-use Rattle.std.proofs.lemmas.Bool.{cases_lt}
-use Rattle.std.proofs.lemmas.List.{drop-append-le, length-drop, length-take-le, take-append-le}
 use Rattle.std.proofs.lemmas.List.Concat.{flat_map-append}
-use Rattle.cap_spec.specs.Plain.{plain_text, word_bytes}
 use Rattle.cap_spec.proofs.Bytes.Plain.{length_plain}
-use Rattle.cap_calls.specs.PackedStreams.{GivesWords, words_to_come}
-use Rattle.cap_calls.specs.UnpackingMessages.{Appends, IsOpen, IsState, StopsCall, TellsUnpackMessage, bad, state_of, unpacks}
-use Rattle.cap_calls.specs.UnpackingMessages as stop
-use Rattle.cap_calls.specs.declared.answer.Answer.{Answer}
+use Rattle.cap_spec.proofs.Prelude.{List, ap, append_assoc, ap₂, arith, drop, drop-drop, drop_at, inl, inr, length}
+use Rattle.cap_spec.proofs.Prelude.{length-append, length-drop, length-take, length-take-le, refl, subst, sym, take}
+use Rattle.cap_spec.proofs.Prelude.{take_at, ℕ, ◌*◌, ◌++◌, ◌+◌, ◌-◌, ◌<◌, ◌∙◌, ◌≡◌, ◌≤◌, ◌⊎◌, cases_lt, drop-append-le}
+use Rattle.cap_spec.proofs.Prelude.{take-append-le, plain_text, word_bytes}
+use Rattle.cap_calls.specs.Prelude.{GivesWords, words_to_come, Appends, IsOpen, IsState, StopsCall, TellsUnpackMessage}
+use Rattle.cap_calls.specs.Prelude.{bad, state_of, unpacks, Answer, CallLimits, CallReport, Unpacking}
 use Rattle.cap_calls.specs.declared.answer.Answer.TheVariants.{NoMessage, Truncated}
-use Rattle.cap_calls.specs.declared.answer.Answer.TheVariants as answer
-use Rattle.cap_calls.specs.declared.limits.CallLimits.{CallLimits}
-use Rattle.cap_calls.specs.declared.report.CallReport.{CallReport}
-use Rattle.cap_calls.specs.declared.unpacking.Unpacking.{Unpacking}
 use Rattle.cap_calls.proofs.MessageStages.{open_not_whole}
 use Rattle.cap_calls.proofs.PackedStreams.{leads_both}
+use Rattle.cap_calls.specs.UnpackingMessages as stop
+use Rattle.cap_calls.specs.declared.answer.Answer.TheVariants as answer
 
 -- more bytes change nothing of what the first give
 leads_longer : (z p y q t : ℕ) (bytes more ws : List ℕ) → GivesWords z p bytes ws t y q → GivesWords z p (bytes ++ more) ws t y q

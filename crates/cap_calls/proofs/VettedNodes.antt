@@ -1,35 +1,23 @@
 -- The call for the node at a path refuses nothing that the vetter accepts.
-use Rattle.std.proofs.Common.{ℕ, List, ◌≡◌, ◌∙◌, ◌⊎◌, ap, arith, inl, inr, length, subst, sym}
-use Rattle.std.specs.Prelude.{IsFalse, not, true}
+use Rattle.std.proofs.Common.{IsFalse, List, ap, arith, inl, inr, length, not, subst, sym, true, ℕ, ◌∙◌, ◌≡◌, ◌⊎◌}
 use Rattle.cap_spec.specs.PathTexts.{IsPath}
-use Rattle.cap_spec.specs.declared.Step.{Step}
 use Rattle.cap_spec.proofs.Paths.PathTexts.{path_not_bad}
-use Rattle.cap_vet.specs.Demands.{Meets, words_under}
-use Rattle.cap_vet.specs.PathDemands.{MeetsOnPath}
-use Rattle.cap_vet.specs.declared.demands.Demands.{Demands}
+use Rattle.cap_vet.specs.Prelude.{Meets, words_under, MeetsOnPath}
 use Rattle.cap_vet.proofs.PathFaults.{meets_no_path_fault}
-use Rattle.cap_calls.specs.CallFindings.{accepted, framed, refused, tells, trailing, without}
-use Rattle.cap_calls.specs.CallFlags.{allows_trailing, demands_of, has_no_table}
-use Rattle.cap_calls.specs.CallFrames.{HasFrame, HasTrailing}
-use Rattle.cap_calls.specs.CallInputs.{of_frame, of_no_words, of_words}
-use Rattle.cap_calls.specs.AnswerNumbers.{refusal_answer}
-use Rattle.cap_calls.specs.CallReports.{cause_answer}
-use Rattle.cap_calls.specs.Calls.{TellsMessage, TellsVet}
-use Rattle.cap_calls.specs.CallNodes.{none_node}
-use Rattle.cap_calls.specs.NodeCalls.{Gets, TellsGet, a_node, a_path, bad_limits, bad_path, no_meeting, no_node}
-use Rattle.cap_calls.specs.RangeCalls.{AreSteps, EndsRange, GetsRange, TellsRange, full, past, path_after, stops, unknown}
-use Rattle.cap_calls.specs.RangeCalls as range
-use Rattle.cap_calls.specs.declared.answer.Answer.{Answer}
-use Rattle.cap_calls.specs.declared.answer.Answer.TheVariants as answer
-use Rattle.cap_calls.specs.declared.found.Found.{Found}
-use Rattle.cap_calls.specs.declared.limits.CallLimits.{CallLimits}
-use Rattle.cap_calls.specs.declared.node.CallNode.{CallNode}
-use Rattle.cap_calls.specs.declared.report.CallReport.{CallReport}
-use Rattle.cap_calls.specs.declared.step.CallStep.{CallStep}
+use Rattle.cap_calls.specs.CallFindings.{accepted, without}
+use Rattle.cap_calls.specs.NodeCalls.{bad_limits}
+use Rattle.cap_calls.specs.Prelude.{Step, Demands, refusal_answer, framed, refused, tells, trailing, allows_trailing}
+use Rattle.cap_calls.specs.Prelude.{demands_of, has_no_table, HasFrame, HasTrailing, of_frame, of_no_words, of_words}
+use Rattle.cap_calls.specs.Prelude.{none_node, cause_answer, TellsMessage, TellsVet, Gets, TellsGet, a_node, a_path}
+use Rattle.cap_calls.specs.Prelude.{bad_path, no_meeting, no_node, AreSteps, EndsRange, GetsRange, TellsRange, full}
+use Rattle.cap_calls.specs.Prelude.{past, path_after, stops, unknown, Answer, Found, CallLimits, CallNode, CallReport}
+use Rattle.cap_calls.specs.Prelude.{CallStep}
 use Rattle.cap_calls.proofs.Answers.{no_cause, one_extent}
 use Rattle.cap_calls.proofs.PathCharges.{path_charged}
 use Rattle.cap_calls.proofs.Wider.{cause_not_zero, not_zero, refusal_not_zero}
 use Rattle.cap_calls.proofs.Words.{one_input}
+use Rattle.cap_calls.specs.RangeCalls as range
+use Rattle.cap_calls.specs.declared.answer.Answer.TheVariants as answer
 
 -- What a message meets, the pointers on each path meet.
 pub meets_on_path : (demands : Demands) (m : List (List ℕ)) (words depth : ℕ) → Meets demands m words depth

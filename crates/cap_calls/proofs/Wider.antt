@@ -1,36 +1,25 @@
 -- What is accepted is accepted with higher limits and more flags too.
-use Rattle.std.proofs.Common.{ℕ, List, [], ◌∷◌, ◌≡◌, ◌∙◌, ◌≤◌, ◌<◌, ap, arith, length, min, refl, subst, sum, sym}
-use Rattle.std.specs.Prelude.{◌+◌, Bool, true, false, not, if◌then◌else◌, ⊤}
 use Rattle.std.proofs.Math.Nat.{le-min, min-le_left, min-le_right}
-use Rattle.std.proofs.lemmas.Bool.{false≢true}
-use Rattle.cap_frame.specs.declared.fault.FrontFault.TheVariants as fault
-use Rattle.cap_spec.specs.Frames.{sizes_of}
-use Rattle.cap_spec.specs.Plain.{plain_words}
-use Rattle.cap_spec.specs.declared.Lax.TheVariants as lax
-use Rattle.cap_spec.specs.declared.Reason.{Reason}
-use Rattle.cap_spec.specs.declared.Reason.TheVariants as reason
-use Rattle.cap_spec.specs.declared.StrictRefusal.{StrictRefusal}
-use Rattle.cap_spec.specs.declared.StrictRefusal.TheVariants as strict
+use Rattle.cap_spec.proofs.Prelude.{Bool, List, [], ap, arith, false, if◌then◌else◌, length, min, not, refl, subst, sum}
+use Rattle.cap_spec.proofs.Prelude.{sym, true, ℕ, ◌+◌, ◌<◌, ◌∙◌, ◌∷◌, ◌≡◌, ◌≤◌, false≢true, ⊤, sizes_of, plain_words}
 use Rattle.cap_spec.proofs.Strict.Faults.{strict_wider, within_wider}
-use Rattle.cap_vet.specs.Demands.{Meets, words_under}
-use Rattle.cap_vet.specs.Reports.{IsAccepted}
-use Rattle.cap_vet.specs.declared.report.Report.{Report}
-use Rattle.cap_calls.specs.AnswerNumbers.{answer_number, reason_answer, refusal_answer}
-use Rattle.cap_calls.specs.CallFindings.{Judges, TellsWhole, accepted, framed, refused, tells, trailing, without}
-use Rattle.cap_calls.specs.CallFlags.{AllowsMore, allows_amplified, allows_nonstrict, allows_trailing, demands_of}
-use Rattle.cap_calls.specs.CallFrames.{AreLimits, HasFrame, HasTrailing}
-use Rattle.cap_calls.specs.CallInputs.{AreInputLimits, AreWordLimits, HasWords, TellsInput}
-use Rattle.cap_calls.specs.CallInputs as input
-use Rattle.cap_calls.specs.CallReports.{cause_answer}
-use Rattle.cap_calls.specs.Calls.{IsGood, TellsVet}
-use Rattle.cap_calls.specs.declared.answer.Answer.{Answer}
-use Rattle.cap_calls.specs.declared.answer.Answer.TheVariants as answer
-use Rattle.cap_calls.specs.declared.found.Found.{Found}
-use Rattle.cap_calls.specs.declared.front.NoFrame.{NoFrame}
-use Rattle.cap_calls.specs.declared.front.NoFrame.TheVariants.{BadLimits, NoMessage, Fault}
-use Rattle.cap_calls.specs.declared.limits.CallLimits.{CallLimits}
-use Rattle.cap_calls.specs.declared.report.CallReport.{CallReport}
+use Rattle.cap_vet.specs.Prelude.{Meets, words_under, IsAccepted}
+use Rattle.cap_calls.specs.AnswerNumbers.{answer_number}
+use Rattle.cap_calls.specs.CallFindings.{accepted, without}
+use Rattle.cap_calls.specs.CallFlags.{AllowsMore, allows_nonstrict}
+use Rattle.cap_calls.specs.CallInputs.{AreInputLimits, AreWordLimits}
+use Rattle.cap_calls.specs.Prelude.{Reason, StrictRefusal, Report, reason_answer, refusal_answer, Judges, TellsWhole}
+use Rattle.cap_calls.specs.Prelude.{framed, refused, tells, trailing, allows_amplified, allows_trailing, demands_of}
+use Rattle.cap_calls.specs.Prelude.{AreLimits, HasFrame, HasTrailing, HasWords, TellsInput, cause_answer, IsGood}
+use Rattle.cap_calls.specs.Prelude.{TellsVet, Answer, Found, NoFrame, BadLimits, Fault, CallLimits, CallReport}
+use Rattle.cap_calls.specs.declared.front.NoFrame.TheVariants.{NoMessage}
 use Rattle.cap_calls.proofs.Answers.{one_extent}
+use Rattle.cap_frame.specs.declared.fault.FrontFault.TheVariants as fault
+use Rattle.cap_spec.specs.declared.Lax.TheVariants as lax
+use Rattle.cap_spec.specs.declared.Reason.TheVariants as reason
+use Rattle.cap_spec.specs.declared.StrictRefusal.TheVariants as strict
+use Rattle.cap_calls.specs.CallInputs as input
+use Rattle.cap_calls.specs.declared.answer.Answer.TheVariants as answer
 
 -- no other answer has the number 0
 pub not_zero : (a : Answer) → 1 ≤ answer_number a → a ≡ answer.Good → ⊥

@@ -1,16 +1,12 @@
 -- The words of one segment, or the one cause why there are none.
-use Rattle.std.proofs.Common.{ℕ, List, [], ◌∷◌, ◌≡◌, ◌∙◌, ◌*◌, ◌≤◌, ap, arith, length, refl, sum, sym, zero-add}
-use Rattle.std.specs.Prelude.{IsFalse, IsTrue}
-use Rattle.std.proofs.lemmas.Bool.{false≢true}
-use Rattle.cap_frame.specs.declared.fault.FrontFault.TheVariants.{TooManySegments, TooLarge, Truncated}
-use Rattle.cap_spec.specs.Frames.{sizes_of}
-use Rattle.cap_spec.specs.Plain.{plain_words}
+use Rattle.std.proofs.Common.{IsFalse}
 use Rattle.cap_spec.proofs.Bytes.Plain.{words_exact}
-use Rattle.cap_calls.specs.CallFlags.{has_no_table}
-use Rattle.cap_calls.specs.CallInputs.{HasNoWords, HasWords}
-use Rattle.cap_calls.specs.declared.front.NoFrame.{NoFrame}
-use Rattle.cap_calls.specs.declared.front.NoFrame.TheVariants.{BadLimits, NoMessage, Fault}
-use Rattle.cap_calls.specs.declared.limits.CallLimits.{CallLimits}
+use Rattle.cap_spec.proofs.Prelude.{IsTrue, List, [], ap, arith, length, refl, sum, sym, zero-add, ℕ, ◌*◌, ◌∙◌, ◌∷◌}
+use Rattle.cap_spec.proofs.Prelude.{◌≡◌, ◌≤◌, false≢true, sizes_of, plain_words}
+use Rattle.cap_frame.specs.declared.fault.FrontFault.TheVariants.{TooLarge, TooManySegments, Truncated}
+use Rattle.cap_calls.specs.CallInputs.{HasNoWords}
+use Rattle.cap_calls.specs.Prelude.{has_no_table, HasWords, NoFrame, BadLimits, Fault, CallLimits}
+use Rattle.cap_calls.specs.declared.front.NoFrame.TheVariants.{NoMessage}
 
 module _ (l : CallLimits) (bs : List ℕ) where
   -- there is no segment for one cause

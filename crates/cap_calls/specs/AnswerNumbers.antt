@@ -1,20 +1,20 @@
 -- The numbers of a call's answers (profile).
 use Rattle.std.specs.Prelude.{ℕ}
 use Rattle.cap_spec.specs.declared.Lax.{Lax}
-use Rattle.cap_spec.specs.declared.Lax.TheVariants as lax
 use Rattle.cap_spec.specs.declared.Reason.{Reason}
-use Rattle.cap_spec.specs.declared.Reason.TheVariants as reason
 use Rattle.cap_spec.specs.declared.StrictRefusal.{StrictRefusal}
-use Rattle.cap_spec.specs.declared.StrictRefusal.TheVariants as strict
 use Rattle.cap_calls.specs.declared.answer.Answer.{Answer}
-use Rattle.cap_calls.specs.declared.answer.Answer.TheVariants.{Good, NoMessage, TooManySegments, TooLarge, Truncated}
-use Rattle.cap_calls.specs.declared.answer.Answer.TheVariants.{Trailing}
-use Rattle.cap_calls.specs.declared.answer.Answer.TheVariants.{BadLimits, BufferTooSmall, NotCanonical, HasCapability}
-use Rattle.cap_calls.specs.declared.answer.Answer.TheVariants.{BadPath, NoSegment, BadSegment, NoNode, Overlap}
-use Rattle.cap_calls.specs.declared.answer.Answer.TheVariants.{NullPad, EmptySegment, CapabilityPad, ManySegments}
-use Rattle.cap_calls.specs.declared.answer.Answer.TheVariants.{NoRoot, Reserved, SegmentMissing, PadOutside, PadIsFar}
-use Rattle.cap_calls.specs.declared.answer.Answer.TheVariants.{PadNotFar, TagKind, TagOffset, OutOfSegment}
-use Rattle.cap_calls.specs.declared.answer.Answer.TheVariants.{CompositeTag, CompositeOverrun, DepthLimit, WordLimit}
+use Rattle.cap_calls.specs.declared.answer.Answer.TheVariants.{BadLimits, BadPath, BadSegment, BufferTooSmall}
+use Rattle.cap_calls.specs.declared.answer.Answer.TheVariants.{CapabilityPad, CompositeOverrun, CompositeTag}
+use Rattle.cap_calls.specs.declared.answer.Answer.TheVariants.{DepthLimit, EmptySegment, Good, HasCapability}
+use Rattle.cap_calls.specs.declared.answer.Answer.TheVariants.{ManySegments, NoMessage, NoNode, NoRoot, NoSegment}
+use Rattle.cap_calls.specs.declared.answer.Answer.TheVariants.{NotCanonical, NullPad, OutOfSegment, Overlap, PadIsFar}
+use Rattle.cap_calls.specs.declared.answer.Answer.TheVariants.{PadNotFar, PadOutside, Reserved, SegmentMissing, TagKind}
+use Rattle.cap_calls.specs.declared.answer.Answer.TheVariants.{TagOffset, TooLarge, TooManySegments, Trailing}
+use Rattle.cap_calls.specs.declared.answer.Answer.TheVariants.{Truncated, WordLimit}
+use Rattle.cap_spec.specs.declared.Lax.TheVariants as lax
+use Rattle.cap_spec.specs.declared.Reason.TheVariants as reason
+use Rattle.cap_spec.specs.declared.StrictRefusal.TheVariants as strict
 
 -- the number of an answer
 abbrev pub answer_number : Answer → ℕ

@@ -1,5 +1,5 @@
 -- The sizes that always suffice, as the macros of `include/capvet.h` give them (profile).
-use Rattle.std.specs.Prelude.{ℕ, ◌+◌, ◌*◌, ◌/◌}
+use Rattle.std.specs.Prelude.{ℕ, ◌*◌, ◌+◌, ◌/◌}
 
 -- the most bytes of a frame whose segments have this many words: CAPVET_FRAME_BOUND
 abbrev pub frame_bound : ℕ → ℕ

@@ -1,23 +1,22 @@
 -- What a call finds of the message at the start of bytes, from the bytes alone
 -- (profile; standard: Serialization Over a Stream).
-use Rattle.std.specs.Prelude.{ℕ, ◌≡◌, ◌<◌, ◌-◌, ◌⊎◌, Bool, true, List, length}
+use Rattle.std.specs.Prelude.{Bool, List, length, true, ℕ, ◌-◌, ◌<◌, ◌≡◌, ◌⊎◌}
 use Rattle.cap_spec.specs.Faults.{IsRefused}
 use Rattle.cap_spec.specs.declared.Refusal.{Refusal}
 use Rattle.cap_spec.specs.declared.StrictRefusal.{StrictRefusal}
 use Rattle.cap_spec.specs.declared.StrictRefusal.TheVariants.{Refused}
-use Rattle.cap_vet.specs.Demands.{IsDemandFault, Meets, words_under}
-use Rattle.cap_vet.specs.Reports.{IsAccepted}
+use Rattle.cap_vet.specs.Prelude.{IsDemandFault, Meets, words_under, IsAccepted}
 use Rattle.cap_vet.specs.declared.demands.Demands.{Demands}
 use Rattle.cap_vet.specs.declared.report.Report.{Report}
 use Rattle.cap_calls.specs.AnswerNumbers.{refusal_answer}
 use Rattle.cap_calls.specs.CallFrames.{HasFrame, HasNoFrame, HasTrailing}
 use Rattle.cap_calls.specs.CallReports.{accepted_report, cause_answer, no_frame_report, refused_report, trailing_report}
 use Rattle.cap_calls.specs.declared.answer.Answer.{Answer}
-use Rattle.cap_calls.specs.declared.answer.Answer.TheVariants as answer
 use Rattle.cap_calls.specs.declared.found.Found.{Found}
 use Rattle.cap_calls.specs.declared.front.NoFrame.{NoFrame}
 use Rattle.cap_calls.specs.declared.limits.CallLimits.{CallLimits}
 use Rattle.cap_calls.specs.declared.report.CallReport.{CallReport}
+use Rattle.cap_calls.specs.declared.answer.Answer.TheVariants as answer
 
 -- of bytes without a frame
 abbrev pub none_found : NoFrame → Found

@@ -1,5 +1,5 @@
 -- What the flags of a call allow (profile).
-use Rattle.std.specs.Prelude.{◌≡◌, ◌≤◌, ◌/◌, ◌%◌, ◌==◌, Bool, IsTrue, not, replicate, slice_index}
+use Rattle.std.specs.Prelude.{Bool, IsTrue, not, replicate, slice_index, ◌%◌, ◌/◌, ◌==◌, ◌≡◌, ◌≤◌}
 use Rattle.cap_vet.specs.declared.demands.Demands.{Demands}
 use Rattle.cap_calls.specs.declared.limits.CallLimits.{CallLimits}
 

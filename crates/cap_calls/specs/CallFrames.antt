@@ -1,12 +1,11 @@
 -- The frame at the start of bytes, within the limits of a call, or why there is none
 -- (profile; standard: Serialization Over a Stream).
-use Rattle.std.specs.Prelude.{ℕ, ◌≡◌, ◌≤◌, ◌<◌, List, [], length, Err}
+use Rattle.std.specs.Prelude.{Err, List, [], length, ℕ, ◌<◌, ◌≡◌, ◌≤◌}
 use Rattle.cap_spec.specs.GreatestLimits.{most_depth, most_words}
-use Rattle.cap_frame.specs.Framed.{TellsFront}
-use Rattle.cap_frame.specs.Fronts.{IsFront}
+use Rattle.cap_frame.specs.Prelude.{TellsFront, IsFront}
 use Rattle.cap_calls.specs.CallFlags.{HasKnownFlags}
 use Rattle.cap_calls.specs.declared.front.NoFrame.{NoFrame}
-use Rattle.cap_calls.specs.declared.front.NoFrame.TheVariants.{BadLimits, NoMessage, Fault}
+use Rattle.cap_calls.specs.declared.front.NoFrame.TheVariants.{BadLimits, Fault, NoMessage}
 use Rattle.cap_calls.specs.declared.limits.CallLimits.{CallLimits}
 
 -- no limit is above its maximum, no flag is unknown, and the reserved fields are 0

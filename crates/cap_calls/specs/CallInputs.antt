@@ -1,14 +1,13 @@
 -- The input of a call: a frame, or with the flag 8 the words of one segment (profile; standard: 64-bit Words).
-use Rattle.std.specs.Prelude.{ℕ, ◌≡◌, ◌≤◌, ◌<◌, ◌+◌, ◌*◌, ◌/◌, ◌%◌, Bool, IsFalse, IsTrue, List, [], ◌∷◌, length}
-use Rattle.cap_frame.specs.declared.fault.FrontFault.TheVariants.{TooManySegments, TooLarge, Truncated}
-use Rattle.cap_spec.specs.GreatestLimits.{most_depth, most_words}
-use Rattle.cap_spec.specs.Plain.{plain_words}
+use Rattle.std.specs.Prelude.{Bool, IsFalse, IsTrue, List, [], length, ℕ, ◌%◌, ◌*◌, ◌+◌, ◌/◌, ◌<◌, ◌∷◌, ◌≡◌, ◌≤◌}
+use Rattle.cap_spec.specs.Prelude.{most_depth, most_words, plain_words}
+use Rattle.cap_frame.specs.declared.fault.FrontFault.TheVariants.{TooLarge, TooManySegments, Truncated}
 use Rattle.cap_calls.specs.CallFindings.{TellsWhole, framed_found, none_found}
 use Rattle.cap_calls.specs.CallFlags.{HasWordFlags, has_no_table}
 use Rattle.cap_calls.specs.CallFrames.{AreLimits}
 use Rattle.cap_calls.specs.declared.found.Found.{Found}
 use Rattle.cap_calls.specs.declared.front.NoFrame.{NoFrame}
-use Rattle.cap_calls.specs.declared.front.NoFrame.TheVariants.{BadLimits, NoMessage, Fault}
+use Rattle.cap_calls.specs.declared.front.NoFrame.TheVariants.{BadLimits, Fault, NoMessage}
 use Rattle.cap_calls.specs.declared.limits.CallLimits.{CallLimits}
 
 -- with the flag 8: no limit is above its maximum, the other flags may be set beside it, and the reserved fields are 0

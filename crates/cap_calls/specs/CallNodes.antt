@@ -1,9 +1,9 @@
 -- The node that a call reports (standard: Structs, Lists, Serialization Over a Stream; the numbers are the profile's).
-use Rattle.std.specs.Prelude.{ℕ, ◌+◌, ◌*◌, ◌/◌, List, length, replicate}
-use Rattle.cap_frame.specs.Fronts.{table_words}
+use Rattle.std.specs.Prelude.{List, length, replicate, ℕ, ◌*◌, ◌+◌, ◌/◌}
 use Rattle.cap_spec.specs.Pointers.{element_bits}
 use Rattle.cap_spec.specs.declared.Kind.{Kind}
-use Rattle.cap_spec.specs.declared.Kind.TheVariants.{Null, Cap, Struct, Scalars, Pointers, Structs}
+use Rattle.cap_spec.specs.declared.Kind.TheVariants.{Cap, Null, Pointers, Scalars, Struct, Structs}
+use Rattle.cap_frame.specs.Fronts.{table_words}
 use Rattle.cap_vet.specs.Taken.{start_of}
 use Rattle.cap_calls.specs.declared.node.CallNode.{CallNode}
 

@@ -1,14 +1,14 @@
 -- What a call reports beside its answer, and what it returns for bytes without a frame (profile).
-use Rattle.std.specs.Prelude.{ℕ, replicate, unwrap_or}
-use Rattle.cap_frame.specs.declared.fault.FrontFault.TheVariants as fault
+use Rattle.std.specs.Prelude.{replicate, unwrap_or, ℕ}
 use Rattle.cap_spec.specs.declared.StrictRefusal.{StrictRefusal}
-use Rattle.cap_spec.specs.declared.StrictRefusal.TheVariants.{Refused, ManySegments, Pointer}
+use Rattle.cap_spec.specs.declared.StrictRefusal.TheVariants.{ManySegments, Pointer, Refused}
 use Rattle.cap_vet.specs.declared.report.Report.{Report}
 use Rattle.cap_calls.specs.declared.answer.Answer.{Answer}
-use Rattle.cap_calls.specs.declared.answer.Answer.TheVariants as answer
 use Rattle.cap_calls.specs.declared.front.NoFrame.{NoFrame}
-use Rattle.cap_calls.specs.declared.front.NoFrame.TheVariants.{BadLimits, NoMessage, Fault}
+use Rattle.cap_calls.specs.declared.front.NoFrame.TheVariants.{BadLimits, Fault, NoMessage}
 use Rattle.cap_calls.specs.declared.report.CallReport.{CallReport}
+use Rattle.cap_frame.specs.declared.fault.FrontFault.TheVariants as fault
+use Rattle.cap_calls.specs.declared.answer.Answer.TheVariants as answer
 
 -- nothing is reported
 abbrev pub none_report : CallReport

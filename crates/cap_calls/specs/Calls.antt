@@ -1,6 +1,6 @@
 -- What each call that looks at a message returns and reports
 -- (profile; standard: Serialization Over a Stream, Canonicalization).
-use Rattle.std.specs.Prelude.{ℕ, ◌≡◌, true, not, List, ⊤}
+use Rattle.std.specs.Prelude.{List, not, true, ℕ, ⊤, ◌≡◌}
 use Rattle.cap_spec.specs.Copies.{IsCanonical}
 use Rattle.cap_vet.specs.declared.report.Report.{Report}
 use Rattle.cap_calls.specs.CallFindings.{Judges, Returns, Tells, TellsWhole, accepted_found}

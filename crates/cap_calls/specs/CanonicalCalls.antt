@@ -1,23 +1,21 @@
 -- What the call for a canonical copy returns and writes, from the bytes and the buffer alone
 -- (standard: Canonicalization; the order is the profile's).
-use Rattle.std.specs.Prelude.{ℕ, ◌≡◌, not, List, Result, Ok, Err}
-use Rattle.cap_spec.specs.Copies.{HasCopy}
-use Rattle.cap_spec.specs.Paths.{IsFirstCap}
-use Rattle.cap_spec.specs.Plain.{plain_text}
-use Rattle.cap_canon.specs.declared.fault.RoomFault.{RoomFault}
-use Rattle.cap_canon.specs.declared.fault.RoomFault.TheVariants as fault
+use Rattle.std.specs.Prelude.{Err, List, Ok, Result, not, ℕ, ◌≡◌}
+use Rattle.cap_spec.specs.Prelude.{HasCopy, IsFirstCap, plain_text}
 use Rattle.cap_vet.specs.declared.demands.Demands.{Demands}
 use Rattle.cap_vet.specs.declared.report.Report.{Report}
-use Rattle.cap_calls.specs.CallReports.{accepted_report}
+use Rattle.cap_canon.specs.declared.fault.RoomFault.{RoomFault}
 use Rattle.cap_calls.specs.CallFindings.{Judges, JudgesAny, Returns, Tells, accepted_found}
 use Rattle.cap_calls.specs.CallFlags.{allows_trailing, demands_of}
 use Rattle.cap_calls.specs.CallInputs.{TellsInput}
+use Rattle.cap_calls.specs.CallReports.{accepted_report}
 use Rattle.cap_calls.specs.PackCalls.{TellsText}
 use Rattle.cap_calls.specs.declared.answer.Answer.{Answer}
-use Rattle.cap_calls.specs.declared.answer.Answer.TheVariants as answer
 use Rattle.cap_calls.specs.declared.found.Found.{Found}
 use Rattle.cap_calls.specs.declared.limits.CallLimits.{CallLimits}
 use Rattle.cap_calls.specs.declared.report.CallReport.{CallReport}
+use Rattle.cap_canon.specs.declared.fault.RoomFault.TheVariants as fault
+use Rattle.cap_calls.specs.declared.answer.Answer.TheVariants as answer
 
 -- Of a message that is accepted, for a buffer that held `old`, and then holds `new`.
 pub data FindsCopy (old new : List ℕ) (m : List (List ℕ)) (report : Report) (f : Found) : Type 0 where

@@ -1,24 +1,22 @@
 -- What the call that vets exclusively returns and reports, from the bytes and the capacity alone
 -- (profile).
-use Rattle.std.specs.Prelude.{ℕ, ◌<◌, ◌≡◌, ◌≤◌, ◌⊎◌, not, List, drop, length, ⊤}
+use Rattle.std.specs.Prelude.{List, drop, length, not, ℕ, ⊤, ◌<◌, ◌≡◌, ◌≤◌, ◌⊎◌}
 use Rattle.cap_spec.specs.Occupying.{IsDisjoint, IsFirstOverlap}
 use Rattle.cap_spec.specs.declared.StrictRefusal.TheVariants.{Refused}
-use Rattle.cap_vet.specs.Exclusives.{IsExclusiveFault}
-use Rattle.cap_vet.specs.Reports.{IsAccepted}
-use Rattle.cap_vet.specs.Taken.{marks_of}
+use Rattle.cap_vet.specs.Prelude.{IsExclusiveFault, IsAccepted, marks_of}
 use Rattle.cap_vet.specs.declared.demands.Demands.{Demands}
 use Rattle.cap_vet.specs.declared.exclusiveness.exclusive_room.ExclusiveFault.{ExclusiveFault}
-use Rattle.cap_vet.specs.declared.exclusiveness.exclusive_room.ExclusiveFault.TheVariants as fault
 use Rattle.cap_vet.specs.declared.report.Report.{Report}
 use Rattle.cap_calls.specs.CallFindings.{Judges, Returns, accepted_found, refused_found}
 use Rattle.cap_calls.specs.CallFlags.{allows_trailing, demands_of}
-use Rattle.cap_calls.specs.CallReports.{place_report}
 use Rattle.cap_calls.specs.CallInputs.{TellsInput}
+use Rattle.cap_calls.specs.CallReports.{place_report}
 use Rattle.cap_calls.specs.declared.answer.Answer.{Answer}
-use Rattle.cap_calls.specs.declared.answer.Answer.TheVariants as answer
 use Rattle.cap_calls.specs.declared.found.Found.{Found}
 use Rattle.cap_calls.specs.declared.limits.CallLimits.{CallLimits}
 use Rattle.cap_calls.specs.declared.report.CallReport.{CallReport}
+use Rattle.cap_vet.specs.declared.exclusiveness.exclusive_room.ExclusiveFault.TheVariants as fault
+use Rattle.cap_calls.specs.declared.answer.Answer.TheVariants as answer
 
 -- of an accepted message whose marks take n numbers, and that uses a word twice: the pointer, and how
 -- many were checked

@@ -1,10 +1,10 @@
 -- What the call that explains a refusal returns and writes, from the bytes and the capacity alone (profile).
-use Rattle.std.specs.Prelude.{ℕ, ◌≡◌, ◌≤◌, not, List}
+use Rattle.std.specs.Prelude.{List, not, ℕ, ◌≡◌, ◌≤◌}
 use Rattle.cap_spec.specs.declared.StrictRefusal.{StrictRefusal}
-use Rattle.cap_explain.specs.Explaining.{explanation}
-use Rattle.cap_trace.specs.NamedPaths.{fault_path}
 use Rattle.cap_vet.specs.Demands.{IsDemandFault, Meets, words_under}
 use Rattle.cap_vet.specs.declared.demands.Demands.{Demands}
+use Rattle.cap_explain.specs.Explaining.{explanation}
+use Rattle.cap_trace.specs.NamedPaths.{fault_path}
 use Rattle.cap_calls.specs.CallBounds.{explanation_bound}
 use Rattle.cap_calls.specs.CallFindings.{Returns}
 use Rattle.cap_calls.specs.CallFlags.{allows_trailing, demands_of}

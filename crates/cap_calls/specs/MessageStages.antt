@@ -1,10 +1,10 @@
 -- How a message goes on of which a buffer holds the first bytes (profile).
-use Rattle.std.specs.Prelude.{ℕ, ◌+◌, ◌%◌, ◌<◌, ◌≡◌, ◌≤◌, List, [], ⊤, drop, length, take}
+use Rattle.std.specs.Prelude.{List, [], drop, length, take, ℕ, ⊤, ◌%◌, ◌+◌, ◌<◌, ◌≡◌, ◌≤◌}
 use Rattle.cap_frame.specs.Fronts.{IsFront, TellsLarge, TellsMany}
 use Rattle.cap_calls.specs.PackedStreams.{WritesWords, words_to_come}
 use Rattle.cap_calls.specs.UnpackingMessages.{IsOpen}
 use Rattle.cap_calls.specs.declared.calls.unpack_message.Stage.{Stage}
-use Rattle.cap_calls.specs.declared.calls.unpack_message.Stage.TheVariants.{Open, Whole, TooMany, TooLarge}
+use Rattle.cap_calls.specs.declared.calls.unpack_message.Stage.TheVariants.{Open, TooLarge, TooMany, Whole}
 use Rattle.cap_calls.specs.declared.packed_stream.Given.{Given}
 
 -- what a stage says of the bytes

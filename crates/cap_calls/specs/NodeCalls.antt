@@ -1,6 +1,6 @@
 -- What the call for the node at a path returns and reports, from the bytes and the path alone (profile).
-use Rattle.std.specs.Prelude.{ℕ, ◌≡◌, List, slice_set}
 use Rattle.std.specs.List.{AllByRecursion}
+use Rattle.std.specs.Prelude.{List, slice_set, ℕ, ◌≡◌}
 use Rattle.cap_spec.specs.Arriving.{PathFinds}
 use Rattle.cap_spec.specs.PathTexts.{IsBadAt, IsStep, path_text}
 use Rattle.cap_spec.specs.declared.Kind.{Kind}
@@ -15,7 +15,7 @@ use Rattle.cap_calls.specs.CallNodes.{kind_node, none_node, offset_of}
 use Rattle.cap_calls.specs.CallReports.{none_report}
 use Rattle.cap_calls.specs.Calls.{TellsMessage}
 use Rattle.cap_calls.specs.declared.answer.Answer.{Answer}
-use Rattle.cap_calls.specs.declared.answer.Answer.TheVariants.{Good, BadPath, NoNode}
+use Rattle.cap_calls.specs.declared.answer.Answer.TheVariants.{BadPath, Good, NoNode}
 use Rattle.cap_calls.specs.declared.found.Found.{Found}
 use Rattle.cap_calls.specs.declared.front.NoFrame.TheVariants.{BadLimits}
 use Rattle.cap_calls.specs.declared.limits.CallLimits.{CallLimits}

@@ -1,11 +1,9 @@
 -- What the calls that pack and unpack return and write, from the bytes alone
 -- (standard: Packing; the order of the answers is the profile's).
-use Rattle.std.specs.Prelude.{ℕ, ◌^◌, ◌<◌, ◌≡◌, ◌≤◌, List, ◌++◌, length, drop, true, false}
-use Rattle.cap_spec.specs.Packing.{pack_text}
-use Rattle.cap_spec.specs.Plain.{plain_is_cut, plain_text, plain_words}
-use Rattle.cap_spec.specs.Unpacking.{packed_is_cut, unpacked}
+use Rattle.std.specs.Prelude.{List, drop, false, length, true, ℕ, ◌++◌, ◌<◌, ◌^◌, ◌≡◌, ◌≤◌}
+use Rattle.cap_spec.specs.Prelude.{pack_text, plain_is_cut, plain_text, plain_words, packed_is_cut, unpacked}
 use Rattle.cap_calls.specs.declared.answer.Answer.{Answer}
-use Rattle.cap_calls.specs.declared.answer.Answer.TheVariants.{Good, TooLarge, Truncated, BufferTooSmall}
+use Rattle.cap_calls.specs.declared.answer.Answer.TheVariants.{BufferTooSmall, Good, TooLarge, Truncated}
 
 -- A text of bytes for this buffer, which held these: whether it fits, how many bytes it takes, and
 -- what the buffer holds then.

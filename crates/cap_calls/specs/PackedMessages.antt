@@ -1,9 +1,8 @@
 -- What the call that packs a message returns and writes, from the bytes and the buffer alone
 -- (profile).
-use Rattle.std.specs.Prelude.{ℕ, ◌+◌, ◌*◌, ◌≡◌, ◌≤◌, List, length, sum}
+use Rattle.std.specs.Prelude.{List, length, sum, ℕ, ◌*◌, ◌+◌, ◌≡◌, ◌≤◌}
+use Rattle.cap_spec.specs.Prelude.{sizes_of, packed_frame}
 use Rattle.cap_frame.specs.Fronts.{table_words}
-use Rattle.cap_spec.specs.Frames.{sizes_of}
-use Rattle.cap_spec.specs.PackedFrames.{packed_frame}
 use Rattle.cap_calls.specs.CallFindings.{Returns}
 use Rattle.cap_calls.specs.CallReports.{none_report}
 use Rattle.cap_calls.specs.Calls.{TellsMessage}

@@ -1,9 +1,8 @@
 -- The place in a packed stream, between the words that its bytes gave and those that they will give
 -- (standard: Packing; the bytes that a word takes are the profile's).
-use Rattle.std.specs.Prelude.{ℕ, ◌+◌, ◌*◌, ◌%◌, ◌<◌, ◌≡◌, ◌≤◌, ◌⊎◌, ◌==◌, if◌then◌else◌, List, [], ◌∷◌, ◌++◌, length}
-use Rattle.std.specs.Prelude.{drop, replicate, take}
-use Rattle.cap_spec.specs.Plain.{plain_words}
-use Rattle.cap_spec.specs.Unpacking.{marks, unpacked}
+use Rattle.std.specs.Prelude.{List, [], drop, if◌then◌else◌, length, replicate, take, ℕ, ◌%◌, ◌*◌, ◌++◌, ◌+◌, ◌<◌, ◌==◌}
+use Rattle.std.specs.Prelude.{◌∷◌, ◌≡◌, ◌≤◌, ◌⊎◌}
+use Rattle.cap_spec.specs.Prelude.{plain_words, marks, unpacked}
 use Rattle.cap_calls.specs.declared.packed_stream.Given.{Given}
 
 -- The words that bytes give: first zero words of a run, then literal words of a run, then those of

@@ -1,7 +1,7 @@
 -- What the call for the path to a pointer word returns and writes, from the bytes and the capacity alone (profile).
-use Rattle.std.specs.Prelude.{ℕ, ◌+◌, ◌≡◌, ◌≤◌, ◌<◌, ◌++◌, not, List, drop, length, map}
+use Rattle.std.specs.Prelude.{List, drop, length, map, not, ℕ, ◌++◌, ◌+◌, ◌<◌, ◌≡◌, ◌≤◌}
 use Rattle.cap_spec.specs.declared.Step.{Step}
-use Rattle.cap_spec.specs.declared.Step.TheVariants.{Ptr, Item}
+use Rattle.cap_spec.specs.declared.Step.TheVariants.{Item, Ptr}
 use Rattle.cap_trace.specs.PointerNumbers.{IsTraceable}
 use Rattle.cap_calls.specs.CallFindings.{Returns}
 use Rattle.cap_calls.specs.CallFlags.{allows_trailing}

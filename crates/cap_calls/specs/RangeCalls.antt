@@ -1,7 +1,7 @@
 -- What the call for the nodes of a range returns and reports, from the bytes and the steps alone (profile).
-use Rattle.std.specs.Prelude.{ℕ, zero, suc, ◌+◌, ◌≡◌, ◌≤◌, ◌<◌, min, List, [], ◌∷◌, length, slice_index_or}
+use Rattle.std.specs.Prelude.{List, [], length, min, slice_index_or, suc, zero, ℕ, ◌+◌, ◌<◌, ◌∷◌, ◌≡◌, ◌≤◌}
 use Rattle.cap_spec.specs.declared.Step.{Step}
-use Rattle.cap_spec.specs.declared.Step.TheVariants.{Ptr, Item}
+use Rattle.cap_spec.specs.declared.Step.TheVariants.{Item, Ptr}
 use Rattle.cap_vet.specs.declared.demands.Demands.{Demands}
 use Rattle.cap_calls.specs.CallFindings.{Returns, none_found}
 use Rattle.cap_calls.specs.CallFlags.{demands_of}

@@ -1,9 +1,8 @@
 -- How most nodes of a range are found: by their number alone, or by one pointer more (profile).
-use Rattle.std.specs.Prelude.{ℕ, ◌≡◌, ◌≤◌, ◌<◌, ◌∷◌, ◌++◌, List, [], length, slice_index_or, ⊤}
-use Rattle.cap_frame.specs.declared.segments.Segments as segments
+use Rattle.std.specs.Prelude.{List, [], length, slice_index_or, ℕ, ⊤, ◌++◌, ◌<◌, ◌∷◌, ◌≡◌, ◌≤◌}
 use Rattle.cap_spec.specs.declared.Step.{Step}
 use Rattle.cap_spec.specs.declared.Step.TheVariants.{Ptr}
-use Rattle.cap_vet.specs.PathWays.{LeadsToElements, IsStart, elements_message}
+use Rattle.cap_vet.specs.PathWays.{IsStart, LeadsToElements, elements_message}
 use Rattle.cap_vet.specs.declared.demands.Demands.{Demands}
 use Rattle.cap_vet.specs.declared.nodes.path_start.PathStart.{PathStart}
 use Rattle.cap_calls.specs.CallNodes.{none_node}
@@ -14,6 +13,7 @@ use Rattle.cap_calls.specs.declared.calls.get_range.Shortcut.{Shortcut}
 use Rattle.cap_calls.specs.declared.calls.get_range.Shortcut.TheVariants.{Elements, Pointers, Unknown}
 use Rattle.cap_calls.specs.declared.node.CallNode.{CallNode}
 use Rattle.cap_calls.specs.declared.step.CallStep.{CallStep}
+use Rattle.cap_frame.specs.declared.segments.Segments as segments
 
 -- After the first steps, the path that goes on with this step and these others has this node.
 abbrev pub HasNodeAfter : {M : Type 0} {g : segments.Ghosts M} → List (List ℕ) → PathStart M g → Step → List Step

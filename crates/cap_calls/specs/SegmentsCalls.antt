@@ -1,19 +1,19 @@
 -- What the call over separate segments returns and reports, from their bytes alone (profile; standard: Messages).
-use Rattle.std.specs.Prelude.{ℕ, ◌*◌, ◌≡◌, List, length, ⊤}
-use Rattle.cap_calls.specs.Slices.{AreSegments, TellsNoSegments, segments_in, words_in}
-use Rattle.cap_calls.specs.declared.slices.SlicesFault.{SlicesFault}
-use Rattle.cap_calls.specs.declared.slices.SlicesFault.TheVariants as fault
+use Rattle.std.specs.Prelude.{List, length, ℕ, ⊤, ◌*◌, ◌≡◌}
 use Rattle.cap_calls.specs.CallFindings.{Judges, Returns, framed_found, none_found}
 use Rattle.cap_calls.specs.CallFlags.{demands_of}
 use Rattle.cap_calls.specs.CallFrames.{AreLimits, HasFrame}
 use Rattle.cap_calls.specs.CallReports.{none_report}
 use Rattle.cap_calls.specs.Calls.{IsGood}
+use Rattle.cap_calls.specs.Slices.{AreSegments, TellsNoSegments, segments_in, words_in}
 use Rattle.cap_calls.specs.declared.answer.Answer.{Answer}
-use Rattle.cap_calls.specs.declared.answer.Answer.TheVariants as answer
 use Rattle.cap_calls.specs.declared.found.Found.{Found}
 use Rattle.cap_calls.specs.declared.front.NoFrame.TheVariants.{BadLimits}
 use Rattle.cap_calls.specs.declared.limits.CallLimits.{CallLimits}
 use Rattle.cap_calls.specs.declared.report.CallReport.{CallReport}
+use Rattle.cap_calls.specs.declared.slices.SlicesFault.{SlicesFault}
+use Rattle.cap_calls.specs.declared.slices.SlicesFault.TheVariants as fault
+use Rattle.cap_calls.specs.declared.answer.Answer.TheVariants as answer
 
 -- what is answered for segments that are no message
 abbrev pub segments_answer : SlicesFault → Answer

@@ -1,11 +1,9 @@
 -- Separate slices of bytes as the segments of a message (profile; standard: Messages, 64-bit Words).
-use Rattle.std.specs.Prelude.{ℕ, ◌%◌, ◌<◌, ◌≡◌, ◌≤◌, List, [], length, map, sum}
 use Rattle.std.specs.Borrow.{Bor}
-use Rattle.cap_spec.specs.Frames.{sizes_of}
-use Rattle.cap_spec.specs.Messages.{segment_of}
-use Rattle.cap_spec.specs.Plain.{capped, plain_words}
+use Rattle.std.specs.Prelude.{List, [], length, map, sum, ℕ, ◌%◌, ◌<◌, ◌≡◌, ◌≤◌}
+use Rattle.cap_spec.specs.Prelude.{sizes_of, segment_of, capped, plain_words}
 use Rattle.cap_calls.specs.declared.slices.SlicesFault.{SlicesFault}
-use Rattle.cap_calls.specs.declared.slices.SlicesFault.TheVariants.{NoSegments, TooManySegments, BadSegment, TooLarge}
+use Rattle.cap_calls.specs.declared.slices.SlicesFault.TheVariants.{BadSegment, NoSegments, TooLarge, TooManySegments}
 
 -- the bytes of each slice
 abbrev pub bytes_of : List (Bor (List ℕ)) → List (List ℕ)

@@ -1,19 +1,18 @@
 -- What the call that unpacks one message of a stream, a piece at a time, returns and writes
 -- (standard: Packing, Serialization Over a Stream; where each call stops is the profile's).
-use Rattle.std.specs.Prelude.{ℕ, ◌+◌, ◌*◌, ◌%◌, ◌<◌, ◌≡◌, ◌≢◌, ◌≤◌, ◌⊎◌, ◌==◌, if◌then◌else◌}
-use Rattle.std.specs.Prelude.{Err, List, [], ◌++◌, drop, length, slice_index, take}
+use Rattle.std.specs.Prelude.{Err, List, [], drop, if◌then◌else◌, length, slice_index, take, ℕ, ◌%◌, ◌*◌, ◌++◌, ◌+◌}
+use Rattle.std.specs.Prelude.{◌<◌, ◌==◌, ◌≡◌, ◌≢◌, ◌≤◌, ◌⊎◌}
 use Rattle.cap_spec.specs.Plain.{plain_text}
-use Rattle.cap_frame.specs.Framed.{TellsFront}
-use Rattle.cap_frame.specs.Fronts.{IsFront, TellsLarge, TellsMany}
+use Rattle.cap_frame.specs.Prelude.{TellsFront, IsFront, TellsLarge, TellsMany}
 use Rattle.cap_frame.specs.declared.fault.FrontFault.TheVariants.{Truncated}
 use Rattle.cap_calls.specs.CallFrames.{AreLimits}
 use Rattle.cap_calls.specs.CallReports.{none_report}
-use Rattle.cap_calls.specs.PackedStreams.{IsRunRest, GivesWords, head_length, words_to_come}
+use Rattle.cap_calls.specs.PackedStreams.{GivesWords, IsRunRest, head_length, words_to_come}
 use Rattle.cap_calls.specs.declared.answer.Answer.{Answer}
-use Rattle.cap_calls.specs.declared.answer.Answer.TheVariants as answer
 use Rattle.cap_calls.specs.declared.limits.CallLimits.{CallLimits}
 use Rattle.cap_calls.specs.declared.report.CallReport.{CallReport}
 use Rattle.cap_calls.specs.declared.unpacking.Unpacking.{Unpacking}
+use Rattle.cap_calls.specs.declared.answer.Answer.TheVariants as answer
 
 -- The bytes are none, or end inside a message within the limit. It has at least `wanted` bytes: those of its
 -- first word, of its table, or of its frame.

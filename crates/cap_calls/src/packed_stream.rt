@@ -1,8 +1,8 @@
 //! Words out of a packed stream, of which some bytes are there.
 
-ghost use Rattle.cap_calls.specs.PackedStreams.{WritesWords, IsRunRest, GivesWords, words_to_come};
+ghost use Rattle.cap_calls.specs.PackedStreams.{WritesWords, IsRunRest, words_to_come};
 ghost use Rattle.cap_calls.specs.UnpackingMessages.{bytes_needed};
-ghost use Rattle.std.specs.Prelude.{◌+◌, ◌<◌, ◌≡◌, ◌≢◌, ◌≤◌, [], ◌∷◌, IfNone, IfSome, drop, false, length, slice_index, true};
+ghost use Rattle.std.specs.Prelude.{◌+◌, ◌<◌, ◌≡◌, ◌≢◌, ◌≤◌, [], ◌∷◌, drop, false, length, true};
 
 use cap_pack::{front_head, head_len};
 use cap_words::bytes_of;

@@ -1,10 +1,8 @@
 -- What is there already after the words of a copy.
-use Rattle.std.proofs.Common.{ℕ, ◌%◌, ◌≡◌, ◌≤◌, ◌∙◌, List, [], ◌∷◌, ◌++◌, ap, ap₂, sym, arith, length, take, drop, append-nil, length-append}
-use Rattle.std.specs.List.{AllByRecursion}
-use Rattle.std.proofs.lemmas.List.{take-append-drop}
-use Rattle.cap_spec.specs.Plain.{plain_text, plain_words, word_bytes}
-use Rattle.cap_spec.specs.Words.{IsWord}
 use Rattle.cap_spec.proofs.Bytes.Plain.{plain_back}
+use Rattle.cap_spec.proofs.Prelude.{List, [], ap, append-nil, ap₂, arith, drop, length, length-append, sym, take}
+use Rattle.cap_spec.proofs.Prelude.{take-append-drop, ℕ, ◌%◌, ◌++◌, ◌∙◌, ◌∷◌, ◌≡◌, ◌≤◌, AllByRecursion, plain_text}
+use Rattle.cap_spec.proofs.Prelude.{plain_words, word_bytes, IsWord}
 use Rattle.cap_words.proofs.Filling.{plain_join}
 use Rattle.cap_canon.specs.Kept.{Kept}
 

@@ -1,18 +1,14 @@
 -- The message and the capacity decide what is told of a copy into capacity, and what it then holds.
-use Rattle.std.proofs.Common.{ℕ, ◌*◌, ◌≤◌, ◌≡◌, ◌∙◌, List, ◌++◌, Result, Ok, Err, ap, ap₂, sym, length, drop, arith}
-use Rattle.std.proofs.lemmas.List.{take_all}
-use Rattle.cap_spec.specs.Plain.{plain_text, plain_words}
-use Rattle.cap_spec.proofs.Canonical.Copies.{one_copy}
-use Rattle.cap_spec.proofs.Paths.Preorder.{one_first_cap}
+use Rattle.cap_spec.proofs.Lemmas.{words_exact, one_copy, one_first_cap}
+use Rattle.cap_spec.proofs.Prelude.{Err, List, Ok, Result, ap, ap₂, arith, drop, length, sym, take_all, ℕ, ◌*◌, ◌++◌}
+use Rattle.cap_spec.proofs.Prelude.{◌∙◌, ◌≡◌, ◌≤◌, plain_text, plain_words}
 use Rattle.cap_canon.specs.CopyRooms.{TellsRoom, has_capability, no_room, written}
-use Rattle.cap_canon.specs.FirstWords.{first_words}
-use Rattle.cap_spec.specs.declared.CanonFault.{CanonFault}
-use Rattle.cap_spec.specs.declared.CanonFault.TheVariants as canon
+use Rattle.cap_canon.specs.Prelude.{CanonFault, first_words}
 use Rattle.cap_canon.specs.declared.fault.RoomFault.{RoomFault}
 use Rattle.cap_canon.specs.declared.fault.RoomFault.TheVariants.{HasCapability, NoRoom}
 use Rattle.cap_canon.proofs.Copies.{cap_no_copy}
 use Rattle.cap_canon.proofs.FirstWords.{first_words_count}
-use Rattle.cap_spec.proofs.Bytes.Plain.{words_exact}
+use Rattle.cap_spec.specs.declared.CanonFault.TheVariants as canon
 
 -- one thing is told
 pub one_room : (m : List (List ℕ)) (old : List ℕ) (a b : Result ℕ RoomFault) (xs ys : List ℕ) → TellsRoom m old a xs → TellsRoom m old b ys

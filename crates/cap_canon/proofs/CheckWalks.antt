@@ -1,12 +1,7 @@
 -- A message that is compared with its copy, one object more.
-use Rattle.std.proofs.Common.{ℕ, ◌+◌, ◌≤◌, List, [], ◌∷◌, ◌++◌, length}
-use Rattle.cap_spec.specs.Messages.{segment_of}
-use Rattle.cap_spec.specs.Tree.{Tree}
-use Rattle.cap_spec.specs.Denoting.{Denotes}
-use Rattle.cap_spec.specs.Canonical.{trim}
 use Rattle.cap_spec.proofs.Canonical.TreeMeasures.{Fits}
-use Rattle.cap_canon.specs.Checked.{IsChecked}
-use Rattle.cap_canon.specs.Laying.{Due, IsPointed, OwnAt, own_size, below}
+use Rattle.cap_spec.proofs.Prelude.{List, [], length, ℕ, ◌++◌, ◌+◌, ◌∷◌, ◌≤◌, trim, Denotes, segment_of, Tree}
+use Rattle.cap_canon.specs.Prelude.{IsChecked, Due, IsPointed, OwnAt, below, own_size}
 use Rattle.cap_canon.proofs.LaidSteps.{object_laid}
 use Rattle.cap_canon.proofs.Walks.{root_fits, root_inside}
 use Rattle.cap_canon.proofs.Whole.{layout_laid}

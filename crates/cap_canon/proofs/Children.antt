@@ -1,14 +1,12 @@
 -- Which children are left, from the last one down.
-use Rattle.std.proofs.Common.{ℕ, zero, suc, ◌+◌, ◌-◌, ◌<◌, ◌≤◌, List, ◌≡◌, ◌⊎◌, inl, inr, max, ap, refl, sym, subst, ◌∙◌, arith, true, false, Some, Bool}
-use Rattle.std.specs.Prelude.{if◌then◌else◌, ◌==◌}
-use Rattle.std.proofs.lemmas.Bool.Decides.{eqb_tells}
-use Rattle.std.proofs.lemmas.Option.{same_Some}
-use Rattle.cap_spec.specs.Denoting.{Denotes, DenoteEach, places}
-use Rattle.cap_spec.specs.Tree.{Tree, Trees, none, more, tree_at, tree_count}
-use Rattle.cap_spec.specs.Canonical.{is_null, children_needed}
+use Rattle.cap_spec.specs.Denoting.{places}
+use Rattle.cap_spec.specs.Tree.{none}
+use Rattle.cap_spec.proofs.Lemmas.{children_needed_le, each_charged, length-places}
+use Rattle.cap_spec.proofs.Prelude.{Bool, List, Some, ap, arith, false, if◌then◌else◌, inl, inr, max, refl, subst, suc}
+use Rattle.cap_spec.proofs.Prelude.{sym, true, zero, ℕ, ◌+◌, ◌-◌, ◌<◌, ◌==◌, ◌∙◌, ◌≡◌, ◌≤◌, ◌⊎◌, eqb_tells, same_Some}
+use Rattle.cap_spec.proofs.Prelude.{children_needed, is_null, DenoteEach, Denotes, Tree, Trees, more, tree_at}
+use Rattle.cap_spec.proofs.Prelude.{tree_count}
 use Rattle.cap_spec.proofs.Trees.OneTree.{cons_parts}
-use Rattle.cap_spec.proofs.Trees.Charges.{each_charged, length-places}
-use Rattle.cap_spec.proofs.Canonical.TrimmedMeasures.{children_needed_le}
 use Rattle.cap_canon.proofs.Needed.{later_needed, later_zero}
 
 -- the first of several words in a row, and the others

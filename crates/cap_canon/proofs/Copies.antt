@@ -1,23 +1,12 @@
 -- The one canonical copy of an accepted message.
-use Rattle.std.proofs.Common.{ℕ, ◌+◌, ◌<◌, ◌≤◌, ◌^◌, List, ◌≡◌, ◌≢◌, ap, refl, sym, subst, ◌∙◌, arith, length, true, false, None, [], ◌∷◌}
-use Rattle.std.proofs.lemmas.Bool.{eqb-true, false≢true}
-use Rattle.cap_spec.specs.Lists.{IsOneOf}
-use Rattle.cap_spec.specs.Tree.{Tree, cap_count, has_cap}
-use Rattle.cap_spec.specs.Denoting.{Denotes}
-use Rattle.cap_spec.specs.Canonical.{layout, trim}
-use Rattle.cap_spec.specs.Following.{Leads, to_cap}
-use Rattle.cap_spec.specs.Paths.{IsFirstCap, Reaches}
-use Rattle.cap_spec.specs.declared.Step.{Step}
-use Rattle.cap_spec.proofs.Trees.OneTree.{one_tree}
-use Rattle.cap_spec.proofs.Paths.PathCounts.{caps_counted, first_cap}
-use Rattle.cap_spec.proofs.Canonical.Sizes.{layout_charged}
+use Rattle.cap_spec.proofs.Lemmas.{layout_charged, first_cap, one_tree}
+use Rattle.cap_spec.proofs.Paths.PathCounts.{caps_counted}
+use Rattle.cap_spec.proofs.Prelude.{Err, List, None, Result, [], ap, arith, eqb-true, false, length, refl, subst, sym}
+use Rattle.cap_spec.proofs.Prelude.{true, ℕ, ◌+◌, ◌<◌, ◌==◌, ◌^◌, ◌∙◌, ◌∷◌, ◌≡◌, ◌≢◌, ◌≤◌, false≢true, layout, trim}
+use Rattle.cap_spec.proofs.Prelude.{HasCopy, IsCanonical, Denotes, Leads, to_cap, IsOneOf, IsFirstCap, Reaches, Tree}
+use Rattle.cap_spec.proofs.Prelude.{cap_count, has_cap}
 use Rattle.cap_vet.specs.Reports.{IsFirstCapOf, IsReport}
-use Rattle.cap_vet.specs.declared.report.Report.{Report}
-use Rattle.std.proofs.Common.{Result, Err}
-use Rattle.cap_spec.specs.declared.CanonFault.{CanonFault}
-use Rattle.cap_canon.specs.Roots.{HasTree}
-use Rattle.cap_spec.specs.Copies.{HasCopy, IsCanonical}
-use Rattle.std.specs.Prelude.{◌==◌}
+use Rattle.cap_canon.specs.Prelude.{CanonFault, Step, Report, HasTree}
 
 -- a message with a capability has no copy
 pub cap_no_copy : (m : List (List ℕ)) (s w : ℕ) (words : List ℕ) → IsFirstCap m s w → HasCopy m words → ⊥

@@ -1,13 +1,9 @@
 -- A copy after one object more.
-use Rattle.std.proofs.Common.{ℕ, ◌+◌, ◌-◌, ◌<◌, List, [], ◌∷◌, ◌++◌, ◌≡◌, inl, ap, sym, subst, ◌∙◌, arith, length, get_or, length-append}
-use Rattle.std.proofs.Math.ListN.{set}
-use Rattle.std.proofs.lemmas.List.{length-set}
-use Rattle.std.proofs.lemmas.Option.{get_or_from_slice_get}
-use Rattle.cap_spec.specs.Tree.{Tree}
-use Rattle.cap_spec.specs.Canonical.{pointer_to}
-use Rattle.cap_canon.specs.Laying.{Due, IsPointed, OwnAt, own_size, below}
+use Rattle.cap_spec.proofs.Prelude.{List, [], ap, arith, get_or, inl, length, length-append, length-set, set, subst}
+use Rattle.cap_spec.proofs.Prelude.{sym, ℕ, ◌++◌, ◌+◌, ◌-◌, ◌<◌, ◌∙◌, ◌∷◌, ◌≡◌, get_or_from_slice_get, pointer_to, Tree}
 use Rattle.cap_canon.specs.Filling.{Agrees, OwnAppended}
-use Rattle.cap_canon.proofs.Agreeing.{agrees_set, agrees_append}
+use Rattle.cap_canon.specs.Laying.{Due, IsPointed, OwnAt, below, own_size}
+use Rattle.cap_canon.proofs.Agreeing.{agrees_append, agrees_set}
 use Rattle.cap_canon.proofs.Filling.{due_left, due_right}
 
 -- one object more: its pointer word was set, and its own words were appended

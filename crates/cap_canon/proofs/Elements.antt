@@ -1,15 +1,13 @@
 -- What is left of the elements of a list of structs.
-use Rattle.std.proofs.Common.{ℕ, zero, suc, ◌+◌, ◌-◌, ◌*◌, ◌<◌, ◌≤◌, List, ◌≡◌, max, ap, ap₂, refl, sym, subst, ◌∙◌, arith, take, drop}
-use Rattle.std.proofs.lemmas.List.{take-take}
-use Rattle.cap_spec.specs.Messages.{segment_of}
-use Rattle.cap_spec.specs.Denoting.{DenoteEach, AreElements, places, words_from}
-use Rattle.cap_spec.specs.Tree.{struct, Trees, none, more, tree_count}
-use Rattle.cap_spec.specs.Canonical.{data_needed, children_needed, take_trees, data_of, children_of, cut_elements, trim_all, trim_elements}
-use Rattle.cap_spec.proofs.Canonical.TrimmedMeasures.{tree_count-take_le}
-use Rattle.cap_spec.proofs.Canonical.TrimmedTrees.{tree_count-trim_all}
-use Rattle.cap_canon.specs.Objects.{AreLeft, AreElementsLeft}
-use Rattle.cap_canon.specs.Trimming.{most_data}
-use Rattle.cap_canon.proofs.Children.{row_parts, row_count, row_needed}
+use Rattle.cap_spec.specs.Denoting.{places}
+use Rattle.cap_spec.specs.Tree.{none}
+use Rattle.cap_spec.proofs.Lemmas.{tree_count-take_le, tree_count-trim_all}
+use Rattle.cap_spec.proofs.Prelude.{List, ap, ap₂, arith, drop, max, refl, subst, suc, sym, take, take-take, zero, ℕ}
+use Rattle.cap_spec.proofs.Prelude.{◌*◌, ◌+◌, ◌-◌, ◌<◌, ◌∙◌, ◌≡◌, ◌≤◌, children_needed, children_of, cut_elements}
+use Rattle.cap_spec.proofs.Prelude.{data_needed, data_of, take_trees, trim_all, trim_elements, AreElements, DenoteEach}
+use Rattle.cap_spec.proofs.Prelude.{words_from, segment_of, Trees, more, struct, tree_count}
+use Rattle.cap_canon.specs.Prelude.{AreElementsLeft, AreLeft, most_data}
+use Rattle.cap_canon.proofs.Children.{row_count, row_needed, row_parts}
 use Rattle.cap_canon.proofs.Needed.{most_on}
 
 -- the first of several elements, and the others

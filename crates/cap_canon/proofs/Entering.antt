@@ -1,25 +1,18 @@
 -- The pointer words of an object, and how many words it has of its own.
-use Rattle.std.proofs.Common.{ℕ, zero, suc, ◌+◌, ◌-◌, ◌*◌, ◌<◌, ◌≤◌, ◌^◌, ◌⊎◌, inl, inr, List, [], ◌∷◌, ◌++◌, ◌≡◌, ap}
-use Rattle.std.proofs.Common.{refl, sym, subst, ◌∙◌, arith, length, reverse, Option, None, Some}
-use Rattle.std.specs.Option.{IfSome, option_to_list}
-use Rattle.std.proofs.lemmas.List.{length-append, length-reverse}
-use Rattle.cap_spec.specs.Messages.{IsMessage}
-use Rattle.cap_spec.specs.Tree.{Tree, struct, Trees, none, more, tree_count}
-use Rattle.cap_spec.proofs.Bytes.Lists.{reverse-more}
-use Rattle.cap_spec.proofs.Frames.Messages.{short_segment}
-use Rattle.cap_spec.proofs.Trees.DenotedTrees.{range_length}
-use Rattle.cap_canon.specs.CopyRuns.{OptionFull, further_places, option_places, places_of, row_places}
-use Rattle.cap_canon.specs.Laying.{Due, AreBefore, below, element_slots, own_size, slots}
-use Rattle.cap_canon.specs.Objects.{AreLeft, AreElementsLeft, IsObject, IsStructObject, IsPointersObject, IsStructsObject}
-use Rattle.cap_canon.specs.StillToLay.{AreOwed, IsWalking, NextLeadsTo, Stacked, work_left}
-use Rattle.cap_canon.specs.declared.run.CopyRun.{CopyRun}
-use Rattle.cap_canon.specs.declared.run.PointerPlace.{PointerPlace}
-use Rattle.cap_canon.specs.declared.objects.Part.{Part}
-use Rattle.cap_canon.specs.declared.objects.Object.{Object}
-use Rattle.cap_canon.specs.declared.objects.Object.TheVariants as object
-use Rattle.cap_canon.proofs.Runs.{count_more}
+use Rattle.cap_spec.specs.Tree.{none}
+use Rattle.cap_spec.proofs.Lemmas.{reverse-more, short_segment, range_length}
+use Rattle.cap_spec.proofs.Prelude.{IfSome, List, None, Option, Some, [], ap, arith, inl, inr, length, length-append}
+use Rattle.cap_spec.proofs.Prelude.{option_to_list, refl, reverse, subst, suc, sym, zero, ℕ, ◌*◌, ◌++◌, ◌+◌, ◌-◌, ◌<◌}
+use Rattle.cap_spec.proofs.Prelude.{◌^◌, ◌∙◌, ◌∷◌, ◌≡◌, ◌≤◌, ◌⊎◌, length-reverse, IsMessage, Tree, Trees, more, struct}
+use Rattle.cap_spec.proofs.Prelude.{tree_count}
+use Rattle.cap_canon.specs.Objects.{IsPointersObject, IsStructObject, IsStructsObject}
+use Rattle.cap_canon.specs.Prelude.{OptionFull, further_places, option_places, places_of, row_places, AreBefore, Due}
+use Rattle.cap_canon.specs.Prelude.{below, element_slots, own_size, slots, AreElementsLeft, AreLeft, IsObject, AreOwed}
+use Rattle.cap_canon.specs.Prelude.{IsWalking, NextLeadsTo, Stacked, work_left, Object, Part, CopyRun, PointerPlace}
 use Rattle.cap_canon.proofs.Lengths.{size_below, size_due-append}
 use Rattle.cap_canon.proofs.Owing.{before_join, before_more, owed_count, stacked_more}
+use Rattle.cap_canon.proofs.Runs.{count_more}
+use Rattle.cap_canon.specs.declared.objects.Object.TheVariants as object
 
 -- the run of the pointers of structs in a row
 abbrev pub structs_run_of : Part → ℕ → ℕ → CopyRun

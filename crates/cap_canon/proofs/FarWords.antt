@@ -1,13 +1,10 @@
 -- No pointer word of a copy is far.
-use Rattle.std.proofs.Common.{ℕ, zero, suc, ◌+◌, ◌-◌, ◌*◌, ◌<◌, ◌^◌, ◌≡◌, ◌⊎◌, inl, inr, List, [], ◌∷◌, ◌++◌, length, refl, subst, ◌∙◌, arith, true, false, append_assoc}
-use Rattle.std.specs.Prelude.{◌==◌}
-use Rattle.std.proofs.lemmas.Bool.Decides.{eqb_tells}
-use Rattle.cap_spec.specs.Canonical.{pointer_to, size, struct_word}
-use Rattle.cap_spec.specs.Messages.{HasWord, segment_of}
-use Rattle.cap_spec.specs.Pointers.{kind}
-use Rattle.cap_spec.specs.Tree.{Tree, null, cap, struct, scalars, pointers, structs, Trees, none, more, tree_count}
-use Rattle.cap_spec.proofs.Canonical.TreeMeasures.{FitElements}
-use Rattle.cap_spec.proofs.Frames.Messages.{one_word}
+use Rattle.cap_spec.specs.Tree.{none}
+use Rattle.cap_spec.proofs.Lemmas.{FitElements, one_word}
+use Rattle.cap_spec.proofs.Prelude.{List, [], append_assoc, arith, false, inl, inr, length, refl, subst, suc, true}
+use Rattle.cap_spec.proofs.Prelude.{zero, ℕ, ◌*◌, ◌++◌, ◌+◌, ◌-◌, ◌<◌, ◌==◌, ◌^◌, ◌∙◌, ◌∷◌, ◌≡◌, ◌⊎◌, eqb_tells}
+use Rattle.cap_spec.proofs.Prelude.{pointer_to, size, struct_word, HasWord, segment_of, kind, Tree, Trees, cap, more}
+use Rattle.cap_spec.proofs.Prelude.{null, pointers, scalars, struct, structs, tree_count}
 use Rattle.cap_canon.specs.Laying.{Due, Laid, element_slots, slots}
 
 -- one that leads to a tree

@@ -1,23 +1,16 @@
 -- An object's own words, appended to a copy.
-use Rattle.std.proofs.Common.{ℕ, zero, suc, ◌+◌, ◌-◌, ◌*◌, ◌<◌, ◌≤◌, List, [], ◌∷◌, ◌++◌, ◌≡◌, ◌⊎◌, inl, inr, ap, refl}
-use Rattle.std.proofs.Common.{sym, subst, ◌∙◌, arith, length, get_or, append_assoc, length-append}
-use Rattle.std.specs.Prelude.{Some, slice_get}
-use Rattle.std.proofs.lemmas.List.{get_or_append_left, get_or-append_right}
-use Rattle.std.proofs.lemmas.Option.{slice_get_within}
-use Rattle.cap_spec.specs.Messages.{segment_of}
-use Rattle.cap_spec.specs.Tree.{Tree, struct, structs, Trees, none, more, tree_count}
-use Rattle.cap_spec.specs.Denoting.{words_from, value_at, values_of}
-use Rattle.cap_spec.specs.Pointers.{element_bits, list_words}
-use Rattle.std.proofs.lemmas.List.FromFn.{length-map-range_with_len}
-use Rattle.cap_spec.specs.Scalars.{scalar_words}
-use Rattle.cap_spec.specs.Canonical.{struct_word}
-use Rattle.cap_spec.specs.Placing.{HasWordsAt}
+use Rattle.cap_spec.specs.Tree.{none}
 use Rattle.cap_spec.proofs.Canonical.Placing.{stand_word}
-use Rattle.cap_spec.proofs.Trees.ReadingBack.{length-scalar_words}
-use Rattle.cap_spec.proofs.Trees.DenotedTrees.{range_length}
-use Rattle.cap_canon.specs.Laying.{Due, slots, element_slots, own_size, DataAt}
-use Rattle.cap_canon.specs.Filling.{IsDue, Fills, OwnAppended, elements_from, part_words, parts_words}
-use Rattle.cap_canon.specs.Objects.{AreElementsLeft, IsStructObject, IsScalarsObject, IsPointersObject, IsStructsObject}
+use Rattle.cap_spec.proofs.Lemmas.{range_length, length-scalar_words}
+use Rattle.cap_spec.proofs.Prelude.{List, Some, [], ap, append_assoc, arith, get_or, inl, inr, length, length-append}
+use Rattle.cap_spec.proofs.Prelude.{refl, slice_get, subst, suc, sym, zero, ℕ, ◌*◌, ◌++◌, ◌+◌, ◌-◌, ◌<◌, ◌∙◌, ◌∷◌, ◌≡◌}
+use Rattle.cap_spec.proofs.Prelude.{◌≤◌, ◌⊎◌, get_or-append_right, get_or_append_left, length-map-range_with_len}
+use Rattle.cap_spec.proofs.Prelude.{slice_get_within, struct_word, value_at, values_of, words_from, segment_of}
+use Rattle.cap_spec.proofs.Prelude.{HasWordsAt, element_bits, list_words, scalar_words, Tree, Trees, more, struct}
+use Rattle.cap_spec.proofs.Prelude.{structs, tree_count}
+use Rattle.cap_canon.specs.Filling.{Fills, IsDue, OwnAppended, elements_from, part_words, parts_words}
+use Rattle.cap_canon.specs.Laying.{DataAt, Due, element_slots, own_size, slots}
+use Rattle.cap_canon.specs.Objects.{AreElementsLeft, IsPointersObject, IsScalarsObject, IsStructObject, IsStructsObject}
 use Rattle.cap_canon.specs.declared.objects.Part.{Part}
 use Rattle.cap_canon.proofs.Ranges.{length-elements_from}
 

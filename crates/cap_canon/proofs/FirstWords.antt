@@ -1,16 +1,13 @@
 -- Words written as bytes over bytes that are there already.
-use Rattle.std.proofs.Common.{◌≡◌, ◌+◌, ◌*◌, ◌<◌, ◌≤◌, ◌∙◌, ℕ, zero, suc, List, [], ◌∷◌, ◌++◌, length, take, drop}
-use Rattle.std.proofs.Common.{get_or, set, drop-drop, refl, ap, ap₂, sym, arith, append_assoc, length-append}
-use Rattle.std.specs.List.{AllByRecursion}
-use Rattle.cap_spec.specs.Plain.{plain_text, plain_words, word_bytes}
-use Rattle.cap_spec.specs.Words.{IsWord}
-use Rattle.cap_spec.proofs.Bytes.Plain.{length_plain, plain_back, words_exact}
-use Rattle.std.proofs.lemmas.List.{length-take-le, take-append-drop, take-append-le, take_all}
-use Rattle.std.proofs.lemmas.Grind.{take-set_at}
 use Rattle.std.proofs.Math.Seq.{take-set-lt}
-use Rattle.cap_canon.specs.FirstWords.{first_words}
+use Rattle.cap_spec.proofs.Bytes.Plain.{length_plain, plain_back, words_exact}
+use Rattle.cap_spec.proofs.Prelude.{List, [], ap, append_assoc, ap₂, arith, drop, drop-drop, get_or, length}
+use Rattle.cap_spec.proofs.Prelude.{length-append, length-take-le, refl, set, suc, sym, take, take-append-drop}
+use Rattle.cap_spec.proofs.Prelude.{take_all, zero, ℕ, ◌*◌, ◌++◌, ◌+◌, ◌<◌, ◌∙◌, ◌∷◌, ◌≡◌, ◌≤◌, take-set_at}
+use Rattle.cap_spec.proofs.Prelude.{take-append-le, AllByRecursion, put_mid, plain_text, plain_words, word_bytes}
+use Rattle.cap_spec.proofs.Prelude.{IsWord}
 use Rattle.cap_words.proofs.Filling.{plain_join}
-use borrow.Rule.Slice.PartMut.{put_mid}
+use Rattle.cap_canon.specs.FirstWords.{first_words}
 
 -- the bytes of a word in place of those of word p
 words_set : (p : ℕ) (bytes : List ℕ) (w : ℕ) → IsWord w → 8 * p + 8 ≤ length bytes

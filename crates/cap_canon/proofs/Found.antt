@@ -1,30 +1,23 @@
 -- What a pointer word that denotes a tree finds, by the kind of object.
-use Rattle.std.proofs.Common.{ℕ, ◌+◌, ◌*◌, ◌<◌, ◌≤◌, List, ◌≡◌, max, ap, refl, sym, subst, ◌∙◌, arith, take}
-use Rattle.cap_spec.specs.Messages.{HasWord}
-use Rattle.cap_spec.specs.Pointers.{kind, middle, code, data_size, pointer_size, list_size, list_words}
-use Rattle.cap_spec.specs.Following.{TagFits}
-use Rattle.cap_spec.specs.Denoting.{Denotes, DenoteEach, AreElements, places, values_of, words_from}
-use Rattle.cap_spec.specs.Tree.{Tree, null, cap, struct, scalars, pointers, structs, Trees}
-use Rattle.cap_spec.specs.Canonical.{data_needed, children_needed, take_trees, data_of, children_of, cut_elements, trim, trim_all, trim_elements}
-use Rattle.cap_spec.proofs.Paths.Arrivals.{found_form}
-use Rattle.cap_spec.proofs.Trees.Charges.{extent_struct, extent_pointers, extent_structs}
-use Rattle.cap_spec.proofs.Trees.Finding.{SameObject, one_object}
-use Rattle.cap_spec.proofs.Canonical.TreeMeasures.{extent_scalars}
-use Rattle.cap_spec.proofs.Frames.Messages.{one_word}
-use Rattle.cap_spec.proofs.Trees.OneTree.{HasForm, elements_moved, number_struct, number_list}
-use Rattle.cap_spec.proofs.Paths.Depths.{elements_depth}
-use Rattle.cap_spec.proofs.Canonical.TrimmedMeasures.{children_needed_le, tree_count-cut, tree_count-take_le}
-use Rattle.cap_spec.proofs.Canonical.TrimmedTrees.{tree_count-trim_all}
+use Rattle.cap_spec.specs.Denoting.{places}
+use Rattle.cap_spec.proofs.Canonical.TrimmedMeasures.{tree_count-cut}
+use Rattle.cap_spec.proofs.Lemmas.{extent_scalars, children_needed_le, tree_count-take_le, tree_count-trim_all}
+use Rattle.cap_spec.proofs.Lemmas.{one_word, found_form, elements_depth, extent_pointers, extent_struct, extent_structs}
+use Rattle.cap_spec.proofs.Lemmas.{SameObject, one_object, HasForm, number_list, number_struct}
+use Rattle.cap_spec.proofs.Prelude.{List, ap, arith, max, refl, subst, sym, take, ℕ, ◌*◌, ◌+◌, ◌<◌, ◌∙◌, ◌≡◌, ◌≤◌}
+use Rattle.cap_spec.proofs.Prelude.{children_needed, children_of, cut_elements, data_needed, data_of, take_trees, trim}
+use Rattle.cap_spec.proofs.Prelude.{trim_all, trim_elements, AreElements, DenoteEach, Denotes, values_of, words_from}
+use Rattle.cap_spec.proofs.Prelude.{TagFits, HasWord, code, data_size, kind, list_size, list_words, middle}
+use Rattle.cap_spec.proofs.Prelude.{pointer_size, Tree, Trees, cap, null, pointers, scalars, struct, structs}
+use Rattle.cap_spec.proofs.Trees.OneTree.{elements_moved}
 use Rattle.cap_ptr.specs.Shapes.{FindsObject}
-use Rattle.cap_ptr.specs.declared.shapes.Shape.TheVariants as shape
-use Rattle.cap_canon.specs.Found.{IsStructAt, IsStructsAt}
-use Rattle.cap_canon.specs.Objects.{IsObject}
-use Rattle.cap_canon.specs.Trimming.{most_data}
-use Rattle.cap_canon.specs.declared.objects.Object.TheVariants as object
-use Rattle.cap_canon.specs.declared.objects.Part.{Part}
+use Rattle.cap_canon.specs.Found.{IsStructsAt}
+use Rattle.cap_canon.specs.Prelude.{IsStructAt, IsObject, most_data, Part}
 use Rattle.cap_canon.proofs.Children.{row_count}
 use Rattle.cap_canon.proofs.Elements.{elements_left, left_take, most_data_of, row_left, words_left}
 use Rattle.cap_canon.proofs.Trimmed.{children_needed-trim, children_of-trim, data_of-trim, tree_count-trim_elements}
+use Rattle.cap_ptr.specs.declared.shapes.Shape.TheVariants as shape
+use Rattle.cap_canon.specs.declared.objects.Object.TheVariants as object
 
 -- a struct
 pub struct_found : (m : List (List ℕ)) (s w : ℕ) (x : Tree) (c d : ℕ) {k t b q tag n charge ds ps : ℕ} → Denotes m s w x c d

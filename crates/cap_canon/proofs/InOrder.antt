@@ -1,67 +1,50 @@
 -- A message is compared with its copy while it is vetted, one object more.
-use Rattle.std.proofs.Common.{ℕ, zero, suc, ◌+◌, ◌-◌, ◌*◌, ◌<◌, ◌≤◌, ◌^◌, ◌≡◌, ◌≢◌, ◌↔◌, ◌⊎◌, Bool, List, [], ◌∷◌, ◌++◌, length, max, false, true, inl, inr, None}
-use Rattle.std.proofs.Common.{ap, ap₂, refl, sym, subst, ◌∙◌, arith, pos}
-use Rattle.std.specs.Prelude.{if◌then◌else◌, ◌==◌, not}
-use Rattle.std.proofs.lemmas.Bool.{ne_eqb}
-use Rattle.std.proofs.lemmas.Bool.Decides.{eqb_tells}
-use Rattle.cap_spec.specs.Canonical.{children_needed, children_of, data_needed, layout, list_word, pointer_to}
-use Rattle.cap_spec.specs.Canonical.{struct_word, trim}
-use Rattle.cap_spec.specs.Copies.{IsCanonical}
-use Rattle.cap_spec.specs.Denoting.{AreElements, DenoteEach, Denotes, Finds, element_levels, places, value_at, values_of, words_from}
-use Rattle.cap_spec.specs.Following.{IsComposite, Lead, Leads, Says, extra, near, one_pad, to_cap, to_null, to_object, two_pads}
-use Rattle.cap_spec.specs.Messages.{HasWord, segment_of}
-use Rattle.cap_spec.specs.Paths.{Costs, Reaches}
-use Rattle.cap_spec.specs.Placing.{HasWordsAt}
-use Rattle.cap_spec.specs.Pointers.{code, data_size, element_bits, extent, kind, list_size, list_words, middle, pointer_size}
-use Rattle.cap_spec.specs.Scalars.{scalar_words}
-use Rattle.cap_spec.specs.Strict.{IsStrict}
-use Rattle.cap_spec.specs.Tree.{Tree, struct, Trees, none, more, has_cap, tree_count}
-use Rattle.cap_spec.specs.declared.Step.{Step}
-use Rattle.cap_spec.specs.declared.Step.TheVariants.{Ptr, Item}
-use Rattle.std.proofs.lemmas.List.FromFn.{length-map-range_with_len}
-use Rattle.cap_spec.proofs.Strict.Looking.{near_has_none}
-use Rattle.cap_spec.proofs.Pointers.Following.{one_lead}
-use Rattle.cap_spec.proofs.Trees.Charges.{extent_pointers, extent_struct, extent_structs, extra_same, one_cost}
-use Rattle.cap_spec.proofs.Trees.Finding.{object_parts}
-use Rattle.cap_spec.proofs.Canonical.TreeMeasures.{extent_scalars}
-use Rattle.cap_spec.proofs.Trees.DenotedTrees.{range_length}
-use Rattle.cap_spec.proofs.Trees.OneTree.{one_tree}
+use Rattle.cap_spec.specs.Denoting.{places}
+use Rattle.cap_spec.specs.Tree.{none}
+use Rattle.cap_spec.specs.declared.Step.TheVariants.{Item, Ptr}
+use Rattle.cap_spec.proofs.Lemmas.{extent_scalars, one_word, one_lead, near_has_none, extent_pointers, extent_struct}
+use Rattle.cap_spec.proofs.Lemmas.{extent_structs, extra_same, range_length, object_parts, one_tree}
+use Rattle.cap_spec.proofs.Prelude.{Bool, List, None, [], ap, ap₂, arith, false, if◌then◌else◌, inl, inr, length, max}
+use Rattle.cap_spec.proofs.Prelude.{ne_eqb, not, pos, refl, subst, suc, sym, true, zero, ℕ, ◌*◌, ◌++◌, ◌+◌, ◌-◌, ◌<◌}
+use Rattle.cap_spec.proofs.Prelude.{◌==◌, ◌^◌, ◌↔◌, ◌∙◌, ◌∷◌, ◌≡◌, ◌≢◌, ◌≤◌, ◌⊎◌, eqb_tells, length-map-range_with_len}
+use Rattle.cap_spec.proofs.Prelude.{children_needed, children_of, data_needed, layout, list_word, pointer_to}
+use Rattle.cap_spec.proofs.Prelude.{struct_word, trim, IsCanonical, AreElements, DenoteEach, Denotes, Finds}
+use Rattle.cap_spec.proofs.Prelude.{element_levels, value_at, values_of, words_from, IsComposite, Lead, Leads, Says}
+use Rattle.cap_spec.proofs.Prelude.{extra, near, one_pad, to_cap, to_null, to_object, two_pads, HasWord, segment_of}
+use Rattle.cap_spec.proofs.Prelude.{Costs, Reaches, HasWordsAt, code, data_size, element_bits, extent, kind, list_size}
+use Rattle.cap_spec.proofs.Prelude.{list_words, middle, pointer_size, scalar_words, IsStrict, Tree, Trees, has_cap}
+use Rattle.cap_spec.proofs.Prelude.{more, struct, tree_count}
+use Rattle.cap_spec.proofs.Trees.Charges.{one_cost}
 use Rattle.cap_ptr.specs.Rows.{HasPointers}
 use Rattle.cap_ptr.specs.Shapes.{FindsObject, IsShape}
 use Rattle.cap_ptr.specs.declared.shapes.Shape.{Shape}
-use Rattle.cap_ptr.specs.declared.shapes.Shape.TheVariants as shape
 use Rattle.cap_ptr.proofs.NearObjects.{pointers-no_extra, pointers-plain}
-use Rattle.cap_vet.specs.Looking.{IsNotLax, object_children}
-use Rattle.cap_spec.proofs.Frames.Messages.{one_word}
-use Rattle.cap_vet.specs.Reports.{IsAccepted, IsReport}
-use Rattle.cap_vet.specs.Stricts.{KnowsLax}
-use Rattle.cap_vet.specs.Trails.{Ahead, IsTrail, element_rows, row}
-use Rattle.cap_vet.specs.Walking.{IsLookedAt}
-use Rattle.cap_vet.specs.declared.report.Report.{Report}
+use Rattle.cap_vet.specs.Prelude.{IsNotLax, object_children, IsAccepted, IsReport, KnowsLax, Ahead, IsTrail}
+use Rattle.cap_vet.specs.Prelude.{element_rows, row, IsLookedAt}
 use Rattle.cap_vet.proofs.Laxness.{knows_on, within_of}
 use Rattle.cap_vet.proofs.OneTrail.{object_trail, one_trail, root_trail}
-use Rattle.cap_canon.specs.Checked.{IsChecked}
-use Rattle.cap_canon.specs.InOrder.{AreDue, Differs, HasDiffered, HasNoWords, HasOwn, IsAsInCopy, IsCompared, IsInOrder, IsLaidSoFar, IsNextInOrder, IsNotCanonical, IsOwn}
-use Rattle.cap_canon.specs.InOrder.{LeadsToEnd, MayStand, NoCopyHas}
+use Rattle.cap_canon.specs.InOrder.{AreDue, HasDiffered, HasOwn, IsAsInCopy, IsCompared, IsInOrder, IsLaidSoFar}
+use Rattle.cap_canon.specs.InOrder.{IsNextInOrder, IsOwn, LeadsToEnd, MayStand}
 use Rattle.cap_canon.specs.NullsInOrder.{null_compared}
-use Rattle.cap_canon.specs.Laying.{AreBefore, Due, IsPointed, Laid, OwnAt, below, element_slots, own_size, slots}
-use Rattle.cap_canon.specs.Objects.{AreElementsLeft, AreLeft, IsLeft, IsObject}
-use Rattle.cap_canon.specs.Roots.{ForTrimmed}
-use Rattle.cap_canon.specs.StillToLay.{longest_copy}
-use Rattle.cap_canon.specs.Trimming.{NeedsAll, NeedsLess, most_data}
-use Rattle.cap_canon.specs.declared.objects.Object.{Object}
-use Rattle.cap_canon.specs.declared.objects.Object.TheVariants as object
-use Rattle.cap_canon.specs.declared.objects.Part.{Part}
+use Rattle.cap_canon.specs.Objects.{IsLeft}
+use Rattle.cap_canon.specs.Prelude.{Step, Report, IsChecked, Differs, HasNoWords, IsNotCanonical, NoCopyHas, AreBefore}
+use Rattle.cap_canon.specs.Prelude.{Due, IsPointed, Laid, OwnAt, below, element_slots, own_size, slots, AreElementsLeft}
+use Rattle.cap_canon.specs.Prelude.{AreLeft, IsObject, ForTrimmed, longest_copy, NeedsLess, most_data, Object, Part}
+use Rattle.cap_canon.specs.Trimming.{NeedsAll}
 use Rattle.cap_canon.proofs.CheckWalks.{check_first, check_on}
 use Rattle.cap_canon.proofs.Copies.{copy_charged, no_cap_reached}
 use Rattle.cap_canon.proofs.Entering.{below_before}
-use Rattle.cap_canon.proofs.Found.{pointers_object, scalars_object, struct_found, struct_object, structs_found, structs_object}
+use Rattle.cap_canon.proofs.Found.{pointers_object, scalars_object, struct_found, struct_object, structs_found}
+use Rattle.cap_canon.proofs.Found.{structs_object}
 use Rattle.cap_canon.proofs.InPlace.{near_lead}
 use Rattle.cap_canon.proofs.LaidSteps.{object_laid}
 use Rattle.cap_canon.proofs.NoCopies.{no_struct}
 use Rattle.cap_canon.proofs.Owing.{before_join, before_more}
-use Rattle.cap_canon.proofs.Standing.{list_place, pointers_place, scalars_place, struct_place, structs_place, structs_stand}
+use Rattle.cap_canon.proofs.Standing.{list_place, pointers_place, scalars_place, struct_place, structs_place}
+use Rattle.cap_canon.proofs.Standing.{structs_stand}
 use Rattle.cap_canon.proofs.Walks.{owed_fits}
+use Rattle.cap_ptr.specs.declared.shapes.Shape.TheVariants as shape
+use Rattle.cap_canon.specs.declared.objects.Object.TheVariants as object
 
 -- words ahead that are due, one behind the other
 due_join : (m : List (List ℕ)) (xs ys : List Ahead) (ds es : List Due) → AreDue m xs ds → AreDue m ys es → AreDue m (xs ++ ys) (ds ++ es)

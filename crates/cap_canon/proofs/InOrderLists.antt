@@ -1,22 +1,18 @@
 -- A list of structs, whose word leads to the end, that is as a copy has it, or not.
-use Rattle.std.proofs.Common.{ℕ, ◌+◌, ◌-◌, ◌*◌, ◌<◌, ◌≤◌, ◌^◌, ◌≡◌, ◌≢◌, ◌⊎◌, inl, inr, List, length, pos, ap, sym, subst, refl, ◌∙◌, arith, true, false}
-use Rattle.std.specs.Prelude.{if◌then◌else◌, ◌==◌}
-use Rattle.std.proofs.lemmas.Bool.Decides.{eqb_tells}
-use Rattle.cap_spec.specs.Canonical.{list_word, struct_word}
-use Rattle.cap_spec.specs.Messages.{HasWord, segment_of}
-use Rattle.cap_spec.specs.Pointers.{code, data_size, kind, list_size, middle, pointer_size}
-use Rattle.cap_spec.proofs.Canonical.PointerFields.{start_after}
-use Rattle.cap_spec.proofs.Frames.Messages.{HasWord-segment, one_word}
-use Rattle.cap_spec.proofs.Trees.Charges.{extent_structs}
+use Rattle.cap_spec.proofs.Lemmas.{start_after, HasWord-segment, one_word, extent_structs}
+use Rattle.cap_spec.proofs.Prelude.{List, ap, arith, false, if◌then◌else◌, inl, inr, length, pos, refl, subst, sym}
+use Rattle.cap_spec.proofs.Prelude.{true, ℕ, ◌*◌, ◌+◌, ◌-◌, ◌<◌, ◌==◌, ◌^◌, ◌∙◌, ◌≡◌, ◌≢◌, ◌≤◌, ◌⊎◌, eqb_tells}
+use Rattle.cap_spec.proofs.Prelude.{list_word, struct_word, HasWord, segment_of, code, data_size, kind, list_size}
+use Rattle.cap_spec.proofs.Prelude.{middle, pointer_size}
 use Rattle.cap_ptr.specs.Reaching.{LeadsTo}
 use Rattle.cap_ptr.specs.Shapes.{FindsObject}
-use Rattle.cap_ptr.specs.declared.shapes.Shape.TheVariants as shape
 use Rattle.cap_ptr.proofs.Objects.{found-structs}
 use Rattle.cap_ptr.proofs.Pads.{object-lead, stands-near}
 use Rattle.cap_canon.specs.InOrder.{HasOwn, IsNextInOrder, LeadsToEnd, MayStand, NoCopyHas}
 use Rattle.cap_canon.specs.Trimming.{ListNeedsAll, ListNeedsLess}
 use Rattle.cap_canon.proofs.InOrder.{list_by_fields, struct_by_fields, structs_own, structs_there}
 use Rattle.cap_canon.proofs.NoCopies.{no_structs, no_surplus}
+use Rattle.cap_ptr.specs.declared.shapes.Shape.TheVariants as shape
 
 -- a near word leads to the end
 pub leads_to_end : (m : List (List ℕ)) (w end word : ℕ) → MayStand m w end → HasWord m 0 w word → kind word ≡ 1 → w + 1 + middle word ≡ end

@@ -1,16 +1,14 @@
 -- One object more of a layout.
-use Rattle.std.proofs.Common.{ℕ, ◌+◌, ◌*◌, List, ◌∷◌, ◌++◌, ◌≡◌, ◌↔◌, ap, refl, sym, subst, arith, length}
-use Rattle.std.proofs.lemmas.List.{append_assoc}
-use Rattle.std.specs.Prelude.{Some, slice_get}
-use Rattle.cap_spec.specs.Tree.{Tree, null, cap, struct, scalars, pointers, structs, Trees, none, more, tree_count}
-use Rattle.cap_spec.specs.Canonical.{struct_word, size, sizes, element_sizes, contents, element_contents, pointer_words, element_words}
-use Rattle.cap_spec.specs.Placing.{HasWordsAt}
+use Rattle.cap_spec.specs.Tree.{none}
 use Rattle.cap_spec.proofs.Canonical.ElementPlaces.{children_begin, element_end, rest_begin}
-use Rattle.cap_spec.proofs.Canonical.Placing.{stand_front, stand_back}
-use Rattle.cap_spec.proofs.Canonical.TreeMeasures.{Fits, FitElements}
-use Rattle.cap_spec.proofs.Canonical.Sizes.{length-contents, length-pointer_words, length-element_words}
-use Rattle.cap_canon.specs.Laying.{Due, Laid, IsPointed, OwnAt, slots, element_slots, DataAt, own_size, below}
-use Rattle.cap_canon.proofs.Laying.{stand_join, laid_inside, row_due, due_row}
+use Rattle.cap_spec.proofs.Canonical.Sizes.{length-contents, length-element_words, length-pointer_words}
+use Rattle.cap_spec.proofs.Lemmas.{stand_back, stand_front, FitElements, Fits}
+use Rattle.cap_spec.proofs.Prelude.{List, Some, ap, append_assoc, arith, length, refl, slice_get, subst, sym, ℕ, ◌*◌}
+use Rattle.cap_spec.proofs.Prelude.{◌++◌, ◌+◌, ◌↔◌, ◌∷◌, ◌≡◌, contents, element_contents, element_sizes, element_words}
+use Rattle.cap_spec.proofs.Prelude.{pointer_words, size, sizes, struct_word, HasWordsAt, Tree, Trees, cap, more, null}
+use Rattle.cap_spec.proofs.Prelude.{pointers, scalars, struct, structs, tree_count}
+use Rattle.cap_canon.specs.Laying.{DataAt, Due, IsPointed, Laid, OwnAt, below, element_slots, own_size, slots}
+use Rattle.cap_canon.proofs.Laying.{due_row, laid_inside, row_due, stand_join}
 
 -- elements in a row, and the contents behind them
 pub elements_due : (words : List ℕ) (d p b c after : ℕ) (es : Trees) (due : List Due) → c ≡ b + tree_count es * (d + p) + after → FitElements d p es

@@ -1,13 +1,11 @@
 -- The words of a layout, seen from the pointer words that lead to what isn't laid yet.
-use Rattle.std.proofs.Common.{ℕ, ◌+◌, ◌≤◌, List, [], ◌∷◌, ◌++◌, ◌≡◌, ap, sym, subst, arith, length}
-use Rattle.std.specs.Prelude.{Some, slice_get}
-use Rattle.cap_spec.specs.Tree.{Trees, none, more, tree_count}
-use Rattle.cap_spec.specs.Canonical.{pointer_to, size, sizes, content, contents, pointer_words}
-use Rattle.cap_canon.specs.Laying.{Due, Laid, slots}
+use Rattle.std.proofs.Common.{List, Some, [], ap, arith, length, slice_get, subst, sym, ℕ, ◌++◌, ◌+◌, ◌∷◌, ◌≡◌, ◌≤◌}
+use Rattle.cap_spec.specs.Canonical.{content, contents, pointer_to, pointer_words, size, sizes}
 use Rattle.cap_spec.specs.Placing.{HasWordsAt}
-use Rattle.cap_spec.proofs.Canonical.Placing.{stand_front, stand_back, stand_inside}
+use Rattle.cap_spec.specs.Tree.{Trees, more, none, tree_count}
 use Rattle.cap_spec.proofs.Canonical.TreeMeasures.{FitEach}
-use Rattle.cap_spec.proofs.Canonical.Sizes.{length-content}
+use Rattle.cap_spec.proofs.Lemmas.{stand_back, stand_front, stand_inside, length-content}
+use Rattle.cap_canon.specs.Laying.{Due, Laid, slots}
 
 -- parts that stand one behind the other stand joined
 pub stand_join : (words : List ℕ) (b c : ℕ) (xs ys : List ℕ) → c ≡ b + length xs → HasWordsAt words b xs → HasWordsAt words c ys → HasWordsAt words b (xs ++ ys)

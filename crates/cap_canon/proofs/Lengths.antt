@@ -1,8 +1,8 @@
 -- How many words are due.
-use Rattle.std.proofs.Common.{ℕ, ◌+◌, ◌*◌, ◌≤◌, List, [], ◌∷◌, ◌++◌, ◌≡◌, ap, refl, arith, length}
-use Rattle.cap_spec.specs.Tree.{Tree, null, cap, struct, scalars, pointers, structs, Trees, none, more, tree_count}
-use Rattle.cap_spec.specs.Canonical.{size, sizes, element_sizes}
-use Rattle.cap_canon.specs.Laying.{Due, slots, element_slots, own_size, below, size_due}
+use Rattle.std.proofs.Common.{List, [], ap, arith, length, refl, ℕ, ◌*◌, ◌++◌, ◌+◌, ◌∷◌, ◌≡◌, ◌≤◌}
+use Rattle.cap_spec.specs.Canonical.{element_sizes, size, sizes}
+use Rattle.cap_spec.specs.Tree.{Tree, Trees, cap, more, none, null, pointers, scalars, struct, structs, tree_count}
+use Rattle.cap_canon.specs.Laying.{Due, below, element_slots, own_size, size_due, slots}
 
 pub size_due-append : (xs ys : List Due) → size_due (xs ++ ys) ≡ size_due xs + size_due ys
 size_due-append [] ys = omega arith

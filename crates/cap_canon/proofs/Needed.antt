@@ -1,15 +1,9 @@
 -- How many data words are needed, from the last one down.
-use Rattle.std.proofs.Common.{ℕ, zero, suc, ◌+◌, ◌-◌, ◌*◌, ◌<◌, ◌≤◌, ◌≢◌, List, [], ◌∷◌, ◌≡◌, max, ap, refl, sym, ◌∙◌}
-use Rattle.std.proofs.Common.{arith, length, take, drop, get_or, inl, inr, ◌⊎◌, true, false}
-use Rattle.std.specs.Prelude.{if◌then◌else◌, ◌==◌}
-use Rattle.std.proofs.lemmas.List.{get_or-take, get_or-drop}
-use Rattle.std.proofs.lemmas.Option.{get_or_from_slice_get}
-use Rattle.std.proofs.lemmas.Bool.Decides.{eqb_tells}
-use Rattle.cap_spec.specs.Canonical.{data_needed}
-use Rattle.cap_spec.specs.Denoting.{words_from}
-use Rattle.cap_spec.specs.Messages.{HasWord, segment_of}
-use Rattle.cap_spec.proofs.Canonical.TrimmedMeasures.{data_needed_le}
-use Rattle.cap_spec.proofs.Trees.DenotedTrees.{range_length}
+use Rattle.cap_spec.proofs.Lemmas.{data_needed_le, range_length}
+use Rattle.cap_spec.proofs.Prelude.{List, [], ap, arith, drop, false, get_or, get_or-drop, get_or-take, if◌then◌else◌}
+use Rattle.cap_spec.proofs.Prelude.{inl, inr, length, max, refl, suc, sym, take, true, zero, ℕ, ◌*◌, ◌+◌, ◌-◌, ◌<◌}
+use Rattle.cap_spec.proofs.Prelude.{◌==◌, ◌∙◌, ◌∷◌, ◌≡◌, ◌≢◌, ◌≤◌, ◌⊎◌, eqb_tells, get_or_from_slice_get, data_needed}
+use Rattle.cap_spec.proofs.Prelude.{words_from, HasWord, segment_of}
 use Rattle.cap_canon.specs.Trimming.{most_data}
 
 -- a word that isn't zero is needed

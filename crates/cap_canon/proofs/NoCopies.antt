@@ -1,25 +1,18 @@
 -- Pointer words and objects that no copy has as they are.
-use Rattle.std.proofs.Common.{ℕ, ◌+◌, ◌-◌, ◌*◌, ◌<◌, ◌≤◌, ◌^◌, ◌≡◌, ◌≢◌, ◌⊎◌, ◌++◌, inl, inr, List, length, take, ap, ap₂, sym, subst, refl, ◌∙◌, arith, true, false}
-use Rattle.std.specs.Prelude.{◌==◌}
-use Rattle.std.proofs.lemmas.Bool.Decides.{eqb_tells}
-use Rattle.std.proofs.lemmas.List.{length-take-le}
-use Rattle.cap_spec.specs.Canonical.{children_needed, children_of, cut_elements, data_needed, data_of, pointer_to, struct_word, take_trees, trim, trim_all}
-use Rattle.cap_spec.specs.Canonical.{trim_elements}
-use Rattle.cap_spec.specs.Denoting.{AreElements, DenoteEach, Denotes, places, words_from}
-use Rattle.cap_spec.specs.Messages.{HasWord, segment_of}
-use Rattle.cap_spec.specs.Pointers.{code, data_size, kind, list_size, middle, pointer_size}
-use Rattle.cap_spec.specs.Tree.{Tree, null, cap, struct, scalars, pointers, structs, Trees, tree_count}
-use Rattle.cap_spec.proofs.Canonical.PointerFields.{StructFields, list_fields, struct_fields}
-use Rattle.cap_spec.proofs.Canonical.TreeMeasures.{Fits}
-use Rattle.cap_spec.proofs.Canonical.TrimmedMeasures.{children_needed_le, data_needed_le, tree_count-take_le}
-use Rattle.cap_spec.proofs.Frames.Messages.{one_word}
-use Rattle.cap_spec.proofs.Trees.DenotedTrees.{range_length}
+use Rattle.cap_spec.specs.Denoting.{places}
+use Rattle.cap_spec.proofs.Lemmas.{StructFields, list_fields, struct_fields, Fits, children_needed_le, data_needed_le}
+use Rattle.cap_spec.proofs.Lemmas.{tree_count-take_le, one_word, range_length}
+use Rattle.cap_spec.proofs.Prelude.{List, ap, ap₂, arith, false, inl, inr, length, length-take-le, refl, subst, sym}
+use Rattle.cap_spec.proofs.Prelude.{take, true, ℕ, ◌*◌, ◌++◌, ◌+◌, ◌-◌, ◌<◌, ◌==◌, ◌^◌, ◌∙◌, ◌≡◌, ◌≢◌, ◌≤◌, ◌⊎◌}
+use Rattle.cap_spec.proofs.Prelude.{eqb_tells, children_needed, children_of, cut_elements, data_needed, data_of}
+use Rattle.cap_spec.proofs.Prelude.{pointer_to, struct_word, take_trees, trim, trim_all, trim_elements, AreElements}
+use Rattle.cap_spec.proofs.Prelude.{DenoteEach, Denotes, words_from, HasWord, segment_of, code, data_size, kind}
+use Rattle.cap_spec.proofs.Prelude.{list_size, middle, pointer_size, Tree, Trees, cap, null, pointers, scalars, struct}
+use Rattle.cap_spec.proofs.Prelude.{structs, tree_count}
 use Rattle.cap_ptr.specs.Shapes.{FindsObject}
-use Rattle.cap_ptr.specs.declared.shapes.Shape.TheVariants as shape
-use Rattle.cap_canon.specs.Found.{IsStructAt}
-use Rattle.cap_canon.specs.InOrder.{Differs, HasNoWords, NoCopyHas}
-use Rattle.cap_canon.specs.Laying.{IsPointed, Laid, OwnAt, below, own_size}
-use Rattle.cap_canon.specs.Trimming.{ListNeedsLess, NeedsLess, most_data}
+use Rattle.cap_canon.specs.Prelude.{IsStructAt, Differs, HasNoWords, NoCopyHas, IsPointed, Laid, OwnAt, below, own_size}
+use Rattle.cap_canon.specs.Prelude.{NeedsLess, most_data}
+use Rattle.cap_canon.specs.Trimming.{ListNeedsLess}
 use Rattle.cap_canon.proofs.Children.{row_needed}
 use Rattle.cap_canon.proofs.Elements.{most_data_of}
 use Rattle.cap_canon.proofs.FarWords.{elements_near, row_near}
@@ -27,6 +20,7 @@ use Rattle.cap_canon.proofs.Found.{struct_found, structs_found}
 use Rattle.cap_canon.proofs.Standing.{pointed_word}
 use Rattle.cap_canon.proofs.Trimmed.{children_needed-trim, children_of-trim, data_of-trim}
 use Rattle.cap_canon.proofs.Walks.{owed_fits}
+use Rattle.cap_ptr.specs.declared.shapes.Shape.TheVariants as shape
 
 -- What a pointer word of a copy is: null, a capability, that of a struct without words, or it has the offset, and words if it
 -- is a struct's.

@@ -1,15 +1,9 @@
 -- A struct without words, and a list without bits, that are as a copy has them.
-use Rattle.std.proofs.Common.{ℕ, ◌+◌, ◌-◌, ◌<◌, ◌^◌, ◌≡◌, List, ap, sym, subst, refl, ◌∙◌, arith}
-use Rattle.cap_spec.specs.Canonical.{list_word}
-use Rattle.cap_spec.specs.Denoting.{Finds}
-use Rattle.cap_spec.specs.Following.{extra, near}
-use Rattle.cap_spec.specs.Messages.{HasWord}
-use Rattle.cap_spec.specs.Pointers.{code, extent, kind, list_size, middle}
 use Rattle.cap_spec.proofs.Canonical.PointerFields.{start_before}
-use Rattle.cap_spec.proofs.Canonical.TreeMeasures.{extent_scalars}
-use Rattle.cap_spec.proofs.Frames.Messages.{HasWord-segment}
+use Rattle.cap_spec.proofs.Lemmas.{extent_scalars, HasWord-segment}
+use Rattle.cap_spec.proofs.Prelude.{List, ap, arith, refl, subst, sym, ℕ, ◌+◌, ◌-◌, ◌<◌, ◌^◌, ◌∙◌, ◌≡◌, list_word}
+use Rattle.cap_spec.proofs.Prelude.{Finds, extra, near, HasWord, code, extent, kind, list_size, middle}
 use Rattle.cap_ptr.specs.Shapes.{FindsObject}
-use Rattle.cap_ptr.specs.declared.shapes.Shape.TheVariants as shape
 use Rattle.cap_ptr.proofs.Objects.{found-plain}
 use Rattle.cap_canon.specs.InOrder.{HasOwn, IsNextInOrder, MayStand}
 use Rattle.cap_canon.proofs.InOrder.{list_by_fields, struct_own, values_own}
@@ -17,6 +11,7 @@ use Rattle.cap_canon.proofs.InOrderLists.{leads_to_end}
 use Rattle.cap_canon.proofs.Needed.{range_needed}
 use Rattle.cap_canon.proofs.Rests.{values_full}
 use Rattle.cap_canon.proofs.WholeObjects.{row_empty}
+use Rattle.cap_ptr.specs.declared.shapes.Shape.TheVariants as shape
 
 -- a struct without words
 pub no_words_next : (m : List (List ℕ)) (w end : ℕ) → MayStand m w end → HasWord m 0 w (2 ^ 32 - 4) → IsNextInOrder m w end end

@@ -1,21 +1,15 @@
 -- The words and the text of a copy at the start of a buffer.
-use Rattle.std.proofs.Common.{ℕ, ◌*◌, ◌<◌, ◌≤◌, ◌≡◌, ◌∙◌, ◌⊎◌, List, [], Result, Ok, Err, ap, sym, arith, inl, inr, length, take}
-use Rattle.std.specs.List.{AllByRecursion}
-use Rattle.std.proofs.lemmas.List.{length-take-le, take_all}
-use Rattle.cap_spec.specs.Canonical.{layout, trim}
-use Rattle.cap_spec.specs.Copies.{HasCopy}
-use Rattle.cap_spec.specs.Denoting.{Denotes}
-use Rattle.cap_spec.specs.Paths.{IsFirstCap}
-use Rattle.cap_spec.specs.Plain.{plain_text, plain_words}
-use Rattle.cap_spec.proofs.Bytes.Lists.{all_take}
-use Rattle.cap_spec.proofs.Bytes.Plain.{length_plain}
-use Rattle.cap_canon.specs.CopyOvers.{MakesEnough, TellsOver, has_capability, no_memory, over, grown, no_copy, refused, enough, made}
-use Rattle.cap_canon.specs.FirstWords.{first_words}
-use Rattle.cap_spec.specs.declared.CanonFault.{CanonFault}
 use Rattle.cap_spec.specs.declared.CanonFault.TheVariants.{HasCapability, Memory}
+use Rattle.cap_spec.proofs.Lemmas.{all_take, length_plain}
+use Rattle.cap_spec.proofs.Prelude.{Err, List, Ok, Result, [], ap, arith, inl, inr, length, length-take-le, sym, take}
+use Rattle.cap_spec.proofs.Prelude.{take_all, ℕ, ◌*◌, ◌<◌, ◌∙◌, ◌≡◌, ◌≤◌, ◌⊎◌, AllByRecursion, layout, trim, HasCopy}
+use Rattle.cap_spec.proofs.Prelude.{Denotes, IsFirstCap, plain_text, plain_words}
+use Rattle.cap_words.proofs.WholeWords.{words_text}
+use Rattle.cap_canon.specs.CopyOvers.{MakesEnough, TellsOver, enough, grown, has_capability, made, no_copy, no_memory}
+use Rattle.cap_canon.specs.CopyOvers.{over, refused}
+use Rattle.cap_canon.specs.Prelude.{CanonFault, first_words}
 use Rattle.cap_canon.proofs.Copies.{copy_length, copy_of, same_fault}
 use Rattle.cap_canon.proofs.FirstWords.{first_taken}
-use Rattle.cap_words.proofs.WholeWords.{words_text}
 
 -- the first bytes are the text of the first words
 pub first_text : (words bytes : List ℕ) → AllByRecursion (λ b. b < 256) bytes → 8 * length words ≤ length bytes

@@ -1,19 +1,13 @@
 -- What the runs of a walk owe, word by word.
-use Rattle.std.proofs.Common.{ℕ, suc, ◌+◌, ◌<◌, ◌≤◌, ◌^◌, List, [], ◌∷◌, ◌++◌, ◌≡◌, ap, refl, sym, subst, ◌∙◌, arith, length, reverse, Option, None, Some}
-use Rattle.std.specs.Option.{option_to_list}
-use Rattle.std.proofs.lemmas.List.{length-append, length-reverse, reverse-append}
-use Rattle.cap_spec.specs.Messages.{IsMessage, segment_of}
-use Rattle.cap_spec.specs.Denoting.{Denotes}
-use Rattle.cap_spec.specs.Tree.{Tree}
-use Rattle.cap_spec.proofs.Bytes.Lists.{reverse-more}
-use Rattle.cap_spec.proofs.Paths.Arrivals.{lead_word}
-use Rattle.cap_spec.proofs.Frames.Messages.{HasWord-inside, HasWord-segment}
-use Rattle.cap_spec.proofs.Trees.OneTree.{Formed, formed}
-use Rattle.cap_canon.specs.CopyRuns.{AreShort, IsFull, IsRest, OptionFull, all_places, first_place, option_places, places_of}
-use Rattle.cap_canon.specs.Laying.{Due, AreBefore, size_due}
-use Rattle.cap_canon.specs.StillToLay.{AreOwed, RunOwes, IsNext, IsWalking, Stacked, longest_copy, work_left}
-use Rattle.cap_canon.specs.declared.run.CopyRun.{CopyRun}
-use Rattle.cap_canon.specs.declared.run.PointerPlace.{PointerPlace}
+use Rattle.cap_spec.proofs.Lemmas.{reverse-more, HasWord-inside, HasWord-segment, lead_word, Formed, formed}
+use Rattle.cap_spec.proofs.Prelude.{List, None, Option, Some, [], ap, arith, length, length-append, option_to_list}
+use Rattle.cap_spec.proofs.Prelude.{refl, reverse, subst, suc, sym, ℕ, ◌++◌, ◌+◌, ◌<◌, ◌^◌, ◌∙◌, ◌∷◌, ◌≡◌, ◌≤◌}
+use Rattle.cap_spec.proofs.Prelude.{length-reverse, reverse-append, Denotes, IsMessage, segment_of, Tree}
+use Rattle.cap_canon.specs.Laying.{size_due}
+use Rattle.cap_canon.specs.Prelude.{AreShort, IsFull, IsRest, OptionFull, all_places, first_place, option_places}
+use Rattle.cap_canon.specs.Prelude.{places_of, AreBefore, Due, AreOwed, IsNext, IsWalking, Stacked, longest_copy}
+use Rattle.cap_canon.specs.Prelude.{work_left, CopyRun, PointerPlace}
+use Rattle.cap_canon.specs.StillToLay.{RunOwes}
 use Rattle.cap_canon.proofs.Runs.{count_more}
 
 -- a word that denotes is a number of 32 bits

@@ -1,13 +1,9 @@
 -- The pointer words of a copy have the forms of what they lead to.
-use Rattle.std.proofs.Common.{◌≡◌, ℕ, ◌+◌, ◌*◌, ◌^◌, ◌<◌, ◌==◌, false, pos, refl, sym, ap, arith}
-use Rattle.std.proofs.lemmas.Bool.{lt-ltb}
-use Rattle.std.proofs.lemmas.Bool.Decides.{nat_tests}
-use Rattle.cap_spec.specs.Words.{signed_offset_of}
-use Rattle.cap_spec.specs.Pointers.{middle}
-use Rattle.cap_spec.specs.Canonical.{struct_word, list_word}
 use Rattle.cap_spec.proofs.Canonical.PointerFields.{cap_fields, list_fields, struct_fields}
+use Rattle.cap_spec.proofs.Prelude.{ap, arith, false, lt-ltb, pos, refl, sym, ℕ, ◌*◌, ◌+◌, ◌<◌, ◌==◌, ◌^◌, ◌≡◌}
+use Rattle.cap_spec.proofs.Prelude.{nat_tests, list_word, struct_word, middle, signed_offset_of}
 use Rattle.cap_ptr.specs.Forms.{pointer_of}
-use Rattle.cap_ptr.specs.declared.forms.Pointer.TheVariants.{Struct, List, Cap}
+use Rattle.cap_ptr.specs.declared.forms.Pointer.TheVariants.{Cap, List, Struct}
 
 -- an offset that isn't negative
 offset_ahead : (q offset : ℕ) → middle q ≡ offset → offset < 2 ^ 29 → signed_offset_of q ≡ pos offset

@@ -1,21 +1,11 @@
 -- The words of ranges and of lists of values, as a copy appends them.
-use Rattle.std.proofs.Common.{ℕ, zero, suc, ◌+◌, ◌-◌, ◌*◌, ◌<◌, ◌≤◌, List, [], ◌∷◌, ◌++◌, ◌≡◌, ◌⊎◌, inl, inr, ap, ap₂}
-use Rattle.std.proofs.Common.{refl, sym, subst, ◌∙◌, arith, length, take, drop, get_or, length-append}
-use Rattle.std.specs.List.{AllByRecursion}
-use Rattle.std.proofs.Math.Seq.{take-add}
-use Rattle.std.proofs.lemmas.List.{drop-drop, same_lists, get_or-take, get_or-drop, get_or_append_left, get_or-append_right, get_or_default}
-use Rattle.std.proofs.lemmas.List.FromFn.{length-map-range_with_len}
-use Rattle.std.proofs.lemmas.Option.{get_or_from_slice_get}
-use Rattle.cap_spec.specs.Words.{IsWord, field}
-use Rattle.cap_spec.specs.Messages.{HasWord, segment_of}
-use Rattle.cap_spec.specs.Pointers.{element_bits, list_words}
-use Rattle.cap_spec.specs.Denoting.{words_from, values_of, value_at}
-use Rattle.cap_spec.specs.Scalars.{scalar_words}
-use Rattle.cap_spec.specs.Placing.{HasWordsAt}
-use Rattle.cap_spec.proofs.Frames.Messages.{HasWord-at}
-use Rattle.cap_spec.proofs.Canonical.Placing.{rest_at}
-use Rattle.cap_spec.proofs.Trees.ReadingBack.{length-scalar_words}
-use Rattle.cap_spec.proofs.Trees.DenotedTrees.{range_length}
+use Rattle.cap_spec.proofs.Lemmas.{rest_at, HasWord-at, range_length, length-scalar_words}
+use Rattle.cap_spec.proofs.Prelude.{List, [], ap, ap₂, arith, drop, drop-drop, get_or, get_or-drop, get_or-take, inl}
+use Rattle.cap_spec.proofs.Prelude.{inr, length, length-append, refl, subst, suc, sym, take, take-add, zero, ℕ, ◌*◌}
+use Rattle.cap_spec.proofs.Prelude.{◌++◌, ◌+◌, ◌-◌, ◌<◌, ◌∙◌, ◌∷◌, ◌≡◌, ◌≤◌, ◌⊎◌, get_or-append_right}
+use Rattle.cap_spec.proofs.Prelude.{get_or_append_left, get_or_default, same_lists, length-map-range_with_len}
+use Rattle.cap_spec.proofs.Prelude.{get_or_from_slice_get, AllByRecursion, value_at, values_of, words_from, HasWord}
+use Rattle.cap_spec.proofs.Prelude.{segment_of, HasWordsAt, element_bits, list_words, scalar_words, IsWord, field}
 use Rattle.cap_spec.proofs.Trees.WordsRead.{values_read}
 use Rattle.cap_canon.specs.Filling.{elements_from}
 use Rattle.cap_canon.specs.Values.{used_bits}

@@ -1,13 +1,7 @@
 -- How many bits of its last word a list of values takes, and lists that take all of them.
-use Rattle.std.proofs.Common.{ℕ, zero, suc, ◌+◌, ◌*◌, ◌%◌, ◌<◌, ◌≤◌, ◌≡◌, ◌≢◌, List, length, ap, sym, subst, ◌∙◌, arith}
-use Rattle.std.proofs.lemmas.List.{nil_from_length}
-use Rattle.std.proofs.lemmas.List.FromFn.{length-map-range_with_len}
-use Rattle.cap_spec.specs.Words.{IsWord, field}
-use Rattle.cap_spec.specs.Messages.{HasWord, segment_of}
-use Rattle.cap_spec.specs.Pointers.{element_bits, list_words}
-use Rattle.cap_spec.specs.Denoting.{value_at, values_of}
-use Rattle.cap_spec.specs.Scalars.{scalar_words}
-use Rattle.cap_spec.specs.Placing.{HasWordsAt}
+use Rattle.cap_spec.proofs.Prelude.{List, ap, arith, length, subst, suc, sym, zero, ℕ, ◌%◌, ◌*◌, ◌+◌, ◌<◌, ◌∙◌, ◌≡◌}
+use Rattle.cap_spec.proofs.Prelude.{◌≢◌, ◌≤◌, nil_from_length, length-map-range_with_len, value_at, values_of, HasWord}
+use Rattle.cap_spec.proofs.Prelude.{segment_of, HasWordsAt, element_bits, list_words, scalar_words, IsWord, field}
 use Rattle.cap_spec.proofs.Trees.ReadingBack.{length-scalar_words}
 use Rattle.cap_canon.specs.Values.{used_bits}
 use Rattle.cap_canon.proofs.Ranges.{whole_field}

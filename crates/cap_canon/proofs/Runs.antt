@@ -1,10 +1,9 @@
 -- The pointer words of a run, word by word.
-use Rattle.std.proofs.Common.{ℕ, zero, suc, ◌+◌, ◌-◌, ◌<◌, List, [], ◌∷◌, ◌++◌, ◌≡◌, ap, refl, sym, ◌∙◌, arith, length, Option, None, Some}
-use Rattle.std.specs.Option.{option_to_list}
-use Rattle.std.proofs.lemmas.List.{append-nil, append_assoc, length-append}
-use Rattle.cap_canon.specs.CopyRuns.{AreShort, IsFull, IsRest, IsShort, all_places, further_places, option_places, place, places_of, root_run, row_places}
-use Rattle.cap_canon.specs.declared.run.CopyRun.{CopyRun}
-use Rattle.cap_canon.specs.declared.run.PointerPlace.{PointerPlace}
+use Rattle.std.proofs.Common.{List, None, Option, Some, [], ap, append-nil, append_assoc, arith, length, length-append}
+use Rattle.std.proofs.Common.{option_to_list, refl, suc, sym, zero, ℕ, ◌++◌, ◌+◌, ◌-◌, ◌<◌, ◌∙◌, ◌∷◌, ◌≡◌}
+use Rattle.cap_canon.specs.CopyRuns.{IsShort}
+use Rattle.cap_canon.specs.Prelude.{AreShort, IsFull, IsRest, all_places, further_places, option_places, place}
+use Rattle.cap_canon.specs.Prelude.{places_of, root_run, row_places, CopyRun, PointerPlace}
 
 -- behind the first of several words in a row
 pub rest_of_row : (s b a : ℕ) {n : ℕ} (more skip gap p : ℕ) → 1 < n → IsFull record {

@@ -1,34 +1,24 @@
 -- When the words of a message are those that a copy has, one object at a time.
-use Rattle.std.proofs.Common.{ℕ, zero, suc, ◌+◌, ◌-◌, ◌*◌, ◌<◌, ◌≤◌, ◌^◌, List, [], ◌∷◌, ◌++◌, ◌≡◌, ◌⊎◌, inl, inr, true}
-use Rattle.std.proofs.Common.{false, ap, sym, subst, ◌∙◌, arith, length}
-use Rattle.std.specs.Prelude.{◌==◌}
-use Rattle.std.specs.List.{AllByRecursion}
-use Rattle.std.proofs.lemmas.Bool.Decides.{eqb_tells}
-use Rattle.std.proofs.lemmas.List.{nil_from_length}
-use Rattle.std.proofs.lemmas.Nat.{mul-le}
-use Rattle.cap_spec.specs.Words.{IsWord, field}
-use Rattle.cap_spec.specs.Messages.{HasWord, segment_of}
-use Rattle.cap_spec.specs.Pointers.{data_size, pointer_size, list_size, element_bits, list_words}
-use Rattle.cap_spec.specs.Tree.{Tree, null, cap, struct, scalars, Trees, none, more, tree_count}
-use Rattle.cap_spec.specs.Denoting.{Finds, words_from, value_at, values_of}
-use Rattle.cap_spec.specs.Canonical.{pointer_to, struct_word, list_word}
-use Rattle.cap_spec.specs.Scalars.{scalar_words}
-use Rattle.cap_spec.specs.Placing.{HasWordsAt}
-use Rattle.std.proofs.lemmas.List.FromFn.{length-map-range_with_len}
-use Rattle.cap_spec.proofs.Bytes.Lists.{all_append}
-use Rattle.cap_spec.proofs.Frames.Messages.{one_word}
-use Rattle.cap_spec.proofs.Canonical.Placing.{stand_back}
-use Rattle.cap_spec.proofs.Canonical.PointerFields.{StructFields, struct_fields, ListFields, list_fields}
-use Rattle.cap_spec.proofs.Trees.DenotedTrees.{range_length}
+use Rattle.cap_spec.specs.Tree.{none}
+use Rattle.cap_spec.proofs.Canonical.PointerFields.{ListFields}
+use Rattle.cap_spec.proofs.Lemmas.{all_append, stand_back, StructFields, list_fields, struct_fields, one_word}
+use Rattle.cap_spec.proofs.Lemmas.{range_length}
+use Rattle.cap_spec.proofs.Prelude.{List, [], ap, arith, false, inl, inr, length, subst, suc, sym, true, zero, ℕ, ◌*◌}
+use Rattle.cap_spec.proofs.Prelude.{◌++◌, ◌+◌, ◌-◌, ◌<◌, ◌==◌, ◌^◌, ◌∙◌, ◌∷◌, ◌≡◌, ◌≤◌, ◌⊎◌, eqb_tells, nil_from_length}
+use Rattle.cap_spec.proofs.Prelude.{length-map-range_with_len, mul-le, AllByRecursion, list_word, pointer_to}
+use Rattle.cap_spec.proofs.Prelude.{struct_word, Finds, value_at, values_of, words_from, HasWord, segment_of}
+use Rattle.cap_spec.proofs.Prelude.{HasWordsAt, data_size, element_bits, list_size, list_words, pointer_size}
+use Rattle.cap_spec.proofs.Prelude.{scalar_words, Tree, Trees, cap, more, null, scalars, struct, tree_count, IsWord}
+use Rattle.cap_spec.proofs.Prelude.{field}
 use Rattle.cap_canon.specs.InPlace.{StandsIn}
 use Rattle.cap_canon.specs.Laying.{DataAt, IsPointed, OwnAt, own_size}
-use Rattle.cap_canon.specs.Objects.{AreElementsLeft, IsStructObject, IsScalarsObject, IsPointersObject, IsStructsObject}
+use Rattle.cap_canon.specs.Objects.{AreElementsLeft, IsPointersObject, IsScalarsObject, IsStructObject, IsStructsObject}
 use Rattle.cap_canon.specs.Values.{used_bits}
-use Rattle.cap_canon.specs.declared.objects.Object.TheVariants as object
 use Rattle.cap_canon.specs.declared.objects.Part.{Part}
 use Rattle.cap_canon.proofs.Filling.{scalars_size}
 use Rattle.cap_canon.proofs.InPlace.{near_start}
 use Rattle.cap_canon.proofs.Ranges.{range_more, range_stands, values_laid}
+use Rattle.cap_canon.specs.declared.objects.Object.TheVariants as object
 
 -- the words of a range that were read are words
 pub range_words : (m : List (List ℕ)) (t b n : ℕ) → ((k : ℕ) → k < n → (x : ℕ) × HasWord m t (b + k) x × IsWord x) → AllByRecursion IsWord (words_from m t b n)

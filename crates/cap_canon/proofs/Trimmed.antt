@@ -1,8 +1,8 @@
 -- What trimming leaves, told of the tree before it.
-use Rattle.std.proofs.Common.{suc, ◌≡◌, max, ap, ap₂, refl}
-use Rattle.std.specs.Prelude.{if◌then◌else◌, ◌==◌}
-use Rattle.cap_spec.specs.Tree.{Tree, null, cap, struct, scalars, pointers, structs, Trees, none, more, tree_count}
-use Rattle.cap_spec.specs.Canonical.{data_needed, is_null, children_needed, data_of, children_of, trim, trim_all, trim_elements}
+use Rattle.std.proofs.Common.{ap, ap₂, if◌then◌else◌, max, refl, suc, ◌==◌, ◌≡◌}
+use Rattle.cap_spec.specs.Canonical.{children_needed, children_of, data_needed, data_of, is_null, trim, trim_all}
+use Rattle.cap_spec.specs.Canonical.{trim_elements}
+use Rattle.cap_spec.specs.Tree.{Tree, Trees, cap, more, none, null, pointers, scalars, struct, structs, tree_count}
 
 -- a tree is null where it is null trimmed
 pub is_null-trim : (t : Tree) → is_null (trim t) ≡ is_null t

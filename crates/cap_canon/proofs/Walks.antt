@@ -1,26 +1,17 @@
 -- A walk over an accepted message, from turn to turn.
-use Rattle.std.proofs.Common.{ℕ, ◌+◌, ◌-◌, ◌<◌, ◌≤◌, List, [], ◌∷◌, ◌++◌, ◌≡◌, Option, refl, sym, subst, arith, length}
-use Rattle.std.specs.Option.{option_to_list}
-use Rattle.cap_spec.specs.Messages.{IsMessage, segment_of}
-use Rattle.cap_spec.specs.Tree.{Tree}
-use Rattle.cap_spec.specs.Denoting.{Denotes}
-use Rattle.cap_spec.specs.Canonical.{content, layout, trim}
-use Rattle.cap_spec.proofs.Frames.Messages.{HasWord-inside}
-use Rattle.cap_spec.proofs.Paths.Arrivals.{lead_word}
-use Rattle.cap_spec.proofs.Trees.OneTree.{Formed, formed, one_tree}
-use Rattle.cap_spec.proofs.Canonical.TreeMeasures.{Fits, Measured, measured}
+use Rattle.cap_spec.proofs.Canonical.Sizes.{trimmed_size_charged}
+use Rattle.cap_spec.proofs.Canonical.TreeMeasures.{Measured, measured}
 use Rattle.cap_spec.proofs.Canonical.TrimmedMeasures.{Trimmed, trimmed}
-use Rattle.cap_spec.proofs.Canonical.Placing.{stand_inside}
-use Rattle.cap_spec.proofs.Canonical.Sizes.{length-content, trimmed_size_charged}
-use Rattle.cap_canon.specs.CopyRuns.{AreShort, IsFull, IsRest, first_place, place, places_of, root_run}
-use Rattle.cap_canon.specs.Laying.{Due, Laid, own_size, below}
-use Rattle.cap_canon.specs.Objects.{IsObject}
-use Rattle.cap_canon.specs.Roots.{HasTree}
-use Rattle.cap_canon.specs.StillToLay.{IsNext, IsOwed, IsWalking, NextLeadsTo}
+use Rattle.cap_spec.proofs.Lemmas.{stand_inside, length-content, Fits, HasWord-inside, lead_word, Formed, formed}
+use Rattle.cap_spec.proofs.Lemmas.{one_tree}
+use Rattle.cap_spec.proofs.Prelude.{List, Option, [], arith, length, option_to_list, refl, subst, sym, ℕ, ◌++◌, ◌+◌}
+use Rattle.cap_spec.proofs.Prelude.{◌-◌, ◌<◌, ◌∷◌, ◌≡◌, ◌≤◌, content, layout, trim, Denotes, IsMessage, segment_of}
+use Rattle.cap_spec.proofs.Prelude.{Tree}
 use Rattle.cap_canon.specs.CopyTurns.{IsTurn}
-use Rattle.cap_canon.specs.declared.objects.Object.{Object}
-use Rattle.cap_canon.specs.declared.run.CopyRun.{CopyRun}
-use Rattle.cap_canon.specs.declared.run.PointerPlace.{PointerPlace}
+use Rattle.cap_canon.specs.Prelude.{AreShort, IsFull, IsRest, first_place, place, places_of, root_run, Due, Laid, below}
+use Rattle.cap_canon.specs.Prelude.{own_size, IsObject, HasTree, IsNext, IsWalking, NextLeadsTo, Object, CopyRun}
+use Rattle.cap_canon.specs.Prelude.{PointerPlace}
+use Rattle.cap_canon.specs.StillToLay.{IsOwed}
 use Rattle.cap_canon.proofs.LaidSteps.{object_laid}
 use Rattle.cap_canon.proofs.Lengths.{size_below}
 use Rattle.cap_canon.proofs.Owing.{Takes, next_of, top_short}

@@ -1,13 +1,12 @@
 -- Objects that need all their words, or less, where their pointers needn't be followed.
-use Rattle.std.proofs.Common.{ℕ, zero, suc, ◌+◌, ◌-◌, ◌*◌, ◌<◌, ◌≤◌, ◌≡◌, ◌≢◌, List, length, max, ap, refl, sym, subst, ◌∙◌, arith, false, true}
-use Rattle.std.proofs.lemmas.Nat.{mul-le}
-use Rattle.cap_spec.specs.Canonical.{children_needed, children_of, data_needed, is_null}
-use Rattle.cap_spec.specs.Denoting.{AreElements, DenoteEach, Denotes, places, words_from}
-use Rattle.cap_spec.specs.Following.{near, one_pad, two_pads, to_null, Leads}
-use Rattle.cap_spec.specs.Messages.{HasWord, segment_of}
-use Rattle.cap_spec.specs.Pointers.{kind}
-use Rattle.cap_spec.specs.Tree.{Tree, null, cap, struct, scalars, pointers, structs, Trees, none, more}
+use Rattle.cap_spec.specs.Denoting.{places}
+use Rattle.cap_spec.specs.Tree.{none}
 use Rattle.cap_spec.proofs.Frames.Messages.{one_word}
+use Rattle.cap_spec.proofs.Prelude.{List, ap, arith, false, length, max, refl, subst, suc, sym, true, zero, ℕ, ◌*◌, ◌+◌}
+use Rattle.cap_spec.proofs.Prelude.{◌-◌, ◌<◌, ◌∙◌, ◌≡◌, ◌≢◌, ◌≤◌, mul-le, children_needed, children_of, data_needed}
+use Rattle.cap_spec.proofs.Prelude.{is_null, AreElements, DenoteEach, Denotes, words_from, Leads, near, one_pad}
+use Rattle.cap_spec.proofs.Prelude.{to_null, two_pads, HasWord, segment_of, kind, Tree, Trees, cap, more, null}
+use Rattle.cap_spec.proofs.Prelude.{pointers, scalars, struct, structs}
 use Rattle.cap_canon.specs.NullsInOrder.{zero_null}
 use Rattle.cap_canon.specs.Trimming.{most_data}
 use Rattle.cap_canon.proofs.Children.{child_below, child_here, row_needed}

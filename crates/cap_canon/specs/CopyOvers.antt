@@ -1,9 +1,7 @@
 -- The result for a canonical copy that is written over a buffer as bytes, which grows if it has to,
 -- and what the buffer holds then (standard: Canonicalization, 64-bit Words).
-use Rattle.std.specs.Prelude.{ℕ, ◌<◌, ◌≡◌, ◌≤◌, List, [], Result, Ok, Err, length, take}
-use Rattle.cap_spec.specs.Copies.{HasCopy}
-use Rattle.cap_spec.specs.Paths.{IsFirstCap}
-use Rattle.cap_spec.specs.Plain.{plain_text}
+use Rattle.std.specs.Prelude.{Err, List, Ok, Result, [], length, take, ℕ, ◌<◌, ◌≡◌, ◌≤◌}
+use Rattle.cap_spec.specs.Prelude.{HasCopy, IsFirstCap, plain_text}
 use Rattle.cap_spec.specs.declared.CanonFault.{CanonFault}
 use Rattle.cap_spec.specs.declared.CanonFault.TheVariants.{HasCapability, Memory}
 

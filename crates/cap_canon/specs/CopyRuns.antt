@@ -1,6 +1,7 @@
 -- The pointer words of a run, each with the word of the copy that it becomes (profile).
-use Rattle.std.specs.Prelude.{ℕ, zero, suc, ◌+◌, ◌<◌, ◌≡◌, ◌^◌, Bool, if◌then◌else◌, List, [], ◌∷◌, ◌++◌, Option, None, Some, ⊤}
-use Rattle.std.specs.List.{AllByRecursion, flat_map}
+use Rattle.std.specs.List.{AllByRecursion}
+use Rattle.std.specs.Prelude.{Bool, List, None, Option, Some, [], flat_map, if◌then◌else◌, suc, zero, ℕ, ⊤, ◌++◌, ◌+◌}
+use Rattle.std.specs.Prelude.{◌<◌, ◌^◌, ◌∷◌, ◌≡◌}
 use Rattle.cap_canon.specs.declared.run.CopyRun.{CopyRun}
 use Rattle.cap_canon.specs.declared.run.PointerPlace.{PointerPlace}
 

@@ -1,9 +1,7 @@
 -- Words of a copy beside those of the whole, whose pointer words may still be missing (profile).
-use Rattle.std.specs.Prelude.{ℕ, zero, suc, ◌+◌, ◌<◌, ◌≤◌, ◌≡◌, ◌⊎◌, List, [], ◌∷◌, ◌++◌, length, slice_index}
-use Rattle.cap_spec.specs.Tree.{Tree}
-use Rattle.cap_spec.specs.Canonical.{layout}
-use Rattle.cap_spec.specs.Denoting.{words_from}
-use Rattle.cap_canon.specs.Laying.{Due, IsPointed, OwnAt, own_size, below}
+use Rattle.std.specs.Prelude.{List, [], length, slice_index, suc, zero, ℕ, ◌++◌, ◌+◌, ◌<◌, ◌∷◌, ◌≡◌, ◌≤◌, ◌⊎◌}
+use Rattle.cap_spec.specs.Prelude.{layout, words_from, Tree}
+use Rattle.cap_canon.specs.Laying.{Due, IsPointed, OwnAt, below, own_size}
 use Rattle.cap_canon.specs.Objects.{IsObject}
 use Rattle.cap_canon.specs.declared.objects.Object.{Object}
 use Rattle.cap_canon.specs.declared.objects.Part.{Part}

@@ -1,5 +1,5 @@
 -- Words that are written as bytes over bytes that are there already (profile).
-use Rattle.std.specs.Prelude.{ℕ, List, take}
+use Rattle.std.specs.Prelude.{List, take, ℕ}
 use Rattle.cap_spec.specs.Plain.{plain_words}
 
 -- the first `count` words of the bytes

@@ -1,18 +1,10 @@
 -- A message that is compared with its canonical copy while it is vetted (profile).
-use Rattle.std.specs.Prelude.{ℕ, ◌+◌, ◌^◌, ◌<◌, ◌≤◌, ◌≡◌, ◌≢◌, ◌⊎◌, List, [], ◌∷◌, ◌++◌, length, None, ⊤}
-use Rattle.cap_spec.specs.Canonical.{trim}
+use Rattle.std.specs.Prelude.{List, None, [], length, ℕ, ⊤, ◌++◌, ◌+◌, ◌<◌, ◌^◌, ◌∷◌, ◌≡◌, ◌≢◌, ◌≤◌, ◌⊎◌}
 use Rattle.cap_spec.specs.Copies.{IsCanonical}
-use Rattle.cap_spec.specs.Denoting.{Denotes, Finds}
-use Rattle.cap_spec.specs.Following.{HasTag}
-use Rattle.cap_spec.specs.GreatestLimits.{most_words}
-use Rattle.cap_spec.specs.Messages.{HasWord, segment_of}
-use Rattle.cap_spec.specs.Paths.{Costs}
-use Rattle.cap_spec.specs.Pointers.{code, data_size, kind, middle, pointer_size}
-use Rattle.cap_spec.specs.Tree.{Tree}
+use Rattle.cap_spec.specs.Prelude.{trim, Denotes, Finds, HasTag, most_words, HasWord, segment_of, Costs, code}
+use Rattle.cap_spec.specs.Prelude.{data_size, kind, middle, pointer_size, Tree}
 use Rattle.cap_spec.specs.declared.Step.{Step}
-use Rattle.cap_vet.specs.Looking.{object_children}
-use Rattle.cap_vet.specs.Stricts.{KnowsLax}
-use Rattle.cap_vet.specs.Trails.{Ahead, IsTrail}
+use Rattle.cap_vet.specs.Prelude.{object_children, KnowsLax, Ahead, IsTrail}
 use Rattle.cap_canon.specs.Checked.{IsChecked}
 use Rattle.cap_canon.specs.Laying.{AreBefore, Due, IsPointed, Laid, OwnAt, below, own_size}
 use Rattle.cap_canon.specs.Objects.{IsLeft}

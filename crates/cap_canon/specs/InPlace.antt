@@ -1,7 +1,7 @@
 -- What is already in segment 0 at the place that a copy gives it (profile).
-use Rattle.std.specs.Prelude.{ℕ, ◌+◌, ◌<◌, ◌≡◌, ⊤}
+use Rattle.std.specs.Prelude.{ℕ, ⊤, ◌+◌, ◌<◌, ◌≡◌}
 use Rattle.cap_canon.specs.declared.objects.Object.{Object}
-use Rattle.cap_canon.specs.declared.objects.Object.TheVariants.{Null, Cap, Struct, Scalars, Pointers, Structs}
+use Rattle.cap_canon.specs.declared.objects.Object.TheVariants.{Cap, Null, Pointers, Scalars, Struct, Structs}
 
 -- where the pointer words of an object are; a copy has the object's own words from end on
 abbrev pub StandsIn : ℕ → Object → Type 0

@@ -1,5 +1,5 @@
 -- What no turn of a walk changes (profile).
-use Rattle.std.specs.Prelude.{ℕ, List}
+use Rattle.std.specs.Prelude.{List, ℕ}
 
 -- Of an output: its capacity, the borrow that it writes through, the name of its own, and what is there already after the copy.
 pub record Kept : Type 0 where

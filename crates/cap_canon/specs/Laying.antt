@@ -1,10 +1,10 @@
 -- The words of a layout, seen from the pointer words that lead to what isn't laid yet (profile).
-use Rattle.std.specs.Prelude.{ℕ, ◌+◌, ◌*◌, ◌<◌, ◌≤◌, ◌≡◌, List, [], ◌∷◌, ◌++◌, length, Some, slice_get, ⊤}
-use Rattle.cap_spec.specs.Pointers.{list_words}
-use Rattle.cap_spec.specs.Tree.{Tree, null, cap, struct, scalars, pointers, structs, Trees, none, more, tree_count}
-use Rattle.cap_spec.specs.Canonical.{pointer_to, struct_word, size, content}
-use Rattle.cap_spec.specs.Scalars.{scalar_words}
+use Rattle.std.specs.Prelude.{List, Some, [], length, slice_get, ℕ, ⊤, ◌*◌, ◌++◌, ◌+◌, ◌<◌, ◌∷◌, ◌≡◌, ◌≤◌}
+use Rattle.cap_spec.specs.Canonical.{content, pointer_to, size, struct_word}
 use Rattle.cap_spec.specs.Placing.{HasWordsAt}
+use Rattle.cap_spec.specs.Pointers.{list_words}
+use Rattle.cap_spec.specs.Scalars.{scalar_words}
+use Rattle.cap_spec.specs.Tree.{Tree, Trees, cap, more, none, null, pointers, scalars, struct, structs, tree_count}
 
 -- a pointer word of the copy, and the trimmed tree that it leads to
 pub record Due : Type 0 where

@@ -1,11 +1,10 @@
 -- What is left of the object that a pointer word finds, when it is trimmed, and where its words are
 -- (profile).
-use Rattle.std.specs.Prelude.{ℕ, ◌+◌, ◌<◌, ◌≤◌, ◌≡◌, List, length, ⊤}
-use Rattle.cap_spec.specs.Messages.{segment_of}
-use Rattle.cap_spec.specs.Pointers.{kind, code, list_size, list_words}
-use Rattle.cap_spec.specs.Denoting.{Denotes, Finds, words_from, values_of}
-use Rattle.cap_spec.specs.Tree.{Tree, null, cap, struct, scalars, pointers, structs, Trees, none, more, tree_count}
-use Rattle.cap_spec.specs.Canonical.{trim}
+use Rattle.std.specs.Prelude.{List, length, ℕ, ⊤, ◌+◌, ◌<◌, ◌≡◌, ◌≤◌}
+use Rattle.cap_spec.specs.Denoting.{values_of}
+use Rattle.cap_spec.specs.Prelude.{trim, Denotes, Finds, words_from, segment_of, code, kind, list_size, list_words}
+use Rattle.cap_spec.specs.Prelude.{Tree, Trees, cap, null, pointers, scalars, struct, structs}
+use Rattle.cap_spec.specs.Tree.{more, none, tree_count}
 use Rattle.cap_canon.specs.Found.{LeadsToStruct, LeadsToStructs}
 use Rattle.cap_canon.specs.declared.objects.Object.{Object}
 use Rattle.cap_canon.specs.declared.objects.Part.{Part}

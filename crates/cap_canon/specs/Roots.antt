@@ -1,9 +1,6 @@
 -- The tree that the root of an accepted message denotes, and what is left of it (profile).
-use Rattle.std.specs.Prelude.{ℕ, ◌^◌, ◌<◌, ◌≡◌, ◌≤◌, ◌↔◌, List}
-use Rattle.cap_spec.specs.Canonical.{layout, trim}
-use Rattle.cap_spec.specs.Denoting.{Denotes}
-use Rattle.cap_spec.specs.GreatestLimits.{most_depth, most_words}
-use Rattle.cap_spec.specs.Tree.{Tree}
+use Rattle.std.specs.Prelude.{List, ℕ, ◌<◌, ◌^◌, ◌↔◌, ◌≡◌, ◌≤◌}
+use Rattle.cap_spec.specs.Prelude.{layout, trim, Denotes, most_depth, most_words, Tree}
 
 -- The root denotes a tree of this depth, within the greatest limits.
 pub record HasTree (m : List (List ℕ)) (depth : ℕ) : Type 0 where

@@ -1,13 +1,9 @@
 -- What a walk over an accepted message still has to lay (profile).
-use Rattle.std.specs.Prelude.{ℕ, ◌+◌, ◌<◌, ◌≤◌, ◌≡◌, Bool, if◌then◌else◌, List, [], ◌∷◌, ◌++◌, Option, length, reverse, ⊤}
-use Rattle.std.specs.Option.{option_to_list}
-use Rattle.cap_spec.specs.Messages.{IsMessage}
-use Rattle.cap_spec.specs.Denoting.{Denotes}
-use Rattle.cap_spec.specs.Tree.{Tree}
-use Rattle.cap_spec.specs.Canonical.{trim}
-use Rattle.cap_spec.specs.GreatestLimits.{most_words}
-use Rattle.cap_canon.specs.CopyRuns.{IsFull, IsRest, places_of, all_places}
-use Rattle.cap_canon.specs.Laying.{Due, AreBefore, size_due}
+use Rattle.std.specs.Prelude.{Bool, List, Option, [], if◌then◌else◌, length, option_to_list, reverse, ℕ, ⊤, ◌++◌, ◌+◌}
+use Rattle.std.specs.Prelude.{◌<◌, ◌∷◌, ◌≡◌, ◌≤◌}
+use Rattle.cap_spec.specs.Prelude.{trim, Denotes, most_words, IsMessage, Tree}
+use Rattle.cap_canon.specs.CopyRuns.{IsFull, IsRest, all_places, places_of}
+use Rattle.cap_canon.specs.Laying.{AreBefore, Due, size_due}
 use Rattle.cap_canon.specs.Objects.{IsObject}
 use Rattle.cap_canon.specs.declared.objects.Object.{Object}
 use Rattle.cap_canon.specs.declared.run.CopyRun.{CopyRun}

@@ -1,5 +1,5 @@
 -- The bits of a list of values (profile).
-use Rattle.std.specs.Prelude.{ℕ, ◌-◌, ◌*◌, ◌/◌, min}
+use Rattle.std.specs.Prelude.{min, ℕ, ◌*◌, ◌-◌, ◌/◌}
 use Rattle.cap_spec.specs.Pointers.{element_bits}
 
 -- how many bits of word k the values of a list take

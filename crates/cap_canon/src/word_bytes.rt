@@ -3,8 +3,6 @@
 ghost use Rattle.cap_canon.specs.FirstWords.{first_words};
 ghost use Rattle.cap_canon.specs.Roots.{ForTrimmed, HasTree};
 ghost use Rattle.cap_spec.specs.Canonical.{layout};
-ghost use Rattle.cap_spec.specs.Denoting.{words_from};
-ghost use Rattle.cap_spec.specs.Messages.{segment_of};
 ghost use Rattle.cap_spec.specs.Plain.{plain_text, plain_words};
 ghost use Rattle.cap_spec.specs.Words.{IsWord};
 ghost use Rattle.std.specs.List.{AllByRecursion};

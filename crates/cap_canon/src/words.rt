@@ -7,7 +7,7 @@ ghost use Rattle.cap_spec.specs.Pointers.{element_bits, list_words};
 ghost use Rattle.cap_spec.specs.Tree.{Tree};
 ghost use Rattle.cap_spec.specs.Words.{field};
 ghost use Rattle.cap_canon.specs.Values.{used_bits};
-ghost use Rattle.std.specs.Prelude.{◌+◌, ◌-◌, ◌*◌, ◌%◌, ◌<◌, ◌≤◌, ◌^◌, ◌≡◌, ◌==◌, if◌then◌else◌, List, ℕ};
+ghost use Rattle.std.specs.Prelude.{◌+◌, ◌-◌, ◌*◌, ◌%◌, ◌<◌, ◌^◌, ◌≡◌, ◌==◌, if◌then◌else◌, List, ℕ};
 
 use crate::objects::Object;
 use cap_ptr::{Pointer, element_bits};

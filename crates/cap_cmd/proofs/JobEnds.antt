@@ -1,49 +1,42 @@
 -- What a job did, and what it did whose status is that of success.
-use Rattle.std.proofs.Common.{◌≡◌, ◌≤◌, ◌∙◌, ℕ, length, Bool, false, true, Option, Some, None, List, Result, Ok, Err, subst, sym, arith}
-use Rattle.std.specs.Io.KnownBytes.{Appends, Keeps, append_known}
+use Rattle.cap_spec.specs.declared.CanonFault.TheVariants.{HasCapability, Memory as canon_memory}
+use Rattle.cap_spec.proofs.Prelude.{Bool, Err, List, None, Ok, Option, Result, Some, arith, false, length, subst, sym}
+use Rattle.cap_spec.proofs.Prelude.{true, ℕ, ◌∙◌, ◌≡◌, ◌≤◌, Appends, Keeps, append_known, pack_text, plain_text}
+use Rattle.cap_words.specs.declared.sources.SourceFault.TheVariants.{Device as source_device, Spent as source_spent}
+use Rattle.cap_words.specs.declared.sources.SourceFault.TheVariants.{Truncated as source_truncated}
+use Rattle.cap_frame.specs.Limit.{limit_of}
+use Rattle.cap_frame.specs.declared.fault.FrameFault.{FrameFault}
+use Rattle.cap_frame.specs.declared.fault.FrameFault.TheVariants.{Device, Memory, Spent, TooLarge, TooManySegments}
+use Rattle.cap_frame.specs.declared.fault.FrameFault.TheVariants.{Truncated}
+use Rattle.cap_vet.specs.Limits.{depth_of, words_of}
+use Rattle.cap_vet.specs.declared.demands.Demands.{Demands}
+use Rattle.cap_text.specs.declared.fault.Cause.{Cause}
+use Rattle.cap_text.specs.declared.fault.Cause.TheVariants.{Canon, Frame, NotStrict, Output, Refused, TooManyMessages}
+use Rattle.cap_text.specs.declared.fault.Cause.TheVariants.{Memory as no_marks}
+use Rattle.cap_text.specs.declared.fault.CopyFault.{CopyFault}
+use Rattle.cap_text.specs.declared.fault.CopyFault.TheVariants.{Source, TooManyWords, Output as copy_output}
+use Rattle.cap_text.specs.declared.fault.RunFault.{RunFault}
+use Rattle.cap_run.specs.Filtering.{FiltersStream}
+use Rattle.cap_run.specs.Prelude.{copies_of, TellsCheckUnder, TellsDumpUnder, TellsExclusiveUnder, TellsGetUnder}
+use Rattle.cap_run.specs.Prelude.{TellsVerdictUnder, WantsMarksUnder, TellsStream, most_packed_at_once, most_transcoded}
+use Rattle.cap_run.specs.Prelude.{most_unpacked_at_once, TellsExplainedExclusiveUnder, TellsExplainedUnder, PassesOn}
+use Rattle.cap_run.specs.Prelude.{TellsIn, WantsInForm, Appended, ReadsToEnd, Tells, TellsEach, TellsSegments, Told}
+use Rattle.cap_run.specs.Prelude.{WantsNone, messages_of, outcome_of, texts_of, Transcoded, TranscodesAll}
+use Rattle.cap_run.specs.declared.settings.FilterForm.{FilterForm}
+use Rattle.cap_run.specs.declared.settings.Outcome.{Outcome}
+use Rattle.cap_run.specs.declared.settings.Settings.{Settings}
+use Rattle.cap_run.proofs.FilterEnds.{reads_whole}
+use Rattle.cap_cmd.specs.Jobs.{CanonsInput, CanonsTo, DoesJob, DoesTask, TellsInput, TranscodesInput, TranscodesTo}
+use Rattle.cap_cmd.specs.Jobs.{WritesAll, input_is_cut, input_words}
+use Rattle.cap_cmd.specs.Statuses.{cause_status, frame_status, outcome_status, run_status, transcode_status}
+use Rattle.cap_cmd.specs.declared.job.Job.{Job}
+use Rattle.cap_cmd.specs.declared.job.Task.{Task}
+use Rattle.cap_cmd.specs.declared.job.Task.TheVariants.{Check, Dump, Explain, Filter, Get, Pack, Segments, Unpack, Vet}
+use Rattle.cap_cmd.specs.declared.job.Task.TheVariants.{Canon as canon_task}
 use Rattle.cap_words.specs.declared.ends.ByteIn as input
 use Rattle.cap_words.specs.declared.ends.ByteOut as output
 use Rattle.cap_words.specs.declared.sinks.WordSink as sink
 use Rattle.cap_words.specs.declared.sources.WordSource as source
-use Rattle.cap_words.specs.declared.sources.SourceFault.TheVariants.{Truncated as source_truncated}
-use Rattle.cap_words.specs.declared.sources.SourceFault.TheVariants.{Device as source_device, Spent as source_spent}
-use Rattle.cap_spec.specs.declared.CanonFault.TheVariants.{HasCapability, Memory as canon_memory}
-use Rattle.cap_frame.specs.declared.fault.FrameFault.{FrameFault}
-use Rattle.cap_frame.specs.declared.fault.FrameFault.TheVariants.{TooManySegments, TooLarge, Truncated}
-use Rattle.cap_frame.specs.declared.fault.FrameFault.TheVariants.{Device, Memory, Spent}
-use Rattle.cap_frame.specs.Limit.{limit_of}
-use Rattle.cap_vet.specs.Limits.{depth_of, words_of}
-use Rattle.cap_vet.specs.declared.demands.Demands.{Demands}
-use Rattle.cap_spec.specs.Packing.{pack_text}
-use Rattle.cap_spec.specs.Plain.{plain_text}
-use Rattle.cap_run.specs.Canons.{copies_of}
-use Rattle.cap_run.specs.Transcoding.{Transcoded, TranscodesAll}
-use Rattle.cap_run.specs.Engines.{TellsStream}
-use Rattle.cap_run.specs.Filtering.{FiltersStream, PassesOn, TellsIn, WantsInForm}
-use Rattle.cap_run.specs.declared.settings.FilterForm.{FilterForm}
-use Rattle.cap_run.specs.Running.{Appended}
-use Rattle.cap_run.specs.Streams.{ReadsToEnd}
-use Rattle.cap_run.specs.Engines.{most_packed_at_once, most_unpacked_at_once, most_transcoded}
-use Rattle.cap_run.specs.Telling.{Tells, TellsEach, TellsSegments, Told, WantsNone, messages_of, outcome_of, texts_of}
-use Rattle.cap_run.proofs.FilterEnds.{reads_whole}
-use Rattle.cap_run.specs.Demanding.{TellsCheckUnder, TellsDumpUnder, TellsExclusiveUnder, TellsGetUnder}
-use Rattle.cap_run.specs.Demanding.{TellsVerdictUnder, WantsMarksUnder}
-use Rattle.cap_run.specs.Explained.{TellsExplainedExclusiveUnder, TellsExplainedUnder}
-use Rattle.cap_text.specs.declared.fault.Cause.{Cause}
-use Rattle.cap_text.specs.declared.fault.Cause.TheVariants.{TooManyMessages, Frame, Output, Refused}
-use Rattle.cap_text.specs.declared.fault.Cause.TheVariants.{Canon, NotStrict, Memory as no_marks}
-use Rattle.cap_text.specs.declared.fault.CopyFault.{CopyFault}
-use Rattle.cap_text.specs.declared.fault.CopyFault.TheVariants.{TooManyWords, Source, Output as copy_output}
-use Rattle.cap_text.specs.declared.fault.RunFault.{RunFault}
-use Rattle.cap_run.specs.declared.settings.Outcome.{Outcome}
-use Rattle.cap_run.specs.declared.settings.Settings.{Settings}
-use Rattle.cap_cmd.specs.Statuses.{cause_status, transcode_status, frame_status, outcome_status, run_status}
-use Rattle.cap_cmd.specs.Jobs.{CanonsInput, CanonsTo, TranscodesInput, TranscodesTo, DoesJob, DoesTask}
-use Rattle.cap_cmd.specs.Jobs.{TellsInput, WritesAll, input_is_cut, input_words}
-use Rattle.cap_cmd.specs.declared.job.Job.{Job}
-use Rattle.cap_cmd.specs.declared.job.Task.{Task}
-use Rattle.cap_cmd.specs.declared.job.Task.TheVariants.{Segments, Vet, Filter, Dump, Get, Check, Pack, Unpack}
-use Rattle.cap_cmd.specs.declared.job.Task.TheVariants.{Canon as canon_task, Explain}
 
 -- bytes that are what others and a text were are those others, continued by the text
 kept_appends : (a b : Option (List ℕ)) (text : List ℕ) → Keeps (append_known a text) b → Appends a b text

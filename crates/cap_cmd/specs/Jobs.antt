@@ -2,47 +2,42 @@
 -- line of a fault report that answer (profile). The members of types have the letters of types. gi
 -- is of the input's, and gs of the source's over it. Those of the two outputs' are go and ge. That
 -- of a packer's over the first is gp, and that of a plain sink's is gu.
-use Rattle.std.specs.Prelude.{ℕ, ◌≡◌, ◌≤◌, ◌||◌, if◌then◌else◌, true, false, Bool, List, length}
-use Rattle.std.specs.Prelude.{sum, [], unwrap_or}
-use Rattle.std.specs.Prelude.{Option, Some, OnSome, Result, Ok, Err}
-use Rattle.std.specs.List.{AllByRecursion}
-use Rattle.std.specs.Option.{option_map}
 use Rattle.std.specs.Io.KnownBytes.{Appends, append_known}
-use Rattle.cap_spec.specs.Frames.{Stream, sizes_of}
+use Rattle.std.specs.List.{AllByRecursion}
+use Rattle.std.specs.Prelude.{Bool, Err, List, Ok, OnSome, Option, Result, Some, [], false, if◌then◌else◌, length}
+use Rattle.std.specs.Prelude.{option_map, sum, true, unwrap_or, ℕ, ◌||◌, ◌≡◌, ◌≤◌}
 use Rattle.cap_spec.specs.PackedEnds.{packed_ends}
-use Rattle.cap_spec.specs.Packing.{pack_text}
-use Rattle.cap_spec.specs.Plain.{plain_ends, plain_is_cut, plain_text, plain_words}
-use Rattle.cap_spec.specs.Unpacking.{packed_is_cut, unpacked}
-use Rattle.cap_words.specs.declared.ends.ByteIn as input
-use Rattle.cap_words.specs.declared.ends.ByteOut as output
+use Rattle.cap_spec.specs.Plain.{plain_ends}
+use Rattle.cap_spec.specs.Prelude.{Stream, sizes_of, pack_text, plain_is_cut, plain_text, plain_words, packed_is_cut}
+use Rattle.cap_spec.specs.Prelude.{unpacked}
 use Rattle.cap_words.specs.declared.ends.OutFault.{OutFault}
-use Rattle.cap_words.specs.declared.sinks.WordSink as sink
-use Rattle.cap_words.specs.declared.sources.WordSource as source
 use Rattle.cap_frame.specs.Limit.{limit_of}
 use Rattle.cap_vet.specs.Limits.{depth_of, words_of}
 use Rattle.cap_vet.specs.declared.demands.Demands.{Demands}
-use Rattle.cap_run.specs.Canons.{AreCanonised, Canonised, MakesCopiesUnder, canonised}
-use Rattle.cap_run.specs.Canons.{copies_of}
-use Rattle.cap_run.specs.Demanding.{TellsCheckUnder, TellsDumpUnder, TellsExclusiveUnder}
-use Rattle.cap_run.specs.Demanding.{TellsGetUnder, TellsVerdictUnder, WantsMarksUnder}
-use Rattle.cap_run.specs.Engines.{TranscodesWords, ShowsStream, TellsStream}
-use Rattle.cap_run.specs.Engines.{most_packed_at_once, most_unpacked_at_once, most_transcoded}
-use Rattle.cap_run.specs.Explained.{TellsExplainedExclusiveUnder, TellsExplainedUnder}
-use Rattle.cap_run.specs.Filtering.{FiltersUnder, PassesOn, TellsIn}
 use Rattle.cap_text.specs.FaultLines.{copy_fault_line, run_fault_line}
-use Rattle.cap_run.specs.Telling.{Tells, TellsEach, TellsSegments, Told, WantsNone}
-use Rattle.cap_run.specs.Telling.{messages_of, noncanonical_in, refused_in, texts_of}
 use Rattle.cap_text.specs.Writing.{Writes}
 use Rattle.cap_text.specs.declared.fault.CopyFault.{CopyFault}
 use Rattle.cap_text.specs.declared.fault.RunFault.{RunFault}
+use Rattle.cap_run.specs.Engines.{ShowsStream}
+use Rattle.cap_run.specs.Filtering.{FiltersUnder}
+use Rattle.cap_run.specs.Prelude.{AreCanonised, Canonised, MakesCopiesUnder, canonised, copies_of, TellsCheckUnder}
+use Rattle.cap_run.specs.Prelude.{TellsDumpUnder, TellsExclusiveUnder, TellsGetUnder, TellsVerdictUnder}
+use Rattle.cap_run.specs.Prelude.{WantsMarksUnder, TellsStream, TranscodesWords, most_packed_at_once, most_transcoded}
+use Rattle.cap_run.specs.Prelude.{most_unpacked_at_once, TellsExplainedExclusiveUnder, TellsExplainedUnder, PassesOn}
+use Rattle.cap_run.specs.Prelude.{TellsIn, Tells, TellsEach, TellsSegments, Told, WantsNone, messages_of}
+use Rattle.cap_run.specs.Prelude.{noncanonical_in, refused_in, texts_of}
 use Rattle.cap_run.specs.declared.settings.FilterForm.{FilterForm}
 use Rattle.cap_run.specs.declared.settings.Outcome.{Outcome}
 use Rattle.cap_run.specs.declared.settings.Settings.{Settings}
-use Rattle.cap_cmd.specs.Statuses.{transcode_status, run_status}
+use Rattle.cap_cmd.specs.Statuses.{run_status, transcode_status}
 use Rattle.cap_cmd.specs.declared.job.Job.{Job}
 use Rattle.cap_cmd.specs.declared.job.Task.{Task}
-use Rattle.cap_cmd.specs.declared.job.Task.TheVariants.{Segments, Vet, Filter, Dump, Get, Check}
-use Rattle.cap_cmd.specs.declared.job.Task.TheVariants.{Canon, Explain, Pack, Unpack}
+use Rattle.cap_cmd.specs.declared.job.Task.TheVariants.{Canon, Check, Dump, Explain, Filter, Get, Pack, Segments}
+use Rattle.cap_cmd.specs.declared.job.Task.TheVariants.{Unpack, Vet}
+use Rattle.cap_words.specs.declared.ends.ByteIn as input
+use Rattle.cap_words.specs.declared.ends.ByteOut as output
+use Rattle.cap_words.specs.declared.sinks.WordSink as sink
+use Rattle.cap_words.specs.declared.sources.WordSource as source
 
 -- the input of unpacking is packed, that of packing is not, and for messages the user decides
 abbrev pub is_packed : Task → Bool → Bool

@@ -1,21 +1,19 @@
 -- The exit statuses (profile).
-use Rattle.std.specs.Prelude.{ℕ, ◌==◌, ◌&&◌, if◌then◌else◌, Result, Ok, Err}
-use Rattle.cap_words.specs.declared.sources.SourceFault.{SourceFault}
-use Rattle.cap_words.specs.declared.sources.SourceFault.TheVariants.{Truncated as source_truncated}
-use Rattle.cap_words.specs.declared.sources.SourceFault.TheVariants.{Device as source_device}
-use Rattle.cap_words.specs.declared.sources.SourceFault.TheVariants.{Spent as source_spent}
-use Rattle.cap_frame.specs.declared.fault.FrameFault.{FrameFault}
-use Rattle.cap_frame.specs.declared.fault.FrameFault.TheVariants.{TooManySegments, TooLarge}
-use Rattle.cap_frame.specs.declared.fault.FrameFault.TheVariants.{Truncated, Device, Memory, Spent}
+use Rattle.std.specs.Prelude.{Err, Ok, Result, if◌then◌else◌, ℕ, ◌&&◌, ◌==◌}
 use Rattle.cap_spec.specs.declared.CanonFault.{CanonFault}
-use Rattle.cap_spec.specs.declared.CanonFault.TheVariants.{HasCapability}
-use Rattle.cap_spec.specs.declared.CanonFault.TheVariants.{Memory as canon_memory}
+use Rattle.cap_spec.specs.declared.CanonFault.TheVariants.{HasCapability, Memory as canon_memory}
+use Rattle.cap_words.specs.declared.sources.SourceFault.{SourceFault}
+use Rattle.cap_words.specs.declared.sources.SourceFault.TheVariants.{Device as source_device, Spent as source_spent}
+use Rattle.cap_words.specs.declared.sources.SourceFault.TheVariants.{Truncated as source_truncated}
+use Rattle.cap_frame.specs.declared.fault.FrameFault.{FrameFault}
+use Rattle.cap_frame.specs.declared.fault.FrameFault.TheVariants.{Device, Memory, Spent, TooLarge, TooManySegments}
+use Rattle.cap_frame.specs.declared.fault.FrameFault.TheVariants.{Truncated}
 use Rattle.cap_text.specs.declared.fault.Cause.{Cause}
-use Rattle.cap_text.specs.declared.fault.Cause.TheVariants.{TooManyMessages, Frame, Output, Refused}
-use Rattle.cap_text.specs.declared.fault.Cause.TheVariants.{Canon, NotStrict, Memory as no_marks}
+use Rattle.cap_text.specs.declared.fault.Cause.TheVariants.{Canon, Frame, NotStrict, Output, Refused, TooManyMessages}
+use Rattle.cap_text.specs.declared.fault.Cause.TheVariants.{Memory as no_marks}
 use Rattle.cap_text.specs.declared.fault.CopyFault.{CopyFault}
-use Rattle.cap_text.specs.declared.fault.CopyFault.TheVariants.{TooManyWords, Source as copy_source}
-use Rattle.cap_text.specs.declared.fault.CopyFault.TheVariants.{Output as copy_output}
+use Rattle.cap_text.specs.declared.fault.CopyFault.TheVariants.{TooManyWords, Output as copy_output}
+use Rattle.cap_text.specs.declared.fault.CopyFault.TheVariants.{Source as copy_source}
 use Rattle.cap_text.specs.declared.fault.RunFault.{RunFault}
 use Rattle.cap_run.specs.declared.settings.Outcome.{Outcome}
 

@@ -1,26 +1,23 @@
 -- The lines that explain a refusal (profile).
-use Rattle.std.specs.Prelude.{ℕ, ◌+◌, ◌-◌, ◌*◌, ◌==◌, nat_lt, if◌then◌else◌, List, [], ◌∷◌, ◌++◌, codes}
-use Rattle.std.specs.Prelude.{decimal, length, Option, Some, None}
+use Rattle.std.specs.Prelude.{List, None, Option, Some, [], codes, decimal, if◌then◌else◌, length, nat_lt, ℕ, ◌*◌, ◌++◌}
+use Rattle.std.specs.Prelude.{◌+◌, ◌-◌, ◌==◌, ◌∷◌}
 use Rattle.cap_spec.specs.Messages.{segment_of}
 use Rattle.cap_spec.specs.PathTexts.{path_text}
-use Rattle.cap_spec.specs.Pointers.{data_size, extent, far_segment, list_size, middle, pad}
-use Rattle.cap_spec.specs.Pointers.{pointer_size}
+use Rattle.cap_spec.specs.Pointers.{data_size, extent, far_segment, list_size, middle, pad, pointer_size}
 use Rattle.cap_spec.specs.Texts.{hex}
 use Rattle.cap_spec.specs.declared.Reason.TheVariants.{CompositeOverrun, DepthLimit, WordLimit}
 use Rattle.cap_spec.specs.declared.Step.{Step}
 use Rattle.cap_spec.specs.declared.StrictRefusal.{StrictRefusal}
-use Rattle.cap_spec.specs.declared.StrictRefusal.TheVariants.{Refused as refused, ManySegments as many}
-use Rattle.cap_spec.specs.declared.StrictRefusal.TheVariants.{Pointer as not_strict}
+use Rattle.cap_spec.specs.declared.StrictRefusal.TheVariants.{ManySegments as many, Pointer as not_strict}
+use Rattle.cap_spec.specs.declared.StrictRefusal.TheVariants.{Refused as refused}
 use Rattle.cap_explain.specs.FormTexts.{difference_text, form_text, place_text, tag_text}
-use Rattle.cap_explain.specs.Leading.{byte_of, target_of, landing_of, segment_after, tag_of}
-use Rattle.cap_explain.specs.Leading.{is_structs, word_of}
+use Rattle.cap_explain.specs.Leading.{byte_of, is_structs, landing_of, segment_after, tag_of, target_of, word_of}
 use Rattle.cap_explain.specs.Sentences.{names_pointer, sentence}
-use Rattle.cap_explain.specs.declared.target.Target.{Target}
 use Rattle.cap_explain.specs.declared.landing.Landing.{Landing}
-use Rattle.cap_explain.specs.declared.landing.Landing.TheVariants.{Near, Missing, Outside, One, Two}
+use Rattle.cap_explain.specs.declared.landing.Landing.TheVariants.{Missing, Near, One, Outside, Two}
 use Rattle.cap_explain.specs.declared.sentences.Fault.{Fault}
-use Rattle.cap_explain.specs.declared.sentences.Fault.TheVariants.{Refused, ManySegments, NotStrict}
-use Rattle.cap_explain.specs.declared.sentences.Fault.TheVariants.{Overlap}
+use Rattle.cap_explain.specs.declared.sentences.Fault.TheVariants.{ManySegments, NotStrict, Overlap, Refused}
+use Rattle.cap_explain.specs.declared.target.Target.{Target}
 
 -- where the pointer word is
 abbrev pub byte_line : List (List ℕ) → ℕ → ℕ → List ℕ

@@ -1,8 +1,7 @@
 -- The texts of pointer words, by their forms and fields (profile).
-use Rattle.std.specs.Prelude.{ℕ, ◌+◌, ◌-◌, ◌^◌, ◌==◌, nat_lt, if◌then◌else◌, List, ◌∷◌, ◌++◌, codes}
-use Rattle.std.specs.Prelude.{decimal}
-use Rattle.cap_spec.specs.Pointers.{cap_index, code, data_size, far_segment, kind, list_size}
-use Rattle.cap_spec.specs.Pointers.{middle, pad, pointer_size, two}
+use Rattle.std.specs.Prelude.{List, codes, decimal, if◌then◌else◌, nat_lt, ℕ, ◌++◌, ◌+◌, ◌-◌, ◌==◌, ◌^◌, ◌∷◌}
+use Rattle.cap_spec.specs.Pointers.{cap_index, code, data_size, far_segment, kind, list_size, middle, pad, pointer_size}
+use Rattle.cap_spec.specs.Pointers.{two}
 
 -- a segment and a word
 abbrev pub place_text : ℕ → ℕ → List ℕ

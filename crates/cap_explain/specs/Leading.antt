@@ -1,14 +1,14 @@
 -- The words that a pointer leads through, and where its target is, as far as the message has them
 -- (profile).
-use Rattle.std.specs.Prelude.{ℕ, ◌+◌, ◌-◌, ◌*◌, ◌/◌, ◌==◌, nat_lt, if◌then◌else◌, Bool, false, List}
-use Rattle.std.specs.Prelude.{length, Option, Some, None, slice_get}
+use Rattle.std.specs.Prelude.{Bool, List, None, Option, Some, false, if◌then◌else◌, length, nat_lt, slice_get, ℕ, ◌*◌}
+use Rattle.std.specs.Prelude.{◌+◌, ◌-◌, ◌/◌, ◌==◌}
 use Rattle.cap_spec.specs.Messages.{segment_of}
 use Rattle.cap_spec.specs.Pointers.{code, far_segment, kind, middle, pad, two}
 use Rattle.cap_vet.specs.Taken.{start_of}
 use Rattle.cap_explain.specs.FormTexts.{excess}
-use Rattle.cap_explain.specs.declared.target.Target.{Target}
 use Rattle.cap_explain.specs.declared.landing.Landing.{Landing}
-use Rattle.cap_explain.specs.declared.landing.Landing.TheVariants.{Near, Missing, Outside, One, Two}
+use Rattle.cap_explain.specs.declared.landing.Landing.TheVariants.{Missing, Near, One, Outside, Two}
+use Rattle.cap_explain.specs.declared.target.Target.{Target}
 
 -- word w of segment s, if there is one
 abbrev pub word_of : List (List ℕ) → ℕ → ℕ → Option ℕ

@@ -1,19 +1,17 @@
 -- Each reason of a refusal, as a sentence (profile).
-use Rattle.std.specs.Prelude.{ℕ, nat_lt, if◌then◌else◌, List, codes, Option, Some, None, Bool, true, false}
+use Rattle.std.specs.Prelude.{Bool, List, None, Option, Some, codes, false, if◌then◌else◌, nat_lt, true, ℕ}
 use Rattle.cap_spec.specs.declared.Lax.{Lax}
-use Rattle.cap_spec.specs.declared.Lax.TheVariants.{NullPad, EmptySegment, CapabilityPad}
+use Rattle.cap_spec.specs.declared.Lax.TheVariants.{CapabilityPad, EmptySegment, NullPad}
 use Rattle.cap_spec.specs.declared.Reason.{Reason}
-use Rattle.cap_spec.specs.declared.Reason.TheVariants.{NoRoot, Reserved, SegmentMissing, PadOutside}
-use Rattle.cap_spec.specs.declared.Reason.TheVariants.{PadIsFar, PadNotFar, TagKind, TagOffset}
-use Rattle.cap_spec.specs.declared.Reason.TheVariants.{OutOfSegment, CompositeTag, CompositeOverrun}
-use Rattle.cap_spec.specs.declared.Reason.TheVariants.{DepthLimit, WordLimit}
-use Rattle.cap_explain.specs.declared.target.Target.{Target}
+use Rattle.cap_spec.specs.declared.Reason.TheVariants.{CompositeOverrun, CompositeTag, DepthLimit, NoRoot, OutOfSegment}
+use Rattle.cap_spec.specs.declared.Reason.TheVariants.{PadIsFar, PadNotFar, PadOutside, Reserved, SegmentMissing}
+use Rattle.cap_spec.specs.declared.Reason.TheVariants.{TagKind, TagOffset, WordLimit}
 use Rattle.cap_explain.specs.Leading.{is_structs}
 use Rattle.cap_explain.specs.declared.landing.Landing.{Landing}
 use Rattle.cap_explain.specs.declared.landing.Landing.TheVariants.{One, Two}
 use Rattle.cap_explain.specs.declared.sentences.Fault.{Fault}
-use Rattle.cap_explain.specs.declared.sentences.Fault.TheVariants.{Refused, ManySegments, NotStrict}
-use Rattle.cap_explain.specs.declared.sentences.Fault.TheVariants.{Overlap}
+use Rattle.cap_explain.specs.declared.sentences.Fault.TheVariants.{ManySegments, NotStrict, Overlap, Refused}
+use Rattle.cap_explain.specs.declared.target.Target.{Target}
 
 -- the pointer itself is reserved, or the word of its landing pad
 abbrev pub reserved_sentence : Landing → List ℕ

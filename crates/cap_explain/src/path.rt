@@ -1,10 +1,10 @@
 //! The line of a path.
 
-ghost use Rattle.cap_explain.specs.Explaining.{path_explanation, path_line, path_lines};
+ghost use Rattle.cap_explain.specs.Explaining.{path_line, path_lines};
 ghost use Rattle.cap_spec.specs.PathTexts.{path_text, step_text};
 ghost use Rattle.std.specs.List.{flat_map};
 ghost use Rattle.std.specs.Option.{option_map};
-ghost use Rattle.std.specs.Prelude.{◌+◌, ◌*◌, ◌++◌, ◌<◌, ◌≡◌, ◌≤◌, length};
+ghost use Rattle.std.specs.Prelude.{◌+◌, ◌*◌, ◌++◌, ◌≡◌, ◌≤◌, length};
 
 use crate::explanation::{CAPACITY, DIGITS, Explanation, FEW_DIGITS};
 use cap_spec::Step;

@@ -1,17 +1,13 @@
 -- The rest of a table behind its first word, and the contents behind a table: what was read, and why nothing was.
-use Rattle.std.proofs.Common.{◌≡◌, ℕ, ◌+◌, ◌/◌, ◌%◌, ◌^◌, ◌<◌, ◌≤◌, Bool, Option, Some, None, List, [], ◌∷◌, ◌++◌}
-use Rattle.std.proofs.Common.{length, drop, sum, IfSome, refl, sym, subst, arith}
-use Rattle.std.specs.Io.KnownBytes.{Consumes}
-use Rattle.std.proofs.lemmas.List.{get_or-map, length-map}
 use Rattle.std.proofs.lemmas.List.Elements.{All-from_recursion}
+use Rattle.cap_spec.proofs.Prelude.{Bool, IfSome, List, None, Option, Some, [], arith, drop, length, refl, subst, sum}
+use Rattle.cap_spec.proofs.Prelude.{sym, ℕ, ◌%◌, ◌++◌, ◌+◌, ◌/◌, ◌<◌, ◌^◌, ◌∷◌, ◌≡◌, ◌≤◌, get_or-map, length-map}
+use Rattle.cap_spec.proofs.Prelude.{Consumes, Frames, IsPartial, IsTable, in_contents, in_table, joined, sizes_of}
+use Rattle.cap_spec.proofs.Prelude.{IsMessage}
+use Rattle.cap_words.specs.declared.sources.SourceFault.TheVariants.{Device, Spent, Truncated}
+use Rattle.cap_frame.specs.Prelude.{SourceFault, Faults, TakesTable, frame_fault_of, IsUsable, Stops, Takes}
+use Rattle.cap_frame.proofs.Taking.{breaks_later, stops_later, takes_both}
 use Rattle.cap_words.specs.declared.sources.WordSource as source
-use Rattle.cap_words.specs.declared.sources.SourceFault.{SourceFault}
-use Rattle.cap_words.specs.declared.sources.SourceFault.TheVariants.{Truncated, Device, Spent}
-use Rattle.cap_spec.specs.Messages.{IsMessage}
-use Rattle.cap_spec.specs.Frames.{joined, sizes_of, IsTable, Frames, IsPartial, in_table, in_contents}
-use Rattle.cap_frame.specs.Taking.{Takes, IsUsable, Stops}
-use Rattle.cap_frame.specs.ReadingFaults.{TakesTable, Faults, frame_fault_of}
-use Rattle.cap_frame.proofs.Taking.{takes_both, breaks_later, stops_later}
 
 -- where fewer words are left than the table needs, they are a part of a frame
 pub partial_table : (a b : Option (List ℕ)) (limit first n byte : ℕ) (ps qs : List ℕ) (cut : Bool) → first % 2 ^ 32 < 512

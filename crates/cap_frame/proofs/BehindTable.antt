@@ -1,11 +1,8 @@
 -- What is kept of a framed message in front of bytes, and its segments.
-use Rattle.std.proofs.Common.{◌≡◌, ◌∙◌, ℕ, ◌+◌, ◌*◌, ◌≤◌, List, [], ◌∷◌, length, drop, sum, flat_map, sym, ap, arith, zero-add}
-use Rattle.std.proofs.lemmas.List.{length-drop, length-take-le}
-use Rattle.cap_spec.specs.Frames.{halves, sizes_of}
-use Rattle.cap_spec.specs.Plain.{plain_words}
 use Rattle.cap_spec.proofs.Frames.Framing.{length_halves}
-use Rattle.cap_frame.specs.Bytes.{cut}
-use Rattle.cap_frame.specs.Fronts.{sizes_told, table_words}
+use Rattle.cap_spec.proofs.Prelude.{List, [], ap, arith, drop, flat_map, length, length-drop, length-take-le, sum, sym}
+use Rattle.cap_spec.proofs.Prelude.{zero-add, ℕ, ◌*◌, ◌+◌, ◌∙◌, ◌∷◌, ◌≡◌, ◌≤◌, halves, sizes_of, plain_words}
+use Rattle.cap_frame.specs.Prelude.{cut, sizes_told, table_words}
 use Rattle.cap_frame.proofs.Cuts.{cut_length, words_all}
 use Rattle.cap_frame.proofs.InOneBuffer.{held_sizes}
 

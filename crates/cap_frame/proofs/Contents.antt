@@ -1,18 +1,16 @@
 -- Reading the words of segments, one segment after the other.
-use Rattle.std.proofs.Common.{◌≡◌, ◌∙◌, ℕ, ◌+◌, ◌<◌, ◌≤◌, suc, false, List, [], ◌∷◌, ◌++◌, length, take, drop, map, sum}
-use Rattle.std.proofs.Common.{get_or, refl, sym, ap, subst, arith, add-one, append-nil, length-append}
-use Rattle.std.proofs.Math.ListN.{set}
-use Rattle.std.proofs.Math.Seq.{drop-cons}
-use Rattle.std.proofs.lemmas.List.{take_more, map-append, take_more_set, drop-set-lt, length-set}
+use Rattle.std.proofs.Common.{List, [], add-one, ap, append-nil, arith, drop, drop-cons, drop-set-lt, false, get_or}
+use Rattle.std.proofs.Common.{length, length-append, length-set, map, refl, set, subst, suc, sum, sym, take, ℕ, ◌++◌}
+use Rattle.std.proofs.Common.{◌+◌, ◌<◌, ◌∙◌, ◌∷◌, ◌≡◌, ◌≤◌}
 use Rattle.std.proofs.lemmas.Grind.{flat_map-append}
-use Rattle.cap_words.specs.declared.sources.WordSource as source
-use Rattle.cap_words.specs.declared.sources.SourceFault.{SourceFault}
+use Rattle.std.proofs.lemmas.List.{map-append, take_more, take_more_set}
 use Rattle.cap_spec.specs.Frames.{joined, sizes_of}
 use Rattle.cap_spec.proofs.Frames.Endings.{length_joined}
-use Rattle.cap_frame.specs.Taking.{Takes, ReadsInput, IsUsable, Stops}
+use Rattle.cap_frame.specs.Prelude.{SourceFault, IsUsable, ReadsInput, Stops, Takes}
 use Rattle.cap_frame.specs.Rooms.{AreRooms}
 use Rattle.cap_frame.proofs.Cuts.{front_sum}
 use Rattle.cap_frame.proofs.Taking.{Took, took_more, took_none, took_stop}
+use Rattle.cap_words.specs.declared.sources.WordSource as source
 
 -- as many rooms as sizes
 pub rooms_many : {V : Type 0} (f : V → List ℕ) (room : V → ℕ) (vs : List V) (ns : List ℕ) → AreRooms f room vs ns → length vs ≡ length ns

@@ -1,18 +1,16 @@
 -- What is known of the words of a source decides the result of reading a message, its faults and out of memory aside.
-use Rattle.std.proofs.Common.{◌≡◌, ◌∙◌, ℕ, ◌+◌, ◌%◌, ◌^◌, Bool, true, false, Option, Some, None, Result, Ok, Err, List}
-use Rattle.std.proofs.Common.{[], ◌∷◌, ◌++◌, length, drop, sum, IfSome, OnSome, refl, sym, ap, subst, arith}
-use Rattle.std.specs.Bool.{⊤}
-use Rattle.std.specs.Io.KnownBytes.{Consumes}
+use Rattle.cap_spec.specs.Endings.{none}
+use Rattle.cap_spec.proofs.Lemmas.{one_frame, same_table, one_ending}
+use Rattle.cap_spec.proofs.Prelude.{Bool, Err, IfSome, List, None, Ok, OnSome, Option, Result, Some, [], ap, arith}
+use Rattle.cap_spec.proofs.Prelude.{drop, false, length, refl, subst, sum, sym, true, ℕ, ◌%◌, ◌++◌, ◌+◌, ◌^◌, ◌∙◌, ◌∷◌}
+use Rattle.cap_spec.proofs.Prelude.{◌≡◌, Consumes, ⊤, BeginsMessage, Ending, EndsIn, TellsTooMany, TellsTooMuch}
+use Rattle.cap_spec.proofs.Prelude.{message, partial, too_large, too_many, IsPartial}
+use Rattle.cap_frame.specs.Prelude.{ReadsNext, TakesFrame, Faults, Takes, FrameFault}
+use Rattle.cap_frame.specs.Reading.{Decides}
+use Rattle.cap_frame.specs.ReadingFaults.{Answered}
+use Rattle.cap_frame.specs.declared.fault.FrameFault.TheVariants.{Device, Memory, Spent, TooLarge, TooManySegments}
+use Rattle.cap_frame.specs.declared.fault.FrameFault.TheVariants.{Truncated}
 use Rattle.cap_words.specs.declared.sources.WordSource as source
-use Rattle.cap_spec.specs.Endings.{BeginsMessage, EndsIn, Ending, TellsTooMany, TellsTooMuch, message, none, partial, too_large, too_many}
-use Rattle.cap_spec.specs.Frames.{IsPartial}
-use Rattle.cap_spec.proofs.Frames.Framing.{one_frame, same_table}
-use Rattle.cap_spec.proofs.Frames.OneEnding.{one_ending}
-use Rattle.cap_frame.specs.declared.fault.FrameFault.{FrameFault}
-use Rattle.cap_frame.specs.declared.fault.FrameFault.TheVariants.{TooManySegments, TooLarge, Truncated, Device, Memory, Spent}
-use Rattle.cap_frame.specs.Reading.{Decides, ReadsNext, TakesFrame}
-use Rattle.cap_frame.specs.ReadingFaults.{Answered, Faults}
-use Rattle.cap_frame.specs.Taking.{Takes}
 
 -- known words that were taken from are known still
 pub known_still : (ws own : List ℕ) (b : Option (List ℕ)) → Consumes (Some ws) b own → (rest : List ℕ) × (b ≡ Some rest) × (ws ≡ own ++ rest)

@@ -1,14 +1,12 @@
 -- Words of segments whose bytes stand one behind the other.
-use Rattle.std.proofs.Common.{◌≡◌, ℕ, zero, suc, ◌+◌, ◌-◌, ◌*◌, ◌^◌, ◌<◌, ◌≤◌, List, [], ◌∷◌, length, drop, take}
-use Rattle.std.proofs.Common.{sum, get_or, refl, sym, ap, ◌∙◌, subst, arith, zero-add, Some, slice_get}
-use Rattle.std.specs.List.{All}
-use Rattle.std.proofs.lemmas.List.{drop-drop, drop-take, get_or_default, length-drop, length-take-le, get_or-take, take_more}
-use Rattle.std.proofs.lemmas.List.Sums.{sum_by-append, sum_by-cons, sum_by-take-le}
-use Rattle.byteorder.specs.Endian.{little_from, little_number}
-use Rattle.cap_spec.specs.Messages.{IsMessage}
-use Rattle.cap_frame.specs.Bytes.{cut, starts_of}
-use Rattle.cap_spec.specs.Plain.{plain_words}
+use Rattle.std.proofs.lemmas.List.Sums.{sum_by-take-le}
 use Rattle.cap_spec.proofs.Bytes.Plain.{words_exact}
+use Rattle.cap_spec.proofs.Prelude.{All, List, Some, [], ap, arith, drop, drop-drop, get_or, get_or-take, length}
+use Rattle.cap_spec.proofs.Prelude.{length-drop, length-take-le, refl, slice_get, subst, suc, sum, sym, take, zero}
+use Rattle.cap_spec.proofs.Prelude.{zero-add, ℕ, ◌*◌, ◌+◌, ◌-◌, ◌<◌, ◌^◌, ◌∙◌, ◌∷◌, ◌≡◌, ◌≤◌, drop-take, get_or_default}
+use Rattle.cap_spec.proofs.Prelude.{take_more, sum_by-append, sum_by-cons, little_from, little_number, IsMessage}
+use Rattle.cap_spec.proofs.Prelude.{plain_words}
+use Rattle.cap_frame.specs.Bytes.{cut, starts_of}
 
 -- whole words are eight bytes each
 pub words_inside : (bs : List ℕ) → 8 * length (plain_words bs) ≤ length bs

@@ -1,17 +1,16 @@
 -- What holds of the bytes decides what is found at their start.
-use Rattle.std.proofs.Common.{◌≡◌, ◌∙◌, ℕ, ◌+◌, ◌*◌, ◌%◌, ◌^◌, false, Option, Some, None, Result, Ok, Err, List, []}
-use Rattle.std.proofs.Common.{length, sum, IsOkAnd, IsSomeAnd, refl, sym, ap, subst}
-use Rattle.cap_spec.specs.Endings.{BeginsMessage, EndsIn, Ending, message, none, partial, too_large, too_many}
+use Rattle.std.proofs.Common.{Err, IsOkAnd, IsSomeAnd, List, None, Ok, Option, Result, Some, [], ap, false, length}
+use Rattle.std.proofs.Common.{refl, subst, sum, sym, ℕ, ◌%◌, ◌*◌, ◌+◌, ◌^◌, ◌∙◌, ◌≡◌}
+use Rattle.cap_spec.specs.Endings.{BeginsMessage, Ending, EndsIn, message, none, partial, too_large, too_many}
 use Rattle.cap_spec.specs.Frames.{IsPartial}
-use Rattle.cap_spec.specs.Plain.{plain_words, plain_is_cut}
-use Rattle.cap_spec.proofs.Frames.Framing.{one_frame, same_table}
+use Rattle.cap_spec.specs.Plain.{plain_is_cut, plain_words}
 use Rattle.cap_spec.proofs.Frames.Endings.{no_table, table_whole}
-use Rattle.cap_spec.proofs.Frames.OneEnding.{one_ending}
+use Rattle.cap_spec.proofs.Lemmas.{one_frame, same_table, one_ending}
 use Rattle.cap_frame.specs.Framed.{DecidesFront, TellsFront, frame_bytes, framed_segments}
-use Rattle.cap_frame.specs.Fronts.{IsFront, TellsMany, TellsLarge, Wants, a_word, a_table, a_frame, table_words}
-use Rattle.cap_frame.specs.declared.framed.Framed.{Framed}
+use Rattle.cap_frame.specs.Fronts.{IsFront, TellsLarge, TellsMany, Wants, a_frame, a_table, a_word, table_words}
 use Rattle.cap_frame.specs.declared.fault.FrontFault.{FrontFault}
-use Rattle.cap_frame.specs.declared.fault.FrontFault.TheVariants.{TooManySegments, TooLarge, Truncated}
+use Rattle.cap_frame.specs.declared.fault.FrontFault.TheVariants.{TooLarge, TooManySegments, Truncated}
+use Rattle.cap_frame.specs.declared.framed.Framed.{Framed}
 
 -- words want one number of bytes
 one_wanted : (ws : List ℕ) (a b : ℕ) → Wants ws a → Wants ws b → a ≡ b

@@ -1,21 +1,15 @@
 -- What the table in front of bytes tells, and what each answer to it tells of the bytes.
-use Rattle.std.proofs.Common.{◌≡◌, ◌∙◌, ℕ, suc, ◌+◌, ◌*◌, ◌/◌, ◌%◌, ◌^◌, ◌<◌, ◌≤◌, List, [], ◌∷◌, ◌++◌, length}
-use Rattle.std.proofs.Common.{drop, take, sum, flat_map, refl, sym, ap, subst, arith, append_assoc}
-use Rattle.std.proofs.Common.{length-append, take-append-drop}
-use Rattle.std.specs.List.{AllByRecursion}
-use Rattle.std.proofs.lemmas.List.{length-drop, length-take-le, take-append-le}
 use Rattle.std.proofs.lemmas.List.Concat.{flat_map-append}
-use Rattle.byteorder.specs.Endian.{little_number}
-use Rattle.cap_spec.specs.Frames.{halves, joined, sizes_of, IsTable, IsPartial, in_word, in_table, in_contents}
-use Rattle.cap_spec.specs.Endings.{TellsTooMuch}
-use Rattle.cap_spec.specs.Plain.{plain_words, plain_is_cut}
-use Rattle.cap_spec.specs.Words.{IsWord}
-use Rattle.cap_spec.proofs.Frames.Framing.{length_halves, table_length}
-use Rattle.cap_spec.proofs.Bytes.Lists.{all_take}
+use Rattle.cap_spec.proofs.Bytes.Plain.{plain_cut_short}
 use Rattle.cap_spec.proofs.Frames.OneEnding.{makes_table}
-use Rattle.cap_spec.proofs.Bytes.Plain.{plain_cut_short, plain_short, plain_split}
-use Rattle.cap_frame.specs.Bytes.{cut}
-use Rattle.cap_frame.specs.Fronts.{IsFront, TellsMany, TellsLarge, Wants, a_word, a_table, a_frame, sizes_told, table_words}
+use Rattle.cap_spec.proofs.Lemmas.{all_take, plain_short, plain_split, length_halves, table_length}
+use Rattle.cap_spec.proofs.Prelude.{List, [], ap, append_assoc, arith, drop, flat_map, length, length-append}
+use Rattle.cap_spec.proofs.Prelude.{length-drop, length-take-le, refl, subst, suc, sum, sym, take, take-append-drop, ℕ}
+use Rattle.cap_spec.proofs.Prelude.{◌%◌, ◌*◌, ◌++◌, ◌+◌, ◌/◌, ◌<◌, ◌^◌, ◌∙◌, ◌∷◌, ◌≡◌, ◌≤◌, take-append-le}
+use Rattle.cap_spec.proofs.Prelude.{AllByRecursion, little_number, TellsTooMuch, IsPartial, IsTable, halves}
+use Rattle.cap_spec.proofs.Prelude.{in_contents, in_table, in_word, joined, sizes_of, plain_is_cut, plain_words, IsWord}
+use Rattle.cap_frame.specs.Fronts.{Wants, a_frame, a_table, a_word}
+use Rattle.cap_frame.specs.Prelude.{cut, IsFront, TellsLarge, TellsMany, sizes_told, table_words}
 use Rattle.cap_frame.proofs.Cuts.{words_all, words_inside}
 use Rattle.cap_frame.proofs.Halves.{first_half}
 use Rattle.cap_frame.proofs.InOneBuffer.{held_joined, held_sizes}

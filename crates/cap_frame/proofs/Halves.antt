@@ -1,14 +1,9 @@
 -- The halves of the words of bytes are the bytes' numbers of four bytes each.
-use Rattle.std.proofs.Common.{◌≡◌, ◌∙◌, ℕ, zero, suc, ◌+◌, ◌*◌, ◌/◌, ◌%◌, ◌^◌, ◌<◌, ◌≤◌, List, [], ◌∷◌, ◌++◌, length}
-use Rattle.std.proofs.Common.{drop, sum, get_or, flat_map, sym, ap, arith, zero-add}
-use Rattle.std.specs.List.{AllByRecursion}
 use Rattle.std.proofs.lemmas.Grind.{get_or_after_one}
-use Rattle.std.proofs.lemmas.List.{length-drop, take_more}
-use Rattle.std.proofs.lemmas.List.Sums.{sum_by-append}
-use Rattle.byteorder.specs.Endian.{little_number}
-use Rattle.cap_spec.specs.Frames.{halves}
-use Rattle.cap_spec.specs.Plain.{plain_words}
 use Rattle.cap_spec.proofs.Frames.Framing.{length_halves}
+use Rattle.cap_spec.proofs.Prelude.{List, [], ap, arith, drop, flat_map, get_or, length, length-drop, suc, sum, sym}
+use Rattle.cap_spec.proofs.Prelude.{zero, zero-add, ℕ, ◌%◌, ◌*◌, ◌++◌, ◌+◌, ◌/◌, ◌<◌, ◌^◌, ◌∙◌, ◌∷◌, ◌≡◌, ◌≤◌}
+use Rattle.cap_spec.proofs.Prelude.{take_more, sum_by-append, AllByRecursion, little_number, halves, plain_words}
 use Rattle.cap_frame.specs.Fronts.{sizes_told}
 
 -- half k of the words is the number at byte 4 k

@@ -1,19 +1,14 @@
 -- Words that are read into one buffer, piece by piece.
-use Rattle.std.proofs.Common.{◌≡◌, ◌∙◌, ℕ, ◌+◌, ◌-◌, ◌*◌, ◌/◌, ◌%◌, ◌≤◌, List, [], ◌∷◌, ◌++◌, length, take, drop}
-use Rattle.std.proofs.Common.{sum, refl, sym, ap, arith, append-nil, append_assoc, length-append, length-drop}
-use Rattle.std.proofs.Math.Seq.{take-add, take-append_seam}
-use Rattle.std.proofs.lemmas.List.{length-take-le, take-append-le, take-take, take_all}
-use Rattle.std.proofs.lemmas.List.Sums.{sum_by-cons}
-use Rattle.cap_words.specs.declared.sources.WordSource as source
-use Rattle.cap_words.specs.declared.sources.SourceFault.{SourceFault}
-use Rattle.cap_words.proofs.Filling.{plain_join}
-use Rattle.cap_spec.specs.Frames.{joined, sizes_of}
-use Rattle.cap_spec.specs.Plain.{plain_words}
-use Rattle.cap_frame.specs.Bytes.{cut}
-use Rattle.cap_frame.specs.Taking.{Takes, ReadsInput, IsUsable, Stops}
-use Rattle.cap_frame.proofs.Cuts.{words_inside}
 use Rattle.cap_spec.proofs.Bytes.Plain.{words_exact}
+use Rattle.cap_spec.proofs.Prelude.{List, [], ap, append-nil, append_assoc, arith, drop, length, length-append}
+use Rattle.cap_spec.proofs.Prelude.{length-drop, length-take-le, refl, sum, sym, take, take-add, take-take, take_all, ℕ}
+use Rattle.cap_spec.proofs.Prelude.{◌%◌, ◌*◌, ◌++◌, ◌+◌, ◌-◌, ◌/◌, ◌∙◌, ◌∷◌, ◌≡◌, ◌≤◌, take-append_seam, take-append-le}
+use Rattle.cap_spec.proofs.Prelude.{sum_by-cons, joined, sizes_of, plain_words}
+use Rattle.cap_words.proofs.Filling.{plain_join}
+use Rattle.cap_frame.specs.Prelude.{SourceFault, cut, IsUsable, ReadsInput, Stops, Takes}
+use Rattle.cap_frame.proofs.Cuts.{words_inside}
 use Rattle.cap_frame.proofs.Taking.{Took, took_more, took_stop}
+use Rattle.cap_words.specs.declared.sources.WordSource as source
 
 -- what stands in a buffer up to the end of a piece that was written over it
 pub piece_in : (start end many : ℕ) (before held more items piece post rest : List ℕ) → start ≤ length before → end ≤ many → length piece ≡ end - start

@@ -1,17 +1,14 @@
 -- The bytes of some words of a segment, where the segments stand one behind the other.
-use Rattle.std.proofs.Common.{◌≡◌, inl, inr, ℕ, ◌+◌, ◌-◌, ◌*◌, ◌<◌, ◌≤◌, List, [], length, drop, take, sum, get_or}
-use Rattle.std.proofs.Common.{slice_range, ◌++◌, Fits, w8, sym, ap, ◌∙◌, arith}
-use Rattle.std.proofs.lemmas.List.{drop-drop, drop-take, drop_all, length-drop, length-take-le, take-append-drop, take-take, take_all}
-use Rattle.cap_frame.specs.Bytes.{cut, starts_of}
-use Rattle.cap_frame.proofs.Cuts.{cut_at, cut_length, cut_words, front_sum, start_is, words_inside}
-use Rattle.cap_spec.proofs.Bytes.Lists.{all_drop, all_take}
-use Rattle.cap_spec.proofs.Bytes.Plain.{words_exact}
+use Rattle.cap_spec.proofs.Lemmas.{all_drop, all_take, words_exact}
+use Rattle.cap_spec.proofs.Prelude.{Fits, List, [], ap, arith, drop, drop-drop, get_or, inl, inr, length, length-drop}
+use Rattle.cap_spec.proofs.Prelude.{length-take-le, slice_range, sum, sym, take, take-append-drop, take-take, take_all}
+use Rattle.cap_spec.proofs.Prelude.{w8, ℕ, ◌*◌, ◌++◌, ◌+◌, ◌-◌, ◌<◌, ◌∙◌, ◌≡◌, ◌≤◌, drop-append_seam, take-append_seam}
+use Rattle.cap_spec.proofs.Prelude.{cases_lt, drop-take, drop_all, plain_text, plain_words}
 use Rattle.cap_words.proofs.AtHand.{bytes_small}
 use Rattle.cap_words.proofs.Filling.{plain_join}
 use Rattle.cap_words.proofs.WholeWords.{words_text}
-use Rattle.std.proofs.Math.Seq.{drop-append_seam, take-append_seam}
-use Rattle.std.proofs.lemmas.Bool.{cases_lt}
-use Rattle.cap_spec.specs.Plain.{plain_text, plain_words}
+use Rattle.cap_frame.specs.Bytes.{cut, starts_of}
+use Rattle.cap_frame.proofs.Cuts.{cut_at, cut_length, cut_words, front_sum, start_is, words_inside}
 
 -- so many words, and those behind them
 parts_of : (k : ℕ) (bs : List ℕ) → 8 * k ≤ length bs

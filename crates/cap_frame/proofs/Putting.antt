@@ -1,21 +1,15 @@
 -- Words put to a sink in several calls.
-use Rattle.std.proofs.Common.{◌≡◌, ◌∙◌, ℕ, zero, suc, ◌+◌, ◌*◌, ◌/◌, ◌^◌, ◌<◌, true, false}
-use Rattle.std.proofs.Common.{Result, Err, List, [], ◌∷◌, ◌++◌, length, drop, get_or, refl, sym, ap}
-use Rattle.std.proofs.Common.{subst, arith, append_assoc, append-nil}
-use Rattle.std.proofs.Math.Seq.{drop-cons}
-use Rattle.std.proofs.lemmas.List.{length-map}
-use Rattle.std.specs.Io.KnownBytes.{Keeps}
-use Rattle.std.proofs.KnownBytes.{Keeps-trans}
-use Rattle.cap_words.proofs.Told.{begins_kept}
-use Rattle.cap_words.specs.Sinks.{Begins, StoppedPutting, WasPut}
-use Rattle.cap_words.specs.Ends.{Failures, DeviceFails, GrowthFails, WasSpent}
-use Rattle.cap_words.specs.declared.sinks.WordSink as sink
+use Rattle.cap_spec.proofs.Prelude.{Err, List, Result, [], ap, append-nil, append_assoc, arith, drop, drop-cons, false}
+use Rattle.cap_spec.proofs.Prelude.{get_or, length, refl, subst, suc, sym, true, zero, ℕ, ◌*◌, ◌++◌, ◌+◌, ◌/◌, ◌<◌, ◌^◌}
+use Rattle.cap_spec.proofs.Prelude.{◌∙◌, ◌∷◌, ◌≡◌, Keeps-trans, length-map, Keeps, frame_text, joined, paired}
+use Rattle.cap_spec.proofs.Prelude.{segment_of}
+use Rattle.cap_words.specs.Prelude.{DeviceFails, Failures, GrowthFails, WasSpent, Begins, StoppedPutting, WasPut}
 use Rattle.cap_words.specs.declared.sinks.SinkFault.{SinkFault}
 use Rattle.cap_words.specs.declared.sinks.SinkFault.TheVariants.{Device, Memory, Spent}
-use Rattle.cap_spec.specs.Frames.{paired, joined, frame_text}
-use Rattle.cap_spec.specs.Messages.{segment_of}
+use Rattle.cap_words.proofs.Told.{begins_kept}
 use Rattle.cap_frame.specs.Numbers.{numbers_of, pair_at, table_rest}
-use Rattle.cap_frame.specs.Putting.{Puts, Halts, Blames}
+use Rattle.cap_frame.specs.Putting.{Blames, Halts, Puts}
+use Rattle.cap_words.specs.declared.sinks.WordSink as sink
 
 module _ {K : Type 0} (g : sink.Ghosts K) where
   -- some words, and then others

@@ -1,20 +1,16 @@
 -- What reading a message says, put together from what its steps say.
-use Rattle.std.proofs.Common.{◌≡◌, ℕ, ◌+◌, ◌-◌, ◌^◌, ◌≤◌, Bool, true, false, Option, Some, None, Result, Ok, Err, List}
-use Rattle.std.proofs.Common.{[], ◌∷◌, length, min, sum, IfErr, IfOk, IfSome, OnOk, OnSome, subst, sym}
-use Rattle.std.specs.Io.KnownBytes.{Consumes}
-use Rattle.std.specs.Option.{option_to_list}
-use Rattle.cap_words.specs.declared.sources.WordSource as source
-use Rattle.cap_words.specs.declared.sources.SourceFault.{SourceFault}
+use Rattle.cap_spec.proofs.Prelude.{Bool, Err, IfErr, IfOk, IfSome, List, None, Ok, OnOk, OnSome, Option, Result, Some}
+use Rattle.cap_spec.proofs.Prelude.{[], false, length, min, option_to_list, subst, sum, sym, true, ℕ, ◌+◌, ◌-◌, ◌^◌}
+use Rattle.cap_spec.proofs.Prelude.{◌∷◌, ◌≡◌, ◌≤◌, Consumes, joined, sizes_of}
 use Rattle.cap_words.specs.declared.sources.SourceFault.TheVariants.{Spent}
-use Rattle.cap_spec.specs.Frames.{joined, sizes_of}
-use Rattle.cap_frame.specs.Reading.{ReadsFrame, ReadsNext, TakesFrame}
-use Rattle.cap_frame.specs.ReadingFaults.{Faults, TakesTable, frame_fault_of}
-use Rattle.cap_frame.specs.Taking.{IsUsable, ReadsInput, Stops, Takes}
-use Rattle.cap_frame.specs.declared.fault.FrameFault.{FrameFault}
+use Rattle.cap_frame.specs.Prelude.{SourceFault, ReadsNext, TakesFrame, Faults, TakesTable, frame_fault_of, IsUsable}
+use Rattle.cap_frame.specs.Prelude.{ReadsInput, Stops, Takes, FrameFault}
+use Rattle.cap_frame.specs.Reading.{ReadsFrame}
 use Rattle.cap_frame.specs.declared.fault.FrameFault.TheVariants.{Memory}
 use Rattle.cap_frame.proofs.Behind.{behind_contents, behind_message}
 use Rattle.cap_frame.proofs.Converse.{decides}
 use Rattle.cap_frame.proofs.Taking.{reads_both, reads_none, reads_one, takes_one, usable_both}
+use Rattle.cap_words.specs.declared.sources.WordSource as source
 
 module _ {X : Type 0} (g : source.Ghosts X) (limit : ℕ) (old mid new : X) where
   -- two steps without a fault

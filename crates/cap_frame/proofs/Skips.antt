@@ -1,17 +1,15 @@
 -- Passing over the words of segments.
-use Rattle.std.proofs.Common.{◌≡◌, ◌∙◌, ℕ, zero, suc, ◌+◌, ◌<◌, ◌≤◌, ◌*◌, false, Option, Some, None, List, [], ◌∷◌}
-use Rattle.std.proofs.Common.{◌++◌, length, take, sum, get_or, refl, sym, ap, arith, append-nil, length-append}
-use Rattle.std.proofs.lemmas.List.{drop_all, length-take-le}
-use Rattle.std.proofs.lemmas.List.Sums.{sum_by-cons}
-use Rattle.cap_words.specs.declared.sources.WordSource as source
-use Rattle.cap_spec.specs.Frames.{joined, sizes_of}
 use Rattle.cap_spec.specs.Messages.{root_of}
-use Rattle.cap_spec.specs.Plain.{plain_text, plain_words}
 use Rattle.cap_spec.proofs.Bytes.Plain.{length_plain}
 use Rattle.cap_spec.proofs.Frames.OneEnding.{split, split_joined, split_sizes}
-use Rattle.cap_frame.specs.Taking.{Takes, ReadsInput, IsUsable}
+use Rattle.cap_spec.proofs.Prelude.{List, None, Option, Some, [], ap, append-nil, arith, false, get_or, length}
+use Rattle.cap_spec.proofs.Prelude.{length-append, length-take-le, refl, suc, sum, sym, take, zero, ℕ, ◌*◌, ◌++◌, ◌+◌}
+use Rattle.cap_spec.proofs.Prelude.{◌<◌, ◌∙◌, ◌∷◌, ◌≡◌, ◌≤◌, drop_all, sum_by-cons, joined, sizes_of, plain_text}
+use Rattle.cap_spec.proofs.Prelude.{plain_words}
+use Rattle.cap_frame.specs.Taking.{IsUsable, ReadsInput, Takes}
 use Rattle.cap_frame.proofs.Contents.{WordsSoFar, words_start}
 use Rattle.cap_frame.proofs.Taking.{took_more}
+use Rattle.cap_words.specs.declared.sources.WordSource as source
 
 -- joined, the parts of words are the words
 split_whole : (ns ws : List ℕ) → length ws ≡ sum ns → joined (split ns ws) ≡ ws

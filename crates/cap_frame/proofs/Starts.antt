@@ -1,5 +1,5 @@
 -- Where segments start that stand one behind the other.
-use Rattle.std.proofs.Common.{◌≡◌, ℕ, List, ◌++◌, length, take, drop, sum}
+use Rattle.std.proofs.Common.{List, drop, length, sum, take, ℕ, ◌++◌, ◌≡◌}
 use Rattle.cap_frame.specs.Bytes.{starts_of}
 
 -- The starts of the first s segments were told, and the next one starts at this word.

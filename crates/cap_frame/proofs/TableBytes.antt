@@ -1,14 +1,8 @@
 -- The words of a table, and their bytes.
-use Rattle.std.proofs.Common.{◌≡◌, ◌∙◌, ℕ, ◌+◌, ◌*◌, ◌/◌, ◌^◌, ◌<◌, ◌≤◌, List, [], ◌∷◌, ◌++◌, length, drop, ap, sym, arith}
-use Rattle.std.proofs.Common.{append_assoc, append-nil}
-use Rattle.std.specs.List.{AllByRecursion}
-use Rattle.std.proofs.lemmas.List.{drop_all, length-map}
-use Rattle.cap_spec.specs.Frames.{paired}
-use Rattle.cap_spec.specs.Messages.{IsMessage}
-use Rattle.cap_spec.specs.Plain.{plain_text, plain_words, word_bytes}
-use Rattle.cap_spec.specs.Words.{IsWord}
-use Rattle.cap_spec.proofs.Frames.FrameTexts.{frame_text_frames}
-use Rattle.cap_spec.proofs.Packed.Unpacking.{plain_reads}
+use Rattle.cap_spec.proofs.Lemmas.{frame_text_frames, plain_reads}
+use Rattle.cap_spec.proofs.Prelude.{List, [], ap, append-nil, append_assoc, arith, drop, length, sym, ℕ, ◌*◌, ◌++◌, ◌+◌}
+use Rattle.cap_spec.proofs.Prelude.{◌/◌, ◌<◌, ◌^◌, ◌∙◌, ◌∷◌, ◌≡◌, ◌≤◌, drop_all, length-map, AllByRecursion, paired}
+use Rattle.cap_spec.proofs.Prelude.{IsMessage, plain_text, plain_words, word_bytes, IsWord}
 use Rattle.cap_frame.specs.Numbers.{numbers_of, pair_at}
 use Rattle.cap_frame.proofs.Putting.{paired_from}
 

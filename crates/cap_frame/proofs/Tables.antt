@@ -1,17 +1,12 @@
 -- Reading the table of segments word by word.
-use Rattle.std.proofs.Common.{◌≡◌, ◌∙◌, ℕ, ◌+◌, ◌*◌, ◌/◌, ◌%◌, ◌^◌, ◌<◌, List, [], ◌∷◌, ◌++◌, length, take}
-use Rattle.std.proofs.Common.{flat_map, refl, sym, ap, arith, length-append}
-use Rattle.std.specs.List.{AllByRecursion}
-use Rattle.std.proofs.lemmas.List.{length-take, take_all}
 use Rattle.std.proofs.lemmas.Grind.{flat_map-append}
-use Rattle.cap_words.specs.declared.sources.WordSource as source
-use Rattle.cap_words.specs.declared.sources.SourceFault.{SourceFault}
-use Rattle.cap_spec.specs.Frames.{halves}
-use Rattle.cap_spec.specs.Words.{IsWord}
-use Rattle.cap_spec.proofs.Frames.Framing.{length_halves}
-use Rattle.cap_spec.proofs.Bytes.Lists.{all_append}
-use Rattle.cap_frame.specs.Taking.{Takes, ReadsInput, IsUsable, Stops}
+use Rattle.cap_spec.proofs.Lemmas.{all_append, length_halves}
+use Rattle.cap_spec.proofs.Prelude.{List, [], ap, arith, flat_map, length, length-append, length-take, refl, sym, take}
+use Rattle.cap_spec.proofs.Prelude.{take_all, ℕ, ◌%◌, ◌*◌, ◌++◌, ◌+◌, ◌/◌, ◌<◌, ◌^◌, ◌∙◌, ◌∷◌, ◌≡◌, AllByRecursion}
+use Rattle.cap_spec.proofs.Prelude.{halves, IsWord}
+use Rattle.cap_frame.specs.Prelude.{SourceFault, IsUsable, ReadsInput, Stops, Takes}
 use Rattle.cap_frame.proofs.Taking.{Took, took_more, took_stop}
+use Rattle.cap_words.specs.declared.sources.WordSource as source
 
 -- the numbers of a table: those of its further words, behind the high half of its first
 abbrev pub behind : ℕ → List ℕ → List ℕ

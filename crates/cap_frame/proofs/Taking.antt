@@ -1,15 +1,14 @@
 -- Words taken from a source in several calls.
-use Rattle.std.proofs.Common.{◌≡◌, ◌∙◌, ℕ, ◌+◌, ◌-◌, ◌^◌, ◌<◌, ◌≤◌, suc, Bool, false, Option, Some, None, List, [], ◌∷◌}
-use Rattle.std.proofs.Common.{◌++◌, length, min, drop, IfSome, OnSome, refl, sym, ap, subst, arith, length-append}
-use Rattle.std.specs.Io.KnownBytes.{Consumes}
-use Rattle.std.proofs.KnownBytes.{Consumes-nil}
-use Rattle.std.proofs.lemmas.List.{drop-drop}
-use Rattle.cap_words.specs.declared.sources.WordSource as source
+use Rattle.cap_spec.proofs.Prelude.{Bool, IfSome, List, None, OnSome, Option, Some, [], ap, arith, drop, drop-drop}
+use Rattle.cap_spec.proofs.Prelude.{false, length, length-append, min, refl, subst, suc, sym, ℕ, ◌++◌, ◌+◌, ◌-◌, ◌<◌}
+use Rattle.cap_spec.proofs.Prelude.{◌^◌, ◌∙◌, ◌∷◌, ◌≡◌, ◌≤◌, Consumes-nil, Consumes}
 use Rattle.cap_words.specs.declared.sources.SourceFault.{SourceFault}
-use Rattle.cap_words.specs.declared.sources.SourceFault.TheVariants.{Truncated, Device, Spent}
-use Rattle.cap_words.proofs.Filling.{reads_both as both_read, reads_one as one_read, takes_both as both_taken, takes_one as one_taken}
+use Rattle.cap_words.specs.declared.sources.SourceFault.TheVariants.{Device, Spent, Truncated}
+use Rattle.cap_words.proofs.Filling.{reads_both as both_read, reads_one as one_read, takes_both as both_taken}
+use Rattle.cap_words.proofs.Filling.{takes_one as one_taken}
 use Rattle.cap_words.proofs.Pieces.{on_some}
-use Rattle.cap_frame.specs.Taking.{Takes, ReadsInput, IsUsable, IsOver, Breaks, Stops}
+use Rattle.cap_frame.specs.Taking.{Breaks, IsOver, IsUsable, ReadsInput, Stops, Takes}
+use Rattle.cap_words.specs.declared.sources.WordSource as source
 
 -- the source ended after these words and fewer than n more
 pub short_both : (a b : Option (List ℕ)) (taken : List ℕ) (n byte p q : ℕ) (ps qs : List ℕ) (P : Type 0)

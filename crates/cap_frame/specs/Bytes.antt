@@ -1,6 +1,6 @@
 -- The words of segments whose bytes follow one another, as in a framed message after its table
 -- (standard: Serialization Over a Stream).
-use Rattle.std.specs.Prelude.{ℕ, ◌+◌, ◌*◌, List, [], ◌∷◌, take, drop}
+use Rattle.std.specs.Prelude.{List, [], drop, take, ℕ, ◌*◌, ◌+◌, ◌∷◌}
 use Rattle.cap_spec.specs.Plain.{plain_words}
 
 -- bytes cut into segments, by how many words each has; bytes after the last segment belong to none

@@ -1,13 +1,13 @@
 -- What contracts see of a framed message at the start of borrowed bytes (profile).
-use Rattle.std.specs.Prelude.{ℕ, ◌+◌, ◌*◌, ◌≡◌, ◌<◌, ◌≤◌, List, [], drop, length, IsOkAnd, IsSomeAnd, Option, Some, None, Result, Ok, Err}
-use Rattle.cap_spec.specs.Frames.{IsPartial}
-use Rattle.cap_spec.specs.Plain.{plain_words, plain_is_cut}
+use Rattle.std.specs.Prelude.{Err, IsOkAnd, IsSomeAnd, List, None, Ok, Option, Result, Some, [], drop, length, ℕ, ◌*◌}
+use Rattle.std.specs.Prelude.{◌+◌, ◌<◌, ◌≡◌, ◌≤◌}
+use Rattle.cap_spec.specs.Prelude.{IsPartial, plain_is_cut, plain_words}
 use Rattle.cap_frame.specs.Bytes.{cut}
-use Rattle.cap_frame.specs.Fronts.{IsFront, TellsMany, TellsLarge, Wants, sizes_told, table_words}
+use Rattle.cap_frame.specs.Fronts.{IsFront, TellsLarge, TellsMany, Wants, sizes_told, table_words}
+use Rattle.cap_frame.specs.declared.fault.FrontFault.{FrontFault}
+use Rattle.cap_frame.specs.declared.fault.FrontFault.TheVariants.{TooLarge, TooManySegments, Truncated}
 use Rattle.cap_frame.specs.declared.framed.Framed.{Framed}
 use Rattle.cap_frame.specs.declared.segment_tables.SegmentTables.{SegmentTables}
-use Rattle.cap_frame.specs.declared.fault.FrontFault.{FrontFault}
-use Rattle.cap_frame.specs.declared.fault.FrontFault.TheVariants.{TooManySegments, TooLarge, Truncated}
 
 -- the size of each segment
 abbrev pub framed_sizes : Framed → List ℕ

@@ -1,10 +1,9 @@
 -- A framed message at the start of bytes (standard: Serialization Over a Stream; the limit is the
 -- profile's).
-use Rattle.std.specs.Prelude.{ℕ, ◌+◌, ◌*◌, ◌/◌, ◌%◌, ◌^◌, ◌<◌, ◌≡◌, ◌≤◌, List, [], ◌∷◌, ◌++◌, length, sum, drop, take}
-use Rattle.std.specs.List.{flat_map}
-use Rattle.cap_spec.specs.Endings.{TellsTooMany, TellsTooMuch}
-use Rattle.cap_spec.specs.Frames.{halves, Frames, IsTable, sizes_of}
-use Rattle.cap_spec.specs.Plain.{plain_words}
+use Rattle.std.specs.Prelude.{List, [], drop, flat_map, length, sum, take, ℕ, ◌%◌, ◌*◌, ◌++◌, ◌+◌, ◌/◌, ◌<◌, ◌^◌, ◌∷◌}
+use Rattle.std.specs.Prelude.{◌≡◌, ◌≤◌}
+use Rattle.cap_spec.specs.Frames.{IsTable, halves}
+use Rattle.cap_spec.specs.Prelude.{TellsTooMany, TellsTooMuch, Frames, sizes_of, plain_words}
 
 -- The first n bytes are a frame of this message, which is within the limit.
 pub record IsFront (limit : ℕ) (bytes : List ℕ) (m : List (List ℕ)) (n : ℕ) : Type 0 where

@@ -1,10 +1,10 @@
 -- What contracts see of a message in one buffer (profile).
-use Rattle.std.specs.Prelude.{⊤, ℕ, ◌≡◌, Bool, true, false, List, Result, Ok, Err}
-use Rattle.std.specs.Vec.{vec_capacity}
+use Rattle.std.specs.Prelude.{Bool, Err, List, Ok, Result, false, true, vec_capacity, ℕ, ⊤, ◌≡◌}
 use Rattle.cap_frame.specs.Bytes.{cut}
 use Rattle.cap_frame.specs.declared.byte_message.ByteMessage.{ByteMessage}
 use Rattle.cap_frame.specs.declared.fault.FrameFault.{FrameFault}
-use Rattle.cap_frame.specs.declared.fault.FrameFault.TheVariants.{TooManySegments, TooLarge, Truncated, Device, Memory, Spent}
+use Rattle.cap_frame.specs.declared.fault.FrameFault.TheVariants.{Device, Memory, Spent, TooLarge, TooManySegments}
+use Rattle.cap_frame.specs.declared.fault.FrameFault.TheVariants.{Truncated}
 
 -- the words of each segment
 abbrev pub held_segments : ByteMessage → List (List ℕ)

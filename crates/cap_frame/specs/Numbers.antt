@@ -1,5 +1,5 @@
 -- The numbers of the table of a message, without its padding (profile).
-use Rattle.std.specs.Prelude.{ℕ, ◌+◌, ◌-◌, ◌*◌, ◌^◌, List, ◌∷◌, drop, length, slice_index}
+use Rattle.std.specs.Prelude.{List, drop, length, slice_index, ℕ, ◌*◌, ◌+◌, ◌-◌, ◌^◌, ◌∷◌}
 use Rattle.cap_spec.specs.Frames.{paired, sizes_of}
 
 -- how many segments there are besides the first, and the size of each

@@ -1,5 +1,5 @@
 -- What is kept of a message whose other words are passed over (profile).
-use Rattle.std.specs.Prelude.{ℕ, ◌≡◌, List, Option}
+use Rattle.std.specs.Prelude.{List, Option, ℕ, ◌≡◌}
 use Rattle.cap_spec.specs.Frames.{sizes_of}
 use Rattle.cap_spec.specs.Messages.{root_of}
 use Rattle.cap_frame.specs.declared.outline.Outline.{Outline}

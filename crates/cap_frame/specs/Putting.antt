@@ -1,10 +1,9 @@
 -- What putting the words of a message does to a sink (profile). g has the members of its type.
-use Rattle.std.specs.Prelude.{◌≡◌, List, ℕ, true, false, Result, Ok, Err}
-use Rattle.cap_words.specs.Ends.{DeviceFails, GrowthFails, WasSpent}
-use Rattle.cap_words.specs.Sinks.{WasPut, StoppedPutting}
-use Rattle.cap_words.specs.declared.sinks.WordSink as sink
+use Rattle.std.specs.Prelude.{Err, List, Ok, Result, false, true, ℕ, ◌≡◌}
+use Rattle.cap_words.specs.Prelude.{DeviceFails, GrowthFails, WasSpent, StoppedPutting, WasPut}
 use Rattle.cap_words.specs.declared.sinks.SinkFault.{SinkFault}
 use Rattle.cap_words.specs.declared.sinks.SinkFault.TheVariants.{Device, Memory, Spent}
+use Rattle.cap_words.specs.declared.sinks.WordSink as sink
 
 module _ {K : Type 0} (g : sink.Ghosts K) where
   -- These words were put, and the sink wasn't finished.

@@ -1,14 +1,14 @@
 -- What reading a message of a source says of the source before and after, and of the result (profile). g has the
 -- members of the source's type.
-use Rattle.std.specs.Prelude.{ℕ, ◌+◌, ◌*◌, ◌%◌, ◌^◌, ◌≡◌, ◌<◌, ◌≤◌, Bool, true, false, List, [], ◌∷◌, length, drop, sum}
-use Rattle.std.specs.Prelude.{IfErr, IsOkAnd, IsSomeAnd, OnOk, OnSome, Option, Some, None, Result, Ok, Err}
+use Rattle.std.specs.Prelude.{Bool, Err, IfErr, IsOkAnd, IsSomeAnd, List, None, Ok, OnOk, OnSome, Option, Result, Some}
+use Rattle.std.specs.Prelude.{[], drop, false, length, sum, true, ℕ, ◌%◌, ◌*◌, ◌+◌, ◌<◌, ◌^◌, ◌∷◌, ◌≡◌, ◌≤◌}
 use Rattle.cap_spec.specs.Endings.{BeginsMessage, TellsTooMany, TellsTooMuch}
 use Rattle.cap_spec.specs.Frames.{Frames, IsPartial, sizes_of}
-use Rattle.cap_words.specs.declared.sources.WordSource as source
 use Rattle.cap_frame.specs.ReadingFaults.{Answered, Faults, TakesTable}
 use Rattle.cap_frame.specs.Taking.{IsUsable, ReadsInput, Takes}
 use Rattle.cap_frame.specs.declared.fault.FrameFault.{FrameFault}
-use Rattle.cap_frame.specs.declared.fault.FrameFault.TheVariants.{TooManySegments, TooLarge, Truncated, Spent}
+use Rattle.cap_frame.specs.declared.fault.FrameFault.TheVariants.{Spent, TooLarge, TooManySegments, Truncated}
+use Rattle.cap_words.specs.declared.sources.WordSource as source
 
 -- a result as whether there was a message
 abbrev pub has_message : {M : Type 0} → Result (Option M) FrameFault → Result Bool FrameFault

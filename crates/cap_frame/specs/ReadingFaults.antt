@@ -1,12 +1,13 @@
 -- What each fault of reading a message says of the source and of its words (profile).
-use Rattle.std.specs.Prelude.{⊤, ℕ, ◌+◌, ◌%◌, ◌^◌, ◌≡◌, ◌<◌, ◌≤◌, List, [], ◌∷◌, sum, Result, Ok, Err}
+use Rattle.std.specs.Prelude.{Err, List, Ok, Result, [], sum, ℕ, ⊤, ◌%◌, ◌+◌, ◌<◌, ◌^◌, ◌∷◌, ◌≡◌, ◌≤◌}
 use Rattle.cap_spec.specs.Frames.{IsPartial, IsTable}
 use Rattle.cap_words.specs.declared.sources.SourceFault.{SourceFault}
+use Rattle.cap_frame.specs.Taking.{Breaks, EndsAfter, IsUsable, Refuses, Takes}
+use Rattle.cap_frame.specs.declared.fault.FrameFault.{FrameFault}
+use Rattle.cap_frame.specs.declared.fault.FrameFault.TheVariants.{Device, Memory, Spent, TooLarge, TooManySegments}
+use Rattle.cap_frame.specs.declared.fault.FrameFault.TheVariants.{Truncated}
 use Rattle.cap_words.specs.declared.sources.SourceFault.TheVariants as fault
 use Rattle.cap_words.specs.declared.sources.WordSource as source
-use Rattle.cap_frame.specs.Taking.{Takes, IsUsable, EndsAfter, Breaks, Refuses}
-use Rattle.cap_frame.specs.declared.fault.FrameFault.{FrameFault}
-use Rattle.cap_frame.specs.declared.fault.FrameFault.TheVariants.{TooManySegments, TooLarge, Truncated, Device, Memory, Spent}
 
 -- P, unless the result is an error of I/O, of memory, or of a source that was closed by an earlier
 -- error

@@ -1,5 +1,5 @@
 -- Empty vectors with capacity for the segments of a message (profile).
-use Rattle.std.specs.Prelude.{⊤, ℕ, ◌≡◌, ◌≤◌, List, [], ◌∷◌}
+use Rattle.std.specs.Prelude.{List, [], ℕ, ⊤, ◌∷◌, ◌≡◌, ◌≤◌}
 
 -- Vectors without words, each with capacity for its size. The two functions give a vector's words
 -- and its capacity in words.

@@ -1,11 +1,11 @@
 -- What taking words from a source does to it (profile). g has the members of its type.
-use Rattle.std.specs.Prelude.{ℕ, ◌≡◌, ◌<◌, ◌⊎◌, Bool, true, false, List, [], ◌∷◌, length, drop, IfSome, OnSome}
 use Rattle.std.specs.Io.KnownBytes.{Keeps}
-use Rattle.cap_words.specs.Ends.{Works, Fails, WasSpent}
+use Rattle.std.specs.Prelude.{Bool, IfSome, List, OnSome, [], drop, false, length, true, ℕ, ◌<◌, ◌∷◌, ◌≡◌, ◌⊎◌}
+use Rattle.cap_words.specs.Ends.{Fails, WasSpent, Works}
 use Rattle.cap_words.specs.TakingMany.{ReadsBytes, TakesWords}
-use Rattle.cap_words.specs.declared.sources.WordSource as source
 use Rattle.cap_words.specs.declared.sources.SourceFault.{SourceFault}
-use Rattle.cap_words.specs.declared.sources.SourceFault.TheVariants.{Truncated, Device, Spent}
+use Rattle.cap_words.specs.declared.sources.SourceFault.TheVariants.{Device, Spent, Truncated}
+use Rattle.cap_words.specs.declared.sources.WordSource as source
 
 module _ {X : Type 0} (g : source.Ghosts X) where
   -- these words were taken, and no more

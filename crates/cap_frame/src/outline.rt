@@ -1,6 +1,5 @@
 //! What is kept of a message whose other words are passed over.
 
-ghost use Rattle.arrayvec.specs.ArrayVec.{array_vec_len};
 ghost use Rattle.std.specs.Prelude.{◌≡◌, [], None, length, sum};
 
 use crate::table::{Sizes, total};

@@ -3,7 +3,7 @@
 ghost use Rattle.cap_frame.specs.Taking.{IsUsable, ReadsInput, Stops, Takes};
 ghost use Rattle.cap_frame.specs.Rooms.{AreRooms};
 ghost use Rattle.cap_spec.specs.Frames.{joined, sizes_of};
-ghost use Rattle.std.specs.Prelude.{◌<◌, ◌^◌, ◌≡◌, ◌≤◌, [], ◌∷◌, IfErr, IfOk, List, OnOk, false, length, map, sum, ℕ};
+ghost use Rattle.std.specs.Prelude.{◌<◌, ◌^◌, ◌≡◌, ◌≤◌, [], ◌∷◌, IfErr, IfOk, OnOk, false, length, map, sum};
 ghost use Rattle.std.specs.Vec.{vec_capacity};
 
 use cap_words::{SourceFault, WordSource};

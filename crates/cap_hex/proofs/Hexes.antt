@@ -1,11 +1,9 @@
 -- The digits of a word's bytes, as the crate `hex` writes them.
-use Rattle.std.proofs.Common.{◌≡◌, ℕ, ◌/◌, ◌%◌, ◌<◌, eqb, true, List, [], ◌∷◌, slice_index, refl, ap, ◌∙◌, arith}
-use Rattle.std.proofs.lemmas.Bool.{agree_below_at, eqb-true}
-use Rattle.std.specs.List.{flat_map}
-use Rattle.std.specs.Simd.Lanes.{Each1}
-use Rattle.cap_spec.specs.Plain.{word_bytes}
-use Rattle.cap_spec.specs.Texts.{hex, hex_digit}
-use Rattle.hex.specs.Hex.{encode_lower, encode_with, lower_digits}
+use Rattle.std.proofs.lemmas.Bool.{agree_below_at}
+use Rattle.hex.specs.Hex.{encode_lower, lower_digits, encode_with}
+use Rattle.cap_spec.specs.Texts.{hex_digit}
+use Rattle.cap_spec.proofs.Prelude.{List, [], ap, arith, eqb, eqb-true, flat_map, refl, slice_index, true, ℕ, ◌%◌, ◌/◌}
+use Rattle.cap_spec.proofs.Prelude.{◌<◌, ◌∙◌, ◌∷◌, ◌≡◌, Each1, word_bytes, hex}
 
 one_digit : (h : ℕ) → h < 16 → slice_index lower_digits h ≡ hex_digit h
 one_digit h l = eqb-true _ _ (agree_below_at (λ k. eqb (slice_index lower_digits k) (hex_digit k)) (λ k. true) 16 h refl l)

@@ -1,10 +1,9 @@
 -- A small tree that meets what the laws of the canonical form ask, and its trimmed layout.
-use Rattle.std.proofs.Common.{ℕ, ◌≡◌, ◌≤◌, [], ◌∷◌, refl, lit<}
-use Rattle.cap_spec.specs.Tree.{Tree, null, struct, scalars, structs, none, more}
-use Rattle.cap_spec.specs.Denoting.{Denotes}
-use Rattle.cap_spec.specs.Canonical.{layout, offsets, trim}
-use Rattle.cap_spec.proofs.Canonical.TreeMeasures.{Fits}
+use Rattle.cap_spec.specs.Tree.{none}
 use Rattle.cap_spec.proofs.Canonical.Layouts.{layout_denotes, trimmed_layout_denotes}
+use Rattle.cap_spec.proofs.Canonical.TreeMeasures.{Fits}
+use Rattle.cap_spec.proofs.Prelude.{[], lit<, refl, ℕ, ◌∷◌, ◌≡◌, ◌≤◌, layout, offsets, trim, Denotes, Tree, more, null}
+use Rattle.cap_spec.proofs.Prelude.{scalars, struct, structs}
 
 -- a struct with a zero word and a null pointer at its end,
 -- which leads to a list of three bits and to a list of two structs with a null pointer each

@@ -1,18 +1,10 @@
 -- A struct whose one pointer leads back to the struct: the pointer that passes a limit is the first fault.
-use Rattle.std.proofs.Common.{◌≡◌, ◌≤◌, ◌<◌, ◌+◌, ◌⊎◌, ◌++◌, [], ◌∷◌, List, ℕ, zero, suc, length, inl, inr, refl, sym, subst, ap, ap₂, ◌∙◌, arith, lit<, lit≤}
-use Rattle.std.proofs.lemmas.Bool.{cases_lt}
-use Rattle.cap_spec.specs.Lists.{IsOneOf}
-use Rattle.cap_spec.specs.Faults.{AreShallow, IsFirstReason, IsRefused, is_deep, is_past}
-use Rattle.cap_spec.specs.Following.{near}
-use Rattle.cap_spec.specs.Denoting.{Finds}
-use Rattle.cap_spec.specs.Paths.{Before, Costs, StepsTo, IsTour, Reaches, Rises, Spot, PathLeads, word}
-use Rattle.cap_spec.specs.Verdicts.{CostOf}
-use Rattle.cap_spec.specs.declared.Reason.{Reason}
-use Rattle.cap_spec.specs.declared.Reason.TheVariants.{DepthLimit, WordLimit}
-use Rattle.cap_spec.specs.declared.Step.{Step}
-use Rattle.cap_spec.specs.declared.Step.TheVariants.{Item, Ptr}
-use Rattle.cap_spec.proofs.Trees.Finding.{one_object}
-use Rattle.cap_spec.proofs.Paths.Walks.{one_reached}
+use Rattle.cap_spec.proofs.Lemmas.{one_reached, one_object}
+use Rattle.cap_spec.proofs.Prelude.{List, [], ap, ap₂, arith, inl, inr, length, lit<, lit≤, refl, subst, suc, sym, zero}
+use Rattle.cap_spec.proofs.Prelude.{ℕ, ◌++◌, ◌+◌, ◌<◌, ◌∙◌, ◌∷◌, ◌≡◌, ◌≤◌, ◌⊎◌, cases_lt, Finds, AreShallow}
+use Rattle.cap_spec.proofs.Prelude.{IsFirstReason, IsRefused, is_deep, is_past, near, IsOneOf, Before, Costs, IsTour}
+use Rattle.cap_spec.proofs.Prelude.{PathLeads, Reaches, Rises, Spot, StepsTo, word, CostOf}
+use Rattle.cap_laws.specs.Prelude.{Reason, DepthLimit, WordLimit, Step, Item, Ptr}
 
 abbrev circle : List (List ℕ)
 circle = (0x00010000fffffffc ∷ []) ∷ []

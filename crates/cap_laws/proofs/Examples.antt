@@ -1,20 +1,15 @@
 -- Small examples: the premises of the laws of framing and packing are met,
 -- and each of the ways in which reading ends comes about.
-use Rattle.std.proofs.Common.{List, ℕ, ◌<◌, ◌^◌, ◌≡◌, false, true, [], ◌∷◌, length, replicate, refl, arith, lit<}
-use Rattle.std.specs.List.{AllByRecursion}
 use Rattle.std.proofs.lemmas.List.Elements.{All-cons, All-nil}
-use Rattle.cap_spec.specs.Messages.{IsMessage}
-use Rattle.cap_spec.specs.Packing.{pack_text}
-use Rattle.cap_spec.specs.Plain.{plain_text, plain_words}
-use Rattle.cap_spec.specs.Words.{IsWord}
-use Rattle.cap_spec.specs.Frames.{IsTable, Frames, Stream, in_word, in_table, in_contents}
-use Rattle.cap_spec.specs.Endings.{EndsIn, message, none, too_many, too_large, partial}
-use Rattle.cap_spec.specs.Unpacking.{Unpacks, Cut, unpacked}
-use Rattle.cap_spec.proofs.Frames.Streams.{stream_none, stream_cons}
-use Rattle.cap_spec.proofs.Packed.OneUnpacking.{unpacks_unless_cut, cut_if_cut}
-use Rattle.cap_spec.proofs.Frames.FrameTexts.{frame_text_frames}
+use Rattle.cap_spec.specs.Endings.{none}
+use Rattle.cap_spec.proofs.Frames.Streams.{stream_cons, stream_none}
+use Rattle.cap_spec.proofs.Lemmas.{frame_text_frames, plain_reads}
+use Rattle.cap_spec.proofs.Packed.OneUnpacking.{cut_if_cut, unpacks_unless_cut}
 use Rattle.cap_spec.proofs.Packed.Repacking.{pack_text_reads}
-use Rattle.cap_spec.proofs.Packed.Unpacking.{plain_reads}
+use Rattle.cap_spec.proofs.Prelude.{List, [], arith, false, length, lit<, refl, replicate, true, ℕ, ◌<◌, ◌^◌, ◌∷◌, ◌≡◌}
+use Rattle.cap_spec.proofs.Prelude.{AllByRecursion, EndsIn, message, partial, too_large, too_many, Frames, IsTable}
+use Rattle.cap_spec.proofs.Prelude.{Stream, in_contents, in_table, in_word, IsMessage, pack_text, plain_text}
+use Rattle.cap_spec.proofs.Prelude.{plain_words, Cut, Unpacks, unpacked, IsWord}
 
 -- the table of one segment of one word
 table-one : IsTable (0x100000000 ∷ []) (1 ∷ [])

@@ -1,22 +1,15 @@
 -- Frames by their bytes: numbers of four bytes each, and words of eight.
-use Rattle.std.proofs.Common.{◌≡◌, ℕ, zero, suc, ◌+◌, ◌-◌, ◌*◌, ◌/◌, ◌%◌, ◌^◌, ◌<◌, List, [], ◌∷◌, ◌++◌, length, drop}
-use Rattle.std.proofs.Common.{flat_map, refl, sym, ap, ◌∙◌, arith, append_assoc, length-append}
-use Rattle.std.specs.List.{AllByRecursion}
-use Rattle.std.proofs.lemmas.List.{length-map}
 use Rattle.std.proofs.lemmas.List.Concat.{flat_map-append}
-use Rattle.byteorder.specs.Endian.{little_number}
-use Rattle.byteorder.specs.Numbers.{little_number-reads_back}
-use Rattle.cap_spec.specs.Words.{IsWord}
-use Rattle.cap_spec.specs.Plain.{word_bytes, plain_text, plain_words}
-use Rattle.cap_spec.specs.Frames.{halves, joined, sizes_of, Frames}
-use Rattle.cap_spec.proofs.Bytes.Lists.{all_append}
-use Rattle.cap_spec.proofs.Bytes.WordBytes.{bytes_fit, bytes_back, bytes_below}
-use Rattle.cap_spec.proofs.Bytes.Plain.{plain_split}
-use Rattle.cap_spec.proofs.Packed.Unpacking.{plain_reads}
-use Rattle.cap_spec.proofs.Packed.MakingGroups.{aligned_text}
+use Rattle.cap_spec.proofs.Bytes.WordBytes.{bytes_below, bytes_fit}
 use Rattle.cap_spec.proofs.Frames.FrameTexts.{plain_halves}
 use Rattle.cap_spec.proofs.Frames.OneEnding.{halves_fit}
-use Rattle.cap_laws.specs.Framing.{four_bytes, FramesInBytes}
+use Rattle.cap_spec.proofs.Lemmas.{all_append, plain_split, bytes_back, plain_reads}
+use Rattle.cap_spec.proofs.Packed.MakingGroups.{aligned_text}
+use Rattle.cap_spec.proofs.Prelude.{List, [], ap, append_assoc, arith, drop, flat_map, length, length-append, refl, suc}
+use Rattle.cap_spec.proofs.Prelude.{sym, zero, ℕ, ◌%◌, ◌*◌, ◌++◌, ◌+◌, ◌-◌, ◌/◌, ◌<◌, ◌^◌, ◌∙◌, ◌∷◌, ◌≡◌, length-map}
+use Rattle.cap_spec.proofs.Prelude.{AllByRecursion, little_number, little_number-reads_back, Frames, halves, joined}
+use Rattle.cap_spec.proofs.Prelude.{sizes_of, plain_text, plain_words, word_bytes, IsWord}
+use Rattle.cap_laws.specs.Framing.{FramesInBytes, four_bytes}
 
 -- four bytes a number
 length_four : (xs : List ℕ) → length (flat_map four_bytes xs) ≡ 4 * length xs

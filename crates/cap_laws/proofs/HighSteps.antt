@@ -1,10 +1,8 @@
 -- Steps of high numbers lead nowhere.
-use Rattle.std.proofs.Common.{ℕ, ◌^◌, ◌<◌, ◌≤◌, List, [], ◌∷◌, arith, inl, inr, subst, sym}
-use Rattle.std.specs.Prelude.{⊤}
-use Rattle.cap_spec.specs.Paths.{ReachesSpot, StepsTo, Spot, PathLeads, element, word}
-use Rattle.cap_spec.specs.declared.Step.{Step}
-use Rattle.cap_spec.specs.declared.Step.TheVariants.{Ptr, Item}
+use Rattle.cap_spec.proofs.Prelude.{List, [], arith, inl, inr, subst, sym, ℕ, ◌<◌, ◌^◌, ◌∷◌, ◌≤◌, ⊤, PathLeads}
+use Rattle.cap_spec.proofs.Prelude.{ReachesSpot, Spot, StepsTo, element, word}
 use Rattle.cap_spec.proofs.Trees.DenotedTrees.{field_below}
+use Rattle.cap_laws.specs.Prelude.{Step, Item, Ptr}
 
 -- an element has less than 2 ^ 16 pointers
 abbrev HasFewPointers : Spot → Type 0

@@ -1,16 +1,10 @@
 -- A struct of one word, within its limits and past each of them.
-use Rattle.std.proofs.Common.{◌≡◌, ◌⊎◌, [], ◌∷◌, List, ℕ, inl, inr, refl, sym, subst, arith, lit<, lit≤}
-use Rattle.cap_spec.specs.Lists.{IsOneOf}
-use Rattle.cap_spec.specs.Verdicts.{IsDeepAt}
-use Rattle.cap_spec.specs.Faults.{IsFirstReason, IsRefused, is_deep, is_past}
-use Rattle.cap_spec.specs.Following.{near}
-use Rattle.cap_spec.specs.Denoting.{Denotes, Finds}
-use Rattle.cap_spec.specs.Paths.{Before, IsTour, Reaches}
-use Rattle.cap_spec.specs.Tree.{struct, none}
-use Rattle.cap_spec.specs.declared.Reason.{Reason}
-use Rattle.cap_spec.specs.declared.Reason.TheVariants.{DepthLimit, WordLimit}
-use Rattle.cap_spec.specs.declared.Step.{Step}
+use Rattle.cap_spec.specs.Tree.{none}
+use Rattle.cap_spec.proofs.Prelude.{List, [], arith, inl, inr, lit<, lit≤, refl, subst, sym, ℕ, ◌∷◌, ◌≡◌, ◌⊎◌, Denotes}
+use Rattle.cap_spec.proofs.Prelude.{Finds, IsFirstReason, IsRefused, is_deep, is_past, near, IsOneOf, Before, IsTour}
+use Rattle.cap_spec.proofs.Prelude.{Reaches, struct, IsDeepAt}
 use Rattle.cap_spec.proofs.Verdicts.OneVerdict.{paths_within_depth}
+use Rattle.cap_laws.specs.Prelude.{Reason, DepthLimit, WordLimit, Step}
 
 -- a struct of one word
 abbrev one_word_struct : List (List ℕ)

@@ -1,9 +1,8 @@
 -- Exactly one thing comes of following a word.
-use Rattle.std.proofs.Common.{◌≡◌, ℕ, inl, inr, List, pos, ap}
-use Rattle.cap_spec.specs.Following.{to_null, to_cap, to_object}
-use Rattle.cap_spec.proofs.Pointers.Following.{one_lead, one_wrong, null-not_wrong, cap-not_wrong, object-not_wrong}
+use Rattle.cap_spec.proofs.Pointers.Following.{cap-not_wrong, null-not_wrong, object-not_wrong, one_lead, one_wrong}
+use Rattle.cap_spec.proofs.Prelude.{List, ap, inl, inr, pos, ℕ, ◌≡◌, to_cap, to_null, to_object}
 use Rattle.cap_spec.proofs.Trees.Outcomes.{fate}
-use Rattle.cap_laws.specs.FollowingLaws.{Outcome, refused, null, cap, object, ComesOf, OneOutcome}
+use Rattle.cap_laws.specs.FollowingLaws.{ComesOf, OneOutcome, Outcome, cap, null, object, refused}
 
 -- two things that come of one word are one
 same : (m : List (List ℕ)) (s w : ℕ) (o o' : Outcome) → ComesOf m s w o → ComesOf m s w o' → o' ≡ o

@@ -1,13 +1,11 @@
 -- Small messages: one for each reason why a pointer word can't be followed. A word of a reserved kind is among the
 -- examples of trees.
-use Rattle.std.proofs.Common.{[], ◌∷◌, inr, refl, arith, lit<, lit≤}
-use Rattle.std.specs.Prelude.{pos}
-use Rattle.std.proofs.lemmas.Int.{ints}
-use Rattle.cap_spec.specs.Following.{near, one_pad, Wrong}
-use Rattle.cap_spec.specs.declared.Reason.TheVariants.{SegmentMissing, PadOutside, PadIsFar, PadNotFar, TagKind, TagOffset}
-use Rattle.cap_spec.specs.declared.Reason.TheVariants.{OutOfSegment, CompositeTag, CompositeOverrun}
-use Rattle.cap_spec.proofs.Pointers.Following.{wrong-missing, wrong-outside, wrong-pad_far, wrong-pad_near, wrong-tag_kind}
-use Rattle.cap_spec.proofs.Pointers.Following.{wrong-tag_offset, wrong-out, wrong-composite_tag, wrong-overrun}
+use Rattle.cap_spec.specs.declared.Reason.TheVariants.{CompositeOverrun, CompositeTag, OutOfSegment, PadIsFar}
+use Rattle.cap_spec.specs.declared.Reason.TheVariants.{PadNotFar, PadOutside, SegmentMissing, TagKind, TagOffset}
+use Rattle.cap_spec.proofs.Pointers.Following.{wrong-composite_tag, wrong-missing, wrong-out, wrong-outside}
+use Rattle.cap_spec.proofs.Pointers.Following.{wrong-overrun, wrong-pad_far, wrong-pad_near, wrong-tag_kind}
+use Rattle.cap_spec.proofs.Pointers.Following.{wrong-tag_offset}
+use Rattle.cap_spec.proofs.Prelude.{[], arith, inr, lit<, lit≤, pos, refl, ◌∷◌, ints, Wrong, near, one_pad}
 
 -- Two segments of a word each, and a root that names segment 7.
 missing : Wrong ((0x0000000700000002 ∷ []) ∷ (0 ∷ []) ∷ []) 0 0 SegmentMissing

@@ -1,23 +1,14 @@
 -- A struct of two pointers to one struct of a word: accepted, past a word limit of 3 at the second pointer, and not exclusive
 -- there. A path in it is charged, or refused.
-use Rattle.std.proofs.Common.{ℕ, List, [], ◌∷◌, ◌≡◌, ◌⊎◌, refl, sym, ap, ◌∙◌, subst, arith, lit<, lit≤, inl, inr}
-use Rattle.cap_spec.specs.Lists.{AreDistinct, IsOneOf}
-use Rattle.cap_spec.specs.Denoting.{Finds, Denotes, DenoteEach}
-use Rattle.cap_spec.specs.Faults.{IsRefused, is_past}
-use Rattle.cap_spec.specs.Following.{near}
-use Rattle.cap_spec.specs.Getting.{AreOnPath, Charges, IsFaultOnPath}
-use Rattle.cap_spec.specs.Occupying.{IsFirstOverlap, Occupies, Overlaps, twice, on_root, on_earlier}
-use Rattle.cap_spec.specs.Paths.{word, Before, Costs, IsTour, Reaches}
-use Rattle.cap_spec.specs.Tree.{Tree, struct, none, more, cap_count, pointer_count}
-use Rattle.cap_spec.specs.Verdicts.{CostOf, IsDeepAt}
-use Rattle.cap_spec.specs.declared.Reason.TheVariants.{WordLimit}
-use Rattle.cap_spec.specs.declared.Step.{Step}
-use Rattle.cap_spec.specs.declared.Step.TheVariants.{Ptr}
-use Rattle.cap_spec.proofs.Disjoint.Overlaps.{one_used}
-use Rattle.cap_spec.proofs.Paths.PathCounts.{pointer_path_reached}
-use Rattle.cap_spec.proofs.Paths.Walks.{one_reached}
+use Rattle.cap_spec.specs.Tree.{none}
+use Rattle.cap_spec.proofs.Lemmas.{one_used, pointer_path_reached, one_reached, paths_within_depth}
+use Rattle.cap_spec.proofs.Prelude.{List, [], ap, arith, inl, inr, lit<, lit≤, refl, subst, sym, ℕ, ◌∙◌, ◌∷◌, ◌≡◌, ◌⊎◌}
+use Rattle.cap_spec.proofs.Prelude.{DenoteEach, Denotes, Finds, IsRefused, is_past, near, AreOnPath, Charges}
+use Rattle.cap_spec.proofs.Prelude.{IsFaultOnPath, AreDistinct, IsOneOf, IsFirstOverlap, Occupies, Overlaps, on_earlier}
+use Rattle.cap_spec.proofs.Prelude.{on_root, twice, Before, Costs, IsTour, Reaches, word, Tree, cap_count, more}
+use Rattle.cap_spec.proofs.Prelude.{pointer_count, struct, CostOf, IsDeepAt}
+use Rattle.cap_laws.specs.Prelude.{WordLimit, Step, Ptr}
 use Rattle.cap_spec.proofs.Verdicts.OnPath as listing
-use Rattle.cap_spec.proofs.Verdicts.OneVerdict.{paths_within_depth}
 
 abbrev shared : List (List ℕ)
 shared = (0x0002000000000000 ∷ 0x0000000100000004 ∷ 0x0000000100000000 ∷ 7 ∷ []) ∷ []

@@ -1,21 +1,13 @@
 -- Small messages: one for each form that common readers reject, one that is strict,
 -- and one with a two-word pad that is strict.
-use Rattle.std.proofs.Common.{◌≡◌, ◌⊎◌, [], ◌∷◌, List, ℕ, inl, inr, refl, sym, subst, arith, lit<, lit≤}
-use Rattle.std.specs.Prelude.{pos}
-use Rattle.cap_spec.specs.Lists.{IsOneOf}
-use Rattle.cap_spec.specs.Denoting.{Denotes, Finds}
-use Rattle.cap_spec.specs.Following.{near, one_pad, two_pads, to_object, to_null, to_cap}
-use Rattle.cap_spec.specs.Messages.{segment_of}
-use Rattle.cap_spec.specs.Paths.{Before, IsTour, Reaches}
-use Rattle.cap_spec.specs.Strict.{IsFirstLax, IsLaxAt, IsStrict}
-use Rattle.cap_spec.specs.Tree.{null}
 use Rattle.cap_spec.specs.declared.Lax.{Lax}
-use Rattle.cap_spec.specs.declared.Lax.TheVariants.{NullPad, EmptySegment, CapabilityPad}
+use Rattle.cap_spec.specs.declared.Lax.TheVariants.{CapabilityPad, EmptySegment, NullPad}
 use Rattle.cap_spec.specs.declared.Step.{Step}
-use Rattle.cap_spec.proofs.Pointers.Following.{one_lead}
-use Rattle.cap_spec.proofs.Trees.Finding.{one_object}
+use Rattle.cap_spec.proofs.Lemmas.{one_lead, first_by_tour, one_object}
+use Rattle.cap_spec.proofs.Prelude.{List, [], arith, inl, inr, lit<, lit≤, pos, refl, subst, sym, ℕ, ◌∷◌, ◌≡◌, ◌⊎◌}
+use Rattle.cap_spec.proofs.Prelude.{Denotes, Finds, near, one_pad, to_cap, to_null, to_object, two_pads, IsOneOf}
+use Rattle.cap_spec.proofs.Prelude.{segment_of, Before, IsTour, Reaches, IsFirstLax, IsLaxAt, IsStrict, null}
 use Rattle.cap_spec.proofs.Strict.Copies.{none_lax}
-use Rattle.cap_spec.proofs.Strict.FirstLax.{first_by_tour}
 
 -- a root whose one-word pad is zero
 abbrev null_pad : List (List ℕ)

@@ -1,30 +1,17 @@
 -- Small messages that meet what the laws on trees, paths and verdicts ask.
-use Rattle.std.proofs.Common.{ℕ, List, [], ◌∷◌, ◌≡◌, ◌<◌, ◌⊎◌, refl, sym, ap, ◌∙◌, subst}
-use Rattle.std.proofs.Common.{pos, arith, lit<, lit≤, inl, inr}
-use Rattle.std.specs.List.{AllByRecursion}
-use Rattle.cap_spec.specs.Lists.{IsOneOf, AreDistinct}
-use Rattle.cap_spec.specs.Words.{IsWord}
-use Rattle.cap_spec.specs.Following.{near, rank, to_cap, to_null, to_object, Condition, Wrong}
-use Rattle.cap_spec.specs.Tree.{Tree, cap, struct, structs, none, more, IsTree, pointer_count, cap_count}
-use Rattle.cap_spec.specs.Denoting.{Finds, Denotes, DenoteEach, AreElements}
-use Rattle.cap_spec.specs.Faults.{IsFirstReason, IsRefused, is_past}
-use Rattle.cap_spec.specs.Paths.{word, Reaches, Before, IsPlace, IsTour, IsFirstCap}
-use Rattle.cap_spec.specs.Occupying.{IsDisjoint, Occupies}
-use Rattle.cap_spec.specs.Verdicts.{CostOf, Justified}
-use Rattle.cap_spec.specs.declared.Reason.{Reason}
-use Rattle.cap_spec.specs.declared.Reason.TheVariants.{NoRoot, Reserved, WordLimit}
+use Rattle.cap_spec.specs.Tree.{none}
+use Rattle.cap_spec.specs.declared.Reason.TheVariants.{NoRoot, Reserved}
 use Rattle.cap_spec.specs.declared.Refusal.{Refusal}
-use Rattle.cap_spec.specs.declared.Step.{Step}
-use Rattle.cap_spec.specs.declared.Step.TheVariants.{Ptr}
-use Rattle.cap_spec.proofs.Trees.Finding.{SameObject, one_object}
-use Rattle.cap_spec.proofs.Pointers.Following.{one_lead}
-use Rattle.cap_spec.proofs.Frames.Messages.{one_word}
-use Rattle.cap_spec.proofs.Paths.Walks.{one_reached}
+use Rattle.cap_spec.proofs.Lemmas.{one_word, charge_is_cost, first_cap, pointer_path_reached, one_reached, one_lead}
+use Rattle.cap_spec.proofs.Lemmas.{SameObject, one_object, paths_within_depth, refused_justified}
+use Rattle.cap_spec.proofs.Prelude.{List, [], ap, arith, inl, inr, lit<, lit≤, pos, refl, subst, sym, ℕ, ◌<◌, ◌∙◌, ◌∷◌}
+use Rattle.cap_spec.proofs.Prelude.{◌≡◌, ◌⊎◌, AllByRecursion, AreElements, DenoteEach, Denotes, Finds, IsFirstReason}
+use Rattle.cap_spec.proofs.Prelude.{IsRefused, is_past, Condition, Wrong, near, rank, to_cap, to_null, to_object}
+use Rattle.cap_spec.proofs.Prelude.{AreDistinct, IsOneOf, IsDisjoint, Occupies, Before, IsFirstCap, IsPlace, IsTour}
+use Rattle.cap_spec.proofs.Prelude.{Reaches, word, IsTree, Tree, cap, cap_count, more, pointer_count, struct, structs}
+use Rattle.cap_spec.proofs.Prelude.{CostOf, Justified, IsWord}
 use Rattle.cap_spec.proofs.Trees.DenotedTrees.{denoted_is_tree}
-use Rattle.cap_spec.proofs.Paths.PathCounts.{pointer_path_reached, first_cap}
-use Rattle.cap_spec.proofs.Paths.PathCosts.{charge_is_cost}
-use Rattle.cap_spec.proofs.Verdicts.OneVerdict.{paths_within_depth}
-use Rattle.cap_spec.proofs.Verdicts.Refusals.{refused_justified}
+use Rattle.cap_laws.specs.Prelude.{Reason, WordLimit, Step, Ptr}
 
 -- a struct of two pointers: to a struct of the word 7, and to capability 5
 abbrev two_pointers : List (List ℕ)

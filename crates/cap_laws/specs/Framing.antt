@@ -1,11 +1,11 @@
 -- What the laws of framing say (standard: Serialization Over a Stream).
-use Rattle.std.specs.Prelude.{ℕ, ◌+◌, ◌-◌, ◌*◌, ◌%◌, ◌^◌, ◌<◌, ◌≤◌, ◌≡◌, ◌↔◌, Bool, false, List, [], ◌++◌, length}
-use Rattle.std.specs.List.{AllByRecursion, flat_map}
+use Rattle.std.specs.List.{AllByRecursion}
+use Rattle.std.specs.Prelude.{Bool, List, [], false, flat_map, length, ℕ, ◌%◌, ◌*◌, ◌++◌, ◌+◌, ◌-◌, ◌<◌, ◌^◌, ◌↔◌, ◌≡◌}
+use Rattle.std.specs.Prelude.{◌≤◌}
 use Rattle.byteorder.specs.Endian.{little_bytes}
-use Rattle.cap_spec.specs.Words.{IsWord}
-use Rattle.cap_spec.specs.Plain.{plain_text}
-use Rattle.cap_spec.specs.Frames.{joined, sizes_of, Frames, IsPartial}
-use Rattle.cap_spec.specs.Endings.{BeginsMessage, TellsTooMany, TellsTooMuch, Ending, EndsIn}
+use Rattle.cap_spec.specs.Endings.{BeginsMessage, Ending, EndsIn}
+use Rattle.cap_spec.specs.Frames.{joined}
+use Rattle.cap_spec.specs.Prelude.{TellsTooMany, TellsTooMuch, Frames, IsPartial, sizes_of, plain_text, IsWord}
 
 -- a number of four bytes, the lowest first
 abbrev pub four_bytes : ℕ → List ℕ

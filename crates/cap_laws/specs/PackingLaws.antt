@@ -1,10 +1,11 @@
 -- What the laws of packing say (standard: Packing).
-use Rattle.std.specs.Prelude.{ℕ, ◌+◌, ◌-◌, ◌<◌, ◌≡◌, ◌≢◌, ◌⊎◌, ◌↔◌, true, false, List, [], ◌∷◌, ◌++◌, length, take, drop}
 use Rattle.std.specs.List.{AllByRecursion}
-use Rattle.cap_spec.specs.Plain.{capped}
+use Rattle.std.specs.Prelude.{List, [], drop, false, length, take, true, ℕ, ◌++◌, ◌+◌, ◌-◌, ◌<◌, ◌↔◌, ◌∷◌, ◌≡◌, ◌≢◌}
+use Rattle.std.specs.Prelude.{◌⊎◌}
 use Rattle.cap_spec.specs.PackedEnds.{group_ends, packed_ends}
 use Rattle.cap_spec.specs.Packing.{group_size, group_text, pack_text}
-use Rattle.cap_spec.specs.Unpacking.{IsGroup, Unpacks, Cut, given_of, unpacked, packed_is_cut}
+use Rattle.cap_spec.specs.Plain.{capped}
+use Rattle.cap_spec.specs.Unpacking.{Cut, IsGroup, Unpacks, given_of, packed_is_cut, unpacked}
 
 -- each list of bytes either unpacks or is cut, not both, and for exactly one list of words
 abbrev pub OneUnpacking : Type 0

@@ -1,7 +1,7 @@
 -- What the laws of the plain encoding say (standard: 64-bit Words).
-use Rattle.std.specs.Prelude.{ℕ, ◌*◌, ◌<◌, ◌≡◌, ◌≢◌, ◌↔◌, true, List, [], length, drop}
 use Rattle.std.specs.List.{AllByRecursion}
-use Rattle.cap_spec.specs.Plain.{PlainSplits, plain_words, plain_is_cut}
+use Rattle.std.specs.Prelude.{List, [], drop, length, true, ℕ, ◌*◌, ◌<◌, ◌↔◌, ◌≡◌, ◌≢◌}
+use Rattle.cap_spec.specs.Plain.{PlainSplits, plain_is_cut, plain_words}
 
 -- a list of bytes splits in exactly one way into words and less than a word, as the two functions say
 abbrev pub OneSplit : Type 0

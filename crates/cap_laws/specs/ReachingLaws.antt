@@ -1,8 +1,6 @@
 -- Where paths lead, as the laws of paths and verdicts say it (profile; standard: Objects).
-use Rattle.std.specs.Prelude.{ℕ, List}
-use Rattle.cap_spec.specs.Following.{HasTag}
-use Rattle.cap_spec.specs.Denoting.{Finds}
-use Rattle.cap_spec.specs.Paths.{Reaches}
+use Rattle.std.specs.Prelude.{List, ℕ}
+use Rattle.cap_spec.specs.Prelude.{Finds, HasTag, Reaches}
 use Rattle.cap_spec.specs.declared.Step.{Step}
 
 -- the path reaches a pointer word

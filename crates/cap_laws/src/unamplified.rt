@@ -1,6 +1,6 @@
 //! The word limit that follows from what was sent.
 
-ghost use Rattle.std.specs.Prelude.{ℕ, List, [], ◌∷◌, ◌≡◌, ◌≤◌, ◌<◌, ◌+◌, ◌⊎◌, ◌↔◌, length, sum};
+ghost use Rattle.std.specs.Prelude.{ℕ, List, [], ◌∷◌, ◌≡◌, ◌≤◌, ◌+◌, ◌⊎◌, ◌↔◌, length, sum};
 ghost use Rattle.cap_spec.specs.declared.Reason.TheVariants.{WordLimit};
 ghost use Rattle.cap_spec.specs.declared.Refusal.{Refusal};
 ghost use Rattle.cap_spec.specs.Copies.{HasCopy};

@@ -1,26 +1,22 @@
 -- What bytes at hand give, one part after the other.
-use Rattle.std.proofs.Common.{◌≡◌, ◌+◌, Bool, false, lit<, ◌*◌, ◌%◌, ◌^◌, ◌<◌, ◌≤◌, ◌∙◌, ℕ, zero, suc, List, []}
-use Rattle.std.proofs.Common.{◌∷◌, ◌++◌, length, take, drop, get_or, replicate, Option, None, Some, refl, sym, ap}
-use Rattle.std.proofs.Common.{subst, arith, unwrap_or, append-nil, append_assoc, length-append, drop-drop, IfSome}
-use Rattle.std.proofs.Common.{length-drop, length-take, take-take}
-use Rattle.std.proofs.lemmas.List.{length-take-le, nil_from_length, take-append-drop}
-use Rattle.std.proofs.Math.Seq.{take-add}
-use Rattle.std.specs.List.{AllByRecursion}
-use Rattle.std.specs.Io.KnownBytes.{Consumes}
-use Rattle.std.specs.Option.{option_map}
-use Rattle.byteorder.specs.Endian.{little_number}
-use Rattle.cap_spec.specs.Plain.{capped, plain_text, plain_words}
 use Rattle.cap_spec.proofs.Bytes.Plain.{length_plain, plain_split}
-use Rattle.cap_words.proofs.Filling.{plain_join}
+use Rattle.cap_spec.proofs.Prelude.{Bool, IfSome, List, None, Option, Some, [], ap, append-nil, append_assoc, arith}
+use Rattle.cap_spec.proofs.Prelude.{drop, drop-drop, false, get_or, length, length-append, length-drop, length-take}
+use Rattle.cap_spec.proofs.Prelude.{length-take-le, lit<, option_map, refl, replicate, subst, suc, sym, take, take-add}
+use Rattle.cap_spec.proofs.Prelude.{take-append-drop, take-take, unwrap_or, zero, ℕ, ◌%◌, ◌*◌, ◌++◌, ◌+◌, ◌<◌, ◌^◌, ◌∙◌}
+use Rattle.cap_spec.proofs.Prelude.{◌∷◌, ◌≡◌, ◌≤◌, nil_from_length, Consumes, AllByRecursion, little_number, capped}
+use Rattle.cap_spec.proofs.Prelude.{plain_text, plain_words}
 use Rattle.cap_words.specs.TakingMany.{TakesAll}
-use Rattle.cap_pack.specs.AtHand.{BytesGive, CourseLeads, UnpacksInto}
-use Rattle.cap_pack.specs.Course.{Course, gives, course_words, course_is_cut, course_places, zeros_then, course, head_rest, first_word, zeros_of, plain_of}
-use Rattle.cap_pack.specs.State.{ahead}
-use Rattle.cap_pack.specs.declared.at_hand.Unpacked.{Unpacked}
 use Rattle.cap_words.specs.declared.phase.Phase.{Phase}
 use Rattle.cap_words.specs.declared.phase.Phase.TheVariants.{Open}
+use Rattle.cap_words.proofs.Filling.{plain_join}
+use Rattle.cap_pack.specs.AtHand.{BytesGive, CourseLeads, UnpacksInto}
+use Rattle.cap_pack.specs.Course.{Course, course, course_is_cut, course_places, course_words, first_word, gives}
+use Rattle.cap_pack.specs.Course.{head_rest, plain_of, zeros_of, zeros_then}
+use Rattle.cap_pack.specs.State.{ahead}
+use Rattle.cap_pack.specs.declared.at_hand.Unpacked.{Unpacked}
 use Rattle.cap_pack.proofs.Courses.{course_head, course_none, course_plain, course_plain_stops}
-use Rattle.cap_pack.proofs.Heads.{first_word-append, zeros_of-append, plain_of-append}
+use Rattle.cap_pack.proofs.Heads.{first_word-append, plain_of-append, zeros_of-append}
 
 -- no words
 leads_none : (c : Course) (at : ℕ) → CourseLeads c c at at []

@@ -1,13 +1,11 @@
 -- How the course of packed bytes goes on after the bytes in front.
-use Rattle.std.proofs.Common.{◌≡◌, ℕ, lit<, ltb-false, zero, suc, ◌+◌, ◌<◌, ◌≤◌, cond, Bool, true, false, List, [], ◌∷◌}
-use Rattle.std.proofs.Common.{◌++◌, length, drop, refl, sym, ap, ◌∙◌, arith, length-drop}
-use Rattle.std.proofs.Math.Seq.{drop-append_seam}
-use Rattle.std.proofs.lemmas.List.{length-append}
-use Rattle.std.proofs.lemmas.Bool.{cond-true, cond-false, lt-ltb, le-ltb}
-use Rattle.cap_pack.proofs.Heads.{first_word-append, zeros_of-append, plain_of-append}
-use Rattle.byteorder.specs.Endian.{little_number}
-use Rattle.cap_spec.specs.Plain.{capped}
-use Rattle.cap_pack.specs.Course.{ends, stops, gives, course, course_in, head_rest, first_word, zeros_of, plain_of, zeros_then}
+use Rattle.std.proofs.Common.{ltb-false}
+use Rattle.cap_spec.proofs.Prelude.{Bool, List, [], ap, arith, cond, drop, false, le-ltb, length, length-append}
+use Rattle.cap_spec.proofs.Prelude.{length-drop, lit<, lt-ltb, refl, suc, sym, true, zero, ℕ, ◌++◌, ◌+◌, ◌<◌, ◌∙◌, ◌∷◌}
+use Rattle.cap_spec.proofs.Prelude.{◌≡◌, ◌≤◌, drop-append_seam, cond-false, cond-true, little_number, capped}
+use Rattle.cap_pack.specs.Course.{ends, first_word, gives, head_rest, plain_of, stops, zeros_of, zeros_then, course}
+use Rattle.cap_pack.specs.Course.{course_in}
+use Rattle.cap_pack.proofs.Heads.{first_word-append, plain_of-append, zeros_of-append}
 
 -- two choices are the same where they are so in the branch that is taken
 branches_same : {A : Type 0} {b : Bool} (x : A) {y z : A} → (b ≡ false → y ≡ z) → cond b x y ≡ cond b x z

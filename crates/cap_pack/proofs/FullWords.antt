@@ -1,9 +1,6 @@
 -- The tag of eight bytes of which none is zero.
-use Rattle.std.proofs.Common.{◌≡◌, ℕ, ◌+◌, ◌<◌, ◌%◌, ◌/◌, ⊎_elim, ap, Bool, true, false, List, [], ◌∷◌, length, refl, arith}
-use Rattle.std.proofs.lemmas.Bool.Decides.{eqb_tells}
-use Rattle.std.specs.Prelude.{◌==◌, if◌then◌else◌}
-use Rattle.cap_spec.specs.Plain.{word_bytes}
-use Rattle.cap_spec.specs.Packing.{tag_of, zero_bytes, zeros_in}
+use Rattle.cap_spec.proofs.Prelude.{Bool, List, [], ap, arith, false, if◌then◌else◌, length, refl, true, ℕ, ⊎_elim, ◌%◌}
+use Rattle.cap_spec.proofs.Prelude.{◌+◌, ◌/◌, ◌<◌, ◌==◌, ◌∷◌, ◌≡◌, eqb_tells, tag_of, zero_bytes, zeros_in, word_bytes}
 
 -- a byte is zero, or its bit is set
 one_of : (b : Bool) → (if b then 1 else 0) + (if b then 0 else 1) ≡ 1

@@ -1,20 +1,13 @@
 -- The group in front of words that stand in bytes, and what is written of it.
-use Rattle.std.proofs.Common.{◌≡◌, ◌≢◌, ◌≤◌, ◌<◌, ◌+◌, ◌-◌, ◌*◌, ◌/◌, ◌%◌, ◌∙◌, ℕ, zero, suc, List, [], ◌∷◌, ◌++◌}
-use Rattle.std.proofs.Common.{length, take, drop, set, get_or, min, refl, sym, ap, arith, append-nil, append_assoc}
-use Rattle.std.proofs.Common.{drop-drop, length-append, length-drop, length-set, take-append-drop}
-use Rattle.std.specs.Prelude.{◌==◌, filter, nat_le, not}
-use Rattle.std.proofs.lemmas.Bool.{ne_eqb}
-use Rattle.std.proofs.lemmas.List.{drop_all, length-take-le, take_at, take_rest}
-use Rattle.std.proofs.lemmas.Slice.{drop-put_mid, take-put_mid}
-use Rattle.std.specs.List.{AllByRecursion}
-use Rattle.byteorder.specs.Endian.{little_number}
-use borrow.Rule.Slice.PartMut.{put_mid}
-use lib.Count.{ones}
-use Rattle.cap_spec.specs.Packing.{full_run, group_size, group_text, pack_text, tag_of, zero_bytes, zero_run}
-use Rattle.cap_spec.specs.Plain.{plain_text, plain_words, word_bytes}
-use Rattle.cap_spec.proofs.Bytes.Lists.{all_drop}
-use Rattle.cap_spec.proofs.Bytes.Plain.{length_plain, words_exact}
-use Rattle.cap_spec.proofs.Packed.Packing.{front-le, group_size-marked, nonzero_word, pack_text-group, zero_run-append}
+use Rattle.cap_spec.proofs.Lemmas.{all_drop, length_plain, words_exact, front-le}
+use Rattle.cap_spec.proofs.Packed.Packing.{group_size-marked, nonzero_word, pack_text-group, zero_run-append}
+use Rattle.cap_spec.proofs.Prelude.{List, [], ap, append-nil, append_assoc, arith, drop, drop-drop, filter, get_or}
+use Rattle.cap_spec.proofs.Prelude.{length, length-append, length-drop, length-set, length-take-le, min, nat_le, ne_eqb}
+use Rattle.cap_spec.proofs.Prelude.{not, refl, set, suc, sym, take, take-append-drop, take_at, zero, ℕ, ◌%◌, ◌*◌, ◌++◌}
+use Rattle.cap_spec.proofs.Prelude.{◌+◌, ◌-◌, ◌/◌, ◌<◌, ◌==◌, ◌∙◌, ◌∷◌, ◌≡◌, ◌≢◌, ◌≤◌, drop_all, take_rest}
+use Rattle.cap_spec.proofs.Prelude.{drop-put_mid, take-put_mid, AllByRecursion, little_number, put_mid, ones, full_run}
+use Rattle.cap_spec.proofs.Prelude.{group_size, group_text, pack_text, tag_of, zero_bytes, zero_run, plain_text}
+use Rattle.cap_spec.proofs.Prelude.{plain_words, word_bytes}
 use Rattle.cap_words.proofs.Filling.{plain_join}
 use Rattle.cap_words.proofs.WholeWords.{words_text}
 use Rattle.cap_pack.specs.GroupTexts.{front_text}

@@ -1,19 +1,15 @@
 -- The groups of a piece of words: which words a run takes from the front of others, and what spells it.
-use Rattle.std.proofs.Common.{◌≡◌, ◌≢◌, ℕ, zero, suc, ◌+◌, ◌-◌, ◌≤◌, ◌<◌, cond, leb, get_or, ⊎_elim, drop-drop}
-use Rattle.std.proofs.Common.{Bool, true, false, List, [], ◌∷◌, ◌++◌, length, take, drop, replicate, refl, ap, sym}
-use Rattle.std.proofs.Common.{subst, ◌∙◌, arith, append-nil, append_assoc, length-drop, length-append, take-append-drop}
-use Rattle.std.specs.Prelude.{◌==◌, filter, not}
-use Rattle.std.specs.List.{prefix_len}
-use Rattle.std.proofs.lemmas.Bool.{cases_lt}
-use Rattle.std.proofs.lemmas.List.{drop_more, length-replicate, length-take-le, replicate-append-replicate, take_all, take_rest}
-use Rattle.cap_spec.specs.Plain.{word_bytes, plain_text}
-use Rattle.cap_spec.specs.Packing.{zero_bytes, zero_run, full_run, tag_of, group_size, pack_text}
-use Rattle.cap_spec.proofs.Packed.Packing.{front-append, front-le, nonzero_word, pack_text-marked, pack_text-plain}
-use Rattle.cap_spec.proofs.Packed.Packing.{pack_text-zeros, plain_full, group_size-plain, group_size-zeros}
+use Rattle.std.proofs.lemmas.List.{drop_more}
+use Rattle.cap_spec.proofs.Packed.Packing.{front-append, front-le, group_size-plain, group_size-zeros, nonzero_word}
+use Rattle.cap_spec.proofs.Packed.Packing.{pack_text-marked, pack_text-plain, pack_text-zeros, plain_full}
 use Rattle.cap_spec.proofs.Packed.Repacking.{zero_front}
-use Rattle.std.proofs.lemmas.Slice.{take-put_mid}
-use borrow.Rule.Slice.PartMut.{put_mid}
-use Rattle.cap_pack.specs.Holding.{IsRun, Spells, held, first_zeros}
+use Rattle.cap_spec.proofs.Prelude.{Bool, List, [], ap, append-nil, append_assoc, arith, cond, drop, drop-drop, false}
+use Rattle.cap_spec.proofs.Prelude.{filter, get_or, leb, length, length-append, length-drop, length-take-le, not, refl}
+use Rattle.cap_spec.proofs.Prelude.{replicate, subst, suc, sym, take, take-append-drop, take_all, true, zero, ℕ, ⊎_elim}
+use Rattle.cap_spec.proofs.Prelude.{◌++◌, ◌+◌, ◌-◌, ◌<◌, ◌==◌, ◌∙◌, ◌∷◌, ◌≡◌, ◌≢◌, ◌≤◌, cases_lt, length-replicate}
+use Rattle.cap_spec.proofs.Prelude.{replicate-append-replicate, take_rest, take-put_mid, prefix_len, put_mid, full_run}
+use Rattle.cap_spec.proofs.Prelude.{group_size, pack_text, tag_of, zero_bytes, zero_run, plain_text, word_bytes}
+use Rattle.cap_pack.specs.Holding.{IsRun, Spells, first_zeros, held}
 use Rattle.cap_pack.specs.declared.group.Group.{Group}
 use Rattle.cap_pack.specs.declared.group.Group.TheVariants.{Plain}
 use Rattle.cap_pack.proofs.Runs.{run, run_is}

@@ -1,16 +1,12 @@
 -- The head of a group by its bytes alone, whatever comes behind them.
-use Rattle.std.proofs.Common.{◌≡◌, ◌≢◌, subst, ℕ, zero, suc, ◌+◌, ◌*◌, ◌/◌, ◌%◌, ◌<◌, ◌≤◌, ◌^◌, eqb, cond}
-use Rattle.std.proofs.Common.{Bool, true, false, List, [], ◌∷◌, ◌++◌, length, take, drop, length-take, refl}
-use Rattle.std.proofs.Common.{sym, ap, ◌∙◌, arith, get_or, ⊎_elim}
-use Rattle.std.proofs.lemmas.Bool.{eqb-true, eq-eqb, ne_eqb, cond-true, cond-false, cases_lt}
-use Rattle.std.proofs.lemmas.List.{length-take-le, take-append-drop}
-use Rattle.std.proofs.Math.Nat.{pow-succ'}
-use lib.Count.{ones, ones_step}
 use Rattle.std.proofs.Math.ListN.{get_or-append}
-use Rattle.byteorder.specs.Endian.{little_number}
-use Rattle.cap_spec.specs.Unpacking.{marks, spread}
+use lib.Count.{ones_step, ones}
 use Rattle.cap_spec.proofs.Packed.Unpacking.{spread_append}
-use Rattle.cap_pack.specs.Course.{head_rest, first_word, zeros_of, plain_of}
+use Rattle.cap_spec.proofs.Prelude.{Bool, List, [], ap, arith, cond, drop, eq-eqb, eqb, eqb-true, false, get_or, length}
+use Rattle.cap_spec.proofs.Prelude.{length-take, length-take-le, ne_eqb, refl, subst, suc, sym, take, take-append-drop}
+use Rattle.cap_spec.proofs.Prelude.{true, zero, ℕ, ⊎_elim, ◌%◌, ◌*◌, ◌++◌, ◌+◌, ◌/◌, ◌<◌, ◌^◌, ◌∙◌, ◌∷◌, ◌≡◌, ◌≢◌, ◌≤◌}
+use Rattle.cap_spec.proofs.Prelude.{pow-succ', cases_lt, cond-false, cond-true, little_number, marks, spread}
+use Rattle.cap_pack.specs.Course.{first_word, head_rest, plain_of, zeros_of}
 
 -- two choices are the same where both their branches are
 pub both_same : {A : Type 0} (b : Bool) {x y v w : A} → (b ≡ true → x ≡ v) → (b ≡ false → y ≡ w) → cond b x y ≡ cond b v w

@@ -1,13 +1,12 @@
 -- How the open group of a packer ends.
-use Rattle.std.proofs.Common.{◌≡◌, ℕ, suc, ◌<◌, ◌≤◌, List, [], ◌∷◌, ◌++◌, Option, None, Some, length, take, replicate}
-use Rattle.std.proofs.Common.{refl, ap, sym, ◌∙◌, subst, arith, append-nil}
-use Rattle.std.proofs.lemmas.List.{length-replicate, length-take}
-use Rattle.std.specs.Io.KnownBytes.{Appends, Keeps, append_known}
-use Rattle.cap_spec.specs.Packing.{zero_bytes, zero_run, full_run, group_size, pack_text}
 use Rattle.cap_spec.proofs.Packed.Packing.{pack_text-plain, pack_text-zeros, plain_full}
-use Rattle.cap_pack.specs.Holding.{held, first_zeros, group_bytes}
+use Rattle.cap_spec.proofs.Prelude.{List, None, Option, Some, [], ap, append-nil, arith, length, length-take, refl}
+use Rattle.cap_spec.proofs.Prelude.{replicate, subst, suc, sym, take, ℕ, ◌++◌, ◌<◌, ◌∙◌, ◌∷◌, ◌≡◌, ◌≤◌}
+use Rattle.cap_spec.proofs.Prelude.{length-replicate, Appends, Keeps, append_known, full_run, group_size, pack_text}
+use Rattle.cap_spec.proofs.Prelude.{zero_bytes, zero_run}
+use Rattle.cap_pack.specs.Holding.{first_zeros, group_bytes, held}
 use Rattle.cap_pack.specs.declared.group.Group.{Group}
-use Rattle.cap_pack.specs.declared.group.Group.TheVariants.{Empty, Zeros, Plain}
+use Rattle.cap_pack.specs.declared.group.Group.TheVariants.{Empty, Plain, Zeros}
 
 -- a run of zero words that the next word doesn't go on with
 zeros_end : (g : Group) (words rest : List ℕ) (more : ℕ) → g ≡ Zeros more → group_size (held g words) ≡ length (held g words) →

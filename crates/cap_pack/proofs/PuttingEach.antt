@@ -1,17 +1,13 @@
 -- The words of a list or of bytes, put to a sink a piece after the other.
-use Rattle.std.proofs.Common.{◌≡◌, ◌+◌, ◌-◌, ◌*◌, ◌<◌, ◌≤◌, ◌∙◌, ℕ, suc, Bool, Option, List, [], ◌∷◌, ◌++◌}
-use Rattle.std.proofs.Common.{length, take, drop, refl, sym, ap, subst, arith, append_assoc, append-nil, drop-drop}
-use Rattle.std.proofs.Common.{length-drop, take-append-drop, false}
-use Rattle.std.proofs.lemmas.List.{length-take-le, take_rest}
-use Rattle.std.specs.Io.KnownBytes.{Keeps}
-use Rattle.std.proofs.KnownBytes.{Keeps-trans}
-use Rattle.byteorder.specs.Endian.{IsRead, little_number}
-use Rattle.cap_spec.specs.Plain.{plain_words}
+use Rattle.byteorder.specs.Endian.{IsRead}
 use Rattle.cap_spec.proofs.Bytes.Plain.{plain_short}
+use Rattle.cap_spec.proofs.Prelude.{Bool, List, Option, [], ap, append-nil, append_assoc, arith, drop, drop-drop, false}
+use Rattle.cap_spec.proofs.Prelude.{length, length-drop, length-take-le, refl, subst, suc, sym, take, take-append-drop}
+use Rattle.cap_spec.proofs.Prelude.{ℕ, ◌*◌, ◌++◌, ◌+◌, ◌-◌, ◌<◌, ◌∙◌, ◌∷◌, ◌≡◌, ◌≤◌, Keeps-trans, take_rest, Keeps}
+use Rattle.cap_spec.proofs.Prelude.{little_number, plain_words}
+use Rattle.cap_words.specs.Prelude.{Failures, Begins, StoppedPutting, WasPut}
 use Rattle.cap_words.proofs.Filling.{plain_join}
 use Rattle.cap_words.proofs.Told.{begins_kept}
-use Rattle.cap_words.specs.Sinks.{Begins, StoppedPutting, WasPut}
-use Rattle.cap_words.specs.Ends.{Failures}
 
 -- the first word of bytes, and the words behind it
 pub word_first : (bytes : List ℕ) → 8 ≤ length bytes → plain_words bytes ≡ little_number 8 bytes ∷ plain_words (drop 8 bytes)

@@ -1,19 +1,15 @@
 -- How long the front of a list is whose elements pass a test.
-use Rattle.std.proofs.Common.{◌≡◌, ℕ, zero, suc, ◌+◌, ◌≤◌, ◌<◌, ◌%◌, eqb, cond, not, Bool, true, false, List, [], ◌∷◌}
-use Rattle.std.proofs.Common.{length, get_or, map, take, leb, ◌&&◌, ◌-◌, ◌*◌, ◌/◌, bit_and, w8, replicate, refl, sym}
-use Rattle.std.proofs.Common.{ap, ⊎_elim, ◌∙◌, arith, length-take-le, w64}
-use Rattle.std.specs.Prelude.{◌==◌, if◌then◌else◌, take_while}
-use Rattle.std.specs.List.{prefix_len}
-use Rattle.std.specs.Int.Count.{count_trailing_zeros}
-use Rattle.std.specs.Simd.Lanes.{mask_l, chunk, zip2, top}
-use Rattle.std.proofs.lemmas.Bool.{cases_lt, false≢true, and_parts}
-use Rattle.cap_spec.specs.Plain.{word_bytes}
-use Rattle.cap_spec.specs.Packing.{tag_of, zeros_in, zero_bytes, zero_run, full_run}
-use Rattle.cap_spec.specs.Unpacking.{marks}
-use Rattle.cap_pack.proofs.Tags.{word_tag, tag_fits}
-use Rattle.std.proofs.lemmas.List.{length-map}
+use Rattle.std.proofs.Common.{bit_and}
 use Rattle.std.proofs.lemmas.List.Sums.{prefix_len-le-length, prefix_len_passes, prefix_len_stops}
-use Rattle.std.proofs.lemmas.Simd.{first_set_mask_l, bitmask_splat, zip2_splat, zip2_of_maps, map-map}
+use Rattle.std.proofs.lemmas.Simd.{first_set_mask_l, map-map, zip2_of_maps, zip2_splat}
+use Rattle.std.specs.Int.Count.{count_trailing_zeros}
+use Rattle.cap_spec.proofs.Prelude.{Bool, List, [], ap, arith, cond, eqb, false, get_or, if◌then◌else◌, leb, length}
+use Rattle.cap_spec.proofs.Prelude.{length-take-le, map, not, refl, replicate, suc, sym, take, take_while, true, w64}
+use Rattle.cap_spec.proofs.Prelude.{w8, zero, ℕ, ⊎_elim, ◌%◌, ◌&&◌, ◌*◌, ◌+◌, ◌-◌, ◌/◌, ◌<◌, ◌==◌, ◌∙◌, ◌∷◌, ◌≡◌, ◌≤◌}
+use Rattle.cap_spec.proofs.Prelude.{and_parts, cases_lt, false≢true, length-map, bitmask_splat, prefix_len, chunk}
+use Rattle.cap_spec.proofs.Prelude.{mask_l, top, zip2, full_run, tag_of, zero_bytes, zero_run, zeros_in, word_bytes}
+use Rattle.cap_spec.proofs.Prelude.{marks}
+use Rattle.cap_pack.proofs.Tags.{tag_fits, word_tag}
 
 -- its length
 abbrev pub run : (ℕ → Bool) → List ℕ → ℕ

@@ -1,23 +1,18 @@
 -- Shuffles of bytes, by places that stand for the bits of a tag.
-use Rattle.std.proofs.Common.{◌≡◌, ℕ, zero, suc, ◌+◌, ◌-◌, ◌*◌, ◌/◌, ◌%◌, ◌<◌, ◌≤◌, eqb, leb, cond, not, Bool, true}
-use Rattle.std.proofs.Common.{false, ◌&&◌, List, [], ◌∷◌, ◌++◌, length, get_or, map, take, drop, replicate, refl, sym}
-use Rattle.std.proofs.Common.{ap, subst, ◌∙◌, arith, w8, T, ltb, ◌||◌, get_or-drop, add-zero, add-one, zero-add}
-use Rattle.std.specs.Prelude.{◌==◌, filter, if◌then◌else◌}
-use Rattle.std.specs.Simd.Lanes.{Each1, number_l}
-use Rattle.std.proofs.lemmas.Bool.{false≢true, and_parts, eqb-true, lt-leb, lt-ltb}
-use Rattle.std.proofs.lemmas.List.{length-map, map-append, length-append, length-replicate}
-use Rattle.std.proofs.Math.Seq.{take-append_seam}
-use Rattle.std.proofs.lemmas.Simd.{swz_l, SwzOk, SwzOk-from_Each1, ones-mask_l}
+use Rattle.std.proofs.Common.{T, add-zero}
 use Rattle.std.proofs.lemmas.List.Sums.{length-filter}
-use lib.Count.{ones}
-use Rattle.cap_spec.specs.Plain.{word_bytes}
-use Rattle.byteorder.specs.Endian.{little_number}
-use Rattle.cap_spec.specs.Packing.{tag_of, zero_bytes, zeros_in}
-use Rattle.cap_spec.specs.Unpacking.{marks, spread}
+use Rattle.std.proofs.lemmas.Simd.{SwzOk, SwzOk-from_Each1, ones-mask_l, swz_l}
 use Rattle.cap_spec.proofs.Packed.Repacking.{spread_empty}
-use Rattle.cap_pack.specs.Places.{spread_from, marked_from, spread_row, squeeze_row}
+use Rattle.cap_spec.proofs.Prelude.{Bool, List, [], add-one, ap, arith, cond, drop, eqb, eqb-true, false, filter}
+use Rattle.cap_spec.proofs.Prelude.{get_or, get_or-drop, if◌then◌else◌, leb, length, length-append, lt-ltb, ltb, map}
+use Rattle.cap_spec.proofs.Prelude.{not, refl, replicate, subst, suc, sym, take, true, w8, zero, zero-add, ℕ, ◌%◌, ◌&&◌}
+use Rattle.cap_spec.proofs.Prelude.{◌*◌, ◌++◌, ◌+◌, ◌-◌, ◌/◌, ◌<◌, ◌==◌, ◌||◌, ◌∙◌, ◌∷◌, ◌≡◌, ◌≤◌, take-append_seam}
+use Rattle.cap_spec.proofs.Prelude.{and_parts, false≢true, lt-leb, length-map, length-replicate, map-append, Each1}
+use Rattle.cap_spec.proofs.Prelude.{number_l, little_number, ones, tag_of, zero_bytes, zeros_in, word_bytes, marks}
+use Rattle.cap_spec.proofs.Prelude.{spread}
+use Rattle.cap_pack.specs.Places.{marked_from, spread_from, spread_row, squeeze_row}
 use Rattle.cap_pack.proofs.Runs.{bits_behind, low_bit}
-use Rattle.cap_pack.proofs.Tags.{eight_number, word_tag, mask_is_tag}
+use Rattle.cap_pack.proofs.Tags.{eight_number, mask_is_tag, word_tag}
 
 -- a tag marks no more bytes than it has bits
 marks-le : (n tag : ℕ) → marks n tag ≤ n

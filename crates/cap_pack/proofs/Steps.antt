@@ -1,14 +1,12 @@
 -- What one answer of the unpacker does to what is known of it.
-use Rattle.std.proofs.Common.{◌≡◌, ℕ, zero, suc, ◌-◌, ◌<◌, true, false, List, [], ◌∷◌, ◌++◌, Option, None, Some, refl, ap, sym, ◌∙◌, arith, append-nil}
-use Rattle.std.specs.Prelude.{OnSome, unwrap_or}
-use Rattle.std.specs.Option.{option_map}
-use Rattle.std.specs.Io.KnownBytes.{Consumes, IsAtEnd}
-use Rattle.cap_spec.specs.PackedEnds.{packed_ends}
-use Rattle.cap_spec.specs.Unpacking.{unpacked, packed_is_cut}
-use Rattle.cap_pack.specs.Course.{Course, ends, stops, gives, course_words, course_is_cut, course_places, course, zeros_then}
-use Rattle.cap_pack.specs.State.{ahead}
+use Rattle.cap_spec.proofs.Prelude.{List, None, OnSome, Option, Some, [], ap, append-nil, arith, false, option_map}
+use Rattle.cap_spec.proofs.Prelude.{refl, suc, sym, true, unwrap_or, zero, ℕ, ◌++◌, ◌-◌, ◌<◌, ◌∙◌, ◌∷◌, ◌≡◌, Consumes}
+use Rattle.cap_spec.proofs.Prelude.{IsAtEnd, packed_ends, packed_is_cut, unpacked}
 use Rattle.cap_words.specs.declared.phase.Phase.{Phase}
-use Rattle.cap_words.specs.declared.phase.Phase.TheVariants.{Open, Ended, Failed}
+use Rattle.cap_words.specs.declared.phase.Phase.TheVariants.{Ended, Failed, Open}
+use Rattle.cap_pack.specs.Course.{Course, course, course_is_cut, course_places, course_words, ends, gives, stops}
+use Rattle.cap_pack.specs.Course.{zeros_then}
+use Rattle.cap_pack.specs.State.{ahead}
 use Rattle.cap_pack.proofs.Courses.{course_none}
 use Rattle.cap_pack.proofs.Ties.{course_tells}
 

@@ -1,19 +1,13 @@
 -- The tags of words, as the bits of one comparison of all their bytes.
-use Rattle.std.proofs.Common.{◌≡◌, ℕ, suc, ◌+◌, ◌*◌, ◌/◌, ◌%◌, ◌<◌, eqb, cond, not, Bool, true, false, List, []}
-use Rattle.std.proofs.Common.{◌∷◌, ◌++◌, length, map, take, ◌≤◌, replicate, refl, sym, ap, subst, ◌∙◌, arith, w8}
-use Rattle.std.specs.Prelude.{◌==◌, if◌then◌else◌}
-use Rattle.std.specs.List.{flat_map, AllByRecursion}
-use Rattle.std.specs.Simd.Lanes.{Each1, zip2, top, mask_l, number_l, digits_l, chunk, put_chunk}
-use Rattle.std.specs.Int.{byte_at}
-use Rattle.std.proofs.lemmas.List.{length-map, map-append}
-use Rattle.std.proofs.Math.Seq.{take-add}
-use Rattle.std.proofs.lemmas.Simd.{bitmask_splat, length-chunk, take_more_put_chunk}
-use Rattle.byteorder.specs.Endian.{little_number, little_bytes}
-use Rattle.cap_spec.specs.Plain.{word_bytes}
-use Rattle.cap_spec.specs.Packing.{tag_of}
-use Rattle.cap_spec.proofs.Bytes.WordBytes.{bytes_back}
-use Rattle.cap_spec.proofs.Bytes.Plain.{length_plain}
+use Rattle.std.proofs.lemmas.Simd.{take_more_put_chunk}
+use Rattle.std.specs.Simd.Lanes.{digits_l, put_chunk}
+use Rattle.cap_spec.proofs.Lemmas.{length_plain, bytes_back}
 use Rattle.cap_spec.proofs.Packed.Repacking.{tag_below}
+use Rattle.cap_spec.proofs.Prelude.{Bool, List, [], ap, arith, cond, eqb, false, flat_map, if◌then◌else◌, length, map}
+use Rattle.cap_spec.proofs.Prelude.{not, refl, replicate, subst, suc, sym, take, take-add, true, w8, ℕ, ◌%◌, ◌*◌, ◌++◌}
+use Rattle.cap_spec.proofs.Prelude.{◌+◌, ◌/◌, ◌<◌, ◌==◌, ◌∙◌, ◌∷◌, ◌≡◌, ◌≤◌, length-map, map-append, bitmask_splat}
+use Rattle.cap_spec.proofs.Prelude.{length-chunk, byte_at, AllByRecursion, Each1, chunk, mask_l, number_l, top, zip2}
+use Rattle.cap_spec.proofs.Prelude.{little_bytes, little_number, tag_of, word_bytes}
 
 -- the tag of a word
 abbrev pub word_tag : ℕ → ℕ

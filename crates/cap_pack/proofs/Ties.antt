@@ -1,18 +1,16 @@
 -- The words that the course of packed bytes gives, their positions and how it ends are those of the published functions.
-use Rattle.std.proofs.Common.{◌≡◌, ◌≢◌, ℕ, zero, suc, ◌+◌, ◌*◌, ◌<◌, ◌≤◌, eqb, ltb, cond, Bool, true, false, List, []}
-use Rattle.std.proofs.Common.{◌∷◌, ◌++◌, length, drop, take, replicate, refl, sym, ap, ◌∙◌, arith, lit<, length-drop}
-use Rattle.std.proofs.Common.{length-take, take-append-drop, ⊎_elim}
-use Rattle.std.specs.Prelude.{slice_index}
-use Rattle.std.proofs.lemmas.Bool.{cond-true, cond-false, lt-ltb, le-ltb, ne_eqb, cases_eq, cases_lt}
-use Rattle.std.proofs.Math.Numerals.{one-add}
-use Rattle.byteorder.specs.Endian.{little_number}
-use Rattle.cap_spec.specs.Plain.{capped, plain_words}
-use Rattle.cap_spec.specs.PackedEnds.{word_ends, front_ends, ends_in, packed_ends}
-use Rattle.cap_spec.specs.Unpacking.{marks, spread, given_of, group_length, group_words, given_in, is_cut_in, unpacked, packed_is_cut}
-use Rattle.cap_pack.specs.Course.{Course, gives, stops, course_words, course_is_cut, course_places, course, head_rest, first_word, zeros_of, plain_of, zeros_then}
+use Rattle.std.proofs.Common.{one-add}
 use Rattle.cap_spec.proofs.Packed.PackedEnds.{ends_nil}
 use Rattle.cap_spec.proofs.Packed.Unpacking.{cut_nil, given_nil, spread_append}
-use Rattle.cap_pack.proofs.Courses.{course_plain, course_plain_stops, course_head, course_head_stops, course_none}
+use Rattle.cap_spec.proofs.Prelude.{Bool, List, [], ap, arith, cond, drop, eqb, false, le-ltb, length, length-drop}
+use Rattle.cap_spec.proofs.Prelude.{length-take, lit<, lt-ltb, ltb, ne_eqb, refl, replicate, slice_index, suc, sym}
+use Rattle.cap_spec.proofs.Prelude.{take, take-append-drop, true, zero, ℕ, ⊎_elim, ◌*◌, ◌++◌, ◌+◌, ◌<◌, ◌∙◌, ◌∷◌, ◌≡◌}
+use Rattle.cap_spec.proofs.Prelude.{◌≢◌, ◌≤◌, cases_eq, cases_lt, cond-false, cond-true, little_number, ends_in}
+use Rattle.cap_spec.proofs.Prelude.{front_ends, packed_ends, word_ends, capped, plain_words, given_in, given_of}
+use Rattle.cap_spec.proofs.Prelude.{group_length, group_words, is_cut_in, marks, packed_is_cut, spread, unpacked}
+use Rattle.cap_pack.specs.Course.{Course, course, course_is_cut, course_places, course_words, gives, stops, zeros_then}
+use Rattle.cap_pack.specs.Course.{first_word, head_rest, plain_of, zeros_of}
+use Rattle.cap_pack.proofs.Courses.{course_head, course_head_stops, course_none, course_plain, course_plain_stops}
 
 -- a course gives these words, ends so, and is at these positions
 pub record Tells (c : Course) (ws : List ℕ) (u : Bool) (ps : List ℕ) : Type 0 where

@@ -1,11 +1,9 @@
 -- What the unpacker's course makes of one read.
-use Rattle.std.proofs.Common.{◌≡◌, ℕ, suc, ◌+◌, ◌<◌, List, [], ◌∷◌, ◌++◌, Option, length, take, get_or, ap, ◌∙◌, subst, arith}
-use Rattle.std.proofs.KnownBytes.{Consumes-trans}
-use Rattle.byteorder.specs.Endian.{little_number}
-use Rattle.cap_spec.specs.Plain.{capped}
-use Rattle.cap_pack.specs.Course.{course, gives, stops, head_rest, first_word, zeros_of, plain_of, zeros_then}
+use Rattle.cap_spec.proofs.Prelude.{List, Option, [], ap, arith, get_or, length, subst, suc, take, ℕ, ◌++◌, ◌+◌, ◌<◌}
+use Rattle.cap_spec.proofs.Prelude.{◌∙◌, ◌∷◌, ◌≡◌, Consumes-trans, little_number, capped}
 use Rattle.cap_words.specs.Counting.{Took}
-use Rattle.cap_pack.proofs.Courses.{course_plain, course_plain_stops, course_head, course_head_stops}
+use Rattle.cap_pack.specs.Course.{course, first_word, gives, head_rest, plain_of, stops, zeros_of, zeros_then}
+use Rattle.cap_pack.proofs.Courses.{course_head, course_head_stops, course_plain, course_plain_stops}
 
 -- eight bytes are the next word as it is
 pub word_taken : {a b : Option (List ℕ)} {from to w : ℕ} {bs : List ℕ} → length bs ≡ 8 → w ≡ little_number 8 bs → Took a b from to bs →

@@ -1,10 +1,10 @@
 -- Which words of an unpacker buffered bytes give (profile).
-use Rattle.std.specs.Prelude.{ℕ, ◌+◌, ◌%◌, ◌<◌, ◌^◌, ◌≡◌, ◌≤◌, List, ◌∷◌, ◌++◌, length, take, drop}
+use Rattle.std.specs.Prelude.{List, drop, length, take, ℕ, ◌%◌, ◌++◌, ◌+◌, ◌<◌, ◌^◌, ◌∷◌, ◌≡◌, ◌≤◌}
 use Rattle.cap_spec.specs.Plain.{capped, plain_words}
-use Rattle.cap_pack.specs.Course.{Course, course_words, course_is_cut, course_places}
+use Rattle.cap_words.specs.declared.phase.Phase.TheVariants.{Open}
+use Rattle.cap_pack.specs.Course.{Course, course_is_cut, course_places, course_words}
 use Rattle.cap_pack.specs.State.{ahead}
 use Rattle.cap_pack.specs.declared.at_hand.Unpacked.{Unpacked}
-use Rattle.cap_words.specs.declared.phase.Phase.TheVariants.{Open}
 
 -- One course from a place on gives these words, and then it is the other one, from another place on.
 pub record CourseLeads (from to : Course) (place now : ℕ) (own : List ℕ) : Type 0 where

@@ -1,8 +1,8 @@
 -- What an unpacker gives of packed bytes, in order: the words, each with the position after it, and then the end (profile).
-use Rattle.std.specs.Prelude.{ℕ, zero, suc, ◌+◌, ◌==◌, nat_lt, if◌then◌else◌, Bool, true, false, List, [], ◌∷◌, length, drop, slice_index}
+use Rattle.std.specs.Prelude.{Bool, List, [], drop, false, if◌then◌else◌, length, nat_lt, slice_index, suc, true, zero}
+use Rattle.std.specs.Prelude.{ℕ, ◌+◌, ◌==◌, ◌∷◌}
 use Rattle.byteorder.specs.Endian.{little_number}
-use Rattle.cap_spec.specs.Plain.{capped}
-use Rattle.cap_spec.specs.Unpacking.{marks, spread}
+use Rattle.cap_spec.specs.Prelude.{capped, marks, spread}
 
 pub data Course : Type 0 where
   -- the input ends between groups, at this position

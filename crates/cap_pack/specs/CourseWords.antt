@@ -1,17 +1,17 @@
 -- That what packed bytes give in their course are words: the law of the source of this crate (profile).
-use Rattle.std.specs.Prelude.{ℕ, zero, suc, ◌<◌, ◌==◌, nat_lt, if◌then◌else◌, Bool, true, false, IfSome, Option, None, Some, List, [], ◌∷◌, length, drop}
-use Rattle.std.specs.List.{AllByRecursion}
-use Rattle.std.specs.Option.{option_map}
 use Rattle.std.proofs.Common.{lit<}
+use Rattle.std.specs.List.{AllByRecursion}
+use Rattle.std.specs.Prelude.{Bool, IfSome, List, None, Option, Some, [], drop, false, if◌then◌else◌, length, nat_lt}
+use Rattle.std.specs.Prelude.{option_map, suc, true, zero, ℕ, ◌<◌, ◌==◌, ◌∷◌}
 use Rattle.byteorder.specs.Endian.{little_number}
+use Rattle.cap_spec.specs.Prelude.{spread, IsWord}
 use Rattle.cap_spec.proofs.Bytes.Lists.{all_drop}
 use Rattle.cap_spec.proofs.Packed.UnpackedWords.{eight_bytes_below, spread_below}
-use Rattle.cap_spec.specs.Unpacking.{spread}
-use Rattle.cap_spec.specs.Words.{IsWord}
-use Rattle.cap_pack.specs.Course.{Course, stops, gives, course_words, zeros_then, head_rest, first_word, zeros_of, plain_of, course, course_in}
-use Rattle.cap_pack.specs.State.{ahead}
 use Rattle.cap_words.specs.declared.phase.Phase.{Phase}
-use Rattle.cap_words.specs.declared.phase.Phase.TheVariants.{Open, Ended, Failed}
+use Rattle.cap_words.specs.declared.phase.Phase.TheVariants.{Ended, Failed, Open}
+use Rattle.cap_pack.specs.Course.{Course, course_words, gives, head_rest, plain_of, stops, zeros_of, zeros_then, course}
+use Rattle.cap_pack.specs.Course.{course_in, first_word}
+use Rattle.cap_pack.specs.State.{ahead}
 
 -- of two words the one that is chosen
 pub chosen_word : (c : Bool) (x y : ℕ) → IsWord x → IsWord y → IsWord (if c then x else y)

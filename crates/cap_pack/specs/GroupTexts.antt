@@ -1,5 +1,5 @@
 -- The text of words that one group spells (profile; standard: Packing).
-use Rattle.std.specs.Prelude.{List, [], ◌∷◌, ℕ, length}
+use Rattle.std.specs.Prelude.{List, [], length, ℕ, ◌∷◌}
 use Rattle.cap_spec.specs.Packing.{group_text}
 
 -- of a word and those after it

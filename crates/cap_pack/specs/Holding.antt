@@ -1,9 +1,9 @@
 -- The open group of a packer: its words so far, and the bytes that encode them (profile).
-use Rattle.std.specs.Prelude.{ℕ, ◌≡◌, ◌⊎◌, ⊤, List, [], ◌∷◌, ◌++◌, length, take, replicate}
-use Rattle.cap_spec.specs.Packing.{zero_bytes, zero_run, full_run, pack_text}
-use Rattle.cap_spec.specs.Plain.{word_bytes, plain_text}
+use Rattle.std.specs.Prelude.{List, [], length, replicate, take, ℕ, ⊤, ◌++◌, ◌∷◌, ◌≡◌, ◌⊎◌}
+use Rattle.cap_spec.specs.Packing.{full_run, pack_text, zero_bytes, zero_run}
+use Rattle.cap_spec.specs.Plain.{plain_text, word_bytes}
 use Rattle.cap_pack.specs.declared.group.Group.{Group}
-use Rattle.cap_pack.specs.declared.group.Group.TheVariants.{Empty, Zeros, Plain}
+use Rattle.cap_pack.specs.declared.group.Group.TheVariants.{Empty, Plain, Zeros}
 
 -- the words of the group
 abbrev pub held : Group → List ℕ → List ℕ

@@ -1,5 +1,5 @@
 -- The places that the lanes of a shuffle take their bytes from. 128 is no place, and gives a zero (standard: Packing).
-use Rattle.std.specs.Prelude.{ℕ, zero, suc, ◌+◌, ◌-◌, ◌/◌, ◌%◌, ◌==◌, if◌then◌else◌, List, [], ◌∷◌, ◌++◌, replicate}
+use Rattle.std.specs.Prelude.{List, [], if◌then◌else◌, replicate, suc, zero, ℕ, ◌%◌, ◌++◌, ◌+◌, ◌-◌, ◌/◌, ◌==◌, ◌∷◌}
 use Rattle.cap_spec.specs.Unpacking.{marks}
 
 -- for each of the lowest n bits of a tag, the next place from k on if the bit is set, else none

@@ -1,8 +1,8 @@
 -- What an unpacker has still to give, by its phase and what it holds (profile).
-use Rattle.std.specs.Prelude.{ℕ, List}
-use Rattle.cap_pack.specs.Course.{Course, ends, course, zeros_then}
+use Rattle.std.specs.Prelude.{List, ℕ}
 use Rattle.cap_words.specs.declared.phase.Phase.{Phase}
-use Rattle.cap_words.specs.declared.phase.Phase.TheVariants.{Open, Ended, Failed}
+use Rattle.cap_words.specs.declared.phase.Phase.TheVariants.{Ended, Failed, Open}
+use Rattle.cap_pack.specs.Course.{Course, course, ends, zeros_then}
 
 -- what it gives of these bytes to come after this position, with `held` zero words to give and
 -- `plain` literal words to read first

@@ -1,15 +1,13 @@
 -- Where no path goes on with the step that is read.
-use Rattle.std.proofs.Common.{◌≡◌, ◌∙◌, ◌≢◌, ℕ, ◌+◌, ◌<◌, ◌≤◌, ◌-◌, Bool, true, false, if◌then◌else◌, List, [], ◌∷◌, ◌++◌, Option, None}
-use Rattle.std.proofs.Common.{decimal, length, take, get_or, refl, sym, ap, subst, arith, append_assoc}
-use Rattle.std.specs.List.{flat_map, AllByRecursion}
-use Rattle.std.proofs.lemmas.Bool.{ne_eqb}
-use Rattle.std.proofs.lemmas.List.{length-take-le, take_more}
-use Rattle.cap_spec.specs.PathTexts.{IsBadAt, IsStep, step_text}
 use Rattle.cap_spec.specs.declared.Step.{Step}
 use Rattle.cap_spec.specs.declared.Step.TheVariants.{Ptr, Item as item}
-use Rattle.cap_path.specs.PathReading.{IsBadNumber, no_digit, no_end, is_digit, longer_number, number_with}
+use Rattle.cap_spec.proofs.Prelude.{Bool, List, None, Option, [], ap, append_assoc, arith, decimal, false, flat_map}
+use Rattle.cap_spec.proofs.Prelude.{get_or, if◌then◌else◌, length, length-take-le, ne_eqb, refl, subst, sym, take, true}
+use Rattle.cap_spec.proofs.Prelude.{ℕ, ◌++◌, ◌+◌, ◌-◌, ◌<◌, ◌∙◌, ◌∷◌, ◌≡◌, ◌≢◌, ◌≤◌, take_more, AllByRecursion, IsBadAt}
+use Rattle.cap_spec.proofs.Prelude.{IsStep, step_text}
+use Rattle.cap_path.specs.PathReading.{IsBadNumber, is_digit, longer_number, no_digit, no_end, number_with}
 use Rattle.cap_path.proofs.PathReading.{Unfinished, bad_here, stops}
-use Rattle.cap_path.proofs.ReadSteps.{Reading, Slash, Pointer, Item, Number, HasRead, IsReading, next_of, item_number}
+use Rattle.cap_path.proofs.ReadSteps.{HasRead, IsReading, Item, Number, Pointer, Reading, Slash, item_number, next_of}
 use Rattle.cap_path.proofs.ReadSteps.{pointer_number, reading_text, spells_more}
 
 -- how a step is spelled by a letter and a number, and read

@@ -1,20 +1,16 @@
 -- The text of a path is read to its end, and a text that isn't read on begins no path.
-use Rattle.std.proofs.Common.{◌≡◌, ◌∙◌, inl, inr, ℕ, suc, ◌+◌, ◌*◌, ◌-◌, ◌<◌, ◌≤◌, ◌^◌, ◌/◌, ◌%◌, ◌==◌, nat_lt, true}
-use Rattle.std.proofs.Common.{false, List, [], ◌∷◌, ◌++◌, Option, Some, None, codes, decimal, length, take, drop}
-use Rattle.std.proofs.Common.{get_or, refl, sym, ap, subst, arith, append_assoc, append-nil, length-take}
-use Rattle.std.specs.List.{flat_map, AllByRecursion}
-use Rattle.std.specs.Option.{option_and_then}
-use Rattle.std.proofs.Math.Seq.{split_at}
-use Rattle.std.proofs.lemmas.Bool.{ne_eqb}
-use Rattle.std.proofs.lemmas.Bool.Decides.{leb_tells, nat_tests}
-use Rattle.std.proofs.lemmas.Fmt.{decimal_by_steps}
-use Rattle.std.proofs.lemmas.List.{get_or-take, take-take, take_all}
-use Rattle.cap_spec.specs.PathTexts.{BeginsPath, IsBadAt, IsPath, IsStep, step_text, path_text}
+use Rattle.std.proofs.Common.{option_and_then}
 use Rattle.cap_spec.specs.declared.Step.{Step}
 use Rattle.cap_spec.specs.declared.Step.TheVariants.{Ptr, Item as item}
+use Rattle.cap_spec.proofs.Prelude.{List, None, Option, Some, [], ap, append-nil, append_assoc, arith, codes, decimal}
+use Rattle.cap_spec.proofs.Prelude.{drop, false, flat_map, get_or, get_or-take, inl, inr, length, length-take, nat_lt}
+use Rattle.cap_spec.proofs.Prelude.{ne_eqb, refl, subst, suc, sym, take, take-take, take_all, true, ℕ, ◌%◌, ◌*◌, ◌++◌}
+use Rattle.cap_spec.proofs.Prelude.{◌+◌, ◌-◌, ◌/◌, ◌<◌, ◌==◌, ◌^◌, ◌∙◌, ◌∷◌, ◌≡◌, ◌≤◌, split_at, leb_tells, nat_tests}
+use Rattle.cap_spec.proofs.Prelude.{decimal_by_steps, AllByRecursion, BeginsPath, IsBadAt, IsPath, IsStep, path_text}
+use Rattle.cap_spec.proofs.Prelude.{step_text}
 use Rattle.cap_path.specs.PathReading.{is_digit, longer_number}
-use Rattle.cap_path.proofs.ReadSteps.{Reading, Start, Slash, Pointer, Item, Number, next_of, item_number, pointer_number}
-use Rattle.cap_path.proofs.ReadSteps.{HasRead, IsReading, read_begins, reading_text}
+use Rattle.cap_path.proofs.ReadSteps.{HasRead, IsReading, Item, Number, Pointer, Reading, Slash, Start, item_number}
+use Rattle.cap_path.proofs.ReadSteps.{next_of, pointer_number, read_begins, reading_text}
 
 -- reading some bytes, one after the other
 abbrev run : List ℕ → Reading → Option Reading

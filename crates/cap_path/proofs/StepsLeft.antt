@@ -1,14 +1,11 @@
 -- The first of the steps of a path is read, and the others are left.
-use Rattle.std.proofs.Common.{◌≡◌, ◌∙◌, inl, inr, ℕ, ◌+◌, ◌<◌, List, [], ◌∷◌, ◌++◌, Option, Some, None, decimal, length}
-use Rattle.std.proofs.Common.{drop, get_or, refl, sym, ap, subst, arith}
-use Rattle.std.specs.List.{flat_map, AllByRecursion}
-use Rattle.std.proofs.lemmas.Bool.Decides.{leb_tells}
-use Rattle.std.proofs.lemmas.Fmt.{decimal_injective}
-use Rattle.std.proofs.lemmas.List.{at_drop_more, drop_all, take-append-drop}
-use Rattle.cap_spec.specs.PathTexts.{IsStep, step_text}
+use Rattle.std.proofs.lemmas.List.{at_drop_more}
 use Rattle.cap_spec.specs.declared.Step.{Step}
 use Rattle.cap_spec.specs.declared.Step.TheVariants.{Ptr, Item as item}
 use Rattle.cap_spec.proofs.Paths.PathTexts.{EndsNumber, all_digits, ends_number, one_number}
+use Rattle.cap_spec.proofs.Prelude.{List, None, Option, Some, [], ap, arith, decimal, drop, flat_map, get_or, inl, inr}
+use Rattle.cap_spec.proofs.Prelude.{length, refl, subst, sym, take-append-drop, ℕ, ◌++◌, ◌<◌, ◌∙◌, ◌∷◌, ◌≡◌, leb_tells}
+use Rattle.cap_spec.proofs.Prelude.{decimal_injective, drop_all, AllByRecursion, IsStep, step_text}
 use Rattle.cap_path.specs.PathReading.{IsStepAt}
 use Rattle.cap_path.specs.PathSteps.{AreLeft}
 use Rattle.cap_path.specs.declared.steps.PathSteps.{PathSteps}

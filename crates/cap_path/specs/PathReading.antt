@@ -1,6 +1,6 @@
 -- What is read of a step of a path, and where the number of one is bad (profile).
-use Rattle.std.specs.Prelude.{ℕ, ◌+◌, ◌*◌, ◌-◌, ◌<◌, ◌≤◌, ◌≡◌, ◌≢◌, ◌==◌, ◌&&◌, ◌++◌, nat_le, nat_lt, if◌then◌else◌, Bool, false}
-use Rattle.std.specs.Prelude.{Option, Some, None, List, length, take, slice_index, decimal}
+use Rattle.std.specs.Prelude.{Bool, List, None, Option, Some, decimal, false, if◌then◌else◌, length, nat_le, nat_lt}
+use Rattle.std.specs.Prelude.{slice_index, take, ℕ, ◌&&◌, ◌*◌, ◌++◌, ◌+◌, ◌-◌, ◌<◌, ◌==◌, ◌≡◌, ◌≢◌, ◌≤◌}
 use Rattle.cap_spec.specs.PathTexts.{IsStep, step_text}
 use Rattle.cap_spec.specs.declared.Step.{Step}
 

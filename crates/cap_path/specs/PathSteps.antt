@@ -1,6 +1,6 @@
 -- The steps of a path that are still to be read from its text (profile).
-use Rattle.std.specs.Prelude.{ℕ, ◌≡◌, List, length}
-use Rattle.std.specs.List.{flat_map, AllByRecursion}
+use Rattle.std.specs.List.{AllByRecursion}
+use Rattle.std.specs.Prelude.{List, flat_map, length, ℕ, ◌≡◌}
 use Rattle.cap_spec.specs.PathTexts.{IsStep, step_text}
 use Rattle.cap_spec.specs.declared.Step.{Step}
 use Rattle.cap_path.specs.declared.steps.PathSteps.{PathSteps}

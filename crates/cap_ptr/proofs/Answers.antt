@@ -1,14 +1,13 @@
 -- What is so of a pointer word tells the answer of following it.
-use Rattle.std.proofs.Common.{◌≡◌, ℕ, List, pos, Result, Ok, Err, IfOk, IfErr, refl, ap, subst}
-use Rattle.cap_spec.specs.Following.{to_null, to_cap, to_object, Leads, Wrong}
-use Rattle.cap_spec.specs.Denoting.{Finds}
 use Rattle.cap_spec.specs.declared.Reason.{Reason}
+use Rattle.cap_spec.proofs.Pointers.Following.{cap-not_wrong, null-not_wrong, object-not_wrong, one_lead, one_wrong}
+use Rattle.cap_spec.proofs.Prelude.{Err, IfErr, IfOk, List, Ok, Result, ap, pos, refl, subst, ℕ, ◌≡◌, Finds, Leads}
+use Rattle.cap_spec.proofs.Prelude.{Wrong, to_cap, to_null, to_object}
 use Rattle.cap_spec.proofs.Trees.Finding.{SameObject, one_object}
-use Rattle.cap_spec.proofs.Pointers.Following.{one_lead, one_wrong, null-not_wrong, cap-not_wrong, object-not_wrong}
-use Rattle.cap_ptr.specs.Shapes.{IsShapedObject, IsAnswer, IsFollowed, AnswersObject}
+use Rattle.cap_ptr.specs.Shapes.{AnswersObject, IsAnswer, IsFollowed, IsShapedObject}
+use Rattle.cap_ptr.specs.declared.shapes.Followed.{Followed}
 use Rattle.cap_ptr.specs.declared.shapes.Shape.{Shape}
 use Rattle.cap_ptr.specs.declared.shapes.Target.{Target}
-use Rattle.cap_ptr.specs.declared.shapes.Followed.{Followed}
 use Rattle.cap_ptr.specs.declared.shapes.Followed.TheVariants as followed
 
 -- what is so of an object is so of each name of it

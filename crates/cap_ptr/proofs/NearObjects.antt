@@ -1,12 +1,8 @@
 -- Why a pointer word alone describes its object.
-use Rattle.std.proofs.Common.{◌≡◌, ◌≢◌, ℕ, ◌+◌, ◌+ℤ◌, ◌*◌, ◌/◌, ◌^◌, ◌≤◌, ◌⊎◌, inl, inr, List, length, pos, refl, arith, true, false, ◌==◌}
-use Rattle.std.proofs.lemmas.Bool.{ne_eqb}
-use Rattle.std.proofs.lemmas.Bool.Decides.{eqb_tells}
-use Rattle.cap_spec.specs.Words.{signed_offset_of}
-use Rattle.cap_spec.specs.Messages.{HasWord, segment_of}
-use Rattle.cap_spec.specs.Pointers.{code, element_bits, extent, list_words}
-use Rattle.cap_spec.specs.Following.{extra}
 use Rattle.cap_spec.proofs.Frames.Messages.{HasWord-segment}
+use Rattle.cap_spec.proofs.Prelude.{List, arith, false, inl, inr, length, ne_eqb, pos, refl, true, ℕ, ◌*◌, ◌+ℤ◌, ◌+◌}
+use Rattle.cap_spec.proofs.Prelude.{◌/◌, ◌==◌, ◌^◌, ◌≡◌, ◌≢◌, ◌≤◌, ◌⊎◌, eqb_tells, extra, HasWord, segment_of, code}
+use Rattle.cap_spec.proofs.Prelude.{element_bits, extent, list_words, signed_offset_of}
 use Rattle.cap_spec.proofs.Trees.Charges.{extra_pointers, extra_struct}
 use Rattle.cap_ptr.specs.Rows.{FindsRow, HasPointers}
 use Rattle.cap_ptr.specs.Shapes.{FindsTarget, IsPlain, IsShape}

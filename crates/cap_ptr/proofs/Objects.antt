@@ -1,14 +1,12 @@
 -- What the words of an object tell of its place and its charge.
-use Rattle.std.proofs.Common.{◌≡◌, ℕ, ◌+◌, ◌*◌, ◌^◌, ◌<◌, ◌≤◌, inr, List, length, pos, if◌then◌else◌, ◌==◌, refl, sym, ◌∙◌, arith}
-use Rattle.std.proofs.lemmas.Int.{ints}
-use Rattle.cap_spec.specs.Messages.{HasWord, segment_of}
-use Rattle.cap_spec.specs.Pointers.{kind, middle, data_size, pointer_size, list_size, extent}
-use Rattle.cap_spec.specs.Following.{IsComposite, extra, Wrong}
 use Rattle.cap_spec.specs.declared.Reason.TheVariants.{OutOfSegment}
-use Rattle.cap_spec.proofs.Trees.Charges.{extent_structs}
 use Rattle.cap_spec.proofs.Pointers.Following.{wrong-out}
+use Rattle.cap_spec.proofs.Prelude.{List, arith, if◌then◌else◌, inr, length, pos, refl, sym, ℕ, ◌*◌, ◌+◌, ◌<◌, ◌==◌}
+use Rattle.cap_spec.proofs.Prelude.{◌^◌, ◌∙◌, ◌≡◌, ◌≤◌, ints, IsComposite, Wrong, extra, HasWord, segment_of, data_size}
+use Rattle.cap_spec.proofs.Prelude.{extent, kind, list_size, middle, pointer_size}
+use Rattle.cap_spec.proofs.Trees.Charges.{extent_structs}
 use Rattle.cap_ptr.specs.Reaching.{LeadsTo}
-use Rattle.cap_ptr.specs.Shapes.{IsShape, FindsObject}
+use Rattle.cap_ptr.specs.Shapes.{FindsObject, IsShape}
 use Rattle.cap_ptr.specs.declared.shapes.Shape.{Shape}
 use Rattle.cap_ptr.specs.declared.shapes.Shape.TheVariants.{Structs}
 

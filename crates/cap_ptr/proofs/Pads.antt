@@ -1,12 +1,12 @@
 -- Which word stands for a pointer word over its pads, and what a two-word pad leads to.
-use Rattle.std.proofs.Common.{◌≡◌, ◌≢◌, ℕ, ◌+◌, ◌<◌, ◌≤◌, List, length, pos, ℤ, ◌+ℤ◌, ◌<ℤ◌, inl, refl, subst, arith}
-use Rattle.cap_spec.specs.Words.{signed_offset_of}
-use Rattle.cap_spec.specs.Messages.{HasWord}
-use Rattle.cap_spec.specs.Pointers.{kind, middle, pad, far_segment}
-use Rattle.cap_spec.specs.Following.{Lead, to_null, to_cap, to_object, Says, IsOnePad, Leads, near, one_pad, two_pads, Wrong}
-use Rattle.cap_spec.specs.declared.Reason.TheVariants.{PadNotFar, TagKind, TagOffset, OutOfSegment}
-use Rattle.cap_spec.proofs.Pointers.Following.{wrong-reserved, wrong-pad_reserved, wrong-pad_far, wrong-pad_near, wrong-tag_kind, wrong-tag_offset, wrong-out}
-use Rattle.cap_ptr.specs.Reaching.{ResolvesTo, HasTwoPad, LeadsTo}
+use Rattle.std.proofs.Common.{◌<ℤ◌}
+use Rattle.cap_spec.specs.declared.Reason.TheVariants.{OutOfSegment, PadNotFar, TagKind, TagOffset}
+use Rattle.cap_spec.proofs.Pointers.Following.{wrong-out, wrong-pad_far, wrong-pad_near, wrong-pad_reserved}
+use Rattle.cap_spec.proofs.Pointers.Following.{wrong-reserved, wrong-tag_kind, wrong-tag_offset}
+use Rattle.cap_spec.proofs.Prelude.{List, arith, inl, length, pos, refl, subst, ℕ, ℤ, ◌+ℤ◌, ◌+◌, ◌<◌, ◌≡◌, ◌≢◌, ◌≤◌}
+use Rattle.cap_spec.proofs.Prelude.{IsOnePad, Lead, Leads, Says, Wrong, near, one_pad, to_cap, to_null, to_object}
+use Rattle.cap_spec.proofs.Prelude.{two_pads, HasWord, far_segment, kind, middle, pad, signed_offset_of}
+use Rattle.cap_ptr.specs.Reaching.{HasTwoPad, LeadsTo, ResolvesTo}
 
 -- a word that says something isn't far
 says_near : (t b q : ℕ) (r : Lead) → Says t b q r → kind q ≢ 2

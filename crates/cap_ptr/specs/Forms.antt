@@ -1,10 +1,10 @@
 -- The six forms of a pointer word (standard: Structs, Lists, Inter-Segment Pointers, Capabilities).
-use Rattle.std.specs.Prelude.{ℕ, ◌^◌, ◌<◌, ◌≡◌, ◌≢◌, ◌==◌, ◌⊎◌, if◌then◌else◌, ℤ, pos, neg_ℤ, ◌≤ℤ◌, ◌<ℤ◌}
+use Rattle.std.specs.Prelude.{if◌then◌else◌, neg_ℤ, pos, ℕ, ℤ, ◌<ℤ◌, ◌<◌, ◌==◌, ◌^◌, ◌≡◌, ◌≢◌, ◌≤ℤ◌, ◌⊎◌}
+use Rattle.cap_spec.specs.Pointers.{IsCap, IsFar, IsList, IsReserved, IsStruct, cap_index, code, data_size, far_segment}
+use Rattle.cap_spec.specs.Pointers.{kind, list_size, middle, pad, pointer_size, two}
 use Rattle.cap_spec.specs.Words.{IsWord, signed_offset_of}
-use Rattle.cap_spec.specs.Pointers.{kind, middle, data_size, pointer_size, code, list_size, two, pad, far_segment}
-use Rattle.cap_spec.specs.Pointers.{cap_index, IsStruct, IsList, IsFar, IsCap, IsReserved}
 use Rattle.cap_ptr.specs.declared.forms.Pointer.{Pointer}
-use Rattle.cap_ptr.specs.declared.forms.Pointer.TheVariants.{Null, Struct, List, Far, Cap, Reserved}
+use Rattle.cap_ptr.specs.declared.forms.Pointer.TheVariants.{Cap, Far, List, Null, Reserved, Struct}
 
 -- the word has this form, with these fields
 abbrev pub HasForm : ℕ → Pointer → Type 0

@@ -1,10 +1,10 @@
 -- Which word takes the place of a pointer word, once its landing pads are passed
 -- (standard: Inter-Segment Pointers).
-use Rattle.std.specs.Prelude.{ℕ, ◌+◌, List, pos}
+use Rattle.std.specs.Prelude.{List, pos, ℕ, ◌+◌}
+use Rattle.cap_spec.specs.Following.{IsTwoPad, Lead, Leads, Says, Wrong, to_object}
 use Rattle.cap_spec.specs.Messages.{HasWord}
-use Rattle.cap_spec.specs.Pointers.{pad, far_segment, IsFar, IsReserved}
-use Rattle.cap_spec.specs.Following.{Lead, to_object, Leads, Says, IsTwoPad, Wrong}
-use Rattle.cap_spec.specs.declared.Reason.TheVariants.{Reserved, PadIsFar}
+use Rattle.cap_spec.specs.Pointers.{IsFar, IsReserved, far_segment, pad}
+use Rattle.cap_spec.specs.declared.Reason.TheVariants.{PadIsFar, Reserved}
 
 -- Over k pads, the word q at t:b takes the place of the pointer word at s:w.
 pub record ResolvesTo (m : List (List ℕ)) (s w k t b q : ℕ) : Type 0 where

@@ -1,15 +1,14 @@
 -- What the answer of a following says of a pointer word (standard: Structs, Lists; the charge is the profile's).
-use Rattle.std.specs.Prelude.{ℕ, ◌+◌, ◌^◌, ◌<◌, ◌≤◌, ◌≡◌, ◌≢◌, List, length, Result, Ok, Err}
-use Rattle.cap_spec.specs.Messages.{HasWord, segment_of}
-use Rattle.cap_spec.specs.Pointers.{kind, middle, code, data_size, pointer_size, list_size, extent}
-use Rattle.cap_spec.specs.Following.{Leads, to_null, to_cap, IsComposite, TagFits, Wrong, extra}
-use Rattle.cap_spec.specs.Denoting.{Finds}
+use Rattle.std.specs.Prelude.{Err, List, Ok, Result, length, ℕ, ◌+◌, ◌<◌, ◌^◌, ◌≡◌, ◌≢◌, ◌≤◌}
+use Rattle.cap_spec.specs.Following.{IsComposite, TagFits}
 use Rattle.cap_spec.specs.ObjectShapes.{IsPointersShape, IsScalarsShape, IsStructShape, IsStructsShape}
+use Rattle.cap_spec.specs.Prelude.{Finds, Leads, Wrong, extra, to_cap, to_null, HasWord, segment_of, code, extent, kind}
+use Rattle.cap_spec.specs.Prelude.{list_size}
 use Rattle.cap_spec.specs.declared.Reason.{Reason}
-use Rattle.cap_ptr.specs.declared.shapes.Shape.{Shape}
-use Rattle.cap_ptr.specs.declared.shapes.Shape.TheVariants.{Struct, Scalars, Pointers, Structs}
-use Rattle.cap_ptr.specs.declared.shapes.Target.{Target}
 use Rattle.cap_ptr.specs.declared.shapes.Followed.{Followed}
+use Rattle.cap_ptr.specs.declared.shapes.Shape.{Shape}
+use Rattle.cap_ptr.specs.declared.shapes.Shape.TheVariants.{Pointers, Scalars, Struct, Structs}
+use Rattle.cap_ptr.specs.declared.shapes.Target.{Target}
 use Rattle.cap_ptr.specs.declared.shapes.Followed.TheVariants as followed
 
 -- the word q is that of a struct, or of a list that has no tag

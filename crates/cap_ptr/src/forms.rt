@@ -1,6 +1,6 @@
 //! The six forms of a pointer word.
 
-ghost use Rattle.cap_spec.specs.Words.{IsWord, field, signed_offset_of};
+ghost use Rattle.cap_spec.specs.Words.{IsWord, signed_offset_of};
 ghost use Rattle.cap_ptr.specs.Forms.{IsOffset};
 ghost use Rattle.std.specs.Prelude.{◌%◌, ◌<◌, ◌^◌, ◌≡◌, ℕ};
 

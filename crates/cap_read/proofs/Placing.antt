@@ -1,22 +1,12 @@
 -- What is read at the end of a path.
-use Rattle.std.proofs.Common.{◌≡◌, ℕ, ◌+◌, ◌<◌, ◌≤◌, ◌∙◌, List, [], length, pos, ap, refl, sym, subst, Option, None, Some}
-use Rattle.std.specs.Prelude.{IfSome, MatchOption}
-use Rattle.std.specs.Option.{option_map}
-use Rattle.cap_spec.specs.Denoting.{Denotes, words_from}
-use Rattle.cap_spec.specs.Following.{to_object}
-use Rattle.cap_spec.specs.Messages.{segment_of}
-use Rattle.cap_spec.specs.Paths.{ReachesSpot, IsPlace, Spot, HasPlace, word, element}
-use Rattle.cap_spec.specs.Plain.{plain_text}
-use Rattle.cap_spec.specs.Pointers.{extent}
-use Rattle.cap_spec.specs.Showing.{Own, own_of}
-use Rattle.cap_spec.specs.Standing.{DenotesAt}
-use Rattle.cap_spec.specs.Tree.{Tree, node_at}
 use Rattle.cap_spec.specs.declared.Step.{Step}
-use Rattle.cap_spec.proofs.Pointers.Following.{one_lead}
-use Rattle.cap_spec.proofs.Trees.OneTree.{one_tree}
-use Rattle.cap_spec.proofs.Paths.Walks.{one_coming}
-use Rattle.cap_vet.specs.Views.{bytes_of_place}
+use Rattle.cap_spec.proofs.Lemmas.{one_coming, one_lead, one_tree}
+use Rattle.cap_spec.proofs.Prelude.{IfSome, List, MatchOption, None, Option, Some, [], ap, length, option_map, pos}
+use Rattle.cap_spec.proofs.Prelude.{refl, subst, sym, ℕ, ◌+◌, ◌<◌, ◌∙◌, ◌≡◌, ◌≤◌, Denotes, words_from, to_object}
+use Rattle.cap_spec.proofs.Prelude.{segment_of, HasPlace, IsPlace, ReachesSpot, Spot, element, word, plain_text, extent}
+use Rattle.cap_spec.proofs.Prelude.{Own, own_of, DenotesAt, Tree, node_at}
 use Rattle.cap_vet.specs.Reports.{IsReport}
+use Rattle.cap_vet.specs.Views.{bytes_of_place}
 use Rattle.cap_vet.specs.declared.nodes.place.Place.{Place}
 use Rattle.cap_vet.specs.declared.report.Report.{Report}
 use Rattle.cap_read.specs.ReadNodes.{IsPlaceInside, IsRead}

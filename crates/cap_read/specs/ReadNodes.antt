@@ -1,11 +1,8 @@
 -- What is read of a message at a path (profile).
-use Rattle.std.specs.Prelude.{ℕ, ◌+◌, ◌<◌, ◌≤◌, ◌≡◌, List, length, Option, MatchOption}
-use Rattle.std.specs.Option.{option_map}
-use Rattle.cap_spec.specs.Denoting.{Denotes}
-use Rattle.cap_spec.specs.Messages.{segment_of}
+use Rattle.std.specs.Prelude.{List, MatchOption, Option, length, option_map, ℕ, ◌+◌, ◌<◌, ◌≡◌, ◌≤◌}
 use Rattle.cap_spec.specs.Paths.{IsPlace}
-use Rattle.cap_spec.specs.Showing.{Own, own_of}
-use Rattle.cap_spec.specs.Tree.{Tree, node_at}
+use Rattle.cap_spec.specs.Prelude.{Denotes, segment_of, Own, Tree, node_at}
+use Rattle.cap_spec.specs.Showing.{own_of}
 use Rattle.cap_spec.specs.declared.Step.{Step}
 use Rattle.cap_vet.specs.Reports.{IsReport}
 use Rattle.cap_vet.specs.declared.nodes.place.Place.{Place}

@@ -1,38 +1,25 @@
 -- What is known of the words of a source decides how the engine ends that puts copies, faults of devices, of the output and
 -- of memory aside.
-use Rattle.std.proofs.Common.{◌≡◌, ◌∙◌, ℕ, ◌≤◌, false, Some, Result, Ok, Err, List, [], ◌∷◌, ◌++◌, length, sum, IfErr, IfOk, refl, sym, ap, subst, arith}
-use Rattle.std.specs.List.{AllByRecursion}
-use Rattle.std.proofs.lemmas.List.{length-map}
-use Rattle.cap_spec.specs.Copies.{HasCopy}
-use Rattle.cap_spec.specs.Frames.{Stream, frame_text, sizes_of}
-use Rattle.cap_spec.proofs.Frames.FrameTexts.{one_stream}
-use Rattle.cap_spec.proofs.Bytes.Lists.{all_back}
-use Rattle.cap_spec.proofs.Strict.Faults.{strict_not_fault}
-use Rattle.cap_spec.proofs.Verdicts.Refusals.{within_not_refused}
-use Rattle.cap_spec.specs.declared.StrictRefusal.{StrictRefusal}
-use Rattle.cap_spec.specs.declared.StrictRefusal.TheVariants.{Refused as bad, ManySegments, Pointer}
-use Rattle.cap_words.specs.declared.sinks.WordSink as sink
-use Rattle.cap_words.specs.declared.sources.WordSource as source
+use Rattle.cap_spec.specs.declared.CanonFault.TheVariants.{Memory}
+use Rattle.cap_spec.specs.declared.StrictRefusal.TheVariants.{Refused as bad}
+use Rattle.cap_spec.proofs.Lemmas.{all_back, one_copy, one_stream, strict_not_fault, within_not_refused}
+use Rattle.cap_spec.proofs.Prelude.{Err, IfErr, IfOk, List, Ok, Result, Some, [], ap, arith, false, length, refl, subst}
+use Rattle.cap_spec.proofs.Prelude.{sum, sym, ℕ, ◌++◌, ◌∙◌, ◌∷◌, ◌≡◌, ◌≤◌, length-map, AllByRecursion, HasCopy, Stream}
+use Rattle.cap_spec.proofs.Prelude.{frame_text, sizes_of}
 use Rattle.cap_frame.proofs.Converse.{same_some}
 use Rattle.cap_vet.specs.Demands.{words_under}
-use Rattle.cap_vet.specs.declared.demands.Demands.{Demands}
-use Rattle.cap_spec.specs.declared.CanonFault.TheVariants.{HasCapability, Memory}
-use Rattle.cap_spec.proofs.Canonical.Copies.{one_copy}
 use Rattle.cap_canon.proofs.Copies.{cap_no_copy}
-use Rattle.cap_run.specs.Canons.{AreCanonised, CanonStops, Canonised, IsCanonised, MakesCopiesUnder, canonised}
-use Rattle.cap_run.specs.Canons.{copies_of}
-use Rattle.cap_run.specs.Transcoding.{Finishes}
-use Rattle.cap_run.specs.Demanding.{IsNotStrict, IsStrictUnder}
-use Rattle.cap_run.specs.Making.{Made}
-use Rattle.cap_run.specs.Running.{Settled, SettledAt}
-use Rattle.cap_run.specs.Streams.{ReadsToEnd, ReadsStream}
-use Rattle.cap_text.specs.declared.fault.Cause.{Cause}
-use Rattle.cap_text.specs.declared.fault.Cause.TheVariants.{TooManyMessages, Frame, Output, Refused, NotStrict, Canon}
-use Rattle.cap_text.specs.declared.fault.Cause.TheVariants.{Memory as no_marks}
-use Rattle.cap_text.specs.declared.fault.RunFault.{RunFault}
-use Rattle.cap_run.specs.declared.settings.Outcome.{Outcome}
+use Rattle.cap_text.specs.declared.fault.Cause.TheVariants.{Output, Refused, Memory as no_marks}
+use Rattle.cap_run.specs.Canons.{CanonStops}
+use Rattle.cap_run.specs.Demanding.{IsNotStrict}
+use Rattle.cap_run.specs.Prelude.{HasCapability, StrictRefusal, ManySegments, Pointer, Demands, Cause, Canon, Frame}
+use Rattle.cap_run.specs.Prelude.{NotStrict, TooManyMessages, RunFault, AreCanonised, Canonised, IsCanonised}
+use Rattle.cap_run.specs.Prelude.{MakesCopiesUnder, canonised, copies_of, IsStrictUnder, Made, Settled, SettledAt}
+use Rattle.cap_run.specs.Prelude.{ReadsStream, ReadsToEnd, Finishes, Outcome}
 use Rattle.cap_run.proofs.Settling.{none_faulted, none_over, on_known, reads_next}
 use Rattle.cap_run.proofs.Streams.{reads_all}
+use Rattle.cap_words.specs.declared.sinks.WordSink as sink
+use Rattle.cap_words.specs.declared.sources.WordSource as source
 
 -- it is accepted within these limits, and has a copy
 abbrev HasOne : Demands → ℕ → ℕ → List (List ℕ) → Type 0

@@ -1,22 +1,15 @@
 -- Demands by default, and texts and allocations that are among others.
-use Rattle.std.proofs.Common.{◌≡◌, ◌∙◌, ap, ◌+◌, ◌≤◌, ℕ, Bool, false, true, if◌then◌else◌, List, [], ◌∷◌}
-use Rattle.std.proofs.Common.{length, Result, Ok, Err, arith}
+use Rattle.cap_spec.proofs.Prelude.{Bool, Err, List, Ok, Result, [], ap, arith, false, if◌then◌else◌, length, true, ℕ}
+use Rattle.cap_spec.proofs.Prelude.{◌+◌, ◌∙◌, ◌∷◌, ◌≡◌, ◌≤◌, unamplified}
+use Rattle.cap_vet.specs.Demands.{words_under}
+use Rattle.cap_text.specs.declared.fault.Cause.TheVariants.{Output, Refused, Memory as no_marks}
+use Rattle.cap_run.specs.Demanding.{no_demands}
+use Rattle.cap_run.specs.Prelude.{Demands, Cause, Canon, Frame, NotStrict, TooManyMessages, RunFault, OrFault}
+use Rattle.cap_run.specs.Prelude.{WantsUnder, ReachesEnd, StopsEarly, TellsStream, RunStops, Tells, TellsEach, Told}
+use Rattle.cap_run.specs.Prelude.{WantsNone, Counted, Outcome}
+use Rattle.cap_run.proofs.Settling.{settled}
 use Rattle.cap_words.specs.declared.ends.ByteOut as output
 use Rattle.cap_words.specs.declared.sources.WordSource as source
-use Rattle.cap_spec.specs.Unamplified.{unamplified}
-use Rattle.cap_vet.specs.Demands.{words_under}
-use Rattle.cap_vet.specs.declared.demands.Demands.{Demands}
-use Rattle.cap_run.specs.Demanding.{OrFault, WantsUnder, no_demands}
-use Rattle.cap_run.specs.Engines.{StopsEarly, ReachesEnd, TellsStream}
-use Rattle.cap_run.specs.Running.{RunStops}
-use Rattle.cap_run.specs.Telling.{Tells, TellsEach, Told, WantsNone}
-use Rattle.cap_run.specs.declared.engines.stream.Counted.{Counted}
-use Rattle.cap_text.specs.declared.fault.Cause.{Cause}
-use Rattle.cap_text.specs.declared.fault.Cause.TheVariants.{TooManyMessages, Frame, Output, Refused, NotStrict, Canon}
-use Rattle.cap_text.specs.declared.fault.Cause.TheVariants.{Memory as no_marks}
-use Rattle.cap_text.specs.declared.fault.RunFault.{RunFault}
-use Rattle.cap_run.specs.declared.settings.Outcome.{Outcome}
-use Rattle.cap_run.proofs.Settling.{settled}
 
 module _ (tells others : Tells)
     (turn : (n : ℕ) (m : List (List ℕ)) (text : List ℕ) (counted : Counted) → tells n m text counted

@@ -1,8 +1,6 @@
 -- The path to the pointer that overlaps.
-use Rattle.std.proofs.Common.{◌≡◌, ℕ, List, Option, Some, subst}
-use Rattle.cap_spec.specs.Occupying.{IsFirstOverlap}
-use Rattle.cap_spec.specs.Accepting.{IsWithin}
 use Rattle.cap_spec.specs.declared.Step.{Step}
+use Rattle.cap_spec.proofs.Prelude.{List, Option, Some, subst, ℕ, ◌≡◌, IsWithin, IsFirstOverlap}
 use Rattle.cap_vet.specs.Reports.{IsAccepted}
 use Rattle.cap_vet.specs.declared.report.Report.{Report}
 

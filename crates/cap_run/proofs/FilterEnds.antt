@@ -1,11 +1,8 @@
 -- How a filter ended that refused no message.
-use Rattle.std.proofs.Common.{◌≡◌, ◌∙◌, ℕ, Bool, List, [], ◌∷◌, ◌++◌, inl, inr, ap, refl, subst, arith}
-use Rattle.cap_words.specs.declared.sources.WordSource as source
-use Rattle.cap_run.specs.Filtering.{ReadsUntil}
-use Rattle.cap_run.specs.Streams.{ReadsToEnd}
-use Rattle.cap_run.specs.Telling.{Told, messages_of, one_refused, refused_in}
-use Rattle.cap_run.specs.declared.engines.stream.Counted.{Counted}
+use Rattle.std.proofs.Common.{Bool, List, [], ap, arith, inl, inr, refl, subst, ℕ, ◌++◌, ◌∙◌, ◌∷◌, ◌≡◌}
+use Rattle.cap_run.specs.Prelude.{ReadsUntil, ReadsToEnd, Told, messages_of, one_refused, refused_in, Counted}
 use Rattle.cap_run.specs.declared.engines.stream.Counted.TheVariants.{Refused}
+use Rattle.cap_words.specs.declared.sources.WordSource as source
 
 -- a refused message counts as one
 one_counts : one_refused Refused ≡ 1

@@ -1,11 +1,10 @@
 -- What is told of the node at a path of an accepted message.
-use Rattle.std.proofs.Common.{◌≡◌, ℕ, List, Option, Some, None, IfSome, IfNone, MatchOption, subst, sym}
-use Rattle.cap_frame.specs.declared.segments.Segments as segments
-use Rattle.cap_spec.specs.Standing.{DenotesAt}
-use Rattle.cap_spec.specs.Texts.{get_text}
-use Rattle.cap_spec.specs.Tree.{Tree}
+use Rattle.std.proofs.Common.{IfNone}
+use Rattle.cap_spec.proofs.Prelude.{IfSome, List, MatchOption, None, Option, Some, subst, sym, ℕ, ◌≡◌, DenotesAt}
+use Rattle.cap_spec.proofs.Prelude.{get_text, Tree}
 use Rattle.cap_vet.specs.Views.{node_message, node_spot}
 use Rattle.cap_vet.specs.declared.nodes.node.Node.{Node}
+use Rattle.cap_frame.specs.declared.segments.Segments as segments
 
 module _ {M : Type 0} (g : segments.Ghosts M) where
   -- what holds of the text of a node that was found, and of the text that there is none, holds of the text of the tree's node

@@ -1,21 +1,18 @@
 -- How far an engine has come: the messages of a front of the stream were read and told of.
-use Rattle.std.proofs.Common.{◌≡◌, ◌∙◌, ℕ, ◌+◌, ◌<◌, ◌≤◌, List, [], ◌∷◌, ◌++◌, length, refl, sym, ap, subst, arith, length-append}
+use Rattle.std.proofs.Common.{List, [], ap, arith, length, length-append, refl, subst, sym, ℕ, ◌++◌, ◌+◌, ◌<◌, ◌∙◌, ◌∷◌}
+use Rattle.std.proofs.Common.{◌≡◌, ◌≤◌}
 use Rattle.std.proofs.KnownBytes.{Appends-nil, Appends-trans}
-use Rattle.cap_words.specs.declared.ends.ByteOut as output
-use Rattle.cap_words.specs.declared.ends.OutFault.{OutFault}
 use Rattle.cap_words.specs.declared.ends.OutFault.TheVariants.{Device, Memory, Spent}
+use Rattle.cap_text.specs.Writing.{Stopped, Wrote}
+use Rattle.cap_text.specs.declared.fault.Cause.TheVariants.{Output, Refused, Memory as no_marks}
+use Rattle.cap_run.specs.Prelude.{OutFault, Cause, Canon, Frame, NotStrict, TooManyMessages, Appended, RunStops}
+use Rattle.cap_run.specs.Prelude.{StepStops, StopsIn, ReadsStream, Tells, TellsEach, Told, messages_of}
+use Rattle.cap_run.specs.Prelude.{one_noncanonical, one_refused, outcome_of, texts_of, Counted, Outcome}
+use Rattle.cap_run.proofs.Streams.{reads_both, reads_none}
+use Rattle.cap_run.proofs.Telling.{each-snoc, messages_of-snoc, noncanonical_in_le, outcome_of-snoc, refused_in_le}
+use Rattle.cap_run.proofs.Telling.{texts_of-snoc}
+use Rattle.cap_words.specs.declared.ends.ByteOut as output
 use Rattle.cap_words.specs.declared.sources.WordSource as source
-use Rattle.cap_run.specs.declared.engines.stream.Counted.{Counted}
-use Rattle.cap_text.specs.declared.fault.Cause.{Cause}
-use Rattle.cap_text.specs.declared.fault.Cause.TheVariants.{TooManyMessages, Frame, Output, Refused, NotStrict, Canon}
-use Rattle.cap_text.specs.declared.fault.Cause.TheVariants.{Memory as no_marks}
-use Rattle.cap_run.specs.declared.settings.Outcome.{Outcome}
-use Rattle.cap_run.specs.Running.{Appended, RunStops, StepStops, StopsIn}
-use Rattle.cap_run.specs.Streams.{ReadsStream}
-use Rattle.cap_run.specs.Telling.{Tells, Told, messages_of, texts_of, TellsEach, one_refused, one_noncanonical, outcome_of}
-use Rattle.cap_text.specs.Writing.{Wrote, Stopped}
-use Rattle.cap_run.proofs.Streams.{reads_none, reads_both}
-use Rattle.cap_run.proofs.Telling.{messages_of-snoc, texts_of-snoc, each-snoc, outcome_of-snoc, refused_in_le, noncanonical_in_le}
 
 module _ {O : Type 0} (g : output.Ghosts O) where
   -- nothing was written yet

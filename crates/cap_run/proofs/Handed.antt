@@ -1,21 +1,18 @@
 -- Words that are read at once and handed to a sink.
-use Rattle.std.proofs.Common.{◌≡◌, ℕ, ◌+◌, ◌≤◌, false, true, ◌⊎◌, inl, inr, List, [], ◌∷◌, ◌++◌, length, take}
-use Rattle.std.proofs.Common.{Some, OnSome, refl, ap, arith, length-append}
-use Rattle.std.specs.Io.KnownBytes.{Keeps}
-use Rattle.cap_spec.specs.Plain.{plain_text, plain_words}
+use Rattle.cap_spec.proofs.Prelude.{List, OnSome, Some, [], ap, arith, false, inl, inr, length, length-append, refl}
+use Rattle.cap_spec.proofs.Prelude.{take, true, ℕ, ◌++◌, ◌+◌, ◌∷◌, ◌≡◌, ◌≤◌, ◌⊎◌, Keeps, plain_text, plain_words}
 use Rattle.cap_words.specs.Ends.{Fails, WasSpent}
 use Rattle.cap_words.specs.Sinks.{sink_fault_of}
 use Rattle.cap_words.specs.TakingMany.{TakesAll}
-use Rattle.cap_words.specs.declared.ends.OutFault.{OutFault}
-use Rattle.cap_words.specs.declared.sinks.WordSink as sink
 use Rattle.cap_words.specs.declared.sources.SourceFault.{SourceFault}
-use Rattle.cap_words.specs.declared.sources.SourceFault.TheVariants.{Truncated, Device, Spent}
-use Rattle.cap_words.specs.declared.sources.WordSource as source
-use Rattle.cap_run.specs.Transcoding.{ReadsWords, GivesNone, StopsMidway}
+use Rattle.cap_words.specs.declared.sources.SourceFault.TheVariants.{Device, Spent, Truncated}
 use Rattle.cap_run.specs.Handed.{HandsOver}
-use Rattle.cap_run.specs.PuttingEnds.{Transcodes}
-use Rattle.cap_run.proofs.Transcoding.{fills_both, fills_none, gives_both, gives_none}
+use Rattle.cap_run.specs.Prelude.{OutFault, Transcodes, ReadsWords, StopsMidway}
+use Rattle.cap_run.specs.Transcoding.{GivesNone}
 use Rattle.cap_run.proofs.Making.{halts_behind}
+use Rattle.cap_run.proofs.Transcoding.{fills_both, fills_none, gives_both, gives_none}
+use Rattle.cap_words.specs.declared.sinks.WordSink as sink
+use Rattle.cap_words.specs.declared.sources.WordSource as source
 
 module _ {S : Type 0} (gs : source.Ghosts S) where
   -- the words at hand

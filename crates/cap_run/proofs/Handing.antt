@@ -1,12 +1,10 @@
 -- A message of one segment, whose words are handed over in one piece.
-use Rattle.std.proofs.Common.{◌≡◌, ◌∙◌, ◌-◌, ◌*◌, ◌/◌, ◌^◌, ℕ, List, [], ◌∷◌, ◌++◌, length, ap, arith, append-nil}
-use Rattle.cap_spec.specs.Frames.{frame_text}
-use Rattle.cap_spec.specs.Plain.{plain_words}
-use Rattle.cap_words.specs.Sinks.{WasPut}
-use Rattle.cap_words.specs.declared.sinks.WordSink as sink
 use Rattle.cap_spec.proofs.Bytes.Plain.{words_exact}
+use Rattle.cap_spec.proofs.Prelude.{List, [], ap, append-nil, arith, false, length, sym, ℕ, ◌*◌, ◌++◌, ◌+◌, ◌-◌, ◌/◌}
+use Rattle.cap_spec.proofs.Prelude.{◌^◌, ◌∙◌, ◌∷◌, ◌≡◌, frame_text, plain_words}
+use Rattle.cap_words.specs.Sinks.{WasPut}
 use Rattle.cap_run.specs.Transcoding.{PutsWords}
-use Rattle.std.proofs.Common.{◌+◌, false, sym}
+use Rattle.cap_words.specs.declared.sinks.WordSink as sink
 
 -- the table of one segment is one word
 pub frame_of_bytes : (bytes : List ℕ) (x : ℕ) → x ≡ length bytes / 8 * 2 ^ 32 → frame_text (plain_words bytes ∷ []) ≡ (x ∷ []) ++ plain_words bytes

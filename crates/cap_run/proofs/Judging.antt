@@ -1,16 +1,12 @@
 -- Texts that are written about a message that was read.
-use Rattle.std.proofs.Common.{◌≡◌, ℕ, List, [], ◌∷◌, Result, Ok, Err, subst, sym}
-use Rattle.cap_words.specs.declared.ends.ByteOut as output
-use Rattle.cap_words.specs.declared.ends.OutFault.{OutFault}
-use Rattle.cap_words.specs.declared.sources.WordSource as source
+use Rattle.std.proofs.Common.{Err, List, Ok, Result, [], subst, sym, ℕ, ◌∷◌, ◌≡◌}
 use Rattle.cap_text.specs.Writing.{Writes}
-use Rattle.cap_run.specs.Running.{StepStops, WritesOneOf, counted_after}
-use Rattle.cap_run.specs.Streams.{ReadsStream}
-use Rattle.cap_run.specs.Telling.{Tells}
-use Rattle.cap_run.specs.declared.engines.stream.Counted.{Counted}
-use Rattle.cap_text.specs.declared.fault.Cause.{Cause}
-use Rattle.cap_text.specs.declared.fault.Cause.TheVariants.{TooManyMessages, Frame, Output, Refused}
-use Rattle.cap_text.specs.declared.fault.Cause.TheVariants.{Canon, NotStrict, Memory as no_marks}
+use Rattle.cap_text.specs.declared.fault.Cause.TheVariants.{Output, Refused, Memory as no_marks}
+use Rattle.cap_run.specs.Prelude.{OutFault, Cause, Canon, Frame, NotStrict, TooManyMessages, StepStops, WritesOneOf}
+use Rattle.cap_run.specs.Prelude.{ReadsStream, Tells, Counted}
+use Rattle.cap_run.specs.Running.{counted_after}
+use Rattle.cap_words.specs.declared.ends.ByteOut as output
+use Rattle.cap_words.specs.declared.sources.WordSource as source
 
 module _ {O : Type 0} (g : output.Ghosts O) where
   -- one of some texts is one of others

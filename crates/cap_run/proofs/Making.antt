@@ -1,39 +1,29 @@
 -- Transcodes that are put one after the other.
-use Rattle.std.proofs.Common.{◌≡◌, ◌∙◌, ℕ, ◌+◌, ◌<◌, true, inr, Result, Ok, Err}
-use Rattle.std.proofs.Common.{List, [], ◌∷◌, ◌++◌, refl, sym, ap, subst, arith, append_assoc, append-nil, length, length-append}
-use Rattle.std.proofs.lemmas.Bool.{false≢true}
-use Rattle.std.proofs.lemmas.List.{map-append}
 use Rattle.std.proofs.lemmas.Grind.{flat_map-append}
-use Rattle.cap_spec.specs.Frames.{frame_text}
-use Rattle.cap_spec.specs.declared.StrictRefusal.{StrictRefusal}
-use Rattle.cap_spec.specs.declared.StrictRefusal.TheVariants.{Refused as bad, ManySegments, Pointer}
+use Rattle.cap_spec.specs.declared.CanonFault.{CanonFault}
+use Rattle.cap_spec.specs.declared.CanonFault.TheVariants.{Memory}
+use Rattle.cap_spec.specs.declared.StrictRefusal.TheVariants.{Refused as bad}
 use Rattle.cap_spec.proofs.Bytes.Lists.{all_append}
+use Rattle.cap_spec.proofs.Prelude.{Err, IfErr, List, Ok, OnOk, Result, [], ap, append-nil, append_assoc, arith, inr}
+use Rattle.cap_spec.proofs.Prelude.{length, length-append, refl, subst, sym, true, ℕ, ◌++◌, ◌+◌, ◌<◌, ◌∙◌, ◌∷◌, ◌≡◌}
+use Rattle.cap_spec.proofs.Prelude.{false≢true, map-append, frame_text}
 use Rattle.cap_words.specs.Sinks.{Begins, sink_fault_of}
-use Rattle.cap_words.specs.declared.ends.OutFault.{OutFault}
-use Rattle.cap_words.specs.declared.sinks.SinkFault.{SinkFault}
-use Rattle.cap_words.specs.declared.sinks.WordSink as sink
-use Rattle.cap_words.specs.declared.sources.WordSource as source
+use Rattle.cap_words.proofs.Told.{begins_kept}
 use Rattle.cap_frame.specs.Putting.{Blames, Halts}
 use Rattle.cap_frame.proofs.Putting.{blames_later}
-use Rattle.cap_words.proofs.Told.{begins_kept}
 use Rattle.cap_vet.specs.Demands.{IsDemandFault}
-use Rattle.cap_vet.specs.declared.demands.Demands.{Demands}
 use Rattle.cap_canon.specs.CopyOvers.{TellsOver, grown, has_capability, no_memory, over}
-use Rattle.cap_spec.specs.declared.CanonFault.{CanonFault}
-use Rattle.cap_spec.specs.declared.CanonFault.TheVariants.{HasCapability, Memory}
 use Rattle.cap_canon.proofs.Copies.{cap_no_copy, same_fault}
-use Rattle.cap_run.specs.Canons.{CanonEnds, Canonised, HasNoCopy, IsCanonised, canonised, copies_of}
-use Rattle.cap_run.specs.Transcoding.{PutsWords}
-use Rattle.cap_run.specs.Making.{CopiesSoFar, CopyStops, Made, Making, NextStops, StopsMaking}
-use Rattle.cap_run.specs.Making.{is_unfinished, refused_cause}
-use Rattle.cap_run.specs.Running.{EndStops}
-use Rattle.cap_run.specs.Streams.{EndsStream, ReadsStream}
-use Rattle.std.specs.Prelude.{IfErr, OnOk}
-use Rattle.cap_text.specs.declared.fault.Cause.{Cause}
-use Rattle.cap_text.specs.declared.fault.Cause.TheVariants.{TooManyMessages, Frame, Output, Refused, NotStrict, Canon}
-use Rattle.cap_text.specs.declared.fault.Cause.TheVariants.{Memory as no_marks}
-use Rattle.cap_run.proofs.Transcoding.{fills_both, fills_none, spoils_last}
+use Rattle.cap_text.specs.declared.fault.Cause.TheVariants.{Output, Refused, Memory as no_marks}
+use Rattle.cap_run.specs.Canons.{CanonEnds, HasNoCopy}
+use Rattle.cap_run.specs.Making.{CopiesSoFar, CopyStops, Making, NextStops, StopsMaking, is_unfinished, refused_cause}
+use Rattle.cap_run.specs.Prelude.{HasCapability, StrictRefusal, ManySegments, Pointer, OutFault, SinkFault, Demands}
+use Rattle.cap_run.specs.Prelude.{Cause, Canon, Frame, NotStrict, TooManyMessages, Canonised, IsCanonised, canonised}
+use Rattle.cap_run.specs.Prelude.{copies_of, Made, EndStops, EndsStream, ReadsStream, PutsWords}
 use Rattle.cap_run.proofs.Streams.{reads_both, reads_none}
+use Rattle.cap_run.proofs.Transcoding.{fills_both, fills_none, spoils_last}
+use Rattle.cap_words.specs.declared.sinks.WordSink as sink
+use Rattle.cap_words.specs.declared.sources.WordSource as source
 
 -- what is told of the fault that came
 pub has_no_copy : (m : List (List ℕ)) (old new : List ℕ) (fault : CanonFault) → TellsOver m old (Err fault) new → HasNoCopy m fault

@@ -1,27 +1,20 @@
 -- Bytes that are written after others, and the bytes of a frame.
-use Rattle.std.proofs.Common.{◌≡◌, ◌∙◌, ◌<◌, ◌+◌, ℕ, suc, Bool, false, true, List, [], ◌∷◌}
-use Rattle.std.proofs.Common.{◌++◌, Result, Ok, length, take, drop, refl, sym, ap, subst, arith}
-use Rattle.std.proofs.Common.{◌-◌, ◌≤◌, append_assoc, append-nil, drop-drop, take_at}
-use Rattle.std.proofs.lemmas.List.{take_rest}
-use Rattle.std.specs.Prelude.{◌==◌, if◌then◌else◌, OnOk, OnErr, IsErrOf}
-use Rattle.std.specs.Io.KnownBytes.{Appends}
-use Rattle.std.proofs.Math.Seq.{drop-cons}
-use Rattle.std.specs.List.{flat_map}
+use Rattle.std.proofs.Common.{IsErrOf, OnErr}
 use Rattle.std.proofs.lemmas.Grind.{flat_map-append}
-use Rattle.cap_spec.specs.Frames.{joined, paired}
-use Rattle.cap_spec.specs.Messages.{segment_of}
-use Rattle.cap_spec.specs.Packing.{pack_text, zero_bytes}
-use Rattle.cap_spec.specs.PackedFrames.{table_of}
-use Rattle.cap_spec.specs.Plain.{plain_text, plain_words, word_bytes}
 use Rattle.cap_spec.proofs.Bytes.Plain.{length_plain}
-use Rattle.cap_frame.specs.Numbers.{numbers_of, pair_at}
-use Rattle.cap_frame.proofs.Putting.{paired_from, segments_from}
-use Rattle.cap_words.specs.Ends.{Works, DeviceFails, GrowthFails}
-use Rattle.cap_words.specs.declared.ends.ByteOut as output
+use Rattle.cap_spec.proofs.Prelude.{Bool, List, Ok, OnOk, Result, [], ap, append-nil, append_assoc, arith, drop}
+use Rattle.cap_spec.proofs.Prelude.{drop-cons, drop-drop, false, flat_map, if◌then◌else◌, length, refl, subst, suc, sym}
+use Rattle.cap_spec.proofs.Prelude.{take, take_at, true, ℕ, ◌++◌, ◌+◌, ◌-◌, ◌<◌, ◌==◌, ◌∙◌, ◌∷◌, ◌≡◌, ◌≤◌, take_rest}
+use Rattle.cap_spec.proofs.Prelude.{Appends, joined, paired, segment_of, table_of, pack_text, zero_bytes, plain_text}
+use Rattle.cap_spec.proofs.Prelude.{plain_words, word_bytes}
+use Rattle.cap_words.specs.Ends.{DeviceFails, GrowthFails, Works}
 use Rattle.cap_words.specs.declared.ends.OutFault.{OutFault}
 use Rattle.cap_words.specs.declared.ends.OutFault.TheVariants.{Device, Memory, Spent}
+use Rattle.cap_frame.specs.Numbers.{numbers_of, pair_at}
+use Rattle.cap_frame.proofs.Putting.{paired_from, segments_from}
 use Rattle.cap_text.specs.Writing.{Stopped, Writes, Wrote}
 use Rattle.cap_text.proofs.Writing.{stopped_more, writes_all, writes_then}
+use Rattle.cap_words.specs.declared.ends.ByteOut as output
 
 module _ {O : Type 0} (g : output.Ghosts O) where
   -- the clauses of a call that writes all bytes after a text, put together, also where there are none

@@ -1,30 +1,22 @@
 -- What is known of the words of a source decides how an engine ends, faults of devices, of the output and of memory aside.
-use Rattle.std.proofs.Common.{◌≡◌, ◌∙◌, ◌⊎◌, inl, inr, ℕ, ◌≤◌, Bool, false, Option, Some, None, Result, Ok, Err, List}
-use Rattle.std.proofs.Common.{[], ◌∷◌, ◌++◌, length, sum, OnSome, sym, ap, subst, arith, length-append}
-use Rattle.std.specs.Bool.{⊤}
-use Rattle.std.specs.List.{AllByRecursion}
-use Rattle.std.specs.Io.KnownBytes.{Consumes}
-use Rattle.cap_spec.specs.Endings.{BeginsMessage, message, none}
-use Rattle.cap_spec.specs.Frames.{Stream, sizes_of}
-use Rattle.cap_spec.proofs.Frames.FrameTexts.{one_stream}
-use Rattle.cap_spec.proofs.Bytes.Lists.{all_back}
+use Rattle.cap_spec.specs.Endings.{none}
 use Rattle.cap_spec.proofs.Frames.Streams.{StreamNext, stream_front, stream_next}
-use Rattle.cap_words.specs.declared.ends.ByteOut as output
-use Rattle.cap_words.specs.declared.sources.WordSource as source
+use Rattle.cap_spec.proofs.Lemmas.{all_back, one_stream}
+use Rattle.cap_spec.proofs.Prelude.{Bool, Err, List, None, Ok, OnSome, Option, Result, Some, [], ap, arith, false, inl}
+use Rattle.cap_spec.proofs.Prelude.{inr, length, length-append, subst, sum, sym, ℕ, ◌++◌, ◌∙◌, ◌∷◌, ◌≡◌, ◌≤◌, ◌⊎◌}
+use Rattle.cap_spec.proofs.Prelude.{Consumes, AllByRecursion, ⊤, BeginsMessage, message, Stream, sizes_of}
 use Rattle.cap_frame.specs.ReadingFaults.{Answered, Faults}
 use Rattle.cap_frame.specs.declared.fault.FrameFault.{FrameFault}
-use Rattle.cap_frame.specs.declared.fault.FrameFault.TheVariants.{TooManySegments, TooLarge, Truncated, Device, Memory, Spent}
-use Rattle.cap_frame.proofs.Converse.{known_still, same_some, settled as settled_by, tells_fault}
-use Rattle.cap_run.specs.Engines.{StopsEarly, ReachesEnd}
-use Rattle.cap_run.specs.Running.{Appended, RunStops, Settled, SettledAt}
-use Rattle.cap_run.specs.Streams.{ReadsStream}
-use Rattle.cap_run.specs.Telling.{Tells, TellsEach, Told, messages_of, outcome_of, texts_of}
-use Rattle.cap_text.specs.declared.fault.Cause.{Cause}
-use Rattle.cap_text.specs.declared.fault.Cause.TheVariants.{TooManyMessages, Frame, Output, Refused, NotStrict, Canon}
-use Rattle.cap_text.specs.declared.fault.Cause.TheVariants.{Memory as no_marks}
-use Rattle.cap_text.specs.declared.fault.RunFault.{RunFault}
-use Rattle.cap_run.specs.declared.settings.Outcome.{Outcome}
+use Rattle.cap_frame.specs.declared.fault.FrameFault.TheVariants.{Device, Memory, Spent, TooLarge, TooManySegments}
+use Rattle.cap_frame.specs.declared.fault.FrameFault.TheVariants.{Truncated}
+use Rattle.cap_frame.proofs.Converse.{known_still, same_some, tells_fault, settled as settled_by}
+use Rattle.cap_text.specs.declared.fault.Cause.TheVariants.{Output, Refused, Memory as no_marks}
+use Rattle.cap_run.specs.Prelude.{Cause, Canon, Frame, NotStrict, TooManyMessages, RunFault, ReachesEnd, StopsEarly}
+use Rattle.cap_run.specs.Prelude.{Appended, RunStops, Settled, SettledAt, ReadsStream, Tells, TellsEach, Told}
+use Rattle.cap_run.specs.Prelude.{messages_of, outcome_of, texts_of, Outcome}
 use Rattle.cap_run.proofs.Telling.{length-messages_of}
+use Rattle.cap_words.specs.declared.ends.ByteOut as output
+use Rattle.cap_words.specs.declared.sources.WordSource as source
 
 -- a fault that can't have come says anything
 pub answered_absurd : (fault : FrameFault) (P Q : Type 0) → (Q → ⊥) → Answered {A = Bool} (Err fault) Q → Answered {A = Outcome} (Err fault) P

@@ -1,48 +1,34 @@
 -- How far the engine `run_filter` has come: the messages of a prefix of the stream were read and sifted.
-use Rattle.std.proofs.Common.{◌≡◌, ◌∙◌, ℕ, ◌+◌, ◌<◌, ◌≤◌, Bool, false, true, List, [], ◌∷◌, ◌++◌, length, refl, sym, ap, subst, arith, length-append}
-use Rattle.std.proofs.Common.{append_assoc, append-nil, Option, None, Result, Ok, Err, sum, Some, ◌≢◌, inl, inr}
-use Rattle.std.proofs.lemmas.Bool.{false≢true}
-use Rattle.std.specs.List.{AllByRecursion}
-use Rattle.std.specs.Prelude.{◌⊎◌, IsTrue}
-use Rattle.cap_spec.specs.Frames.{Stream, sizes_of}
-use Rattle.cap_spec.specs.Occupying.{IsDisjoint}
-use Rattle.cap_spec.proofs.Bytes.Lists.{all_append}
-use Rattle.cap_spec.proofs.Frames.FrameTexts.{one_stream}
-use Rattle.cap_words.specs.declared.ends.ByteOut as output
-use Rattle.cap_words.specs.declared.ends.OutFault.{OutFault}
-use Rattle.cap_words.specs.declared.sources.WordSource as source
+use Rattle.cap_spec.proofs.Lemmas.{all_append, one_stream}
+use Rattle.cap_spec.proofs.Prelude.{Bool, Err, IsTrue, List, None, Ok, Option, Result, Some, [], ap, append-nil}
+use Rattle.cap_spec.proofs.Prelude.{append_assoc, arith, false, inl, inr, length, length-append, refl, subst, sum, sym}
+use Rattle.cap_spec.proofs.Prelude.{true, ℕ, ◌++◌, ◌+◌, ◌<◌, ◌∙◌, ◌∷◌, ◌≡◌, ◌≢◌, ◌≤◌, ◌⊎◌, Appends-trans, false≢true}
+use Rattle.cap_spec.proofs.Prelude.{AllByRecursion, Stream, sizes_of, IsDisjoint}
 use Rattle.cap_frame.proofs.Converse.{same_some}
-use Rattle.cap_vet.specs.Demands.{words_under}
-use Rattle.cap_vet.specs.Limits.{depth_of, words_of}
-use Rattle.cap_vet.specs.Reports.{IsAccepted}
-use Rattle.cap_vet.specs.declared.demands.Demands.{Demands}
+use Rattle.cap_vet.specs.Prelude.{words_under, depth_of, words_of, IsAccepted}
 use Rattle.cap_vet.specs.declared.limits.Limits.{Limits}
 use Rattle.cap_vet.specs.declared.report.Report.{Report}
 use Rattle.cap_text.specs.Lines.{accepted_text}
 use Rattle.cap_text.specs.Writing.{Stopped, Wrote}
-use Rattle.cap_text.specs.declared.fault.Cause.{Cause}
-use Rattle.cap_text.specs.declared.fault.Cause.TheVariants.{TooManyMessages, Frame, Output, Refused, NotStrict, Canon}
-use Rattle.cap_text.specs.declared.fault.Cause.TheVariants.{Memory as no_marks}
-use Rattle.cap_text.specs.declared.fault.RunFault.{RunFault}
-use Rattle.cap_run.specs.Demanding.{IsStrictUnder, OrFaultIn, TellsMarked, WantsIn}
-use Rattle.cap_run.specs.Filtering.{AllAccepted, Covers, FiltersAll, FiltersUntil, LastAccepted, LastRefused, Logged, Noted, Notes}
-use Rattle.cap_run.specs.Filtering.{PassesOn, PassesLast, ReadsUntil}
-use Rattle.cap_run.specs.Filtering.{TellsIn, TellsMet, WantsInForm, WantsMet, frame_in}
-use Rattle.cap_run.specs.Running.{Appended, EndStops, RunStops, Settled, StopsIn}
-use Rattle.cap_run.specs.Sifting.{FindsObjection, LogsMore, SiftStops, Sifts, SiftsNext, objection_text}
-use Rattle.cap_run.specs.Streams.{EndsStream, ReadsStream}
-use Rattle.cap_run.specs.Telling.{Tells, TellsEach, Told, messages_of, one_noncanonical, one_refused, outcome_of, texts_of}
-use Rattle.cap_run.specs.Vetting.{WantsMarks}
-use Rattle.cap_run.specs.declared.engines.sifting.Objection.{Objection}
-use Rattle.cap_run.specs.declared.engines.stream.Counted.{Counted}
-use Rattle.cap_run.specs.declared.engines.stream.Counted.TheVariants.{Accepted, NotCanonical, Refused as was_refused}
+use Rattle.cap_text.specs.declared.fault.Cause.TheVariants.{Output, Refused, Memory as no_marks}
+use Rattle.cap_run.specs.Filtering.{AllAccepted, Covers, FiltersAll, FiltersUntil, LastAccepted, LastRefused, Logged}
+use Rattle.cap_run.specs.Filtering.{Noted, Notes, PassesLast, TellsMet, WantsMet, frame_in}
+use Rattle.cap_run.specs.Prelude.{OutFault, Demands, Cause, Canon, Frame, NotStrict, TooManyMessages, RunFault}
+use Rattle.cap_run.specs.Prelude.{IsStrictUnder, OrFaultIn, TellsMarked, WantsIn, PassesOn, ReadsUntil, TellsIn}
+use Rattle.cap_run.specs.Prelude.{WantsInForm, Appended, EndStops, RunStops, Settled, StopsIn, FindsObjection}
+use Rattle.cap_run.specs.Prelude.{SiftsNext, objection_text, EndsStream, ReadsStream, Tells, TellsEach, Told}
+use Rattle.cap_run.specs.Prelude.{messages_of, one_noncanonical, one_refused, outcome_of, texts_of, WantsMarks}
+use Rattle.cap_run.specs.Prelude.{Objection, Counted, Accepted, NotCanonical, Outcome}
+use Rattle.cap_run.specs.Sifting.{LogsMore, SiftStops, Sifts}
+use Rattle.cap_run.specs.declared.engines.stream.Counted.TheVariants.{Refused as was_refused}
 use Rattle.cap_run.specs.declared.settings.FilterForm.{FilterForm}
-use Rattle.cap_run.specs.declared.settings.Outcome.{Outcome}
 use Rattle.cap_run.proofs.Going.{appended_none, stops_in}
 use Rattle.cap_run.proofs.Settling.{on_known, reads_front, settled_behind}
 use Rattle.cap_run.proofs.Streams.{reads_all, reads_both, reads_none}
-use Rattle.cap_run.proofs.Telling.{each-snoc, messages_of-snoc, noncanonical_in_le, outcome_of-snoc, refused_in_le, texts_of-snoc}
-use Rattle.std.proofs.KnownBytes.{Appends-trans}
+use Rattle.cap_run.proofs.Telling.{each-snoc, messages_of-snoc, noncanonical_in_le, outcome_of-snoc, refused_in_le}
+use Rattle.cap_run.proofs.Telling.{texts_of-snoc}
+use Rattle.cap_words.specs.declared.ends.ByteOut as output
+use Rattle.cap_words.specs.declared.sources.WordSource as source
 
 module _ {O : Type 0} (g : output.Ghosts O) where
   -- what was written without an error

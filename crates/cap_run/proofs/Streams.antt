@@ -1,14 +1,13 @@
 -- The messages of a stream, read one after the other.
-use Rattle.std.proofs.Common.{◌≡◌, ◌∙◌, ℕ, ◌≤◌, Bool, false, Option, Some, None, List, [], ◌∷◌, ◌++◌, sum, OnSome, refl, sym, ap, subst, append-nil}
-use Rattle.std.specs.Io.KnownBytes.{Consumes}
-use Rattle.cap_spec.specs.Frames.{sizes_of}
 use Rattle.cap_spec.proofs.Bytes.Lists.{all_append}
 use Rattle.cap_spec.proofs.Frames.Streams.{stream_append, stream_none, stream_one}
-use Rattle.cap_words.specs.declared.sources.WordSource as source
+use Rattle.cap_spec.proofs.Prelude.{Bool, List, None, OnSome, Option, Some, [], ap, append-nil, false, refl, subst, sum}
+use Rattle.cap_spec.proofs.Prelude.{sym, ℕ, ◌++◌, ◌∙◌, ◌∷◌, ◌≡◌, ◌≤◌, Consumes, sizes_of}
 use Rattle.cap_words.specs.Ends.{Works}
 use Rattle.cap_frame.specs.Reading.{TakesFrame}
-use Rattle.cap_frame.proofs.Taking.{takes_none, takes_both}
-use Rattle.cap_run.specs.Streams.{ReadsStream, EndsStream, ReadsToEnd}
+use Rattle.cap_frame.proofs.Taking.{takes_both, takes_none}
+use Rattle.cap_run.specs.Streams.{EndsStream, ReadsStream, ReadsToEnd}
+use Rattle.cap_words.specs.declared.sources.WordSource as source
 
 some_is : (xs ys : List ℕ) → ◌≡◌ {A = Option (List ℕ)} (Some xs) (Some ys) → xs ≡ ys
 some_is xs ys e = cc

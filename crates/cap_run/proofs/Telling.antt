@@ -1,11 +1,10 @@
 -- What was told of messages, with one message more.
-use Rattle.std.proofs.Common.{◌≡◌, ◌∙◌, ℕ, suc, ◌+◌, ◌≤◌, List, [], ◌∷◌, ◌++◌, length, refl, sym, ap, arith, append-nil, subst, length-append}
-use Rattle.std.proofs.lemmas.List.{map-append}
 use Rattle.std.proofs.lemmas.Grind.{flat_map-append}
-use Rattle.cap_run.specs.declared.engines.stream.Counted.{Counted}
-use Rattle.cap_run.specs.declared.engines.stream.Counted.TheVariants.{Accepted, Refused, NotCanonical}
-use Rattle.cap_run.specs.declared.settings.Outcome.{Outcome}
-use Rattle.cap_run.specs.Telling.{Told, messages_of, texts_of, TellsEach, one_refused, one_noncanonical, refused_in, noncanonical_in, outcome_of}
+use Rattle.cap_spec.proofs.Prelude.{List, [], ap, append-nil, arith, length, length-append, refl, subst, suc, sym, ℕ}
+use Rattle.cap_spec.proofs.Prelude.{◌++◌, ◌+◌, ◌∙◌, ◌∷◌, ◌≡◌, ◌≤◌, map-append}
+use Rattle.cap_run.specs.Prelude.{TellsEach, Told, messages_of, noncanonical_in, one_noncanonical, one_refused}
+use Rattle.cap_run.specs.Prelude.{outcome_of, refused_in, texts_of, Counted, Accepted, NotCanonical, Outcome}
+use Rattle.cap_run.specs.declared.engines.stream.Counted.TheVariants.{Refused}
 
 pub messages_of-snoc : (ts : List Told) (t : Told) → messages_of (ts ++ t ∷ []) ≡ messages_of ts ++ t.message ∷ []
 messages_of-snoc ts t = map-append (λ u. u.message) ts (t ∷ [])

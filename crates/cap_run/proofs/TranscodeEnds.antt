@@ -1,19 +1,15 @@
 -- What is known of the words of a source decides how a copy of them ends, faults of devices and of the output aside.
-use Rattle.std.proofs.Common.{◌≡◌, ◌∙◌, ℕ, suc, ◌+◌, ◌<◌, ◌≤◌, true, false, Option, Some, Result, Ok, Err, List, []}
-use Rattle.std.proofs.Common.{◌∷◌, ◌++◌, length, take, drop, refl, sym, ap, subst, arith, length-append, append-nil}
-use Rattle.std.proofs.Common.{append_assoc}
-use Rattle.std.specs.Io.KnownBytes.{Consumes}
-use Rattle.std.proofs.lemmas.List.{drop-drop}
-use Rattle.std.proofs.Math.Seq.{take-append_seam}
-use Rattle.cap_words.specs.declared.sources.WordSource as source
-use Rattle.cap_words.specs.declared.sources.SourceFault.TheVariants.{Truncated, Device, Spent}
-use Rattle.cap_words.specs.declared.sinks.WordSink as sink
+use Rattle.cap_spec.proofs.Prelude.{Err, List, Ok, Option, Result, Some, [], ap, append-nil, append_assoc, arith, drop}
+use Rattle.cap_spec.proofs.Prelude.{drop-drop, false, length, length-append, refl, subst, suc, sym, take, true, ℕ, ◌++◌}
+use Rattle.cap_spec.proofs.Prelude.{◌+◌, ◌<◌, ◌∙◌, ◌∷◌, ◌≡◌, ◌≤◌, take-append_seam, Consumes}
+use Rattle.cap_words.specs.declared.sources.SourceFault.TheVariants.{Device, Spent, Truncated}
 use Rattle.cap_frame.proofs.Converse.{known_still, same_some}
-use Rattle.cap_run.specs.Transcoding.{Transcoded, TranscodesAll, TranscodesMost, TranscodesUntil, TranscodeSettled, Finishes}
-use Rattle.cap_run.specs.Engines.{TranscodesWords}
-use Rattle.cap_text.specs.declared.fault.CopyFault.{CopyFault}
-use Rattle.cap_text.specs.declared.fault.CopyFault.TheVariants.{TooManyWords, Source, Output}
+use Rattle.cap_text.specs.declared.fault.CopyFault.TheVariants.{Output}
+use Rattle.cap_run.specs.Prelude.{CopyFault, Source, TooManyWords, TranscodesWords, Finishes, Transcoded, TranscodesAll}
+use Rattle.cap_run.specs.Transcoding.{TranscodeSettled, TranscodesMost, TranscodesUntil}
 use Rattle.cap_run.proofs.Settling.{on_known}
+use Rattle.cap_words.specs.declared.sources.WordSource as source
+use Rattle.cap_words.specs.declared.sinks.WordSink as sink
 
 module _ {S K : Type 0} (gs : source.Ghosts S) (gk : sink.Ghosts K) (at_once most : ℕ) (old new : S) (before after : K) (own : List ℕ) where
   -- known words that were all put

@@ -1,25 +1,23 @@
 -- Words that are read and put one after the other.
-use Rattle.std.proofs.Common.{◌≡◌, ◌∙◌, ℕ, ◌+◌, ◌<◌, false, true, ◌⊎◌, inl, inr, Result, Ok, Err, List, [], ◌∷◌, ◌++◌}
-use Rattle.std.proofs.Common.{OnSome, refl, sym, ap, subst, arith, append_assoc, append-nil, length-append}
-use Rattle.std.proofs.lemmas.Bool.{false≢true}
-use Rattle.std.specs.Io.KnownBytes.{Consumes, Keeps}
-use Rattle.std.proofs.KnownBytes.{Keeps-refl, Keeps-trans}
+use Rattle.std.proofs.KnownBytes.{Keeps-refl}
+use Rattle.cap_spec.proofs.Prelude.{Err, List, Ok, OnSome, Result, [], ap, append-nil, append_assoc, arith, false, inl}
+use Rattle.cap_spec.proofs.Prelude.{inr, length-append, refl, subst, sym, true, ℕ, ◌++◌, ◌+◌, ◌<◌, ◌∙◌, ◌∷◌, ◌≡◌, ◌⊎◌}
+use Rattle.cap_spec.proofs.Prelude.{Keeps-trans, false≢true, Consumes, Keeps}
 use Rattle.cap_words.specs.Ends.{DeviceFails, GrowthFails, WasSpent, Works}
 use Rattle.cap_words.specs.Sinks.{Begins, StoppedPutting, sink_fault_of}
-use Rattle.cap_words.specs.declared.ends.OutFault.{OutFault}
-use Rattle.cap_words.specs.declared.sinks.SinkFault.{SinkFault}
 use Rattle.cap_words.specs.declared.sinks.SinkFault.TheVariants.{Device, Memory, Spent}
-use Rattle.cap_words.specs.declared.sinks.WordSink as sink
-use Rattle.cap_words.specs.declared.sources.WordSource as source
-use Rattle.cap_frame.proofs.Taking.{takes_none, takes_one, takes_both}
+use Rattle.cap_words.proofs.Told.{begins_kept}
 use Rattle.cap_frame.specs.Putting.{Blames, Halts}
 use Rattle.cap_frame.proofs.Putting.{blames_later}
-use Rattle.cap_words.proofs.Told.{begins_kept}
-use Rattle.cap_run.specs.Transcoding.{Transcoded, PutsWords, Finishes, ReadsWords, Spoils, StopsFinishing, StopsMidway}
-use Rattle.cap_run.specs.PuttingEnds.{Transcodes, StopsAt, StopsPutting, is_open}
-use Rattle.cap_text.specs.declared.fault.CopyFault.{CopyFault}
-use Rattle.cap_text.specs.declared.fault.CopyFault.TheVariants.{TooManyWords, Source, Output}
+use Rattle.cap_frame.proofs.Taking.{takes_both, takes_none, takes_one}
+use Rattle.cap_text.specs.declared.fault.CopyFault.TheVariants.{Output}
+use Rattle.cap_run.specs.Prelude.{OutFault, SinkFault, CopyFault, Source, TooManyWords, Transcodes, Finishes, PutsWords}
+use Rattle.cap_run.specs.Prelude.{ReadsWords, StopsMidway, Transcoded}
+use Rattle.cap_run.specs.PuttingEnds.{StopsAt, StopsPutting, is_open}
+use Rattle.cap_run.specs.Transcoding.{Spoils, StopsFinishing}
 use Rattle.cap_run.proofs.Streams.{all_taken}
+use Rattle.cap_words.specs.declared.sinks.WordSink as sink
+use Rattle.cap_words.specs.declared.sources.WordSource as source
 
 module _ {S : Type 0} (gs : source.Ghosts S) where
   -- no words

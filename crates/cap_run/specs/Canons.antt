@@ -1,33 +1,29 @@
 -- What the engine `run_canon` does, which puts canonical copies of the messages of a stream
 -- (profile). gs and gk have the members of the source's and of the sink's type.
-use Rattle.std.specs.Prelude.{ℕ, ◌≡◌, ◌<◌, ◌≤◌, ◌⊎◌, false, List, [], ◌∷◌, ◌++◌, length, map, sum}
-use Rattle.std.specs.Prelude.{Some, Result, Ok, Err, IfOk, IfErr}
-use Rattle.std.specs.List.{AllByRecursion, flat_map}
-use Rattle.cap_spec.specs.Copies.{HasCopy}
-use Rattle.cap_spec.specs.Frames.{Stream, frame_text, sizes_of}
-use Rattle.cap_spec.specs.Paths.{IsFirstCap}
+use Rattle.std.specs.List.{AllByRecursion}
+use Rattle.std.specs.Prelude.{Err, IfErr, IfOk, List, Ok, Result, Some, [], false, flat_map, length, map, sum, ℕ, ◌++◌}
+use Rattle.std.specs.Prelude.{◌<◌, ◌∷◌, ◌≡◌, ◌≤◌, ◌⊎◌}
+use Rattle.cap_spec.specs.Prelude.{HasCopy, Stream, frame_text, sizes_of, IsFirstCap}
+use Rattle.cap_spec.specs.declared.CanonFault.{CanonFault}
+use Rattle.cap_spec.specs.declared.CanonFault.TheVariants.{HasCapability, Memory}
 use Rattle.cap_spec.specs.declared.StrictRefusal.TheVariants.{Refused as bad}
 use Rattle.cap_words.specs.Sinks.{sink_fault_of}
 use Rattle.cap_words.specs.declared.ends.OutFault.{OutFault}
-use Rattle.cap_words.specs.declared.sinks.WordSink as sink
-use Rattle.cap_words.specs.declared.sources.WordSource as source
-use Rattle.cap_frame.specs.ReadingFaults.{Faults}
-use Rattle.cap_frame.specs.Putting.{Halts}
-use Rattle.cap_vet.specs.Demands.{IsDemandFault, words_under}
-use Rattle.cap_vet.specs.Reports.{IsAccepted}
+use Rattle.cap_frame.specs.Prelude.{Halts, Faults}
+use Rattle.cap_vet.specs.Prelude.{IsDemandFault, words_under, IsAccepted}
 use Rattle.cap_vet.specs.declared.demands.Demands.{Demands}
 use Rattle.cap_vet.specs.declared.report.Report.{Report}
-use Rattle.cap_spec.specs.declared.CanonFault.{CanonFault}
-use Rattle.cap_spec.specs.declared.CanonFault.TheVariants.{HasCapability, Memory}
-use Rattle.cap_run.specs.Transcoding.{Finishes, Spoils}
+use Rattle.cap_text.specs.declared.fault.Cause.{Cause}
+use Rattle.cap_text.specs.declared.fault.Cause.TheVariants.{Canon, Frame, NotStrict, Output, Refused, TooManyMessages}
+use Rattle.cap_text.specs.declared.fault.Cause.TheVariants.{Memory as no_marks}
+use Rattle.cap_text.specs.declared.fault.RunFault.{RunFault}
 use Rattle.cap_run.specs.Demanding.{IsNotStrict, IsStrictUnder, no_demands}
 use Rattle.cap_run.specs.Running.{Settled}
-use Rattle.cap_run.specs.Streams.{EndsStream, ReadsToEnd, ReadsStream}
-use Rattle.cap_text.specs.declared.fault.Cause.{Cause}
-use Rattle.cap_text.specs.declared.fault.Cause.TheVariants.{TooManyMessages, Frame, Output, Refused}
-use Rattle.cap_text.specs.declared.fault.Cause.TheVariants.{Canon, NotStrict, Memory as no_marks}
-use Rattle.cap_text.specs.declared.fault.RunFault.{RunFault}
+use Rattle.cap_run.specs.Streams.{EndsStream, ReadsStream, ReadsToEnd}
+use Rattle.cap_run.specs.Transcoding.{Finishes, Spoils}
 use Rattle.cap_run.specs.declared.settings.Outcome.{Outcome}
+use Rattle.cap_words.specs.declared.sinks.WordSink as sink
+use Rattle.cap_words.specs.declared.sources.WordSource as source
 
 -- a message, and the words of its canonical copy
 pub record Canonised : Type 0 where

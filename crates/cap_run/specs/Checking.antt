@@ -1,5 +1,5 @@
 -- What may be written of a message that is checked (profile).
-use Rattle.std.specs.Prelude.{ℕ, ◌≡◌, ◌↔◌, if◌then◌else◌, Bool, IsTrue, List}
+use Rattle.std.specs.Prelude.{Bool, IsTrue, List, if◌then◌else◌, ℕ, ◌↔◌, ◌≡◌}
 use Rattle.cap_spec.specs.Copies.{IsCanonical}
 use Rattle.cap_spec.specs.Texts.{check_text}
 use Rattle.cap_vet.specs.Reports.{IsAccepted}

@@ -1,25 +1,24 @@
 -- The whole contract of each engine (profile). It says what the result means for the source and the
 -- output, and what the result is if the words are known. gs, go and gk have the members of their
 -- types.
-use Rattle.std.specs.Prelude.{ℕ, ◌-◌, ◌≡◌, ◌<◌, ◌≤◌, ◌^◌, false, true, List, [], ◌∷◌, length, sum}
-use Rattle.std.specs.Prelude.{take, drop, Some, Result, Ok, Err, IfOk, IfErr, IsErrOf}
 use Rattle.std.specs.List.{AllByRecursion}
+use Rattle.std.specs.Prelude.{Err, IfErr, IfOk, IsErrOf, List, Ok, Result, Some, [], drop, false, length, sum, take}
+use Rattle.std.specs.Prelude.{true, ℕ, ◌-◌, ◌<◌, ◌^◌, ◌∷◌, ◌≡◌, ◌≤◌}
 use Rattle.cap_spec.specs.Frames.{Stream, sizes_of}
-use Rattle.cap_words.specs.declared.ends.ByteOut as output
-use Rattle.cap_words.specs.declared.sinks.WordSink as sink
 use Rattle.cap_words.specs.declared.sources.SourceFault.TheVariants.{Truncated}
-use Rattle.cap_words.specs.declared.sources.WordSource as source
 use Rattle.cap_frame.specs.declared.fault.FrameFault.TheVariants.{Memory}
-use Rattle.cap_run.specs.Transcoding.{Transcoded, TranscodeSettled, Finishes}
-use Rattle.cap_run.specs.Running.{Appended, RunStops, Settled}
-use Rattle.cap_run.specs.Streams.{ReadsToEnd, ReadsStream}
-use Rattle.cap_run.specs.Telling.{Tells, TellsEach, TellsSegments, Told, WantsNone, messages_of}
-use Rattle.cap_run.specs.Telling.{outcome_of, texts_of}
 use Rattle.cap_text.specs.declared.fault.Cause.TheVariants.{Frame}
 use Rattle.cap_text.specs.declared.fault.CopyFault.{CopyFault}
-use Rattle.cap_text.specs.declared.fault.CopyFault.TheVariants.{TooManyWords, Source}
+use Rattle.cap_text.specs.declared.fault.CopyFault.TheVariants.{Source, TooManyWords}
 use Rattle.cap_text.specs.declared.fault.RunFault.{RunFault}
+use Rattle.cap_run.specs.Running.{Appended, RunStops, Settled}
+use Rattle.cap_run.specs.Streams.{ReadsStream, ReadsToEnd}
+use Rattle.cap_run.specs.Telling.{Tells, TellsEach, TellsSegments, Told, WantsNone, messages_of, outcome_of, texts_of}
+use Rattle.cap_run.specs.Transcoding.{Finishes, TranscodeSettled, Transcoded}
 use Rattle.cap_run.specs.declared.settings.Outcome.{Outcome}
+use Rattle.cap_words.specs.declared.ends.ByteOut as output
+use Rattle.cap_words.specs.declared.sinks.WordSink as sink
+use Rattle.cap_words.specs.declared.sources.WordSource as source
 
 -- the most words that the program packs or unpacks
 abbrev pub most_transcoded : ℕ

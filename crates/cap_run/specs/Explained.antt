@@ -1,16 +1,13 @@
 -- What may be written of a message whose refusal is explained (profile).
-use Rattle.std.specs.Prelude.{ℕ, ◌≡◌, ◌⊎◌, List, ◌++◌, codes, Some}
-use Rattle.cap_spec.specs.Occupying.{IsDisjoint, IsFirstOverlap}
-use Rattle.cap_spec.specs.Texts.{refused, strict_verdict, vet_text}
+use Rattle.std.specs.Prelude.{List, Some, codes, ℕ, ◌++◌, ◌≡◌, ◌⊎◌}
+use Rattle.cap_spec.specs.Prelude.{IsDisjoint, IsFirstOverlap, refused, strict_verdict, vet_text}
 use Rattle.cap_spec.specs.declared.StrictRefusal.{StrictRefusal}
-use Rattle.cap_explain.specs.Explaining.{explanation, overlap_explanation}
-use Rattle.cap_trace.specs.NamedPaths.{fault_path}
-use Rattle.cap_vet.specs.Demands.{IsDemandFault, words_under}
-use Rattle.cap_vet.specs.Limits.{depth_of, words_of}
-use Rattle.cap_vet.specs.Reports.{IsAccepted}
+use Rattle.cap_vet.specs.Prelude.{IsDemandFault, words_under, depth_of, words_of, IsAccepted}
 use Rattle.cap_vet.specs.declared.demands.Demands.{Demands}
 use Rattle.cap_vet.specs.declared.limits.Limits.{Limits}
 use Rattle.cap_vet.specs.declared.report.Report.{Report}
+use Rattle.cap_explain.specs.Explaining.{explanation, overlap_explanation}
+use Rattle.cap_trace.specs.NamedPaths.{fault_path}
 use Rattle.cap_run.specs.Demanding.{IsStrictUnder}
 use Rattle.cap_run.specs.Telling.{Tells}
 use Rattle.cap_run.specs.Vetting.{TellsAccepted}

@@ -1,30 +1,26 @@
 -- What goes on of a stream that is filtered, and what is written about the rest (profile). The
 -- letters gs, go and ge are of the members of the source's, the output's and the log's types.
-use Rattle.std.specs.Prelude.{ℕ, ◌≡◌, ◌≤◌, ◌⊎◌, false, true, Bool, IsTrue, List, [], ◌∷◌, ◌++◌}
-use Rattle.std.specs.Prelude.{length, sum, Some, Result, Ok, IfOk, IfErr}
 use Rattle.std.specs.List.{AllByRecursion}
-use Rattle.cap_spec.specs.Frames.{Stream, frame_text, sizes_of}
-use Rattle.cap_spec.specs.PackedFrames.{packed_frame}
-use Rattle.cap_spec.specs.Plain.{plain_text}
+use Rattle.std.specs.Prelude.{Bool, IfErr, IfOk, IsTrue, List, Ok, Result, Some, [], false, length, sum, true, ℕ, ◌++◌}
+use Rattle.std.specs.Prelude.{◌∷◌, ◌≡◌, ◌≤◌, ◌⊎◌}
+use Rattle.cap_spec.specs.Prelude.{Stream, frame_text, sizes_of, packed_frame, plain_text}
+use Rattle.cap_words.specs.declared.ends.OutFault.{OutFault}
 use Rattle.cap_frame.specs.Limit.{limit_of}
 use Rattle.cap_vet.specs.declared.demands.Demands.{Demands}
 use Rattle.cap_vet.specs.declared.limits.Limits.{Limits}
-use Rattle.cap_words.specs.declared.ends.ByteOut as output
-use Rattle.cap_words.specs.declared.ends.OutFault.{OutFault}
-use Rattle.cap_words.specs.declared.sources.WordSource as source
+use Rattle.cap_text.specs.declared.fault.RunFault.{RunFault}
 use Rattle.cap_run.specs.Demanding.{OrFaultIn, TellsMarked, WantsIn}
 use Rattle.cap_run.specs.Running.{Appended, RunStops, Settled, StopsIn}
-use Rattle.cap_run.specs.Streams.{ReadsToEnd, ReadsStream}
-use Rattle.cap_run.specs.Telling.{Tells, TellsEach, Told, WantsNone, messages_of, outcome_of}
-use Rattle.cap_run.specs.Telling.{texts_of}
+use Rattle.cap_run.specs.Streams.{ReadsStream, ReadsToEnd}
+use Rattle.cap_run.specs.Telling.{Tells, TellsEach, Told, WantsNone, messages_of, outcome_of, texts_of}
 use Rattle.cap_run.specs.Vetting.{TellsAccepted, WantsMarks}
 use Rattle.cap_run.specs.declared.engines.stream.Counted.{Counted}
-use Rattle.cap_run.specs.declared.engines.stream.Counted.TheVariants.{Accepted, Refused}
-use Rattle.cap_run.specs.declared.engines.stream.Counted.TheVariants.{NotCanonical}
+use Rattle.cap_run.specs.declared.engines.stream.Counted.TheVariants.{Accepted, NotCanonical, Refused}
 use Rattle.cap_run.specs.declared.settings.FilterForm.{FilterForm}
 use Rattle.cap_run.specs.declared.settings.Outcome.{Outcome}
 use Rattle.cap_run.specs.declared.settings.Settings.{Settings}
-use Rattle.cap_text.specs.declared.fault.RunFault.{RunFault}
+use Rattle.cap_words.specs.declared.ends.ByteOut as output
+use Rattle.cap_words.specs.declared.sources.WordSource as source
 
 -- the line of a message that meets the demands, as `vet` writes it, or `vet --exclusive`
 abbrev pub TellsMet : Bool → ℕ → ℕ → Tells

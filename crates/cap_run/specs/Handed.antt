@@ -1,12 +1,12 @@
 -- How putting words that were read at once to a sink ends in an error (profile). gs and gk have the
 -- members of the source's and of the sink's type.
-use Rattle.std.specs.Prelude.{ℕ, ◌<◌, ◌≤◌, List, length}
+use Rattle.std.specs.Prelude.{List, length, ℕ, ◌<◌, ◌≤◌}
 use Rattle.cap_words.specs.Sinks.{sink_fault_of}
 use Rattle.cap_words.specs.declared.ends.OutFault.{OutFault}
-use Rattle.cap_words.specs.declared.sources.WordSource as source
-use Rattle.cap_words.specs.declared.sinks.WordSink as sink
 use Rattle.cap_frame.specs.Putting.{Halts}
 use Rattle.cap_run.specs.Transcoding.{ReadsWords}
+use Rattle.cap_words.specs.declared.sources.WordSource as source
+use Rattle.cap_words.specs.declared.sinks.WordSink as sink
 
 module _ {S K : Type 0} (gs : source.Ghosts S) (gk : sink.Ghosts K) where
   -- Some words were read, at most `most`, and the output failed as they were put.

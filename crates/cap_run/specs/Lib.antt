@@ -15,3 +15,4 @@ pub mod Sifting
 pub mod Streams
 pub mod Telling
 pub mod Vetting
+pub mod Prelude

@@ -1,27 +1,24 @@
 -- What the steps of the engine `run_canon` do, which puts canonical copies (profile). gs and gk
 -- have the members of the source's and of the sink's type.
-use Rattle.std.specs.Prelude.{ℕ, ◌≡◌, ◌≤◌, true, false, Bool, List, [], ◌∷◌, length, Result, Ok}
-use Rattle.std.specs.Prelude.{Err}
+use Rattle.std.specs.Prelude.{Bool, Err, List, Ok, Result, [], false, length, true, ℕ, ◌∷◌, ◌≡◌, ◌≤◌}
 use Rattle.cap_spec.specs.Frames.{frame_text}
 use Rattle.cap_spec.specs.declared.StrictRefusal.{StrictRefusal}
-use Rattle.cap_spec.specs.declared.StrictRefusal.TheVariants.{Refused as bad, ManySegments, Pointer}
+use Rattle.cap_spec.specs.declared.StrictRefusal.TheVariants.{ManySegments, Pointer, Refused as bad}
 use Rattle.cap_words.specs.Sinks.{sink_fault_of}
-use Rattle.cap_words.specs.declared.sinks.WordSink as sink
-use Rattle.cap_words.specs.declared.sources.WordSource as source
-use Rattle.cap_frame.specs.ReadingFaults.{Faults}
-use Rattle.cap_frame.specs.Putting.{Halts}
-use Rattle.cap_vet.specs.Demands.{IsDemandFault, words_under}
-use Rattle.cap_vet.specs.Reports.{IsAccepted}
+use Rattle.cap_frame.specs.Prelude.{Halts, Faults}
+use Rattle.cap_vet.specs.Prelude.{IsDemandFault, words_under, IsAccepted}
 use Rattle.cap_vet.specs.declared.demands.Demands.{Demands}
 use Rattle.cap_vet.specs.declared.report.Report.{Report}
-use Rattle.cap_run.specs.Canons.{AreCanonised, CanonEnds, CanonStops, Canonised, HasNoCopy}
-use Rattle.cap_run.specs.Canons.{IsCanonised, StopsInCopy, canonised, copies_of}
-use Rattle.cap_run.specs.Transcoding.{PutsWords, Finishes}
+use Rattle.cap_text.specs.declared.fault.Cause.{Cause}
+use Rattle.cap_text.specs.declared.fault.Cause.TheVariants.{Canon, Frame, NotStrict, Output, Refused, TooManyMessages}
+use Rattle.cap_text.specs.declared.fault.Cause.TheVariants.{Memory as no_marks}
+use Rattle.cap_run.specs.Canons.{AreCanonised, CanonEnds, CanonStops, Canonised, HasNoCopy, IsCanonised, StopsInCopy}
+use Rattle.cap_run.specs.Canons.{canonised, copies_of}
 use Rattle.cap_run.specs.Demanding.{IsNotStrict, IsStrictUnder}
 use Rattle.cap_run.specs.Streams.{ReadsStream}
-use Rattle.cap_text.specs.declared.fault.Cause.{Cause}
-use Rattle.cap_text.specs.declared.fault.Cause.TheVariants.{TooManyMessages, Frame, Output, Refused}
-use Rattle.cap_text.specs.declared.fault.Cause.TheVariants.{Canon, NotStrict, Memory as no_marks}
+use Rattle.cap_run.specs.Transcoding.{Finishes, PutsWords}
+use Rattle.cap_words.specs.declared.sinks.WordSink as sink
+use Rattle.cap_words.specs.declared.sources.WordSource as source
 
 -- whether the sink is still to be finished
 abbrev pub is_unfinished : Result (Unit {0}) Cause → Bool

@@ -1,7 +1,7 @@
 -- What buffered bytes and words to come hold (profile).
-use Rattle.std.specs.Prelude.{ℕ, ◌≡◌, ◌≤◌, List, ◌++◌, sum}
-use Rattle.cap_frame.specs.Fronts.{IsFront}
+use Rattle.std.specs.Prelude.{List, sum, ℕ, ◌++◌, ◌≡◌, ◌≤◌}
 use Rattle.cap_spec.specs.Frames.{Frames, sizes_of}
+use Rattle.cap_frame.specs.Fronts.{IsFront}
 
 -- these bytes begin with the frame of a message within the limit
 abbrev pub ShowsFrame : ℕ → List ℕ → Type 0

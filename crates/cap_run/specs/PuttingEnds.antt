@@ -1,15 +1,15 @@
 -- How putting the words of a source to a sink ends, before the sink is finished (profile). gs and
 -- gk have the members of the source's and of the sink's type.
-use Rattle.std.specs.Prelude.{Bool, false, true, ℕ, ◌≡◌, ◌<◌, ◌≤◌, List, [], ◌∷◌, ◌++◌, length, Result, Ok, Err}
+use Rattle.std.specs.Prelude.{Bool, Err, List, Ok, Result, [], false, length, true, ℕ, ◌++◌, ◌<◌, ◌∷◌, ◌≡◌, ◌≤◌}
 use Rattle.cap_words.specs.Sinks.{sink_fault_of}
 use Rattle.cap_words.specs.declared.ends.OutFault.{OutFault}
+use Rattle.cap_frame.specs.Putting.{Halts}
+use Rattle.cap_text.specs.declared.fault.CopyFault.{CopyFault}
+use Rattle.cap_text.specs.declared.fault.CopyFault.TheVariants.{Output, Source, TooManyWords}
+use Rattle.cap_run.specs.Streams.{EndsStream}
+use Rattle.cap_run.specs.Transcoding.{GivesNone, PutsWords, ReadsWords, StopsMidway}
 use Rattle.cap_words.specs.declared.sources.WordSource as source
 use Rattle.cap_words.specs.declared.sinks.WordSink as sink
-use Rattle.cap_frame.specs.Putting.{Halts}
-use Rattle.cap_run.specs.Transcoding.{PutsWords, ReadsWords, GivesNone, StopsMidway}
-use Rattle.cap_run.specs.Streams.{EndsStream}
-use Rattle.cap_text.specs.declared.fault.CopyFault.{CopyFault}
-use Rattle.cap_text.specs.declared.fault.CopyFault.TheVariants.{TooManyWords, Source, Output}
 
 -- whether the sink is still to be finished
 abbrev pub is_open : Result ℕ CopyFault → Bool

@@ -1,24 +1,23 @@
 -- How an engine ends, by what it did to its source and its output (profile). gs and go have the
 -- members of their types.
-use Rattle.std.specs.Prelude.{ℕ, ◌≡◌, ◌<◌, true, Bool, List, [], ◌∷◌, ◌++◌, length, Result, Ok, Err}
 use Rattle.std.specs.Io.KnownBytes.{Appends}
+use Rattle.std.specs.Prelude.{Bool, Err, List, Ok, Result, [], length, true, ℕ, ◌++◌, ◌<◌, ◌∷◌, ◌≡◌}
+use Rattle.cap_spec.specs.declared.CanonFault.TheVariants.{HasCapability, Memory as canon_memory}
 use Rattle.cap_words.specs.Ends.{DeviceFails, Failures, GrowthFails, WasSpent}
-use Rattle.cap_words.specs.declared.ends.ByteOut as output
 use Rattle.cap_words.specs.declared.ends.OutFault.{OutFault}
 use Rattle.cap_words.specs.declared.ends.OutFault.TheVariants.{Device, Memory, Spent}
-use Rattle.cap_words.specs.declared.sources.WordSource as source
 use Rattle.cap_frame.specs.ReadingFaults.{Answered, Faults}
-use Rattle.cap_spec.specs.declared.CanonFault.TheVariants.{HasCapability}
-use Rattle.cap_spec.specs.declared.CanonFault.TheVariants.{Memory as canon_memory}
+use Rattle.cap_text.specs.Writing.{Stopped, Wrote}
 use Rattle.cap_text.specs.declared.fault.Cause.{Cause}
-use Rattle.cap_text.specs.declared.fault.Cause.TheVariants.{TooManyMessages, Frame, Output, Refused}
-use Rattle.cap_text.specs.declared.fault.Cause.TheVariants.{Canon, NotStrict, Memory as no_marks}
+use Rattle.cap_text.specs.declared.fault.Cause.TheVariants.{Canon, Frame, NotStrict, Output, Refused, TooManyMessages}
+use Rattle.cap_text.specs.declared.fault.Cause.TheVariants.{Memory as no_marks}
 use Rattle.cap_text.specs.declared.fault.RunFault.{RunFault}
-use Rattle.cap_run.specs.declared.engines.stream.Counted.{Counted}
-use Rattle.cap_run.specs.declared.settings.Outcome.{Outcome}
 use Rattle.cap_run.specs.Streams.{ReadsStream}
 use Rattle.cap_run.specs.Telling.{Tells, Told, texts_of}
-use Rattle.cap_text.specs.Writing.{Stopped, Wrote}
+use Rattle.cap_run.specs.declared.engines.stream.Counted.{Counted}
+use Rattle.cap_run.specs.declared.settings.Outcome.{Outcome}
+use Rattle.cap_words.specs.declared.ends.ByteOut as output
+use Rattle.cap_words.specs.declared.sources.WordSource as source
 
 -- what an engine returns after a text was written, or after the output failed in it
 abbrev pub counted_after : Result (Unit {0}) OutFault → Counted → Result Counted Cause

@@ -1,9 +1,9 @@
 -- What the steps of the engine `run_filter` do for a sieve (profile). A sieve has a form, demands and
 -- limits. gs, go and ge have the members of the types of the source, of the output, and of the log.
-use Rattle.std.specs.Prelude.{ℕ, List, Result}
+use Rattle.std.specs.Prelude.{List, Result, ℕ}
 use Rattle.cap_frame.specs.Limit.{limit_of}
-use Rattle.cap_words.specs.declared.ends.ByteOut as output
-use Rattle.cap_words.specs.declared.sources.WordSource as source
+use Rattle.cap_text.specs.declared.fault.Cause.{Cause}
+use Rattle.cap_text.specs.declared.fault.RunFault.{RunFault}
 use Rattle.cap_run.specs.Filtering.{FiltersAll, FiltersUntil, TellsIn, WantsInForm}
 use Rattle.cap_run.specs.Sifting.{SiftStops, Sifts, SiftsNext}
 use Rattle.cap_run.specs.Telling.{Tells}
@@ -13,8 +13,8 @@ use Rattle.cap_run.specs.declared.engines.sifting.Sieve.{Sieve}
 use Rattle.cap_run.specs.declared.engines.stream.Counted.{Counted}
 use Rattle.cap_run.specs.declared.settings.Outcome.{Outcome}
 use Rattle.cap_run.specs.declared.settings.Settings.{Settings}
-use Rattle.cap_text.specs.declared.fault.Cause.{Cause}
-use Rattle.cap_text.specs.declared.fault.RunFault.{RunFault}
+use Rattle.cap_words.specs.declared.ends.ByteOut as output
+use Rattle.cap_words.specs.declared.sources.WordSource as source
 
 -- the line of each message
 abbrev pub SieveTells : Sieve → Tells

@@ -1,24 +1,23 @@
 -- What the steps of the engine `run_filter` do (profile). gs, go and ge have the members of the
 -- types of the source, of the output, and of the log.
-use Rattle.std.specs.Prelude.{ℕ, ◌≡◌, ◌⊎◌, Bool, IsTrue, List, [], ◌∷◌, ◌++◌, Option, Some, None}
-use Rattle.std.specs.Prelude.{Result, Ok, Err, codes}
+use Rattle.std.specs.Prelude.{Bool, Err, IsTrue, List, None, Ok, Option, Result, Some, [], codes, ℕ, ◌++◌, ◌∷◌, ◌≡◌}
+use Rattle.std.specs.Prelude.{◌⊎◌}
 use Rattle.cap_spec.specs.Texts.{Verdict, refused, strict_verdict, vet_text}
-use Rattle.cap_words.specs.declared.ends.ByteOut as output
-use Rattle.cap_words.specs.declared.sources.WordSource as source
 use Rattle.cap_frame.specs.ReadingFaults.{Faults}
+use Rattle.cap_text.specs.Writing.{Stopped}
+use Rattle.cap_text.specs.declared.fault.Cause.{Cause}
+use Rattle.cap_text.specs.declared.fault.Cause.TheVariants.{Canon, Frame, NotStrict, Output, Refused, TooManyMessages}
+use Rattle.cap_text.specs.declared.fault.Cause.TheVariants.{Memory as no_marks}
 use Rattle.cap_run.specs.Filtering.{Logged, Notes, PassesOn}
 use Rattle.cap_run.specs.Running.{Appended}
 use Rattle.cap_run.specs.Streams.{ReadsStream}
 use Rattle.cap_run.specs.Telling.{Tells}
 use Rattle.cap_run.specs.declared.engines.sifting.Objection.{Objection}
-use Rattle.cap_run.specs.declared.engines.sifting.Objection.TheVariants.{Unmet, Overlap}
+use Rattle.cap_run.specs.declared.engines.sifting.Objection.TheVariants.{Overlap, Unmet}
 use Rattle.cap_run.specs.declared.engines.stream.Counted.{Counted}
-use Rattle.cap_run.specs.declared.engines.stream.Counted.TheVariants.{Accepted}
-use Rattle.cap_run.specs.declared.engines.stream.Counted.TheVariants.{Refused as was_refused}
-use Rattle.cap_text.specs.Writing.{Stopped}
-use Rattle.cap_text.specs.declared.fault.Cause.{Cause}
-use Rattle.cap_text.specs.declared.fault.Cause.TheVariants.{TooManyMessages, Frame, Output, Refused}
-use Rattle.cap_text.specs.declared.fault.Cause.TheVariants.{Canon, NotStrict, Memory as no_marks}
+use Rattle.cap_run.specs.declared.engines.stream.Counted.TheVariants.{Accepted, Refused as was_refused}
+use Rattle.cap_words.specs.declared.ends.ByteOut as output
+use Rattle.cap_words.specs.declared.sources.WordSource as source
 
 -- what the line of a refused message says
 abbrev pub objection_verdict : Objection → Verdict

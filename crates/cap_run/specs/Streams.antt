@@ -1,11 +1,11 @@
 -- What reading the messages of a stream says of its source before and after (profile). g has the
 -- members of the source's type.
-use Rattle.std.specs.Prelude.{ℕ, ◌≡◌, ◌≤◌, true, false, List, [], ◌∷◌, sum, Some, OnSome}
 use Rattle.std.specs.List.{AllByRecursion}
+use Rattle.std.specs.Prelude.{List, OnSome, Some, [], false, sum, true, ℕ, ◌∷◌, ◌≡◌, ◌≤◌}
 use Rattle.cap_spec.specs.Frames.{Stream, sizes_of}
 use Rattle.cap_words.specs.Ends.{Works}
-use Rattle.cap_words.specs.declared.sources.WordSource as source
 use Rattle.cap_frame.specs.Taking.{Takes}
+use Rattle.cap_words.specs.declared.sources.WordSource as source
 
 module _ {S : Type 0} (g : source.Ghosts S) where
   -- Words were taken that are frames of these messages, one after the other and each within the

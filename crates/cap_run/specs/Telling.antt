@@ -1,11 +1,9 @@
 -- What was written for each message of a stream: a text, and what is counted of the message
 -- (profile).
-use Rattle.std.specs.Prelude.{ℕ, ◌≡◌, ◌+◌, List, [], ◌∷◌, map, length}
-use Rattle.std.specs.List.{flat_map}
+use Rattle.std.specs.Prelude.{List, [], flat_map, length, map, ℕ, ◌+◌, ◌∷◌, ◌≡◌}
 use Rattle.cap_spec.specs.Texts.{segments_text}
 use Rattle.cap_run.specs.declared.engines.stream.Counted.{Counted}
-use Rattle.cap_run.specs.declared.engines.stream.Counted.TheVariants.{Accepted, Refused}
-use Rattle.cap_run.specs.declared.engines.stream.Counted.TheVariants.{NotCanonical}
+use Rattle.cap_run.specs.declared.engines.stream.Counted.TheVariants.{Accepted, NotCanonical, Refused}
 use Rattle.cap_run.specs.declared.settings.Outcome.{Outcome}
 
 -- a message, what was written for it, and what is counted of it

@@ -1,19 +1,19 @@
 -- How a copy of words ends (profile). gs and gk have the members of the source's and of the sink's
 -- type.
-use Rattle.std.specs.Prelude.{ℕ, ◌≡◌, ◌<◌, ◌≤◌, ◌⊎◌, true, false, List, [], ◌∷◌, ◌++◌, length, Some}
-use Rattle.std.specs.Prelude.{OnSome, Result, Ok, Err}
+use Rattle.std.specs.Prelude.{Err, List, Ok, OnSome, Result, Some, [], false, length, true, ℕ, ◌++◌, ◌<◌, ◌∷◌, ◌≡◌, ◌≤◌}
+use Rattle.std.specs.Prelude.{◌⊎◌}
 use Rattle.cap_words.specs.Ends.{Works}
 use Rattle.cap_words.specs.Sinks.{Begins, StoppedPutting, WasFinished, WasPut, sink_fault_of}
 use Rattle.cap_words.specs.declared.ends.OutFault.{OutFault}
 use Rattle.cap_words.specs.declared.sources.SourceFault.{SourceFault}
-use Rattle.cap_words.specs.declared.sources.SourceFault.TheVariants.{Truncated, Device, Spent}
-use Rattle.cap_words.specs.declared.sources.WordSource as source
-use Rattle.cap_words.specs.declared.sinks.WordSink as sink
+use Rattle.cap_words.specs.declared.sources.SourceFault.TheVariants.{Device, Spent, Truncated}
 use Rattle.cap_frame.specs.Putting.{Blames, Halts}
 use Rattle.cap_frame.specs.Taking.{Breaks, Refuses, Takes}
-use Rattle.cap_run.specs.Streams.{EndsStream}
 use Rattle.cap_text.specs.declared.fault.CopyFault.{CopyFault}
-use Rattle.cap_text.specs.declared.fault.CopyFault.TheVariants.{TooManyWords, Source, Output}
+use Rattle.cap_text.specs.declared.fault.CopyFault.TheVariants.{Output, Source, TooManyWords}
+use Rattle.cap_run.specs.Streams.{EndsStream}
+use Rattle.cap_words.specs.declared.sources.WordSource as source
+use Rattle.cap_words.specs.declared.sinks.WordSink as sink
 
 module _ {S : Type 0} (gs : source.Ghosts S) where
   -- These words were read without an error. If there were any, the source wasn't closed before.

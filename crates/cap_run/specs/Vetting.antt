@@ -1,8 +1,7 @@
 -- What may be written of a message that is vetted (profile).
-use Rattle.std.specs.Prelude.{ℕ, ◌≡◌, List, ◌++◌, codes}
-use Rattle.cap_spec.specs.Occupying.{IsFirstOverlap}
-use Rattle.cap_spec.specs.Texts.{dump_text, get_text, refused, vet_text}
-use Rattle.cap_spec.specs.Tree.{Tree, node_at}
+use Rattle.std.specs.Prelude.{List, codes, ℕ, ◌++◌, ◌≡◌}
+use Rattle.cap_spec.specs.Prelude.{IsFirstOverlap, refused, vet_text, Tree, node_at}
+use Rattle.cap_spec.specs.Texts.{dump_text, get_text}
 use Rattle.cap_spec.specs.declared.Step.{Step}
 use Rattle.cap_vet.specs.Reports.{IsAccepted, IsReport}
 use Rattle.cap_vet.specs.declared.report.Report.{Report}

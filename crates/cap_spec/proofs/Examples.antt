@@ -1,18 +1,10 @@
 -- Small examples, computed from the definitions: each fixes what one of them says.
-use Rattle.std.proofs.Common.{◌≡◌, ◌++◌, [], ◌∷◌, replicate, refl, codes, true, lit<, lit≤, arith}
 use Rattle.std.specs.Fmt.{digits}
-use Rattle.cap_spec.specs.Canonical.{layout, trim}
-use Rattle.cap_spec.specs.Denoting.{Denotes}
-use Rattle.cap_spec.specs.Following.{two_pads}
-use Rattle.cap_spec.specs.Frames.{Frames, frame_text}
-use Rattle.cap_spec.specs.Packing.{pack_text}
-use Rattle.cap_spec.specs.PathTexts.{IsBadAt, IsPath}
-use Rattle.cap_spec.specs.Scalars.{scalar_words}
-use Rattle.cap_spec.specs.Texts.{segments_text, dump_text, vet_text, accepted}
-use Rattle.cap_spec.specs.Tree.{null, struct, scalars, structs, more, none}
-use Rattle.cap_spec.specs.PackedEnds.{packed_ends}
-use Rattle.cap_spec.specs.Unpacking.{unpacked, packed_is_cut}
-use Rattle.cap_spec.specs.declared.Step.TheVariants.{Ptr, Item}
+use Rattle.cap_spec.specs.Tree.{none}
+use Rattle.cap_spec.proofs.Prelude.{[], arith, codes, lit<, lit≤, refl, replicate, true, ◌++◌, ◌∷◌, ◌≡◌, layout, trim}
+use Rattle.cap_spec.proofs.Prelude.{Denotes, two_pads, Frames, frame_text, packed_ends, pack_text, IsBadAt, IsPath}
+use Rattle.cap_spec.proofs.Prelude.{scalar_words, accepted, dump_text, segments_text, vet_text, more, null, scalars}
+use Rattle.cap_spec.proofs.Prelude.{struct, structs, packed_is_cut, unpacked, Item, Ptr}
 
 -- two words, each by the bytes that aren't zero
 pack-marked : pack_text (0x0002000300000008 ∷ 0x000001aa00000019 ∷ []) ≡ 0x51 ∷ 8 ∷ 3 ∷ 2 ∷ 0x31 ∷ 0x19 ∷ 0xaa ∷ 1 ∷ []

@@ -9,3 +9,5 @@ pub mod Verdicts
 pub mod Canonical
 pub mod Disjoint
 pub mod Strict
+pub mod Prelude
+pub mod Lemmas

@@ -1,5 +1,5 @@
 -- When a message is accepted (profile; standard: Security Considerations).
-use Rattle.std.specs.Prelude.{ℕ, ◌≤◌, List}
+use Rattle.std.specs.Prelude.{List, ℕ, ◌≤◌}
 use Rattle.cap_spec.specs.Denoting.{Denotes}
 use Rattle.cap_spec.specs.Tree.{Tree}
 

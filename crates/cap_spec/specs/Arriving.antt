@@ -1,15 +1,15 @@
 -- What is at a spot of a message: its kind, and its n words from t:b on, the tag of a list of
 -- structs among them (standard: Objects; paths are the profile's).
-use Rattle.std.specs.Prelude.{ℕ, ◌+◌, ◌≡◌, List}
-use Rattle.cap_spec.specs.Pointers.{extent}
-use Rattle.cap_spec.specs.Following.{HasTag, Leads, to_null, to_cap}
+use Rattle.std.specs.Prelude.{List, ℕ, ◌+◌, ◌≡◌}
 use Rattle.cap_spec.specs.Denoting.{Finds, values_of, words_from}
-use Rattle.cap_spec.specs.Paths.{ReachesSpot, Spot, word, element}
+use Rattle.cap_spec.specs.Following.{HasTag, Leads, to_cap, to_null}
 use Rattle.cap_spec.specs.ObjectShapes.{HasKind}
-use Rattle.cap_spec.specs.Showing.{Own, own_null, own_cap, own_struct, own_scalars, own_pointers, own_structs}
-use Rattle.cap_spec.specs.declared.Step.{Step}
+use Rattle.cap_spec.specs.Paths.{ReachesSpot, Spot, element, word}
+use Rattle.cap_spec.specs.Pointers.{extent}
+use Rattle.cap_spec.specs.Showing.{Own, own_cap, own_null, own_pointers, own_scalars, own_struct, own_structs}
 use Rattle.cap_spec.specs.declared.Kind.{Kind}
-use Rattle.cap_spec.specs.declared.Kind.TheVariants.{Null, Cap, Struct, Scalars, Pointers, Structs}
+use Rattle.cap_spec.specs.declared.Kind.TheVariants.{Cap, Null, Pointers, Scalars, Struct, Structs}
+use Rattle.cap_spec.specs.declared.Step.{Step}
 
 -- An object of this kind is found at s:w: n words from t:b on.
 pub record HasObjectAt (m : List (List ℕ)) (s w : ℕ) (kind : Kind) (t b n k q tag : ℕ) : Type 0 where

@@ -4,11 +4,11 @@
 -- without elements has sizes 0 in its tag. The pointer to a struct without words has the offset -1. The pointer to
 -- a list without words leads to where its first word would be. The bits after a list's last value are zero.
 -- A tree with a capability has no canonical form.
-use Rattle.std.specs.Prelude.{ℕ, zero, suc, ◌+◌, ◌-◌, ◌*◌, ◌^◌, max, List, [], ◌∷◌, ◌++◌, length, take, Bool, true, false, ◌==◌, if◌then◌else◌}
-use Rattle.std.specs.List.{flat_map}
-use Rattle.cap_spec.specs.Tree.{Tree, null, cap, struct, scalars, pointers, structs, Trees, none, more, tree_count}
+use Rattle.std.specs.Prelude.{Bool, List, [], false, flat_map, if◌then◌else◌, length, max, suc, take, true, zero, ℕ}
+use Rattle.std.specs.Prelude.{◌*◌, ◌++◌, ◌+◌, ◌-◌, ◌==◌, ◌^◌, ◌∷◌}
 use Rattle.cap_spec.specs.Pointers.{list_words}
 use Rattle.cap_spec.specs.Scalars.{scalar_words}
+use Rattle.cap_spec.specs.Tree.{Tree, Trees, cap, more, none, null, pointers, scalars, struct, structs, tree_count}
 
 -- how many words are left when the zeros at the end are cut
 abbrev pub data_needed : List ℕ → ℕ

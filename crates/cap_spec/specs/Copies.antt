@@ -1,8 +1,8 @@
 -- The canonical words of a message, and when its words are its own (standard: Canonicalization).
-use Rattle.std.specs.Prelude.{ℕ, ◌≡◌, false, List, [], ◌∷◌}
-use Rattle.cap_spec.specs.Tree.{Tree, has_cap}
-use Rattle.cap_spec.specs.Denoting.{Denotes}
+use Rattle.std.specs.Prelude.{List, [], false, ℕ, ◌∷◌, ◌≡◌}
 use Rattle.cap_spec.specs.Canonical.{layout, trim}
+use Rattle.cap_spec.specs.Denoting.{Denotes}
+use Rattle.cap_spec.specs.Tree.{Tree, has_cap}
 
 -- The root denotes a tree without capabilities, and these words are the layout of what is left of it after trimming.
 pub record HasCopy (m : List (List ℕ)) (words : List ℕ) : Type 0 where

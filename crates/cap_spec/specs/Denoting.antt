@@ -1,12 +1,13 @@
 -- Which tree a pointer word denotes, at what charge and depth (standard: Objects, Structs, Lists; charge and depth
 -- are the profile's reading of Security Considerations).
-use Rattle.std.specs.Prelude.{ℕ, zero, suc, ◌+◌, ◌*◌, ◌/◌, ◌%◌, ◌<◌, ◌≡◌, max, List, [], ◌∷◌, map, pos, slice_index, slice_range}
 use Rattle.std.specs.List.{range_with_len}
-use Rattle.cap_spec.specs.Words.{field}
+use Rattle.std.specs.Prelude.{List, [], map, max, pos, slice_index, slice_range, suc, zero, ℕ, ◌%◌, ◌*◌, ◌+◌, ◌/◌, ◌<◌}
+use Rattle.std.specs.Prelude.{◌∷◌, ◌≡◌}
+use Rattle.cap_spec.specs.Following.{IsInside, Leads, extra, to_cap, to_null, to_object}
 use Rattle.cap_spec.specs.Messages.{HasWord, segment_of}
-use Rattle.cap_spec.specs.Pointers.{kind, middle, code, data_size, pointer_size, list_size, extent, element_bits}
-use Rattle.cap_spec.specs.Following.{to_null, to_cap, to_object, Leads, IsInside, extra}
-use Rattle.cap_spec.specs.Tree.{Tree, null, cap, struct, scalars, pointers, structs, Trees, none, more}
+use Rattle.cap_spec.specs.Pointers.{code, data_size, element_bits, extent, kind, list_size, middle, pointer_size}
+use Rattle.cap_spec.specs.Tree.{Tree, Trees, cap, more, none, null, pointers, scalars, struct, structs}
+use Rattle.cap_spec.specs.Words.{field}
 
 -- the places t:b, t:b+1 and so on, n of them
 abbrev pub places : ℕ → ℕ → ℕ → List (ℕ × ℕ)

@@ -1,6 +1,6 @@
 -- The five ways in which the reading of a message from words ends, faults of the input and of memory aside (profile).
-use Rattle.std.specs.Prelude.{ℕ, ◌+◌, ◌%◌, ◌^◌, ◌<◌, ◌≤◌, ◌≡◌, Bool, false, List, [], ◌∷◌, ◌++◌, sum}
-use Rattle.cap_spec.specs.Frames.{sizes_of, IsTable, Frames, IsPartial}
+use Rattle.std.specs.Prelude.{Bool, List, [], false, sum, ℕ, ◌%◌, ◌++◌, ◌+◌, ◌<◌, ◌^◌, ◌∷◌, ◌≡◌, ◌≤◌}
+use Rattle.cap_spec.specs.Frames.{Frames, IsPartial, IsTable, sizes_of}
 
 -- A prefix of the words frames a message within the limit.
 pub record BeginsMessage (limit : ℕ) (words : List ℕ) : Type 0 where

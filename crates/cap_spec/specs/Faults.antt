@@ -1,12 +1,12 @@
 -- The first pointer in preorder at which anything is wrong, or a limit is passed (profile; standard: Security Considerations).
-use Rattle.std.specs.Prelude.{ℕ, ◌+◌, ◌<◌, ◌≤◌, ◌≡◌, ◌⊎◌, List, [], ◌∷◌, ◌++◌, length}
-use Rattle.cap_spec.specs.Lists.{IsOneOf}
+use Rattle.std.specs.Prelude.{List, [], length, ℕ, ◌++◌, ◌+◌, ◌<◌, ◌∷◌, ◌≡◌, ◌≤◌, ◌⊎◌}
 use Rattle.cap_spec.specs.Following.{Wrong}
+use Rattle.cap_spec.specs.Lists.{IsOneOf}
 use Rattle.cap_spec.specs.Paths.{Costs, IsTour, Reaches}
 use Rattle.cap_spec.specs.Verdicts.{CostOf, IsDeepAt, LacksRoot}
-use Rattle.cap_spec.specs.declared.Refusal.{Refusal}
 use Rattle.cap_spec.specs.declared.Reason.{Reason}
 use Rattle.cap_spec.specs.declared.Reason.TheVariants.{DepthLimit, WordLimit}
+use Rattle.cap_spec.specs.declared.Refusal.{Refusal}
 use Rattle.cap_spec.specs.declared.Step.{Step}
 
 -- none of these paths leads to an object past the depth limit

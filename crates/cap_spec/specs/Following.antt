@@ -1,13 +1,15 @@
 -- What a pointer word leads to (standard: Inter-Segment Pointers), and the first reason why it
 -- can't be followed (profile).
-use Rattle.std.specs.Prelude.{ℕ, ◌+◌, ◌*◌, ◌<◌, ◌≤◌, ◌≡◌, ◌≢◌, ◌⊎◌, List, length, ℤ, pos, ◌+ℤ◌, ◌<ℤ◌, if◌then◌else◌, ◌==◌}
-use Rattle.cap_spec.specs.Words.{signed_offset_of}
+use Rattle.std.specs.Prelude.{List, if◌then◌else◌, length, pos, ℕ, ℤ, ◌*◌, ◌+ℤ◌, ◌+◌, ◌<ℤ◌, ◌<◌, ◌==◌, ◌≡◌, ◌≢◌, ◌≤◌}
+use Rattle.std.specs.Prelude.{◌⊎◌}
 use Rattle.cap_spec.specs.Messages.{HasWord, segment_of}
-use Rattle.cap_spec.specs.Pointers.{kind, middle, code, two, pad, far_segment, cap_index, data_size, pointer_size, list_size, extent, IsFar, IsReserved, IsCap}
+use Rattle.cap_spec.specs.Pointers.{IsCap, IsFar, IsReserved, cap_index, code, data_size, extent, far_segment, kind}
+use Rattle.cap_spec.specs.Pointers.{list_size, middle, pad, pointer_size, two}
+use Rattle.cap_spec.specs.Words.{signed_offset_of}
 use Rattle.cap_spec.specs.declared.Reason.{Reason}
-use Rattle.cap_spec.specs.declared.Reason.TheVariants.{NoRoot, Reserved, SegmentMissing, PadOutside, PadIsFar}
-use Rattle.cap_spec.specs.declared.Reason.TheVariants.{PadNotFar, TagKind, TagOffset, OutOfSegment, CompositeTag}
-use Rattle.cap_spec.specs.declared.Reason.TheVariants.{CompositeOverrun, DepthLimit, WordLimit}
+use Rattle.cap_spec.specs.declared.Reason.TheVariants.{CompositeOverrun, CompositeTag, DepthLimit, NoRoot, OutOfSegment}
+use Rattle.cap_spec.specs.declared.Reason.TheVariants.{PadIsFar, PadNotFar, PadOutside, Reserved, SegmentMissing}
+use Rattle.cap_spec.specs.declared.Reason.TheVariants.{TagKind, TagOffset, WordLimit}
 
 -- null, a capability, or an object: its segment, its start, and the word that gives its shape
 pub data Lead : Type 0 where

@@ -1,8 +1,8 @@
 -- Following the pointers on a path up to the first fault, where a word counts each time (profile;
 -- standard: Security Considerations).
-use Rattle.std.specs.Prelude.{ℕ, ◌+◌, ◌<◌, ◌≤◌, ◌≡◌, ◌⊎◌, List, [], ◌∷◌, ◌++◌, length}
-use Rattle.cap_spec.specs.Lists.{IsOneOf}
+use Rattle.std.specs.Prelude.{List, [], length, ℕ, ◌++◌, ◌+◌, ◌<◌, ◌∷◌, ◌≡◌, ◌≤◌, ◌⊎◌}
 use Rattle.cap_spec.specs.Faults.{AreShallow, HasNoRoot, IsFirstReason}
+use Rattle.cap_spec.specs.Lists.{IsOneOf}
 use Rattle.cap_spec.specs.Paths.{Reaches, Rises}
 use Rattle.cap_spec.specs.Verdicts.{CostOf}
 use Rattle.cap_spec.specs.declared.Refusal.{Refusal}

@@ -1,5 +1,5 @@
 -- Elements of a list, and lists without an element twice.
-use Rattle.std.specs.Prelude.{◌≡◌, ◌⊎◌, List, [], ◌∷◌, ⊤}
+use Rattle.std.specs.Prelude.{List, [], ⊤, ◌∷◌, ◌≡◌, ◌⊎◌}
 
 -- x is an element of the list
 abbrev pub IsOneOf : {X : Type 0} → X → List X → Type 0

@@ -1,8 +1,8 @@
 -- The shape of an object: its kind and its sizes, by the word that leads to it (standard: Structs, Lists).
 use Rattle.std.specs.Prelude.{ℕ, ◌<◌, ◌≡◌}
-use Rattle.cap_spec.specs.Pointers.{kind, middle, code, data_size, pointer_size, list_size}
+use Rattle.cap_spec.specs.Pointers.{code, data_size, kind, list_size, middle, pointer_size}
 use Rattle.cap_spec.specs.declared.Kind.{Kind}
-use Rattle.cap_spec.specs.declared.Kind.TheVariants.{Struct, Scalars, Pointers, Structs}
+use Rattle.cap_spec.specs.declared.Kind.TheVariants.{Pointers, Scalars, Struct, Structs}
 
 -- the word q encodes a struct of d data words and p pointers
 pub record IsStructShape (q d p : ℕ) : Type 0 where

@@ -1,7 +1,8 @@
 -- How far packed bytes are read at each word that they give (profile).
-use Rattle.std.specs.Prelude.{ℕ, zero, suc, ◌+◌, ◌==◌, if◌then◌else◌, nat_lt, List, [], ◌∷◌, ◌++◌, length, take, drop, slice_index, replicate}
+use Rattle.std.specs.Prelude.{List, [], drop, if◌then◌else◌, length, nat_lt, replicate, slice_index, suc, take, zero, ℕ}
+use Rattle.std.specs.Prelude.{◌++◌, ◌+◌, ◌==◌, ◌∷◌}
 use Rattle.cap_spec.specs.Plain.{capped}
-use Rattle.cap_spec.specs.Unpacking.{marks, IsGroup, zeros, plain, marked, given_of, group_length}
+use Rattle.cap_spec.specs.Unpacking.{IsGroup, given_of, group_length, marked, marks, plain, zeros}
 
 -- the ends of n literal words, of which the first starts at byte `at`
 abbrev pub word_ends : ℕ → ℕ → List ℕ

@@ -1,7 +1,6 @@
 -- The packed text of a message (encoding: Packing, Serialization Over a Stream; the groups and the zero padding are the
 -- profile's).
-use Rattle.std.specs.Prelude.{ℕ, ◌-◌, List, ◌∷◌, ◌++◌, length}
-use Rattle.std.specs.List.{flat_map}
+use Rattle.std.specs.Prelude.{List, flat_map, length, ℕ, ◌++◌, ◌-◌, ◌∷◌}
 use Rattle.cap_spec.specs.Frames.{paired, sizes_of}
 use Rattle.cap_spec.specs.Packing.{pack_text}
 

@@ -1,6 +1,7 @@
 -- The one packed encoding that is written (profile).
-use Rattle.std.specs.Prelude.{ℕ, zero, suc, ◌+◌, ◌-◌, ◌*◌, ◌==◌, min, not, nat_le, if◌then◌else◌, List, [], ◌∷◌, ◌++◌, length, take, drop, take_while, filter}
-use Rattle.cap_spec.specs.Plain.{word_bytes, plain_text}
+use Rattle.std.specs.Prelude.{List, [], drop, filter, if◌then◌else◌, length, min, nat_le, not, suc, take, take_while}
+use Rattle.std.specs.Prelude.{zero, ℕ, ◌*◌, ◌++◌, ◌+◌, ◌-◌, ◌==◌, ◌∷◌}
+use Rattle.cap_spec.specs.Plain.{plain_text, word_bytes}
 
 -- how many bytes are zero, and how many of a word's
 abbrev pub zeros_in : List ℕ → ℕ

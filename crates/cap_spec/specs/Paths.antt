@@ -1,12 +1,12 @@
 -- Where the steps of a path lead in a message, and at what level (profile).
-use Rattle.std.specs.Prelude.{ℕ, ◌+◌, ◌*◌, ◌<◌, ◌≡◌, ◌⊎◌, List, [], ◌∷◌, length, ⊤}
+use Rattle.std.specs.Prelude.{List, [], length, ℕ, ⊤, ◌*◌, ◌+◌, ◌<◌, ◌∷◌, ◌≡◌, ◌⊎◌}
+use Rattle.cap_spec.specs.Denoting.{Finds, element_levels}
+use Rattle.cap_spec.specs.Following.{HasTag, Leads, extra, to_cap, to_null}
 use Rattle.cap_spec.specs.Lists.{IsOneOf}
 use Rattle.cap_spec.specs.Messages.{HasWord}
-use Rattle.cap_spec.specs.Pointers.{kind, middle, code, data_size, pointer_size, list_size, extent}
-use Rattle.cap_spec.specs.Following.{to_null, to_cap, HasTag, Leads, extra}
-use Rattle.cap_spec.specs.Denoting.{Finds, element_levels}
+use Rattle.cap_spec.specs.Pointers.{code, data_size, extent, kind, list_size, middle, pointer_size}
 use Rattle.cap_spec.specs.declared.Step.{Step}
-use Rattle.cap_spec.specs.declared.Step.TheVariants.{Ptr, Item}
+use Rattle.cap_spec.specs.declared.Step.TheVariants.{Item, Ptr}
 
 -- Where a node is: at a pointer word, or at an element of a struct list (its segment, its start,
 -- its sizes).

@@ -1,5 +1,5 @@
 -- Words that are in a segment, addressed by their positions (profile).
-use Rattle.std.specs.Prelude.{ℕ, ◌+◌, ◌≤◌, ◌≡◌, List, [], ◌∷◌, length, Some, slice_get}
+use Rattle.std.specs.Prelude.{List, Some, [], length, slice_get, ℕ, ◌+◌, ◌∷◌, ◌≡◌, ◌≤◌}
 
 -- these words are in a segment, from b on
 abbrev pub HasWordsAt : List ℕ → ℕ → List ℕ → Type 0

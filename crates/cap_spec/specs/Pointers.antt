@@ -1,5 +1,5 @@
 -- The six forms of a pointer word, and their fields (standard: Structs, Lists, Inter-Segment Pointers, Capabilities).
-use Rattle.std.specs.Prelude.{ℕ, ◌+◌, ◌*◌, ◌/◌, ◌≡◌, ◌≢◌, if◌then◌else◌, ◌==◌}
+use Rattle.std.specs.Prelude.{if◌then◌else◌, ℕ, ◌*◌, ◌+◌, ◌/◌, ◌==◌, ◌≡◌, ◌≢◌}
 use Rattle.cap_spec.specs.Words.{field}
 
 -- bits 0 and 1: 0 a struct, 1 a list, 2 a far pointer, 3 a capability

@@ -1,12 +1,11 @@
 -- A node without what its children are, and what a view shows of it (profile): each question is answered None where it doesn't apply or lies past the end.
-use Rattle.std.specs.Prelude.{ℕ, ◌/◌, ◌%◌, ◌==◌, List, [], length, Option, Some, None, Bool, slice_get}
-use Rattle.std.specs.Option.{option_map}
-use Rattle.cap_spec.specs.Words.{field}
+use Rattle.std.specs.Prelude.{Bool, List, None, Option, Some, [], length, option_map, slice_get, ℕ, ◌%◌, ◌/◌, ◌==◌}
 use Rattle.cap_spec.specs.Plain.{plain_text}
 use Rattle.cap_spec.specs.Scalars.{scalar_words}
-use Rattle.cap_spec.specs.Tree.{Tree, null, cap, struct, scalars, pointers, structs, tree_count}
+use Rattle.cap_spec.specs.Tree.{Tree, cap, null, pointers, scalars, struct, structs, tree_count}
+use Rattle.cap_spec.specs.Words.{field}
 use Rattle.cap_spec.specs.declared.Kind.{Kind}
-use Rattle.cap_spec.specs.declared.Kind.TheVariants.{Null, Cap, Struct, Scalars, Pointers, Structs}
+use Rattle.cap_spec.specs.declared.Kind.TheVariants.{Cap, Null, Pointers, Scalars, Struct, Structs}
 
 -- A node of a tree without what its children are.
 pub data Own : Type 0 where

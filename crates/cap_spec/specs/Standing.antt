@@ -1,8 +1,8 @@
 -- Which tree is at a spot of a message (profile).
-use Rattle.std.specs.Prelude.{ℕ, ◌+◌, ◌≡◌, List}
+use Rattle.std.specs.Prelude.{List, ℕ, ◌+◌, ◌≡◌}
+use Rattle.cap_spec.specs.Denoting.{DenoteEach, Denotes, places, words_from}
+use Rattle.cap_spec.specs.Paths.{Spot, element, word}
 use Rattle.cap_spec.specs.Tree.{Tree, struct}
-use Rattle.cap_spec.specs.Denoting.{Denotes, DenoteEach, places, words_from}
-use Rattle.cap_spec.specs.Paths.{Spot, word, element}
 
 -- the tree that a pointer word denotes, or the struct that an element of a struct list is
 abbrev pub DenotesAt : List (List ℕ) → Spot → Tree → Type 0

@@ -1,16 +1,16 @@
 -- Messages without the forms that common readers reject, at least in part (profile).
-use Rattle.std.specs.Prelude.{ℕ, ◌≤◌, ◌≡◌, List, [], length}
-use Rattle.cap_spec.specs.Messages.{segment_of}
-use Rattle.cap_spec.specs.Following.{to_null, to_cap, Leads}
+use Rattle.std.specs.Prelude.{List, [], length, ℕ, ◌≡◌, ◌≤◌}
 use Rattle.cap_spec.specs.Accepting.{IsWithin}
 use Rattle.cap_spec.specs.Denoting.{Finds}
-use Rattle.cap_spec.specs.Paths.{IsFirst, IsNumbered, Reaches}
 use Rattle.cap_spec.specs.Faults.{IsRefused}
+use Rattle.cap_spec.specs.Following.{Leads, to_cap, to_null}
+use Rattle.cap_spec.specs.Messages.{segment_of}
+use Rattle.cap_spec.specs.Paths.{IsFirst, IsNumbered, Reaches}
 use Rattle.cap_spec.specs.declared.Lax.{Lax}
-use Rattle.cap_spec.specs.declared.Lax.TheVariants.{NullPad, EmptySegment, CapabilityPad}
-use Rattle.cap_spec.specs.declared.StrictRefusal.{StrictRefusal}
-use Rattle.cap_spec.specs.declared.StrictRefusal.TheVariants.{Refused, ManySegments, Pointer}
+use Rattle.cap_spec.specs.declared.Lax.TheVariants.{CapabilityPad, EmptySegment, NullPad}
 use Rattle.cap_spec.specs.declared.Step.{Step}
+use Rattle.cap_spec.specs.declared.StrictRefusal.{StrictRefusal}
+use Rattle.cap_spec.specs.declared.StrictRefusal.TheVariants.{ManySegments, Pointer, Refused}
 
 -- The pointer at s:w has this form: it leads over a one-word pad of zeros, to an object in a segment
 -- without words, or over a one-word pad that is a capability (standard: Inter-Segment Pointers).

@@ -1,21 +1,20 @@
 -- The lines that the program writes (profile).
-use Rattle.std.specs.Prelude.{ℕ, ◌+◌, ◌*◌, ◌/◌, ◌%◌, ◌==◌, nat_lt, if◌then◌else◌, List, [], ◌∷◌, ◌++◌, length, sum}
-use Rattle.std.specs.Prelude.{replicate, codes, decimal, Bool, Option, Some, None}
-use Rattle.std.specs.List.{flat_map}
+use Rattle.std.specs.Prelude.{Bool, List, None, Option, Some, [], codes, decimal, flat_map, if◌then◌else◌, length}
+use Rattle.std.specs.Prelude.{nat_lt, replicate, sum, ℕ, ◌%◌, ◌*◌, ◌++◌, ◌+◌, ◌/◌, ◌==◌, ◌∷◌}
 use Rattle.cap_spec.specs.Frames.{sizes_of}
 use Rattle.cap_spec.specs.Messages.{root_of}
 use Rattle.cap_spec.specs.Plain.{word_bytes}
 use Rattle.cap_spec.specs.Scalars.{scalar_words}
+use Rattle.cap_spec.specs.Tree.{Tree, Trees, cap, more, none, null, pointers, scalars, struct, structs, tree_count}
 use Rattle.cap_spec.specs.declared.Lax.{Lax}
-use Rattle.cap_spec.specs.declared.Lax.TheVariants.{NullPad, EmptySegment, CapabilityPad}
+use Rattle.cap_spec.specs.declared.Lax.TheVariants.{CapabilityPad, EmptySegment, NullPad}
+use Rattle.cap_spec.specs.declared.Reason.{Reason}
+use Rattle.cap_spec.specs.declared.Reason.TheVariants.{CompositeOverrun, CompositeTag, DepthLimit, NoRoot, OutOfSegment}
+use Rattle.cap_spec.specs.declared.Reason.TheVariants.{PadIsFar, PadNotFar, PadOutside, Reserved, SegmentMissing}
+use Rattle.cap_spec.specs.declared.Reason.TheVariants.{TagKind, TagOffset, WordLimit}
 use Rattle.cap_spec.specs.declared.Refusal.{Refusal}
 use Rattle.cap_spec.specs.declared.StrictRefusal.{StrictRefusal}
-use Rattle.cap_spec.specs.declared.StrictRefusal.TheVariants.{Refused, ManySegments, Pointer}
-use Rattle.cap_spec.specs.declared.Reason.{Reason}
-use Rattle.cap_spec.specs.declared.Reason.TheVariants.{NoRoot, Reserved, SegmentMissing, PadOutside, PadIsFar}
-use Rattle.cap_spec.specs.declared.Reason.TheVariants.{PadNotFar, TagKind, TagOffset, OutOfSegment, CompositeTag}
-use Rattle.cap_spec.specs.declared.Reason.TheVariants.{CompositeOverrun, DepthLimit, WordLimit}
-use Rattle.cap_spec.specs.Tree.{Tree, null, cap, struct, scalars, pointers, structs, Trees, none, more, tree_count}
+use Rattle.cap_spec.specs.declared.StrictRefusal.TheVariants.{ManySegments, Pointer, Refused}
 
 -- a lower-case digit, and the two of a byte
 abbrev pub hex_digit : ℕ → ℕ

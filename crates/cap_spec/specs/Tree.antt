@@ -1,10 +1,11 @@
 -- What a message means: a finite tree (standard: Objects).
-use Rattle.std.specs.Prelude.{ℕ, zero, suc, ◌+◌, ◌^◌, ◌<◌, ◌≡◌, ◌==◌, not, List, [], ◌∷◌, length, Option, Some, None, Bool, ⊤, option_and_then}
 use Rattle.std.specs.List.{AllByRecursion}
-use Rattle.cap_spec.specs.Words.{IsWord}
+use Rattle.std.specs.Prelude.{Bool, List, None, Option, Some, [], length, not, option_and_then, suc, zero, ℕ, ⊤, ◌+◌}
+use Rattle.std.specs.Prelude.{◌<◌, ◌==◌, ◌^◌, ◌∷◌, ◌≡◌}
 use Rattle.cap_spec.specs.Pointers.{element_bits}
+use Rattle.cap_spec.specs.Words.{IsWord}
 use Rattle.cap_spec.specs.declared.Step.{Step}
-use Rattle.cap_spec.specs.declared.Step.TheVariants.{Ptr, Item}
+use Rattle.cap_spec.specs.declared.Step.TheVariants.{Item, Ptr}
 
 mutual
   pub data Tree : Type 0 where

@@ -1,5 +1,5 @@
 -- A word limit that follows from what was sent (profile; standard: Security Considerations).
-use Rattle.std.specs.Prelude.{ℕ, ◌+◌, min, List, sum}
+use Rattle.std.specs.Prelude.{List, min, sum, ℕ, ◌+◌}
 use Rattle.cap_spec.specs.Frames.{sizes_of}
 
 -- how many words more than its segments have an unamplified message may be charged

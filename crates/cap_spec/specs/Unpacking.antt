@@ -1,10 +1,10 @@
 -- Packed text: which bytes spell which words, and what is given of bytes that end inside a group (standard: Packing;
 -- present zero bytes and runs across messages are the profile's).
-use Rattle.std.specs.Prelude.{ℕ, zero, suc, ◌+◌, ◌*◌, ◌/◌, ◌%◌, ◌<◌, ◌≡◌, ◌≢◌, ◌==◌, if◌then◌else◌, nat_lt, Bool, true}
-use Rattle.std.specs.Prelude.{false, List, [], ◌∷◌, ◌++◌, length, take, drop, slice_index, replicate}
-use Rattle.std.specs.List.{flat_map, AllByRecursion}
+use Rattle.std.specs.List.{AllByRecursion}
+use Rattle.std.specs.Prelude.{Bool, List, [], drop, false, flat_map, if◌then◌else◌, length, nat_lt, replicate}
+use Rattle.std.specs.Prelude.{slice_index, suc, take, true, zero, ℕ, ◌%◌, ◌*◌, ◌++◌, ◌+◌, ◌/◌, ◌<◌, ◌==◌, ◌∷◌, ◌≡◌, ◌≢◌}
+use Rattle.cap_spec.specs.Plain.{plain_text, plain_words, word_bytes}
 use Rattle.cap_spec.specs.Words.{IsWord}
-use Rattle.cap_spec.specs.Plain.{word_bytes, plain_text, plain_words}
 
 -- how many of the lowest n bits are set
 abbrev pub marks : ℕ → ℕ → ℕ

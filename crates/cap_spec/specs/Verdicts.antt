@@ -1,14 +1,14 @@
 -- When a refusal is justified (profile; standard: Security Considerations).
-use Rattle.std.specs.Prelude.{ℕ, ◌+◌, ◌<◌, ◌≤◌, ◌≡◌, List, [], ◌∷◌, Some, slice_get, ◌==◌, if◌then◌else◌}
-use Rattle.cap_spec.specs.Lists.{AreDistinct}
-use Rattle.cap_spec.specs.Pointers.{kind, middle, code}
-use Rattle.cap_spec.specs.Following.{HasTag, Wrong}
+use Rattle.std.specs.Prelude.{List, Some, [], if◌then◌else◌, slice_get, ℕ, ◌+◌, ◌<◌, ◌==◌, ◌∷◌, ◌≡◌, ◌≤◌}
 use Rattle.cap_spec.specs.Denoting.{Finds, element_levels}
-use Rattle.cap_spec.specs.Paths.{Reaches, Costs}
-use Rattle.cap_spec.specs.declared.Step.{Step}
-use Rattle.cap_spec.specs.declared.Refusal.{Refusal}
+use Rattle.cap_spec.specs.Following.{HasTag, Wrong}
+use Rattle.cap_spec.specs.Lists.{AreDistinct}
+use Rattle.cap_spec.specs.Paths.{Costs, Reaches}
+use Rattle.cap_spec.specs.Pointers.{code, kind, middle}
 use Rattle.cap_spec.specs.declared.Reason.{Reason}
-use Rattle.cap_spec.specs.declared.Reason.TheVariants.{NoRoot, DepthLimit, WordLimit}
+use Rattle.cap_spec.specs.declared.Reason.TheVariants.{DepthLimit, NoRoot, WordLimit}
+use Rattle.cap_spec.specs.declared.Refusal.{Refusal}
+use Rattle.cap_spec.specs.declared.Step.{Step}
 
 -- these paths reach pointers that can be followed, which costs this many words in all
 abbrev pub CostOf : List (List ℕ) → List (List Step) → ℕ → Type 0

@@ -1,20 +1,19 @@
 -- The lines of children, one after the other, and how deep they nest.
-use Rattle.std.proofs.Common.{◌≡◌, ℕ, zero, suc, ◌+◌, ◌<◌, ◌≤◌, List, [], ◌++◌, Some, None, Result, codes, refl, sym, ap, ◌∙◌, subst, arith, inl, inr}
-use Rattle.std.proofs.lemmas.Bool.Decides.{eqb_tells}
-use Rattle.cap_words.specs.declared.ends.ByteOut as output
-use Rattle.cap_words.specs.declared.ends.OutFault.{OutFault}
-use Rattle.cap_spec.specs.Denoting.{Denotes, DenoteEach, AreElements, places, element_levels}
-use Rattle.cap_spec.specs.Pointers.{data_size, list_size, middle, pointer_size}
-use Rattle.cap_spec.specs.Showing.{Own, own_of, kind_of}
-use Rattle.cap_spec.specs.Standing.{DenotesAt}
-use Rattle.cap_spec.specs.Texts.{all_lines, child_lines, dump_text, label, own_text}
-use Rattle.cap_spec.specs.Paths.{ReachesSpot, Spot, word}
-use Rattle.cap_spec.specs.Tree.{Tree, null, cap, struct, scalars, pointers, structs, Trees, none, more, part_at, tree_at, tree_count}
-use Rattle.cap_spec.specs.declared.Kind.{Kind}
+use Rattle.cap_spec.specs.Denoting.{places}
+use Rattle.cap_spec.specs.Texts.{all_lines, child_lines}
+use Rattle.cap_spec.specs.Tree.{none}
 use Rattle.cap_spec.specs.declared.Step.{Step}
-use Rattle.cap_text.specs.Dumping.{child_letter_of, child_step_of, height, heights, shown_below, shown_count_of, trees_from}
-use Rattle.cap_text.specs.Paging.{Added, Adds, Halted}
-use Rattle.cap_text.proofs.Paging.{Left, added_then, adds_then, halted_more, halted_then, left_done, left_start, left_step, left_stop}
+use Rattle.cap_spec.proofs.Prelude.{List, None, Result, Some, [], ap, arith, codes, inl, inr, refl, subst, suc, sym}
+use Rattle.cap_spec.proofs.Prelude.{zero, ℕ, ◌++◌, ◌+◌, ◌<◌, ◌∙◌, ◌≡◌, ◌≤◌, eqb_tells, AreElements, DenoteEach, Denotes}
+use Rattle.cap_spec.proofs.Prelude.{element_levels, ReachesSpot, Spot, word, data_size, list_size, middle, pointer_size}
+use Rattle.cap_spec.proofs.Prelude.{Own, kind_of, own_of, DenotesAt, dump_text, label, own_text, Tree, Trees, cap, more}
+use Rattle.cap_spec.proofs.Prelude.{null, part_at, pointers, scalars, struct, structs, tree_at, tree_count}
+use Rattle.cap_text.specs.Dumping.{child_letter_of, child_step_of, height, heights, shown_below, shown_count_of}
+use Rattle.cap_text.specs.Dumping.{trees_from}
+use Rattle.cap_text.specs.Prelude.{Kind, OutFault, Added, Adds, Halted}
+use Rattle.cap_text.proofs.Paging.{Left, added_then, adds_then, halted_more, halted_then, left_done, left_start}
+use Rattle.cap_text.proofs.Paging.{left_step, left_stop}
+use Rattle.cap_words.specs.declared.ends.ByteOut as output
 
 -- the next of some trees
 next_tree : (ts : Trees) (i : ℕ) (u : Tree) → tree_at ts i ≡ Some u → trees_from i ts ≡ more u (trees_from (i + 1) ts)

@@ -1,17 +1,16 @@
 -- The lines of a node and of its own words.
-use Rattle.std.proofs.Common.{◌≡◌, ℕ, zero, suc, ◌+◌, ◌*◌, List, [], ◌∷◌, ◌++◌, drop, length, replicate, slice_get}
-use Rattle.std.proofs.Common.{Some, None, Result, refl, sym, ap, ◌∙◌, append_assoc, subst}
-use Rattle.cap_words.specs.declared.ends.ByteOut as output
-use Rattle.cap_words.specs.declared.ends.OutFault.{OutFault}
-use Rattle.cap_spec.specs.Showing.{Own, own_null, own_cap, own_struct, own_scalars, own_pointers, own_structs, own_of, kind_of, words_of_own}
+use Rattle.std.proofs.Common.{List, None, Result, Some, [], ap, append_assoc, drop, length, refl, replicate, slice_get}
+use Rattle.std.proofs.Common.{subst, suc, sym, zero, ℕ, ◌*◌, ◌++◌, ◌+◌, ◌∙◌, ◌∷◌, ◌≡◌}
+use Rattle.cap_spec.specs.Showing.{Own, kind_of, own_cap, own_null, own_of, own_pointers, own_scalars, own_struct}
+use Rattle.cap_spec.specs.Showing.{own_structs, words_of_own}
 use Rattle.cap_spec.specs.Texts.{head, hex, label, line, own_lines, own_text, word_lines}
-use Rattle.cap_spec.specs.Tree.{Tree, null, cap, struct, scalars, pointers, structs}
-use Rattle.cap_spec.specs.declared.Kind.{Kind}
-use Rattle.cap_spec.specs.declared.Kind.TheVariants.{Struct, Scalars}
+use Rattle.cap_spec.specs.Tree.{Tree, cap, null, pointers, scalars, struct, structs}
+use Rattle.cap_spec.specs.declared.Kind.TheVariants.{Scalars, Struct}
 use Rattle.cap_spec.proofs.Canonical.Placing.{rest_at}
-use Rattle.cap_text.specs.Dumping.{head_of, word_letter_of}
-use Rattle.cap_text.specs.Paging.{Added, Adds, Halted}
+use Rattle.cap_text.specs.Dumping.{head_of}
+use Rattle.cap_text.specs.Prelude.{Kind, OutFault, word_letter_of, Added, Adds, Halted}
 use Rattle.cap_text.proofs.Paging.{Left, adds_then, left_done, left_step, left_stop}
+use Rattle.cap_words.specs.declared.ends.ByteOut as output
 
 -- a line that is put together from a name, a space and a text
 pub four_texts : (name text a b c d : List ℕ) → a ≡ name → b ≡ a ++ 32 ∷ [] → c ≡ b ++ text → d ≡ c ++ 10 ∷ [] → d ≡ name ++ 32 ∷ text ++ 10 ∷ []

@@ -1,11 +1,9 @@
 -- Texts that are put on a page one after the other.
-use Rattle.std.proofs.Common.{◌≡◌, ◌⊎◌, ℕ, List, [], ◌++◌, refl, sym, ap, ◌∙◌, append_assoc}
-use Rattle.std.proofs.Common.{append-nil, subst, Result, Ok, Err, inl, inr}
-use Rattle.cap_words.specs.declared.ends.ByteOut as output
-use Rattle.cap_words.specs.declared.ends.OutFault.{OutFault}
-use Rattle.cap_text.specs.Paging.{Added, Halted, Adds}
-use Rattle.cap_text.specs.Writing.{Wrote, Stopped, Writes}
+use Rattle.std.proofs.Common.{Err, List, Ok, Result, [], ap, append-nil, append_assoc, inl, inr, refl, subst, sym, ℕ}
+use Rattle.std.proofs.Common.{◌++◌, ◌∙◌, ◌≡◌, ◌⊎◌}
+use Rattle.cap_text.specs.Prelude.{OutFault, Added, Adds, Halted, Stopped, Writes, Wrote}
 use Rattle.cap_text.proofs.Writing.{stopped_more, stopped_then, writes_then, wrote_then}
+use Rattle.cap_words.specs.declared.ends.ByteOut as output
 
 module _ {O : Type 0} (g : output.Ghosts O) where
   -- nothing went out, or this text

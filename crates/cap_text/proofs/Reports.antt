@@ -1,5 +1,5 @@
 -- The numbers of an accepted message, appended one after the other.
-use Rattle.std.proofs.Common.{◌≡◌, ℕ, List, ◌∷◌, ◌++◌, codes, append_assoc}
+use Rattle.std.proofs.Common.{List, append_assoc, codes, ℕ, ◌++◌, ◌∷◌, ◌≡◌}
 
 -- four names with the digits of a number behind each
 pub four_parts : (line : List ℕ) {l1 l2 l3 l4 : List ℕ} (a b c d : List ℕ) → l1 ≡ line ++ (codes "accepted charge " ++ a)

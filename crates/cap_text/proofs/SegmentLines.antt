@@ -1,12 +1,11 @@
 -- The sizes of a message's segments one by one, and the text that they make.
-use Rattle.std.proofs.Common.{◌≡◌, ℕ, subst, ◌+◌, ◌<◌, List, ◌∷◌, ◌++◌, length, drop, get_or, refl, ap, codes, add-one}
-use Rattle.std.proofs.Math.Seq.{drop-cons}
-use Rattle.cap_words.specs.declared.ends.ByteOut as output
-use Rattle.cap_text.specs.Paging.{Added}
-use Rattle.cap_text.proofs.Paging.{Left, left_step}
+use Rattle.cap_spec.proofs.Prelude.{List, add-one, ap, codes, drop, drop-cons, get_or, length, refl, subst, ℕ, ◌++◌}
+use Rattle.cap_spec.proofs.Prelude.{◌+◌, ◌<◌, ◌∷◌, ◌≡◌, line, outline_text, segment_lines, segments_text, then_number}
 use Rattle.cap_frame.specs.Outlines.{Outlines, root_in, sizes_in}
 use Rattle.cap_frame.specs.declared.outline.Outline.{Outline}
-use Rattle.cap_spec.specs.Texts.{outline_text, segment_lines, segments_text, line, then_number}
+use Rattle.cap_text.specs.Paging.{Added}
+use Rattle.cap_text.proofs.Paging.{Left, left_step}
+use Rattle.cap_words.specs.declared.ends.ByteOut as output
 
 -- the sizes from the next one on
 pub drop_size : (ns : List ℕ) (s : ℕ) → s < length ns → drop s ns ≡ get_or ns s 0 ∷ drop (s + 1) ns

@@ -1,14 +1,13 @@
 -- Texts that are written one after the other.
-use Rattle.std.proofs.Common.{◌≡◌, ◌<◌, ℕ, true, List, [], ◌++◌, ◌+◌, Option, refl, sym, ap, ◌∙◌, append_assoc, append-nil, Result, Ok, Err}
-use Rattle.std.proofs.Common.{drop, length, take, take-append-drop}
-use Rattle.std.specs.Prelude.{IsErrOf, OnErr, OnOk}
-use Rattle.std.specs.Io.KnownBytes.{Appends, Keeps}
+use Rattle.std.proofs.Common.{Err, IsErrOf, List, Ok, OnErr, OnOk, Option, Result, [], ap, append-nil, append_assoc}
+use Rattle.std.proofs.Common.{drop, length, refl, sym, take, take-append-drop, true, ℕ, ◌++◌, ◌+◌, ◌<◌, ◌∙◌, ◌≡◌}
 use Rattle.std.proofs.KnownBytes.{Appends-kept, Appends-trans}
+use Rattle.std.specs.Io.KnownBytes.{Appends, Keeps}
 use Rattle.cap_words.specs.Ends.{DeviceFails, GrowthFails, WasSpent, Works}
-use Rattle.cap_words.specs.declared.ends.ByteOut as output
 use Rattle.cap_words.specs.declared.ends.OutFault.{OutFault}
 use Rattle.cap_words.specs.declared.ends.OutFault.TheVariants.{Device, Memory, Spent}
-use Rattle.cap_text.specs.Writing.{WritesPart, Wrote, Stopped, Writes}
+use Rattle.cap_text.specs.Writing.{Stopped, Writes, WritesPart, Wrote}
+use Rattle.cap_words.specs.declared.ends.ByteOut as output
 
 -- a beginning of the first text begins both
 pub part_more : (a b : Option (List ℕ)) (xs ys : List ℕ) → WritesPart a b xs → WritesPart a b (xs ++ ys)

@@ -1,12 +1,11 @@
 -- The lines of a dump by kinds of nodes, and how deep they nest (profile).
-use Rattle.std.specs.Prelude.{ℕ, zero, suc, ◌+◌, ◌==◌, if◌then◌else◌, max, List, ◌++◌, codes}
+use Rattle.std.specs.Prelude.{List, codes, if◌then◌else◌, max, suc, zero, ℕ, ◌++◌, ◌+◌, ◌==◌}
 use Rattle.cap_spec.specs.Texts.{then_number}
-use Rattle.cap_spec.specs.Tree.{Tree, null, cap, struct, scalars, pointers, structs, Trees, none}
-use Rattle.cap_spec.specs.Tree.{more}
+use Rattle.cap_spec.specs.Tree.{Tree, Trees, cap, more, none, null, pointers, scalars, struct, structs}
 use Rattle.cap_spec.specs.declared.Kind.{Kind}
-use Rattle.cap_spec.specs.declared.Kind.TheVariants.{Null, Cap, Struct, Scalars, Pointers, Structs}
+use Rattle.cap_spec.specs.declared.Kind.TheVariants.{Cap, Null, Pointers, Scalars, Struct, Structs}
 use Rattle.cap_spec.specs.declared.Step.{Step}
-use Rattle.cap_spec.specs.declared.Step.TheVariants.{Ptr, Item}
+use Rattle.cap_spec.specs.declared.Step.TheVariants.{Item, Ptr}
 
 -- the head of a node of a kind
 abbrev pub head_of : Kind → List ℕ

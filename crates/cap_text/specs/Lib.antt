@@ -3,3 +3,4 @@ pub mod FaultLines
 pub mod Lines
 pub mod Paging
 pub mod Writing
+pub mod Prelude

@@ -1,5 +1,5 @@
 -- The line of a message that is accepted (profile).
-use Rattle.std.specs.Prelude.{ℕ, List}
+use Rattle.std.specs.Prelude.{List, ℕ}
 use Rattle.cap_spec.specs.Texts.{accepted, vet_text}
 use Rattle.cap_vet.specs.declared.report.Report.{Report}
 

@@ -1,11 +1,11 @@
 -- What a call that writes a text says of its output before and after (profile). g has the members
 -- of the output's type.
-use Rattle.std.specs.Prelude.{ℕ, ◌≡◌, true, List, ◌++◌, Option, Result, MatchResult}
 use Rattle.std.specs.Io.KnownBytes.{Appends}
-use Rattle.cap_words.specs.Ends.{Works, DeviceFails, GrowthFails}
-use Rattle.cap_words.specs.declared.ends.ByteOut as output
+use Rattle.std.specs.Prelude.{List, MatchResult, Option, Result, true, ℕ, ◌++◌, ◌≡◌}
+use Rattle.cap_words.specs.Ends.{DeviceFails, GrowthFails, Works}
 use Rattle.cap_words.specs.declared.ends.OutFault.{OutFault}
 use Rattle.cap_words.specs.declared.ends.OutFault.TheVariants.{Device, Memory, Spent}
+use Rattle.cap_words.specs.declared.ends.ByteOut as output
 
 -- a prefix of the text was written
 pub record WritesPart (before after : Option (List ℕ)) (text : List ℕ) : Type 0 where

@@ -1,15 +1,11 @@
 -- The branches on the way down to a word, the last of them and the next word.
-use Rattle.std.proofs.Common.{ℕ, zero, suc, ◌+◌, ◌-◌, ◌*◌, ◌<◌, ◌≤◌, ◌^◌, ◌≡◌, List, [], ◌∷◌, ◌++◌, length, refl, sym, ap, ap₂, ◌∙◌, subst, arith, append_assoc, Some}
-use Rattle.std.proofs.lemmas.List.{append-nil}
-use Rattle.cap_spec.specs.Messages.{segment_of}
-use Rattle.cap_spec.specs.declared.Step.{Step}
-use Rattle.cap_spec.specs.declared.Step.TheVariants.{Ptr, Item}
+use Rattle.cap_spec.proofs.Prelude.{List, Some, [], ap, append-nil, append_assoc, ap₂, arith, length, refl, subst, suc}
+use Rattle.cap_spec.proofs.Prelude.{sym, zero, ℕ, ◌*◌, ◌++◌, ◌+◌, ◌-◌, ◌<◌, ◌^◌, ◌∙◌, ◌∷◌, ◌≡◌, ◌≤◌, segment_of}
 use Rattle.cap_vet.specs.Trails.{Ahead}
-use Rattle.cap_trace.specs.Branches.{AreBranches, IsBranch, IsFormed, form_row, path_from, path_of, rest_from, rest_of, row_left, skipped, steps_of, word_of, words_of_object}
-use Rattle.cap_trace.specs.Traces.{word_ahead}
-use Rattle.cap_trace.specs.declared.branch.Branch.{Branch}
-use Rattle.cap_trace.specs.declared.branch.Form.{Form}
-use Rattle.cap_trace.specs.declared.branch.Form.TheVariants.{Root, Struct, Pointers, Structs}
+use Rattle.cap_trace.specs.Branches.{form_row, path_from, words_of_object}
+use Rattle.cap_trace.specs.Prelude.{Step, Item, Ptr, AreBranches, IsBranch, IsFormed, path_of, rest_from, rest_of}
+use Rattle.cap_trace.specs.Prelude.{row_left, skipped, steps_of, word_of, word_ahead, Branch, Form, Pointers, Root}
+use Rattle.cap_trace.specs.Prelude.{Struct, Structs}
 
 -- the path over one more branch
 pub path_from-last : (base : List Step) (fs : List Branch) (f : Branch)

@@ -1,19 +1,13 @@
 -- A search comes to the pointer words of a message one after the other.
-use Rattle.std.proofs.Common.{sym, ◌⊎◌, ℕ, ◌≡◌, ◌∙◌, ◌+◌, ◌<◌, ◌≤◌, ap, inl, inr, List, [], ◌∷◌, ◌++◌, length, refl, subst, arith, length-append, Some}
-use Rattle.cap_spec.specs.Lists.{IsOneOf}
-use Rattle.cap_spec.specs.Messages.{segment_of}
-use Rattle.cap_spec.specs.Paths.{Before, StepsTo, IsNumbered, IsTour, Reaches, Spot, PathLeads, element, level_of, word}
-use Rattle.cap_spec.specs.declared.Step.{Step}
-use Rattle.cap_spec.proofs.Frames.Messages.{HasWord-inside}
-use Rattle.cap_spec.proofs.Paths.Preorder.{Before-asymmetric, Before-irreflexive}
+use Rattle.cap_spec.proofs.Lemmas.{HasWord-inside, Before-asymmetric, Before-irreflexive, one_reached, one_of_last}
+use Rattle.cap_spec.proofs.Prelude.{List, Some, [], ap, arith, inl, inr, length, length-append, refl, subst, sym, ℕ}
+use Rattle.cap_spec.proofs.Prelude.{◌++◌, ◌+◌, ◌<◌, ◌∙◌, ◌∷◌, ◌≡◌, ◌≤◌, ◌⊎◌, IsOneOf, segment_of, Before, IsNumbered}
+use Rattle.cap_spec.proofs.Prelude.{IsTour, PathLeads, Reaches, Spot, StepsTo, element, level_of, word}
 use Rattle.cap_vet.specs.Trails.{IsTrail}
 use Rattle.cap_vet.proofs.OneTrail.{root_trail}
-use Rattle.cap_trace.specs.Branches.{AreBranches, path_of, rest_from, root_branch}
-use Rattle.cap_trace.specs.PointerNumbers.{IsTraceable, PassesAt}
-use Rattle.cap_spec.proofs.Paths.Walks.{one_reached}
-use Rattle.cap_spec.proofs.Verdicts.OneFault.{one_of_last}
-use Rattle.cap_trace.specs.Traces.{HasCome, IsBlockedAt, TellsPath, filled, word_ahead}
-use Rattle.cap_trace.specs.declared.branch.Branch.{Branch}
+use Rattle.cap_trace.specs.Branches.{root_branch}
+use Rattle.cap_trace.specs.Prelude.{Step, AreBranches, path_of, rest_from, IsTraceable, PassesAt, HasCome, IsBlockedAt}
+use Rattle.cap_trace.specs.Prelude.{TellsPath, filled, word_ahead, Branch}
 use Rattle.cap_trace.proofs.Branches.{branches_without}
 use Rattle.cap_trace.proofs.Numbering.{number_order}
 use Rattle.cap_trace.proofs.Onward.{next_tour, root_tour, up_to_last}

@@ -1,11 +1,8 @@
 -- Steps are written one after the other, as far as there is capacity.
-use Rattle.std.proofs.Common.{ℕ, zero, suc, ◌≡◌, ◌+◌, ◌<◌, ◌≤◌, List, [], ◌∷◌, ◌++◌, length, take, set, get_or, length-append, refl, ap, sym, ◌∙◌, arith, Option, None, Some}
-use Rattle.std.specs.Option.{option_to_list}
+use Rattle.std.proofs.Common.{List, None, Option, Some, [], ap, arith, get_or, length, length-append, option_to_list}
+use Rattle.std.proofs.Common.{refl, set, suc, sym, take, zero, ℕ, ◌++◌, ◌+◌, ◌<◌, ◌∙◌, ◌∷◌, ◌≡◌, ◌≤◌}
 use Rattle.std.proofs.lemmas.List.{take_more}
-use Rattle.cap_spec.specs.declared.Step.{Step}
-use Rattle.cap_trace.specs.Branches.{path_of, steps_of}
-use Rattle.cap_trace.specs.Traces.{filled}
-use Rattle.cap_trace.specs.declared.branch.Branch.{Branch}
+use Rattle.cap_trace.specs.Prelude.{Step, path_of, steps_of, filled, Branch}
 use Rattle.cap_trace.proofs.Branches.{path_from-last}
 
 take_none : (n : ℕ) → ◌≡◌ {A = List Step} (take n []) []

@@ -1,16 +1,11 @@
 -- A search goes on past words with nothing below them.
-use Rattle.std.proofs.Common.{ℕ, ◌+◌, ◌<◌, ◌≡◌, List, [], ◌∷◌, ◌++◌, None, arith, refl, subst}
-use Rattle.cap_spec.specs.Following.{Leads, near, to_cap, to_null}
-use Rattle.cap_spec.specs.Messages.{HasWord}
-use Rattle.cap_spec.specs.declared.Step.{Step}
 use Rattle.cap_spec.proofs.Pointers.Following.{cap-not_wrong, null-not_wrong}
+use Rattle.cap_spec.proofs.Prelude.{List, None, [], arith, refl, subst, ℕ, ◌++◌, ◌+◌, ◌<◌, ◌∷◌, ◌≡◌, Leads, near}
+use Rattle.cap_spec.proofs.Prelude.{to_cap, to_null, HasWord}
 use Rattle.cap_vet.specs.Trails.{Ahead, IsTrail}
-use Rattle.cap_trace.specs.Branches.{IsBranch, IsFormed, form_skipped, path_of, rest_from, rest_of, row_left, skipped, word_of}
-use Rattle.cap_trace.specs.Traces.{GoesBelow, HasCome}
-use Rattle.cap_trace.specs.declared.below.Below.TheVariants.{Object}
-use Rattle.cap_trace.specs.declared.branch.Branch.{Branch}
-use Rattle.cap_trace.specs.declared.branch.Form.{Form}
-use Rattle.cap_trace.specs.declared.branch.Form.TheVariants.{Root, Struct, Pointers, Structs}
+use Rattle.cap_trace.specs.Branches.{form_skipped}
+use Rattle.cap_trace.specs.Prelude.{Step, IsBranch, IsFormed, path_of, rest_from, rest_of, row_left, skipped, word_of}
+use Rattle.cap_trace.specs.Prelude.{GoesBelow, HasCome, Object, Branch, Form, Pointers, Root, Struct, Structs}
 use Rattle.cap_trace.proofs.Branches.{branch_in_row, branches_with, branches_without, next_in_row, went_next}
 use Rattle.cap_trace.proofs.Coming.{came_next}
 use Rattle.cap_trace.proofs.Onward.{cap_finds_none, leaf_trail, null_finds_none}

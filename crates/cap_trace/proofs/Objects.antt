@@ -1,28 +1,16 @@
 -- The first pointer word of an object, as a branch.
-use Rattle.std.proofs.Common.{ℕ, zero, suc, ◌+◌, ◌-◌, ◌*◌, ◌<◌, ◌≤◌, ◌^◌, ◌≡◌, ◌⊎◌, inl, inr, List, [], ◌∷◌, ◌++◌, length, refl, sym, ap, ◌∙◌, subst, arith, append_assoc, Fits, w32}
-use Rattle.cap_spec.specs.Messages.{IsMessage, segment_of}
-use Rattle.cap_spec.specs.Pointers.{code, middle, data_size, pointer_size, list_size}
-use Rattle.cap_spec.specs.Denoting.{element_levels}
-use Rattle.cap_spec.specs.Following.{IsComposite, TagFits}
-use Rattle.cap_spec.specs.declared.Step.{Step}
-use Rattle.cap_spec.specs.declared.Step.TheVariants.{Ptr, Item}
-use Rattle.cap_spec.proofs.Frames.Messages.{short_segment}
-use Rattle.cap_spec.proofs.Trees.Charges.{extent_structs}
-use Rattle.std.proofs.lemmas.Bool.Decides.{eqb_tells}
-use Rattle.cap_spec.specs.Verdicts.{levels_below, IsDeepAt}
+use Rattle.cap_spec.proofs.Lemmas.{one_word, short_segment, extent_structs, one_object}
+use Rattle.cap_spec.proofs.Prelude.{Fits, List, [], ap, append_assoc, arith, inl, inr, length, refl, subst, suc, sym}
+use Rattle.cap_spec.proofs.Prelude.{w32, zero, ℕ, ◌*◌, ◌++◌, ◌+◌, ◌-◌, ◌<◌, ◌^◌, ◌∙◌, ◌∷◌, ◌≡◌, ◌≤◌, ◌⊎◌, eqb_tells}
+use Rattle.cap_spec.proofs.Prelude.{element_levels, IsComposite, TagFits, HasWord, IsMessage, segment_of, code}
+use Rattle.cap_spec.proofs.Prelude.{data_size, list_size, middle, pointer_size, IsDeepAt, levels_below}
 use Rattle.cap_ptr.specs.Shapes.{FindsObject, FindsTargetBy, IsShape}
-use Rattle.cap_ptr.specs.declared.shapes.Target.{Target}
-use Rattle.cap_spec.specs.Messages.{HasWord}
-use Rattle.cap_spec.proofs.Frames.Messages.{one_word}
-use Rattle.cap_spec.proofs.Trees.Finding.{one_object}
 use Rattle.cap_ptr.specs.declared.shapes.Shape.{Shape}
-use Rattle.cap_vet.specs.Levels.{levels_of}
-use Rattle.cap_ptr.specs.declared.shapes.Shape.TheVariants as shape
-use Rattle.cap_vet.specs.Looking.{object_children}
-use Rattle.cap_vet.specs.Trails.{Ahead, element_rows}
-use Rattle.cap_trace.specs.Branches.{IsBranch, word_of, rest_of}
-use Rattle.cap_trace.specs.declared.branch.Form.TheVariants.{Struct, Pointers, Structs}
+use Rattle.cap_ptr.specs.declared.shapes.Target.{Target}
+use Rattle.cap_vet.specs.Prelude.{levels_of, object_children, Ahead, element_rows}
+use Rattle.cap_trace.specs.Prelude.{Step, Item, Ptr, IsBranch, rest_of, word_of, Pointers, Struct, Structs}
 use Rattle.cap_trace.proofs.Branches.{branch}
+use Rattle.cap_ptr.specs.declared.shapes.Shape.TheVariants as shape
 
 pub struct_words : (m : List (List ℕ)) (s w : ℕ) {k t b : ℕ} (q tag : ℕ) {n c : ℕ} (d : ℕ) {p at left : ℕ} (level : ℕ)
     → FindsObject m s w k t b q tag n c (shape.Struct d p) → at ≡ b + d → 0 < p → left ≡ p - 1 → (base : List Step)

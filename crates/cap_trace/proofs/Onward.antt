@@ -1,20 +1,13 @@
 -- How a search goes on from one pointer word to the next.
-use Rattle.std.proofs.Common.{ℕ, ◌≡◌, ◌<◌, ◌⊎◌, inl, inr, List, [], ◌∷◌, ◌++◌, length, refl, sym, ◌∙◌, subst}
-use Rattle.std.proofs.lemmas.List.{append-nil}
-use Rattle.std.specs.Prelude.{pos}
-use Rattle.cap_spec.specs.Lists.{IsOneOf}
-use Rattle.cap_spec.specs.Denoting.{Finds}
-use Rattle.cap_spec.specs.Following.{Leads, to_cap, to_null, to_object}
-use Rattle.cap_spec.specs.Messages.{segment_of}
-use Rattle.cap_spec.specs.Paths.{Before, StepsTo, IsTour, Reaches, Spot, word}
-use Rattle.cap_spec.specs.declared.Step.{Step}
-use Rattle.cap_spec.specs.declared.Step.TheVariants.{Ptr, Item}
-use Rattle.cap_spec.proofs.Frames.Messages.{HasWord-at}
-use Rattle.cap_spec.proofs.Paths.Preorder.{Before-asymmetric, Before-irreflexive, Before-longer, Before-trans}
-use Rattle.cap_spec.proofs.Paths.Walks.{comes_beyond}
-use Rattle.cap_spec.proofs.Pointers.Following.{one_lead}
-use Rattle.cap_spec.proofs.Verdicts.OneFault.{last_is_one, one_of_last}
+use Rattle.cap_spec.proofs.Lemmas.{HasWord-at, Before-asymmetric, Before-irreflexive, Before-trans, comes_beyond}
+use Rattle.cap_spec.proofs.Lemmas.{one_lead, one_of_last}
+use Rattle.cap_spec.proofs.Paths.Preorder.{Before-longer}
+use Rattle.cap_spec.proofs.Prelude.{List, [], append-nil, inl, inr, length, pos, refl, subst, sym, ℕ, ◌++◌, ◌<◌, ◌∙◌}
+use Rattle.cap_spec.proofs.Prelude.{◌∷◌, ◌≡◌, ◌⊎◌, Finds, Leads, to_cap, to_null, to_object, IsOneOf, segment_of}
+use Rattle.cap_spec.proofs.Prelude.{Before, IsTour, Reaches, Spot, StepsTo, word}
+use Rattle.cap_spec.proofs.Verdicts.OneFault.{last_is_one}
 use Rattle.cap_vet.specs.Trails.{Ahead, Apart, EachApart, Falls, IsTrail, IsUnder, Precedes}
+use Rattle.cap_trace.specs.Prelude.{Step, Item, Ptr}
 use Rattle.cap_trace.proofs.Numbering.{Rises-last, before_later}
 
 -- paths that are apart are in order

@@ -1,29 +1,17 @@
 -- The first pointer word of an object that one word describes alone.
-use Rattle.std.proofs.Common.{ℕ, suc, ◌+◌, ◌<◌, ◌≤◌, ◌≡◌, ◌∙◌, ◌==◌, inl, inr, List, [], ◌∷◌, ◌++◌, false, None, Some, refl, sym, ap, subst, arith}
-use Rattle.std.proofs.lemmas.Bool.{ne_eqb}
-use Rattle.std.specs.Prelude.{pos}
-use Rattle.cap_spec.specs.Following.{IsComposite, to_object}
-use Rattle.cap_spec.specs.Denoting.{Finds}
-use Rattle.cap_spec.specs.Messages.{HasWord}
-use Rattle.cap_spec.specs.Pointers.{code, kind, list_size, pointer_size}
-use Rattle.cap_spec.specs.Verdicts.{levels_below}
-use Rattle.cap_spec.specs.declared.Step.{Step}
-use Rattle.cap_spec.proofs.Pointers.Following.{leads-near, object-not_wrong}
-use Rattle.cap_spec.proofs.Trees.Finding.{one_object}
+use Rattle.cap_spec.proofs.Lemmas.{leads-near, object-not_wrong, one_object}
+use Rattle.cap_spec.proofs.Prelude.{List, None, Some, [], ap, arith, false, inl, inr, ne_eqb, pos, refl, subst, suc}
+use Rattle.cap_spec.proofs.Prelude.{sym, ℕ, ◌++◌, ◌+◌, ◌<◌, ◌==◌, ◌∙◌, ◌∷◌, ◌≡◌, ◌≤◌, Finds, IsComposite, to_object}
+use Rattle.cap_spec.proofs.Prelude.{HasWord, code, kind, list_size, pointer_size, levels_below}
 use Rattle.cap_ptr.specs.Rows.{FindsRow, HasPointers}
 use Rattle.cap_ptr.specs.declared.near.Row.{Row}
 use Rattle.cap_ptr.proofs.NearObjects.{pointers-plain}
-use Rattle.cap_vet.specs.Looking.{object_children}
-use Rattle.cap_vet.specs.Trails.{Ahead, IsTrail}
+use Rattle.cap_vet.specs.Prelude.{object_children, Ahead, IsTrail}
 use Rattle.cap_vet.proofs.OneTrail.{object_trail}
-use Rattle.cap_trace.specs.Branches.{IsBranch, rest_of, word_of}
 use Rattle.cap_trace.specs.NearPointers.{IsNearPointer}
-use Rattle.cap_trace.specs.PointerNumbers.{PassesAt}
-use Rattle.cap_trace.specs.Traces.{GoesBelow, IsBlockedAt}
-use Rattle.cap_trace.specs.declared.below.Below.TheVariants.{Object}
-use Rattle.cap_trace.specs.declared.branch.Branch.{Branch}
+use Rattle.cap_trace.specs.Prelude.{Step, IsBranch, rest_of, word_of, PassesAt, GoesBelow, IsBlockedAt, Object, Branch}
+use Rattle.cap_trace.specs.Prelude.{Pointers}
 use Rattle.cap_trace.specs.declared.near.NearPointer.{NearPointer}
-use Rattle.cap_trace.specs.declared.branch.Form.TheVariants.{Pointers}
 use Rattle.cap_trace.proofs.Branches.{branch}
 
 -- such an object takes no levels below its own

@@ -1,23 +1,12 @@
 -- The pointer that a verdict names can be traced.
-use Rattle.std.proofs.Common.{ℕ, ◌≡◌, ◌⊎◌, inl, inr, List, [], ◌∷◌, ◌++◌, length, sym, ap, ◌∙◌, subst, arith, Option, None, Some}
-use Rattle.cap_spec.specs.Accepting.{IsWithin}
-use Rattle.cap_spec.specs.Lists.{IsOneOf}
-use Rattle.cap_spec.specs.Faults.{IsFirstFault}
-use Rattle.cap_spec.specs.Following.{Wrong}
-use Rattle.cap_spec.specs.Occupying.{IsFirstOverlap}
-use Rattle.cap_spec.specs.Paths.{Before, Reaches}
-use Rattle.cap_spec.specs.Strict.{IsFirstLax}
-use Rattle.cap_spec.specs.Verdicts.{CostOf}
-use Rattle.cap_spec.specs.declared.Lax.{Lax}
 use Rattle.cap_spec.specs.declared.Reason.{Reason}
-use Rattle.cap_spec.specs.declared.Refusal.{Refusal}
-use Rattle.cap_spec.specs.declared.Step.{Step}
-use Rattle.cap_spec.proofs.Paths.Preorder.{Before-irreflexive}
-use Rattle.cap_spec.proofs.Paths.Walks.{one_reached}
-use Rattle.cap_spec.proofs.Verdicts.OneFault.{costs_not_wrong, one_of_last}
-use Rattle.cap_spec.proofs.Verdicts.OneVerdict.{paths_within_depth, reached_not_wrong}
-use Rattle.cap_trace.specs.PointerNumbers.{IsPassable, IsTraceable}
-use Rattle.cap_trace.specs.Traces.{GivesPath, TellsPath, filled}
+use Rattle.cap_spec.proofs.Lemmas.{Before-irreflexive, one_reached, one_of_last, paths_within_depth, reached_not_wrong}
+use Rattle.cap_spec.proofs.Prelude.{List, None, Option, Some, [], ap, arith, inl, inr, length, subst, sym, ℕ, ◌++◌, ◌∙◌}
+use Rattle.cap_spec.proofs.Prelude.{◌∷◌, ◌≡◌, ◌⊎◌, IsWithin, IsFirstFault, Wrong, IsOneOf, IsFirstOverlap, Before}
+use Rattle.cap_spec.proofs.Prelude.{Reaches, IsFirstLax, CostOf}
+use Rattle.cap_spec.proofs.Verdicts.OneFault.{costs_not_wrong}
+use Rattle.cap_trace.specs.PointerNumbers.{IsPassable}
+use Rattle.cap_trace.specs.Prelude.{Lax, Refusal, Step, IsTraceable, GivesPath, TellsPath, filled}
 use Rattle.cap_trace.proofs.Numbering.{one_numbered}
 
 -- nothing is wrong at the paths that have a cost

@@ -1,12 +1,12 @@
 -- The objects on the way down to a pointer word, and the pointer words that come after it (profile).
-use Rattle.std.specs.Prelude.{ℕ, ◌+◌, ◌-◌, ◌*◌, ◌<◌, ◌≤◌, ◌≡◌, ◌^◌, List, [], ◌∷◌, ◌++◌, length, Option, None, Some, ⊤}
+use Rattle.std.specs.Prelude.{List, None, Option, Some, [], length, ℕ, ⊤, ◌*◌, ◌++◌, ◌+◌, ◌-◌, ◌<◌, ◌^◌, ◌∷◌, ◌≡◌, ◌≤◌}
 use Rattle.cap_spec.specs.Messages.{segment_of}
 use Rattle.cap_spec.specs.declared.Step.{Step}
-use Rattle.cap_spec.specs.declared.Step.TheVariants.{Ptr, Item}
+use Rattle.cap_spec.specs.declared.Step.TheVariants.{Item, Ptr}
 use Rattle.cap_vet.specs.Trails.{Ahead, element_rows, row}
 use Rattle.cap_trace.specs.declared.branch.Branch.{Branch}
 use Rattle.cap_trace.specs.declared.branch.Form.{Form}
-use Rattle.cap_trace.specs.declared.branch.Form.TheVariants.{Root, Struct, Pointers, Structs}
+use Rattle.cap_trace.specs.declared.branch.Form.TheVariants.{Pointers, Root, Struct, Structs}
 
 -- the steps from the object to the word
 abbrev pub form_steps : Form → ℕ → ℕ → List Step

@@ -1,15 +1,15 @@
 -- The path to the pointer that a refusal names (profile).
-use Rattle.std.specs.Prelude.{ℕ, List, Option, None, Some}
 use Rattle.std.proofs.Common.{inl, inr}
+use Rattle.std.specs.Prelude.{List, None, Option, Some, ℕ}
 use Rattle.cap_spec.specs.Faults.{IsRefused}
 use Rattle.cap_spec.specs.declared.Refusal.{Refusal}
 use Rattle.cap_spec.specs.declared.Step.{Step}
 use Rattle.cap_spec.specs.declared.StrictRefusal.{StrictRefusal}
-use Rattle.cap_spec.specs.declared.StrictRefusal.TheVariants.{Refused, ManySegments, Pointer}
-use Rattle.cap_trace.specs.PointerNumbers.{IsTraceable}
-use Rattle.cap_trace.specs.Traces.{IsMissing}
+use Rattle.cap_spec.specs.declared.StrictRefusal.TheVariants.{ManySegments, Pointer, Refused}
 use Rattle.cap_vet.specs.Demands.{IsDemandFault, words_under}
 use Rattle.cap_vet.specs.declared.demands.Demands.{Demands}
+use Rattle.cap_trace.specs.PointerNumbers.{IsTraceable}
+use Rattle.cap_trace.specs.Traces.{IsMissing}
 
 -- the number of the pointer that is named, and 0 if none is
 abbrev pub pointer_number : StrictRefusal → ℕ

@@ -1,5 +1,5 @@
 -- The word that takes the place of a pointer word (profile).
-use Rattle.std.specs.Prelude.{ℕ, ◌≤◌, List}
+use Rattle.std.specs.Prelude.{List, ℕ, ◌≤◌}
 use Rattle.cap_spec.specs.Messages.{HasWord}
 use Rattle.cap_ptr.specs.Reaching.{ResolvesTo}
 use Rattle.cap_trace.specs.declared.near.NearPointer.{NearPointer}

@@ -1,12 +1,12 @@
 -- How a search for the pointer word of a number goes on, with space for N branches (profile).
-use Rattle.std.specs.Prelude.{ℕ, ◌+◌, ◌<◌, ◌≡◌, ◌≤◌, List, None, length}
+use Rattle.std.specs.Prelude.{List, None, length, ℕ, ◌+◌, ◌<◌, ◌≡◌, ◌≤◌}
 use Rattle.cap_trace.specs.Traces.{GoesBelow, HasCome, IsMissing}
 use Rattle.cap_trace.specs.declared.below.Below.TheVariants.{Object}
 use Rattle.cap_trace.specs.declared.branch.Branch.{Branch}
 use Rattle.cap_trace.specs.declared.seeking.Looked.{Looked}
-use Rattle.cap_trace.specs.declared.seeking.Looked.TheVariants.{Went, Nothing, Unknown}
+use Rattle.cap_trace.specs.declared.seeking.Looked.TheVariants.{Nothing, Unknown, Went}
 use Rattle.cap_trace.specs.declared.seeking.Passed.{Passed}
-use Rattle.cap_trace.specs.declared.seeking.Passed.TheVariants.{On, Ended, Full}
+use Rattle.cap_trace.specs.declared.seeking.Passed.TheVariants.{Ended, Full, On}
 use Rattle.cap_trace.specs.declared.seeking.Sought.{Sought}
 use Rattle.cap_trace.specs.declared.seeking.Sought.TheVariants.{Found, Missing, Full as full}
 

@@ -1,15 +1,14 @@
 -- How a search for the pointer word of a number goes on, and what it comes to (profile).
-use Rattle.std.specs.Prelude.{ℕ, ◌+◌, ◌≡◌, ◌⊎◌, List, [], ◌∷◌, ◌++◌, drop, length, take, Option, None, Some, ⊤}
-use Rattle.cap_spec.specs.Verdicts.{IsDeepAt}
-use Rattle.cap_spec.specs.Following.{Wrong}
-use Rattle.cap_spec.specs.Paths.{Before, IsTour}
+use Rattle.std.specs.Prelude.{List, None, Option, Some, [], drop, length, take, ℕ, ⊤, ◌++◌, ◌+◌, ◌∷◌, ◌≡◌, ◌⊎◌}
+use Rattle.cap_spec.specs.Paths.{IsTour}
+use Rattle.cap_spec.specs.Prelude.{Wrong, Before, IsDeepAt}
 use Rattle.cap_spec.specs.declared.Reason.{Reason}
 use Rattle.cap_spec.specs.declared.Step.{Step}
 use Rattle.cap_vet.specs.Trails.{Ahead, IsTrail}
 use Rattle.cap_trace.specs.Branches.{AreBranches, IsBranch, path_of, rest_from, words_of_object}
 use Rattle.cap_trace.specs.PointerNumbers.{IsPassable, IsTraceable, PassesAt}
 use Rattle.cap_trace.specs.declared.below.Below.{Below}
-use Rattle.cap_trace.specs.declared.below.Below.TheVariants.{Object, Blocked}
+use Rattle.cap_trace.specs.declared.below.Below.TheVariants.{Blocked, Object}
 use Rattle.cap_trace.specs.declared.branch.Branch.{Branch}
 
 abbrev pub OptionBranch : List (List ℕ) → ℕ → ℕ → Option Branch → Type 0

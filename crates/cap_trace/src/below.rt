@@ -1,13 +1,13 @@
 //! What a pointer word leads to, as the object that the way goes on through.
 
 ghost use Rattle.cap_ptr.specs.Shapes.{FindsTarget, FindsTargetBy};
-ghost use Rattle.cap_spec.specs.Messages.{IsMessage, segment_of};
+ghost use Rattle.cap_spec.specs.Messages.{IsMessage};
 ghost use Rattle.cap_spec.specs.declared.Step.{Step};
 ghost use Rattle.cap_trace.specs.Branches.{IsBranch, words_of_object};
 ghost use Rattle.cap_trace.specs.Traces.{GoesBelow, OptionBranch};
 ghost use Rattle.cap_vet.specs.Levels.{levels_of};
 ghost use Rattle.cap_vet.specs.Looking.{object_children};
-ghost use Rattle.std.specs.Prelude.{◌+◌, ◌<◌, ◌^◌, ◌≡◌, ◌≤◌, List, length, ℕ};
+ghost use Rattle.std.specs.Prelude.{◌+◌, ◌<◌, ◌^◌, ◌≡◌, ◌≤◌, List, ℕ};
 
 use crate::branch::{Branch, Form};
 use cap_frame::Segments;

@@ -1,29 +1,14 @@
 -- What a path arrives at, step by step, and what following the pointers on it costs.
-use Rattle.std.proofs.Common.{ℕ, zero, suc, ◌+◌, ◌-◌, ◌<◌, ◌≤◌, List, [], ◌∷◌, ◌++◌, ◌≡◌, refl, subst, arith}
-use Rattle.std.proofs.Common.{inl, inr, length, length-append, Option, None}
-use Rattle.std.proofs.lemmas.Bool.Decides.{leb_tells}
-use Rattle.cap_spec.specs.Arriving.{PathFinds}
-use Rattle.cap_spec.specs.Denoting.{Finds, element_levels}
-use Rattle.cap_spec.specs.Faults.{AreShallow, IsFirstReason}
-use Rattle.cap_spec.specs.Following.{IsComposite}
-use Rattle.cap_spec.specs.Getting.{AreOnPath, Charges, IsFaultOnPath}
-use Rattle.cap_spec.specs.Messages.{HasWord, segment_of}
-use Rattle.cap_spec.specs.Pointers.{middle}
-use Rattle.cap_spec.specs.Paths.{ReachesSpot, Costs, StepsTo, Reaches, Spot, element, word}
-use Rattle.cap_spec.specs.Verdicts.{levels_below, IsDeepAt}
-use Rattle.cap_spec.specs.declared.Kind.{Kind}
-use Rattle.cap_spec.specs.declared.Reason.{Reason}
-use Rattle.cap_spec.specs.declared.Refusal.{Refusal}
-use Rattle.cap_spec.specs.declared.Step.{Step}
-use Rattle.cap_spec.specs.declared.Step.TheVariants.{Ptr, Item}
-use Rattle.cap_spec.proofs.Verdicts.OnPath.{begins_itself, begins_longer, cost_last, on_element, on_nowhere, on_root, on_word, shallow_last}
 use Rattle.cap_spec.proofs.Paths.Walks.{coming_last}
-use Rattle.cap_vet.specs.Charging.{Arrives}
-use Rattle.cap_vet.specs.PathStrictness.{AddsPointer, KnowsLaxOnPath}
-use Rattle.cap_vet.specs.Finding.{IsFound, element_of}
-use Rattle.cap_vet.specs.declared.nodes.charged.Arrival.{Arrival}
-use Rattle.cap_vet.specs.declared.nodes.found.Found.{Found}
-use Rattle.cap_vet.specs.declared.strictness.strict_turn.LaxPointer.{LaxPointer}
+use Rattle.cap_spec.proofs.Prelude.{List, None, Option, [], arith, inl, inr, length, length-append, refl, subst, suc}
+use Rattle.cap_spec.proofs.Prelude.{zero, ℕ, ◌++◌, ◌+◌, ◌-◌, ◌<◌, ◌∷◌, ◌≡◌, ◌≤◌, leb_tells, PathFinds, Finds}
+use Rattle.cap_spec.proofs.Prelude.{element_levels, AreShallow, IsFirstReason, IsComposite, AreOnPath, Charges}
+use Rattle.cap_spec.proofs.Prelude.{IsFaultOnPath, HasWord, segment_of, Costs, Reaches, ReachesSpot, Spot, StepsTo}
+use Rattle.cap_spec.proofs.Prelude.{element, word, middle, IsDeepAt, levels_below}
+use Rattle.cap_spec.proofs.Verdicts.OnPath.{begins_itself, begins_longer, cost_last, on_element, on_nowhere, on_root}
+use Rattle.cap_spec.proofs.Verdicts.OnPath.{on_word, shallow_last}
+use Rattle.cap_vet.specs.Prelude.{Kind, Reason, Refusal, Step, Item, Ptr, Arrives, IsFound, element_of, AddsPointer}
+use Rattle.cap_vet.specs.Prelude.{KnowsLaxOnPath, Arrival, Found, LaxPointer}
 use Rattle.cap_vet.proofs.NodeSteps.{comes_nowhere}
 use Rattle.cap_vet.proofs.PathLax.{lax_added, lax_same}
 

@@ -1,15 +1,12 @@
 -- The children of a pointer word on a trail.
-use Rattle.std.proofs.Common.{◌≡◌, ℕ, zero, suc, ◌+◌, ◌<◌, inl, inr, List, [], ◌∷◌, ◌++◌, refl, sym, ap, subst, arith, append_assoc}
-use Rattle.cap_spec.specs.Pointers.{kind, code, data_size, pointer_size, list_size}
-use Rattle.cap_spec.specs.Denoting.{Finds}
+use Rattle.cap_spec.proofs.Paths.Walks.{comes_beyond, walk_on}
+use Rattle.cap_spec.proofs.Prelude.{List, [], ap, append_assoc, arith, inl, inr, refl, subst, suc, sym, zero, ℕ, ◌++◌}
+use Rattle.cap_spec.proofs.Prelude.{◌+◌, ◌<◌, ◌∷◌, ◌≡◌, Finds, PathLeads, Reaches, Spot, StepsTo, number_of, word, code}
+use Rattle.cap_spec.proofs.Prelude.{data_size, kind, list_size, pointer_size}
 use Rattle.cap_spec.proofs.Trees.Finding.{SameObject, one_object}
-use Rattle.cap_spec.specs.Paths.{StepsTo, Reaches, Spot, PathLeads, number_of, word}
-use Rattle.cap_spec.specs.declared.Step.{Step}
-use Rattle.cap_spec.specs.declared.Step.TheVariants.{Ptr, Item}
-use Rattle.cap_vet.specs.Trails.{EachApart, AreReached, GoOnFrom, IsUnder, row}
+use Rattle.cap_vet.specs.Prelude.{Step, Item, Ptr, AreReached, EachApart, GoOnFrom, IsUnder, row}
 use Rattle.cap_vet.proofs.Apart.{Apart-steps}
 use Rattle.cap_vet.proofs.Trails.{AreChildren}
-use Rattle.cap_spec.proofs.Paths.Walks.{comes_beyond, walk_on}
 
 -- what reaches a pointer word behind one that is reached goes on from it by steps of its own
 pub beyond : (m : List (List ℕ)) (base : List Step) (x : Step) (v : List Step) (level level' s w s' w' : ℕ)

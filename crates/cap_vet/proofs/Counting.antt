@@ -1,9 +1,8 @@
 -- How a count goes on when the first word ahead is looked at.
-use Rattle.std.proofs.Common.{◌≡◌, ℕ, ◌+◌, max, List, ◌∷◌, ◌++◌, refl, subst, arith}
-use Rattle.cap_spec.specs.Denoting.{Denotes}
-use Rattle.cap_spec.specs.Tree.{Tree, pointer_count, cap_count}
+use Rattle.cap_spec.proofs.Prelude.{List, arith, max, refl, subst, ℕ, ◌++◌, ◌+◌, ◌∷◌, ◌≡◌, Denotes, Tree, cap_count}
+use Rattle.cap_spec.proofs.Prelude.{pointer_count}
+use Rattle.cap_vet.specs.Owing.{Completes, Counted, IsCount, Owe}
 use Rattle.cap_vet.specs.Trails.{Ahead}
-use Rattle.cap_vet.specs.Owing.{Owe, Counted, Completes, IsCount}
 use Rattle.cap_vet.proofs.Owing.{append-Owe}
 
 -- what the tree of a word is, by what its children owe

@@ -1,12 +1,8 @@
 -- Which faults a message has under demands.
-use Rattle.std.proofs.Common.{ℕ, ◌≡◌, List, subst}
-use Rattle.std.specs.Prelude.{IsTrue}
-use Rattle.cap_spec.specs.Strict.{IsStrict, IsStrictFault}
-use Rattle.cap_spec.specs.declared.StrictRefusal.{StrictRefusal}
-use Rattle.cap_spec.specs.declared.StrictRefusal.TheVariants.{Refused, ManySegments, Pointer}
+use Rattle.cap_spec.specs.declared.StrictRefusal.TheVariants.{Refused}
+use Rattle.cap_spec.proofs.Prelude.{IsTrue, List, subst, ℕ, ◌≡◌, IsStrict, IsStrictFault}
 use Rattle.cap_spec.proofs.Strict.Faults.{one_strict_fault, strict_not_fault}
-use Rattle.cap_vet.specs.Demands.{IsDemandFault, words_under}
-use Rattle.cap_vet.specs.declared.demands.Demands.{Demands}
+use Rattle.cap_vet.specs.Prelude.{StrictRefusal, ManySegments, Pointer, IsDemandFault, words_under, Demands}
 
 -- each is a reason not to be strict
 fault_of : (demands : Demands) (m : List (List ℕ)) (words depth : ℕ) (fault : StrictRefusal)

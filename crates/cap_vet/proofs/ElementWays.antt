@@ -1,33 +1,16 @@
 -- Paths that go on at the elements of a list of structs.
-use Rattle.std.proofs.Common.{◌≡◌, ℕ, ◌+◌, ◌*◌, ◌<◌, ◌≤◌, List, [], ◌∷◌, ◌++◌}
-use Rattle.std.proofs.Common.{Ok, Some, Option, append_assoc, length, refl, subst, sym, arith}
-use Rattle.std.proofs.Math.Nat.{mul-le-mul_right}
-use Rattle.cap_frame.specs.declared.segments.Segments as segments
-use Rattle.cap_spec.specs.Verdicts.{IsDeepAt}
-use Rattle.cap_spec.specs.Messages.{segment_of}
-use Rattle.cap_spec.specs.Paths.{StepsTo, Spot, word, element}
-use Rattle.cap_spec.specs.declared.Step.{Step}
-use Rattle.cap_spec.specs.declared.Step.TheVariants.{Item, Ptr}
-use Rattle.cap_vet.specs.Charging.{Arrives}
-use Rattle.cap_vet.specs.Demands.{words_under}
-use Rattle.cap_vet.specs.Finding.{element_of}
-use Rattle.cap_vet.specs.NearFinding.{FindsNear}
-use Rattle.cap_vet.specs.PathStrictness.{HasNoFaultBy}
-use Rattle.cap_vet.specs.PathWays.{LeadsToElements, GivesAfter}
-use Rattle.cap_vet.specs.Ways.{IsWay}
-use Rattle.cap_vet.specs.declared.demands.Demands.{Demands}
-use Rattle.cap_vet.specs.declared.nodes.charged.Arrival.{Arrival}
-use Rattle.cap_vet.specs.declared.nodes.found.Found.{Found}
-use Rattle.cap_vet.specs.declared.nodes.path_start.PathStart.{PathStart}
+use Rattle.cap_spec.proofs.Prelude.{List, Ok, Option, Some, [], append_assoc, arith, length, mul-le-mul_right, refl}
+use Rattle.cap_spec.proofs.Prelude.{subst, sym, ℕ, ◌*◌, ◌++◌, ◌+◌, ◌<◌, ◌∷◌, ◌≡◌, ◌≤◌, segment_of, Spot, StepsTo}
+use Rattle.cap_spec.proofs.Prelude.{element, word, IsDeepAt}
+use Rattle.cap_vet.specs.PathWays.{LeadsToElements}
+use Rattle.cap_vet.specs.Prelude.{Step, Item, Ptr, Arrives, words_under, element_of, FindsNear, HasNoFaultBy}
+use Rattle.cap_vet.specs.Prelude.{GivesAfter, IsWay, Demands, Arrival, Found, PathStart, View, Way, To, LaxPointer}
 use Rattle.cap_vet.specs.declared.nodes.struct_elements.StructElements.{StructElements}
-use Rattle.cap_vet.specs.declared.nodes.view.View.{View}
-use Rattle.cap_vet.specs.declared.nodes.way.Way.{Way}
-use Rattle.cap_vet.specs.declared.nodes.way.Way.TheVariants.{To}
-use Rattle.cap_vet.specs.declared.strictness.strict_turn.LaxPointer.{LaxPointer}
 use Rattle.cap_vet.proofs.Charging.{arrives_element, arrives_word}
 use Rattle.cap_vet.proofs.PathLax.{adds_strict}
 use Rattle.cap_vet.proofs.PathWays.{something_given, way_as}
 use Rattle.cap_vet.proofs.Stepping.{element_goes, pointer_goes}
+use Rattle.cap_frame.specs.declared.segments.Segments as segments
 
 -- what the path to element i arrives at, from the list at `at`
 abbrev element_spot : {M : Type 0} {g : segments.Ghosts M} → StructElements M g → ℕ → Spot

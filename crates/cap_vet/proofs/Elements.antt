@@ -1,17 +1,14 @@
 -- The children of a list of structs on a trail: the pointers of its elements, element by element.
-use Rattle.std.proofs.Common.{◌≡◌, ℕ, zero, suc, ◌+◌, ◌*◌, ◌<◌, inl, inr, List, [], ◌∷◌, ◌++◌, refl, sym, ◌∙◌, subst, arith, append_assoc}
-use Rattle.cap_spec.specs.Messages.{HasWord}
-use Rattle.cap_spec.specs.Pointers.{kind, middle, code, data_size, pointer_size}
-use Rattle.cap_spec.specs.Denoting.{Finds, element_levels}
-use Rattle.cap_spec.specs.Paths.{StepsTo, Reaches, Spot, PathLeads, element, word}
-use Rattle.cap_spec.specs.declared.Step.{Step}
-use Rattle.cap_spec.specs.declared.Step.TheVariants.{Ptr, Item}
-use Rattle.cap_spec.proofs.Trees.Finding.{one_object}
-use Rattle.cap_spec.proofs.Frames.Messages.{one_word}
-use Rattle.cap_vet.specs.Trails.{Ahead, Apart, EachApart, AreReached, GoOnFrom, IsUnder, row, element_rows}
-use Rattle.cap_vet.proofs.Apart.{Apart-right, Apart-steps, Apart-left}
+use Rattle.cap_spec.proofs.Lemmas.{one_word, one_object}
+use Rattle.cap_spec.proofs.Prelude.{List, [], append_assoc, arith, inl, inr, refl, subst, suc, sym, zero, ℕ, ◌*◌, ◌++◌}
+use Rattle.cap_spec.proofs.Prelude.{◌+◌, ◌<◌, ◌∙◌, ◌∷◌, ◌≡◌, Finds, element_levels, HasWord, PathLeads, Reaches, Spot}
+use Rattle.cap_spec.proofs.Prelude.{StepsTo, element, word, code, data_size, kind, middle, pointer_size}
+use Rattle.cap_vet.specs.Prelude.{Step, Item, Ptr, Ahead, Apart, AreReached, EachApart, GoOnFrom, IsUnder, element_rows}
+use Rattle.cap_vet.specs.Prelude.{row}
+use Rattle.cap_vet.proofs.Apart.{Apart-left, Apart-right, Apart-steps}
+use Rattle.cap_vet.proofs.Children.{AreReached-row, EachApart-row, GoOnFrom-row, IsUnder-row, beyond, list_no_other}
+use Rattle.cap_vet.proofs.Children.{reaches_on, struct_no_list}
 use Rattle.cap_vet.proofs.Trails.{AreChildren, AreReached-append, IsUnder-left, IsUnder-right}
-use Rattle.cap_vet.proofs.Children.{beyond, reaches_on, struct_no_list, list_no_other, IsUnder-row, GoOnFrom-row, EachApart-row, AreReached-row}
 
 -- the first of these, where there is one, is apart from a path
 abbrev HeadApart : List Step → List Ahead → Type 0

@@ -1,14 +1,9 @@
 -- A message has one fault for which it isn't exclusive over room, or none.
-use Rattle.std.proofs.Common.{ℕ, ◌≤◌, ◌≡◌, ◌∙◌, List, sym, ap, ap₂, arith}
-use Rattle.cap_spec.specs.Occupying.{IsDisjoint}
-use Rattle.cap_spec.proofs.Disjoint.Overlaps.{none_of_disjoint, one_overlap}
-use Rattle.cap_spec.proofs.Verdicts.OneFault.{one_refusal}
-use Rattle.cap_vet.specs.Exclusives.{IsExclusiveFault}
-use Rattle.cap_vet.specs.Reports.{IsAccepted}
-use Rattle.cap_vet.specs.Taken.{marks_of}
+use Rattle.cap_spec.proofs.Lemmas.{none_of_disjoint, one_overlap, one_refusal}
+use Rattle.cap_spec.proofs.Prelude.{List, ap, ap₂, arith, sym, ℕ, ◌∙◌, ◌≡◌, ◌≤◌, IsDisjoint}
+use Rattle.cap_vet.specs.Prelude.{IsExclusiveFault, IsAccepted, marks_of, NoRoom, Overlap, Report}
 use Rattle.cap_vet.specs.declared.exclusiveness.exclusive_room.ExclusiveFault.{ExclusiveFault}
-use Rattle.cap_vet.specs.declared.exclusiveness.exclusive_room.ExclusiveFault.TheVariants.{Refused, NoRoom, Overlap}
-use Rattle.cap_vet.specs.declared.report.Report.{Report}
+use Rattle.cap_vet.specs.declared.exclusiveness.exclusive_room.ExclusiveFault.TheVariants.{Refused}
 use Rattle.cap_vet.proofs.OneReport.{not_both, one_report}
 
 -- there is one fault,

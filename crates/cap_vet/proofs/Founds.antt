@@ -1,18 +1,13 @@
 -- What following a pointer word finds.
-use Rattle.std.proofs.Common.{ℕ, List, ap, arith, refl}
-use Rattle.cap_spec.specs.Messages.{IsMessage}
-use Rattle.cap_spec.specs.Pointers.{list_words}
-use Rattle.cap_spec.specs.Following.{Leads, to_null, to_cap}
-use Rattle.cap_spec.specs.Paths.{word}
-use Rattle.cap_spec.specs.declared.Kind.TheVariants.{Cap, Null}
-use Rattle.cap_spec.proofs.Trees.Charges.{extent_struct}
-use Rattle.cap_spec.proofs.Canonical.TreeMeasures.{extent_scalars}
 use Rattle.cap_spec.specs.Arriving.{HasObjectAt}
 use Rattle.cap_spec.specs.ObjectShapes.{HasKind}
+use Rattle.cap_spec.specs.declared.Kind.TheVariants.{Cap, Null}
+use Rattle.cap_spec.proofs.Lemmas.{extent_scalars, extent_struct}
+use Rattle.cap_spec.proofs.Prelude.{List, ap, arith, refl, ℕ, Leads, to_cap, to_null, IsMessage, word, list_words}
 use Rattle.cap_ptr.specs.Shapes.{FindsObject, IsShape}
 use Rattle.cap_ptr.specs.declared.shapes.Shape.{Shape}
-use Rattle.cap_ptr.specs.declared.shapes.Shape.TheVariants as shape
 use Rattle.cap_vet.specs.Finding.{IsFound, kind_of_shape}
+use Rattle.cap_ptr.specs.declared.shapes.Shape.TheVariants as shape
 
 -- null, without words
 pub null_found : (m : List (List ℕ)) (s w k : ℕ) → IsMessage m → Leads m s w k to_null

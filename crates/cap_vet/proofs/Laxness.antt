@@ -1,33 +1,17 @@
 -- What a walk knows of lax pointers, and which messages are strict.
-use Rattle.std.proofs.Common.{ℕ, ◌<◌, ◌≤◌, ◌≡◌, ◌≢◌, List, [], ◌∷◌, length, inl, inr}
-use Rattle.std.proofs.Common.{subst, arith, Option, None, Some}
-use Rattle.std.specs.Prelude.{false, is_some}
-use Rattle.cap_spec.specs.Accepting.{IsWithin}
-use Rattle.cap_spec.specs.Messages.{HasWord, IsMessage}
-use Rattle.cap_spec.specs.Paths.{Before, Costs}
-use Rattle.cap_spec.specs.Pointers.{far_segment, kind, pad, two}
-use Rattle.cap_spec.specs.Strict.{IsFirstLax, IsLax, IsLaxAt, IsStrict, IsStrictFault}
-use Rattle.cap_spec.specs.declared.Lax.{Lax}
+use Rattle.std.proofs.Common.{is_some}
 use Rattle.cap_spec.specs.declared.Lax.TheVariants.{CapabilityPad, NullPad}
-use Rattle.cap_spec.specs.declared.Step.{Step}
-use Rattle.cap_spec.specs.declared.StrictRefusal.{StrictRefusal}
-use Rattle.cap_spec.specs.declared.StrictRefusal.TheVariants.{Refused, ManySegments, Pointer}
-use Rattle.cap_spec.proofs.Paths.Preorder.{Before-irreflexive}
-use Rattle.cap_spec.proofs.Strict.Faults.{strict_kept, strict_wider}
-use Rattle.cap_spec.proofs.Strict.FirstLax.{first_by_tour}
+use Rattle.cap_spec.specs.declared.StrictRefusal.TheVariants.{Refused}
+use Rattle.cap_spec.proofs.Lemmas.{Before-irreflexive, strict_wider, first_by_tour}
+use Rattle.cap_spec.proofs.Prelude.{List, None, Option, Some, [], arith, false, inl, inr, length, subst, ℕ, ◌<◌, ◌∷◌}
+use Rattle.cap_spec.proofs.Prelude.{◌≡◌, ◌≢◌, ◌≤◌, IsWithin, HasWord, IsMessage, Before, Costs, far_segment, kind, pad}
+use Rattle.cap_spec.proofs.Prelude.{two, IsFirstLax, IsLax, IsLaxAt, IsStrict, IsStrictFault}
+use Rattle.cap_spec.proofs.Strict.Faults.{strict_kept}
 use Rattle.cap_spec.proofs.Strict.Looking.{cap_pad, other_pad, zero_pad}
+use Rattle.cap_vet.specs.Prelude.{Lax, Step, StrictRefusal, ManySegments, Pointer, depth_of, words_of, IsNotLax}
+use Rattle.cap_vet.specs.Prelude.{IsFaultBy, IsAccepted, IsVetted, KnowsLax, Ahead, IsTrail, HasWalked, IsLookedAt}
+use Rattle.cap_vet.specs.Prelude.{Demands, Limits, Report, LaxPointer}
 use Rattle.cap_vet.specs.StrictNulls.{not_lax_path, still_knows}
-use Rattle.cap_vet.specs.Limits.{depth_of, words_of}
-use Rattle.cap_vet.specs.Looking.{IsNotLax}
-use Rattle.cap_vet.specs.PathStrictness.{IsFaultBy}
-use Rattle.cap_vet.specs.Reports.{IsAccepted, IsVetted}
-use Rattle.cap_vet.specs.Stricts.{KnowsLax}
-use Rattle.cap_vet.specs.Trails.{Ahead, IsTrail}
-use Rattle.cap_vet.specs.Walking.{IsLookedAt, HasWalked}
-use Rattle.cap_vet.specs.declared.demands.Demands.{Demands}
-use Rattle.cap_vet.specs.declared.limits.Limits.{Limits}
-use Rattle.cap_vet.specs.declared.report.Report.{Report}
-use Rattle.cap_vet.specs.declared.strictness.strict_turn.LaxPointer.{LaxPointer}
 use Rattle.cap_vet.proofs.Keeping.{vetted_kept}
 use Rattle.cap_vet.proofs.Tours.{in_order, in_order-IsOneOf, length-in_order, tour_of}
 use Rattle.cap_vet.proofs.Verdicts.{accepted_at_end, none_ahead}

@@ -1,26 +1,16 @@
 -- What is said of one pointer word that was followed within limits.
-use Rattle.std.proofs.Common.{◌≡◌, ℕ, ◌+◌, ◌-◌, ◌<◌, ◌≤◌, ◌==◌, ◌⊎◌, inl, inr, List, refl, ap, arith, true, false, Option}
-use Rattle.std.proofs.lemmas.Bool.Decides.{eqb_tells}
-use Rattle.cap_spec.specs.Messages.{HasWord}
-use Rattle.cap_spec.specs.Pointers.{code}
-use Rattle.cap_spec.specs.Following.{IsComposite}
-use Rattle.cap_spec.specs.Denoting.{element_levels}
-use Rattle.cap_spec.specs.Faults.{IsFirstReason, is_deep, is_past}
-use Rattle.cap_spec.specs.Paths.{Costs}
-use Rattle.cap_spec.specs.Verdicts.{levels_below, IsDeepAt}
 use Rattle.cap_spec.specs.declared.Reason.TheVariants.{DepthLimit, WordLimit}
+use Rattle.cap_spec.proofs.Prelude.{List, Option, ap, arith, false, inl, inr, refl, true, ℕ, ◌+◌, ◌-◌, ◌<◌, ◌==◌, ◌≡◌}
+use Rattle.cap_spec.proofs.Prelude.{◌≤◌, ◌⊎◌, eqb_tells, element_levels, IsFirstReason, is_deep, is_past, IsComposite}
+use Rattle.cap_spec.proofs.Prelude.{HasWord, Costs, code, IsDeepAt, levels_below}
 use Rattle.cap_ptr.specs.Shapes.{FindsTargetBy, IsFollowed, IsShape, charge_of}
-use Rattle.cap_ptr.specs.declared.shapes.Shape.{Shape}
-use Rattle.cap_ptr.specs.declared.shapes.Shape.TheVariants.{Struct, Pointers, Scalars, Structs}
-use Rattle.cap_ptr.specs.declared.shapes.Target.{Target}
 use Rattle.cap_ptr.specs.declared.shapes.Followed.{Followed}
-use Rattle.cap_ptr.specs.declared.shapes.Followed.TheVariants as followed
-use Rattle.cap_vet.specs.PointerRuns.{OptionIn, option_spots}
-use Rattle.cap_vet.specs.Looking.{RunRises, LooksObject, deepest_of, object_places}
-use Rattle.cap_vet.specs.Levels.{levels_of}
-use Rattle.cap_vet.specs.declared.walk.pointer_run.PointerRun.{PointerRun}
+use Rattle.cap_ptr.specs.declared.shapes.Shape.TheVariants.{Pointers, Scalars, Struct, Structs}
+use Rattle.cap_vet.specs.Looking.{LooksObject, deepest_of}
+use Rattle.cap_vet.specs.Prelude.{Shape, Target, levels_of, RunRises, object_places, OptionIn, option_spots, PointerRun}
 use Rattle.cap_vet.proofs.Steps.{cap_no_object, null_no_object}
 use Rattle.cap_vet.proofs.Turning.{deep_once}
+use Rattle.cap_ptr.specs.declared.shapes.Followed.TheVariants as followed
 
 -- the levels of a shape
 levels_shape : (q tag : ℕ) (x : Shape) → IsShape q tag x → levels_of x ≡ levels_below q tag

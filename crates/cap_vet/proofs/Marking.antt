@@ -1,15 +1,10 @@
 -- How the marks of a second walk go on, and what they tell at its end.
-use Rattle.std.proofs.Common.{ℕ, ◌+◌, ◌≡◌, ◌⊎◌, List, [], ◌∷◌, length, inl, inr, refl, sym, subst, arith}
-use Rattle.cap_spec.specs.Lists.{AreDistinct, IsOneOf}
-use Rattle.cap_spec.specs.Occupying.{Occupies, Uses, IsDisjoint, Overlaps, twice, on_root, on_earlier, IsFirstOverlap}
-use Rattle.cap_spec.specs.Paths.{Before, Reaches}
-use Rattle.cap_spec.specs.declared.Step.{Step}
-use Rattle.cap_spec.proofs.Disjoint.Overlaps.{disjoint_of_none, one_used}
-use Rattle.cap_spec.proofs.Paths.Preorder.{Before-irreflexive}
-use Rattle.cap_spec.proofs.Paths.Walks.{one_reached}
-use Rattle.cap_vet.specs.Marks.{IsMarked, MarksAll, Conflicts}
-use Rattle.cap_vet.specs.Trails.{Ahead, IsTrail}
-use Rattle.cap_vet.proofs.Tours.{Falls-before, length-in_order, in_order, tour_of, up_to_head}
+use Rattle.cap_spec.proofs.Lemmas.{disjoint_of_none, one_used, Before-irreflexive, one_reached}
+use Rattle.cap_spec.proofs.Prelude.{List, [], arith, inl, inr, length, refl, subst, sym, ℕ, ◌+◌, ◌∷◌, ◌≡◌, ◌⊎◌}
+use Rattle.cap_spec.proofs.Prelude.{AreDistinct, IsOneOf, IsDisjoint, IsFirstOverlap, Occupies, Overlaps, Uses}
+use Rattle.cap_spec.proofs.Prelude.{on_earlier, on_root, twice, Before, Reaches}
+use Rattle.cap_vet.specs.Prelude.{Step, Conflicts, IsMarked, MarksAll, Ahead, IsTrail}
+use Rattle.cap_vet.proofs.Tours.{Falls-before, in_order, length-in_order, tour_of, up_to_head}
 use Rattle.cap_vet.proofs.Trails.{falls-step}
 
 -- a path that overlaps is reached

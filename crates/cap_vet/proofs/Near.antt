@@ -1,21 +1,13 @@
 -- What a walk needs to know of an object that its pointer word alone describes.
-use Rattle.std.proofs.Common.{◌≡◌, ℕ, ◌+◌, ◌-◌, ◌<◌, ◌≤◌, ◌==◌, false, inl, inr, List, length, refl, sym, subst, ◌∙◌, arith, Option, None, Some}
-use Rattle.std.specs.Prelude.{ℤ, pos}
-use Rattle.std.proofs.lemmas.Bool.{ne_eqb}
-use Rattle.cap_spec.specs.Messages.{segment_of}
-use Rattle.cap_spec.specs.Pointers.{code, data_size, extent}
-use Rattle.cap_spec.specs.Denoting.{Finds}
-use Rattle.cap_spec.specs.Following.{Leads, Says, near, one_pad, two_pads, to_object}
-use Rattle.cap_spec.specs.Verdicts.{levels_below}
+use Rattle.cap_spec.proofs.Prelude.{List, None, Option, Some, arith, false, inl, inr, length, ne_eqb, pos, refl, subst}
+use Rattle.cap_spec.proofs.Prelude.{sym, ℕ, ℤ, ◌+◌, ◌-◌, ◌<◌, ◌==◌, ◌∙◌, ◌≡◌, ◌≤◌, Finds, Leads, Says, near, one_pad}
+use Rattle.cap_spec.proofs.Prelude.{to_object, two_pads, segment_of, code, data_size, extent, levels_below}
 use Rattle.cap_spec.proofs.Trees.Charges.{extent_pointers, extent_struct}
 use Rattle.cap_ptr.specs.Reaching.{ResolvesTo}
 use Rattle.cap_ptr.specs.Rows.{FindsRow, HasPointers}
-use Rattle.cap_ptr.specs.declared.near.Row.{Row}
 use Rattle.cap_ptr.proofs.NearObjects.{pointers-no_extra, pointers-plain}
-use Rattle.cap_vet.specs.PointerRuns.{LevelIs, OptionIn, option_spots, row_places}
-use Rattle.cap_vet.specs.Looking.{RunRises, IsLooked, object_places}
-use Rattle.cap_vet.specs.declared.walk.pointer_run.PointerRun.{PointerRun}
-use Rattle.cap_vet.specs.declared.walk.looking.Looked.TheVariants.{Object}
+use Rattle.cap_vet.specs.Prelude.{Row, IsLooked, RunRises, object_places, LevelIs, OptionIn, option_spots, row_places}
+use Rattle.cap_vet.specs.Prelude.{Object, PointerRun}
 
 -- a list of values has no pointers, and no levels below it
 six_not : (q : ℕ) → code q < 6 → (code q == 6) ≡ false

@@ -1,30 +1,17 @@
 -- What a look at one pointer word of a path finds.
-use Rattle.std.proofs.Common.{◌≡◌, ◌≢◌, ℕ, ◌+◌, ◌∙◌, ◌≤◌, ap, inl, inr, List, refl, subst, arith}
-use Rattle.cap_spec.specs.Following.{Leads, Lead, near, one_pad, two_pads, to_null}
-use Rattle.cap_spec.specs.Following.{extra}
-use Rattle.cap_spec.specs.Messages.{HasWord, IsMessage}
-use Rattle.cap_spec.specs.Pointers.{extent}
-use Rattle.cap_spec.specs.Paths.{word}
 use Rattle.cap_spec.specs.declared.Kind.TheVariants.{Null}
-use Rattle.cap_spec.proofs.Frames.Messages.{one_word}
-use Rattle.cap_spec.proofs.Strict.Looking.{near_has_none}
-use Rattle.cap_spec.proofs.Trees.Charges.{extra_same}
-use Rattle.cap_spec.proofs.Trees.Finding.{one_object}
+use Rattle.cap_spec.proofs.Lemmas.{one_word, near_has_none, extra_same, one_object}
+use Rattle.cap_spec.proofs.Prelude.{List, ap, arith, inl, inr, refl, subst, ℕ, ◌+◌, ◌∙◌, ◌≡◌, ◌≢◌, ◌≤◌, Lead, Leads}
+use Rattle.cap_spec.proofs.Prelude.{extra, near, one_pad, to_null, two_pads, HasWord, IsMessage, word, extent}
 use Rattle.cap_ptr.specs.Rows.{FindsRow, HasPointers}
 use Rattle.cap_ptr.specs.Shapes.{FindsTarget, IsShape}
-use Rattle.cap_ptr.specs.declared.near.Row.{Row}
-use Rattle.cap_ptr.specs.declared.shapes.Shape.{Shape}
-use Rattle.cap_ptr.specs.declared.shapes.Shape.TheVariants.{Struct, Scalars, Pointers, Structs}
-use Rattle.cap_ptr.specs.declared.shapes.Followed.TheVariants as followed
-use Rattle.cap_ptr.specs.declared.shapes.Target.{Target}
+use Rattle.cap_ptr.specs.declared.shapes.Shape.TheVariants.{Pointers, Scalars, Struct, Structs}
 use Rattle.cap_ptr.proofs.NearObjects.{pointers-no_extra, pointers-plain}
-use Rattle.cap_vet.specs.Finding.{IsFound}
-use Rattle.cap_vet.specs.Levels.{levels_of}
-use Rattle.cap_vet.specs.Looking.{IsNotLax}
-use Rattle.cap_vet.specs.NearFinding.{FindsNear, IsNearWithin}
-use Rattle.cap_vet.specs.declared.nodes.found.Found.{Found}
+use Rattle.cap_vet.specs.NearFinding.{IsNearWithin}
+use Rattle.cap_vet.specs.Prelude.{Row, Shape, Target, IsFound, levels_of, IsNotLax, FindsNear, Found}
 use Rattle.cap_vet.proofs.Founds.{null_found}
 use Rattle.cap_vet.proofs.Looks.{followed_costs, followed_shallow}
+use Rattle.cap_ptr.specs.declared.shapes.Followed.TheVariants as followed
 
 -- a pointer without landing pads has no form that common readers reject
 not_lax : (m : List (List ℕ)) (s w k : ℕ) (r : Lead) → k ≡ 0 → Leads m s w k r → IsNotLax m s w

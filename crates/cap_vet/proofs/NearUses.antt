@@ -1,7 +1,5 @@
 -- What following a pointer over no landing pad uses.
-use Rattle.std.proofs.Common.{ℕ, ◌<◌, ◌≡◌, List, length, arith, subst}
-use Rattle.cap_spec.specs.Messages.{HasWord}
-use Rattle.cap_spec.specs.Denoting.{Finds}
+use Rattle.cap_spec.proofs.Prelude.{List, arith, length, subst, ℕ, ◌<◌, ◌≡◌, Finds, HasWord}
 use Rattle.cap_ptr.specs.Shapes.{FindsTarget}
 use Rattle.cap_ptr.specs.declared.shapes.Target.{Target}
 use Rattle.cap_vet.specs.Marks.{UsesPlace}

@@ -1,23 +1,12 @@
 -- What nodes of an accepted message keep.
-use Rattle.std.proofs.Common.{◌≡◌, ℕ, ◌+◌, ◌<◌, List, [], ◌∷◌, ◌++◌, length, sym, refl, subst, Option, None, Some}
-use Rattle.std.proofs.Props.{props}
-use Rattle.std.proofs.Math.Logic.{∥∥₁_elim, ∥∥₁_map}
-use Rattle.cap_spec.specs.Messages.{HasWord, segment_of}
-use Rattle.cap_spec.specs.Following.{Wrong}
-use Rattle.cap_spec.specs.Denoting.{Denotes}
-use Rattle.cap_spec.specs.Paths.{ReachesSpot, StepsTo, Spot, PathLeads, level_of, word}
-use Rattle.cap_spec.specs.Standing.{DenotesAt}
-use Rattle.cap_spec.specs.Tree.{Tree, node_at, part_at}
-use Rattle.cap_spec.specs.declared.Reason.{Reason}
-use Rattle.cap_spec.specs.declared.Step.{Step}
-use Rattle.cap_spec.proofs.Paths.Arrivals.{lead_word, node_to_coming, part_to_step, step_to_part}
-use Rattle.cap_spec.proofs.Frames.Messages.{HasWord-at, HasWord-inside}
-use Rattle.cap_spec.proofs.Trees.OneTree.{formed}
-use Rattle.cap_spec.proofs.Verdicts.OneVerdict.{reached_not_wrong}
-use Rattle.cap_spec.proofs.Paths.Walks.{coming_last, comes_beyond}
+use Rattle.cap_spec.proofs.Lemmas.{HasWord-at, HasWord-inside, lead_word, part_to_step, step_to_part, comes_beyond}
+use Rattle.cap_spec.proofs.Lemmas.{coming_last, formed, reached_not_wrong}
+use Rattle.cap_spec.proofs.Paths.Arrivals.{node_to_coming}
+use Rattle.cap_spec.proofs.Prelude.{List, None, Option, Some, [], length, refl, subst, ℕ, ◌++◌, ◌+◌, ◌<◌, ◌∷◌, ◌≡◌}
+use Rattle.cap_spec.proofs.Prelude.{∥∥₁_elim, ∥∥₁_map, props, Denotes, Wrong, HasWord, segment_of, ReachesSpot, Spot}
+use Rattle.cap_spec.proofs.Prelude.{StepsTo, level_of, word, DenotesAt, Tree, node_at, part_at}
 use Rattle.cap_vet.specs.Nodes.{IsNode}
-use Rattle.cap_vet.specs.Reports.{IsVetted}
-use Rattle.cap_vet.specs.declared.report.Report.{Report}
+use Rattle.cap_vet.specs.Prelude.{Reason, Step, IsVetted, Report}
 
 -- the root word of a tree is there
 root_word : (m : List (List ℕ)) (t : Tree) (c d : ℕ) → Denotes m 0 0 t c d → (p : ℕ) × HasWord m 0 0 p

@@ -1,12 +1,9 @@
 -- At a node of an accepted message stands a tree.
-use Rattle.std.proofs.Common.{ℕ, ◌+◌, ◌≤◌, List, refl, arith}
-use Rattle.std.proofs.Math.Logic.{∥∥₁_map}
-use Rattle.cap_spec.specs.Denoting.{places, words_from}
-use Rattle.cap_spec.specs.Paths.{Spot, word, element}
-use Rattle.cap_spec.specs.Standing.{DenotesAt}
-use Rattle.cap_spec.specs.Tree.{Tree, struct}
-use Rattle.cap_spec.proofs.Verdicts.Deciding.{EachWithin, TreeWithin, each_within, tree_within}
+use Rattle.cap_spec.specs.Denoting.{places}
 use Rattle.cap_spec.proofs.Paths.Depths.{denoted_depth, depth_of, each_depth, walk_depth}
+use Rattle.cap_spec.proofs.Prelude.{List, arith, refl, ℕ, ◌+◌, ◌≤◌, ∥∥₁_map, words_from, Spot, element, word, DenotesAt}
+use Rattle.cap_spec.proofs.Prelude.{Tree, struct}
+use Rattle.cap_spec.proofs.Verdicts.Deciding.{EachWithin, TreeWithin, each_within, tree_within}
 use Rattle.cap_vet.specs.Nodes.{IsNode}
 
 -- a tree of at most 256 levels stands there

@@ -1,15 +1,11 @@
 -- The frames of objects: their words, and that they lie inside their segments.
-use Rattle.std.proofs.Common.{◌≡◌, ℕ, zero, suc, ◌+◌, ◌-◌, ◌*◌, ◌<◌, ◌≤◌, ◌⊎◌, Fits, w32, inl, inr, List, [], length, refl, sym, ◌∙◌, arith}
-use Rattle.cap_spec.specs.Messages.{IsMessage, segment_of}
-use Rattle.cap_spec.specs.Pointers.{middle, data_size, pointer_size, list_size}
-use Rattle.cap_spec.specs.Denoting.{element_levels}
-use Rattle.cap_spec.specs.Following.{TagFits}
-use Rattle.cap_spec.proofs.Frames.Messages.{short_segment}
-use Rattle.cap_spec.proofs.Trees.Charges.{extent_struct, extent_structs}
+use Rattle.cap_spec.proofs.Lemmas.{short_segment, extent_struct, extent_structs}
+use Rattle.cap_spec.proofs.Prelude.{Fits, List, [], arith, inl, inr, length, refl, suc, sym, w32, zero, ℕ, ◌*◌, ◌+◌}
+use Rattle.cap_spec.proofs.Prelude.{◌-◌, ◌<◌, ◌∙◌, ◌≡◌, ◌≤◌, ◌⊎◌, element_levels, TagFits, IsMessage, segment_of}
+use Rattle.cap_spec.proofs.Prelude.{data_size, list_size, middle, pointer_size}
 use Rattle.cap_ptr.specs.Shapes.{FindsObject}
 use Rattle.cap_ptr.specs.declared.shapes.Shape.TheVariants.{Struct, Structs}
-use Rattle.cap_vet.specs.PointerRuns.{RunIn, PointerWord, element_places, row_places, spots}
-use Rattle.cap_vet.specs.Looking.{object_places}
+use Rattle.cap_vet.specs.Prelude.{object_places, PointerWord, RunIn, element_places, row_places, spots}
 
 -- a struct's words lie inside its segment
 pub struct_room : (m : List (List ℕ)) (s w : ℕ) {k t b : ℕ} (q tag : ℕ) {n c : ℕ} (d p : ℕ) → FindsObject m s w k t b q tag n c (Struct d p) → b + d + p ≤ length (segment_of m t)

@@ -1,24 +1,14 @@
 -- What an object brings to a walk: its children, its cost, and how deep it goes.
-use Rattle.std.proofs.Common.{◌≡◌, ℕ, zero, suc, ◌+◌, ◌*◌, ◌<◌, ◌≤◌, ◌==◌, max, inl, inr, ◌⊎◌, List, [], ◌∷◌, ◌++◌}
-use Rattle.std.proofs.Common.{length, map, refl, ap, subst, arith, true, false}
-use Rattle.std.specs.Prelude.{pos}
-use Rattle.std.proofs.lemmas.List.{length-append}
-use Rattle.std.proofs.lemmas.Bool.Decides.{eqb_tells}
-use Rattle.cap_spec.specs.Messages.{HasWord}
-use Rattle.cap_spec.specs.Pointers.{kind, middle, code, data_size, pointer_size, list_size, extent}
-use Rattle.cap_spec.specs.Following.{IsComposite, TagFits, extra}
-use Rattle.cap_spec.specs.Denoting.{Finds, element_levels}
-use Rattle.cap_spec.specs.Paths.{StepsTo, Reaches, Spot, PathLeads, word}
-use Rattle.cap_spec.specs.Verdicts.{levels_below}
-use Rattle.cap_spec.specs.declared.Step.{Step}
-use Rattle.cap_spec.specs.declared.Step.TheVariants.{Ptr, Item}
-use Rattle.cap_spec.proofs.Trees.Charges.{extent_struct, extent_pointers, extent_structs, extra_same, lead_kind}
-use Rattle.cap_spec.proofs.Trees.Finding.{one_object}
-use Rattle.cap_spec.proofs.Frames.Messages.{one_word}
-use Rattle.cap_vet.specs.Trails.{Ahead, row, element_rows}
+use Rattle.cap_spec.proofs.Lemmas.{one_word, extent_pointers, extent_struct, extent_structs, extra_same, lead_kind}
+use Rattle.cap_spec.proofs.Lemmas.{one_object}
+use Rattle.cap_spec.proofs.Prelude.{List, [], ap, arith, false, inl, inr, length, length-append, map, max, pos, refl}
+use Rattle.cap_spec.proofs.Prelude.{subst, suc, true, zero, ℕ, ◌*◌, ◌++◌, ◌+◌, ◌<◌, ◌==◌, ◌∷◌, ◌≡◌, ◌≤◌, ◌⊎◌, eqb_tells}
+use Rattle.cap_spec.proofs.Prelude.{Finds, element_levels, IsComposite, TagFits, extra, HasWord, PathLeads, Reaches}
+use Rattle.cap_spec.proofs.Prelude.{Spot, StepsTo, word, code, data_size, extent, kind, list_size, middle, pointer_size}
+use Rattle.cap_spec.proofs.Prelude.{levels_below}
 use Rattle.cap_vet.specs.Owing.{AreInLevels}
-use Rattle.cap_vet.specs.PointerRuns.{pointer_word_of, row_places, element_places}
-use Rattle.cap_vet.specs.Looking.{object_places, object_children}
+use Rattle.cap_vet.specs.Prelude.{Step, Item, Ptr, object_children, object_places, element_places, pointer_word_of}
+use Rattle.cap_vet.specs.Prelude.{row_places, Ahead, element_rows, row}
 use Rattle.cap_vet.proofs.Children.{no_children, pointers_children, struct_children}
 use Rattle.cap_vet.proofs.Counting.{Counts}
 use Rattle.cap_vet.proofs.Elements.{structs_children}

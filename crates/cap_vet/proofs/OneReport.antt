@@ -1,13 +1,8 @@
 -- An accepted message has one report, and no reason to be refused.
-use Rattle.std.proofs.Common.{ℕ, ap₂, List, ◌≡◌, ◌∙◌, ap, sym, refl, Option, Some, None}
-use Rattle.cap_spec.specs.Faults.{IsRefused}
-use Rattle.cap_spec.specs.Tree.{cap_count, pointer_count}
-use Rattle.cap_spec.specs.declared.Refusal.{Refusal}
-use Rattle.cap_spec.proofs.Paths.Preorder.{one_first_cap}
-use Rattle.cap_spec.proofs.Trees.OneTree.{one_tree}
-use Rattle.cap_spec.proofs.Verdicts.Refusals.{within_not_refused}
-use Rattle.cap_vet.specs.Reports.{IsAccepted, IsFirstCapOf}
-use Rattle.cap_vet.specs.declared.report.Report.{Report}
+use Rattle.cap_spec.proofs.Lemmas.{one_first_cap, one_tree, within_not_refused}
+use Rattle.cap_spec.proofs.Prelude.{List, None, Option, Some, ap, ap₂, refl, sym, ℕ, ◌∙◌, ◌≡◌, IsRefused, cap_count}
+use Rattle.cap_spec.proofs.Prelude.{pointer_count}
+use Rattle.cap_vet.specs.Prelude.{Refusal, IsAccepted, IsFirstCapOf, Report}
 
 -- there is one first capability, or none
 one_cap : (m : List (List ℕ)) (a b : Option (ℕ × ℕ)) → IsFirstCapOf m a → IsFirstCapOf m b → a ≡ b

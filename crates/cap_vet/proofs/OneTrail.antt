@@ -1,17 +1,10 @@
 -- What is ahead of a walk follows from the paths that it has looked at.
-use Rattle.std.proofs.Common.{◌≡◌, ℕ, inl, inr, List, [], ◌∷◌, ◌++◌, refl, sym, ap, ap₂, ◌∙◌, subst, arith, append_assoc, length, ◌<◌}
-use Rattle.std.proofs.lemmas.List.{append-nil}
-use Rattle.cap_spec.specs.Lists.{IsOneOf}
-use Rattle.cap_spec.specs.Denoting.{Finds}
-use Rattle.cap_spec.specs.Following.{IsComposite, near}
-use Rattle.cap_spec.specs.Messages.{HasWord, segment_of}
-use Rattle.cap_spec.specs.Paths.{Before, Reaches}
-use Rattle.cap_spec.specs.declared.Step.{Step}
-use Rattle.cap_vet.specs.Looking.{object_children}
-use Rattle.cap_vet.specs.Trails.{Ahead, Apart, EachApart, AreReached, Falls, IsUnder, IsTrail, Precedes}
-use Rattle.cap_spec.proofs.Frames.Messages.{HasWord-at}
-use Rattle.cap_spec.proofs.Paths.Preorder.{Before-trans}
-use Rattle.cap_spec.proofs.Paths.Walks.{one_reached}
+use Rattle.cap_spec.proofs.Lemmas.{HasWord-at, Before-trans, one_reached}
+use Rattle.cap_spec.proofs.Prelude.{List, [], ap, append-nil, append_assoc, ap₂, arith, inl, inr, length, refl, subst}
+use Rattle.cap_spec.proofs.Prelude.{sym, ℕ, ◌++◌, ◌<◌, ◌∙◌, ◌∷◌, ◌≡◌, Finds, IsComposite, near, IsOneOf, HasWord}
+use Rattle.cap_spec.proofs.Prelude.{segment_of, Before, Reaches}
+use Rattle.cap_vet.specs.Prelude.{Step, object_children, Ahead, Apart, AreReached, EachApart, Falls, IsTrail, IsUnder}
+use Rattle.cap_vet.specs.Trails.{Precedes}
 use Rattle.cap_vet.proofs.Apart.{apart-before, longer-differs, not_before-apart, not_before-self}
 use Rattle.cap_vet.proofs.Children.{beyond}
 use Rattle.cap_vet.proofs.Objects.{object-brings}

@@ -1,11 +1,10 @@
 -- What the pointers of an object owe tells what they denote.
-use Rattle.std.proofs.Common.{◌≡◌, ℕ, zero, suc, ◌+◌, max, List, [], ◌∷◌, ◌++◌, refl, ap, arith}
-use Rattle.cap_spec.specs.Denoting.{DenoteEach, AreElements, places, words_from}
-use Rattle.cap_spec.specs.Tree.{Trees, struct, none, more, tree_count, pointer_count, child_counts, cap_count, cap_counts}
-use Rattle.cap_spec.specs.declared.Step.{Step}
-use Rattle.cap_spec.specs.declared.Step.TheVariants.{Ptr, Item}
-use Rattle.cap_vet.specs.Trails.{Ahead, row, element_rows}
+use Rattle.std.proofs.Common.{List, [], ap, arith, max, refl, suc, zero, ℕ, ◌++◌, ◌+◌, ◌∷◌, ◌≡◌}
+use Rattle.cap_spec.specs.Denoting.{AreElements, DenoteEach, places, words_from}
+use Rattle.cap_spec.specs.Tree.{Trees, cap_count, cap_counts, child_counts, more, none, pointer_count, struct}
+use Rattle.cap_spec.specs.Tree.{tree_count}
 use Rattle.cap_vet.specs.Owing.{Owe}
+use Rattle.cap_vet.specs.Prelude.{Step, Item, Ptr, Ahead, element_rows, row}
 
 -- what two lists owe together is what each owes
 pub record Parts (m : List (List ℕ)) (xs ys : List Ahead) (c d p k : ℕ) : Type 0 where

@@ -1,17 +1,13 @@
 -- The pad words of a pointer, and what else following it uses.
-use Rattle.std.proofs.Common.{ℕ, ◌+◌, ◌<◌, ◌≡◌, ◌==◌, ◌⊎◌, inl, inr, List, [], ◌++◌, Bool, true, false, refl, sym, ap, subst, ◌∙◌, arith, eqb}
-use Rattle.std.specs.Prelude.{pos}
-use Rattle.std.proofs.lemmas.Bool.{cases_eq, eqb-true}
-use Rattle.cap_spec.specs.Messages.{HasWord}
-use Rattle.cap_spec.specs.Pointers.{extent, far_segment, kind, pad, two}
-use Rattle.cap_spec.specs.Following.{to_null, to_cap, to_object, Lead, Leads, near, one_pad, two_pads, Wrong}
-use Rattle.cap_spec.specs.Denoting.{Finds, places}
-use Rattle.cap_spec.specs.Occupying.{Occupies, pads_of}
+use Rattle.cap_spec.specs.Denoting.{places}
 use Rattle.cap_spec.specs.declared.Reason.{Reason}
-use Rattle.cap_spec.proofs.Paths.Arrivals.{lead_word}
-use Rattle.cap_spec.proofs.Pointers.Following.{cap-not_wrong, null-not_wrong, object-not_wrong}
-use Rattle.cap_spec.proofs.Frames.Messages.{one_word}
 use Rattle.cap_spec.proofs.Disjoint.Places.{no_pads, pads_in_a_row}
+use Rattle.cap_spec.proofs.Lemmas.{one_word, lead_word, object-not_wrong}
+use Rattle.cap_spec.proofs.Pointers.Following.{cap-not_wrong, null-not_wrong}
+use Rattle.cap_spec.proofs.Prelude.{Bool, List, [], ap, arith, eqb, eqb-true, false, inl, inr, pos, refl, subst, sym}
+use Rattle.cap_spec.proofs.Prelude.{true, ℕ, ◌++◌, ◌+◌, ◌<◌, ◌==◌, ◌∙◌, ◌≡◌, ◌⊎◌, cases_eq, Finds, Lead, Leads, Wrong}
+use Rattle.cap_spec.proofs.Prelude.{near, one_pad, to_cap, to_null, to_object, two_pads, HasWord, Occupies, pads_of}
+use Rattle.cap_spec.proofs.Prelude.{extent, far_segment, kind, pad, two}
 
 -- they are as many words in a row as the form of the pointer tells
 two_few : (p : ℕ) → two p < 2

@@ -1,19 +1,10 @@
 -- Null words in a row, which a walk goes past.
-use Rattle.std.proofs.Common.{◌≡◌, ℕ, zero, suc, ◌+◌, ◌-◌, ◌<◌, ◌≤◌, List, [], ◌∷◌, ◌++◌, length, map, reverse, refl, ap, subst, arith, Some}
-use Rattle.std.specs.List.{AllByRecursion}
-use Rattle.std.proofs.lemmas.List.{append-nil, length-append, length-map, reverse-append}
-use Rattle.cap_spec.specs.Following.{near}
-use Rattle.cap_spec.specs.Messages.{HasWord}
-use Rattle.cap_spec.specs.declared.Step.{Step}
-use Rattle.cap_vet.specs.Looking.{IsLooked}
-use Rattle.cap_vet.specs.Turning.{added}
-use Rattle.cap_vet.specs.PointerRuns.{RunIn, IsRest, all_spots, element_places, pointer_word_of, row_places, spots}
-use Rattle.cap_vet.specs.Passing.{Passes}
-use Rattle.cap_vet.specs.Trails.{Ahead}
-use Rattle.cap_vet.specs.Walking.{HasWalked, work_left}
-use Rattle.cap_vet.specs.declared.walk.pointer_run.PointerRun.{PointerRun}
+use Rattle.cap_spec.proofs.Prelude.{List, Some, [], ap, append-nil, arith, length, length-append, map, refl, reverse}
+use Rattle.cap_spec.proofs.Prelude.{subst, suc, zero, ℕ, ◌++◌, ◌+◌, ◌-◌, ◌<◌, ◌∷◌, ◌≡◌, ◌≤◌, length-map, reverse-append}
+use Rattle.cap_spec.proofs.Prelude.{AllByRecursion, near, HasWord}
+use Rattle.cap_vet.specs.Prelude.{Step, IsLooked, Passes, IsRest, RunIn, all_spots, element_places, pointer_word_of}
+use Rattle.cap_vet.specs.Prelude.{row_places, spots, Ahead, added, HasWalked, work_left, Report, PointerRun}
 use Rattle.cap_vet.specs.declared.walk.looking.Looked.TheVariants.{Null}
-use Rattle.cap_vet.specs.declared.report.Report.{Report}
 use Rattle.cap_vet.proofs.Runs.{rest_of_row}
 use Rattle.cap_vet.proofs.Stacks.{next_seen, walks_on, work_smaller}
 

@@ -1,23 +1,12 @@
 -- What the end of a path says of the pointers on it.
-use Rattle.std.proofs.Common.{ℕ, ◌-◌, ◌≤◌, ◌≡◌, List, ◌∷◌, ◌++◌, Option, None, Some, length, refl, subst, sym, arith}
-use Rattle.std.specs.Prelude.{Bool, true, false}
-use Rattle.cap_spec.specs.Arriving.{PathFinds}
-use Rattle.cap_spec.specs.Getting.{AreOnPath, IsStartOf, Charges}
-use Rattle.cap_spec.specs.Paths.{Spot}
-use Rattle.cap_spec.specs.Strict.{IsLax}
-use Rattle.cap_spec.specs.declared.Kind.{Kind}
-use Rattle.cap_spec.specs.declared.Lax.{Lax}
-use Rattle.cap_spec.specs.declared.Step.{Step}
-use Rattle.cap_spec.specs.declared.StrictRefusal.{StrictRefusal}
-use Rattle.cap_spec.specs.declared.StrictRefusal.TheVariants.{Refused, ManySegments, Pointer}
+use Rattle.cap_spec.specs.declared.StrictRefusal.TheVariants.{Refused}
+use Rattle.cap_spec.proofs.Prelude.{Bool, List, None, Option, Some, arith, false, length, refl, subst, sym, true, ℕ}
+use Rattle.cap_spec.proofs.Prelude.{◌++◌, ◌-◌, ◌∷◌, ◌≡◌, ◌≤◌, PathFinds, AreOnPath, Charges, IsStartOf, Spot, IsLax}
 use Rattle.cap_spec.proofs.Verdicts.OnPath.{on_nowhere}
-use Rattle.cap_vet.specs.Charging.{Arrives, EndsAt, EndsEarly}
-use Rattle.cap_vet.specs.Demands.{words_under}
-use Rattle.cap_vet.specs.PathDemands.{IsFirstLaxOnPath, IsPathFault, MeetsOnPath}
-use Rattle.cap_vet.specs.PathStrictness.{HasNoFaultBy, IsFaultBy, KnowsLaxOnPath}
-use Rattle.cap_vet.specs.declared.nodes.charged.Arrival.{Arrival}
-use Rattle.cap_vet.specs.declared.demands.Demands.{Demands}
-use Rattle.cap_vet.specs.declared.strictness.strict_turn.LaxPointer.{LaxPointer}
+use Rattle.cap_vet.specs.Charging.{EndsAt}
+use Rattle.cap_vet.specs.Prelude.{Kind, Lax, Step, StrictRefusal, ManySegments, Pointer, Arrives, EndsEarly}
+use Rattle.cap_vet.specs.Prelude.{words_under, IsFirstLaxOnPath, IsPathFault, MeetsOnPath, HasNoFaultBy, IsFaultBy}
+use Rattle.cap_vet.specs.Prelude.{KnowsLaxOnPath, Demands, Arrival, LaxPointer}
 use Rattle.cap_vet.proofs.Charging.{arrives_nowhere, charges_nowhere}
 use Rattle.cap_vet.proofs.PathLax.{lax_same}
 

@@ -1,17 +1,9 @@
 -- What is known of the pointers on a path that common readers reject, step by step.
-use Rattle.std.proofs.Common.{ℕ, ◌≡◌, ◌∙◌, List, [], ◌∷◌, ◌++◌, Option, None, Some, inl, inr, length, refl, subst, sym}
-use Rattle.cap_spec.specs.Getting.{AreOnPath}
-use Rattle.cap_spec.specs.Paths.{Reaches}
-use Rattle.cap_spec.specs.Strict.{IsLaxAt}
-use Rattle.cap_spec.specs.declared.Lax.{Lax}
-use Rattle.cap_spec.specs.declared.Step.{Step}
-use Rattle.cap_spec.proofs.Paths.Walks.{one_reached}
-use Rattle.cap_spec.proofs.Verdicts.OneFault.{one_of_last}
+use Rattle.cap_spec.proofs.Lemmas.{one_reached, one_of_last}
+use Rattle.cap_spec.proofs.Prelude.{List, None, Option, Some, [], inl, inr, length, refl, subst, sym, ℕ, ◌++◌, ◌∙◌, ◌∷◌}
+use Rattle.cap_spec.proofs.Prelude.{◌≡◌, AreOnPath, Reaches, IsLaxAt}
 use Rattle.cap_spec.proofs.Verdicts.OnPath.{begins_itself, begins_longer}
-use Rattle.cap_vet.specs.Looking.{IsNotLax}
-use Rattle.cap_vet.specs.PathDemands.{IsFirstLaxOnPath}
-use Rattle.cap_vet.specs.PathStrictness.{AddsPointer, KnowsLaxOnPath}
-use Rattle.cap_vet.specs.declared.strictness.strict_turn.LaxPointer.{LaxPointer}
+use Rattle.cap_vet.specs.Prelude.{Lax, Step, IsNotLax, IsFirstLaxOnPath, AddsPointer, KnowsLaxOnPath, LaxPointer}
 
 -- The first on the beginning of a path is the first on the path.
 lax_longer : (m : List (List ℕ)) (prev more : List Step) (s w : ℕ) (what : Lax) (n : ℕ)

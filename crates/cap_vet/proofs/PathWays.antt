@@ -1,31 +1,17 @@
 -- What is given for a path, by where it leads.
-use Rattle.std.proofs.Common.{ℕ, ◌≡◌, ◌∙◌, ◌≤◌, List, [], ◌∷◌, ◌++◌, Err, Ok, None}
-use Rattle.std.proofs.Common.{Option, Some, ap, append_assoc, append-nil, inl, inr, length, refl, subst, sym}
-use Rattle.std.specs.Prelude.{true, false, IsOk, Result}
-use Rattle.cap_frame.specs.declared.segments.Segments as segments
-use Rattle.cap_spec.specs.Arriving.{PathFinds}
-use Rattle.cap_spec.specs.Getting.{IsFaultOnPath, IsRefusedOnPath}
-use Rattle.cap_spec.specs.Paths.{StepsTo, Spot}
-use Rattle.cap_spec.specs.declared.Refusal.{Refusal}
-use Rattle.cap_spec.specs.declared.Step.{Step}
-use Rattle.cap_spec.specs.declared.StrictRefusal.{StrictRefusal}
-use Rattle.cap_spec.specs.declared.StrictRefusal.TheVariants as fault
-use Rattle.cap_vet.specs.Charging.{Arrives, EndsEarly}
-use Rattle.cap_vet.specs.Demands.{words_under}
-use Rattle.cap_vet.specs.PathDemands.{IsPathFault, MeetsOnPath}
-use Rattle.cap_vet.specs.PathStrictness.{HasNoFaultBy, IsFaultBy}
-use Rattle.cap_vet.specs.PathWays.{GivesAfter, IsGiven}
-use Rattle.cap_vet.specs.Ways.{IsWay}
-use Rattle.cap_vet.specs.declared.nodes.charged.Arrival.{Arrival}
-use Rattle.cap_vet.specs.declared.demands.Demands.{Demands}
-use Rattle.cap_vet.specs.declared.nodes.found.Found.{Found}
-use Rattle.cap_vet.specs.declared.nodes.path_start.PathStart.{PathStart}
-use Rattle.cap_vet.specs.declared.nodes.view.View.{View}
-use Rattle.cap_vet.specs.declared.nodes.way.Way.{Way}
-use Rattle.cap_vet.specs.declared.nodes.way.Way.TheVariants.{To, Nowhere}
+use Rattle.std.proofs.Common.{IsOk}
+use Rattle.cap_spec.proofs.Prelude.{Err, List, None, Ok, Option, Result, Some, [], ap, append-nil, append_assoc, false}
+use Rattle.cap_spec.proofs.Prelude.{inl, inr, length, refl, subst, sym, true, ℕ, ◌++◌, ◌∙◌, ◌∷◌, ◌≡◌, ◌≤◌, PathFinds}
+use Rattle.cap_spec.proofs.Prelude.{IsFaultOnPath, IsRefusedOnPath, Spot, StepsTo}
+use Rattle.cap_vet.specs.PathWays.{IsGiven}
+use Rattle.cap_vet.specs.Prelude.{Refusal, Step, StrictRefusal, Arrives, EndsEarly, words_under, IsPathFault}
+use Rattle.cap_vet.specs.Prelude.{MeetsOnPath, HasNoFaultBy, IsFaultBy, GivesAfter, IsWay, Demands, Arrival, Found}
+use Rattle.cap_vet.specs.Prelude.{PathStart, View, Way, Nowhere, To}
 use Rattle.cap_vet.proofs.Charging.{fault_longer}
 use Rattle.cap_vet.proofs.PathEnds.{fault_at, meets_at, nothing_at, something_at}
 use Rattle.cap_vet.proofs.PathFaults.{meets_no_path_fault, one_path_fault}
+use Rattle.cap_frame.specs.declared.segments.Segments as segments
+use Rattle.cap_spec.specs.declared.StrictRefusal.TheVariants as fault
 
 -- A path goes on as far as one that begins it, if that leads to nothing or is refused.
 module _ (m : List (List ℕ)) (words depth : ℕ) (path more : List Step) where

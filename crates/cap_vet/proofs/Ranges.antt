@@ -1,15 +1,10 @@
 -- What marking a range of bits does to the places of a message.
-use Rattle.std.proofs.Common.{ℕ, zero, suc, ◌+◌, ◌<◌, ◌≤◌, ◌≡◌, ◌-◌, ◌^◌, List, [], ◌∷◌, ◌++◌, length, sum, inl, inr}
-use Rattle.std.proofs.Common.{refl, sym, ap, subst, ◌∙◌, arith, slice_index, slice_index_or}
-use Rattle.std.proofs.lemmas.Bool.{cases_eq, cases_lt}
-use Rattle.std.proofs.lemmas.List.{get_or_append_left}
 use Rattle.std.proofs.Math.Seq.{get_or-append_seam}
-use Rattle.std.proofs.lemmas.List.Sums.{sum_by-cons}
-use Rattle.cap_spec.specs.Frames.{sizes_of}
-use Rattle.cap_spec.specs.Messages.{IsMessage, segment_of}
 use Rattle.cap_spec.specs.Denoting.{places}
-use Rattle.cap_spec.specs.Lists.{IsOneOf}
 use Rattle.cap_spec.proofs.Disjoint.Places.{apart_places, at_place, in_places}
+use Rattle.cap_spec.proofs.Prelude.{List, [], ap, arith, inl, inr, length, refl, slice_index, slice_index_or, subst}
+use Rattle.cap_spec.proofs.Prelude.{suc, sum, sym, zero, ℕ, ◌++◌, ◌+◌, ◌-◌, ◌<◌, ◌^◌, ◌∙◌, ◌∷◌, ◌≡◌, ◌≤◌, cases_eq}
+use Rattle.cap_spec.proofs.Prelude.{cases_lt, get_or_append_left, sum_by-cons, sizes_of, IsOneOf, IsMessage, segment_of}
 use Rattle.cap_vet.specs.Marks.{MarksAll}
 use Rattle.cap_vet.specs.Taken.{AreStarts, IsTaken, bit_in, start_of}
 

@@ -1,12 +1,8 @@
 -- The pointer words of a run, word by word.
-use Rattle.std.proofs.Common.{◌≡◌, ℕ, zero, suc, ◌+◌, ◌-◌, ◌*◌, ◌<◌, ◌≤◌, List, [], ◌∷◌, ◌++◌, length, map, refl, ap, ◌∙◌, arith, Option, None, Some}
-use Rattle.std.proofs.lemmas.List.{map-append}
-use Rattle.cap_spec.specs.Messages.{segment_of}
-use Rattle.cap_spec.specs.declared.Step.{Step}
-use Rattle.cap_spec.specs.declared.Step.TheVariants.{Ptr, Item}
-use Rattle.cap_vet.specs.Trails.{row, element_rows}
-use Rattle.cap_vet.specs.PointerRuns.{pointer_word_of, row_places, element_places, IsRest}
-use Rattle.cap_vet.specs.declared.walk.pointer_run.PointerRun.{PointerRun}
+use Rattle.cap_spec.proofs.Prelude.{List, None, Option, Some, [], ap, arith, length, map, refl, suc, zero, ℕ, ◌*◌, ◌++◌}
+use Rattle.cap_spec.proofs.Prelude.{◌+◌, ◌-◌, ◌<◌, ◌∙◌, ◌∷◌, ◌≡◌, ◌≤◌, map-append, segment_of}
+use Rattle.cap_vet.specs.Prelude.{Step, Item, Ptr, IsRest, element_places, pointer_word_of, row_places, element_rows}
+use Rattle.cap_vet.specs.Prelude.{row, PointerRun}
 
 -- behind the first of several words in a row
 pub rest_of_row : (s b : ℕ) {n : ℕ} (more ds ps level : ℕ) → 1 < n → IsRest

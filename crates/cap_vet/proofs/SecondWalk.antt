@@ -1,23 +1,12 @@
 -- The turns and the end of a second walk.
-use Rattle.std.proofs.Common.{ℕ, ◌<◌, ◌≡◌, List, [], ◌∷◌, ◌++◌, length, inl, inr, refl, ap, subst, arith}
-use Rattle.std.proofs.Props.{props}
-use Rattle.std.proofs.Math.Logic.{∥∥₁_elim}
-use Rattle.cap_spec.specs.Messages.{segment_of}
-use Rattle.cap_spec.specs.Pointers.{extent}
 use Rattle.cap_spec.specs.Denoting.{places}
-use Rattle.cap_spec.specs.Occupying.{pads_of, Occupies, IsDisjoint, IsFirstOverlap}
-use Rattle.cap_spec.specs.Paths.{Costs}
-use Rattle.cap_spec.specs.declared.Step.{Step}
-use Rattle.cap_spec.proofs.Paths.Arrivals.{lead_word}
-use Rattle.cap_spec.proofs.Frames.Messages.{HasWord-inside}
-use Rattle.cap_spec.proofs.Trees.OneTree.{Formed, formed}
-use Rattle.cap_spec.proofs.Disjoint.Overlaps.{disjoint_of_none, none_of_disjoint}
-use Rattle.cap_vet.specs.Marks.{IsMarked, MarksAll, Conflicts}
-use Rattle.cap_vet.specs.Reports.{IsAccepted}
+use Rattle.cap_spec.proofs.Lemmas.{disjoint_of_none, none_of_disjoint, HasWord-inside, lead_word, Formed, formed}
+use Rattle.cap_spec.proofs.Prelude.{List, [], ap, arith, inl, inr, length, refl, subst, ℕ, ◌++◌, ◌<◌, ◌∷◌, ◌≡◌}
+use Rattle.cap_spec.proofs.Prelude.{∥∥₁_elim, props, segment_of, IsDisjoint, IsFirstOverlap, Occupies, pads_of, Costs}
+use Rattle.cap_spec.proofs.Prelude.{extent}
+use Rattle.cap_vet.specs.Prelude.{Step, Conflicts, IsMarked, MarksAll, IsAccepted, Ahead, IsTrail, HasWalked}
+use Rattle.cap_vet.specs.Prelude.{IsLookedAt, Report}
 use Rattle.cap_vet.specs.Taken.{HasRoom}
-use Rattle.cap_vet.specs.Trails.{Ahead, IsTrail}
-use Rattle.cap_vet.specs.Walking.{IsLookedAt, HasWalked}
-use Rattle.cap_vet.specs.declared.report.Report.{Report}
 use Rattle.cap_vet.proofs.Marking.{all_disjoint, first_overlap, marks_on}
 use Rattle.cap_vet.proofs.Verdicts.{none_ahead}
 

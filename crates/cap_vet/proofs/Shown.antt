@@ -1,23 +1,16 @@
 -- What stands at a spot is the node of the tree there.
-use Rattle.std.proofs.Common.{◌≡◌, ℕ, ◌+◌, ◌<◌, List, ap, ◌∙◌, sym, refl, subst, arith}
-use Rattle.cap_spec.specs.Messages.{HasWord}
-use Rattle.cap_spec.specs.Pointers.{kind, code, middle, data_size, pointer_size, list_size}
-use Rattle.cap_spec.specs.Following.{Lead, Leads, to_null, to_cap}
-use Rattle.cap_spec.specs.Tree.{Tree, null, cap, struct, scalars, pointers, structs, tree_count}
-use Rattle.cap_spec.specs.Denoting.{Denotes, Finds, places, values_of, words_from}
-use Rattle.cap_spec.specs.Paths.{Spot, word, element}
-use Rattle.cap_spec.specs.Standing.{DenotesAt}
+use Rattle.cap_spec.specs.Denoting.{places}
+use Rattle.cap_spec.specs.Showing.{own_cap, own_null, own_pointers, own_scalars, own_struct, own_structs}
 use Rattle.cap_spec.specs.declared.Kind.{Kind}
-use Rattle.cap_spec.specs.declared.Kind.TheVariants.{Null, Cap, Struct, Scalars, Pointers, Structs}
-use Rattle.cap_spec.proofs.Paths.Arrivals.{found_form}
-use Rattle.cap_spec.proofs.Trees.Charges.{each_charged, length-places}
-use Rattle.cap_spec.proofs.Paths.Depths.{elements_depth}
-use Rattle.cap_spec.proofs.Trees.Finding.{SameObject, one_object}
-use Rattle.cap_spec.proofs.Pointers.Following.{one_lead}
-use Rattle.cap_spec.proofs.Frames.Messages.{one_word}
-use Rattle.cap_spec.proofs.Trees.OneTree.{HasForm, form_of, formed, number_list, number_struct}
-use Rattle.cap_spec.specs.Arriving.{HasObject, IsElementAt, own_at}
-use Rattle.cap_spec.specs.Showing.{own_of, own_null, own_cap, own_struct, own_scalars, own_pointers, own_structs}
+use Rattle.cap_spec.specs.declared.Kind.TheVariants.{Cap, Null, Pointers, Scalars, Struct, Structs}
+use Rattle.cap_spec.proofs.Lemmas.{one_word, found_form, elements_depth, one_lead, each_charged, length-places}
+use Rattle.cap_spec.proofs.Lemmas.{SameObject, one_object, HasForm, formed, number_list, number_struct}
+use Rattle.cap_spec.proofs.Prelude.{List, ap, arith, refl, subst, sym, ℕ, ◌+◌, ◌<◌, ◌∙◌, ◌≡◌, HasObject, IsElementAt}
+use Rattle.cap_spec.proofs.Prelude.{own_at, Denotes, Finds, values_of, words_from, Lead, Leads, to_cap, to_null}
+use Rattle.cap_spec.proofs.Prelude.{HasWord, Spot, element, word, code, data_size, kind, list_size, middle}
+use Rattle.cap_spec.proofs.Prelude.{pointer_size, own_of, DenotesAt, Tree, cap, null, pointers, scalars, struct}
+use Rattle.cap_spec.proofs.Prelude.{structs, tree_count}
+use Rattle.cap_spec.proofs.Trees.OneTree.{form_of}
 
 -- a tree has the form of what its word leads to
 lead_form : (m : List (List ℕ)) (s w : ℕ) (x : Tree) (c d k : ℕ) (r : Lead) → Denotes m s w x c d → Leads m s w k r → HasForm x (form_of r)

@@ -1,19 +1,13 @@
 -- What is known of a step of a path where some path is known to come to it.
-use Rattle.std.proofs.Common.{◌≡◌, ℕ, ◌+◌, ◌*◌, ◌<◌, ◌≤◌, ◌^◌, List, Some, length, subst, arith}
-use Rattle.std.proofs.Math.Logic.{∥∥₁_elim, ∥∥₁_map}
-use Rattle.std.proofs.Props.{props}
-use Rattle.cap_spec.specs.Messages.{IsMessage, segment_of}
-use Rattle.cap_spec.specs.Paths.{Spot}
-use Rattle.cap_spec.proofs.Frames.Messages.{short_segment}
 use Rattle.cap_spec.specs.declared.Kind.TheVariants.{Pointers, Structs}
-use Rattle.cap_spec.specs.declared.Step.{Step}
-use Rattle.cap_vet.specs.Finding.{IsFound, IsSomewhere, StepLeads, own_words}
-use Rattle.cap_vet.specs.Ways.{HasFound, IsSomeWay, SomeArrives}
-use Rattle.cap_vet.specs.declared.nodes.charged.Arrival.{Arrival}
-use Rattle.cap_vet.specs.declared.nodes.found.Found.{Found}
-use Rattle.cap_vet.specs.declared.nodes.way.Way.{Way}
+use Rattle.cap_spec.proofs.Frames.Messages.{short_segment}
+use Rattle.cap_spec.proofs.Prelude.{List, Some, arith, length, subst, ℕ, ◌*◌, ◌+◌, ◌<◌, ◌^◌, ◌≡◌, ◌≤◌, ∥∥₁_elim}
+use Rattle.cap_spec.proofs.Prelude.{∥∥₁_map, props, IsMessage, segment_of, Spot}
+use Rattle.cap_vet.specs.Finding.{IsSomewhere, StepLeads}
+use Rattle.cap_vet.specs.Prelude.{Step, IsFound, own_words, HasFound, SomeArrives, Arrival, Found, Way, Nowhere, To}
+use Rattle.cap_vet.specs.Ways.{IsSomeWay}
 use Rattle.cap_vet.specs.declared.nodes.spot.Spot.TheVariants.{Word}
-use Rattle.cap_vet.specs.declared.nodes.way.Way.TheVariants.{To, Nowhere, Refused}
+use Rattle.cap_vet.specs.declared.nodes.way.Way.TheVariants.{Refused}
 use Rattle.cap_vet.proofs.Charging.{arrives_low}
 use Rattle.cap_vet.proofs.Stepping.{element_inside, elements_inside, entry_inside}
 

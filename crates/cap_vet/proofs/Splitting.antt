@@ -1,17 +1,12 @@
 -- What a second walk over an accepted message says within the limits that it was accepted within.
-use Rattle.std.proofs.Common.{ℕ, ◌+◌, ◌<◌, ◌≡◌, sum, sym, subst, Result, Ok, Err}
-use Rattle.std.specs.Prelude.{IfOk}
-use Rattle.cap_frame.specs.declared.segments.Segments as segments
-use Rattle.cap_spec.specs.Frames.{sizes_of}
-use Rattle.cap_spec.specs.Occupying.{IsDisjoint, empty_count}
-use Rattle.cap_spec.specs.Tree.{Tree}
 use Rattle.cap_spec.proofs.Disjoint.Bounds.{charge_below_words}
+use Rattle.cap_spec.proofs.Prelude.{Err, IfOk, Ok, Result, subst, sum, sym, ℕ, ◌+◌, ◌<◌, ◌≡◌, sizes_of, IsDisjoint}
+use Rattle.cap_spec.proofs.Prelude.{empty_count, Tree}
 use Rattle.cap_vet.specs.Exclusives.{vetted_of}
-use Rattle.cap_vet.specs.Reports.{IsAccepted, IsReport}
-use Rattle.cap_vet.specs.Vettings.{message_of, report_of}
+use Rattle.cap_vet.specs.Prelude.{IsAccepted, IsReport, message_of, report_of, Report}
 use Rattle.cap_vet.specs.declared.exclusiveness.exclusive.Exclusive.{Exclusive}
-use Rattle.cap_vet.specs.declared.report.Report.{Report}
 use Rattle.cap_vet.specs.declared.nodes.vetted.Vetted.{Vetted}
+use Rattle.cap_frame.specs.declared.segments.Segments as segments
 
 -- The message is accepted as v, and a second walk gives v as an exclusive message, or it doesn't.
 module _ {M E : Type 0} {g : segments.Ghosts M} (message : M) (words depth : ℕ) (v : Vetted M g)

@@ -1,33 +1,22 @@
 -- What one turn of a walk leaves of its runs.
-use Rattle.std.proofs.Common.{◌≡◌, ℕ, ◌+◌, ◌≤◌, List, [], ◌∷◌, ◌++◌, length, map, reverse, refl, sym, ap, ◌∙◌, subst, arith, Option, None, Some, ◌<◌, suc}
-use Rattle.std.proofs.Common.{◌-◌, inl, inr}
-use Rattle.std.specs.Option.{option_to_list}
-use Rattle.std.specs.List.{AllByRecursion}
-use Rattle.std.proofs.lemmas.List.{map-append, reverse-append, length-append, length-map}
-use Rattle.cap_spec.specs.Following.{Leads, extra, near, to_cap, to_null}
-use Rattle.cap_spec.specs.Messages.{HasWord}
-use Rattle.cap_spec.specs.Paths.{Costs, Reaches}
-use Rattle.cap_spec.specs.Pointers.{extent}
-use Rattle.cap_spec.specs.Denoting.{Finds}
-use Rattle.cap_spec.specs.Verdicts.{levels_below}
-use Rattle.cap_spec.specs.declared.Step.{Step}
-use Rattle.cap_vet.specs.Trails.{Ahead}
-use Rattle.cap_vet.specs.PointerRuns.{RunIn, IsRest, LevelIs, OptionIn, all_spots, option_spots, pointer_word_of, spots}
-use Rattle.cap_vet.specs.Looking.{RunRises, IsLooked, object_children}
-use Rattle.cap_vet.specs.Turning.{added, cost_of, run_below}
-use Rattle.cap_vet.specs.Limits.{depth_of, words_of}
-use Rattle.cap_vet.specs.Turns.{GoesOn, GoesOnBelow, HasVisited, IsAt, IsWalking}
-use Rattle.cap_vet.specs.WalkSteps.{Continues, GoesOnWith, runs_left}
-use Rattle.cap_vet.specs.Walking.{AreNull, IsLookedAt, IsNext, AreStacked, Progress, HasWalked, work_left, work_next}
-use Rattle.cap_vet.specs.declared.walk.pointer_run.PointerRun.{PointerRun}
-use Rattle.cap_vet.specs.declared.limits.Limits.{Limits}
-use Rattle.cap_vet.specs.declared.walk.looking.Looked.{Looked}
-use Rattle.cap_vet.specs.declared.walk.looking.Looked.TheVariants as looked
-use Rattle.cap_vet.specs.declared.report.Report.{Report}
-use Rattle.cap_vet.specs.declared.walk.walking.Next.{Next}
 use Rattle.cap_spec.proofs.Bytes.Lists.{reverse-more}
+use Rattle.cap_spec.proofs.Prelude.{List, None, Option, Some, [], ap, arith, inl, inr, length, length-append, map}
+use Rattle.cap_spec.proofs.Prelude.{option_to_list, refl, reverse, subst, suc, sym, ℕ, ◌++◌, ◌+◌, ◌-◌, ◌<◌, ◌∙◌, ◌∷◌}
+use Rattle.cap_spec.proofs.Prelude.{◌≡◌, ◌≤◌, length-map, map-append, reverse-append, AllByRecursion, Finds, Leads}
+use Rattle.cap_spec.proofs.Prelude.{extra, near, to_cap, to_null, HasWord, Costs, Reaches, extent, levels_below}
+use Rattle.cap_vet.specs.Prelude.{Step, depth_of, words_of, IsLooked, RunRises, object_children, IsRest, LevelIs}
+use Rattle.cap_vet.specs.Prelude.{OptionIn, RunIn, all_spots, option_spots, pointer_word_of, spots, Ahead, added}
+use Rattle.cap_vet.specs.Prelude.{IsWalking, HasWalked, IsLookedAt, IsNext, Progress, work_left, Limits, Report}
+use Rattle.cap_vet.specs.Prelude.{PointerRun}
+use Rattle.cap_vet.specs.Turning.{cost_of, run_below}
+use Rattle.cap_vet.specs.Turns.{GoesOn, GoesOnBelow, HasVisited, IsAt}
+use Rattle.cap_vet.specs.WalkSteps.{Continues, GoesOnWith, runs_left}
+use Rattle.cap_vet.specs.Walking.{AreNull, AreStacked, work_next}
+use Rattle.cap_vet.specs.declared.walk.looking.Looked.{Looked}
+use Rattle.cap_vet.specs.declared.walk.walking.Next.{Next}
 use Rattle.cap_vet.proofs.Objects.{object-brings, object_places-children}
 use Rattle.cap_vet.proofs.Turning.{next_ahead, turn_cap, turn_null, turn_object}
+use Rattle.cap_vet.specs.declared.walk.looking.Looked.TheVariants as looked
 
 spots-more : (r : Option PointerRun) (runs : List PointerRun) → all_spots (option_to_list r ++ runs) ≡ option_spots r ++ all_spots runs
 spots-more None runs = refl

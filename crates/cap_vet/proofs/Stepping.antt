@@ -1,18 +1,10 @@
 -- Where steps lead from what was found at a spot.
-use Rattle.std.proofs.Common.{◌≡◌, ℕ, ◌+◌, ◌*◌, ◌<◌, ◌≤◌, inl, inr, List, length, ap, ◌∙◌, refl, subst, arith}
-use Rattle.std.proofs.Math.Nat.{mul-le-mul_right}
-use Rattle.cap_spec.specs.Messages.{segment_of}
-use Rattle.cap_spec.specs.Pointers.{kind, code, middle, data_size, pointer_size, list_size}
-use Rattle.cap_spec.specs.Paths.{StepsTo, Spot, word, element}
-use Rattle.cap_spec.specs.declared.Kind.{Kind}
-use Rattle.cap_spec.specs.declared.Kind.TheVariants.{Null, Cap, Struct, Scalars, Pointers, Structs}
-use Rattle.cap_spec.specs.declared.Step.TheVariants.{Ptr, Item}
-use Rattle.cap_spec.proofs.Trees.Charges.{extent_pointers, extent_structs}
-use Rattle.cap_spec.proofs.Trees.Finding.{SameObject, one_object}
-use Rattle.cap_spec.proofs.Frames.Messages.{one_word}
-use Rattle.cap_spec.specs.Arriving.{HasObject, IsElementAt}
-use Rattle.cap_vet.specs.Finding.{IsFound}
-use Rattle.cap_vet.specs.declared.nodes.found.Found.{Found}
+use Rattle.cap_spec.specs.declared.Kind.TheVariants.{Cap, Null, Pointers, Scalars, Struct, Structs}
+use Rattle.cap_spec.proofs.Lemmas.{one_word, extent_pointers, extent_structs, SameObject, one_object}
+use Rattle.cap_spec.proofs.Prelude.{List, ap, arith, inl, inr, length, mul-le-mul_right, refl, subst, ℕ, ◌*◌, ◌+◌, ◌<◌}
+use Rattle.cap_spec.proofs.Prelude.{◌∙◌, ◌≡◌, ◌≤◌, HasObject, IsElementAt, segment_of, Spot, StepsTo, element, word}
+use Rattle.cap_spec.proofs.Prelude.{code, data_size, kind, list_size, middle, pointer_size}
+use Rattle.cap_vet.specs.Prelude.{Kind, Item, Ptr, IsFound, Found}
 use Rattle.cap_vet.proofs.Steps.{cap_no_object, null_no_object}
 
 -- what stands there, where its kind is known

@@ -1,16 +1,12 @@
 -- How the count goes on at each kind of word.
-use Rattle.std.proofs.Common.{◌≡◌, ℕ, zero, suc, ◌+◌, ◌<◌, ◌≤◌, max, List, [], refl, subst, arith}
-use Rattle.std.specs.Prelude.{pos}
-use Rattle.cap_spec.specs.Messages.{HasWord}
-use Rattle.cap_spec.specs.Pointers.{kind, middle, code, data_size, pointer_size, list_size, extent}
-use Rattle.cap_spec.specs.Following.{Leads, to_null, to_cap, to_object, extra}
-use Rattle.cap_spec.specs.Denoting.{Finds, element_levels, values_of, words_from}
-use Rattle.cap_spec.specs.Tree.{null, cap, struct, scalars, pointers, structs}
-use Rattle.cap_spec.specs.declared.Step.TheVariants.{Ptr, Item}
 use Rattle.cap_spec.proofs.Pointers.Following.{one_lead}
-use Rattle.cap_vet.specs.Trails.{Ahead, row, element_rows}
+use Rattle.cap_spec.proofs.Prelude.{List, [], arith, max, pos, refl, subst, suc, zero, ℕ, ◌+◌, ◌<◌, ◌≡◌, ◌≤◌, Finds}
+use Rattle.cap_spec.proofs.Prelude.{element_levels, values_of, words_from, Leads, extra, to_cap, to_null, to_object}
+use Rattle.cap_spec.proofs.Prelude.{HasWord, code, data_size, extent, kind, list_size, middle, pointer_size, cap, null}
+use Rattle.cap_spec.proofs.Prelude.{pointers, scalars, struct, structs}
+use Rattle.cap_vet.specs.Prelude.{Item, Ptr, Ahead, element_rows, row}
 use Rattle.cap_vet.proofs.Counting.{Counts}
-use Rattle.cap_vet.proofs.Owing.{owes-row, owes-elements}
+use Rattle.cap_vet.proofs.Owing.{owes-elements, owes-row}
 
 -- null is no object, and no capability is one
 pub null_no_object : (m : List (List ℕ)) (s w k k' t b q : ℕ) → Leads m s w k to_null → Finds m s w k' t b q → ⊥

@@ -1,5 +1,5 @@
 -- The first of the steps that a source gives, and the others.
-use Rattle.std.proofs.Common.{◌≡◌, ◌∙◌, List, [], ◌∷◌, Option, Some, None, refl, sym}
+use Rattle.std.proofs.Common.{List, None, Option, Some, [], refl, sym, ◌∙◌, ◌∷◌, ◌≡◌}
 use Rattle.cap_spec.specs.declared.Step.{Step}
 
 -- The source gives a step, and the others are still to come,

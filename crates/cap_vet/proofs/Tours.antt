@@ -1,13 +1,11 @@
 -- A trail up to a path is the tour of it.
-use Rattle.std.proofs.Common.{◌≡◌, ℕ, ◌+◌, ◌⊎◌, inl, inr, List, [], ◌∷◌, length, refl, reverse, sym, ◌∙◌, subst, arith}
-use Rattle.std.proofs.lemmas.List.{append-nil}
 use mathlib.Core.List.{reverse_aux}
-use Rattle.cap_spec.specs.Lists.{IsOneOf}
-use Rattle.cap_spec.specs.Paths.{Before, IsTour, Rises}
-use Rattle.cap_spec.specs.declared.Step.{Step}
-use Rattle.cap_vet.specs.Trails.{Ahead, Apart, EachApart, Falls, IsUnder, IsTrail}
 use Rattle.cap_spec.proofs.Paths.Preorder.{Before-trans}
-use Rattle.cap_vet.proofs.Apart.{Apart-right, Apart-trans, not_before-self, not_apart-self, not_before-apart, longer-differs}
+use Rattle.cap_spec.proofs.Prelude.{List, [], append-nil, arith, inl, inr, length, refl, reverse, subst, sym, ℕ, ◌+◌}
+use Rattle.cap_spec.proofs.Prelude.{◌∙◌, ◌∷◌, ◌≡◌, ◌⊎◌, IsOneOf, Before, IsTour, Rises}
+use Rattle.cap_vet.specs.Prelude.{Step, Ahead, Apart, EachApart, Falls, IsTrail, IsUnder}
+use Rattle.cap_vet.proofs.Apart.{Apart-right, Apart-trans, longer-differs, not_apart-self, not_before-apart}
+use Rattle.cap_vet.proofs.Apart.{not_before-self}
 use Rattle.cap_vet.proofs.Trails.{falls-step, reached-step}
 
 -- the paths of the first list, the last one first, in front of the second

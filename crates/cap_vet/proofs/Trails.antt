@@ -1,12 +1,10 @@
 -- How a trail goes on.
-use Rattle.std.proofs.Common.{◌≡◌, ℕ, ◌⊎◌, inl, inr, List, [], ◌∷◌, ◌++◌, sym, ◌∙◌, subst}
-use Rattle.std.proofs.lemmas.List.{append-nil}
-use Rattle.cap_spec.specs.Lists.{IsOneOf}
-use Rattle.cap_spec.specs.Paths.{Before, Reaches}
 use Rattle.cap_spec.specs.declared.Step.{Step}
-use Rattle.cap_vet.specs.Trails.{Ahead, Apart, EachApart, Falls, Precedes, GoOnFrom, IsUnder, AreReached, IsTrail}
 use Rattle.cap_spec.proofs.Paths.Preorder.{Before-longer}
-use Rattle.cap_vet.proofs.Apart.{apart-before, Apart-left}
+use Rattle.cap_spec.proofs.Prelude.{List, [], append-nil, inl, inr, subst, sym, ℕ, ◌++◌, ◌∙◌, ◌∷◌, ◌≡◌, ◌⊎◌, IsOneOf}
+use Rattle.cap_spec.proofs.Prelude.{Before, Reaches}
+use Rattle.cap_vet.specs.Trails.{Ahead, Apart, AreReached, EachApart, Falls, GoOnFrom, IsTrail, IsUnder, Precedes}
+use Rattle.cap_vet.proofs.Apart.{Apart-left, apart-before}
 
 -- what is under one of two lists is under both together
 pub IsUnder-left : (q : List Step) (xs ys : List Ahead) → IsUnder q xs → IsUnder q (xs ++ ys)

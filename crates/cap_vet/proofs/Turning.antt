@@ -1,30 +1,13 @@
 -- What one turn of a walk keeps.
-use Rattle.std.proofs.Common.{◌≡◌, ℕ, ◌+◌, ◌<◌, ◌≤◌, max, inl, inr, ◌⊎◌, ◌==◌, true, false, List, [], ◌∷◌, ◌++◌, map}
-use Rattle.std.proofs.Common.{refl, sym, ap, ◌∙◌, subst, arith, Option, None, Some}
-use Rattle.std.specs.Prelude.{pos}
-use Rattle.std.proofs.lemmas.List.{length-append}
-use Rattle.cap_spec.specs.Lists.{IsOneOf}
-use Rattle.cap_spec.specs.Messages.{HasWord}
-use Rattle.cap_spec.specs.Pointers.{code, extent, kind, middle}
-use Rattle.cap_spec.specs.Following.{Leads, IsComposite, to_null, to_cap, extra}
-use Rattle.cap_spec.specs.Denoting.{Finds, element_levels}
-use Rattle.cap_spec.specs.Faults.{AreShallow}
-use Rattle.cap_spec.specs.Paths.{Before, Costs, StepsTo, Reaches, Spot, PathLeads, word}
-use Rattle.cap_spec.specs.Verdicts.{CostOf, levels_below, IsDeepAt}
-use Rattle.cap_spec.specs.declared.Step.{Step}
-use Rattle.cap_spec.specs.declared.Step.TheVariants.{Ptr, Item}
-use Rattle.cap_spec.proofs.Paths.Walks.{one_reached}
-use Rattle.cap_vet.specs.Trails.{Ahead, Falls}
-use Rattle.cap_vet.specs.Owing.{IsCount}
-use Rattle.cap_vet.specs.PointerRuns.{PointerWord, pointer_word_of}
-use Rattle.cap_vet.specs.Walking.{IsFirstOf, LeadsToCap, Progress}
-use Rattle.std.proofs.lemmas.List.{append-nil}
-use Rattle.std.proofs.lemmas.Bool.Decides.{eqb_tells}
-use Rattle.cap_spec.proofs.Trees.Charges.{lead_kind}
-use Rattle.cap_spec.proofs.Trees.Finding.{one_object}
-use Rattle.cap_spec.proofs.Frames.Messages.{one_word}
-use Rattle.cap_spec.proofs.Paths.Preorder.{Before-asymmetric}
-use Rattle.cap_vet.specs.Turning.{or_place}
+use Rattle.cap_spec.proofs.Lemmas.{one_word, Before-asymmetric, one_reached, lead_kind, one_object}
+use Rattle.cap_spec.proofs.Prelude.{List, None, Option, Some, [], ap, append-nil, arith, false, inl, inr, length-append}
+use Rattle.cap_spec.proofs.Prelude.{map, max, pos, refl, subst, sym, true, ℕ, ◌++◌, ◌+◌, ◌<◌, ◌==◌, ◌∙◌, ◌∷◌, ◌≡◌, ◌≤◌}
+use Rattle.cap_spec.proofs.Prelude.{◌⊎◌, eqb_tells, Finds, element_levels, AreShallow, IsComposite, Leads, extra}
+use Rattle.cap_spec.proofs.Prelude.{to_cap, to_null, IsOneOf, HasWord, Before, Costs, PathLeads, Reaches, Spot, StepsTo}
+use Rattle.cap_spec.proofs.Prelude.{word, code, extent, kind, middle, CostOf, IsDeepAt, levels_below}
+use Rattle.cap_vet.specs.Prelude.{Step, Item, Ptr, object_children, IsCount, PointerWord, pointer_word_of, Ahead, Falls}
+use Rattle.cap_vet.specs.Prelude.{or_place, IsFirstOf, Progress}
+use Rattle.cap_vet.specs.Walking.{LeadsToCap}
 use Rattle.cap_vet.proofs.Apart.{not_before-self}
 use Rattle.cap_vet.proofs.Children.{no_children}
 use Rattle.cap_vet.proofs.Counting.{count-step}
@@ -32,7 +15,6 @@ use Rattle.cap_vet.proofs.Objects.{near-append, near-deeper, object-brings}
 use Rattle.cap_vet.proofs.Steps.{cap-counts, cap_no_object, null-counts, null_no_cap, null_no_object}
 use Rattle.cap_vet.proofs.Tours.{Falls-before}
 use Rattle.cap_vet.proofs.Trails.{falls-step, trail-step}
-use Rattle.cap_vet.specs.Looking.{object_children}
 
 -- the word ahead that stands at a place
 pub record Next (x : PointerWord) (places : List PointerWord) (aheads : List Ahead) : Type 0 where

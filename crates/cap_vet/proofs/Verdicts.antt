@@ -1,28 +1,16 @@
 -- How a walk ends: at the first fault, or with the whole tree.
-use Rattle.cap_vet.specs.Reports.{IsAccepted, IsFirstCapOf, IsVetted}
-use Rattle.cap_vet.specs.Owing.{IsCount}
-use Rattle.cap_spec.proofs.Frames.Messages.{HasWord-at}
-use Rattle.std.proofs.Common.{◌≡◌, ℕ, ◌+◌, ◌<◌, inl, inr, List, [], ◌∷◌, ◌++◌, length, map, refl, reverse, sym, subst, arith, Option, None, Some}
-use Rattle.std.proofs.lemmas.List.{length-append}
-use Rattle.cap_spec.specs.Lists.{IsOneOf}
-use Rattle.cap_spec.specs.Messages.{segment_of}
-use Rattle.cap_spec.specs.Denoting.{Denotes}
-use Rattle.cap_spec.specs.Faults.{HasNoRoot, IsFirstFault, IsFirstReason}
-use Rattle.cap_spec.specs.Paths.{IsTour, Reaches}
-use Rattle.cap_spec.specs.Verdicts.{CostOf}
-use Rattle.cap_spec.specs.declared.Reason.{Reason}
 use Rattle.cap_spec.specs.declared.Reason.TheVariants.{NoRoot}
-use Rattle.cap_spec.specs.declared.Step.{Step}
-use Rattle.cap_vet.specs.Trails.{Ahead, IsTrail}
-use Rattle.cap_vet.specs.PointerRuns.{pointer_word_of, root_run}
-use Rattle.cap_vet.specs.Limits.{depth_of, words_of}
-use Rattle.cap_vet.specs.Turns.{HoldsBefore, IsWalking}
-use Rattle.cap_vet.specs.Walking.{IsFirstOf, IsNext, Progress, HasWalked}
-use Rattle.cap_vet.specs.declared.walk.pointer_run.PointerRun.{PointerRun}
-use Rattle.cap_vet.specs.declared.limits.Limits.{Limits}
-use Rattle.cap_vet.specs.declared.report.Report.{Report}
+use Rattle.cap_spec.proofs.Frames.Messages.{HasWord-at}
+use Rattle.cap_spec.proofs.Prelude.{List, None, Option, Some, [], arith, inl, inr, length, length-append, map, refl}
+use Rattle.cap_spec.proofs.Prelude.{reverse, subst, sym, ℕ, ◌++◌, ◌+◌, ◌<◌, ◌∷◌, ◌≡◌, Denotes, HasNoRoot, IsFirstFault}
+use Rattle.cap_spec.proofs.Prelude.{IsFirstReason, IsOneOf, segment_of, IsTour, Reaches, CostOf}
+use Rattle.cap_vet.specs.PointerRuns.{root_run}
+use Rattle.cap_vet.specs.Prelude.{Reason, Step, depth_of, words_of, IsCount, pointer_word_of, IsAccepted, IsFirstCapOf}
+use Rattle.cap_vet.specs.Prelude.{IsVetted, Ahead, IsTrail, IsWalking, HasWalked, IsFirstOf, IsNext, Progress, Limits}
+use Rattle.cap_vet.specs.Prelude.{Report, PointerRun}
+use Rattle.cap_vet.specs.Turns.{HoldsBefore}
 use Rattle.cap_vet.specs.declared.walk.turn.Stopped.{Stopped}
-use Rattle.cap_vet.specs.declared.walk.turn.Stopped.TheVariants.{Refused, ByTurn}
+use Rattle.cap_vet.specs.declared.walk.turn.Stopped.TheVariants.{ByTurn, Refused}
 use Rattle.cap_vet.proofs.Tours.{in_order, in_order-IsOneOf, in_order-reverse, length-in_order, onto, tour_of}
 
 -- paths in order, and one more

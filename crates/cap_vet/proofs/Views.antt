@@ -1,24 +1,15 @@
 -- What a view shows, by its kind.
-use Rattle.std.proofs.Common.{ℕ, ◌+◌, ◌*◌, ◌/◌, ◌%◌, ◌^◌, ◌<◌, ◌≤◌, ◌⊎◌, inl, inr, ◌-◌, min, List, length, get_or, ◌≡◌}
-use Rattle.std.proofs.Common.{sym, ap, refl, ◌∙◌, subst, arith, Option, Some, None}
-use Rattle.std.specs.Prelude.{slice_get, ◌==◌}
-use Rattle.std.specs.Option.{option_map}
-use Rattle.std.proofs.lemmas.Option.{slice_get-get_or}
-use Rattle.cap_spec.specs.Words.{field}
-use Rattle.cap_spec.specs.Messages.{HasWord, IsMessage, segment_of}
-use Rattle.cap_spec.specs.Plain.{word_bytes}
-use Rattle.cap_spec.specs.Pointers.{element_bits, list_words}
-use Rattle.cap_spec.specs.Denoting.{value_at, values_of, words_from}
-use Rattle.cap_spec.specs.Scalars.{scalar_words}
-use Rattle.cap_spec.specs.Arriving.{own_at}
-use Rattle.cap_spec.specs.Showing.{bit_of, byte_of, count_of, kind_of, scalar_of, words_of_own}
-use Rattle.cap_spec.specs.declared.Kind.{Kind}
-use Rattle.cap_spec.specs.declared.Kind.TheVariants.{Null, Cap, Struct, Scalars, Pointers, Structs}
+use Rattle.cap_spec.specs.Showing.{bit_of, byte_of, count_of, scalar_of}
+use Rattle.cap_spec.specs.declared.Kind.TheVariants.{Cap, Null, Pointers, Scalars, Struct, Structs}
+use Rattle.cap_spec.proofs.Lemmas.{short_segment, range_length, word_within}
+use Rattle.cap_spec.proofs.Prelude.{List, None, Option, Some, ap, arith, get_or, inl, inr, length, min, option_map}
+use Rattle.cap_spec.proofs.Prelude.{refl, slice_get, subst, sym, ℕ, ◌%◌, ◌*◌, ◌+◌, ◌-◌, ◌/◌, ◌<◌, ◌==◌, ◌^◌, ◌∙◌, ◌≡◌}
+use Rattle.cap_spec.proofs.Prelude.{◌≤◌, ◌⊎◌, slice_get-get_or, own_at, value_at, values_of, words_from, HasWord}
+use Rattle.cap_spec.proofs.Prelude.{IsMessage, segment_of, word_bytes, element_bits, list_words, scalar_words, kind_of}
+use Rattle.cap_spec.proofs.Prelude.{words_of_own, field}
 use Rattle.cap_spec.proofs.Trees.Readings.{byte_past, byte_there, length-values, length-values_words, value_past}
-use Rattle.cap_spec.proofs.Trees.Readings.{value_there, values_word_past, values_word_there, word_past, word_within}
-use Rattle.cap_spec.proofs.Trees.DenotedTrees.{range_length}
-use Rattle.cap_vet.specs.Finding.{own_words}
-use Rattle.cap_spec.proofs.Frames.Messages.{short_segment}
+use Rattle.cap_spec.proofs.Trees.Readings.{value_there, values_word_past, values_word_there, word_past}
+use Rattle.cap_vet.specs.Prelude.{Kind, own_words}
 
 -- the kind of what is shown
 pub kind_shown : (m : List (List ℕ)) {k : Kind} (t b : ℕ) {n : ℕ} → own_words k ≤ n → b + n ≤ length (segment_of m t) → k ≡ kind_of (own_at m k t b)

@@ -1,9 +1,7 @@
 -- How far a path was followed in a message that needn't be vetted (profile).
-use Rattle.std.specs.Prelude.{ℕ, ◌+◌, ◌<◌, ◌≤◌, ◌≡◌, List, ◌∷◌, ◌++◌, length, Bool, true, false}
-use Rattle.cap_spec.specs.Faults.{AreShallow}
-use Rattle.cap_spec.specs.Getting.{AreOnPath}
-use Rattle.cap_spec.specs.Paths.{ReachesSpot, StepsTo, Spot, word, element}
-use Rattle.cap_spec.specs.Verdicts.{CostOf}
+use Rattle.std.specs.Prelude.{Bool, List, false, length, true, ℕ, ◌++◌, ◌+◌, ◌<◌, ◌∷◌, ◌≡◌, ◌≤◌}
+use Rattle.cap_spec.specs.Paths.{element}
+use Rattle.cap_spec.specs.Prelude.{AreShallow, AreOnPath, ReachesSpot, Spot, StepsTo, word, CostOf}
 use Rattle.cap_spec.specs.declared.Step.{Step}
 use Rattle.cap_vet.specs.Finding.{IsFound}
 use Rattle.cap_vet.specs.PathStrictness.{KnowsLaxOnPath}

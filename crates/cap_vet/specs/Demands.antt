@@ -1,11 +1,10 @@
 -- What may be demanded of a message beside the limits (profile).
-use Rattle.std.specs.Prelude.{ℕ, List, IsTrue, if◌then◌else◌}
+use Rattle.std.specs.Prelude.{IsTrue, List, if◌then◌else◌, ℕ}
 use Rattle.cap_spec.specs.Accepting.{IsWithin}
-use Rattle.cap_spec.specs.Faults.{IsRefused}
-use Rattle.cap_spec.specs.Strict.{IsStrict, IsStrictFault}
-use Rattle.cap_spec.specs.Unamplified.{unamplified}
+use Rattle.cap_spec.specs.Prelude.{IsRefused, IsStrict, unamplified}
+use Rattle.cap_spec.specs.Strict.{IsStrictFault}
 use Rattle.cap_spec.specs.declared.StrictRefusal.{StrictRefusal}
-use Rattle.cap_spec.specs.declared.StrictRefusal.TheVariants.{Refused, ManySegments, Pointer}
+use Rattle.cap_spec.specs.declared.StrictRefusal.TheVariants.{ManySegments, Pointer, Refused}
 use Rattle.cap_vet.specs.declared.demands.Demands.{Demands}
 
 -- the word limit under the demands: that of an unamplified message where this is demanded

@@ -1,16 +1,15 @@
 -- What an exclusive message is, and why a message isn't one (profile).
-use Rattle.std.specs.Prelude.{ℕ, ◌<◌, ◌≡◌, ◌≤◌, List, ⊤}
-use Rattle.cap_frame.specs.declared.segments.Segments as segments
-use Rattle.cap_spec.specs.Faults.{IsRefused}
-use Rattle.cap_spec.specs.Occupying.{IsFirstOverlap}
+use Rattle.std.specs.Prelude.{List, ℕ, ⊤, ◌<◌, ◌≡◌, ◌≤◌}
+use Rattle.cap_spec.specs.Prelude.{IsRefused, IsFirstOverlap}
 use Rattle.cap_vet.specs.Reports.{IsAccepted}
 use Rattle.cap_vet.specs.Taken.{marks_of}
 use Rattle.cap_vet.specs.declared.exclusiveness.exclusive.Exclusive.{Exclusive}
 use Rattle.cap_vet.specs.declared.exclusiveness.exclusive_room.ExclusiveFault.{ExclusiveFault}
-use Rattle.cap_vet.specs.declared.exclusiveness.exclusive_room.ExclusiveFault.TheVariants as fault
 use Rattle.cap_vet.specs.declared.exclusiveness.exclusive_vetting.Overlap.{Overlap}
-use Rattle.cap_vet.specs.declared.report.Report.{Report}
 use Rattle.cap_vet.specs.declared.nodes.vetted.Vetted.{Vetted}
+use Rattle.cap_vet.specs.declared.report.Report.{Report}
+use Rattle.cap_frame.specs.declared.segments.Segments as segments
+use Rattle.cap_vet.specs.declared.exclusiveness.exclusive_room.ExclusiveFault.TheVariants as fault
 
 -- the accepted message
 abbrev pub vetted_of : {M : Type 0} {g : segments.Ghosts M} → Exclusive M g → Vetted M g

@@ -1,17 +1,16 @@
 -- What was found at a spot (profile).
-use Rattle.std.specs.Prelude.{ℕ, ◌+◌, ◌<◌, ◌≤◌, List, length, Option, None, Some}
-use Rattle.cap_spec.specs.Messages.{IsMessage, segment_of}
-use Rattle.cap_spec.specs.Pointers.{list_words}
+use Rattle.std.specs.Prelude.{List, None, Option, Some, length, ℕ, ◌+◌, ◌<◌, ◌≤◌}
 use Rattle.cap_spec.specs.Arriving.{HasObject}
-use Rattle.cap_spec.specs.Paths.{StepsTo, Spot as Where}
+use Rattle.cap_spec.specs.Paths.{Spot as Where}
+use Rattle.cap_spec.specs.Prelude.{IsMessage, segment_of, StepsTo, list_words}
 use Rattle.cap_spec.specs.declared.Kind.{Kind}
-use Rattle.cap_spec.specs.declared.Kind.TheVariants.{Struct, Scalars, Pointers, Structs}
+use Rattle.cap_spec.specs.declared.Kind.TheVariants.{Pointers, Scalars, Struct, Structs}
 use Rattle.cap_spec.specs.declared.Step.{Step}
 use Rattle.cap_ptr.specs.declared.shapes.Shape.{Shape}
-use Rattle.cap_ptr.specs.declared.shapes.Shape.TheVariants as shape
 use Rattle.cap_vet.specs.Spots.{SpotIn, spot_of}
 use Rattle.cap_vet.specs.declared.nodes.found.Found.{Found}
 use Rattle.cap_vet.specs.declared.nodes.spot.Spot.{Spot}
+use Rattle.cap_ptr.specs.declared.shapes.Shape.TheVariants as shape
 
 -- the kind of an object
 abbrev pub kind_of_shape : Shape → Kind

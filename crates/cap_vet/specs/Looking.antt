@@ -1,24 +1,22 @@
 -- What comes of looking at one pointer word of a walk (profile).
-use Rattle.std.specs.Prelude.{ℕ, ◌+◌, ◌<◌, ◌≤◌, ◌≡◌, ◌≢◌, ◌==◌, if◌then◌else◌, List, [], Option, None, Some, ⊤}
-use Rattle.cap_spec.specs.Messages.{HasWord}
-use Rattle.cap_spec.specs.Pointers.{kind, middle, code, data_size, pointer_size, list_size, extent}
-use Rattle.cap_spec.specs.Following.{Leads, to_null, to_cap, extra, HasTag}
-use Rattle.cap_spec.specs.Denoting.{Finds, element_levels}
-use Rattle.cap_spec.specs.Strict.{IsLaxAt}
+use Rattle.std.specs.Prelude.{List, None, Option, Some, [], if◌then◌else◌, ℕ, ⊤, ◌+◌, ◌<◌, ◌==◌, ◌≡◌, ◌≢◌, ◌≤◌}
+use Rattle.cap_spec.specs.Denoting.{element_levels}
+use Rattle.cap_spec.specs.Prelude.{Finds, HasTag, Leads, extra, to_cap, to_null, HasWord, code, data_size, extent, kind}
+use Rattle.cap_spec.specs.Prelude.{list_size, middle, pointer_size, IsLaxAt}
 use Rattle.cap_spec.specs.Verdicts.{levels_below}
 use Rattle.cap_spec.specs.declared.Lax.{Lax}
 use Rattle.cap_spec.specs.declared.Step.{Step}
-use Rattle.cap_spec.specs.declared.Step.TheVariants.{Ptr, Item}
+use Rattle.cap_spec.specs.declared.Step.TheVariants.{Item, Ptr}
 use Rattle.cap_ptr.specs.Reaching.{ResolvesTo}
 use Rattle.cap_ptr.specs.Shapes.{IsFollowed, charge_of}
 use Rattle.cap_ptr.specs.declared.shapes.Followed.{Followed}
-use Rattle.cap_ptr.specs.declared.shapes.Followed.TheVariants as followed
 use Rattle.cap_vet.specs.Levels.{levels_of}
-use Rattle.cap_vet.specs.Trails.{Ahead, row, element_rows}
-use Rattle.cap_vet.specs.PointerRuns.{PointerWord, row_places, element_places, option_spots, OptionIn}
-use Rattle.cap_vet.specs.declared.walk.pointer_run.PointerRun.{PointerRun}
+use Rattle.cap_vet.specs.PointerRuns.{OptionIn, PointerWord, element_places, option_spots, row_places}
+use Rattle.cap_vet.specs.Trails.{Ahead, element_rows, row}
 use Rattle.cap_vet.specs.declared.walk.looking.Looked.{Looked}
-use Rattle.cap_vet.specs.declared.walk.looking.Looked.TheVariants.{Null, Cap, Object}
+use Rattle.cap_vet.specs.declared.walk.looking.Looked.TheVariants.{Cap, Null, Object}
+use Rattle.cap_vet.specs.declared.walk.pointer_run.PointerRun.{PointerRun}
+use Rattle.cap_ptr.specs.declared.shapes.Followed.TheVariants as followed
 
 -- the pointer words of the object of shape q at t:b, of this level
 abbrev pub object_places : ℕ → ℕ → ℕ → ℕ → ℕ → List PointerWord

@@ -1,10 +1,8 @@
 -- What was found by a look at one pointer word of a path (profile).
-use Rattle.std.specs.Prelude.{ℕ, ◌≤◌, ◌⊎◌, List}
+use Rattle.std.specs.Prelude.{List, ℕ, ◌≤◌, ◌⊎◌}
+use Rattle.cap_spec.specs.Prelude.{HasWord, Costs, word, IsDeepAt}
 use Rattle.cap_ptr.specs.Rows.{FindsRow}
 use Rattle.cap_ptr.specs.declared.near.Row.{Row}
-use Rattle.cap_spec.specs.Verdicts.{IsDeepAt}
-use Rattle.cap_spec.specs.Messages.{HasWord}
-use Rattle.cap_spec.specs.Paths.{Costs, word}
 use Rattle.cap_vet.specs.Finding.{IsFound}
 use Rattle.cap_vet.specs.Looking.{IsNotLax}
 use Rattle.cap_vet.specs.declared.nodes.found.Found.{Found}

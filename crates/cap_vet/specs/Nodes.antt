@@ -1,9 +1,6 @@
 -- What a node of an accepted message keeps (profile).
-use Rattle.std.specs.Prelude.{ℕ, ◌≤◌, List}
-use Rattle.cap_spec.specs.Denoting.{Denotes}
-use Rattle.cap_spec.specs.GreatestLimits.{most_depth}
-use Rattle.cap_spec.specs.Paths.{ReachesSpot, Spot}
-use Rattle.cap_spec.specs.Tree.{Tree}
+use Rattle.std.specs.Prelude.{List, ℕ, ◌≤◌}
+use Rattle.cap_spec.specs.Prelude.{Denotes, most_depth, ReachesSpot, Spot, Tree}
 use Rattle.cap_spec.specs.declared.Step.{Step}
 
 -- The root denotes a tree within the greatest depth, and a path from it comes to the spot.

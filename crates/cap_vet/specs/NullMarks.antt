@@ -1,11 +1,8 @@
 -- A null word leaves the marks as they are: the law of the turn that marks words (profile).
-use Rattle.std.specs.Prelude.{ℕ, ◌≡◌, List, [], ◌∷◌, refl}
 use Rattle.std.proofs.Common.{arith, inl, inr, subst, sym}
-use Rattle.cap_spec.specs.Lists.{AreDistinct, IsOneOf}
-use Rattle.cap_spec.specs.Following.{near}
-use Rattle.cap_spec.specs.Messages.{HasWord}
-use Rattle.cap_spec.specs.Occupying.{Occupies, Overlaps, Uses, twice, on_root, on_earlier}
-use Rattle.cap_spec.specs.Paths.{Reaches}
+use Rattle.std.specs.Prelude.{List, [], refl, ℕ, ◌∷◌, ◌≡◌}
+use Rattle.cap_spec.specs.Occupying.{on_earlier, on_root, twice}
+use Rattle.cap_spec.specs.Prelude.{near, AreDistinct, IsOneOf, HasWord, Occupies, Overlaps, Uses, Reaches}
 use Rattle.cap_spec.specs.declared.Step.{Step}
 use Rattle.cap_spec.proofs.Disjoint.Overlaps.{one_used}
 use Rattle.cap_spec.proofs.Paths.Walks.{one_reached}

@@ -1,10 +1,10 @@
 -- What stays of a walk that goes past null words (profile).
-use Rattle.std.specs.Prelude.{ℕ, ◌≤◌, List, [], ◌∷◌, ◌++◌}
+use Rattle.std.specs.Prelude.{List, [], ℕ, ◌++◌, ◌∷◌, ◌≤◌}
 use Rattle.cap_spec.specs.declared.Step.{Step}
 use Rattle.cap_vet.specs.Trails.{Ahead}
 use Rattle.cap_vet.specs.Walking.{AreNull, HasWalked, work_left}
-use Rattle.cap_vet.specs.declared.walk.pointer_run.PointerRun.{PointerRun}
 use Rattle.cap_vet.specs.declared.report.Report.{Report}
+use Rattle.cap_vet.specs.declared.walk.pointer_run.PointerRun.{PointerRun}
 
 -- The walk, which had looked at these paths, goes on after null words of run f, and g is left of that.
 pub record Passes (m : List (List ℕ)) (words depth : ℕ) (runs : List PointerRun) (seen : List (List Step)) (f : PointerRun) (report : Report) (g : PointerRun)

@@ -1,13 +1,11 @@
 -- What may be demanded of the pointers on a path beside the limits (profile).
-use Rattle.std.specs.Prelude.{ℕ, ◌≤◌, ◌≡◌, List, [], ◌∷◌, ◌++◌, length, IsTrue}
-use Rattle.cap_spec.specs.Lists.{IsOneOf}
-use Rattle.cap_spec.specs.Getting.{AreOnPath, IsStartOf, Charges, IsRefusedOnPath}
-use Rattle.cap_spec.specs.Paths.{Reaches}
-use Rattle.cap_spec.specs.Strict.{IsLax, IsLaxAt}
+use Rattle.std.specs.Prelude.{IsTrue, List, [], length, ℕ, ◌++◌, ◌∷◌, ◌≡◌, ◌≤◌}
+use Rattle.cap_spec.specs.Getting.{Charges, IsStartOf}
+use Rattle.cap_spec.specs.Prelude.{AreOnPath, IsRefusedOnPath, IsOneOf, Reaches, IsLax, IsLaxAt}
 use Rattle.cap_spec.specs.declared.Lax.{Lax}
 use Rattle.cap_spec.specs.declared.Step.{Step}
 use Rattle.cap_spec.specs.declared.StrictRefusal.{StrictRefusal}
-use Rattle.cap_spec.specs.declared.StrictRefusal.TheVariants.{Refused, ManySegments, Pointer}
+use Rattle.cap_spec.specs.declared.StrictRefusal.TheVariants.{ManySegments, Pointer, Refused}
 use Rattle.cap_vet.specs.Demands.{words_under}
 use Rattle.cap_vet.specs.declared.demands.Demands.{Demands}
 

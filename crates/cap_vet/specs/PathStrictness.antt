@@ -1,11 +1,10 @@
 -- What is known of the pointers on a path that common readers reject (profile).
-use Rattle.std.specs.Prelude.{ℕ, ◌<◌, ◌≤◌, ◌≡◌, List, Option, None, Some, IsTrue}
-use Rattle.cap_spec.specs.Lists.{IsOneOf}
-use Rattle.cap_spec.specs.Strict.{IsLax, IsLaxAt}
+use Rattle.std.specs.Prelude.{IsTrue, List, None, Option, Some, ℕ, ◌<◌, ◌≡◌, ◌≤◌}
+use Rattle.cap_spec.specs.Prelude.{IsOneOf, IsLax, IsLaxAt}
 use Rattle.cap_spec.specs.declared.Lax.{Lax}
 use Rattle.cap_spec.specs.declared.Step.{Step}
 use Rattle.cap_spec.specs.declared.StrictRefusal.{StrictRefusal}
-use Rattle.cap_spec.specs.declared.StrictRefusal.TheVariants.{Refused, ManySegments, Pointer}
+use Rattle.cap_spec.specs.declared.StrictRefusal.TheVariants.{ManySegments, Pointer, Refused}
 use Rattle.cap_vet.specs.PathDemands.{IsFirstLaxOnPath}
 use Rattle.cap_vet.specs.declared.demands.Demands.{Demands}
 use Rattle.cap_vet.specs.declared.strictness.strict_turn.LaxPointer.{LaxPointer}

@@ -1,6 +1,6 @@
 -- What is given for a path in a message that needn't be vetted, by where it leads (profile).
-use Rattle.std.specs.Prelude.{ℕ, ◌≡◌, ◌<◌, ◌*◌, ◌+◌, ◌-◌, [], ◌∷◌, ◌++◌, List, length, Option, Some, Result, Ok, IfErr, IfNone, IfOk, IfSome}
-use Rattle.cap_frame.specs.declared.segments.Segments as segments
+use Rattle.std.specs.Prelude.{IfErr, IfNone, IfOk, IfSome, List, Ok, Option, Result, Some, [], length, ℕ, ◌*◌, ◌++◌}
+use Rattle.std.specs.Prelude.{◌+◌, ◌-◌, ◌<◌, ◌∷◌, ◌≡◌}
 use Rattle.cap_spec.specs.Arriving.{PathFinds}
 use Rattle.cap_spec.specs.declared.Kind.{Kind}
 use Rattle.cap_spec.specs.declared.Kind.TheVariants.{Structs}
@@ -8,17 +8,18 @@ use Rattle.cap_spec.specs.declared.Step.{Step}
 use Rattle.cap_spec.specs.declared.Step.TheVariants.{Item, Ptr}
 use Rattle.cap_spec.specs.declared.StrictRefusal.{StrictRefusal}
 use Rattle.cap_vet.specs.Demands.{words_under}
-use Rattle.cap_vet.specs.Views.{kept_place, view_kind}
 use Rattle.cap_vet.specs.NearFinding.{IsNearWithin}
 use Rattle.cap_vet.specs.PathDemands.{IsPathFault, MeetsOnPath}
 use Rattle.cap_vet.specs.PathStrictness.{HasNoFaultBy}
+use Rattle.cap_vet.specs.Views.{kept_place, view_kind}
 use Rattle.cap_vet.specs.Ways.{IsWay}
 use Rattle.cap_vet.specs.declared.demands.Demands.{Demands}
 use Rattle.cap_vet.specs.declared.nodes.charged.Arrival.{Arrival}
-use Rattle.cap_vet.specs.declared.nodes.struct_elements.StructElements.{StructElements}
 use Rattle.cap_vet.specs.declared.nodes.path_start.PathStart.{PathStart}
+use Rattle.cap_vet.specs.declared.nodes.struct_elements.StructElements.{StructElements}
 use Rattle.cap_vet.specs.declared.nodes.view.View.{View}
 use Rattle.cap_vet.specs.declared.nodes.way.Way.TheVariants.{To}
+use Rattle.cap_frame.specs.declared.segments.Segments as segments
 
 -- A path gives what is at it, if its pointers meet the demands, and else why they don't (profile).
 pub record IsGiven {M : Type 0} {g : segments.Ghosts M} (demands : Demands) (m : List (List ℕ)) (words depth : ℕ)

@@ -1,9 +1,8 @@
 -- What an accepted message's report says of its tree (profile).
-use Rattle.std.specs.Prelude.{ℕ, ◌+◌, ◌≤◌, ◌≡◌, List, Option, None, Some}
+use Rattle.std.specs.Prelude.{List, None, Option, Some, ℕ, ◌+◌, ◌≡◌, ◌≤◌}
 use Rattle.cap_spec.specs.Accepting.{DenotesWithin}
-use Rattle.cap_spec.specs.GreatestLimits.{most_depth, most_words}
-use Rattle.cap_spec.specs.Paths.{IsFirstCap, ReachesCap}
-use Rattle.cap_spec.specs.Tree.{Tree, pointer_count, cap_count}
+use Rattle.cap_spec.specs.Paths.{ReachesCap}
+use Rattle.cap_spec.specs.Prelude.{most_depth, most_words, IsFirstCap, Tree, cap_count, pointer_count}
 use Rattle.cap_spec.specs.declared.Step.{Step}
 use Rattle.cap_vet.specs.declared.report.Report.{Report}
 

@@ -1,9 +1,9 @@
 -- Which spot of a message a node keeps (profile).
-use Rattle.std.specs.Prelude.{ℕ, ◌+◌, ◌<◌, ◌≤◌, List, length}
+use Rattle.std.specs.Prelude.{List, length, ℕ, ◌+◌, ◌<◌, ◌≤◌}
 use Rattle.cap_spec.specs.Messages.{segment_of}
-use Rattle.cap_spec.specs.Paths.{Spot as Where, word, element}
+use Rattle.cap_spec.specs.Paths.{element, word, Spot as Where}
 use Rattle.cap_vet.specs.declared.nodes.spot.Spot.{Spot}
-use Rattle.cap_vet.specs.declared.nodes.spot.Spot.TheVariants.{Word, Element}
+use Rattle.cap_vet.specs.declared.nodes.spot.Spot.TheVariants.{Element, Word}
 
 -- the spot of the definitions
 abbrev pub spot_of : Spot → Where

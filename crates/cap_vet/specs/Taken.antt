@@ -1,8 +1,8 @@
 -- Which words of a message are marked in a flat map of bits (profile).
-use Rattle.std.specs.Prelude.{ℕ, zero, suc, ◌+◌, ◌*◌, ◌/◌, ◌%◌, ◌^◌, ◌<◌, ◌≤◌, ◌≡◌, List, [], ◌∷◌, length, slice_index, sum}
 use Rattle.std.specs.Int.{bit_at}
-use Rattle.cap_spec.specs.Frames.{sizes_of}
-use Rattle.cap_spec.specs.Messages.{segment_of}
+use Rattle.std.specs.Prelude.{List, [], length, slice_index, suc, sum, zero, ℕ, ◌%◌, ◌*◌, ◌+◌, ◌/◌, ◌<◌, ◌^◌, ◌∷◌, ◌≡◌}
+use Rattle.std.specs.Prelude.{◌≤◌}
+use Rattle.cap_spec.specs.Prelude.{sizes_of, segment_of}
 use Rattle.cap_spec.specs.declared.Step.{Step}
 use Rattle.cap_vet.specs.Marks.{IsMarked}
 

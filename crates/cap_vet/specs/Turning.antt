@@ -1,9 +1,9 @@
 -- How a report changes at one pointer word (profile).
-use Rattle.std.specs.Prelude.{ℕ, ◌+◌, max, Option, None, Some}
-use Rattle.cap_vet.specs.declared.walk.pointer_run.PointerRun.{PointerRun}
-use Rattle.cap_vet.specs.declared.walk.looking.Looked.{Looked}
-use Rattle.cap_vet.specs.declared.walk.looking.Looked.TheVariants.{Null, Cap, Object}
+use Rattle.std.specs.Prelude.{None, Option, Some, max, ℕ, ◌+◌}
 use Rattle.cap_vet.specs.declared.report.Report.{Report}
+use Rattle.cap_vet.specs.declared.walk.looking.Looked.{Looked}
+use Rattle.cap_vet.specs.declared.walk.looking.Looked.TheVariants.{Cap, Null, Object}
+use Rattle.cap_vet.specs.declared.walk.pointer_run.PointerRun.{PointerRun}
 
 -- the first of two places, where there is a first
 abbrev pub or_place : Option (ℕ × ℕ) → ℕ → ℕ → Option (ℕ × ℕ)

@@ -1,18 +1,18 @@
 -- What is known of a walk, and of what its turn knows, between two pointer words (profile).
-use Rattle.std.specs.Prelude.{ℕ, ◌+◌, ◌<◌, ◌≡◌, ◌⊎◌, [], ◌∷◌, ◌++◌, IfOk, IfSome, List, Option, Result, reverse, ⊤}
-use Rattle.std.specs.Option.{option_to_list}
+use Rattle.std.specs.Prelude.{IfOk, IfSome, List, Option, Result, [], option_to_list, reverse, ℕ, ⊤, ◌++◌, ◌+◌, ◌<◌}
+use Rattle.std.specs.Prelude.{◌∷◌, ◌≡◌, ◌⊎◌}
 use Rattle.cap_spec.specs.Faults.{HasNoRoot, IsFirstFault, IsRefused}
 use Rattle.cap_spec.specs.Paths.{Costs}
 use Rattle.cap_spec.specs.declared.Refusal.{Refusal}
 use Rattle.cap_spec.specs.declared.Step.{Step}
 use Rattle.cap_vet.specs.Limits.{depth_of, words_of}
 use Rattle.cap_vet.specs.Trails.{Ahead, IsTrail}
-use Rattle.cap_vet.specs.Walking.{IsNext, HasWalked, work_left, work_next}
-use Rattle.cap_vet.specs.declared.walk.pointer_run.PointerRun.{PointerRun}
+use Rattle.cap_vet.specs.Walking.{HasWalked, IsNext, work_left, work_next}
 use Rattle.cap_vet.specs.declared.limits.Limits.{Limits}
 use Rattle.cap_vet.specs.declared.report.Report.{Report}
+use Rattle.cap_vet.specs.declared.walk.pointer_run.PointerRun.{PointerRun}
 use Rattle.cap_vet.specs.declared.walk.turn.Stopped.{Stopped}
-use Rattle.cap_vet.specs.declared.walk.turn.Stopped.TheVariants.{Refused, ByTurn}
+use Rattle.cap_vet.specs.declared.walk.turn.Stopped.TheVariants.{ByTurn, Refused}
 
 -- The walk has come this far, and K holds of the paths that it has looked at.
 pub record IsWalking (m : List (List ℕ)) (limits : Limits) (runs : List PointerRun) (report : Report) (K : List (List Step) → Type 0) : Type 0 where

@@ -1,7 +1,7 @@
 -- What an accepted message is (profile).
-use Rattle.cap_frame.specs.declared.segments.Segments as segments
-use Rattle.cap_vet.specs.declared.report.Report.{Report}
 use Rattle.cap_vet.specs.declared.nodes.vetted.Vetted.{Vetted}
+use Rattle.cap_vet.specs.declared.report.Report.{Report}
+use Rattle.cap_frame.specs.declared.segments.Segments as segments
 
 -- its report
 abbrev pub report_of : {M : Type 0} {g : segments.Ghosts M} → Vetted M g → Report

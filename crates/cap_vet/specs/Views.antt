@@ -1,17 +1,14 @@
 -- What nodes and views are of (profile).
-use Rattle.std.specs.Prelude.{ℕ, List, [], Option, None, Some}
-use Rattle.cap_frame.specs.declared.segments.Segments as segments
+use Rattle.std.specs.Prelude.{List, None, Option, Some, [], ℕ}
 use Rattle.cap_spec.specs.Arriving.{own_at}
-use Rattle.cap_spec.specs.Denoting.{words_from}
-use Rattle.cap_spec.specs.Paths.{Spot}
-use Rattle.cap_spec.specs.Plain.{plain_text}
-use Rattle.cap_spec.specs.Showing.{Own}
+use Rattle.cap_spec.specs.Prelude.{words_from, Spot, plain_text, Own}
 use Rattle.cap_spec.specs.declared.Kind.{Kind}
-use Rattle.cap_spec.specs.declared.Kind.TheVariants.{Null, Cap}
+use Rattle.cap_spec.specs.declared.Kind.TheVariants.{Cap, Null}
 use Rattle.cap_vet.specs.Spots.{spot_of}
 use Rattle.cap_vet.specs.declared.nodes.node.Node.{Node}
 use Rattle.cap_vet.specs.declared.nodes.place.Place.{Place}
 use Rattle.cap_vet.specs.declared.nodes.view.View.{View}
+use Rattle.cap_frame.specs.declared.segments.Segments as segments
 
 -- a node's message
 abbrev pub node_message : {M : Type 0} {g : segments.Ghosts M} → Node M g → M

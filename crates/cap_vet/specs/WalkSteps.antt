@@ -1,6 +1,5 @@
 -- What a walk goes on with after one pointer word (profile).
-use Rattle.std.specs.Prelude.{ℕ, ◌<◌, ◌≡◌, List, [], ◌∷◌, ◌++◌, IfErr, IfOk, Option, Result, length, ⊤}
-use Rattle.std.specs.Option.{option_to_list}
+use Rattle.std.specs.Prelude.{IfErr, IfOk, List, Option, Result, [], length, option_to_list, ℕ, ⊤, ◌++◌, ◌<◌, ◌∷◌, ◌≡◌}
 use Rattle.cap_spec.specs.declared.Step.{Step}
 use Rattle.cap_vet.specs.Limits.{words_of}
 use Rattle.cap_vet.specs.PointerRuns.{IsRest}
@@ -11,7 +10,7 @@ use Rattle.cap_vet.specs.declared.report.Report.{Report}
 use Rattle.cap_vet.specs.declared.walk.pointer_run.PointerRun.{PointerRun}
 use Rattle.cap_vet.specs.declared.walk.turn.Stopped.{Stopped}
 use Rattle.cap_vet.specs.declared.walk.walking.Next.{Next}
-use Rattle.cap_vet.specs.declared.walk.walking.Next.TheVariants.{More, Full, Done}
+use Rattle.cap_vet.specs.declared.walk.walking.Next.TheVariants.{Done, Full, More}
 
 -- the runs that are left: those of the stack and the current one, or none
 abbrev pub runs_left : Next → List PointerRun → PointerRun → List PointerRun

@@ -1,18 +1,15 @@
 -- What holds of a walk between two turns (profile).
-use Rattle.std.specs.Prelude.{ℕ, suc, ◌+◌, ◌-◌, ◌≤◌, ◌≡◌, List, [], ◌∷◌, length, map, reverse, Option, None, Some, ⊤, ◌<◌}
 use Rattle.std.specs.List.{AllByRecursion}
-use Rattle.cap_spec.specs.Lists.{IsOneOf}
-use Rattle.cap_spec.specs.Messages.{HasWord, segment_of}
-use Rattle.cap_spec.specs.Following.{Leads, to_cap}
-use Rattle.cap_spec.specs.Paths.{Before, Costs, Reaches}
-use Rattle.cap_spec.specs.Verdicts.{CostOf}
-use Rattle.cap_spec.specs.Faults.{AreShallow}
+use Rattle.std.specs.Prelude.{List, None, Option, Some, [], length, map, reverse, suc, ℕ, ⊤, ◌+◌, ◌-◌, ◌<◌, ◌∷◌, ◌≡◌}
+use Rattle.std.specs.Prelude.{◌≤◌}
+use Rattle.cap_spec.specs.Prelude.{AreShallow, Leads, to_cap, IsOneOf, HasWord, segment_of, Before, Costs, Reaches}
+use Rattle.cap_spec.specs.Prelude.{CostOf}
 use Rattle.cap_spec.specs.declared.Step.{Step}
-use Rattle.cap_vet.specs.Trails.{Ahead, IsTrail}
 use Rattle.cap_vet.specs.Owing.{AreInLevels, IsCount}
 use Rattle.cap_vet.specs.PointerRuns.{RunIn, all_spots, pointer_word_of}
-use Rattle.cap_vet.specs.declared.walk.pointer_run.PointerRun.{PointerRun}
+use Rattle.cap_vet.specs.Trails.{Ahead, IsTrail}
 use Rattle.cap_vet.specs.declared.report.Report.{Report}
+use Rattle.cap_vet.specs.declared.walk.pointer_run.PointerRun.{PointerRun}
 
 -- each run's level is higher than there are runs below it
 abbrev pub AreStacked : ℕ → List PointerRun → Type 0

@@ -1,13 +1,12 @@
 -- Where a path leads in a message that needn't be vetted (profile).
-use Rattle.std.specs.Prelude.{ℕ, List, ⊤}
-use Rattle.cap_spec.specs.Getting.{IsRefusedOnPath}
-use Rattle.cap_spec.specs.Paths.{Spot}
+use Rattle.std.specs.Prelude.{List, ℕ, ⊤}
+use Rattle.cap_spec.specs.Prelude.{IsRefusedOnPath, Spot}
 use Rattle.cap_spec.specs.declared.Step.{Step}
 use Rattle.cap_vet.specs.Charging.{Arrives, EndsEarly}
 use Rattle.cap_vet.specs.Finding.{IsFound}
 use Rattle.cap_vet.specs.declared.nodes.charged.Arrival.{Arrival}
 use Rattle.cap_vet.specs.declared.nodes.way.Way.{Way}
-use Rattle.cap_vet.specs.declared.nodes.way.Way.TheVariants.{To, Nowhere, Refused}
+use Rattle.cap_vet.specs.declared.nodes.way.Way.TheVariants.{Nowhere, Refused, To}
 
 -- The path arrives at something, or at nothing, or is refused.
 abbrev pub IsWay : List (List ℕ) → ℕ → ℕ → List Step → Way → Type 0

@@ -1,6 +1,6 @@
 -- A buffer out of whose front bytes are given.
-use Rattle.std.proofs.Common.{◌≡◌, ◌+◌, ◌-◌, ◌≤◌, ◌∙◌, ℕ, List, [], ◌++◌, length, take, drop, slice_range, ap, sym, arith, length-take, drop-drop, take-take}
-use Rattle.std.proofs.Math.Seq.{take-add}
+use Rattle.std.proofs.Common.{List, [], ap, arith, drop, drop-drop, length, length-take, slice_range, sym, take}
+use Rattle.std.proofs.Common.{take-add, take-take, ℕ, ◌++◌, ◌+◌, ◌-◌, ◌∙◌, ◌≡◌, ◌≤◌}
 
 -- n of them were given, and the others are still held
 pub given_off : (xs given : List ℕ) (start end n : ℕ) → n ≤ length (slice_range xs start end) → take n given ≡ take n (slice_range xs start end)

@@ -1,20 +1,16 @@
 -- A source whose words are filled into a room, some at a time.
-use Rattle.std.proofs.Common.{◌≡◌, ◌+◌, ◌-◌, ◌*◌, ◌/◌, ◌%◌, ◌^◌, ◌<◌, ◌≤◌, ◌∙◌, ◌⊎◌, inl, inr, ℕ, zero, suc, Bool, true}
-use Rattle.std.proofs.Common.{false, List, [], ◌∷◌, ◌++◌, length, min, take, drop, Option, None, Some, OnSome, refl, ap}
-use Rattle.std.proofs.Common.{sym, subst, append-nil, arith, length-append, drop-drop, take-append-drop, length-drop}
-use Rattle.std.proofs.KnownBytes.{Consumes-nil, Consumes-trans}
 use Rattle.std.proofs.lemmas.Grind.{flat_map-append}
-use Rattle.std.proofs.lemmas.List.{length-take-le}
-use Rattle.std.specs.Io.KnownBytes.{Consumes}
-use Rattle.cap_spec.specs.Plain.{plain_text, plain_words, word_bytes}
-use Rattle.cap_spec.specs.Words.{IsWord}
 use Rattle.cap_spec.proofs.Bytes.Plain.{length_plain, plain_back, plain_short}
-use Rattle.cap_words.proofs.Pieces.{on_some}
-use Rattle.cap_words.proofs.Turns.{filled, filled_within}
+use Rattle.cap_spec.proofs.Prelude.{Bool, List, None, OnSome, Option, Some, [], ap, append-nil, arith, drop, drop-drop}
+use Rattle.cap_spec.proofs.Prelude.{false, inl, inr, length, length-append, length-drop, length-take-le, min, refl}
+use Rattle.cap_spec.proofs.Prelude.{subst, suc, sym, take, take-append-drop, true, zero, ℕ, ◌%◌, ◌*◌, ◌++◌, ◌+◌, ◌-◌}
+use Rattle.cap_spec.proofs.Prelude.{◌/◌, ◌<◌, ◌^◌, ◌∙◌, ◌∷◌, ◌≡◌, ◌≤◌, ◌⊎◌, Consumes-nil, Consumes-trans, Consumes}
+use Rattle.cap_spec.proofs.Prelude.{put_mid, plain_text, plain_words, word_bytes, IsWord}
 use Rattle.cap_words.specs.Ends.{Works}
 use Rattle.cap_words.specs.TakingMany.{EndsWithin, ReadsBytes, TakesAll}
+use Rattle.cap_words.proofs.Pieces.{on_some}
+use Rattle.cap_words.proofs.Turns.{filled, filled_within}
 use Rattle.cap_words.specs.declared.sources.WordSource as source
-use borrow.Rule.Slice.PartMut.{put_mid}
 
 -- the words of whole words and of what stands behind them
 pub plain_join : (xs ys : List ℕ) → length xs % 8 ≡ 0 → plain_words (xs ++ ys) ≡ plain_words xs ++ plain_words ys

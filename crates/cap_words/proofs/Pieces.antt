@@ -1,19 +1,12 @@
 -- Pieces of many words, by values: what was filled in, and where the input ends inside a piece.
-use Rattle.std.proofs.Common.{◌≡◌, ◌+◌, ◌*◌, ◌%◌, ◌^◌, ◌<◌, ◌≤◌, ◌∙◌, ℕ, Bool, true, false, List, []}
-use Rattle.std.proofs.Common.{◌∷◌, ◌++◌, length, take, drop, Option, None, Some, OnSome, refl, ap, sym}
-use Rattle.std.proofs.Common.{subst, append-nil, arith, unwrap_or}
-use Rattle.std.proofs.KnownBytes.{Consumes-nil}
-use Rattle.std.proofs.lemmas.List.{take-append-le, take_all}
-use Rattle.std.specs.List.{AllByRecursion}
-use Rattle.std.specs.Io.KnownBytes.{Consumes, IsAtEnd}
-use Rattle.std.specs.Option.{option_map}
-use Rattle.cap_spec.specs.Plain.{capped, plain_ends, plain_is_cut, plain_text, plain_words}
 use Rattle.cap_spec.proofs.Bytes.Plain.{length_plain, plain_back, plain_short, plain_split}
+use Rattle.cap_spec.proofs.Prelude.{Bool, List, None, OnSome, Option, Some, [], ap, append-nil, arith, drop, false}
+use Rattle.cap_spec.proofs.Prelude.{length, option_map, refl, subst, sym, take, take_all, true, unwrap_or, ℕ, ◌%◌, ◌*◌}
+use Rattle.cap_spec.proofs.Prelude.{◌++◌, ◌+◌, ◌<◌, ◌^◌, ◌∙◌, ◌∷◌, ◌≡◌, ◌≤◌, Consumes-nil, take-append-le, Consumes}
+use Rattle.cap_spec.proofs.Prelude.{IsAtEnd, AllByRecursion, capped, plain_ends, plain_is_cut, plain_text, plain_words}
+use Rattle.cap_words.specs.Prelude.{bytes_left, TakesAll, Phase, Open}
+use Rattle.cap_words.specs.TakingMany.{EndsWithin}
 use Rattle.cap_words.proofs.AtHand.{taken}
-use Rattle.cap_words.specs.PlainSource.{bytes_left}
-use Rattle.cap_words.specs.TakingMany.{EndsWithin, TakesAll}
-use Rattle.cap_words.specs.declared.phase.Phase.{Phase}
-use Rattle.cap_words.specs.declared.phase.Phase.TheVariants.{Open}
 
 -- how plain text ends, by its length
 pub record PlainEnd (at : ℕ) (bytes : List ℕ) : Type 0 where

@@ -1,6 +1,6 @@
 -- What is left of the bytes in a buffer behind some that were skipped.
-use Rattle.std.proofs.Common.{◌≡◌, ℕ, ◌+◌, ◌-◌, min, List, Option, None, Some, ◌++◌, length, take, drop, slice_range}
-use Rattle.std.proofs.Common.{sym, ap, ◌∙◌, arith, length-take, drop-drop, take-append-drop, append_assoc}
+use Rattle.std.proofs.Common.{List, None, Option, Some, ap, append_assoc, arith, drop, drop-drop, length, length-take}
+use Rattle.std.proofs.Common.{min, slice_range, sym, take, take-append-drop, ℕ, ◌++◌, ◌+◌, ◌-◌, ◌∙◌, ◌≡◌}
 use Rattle.std.proofs.lemmas.List.{drop-take, drop_min}
 use Rattle.std.specs.Io.KnownBytes.{Consumes, prepend_known}
 

@@ -1,12 +1,9 @@
 -- An end over the turns of a loop that moves bytes.
-use Rattle.std.proofs.Common.{◌≡◌, ◌+◌, ◌-◌, ◌<◌, ◌≤◌, ◌∙◌, ℕ, zero, suc, Bool, List, ◌++◌, Option, length, take, drop}
-use Rattle.std.proofs.Common.{refl, ap, sym, subst, arith, length-append, length-drop}
-use Rattle.std.proofs.KnownBytes.{Appends-trans, Consumes-trans}
-use Rattle.std.proofs.Math.Seq.{take-append-add, take-add}
-use Rattle.std.proofs.lemmas.List.{length-take-le, take-append-le, take_rest}
-use Rattle.std.specs.Io.KnownBytes.{Appends, Consumes}
+use Rattle.cap_spec.proofs.Prelude.{Bool, List, Option, ap, arith, drop, length, length-append, length-drop}
+use Rattle.cap_spec.proofs.Prelude.{length-take-le, refl, subst, suc, sym, take, take-add, zero, ℕ, ◌++◌, ◌+◌, ◌-◌, ◌<◌}
+use Rattle.cap_spec.proofs.Prelude.{◌∙◌, ◌≡◌, ◌≤◌, Appends-trans, Consumes-trans, take-append-add, take-append-le}
+use Rattle.cap_spec.proofs.Prelude.{take_rest, Appends, Consumes, post_of, put_mid}
 use Rattle.cap_words.specs.Ends.{Works}
-use borrow.Rule.Slice.PartMut.{post_of, put_mid}
 
 -- so many bytes were moved: with none of them the end is as it was, with some it worked
 pub record Moved {E A : Type 0} (spent : E → Bool) (failures : E → A) (moved : ℕ) (old new : E) : Type 0 where

@@ -1,14 +1,11 @@
 -- The whole words of bytes, and their text.
-use Rattle.std.proofs.Common.{◌≡◌, ◌+◌, ◌*◌, ◌/◌, ◌%◌, ◌<◌, ◌∙◌, ℕ, List, ◌++◌, length, take, drop, Option, ap, sym, arith, length-append}
-use Rattle.std.proofs.KnownBytes.{append_known-moved}
 use Rattle.std.proofs.lemmas.Grind.{flat_map-append}
-use Rattle.std.proofs.lemmas.List.{take-append-le, take_all}
-use Rattle.std.specs.List.{AllByRecursion}
-use Rattle.std.specs.Io.KnownBytes.{Appends, Keeps, append_known}
-use Rattle.cap_spec.specs.Plain.{plain_text, plain_words, word_bytes}
 use Rattle.cap_spec.proofs.Bytes.Plain.{length_plain, plain_split}
-use Rattle.cap_words.proofs.PlainSpelling.{part_begins}
+use Rattle.cap_spec.proofs.Prelude.{List, Option, ap, arith, drop, length, length-append, sym, take, take_all, ℕ, ◌%◌}
+use Rattle.cap_spec.proofs.Prelude.{◌*◌, ◌++◌, ◌+◌, ◌/◌, ◌<◌, ◌∙◌, ◌≡◌, append_known-moved, take-append-le, Appends}
+use Rattle.cap_spec.proofs.Prelude.{Keeps, append_known, AllByRecursion, plain_text, plain_words, word_bytes}
 use Rattle.cap_words.specs.Sinks.{Begins}
+use Rattle.cap_words.proofs.PlainSpelling.{part_begins}
 
 -- the front of bytes that holds their whole words is the text of these
 pub whole_text : (bytes : List ℕ) → AllByRecursion (λ b. b < 256) bytes → take (length bytes / 8 * 8) bytes ≡ plain_text (plain_words bytes)

@@ -1,6 +1,6 @@
 -- What a read does to an input and to the count of its bytes (profile).
-use Rattle.std.specs.Prelude.{ℕ, ◌≡◌, ◌+◌, List, length, Option}
 use Rattle.std.specs.Io.KnownBytes.{Consumes, IsAtEnd}
+use Rattle.std.specs.Prelude.{List, Option, length, ℕ, ◌+◌, ◌≡◌}
 use Rattle.cap_spec.specs.Plain.{capped}
 use Rattle.cap_words.specs.declared.counted.Counted.{Counted}
 

@@ -1,6 +1,6 @@
 -- What a result of a source, a sink or a byte end says of it before and after the call: whether an
 -- error has closed it, and how often it failed (profile).
-use Rattle.std.specs.Prelude.{ℕ, ◌+◌, ◌≡◌, Bool, true, false}
+use Rattle.std.specs.Prelude.{Bool, false, true, ℕ, ◌+◌, ◌≡◌}
 
 -- a call that answered no fault
 pub record Works {A : Type 0} (was is : Bool) (before after : A) : Type 0 where

@@ -1,16 +1,15 @@
 -- What is known to come are bytes, and words: the laws of the inputs and the source of this crate
 -- (profile).
-use Rattle.std.specs.Prelude.{ℕ, ◌≡◌, ◌<◌, ◌&&◌, Bool, true, false, if◌then◌else◌, nat_lt, IfSome, Option, None, Some, List, [], ◌∷◌, refl}
-use Rattle.std.specs.List.{AllByRecursion}
-use Rattle.std.specs.Option.{option_map}
 use Rattle.std.proofs.lemmas.Bool.{false≢true, ltb-true}
+use Rattle.std.specs.List.{AllByRecursion}
+use Rattle.std.specs.Prelude.{Bool, IfSome, List, None, Option, Some, [], false, if◌then◌else◌, nat_lt, option_map}
+use Rattle.std.specs.Prelude.{refl, true, ℕ, ◌&&◌, ◌<◌, ◌∷◌, ◌≡◌}
+use Rattle.cap_spec.specs.Prelude.{plain_words, IsWord}
 use Rattle.cap_spec.proofs.Bytes.Plain.{plain_split}
-use Rattle.cap_spec.specs.Plain.{plain_words}
-use Rattle.cap_spec.specs.Words.{IsWord}
 use Rattle.cap_words.specs.PlainSource.{bytes_left}
 use Rattle.cap_words.specs.Told.{are_bytes, told_bytes}
 use Rattle.cap_words.specs.declared.phase.Phase.{Phase}
-use Rattle.cap_words.specs.declared.phase.Phase.TheVariants.{Open, Ended, Failed}
+use Rattle.cap_words.specs.declared.phase.Phase.TheVariants.{Ended, Failed, Open}
 
 -- both of two tests hold
 pub both_hold : (a b : Bool) → (a && b) ≡ true → (a ≡ true) × (b ≡ true)

@@ -1,10 +1,11 @@
 -- What is known of the text of a sink (profile).
-use Rattle.std.specs.Prelude.{ℕ, ◌≡◌, Bool, false, Option, None, Some, List, ◌++◌, ⊤, refl}
 use Rattle.std.specs.Io.KnownBytes.{Keeps, append_known}
+use Rattle.std.specs.Prelude.{Bool, List, None, Option, Some, false, refl, ℕ, ⊤, ◌++◌, ◌≡◌}
 use Rattle.cap_words.specs.declared.ends.OutFault.{OutFault}
 use Rattle.cap_words.specs.declared.ends.OutFault.TheVariants.{Device, Memory, Spent}
 use Rattle.cap_words.specs.declared.sinks.SinkFault.{SinkFault}
-use Rattle.cap_words.specs.declared.sinks.SinkFault.TheVariants.{Device as of_device, Memory as of_memory, Spent as was_spent}
+use Rattle.cap_words.specs.declared.sinks.SinkFault.TheVariants.{Device as of_device, Memory as of_memory}
+use Rattle.cap_words.specs.declared.sinks.SinkFault.TheVariants.{Spent as was_spent}
 
 -- a known text begins with the known bytes
 abbrev pub Begins : Option (List ℕ) → Option (List ℕ) → Type 0

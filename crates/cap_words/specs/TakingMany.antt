@@ -1,6 +1,7 @@
 -- What taking many words at once does to a source, by the values of its members before and after (profile).
-use Rattle.std.specs.Prelude.{ℕ, ◌+◌, ◌<◌, ◌^◌, ◌-◌, ◌≡◌, Bool, Option, List, [], ◌∷◌, length, min, drop, IfSome, OnSome}
 use Rattle.std.specs.Io.KnownBytes.{Consumes}
+use Rattle.std.specs.Prelude.{Bool, IfSome, List, OnSome, Option, [], drop, length, min, ℕ, ◌+◌, ◌-◌, ◌<◌, ◌^◌, ◌∷◌}
+use Rattle.std.specs.Prelude.{◌≡◌}
 
 -- These words were taken, and no more. How the input ends and the places of the other words stay as they were.
 pub record TakesAll (words rest : Option (List ℕ)) (cut still_cut : Bool) (place now : ℕ) (places left : List ℕ) (own : List ℕ) : Type 0 where

@@ -1,5 +1,5 @@
 -- What is known of the bytes of a reader, of which std doesn't say that they are numbers below 256 (profile).
-use Rattle.std.specs.Prelude.{ℕ, ◌&&◌, Bool, true, nat_lt, if◌then◌else◌, Option, None, Some, List, [], ◌∷◌}
+use Rattle.std.specs.Prelude.{Bool, List, None, Option, Some, [], if◌then◌else◌, nat_lt, true, ℕ, ◌&&◌, ◌∷◌}
 
 -- the numbers are bytes
 abbrev pub are_bytes : List ℕ → Bool

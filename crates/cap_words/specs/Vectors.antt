@@ -1,5 +1,5 @@
 -- What an output into memory says of itself (profile).
-use Rattle.std.specs.Prelude.{ℕ, ◌-◌, ◌^◌, ◌==◌, Bool, Option, Some, List, vec_capacity, vec_len}
+use Rattle.std.specs.Prelude.{Bool, List, Option, Some, vec_capacity, vec_len, ℕ, ◌-◌, ◌==◌, ◌^◌}
 use Rattle.cap_words.specs.Ends.{Failures}
 use Rattle.cap_words.specs.declared.vec_out.VecOut.{VecOut}
 

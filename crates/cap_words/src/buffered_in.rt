@@ -3,7 +3,7 @@
 ghost use Rattle.cap_words.specs.Laws.{told_are_bytes};
 ghost use Rattle.cap_words.specs.Told.{told_bytes};
 ghost use Rattle.std.specs.Io.KnownBytes.{IsAtEnd, Keeps, ReadConsumes, prepend_known};
-ghost use Rattle.std.specs.Prelude.{◌<◌, ◌≡◌, ◌≤◌, [], IfOk, IsErrOf, OnErr, OnOk, false, if◌then◌else◌, length, slice_range, take, true, vec_len, ℕ};
+ghost use Rattle.std.specs.Prelude.{◌<◌, ◌≡◌, ◌≤◌, [], IfOk, IsErrOf, OnOk, false, if◌then◌else◌, length, slice_range, take, true, vec_len};
 
 use super::ends::{ByteIn, InFault};
 use std::alloc::{AllocError, Global};

@@ -4,7 +4,7 @@ ghost use Rattle.cap_words.specs.Laws.{told_are_bytes};
 ghost use Rattle.cap_words.specs.Inner.{reader_of};
 ghost use Rattle.cap_words.specs.Told.{told_bytes};
 ghost use Rattle.cap_words.specs.declared.from_read.FromRead.{FromRead};
-ghost use Rattle.std.specs.Prelude.{◌≡◌, [], false, if◌then◌else◌, ℕ};
+ghost use Rattle.std.specs.Prelude.{◌≡◌, [], false, if◌then◌else◌};
 
 use super::ends::{ByteIn, InFault};
 use std::io::Read;

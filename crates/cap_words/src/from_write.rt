@@ -2,7 +2,7 @@
 
 ghost use Rattle.cap_words.specs.Inner.{writer_of};
 ghost use Rattle.cap_words.specs.declared.from_write.FromWrite.{FromWrite};
-ghost use Rattle.std.specs.Prelude.{◌≡◌, false, if◌then◌else◌, ℕ};
+ghost use Rattle.std.specs.Prelude.{◌≡◌, false, if◌then◌else◌};
 
 use super::ends::{ByteOut, OutFault};
 use std::io::Write;

@@ -2,7 +2,7 @@
 
 ghost use Rattle.cap_words.specs.Laws.{each_byte};
 ghost use Rattle.cap_words.specs.Told.{are_bytes};
-ghost use Rattle.std.specs.Prelude.{◌≡◌, Some, false, true, ℕ};
+ghost use Rattle.std.specs.Prelude.{◌≡◌, Some, false, true};
 
 use super::ends::{ByteIn, InFault};
 

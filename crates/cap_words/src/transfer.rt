@@ -1,7 +1,7 @@
 //! Filling a whole buffer from an input, and writing a whole buffer to an output.
 
 ghost use Rattle.cap_words.specs.Ends.{InputFails, MemoryFails, NoFault, OutputFails};
-ghost use Rattle.std.specs.Io.KnownBytes.{Appends, Consumes, IsAtEnd, Keeps};
+ghost use Rattle.std.specs.Io.KnownBytes.{Appends, Consumes, IsAtEnd};
 ghost use Rattle.std.specs.Prelude.{◌<◌, ◌≡◌, ◌≤◌, [], IfNone, IfSome, IsErrOf, OnErr, OnOk, length, take, true, ℕ};
 
 use super::ends::{ByteIn, ByteOut, InFault, OutFault};

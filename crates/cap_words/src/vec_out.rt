@@ -4,7 +4,7 @@ ghost use Rattle.cap_words.specs.Ends.{MemoryFails, NoFault, OutputFails, WasClo
 ghost use Rattle.cap_words.specs.Vectors.{vec_failures, vec_room, vec_spent, vec_written};
 ghost use Rattle.cap_words.specs.declared.vec_out.VecOut.{VecOut};
 ghost use Rattle.std.specs.Io.KnownBytes.{WriteAppends};
-ghost use Rattle.std.specs.Prelude.{◌-◌, ◌<◌, ◌==◌, ◌^◌, ◌≡◌, ◌≤◌, [], IfOk, IsErrOf, OnOk, Some, length, true, ℕ};
+ghost use Rattle.std.specs.Prelude.{◌-◌, ◌<◌, ◌==◌, ◌^◌, ◌≡◌, ◌≤◌, [], IfOk, IsErrOf, OnOk, Some, length, true};
 
 use super::ends::{ByteOut, OutFault};
 use std::alloc::Global;

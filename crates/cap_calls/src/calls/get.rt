@@ -7,7 +7,7 @@ ghost use Rattle.cap_calls.specs.declared.node.CallNode.{CallNode};
 ghost use Rattle.cap_calls.specs.declared.report.CallReport.{CallReport};
 ghost use Rattle.cap_path.specs.PathSteps.{AreLeft};
 ghost use Rattle.cap_spec.specs.declared.Step.{Step};
-ghost use Rattle.std.specs.Prelude.{◌≡◌, Decides, List, slice_set, ℕ};
+ghost use Rattle.std.specs.Prelude.{◌≡◌, Decides, List, slice_set};
 
 use crate::answer::Answer;
 use crate::found::Found;

@@ -1,6 +1,5 @@
 //! The call for the nodes at the paths of a range.
 
-ghost use Rattle.cap_calls.specs.NodeCalls.{path_found};
 ghost use Rattle.cap_calls.specs.RangeCalls.{AreSteps, GetsRange, IsBadStep, TellsRange, TellsSteps, path_after, step_after};
 ghost use Rattle.cap_calls.specs.declared.answer.Answer.{Answer};
 ghost use Rattle.cap_calls.specs.declared.node.CallNode.{CallNode};

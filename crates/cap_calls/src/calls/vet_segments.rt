@@ -1,6 +1,5 @@
 //! The call that vets a message whose segments are separate.
 
-ghost use Rattle.cap_calls.specs.CallFlags.{demands_of};
 ghost use Rattle.cap_calls.specs.SegmentsCalls.{FindsSegments, TellsSegments, no_segments_found};
 ghost use Rattle.cap_calls.specs.declared.answer.Answer.{Answer};
 ghost use Rattle.cap_calls.specs.declared.report.CallReport.{CallReport};

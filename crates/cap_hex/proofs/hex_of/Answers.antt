@@ -1,4 +1,4 @@
-use Rattle.std.proofs.Common.{◌∙◌, ap}
+use Rattle.std.proofs.Common.{ap, ◌∙◌}
 use Rattle.hex.specs.Hex.{encode_lower}
 use Rattle.cap_hex.proofs.Hexes.{encode_is_hex}
 use Rattle.cap_hex.proofs.hex_of.Goals as goal

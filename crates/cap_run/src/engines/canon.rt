@@ -2,8 +2,7 @@
 
 ghost use Rattle.cap_run.specs.Canons.{IsCanonised, MakesCopies, MakesCopiesUnder};
 ghost use Rattle.cap_run.specs.Transcoding.{PutsWords};
-ghost use Rattle.cap_run.specs.Making.{CopyStops, Made, Making, NextStops, PutsNext, is_unfinished};
-ghost use Rattle.cap_run.specs.Making.{refused_cause};
+ghost use Rattle.cap_run.specs.Making.{CopyStops, Made, Making, NextStops, PutsNext, is_unfinished, refused_cause};
 ghost use Rattle.cap_run.specs.Streams.{EndsStream};
 ghost use Rattle.cap_frame.specs.Limit.{limit_of};
 ghost use Rattle.cap_frame.specs.Putting.{Halts};

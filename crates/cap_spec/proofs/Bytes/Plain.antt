@@ -1,11 +1,9 @@
 -- Words and their plain spelling: each list of bytes splits into words and less than a word in one way.
-use Rattle.std.proofs.Common.{◌≡◌, ◌≢◌, ◌↔◌, ℕ, suc, ◌+◌, ◌*◌, ◌/◌, ◌<◌, true, false, List, [], ◌∷◌, ◌++◌, length, drop}
-use Rattle.std.proofs.Common.{refl, sym, ap, ◌∙◌, subst, arith, append-nil, drop_at}
-use Rattle.std.specs.List.{AllByRecursion}
-use Rattle.byteorder.specs.Endian.{little_number}
-use Rattle.cap_spec.specs.Words.{IsWord}
-use Rattle.cap_spec.specs.Plain.{PlainSplits, word_bytes, plain_text, plain_words, plain_is_cut}
+use Rattle.cap_spec.specs.Plain.{PlainSplits}
 use Rattle.cap_spec.proofs.Bytes.WordBytes.{bytes_back, bytes_below, word_back}
+use Rattle.cap_spec.proofs.Prelude.{List, [], ap, append-nil, arith, drop, drop_at, false, length, refl, subst, suc}
+use Rattle.cap_spec.proofs.Prelude.{sym, true, ℕ, ◌*◌, ◌++◌, ◌+◌, ◌/◌, ◌<◌, ◌↔◌, ◌∙◌, ◌∷◌, ◌≡◌, ◌≢◌, AllByRecursion}
+use Rattle.cap_spec.proofs.Prelude.{little_number, plain_is_cut, plain_text, plain_words, word_bytes, IsWord}
 
 -- eight bytes a word
 pub length_plain : (ws : List ℕ) → length (plain_text ws) ≡ 8 * length ws

@@ -1,14 +1,10 @@
 -- The bytes of a word: they tell the word, and each eight bytes are those of one.
-use Rattle.std.proofs.Common.{◌≡◌, ℕ, zero, suc, ◌+◌, ◌*◌, ◌/◌, ◌%◌, ◌^◌, ◌<◌, List, [], ◌∷◌, ◌++◌}
-use Rattle.std.proofs.Common.{length, refl, sym, ap, ◌∙◌, arith}
-use Rattle.std.proofs.Math.Nat.{pow-succ', div-div-eq-div-mul}
-use Rattle.std.specs.List.{AllByRecursion, flat_map}
-use Rattle.std.specs.Int.{byte_at, bytes_low_first}
-use Rattle.byteorder.specs.Endian.{little_bytes, little_number}
-use Rattle.byteorder.specs.Numbers.{little_from-cons, little_number-reads_back}
-use Rattle.cap_spec.specs.Words.{IsWord}
-use Rattle.cap_spec.specs.Plain.{word_bytes}
-use Rattle.cap_spec.specs.Frames.{halves}
+use Rattle.std.proofs.Math.Nat.{div-div-eq-div-mul}
+use Rattle.std.specs.Int.{bytes_low_first}
+use Rattle.cap_spec.proofs.Prelude.{List, [], ap, arith, flat_map, length, refl, suc, sym, zero, ℕ, ◌%◌, ◌*◌, ◌++◌, ◌+◌}
+use Rattle.cap_spec.proofs.Prelude.{◌/◌, ◌<◌, ◌^◌, ◌∙◌, ◌∷◌, ◌≡◌, pow-succ', byte_at, AllByRecursion, little_bytes}
+use Rattle.cap_spec.proofs.Prelude.{little_number, little_from-cons, little_number-reads_back, halves, word_bytes}
+use Rattle.cap_spec.proofs.Prelude.{IsWord}
 
 -- with one byte more below, each byte stands one place further up
 byte_at_up : (i a y : ℕ) → a < 256 → byte_at (suc i) (a + 256 * y) ≡ byte_at i y

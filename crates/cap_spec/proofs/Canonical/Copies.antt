@@ -1,13 +1,10 @@
 -- The one canonical copy of a message.
-use Rattle.std.proofs.Common.{ℕ, ◌<◌, ◌≤◌, ◌^◌, List, [], ◌∷◌, ◌≡◌, ◌↔◌, ap, refl, sym, subst, ◌∙◌}
-use Rattle.cap_spec.specs.Tree.{Tree}
-use Rattle.cap_spec.specs.Denoting.{Denotes}
-use Rattle.cap_spec.specs.Canonical.{layout, trim}
-use Rattle.cap_spec.specs.Copies.{HasCopy, IsCanonical}
-use Rattle.cap_spec.proofs.Trees.OneTree.{one_tree}
-use Rattle.cap_spec.proofs.Canonical.Layouts.{trimmed_layout_denotes, one_layout}
-use Rattle.cap_spec.proofs.Canonical.Trimming.{trim-trim}
+use Rattle.cap_spec.proofs.Canonical.Layouts.{one_layout, trimmed_layout_denotes}
 use Rattle.cap_spec.proofs.Canonical.TrimmedTrees.{has_cap-trim}
+use Rattle.cap_spec.proofs.Canonical.Trimming.{trim-trim}
+use Rattle.cap_spec.proofs.Prelude.{List, [], ap, refl, subst, sym, ℕ, ◌<◌, ◌^◌, ◌↔◌, ◌∙◌, ◌∷◌, ◌≡◌, ◌≤◌, layout, trim}
+use Rattle.cap_spec.proofs.Prelude.{HasCopy, IsCanonical, Denotes, Tree}
+use Rattle.cap_spec.proofs.Trees.OneTree.{one_tree}
 
 -- a message has no more than one copy
 pub one_copy : (m : List (List ℕ)) (xs ys : List ℕ) → HasCopy m xs → HasCopy m ys → xs ≡ ys

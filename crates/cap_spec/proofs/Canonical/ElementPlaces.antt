@@ -1,5 +1,5 @@
 -- Where the parts of a list of structs start in a layout, and how far their pointers lead.
-use Rattle.std.proofs.Common.{ℕ, suc, ◌+◌, ◌*◌, ◌<◌, List, ◌++◌, ◌≡◌, arith, length, length-append}
+use Rattle.std.proofs.Common.{List, arith, length, length-append, suc, ℕ, ◌*◌, ◌++◌, ◌+◌, ◌<◌, ◌≡◌}
 
 -- where the parts of an element's words are
 pub element_end : (eb d p : ℕ) (ws pw : List ℕ) (k : ℕ) → length ws ≡ d → length pw ≡ k → k ≡ p

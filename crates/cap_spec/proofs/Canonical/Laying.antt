@@ -1,24 +1,17 @@
 -- The layout of a tree denotes that tree.
-use Rattle.std.proofs.Common.{ℕ, ◌+◌, ◌-◌, ◌*◌, ◌^◌, ◌<◌, ◌≤◌, List, [], ◌∷◌, ◌≡◌, ◌≢◌, sym, ap, ap₂}
-use Rattle.std.proofs.Common.{refl, subst, ◌∙◌, arith, length}
-use Rattle.std.specs.Prelude.{if◌then◌else◌, ◌==◌}
-use Rattle.std.specs.List.{AllByRecursion}
-use Rattle.std.proofs.lemmas.Bool.{ne_eqb}
-use Rattle.std.proofs.lemmas.Option.{slice_get_within}
-use Rattle.cap_spec.specs.Messages.{HasWord}
-use Rattle.cap_spec.specs.Pointers.{kind, middle, data_size, pointer_size, list_size, extent, element_bits, list_words}
-use Rattle.cap_spec.specs.Following.{near, IsComposite, TagFits, extra}
-use Rattle.cap_spec.specs.Tree.{struct, scalars, pointers, structs, Trees, none, more, tree_count}
-use Rattle.cap_spec.specs.Denoting.{Finds, Denotes, DenoteEach, AreElements, places}
-use Rattle.cap_spec.specs.Denoting.{words_from, values_of, element_levels}
-use Rattle.cap_spec.specs.Canonical.{struct_word, pointer_to}
-use Rattle.cap_spec.specs.Scalars.{scalar_words}
-use Rattle.cap_spec.proofs.Trees.Charges.{extent_struct, extent_pointers, extent_structs}
-use Rattle.cap_spec.proofs.Trees.ReadingBack.{scalars_read, length-scalar_words}
-use Rattle.cap_spec.specs.Placing.{HasWordsAt}
-use Rattle.cap_spec.proofs.Canonical.Placing.{stand_inside, stand_word, stand_read}
-use Rattle.cap_spec.proofs.Canonical.PointerFields.{StructFields, struct_fields, ListFields, start_after, start_before}
-use Rattle.cap_spec.proofs.Canonical.TreeMeasures.{idle, extent_scalars, extra_scalars, extra_structs}
+use Rattle.cap_spec.specs.Denoting.{places}
+use Rattle.cap_spec.specs.Tree.{none}
+use Rattle.cap_spec.proofs.Canonical.Placing.{stand_inside, stand_read, stand_word}
+use Rattle.cap_spec.proofs.Canonical.PointerFields.{ListFields, StructFields, start_after, start_before, struct_fields}
+use Rattle.cap_spec.proofs.Canonical.TreeMeasures.{extent_scalars, extra_scalars, extra_structs, idle}
+use Rattle.cap_spec.proofs.Prelude.{List, [], ap, ap₂, arith, if◌then◌else◌, length, ne_eqb, refl, subst, sym, ℕ, ◌*◌}
+use Rattle.cap_spec.proofs.Prelude.{◌+◌, ◌-◌, ◌<◌, ◌==◌, ◌^◌, ◌∙◌, ◌∷◌, ◌≡◌, ◌≢◌, ◌≤◌, slice_get_within, AllByRecursion}
+use Rattle.cap_spec.proofs.Prelude.{pointer_to, struct_word, AreElements, DenoteEach, Denotes, Finds, element_levels}
+use Rattle.cap_spec.proofs.Prelude.{values_of, words_from, IsComposite, TagFits, extra, near, HasWord, HasWordsAt}
+use Rattle.cap_spec.proofs.Prelude.{data_size, element_bits, extent, kind, list_size, list_words, middle, pointer_size}
+use Rattle.cap_spec.proofs.Prelude.{scalar_words, Trees, more, pointers, scalars, struct, structs, tree_count}
+use Rattle.cap_spec.proofs.Trees.Charges.{extent_pointers, extent_struct, extent_structs}
+use Rattle.cap_spec.proofs.Trees.ReadingBack.{length-scalar_words, scalars_read}
 
 -- three and two
 pub not_far : (x : ℕ) → x ≡ 3 → x ≢ 2

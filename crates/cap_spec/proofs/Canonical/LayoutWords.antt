@@ -1,27 +1,20 @@
 -- The words of a layout are words.
-use Rattle.std.proofs.Common.{ℕ, zero, suc, ◌+◌, ◌-◌, ◌*◌, ◌/◌, ◌^◌, ◌<◌, ◌≤◌, List, [], ◌∷◌, ◌++◌, ◌≡◌, Bool, true}
-use Rattle.std.proofs.Common.{false, arith, subst, sym, length, take, drop}
-use Rattle.std.specs.Prelude.{map, if◌then◌else◌, ◌==◌}
-use Rattle.std.specs.List.{AllByRecursion, range_with_len}
-use Rattle.std.proofs.Math.Pow.{pow_mono}
-use Rattle.std.proofs.Math.Nat.{div-mul-le_self}
-use Rattle.std.proofs.lemmas.List.{length-take}
-use Rattle.std.proofs.lemmas.Nat.{mul-le, pow-add}
-use Rattle.cap_spec.specs.Words.{IsWord}
-use Rattle.cap_spec.specs.Pointers.{element_bits, list_words}
-use Rattle.cap_spec.specs.Scalars.{packed_word, scalar_words}
-use Rattle.cap_spec.specs.Tree.{Tree, null, cap, struct, scalars, pointers, structs, Trees, none, more, tree_count}
-use Rattle.cap_spec.specs.Tree.{IsTree, AreTrees, AreElementTrees}
-use Rattle.cap_spec.specs.Denoting.{Denotes}
-use Rattle.cap_spec.specs.Canonical.{struct_word, list_word, size, sizes, element_sizes, pointer_to, pointer_words}
-use Rattle.cap_spec.specs.Canonical.{element_words, content, contents, element_contents, layout, trim}
-use Rattle.cap_spec.proofs.Bytes.Lists.{all_append, all_take, all_drop}
-use Rattle.cap_spec.proofs.Trees.DenotedTrees.{AreWords, denoted_is_tree}
-use Rattle.cap_spec.proofs.Canonical.TrimmedTrees.{trimmed_is_tree}
-use Rattle.cap_spec.proofs.Canonical.TreeMeasures.{Fits, FitEach, FitElements, Measured, measured}
-use Rattle.cap_spec.proofs.Canonical.TrimmedMeasures.{Trimmed, trimmed}
+use Rattle.std.proofs.Common.{div-mul-le_self, pow-add, pow_mono}
+use Rattle.cap_spec.specs.Tree.{none}
+use Rattle.cap_spec.proofs.Bytes.Lists.{all_append, all_drop, all_take}
 use Rattle.cap_spec.proofs.Canonical.ElementPlaces.{children_near, elements_only, rest_near, without_tag}
 use Rattle.cap_spec.proofs.Canonical.Sizes.{trimmed_size_charged}
+use Rattle.cap_spec.proofs.Canonical.TreeMeasures.{FitEach, FitElements, Fits, Measured, measured}
+use Rattle.cap_spec.proofs.Canonical.TrimmedMeasures.{Trimmed, trimmed}
+use Rattle.cap_spec.proofs.Canonical.TrimmedTrees.{trimmed_is_tree}
+use Rattle.cap_spec.proofs.Prelude.{Bool, List, [], arith, drop, false, if◌then◌else◌, length, length-take, map, subst}
+use Rattle.cap_spec.proofs.Prelude.{suc, sym, take, true, zero, ℕ, ◌*◌, ◌++◌, ◌+◌, ◌-◌, ◌/◌, ◌<◌, ◌==◌, ◌^◌, ◌∷◌, ◌≡◌}
+use Rattle.cap_spec.proofs.Prelude.{◌≤◌, mul-le, AllByRecursion, range_with_len, content, contents, element_contents}
+use Rattle.cap_spec.proofs.Prelude.{element_sizes, element_words, layout, list_word, pointer_to, pointer_words, size}
+use Rattle.cap_spec.proofs.Prelude.{sizes, struct_word, trim, Denotes, element_bits, list_words, packed_word}
+use Rattle.cap_spec.proofs.Prelude.{scalar_words, AreElementTrees, AreTrees, IsTree, Tree, Trees, cap, more, null}
+use Rattle.cap_spec.proofs.Prelude.{pointers, scalars, struct, structs, tree_count, IsWord}
+use Rattle.cap_spec.proofs.Trees.DenotedTrees.{AreWords, denoted_is_tree}
 
 -- values of one word fit the bits that they take together
 one_more : (v b m p : ℕ) → v < b → m < p → v + b * m < b * p

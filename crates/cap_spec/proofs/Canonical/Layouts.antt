@@ -1,24 +1,23 @@
 -- The layout of a tree denotes that tree: wherever its content stands, and a pointer with the offset to there.
-use Rattle.std.proofs.Common.{ℕ, ◌+◌, ◌*◌, ◌^◌, ◌<◌, ◌≤◌, List, [], ◌∷◌, ◌++◌, ◌≡◌, ◌↔◌, sym, ap, refl, subst}
-use Rattle.std.proofs.Common.{◌∙◌, arith, length, length-append}
-use Rattle.cap_spec.specs.Messages.{HasWord}
-use Rattle.cap_spec.specs.Following.{near}
-use Rattle.cap_spec.specs.Tree.{Tree, null, cap, struct, scalars, pointers, structs, Trees, none, more, tree_count}
-use Rattle.cap_spec.specs.Denoting.{Denotes, DenoteEach, AreElements, places}
-use Rattle.cap_spec.specs.Canonical.{struct_word, list_word, size, sizes, element_sizes, pointer_to, pointer_words}
-use Rattle.cap_spec.specs.Canonical.{element_words, content, contents, element_contents, layout, trim}
-use Rattle.cap_spec.proofs.Trees.OneTree.{one_tree}
-use Rattle.cap_spec.specs.Placing.{HasWordsAt}
-use Rattle.cap_spec.proofs.Canonical.Placing.{stand_front, stand_back, stand_inside, stand_read, stand_whole}
-use Rattle.cap_spec.proofs.Canonical.PointerFields.{struct_fields, list_fields, CapFields, cap_fields}
-use Rattle.cap_spec.proofs.Canonical.TreeMeasures.{cost, costs, element_costs, height, heights, element_heights, Fits}
-use Rattle.cap_spec.proofs.Canonical.TreeMeasures.{FitEach, FitElements, Measured, measured}
+use Rattle.cap_spec.specs.Denoting.{places}
+use Rattle.cap_spec.specs.Tree.{none}
+use Rattle.cap_spec.proofs.Canonical.ElementPlaces.{children_begin, children_near, element_end, rest_begin, rest_near}
+use Rattle.cap_spec.proofs.Canonical.ElementPlaces.{without_tag}
+use Rattle.cap_spec.proofs.Canonical.Laying.{any_struct_laid, not_far, pointers_laid, scalars_laid, structs_laid}
+use Rattle.cap_spec.proofs.Canonical.Placing.{stand_back, stand_front, stand_inside, stand_read, stand_whole}
+use Rattle.cap_spec.proofs.Canonical.PointerFields.{CapFields, cap_fields, list_fields, struct_fields}
+use Rattle.cap_spec.proofs.Canonical.Sizes.{length-content, length-contents, length-element_words, length-pointer_words}
+use Rattle.cap_spec.proofs.Canonical.Sizes.{trimmed_size_charged}
+use Rattle.cap_spec.proofs.Canonical.TreeMeasures.{FitEach, FitElements, Fits, Measured, cost, costs, element_costs}
+use Rattle.cap_spec.proofs.Canonical.TreeMeasures.{element_heights, height, heights, measured}
 use Rattle.cap_spec.proofs.Canonical.TrimmedMeasures.{Trimmed, trimmed}
-use Rattle.cap_spec.proofs.Canonical.Sizes.{length-pointer_words, length-element_words, length-content}
-use Rattle.cap_spec.proofs.Canonical.Sizes.{length-contents, trimmed_size_charged}
-use Rattle.cap_spec.proofs.Canonical.ElementPlaces.{children_begin, children_near, element_end}
-use Rattle.cap_spec.proofs.Canonical.ElementPlaces.{rest_begin, rest_near, without_tag}
-use Rattle.cap_spec.proofs.Canonical.Laying.{not_far, any_struct_laid, scalars_laid, pointers_laid, structs_laid}
+use Rattle.cap_spec.proofs.Prelude.{List, [], ap, arith, length, length-append, refl, subst, sym, ℕ, ◌*◌, ◌++◌, ◌+◌}
+use Rattle.cap_spec.proofs.Prelude.{◌<◌, ◌^◌, ◌↔◌, ◌∙◌, ◌∷◌, ◌≡◌, ◌≤◌, content, contents, element_contents}
+use Rattle.cap_spec.proofs.Prelude.{element_sizes, element_words, layout, list_word, pointer_to, pointer_words, size}
+use Rattle.cap_spec.proofs.Prelude.{sizes, struct_word, trim, AreElements, DenoteEach, Denotes, near, HasWord}
+use Rattle.cap_spec.proofs.Prelude.{HasWordsAt, Tree, Trees, cap, more, null, pointers, scalars, struct, structs}
+use Rattle.cap_spec.proofs.Prelude.{tree_count}
+use Rattle.cap_spec.proofs.Trees.OneTree.{one_tree}
 
 -- where a struct list's elements end, and its children's contents begin
 elements_end : (b x n : ℕ) → x ≡ n → b + 1 + n ≡ b + 1 + x

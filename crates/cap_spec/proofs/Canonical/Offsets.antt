@@ -1,15 +1,14 @@
 -- Each offset of a layout is smaller than the size of the tree.
-use Rattle.std.proofs.Common.{ℕ, ◌+◌, ◌*◌, ◌^◌, ◌<◌, ◌≤◌, List, arith}
-use Rattle.std.specs.List.{AllByRecursion, flat_map}
-use Rattle.cap_spec.specs.Tree.{Tree, null, cap, struct, scalars, pointers, structs, Trees, none, more, tree_count}
-use Rattle.cap_spec.specs.Denoting.{Denotes}
-use Rattle.cap_spec.specs.Canonical.{size, sizes, element_sizes, pointer_offsets, element_offsets, offsets}
-use Rattle.cap_spec.specs.Canonical.{offsets_below, element_offsets_below, trim}
+use Rattle.cap_spec.specs.Canonical.{element_offsets, element_offsets_below, offsets_below, pointer_offsets}
+use Rattle.cap_spec.specs.Tree.{none}
 use Rattle.cap_spec.proofs.Bytes.Lists.{all_append}
-use Rattle.cap_spec.proofs.Canonical.TreeMeasures.{Fits, FitEach, FitElements, Measured, measured}
-use Rattle.cap_spec.proofs.Canonical.TrimmedMeasures.{Trimmed, trimmed}
 use Rattle.cap_spec.proofs.Canonical.ElementPlaces.{children_near, elements_only, rest_near, without_tag}
 use Rattle.cap_spec.proofs.Canonical.Sizes.{trimmed_size_charged}
+use Rattle.cap_spec.proofs.Canonical.TreeMeasures.{FitEach, FitElements, Fits, Measured, measured}
+use Rattle.cap_spec.proofs.Canonical.TrimmedMeasures.{Trimmed, trimmed}
+use Rattle.cap_spec.proofs.Prelude.{List, arith, flat_map, ℕ, ◌*◌, ◌+◌, ◌<◌, ◌^◌, ◌≤◌, AllByRecursion, element_sizes}
+use Rattle.cap_spec.proofs.Prelude.{offsets, size, sizes, trim, Denotes, Tree, Trees, cap, more, null, pointers}
+use Rattle.cap_spec.proofs.Prelude.{scalars, struct, structs, tree_count}
 
 -- those of pointers in a row
 row_offsets : (most after : ℕ) (ts : Trees) → after + tree_count ts + sizes ts < most

@@ -1,11 +1,8 @@
 -- Words that stand in a segment, addressed by their positions.
-use Rattle.std.proofs.Common.{ℕ, zero, suc, ◌+◌, ◌-◌, ◌<◌, ◌≤◌, List, [], ◌∷◌, ◌++◌, ◌≡◌, ap, refl, subst, ◌∙◌, arith}
-use Rattle.std.proofs.Common.{length, take, drop, get_or, append_assoc, append-nil}
-use Rattle.std.specs.Prelude.{Some, slice_get}
 use Rattle.std.proofs.lemmas.List.{length_push}
-use Rattle.std.proofs.lemmas.Option.{slice_get_within, get_or_from_slice_get, same_Some}
-use Rattle.cap_spec.specs.Denoting.{words_from}
-use Rattle.cap_spec.specs.Placing.{HasWordsAt}
+use Rattle.cap_spec.proofs.Prelude.{List, Some, [], ap, append-nil, append_assoc, arith, drop, get_or, length, refl}
+use Rattle.cap_spec.proofs.Prelude.{slice_get, subst, suc, take, zero, ℕ, ◌++◌, ◌+◌, ◌-◌, ◌<◌, ◌∙◌, ◌∷◌, ◌≡◌, ◌≤◌}
+use Rattle.cap_spec.proofs.Prelude.{get_or_from_slice_get, same_Some, slice_get_within, words_from, HasWordsAt}
 use Rattle.cap_spec.proofs.Trees.ReadingBack.{WordsAt}
 
 -- of words that stand joined each part stands at its place

@@ -1,10 +1,8 @@
 -- The fields of the pointer words of a layout.
-use Rattle.std.proofs.Common.{ℕ, suc, ◌+◌, ◌-◌, ◌*◌, ◌^◌, ◌<◌, ◌≡◌, sym, ap, ◌∙◌, arith, cond, ltb, pos, negsuc}
-use Rattle.std.specs.Prelude.{◌+ℤ◌, ◌-ℤ◌, nat_lt, if◌then◌else◌}
-use Rattle.std.proofs.lemmas.Bool.{lt-ltb, le-ltb}
-use Rattle.cap_spec.specs.Words.{signed_offset_of}
-use Rattle.cap_spec.specs.Pointers.{kind, middle, code, data_size, pointer_size, list_size, cap_index}
-use Rattle.cap_spec.specs.Canonical.{struct_word, list_word}
+use Rattle.std.proofs.Common.{◌-ℤ◌}
+use Rattle.cap_spec.proofs.Prelude.{ap, arith, cond, if◌then◌else◌, le-ltb, lt-ltb, ltb, nat_lt, negsuc, pos, suc, sym}
+use Rattle.cap_spec.proofs.Prelude.{ℕ, ◌*◌, ◌+ℤ◌, ◌+◌, ◌-◌, ◌<◌, ◌^◌, ◌∙◌, ◌≡◌, list_word, struct_word, cap_index, code}
+use Rattle.cap_spec.proofs.Prelude.{data_size, kind, list_size, middle, pointer_size, signed_offset_of}
 
 -- of a struct's pointer, or of a tag
 pub record StructFields (q offset d p : ℕ) : Type 0 where

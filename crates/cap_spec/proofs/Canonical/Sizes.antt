@@ -1,13 +1,13 @@
 -- How many words a layout has.
-use Rattle.std.proofs.Common.{ℕ, suc, ◌+◌, ◌*◌, ◌≤◌, List, ◌++◌, ◌≡◌, ap, refl, ◌∙◌, arith, length, length-append}
-use Rattle.cap_spec.specs.Tree.{Tree, null, cap, struct, scalars, pointers, structs, Trees, none, more, tree_count}
+use Rattle.std.proofs.Common.{List, ap, arith, length, length-append, refl, suc, ℕ, ◌*◌, ◌++◌, ◌+◌, ◌∙◌, ◌≡◌, ◌≤◌}
+use Rattle.cap_spec.specs.Canonical.{content, contents, element_contents, element_sizes, element_words, layout}
+use Rattle.cap_spec.specs.Canonical.{pointer_words, size, sizes, trim}
 use Rattle.cap_spec.specs.Denoting.{Denotes}
-use Rattle.cap_spec.specs.Canonical.{size, sizes, element_sizes, pointer_words, element_words, content, contents}
-use Rattle.cap_spec.specs.Canonical.{element_contents, layout, trim}
-use Rattle.cap_spec.proofs.Trees.ReadingBack.{length-scalar_words}
-use Rattle.cap_spec.proofs.Canonical.TreeMeasures.{idle, cost, costs, element_costs, Fits, FitEach}
-use Rattle.cap_spec.proofs.Canonical.TreeMeasures.{FitElements, Measured, measured}
+use Rattle.cap_spec.specs.Tree.{Tree, Trees, cap, more, none, null, pointers, scalars, struct, structs, tree_count}
+use Rattle.cap_spec.proofs.Canonical.TreeMeasures.{FitEach, FitElements, Fits, Measured, cost, costs, element_costs}
+use Rattle.cap_spec.proofs.Canonical.TreeMeasures.{idle, measured}
 use Rattle.cap_spec.proofs.Canonical.TrimmedMeasures.{Trimmed, trimmed}
+use Rattle.cap_spec.proofs.Trees.ReadingBack.{length-scalar_words}
 
 -- one pointer word for each tree
 pub length-pointer_words : (after : ℕ) (ts : Trees) → length (pointer_words after ts) ≡ tree_count ts

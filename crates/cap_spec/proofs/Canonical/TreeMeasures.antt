@@ -1,19 +1,16 @@
 -- How much a tree is charged without pads, how deep it is, and that its sizes fit the fields of pointer words:
 -- of what is denoted, and of the trimmed tree.
-use Rattle.std.proofs.Common.{ℕ, suc, ◌+◌, ◌*◌, ◌^◌, ◌<◌, ◌≤◌, List, ◌≡◌, max, sym, ap, ap₂, refl, ◌∙◌, arith, length}
-use Rattle.std.specs.Prelude.{⊤, if◌then◌else◌, ◌==◌}
-use Rattle.std.specs.List.{AllByRecursion}
-use Rattle.std.proofs.lemmas.Bool.{ne_eqb}
-use Rattle.cap_spec.specs.Pointers.{kind, middle, code, data_size, pointer_size, list_size}
-use Rattle.cap_spec.specs.Pointers.{extent, element_bits, list_words}
-use Rattle.cap_spec.specs.Following.{extra}
-use Rattle.cap_spec.specs.Tree.{Tree, null, cap, struct, scalars, pointers, structs, Trees, none, more, tree_count}
-use Rattle.cap_spec.specs.Denoting.{FindsStruct, FindsScalars, FindsPointers, FindsStructs, Denotes, DenoteEach}
-use Rattle.cap_spec.specs.Denoting.{AreElements, places, element_levels}
-use Rattle.cap_spec.specs.Messages.{segment_of}
-use Rattle.cap_spec.proofs.Trees.Charges.{extent_struct, extent_pointers, extent_structs}
-use Rattle.cap_spec.proofs.Trees.Charges.{length-places, elements_fit, each_charged}
-use Rattle.cap_spec.proofs.Trees.DenotedTrees.{range_length, elements_inside, values_fit, cap_fits}
+use Rattle.cap_spec.specs.Denoting.{FindsScalars, places}
+use Rattle.cap_spec.specs.Tree.{none}
+use Rattle.cap_spec.proofs.Prelude.{List, ap, ap₂, arith, if◌then◌else◌, length, max, ne_eqb, refl, suc, sym, ℕ, ◌*◌}
+use Rattle.cap_spec.proofs.Prelude.{◌+◌, ◌<◌, ◌==◌, ◌^◌, ◌∙◌, ◌≡◌, ◌≤◌, AllByRecursion, ⊤, AreElements, DenoteEach}
+use Rattle.cap_spec.proofs.Prelude.{Denotes, FindsPointers, FindsStruct, FindsStructs, element_levels, extra}
+use Rattle.cap_spec.proofs.Prelude.{segment_of, code, data_size, element_bits, extent, kind, list_size, list_words}
+use Rattle.cap_spec.proofs.Prelude.{middle, pointer_size, Tree, Trees, cap, more, null, pointers, scalars, struct}
+use Rattle.cap_spec.proofs.Prelude.{structs, tree_count}
+use Rattle.cap_spec.proofs.Trees.Charges.{each_charged, elements_fit, extent_pointers, extent_struct, extent_structs}
+use Rattle.cap_spec.proofs.Trees.Charges.{length-places}
+use Rattle.cap_spec.proofs.Trees.DenotedTrees.{cap_fits, elements_inside, range_length, values_fit}
 use Rattle.cap_spec.proofs.Trees.Readings.{length-values}
 
 -- one for each element that takes no words

@@ -1,17 +1,15 @@
 -- A trimmed tree costs no more, is as deep, and fits where the tree fits.
-use Rattle.std.proofs.Common.{ℕ, zero, suc, ◌+◌, ◌*◌, ◌^◌, ◌<◌, ◌≤◌, List, [], ◌∷◌, ◌≡◌, max, sym}
-use Rattle.std.proofs.Common.{ap, ap₂, refl, ◌∙◌, arith, length}
-use Rattle.std.specs.Prelude.{if◌then◌else◌, ◌==◌}
+use Rattle.std.proofs.Common.{List, [], ap, ap₂, arith, if◌then◌else◌, length, length-take, length-take-le, max, refl}
+use Rattle.std.proofs.Common.{suc, sym, zero, ℕ, ◌*◌, ◌+◌, ◌<◌, ◌==◌, ◌^◌, ◌∙◌, ◌∷◌, ◌≡◌, ◌≤◌}
 use Rattle.std.proofs.Math.Dec.{eqb-suc-zero}
-use Rattle.std.proofs.lemmas.List.{length-take, length-take-le}
 use Rattle.std.proofs.lemmas.Nat.{mul-le}
-use Rattle.cap_spec.specs.Tree.{Tree, null, cap, struct, scalars, pointers, structs, Trees, none, more, tree_count}
+use Rattle.cap_spec.specs.Canonical.{children_needed, children_of, cut_elements, data_needed, data_of, is_null}
+use Rattle.cap_spec.specs.Canonical.{take_trees, trim, trim_all, trim_elements, trim_struct, trim_structs}
 use Rattle.cap_spec.specs.Denoting.{element_levels}
-use Rattle.cap_spec.specs.Canonical.{data_needed, is_null, children_needed, take_trees, data_of, children_of}
-use Rattle.cap_spec.specs.Canonical.{cut_elements, trim_struct, trim_structs, trim, trim_all, trim_elements}
+use Rattle.cap_spec.specs.Tree.{Tree, Trees, cap, more, none, null, pointers, scalars, struct, structs, tree_count}
+use Rattle.cap_spec.proofs.Canonical.TreeMeasures.{FitEach, FitElements, Fits, cost, costs, element_costs}
+use Rattle.cap_spec.proofs.Canonical.TreeMeasures.{element_heights, height, heights, idle}
 use Rattle.cap_spec.proofs.Canonical.Trimming.{rest_below}
-use Rattle.cap_spec.proofs.Canonical.TreeMeasures.{idle, cost, costs, element_costs, height, heights}
-use Rattle.cap_spec.proofs.Canonical.TreeMeasures.{element_heights, Fits, FitEach, FitElements}
 
 -- none are needed where none are needed of the rest and the first isn't
 pub none_left : (n x : ℕ) → (if n == 0 then x else suc n) ≤ 0 → (n ≤ 0) × (x ≤ 0)

@@ -1,15 +1,13 @@
 -- A trimmed tree is a tree, and has the capabilities that it had.
-use Rattle.std.proofs.Common.{ℕ, zero, suc, ◌+◌, ◌≤◌, ◌≡◌, sym, ap, ap₂, refl, ◌∙◌, arith}
-use Rattle.std.specs.Prelude.{if◌then◌else◌, ◌==◌, not}
-use Rattle.std.proofs.lemmas.List.{length-take-le}
-use Rattle.cap_spec.specs.Words.{IsWord}
-use Rattle.cap_spec.specs.Tree.{Tree, null, cap, struct, scalars, pointers, structs, Trees, none, more, tree_count}
-use Rattle.cap_spec.specs.Tree.{cap_count, cap_counts, has_cap, IsTree, AreTrees, AreElementTrees}
-use Rattle.cap_spec.specs.Canonical.{data_needed, is_null, children_needed, take_trees, data_of, children_of}
-use Rattle.cap_spec.specs.Canonical.{cut_elements, trim, trim_all, trim_elements}
+use Rattle.cap_spec.specs.Tree.{none}
 use Rattle.cap_spec.proofs.Bytes.Lists.{all_take}
+use Rattle.cap_spec.proofs.Canonical.TrimmedMeasures.{children_needed_le, data_needed_le, none_left, tree_count-take_le}
 use Rattle.cap_spec.proofs.Canonical.Trimming.{rest_below}
-use Rattle.cap_spec.proofs.Canonical.TrimmedMeasures.{none_left, data_needed_le, children_needed_le, tree_count-take_le}
+use Rattle.cap_spec.proofs.Prelude.{ap, ap₂, arith, if◌then◌else◌, length-take-le, not, refl, suc, sym, zero, ℕ, ◌+◌}
+use Rattle.cap_spec.proofs.Prelude.{◌==◌, ◌∙◌, ◌≡◌, ◌≤◌, children_needed, children_of, cut_elements, data_needed}
+use Rattle.cap_spec.proofs.Prelude.{data_of, is_null, take_trees, trim, trim_all, trim_elements, AreElementTrees}
+use Rattle.cap_spec.proofs.Prelude.{AreTrees, IsTree, Tree, Trees, cap, cap_count, cap_counts, has_cap, more, null}
+use Rattle.cap_spec.proofs.Prelude.{pointers, scalars, struct, structs, tree_count, IsWord}
 
 -- a front of trees
 trees-take : (n : ℕ) (ts : Trees) → AreTrees ts → AreTrees (take_trees n ts)

@@ -1,11 +1,10 @@
 -- A trimmed tree is its own trimmed tree.
-use Rattle.std.proofs.Common.{ℕ, zero, suc, ◌≤◌, List, [], ◌∷◌, ◌≡◌, max, sym, ap, ap₂, refl, ◌∙◌, arith, take}
-use Rattle.std.specs.Prelude.{if◌then◌else◌, ◌==◌}
+use Rattle.std.proofs.Common.{List, [], ap, ap₂, arith, if◌then◌else◌, max, refl, suc, sym, take, take-take, zero, ℕ}
+use Rattle.std.proofs.Common.{◌==◌, ◌∙◌, ◌∷◌, ◌≡◌, ◌≤◌}
 use Rattle.std.proofs.Math.Dec.{eqb-suc-zero}
-use Rattle.std.proofs.lemmas.List.{take-take}
-use Rattle.cap_spec.specs.Tree.{Tree, null, cap, struct, scalars, pointers, structs, Trees, none, more}
-use Rattle.cap_spec.specs.Canonical.{data_needed, is_null, children_needed, take_trees, data_of, children_of}
-use Rattle.cap_spec.specs.Canonical.{cut_elements, trim_struct, trim_structs, trim, trim_all, trim_elements}
+use Rattle.cap_spec.specs.Canonical.{children_needed, children_of, cut_elements, data_needed, data_of, is_null}
+use Rattle.cap_spec.specs.Canonical.{take_trees, trim, trim_all, trim_elements, trim_struct, trim_structs}
+use Rattle.cap_spec.specs.Tree.{Tree, Trees, cap, more, none, null, pointers, scalars, struct, structs}
 
 -- a front that is long enough for the whole is long enough for the rest
 pub rest_below : (n x d : ℕ) → (if n == 0 then x else suc n) ≤ suc d → n ≤ d

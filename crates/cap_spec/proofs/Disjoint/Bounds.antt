@@ -1,32 +1,26 @@
 -- What a disjoint message is charged, but for its empty elements, is less than its words.
-use Rattle.std.proofs.Common.{ℕ, zero, suc, ◌+◌, ◌*◌, ◌<◌, List, [], ◌∷◌, ◌++◌, ◌≡◌, sym, ap, refl, subst, ◌∙◌}
-use Rattle.std.proofs.Common.{arith, inl, inr, length, sum, true, false}
-use Rattle.std.specs.Prelude.{pos}
-use Rattle.std.proofs.lemmas.List.{append_assoc, length-append}
-use Rattle.cap_spec.specs.Messages.{HasWord, segment_of}
-use Rattle.cap_spec.specs.Frames.{sizes_of}
-use Rattle.cap_spec.specs.Pointers.{middle, data_size, pointer_size, list_size, extent}
-use Rattle.cap_spec.specs.Following.{to_null, to_cap, to_object, Leads, extra}
-use Rattle.cap_spec.specs.Tree.{Tree, null, cap, struct, scalars, pointers, structs, Trees, none, more, tree_count}
-use Rattle.cap_spec.specs.Denoting.{Finds, Denotes, DenoteEach, AreElements, places}
-use Rattle.cap_spec.specs.Occupying.{IsDisjoint, Occupies, Uses}
-use Rattle.cap_spec.specs.Occupying.{empty_count, empty_counts, pads_of}
-use Rattle.cap_spec.specs.Paths.{Spot, word, element, StepsTo, PathLeads, level_of}
-use Rattle.cap_spec.specs.Lists.{AreDistinct, IsOneOf}
-use Rattle.cap_spec.specs.declared.Step.{Step}
-use Rattle.cap_spec.specs.declared.Step.TheVariants.{Ptr, Item}
-use Rattle.cap_spec.proofs.Trees.OneTree.{Formed, formed, cons_parts}
-use Rattle.cap_spec.proofs.Trees.Charges.{length-places}
-use Rattle.cap_spec.proofs.Trees.Readings.{length-values}
-use Rattle.cap_spec.proofs.Paths.Depths.{elements_depth}
+use Rattle.cap_spec.specs.Denoting.{places}
+use Rattle.cap_spec.specs.Occupying.{empty_counts}
+use Rattle.cap_spec.specs.Tree.{none}
 use Rattle.cap_spec.proofs.Canonical.TreeMeasures.{extra_scalars, extra_structs, idle}
-use Rattle.cap_spec.proofs.Paths.Arrivals.{lead_word}
-use Rattle.cap_spec.proofs.Paths.PathLists.{behind, listed_rise, paths_below, paths_from, is_pointer}
-use Rattle.cap_spec.proofs.Paths.PathCounts.{pointer_paths}
-use Rattle.cap_spec.proofs.Frames.Messages.{HasWord-inside, HasWord-segment}
 use Rattle.cap_spec.proofs.Disjoint.Places.{all_places, apart_append, few_places, in_all, in_places, length_all}
 use Rattle.cap_spec.proofs.Disjoint.Places.{pad_inside, pads_number, place_either}
+use Rattle.cap_spec.proofs.Frames.Messages.{HasWord-inside, HasWord-segment}
+use Rattle.cap_spec.proofs.Paths.Arrivals.{lead_word}
+use Rattle.cap_spec.proofs.Paths.Depths.{elements_depth}
+use Rattle.cap_spec.proofs.Paths.PathCounts.{pointer_paths}
+use Rattle.cap_spec.proofs.Paths.PathLists.{behind, is_pointer, listed_rise, paths_below, paths_from}
 use Rattle.cap_spec.proofs.Paths.Preorder.{Rises-distinct}
+use Rattle.cap_spec.proofs.Prelude.{List, [], ap, append_assoc, arith, false, inl, inr, length, length-append, pos}
+use Rattle.cap_spec.proofs.Prelude.{refl, subst, suc, sum, sym, true, zero, ℕ, ◌*◌, ◌++◌, ◌+◌, ◌<◌, ◌∙◌, ◌∷◌, ◌≡◌}
+use Rattle.cap_spec.proofs.Prelude.{AreElements, DenoteEach, Denotes, Finds, Leads, extra, to_cap, to_null, to_object}
+use Rattle.cap_spec.proofs.Prelude.{sizes_of, AreDistinct, IsOneOf, HasWord, segment_of, IsDisjoint, Occupies, Uses}
+use Rattle.cap_spec.proofs.Prelude.{empty_count, pads_of, PathLeads, Spot, StepsTo, element, level_of, word, data_size}
+use Rattle.cap_spec.proofs.Prelude.{extent, list_size, middle, pointer_size, Tree, Trees, cap, more, null, pointers}
+use Rattle.cap_spec.proofs.Prelude.{scalars, struct, structs, tree_count, Step, Item, Ptr}
+use Rattle.cap_spec.proofs.Trees.Charges.{length-places}
+use Rattle.cap_spec.proofs.Trees.OneTree.{Formed, cons_parts, formed}
+use Rattle.cap_spec.proofs.Trees.Readings.{length-values}
 use Rattle.cap_spec.proofs.Verdicts.OneVerdict.{not_one_of}
 
 -- following the pointer at s:w costs the words that it uses, and x beside them

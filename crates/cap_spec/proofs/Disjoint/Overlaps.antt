@@ -1,19 +1,13 @@
 -- Where no pointer overlaps, the tree is disjoint, and the other way round. One pointer is the first that overlaps.
-use Rattle.std.proofs.Common.{ℕ, ◌≡◌, ◌⊎◌, List, [], ◌∷◌, ◌++◌, inl, inr, sym, ap, subst, ◌∙◌}
-use Rattle.std.specs.Prelude.{pos}
-use Rattle.std.proofs.lemmas.Bool.{cases_eq}
-use Rattle.cap_spec.specs.Lists.{IsOneOf, AreDistinct}
-use Rattle.cap_spec.specs.Pointers.{extent}
-use Rattle.cap_spec.specs.Following.{Lead, to_null, to_cap, to_object, Leads}
-use Rattle.cap_spec.specs.Denoting.{Finds, places}
-use Rattle.cap_spec.specs.Paths.{Before, word}
-use Rattle.cap_spec.specs.Occupying.{pads_of, Occupies, IsDisjoint, Overlaps, twice}
-use Rattle.cap_spec.specs.Occupying.{on_root, on_earlier, IsFirstOverlap}
-use Rattle.cap_spec.specs.declared.Step.{Step}
-use Rattle.cap_spec.proofs.Trees.Finding.{one_object}
-use Rattle.cap_spec.proofs.Pointers.Following.{one_lead}
+use Rattle.cap_spec.specs.Denoting.{places}
 use Rattle.cap_spec.proofs.Frames.Messages.{one_word}
 use Rattle.cap_spec.proofs.Paths.Preorder.{Before-irreflexive, Before-total_coming, one_first, one_number}
+use Rattle.cap_spec.proofs.Pointers.Following.{one_lead}
+use Rattle.cap_spec.proofs.Prelude.{List, [], ap, inl, inr, pos, subst, sym, ℕ, ◌++◌, ◌∙◌, ◌∷◌, ◌≡◌, ◌⊎◌, cases_eq}
+use Rattle.cap_spec.proofs.Prelude.{Finds, Lead, Leads, to_cap, to_null, to_object, AreDistinct, IsOneOf, IsDisjoint}
+use Rattle.cap_spec.proofs.Prelude.{IsFirstOverlap, Occupies, Overlaps, on_earlier, on_root, pads_of, twice, Before}
+use Rattle.cap_spec.proofs.Prelude.{word, extent, Step}
+use Rattle.cap_spec.proofs.Trees.Finding.{one_object}
 
 -- a place is one of these, or isn't
 place_decided : (x : ℕ × ℕ) (xs : List (ℕ × ℕ)) → IsOneOf x xs ⊎ (IsOneOf x xs → ⊥)

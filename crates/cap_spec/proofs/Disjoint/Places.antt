@@ -1,19 +1,13 @@
 -- The places of a range of words, those of landing pads, and of how many words distinct places are.
-use Rattle.std.proofs.Common.{ℕ, zero, suc, ◌+◌, ◌<◌, ◌≤◌, ◌≡◌, ◌≢◌, ◌⊎◌, List, [], ◌∷◌, ◌++◌, length, sum, false, inl}
-use Rattle.std.proofs.Common.{inr, refl, sym, ap, subst, ◌∙◌, arith, eqb, ne_eqb}
-use Rattle.std.proofs.lemmas.Bool.{cases_eq}
-use Rattle.std.specs.List.{sum_by}
-use Rattle.std.proofs.lemmas.List.{length-append}
+use Rattle.std.proofs.Common.{sum_by}
 use Rattle.std.proofs.lemmas.List.Sums.{sum_by_from}
-use Rattle.cap_spec.proofs.Trees.Charges.{length-places}
-use Rattle.cap_spec.specs.Lists.{AreDistinct, IsOneOf}
-use Rattle.cap_spec.specs.Messages.{HasWord, segment_of}
-use Rattle.cap_spec.specs.Frames.{sizes_of}
-use Rattle.cap_spec.specs.Pointers.{far_segment, kind, pad, two}
-use Rattle.cap_spec.specs.Following.{Lead, Leads, near, one_pad, two_pads}
 use Rattle.cap_spec.specs.Denoting.{places}
-use Rattle.cap_spec.specs.Occupying.{pads_of}
 use Rattle.cap_spec.proofs.Frames.Messages.{HasWord-inside, HasWord-segment, one_word}
+use Rattle.cap_spec.proofs.Prelude.{List, [], ap, arith, eqb, false, inl, inr, length, length-append, ne_eqb, refl}
+use Rattle.cap_spec.proofs.Prelude.{subst, suc, sum, sym, zero, ℕ, ◌++◌, ◌+◌, ◌<◌, ◌∙◌, ◌∷◌, ◌≡◌, ◌≢◌, ◌≤◌, ◌⊎◌}
+use Rattle.cap_spec.proofs.Prelude.{cases_eq, Lead, Leads, near, one_pad, two_pads, sizes_of, AreDistinct, IsOneOf}
+use Rattle.cap_spec.proofs.Prelude.{HasWord, segment_of, pads_of, far_segment, kind, pad, two}
+use Rattle.cap_spec.proofs.Trees.Charges.{length-places}
 
 -- the places of a range
 pub in_places : (t b n s w : ℕ) → IsOneOf (s, w) (places t b n) → (s ≡ t) × (b ≤ w) × (w < b + n)

@@ -1,9 +1,8 @@
 -- The five ways in which reading a message ends: no two of them hold of the same words.
-use Rattle.std.proofs.Common.{◌≡◌, ℕ, ◌+◌, ◌/◌, ◌%◌, ◌^◌, ◌<◌, ◌≤◌, Bool, false, List, [], ◌∷◌, ◌++◌, length, sum, refl}
-use Rattle.std.proofs.Common.{sym, ap, ◌∙◌, arith, append_assoc, length-append}
-use Rattle.std.proofs.lemmas.List.Sums.{sum_by-cons}
-use Rattle.cap_spec.specs.Frames.{joined, sizes_of, IsTable, Frames, IsPartial, in_word, in_table, in_contents}
-use Rattle.cap_spec.proofs.Frames.Framing.{table_some, table_count, table_length, same_table}
+use Rattle.cap_spec.proofs.Frames.Framing.{same_table, table_count, table_length, table_some}
+use Rattle.cap_spec.proofs.Prelude.{Bool, List, [], ap, append_assoc, arith, false, length, length-append, refl, sum}
+use Rattle.cap_spec.proofs.Prelude.{sym, ℕ, ◌%◌, ◌++◌, ◌+◌, ◌/◌, ◌<◌, ◌^◌, ◌∙◌, ◌∷◌, ◌≡◌, ◌≤◌, sum_by-cons, Frames}
+use Rattle.cap_spec.proofs.Prelude.{IsPartial, IsTable, in_contents, in_table, in_word, joined, sizes_of}
 
 -- the segments joined are as long as their sizes together
 pub length_joined : (m : List (List ℕ)) → length (joined m) ≡ sum (sizes_of m)

@@ -1,16 +1,13 @@
 -- The frame with zero padding is one, and a list of frames splits in one way.
-use Rattle.std.proofs.Common.{◌≡◌, ℕ, zero, suc, ◌+◌, ◌-◌, ◌*◌, ◌/◌, ◌%◌, ◌^◌, ◌<◌, List, [], ◌∷◌, ◌++◌, length, map}
-use Rattle.std.proofs.Common.{replicate, flat_map, drop, get_or, refl, sym, ap, ◌∙◌, arith, length-append}
-use Rattle.std.specs.List.{AllByRecursion}
-use Rattle.std.proofs.lemmas.List.{length-replicate, length-map}
-use Rattle.std.proofs.lemmas.List.Elements.{recursion_from_All}
 use Rattle.std.proofs.lemmas.List.Concat.{flat_map-append}
-use Rattle.cap_spec.specs.Messages.{IsMessage}
-use Rattle.cap_spec.specs.Plain.{plain_text}
-use Rattle.cap_spec.specs.Frames.{halves, joined, sizes_of, Frames, FramesZero, paired, frame_text, Stream}
+use Rattle.std.proofs.lemmas.List.Elements.{recursion_from_All}
 use Rattle.cap_spec.proofs.Bytes.WordBytes.{four_bytes, word_halves}
-use Rattle.cap_spec.proofs.Frames.Framing.{one_frame}
 use Rattle.cap_spec.proofs.Frames.Endings.{frame_some}
+use Rattle.cap_spec.proofs.Frames.Framing.{one_frame}
+use Rattle.cap_spec.proofs.Prelude.{List, [], ap, arith, drop, flat_map, get_or, length, length-append, map, refl}
+use Rattle.cap_spec.proofs.Prelude.{replicate, suc, sym, zero, ℕ, ◌%◌, ◌*◌, ◌++◌, ◌+◌, ◌-◌, ◌/◌, ◌<◌, ◌^◌, ◌∙◌, ◌∷◌}
+use Rattle.cap_spec.proofs.Prelude.{◌≡◌, length-map, length-replicate, AllByRecursion, Frames, FramesZero, Stream}
+use Rattle.cap_spec.proofs.Prelude.{frame_text, halves, joined, paired, sizes_of, IsMessage, plain_text}
 
 -- the bytes of words are those of their halves
 pub plain_halves : (words : List ℕ) → plain_text words ≡ flat_map four_bytes (flat_map halves words)

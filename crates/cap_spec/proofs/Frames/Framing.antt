@@ -1,7 +1,7 @@
 -- Tables and frames: words begin with at most one of each, and what that one is.
-use Rattle.std.proofs.Common.{◌≡◌, ℕ, ◌+◌, ◌-◌, ◌*◌, ◌/◌, ◌%◌, ◌^◌, ◌<◌, List, [], ◌∷◌, ◌++◌, length, flat_map, refl}
-use Rattle.std.proofs.Common.{sym, ap, ◌∙◌, arith, append_assoc, length-append}
-use Rattle.cap_spec.specs.Frames.{halves, joined, sizes_of, IsTable, Frames}
+use Rattle.std.proofs.Common.{List, [], ap, append_assoc, arith, flat_map, length, length-append, refl, sym, ℕ, ◌%◌}
+use Rattle.std.proofs.Common.{◌*◌, ◌++◌, ◌+◌, ◌-◌, ◌/◌, ◌<◌, ◌^◌, ◌∙◌, ◌∷◌, ◌≡◌}
+use Rattle.cap_spec.specs.Frames.{Frames, IsTable, halves, joined, sizes_of}
 
 -- two lists of one length, each with more behind it, that make the same list are the same, and so is what is behind
 pub same_parts : {A : Type 0} → (a b x y : List A) → length a ≡ length b → a ++ x ≡ b ++ y → (a ≡ b) × (x ≡ y)

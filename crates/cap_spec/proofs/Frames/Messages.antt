@@ -1,9 +1,7 @@
 -- The words of a message at their places.
-use Rattle.std.proofs.Common.{◌≡◌, ℕ, ◌^◌, ◌<◌, ◌≤◌, inl, inr, List, [], length, get_or, sym, ap, ◌∙◌, subst, arith}
-use Rattle.std.proofs.lemmas.Option.{same_Some, slice_get_within, slice_get-get_or}
-use Rattle.std.proofs.lemmas.List.{get_or_past}
-use Rattle.std.proofs.lemmas.Bool.{cases_lt}
-use Rattle.cap_spec.specs.Messages.{HasWord, IsMessage, segment_of}
+use Rattle.cap_spec.proofs.Prelude.{List, [], ap, arith, get_or, inl, inr, length, subst, sym, ℕ, ◌<◌, ◌^◌, ◌∙◌, ◌≡◌}
+use Rattle.cap_spec.proofs.Prelude.{◌≤◌, cases_lt, get_or_past, same_Some, slice_get-get_or, slice_get_within, HasWord}
+use Rattle.cap_spec.proofs.Prelude.{IsMessage, segment_of}
 
 -- the word at a place is one word
 pub one_word : (m : List (List ℕ)) (s w x y : ℕ) → HasWord m s w x → HasWord m s w y → x ≡ y

@@ -1,19 +1,16 @@
 -- Of the five ways in which reading a message ends exactly one holds of every list of words.
-use Rattle.std.proofs.Common.{◌≡◌, ℕ, ◌+◌, ◌-◌, ◌*◌, ◌/◌, ◌%◌, ◌^◌, ◌<◌, ◌≤◌, Bool, true, false, List, [], ◌∷◌, ◌++◌}
-use Rattle.std.proofs.Common.{length, take, drop, sum, flat_map, refl, sym, ap, ◌∙◌, subst, arith, append_assoc}
-use Rattle.std.proofs.Common.{length-drop, length-take-le, take-append-drop, drop-drop, inl, inr}
-use Rattle.std.specs.List.{AllByRecursion}
-use Rattle.std.proofs.lemmas.Bool.{cases_lt}
-use Rattle.std.proofs.lemmas.List.Sums.{sum_by-cons}
-use Rattle.cap_spec.specs.Words.{IsWord}
-use Rattle.cap_spec.specs.Frames.{halves, joined, sizes_of, IsTable, IsPartial, in_word, in_table, in_contents}
-use Rattle.cap_spec.specs.Endings.{BeginsMessage, TellsTooMany, TellsTooMuch, Ending, message, none}
-use Rattle.cap_spec.specs.Endings.{too_many, too_large, partial, EndsIn}
-use Rattle.cap_spec.proofs.Bytes.Lists.{all_take, all_drop}
+use Rattle.cap_spec.specs.Endings.{none}
+use Rattle.cap_spec.proofs.Bytes.Lists.{all_drop, all_take}
+use Rattle.cap_spec.proofs.Frames.Endings.{message_not_none, message_not_partial, message_not_too_large}
+use Rattle.cap_spec.proofs.Frames.Endings.{message_not_too_many, no_table, none_not_partial, too_large_not_partial}
+use Rattle.cap_spec.proofs.Frames.Endings.{too_many_not_partial, too_many_not_too_large}
 use Rattle.cap_spec.proofs.Frames.Framing.{length_halves}
-use Rattle.cap_spec.proofs.Frames.Endings.{message_not_none, message_not_too_many, message_not_too_large}
-use Rattle.cap_spec.proofs.Frames.Endings.{message_not_partial, too_many_not_too_large, too_many_not_partial}
-use Rattle.cap_spec.proofs.Frames.Endings.{too_large_not_partial, none_not_partial, no_table}
+use Rattle.cap_spec.proofs.Prelude.{Bool, List, [], ap, append_assoc, arith, drop, drop-drop, false, flat_map, inl, inr}
+use Rattle.cap_spec.proofs.Prelude.{length, length-drop, length-take-le, refl, subst, sum, sym, take, take-append-drop}
+use Rattle.cap_spec.proofs.Prelude.{true, ℕ, ◌%◌, ◌*◌, ◌++◌, ◌+◌, ◌-◌, ◌/◌, ◌<◌, ◌^◌, ◌∙◌, ◌∷◌, ◌≡◌, ◌≤◌, cases_lt}
+use Rattle.cap_spec.proofs.Prelude.{sum_by-cons, AllByRecursion, BeginsMessage, Ending, EndsIn, TellsTooMany}
+use Rattle.cap_spec.proofs.Prelude.{TellsTooMuch, message, partial, too_large, too_many, IsPartial, IsTable, halves}
+use Rattle.cap_spec.proofs.Prelude.{in_contents, in_table, in_word, joined, sizes_of, IsWord}
 
 -- words cut into segments of these sizes
 abbrev pub split : List ℕ → List ℕ → List (List ℕ)

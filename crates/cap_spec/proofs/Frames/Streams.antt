@@ -1,13 +1,11 @@
 -- Streams of frames: none, one more in front, one more behind, and two joined.
-use Rattle.std.proofs.Common.{◌≡◌, ◌⊎◌, inl, inr, ℕ, List, [], ◌∷◌, ◌++◌, length, map, flat_map, refl, sym, ap, ◌∙◌}
-use Rattle.std.proofs.Common.{append-nil, append_assoc, length-append, arith}
-use Rattle.std.specs.List.{AllByRecursion}
-use Rattle.std.proofs.lemmas.List.{map-append}
 use Rattle.std.proofs.lemmas.List.Concat.{flat_map-append}
-use Rattle.cap_spec.specs.Frames.{Frames, Stream}
+use Rattle.cap_spec.proofs.Bytes.Lists.{all_append}
 use Rattle.cap_spec.proofs.Frames.Endings.{frame_some}
 use Rattle.cap_spec.proofs.Frames.Framing.{one_frame}
-use Rattle.cap_spec.proofs.Bytes.Lists.{all_append}
+use Rattle.cap_spec.proofs.Prelude.{List, [], ap, append-nil, append_assoc, arith, flat_map, inl, inr, length}
+use Rattle.cap_spec.proofs.Prelude.{length-append, map, refl, sym, ℕ, ◌++◌, ◌∙◌, ◌∷◌, ◌≡◌, ◌⊎◌, map-append}
+use Rattle.cap_spec.proofs.Prelude.{AllByRecursion, Frames, Stream}
 
 -- no words are the stream of no messages
 pub stream_none : Stream [] []

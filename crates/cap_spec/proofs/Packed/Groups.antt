@@ -1,17 +1,13 @@
 -- Packed text as groups: bytes that are groups, or groups and the beginning of one, give just their words.
-use Rattle.std.proofs.Common.{◌≡◌, ◌≢◌, ℕ, ◌+◌, ◌*◌, ◌<◌, true, false, List, [], ◌∷◌, ◌++◌, length, take, drop}
-use Rattle.std.proofs.Common.{slice_index, refl, sym, ap, ◌∙◌, subst, inl, inr, arith, append_assoc, append-nil}
-use Rattle.std.proofs.Common.{length-append, take_at, drop_at}
-use Rattle.std.specs.List.{AllByRecursion}
-use Rattle.std.proofs.lemmas.Bool.{cases_lt}
-use Rattle.std.proofs.lemmas.List.{get_or_append_left}
-use Rattle.cap_spec.specs.Words.{IsWord}
-use Rattle.cap_spec.specs.Plain.{word_bytes, plain_text, plain_words}
-use Rattle.cap_spec.specs.Unpacking.{marks, IsGroup, zeros, plain, marked, Groups, groups_text, groups_words, Unpacks, given_of}
-use Rattle.cap_spec.specs.Unpacking.{Cut, group_length, group_words, unpacked, packed_is_cut}
 use Rattle.cap_spec.proofs.Bytes.Plain.{length_plain}
-use Rattle.cap_spec.proofs.Packed.Unpacking.{unpacked_front, cut_front, unpacked_short, cut_short, spread_append}
-use Rattle.cap_spec.proofs.Packed.Unpacking.{plain_reads, length_marked, words_marked}
+use Rattle.cap_spec.proofs.Packed.Unpacking.{cut_front, cut_short, length_marked, plain_reads, spread_append}
+use Rattle.cap_spec.proofs.Packed.Unpacking.{unpacked_front, unpacked_short, words_marked}
+use Rattle.cap_spec.proofs.Prelude.{List, [], ap, append-nil, append_assoc, arith, drop, drop_at, false, inl, inr}
+use Rattle.cap_spec.proofs.Prelude.{length, length-append, refl, slice_index, subst, sym, take, take_at, true, ℕ, ◌*◌}
+use Rattle.cap_spec.proofs.Prelude.{◌++◌, ◌+◌, ◌<◌, ◌∙◌, ◌∷◌, ◌≡◌, ◌≢◌, cases_lt, get_or_append_left, AllByRecursion}
+use Rattle.cap_spec.proofs.Prelude.{plain_text, plain_words, word_bytes, Cut, Groups, IsGroup, Unpacks, given_of}
+use Rattle.cap_spec.proofs.Prelude.{group_length, group_words, groups_text, groups_words, marked, marks, packed_is_cut}
+use Rattle.cap_spec.proofs.Prelude.{plain, unpacked, zeros, IsWord}
 
 -- a group, whatever stands behind it: it is as long as its head says, and stands for its words
 pub record InFront (bytes words rest : List ℕ) : Type 0 where

@@ -1,17 +1,14 @@
 -- Bytes by their head: a whole group in front is one, and the beginning of one can be completed.
-use Rattle.std.proofs.Common.{◌≡◌, ◌≢◌, ℕ, zero, suc, ◌+◌, ◌-◌, ◌*◌, ◌<◌, ◌≤◌, List, [], ◌∷◌, ◌++◌, length, take, drop}
-use Rattle.std.proofs.Common.{replicate, slice_index, get_or, refl, sym, ap, ◌∙◌, subst, inl, inr, arith, append-nil}
-use Rattle.std.proofs.Common.{length-append, length-take-le, length-drop, take-append-drop, take-take, get_or-take}
-use Rattle.std.specs.List.{AllByRecursion}
-use Rattle.std.proofs.lemmas.Bool.{cases_eq}
-use Rattle.std.proofs.lemmas.List.{length-replicate, drop-take, nil_from_length}
-use Rattle.byteorder.specs.Endian.{little_number}
-use Rattle.cap_spec.specs.Plain.{word_bytes, plain_text, plain_words}
-use Rattle.cap_spec.specs.Unpacking.{marks, spread, IsGroup, zeros, plain, marked, group_length, group_words}
-use Rattle.cap_spec.proofs.Bytes.Lists.{all_take, all_append}
-use Rattle.cap_spec.proofs.Bytes.Plain.{length_plain, plain_split, eight_word, eight_back}
-use Rattle.cap_spec.proofs.Packed.Unpacking.{spread_append, length_marked, words_marked}
+use Rattle.cap_spec.proofs.Bytes.Lists.{all_append, all_take}
+use Rattle.cap_spec.proofs.Bytes.Plain.{eight_back, eight_word, length_plain, plain_split}
 use Rattle.cap_spec.proofs.Packed.Groups.{plain_group}
+use Rattle.cap_spec.proofs.Packed.Unpacking.{length_marked, spread_append, words_marked}
+use Rattle.cap_spec.proofs.Prelude.{List, [], ap, append-nil, arith, drop, get_or, get_or-take, inl, inr, length}
+use Rattle.cap_spec.proofs.Prelude.{length-append, length-drop, length-take-le, refl, replicate, slice_index, subst}
+use Rattle.cap_spec.proofs.Prelude.{suc, sym, take, take-append-drop, take-take, zero, ℕ, ◌*◌, ◌++◌, ◌+◌, ◌-◌, ◌<◌, ◌∙◌}
+use Rattle.cap_spec.proofs.Prelude.{◌∷◌, ◌≡◌, ◌≢◌, ◌≤◌, cases_eq, drop-take, length-replicate, nil_from_length}
+use Rattle.cap_spec.proofs.Prelude.{AllByRecursion, little_number, plain_text, plain_words, word_bytes, IsGroup}
+use Rattle.cap_spec.proofs.Prelude.{group_length, group_words, marked, marks, plain, spread, zeros}
 
 -- bytes of whole words: so many words
 pub aligned_words : (n : ℕ) (bytes : List ℕ) → AllByRecursion (λ b. b < 256) bytes → length bytes ≡ 8 * n

@@ -1,14 +1,12 @@
 -- Every list of bytes either unpacks to words or is cut behind words, and just to those that it gives.
-use Rattle.std.proofs.Common.{◌≡◌, ℕ, zero, suc, ◌<◌, ◌≤◌, true, false, List, [], ◌∷◌, ◌++◌, length, take, drop, ◌⊎◌}
-use Rattle.std.proofs.Common.{refl, sym, ap, ◌∙◌, subst, inl, inr, arith, append_assoc, length-drop, take-append-drop}
-use Rattle.std.specs.List.{AllByRecursion}
-use Rattle.std.proofs.lemmas.Bool.{cases_lt}
-use Rattle.cap_spec.specs.Unpacking.{IsGroup, Unpacks, Cut, given_of, group_length}
-use Rattle.cap_spec.specs.Unpacking.{group_words, unpacked, packed_is_cut}
 use Rattle.cap_spec.proofs.Bytes.Lists.{all_drop}
-use Rattle.cap_spec.proofs.Packed.Unpacking.{group_some, unpacked_front, cut_front, unpacked_short, cut_short}
+use Rattle.cap_spec.proofs.Packed.Groups.{cut_is_cut, cut_words, unpacks_whole, unpacks_words}
 use Rattle.cap_spec.proofs.Packed.MakingGroups.{begins_group, whole_group}
-use Rattle.cap_spec.proofs.Packed.Groups.{unpacks_words, unpacks_whole, cut_words, cut_is_cut}
+use Rattle.cap_spec.proofs.Packed.Unpacking.{cut_front, cut_short, group_some, unpacked_front, unpacked_short}
+use Rattle.cap_spec.proofs.Prelude.{List, [], ap, append_assoc, arith, drop, false, inl, inr, length, length-drop, refl}
+use Rattle.cap_spec.proofs.Prelude.{subst, suc, sym, take, take-append-drop, true, zero, ℕ, ◌++◌, ◌<◌, ◌∙◌, ◌∷◌, ◌≡◌}
+use Rattle.cap_spec.proofs.Prelude.{◌≤◌, ◌⊎◌, cases_lt, AllByRecursion, Cut, IsGroup, Unpacks, given_of, group_length}
+use Rattle.cap_spec.proofs.Prelude.{group_words, packed_is_cut, unpacked}
 
 -- what becomes of bytes: they unpack, or they are cut
 pub data Becomes (bytes : List ℕ) : Type 0 where

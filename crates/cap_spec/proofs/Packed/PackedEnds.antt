@@ -1,14 +1,13 @@
 -- Positions in packed bytes: those of the group in front come first, and then those behind it.
-use Rattle.std.proofs.Common.{◌≡◌, ◌≢◌, ℕ, zero, suc, ◌+◌, ◌<◌, ◌≤◌, false, if◌then◌else◌, nat_lt, ◌==◌, List, [], ◌∷◌}
-use Rattle.std.proofs.Common.{◌++◌, length, take, drop, replicate, slice_index, refl, sym, ap, ◌∙◌, inl, inr, arith}
-use Rattle.std.proofs.Common.{length-append, drop_at, le-ltb, lt-ltb}
-use Rattle.std.proofs.lemmas.Bool.{cases_lt, ne_eqb}
-use Rattle.std.proofs.lemmas.List.{get_or_append_left, length-replicate}
-use Rattle.cap_spec.specs.Plain.{word_bytes, plain_text, plain_words, capped}
-use Rattle.cap_spec.specs.Unpacking.{marks, IsGroup, zeros, plain, marked, given_of, group_length}
-use Rattle.cap_spec.specs.PackedEnds.{word_ends, group_ends, front_ends, ends_in, packed_ends}
-use Rattle.cap_spec.proofs.Packed.Unpacking.{group_some, drop_less}
+use Rattle.cap_spec.specs.PackedEnds.{group_ends}
 use Rattle.cap_spec.proofs.Packed.Groups.{in_front, part_is_short}
+use Rattle.cap_spec.proofs.Packed.Unpacking.{drop_less, group_some}
+use Rattle.cap_spec.proofs.Prelude.{List, [], ap, arith, drop, drop_at, false, if◌then◌else◌, inl, inr, le-ltb, length}
+use Rattle.cap_spec.proofs.Prelude.{length-append, lt-ltb, nat_lt, ne_eqb, refl, replicate, slice_index, suc, sym, take}
+use Rattle.cap_spec.proofs.Prelude.{zero, ℕ, ◌++◌, ◌+◌, ◌<◌, ◌==◌, ◌∙◌, ◌∷◌, ◌≡◌, ◌≢◌, ◌≤◌, cases_lt}
+use Rattle.cap_spec.proofs.Prelude.{get_or_append_left, length-replicate, ends_in, front_ends, packed_ends, word_ends}
+use Rattle.cap_spec.proofs.Prelude.{capped, plain_text, plain_words, word_bytes, IsGroup, given_of, group_length}
+use Rattle.cap_spec.proofs.Prelude.{marked, marks, plain, zeros}
 
 -- no bytes give only the end
 pub ends_nil : (n at : ℕ) → ends_in n at [] ≡ capped at ∷ []

@@ -1,13 +1,10 @@
 -- How the packed text that is written splits into its groups.
-use Rattle.std.proofs.Common.{◌≡◌, ◌≢◌, ℕ, zero, suc, ◌+◌, ◌-◌, ◌≤◌, ◌<◌, min, Bool, true, false, List, [], ◌∷◌, ◌++◌}
-use Rattle.std.proofs.Common.{length, take, drop, replicate, cond, refl, ap, ◌∙◌, ⊎_elim, arith, length-drop}
-use Rattle.std.proofs.lemmas.Bool.{ne_eqb, cases_lt}
-use Rattle.std.proofs.lemmas.List.{length-take, length-replicate}
 use Rattle.std.proofs.lemmas.List.Sums.{take_while-cons}
-use Rattle.std.specs.List.{prefix_len}
-use Rattle.std.specs.Prelude.{filter, take_while, not, nat_le, ◌==◌}
-use Rattle.cap_spec.specs.Plain.{word_bytes, plain_text}
-use Rattle.cap_spec.specs.Packing.{zero_bytes, zero_run, full_run, tag_of, group_size, group_text, pack_in, pack_text}
+use Rattle.cap_spec.proofs.Prelude.{Bool, List, [], ap, arith, cond, drop, false, filter, length, length-drop}
+use Rattle.cap_spec.proofs.Prelude.{length-take, min, nat_le, ne_eqb, not, refl, replicate, suc, take, take_while, true}
+use Rattle.cap_spec.proofs.Prelude.{zero, ℕ, ⊎_elim, ◌++◌, ◌+◌, ◌-◌, ◌<◌, ◌==◌, ◌∙◌, ◌∷◌, ◌≡◌, ◌≢◌, ◌≤◌, cases_lt}
+use Rattle.cap_spec.proofs.Prelude.{length-replicate, prefix_len, full_run, group_size, group_text, pack_in, pack_text}
+use Rattle.cap_spec.proofs.Prelude.{tag_of, zero_bytes, zero_run, plain_text, word_bytes}
 
 -- with room for all the groups, more room makes no difference
 pub pack_in-enough : (n m : ℕ) (ws : List ℕ) → length ws ≤ n → length ws ≤ m → pack_in n ws ≡ pack_in m ws

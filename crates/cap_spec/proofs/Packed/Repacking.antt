@@ -1,23 +1,17 @@
 -- The packed text that is written unpacks to the words that it is written for.
-use Rattle.std.proofs.Common.{◌≡◌, ◌≢◌, ℕ, zero, suc, ◌+◌, ◌-◌, ◌*◌, ◌/◌, ◌%◌, ◌^◌, ◌<◌, ◌≤◌, min, false, cond, not}
-use Rattle.std.proofs.Common.{nat_le, if◌then◌else◌, ◌==◌, List, [], ◌∷◌, ◌++◌, length, take, drop, replicate, filter}
-use Rattle.std.proofs.Common.{refl, sym, ap, ◌∙◌, subst, inl, inr, arith, length-take-le, length-drop, take-append-drop}
-use Rattle.std.specs.List.{AllByRecursion}
-use Rattle.std.proofs.Math.Nat.{pow-succ'}
-use Rattle.std.proofs.lemmas.Bool.{cases_eq, ne_eqb}
-use Rattle.byteorder.specs.Endian.{little_number}
-use Rattle.byteorder.specs.Numbers.{little_from-cons}
-use Rattle.cap_spec.specs.Words.{IsWord}
-use Rattle.cap_spec.specs.Plain.{word_bytes, plain_text}
-use Rattle.cap_spec.specs.Packing.{zeros_in, zero_bytes, zero_run, full_run, tag_of, group_size}
-use Rattle.cap_spec.specs.Packing.{group_text, pack_in, pack_text}
-use Rattle.cap_spec.specs.Unpacking.{marks, spread, IsGroup, zeros, plain, marked, Unpacks, unpacked, packed_is_cut}
-use Rattle.cap_spec.proofs.Packed.Packing.{zero_run-append, zero_run-ends, front-le, nonzero_word, group_size-marked}
-use Rattle.cap_spec.proofs.Bytes.Lists.{all_take, all_drop}
+use Rattle.cap_spec.proofs.Bytes.Lists.{all_drop, all_take}
 use Rattle.cap_spec.proofs.Bytes.WordBytes.{bytes_fit, word_back}
-use Rattle.cap_spec.proofs.Packed.Unpacking.{spread_none, spread_clear, spread_set}
-use Rattle.cap_spec.proofs.Packed.Groups.{unpacks_words, unpacks_whole}
+use Rattle.cap_spec.proofs.Packed.Groups.{unpacks_whole, unpacks_words}
 use Rattle.cap_spec.proofs.Packed.OneUnpacking.{unpacks_with}
+use Rattle.cap_spec.proofs.Packed.Packing.{front-le, group_size-marked, nonzero_word, zero_run-append, zero_run-ends}
+use Rattle.cap_spec.proofs.Packed.Unpacking.{spread_clear, spread_none, spread_set}
+use Rattle.cap_spec.proofs.Prelude.{List, [], ap, arith, cond, drop, false, filter, if◌then◌else◌, inl, inr, length}
+use Rattle.cap_spec.proofs.Prelude.{length-drop, length-take-le, min, nat_le, ne_eqb, not, refl, replicate, subst, suc}
+use Rattle.cap_spec.proofs.Prelude.{sym, take, take-append-drop, zero, ℕ, ◌%◌, ◌*◌, ◌++◌, ◌+◌, ◌-◌, ◌/◌, ◌<◌, ◌==◌, ◌^◌}
+use Rattle.cap_spec.proofs.Prelude.{◌∙◌, ◌∷◌, ◌≡◌, ◌≢◌, ◌≤◌, pow-succ', cases_eq, AllByRecursion, little_number}
+use Rattle.cap_spec.proofs.Prelude.{little_from-cons, full_run, group_size, group_text, pack_in, pack_text, tag_of}
+use Rattle.cap_spec.proofs.Prelude.{zero_bytes, zero_run, zeros_in, plain_text, word_bytes, IsGroup, Unpacks, marked}
+use Rattle.cap_spec.proofs.Prelude.{marks, packed_is_cut, plain, spread, unpacked, zeros, IsWord}
 
 -- the bytes of a word that aren't zero
 abbrev pub present_of : List ℕ → List ℕ

@@ -1,20 +1,14 @@
 -- What bytes give are words: numbers below 2 ^ 64.
-use Rattle.std.proofs.Common.{◌≡◌, ℕ, zero, suc, ◌+◌, ◌/◌, ◌%◌, ◌^◌, ◌<◌, Bool, true, false}
-use Rattle.std.proofs.Common.{if◌then◌else◌, ◌==◌, nat_lt, List, [], ◌∷◌, ◌++◌, length, take, drop}
-use Rattle.std.proofs.Common.{replicate, slice_index, sym, subst, inl, inr, arith}
-use Rattle.std.specs.List.{AllByRecursion}
-use Rattle.std.proofs.Math.Nat.{pow-succ'}
-use Rattle.std.proofs.lemmas.Bool.{cases_eq}
-use Rattle.byteorder.specs.Endian.{little_from, little_number}
-use Rattle.cap_spec.specs.Words.{IsWord}
-use Rattle.cap_spec.specs.Plain.{word_bytes, plain_text, plain_words}
-use Rattle.cap_spec.proofs.Bytes.WordBytes.{bytes_fit}
-use Rattle.cap_spec.specs.Unpacking.{spread, IsGroup, zeros, plain, marked, Groups, groups_text}
-use Rattle.cap_spec.specs.Unpacking.{groups_words, Unpacks, given_of, unpacked}
-use Rattle.cap_spec.proofs.Bytes.Lists.{all_take, all_drop, all_append, all_back}
+use Rattle.cap_spec.proofs.Bytes.Lists.{all_append, all_back, all_drop, all_take}
 use Rattle.cap_spec.proofs.Bytes.Plain.{plain_split}
+use Rattle.cap_spec.proofs.Bytes.WordBytes.{bytes_fit}
+use Rattle.cap_spec.proofs.Packed.OneUnpacking.{Becomes, becomes, part, whole}
 use Rattle.cap_spec.proofs.Packed.Unpacking.{spread_clear, spread_set}
-use Rattle.cap_spec.proofs.Packed.OneUnpacking.{Becomes, whole, part, becomes}
+use Rattle.cap_spec.proofs.Prelude.{Bool, List, [], arith, drop, false, if◌then◌else◌, inl, inr, length, nat_lt}
+use Rattle.cap_spec.proofs.Prelude.{replicate, slice_index, subst, suc, sym, take, true, zero, ℕ, ◌%◌, ◌++◌, ◌+◌, ◌/◌}
+use Rattle.cap_spec.proofs.Prelude.{◌<◌, ◌==◌, ◌^◌, ◌∷◌, ◌≡◌, pow-succ', cases_eq, AllByRecursion, little_from}
+use Rattle.cap_spec.proofs.Prelude.{little_number, plain_text, plain_words, word_bytes, Groups, IsGroup, Unpacks}
+use Rattle.cap_spec.proofs.Prelude.{given_of, groups_text, groups_words, marked, plain, spread, unpacked, zeros, IsWord}
 
 -- bytes by a tag make a number of so many bytes
 pub spread_below : (n tag : ℕ) (present : List ℕ) → AllByRecursion (λ b. b < 256) present

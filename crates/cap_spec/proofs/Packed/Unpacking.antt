@@ -1,15 +1,11 @@
 -- Packed text as it is read: how many groups are looked for makes no difference,
 -- and the group in front comes off whole.
-use Rattle.std.proofs.Common.{◌≡◌, ℕ, zero, suc, ◌+◌, ◌*◌, ◌/◌, ◌%◌, ◌<◌, ◌≤◌, Bool, true, false, if◌then◌else◌, nat_lt}
-use Rattle.std.proofs.Common.{◌==◌, List, [], ◌∷◌, ◌++◌, length, take, drop, replicate, slice_index, refl, sym, ap, ◌∙◌}
-use Rattle.std.proofs.Common.{inl, inr, arith, append-nil, length-drop, le-ltb, lt-ltb}
-use Rattle.std.specs.List.{AllByRecursion}
-use Rattle.std.proofs.lemmas.Bool.{cases_eq, ne_eqb}
-use Rattle.cap_spec.specs.Words.{IsWord}
-use Rattle.cap_spec.specs.Plain.{plain_text, plain_words}
-use Rattle.cap_spec.specs.Unpacking.{marks, spread, given_of, group_length, group_words, given_in}
-use Rattle.cap_spec.specs.Unpacking.{is_cut_in, unpacked, packed_is_cut}
 use Rattle.cap_spec.proofs.Bytes.Plain.{plain_back}
+use Rattle.cap_spec.proofs.Prelude.{Bool, List, [], ap, append-nil, arith, drop, false, if◌then◌else◌, inl, inr, le-ltb}
+use Rattle.cap_spec.proofs.Prelude.{length, length-drop, lt-ltb, nat_lt, ne_eqb, refl, replicate, slice_index, suc, sym}
+use Rattle.cap_spec.proofs.Prelude.{take, true, zero, ℕ, ◌%◌, ◌*◌, ◌++◌, ◌+◌, ◌/◌, ◌<◌, ◌==◌, ◌∙◌, ◌∷◌, ◌≡◌, ◌≤◌}
+use Rattle.cap_spec.proofs.Prelude.{cases_eq, AllByRecursion, plain_text, plain_words, given_in, given_of, group_length}
+use Rattle.cap_spec.proofs.Prelude.{group_words, is_cut_in, marks, packed_is_cut, spread, unpacked, IsWord}
 
 -- two numbers above zero: so is the one chosen
 some_of : (c : Bool) (a b : ℕ) → 0 < a → 0 < b → 0 < (if c then a else b)

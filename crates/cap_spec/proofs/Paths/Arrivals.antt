@@ -1,20 +1,16 @@
 -- Where a spot has a tree, the steps from it are the tree's parts.
-use Rattle.std.proofs.Common.{ℕ, zero, suc, ◌+◌, ◌*◌, ◌<◌, List, [], ◌∷◌, ◌≡◌, sym, ap, refl, subst, ◌∙◌}
-use Rattle.std.proofs.Common.{arith, inl, inr, Option, Some, None}
-use Rattle.std.specs.Prelude.{pos}
-use Rattle.cap_spec.specs.Messages.{HasWord}
-use Rattle.cap_spec.specs.Pointers.{kind, code, middle, data_size, pointer_size, list_size}
-use Rattle.cap_spec.specs.Following.{Lead, Leads, near, one_pad, two_pads, to_object}
-use Rattle.cap_spec.specs.Tree.{Tree, struct, pointers, structs, Trees, none, more, tree_at, part_at, node_at}
-use Rattle.cap_spec.specs.Denoting.{Finds, Denotes, DenoteEach, AreElements, places}
-use Rattle.cap_spec.specs.Paths.{Spot, word, element, StepsTo, PathLeads, ReachesSpot, level_of}
-use Rattle.cap_spec.specs.Standing.{DenotesAt}
-use Rattle.cap_spec.specs.declared.Step.{Step}
-use Rattle.cap_spec.specs.declared.Step.TheVariants.{Ptr, Item}
-use Rattle.cap_spec.proofs.Trees.Finding.{SameObject, one_object}
+use Rattle.cap_spec.specs.Denoting.{places}
+use Rattle.cap_spec.specs.Tree.{none}
 use Rattle.cap_spec.proofs.Frames.Messages.{one_word}
 use Rattle.cap_spec.proofs.Pointers.Following.{one_lead}
-use Rattle.cap_spec.proofs.Trees.OneTree.{Formed, HasForm, form_of, formed, number_struct, number_list, cons_parts}
+use Rattle.cap_spec.proofs.Prelude.{List, None, Option, Some, [], ap, arith, inl, inr, pos, refl, subst, suc, sym, zero}
+use Rattle.cap_spec.proofs.Prelude.{ℕ, ◌*◌, ◌+◌, ◌<◌, ◌∙◌, ◌∷◌, ◌≡◌, AreElements, DenoteEach, Denotes, Finds, Lead}
+use Rattle.cap_spec.proofs.Prelude.{Leads, near, one_pad, to_object, two_pads, HasWord, PathLeads, ReachesSpot, Spot}
+use Rattle.cap_spec.proofs.Prelude.{StepsTo, element, level_of, word, code, data_size, kind, list_size, middle}
+use Rattle.cap_spec.proofs.Prelude.{pointer_size, DenotesAt, Tree, Trees, more, node_at, part_at, pointers, struct}
+use Rattle.cap_spec.proofs.Prelude.{structs, tree_at, Step, Item, Ptr}
+use Rattle.cap_spec.proofs.Trees.Finding.{SameObject, one_object}
+use Rattle.cap_spec.proofs.Trees.OneTree.{Formed, HasForm, cons_parts, form_of, formed, number_list, number_struct}
 
 -- the tree of a word has the form of the object that the word finds
 pub found_form : (m : List (List ℕ)) (s w : ℕ) (x : Tree) (c d k t b q : ℕ) → Denotes m s w x c d → Finds m s w k t b q

@@ -1,14 +1,11 @@
 -- A pointer word that a longer path reaches again denotes no tree.
-use Rattle.std.proofs.Common.{ℕ, zero, suc, ◌+◌, ◌<◌, ◌≤◌, List, [], ◌∷◌, ◌++◌, ◌≡◌, ap, arith, Some}
-use Rattle.cap_spec.specs.Tree.{Tree, null, cap, struct, scalars, pointers, structs, Trees, none}
-use Rattle.cap_spec.specs.Tree.{more, tree_at, part_at, node_at}
-use Rattle.cap_spec.specs.Denoting.{Denotes}
-use Rattle.cap_spec.specs.Paths.{word, PathLeads, Reaches}
-use Rattle.cap_spec.specs.declared.Step.{Step}
-use Rattle.cap_spec.specs.declared.Step.TheVariants.{Ptr, Item}
-use Rattle.cap_spec.proofs.Trees.OneTree.{Same, one_tree}
+use Rattle.cap_spec.specs.Tree.{none}
+use Rattle.cap_spec.proofs.Paths.Arrivals.{coming_to_node, node_parts, path_to_node}
 use Rattle.cap_spec.proofs.Paths.Walks.{comes_beyond}
-use Rattle.cap_spec.proofs.Paths.Arrivals.{path_to_node, coming_to_node, node_parts}
+use Rattle.cap_spec.proofs.Prelude.{List, Some, [], ap, arith, suc, zero, ℕ, ◌++◌, ◌+◌, ◌<◌, ◌∷◌, ◌≡◌, ◌≤◌, Denotes}
+use Rattle.cap_spec.proofs.Prelude.{PathLeads, Reaches, word, Tree, Trees, cap, more, node_at, null, part_at, pointers}
+use Rattle.cap_spec.proofs.Prelude.{scalars, struct, structs, tree_at, Step, Item, Ptr}
+use Rattle.cap_spec.proofs.Trees.OneTree.{Same, one_tree}
 
 -- how many nodes a tree has
 abbrev mutual

@@ -1,18 +1,14 @@
 -- Some path leads as deep as the root's tree is.
-use Rattle.std.proofs.Common.{ℕ, zero, suc, ◌+◌, ◌*◌, ◌<◌, ◌≤◌, List, [], ◌∷◌, ◌≡◌, ◌⊎◌, max}
-use Rattle.std.proofs.Common.{sym, refl, subst, arith, inl, inr}
-use Rattle.cap_spec.specs.Messages.{HasWord}
-use Rattle.cap_spec.specs.Pointers.{middle, data_size, pointer_size, list_size}
-use Rattle.cap_spec.specs.Following.{IsComposite}
-use Rattle.cap_spec.specs.Tree.{Tree, null, cap, struct, scalars, pointers, structs, Trees, none, more}
-use Rattle.cap_spec.specs.Denoting.{Finds, Denotes, DenoteEach, AreElements, places, element_levels}
-use Rattle.cap_spec.specs.Paths.{Spot, word, element, StepsTo, PathLeads, Reaches, level_of}
-use Rattle.cap_spec.specs.Verdicts.{levels_below}
-use Rattle.cap_spec.specs.declared.Step.{Step}
-use Rattle.cap_spec.specs.declared.Step.TheVariants.{Ptr, Item}
-use Rattle.cap_spec.proofs.Trees.OneTree.{Formed, formed, cons_parts}
+use Rattle.cap_spec.specs.Denoting.{places}
+use Rattle.cap_spec.specs.Tree.{none}
 use Rattle.cap_spec.proofs.Paths.Arrivals.{lead_word}
-use Rattle.cap_spec.proofs.Paths.Depths.{below_struct, below_pointers, below_structs, below_scalars, levels_of_some}
+use Rattle.cap_spec.proofs.Paths.Depths.{below_pointers, below_scalars, below_struct, below_structs, levels_of_some}
+use Rattle.cap_spec.proofs.Prelude.{List, [], arith, inl, inr, max, refl, subst, suc, sym, zero, ℕ, ◌*◌, ◌+◌, ◌<◌, ◌∷◌}
+use Rattle.cap_spec.proofs.Prelude.{◌≡◌, ◌≤◌, ◌⊎◌, AreElements, DenoteEach, Denotes, Finds, element_levels, IsComposite}
+use Rattle.cap_spec.proofs.Prelude.{HasWord, PathLeads, Reaches, Spot, StepsTo, element, level_of, word, data_size}
+use Rattle.cap_spec.proofs.Prelude.{list_size, middle, pointer_size, Tree, Trees, cap, more, null, pointers, scalars}
+use Rattle.cap_spec.proofs.Prelude.{struct, structs, levels_below, Step, Item, Ptr}
+use Rattle.cap_spec.proofs.Trees.OneTree.{Formed, cons_parts, formed}
 
 -- a path from a spot to a word whose object is this deep, counted from the spot
 pub record Deep (m : List (List ℕ)) (a : Spot) (d : ℕ) : Type 0 where

@@ -1,24 +1,18 @@
 -- No path leads deeper than the depth of the root's tree.
-use Rattle.std.proofs.Common.{ℕ, zero, suc, ◌+◌, ◌<◌, ◌≤◌, List, [], ◌∷◌, ◌≡◌, max, sym, ap, refl, subst, ◌∙◌, arith}
-use Rattle.std.proofs.Common.{Bool, true, false, Some, eqb, ne_eqb}
-use Rattle.std.specs.Prelude.{pos}
-use Rattle.cap_spec.specs.Messages.{HasWord}
-use Rattle.cap_spec.specs.Pointers.{kind, code, middle, data_size, pointer_size, list_size}
-use Rattle.cap_spec.specs.Following.{to_null, to_cap, to_object, IsComposite}
-use Rattle.cap_spec.specs.Tree.{Tree, null, cap, struct, scalars, pointers, structs, Trees, none}
-use Rattle.cap_spec.specs.Tree.{more, tree_count, tree_at, part_at}
-use Rattle.cap_spec.specs.Denoting.{Finds, Denotes, DenoteEach, AreElements, places, element_levels}
-use Rattle.cap_spec.specs.Paths.{Spot, word, element, PathLeads, level_of}
-use Rattle.cap_spec.specs.Verdicts.{levels_below}
-use Rattle.cap_spec.specs.Standing.{DenotesAt}
-use Rattle.cap_spec.specs.declared.Step.{Step}
-use Rattle.cap_spec.specs.declared.Step.TheVariants.{Ptr, Item}
-use Rattle.cap_spec.proofs.Trees.Finding.{SameObject, one_object}
+use Rattle.cap_spec.specs.Denoting.{places}
+use Rattle.cap_spec.specs.Tree.{none}
 use Rattle.cap_spec.proofs.Frames.Messages.{one_word}
-use Rattle.cap_spec.proofs.Pointers.Following.{one_lead}
 use Rattle.cap_spec.proofs.Paths.Arrivals.{step_to_part}
-use Rattle.cap_spec.proofs.Paths.PathLists.{is_structs}
 use Rattle.cap_spec.proofs.Paths.PathCounts.{is_element, step_kind}
+use Rattle.cap_spec.proofs.Paths.PathLists.{is_structs}
+use Rattle.cap_spec.proofs.Pointers.Following.{one_lead}
+use Rattle.cap_spec.proofs.Prelude.{Bool, List, Some, [], ap, arith, eqb, false, max, ne_eqb, pos, refl, subst, suc}
+use Rattle.cap_spec.proofs.Prelude.{sym, true, zero, ℕ, ◌+◌, ◌<◌, ◌∙◌, ◌∷◌, ◌≡◌, ◌≤◌, AreElements, DenoteEach, Denotes}
+use Rattle.cap_spec.proofs.Prelude.{Finds, element_levels, IsComposite, to_cap, to_null, to_object, HasWord, PathLeads}
+use Rattle.cap_spec.proofs.Prelude.{Spot, element, level_of, word, code, data_size, kind, list_size, middle}
+use Rattle.cap_spec.proofs.Prelude.{pointer_size, DenotesAt, Tree, Trees, cap, more, null, part_at, pointers, scalars}
+use Rattle.cap_spec.proofs.Prelude.{struct, structs, tree_at, tree_count, levels_below, Step, Item, Ptr}
+use Rattle.cap_spec.proofs.Trees.Finding.{SameObject, one_object}
 
 -- the depth of a tree
 abbrev mutual

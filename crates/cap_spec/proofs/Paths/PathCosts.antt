@@ -1,20 +1,16 @@
 -- The charge of the root's tree is what following the paths that reach a pointer word costs, each counted once.
-use Rattle.std.proofs.Common.{ℕ, zero, suc, ◌+◌, ◌*◌, ◌<◌, List, [], ◌∷◌, ◌++◌, ◌≡◌, sym, refl, subst}
-use Rattle.std.proofs.Common.{◌∙◌, arith, inl, inr, true, false}
-use Rattle.cap_spec.specs.Messages.{HasWord}
-use Rattle.cap_spec.specs.Pointers.{kind, code, middle, data_size, pointer_size, list_size, extent}
-use Rattle.cap_spec.specs.Following.{extra}
-use Rattle.cap_spec.specs.Tree.{Tree, null, cap, struct, scalars, pointers, structs, Trees, none, more}
-use Rattle.cap_spec.specs.Denoting.{Finds, Denotes, DenoteEach, AreElements, places}
-use Rattle.cap_spec.specs.Paths.{Spot, word, element, StepsTo, PathLeads, Costs, level_of}
-use Rattle.cap_spec.specs.Verdicts.{CostOf}
-use Rattle.cap_spec.specs.declared.Step.{Step}
-use Rattle.cap_spec.specs.declared.Step.TheVariants.{Ptr, Item}
-use Rattle.cap_spec.proofs.Trees.OneTree.{Formed, formed, cons_parts}
-use Rattle.cap_spec.proofs.Trees.Charges.{extra_struct, extra_pointers}
+use Rattle.cap_spec.specs.Denoting.{places}
+use Rattle.cap_spec.specs.Tree.{none}
 use Rattle.cap_spec.proofs.Paths.Arrivals.{lead_word}
-use Rattle.cap_spec.proofs.Paths.PathLists.{behind, paths_below, paths_from, is_pointer}
 use Rattle.cap_spec.proofs.Paths.PathCounts.{pointer_paths}
+use Rattle.cap_spec.proofs.Paths.PathLists.{behind, is_pointer, paths_below, paths_from}
+use Rattle.cap_spec.proofs.Prelude.{List, [], arith, false, inl, inr, refl, subst, suc, sym, true, zero, ℕ, ◌*◌, ◌++◌}
+use Rattle.cap_spec.proofs.Prelude.{◌+◌, ◌<◌, ◌∙◌, ◌∷◌, ◌≡◌, AreElements, DenoteEach, Denotes, Finds, extra, HasWord}
+use Rattle.cap_spec.proofs.Prelude.{Costs, PathLeads, Spot, StepsTo, element, level_of, word, code, data_size, extent}
+use Rattle.cap_spec.proofs.Prelude.{kind, list_size, middle, pointer_size, Tree, Trees, cap, more, null, pointers}
+use Rattle.cap_spec.proofs.Prelude.{scalars, struct, structs, CostOf, Step, Item, Ptr}
+use Rattle.cap_spec.proofs.Trees.Charges.{extra_pointers, extra_struct}
+use Rattle.cap_spec.proofs.Trees.OneTree.{Formed, cons_parts, formed}
 
 -- these paths lead from a spot to words that aren't wrong, and following them costs this much in all
 abbrev pub CostFrom : List (List ℕ) → Spot → List (List Step) → ℕ → Type 0

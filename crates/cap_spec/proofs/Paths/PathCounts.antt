@@ -1,22 +1,16 @@
 -- The pointers and the capabilities of the tree that the root denotes are as many as the paths that reach them.
-use Rattle.std.proofs.Common.{ℕ, zero, suc, ◌+◌, ◌*◌, ◌<◌, List, [], ◌∷◌, ◌≡◌, ◌↔◌, sym, ap, refl, subst, ◌∙◌, arith}
-use Rattle.std.proofs.Common.{inl, inr, Bool, true, false, not, length, eqb, ne_eqb}
-use Rattle.cap_spec.specs.Lists.{IsOneOf}
-use Rattle.cap_spec.specs.Pointers.{kind, code}
-use Rattle.cap_spec.specs.Following.{Lead, Leads, to_cap}
-use Rattle.cap_spec.specs.Tree.{Tree, null, cap, struct, scalars, pointers, structs, pointer_count, cap_count, has_cap}
-use Rattle.cap_spec.specs.Denoting.{Denotes}
-use Rattle.cap_spec.specs.Paths.{ReachesCap, Spot, word, element, StepsTo, PathLeads, Reaches, Before}
-use Rattle.cap_spec.specs.Paths.{Rises, IsFirstCap, level_of}
-use Rattle.cap_spec.specs.Standing.{DenotesAt}
-use Rattle.cap_spec.specs.declared.Step.{Step}
-use Rattle.cap_spec.specs.declared.Step.TheVariants.{Ptr, Item}
+use Rattle.cap_spec.proofs.Paths.Arrivals.{found_form, lead_word, part_to_step, step_to_part}
+use Rattle.cap_spec.proofs.Paths.PathLists.{Wants, caps_listed, is_cap, is_pointer, is_structs, listed_rise}
+use Rattle.cap_spec.proofs.Paths.PathLists.{listed_wanted, paths_below, pointers_listed, wanted_listed, wants_cap}
+use Rattle.cap_spec.proofs.Paths.PathLists.{with_own}
+use Rattle.cap_spec.proofs.Paths.Preorder.{Before-asymmetric, Before-irreflexive, Rises-first}
 use Rattle.cap_spec.proofs.Pointers.Following.{one_lead}
-use Rattle.cap_spec.proofs.Trees.OneTree.{Formed, HasForm, form_of, formed, number_struct, number_list}
-use Rattle.cap_spec.proofs.Paths.Arrivals.{found_form, lead_word, step_to_part, part_to_step}
-use Rattle.cap_spec.proofs.Paths.Preorder.{Before-irreflexive, Before-asymmetric, Rises-first}
-use Rattle.cap_spec.proofs.Paths.PathLists.{with_own, paths_below, Wants, is_structs, is_pointer, is_cap, wants_cap}
-use Rattle.cap_spec.proofs.Paths.PathLists.{listed_wanted, wanted_listed, listed_rise, pointers_listed, caps_listed}
+use Rattle.cap_spec.proofs.Prelude.{Bool, List, [], ap, arith, eqb, false, inl, inr, length, ne_eqb, not, refl, subst}
+use Rattle.cap_spec.proofs.Prelude.{suc, sym, true, zero, ℕ, ◌*◌, ◌+◌, ◌<◌, ◌↔◌, ◌∙◌, ◌∷◌, ◌≡◌, Denotes, Lead, Leads}
+use Rattle.cap_spec.proofs.Prelude.{to_cap, IsOneOf, Before, IsFirstCap, PathLeads, Reaches, ReachesCap, Rises, Spot}
+use Rattle.cap_spec.proofs.Prelude.{StepsTo, element, level_of, word, code, kind, DenotesAt, Tree, cap, cap_count}
+use Rattle.cap_spec.proofs.Prelude.{has_cap, null, pointer_count, pointers, scalars, struct, structs, Step, Item, Ptr}
+use Rattle.cap_spec.proofs.Trees.OneTree.{Formed, HasForm, form_of, formed, number_list, number_struct}
 
 abbrev pub is_element : Spot → Bool
 is_element (word s w) = false

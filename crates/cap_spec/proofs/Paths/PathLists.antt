@@ -1,12 +1,9 @@
 -- The paths to some of a tree's nodes, in preorder: they rise, they are exactly those, and how many they are.
-use Rattle.std.proofs.Common.{ℕ, zero, suc, ◌+◌, ◌<◌, List, [], ◌∷◌, ◌++◌, ◌≡◌, ◌⊎◌, sym, ap, refl, subst, ◌∙◌, arith}
-use Rattle.std.proofs.Common.{inl, inr, Some, Bool, true, false, not, length, length-append}
-use Rattle.cap_spec.specs.Lists.{IsOneOf}
-use Rattle.cap_spec.specs.Tree.{Tree, null, cap, struct, scalars, pointers, structs, Trees, none, more, tree_at}
-use Rattle.cap_spec.specs.Tree.{part_at, tree_count, child_count, child_counts, cap_count, cap_counts}
-use Rattle.cap_spec.specs.Paths.{number_of, Before, Rises}
-use Rattle.cap_spec.specs.declared.Step.{Step}
-use Rattle.cap_spec.specs.declared.Step.TheVariants.{Ptr, Item}
+use Rattle.cap_spec.specs.Tree.{child_count, child_counts, none}
+use Rattle.cap_spec.proofs.Prelude.{Bool, List, Some, [], ap, arith, false, inl, inr, length, length-append, not, refl}
+use Rattle.cap_spec.proofs.Prelude.{subst, suc, sym, true, zero, ℕ, ◌++◌, ◌+◌, ◌<◌, ◌∙◌, ◌∷◌, ◌≡◌, ◌⊎◌, IsOneOf, Before}
+use Rattle.cap_spec.proofs.Prelude.{Rises, number_of, Tree, Trees, cap, cap_count, cap_counts, more, null, part_at}
+use Rattle.cap_spec.proofs.Prelude.{pointers, scalars, struct, structs, tree_at, tree_count, Step, Item, Ptr}
 
 -- each path behind one step
 abbrev pub behind : Step → List (List Step) → List (List Step)

@@ -1,13 +1,9 @@
 -- The steps of a path are read back from its text.
-use Rattle.std.proofs.Common.{◌≡◌, inl, inr, ℕ, zero, suc, ◌+◌, ◌<◌, ◌≤◌, ◌^◌, ◌%◌, List, [], ◌∷◌, ◌++◌, codes, decimal}
-use Rattle.std.proofs.Common.{get_or, length, take, refl, ap, arith}
-use Rattle.std.specs.List.{flat_map, AllByRecursion}
-use Rattle.std.proofs.lemmas.Bool.Decides.{leb_tells}
-use Rattle.std.proofs.lemmas.Fmt.{decimal_by_steps, decimal_injective}
-use Rattle.cap_spec.specs.PathTexts.{BeginsPath, IsBadAt, IsPath, IsStep, step_text, path_text}
-use Rattle.cap_spec.specs.declared.Step.{Step}
-use Rattle.cap_spec.specs.declared.Step.TheVariants.{Ptr, Item}
 use Rattle.cap_spec.proofs.Bytes.Lists.{all_append}
+use Rattle.cap_spec.proofs.Prelude.{List, [], ap, arith, codes, decimal, flat_map, get_or, inl, inr, length, refl, suc}
+use Rattle.cap_spec.proofs.Prelude.{take, zero, ℕ, ◌%◌, ◌++◌, ◌+◌, ◌<◌, ◌^◌, ◌∷◌, ◌≡◌, ◌≤◌, leb_tells, decimal_by_steps}
+use Rattle.cap_spec.proofs.Prelude.{decimal_injective, AllByRecursion, BeginsPath, IsBadAt, IsPath, IsStep, path_text}
+use Rattle.cap_spec.proofs.Prelude.{step_text, Step, Item, Ptr}
 
 abbrev pub IsDigit : ℕ → Type 0
 IsDigit b = (48 ≤ b) × (b < 58)

@@ -1,11 +1,10 @@
 -- Preorder is a strict total order on the paths of one message, and a tour is one list.
-use Rattle.std.proofs.Common.{ℕ, ◌<◌, List, [], ◌∷◌, ◌++◌, ◌≡◌, ◌⊎◌, length, sym, ap, refl, subst, ◌∙◌, arith, inl, inr}
-use Rattle.cap_spec.specs.Lists.{IsOneOf, AreDistinct}
-use Rattle.cap_spec.specs.Paths.{Spot, StepsTo, PathLeads, ReachesSpot, Reaches, word, number_of, Before}
-use Rattle.cap_spec.specs.Paths.{Rises, IsFirst, IsNumbered, IsTour, IsFirstCap, ReachesCap}
-use Rattle.cap_spec.specs.declared.Step.{Step}
-use Rattle.cap_spec.specs.declared.Step.TheVariants.{Ptr, Item}
-use Rattle.cap_spec.proofs.Paths.Walks.{one_step, one_kind_of_step, one_reached}
+use Rattle.cap_spec.specs.Paths.{IsFirst}
+use Rattle.cap_spec.proofs.Paths.Walks.{one_kind_of_step, one_reached, one_step}
+use Rattle.cap_spec.proofs.Prelude.{List, [], ap, arith, inl, inr, length, refl, subst, sym, ℕ, ◌++◌, ◌<◌, ◌∙◌, ◌∷◌}
+use Rattle.cap_spec.proofs.Prelude.{◌≡◌, ◌⊎◌, AreDistinct, IsOneOf, Before, IsFirstCap, IsNumbered, IsTour, PathLeads}
+use Rattle.cap_spec.proofs.Prelude.{Reaches, ReachesCap, ReachesSpot, Rises, Spot, StepsTo, number_of, word, Step, Item}
+use Rattle.cap_spec.proofs.Prelude.{Ptr}
 
 -- no path comes before itself
 pub Before-irreflexive : (p : List Step) → Before p p → ⊥

@@ -1,11 +1,9 @@
 -- A path leads to one spot, at one level, and a longer path goes on from there.
-use Rattle.std.proofs.Common.{ℕ, ◌+◌, List, [], ◌∷◌, ◌++◌, ◌≡◌, ◌↔◌, sym, ap, refl, subst, ◌∙◌, arith, inl, inr}
-use Rattle.cap_spec.specs.Pointers.{kind, code}
-use Rattle.cap_spec.specs.Paths.{Spot, word, element, StepsTo, PathLeads, ReachesSpot, Reaches, level_of}
-use Rattle.cap_spec.specs.declared.Step.{Step}
-use Rattle.cap_spec.specs.declared.Step.TheVariants.{Ptr, Item}
-use Rattle.cap_spec.proofs.Trees.Finding.{SameObject, one_object}
 use Rattle.cap_spec.proofs.Frames.Messages.{one_word}
+use Rattle.cap_spec.proofs.Prelude.{List, [], ap, arith, inl, inr, refl, subst, sym, ℕ, ◌++◌, ◌+◌, ◌↔◌, ◌∙◌, ◌∷◌, ◌≡◌}
+use Rattle.cap_spec.proofs.Prelude.{PathLeads, Reaches, ReachesSpot, Spot, StepsTo, element, level_of, word, code, kind}
+use Rattle.cap_spec.proofs.Prelude.{Step, Item, Ptr}
+use Rattle.cap_spec.proofs.Trees.Finding.{SameObject, one_object}
 
 -- one step leads to one spot
 pub one_step : (m : List (List ℕ)) (a : Spot) (step : Step) (b b' : Spot) → StepsTo m a step b → StepsTo m a step b' → b ≡ b'

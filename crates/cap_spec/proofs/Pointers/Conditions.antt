@@ -1,15 +1,11 @@
 -- The conditions of the reasons at a word, and their order.
-use Rattle.std.proofs.Common.{if◌then◌else◌, ◌==◌, ◌≡◌, ◌≢◌, ℕ, ◌+◌, ◌<◌, ◌≤◌, inl, inr, List, length}
-use Rattle.std.proofs.Common.{refl, sym, ap, ◌∙◌, subst, arith}
-use Rattle.std.proofs.lemmas.Bool.{cases_lt}
-use Rattle.cap_spec.specs.Messages.{HasWord, segment_of}
-use Rattle.cap_spec.specs.Pointers.{kind, middle, two, pad, far_segment, IsFar, IsReserved}
-use Rattle.cap_spec.specs.Following.{IsOnePad, IsTwoPad, Condition, rank}
-use Rattle.cap_spec.specs.declared.Reason.{Reason}
-use Rattle.cap_spec.specs.declared.Reason.TheVariants.{NoRoot, Reserved, SegmentMissing, PadOutside, PadIsFar}
-use Rattle.cap_spec.specs.declared.Reason.TheVariants.{PadNotFar, TagKind, TagOffset, OutOfSegment, CompositeTag}
-use Rattle.cap_spec.specs.declared.Reason.TheVariants.{CompositeOverrun, DepthLimit, WordLimit}
-use Rattle.cap_spec.proofs.Frames.Messages.{one_word, HasWord-inside, HasWord-segment, at_word}
+use Rattle.cap_spec.specs.declared.Reason.TheVariants.{NoRoot}
+use Rattle.cap_spec.proofs.Frames.Messages.{HasWord-inside, HasWord-segment, at_word, one_word}
+use Rattle.cap_spec.proofs.Prelude.{List, ap, arith, if◌then◌else◌, inl, inr, length, refl, subst, sym, ℕ, ◌+◌, ◌<◌}
+use Rattle.cap_spec.proofs.Prelude.{◌==◌, ◌∙◌, ◌≡◌, ◌≢◌, ◌≤◌, cases_lt, Condition, IsOnePad, IsTwoPad, rank, HasWord}
+use Rattle.cap_spec.proofs.Prelude.{segment_of, IsFar, IsReserved, far_segment, kind, middle, pad, two, Reason}
+use Rattle.cap_spec.proofs.Prelude.{CompositeOverrun, CompositeTag, DepthLimit, OutOfSegment, PadIsFar, PadNotFar}
+use Rattle.cap_spec.proofs.Prelude.{PadOutside, Reserved, SegmentMissing, TagKind, TagOffset, WordLimit}
 
 -- Which conditions don't hold, by the form of the word. It isn't far:
 module _ (m : List (List ℕ)) (s w p : ℕ) (h : HasWord m s w p) (not_far : kind p ≢ 2) where

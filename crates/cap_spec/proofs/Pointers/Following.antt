@@ -1,27 +1,22 @@
 -- A pointer word leads to one thing. Either that is null, a capability or an object that sits,
 -- or exactly one reason is wrong there.
-use Rattle.std.proofs.Common.{◌≡◌, ◌≢◌, ℕ, ◌+◌, ◌*◌, ◌<◌, ◌≤◌, inl, inr, List, length, ℤ, pos, negsuc}
-use Rattle.std.proofs.Common.{refl, sym, ap, ◌∙◌, subst, arith}
-use Rattle.std.proofs.lemmas.Bool.{cases_lt}
-use Rattle.std.proofs.lemmas.Int.{ints}
-use Rattle.cap_spec.specs.Messages.{HasWord, segment_of}
-use Rattle.cap_spec.specs.Pointers.{kind, middle, two, pad, far_segment, data_size, pointer_size}
-use Rattle.cap_spec.specs.Pointers.{list_size, extent, IsFar, IsReserved}
-use Rattle.cap_spec.specs.Following.{Lead, to_null, to_cap, to_object, Says, IsOnePad, IsTwoPad, Leads, near, one_pad}
-use Rattle.cap_spec.specs.Following.{two_pads, IsComposite, Outside, Condition, rank, Wrong}
-use Rattle.cap_spec.specs.Denoting.{Finds}
-use Rattle.cap_spec.specs.declared.Reason.{Reason}
-use Rattle.cap_spec.specs.declared.Reason.TheVariants.{Reserved, SegmentMissing, PadOutside, PadIsFar, PadNotFar}
-use Rattle.cap_spec.specs.declared.Reason.TheVariants.{TagKind, TagOffset, OutOfSegment, CompositeTag}
-use Rattle.cap_spec.specs.declared.Reason.TheVariants.{CompositeOverrun, DepthLimit, WordLimit}
-use Rattle.cap_spec.proofs.Frames.Messages.{one_word, at_word}
-use Rattle.cap_spec.proofs.Pointers.Conditions.{rank-injective, near-not_reserved, near-not_missing, near-not_outside}
-use Rattle.cap_spec.proofs.Pointers.Conditions.{near-not_pad_far, near-not_pad_near, near-not_tag_kind}
-use Rattle.cap_spec.proofs.Pointers.Conditions.{near-not_tag_offset, missing-not_reserved, outside-not_reserved}
-use Rattle.cap_spec.proofs.Pointers.Conditions.{outside-not_missing, one-not_reserved, one-not_missing, one-not_outside}
-use Rattle.cap_spec.proofs.Pointers.Conditions.{one-not_pad_far, one-not_pad_near, one-not_tag_kind, one-not_tag_offset}
-use Rattle.cap_spec.proofs.Pointers.Conditions.{two-not_reserved, two-not_tag_kind, two-not_tag_offset, NoneBelow}
-use Rattle.cap_spec.proofs.Pointers.Conditions.{none_below_reserved, and_not, two-none_below_far, two-none_below_tag}
+use Rattle.cap_spec.specs.Following.{Outside}
+use Rattle.cap_spec.proofs.Frames.Messages.{at_word, one_word}
+use Rattle.cap_spec.proofs.Pointers.Conditions.{NoneBelow, and_not, missing-not_reserved, near-not_missing}
+use Rattle.cap_spec.proofs.Pointers.Conditions.{near-not_outside, near-not_pad_far, near-not_pad_near}
+use Rattle.cap_spec.proofs.Pointers.Conditions.{near-not_reserved, near-not_tag_kind, near-not_tag_offset}
+use Rattle.cap_spec.proofs.Pointers.Conditions.{none_below_reserved, one-not_missing, one-not_outside, one-not_pad_far}
+use Rattle.cap_spec.proofs.Pointers.Conditions.{one-not_pad_near, one-not_reserved, one-not_tag_kind}
+use Rattle.cap_spec.proofs.Pointers.Conditions.{one-not_tag_offset, outside-not_missing, outside-not_reserved}
+use Rattle.cap_spec.proofs.Pointers.Conditions.{rank-injective, two-none_below_far, two-none_below_tag}
+use Rattle.cap_spec.proofs.Pointers.Conditions.{two-not_reserved, two-not_tag_kind, two-not_tag_offset}
+use Rattle.cap_spec.proofs.Prelude.{List, ap, arith, inl, inr, length, negsuc, pos, refl, subst, sym, ℕ, ℤ, ◌*◌, ◌+◌}
+use Rattle.cap_spec.proofs.Prelude.{◌<◌, ◌∙◌, ◌≡◌, ◌≢◌, ◌≤◌, cases_lt, ints, Finds, Condition, IsComposite, IsOnePad}
+use Rattle.cap_spec.proofs.Prelude.{IsTwoPad, Lead, Leads, Says, Wrong, near, one_pad, rank, to_cap, to_null, to_object}
+use Rattle.cap_spec.proofs.Prelude.{two_pads, HasWord, segment_of, IsFar, IsReserved, data_size, extent, far_segment}
+use Rattle.cap_spec.proofs.Prelude.{kind, list_size, middle, pad, pointer_size, two, Reason, CompositeOverrun}
+use Rattle.cap_spec.proofs.Prelude.{CompositeTag, DepthLimit, OutOfSegment, PadIsFar, PadNotFar, PadOutside, Reserved}
+use Rattle.cap_spec.proofs.Prelude.{SegmentMissing, TagKind, TagOffset, WordLimit}
 
 -- a word by itself says one thing
 Says-unique : (t w q : ℕ) (r r' : Lead) → Says t w q r → Says t w q r' → r ≡ r'

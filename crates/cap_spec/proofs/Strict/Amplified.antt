@@ -1,17 +1,14 @@
 -- A message within its unamplified limit, of which the canonical copy isn't within its own:
 -- a list of structs whose words are all zero.
-use Rattle.std.proofs.Common.{ℕ, zero, suc, ◌+◌, ◌^◌, ◌<◌, ◌≤◌, ◌≡◌, List, [], ◌∷◌, sum, false, refl, sym, ap, arith}
-use Rattle.cap_spec.specs.Tree.{Tree, struct, structs, Trees, none, more, tree_count, cap_counts, has_cap}
-use Rattle.cap_spec.specs.Denoting.{Denotes}
-use Rattle.cap_spec.specs.Canonical.{children_of, cut_elements, data_of, element_sizes}
-use Rattle.cap_spec.specs.Canonical.{layout, size, trim, trim_elements}
-use Rattle.cap_spec.specs.Copies.{HasCopy}
-use Rattle.cap_spec.specs.Frames.{sizes_of}
-use Rattle.cap_spec.specs.Unamplified.{unamplified}
-use Rattle.cap_spec.proofs.Trees.OneTree.{one_tree}
-use Rattle.cap_spec.proofs.Canonical.TreeMeasures.{FitElements, Fits, cost, element_costs, height}
-use Rattle.cap_spec.proofs.Canonical.Sizes.{length-content}
+use Rattle.cap_spec.specs.Tree.{none}
 use Rattle.cap_spec.proofs.Canonical.Layouts.{layout_denotes}
+use Rattle.cap_spec.proofs.Canonical.Sizes.{length-content}
+use Rattle.cap_spec.proofs.Canonical.TreeMeasures.{FitElements, Fits, cost, element_costs, height}
+use Rattle.cap_spec.proofs.Prelude.{List, [], ap, arith, false, refl, suc, sum, sym, zero, ℕ, ◌+◌, ◌<◌, ◌^◌, ◌∷◌, ◌≡◌}
+use Rattle.cap_spec.proofs.Prelude.{◌≤◌, children_of, cut_elements, data_of, element_sizes, layout, size, trim}
+use Rattle.cap_spec.proofs.Prelude.{trim_elements, HasCopy, Denotes, sizes_of, Tree, Trees, cap_counts, has_cap, more}
+use Rattle.cap_spec.proofs.Prelude.{struct, structs, tree_count, unamplified}
+use Rattle.cap_spec.proofs.Trees.OneTree.{one_tree}
 
 -- n structs of a zero word, and n without words
 zeros : ℕ → Trees

@@ -1,16 +1,10 @@
 -- The canonical copy of a message is strict, and keeps to the limits that the message keeps to.
-use Rattle.std.proofs.Common.{ℕ, ◌^◌, ◌<◌, ◌≤◌, List, [], ◌∷◌, ◌≡◌, sym, subst, ◌∙◌, arith}
-use Rattle.cap_spec.specs.Tree.{Tree}
-use Rattle.cap_spec.specs.Denoting.{Denotes}
-use Rattle.cap_spec.specs.Canonical.{layout, size, trim}
-use Rattle.cap_spec.specs.Copies.{HasCopy}
-use Rattle.cap_spec.specs.Paths.{word}
-use Rattle.cap_spec.specs.Strict.{IsLax, IsStrict}
-use Rattle.cap_spec.specs.declared.Step.{Step}
+use Rattle.cap_spec.proofs.Canonical.Layouts.{layout_denotes}
+use Rattle.cap_spec.proofs.Canonical.Sizes.{trimmed_size_charged}
 use Rattle.cap_spec.proofs.Canonical.TreeMeasures.{Measured, cost, height, measured}
 use Rattle.cap_spec.proofs.Canonical.TrimmedMeasures.{Trimmed, trimmed}
-use Rattle.cap_spec.proofs.Canonical.Sizes.{trimmed_size_charged}
-use Rattle.cap_spec.proofs.Canonical.Layouts.{layout_denotes}
+use Rattle.cap_spec.proofs.Prelude.{List, [], arith, subst, sym, ℕ, ◌<◌, ◌^◌, ◌∙◌, ◌∷◌, ◌≡◌, ◌≤◌, layout, size, trim}
+use Rattle.cap_spec.proofs.Prelude.{HasCopy, Denotes, word, IsLax, IsStrict, Tree, Step}
 use Rattle.cap_spec.proofs.Strict.LaxForms.{lax_pads}
 use Rattle.cap_spec.proofs.Strict.Padless.{own_padless, walk_tight}
 

@@ -1,17 +1,11 @@
 -- An accepted message is strict, or has one fault.
-use Rattle.std.proofs.Common.{ℕ, ◌≤◌, ◌≡◌, ◌⊎◌, List, length, inl, inr, ap, refl, arith}
-use Rattle.std.proofs.Props.{props}
-use Rattle.std.proofs.Math.Logic.{∥∥₁_elim}
-use Rattle.std.proofs.lemmas.Bool.{cases_lt}
-use Rattle.cap_spec.specs.Accepting.{IsWithin}
-use Rattle.cap_spec.specs.Strict.{IsLax, IsStrict, IsStrictFault}
-use Rattle.cap_spec.specs.declared.Lax.{Lax}
-use Rattle.cap_spec.specs.declared.Step.{Step}
 use Rattle.cap_spec.specs.declared.StrictRefusal.{StrictRefusal}
-use Rattle.cap_spec.specs.declared.StrictRefusal.TheVariants.{Refused, ManySegments, Pointer}
+use Rattle.cap_spec.specs.declared.StrictRefusal.TheVariants.{ManySegments, Pointer, Refused}
+use Rattle.cap_spec.proofs.Prelude.{List, ap, arith, inl, inr, length, refl, ℕ, ◌≡◌, ◌≤◌, ◌⊎◌, ∥∥₁_elim, props}
+use Rattle.cap_spec.proofs.Prelude.{cases_lt, IsWithin, IsLax, IsStrict, IsStrictFault, Lax, Step}
+use Rattle.cap_spec.proofs.Strict.FirstLax.{first_lax_or_none, one_first_lax}
 use Rattle.cap_spec.proofs.Verdicts.OneFault.{one_refusal}
 use Rattle.cap_spec.proofs.Verdicts.Refusals.{within_not_refused}
-use Rattle.cap_spec.proofs.Strict.FirstLax.{first_lax_or_none, one_first_lax}
 
 -- An accepted message is strict, or has a fault.
 pub strict_or_fault : (m : List (List ℕ)) (words depth : ℕ) → IsWithin m words depth → length m ≤ 512

@@ -1,21 +1,16 @@
 -- Of the pointers of a tree one is the first that common readers reject, or none is such a pointer.
-use Rattle.std.proofs.Common.{ℕ, ◌≡◌, ◌⊎◌, List, [], ◌∷◌, ◌++◌, length, inl, inr, refl, sym, ap, subst, false}
-use Rattle.cap_spec.specs.Lists.{IsOneOf}
-use Rattle.cap_spec.specs.Tree.{Tree}
-use Rattle.cap_spec.specs.Denoting.{Denotes}
-use Rattle.cap_spec.specs.Paths.{Before, IsTour, Reaches, Rises, word}
-use Rattle.cap_spec.specs.Strict.{IsFirstLax, IsLax, IsLaxAt}
-use Rattle.cap_spec.specs.declared.Lax.{Lax}
-use Rattle.cap_spec.specs.declared.Step.{Step}
-use Rattle.cap_spec.proofs.Trees.OneTree.{Formed, formed}
 use Rattle.cap_spec.proofs.Paths.Arrivals.{coming_to_node, lead_word}
-use Rattle.cap_spec.proofs.Paths.PathCounts.{pointer_paths, pointer_path_reached}
+use Rattle.cap_spec.proofs.Paths.PathCounts.{pointer_path_reached, pointer_paths}
 use Rattle.cap_spec.proofs.Paths.PathLists.{is_pointer, listed_rise}
-use Rattle.cap_spec.proofs.Paths.Preorder.{Before-asymmetric, Before-irreflexive}
-use Rattle.cap_spec.proofs.Paths.Preorder.{Rises-first, Rises-rest, one_first, one_number}
+use Rattle.cap_spec.proofs.Paths.Preorder.{Before-asymmetric, Before-irreflexive, Rises-first, Rises-rest, one_first}
+use Rattle.cap_spec.proofs.Paths.Preorder.{one_number}
 use Rattle.cap_spec.proofs.Paths.Walks.{one_reached}
-use Rattle.cap_spec.proofs.Verdicts.OneFault.{one_of_last}
+use Rattle.cap_spec.proofs.Prelude.{List, [], ap, false, inl, inr, length, refl, subst, sym, ℕ, ◌++◌, ◌∷◌, ◌≡◌, ◌⊎◌}
+use Rattle.cap_spec.proofs.Prelude.{Denotes, IsOneOf, Before, IsTour, Reaches, Rises, word, IsFirstLax, IsLax, IsLaxAt}
+use Rattle.cap_spec.proofs.Prelude.{Tree, Lax, Step}
 use Rattle.cap_spec.proofs.Strict.LaxForms.{lax_decided, one_lax}
+use Rattle.cap_spec.proofs.Trees.OneTree.{Formed, formed}
+use Rattle.cap_spec.proofs.Verdicts.OneFault.{one_of_last}
 
 -- a path between two lists
 middle_is_one : (p : List Step) (xs ys : List (List Step)) → IsOneOf p (xs ++ p ∷ ys)

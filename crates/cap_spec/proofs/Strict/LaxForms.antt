@@ -1,18 +1,11 @@
 -- A pointer has at most one form that common readers reject, has a landing pad there,
 -- and whether it has one is decided.
-use Rattle.std.proofs.Common.{ℕ, ◌≤◌, ◌≡◌, ◌≢◌, ◌⊎◌, List, [], ◌∷◌, length, inl, inr, refl, sym, ap, subst, arith}
-use Rattle.std.specs.Prelude.{pos}
-use Rattle.std.proofs.lemmas.Bool.Decides.{eqb_tells}
-use Rattle.cap_spec.specs.Messages.{HasWord, segment_of}
-use Rattle.cap_spec.specs.Pointers.{extent, pad}
-use Rattle.cap_spec.specs.Following.{Lead, to_null, to_cap, to_object, Leads, near, one_pad, two_pads, Wrong}
-use Rattle.cap_spec.specs.Denoting.{Finds}
-use Rattle.cap_spec.specs.Strict.{IsLaxAt}
-use Rattle.cap_spec.specs.declared.Lax.{Lax}
-use Rattle.cap_spec.specs.declared.Lax.TheVariants.{NullPad, EmptySegment, CapabilityPad}
-use Rattle.cap_spec.specs.declared.Reason.{Reason}
 use Rattle.cap_spec.proofs.Frames.Messages.{HasWord-inside}
-use Rattle.cap_spec.proofs.Pointers.Following.{one_lead, null-not_wrong, cap-not_wrong, object-not_wrong}
+use Rattle.cap_spec.proofs.Pointers.Following.{cap-not_wrong, null-not_wrong, object-not_wrong, one_lead}
+use Rattle.cap_spec.proofs.Prelude.{List, [], ap, arith, inl, inr, length, pos, refl, subst, sym, ℕ, ◌∷◌, ◌≡◌, ◌≢◌, ◌≤◌}
+use Rattle.cap_spec.proofs.Prelude.{◌⊎◌, eqb_tells, Finds, Lead, Leads, Wrong, near, one_pad, to_cap, to_null}
+use Rattle.cap_spec.proofs.Prelude.{to_object, two_pads, HasWord, segment_of, extent, pad, IsLaxAt, Lax, CapabilityPad}
+use Rattle.cap_spec.proofs.Prelude.{EmptySegment, NullPad, Reason}
 use Rattle.cap_spec.proofs.Trees.Finding.{one_object}
 use Rattle.cap_spec.proofs.Trees.Outcomes.{Fate, fate}
 

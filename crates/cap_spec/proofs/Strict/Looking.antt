@@ -1,14 +1,8 @@
 -- Which form a pointer that can be followed has, by its word and the words of its landing pad.
-use Rattle.std.proofs.Common.{ℕ, ◌+◌, ◌<◌, ◌≡◌, ◌≢◌, List, [], inl, inr, refl, sym, subst, arith}
-use Rattle.std.specs.Prelude.{pos}
-use Rattle.cap_spec.specs.Messages.{HasWord, segment_of}
-use Rattle.cap_spec.specs.Pointers.{far_segment, kind, pad}
-use Rattle.cap_spec.specs.Following.{IsOnePad, IsTwoPad, one_pad, to_cap, to_null, to_object}
-use Rattle.cap_spec.specs.Paths.{Costs}
-use Rattle.cap_spec.specs.Strict.{IsLaxAt}
-use Rattle.cap_spec.specs.declared.Lax.{Lax}
-use Rattle.cap_spec.specs.declared.Lax.TheVariants.{NullPad, EmptySegment, CapabilityPad}
-use Rattle.cap_spec.proofs.Pointers.Following.{leads-near, leads-one, leads-two}
+use Rattle.cap_spec.proofs.Pointers.Following.{leads-near, leads-one}
+use Rattle.cap_spec.proofs.Prelude.{List, arith, inl, inr, pos, refl, ℕ, ◌<◌, ◌≡◌, ◌≢◌, IsOnePad, one_pad, to_cap}
+use Rattle.cap_spec.proofs.Prelude.{to_null, to_object, HasWord, Costs, far_segment, kind, pad, IsLaxAt, Lax}
+use Rattle.cap_spec.proofs.Prelude.{CapabilityPad, EmptySegment, NullPad}
 use Rattle.cap_spec.proofs.Strict.LaxForms.{empty_by_two, lax_pads}
 
 -- a pointer that isn't far has none of the forms

@@ -1,27 +1,22 @@
 -- Where a tree is charged its cost alone, no pointer has a landing pad.
-use Rattle.std.proofs.Common.{ℕ, zero, suc, ◌+◌, ◌*◌, ◌<◌, ◌≤◌, List, [], ◌∷◌, ◌≡◌, sym, ap, refl}
-use Rattle.std.proofs.Common.{subst, ◌∙◌, arith, length, inl, inr}
-use Rattle.std.specs.Prelude.{pos}
-use Rattle.cap_spec.specs.Messages.{HasWord, segment_of}
-use Rattle.cap_spec.specs.Pointers.{kind, code, middle, data_size, pointer_size, list_size, list_words, extent}
-use Rattle.cap_spec.specs.Following.{Lead, Leads, extra, to_null, to_cap, to_object}
-use Rattle.cap_spec.specs.Tree.{Tree, null, cap, struct, scalars, pointers, structs, Trees, none, more, tree_count}
-use Rattle.cap_spec.specs.Denoting.{Finds, FindsStruct, FindsPointers, FindsStructs, Denotes}
-use Rattle.cap_spec.specs.Denoting.{DenoteEach, AreElements, places}
-use Rattle.cap_spec.specs.Paths.{Spot, word, element, StepsTo, PathLeads}
-use Rattle.cap_spec.specs.declared.Step.{Step}
-use Rattle.cap_spec.specs.declared.Step.TheVariants.{Ptr, Item}
-use Rattle.cap_spec.proofs.Pointers.Following.{one_lead}
+use Rattle.cap_spec.specs.Denoting.{places}
+use Rattle.cap_spec.specs.Tree.{none}
+use Rattle.cap_spec.proofs.Canonical.TreeMeasures.{cost, costs, each_measured, element_costs, elements_measured}
+use Rattle.cap_spec.proofs.Canonical.TreeMeasures.{extent_scalars, extra_scalars, extra_structs, idle, measured}
 use Rattle.cap_spec.proofs.Frames.Messages.{one_word}
-use Rattle.cap_spec.proofs.Trees.Finding.{SameObject, one_object}
-use Rattle.cap_spec.proofs.Trees.OneTree.{number_struct, number_list, cons_parts}
-use Rattle.cap_spec.proofs.Trees.Charges.{each_charged, elements_fit, extent_pointers}
-use Rattle.cap_spec.proofs.Trees.Charges.{extent_struct, extent_structs, length-places}
-use Rattle.cap_spec.proofs.Trees.DenotedTrees.{elements_inside, range_length}
 use Rattle.cap_spec.proofs.Paths.Arrivals.{found_form}
-use Rattle.cap_spec.proofs.Canonical.TreeMeasures.{cost, costs, element_costs, each_measured}
-use Rattle.cap_spec.proofs.Canonical.TreeMeasures.{elements_measured, extent_scalars, extra_scalars}
-use Rattle.cap_spec.proofs.Canonical.TreeMeasures.{extra_structs, idle, measured}
+use Rattle.cap_spec.proofs.Pointers.Following.{one_lead}
+use Rattle.cap_spec.proofs.Prelude.{List, [], ap, arith, inl, inr, length, pos, refl, subst, suc, sym, zero, ℕ, ◌*◌}
+use Rattle.cap_spec.proofs.Prelude.{◌+◌, ◌<◌, ◌∙◌, ◌∷◌, ◌≡◌, ◌≤◌, AreElements, DenoteEach, Denotes, Finds}
+use Rattle.cap_spec.proofs.Prelude.{FindsPointers, FindsStruct, FindsStructs, Lead, Leads, extra, to_cap, to_null}
+use Rattle.cap_spec.proofs.Prelude.{to_object, HasWord, segment_of, PathLeads, Spot, StepsTo, element, word, code}
+use Rattle.cap_spec.proofs.Prelude.{data_size, extent, kind, list_size, list_words, middle, pointer_size, Tree, Trees}
+use Rattle.cap_spec.proofs.Prelude.{cap, more, null, pointers, scalars, struct, structs, tree_count, Step, Item, Ptr}
+use Rattle.cap_spec.proofs.Trees.Charges.{each_charged, elements_fit, extent_pointers, extent_struct, extent_structs}
+use Rattle.cap_spec.proofs.Trees.Charges.{length-places}
+use Rattle.cap_spec.proofs.Trees.DenotedTrees.{elements_inside, range_length}
+use Rattle.cap_spec.proofs.Trees.Finding.{SameObject, one_object}
+use Rattle.cap_spec.proofs.Trees.OneTree.{cons_parts, number_list, number_struct}
 use Rattle.cap_spec.proofs.Trees.Readings.{length-values}
 
 -- what is at a spot is charged no more than its cost

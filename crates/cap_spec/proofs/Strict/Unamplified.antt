@@ -1,20 +1,13 @@
 -- The word limit that follows from what was sent: what it bounds, which refusals it adds,
 -- and that a copy may be past it.
-use Rattle.std.proofs.Common.{ℕ, ◌+◌, ◌-◌, ◌≤◌, ◌≡◌, ◌⊎◌, ◌↔◌, List, [], ◌∷◌, length, sum}
-use Rattle.std.proofs.Common.{inl, inr, ap, arith, length-append}
-use Rattle.cap_spec.specs.Canonical.{layout, trim}
-use Rattle.cap_spec.specs.Copies.{HasCopy}
-use Rattle.cap_spec.specs.Denoting.{Denotes}
-use Rattle.cap_spec.specs.Faults.{IsFirstReason, IsRefused, is_deep, is_past, is_wrong}
-use Rattle.cap_spec.specs.Frames.{frame_text, joined, paired, sizes_of}
-use Rattle.cap_spec.specs.Occupying.{IsDisjoint, empty_count}
-use Rattle.cap_spec.specs.Tree.{Tree}
-use Rattle.cap_spec.specs.Unamplified.{unamplified}
-use Rattle.cap_spec.specs.declared.Reason.TheVariants.{WordLimit}
-use Rattle.cap_spec.specs.declared.Refusal.{Refusal}
+use Rattle.cap_spec.specs.Faults.{is_wrong}
 use Rattle.cap_spec.proofs.Canonical.Sizes.{layout_charged}
 use Rattle.cap_spec.proofs.Disjoint.Bounds.{charge_below_words}
 use Rattle.cap_spec.proofs.Frames.Endings.{length_joined}
+use Rattle.cap_spec.proofs.Prelude.{List, [], ap, arith, inl, inr, length, length-append, sum, ℕ, ◌+◌, ◌-◌, ◌↔◌, ◌∷◌}
+use Rattle.cap_spec.proofs.Prelude.{◌≡◌, ◌≤◌, ◌⊎◌, layout, trim, HasCopy, Denotes, IsFirstReason, IsRefused, is_deep}
+use Rattle.cap_spec.proofs.Prelude.{is_past, frame_text, joined, paired, sizes_of, IsDisjoint, empty_count, Tree}
+use Rattle.cap_spec.proofs.Prelude.{unamplified, WordLimit, Refusal}
 
 -- a charge is within the limit where it is within the words given, and within the words of the segments with the slack
 pub within_both : (m : List (List ℕ)) (words c : ℕ) → c ≤ unamplified m words

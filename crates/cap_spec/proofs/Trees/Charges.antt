@@ -1,18 +1,17 @@
 -- What a pointer word denotes is charged at least what following it costs,
 -- and one for each of its pointers but the root.
-use Rattle.std.proofs.Common.{ℕ, zero, suc, ◌+◌, ◌*◌, ◌<◌, ◌≤◌, List, ◌≡◌, sym, ap, refl, subst, ◌∙◌, arith, length}
-use Rattle.std.proofs.Common.{inl, inr, ap₂, Bool, true, false, eqb, eqb-true, ◌≢◌, le_of_eq}
-use Rattle.std.specs.Prelude.{ℤ, pos}
+use Rattle.std.proofs.Common.{Bool, List, ap, ap₂, arith, eqb, eqb-true, false, inl, inr, le_of_eq, length, pos, refl}
+use Rattle.std.proofs.Common.{subst, suc, sym, true, zero, ℕ, ℤ, ◌*◌, ◌+◌, ◌<◌, ◌∙◌, ◌≡◌, ◌≢◌, ◌≤◌}
 use Rattle.std.proofs.lemmas.Bool.{eqb-false}
-use Rattle.cap_spec.specs.Pointers.{kind, middle, code, data_size, pointer_size, list_size, extent}
-use Rattle.cap_spec.specs.Following.{Lead, Leads, near, one_pad, two_pads, to_null, to_cap, to_object, extra}
-use Rattle.cap_spec.specs.Tree.{Tree, null, cap, struct, scalars, pointers, structs, Trees, none, more, tree_count}
-use Rattle.cap_spec.specs.Tree.{child_count, child_counts, pointer_count}
-use Rattle.cap_spec.specs.Denoting.{FindsStructs, Denotes, DenoteEach, AreElements, places}
+use Rattle.cap_spec.specs.Denoting.{AreElements, DenoteEach, Denotes, FindsStructs, places}
+use Rattle.cap_spec.specs.Following.{Lead, Leads, extra, near, one_pad, to_cap, to_null, to_object, two_pads}
 use Rattle.cap_spec.specs.Paths.{Costs}
+use Rattle.cap_spec.specs.Pointers.{code, data_size, extent, kind, list_size, middle, pointer_size}
+use Rattle.cap_spec.specs.Tree.{Tree, Trees, cap, child_count, child_counts, more, none, null, pointer_count, pointers}
+use Rattle.cap_spec.specs.Tree.{scalars, struct, structs, tree_count}
+use Rattle.cap_spec.proofs.Frames.Messages.{one_word}
 use Rattle.cap_spec.proofs.Pointers.Following.{one_lead}
 use Rattle.cap_spec.proofs.Trees.Finding.{SameObject, one_object}
-use Rattle.cap_spec.proofs.Frames.Messages.{one_word}
 
 -- the extent of a struct, of a list of pointers, and of a composite list
 pub extent_struct : (q : ℕ) → kind q ≡ 0 → extent q ≡ data_size q + pointer_size q

@@ -1,16 +1,14 @@
 -- What a message of words denotes is a tree: its words are words, its values fit, its elements have their sizes.
-use Rattle.std.proofs.Common.{ℕ, zero, suc, ◌+◌, ◌-◌, ◌*◌, ◌^◌, ◌<◌, ◌≤◌, List, [], ◌∷◌, ◌≡◌, ap, ◌∙◌, arith, length}
-use Rattle.std.proofs.Common.{drop, mod-lt, pow_pos, length-drop, length-take-le}
-use Rattle.std.specs.Prelude.{map, slice_index_or, ◌%◌, ◌/◌}
-use Rattle.std.specs.List.{range_with_len, AllByRecursion}
-use Rattle.cap_spec.specs.Words.{IsWord, field}
-use Rattle.cap_spec.specs.Messages.{segment_of}
-use Rattle.cap_spec.specs.Pointers.{middle, data_size, pointer_size, list_size, element_bits}
-use Rattle.cap_spec.specs.Following.{Leads, near, one_pad, two_pads, to_cap}
-use Rattle.cap_spec.specs.Tree.{Tree, null, cap, struct, scalars, pointers, structs, Trees, none, more}
-use Rattle.cap_spec.specs.Tree.{IsTree, AreTrees, AreElementTrees}
-use Rattle.cap_spec.specs.Denoting.{FindsStructs, Denotes, DenoteEach, AreElements, places, words_from, value_at}
-use Rattle.cap_spec.proofs.Bytes.Lists.{all_take, all_drop}
+use Rattle.std.proofs.Common.{mod-lt, pow_pos}
+use Rattle.cap_spec.specs.Denoting.{places}
+use Rattle.cap_spec.specs.Tree.{none}
+use Rattle.cap_spec.proofs.Bytes.Lists.{all_drop, all_take}
+use Rattle.cap_spec.proofs.Prelude.{List, [], ap, arith, drop, length, length-drop, length-take-le, map, slice_index_or}
+use Rattle.cap_spec.proofs.Prelude.{suc, zero, ℕ, ◌%◌, ◌*◌, ◌+◌, ◌-◌, ◌/◌, ◌<◌, ◌^◌, ◌∙◌, ◌∷◌, ◌≡◌, ◌≤◌, AllByRecursion}
+use Rattle.cap_spec.proofs.Prelude.{range_with_len, AreElements, DenoteEach, Denotes, FindsStructs, value_at}
+use Rattle.cap_spec.proofs.Prelude.{words_from, Leads, near, one_pad, to_cap, two_pads, segment_of, data_size}
+use Rattle.cap_spec.proofs.Prelude.{element_bits, list_size, middle, pointer_size, AreElementTrees, AreTrees, IsTree}
+use Rattle.cap_spec.proofs.Prelude.{Tree, Trees, cap, more, null, pointers, scalars, struct, structs, IsWord, field}
 use Rattle.cap_spec.proofs.Trees.Charges.{each_charged, elements_fit, extent_structs, length-places}
 
 -- a message of words

@@ -1,9 +1,6 @@
 -- What a pointer word finds is one object.
-use Rattle.std.proofs.Common.{ℕ, List, ◌≡◌}
-use Rattle.std.specs.Prelude.{pos}
-use Rattle.cap_spec.specs.Following.{to_object}
-use Rattle.cap_spec.specs.Denoting.{Finds}
 use Rattle.cap_spec.proofs.Pointers.Following.{one_lead}
+use Rattle.cap_spec.proofs.Prelude.{List, pos, ℕ, ◌≡◌, Finds, to_object}
 
 -- one object: its pads, segment, start and shape
 pub record SameObject (k t b q k' t' b' q' : ℕ) : Type 0 where

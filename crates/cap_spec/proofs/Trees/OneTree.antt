@@ -1,14 +1,13 @@
 -- A pointer word denotes at most one tree, at one charge and one depth.
-use Rattle.std.proofs.Common.{ℕ, ◌+◌, ◌*◌, ◌<◌, ◌≤◌, List, ◌∷◌, ◌≡◌, max, sym, ap, refl, subst, ◌∙◌, arith}
-use Rattle.std.specs.Prelude.{pos}
-use Rattle.cap_spec.specs.Pointers.{kind, middle, code, data_size, pointer_size, list_size, extent}
-use Rattle.cap_spec.specs.Following.{Lead, Leads, to_null, to_cap, to_object, extra}
-use Rattle.cap_spec.specs.Tree.{Tree, null, cap, struct, scalars, pointers, structs, Trees, none, more}
-use Rattle.cap_spec.specs.Denoting.{FindsStruct, FindsScalars, FindsPointers, FindsStructs, Denotes, DenoteEach}
-use Rattle.cap_spec.specs.Denoting.{AreElements, places, words_from, values_of, element_levels}
+use Rattle.std.proofs.Common.{List, ap, arith, max, pos, refl, subst, sym, ℕ, ◌*◌, ◌+◌, ◌<◌, ◌∙◌, ◌∷◌, ◌≡◌, ◌≤◌}
+use Rattle.cap_spec.specs.Denoting.{AreElements, DenoteEach, Denotes, FindsPointers, FindsScalars, FindsStruct}
+use Rattle.cap_spec.specs.Denoting.{FindsStructs, element_levels, places, values_of, words_from}
+use Rattle.cap_spec.specs.Following.{Lead, Leads, extra, to_cap, to_null, to_object}
+use Rattle.cap_spec.specs.Pointers.{code, data_size, extent, kind, list_size, middle, pointer_size}
+use Rattle.cap_spec.specs.Tree.{Tree, Trees, cap, more, none, null, pointers, scalars, struct, structs}
+use Rattle.cap_spec.proofs.Frames.Messages.{one_word}
 use Rattle.cap_spec.proofs.Pointers.Following.{one_lead}
 use Rattle.cap_spec.proofs.Trees.Finding.{SameObject, one_object}
-use Rattle.cap_spec.proofs.Frames.Messages.{one_word}
 
 -- what is the same of two trees, or of two lists of trees
 pub record Same {A : Type 0} (t t' : A) (c c' d d' : ℕ) : Type 0 where

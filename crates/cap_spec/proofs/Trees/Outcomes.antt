@@ -1,26 +1,17 @@
 -- Every word of a message has a fate: a reason is wrong there, or it leads to null,
 -- to a capability or to an object that sits.
-use Rattle.std.proofs.Common.{◌≡◌, ◌≢◌, ℕ, ◌+◌, ◌*◌, ◌<◌, ◌≤◌, ◌⊎◌, inl, inr, List, length, ℤ}
-use Rattle.std.proofs.Common.{pos, negsuc, ◌+ℤ◌, refl, arith}
-use Rattle.std.proofs.lemmas.Bool.{cases_lt}
-use Rattle.std.proofs.lemmas.Bool.Decides.{eqb_tells}
-use Rattle.std.proofs.lemmas.Int.{ints}
-use Rattle.cap_spec.specs.Words.{signed_offset_of}
-use Rattle.cap_spec.specs.Messages.{HasWord, segment_of}
-use Rattle.cap_spec.specs.Pointers.{kind, middle, code, two, pad, far_segment, cap_index, data_size, pointer_size}
-use Rattle.cap_spec.specs.Pointers.{list_size, extent, IsFar, IsReserved}
-use Rattle.cap_spec.specs.Following.{Lead, to_null, to_cap, to_object, Says, IsOnePad, IsTwoPad, Leads, near}
-use Rattle.cap_spec.specs.Following.{one_pad, two_pads, IsComposite, Wrong}
-use Rattle.cap_spec.specs.Denoting.{Finds}
-use Rattle.cap_spec.specs.declared.Reason.{Reason}
-use Rattle.cap_spec.specs.declared.Reason.TheVariants.{Reserved, SegmentMissing, PadOutside, PadIsFar, PadNotFar}
-use Rattle.cap_spec.specs.declared.Reason.TheVariants.{TagKind, TagOffset, OutOfSegment, CompositeTag, CompositeOverrun}
-use Rattle.cap_spec.proofs.Trees.Charges.{extent_structs}
 use Rattle.cap_spec.proofs.Frames.Messages.{HasWord-at, HasWord-segment}
-use Rattle.cap_spec.proofs.Pointers.Following.{HasSegment, wrong-reserved, wrong-pad_reserved, wrong-missing}
-use Rattle.cap_spec.proofs.Pointers.Following.{wrong-outside, wrong-pad_far, wrong-pad_near}
-use Rattle.cap_spec.proofs.Pointers.Following.{wrong-content_missing, wrong-tag_kind, wrong-tag_offset}
-use Rattle.cap_spec.proofs.Pointers.Following.{wrong-out, wrong-composite_tag, wrong-overrun}
+use Rattle.cap_spec.proofs.Pointers.Following.{HasSegment, wrong-composite_tag, wrong-content_missing, wrong-missing}
+use Rattle.cap_spec.proofs.Pointers.Following.{wrong-out, wrong-outside, wrong-overrun, wrong-pad_far, wrong-pad_near}
+use Rattle.cap_spec.proofs.Pointers.Following.{wrong-pad_reserved, wrong-reserved, wrong-tag_kind, wrong-tag_offset}
+use Rattle.cap_spec.proofs.Prelude.{List, arith, inl, inr, length, negsuc, pos, refl, ℕ, ℤ, ◌*◌, ◌+ℤ◌, ◌+◌, ◌<◌, ◌≡◌}
+use Rattle.cap_spec.proofs.Prelude.{◌≢◌, ◌≤◌, ◌⊎◌, cases_lt, eqb_tells, ints, Finds, IsComposite, IsOnePad, IsTwoPad}
+use Rattle.cap_spec.proofs.Prelude.{Lead, Leads, Says, Wrong, near, one_pad, to_cap, to_null, to_object, two_pads}
+use Rattle.cap_spec.proofs.Prelude.{HasWord, segment_of, IsFar, IsReserved, cap_index, code, data_size, extent}
+use Rattle.cap_spec.proofs.Prelude.{far_segment, kind, list_size, middle, pad, pointer_size, two, signed_offset_of}
+use Rattle.cap_spec.proofs.Prelude.{Reason, CompositeOverrun, CompositeTag, OutOfSegment, PadIsFar, PadNotFar}
+use Rattle.cap_spec.proofs.Prelude.{PadOutside, Reserved, SegmentMissing, TagKind, TagOffset}
+use Rattle.cap_spec.proofs.Trees.Charges.{extent_structs}
 
 -- Every word of a message has a fate: a reason is wrong there, or it leads to null,
 -- to a capability or to an object that sits.

@@ -1,17 +1,13 @@
 -- Values that were packed into words are read back from them.
-use Rattle.std.proofs.Common.{ℕ, zero, suc, ◌+◌, ◌*◌, ◌/◌, ◌%◌, ◌^◌, ◌<◌, List, [], ◌∷◌, ◌≡◌, sym, ap, ap₂, refl, ◌∙◌}
-use Rattle.std.proofs.Common.{arith, length, take, drop, get_or}
-use Rattle.std.specs.Prelude.{map}
-use Rattle.std.specs.List.{range_with_len, AllByRecursion}
-use Rattle.std.proofs.Math.Nat.{mul_comm}
-use Rattle.std.proofs.lemmas.List.{same_lists, get_or-take, get_or-drop, get_or_default, length-take, length-drop}
-use Rattle.std.proofs.lemmas.List.FromFn.{length-map-range_with_len, get_or-map-range_with_len}
-use Rattle.std.proofs.lemmas.Nat.{shr-shr, shr_high, mod_low}
-use Rattle.cap_spec.specs.Words.{field}
-use Rattle.cap_spec.specs.Pointers.{element_bits, list_words}
-use Rattle.cap_spec.specs.Denoting.{value_at}
-use Rattle.cap_spec.specs.Scalars.{packed_word, value_words, scalar_words}
-use Rattle.cap_spec.proofs.Bytes.Lists.{all_take, all_drop}
+use Rattle.std.proofs.lemmas.Nat.{mod_low, shr_high}
+use Rattle.cap_spec.specs.Scalars.{value_words}
+use Rattle.cap_spec.proofs.Bytes.Lists.{all_drop, all_take}
+use Rattle.cap_spec.proofs.Prelude.{List, [], ap, ap₂, arith, drop, get_or, get_or-drop, get_or-take, length}
+use Rattle.cap_spec.proofs.Prelude.{length-drop, length-take, map, mul_comm, refl, shr-shr, suc, sym, take, zero, ℕ}
+use Rattle.cap_spec.proofs.Prelude.{◌%◌, ◌*◌, ◌+◌, ◌/◌, ◌<◌, ◌^◌, ◌∙◌, ◌∷◌, ◌≡◌, get_or_default, same_lists}
+use Rattle.cap_spec.proofs.Prelude.{get_or-map-range_with_len, length-map-range_with_len, AllByRecursion}
+use Rattle.cap_spec.proofs.Prelude.{range_with_len, value_at, element_bits, list_words, packed_word, scalar_words}
+use Rattle.cap_spec.proofs.Prelude.{field}
 
 -- a word of values, the lowest last
 turned : (v m r : ℕ) → v + m * r ≡ r * m + v

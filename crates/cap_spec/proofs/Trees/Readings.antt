@@ -1,15 +1,9 @@
 -- What is read of the words of a message, one word, value or byte at a time.
-use Rattle.std.proofs.Common.{ℕ, zero, suc, ◌+◌, ◌-◌, ◌*◌, ◌<◌, ◌≤◌, min, List, [], ◌∷◌, ◌≡◌, ap, refl, ◌∙◌}
-use Rattle.std.proofs.Common.{arith, length, get_or, Some, None}
-use Rattle.std.specs.Prelude.{slice_get}
-use Rattle.std.proofs.lemmas.List.FromFn.{length-map-range_with_len, get_or-map-range_with_len}
-use Rattle.std.proofs.lemmas.Option.{slice_get-get_or, slice_get_past, get_or_from_slice_get}
-use Rattle.cap_spec.specs.Words.{field}
-use Rattle.cap_spec.specs.Messages.{HasWord, segment_of}
-use Rattle.cap_spec.specs.Pointers.{element_bits, list_words}
-use Rattle.cap_spec.specs.Denoting.{value_at, values_of}
-use Rattle.cap_spec.specs.Plain.{plain_text, word_bytes}
-use Rattle.cap_spec.specs.Scalars.{scalar_words}
+use Rattle.cap_spec.proofs.Prelude.{List, None, Some, [], ap, arith, get_or, length, min, refl, slice_get, suc, zero, ℕ}
+use Rattle.cap_spec.proofs.Prelude.{◌*◌, ◌+◌, ◌-◌, ◌<◌, ◌∙◌, ◌∷◌, ◌≡◌, ◌≤◌, get_or-map-range_with_len}
+use Rattle.cap_spec.proofs.Prelude.{length-map-range_with_len, get_or_from_slice_get, slice_get-get_or, slice_get_past}
+use Rattle.cap_spec.proofs.Prelude.{value_at, values_of, HasWord, segment_of, plain_text, word_bytes, element_bits}
+use Rattle.cap_spec.proofs.Prelude.{list_words, scalar_words, field}
 use Rattle.cap_spec.proofs.Trees.ReadingBack.{length-scalar_words}
 use Rattle.cap_spec.proofs.Trees.WordsRead.{as_many_words, whole_words, word_read}
 

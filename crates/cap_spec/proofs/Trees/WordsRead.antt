@@ -1,18 +1,11 @@
 -- The words of a list of values that were read from words: those words, the bits past the last value zero.
-use Rattle.std.proofs.Common.{ℕ, zero, suc, ◌+◌, ◌-◌, ◌*◌, ◌/◌, ◌%◌, ◌^◌, ◌<◌, ◌≤◌, ◌==◌, ◌⊎◌, inl, inr, true, false}
-use Rattle.std.proofs.Common.{min, List, ◌∷◌, ◌≡◌, sym, subst, ap, ap₂, refl, ◌∙◌, arith, length, take, drop, get_or}
-use Rattle.std.specs.Prelude.{map}
-use Rattle.std.specs.List.{range_with_len}
-use Rattle.std.proofs.lemmas.List.{take-map, drop-map}
-use Rattle.std.proofs.lemmas.List.FromFn.{length-map-range_with_len}
-use Rattle.std.proofs.lemmas.Bool.{ne_eqb}
-use Rattle.std.proofs.lemmas.Bool.Decides.{eqb_tells}
-use Rattle.std.proofs.lemmas.Nat.{shr-shr, mod-pow-add}
-use Rattle.std.proofs.Math.Nat.{mul_comm}
-use Rattle.cap_spec.specs.Words.{field}
-use Rattle.cap_spec.specs.Pointers.{element_bits, list_words}
-use Rattle.cap_spec.specs.Denoting.{value_at}
-use Rattle.cap_spec.specs.Scalars.{packed_word, scalar_words}
+use Rattle.std.proofs.lemmas.List.{drop-map, take-map}
+use Rattle.std.proofs.lemmas.Nat.{mod-pow-add}
+use Rattle.cap_spec.proofs.Prelude.{List, ap, ap₂, arith, drop, false, get_or, inl, inr, length, map, min, mul_comm}
+use Rattle.cap_spec.proofs.Prelude.{ne_eqb, refl, shr-shr, subst, suc, sym, take, true, zero, ℕ, ◌%◌, ◌*◌, ◌+◌, ◌-◌}
+use Rattle.cap_spec.proofs.Prelude.{◌/◌, ◌<◌, ◌==◌, ◌^◌, ◌∙◌, ◌∷◌, ◌≡◌, ◌≤◌, ◌⊎◌, eqb_tells, length-map-range_with_len}
+use Rattle.cap_spec.proofs.Prelude.{range_with_len, value_at, element_bits, list_words, packed_word, scalar_words}
+use Rattle.cap_spec.proofs.Prelude.{field}
 use Rattle.cap_spec.proofs.Trees.ReadingBack.{word_of_values}
 
 -- a field and the one above it

@@ -1,22 +1,17 @@
 -- Whether a word denotes a tree of at most so many levels is decided: so where it isn't known which one, there is one.
-use Rattle.std.proofs.Common.{ℕ, zero, suc, ◌+◌, ◌-◌, ◌<◌, ◌≤◌, ◌⊎◌, List, [], ◌∷◌, ◌≡◌, max, length, refl}
-use Rattle.std.proofs.Common.{sym, ap, subst, inl, inr, arith}
-use Rattle.std.proofs.Math.Logic.{∥∥₁_elim}
-use Rattle.std.proofs.lemmas.Bool.{cases_lt}
-use Rattle.std.proofs.lemmas.Bool.Decides.{eqb_tells}
-use Rattle.std.specs.Prelude.{pos}
-use Rattle.cap_spec.specs.Messages.{HasWord, segment_of}
-use Rattle.cap_spec.specs.Pointers.{kind, middle, code, data_size, pointer_size, list_size, extent}
-use Rattle.cap_spec.specs.Following.{extra}
-use Rattle.cap_spec.specs.Tree.{Tree, null, cap, struct, scalars, pointers, structs, Trees, none, more}
-use Rattle.cap_spec.specs.Denoting.{Finds, Denotes, DenoteEach, AreElements, places}
-use Rattle.cap_spec.specs.Denoting.{words_from, values_of, element_levels}
-use Rattle.cap_spec.proofs.Paths.Arrivals.{found_form, lead_word}
-use Rattle.cap_spec.proofs.Trees.Charges.{lead_kind}
-use Rattle.cap_spec.proofs.Trees.Outcomes.{Fate, fate}
-use Rattle.cap_spec.proofs.Trees.Finding.{SameObject, one_object}
+use Rattle.cap_spec.specs.Denoting.{places}
+use Rattle.cap_spec.specs.Tree.{none}
 use Rattle.cap_spec.proofs.Frames.Messages.{HasWord-at, HasWord-inside, one_word}
-use Rattle.cap_spec.proofs.Trees.OneTree.{formed, number_struct, number_list, cons_parts}
+use Rattle.cap_spec.proofs.Paths.Arrivals.{found_form, lead_word}
+use Rattle.cap_spec.proofs.Prelude.{List, [], ap, arith, inl, inr, length, max, pos, refl, subst, suc, sym, zero, ℕ}
+use Rattle.cap_spec.proofs.Prelude.{◌+◌, ◌-◌, ◌<◌, ◌∷◌, ◌≡◌, ◌≤◌, ◌⊎◌, ∥∥₁_elim, cases_lt, eqb_tells, AreElements}
+use Rattle.cap_spec.proofs.Prelude.{DenoteEach, Denotes, Finds, element_levels, values_of, words_from, extra, HasWord}
+use Rattle.cap_spec.proofs.Prelude.{segment_of, code, data_size, extent, kind, list_size, middle, pointer_size, Tree}
+use Rattle.cap_spec.proofs.Prelude.{Trees, cap, more, null, pointers, scalars, struct, structs}
+use Rattle.cap_spec.proofs.Trees.Charges.{lead_kind}
+use Rattle.cap_spec.proofs.Trees.Finding.{SameObject, one_object}
+use Rattle.cap_spec.proofs.Trees.OneTree.{cons_parts, formed, number_list, number_struct}
+use Rattle.cap_spec.proofs.Trees.Outcomes.{Fate, fate}
 use Rattle.cap_spec.proofs.Verdicts.OneVerdict.{denoted_not_wrong}
 
 -- it is so, or it isn't

@@ -1,20 +1,13 @@
 -- The pointers on a path: they are one list, which grows with the path, and they aren't both charged and refused.
-use Rattle.std.proofs.Common.{ℕ, ◌+◌, ◌<◌, ◌≤◌, List, [], ◌∷◌, ◌++◌, ◌≡◌, ◌⊎◌, sym, ap, refl, subst, ◌∙◌, arith, inl}
-use Rattle.std.proofs.Common.{inr, length, length-append, append_assoc}
-use Rattle.std.proofs.lemmas.List.{append-nil}
-use Rattle.cap_spec.specs.Lists.{IsOneOf}
-use Rattle.cap_spec.specs.Messages.{HasWord}
-use Rattle.cap_spec.specs.Faults.{AreShallow}
-use Rattle.cap_spec.specs.Getting.{AreOnPath, IsStartOf, IsFaultOnPath, IsRefusedOnPath}
-use Rattle.cap_spec.specs.Paths.{Before, ReachesSpot, Costs, StepsTo, Reaches, Rises, Spot, element, word}
-use Rattle.cap_spec.specs.Verdicts.{CostOf, IsDeepAt}
-use Rattle.cap_spec.specs.declared.Refusal.{Refusal}
-use Rattle.cap_spec.specs.declared.Step.{Step}
-use Rattle.cap_spec.proofs.Verdicts.OneFault.{distinct_last, kept_without_fault, last_is_one, one_of_last}
-use Rattle.cap_spec.proofs.Verdicts.OneFault.{one_rootless, rootless, same_fault}
-use Rattle.cap_spec.proofs.Verdicts.OneVerdict.{cost_reached}
 use Rattle.cap_spec.proofs.Paths.Preorder.{Before-longer, Rises-distinct, Rises-same}
-use Rattle.cap_spec.proofs.Paths.Walks.{one_coming, one_reached, comes_beyond}
+use Rattle.cap_spec.proofs.Paths.Walks.{comes_beyond, one_coming, one_reached}
+use Rattle.cap_spec.proofs.Prelude.{List, [], ap, append-nil, append_assoc, arith, inl, inr, length, length-append}
+use Rattle.cap_spec.proofs.Prelude.{refl, subst, sym, ℕ, ◌++◌, ◌+◌, ◌<◌, ◌∙◌, ◌∷◌, ◌≡◌, ◌≤◌, ◌⊎◌, AreShallow, AreOnPath}
+use Rattle.cap_spec.proofs.Prelude.{IsFaultOnPath, IsRefusedOnPath, IsStartOf, IsOneOf, HasWord, Before, Costs, Reaches}
+use Rattle.cap_spec.proofs.Prelude.{ReachesSpot, Rises, Spot, StepsTo, element, word, CostOf, IsDeepAt, Refusal, Step}
+use Rattle.cap_spec.proofs.Verdicts.OneFault.{distinct_last, kept_without_fault, last_is_one, one_of_last, one_rootless}
+use Rattle.cap_spec.proofs.Verdicts.OneFault.{rootless, same_fault}
+use Rattle.cap_spec.proofs.Verdicts.OneVerdict.{cost_reached}
 
 -- a path that begins another begins what goes on from it
 pub begins_longer : (q done more : List Step) → IsStartOf q done → IsStartOf q (done ++ more)

@@ -1,22 +1,15 @@
 -- A message is refused in one way: it has one first fault.
-use Rattle.std.proofs.Common.{ℕ, ◌+◌, ◌≤◌, ◌≡◌, ◌⊎◌, List, [], ◌∷◌, ◌++◌, length, Some, inl, inr}
-use Rattle.std.proofs.Common.{refl, sym, ap, ◌∙◌, subst, arith}
-use Rattle.std.specs.Prelude.{slice_get}
 use Rattle.std.proofs.lemmas.List.{append_cancel_right}
-use Rattle.cap_spec.specs.Lists.{IsOneOf, AreDistinct}
-use Rattle.cap_spec.specs.Following.{Wrong}
-use Rattle.cap_spec.specs.Faults.{AreShallow, HasNoRoot, IsFirstFault, IsFirstReason}
-use Rattle.cap_spec.specs.Faults.{IsRefused, is_deep, is_past, is_wrong}
-use Rattle.cap_spec.specs.Paths.{Before, Costs, IsTour, Reaches, Rises}
-use Rattle.cap_spec.specs.Verdicts.{CostOf}
-use Rattle.cap_spec.specs.declared.Reason.{Reason}
-use Rattle.cap_spec.specs.declared.Refusal.{Refusal}
-use Rattle.cap_spec.specs.declared.Step.{Step}
-use Rattle.cap_spec.proofs.Pointers.Following.{cap-not_wrong, null-not_wrong, object-not_wrong, one_wrong}
-use Rattle.cap_spec.proofs.Verdicts.OneVerdict.{cost_reached, distinct_cost, take_out}
-use Rattle.cap_spec.proofs.Paths.Preorder.{Before-irreflexive, Before-total_coming}
-use Rattle.cap_spec.proofs.Paths.Preorder.{Before-trans, Rises-distinct, one_tour}
+use Rattle.cap_spec.specs.Faults.{is_wrong}
+use Rattle.cap_spec.proofs.Paths.Preorder.{Before-irreflexive, Before-total_coming, Before-trans, Rises-distinct}
+use Rattle.cap_spec.proofs.Paths.Preorder.{one_tour}
 use Rattle.cap_spec.proofs.Paths.Walks.{one_reached}
+use Rattle.cap_spec.proofs.Pointers.Following.{cap-not_wrong, null-not_wrong, object-not_wrong, one_wrong}
+use Rattle.cap_spec.proofs.Prelude.{List, Some, [], ap, arith, inl, inr, length, refl, slice_get, subst, sym, ℕ, ◌++◌}
+use Rattle.cap_spec.proofs.Prelude.{◌+◌, ◌∙◌, ◌∷◌, ◌≡◌, ◌≤◌, ◌⊎◌, AreShallow, HasNoRoot, IsFirstFault, IsFirstReason}
+use Rattle.cap_spec.proofs.Prelude.{IsRefused, is_deep, is_past, Wrong, AreDistinct, IsOneOf, Before, Costs, IsTour}
+use Rattle.cap_spec.proofs.Prelude.{Reaches, Rises, CostOf, Reason, Refusal, Step}
+use Rattle.cap_spec.proofs.Verdicts.OneVerdict.{cost_reached, distinct_cost, take_out}
 
 -- one of some paths and a last one
 pub one_of_last : (q p : List Step) (ps : List (List Step)) → IsOneOf q (ps ++ p ∷ []) → (q ≡ p) ⊎ IsOneOf q ps

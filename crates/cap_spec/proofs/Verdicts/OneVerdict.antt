@@ -1,26 +1,18 @@
 -- An accepted message has no justified refusal.
-use Rattle.std.proofs.Common.{ℕ, ◌+◌, ◌≤◌, List, [], ◌∷◌, ◌≡◌, ◌≢◌, ◌⊎◌, sym, refl, subst, ◌∙◌, arith, inl, inr, Some}
-use Rattle.std.specs.Prelude.{slice_get}
-use Rattle.cap_spec.specs.Lists.{IsOneOf, AreDistinct}
-use Rattle.cap_spec.specs.Messages.{HasWord}
-use Rattle.cap_spec.specs.Tree.{Tree, null, cap, struct, scalars, pointers, structs}
-use Rattle.cap_spec.specs.Denoting.{Finds, Denotes}
-use Rattle.cap_spec.specs.Accepting.{IsWithin}
-use Rattle.cap_spec.specs.Following.{HasTag, Wrong}
-use Rattle.cap_spec.specs.Paths.{word, Reaches, Costs}
-use Rattle.cap_spec.specs.Verdicts.{CostOf, Justified, no_root, is_wrong}
-use Rattle.cap_spec.specs.Verdicts.{too_deep, past_limit, levels_below}
-use Rattle.cap_spec.specs.declared.Step.{Step}
-use Rattle.cap_spec.specs.declared.Reason.{Reason}
-use Rattle.cap_spec.specs.declared.Refusal.{Refusal}
-use Rattle.cap_spec.proofs.Pointers.Following.{null-not_wrong, cap-not_wrong, object-not_wrong}
-use Rattle.cap_spec.proofs.Trees.OneTree.{Formed, formed}
-use Rattle.cap_spec.proofs.Trees.Charges.{one_cost}
-use Rattle.cap_spec.proofs.Paths.Walks.{one_reached}
+use Rattle.cap_spec.specs.Following.{HasTag}
+use Rattle.cap_spec.specs.Verdicts.{is_wrong}
 use Rattle.cap_spec.proofs.Paths.Arrivals.{coming_to_node, lead_word}
-use Rattle.cap_spec.proofs.Paths.PathCounts.{pointer_paths, pointer_path_reached}
+use Rattle.cap_spec.proofs.Paths.Depths.{denoted_depth, object_depth, walk_depth}
 use Rattle.cap_spec.proofs.Paths.PathCosts.{charge_is_cost}
-use Rattle.cap_spec.proofs.Paths.Depths.{denoted_depth, walk_depth, object_depth}
+use Rattle.cap_spec.proofs.Paths.PathCounts.{pointer_path_reached, pointer_paths}
+use Rattle.cap_spec.proofs.Paths.Walks.{one_reached}
+use Rattle.cap_spec.proofs.Pointers.Following.{cap-not_wrong, null-not_wrong, object-not_wrong}
+use Rattle.cap_spec.proofs.Prelude.{List, Some, [], arith, inl, inr, refl, slice_get, subst, sym, ℕ, ◌+◌, ◌∙◌, ◌∷◌, ◌≡◌}
+use Rattle.cap_spec.proofs.Prelude.{◌≢◌, ◌≤◌, ◌⊎◌, IsWithin, Denotes, Finds, Wrong, AreDistinct, IsOneOf, HasWord}
+use Rattle.cap_spec.proofs.Prelude.{Costs, Reaches, word, Tree, cap, null, pointers, scalars, struct, structs, CostOf}
+use Rattle.cap_spec.proofs.Prelude.{Justified, levels_below, no_root, past_limit, too_deep, Reason, Refusal, Step}
+use Rattle.cap_spec.proofs.Trees.Charges.{one_cost}
+use Rattle.cap_spec.proofs.Trees.OneTree.{Formed, formed}
 
 -- one of some paths, its cost, and the others
 pub record TakenOut (m : List (List ℕ)) (p : List Step) (qs : List (List Step)) (y : ℕ) : Type 0 where

@@ -1,13 +1,11 @@
 -- A refusal at the first fault is justified, so that a message isn't both accepted and refused.
-use Rattle.std.proofs.Common.{ℕ, List, [], ◌∷◌, ◌++◌, inl, inr}
-use Rattle.cap_spec.specs.Accepting.{IsWithin}
-use Rattle.cap_spec.specs.Faults.{IsFirstReason, IsRefused, is_deep, is_past, is_wrong}
-use Rattle.cap_spec.specs.Verdicts.{Justified}
-use Rattle.cap_spec.specs.Verdicts.{no_root, too_deep, past_limit, is_wrong as wrong_there}
-use Rattle.cap_spec.specs.declared.Refusal.{Refusal}
+use Rattle.cap_spec.specs.Faults.{is_wrong}
+use Rattle.cap_spec.specs.Verdicts.{is_wrong as wrong_there}
+use Rattle.cap_spec.proofs.Paths.Preorder.{Rises-distinct}
+use Rattle.cap_spec.proofs.Prelude.{List, [], inl, inr, ℕ, ◌++◌, ◌∷◌, IsWithin, IsFirstReason, IsRefused, is_deep}
+use Rattle.cap_spec.proofs.Prelude.{is_past, Justified, no_root, past_limit, too_deep, Refusal}
 use Rattle.cap_spec.proofs.Verdicts.OneFault.{distinct_last}
 use Rattle.cap_spec.proofs.Verdicts.OneVerdict.{within_not_justified}
-use Rattle.cap_spec.proofs.Paths.Preorder.{Rises-distinct}
 
 -- A refusal at the first fault is justified.
 pub refused_justified : (m : List (List ℕ)) (words depth : ℕ) (r : Refusal) → IsRefused m words depth r

@@ -1,7 +1,6 @@
 //! The verdict of a message of which no word may be used twice.
 
 ghost use Rattle.cap_spec.specs.Faults.{IsRefused};
-ghost use Rattle.cap_spec.specs.Messages.{segment_of};
 ghost use Rattle.cap_spec.specs.Frames.{sizes_of};
 ghost use Rattle.cap_spec.specs.Occupying.{IsDisjoint, IsFirstOverlap, empty_count};
 ghost use Rattle.cap_spec.specs.Accepting.{IsWithin};

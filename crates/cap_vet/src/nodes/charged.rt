@@ -9,7 +9,7 @@ ghost use Rattle.cap_spec.specs.declared.Kind.{Kind};
 ghost use Rattle.cap_spec.specs.declared.Step.{Step};
 ghost use Rattle.cap_vet.specs.Budgets.{left_of};
 ghost use Rattle.cap_vet.specs.Charging.{Arrives};
-ghost use Rattle.cap_vet.specs.Finding.{IsFound, element_of};
+ghost use Rattle.cap_vet.specs.Finding.{element_of};
 ghost use Rattle.cap_vet.specs.Views.{kept_place, view_kind, view_message};
 ghost use Rattle.cap_vet.specs.Ways.{SomeArrives};
 ghost use Rattle.std.specs.Prelude.{[], ◌∷◌, ◌++◌, ◌+◌, ◌-◌, ◌<◌, ◌≡◌, ◌≤◌, ◌^◌, IfErr, IfNone, IfOk, IfSome, IsOk, List, OnErr, OnOk, length, ℕ};

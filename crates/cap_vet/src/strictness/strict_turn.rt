@@ -1,6 +1,5 @@
 //! The turn of a walk that looks for pointers which common readers reject.
 
-ghost use Rattle.cap_spec.specs.Messages.{segment_of};
 ghost use Rattle.cap_spec.specs.declared.Step.{Step};
 ghost use Rattle.cap_vet.specs.StrictNulls.{null_known};
 ghost use Rattle.cap_vet.specs.Stricts.{KnowsLax};

@@ -1,5 +1,5 @@
 -- The number is that of the one answer.
-use Rattle.std.proofs.Common.{ap, ◌∙◌, inl, inr}
+use Rattle.std.proofs.Common.{ap, inl, inr, ◌∙◌}
 use Rattle.cap_calls.specs.AnswerNumbers.{answer_number}
 use Rattle.capvet_c.proofs.capvet_vet_exclusive.Goals as goal
 

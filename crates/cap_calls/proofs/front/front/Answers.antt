@@ -1,5 +1,5 @@
 -- What the fault of the frame says.
-use Rattle.std.proofs.Common.{refl, subst, Err}
+use Rattle.std.proofs.Common.{Err, refl, subst}
 use Rattle.cap_frame.specs.Framed.{TellsFront}
 use Rattle.cap_calls.proofs.front.front.Goals as goal
 

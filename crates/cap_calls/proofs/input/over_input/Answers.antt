@@ -1,5 +1,5 @@
 -- The input is words or a frame.
-use Rattle.std.proofs.Common.{◌∙◌, refl, sym}
+use Rattle.std.proofs.Common.{refl, sym, ◌∙◌}
 use Rattle.cap_calls.specs.CallInputs.{of_frame}
 use Rattle.cap_calls.proofs.input.over_input.Goals as goal
 

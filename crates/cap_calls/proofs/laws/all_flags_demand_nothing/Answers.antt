@@ -1,5 +1,5 @@
 -- Each direction of each call.
-use Rattle.std.specs.Prelude.{true}
+use Rattle.std.proofs.Common.{true}
 use Rattle.cap_calls.specs.CallInputs.{of_frame}
 use Rattle.cap_calls.proofs.AllFlags.{all_less, all_marks_less, all_marks_more, all_more, framed_input, table_given}
 use Rattle.cap_calls.proofs.AllFlags.{trailing_allowed, whole_as, whole_less, whole_more}

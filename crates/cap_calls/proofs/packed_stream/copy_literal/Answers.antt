@@ -1,6 +1,6 @@
 -- Some of the literal words.
-use Rattle.std.proofs.Common.{List, ℕ, ◌≡◌, ◌∙◌, ◌≤◌, ◌-◌, ◌*◌, ◌++◌, ap, arith, drop, inl, length, refl, subst, sym, take}
-use Rattle.std.proofs.lemmas.List.{drop_at, length-append, length-drop, length-take-le, take_at}
+use Rattle.std.proofs.Common.{List, ap, arith, drop, drop_at, inl, length, length-append, length-drop, length-take-le}
+use Rattle.std.proofs.Common.{refl, subst, sym, take, take_at, ℕ, ◌*◌, ◌++◌, ◌-◌, ◌∙◌, ◌≡◌, ◌≤◌}
 use Rattle.cap_spec.specs.Plain.{plain_words}
 use Rattle.cap_calls.specs.PackedStreams.{GivesWords}
 use Rattle.cap_calls.proofs.PackedStreams.{leads_literal, literal_part}

@@ -1,4 +1,4 @@
-use Rattle.std.proofs.Common.{◌-◌, length}
+use Rattle.std.proofs.Common.{length, ◌-◌}
 use Rattle.cap_calls.specs.PackedStreams.{WritesWords}
 use Rattle.cap_calls.proofs.packed_stream.give.Given as goal
 

@@ -1,12 +1,10 @@
 -- The first word of a group.
-use Rattle.std.proofs.Common.{List, ℕ, [], ◌∷◌, ◌+◌, ◌≡◌, ◌∙◌, ◌++◌, ap, arith, drop, inl, length, refl, rules, subst, sym, take}
-use Rattle.std.specs.Prelude.{slice_index}
-use Rattle.std.proofs.lemmas.List.{drop_at, length-append, length-drop, take_at}
-use Rattle.cap_spec.specs.Plain.{plain_words, word_bytes}
-use Rattle.cap_spec.specs.Words.{IsWord}
 use Rattle.cap_spec.proofs.Bytes.Plain.{plain_back}
-use Rattle.cap_calls.specs.PackedStreams.{GivesWords}
+use Rattle.cap_spec.proofs.Prelude.{List, [], ap, arith, drop, drop_at, inl, length, length-append, length-drop, refl}
+use Rattle.cap_spec.proofs.Prelude.{rules, slice_index, subst, sym, take, take_at, ℕ, ◌++◌, ◌+◌, ◌∙◌, ◌∷◌, ◌≡◌}
+use Rattle.cap_spec.proofs.Prelude.{plain_words, word_bytes, IsWord}
 use Rattle.cap_words.proofs.AtHand.{bytes_small}
+use Rattle.cap_calls.specs.PackedStreams.{GivesWords}
 use Rattle.cap_calls.proofs.GivenWords.{gives_none}
 use Rattle.cap_calls.proofs.PackedStreams.{leads_head, no_head, one_run}
 use Rattle.cap_calls.proofs.packed_stream.give_first.Goals as goal

@@ -1,5 +1,5 @@
 -- Without a run it is the next group.
-use Rattle.std.proofs.Common.{ℕ, ◌≡◌, arith, subst}
+use Rattle.std.proofs.Common.{arith, subst, ℕ, ◌≡◌}
 use Rattle.cap_calls.specs.PackedStreams.{WritesWords}
 use Rattle.cap_calls.proofs.packed_stream.give_some.Goals as goal
 

@@ -1,6 +1,6 @@
 -- Some of the zero words.
-use Rattle.std.proofs.Common.{List, ℕ, ◌≡◌, ◌≤◌, ◌∙◌, ◌-◌, ◌*◌, ◌++◌, ap, arith, drop, inr, length, refl, replicate, subst, sym, take}
-use Rattle.std.proofs.lemmas.List.{drop_at, length-append, length-drop, length-take-le, take_at}
+use Rattle.std.proofs.Common.{List, ap, arith, drop, drop_at, inr, length, length-append, length-drop, length-take-le}
+use Rattle.std.proofs.Common.{refl, replicate, subst, sym, take, take_at, ℕ, ◌*◌, ◌++◌, ◌-◌, ◌∙◌, ◌≡◌, ◌≤◌}
 use Rattle.cap_spec.specs.Plain.{plain_words}
 use Rattle.cap_pack.proofs.AtHand.{zeros_are_words}
 use Rattle.cap_calls.specs.PackedStreams.{GivesWords}

@@ -1,6 +1,5 @@
 -- The head by its tag.
-use Rattle.std.proofs.Common.{ℕ, ◌≡◌, ◌<◌, ap, arith, length}
-use Rattle.std.proofs.lemmas.Bool.Decides.{nat_tests}
+use Rattle.cap_spec.proofs.Prelude.{ap, arith, length, ℕ, ◌<◌, ◌≡◌, nat_tests}
 use Rattle.cap_calls.specs.PackedStreams.{head_length}
 use Rattle.cap_calls.specs.UnpackingMessages.{bytes_needed}
 use Rattle.cap_calls.proofs.PackedStreams.{head_is}

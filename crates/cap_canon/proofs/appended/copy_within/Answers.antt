@@ -1,6 +1,5 @@
 -- Those words are all that the vector has.
-use Rattle.std.proofs.Common.{◌∙◌, ap, arith}
-use Rattle.cap_spec.specs.Plain.{plain_text}
+use Rattle.cap_spec.proofs.Prelude.{ap, arith, ◌∙◌, plain_text}
 use Rattle.cap_words.proofs.WholeWords.{words_text}
 use Rattle.cap_canon.proofs.appended.copy_within.Goals as goal
 

@@ -1,8 +1,5 @@
-use Rattle.std.proofs.Common.{◌∙◌, ◌++◌, List, ℕ, ap, sym, subst, rules}
-use Rattle.std.proofs.lemmas.List.{append-nil}
-use Rattle.std.specs.List.{AllByRecursion}
-use Rattle.cap_spec.specs.Denoting.{words_from}
-use Rattle.cap_spec.specs.Words.{IsWord}
+use Rattle.cap_spec.proofs.Prelude.{List, ap, append-nil, rules, subst, sym, ℕ, ◌++◌, ◌∙◌, AllByRecursion, words_from}
+use Rattle.cap_spec.proofs.Prelude.{IsWord}
 use Rattle.cap_canon.proofs.Ranges.{range_none, range_one}
 use Rattle.cap_canon.proofs.appending.append_row.Goals as goal
 

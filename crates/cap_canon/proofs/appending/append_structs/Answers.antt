@@ -1,5 +1,4 @@
-use Rattle.std.proofs.Common.{◌≡◌, ◌∙◌, ◌*◌, ◌++◌, ap, sym, arith}
-use Rattle.cap_spec.specs.Denoting.{words_from}
+use Rattle.cap_spec.proofs.Prelude.{ap, arith, sym, ◌*◌, ◌++◌, ◌∙◌, ◌≡◌, words_from}
 use Rattle.cap_canon.specs.Filling.{elements_from}
 use Rattle.cap_canon.proofs.Afters.{fewer_before}
 use Rattle.cap_canon.proofs.Ranges.{elements_whole}

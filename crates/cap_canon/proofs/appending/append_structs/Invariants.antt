@@ -1,4 +1,4 @@
-use Rattle.std.proofs.Common.{◌≡◌, ◌≤◌, length, ℕ}
+use Rattle.std.proofs.Common.{length, ℕ, ◌≡◌, ◌≤◌}
 use Rattle.cap_canon.proofs.Structs.{StructsSoFar}
 use Rattle.cap_canon.proofs.appending.append_structs.Given as goal
 

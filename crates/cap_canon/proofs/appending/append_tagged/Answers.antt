@@ -1,4 +1,4 @@
-use Rattle.std.proofs.Common.{◌∙◌, ◌++◌, [], ◌∷◌, ap}
+use Rattle.std.proofs.Common.{[], ap, ◌++◌, ◌∙◌, ◌∷◌}
 use Rattle.cap_canon.specs.Filling.{parts_words}
 use Rattle.cap_canon.proofs.Afters.{fewer_before}
 use Rattle.cap_canon.proofs.Filling.{structs_appended}

@@ -1,8 +1,5 @@
-use Rattle.std.proofs.Common.{◌≡◌, ◌∙◌, ◌+◌, ◌-◌, ◌++◌, [], ◌∷◌, List, ℕ, ap, sym, subst, arith, append_assoc}
-use Rattle.std.specs.List.{AllByRecursion}
-use Rattle.cap_spec.specs.Denoting.{words_from}
-use Rattle.cap_spec.specs.Pointers.{list_words}
-use Rattle.cap_spec.specs.Words.{IsWord}
+use Rattle.cap_spec.proofs.Prelude.{List, [], ap, append_assoc, arith, subst, sym, ℕ, ◌++◌, ◌+◌, ◌-◌, ◌∙◌, ◌∷◌, ◌≡◌}
+use Rattle.cap_spec.proofs.Prelude.{AllByRecursion, words_from, list_words, IsWord}
 use Rattle.cap_canon.proofs.Afters.{fewer_before}
 use Rattle.cap_canon.proofs.Ranges.{all_front, range_more, values_laid}
 use Rattle.cap_canon.proofs.appending.append_values.Goals as goal

@@ -1,8 +1,6 @@
 -- No room, or the copy at the start of the buffer.
-use Rattle.std.proofs.Common.{ℕ, ◌*◌, ◌≡◌, ◌∙◌, ◌++◌, Ok, ap, arith, drop, length, refl, sym}
-use Rattle.cap_spec.specs.Plain.{plain_text}
-use Rattle.cap_spec.proofs.Bytes.Plain.{length_plain}
-use Rattle.cap_spec.proofs.Canonical.Sizes.{layout_charged}
+use Rattle.cap_spec.proofs.Lemmas.{length_plain, layout_charged}
+use Rattle.cap_spec.proofs.Prelude.{Ok, ap, arith, drop, length, refl, sym, ℕ, ◌*◌, ◌++◌, ◌∙◌, ◌≡◌, plain_text}
 use Rattle.cap_vet.specs.Vettings.{message_of}
 use Rattle.cap_canon.specs.CopyRooms.{written}
 use Rattle.cap_canon.proofs.Afters.{front_and_after}

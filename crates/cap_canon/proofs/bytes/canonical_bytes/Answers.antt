@@ -1,13 +1,8 @@
 -- All that the new vector holds is the copy.
-use Rattle.std.proofs.Common.{ℕ, ◌≡◌, ◌<◌, ◌∙◌, Err, ap, ap₂, arith, inl, inr, length, subst, sym, take}
-use Rattle.std.proofs.lemmas.List.{take_all}
-use Rattle.cap_spec.specs.Copies.{HasCopy}
-use Rattle.cap_spec.specs.Paths.{IsFirstCap}
-use Rattle.cap_spec.specs.Plain.{plain_text, plain_words}
-use Rattle.cap_spec.proofs.Bytes.Plain.{length_plain}
-use Rattle.cap_spec.proofs.Canonical.Copies.{one_copy}
-use Rattle.cap_spec.proofs.Paths.Preorder.{one_first_cap}
 use Rattle.cap_spec.specs.declared.CanonFault.TheVariants.{HasCapability}
+use Rattle.cap_spec.proofs.Lemmas.{length_plain, one_copy, one_first_cap}
+use Rattle.cap_spec.proofs.Prelude.{Err, ap, ap₂, arith, inl, inr, length, subst, sym, take, take_all, ℕ, ◌<◌, ◌∙◌, ◌≡◌}
+use Rattle.cap_spec.proofs.Prelude.{HasCopy, IsFirstCap, plain_text, plain_words}
 use Rattle.cap_vet.specs.Vettings.{message_of}
 use Rattle.cap_canon.proofs.Copies.{cap_no_copy, same_fault}
 use Rattle.cap_canon.proofs.Overs.{new_fault, new_text}

@@ -1,5 +1,4 @@
-use Rattle.std.proofs.Common.{◌∙◌, sym, eq-eqb}
-use Rattle.std.proofs.lemmas.Bool.{eqb-true, false≢true}
+use Rattle.cap_spec.proofs.Prelude.{eq-eqb, eqb-true, sym, ◌∙◌, false≢true}
 use Rattle.cap_canon.proofs.Copies.{not_with_caps}
 use Rattle.cap_canon.proofs.InOrder.{compared_at_end, strict_compared}
 use Rattle.cap_canon.proofs.checked_vetting.check_in_order.Goals as goal

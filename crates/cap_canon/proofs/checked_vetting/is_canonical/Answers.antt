@@ -1,19 +1,13 @@
 -- A walk within the greatest limits stops only at a message that isn't canonical: it was accepted before.
-use Rattle.std.proofs.Common.{◌≡◌, List, ℕ, arith}
-use Rattle.std.proofs.lemmas.Bool.{false≢true}
-use Rattle.cap_spec.specs.Copies.{IsCanonical}
-use Rattle.cap_spec.specs.GreatestLimits.{most_depth, most_words}
-use Rattle.cap_spec.specs.Tree.{Tree}
-use Rattle.cap_spec.proofs.Verdicts.Refusals.{within_not_refused}
+use Rattle.cap_spec.proofs.Prelude.{List, arith, ℕ, ◌≡◌, false≢true, IsCanonical, most_depth, most_words, Tree}
 use Rattle.cap_spec.proofs.Strict.Faults.{within_wider}
-use Rattle.cap_vet.specs.Limits.{depth_of, words_of}
-use Rattle.cap_vet.specs.Reports.{IsReport}
+use Rattle.cap_spec.proofs.Verdicts.Refusals.{within_not_refused}
+use Rattle.cap_vet.specs.Prelude.{depth_of, words_of, IsReport}
 use Rattle.cap_vet.specs.Turns.{IsStopped}
 use Rattle.cap_vet.specs.declared.limits.Limits.{Limits}
-use Rattle.cap_vet.specs.declared.report.Report.{Report}
 use Rattle.cap_vet.specs.declared.walk.turn.Stopped.{Stopped}
-use Rattle.cap_vet.specs.declared.walk.turn.Stopped.TheVariants.{Refused, ByTurn}
-use Rattle.cap_canon.specs.InOrder.{IsNotCanonical}
+use Rattle.cap_vet.specs.declared.walk.turn.Stopped.TheVariants.{ByTurn, Refused}
+use Rattle.cap_canon.specs.Prelude.{Report, IsNotCanonical}
 use Rattle.cap_canon.proofs.checked_vetting.is_canonical.Goals as goal
 
 not_stopped : {S : Type 0} (m : List (List ℕ)) (limits : Limits) (stopped : Stopped S) (r : Report) (t : Tree) → words_of limits ≡ most_words

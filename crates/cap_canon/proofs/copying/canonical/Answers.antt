@@ -1,9 +1,9 @@
-use Rattle.std.proofs.Common.{◌≡◌, arith, length, ap, Err}
-use Rattle.cap_vet.specs.Vettings.{message_of}
+use Rattle.std.proofs.Common.{Err, ap, arith, length, ◌≡◌}
 use Rattle.cap_spec.specs.declared.CanonFault.TheVariants.{HasCapability}
-use Rattle.cap_spec.proofs.Canonical.Offsets.{offsets_fit}
 use Rattle.cap_spec.proofs.Canonical.Copies.{copy_denotes, copy_only, copy_own, one_copy}
-use Rattle.cap_canon.proofs.Copies.{same_fault, cap_no_copy, copy_length, copy_of, few_charged, has_tree}
+use Rattle.cap_spec.proofs.Canonical.Offsets.{offsets_fit}
+use Rattle.cap_vet.specs.Vettings.{message_of}
+use Rattle.cap_canon.proofs.Copies.{cap_no_copy, copy_length, copy_of, few_charged, has_tree, same_fault}
 use Rattle.cap_canon.proofs.copying.canonical.Goals as goal
 
 pub copy_into-requires-clause-tree : goal.copy_into-requires-clause-tree

@@ -1,4 +1,4 @@
-use Rattle.std.proofs.Common.{◌≡◌, ◌∙◌, ◌++◌, [], ◌∷◌, ◌≤◌, ap, arith, length, refl, rules, subst, sym}
+use Rattle.std.proofs.Common.{[], ap, arith, length, refl, rules, subst, sym, ◌++◌, ◌∙◌, ◌∷◌, ◌≡◌, ◌≤◌}
 use Rattle.cap_spec.specs.Canonical.{layout, trim}
 use Rattle.cap_canon.specs.Filling.{Agrees}
 use Rattle.cap_canon.specs.Kept.{Kept}

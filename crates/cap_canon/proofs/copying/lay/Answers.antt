@@ -1,5 +1,4 @@
-use Rattle.std.proofs.Common.{◌∙◌, ap, arith, length}
-use Rattle.std.proofs.lemmas.List.{length-set}
+use Rattle.std.proofs.Common.{ap, arith, length, length-set, ◌∙◌}
 use Rattle.cap_canon.proofs.Afters.{fewer_before}
 use Rattle.cap_canon.proofs.CopyWalks.{agrees_more, length_more}
 use Rattle.cap_canon.proofs.copying.lay.Goals as goal

@@ -1,7 +1,6 @@
-use Rattle.std.proofs.Common.{◌≡◌, ◌∙◌, ◌+◌, ◌*◌, ◌<◌, length, arith, inr, sym}
-use Rattle.cap_spec.specs.Messages.{HasWord, segment_of}
-use Rattle.cap_spec.specs.Pointers.{data_size, list_size, middle, pointer_size}
 use Rattle.cap_spec.proofs.Frames.Messages.{HasWord-segment}
+use Rattle.cap_spec.proofs.Prelude.{arith, inr, length, sym, ◌*◌, ◌+◌, ◌<◌, ◌∙◌, ◌≡◌, HasWord, segment_of, data_size}
+use Rattle.cap_spec.proofs.Prelude.{list_size, middle, pointer_size}
 use Rattle.cap_canon.specs.Trimming.{AreElementsAt}
 use Rattle.cap_canon.proofs.InOrder.{structs_there}
 use Rattle.cap_canon.proofs.InOrderLists.{structs_differ, structs_next, structs_surplus}

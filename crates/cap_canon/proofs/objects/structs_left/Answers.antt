@@ -1,4 +1,4 @@
-use Rattle.std.proofs.Common.{◌+◌, refl}
+use Rattle.std.proofs.Common.{refl, ◌+◌}
 use Rattle.cap_canon.proofs.Found.{structs_object}
 use Rattle.cap_canon.proofs.objects.structs_left.Goals as goal
 

@@ -1,12 +1,7 @@
 -- A copy that is all that the buffer holds, or no memory.
-use Rattle.std.proofs.Common.{◌≡◌, ◌∙◌, Ok, ap, arith, length, refl, subst, sym, take}
-use Rattle.std.proofs.lemmas.List.{take_all}
-use Rattle.cap_spec.specs.Canonical.{layout, trim}
-use Rattle.cap_spec.specs.Copies.{HasCopy}
-use Rattle.cap_spec.specs.Plain.{plain_text, plain_words}
-use Rattle.cap_spec.proofs.Bytes.Plain.{length_plain}
-use Rattle.cap_spec.proofs.Canonical.Sizes.{layout_charged}
-use Rattle.cap_spec.proofs.Trees.OneTree.{one_tree}
+use Rattle.cap_spec.proofs.Lemmas.{length_plain, layout_charged, one_tree}
+use Rattle.cap_spec.proofs.Prelude.{Ok, ap, arith, length, refl, subst, sym, take, take_all, ◌∙◌, ◌≡◌, layout, trim}
+use Rattle.cap_spec.proofs.Prelude.{HasCopy, plain_text, plain_words}
 use Rattle.cap_vet.specs.Vettings.{message_of}
 use Rattle.cap_canon.specs.CopyOvers.{grown, no_memory}
 use Rattle.cap_canon.proofs.Copies.{has_copy}

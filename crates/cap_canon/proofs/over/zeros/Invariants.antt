@@ -1,5 +1,4 @@
-use Rattle.std.proofs.Common.{◌≡◌, length}
-use Rattle.std.specs.Vec.{vec_capacity}
+use Rattle.std.proofs.Common.{length, vec_capacity, ◌≡◌}
 use Rattle.cap_canon.proofs.over.zeros.Given as goal
 
 abbrev pub invariant-zeros : goal.invariant-zeros

@@ -1,5 +1,4 @@
-use Rattle.std.proofs.Common.{◌≡◌, ◌∙◌, [], ◌∷◌, ◌++◌, refl, rules}
-use Rattle.std.proofs.lemmas.List.{append-nil, nil_from_length}
+use Rattle.cap_spec.proofs.Prelude.{[], append-nil, refl, rules, ◌++◌, ◌∙◌, ◌∷◌, ◌≡◌, nil_from_length}
 use Rattle.cap_canon.specs.CopyRuns.{run_kept}
 use Rattle.cap_canon.proofs.stack.go_on.Goals as goal
 

@@ -1,4 +1,4 @@
-use Rattle.std.proofs.Common.{◌+◌, arith}
+use Rattle.std.proofs.Common.{arith, ◌+◌}
 use Rattle.cap_canon.specs.CopyRuns.{option_places}
 use Rattle.cap_canon.proofs.Entering.{pointers_owed, struct_owed}
 use Rattle.cap_canon.proofs.stack.run_of.Goals as goal

@@ -1,7 +1,8 @@
 use Rattle.std.proofs.Common.{arith, inl, inr, refl}
 use Rattle.cap_canon.proofs.Entering.{structs_none_owed, structs_owed, structs_start}
+use Rattle.cap_canon.proofs.stack.structs_run.Goals.{then-count-eq0-via-else-count-eq0+then-part-eq0}
+use Rattle.cap_canon.proofs.stack.structs_run.Goals.{then-count-eq0-via-then-count-eq0}
 use Rattle.cap_canon.proofs.stack.structs_run.Goals as goal
-use Rattle.cap_canon.proofs.stack.structs_run.Goals.{then-count-eq0-via-then-count-eq0, then-count-eq0-via-else-count-eq0+then-part-eq0}
 
 pub returns-then-count-eq0-clause-owed : goal.returns-then-count-eq0-clause-owed
 returns-then-count-eq0-clause-owed c = λ m d s w depth n tree k le.

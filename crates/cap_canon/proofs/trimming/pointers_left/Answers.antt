@@ -1,4 +1,4 @@
-use Rattle.std.proofs.Common.{◌-◌, arith}
+use Rattle.std.proofs.Common.{arith, ◌-◌}
 use Rattle.cap_canon.proofs.Children.{child_at, child_below, child_here, row_needed}
 use Rattle.cap_canon.proofs.trimming.pointers_left.Goals as goal
 

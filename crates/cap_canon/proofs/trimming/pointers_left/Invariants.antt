@@ -1,7 +1,5 @@
-use Rattle.std.proofs.Common.{ℕ, ◌≤◌}
-use Rattle.cap_spec.specs.Canonical.{children_needed}
-use Rattle.cap_spec.specs.Denoting.{DenoteEach, places}
-use Rattle.cap_spec.specs.Tree.{Trees}
+use Rattle.cap_spec.specs.Denoting.{places}
+use Rattle.cap_spec.proofs.Prelude.{ℕ, ◌≤◌, children_needed, DenoteEach, Trees}
 use Rattle.cap_canon.proofs.trimming.pointers_left.Given as goal
 
 abbrev pub invariant-loop-left : goal.invariant-loop-left

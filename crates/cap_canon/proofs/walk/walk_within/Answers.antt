@@ -1,12 +1,8 @@
-use Rattle.std.proofs.Common.{rules, ◌≡◌, ◌∙◌, ◌≤◌, ◌+◌, ◌++◌, ◌∷◌, arith, List, ap, subst, length, [], refl}
-use Rattle.std.specs.Option.{option_to_list}
-use Rattle.cap_spec.specs.Messages.{IsMessage}
-use Rattle.cap_spec.specs.Canonical.{trim}
+use Rattle.cap_spec.proofs.Prelude.{List, [], ap, arith, length, option_to_list, refl, rules, subst, ◌++◌, ◌+◌, ◌∙◌}
+use Rattle.cap_spec.proofs.Prelude.{◌∷◌, ◌≡◌, ◌≤◌, trim, IsMessage}
 use Rattle.cap_spec.proofs.Trees.OneTree.{one_tree}
-use Rattle.cap_canon.specs.CopyRuns.{first_place}
-use Rattle.cap_canon.specs.Laying.{below, own_size}
-use Rattle.cap_canon.specs.StillToLay.{IsWalking, longest_copy, runs_left, work_left}
-use Rattle.cap_canon.specs.declared.run.CopyRun.{CopyRun}
+use Rattle.cap_canon.specs.Prelude.{first_place, below, own_size, IsWalking, longest_copy, work_left, CopyRun}
+use Rattle.cap_canon.specs.StillToLay.{runs_left}
 use Rattle.cap_canon.proofs.Entering.{entered, room_above, work_more}
 use Rattle.cap_canon.proofs.Lengths.{own_within}
 use Rattle.cap_canon.proofs.Owing.{next_work}

@@ -1,5 +1,4 @@
-use Rattle.std.proofs.Common.{◌≡◌, ℕ, ◌+◌, ◌*◌, ◌<◌}
-use Rattle.cap_spec.specs.Messages.{HasWord}
+use Rattle.cap_spec.proofs.Prelude.{ℕ, ◌*◌, ◌+◌, ◌<◌, ◌≡◌, HasWord}
 use Rattle.cap_canon.proofs.wholeness.first_set.Given as goal
 
 abbrev pub invariant-elements : goal.invariant-elements

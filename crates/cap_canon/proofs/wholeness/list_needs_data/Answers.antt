@@ -1,4 +1,4 @@
-use Rattle.std.proofs.Common.{◌+◌, ◌-◌, ◌<◌, arith, refl}
+use Rattle.std.proofs.Common.{arith, refl, ◌+◌, ◌-◌, ◌<◌}
 use Rattle.cap_canon.proofs.Needed.{most_within}
 use Rattle.cap_canon.proofs.WholeObjects.{element_inside, most_all, most_short}
 use Rattle.cap_canon.proofs.wholeness.list_needs_data.Goals as goal

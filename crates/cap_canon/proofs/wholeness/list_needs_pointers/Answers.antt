@@ -1,7 +1,6 @@
-use Rattle.std.proofs.Common.{◌+◌, ◌-◌, ◌*◌, ◌<◌, ◌≡◌, ap, arith, inl, inr, subst}
-use Rattle.cap_spec.specs.Messages.{HasWord}
-use Rattle.cap_spec.specs.Pointers.{kind}
-use Rattle.cap_canon.proofs.WholeObjects.{element_inside, elements_empty, elements_short, elements_whole, isnt_null_word}
+use Rattle.cap_spec.proofs.Prelude.{ap, arith, inl, inr, subst, ◌*◌, ◌+◌, ◌-◌, ◌<◌, ◌≡◌, HasWord, kind}
+use Rattle.cap_canon.proofs.WholeObjects.{element_inside, elements_empty, elements_short, elements_whole}
+use Rattle.cap_canon.proofs.WholeObjects.{isnt_null_word}
 use Rattle.cap_canon.proofs.wholeness.list_needs_pointers.Goals as goal
 
 pub returns-then-pointers-eq0-clause-yes : goal.returns-then-pointers-eq0-clause-yes

@@ -1,4 +1,4 @@
-use Rattle.std.proofs.Common.{◌≡◌, ◌∙◌, false, true, inl, inr, sym}
+use Rattle.std.proofs.Common.{false, inl, inr, sym, true, ◌∙◌, ◌≡◌}
 use Rattle.cap_canon.proofs.wholeness.needs_all.Goals as goal
 
 pub returns-then-not-needs_data-clause-no : goal.returns-then-not-needs_data-clause-no

@@ -1,4 +1,4 @@
-use Rattle.std.proofs.Common.{◌<◌, arith, refl}
+use Rattle.std.proofs.Common.{arith, refl, ◌<◌}
 use Rattle.cap_canon.proofs.Needed.{range_needed}
 use Rattle.cap_canon.proofs.WholeObjects.{data_last, data_short}
 use Rattle.cap_canon.proofs.wholeness.needs_data.Goals as goal

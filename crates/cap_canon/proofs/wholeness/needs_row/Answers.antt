@@ -1,5 +1,4 @@
-use Rattle.std.proofs.Common.{◌+◌, ◌-◌, ◌<◌, arith, inl, inr, subst}
-use Rattle.cap_spec.specs.Messages.{HasWord}
+use Rattle.cap_spec.proofs.Prelude.{arith, inl, inr, subst, ◌+◌, ◌-◌, ◌<◌, HasWord}
 use Rattle.cap_canon.proofs.WholeObjects.{isnt_null_word, row_empty, row_short, row_whole}
 use Rattle.cap_canon.proofs.wholeness.needs_row.Goals as goal
 

@@ -1,5 +1,4 @@
-use Rattle.std.proofs.Common.{◌*◌, ◌∙◌, arith, rules}
-use Rattle.std.proofs.lemmas.Slice.{drop-put_mid}
+use Rattle.cap_spec.proofs.Prelude.{arith, rules, ◌*◌, ◌∙◌, drop-put_mid}
 use Rattle.cap_canon.proofs.FirstWords.{words_put}
 use Rattle.cap_canon.proofs.word_bytes.write_word.Goals as goal
 

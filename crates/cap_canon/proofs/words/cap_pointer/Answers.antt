@@ -1,4 +1,4 @@
-use Rattle.std.proofs.Common.{◌+◌, ◌*◌, ◌^◌, arith, sym}
+use Rattle.std.proofs.Common.{arith, sym, ◌*◌, ◌+◌, ◌^◌}
 use Rattle.cap_canon.proofs.PointerForms.{cap_form}
 use Rattle.cap_canon.proofs.words.cap_pointer.Goals as goal
 

@@ -1,6 +1,4 @@
-use Rattle.std.proofs.Common.{◌∙◌, ap, arith, sym, w32}
-use Rattle.std.proofs.lemmas.Int.{to_z_pos}
-use Rattle.cap_spec.specs.Canonical.{list_word}
+use Rattle.cap_spec.proofs.Prelude.{ap, arith, sym, w32, ◌∙◌, to_z_pos, list_word}
 use Rattle.cap_ptr.specs.declared.forms.Pointer.TheVariants.{List}
 use Rattle.cap_canon.proofs.PointerForms.{list_form}
 use Rattle.cap_canon.proofs.words.list_pointer.Goals as goal

@@ -1,9 +1,5 @@
-use Rattle.std.proofs.Common.{◌∙◌, ap, sym}
-use Rattle.std.proofs.lemmas.List.FromFn.{length-map-range_with_len}
-use Rattle.cap_spec.specs.Messages.{segment_of}
-use Rattle.cap_spec.specs.Pointers.{element_bits}
-use Rattle.cap_spec.specs.Denoting.{value_at}
-use Rattle.cap_spec.specs.Canonical.{list_word, pointer_to}
+use Rattle.cap_spec.proofs.Prelude.{ap, sym, ◌∙◌, length-map-range_with_len, list_word, pointer_to, value_at}
+use Rattle.cap_spec.proofs.Prelude.{segment_of, element_bits}
 use Rattle.cap_canon.proofs.words.pointer_word.Goals as goal
 
 pub returns-in-Scalars : goal.returns-in-Scalars

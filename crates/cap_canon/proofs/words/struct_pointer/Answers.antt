@@ -1,6 +1,4 @@
-use Rattle.std.proofs.Common.{◌∙◌, ◌+◌, ◌<◌, ap, arith, sym, w32}
-use Rattle.std.proofs.lemmas.Int.{to_z_pos}
-use Rattle.cap_spec.specs.Canonical.{struct_word}
+use Rattle.cap_spec.proofs.Prelude.{ap, arith, sym, w32, ◌+◌, ◌<◌, ◌∙◌, to_z_pos, struct_word}
 use Rattle.cap_ptr.specs.declared.forms.Pointer.TheVariants.{Struct}
 use Rattle.cap_canon.proofs.PointerForms.{not_null, struct_form}
 use Rattle.cap_canon.proofs.words.struct_pointer.Goals as goal

@@ -1,6 +1,4 @@
-use Rattle.std.proofs.Common.{◌∙◌, ap, subst, sym}
-use Rattle.std.specs.Io.KnownBytes.{append_known}
-use Rattle.cap_spec.specs.Plain.{plain_text}
+use Rattle.cap_spec.proofs.Prelude.{ap, subst, sym, ◌∙◌, append_known, plain_text}
 use Rattle.cap_cmd.specs.Jobs.{GivesOutput}
 use Rattle.cap_cmd.proofs.running.canon_over.Goals as goal
 

@@ -1,4 +1,4 @@
-use Rattle.std.proofs.Common.{◌∙◌, ap, subst, sym}
+use Rattle.std.proofs.Common.{ap, subst, sym, ◌∙◌}
 use Rattle.cap_cmd.specs.Jobs.{GivesOutput}
 use Rattle.cap_cmd.proofs.running.pack_over.Goals as goal
 

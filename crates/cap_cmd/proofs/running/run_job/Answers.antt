@@ -1,6 +1,6 @@
-use Rattle.std.proofs.Common.{◌∙◌, false, sym, true}
-use Rattle.cap_pack.specs.Input.{unpacker_input}
+use Rattle.std.proofs.Common.{false, sym, true, ◌∙◌}
 use Rattle.cap_words.specs.Inner.{input_of}
+use Rattle.cap_pack.specs.Input.{unpacker_input}
 use Rattle.cap_cmd.proofs.JobEnds.{job_writes_all}
 use Rattle.cap_cmd.proofs.running.run_job.Goals as goal
 

@@ -1,5 +1,5 @@
 -- The command so far is not broken.
-use Rattle.std.proofs.Common.{◌≡◌, false}
+use Rattle.std.proofs.Common.{false, ◌≡◌}
 use Rattle.clap.specs.Words.{is_broken}
 use Rattle.cap_commands.proofs.commands.command_of.Given as goal
 

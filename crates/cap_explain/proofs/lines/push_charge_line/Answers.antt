@@ -1,4 +1,4 @@
-use Rattle.std.proofs.Common.{◌++◌, ◌∷◌, [], codes, decimal}
+use Rattle.std.proofs.Common.{[], codes, decimal, ◌++◌, ◌∷◌}
 use Rattle.cap_explain.proofs.Appends.{then}
 use Rattle.cap_explain.proofs.lines.push_charge_line.Goals as goal
 

@@ -1,5 +1,4 @@
-use Rattle.std.proofs.Common.{◌++◌, ◌∷◌, ◌∙◌, ◌≡◌, [], ap, codes, decimal}
-use Rattle.cap_spec.specs.Pointers.{list_size}
+use Rattle.cap_spec.proofs.Prelude.{[], ap, codes, decimal, ◌++◌, ◌∙◌, ◌∷◌, ◌≡◌, list_size}
 use Rattle.cap_explain.specs.Explaining.{needed}
 use Rattle.cap_explain.proofs.Appends.{then}
 use Rattle.cap_explain.proofs.lines.push_elements_line.Goals as goal

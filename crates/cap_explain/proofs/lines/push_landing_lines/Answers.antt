@@ -1,5 +1,4 @@
-use Rattle.std.proofs.Common.{◌+◌, ◌++◌, ap, ◌∙◌, sym, ◌≡◌}
-use Rattle.cap_spec.specs.Pointers.{far_segment, pad}
+use Rattle.cap_spec.proofs.Prelude.{ap, sym, ◌++◌, ◌+◌, ◌∙◌, ◌≡◌, far_segment, pad}
 use Rattle.cap_explain.specs.Explaining.{landing_lines, pad_line}
 use Rattle.cap_explain.proofs.Appends.{then}
 use Rattle.cap_explain.proofs.lines.push_landing_lines.Goals as goal

@@ -1,4 +1,4 @@
-use Rattle.std.proofs.Common.{◌+◌, ◌++◌, ◌∷◌, ◌∙◌, ◌≡◌, [], ap, codes, decimal}
+use Rattle.std.proofs.Common.{[], ap, codes, decimal, ◌++◌, ◌+◌, ◌∙◌, ◌∷◌, ◌≡◌}
 use Rattle.cap_explain.proofs.Appends.{then}
 use Rattle.cap_explain.proofs.lines.push_level_line.Goals as goal
 

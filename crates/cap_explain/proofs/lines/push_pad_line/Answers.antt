@@ -1,4 +1,4 @@
-use Rattle.std.proofs.Common.{◌++◌, ◌∷◌, codes}
+use Rattle.std.proofs.Common.{codes, ◌++◌, ◌∷◌}
 use Rattle.cap_explain.specs.Explaining.{word_text}
 use Rattle.cap_explain.specs.FormTexts.{place_text}
 use Rattle.cap_explain.proofs.Appends.{then}

@@ -1,4 +1,4 @@
-use Rattle.std.proofs.Common.{◌++◌, ◌∷◌, ap, ◌∙◌, sym, codes}
+use Rattle.std.proofs.Common.{ap, codes, sym, ◌++◌, ◌∙◌, ◌∷◌}
 use Rattle.cap_explain.specs.Explaining.{tag_line, tag_word, target_place}
 use Rattle.cap_explain.proofs.Appends.{then}
 use Rattle.cap_explain.proofs.lines.push_tag_line.Goals as goal

@@ -1,6 +1,4 @@
-use Rattle.std.proofs.Common.{◌≡◌, ◌≤◌, ◌+◌, ◌*◌, ◌++◌, length, take}
-use Rattle.std.specs.List.{flat_map}
-use Rattle.cap_spec.specs.PathTexts.{step_text}
+use Rattle.cap_spec.proofs.Prelude.{flat_map, length, take, ◌*◌, ◌++◌, ◌+◌, ◌≡◌, ◌≤◌, step_text}
 use Rattle.cap_explain.proofs.path.push_steps.Given as goal
 
 abbrev pub invariant-loop-step : goal.invariant-loop-step

@@ -1,7 +1,8 @@
 use Rattle.std.proofs.Common.{arith, sym}
 use Rattle.cap_explain.proofs.Places.{no_segment, no_word}
+use Rattle.cap_explain.proofs.words.word_of.Goals.{then-s-count-via-else-s-count+then-w-from}
+use Rattle.cap_explain.proofs.words.word_of.Goals.{then-s-count-via-then-s-count}
 use Rattle.cap_explain.proofs.words.word_of.Goals as goal
-use Rattle.cap_explain.proofs.words.word_of.Goals.{then-s-count-via-then-s-count, then-s-count-via-else-s-count+then-w-from}
 
 pub returns-then-s-count : goal.returns-then-s-count
 returns-then-s-count g c =

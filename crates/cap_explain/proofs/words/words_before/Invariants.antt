@@ -1,4 +1,4 @@
-use Rattle.std.proofs.Common.{◌≡◌, ◌≤◌, ◌*◌, ◌^◌}
+use Rattle.std.proofs.Common.{◌*◌, ◌^◌, ◌≡◌, ◌≤◌}
 use Rattle.cap_vet.specs.Taken.{start_of}
 use Rattle.cap_explain.proofs.words.words_before.Given as goal
 

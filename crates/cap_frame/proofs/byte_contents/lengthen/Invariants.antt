@@ -1,5 +1,4 @@
-use Rattle.std.proofs.Common.{◌≡◌, ◌≤◌, ◌-◌, ◌++◌, ℕ, List}
-use Rattle.std.specs.Vec.{vec_len, vec_capacity}
+use Rattle.std.proofs.Common.{List, vec_capacity, vec_len, ℕ, ◌++◌, ◌-◌, ◌≡◌, ◌≤◌}
 use Rattle.cap_frame.proofs.byte_contents.lengthen.Given as goal
 
 abbrev pub invariant-steps : goal.invariant-steps

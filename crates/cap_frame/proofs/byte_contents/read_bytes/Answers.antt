@@ -1,7 +1,7 @@
 -- Each piece reads on behind those before it.
-use Rattle.std.proofs.Common.{◌%◌, ◌+◌, ◌≡◌, ◌≤◌, ◌*◌, arith}
-use Rattle.cap_frame.proofs.Taking.{reads_both}
+use Rattle.std.proofs.Common.{arith, ◌%◌, ◌*◌, ◌+◌, ◌≡◌, ◌≤◌}
 use Rattle.cap_frame.proofs.InOneBuffer.{bytes_more, bytes_stop}
+use Rattle.cap_frame.proofs.Taking.{reads_both}
 use Rattle.cap_frame.proofs.byte_contents.read_bytes.Goals as goal
 
 pub pieces-preserved : goal.pieces-preserved

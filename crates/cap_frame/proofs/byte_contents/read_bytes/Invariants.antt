@@ -1,5 +1,4 @@
-use Rattle.std.proofs.Common.{◌-◌, ◌≤◌}
-use Rattle.std.specs.Vec.{vec_capacity}
+use Rattle.std.proofs.Common.{vec_capacity, ◌-◌, ◌≤◌}
 use Rattle.cap_frame.proofs.InOneBuffer.{BytesSoFar}
 use Rattle.cap_frame.proofs.byte_contents.read_bytes.Given as goal
 

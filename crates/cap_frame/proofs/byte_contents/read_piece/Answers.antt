@@ -1,5 +1,5 @@
 -- The words of a piece stand behind those that were read before.
-use Rattle.std.proofs.Common.{◌≡◌, ◌∙◌, ◌-◌, length, refl, arith}
+use Rattle.std.proofs.Common.{arith, length, refl, ◌-◌, ◌∙◌, ◌≡◌}
 use Rattle.cap_frame.proofs.InOneBuffer.{piece_in}
 use Rattle.cap_frame.proofs.byte_contents.read_piece.Goals as goal
 

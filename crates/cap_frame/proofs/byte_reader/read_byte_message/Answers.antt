@@ -1,4 +1,4 @@
-use Rattle.std.proofs.Common.{Ok, Err, false}
+use Rattle.std.proofs.Common.{Err, Ok, false}
 use Rattle.cap_frame.proofs.Reading.{no_frame}
 use Rattle.cap_frame.proofs.byte_reader.read_byte_message.Goals as goal
 

@@ -1,12 +1,10 @@
 -- Each number of the table is one more size.
-use Rattle.std.proofs.Common.{◌≡◌, ◌+◌, ◌*◌, ◌≤◌, ◌∙◌, ◌∷◌, ◌++◌, [], ap, sym, drop, length, arith, length-append}
-use Rattle.std.proofs.lemmas.List.{take_rest}
-use Rattle.byteorder.specs.Endian.{little_number}
-use Rattle.cap_spec.specs.Plain.{plain_words}
+use Rattle.cap_spec.proofs.Prelude.{[], ap, arith, drop, length, length-append, sym, ◌*◌, ◌++◌, ◌+◌, ◌∙◌, ◌∷◌, ◌≡◌, ◌≤◌}
+use Rattle.cap_spec.proofs.Prelude.{take_rest, little_number, plain_words}
+use Rattle.cap_words.proofs.AtHand.{bytes_small}
 use Rattle.cap_frame.specs.Fronts.{sizes_told}
 use Rattle.cap_frame.proofs.Cuts.{words_all}
 use Rattle.cap_frame.proofs.Halves.{more_told}
-use Rattle.cap_words.proofs.AtHand.{bytes_small}
 use Rattle.cap_frame.proofs.framed.fill_sizes.Goals as goal
 
 pub sizes-preserved : goal.sizes-preserved

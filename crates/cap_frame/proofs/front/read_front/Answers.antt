@@ -1,10 +1,9 @@
 -- What each answer tells of the bytes.
-use Rattle.std.proofs.Common.{◌+◌, ◌*◌, ◌/◌, ◌∙◌, ap, arith}
-use Rattle.std.proofs.lemmas.Bool.Decides.{nat_tests}
-use Rattle.cap_frame.specs.Fronts.{table_words}
-use Rattle.cap_frame.specs.Limit.{limit_of}
-use Rattle.cap_frame.proofs.Fronts.{begins, has_table, is_front, no_contents, no_first, no_table, tells_large, tells_many}
+use Rattle.cap_spec.proofs.Prelude.{ap, arith, ◌*◌, ◌+◌, ◌/◌, ◌∙◌, nat_tests}
 use Rattle.cap_words.proofs.AtHand.{bytes_small}
+use Rattle.cap_frame.specs.Prelude.{table_words, limit_of}
+use Rattle.cap_frame.proofs.Fronts.{begins, has_table, is_front, no_contents, no_first, no_table, tells_large}
+use Rattle.cap_frame.proofs.Fronts.{tells_many}
 use Rattle.cap_frame.proofs.front.read_front.Goals as goal
 
 pub returns-then-bytes-lt8 : goal.returns-then-bytes-lt8

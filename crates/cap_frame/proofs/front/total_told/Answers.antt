@@ -1,12 +1,10 @@
 -- Each number of the table adds to the sum.
-use Rattle.std.proofs.Common.{◌≡◌, ◌+◌, ◌*◌, ◌≤◌, ◌∙◌, ap, sum, drop, length, arith}
-use Rattle.std.proofs.lemmas.List.{take_rest}
-use Rattle.byteorder.specs.Endian.{little_number}
-use Rattle.cap_spec.specs.Plain.{plain_words}
+use Rattle.cap_spec.proofs.Prelude.{ap, arith, drop, length, sum, ◌*◌, ◌+◌, ◌∙◌, ◌≡◌, ◌≤◌, take_rest, little_number}
+use Rattle.cap_spec.proofs.Prelude.{plain_words}
+use Rattle.cap_words.proofs.AtHand.{bytes_small}
 use Rattle.cap_frame.specs.Fronts.{sizes_told}
 use Rattle.cap_frame.proofs.Cuts.{words_all}
 use Rattle.cap_frame.proofs.Halves.{more_total}
-use Rattle.cap_words.proofs.AtHand.{bytes_small}
 use Rattle.cap_frame.proofs.front.total_told.Goals as goal
 
 pub sizes-preserved : goal.sizes-preserved

@@ -1,5 +1,5 @@
 -- The table and the contents behind it frame the message.
-use Rattle.std.proofs.Common.{Ok, Err, false, sym}
+use Rattle.std.proofs.Common.{Err, Ok, false, sym}
 use Rattle.cap_frame.proofs.Reading.{frame_stopped, frame_taken, no_frame}
 use Rattle.cap_frame.proofs.outline_reader.read_outline.Goals as goal
 

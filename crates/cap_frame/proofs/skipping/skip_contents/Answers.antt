@@ -1,4 +1,4 @@
-use Rattle.std.proofs.Common.{◌∙◌, [], ◌∷◌, Some, None, arith}
+use Rattle.std.proofs.Common.{None, Some, [], arith, ◌∙◌, ◌∷◌}
 use Rattle.cap_frame.proofs.Skips.{cut_no_root, cut_root, first_of_sum, skipped_all}
 use Rattle.cap_frame.proofs.Taking.{reads_both, takes_both}
 use Rattle.cap_frame.proofs.skipping.skip_contents.Goals as goal

@@ -1,5 +1,4 @@
-use Rattle.std.proofs.Common.{◌*◌, arith}
-use Rattle.std.proofs.lemmas.List.{length-take-le}
+use Rattle.std.proofs.Common.{arith, length-take-le, ◌*◌}
 use Rattle.cap_frame.proofs.Contents.{words_stop}
 use Rattle.cap_frame.proofs.Skips.{skipped_more, skipped_none}
 use Rattle.cap_frame.proofs.Taking.{reads_both}

@@ -1,8 +1,6 @@
 -- What is said after the first word, seen from before it.
-use Rattle.std.proofs.Common.{◌∙◌, Ok, Err, true, refl, arith, subst, sym}
-use Rattle.std.proofs.lemmas.Grind.{common_steps}
-use Rattle.cap_frame.specs.Limit.{limit_of}
-use Rattle.cap_frame.specs.ReadingFaults.{Faults}
+use Rattle.cap_spec.proofs.Prelude.{Err, Ok, arith, refl, subst, sym, true, ◌∙◌, common_steps}
+use Rattle.cap_frame.specs.Prelude.{limit_of, Faults}
 use Rattle.cap_frame.proofs.Behind.{behind_first, table_whole}
 use Rattle.cap_frame.proofs.Reading.{gave, next_first}
 use Rattle.cap_frame.proofs.Taking.{reads_none, reads_one, usable_both}

@@ -1,8 +1,8 @@
 -- Each word appends its halves to the sizes, as far as there are sizes to come.
-use Rattle.cap_frame.proofs.Taking.{reads_both}
 use Rattle.std.proofs.Common.{arith, ◌%◌, ◌+◌, ◌/◌, ◌<◌, ◌^◌}
 use Rattle.cap_spec.proofs.Frames.OneEnding.{makes_table}
 use Rattle.cap_frame.proofs.Tables.{table_more, table_room, table_stops}
+use Rattle.cap_frame.proofs.Taking.{reads_both}
 use Rattle.cap_frame.proofs.table.read_sizes.Goals as goal
 
 pub push_halves-requires-clause-room : goal.push_halves-requires-clause-room

@@ -1,5 +1,5 @@
 -- Whole words out of bytes.
-use Rattle.std.proofs.Common.{arith, ◌≡◌, ◌*◌, ◌+◌, ◌-◌, take, drop, ap}
+use Rattle.std.proofs.Common.{ap, arith, drop, take, ◌*◌, ◌+◌, ◌-◌, ◌≡◌}
 use Rattle.cap_frame.proofs.Parts.{part_text}
 use Rattle.cap_frame.proofs.view.words_at.Goals as goal
 

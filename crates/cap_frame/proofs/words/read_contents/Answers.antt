@@ -1,7 +1,6 @@
-use Rattle.cap_frame.proofs.Taking.{reads_both}
+use Rattle.std.proofs.Common.{get_or, refl, vec_capacity}
 use Rattle.cap_frame.proofs.Contents.{segments_more, segments_start, segments_stop}
-use Rattle.std.proofs.Common.{get_or, refl}
-use Rattle.std.specs.Vec.{vec_capacity}
+use Rattle.cap_frame.proofs.Taking.{reads_both}
 use Rattle.cap_frame.proofs.words.read_contents.Goals as goal
 
 pub segments-init : goal.segments-init

@@ -1,4 +1,4 @@
-use Rattle.std.specs.Vec.{vec_capacity}
+use Rattle.std.proofs.Common.{vec_capacity}
 use Rattle.cap_frame.proofs.Contents.{SegmentsSoFar}
 use Rattle.cap_frame.proofs.words.read_contents.Given as goal
 

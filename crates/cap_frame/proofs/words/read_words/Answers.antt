@@ -1,6 +1,6 @@
-use Rattle.cap_frame.proofs.Taking.{reads_both}
 use Rattle.std.proofs.Common.{arith}
 use Rattle.cap_frame.proofs.Contents.{words_more, words_stop}
+use Rattle.cap_frame.proofs.Taking.{reads_both}
 use Rattle.cap_frame.proofs.words.read_words.Goals as goal
 
 pub returns-in-Err-clause-err : goal.returns-in-Err-clause-err

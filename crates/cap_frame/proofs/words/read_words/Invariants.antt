@@ -1,5 +1,4 @@
-use Rattle.std.proofs.Common.{◌≤◌}
-use Rattle.std.specs.Vec.{vec_capacity}
+use Rattle.std.proofs.Common.{vec_capacity, ◌≤◌}
 use Rattle.cap_frame.proofs.Contents.{WordsSoFar}
 use Rattle.cap_frame.proofs.words.read_words.Given as goal
 

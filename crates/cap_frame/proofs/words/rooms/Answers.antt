@@ -1,6 +1,5 @@
-use Rattle.std.proofs.Common.{◌≡◌, ℕ, ◌+◌, [], ◌∷◌, ◌++◌, take, get_or}
+use Rattle.std.proofs.Common.{[], get_or, take, vec_capacity, ℕ, ◌++◌, ◌+◌, ◌∷◌, ◌≡◌}
 use Rattle.std.proofs.lemmas.List.{take_more}
-use Rattle.std.specs.Vec.{vec_capacity}
 use Rattle.cap_frame.proofs.Contents.{rooms_more}
 use Rattle.cap_frame.proofs.words.rooms.Goals as goal
 

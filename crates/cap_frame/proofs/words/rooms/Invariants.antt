@@ -1,5 +1,4 @@
-use Rattle.std.proofs.Common.{take}
-use Rattle.std.specs.Vec.{vec_capacity}
+use Rattle.std.proofs.Common.{take, vec_capacity}
 use Rattle.cap_frame.specs.Rooms.{AreRooms}
 use Rattle.cap_frame.proofs.words.rooms.Given as goal
 

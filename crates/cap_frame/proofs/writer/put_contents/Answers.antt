@@ -1,8 +1,6 @@
 -- Each turn puts the next segment.
-use Rattle.std.proofs.Common.{arith, ◌+◌, drop}
-use Rattle.cap_spec.specs.Frames.{joined}
-use Rattle.cap_spec.specs.Messages.{segment_of}
-use Rattle.cap_frame.proofs.Putting.{leaves_less, leaves_halts, segments_from}
+use Rattle.cap_spec.proofs.Prelude.{arith, drop, ◌+◌, joined, segment_of}
+use Rattle.cap_frame.proofs.Putting.{leaves_halts, leaves_less, segments_from}
 use Rattle.cap_frame.proofs.writer.put_contents.Goals as goal
 
 pub returns-in-Err : goal.returns-in-Err

@@ -1,5 +1,4 @@
-use Rattle.std.proofs.Common.{drop}
-use Rattle.cap_spec.specs.Frames.{joined}
+use Rattle.cap_spec.proofs.Prelude.{drop, joined}
 use Rattle.cap_frame.proofs.Putting.{Leaves}
 use Rattle.cap_frame.proofs.writer.put_contents.Given as goal
 

@@ -1,8 +1,7 @@
 -- Each turn puts the next word of the segment.
-use Rattle.std.proofs.Common.{◌+◌, [], ◌∷◌, drop}
-use Rattle.cap_spec.specs.Messages.{segment_of}
 use Rattle.cap_spec.proofs.Canonical.Placing.{rest_at}
-use Rattle.cap_frame.proofs.Putting.{puts_of, halts_of, leaves_less, leaves_halts}
+use Rattle.cap_spec.proofs.Prelude.{[], drop, ◌+◌, ◌∷◌, segment_of}
+use Rattle.cap_frame.proofs.Putting.{halts_of, leaves_halts, leaves_less, puts_of}
 use Rattle.cap_frame.proofs.writer.put_segment.Goals as goal
 
 pub returns-in-Err : goal.returns-in-Err

@@ -1,8 +1,7 @@
 -- Each turn puts the next word of the table.
-use Rattle.std.proofs.Common.{arith, ◌+◌, ◌*◌, [], ◌∷◌, drop}
-use Rattle.cap_spec.specs.Frames.{paired}
+use Rattle.cap_spec.proofs.Prelude.{[], arith, drop, ◌*◌, ◌+◌, ◌∷◌, paired}
 use Rattle.cap_frame.specs.Numbers.{numbers_of}
-use Rattle.cap_frame.proofs.Putting.{puts_of, halts_of, leaves_less, leaves_halts, table_from}
+use Rattle.cap_frame.proofs.Putting.{halts_of, leaves_halts, leaves_less, puts_of, table_from}
 use Rattle.cap_frame.proofs.writer.put_sizes.Goals as goal
 
 pub returns-in-Err : goal.returns-in-Err

@@ -1,10 +1,8 @@
 -- Each turn writes one word more.
-use Rattle.std.proofs.Common.{◌≡◌, ◌+◌, ◌-◌, ◌*◌, ◌/◌, ◌++◌, ◌∙◌, ℕ, ap, arith, length, take}
-use Rattle.std.proofs.lemmas.Slice.{take-put_mid}
-use Rattle.cap_spec.specs.Plain.{word_bytes}
+use Rattle.cap_spec.proofs.Prelude.{ap, arith, length, take, ℕ, ◌*◌, ◌++◌, ◌+◌, ◌-◌, ◌/◌, ◌∙◌, ◌≡◌, take-put_mid}
+use Rattle.cap_spec.proofs.Prelude.{put_mid, word_bytes}
 use Rattle.cap_frame.proofs.TableBytes.{table_all, table_back, table_more}
 use Rattle.cap_frame.proofs.writer.table_into.Goals as goal
-use borrow.Rule.Slice.PartMut.{put_mid}
 
 pub table-preserved : goal.table-preserved
 table-preserved g c =

@@ -1,6 +1,4 @@
-use Rattle.std.proofs.Common.{◌≡◌, ◌*◌, ◌++◌, drop, take}
-use Rattle.cap_spec.specs.Frames.{paired}
-use Rattle.cap_spec.specs.Plain.{plain_text}
+use Rattle.cap_spec.proofs.Prelude.{drop, take, ◌*◌, ◌++◌, ◌≡◌, paired, plain_text}
 use Rattle.cap_frame.specs.Numbers.{numbers_of}
 use Rattle.cap_frame.proofs.writer.table_into.Given as goal
 

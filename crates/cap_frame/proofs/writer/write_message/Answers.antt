@@ -1,6 +1,5 @@
 -- The first word, the rest of the table, and the contents.
-use Rattle.std.proofs.Common.{sym, subst, refl, append-nil, List, ℕ, [], ◌∷◌, ◌++◌}
-use Rattle.cap_spec.specs.Frames.{joined, frame_text}
+use Rattle.cap_spec.proofs.Prelude.{List, [], append-nil, refl, subst, sym, ℕ, ◌++◌, ◌∷◌, frame_text, joined}
 use Rattle.cap_frame.specs.Numbers.{table_rest}
 use Rattle.cap_frame.specs.Putting.{Halts}
 use Rattle.cap_frame.proofs.Putting.{frame_from, halts_before, halts_of, leaves_halts, leaves_less, leaves_none, starts}

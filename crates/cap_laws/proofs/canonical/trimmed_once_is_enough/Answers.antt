@@ -1,6 +1,5 @@
-use Rattle.std.proofs.Common.{ap}
-use Rattle.cap_spec.specs.Canonical.{layout}
 use Rattle.cap_spec.proofs.Canonical.Trimming.{trim-trim}
+use Rattle.cap_spec.proofs.Prelude.{ap, layout}
 use Rattle.cap_laws.proofs.canonical.trimmed_once_is_enough.Goals as goal
 
 pub returns-clause-tree : goal.returns-clause-tree

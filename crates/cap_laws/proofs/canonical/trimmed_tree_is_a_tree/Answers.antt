@@ -1,4 +1,4 @@
-use Rattle.cap_spec.proofs.Canonical.TrimmedTrees.{trimmed_is_tree, has_cap-trim}
+use Rattle.cap_spec.proofs.Canonical.TrimmedTrees.{has_cap-trim, trimmed_is_tree}
 use Rattle.cap_laws.proofs.canonical.trimmed_tree_is_a_tree.Goals as goal
 
 pub returns-clause-tree : goal.returns-clause-tree

@@ -1,4 +1,4 @@
-use Rattle.cap_laws.proofs.FrameBytes.{frames_in_bytes, bytes_frame}
+use Rattle.cap_laws.proofs.FrameBytes.{bytes_frame, frames_in_bytes}
 use Rattle.cap_laws.proofs.framing.frames_by_bytes.Goals as goal
 
 pub returns : goal.returns

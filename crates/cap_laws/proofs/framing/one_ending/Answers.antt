@@ -1,4 +1,4 @@
-use Rattle.cap_spec.proofs.Frames.OneEnding.{some_ending, one_ending}
+use Rattle.cap_spec.proofs.Frames.OneEnding.{one_ending, some_ending}
 use Rattle.cap_laws.proofs.framing.one_ending.Goals as goal
 
 pub returns : goal.returns

@@ -1,7 +1,6 @@
-use Rattle.std.proofs.Common.{sym, subst}
-use Rattle.cap_spec.specs.Unpacking.{Cut}
-use Rattle.cap_spec.proofs.Packed.Groups.{cut_words, cut_is_cut}
+use Rattle.cap_spec.proofs.Packed.Groups.{cut_is_cut, cut_words}
 use Rattle.cap_spec.proofs.Packed.OneUnpacking.{cut_if_cut}
+use Rattle.cap_spec.proofs.Prelude.{subst, sym, Cut}
 use Rattle.cap_laws.proofs.packing.cut_as_computed.Goals as goal
 
 pub returns : goal.returns

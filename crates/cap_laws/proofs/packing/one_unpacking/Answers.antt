@@ -1,5 +1,5 @@
 use Rattle.cap_spec.specs.Unpacking.{unpacked}
-use Rattle.cap_spec.proofs.Packed.OneUnpacking.{becomes, either, words_of_either, unpacks_not_cut}
+use Rattle.cap_spec.proofs.Packed.OneUnpacking.{becomes, either, unpacks_not_cut, words_of_either}
 use Rattle.cap_laws.proofs.packing.one_unpacking.Goals as goal
 
 pub returns : goal.returns

@@ -1,7 +1,6 @@
-use Rattle.std.proofs.Common.{sym, subst}
-use Rattle.cap_spec.specs.Unpacking.{Unpacks}
-use Rattle.cap_spec.proofs.Packed.Groups.{unpacks_words, unpacks_whole}
+use Rattle.cap_spec.proofs.Packed.Groups.{unpacks_whole, unpacks_words}
 use Rattle.cap_spec.proofs.Packed.OneUnpacking.{unpacks_unless_cut}
+use Rattle.cap_spec.proofs.Prelude.{subst, sym, Unpacks}
 use Rattle.cap_laws.proofs.packing.unpacks_as_computed.Goals as goal
 
 pub returns : goal.returns

@@ -1,4 +1,4 @@
-use Rattle.cap_spec.proofs.Paths.PathCounts.{pointers_counted, caps_counted, first_cap}
+use Rattle.cap_spec.proofs.Paths.PathCounts.{caps_counted, first_cap, pointers_counted}
 use Rattle.cap_laws.proofs.paths.counts_are_numbers_of_paths.Goals as goal
 
 pub returns-clause-pointers : goal.returns-clause-pointers

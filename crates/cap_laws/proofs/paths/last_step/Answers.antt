@@ -1,4 +1,4 @@
-use Rattle.cap_spec.proofs.Paths.Walks.{walk_last, coming_last}
+use Rattle.cap_spec.proofs.Paths.Walks.{coming_last, walk_last}
 use Rattle.cap_laws.proofs.paths.last_step.Goals as goal
 
 pub returns-clause-walk : goal.returns-clause-walk

@@ -1,4 +1,4 @@
-use Rattle.cap_spec.proofs.Paths.Walks.{one_step, one_walk, one_coming, one_reached}
+use Rattle.cap_spec.proofs.Paths.Walks.{one_coming, one_reached, one_step, one_walk}
 use Rattle.cap_laws.proofs.paths.one_spot.Goals as goal
 
 pub returns-clause-step : goal.returns-clause-step

@@ -1,4 +1,4 @@
-use Rattle.cap_spec.proofs.Paths.Preorder.{one_tour, Rises-distinct, one_first_cap}
+use Rattle.cap_spec.proofs.Paths.Preorder.{Rises-distinct, one_first_cap, one_tour}
 use Rattle.cap_laws.proofs.paths.one_tour.Goals as goal
 
 pub returns-clause-one : goal.returns-clause-one

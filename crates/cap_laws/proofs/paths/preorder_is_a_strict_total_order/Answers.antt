@@ -1,4 +1,4 @@
-use Rattle.cap_spec.proofs.Paths.Preorder.{Before-irreflexive, Before-trans, Before-total_coming, Before-longer}
+use Rattle.cap_spec.proofs.Paths.Preorder.{Before-irreflexive, Before-longer, Before-total_coming, Before-trans}
 use Rattle.cap_laws.proofs.paths.preorder_is_a_strict_total_order.Goals as goal
 
 pub returns-clause-irreflexive : goal.returns-clause-irreflexive

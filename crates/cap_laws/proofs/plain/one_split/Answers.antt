@@ -1,4 +1,4 @@
-use Rattle.cap_spec.proofs.Bytes.Plain.{plain_split_by, plain_words_of, plain_rest_of}
+use Rattle.cap_spec.proofs.Bytes.Plain.{plain_rest_of, plain_split_by, plain_words_of}
 use Rattle.cap_laws.proofs.plain.one_split.Goals as goal
 
 pub returns : goal.returns

@@ -1,5 +1,4 @@
-use Rattle.cap_spec.proofs.Strict.Faults.{strict_wider}
-use Rattle.cap_spec.proofs.Verdicts.Refusals.{within_not_refused}
+use Rattle.cap_spec.proofs.Lemmas.{strict_wider, within_not_refused}
 use Rattle.cap_laws.proofs.strict.strict_is_accepted.Goals as goal
 
 pub returns-clause-tree : goal.returns-clause-tree

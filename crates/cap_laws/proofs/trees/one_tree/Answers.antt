@@ -1,5 +1,5 @@
 use Rattle.std.proofs.Common.{refl}
-use Rattle.cap_spec.proofs.Trees.OneTree.{one_tree, one_each, one_elements}
+use Rattle.cap_spec.proofs.Trees.OneTree.{one_each, one_elements, one_tree}
 use Rattle.cap_laws.proofs.trees.one_tree.Goals as goal
 
 pub returns-clause-word : goal.returns-clause-word

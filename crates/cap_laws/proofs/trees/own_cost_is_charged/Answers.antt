@@ -1,4 +1,4 @@
-use Rattle.cap_spec.proofs.Trees.Charges.{pads_charged, own_cost, one_cost}
+use Rattle.cap_spec.proofs.Trees.Charges.{one_cost, own_cost, pads_charged}
 use Rattle.cap_laws.proofs.trees.own_cost_is_charged.Goals as goal
 
 pub returns-clause-pads : goal.returns-clause-pads

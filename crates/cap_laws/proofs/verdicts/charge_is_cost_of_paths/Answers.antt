@@ -1,8 +1,7 @@
-use Rattle.cap_spec.proofs.Paths.PathLists.{is_pointer, listed_rise}
-use Rattle.cap_spec.proofs.Paths.PathCounts.{pointer_paths, pointer_path_reached}
-use Rattle.cap_spec.proofs.Paths.PathCosts.{charge_is_cost}
-use Rattle.cap_spec.proofs.Verdicts.OneVerdict.{paths_cost_charge}
 use Rattle.std.proofs.Common.{false}
+use Rattle.cap_spec.proofs.Lemmas.{charge_is_cost, pointer_path_reached, paths_cost_charge}
+use Rattle.cap_spec.proofs.Paths.PathCounts.{pointer_paths}
+use Rattle.cap_spec.proofs.Paths.PathLists.{is_pointer, listed_rise}
 use Rattle.cap_laws.proofs.verdicts.charge_is_cost_of_paths.Goals as goal
 
 pub returns-clause-all : goal.returns-clause-all

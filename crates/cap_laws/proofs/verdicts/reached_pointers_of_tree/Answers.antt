@@ -1,5 +1,5 @@
 use Rattle.cap_spec.proofs.Paths.Deepest.{deepest_reached}
-use Rattle.cap_spec.proofs.Verdicts.OneVerdict.{reached_not_wrong, paths_within_depth}
+use Rattle.cap_spec.proofs.Verdicts.OneVerdict.{paths_within_depth, reached_not_wrong}
 use Rattle.cap_laws.proofs.verdicts.reached_pointers_of_tree.Goals as goal
 
 pub returns-clause-right : goal.returns-clause-right

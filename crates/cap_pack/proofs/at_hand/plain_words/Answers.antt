@@ -1,5 +1,5 @@
-use Rattle.std.proofs.Common.{◌≡◌, ◌*◌, ◌∙◌, arith, length, take, drop, ap}
-use Rattle.std.proofs.lemmas.List.{length-take-le, take-append-le, take-take, take_all}
+use Rattle.std.proofs.Common.{ap, arith, drop, length, length-take-le, take, take-take, take_all, ◌*◌, ◌∙◌, ◌≡◌}
+use Rattle.std.proofs.lemmas.List.{take-append-le}
 use Rattle.cap_pack.proofs.at_hand.plain_words.Goals as goal
 
 pub returns-clause-copied : goal.returns-clause-copied

@@ -1,11 +1,9 @@
-use Rattle.std.proofs.Common.{◌≡◌, ◌-◌, ◌*◌, ◌%◌, ◌+◌, ◌∙◌, ◌++◌, ℕ, List, [], arith, length, take, ap, replicate}
-use Rattle.std.proofs.lemmas.List.{length-take-le}
-use Rattle.cap_spec.specs.Plain.{plain_words}
+use Rattle.cap_spec.proofs.Prelude.{List, [], ap, arith, length, length-take-le, replicate, take, ℕ, ◌%◌, ◌*◌, ◌++◌}
+use Rattle.cap_spec.proofs.Prelude.{◌+◌, ◌-◌, ◌∙◌, ◌≡◌, put_mid, plain_words}
 use Rattle.cap_words.proofs.Filling.{plain_join}
 use Rattle.cap_words.proofs.Turns.{filled, filled_within}
-use Rattle.cap_pack.proofs.AtHand.{gives_zeros, gives_both, gives_plain, zeros_are_words}
+use Rattle.cap_pack.proofs.AtHand.{gives_both, gives_plain, gives_zeros, zeros_are_words}
 use Rattle.cap_pack.proofs.at_hand.run.Goals as goal
-use borrow.Rule.Slice.PartMut.{put_mid}
 
 pub returns-then-given-zeros : goal.returns-then-given-zeros
 returns-then-given-zeros c =

@@ -1,4 +1,4 @@
-use Rattle.std.proofs.Common.{◌-◌, length}
+use Rattle.std.proofs.Common.{length, ◌-◌}
 use Rattle.cap_pack.specs.AtHand.{UnpacksInto}
 use Rattle.cap_pack.proofs.at_hand.unpack.Given as goal
 

@@ -1,5 +1,5 @@
-use Rattle.std.proofs.Common.{ℕ, ◌≡◌, ◌*◌, ◌∙◌, arith, length, take, drop, replicate, ap}
-use Rattle.std.proofs.lemmas.List.{length-take-le, take-append-le, take-replicate, take_all}
+use Rattle.std.proofs.Common.{ap, arith, drop, length, length-take-le, replicate, take, take_all, ℕ, ◌*◌, ◌∙◌, ◌≡◌}
+use Rattle.std.proofs.lemmas.List.{take-append-le, take-replicate}
 use Rattle.cap_pack.proofs.at_hand.zero_words.Goals as goal
 
 pub returns-clause-zeros : goal.returns-clause-zeros

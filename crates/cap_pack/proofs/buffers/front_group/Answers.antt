@@ -1,9 +1,5 @@
 -- The group in front, by the tag of its first word.
-use Rattle.std.proofs.Common.{◌≢◌, ◌∙◌, ap, arith, length}
-use Rattle.std.specs.Prelude.{◌==◌, filter, not}
-use Rattle.std.proofs.lemmas.List.{take_rest}
-use Rattle.cap_spec.specs.Packing.{zero_bytes}
-use Rattle.cap_spec.specs.Plain.{word_bytes}
+use Rattle.cap_spec.proofs.Prelude.{ap, arith, filter, length, not, ◌==◌, ◌∙◌, ◌≢◌, take_rest, zero_bytes, word_bytes}
 use Rattle.cap_pack.proofs.GroupTexts.{full_front, marked_front, tag_full, tag_other, tag_zero, zeros_front}
 use Rattle.cap_pack.proofs.Shuffles.{ones_of_tag}
 use Rattle.cap_pack.proofs.buffers.front_group.Goals as goal

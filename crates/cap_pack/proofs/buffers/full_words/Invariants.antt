@@ -1,6 +1,4 @@
-use Rattle.std.proofs.Common.{◌≡◌, ◌≤◌, ◌-◌, ◌/◌, length, min}
-use Rattle.cap_spec.specs.Packing.{full_run}
-use Rattle.cap_spec.specs.Plain.{plain_words}
+use Rattle.cap_spec.proofs.Prelude.{length, min, ◌-◌, ◌/◌, ◌≡◌, ◌≤◌, full_run, plain_words}
 use Rattle.cap_pack.proofs.buffers.full_words.Given as goal
 
 abbrev pub invariant-loop-count : goal.invariant-loop-count

@@ -1,5 +1,5 @@
 -- The text is written where there is room, and only there.
-use Rattle.std.proofs.Common.{List, ℕ, ap, arith, drop, ◌++◌}
+use Rattle.std.proofs.Common.{List, ap, arith, drop, ℕ, ◌++◌}
 use Rattle.cap_pack.proofs.buffers.pack_into.Goals as goal
 
 pub returns-then-out-len-clause-written : goal.returns-then-out-len-clause-written

@@ -1,8 +1,6 @@
 -- One group more is counted, and no word is left.
-use Rattle.std.proofs.Common.{◌≡◌, ◌+◌, ◌-◌, ◌∙◌, ℕ, List, ap, arith, drop, length, length-append, length-drop, take}
-use Rattle.std.proofs.lemmas.List.{take_rest}
-use Rattle.cap_spec.specs.Packing.{pack_text}
-use Rattle.cap_spec.specs.Plain.{plain_words}
+use Rattle.cap_spec.proofs.Prelude.{List, ap, arith, drop, length, length-append, length-drop, take, ℕ, ◌+◌, ◌-◌, ◌∙◌}
+use Rattle.cap_spec.proofs.Prelude.{◌≡◌, take_rest, pack_text, plain_words}
 use Rattle.cap_pack.specs.GroupTexts.{front_text}
 use Rattle.cap_pack.proofs.GroupTexts.{pack_step}
 use Rattle.cap_pack.proofs.PuttingEach.{no_word}

@@ -1,6 +1,4 @@
-use Rattle.std.proofs.Common.{◌≡◌, ◌≤◌, ◌+◌, ◌-◌, ◌*◌, length, drop}
-use Rattle.cap_spec.specs.Packing.{pack_text}
-use Rattle.cap_spec.specs.Plain.{plain_words}
+use Rattle.cap_spec.proofs.Prelude.{drop, length, ◌*◌, ◌+◌, ◌-◌, ◌≡◌, ◌≤◌, pack_text, plain_words}
 use Rattle.cap_pack.proofs.buffers.packed_len.Given as goal
 
 -- the groups so far are counted

@@ -1,6 +1,4 @@
-use Rattle.std.proofs.Common.{◌∙◌, ◌*◌, ap}
-use Rattle.std.proofs.lemmas.List.{take_rest}
-use Rattle.byteorder.specs.Endian.{little_number}
+use Rattle.cap_spec.proofs.Prelude.{ap, ◌*◌, ◌∙◌, take_rest, little_number}
 use Rattle.cap_pack.proofs.GroupTexts.{word_placed}
 use Rattle.cap_pack.proofs.buffers.word_at.Goals as goal
 

@@ -1,9 +1,9 @@
 -- What was written, by the tag.
-use Rattle.std.proofs.Common.{◌≡◌, ◌≢◌, ◌∙◌, ap, arith, length, refl, sym}
-use Rattle.cap_spec.specs.Packing.{zero_bytes}
+use Rattle.cap_spec.proofs.Prelude.{ap, arith, length, refl, sym, ◌∙◌, ◌≡◌, ◌≢◌, zero_bytes}
 use Rattle.cap_words.proofs.AtHand.{bytes_small}
-use Rattle.cap_pack.proofs.GroupTexts.{full_room, full_written, marked_bytes, marked_room, marked_written, tag_full, tag_other, tag_zero, zeros_written}
 use Rattle.cap_pack.proofs.FullWords.{full_word}
+use Rattle.cap_pack.proofs.GroupTexts.{full_room, full_written, marked_bytes, marked_room, marked_written, tag_full}
+use Rattle.cap_pack.proofs.GroupTexts.{tag_other, tag_zero, zeros_written}
 use Rattle.cap_pack.proofs.buffers.write_group.Goals as goal
 
 pub copy_from_slice-requires-in-255 : goal.copy_from_slice-requires-in-255

@@ -1,11 +1,6 @@
 -- One zero word more, another word, and as many as there may be.
-use Rattle.std.proofs.Common.{◌≡◌, ◌≤◌, ◌∙◌, sym, arith, length, eq-eqb}
-use Rattle.std.specs.Prelude.{◌==◌}
-use Rattle.std.proofs.lemmas.Bool.{ne_eqb}
-use Rattle.cap_spec.specs.Packing.{zero_run}
-use Rattle.cap_spec.specs.Plain.{plain_words}
-use Rattle.cap_spec.proofs.Packed.Packing.{front-le}
-use Rattle.cap_spec.proofs.Bytes.Plain.{words_exact}
+use Rattle.cap_spec.proofs.Lemmas.{words_exact, front-le}
+use Rattle.cap_spec.proofs.Prelude.{arith, eq-eqb, length, ne_eqb, sym, ◌==◌, ◌∙◌, ◌≡◌, ◌≤◌, zero_run, plain_words}
 use Rattle.cap_pack.proofs.Runs.{run_ends, run_more}
 use Rattle.cap_pack.proofs.buffers.zero_words.Goals as goal
 

@@ -1,6 +1,6 @@
 -- The bytes of the head are in front.
-use Rattle.std.proofs.Common.{ℕ, ◌+◌, ◌-◌, ◌≡◌, ◌∙◌, ap, arith, drop, length, length-drop, take, take-take}
-use Rattle.std.proofs.lemmas.List.{length-take-le, take_at}
+use Rattle.std.proofs.Common.{ap, arith, drop, length, length-drop, length-take-le, take, take-take, take_at, ℕ, ◌+◌}
+use Rattle.std.proofs.Common.{◌-◌, ◌∙◌, ◌≡◌}
 use Rattle.cap_pack.proofs.head.after_tag.Goals as goal
 
 pub returns-then-bytes-gt9 : goal.returns-then-bytes-gt9

@@ -1,5 +1,5 @@
-use Rattle.std.proofs.Common.{sym, arith}
-use Rattle.cap_pack.proofs.Heads.{head_rest-zeros, head_rest-plain, head_rest-ones, ones_some}
+use Rattle.std.proofs.Common.{arith, sym}
+use Rattle.cap_pack.proofs.Heads.{head_rest-ones, head_rest-plain, head_rest-zeros, ones_some}
 use Rattle.cap_pack.proofs.head.head_len.Goals as goal
 
 pub returns-in-0-clause-rest : goal.returns-in-0-clause-rest

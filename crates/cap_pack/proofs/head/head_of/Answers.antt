@@ -1,7 +1,6 @@
-use Rattle.std.proofs.Common.{arith, ap, ◌∙◌}
-use Rattle.cap_spec.specs.Unpacking.{spread}
-use Rattle.cap_pack.proofs.Heads.{first_word-zeros, first_word-plain, first_word-marked, zeros_of-zeros}
-use Rattle.cap_pack.proofs.Heads.{zeros_of-others, plain_of-plain, plain_of-others, spread_eight}
+use Rattle.cap_spec.proofs.Prelude.{ap, arith, ◌∙◌, spread}
+use Rattle.cap_pack.proofs.Heads.{first_word-marked, first_word-plain, first_word-zeros, plain_of-others}
+use Rattle.cap_pack.proofs.Heads.{plain_of-plain, spread_eight, zeros_of-others, zeros_of-zeros}
 use Rattle.cap_pack.proofs.head.head_of.Goals as goal
 
 pub returns-in-0-clause-word : goal.returns-in-0-clause-word

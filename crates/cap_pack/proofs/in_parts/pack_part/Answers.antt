@@ -1,13 +1,11 @@
 -- The groups of a piece, or a run that begins with it.
-use Rattle.std.proofs.Common.{◌≡◌, ◌≤◌, ◌*◌, ◌++◌, ◌∙◌, ℕ, List, ap, arith, drop, length, refl, sym, take, take_at, zero-add}
-use Rattle.std.proofs.lemmas.List.{drop-append-le, drop_at, length-take-le}
-use Rattle.cap_spec.specs.Packing.{pack_text}
-use Rattle.cap_spec.specs.Plain.{plain_words}
 use Rattle.cap_spec.proofs.Bytes.Plain.{words_exact}
+use Rattle.cap_spec.proofs.Prelude.{List, ap, arith, drop, drop_at, length, length-take-le, refl, sym, take, take_at}
+use Rattle.cap_spec.proofs.Prelude.{zero-add, ℕ, ◌*◌, ◌++◌, ◌∙◌, ◌≡◌, ◌≤◌, drop-append-le, post_of, pack_text}
+use Rattle.cap_spec.proofs.Prelude.{plain_words}
 use Rattle.cap_pack.specs.GroupTexts.{front_text}
 use Rattle.cap_pack.proofs.GroupTexts.{pack_step, words_parted}
 use Rattle.cap_pack.proofs.in_parts.pack_part.Goals as goal
-use borrow.Rule.Slice.PartMut.{post_of}
 
 pub returns-then-piece-gt0-clause-text : goal.returns-then-piece-gt0-clause-text
 returns-then-piece-gt0-clause-text c =

@@ -1,7 +1,5 @@
-use Rattle.std.proofs.Common.{arith, leb}
-use Rattle.std.proofs.lemmas.Bool.{le-leb, lt-leb}
-use Rattle.cap_spec.specs.Packing.{zero_bytes}
-use Rattle.cap_pack.proofs.Runs.{run_more, run_ends}
+use Rattle.cap_spec.proofs.Prelude.{arith, le-leb, leb, lt-leb, zero_bytes}
+use Rattle.cap_pack.proofs.Runs.{run_ends, run_more}
 use Rattle.cap_pack.proofs.lanes.full_run.Goals as goal
 
 pub loop-i-preserved : goal.loop-i-preserved

@@ -1,6 +1,4 @@
-use Rattle.std.proofs.Common.{◌∙◌, refl}
-use Rattle.std.specs.Simd.Lanes.{chunk}
-use Rattle.std.proofs.lemmas.Simd.{length-chunk}
+use Rattle.cap_spec.proofs.Prelude.{refl, ◌∙◌, length-chunk, chunk}
 use Rattle.cap_pack.proofs.Runs.{fulls_by_lanes}
 use Rattle.cap_pack.proofs.lanes.fulls_of_eight.Goals as goal
 

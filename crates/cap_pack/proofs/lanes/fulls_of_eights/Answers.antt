@@ -1,5 +1,4 @@
-use Rattle.std.proofs.Common.{arith, leb}
-use Rattle.cap_spec.specs.Packing.{zero_bytes}
+use Rattle.cap_spec.proofs.Prelude.{arith, leb, zero_bytes}
 use Rattle.cap_pack.proofs.Runs.{run_goes_on}
 use Rattle.cap_pack.proofs.lanes.fulls_of_eights.Goals as goal
 

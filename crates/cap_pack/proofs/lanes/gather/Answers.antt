@@ -1,4 +1,4 @@
-use Rattle.cap_pack.proofs.Shuffles.{ones_of_tag, gathered}
+use Rattle.cap_pack.proofs.Shuffles.{gathered, ones_of_tag}
 use Rattle.cap_pack.proofs.lanes.gather.Goals as goal
 
 pub returns-clause-count : goal.returns-clause-count

@@ -1,6 +1,5 @@
-use Rattle.std.proofs.Common.{◌++◌, arith, replicate}
+use Rattle.std.proofs.Common.{arith, length-append, replicate, ◌++◌}
 use Rattle.std.proofs.lemmas.Simd.{pick_l_whole}
-use Rattle.std.proofs.lemmas.List.{length-append}
 use Rattle.cap_pack.proofs.lanes.lanes_of.Goals as goal
 
 pub returns : goal.returns

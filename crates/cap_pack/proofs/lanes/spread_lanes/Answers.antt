@@ -1,4 +1,4 @@
-use Rattle.cap_pack.proofs.Shuffles.{spread_ok, spread_by_places}
+use Rattle.cap_pack.proofs.Shuffles.{spread_by_places, spread_ok}
 use Rattle.cap_pack.proofs.lanes.spread_lanes.Goals as goal
 
 pub swizzle : goal.swizzle

@@ -1,6 +1,5 @@
-use Rattle.std.proofs.Common.{refl}
-use Rattle.cap_spec.specs.Plain.{word_bytes}
-use Rattle.cap_pack.proofs.Shuffles.{squeeze_ok, squeeze_by_places}
+use Rattle.cap_spec.proofs.Prelude.{refl, word_bytes}
+use Rattle.cap_pack.proofs.Shuffles.{squeeze_by_places, squeeze_ok}
 use Rattle.cap_pack.proofs.lanes.squeeze_lanes.Goals as goal
 
 pub swizzle : goal.swizzle

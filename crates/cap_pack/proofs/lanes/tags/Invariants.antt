@@ -1,4 +1,4 @@
-use Rattle.std.proofs.Common.{◌-◌, ◌≡◌, ◌≤◌, length, map, take}
+use Rattle.std.proofs.Common.{length, map, take, ◌-◌, ◌≡◌, ◌≤◌}
 use Rattle.cap_pack.proofs.Tags.{word_tag}
 use Rattle.cap_pack.proofs.lanes.tags.Given as goal
 

@@ -1,7 +1,5 @@
-use Rattle.std.proofs.Common.{arith, eq-eqb}
-use Rattle.std.specs.Prelude.{◌==◌}
-use Rattle.std.proofs.lemmas.Bool.{ne_eqb}
-use Rattle.cap_pack.proofs.Runs.{run_more, run_ends}
+use Rattle.std.proofs.Common.{arith, eq-eqb, ne_eqb, ◌==◌}
+use Rattle.cap_pack.proofs.Runs.{run_ends, run_more}
 use Rattle.cap_pack.proofs.lanes.zero_run.Goals as goal
 
 pub loop-i-preserved : goal.loop-i-preserved

@@ -1,5 +1,4 @@
-use Rattle.std.proofs.Common.{◌-◌, ◌≤◌, length}
-use Rattle.cap_spec.specs.Packing.{zero_run}
+use Rattle.cap_spec.proofs.Prelude.{length, ◌-◌, ◌≤◌, zero_run}
 use Rattle.cap_pack.proofs.lanes.zero_run.Given as goal
 
 abbrev pub invariant-loop-i : goal.invariant-loop-i

@@ -1,6 +1,4 @@
-use Rattle.std.proofs.Common.{◌≡◌, ◌*◌, ◌∙◌, refl, take, arith}
-use Rattle.std.proofs.lemmas.List.{length-take-le}
-use Rattle.std.proofs.lemmas.Slice.{take-put_mid}
+use Rattle.cap_spec.proofs.Prelude.{arith, length-take-le, refl, take, ◌*◌, ◌∙◌, ◌≡◌, take-put_mid}
 use Rattle.cap_pack.proofs.PuttingEach.{words_read}
 use Rattle.cap_pack.proofs.pieces.read_words.Goals as goal
 

@@ -1,8 +1,5 @@
-use Rattle.std.proofs.Common.{◌+◌, ◌-◌, ◌++◌, ◌∷◌, [], ℕ, take, drop, get_or, ap, refl, sym, ◌∙◌, arith, length-drop}
-use Rattle.std.specs.Prelude.{◌==◌, filter, not}
-use Rattle.std.proofs.lemmas.List.{length-take}
-use Rattle.cap_spec.specs.Packing.{pack_text, tag_of}
-use Rattle.cap_spec.specs.Plain.{word_bytes}
+use Rattle.cap_spec.proofs.Prelude.{[], ap, arith, drop, filter, get_or, length-drop, length-take, not, refl, sym, take}
+use Rattle.cap_spec.proofs.Prelude.{ℕ, ◌++◌, ◌+◌, ◌-◌, ◌==◌, ◌∙◌, ◌∷◌, pack_text, tag_of, word_bytes}
 use Rattle.cap_pack.proofs.FullWords.{full_word, word_tag, zero_word}
 use Rattle.cap_pack.proofs.GroupsSpelled.{full_step, marked_step, more_spelled, zeros_step}
 use Rattle.cap_pack.proofs.pieces.spell_groups.Goals as goal

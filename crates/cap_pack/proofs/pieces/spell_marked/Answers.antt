@@ -1,5 +1,4 @@
-use Rattle.std.proofs.Common.{◌∙◌, ◌==◌, filter, not, refl, arith}
-use Rattle.cap_spec.specs.Plain.{word_bytes}
+use Rattle.cap_spec.proofs.Prelude.{arith, filter, not, refl, ◌==◌, ◌∙◌, word_bytes}
 use Rattle.cap_pack.proofs.Shuffles.{ones_of_tag}
 use Rattle.cap_pack.proofs.Written.{take-marked}
 use Rattle.cap_pack.proofs.pieces.spell_marked.Goals as goal

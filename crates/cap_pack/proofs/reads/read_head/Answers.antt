@@ -1,7 +1,7 @@
-use Rattle.std.proofs.Common.{◌≡◌, ◌∙◌, ℕ, length, get_or, arith}
+use Rattle.std.proofs.Common.{arith, get_or, length, ℕ, ◌∙◌, ◌≡◌}
 use Rattle.cap_pack.specs.Course.{head_rest}
-use Rattle.cap_pack.proofs.Heads.{front_of_nine, first_word-append, zeros_of-append, plain_of-append}
-use Rattle.cap_pack.proofs.Turns.{head_taken, group_taken, group_cut}
+use Rattle.cap_pack.proofs.Heads.{first_word-append, front_of_nine, plain_of-append, zeros_of-append}
+use Rattle.cap_pack.proofs.Turns.{group_cut, group_taken, head_taken}
 use Rattle.cap_pack.proofs.reads.read_head.Goals as goal
 
 pub returns-in-Ok-read_whole-clause-head : goal.returns-in-Ok-read_whole-clause-head

@@ -1,5 +1,5 @@
 use Rattle.std.proofs.Common.{arith}
-use Rattle.cap_pack.proofs.Turns.{word_taken, word_cut}
+use Rattle.cap_pack.proofs.Turns.{word_cut, word_taken}
 use Rattle.cap_pack.proofs.reads.read_word.Goals as goal
 
 pub returns-in-Ok-clause-word : goal.returns-in-Ok-clause-word

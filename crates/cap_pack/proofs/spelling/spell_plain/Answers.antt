@@ -1,7 +1,6 @@
-use Rattle.std.proofs.Common.{◌≡◌, ◌∙◌, ap, length, arith}
-use Rattle.cap_spec.specs.Plain.{word_bytes, plain_text}
-use Rattle.cap_pack.proofs.Written.{take-plain}
 use Rattle.cap_spec.proofs.Bytes.Plain.{length_plain}
+use Rattle.cap_spec.proofs.Prelude.{ap, arith, length, ◌∙◌, ◌≡◌, plain_text, word_bytes}
+use Rattle.cap_pack.proofs.Written.{take-plain}
 use Rattle.cap_pack.proofs.spelling.spell_plain.Goals as goal
 
 pub returns-clause-spelled : goal.returns-clause-spelled

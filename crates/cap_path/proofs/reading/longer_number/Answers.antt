@@ -1,4 +1,4 @@
-use Rattle.std.proofs.Common.{◌≡◌, ℕ, Bool, true, false, if◌then◌else◌, Option, None, refl, sym}
+use Rattle.std.proofs.Common.{Bool, None, Option, false, if◌then◌else◌, refl, sym, true, ℕ, ◌≡◌}
 use Rattle.cap_path.specs.PathReading.{is_digit, number_with}
 use Rattle.cap_path.proofs.reading.longer_number.Goals as goal
 

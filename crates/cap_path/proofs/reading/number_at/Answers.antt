@@ -1,5 +1,5 @@
 -- The digits that were read are those of the number.
-use Rattle.std.proofs.Common.{◌∙◌, ◌++◌, ap, arith, decimal, sym, take}
+use Rattle.std.proofs.Common.{ap, arith, decimal, sym, take, ◌++◌, ◌∙◌}
 use Rattle.cap_path.specs.PathReading.{no_end}
 use Rattle.cap_path.proofs.ReadSteps.{first_digit, next_digit}
 use Rattle.cap_path.proofs.reading.number_at.Goals as goal

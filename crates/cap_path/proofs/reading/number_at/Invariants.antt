@@ -1,4 +1,4 @@
-use Rattle.std.proofs.Common.{◌≡◌, ◌≤◌, ◌++◌, take, decimal}
+use Rattle.std.proofs.Common.{decimal, take, ◌++◌, ◌≡◌, ◌≤◌}
 use Rattle.cap_path.proofs.reading.number_at.Given as goal
 
 abbrev pub invariant-loop-end : goal.invariant-loop-end

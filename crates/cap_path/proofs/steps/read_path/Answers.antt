@@ -1,6 +1,5 @@
 -- The text is read to its end, or to the byte where it is bad.
-use Rattle.std.proofs.Common.{◌∙◌, ◌++◌, ◌∷◌, [], ap, sym}
-use Rattle.cap_spec.specs.PathTexts.{step_text}
+use Rattle.cap_spec.proofs.Prelude.{[], ap, sym, ◌++◌, ◌∙◌, ◌∷◌, step_text}
 use Rattle.cap_path.proofs.ReadSteps.{are-snoc, texts-snoc}
 use Rattle.cap_path.proofs.steps.read_path.Goals as goal
 

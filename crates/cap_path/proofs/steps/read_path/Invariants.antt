@@ -1,7 +1,6 @@
-use Rattle.std.proofs.Common.{◌≡◌, ◌-◌, ◌<◌, ◌≤◌, List, get_or, length, take}
-use Rattle.std.specs.List.{flat_map, AllByRecursion}
-use Rattle.cap_spec.specs.PathTexts.{IsStep, step_text}
 use Rattle.cap_spec.specs.declared.Step.{Step}
+use Rattle.cap_spec.proofs.Prelude.{List, flat_map, get_or, length, take, ◌-◌, ◌<◌, ◌≡◌, ◌≤◌, AllByRecursion, IsStep}
+use Rattle.cap_spec.proofs.Prelude.{step_text}
 use Rattle.cap_path.proofs.steps.read_path.Given as goal
 
 abbrev pub invariant-loop-at : goal.invariant-loop-at

@@ -1,6 +1,5 @@
-use Rattle.std.proofs.Common.{sym, ◌∙◌, arith}
-use Rattle.cap_spec.specs.Following.{IsOnePad}
-use Rattle.cap_ptr.proofs.Pads.{content-not_far, content-tag_kind, content-tag_offset, content-lead}
+use Rattle.cap_spec.proofs.Prelude.{arith, sym, ◌∙◌, IsOnePad}
+use Rattle.cap_ptr.proofs.Pads.{content-lead, content-not_far, content-tag_kind, content-tag_offset}
 use Rattle.cap_ptr.proofs.following.content.Goals as goal
 
 pub returns-then-not-is_one_pad : goal.returns-then-not-is_one_pad

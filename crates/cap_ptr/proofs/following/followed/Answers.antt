@@ -1,5 +1,4 @@
-use Rattle.std.proofs.Common.{◌∙◌, arith, refl}
-use Rattle.cap_spec.specs.Following.{near}
+use Rattle.cap_spec.proofs.Prelude.{arith, refl, ◌∙◌, near}
 use Rattle.cap_ptr.proofs.Pads.{stands-near}
 use Rattle.cap_ptr.proofs.following.followed.Goals as goal
 

@@ -1,5 +1,4 @@
-use Rattle.std.proofs.Common.{rules}
-use Rattle.cap_spec.specs.Following.{to_null, to_cap}
+use Rattle.cap_spec.proofs.Prelude.{rules, to_cap, to_null}
 use Rattle.cap_ptr.proofs.following.resolved.Goals as goal
 
 pub returns-in-Null : goal.returns-in-Null

@@ -1,5 +1,5 @@
 -- The list is found, or its tag or its elements are wrong.
-use Rattle.std.proofs.Common.{◌∙◌, sym, refl, arith}
+use Rattle.std.proofs.Common.{arith, refl, sym, ◌∙◌}
 use Rattle.cap_spec.proofs.Pointers.Following.{wrong-composite_tag, wrong-overrun}
 use Rattle.cap_ptr.proofs.Objects.{found-structs}
 use Rattle.cap_ptr.proofs.lists.structs_target.Goals as goal

@@ -1,4 +1,3 @@
-use Rattle.cap_ptr.specs.Shapes.{HasListAt}
 use Rattle.cap_ptr.proofs.placing.composite.Goals as goal
 
 pub returns-in-Ok : goal.returns-in-Ok

@@ -1,6 +1,5 @@
-use Rattle.std.proofs.Common.{arith, rules}
-use Rattle.cap_spec.specs.Following.{IsComposite}
-use Rattle.cap_ptr.proofs.Objects.{wrong-past, found-plain}
+use Rattle.cap_spec.proofs.Prelude.{arith, rules, IsComposite}
+use Rattle.cap_ptr.proofs.Objects.{found-plain, wrong-past}
 use Rattle.cap_ptr.proofs.placing.target_at.Goals as goal
 
 pub returns-then-start-from : goal.returns-then-start-from

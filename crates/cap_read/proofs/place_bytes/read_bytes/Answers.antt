@@ -1,9 +1,7 @@
 -- The bytes of a view's place are those of the place of its path.
-use Rattle.std.proofs.Common.{◌≡◌, ap, Err, ℕ, ◌∙◌, List, subst}
-use Rattle.std.specs.Prelude.{MatchOption}
+use Rattle.cap_spec.proofs.Prelude.{Err, List, MatchOption, ap, subst, ℕ, ◌∙◌, ◌≡◌, HasPlace, ReachesSpot, Spot}
 use Rattle.cap_frame.specs.Bytes.{cut}
 use Rattle.cap_frame.specs.declared.view.ByteView.{ByteView}
-use Rattle.cap_spec.specs.Paths.{ReachesSpot, Spot, HasPlace}
 use Rattle.cap_vet.specs.Views.{bytes_of_place, node_spot, view_place}
 use Rattle.cap_vet.specs.declared.nodes.place.Place.{Place}
 use Rattle.cap_read.proofs.Placing.{bytes_there, no_bytes_there, no_place}

@@ -1,11 +1,5 @@
-use Rattle.std.proofs.Common.{◌≡◌, ap, Err, ℕ, ◌+◌, ◌<◌, ◌≤◌, ◌∙◌, length, subst, None, Some}
-use Rattle.std.specs.Prelude.{IfSome, MatchOption}
-use Rattle.cap_spec.specs.Denoting.{Denotes}
-use Rattle.cap_spec.specs.Messages.{segment_of}
-use Rattle.cap_spec.specs.Paths.{ReachesSpot, Spot, HasPlace}
-use Rattle.cap_spec.specs.Showing.{own_of}
-use Rattle.cap_spec.specs.Standing.{DenotesAt}
-use Rattle.cap_spec.specs.Tree.{Tree, node_at}
+use Rattle.cap_spec.proofs.Prelude.{Err, IfSome, MatchOption, None, Some, ap, length, subst, ℕ, ◌+◌, ◌<◌, ◌∙◌, ◌≡◌, ◌≤◌}
+use Rattle.cap_spec.proofs.Prelude.{Denotes, segment_of, HasPlace, ReachesSpot, Spot, own_of, DenotesAt, Tree, node_at}
 use Rattle.cap_vet.specs.Views.{node_spot, shown, view_place}
 use Rattle.cap_vet.specs.declared.nodes.place.Place.{Place}
 use Rattle.cap_read.proofs.Placing.{node_read, nothing_read}

@@ -1,4 +1,4 @@
-use Rattle.std.proofs.Common.{◌+◌, ◌∙◌, ◌/◌, ap, arith, sym}
+use Rattle.std.proofs.Common.{ap, arith, sym, ◌+◌, ◌/◌, ◌∙◌}
 use Rattle.cap_text.proofs.Numbers.{length-decimal_digit, length-decimal_few, length-decimal_pair, length-decimal_two}
 use Rattle.cap_text.proofs.digits.+digit_count.Goals as goal
 

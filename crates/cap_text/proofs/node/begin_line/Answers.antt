@@ -1,5 +1,4 @@
-use Rattle.std.proofs.Common.{ℕ, ◌*◌, ◌++◌, ◌∙◌, ap, arith, length, length-append, replicate}
-use Rattle.std.proofs.lemmas.List.{length-replicate}
+use Rattle.cap_spec.proofs.Prelude.{ap, arith, length, length-append, replicate, ℕ, ◌*◌, ◌++◌, ◌∙◌, length-replicate}
 use Rattle.cap_text.proofs.node.begin_line.Goals as goal
 
 pub push_text-requires : goal.push_text-requires

@@ -1,4 +1,4 @@
-use Rattle.std.proofs.Common.{◌∷◌, ◌++◌, ◌∙◌, [], ap, append_assoc}
+use Rattle.std.proofs.Common.{[], ap, append_assoc, ◌++◌, ◌∙◌, ◌∷◌}
 use Rattle.cap_text.specs.Dumping.{head_of}
 use Rattle.cap_text.proofs.Nodes.{four_texts}
 use Rattle.cap_text.proofs.node.named_line.Goals as goal

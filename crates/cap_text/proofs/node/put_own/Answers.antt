@@ -1,8 +1,6 @@
-use Rattle.std.proofs.Common.{[], append-nil, subst, sym}
-use Rattle.cap_spec.specs.Texts.{word_lines}
+use Rattle.cap_spec.proofs.Prelude.{[], append-nil, subst, sym, word_lines}
 use Rattle.cap_vet.specs.Views.{shown}
-use Rattle.cap_text.specs.Dumping.{word_letter_of}
-use Rattle.cap_text.specs.Paging.{Added}
+use Rattle.cap_text.specs.Prelude.{word_letter_of, Added}
 use Rattle.cap_text.proofs.Nodes.{no_words}
 use Rattle.cap_text.proofs.Paging.{added_here}
 use Rattle.cap_text.proofs.node.put_own.Goals as goal

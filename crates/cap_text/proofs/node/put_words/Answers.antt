@@ -1,6 +1,4 @@
-use Rattle.std.proofs.Common.{◌*◌, ◌++◌, ◌∷◌, [], drop, replicate}
-use Rattle.cap_spec.specs.Showing.{words_of_own}
-use Rattle.cap_spec.specs.Texts.{hex, label, word_lines}
+use Rattle.cap_spec.proofs.Prelude.{[], drop, replicate, ◌*◌, ◌++◌, ◌∷◌, words_of_own, hex, label, word_lines}
 use Rattle.cap_vet.specs.Views.{shown}
 use Rattle.cap_text.proofs.Nodes.{lines_stop, word_step, words_done}
 use Rattle.cap_text.proofs.Paging.{added_line, left_start}

@@ -1,6 +1,4 @@
-use Rattle.std.proofs.Common.{◌-◌, length, drop}
-use Rattle.cap_spec.specs.Showing.{words_of_own}
-use Rattle.cap_spec.specs.Texts.{word_lines}
+use Rattle.cap_spec.proofs.Prelude.{drop, length, ◌-◌, words_of_own, word_lines}
 use Rattle.cap_vet.specs.Views.{shown}
 use Rattle.cap_text.proofs.Paging.{Left}
 use Rattle.cap_text.proofs.node.put_words.Given as goal

@@ -1,5 +1,4 @@
-use Rattle.std.proofs.Common.{arith, ◌*◌}
-use Rattle.std.proofs.lemmas.List.{take-replicate}
+use Rattle.cap_spec.proofs.Prelude.{arith, ◌*◌, take-replicate}
 use Rattle.cap_text.proofs.node.spaces.Goals as goal
 
 pub returns : goal.returns

@@ -1,4 +1,4 @@
-use Rattle.std.proofs.Common.{◌++◌, [], codes}
+use Rattle.std.proofs.Common.{[], codes, ◌++◌}
 use Rattle.cap_spec.specs.Texts.{line, root_text}
 use Rattle.cap_text.proofs.Paging.{added_line, halted_more}
 use Rattle.cap_text.proofs.segments.put_root_line.Goals as goal

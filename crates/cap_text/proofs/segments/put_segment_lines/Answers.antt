@@ -1,6 +1,5 @@
-use Rattle.std.proofs.Common.{◌++◌, ◌∷◌, arith, codes, drop, get_or}
+use Rattle.cap_spec.proofs.Prelude.{arith, codes, drop, get_or, ◌++◌, ◌∷◌, line, segment_lines, then_number}
 use Rattle.cap_frame.specs.Outlines.{sizes_in}
-use Rattle.cap_spec.specs.Texts.{line, segment_lines, then_number}
 use Rattle.cap_text.proofs.Nodes.{lines_stop}
 use Rattle.cap_text.proofs.Paging.{added_line}
 use Rattle.cap_text.proofs.SegmentLines.{lines_step}

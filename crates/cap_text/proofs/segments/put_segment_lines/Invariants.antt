@@ -1,5 +1,4 @@
-use Rattle.std.proofs.Common.{drop}
-use Rattle.cap_spec.specs.Texts.{segment_lines}
+use Rattle.cap_spec.proofs.Prelude.{drop, segment_lines}
 use Rattle.cap_frame.specs.Outlines.{sizes_in}
 use Rattle.cap_text.proofs.Paging.{Left}
 use Rattle.cap_text.proofs.segments.put_segment_lines.Given as goal

@@ -1,5 +1,4 @@
-use Rattle.std.proofs.Common.{◌∷◌, ◌++◌, ◌∙◌, [], ap, append_assoc, codes}
-use Rattle.cap_spec.specs.Texts.{hex}
+use Rattle.cap_spec.proofs.Prelude.{[], ap, append_assoc, codes, ◌++◌, ◌∙◌, ◌∷◌, hex}
 use Rattle.cap_text.proofs.segments.word_line.Goals as goal
 
 pub returns : goal.returns

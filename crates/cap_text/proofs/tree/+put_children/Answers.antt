@@ -1,9 +1,8 @@
-use Rattle.std.proofs.Common.{◌+◌, ◌-◌, ◌<◌, ◌≤◌, ap, arith}
-use Rattle.cap_spec.specs.Standing.{DenotesAt}
-use Rattle.cap_spec.specs.Tree.{Tree}
+use Rattle.cap_spec.proofs.Prelude.{ap, arith, ◌+◌, ◌-◌, ◌<◌, ◌≤◌, DenotesAt, Tree}
 use Rattle.cap_vet.specs.Views.{node_message, node_spot, shown}
 use Rattle.cap_text.specs.Dumping.{height, shown_count_of}
-use Rattle.cap_text.proofs.Dumping.{Below, all_out, below, below_fails, child_fails, child_height, child_is_there, child_out, kind_shown, none_out}
+use Rattle.cap_text.proofs.Dumping.{Below, all_out, below, below_fails, child_fails, child_height, child_is_there}
+use Rattle.cap_text.proofs.Dumping.{child_out, kind_shown, none_out}
 use Rattle.cap_text.proofs.tree.+put_children.Goals as goal
 
 pub loop-i-init : goal.loop-i-init

@@ -1,5 +1,4 @@
-use Rattle.std.proofs.Common.{[], arith, subst}
-use Rattle.cap_spec.specs.Texts.{dump_text}
+use Rattle.cap_spec.proofs.Prelude.{[], arith, subst, dump_text}
 use Rattle.cap_text.specs.Paging.{Added, Halted}
 use Rattle.cap_text.proofs.tree.dump.Goals as goal
 

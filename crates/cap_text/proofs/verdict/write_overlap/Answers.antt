@@ -1,4 +1,4 @@
-use Rattle.std.proofs.Common.{◌∙◌, subst}
+use Rattle.std.proofs.Common.{subst, ◌∙◌}
 use Rattle.cap_text.specs.Writing.{Writes}
 use Rattle.cap_text.proofs.verdict.write_overlap.Goals as goal
 

@@ -1,7 +1,7 @@
-use Rattle.std.proofs.Common.{◌∷◌, ◌++◌, inr, refl, sym, subst, arith, List}
+use Rattle.std.proofs.Common.{List, arith, inr, refl, subst, sym, ◌++◌, ◌∷◌}
+use Rattle.cap_spec.proofs.Pointers.Following.{object-not_wrong}
 use Rattle.cap_vet.specs.Trails.{Ahead, IsTrail}
 use Rattle.cap_vet.proofs.OneTrail.{object_trail}
-use Rattle.cap_spec.proofs.Pointers.Following.{object-not_wrong}
 use Rattle.cap_trace.proofs.Objects.{levels_shape, not_deep}
 use Rattle.cap_trace.proofs.below.below_target.Goals as goal
 

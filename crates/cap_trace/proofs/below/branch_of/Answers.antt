@@ -1,5 +1,6 @@
-use Rattle.std.proofs.Common.{◌≡◌, ◌+◌, ◌<◌, ◌^◌, arith, inl, inr, rules}
-use Rattle.cap_trace.proofs.Objects.{pointers_words, start_fits, struct_words, structs_branch, structs_empty, structs_words}
+use Rattle.std.proofs.Common.{arith, inl, inr, rules, ◌+◌, ◌<◌, ◌^◌, ◌≡◌}
+use Rattle.cap_trace.proofs.Objects.{pointers_words, start_fits, struct_words, structs_branch, structs_empty}
+use Rattle.cap_trace.proofs.Objects.{structs_words}
 use Rattle.cap_trace.proofs.below.branch_of.Goals as goal
 
 pub returns-then-count-eq0-2-clause-words : goal.returns-then-count-eq0-2-clause-words

@@ -1,5 +1,4 @@
-use Rattle.std.proofs.Common.{◌-◌, ◌≡◌, suc, arith}
-use Rattle.cap_spec.specs.Pointers.{list_size}
+use Rattle.cap_spec.proofs.Prelude.{arith, suc, ◌-◌, ◌≡◌, list_size}
 use Rattle.cap_spec.proofs.Trees.Charges.{extent_pointers}
 use Rattle.cap_trace.proofs.RowBranches.{list_count, row_list_words}
 use Rattle.cap_trace.proofs.row.branch_of_list.Goals as goal

@@ -1,6 +1,5 @@
-use Rattle.std.proofs.Common.{◌∙◌, [], ap, subst, List}
-use Rattle.cap_trace.specs.Branches.{AreBranches, path_of, rest_from}
-use Rattle.cap_trace.specs.declared.branch.Branch.{Branch}
+use Rattle.std.proofs.Common.{List, [], ap, subst, ◌∙◌}
+use Rattle.cap_trace.specs.Prelude.{AreBranches, path_of, rest_from, Branch}
 use Rattle.cap_trace.proofs.Branches.{branches_with, branches_without, went_next, went_up}
 use Rattle.cap_trace.proofs.seeking.go_on.Goals as goal
 

@@ -1,4 +1,4 @@
-use Rattle.std.specs.Prelude.{ℕ, ◌≡◌, [], ◌∷◌, ◌++◌, List, length}
+use Rattle.std.proofs.Common.{List, [], length, ℕ, ◌++◌, ◌∷◌, ◌≡◌}
 use Rattle.cap_trace.specs.Branches.{AreBranches, rest_from}
 use Rattle.cap_trace.proofs.seeking.go_on.Given as goal
 

@@ -1,4 +1,4 @@
-use Rattle.std.proofs.Common.{◌++◌, [], ◌∷◌, List, subst, rules}
+use Rattle.std.proofs.Common.{List, [], rules, subst, ◌++◌, ◌∷◌}
 use Rattle.cap_vet.specs.Trails.{Ahead, IsTrail}
 use Rattle.cap_trace.specs.Branches.{path_of, rest_from}
 use Rattle.cap_trace.proofs.Coming.{came_next, none_higher}

@@ -1,6 +1,4 @@
-use Rattle.std.proofs.Common.{arith, refl, rules}
-use Rattle.cap_spec.specs.Following.{to_cap}
-use Rattle.cap_spec.specs.Pointers.{cap_index}
+use Rattle.cap_spec.proofs.Prelude.{arith, refl, rules, to_cap, cap_index}
 use Rattle.cap_trace.proofs.Branches.{branches_without}
 use Rattle.cap_trace.proofs.Nulls.{cap_below}
 use Rattle.cap_trace.proofs.seeking.look_other.Goals as goal

@@ -1,4 +1,4 @@
-use Rattle.std.proofs.Common.{◌≤◌, arith, refl}
+use Rattle.std.proofs.Common.{arith, refl, ◌≤◌}
 use Rattle.cap_trace.proofs.Coming.{none_past}
 use Rattle.cap_trace.proofs.RowBranches.{row_blocked, row_none, row_some}
 use Rattle.cap_trace.proofs.seeking.look_row.Goals as goal

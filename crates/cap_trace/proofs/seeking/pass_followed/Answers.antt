@@ -1,7 +1,5 @@
-use Rattle.std.proofs.Common.{◌∙◌, ap, rules, subst}
-use Rattle.cap_trace.specs.Traces.{GoesBelow}
-use Rattle.cap_trace.specs.declared.below.Below.{Below}
-use Rattle.cap_trace.specs.declared.below.Below.TheVariants.{Object}
+use Rattle.std.proofs.Common.{ap, rules, subst, ◌∙◌}
+use Rattle.cap_trace.specs.Prelude.{GoesBelow, Below, Object}
 use Rattle.cap_trace.proofs.Branches.{branches_without}
 use Rattle.cap_trace.proofs.Coming.{none_past}
 use Rattle.cap_trace.proofs.seeking.pass_followed.Goals as goal

@@ -1,4 +1,4 @@
-use Rattle.std.proofs.Common.{◌+◌, ◌≡◌, arith, subst, ℕ}
+use Rattle.std.proofs.Common.{arith, subst, ℕ, ◌+◌, ◌≡◌}
 use Rattle.cap_trace.specs.Traces.{HasCome}
 use Rattle.cap_trace.proofs.Branches.{branches_without}
 use Rattle.cap_trace.proofs.Nulls.{came_over_null}

@@ -1,6 +1,5 @@
-use Rattle.std.specs.Prelude.{◌+◌, ◌-◌, ◌≤◌, List, ℕ}
-use Rattle.cap_trace.specs.Traces.{HasCome}
-use Rattle.cap_trace.specs.declared.branch.Branch.{Branch}
+use Rattle.std.proofs.Common.{List, ℕ, ◌+◌, ◌-◌, ◌≤◌}
+use Rattle.cap_trace.specs.Prelude.{HasCome, Branch}
 use Rattle.cap_trace.proofs.seeking.pass_null_elements.Given as goal
 
 abbrev pub invariant-nulls : goal.invariant-nulls

@@ -1,4 +1,4 @@
-use Rattle.std.proofs.Common.{◌<◌, arith}
+use Rattle.std.proofs.Common.{arith, ◌<◌}
 use Rattle.cap_spec.proofs.Frames.Messages.{short_segment}
 use Rattle.cap_trace.specs.Branches.{row_left}
 use Rattle.cap_trace.proofs.Branches.{branches_without, row_inside}

@@ -1,4 +1,4 @@
-use Rattle.std.specs.Prelude.{◌-◌, ◌≤◌}
+use Rattle.std.proofs.Common.{◌-◌, ◌≤◌}
 use Rattle.cap_trace.specs.Traces.{HasCome}
 use Rattle.cap_trace.proofs.seeking.seek.Given as goal
 

@@ -1,10 +1,9 @@
-use Rattle.std.proofs.Common.{◌<◌, arith, length, refl, rules, subst}
-use Rattle.cap_spec.specs.Messages.{segment_of}
-use Rattle.cap_trace.specs.Seeking.{IsSought}
-use Rattle.cap_trace.specs.declared.seeking.Sought.{Sought}
+use Rattle.cap_spec.proofs.Prelude.{arith, length, refl, rules, subst, ◌<◌, segment_of}
+use Rattle.cap_trace.specs.Prelude.{IsSought, Sought}
 use Rattle.cap_trace.proofs.Coming.{at_root, found_told, has_root, some_number}
+use Rattle.cap_trace.proofs.tracing.traced.Goals.{then-number-eq0-via-else-number-eq0+then-len-eq0}
+use Rattle.cap_trace.proofs.tracing.traced.Goals.{then-number-eq0-via-then-number-eq0}
 use Rattle.cap_trace.proofs.tracing.traced.Goals as goal
-use Rattle.cap_trace.proofs.tracing.traced.Goals.{then-number-eq0-via-then-number-eq0, then-number-eq0-via-else-number-eq0+then-len-eq0}
 
 pub returns-then-number-eq0-clause-tells : goal.returns-then-number-eq0-clause-tells
 returns-then-number-eq0-clause-tells g c = (

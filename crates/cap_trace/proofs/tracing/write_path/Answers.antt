@@ -1,9 +1,5 @@
-use Rattle.std.proofs.Common.{◌≡◌, ◌∙◌, ◌++◌, [], arith, ap, length, length-append, List, sym, take}
-use Rattle.std.proofs.lemmas.List.{take_all}
-use Rattle.cap_spec.specs.declared.Step.{Step}
-use Rattle.cap_trace.specs.Branches.{path_of, steps_of}
-use Rattle.cap_trace.specs.Traces.{filled}
-use Rattle.cap_trace.specs.declared.branch.Branch.{Branch}
+use Rattle.std.proofs.Common.{List, [], ap, arith, length, length-append, sym, take, take_all, ◌++◌, ◌∙◌, ◌≡◌}
+use Rattle.cap_trace.specs.Prelude.{Step, path_of, steps_of, filled, Branch}
 use Rattle.cap_trace.proofs.Branches.{path_from-last}
 use Rattle.cap_trace.proofs.Filling.{written_more}
 use Rattle.cap_trace.proofs.tracing.write_path.Goals as goal

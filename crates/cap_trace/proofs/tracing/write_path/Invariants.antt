@@ -1,6 +1,5 @@
-use Rattle.std.specs.Prelude.{◌*◌, ◌≡◌, ◌≤◌, length, take}
-use Rattle.cap_trace.specs.Branches.{path_of}
-use Rattle.cap_trace.specs.Traces.{filled}
+use Rattle.std.proofs.Common.{length, take, ◌*◌, ◌≡◌, ◌≤◌}
+use Rattle.cap_trace.specs.Prelude.{path_of, filled}
 use Rattle.cap_trace.proofs.tracing.write_path.Given as goal
 
 abbrev pub invariant-branches : goal.invariant-branches

@@ -1,10 +1,8 @@
-use Rattle.std.proofs.Common.{◌∙◌, ◌++◌, length, set, ap, sym, arith, ℕ, List, Option}
-use Rattle.std.specs.Option.{option_to_list}
-use Rattle.cap_spec.specs.declared.Step.{Step}
-use Rattle.cap_trace.specs.Traces.{filled}
+use Rattle.std.proofs.Common.{List, Option, ap, arith, length, option_to_list, set, sym, ℕ, ◌++◌, ◌∙◌}
+use Rattle.cap_trace.specs.Prelude.{Step, filled}
 use Rattle.cap_trace.proofs.Filling.{fill_past, fill_step}
+use Rattle.cap_trace.proofs.tracing.write_step.Goals.{else-at-steps, then-at-steps}
 use Rattle.cap_trace.proofs.tracing.write_step.Goals as goal
-use Rattle.cap_trace.proofs.tracing.write_step.Goals.{then-at-steps, else-at-steps}
 
 pub returns-clause-steps : goal.returns-clause-steps
 returns-clause-steps c = λ path old e f.

@@ -1,7 +1,5 @@
-use Rattle.std.proofs.Common.{◌≡◌, ◌∙◌, ◌++◌, ap, append_assoc, arith, length, length-append, List}
-use Rattle.std.specs.Option.{option_to_list}
-use Rattle.cap_spec.specs.declared.Step.{Step}
-use Rattle.cap_trace.specs.Traces.{filled}
+use Rattle.std.proofs.Common.{List, ap, append_assoc, arith, length, length-append, option_to_list, ◌++◌, ◌∙◌, ◌≡◌}
+use Rattle.cap_trace.specs.Prelude.{Step, filled}
 use Rattle.cap_trace.proofs.Filling.{few_steps}
 use Rattle.cap_trace.proofs.tracing.write_steps.Goals as goal
 

@@ -1,4 +1,4 @@
-use Rattle.std.proofs.Common.{◌∙◌, ap}
+use Rattle.std.proofs.Common.{ap, ◌∙◌}
 use Rattle.cap_vet.specs.Taken.{start_of}
 use Rattle.cap_vet.proofs.Ranges.{all_words}
 use Rattle.cap_vet.proofs.lengths.message_words.Goals as goal

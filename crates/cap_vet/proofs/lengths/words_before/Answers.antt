@@ -1,4 +1,4 @@
-use Rattle.std.proofs.Common.{◌<◌, ◌≡◌, ◌∙◌, ap, arith, length}
+use Rattle.std.proofs.Common.{ap, arith, length, ◌<◌, ◌∙◌, ◌≡◌}
 use Rattle.cap_vet.specs.Taken.{start_of}
 use Rattle.cap_vet.proofs.Ranges.{start_next}
 use Rattle.cap_vet.proofs.lengths.words_before.Goals as goal

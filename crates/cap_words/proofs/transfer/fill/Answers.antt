@@ -1,4 +1,4 @@
-use Rattle.std.proofs.Common.{◌-◌, length}
+use Rattle.std.proofs.Common.{length, ◌-◌}
 use Rattle.cap_words.proofs.Turns.{read_more}
 use Rattle.cap_words.proofs.transfer.fill.Goals as goal
 

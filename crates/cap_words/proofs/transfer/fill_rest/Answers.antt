@@ -1,4 +1,4 @@
-use Rattle.std.proofs.Common.{length, ◌-◌, ◌<◌, arith, drop, take}
+use Rattle.std.proofs.Common.{arith, drop, length, take, ◌-◌, ◌<◌}
 use Rattle.cap_words.proofs.Turns.{filled_within, moved_more, read_more, rest_length}
 use Rattle.cap_words.proofs.transfer.fill_rest.Goals as goal
 

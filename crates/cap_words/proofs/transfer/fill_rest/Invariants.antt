@@ -1,5 +1,4 @@
-use Rattle.std.proofs.Common.{◌-◌, ◌≤◌, take, length}
-use Rattle.std.specs.Io.KnownBytes.{Consumes}
+use Rattle.cap_spec.proofs.Prelude.{length, take, ◌-◌, ◌≤◌, Consumes}
 use Rattle.cap_words.proofs.Turns.{Moved}
 use Rattle.cap_words.proofs.transfer.fill_rest.Given as goal
 

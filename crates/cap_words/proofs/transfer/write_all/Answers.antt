@@ -1,4 +1,4 @@
-use Rattle.std.proofs.Common.{length, ◌-◌, ◌<◌, arith, drop, take}
+use Rattle.std.proofs.Common.{arith, drop, length, take, ◌-◌, ◌<◌}
 use Rattle.cap_words.proofs.Turns.{moved_more, rest_length, write_more}
 use Rattle.cap_words.proofs.transfer.write_all.Goals as goal
 

@@ -1,4 +1,4 @@
-use Rattle.std.proofs.Common.{◌/◌, ◌^◌, arith}
+use Rattle.std.proofs.Common.{arith, ◌/◌, ◌^◌}
 use Rattle.cap_words.proofs.Fields.{masked}
 use Rattle.cap_words.proofs.word.bits.Goals as goal
 

@@ -1,9 +1,8 @@
-use Rattle.std.proofs.Common.{◌∙◌, ap, subst, List, ℕ}
-use Rattle.cap_explain.specs.Explaining.{explanation}
+use Rattle.std.proofs.Common.{List, ap, subst, ℕ, ◌∙◌}
 use Rattle.cap_frame.specs.Bytes.{cut}
+use Rattle.cap_vet.specs.Prelude.{words_under, depth_of, words_of}
+use Rattle.cap_explain.specs.Explaining.{explanation}
 use Rattle.cap_trace.specs.NamedPaths.{fault_path}
-use Rattle.cap_vet.specs.Demands.{words_under}
-use Rattle.cap_vet.specs.Limits.{depth_of, words_of}
 use Rattle.cap_calls.specs.PackCalls.{TellsText}
 use Rattle.cap_calls.proofs.calls.explain.explained.Goals as goal
 

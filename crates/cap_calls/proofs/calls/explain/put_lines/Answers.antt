@@ -1,7 +1,7 @@
-use Rattle.std.proofs.Common.{◌∙◌, ap, arith, subst, List, ℕ}
-use Rattle.cap_explain.specs.Explaining.{explanation}
+use Rattle.std.proofs.Common.{List, ap, arith, subst, ℕ, ◌∙◌}
 use Rattle.cap_frame.specs.Bytes.{cut}
 use Rattle.cap_vet.specs.Limits.{depth_of, words_of}
+use Rattle.cap_explain.specs.Explaining.{explanation}
 use Rattle.cap_calls.specs.PackCalls.{TellsText}
 use Rattle.cap_calls.proofs.calls.explain.put_lines.Goals as goal
 

@@ -1,10 +1,8 @@
 -- What was found is what is told.
 use Rattle.std.proofs.Common.{ap, length, refl}
 use Rattle.cap_frame.specs.Framed.{frame_bytes, framed_segments}
-use Rattle.cap_calls.specs.CallFindings.{framed, without}
-use Rattle.cap_calls.specs.declared.answer.Answer.TheVariants.{Good}
-use Rattle.cap_calls.specs.declared.found.Found.{Found}
-use Rattle.cap_calls.specs.declared.report.CallReport.{CallReport}
+use Rattle.cap_calls.specs.CallFindings.{without}
+use Rattle.cap_calls.specs.Prelude.{framed, Good, Found, CallReport}
 use Rattle.cap_calls.proofs.calls.frame.extent.Goals as goal
 
 abbrev good : CallReport → Found

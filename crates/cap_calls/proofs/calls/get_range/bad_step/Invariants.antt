@@ -1,4 +1,4 @@
-use Rattle.std.proofs.Common.{◌<◌, ◌≤◌, ℕ}
+use Rattle.std.proofs.Common.{ℕ, ◌<◌, ◌≤◌}
 use Rattle.cap_calls.specs.RangeCalls.{kind_at}
 use Rattle.cap_calls.proofs.calls.get_range.bad_step.Given as goal
 

@@ -1,5 +1,5 @@
 -- Nothing else is told of the bytes.
-use Rattle.std.specs.Prelude.{true}
+use Rattle.std.proofs.Common.{true}
 use Rattle.cap_calls.proofs.Answers.{input_less, one_check_told}
 use Rattle.cap_calls.proofs.calls.is_canonical.is_canonical.Goals as goal
 

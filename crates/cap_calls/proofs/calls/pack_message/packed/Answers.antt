@@ -1,6 +1,5 @@
 -- The lengths of the texts fit.
-use Rattle.std.proofs.Common.{◌+◌, ◌<◌, ◌≡◌, ◌^◌, ap, arith, rules, sum}
-use Rattle.cap_spec.specs.Frames.{sizes_of}
+use Rattle.cap_spec.proofs.Prelude.{ap, arith, rules, sum, ◌+◌, ◌<◌, ◌^◌, ◌≡◌, sizes_of}
 use Rattle.cap_frame.specs.Bytes.{cut}
 use Rattle.cap_frame.proofs.InOneBuffer.{held_sizes}
 use Rattle.cap_calls.proofs.calls.pack_message.packed.Goals as goal

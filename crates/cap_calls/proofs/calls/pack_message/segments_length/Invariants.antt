@@ -1,6 +1,4 @@
-use Rattle.std.proofs.Common.{◌≡◌, ◌≤◌, ◌*◌, flat_map, length, sum, take}
-use Rattle.cap_spec.specs.Frames.{sizes_of}
-use Rattle.cap_spec.specs.Packing.{pack_text}
+use Rattle.cap_spec.proofs.Prelude.{flat_map, length, sum, take, ◌*◌, ◌≡◌, ◌≤◌, sizes_of, pack_text}
 use Rattle.cap_frame.specs.Bytes.{cut}
 use Rattle.cap_calls.proofs.calls.pack_message.segments_length.Given as goal
 

@@ -1,15 +1,13 @@
 -- The table, and one segment more, are written.
-use Rattle.std.proofs.Common.{List, ℕ, [], ◌≡◌, ◌∙◌, ◌<◌, ◌≤◌, ◌+◌, ◌-◌, ◌*◌, ◌^◌, ◌++◌, ap, append-nil, append_assoc, arith, drop}
-use Rattle.std.proofs.Common.{flat_map, get_or, length, length-append, rules, sym, take, take_all, take_at}
-use Rattle.std.proofs.lemmas.List.{length-drop, take_rest}
-use Rattle.cap_spec.specs.Packing.{pack_text}
+use borrow.Rule.Slice.PartMut.{same_len_mid}
 use Rattle.cap_spec.proofs.Bytes.Plain.{length_plain}
-use Rattle.cap_frame.specs.Bytes.{cut}
+use Rattle.cap_spec.proofs.Prelude.{List, [], ap, append-nil, append_assoc, arith, drop, flat_map, get_or, length}
+use Rattle.cap_spec.proofs.Prelude.{length-append, length-drop, rules, sym, take, take_all, take_at, ℕ, ◌*◌, ◌++◌, ◌+◌}
+use Rattle.cap_spec.proofs.Prelude.{◌-◌, ◌<◌, ◌^◌, ◌∙◌, ◌≡◌, ◌≤◌, take_rest, table_of, pack_text}
 use Rattle.cap_words.proofs.Turns.{filled}
-use Rattle.cap_spec.specs.PackedFrames.{table_of}
+use Rattle.cap_frame.specs.Bytes.{cut}
 use Rattle.cap_calls.proofs.PackedFrames.{texts_fit, texts_more}
 use Rattle.cap_calls.proofs.calls.pack_message.write_parts.Goals as goal
-use borrow.Rule.Slice.PartMut.{same_len_mid}
 
 pub segments-init : goal.segments-init
 segments-init c =

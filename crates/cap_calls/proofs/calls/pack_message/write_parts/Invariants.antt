@@ -1,7 +1,5 @@
-use Rattle.std.proofs.Common.{◌≡◌, ◌≤◌, ◌+◌, ◌*◌, ◌++◌, flat_map, length, take}
-use Rattle.cap_spec.specs.Packing.{pack_text}
+use Rattle.cap_spec.proofs.Prelude.{flat_map, length, take, ◌*◌, ◌++◌, ◌+◌, ◌≡◌, ◌≤◌, packed_frame, table_of, pack_text}
 use Rattle.cap_frame.specs.Bytes.{cut}
-use Rattle.cap_spec.specs.PackedFrames.{packed_frame, table_of}
 use Rattle.cap_calls.proofs.calls.pack_message.write_parts.Given as goal
 
 -- the table and the segments so far are written

@@ -1,8 +1,5 @@
-use Rattle.std.proofs.Common.{◌∙◌, ◌++◌, List, ap, drop, map, take}
-use Rattle.std.specs.Prelude.{slice_set}
-use Rattle.cap_spec.specs.declared.Step.TheVariants.{Ptr}
-use Rattle.cap_calls.specs.PointerCalls.{call_step}
-use Rattle.cap_calls.specs.declared.step.CallStep.{CallStep}
+use Rattle.std.proofs.Common.{List, ap, drop, map, slice_set, take, ◌++◌, ◌∙◌}
+use Rattle.cap_calls.specs.Prelude.{Ptr, call_step, CallStep}
 use Rattle.cap_calls.proofs.PointerPaths.{put_one}
 use Rattle.cap_calls.proofs.calls.pointer_path.put_steps.Goals as goal
 

@@ -1,4 +1,4 @@
-use Rattle.std.specs.Prelude.{◌≡◌, ◌++◌, drop, map, take}
+use Rattle.std.proofs.Common.{drop, map, take, ◌++◌, ◌≡◌}
 use Rattle.cap_calls.specs.PointerCalls.{call_step}
 use Rattle.cap_calls.proofs.calls.pointer_path.put_steps.Given as goal
 

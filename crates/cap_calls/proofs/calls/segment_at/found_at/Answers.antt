@@ -1,9 +1,8 @@
 -- By the number of segments.
 use Rattle.std.proofs.Common.{arith, length, refl, subst}
 use Rattle.cap_frame.specs.Framed.{frame_bytes, framed_segments}
-use Rattle.cap_calls.specs.CallFrames.{HasFrame, HasNoFrame}
-use Rattle.cap_calls.specs.SegmentCalls.{found, none, without}
-use Rattle.cap_calls.specs.declared.limits.CallLimits.{CallLimits}
+use Rattle.cap_calls.specs.Prelude.{HasFrame, HasNoFrame, found, CallLimits}
+use Rattle.cap_calls.specs.SegmentCalls.{none, without}
 use Rattle.cap_calls.proofs.calls.segment_at.found_at.Goals as goal
 
 pub returns-then-index-count : goal.returns-then-index-count

@@ -1,5 +1,5 @@
 -- The words of a message are few enough for a number of bytes.
-use Rattle.std.proofs.Common.{ℕ, List, ◌≡◌, ◌≤◌, ◌<◌, ◌∙◌, ◌+◌, ◌*◌, ◌/◌, ◌^◌, ap, arith, rules}
+use Rattle.std.proofs.Common.{List, ap, arith, rules, ℕ, ◌*◌, ◌+◌, ◌/◌, ◌<◌, ◌^◌, ◌∙◌, ◌≡◌, ◌≤◌}
 use Rattle.cap_frame.specs.Framed.{framed_segments}
 use Rattle.cap_frame.proofs.BehindTable.{segments_are, words_are}
 use Rattle.cap_vet.specs.Taken.{start_of}

@@ -1,5 +1,5 @@
 -- One segment more is before.
-use Rattle.std.proofs.Common.{◌<◌, arith, length}
+use Rattle.std.proofs.Common.{arith, length, ◌<◌}
 use Rattle.cap_frame.specs.Bytes.{cut}
 use Rattle.cap_vet.proofs.Ranges.{start_next}
 use Rattle.cap_calls.proofs.calls.segment_at.words_before.Goals as goal

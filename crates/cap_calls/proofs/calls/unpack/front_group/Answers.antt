@@ -1,5 +1,5 @@
 -- The group in front, by its tag.
-use Rattle.std.proofs.Common.{sym, arith}
+use Rattle.std.proofs.Common.{arith, sym}
 use Rattle.cap_calls.proofs.Unpacked.{marked_length, plain_count}
 use Rattle.cap_calls.proofs.calls.unpack.front_group.Goals as goal
 

@@ -1,6 +1,5 @@
 -- One group more is counted.
-use Rattle.std.proofs.Common.{ℕ, List, ◌≡◌, ◌∙◌, ◌-◌, ap, length, take, drop, arith}
-use Rattle.std.proofs.lemmas.List.{length-drop, take_all}
+use Rattle.std.proofs.Common.{List, ap, arith, drop, length, length-drop, take, take_all, ℕ, ◌-◌, ◌∙◌, ◌≡◌}
 use Rattle.cap_calls.proofs.Unpacked.{goes_on}
 use Rattle.cap_calls.proofs.calls.unpack.unpacked_words.Goals as goal
 

@@ -1,11 +1,8 @@
 -- The words of one stage more.
-use Rattle.std.proofs.Common.{List, ℕ, ◌∙◌, ◌≤◌, ◌+◌, ◌-◌, ap, arith, drop, drop-drop, inl, inr, length, refl, subst, sym, take}
-use Rattle.std.proofs.lemmas.Bool.{cases_lt}
-use Rattle.std.proofs.lemmas.List.{length-drop, length-take, take_rest}
-use Rattle.std.proofs.lemmas.Slice.{take-put_mid_below}
+use Rattle.cap_spec.proofs.Prelude.{List, ap, arith, drop, drop-drop, inl, inr, length, length-drop, length-take, refl}
+use Rattle.cap_spec.proofs.Prelude.{subst, sym, take, ℕ, ◌+◌, ◌-◌, ◌∙◌, ◌≤◌, cases_lt, take_rest, take-put_mid_below}
 use Rattle.cap_frame.specs.Limit.{limit_of}
-use Rattle.cap_calls.specs.PackedStreams.{words_to_come}
-use Rattle.cap_calls.specs.UnpackingMessages.{IsOpen}
+use Rattle.cap_calls.specs.Prelude.{words_to_come, IsOpen}
 use Rattle.cap_calls.proofs.GivenWords.{gives_more, gives_none}
 use Rattle.cap_calls.proofs.MessageStages.{ends_at, still_open, wanted_whole}
 use Rattle.cap_calls.proofs.calls.unpack_message.fill.Goals as goal

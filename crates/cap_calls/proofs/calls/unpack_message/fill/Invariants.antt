@@ -1,7 +1,6 @@
-use Rattle.std.proofs.Common.{ℕ, ◌≡◌, ◌<◌, ◌≤◌, ◌-◌, ◌%◌, length, take}
+use Rattle.std.proofs.Common.{length, take, ℕ, ◌%◌, ◌-◌, ◌<◌, ◌≡◌, ◌≤◌}
 use Rattle.cap_frame.specs.Limit.{limit_of}
-use Rattle.cap_calls.specs.PackedStreams.{WritesWords}
-use Rattle.cap_calls.specs.UnpackingMessages.{IsOpen}
+use Rattle.cap_calls.specs.Prelude.{WritesWords, IsOpen}
 use Rattle.cap_calls.proofs.calls.unpack_message.fill.Given as goal
 
 -- the words so far, before each of which the message was open

@@ -1,13 +1,11 @@
 -- The buffer is full, or the input ends.
-use Rattle.std.proofs.Common.{ℕ, ◌∙◌, ◌<◌, ◌+◌, ap, ap₂, arith, inl, inr, length, refl, sym}
-use Rattle.std.proofs.lemmas.Bool.{cases_lt}
-use Rattle.std.proofs.lemmas.Bool.Decides.{nat_tests}
+use Rattle.cap_spec.proofs.Prelude.{ap, ap₂, arith, inl, inr, length, refl, sym, ℕ, ◌+◌, ◌<◌, ◌∙◌, cases_lt, nat_tests}
 use Rattle.cap_calls.specs.UnpackingMessages.{too_small, truncated}
 use Rattle.cap_calls.specs.declared.report.CallReport.{CallReport}
-use Rattle.cap_calls.proofs.calls.unpack_message.open_stop.Goals as goal
-use Rattle.cap_calls.proofs.calls.unpack_message.open_stop.Goals.{else-given-eq0-via-then-given-eq0+then-given-eq0-2+else-is_empty}
-use Rattle.cap_calls.proofs.calls.unpack_message.open_stop.Goals.{else-given-eq0-via-then-given-eq0+else-given-eq0-2}
 use Rattle.cap_calls.proofs.calls.unpack_message.open_stop.Goals.{else-given-eq0-via-else-given-eq0}
+use Rattle.cap_calls.proofs.calls.unpack_message.open_stop.Goals.{else-given-eq0-via-then-given-eq0+else-given-eq0-2}
+use Rattle.cap_calls.proofs.calls.unpack_message.open_stop.Goals.{else-given-eq0-via-then-given-eq0+then-given-eq0-2+else-is_empty}
+use Rattle.cap_calls.proofs.calls.unpack_message.open_stop.Goals as goal
 
 pub returns-then-has_word-clause-stops : goal.returns-then-has_word-clause-stops
 returns-then-has_word-clause-stops c = λ limit size held e.

@@ -1,10 +1,8 @@
 -- The stop at each stage.
-use Rattle.std.proofs.Common.{ℕ, ◌∙◌, ap, ap₂, length, refl, subst, sym}
+use Rattle.std.proofs.Common.{ap, ap₂, length, refl, subst, sym, ℕ, ◌∙◌}
 use Rattle.cap_frame.specs.Fronts.{IsFront}
-use Rattle.cap_calls.specs.MessageStages.{IsEnd}
-use Rattle.cap_calls.specs.UnpackingMessages.{too_large, too_many, whole}
-use Rattle.cap_calls.specs.declared.calls.unpack_message.Stage.{Stage}
-use Rattle.cap_calls.specs.declared.report.CallReport.{CallReport}
+use Rattle.cap_calls.specs.Prelude.{IsEnd, too_many, Stage, CallReport}
+use Rattle.cap_calls.specs.UnpackingMessages.{too_large, whole}
 use Rattle.cap_calls.proofs.calls.unpack_message.stop_of.Goals as goal
 
 pub returns-in-Open-clause-stops : goal.returns-in-Open-clause-stops

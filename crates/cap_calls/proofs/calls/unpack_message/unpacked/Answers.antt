@@ -1,10 +1,8 @@
 -- What was written and why the call stops is what is told.
-use Rattle.std.proofs.Common.{List, ℕ, subst, sym}
-use Rattle.std.proofs.lemmas.List.{take_rest}
-use Rattle.cap_frame.specs.Limit.{limit_of}
+use Rattle.cap_spec.proofs.Prelude.{List, subst, sym, ℕ, take_rest}
 use Rattle.cap_words.proofs.AtHand.{bytes_small}
-use Rattle.cap_calls.specs.MessageStages.{IsEnd}
-use Rattle.cap_calls.specs.UnpackingMessages.{StopsCall}
+use Rattle.cap_frame.specs.Limit.{limit_of}
+use Rattle.cap_calls.specs.Prelude.{IsEnd, StopsCall}
 use Rattle.cap_calls.proofs.UnpackedFound.{told_stop}
 use Rattle.cap_calls.proofs.calls.unpack_message.unpacked.Goals as goal
 

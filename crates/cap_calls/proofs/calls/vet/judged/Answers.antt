@@ -1,5 +1,5 @@
 -- The verdict of the message.
-use Rattle.std.proofs.Common.{◌∙◌, ap}
+use Rattle.std.proofs.Common.{ap, ◌∙◌}
 use Rattle.cap_calls.specs.CallFindings.{accepted, accepted_found, refused}
 use Rattle.cap_calls.specs.declared.answer.Answer.TheVariants.{Good}
 use Rattle.cap_calls.proofs.calls.vet.judged.Goals as goal

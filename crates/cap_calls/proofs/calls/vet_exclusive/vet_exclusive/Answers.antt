@@ -1,5 +1,5 @@
 -- Nothing else is told of the bytes and the capacity.
-use Rattle.std.proofs.Common.{◌∙◌, ap, arith, inl, inr}
+use Rattle.std.proofs.Common.{ap, arith, inl, inr, ◌∙◌}
 use Rattle.cap_calls.specs.declared.report.CallReport.{CallReport}
 use Rattle.cap_calls.proofs.Answers.{by_flag, input_less}
 use Rattle.cap_calls.proofs.Bounds.{input_inside}

@@ -1,15 +1,11 @@
 -- What is found of the message.
-use Rattle.std.proofs.Common.{ℕ, List, ◌≡◌, ◌∙◌, ◌*◌, ap, ap₂, length, refl, subst, sum}
-use Rattle.std.specs.Prelude.{⊤}
-use Rattle.std.proofs.lemmas.List.{length-map}
-use Rattle.cap_spec.specs.Frames.{sizes_of}
-use Rattle.cap_spec.specs.Plain.{plain_words}
+use Rattle.cap_spec.proofs.Prelude.{List, ap, ap₂, length, refl, subst, sum, ℕ, ◌*◌, ◌∙◌, ◌≡◌, length-map, ⊤, sizes_of}
+use Rattle.cap_spec.proofs.Prelude.{plain_words}
 use Rattle.cap_vet.specs.Limits.{depth_of, words_of}
-use Rattle.cap_vet.specs.declared.demands.Demands.{Demands}
-use Rattle.cap_calls.specs.CallFindings.{Judges, framed_found}
-use Rattle.cap_calls.specs.Calls.{IsGood}
-use Rattle.cap_calls.specs.SegmentsCalls.{message, no_message}
-use Rattle.cap_calls.specs.Slices.{AreSegments, TellsNoSegments, bytes_of, segments_in, words_in}
+use Rattle.cap_calls.specs.Prelude.{Demands, Judges, framed_found, IsGood, message, AreSegments, TellsNoSegments}
+use Rattle.cap_calls.specs.Prelude.{segments_in, words_in}
+use Rattle.cap_calls.specs.SegmentsCalls.{no_message}
+use Rattle.cap_calls.specs.Slices.{bytes_of}
 use Rattle.cap_calls.proofs.calls.vet_segments.found_of.Goals as goal
 
 pub returns-in-Ok : goal.returns-in-Ok

@@ -1,5 +1,5 @@
 -- The segment has a word for each eight bytes.
-use Rattle.std.proofs.Common.{◌<◌, ◌/◌, ◌^◌, [], arith, length, rules, sym}
+use Rattle.std.proofs.Common.{[], arith, length, rules, sym, ◌/◌, ◌<◌, ◌^◌}
 use Rattle.cap_calls.proofs.OneSegments.{slice_size}
 use Rattle.cap_calls.proofs.one_slice.OneSliceSegments.len.Goals as goal
 

@@ -1,6 +1,5 @@
 -- Slices within the limit are short enough for segments.
-use Rattle.std.proofs.Common.{◌≡◌, ◌≤◌, arith, length}
-use Rattle.std.proofs.lemmas.Bool.Decides.{nat_tests}
+use Rattle.cap_spec.proofs.Prelude.{arith, length, ◌≡◌, ◌≤◌, nat_tests}
 use Rattle.cap_calls.specs.Slices.{bytes_of, words_in}
 use Rattle.cap_calls.proofs.SliceSegments.{are_message}
 use Rattle.cap_calls.proofs.slices.SliceMessage.new.Goals as goal

@@ -1,5 +1,5 @@
 -- The slice has as many words as the segment.
-use Rattle.std.proofs.Common.{◌<◌, ◌/◌, ◌^◌, [], arith, get_or, length, rules, sym}
+use Rattle.std.proofs.Common.{[], arith, get_or, length, rules, sym, ◌/◌, ◌<◌, ◌^◌}
 use Rattle.cap_calls.proofs.SliceSegments.{count_is, no_slice, slice_size}
 use Rattle.cap_calls.proofs.slices.SliceMessageSegments.len.Goals as goal
 

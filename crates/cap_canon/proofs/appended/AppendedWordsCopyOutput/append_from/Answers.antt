@@ -1,7 +1,5 @@
-use Rattle.std.proofs.Common.{◌≡◌, ◌*◌, ◌∙◌, ap, arith, length, length-append}
-use Rattle.cap_spec.specs.Denoting.{words_from}
-use Rattle.cap_spec.proofs.Bytes.Plain.{length_plain, words_exact}
-use Rattle.cap_spec.proofs.Trees.DenotedTrees.{range_length}
+use Rattle.cap_spec.proofs.Lemmas.{length_plain, words_exact, range_length}
+use Rattle.cap_spec.proofs.Prelude.{ap, arith, length, length-append, ◌*◌, ◌∙◌, ◌≡◌, words_from}
 use Rattle.cap_canon.proofs.Afters.{row_joined}
 use Rattle.cap_canon.proofs.Standing.{range_words}
 use Rattle.cap_canon.proofs.appended.AppendedWordsCopyOutput.append_from.Goals as goal

@@ -1,4 +1,4 @@
-use Rattle.std.proofs.Common.{◌∙◌, arith, inl, sym}
+use Rattle.std.proofs.Common.{arith, inl, sym, ◌∙◌}
 use Rattle.cap_canon.proofs.InOrder.{empty_differs, first_in_order, long_differs, other_count}
 use Rattle.cap_canon.proofs.in_order.InOrderFirstTurn.begin.Goals as goal
 

@@ -1,8 +1,6 @@
-use Rattle.std.proofs.Common.{◌∙◌, ◌++◌, [], ◌∷◌, List, ℕ, ap, sym, subst, rules, append_assoc}
-use Rattle.std.specs.List.{AllByRecursion}
-use Rattle.cap_spec.specs.Denoting.{words_from}
-use Rattle.cap_spec.specs.Words.{IsWord}
 use Rattle.cap_spec.proofs.Bytes.Lists.{all_append}
+use Rattle.cap_spec.proofs.Prelude.{List, [], ap, append_assoc, rules, subst, sym, ℕ, ◌++◌, ◌∙◌, ◌∷◌, AllByRecursion}
+use Rattle.cap_spec.proofs.Prelude.{words_from, IsWord}
 use Rattle.cap_canon.proofs.Afters.{fewer_before}
 use Rattle.cap_canon.proofs.Ranges.{range_more}
 use Rattle.cap_canon.proofs.output.CopyOutput.append_each.Goals as goal

@@ -1,7 +1,4 @@
-use Rattle.std.proofs.Common.{◌≡◌, ◌≤◌, ◌++◌, length, ℕ}
-use Rattle.std.specs.List.{AllByRecursion}
-use Rattle.cap_spec.specs.Denoting.{words_from}
-use Rattle.cap_spec.specs.Words.{IsWord}
+use Rattle.cap_spec.proofs.Prelude.{length, ℕ, ◌++◌, ◌≡◌, ◌≤◌, AllByRecursion, words_from, IsWord}
 use Rattle.cap_canon.proofs.output.CopyOutput.append_each.Given as goal
 
 abbrev pub invariant-words : goal.invariant-words

@@ -1,4 +1,4 @@
-use Rattle.std.proofs.Common.{◌≡◌, ◌+◌, arith}
+use Rattle.std.proofs.Common.{arith, ◌+◌, ◌≡◌}
 use Rattle.cap_canon.specs.CopyRuns.{IsShort, further_places, place}
 use Rattle.cap_canon.proofs.Runs.{next_short, rest_of_elements, rest_of_last, rest_of_row, second_short}
 use Rattle.cap_canon.proofs.run.CopyRun.advance.Goals as goal

@@ -1,7 +1,5 @@
-use Rattle.std.proofs.Common.{◌≡◌, ◌+◌, ◌*◌, ◌∙◌, ◌++◌, ap, arith, length, subst}
-use Rattle.cap_spec.specs.Denoting.{words_from}
-use Rattle.cap_spec.proofs.Bytes.Plain.{length_plain}
-use Rattle.cap_spec.proofs.Trees.DenotedTrees.{range_length}
+use Rattle.cap_spec.proofs.Lemmas.{length_plain, range_length}
+use Rattle.cap_spec.proofs.Prelude.{ap, arith, length, subst, ◌*◌, ◌++◌, ◌+◌, ◌∙◌, ◌≡◌, words_from}
 use Rattle.cap_canon.specs.FirstWords.{first_words}
 use Rattle.cap_canon.proofs.FirstWords.{first_words_count}
 use Rattle.cap_canon.proofs.Standing.{range_words}

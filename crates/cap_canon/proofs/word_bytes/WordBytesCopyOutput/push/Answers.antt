@@ -1,6 +1,6 @@
-use Rattle.std.proofs.Common.{◌*◌, ◌+◌, ◌≤◌, arith, length}
-use Rattle.cap_canon.proofs.FirstWords.{first_words_count, word_appended}
+use Rattle.std.proofs.Common.{arith, length, ◌*◌, ◌+◌, ◌≤◌}
 use Rattle.cap_spec.proofs.Bytes.Plain.{words_exact}
+use Rattle.cap_canon.proofs.FirstWords.{first_words_count, word_appended}
 use Rattle.cap_canon.proofs.word_bytes.WordBytesCopyOutput.push.Goals as goal
 
 pub write_word-requires : goal.write_word-requires

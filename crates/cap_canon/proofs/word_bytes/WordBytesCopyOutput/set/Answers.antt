@@ -1,4 +1,4 @@
-use Rattle.std.proofs.Common.{◌<◌, arith}
+use Rattle.std.proofs.Common.{arith, ◌<◌}
 use Rattle.cap_canon.proofs.FirstWords.{first_words_count, word_replaced}
 use Rattle.cap_canon.proofs.word_bytes.WordBytesCopyOutput.set.Goals as goal
 

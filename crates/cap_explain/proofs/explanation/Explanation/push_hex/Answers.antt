@@ -1,5 +1,4 @@
-use Rattle.std.proofs.Common.{◌++◌, ◌∙◌, ap, length, length-append}
-use Rattle.cap_spec.specs.Texts.{hex}
+use Rattle.cap_spec.proofs.Prelude.{ap, length, length-append, ◌++◌, ◌∙◌, hex}
 use Rattle.cap_explain.proofs.explanation.Explanation.push_hex.Goals as goal
 
 pub returns-clause-items : goal.returns-clause-items

@@ -1,7 +1,6 @@
 -- The loop has looked at the lengths of all segments, or met one that is too long.
-use Rattle.std.proofs.Common.{arith, ◌<◌, ◌≤◌, ◌^◌, length}
-use Rattle.std.proofs.lemmas.Bool.Decides.{nat_tests}
-use Rattle.cap_frame.proofs.Held.{held_more, held_message, held_too_long}
+use Rattle.cap_spec.proofs.Prelude.{arith, length, ◌<◌, ◌^◌, ◌≤◌, nat_tests}
+use Rattle.cap_frame.proofs.Held.{held_message, held_more, held_too_long}
 use Rattle.cap_frame.proofs.message.WordMessage.new.Goals as goal
 
 pub returns-then-len-gt4294967295-clause-some : goal.returns-then-len-gt4294967295-clause-some

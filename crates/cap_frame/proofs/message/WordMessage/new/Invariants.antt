@@ -1,5 +1,4 @@
-use Rattle.std.proofs.Common.{◌<◌, ◌^◌, length, map, take}
-use Rattle.std.specs.List.{All}
+use Rattle.std.proofs.Common.{All, length, map, take, ◌<◌, ◌^◌}
 use Rattle.cap_frame.proofs.message.WordMessage.new.Given as goal
 
 abbrev pub invariant-loop-words : goal.invariant-loop-words

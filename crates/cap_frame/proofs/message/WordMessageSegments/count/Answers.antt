@@ -1,5 +1,4 @@
-use Rattle.std.proofs.Common.{arith}
-use Rattle.std.proofs.lemmas.Grind.{common_steps}
+use Rattle.cap_spec.proofs.Prelude.{arith, common_steps}
 use Rattle.cap_frame.proofs.message.WordMessageSegments.count.Goals as goal
 
 pub returns : goal.returns

@@ -1,5 +1,5 @@
 -- A message's segments are short enough for the length of each to be a `u32`.
-use Rattle.std.proofs.Common.{rules, arith, ◌<◌, ◌^◌}
+use Rattle.std.proofs.Common.{arith, rules, ◌<◌, ◌^◌}
 use Rattle.cap_frame.proofs.Held.{held_fits}
 use Rattle.cap_frame.proofs.message.WordMessageSegments.len.Goals as goal
 

@@ -1,8 +1,8 @@
 -- The words that are asked for stand where the table of starts tells.
-use Rattle.std.proofs.Common.{rules, arith, ◌≡◌, ◌<◌, ◌+◌, ◌^◌, ◌∙◌, ap, length, slice_index_or}
-use Rattle.cap_frame.proofs.Cuts.{starts_length, cut_length}
-use Rattle.cap_frame.proofs.Parts.{part_facts}
+use Rattle.std.proofs.Common.{ap, arith, length, rules, slice_index_or, ◌+◌, ◌<◌, ◌^◌, ◌∙◌, ◌≡◌}
 use Rattle.cap_spec.specs.Plain.{plain_text, plain_words}
+use Rattle.cap_frame.proofs.Cuts.{cut_length, starts_length}
+use Rattle.cap_frame.proofs.Parts.{part_facts}
 use Rattle.cap_frame.proofs.view.ByteView.bytes.Goals as goal
 
 pub bounds-self-s : goal.bounds-self-s

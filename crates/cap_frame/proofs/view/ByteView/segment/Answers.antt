@@ -1,10 +1,8 @@
 -- The words of a segment are where the table of starts says.
-use Rattle.std.proofs.Common.{arith, ◌≡◌, ◌<◌, ◌+◌, ◌-◌, ◌*◌, ◌∙◌, ℕ, ap, drop, length, slice_index_or, slice_range, take}
-use Rattle.std.proofs.lemmas.List.{take_all}
-use Rattle.cap_spec.specs.Messages.{segment_of}
-use Rattle.cap_spec.specs.Plain.{plain_text, plain_words}
+use Rattle.cap_spec.proofs.Prelude.{ap, arith, drop, length, slice_index_or, slice_range, take, take_all, ℕ, ◌*◌, ◌+◌}
+use Rattle.cap_spec.proofs.Prelude.{◌-◌, ◌<◌, ◌∙◌, ◌≡◌, segment_of, plain_text, plain_words}
 use Rattle.cap_frame.specs.Bytes.{cut}
-use Rattle.cap_frame.proofs.Cuts.{starts_length, cut_length}
+use Rattle.cap_frame.proofs.Cuts.{cut_length, starts_length}
 use Rattle.cap_frame.proofs.Parts.{part_facts}
 use Rattle.cap_frame.proofs.view.ByteView.segment.Goals as goal
 

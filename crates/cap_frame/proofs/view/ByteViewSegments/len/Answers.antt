@@ -1,4 +1,4 @@
-use Rattle.std.proofs.Common.{sym, arith, ◌<◌, length}
+use Rattle.std.proofs.Common.{arith, length, sym, ◌<◌}
 use Rattle.cap_frame.proofs.Cuts.{cut_length, cut_words}
 use Rattle.cap_frame.proofs.view.ByteViewSegments.len.Goals as goal
 

@@ -1,7 +1,6 @@
-use Rattle.std.proofs.Common.{rules, arith, ◌≡◌, ◌<◌, ◌*◌, ◌+◌, ◌^◌, ◌∙◌, ap, sym, length, Some, slice_index_or}
-use Rattle.std.proofs.lemmas.List.{take_rest, length-drop}
-use Rattle.byteorder.specs.Endian.{little_number}
-use Rattle.cap_frame.proofs.Cuts.{place_facts, starts_length, cut_length}
+use Rattle.cap_spec.proofs.Prelude.{Some, ap, arith, length, length-drop, rules, slice_index_or, sym, ◌*◌, ◌+◌, ◌<◌}
+use Rattle.cap_spec.proofs.Prelude.{◌^◌, ◌∙◌, ◌≡◌, take_rest, little_number}
+use Rattle.cap_frame.proofs.Cuts.{cut_length, place_facts, starts_length}
 use Rattle.cap_frame.proofs.view.ByteViewSegments.word.Goals as goal
 
 pub bounds-self-s : goal.bounds-self-s

@@ -1,7 +1,6 @@
-use Rattle.std.specs.Prelude.{refl}
-use Rattle.std.proofs.Common.{arith}
-use Rattle.cap_pack.specs.declared.lanes.spread.TheConstants.{SPREAD}
+use Rattle.std.proofs.Common.{arith, refl}
 use Rattle.cap_pack.specs.Places.{spread_row}
+use Rattle.cap_pack.specs.declared.lanes.spread.TheConstants.{SPREAD}
 use Rattle.cap_pack.proofs.Shuffles.{row_of}
 use Rattle.cap_pack.proofs.lanes.spread.spread_places.Goals as goal
 

@@ -1,7 +1,6 @@
-use Rattle.std.specs.Prelude.{refl}
-use Rattle.std.proofs.Common.{arith}
-use Rattle.cap_pack.specs.declared.lanes.squeeze.TheConstants.{SQUEEZE}
+use Rattle.std.proofs.Common.{arith, refl}
 use Rattle.cap_pack.specs.Places.{squeeze_row}
+use Rattle.cap_pack.specs.declared.lanes.squeeze.TheConstants.{SQUEEZE}
 use Rattle.cap_pack.proofs.Shuffles.{row_of}
 use Rattle.cap_pack.proofs.lanes.squeeze.squeeze_places.Goals as goal
 

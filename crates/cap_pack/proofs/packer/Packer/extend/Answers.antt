@@ -1,4 +1,4 @@
-use Rattle.std.proofs.Common.{◌+◌, ◌∷◌, ◌++◌, take, refl, ap, sym, ◌∙◌, arith}
+use Rattle.std.proofs.Common.{ap, arith, refl, sym, take, ◌++◌, ◌+◌, ◌∙◌, ◌∷◌}
 use Rattle.cap_pack.specs.Holding.{held}
 use Rattle.cap_pack.proofs.GroupsSpelled.{full_apart, full_one, plain_extended, zeros_apart, zeros_joined, zeros_one}
 use Rattle.cap_pack.proofs.packer.Packer.extend.Goals as goal

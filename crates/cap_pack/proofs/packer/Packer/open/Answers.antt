@@ -1,4 +1,4 @@
-use Rattle.std.proofs.Common.{◌-◌, length, refl, arith}
+use Rattle.std.proofs.Common.{arith, length, refl, ◌-◌}
 use Rattle.cap_pack.proofs.GroupsSpelled.{run_zeros, zeros_one}
 use Rattle.cap_pack.proofs.packer.Packer.open.Goals as goal
 

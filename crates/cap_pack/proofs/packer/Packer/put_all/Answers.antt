@@ -1,4 +1,4 @@
-use Rattle.std.proofs.Common.{◌∙◌, ◌||◌, ap, sym, refl, arith, drop}
+use Rattle.std.proofs.Common.{ap, arith, drop, refl, sym, ◌||◌, ◌∙◌}
 use Rattle.cap_pack.proofs.GroupsSpelled.{piece_split}
 use Rattle.cap_pack.proofs.PuttingEach.{put_more, put_stops}
 use Rattle.cap_pack.proofs.packer.Packer.put_all.Goals as goal

@@ -1,11 +1,8 @@
-use Rattle.std.proofs.Common.{◌≡◌, ◌++◌, ◌-◌, take, drop, length, sym, subst, ◌∙◌, arith}
-use Rattle.std.specs.Io.KnownBytes.{Keeps, append_known}
-use Rattle.std.proofs.KnownBytes.{append_known-moved}
-use Rattle.std.proofs.lemmas.List.{take_rest}
-use Rattle.cap_spec.specs.Packing.{pack_text}
+use Rattle.cap_spec.proofs.Prelude.{arith, drop, length, subst, sym, take, ◌++◌, ◌-◌, ◌∙◌, ◌≡◌, append_known-moved}
+use Rattle.cap_spec.proofs.Prelude.{take_rest, Keeps, append_known, pack_text}
 use Rattle.cap_words.specs.Sinks.{Begins}
 use Rattle.cap_words.proofs.PlainSpelling.{part_begins}
-use Rattle.cap_pack.specs.Holding.{held, group_bytes}
+use Rattle.cap_pack.specs.Holding.{group_bytes, held}
 use Rattle.cap_pack.proofs.GroupsSpelled.{left_behind, piece_spelled}
 use Rattle.cap_pack.proofs.packer.Packer.put_piece.Goals as goal
 

@@ -1,8 +1,7 @@
-use Rattle.std.proofs.Common.{[], ◌++◌, refl, arith}
-use Rattle.cap_spec.specs.Packing.{pack_text}
+use Rattle.cap_spec.proofs.Prelude.{[], arith, refl, ◌++◌, pack_text}
 use Rattle.cap_words.proofs.PlainSpelling.{part_begins}
-use Rattle.cap_pack.specs.Holding.{held, group_bytes}
-use Rattle.cap_pack.proofs.Joining.{no_more, group_written}
+use Rattle.cap_pack.specs.Holding.{group_bytes, held}
+use Rattle.cap_pack.proofs.Joining.{group_written, no_more}
 use Rattle.cap_pack.proofs.packer.PackerWordSink.finish.Goals as goal
 
 pub returns-in-Ok-clause-finished : goal.returns-in-Ok-clause-finished

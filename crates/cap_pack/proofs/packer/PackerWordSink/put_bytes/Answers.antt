@@ -1,5 +1,4 @@
-use Rattle.std.proofs.Common.{◌+◌, ◌*◌, ◌∙◌, ◌||◌, ap, sym, refl, arith, drop, take}
-use Rattle.cap_spec.specs.Plain.{plain_words}
+use Rattle.cap_spec.proofs.Prelude.{ap, arith, drop, refl, sym, take, ◌*◌, ◌+◌, ◌||◌, ◌∙◌, plain_words}
 use Rattle.cap_pack.proofs.PuttingEach.{no_word, put_all, put_more, put_stops, words_next}
 use Rattle.cap_pack.proofs.packer.PackerWordSink.put_bytes.Goals as goal
 

@@ -1,4 +1,4 @@
-use Rattle.cap_pack.proofs.Steps.{new_words, new_cut, new_places}
+use Rattle.cap_pack.proofs.Steps.{new_cut, new_places, new_words}
 use Rattle.cap_pack.proofs.unpacker.Unpacker.new.Goals as goal
 
 pub returns-clause-words : goal.returns-clause-words

@@ -1,5 +1,4 @@
-use Rattle.std.proofs.Common.{◌≡◌, ◌*◌, inr, length, take, arith}
-use Rattle.std.proofs.lemmas.List.{length-take-le}
+use Rattle.std.proofs.Common.{arith, inr, length, length-take-le, take, ◌*◌, ◌≡◌}
 use Rattle.cap_pack.proofs.AtHand.{words_appended}
 use Rattle.cap_pack.proofs.unpacker.UnpackerWordSource.append.Goals as goal
 

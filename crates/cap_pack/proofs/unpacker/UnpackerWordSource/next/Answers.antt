@@ -1,9 +1,9 @@
-use Rattle.std.proofs.Common.{◌-◌, [], refl, ap, sym, ◌∙◌, arith}
-use Rattle.std.proofs.KnownBytes.{Consumes-nil}
+use Rattle.cap_spec.proofs.Prelude.{[], ap, arith, refl, sym, ◌-◌, ◌∙◌, Consumes-nil}
+use Rattle.cap_words.specs.declared.phase.Phase.TheVariants.{Ended}
 use Rattle.cap_pack.specs.Course.{ends}
 use Rattle.cap_pack.specs.State.{ahead}
-use Rattle.cap_words.specs.declared.phase.Phase.TheVariants.{Ended}
-use Rattle.cap_pack.proofs.Steps.{given_words, given_rest, zero_step, word_cut_step, left_cut, left_none, none_words, no_group}
+use Rattle.cap_pack.proofs.Steps.{given_rest, given_words, left_cut, left_none, no_group, none_words, word_cut_step}
+use Rattle.cap_pack.proofs.Steps.{zero_step}
 use Rattle.cap_pack.proofs.unpacker.UnpackerWordSource.next.Goals as goal
 
 pub returns-then-self-gt0-clause-words : goal.returns-then-self-gt0-clause-words

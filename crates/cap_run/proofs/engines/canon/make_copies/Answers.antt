@@ -1,7 +1,7 @@
-use Rattle.std.proofs.Common.{◌∙◌, subst, sym}
+use Rattle.std.proofs.Common.{subst, sym, ◌∙◌}
 use Rattle.cap_frame.specs.Putting.{Blames}
-use Rattle.cap_run.proofs.Transcoding.{blames_of}
 use Rattle.cap_run.proofs.Making.{made_spoiled}
+use Rattle.cap_run.proofs.Transcoding.{blames_of}
 use Rattle.cap_run.proofs.engines.canon.make_copies.Goals as goal
 
 pub returns-in-Err : goal.returns-in-Err

@@ -1,7 +1,5 @@
-use Rattle.std.proofs.Common.{arith, refl, subst}
-use Rattle.std.proofs.lemmas.List.{length-take-le}
-use Rattle.cap_vet.specs.Limits.{depth_of, words_of}
-use Rattle.cap_vet.specs.Vettings.{report_of}
+use Rattle.std.proofs.Common.{arith, length-take-le, refl, subst}
+use Rattle.cap_vet.specs.Prelude.{depth_of, words_of, report_of}
 use Rattle.cap_run.specs.Canons.{HasNoCopy}
 use Rattle.cap_run.proofs.Demanding.{under_few}
 use Rattle.cap_run.proofs.Making.{has_no_copy, stops_refused}

@@ -1,11 +1,10 @@
-use Rattle.std.proofs.Common.{[], ◌∷◌, List, ℕ, subst, sym, arith}
-use Rattle.cap_spec.specs.Plain.{plain_words}
+use Rattle.cap_spec.proofs.Prelude.{List, [], arith, subst, sym, ℕ, ◌∷◌, plain_words}
 use Rattle.cap_frame.specs.Putting.{Halts}
 use Rattle.cap_frame.proofs.Putting.{halts_before, halts_of}
 use Rattle.cap_run.specs.Transcoding.{PutsWords}
-use Rattle.cap_run.proofs.Transcoding.{fills_both}
 use Rattle.cap_run.proofs.Handing.{fills_of, frame_of_bytes}
 use Rattle.cap_run.proofs.Making.{halts_behind}
+use Rattle.cap_run.proofs.Transcoding.{fills_both}
 use Rattle.cap_run.proofs.engines.canon.put_framed.Goals as goal
 
 pub returns-in-Err-clause-err : goal.returns-in-Err-clause-err

@@ -1,7 +1,5 @@
-use Rattle.std.proofs.Common.{[], ◌∷◌, subst, sym}
-use Rattle.cap_spec.specs.Frames.{frame_text}
-use Rattle.cap_frame.specs.Limit.{limit_of}
-use Rattle.cap_frame.specs.Putting.{Halts}
+use Rattle.cap_spec.proofs.Prelude.{[], subst, sym, ◌∷◌, frame_text}
+use Rattle.cap_frame.specs.Prelude.{limit_of, Halts}
 use Rattle.cap_run.proofs.Making.{next_stops}
 use Rattle.cap_run.proofs.Streams.{reads_named}
 use Rattle.cap_run.proofs.engines.canon.put_next.Goals as goal

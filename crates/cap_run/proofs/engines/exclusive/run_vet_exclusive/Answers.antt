@@ -1,9 +1,6 @@
 use Rattle.std.proofs.Common.{subst}
 use Rattle.cap_frame.specs.Limit.{limit_of}
-use Rattle.cap_vet.specs.declared.demands.Demands.{Demands}
-use Rattle.cap_run.specs.Demanding.{OrFaultIn, TellsMarked, WantsIn}
-use Rattle.cap_run.specs.Engines.{TellsStream}
-use Rattle.cap_run.specs.Vetting.{WantsMarks}
+use Rattle.cap_run.specs.Prelude.{Demands, OrFaultIn, TellsMarked, WantsIn, TellsStream, WantsMarks}
 use Rattle.cap_run.proofs.Demanding.{default_none}
 use Rattle.cap_run.proofs.engines.exclusive.run_vet_exclusive.Goals as goal
 

@@ -1,9 +1,6 @@
 use Rattle.cap_frame.specs.Limit.{limit_of}
 use Rattle.cap_vet.specs.Limits.{depth_of, words_of}
-use Rattle.cap_run.specs.Demanding.{WantsUnder}
-use Rattle.cap_run.specs.Explained.{OrFaultLines}
-use Rattle.cap_run.specs.Telling.{WantsNone}
-use Rattle.cap_run.specs.Vetting.{TellsAccepted}
+use Rattle.cap_run.specs.Prelude.{WantsUnder, OrFaultLines, WantsNone, TellsAccepted}
 use Rattle.cap_run.proofs.Demanding.{stream_as}
 use Rattle.cap_run.proofs.engines.explain.run_explain.Goals as goal
 

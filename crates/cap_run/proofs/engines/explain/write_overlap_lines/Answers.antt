@@ -1,6 +1,5 @@
-use Rattle.std.proofs.Common.{◌∙◌, ◌++◌, ap, codes, subst, List, ℕ}
+use Rattle.cap_spec.proofs.Prelude.{List, ap, codes, subst, ℕ, ◌++◌, ◌∙◌, refused, vet_text}
 use Rattle.cap_explain.specs.Explaining.{overlap_explanation}
-use Rattle.cap_spec.specs.Texts.{refused, vet_text}
 use Rattle.cap_text.specs.Writing.{Writes}
 use Rattle.cap_text.proofs.Writing.{stopped_more}
 use Rattle.cap_run.proofs.engines.explain.write_overlap_lines.Goals as goal

@@ -1,7 +1,6 @@
-use Rattle.std.proofs.Common.{◌∙◌, ◌++◌, ap, subst, List, ℕ}
-use Rattle.cap_explain.specs.Explaining.{explanation}
-use Rattle.cap_spec.specs.Texts.{strict_verdict, vet_text}
+use Rattle.cap_spec.proofs.Prelude.{List, ap, subst, ℕ, ◌++◌, ◌∙◌, strict_verdict, vet_text}
 use Rattle.cap_vet.specs.Limits.{depth_of, words_of}
+use Rattle.cap_explain.specs.Explaining.{explanation}
 use Rattle.cap_text.specs.Writing.{Writes}
 use Rattle.cap_text.proofs.Writing.{stopped_more}
 use Rattle.cap_run.proofs.engines.explain.write_refusal.Goals as goal

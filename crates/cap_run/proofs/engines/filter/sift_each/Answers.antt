@@ -1,5 +1,6 @@
 use Rattle.std.proofs.Common.{arith}
-use Rattle.cap_run.proofs.Sifting.{sieving_done, sieving_last, sieving_more, sieving_noncanonical, sieving_none, sieving_refused, sieving_stops}
+use Rattle.cap_run.proofs.Sifting.{sieving_done, sieving_last, sieving_more, sieving_noncanonical, sieving_none}
+use Rattle.cap_run.proofs.Sifting.{sieving_refused, sieving_stops}
 use Rattle.cap_run.proofs.engines.filter.sift_each.Goals as goal
 
 pub loop-number-init : goal.loop-number-init

@@ -1,8 +1,7 @@
-use Rattle.std.proofs.Common.{◌≡◌, Err, List, Ok, subst, ℕ}
+use Rattle.std.proofs.Common.{Err, List, Ok, subst, ℕ, ◌≡◌}
 use Rattle.cap_frame.specs.Limit.{limit_of}
-use Rattle.cap_run.specs.Sieves.{SiftsOne, SieveTells, SieveWants}
-use Rattle.cap_run.specs.Sifting.{SiftsNext}
-use Rattle.cap_run.specs.declared.engines.stream.Counted.{Counted}
+use Rattle.cap_run.specs.Prelude.{SieveTells, SieveWants, SiftsNext, Counted}
+use Rattle.cap_run.specs.Sieves.{SiftsOne}
 use Rattle.cap_run.proofs.Sifting.{sift_stopped}
 use Rattle.cap_run.proofs.Streams.{reads_named}
 use Rattle.cap_run.proofs.engines.filter.sift_next.Goals as goal

@@ -1,10 +1,7 @@
 use Rattle.std.proofs.Common.{subst}
 use Rattle.cap_frame.specs.Limit.{limit_of}
 use Rattle.cap_vet.specs.Limits.{depth_of, words_of}
-use Rattle.cap_vet.specs.declared.demands.Demands.{Demands}
-use Rattle.cap_run.specs.Demanding.{TellsGetUnder}
-use Rattle.cap_run.specs.Engines.{TellsStream}
-use Rattle.cap_run.specs.Telling.{WantsNone}
+use Rattle.cap_run.specs.Prelude.{Demands, TellsGetUnder, TellsStream, WantsNone}
 use Rattle.cap_run.proofs.Demanding.{default_none}
 use Rattle.cap_run.proofs.engines.get.run_get.Goals as goal
 

@@ -1,7 +1,5 @@
 -- Each turn writes the text of the next segment.
-use Rattle.std.proofs.Common.{◌+◌, ◌++◌, List, ℕ, arith, drop, flat_map, subst}
-use Rattle.cap_spec.specs.Messages.{segment_of}
-use Rattle.cap_spec.specs.Packing.{pack_text}
+use Rattle.cap_spec.proofs.Prelude.{List, arith, drop, flat_map, subst, ℕ, ◌++◌, ◌+◌, segment_of, pack_text}
 use Rattle.cap_frame.specs.Bytes.{cut}
 use Rattle.cap_text.specs.Writing.{Stopped, Wrote}
 use Rattle.cap_run.proofs.Passing.{left_less, left_stops, texts_from}

@@ -1,6 +1,5 @@
 -- The table is packed whole, and its text isn't empty.
-use Rattle.std.proofs.Common.{◌<◌, List, ℕ, arith, length, subst, sym}
-use Rattle.std.proofs.lemmas.List.{length-take-le}
+use Rattle.std.proofs.Common.{List, arith, length, length-take-le, subst, sym, ℕ, ◌<◌}
 use Rattle.cap_text.specs.Writing.{Writes}
 use Rattle.cap_run.proofs.Passing.{packed_written, some_packed_table}
 use Rattle.cap_run.proofs.engines.passing.write_packed_table.Goals as goal

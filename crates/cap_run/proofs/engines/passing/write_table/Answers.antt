@@ -1,4 +1,4 @@
-use Rattle.std.proofs.Common.{◌<◌, List, ℕ, length, subst, sym}
+use Rattle.std.proofs.Common.{List, length, subst, sym, ℕ, ◌<◌}
 use Rattle.cap_text.specs.Writing.{Writes}
 use Rattle.cap_run.proofs.Passing.{some_table}
 use Rattle.cap_run.proofs.engines.passing.write_table.Goals as goal

@@ -1,6 +1,6 @@
 use Rattle.std.proofs.Common.{inl, inr, refl}
-use Rattle.cap_text.specs.Lines.{accepted_text}
 use Rattle.cap_vet.specs.Vettings.{report_of}
+use Rattle.cap_text.specs.Lines.{accepted_text}
 use Rattle.cap_run.proofs.engines.sifting.first_overlap.Goals as goal
 
 pub returns-in-Ok : goal.returns-in-Ok

@@ -1,5 +1,5 @@
-use Rattle.cap_run.proofs.Streams.{reads_one}
 use Rattle.cap_frame.specs.Limit.{limit_of}
+use Rattle.cap_run.proofs.Streams.{reads_one}
 use Rattle.cap_run.proofs.engines.stream.end_stream.Goals as goal
 
 pub returns-in-Ok-true-clause-err : goal.returns-in-Ok-true-clause-err

@@ -1,6 +1,6 @@
-use Rattle.std.proofs.Common.{sym, arith}
+use Rattle.std.proofs.Common.{arith, sym}
 use Rattle.cap_text.specs.declared.fault.Cause.TheVariants.{Output}
-use Rattle.cap_run.proofs.Going.{going_none, going_more, going_stops, going_refused, going_noncanonical}
+use Rattle.cap_run.proofs.Going.{going_more, going_noncanonical, going_none, going_refused, going_stops}
 use Rattle.cap_run.proofs.engines.stream.tell_each.Goals as goal
 
 pub loop-number-init : goal.loop-number-init

@@ -1,11 +1,10 @@
-use Rattle.std.proofs.Common.{take, arith, subst, sym}
-use Rattle.cap_spec.specs.Plain.{plain_words}
+use Rattle.cap_spec.proofs.Prelude.{arith, subst, sym, take, plain_words}
 use Rattle.cap_frame.specs.Putting.{Halts}
+use Rattle.cap_frame.proofs.Putting.{halts_of}
+use Rattle.cap_frame.proofs.Skips.{words_in}
 use Rattle.cap_run.specs.PuttingEnds.{Transcodes}
 use Rattle.cap_run.proofs.Handed.{copies_start, gives_ready}
 use Rattle.cap_run.proofs.Handing.{fills_of}
-use Rattle.cap_frame.proofs.Putting.{halts_of}
-use Rattle.cap_frame.proofs.Skips.{words_in}
 use Rattle.cap_run.proofs.engines.transcode.put_ready.Goals as goal
 
 pub returns-then-count-eq0-clause-ok : goal.returns-then-count-eq0-clause-ok

@@ -1,4 +1,4 @@
-use Rattle.std.proofs.Common.{[], ◌∷◌, subst, sym}
+use Rattle.std.proofs.Common.{[], subst, sym, ◌∷◌}
 use Rattle.cap_frame.specs.Putting.{Halts}
 use Rattle.cap_run.proofs.Handing.{fills_of}
 use Rattle.cap_run.proofs.engines.transcode.put_word.Goals as goal

@@ -1,8 +1,7 @@
-use Rattle.std.proofs.Common.{◌*◌, ◌+◌, ◌≡◌, arith, refl, subst}
-use Rattle.std.proofs.lemmas.List.{length-take-le}
-use Rattle.cap_run.proofs.Transcoding.{copied_stopped, copies_more, copies_stops, gives_one}
-use Rattle.cap_run.proofs.Handed.{copies_both, copies_start, gives_no_next, stops_midway}
+use Rattle.std.proofs.Common.{arith, length-take-le, refl, subst, ◌*◌, ◌+◌, ◌≡◌}
 use Rattle.cap_run.specs.PuttingEnds.{Transcodes}
+use Rattle.cap_run.proofs.Handed.{copies_both, copies_start, gives_no_next, stops_midway}
+use Rattle.cap_run.proofs.Transcoding.{copied_stopped, copies_more, copies_stops, gives_one}
 use Rattle.cap_run.proofs.engines.transcode.put_words.Goals as goal
 
 pub loop-put-init : goal.loop-put-init

@@ -1,4 +1,4 @@
-use Rattle.std.proofs.Common.{◌-◌, ◌≡◌, ◌≤◌, length}
+use Rattle.std.proofs.Common.{length, ◌-◌, ◌≡◌, ◌≤◌}
 use Rattle.cap_run.specs.PuttingEnds.{Transcodes}
 use Rattle.cap_run.proofs.engines.transcode.put_words.Given as goal
 

@@ -1,4 +1,4 @@
-use Rattle.std.proofs.Common.{◌∙◌, inr, subst, sym}
+use Rattle.std.proofs.Common.{inr, subst, sym, ◌∙◌}
 use Rattle.cap_frame.specs.Putting.{Blames}
 use Rattle.cap_run.proofs.Transcoding.{blames_of, copied_failed, copied_finished, copied_spoiled}
 use Rattle.cap_run.proofs.engines.transcode.transcode.Goals as goal

@@ -1,4 +1,5 @@
-use Rattle.std.proofs.Common.{◌≡◌, ◌+◌, ◌++◌, ◌∙◌, ap, arith, decimal, drop, length, length-append, length-take-le, subst, sym, take}
+use Rattle.std.proofs.Common.{ap, arith, decimal, drop, length, length-append, length-take-le, subst, sym, take, ◌++◌}
+use Rattle.std.proofs.Common.{◌+◌, ◌∙◌, ◌≡◌}
 use Rattle.cap_text.proofs.Numbers.{length-decimal_few, text_behind}
 use Rattle.cap_text.proofs.page.Page.push_number.Goals as goal
 

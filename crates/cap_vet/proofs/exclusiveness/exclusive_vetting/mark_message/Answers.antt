@@ -1,5 +1,4 @@
-use Rattle.std.proofs.Common.{◌≡◌, length, rules, arith}
-use Rattle.cap_spec.specs.Messages.{IsMessage}
+use Rattle.cap_spec.proofs.Prelude.{arith, length, rules, ◌≡◌, IsMessage}
 use Rattle.cap_vet.proofs.Ranges.{one_start}
 use Rattle.cap_vet.proofs.exclusiveness.exclusive_vetting.mark_message.Goals as goal
 

@@ -1,10 +1,6 @@
-use Rattle.std.proofs.Common.{◌≡◌, ap, subst, sym, Err}
-use Rattle.cap_spec.specs.Faults.{IsRefused}
-use Rattle.cap_spec.specs.Occupying.{IsFirstOverlap}
-use Rattle.cap_spec.specs.declared.Refusal.{Refusal}
-use Rattle.cap_spec.proofs.Verdicts.OneFault.{one_refusal}
-use Rattle.cap_spec.proofs.Verdicts.Refusals.{within_not_refused}
-use Rattle.cap_vet.specs.Limits.{depth_of, words_of}
+use Rattle.cap_spec.proofs.Lemmas.{one_refusal, within_not_refused}
+use Rattle.cap_spec.proofs.Prelude.{Err, ap, subst, sym, ◌≡◌, IsRefused, IsFirstOverlap}
+use Rattle.cap_vet.specs.Prelude.{Refusal, depth_of, words_of}
 use Rattle.cap_vet.specs.declared.exclusiveness.exclusive_vetting.ExclusiveRefusal.TheVariants.{Refused}
 use Rattle.cap_vet.proofs.OneReport.{not_both}
 use Rattle.cap_vet.proofs.Splitting.{exclusive_bound, exclusive_ok}

@@ -1,4 +1,4 @@
-use Rattle.std.proofs.Common.{◌<◌, ◌∙◌, ℕ, arith, ap, length, List, slice_index_or}
+use Rattle.std.proofs.Common.{List, ap, arith, length, slice_index_or, ℕ, ◌<◌, ◌∙◌}
 use Rattle.cap_vet.proofs.Ranges.{start_next, starts_more}
 use Rattle.cap_vet.proofs.exclusiveness.marks.fill_starts.Goals as goal
 

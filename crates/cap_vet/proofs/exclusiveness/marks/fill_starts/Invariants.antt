@@ -1,4 +1,4 @@
-use Rattle.std.proofs.Common.{◌≡◌, ◌≤◌, ◌<◌, ◌*◌, ◌^◌, ℕ, length, slice_index_or}
+use Rattle.std.proofs.Common.{length, slice_index_or, ℕ, ◌*◌, ◌<◌, ◌^◌, ◌≡◌, ◌≤◌}
 use Rattle.cap_vet.specs.Taken.{start_of}
 use Rattle.cap_vet.proofs.exclusiveness.marks.fill_starts.Given as goal
 

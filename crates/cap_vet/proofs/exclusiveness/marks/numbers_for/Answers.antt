@@ -1,4 +1,4 @@
-use Rattle.std.proofs.Common.{◌∙◌, ◌/◌, ◌+◌, ap, arith}
+use Rattle.std.proofs.Common.{ap, arith, ◌+◌, ◌/◌, ◌∙◌}
 use Rattle.cap_vet.proofs.Ranges.{all_words}
 use Rattle.cap_vet.proofs.exclusiveness.marks.numbers_for.Goals as goal
 

@@ -1,6 +1,6 @@
-use Rattle.std.proofs.Common.{◌≡◌, ◌≤◌, ◌/◌, ◌≢◌, ◌∙◌, sym, subst, arith, slice_index_or, bit_and}
+use Rattle.std.proofs.Common.{arith, bit_and, slice_index_or, subst, sym, ◌/◌, ◌∙◌, ◌≡◌, ◌≢◌, ◌≤◌}
 use Rattle.std.proofs.Math.Facts.{Fits-lt-pow}
-use Rattle.cap_vet.proofs.Bits.{finds_taken, sets_word, reaches_on}
+use Rattle.cap_vet.proofs.Bits.{finds_taken, reaches_on, sets_word}
 use Rattle.cap_vet.proofs.exclusiveness.marks.set_bits.Goals as goal
 
 pub returns-then-words-k-ne0-clause-conflict : goal.returns-then-words-k-ne0-clause-conflict

@@ -1,12 +1,7 @@
-use Rattle.std.proofs.Common.{◌≡◌, ◌++◌, ◌∷◌, ◌<◌, ◌∙◌, [], Err, length, take, drop, get_or, ap, subst, suc, sym, arith, inr, append_assoc}
-use Rattle.std.proofs.Math.Seq.{split_at}
-use Rattle.std.proofs.lemmas.List.{take_all, take_more}
-use Rattle.cap_spec.specs.Getting.{AreOnPath}
-use Rattle.cap_spec.specs.Paths.{ReachesSpot}
-use Rattle.cap_spec.specs.declared.Step.{Step}
-use Rattle.cap_spec.specs.declared.Step.TheVariants.{Ptr}
+use Rattle.cap_spec.proofs.Prelude.{Err, [], ap, append_assoc, arith, drop, get_or, inr, length, subst, suc, sym, take}
+use Rattle.cap_spec.proofs.Prelude.{take_all, ◌++◌, ◌<◌, ◌∙◌, ◌∷◌, ◌≡◌, split_at, take_more, AreOnPath, ReachesSpot}
 use Rattle.cap_spec.proofs.Verdicts.OnPath.{one_path_refusal, path_not_refused}
-use Rattle.cap_vet.specs.Charging.{Arrives}
+use Rattle.cap_vet.specs.Prelude.{Step, Ptr, Arrives}
 use Rattle.cap_vet.proofs.Charging.{arrives_nowhere, charges_nowhere, fault_longer}
 use Rattle.cap_vet.proofs.nodes.charged.get_charged.Goals as goal
 

@@ -1,5 +1,4 @@
-use Rattle.std.proofs.Common.{rules}
-use Rattle.cap_spec.specs.Messages.{IsMessage}
+use Rattle.cap_spec.proofs.Prelude.{rules, IsMessage}
 use Rattle.cap_vet.proofs.nodes.found.found_followed.Goals as goal
 
 pub returns : goal.returns

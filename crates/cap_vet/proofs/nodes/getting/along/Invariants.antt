@@ -1,7 +1,5 @@
-use Rattle.std.proofs.Common.{◌≡◌, List, ◌++◌}
-use Rattle.cap_spec.specs.Paths.{Spot}
-use Rattle.cap_spec.specs.declared.Step.{Step}
-use Rattle.cap_vet.specs.Charging.{Arrives}
+use Rattle.cap_spec.proofs.Prelude.{List, ◌++◌, ◌≡◌, Spot}
+use Rattle.cap_vet.specs.Prelude.{Step, Arrives}
 use Rattle.cap_vet.proofs.nodes.getting.along.Given as goal
 
 abbrev pub invariant-loop-step : goal.invariant-loop-step

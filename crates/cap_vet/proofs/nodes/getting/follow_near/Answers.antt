@@ -1,10 +1,6 @@
 -- The path is followed by looks alone.
-use Rattle.std.proofs.Common.{◌∙◌, ◌++◌, ◌∷◌, [], List, ap, arith, refl, subst, sym, append_assoc, Option}
-use Rattle.cap_spec.specs.Paths.{word}
-use Rattle.cap_spec.specs.declared.Step.{Step}
-use Rattle.cap_vet.specs.Ways.{IsWay, SomeArrives}
-use Rattle.cap_vet.specs.declared.nodes.way.Way.TheVariants.{To}
-use Rattle.cap_vet.specs.declared.strictness.strict_turn.LaxPointer.{LaxPointer}
+use Rattle.cap_spec.proofs.Prelude.{List, Option, [], ap, append_assoc, arith, refl, subst, sym, ◌++◌, ◌∙◌, ◌∷◌, word}
+use Rattle.cap_vet.specs.Prelude.{Step, IsWay, SomeArrives, To, LaxPointer}
 use Rattle.cap_vet.proofs.PathWays.{done_steps}
 use Rattle.cap_vet.proofs.Somewhere.{arrival_few, arrival_levels}
 use Rattle.cap_vet.proofs.StepsGiven.{no_step_given, step_given}

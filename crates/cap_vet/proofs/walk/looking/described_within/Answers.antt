@@ -1,9 +1,5 @@
-use Rattle.std.proofs.Common.{Option, None, Some, arith, rules, subst, sym}
-use Rattle.std.specs.Prelude.{◌<◌, ◌≢◌, IfSome}
-use Rattle.cap_spec.specs.Messages.{IsMessage}
-use Rattle.cap_spec.specs.Pointers.{kind}
-use Rattle.cap_spec.proofs.Frames.Messages.{one_word}
-use Rattle.cap_spec.proofs.Pointers.Following.{leads-near}
+use Rattle.cap_spec.proofs.Lemmas.{one_word, leads-near}
+use Rattle.cap_spec.proofs.Prelude.{IfSome, None, Option, Some, arith, rules, subst, sym, ◌<◌, ◌≢◌, IsMessage, kind}
 use Rattle.cap_vet.specs.Looking.{IsObjectWord}
 use Rattle.cap_vet.proofs.walk.looking.described_within.Goals as goal
 

@@ -1,4 +1,4 @@
-use Rattle.std.proofs.Common.{arith, sym, ◌≤◌, ◌+◌}
+use Rattle.std.proofs.Common.{arith, sym, ◌+◌, ◌≤◌}
 use Rattle.cap_vet.specs.Levels.{levels_of}
 use Rattle.cap_vet.proofs.Looks.{looks_object}
 use Rattle.cap_vet.proofs.walk.looking.look.Goals as goal

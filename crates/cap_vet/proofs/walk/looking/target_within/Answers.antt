@@ -1,4 +1,4 @@
-use Rattle.std.proofs.Common.{arith, ◌≤◌, ◌+◌}
+use Rattle.std.proofs.Common.{arith, ◌+◌, ◌≤◌}
 use Rattle.cap_vet.specs.Levels.{levels_of}
 use Rattle.cap_vet.proofs.Looks.{looks_object}
 use Rattle.cap_vet.proofs.walk.looking.target_within.Goals as goal

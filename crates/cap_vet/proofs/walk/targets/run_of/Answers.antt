@@ -1,5 +1,6 @@
-use Rattle.std.proofs.Common.{◌≡◌, ◌+◌, ◌<◌, ◌∙◌, arith, inl, inr}
-use Rattle.cap_vet.proofs.ObjectRuns.{start_fits, struct_places, struct_room, structs_empty, structs_inside, structs_places}
+use Rattle.std.proofs.Common.{arith, inl, inr, ◌+◌, ◌<◌, ◌∙◌, ◌≡◌}
+use Rattle.cap_vet.proofs.ObjectRuns.{start_fits, struct_places, struct_room, structs_empty, structs_inside}
+use Rattle.cap_vet.proofs.ObjectRuns.{structs_places}
 use Rattle.cap_vet.proofs.walk.targets.run_of.Goals as goal
 
 pub returns-then-count-eq0-clause-places : goal.returns-then-count-eq0-clause-places

@@ -1,8 +1,5 @@
-use Rattle.std.proofs.Common.{ap, ◌∙◌, Err}
-use Rattle.cap_spec.specs.Tree.{pointer_count}
-use Rattle.cap_spec.proofs.Verdicts.OneFault.{one_refusal}
-use Rattle.cap_spec.proofs.Trees.OneTree.{one_tree}
-use Rattle.cap_spec.proofs.Verdicts.Refusals.{refused_justified, within_not_refused}
+use Rattle.cap_spec.proofs.Lemmas.{one_tree, one_refusal, refused_justified, within_not_refused}
+use Rattle.cap_spec.proofs.Prelude.{Err, ap, ◌∙◌, pointer_count}
 use Rattle.cap_vet.proofs.Verdicts.{accepted_at_end, vetted_within}
 use Rattle.cap_vet.proofs.walk.vetting.vet.Goals as goal
 

@@ -1,8 +1,7 @@
-use Rattle.std.proofs.Common.{ℕ, ◌+◌, ◌≡◌, ◌∙◌, max, Bool, true, false, not, Option, Some, None, is_some, refl, ap, arith}
-use Rattle.cap_vet.specs.Turning.{added, or_place}
-use Rattle.cap_vet.specs.declared.walk.pointer_run.PointerRun.{PointerRun}
-use Rattle.cap_vet.specs.declared.walk.looking.Looked.TheVariants.{Cap, Object}
-use Rattle.cap_vet.specs.declared.report.Report.{Report}
+use Rattle.std.proofs.Common.{Bool, None, Option, Some, ap, arith, false, is_some, max, not, refl, true, ℕ, ◌+◌, ◌∙◌}
+use Rattle.std.proofs.Common.{◌≡◌}
+use Rattle.cap_vet.specs.Prelude.{added, or_place, Report, Object, PointerRun}
+use Rattle.cap_vet.specs.declared.walk.looking.Looked.TheVariants.{Cap}
 use Rattle.cap_vet.proofs.walk.visiting.add.Goals as goal
 
 first_place : (o : Option (ℕ × ℕ)) (s w : ℕ) (none : Bool) → is_some o ≡ not none → none ≡ true → Some (s, w) ≡ or_place o s w

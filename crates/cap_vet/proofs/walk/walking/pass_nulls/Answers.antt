@@ -1,4 +1,4 @@
-use Rattle.std.proofs.Common.{◌^◌, ◌<◌, [], arith, rules}
+use Rattle.std.proofs.Common.{[], arith, rules, ◌<◌, ◌^◌}
 use Rattle.std.proofs.Math.Facts.{Fits-of_lt}
 use Rattle.cap_spec.proofs.Frames.Messages.{short_segment}
 use Rattle.cap_vet.proofs.Passing.{passes_on, topmost_few, topmost_in}

@@ -1,9 +1,5 @@
-use Rattle.std.specs.Prelude.{◌++◌, [], ◌∷◌, List, ℕ}
-use Rattle.cap_spec.specs.declared.Step.{Step}
-use Rattle.cap_vet.specs.Passing.{Passes}
-use Rattle.cap_vet.specs.Trails.{Ahead}
-use Rattle.cap_vet.specs.Walking.{HasWalked}
-use Rattle.cap_vet.specs.declared.walk.pointer_run.PointerRun.{PointerRun}
+use Rattle.std.proofs.Common.{List, [], ℕ, ◌++◌, ◌∷◌}
+use Rattle.cap_vet.specs.Prelude.{Step, Passes, Ahead, HasWalked, PointerRun}
 use Rattle.cap_vet.proofs.walk.walking.pass_nulls.Given as goal
 
 abbrev pub invariant-nulls : goal.invariant-nulls

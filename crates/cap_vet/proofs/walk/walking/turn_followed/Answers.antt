@@ -1,8 +1,6 @@
-use Rattle.std.proofs.Common.{◌∷◌, ◌++◌, inr, arith, rules}
-use Rattle.std.specs.Option.{option_to_list}
-use Rattle.cap_spec.specs.Messages.{IsMessage}
-use Rattle.cap_vet.proofs.Runs.{has_rest}
+use Rattle.cap_spec.proofs.Prelude.{arith, inr, option_to_list, rules, ◌++◌, ◌∷◌, IsMessage}
 use Rattle.cap_vet.proofs.Passing.{topmost_in}
+use Rattle.cap_vet.proofs.Runs.{has_rest}
 use Rattle.cap_vet.proofs.Stacks.{cost_charged, looked_at, next_at, steps_on}
 use Rattle.cap_vet.proofs.walk.walking.turn_followed.Goals as goal
 

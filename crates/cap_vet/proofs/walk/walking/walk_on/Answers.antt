@@ -1,9 +1,7 @@
-use Rattle.std.proofs.Common.{arith, rules, ◌++◌}
-use Rattle.std.specs.Option.{option_to_list}
-use Rattle.cap_spec.specs.Messages.{IsMessage}
+use Rattle.cap_spec.proofs.Prelude.{arith, option_to_list, rules, ◌++◌, IsMessage}
 use Rattle.cap_vet.specs.Limits.{depth_of, words_of}
-use Rattle.cap_vet.proofs.Runs.{has_rest}
 use Rattle.cap_vet.proofs.Passing.{topmost_in}
+use Rattle.cap_vet.proofs.Runs.{has_rest}
 use Rattle.cap_vet.proofs.Stacks.{known_past, next_at, steps_on}
 use Rattle.cap_vet.proofs.walk.walking.walk_on.Goals as goal
 

@@ -1,7 +1,5 @@
-use Rattle.std.specs.Prelude.{◌++◌, ◌<◌, [], ◌∷◌, length}
-use Rattle.cap_vet.specs.Limits.{words_of}
-use Rattle.cap_vet.specs.Turns.{IsWalking}
-use Rattle.cap_vet.specs.Walking.{work_left}
+use Rattle.std.proofs.Common.{[], length, ◌++◌, ◌<◌, ◌∷◌}
+use Rattle.cap_vet.specs.Prelude.{words_of, IsWalking, work_left}
 use Rattle.cap_vet.proofs.walk.walking.walk_on.Given as goal
 
 abbrev pub invariant-walk : goal.invariant-walk

@@ -1,10 +1,11 @@
-use Rattle.std.proofs.Common.{◌≡◌, ◌<◌, ◌+◌, ◌-◌, length, take, drop, slice_range, ap, sym, ◌∙◌, arith, length-drop, length-take}
 use Rattle.std.proofs.BufReadLemmas.{zero_unless_positive}
+use Rattle.std.proofs.Common.{ap, arith, drop, length, length-drop, length-take, slice_range, sym, take, ◌+◌, ◌-◌, ◌<◌}
+use Rattle.std.proofs.Common.{◌∙◌, ◌≡◌}
 use Rattle.std.proofs.KnownBytes.{Keeps-refl, prepend_known-read}
 use Rattle.std.specs.Io.KnownBytes.{IsAtEnd, Keeps, prepend_known}
 use Rattle.cap_words.proofs.Buffering.{given_off, none_between}
 use Rattle.cap_words.proofs.Told.{told_consumes, told_end, told_past}
-use Rattle.cap_words.proofs.buffered_in.BufferedInByteIn.read.Goals.{then-self+else-buf-ge-BUFFER+in_default, else-self}
+use Rattle.cap_words.proofs.buffered_in.BufferedInByteIn.read.Goals.{else-self, then-self+else-buf-ge-BUFFER+in_default}
 use Rattle.cap_words.proofs.buffered_in.BufferedInByteIn.read.Goals as goal
 
 pub returns-clause-bytes : goal.returns-clause-bytes

@@ -1,5 +1,4 @@
-use Rattle.std.proofs.Common.{◌++◌, ap, sym, refl}
-use Rattle.cap_spec.specs.Plain.{plain_text}
+use Rattle.cap_spec.proofs.Prelude.{ap, refl, sym, ◌++◌, plain_text}
 use Rattle.cap_words.proofs.PlainSpelling.{part_begins, word_put}
 use Rattle.cap_words.proofs.plain_sink.PlainSinkWordSink.put.Goals as goal
 

@@ -1,11 +1,7 @@
 -- The words of a prefix of bytes are a prefix of their words.
-use Rattle.std.proofs.Common.{◌≡◌, ◌++◌, [], ◌∷◌, List, Option, None, Some, IfSome, ap, refl, ℕ, rules}
-use Rattle.std.specs.Option.{option_map}
-use Rattle.byteorder.specs.Endian.{little_number}
-use Rattle.cap_spec.specs.Plain.{plain_words}
-use Rattle.cap_words.specs.PlainSource.{bytes_left}
-use Rattle.cap_words.specs.declared.phase.Phase.{Phase}
-use Rattle.cap_words.specs.declared.phase.Phase.TheVariants.{Open}
+use Rattle.cap_spec.proofs.Prelude.{IfSome, List, None, Option, Some, [], ap, option_map, refl, rules, ℕ, ◌++◌, ◌∷◌}
+use Rattle.cap_spec.proofs.Prelude.{◌≡◌, little_number, plain_words}
+use Rattle.cap_words.specs.Prelude.{bytes_left, Phase, Open}
 use Rattle.cap_words.proofs.plain_words.PlainWords.held.Goals as goal
 
 -- bytes begin with the words of a prefix

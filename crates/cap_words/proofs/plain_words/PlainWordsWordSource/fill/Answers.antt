@@ -1,5 +1,4 @@
-use Rattle.std.proofs.Common.{◌≡◌, ◌*◌, ◌/◌, ◌<◌, ◌++◌, length, take, drop, refl, arith, length-drop}
-use Rattle.std.proofs.lemmas.List.{length-take-le}
+use Rattle.std.proofs.Common.{arith, drop, length, length-drop, length-take-le, refl, take, ◌*◌, ◌++◌, ◌/◌, ◌<◌, ◌≡◌}
 use Rattle.std.specs.List.{AllByRecursion}
 use Rattle.cap_words.proofs.AtHand.{bytes_small}
 use Rattle.cap_words.proofs.Pieces.{ends_within, none_filled, piece_filled, plain_end}

@@ -1,5 +1,4 @@
-use Rattle.std.proofs.Common.{arith}
-use Prim.Native.Nat.{◌/◌}
+use Rattle.std.proofs.Common.{arith, ◌/◌}
 use Rattle.cap_words.proofs.AtHand.{ready_words}
 use Rattle.cap_words.proofs.plain_words.PlainWordsWordSource.ready.Goals as goal
 

@@ -1,4 +1,4 @@
-use Rattle.std.proofs.Common.{◌≡◌, ◌-◌, drop}
+use Rattle.std.proofs.Common.{drop, ◌-◌, ◌≡◌}
 use Rattle.cap_words.proofs.Filling.{FilledSoFar}
 use Rattle.cap_words.proofs.sources.WordSource.fill.Given as goal
 

@@ -1,10 +1,9 @@
 -- What was vetted is the view.
-use Rattle.std.proofs.Common.{◌∙◌, ap, refl, subst}
-use Rattle.cap_canon.specs.CopyRooms.{TellsRoom}
+use Rattle.std.proofs.Common.{ap, refl, subst, ◌∙◌}
 use Rattle.cap_frame.specs.Bytes.{cut}
-use Rattle.cap_frame.specs.declared.view.ByteView.{ByteView}
-use Rattle.cap_calls.specs.CanonicalCalls.{size_found}
-use Rattle.cap_calls.specs.CallFindings.{accepted, refused}
+use Rattle.cap_canon.specs.CopyRooms.{TellsRoom}
+use Rattle.cap_calls.specs.CallFindings.{accepted}
+use Rattle.cap_calls.specs.Prelude.{ByteView, refused, size_found}
 use Rattle.cap_calls.proofs.Copied.{copy_found}
 use Rattle.cap_calls.proofs.calls.canonical.CopyingCall.on.Goals as goal
 

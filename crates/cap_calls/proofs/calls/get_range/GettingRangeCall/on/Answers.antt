@@ -1,20 +1,14 @@
 -- One node more is got, or the range ends.
-use Rattle.std.proofs.Common.{ℕ, ◌<◌, ◌≡◌, ◌∙◌, ◌++◌, ◌∷◌, ap, arith, length, refl, sym}
+use Rattle.std.proofs.Common.{ap, arith, length, refl, sym, ℕ, ◌++◌, ◌<◌, ◌∙◌, ◌∷◌, ◌≡◌}
 use Rattle.cap_frame.specs.Bytes.{cut}
-use Rattle.cap_frame.specs.declared.view.ByteView.{ByteView}
-use Rattle.cap_spec.specs.declared.Step.{Step}
-use Rattle.cap_calls.specs.CallFindings.{refused_found}
-use Rattle.cap_calls.specs.CallNodes.{kind_node, offset_of}
-use Rattle.cap_calls.specs.NodeCalls.{Gets, a_node, no_meeting, no_node, path_found}
-use Rattle.cap_calls.specs.RangeCalls.{path_after, step_after}
-use Rattle.cap_calls.specs.RangeShortcut.{IsShortcutNode}
-use Rattle.cap_calls.specs.declared.answer.Answer.TheVariants.{Good, NoNode}
-use Rattle.cap_calls.specs.declared.found.Found.{Found}
-use Rattle.cap_calls.proofs.RangeGotten.{more_so_far, nothing_not_good, range_full, range_stops, refused_not_good, written_also}
-use Rattle.cap_calls.proofs.RangeShortcut.{count_shortcut, gets_shortcut}
+use Rattle.cap_calls.specs.Prelude.{Step, ByteView, refused_found, kind_node, offset_of, Gets, a_node, no_meeting}
+use Rattle.cap_calls.specs.Prelude.{no_node, path_found, path_after, step_after, IsShortcutNode, Good, NoNode, Found}
+use Rattle.cap_calls.proofs.RangeGotten.{more_so_far, nothing_not_good, range_full, range_stops, refused_not_good}
+use Rattle.cap_calls.proofs.RangeGotten.{written_also}
 use Rattle.cap_calls.proofs.RangePaths.{given_fault, given_node, given_nothing, given_path}
+use Rattle.cap_calls.proofs.RangeShortcut.{count_shortcut, gets_shortcut}
+use Rattle.cap_calls.proofs.calls.get_range.GettingRangeCall.on.Goals.{in-None+in-Ok-Some, in-Some}
 use Rattle.cap_calls.proofs.calls.get_range.GettingRangeCall.on.Goals as goal
-use Rattle.cap_calls.proofs.calls.get_range.GettingRangeCall.on.Goals.{in-Some, in-None+in-Ok-Some}
 
 pub nodes-init : goal.nodes-init
 nodes-init c =

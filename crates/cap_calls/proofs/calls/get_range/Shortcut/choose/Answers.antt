@@ -1,9 +1,6 @@
 -- How the nodes after a start are found.
-use Rattle.std.proofs.Common.{◌≡◌, ◌∙◌, ◌∷◌, ◌<◌, [], ap, arith, length, refl, sym}
-use Rattle.std.proofs.lemmas.Bool.{eqb-true}
-use Rattle.std.proofs.lemmas.Bool.Decides.{nat_tests}
-use Rattle.cap_spec.specs.declared.Step.{Step}
-use Rattle.cap_calls.specs.declared.step.CallStep.{CallStep}
+use Rattle.cap_spec.proofs.Prelude.{[], ap, arith, eqb-true, length, refl, sym, ◌<◌, ◌∙◌, ◌∷◌, ◌≡◌, nat_tests}
+use Rattle.cap_calls.specs.Prelude.{Step, CallStep}
 use Rattle.cap_calls.proofs.RangeShortcut.{no_steps, one_step}
 use Rattle.cap_calls.proofs.calls.get_range.Shortcut.choose.Goals as goal
 

@@ -1,8 +1,6 @@
 -- Each element has its node.
-use Rattle.std.proofs.Common.{ℕ, ◌+◌, ◌<◌, ◌≡◌, ap, arith, length, refl, subst}
-use Rattle.cap_calls.specs.RangeShortcut.{HasCount, IsShortcutNode, WritesFirst}
-use Rattle.cap_calls.specs.declared.calls.get_range.Shortcut.{Shortcut}
-use Rattle.cap_calls.specs.declared.calls.get_range.Shortcut.TheVariants.{Elements}
+use Rattle.std.proofs.Common.{ap, arith, length, refl, subst, ℕ, ◌+◌, ◌<◌, ◌≡◌}
+use Rattle.cap_calls.specs.Prelude.{HasCount, IsShortcutNode, WritesFirst, Shortcut, Elements}
 use Rattle.cap_calls.proofs.RangeGotten.{more_written, none_written}
 use Rattle.cap_calls.proofs.RangeShortcut.{elements_node, node_in_segment}
 use Rattle.cap_calls.proofs.calls.get_range.Shortcut.elements.Goals as goal

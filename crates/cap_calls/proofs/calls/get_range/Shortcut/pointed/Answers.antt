@@ -1,5 +1,5 @@
 -- A node that a pointer leads to.
-use Rattle.std.proofs.Common.{ℕ, ◌+◌, ap}
+use Rattle.std.proofs.Common.{ap, ℕ, ◌+◌}
 use Rattle.cap_calls.proofs.RangeShortcut.{node_of_elements, pointers_node}
 use Rattle.cap_calls.proofs.calls.get_range.Shortcut.pointed.Goals as goal
 

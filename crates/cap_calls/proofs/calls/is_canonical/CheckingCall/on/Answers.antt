@@ -1,8 +1,7 @@
 -- What was vetted is the view.
-use Rattle.std.proofs.Common.{◌∙◌, ap, sym}
-use Rattle.std.proofs.lemmas.Bool.{false≢true}
-use Rattle.cap_calls.specs.Calls.{canonical, not_canonical}
+use Rattle.cap_spec.proofs.Prelude.{ap, sym, ◌∙◌, false≢true}
 use Rattle.cap_calls.specs.CallFindings.{accepted, accepted_found, refused}
+use Rattle.cap_calls.specs.Calls.{canonical, not_canonical}
 use Rattle.cap_calls.specs.declared.answer.Answer.TheVariants.{Good, NotCanonical}
 use Rattle.cap_calls.proofs.calls.is_canonical.CheckingCall.on.Goals as goal
 

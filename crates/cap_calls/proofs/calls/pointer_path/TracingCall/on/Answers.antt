@@ -1,10 +1,7 @@
-use Rattle.std.proofs.Common.{◌∙◌, ◌≤◌, ◌++◌, ap, arith, drop, length, map, List, refl, replicate}
+use Rattle.std.proofs.Common.{List, ap, arith, drop, length, map, refl, replicate, ◌++◌, ◌∙◌, ◌≤◌}
 use Rattle.std.proofs.lemmas.List.{length-replicate}
-use Rattle.cap_spec.specs.declared.Step.{Step}
-use Rattle.cap_spec.specs.declared.Step.TheVariants.{Ptr}
-use Rattle.cap_calls.specs.PointerCalls.{call_step, none, steps_found, too_small, written}
-use Rattle.cap_calls.specs.declared.answer.Answer.TheVariants.{BufferTooSmall, Good}
-use Rattle.cap_calls.specs.declared.found.Found.{Found}
+use Rattle.cap_calls.specs.PointerCalls.{none, too_small, written}
+use Rattle.cap_calls.specs.Prelude.{Step, Ptr, call_step, steps_found, BufferTooSmall, Good, Found}
 use Rattle.cap_calls.proofs.PointerPaths.{path_kept}
 use Rattle.cap_calls.proofs.calls.pointer_path.TracingCall.on.Goals as goal
 

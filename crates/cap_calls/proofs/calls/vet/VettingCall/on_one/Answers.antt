@@ -1,9 +1,7 @@
 -- The verdict of the slice.
-use Rattle.std.proofs.Common.{subst}
-use Rattle.std.specs.Prelude.{⊤}
+use Rattle.cap_spec.proofs.Prelude.{subst, ⊤}
 use Rattle.cap_vet.specs.Limits.{depth_of, words_of}
-use Rattle.cap_calls.specs.CallFindings.{Judges}
-use Rattle.cap_calls.specs.Calls.{IsGood}
+use Rattle.cap_calls.specs.Prelude.{Judges, IsGood}
 use Rattle.cap_calls.proofs.calls.vet.VettingCall.on_one.Goals as goal
 
 pub returns : goal.returns

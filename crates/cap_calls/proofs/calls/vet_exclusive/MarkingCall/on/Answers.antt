@@ -1,15 +1,9 @@
 -- What is marked is the view.
-use Rattle.std.proofs.Common.{◌∙◌, ◌≡◌, ◌≤◌, ◌+◌, ◌/◌, Err, ap, ap₂, drop, inl, length, refl, subst}
+use Rattle.cap_spec.proofs.Prelude.{Err, ap, ap₂, drop, inl, length, refl, subst, ◌+◌, ◌/◌, ◌∙◌, ◌≡◌, ◌≤◌, IsDisjoint}
 use Rattle.cap_frame.specs.Bytes.{cut}
-use Rattle.cap_frame.specs.declared.view.ByteView.{ByteView}
-use Rattle.cap_spec.specs.Occupying.{IsDisjoint}
-use Rattle.cap_vet.specs.Exclusives.{IsExclusiveFault}
-use Rattle.cap_vet.specs.Reports.{IsVetted}
-use Rattle.cap_vet.specs.Taken.{marks_of}
-use Rattle.cap_calls.specs.CallFindings.{accepted, accepted_found, refused}
-use Rattle.cap_calls.specs.ExclusiveCalls.{exclusive, fault_found}
-use Rattle.cap_calls.specs.declared.answer.Answer.TheVariants.{Good}
-use Rattle.cap_calls.specs.declared.found.Found.{Found}
+use Rattle.cap_vet.specs.Prelude.{IsExclusiveFault, IsVetted, marks_of}
+use Rattle.cap_calls.specs.CallFindings.{accepted}
+use Rattle.cap_calls.specs.Prelude.{ByteView, accepted_found, refused, exclusive, fault_found, Good, Found}
 use Rattle.cap_calls.proofs.Marked.{fault_kept, marked_fault, refused_kept}
 use Rattle.cap_calls.proofs.calls.vet_exclusive.MarkingCall.on.Goals as goal
 

@@ -1,11 +1,8 @@
 use Rattle.std.proofs.Common.{Ok, Option, inl, refl, subst}
 use Rattle.cap_vet.specs.Vettings.{message_of, report_of}
 use Rattle.cap_text.specs.Lines.{accepted_text}
-use Rattle.cap_run.specs.Demanding.{TellsMarked}
-use Rattle.cap_run.specs.Sifting.{FindsObjection, objection_text}
-use Rattle.cap_run.specs.Vetting.{WantsMarks}
-use Rattle.cap_run.specs.declared.engines.sifting.Objection.{Objection}
-use Rattle.cap_run.specs.declared.engines.stream.Counted.TheVariants.{Accepted, Refused}
+use Rattle.cap_run.specs.Prelude.{TellsMarked, FindsObjection, objection_text, WantsMarks, Objection, Accepted}
+use Rattle.cap_run.specs.declared.engines.stream.Counted.TheVariants.{Refused}
 use Rattle.cap_run.proofs.Judging.{writes_text}
 use Rattle.cap_run.proofs.Sifting.{marked_disjoint}
 use Rattle.cap_run.proofs.engines.exclusive.ExclusiveTellerTeller.tell.Goals as goal

@@ -1,10 +1,8 @@
-use Rattle.std.proofs.Common.{◌≡◌, ◌∙◌, ◌++◌, Some, ap, codes, inl, inr, refl, subst, sym}
-use Rattle.cap_explain.specs.Explaining.{overlap_explanation}
-use Rattle.cap_spec.specs.Texts.{refused, vet_text}
+use Rattle.cap_spec.proofs.Prelude.{Some, ap, codes, inl, inr, refl, subst, sym, ◌++◌, ◌∙◌, ◌≡◌, IsWithin, most_depth}
+use Rattle.cap_spec.proofs.Prelude.{most_words, refused, vet_text}
 use Rattle.cap_vet.specs.Vettings.{message_of, report_of}
+use Rattle.cap_explain.specs.Explaining.{overlap_explanation}
 use Rattle.cap_text.specs.Lines.{accepted_text}
-use Rattle.cap_spec.specs.GreatestLimits.{most_depth, most_words}
-use Rattle.cap_spec.specs.Accepting.{IsWithin}
 use Rattle.cap_run.specs.Explained.{TellsMarkedLines}
 use Rattle.cap_run.specs.Vetting.{WantsMarks}
 use Rattle.cap_run.specs.declared.engines.stream.Counted.TheVariants.{Accepted, Refused}

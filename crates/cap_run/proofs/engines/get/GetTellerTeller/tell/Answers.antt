@@ -1,6 +1,4 @@
-use Rattle.std.proofs.Common.{refl}
-use Rattle.cap_spec.specs.Tree.{node_at}
-use Rattle.cap_spec.specs.Texts.{get_text}
+use Rattle.cap_spec.proofs.Prelude.{refl, get_text, node_at}
 use Rattle.cap_vet.specs.Vettings.{message_of, report_of}
 use Rattle.cap_text.specs.Writing.{Writes}
 use Rattle.cap_run.specs.Vetting.{TellsNode}

@@ -1,9 +1,8 @@
-use Rattle.std.proofs.Common.{refl, rules}
+use Rattle.cap_spec.proofs.Prelude.{refl, rules, outline_text}
 use Rattle.cap_frame.specs.Limit.{limit_of}
 use Rattle.cap_frame.specs.Outlines.{root_in, sizes_in}
-use Rattle.cap_spec.specs.Texts.{outline_text}
-use Rattle.cap_run.specs.declared.engines.stream.Counted.TheVariants.{Accepted}
 use Rattle.cap_text.proofs.SegmentLines.{text_of_outline}
+use Rattle.cap_run.specs.declared.engines.stream.Counted.TheVariants.{Accepted}
 use Rattle.cap_run.proofs.Streams.{reads_one}
 use Rattle.cap_run.proofs.engines.segments.SegmentsEngineEngine.tell_next.Goals as goal
 

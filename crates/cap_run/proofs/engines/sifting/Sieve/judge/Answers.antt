@@ -1,12 +1,6 @@
-use Rattle.std.proofs.Common.{List, ap, rules, subst, ℕ}
-use Rattle.cap_spec.specs.Tree.{Tree}
-use Rattle.cap_vet.specs.Demands.{words_under}
-use Rattle.cap_vet.specs.Limits.{depth_of, words_of}
-use Rattle.cap_vet.specs.Reports.{IsReport}
-use Rattle.cap_vet.specs.Vettings.{report_of}
-use Rattle.cap_run.specs.Demanding.{TellsMarked}
-use Rattle.cap_run.specs.Sifting.{FindsObjection}
-use Rattle.cap_run.specs.Vetting.{WantsMarks}
+use Rattle.cap_spec.proofs.Prelude.{List, ap, rules, subst, ℕ, Tree}
+use Rattle.cap_vet.specs.Prelude.{words_under, depth_of, words_of, IsReport, report_of}
+use Rattle.cap_run.specs.Prelude.{TellsMarked, FindsObjection, WantsMarks}
 use Rattle.cap_run.proofs.Sifting.{judges_marked, judges_met}
 use Rattle.cap_run.proofs.engines.sifting.Sieve.judge.Goals as goal
 

@@ -1,12 +1,6 @@
-use Rattle.std.proofs.Common.{List, ap, inl, inr, refl, subst, ℕ}
-use Rattle.cap_spec.specs.Texts.{strict_verdict, vet_text}
-use Rattle.cap_spec.specs.Tree.{Tree}
-use Rattle.cap_vet.specs.Demands.{words_under}
-use Rattle.cap_vet.specs.Limits.{depth_of, words_of}
-use Rattle.cap_vet.specs.Reports.{IsReport}
-use Rattle.cap_vet.specs.Vettings.{report_of}
-use Rattle.cap_run.specs.Demanding.{OrFault, WantsUnder}
-use Rattle.cap_run.specs.Running.{WritesOneOf}
+use Rattle.cap_spec.proofs.Prelude.{List, ap, inl, inr, refl, subst, ℕ, strict_verdict, vet_text, Tree}
+use Rattle.cap_vet.specs.Prelude.{words_under, depth_of, words_of, IsReport, report_of}
+use Rattle.cap_run.specs.Prelude.{OrFault, WantsUnder, WritesOneOf}
 use Rattle.cap_run.specs.declared.engines.stream.Counted.TheVariants.{Refused}
 use Rattle.cap_run.proofs.Judging.{writes_as, writes_text}
 use Rattle.cap_run.proofs.engines.whole.VettingJudge.judge.Goals as goal

@@ -1,17 +1,15 @@
-use Rattle.std.proofs.Common.{ℕ, List, [], ◌+◌, ◌<◌, ◌≡◌, ◌==◌, ◌∙◌, length, refl, sym, ap, subst, inl, inr, arith}
 use Rattle.cap_spec.specs.Denoting.{places}
-use Rattle.cap_spec.specs.Messages.{segment_of}
-use Rattle.cap_spec.specs.Occupying.{pads_of}
-use Rattle.cap_spec.specs.Pointers.{far_segment, kind, pad, two}
+use Rattle.cap_spec.proofs.Disjoint.Places.{no_pads, pads_inside}
 use Rattle.cap_spec.proofs.Frames.Messages.{one_word}
+use Rattle.cap_spec.proofs.Prelude.{List, [], ap, arith, inl, inr, length, refl, subst, sym, ℕ, ◌+◌, ◌<◌, ◌==◌, ◌∙◌}
+use Rattle.cap_spec.proofs.Prelude.{◌≡◌, segment_of, pads_of, far_segment, kind, pad, two}
 use Rattle.cap_ptr.specs.declared.forms.Pointer.TheVariants.{Far}
 use Rattle.cap_vet.specs.MarkSteps.{HasBits, IsMarkedIn, MarksPlaces}
 use Rattle.cap_vet.specs.Marks.{MarksAll}
-use Rattle.cap_spec.proofs.Disjoint.Places.{no_pads, pads_inside}
 use Rattle.cap_vet.proofs.Pads.{many_pads, pad_places}
 use Rattle.cap_vet.proofs.Pointing.{marks_none}
+use Rattle.cap_vet.proofs.exclusiveness.marks.Marks.mark_pads.Goals.{else-two, then-two}
 use Rattle.cap_vet.proofs.exclusiveness.marks.Marks.mark_pads.Goals as goal
-use Rattle.cap_vet.proofs.exclusiveness.marks.Marks.mark_pads.Goals.{then-two, else-two}
 
 pub mark_words-requires : goal.mark_words-requires
 mark_words-requires g c =

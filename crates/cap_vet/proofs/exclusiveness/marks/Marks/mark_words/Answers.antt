@@ -1,4 +1,4 @@
-use Rattle.std.proofs.Common.{◌+◌, ◌≡◌, arith, slice_index_or}
+use Rattle.std.proofs.Common.{arith, slice_index_or, ◌+◌, ◌≡◌}
 use Rattle.cap_vet.specs.Taken.{start_of}
 use Rattle.cap_vet.proofs.Ranges.{marks_range, range_conflict, start_within}
 use Rattle.cap_vet.proofs.SecondWalk.{room_kept}

@@ -1,6 +1,4 @@
-use Rattle.std.proofs.Common.{arith, refl, rules}
-use Rattle.cap_spec.specs.Messages.{IsMessage}
-use Rattle.cap_spec.specs.Paths.{word, element}
+use Rattle.cap_spec.proofs.Prelude.{arith, refl, rules, IsMessage, element, word}
 use Rattle.cap_ptr.specs.Shapes.{charge_of}
 use Rattle.cap_vet.proofs.Charging.{arrives_element, arrives_word, fault_word}
 use Rattle.cap_vet.proofs.Looks.{followed_costs, followed_shallow}

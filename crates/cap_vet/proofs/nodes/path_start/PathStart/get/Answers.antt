@@ -1,12 +1,11 @@
 -- The path goes on from the first steps.
-use Rattle.std.proofs.Common.{◌++◌, ◌∷◌, [], arith, subst, sym}
-use Rattle.std.proofs.Math.Logic.{∥∥₁_map}
-use Rattle.cap_vet.specs.Ways.{HasFound, IsWay}
-use Rattle.cap_vet.specs.declared.nodes.way.Way.{Way}
+use Rattle.cap_spec.proofs.Prelude.{[], arith, subst, sym, ◌++◌, ◌∷◌, ∥∥₁_map}
+use Rattle.cap_vet.specs.Prelude.{HasFound, IsWay, Way}
 use Rattle.cap_vet.proofs.PathWays.{given_after, nowhere_longer, refused_longer, step_nowhere, step_on, step_refused}
 use Rattle.cap_vet.proofs.Somewhere.{arrival_few, arrival_levels, way_arrives, way_found}
+use Rattle.cap_vet.proofs.nodes.path_start.PathStart.get.Goals.{in-Nowhere, in-Refused, in-To+in-Err, in-To+in-Ok-None}
+use Rattle.cap_vet.proofs.nodes.path_start.PathStart.get.Goals.{in-To+in-Ok-Some}
 use Rattle.cap_vet.proofs.nodes.path_start.PathStart.get.Goals as goal
-use Rattle.cap_vet.proofs.nodes.path_start.PathStart.get.Goals.{in-To+in-Ok-Some, in-To+in-Ok-None, in-To+in-Err, in-Nowhere, in-Refused}
 
 pub step-requires-clause-arrived : goal.step-requires-clause-arrived
 step-requires-clause-arrived g c = way_arrives _ _ _ c.in-To.at c.args.self.now.leads c.in-To.is

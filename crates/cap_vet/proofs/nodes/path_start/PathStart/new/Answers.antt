@@ -1,5 +1,5 @@
 -- The steps lead where they were followed to.
-use Rattle.std.proofs.Common.{◌∙◌, refl}
+use Rattle.std.proofs.Common.{refl, ◌∙◌}
 use Rattle.cap_vet.proofs.nodes.path_start.PathStart.new.Goals as goal
 
 pub returns-clause-start : goal.returns-clause-start

@@ -1,5 +1,5 @@
 -- The element is where its number says.
-use Rattle.std.proofs.Common.{ℕ, ◌+◌, ◌*◌, ◌<◌, ◌∙◌, ap₂, arith}
+use Rattle.std.proofs.Common.{ap₂, arith, ℕ, ◌*◌, ◌+◌, ◌<◌, ◌∙◌}
 use Rattle.cap_vet.specs.Finding.{element_of}
 use Rattle.cap_vet.proofs.ElementWays.{element_given, element_within}
 use Rattle.cap_vet.proofs.nodes.struct_elements.StructElements.element.Goals as goal

@@ -1,5 +1,5 @@
 -- The pointer is where the two numbers say.
-use Rattle.std.proofs.Common.{◌+◌, ◌*◌, ◌<◌, arith, refl}
+use Rattle.std.proofs.Common.{arith, refl, ◌*◌, ◌+◌, ◌<◌}
 use Rattle.cap_vet.proofs.ElementWays.{element_within, pointer_given}
 use Rattle.cap_vet.proofs.nodes.struct_elements.StructElements.pointer.Goals as goal
 

@@ -1,11 +1,7 @@
-use Rattle.std.proofs.Common.{◌≡◌, ◌<◌, ◌∙◌, length, take, drop, get_or, subst, sym, suc, arith}
-use Rattle.std.proofs.Math.Seq.{split_at}
-use Rattle.std.proofs.lemmas.List.{take_all, take_more}
-use Rattle.cap_spec.specs.Paths.{ReachesSpot, StepsTo, Spot}
-use Rattle.cap_spec.specs.declared.Step.TheVariants.{Ptr}
 use Rattle.cap_spec.proofs.Paths.Arrivals.{coming_to_node}
-use Rattle.cap_vet.specs.Views.{node_spot}
-use Rattle.cap_vet.specs.Vettings.{message_of}
+use Rattle.cap_spec.proofs.Prelude.{arith, drop, get_or, length, subst, suc, sym, take, take_all, ◌<◌, ◌∙◌, ◌≡◌}
+use Rattle.cap_spec.proofs.Prelude.{split_at, take_more, ReachesSpot, Spot, StepsTo}
+use Rattle.cap_vet.specs.Prelude.{Ptr, message_of, node_spot}
 use Rattle.cap_vet.proofs.NodeSteps.{comes_nowhere, comes_on, no_node}
 use Rattle.cap_vet.proofs.nodes.vetted.Vetted.get.Goals as goal
 

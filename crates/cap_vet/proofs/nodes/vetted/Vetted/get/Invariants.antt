@@ -1,7 +1,5 @@
-use Rattle.std.proofs.Common.{◌≡◌, ℕ, take}
-use Rattle.cap_spec.specs.Paths.{ReachesSpot}
-use Rattle.cap_vet.specs.Views.{node_message, node_spot}
-use Rattle.cap_vet.specs.Vettings.{message_of}
+use Rattle.cap_spec.proofs.Prelude.{take, ℕ, ◌≡◌, ReachesSpot}
+use Rattle.cap_vet.specs.Prelude.{message_of, node_message, node_spot}
 use Rattle.cap_vet.proofs.nodes.vetted.Vetted.get.Given as goal
 
 abbrev pub invariant-loop-step : goal.invariant-loop-step

@@ -1,4 +1,4 @@
-use Rattle.std.proofs.Common.{◌∙◌, ◌==◌, ℕ, ap, Some}
+use Rattle.std.proofs.Common.{Some, ap, ℕ, ◌==◌, ◌∙◌}
 use Rattle.cap_vet.proofs.Views.{shown_bit, shown_no_bit}
 use Rattle.cap_vet.proofs.nodes.view.View.bit.Goals as goal
 

@@ -1,4 +1,4 @@
-use Rattle.std.proofs.Common.{◌∙◌, ◌%◌, ap, get_or, List, ℕ, Some}
+use Rattle.std.proofs.Common.{List, Some, ap, get_or, ℕ, ◌%◌, ◌∙◌}
 use Rattle.cap_vet.proofs.Views.{shown_byte, shown_no_byte}
 use Rattle.cap_vet.proofs.nodes.view.View.byte.Goals as goal
 

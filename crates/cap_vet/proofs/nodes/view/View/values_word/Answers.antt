@@ -1,5 +1,5 @@
-use Rattle.cap_vet.proofs.Views.{shown_no_word, shown_word}
 use Rattle.std.proofs.Common.{◌∙◌}
+use Rattle.cap_vet.proofs.Views.{shown_no_word, shown_word}
 use Rattle.cap_vet.proofs.nodes.view.View.values_word.Goals as goal
 
 pub returns-then-start-end : goal.returns-then-start-end

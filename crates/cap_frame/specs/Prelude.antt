@@ -1,0 +1,11 @@
+-- Names of specs that several files cite, passed on from one place. Declares nothing.
+pub use Rattle.cap_words.specs.declared.sources.SourceFault.{SourceFault}
+pub use Rattle.cap_frame.specs.Bytes.{cut}
+pub use Rattle.cap_frame.specs.Framed.{TellsFront}
+pub use Rattle.cap_frame.specs.Fronts.{IsFront, TellsLarge, TellsMany, sizes_told, table_words}
+pub use Rattle.cap_frame.specs.Limit.{limit_of}
+pub use Rattle.cap_frame.specs.Putting.{Halts}
+pub use Rattle.cap_frame.specs.Reading.{ReadsNext, TakesFrame}
+pub use Rattle.cap_frame.specs.ReadingFaults.{Faults, TakesTable, frame_fault_of}
+pub use Rattle.cap_frame.specs.Taking.{IsUsable, ReadsInput, Stops, Takes}
+pub use Rattle.cap_frame.specs.declared.fault.FrameFault.{FrameFault}

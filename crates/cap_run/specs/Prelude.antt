@@ -1,0 +1,34 @@
+-- Names of specs that several files cite, passed on from one place. Declares nothing.
+pub use Rattle.cap_spec.specs.declared.CanonFault.TheVariants.{HasCapability}
+pub use Rattle.cap_spec.specs.declared.StrictRefusal.{StrictRefusal}
+pub use Rattle.cap_spec.specs.declared.StrictRefusal.TheVariants.{ManySegments, Pointer}
+pub use Rattle.cap_words.specs.declared.ends.OutFault.{OutFault}
+pub use Rattle.cap_words.specs.declared.sinks.SinkFault.{SinkFault}
+pub use Rattle.cap_vet.specs.declared.demands.Demands.{Demands}
+pub use Rattle.cap_text.specs.declared.fault.Cause.{Cause}
+pub use Rattle.cap_text.specs.declared.fault.Cause.TheVariants.{Canon, Frame, NotStrict, TooManyMessages}
+pub use Rattle.cap_text.specs.declared.fault.CopyFault.{CopyFault}
+pub use Rattle.cap_text.specs.declared.fault.CopyFault.TheVariants.{Source, TooManyWords}
+pub use Rattle.cap_text.specs.declared.fault.RunFault.{RunFault}
+pub use Rattle.cap_run.specs.Canons.{AreCanonised, Canonised, IsCanonised, MakesCopiesUnder, canonised, copies_of}
+pub use Rattle.cap_run.specs.Demanding.{IsStrictUnder, OrFault, OrFaultIn, TellsCheckUnder, TellsDumpUnder}
+pub use Rattle.cap_run.specs.Demanding.{TellsExclusiveUnder, TellsGetUnder, TellsMarked, TellsVerdictUnder, WantsIn}
+pub use Rattle.cap_run.specs.Demanding.{WantsMarksUnder, WantsUnder}
+pub use Rattle.cap_run.specs.Engines.{ReachesEnd, StopsEarly, TellsStream, TranscodesWords, most_packed_at_once}
+pub use Rattle.cap_run.specs.Engines.{most_transcoded, most_unpacked_at_once}
+pub use Rattle.cap_run.specs.Explained.{OrFaultLines, TellsExplainedExclusiveUnder, TellsExplainedUnder}
+pub use Rattle.cap_run.specs.Filtering.{PassesOn, ReadsUntil, TellsIn, WantsInForm}
+pub use Rattle.cap_run.specs.Making.{Made}
+pub use Rattle.cap_run.specs.PuttingEnds.{Transcodes}
+pub use Rattle.cap_run.specs.Running.{Appended, EndStops, RunStops, Settled, SettledAt, StepStops, StopsIn, WritesOneOf}
+pub use Rattle.cap_run.specs.Sieves.{SieveTells, SieveWants}
+pub use Rattle.cap_run.specs.Sifting.{FindsObjection, SiftsNext, objection_text}
+pub use Rattle.cap_run.specs.Streams.{EndsStream, ReadsStream, ReadsToEnd}
+pub use Rattle.cap_run.specs.Telling.{Tells, TellsEach, TellsSegments, Told, WantsNone, messages_of, noncanonical_in}
+pub use Rattle.cap_run.specs.Telling.{one_noncanonical, one_refused, outcome_of, refused_in, texts_of}
+pub use Rattle.cap_run.specs.Transcoding.{Finishes, PutsWords, ReadsWords, StopsMidway, Transcoded, TranscodesAll}
+pub use Rattle.cap_run.specs.Vetting.{TellsAccepted, WantsMarks}
+pub use Rattle.cap_run.specs.declared.engines.sifting.Objection.{Objection}
+pub use Rattle.cap_run.specs.declared.engines.stream.Counted.{Counted}
+pub use Rattle.cap_run.specs.declared.engines.stream.Counted.TheVariants.{Accepted, NotCanonical}
+pub use Rattle.cap_run.specs.declared.settings.Outcome.{Outcome}

@@ -1,0 +1,16 @@
+-- Names of specs that several files cite, passed on from one place. Declares nothing.
+pub use Rattle.cap_spec.specs.declared.Lax.{Lax}
+pub use Rattle.cap_spec.specs.declared.Refusal.{Refusal}
+pub use Rattle.cap_spec.specs.declared.Step.{Step}
+pub use Rattle.cap_spec.specs.declared.Step.TheVariants.{Item, Ptr}
+pub use Rattle.cap_trace.specs.Branches.{AreBranches, IsBranch, IsFormed, path_of, rest_from, rest_of, row_left}
+pub use Rattle.cap_trace.specs.Branches.{skipped, steps_of, word_of}
+pub use Rattle.cap_trace.specs.PointerNumbers.{IsTraceable, PassesAt}
+pub use Rattle.cap_trace.specs.Seeking.{IsSought}
+pub use Rattle.cap_trace.specs.Traces.{GivesPath, GoesBelow, HasCome, IsBlockedAt, TellsPath, filled, word_ahead}
+pub use Rattle.cap_trace.specs.declared.below.Below.{Below}
+pub use Rattle.cap_trace.specs.declared.below.Below.TheVariants.{Object}
+pub use Rattle.cap_trace.specs.declared.branch.Branch.{Branch}
+pub use Rattle.cap_trace.specs.declared.branch.Form.{Form}
+pub use Rattle.cap_trace.specs.declared.branch.Form.TheVariants.{Pointers, Root, Struct, Structs}
+pub use Rattle.cap_trace.specs.declared.seeking.Sought.{Sought}

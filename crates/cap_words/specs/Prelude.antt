@@ -1,0 +1,7 @@
+-- Names of specs that several files cite, passed on from one place. Declares nothing.
+pub use Rattle.cap_words.specs.Ends.{DeviceFails, Failures, GrowthFails, WasSpent}
+pub use Rattle.cap_words.specs.PlainSource.{bytes_left}
+pub use Rattle.cap_words.specs.Sinks.{Begins, StoppedPutting, WasPut}
+pub use Rattle.cap_words.specs.TakingMany.{TakesAll}
+pub use Rattle.cap_words.specs.declared.phase.Phase.{Phase}
+pub use Rattle.cap_words.specs.declared.phase.Phase.TheVariants.{Open}
