@@ -1,2 +1,3 @@
 pub mod Appends
+pub mod Hexes
 pub mod Places

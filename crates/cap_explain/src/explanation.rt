@@ -4,7 +4,7 @@ ghost use Rattle.cap_explain.specs.FormTexts.{difference_text, place_text};
 ghost use Rattle.cap_spec.specs.Texts.{hex};
 ghost use Rattle.std.specs.Prelude.{◌+◌, ◌*◌, ◌++◌, ◌^◌, ◌<◌, ◌≡◌, ◌≤◌, [], decimal, length, take};
 
-use cap_hex::hex_of;
+use cap_words::bytes_of;
 use itoa::Buffer;
 use std::marker::Model;
 
@@ -126,6 +126,10 @@ impl Explanation {
         ensures items { self.new ≡ self.old ++ hex word }
         ensures len { length self.new ≡ length self.old + 16 }
     {
-        self.push_text(&hex_of(word));
+        let end = self.len + 16;
+        match hex::encode_to_slice(bytes_of(word), &mut self.bytes[self.len..end]) {
+            Ok(()) => self.len = end,
+            Err(_) => unreachable!(),
+        }
     }
 }

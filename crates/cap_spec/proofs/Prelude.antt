@@ -16,7 +16,8 @@ pub use Rattle.std.proofs.Math.Logic.{∥∥₁_elim, ∥∥₁_map}
 pub use Rattle.std.proofs.Math.Nat.{pow-succ'}
 pub use Rattle.std.proofs.Math.Seq.{drop-append-add, drop-append_seam, split_at, take-append-add, take-append_seam}
 pub use Rattle.std.proofs.Props.{props}
-pub use Rattle.std.proofs.lemmas.Bool.{and_parts, cases_eq, cases_lt, cond-false, cond-true, false≢true, lt-leb}
+pub use Rattle.std.proofs.lemmas.Bool.{agree_below_at, and_parts, cases_eq, cases_lt, cond-false, cond-true, false≢true}
+pub use Rattle.std.proofs.lemmas.Bool.{lt-leb}
 pub use Rattle.std.proofs.lemmas.Bool.Decides.{eqb_tells, leb_tells, nat_tests}
 pub use Rattle.std.proofs.lemmas.Fmt.{decimal_by_steps, decimal_digit, decimal_injective, decimal_step}
 pub use Rattle.std.proofs.lemmas.Fmt.{length-decimal-le}
@@ -80,8 +81,9 @@ pub use Rattle.cap_spec.specs.Scalars.{packed_word, scalar_words}
 pub use Rattle.cap_spec.specs.Showing.{Own, kind_of, own_of, words_of_own}
 pub use Rattle.cap_spec.specs.Standing.{DenotesAt}
 pub use Rattle.cap_spec.specs.Strict.{IsFirstLax, IsLax, IsLaxAt, IsStrict, IsStrictFault}
-pub use Rattle.cap_spec.specs.Texts.{accepted, dump_text, get_text, hex, label, line, outline_text, own_text, refused}
-pub use Rattle.cap_spec.specs.Texts.{segment_lines, segments_text, strict_verdict, then_number, vet_text, word_lines}
+pub use Rattle.cap_spec.specs.Texts.{accepted, dump_text, get_text, hex, hex_digit, label, line, outline_text, own_text}
+pub use Rattle.cap_spec.specs.Texts.{refused, segment_lines, segments_text, strict_verdict, then_number, vet_text}
+pub use Rattle.cap_spec.specs.Texts.{word_lines}
 pub use Rattle.cap_spec.specs.Tree.{AreElementTrees, AreTrees, IsTree, Tree, Trees, cap, cap_count, cap_counts, has_cap}
 pub use Rattle.cap_spec.specs.Tree.{more, node_at, null, part_at, pointer_count, pointers, scalars, struct, structs}
 pub use Rattle.cap_spec.specs.Tree.{tree_at, tree_count}

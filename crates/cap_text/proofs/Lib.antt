@@ -1,4 +1,5 @@
 pub mod Dumping
+pub mod Hexes
 pub mod Nodes
 pub mod Numbers
 pub mod Paging

@@ -5,7 +5,7 @@ ghost use Rattle.cap_spec.specs.Texts.{hex, message_text};
 ghost use Rattle.std.specs.Prelude.{◌+◌, ◌++◌, ◌≡◌, ◌≤◌, [], decimal, length, take};
 
 use crate::digits::digit_count;
-use cap_hex::hex_of;
+use cap_words::bytes_of;
 use itoa::write_digits;
 use std::marker::Model;
 
@@ -147,6 +147,10 @@ impl Page {
         ensures items { self.new ≡ self.old ++ hex word }
         ensures len { length self.new ≡ length self.old + 16 }
     {
-        self.push_text(&hex_of(word));
+        let end = self.len + 16;
+        match hex::encode_to_slice(bytes_of(word), &mut self.bytes[self.len..end]) {
+            Ok(()) => self.len = end,
+            Err(_) => unreachable!(),
+        }
     }
 }

@@ -1,8 +1,17 @@
-use Rattle.cap_spec.proofs.Prelude.{ap, length, length-append, ◌++◌, ◌∙◌, hex}
+use Rattle.std.proofs.Common.{ap, arith, ◌+◌, ◌-◌, ◌∙◌}
+use Rattle.hex.specs.Hex.{encode_lower}
+use Rattle.cap_explain.proofs.Hexes.{encode_is_hex, hex_put, hex_put_length}
 use Rattle.cap_explain.proofs.explanation.Explanation.push_hex.Goals as goal
 
 pub returns-clause-items : goal.returns-clause-items
-returns-clause-items c = c.push_text.ensures ∙ ap (λ digits. c.args.self.now ++ digits) c.hex_of.ensures
+returns-clause-items c =
+    let digits = c.in-Ok.ensures.written ∙ ap encode_lower c.bytes_of.ensures.value ∙ encode_is_hex c.args.word in
+    hex_put c.self.inside.len (c.self.inside.len + 16 - c.self.inside.len) c.args.word c.self.inside.bytes c.encode_to_slice.new.output c.args.self.now digits
+    (omega (arith, c.self.invariant)) c.self.view_is
 
 pub returns-clause-len : goal.returns-clause-len
-returns-clause-len c = ap length (returns-clause-items c) ∙ length-append c.args.self.now (hex c.args.word)
+returns-clause-len c =
+    let digits = c.in-Ok.ensures.written ∙ ap encode_lower c.bytes_of.ensures.value ∙ encode_is_hex c.args.word in
+    hex_put_length c.self.inside.len (c.self.inside.len + 16 - c.self.inside.len) c.args.word c.self.inside.bytes
+    c.encode_to_slice.new.output c.args.self.now digits
+    (omega (arith, c.self.invariant)) c.self.view_is

@@ -1,9 +1,8 @@
 -- The digits of a word's bytes, as the crate `hex` writes them.
-use Rattle.std.proofs.lemmas.Bool.{agree_below_at}
 use Rattle.hex.specs.Hex.{encode_lower, lower_digits, encode_with}
-use Rattle.cap_spec.specs.Texts.{hex_digit}
-use Rattle.cap_spec.proofs.Prelude.{List, [], ap, arith, eqb, eqb-true, flat_map, refl, slice_index, true, ℕ, ◌%◌, ◌/◌}
-use Rattle.cap_spec.proofs.Prelude.{◌<◌, ◌∙◌, ◌∷◌, ◌≡◌, Each1, word_bytes, hex}
+use Rattle.cap_spec.proofs.Prelude.{List, [], ap, arith, eqb, eqb-true, flat_map, length, length-append, refl}
+use Rattle.cap_spec.proofs.Prelude.{slice_index, take, true, ℕ, ◌%◌, ◌++◌, ◌+◌, ◌/◌, ◌<◌, ◌∙◌, ◌∷◌, ◌≡◌, ◌≤◌}
+use Rattle.cap_spec.proofs.Prelude.{agree_below_at, take-put_mid, Each1, put_mid, word_bytes, hex, hex_digit}
 
 one_digit : (h : ℕ) → h < 16 → slice_index lower_digits h ≡ hex_digit h
 one_digit h l = eqb-true _ _ (agree_below_at (λ k. eqb (slice_index lower_digits k) (hex_digit k)) (λ k. true) 16 h refl l)
@@ -22,3 +21,14 @@ small_bytes w = (omega arith, (omega arith, (omega arith, (omega arith, (omega a
 -- they are the sixteen digits of the word
 pub encode_is_hex : (w : ℕ) → encode_lower (word_bytes w) ≡ hex w
 encode_is_hex w = digits_of_bytes (word_bytes w) (small_bytes w)
+
+-- sixteen digits that were put behind the first bytes of a page
+pub hex_put : (len k w : ℕ) (bytes out old : List ℕ) → out ≡ hex w → len ≤ length bytes → take len bytes ≡ old
+    → take (len + 16) (put_mid len k bytes out) ≡ old ++ hex w
+hex_put len k w bytes out old e fits front =
+    let sixteen : length out ≡ 16 = ap length e in
+    take-put_mid len k bytes out (len + 16) (omega (arith, sixteen)) fits ∙ ap (λ l. l ++ out) front ∙ ap (λ l. old ++ l) e
+
+pub hex_put_length : (len k w : ℕ) (bytes out old : List ℕ) → out ≡ hex w → len ≤ length bytes → take len bytes ≡ old
+    → length (take (len + 16) (put_mid len k bytes out)) ≡ length old + 16
+hex_put_length len k w bytes out old e fits front = ap length (hex_put len k w bytes out old e fits front) ∙ length-append old (hex w)
