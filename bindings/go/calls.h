@@ -19,24 +19,6 @@ static inline capvet_go_result capvet_go_vet(const uint8_t *bytes, size_t length
   return result;
 }
 
-/* As capvet_vet with CAPVET_ALLOW_TRAILING. Most messages have one segment: to vet that takes less time than to vet the
- * frame, which matters for messages of a few words. */
-static inline capvet_answer capvet_go_vet_next(const uint8_t *bytes, size_t length, const capvet_limits *limits,
-                                               capvet_report *report) {
-  const capvet_answer answer = capvet_frame(bytes, length, limits, report);
-  if (answer != CAPVET_OK) {
-    return answer;
-  }
-  if (report->segments > 1) {
-    return capvet_vet(bytes, length, limits, report);
-  }
-  const size_t frame = report->length;
-  const capvet_segment segment = {bytes + 8, frame - 8};
-  const capvet_answer verdict = capvet_vet_segments(&segment, 1, limits, report);
-  report->length = frame;
-  return verdict;
-}
-
 /* What a call for all messages of a buffer answers: how many are accepted, the bytes of their frames, and the result of
  * the next one. */
 typedef struct capvet_go_frames {
@@ -49,7 +31,7 @@ static inline capvet_go_frames capvet_go_vet_all(const uint8_t *bytes, size_t le
   capvet_go_frames frames = {0};
   for (;;) {
     const uint8_t *rest = length == 0 ? bytes : bytes + frames.length;
-    frames.result.answer = capvet_go_vet_next(rest, length - frames.length, &limits, &frames.result.report);
+    frames.result.answer = capvet_vet(rest, length - frames.length, &limits, &frames.result.report);
     if (frames.result.answer != CAPVET_OK) {
       return frames;
     }
