@@ -332,6 +332,16 @@ def test_tree(page):
             page.keys("ArrowRight")
         got.append((level, label, text.replace(" ", "") if re.match(r"[dw]\d", label) else text))
     compare("the tree", [(level, label, said(rest) or rest[0]) for level, label, rest in dump], got)
+    page.load(TOP / "examples/contacts.bin")
+    page.focus("tree")
+    page.keys("End")
+    chosen = page.place(), page.value(row)
+    for title, is_open in (("opens", "false"), ("closes", "true")):
+        twist = f"document.querySelector('.item[aria-expanded={is_open}]:not(#item-0) .twist').getBoundingClientRect()"
+        page.click(page.value(f"{twist}.left") + 2, page.value(f"{twist}.top") + 2)
+        page.settle()
+        page.keys("ArrowUp", "ArrowDown")
+        compare(f"the selection where a row above it {title}", chosen, (page.place(), page.value(row)))
     page.is_quiet("the tree")
 
 

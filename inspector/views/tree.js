@@ -170,6 +170,7 @@ export class Tree {
   /** Opens or closes the node of a row. */
   toggle(item, isOpen = !this.isOpen(item)) {
     if (!item.node || !this.canOpen(item.node, item.level) || isOpen === this.isOpen(item)) return;
+    const { rows } = this.root;
     if (item.row === 0) {
       this.root.rows = isOpen ? item.node.children : 0;
       this.root.opened = [];
@@ -178,7 +179,15 @@ export class Tree {
     } else {
       item.open.remove(item.opened);
     }
+    this.keep(item.row, this.root.rows - rows);
     this.resize();
+  }
+
+  /** Leaves the cursor at its node where a row above it gets more or fewer rows. From a row that goes it moves to the one above. */
+  keep(row, more) {
+    if (this.cursor === null || this.cursor <= row) return;
+    this.cursor = Math.max(row, this.cursor + more);
+    this.view.setAttribute("aria-activedescendant", `item-${this.cursor}`);
   }
 
   /** Opens the way to a node or one of its own words, as far as it can be opened, and puts the cursor there. */
