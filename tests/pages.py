@@ -69,12 +69,12 @@ def quoted(page):
 
 # What is taken from the page of definitions, what is there instead, and the first fault that the script then finds.
 LACKS = (
-    ("TagFits Sits}", "Sits}", "Following.Sits cites TagFits of cap_spec, Following, which is not on the page before it"),
+    ("TagFits IsInside}", "IsInside}", "Following.IsInside cites TagFits of cap_spec, Following, which is not on the page before it"),
     ("IsTag Leads}", "Leads IsTag}", "Following.Leads cites IsTag of cap_spec, Following, which is not on the page before it"),
     ("{type cap_spec Lax}", "", "Strict.IsLaxAt cites Lax of cap_spec, declared, which is not on the page before it"),
     ("vet: ok message err accepts", "vet: ok message accepts", "vet has the clauses ok message err justified accepts refuses one"),
     (", `A ↔ B`", "", "new uses ↔, which the notation doesn't explain"),
-    ("{alias cap_vet/specs/Spots.antt Kept}", "This", "Spots.spot_of uses Kept for Spot of cap_vet, which the page doesn't explain"),
+    ("{alias cap_vet/specs/Spots.antt Where}", "This", "Spots.spot_of uses Where for Spot of cap_spec, which the page doesn't explain"),
     ("`{g : segments.Ghosts M}`, ", "", "Vettings.report_of uses segments.Ghosts, which the notation doesn't explain"),
     (" `a % b`,", "", "Words.field uses %, which the notation doesn't explain"),
     (", `v.items`", "", "canonical uses .items, which the notation doesn't explain"),

@@ -19,8 +19,8 @@ from needs import missing
 OLD, NEW = ("qemu64", "Conroe", "Penryn"), ("Nehalem", "max")
 LINE = "this machine lacks a feature of x86-64-v2, "
 ACCEPTED = "message 0: accepted charge {} depth {} pointers {} caps 0\n"
-CONTACTS, TELEMETRY = ACCEPTED.format(391, 11, 125), ACCEPTED.format(234, 4, 69)
-SAMPLES = {"contacts.bin": CONTACTS, "telemetry.bin": TELEMETRY}
+CONTACTS, MANY = ACCEPTED.format(391, 11, 125), ACCEPTED.format(495, 11, 125)
+SAMPLES = {"contacts.bin": CONTACTS, "contacts-many-segments.bin": MANY}
 
 
 def emulated(processor, *command):
@@ -53,7 +53,7 @@ def library(folder):
             killed = status == -signal.SIGILL
             compare(f"the library on {processor}, {name}", True, killed and processor in OLD or (text, status) == (wanted, 0))
             ends |= {(name, killed)} if processor == "Conroe" else set()
-    compare("the library on Conroe", {("contacts.bin", False), ("telemetry.bin", True)}, ends)
+    compare("the library on Conroe", {("contacts.bin", False), ("contacts-many-segments.bin", True)}, ends)
 
 
 def from_rust(folder):
