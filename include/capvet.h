@@ -660,8 +660,8 @@ capvet_answer capvet_pointer_path(const uint8_t *bytes, size_t length, const cap
  *   required         their length in bytes
  *
  * The text is the lines that the program's command `explain` writes after the line of the verdict. They give the
- * path to the pointer that capvet_vet names, its place in bytes, the pointer word with its fields, where it leads, what
- * is exceeded, and the reason as a sentence. docs/output.md describes them. Each line begins with two blanks and ends
+ * path to the pointer that capvet_vet names, and its place in bytes. Then come the pointer word with its fields,
+ * where it leads, what is exceeded, and the reason as a sentence. docs/output.md describes them. Each line begins with two blanks and ends
  * with a line feed. The text is ASCII, and has no zero byte at its end.
  *
  * CAPVET_OK DOES NOT MEAN THAT THE MESSAGE IS ACCEPTED: it means that a text was written. Returns CAPVET_NO_NODE if
