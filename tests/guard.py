@@ -43,7 +43,7 @@ from rpc import CYCLE, EMPTY, SECONDS, all_of, exactly, free_port, is_open, unti
 FILTERS = ([], ["--exclusive"], ["--allow-nonstrict", "--allow-amplified"], ["--words", "60", "--depth", "4"], ["--packed"])
 # The least part of the rate of a proxy without vetting, by the bytes of a message, and the most microseconds that vetting
 # adds to the median of a call of 1 KiB. (Vetting a message of 40 bytes takes more than twice the time of passing it on)
-RATES = {40: 0.2, 128: 0.5, 256: 0.5, 1024: 0.5, 65536: 0.8, 1 << 20: 0.8}
+RATES = {40: 0.15, 128: 0.3, 256: 0.4, 1024: 0.5, 65536: 0.8, 1 << 20: 0.8}
 LATENCY = 20
 # The memory that docs/service.md gives: for the guard, for each connection, and for messages.
 MEMORY = 64 << 20, 48 << 10, 256 << 20
