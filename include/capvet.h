@@ -19,14 +19,14 @@
  *
  * CALLS
  *
- *   check        capvet_vet, capvet_vet_exclusive, capvet_vet_segments
- *   frames       capvet_frame, capvet_segment_at
- *   canonical    capvet_canonical, capvet_is_canonical
- *   read         capvet_get, capvet_get_range
- *   explain      capvet_explain, capvet_pointer_path
- *   packing      capvet_pack, capvet_unpack, capvet_pack_message, capvet_unpack_message
- *   bounds       capvet_marks_bound, capvet_frame_bound, capvet_canonical_bound, capvet_pack_bound
- *   other        capvet_answer_name, capvet_limits_default, capvet_version, capvet_cpu_supported
+ *   check        capvet_vet, capvet_vet_exclusive, capvet_vet_segments.
+ *   frames       capvet_frame, capvet_segment_at.
+ *   canonical    capvet_canonical, capvet_is_canonical.
+ *   read         capvet_get, capvet_get_range.
+ *   explain      capvet_explain, capvet_pointer_path.
+ *   packing      capvet_pack, capvet_unpack, capvet_pack_message, capvet_unpack_message.
+ *   bounds       capvet_marks_bound, capvet_frame_bound, capvet_canonical_bound, capvet_pack_bound.
+ *   other        capvet_answer_name, capvet_limits_default, capvet_version, capvet_cpu_supported.
  *
  * TERMS
  *
@@ -185,10 +185,10 @@ CAPVET_INLINE int capvet_cpu_supported(void) CAPVET_NOEXCEPT {
 /* The answer of a call. Numbers never change. Later versions may add some, so treat unknown answers as
  * refusals.
  *
- *   - 1 to 7: the bytes hold no complete frame, or more than the frame
- *   - 8 to 15: the call was made wrongly, or with too small a buffer
- *   - 16 to 31: not what the call asks for
- *   - from 32: the message is not valid */
+ *   - 1 to 7: the bytes hold no complete frame, or more than the frame.
+ *   - 8 to 15: the call was made wrongly, or with too small a buffer.
+ *   - 16 to 31: not what the call asks for.
+ *   - from 32: the message is not valid. */
 typedef enum capvet_answer {
   CAPVET_OK = 0,
 
@@ -225,9 +225,9 @@ typedef enum capvet_answer {
   CAPVET_COMPOSITE_TAG = 41,     /* the tag of a list of structs is not a struct's */
   CAPVET_COMPOSITE_OVERRUN = 42, /* the elements of a list of structs exceed the list's size */
   CAPVET_DEPTH_LIMIT = 43,       /* an object with a level above limits->depth */
-  CAPVET_WORD_LIMIT = 44,        /* the charge exceeds limits->charge, or the words of the segments +
-                                    CAPVET_SLACK; it is not reported which of the two; pointers in a loop
-                                    end here or at the depth limit */
+  CAPVET_WORD_LIMIT = 44,        /* The charge exceeds limits->charge, or the words of the segments +
+                                    CAPVET_SLACK. It is not reported which of the two. Pointers in a loop
+                                    end here or at the depth limit. */
 
   CAPVET_ANSWER_32_BITS = 0x7fffffff /* never returned; switches need a default */
 } capvet_answer;
@@ -293,9 +293,9 @@ CAPVET_INLINE const char *capvet_answer_name(uint32_t answer) CAPVET_NOEXCEPT {
  * capvet_explain. report->length is then the length of the input, and report->segments is 1. In place of the
  * answers about the frame:
  *
- *   - CAPVET_NO_MESSAGE: the input is empty
- *   - CAPVET_TOO_LARGE: it has more than limits->message_words words, where a part of a word counts as one
- *   - CAPVET_TRUNCATED: its length is no multiple of 8; report->input_required is the next multiple
+ *   - CAPVET_NO_MESSAGE: the input is empty.
+ *   - CAPVET_TOO_LARGE: it has more than limits->message_words words, where a part of a word counts as one.
+ *   - CAPVET_TRUNCATED: its length is no multiple of 8; report->input_required is the next multiple.
  *
  * CAPVET_BAD_LIMITS: it is set in another call, or together with CAPVET_ALLOW_TRAILING. */
 
@@ -335,13 +335,13 @@ void capvet_limits_default(capvet_limits *limits) CAPVET_NOEXCEPT;
  * A library of a later minor version may set reserved fields, and `detail` for more answers: do not compare
  * reports by memcmp. */
 typedef struct capvet_report {
-  uint64_t length;         /* bytes of the frame, table included, also of a refused message; 0 after the
-                              answers 1 to 4, 8, 10 and 12: the next message of a buffer starts after them;
-                              capvet_unpack_message: only on CAPVET_OK */
+  uint64_t length;         /* Bytes of the frame, table included, also of a refused message. The next message
+                              of a buffer starts after them. 0 after the answers 1 to 4, 8, 10 and 12.
+                              capvet_unpack_message: only on CAPVET_OK. */
   uint64_t input_required; /* CAPVET_NO_MESSAGE, CAPVET_TRUNCATED: the least length of the input that gets
-                              further: 8, then the bytes of the table, then those of the whole frame;
-                              for other inputs see CAPVET_NO_TABLE, capvet_vet_segments and
-                              capvet_unpack_message */
+                              further. It is 8, then the bytes of the table, then those of the frame.
+                              For other inputs see CAPVET_NO_TABLE, capvet_vet_segments and
+                              capvet_unpack_message. */
   uint64_t detail;         /* the number that the answer's comment names; reserved for the other answers */
   uint64_t charge;         /* a tree number */
   uint64_t pointers;       /* a tree number, null pointers included; answers with a place: how many pointers
@@ -430,10 +430,10 @@ typedef struct capvet_segment {
  * report->length is the bytes of all segments, without a table. In place of the answers about the frame,
  * the first of these that applies:
  *
- *   - CAPVET_NO_MESSAGE: `count` is 0 (report->input_required is then 0 too)
- *   - CAPVET_TOO_MANY_SEGMENTS: it is more than 512
- *   - CAPVET_BAD_SEGMENT: a length is no multiple of 8; report->detail: the first such segment
- *   - CAPVET_TOO_LARGE: all segments have more than limits->message_words words
+ *   - CAPVET_NO_MESSAGE: `count` is 0 (report->input_required is then 0 too).
+ *   - CAPVET_TOO_MANY_SEGMENTS: it is more than 512.
+ *   - CAPVET_BAD_SEGMENT: a length is no multiple of 8; report->detail: the first such segment.
+ *   - CAPVET_TOO_LARGE: all segments have more than limits->message_words words.
  *
  * From libcapnp pass getSegment(i).asBytes(): its size() counts words. CAPVET_ALLOW_TRAILING has no effect
  * here, and CAPVET_NO_TABLE gives CAPVET_BAD_LIMITS. Nothing is copied.
@@ -562,14 +562,14 @@ typedef struct capvet_node {
 
 /* capvet_get -- the node at a path that is written as text.
  *
- *   bytes, length      the message, as for capvet_vet; it need not have been vetted
- *   limits             as for capvet_vet, but CAPVET_NO_TABLE gives CAPVET_BAD_LIMITS
- *   path, path_length  the path, without a final zero byte: strlen(path)
- *   node               filled in on CAPVET_OK, and all 0 otherwise
+ *   bytes, length      the message, as for capvet_vet; it need not have been vetted.
+ *   limits             as for capvet_vet, but CAPVET_NO_TABLE gives CAPVET_BAD_LIMITS.
+ *   path, path_length  the path, without a final zero byte: strlen(path).
+ *   node               filled in on CAPVET_OK, and all 0 otherwise.
  *
- * "/" is the root. "/p0/i7/p2" is the root's pointer 0, its element 7, and that element's pointer 2. /p steps
- * from a struct to one of its pointers, /i from a list of pointers or structs to an element. Numbers are
- * decimal, without leading zeros. After /p they are at most 65535, after /i at most 4294967295.
+ * "/" is the root. "/p0/i7/p2" is the root's pointer 0, its element 7, and that element's pointer 2. The step
+ * p leads from a struct to one of its pointers, and i from a list of pointers or structs to an element. Numbers
+ * are decimal, without leading zeros. After /p they are at most 65535, after /i at most 4294967295.
  *
  * Returns CAPVET_OK, or CAPVET_NO_NODE if the path leads to nothing. A reader with a schema takes both
  * CAPVET_NO_NODE and a null node as the field's default. CAPVET_BAD_PATH: not a path, or a greater number.
@@ -599,10 +599,10 @@ typedef struct capvet_step {
 
 /* capvet_get_range -- the nodes at a series of paths, such as the elements of a list.
  *
- *   steps, step_count  the first path, of at least one step
- *   varying            which of its steps varies, from 0
- *   nodes, node_count  filled in: nodes[k] is at the path with k added to that step's number
- *   found              how many were filled in
+ *   steps, step_count  the first path, of at least one step.
+ *   varying            which of its steps varies, from 0.
+ *   nodes, node_count  filled in: nodes[k] is at the path with k added to that step's number.
+ *   found              how many were filled in.
  *
  * With the steps /p0/i0 and `varying` 1 the nodes are the elements of a list. With /p0/i0/p2 and `varying` 1
  * they are pointer 2 of each element. With `varying` 2 they are the pointers of element 0, from number 2 on.
