@@ -40,7 +40,7 @@ SAID_OF_JS = (
     ("`build.mjs` puts the package into a folder", "npm puts the package into a folder"),
     ("make build TARGET=wasm\nnode bindings/js/build.mjs build/capvet.wasm hello/node_modules/capvet\n",
      "mkdir hello\nnpm install --silent --offline --prefix hello js/capvet-@version@.tgz\n"),
-    (" `tests/js.py` prints them. With `--idle` it fails if a call takes more than three times the time from C, or five times for the list.", ""),
+    (" `tests/js.py` prints them. With `--idle` it fails if a call takes more than three times the time from C, or seven times for the list.", ""),
 )
 # Where the examples find the crate and the Go package on Debian.
 PLACES = (("../../bindings/rust\"", f"/usr/share/cargo/registry/capvet-{version()}\""),

@@ -33,7 +33,7 @@ from needs import missing
 
 BINDING, MODULE = TOP / "bindings/js", TOP / "build/capvet.wasm"
 # The most that a call may take, as a multiple of the time from C. (to copy a flat list into the module takes longer than to vet it)
-MOST, MOST_FLAT = 3, 5
+MOST, MOST_FLAT = 3, 7
 # The bytes of a flat list.
 LENGTH = 4072
 # The most bytes of the process that reads a gigabyte, and the bytes of a large message.
