@@ -55,7 +55,8 @@ def slugs(text):
 
 def said(text, pairs):
     """A page in the words of a package."""
-    text = re.sub(r"<!-- sources -->.*?<!-- /sources -->\n?", "", text, flags=re.S)
+    text = re.sub(r"^<!-- sources -->\n.*?^<!-- /sources -->\n", "", text, flags=re.S | re.M)
+    text = re.sub(r"\s?<!-- sources -->.*?<!-- /sources -->", "", text, flags=re.S)
     text = re.sub(r"^<!-- packages\n(.*?)^-->\n", r"\1", text, flags=re.S | re.M)
     for old, new in pairs:
         text = text.replace(old, new)
