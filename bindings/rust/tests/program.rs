@@ -57,7 +57,7 @@ fn changed() -> Vec<Vec<u8>> {
     some_changed(500)
 }
 
-// So many messages, each of them a sample of which one bit after the table is changed.
+// `count` messages, each of them a sample of which one bit after the table is changed.
 fn some_changed(count: usize) -> Vec<Vec<u8>> {
     let mut state = 7_u64;
     let mut random = |below: usize| {
