@@ -154,11 +154,17 @@ func (g *guard) serveMetrics() (closeAll func(), err error) {
 		return nil, err
 	}
 	s := httpServer(g.metrics.handler(&g.isDraining))
+	served := make(chan struct{})
 	go func() {
+		defer close(served)
 		if err := s.Serve(listener); !errors.Is(err, http.ErrServerClosed) {
 			g.log.note("metrics", "", err)
 		}
 	}()
 	g.log.note("metrics", listener.Addr().String(), nil)
-	return func() { s.Shutdown(context.Background()) }, nil
+	return func() {
+		s.Shutdown(context.Background())
+		// (Shutdown doesn't close a listener that Serve hasn't seen yet. Serve then closes it)
+		<-served
+	}, nil
 }

@@ -16,6 +16,7 @@ import (
 	"net/http/httptest"
 	"os"
 	"path/filepath"
+	"runtime"
 	"strings"
 	"testing"
 	"time"
@@ -288,6 +289,21 @@ func TestMetricsAndHealth(t *testing.T) {
 	r.guard.isDraining.Store(true)
 	if status, _ := get("/health"); status != http.StatusServiceUnavailable {
 		t.Error(status)
+	}
+}
+
+// (with one processor the end comes before the server of the metrics has begun)
+func TestMetricsSocketAtAnEarlyEnd(t *testing.T) {
+	path := filepath.Join(t.TempDir(), "metrics")
+	r := newRig(t, "--metrics", "unix:"+path)
+	defer runtime.GOMAXPROCS(runtime.GOMAXPROCS(1))
+	closeMetrics, err := r.guard.serveMetrics()
+	if err != nil {
+		t.Fatal(err)
+	}
+	closeMetrics()
+	if _, err := os.Lstat(path); err == nil {
+		t.Error("the socket is left")
 	}
 }
 
