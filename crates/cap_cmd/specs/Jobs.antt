@@ -80,8 +80,8 @@ module _ {I S : Type 0} (gi : input.Ghosts I) (gs : source.Ghosts S) where
     pub place : gs.place first ≡ 0
     pub spent : gs.spent first ≡ gi.spent start
     pub failures : gs.failures first ≡ gi.failures start
-    pub stands_on : S → I
-    pub shows_failures : (s : S) → gs.failures s ≡ gi.failures (stands_on s)
+    pub reads_from : S → I
+    pub shows_failures : (s : S) → gs.failures s ≡ gi.failures (reads_from s)
 
 module _ {O K : Type 0} (go : output.Ghosts O) (gk : sink.Ghosts K) where
   -- A sink begins over an output: the text of the words put to it follows what the output took.

@@ -57,7 +57,7 @@ structs_fit m s w k t b q tag n c size count d p f =
     let fits : TagFits tag (list_size q) = (f.object.tagged (f.object.shape.kind, f.object.shape.code)).1 in
     let room : count * (d + p) ≤ list_size q =
     rw (f.object.shape.count, f.object.shape.data_words, f.object.shape.pointers) fits.1 in
-    omega (arith, room, f.finds.sits.inside, extent_structs q f.object.shape.kind f.object.shape.code)
+    omega (arith, room, f.finds.inside.inside, extent_structs q f.object.shape.kind f.object.shape.code)
 
 pub structs_words : (m : List (List ℕ)) (s w : ℕ) {k t b : ℕ} (q tag : ℕ) {n c : ℕ} (size : ℕ) {count : ℕ} (d : ℕ) {p at left more : ℕ} (level : ℕ)
     → FindsObject m s w k t b q tag n c (shape.Structs size count d p) → at ≡ b + 1 + d → 0 < p → left ≡ p - 1
@@ -87,7 +87,7 @@ structs_branch m s w q tag size {count = zero} d level depth i f e some g each h
 structs_branch m s w {k} {t} {b} q tag {n} {c} size {count = suc count} d {p} {more} level depth i f e some g each h short small high
     low =
     let rest : more ≡ count = omega (arith, h) in record {
-      exists = f.finds.sits.exists;
+      exists = f.finds.inside.exists;
       inside = rw rest (omega (arith, e, g, structs_fit m s w k t b q tag n c size (suc count) d p f));
       formed = some;
       few = omega (arith, g);
@@ -124,5 +124,5 @@ pub start_fits : (m : List (List ℕ)) (s w : ℕ) {k t b : ℕ} (q tag : ℕ) {
     → FindsObject m s w k t b q tag n c (shape.Structs size count d p) → at ≡ d → (count ≡ 0 → ⊥) → Fits w32 (b + 1 + at)
 start_fits m s w q tag size {count = zero} p at h f e some = absurd (some refl)
 start_fits m s w {k} {t} {b} q tag {n} {c} size {count = suc count} {d} p at h f e some =
-    let short = short_segment m t h f.finds.sits.exists in
+    let short = short_segment m t h f.finds.inside.exists in
     omega (arith, e, short, structs_fit m s w k t b q tag n c size (suc count) d p f)

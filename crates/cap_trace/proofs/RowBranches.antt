@@ -30,8 +30,8 @@ near_finds : (m : List (List ℕ)) (s w : ℕ) (p : NearPointer) (r : Row) → I
     → FindsRow m p.segment p.at p.word r → Finds m s w p.pads p.segment r.start p.word
 near_finds m s w p r h f =
     let plain = (pointers-plain p.word r.pointer_count f.pointers).0 in record {
-      leads = h.stands.leads (to_object p.segment (pos r.start) p.word) (leads-near m p.segment p.at 0 _ f.finds.leads p.word h.has (λ e. omega (arith, plain, e))).1;
-      sits = f.finds.sits;
+      leads = h.resolves.leads (to_object p.segment (pos r.start) p.word) (leads-near m p.segment p.at 0 _ f.finds.leads p.word h.has (λ e. omega (arith, plain, e))).1;
+      inside = f.finds.inside;
     }
 
 row_passes : (m : List (List ℕ)) (depth s w level : ℕ) (p : NearPointer) (r : Row) → IsNearPointer m s w p

@@ -16,7 +16,7 @@ mod ObjectRuns
 mod Looks
 mod Near
 mod Keeping
-mod Founds
+pub mod Founds
 mod NodeSteps
 mod NearFound
 mod Shown

@@ -1,4 +1,4 @@
--- A pointer word leads to one thing. Either that is null, a capability or an object that sits,
+-- A pointer word leads to one thing. Either that is null, a capability or an object inside its segment,
 -- or exactly one reason is wrong there.
 use Rattle.cap_spec.specs.Following.{Outside}
 use Rattle.cap_spec.proofs.Frames.Messages.{at_word, one_word}
@@ -290,23 +290,23 @@ cap-not_wrong m s w k i leads =
     clean-not_wrong m s w k (to_cap i) leads tt (out-lead m s w k (to_cap i) leads)
     (λ c. (tag-lead m s w k (to_cap i) leads c).1) (λ c. (overrun-lead m s w k (to_cap i) leads c).1)
 
--- nothing is wrong with a word that leads to an object that sits
+-- nothing is wrong with a word that leads to an object inside its segment
 pub object-not_wrong : (m : List (List ℕ)) (s w k t b q : ℕ) → Finds m s w k t b q → (v : Reason) → ¬ Wrong m s w v
 object-not_wrong m s w k t b q f =
-    clean-not_wrong m s w k (to_object t (pos b) q) f.leads f.sits.exists
-    (λ c. not_outside m t b q f.sits.inside (out-lead m s w k (to_object t (pos b) q) f.leads c))
+    clean-not_wrong m s w k (to_object t (pos b) q) f.leads f.inside.exists
+    (λ c. not_outside m t b q f.inside.inside (out-lead m s w k (to_object t (pos b) q) f.leads c))
     (λ c. tag_kind (tag-lead m s w k (to_object t (pos b) q) f.leads c))
     (λ c. overrun (overrun-lead m s w k (to_object t (pos b) q) f.leads c))
   where
     tag_kind : (tag : ℕ) × TagOf m (λ q x. kind x ≢ 0) tag (to_object t (pos b) q) → ⊥
     tag_kind (tag, (composite, has, n)) =
-        let c = f.sits.composite composite in
+        let c = f.inside.composite composite in
         n (subst (λ x. kind x ≡ 0) (one_word m t b c.0 tag c.1 has) c.2.0)
 
     overrun : (tag : ℕ) × TagOf m (λ q x. list_size q < middle x * (data_size x + pointer_size x)) tag
         (to_object t (pos b) q) → ⊥
     overrun (tag, (composite, has, n)) =
-        let c = f.sits.composite composite in
+        let c = f.inside.composite composite in
         let fits : middle tag * (data_size tag + pointer_size tag) ≤ list_size q =
         subst (λ x. middle x * (data_size x + pointer_size x) ≤ list_size q) (one_word m t b c.0 tag c.1 has) c.2.1 in
         absurd (omega arith)

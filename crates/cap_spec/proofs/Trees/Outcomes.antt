@@ -1,5 +1,5 @@
 -- Every word of a message has a fate: a reason is wrong there, or it leads to null,
--- to a capability or to an object that sits.
+-- to a capability or to an object inside its segment.
 use Rattle.cap_spec.proofs.Frames.Messages.{HasWord-at, HasWord-segment}
 use Rattle.cap_spec.proofs.Pointers.Following.{HasSegment, wrong-composite_tag, wrong-content_missing, wrong-missing}
 use Rattle.cap_spec.proofs.Pointers.Following.{wrong-out, wrong-outside, wrong-overrun, wrong-pad_far, wrong-pad_near}
@@ -14,7 +14,7 @@ use Rattle.cap_spec.proofs.Prelude.{PadOutside, Reserved, SegmentMissing, TagKin
 use Rattle.cap_spec.proofs.Trees.Charges.{extent_structs}
 
 -- Every word of a message has a fate: a reason is wrong there, or it leads to null,
--- to a capability or to an object that sits.
+-- to a capability or to an object inside its segment.
 abbrev pub Fate : List (List ℕ) → ℕ → ℕ → Type 0
 Fate m s w = ((v : Reason) × Wrong m s w v)
     ⊎ (((k : ℕ) × Leads m s w k to_null) ⊎ (((k i : ℕ) × Leads m s w k (to_cap i))
@@ -36,7 +36,7 @@ object-fate m s w k t (pos b) q leads there =
           q,
           record {
             leads = leads;
-            sits = record {
+            inside = record {
               exists = there;
               inside = inside;
               composite = λ c. absurd (other c.0);
@@ -51,7 +51,7 @@ object-fate m s w k t (pos b) q leads there =
             q,
             record {
               leads = leads;
-              sits = record {
+              inside = record {
                 exists = there;
                 inside = inside;
                 composite = λ c. absurd (other c.1);
@@ -84,7 +84,7 @@ object-fate m s w k t (pos b) q leads there =
               q,
               record {
                 leads = leads;
-                sits = record {
+                inside = record {
                   exists = there;
                   inside = inside;
                   composite = λ c. (tag, has, (struct, fits));

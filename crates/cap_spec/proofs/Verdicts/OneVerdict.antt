@@ -122,14 +122,14 @@ pub denoted_not_wrong : (m : List (List ℕ)) (s w : ℕ) (t : Tree) (c d : ℕ)
     → Wrong m s w v → ⊥
 denoted_not_wrong m s w null c d h v g = null-not_wrong m s w c h.0 v g
 denoted_not_wrong m s w (cap i) c d h v g = cap-not_wrong m s w c i h.0 v g
-denoted_not_wrong m s w (struct ws ts) c d (k, t, b, q, inner, deep, found, each) v g =
-    object-not_wrong m s w k t b q found.finds v g
-denoted_not_wrong m s w (scalars e vs) c d (k, t, b, q, found) v g =
-    object-not_wrong m s w k t b q found.finds v g
-denoted_not_wrong m s w (pointers ts) c d (k, t, b, q, inner, deep, found, each) v g =
-    object-not_wrong m s w k t b q found.finds v g
-denoted_not_wrong m s w (structs ds ps es) c d (k, t, b, q, tag, inner, deep, found, each) v g =
-    object-not_wrong m s w k t b q found.finds v g
+denoted_not_wrong m s w (struct ws ts) c d (k, t, b, q, tag, ds, ps, inner, deep, found, own, each) v g =
+    object-not_wrong m s w k t b q found.object.finds v g
+denoted_not_wrong m s w (scalars e vs) c d (k, t, b, q, tag, n, found, own) v g =
+    object-not_wrong m s w k t b q found.object.finds v g
+denoted_not_wrong m s w (pointers ts) c d (k, t, b, q, tag, n, inner, deep, found, each) v g =
+    object-not_wrong m s w k t b q found.object.finds v g
+denoted_not_wrong m s w (structs ds ps es) c d (k, t, b, q, tag, n, inner, deep, found, each) v g =
+    object-not_wrong m s w k t b q found.object.finds v g
 
 -- Where the root denotes a tree, nothing is wrong at a pointer word that a path reaches.
 pub reached_not_wrong : (m : List (List ℕ)) (t : Tree) (c d : ℕ) → Denotes m 0 0 t c d
