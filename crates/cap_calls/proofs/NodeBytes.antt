@@ -1,6 +1,7 @@
 -- The bytes of a node are inside its frame.
 use Rattle.cap_spec.specs.declared.Kind.TheVariants.{Pointers}
-use Rattle.cap_spec.proofs.Lemmas.{scalars_words, struct_words, structs_words, word_within}
+use Rattle.cap_spec.proofs.Lemmas.{structs_words, word_within}
+use Rattle.cap_spec.proofs.Pointers.Shapes.{scalars_words, struct_words}
 use Rattle.cap_spec.proofs.Prelude.{List, [], arith, inl, inr, length, mul-le-mul_right, subst, sym, ℕ, ◌*◌, ◌+◌}
 use Rattle.cap_spec.proofs.Prelude.{◌/◌, ◌<◌, ◌∷◌, ◌≤◌, cases_lt, ⊤, HasObject, segment_of, HasPlace, IsPlace}
 use Rattle.cap_spec.proofs.Prelude.{PathLeads, ReachesSpot, Spot, StepsTo, element, word, element_bits}

@@ -4,7 +4,7 @@ use Rattle.cap_spec.specs.Tree.{none}
 use Rattle.cap_spec.specs.declared.Reason.TheVariants.{NoRoot, Reserved}
 use Rattle.cap_spec.specs.declared.Refusal.{Refusal}
 use Rattle.cap_spec.proofs.Lemmas.{one_word, charge_is_cost, first_cap, pointer_path_reached, one_reached, one_lead}
-use Rattle.cap_spec.proofs.Lemmas.{SameObject, one_object, struct_found, paths_within_depth, first_fault_kept, refused_justified}
+use Rattle.cap_spec.proofs.Lemmas.{one_object, struct_found, paths_within_depth, first_fault_kept, refused_justified}
 use Rattle.cap_spec.proofs.Prelude.{List, [], ap, arith, inl, inr, lit<, lit≤, pos, refl, subst, sym, ℕ, ◌<◌, ◌∙◌, ◌∷◌}
 use Rattle.cap_spec.proofs.Prelude.{◌≡◌, ◌⊎◌, AllByRecursion, AreElements, DenoteEach, Denotes, Finds, IsFaultAt}
 use Rattle.cap_spec.proofs.Prelude.{IsFirstReason}
@@ -13,6 +13,7 @@ use Rattle.cap_spec.proofs.Prelude.{AreDistinct, IsOneOf, IsDisjoint, Occupies, 
 use Rattle.cap_spec.proofs.Prelude.{Reaches, word, IsTree, Tree, cap, cap_count, more, pointer_count, struct, structs}
 use Rattle.cap_spec.proofs.Prelude.{CostOf, Justified, IsWord}
 use Rattle.cap_spec.proofs.Trees.DenotedTrees.{denoted_is_tree}
+use Rattle.cap_spec.proofs.Trees.Finding.{SameObject}
 use Rattle.cap_laws.specs.Prelude.{Reason, WordLimit, Step, Ptr}
 
 -- a struct of two pointers: to a struct of the word 7, and to capability 5

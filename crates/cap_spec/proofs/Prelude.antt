@@ -94,7 +94,6 @@ pub use Rattle.cap_spec.specs.Unpacking.{groups_text, groups_words, is_cut_in, m
 pub use Rattle.cap_spec.specs.Unpacking.{spread, unpacked, zeros}
 pub use Rattle.cap_spec.specs.Verdicts.{CostOf, IsDeepAt, Justified, no_root, past_limit, too_deep}
 pub use Rattle.cap_spec.specs.Words.{IsWord, field, signed_offset_of}
-pub use Rattle.cap_spec.specs.declared.Kind.{Kind}
 pub use Rattle.cap_spec.specs.declared.Kind.TheVariants.{Pointers, Scalars, Struct, Structs}
 pub use Rattle.cap_spec.specs.declared.Lax.{Lax}
 pub use Rattle.cap_spec.specs.declared.Lax.TheVariants.{CapabilityPad, EmptySegment, NullPad}

@@ -3,9 +3,10 @@ use Rattle.cap_spec.specs.Denoting.{places}
 use Rattle.cap_spec.specs.Showing.{own_cap, own_null, own_pointers, own_scalars, own_struct, own_structs}
 use Rattle.cap_spec.specs.declared.Kind.{Kind}
 use Rattle.cap_spec.specs.declared.Kind.TheVariants.{Cap, Null, Pointers, Scalars, Struct, Structs}
-use Rattle.cap_spec.proofs.Lemmas.{found_form, elements_depth, one_lead, pointers_shape, scalars_shape, struct_shape}
+use Rattle.cap_spec.proofs.Lemmas.{found_form, elements_depth, one_lead, pointers_shape, struct_shape}
 use Rattle.cap_spec.proofs.Lemmas.{structs_shape, each_charged, length-places, one_found, HasForm, formed, number_list}
 use Rattle.cap_spec.proofs.Lemmas.{number_struct}
+use Rattle.cap_spec.proofs.Pointers.Shapes.{scalars_shape}
 use Rattle.cap_spec.proofs.Prelude.{List, ap, arith, refl, subst, sym, ℕ, ◌+◌, ◌∙◌, ◌≡◌, HasObject, IsElementAt, own_at}
 use Rattle.cap_spec.proofs.Prelude.{Denotes, FindsKind, values_of, words_from, Lead, Leads, to_cap, to_null, Spot}
 use Rattle.cap_spec.proofs.Prelude.{element, word, code, kind, own_of, DenotesAt, Tree, cap, null, pointers, scalars}

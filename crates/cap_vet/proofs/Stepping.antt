@@ -1,6 +1,7 @@
 -- Where steps lead from what was found at a spot.
 use Rattle.cap_spec.specs.declared.Kind.TheVariants.{Cap, Null, Pointers, Scalars, Struct, Structs}
-use Rattle.cap_spec.proofs.Lemmas.{one_found, pointers_words, structs_words}
+use Rattle.cap_spec.proofs.Lemmas.{one_found, structs_words}
+use Rattle.cap_spec.proofs.Pointers.Shapes.{pointers_words}
 use Rattle.cap_spec.proofs.Prelude.{List, ap, arith, inl, inr, length, mul-le-mul_right, refl, subst, ℕ, ◌*◌, ◌+◌, ◌<◌}
 use Rattle.cap_spec.proofs.Prelude.{◌∙◌, ◌≡◌, ◌≤◌, HasObject, IsElementAt, segment_of, Spot, StepsTo, element, word}
 use Rattle.cap_spec.proofs.Prelude.{list_size}

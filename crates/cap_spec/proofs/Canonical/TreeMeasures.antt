@@ -106,7 +106,7 @@ short_fits q = (omega arith, omega arith)
 long_fits : (q : ℕ) → (list_size q < 2 ^ 29) × (middle q < 2 ^ 30)
 long_fits q = (omega arith, omega arith)
 
--- what a list of values costs beside its words, and what a list of structs does
+-- the cost of a list of values beside its words, and that of a list of structs
 pub scalars_extra : {q tag e n : ℕ} → HasKind q tag (Scalars e n) → extra q tag ≡ idle e n
 scalars_extra {q} {tag} {e} {n} h =
     let x = scalars_shape h in

@@ -1,4 +1,4 @@
--- What the kind of an object says of its word and of its tag.
+-- The kind of an object gives the fields of its word and of its tag.
 use Rattle.std.proofs.Common.{ap, arith, eqb, false, ne_eqb, refl, sym, ℕ, ◌+◌, ◌<◌, ◌∙◌, ◌≡◌}
 use Rattle.cap_spec.specs.Denoting.{element_levels, levels_below}
 use Rattle.cap_spec.specs.Following.{IsComposite, extra}
@@ -57,7 +57,7 @@ one_kind q tag tag' x y same (is_structs e c f) (is_pointers e' c' f') = absurd 
 one_kind q tag tag' x y same (is_structs e c f) (is_structs e' c' f') =
     f ∙ ap (λ u. Structs (middle u) (data_size u) (pointer_size u)) (same (e, c)) ∙ sym f'
 
--- what an object costs beside its words, and the levels below it, depend on the tag of a list of structs alone
+-- the cost of an object beside its words, and the levels below it, depend on the tag of a list of structs alone
 pub beside_same : (q tag tag' : ℕ) (x : Kind) → (IsComposite q → tag ≡ tag') → HasKind q tag x
     → (extra q tag ≡ extra q tag') × (levels_below q tag ≡ levels_below q tag')
 beside_same q tag tag' x same (is_struct e f) = (rw e refl, rw e refl)

@@ -1,12 +1,13 @@
--- What a pointer word finds is one object, of one kind, at one charge.
+-- A pointer word finds one object, of one kind, at one charge.
 use Rattle.cap_spec.specs.ObjectShapes.{is_pointers, is_scalars, is_struct, is_structs}
+use Rattle.cap_spec.specs.declared.Kind.{Kind}
 use Rattle.cap_spec.proofs.Frames.Messages.{one_word}
 use Rattle.cap_spec.proofs.Pointers.Following.{one_lead}
 use Rattle.cap_spec.proofs.Pointers.Shapes.{beside_same, one_kind}
 use Rattle.cap_spec.proofs.Prelude.{List, ap, arith, inr, pos, refl, subst, sym, ℕ, ◌+◌, ◌<◌, ◌∙◌, ◌≡◌, ◌≤◌, Finds}
 use Rattle.cap_spec.proofs.Prelude.{FindsCharged, FindsKind, HasKind, IsComposite, extra, to_object, HasWord, Costs, code}
-use Rattle.cap_spec.proofs.Prelude.{data_size, extent, kind, list_size, middle, pointer_size, levels_below, Kind}
-use Rattle.cap_spec.proofs.Prelude.{Pointers, Scalars, Struct, Structs}
+use Rattle.cap_spec.proofs.Prelude.{data_size, extent, kind, list_size, middle, pointer_size, levels_below, Pointers}
+use Rattle.cap_spec.proofs.Prelude.{Scalars, Struct, Structs}
 
 -- one object: its pads, segment, start and shape
 pub record SameObject (k t b q k' t' b' q' : ℕ) : Type 0 where
@@ -66,7 +67,7 @@ charged_same {m} {s} {w} {k} {t} {b} {q} {tag} {inner} {deep} {c} {d} {k'} {t'} 
     let n : extent q ≡ extent q' = ap extent o.shape in
     (omega (arith, f.charge, g.charge, o.pads, a, n, e), omega (arith, f.depth, g.depth, l, i))
 
--- what following it costs
+-- the cost of following it
 pub found_cost : {m : List (List ℕ)} {s w k t b q tag : ℕ} {x : Kind} → FindsKind m s w x k t b q tag
     → Costs m s w (k + extent q + extra q tag)
 found_cost {m} {s} {w} {k} {t} {b} {q} {tag} {x} f = inr (inr (k, t, b, q, tag, f.finds, f.tagged, refl))
