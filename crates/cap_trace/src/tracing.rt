@@ -71,15 +71,21 @@ fn traced<M: Segments>(message: &M, depth: u32, number: u64, steps: &mut [Step])
     match seek(message, depth, 1, number, &mut others, &mut last) {
         Sought::Found => Some(write_path(others.as_slice(), &last, steps)),
         Sought::Missing => None,
-        Sought::Full(at) => traced_deep(message, depth, at, number, &others, last, steps),
+        Sought::Full(at) => {
+            // The default depth limit is 64.
+            if depth <= 64 {
+                return traced_deep::<M, 65>(message, depth, at, number, &others, last, steps);
+            }
+            traced_deep::<M, 257>(message, depth, at, number, &others, last, steps)
+        }
     }
 }
 
 // Goes on from the pointer word of number `at`, where those few branches are full, with as many as the
-// deepest path can have.
+// deepest path within the limit can have.
 #[cold]
 #[inline(never)]
-fn traced_deep<M: Segments>(
+fn traced_deep<M: Segments, const N: usize>(
     message: &M,
     depth: u32,
     at: u64,
@@ -88,13 +94,16 @@ fn traced_deep<M: Segments>(
     from: Branch,
     steps: &mut [Step],
 ) -> Option<usize>
+    requires more { 8 ≤ N }
+    requires most { N ≤ 257 }
+    requires enough { depth < N }
     requires shallow { depth ≤ 256 }
     requires before { at ≤ number }
     requires come { HasCome (M.segments message.now) depth at few.now.items from }
     ensures tells { TellsPath (M.segments message.now) depth number steps.old result steps.new }
     ensures few { IfSome result (λ count. count ≤ depth) }
 {
-    let mut others: BranchStack<257> = BranchStack::new();
+    let mut others: BranchStack<N> = BranchStack::new();
     let mut last = from;
     if others.try_extend_from_slice(few.as_slice()).is_err() {
         unreachable!();
