@@ -37,9 +37,7 @@ at_root m depth exists some = record {
     record {
       exists = exists;
       inside = omega (arith, some);
-      formed = (refl, refl);
-      few = omega arith;
-      elements = omega arith;
+      counted = (refl, refl, refl);
       high = omega arith;
       low = omega arith;
     },

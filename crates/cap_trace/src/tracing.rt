@@ -7,7 +7,7 @@ ghost use Rattle.cap_spec.specs.Strict.{IsFirstLax};
 ghost use Rattle.cap_spec.specs.declared.Lax.{Lax};
 ghost use Rattle.cap_spec.specs.declared.Refusal.{Refusal};
 ghost use Rattle.cap_spec.specs.declared.Step.{Step};
-ghost use Rattle.cap_trace.specs.Branches.{path_of, steps_of};
+ghost use Rattle.cap_trace.specs.Branches.{AreBranches, IsCounted, path_of, steps_of};
 ghost use Rattle.cap_trace.specs.PointerNumbers.{IsTraceable};
 ghost use Rattle.cap_trace.specs.Traces.{GivesPath, HasCome, TellsPath, filled};
 ghost use Rattle.cap_vet.specs.Limits.{depth_of};
@@ -117,7 +117,9 @@ fn traced_deep<M: Segments, const N: usize>(
 
 // Writes the path over these branches as far as there is capacity, and gives how many steps it has.
 fn write_path(others: &[Branch], last: &Branch, steps: &mut [Step]) -> usize
-    requires { length others.now ≤ 257 }
+    requires few { length others.now ≤ 257 }
+    requires branches { (m : List (List ℕ)) × (depth : ℕ)
+        × AreBranches m depth 0 (others.now ++ last.now ∷ []) }
     ensures count { result ≡ length (path_of (others.now ++ last.now ∷ [])) }
     ensures steps { steps.new ≡ filled (path_of (others.now ++ last.now ∷ [])) steps.old }
 {
@@ -130,7 +132,8 @@ fn write_path(others: &[Branch], last: &Branch, steps: &mut [Step]) -> usize
 
 // Writes the steps of a branch at this place, as far as there is capacity. Gives the next place.
 fn write_steps(branch: &Branch, steps: &mut [Step], at: usize) -> usize
-    requires { at < 998 }
+    requires early { at < 998 }
+    requires counted { IsCounted branch.now.form branch.now }
     ensures place { result ≡ at + length (steps_of branch.now) }
     ensures few { result ≤ at + 2 }
     ensures steps { (path old : List Step) → at ≡ length path → steps.old ≡ filled path old →

@@ -9,6 +9,12 @@ unreachable-requires-in-Full g c =
     let k = subst (λ (u : Sought). IsSought m c.args.depth c.args.number g.row.N c.seek.new.others.items c.seek.new.last u) c.in-Full.is c.seek.ensures in
     never_full m c.args.depth _ c.seek.new.others.items c.seek.new.last g.row.N c.requires.enough k.2 k.0
 
+pub write_path-requires-clause-branches : goal.write_path-requires-clause-branches
+write_path-requires-clause-branches g c =
+    let m = g.M.Segments.segments c.args.message.now in
+    let k = subst (λ (u : Sought). IsSought m c.args.depth c.args.number g.row.N c.seek.new.others.items c.seek.new.last u) c.in-Found.is c.seek.ensures in
+    (m, c.args.depth, rw c.as_slice-in-Found.ensures.value k.branches)
+
 pub returns-in-Found-clause-tells : goal.returns-in-Found-clause-tells
 returns-in-Found-clause-tells g c =
     let m = g.M.Segments.segments c.args.message.now in

@@ -1,6 +1,6 @@
 use Rattle.std.proofs.Common.{List, ℕ, ◌+◌, ◌-◌, ◌≤◌}
 use Rattle.cap_trace.specs.Prelude.{skipped, HasCome, Branch}
-use Rattle.cap_trace.proofs.seeking.pass_null_row.Given as goal
+use Rattle.cap_trace.proofs.seeking.pass_nulls.Given as goal
 
 abbrev pub invariant-nulls : goal.invariant-nulls
 invariant-nulls g l = record {
