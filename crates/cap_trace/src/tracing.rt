@@ -66,7 +66,7 @@ fn traced<M: Segments>(message: &M, depth: u32, number: u64, steps: &mut [Step])
         return None;
     }
     // Most paths are short, and each search initializes its branches.
-    let mut others: BranchStack<8> = BranchStack::new();
+    let mut others: BranchStack<32> = BranchStack::new();
     let mut last = Branch::root();
     match seek(message, depth, 1, number, &mut others, &mut last) {
         Sought::Found => Some(write_path(others.as_slice(), &last, steps)),
@@ -90,11 +90,11 @@ fn traced_deep<M: Segments, const N: usize>(
     depth: u32,
     at: u64,
     number: u64,
-    few: &BranchStack<8>,
+    few: &BranchStack<32>,
     from: Branch,
     steps: &mut [Step],
 ) -> Option<usize>
-    requires more { 8 ≤ N }
+    requires more { 32 ≤ N }
     requires most { N ≤ 257 }
     requires enough { depth < N }
     requires shallow { depth ≤ 256 }
