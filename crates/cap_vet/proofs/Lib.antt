@@ -14,6 +14,7 @@ mod Passing
 mod Verdicts
 mod ObjectRuns
 mod Looks
+mod Needed
 mod Near
 mod Keeping
 mod Founds

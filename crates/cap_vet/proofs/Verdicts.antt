@@ -24,7 +24,7 @@ CostOf-onto m [] later c d h k = subst (CostOf m later) (omega (arith, h)) k
 CostOf-onto m (p ∷ seen) later c d (level, s, w, one, rest, r, cost, others, e) k =
     subst (CostOf m (onto seen (p ∷ later))) (omega (arith, e)) (CostOf-onto m seen (p ∷ later) rest (one + d) others (level, s, w, one, d, r, cost, k, refl))
 
-CostOf-in_order : (m : List (List ℕ)) (seen : List (List Step)) (c : ℕ) → CostOf m seen c → CostOf m (in_order seen) c
+pub CostOf-in_order : (m : List (List ℕ)) (seen : List (List Step)) (c : ℕ) → CostOf m seen c → CostOf m (in_order seen) c
 CostOf-in_order m seen c h = subst (CostOf m (in_order seen)) (omega arith) (CostOf-onto m seen [] c 0 h refl)
 
 -- A first segment without words has no root.

@@ -9,6 +9,7 @@ pub mod Limits
 pub mod Looking
 pub mod Marks
 pub mod MarkSteps
+pub mod Needed
 pub mod Nodes
 pub mod NearFinding
 pub mod NullMarks
