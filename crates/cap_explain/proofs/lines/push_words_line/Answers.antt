@@ -1,6 +1,6 @@
 use Rattle.std.proofs.Common.{[], codes, decimal, ◌++◌, ◌∷◌}
 use Rattle.cap_explain.proofs.Appends.{then}
-use Rattle.cap_explain.proofs.lines.push_charge_line.Goals as goal
+use Rattle.cap_explain.proofs.lines.push_words_line.Goals as goal
 
 pub returns-clause-items : goal.returns-clause-items
 returns-clause-items c =
