@@ -16,6 +16,7 @@ use Rattle.cap_text.specs.declared.fault.Cause.TheVariants.{Memory as no_marks}
 use Rattle.cap_text.specs.declared.fault.CopyFault.{CopyFault}
 use Rattle.cap_text.specs.declared.fault.CopyFault.TheVariants.{Source, TooManyWords, Output as copy_output}
 use Rattle.cap_text.specs.declared.fault.RunFault.{RunFault}
+use Rattle.cap_run.specs.Breaking.{run_answer}
 use Rattle.cap_run.specs.Filtering.{FiltersStream}
 use Rattle.cap_run.specs.Prelude.{copies_of, TellsCheckUnder, TellsDumpUnder, TellsExclusiveUnder, TellsGetUnder}
 use Rattle.cap_run.specs.Prelude.{TellsVerdictUnder, WantsMarksUnder, TellsStream, most_packed_at_once, most_transcoded}
@@ -181,11 +182,11 @@ module _ {S O E P U : Type 0} (gs : source.Ghosts S) (go : output.Ghosts O) (ge 
   writes_all (Explain false) s demands first before after old new status e d =
       told_all gs go s first d.last (TellsExplainedUnder demands (words_of s.limits) (depth_of s.limits)) WantsNone
       before after
-      d.answer (sym d.reported.status_is ∙ e) d.does
+      (run_answer d.answer) (sym d.reported.status_is ∙ e) d.does.told
   writes_all (Explain true) s demands first before after old new status e d =
       told_all gs go s first d.last (TellsExplainedExclusiveUnder demands (words_of s.limits) (depth_of s.limits))
-      (WantsMarksUnder demands (words_of s.limits) (depth_of s.limits)) before after d.answer
-      (sym d.reported.status_is ∙ e) d.does
+      (WantsMarksUnder demands (words_of s.limits) (depth_of s.limits)) before after (run_answer d.answer)
+      (sym d.reported.status_is ∙ e) d.does.told
   writes_all (Filter form) s demands first before after old new status e d =
       passed_all gs go s first d.1.last ge form (TellsIn form demands s.limits) (WantsInForm form demands s.limits)
       before after old d.0 d.1.answer (sym d.1.reported.status_is ∙ e) d.1.does

@@ -14,10 +14,13 @@ use Rattle.cap_words.specs.declared.ends.OutFault.{OutFault}
 use Rattle.cap_frame.specs.Limit.{limit_of}
 use Rattle.cap_vet.specs.Limits.{depth_of, words_of}
 use Rattle.cap_vet.specs.declared.demands.Demands.{Demands}
+use Rattle.cap_text.specs.BreakLines.{explained_fault_text}
 use Rattle.cap_text.specs.FaultLines.{copy_fault_line, run_fault_line}
 use Rattle.cap_text.specs.Writing.{Writes}
 use Rattle.cap_text.specs.declared.fault.CopyFault.{CopyFault}
+use Rattle.cap_text.specs.declared.fault.ExplainedFault.{ExplainedFault}
 use Rattle.cap_text.specs.declared.fault.RunFault.{RunFault}
+use Rattle.cap_run.specs.Breaking.{ExplainsStream, run_answer}
 use Rattle.cap_run.specs.Engines.{ShowsStream}
 use Rattle.cap_run.specs.Filtering.{FiltersUnder}
 use Rattle.cap_run.specs.Prelude.{AreCanonised, Canonised, MakesCopiesUnder, canonised, copies_of, TellsCheckUnder}
@@ -138,6 +141,10 @@ module _ {E : Type 0} (ge : output.Ghosts E) where
   abbrev pub ReportsRun : Result Outcome RunFault → E → E → ℕ → Type 0
   ReportsRun = Reports run_status run_fault_line
 
+  -- the answer of an engine that explains: after the line of a fault come the lines that explain it
+  abbrev pub ReportsExplained : Result Outcome ExplainedFault → E → E → ℕ → Type 0
+  ReportsExplained = Reports (λ answer. run_status (run_answer answer)) explained_fault_text
+
   -- the answer of an engine over words
   abbrev pub ReportsCopy : Result ℕ CopyFault → E → E → ℕ → Type 0
   ReportsCopy = Reports transcode_status copy_fault_line
@@ -159,6 +166,14 @@ module _ {S O E : Type 0} (gs : source.Ghosts S) (go : output.Ghosts O) (ge : ou
       (λ last answer. TellsStream gs go tells wants (limit_of s.size) s.messages first last before
       after answer)
       (ReportsRun ge)
+
+  -- an engine that explains
+  abbrev pub ExplainsTask : Tells → (List (List ℕ) → Type 0) → Settings → S → O → O → E → E → ℕ
+      → Type 0
+  ExplainsTask tells wants s first before after = Runs
+      (λ last answer. ExplainsStream gs go tells wants (limit_of s.size) s.messages first last before
+      after answer)
+      (ReportsExplained ge)
 
   -- The engine that lets accepted messages through writes the lines of the others before `mid`. Its
   -- answer is reported after them.
@@ -195,10 +210,10 @@ module _ {S O E P U : Type 0} (gs : source.Ghosts S) (go : output.Ghosts O) (ge 
       TellsTask gs go ge (TellsExclusiveUnder demands (words_of s.limits) (depth_of s.limits))
       (WantsMarksUnder demands (words_of s.limits) (depth_of s.limits)) s first before after
   DoesTask (Explain false) s demands first before after =
-      TellsTask gs go ge (TellsExplainedUnder demands (words_of s.limits) (depth_of s.limits))
+      ExplainsTask gs go ge (TellsExplainedUnder demands (words_of s.limits) (depth_of s.limits))
       WantsNone s first before after
   DoesTask (Explain true) s demands first before after =
-      TellsTask gs go ge
+      ExplainsTask gs go ge
       (TellsExplainedExclusiveUnder demands (words_of s.limits) (depth_of s.limits))
       (WantsMarksUnder demands (words_of s.limits) (depth_of s.limits)) s first before after
   DoesTask (Filter form) s demands first before after =

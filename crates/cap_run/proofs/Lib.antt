@@ -1,6 +1,7 @@
 pub mod CanonEnds
 pub mod Transcoding
 pub mod TranscodeEnds
+pub mod Breaking
 pub mod Demanding
 pub mod Explaining
 pub mod FilterEnds

@@ -1,9 +1,11 @@
-use Rattle.cap_spec.proofs.Prelude.{List, ap, inl, inr, refl, subst, ℕ, ◌++◌, ◌∙◌, ◌≡◌, strict_verdict, vet_text, Tree}
+use Rattle.cap_spec.proofs.Prelude.{List, None, ap, inl, inr, refl, subst, ℕ, ◌++◌, ◌∙◌, ◌≡◌, strict_verdict, vet_text, Tree}
 use Rattle.cap_vet.specs.Prelude.{words_under, depth_of, words_of, IsReport, report_of}
 use Rattle.cap_explain.specs.Explaining.{explanation}
 use Rattle.cap_trace.specs.NamedPaths.{fault_path}
+use Rattle.cap_run.specs.Explained.{fault_numbers}
 use Rattle.cap_run.specs.Prelude.{WantsUnder, OrFaultLines, WritesOneOf}
 use Rattle.cap_run.specs.declared.engines.stream.Counted.TheVariants.{Refused}
+use Rattle.cap_run.proofs.Explaining.{same_numbers}
 use Rattle.cap_run.proofs.Judging.{writes_as, writes_text}
 use Rattle.cap_run.proofs.engines.explain.ExplainingJudge.judge.Goals as goal
 
@@ -35,20 +37,23 @@ returns-in-Err g c =
     let depth = depth_of v.limits in
     let refusal = c.in-Err.refusal in
     let line = vet_text c.args.number (strict_verdict refusal) in
-    let under = c.limits_under-limits.result in
     let is_fault = c.in-Err.ensures.err in
     let path : c.find_refused.new.self ≡ fault_path v.demands m words depth refusal is_fault =
     c.find_refused.ensures v.demands words is_fault in
-    writes_text g.O.ByteOut (line ++ explanation c.find_refused.new.self m refusal (words_of under) (depth_of under)) Refused
-    (OrFaultLines v.demands (g.T.Teller.tells v.teller) (words_of v.limits) depth c.args.number m)
-    (WantsUnder v.demands (g.T.Teller.wants v.teller) (words_of v.limits) depth m)
+    let within = c.limits_under-limits.ensures in
+    let numbers : c.numbers_of-numbers.result ≡ fault_numbers v.demands m words depth refusal is_fault None =
+    same_numbers v.demands m words depth refusal is_fault None c.limits_under-limits.result c.numbers_of-numbers.result
+    within.words within.depth c.numbers_of-numbers.ensures.words c.numbers_of-numbers.ensures.depth c.numbers_of-numbers.ensures.charge
+    c.numbers_of-numbers.ensures.start in
+    writes_text g.O.ByteOut (line ++ explanation c.find_refused.new.self m refusal c.numbers_of-numbers.result) Refused
+    (OrFaultLines v.demands (g.T.Teller.tells v.teller) words depth c.args.number m)
+    (WantsUnder v.demands (g.T.Teller.wants v.teller) words depth m)
     c.args.out.now c.write_refusal-written.new.out c.write_refusal-written.result c.after_text.result
     (inr (record {
       fault = refusal;
       is_fault = is_fault;
-      lines = ap (λ p. line ++ explanation p m refusal (words_of under) (depth_of under)) path
-          ∙ ap (λ w. line ++ explanation (fault_path v.demands m words depth refusal is_fault) m refusal w (depth_of under)) c.limits_under-limits.ensures.words
-          ∙ ap (λ d. line ++ explanation (fault_path v.demands m words depth refusal is_fault) m refusal (words_under v.demands m words) d) c.limits_under-limits.ensures.depth;
+      lines = ap (λ p. line ++ explanation p m refusal c.numbers_of-numbers.result) path
+          ∙ ap (λ k. line ++ explanation (fault_path v.demands m words depth refusal is_fault) m refusal k) numbers;
       counts = refl;
     }))
     c.write_refusal-written.ensures c.after_text.ensures

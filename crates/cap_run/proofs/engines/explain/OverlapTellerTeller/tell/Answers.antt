@@ -1,4 +1,4 @@
-use Rattle.cap_spec.proofs.Prelude.{Some, ap, codes, inl, inr, refl, subst, sym, ◌++◌, ◌∙◌, ◌≡◌, IsWithin, most_depth}
+use Rattle.cap_spec.proofs.Prelude.{None, Some, ap, codes, inl, inr, refl, subst, sym, ◌++◌, ◌∙◌, ◌≡◌, IsWithin, most_depth}
 use Rattle.cap_spec.proofs.Prelude.{most_words, refused, vet_text}
 use Rattle.cap_vet.specs.Vettings.{message_of, report_of}
 use Rattle.cap_explain.specs.Explaining.{overlap_explanation}
@@ -37,7 +37,7 @@ returns-in-Err-Overlap g c = λ words depth t h.
     (subst (IsWithin seen most_words) (sym c.greatest_limits.ensures)
     (accepted_within seen most_words most_depth _ c.message-message.ensures.accepted)) f)
     is_first in
-    writes_text g.O.ByteOut (line ++ overlap_explanation c.find.new.self seen refusal.segment refusal.word)
+    writes_text g.O.ByteOut (line ++ overlap_explanation c.find.new.self seen None refusal.segment refusal.word)
     Refused (TellsMarkedLines words depth n m) (WantsMarks words depth m)
     c.args.out.now c.write_overlap_lines-written.new.out c.write_overlap_lines-written.result c.after_text-in-Err-Overlap.result
     (inr (record {
@@ -47,8 +47,8 @@ returns-in-Err-Overlap g c = λ words depth t h.
       word = refusal.word;
       pointers = refusal.pointers;
       is_first = is_first;
-      lines = ap (λ message. line ++ overlap_explanation c.find.new.self (g.M.Segments.segments message) refusal.segment refusal.word) c.message-message.ensures.value
-          ∙ ap (λ p. line ++ overlap_explanation p m refusal.segment refusal.word) path;
+      lines = ap (λ message. line ++ overlap_explanation c.find.new.self (g.M.Segments.segments message) None refusal.segment refusal.word) c.message-message.ensures.value
+          ∙ ap (λ p. line ++ overlap_explanation p m None refusal.segment refusal.word) path;
       counts = refl;
     }))
     c.write_overlap_lines-written.ensures c.after_text-in-Err-Overlap.ensures
