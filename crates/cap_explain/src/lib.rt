@@ -18,3 +18,4 @@ pub use charge::refusal_charge;
 pub use explaining::{explain, explain_overlap};
 pub use explanation::Explanation;
 pub use numbers::Numbers;
+pub use words::frame_words;

@@ -12,6 +12,7 @@ pub mod Handing
 pub mod Judging
 pub mod Making
 pub mod Passing
+pub mod Placed
 pub mod Settling
 pub mod Sifting
 pub mod Streams

@@ -11,9 +11,8 @@ use Rattle.cap_text.specs.declared.fault.Cause.TheVariants.{Memory as no_marks}
 use Rattle.cap_text.specs.declared.fault.ExplainedFault.{ExplainedFault}
 use Rattle.cap_text.specs.declared.fault.RunFault.{RunFault}
 use Rattle.cap_text.specs.declared.fault.StreamBreak.{StreamBreak}
-use Rattle.cap_run.specs.Engines.{TellsStream}
+use Rattle.cap_run.specs.Placed.{PlacedTells, TellsPlaced}
 use Rattle.cap_run.specs.Streams.{ReadsStream}
-use Rattle.cap_run.specs.Telling.{Tells}
 use Rattle.cap_run.specs.declared.settings.Outcome.{Outcome}
 use Rattle.cap_words.specs.declared.ends.ByteOut as output
 use Rattle.cap_words.specs.declared.sources.WordSource as source
@@ -59,7 +58,7 @@ module _ {S : Type 0} (gs : source.Ghosts S) where
 module _ {S O : Type 0} (gs : source.Ghosts S) (go : output.Ghosts O) where
   -- What an engine does that explains: it writes a text of each message, and says what is known of
   -- the message at which the stream breaks off.
-  pub record ExplainsStream (tells : Tells) (wants : List (List ℕ) → Type 0) (limit most : ℕ)
+  pub record ExplainsStream (tells : PlacedTells) (wants : List (List ℕ) → Type 0) (limit most : ℕ)
       (old new : S) (before after : O) (answer : Result Outcome ExplainedFault) : Type 0 where
-    pub told : TellsStream gs go tells wants limit most old new before after (run_answer answer)
+    pub told : TellsPlaced gs go tells wants limit most old new before after (run_answer answer)
     pub broken : BreaksOff gs limit old answer

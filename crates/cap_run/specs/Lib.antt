@@ -3,6 +3,7 @@ pub mod Checking
 pub mod Transcoding
 pub mod Demanding
 pub mod Engines
+pub mod Placed
 pub mod Explained
 pub mod Breaking
 pub mod Filtering

@@ -6,19 +6,23 @@ ghost use Rattle.cap_frame.specs.Limit.{limit_of};
 ghost use Rattle.cap_run.specs.Demanding.{WantsIn, WantsMarksUnder};
 ghost use Rattle.cap_run.specs.Breaking.{ExplainsStream};
 ghost use Rattle.cap_run.specs.Explained.{OrFaultLinesIn, TellsExplainedExclusiveUnder, TellsExplainedUnder, TellsMarkedLines};
+ghost use Rattle.cap_run.specs.Running.{WritesOneOf};
 ghost use Rattle.cap_run.specs.Telling.{WantsNone};
-ghost use Rattle.cap_run.specs.Vetting.{WantsMarks};
+ghost use Rattle.cap_run.specs.Vetting.{TellsAccepted, WantsMarks};
+ghost use Rattle.cap_spec.specs.Tree.{Tree};
+ghost use Rattle.cap_vet.specs.Reports.{IsReport};
+ghost use Rattle.cap_vet.specs.Vettings.{message_of, report_of};
 ghost use Rattle.cap_spec.specs.GreatestLimits.{most_depth};
 ghost use Rattle.cap_spec.specs.Texts.{refused, strict_verdict, vet_text};
 ghost use Rattle.cap_text.specs.Writing.{Writes};
 ghost use Rattle.cap_vet.specs.Limits.{depth_of, words_of};
-ghost use Rattle.std.specs.Prelude.{◌++◌, ◌≡◌, None, codes};
+ghost use Rattle.std.specs.Prelude.{◌++◌, ◌<◌, ◌^◌, ◌≡◌, List, codes, ℕ};
 
-use crate::engines::explaining::explain_all;
+use crate::engines::explaining::{PlacedJudge, explain_all};
 use crate::engines::passing::write_more;
 use crate::engines::stream::Counted;
 use crate::engines::vet::VetTeller;
-use crate::engines::whole::{Judge, Teller, after_text};
+use crate::engines::whole::{Teller, after_text};
 use crate::peek::Peek;
 use crate::settings::{Outcome, Settings};
 use cap_explain::{Explanation, Numbers, explain, explain_overlap, refusal_charge};
@@ -92,6 +96,7 @@ fn write_overlap_lines<M: Segments, O: ByteOut>(
     out: &mut O,
     number: u32,
     message: &M,
+    start: Option<u64>,
     segment: u32,
     word: u32,
     pointers: u64,
@@ -99,15 +104,70 @@ fn write_overlap_lines<M: Segments, O: ByteOut>(
 ) -> Result<(), OutFault>
     ensures { Writes O.ByteOut out.old out.new result
         (vet_text number (refused (codes "Overlap") segment word pointers)
-        ++ overlap_explanation path.now (M.segments message.now) None segment word) }
+        ++ overlap_explanation path.now (M.segments message.now) start segment word) }
 {
     match write_overlap(page, out, number, segment, word, pointers) {
         Ok(()) => {
             let mut lines = Explanation::new();
-            explain_overlap(&mut lines, message, None, segment, word, path.steps());
+            explain_overlap(&mut lines, message, start, segment, word, path.steps());
             write_more(out, lines.text())
         }
         Err(fault) => Err(fault),
+    }
+}
+
+/// What an engine that explains writes about an accepted message, before which it knows how many words
+/// of the input are.
+trait PlacedTeller {
+    ghost use Rattle.cap_run.specs.declared.engines.stream.Counted.{Counted};
+
+    // The texts that may be written of a message that is accepted within these limits of words and
+    // levels, by the words of the messages before it and by its number. Each comes with what is
+    // counted then.
+    ghost tells: { Self → ℕ → ℕ → ℕ → ℕ → List (List ℕ) → List ℕ → Counted → Type 0 };
+
+    // The messages that need an allocation, of those that are accepted within these limits.
+    ghost wants: { Self → ℕ → ℕ → List (List ℕ) → Type 0 };
+
+    /// Writes the text of an accepted message. What the page held before isn't written.
+    ///
+    /// # Errors
+    ///
+    /// - [`Cause::Output`]: the output failed. It took a prefix of the text.
+    /// - [`Cause::Memory`]: an allocation failed. The output took nothing.
+    fn tell<M: Segments, O: ByteOut>(
+        &self,
+        page: &mut Page,
+        out: &mut O,
+        before: u64,
+        number: u32,
+        vetted: &Vetted<'_, M>,
+    ) -> Result<Counted, Cause>
+        requires { before < 2 ^ 61 }
+        ensures { (w d : ℕ) (t : Tree) → let m = M.segments (message_of vetted.now) in
+            IsReport m w d (report_of vetted.now) t →
+            WritesOneOf O.ByteOut (tells self.now before w d number m) (wants self.now w d m)
+            out.old out.new result };
+}
+
+/// Writes the numbers of an accepted message's tree.
+#[derive(Clone, Copy)]
+struct AcceptedTeller;
+
+impl PlacedTeller for AcceptedTeller {
+    ghost tells = { λ _ _. TellsAccepted };
+
+    ghost wants = { λ _ _ _. WantsNone };
+
+    fn tell<M: Segments, O: ByteOut>(
+        &self,
+        page: &mut Page,
+        out: &mut O,
+        _before: u64,
+        number: u32,
+        vetted: &Vetted<'_, M>,
+    ) -> Result<Counted, Cause> {
+        VetTeller.tell(page, out, number, vetted)
     }
 }
 
@@ -118,7 +178,7 @@ struct OverlapTeller {
     alloc: Global,
 }
 
-impl Teller for OverlapTeller {
+impl PlacedTeller for OverlapTeller {
     ghost tells = { λ _. TellsMarkedLines };
 
     ghost wants = { λ _. WantsMarks };
@@ -127,6 +187,7 @@ impl Teller for OverlapTeller {
         &self,
         page: &mut Page,
         out: &mut O,
+        before: u64,
         number: u32,
         vetted: &Vetted<'_, M>,
     ) -> Result<Counted, Cause> {
@@ -146,7 +207,15 @@ impl Teller for OverlapTeller {
                 let mut path = NamedPath::new();
                 path.find(message, greatest_limits(), pointers);
                 let written = write_overlap_lines(
-                    page, out, number, message, segment, word, pointers, &path,
+                    page,
+                    out,
+                    number,
+                    message,
+                    Some(8 * before),
+                    segment,
+                    word,
+                    pointers,
+                    &path,
                 );
                 after_text(written, Counted::Refused)
             }
@@ -166,7 +235,7 @@ struct Explaining<T> {
     teller: T,
 }
 
-impl<T: Teller> Judge for Explaining<T> {
+impl<T: PlacedTeller> PlacedJudge for Explaining<T> {
     ghost tells = { λ e. OrFaultLinesIn e.demands (T.tells e.teller) e.limits };
 
     ghost wants = { λ e. WantsIn e.demands (T.wants e.teller) e.limits };
@@ -175,16 +244,17 @@ impl<T: Teller> Judge for Explaining<T> {
         &self,
         page: &mut Page,
         out: &mut O,
+        before: u64,
         number: u32,
         message: &M,
     ) -> Result<Counted, Cause> {
         match vet_with(message, self.limits, self.demands) {
-            Ok(vetted) => self.teller.tell(page, out, number, &vetted),
+            Ok(vetted) => self.teller.tell(page, out, before, number, &vetted),
             Err(refusal) => {
                 let mut path = NamedPath::new();
                 path.find_refused(message, self.limits, &refusal);
                 let limits = limits_under(message, self.limits, self.demands);
-                let numbers = numbers_of(message, &refusal, limits, None);
+                let numbers = numbers_of(message, &refusal, limits, Some(8 * before));
                 let written = write_refusal(page, out, number, message, &refusal, numbers, &path);
                 after_text(written, Counted::Refused)
             }
@@ -214,7 +284,7 @@ pub fn run_explain<S: Peek, O: ByteOut>(
     let explaining = Explaining {
         limits: settings.limits,
         demands,
-        teller: VetTeller,
+        teller: AcceptedTeller,
     };
     explain_all(alloc, source, out, settings, explaining)
 }

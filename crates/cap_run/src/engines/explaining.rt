@@ -4,17 +4,17 @@ ghost use Rattle.cap_frame.specs.HeldBytes.{held_segments};
 ghost use Rattle.cap_frame.specs.Limit.{limit_of};
 ghost use Rattle.cap_frame.specs.Reading.{ReadsFrame};
 ghost use Rattle.cap_run.specs.Breaking.{BreaksAt, BreaksBy, BreaksOff, ExplainsStream, run_answer};
-ghost use Rattle.cap_run.specs.Engines.{ReachesEnd, StopsEarly};
-ghost use Rattle.cap_run.specs.Running.{EndStops, StepStops, StepTells};
+ghost use Rattle.cap_run.specs.Placed.{PlacedEarly, PlacedToEnd, StepPlaces};
+ghost use Rattle.cap_run.specs.Running.{EndStops, StepStops, WritesOneOf};
 ghost use Rattle.cap_run.specs.Streams.{EndsStream};
-ghost use Rattle.std.specs.Prelude.{◌≡◌, ◌⊎◌, IfErr, IfOk, IfSome, OnOk, false, true, ℕ};
+ghost use Rattle.std.specs.Prelude.{◌<◌, ◌^◌, ◌≡◌, ◌⊎◌, IfErr, IfOk, IfSome, List, OnOk, false, true, ℕ};
 
 use crate::engines::flushing::{AHEAD, flush_output, waits_for_message};
 use crate::engines::stream::{Counted, count};
-use crate::engines::whole::Judge;
 use crate::peek::Peek;
 use crate::settings::{Outcome, Settings};
-use cap_frame::{ByteMessage, FrameFault, SizeLimit, read_noting};
+use cap_explain::frame_words;
+use cap_frame::{ByteMessage, FrameFault, Segments, SizeLimit, read_noting};
 use cap_text::{Cause, ExplainedFault, Page, RunFault, StreamBreak};
 use cap_words::{ByteOut, WordSource};
 use std::alloc::Global;
@@ -24,6 +24,8 @@ use std::alloc::Global;
 #[derive(Drop)]
 struct ExplainRoom {
     message: ByteMessage,
+    /// The words of its frame.
+    words: u64,
     page: Page,
     at: StreamBreak,
 }
@@ -33,6 +35,7 @@ impl ExplainRoom {
     fn new(alloc: Global) -> ExplainRoom {
         ExplainRoom {
             message: ByteMessage::blank(alloc),
+            words: 0,
             page: Page::new(),
             at: StreamBreak {
                 start: 0,
@@ -42,6 +45,37 @@ impl ExplainRoom {
             },
         }
     }
+}
+
+/// What an engine does with a message that was read, where it knows how many words of the input are
+/// before it.
+pub(crate) trait PlacedJudge {
+    ghost use Rattle.cap_run.specs.declared.engines.stream.Counted.{Counted};
+
+    // The texts that may be written of a message, by the words of the messages before it and by its
+    // number. Each comes with what is counted then.
+    ghost tells: { Self → ℕ → ℕ → List (List ℕ) → List ℕ → Counted → Type 0 };
+
+    // The messages that need an allocation.
+    ghost wants: { Self → List (List ℕ) → Type 0 };
+
+    /// Writes the text of a message. What the page held before isn't written.
+    ///
+    /// # Errors
+    ///
+    /// - [`Cause::Output`]: the output failed. It took a prefix of the text.
+    /// - [`Cause::Memory`]: an allocation failed. The output took nothing.
+    fn judge<M: Segments, O: ByteOut>(
+        &self,
+        page: &mut Page,
+        out: &mut O,
+        before: u64,
+        number: u32,
+        message: &M,
+    ) -> Result<Counted, Cause>
+        requires { before < 2 ^ 61 }
+        ensures { let m = M.segments message.now in WritesOneOf O.ByteOut
+            (tells self.now before number m) (wants self.now m) out.old out.new result };
 }
 
 /// Whether the input ends inside a word, if the source ended inside a message. The source stays as
@@ -100,7 +134,7 @@ struct Explainer<J> {
     judge: J,
 }
 
-impl<J: Judge> Explainer<J> {
+impl<J: PlacedJudge> Explainer<J> {
     /// Reads the next message and writes its text. `None` if the stream ends before it.
     fn tell_next<S: WordSource, O: ByteOut>(
         &self,
@@ -108,23 +142,28 @@ impl<J: Judge> Explainer<J> {
         source: &mut S,
         out: &mut O,
         limit: SizeLimit,
+        before: u64,
         number: u32,
     ) -> Result<Option<Counted>, Cause>
-        ensures some { IfOk result (λ r. IfSome r (StepTells S.WordSource O.ByteOut
-            (J.tells self.now.judge) (limit_of limit) number source.old source.new out.old out.new)) }
+        requires { before < 2 ^ 61 }
+        ensures some { IfOk result (λ r. IfSome r (λ counted. StepPlaces S.WordSource O.ByteOut
+            (J.tells self.now.judge before) (limit_of limit) number source.old source.new
+            out.old out.new counted room.new.words)) }
         ensures none { result ≡ Ok None →
             EndsStream S.WordSource source.old source.new × (out.new ≡ out.old) }
         ensures err { IfErr result (λ cause. StepStops S.WordSource O.ByteOut
-            (J.tells self.now.judge) (J.wants self.now.judge) (limit_of limit) number
+            (J.tells self.now.judge before) (J.wants self.now.judge) (limit_of limit) number
             source.old source.new out.old out.new cause) }
         ensures at { IfErr result (λ cause.
             BreaksBy S.WordSource (limit_of limit) source.old cause room.new.at) }
     {
         match read_next(self.alloc, source, limit, room) {
             Ok(true) => {
+                let message = room.message.view();
+                room.words = frame_words(&message);
                 match self
                     .judge
-                    .judge(&mut room.page, out, number, &room.message.view())
+                    .judge(&mut room.page, out, before, number, &message)
                 {
                     Ok(counted) => Ok(Some(counted)),
                     Err(cause) => Err(cause),
@@ -162,10 +201,10 @@ impl<J: Judge> Explainer<J> {
         out: &mut O,
         settings: &Settings,
     ) -> Result<Outcome, ExplainedFault>
-        ensures ok { let s = settings.now in ReachesEnd S.WordSource O.ByteOut
+        ensures ok { let s = settings.now in PlacedToEnd S.WordSource O.ByteOut
             (J.tells self.now.judge) (limit_of s.size) s.messages
             source.old source.new out.old out.new (run_answer result) }
-        ensures err { let s = settings.now in StopsEarly S.WordSource O.ByteOut
+        ensures err { let s = settings.now in PlacedEarly S.WordSource O.ByteOut
             (J.tells self.now.judge) (limit_of s.size) s.messages
             source.old source.new out.old out.new (J.wants self.now.judge) (run_answer result) }
         ensures broken { BreaksOff S.WordSource (limit_of settings.now.size) source.old result }
@@ -177,12 +216,16 @@ impl<J: Judge> Explainer<J> {
         };
         let mut room = ExplainRoom::new(self.alloc);
         let mut ahead = [0; AHEAD];
+        let mut before = 0;
         for number in 0..settings.messages {
-            match self.tell_next(&mut room, source, out, settings.size, number) {
+            match self.tell_next(&mut room, source, out, settings.size, before, number) {
                 Ok(Some(counted)) => {
                     let waits = waits_for_message(source, settings, &mut ahead);
                     match flush_output(out, waits) {
-                        Ok(()) => outcome = count(outcome, counted),
+                        Ok(()) => {
+                            outcome = count(outcome, counted);
+                            before += room.words;
+                        }
                         Err(fault) => return Err(stopped_at(number, Cause::Output(fault), room.at)),
                     }
                 }
@@ -209,7 +252,7 @@ fn stopped_at(message: u32, cause: Cause, at: StreamBreak) -> ExplainedFault
 
 /// Reads each message of a stream whole, and writes the text that comes of it. The error says what
 /// is known of a message that can't be read.
-pub(crate) fn explain_all<S: Peek, O: ByteOut, J: Judge + Drop>(
+pub(crate) fn explain_all<S: Peek, O: ByteOut, J: PlacedJudge + Drop>(
     alloc: Global,
     source: &mut S,
     out: &mut O,

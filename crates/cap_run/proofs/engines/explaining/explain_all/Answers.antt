@@ -1,7 +1,7 @@
 -- What is known of the words of the source decides the answer.
 use Rattle.cap_frame.specs.Limit.{limit_of}
 use Rattle.cap_run.specs.Breaking.{run_answer}
-use Rattle.cap_run.proofs.Settling.{settled}
+use Rattle.cap_run.proofs.Placed.{placed_whole}
 use Rattle.cap_run.proofs.engines.explaining.explain_all.Goals as goal
 
 pub returns : goal.returns
@@ -13,8 +13,8 @@ returns g c =
         ok = e.ok;
         err = e.err;
         whole = λ own ms.
-            settled g.S.WordSource g.O.ByteOut (g.J.Judge.tells c.args.judge) (limit_of s.size) s.messages
-            c.args.source.now c.tell_each.new.source c.args.out.now c.tell_each.new.out (g.J.Judge.wants c.args.judge)
+            placed_whole g.S.WordSource g.O.ByteOut (g.J.PlacedJudge.tells c.args.judge) (limit_of s.size) s.messages
+            c.args.source.now c.tell_each.new.source c.args.out.now c.tell_each.new.out (g.J.PlacedJudge.wants c.args.judge)
             (run_answer c.tell_each.result) own ms e.ok e.err;
       };
       broken = e.broken;

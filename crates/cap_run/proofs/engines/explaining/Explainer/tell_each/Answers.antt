@@ -1,20 +1,20 @@
 use Rattle.std.proofs.Common.{arith, sym, ◌∙◌}
 use Rattle.cap_text.specs.declared.fault.Cause.TheVariants.{Output}
-use Rattle.cap_run.proofs.Going.{going_more, going_noncanonical, going_none, going_refused, going_stops}
+use Rattle.cap_run.proofs.Placed.{from_more, from_noncanonical, from_none, from_refused, from_stops}
 use Rattle.cap_run.specs.Telling.{messages_of}
 use Rattle.cap_run.proofs.Telling.{length-messages_of}
 use Rattle.cap_run.proofs.engines.explaining.Explainer.tell_each.Goals as goal
 
 pub loop-number-init : goal.loop-number-init
-loop-number-init g c = going_none _ _ _ _ _ _
+loop-number-init g c = from_none _ _ _ _ _ _
 
 pub count-outcome-requires-clause-refused : goal.count-outcome-requires-clause-refused
 count-outcome-requires-clause-refused g c =
-    going_refused _ _ _ _ _ _ _ _ _ _ c.loop-number.invariant
+    from_refused _ _ _ _ _ _ _ _ _ _ _ c.loop-number.invariant
 
 pub count-outcome-requires-clause-noncanonical : goal.count-outcome-requires-clause-noncanonical
 count-outcome-requires-clause-noncanonical g c =
-    going_noncanonical _ _ _ _ _ _ _ _ _ _ c.loop-number.invariant
+    from_noncanonical _ _ _ _ _ _ _ _ _ _ _ c.loop-number.invariant
 
 pub returns-in-Err-clause-err : goal.returns-in-Err-clause-err
 returns-in-Err-clause-err g c =
@@ -26,8 +26,8 @@ returns-in-Err-clause-err g c =
       omega (arith, w.many),
       w.reads,
       w.each,
-      going_stops _ _ _ (g.J.Judge.wants c.args.self.now.judge) _ _ _ c.tell_next.new.source _ _ c.tell_next.new.out
-          _ _ c.args.settings.now.messages c.in-Err.cause w (omega arith) c.in-Err.ensures.err,
+      from_stops _ _ _ (g.J.PlacedJudge.wants c.args.self.now.judge) _ _ _ c.tell_next.new.source _ _ c.tell_next.new.out
+          _ _ _ c.args.settings.now.messages c.in-Err.cause w (omega arith) c.in-Err.ensures.err,
     )
 
 pub returns-in-Err-flush_output-clause-err : goal.returns-in-Err-flush_output-clause-err
@@ -41,16 +41,16 @@ returns-in-Err-flush_output-clause-err g c =
       omega (arith, w.many),
       w.reads,
       w.each,
-      going_stops _ _ _ (g.J.Judge.wants c.args.self.now.judge) _ _ _ c.tell_next.new.source _ _ c.flush_output.new.out
-          _ _ c.args.settings.now.messages (Output c.in-Err-flush_output.fault) w (omega arith)
+      from_stops _ _ _ (g.J.PlacedJudge.wants c.args.self.now.judge) _ _ _ c.tell_next.new.source _ _ c.flush_output.new.out
+          _ _ _ c.args.settings.now.messages (Output c.in-Err-flush_output.fault) w (omega arith)
           (r.0, r.2, r.3, c.in-Err-flush_output.ensures c.loop-number.out r.0.text r.4),
     )
 
 pub loop-number-preserved : goal.loop-number-preserved
 loop-number-preserved g c =
     let r = rw c.in-Ok-Some.field-0-is at c.in-Ok-Some.ensures.some in
-    going_more _ _ _ _ _ _ _ _ _ _ _ _ _ r.0 c.in-Ok-Some.counted r.1 c.loop-number.invariant r.2 r.3
-    (c.in-Ok.ensures c.loop-number.out r.0.text r.4) c.count-outcome.ensures
+    from_more _ _ _ _ _ _ _ _ _ _ _ _ _ _ _ r.0 c.in-Ok-Some.counted r.1 c.loop-number.invariant r.2 r.3
+    (c.in-Ok.ensures c.loop-number.out r.0.text r.4) r.5 r.6 c.count-outcome.ensures
 
 pub returns-in-Err-clause-broken : goal.returns-in-Err-clause-broken
 returns-in-Err-clause-broken g c =
@@ -67,3 +67,6 @@ pub returns-in-Err-flush_output-clause-broken : goal.returns-in-Err-flush_output
 returns-in-Err-flush_output-clause-broken g c =
     let w = c.loop-number.invariant in
     rw c.stopped_at.ensures (messages_of w.ts, c.loop-number.source, length-messages_of w.ts ∙ w.many, w.reads, tt)
+
+pub tell_next-requires : goal.tell_next-requires
+tell_next-requires g c = omega (arith, c.loop-number.invariant.few)
