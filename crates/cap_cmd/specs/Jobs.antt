@@ -21,6 +21,7 @@ use Rattle.cap_text.specs.declared.fault.CopyFault.{CopyFault}
 use Rattle.cap_text.specs.declared.fault.ExplainedFault.{ExplainedFault}
 use Rattle.cap_text.specs.declared.fault.RunFault.{RunFault}
 use Rattle.cap_run.specs.Breaking.{ExplainsStream, run_answer}
+use Rattle.cap_run.specs.Placed.{PlacedTells, TellsFrom}
 use Rattle.cap_run.specs.Engines.{ShowsStream}
 use Rattle.cap_run.specs.Filtering.{FiltersUnder}
 use Rattle.cap_run.specs.Prelude.{AreCanonised, Canonised, MakesCopiesUnder, canonised, copies_of, TellsCheckUnder}
@@ -168,7 +169,7 @@ module _ {S O E : Type 0} (gs : source.Ghosts S) (go : output.Ghosts O) (ge : ou
       (ReportsRun ge)
 
   -- an engine that explains
-  abbrev pub ExplainsTask : Tells → (List (List ℕ) → Type 0) → Settings → S → O → O → E → E → ℕ
+  abbrev pub ExplainsTask : PlacedTells → (List (List ℕ) → Type 0) → Settings → S → O → O → E → E → ℕ
       → Type 0
   ExplainsTask tells wants s first before after = Runs
       (λ last answer. ExplainsStream gs go tells wants (limit_of s.size) s.messages first last before
@@ -245,19 +246,29 @@ module _ {I S O E P U : Type 0} (gi : input.Ghosts I) (gs : source.Ghosts S) (go
         status
 
 -- All words are frames of messages, each within the limit, and none is cut short. Each message is
--- accepted, and canonical if that was asked, and such a text of it was written.
-pub record TellsInput (tells : Tells) (s : Settings) (words : Option (List ℕ)) (is_cut : Bool)
-    (before after : Option (List ℕ)) : Type 0 where
+-- accepted, and canonical if that was asked, and texts of them were written of which `each` holds.
+pub record WritesInput (each : List Told → Type 0) (s : Settings) (words : Option (List ℕ))
+    (is_cut : Bool) (before after : Option (List ℕ)) : Type 0 where
   pub own : List ℕ
   pub all : OnSome words ((words ≡ Some own) × (is_cut ≡ false))
   pub ts : List Told
   pub stream : Stream own (messages_of ts)
   pub within : AllByRecursion (λ m. sum (sizes_of m) ≤ limit_of s.size) (messages_of ts)
   pub many : length ts ≤ s.messages
-  pub each : TellsEach tells 0 ts
+  pub told : each ts
   pub accepted : refused_in ts ≡ 0
   pub canonical : noncanonical_in ts ≡ 0
   pub appended : Appends before after (texts_of ts)
+
+-- the text of each is one that may be written of it by its number
+abbrev pub TellsInput : Tells → Settings → Option (List ℕ) → Bool → Option (List ℕ)
+    → Option (List ℕ) → Type 0
+TellsInput tells = WritesInput (TellsEach tells 0)
+
+-- the same by where it begins too
+abbrev pub PlacesInput : PlacedTells → Settings → Option (List ℕ) → Bool → Option (List ℕ)
+    → Option (List ℕ) → Type 0
+PlacesInput tells = WritesInput (TellsFrom tells 0 0)
 
 -- All words are frames of messages, each within the limit, and none is cut short. Each message is
 -- accepted under the demands and has a canonical copy, and the frame of that was written.
@@ -289,9 +300,9 @@ WritesAll (Vet false) s demands =
 WritesAll (Vet true) s demands =
     TellsInput (TellsExclusiveUnder demands (words_of s.limits) (depth_of s.limits)) s
 WritesAll (Explain false) s demands =
-    TellsInput (TellsExplainedUnder demands (words_of s.limits) (depth_of s.limits)) s
+    PlacesInput (TellsExplainedUnder demands (words_of s.limits) (depth_of s.limits)) s
 WritesAll (Explain true) s demands =
-    TellsInput (TellsExplainedExclusiveUnder demands (words_of s.limits) (depth_of s.limits)) s
+    PlacesInput (TellsExplainedExclusiveUnder demands (words_of s.limits) (depth_of s.limits)) s
 WritesAll (Filter form) s demands =
     TellsInput (PassesOn form.pack (TellsIn form demands s.limits)) s
 WritesAll Dump s demands =
