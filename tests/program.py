@@ -133,7 +133,7 @@ OVERLAP = "message 1: refused Overlap at 0:2 pointers 3\n"
 CYCLE_REFUSED = "message 0: refused DepthLimit at 0:0 pointers 65\n"
 CYCLE_EXPLAINED = f"""\
   path {"/p0" * 64}
-  byte 8 of the message
+  byte 8 of the message, byte 8 of the input
   pointer fcffffff00000100 struct, offset -1, data words 0, pointers 1
   target 0:0 to 0:0, words 1
   segment 0, words 1
@@ -379,7 +379,8 @@ case("canon", NULL, "capvet: message 1: HasCapability at 0:0\n", 1, NULL + CAPAB
 case("canon --depth 3 examples/contacts.bin", err="capvet: message 0: refused DepthLimit at 0:7\n", status=1)
 case("canon", NULL, "capvet: message 1: Truncated at byte 23\n", 1, NULL + NULL[:7])
 case("vet", NULL_ACCEPTED, "capvet: message 1: Truncated at byte 23\n", 1, NULL + NULL[:7])
-case("explain", NULL_ACCEPTED, "capvet: message 1: Truncated at byte 23\n", 1, NULL + NULL[:7])
+case("explain", NULL_ACCEPTED, "capvet: message 1: Truncated at byte 23\n  message at byte 16 of the input\n  bytes there 7\n"
+     "  reason the input ends inside the segment table, and inside a word or a packed group\n", 1, NULL + NULL[:7])
 case("dump", NULL_DUMP, "capvet: message 1: Truncated at byte 23\n", 1, NULL + NULL[:7])
 case("get /", NULL_FOUND, "capvet: message 1: Truncated at byte 23\n", 1, NULL + NULL[:7])
 case("segments", segments_text(NULL), "capvet: message 1: TooManySegments 513\n", 1, NULL + word("0002000000000000"))
