@@ -8,8 +8,8 @@ the words of the message alone. Messages of a fixed seed are changed or made up:
 goes through the program once with one of the lines of OPTIONS. Each reason has to be among the refusals, as often as LEAST says
 for 6,000 messages.
 
-Streams that break off go through the program too, plain and packed, a fifth as many. What it says of their ends is compared with
-what this script finds in their bytes.
+Streams that break off go through the program too, plain and packed, a fifth as many. Its lines on their ends are compared
+with what this script finds in their bytes.
 
 tests/c/explain.c explains each of these messages too, with the limits and flags of the same options, and buffers of various
 sizes. It writes the lines after that of the verdict. It looks for no overlap. The last line is 'N passed, M failed', and the
