@@ -26,7 +26,8 @@ use cap_vet::{Demands, Limits, limits_under, vet_with};
 
 /// Writes the lines that explain why [`crate::vet`] refuses the message that bytes are, to the start
 /// of `text` (docs/output.md, explain). They are the lines that `capvet explain` writes after the
-/// line of the verdict. The flags are as for [`crate::vet`]. Allocates nothing.
+/// line of the verdict, without the byte in the input. The flags are as for [`crate::vet`]. Allocates
+/// nothing.
 ///
 /// The first of these that applies is returned:
 /// - why there is no frame, or [`Answer::Trailing`], as for [`crate::vet`]; `required` is 0;
