@@ -172,6 +172,8 @@ COMMANDS = ("segments", "vet", "explain", "filter", "dump", "get", "check", "can
 # Those that read messages, with what each of them needs besides its input; and all of them.
 READERS = ("segments", "vet", "explain", "filter", "dump", "get /", "check", "canon")
 RUNS = (*READERS, "pack", "unpack")
+# Those that write one line for a message that can't be read. (tests/explain.py has the lines of `explain`)
+BRIEF = (*(it for it in READERS if it != "explain"), "vet --exclusive")
 PATHS = ("/", "/p0", "/p1/p0", "/p0/i0", "/p0/i1/p4", "/i0", "/p65535")
 
 
@@ -462,7 +464,7 @@ known_messages()
 for plain, text in tables.SPELLINGS:
     rows([("pack", plain, word(text), "", 0), ("unpack", text, word(plain), "", 0)])
 for stream, line in tables.TOO_LARGE:
-    rows([(command, stream, "", line, 1) for command in (*READERS, "vet --exclusive")], also_packed=True)
+    rows([(command, stream, "", line, 1) for command in BRIEF], also_packed=True)
 
 
 def limits():
@@ -476,7 +478,7 @@ def limits():
             rows([(f"{command} {allows}", tables.LIMITED, text, "", 0),
                   (f"{command} {forbids}", tables.LIMITED, out, err, 1)], also_packed=True)
     for stream, said in tables.SIZE_DEFAULTS:
-        rows([(command, stream, "", f"capvet: message 0: {said}\n", 1) for command in (*READERS, "vet --exclusive")])
+        rows([(command, stream, "", f"capvet: message 0: {said}\n", 1) for command in BRIEF])
     for stream, verdict, head, below in tables.WITHIN_DEFAULTS:
         verdict = f"message 0: {verdict}\n"
         rows([("vet", stream, verdict, "", 0),
