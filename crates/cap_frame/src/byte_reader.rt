@@ -83,7 +83,25 @@ pub fn read_into<S: WordSource>(
     ensures room { LeavesRoom result (room_in message.old) (room_in message.new) }
     ensures blank { (result ≡ Ok true → ⊥) → held_segments message.new ≡ [] ∷ [] }
 {
-    read_noting(alloc, source, limit, message, &mut None)
+    let ByteMessage {
+        bytes,
+        sizes,
+        starts,
+    } = message;
+    match read_parts(alloc, source, limit, sizes, bytes) {
+        Ok(true) => {
+            fill_starts(sizes, starts);
+            Ok(true)
+        }
+        Ok(false) => {
+            blank(sizes, starts);
+            Ok(false)
+        }
+        Err(fault) => {
+            blank(sizes, starts);
+            Err(fault)
+        }
+    }
 }
 
 /// Does what [`read_into`] does, and keeps what the table says in `table` if the message can't be
@@ -94,7 +112,7 @@ pub fn read_into<S: WordSource>(
 /// Those of [`read_into`]. After `TooLarge`, and after `Truncated` if the whole table is there,
 /// `table` has the segments and the words that the table says. After another `Truncated`, and after
 /// `TooManySegments`, it is `None`.
-#[inline(always)]
+// It has a body of its own: by a call of it `read_into` takes 25 instructions more for a message.
 pub fn read_noting<S: WordSource>(
     alloc: Global,
     source: &mut S,
