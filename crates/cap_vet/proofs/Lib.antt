@@ -36,12 +36,11 @@ mod Bits
 mod Marking
 mod Pointing
 pub mod Ranges
-mod SecondWalk
+mod MarkingWalk
 pub mod OneReport
-pub mod ExclusiveFaults
 pub mod Laxness
-mod Splitting
 pub mod Demanding
+pub mod ExclusiveFaults
 mod Pads
 mod NearUses
 pub mod OneTrail

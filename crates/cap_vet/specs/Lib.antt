@@ -12,6 +12,7 @@ pub mod MarkSteps
 pub mod Nodes
 pub mod NearFinding
 pub mod NullMarks
+pub mod Overlapping
 pub mod Owing
 pub mod Passing
 pub mod PathDemands

@@ -1,6 +1,6 @@
 use Rattle.std.proofs.Common.{◌-◌, ◌≤◌}
 use Rattle.cap_vet.proofs.Bits.{Reached}
-use Rattle.cap_vet.proofs.exclusiveness.marks.set_bits.Given as goal
+use Rattle.cap_vet.proofs.exclusiveness.marks.set_more.Given as goal
 
 abbrev pub invariant-loop-at : goal.invariant-loop-at
 invariant-loop-at l = record {

@@ -1,12 +1,17 @@
--- The turns and the end of a second walk.
+-- The turns and the end of a walk that marks words.
+use Rattle.std.proofs.Common.{is_some}
 use Rattle.cap_spec.specs.Denoting.{places}
+use Rattle.cap_spec.proofs.Disjoint.Bounds.{charge_below_words}
 use Rattle.cap_spec.proofs.Lemmas.{disjoint_of_none, none_of_disjoint, HasWord-inside, lead_word, Formed, formed}
-use Rattle.cap_spec.proofs.Prelude.{List, [], ap, arith, inl, inr, length, refl, subst, ℕ, ◌++◌, ◌<◌, ◌∷◌, ◌≡◌}
+use Rattle.cap_spec.proofs.Prelude.{List, None, Option, Some, [], ap, arith, false, inl, inr, length, refl, subst, true, ℕ, ◌++◌, ◌<◌, ◌∷◌, ◌≡◌}
 use Rattle.cap_spec.proofs.Prelude.{∥∥₁_elim, props, segment_of, IsDisjoint, IsFirstOverlap, Occupies, pads_of, Costs}
-use Rattle.cap_spec.proofs.Prelude.{extent}
+use Rattle.cap_spec.proofs.Prelude.{Err, Ok, OnOk, Result, empty_count, extent, sizes_of, sum, Tree, ◌+◌}
 use Rattle.cap_vet.specs.Prelude.{Step, Conflicts, IsMarked, MarksAll, IsAccepted, Ahead, IsTrail, HasWalked}
-use Rattle.cap_vet.specs.Prelude.{IsLookedAt, Report}
-use Rattle.cap_vet.specs.Taken.{HasRoom}
+use Rattle.cap_vet.specs.Prelude.{IsLookedAt, IsReport, Report}
+use Rattle.cap_vet.specs.Overlapping.{EndsMarking, KnowsMarks, KnowsOverlap}
+use Rattle.cap_vet.specs.Taken.{HasMarked, HasRoom}
+use Rattle.cap_vet.specs.declared.exclusiveness.marks.Marks.{Marks}
+use Rattle.cap_vet.specs.declared.exclusiveness.overlap_turn.Overlap.{Overlap}
 use Rattle.cap_vet.proofs.Marking.{all_disjoint, first_overlap, marks_on}
 use Rattle.cap_vet.proofs.Verdicts.{none_ahead}
 
@@ -34,11 +39,46 @@ turn_overlap {m} seen a {n} {T} l k (used, o, c) =
     let o2 : Occupies m a.segment a.word used = rw (l.segment, l.word) o in
     rw (← l.segment, ← l.word) (first_overlap m seen a l.later T used n l.trail k o2 c l.number)
 
+-- where none has overlapped yet, the words of these paths are marked,
+pub marks_known : (m : List (List ℕ)) (seen : List (List Step)) (marks : Marks) (first : Option Overlap) → is_some first ≡ false
+    → KnowsMarks m seen marks first → HasMarked m seen marks.starts.now marks.bits.now
+marks_known m seen marks None e k = k
+marks_known m seen marks (Some x) e k = absurd (cc e)
+
+-- and the marks of one path more say so of this one too
+pub known_marks : (m : List (List ℕ)) (seen : List (List Step)) (marks : Marks) (first : Option Overlap) → is_some first ≡ false
+    → HasMarked m seen marks.starts.now marks.bits.now → KnowsMarks m seen marks first
+known_marks m seen marks None e k = k
+known_marks m seen marks (Some x) e k = absurd (cc e)
+
+-- the first that overlaps stays the first
+pub still_overlaps : (m : List (List ℕ)) (seen more : List (List Step)) (marks : Marks) (first : Option Overlap) → is_some first ≡ true
+    → KnowsMarks m seen marks first → KnowsMarks m more marks first
+still_overlaps m seen more marks None e k = absurd (cc e)
+still_overlaps m seen more marks (Some x) e k = k
+
+-- a walk that goes on knows both
+pub both_known : {X E A : Type 0} (B : Type 0) (r : Result X E) → A → OnOk r B → OnOk r (A × B)
+both_known B (Ok x) a b = (a, b)
+both_known B (Err e) a b = tt
+
+-- what is marked once doesn't overlap
+pub knows_overlap : (m : List (List ℕ)) (seen : List (List Step)) (marks : Marks) (first : Option Overlap)
+    → KnowsMarks m seen marks first → KnowsOverlap m seen first
+knows_overlap m seen marks None k = k.marked.clear
+knows_overlap m seen marks (Some x) k = k
+
 -- the end
-pub ends_disjoint : {m : List (List ℕ)} {words depth : ℕ} {report : Report} (seen : List (List Step)) (ahead : List Ahead) {T : ℕ → ℕ → Type 0}
-    → HasWalked m words depth [] report seen ahead → IsMarked m seen T → IsDisjoint m
-ends_disjoint {m} seen ahead {T} w k =
-    all_disjoint m seen T (subst (λ (u : List Ahead). IsTrail m seen u) (none_ahead ahead w.places) w.progress.trail) k
+pub ends_marking : (m : List (List ℕ)) {words depth : ℕ} {report : Report} (seen : List (List Step)) (ahead : List Ahead) (first : Option Overlap)
+    → HasWalked m words depth [] report seen ahead → KnowsOverlap m seen first → EndsMarking m first
+ends_marking m seen ahead None w k =
+    all_disjoint m seen (subst (λ (u : List Ahead). IsTrail m seen u) (none_ahead ahead w.places) w.progress.trail) k
+ends_marking m seen ahead (Some x) w k = k
+
+-- a message that uses no word twice is charged less than its words, but for elements without bits or words
+pub disjoint_bound : (m : List (List ℕ)) (words depth : ℕ) (report : Report) → IsAccepted m words depth report → IsDisjoint m
+    → (t : Tree) × IsReport m words depth report t × (report.charge < sum (sizes_of m) + empty_count t)
+disjoint_bound m words depth report (t, h) d = (t, h, charge_below_words m t report.charge report.depth h.within.denotes d)
 
 -- there is room whatever is marked
 pub room_kept : (m : List (List ℕ)) (starts marks after : List ℕ) → HasRoom m starts marks → length after ≡ length marks → HasRoom m starts after
