@@ -4,7 +4,7 @@ use Rattle.std.specs.Int.{bytes_low_first}
 use Rattle.cap_spec.proofs.Prelude.{List, [], ap, arith, flat_map, length, refl, suc, sym, zero, ℕ, ◌%◌, ◌*◌, ◌++◌, ◌+◌}
 use Rattle.cap_spec.proofs.Prelude.{◌/◌, ◌<◌, ◌^◌, ◌∙◌, ◌∷◌, ◌≡◌, pow-succ', byte_at, AllByRecursion, little_bytes}
 use Rattle.cap_spec.proofs.Prelude.{little_number, little_from-cons, little_number-reads_back, halves, word_bytes}
-use Rattle.cap_spec.proofs.Prelude.{IsWord}
+use Rattle.cap_spec.proofs.Prelude.{IsWord, rules}
 
 -- with one byte more below, each byte stands one place further up
 byte_at_up : (i a y : ℕ) → a < 256 → byte_at (suc i) (a + 256 * y) ≡ byte_at i y
@@ -66,13 +66,4 @@ four_bytes x = little_bytes 4 x
 
 -- a word's bytes are those of its low half and then those of its high half
 pub word_halves : (x : ℕ) → word_bytes x ≡ flat_map four_bytes (halves x)
-word_halves x =
-    let a : byte_at 0 x ≡ byte_at 0 (x % 2 ^ 32) = omega arith in
-    let b : byte_at 1 x ≡ byte_at 1 (x % 2 ^ 32) = omega arith in
-    let c : byte_at 2 x ≡ byte_at 2 (x % 2 ^ 32) = omega arith in
-    let d : byte_at 3 x ≡ byte_at 3 (x % 2 ^ 32) = omega arith in
-    let e : byte_at 4 x ≡ byte_at 0 (x / 2 ^ 32) = omega arith in
-    let f : byte_at 5 x ≡ byte_at 1 (x / 2 ^ 32) = omega arith in
-    let g : byte_at 6 x ≡ byte_at 2 (x / 2 ^ 32) = omega arith in
-    let h : byte_at 7 x ≡ byte_at 3 (x / 2 ^ 32) = omega arith in
-    cc
+word_halves x = search rules

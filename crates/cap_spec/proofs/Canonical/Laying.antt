@@ -4,12 +4,13 @@ use Rattle.cap_spec.specs.Tree.{none}
 use Rattle.cap_spec.proofs.Canonical.Placing.{stand_inside, stand_read, stand_word}
 use Rattle.cap_spec.proofs.Canonical.PointerFields.{ListFields, StructFields, start_after, start_before, struct_fields}
 use Rattle.cap_spec.proofs.Canonical.TreeMeasures.{extent_scalars, extra_scalars, extra_structs, idle}
-use Rattle.cap_spec.proofs.Prelude.{List, [], ap, ap₂, arith, if◌then◌else◌, length, ne_eqb, refl, subst, sym, ℕ, ◌*◌}
-use Rattle.cap_spec.proofs.Prelude.{◌+◌, ◌-◌, ◌<◌, ◌==◌, ◌^◌, ◌∙◌, ◌∷◌, ◌≡◌, ◌≢◌, ◌≤◌, slice_get_within, AllByRecursion}
-use Rattle.cap_spec.proofs.Prelude.{pointer_to, struct_word, AreElements, DenoteEach, Denotes, Finds, element_levels}
-use Rattle.cap_spec.proofs.Prelude.{values_of, words_from, IsComposite, TagFits, extra, near, HasWord, HasWordsAt}
-use Rattle.cap_spec.proofs.Prelude.{data_size, element_bits, extent, kind, list_size, list_words, middle, pointer_size}
+use Rattle.cap_spec.proofs.Prelude.{List, [], ap, ap₂, arith, if◌then◌else◌, length, refl, sym, ℕ, ◌*◌, ◌+◌, ◌-◌, ◌<◌}
+use Rattle.cap_spec.proofs.Prelude.{◌==◌, ◌^◌, ◌∙◌, ◌∷◌, ◌≡◌, ◌≢◌, ◌≤◌, slice_get_within, AllByRecursion, pointer_to}
+use Rattle.cap_spec.proofs.Prelude.{struct_word, AreElements, DenoteEach, Denotes, Finds, element_levels, values_of}
+use Rattle.cap_spec.proofs.Prelude.{words_from, IsComposite, TagFits, extra, near, HasWord, HasWordsAt, data_size}
+use Rattle.cap_spec.proofs.Prelude.{element_bits, extent, kind, list_size, list_words, middle, pointer_size}
 use Rattle.cap_spec.proofs.Prelude.{scalar_words, Trees, more, pointers, scalars, struct, structs, tree_count}
+use Rattle.cap_spec.proofs.Prelude.{common_steps}
 use Rattle.cap_spec.proofs.Trees.Charges.{extent_pointers, extent_struct, extent_structs}
 use Rattle.cap_spec.proofs.Trees.ReadingBack.{length-scalar_words, scalars_read}
 
@@ -124,9 +125,7 @@ empty_laid seg a h =
 some_words : (seg : List ℕ) (a offset d p : ℕ) → 0 < d + p
     → HasWord (seg ∷ []) 0 a (if (d + p) == 0 then 2 ^ 32 - 4 else struct_word offset d p)
     → HasWord (seg ∷ []) 0 a (struct_word offset d p)
-some_words seg a offset d p some h =
-    subst (λ y. HasWord (seg ∷ []) 0 a (if y then 2 ^ 32 - 4 else struct_word offset d p))
-    (ne_eqb (d + p) 0 (λ z. absurd (omega (arith, z, some)))) h
+some_words seg a offset d p some h = grind (arith, common_steps)
 
 -- each struct
 pub any_struct_laid : (seg ws : List ℕ) (ts : Trees) (a b offset inner deep : ℕ)

@@ -8,12 +8,12 @@ use Rattle.cap_spec.proofs.Canonical.TreeMeasures.{FitEach, FitElements, Fits, M
 use Rattle.cap_spec.proofs.Canonical.TrimmedMeasures.{Trimmed, trimmed}
 use Rattle.cap_spec.proofs.Canonical.TrimmedTrees.{trimmed_is_tree}
 use Rattle.cap_spec.proofs.Prelude.{Bool, List, [], arith, drop, false, if◌then◌else◌, length, length-take, map, subst}
-use Rattle.cap_spec.proofs.Prelude.{suc, sym, take, true, zero, ℕ, ◌*◌, ◌++◌, ◌+◌, ◌-◌, ◌/◌, ◌<◌, ◌==◌, ◌^◌, ◌∷◌, ◌≡◌}
+use Rattle.cap_spec.proofs.Prelude.{suc, sym, take, true, zero, ℕ, ◌*◌, ◌++◌, ◌+◌, ◌-◌, ◌/◌, ◌<◌, ◌^◌, ◌∷◌, ◌≡◌}
 use Rattle.cap_spec.proofs.Prelude.{◌≤◌, mul-le, AllByRecursion, range_with_len, content, contents, element_contents}
 use Rattle.cap_spec.proofs.Prelude.{element_sizes, element_words, layout, list_word, pointer_to, pointer_words, size}
 use Rattle.cap_spec.proofs.Prelude.{sizes, struct_word, trim, Denotes, element_bits, list_words, packed_word}
 use Rattle.cap_spec.proofs.Prelude.{scalar_words, AreElementTrees, AreTrees, IsTree, Tree, Trees, cap, more, null}
-use Rattle.cap_spec.proofs.Prelude.{pointers, scalars, struct, structs, tree_count, IsWord}
+use Rattle.cap_spec.proofs.Prelude.{pointers, scalars, struct, structs, tree_count, IsWord, common_steps}
 use Rattle.cap_spec.proofs.Trees.DenotedTrees.{AreWords, denoted_is_tree}
 
 -- values of one word fit the bits that they take together
@@ -69,9 +69,7 @@ list_is_word offset c n ho hc hn = omega arith
 pub pointer_is_word : (offset : ℕ) (t : Tree) → Fits t → offset < 2 ^ 30 → pointer_to offset t < 2 ^ 64
 pointer_is_word offset null f l = omega arith
 pointer_is_word offset (cap i) f l = omega (arith, f)
-pointer_is_word offset (struct ws ts) f l =
-    either_word ((length ws + tree_count ts) == 0) (2 ^ 32 - 4) (struct_word offset (length ws) (tree_count ts))
-    (omega arith) (struct_is_word offset (length ws) (tree_count ts) l f.0 f.1)
+pointer_is_word offset (struct ws ts) f l = grind (arith, common_steps)
 pointer_is_word offset (scalars c vs) f l = list_is_word offset c (length vs) l (omega (arith, f.0)) f.1
 pointer_is_word offset (pointers ts) f l = list_is_word offset 6 (tree_count ts) l (omega arith) f.0
 pointer_is_word offset (structs d p es) f l = list_is_word offset 7 (tree_count es * (d + p)) l (omega arith) f.3

@@ -2,7 +2,7 @@
 use Rattle.std.proofs.lemmas.List.{length_push}
 use Rattle.cap_spec.proofs.Prelude.{List, Some, [], ap, append-nil, append_assoc, arith, drop, get_or, length, refl}
 use Rattle.cap_spec.proofs.Prelude.{slice_get, subst, suc, take, zero, ℕ, ◌++◌, ◌+◌, ◌-◌, ◌<◌, ◌∙◌, ◌∷◌, ◌≡◌, ◌≤◌}
-use Rattle.cap_spec.proofs.Prelude.{get_or_from_slice_get, same_Some, slice_get_within, words_from, HasWordsAt}
+use Rattle.cap_spec.proofs.Prelude.{get_or_from_slice_get, same_Some, slice_get_within, words_from, HasWordsAt, rules}
 use Rattle.cap_spec.proofs.Trees.ReadingBack.{WordsAt}
 
 -- of words that stand joined each part stands at its place
@@ -46,9 +46,7 @@ stand_taken words b (x ∷ xs) h =
 
 pub stand_read : (words : List ℕ) (b n : ℕ) (xs : List ℕ) → n ≡ length xs → HasWordsAt words b xs
     → words_from (words ∷ []) 0 b n ≡ xs
-stand_read words b n xs e h =
-    let l : b + n - b ≡ length xs = omega arith in
-    ap (λ k. take k (drop b words)) l ∙ stand_taken words b xs h
+stand_read words b n xs e h = search (rules, stand_taken)
 
 -- the word behind a front
 word_behind : (front : List ℕ) (x : ℕ) (xs : List ℕ) → slice_get (front ++ x ∷ xs) (length front) ≡ Some x

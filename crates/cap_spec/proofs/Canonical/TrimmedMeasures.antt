@@ -1,6 +1,6 @@
 -- A trimmed tree costs no more, is as deep, and fits where the tree fits.
 use Rattle.std.proofs.Common.{List, [], ap, ap₂, arith, if◌then◌else◌, length, length-take, length-take-le, max, refl}
-use Rattle.std.proofs.Common.{suc, sym, zero, ℕ, ◌*◌, ◌+◌, ◌<◌, ◌==◌, ◌^◌, ◌∙◌, ◌∷◌, ◌≡◌, ◌≤◌}
+use Rattle.std.proofs.Common.{suc, sym, zero, ℕ, ◌*◌, ◌+◌, ◌<◌, ◌==◌, ◌^◌, ◌∙◌, ◌∷◌, ◌≡◌, ◌≤◌, rules}
 use Rattle.std.proofs.Math.Dec.{eqb-suc-zero}
 use Rattle.std.proofs.lemmas.Nat.{mul-le}
 use Rattle.cap_spec.specs.Canonical.{children_needed, children_of, cut_elements, data_needed, data_of, is_null}
@@ -161,15 +161,7 @@ pub record ElementsTrimmed (d p : ℕ) (es us : Trees) : Type 0 where
 -- a struct of trimmed children
 struct_trimmed : (words : List ℕ) (ts us : Trees) → Fits (struct words ts) → AllTrimmed ts us
     → Trimmed (struct words ts) (trim_struct words us)
-struct_trimmed words ts us f r =
-    let a = length-take (data_needed words) words in
-    let b = tree_count-take (children_needed us) us in
-    let e = costs-take (children_needed us) us in
-    record {
-      fits = (omega (arith, a, f.0), omega (arith, b, r.count, f.1), fits-take (children_needed us) us r.fits);
-      charged = omega (arith, a, b, e, r.count, r.charged);
-      deep = ap (λ n. 1 + n) (heights-take (children_needed us) us (omega arith) ∙ r.deep);
-    }
+struct_trimmed words ts us f r = search (rules, length-take, tree_count-take, costs-take, fits-take, heights-take)
 
 -- a struct list of elements with trimmed children
 structs_trimmed : (d p : ℕ) (es us : Trees) → Fits (structs d p es) → ElementsTrimmed d p es us

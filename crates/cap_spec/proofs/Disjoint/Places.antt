@@ -6,17 +6,13 @@ use Rattle.cap_spec.proofs.Frames.Messages.{HasWord-inside, HasWord-segment, one
 use Rattle.cap_spec.proofs.Prelude.{List, [], ap, arith, eqb, false, inl, inr, length, length-append, ne_eqb, refl}
 use Rattle.cap_spec.proofs.Prelude.{subst, suc, sum, sym, zero, ℕ, ◌++◌, ◌+◌, ◌<◌, ◌∙◌, ◌∷◌, ◌≡◌, ◌≢◌, ◌≤◌, ◌⊎◌}
 use Rattle.cap_spec.proofs.Prelude.{cases_eq, Lead, Leads, near, one_pad, two_pads, sizes_of, AreDistinct, IsOneOf}
-use Rattle.cap_spec.proofs.Prelude.{HasWord, segment_of, pads_of, far_segment, kind, pad, two}
+use Rattle.cap_spec.proofs.Prelude.{HasWord, segment_of, pads_of, far_segment, kind, pad, two, common_steps, rules}
 use Rattle.cap_spec.proofs.Trees.Charges.{length-places}
 
 -- the places of a range
 pub in_places : (t b n s w : ℕ) → IsOneOf (s, w) (places t b n) → (s ≡ t) × (b ≤ w) × (w < b + n)
 in_places t b zero s w h = absurd h
-in_places t b (suc n) s w (inl e) = (
-  ap (λ u. u.0) e,
-  (let f : w ≡ b = ap (λ u. u.1) e in omega arith),
-  (let f : w ≡ b = ap (λ u. u.1) e in omega arith),
-)
+in_places t b (suc n) s w (inl e) = search rules
 in_places t b (suc n) s w (inr h) = let r = in_places t (b + 1) n s w h in (r.0, omega (arith, r.1), omega (arith, r.2))
 
 pub at_place : (t b n w : ℕ) → b ≤ w → w < b + n → IsOneOf (t, w) (places t b n)
@@ -72,20 +68,9 @@ pub pads_inside : (m : List (List ℕ)) (s w k p : ℕ) (r : Lead) → Leads m s
     → (far_segment p < length m) × (pad p + (1 + two p) ≤ length (segment_of m (far_segment p)))
 pads_inside m s w k p r (near p' has n says e) h far = absurd (n (ap kind (one_word m s w p' p has h) ∙ far))
 pads_inside m s w k p r (one_pad p' q has (f, one) hasq n says e) h far =
-    let same : p' ≡ p = one_word m s w p' p has h in
-    let own : HasWord m (far_segment p) (pad p) q = subst (λ (u : ℕ). HasWord m (far_segment u) (pad u) q) same hasq in
-    let one' : two p ≡ 0 = ap two (sym same) ∙ one in (
-      HasWord-segment m (far_segment p) (pad p) q own,
-      omega (arith, one', HasWord-inside m (far_segment p) (pad p) q own),
-    )
+    search (rules, one_word, HasWord-segment, HasWord-inside)
 pads_inside m s w k p r (two_pads p' f q has (far', both) hasf hasq one tag e e') h far =
-    let same : p' ≡ p = one_word m s w p' p has h in
-    let own : HasWord m (far_segment p) (pad p + 1) q =
-    subst (λ (u : ℕ). HasWord m (far_segment u) (pad u + 1) q) same hasq in
-    let both' : two p ≡ 1 = ap two (sym same) ∙ both in (
-      HasWord-segment m (far_segment p) (pad p + 1) q own,
-      omega (arith, both', HasWord-inside m (far_segment p) (pad p + 1) q own),
-    )
+    search (rules, one_word, HasWord-segment, HasWord-inside)
 
 pub pad_inside : (m : List (List ℕ)) (s w k p : ℕ) (r : Lead) (t x : ℕ) → Leads m s w k r → HasWord m s w p
     → IsOneOf (t, x) (pads_of p)
@@ -106,18 +91,8 @@ pub pads_number : (m : List (List ℕ)) (s w k p : ℕ) (r : Lead) → Leads m s
     → length (pads_of p) ≡ k
 pads_number m s w k p r (near p' has n says e) h =
     ap length (no_pads p (λ far. n (ap kind (one_word m s w p' p has h) ∙ far))) ∙ sym e
-pads_number m s w k p r (one_pad p' q has (f, one) hasq n says e) h =
-    let same : p' ≡ p = one_word m s w p' p has h in
-    let far : kind p ≡ 2 = ap kind (sym same) ∙ f in
-    let one' : two p ≡ 0 = ap two (sym same) ∙ one in
-    let l : length (pads_of p) ≡ 1 = rw (far, one') refl in
-    l ∙ sym e
-pads_number m s w k p r (two_pads p' f q has (far', both) hasf hasq one tag e e') h =
-    let same : p' ≡ p = one_word m s w p' p has h in
-    let far : kind p ≡ 2 = ap kind (sym same) ∙ far' in
-    let both' : two p ≡ 1 = ap two (sym same) ∙ both in
-    let l : length (pads_of p) ≡ 2 = rw (far, both') refl in
-    l ∙ sym e'
+pads_number m s w k p r (one_pad p' q has (f, one) hasq n says e) h = grind (arith, common_steps)
+pads_number m s w k p r (two_pads p' f q has (far', both) hasf hasq one tag e e') h = grind (arith, common_steps)
 
 -- a list of places without one of them
 remove : (x : ℕ × ℕ) (ys : List (ℕ × ℕ)) → IsOneOf x ys

@@ -11,7 +11,7 @@ use Rattle.cap_spec.proofs.Prelude.{sym, take, take-append-drop, zero, ℕ, ◌%
 use Rattle.cap_spec.proofs.Prelude.{◌∙◌, ◌∷◌, ◌≡◌, ◌≢◌, ◌≤◌, pow-succ', cases_eq, AllByRecursion, little_number}
 use Rattle.cap_spec.proofs.Prelude.{little_from-cons, full_run, group_size, group_text, pack_in, pack_text, tag_of}
 use Rattle.cap_spec.proofs.Prelude.{zero_bytes, zero_run, zeros_in, plain_text, word_bytes, IsGroup, Unpacks, marked}
-use Rattle.cap_spec.proofs.Prelude.{marks, packed_is_cut, plain, spread, unpacked, zeros, IsWord}
+use Rattle.cap_spec.proofs.Prelude.{marks, packed_is_cut, plain, spread, unpacked, zeros, IsWord, rules}
 
 -- the bytes of a word that aren't zero
 abbrev pub present_of : List ℕ → List ℕ
@@ -241,6 +241,4 @@ pack_text_unpacks words all = pack_in_unpacks (length words) words (omega arith)
 -- and gives them, to the end
 pub pack_text_reads : (words : List ℕ) → AllByRecursion IsWord words
     → (unpacked (pack_text words) ≡ words) × (packed_is_cut (pack_text words) ≡ false)
-pack_text_reads words all =
-    let u = pack_text_unpacks words all in
-    (sym (unpacks_words (pack_text words) words u), unpacks_whole (pack_text words) words u)
+pack_text_reads words all = search (rules, pack_text_unpacks, unpacks_words, unpacks_whole)

@@ -8,7 +8,8 @@ use Rattle.cap_spec.proofs.Prelude.{Bool, List, [], arith, drop, false, if◌the
 use Rattle.cap_spec.proofs.Prelude.{replicate, slice_index, subst, suc, sym, take, true, zero, ℕ, ◌%◌, ◌++◌, ◌+◌, ◌/◌}
 use Rattle.cap_spec.proofs.Prelude.{◌<◌, ◌==◌, ◌^◌, ◌∷◌, ◌≡◌, pow-succ', cases_eq, AllByRecursion, little_from}
 use Rattle.cap_spec.proofs.Prelude.{little_number, plain_text, plain_words, word_bytes, Groups, IsGroup, Unpacks}
-use Rattle.cap_spec.proofs.Prelude.{given_of, groups_text, groups_words, marked, plain, spread, unpacked, zeros, IsWord}
+use Rattle.cap_spec.proofs.Prelude.{given_of, groups_text, groups_words, marked, plain, spread, unpacked, zeros}
+use Rattle.cap_spec.proofs.Prelude.{IsWord, rules}
 
 -- bytes by a tag make a number of so many bytes
 pub spread_below : (n tag : ℕ) (present : List ℕ) → AllByRecursion (λ b. b < 256) present
@@ -110,12 +111,7 @@ plain_are_bytes (x ∷ words) = all_append (λ b. b < 256) (word_bytes x) (plain
 -- a group is bytes
 pub group_are_bytes : (bytes words : List ℕ) → IsGroup bytes words → AllByRecursion (λ b. b < 256) bytes
 group_are_bytes bytes words (zeros n h e w) = subst (AllByRecursion (λ b. b < 256)) (sym e) ((omega arith), (h, tt))
-group_are_bytes bytes words (plain x more h all l e w) =
-    subst (AllByRecursion (λ b. b < 256)) (sym e) (
-      (omega arith),
-      all_append (λ b. b < 256) (word_bytes x) (length more ∷ plain_text more) (bytes_fit 0 8 x)
-          (l, plain_are_bytes more),
-    )
+group_are_bytes bytes words (plain x more h all l e w) = search (rules, all_append, bytes_fit, plain_are_bytes)
 group_are_bytes bytes words (marked tag present p q all l e w) =
     subst (AllByRecursion (λ b. b < 256)) (sym e) ((omega (arith, q)), all)
 

@@ -3,22 +3,19 @@ use Rattle.cap_spec.specs.Denoting.{places}
 use Rattle.cap_spec.specs.Tree.{none}
 use Rattle.cap_spec.proofs.Frames.Messages.{one_word}
 use Rattle.cap_spec.proofs.Pointers.Following.{one_lead}
-use Rattle.cap_spec.proofs.Prelude.{List, None, Option, Some, [], ap, arith, inl, inr, pos, refl, subst, suc, sym, zero}
+use Rattle.cap_spec.proofs.Prelude.{List, None, Option, Some, [], ap, arith, inl, inr, refl, subst, suc, sym, zero}
 use Rattle.cap_spec.proofs.Prelude.{ℕ, ◌*◌, ◌+◌, ◌<◌, ◌∙◌, ◌∷◌, ◌≡◌, AreElements, DenoteEach, Denotes, Finds, Lead}
-use Rattle.cap_spec.proofs.Prelude.{Leads, near, one_pad, to_object, two_pads, HasWord, PathLeads, ReachesSpot, Spot}
+use Rattle.cap_spec.proofs.Prelude.{Leads, near, one_pad, two_pads, HasWord, PathLeads, ReachesSpot, Spot}
 use Rattle.cap_spec.proofs.Prelude.{StepsTo, element, level_of, word, code, data_size, kind, list_size, middle}
 use Rattle.cap_spec.proofs.Prelude.{pointer_size, DenotesAt, Tree, Trees, more, node_at, part_at, pointers, struct}
-use Rattle.cap_spec.proofs.Prelude.{structs, tree_at, Step, Item, Ptr}
+use Rattle.cap_spec.proofs.Prelude.{structs, tree_at, Step, Item, Ptr, common_steps, rules}
 use Rattle.cap_spec.proofs.Trees.Finding.{SameObject, one_object}
 use Rattle.cap_spec.proofs.Trees.OneTree.{Formed, HasForm, cons_parts, form_of, formed, number_list, number_struct}
 
 -- the tree of a word has the form of the object that the word finds
 pub found_form : (m : List (List ℕ)) (s w : ℕ) (x : Tree) (c d k t b q : ℕ) → Denotes m s w x c d → Finds m s w k t b q
     → HasForm x (2 + kind q * (1 + code q))
-found_form m s w x c d k t b q h f =
-    let g : Formed m s w x = formed m s w x c d h in
-    let e : to_object t (pos b) q ≡ g.r = (one_lead m s w k g.k (to_object t (pos b) q) g.r f.leads g.leads).1 in
-    subst (λ (r : Lead). HasForm x (form_of r)) (sym e) g.form
+found_form m s w x c d k t b q h f = search (rules, formed, one_lead, form_of)
 
 -- a step from a word to a struct's pointer has a part of the tree at its end
 each_at : (m : List (List ℕ)) (t b n : ℕ) (ts : Trees) (c d i x : ℕ) → DenoteEach m (places t b n) ts c d
@@ -43,12 +40,7 @@ each_of : (m : List (List ℕ)) (t b n : ℕ) (ts : Trees) (c d i x : ℕ) (u : 
     → (i < n) × (c' d' : ℕ) × Denotes m t x u c' d'
 each_of m t b n none c d i x u h f e = absurd (cc f)
 each_of m t b zero (more v ts) c d i x u h f e = absurd cc
-each_of m t b (suc n) (more v ts) c d zero x u h f e =
-    let (s, w, rest, c1, d1, c2, d2, begins, denotes, after, charge, depth) = h in
-    let p = cons_parts (t, b) (s, w) (places t (b + 1) n) rest begins in
-    let g : x ≡ b = omega arith in
-    let v_is_u : v ≡ u = cc f in
-    (omega arith, c1, d1, rw (g, ← v_is_u) (subst (λ (y : ℕ × ℕ). Denotes m y.0 y.1 v c1 d1) (sym p.0) denotes))
+each_of m t b (suc n) (more v ts) c d zero x u h f e = grind (arith, common_steps)
 each_of m t b (suc n) (more v ts) c d (suc i) x u h f e =
     let (s, w, rest, c1, d1, c2, d2, begins, denotes, after, charge, depth) = h in
     let p = cons_parts (t, b) (s, w) (places t (b + 1) n) rest begins in
@@ -73,11 +65,7 @@ elements_of : (m : List (List ℕ)) (t b ds ps n : ℕ) (es : Trees) (c d i x : 
     → AreElements m t b ds ps n es c d → tree_at es i ≡ Some u → x ≡ b + i * (ds + ps)
     → (i < n) × DenotesAt m (element t x ds ps) u
 elements_of m t b ds ps n none c d i x u h f e = absurd (cc f)
-elements_of m t b ds ps n (more (struct ws ts) es) c d zero x u h f e =
-    let (fewer, c1, d1, c2, d2, counted, own, each, after, charge, depth) = h in
-    let g : x ≡ b = omega arith in
-    let y : struct ws ts ≡ u = cc f in
-    (omega (arith, counted), subst (λ (z : Tree). DenotesAt m (element t x ds ps) z) y (c1, d1, rw g own, rw g each))
+elements_of m t b ds ps n (more (struct ws ts) es) c d zero x u h f e = search rules
 elements_of m t b ds ps n (more (struct ws ts) es) c d (suc i) x u h f e =
     let (fewer, c1, d1, c2, d2, counted, own, each, after, charge, depth) = h in
     let r = elements_of m t (b + ds + ps) ds ps fewer es c2 d2 i x u after f (omega arith) in

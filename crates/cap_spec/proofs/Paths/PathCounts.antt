@@ -1,16 +1,15 @@
 -- The pointers and the capabilities of the tree that the root denotes are as many as the paths that reach them.
-use Rattle.cap_spec.proofs.Paths.Arrivals.{found_form, lead_word, part_to_step, step_to_part}
+use Rattle.cap_spec.proofs.Paths.Arrivals.{lead_word, part_to_step, step_to_part}
 use Rattle.cap_spec.proofs.Paths.PathLists.{Wants, caps_listed, is_cap, is_pointer, is_structs, listed_rise}
 use Rattle.cap_spec.proofs.Paths.PathLists.{listed_wanted, paths_below, pointers_listed, wanted_listed, wants_cap}
 use Rattle.cap_spec.proofs.Paths.PathLists.{with_own}
 use Rattle.cap_spec.proofs.Paths.Preorder.{Before-asymmetric, Before-irreflexive, Rises-first}
-use Rattle.cap_spec.proofs.Pointers.Following.{one_lead}
 use Rattle.cap_spec.proofs.Prelude.{Bool, List, [], ap, arith, eqb, false, inl, inr, length, ne_eqb, not, refl, subst}
-use Rattle.cap_spec.proofs.Prelude.{suc, sym, true, zero, ℕ, ◌*◌, ◌+◌, ◌<◌, ◌↔◌, ◌∙◌, ◌∷◌, ◌≡◌, Denotes, Lead, Leads}
-use Rattle.cap_spec.proofs.Prelude.{to_cap, IsOneOf, Before, IsFirstCap, PathLeads, Reaches, ReachesCap, Rises, Spot}
-use Rattle.cap_spec.proofs.Prelude.{StepsTo, element, level_of, word, code, kind, DenotesAt, Tree, cap, cap_count}
-use Rattle.cap_spec.proofs.Prelude.{has_cap, null, pointer_count, pointers, scalars, struct, structs, Step, Item, Ptr}
-use Rattle.cap_spec.proofs.Trees.OneTree.{Formed, HasForm, form_of, formed, number_list, number_struct}
+use Rattle.cap_spec.proofs.Prelude.{suc, sym, true, zero, ℕ, ◌+◌, ◌<◌, ◌↔◌, ◌∷◌, ◌≡◌, Denotes, Lead, Leads, to_cap}
+use Rattle.cap_spec.proofs.Prelude.{IsOneOf, Before, IsFirstCap, PathLeads, Reaches, ReachesCap, Rises, Spot, StepsTo}
+use Rattle.cap_spec.proofs.Prelude.{element, level_of, word, DenotesAt, Tree, cap, cap_count, has_cap, null}
+use Rattle.cap_spec.proofs.Prelude.{pointer_count, pointers, scalars, struct, structs, Step, Item, Ptr, common_steps}
+use Rattle.cap_spec.proofs.Trees.OneTree.{Formed, HasForm, formed}
 
 abbrev pub is_element : Spot → Bool
 is_element (word s w) = false
@@ -33,19 +32,10 @@ all_structs (structs d p es) f = refl
 -- a step leads to an element where the tree of the spot is a struct list
 pub step_kind : (m : List (List ℕ)) (a : Spot) (step : Step) (b : Spot) (t : Tree) → DenotesAt m a t → StepsTo m a step b
     → is_element b ≡ is_structs t
-step_kind m (word s w) (Ptr i) b t h (k, t', b', q, finds, is_struct, less, ends) =
-    let f = found_form m s w t h.0 h.1 k t' b' q h.2 finds in
-    ap is_element ends ∙ sym (no_structs t (2 + kind q * (1 + code q)) f
-    (omega (arith, number_struct (kind q) (code q) is_struct)))
+step_kind m (word s w) (Ptr i) b t h (k, t', b', q, finds, is_struct, less, ends) = grind (arith, common_steps)
 step_kind m (word s w) (Item i) b t h (inl (k, t', b', q, finds, is_list, of_pointers, less, ends)) =
-    let f = found_form m s w t h.0 h.1 k t' b' q h.2 finds in
-    ap is_element ends ∙ sym (no_structs t (2 + kind q * (1 + code q)) f
-    (omega (arith, number_list (kind q) (code q) is_list, of_pointers)))
-step_kind m (word s w) (Item i) b t h (inr g) =
-    let (k, t', b', q, tag, finds, is_list, of_structs, has_tag, less, ends) = g in
-    let f = found_form m s w t h.0 h.1 k t' b' q h.2 finds in
-    let e : 2 + kind q * (1 + code q) ≡ 10 = omega (arith, number_list (kind q) (code q) is_list, of_structs) in
-    ap is_element ends ∙ sym (all_structs t (subst (λ (n : ℕ). HasForm t n) e f))
+    grind (arith, common_steps)
+step_kind m (word s w) (Item i) b t h (inr g) = grind (arith, common_steps)
 step_kind m (element x y ds ps) (Ptr i) b (struct words ts) h g = ap is_element g.1
 step_kind m (element x y ds ps) (Ptr i) b t h g = absurd h
 step_kind m (element x y ds ps) (Item i) b t h g = absurd g
@@ -113,11 +103,7 @@ LeadsAt m (element t b ds ps) k r = ⊥
 
 cap_wanted : (m : List (List ℕ)) (a : Spot) (t : Tree) → DenotesAt m a t → IsCapSpot m a
     → wants_cap (is_element a) t ≡ true
-cap_wanted m (word s w) t (c, d, h) (s', w', k, i, is, leads) =
-    let f : Formed m s w t = formed m s w t c d h in
-    let l : Leads m s w k (to_cap i) = subst (λ (z : Spot). LeadsAt m z k (to_cap i)) (sym is) leads in
-    let r = one_lead m s w f.k k f.r (to_cap i) f.leads l in
-    cap_form t (subst (λ (z : Lead). HasForm t (form_of z)) r.1 f.form)
+cap_wanted m (word s w) t (c, d, h) (s', w', k, i, is, leads) = grind (arith, common_steps)
 cap_wanted m (element x b ds ps) t h p = absurd (cc p.4)
 
 -- the paths to pointer words, and to capabilities

@@ -1,8 +1,7 @@
 -- A path leads to one spot, at one level, and a longer path goes on from there.
-use Rattle.cap_spec.proofs.Frames.Messages.{one_word}
 use Rattle.cap_spec.proofs.Prelude.{List, [], ap, arith, inl, inr, refl, subst, sym, ℕ, ◌++◌, ◌+◌, ◌↔◌, ◌∙◌, ◌∷◌, ◌≡◌}
-use Rattle.cap_spec.proofs.Prelude.{PathLeads, Reaches, ReachesSpot, Spot, StepsTo, element, level_of, word, code, kind}
-use Rattle.cap_spec.proofs.Prelude.{Step, Item, Ptr}
+use Rattle.cap_spec.proofs.Prelude.{PathLeads, Reaches, ReachesSpot, Spot, StepsTo, element, level_of, word}
+use Rattle.cap_spec.proofs.Prelude.{Step, Item, Ptr, common_steps}
 use Rattle.cap_spec.proofs.Trees.Finding.{SameObject, one_object}
 
 -- one step leads to one spot
@@ -16,34 +15,17 @@ one_step m (word s w) (Item i) x y (inl (k, t, b, q, finds, is_list, of_pointers
     let o : SameObject k t b q k' t' b' q' = one_object m s w k t b q k' t' b' q' finds finds' in
     ends ∙ rw (o.segment, o.start) refl ∙ sym ends'
 one_step m (word s w) (Item i) x y (inl (k, t, b, q, finds, is_list, of_pointers, less, ends)) (inr h) =
-    let (k', t', b', q', tag, finds', is_list', of_structs, has_tag, less', ends') = h in
-    let o : SameObject k t b q k' t' b' q' = one_object m s w k t b q k' t' b' q' finds finds' in
-    absurd (omega (arith, ap code o.shape, of_pointers, of_structs))
-one_step m (word s w) (Item i) x y (inr g) (inl h) =
-    let (k, t, b, q, tag, finds, is_list, of_structs, has_tag, less, ends) = g in
-    let (k', t', b', q', finds', is_list, of_pointers, less, ends) = h in
-    let o : SameObject k t b q k' t' b' q' = one_object m s w k t b q k' t' b' q' finds finds' in
-    absurd (omega (arith, ap code o.shape, of_structs, of_pointers))
-one_step m (word s w) (Item i) x y (inr g) (inr h) =
-    let (k, t, b, q, tag, finds, is_list, of_structs, has_tag, less, ends) = g in
-    let (k', t', b', q', tag', finds', is_list, of_structs, has_tag', less, ends') = h in
-    let o : SameObject k t b q k' t' b' q' = one_object m s w k t b q k' t' b' q' finds finds' in
-    let e : tag ≡ tag' = one_word m t b tag tag' has_tag (rw (o.segment, o.start) has_tag') in
-    ends ∙ rw (o.segment, o.start, e) refl ∙ sym ends'
+    grind (arith, common_steps)
+one_step m (word s w) (Item i) x y (inr g) (inl h) = grind (arith, common_steps)
+one_step m (word s w) (Item i) x y (inr g) (inr h) = grind (arith, common_steps)
 one_step m (element t b ds ps) (Ptr i) x y g h = g.1 ∙ sym h.1
 one_step m (element t b ds ps) (Item i) x y g h = absurd g
 
 -- from one spot no step by a struct's pointer and a step by a list's element
 pub one_kind_of_step : (m : List (List ℕ)) (a : Spot) (i j : ℕ) (b b' : Spot) → StepsTo m a (Ptr i) b
     → StepsTo m a (Item j) b' → ⊥
-one_kind_of_step m (word s w) i j x y (k, t, b, q, finds, is_struct, less, ends) (inl h) =
-    let (k', t', b', q', finds', is_list, of_pointers, less', ends') = h in
-    let o : SameObject k t b q k' t' b' q' = one_object m s w k t b q k' t' b' q' finds finds' in
-    omega (arith, ap kind o.shape, is_struct, is_list)
-one_kind_of_step m (word s w) i j x y (k, t, b, q, finds, is_struct, less, ends) (inr h) =
-    let (k', t', b', q', tag, finds', is_list, of_structs, has_tag, less', ends') = h in
-    let o : SameObject k t b q k' t' b' q' = one_object m s w k t b q k' t' b' q' finds finds' in
-    omega (arith, ap kind o.shape, is_struct, is_list)
+one_kind_of_step m (word s w) i j x y (k, t, b, q, finds, is_struct, less, ends) (inl h) = grind (arith, common_steps)
+one_kind_of_step m (word s w) i j x y (k, t, b, q, finds, is_struct, less, ends) (inr h) = grind (arith, common_steps)
 one_kind_of_step m (element t b ds ps) i j x y g h = h
 
 -- a path from one spot leads to one spot, by one number of levels

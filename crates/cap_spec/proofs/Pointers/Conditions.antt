@@ -1,11 +1,12 @@
 -- The conditions of the reasons at a word, and their order.
 use Rattle.cap_spec.specs.declared.Reason.TheVariants.{NoRoot}
-use Rattle.cap_spec.proofs.Frames.Messages.{HasWord-inside, HasWord-segment, at_word, one_word}
+use Rattle.cap_spec.proofs.Frames.Messages.{HasWord-inside, at_word, one_word}
 use Rattle.cap_spec.proofs.Prelude.{List, ap, arith, if◌then◌else◌, inl, inr, length, refl, subst, sym, ℕ, ◌+◌, ◌<◌}
-use Rattle.cap_spec.proofs.Prelude.{◌==◌, ◌∙◌, ◌≡◌, ◌≢◌, ◌≤◌, cases_lt, Condition, IsOnePad, IsTwoPad, rank, HasWord}
+use Rattle.cap_spec.proofs.Prelude.{◌==◌, ◌∙◌, ◌≡◌, ◌≢◌, ◌≤◌, Condition, IsOnePad, IsTwoPad, rank, HasWord}
 use Rattle.cap_spec.proofs.Prelude.{segment_of, IsFar, IsReserved, far_segment, kind, middle, pad, two, Reason}
 use Rattle.cap_spec.proofs.Prelude.{CompositeOverrun, CompositeTag, DepthLimit, OutOfSegment, PadIsFar, PadNotFar}
-use Rattle.cap_spec.proofs.Prelude.{PadOutside, Reserved, SegmentMissing, TagKind, TagOffset, WordLimit}
+use Rattle.cap_spec.proofs.Prelude.{PadOutside, Reserved, SegmentMissing, TagKind, TagOffset, WordLimit, common_steps}
+use Rattle.cap_spec.proofs.Prelude.{rules}
 
 -- Which conditions don't hold, by the form of the word. It isn't far:
 module _ (m : List (List ℕ)) (s w p : ℕ) (h : HasWord m s w p) (not_far : kind p ≢ 2) where
@@ -38,79 +39,40 @@ module _ (m : List (List ℕ)) (s w p : ℕ) (h : HasWord m s w p) (not_far : ki
 module _ (m : List (List ℕ)) (s w p : ℕ) (h : HasWord m s w p) (far : IsFar p) where
   far-not_reserved : ((x q : ℕ) → HasWord m s w x → IsOnePad x → HasWord m (far_segment x) (pad x) q → ⊥)
       → ¬ Condition m s w Reserved
-  far-not_reserved n (x, hx, inl r) =
-      let k : kind p ≡ 3 = (at_word IsReserved m s w x p hx h r).0 in
-      absurd (omega arith)
+  far-not_reserved n (x, hx, inl r) = grind (arith, common_steps)
   far-not_reserved n (x, hx, inr (one, q, hq, r)) = n x q hx one hq
 
   pub missing-not_reserved : length m ≤ far_segment p → ¬ Condition m s w Reserved
-  missing-not_reserved past =
-      far-not_reserved (λ x q hx one hq.
-      let e : x ≡ p = one_word m s w x p hx h in
-      let i : far_segment x < length m = HasWord-segment m (far_segment x) (pad x) q hq in
-      let j : far_segment p < length m = subst (λ y. far_segment y < length m) e i in
-      absurd (omega arith))
+  missing-not_reserved past = grind (arith, common_steps)
 
   pub outside-not_reserved : length (segment_of m (far_segment p)) < pad p + (two p + 1) → ¬ Condition m s w Reserved
-  outside-not_reserved past =
-      far-not_reserved (λ x q hx one hq.
-      let e : x ≡ p = one_word m s w x p hx h in
-      let t : two p ≡ 0 = subst (λ y. two y ≡ 0) e one.1 in
-      let i : pad x < length (segment_of m (far_segment x)) = HasWord-inside m (far_segment x) (pad x) q hq in
-      let j : pad p < length (segment_of m (far_segment p)) =
-      subst (λ y. pad y < length (segment_of m (far_segment y))) e i in
-      absurd (omega arith))
+  outside-not_reserved past = search (rules, far-not_reserved, one_word, HasWord-inside)
 
   pub outside-not_missing : far_segment p < length m → length (segment_of m (far_segment p)) < pad p + (two p + 1)
       → ¬ Condition m s w SegmentMissing
-  outside-not_missing exists past (x, hx, f, inl missing) =
-      let e : x ≡ p = one_word m s w x p hx h in
-      let j : length m ≤ far_segment p = subst (λ y. length m ≤ far_segment y) e missing in
-      absurd (omega arith)
+  outside-not_missing exists past (x, hx, f, inl missing) = grind (arith, common_steps)
   outside-not_missing exists past (x, hx, f, inr (both, u, v, hu, hv, one, missing)) =
-      let e : x ≡ p = one_word m s w x p hx h in
-      let i : pad x + 1 < length (segment_of m (far_segment x)) = HasWord-inside m (far_segment x) (pad x + 1) v hv in
-      let j : pad p + 1 < length (segment_of m (far_segment p)) =
-      subst (λ y. pad y + 1 < length (segment_of m (far_segment y))) e i in
-      let t : two p ≡ 1 = subst (λ y. two y ≡ 1) e both in
-      absurd (omega arith)
+      search (rules, one_word, HasWord-inside)
 
 -- it has a one-word pad inside its segment:
 module _ (m : List (List ℕ)) (s w p q : ℕ) (h : HasWord m s w p) (one : IsOnePad p)
     (hq : HasWord m (far_segment p) (pad p) q) where
   one-same : (x y : ℕ) → HasWord m s w x → HasWord m (far_segment x) (pad x) y → y ≡ q
-  one-same x y hx hy =
-      let e : x ≡ p = one_word m s w x p hx h in
-      let i : HasWord m (far_segment p) (pad p) y = subst (λ z. HasWord m (far_segment z) (pad z) y) e hy in
-      one_word m (far_segment p) (pad p) y q i hq
+  one-same x y hx hy = grind (arith, common_steps)
 
   one-not_two : (x : ℕ) → HasWord m s w x → two x ≡ 1 → ⊥
-  one-not_two x hx both =
-      let t : two p ≡ 1 = at_word (λ y. two y ≡ 1) m s w x p hx h both in
-      let z : two p ≡ 0 = one.1 in
-      absurd (omega arith)
+  one-not_two x hx both = grind (arith, common_steps)
 
   pub one-not_reserved : ¬ IsReserved q → ¬ Condition m s w Reserved
-  one-not_reserved n (x, hx, inl r) =
-      let k : kind p ≡ 3 = (at_word IsReserved m s w x p hx h r).0 in
-      let f : kind p ≡ 2 = one.0 in
-      absurd (omega arith)
+  one-not_reserved n (x, hx, inl r) = grind (arith, common_steps)
   one-not_reserved n (x, hx, inr (single, y, hy, r)) = n (subst IsReserved (one-same x y hx hy) r)
 
   pub one-not_missing : ¬ Condition m s w SegmentMissing
-  one-not_missing (x, hx, f, inl missing) =
-      let j : length m ≤ far_segment p = at_word (λ y. length m ≤ far_segment y) m s w x p hx h missing in
-      let i : far_segment p < length m = HasWord-segment m (far_segment p) (pad p) q hq in
-      absurd (omega arith)
+  one-not_missing (x, hx, f, inl missing) = grind (arith, common_steps)
   one-not_missing (x, hx, f, inr (both, u, v, hu, hv, single, missing)) = one-not_two x hx both
 
   pub one-not_outside : ¬ Condition m s w PadOutside
-  one-not_outside (x, hx, f, past) =
-      let j : length (segment_of m (far_segment p)) < pad p + (two p + 1) =
-      at_word (λ y. length (segment_of m (far_segment y)) < pad y + (two y + 1)) m s w x p hx h past.1 in
-      let i : pad p < length (segment_of m (far_segment p)) = HasWord-inside m (far_segment p) (pad p) q hq in
-      let z : two p ≡ 0 = one.1 in
-      absurd (omega arith)
+  one-not_outside (x, hx, f, past) = search (rules, at_word, HasWord-inside)
 
   pub one-not_pad_far : kind q ≢ 2 → ¬ Condition m s w PadIsFar
   one-not_pad_far n (x, y, hx, single, hy, f) = n (subst IsFar (one-same x y hx hy) f)
@@ -128,48 +90,24 @@ module _ (m : List (List ℕ)) (s w p q : ℕ) (h : HasWord m s w p) (one : IsOn
 module _ (m : List (List ℕ)) (s w p f q : ℕ) (h : HasWord m s w p) (both : IsTwoPad p)
     (hf : HasWord m (far_segment p) (pad p) f) (hq : HasWord m (far_segment p) (pad p + 1) q) where
   two-same_far : (x y : ℕ) → HasWord m s w x → HasWord m (far_segment x) (pad x) y → y ≡ f
-  two-same_far x y hx hy =
-      let e : x ≡ p = one_word m s w x p hx h in
-      let i : HasWord m (far_segment p) (pad p) y = subst (λ z. HasWord m (far_segment z) (pad z) y) e hy in
-      one_word m (far_segment p) (pad p) y f i hf
+  two-same_far x y hx hy = grind (arith, common_steps)
 
   two-same_tag : (x y : ℕ) → HasWord m s w x → HasWord m (far_segment x) (pad x + 1) y → y ≡ q
-  two-same_tag x y hx hy =
-      let e : x ≡ p = one_word m s w x p hx h in
-      let i : HasWord m (far_segment p) (pad p + 1) y = subst (λ z. HasWord m (far_segment z) (pad z + 1) y) e hy in
-      one_word m (far_segment p) (pad p + 1) y q i hq
+  two-same_tag x y hx hy = grind (arith, common_steps)
 
   two-not_one : (x : ℕ) → HasWord m s w x → IsOnePad x → ⊥
-  two-not_one x hx one =
-      let t : two p ≡ 0 = at_word (λ y. two y ≡ 0) m s w x p hx h one.1 in
-      let z : two p ≡ 1 = both.1 in
-      absurd (omega arith)
+  two-not_one x hx one = grind (arith, common_steps)
 
   pub two-not_reserved : ¬ Condition m s w Reserved
-  two-not_reserved (x, hx, inl r) =
-      let k : kind p ≡ 3 = (at_word IsReserved m s w x p hx h r).0 in
-      let z : kind p ≡ 2 = both.0 in
-      absurd (omega arith)
+  two-not_reserved (x, hx, inl r) = grind (arith, common_steps)
   two-not_reserved (x, hx, inr (single, y, hy, r)) = two-not_one x hx single
 
   pub two-not_missing : (IsOnePad f → far_segment f < length m) → ¬ Condition m s w SegmentMissing
-  two-not_missing n (x, hx, far, inl missing) =
-      let j : length m ≤ far_segment p = at_word (λ y. length m ≤ far_segment y) m s w x p hx h missing in
-      let i : far_segment p < length m = HasWord-segment m (far_segment p) (pad p) f hf in
-      absurd (omega arith)
-  two-not_missing n (x, hx, far, inr (t, u, v, hu, hv, single, missing)) =
-      let e : u ≡ f = two-same_far x u hx hu in
-      let i : far_segment f < length m = n (subst IsOnePad e single) in
-      let j : length m ≤ far_segment f = subst (λ y. length m ≤ far_segment y) e missing in
-      absurd (omega arith)
+  two-not_missing n (x, hx, far, inl missing) = grind (arith, common_steps)
+  two-not_missing n (x, hx, far, inr (t, u, v, hu, hv, single, missing)) = grind (arith, common_steps)
 
   pub two-not_outside : ¬ Condition m s w PadOutside
-  two-not_outside (x, hx, far, past) =
-      let j : length (segment_of m (far_segment p)) < pad p + (two p + 1) =
-      at_word (λ y. length (segment_of m (far_segment y)) < pad y + (two y + 1)) m s w x p hx h past.1 in
-      let i : pad p + 1 < length (segment_of m (far_segment p)) = HasWord-inside m (far_segment p) (pad p + 1) q hq in
-      let z : two p ≡ 1 = both.1 in
-      absurd (omega arith)
+  two-not_outside (x, hx, far, past) = search (rules, at_word, HasWord-inside)
 
   pub two-not_pad_far : ¬ Condition m s w PadIsFar
   two-not_pad_far (x, y, hx, single, hy, far) = two-not_one x hx single
@@ -178,9 +116,7 @@ module _ (m : List (List ℕ)) (s w p f q : ℕ) (h : HasWord m s w p) (both : I
   two-not_pad_near single (x, u, v, hx, t, hu, hv, n) = n (subst IsOnePad (sym (two-same_far x u hx hu)) single)
 
   pub two-not_tag_kind : kind q < 2 → ¬ Condition m s w TagKind
-  two-not_tag_kind near_kind (x, u, v, hx, t, hu, hv, n) =
-      let j : 2 ≤ kind q = subst (λ y. 2 ≤ kind y) (two-same_tag x v hx hv) n in
-      absurd (omega arith)
+  two-not_tag_kind near_kind (x, u, v, hx, t, hu, hv, n) = grind (arith, common_steps)
 
   pub two-not_tag_offset : middle q ≡ 0 → ¬ Condition m s w TagOffset
   two-not_tag_offset none (x, u, v, hx, t, hu, hv, n) =
@@ -226,21 +162,22 @@ none_below_reserved m s w u lt c = absurd (omega arith)
 -- one more condition that doesn't hold
 pub and_not : (m : List (List ℕ)) (s w : ℕ) (v : Reason) → NoneBelow m s w (rank v) → ¬ Condition m s w v
     → NoneBelow m s w (rank v + 1)
-and_not m s w v below n u lt c =
-    elim (cases_lt (rank u) (rank v)) [
-      | inl less ↦ below u less c
-      | inr ge ↦ n (subst (Condition m s w) (rank-injective u v (omega arith)) c)
-    ]
+and_not m s w v below n u lt c = grind (arith, common_steps)
 
 -- With a two-word pad inside its segment, nothing is wrong up to the first word of the pad, or up to its tag.
 module _ (m : List (List ℕ)) (s w p f q : ℕ) (h : HasWord m s w p) (both : IsTwoPad p)
     (hf : HasWord m (far_segment p) (pad p) f) (hq : HasWord m (far_segment p) (pad p + 1) q) where
   pub two-none_below_far : (IsOnePad f → far_segment f < length m) → NoneBelow m s w (rank PadNotFar)
   two-none_below_far n =
-      let c2 = and_not m s w Reserved (none_below_reserved m s w) (two-not_reserved m s w p f q h both hf hq) in
-      let c3 = and_not m s w SegmentMissing c2 (two-not_missing m s w p f q h both hf hq n) in
-      let c4 = and_not m s w PadOutside c3 (two-not_outside m s w p f q h both hf hq) in
-      and_not m s w PadIsFar c4 (two-not_pad_far m s w p f q h both hf hq)
+      search (
+        rules,
+        and_not,
+        none_below_reserved,
+        two-not_reserved,
+        two-not_missing,
+        two-not_outside,
+        two-not_pad_far,
+      )
 
   pub two-none_below_tag : IsOnePad f → far_segment f < length m → NoneBelow m s w (rank TagKind)
   two-none_below_tag one there =

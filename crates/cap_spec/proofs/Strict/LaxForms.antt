@@ -1,19 +1,16 @@
 -- A pointer has at most one form that common readers reject, has a landing pad there,
 -- and whether it has one is decided.
-use Rattle.cap_spec.proofs.Frames.Messages.{HasWord-inside}
 use Rattle.cap_spec.proofs.Pointers.Following.{cap-not_wrong, null-not_wrong, object-not_wrong, one_lead}
-use Rattle.cap_spec.proofs.Prelude.{List, [], ap, arith, inl, inr, length, pos, refl, subst, sym, ℕ, ◌∷◌, ◌≡◌, ◌≢◌, ◌≤◌}
+use Rattle.cap_spec.proofs.Prelude.{List, [], arith, inl, inr, pos, refl, subst, sym, ℕ, ◌∷◌, ◌≡◌, ◌≢◌, ◌≤◌}
 use Rattle.cap_spec.proofs.Prelude.{◌⊎◌, eqb_tells, Finds, Lead, Leads, Wrong, near, one_pad, to_cap, to_null}
 use Rattle.cap_spec.proofs.Prelude.{to_object, two_pads, HasWord, segment_of, extent, pad, IsLaxAt, Lax, CapabilityPad}
-use Rattle.cap_spec.proofs.Prelude.{EmptySegment, NullPad, Reason}
+use Rattle.cap_spec.proofs.Prelude.{EmptySegment, NullPad, Reason, common_steps}
 use Rattle.cap_spec.proofs.Trees.Finding.{one_object}
 use Rattle.cap_spec.proofs.Trees.Outcomes.{Fate, fate}
 
 -- a segment with a word isn't empty
 word_not_empty : (m : List (List ℕ)) (t w x : ℕ) → HasWord m t w x → segment_of m t ≡ [] → ⊥
-word_not_empty m t w x h e =
-    let l : length (segment_of m t) ≡ 0 = ap length e in
-    omega (arith, l, HasWord-inside m t w x h)
+word_not_empty m t w x h e = grind (arith, common_steps)
 
 -- a lead to an object in a segment without words has two pad words
 two_words : (m : List (List ℕ)) (s w k t b q : ℕ) → Leads m s w k (to_object t (pos b) q) → segment_of m t ≡ [] → k ≡ 2
@@ -26,9 +23,7 @@ two_words m s w k t b q (two_pads p f x has both hasf hasx one tag says two) e =
 -- so has one that is found there, and the object has no words
 pub empty_by_two : (m : List (List ℕ)) (s w k t b q : ℕ) → Finds m s w k t b q → segment_of m t ≡ []
     → (k ≡ 2) × (b ≡ 0) × (extent q ≡ 0)
-empty_by_two m s w k t b q f e =
-    let l : length (segment_of m t) ≡ 0 = ap length e in
-    (two_words m s w k t b q f.leads e, omega (arith, l, f.sits.inside), omega (arith, l, f.sits.inside))
+empty_by_two m s w k t b q f e = grind (arith, common_steps)
 
 -- a pointer of one of these forms has a landing pad
 pub lax_pads : (m : List (List ℕ)) (s w : ℕ) (what : Lax) → IsLaxAt m s w what
@@ -52,14 +47,10 @@ one_lax m s w NullPad CapabilityPad h (i, g) = let x : to_null ≡ to_cap i =
 one_lax m s w EmptySegment NullPad (k, t, b, q, f, e) g =
     let x : to_object t (pos b) q ≡ to_null = same_lead m s w k 1 (to_object t (pos b) q) to_null f.leads g in absurd cc
 one_lax m s w EmptySegment EmptySegment h g = refl
-one_lax m s w EmptySegment CapabilityPad (k, t, b, q, f, e) (i, g) =
-    let x : to_object t (pos b) q ≡ to_cap i =
-    same_lead m s w k 1 (to_object t (pos b) q) (to_cap i) f.leads g in absurd cc
+one_lax m s w EmptySegment CapabilityPad (k, t, b, q, f, e) (i, g) = grind (arith, common_steps)
 one_lax m s w CapabilityPad NullPad (i, h) g = let x : to_cap i ≡ to_null =
     same_lead m s w 1 1 (to_cap i) to_null h g in absurd cc
-one_lax m s w CapabilityPad EmptySegment (i, h) (k, t, b, q, f, e) =
-    let x : to_cap i ≡ to_object t (pos b) q =
-    same_lead m s w 1 k (to_cap i) (to_object t (pos b) q) h f.leads in absurd cc
+one_lax m s w CapabilityPad EmptySegment (i, h) (k, t, b, q, f, e) = grind (arith, common_steps)
 one_lax m s w CapabilityPad CapabilityPad h g = refl
 
 -- what is wrong has none of these forms

@@ -10,8 +10,8 @@ use Rattle.cap_spec.proofs.Prelude.{List, [], ap, arith, inl, inr, length, pos, 
 use Rattle.cap_spec.proofs.Prelude.{◌+◌, ◌<◌, ◌∙◌, ◌∷◌, ◌≡◌, ◌≤◌, AreElements, DenoteEach, Denotes, Finds}
 use Rattle.cap_spec.proofs.Prelude.{FindsPointers, FindsStruct, FindsStructs, Lead, Leads, extra, to_cap, to_null}
 use Rattle.cap_spec.proofs.Prelude.{to_object, HasWord, segment_of, PathLeads, Spot, StepsTo, element, word, code}
-use Rattle.cap_spec.proofs.Prelude.{data_size, extent, kind, list_size, list_words, middle, pointer_size, Tree, Trees}
-use Rattle.cap_spec.proofs.Prelude.{cap, more, null, pointers, scalars, struct, structs, tree_count, Step, Item, Ptr}
+use Rattle.cap_spec.proofs.Prelude.{data_size, extent, kind, list_size, middle, pointer_size, Tree, Trees, cap, more}
+use Rattle.cap_spec.proofs.Prelude.{null, pointers, scalars, struct, structs, tree_count, Step, Item, Ptr, rules}
 use Rattle.cap_spec.proofs.Trees.Charges.{each_charged, elements_fit, extent_pointers, extent_struct, extent_structs}
 use Rattle.cap_spec.proofs.Trees.Charges.{length-places}
 use Rattle.cap_spec.proofs.Trees.DenotedTrees.{elements_inside, range_length}
@@ -43,25 +43,13 @@ struct_tight : (m : List (List ℕ)) (s w : ℕ) (words : List ℕ) (ts : Trees)
     → DenoteEach m (places t (b + data_size q) (pointer_size q)) ts inner deep → c ≤ cost (struct words ts)
     → (k ≡ 0) × (inner ≤ costs ts)
 struct_tight m s w words ts k t b q inner deep c d f each le =
-    let x : extent q ≡ data_size q + pointer_size q = extent_struct q f.kind in
-    let l : length words ≡ data_size q = ap length f.data_words
-    ∙ range_length m t b (data_size q) (omega (arith, f.finds.sits.inside, x)) in
-    let n : tree_count ts ≡ pointer_size q =
-    (each_charged m (places t (b + data_size q) (pointer_size q)) ts inner deep each).0
-    ∙ length-places t (b + data_size q) (pointer_size q) in
-    let a = each_measured m (places t (b + data_size q) (pointer_size q)) ts inner deep each in
-    no_pads_left k (extent q) inner (length words + tree_count ts) (costs ts) c f.charge
-    (omega (arith, x, l, n)) a.charged le
+    search (rules, extent_struct, range_length, each_charged, length-places, each_measured, no_pads_left, costs)
 
 pointers_tight : (m : List (List ℕ)) (s w : ℕ) (ts : Trees) (k t b q inner deep c d : ℕ)
     → FindsPointers m s w k t b q inner deep c d
     → DenoteEach m (places t b (list_size q)) ts inner deep → c ≤ cost (pointers ts) → (k ≡ 0) × (inner ≤ costs ts)
 pointers_tight m s w ts k t b q inner deep c d f each le =
-    let x : extent q ≡ list_size q = extent_pointers q f.kind f.code in
-    let n : tree_count ts ≡ list_size q = (each_charged m (places t b (list_size q)) ts inner deep each).0
-    ∙ length-places t b (list_size q) in
-    let a = each_measured m (places t b (list_size q)) ts inner deep each in
-    no_pads_left k (extent q) inner (tree_count ts) (costs ts) c f.charge (omega (arith, x, n)) a.charged le
+    search (rules, extent_pointers, each_charged, length-places, each_measured, no_pads_left, costs)
 
 structs_tight : (m : List (List ℕ)) (s w ds ps : ℕ) (es : Trees) (k t b q tag inner deep c d : ℕ)
     → FindsStructs m s w ds ps k t b q tag inner deep c d
@@ -91,13 +79,7 @@ own_padless m s w (struct words ts) c d k r (k', t, b, q, inner, deep, found, ea
       struct_tight m s w words ts k' t b q inner deep c d found each le,
     )
 own_padless m s w (scalars e vs) c d k r (k', t, b, q, found) le l =
-    let f = found in
-    let n : length vs ≡ list_size q = ap length f.elements ∙ length-values m t b e (list_size q) in
-    let x = extent_scalars q e f.kind f.code f.scalar ∙ ap (list_words e) (sym n) in
-    let y = extra_scalars q e f.kind f.code f.scalar ∙ ap (idle e) (sym n) in
-    let z : k' ≡ 0 = no_pads_scalars k' (extent q) (extra q 0) (list_words e (length vs)) (idle e (length vs))
-    c f.charge x y le in
-    omega (arith, one_lead m s w k' k (to_object t (pos b) q) r f.finds.leads l, z)
+    search (rules, length-values, extent_scalars, extra_scalars, idle, no_pads_scalars, one_lead)
 own_padless m s w (pointers ts) c d k r (k', t, b, q, inner, deep, found, each) le l =
     omega (
       arith,
@@ -137,10 +119,7 @@ each_tight m t b (suc n) (more u ts) c d (suc i) x h le lt e =
 
 -- the elements after the first lie inside too
 elements_after : (b ds ps n n' l : ℕ) → b + n * ds + n * ps ≤ l → n ≡ suc n' → b + ds + ps + n' * ds + n' * ps ≤ l
-elements_after b ds ps n n' l h e =
-    let y : n * ds ≡ ds + n' * ds = rw e (omega arith) in
-    let z : n * ps ≡ ps + n' * ps = rw e (omega arith) in
-    omega (arith, h, y, z)
+elements_after b ds ps n n' l h e = search rules
 
 -- an element, where the elements are charged no more than their cost
 elements_tight : (m : List (List ℕ)) (t b ds ps n : ℕ) (es : Trees) (c d i x : ℕ)

@@ -4,10 +4,10 @@ use Rattle.cap_spec.specs.Faults.{is_wrong}
 use Rattle.cap_spec.proofs.Canonical.Sizes.{layout_charged}
 use Rattle.cap_spec.proofs.Disjoint.Bounds.{charge_below_words}
 use Rattle.cap_spec.proofs.Frames.Endings.{length_joined}
-use Rattle.cap_spec.proofs.Prelude.{List, [], ap, arith, inl, inr, length, length-append, sum, ℕ, ◌+◌, ◌-◌, ◌↔◌, ◌∷◌}
-use Rattle.cap_spec.proofs.Prelude.{◌≡◌, ◌≤◌, ◌⊎◌, layout, trim, HasCopy, Denotes, IsFirstReason, IsRefused, is_deep}
+use Rattle.cap_spec.proofs.Prelude.{List, [], arith, inl, inr, length, length-append, sum, ℕ, ◌+◌, ◌-◌, ◌↔◌, ◌∷◌}
+use Rattle.cap_spec.proofs.Prelude.{◌≡◌, ◌≤◌, ◌⊎◌, HasCopy, Denotes, IsFirstReason, IsRefused, is_deep}
 use Rattle.cap_spec.proofs.Prelude.{is_past, frame_text, joined, paired, sizes_of, IsDisjoint, empty_count, Tree}
-use Rattle.cap_spec.proofs.Prelude.{unamplified, WordLimit, Refusal}
+use Rattle.cap_spec.proofs.Prelude.{unamplified, WordLimit, Refusal, rules}
 
 -- a charge is within the limit where it is within the words given, and within the words of the segments with the slack
 pub within_both : (m : List (List ℕ)) (words c : ℕ) → c ≤ unamplified m words
@@ -25,11 +25,7 @@ disjoint_unamplified m t c d words h apart few le =
 pub copy_length : (m : List (List ℕ)) (words : List ℕ) (limit : ℕ) → (k : HasCopy m words)
     → k.charge ≤ unamplified m limit
     → length words ≤ sum (sizes_of m) + 4097
-copy_length m words limit k h =
-    let l : length words ≡ length (layout (trim k.tree)) = ap length k.laid in
-    let c = layout_charged m 0 0 k.tree k.charge k.depth k.denotes in
-    let b = (within_both m limit k.charge).0 h in
-    omega (arith, l, c, b.1)
+copy_length m words limit k h = search (rules, layout_charged, within_both)
 
 -- numbers in pairs are a word at least
 paired_some : (x : ℕ) (xs : List ℕ) → 1 ≤ length (paired (x ∷ xs))

@@ -1,7 +1,8 @@
 -- What a pointer word denotes is charged at least what following it costs,
 -- and one for each of its pointers but the root.
+use Rattle.std.proofs.lemmas.Grind.{common_steps}
 use Rattle.std.proofs.Common.{Bool, List, ap, ap₂, arith, eqb, eqb-true, false, inl, inr, le_of_eq, length, pos, refl}
-use Rattle.std.proofs.Common.{subst, suc, sym, true, zero, ℕ, ℤ, ◌*◌, ◌+◌, ◌<◌, ◌∙◌, ◌≡◌, ◌≢◌, ◌≤◌}
+use Rattle.std.proofs.Common.{suc, sym, true, zero, ℕ, ℤ, ◌*◌, ◌+◌, ◌<◌, ◌∙◌, ◌≡◌, ◌≢◌, ◌≤◌}
 use Rattle.std.proofs.lemmas.Bool.{eqb-false}
 use Rattle.cap_spec.specs.Denoting.{AreElements, DenoteEach, Denotes, FindsStructs, places}
 use Rattle.cap_spec.specs.Following.{Lead, Leads, extra, near, one_pad, to_cap, to_null, to_object, two_pads}
@@ -45,12 +46,7 @@ length-places t b (suc n) = ap suc (length-places t (b + 1) n)
 -- the elements that the tag tells lie inside the list
 pub elements_fit : (m : List (List ℕ)) (s w ds ps k t b q tag inner deep c d : ℕ)
     → FindsStructs m s w ds ps k t b q tag inner deep c d → middle tag * ds + middle tag * ps ≤ list_size q
-elements_fit m s w ds ps k t b q tag inner deep c d f =
-    let x = f.finds.sits.composite (f.kind, f.code) in
-    let e : x.0 ≡ tag = one_word m t b x.0 tag x.1 f.has_tag in
-    let g : middle tag * (data_size tag + pointer_size tag) ≤ list_size q =
-    subst (λ y. middle y * (data_size y + pointer_size y) ≤ list_size q) e x.2.1 in
-    rw (f.data_sizes, f.pointer_sizes) (omega (arith, g))
+elements_fit m s w ds ps k t b q tag inner deep c d f = grind (arith, common_steps)
 
 mutual
   -- each pointer below the root is a word of some object, so that it is charged

@@ -3,13 +3,14 @@ use Rattle.std.proofs.Common.{mod-lt, pow_pos}
 use Rattle.cap_spec.specs.Denoting.{places}
 use Rattle.cap_spec.specs.Tree.{none}
 use Rattle.cap_spec.proofs.Bytes.Lists.{all_drop, all_take}
-use Rattle.cap_spec.proofs.Prelude.{List, [], ap, arith, drop, length, length-drop, length-take-le, map, slice_index_or}
-use Rattle.cap_spec.proofs.Prelude.{suc, zero, ℕ, ◌%◌, ◌*◌, ◌+◌, ◌-◌, ◌/◌, ◌<◌, ◌^◌, ◌∙◌, ◌∷◌, ◌≡◌, ◌≤◌, AllByRecursion}
-use Rattle.cap_spec.proofs.Prelude.{range_with_len, AreElements, DenoteEach, Denotes, FindsStructs, value_at}
-use Rattle.cap_spec.proofs.Prelude.{words_from, Leads, near, one_pad, to_cap, two_pads, segment_of, data_size}
-use Rattle.cap_spec.proofs.Prelude.{element_bits, list_size, middle, pointer_size, AreElementTrees, AreTrees, IsTree}
-use Rattle.cap_spec.proofs.Prelude.{Tree, Trees, cap, more, null, pointers, scalars, struct, structs, IsWord, field}
-use Rattle.cap_spec.proofs.Trees.Charges.{each_charged, elements_fit, extent_structs, length-places}
+use Rattle.cap_spec.proofs.Prelude.{List, [], ap, arith, drop, length, length-drop, length-take-le, map}
+use Rattle.cap_spec.proofs.Prelude.{slice_index_or, suc, zero, ℕ, ◌%◌, ◌*◌, ◌+◌, ◌-◌, ◌/◌, ◌<◌, ◌^◌, ◌∙◌, ◌∷◌, ◌≡◌}
+use Rattle.cap_spec.proofs.Prelude.{◌≤◌, AllByRecursion, range_with_len, AreElements, DenoteEach, Denotes}
+use Rattle.cap_spec.proofs.Prelude.{FindsStructs, value_at, words_from, Leads, near, one_pad, to_cap, two_pads}
+use Rattle.cap_spec.proofs.Prelude.{segment_of, data_size, element_bits, list_size, middle, pointer_size}
+use Rattle.cap_spec.proofs.Prelude.{AreElementTrees, AreTrees, IsTree, Tree, Trees, cap, more, null, pointers}
+use Rattle.cap_spec.proofs.Prelude.{scalars, struct, structs, IsWord, field, common_steps}
+use Rattle.cap_spec.proofs.Trees.Charges.{each_charged, length-places}
 
 -- a message of words
 abbrev pub AreWords : List (List ℕ) → Type 0
@@ -54,13 +55,7 @@ cap_fits m s w k i (two_pads p f x has two first second one tag r pads) = absurd
 pub elements_inside : (m : List (List ℕ)) (s w ds ps k t b q tag inner deep c d : ℕ)
     → FindsStructs m s w ds ps k t b q tag inner deep c d
     → b + 1 + middle tag * ds + middle tag * ps ≤ length (segment_of m t)
-elements_inside m s w ds ps k t b q tag inner deep c d f =
-    omega (
-      arith,
-      elements_fit m s w ds ps k t b q tag inner deep c d f,
-      extent_structs q f.kind f.code,
-      f.finds.sits.inside,
-    )
+elements_inside m s w ds ps k t b q tag inner deep c d f = grind (arith, common_steps)
 
 mutual
   -- what a message of words denotes is a tree

@@ -1,11 +1,11 @@
 -- A pointer word denotes at most one tree, at one charge and one depth.
-use Rattle.std.proofs.Common.{List, ap, arith, max, pos, refl, subst, sym, ℕ, ◌*◌, ◌+◌, ◌<◌, ◌∙◌, ◌∷◌, ◌≡◌, ◌≤◌}
+use Rattle.std.proofs.lemmas.Grind.{common_steps}
+use Rattle.std.proofs.Common.{List, ap, arith, max, pos, refl, subst, sym, ℕ, ◌*◌, ◌+◌, ◌<◌, ◌∙◌, ◌∷◌, ◌≡◌, ◌≤◌, rules}
 use Rattle.cap_spec.specs.Denoting.{AreElements, DenoteEach, Denotes, FindsPointers, FindsScalars, FindsStruct}
-use Rattle.cap_spec.specs.Denoting.{FindsStructs, element_levels, places, values_of, words_from}
-use Rattle.cap_spec.specs.Following.{Lead, Leads, extra, to_cap, to_null, to_object}
-use Rattle.cap_spec.specs.Pointers.{code, data_size, extent, kind, list_size, middle, pointer_size}
+use Rattle.cap_spec.specs.Denoting.{FindsStructs, places}
+use Rattle.cap_spec.specs.Following.{Lead, Leads, to_cap, to_null, to_object}
+use Rattle.cap_spec.specs.Pointers.{code, data_size, kind, list_size, middle, pointer_size}
 use Rattle.cap_spec.specs.Tree.{Tree, Trees, cap, more, none, null, pointers, scalars, struct, structs}
-use Rattle.cap_spec.proofs.Frames.Messages.{one_word}
 use Rattle.cap_spec.proofs.Pointers.Following.{one_lead}
 use Rattle.cap_spec.proofs.Trees.Finding.{SameObject, one_object}
 
@@ -48,13 +48,7 @@ number_list x y e = rw e (omega arith)
 pub formed : (m : List (List ℕ)) (s w : ℕ) (t : Tree) (c d : ℕ) → Denotes m s w t c d → Formed m s w t
 formed m s w null c d h = record { k = c; r = to_null; leads = h.0; form = refl }
 formed m s w (cap i) c d h = record { k = c; r = to_cap i; leads = h.0; form = refl }
-formed m s w (struct words ts) c d (k, t, b, q, inner, deep, found, each) =
-    record {
-      k = k;
-      r = to_object t (pos b) q;
-      leads = found.finds.leads;
-      form = number_struct (kind q) (code q) found.kind;
-    }
+formed m s w (struct words ts) c d (k, t, b, q, inner, deep, found, each) = search (rules, number_struct)
 formed m s w (scalars e values) c d (k, t, b, q, found) =
     let n : 2 + kind q * (1 + code q) ≡ 3 + code q = number_list (kind q) (code q) found.kind in
     record {
@@ -107,29 +101,13 @@ struct_same : (m : List (List ℕ)) (s w : ℕ) (ws ws' : List ℕ) (ts ts' : Tr
     → FindsStruct m s w ws k t b q inner deep c d → FindsStruct m s w ws' k' t' b' q' inner' deep' c' d'
     → Same ts ts' inner inner' deep deep' → Same (struct ws ts) (struct ws' ts') c c' d d'
 struct_same m s w ws ws' ts ts' k t b q inner deep c d k' t' b' q' inner' deep' c' d' f g same =
-    let o : SameObject k t b q k' t' b' q' = one_object m s w k t b q k' t' b' q' f.finds g.finds in
-    let e : ws ≡ ws' = same_read (λ x y z. words_from m x y (data_size z)) t t' b b' q q' ws ws' o.segment o.start
-    o.shape f.data_words g.data_words in
-    record {
-      part = rw (e, same.part) refl;
-      charge = sums extent k k' q q' inner inner' c c' o.pads o.shape same.charge f.charge g.charge;
-      depth = omega (arith, f.depth, g.depth, same.depth);
-    }
+    grind (arith, common_steps)
 
 -- two lists of values found by one word
 scalars_same : (m : List (List ℕ)) (s w e e' : ℕ) (vs vs' : List ℕ) (k t b q c d k' t' b' q' c' d' : ℕ)
     → FindsScalars m s w e vs k t b q c d → FindsScalars m s w e' vs' k' t' b' q' c' d'
     → Same (scalars e vs) (scalars e' vs') c c' d d'
-scalars_same m s w e e' vs vs' k t b q c d k' t' b' q' c' d' f g =
-    let o : SameObject k t b q k' t' b' q' = one_object m s w k t b q k' t' b' q' f.finds g.finds in
-    let x : e ≡ e' = f.code ∙ ap code o.shape ∙ sym g.code in
-    let y : vs ≡ vs' = same_read (λ i j z. values_of m i j (code z) (list_size z)) t t' b b' q q' vs vs' o.segment
-    o.start o.shape (rw (← f.code) f.elements) (rw (← g.code) g.elements) in
-    record {
-      part = rw (x, y) refl;
-      charge = two_sums extent (λ z. extra z 0) k k' q q' c c' o.pads o.shape f.charge g.charge;
-      depth = omega (arith, f.depth, g.depth);
-    }
+scalars_same m s w e e' vs vs' k t b q c d k' t' b' q' c' d' f g = grind (arith, common_steps)
 
 -- two lists of pointers found by one word, with equal entries
 pointers_same : (m : List (List ℕ)) (s w : ℕ) (ts ts' : Trees)
@@ -137,12 +115,7 @@ pointers_same : (m : List (List ℕ)) (s w : ℕ) (ts ts' : Trees)
     → FindsPointers m s w k t b q inner deep c d → FindsPointers m s w k' t' b' q' inner' deep' c' d'
     → Same ts ts' inner inner' deep deep' → Same (pointers ts) (pointers ts') c c' d d'
 pointers_same m s w ts ts' k t b q inner deep c d k' t' b' q' inner' deep' c' d' f g same =
-    let o : SameObject k t b q k' t' b' q' = one_object m s w k t b q k' t' b' q' f.finds g.finds in
-    record {
-      part = rw same.part refl;
-      charge = sums extent k k' q q' inner inner' c c' o.pads o.shape same.charge f.charge g.charge;
-      depth = omega (arith, f.depth, g.depth, same.depth);
-    }
+    grind (arith, common_steps)
 
 -- the tag of a struct list that a word finds is one word
 one_tag : (m : List (List ℕ)) (s w ds ps k t b q tag inner deep c d ds' ps' k' t' b' q' tag' inner' deep' c' d' : ℕ)
@@ -150,8 +123,7 @@ one_tag : (m : List (List ℕ)) (s w ds ps k t b q tag inner deep c d ds' ps' k'
     → FindsStructs m s w ds' ps' k' t' b' q' tag' inner' deep' c' d'
     → tag ≡ tag'
 one_tag m s w ds ps k t b q tag inner deep c d ds' ps' k' t' b' q' tag' inner' deep' c' d' f g =
-    let o : SameObject k t b q k' t' b' q' = one_object m s w k t b q k' t' b' q' f.finds g.finds in
-    one_word m t b tag tag' f.has_tag (rw (o.segment, o.start) g.has_tag)
+    grind (arith, common_steps)
 
 -- two struct lists found by one word, with equal elements
 structs_same : (m : List (List ℕ)) (s w ds ps : ℕ) (es es' : Trees)
@@ -160,41 +132,20 @@ structs_same : (m : List (List ℕ)) (s w ds ps : ℕ) (es es' : Trees)
     → FindsStructs m s w ds' ps' k' t' b' q' tag' inner' deep' c' d'
     → Same es es' inner inner' deep deep' → Same (structs ds ps es) (structs ds' ps' es') c c' d d'
 structs_same m s w ds ps es es' k t b q tag inner deep c d ds' ps' k' t' b' q' tag' inner' deep' c' d' f g same =
-    let o : SameObject k t b q k' t' b' q' = one_object m s w k t b q k' t' b' q' f.finds g.finds in
-    let x : tag ≡ tag' = one_tag m s w ds ps k t b q tag inner deep c d ds' ps' k' t' b' q' tag'
-    inner' deep' c' d' f g in
-    let y : ds ≡ ds' = f.data_sizes ∙ ap data_size x ∙ sym g.data_sizes in
-    let z : ps ≡ ps' = f.pointer_sizes ∙ ap pointer_size x ∙ sym g.pointer_sizes in
-    record {
-      part = rw (y, z, same.part) refl;
-      charge = more_sums extent extra k k' q q' tag tag' inner inner' c c' o.pads o.shape x
-          same.charge f.charge g.charge;
-      depth = sums element_levels 1 1 (middle tag) (middle tag') deep deep' d d' refl (ap middle x)
-          same.depth f.depth g.depth;
-    }
+    grind (arith, common_steps)
 
 -- what one more tree adds
 each_same : (t t' : Tree) (ts ts' : Trees) (c1 d1 c2 d2 c d c1' d1' c2' d2' c' d' : ℕ) → Same t t' c1 c1' d1 d1'
     → Same ts ts' c2 c2' d2 d2'
     → c ≡ c1 + c2 → d ≡ max d1 d2 → c' ≡ c1' + c2' → d' ≡ max d1' d2' → Same (more t ts) (more t' ts') c c' d d'
-each_same t t' ts ts' c1 d1 c2 d2 c d c1' d1' c2' d2' c' d' a b e1 e2 e3 e4 =
-    record {
-      part = rw (a.part, b.part) refl;
-      charge = omega (arith, a.charge, b.charge);
-      depth = omega (arith, a.depth, b.depth);
-    }
+each_same t t' ts ts' c1 d1 c2 d2 c d c1' d1' c2' d2' c' d' a b e1 e2 e3 e4 = search rules
 
 -- what one more element adds
 elements_same : (ws ws' : List ℕ) (ts ts' es es' : Trees) (c1 d1 c2 d2 c d c1' d1' c2' d2' c' d' : ℕ) → ws ≡ ws'
     → Same ts ts' c1 c1' d1 d1' → Same es es' c2 c2' d2 d2'
     → c ≡ c1 + c2 → d ≡ max d1 d2 → c' ≡ c1' + c2' → d' ≡ max d1' d2'
     → Same (more (struct ws ts) es) (more (struct ws' ts') es') c c' d d'
-elements_same ws ws' ts ts' es es' c1 d1 c2 d2 c d c1' d1' c2' d2' c' d' e a b e1 e2 e3 e4 =
-    record {
-      part = rw (e, a.part, b.part) refl;
-      charge = omega (arith, a.charge, b.charge);
-      depth = omega (arith, a.depth, b.depth);
-    }
+elements_same ws ws' ts ts' es es' c1 d1 c2 d2 c d c1' d1' c2' d2' c' d' e a b e1 e2 e3 e4 = search rules
 
 -- elements at equal places
 pub elements_moved : (m : List (List ℕ)) (es : Trees) (t x ds ps n c d t' x' ds' ps' n' : ℕ) → t ≡ t' → x ≡ x'

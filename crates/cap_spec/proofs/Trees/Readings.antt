@@ -3,9 +3,9 @@ use Rattle.cap_spec.proofs.Prelude.{List, None, Some, [], ap, arith, get_or, len
 use Rattle.cap_spec.proofs.Prelude.{◌*◌, ◌+◌, ◌-◌, ◌<◌, ◌∙◌, ◌∷◌, ◌≡◌, ◌≤◌, get_or-map-range_with_len}
 use Rattle.cap_spec.proofs.Prelude.{length-map-range_with_len, get_or_from_slice_get, slice_get-get_or, slice_get_past}
 use Rattle.cap_spec.proofs.Prelude.{value_at, values_of, HasWord, segment_of, plain_text, word_bytes, element_bits}
-use Rattle.cap_spec.proofs.Prelude.{list_words, scalar_words, field}
+use Rattle.cap_spec.proofs.Prelude.{list_words, scalar_words, field, common_steps}
 use Rattle.cap_spec.proofs.Trees.ReadingBack.{length-scalar_words}
-use Rattle.cap_spec.proofs.Trees.WordsRead.{as_many_words, whole_words, word_read}
+use Rattle.cap_spec.proofs.Trees.WordsRead.{word_read}
 
 -- a word that a message has, as an element of its segment
 pub word_there : (m : List (List ℕ)) (t w x : ℕ) → HasWord m t w x → get_or (segment_of m t) w 0 ≡ x
@@ -53,10 +53,7 @@ word_within (suc zero) n i h = omega (arith, h)
 word_within (suc (suc zero)) n i h = omega (arith, h)
 word_within (suc (suc (suc zero))) n i h = omega (arith, h)
 word_within (suc (suc (suc (suc zero)))) n i h = omega (arith, h)
-word_within (suc (suc (suc (suc (suc c))))) n i h =
-    let x : ℕ = suc (suc (suc (suc (suc c)))) in
-    let e : element_bits x * n ≡ 64 * n = ap (λ y. y * n) (whole_words x (omega arith)) in
-    omega (arith, h, e, as_many_words x n (omega arith))
+word_within (suc (suc (suc (suc (suc c))))) n i h = grind (arith, common_steps)
 
 pub word_past : (c n i : ℕ) → element_bits c * n ≤ i * 64 → list_words c n ≤ i
 word_past zero n i h = omega arith
@@ -64,10 +61,7 @@ word_past (suc zero) n i h = omega (arith, h)
 word_past (suc (suc zero)) n i h = omega (arith, h)
 word_past (suc (suc (suc zero))) n i h = omega (arith, h)
 word_past (suc (suc (suc (suc zero)))) n i h = omega (arith, h)
-word_past (suc (suc (suc (suc (suc c))))) n i h =
-    let x : ℕ = suc (suc (suc (suc (suc c)))) in
-    let e : element_bits x * n ≡ 64 * n = ap (λ y. y * n) (whole_words x (omega arith)) in
-    omega (arith, h, e, as_many_words x n (omega arith))
+word_past (suc (suc (suc (suc (suc c))))) n i h = grind (arith, common_steps)
 
 -- byte i of words: that of the word where it stands
 pub byte_there : (words : List ℕ) (i j x : ℕ) → j < 8 → slice_get words i ≡ Some x

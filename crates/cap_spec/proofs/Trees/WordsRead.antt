@@ -2,10 +2,10 @@
 use Rattle.std.proofs.lemmas.List.{drop-map, take-map}
 use Rattle.std.proofs.lemmas.Nat.{mod-pow-add}
 use Rattle.cap_spec.proofs.Prelude.{List, ap, ap₂, arith, drop, false, get_or, inl, inr, length, map, min, mul_comm}
-use Rattle.cap_spec.proofs.Prelude.{ne_eqb, refl, shr-shr, subst, suc, sym, take, true, zero, ℕ, ◌%◌, ◌*◌, ◌+◌, ◌-◌}
+use Rattle.cap_spec.proofs.Prelude.{refl, shr-shr, subst, suc, sym, take, true, zero, ℕ, ◌%◌, ◌*◌, ◌+◌, ◌-◌}
 use Rattle.cap_spec.proofs.Prelude.{◌/◌, ◌<◌, ◌==◌, ◌^◌, ◌∙◌, ◌∷◌, ◌≡◌, ◌≤◌, ◌⊎◌, eqb_tells, length-map-range_with_len}
 use Rattle.cap_spec.proofs.Prelude.{range_with_len, value_at, element_bits, list_words, packed_word, scalar_words}
-use Rattle.cap_spec.proofs.Prelude.{field}
+use Rattle.cap_spec.proofs.Prelude.{field, common_steps}
 use Rattle.cap_spec.proofs.Trees.ReadingBack.{word_of_values}
 
 -- a field and the one above it
@@ -81,14 +81,7 @@ width_read words b bits per n k h =
 
 -- from code 5 on a value is a word
 pub whole_words : (c : ℕ) → 5 ≤ c → element_bits c ≡ 64
-whole_words c h =
-    rw (
-      ne_eqb c 0 (λ e. omega (arith, e, h)),
-      ne_eqb c 1 (λ e. omega (arith, e, h)),
-      ne_eqb c 2 (λ e. omega (arith, e, h)),
-      ne_eqb c 3 (λ e. omega (arith, e, h)),
-      ne_eqb c 4 (λ e. omega (arith, e, h)),
-    ) refl
+whole_words c h = grind (arith, common_steps)
 
 pub as_many_words : (c n : ℕ) → 5 ≤ c → list_words c n ≡ n
 as_many_words c n h = by_tests (eqb_tells c 7) (eqb_tells c 6)

@@ -3,14 +3,14 @@ use Rattle.cap_spec.specs.Denoting.{places}
 use Rattle.cap_spec.specs.Tree.{none}
 use Rattle.cap_spec.proofs.Frames.Messages.{HasWord-at, HasWord-inside, one_word}
 use Rattle.cap_spec.proofs.Paths.Arrivals.{found_form, lead_word}
-use Rattle.cap_spec.proofs.Prelude.{List, [], ap, arith, inl, inr, length, max, pos, refl, subst, suc, sym, zero, ℕ}
+use Rattle.cap_spec.proofs.Prelude.{List, [], arith, inl, inr, length, max, pos, refl, suc, zero, ℕ}
 use Rattle.cap_spec.proofs.Prelude.{◌+◌, ◌-◌, ◌<◌, ◌∷◌, ◌≡◌, ◌≤◌, ◌⊎◌, ∥∥₁_elim, cases_lt, eqb_tells, AreElements}
 use Rattle.cap_spec.proofs.Prelude.{DenoteEach, Denotes, Finds, element_levels, values_of, words_from, extra, HasWord}
 use Rattle.cap_spec.proofs.Prelude.{segment_of, code, data_size, extent, kind, list_size, middle, pointer_size, Tree}
-use Rattle.cap_spec.proofs.Prelude.{Trees, cap, more, null, pointers, scalars, struct, structs}
+use Rattle.cap_spec.proofs.Prelude.{Trees, cap, more, null, pointers, scalars, struct, structs, common_steps, rules}
 use Rattle.cap_spec.proofs.Trees.Charges.{lead_kind}
 use Rattle.cap_spec.proofs.Trees.Finding.{SameObject, one_object}
-use Rattle.cap_spec.proofs.Trees.OneTree.{cons_parts, formed, number_list, number_struct}
+use Rattle.cap_spec.proofs.Trees.OneTree.{formed, number_list, number_struct}
 use Rattle.cap_spec.proofs.Trees.Outcomes.{Fate, fate}
 use Rattle.cap_spec.proofs.Verdicts.OneVerdict.{denoted_not_wrong}
 
@@ -33,17 +33,11 @@ ElementsWithin m n t b ds ps k = (es : Trees) × (c d : ℕ) × AreElements m t 
 -- the first of some words, and the others
 first_each : (m : List (List ℕ)) (n s w : ℕ) (ps : List (ℕ × ℕ)) → EachWithin m n ((s, w) ∷ ps) → TreeWithin m n s w
 first_each m n s w ps (none, c, d, h, le) = absurd (cc h.0)
-first_each m n s w ps (more t ts, c, d, h, le) =
-    let (s', w', rest, c1, d1, c2, d2, begins, denotes, after, charge, depth) = h in
-    let p = cons_parts (s, w) (s', w') ps rest begins in
-    (t, c1, d1, subst (λ (y : ℕ × ℕ). Denotes m y.0 y.1 t c1 d1) (sym p.0) denotes, omega (arith, depth, le))
+first_each m n s w ps (more t ts, c, d, h, le) = grind (arith, common_steps)
 
 rest_each : (m : List (List ℕ)) (n s w : ℕ) (ps : List (ℕ × ℕ)) → EachWithin m n ((s, w) ∷ ps) → EachWithin m n ps
 rest_each m n s w ps (none, c, d, h, le) = absurd (cc h.0)
-rest_each m n s w ps (more t ts, c, d, h, le) =
-    let (s', w', rest, c1, d1, c2, d2, begins, denotes, after, charge, depth) = h in
-    let p = cons_parts (s, w) (s', w') ps rest begins in
-    (ts, c2, d2, subst (λ (y : List (ℕ × ℕ)). DenoteEach m y ts c2 d2) (sym p.1) after, omega (arith, depth, le))
+rest_each m n s w ps (more t ts, c, d, h, le) = grind (arith, common_steps)
 
 -- Where it is decided of each word, it is decided of all.
 each_decided : (m : List (List ℕ)) (n : ℕ) → ((s w : ℕ) → Decided (TreeWithin m n s w)) → (ps : List (ℕ × ℕ))
@@ -61,18 +55,13 @@ each_decided m n one ((s, w) ∷ ps) = both (one s w) (each_decided m n one ps)
 first_element : (m : List (List ℕ)) (n t b ds ps k : ℕ) → ElementsWithin m n t b ds ps (suc k)
     → EachWithin m n (places t (b + ds) ps)
 first_element m n t b ds ps k (none, c, d, h, le) = absurd (omega (arith, h.0))
-first_element m n t b ds ps k (more (struct ws ts) es, c, d, h, le) =
-    let (fewer, c1, d1, c2, d2, counted, own, each, after, charge, depth) = h in
-    (ts, c1, d1, each, omega (arith, depth, le))
+first_element m n t b ds ps k (more (struct ws ts) es, c, d, h, le) = search rules
 first_element m n t b ds ps k (more x es, c, d, h, le) = absurd h
 
 rest_elements : (m : List (List ℕ)) (n t b ds ps k : ℕ) → ElementsWithin m n t b ds ps (suc k)
     → ElementsWithin m n t (b + ds + ps) ds ps k
 rest_elements m n t b ds ps k (none, c, d, h, le) = absurd (omega (arith, h.0))
-rest_elements m n t b ds ps k (more (struct ws ts) es, c, d, h, le) =
-    let (fewer, c1, d1, c2, d2, counted, own, each, after, charge, depth) = h in
-    let e : fewer ≡ k = omega (arith, counted) in
-    (es, c2, d2, subst (λ i. AreElements m t (b + ds + ps) ds ps i es c2 d2) e after, omega (arith, depth, le))
+rest_elements m n t b ds ps k (more (struct ws ts) es, c, d, h, le) = search rules
 rest_elements m n t b ds ps k (more x es, c, d, h, le) = absurd h
 
 -- The same of elements.
@@ -118,29 +107,14 @@ module _ (m : List (List ℕ)) (n s w k t b q : ℕ) (f : Finds m s w k t b q) w
       → ElementsWithin m (n - element_levels (middle tag)) t (b + 1) (data_size tag) (pointer_size tag) (middle tag)
       × (element_levels (middle tag) ≤ n)
   in_structs tag e g y (structs ds ps es, c, d, (k', t', b', q', tag', inner, deep, found, each), le) =
-      let o : SameObject k t b q k' t' b' q' = one_object m s w k t b q k' t' b' q' f found.finds in
-      let z : tag ≡ tag' = one_word m t b tag tag' y (rw (o.segment, o.start) found.has_tag) in
-      let levels : element_levels (middle tag) ≡ element_levels (middle tag') = ap (λ u. element_levels (middle u)) z in (
-        (
-          es,
-          inner,
-          deep,
-          rw (o.segment, o.start, z, ← found.data_sizes, ← found.pointer_sizes) each,
-          omega (arith, found.depth, le, levels),
-        ),
-        omega (arith, found.depth, le, levels),
-      )
+      search (rules, one_object, one_word)
   in_structs tag e g y (x, c, d, h, le) =
       absurd (omega (arith, number_list (kind q) (code q) e, g, found_form m s w x c d k t b q h f))
 
   -- an object has a level
   no_level : TreeWithin m 0 s w → ⊥
   no_level (null, c, d, h, le) = omega (arith, found_form m s w null c d k t b q h f)
-  no_level (cap i, c, d, h, le) = omega (
-    arith,
-    lead_kind m s w k t (pos b) q f.leads,
-    found_form m s w (cap i) c d k t b q h f,
-  )
+  no_level (cap i, c, d, h, le) = grind (arith, common_steps)
   no_level (struct ws ts, c, d, (k', t', b', q', inner, deep, found, each), le) = omega (arith, found.depth, le)
   no_level (scalars e vs, c, d, (k', t', b', q', found), le) = omega (arith, found.depth, le)
   no_level (pointers ts, c, d, (k', t', b', q', inner, deep, found, each), le) = omega (arith, found.depth, le)

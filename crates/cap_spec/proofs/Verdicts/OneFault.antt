@@ -8,7 +8,7 @@ use Rattle.cap_spec.proofs.Pointers.Following.{cap-not_wrong, null-not_wrong, ob
 use Rattle.cap_spec.proofs.Prelude.{List, Some, [], ap, arith, inl, inr, length, refl, slice_get, subst, sym, ℕ, ◌++◌}
 use Rattle.cap_spec.proofs.Prelude.{◌+◌, ◌∙◌, ◌∷◌, ◌≡◌, ◌≤◌, ◌⊎◌, AreShallow, HasNoRoot, IsFirstFault, IsFirstReason}
 use Rattle.cap_spec.proofs.Prelude.{IsRefused, is_deep, is_past, Wrong, AreDistinct, IsOneOf, Before, Costs, IsTour}
-use Rattle.cap_spec.proofs.Prelude.{Reaches, Rises, CostOf, Reason, Refusal, Step}
+use Rattle.cap_spec.proofs.Prelude.{Reaches, Rises, CostOf, Reason, Refusal, Step, rules}
 use Rattle.cap_spec.proofs.Verdicts.OneVerdict.{cost_reached, distinct_cost, take_out}
 
 -- one of some paths and a last one
@@ -117,11 +117,7 @@ no_earlier m words depth r r' f f' b =
 -- refusals of equal parts are equal
 same_refusal : (a b : Refusal) → a.segment ≡ b.segment → a.word ≡ b.word → a.reason ≡ b.reason
     → a.pointers ≡ b.pointers → a ≡ b
-same_refusal a b e1 e2 e3 e4 =
-    let make : ℕ → ℕ → Reason → ℕ → Refusal = λ s w v n. record { segment = s; word = w; reason = v; pointers = n } in
-    ap (λ s. make s a.word a.reason a.pointers) e1
-    ∙ (ap (λ w. make b.segment w a.reason a.pointers) e2
-    ∙ (ap (λ v. make b.segment b.word v a.pointers) e3 ∙ ap (λ n. make b.segment b.word b.reason n) e4))
+same_refusal a b e1 e2 e3 e4 = search rules
 
 -- Faults at one path behind the same paths are one refusal.
 pub same_fault : (m : List (List ℕ)) (words depth level level' charge charge' : ℕ) (r r' : Refusal) (way : List Step)
@@ -164,11 +160,7 @@ one_rootless m r r' h k = same_refusal r r' (h.lacks.segment ∙ sym k.lacks.seg
 -- a message without a root has no pointer that a path reaches
 pub rootless : (m : List (List ℕ)) (p : List Step) (level s w : ℕ) → slice_get m 0 ≡ Some [] → Reaches m p level s w → ⊥
 rootless [] p level s w e (root, n, has, walks, up) = cc
-rootless (x ∷ m) p level s w e (root, n, has, walks, up) =
-    let f : x ≡ [] = cc in
-    let g : slice_get x 0 ≡ Some root = has in
-    let h : slice_get [] 0 ≡ Some root = subst (λ u. slice_get u 0 ≡ Some root) f g in
-    cc
+rootless (x ∷ m) p level s w e (root, n, has, walks, up) = search rules
 
 -- A message is refused in one way.
 pub one_refusal : (m : List (List ℕ)) (words depth : ℕ) (r r' : Refusal) → IsRefused m words depth r

@@ -1,18 +1,18 @@
 -- An accepted message has no justified refusal.
 use Rattle.cap_spec.specs.Following.{HasTag}
 use Rattle.cap_spec.specs.Verdicts.{is_wrong}
-use Rattle.cap_spec.proofs.Paths.Arrivals.{coming_to_node, lead_word}
+use Rattle.cap_spec.proofs.Paths.Arrivals.{coming_to_node}
 use Rattle.cap_spec.proofs.Paths.Depths.{denoted_depth, object_depth, walk_depth}
 use Rattle.cap_spec.proofs.Paths.PathCosts.{charge_is_cost}
 use Rattle.cap_spec.proofs.Paths.PathCounts.{pointer_path_reached, pointer_paths}
 use Rattle.cap_spec.proofs.Paths.Walks.{one_reached}
 use Rattle.cap_spec.proofs.Pointers.Following.{cap-not_wrong, null-not_wrong, object-not_wrong}
-use Rattle.cap_spec.proofs.Prelude.{List, Some, [], arith, inl, inr, refl, slice_get, subst, sym, ℕ, ◌+◌, ◌∙◌, ◌∷◌, ◌≡◌}
-use Rattle.cap_spec.proofs.Prelude.{◌≢◌, ◌≤◌, ◌⊎◌, IsWithin, Denotes, Finds, Wrong, AreDistinct, IsOneOf, HasWord}
-use Rattle.cap_spec.proofs.Prelude.{Costs, Reaches, word, Tree, cap, null, pointers, scalars, struct, structs, CostOf}
-use Rattle.cap_spec.proofs.Prelude.{Justified, levels_below, no_root, past_limit, too_deep, Reason, Refusal, Step}
+use Rattle.cap_spec.proofs.Prelude.{List, Some, [], arith, inl, inr, refl, slice_get, subst, sym, ℕ, ◌+◌, ◌∙◌, ◌∷◌}
+use Rattle.cap_spec.proofs.Prelude.{◌≡◌, ◌≢◌, ◌≤◌, ◌⊎◌, IsWithin, Denotes, Finds, Wrong, AreDistinct, IsOneOf}
+use Rattle.cap_spec.proofs.Prelude.{HasWord, Costs, Reaches, word, Tree, cap, null, pointers, scalars, struct}
+use Rattle.cap_spec.proofs.Prelude.{structs, CostOf, Justified, levels_below, no_root, past_limit, too_deep, Reason}
+use Rattle.cap_spec.proofs.Prelude.{Refusal, Step, common_steps}
 use Rattle.cap_spec.proofs.Trees.Charges.{one_cost}
-use Rattle.cap_spec.proofs.Trees.OneTree.{Formed, formed}
 
 -- one of some paths, its cost, and the others
 pub record TakenOut (m : List (List ℕ)) (p : List Step) (qs : List (List Step)) (y : ℕ) : Type 0 where
@@ -145,9 +145,7 @@ rootless (x ∷ xs) p e h = let f : x ≡ [] = cc e in let g : slice_get [] 0 �
 -- An accepted message has no justified refusal.
 pub within_not_justified : (m : List (List ℕ)) (words depth : ℕ) (r : Refusal) → IsWithin m words depth
     → ¬ Justified m words depth r
-within_not_justified m words depth r (t, c, d, a) (no_root g) =
-    let f : Formed m 0 0 t = formed m 0 0 t c d a.denotes in
-    let p = lead_word m 0 0 f.k f.r f.leads in rootless m p.0 g.empty p.1
+within_not_justified m words depth r (t, c, d, a) (no_root g) = grind (arith, common_steps)
 within_not_justified m words depth r (t, c, d, a) (is_wrong g) =
     reached_not_wrong m t c d a.denotes g.0 g.1 r.segment r.word r.reason g.2 g.3
 within_not_justified m words depth r (t, c, d, a) (too_deep e (path, level, reached, (k, t', b, q, tag, finds, has, past))) =
