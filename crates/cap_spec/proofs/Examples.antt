@@ -4,7 +4,7 @@ use Rattle.cap_spec.specs.Tree.{none}
 use Rattle.cap_spec.proofs.Prelude.{[], arith, codes, lit<, lit≤, refl, replicate, true, ◌++◌, ◌∷◌, ◌≡◌, layout, trim}
 use Rattle.cap_spec.proofs.Prelude.{Denotes, two_pads, Frames, frame_text, packed_ends, pack_text, IsBadAt, IsPath}
 use Rattle.cap_spec.proofs.Prelude.{scalar_words, accepted, dump_text, segments_text, vet_text, more, null, scalars}
-use Rattle.cap_spec.proofs.Prelude.{struct, structs, packed_is_cut, unpacked, Item, Ptr, common_steps}
+use Rattle.cap_spec.proofs.Prelude.{struct, structs, packed_is_cut, unpacked, Item, Ptr}
 
 -- two words, each by the bytes that aren't zero
 pack-marked : pack_text (0x0002000300000008 ∷ 0x000001aa00000019 ∷ []) ≡ 0x51 ∷ 8 ∷ 3 ∷ 2 ∷ 0x31 ∷ 0x19 ∷ 0xaa ∷ 1 ∷ []
@@ -146,4 +146,9 @@ empty-no_path (Ptr i ∷ steps, are, e) = cc
 empty-no_path (Item i ∷ steps, are, e) = cc
 
 bad-empty : IsBadAt [] 0
-bad-empty = grind (arith, common_steps)
+bad-empty = record {
+  none = empty-no_path;
+  within = lit≤ tt;
+  begins = record { steps = []; are = tt; rest = codes "/"; whole = refl };
+  longest = λ n within begins. within;
+}
