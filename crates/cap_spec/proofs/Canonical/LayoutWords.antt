@@ -7,8 +7,8 @@ use Rattle.cap_spec.proofs.Canonical.Sizes.{trimmed_size_charged}
 use Rattle.cap_spec.proofs.Canonical.TreeMeasures.{FitEach, FitElements, Fits, Measured, measured}
 use Rattle.cap_spec.proofs.Canonical.TrimmedMeasures.{Trimmed, trimmed}
 use Rattle.cap_spec.proofs.Canonical.TrimmedTrees.{trimmed_is_tree}
-use Rattle.cap_spec.proofs.Prelude.{Bool, List, [], arith, drop, false, if◌then◌else◌, length, length-take, map, subst}
-use Rattle.cap_spec.proofs.Prelude.{suc, sym, take, true, zero, ℕ, ◌*◌, ◌++◌, ◌+◌, ◌-◌, ◌/◌, ◌<◌, ◌^◌, ◌∷◌, ◌≡◌}
+use Rattle.cap_spec.proofs.Prelude.{List, [], arith, drop, length, length-take, map, subst}
+use Rattle.cap_spec.proofs.Prelude.{suc, sym, take, zero, ℕ, ◌*◌, ◌++◌, ◌+◌, ◌-◌, ◌/◌, ◌<◌, ◌^◌, ◌∷◌, ◌≡◌}
 use Rattle.cap_spec.proofs.Prelude.{◌≤◌, mul-le, AllByRecursion, range_with_len, content, contents, element_contents}
 use Rattle.cap_spec.proofs.Prelude.{element_sizes, element_words, layout, list_word, pointer_to, pointer_words, size}
 use Rattle.cap_spec.proofs.Prelude.{sizes, struct_word, trim, Denotes, element_bits, list_words, packed_word}
@@ -56,10 +56,6 @@ scalar_words_are c vs f = value_words_are (element_bits c) (64 / element_bits c)
     (div-mul-le_self 64 (element_bits c)) f
 
 -- the pointer to a tree that fits
-either_word : (b : Bool) (x y : ℕ) → x < 2 ^ 64 → y < 2 ^ 64 → (if b then x else y) < 2 ^ 64
-either_word true x y h g = h
-either_word false x y h g = g
-
 struct_is_word : (offset d p : ℕ) → offset < 2 ^ 30 → d < 2 ^ 16 → p < 2 ^ 16 → struct_word offset d p < 2 ^ 64
 struct_is_word offset d p ho hd hp = omega arith
 

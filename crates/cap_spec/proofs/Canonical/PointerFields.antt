@@ -1,9 +1,7 @@
 -- The fields of the pointer words of a layout.
-use Rattle.std.proofs.Common.{◌-ℤ◌}
-use Rattle.cap_spec.proofs.Prelude.{ap, arith, cond, if◌then◌else◌, lt-ltb, ltb, nat_lt, negsuc, pos, suc, sym, ℕ}
-use Rattle.cap_spec.proofs.Prelude.{◌*◌, ◌+ℤ◌, ◌+◌, ◌-◌, ◌<◌, ◌^◌, ◌≡◌, list_word, struct_word, cap_index, code}
-use Rattle.cap_spec.proofs.Prelude.{data_size, kind, list_size, middle, pointer_size, signed_offset_of, common_steps}
-use Rattle.cap_spec.proofs.Prelude.{rules}
+use Rattle.cap_spec.proofs.Prelude.{arith, cond, ltb, negsuc, pos, suc, sym, ℕ, ◌*◌, ◌+ℤ◌, ◌+◌, ◌-◌, ◌<◌, ◌^◌, ◌≡◌}
+use Rattle.cap_spec.proofs.Prelude.{list_word, struct_word, cap_index, code, data_size, kind, list_size, middle}
+use Rattle.cap_spec.proofs.Prelude.{pointer_size, signed_offset_of, common_steps, rules}
 
 -- of a struct's pointer, or of a tag
 pub record StructFields (q offset d p : ℕ) : Type 0 where
@@ -34,10 +32,6 @@ pub record CapFields (q i : ℕ) : Type 0 where
 
 pub cap_fields : (i : ℕ) → i < 2 ^ 32 → CapFields (3 + 2 ^ 32 * i) i
 cap_fields i h = record { kind = omega arith; middle = omega arith; index = omega arith }
-
--- an offset that isn't negative
-signed_below : (x : ℕ) → x < 2 ^ 29 → (if nat_lt x (2 ^ 29) then pos x else (pos x -ℤ pos (2 ^ 30))) ≡ pos x
-signed_below x h = ap (λ y. if y then pos x else (pos x -ℤ pos (2 ^ 30))) (lt-ltb x (2 ^ 29) h)
 
 -- where an object begins whose offset stands in these bits
 pub start_after : (q a b offset : ℕ) → middle q ≡ offset → offset < 2 ^ 29 → b ≡ a + 1 + offset

@@ -5,7 +5,7 @@ use Rattle.cap_spec.proofs.Packed.Unpacking.{drop_less, group_some}
 use Rattle.cap_spec.proofs.Prelude.{List, [], ap, arith, drop, drop_at, if◌then◌else◌, le-ltb, length, length-append}
 use Rattle.cap_spec.proofs.Prelude.{nat_lt, refl, suc, sym, take, zero, ℕ, ◌++◌, ◌+◌, ◌<◌, ◌∙◌, ◌∷◌, ◌≡◌, ◌≢◌, ◌≤◌}
 use Rattle.cap_spec.proofs.Prelude.{length-replicate, ends_in, front_ends, packed_ends, word_ends, capped, IsGroup}
-use Rattle.cap_spec.proofs.Prelude.{given_of, group_length, marked, marks, plain, zeros, common_steps, rules}
+use Rattle.cap_spec.proofs.Prelude.{given_of, group_length, marked, plain, zeros, common_steps, rules}
 
 -- no bytes give only the end
 pub ends_nil : (n at : ℕ) → ends_in n at [] ≡ capped at ∷ []
@@ -43,11 +43,6 @@ ends_short : (at : ℕ) (bytes : List ℕ) → length bytes < group_length bytes
 ends_short at [] h = absurd (omega arith)
 ends_short at (x ∷ bytes) h = grind (arith, common_steps)
 
--- at a tag that is neither 0 nor 255
-ends_marked : (at tag : ℕ) (bytes : List ℕ) → 0 < tag → tag < 255
-    → front_ends at (tag ∷ bytes) ≡ capped (at + (1 + marks 8 tag)) ∷ []
-ends_marked at tag bytes p q = grind (arith, common_steps)
-
 -- the head of a group tells the positions of its words
 front_as_group : {bytes words : List ℕ} (at : ℕ) (rest : List ℕ) (g : IsGroup bytes words)
     → front_ends at (bytes ++ rest) ≡ group_ends at g
@@ -68,10 +63,6 @@ ends_off at bytes words rest g =
     (drop (group_length (bytes ++ rest)) (bytes ++ rest))) (front_as_group at rest g)
     ∙ (ap (λ n. group_ends at g ++ packed_ends (at + n) (drop n (bytes ++ rest))) k
     ∙ ap (λ n. group_ends at g ++ packed_ends (at + length bytes) n) (drop_at bytes rest (length bytes) refl)))
-
--- no words, no positions
-none_taken : (words : List ℕ) (xs ys : List ℕ) → words ≡ [] → take (length words) xs ≡ take (length words) ys
-none_taken words xs ys e = ap (λ l. take (length l) xs) e ∙ sym (ap (λ l. take (length l) ys) e)
 
 -- the words that the beginning of a group gives have the positions that they have in the whole group
 part_as_group : (at tag : ℕ) (part lacking words : List ℕ) (g : IsGroup (tag ∷ (part ++ lacking)) words) →

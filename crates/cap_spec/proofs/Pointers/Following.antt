@@ -6,25 +6,13 @@ use Rattle.cap_spec.proofs.Pointers.Conditions.{NoneBelow, and_not, none_below_r
 use Rattle.cap_spec.proofs.Pointers.Conditions.{one-not_outside, one-not_pad_far, one-not_pad_near, one-not_reserved}
 use Rattle.cap_spec.proofs.Pointers.Conditions.{outside-not_missing, outside-not_reserved, two-none_below_far}
 use Rattle.cap_spec.proofs.Pointers.Conditions.{two-none_below_tag, two-not_tag_kind, two-not_tag_offset}
-use Rattle.cap_spec.proofs.Prelude.{List, ap, arith, inl, inr, length, negsuc, pos, refl, subst, sym, ℕ, ℤ, ◌*◌, ◌+◌}
-use Rattle.cap_spec.proofs.Prelude.{◌<◌, ◌∙◌, ◌≡◌, ◌≢◌, ◌≤◌, ints, Finds, Condition, IsComposite, IsOnePad}
+use Rattle.cap_spec.proofs.Prelude.{List, arith, inl, inr, length, negsuc, pos, subst, ℕ, ℤ, ◌*◌, ◌+◌}
+use Rattle.cap_spec.proofs.Prelude.{◌<◌, ◌≡◌, ◌≢◌, ◌≤◌, ints, Finds, Condition, IsComposite, IsOnePad}
 use Rattle.cap_spec.proofs.Prelude.{IsTwoPad, Lead, Leads, Says, Wrong, near, one_pad, rank, to_cap, to_null, to_object}
 use Rattle.cap_spec.proofs.Prelude.{two_pads, HasWord, segment_of, IsFar, IsReserved, data_size, extent, far_segment}
 use Rattle.cap_spec.proofs.Prelude.{kind, list_size, middle, pad, pointer_size, two, Reason, CompositeOverrun}
 use Rattle.cap_spec.proofs.Prelude.{CompositeTag, DepthLimit, OutOfSegment, PadIsFar, PadNotFar, PadOutside, Reserved}
 use Rattle.cap_spec.proofs.Prelude.{SegmentMissing, TagKind, TagOffset, WordLimit, common_steps, rules}
-
--- a word by itself says one thing
-Says-unique : (t w q : ℕ) (r r' : Lead) → Says t w q r → Says t w q r' → r ≡ r'
-Says-unique t w q to_null to_null h h' = refl
-Says-unique t w q to_null (to_cap j) h h' = search rules
-Says-unique t w q to_null (to_object u b x) h h' = absurd (h'.1 h)
-Says-unique t w q (to_cap i) to_null h h' = search rules
-Says-unique t w q (to_cap i) (to_cap j) h h' = ap to_cap (h.1 ∙ sym h'.1)
-Says-unique t w q (to_cap i) (to_object u b x) h h' = search rules
-Says-unique t w q (to_object u b x) to_null h h' = absurd (h.1 h')
-Says-unique t w q (to_object u b x) (to_cap j) h h' = search rules
-Says-unique t w q (to_object u b x) (to_object u' b' x') h h' = search rules
 
 -- What a word leads to, by its form.
 module _ (m : List (List ℕ)) (s w k : ℕ) (r : Lead) where
@@ -39,12 +27,6 @@ module _ (m : List (List ℕ)) (s w k : ℕ) (r : Lead) where
   leads-one (near x hx n says e) p q h one hq = absurd (n (at_word IsFar m s w p x h hx one.0))
   leads-one (one_pad x y hx single hy n says e) p q h one hq = grind (arith, common_steps)
   leads-one (two_pads x f y hx both hf hy single tag says e) p q h one hq = grind (arith, common_steps)
-
-  pub leads-two : Leads m s w k r → (p f q : ℕ) → HasWord m s w p → IsTwoPad p → HasWord m (far_segment p) (pad p) f
-      → HasWord m (far_segment p) (pad p + 1) q → (k ≡ 2) × (r ≡ to_object (far_segment f) (pos (pad f)) q)
-  leads-two (near x hx n says e) p f q h both hf hq = absurd (n (at_word IsFar m s w p x h hx both.0))
-  leads-two (one_pad x y hx single hy n says e) p f q h both hf hq = grind (arith, common_steps)
-  leads-two (two_pads x u v hx single hu hv one tag says e) p f q h both hf hq = grind (arith, common_steps)
 
 -- a pointer word leads to one thing, with one number of pads
 pub one_lead : (m : List (List ℕ)) (s w k k' : ℕ) (r r' : Lead) → Leads m s w k r → Leads m s w k' r'

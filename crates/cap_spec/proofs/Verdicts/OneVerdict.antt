@@ -7,11 +7,10 @@ use Rattle.cap_spec.proofs.Paths.PathCosts.{charge_is_cost}
 use Rattle.cap_spec.proofs.Paths.PathCounts.{pointer_path_reached, pointer_paths}
 use Rattle.cap_spec.proofs.Paths.Walks.{one_reached}
 use Rattle.cap_spec.proofs.Pointers.Following.{cap-not_wrong, null-not_wrong, object-not_wrong}
-use Rattle.cap_spec.proofs.Prelude.{List, Some, [], arith, inl, inr, refl, slice_get, subst, sym, ℕ, ◌+◌, ◌∙◌, ◌∷◌}
-use Rattle.cap_spec.proofs.Prelude.{◌≡◌, ◌≢◌, ◌≤◌, ◌⊎◌, IsWithin, Denotes, Finds, Wrong, AreDistinct, IsOneOf}
-use Rattle.cap_spec.proofs.Prelude.{HasWord, Costs, Reaches, word, Tree, cap, null, pointers, scalars, struct}
-use Rattle.cap_spec.proofs.Prelude.{structs, CostOf, Justified, levels_below, no_root, past_limit, too_deep, Reason}
-use Rattle.cap_spec.proofs.Prelude.{Refusal, Step, common_steps}
+use Rattle.cap_spec.proofs.Prelude.{List, [], arith, inl, inr, refl, subst, sym, ℕ, ◌+◌, ◌∙◌, ◌∷◌, ◌≡◌, ◌≢◌, ◌≤◌, ◌⊎◌}
+use Rattle.cap_spec.proofs.Prelude.{IsWithin, Denotes, Finds, Wrong, AreDistinct, IsOneOf, Costs, Reaches, word, Tree}
+use Rattle.cap_spec.proofs.Prelude.{cap, null, pointers, scalars, struct, structs, CostOf, Justified, levels_below}
+use Rattle.cap_spec.proofs.Prelude.{no_root, past_limit, too_deep, Reason, Refusal, Step, common_steps}
 use Rattle.cap_spec.proofs.Trees.Charges.{one_cost}
 
 -- one of some paths, its cost, and the others
@@ -136,11 +135,6 @@ pub reached_not_wrong : (m : List (List ℕ)) (t : Tree) (c d : ℕ) → Denotes
     → (p : List Step) (level s w : ℕ) (v : Reason) → Reaches m p level s w → Wrong m s w v → ⊥
 reached_not_wrong m t c d h p level s w v g x =
     let r = coming_to_node m t c d h p level (word s w) g in denoted_not_wrong m s w r.0 r.2.0 r.2.1 r.2.2 v x
-
--- a segment without words has no root word
-rootless : (m : List (List ℕ)) (p : ℕ) → slice_get m 0 ≡ Some [] → HasWord m 0 0 p → ⊥
-rootless [] p e h = cc e
-rootless (x ∷ xs) p e h = let f : x ≡ [] = cc e in let g : slice_get [] 0 ≡ Some p = rw f at h in cc g
 
 -- An accepted message has no justified refusal.
 pub within_not_justified : (m : List (List ℕ)) (words depth : ℕ) (r : Refusal) → IsWithin m words depth
