@@ -26,10 +26,7 @@ words_exact (a ∷ b ∷ c ∷ d ∷ e ∷ f ∷ g ∷ h ∷ rest) = let t = wor
 pub plain_back : (ws rest : List ℕ) → AllByRecursion IsWord ws
     → plain_words (plain_text ws ++ rest) ≡ ws ++ plain_words rest
 plain_back [] rest a = refl
-plain_back (x ∷ ws) rest a =
-    let h : little_number 8 (word_bytes x) ≡ x = word_back x [] a.0 in
-    let t : plain_words (plain_text ws ++ rest) ≡ ws ++ plain_words rest = plain_back ws rest a.1 in
-    ap (λ k. k ∷ plain_words (plain_text ws ++ rest)) h ∙ ap (λ k. x ∷ k) t
+plain_back (x ∷ ws) rest a = search (rules, word_back, plain_back ws rest a.1)
 
 -- and is cut where what stands behind it is
 pub plain_cut_back : (ws rest : List ℕ) → plain_is_cut (plain_text ws ++ rest) ≡ plain_is_cut rest
@@ -38,26 +35,11 @@ plain_cut_back (x ∷ ws) rest = plain_cut_back ws rest
 
 -- less than eight bytes begin with no word
 pub plain_short : (rest : List ℕ) → length rest < 8 → plain_words rest ≡ []
-plain_short [] l = refl
-plain_short (a ∷ []) l = refl
-plain_short (a ∷ b ∷ []) l = refl
-plain_short (a ∷ b ∷ c ∷ []) l = refl
-plain_short (a ∷ b ∷ c ∷ d ∷ []) l = refl
-plain_short (a ∷ b ∷ c ∷ d ∷ e ∷ []) l = refl
-plain_short (a ∷ b ∷ c ∷ d ∷ e ∷ f ∷ []) l = refl
-plain_short (a ∷ b ∷ c ∷ d ∷ e ∷ f ∷ g ∷ []) l = refl
-plain_short (a ∷ b ∷ c ∷ d ∷ e ∷ f ∷ g ∷ h ∷ rest) l = absurd (omega arith)
+plain_short rest l = search rules
 
 -- and are cut where there are some
 pub plain_cut_short : (x : ℕ) (rest : List ℕ) → length rest < 7 → plain_is_cut (x ∷ rest) ≡ true
-plain_cut_short a [] l = refl
-plain_cut_short a (b ∷ []) l = refl
-plain_cut_short a (b ∷ c ∷ []) l = refl
-plain_cut_short a (b ∷ c ∷ d ∷ []) l = refl
-plain_cut_short a (b ∷ c ∷ d ∷ e ∷ []) l = refl
-plain_cut_short a (b ∷ c ∷ d ∷ e ∷ f ∷ []) l = refl
-plain_cut_short a (b ∷ c ∷ d ∷ e ∷ f ∷ g ∷ []) l = refl
-plain_cut_short a (b ∷ c ∷ d ∷ e ∷ f ∷ g ∷ h ∷ rest) l = absurd (omega arith)
+plain_cut_short a rest l = search rules
 
 -- eight bytes make a word
 pub eight_word : (a b c d e f g h : ℕ) → AllByRecursion (λ x. x < 256) (a ∷ b ∷ c ∷ d ∷ e ∷ f ∷ g ∷ h ∷ [])

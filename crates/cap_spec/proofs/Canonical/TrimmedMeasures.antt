@@ -104,12 +104,8 @@ cut_costs d p x y (more t es) f = absurd f
 
 cut_fits : (d p x y : ℕ) (es : Trees) → d ≤ x → p ≤ y → FitElements x y es → FitElements d p (cut_elements d p es)
 cut_fits d p x y none hd hp f = tt
-cut_fits d p x y (more (struct words ts) es) hd hp f = (
-  length-take-le d words (omega (arith, f.0)),
-  tree_count-take_le p ts (omega (arith, f.1)),
-  fits-take p ts f.2,
-  cut_fits d p x y es hd hp f.3,
-)
+cut_fits d p x y (more (struct words ts) es) hd hp f =
+    search (rules, length-take-le, tree_count-take_le, fits-take, cut_fits d p x y es hd hp f.3)
 cut_fits d p x y (more t es) hd hp f = absurd f
 
 cut_heights : (d p x y : ℕ) (es : Trees) → children_of es ≤ p → FitElements x y es
@@ -134,11 +130,7 @@ children_of_le d p (more t es) f = absurd f
 
 -- elements without words cost no more than they did with words
 smaller : (n a b : ℕ) → a ≤ b → n * a + idle a n ≤ n * b + idle b n
-smaller n zero zero h = omega arith
-smaller n (suc a) zero h = absurd (omega (arith, h))
-smaller n zero (suc b) h = rw (eqb-suc-zero b) (omega arith)
-smaller n (suc a) (suc b) h = rw (eqb-suc-zero a, eqb-suc-zero b)
-    (let r = mul-le n (suc a) n (suc b) (omega arith) h in omega (arith, r))
+smaller n a b h = search (rules, eqb-suc-zero, mul-le)
 
 -- a trimmed tree, or trees, beside what it was
 pub record Trimmed (t u : Tree) : Type 0 where

@@ -61,8 +61,7 @@ trim_elements-cut d p (more (structs x y ts) es) = ap (more (structs x y ts)) (t
 pub cut_elements-cut : (d p : ℕ) (es : Trees) → cut_elements d p (cut_elements d p es) ≡ cut_elements d p es
 cut_elements-cut d p none = refl
 cut_elements-cut d p (more (struct words ts) es) =
-    ap₂ (λ (ws : List ℕ) (f : Trees × Trees). more (struct ws f.0) f.1) (take-take d d words (omega arith))
-    (ap₂ (λ (us : Trees) (rest : Trees). (us, rest)) (take_trees-take_trees p ts) (cut_elements-cut d p es))
+    search (rules, take-take, take_trees-take_trees, cut_elements-cut d p es)
 cut_elements-cut d p (more null es) = ap (more null) (cut_elements-cut d p es)
 cut_elements-cut d p (more (cap i) es) = ap (more (cap i)) (cut_elements-cut d p es)
 cut_elements-cut d p (more (scalars c vs) es) = ap (more (scalars c vs)) (cut_elements-cut d p es)

@@ -17,7 +17,7 @@ use Rattle.cap_spec.proofs.Prelude.{AreElements, DenoteEach, Denotes, Finds, Lea
 use Rattle.cap_spec.proofs.Prelude.{sizes_of, AreDistinct, IsOneOf, HasWord, segment_of, IsDisjoint, Occupies, Uses}
 use Rattle.cap_spec.proofs.Prelude.{empty_count, pads_of, PathLeads, Spot, StepsTo, element, level_of, word, data_size}
 use Rattle.cap_spec.proofs.Prelude.{extent, list_size, middle, pointer_size, Tree, Trees, cap, more, null, pointers}
-use Rattle.cap_spec.proofs.Prelude.{scalars, struct, structs, tree_count, Step, Item, Ptr}
+use Rattle.cap_spec.proofs.Prelude.{scalars, struct, structs, tree_count, Step, Item, Ptr, rules}
 use Rattle.cap_spec.proofs.Trees.Charges.{length-places}
 use Rattle.cap_spec.proofs.Trees.OneTree.{Formed, cons_parts, formed}
 use Rattle.cap_spec.proofs.Trees.Readings.{length-values}
@@ -62,18 +62,8 @@ used_append : (m : List (List ℕ)) (a : Spot) (ps qs : List (List Step)) (xs ys
     → UsedFrom m a qs ys → UsedFrom m a (ps ++ qs) (xs ++ ys)
 used_append m a [] qs xs ys g h = subst (λ (z : List (ℕ × ℕ)). UsedFrom m a qs z)
     (sym (ap (λ (u : List (ℕ × ℕ)). u ++ ys) g)) h
-used_append m a (p ∷ ps) qs xs ys (n, s, w, one, rest, walks, occupies, after, parts) h = (
-  n,
-  s,
-  w,
-  one,
-  rest ++ ys,
-  walks,
-  occupies,
-  used_append m a ps qs rest ys after h,
-  ap (λ (u : List (ℕ × ℕ)). u ++ ys) parts
-      ∙ append_assoc one rest ys,
-)
+used_append m a (p ∷ ps) qs xs ys (n, s, w, one, rest, walks, occupies, after, parts) h =
+    search (rules, append_assoc, used_append m a ps qs rest ys after h)
 
 used_behind : (m : List (List ℕ)) (a b : Spot) (step : Step) (ps : List (List Step)) (us : List (ℕ × ℕ))
     → StepsTo m a step b → UsedFrom m b ps us → UsedFrom m a (behind step ps) us

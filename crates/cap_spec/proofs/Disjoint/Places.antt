@@ -5,8 +5,8 @@ use Rattle.cap_spec.specs.Denoting.{places}
 use Rattle.cap_spec.proofs.Frames.Messages.{HasWord-inside, HasWord-segment, one_word}
 use Rattle.cap_spec.proofs.Prelude.{List, [], ap, arith, eqb, false, inl, inr, length, length-append, ne_eqb, refl}
 use Rattle.cap_spec.proofs.Prelude.{subst, suc, sum, sym, zero, ℕ, ◌++◌, ◌+◌, ◌<◌, ◌∙◌, ◌∷◌, ◌≡◌, ◌≢◌, ◌≤◌, ◌⊎◌}
-use Rattle.cap_spec.proofs.Prelude.{cases_eq, Lead, Leads, near, one_pad, two_pads, sizes_of, AreDistinct, IsOneOf}
-use Rattle.cap_spec.proofs.Prelude.{HasWord, segment_of, pads_of, far_segment, kind, pad, two, common_steps, rules}
+use Rattle.cap_spec.proofs.Prelude.{cases_eq, Lead, Leads, sizes_of, AreDistinct, IsOneOf}
+use Rattle.cap_spec.proofs.Prelude.{HasWord, segment_of, pads_of, far_segment, kind, pad, two, rules}
 use Rattle.cap_spec.proofs.Trees.Charges.{length-places}
 
 -- the places of a range
@@ -66,11 +66,7 @@ pads_in_a_row p h = by_two (two p) refl (omega arith)
 -- where it leads somewhere, they exist
 pub pads_inside : (m : List (List ℕ)) (s w k p : ℕ) (r : Lead) → Leads m s w k r → HasWord m s w p → kind p ≡ 2
     → (far_segment p < length m) × (pad p + (1 + two p) ≤ length (segment_of m (far_segment p)))
-pads_inside m s w k p r (near p' has n says e) h far = absurd (n (ap kind (one_word m s w p' p has h) ∙ far))
-pads_inside m s w k p r (one_pad p' q has (f, one) hasq n says e) h far =
-    search (rules, one_word, HasWord-segment, HasWord-inside)
-pads_inside m s w k p r (two_pads p' f q has (far', both) hasf hasq one tag e e') h far =
-    search (rules, one_word, HasWord-segment, HasWord-inside)
+pads_inside m s w k p r x6 h far = search (rules, one_word, HasWord-segment, HasWord-inside)
 
 pub pad_inside : (m : List (List ℕ)) (s w k p : ℕ) (r : Lead) (t x : ℕ) → Leads m s w k r → HasWord m s w p
     → IsOneOf (t, x) (pads_of p)
@@ -89,10 +85,7 @@ pad_inside m s w k p r t x leads has i = elim (cases_eq (kind p) 2) [
 -- they are as many as the pointer leads over
 pub pads_number : (m : List (List ℕ)) (s w k p : ℕ) (r : Lead) → Leads m s w k r → HasWord m s w p
     → length (pads_of p) ≡ k
-pads_number m s w k p r (near p' has n says e) h =
-    ap length (no_pads p (λ far. n (ap kind (one_word m s w p' p has h) ∙ far))) ∙ sym e
-pads_number m s w k p r (one_pad p' q has (f, one) hasq n says e) h = grind (arith, common_steps)
-pads_number m s w k p r (two_pads p' f q has (far', both) hasf hasq one tag e e') h = grind (arith, common_steps)
+pads_number m s w k p r x6 h = search (rules, no_pads, one_word)
 
 -- a list of places without one of them
 remove : (x : ℕ × ℕ) (ys : List (ℕ × ℕ)) → IsOneOf x ys
@@ -119,13 +112,7 @@ all_places s (segment ∷ m) = places s 0 (length segment) ++ all_places (suc s)
 
 pub length_all : (s : ℕ) (m : List (List ℕ)) → length (all_places s m) ≡ sum (sizes_of m)
 length_all s [] = refl
-length_all s (segment ∷ m) =
-    let e = length_all (suc s) m in
-    let l = length-places s 0 (length segment) in
-    let f : sum (sizes_of (segment ∷ m)) ≡ (0 + length segment) + sum_by (λ (x : ℕ). x) (sizes_of m) =
-    sum_by_from (λ (x : ℕ). x) (0 + length segment) (sizes_of m) in
-    let g : sum (sizes_of m) ≡ 0 + sum_by (λ (x : ℕ). x) (sizes_of m) = sum_by_from (λ (x : ℕ). x) 0 (sizes_of m) in
-    length-append (places s 0 (length segment)) (all_places (suc s) m) ∙ omega (arith, e, l, f, g)
+length_all s (segment ∷ m) = search (rules, length-places, sum_by, sum_by_from, length-append, length_all (suc s) m)
 
 pub in_all : (s : ℕ) (m : List (List ℕ)) (t w : ℕ) → t < length m → w < length (segment_of m t)
     → IsOneOf (s + t, w) (all_places s m)

@@ -8,11 +8,7 @@ use Rattle.cap_spec.proofs.Prelude.{common_steps, rules}
 -- the segments joined are as long as their sizes together
 pub length_joined : (m : List (List ℕ)) → length (joined m) ≡ sum (sizes_of m)
 length_joined [] = refl
-length_joined (s ∷ m) =
-    let t = length_joined m in
-    let a = length-append s (joined m) in
-    let c = sum_by-cons (λ x. x) (length s) (sizes_of m) in
-    omega arith
+length_joined (s ∷ m) = search (rules, length-append, sum_by-cons, length_joined m)
 
 -- a frame has a first word
 pub frame_some : (own : List ℕ) (m : List (List ℕ)) → Frames own m → 0 < length own

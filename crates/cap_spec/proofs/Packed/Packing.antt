@@ -53,26 +53,18 @@ front-more : (p : ℕ → Bool) (x : ℕ) (xs ys : List ℕ) →
     (length (take_while p xs) ≡ length xs → length (take_while p (xs ++ ys)) ≡ length xs + length (take_while p ys)) →
     (b : Bool) → p x ≡ b → length (take_while p (x ∷ xs)) ≡ 1 + length xs
     → length (take_while p (x ∷ (xs ++ ys))) ≡ 1 + length xs + length (take_while p ys)
-front-more p x xs ys more true e h = omega
-    (arith, more (omega (arith, h, front-pass p x xs e)), front-pass p x (xs ++ ys) e)
-front-more p x xs ys more false e h = absurd (omega (arith, h, front-stop p x xs e))
+front-more p x xs ys more x5 e h = search (rules, front-pass, front-stop)
 
 -- where all of a list passes, the front that passes goes on behind it
 pub front-append : (p : ℕ → Bool) (xs ys : List ℕ) → length (take_while p xs) ≡ length xs →
     length (take_while p (xs ++ ys)) ≡ length xs + length (take_while p ys)
 front-append p [] ys h = omega arith
-front-append p (x ∷ xs) ys h =
-    let more = front-more p x xs ys (front-append p xs ys) (p x) refl (omega (arith, h)) in
-    omega (arith, more)
+front-append p (x ∷ xs) ys h = search (rules, front-more, front-append p xs ys)
 
 -- a run of zero words, and what goes on behind it
 pub zero_run-append : (n : ℕ) (rest : List ℕ) → zero_run (replicate n 0 ++ rest) ≡ n + zero_run rest
 zero_run-append zero rest = omega arith
-zero_run-append (suc n) rest = omega (
-  arith,
-  front-pass (λ x. x == 0) 0 (replicate n 0 ++ rest) refl,
-  zero_run-append n rest,
-)
+zero_run-append (suc n) rest = search (rules, front-pass, zero_run-append n rest)
 
 -- another word than zero ends a run of zero words
 pub zero_run-ends : (w : ℕ) (ws : List ℕ) → w ≢ 0 → zero_run (w ∷ ws) ≡ 0

@@ -75,9 +75,7 @@ unpacked_short (x ∷ bytes) h = grind (arith, common_steps)
 
 -- and the bytes are cut
 pub cut_short : (bytes : List ℕ) → length bytes < group_length bytes → packed_is_cut bytes ≡ true
-cut_short [] h = absurd (omega arith)
-cut_short (x ∷ bytes) h = ap (λ t. if t then true else is_cut_in (length bytes)
-    (drop (group_length (x ∷ bytes)) (x ∷ bytes))) (lt-ltb (length (x ∷ bytes)) (group_length (x ∷ bytes)) h)
+cut_short bytes h = search (rules, lt-ltb)
 
 -- a clear bit takes no byte
 pub spread_clear : (n tag b : ℕ) (present : List ℕ) → tag % 2 ≡ 0

@@ -6,13 +6,13 @@ use Rattle.cap_spec.proofs.Paths.Arrivals.{step_to_part}
 use Rattle.cap_spec.proofs.Paths.PathCounts.{is_element, step_kind}
 use Rattle.cap_spec.proofs.Paths.PathLists.{is_structs}
 use Rattle.cap_spec.proofs.Pointers.Following.{one_lead}
-use Rattle.cap_spec.proofs.Prelude.{Bool, List, Some, [], ap, arith, eqb, false, max, ne_eqb, pos, refl, subst, suc}
+use Rattle.cap_spec.proofs.Prelude.{Bool, List, Some, [], ap, arith, eqb, false, max, ne_eqb, refl, subst, suc}
 use Rattle.cap_spec.proofs.Prelude.{sym, true, zero, ℕ, ◌+◌, ◌<◌, ◌∙◌, ◌∷◌, ◌≡◌, ◌≤◌, AreElements, DenoteEach, Denotes}
-use Rattle.cap_spec.proofs.Prelude.{Finds, element_levels, IsComposite, to_cap, to_null, to_object, HasWord, PathLeads}
+use Rattle.cap_spec.proofs.Prelude.{Finds, element_levels, IsComposite, HasWord, PathLeads}
 use Rattle.cap_spec.proofs.Prelude.{Spot, element, level_of, word, code, data_size, kind, list_size, middle}
 use Rattle.cap_spec.proofs.Prelude.{pointer_size, DenotesAt, Tree, Trees, cap, more, null, part_at, pointers, scalars}
-use Rattle.cap_spec.proofs.Prelude.{struct, structs, tree_at, tree_count, levels_below, Step, Item, Ptr}
-use Rattle.cap_spec.proofs.Trees.Finding.{SameObject, one_object}
+use Rattle.cap_spec.proofs.Prelude.{struct, structs, tree_at, tree_count, levels_below, Step, Item, Ptr, rules}
+use Rattle.cap_spec.proofs.Trees.Finding.{one_object}
 
 -- the depth of a tree
 abbrev mutual
@@ -152,28 +152,5 @@ below_scalars q tag e f = let g : eqb (code q) 7 ≡ false = ne_eqb (code q) 7 (
 pub object_depth : (m : List (List ℕ)) (s w : ℕ) (x : Tree) (c d k t b q tag : ℕ) → Denotes m s w x c d
     → Finds m s w k t b q → (IsComposite q → HasWord m t b tag)
     → 1 + levels_below q tag ≤ d
-object_depth m s w null c d k t b q tag h f has =
-    absurd (cc (one_lead m s w c k to_null (to_object t (pos b) q) h.0 f.leads).1)
-object_depth m s w (cap i) c d k t b q tag h f has =
-    absurd (cc (one_lead m s w c k (to_cap i) (to_object t (pos b) q) h.0 f.leads).1)
-object_depth m s w (struct ws ts) c d k t b q tag (k', t', b', q', inner, deep, found, each) f has =
-    let o : SameObject k t b q k' t' b' q' = one_object m s w k t b q k' t' b' q' f found.finds in
-    omega (arith, below_struct q tag (ap kind o.shape ∙ found.kind), found.depth)
-object_depth m s w (scalars e vs) c d k t b q tag (k', t', b', q', found) f has =
-    let o : SameObject k t b q k' t' b' q' = one_object m s w k t b q k' t' b' q' f found.finds in
-    omega (
-      arith,
-      below_scalars q tag (ap kind o.shape ∙ found.kind)
-          (omega (arith, ap code o.shape, found.code, found.scalar)),
-      found.depth,
-    )
-object_depth m s w (pointers ts) c d k t b q tag (k', t', b', q', inner, deep, found, each) f has =
-    let o : SameObject k t b q k' t' b' q' = one_object m s w k t b q k' t' b' q' f found.finds in
-    omega (arith, below_pointers q tag (ap kind o.shape ∙ found.kind) (ap code o.shape ∙ found.code), found.depth)
-object_depth m s w (structs ds ps es) c d k t b q tag h f has =
-    let (k', t', b', q', tag', inner, deep, found, each) = h in
-    let o : SameObject k t b q k' t' b' q' = one_object m s w k t b q k' t' b' q' f found.finds in
-    let y : kind q ≡ 1 = ap kind o.shape ∙ found.kind in
-    let z : code q ≡ 7 = ap code o.shape ∙ found.code in
-    let e : tag ≡ tag' = one_word m t b tag tag' (has (y, z)) (rw (o.segment, o.start) found.has_tag) in
-    omega (arith, below_structs q tag y z, ap (λ v. element_levels (middle v)) e, found.depth)
+object_depth m s w x c d k t b q tag h f has =
+    search (rules, one_lead, one_object, below_struct, below_scalars, below_pointers, one_word, below_structs)

@@ -76,12 +76,7 @@ one_steps (Item i ∷ xs) (Item j ∷ ys) a b e =
 -- a path is read back from its text
 pub one_path_text : (xs ys : List Step) → AllByRecursion IsStep xs → AllByRecursion IsStep ys
     → path_text xs ≡ path_text ys → xs ≡ ys
-one_path_text [] [] a b e = refl
-one_path_text [] (Ptr j ∷ ys) a b e = absurd cc
-one_path_text [] (Item j ∷ ys) a b e = absurd cc
-one_path_text (Ptr i ∷ xs) [] a b e = absurd cc
-one_path_text (Item i ∷ xs) [] a b e = absurd cc
-one_path_text (x ∷ xs) (y ∷ ys) a b e = one_steps (x ∷ xs) (y ∷ ys) a b e
+one_path_text xs ys a b e = search (rules, one_steps)
 
 -- a text that is of no path is bad at one place
 pub one_bad_place : (text : List ℕ) (at at' : ℕ) → IsBadAt text at → IsBadAt text at' → at ≡ at'

@@ -3,8 +3,8 @@ use Rattle.cap_spec.specs.Paths.{IsFirst}
 use Rattle.cap_spec.proofs.Paths.Walks.{one_kind_of_step, one_reached, one_step}
 use Rattle.cap_spec.proofs.Prelude.{List, [], ap, arith, inl, inr, length, refl, subst, sym, ℕ, ◌++◌, ◌<◌, ◌∙◌, ◌∷◌}
 use Rattle.cap_spec.proofs.Prelude.{◌≡◌, ◌⊎◌, AreDistinct, IsOneOf, Before, IsFirstCap, IsNumbered, IsTour, PathLeads}
-use Rattle.cap_spec.proofs.Prelude.{Reaches, ReachesCap, ReachesSpot, Rises, Spot, StepsTo, number_of, word, Step, Item}
-use Rattle.cap_spec.proofs.Prelude.{Ptr}
+use Rattle.cap_spec.proofs.Prelude.{Reaches, ReachesCap, ReachesSpot, Rises, Spot, StepsTo, number_of, word, Step}
+use Rattle.cap_spec.proofs.Prelude.{rules}
 
 -- no path comes before itself
 pub Before-irreflexive : (p : List Step) → Before p p → ⊥
@@ -34,10 +34,7 @@ Before-longer (x ∷ xs) step q = inr (refl, Before-longer xs step q)
 -- steps from one spot that have one number are one step
 pub same_number : (m : List (List ℕ)) (a : Spot) (x y : Step) (b c : Spot) → StepsTo m a x b → StepsTo m a y c
     → number_of x ≡ number_of y → x ≡ y
-same_number m a (Ptr i) (Ptr j) b c g h e = ap Ptr e
-same_number m a (Ptr i) (Item j) b c g h e = absurd (one_kind_of_step m a i j b c g h)
-same_number m a (Item i) (Ptr j) b c g h e = absurd (one_kind_of_step m a j i c b h g)
-same_number m a (Item i) (Item j) b c g h e = ap Item e
+same_number m a x y b c g h e = search (rules, one_kind_of_step)
 
 -- two numbers are in one of three ways
 three_ways : (x y : ℕ) → (x ≡ y) ⊎ (x < y) ⊎ (y < x)

@@ -19,9 +19,7 @@ module _ (m : List (List ℕ)) (s w p : ℕ) (h : HasWord m s w p) (far : IsFar 
 
   pub outside-not_missing : far_segment p < length m → length (segment_of m (far_segment p)) < pad p + (two p + 1)
       → ¬ Condition m s w SegmentMissing
-  outside-not_missing exists past (x, hx, f, inl missing) = grind (arith, common_steps)
-  outside-not_missing exists past (x, hx, f, inr (both, u, v, hu, hv, one, missing)) =
-      search (rules, one_word, HasWord-inside)
+  outside-not_missing exists past x2 = search (rules, one_word, HasWord-inside)
 
 -- it has a one-word pad inside its segment:
 module _ (m : List (List ℕ)) (s w p q : ℕ) (h : HasWord m s w p) (one : IsOnePad p)

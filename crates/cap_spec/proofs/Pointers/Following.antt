@@ -17,23 +17,16 @@ use Rattle.cap_spec.proofs.Prelude.{SegmentMissing, TagKind, TagOffset, WordLimi
 -- What a word leads to, by its form.
 module _ (m : List (List ℕ)) (s w k : ℕ) (r : Lead) where
   pub leads-near : Leads m s w k r → (p : ℕ) → HasWord m s w p → kind p ≢ 2 → (k ≡ 0) × Says s w p r
-  leads-near (near x hx n says e) p h not_far = (e, at_word (λ y. Says s w y r) m s w x p hx h says)
-  leads-near (one_pad x q hx one hq n says e) p h not_far = absurd (not_far (at_word IsFar m s w x p hx h one.0))
-  leads-near (two_pads x f q hx both hf hq one tag says e) p h not_far =
-      absurd (not_far (at_word IsFar m s w x p hx h both.0))
+  leads-near x0 p h not_far = search (rules, at_word)
 
   pub leads-one : Leads m s w k r → (p q : ℕ) → HasWord m s w p → IsOnePad p → HasWord m (far_segment p) (pad p) q
       → (k ≡ 1) × Says (far_segment p) (pad p) q r
-  leads-one (near x hx n says e) p q h one hq = absurd (n (at_word IsFar m s w p x h hx one.0))
-  leads-one (one_pad x y hx single hy n says e) p q h one hq = grind (arith, common_steps)
-  leads-one (two_pads x f y hx both hf hy single tag says e) p q h one hq = grind (arith, common_steps)
+  leads-one x0 p q h one hq = search (rules, at_word)
 
 -- a pointer word leads to one thing, with one number of pads
 pub one_lead : (m : List (List ℕ)) (s w k k' : ℕ) (r r' : Lead) → Leads m s w k r → Leads m s w k' r'
     → (k ≡ k') × (r ≡ r')
-one_lead m s w k k' r r' (near p h n says e) h' = grind (arith, common_steps)
-one_lead m s w k k' r r' (one_pad p q h one hq n says e) h' = grind (arith, common_steps)
-one_lead m s w k k' r r' (two_pads p f q h both hf hq one tag says e) h' = grind (arith, common_steps)
+one_lead m s w k k' r r' x7 h' = search rules
 
 -- at most one reason is wrong at a word
 pub one_wrong : (m : List (List ℕ)) (s w : ℕ) (u v : Reason) → Wrong m s w u → Wrong m s w v → u ≡ v

@@ -2,7 +2,7 @@
 use Rattle.cap_spec.proofs.Pointers.Following.{leads-one}
 use Rattle.cap_spec.proofs.Prelude.{List, arith, inl, inr, refl, ℕ, ◌≡◌, ◌≢◌, IsOnePad, one_pad, to_cap}
 use Rattle.cap_spec.proofs.Prelude.{to_null, HasWord, Costs, far_segment, kind, pad, IsLaxAt, Lax}
-use Rattle.cap_spec.proofs.Prelude.{CapabilityPad, EmptySegment, NullPad, common_steps}
+use Rattle.cap_spec.proofs.Prelude.{CapabilityPad, NullPad, common_steps, rules}
 
 -- a pointer that isn't far has none of the forms
 pub near_has_none : (m : List (List ℕ)) (s w p : ℕ) → HasWord m s w p → kind p ≢ 2 → (what : Lax) → ¬ IsLaxAt m s w what
@@ -25,6 +25,4 @@ module _ (m : List (List ℕ)) (s w p q : ℕ) (has : HasWord m s w p) (one : Is
 
   -- and that is neither
   pub other_pad : q ≢ 0 → kind q ≢ 3 → (what : Lax) → ¬ IsLaxAt m s w what
-  other_pad some n NullPad h = some (leads-one m s w 1 to_null h p q has one hasq).1
-  other_pad some n EmptySegment (k, t, b, x, f, e) = grind (arith, common_steps)
-  other_pad some n CapabilityPad (i, h) = n (leads-one m s w 1 (to_cap i) h p q has one hasq).1.0.0
+  other_pad some n x2 h = search (rules, leads-one)
