@@ -659,10 +659,11 @@ capvet_answer capvet_pointer_path(const uint8_t *bytes, size_t length, const cap
  *   text, text_size  where to write the lines: CAPVET_EXPLANATION_BOUND bytes always suffice
  *   required         their length in bytes
  *
- * The text is the lines that the program's command `explain` writes after the line of the verdict. They give the
- * path to the pointer that capvet_vet names, and its place in bytes. Then come the pointer word with its fields,
- * where it leads, what is exceeded, and the reason as a sentence. docs/output.md describes them. Each line begins with two blanks and ends
- * with a line feed. The text is ASCII, and has no zero byte at its end.
+ * The text is the lines that the program's command `explain` writes after the line of the verdict, without the byte
+ * in the input. They give the path to the pointer that capvet_vet names, and its place in bytes. Then come the
+ * pointer word with its fields, where it leads, what is exceeded, and the reason as a sentence. docs/output.md
+ * describes them. Each line begins with two blanks and ends with a line feed. The text is ASCII, and has no zero
+ * byte at its end.
  *
  * CAPVET_OK DOES NOT MEAN THAT THE MESSAGE IS ACCEPTED: it means that a text was written. Returns CAPVET_NO_NODE if
  * the message is accepted, and the answer of capvet_vet if there is no frame or if bytes follow it. Otherwise
@@ -671,7 +672,7 @@ capvet_answer capvet_pointer_path(const uint8_t *bytes, size_t length, const cap
  *
  * Overlaps are not looked for. For CAPVET_OVERLAP, capvet_pointer_path gives the path.
  *
- * Cost: two walks up to the pointer. */
+ * Cost: two walks up to the pointer, and a third one for CAPVET_WORD_LIMIT. */
 CAPVET_CALL((3, 6, 7))
 capvet_answer capvet_explain(const uint8_t *bytes, size_t length, const capvet_limits *limits, char *text,
                              size_t text_size, size_t *required, capvet_report *report) CAPVET_NOEXCEPT;

@@ -8,6 +8,9 @@ the words of the message alone. Messages of a fixed seed are changed or made up:
 goes through the program once with one of the lines of OPTIONS. Each reason has to be among the refusals, as often as LEAST says
 for 6,000 messages.
 
+Streams that break off go through the program too, plain and packed, a fifth as many. Its lines on their ends are compared
+with what this script finds in their bytes.
+
 tests/c/explain.c explains each of these messages too, with the limits and flags of the same options, and buffers of various
 sizes. It writes the lines after that of the verdict. It looks for no overlap. The last line is 'N passed, M failed', and the
 status is 1 if a case failed.
@@ -157,11 +160,22 @@ def path_to(message, number):
         ahead += reversed(below(model.followed(message, *place), path))
 
 
-def pointer_lines(message, segment, at):
-    """The lines on a pointer word, its landing pad, and its target."""
+def charge_to(message, number):
+    """What following the first pointers in preorder costs, up to the one of this number."""
+    ahead, charge = [("", (0, 0))], 0
+    for _ in range(number):
+        path, place = ahead.pop()
+        found = model.followed(message, *place)
+        charge += found.charge
+        ahead += reversed(below(found, path))
+    return charge
+
+
+def pointer_lines(message, segment, at, start):
+    """The lines on a pointer word, its landing pad, and its target. The message begins at a byte of an input, or at none."""
     word = message[segment][at]
-    table = len(message) // 2 + 1
-    yield f"byte {8 * (table + sum(map(len, message[:segment])) + at)} of the message"
+    byte = 8 * (len(message) // 2 + 1 + sum(map(len, message[:segment])) + at)
+    yield f"byte {byte} of the message" + ("" if start is None else f", byte {start + byte} of the input")
     yield f"pointer {hexed(word)} {form(word)}"
     landing = pads(message, word)
     for place in landing:
@@ -202,21 +216,21 @@ def elements_line(message, segment, at):
     return f"elements need words {needed}, list has words {bits(shape, 35, 29)}"
 
 
-def explanation(message, reason, segment, at, pointers, words, depth):
+def explanation(message, reason, segment, at, pointers, words, depth, start):
     if reason not in ("NoRoot", "ManySegments"):
         yield f"path {path_to(message, pointers)}"
-        yield from pointer_lines(message, segment, at)
+        yield from pointer_lines(message, segment, at, start)
     if reason == "CompositeOverrun":
         yield elements_line(message, segment, at)
     if reason == "DepthLimit":
         yield f"limit level {depth + 1}, at most {depth}"
     if reason == "WordLimit":
-        yield f"limit charge, at most {words}"
+        yield f"limit charge {charge_to(message, pointers)}, at most {words}"
     yield f"reason {sentence(message, reason, segment, at)}"
 
 
-def lines_of(number, message, options):
-    """All lines of a message, and the reason if it is refused."""
+def lines_of(number, message, options, start):
+    """All lines of a message that begins at this byte of an input, or at none, and the reason if it is refused."""
     words = int(options[options.index("--words") + 1]) if "--words" in options else 8388608
     depth = int(options[options.index("--depth") + 1]) if "--depth" in options else 64
     if "--unamplified" in options:
@@ -230,7 +244,7 @@ def lines_of(number, message, options):
     except model.Refused as refused:
         answer, segment, at, pointers = refused.args
         reason = answer.title().replace("_", "") if answer.isupper() else answer
-        lines = explanation(message, reason, segment, at, pointers, words, depth)
+        lines = explanation(message, reason, segment, at, pointers, words, depth, start)
         return [f"message {number}: refused {reason} at {segment}:{at} pointers {pointers}", *(f"  {it}" for it in lines)], reason
     return [f"message {number}: accepted charge {tree.charge} depth {tree.depth} pointers {tree.pointers} "
             f"caps {tree.capabilities}"], "accepted"
@@ -313,13 +327,110 @@ def compare_lines(options, stream, first, seen):
     out, err, status = outputs([PROGRAM, "explain", *words], packed(given) if "--packed" in words else given)
     got = re.split(r"^(?=message )", out.decode(), flags=re.M)[1:]
     compare(f"{options}: messages from {first}", (len(stream), b""), (len(got), err))
-    reasons = Counter()
+    reasons, start = Counter(), 0
     for number, (frame, text) in enumerate(zip(stream, got)):
-        lines, reason = lines_of(number, segments_of(frame), words)
+        lines, reason = lines_of(number, segments_of(frame), words, start)
+        start += len(frame)
         reasons[reason] += 1
         compare(f"capvet explain {options}, {frame.hex()[:400]}", "\n".join(lines) + "\n", text)
     compare(f"the status with {options}", int(reasons.total() > reasons["accepted"]), status)
     seen += reasons
+
+
+# Streams that break off
+
+def words_of_input(text, is_packed):
+    """The words of an input, each with the place after it, and whether the input ends inside a word or a packed group."""
+    if not is_packed:
+        return [(text[at:at + 8], at + 8) for at in range(0, len(text) - 7, 8)], len(text) % 8 > 0
+    words, at = [], 0
+    while at < len(text):
+        tag = text[at]
+        head = at + 1 + tag.bit_count() + (tag in (0x00, 0xff))
+        if head > len(text):
+            return words, True
+        own = iter(text[at + 1:head])
+        words.append((bytes(next(own) if tag >> place & 1 else 0 for place in range(8)), head))
+        more, at = text[head - 1] if tag in (0x00, 0xff) else 0, head
+        for _ in range(more):
+            if tag and at + 8 > len(text):
+                return words, True
+            words.append((text[at:at + 8] if tag else bytes(8), at + 8 if tag else at))
+            at += 8 if tag else 0
+    return words, False
+
+
+def table_of(words):
+    """How many segments the table at the start of words gives, how many words it has, and the sizes, if they are all there."""
+    if not words:
+        return None, None, None
+    count = struct.unpack_from("<I", words[0][0])[0] + 1
+    long = count // 2 + 1
+    if count > 512 or len(words) < long:
+        return count, long, None
+    return count, long, struct.unpack_from(f"<{count}I", b"".join(word for word, _ in words[:long]), 4)
+
+
+def break_lines(text, is_packed, limit):
+    """How many messages of an input are whole, and what standard error says of the one at which it breaks off, if it does."""
+    words, is_cut = words_of_input(text, is_packed)
+    number, start = 0, 0
+    while words or is_cut:
+        count, long, sizes = table_of(words)
+        where = f"  message at byte {start} of the input"
+        if count is not None and count > 512:
+            return number, [f"capvet: message {number}: TooManySegments {count}", where, f"  limit segments {count}, at most 512",
+                            "  reason the first word of the message says more segments than a message may have"]
+        told = [] if sizes is None else [f"  table segments {count}, words {sum(sizes)}"]
+        if sizes is not None and sum(sizes) > limit:
+            return number, [f"capvet: message {number}: TooLarge {sum(sizes)}", where, *told,
+                            f"  limit words {sum(sizes)}, at most {limit}",
+                            "  reason the segments together have more words than the limit allows"]
+        if sizes is None or len(words) < long + sum(sizes):
+            needed = "" if sizes is None else f", needed {8 * (long + sum(sizes))}"
+            place = "segment table" if sizes is None else "segments"
+            end = ", and inside a word or a packed group" if is_cut else ", between two words"
+            return number, [f"capvet: message {number}: Truncated at byte {len(text)}", where, *told,
+                            f"  bytes there {len(text) - start}{needed}", f"  reason the input ends inside the {place}{end}"]
+        start, words, number = words[long + sum(sizes) - 1][1], words[long + sum(sizes):], number + 1
+    return number, []
+
+
+def broken_stream(chance, stream):
+    """A stream that often breaks off at one of its messages."""
+    text = b"".join(chance.choice(stream) for _ in range(chance.randrange(3)))
+    kind = chance.randrange(6)
+    if kind == 0:
+        # (a table of many segments, or of too many)
+        count = chance.choice((1, 2, 3, 511, 512, 513, 1 << 31))
+        sizes = struct.pack("<I", count - 1) + bytes(4 * chance.randrange(4)) + struct.pack("<I", chance.choice((0, 5, 1 << 25)))
+        text += sizes + bytes(-len(sizes) % 8) + bytes(8 * chance.randrange(300))
+    elif kind == 1:
+        text += chance.randbytes(chance.randrange(40))
+    elif text:
+        text = text[:chance.randrange(len(text))] if kind < 5 else text
+    return text
+
+
+def compare_breaks(stream, many):
+    """Runs of the program over streams that break off."""
+    chance, seen = random.Random("breaks"), Counter()
+    small = [frame for frame in stream if len(frame) < 2000]
+    for number in range(many):
+        text, limit = broken_stream(chance, small), chance.choice((8388608, 8388608, 3, 20))
+        is_packed, options = number % 2 == 1, ["--exclusive"] * (number % 3 == 0) + ["--size", str(limit)]
+        if is_packed:
+            text = packed(text + bytes(-len(text) % 8))
+            text = text[:chance.randrange(len(text) + 1)] if chance.random() < 0.7 else text
+        out, err, status = outputs([PROGRAM, "explain", *options, *["--packed"] * is_packed], text)
+        whole, lines = break_lines(text, is_packed, limit)
+        compare(f"capvet explain {options}, packed {is_packed}, {text.hex()[:400]}",
+                (whole, "".join(f"{line}\n" for line in lines)), (len(re.findall(rb"^message ", out, re.M)), err.decode()))
+        expect("the status of a stream that breaks off", not lines or status == 1, status)
+        seen[re.sub(r"\d+", "N", " ".join((lines or ["whole"])[0].split()[3:4] + lines[-1:]))] += 1
+    for name, times in sorted(seen.items()):
+        print(f"{times} {name}")
+    expect("each end of a stream", len(seen) >= 7 and min(seen.values()) >= many // 200, seen)
 
 
 def limits_of(words):
@@ -332,7 +443,7 @@ def limits_of(words):
 
 def told_of(frame, words):
     """The text on a message and the place of the refusal, or nothing and zeros if it is accepted."""
-    lines, reason = lines_of(0, segments_of(frame), words)
+    lines, reason = lines_of(0, segments_of(frame), words, None)
     if reason == "accepted":
         return "", (0, 0, 0)
     return "".join(f"{line}\n" for line in lines[1:]), tuple(map(int, re.findall(r"\d+", lines[0].partition(" at ")[2])))
@@ -375,6 +486,7 @@ def main():
     for at in range(0, len(stream), RUN):
         compare_lines(OPTIONS[at // RUN % len(OPTIONS)], stream[at:at + RUN], at, seen)
     explained_in_c(stream)
+    compare_breaks(stream, MANY // 5)
     for reason, least in LEAST.items():
         expect(f"{reason} among the refusals", seen[reason] >= least, f"{seen[reason]} times, and not {least}")
     print(", ".join(f"{reason} {count}" for reason, count in sorted(seen.items())))

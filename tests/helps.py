@@ -115,11 +115,12 @@ Options:
   -h, --help         Print help
 
 After the line of 'vet', a refused message has lines that explain the refusal. They begin with the
-path to the pointer, as 'get' takes it, and the byte of the pointer in the message. Then comes the
-pointer word with its form and its fields, and so does each word of its landing pad. The next lines
-have the words of its target, its tag if it is a list of structs, and the length of that segment.
-The last ones have what is exceeded, if something is, and the reason as a sentence. The options are
-those of 'vet'.
+path to the pointer, as 'get' takes it, and the byte of the pointer in the message and in the input.
+Then comes the pointer word with its form and its fields, and so does each word of its landing pad.
+The next lines have the words of its target, its tag if it is a list of structs, and the length of
+that segment. The last ones have what is exceeded, if something is, and the reason as a sentence.
+If the input is no stream of messages, lines on standard error say why, after that of the fault. The
+options are those of 'vet'.
 
 'pointers N' counts the pointers that were looked at, the named one included. In a path, pN is
 pointer N and iN is element N, both counted from 0. A place is SEGMENT:WORD, both counted from 0,
@@ -129,7 +130,7 @@ Example:
   $ capvet explain --depth 3 examples/contacts.bin
   message 0: refused DepthLimit at 0:7 pointers 3
     path /p0/i0/p0
-    byte 64 of the message
+    byte 64 of the message, byte 64 of the input
     pointer bd0000000a010000 list of bytes, offset 47, elements 33
     target 0:55 to 0:59, words 5
     segment 0, words 392

@@ -2,6 +2,7 @@
 tests/js.py runs it. tests/js/answers.mjs answers."""
 import json
 import random
+import re
 import subprocess
 from dataclasses import dataclass
 
@@ -37,7 +38,8 @@ class Request:
 def written(words, stream):
     """What the program writes to standard output, and the first line of its standard error."""
     ran = subprocess.run([PROGRAM, *words.split()], input=stream, capture_output=True)
-    return ran.stdout + ran.stderr.split(b"\n")[0] + b"\n" * bool(ran.stderr)
+    # (the library explains one message, which is in no input)
+    return re.sub(rb", byte \d+ of the input", b"", ran.stdout) + ran.stderr.split(b"\n")[0] + b"\n" * bool(ran.stderr)
 
 
 def cut(chance, length):

@@ -7,8 +7,9 @@ import "unsafe"
 
 // Explain returns why Vet does not accept the message b, as lines for a log: the path to the pointer that the Refusal
 // names, its place in bytes, the pointer word with its fields, where it leads, what is exceeded, and the reason as a
-// sentence. They are the lines that the program capvet explain writes after the line of the verdict. Each begins with two
-// blanks and ends with a line feed. The message is vetted again, so b and l have to be those of the refusal.
+// sentence. They are the lines that the program capvet explain writes after the line of the verdict, without the byte in
+// its input. Each begins with two blanks and ends with a line feed. The message is vetted again, so b and l have to be those
+// of the refusal.
 //
 // It is "" if Vet accepts the message. Overlaps are not looked for. The Path of such a Refusal is found all the same.
 //

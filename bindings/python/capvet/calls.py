@@ -77,9 +77,9 @@ def vet_segments(segments: Sequence[Buffer], *, limits: Limits = DEFAULT) -> Rep
 def explain(data: Buffer, *, limits: Limits = DEFAULT) -> Optional[str]:
     """Return why vet() raises Refusal for a message, as lines for a log; None if the message is accepted.
 
-    The lines are those that the program `capvet explain` writes after the line of the verdict: the path to the pointer that
-    the refusal names, its place in bytes, the pointer word with its fields, where it leads, what is exceeded, and the
-    reason as a sentence. Each begins with two blanks and ends with a line feed. Overlaps are not looked for; Refusal.path()
+    The lines are those that the program `capvet explain` writes after the line of the verdict, without the byte in its
+    input: the path to the pointer that the refusal names, its place in bytes, the pointer word with its fields, where it
+    leads, what is exceeded, and the reason as a sentence. Each begins with two blanks and ends with a line feed. Overlaps are not looked for; Refusal.path()
     has the path to the pointer of one.
 
     Vets the message again: pass the data and the limits of the refusal. Raises FrameError.

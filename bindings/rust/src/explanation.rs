@@ -44,7 +44,8 @@ impl Eq for Explanation {}
 
 /// Returns why the message that `bytes` are isn't accepted, as lines for a log, or `None` if it is accepted.
 ///
-/// The lines are those that the program's command `explain` writes after the line of the verdict. They give the path to the
+/// The lines are those that the program's command `explain` writes after the line of the verdict, without the byte in the
+/// input. They give the path to the
 /// pointer that the refusal names, its place in bytes, the pointer word with its fields, where it leads, what is exceeded,
 /// and the reason as a sentence. The message is vetted again, so give the bytes and the limits of the refusal. It allocates
 /// nothing.
@@ -115,7 +116,7 @@ mod tests {
   pointer 0100000010800000 list of empty elements, offset 0, elements 4098
   target 0:1, words 0
   segment 0, words 1
-  limit charge, at most 4097
+  limit charge 4098, at most 4097
   reason the charge up to this pointer and its target is more than the limit
 ";
         assert_eq!(lines(&AMPLIFIED, Limits::DEFAULT), wanted);

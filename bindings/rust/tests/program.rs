@@ -177,8 +177,18 @@ fn explanations_are_those_of_the_program() {
         let options = [&["explain"][..], options].concat();
         let (printed, status) = program("explain", &options, &known.concat());
         assert_eq!(status, Some(1));
-        assert!(printed == text.into_bytes(), "{options:?}");
+        assert!(without_input(&printed) == text, "{options:?}");
     }
+}
+
+// The lines of the program, without what they say of the input: the library explains one message, which is in none.
+fn without_input(printed: &[u8]) -> String {
+    let text = std::str::from_utf8(printed).expect("the lines are UTF-8");
+    let lines = text.lines().map(|line| match line.split_once(", byte ") {
+        Some((message, _)) => message,
+        None => line,
+    });
+    lines.map(|line| line.to_string() + "\n").collect()
 }
 
 #[test]

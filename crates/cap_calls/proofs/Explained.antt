@@ -1,17 +1,48 @@
 -- The bytes and the buffer decide what the call that explains a refusal finds and writes.
-use Rattle.std.proofs.Common.{Bool, List, Option, ap, arith, not, subst, sym, ℕ, ◌∙◌, ◌≡◌, ◌≤◌}
+use Rattle.std.proofs.Common.{Bool, List, None, Option, Some, ap, arith, inr, not, subst, sym, ℕ, ◌∙◌, ◌≡◌, ◌≤◌}
+use Rattle.cap_spec.specs.declared.Refusal.{Refusal}
+use Rattle.cap_spec.specs.declared.StrictRefusal.TheVariants.{Refused}
 use Rattle.cap_vet.specs.Demands.{IsDemandFault, words_under}
+use Rattle.cap_vet.specs.Limits.{depth_of, words_of}
+use Rattle.cap_vet.specs.declared.limits.Limits.{Limits}
+use Rattle.cap_explain.specs.Charges.{ChargeOf, fault_charge}
+use Rattle.cap_explain.specs.declared.numbers.Numbers.{Numbers}
+use Rattle.cap_explain.proofs.Charges.{OnePath, charge_is, one_fault_charge}
+use Rattle.cap_trace.specs.NamedPaths.{fault_path}
 use Rattle.cap_explain.specs.Explaining.{explanation}
 use Rattle.cap_trace.proofs.Named.{one_path}
 use Rattle.cap_calls.specs.CallFindings.{without}
 use Rattle.cap_calls.specs.CallReports.{refused_report}
-use Rattle.cap_calls.specs.ExplainCalls.{FindsFewLines, FindsLines, TellsExplanation, accepted, explained, fault_lines}
+use Rattle.cap_calls.specs.ExplainCalls.{FindsFewLines, FindsLines, TellsExplanation, accepted, explained, fault_lines, fault_numbers}
 use Rattle.cap_calls.specs.Prelude.{Step, StrictRefusal, Demands, framed, tells, trailing, allows_trailing, demands_of}
 use Rattle.cap_calls.specs.Prelude.{TellsInput, of_frame, of_no_words, of_words, TellsText, Answer, Found, CallLimits}
 use Rattle.cap_calls.specs.Prelude.{CallReport}
 use Rattle.cap_calls.proofs.Answers.{meets_no_fault, one_demand_fault, one_input_told, one_returned}
 use Rattle.cap_calls.proofs.Copied.{same_found}
 use Rattle.cap_calls.proofs.Texts.{one_text}
+
+-- a refusal names one path
+one_path_of : (demands : Demands) (m : List (List ℕ)) (words depth : ℕ) (r : Refusal) → OnePath m (words_under demands m words) depth r
+one_path_of demands m words depth r k f = same_path k.path f.path (one_path demands m words depth (Refused r) (inr k) (inr f))
+  where
+    same_path : (p q : List Step) → ◌≡◌ {A = Option (List Step)} (Some p) (Some q) → p ≡ q
+    same_path p q e = cc
+
+-- the numbers of a fault
+pub same_numbers : (demands : Demands) (m : List (List ℕ)) (words depth : ℕ) (fault : StrictRefusal)
+    (h : IsDemandFault demands m words depth fault) (within : Limits) (k : Numbers)
+    → words_of within ≡ words_under demands m words → depth_of within ≡ depth → k.words ≡ words_of within → k.depth ≡ depth_of within
+    → ChargeOf m (words_of within) (depth_of within) fault k.charge → k.start ≡ None
+    → k ≡ fault_numbers demands m words depth fault h
+same_numbers demands m words depth fault h within k w d kw kd c s =
+    let at = subst (λ n. ChargeOf m (words_under demands m words) n fault k.charge) d
+    (subst (λ n. ChargeOf m n (depth_of within) fault k.charge) w c) in
+    let charge = charge_is demands m words depth fault (one_path_of demands m words depth) h k.charge at in
+    let make : ℕ → ℕ → Option ℕ → Option ℕ → Numbers = λ w d c s. record { words = w; depth = d; charge = c; start = s } in
+    ap (λ x. make x k.depth k.charge k.start) (kw ∙ w)
+    ∙ (ap (λ x. make (words_under demands m words) x k.charge k.start) (kd ∙ d)
+    ∙ (ap (λ x. make (words_under demands m words) depth x k.start) charge
+    ∙ ap (λ x. make (words_under demands m words) depth (fault_charge demands m words depth fault h) x) s))
 
 module _ (demands : Demands) (m : List (List ℕ)) (words depth : ℕ) where
   -- A fault has one explanation.
@@ -21,8 +52,11 @@ module _ (demands : Demands) (m : List (List ℕ)) (words depth : ℕ) where
   one_explanation r q e =
       subst (λ (u : StrictRefusal). (h : IsDemandFault demands m words depth r) (k : IsDemandFault demands m words depth u)
       → fault_lines demands m words depth r h ≡ fault_lines demands m words depth u k) e
-      (λ h k. ap (λ (path : Option (List Step)). explanation path m r (words_under demands m words) depth)
-      (one_path demands m words depth r h k))
+      (λ h k. ap (λ (path : Option (List Step)). explanation path m r (fault_numbers demands m words depth r h))
+      (one_path demands m words depth r h k)
+      ∙ ap (λ (charge : Option ℕ). explanation (fault_path demands m words depth r k) m r
+      (record { words = words_under demands m words; depth = depth; charge = charge; start = None }))
+      (one_fault_charge demands m words depth r (one_path_of demands m words depth) h k))
 
   one_lines : (old x y : List ℕ) (f g : Found) → FindsLines old x demands m words depth f
       → FindsLines old y demands m words depth g → (f ≡ g) × (x ≡ y)

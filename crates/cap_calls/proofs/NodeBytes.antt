@@ -1,10 +1,12 @@
 -- The bytes of a node are inside its frame.
 use Rattle.cap_spec.specs.declared.Kind.TheVariants.{Pointers}
-use Rattle.cap_spec.proofs.Lemmas.{extent_scalars, one_word, extent_struct, extent_structs, word_within}
-use Rattle.cap_spec.proofs.Prelude.{List, [], ap, arith, inl, inr, length, mul-le-mul_right, subst, sym, ℕ, ◌*◌, ◌+◌}
-use Rattle.cap_spec.proofs.Prelude.{◌/◌, ◌<◌, ◌∙◌, ◌∷◌, ◌≡◌, ◌≤◌, cases_lt, ⊤, HasObject, segment_of, HasPlace, IsPlace}
-use Rattle.cap_spec.proofs.Prelude.{PathLeads, ReachesSpot, Spot, StepsTo, element, word, data_size, element_bits}
-use Rattle.cap_spec.proofs.Prelude.{list_size, list_words, middle, pointer_size}
+use Rattle.cap_spec.proofs.Lemmas.{structs_words, word_within}
+use Rattle.cap_spec.proofs.Pointers.Shapes.{scalars_words, struct_words}
+use Rattle.cap_spec.proofs.Prelude.{List, [], arith, inl, inr, length, mul-le-mul_right, subst, sym, ℕ, ◌*◌, ◌+◌}
+use Rattle.cap_spec.proofs.Prelude.{◌/◌, ◌<◌, ◌∷◌, ◌≤◌, cases_lt, ⊤, HasObject, segment_of, HasPlace, IsPlace}
+use Rattle.cap_spec.proofs.Prelude.{PathLeads, ReachesSpot, Spot, StepsTo, element, word, element_bits}
+use Rattle.cap_spec.proofs.Prelude.{list_size, list_words}
+use Rattle.cap_spec.proofs.Trees.Charges.{elements_fit}
 use Rattle.cap_calls.specs.Prelude.{Kind, Cap, Null, Scalars, Struct, Structs, Step, Item, Ptr, kind_node, offset_of}
 
 -- The words of an element are inside their segment.
@@ -13,18 +15,16 @@ IsElementInside m (word s w) = ⊤
 IsElementInside m (element t b ds ps) = (t < length m) × (b + (ds + ps) ≤ length (segment_of m t))
 
 step_inside : (m : List (List ℕ)) (a : Spot) (step : Step) (b : Spot) → StepsTo m a step b → IsElementInside m b
-step_inside m (word s w) (Ptr i) b (k, t, b', q, finds, is_struct, less, ends) =
+step_inside m (word s w) (Ptr i) b (k, t, b', q, tag, ds, ps, found, less, ends) =
     subst (λ (z : Spot). IsElementInside m z) (sym ends) tt
-step_inside m (word s w) (Item i) b (inl (k, t, b', q, finds, is_list, of_pointers, less, ends)) =
+step_inside m (word s w) (Item i) b (inl (k, t, b', q, tag, n, found, less, ends)) =
     subst (λ (z : Spot). IsElementInside m z) (sym ends) tt
-step_inside m (word s w) (Item i) b (inr (k, t, c, q, tag, finds, list, code, has, less, e)) =
-    let fits = finds.sits.composite (list, code) in
-    let room : middle tag * (data_size tag + pointer_size tag) ≤ list_size q =
-    subst (λ u. middle u * (data_size u + pointer_size u) ≤ list_size q) (one_word m t c fits.0 tag fits.1 has) fits.2.1 in
-    let some : (i + 1) * (data_size tag + pointer_size tag) ≤ middle tag * (data_size tag + pointer_size tag) =
-    mul-le-mul_right (data_size tag + pointer_size tag) (omega (arith, less)) in
-    subst (λ (z : Spot). IsElementInside m z) (sym e)
-    (finds.sits.exists, omega (arith, some, room, extent_structs q list code, finds.sits.inside))
+step_inside m (word s w) (Item i) b (inr (k, t, c, q, tag, n, ds, ps, found, less, ends)) =
+    let room : n * (ds + ps) ≤ list_size q = omega (arith, elements_fit found) in
+    let some : (i + 1) * (ds + ps) ≤ n * (ds + ps) = mul-le-mul_right (ds + ps) (omega (arith, less)) in
+    let inside = found.finds.inside in
+    subst (λ (z : Spot). IsElementInside m z) (sym ends)
+    (inside.exists, omega (arith, some, room, structs_words found.shape, inside.inside))
 step_inside m (element t b ds ps) (Ptr i) c g = subst (λ (z : Spot). IsElementInside m z) (sym g.1) tt
 step_inside m (element t b ds ps) (Item i) c g = absurd g
 
@@ -39,7 +39,7 @@ comes_inside m path level a c = walk_inside m (word 0 0) path c.1 a tt c.3
 -- The words of the place of a path are inside their segment.
 stands_inside : (m : List (List ℕ)) (a : Spot) (t b n : ℕ) → IsElementInside m a → HasPlace m a t b n
     → (t < length m) × (b + n ≤ length (segment_of m t))
-stands_inside m (word s w) t b n h (k, q, finds, e) = (finds.sits.exists, omega (arith, e, finds.sits.inside))
+stands_inside m (word s w) t b n h (k, q, finds, e) = (finds.inside.exists, omega (arith, e, finds.inside.inside))
 stands_inside m (element u v ds ps) t b n h (e, f, g) = rw (e, f, g) h
 
 pub place_inside : (m : List (List ℕ)) (path : List Step) (t b n : ℕ) → IsPlace m path t b n
@@ -63,23 +63,18 @@ module _ (m : List (List ℕ)) (frame : ℕ)
       → (kind_node k (offset_of m t b)).offset + (kind_node k (offset_of m t b)).length ≤ frame
   node_within (word s w) Null t b n h f = omega arith
   node_within (word s w) (Cap i) t b n h f = omega arith
-  node_within (word s w) (Struct d p) t b n h (x, q, tag, f) =
-      let r = bound t b n f.finds.sits.exists (omega (arith, f.words, f.finds.sits.inside)) in
-      omega (arith, r, f.words, f.shape.data_words, extent_struct q f.shape.kind)
-  node_within (word s w) (Scalars c y) t b n h (x, q, tag, f) =
-      let r = bound t b n f.finds.sits.exists (omega (arith, f.words, f.finds.sits.inside)) in
-      let words : n ≡ list_words c y =
-      f.words ∙ (extent_scalars q c f.shape.kind f.shape.code f.shape.scalar ∙ sym (ap (list_words c) f.shape.count)) in
-      omega (arith, r, words, value_bytes c y)
-  node_within (word s w) (Pointers y) t b n h (x, q, tag, f) =
-      let r = bound t b n f.finds.sits.exists (omega (arith, f.words, f.finds.sits.inside)) in omega (arith, r)
-  node_within (word s w) (Structs y d p) t b n h (x, q, tag, f) =
-      let r = bound t b n f.finds.sits.exists (omega (arith, f.words, f.finds.sits.inside)) in
-      let fits = f.finds.sits.composite (f.shape.kind, f.shape.code) in
-      let room : middle tag * (data_size tag + pointer_size tag) ≤ list_size q =
-      subst (λ u. middle u * (data_size u + pointer_size u) ≤ list_size q) (one_word m t b fits.0 tag fits.1 (f.tagged (f.shape.kind, f.shape.code))) fits.2.1 in
-      let few : y * (d + p) ≤ list_size q = rw (f.shape.count, f.shape.data_words, f.shape.pointers) room in
-      omega (arith, r, few, f.words, extent_structs q f.shape.kind f.shape.code)
+  node_within (word s w) (Struct d p) t b n h (x, q, tag, f, e) =
+      let r = bound t b n f.finds.inside.exists (omega (arith, e, f.finds.inside.inside)) in
+      omega (arith, r, e, struct_words f.shape)
+  node_within (word s w) (Scalars c y) t b n h (x, q, tag, f, e) =
+      let r = bound t b n f.finds.inside.exists (omega (arith, e, f.finds.inside.inside)) in
+      omega (arith, r, e, scalars_words f.shape, value_bytes c y)
+  node_within (word s w) (Pointers y) t b n h (x, q, tag, f, e) =
+      let r = bound t b n f.finds.inside.exists (omega (arith, e, f.finds.inside.inside)) in omega (arith, r)
+  node_within (word s w) (Structs y d p) t b n h (x, q, tag, f, e) =
+      let r = bound t b n f.finds.inside.exists (omega (arith, e, f.finds.inside.inside)) in
+      let few : y * (d + p) ≤ list_size q = omega (arith, elements_fit f) in
+      omega (arith, r, few, e, structs_words f.shape)
   node_within (element u v ds ps) (Struct d p) t b n h f =
       let g : (t < length m) × (b + (ds + ps) ≤ length (segment_of m t)) = rw (f.segment, f.start) h in
       let r = bound t b (ds + ps) g.0 g.1 in

@@ -1,58 +1,23 @@
 -- One node is at a path.
 use Rattle.cap_spec.specs.declared.Kind.TheVariants.{Pointers}
-use Rattle.cap_spec.proofs.Lemmas.{one_word, one_coming, one_lead, one_object}
-use Rattle.cap_spec.proofs.Prelude.{List, ap, ap₂, arith, pos, refl, subst, sym, ℕ, ◌<◌, ◌∙◌, ◌≡◌, HasObject, PathFinds}
-use Rattle.cap_spec.proofs.Prelude.{Finds, Leads, to_cap, to_null, to_object, HasWord, Spot, element, word, code}
-use Rattle.cap_spec.proofs.Prelude.{data_size, kind, list_size, middle, pointer_size}
+use Rattle.cap_spec.proofs.Lemmas.{one_coming, one_lead, one_found}
+use Rattle.cap_spec.proofs.Prelude.{List, ap, ap₂, pos, refl, subst, sym, ℕ, ◌∙◌, ◌≡◌, HasObject, PathFinds, FindsKind}
+use Rattle.cap_spec.proofs.Prelude.{Leads, to_cap, to_null, to_object, Spot, element, word}
 use Rattle.cap_calls.specs.Prelude.{Kind, Cap, Null, Scalars, Struct, Structs, Step, kind_node, offset_of, CallNode}
-
--- the kind of an object of shape q
-data KindOf (m : List (List ℕ)) (t b q : ℕ) (k : Kind) : Type 0 where
-  struct : kind q ≡ 0 → k ≡ Struct (data_size q) (pointer_size q) → KindOf m t b q k
-  scalars : kind q ≡ 1 → code q < 6 → k ≡ Scalars (code q) (list_size q) → KindOf m t b q k
-  pointers : kind q ≡ 1 → code q ≡ 6 → k ≡ Pointers (list_size q) → KindOf m t b q k
-  structs : (tag : ℕ) → kind q ≡ 1 → code q ≡ 7 → HasWord m t b tag
-      → k ≡ Structs (middle tag) (data_size tag) (pointer_size tag) → KindOf m t b q k
-
-one_kind : (m : List (List ℕ)) (t b q : ℕ) (k k' : Kind) → KindOf m t b q k → KindOf m t b q k' → k ≡ k'
-one_kind m t b q k k' (struct a e) (struct a' e') = e ∙ sym e'
-one_kind m t b q k k' (struct a e) (scalars a' c' e') = absurd (omega (arith, a, a'))
-one_kind m t b q k k' (struct a e) (pointers a' c' e') = absurd (omega (arith, a, a'))
-one_kind m t b q k k' (struct a e) (structs g a' c' h' e') = absurd (omega (arith, a, a'))
-one_kind m t b q k k' (scalars a c e) (struct a' e') = absurd (omega (arith, a, a'))
-one_kind m t b q k k' (scalars a c e) (scalars a' c' e') = e ∙ sym e'
-one_kind m t b q k k' (scalars a c e) (pointers a' c' e') = absurd (omega (arith, c, c'))
-one_kind m t b q k k' (scalars a c e) (structs g a' c' h' e') = absurd (omega (arith, c, c'))
-one_kind m t b q k k' (pointers a c e) (struct a' e') = absurd (omega (arith, a, a'))
-one_kind m t b q k k' (pointers a c e) (scalars a' c' e') = absurd (omega (arith, c, c'))
-one_kind m t b q k k' (pointers a c e) (pointers a' c' e') = e ∙ sym e'
-one_kind m t b q k k' (pointers a c e) (structs g a' c' h' e') = absurd (omega (arith, c, c'))
-one_kind m t b q k k' (structs g a c h e) (struct a' e') = absurd (omega (arith, a, a'))
-one_kind m t b q k k' (structs g a c h e) (scalars a' c' e') = absurd (omega (arith, c, c'))
-one_kind m t b q k k' (structs g a c h e) (pointers a' c' e') = absurd (omega (arith, c, c'))
-one_kind m t b q k k' (structs g a c h e) (structs g' a' c' h' e') =
-    let same = one_word m t b g g' h h' in
-    e ∙ ap (λ (x : ℕ). Structs (middle x) (data_size x) (pointer_size x)) same ∙ sym e'
 
 -- what a pointer word leads to
 data Seen (m : List (List ℕ)) (s w : ℕ) (k : Kind) (t b : ℕ) : Type 0 where
   null : (x : ℕ) → Leads m s w x to_null → k ≡ Null → Seen m s w k t b
   cap : (x i : ℕ) → Leads m s w x (to_cap i) → k ≡ Cap i → Seen m s w k t b
-  object : (x q : ℕ) → Finds m s w x t b q → KindOf m t b q k → Seen m s w k t b
+  object : (x q tag : ℕ) → FindsKind m s w k x t b q tag → Seen m s w k t b
 
 seen : (m : List (List ℕ)) (s w : ℕ) (k : Kind) (t b n : ℕ) → HasObject m (word s w) k t b n → Seen m s w k t b
 seen m s w Null t b n (x, h) = null x h refl
 seen m s w (Cap i) t b n (x, h) = cap x i h refl
-seen m s w (Struct d p) t b n (x, q, tag, h) = object x q h.finds (struct h.shape.kind (ap₂ Struct h.shape.data_words h.shape.pointers))
-seen m s w (Scalars c y) t b n (x, q, tag, h) =
-    object x q h.finds (scalars h.shape.kind (omega (arith, h.shape.scalar, h.shape.code)) (ap₂ Scalars h.shape.code h.shape.count))
-seen m s w (Pointers y) t b n (x, q, tag, h) = object x q h.finds (pointers h.shape.kind h.shape.code (ap Pointers h.shape.count))
-seen m s w (Structs y d p) t b n (x, q, tag, h) =
-    object x q h.finds (structs tag h.shape.kind h.shape.code (h.tagged (h.shape.kind, h.shape.code)) (structs_of y d p tag h.shape.count h.shape.data_words h.shape.pointers))
-  where
-    structs_of : (y d p tag : ℕ) → y ≡ middle tag → d ≡ data_size tag → p ≡ pointer_size tag
-        → Structs y d p ≡ Structs (middle tag) (data_size tag) (pointer_size tag)
-    structs_of y d p tag e f g = cc
+seen m s w (Struct d p) t b n (x, q, tag, h, e) = object x q tag h
+seen m s w (Scalars c y) t b n (x, q, tag, h, e) = object x q tag h
+seen m s w (Pointers y) t b n (x, q, tag, h, e) = object x q tag h
+seen m s w (Structs y d p) t b n (x, q, tag, h, e) = object x q tag h
 
 -- a node by its kind and its place
 abbrev node_at : List (List ℕ) → Kind → ℕ → ℕ → CallNode
@@ -64,8 +29,8 @@ one_seen m s w k k' t b t' b' (null x h e) (null y g f) =
     ap (λ (z : Kind). node_at m z t b) e ∙ sym (ap (λ (z : Kind). node_at m z t' b') f)
 one_seen m s w k k' t b t' b' (null x h e) (cap y i g f) =
     let c : to_null ≡ to_cap i = (one_lead m s w x y to_null (to_cap i) h g).1 in absurd (cc c)
-one_seen m s w k k' t b t' b' (null x h e) (object y q g f) =
-    let c : to_null ≡ to_object t' (pos b') q = (one_lead m s w x y to_null (to_object t' (pos b') q) h g.leads).1 in absurd (cc c)
+one_seen m s w k k' t b t' b' (null x h e) (object y q tag g) =
+    let c : to_null ≡ to_object t' (pos b') q = (one_lead m s w x y to_null (to_object t' (pos b') q) h g.finds.leads).1 in absurd (cc c)
 one_seen m s w k k' t b t' b' (cap x i h e) (null y g f) =
     let c : to_cap i ≡ to_null = (one_lead m s w x y (to_cap i) to_null h g).1 in absurd (cc c)
 one_seen m s w k k' t b t' b' (cap x i h e) (cap y j g f) =
@@ -73,18 +38,15 @@ one_seen m s w k k' t b t' b' (cap x i h e) (cap y j g f) =
     let d : i ≡ j = cc in
     ap (λ (z : Kind). node_at m z t b) e ∙ ap (λ (z : ℕ). node_at m (Cap z) t b) d
     ∙ sym (ap (λ (z : Kind). node_at m z t' b') f)
-one_seen m s w k k' t b t' b' (cap x i h e) (object y q g f) =
-    let c : to_cap i ≡ to_object t' (pos b') q = (one_lead m s w x y (to_cap i) (to_object t' (pos b') q) h g.leads).1 in absurd (cc c)
-one_seen m s w k k' t b t' b' (object x q h e) (null y g f) =
-    let c : to_object t (pos b) q ≡ to_null = (one_lead m s w x y (to_object t (pos b) q) to_null h.leads g).1 in absurd (cc c)
-one_seen m s w k k' t b t' b' (object x q h e) (cap y i g f) =
-    let c : to_object t (pos b) q ≡ to_cap i = (one_lead m s w x y (to_object t (pos b) q) (to_cap i) h.leads g).1 in absurd (cc c)
-one_seen m s w k k' t b t' b' (object x q h e) (object y u g f) =
-    let o = one_object m s w x t b q y t' b' u h g in
-    let f' : KindOf m t b q k' = subst (λ z. KindOf m t b z k') (sym o.shape)
-    (subst (λ z. KindOf m t z u k') (sym o.start) (subst (λ z. KindOf m z b' u k') (sym o.segment) f)) in
-    ap (λ (z : Kind). node_at m z t b) (one_kind m t b q k k' e f')
-    ∙ ap₂ (λ (z v : ℕ). node_at m k' z v) o.segment o.start
+one_seen m s w k k' t b t' b' (cap x i h e) (object y q tag g) =
+    let c : to_cap i ≡ to_object t' (pos b') q = (one_lead m s w x y (to_cap i) (to_object t' (pos b') q) h g.finds.leads).1 in absurd (cc c)
+one_seen m s w k k' t b t' b' (object x q tag h) (null y g f) =
+    let c : to_object t (pos b) q ≡ to_null = (one_lead m s w x y (to_object t (pos b) q) to_null h.finds.leads g).1 in absurd (cc c)
+one_seen m s w k k' t b t' b' (object x q tag h) (cap y i g f) =
+    let c : to_object t (pos b) q ≡ to_cap i = (one_lead m s w x y (to_object t (pos b) q) (to_cap i) h.finds.leads g).1 in absurd (cc c)
+one_seen m s w k k' t b t' b' (object x q tag h) (object y u other g) =
+    let o = one_found h g in
+    ap (λ (z : Kind). node_at m z t b) o.kind ∙ ap₂ (λ (z v : ℕ). node_at m k' z v) o.segment o.start
 
 -- an element is a struct
 record IsElement (t' b' ds ps : ℕ) (k : Kind) (t b : ℕ) : Type 0 where

@@ -1,9 +1,11 @@
 -- What the call that explains a refusal returns and writes, from the bytes and the capacity alone (profile).
-use Rattle.std.specs.Prelude.{List, not, ℕ, ◌≡◌, ◌≤◌}
+use Rattle.std.specs.Prelude.{List, None, not, ℕ, ◌≡◌, ◌≤◌}
 use Rattle.cap_spec.specs.declared.StrictRefusal.{StrictRefusal}
 use Rattle.cap_vet.specs.Demands.{IsDemandFault, Meets, words_under}
 use Rattle.cap_vet.specs.declared.demands.Demands.{Demands}
+use Rattle.cap_explain.specs.Charges.{fault_charge}
 use Rattle.cap_explain.specs.Explaining.{explanation}
+use Rattle.cap_explain.specs.declared.numbers.Numbers.{Numbers}
 use Rattle.cap_trace.specs.NamedPaths.{fault_path}
 use Rattle.cap_calls.specs.CallBounds.{explanation_bound}
 use Rattle.cap_calls.specs.CallFindings.{Returns}
@@ -18,11 +20,21 @@ use Rattle.cap_calls.specs.declared.found.Found.{Found}
 use Rattle.cap_calls.specs.declared.limits.CallLimits.{CallLimits}
 use Rattle.cap_calls.specs.declared.report.CallReport.{CallReport}
 
+-- the limits of a message that doesn't meet the demands, and the charge that it needs
+abbrev pub fault_numbers : (demands : Demands) (m : List (List ℕ)) (words depth : ℕ) (fault : StrictRefusal)
+    → IsDemandFault demands m words depth fault → Numbers
+fault_numbers demands m words depth fault h = record {
+  words = words_under demands m words;
+  depth = depth;
+  charge = fault_charge demands m words depth fault h;
+  start = None;
+}
+
 -- the lines that explain why a message doesn't meet the demands, the path first
 abbrev pub fault_lines : (demands : Demands) (m : List (List ℕ)) (words depth : ℕ) (fault : StrictRefusal)
     → IsDemandFault demands m words depth fault → List ℕ
 fault_lines demands m words depth fault h =
-    explanation (fault_path demands m words depth fault h) m fault (words_under demands m words) depth
+    explanation (fault_path demands m words depth fault h) m fault (fault_numbers demands m words depth fault h)
 
 -- Of a message, for a buffer that held `old`, and then holds `new`: the lines that explain why the message doesn't meet the
 -- demands, or that it meets them.

@@ -2,15 +2,16 @@
 use Rattle.cap_spec.specs.Denoting.{places}
 use Rattle.cap_spec.proofs.Canonical.TrimmedMeasures.{tree_count-cut}
 use Rattle.cap_spec.proofs.Lemmas.{extent_scalars, children_needed_le, tree_count-take_le, tree_count-trim_all}
-use Rattle.cap_spec.proofs.Lemmas.{one_word, found_form, elements_depth, extent_pointers, extent_struct, extent_structs}
-use Rattle.cap_spec.proofs.Lemmas.{SameObject, one_object, HasForm, number_list, number_struct}
+use Rattle.cap_spec.proofs.Lemmas.{found_form, elements_depth, extent_pointers, extent_struct, extent_structs, one_found}
+use Rattle.cap_spec.proofs.Lemmas.{HasForm, number_list, number_struct}
 use Rattle.cap_spec.proofs.Prelude.{List, ap, arith, max, refl, subst, sym, take, ℕ, ◌*◌, ◌+◌, ◌<◌, ◌∙◌, ◌≡◌, ◌≤◌}
 use Rattle.cap_spec.proofs.Prelude.{children_needed, children_of, cut_elements, data_needed, data_of, take_trees, trim}
 use Rattle.cap_spec.proofs.Prelude.{trim_all, trim_elements, AreElements, DenoteEach, Denotes, values_of, words_from}
-use Rattle.cap_spec.proofs.Prelude.{TagFits, HasWord, code, data_size, kind, list_size, list_words, middle}
-use Rattle.cap_spec.proofs.Prelude.{pointer_size, Tree, Trees, cap, null, pointers, scalars, struct, structs}
+use Rattle.cap_spec.proofs.Prelude.{TagFits, HasWord, code, kind, list_size, list_words}
+use Rattle.cap_spec.proofs.Prelude.{Tree, Trees, cap, null, pointers, scalars, struct, structs}
 use Rattle.cap_spec.proofs.Trees.OneTree.{elements_moved}
 use Rattle.cap_ptr.specs.Shapes.{FindsObject}
+use Rattle.cap_vet.proofs.Founds.{object_at}
 use Rattle.cap_canon.specs.Found.{IsStructsAt}
 use Rattle.cap_canon.specs.Prelude.{IsStructAt, IsObject, most_data, Part}
 use Rattle.cap_canon.proofs.Children.{row_count}
@@ -23,7 +24,7 @@ use Rattle.cap_canon.specs.declared.objects.Object.TheVariants as object
 pub struct_found : (m : List (List ℕ)) (s w : ℕ) (x : Tree) (c d : ℕ) {k t b q tag n charge ds ps : ℕ} → Denotes m s w x c d
     → FindsObject m s w k t b q tag n charge (shape.Struct ds ps)
     → IsStructAt m s w t b ds ps x d
-struct_found m s w x c d {k} {t} {b} {q} {ds} {ps} h f = go x form h
+struct_found m s w x c d {k} {t} {b} {q} {tag} {n} {charge} {ds} {ps} h f = go x form h
   where
     form : HasForm x 2
     form = subst (HasForm x) (number_struct (kind q) (code q) f.object.shape.kind) (found_form m s w x c d k t b q h f.finds)
@@ -31,26 +32,26 @@ struct_found m s w x c d {k} {t} {b} {q} {ds} {ps} h f = go x form h
     go : (x : Tree) → HasForm x 2 → Denotes m s w x c d → IsStructAt m s w t b ds ps x d
     go null g h = absurd (omega (arith, g))
     go (cap i) g h = absurd (omega (arith, g))
-    go (struct ws ts) g (k', t', b', q', inner, deep, found', each) =
-        let o : SameObject k' t' b' q' k t b q = one_object m s w k' t' b' q' k t b q found'.finds f.finds in
-        let x : data_size q' ≡ ds = ap data_size o.shape ∙ sym f.object.shape.data_words in
-        let y : pointer_size q' ≡ ps = ap pointer_size o.shape ∙ sym f.object.shape.pointers in
-        let e : places t' (b' + data_size q') (pointer_size q') ≡ places t (b + ds) ps = rw (o.segment, o.start, x, y) refl in record {
+    go (struct ws ts) g (k', t', b', q', tag', ds', ps', inner, deep, found', own, each) =
+        let o = one_found found'.object (object_at m s w k t b q tag n charge (shape.Struct ds ps) f) in
+        let x : ds' ≡ ds = cc o.kind in
+        let y : ps' ≡ ps = cc o.kind in
+        let e : places t' (b' + ds') ps' ≡ places t (b + ds) ps = rw (o.segment, o.start, x, y) refl in record {
           found = record {
             k = k;
             q = q;
             finds = f.finds;
             kind = f.object.shape.kind;
             sizes = (f.object.shape.data_words, f.object.shape.pointers);
-            exists = f.finds.sits.exists;
-            inside = omega (arith, f.finds.sits.inside, extent_struct q f.object.shape.kind, f.object.shape.data_words, f.object.shape.pointers);
+            exists = f.finds.inside.exists;
+            inside = omega (arith, f.finds.inside.inside, extent_struct q f.object.shape.kind, f.object.shape.data_words, f.object.shape.pointers);
           };
           words = ws;
           children = ts;
           inner = inner;
           deep = deep;
           tree = refl;
-          data_words = found'.data_words ∙ rw (o.segment, o.start, x) refl;
+          data_words = own ∙ rw (o.segment, o.start, x) refl;
           below = subst (λ p. DenoteEach m p ts inner deep) e each;
           levels = omega (arith, found'.depth);
         }
@@ -85,7 +86,7 @@ struct_object m s w d p x k e dle f cle =
 -- a list of values
 pub scalars_object : (m : List (List ℕ)) (s w : ℕ) (x : Tree) (c d : ℕ) {k t b q tag words charge : ℕ} (code count : ℕ) → Denotes m s w x c d
     → FindsObject m s w k t b q tag words charge (shape.Scalars code count) → IsObject m d s w (trim x) (object.Scalars t b code count words)
-scalars_object m s w x c d {k} {t} {b} {q} {words} code' count h f = go x form h
+scalars_object m s w x c d {k} {t} {b} {q} {tag} {words} {charge} code' count h f = go x form h
   where
     form : HasForm x (3 + code q)
     form = subst (HasForm x) (number_list (kind q) (code q) f.object.shape.kind) (found_form m s w x c d k t b q h f.finds)
@@ -101,12 +102,12 @@ scalars_object m s w x c d {k} {t} {b} {q} {words} code' count h f = go x form h
     go null g h = absurd (omega (arith, g))
     go (cap i) g h = absurd (omega (arith, g))
     go (struct ws ts) g h = absurd (omega (arith, g))
-    go (scalars e vs) g h =
-        let o : SameObject h.0 h.1 h.2 h.3 k t b q = one_object m s w h.0 h.1 h.2 h.3 k t b q h.4.finds f.finds in
-        let y : e ≡ code' = h.4.code ∙ (ap code o.shape ∙ sym f.object.shape.code) in
-        let z : list_size h.3 ≡ count = ap list_size o.shape ∙ sym f.object.shape.count in
-        let values : vs ≡ values_of m t b code' count = h.4.elements ∙ rw (o.segment, o.start, y, z) refl in (
-          omega (arith, h.4.depth),
+    go (scalars e vs) g (k', t', b', q', tag', n, found, own) =
+        let o = one_found found.object (object_at m s w k t b q tag words charge (shape.Scalars code' count) f) in
+        let y : e ≡ code' = cc o.kind in
+        let z : n ≡ count = cc o.kind in
+        let values : vs ≡ values_of m t b code' count = own ∙ rw (o.segment, o.start, y, z) refl in (
+          omega (arith, found.depth),
           record {
             k = k;
             q = q;
@@ -117,7 +118,7 @@ scalars_object m s w x c d {k} {t} {b} {q} {words} code' count h f = go x form h
             count = f.object.shape.count;
             tree = rw (y, values) refl;
             extent = extent_is;
-            inside = omega (arith, f.finds.sits.inside, f.object.words);
+            inside = omega (arith, f.finds.inside.inside, f.object.words);
           },
         )
     go (pointers ts) g h = absurd (omega (arith, g, small))
@@ -126,7 +127,7 @@ scalars_object m s w x c d {k} {t} {b} {q} {words} code' count h f = go x form h
 -- a list of pointers
 pub pointers_object : (m : List (List ℕ)) (s w : ℕ) (x : Tree) (c d : ℕ) {k t b q tag words charge : ℕ} (count : ℕ) → Denotes m s w x c d
     → FindsObject m s w k t b q tag words charge (shape.Pointers count) → IsObject m d s w (trim x) (object.Pointers t b count)
-pointers_object m s w x c d {k} {t} {b} {q} count h f = go x form h
+pointers_object m s w x c d {k} {t} {b} {q} {tag} {words} {charge} count h f = go x form h
   where
     form : HasForm x 9
     form = subst (HasForm x) (number_list (kind q) (code q) f.object.shape.kind ∙ ap (λ n. 3 + n) f.object.shape.code)
@@ -137,10 +138,10 @@ pointers_object m s w x c d {k} {t} {b} {q} count h f = go x form h
     go (cap i) g h = absurd (omega (arith, g))
     go (struct ws ts) g h = absurd (omega (arith, g))
     go (scalars e vs) g h = absurd (omega (arith, g.1))
-    go (pointers ts) g (k', t', b', q', inner, deep, found, each) =
-        let o : SameObject k' t' b' q' k t b q = one_object m s w k' t' b' q' k t b q found.finds f.finds in
-        let z : list_size q' ≡ count = ap list_size o.shape ∙ sym f.object.shape.count in
-        let e : places t' b' (list_size q') ≡ places t b count = rw (o.segment, o.start, z) refl in
+    go (pointers ts) g (k', t', b', q', tag', n, inner, deep, found, each) =
+        let o = one_found found.object (object_at m s w k t b q tag words charge (shape.Pointers count) f) in
+        let z : n ≡ count = cc o.kind in
+        let e : places t' b' n ≡ places t b count = rw (o.segment, o.start, z) refl in
         let row : DenoteEach m (places t b count) ts inner deep = subst (λ p. DenoteEach m p ts inner deep) e each in (
           deep,
           omega (arith, found.depth),
@@ -154,7 +155,7 @@ pointers_object m s w x c d {k} {t} {b} {q} count h f = go x form h
             children = trim_all ts;
             tree = refl;
             many = tree_count-trim_all ts ∙ row_count m t b count ts inner deep row;
-            inside = omega (arith, f.finds.sits.inside, extent_pointers q f.object.shape.kind f.object.shape.code, f.object.shape.count);
+            inside = omega (arith, f.finds.inside.inside, extent_pointers q f.object.shape.kind f.object.shape.code, f.object.shape.count);
             below = row_left m t b count deep ts inner deep row (omega arith);
           },
         )
@@ -163,7 +164,7 @@ pointers_object m s w x c d {k} {t} {b} {q} count h f = go x form h
 -- a list of structs
 pub structs_found : (m : List (List ℕ)) (s w : ℕ) (x : Tree) (c d : ℕ) {k t b q tag words charge : ℕ} (size : ℕ) {n ds ps : ℕ} → Denotes m s w x c d
     → FindsObject m s w k t b q tag words charge (shape.Structs size n ds ps) → IsStructsAt m s w t b n ds ps x d
-structs_found m s w x c d {k} {t} {b} {q} {tag} size {n} {ds} {ps} h f = go x form h
+structs_found m s w x c d {k} {t} {b} {q} {tag} {words} {charge} size {n} {ds} {ps} h f = go x form h
   where
     form : HasForm x 10
     form = subst (HasForm x) (number_list (kind q) (code q) f.object.shape.kind ∙ ap (λ i. 3 + i) f.object.shape.code)
@@ -181,12 +182,11 @@ structs_found m s w x c d {k} {t} {b} {q} {tag} size {n} {ds} {ps} h f = go x fo
     go (struct ws ts) g h = absurd (omega (arith, g))
     go (scalars e vs) g h = absurd (omega (arith, g.1))
     go (pointers ts) g h = absurd (omega (arith, g))
-    go (structs y z es) g (k', t', b', q', tag', inner, deep, found', each) =
-        let o : SameObject k' t' b' q' k t b q = one_object m s w k' t' b' q' k t b q found'.finds f.finds in
-        let same : tag ≡ tag' = one_word m t b tag tag' tagged.0 (rw (← o.segment, ← o.start) found'.has_tag) in
-        let dsame : ds ≡ y = f.object.shape.data_words ∙ (ap data_size same ∙ sym found'.data_sizes) in
-        let psame : ps ≡ z = f.object.shape.pointers ∙ (ap pointer_size same ∙ sym found'.pointer_sizes) in
-        let nsame : n ≡ middle tag' = f.object.shape.count ∙ ap middle same in record {
+    go (structs y z es) g (k', t', b', q', tag', n', inner, deep, found', each) =
+        let o = one_found found'.object (object_at m s w k t b q tag words charge (shape.Structs size n ds ps) f) in
+        let dsame : ds ≡ y = cc o.kind in
+        let psame : ps ≡ z = cc o.kind in
+        let nsame : n ≡ n' = cc o.kind in record {
           found = record {
             k = k;
             q = q;
@@ -198,14 +198,14 @@ structs_found m s w x c d {k} {t} {b} {q} {tag} size {n} {ds} {ps} h f = go x fo
             count = f.object.shape.count;
             sizes = (f.object.shape.data_words, f.object.shape.pointers);
             fits = fits;
-            exists = f.finds.sits.exists;
-            inside = omega (arith, fits, f.finds.sits.inside, extent_structs q f.object.shape.kind f.object.shape.code);
+            exists = f.finds.inside.exists;
+            inside = omega (arith, fits, f.finds.inside.inside, extent_structs q f.object.shape.kind f.object.shape.code);
           };
           elements = es;
           inner = inner;
           deep = deep;
           tree = rw (dsame, psame) refl;
-          below = elements_moved m es t (b + 1) ds ps n inner deep t' (b' + 1) y z (middle tag') (sym o.segment)
+          below = elements_moved m es t (b + 1) ds ps n inner deep t' (b' + 1) y z n' (sym o.segment)
               (ap (λ i. i + 1) (sym o.start)) dsame psame nsame each;
           levels = omega (arith, found'.depth);
         }

@@ -170,8 +170,8 @@ structs_inside m w k t b q tag words charge size n d p f =
     let few : list_size q < 2 ^ 29 = omega arith in (
       omega (arith, f.object.shape.count),
       omega (arith, fits, few),
-      f.finds.sits.exists,
-      omega (arith, f.finds.sits.inside, extent, fits),
+      f.finds.inside.exists,
+      omega (arith, f.finds.inside.inside, extent, fits),
     )
 
 -- and where its tag is, if its word is the one of a copy
@@ -467,7 +467,7 @@ module _ (m : List (List ℕ)) (w word end cost : ℕ) (l : LeadsToEnd m w word 
     where
       lead : Leads m 0 w 0 (to_object 0 (pos end) word)
       lead = subst (λ b. Leads m 0 w 0 (to_object 0 (pos b) word)) l.next
-          (near_lead m 0 w word (middle word) l.has low some refl (omega (arith, l.next, l.stands.inside, l.stands.few)))
+          (near_lead m 0 w word (middle word) l.has low some refl (omega (arith, l.next, l.placed.inside, l.placed.few)))
 
       go : Costs m 0 w cost → (tag : ℕ) × Finds m 0 w 0 0 end word × (IsComposite word → HasWord m 0 end tag) × (cost ≡ extent word + extra word tag)
       go (inl h) = absurd (cc (one_lead m 0 w cost 0 to_null (to_object 0 (pos end) word) h lead).1)
@@ -486,7 +486,7 @@ module _ (m : List (List ℕ)) (w word end cost : ℕ) (l : LeadsToEnd m w word 
       let plain = pointers-plain word n pointers in
       let (tag, finds, tagged, costs) = object_there plain.0 some in
       let none : extra word tag ≡ 0 = extra_same word tag 0 plain.0 (λ k c. absurd (plain.1 k c)) ∙ pointers-no_extra word n pointers in
-      (finds, omega (arith, costs, none), omega (arith, costs, none, finds.sits.inside))
+      (finds, omega (arith, costs, none), omega (arith, costs, none, finds.inside.inside))
 
   object_of : (n : ℕ) (x : Shape) → HasPointers word n → word ≢ 0 → IsShape word 0 x → FindsObject m 0 w 0 0 end word 0 cost cost x
   object_of n x pointers some is =
@@ -498,7 +498,7 @@ module _ (m : List (List ℕ)) (w word end cost : ℕ) (l : LeadsToEnd m w word 
           tagged = λ c. absurd (plain.1 c.0 c.1);
           words = words;
           charge = omega (arith, words, none);
-          small = omega (arith, inside, l.stands.few);
+          small = omega (arith, inside, l.placed.few);
           shape = is;
         };
       }
@@ -510,7 +510,7 @@ module _ (m : List (List ℕ)) (w word end cost : ℕ) (l : LeadsToEnd m w word 
         word = word;
         has = l.has;
         near = λ e. omega (arith, e, plain.0);
-        after = l.stands.after;
+        after = l.placed.after;
         inside = inside;
         k = 0;
         t = 0;
@@ -561,7 +561,7 @@ module _ (m : List (List ℕ)) (w word end cost : ℕ) (l : LeadsToEnd m w word 
       let same : word ≡ (if (d + p) == 0 then 2 ^ 32 - 4 else struct_word (end - w - 1) d p) =
       rw none (struct_by_fields word small k ∙ ap (λ i. struct_word i d p) offset) in
       row_next p pointers set
-      (struct_own m w end 0 0 end word 0 cost cost d p l.stands
+      (struct_own m w end 0 0 end word 0 cost cost d p l.placed
       (object_of p (shape.Struct d p) pointers set (record { kind = k; data_words = refl; pointers = refl }))
       (subst (HasWord m 0 w) same l.has) (omega (arith, needs.data_words)) (λ ts c' d' h. omega (arith, needs.pointers ts c' d' h)))
 
@@ -580,7 +580,7 @@ module _ (m : List (List ℕ)) (w word end cost : ℕ) (l : LeadsToEnd m w word 
       let same : word ≡ list_word (end - w - 1) 6 n =
       list_by_fields word small k ∙ (ap (λ i. list_word i (code word) n) offset ∙ ap (λ i. list_word (end - w - 1) i n) c) in
       row_next n pointers (list_some k)
-      (pointers_own m w end 0 0 end word 0 cost cost n l.stands
+      (pointers_own m w end 0 0 end word 0 cost cost n l.placed
       (object_of n (shape.Pointers n) pointers (list_some k) (record { kind = k; code = c; count = refl })) (subst (HasWord m 0 w) same l.has))
 
   -- or of structs, whose tag is there,
@@ -589,8 +589,8 @@ module _ (m : List (List ℕ)) (w word end cost : ℕ) (l : LeadsToEnd m w word 
       × (middle tag * (data_size tag + pointer_size tag) ≤ list_size word)
   structs_there k c =
       let (_, finds, _, _) = object_there (omega (arith, k)) (list_some k) in
-      let (tag, has, fits) = finds.sits.composite (k, c) in
-      (tag, has, fits.0, omega (arith, finds.sits.inside, extent_structs word k c), fits.1)
+      let (tag, has, fits) = finds.inside.composite (k, c) in
+      (tag, has, fits.0, omega (arith, finds.inside.inside, extent_structs word k c), fits.1)
 
   -- or of values with bits.
   pub row_of_values : kind word ≡ 1 → 0 < code word → code word < 6
@@ -607,7 +607,7 @@ module _ (m : List (List ℕ)) (w word end cost : ℕ) (l : LeadsToEnd m w word 
       let pointers : HasPointers word 0 = inr (inr (k, some, few, refl)) in
       let same : word ≡ list_word (end - w - 1) c n = list_by_fields word small k ∙ ap (λ i. list_word i c n) offset in
       row_next 0 pointers (list_some k)
-      (values_own m w end 0 0 end word 0 cost cost c n l.stands
+      (values_own m w end 0 0 end word 0 cost cost c n l.placed
       (object_of 0 (shape.Scalars c n) pointers (list_some k) (record { kind = k; code = refl; scalar = few; count = refl }))
       (subst (HasWord m 0 w) same l.has) stand)
 

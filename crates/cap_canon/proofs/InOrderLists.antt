@@ -57,7 +57,7 @@ module _ (m : List (List ℕ)) (w end word tag cost : ℕ) (l : LeadsToEnd m w w
   object : FindsObject m 0 w 0 0 end word tag (1 + list_size word) (0 + 1 + list_size word + empty) (shape.Structs (list_size word) n d p)
   object =
       let extent_is = extent_structs word list.0 list.1 in
-      found-structs m 0 w 0 0 end word (leads_to_end m w end word l.stands l.has list.0 l.next) (HasWord-segment m 0 w word l.has)
+      found-structs m 0 w 0 0 end word (leads_to_end m w end word l.placed l.has list.0 l.next) (HasWord-segment m 0 w word l.has)
       tag (list_size word) n d p empty (1 + list_size word) (0 + 1 + list_size word + empty) (omega arith)
       (omega (arith, extent_is, inside)) list has_tag refl tag_kind refl refl refl
       (omega (arith, fits)) refl (empty_few (eqb_tells (d + p) 0)) refl refl
@@ -71,12 +71,12 @@ module _ (m : List (List ℕ)) (w end word tag cost : ℕ) (l : LeadsToEnd m w w
       ∙ (ap (λ i. list_word (end - w - 1) i (list_size word)) list.1 ∙ ap (λ i. list_word (end - w - 1) 7 i) (sym all))) in
       let tag_same : tag ≡ struct_word n d p = struct_by_fields tag tag_small tag_kind in
       let e : end + (1 + list_size word) ≡ end + 1 + list_size word = omega arith in
-      let own = structs_own m w end 0 0 end word tag (1 + list_size word) (0 + 1 + list_size word + empty) (list_size word) n d p l.stands object
+      let own = structs_own m w end 0 0 end word tag (1 + list_size word) (0 + 1 + list_size word + empty) (list_size word) n d p l.placed object
       (subst (λ z. HasWord m 0 w z) same l.has) (subst (λ z. HasWord m 0 end z) tag_same has_tag) needs.data_words needs.pointers in record {
         word = word;
         has = l.has;
         near = λ y. omega (arith, y, list.0);
-        after = l.stands.after;
+        after = l.placed.after;
         inside = inside;
         k = 0;
         t = 0;

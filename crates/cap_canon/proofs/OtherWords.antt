@@ -18,7 +18,7 @@ pub no_words_next : (m : List (List ℕ)) (w end : ℕ) → MayStand m w end →
 no_words_next m w end s has =
     let finds : Finds m 0 w 0 0 w (2 ^ 32 - 4) = record {
       leads = near (2 ^ 32 - 4) has (λ e. omega (arith, e)) (omega arith, (λ e. omega (arith, e)), refl, start_before w, refl) refl;
-      sits = record { exists = HasWord-segment m 0 w (2 ^ 32 - 4) has; inside = omega (arith, s.after, s.inside); composite = λ c. absurd (omega (arith, c.0)) };
+      inside = record { exists = HasWord-segment m 0 w (2 ^ 32 - 4) has; inside = omega (arith, s.after, s.inside); composite = λ c. absurd (omega (arith, c.0)) };
     } in
     let f : FindsObject m 0 w 0 0 w (2 ^ 32 - 4) 0 0 0 (shape.Struct 0 0) = record {
       finds = finds;

@@ -54,7 +54,7 @@ pub record MayStand (m : List (List ℕ)) (w end : ℕ) : Type 0 where
 
 -- The pointer word w of segment 0 is this word, which leads to the end of a copy. Following it costs this much.
 pub record LeadsToEnd (m : List (List ℕ)) (w word end cost : ℕ) : Type 0 where
-  pub stands : MayStand m w end
+  pub placed : MayStand m w end
   pub has : HasWord m 0 w word
   pub next : w + 1 + middle word ≡ end
   pub costs : Costs m 0 w cost

@@ -17,6 +17,8 @@ use std::alloc::{AllocError, Global};
 
 /// The layout of a message of this depth, trimmed, in a new vector with capacity for `most` words.
 /// The layout has no more of them.
+// It isn't inlined, so that the stack of its walk costs no other copy anything.
+#[inline(never)]
 pub(crate) fn copy_within<M: Segments>(
     alloc: Global,
     message: &M,

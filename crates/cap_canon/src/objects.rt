@@ -8,7 +8,7 @@ ghost use Rattle.cap_spec.specs.Denoting.{Denotes};
 ghost use Rattle.cap_spec.specs.Messages.{HasWord, segment_of};
 ghost use Rattle.cap_spec.specs.Tree.{Tree};
 ghost use Rattle.cap_spec.specs.Words.{IsWord};
-ghost use Rattle.std.specs.Prelude.{◌+◌, ◌<◌, ◌≤◌, length, ℕ};
+ghost use Rattle.std.specs.Prelude.{◌+◌, ◌<◌, ◌≤◌, IsTrue, length, ℕ};
 
 use crate::trimming::{data_left, list_data_left, list_pointers_left, pointers_left};
 use cap_frame::Segments;
@@ -57,6 +57,16 @@ pub(crate) enum Object {
         count: u32,
         part: Part,
     },
+}
+
+/// Whether the pointer word at a place is zero, and so leads to nothing. Asks that it denotes a tree.
+#[inline(always)]
+pub(crate) fn leads_to_null<M: Segments>(message: &M, s: u32, w: u32) -> bool
+    requires { (t : Tree) × (c d : ℕ) × Denotes (M.segments message.now) s w t c d }
+    ensures { let m = M.segments message.now in IsTrue result → (t : Tree) (c d : ℕ)
+        → Denotes m s w t c d → IsObject m d s w (trim t) Object.Null }
+{
+    message.word(s, w) == 0
 }
 
 /// What the pointer word at a place denotes, trimmed. Asks that it denotes a tree.

@@ -9,7 +9,7 @@ ghost use Rattle.cap_spec.specs.Canonical.{layout};
 ghost use Rattle.cap_spec.specs.Tree.{Tree};
 ghost use Rattle.std.specs.Prelude.{◌≡◌, ◌≤◌, [], ◌∷◌, List, length, ℕ};
 
-use crate::objects::{Object, object_at};
+use crate::objects::{Object, leads_to_null, object_at};
 use crate::run::{CopyRun, PointerPlace};
 use crate::stack::{Stack, go_on, own_words, run_of};
 use cap_frame::Segments;
@@ -58,7 +58,8 @@ pub(crate) fn walk<M: Segments, P: Pass>(message: &M, depth: u32, pass: &mut P) 
 }
 
 // The same with capacity for `N` runs. The current run is beside the stack, so that a word with
-// nothing below it costs no push and no pop.
+// nothing below it costs no push and no pop. A zero word has a turn of its own, which makes no object:
+// most words of a list may be zero.
 fn walk_within<M: Segments, P: Pass, const N: usize>(message: &M, depth: u32, pass: &mut P) -> u32
     requires capacity { (depth ≤ N) × (N ≤ 256) }
     requires tree { HasTree (M.segments message.now) depth }
@@ -78,6 +79,13 @@ fn walk_within<M: Segments, P: Pass, const N: usize>(message: &M, depth: u32, pa
             word: run.at,
             slot: run.slot,
         };
+        if leads_to_null(message, place.segment, place.word) {
+            pass.visit(message, &Object::Null, place, end);
+            if !go_on(&mut stack, &mut run, None) {
+                return end;
+            }
+            continue;
+        }
         let object = object_at(message, place.segment, place.word);
         pass.visit(message, &object, place, end);
         let below = run_of(&object, end);

@@ -16,6 +16,8 @@ use Rattle.cap_text.specs.declared.fault.Cause.TheVariants.{Memory as no_marks}
 use Rattle.cap_text.specs.declared.fault.CopyFault.{CopyFault}
 use Rattle.cap_text.specs.declared.fault.CopyFault.TheVariants.{Source, TooManyWords, Output as copy_output}
 use Rattle.cap_text.specs.declared.fault.RunFault.{RunFault}
+use Rattle.cap_run.specs.Breaking.{run_answer}
+use Rattle.cap_run.specs.Placed.{PlacedTells, TellsFrom, TellsPlaced}
 use Rattle.cap_run.specs.Filtering.{FiltersStream}
 use Rattle.cap_run.specs.Prelude.{copies_of, TellsCheckUnder, TellsDumpUnder, TellsExclusiveUnder, TellsGetUnder}
 use Rattle.cap_run.specs.Prelude.{TellsVerdictUnder, WantsMarksUnder, TellsStream, most_packed_at_once, most_transcoded}
@@ -26,8 +28,8 @@ use Rattle.cap_run.specs.declared.settings.FilterForm.{FilterForm}
 use Rattle.cap_run.specs.declared.settings.Outcome.{Outcome}
 use Rattle.cap_run.specs.declared.settings.Settings.{Settings}
 use Rattle.cap_run.proofs.FilterEnds.{reads_whole}
-use Rattle.cap_cmd.specs.Jobs.{CanonsInput, CanonsTo, DoesJob, DoesTask, TellsInput, TranscodesInput, TranscodesTo}
-use Rattle.cap_cmd.specs.Jobs.{WritesAll, input_is_cut, input_words}
+use Rattle.cap_cmd.specs.Jobs.{CanonsInput, CanonsTo, DoesJob, DoesTask, PlacesInput, TellsInput, TranscodesInput, TranscodesTo}
+use Rattle.cap_cmd.specs.Jobs.{WritesAll, WritesInput, input_is_cut, input_words}
 use Rattle.cap_cmd.specs.Statuses.{cause_status, frame_status, outcome_status, run_status, transcode_status}
 use Rattle.cap_cmd.specs.declared.job.Job.{Job}
 use Rattle.cap_cmd.specs.declared.job.Task.{Task}
@@ -85,18 +87,18 @@ none_noncanonical o e = grind (arith, e)
 
 module _ {S O : Type 0} (gs : source.Ghosts S) (go : output.Ghosts O) (s : Settings) (old new : S) where
   -- no message of these was refused, and each is canonical where that was asked
-  all_told : (tells : Tells) (before after : O) (o : Outcome) (ts : List Told) → outcome_status o ≡ 0 → o ≡ outcome_of ts
-      → ReadsToEnd gs (limit_of s.size) old new (messages_of ts) → TellsEach tells 0 ts
+  all_told : (each : List Told → Type 0) (before after : O) (o : Outcome) (ts : List Told) → outcome_status o ≡ 0 → o ≡ outcome_of ts
+      → ReadsToEnd gs (limit_of s.size) old new (messages_of ts) → each ts
       → Appended go before after (texts_of ts) → length ts ≤ s.messages
-      → TellsInput tells s (gs.words old) (gs.is_cut old) (go.written before) (go.written after)
-  all_told tells before after o ts e same reads each took many = record {
+      → WritesInput each s (gs.words old) (gs.is_cut old) (go.written before) (go.written after)
+  all_told each before after o ts e same reads told took many = record {
     own = reads.own;
     all = reads.all;
     ts = ts;
     stream = reads.stream;
     within = reads.within;
     many = many;
-    each = each;
+    told = told;
     accepted = none_refused (outcome_of ts) (subst (λ (x : Outcome). outcome_status x ≡ 0) same e);
     canonical = none_noncanonical (outcome_of ts) (subst (λ (x : Outcome). outcome_status x ≡ 0) same e);
     appended = took.appended;
@@ -107,8 +109,16 @@ module _ {S O : Type 0} (gs : source.Ghosts S) (go : output.Ghosts O) (s : Setti
       → run_status r ≡ 0 → TellsStream gs go tells wants (limit_of s.size) s.messages old new before after r
       → TellsInput tells s (gs.words old) (gs.is_cut old) (go.written before) (go.written after)
   told_all tells wants before after (Ok o) e t =
-      let k = t.ok in all_told tells before after o k.0 e k.5 k.1 k.2 k.3 k.4
+      let k = t.ok in all_told (TellsEach tells 0) before after o k.0 e k.5 k.1 k.2 k.3 k.4
   told_all tells wants before after (Err fault) e t = absurd (cause_fails fault.cause e)
+
+  -- the same by where each begins
+  placed_all : (tells : PlacedTells) (wants : List (List ℕ) → Type 0) (before after : O) (r : Result Outcome RunFault)
+      → run_status r ≡ 0 → TellsPlaced gs go tells wants (limit_of s.size) s.messages old new before after r
+      → PlacesInput tells s (gs.words old) (gs.is_cut old) (go.written before) (go.written after)
+  placed_all tells wants before after (Ok o) e t =
+      let k = t.ok in all_told (TellsFrom tells 0 0) before after o k.0 e k.5 k.1 k.2 k.3 k.4
+  placed_all tells wants before after (Err fault) e t = absurd (cause_fails fault.cause e)
 
   -- all messages went on
   passed_all : {E : Type 0} (ge : output.Ghosts E) (form : FilterForm) (verdict : Tells)
@@ -119,7 +129,7 @@ module _ {S O : Type 0} (gs : source.Ghosts S) (go : output.Ghosts O) (s : Setti
   passed_all ge form verdict wants before after first last (Ok o) e t =
       let k = t.ok in
       let none = none_refused (outcome_of k.0) (subst (λ (x : Outcome). outcome_status x ≡ 0) k.5 e) in
-      all_told (PassesOn form.pack verdict) before after o k.0 e k.5 (reads_whole gs (limit_of s.size) old new form.stop k.0 none k.1) k.2 k.3 k.4
+      all_told (TellsEach (PassesOn form.pack verdict) 0) before after o k.0 e k.5 (reads_whole gs (limit_of s.size) old new form.stop k.0 none k.1) k.2 k.3 k.4
   passed_all ge form verdict wants before after first last (Err fault) e t = absurd (cause_fails fault.cause e)
 
 module _ {S O K : Type 0} (gs : source.Ghosts S) (go : output.Ghosts O) (s : Settings) (old new : S)
@@ -179,13 +189,13 @@ module _ {S O E P U : Type 0} (gs : source.Ghosts S) (go : output.Ghosts O) (ge 
       (WantsMarksUnder demands (words_of s.limits) (depth_of s.limits)) before after d.answer
       (sym d.reported.status_is ∙ e) d.does
   writes_all (Explain false) s demands first before after old new status e d =
-      told_all gs go s first d.last (TellsExplainedUnder demands (words_of s.limits) (depth_of s.limits)) WantsNone
+      placed_all gs go s first d.last (TellsExplainedUnder demands (words_of s.limits) (depth_of s.limits)) WantsNone
       before after
-      d.answer (sym d.reported.status_is ∙ e) d.does
+      (run_answer d.answer) (sym d.reported.status_is ∙ e) d.does.told
   writes_all (Explain true) s demands first before after old new status e d =
-      told_all gs go s first d.last (TellsExplainedExclusiveUnder demands (words_of s.limits) (depth_of s.limits))
-      (WantsMarksUnder demands (words_of s.limits) (depth_of s.limits)) before after d.answer
-      (sym d.reported.status_is ∙ e) d.does
+      placed_all gs go s first d.last (TellsExplainedExclusiveUnder demands (words_of s.limits) (depth_of s.limits))
+      (WantsMarksUnder demands (words_of s.limits) (depth_of s.limits)) before after (run_answer d.answer)
+      (sym d.reported.status_is ∙ e) d.does.told
   writes_all (Filter form) s demands first before after old new status e d =
       passed_all gs go s first d.1.last ge form (TellsIn form demands s.limits) (WantsInForm form demands s.limits)
       before after old d.0 d.1.answer (sym d.1.reported.status_is ∙ e) d.1.does

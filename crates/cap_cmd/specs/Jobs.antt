@@ -14,10 +14,14 @@ use Rattle.cap_words.specs.declared.ends.OutFault.{OutFault}
 use Rattle.cap_frame.specs.Limit.{limit_of}
 use Rattle.cap_vet.specs.Limits.{depth_of, words_of}
 use Rattle.cap_vet.specs.declared.demands.Demands.{Demands}
+use Rattle.cap_text.specs.BreakLines.{explained_fault_text}
 use Rattle.cap_text.specs.FaultLines.{copy_fault_line, run_fault_line}
 use Rattle.cap_text.specs.Writing.{Writes}
 use Rattle.cap_text.specs.declared.fault.CopyFault.{CopyFault}
+use Rattle.cap_text.specs.declared.fault.ExplainedFault.{ExplainedFault}
 use Rattle.cap_text.specs.declared.fault.RunFault.{RunFault}
+use Rattle.cap_run.specs.Breaking.{ExplainsStream, run_answer}
+use Rattle.cap_run.specs.Placed.{PlacedTells, TellsFrom}
 use Rattle.cap_run.specs.Engines.{ShowsStream}
 use Rattle.cap_run.specs.Filtering.{FiltersUnder}
 use Rattle.cap_run.specs.Prelude.{AreCanonised, Canonised, MakesCopiesUnder, canonised, copies_of, TellsCheckUnder}
@@ -80,8 +84,8 @@ module _ {I S : Type 0} (gi : input.Ghosts I) (gs : source.Ghosts S) where
     pub place : gs.place first ≡ 0
     pub spent : gs.spent first ≡ gi.spent start
     pub failures : gs.failures first ≡ gi.failures start
-    pub stands_on : S → I
-    pub shows_failures : (s : S) → gs.failures s ≡ gi.failures (stands_on s)
+    pub reads_from : S → I
+    pub shows_failures : (s : S) → gs.failures s ≡ gi.failures (reads_from s)
 
 module _ {O K : Type 0} (go : output.Ghosts O) (gk : sink.Ghosts K) where
   -- A sink begins over an output: the text of the words put to it follows what the output took.
@@ -138,6 +142,10 @@ module _ {E : Type 0} (ge : output.Ghosts E) where
   abbrev pub ReportsRun : Result Outcome RunFault → E → E → ℕ → Type 0
   ReportsRun = Reports run_status run_fault_line
 
+  -- the answer of an engine that explains: after the line of a fault come the lines that explain it
+  abbrev pub ReportsExplained : Result Outcome ExplainedFault → E → E → ℕ → Type 0
+  ReportsExplained = Reports (λ answer. run_status (run_answer answer)) explained_fault_text
+
   -- the answer of an engine over words
   abbrev pub ReportsCopy : Result ℕ CopyFault → E → E → ℕ → Type 0
   ReportsCopy = Reports transcode_status copy_fault_line
@@ -159,6 +167,14 @@ module _ {S O E : Type 0} (gs : source.Ghosts S) (go : output.Ghosts O) (ge : ou
       (λ last answer. TellsStream gs go tells wants (limit_of s.size) s.messages first last before
       after answer)
       (ReportsRun ge)
+
+  -- an engine that explains
+  abbrev pub ExplainsTask : PlacedTells → (List (List ℕ) → Type 0) → Settings → S → O → O → E → E → ℕ
+      → Type 0
+  ExplainsTask tells wants s first before after = Runs
+      (λ last answer. ExplainsStream gs go tells wants (limit_of s.size) s.messages first last before
+      after answer)
+      (ReportsExplained ge)
 
   -- The engine that lets accepted messages through writes the lines of the others before `mid`. Its
   -- answer is reported after them.
@@ -195,10 +211,10 @@ module _ {S O E P U : Type 0} (gs : source.Ghosts S) (go : output.Ghosts O) (ge 
       TellsTask gs go ge (TellsExclusiveUnder demands (words_of s.limits) (depth_of s.limits))
       (WantsMarksUnder demands (words_of s.limits) (depth_of s.limits)) s first before after
   DoesTask (Explain false) s demands first before after =
-      TellsTask gs go ge (TellsExplainedUnder demands (words_of s.limits) (depth_of s.limits))
+      ExplainsTask gs go ge (TellsExplainedUnder demands (words_of s.limits) (depth_of s.limits))
       WantsNone s first before after
   DoesTask (Explain true) s demands first before after =
-      TellsTask gs go ge
+      ExplainsTask gs go ge
       (TellsExplainedExclusiveUnder demands (words_of s.limits) (depth_of s.limits))
       (WantsMarksUnder demands (words_of s.limits) (depth_of s.limits)) s first before after
   DoesTask (Filter form) s demands first before after =
@@ -230,19 +246,29 @@ module _ {I S O E P U : Type 0} (gi : input.Ghosts I) (gs : source.Ghosts S) (go
         status
 
 -- All words are frames of messages, each within the limit, and none is cut short. Each message is
--- accepted, and canonical if that was asked, and such a text of it was written.
-pub record TellsInput (tells : Tells) (s : Settings) (words : Option (List ℕ)) (is_cut : Bool)
-    (before after : Option (List ℕ)) : Type 0 where
+-- accepted, and canonical if that was asked, and texts of them were written of which `each` holds.
+pub record WritesInput (each : List Told → Type 0) (s : Settings) (words : Option (List ℕ))
+    (is_cut : Bool) (before after : Option (List ℕ)) : Type 0 where
   pub own : List ℕ
   pub all : OnSome words ((words ≡ Some own) × (is_cut ≡ false))
   pub ts : List Told
   pub stream : Stream own (messages_of ts)
   pub within : AllByRecursion (λ m. sum (sizes_of m) ≤ limit_of s.size) (messages_of ts)
   pub many : length ts ≤ s.messages
-  pub each : TellsEach tells 0 ts
+  pub told : each ts
   pub accepted : refused_in ts ≡ 0
   pub canonical : noncanonical_in ts ≡ 0
   pub appended : Appends before after (texts_of ts)
+
+-- the text of each is one that may be written of it by its number
+abbrev pub TellsInput : Tells → Settings → Option (List ℕ) → Bool → Option (List ℕ)
+    → Option (List ℕ) → Type 0
+TellsInput tells = WritesInput (TellsEach tells 0)
+
+-- the same by where it begins too
+abbrev pub PlacesInput : PlacedTells → Settings → Option (List ℕ) → Bool → Option (List ℕ)
+    → Option (List ℕ) → Type 0
+PlacesInput tells = WritesInput (TellsFrom tells 0 0)
 
 -- All words are frames of messages, each within the limit, and none is cut short. Each message is
 -- accepted under the demands and has a canonical copy, and the frame of that was written.
@@ -274,9 +300,9 @@ WritesAll (Vet false) s demands =
 WritesAll (Vet true) s demands =
     TellsInput (TellsExclusiveUnder demands (words_of s.limits) (depth_of s.limits)) s
 WritesAll (Explain false) s demands =
-    TellsInput (TellsExplainedUnder demands (words_of s.limits) (depth_of s.limits)) s
+    PlacesInput (TellsExplainedUnder demands (words_of s.limits) (depth_of s.limits)) s
 WritesAll (Explain true) s demands =
-    TellsInput (TellsExplainedExclusiveUnder demands (words_of s.limits) (depth_of s.limits)) s
+    PlacesInput (TellsExplainedExclusiveUnder demands (words_of s.limits) (depth_of s.limits)) s
 WritesAll (Filter form) s demands =
     TellsInput (PassesOn form.pack (TellsIn form demands s.limits)) s
 WritesAll Dump s demands =

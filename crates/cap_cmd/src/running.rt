@@ -1,18 +1,19 @@
 //! Doing a job: its engine is run over an input, an output and an output for faults.
 
-ghost use Rattle.cap_cmd.specs.Jobs.{CanonsTask, TranscodesTask, DoesJob, DoesTask, ReportsCopy, ReportsRun, WritesAll, input_is_cut, input_words, reads_packed};
+ghost use Rattle.cap_cmd.specs.Jobs.{CanonsTask, TranscodesTask, DoesJob, DoesTask, ReportsCopy, ReportsExplained, ReportsRun, WritesAll, input_is_cut, input_words, reads_packed};
 ghost use Rattle.cap_run.specs.Engines.{most_packed_at_once, most_unpacked_at_once};
 ghost use Rattle.cap_spec.specs.Packing.{pack_text};
 ghost use Rattle.cap_spec.specs.Plain.{plain_text};
 ghost use Rattle.std.specs.Prelude.{◌≡◌, false, true};
 
 use crate::job::{Job, Task};
-use crate::status::{stream_status, words_status};
+use crate::status::{explained_status, stream_status, words_status};
 use cap_pack::{Packer, Unpacker};
 use cap_run::{
-    CopyFault, Outcome, Peek, RunFault, run_canon_with, run_check_with, run_dump_with, run_explain,
-    run_explain_exclusive, run_filter, run_get_with, run_pack, run_segments, run_unpack,
-    run_vet_exclusive_with, run_vet_with, write_copy_fault, write_fault,
+    CopyFault, ExplainedFault, Outcome, Peek, RunFault, run_canon_with, run_check_with,
+    run_dump_with, run_explain, run_explain_exclusive, run_filter, run_get_with, run_pack,
+    run_segments, run_unpack, run_vet_exclusive_with, run_vet_with, write_copy_fault,
+    write_explained_fault, write_fault,
 };
 use cap_words::{ByteIn, ByteOut, PlainSink, PlainWords, WordSink, WordSource};
 use std::alloc::Global;
@@ -41,6 +42,17 @@ fn report_run<E: ByteOut>(err: &mut E, answer: &Result<Outcome, RunFault>) -> u8
         let _ = write_fault(err, fault);
     }
     stream_status(answer)
+}
+
+/// Writes the line of the fault that ended a run and the lines that explain it, if there is one, and
+/// returns the exit status.
+fn report_explained<E: ByteOut>(err: &mut E, answer: &Result<Outcome, ExplainedFault>) -> u8
+    ensures { ReportsExplained E.ByteOut answer.now err.old err.new result }
+{
+    if let Err(fault) = answer {
+        let _ = write_explained_fault(err, fault);
+    }
+    explained_status(answer)
 }
 
 /// Writes the line of the fault that ended packing or unpacking, if there is one, and returns the
@@ -141,10 +153,10 @@ fn explain_over<S: Peek, O: ByteOut, E: ByteOut>(
     let (settings, demands) = (&job.settings, job.demands);
     if exclusive {
         let answer = run_explain_exclusive(alloc, source, out, settings, demands);
-        report_run(err, &answer)
+        report_explained(err, &answer)
     } else {
         let answer = run_explain(alloc, source, out, settings, demands);
-        report_run(err, &answer)
+        report_explained(err, &answer)
     }
 }
 

@@ -1,12 +1,13 @@
 //! The exit statuses: 0 if all is well, 1 for what the input is, and 3 for a failed device or if
 //! memory ran out.
 
-ghost use Rattle.cap_cmd.specs.Statuses.{cause_status, transcode_status, run_status};
+ghost use Rattle.cap_cmd.specs.Statuses.{cause_status, outcome_status, run_status, transcode_status};
+ghost use Rattle.cap_run.specs.Breaking.{run_answer};
 ghost use Rattle.std.specs.Prelude.{◌≡◌};
 
 use cap_canon::CanonFault;
 use cap_frame::FrameFault;
-use cap_run::{Cause, CopyFault, Outcome, RunFault};
+use cap_run::{Cause, CopyFault, ExplainedFault, Outcome, RunFault};
 use cap_words::SourceFault;
 
 /// The exit status of a fault at a message.
@@ -32,17 +33,34 @@ fn fault_status(cause: Cause) -> u8
     }
 }
 
+/// The exit status of an outcome: 0 where every message was accepted.
+fn outcome_status(outcome: &Outcome) -> u8
+    ensures { result ≡ outcome_status outcome.now }
+{
+    if outcome.refused == 0 && outcome.noncanonical == 0 {
+        0
+    } else {
+        1
+    }
+}
+
 /// The exit status of an engine's answer: 0 where every message was accepted.
 pub(crate) fn stream_status(answer: &Result<Outcome, RunFault>) -> u8
     ensures { result ≡ run_status answer.now }
 {
     match answer {
-        Ok(outcome) => if outcome.refused == 0 && outcome.noncanonical == 0 {
-            0
-        } else {
-            1
-        },
+        Ok(outcome) => outcome_status(outcome),
         Err(fault) => fault_status(fault.cause),
+    }
+}
+
+/// The exit status of the answer of an engine that explains, by the same rule.
+pub(crate) fn explained_status(answer: &Result<Outcome, ExplainedFault>) -> u8
+    ensures { result ≡ run_status (run_answer answer.now) }
+{
+    match answer {
+        Ok(outcome) => outcome_status(outcome),
+        Err(fault) => fault_status(fault.fault.cause),
     }
 }
 

@@ -1,3 +1,4 @@
 pub mod Appends
+pub mod Charges
 pub mod Hexes
 pub mod Places

@@ -1,6 +1,6 @@
 -- The lines that explain a refusal (profile).
-use Rattle.std.specs.Prelude.{List, None, Option, Some, [], codes, decimal, if◌then◌else◌, length, nat_lt, ℕ, ◌*◌, ◌++◌}
-use Rattle.std.specs.Prelude.{◌+◌, ◌-◌, ◌==◌, ◌∷◌}
+use Rattle.std.specs.Prelude.{List, None, Option, Some, [], codes, decimal, if◌then◌else◌, length, min, nat_lt, ℕ, ◌*◌, ◌++◌}
+use Rattle.std.specs.Prelude.{◌+◌, ◌-◌, ◌==◌, ◌^◌, ◌∷◌}
 use Rattle.cap_spec.specs.Messages.{segment_of}
 use Rattle.cap_spec.specs.PathTexts.{path_text}
 use Rattle.cap_spec.specs.Pointers.{data_size, extent, far_segment, list_size, middle, pad, pointer_size}
@@ -15,13 +15,21 @@ use Rattle.cap_explain.specs.Leading.{byte_of, is_structs, landing_of, segment_a
 use Rattle.cap_explain.specs.Sentences.{names_pointer, sentence}
 use Rattle.cap_explain.specs.declared.landing.Landing.{Landing}
 use Rattle.cap_explain.specs.declared.landing.Landing.TheVariants.{Missing, Near, One, Outside, Two}
+use Rattle.cap_explain.specs.declared.numbers.Numbers.{Numbers}
 use Rattle.cap_explain.specs.declared.sentences.Fault.{Fault}
 use Rattle.cap_explain.specs.declared.sentences.Fault.TheVariants.{ManySegments, NotStrict, Overlap, Refused}
 use Rattle.cap_explain.specs.declared.target.Target.{Target}
 
+-- which byte of an input, whose bytes are counted up to 2 ^ 64 - 1, a byte of the message is
+abbrev pub input_text : Option ℕ → ℕ → List ℕ
+input_text None byte = []
+input_text (Some start) byte =
+    (codes ", byte " ++ decimal (min (start + byte) (2 ^ 64 - 1))) ++ codes " of the input"
+
 -- where the pointer word is
-abbrev pub byte_line : List (List ℕ) → ℕ → ℕ → List ℕ
-byte_line m s w = codes "  byte " ++ decimal (byte_of m s w) ++ codes " of the message" ++ 10 ∷ []
+abbrev pub byte_line : List (List ℕ) → Option ℕ → ℕ → ℕ → List ℕ
+byte_line m start s w = (codes "  byte " ++ decimal (byte_of m s w))
+    ++ (codes " of the message" ++ (input_text start (byte_of m s w) ++ 10 ∷ []))
 
 -- a word, and its form with the fields
 abbrev pub word_text : ℕ → List ℕ
@@ -86,9 +94,9 @@ abbrev pub segment_line : List (List ℕ) → ℕ → List ℕ
 segment_line m s = (codes "  segment " ++ decimal s) ++ segment_state m s ++ 10 ∷ []
 
 -- the lines on the pointer p at word w of segment s, by its landing pad and its target
-abbrev pub pointer_lines : List (List ℕ) → ℕ → ℕ → ℕ → Landing → Option Target → List ℕ
-pointer_lines m s w p landing target =
-    byte_line m s w ++ pointer_line p ++ landing_lines p landing ++ target_lines m target
+abbrev pub pointer_lines : List (List ℕ) → Option ℕ → ℕ → ℕ → ℕ → Landing → Option Target → List ℕ
+pointer_lines m start s w p landing target =
+    byte_line m start s w ++ pointer_line p ++ landing_lines p landing ++ target_lines m target
     ++ segment_line m (segment_after s p landing)
 
 -- the first level that is deeper than the limit
@@ -96,8 +104,11 @@ abbrev pub level_line : ℕ → List ℕ
 level_line depth =
     (codes "  limit level " ++ decimal (depth + 1)) ++ (codes ", at most " ++ decimal depth) ++ 10 ∷ []
 
-abbrev pub charge_line : ℕ → List ℕ
-charge_line words = (codes "  limit charge, at most " ++ decimal words) ++ 10 ∷ []
+-- the charge that is needed, and its limit
+abbrev pub charge_line : Option ℕ → ℕ → List ℕ
+charge_line None words = (codes "  limit charge, at most " ++ decimal words) ++ 10 ∷ []
+charge_line (Some charge) words =
+    ((codes "  limit charge " ++ decimal charge) ++ (codes ", at most " ++ decimal words)) ++ 10 ∷ []
 
 -- how many words the elements of a tag need
 abbrev pub needed : ℕ → ℕ
@@ -120,32 +131,32 @@ overrun_line m None = []
 overrun_line m (Some t) = tagged_line t.word (tag_of m t)
 
 -- what is exceeded: a limit, or the words of a list of structs
-abbrev pub excess_line : List (List ℕ) → Fault → Option Target → ℕ → ℕ → List ℕ
-excess_line m (Refused CompositeOverrun) target words depth = overrun_line m target
-excess_line m (Refused DepthLimit) target words depth = level_line depth
-excess_line m (Refused WordLimit) target words depth = charge_line words
-excess_line m _ target words depth = []
+abbrev pub excess_line : List (List ℕ) → Fault → Option Target → Numbers → List ℕ
+excess_line m (Refused CompositeOverrun) target k = overrun_line m target
+excess_line m (Refused DepthLimit) target k = level_line k.depth
+excess_line m (Refused WordLimit) target k = charge_line k.charge k.words
+excess_line m _ target k = []
 
 abbrev pub reason_line : Fault → Landing → Option Target → List ℕ
 reason_line fault landing target =
     codes "  reason " ++ sentence fault landing target ++ 10 ∷ []
 
 -- the lines if the pointer word is p, by its landing pad and its target
-abbrev pub lines_over : List (List ℕ) → Fault → ℕ → ℕ → ℕ → ℕ → ℕ → Landing → Option Target
+abbrev pub lines_over : List (List ℕ) → Fault → ℕ → ℕ → Numbers → ℕ → Landing → Option Target
     → List ℕ
-lines_over m fault s w words depth p landing target =
-    (if names_pointer fault then pointer_lines m s w p landing target else [])
-    ++ excess_line m fault target words depth ++ reason_line fault landing target
+lines_over m fault s w k p landing target =
+    (if names_pointer fault then pointer_lines m k.start s w p landing target else [])
+    ++ excess_line m fault target k ++ reason_line fault landing target
 
 -- the lines by the word that is named, if it exists
-abbrev pub lines_at : List (List ℕ) → Fault → ℕ → ℕ → ℕ → ℕ → Option ℕ → List ℕ
-lines_at m fault s w words depth None = reason_line fault Near None
-lines_at m fault s w words depth (Some p) =
-    lines_over m fault s w words depth p (landing_of m p) (target_of s w p (landing_of m p))
+abbrev pub lines_at : List (List ℕ) → Fault → ℕ → ℕ → Numbers → Option ℕ → List ℕ
+lines_at m fault s w k None = reason_line fault Near None
+lines_at m fault s w k (Some p) =
+    lines_over m fault s w k p (landing_of m p) (target_of s w p (landing_of m p))
 
--- the lines of a fault that names word w of segment s, under limits of words and levels
-abbrev pub lines_of : List (List ℕ) → Fault → ℕ → ℕ → ℕ → ℕ → List ℕ
-lines_of m fault s w words depth = lines_at m fault s w words depth (word_of m s w)
+-- the lines of a fault that names word w of segment s
+abbrev pub lines_of : List (List ℕ) → Fault → ℕ → ℕ → Numbers → List ℕ
+lines_of m fault s w k = lines_at m fault s w k (word_of m s w)
 
 abbrev pub path_line : List Step → List ℕ
 path_line steps = codes "  path " ++ path_text steps ++ 10 ∷ []
@@ -159,16 +170,17 @@ abbrev pub path_lines : Option (List Step) → List ℕ
 path_lines None = []
 path_lines (Some steps) = path_explanation steps
 
--- the lines on a message that is refused within limits of words and levels
-abbrev pub refusal_lines : List (List ℕ) → StrictRefusal → ℕ → ℕ → List ℕ
-refusal_lines m (refused r) words depth = lines_of m (Refused r.reason) r.segment r.word words depth
-refusal_lines m many words depth = lines_of m ManySegments 0 0 words depth
-refusal_lines m (not_strict what s w pointers) words depth = lines_of m (NotStrict what) s w words depth
+-- the lines on a message that is refused
+abbrev pub refusal_lines : List (List ℕ) → StrictRefusal → Numbers → List ℕ
+refusal_lines m (refused r) k = lines_of m (Refused r.reason) r.segment r.word k
+refusal_lines m many k = lines_of m ManySegments 0 0 k
+refusal_lines m (not_strict what s w pointers) k = lines_of m (NotStrict what) s w k
 
 -- the lines that explain why, with the path to the pointer
-abbrev pub explanation : Option (List Step) → List (List ℕ) → StrictRefusal → ℕ → ℕ → List ℕ
-explanation path m refusal words depth = path_lines path ++ refusal_lines m refusal words depth
+abbrev pub explanation : Option (List Step) → List (List ℕ) → StrictRefusal → Numbers → List ℕ
+explanation path m refusal k = path_lines path ++ refusal_lines m refusal k
 
--- the lines that explain that a pointer overlaps
-abbrev pub overlap_explanation : Option (List Step) → List (List ℕ) → ℕ → ℕ → List ℕ
-overlap_explanation path m s w = path_lines path ++ lines_of m Overlap s w 0 0
+-- the lines that explain that a pointer overlaps, in a message that begins at a byte of the input
+abbrev pub overlap_explanation : Option (List Step) → List (List ℕ) → Option ℕ → ℕ → ℕ → List ℕ
+overlap_explanation path m start s w = path_lines path
+    ++ lines_of m Overlap s w (record { words = 0; depth = 0; charge = None; start = start })

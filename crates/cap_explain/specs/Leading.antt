@@ -1,7 +1,8 @@
 -- The words that a pointer leads through, and where its target is, as far as the message has them
 -- (profile).
-use Rattle.std.specs.Prelude.{Bool, List, None, Option, Some, false, if◌then◌else◌, length, nat_lt, slice_get, ℕ, ◌*◌}
+use Rattle.std.specs.Prelude.{Bool, List, None, Option, Some, false, if◌then◌else◌, length, nat_lt, slice_get, sum, ℕ, ◌*◌}
 use Rattle.std.specs.Prelude.{◌+◌, ◌-◌, ◌/◌, ◌==◌}
+use Rattle.cap_spec.specs.Frames.{sizes_of}
 use Rattle.cap_spec.specs.Messages.{segment_of}
 use Rattle.cap_spec.specs.Pointers.{code, far_segment, kind, middle, pad, two}
 use Rattle.cap_vet.specs.Taken.{start_of}
@@ -17,6 +18,10 @@ word_of m s w = slice_get (segment_of m s) w
 -- the first byte of that word in the message, its segment table included
 abbrev pub byte_of : List (List ℕ) → ℕ → ℕ → ℕ
 byte_of m s w = 8 * (length m / 2 + 1 + start_of m s + w)
+
+-- the words of the frame of a message: its segment table, and the words of its segments
+abbrev pub frame_words : List (List ℕ) → ℕ
+frame_words m = length m / 2 + 1 + sum (sizes_of m)
 
 -- a landing pad of two words, as far as its second word exists
 abbrev pub two_words : ℕ → Option ℕ → Landing

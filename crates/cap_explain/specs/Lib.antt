@@ -1,3 +1,4 @@
+pub mod Charges
 pub mod Explaining
 pub mod FormTexts
 pub mod Leading

@@ -1,7 +1,6 @@
 //! The explanation of a refusal.
 
 ghost use Rattle.cap_explain.specs.Explaining.{explanation, lines_of, lines_over, overlap_explanation, pointer_lines};
-ghost use Rattle.cap_vet.specs.Limits.{depth_of, words_of};
 ghost use Rattle.std.specs.Option.{option_map};
 ghost use Rattle.std.specs.Prelude.{◌+◌, ◌*◌, ◌++◌, ◌^◌, ◌<◌, ◌≡◌, ◌≤◌, IfSome, length};
 
@@ -11,13 +10,13 @@ use crate::lines::{
     LINE, PLAIN, push_byte_line, push_excess_line, push_landing_lines, push_pointer_line,
     push_reason_line, push_segment_line, push_target_lines,
 };
+use crate::numbers::Numbers;
 use crate::path::push_path_lines;
 use crate::sentences::{Fault, names_pointer};
 use crate::target::{Target, segment_after, target_of};
 use crate::words::word_of;
 use cap_frame::Segments;
 use cap_spec::{Step, StrictRefusal};
-use cap_vet::Limits;
 
 /// The space for the lines on a pointer.
 const POINTER: usize = 5 * LINE + 2 * PLAIN;
@@ -35,6 +34,7 @@ struct Pointer {
 fn push_pointer_lines<M: Segments>(
     text: &mut Explanation,
     message: &M,
+    start: Option<u64>,
     pointer: Pointer,
     target: &Option<Target>,
 )
@@ -42,10 +42,10 @@ fn push_pointer_lines<M: Segments>(
     requires near { IfSome target.now (λ t. t.start < 2 ^ 34) }
     requires room { length text.old + POINTER ≤ CAPACITY }
     ensures items { let p = pointer in text.new ≡ text.old ++ pointer_lines
-        (M.segments message.now) p.segment p.word p.value p.landing target.now }
+        (M.segments message.now) start p.segment p.word p.value p.landing target.now }
     ensures few { length text.new ≤ length text.old + POINTER }
 {
-    push_byte_line(text, message, pointer.segment, pointer.word);
+    push_byte_line(text, message, start, pointer.segment, pointer.word);
     push_pointer_line(text, pointer.value);
     push_landing_lines(text, pointer.value, pointer.landing);
     push_target_lines(text, message, target);
@@ -60,38 +60,36 @@ fn push_lines<M: Segments>(
     fault: Fault,
     pointer: Pointer,
     target: &Option<Target>,
-    words: u64,
-    depth: u32,
+    numbers: Numbers,
 )
     requires exists { pointer.segment < length (M.segments message.now) }
     requires near { IfSome target.now (λ t. t.start < 2 ^ 34) }
     requires room { length text.old + POINTER + 2 * PLAIN ≤ CAPACITY }
     ensures { let p = pointer in text.new ≡ text.old ++ lines_over
-        (M.segments message.now) fault p.segment p.word words depth p.value p.landing target.now }
+        (M.segments message.now) fault p.segment p.word numbers p.value p.landing target.now }
 {
     if names_pointer(fault) {
-        push_pointer_lines(text, message, pointer, target);
+        push_pointer_lines(text, message, numbers.start, pointer, target);
     }
-    push_excess_line(text, message, fault, target, words, depth);
+    push_excess_line(text, message, fault, target, numbers);
     push_reason_line(text, fault, pointer.landing, target);
 }
 
 /// The space for all lines on a fault but that of the path.
 const LINES: usize = POINTER + 2 * PLAIN;
 
-/// Appends the lines of a fault that names a word, under limits of words and levels.
+/// Appends the lines of a fault that names a word.
 fn push_fault<M: Segments>(
     text: &mut Explanation,
     message: &M,
     fault: Fault,
     segment: u32,
     word: u32,
-    words: u64,
-    depth: u32,
+    numbers: Numbers,
 )
     requires { length text.old + LINES ≤ CAPACITY }
     ensures { text.new ≡ text.old
-        ++ lines_of (M.segments message.now) fault segment word words depth }
+        ++ lines_of (M.segments message.now) fault segment word numbers }
 {
     match word_of(message, segment, u64::from(word)) {
         Some(value) => {
@@ -103,15 +101,15 @@ fn push_fault<M: Segments>(
                 value,
                 landing,
             };
-            push_lines(text, message, fault, pointer, &target, words, depth);
+            push_lines(text, message, fault, pointer, &target, numbers);
         }
         None => push_reason_line(text, fault, Landing::Near, &None),
     }
 }
 
-/// Writes the lines that explain why a message is refused within limits (docs/output.md, explain):
-/// the path to the pointer, the pointer word and its fields, where it leads, what is exceeded, and
-/// the reason as a sentence. What the text held before is removed. Allocates nothing.
+/// Writes the lines that explain why a message is refused (docs/output.md, explain): the path to the
+/// pointer, where it is, the pointer word and its fields, where it leads, what is exceeded, and the
+/// reason as a sentence. What the text held before is removed. Allocates nothing.
 ///
 /// A refusal that names no word of the message has only the line of the reason, and that of a path
 /// if one is given. A path of more than 257 steps has no line: no path to a pointer of a refusal has
@@ -120,11 +118,11 @@ pub fn explain<M: Segments>(
     text: &mut Explanation,
     message: &M,
     refusal: &StrictRefusal,
-    limits: Limits,
+    numbers: Numbers,
     path: Option<&[Step]>,
 )
     ensures { text.new ≡ explanation (option_map (λ steps. steps.now) path.entry)
-        (M.segments message.now) refusal.now (words_of limits) (depth_of limits) }
+        (M.segments message.now) refusal.now numbers }
 {
     let (fault, segment, word) = match refusal {
         StrictRefusal::Refused(refusal) => {
@@ -144,30 +142,29 @@ pub fn explain<M: Segments>(
     };
     text.clear();
     push_path_lines(text, path);
-    push_fault(
-        text,
-        message,
-        fault,
-        segment,
-        word,
-        limits.words(),
-        limits.depth(),
-    );
+    push_fault(text, message, fault, segment, word, numbers);
 }
 
-/// Writes the lines that explain that the pointer at word `word` of segment `segment` overlaps. See
-/// [`explain`].
+/// Writes the lines that explain that the pointer at word `word` of segment `segment` overlaps. The
+/// message begins at byte `start` of the input, if it is one of a stream. See [`explain`].
 pub fn explain_overlap<M: Segments>(
     text: &mut Explanation,
     message: &M,
+    start: Option<u64>,
     segment: u32,
     word: u32,
     path: Option<&[Step]>,
 )
     ensures { text.new ≡ overlap_explanation (option_map (λ steps. steps.now) path.entry)
-        (M.segments message.now) segment word }
+        (M.segments message.now) start segment word }
 {
     text.clear();
     push_path_lines(text, path);
-    push_fault(text, message, Fault::Overlap, segment, word, 0, 0);
+    let numbers = Numbers {
+        words: 0,
+        depth: 0,
+        charge: None,
+        start,
+    };
+    push_fault(text, message, Fault::Overlap, segment, word, numbers);
 }

@@ -2,15 +2,20 @@
 //! leads, and the reason as a sentence.
 #![tactic(auto)]
 
+mod charge;
 mod explaining;
 mod explanation;
 mod forms;
 mod landing;
 mod lines;
+mod numbers;
 mod path;
 mod sentences;
 mod target;
 mod words;
 
+pub use charge::refusal_charge;
 pub use explaining::{explain, explain_overlap};
 pub use explanation::Explanation;
+pub use numbers::Numbers;
+pub use words::frame_words;

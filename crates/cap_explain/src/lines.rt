@@ -1,11 +1,12 @@
 //! The lines of an explanation.
 
-ghost use Rattle.cap_explain.specs.Explaining.{byte_line, charge_line, elements_line, excess_line, target_line, target_lines, target_place, target_range, landing_lines, level_line, overrun_line, pad_line, pointer_line, reason_line, segment_line, segment_state, tag_line, tag_note, tag_word, word_text};
-ghost use Rattle.std.specs.Prelude.{◌+◌, ◌*◌, ◌++◌, ◌^◌, ◌<◌, ◌≡◌, ◌≤◌, IfSome, length};
+ghost use Rattle.cap_explain.specs.Explaining.{byte_line, charge_line, elements_line, excess_line, input_text, target_line, target_lines, target_place, target_range, landing_lines, level_line, overrun_line, pad_line, pointer_line, reason_line, segment_line, segment_state, tag_line, tag_note, tag_word, word_text};
+ghost use Rattle.std.specs.Prelude.{◌+◌, ◌*◌, ◌++◌, ◌^◌, ◌<◌, ◌≡◌, ◌≤◌, IfSome, None, Some, length};
 
 use crate::explanation::{CAPACITY, DIGITS, Explanation};
 use crate::forms::{FORM, TAG, push_form, push_tag};
 use crate::landing::Landing;
+use crate::numbers::Numbers;
 use crate::sentences::{Fault, SENTENCE, sentence};
 use crate::target::{Target, extent, is_structs, needed, tag_of};
 use crate::words::byte_of;
@@ -22,20 +23,36 @@ pub(crate) const LINE: usize = PLAIN + FORM;
 /// The most bytes of the name of a line.
 const NAME: usize = 16;
 
+/// Appends which byte of the input a byte of the message is, if the message is one of a stream.
+fn push_input_place(text: &mut Explanation, start: Option<u64>, byte: u64)
+    requires { length text.old + 60 ≤ CAPACITY }
+    ensures items { text.new ≡ text.old ++ input_text start byte }
+    ensures few { length text.new ≤ length text.old + 60 }
+{
+    if let Some(start) = start {
+        text.push_named(b", byte ", start.saturating_add(byte));
+        text.push_text(b" of the input");
+    }
+}
+
 /// Appends where a pointer word is.
 pub(crate) fn push_byte_line<M: Segments>(
     text: &mut Explanation,
     message: &M,
+    start: Option<u64>,
     segment: u32,
     word: u32,
 )
     requires exists { segment < length (M.segments message.now) }
     requires room { length text.old + LINE ≤ CAPACITY }
-    ensures items { text.new ≡ text.old ++ byte_line (M.segments message.now) segment word }
+    ensures items { text.new ≡ text.old ++ byte_line (M.segments message.now) start segment word }
     ensures few { length text.new ≤ length text.old + LINE }
 {
-    text.push_named(b"  byte ", byte_of(message, segment, word));
-    text.push_text(b" of the message\n");
+    let byte = byte_of(message, segment, word);
+    text.push_named(b"  byte ", byte);
+    text.push_text(b" of the message");
+    push_input_place(text, start, byte);
+    text.push_text(b"\n");
 }
 
 /// Appends a word and its form, and ends the line.
@@ -222,10 +239,33 @@ fn push_level_line(text: &mut Explanation, depth: u32)
     text.push_text(b"\n");
 }
 
-/// Appends the limit of the charge.
-fn push_charge_line(text: &mut Explanation, words: u64)
+/// Appends the charge that is needed, and its limit.
+fn push_charge_line(text: &mut Explanation, charge: Option<u64>, words: u64)
     requires { length text.old + PLAIN ≤ CAPACITY }
-    ensures items { text.new ≡ text.old ++ charge_line words }
+    ensures items { text.new ≡ text.old ++ charge_line charge words }
+    ensures few { length text.new ≤ length text.old + PLAIN }
+{
+    match charge {
+        Some(charge) => push_needed_line(text, charge, words),
+        None => push_words_line(text, words),
+    }
+}
+
+/// Appends this charge, and its limit.
+fn push_needed_line(text: &mut Explanation, charge: u64, words: u64)
+    requires { length text.old + PLAIN ≤ CAPACITY }
+    ensures items { text.new ≡ text.old ++ charge_line (Some charge) words }
+    ensures few { length text.new ≤ length text.old + PLAIN }
+{
+    text.push_named(b"  limit charge ", charge);
+    text.push_named(b", at most ", words);
+    text.push_text(b"\n");
+}
+
+/// Appends the limit of the charge alone.
+fn push_words_line(text: &mut Explanation, words: u64)
+    requires { length text.old + PLAIN ≤ CAPACITY }
+    ensures items { text.new ≡ text.old ++ charge_line None words }
     ensures few { length text.new ≤ length text.old + PLAIN }
 {
     text.push_named(b"  limit charge, at most ", words);
@@ -263,18 +303,17 @@ pub(crate) fn push_excess_line<M: Segments>(
     message: &M,
     fault: Fault,
     target: &Option<Target>,
-    words: u64,
-    depth: u32,
+    numbers: Numbers,
 )
     requires { length text.old + PLAIN ≤ CAPACITY }
     ensures items { text.new ≡ text.old
-        ++ excess_line (M.segments message.now) fault target.now words depth }
+        ++ excess_line (M.segments message.now) fault target.now numbers }
     ensures few { length text.new ≤ length text.old + PLAIN }
 {
     match fault {
         Fault::Refused(Reason::CompositeOverrun) => push_overrun_line(text, message, target),
-        Fault::Refused(Reason::DepthLimit) => push_level_line(text, depth),
-        Fault::Refused(Reason::WordLimit) => push_charge_line(text, words),
+        Fault::Refused(Reason::DepthLimit) => push_level_line(text, numbers.depth),
+        Fault::Refused(Reason::WordLimit) => push_charge_line(text, numbers.charge, numbers.words),
         _ => {}
     }
 }

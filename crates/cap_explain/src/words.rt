@@ -1,6 +1,6 @@
 //! The words of a message by their places, and their bytes.
 
-ghost use Rattle.cap_explain.specs.Leading.{byte_of, word_of};
+ghost use Rattle.cap_explain.specs.Leading.{byte_of, frame_words, word_of};
 ghost use Rattle.cap_vet.specs.Taken.{start_of};
 ghost use Rattle.std.specs.Prelude.{◌+◌, ◌*◌, ◌^◌, ◌<◌, ◌≡◌, ◌≤◌, length};
 
@@ -36,4 +36,12 @@ pub(crate) fn byte_of<M: Segments>(message: &M, s: u32, w: u32) -> u64
 {
     let table = u64::from(message.count() / 2 + 1);
     8 * (table + words_before(message, s) + u64::from(w))
+}
+
+/// How many words the frame of a message has: its segment table, and the words of its segments
+/// (encoding: Serialization Over a Stream).
+pub fn frame_words<M: Segments>(message: &M) -> u64
+    ensures { result ≡ frame_words (M.segments message.now) }
+{
+    u64::from(message.count() / 2 + 1) + words_before(message, message.count())
 }

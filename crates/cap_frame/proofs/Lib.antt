@@ -4,6 +4,7 @@ pub mod Tables
 pub mod Contents
 pub mod Skips
 pub mod Behind
+pub mod TablesLeft
 pub mod Converse
 pub mod Reading
 pub mod InOneBuffer

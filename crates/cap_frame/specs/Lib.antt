@@ -2,6 +2,7 @@ pub mod Limit
 pub mod Outlines
 pub mod Taking
 pub mod ReadingFaults
+pub mod TablesLeft
 pub mod Reading
 pub mod Rooms
 pub mod Putting

@@ -7,5 +7,6 @@ pub use Rattle.cap_frame.specs.Limit.{limit_of}
 pub use Rattle.cap_frame.specs.Putting.{Halts}
 pub use Rattle.cap_frame.specs.Reading.{ReadsNext, TakesFrame}
 pub use Rattle.cap_frame.specs.ReadingFaults.{Faults, TakesTable, frame_fault_of}
+pub use Rattle.cap_frame.specs.TablesLeft.{HasSizes, LeavesSizes, LeavesTable}
 pub use Rattle.cap_frame.specs.Taking.{IsUsable, ReadsInput, Stops, Takes}
 pub use Rattle.cap_frame.specs.declared.fault.FrameFault.{FrameFault}

@@ -4,8 +4,9 @@ ghost use Rattle.cap_frame.specs.Bytes.{cut};
 ghost use Rattle.cap_frame.specs.HeldBytes.{LeavesRoom, held_segments, room_in};
 ghost use Rattle.cap_frame.specs.Limit.{limit_of};
 ghost use Rattle.cap_frame.specs.Reading.{IsResult, LacksMemory, ReadsFrame, has_message};
+ghost use Rattle.cap_frame.specs.TablesLeft.{LeavesSizes, LeavesTable};
 ghost use Rattle.cap_spec.specs.GreatestLimits.{most_words};
-ghost use Rattle.std.specs.Prelude.{◌*◌, ◌≡◌, ◌≤◌, [], ◌∷◌, IsErrOf, length, sum, true};
+ghost use Rattle.std.specs.Prelude.{◌*◌, ◌≡◌, ◌≤◌, [], ◌∷◌, IfErr, IfSome, IsErrOf, length, sum, true};
 ghost use Rattle.std.specs.Vec.{vec_capacity, vec_len};
 
 use crate::byte_contents::{make_room, read_bytes};
@@ -13,7 +14,7 @@ use crate::byte_message::{ByteMessage, blank};
 use crate::fault::{FrameFault, frame_fault};
 use crate::limit::SizeLimit;
 use crate::segment_tables::fill_starts;
-use crate::table::{Sizes, next_table, total};
+use crate::table::{Sizes, TableSums, next_table, sums_of, total};
 use cap_words::WordSource;
 use std::alloc::Global;
 
@@ -35,6 +36,8 @@ fn read_parts<S: WordSource>(
     ensures memory { IsErrOf result FrameFault.Memory → LacksMemory S.WordSource (limit_of limit)
         (vec_capacity bytes.old) source.old source.new }
     ensures room { LeavesRoom result (vec_capacity bytes.old) (vec_capacity bytes.new) }
+    ensures left { IfErr result (λ fault. IfSome (S.words source.old) (λ ws.
+        LeavesSizes fault ws sizes.new.items)) }
 {
     sizes.clear();
     match next_table(source, limit, sizes) {
@@ -95,6 +98,55 @@ pub fn read_into<S: WordSource>(
             Ok(false)
         }
         Err(fault) => {
+            blank(sizes, starts);
+            Err(fault)
+        }
+    }
+}
+
+/// Does what [`read_into`] does, and keeps what the table says in `table` if the message can't be
+/// read.
+///
+/// # Errors
+///
+/// Those of [`read_into`]. After `TooLarge`, and after `Truncated` if the whole table is there,
+/// `table` has the segments and the words that the table says. After another `Truncated`, and after
+/// `TooManySegments`, it is `None`.
+// It has a body of its own: by a call of it `read_into` takes 25 instructions more for a message.
+pub fn read_noting<S: WordSource>(
+    alloc: Global,
+    source: &mut S,
+    limit: SizeLimit,
+    message: &mut ByteMessage,
+    table: &mut Option<TableSums>,
+) -> Result<bool, FrameFault>
+    ensures read { ReadsFrame S.WordSource (λ m. held_segments message.new ≡ m) (limit_of limit)
+        source.old source.new result }
+    // The capacity was less than the words of the table need.
+    ensures memory { IsErrOf result FrameFault.Memory → LacksMemory S.WordSource (limit_of limit)
+        (room_in message.old) source.old source.new }
+    // Nothing was allocated for a message past a limit.
+    ensures room { LeavesRoom result (room_in message.old) (room_in message.new) }
+    ensures blank { (result ≡ Ok true → ⊥) → held_segments message.new ≡ [] ∷ [] }
+    ensures table { IfErr result (λ fault. IfSome (S.words source.old) (λ ws.
+        LeavesTable fault ws table.new)) }
+{
+    let ByteMessage {
+        bytes,
+        sizes,
+        starts,
+    } = message;
+    match read_parts(alloc, source, limit, sizes, bytes) {
+        Ok(true) => {
+            fill_starts(sizes, starts);
+            Ok(true)
+        }
+        Ok(false) => {
+            blank(sizes, starts);
+            Ok(false)
+        }
+        Err(fault) => {
+            *table = sums_of(sizes);
             blank(sizes, starts);
             Err(fault)
         }

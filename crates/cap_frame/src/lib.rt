@@ -22,7 +22,7 @@ mod words;
 mod writer;
 
 pub use byte_message::ByteMessage;
-pub use byte_reader::{read_byte_message, read_into};
+pub use byte_reader::{read_byte_message, read_into, read_noting};
 pub use fault::{FrameFault, FrontFault};
 pub use framed::Framed;
 pub use front::front_of;
@@ -33,5 +33,6 @@ pub use outline_reader::read_outline;
 pub use reader::read_message;
 pub use segment_tables::SegmentTables;
 pub use segments::Segments;
+pub use table::TableSums;
 pub use view::ByteView;
 pub use writer::{TABLE_BYTES, table_into, write_message};

@@ -4,9 +4,10 @@ ghost use Rattle.arrayvec.specs.ArrayVec.{array_vec_len};
 ghost use Rattle.cap_frame.specs.Reading.{ReadsNext};
 ghost use Rattle.cap_frame.specs.ReadingFaults.{TakesTable};
 ghost use Rattle.cap_frame.specs.Limit.{limit_of};
+ghost use Rattle.cap_frame.specs.TablesLeft.{LeavesSizes, sums_of};
 ghost use Rattle.cap_frame.specs.Taking.{IsUsable, ReadsInput, Stops, Takes};
 ghost use Rattle.cap_spec.specs.Frames.{IsTable, halves};
-ghost use Rattle.std.specs.Prelude.{◌%◌, ◌*◌, ◌+◌, ◌++◌, ◌/◌, ◌<◌, ◌^◌, ◌≡◌, ◌≤◌, [], ◌∷◌, IfErr, IsErrOf, List, OnOk, false, length, sum, take, true, ℕ};
+ghost use Rattle.std.specs.Prelude.{◌%◌, ◌*◌, ◌+◌, ◌++◌, ◌/◌, ◌<◌, ◌^◌, ◌≡◌, ◌≤◌, [], ◌∷◌, IfErr, IfSome, IsErrOf, List, OnOk, false, length, sum, take, true, ℕ};
 
 use crate::fault::{FrameFault, frame_fault};
 use crate::limit::SizeLimit;
@@ -16,6 +17,17 @@ use cap_words::{SourceFault, WordSource};
 
 /// The sizes of a message's segments, in words.
 pub(crate) type Sizes = ArrayVec<u32, 512>;
+
+/// What is kept of the table of a message that can't be read.
+#[derive(Clone, Copy, Debug, PartialEq, Eq, Drop)]
+pub struct TableSums {
+    /// How many segments the message has.
+    pub segments: u32,
+    /// How many words they have together.
+    pub words: u64,
+    /// How many bytes the whole message has, its table included.
+    pub bytes: u64,
+}
 
 // The number in the low four bytes of a word.
 fn low_half(word: u64) -> u32
@@ -79,6 +91,23 @@ pub(crate) fn total(sizes: &[u32]) -> u64
     sizes.iter().map(|size| u64::from(*size)).sum()
 }
 
+/// What is kept of sizes, or `None` where there are none.
+pub(crate) fn sums_of(sizes: &[u32]) -> Option<TableSums>
+    requires { length sizes.now ≤ 512 }
+    ensures { result ≡ sums_of sizes.now }
+{
+    if sizes.is_empty() {
+        return None;
+    }
+    let segments = sizes.len() as u32;
+    let words = total(sizes);
+    Some(TableSums {
+        segments,
+        words,
+        bytes: 8 * (u64::from(segments / 2 + 1) + words),
+    })
+}
+
 /// Reads the table of the next message. `false` where the stream ends before its first word.
 // Inlined, with what it calls, since a stream may be of many small messages.
 #[inline(always)]
@@ -93,6 +122,8 @@ pub(crate) fn next_table<S: WordSource>(
     ensures within { result ≡ Ok true → sum sizes.new.items ≤ limit_of limit }
     ensures next { ReadsNext S.WordSource (limit_of limit) source.old source.new result }
     ensures no_memory { IsErrOf result FrameFault.Memory → ⊥ }
+    ensures left { IfErr result (λ fault. IfSome (S.words source.old) (λ ws.
+        LeavesSizes fault ws sizes.new.items)) }
 {
     let first = match source.next() {
         Ok(Some(first)) => first,
@@ -106,6 +137,7 @@ pub(crate) fn next_table<S: WordSource>(
         });
     }
     if let Err(fault) = read_sizes(source, first, sizes) {
+        sizes.clear();
         return Err(frame_fault(fault));
     }
     let words = total(sizes);

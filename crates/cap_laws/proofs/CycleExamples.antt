@@ -1,8 +1,9 @@
 -- A struct whose one pointer leads back to the struct: the pointer that passes a limit is the first fault.
-use Rattle.cap_spec.proofs.Lemmas.{one_reached, one_object}
+use Rattle.cap_spec.specs.declared.Kind.TheVariants.{Pointers, Struct, Structs}
+use Rattle.cap_spec.proofs.Lemmas.{one_reached, one_found, one_object, struct_found, first_fault_kept}
 use Rattle.cap_spec.proofs.Prelude.{List, [], ap, ap₂, arith, inl, inr, length, lit<, lit≤, refl, subst, suc, sym, zero}
-use Rattle.cap_spec.proofs.Prelude.{ℕ, ◌++◌, ◌+◌, ◌<◌, ◌∙◌, ◌∷◌, ◌≡◌, ◌≤◌, ◌⊎◌, cases_lt, Finds, AreShallow}
-use Rattle.cap_spec.proofs.Prelude.{IsFirstReason, IsRefused, is_deep, is_past, near, IsOneOf, Before, Costs, IsTour}
+use Rattle.cap_spec.proofs.Prelude.{ℕ, ◌++◌, ◌+◌, ◌<◌, ◌∙◌, ◌∷◌, ◌≡◌, ◌≤◌, ◌⊎◌, cases_lt, Finds, FindsKind, AreShallow}
+use Rattle.cap_spec.proofs.Prelude.{IsFaultAt, IsFirstReason, IsRefused, is_deep, is_past, near, IsOneOf, Before, Costs, IsTour}
 use Rattle.cap_spec.proofs.Prelude.{PathLeads, Reaches, Rises, Spot, StepsTo, word, CostOf}
 use Rattle.cap_laws.specs.Prelude.{Reason, DepthLimit, WordLimit, Step, Item, Ptr}
 
@@ -13,8 +14,11 @@ finds_circle : Finds circle 0 0 0 0 0 0x00010000fffffffc
 finds_circle = record {
   leads = near 0x00010000fffffffc refl (λ e. omega (arith, e))
       (lit< tt, (λ e. omega (arith, e)), refl, refl, refl) refl;
-  sits = record { exists = lit< tt; inside = lit≤ tt; composite = λ (a, b). absurd (omega (arith, a)) };
+  inside = record { exists = lit< tt; inside = lit≤ tt; composite = λ (a, b). absurd (omega (arith, a)) };
 }
+
+object_circle : FindsKind circle 0 0 (Struct 0 1) 0 0 0 0x00010000fffffffc 0
+object_circle = struct_found circle 0 0 0 0 0 0x00010000fffffffc finds_circle refl
 
 -- n times around
 abbrev around : ℕ → List Step
@@ -27,23 +31,23 @@ length-around (suc n) = let e = length-around n in omega (arith, e)
 
 -- a step leads around
 goes_around : (step : Step) (spot : Spot) → StepsTo circle (word 0 0) step spot → (step ≡ Ptr 0) × (spot ≡ word 0 0)
-goes_around (Ptr i) spot (k, t, b, q, finds, zero_kind, few, e) =
-    let o = one_object circle 0 0 k t b q 0 0 0 0x00010000fffffffc finds finds_circle in
-    let less : i < 1 = rw o.shape at few in
-    let none : i ≡ 0 = omega (arith, less) in
-    (ap Ptr none, rw (o.segment, o.start, o.shape, none) at e)
-goes_around (Item i) spot (inl (k, t, b, q, finds, is_list, of_pointers, less, ends)) =
-    let o = one_object circle 0 0 k t b q 0 0 0 0x00010000fffffffc finds finds_circle in
-    absurd (omega (arith, rw o.shape at is_list))
-goes_around (Item i) spot (inr (k, t, b, q, tag, finds, is_list, of_structs, has_tag, less, ends)) =
-    let o = one_object circle 0 0 k t b q 0 0 0 0x00010000fffffffc finds finds_circle in
-    absurd (omega (arith, rw o.shape at is_list))
+goes_around (Ptr i) spot (k, t, b, q, tag, ds, ps, finds, few, e) =
+    let o = one_found finds object_circle in
+    let kind : Struct ds ps ≡ Struct 0 1 = o.kind in
+    let no_words : ds ≡ 0 = cc kind in
+    let one : ps ≡ 1 = cc kind in
+    let none : i ≡ 0 = omega (arith, few, one) in
+    (ap Ptr none, rw (o.segment, o.start, no_words, none) at e)
+goes_around (Item i) spot (inl (k, t, b, q, tag, n, finds, less, ends)) =
+    let kind : Pointers n ≡ Struct 0 1 = (one_found finds object_circle).kind in absurd (cc kind)
+goes_around (Item i) spot (inr (k, t, b, q, tag, n, ds, ps, finds, less, ends)) =
+    let kind : Structs n ds ps ≡ Struct 0 1 = (one_found finds object_circle).kind in absurd (cc kind)
 
 -- so each path goes around
 walks_around : (n : ℕ) → PathLeads circle (word 0 0) (around n) n (word 0 0)
 walks_around zero = (refl, refl)
 walks_around (suc n) =
-    (word 0 0, n, (0, 0, 0, 0x00010000fffffffc, finds_circle, refl, lit< tt, refl), walks_around n, omega arith)
+    (word 0 0, n, (0, 0, 0, 0x00010000fffffffc, 0, 0, 1, object_circle, lit< tt, refl), walks_around n, omega arith)
 
 walk_is_around : (path : List Step) (n : ℕ) (spot : Spot) → PathLeads circle (word 0 0) path n spot → path ≡ around n
 walk_is_around [] n spot (e, same) = ap around (sym e)
@@ -160,21 +164,28 @@ shallow_around n depth within p level s w h r (k, t, b, q, tag, finds, tagged, d
 -- The pointer after n of them is the first fault, if they keep to the limits and it doesn't.
 refused_around : (n words depth : ℕ) (v : Reason) → n ≤ words → n ≤ depth → IsFirstReason circle words depth n 0 0 (1 + n) v
     → IsRefused circle words depth record { segment = 0; word = 0; reason = v; pointers = n + 1 }
-refused_around n words depth v within shallow reason = inr record {
-  path = around n;
-  before = arounds 0 n;
-  level = 1 + n;
-  charge = n;
-  reached = reaches_around n;
-  tour = tour_around n;
-  costs = costs_around 0 n;
-  within = within;
-  shallow = shallow_around n depth shallow;
-  reason = reason;
-  pointers = let e : length (arounds 0 n ++ around n ∷ []) ≡ length (arounds 0 (suc n)) = ap length (arounds-whole n) in
-      let l = length-arounds 0 (suc n) in omega (arith, e, l);
-  few = omega (arith, within);
-}
+refused_around n words depth v within shallow reason =
+    inr (first_fault_kept fault within (shallow_around n depth shallow) (omega (arith, within)))
+  where
+    number : n + 1 ≡ length (arounds 0 n ++ around n ∷ [])
+    number = let e : length (arounds 0 n ++ around n ∷ []) ≡ length (arounds 0 (suc n)) = ap length (arounds-whole n) in
+        let l = length-arounds 0 (suc n) in omega (arith, e, l)
+
+    fault : IsFaultAt circle words depth (around n) record { segment = 0; word = 0; reason = v; pointers = n + 1 }
+    fault = record {
+      numbered = record {
+        level = 1 + n;
+        tour = arounds 0 n ++ around n ∷ [];
+        reached = reaches_around n;
+        is_tour = tour_around n;
+        count = number;
+      };
+      before = arounds 0 n;
+      charge = n;
+      whole = refl;
+      costs = costs_around 0 n;
+      reason = reason;
+    }
 
 -- A depth limit of 64 refuses the pointer after 64,
 depth_around : IsRefused circle 1000 64 record { segment = 0; word = 0; reason = DepthLimit; pointers = 65 }

@@ -1,4 +1,5 @@
 -- Steps of high numbers lead nowhere.
+use Rattle.cap_spec.proofs.Lemmas.{pointers_shape, struct_shape, structs_shape}
 use Rattle.cap_spec.proofs.Prelude.{List, [], arith, inl, inr, subst, sym, ℕ, ◌<◌, ◌^◌, ◌∷◌, ◌≤◌, ⊤, PathLeads}
 use Rattle.cap_spec.proofs.Prelude.{ReachesSpot, Spot, StepsTo, element, word}
 use Rattle.cap_spec.proofs.Trees.DenotedTrees.{field_below}
@@ -10,13 +11,13 @@ HasFewPointers (word s w) = ⊤
 HasFewPointers (element t b ds ps) = ps < 2 ^ 16
 
 step_few : (m : List (List ℕ)) (a : Spot) (step : Step) (b : Spot) → StepsTo m a step b → HasFewPointers b
-step_few m (word s w) (Ptr i) b (k, t, b', q, finds, is_struct, less, ends) =
+step_few m (word s w) (Ptr i) b (k, t, b', q, tag, ds, ps, finds, less, ends) =
     subst (λ (z : Spot). HasFewPointers z) (sym ends) tt
-step_few m (word s w) (Item i) b (inl (k, t, b', q, finds, is_list, of_pointers, less, ends)) =
+step_few m (word s w) (Item i) b (inl (k, t, b', q, tag, n, finds, less, ends)) =
     subst (λ (z : Spot). HasFewPointers z) (sym ends) tt
-step_few m (word s w) (Item i) b (inr g) =
-    let (k, t, b', q, tag, finds, is_list, of_structs, has_tag, less, ends) = g in
-    subst (λ (z : Spot). HasFewPointers z) (sym ends) (field_below tag 48 16)
+step_few m (word s w) (Item i) b (inr (k, t, b', q, tag, n, ds, ps, finds, less, ends)) =
+    let x = structs_shape finds.shape in
+    subst (λ (z : Spot). HasFewPointers z) (sym ends) (rw x.pointers (field_below tag 48 16))
 step_few m (element t b ds ps) (Ptr i) c g = subst (λ (z : Spot). HasFewPointers z) (sym g.1) tt
 step_few m (element t b ds ps) (Item i) c g = absurd g
 
@@ -27,8 +28,10 @@ walk_few m a (step ∷ path) n b h g = walk_few m g.0 path g.1 b (step_few m a s
 
 -- So no step to a pointer has a higher number,
 pointer_below : (m : List (List ℕ)) (a : Spot) (i : ℕ) (b : Spot) → HasFewPointers a → StepsTo m a (Ptr i) b → i < 65535
-pointer_below m (word s w) i b h (k, t, b', q, finds, is_struct, less, ends) =
-    let few = field_below q 48 16 in omega (arith, few, less)
+pointer_below m (word s w) i b h (k, t, b', q, tag, ds, ps, finds, less, ends) =
+    let x = struct_shape finds.shape in
+    let few : ps < 2 ^ 16 = rw x.pointers (field_below q 48 16) in
+    omega (arith, few, less)
 pointer_below m (element t c ds ps) i b h g = omega (arith, h, g.0)
 
 pub no_high_pointer : (m : List (List ℕ)) (path : List Step) (level i : ℕ) (a b : Spot) → ReachesSpot m path level a → 65535 ≤ i
@@ -38,9 +41,12 @@ no_high_pointer m path level i a b c high g =
 
 -- and none to an element.
 pub no_high_element : (m : List (List ℕ)) (a b : Spot) (i : ℕ) → 2 ^ 30 ≤ i → StepsTo m a (Item i) b → ⊥
-no_high_element m (word s w) b i high (inl (k, t, b', q, finds, is_list, of_pointers, less, ends)) =
-    let few = field_below q 35 29 in omega (arith, high, few, less)
-no_high_element m (word s w) b i high (inr g) =
-    let (k, t, b', q, tag, finds, is_list, of_structs, has_tag, less, ends) = g in
-    let few = field_below tag 2 30 in omega (arith, high, few, less)
+no_high_element m (word s w) b i high (inl (k, t, b', q, tag, n, finds, less, ends)) =
+    let x = pointers_shape finds.shape in
+    let few : n < 2 ^ 29 = rw x.count (field_below q 35 29) in
+    omega (arith, high, few, less)
+no_high_element m (word s w) b i high (inr (k, t, b', q, tag, n, ds, ps, finds, less, ends)) =
+    let x = structs_shape finds.shape in
+    let few : n < 2 ^ 30 = rw x.count (field_below tag 2 30) in
+    omega (arith, high, few, less)
 no_high_element m (element t c ds ps) b i high g = g

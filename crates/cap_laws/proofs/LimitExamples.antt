@@ -1,7 +1,8 @@
 -- A struct of one word, within its limits and past each of them.
 use Rattle.cap_spec.specs.Tree.{none}
+use Rattle.cap_spec.proofs.Lemmas.{struct_found, first_fault_kept}
 use Rattle.cap_spec.proofs.Prelude.{List, [], arith, inl, inr, lit<, lit≤, refl, subst, sym, ℕ, ◌∷◌, ◌≡◌, ◌⊎◌, Denotes}
-use Rattle.cap_spec.proofs.Prelude.{Finds, IsFirstReason, IsRefused, is_deep, is_past, near, IsOneOf, Before, IsTour}
+use Rattle.cap_spec.proofs.Prelude.{Finds, IsFaultAt, IsFirstReason, IsRefused, is_deep, is_past, near, IsOneOf, Before, IsTour}
 use Rattle.cap_spec.proofs.Prelude.{Reaches, struct, IsDeepAt}
 use Rattle.cap_spec.proofs.Verdicts.OneVerdict.{paths_within_depth}
 use Rattle.cap_laws.specs.Prelude.{Reason, DepthLimit, WordLimit, Step}
@@ -14,7 +15,7 @@ finds_word : Finds one_word_struct 0 0 0 0 1 0x0000000100000000
 finds_word = record {
   leads = near 0x0000000100000000 refl (λ e. omega (arith, e))
       (lit< tt, (λ e. omega (arith, e)), refl, refl, refl) refl;
-  sits = record { exists = lit< tt; inside = lit≤ tt; composite = λ (a, b). absurd (omega (arith, a)) };
+  inside = record { exists = lit< tt; inside = lit≤ tt; composite = λ (a, b). absurd (omega (arith, a)) };
 }
 
 -- it has a charge of 1 and a depth of 1
@@ -25,8 +26,12 @@ denotes_word = (
   1,
   0x0000000100000000,
   0,
+  1,
   0,
-  record { finds = finds_word; kind = refl; data_words = refl; charge = refl; depth = refl },
+  0,
+  0,
+  record { object = struct_found one_word_struct 0 0 0 0 1 0x0000000100000000 finds_word refl; charge = refl; depth = refl },
+  refl,
   (refl, refl, refl),
 )
 
@@ -79,20 +84,24 @@ root_tour m r = record {
 -- so a reason that applies at once is the first fault
 refused_at_root : (words depth : ℕ) (v : Reason) → IsFirstReason one_word_struct words depth 0 0 0 1 v
     → IsRefused one_word_struct words depth record { segment = 0; word = 0; reason = v; pointers = 1 }
-refused_at_root words depth v reason = inr record {
-  path = [];
-  before = [];
-  level = 1;
-  charge = 0;
-  reached = reaches_word;
-  tour = root_tour one_word_struct reaches_word;
-  costs = refl;
-  within = omega arith;
-  shallow = λ p level s w i. absurd i;
-  reason = reason;
-  pointers = refl;
-  few = omega arith;
-}
+refused_at_root words depth v reason =
+    inr (first_fault_kept fault (omega arith) (λ p level s w i. absurd i) (omega arith))
+  where
+    fault : IsFaultAt one_word_struct words depth [] record { segment = 0; word = 0; reason = v; pointers = 1 }
+    fault = record {
+      numbered = record {
+        level = 1;
+        tour = [] ∷ [];
+        reached = reaches_word;
+        is_tour = root_tour one_word_struct reaches_word;
+        count = refl;
+      };
+      before = [];
+      charge = 0;
+      whole = refl;
+      costs = refl;
+      reason = reason;
+    }
 
 refused_words : IsRefused one_word_struct 0 1 record { segment = 0; word = 0; reason = WordLimit; pointers = 1 }
 refused_words = refused_at_root 0 1 WordLimit word_limit

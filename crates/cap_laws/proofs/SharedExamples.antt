@@ -1,10 +1,11 @@
 -- A struct of two pointers to one struct of a word: accepted, past a word limit of 3 at the second pointer, and not exclusive
 -- there. A path in it is charged, or refused.
 use Rattle.cap_spec.specs.Tree.{none}
-use Rattle.cap_spec.proofs.Lemmas.{one_used, pointer_path_reached, one_reached, paths_within_depth}
+use Rattle.cap_spec.proofs.Lemmas.{one_used, pointer_path_reached, one_reached, struct_found, first_fault_kept}
+use Rattle.cap_spec.proofs.Lemmas.{paths_within_depth}
 use Rattle.cap_spec.proofs.Prelude.{List, [], ap, arith, inl, inr, lit<, lit≤, refl, subst, sym, ℕ, ◌∙◌, ◌∷◌, ◌≡◌, ◌⊎◌}
 use Rattle.cap_spec.proofs.Prelude.{DenoteEach, Denotes, Finds, IsRefused, is_past, near, AreOnPath, Charges}
-use Rattle.cap_spec.proofs.Prelude.{IsFaultOnPath, AreDistinct, IsOneOf, IsFirstOverlap, Occupies, Overlaps, on_earlier}
+use Rattle.cap_spec.proofs.Prelude.{IsFaultAt, IsFaultOnPath, AreDistinct, IsOneOf, IsFirstOverlap, Occupies, Overlaps, on_earlier}
 use Rattle.cap_spec.proofs.Prelude.{on_root, twice, Before, Costs, IsTour, Reaches, word, Tree, cap_count, more}
 use Rattle.cap_spec.proofs.Prelude.{pointer_count, struct, CostOf, IsDeepAt}
 use Rattle.cap_laws.specs.Prelude.{WordLimit, Step, Ptr}
@@ -21,21 +22,21 @@ finds_both : Finds shared 0 0 0 0 1 0x0002000000000000
 finds_both = record {
   leads = near 0x0002000000000000 refl (λ e. omega (arith, e))
       (lit< tt, (λ e. omega (arith, e)), refl, refl, refl) refl;
-  sits = record { exists = lit< tt; inside = lit≤ tt; composite = λ (a, b). absurd (omega (arith, a)) };
+  inside = record { exists = lit< tt; inside = lit≤ tt; composite = λ (a, b). absurd (omega (arith, a)) };
 }
 
 finds_first : Finds shared 0 1 0 0 3 0x0000000100000004
 finds_first = record {
   leads = near 0x0000000100000004 refl (λ e. omega (arith, e))
       (lit< tt, (λ e. omega (arith, e)), refl, refl, refl) refl;
-  sits = record { exists = lit< tt; inside = lit≤ tt; composite = λ (a, b). absurd (omega (arith, a)) };
+  inside = record { exists = lit< tt; inside = lit≤ tt; composite = λ (a, b). absurd (omega (arith, a)) };
 }
 
 finds_second : Finds shared 0 2 0 0 3 0x0000000100000000
 finds_second = record {
   leads = near 0x0000000100000000 refl (λ e. omega (arith, e))
       (lit< tt, (λ e. omega (arith, e)), refl, refl, refl) refl;
-  sits = record { exists = lit< tt; inside = lit≤ tt; composite = λ (a, b). absurd (omega (arith, a)) };
+  inside = record { exists = lit< tt; inside = lit≤ tt; composite = λ (a, b). absurd (omega (arith, a)) };
 }
 
 denotes_first : Denotes shared 0 1 (struct (7 ∷ []) none) 1 1
@@ -45,8 +46,12 @@ denotes_first = (
   3,
   0x0000000100000004,
   0,
+  1,
   0,
-  record { finds = finds_first; kind = refl; data_words = refl; charge = refl; depth = refl },
+  0,
+  0,
+  record { object = struct_found shared 0 1 0 0 3 0x0000000100000004 finds_first refl; charge = refl; depth = refl },
+  refl,
   (refl, refl, refl),
 )
 
@@ -57,8 +62,12 @@ denotes_second = (
   3,
   0x0000000100000000,
   0,
+  1,
   0,
-  record { finds = finds_second; kind = refl; data_words = refl; charge = refl; depth = refl },
+  0,
+  0,
+  record { object = struct_found shared 0 2 0 0 3 0x0000000100000000 finds_second refl; charge = refl; depth = refl },
+  refl,
   (refl, refl, refl),
 )
 
@@ -85,9 +94,13 @@ denotes_shared = (
   0,
   1,
   0x0002000000000000,
+  0,
+  0,
+  2,
   2,
   1,
-  record { finds = finds_both; kind = refl; data_words = refl; charge = refl; depth = refl },
+  record { object = struct_found shared 0 0 0 0 1 0x0002000000000000 finds_both refl; charge = refl; depth = refl },
+  refl,
   denotes_each,
 )
 
@@ -103,7 +116,7 @@ reaches_first = (
   0x0002000000000000,
   1,
   refl,
-  (word 0 1, 0, (0, 0, 1, 0x0002000000000000, finds_both, refl, lit< tt, refl), (refl, refl), refl),
+  (word 0 1, 0, (0, 0, 1, 0x0002000000000000, 0, 0, 2, struct_found shared 0 0 0 0 1 0x0002000000000000 finds_both refl, lit< tt, refl), (refl, refl), refl),
   refl,
 )
 
@@ -112,7 +125,7 @@ reaches_second = (
   0x0002000000000000,
   1,
   refl,
-  (word 0 2, 0, (0, 0, 1, 0x0002000000000000, finds_both, refl, lit< tt, refl), (refl, refl), refl),
+  (word 0 2, 0, (0, 0, 1, 0x0002000000000000, 0, 0, 2, struct_found shared 0 0 0 0 1 0x0002000000000000 finds_both refl, lit< tt, refl), (refl, refl), refl),
   refl,
 )
 
@@ -153,20 +166,23 @@ none_deep p level s w r (k, t, b, q, tag, finds, tagged, past) =
 
 -- A word limit of 3 refuses the second pointer.
 refused_shared : IsRefused shared 3 2 record { segment = 0; word = 2; reason = WordLimit; pointers = 3 }
-refused_shared = inr record {
-  path = Ptr 1 ∷ [];
-  before = [] ∷ (Ptr 0 ∷ []) ∷ [];
-  level = 2;
-  charge = 3;
-  reached = reaches_second;
-  tour = tour_shared;
-  costs = costs_two_paths;
-  within = lit≤ tt;
-  shallow = λ p level s w i r. none_deep p level s w r;
-  reason = is_past 1 refl (none_deep (Ptr 1 ∷ []) 2 0 2 reaches_second) costs_second (lit< tt);
-  pointers = refl;
-  few = lit≤ tt;
-}
+refused_shared = inr (first_fault_kept fault (lit≤ tt) (λ p level s w i r. none_deep p level s w r) (lit≤ tt))
+  where
+    fault : IsFaultAt shared 3 2 (Ptr 1 ∷ []) record { segment = 0; word = 2; reason = WordLimit; pointers = 3 }
+    fault = record {
+      numbered = record {
+        level = 2;
+        tour = [] ∷ (Ptr 0 ∷ []) ∷ (Ptr 1 ∷ []) ∷ [];
+        reached = reaches_second;
+        is_tour = tour_shared;
+        count = refl;
+      };
+      before = [] ∷ (Ptr 0 ∷ []) ∷ [];
+      charge = 3;
+      whole = refl;
+      costs = costs_two_paths;
+      reason = is_past 1 refl (none_deep (Ptr 1 ∷ []) 2 0 2 reaches_second) costs_second (lit< tt);
+    }
 
 -- The places that they use
 used_both : Occupies shared 0 0 ((0, 1) ∷ (0, 2) ∷ [])

@@ -56,7 +56,7 @@ lax-empty_segment = (
   record {
     leads = two_pads 0x0000000100000006 0x0000000200000002 0 refl (refl, refl) refl refl (refl, refl)
         (lit< tt, refl) refl refl;
-    sits = record { exists = lit< tt; inside = lit≤ tt; composite = λ (a, b). absurd (omega (arith, a)) };
+    inside = record { exists = lit< tt; inside = lit≤ tt; composite = λ (a, b). absurd (omega (arith, a)) };
   },
   refl,
 )
@@ -80,7 +80,7 @@ two_words-found : Finds two_words 0 0 2 1 0 0
 two_words-found = record {
   leads = two_pads 0x0000000100000006 0x0000000100000002 0 refl (refl, refl) refl refl (refl, refl)
       (lit< tt, refl) refl refl;
-  sits = record { exists = lit< tt; inside = lit≤ tt; composite = λ (a, b). absurd (omega (arith, a)) };
+  inside = record { exists = lit< tt; inside = lit≤ tt; composite = λ (a, b). absurd (omega (arith, a)) };
 }
 
 -- it has none of the forms

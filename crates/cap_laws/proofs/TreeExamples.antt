@@ -1,16 +1,19 @@
 -- Small messages that meet what the laws on trees, paths and verdicts ask.
+use Rattle.cap_spec.specs.ObjectShapes.{is_structs}
 use Rattle.cap_spec.specs.Tree.{none}
 use Rattle.cap_spec.specs.declared.Reason.TheVariants.{NoRoot, Reserved}
 use Rattle.cap_spec.specs.declared.Refusal.{Refusal}
 use Rattle.cap_spec.proofs.Lemmas.{one_word, charge_is_cost, first_cap, pointer_path_reached, one_reached, one_lead}
-use Rattle.cap_spec.proofs.Lemmas.{SameObject, one_object, paths_within_depth, refused_justified}
+use Rattle.cap_spec.proofs.Lemmas.{one_object, struct_found, paths_within_depth, first_fault_kept, refused_justified}
 use Rattle.cap_spec.proofs.Prelude.{List, [], ap, arith, inl, inr, lit<, lit≤, pos, refl, subst, sym, ℕ, ◌<◌, ◌∙◌, ◌∷◌}
-use Rattle.cap_spec.proofs.Prelude.{◌≡◌, ◌⊎◌, AllByRecursion, AreElements, DenoteEach, Denotes, Finds, IsFirstReason}
+use Rattle.cap_spec.proofs.Prelude.{◌≡◌, ◌⊎◌, AllByRecursion, AreElements, DenoteEach, Denotes, Finds, IsFaultAt}
+use Rattle.cap_spec.proofs.Prelude.{IsFirstReason}
 use Rattle.cap_spec.proofs.Prelude.{IsRefused, is_past, Condition, Wrong, near, rank, to_cap, to_null, to_object}
 use Rattle.cap_spec.proofs.Prelude.{AreDistinct, IsOneOf, IsDisjoint, Occupies, Before, IsFirstCap, IsPlace, IsTour}
 use Rattle.cap_spec.proofs.Prelude.{Reaches, word, IsTree, Tree, cap, cap_count, more, pointer_count, struct, structs}
 use Rattle.cap_spec.proofs.Prelude.{CostOf, Justified, IsWord}
 use Rattle.cap_spec.proofs.Trees.DenotedTrees.{denoted_is_tree}
+use Rattle.cap_spec.proofs.Trees.Finding.{SameObject}
 use Rattle.cap_laws.specs.Prelude.{Reason, WordLimit, Step, Ptr}
 
 -- a struct of two pointers: to a struct of the word 7, and to capability 5
@@ -25,7 +28,7 @@ finds_two : Finds two_pointers 0 0 0 0 1 0x0002000000000000
 finds_two = record {
   leads = near 0x0002000000000000 refl (λ e. omega (arith, e))
       (lit< tt, (λ e. omega (arith, e)), refl, refl, refl) refl;
-  sits = record { exists = lit< tt; inside = lit≤ tt; composite = λ (a, b). absurd (omega (arith, a)) };
+  inside = record { exists = lit< tt; inside = lit≤ tt; composite = λ (a, b). absurd (omega (arith, a)) };
 }
 
 -- and its first pointer
@@ -33,7 +36,7 @@ finds_seven : Finds two_pointers 0 1 0 0 3 0x0000000100000004
 finds_seven = record {
   leads = near 0x0000000100000004 refl (λ e. omega (arith, e))
       (lit< tt, (λ e. omega (arith, e)), refl, refl, refl) refl;
-  sits = record { exists = lit< tt; inside = lit≤ tt; composite = λ (a, b). absurd (omega (arith, a)) };
+  inside = record { exists = lit< tt; inside = lit≤ tt; composite = λ (a, b). absurd (omega (arith, a)) };
 }
 
 denotes_seven : Denotes two_pointers 0 1 (struct (7 ∷ []) none) 1 1
@@ -43,8 +46,12 @@ denotes_seven = (
   3,
   0x0000000100000004,
   0,
+  1,
   0,
-  record { finds = finds_seven; kind = refl; data_words = refl; charge = refl; depth = refl },
+  0,
+  0,
+  record { object = struct_found two_pointers 0 1 0 0 3 0x0000000100000004 finds_seven refl; charge = refl; depth = refl },
+  refl,
   (refl, refl, refl),
 )
 
@@ -74,9 +81,13 @@ denotes_two = (
   0,
   1,
   0x0002000000000000,
+  0,
+  0,
+  2,
   1,
   1,
-  record { finds = finds_two; kind = refl; data_words = refl; charge = refl; depth = refl },
+  record { object = struct_found two_pointers 0 0 0 0 1 0x0002000000000000 finds_two refl; charge = refl; depth = refl },
+  refl,
   denotes_both,
 )
 
@@ -93,7 +104,7 @@ reaches_five = (
   0x0002000000000000,
   1,
   refl,
-  (word 0 2, 0, (0, 0, 1, 0x0002000000000000, finds_two, refl, lit< tt, refl), (refl, refl), refl),
+  (word 0 2, 0, (0, 0, 1, 0x0002000000000000, 0, 0, 2, struct_found two_pointers 0 0 0 0 1 0x0002000000000000 finds_two refl, lit< tt, refl), (refl, refl), refl),
   refl,
 )
 
@@ -150,7 +161,7 @@ place_seven = (
     0x0002000000000000,
     1,
     refl,
-    (word 0 1, 0, (0, 0, 1, 0x0002000000000000, finds_two, refl, lit< tt, refl), (refl, refl), refl),
+    (word 0 1, 0, (0, 0, 1, 0x0002000000000000, 0, 0, 2, struct_found two_pointers 0 0 0 0 1 0x0002000000000000 finds_two refl, lit< tt, refl), (refl, refl), refl),
     refl,
   ),
   (0, 0x0000000100000004, finds_seven, refl),
@@ -195,20 +206,17 @@ past_no_words = is_past 2 refl
     (inr (inr (0, 0, 1, 0x0002000000000000, 0, finds_two, (λ (a, b). absurd (omega (arith, a))), refl))) (lit< tt)
 
 refused_no_words : IsRefused two_pointers 0 2 no_words
-refused_no_words = inr record {
-  path = [];
-  before = [];
-  level = 1;
-  charge = 0;
-  reached = reaches_root;
-  tour = tour_root;
-  costs = refl;
-  within = lit≤ tt;
-  shallow = λ p level s w i. absurd i;
-  reason = past_no_words;
-  pointers = refl;
-  few = lit≤ tt;
-}
+refused_no_words = inr (first_fault_kept fault (lit≤ tt) (λ p level s w i. absurd i) (lit≤ tt))
+  where
+    fault : IsFaultAt two_pointers 0 2 [] no_words
+    fault = record {
+      numbered = record { level = 1; tour = [] ∷ []; reached = reaches_root; is_tour = tour_root; count = refl };
+      before = [];
+      charge = 0;
+      whole = refl;
+      costs = refl;
+      reason = past_no_words;
+    }
 
 justified_no_words : Justified two_pointers 0 2 no_words
 justified_no_words = refused_justified two_pointers 0 2 no_words refused_no_words
@@ -229,7 +237,7 @@ finds_round : Finds round 0 0 0 0 0 0x00010000fffffffc
 finds_round = record {
   leads = near 0x00010000fffffffc refl (λ e. omega (arith, e))
       (lit< tt, (λ e. omega (arith, e)), refl, refl, refl) refl;
-  sits = record { exists = lit< tt; inside = lit≤ tt; composite = λ (a, b). absurd (omega (arith, a)) };
+  inside = record { exists = lit< tt; inside = lit≤ tt; composite = λ (a, b). absurd (omega (arith, a)) };
 }
 
 -- the empty path reaches it, and so does a longer one
@@ -241,7 +249,7 @@ reaches_round_again = (
   0x00010000fffffffc,
   1,
   refl,
-  (word 0 0, 0, (0, 0, 0, 0x00010000fffffffc, finds_round, refl, lit< tt, refl), (refl, refl), refl),
+  (word 0 0, 0, (0, 0, 0, 0x00010000fffffffc, 0, 0, 1, struct_found round 0 0 0 0 0 0x00010000fffffffc finds_round refl, lit< tt, refl), (refl, refl), refl),
   refl,
 )
 
@@ -259,23 +267,23 @@ denotes_one = (
   1,
   0x0000000f00000001,
   0x0000000100000004,
+  1,
   0,
   0,
   record {
-    finds = record {
-      leads = near 0x0000000f00000001 refl (λ e. omega (arith, e))
-          (lit< tt, (λ e. omega (arith, e)), refl, refl, refl) refl;
-      sits = record {
-        exists = lit< tt;
-        inside = lit≤ tt;
-        composite = λ x. (0x0000000100000004, refl, (refl, lit≤ tt));
+    object = record {
+      finds = record {
+        leads = near 0x0000000f00000001 refl (λ e. omega (arith, e))
+            (lit< tt, (λ e. omega (arith, e)), refl, refl, refl) refl;
+        inside = record {
+          exists = lit< tt;
+          inside = lit≤ tt;
+          composite = λ x. (0x0000000100000004, refl, (refl, lit≤ tt));
+        };
       };
+      tagged = λ x. refl;
+      shape = is_structs refl refl refl;
     };
-    kind = refl;
-    code = refl;
-    has_tag = refl;
-    data_sizes = refl;
-    pointer_sizes = refl;
     charge = refl;
     depth = refl;
   },
@@ -290,7 +298,7 @@ finds_lone : Finds lone 0 0 0 0 1 0x0000000100000000
 finds_lone = record {
   leads = near 0x0000000100000000 refl (λ e. omega (arith, e))
       (lit< tt, (λ e. omega (arith, e)), refl, refl, refl) refl;
-  sits = record { exists = lit< tt; inside = lit≤ tt; composite = λ (a, b). absurd (omega (arith, a)) };
+  inside = record { exists = lit< tt; inside = lit≤ tt; composite = λ (a, b). absurd (omega (arith, a)) };
 }
 
 denotes_lone : Denotes lone 0 0 (struct (7 ∷ []) none) 1 1
@@ -300,8 +308,12 @@ denotes_lone = (
   1,
   0x0000000100000000,
   0,
+  1,
   0,
-  record { finds = finds_lone; kind = refl; data_words = refl; charge = refl; depth = refl },
+  0,
+  0,
+  record { object = struct_found lone 0 0 0 0 1 0x0000000100000000 finds_lone refl; charge = refl; depth = refl },
+  refl,
   (refl, refl, refl),
 )
 

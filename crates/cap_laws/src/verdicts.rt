@@ -8,11 +8,11 @@ ghost use Rattle.cap_spec.specs.declared.Refusal.{Refusal};
 ghost use Rattle.cap_spec.specs.Accepting.{IsWithin};
 ghost use Rattle.cap_spec.specs.Following.{Wrong};
 ghost use Rattle.cap_spec.specs.Tree.{Tree};
-ghost use Rattle.cap_spec.specs.Denoting.{Denotes};
+ghost use Rattle.cap_spec.specs.Denoting.{Denotes, levels_below};
 ghost use Rattle.cap_spec.specs.Paths.{Reaches, Rises};
-ghost use Rattle.cap_spec.specs.Faults.{IsRefused};
-ghost use Rattle.cap_spec.specs.Getting.{AreOnPath, Charges, IsRefusedOnPath};
-ghost use Rattle.cap_spec.specs.Verdicts.{CostOf, Justified, levels_below};
+ghost use Rattle.cap_spec.specs.Faults.{IsFaultAt, IsFirstFault, IsRefused};
+ghost use Rattle.cap_spec.specs.Getting.{AreOnPath, AreShallow, Charges, IsRefusedOnPath};
+ghost use Rattle.cap_spec.specs.Verdicts.{CostOf, Justified};
 ghost use Rattle.cap_laws.specs.ReachingLaws.{ReachesObject, ReachesSome};
 
 /// The charge of the root's tree is what following the pointer words that its paths reach costs,
@@ -44,10 +44,18 @@ pub fn tree_within_limits_is_not_refused()
         IsWithin m words depth → ¬ Justified m words depth refusal }
 {}
 
-/// A refusal at the first fault is justified: its place is reached, and its reason holds there.
+/// A refusal at the first fault is justified: its place is reached, and its reason holds there. The
+/// paths before it in preorder keep to the limits, and a fault after such paths is the first.
 pub fn refused_is_justified()
-    ensures { (m : List (List ℕ)) (words depth : ℕ) (refusal : Refusal) →
+    ensures justified { (m : List (List ℕ)) (words depth : ℕ) (refusal : Refusal) →
         IsRefused m words depth refusal → Justified m words depth refusal }
+    ensures kept { (m : List (List ℕ)) (words depth : ℕ) (refusal : Refusal) →
+        (f : IsFirstFault m words depth refusal) →
+        (f.fault.charge ≤ words) × AreShallow m depth f.fault.before }
+    ensures first { (m : List (List ℕ)) (words depth : ℕ) (path : List Step) (refusal : Refusal) →
+        (f : IsFaultAt m words depth path refusal) → f.charge ≤ words →
+        AreShallow m depth f.before → refusal.pointers ≤ words + 1 →
+        IsFirstFault m words depth refusal }
 {}
 
 /// A message isn't both accepted and refused under the same limits: where the root denotes a tree

@@ -5,7 +5,7 @@ use Rattle.cap_spec.proofs.Prelude.{drop, drop-drop, false, get_or, length, leng
 use Rattle.cap_spec.proofs.Prelude.{length-take-le, lit<, option_map, refl, replicate, subst, suc, sym, take, take-add}
 use Rattle.cap_spec.proofs.Prelude.{take-append-drop, take-take, unwrap_or, zero, ℕ, ◌%◌, ◌*◌, ◌++◌, ◌+◌, ◌<◌, ◌^◌, ◌∙◌}
 use Rattle.cap_spec.proofs.Prelude.{◌∷◌, ◌≡◌, ◌≤◌, nil_from_length, Consumes, AllByRecursion, little_number, capped}
-use Rattle.cap_spec.proofs.Prelude.{plain_text, plain_words}
+use Rattle.cap_spec.proofs.Prelude.{plain_text, plain_words, rules}
 use Rattle.cap_words.specs.TakingMany.{TakesAll}
 use Rattle.cap_words.specs.declared.phase.Phase.{Phase}
 use Rattle.cap_words.specs.declared.phase.Phase.TheVariants.{Open}
@@ -28,12 +28,7 @@ leads_word c d w at to e = rw e (record { words = refl; cut = refl; places = ref
 
 -- some words, and then others
 leads_both : (c d e : Course) (at mid to : ℕ) (xs ys : List ℕ) → CourseLeads c d at mid xs → CourseLeads d e mid to ys → CourseLeads c e at to (xs ++ ys)
-leads_both c d e at mid to xs ys s t = record {
-  words = s.words ∙ (ap (λ l. xs ++ l) t.words ∙ sym (append_assoc xs ys (course_words e)));
-  cut = s.cut ∙ t.cut;
-  places = t.places ∙ (ap (drop (length ys)) s.places
-      ∙ (drop-drop (length ys) (length xs) (at ∷ course_places c) ∙ ap (λ n. drop n (at ∷ course_places c)) (sym (length-append xs ys))));
-}
+leads_both c d e at mid to xs ys s t = search (rules, append_assoc, drop-drop, length-append)
 
 -- zero words that are held
 leads_zeros : (t n m at : ℕ) (c : Course) → t ≡ n + m → CourseLeads (zeros_then t at c) (zeros_then m at c) at at (replicate n 0)
@@ -46,19 +41,11 @@ leads_zeros (suc t) (suc n) m at c e =
 
 -- no bytes
 pub gives_none : (z p : ℕ) → BytesGive z p z p [] []
-gives_none z p = λ at rest low.
-    let same : at ≡ capped (at + 0) = omega arith in
-    subst (λ k. CourseLeads (ahead Open z p at rest) (ahead Open z p k rest) at k []) same (leads_none (ahead Open z p at rest) at)
+gives_none z p = search (rules, leads_none)
 
 -- some bytes, and then others
 pub gives_both : (z p y q x r : ℕ) (bs cs ws vs : List ℕ) → BytesGive z p y q bs ws → BytesGive y q x r cs vs → BytesGive z p x r (bs ++ cs) (ws ++ vs)
-gives_both z p y q x r bs cs ws vs f g = λ at rest low.
-    let mid = capped (at + length bs) in
-    let place : capped (mid + length cs) ≡ capped (at + length (bs ++ cs)) = omega (arith, length-append bs cs) in
-    let both = leads_both _ _ _ at mid (capped (mid + length cs)) ws vs (f at (cs ++ rest) low) (g mid rest (omega arith)) in
-    let moved = subst (λ k. CourseLeads (ahead Open z p at (bs ++ (cs ++ rest))) (ahead Open x r k rest) at k (ws ++ vs)) place both in
-    subst (λ l. CourseLeads (ahead Open z p at l) (ahead Open x r (capped (at + length (bs ++ cs))) rest) at (capped (at + length (bs ++ cs))) (ws ++ vs))
-    (sym (append_assoc bs cs rest)) moved
+gives_both z p y q x r bs cs ws vs f g = search (rules, length-append, leads_both, append_assoc)
 
 -- zero words that are held need none
 pub gives_zeros : (t n m p : ℕ) → t ≡ n + m → BytesGive t p m p [] (replicate n 0)

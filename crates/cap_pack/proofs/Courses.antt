@@ -1,8 +1,9 @@
 -- How the course of packed bytes goes on after the bytes in front.
 use Rattle.std.proofs.Common.{ltb-false}
 use Rattle.cap_spec.proofs.Prelude.{Bool, List, [], ap, arith, cond, drop, false, le-ltb, length, length-append}
-use Rattle.cap_spec.proofs.Prelude.{length-drop, lit<, lt-ltb, refl, suc, sym, true, zero, ℕ, ◌++◌, ◌+◌, ◌<◌, ◌∙◌, ◌∷◌}
+use Rattle.cap_spec.proofs.Prelude.{length-drop, lit<, lt-ltb, refl, suc, true, zero, ℕ, ◌++◌, ◌+◌, ◌<◌, ◌∙◌, ◌∷◌}
 use Rattle.cap_spec.proofs.Prelude.{◌≡◌, ◌≤◌, drop-append_seam, cond-false, cond-true, little_number, capped}
+use Rattle.cap_spec.proofs.Prelude.{common_steps}
 use Rattle.cap_pack.specs.Course.{ends, first_word, gives, head_rest, plain_of, stops, zeros_of, zeros_then, course}
 use Rattle.cap_pack.specs.Course.{course_in}
 use Rattle.cap_pack.proofs.Heads.{first_word-append, plain_of-append, zeros_of-append}
@@ -54,12 +55,18 @@ pub course_head : (at tag : ℕ) (bs ys : List ℕ) → length bs ≡ head_rest 
     (zeros_then (zeros_of tag bs) (capped (at + length (tag ∷ bs))) (course (plain_of tag bs) (capped (at + length (tag ∷ bs))) ys))
 unfolding course course_in
 course_head at tag bs ys l =
-    let long : head_rest tag ≤ length (bs ++ ys) = omega (arith, length-append bs ys) in
-    let behind : drop (head_rest tag) (bs ++ ys) ≡ ys = rw (← l) (drop-append_seam bs ys) in
-    let short : length ys < suc (length (bs ++ ys)) = omega (arith, length-append bs ys) in
-    let place : capped (at + suc (head_rest tag)) ≡ capped (at + suc (length bs)) = ap (λ n. capped (at + suc n)) (sym l) in
-    let rest = enough (suc (length (bs ++ ys))) (suc (length ys)) (plain_of tag bs) (capped (at + suc (length bs))) ys short (omega arith) in
-    cond-false _ _ _ (le-ltb _ _ long) ∙ rw (first_word-append tag bs ys l, zeros_of-append tag bs ys l, plain_of-append tag bs ys l, behind, place, rest) refl
+    grind (
+      arith,
+      common_steps,
+      length-append,
+      drop-append_seam,
+      enough,
+      cond-false,
+      le-ltb,
+      first_word-append,
+      zeros_of-append,
+      plain_of-append,
+    )
 
 -- the input ends inside a head
 pub course_head_stops : (at tag : ℕ) (bs : List ℕ) → length bs < head_rest tag → course 0 at (tag ∷ bs) ≡ stops (capped (at + length (tag ∷ bs)))

@@ -1,6 +1,6 @@
 -- The tag of eight bytes of which none is zero.
-use Rattle.cap_spec.proofs.Prelude.{Bool, List, [], ap, arith, false, if◌then◌else◌, length, refl, true, ℕ, ⊎_elim, ◌%◌}
-use Rattle.cap_spec.proofs.Prelude.{◌+◌, ◌/◌, ◌<◌, ◌==◌, ◌∷◌, ◌≡◌, eqb_tells, tag_of, zero_bytes, zeros_in, word_bytes}
+use Rattle.cap_spec.proofs.Prelude.{Bool, List, [], arith, false, if◌then◌else◌, length, refl, true, ℕ, ◌+◌, ◌<◌}
+use Rattle.cap_spec.proofs.Prelude.{◌==◌, ◌∷◌, ◌≡◌, tag_of, zero_bytes, zeros_in, word_bytes, common_steps, rules}
 
 -- a byte is zero, or its bit is set
 one_of : (b : Bool) → (if b then 1 else 0) + (if b then 0 else 1) ≡ 1
@@ -28,21 +28,7 @@ word_tag w z = tag_from_full (word_bytes w) refl z
 
 -- where no bit is set, every byte is zero, and so is the word
 no_bit : (b : ℕ) → ◌≡◌ {A = ℕ} (if b == 0 then 0 else 1) 0 → b ≡ 0
-no_bit b h =
-    ⊎_elim (λ (t, e). e)
-    (λ (t, n).
-    let one : ◌≡◌ {A = ℕ} (if b == 0 then 0 else 1) 1 = ap (λ (v : Bool). if v then 0 else 1) t in
-    absurd (omega (arith, h, one)))
-    (eqb_tells b 0)
+no_bit b h = grind (arith, common_steps)
 
 pub zero_word : (w : ℕ) → w < 18446744073709551616 → tag_of (word_bytes w) ≡ 0 → w ≡ 0
-zero_word w h t =
-    let a = no_bit (w % 256) (omega (arith, t)) in
-    let b = no_bit (w / 256 % 256) (omega (arith, t)) in
-    let c = no_bit (w / 65536 % 256) (omega (arith, t)) in
-    let d = no_bit (w / 16777216 % 256) (omega (arith, t)) in
-    let e = no_bit (w / 4294967296 % 256) (omega (arith, t)) in
-    let f = no_bit (w / 1099511627776 % 256) (omega (arith, t)) in
-    let g = no_bit (w / 281474976710656 % 256) (omega (arith, t)) in
-    let i = no_bit (w / 72057594037927936 % 256) (omega (arith, t)) in
-    omega (arith, a, b, c, d, e, f, g, i, h)
+zero_word w h t = search (rules, no_bit)

@@ -7,7 +7,7 @@ use Rattle.cap_spec.proofs.Prelude.{not, refl, set, suc, sym, take, take-append-
 use Rattle.cap_spec.proofs.Prelude.{◌+◌, ◌-◌, ◌/◌, ◌<◌, ◌==◌, ◌∙◌, ◌∷◌, ◌≡◌, ◌≢◌, ◌≤◌, drop_all, take_rest}
 use Rattle.cap_spec.proofs.Prelude.{drop-put_mid, take-put_mid, AllByRecursion, little_number, put_mid, ones, full_run}
 use Rattle.cap_spec.proofs.Prelude.{group_size, group_text, pack_text, tag_of, zero_bytes, zero_run, plain_text}
-use Rattle.cap_spec.proofs.Prelude.{plain_words, word_bytes}
+use Rattle.cap_spec.proofs.Prelude.{plain_words, word_bytes, common_steps, rules}
 use Rattle.cap_words.proofs.Filling.{plain_join}
 use Rattle.cap_words.proofs.WholeWords.{words_text}
 use Rattle.cap_pack.specs.GroupTexts.{front_text}
@@ -27,9 +27,7 @@ word_placed bs (suc k) l =
 
 -- the first word, and those behind it
 pub words_first : (bs : List ℕ) → 8 ≤ length bs → plain_words bs ≡ get_or (plain_words bs) 0 0 ∷ plain_words (drop 8 bs)
-words_first bs l =
-    let first : get_or (plain_words bs) 0 0 ≡ little_number 8 bs = ap (λ ws. get_or ws 0 0) (word_first bs l) in
-    word_first bs l ∙ ap (λ (w : ℕ). w ∷ plain_words (drop 8 bs)) (sym first)
+words_first bs l = search (rules, word_first)
 
 -- words in front, and those behind them
 pub words_parted : (bs : List ℕ) (n : ℕ) → n % 8 ≡ 0 → n ≤ length bs → plain_words bs ≡ plain_words (take n bs) ++ plain_words (drop n bs)
@@ -54,10 +52,7 @@ front_behind bs k l =
 
 -- how many words the group in front takes, by its first word
 pub size_zero : (w : ℕ) (ws : List ℕ) → w ≡ 0 → group_size (w ∷ ws) ≡ 1 + min 255 (zero_run ws)
-size_zero w ws e =
-    let run : zero_run (0 ∷ ws) ≡ 1 + zero_run ws = zero_run-append 1 ws in
-    let size : group_size (0 ∷ ws) ≡ min 256 (zero_run (0 ∷ ws)) = refl in
-    ap (λ (v : ℕ). group_size (v ∷ ws)) e ∙ omega (arith, run, size)
+size_zero w ws e = search (rules, zero_run-append)
 
 pub size_full : (w : ℕ) (ws : List ℕ) → zero_bytes w ≡ 0 → group_size (w ∷ ws) ≡ 1 + min 255 (full_run ws)
 size_full w ws z = rw (ne_eqb w 0 (nonzero_word w (omega (arith, z))), z) refl
@@ -125,24 +120,12 @@ full_front bs rest k l e z m =
 
 pub marked_front : (bs : List ℕ) (n : ℕ) → 8 ≤ length bs → get_or (plain_words bs) 0 0 ≢ 0 → zero_bytes (get_or (plain_words bs) 0 0) ≢ 0 →
     n ≡ length (filter (λ b. not (b == 0)) (word_bytes (get_or (plain_words bs) 0 0))) → IsFront bs 0 (1 + n)
-marked_front bs n l h z e =
-    let w = get_or (plain_words bs) 0 0 in
-    let first : group_size (plain_words bs) ≡ 1 = ap group_size (words_first bs l) ∙ group_size-marked w (plain_words (drop 8 bs)) h z in
-    let text = ap front_text (front_first bs 0 (omega (arith, l))) ∙ text_marked w (plain_words (drop 8 (take 8 bs))) h z in
-    let long : length (front_text (plain_words (take 8 bs))) ≡ 1 + length (filter (λ b. not (b == 0)) (word_bytes w)) = ap length text ∙ omega arith in
-    record {
-      size = omega (arith, first);
-      most = omega arith;
-      within = omega (arith, l);
-      text = omega (arith, long, e);
-    }
+marked_front bs n l h z e = search (rules, words_first, group_size-marked, front_first, text_marked)
 
 -- the text of words is that of the group in front, and then that of the words behind it
 apart : (ws front rest : List ℕ) → ws ≡ front ++ rest → length front ≡ group_size ws → 0 < length front → pack_text ws ≡ front_text front ++ pack_text rest
 apart ws [] rest e l p = absurd (omega (arith, p))
-apart ws (w ∷ more) rest e l p =
-    let size : group_size ws ≡ group_size (w ∷ (more ++ rest)) = ap group_size e in
-    ap pack_text e ∙ pack_text-group w more rest (omega (arith, l, size))
+apart ws (w ∷ more) rest e l p = search (rules, pack_text-group)
 
 pub pack_step : (bs front : List ℕ) (at n : ℕ) → front ≡ drop at bs → n ≡ 8 * group_size (plain_words front) → 0 < n → n ≤ length front →
     pack_text (plain_words (drop at bs)) ≡ front_text (plain_words (take n front)) ++ pack_text (plain_words (drop (at + n) bs))
@@ -157,23 +140,10 @@ pack_step bs front at n e size some within =
 
 -- a part of a list that is written over
 pub put_is : (a k : ℕ) (xs ys : List ℕ) → a + k ≤ length xs → length ys ≡ k → put_mid a k xs ys ≡ (take a xs ++ ys) ++ drop (a + k) xs
-put_is a k xs ys h l =
-    let all = put_mid a k xs ys in
-    sym (take-append-drop (a + k) all) ∙ ap (λ t. t ++ drop (a + k) all) (take-put_mid a k xs ys (a + k) (omega (arith, l)) (omega (arith, h)))
-    ∙ ap (λ t. (take a xs ++ ys) ++ t) (drop-put_mid a k xs ys (a + k) (omega arith) (omega (arith, h)) l)
+put_is a k xs ys h l = grind (arith, common_steps, take-append-drop, take-put_mid, drop-put_mid)
 
 pub put_length : (a k : ℕ) (xs ys : List ℕ) → a + k ≤ length xs → length ys ≡ k → length (put_mid a k xs ys) ≡ length xs
-put_length a k xs ys h l =
-    omega (
-      arith,
-      h,
-      l,
-      ap length (put_is a k xs ys h l),
-      length-append (take a xs ++ ys) (drop (a + k) xs),
-      length-append (take a xs) ys,
-      length-take-le a xs (omega (arith, h)),
-      length-drop (a + k) xs,
-    )
+put_length a k xs ys h l = search (rules, put_is, length-append, length-take-le, length-drop)
 
 -- one that ends where the list ends
 pub put_end : (a k : ℕ) (xs ys : List ℕ) → a + k ≡ length xs → length ys ≡ k → put_mid a k xs ys ≡ take a xs ++ ys
@@ -190,20 +160,12 @@ two_set (x ∷ y ∷ z ∷ rest) a b l = absurd (omega (arith, l))
 pub zeros_written : (bs text : List ℕ) (tag n : ℕ) → 8 ≤ length bs → get_or (plain_words bs) 0 0 ≡ 0 →
     length text ≡ length (front_text (plain_words bs)) → tag ≡ 0 → n ≡ length bs / 8 - 1 →
     set (set text 0 tag) 1 n ≡ front_text (plain_words bs)
-zeros_written bs text tag n l z room t e =
-    let more = plain_words (drop 8 bs) in
-    let is : front_text (plain_words bs) ≡ 0 ∷ length more ∷ [] = ap front_text (words_first bs l) ∙ text_zero _ more z in
-    let count : n ≡ length more = omega (arith, e, words_exact (drop 8 bs), length-drop 8 bs) in
-    two_set text tag n (room ∙ ap length is) ∙ ap (λ (a : ℕ). a ∷ n ∷ []) t ∙ ap (λ (b : ℕ). 0 ∷ b ∷ []) count ∙ sym is
+zeros_written bs text tag n l z room t e = search (rules, words_first, text_zero, words_exact, length-drop, two_set)
 
 -- the text of a run of words as they are
 pub full_long : (bs text : List ℕ) → 8 ≤ length bs → length bs % 8 ≡ 0 → zero_bytes (get_or (plain_words bs) 0 0) ≡ 0 →
     length text ≡ length (front_text (plain_words bs)) → length text ≡ 2 + length bs
-full_long bs text l w z room =
-    let more = plain_words (drop 8 bs) in
-    let is = ap front_text (words_first bs l) ∙ text_full _ more z in
-    let long : length (front_text (plain_words bs)) ≡ 10 + length (plain_text more) = ap length is ∙ omega arith in
-    omega (arith, room, long, length_plain more, words_exact (drop 8 bs), length-drop 8 bs, w)
+full_long bs text l w z room = search (rules, words_first, text_full, length_plain, words_exact, length-drop)
 
 pub full_room : (bs text head : List ℕ) (tag n : ℕ) → 8 ≤ length bs → length bs % 8 ≡ 0 → zero_bytes (get_or (plain_words bs) 0 0) ≡ 0 →
     length text ≡ length (front_text (plain_words bs)) → length head ≡ 8 →

@@ -4,11 +4,12 @@ use Rattle.cap_spec.proofs.Packed.Packing.{front-append, front-le, group_size-pl
 use Rattle.cap_spec.proofs.Packed.Packing.{pack_text-marked, pack_text-plain, pack_text-zeros, plain_full}
 use Rattle.cap_spec.proofs.Packed.Repacking.{zero_front}
 use Rattle.cap_spec.proofs.Prelude.{Bool, List, [], ap, append-nil, append_assoc, arith, cond, drop, drop-drop, false}
-use Rattle.cap_spec.proofs.Prelude.{filter, get_or, leb, length, length-append, length-drop, length-take-le, not, refl}
-use Rattle.cap_spec.proofs.Prelude.{replicate, subst, suc, sym, take, take-append-drop, take_all, true, zero, ℕ, ⊎_elim}
-use Rattle.cap_spec.proofs.Prelude.{◌++◌, ◌+◌, ◌-◌, ◌<◌, ◌==◌, ◌∙◌, ◌∷◌, ◌≡◌, ◌≢◌, ◌≤◌, cases_lt, length-replicate}
-use Rattle.cap_spec.proofs.Prelude.{replicate-append-replicate, take_rest, take-put_mid, prefix_len, put_mid, full_run}
-use Rattle.cap_spec.proofs.Prelude.{group_size, pack_text, tag_of, zero_bytes, zero_run, plain_text, word_bytes}
+use Rattle.cap_spec.proofs.Prelude.{filter, get_or, leb, length, length-append, length-drop, length-take-le, not}
+use Rattle.cap_spec.proofs.Prelude.{refl, replicate, subst, suc, sym, take, take-append-drop, take_all, true, zero, ℕ}
+use Rattle.cap_spec.proofs.Prelude.{◌++◌, ◌+◌, ◌-◌, ◌<◌, ◌==◌, ◌∙◌, ◌∷◌, ◌≡◌, ◌≢◌, ◌≤◌, length-replicate}
+use Rattle.cap_spec.proofs.Prelude.{replicate-append-replicate, take_rest, take-put_mid, prefix_len, put_mid}
+use Rattle.cap_spec.proofs.Prelude.{full_run, group_size, pack_text, tag_of, zero_bytes, zero_run, plain_text}
+use Rattle.cap_spec.proofs.Prelude.{word_bytes, common_steps, rules}
 use Rattle.cap_pack.specs.Holding.{IsRun, Spells, first_zeros, held}
 use Rattle.cap_pack.specs.declared.group.Group.{Group}
 use Rattle.cap_pack.specs.declared.group.Group.TheVariants.{Plain}
@@ -17,9 +18,7 @@ use Rattle.cap_pack.proofs.Runs.{run, run_is}
 -- each element of the front that passes does
 passes_more : (p : ℕ → Bool) (t : Bool) (x n m : ℕ) (xs : List ℕ) → p x ≡ t → suc n ≤ cond t (1 + m) 0 → (n ≤ m → prefix_len p (take n xs) ≡ n) →
     prefix_len p (x ∷ take n xs) ≡ suc n
-passes_more p true x n m xs e h k =
-    let first : prefix_len p (x ∷ take n xs) ≡ 1 + prefix_len p (take n xs) = ap (λ t. cond t (1 + prefix_len p (take n xs)) 0) e in
-    omega (arith, first, k (omega arith))
+passes_more p true x n m xs e h k = grind (arith, common_steps)
 passes_more p false x n m xs e h k = absurd (omega arith)
 
 front_passes : (p : ℕ → Bool) (n : ℕ) (xs : List ℕ) → n ≤ prefix_len p xs → prefix_len p (take n xs) ≡ n
@@ -30,9 +29,7 @@ front_passes p (suc n) (x ∷ xs) h = passes_more p (p x) x n (prefix_len p xs) 
 -- what stands behind the front doesn't pass
 stops_more : (p : ℕ → Bool) (t : Bool) (x : ℕ) (xs ys : List ℕ) → p x ≡ t → (prefix_len p xs < length xs → prefix_len p (drop (prefix_len p xs) xs ++ ys) ≡ 0) →
     cond t (1 + prefix_len p xs) 0 < suc (length xs) → prefix_len p (drop (cond t (1 + prefix_len p xs) 0) (x ∷ xs) ++ ys) ≡ 0
-stops_more p true x xs ys e k h =
-    let one : suc (prefix_len p xs) ≡ 1 + prefix_len p xs = omega arith in
-    subst (λ n. prefix_len p (drop n (x ∷ xs) ++ ys) ≡ 0) one (k (omega arith))
+stops_more p true x xs ys e k h = grind (arith, common_steps)
 stops_more p false x xs ys e k h = ap (λ t. cond t (1 + prefix_len p (xs ++ ys)) 0) e
 
 stops_behind : (p : ℕ → Bool) (xs ys : List ℕ) → prefix_len p xs < length xs → prefix_len p (drop (prefix_len p xs) xs ++ ys) ≡ 0
@@ -44,9 +41,7 @@ pub run_takes : (p : ℕ → Bool) (n : ℕ) (xs : List ℕ) → n ≤ run p xs 
 run_takes p n xs h = run_is p (take n xs) ∙ front_passes p n xs (omega (arith, run_is p xs))
 
 pub run_stops : (p : ℕ → Bool) (xs ys : List ℕ) (n : ℕ) → n ≡ run p xs → n < length xs → run p (drop n xs ++ ys) ≡ 0
-run_stops p xs ys n e h =
-    let at : n ≡ prefix_len p xs = e ∙ run_is p xs in
-    run_is p (drop n xs ++ ys) ∙ ap (λ k. prefix_len p (drop k xs ++ ys)) at ∙ stops_behind p xs ys (omega arith)
+run_stops p xs ys n e h = search (rules, run_is, stops_behind)
 
 -- so many more zero words in a run
 pub zeros_joined : (more n : ℕ) (xs : List ℕ) → n ≤ zero_run xs → 0 ∷ replicate (more + n) 0 ≡ (0 ∷ replicate more 0) ++ take n xs
@@ -60,16 +55,10 @@ zeros_one more h =
 
 -- a word without a zero byte, and words with at most one
 pub full_one : (x : ℕ) (more : List ℕ) → zero_bytes x ≡ 0 → full_run more ≡ length more → length more ≤ 255 → group_size (x ∷ more) ≡ suc (length more)
-full_one x more z f h =
-    let whole : group_size (x ∷ more) ≡ 1 + length more = ap (λ (l : List ℕ). group_size (x ∷ l)) (sym (append-nil more))
-    ∙ group_size-plain x more [] z f h (λ _. refl) in
-    omega (arith, whole)
+full_one x more z f h = search (rules, append-nil, group_size-plain)
 
 pub full_joined : (xs ys : List ℕ) (n : ℕ) → full_run xs ≡ length xs → n ≤ full_run ys → n ≤ length ys → full_run (xs ++ take n ys) ≡ length (xs ++ take n ys)
-full_joined xs ys n f h l =
-    let front = front-append (λ x. leb (zero_bytes x) 1) xs (take n ys) f in
-    let taken : full_run (take n ys) ≡ n = run_takes (λ x. leb (zero_bytes x) 1) n ys h in
-    omega (arith, front, taken, length-take-le n ys l, length-append xs (take n ys))
+full_joined xs ys n f h l = search (rules, front-append, run_takes, length-take-le, length-append)
 
 -- a run of zero words that ended inside the piece
 pub zeros_spelled : (w k : ℕ) (xs : List ℕ) → w ≡ 0 → k ≡ zero_run xs → k < length xs → k ≤ 255 → Spells (w ∷ xs) (0 ∷ k ∷ []) (drop k xs)
@@ -105,9 +94,7 @@ more_spelled front next text all left less e s h = λ ws.
 -- a run of zero words that took n more of these words
 pub zeros_apart : (more n : ℕ) (xs : List ℕ) → more + n ≤ 255 → (more + n < 255 → n ≡ zero_run xs) → n < length xs →
     Spells ((0 ∷ replicate (more + n) 0) ++ drop n xs) (0 ∷ (more + n) ∷ []) (drop n xs)
-zeros_apart more n xs few all h = λ ws.
-    ap pack_text (append_assoc (0 ∷ replicate (more + n) 0) (drop n xs) ws)
-    ∙ pack_text-zeros (more + n) (drop n xs ++ ws) few (λ l. run_stops (λ x. x == 0) xs ws n (all l) h)
+zeros_apart more n xs few all h = search (rules, append_assoc, pack_text-zeros, run_stops)
 
 -- a run of words as they are that did
 pub full_apart : (first n : ℕ) (more xs : List ℕ) → zero_bytes first ≡ 0 → full_run more ≡ length more → length more ≤ 255 →
@@ -120,18 +107,12 @@ full_apart first n more xs z f few all h = λ ws.
 -- what a run of words as they are holds
 pub plain_held : (g : Group) (words : List ℕ) (first more : ℕ) → g ≡ Plain first more → group_size (held g words) ≡ length (held g words) → first_zeros g ≡ 0 →
     (zero_bytes first ≡ 0) × (full_run (take more words) ≡ length (take more words)) × (length (take more words) ≤ 255)
-plain_held g words first more e one full =
-    let z : zero_bytes first ≡ 0 = ap first_zeros (sym e) ∙ full in
-    let size : group_size (first ∷ take more words) ≡ suc (length (take more words)) = subst (λ v. group_size (held v words) ≡ length (held v words)) e one in
-    let whole = plain_full first (take more words) z (omega (arith, size)) in
-    (z, whole.0, whole.1)
+plain_held g words first more e one full = search (rules, plain_full)
 
 -- the words behind the first after n more were written
 pub more_written : (words piece xs : List ℕ) (more n k end : ℕ) → piece ≡ take n xs → n ≤ length xs → more ≤ length words → end ≡ more + n →
     take end (put_mid more k words piece) ≡ take more words ++ take n xs
-more_written words piece xs more n k end e h l m =
-    let long : length piece ≡ n = ap length e ∙ length-take-le n xs h in
-    take-put_mid more k words piece end (omega (arith, m, long)) l ∙ ap (λ t. take more words ++ t) e
+more_written words piece xs more n k end e h l m = search (rules, length-take-le, take-put_mid)
 
 -- a run of words as they are after n more of these words were written behind it
 pub record Extended (first : ℕ) (now front xs : List ℕ) (n count : ℕ) : Type 0 where
@@ -160,14 +141,7 @@ plain_extended g words piece xs first more n k end e one full long most m copied
 -- words of a run that begins with a zero word
 pub run_zeros : (ws : List ℕ) → IsRun ws → 0 < length ws → get_or ws 0 0 ≡ 0 → 0 ∷ replicate (length ws - 1) 0 ≡ ws
 run_zeros [] r h e = absurd (omega (arith, h))
-run_zeros (w ∷ ws) r h e =
-    ⊎_elim (λ (z, run).
-    let less : suc (length ws) - 1 ≡ length ws = omega arith in
-    ap (λ n. 0 ∷ replicate n 0) less
-    ∙ ap (λ (l : List ℕ). 0 ∷ l) (sym (zero_front (length ws) ws (omega (arith, run))) ∙ take_all (length ws) ws (omega arith))
-    ∙ ap (λ (y : ℕ). y ∷ ws) (sym e))
-    (λ (z, run). absurd (nonzero_word w (omega (arith, z)) e))
-    r
+run_zeros (w ∷ ws) r h e = grind (arith, common_steps, zero_front, take_all, nonzero_word)
 
 -- what the groups do that end inside the words of a piece
 moved_behind : (words : List ℕ) (at k : ℕ) → drop k (drop (at + 1) words) ≡ drop (at + (1 + k)) words
@@ -175,22 +149,13 @@ moved_behind words at k = let same : at + 1 + k ≡ at + (1 + k) = omega arith i
 
 ends_inside : (p : ℕ → Bool) (words : List ℕ) (at k : ℕ) → at < length words → k ≡ run p (drop (at + 1) words) → at + 1 + k ≢ length words →
     k < length (drop (at + 1) words)
-ends_inside p words at k h r n =
-    ⊎_elim (λ less. less) (λ all. absurd (n (omega (arith, h, all, r, front-le p (drop (at + 1) words), length-drop (at + 1) words))))
-    (cases_lt k (length (drop (at + 1) words)))
+ends_inside p words at k h r n = search (rules, front-le, length-drop)
 
 pub zeros_step : (words : List ℕ) (at k : ℕ) → at < length words → length words ≤ 64 → get_or words at 0 ≡ 0 →
     k ≡ zero_run (take (length words - (at + 1)) (drop (at + 1) words)) →
     at + 1 + k ≢ length words → (k < length (drop (at + 1) words)) × Spells (drop at words) (0 ∷ k ∷ []) (drop (at + (1 + k)) words)
 zeros_step words at k h few e r n =
-    let rest = drop (at + 1) words in
-    let whole : k ≡ zero_run rest = r ∙ ap zero_run (take_rest words (at + 1)) in
-    let less : k < length rest = ends_inside (λ x. x == 0) words at k h whole n in
-    let spelled = zeros_spelled (get_or words at 0) k rest e whole less (omega (arith, less, few, length-drop (at + 1) words)) in (
-      less,
-      subst (λ l. Spells l (0 ∷ k ∷ []) (drop (at + (1 + k)) words)) (sym (drop_more words at 0 h))
-          (subst (λ l. Spells (get_or words at 0 ∷ rest) (0 ∷ k ∷ []) l) (moved_behind words at k) spelled),
-    )
+    grind (arith, common_steps, take_rest, ends_inside, zeros_spelled, length-drop, drop_more, moved_behind)
 
 pub full_step : (words more : List ℕ) (at k j : ℕ) → at < length words → length words ≤ 64 → zero_bytes (get_or words at 0) ≡ 0 →
     k ≡ full_run (take (length words - (at + 1)) (drop (at + 1) words)) →
@@ -198,24 +163,11 @@ pub full_step : (words more : List ℕ) (at k j : ℕ) → at < length words →
     (k < length (drop (at + 1) words))
     × Spells (drop at words) (255 ∷ (word_bytes (get_or words at 0) ++ length more ∷ plain_text more)) (drop (at + (1 + k)) words)
 full_step words more at k j h few z r n m same =
-    let rest = drop (at + 1) words in
-    let text = λ (l : List ℕ). 255 ∷ (word_bytes (get_or words at 0) ++ length l ∷ plain_text l) in
-    let whole : k ≡ full_run rest = r ∙ ap full_run (take_rest words (at + 1)) in
-    let less : k < length rest = ends_inside (λ x. leb (zero_bytes x) 1) words at k h whole n in
-    let spelled = full_spelled (get_or words at 0) k rest z whole less (omega (arith, less, few, length-drop (at + 1) words)) in
-    let front : take k rest ≡ more = ap (λ i. take i rest) (sym same) ∙ sym m in (
-      less,
-      subst (λ l. Spells l (text more) (drop (at + (1 + k)) words)) (sym (drop_more words at 0 h))
-          (subst (λ l. Spells (get_or words at 0 ∷ rest) (text more) l) (moved_behind words at k)
-          (subst (λ l. Spells (get_or words at 0 ∷ rest) (text l) (drop k rest)) front spelled)),
-    )
+    grind (arith, common_steps, take_rest, ends_inside, full_spelled, length-drop, drop_more, moved_behind)
 
 pub marked_step : (words : List ℕ) (at : ℕ) → at < length words → get_or words at 0 ≢ 0 → zero_bytes (get_or words at 0) ≢ 0 →
     Spells (drop at words) (tag_of (word_bytes (get_or words at 0)) ∷ filter (λ b. not (b == 0)) (word_bytes (get_or words at 0))) (drop (at + 1) words)
-marked_step words at h n z =
-    subst (λ l. Spells l (tag_of (word_bytes (get_or words at 0)) ∷ filter (λ b. not (b == 0)) (word_bytes (get_or words at 0)))
-    (drop (at + 1) words)) (sym (drop_more words at 0 h))
-    (marked_spelled (get_or words at 0) (drop (at + 1) words) n z)
+marked_step words at h n z = search (rules, drop_more, marked_spelled)
 
 -- what a whole piece does: words that join the open group, and the groups behind it
 pub piece_spelled : (before now xs piece front group text left : List ℕ) (j : ℕ) → now ≡ before ++ take j xs →
@@ -223,13 +175,7 @@ pub piece_spelled : (before now xs piece front group text left : List ℕ) (j : 
     ((ws : List ℕ) → front ++ pack_text (piece ++ ws) ≡ text ++ pack_text (left ++ ws)) → (ws : List ℕ) →
     pack_text (before ++ (xs ++ ws)) ≡ text ++ pack_text (left ++ ws)
 piece_spelled before now xs piece front group text left j joined apart f p spelled ws =
-    let whole : before ++ xs ≡ now ++ drop j xs =
-    ap (λ t. before ++ t) (sym (take-append-drop j xs)) ∙ sym (append_assoc before (take j xs) (drop j xs)) ∙ ap (λ t. t ++ drop j xs) (sym joined) in
-    ap pack_text (sym (append_assoc before xs ws) ∙ ap (λ t. t ++ ws) whole)
-    ∙ apart ws
-    ∙ ap (λ t. t ++ pack_text (drop j xs ++ ws)) (sym f)
-    ∙ ap (λ t. front ++ pack_text (t ++ ws)) (sym p)
-    ∙ spelled ws
+    search (rules, take-append-drop, append_assoc)
 
 -- the words behind those that were spelled
 pub left_behind : (xs : List ℕ) (j k : ℕ) → drop k (take (length xs - j) (drop j xs)) ≡ take (length xs - (j + k)) (drop (j + k) xs)

@@ -5,7 +5,7 @@ use Rattle.cap_spec.proofs.Packed.Unpacking.{spread_append}
 use Rattle.cap_spec.proofs.Prelude.{Bool, List, [], ap, arith, cond, drop, eq-eqb, eqb, eqb-true, false, get_or, length}
 use Rattle.cap_spec.proofs.Prelude.{length-take, length-take-le, ne_eqb, refl, subst, suc, sym, take, take-append-drop}
 use Rattle.cap_spec.proofs.Prelude.{true, zero, ℕ, ⊎_elim, ◌%◌, ◌*◌, ◌++◌, ◌+◌, ◌/◌, ◌<◌, ◌^◌, ◌∙◌, ◌∷◌, ◌≡◌, ◌≢◌, ◌≤◌}
-use Rattle.cap_spec.proofs.Prelude.{pow-succ', cases_lt, cond-false, cond-true, little_number, marks, spread}
+use Rattle.cap_spec.proofs.Prelude.{pow-succ', cases_lt, cond-false, cond-true, little_number, marks, spread, rules}
 use Rattle.cap_pack.specs.Course.{first_word, head_rest, plain_of, zeros_of}
 
 -- two choices are the same where both their branches are
@@ -26,9 +26,7 @@ spread_front (suc n) tag (b ∷ bs) ys l =
 
 -- the first eight bytes are enough for a word
 pub spread_eight : (tag : ℕ) (bytes : List ℕ) → 8 ≤ length bytes → spread 8 tag (take 8 bytes) ≡ spread 8 tag bytes
-spread_eight tag bytes l =
-    let many : 8 ≤ length (take 8 bytes) = omega (arith, length-take 8 bytes) in
-    sym (ap (spread 8 tag) (sym (take-append-drop 8 bytes)) ∙ spread_front 8 tag (take 8 bytes) (drop 8 bytes) many)
+spread_eight tag bytes l = search (rules, length-take, take-append-drop, spread_front)
 
 -- a tag that isn't zero marks a byte
 pub marks_some : (n tag : ℕ) → 0 < tag → tag < 2 ^ n → 0 < marks n tag

@@ -1,9 +1,8 @@
 -- How the open group of a packer ends.
 use Rattle.cap_spec.proofs.Packed.Packing.{pack_text-plain, pack_text-zeros, plain_full}
-use Rattle.cap_spec.proofs.Prelude.{List, None, Option, Some, [], ap, append-nil, arith, length, length-take, refl}
-use Rattle.cap_spec.proofs.Prelude.{replicate, subst, suc, sym, take, ℕ, ◌++◌, ◌<◌, ◌∙◌, ◌∷◌, ◌≡◌, ◌≤◌}
-use Rattle.cap_spec.proofs.Prelude.{length-replicate, Appends, Keeps, append_known, full_run, group_size, pack_text}
-use Rattle.cap_spec.proofs.Prelude.{zero_bytes, zero_run}
+use Rattle.cap_spec.proofs.Prelude.{List, None, Option, Some, [], ap, append-nil, length, length-take, refl, sym, ℕ}
+use Rattle.cap_spec.proofs.Prelude.{◌++◌, ◌<◌, ◌∙◌, ◌≡◌, length-replicate, Appends, Keeps, append_known, full_run}
+use Rattle.cap_spec.proofs.Prelude.{group_size, pack_text, zero_run, rules}
 use Rattle.cap_pack.specs.Holding.{first_zeros, group_bytes, held}
 use Rattle.cap_pack.specs.declared.group.Group.{Group}
 use Rattle.cap_pack.specs.declared.group.Group.TheVariants.{Empty, Plain, Zeros}
@@ -12,22 +11,13 @@ use Rattle.cap_pack.specs.declared.group.Group.TheVariants.{Empty, Plain, Zeros}
 zeros_end : (g : Group) (words rest : List ℕ) (more : ℕ) → g ≡ Zeros more → group_size (held g words) ≡ length (held g words) →
     (more < 255 → zero_run rest ≡ 0) →
     pack_text (held g words ++ rest) ≡ group_bytes g words ++ pack_text rest
-zeros_end g words rest more e one closes =
-    let few : group_size (0 ∷ replicate more 0) ≡ suc (length (replicate more 0)) = subst (λ v. group_size (held v words) ≡ length (held v words)) e one in
-    let small : more ≤ 255 = omega (arith, few, length-replicate {A = ℕ} more 0) in
-    subst (λ v. pack_text (held v words ++ rest) ≡ group_bytes v words ++ pack_text rest) (sym e) (pack_text-zeros more rest small closes)
+zeros_end g words rest more e one closes = search (rules, length-replicate, pack_text-zeros)
 
 -- a run of words as they are that the next word doesn't go on with
 plain_ends : (g : Group) (words rest : List ℕ) (first more : ℕ) → g ≡ Plain first more → group_size (held g words) ≡ length (held g words) →
     first_zeros g ≡ 0 → length words ≡ 255 →
     (more < 255 → full_run rest ≡ 0) → pack_text (held g words ++ rest) ≡ group_bytes g words ++ pack_text rest
-plain_ends g words rest first more e one full long closes =
-    let z : zero_bytes first ≡ 0 = ap first_zeros (sym e) ∙ full in
-    let size : group_size (first ∷ take more words) ≡ suc (length (take more words)) = subst (λ v. group_size (held v words) ≡ length (held v words)) e one in
-    let whole = plain_full first (take more words) z (omega (arith, size)) in
-    let room : length (take more words) < 255 → full_run rest ≡ 0 = λ h. closes (omega (arith, h, long, length-take more words)) in
-    subst (λ v. pack_text (held v words ++ rest) ≡ group_bytes v words ++ pack_text rest) (sym e)
-    (pack_text-plain first (take more words) rest z whole.0 whole.1 room)
+plain_ends g words rest first more e one full long closes = search (rules, plain_full, length-take, pack_text-plain)
 
 -- any group ends where there are no more words
 pub no_more : (g : Group) (words : List ℕ) → group_size (held g words) ≡ length (held g words) → first_zeros g ≡ 0 → length words ≡ 255 →

@@ -4,7 +4,7 @@ use Rattle.cap_spec.proofs.Bytes.Plain.{plain_short}
 use Rattle.cap_spec.proofs.Prelude.{Bool, List, Option, [], ap, append-nil, append_assoc, arith, drop, drop-drop, false}
 use Rattle.cap_spec.proofs.Prelude.{length, length-drop, length-take-le, refl, subst, suc, sym, take, take-append-drop}
 use Rattle.cap_spec.proofs.Prelude.{ℕ, ◌*◌, ◌++◌, ◌+◌, ◌-◌, ◌<◌, ◌∙◌, ◌∷◌, ◌≡◌, ◌≤◌, Keeps-trans, take_rest, Keeps}
-use Rattle.cap_spec.proofs.Prelude.{little_number, plain_words}
+use Rattle.cap_spec.proofs.Prelude.{little_number, plain_words, rules}
 use Rattle.cap_words.specs.Prelude.{Failures, Begins, StoppedPutting, WasPut}
 use Rattle.cap_words.proofs.Filling.{plain_join}
 use Rattle.cap_words.proofs.Told.{begins_kept}
@@ -81,9 +81,4 @@ module _ {K : Type 0} {text : K → List ℕ → Option (List ℕ)} {taken : K �
   -- a fault came at the next ones
   pub put_stops : (old now new : K) (all rest less xs : List ℕ) → rest ≡ xs ++ less → PutSoFar text taken closed spent failures old now all rest
       → ((ws : List ℕ) → Begins (text now (xs ++ ws)) (taken new)) → StoppedPutting text taken old new all
-  put_stops old now new all rest less xs e s h = λ ws.
-      let same : s.done ++ (xs ++ (less ++ ws)) ≡ all ++ ws =
-      sym (ap (λ (ys : List ℕ). ys ++ ws) (s.whole ∙ ap (λ (ys : List ℕ). s.done ++ ys) e) ∙ append_assoc s.done (xs ++ less) ws
-      ∙ ap (λ (ys : List ℕ). s.done ++ ys) (append_assoc xs less ws)) in
-      subst (λ (ys : List ℕ). Begins (text old ys) (taken new)) same
-      (begins_kept (text old (s.done ++ (xs ++ (less ++ ws)))) (text now (xs ++ (less ++ ws))) (taken new) (s.put (xs ++ (less ++ ws))) (h (less ++ ws)))
+  put_stops old now new all rest less xs e s h = search (rules, append_assoc, begins_kept)

@@ -8,7 +8,7 @@ use Rattle.cap_spec.proofs.Prelude.{length-take-le, map, not, refl, replicate, s
 use Rattle.cap_spec.proofs.Prelude.{w8, zero, ℕ, ⊎_elim, ◌%◌, ◌&&◌, ◌*◌, ◌+◌, ◌-◌, ◌/◌, ◌<◌, ◌==◌, ◌∙◌, ◌∷◌, ◌≡◌, ◌≤◌}
 use Rattle.cap_spec.proofs.Prelude.{and_parts, cases_lt, false≢true, length-map, bitmask_splat, prefix_len, chunk}
 use Rattle.cap_spec.proofs.Prelude.{mask_l, top, zip2, full_run, tag_of, zero_bytes, zero_run, zeros_in, word_bytes}
-use Rattle.cap_spec.proofs.Prelude.{marks}
+use Rattle.cap_spec.proofs.Prelude.{marks, common_steps, rules}
 use Rattle.cap_pack.proofs.Tags.{tag_fits, word_tag}
 
 -- its length
@@ -44,22 +44,11 @@ run_goes_on p i n xs h = omega (arith, goes_on p i n xs (omega (arith, run_is p 
 
 -- one more passes
 pub run_more : (p : ℕ → Bool) (i : ℕ) (xs : List ℕ) → i < length xs → p (get_or xs i 0) ≡ true → i ≤ run p xs → i + 1 ≤ run p xs
-run_more p i xs l t h =
-    ⊎_elim (λ less. omega arith)
-    (λ most.
-    let at : prefix_len p xs ≡ i = omega (arith, run_is p xs) in
-    let stops = prefix_len_stops p xs 0 (omega arith) in
-    absurd (false≢true (sym stops ∙ ap (λ k. p (get_or xs k 0)) at ∙ t)))
-    (cases_lt i (run p xs))
+run_more p i xs l t h = grind (arith, common_steps, run_is, prefix_len_stops, false≢true)
 
 -- none more passes
 pub run_ends : (p : ℕ → Bool) (i : ℕ) (xs : List ℕ) → (i < length xs → p (get_or xs i 0) ≡ false) → i ≤ run p xs → i ≡ run p xs
-run_ends p i xs l h =
-    ⊎_elim (λ less.
-    let before : i < prefix_len p xs = omega (arith, run_is p xs) in
-    absurd (false≢true (sym (l (omega (arith, prefix_len-le-length p xs))) ∙ prefix_len_passes p xs i 0 before)))
-    (λ most. omega arith)
-    (cases_lt i (run p xs))
+run_ends p i xs l h = search (rules, run_is, false≢true, prefix_len-le-length, prefix_len_passes)
 
 -- of tests that say the same
 same_prefix : (p q : ℕ → Bool) → ((x : ℕ) → p x ≡ q x) → (xs : List ℕ) → prefix_len p xs ≡ prefix_len q xs
@@ -75,9 +64,7 @@ pub first_marked : (p q : ℕ → Bool) (f : ℕ → ℕ) → ((x : ℕ) → not
     m ≡ mask_l (map q lanes) →
     (if m == 0 then 8 else count_trailing_zeros 64 m) ≡ run p xs
 first_marked p q f same xs lanes e l m mask =
-    let eight : length lanes ≡ 8 = ap length e ∙ length-map xs f ∙ l in
-    ap (λ k. if k == 0 then 8 else count_trailing_zeros 64 k) mask ∙ first_set_mask_l q lanes 8 eight (omega arith)
-    ∙ ap (prefix_len (λ x. not (q x))) e ∙ prefix_of_map (λ x. not (q x)) f xs ∙ same_prefix (λ x. not (q (f x))) p same xs ∙ sym (run_is p xs)
+    search (rules, length-map, count_trailing_zeros, first_set_mask_l, prefix_of_map, same_prefix, run_is)
 
 -- whether two lanes differ
 abbrev differs : ℕ → ℕ → Bool

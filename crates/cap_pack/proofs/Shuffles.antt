@@ -9,7 +9,7 @@ use Rattle.cap_spec.proofs.Prelude.{not, refl, replicate, subst, suc, sym, take,
 use Rattle.cap_spec.proofs.Prelude.{◌*◌, ◌++◌, ◌+◌, ◌-◌, ◌/◌, ◌<◌, ◌==◌, ◌||◌, ◌∙◌, ◌∷◌, ◌≡◌, ◌≤◌, take-append_seam}
 use Rattle.cap_spec.proofs.Prelude.{and_parts, false≢true, lt-leb, length-map, length-replicate, map-append, Each1}
 use Rattle.cap_spec.proofs.Prelude.{number_l, little_number, ones, tag_of, zero_bytes, zeros_in, word_bytes, marks}
-use Rattle.cap_spec.proofs.Prelude.{spread}
+use Rattle.cap_spec.proofs.Prelude.{spread, rules}
 use Rattle.cap_pack.specs.Places.{marked_from, spread_from, spread_row, squeeze_row}
 use Rattle.cap_pack.proofs.Runs.{bits_behind, low_bit}
 use Rattle.cap_pack.proofs.Tags.{eight_number, mask_is_tag, word_tag}
@@ -165,10 +165,7 @@ abbrev present : List ℕ → List ℕ
 present bs = filter (λ b. not (b == 0)) bs
 
 marked_first : (z : Bool) (n t k : ℕ) → marked_from (suc n) (cond z 0 1 + 2 * t) k ≡ cond z [] (k ∷ []) ++ marked_from n t (k + 1)
-marked_first z n t k =
-    ap (λ r. cond (eqb r 0) [] (k ∷ []) ++ marked_from n ((cond z 0 1 + 2 * t) / 2) (k + 1)) (low_bit z t)
-    ∙ ap (λ u. cond u [] (k ∷ []) ++ marked_from n ((cond z 0 1 + 2 * t) / 2) (k + 1)) (clear_bit z)
-    ∙ ap (λ u. cond z [] (k ∷ []) ++ marked_from n u (k + 1)) (bits_behind z t)
+marked_first z n t k = search (rules, low_bit, clear_bit, bits_behind)
 
 first_picked : (z : Bool) (xs ks : List ℕ) (k b : ℕ) → pick xs k ≡ b →
     map (pick xs) (cond z [] (k ∷ []) ++ ks) ≡ cond (not z) (b ∷ map (pick xs) ks) (map (pick xs) ks)

@@ -1,7 +1,7 @@
 -- What one answer of the unpacker does to what is known of it.
 use Rattle.cap_spec.proofs.Prelude.{List, None, OnSome, Option, Some, [], ap, append-nil, arith, false, option_map}
 use Rattle.cap_spec.proofs.Prelude.{refl, suc, sym, true, unwrap_or, zero, ℕ, ◌++◌, ◌-◌, ◌<◌, ◌∙◌, ◌∷◌, ◌≡◌, Consumes}
-use Rattle.cap_spec.proofs.Prelude.{IsAtEnd, packed_ends, packed_is_cut, unpacked}
+use Rattle.cap_spec.proofs.Prelude.{IsAtEnd, packed_ends, packed_is_cut, unpacked, common_steps, rules}
 use Rattle.cap_words.specs.declared.phase.Phase.{Phase}
 use Rattle.cap_words.specs.declared.phase.Phase.TheVariants.{Ended, Failed, Open}
 use Rattle.cap_pack.specs.Course.{Course, course, course_is_cut, course_places, course_words, ends, gives, stops}
@@ -35,10 +35,7 @@ module _ (f g : List ℕ → Course) (w to : ℕ) (bs : List ℕ) (step : (ys : 
       × (course_places (f (unwrap_or a [])) ≡ to ∷ course_places (g (unwrap_or b []))))
   given_rest None b p = tt
   given_rest (Some x) None p = absurd p
-  given_rest (Some x) (Some y) p = (
-    sym (ap (λ l. course_is_cut (f l)) p ∙ ap course_is_cut (step y)),
-    ap (λ l. course_places (f l)) p ∙ ap course_places (step y),
-  )
+  given_rest (Some x) (Some y) p = grind (arith, common_steps)
 
 -- these were the last bytes
 all_taken : (x y bs : List ℕ) → x ≡ bs ++ y → y ≡ [] → x ≡ bs
@@ -49,18 +46,14 @@ pub left_none : (f : List ℕ → Course) (to : ℕ) (a b : Option (List ℕ)) �
     × (course_places (f (unwrap_or a [])) ≡ to ∷ []))
 left_none f to None b e p q = tt
 left_none f to (Some x) None e p q = absurd p
-left_none f to (Some x) (Some y) e p q =
-    let c : f x ≡ ends to = ap f (all_taken x y [] p q) ∙ e in
-    (ap (λ l. Some (course_words l)) c, ap course_is_cut c, ap course_places c)
+left_none f to (Some x) (Some y) e p q = search (rules, all_taken)
 
 pub left_cut : (f : List ℕ → Course) (to : ℕ) (bs : List ℕ) (a b : Option (List ℕ)) → f bs ≡ stops to → Consumes a b bs → IsAtEnd b →
     OnSome (option_map (λ l. course_words (f l)) a) ((option_map (λ l. course_words (f l)) a ≡ Some []) × (course_is_cut (f (unwrap_or a [])) ≡ true)
     × (course_places (f (unwrap_or a [])) ≡ to ∷ []))
 left_cut f to bs None b e p q = tt
 left_cut f to bs (Some x) None e p q = absurd p
-left_cut f to bs (Some x) (Some y) e p q =
-    let c : f x ≡ stops to = ap f (all_taken x y bs p q) ∙ e in
-    (ap (λ l. Some (course_words l)) c, ap course_is_cut c, ap course_places c)
+left_cut f to bs (Some x) (Some y) e p q = search (rules, all_taken)
 
 pub none_words : (f g : List ℕ → Course) (to at : ℕ) (a b : Option (List ℕ)) → f [] ≡ ends to → ((l : List ℕ) → g l ≡ ends at) → Consumes a b [] → IsAtEnd b →
     Consumes (option_map (λ l. course_words (f l)) a) (option_map (λ l. course_words (g l)) b) []

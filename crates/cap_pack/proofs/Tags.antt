@@ -4,10 +4,10 @@ use Rattle.std.specs.Simd.Lanes.{digits_l, put_chunk}
 use Rattle.cap_spec.proofs.Lemmas.{length_plain, bytes_back}
 use Rattle.cap_spec.proofs.Packed.Repacking.{tag_below}
 use Rattle.cap_spec.proofs.Prelude.{Bool, List, [], ap, arith, cond, eqb, false, flat_map, if◌then◌else◌, length, map}
-use Rattle.cap_spec.proofs.Prelude.{not, refl, replicate, subst, suc, sym, take, take-add, true, w8, ℕ, ◌%◌, ◌*◌, ◌++◌}
+use Rattle.cap_spec.proofs.Prelude.{not, refl, replicate, suc, sym, take, take-add, true, w8, ℕ, ◌%◌, ◌*◌, ◌++◌}
 use Rattle.cap_spec.proofs.Prelude.{◌+◌, ◌/◌, ◌<◌, ◌==◌, ◌∙◌, ◌∷◌, ◌≡◌, ◌≤◌, length-map, map-append, bitmask_splat}
 use Rattle.cap_spec.proofs.Prelude.{length-chunk, byte_at, AllByRecursion, Each1, chunk, mask_l, number_l, top, zip2}
-use Rattle.cap_spec.proofs.Prelude.{little_bytes, little_number, tag_of, word_bytes}
+use Rattle.cap_spec.proofs.Prelude.{little_number, tag_of, word_bytes, rules}
 
 -- the tag of a word
 abbrev pub word_tag : ℕ → ℕ
@@ -65,9 +65,7 @@ eight_number (a ∷ b ∷ c ∷ d ∷ e ∷ f ∷ g ∷ h ∷ []) l = refl
 eight_number ts l = absurd (omega (arith, l))
 
 tags_back : (ts : List ℕ) → AllByRecursion (λ t. t < 256) ts → length ts ≡ 8 → word_bytes (number_l 256 ts) ≡ ts
-tags_back ts fit l =
-    let back : little_bytes 8 (little_number 8 ts) ≡ ts = subst (λ n. little_bytes n (little_number n ts) ≡ ts) l (bytes_back ts fit) in
-    ap word_bytes (eight_number ts l) ∙ back
+tags_back ts fit l = search (rules, bytes_back, eight_number)
 
 -- whether a lane is a byte that isn't zero
 abbrev differs : ℕ → ℕ → Bool

@@ -8,6 +8,7 @@ use Rattle.cap_spec.proofs.Prelude.{take, take-append-drop, true, zero, ℕ, ⊎
 use Rattle.cap_spec.proofs.Prelude.{◌≢◌, ◌≤◌, cases_eq, cases_lt, cond-false, cond-true, little_number, ends_in}
 use Rattle.cap_spec.proofs.Prelude.{front_ends, packed_ends, word_ends, capped, plain_words, given_in, given_of}
 use Rattle.cap_spec.proofs.Prelude.{group_length, group_words, is_cut_in, marks, packed_is_cut, spread, unpacked}
+use Rattle.cap_spec.proofs.Prelude.{common_steps, rules}
 use Rattle.cap_pack.specs.Course.{Course, course, course_is_cut, course_places, course_words, gives, stops, zeros_then}
 use Rattle.cap_pack.specs.Course.{first_word, head_rest, plain_of, zeros_of}
 use Rattle.cap_pack.proofs.Courses.{course_head, course_head_stops, course_none, course_plain, course_plain_stops}
@@ -19,11 +20,7 @@ pub record Tells (c : Course) (ws : List ℕ) (u : Bool) (ps : List ℕ) : Type 
   pub ends : course_places c ≡ ps
 
 tells_along : {c d : Course} {ws vs : List ℕ} {u v : Bool} {ps qs : List ℕ} → c ≡ d → ws ≡ vs → u ≡ v → ps ≡ qs → Tells d vs v qs → Tells c ws u ps
-tells_along e f g h t = record {
-  words = ap course_words e ∙ t.words ∙ sym f;
-  cut = ap course_is_cut e ∙ t.cut ∙ sym g;
-  ends = ap course_places e ∙ t.ends ∙ sym h;
-}
+tells_along e f g h t = grind (arith, common_steps)
 
 tells_one : {c : Course} {ws : List ℕ} {u : Bool} {ps : List ℕ} (x at : ℕ) → Tells c ws u ps → Tells (gives x at c) (x ∷ ws) u (at ∷ ps)
 tells_one x at t = record { words = ap (λ l. x ∷ l) t.words; cut = t.cut; ends = ap (λ l. at ∷ l) t.ends }
@@ -35,19 +32,11 @@ tells_zeros (suc n) at t = tells_one 0 at (tells_zeros n at t)
 
 tells_true : {c : Course} {x : List ℕ} {u : Bool} {p : List ℕ} (y : List ℕ) (v : Bool) (q : List ℕ) {b : Bool} → b ≡ true → Tells c x u p →
     Tells c (cond b x y) (cond b u v) (cond b p q)
-tells_true {x = x} {u = u} {p = p} y v q {b} e t = record {
-  words = t.words ∙ sym (cond-true b x y e);
-  cut = t.cut ∙ sym (cond-true b u v e);
-  ends = t.ends ∙ sym (cond-true b p q e);
-}
+tells_true {x = x} {u = u} {p = p} y v q {b} e t = search (rules, cond-true)
 
 tells_false : {c : Course} {y : List ℕ} {v : Bool} {q : List ℕ} (x : List ℕ) (u : Bool) (p : List ℕ) {b : Bool} → b ≡ false → Tells c y v q →
     Tells c (cond b x y) (cond b u v) (cond b p q)
-tells_false {y = y} {v = v} {q = q} x u p {b} e t = record {
-  words = t.words ∙ sym (cond-false b x y e);
-  cut = t.cut ∙ sym (cond-false b u v e);
-  ends = t.ends ∙ sym (cond-false b p q e);
-}
+tells_false {y = y} {v = v} {q = q} x u p {b} e t = search (rules, cond-false)
 
 -- a position that has stopped stays where it is
 capped_more : (at m : ℕ) → capped (capped at + m) ≡ capped (at + m)
@@ -66,9 +55,7 @@ plain_behind n at bs ys l = course_plain n (capped at) bs ys l ∙ ap (λ p. giv
 head_behind : (at tag : ℕ) (bs ys : List ℕ) → length bs ≡ head_rest tag →
     course 0 (capped at) (tag ∷ bs ++ ys) ≡ gives (first_word tag bs) (capped (at + length (tag ∷ bs)))
     (zeros_then (zeros_of tag bs) (capped (at + length (tag ∷ bs))) (course (plain_of tag bs) (capped (at + length (tag ∷ bs))) ys))
-head_behind at tag bs ys l =
-    course_head (capped at) tag bs ys l
-    ∙ ap (λ p. gives (first_word tag bs) p (zeros_then (zeros_of tag bs) p (course (plain_of tag bs) p ys))) (capped_more at (length (tag ∷ bs)))
+head_behind at tag bs ys l = search (rules, course_head, capped_more)
 
 -- what so many words as they are give, and then groups
 behind : ℕ → ℕ → List ℕ → List ℕ

@@ -1,6 +1,6 @@
 -- What the unpacker's course makes of one read.
-use Rattle.cap_spec.proofs.Prelude.{List, Option, [], ap, arith, get_or, length, subst, suc, take, ℕ, ◌++◌, ◌+◌, ◌<◌}
-use Rattle.cap_spec.proofs.Prelude.{◌∙◌, ◌∷◌, ◌≡◌, Consumes-trans, little_number, capped}
+use Rattle.cap_spec.proofs.Prelude.{List, Option, [], arith, get_or, length, suc, take, ℕ, ◌++◌, ◌+◌, ◌<◌}
+use Rattle.cap_spec.proofs.Prelude.{◌∷◌, ◌≡◌, Consumes-trans, little_number, capped, rules}
 use Rattle.cap_words.specs.Counting.{Took}
 use Rattle.cap_pack.specs.Course.{course, first_word, gives, head_rest, plain_of, stops, zeros_of, zeros_then}
 use Rattle.cap_pack.proofs.Courses.{course_head, course_head_stops, course_plain, course_plain_stops}
@@ -17,18 +17,12 @@ word_cut {from = from} {to = to} {bs = bs} l t = λ n. rw (t.place) (course_plai
 -- one read after the other
 took_trans : {a b c : Option (List ℕ)} {from mid to : ℕ} {bs cs : List ℕ} → Took a b from mid bs → Took b c mid to cs →
     capped (capped (from + length bs) + length cs) ≡ capped (from + length (bs ++ cs)) → Took a c from to (bs ++ cs)
-took_trans {a = a} {b = b} {c = c} {bs = bs} {cs = cs} s t e = record {
-  lost = Consumes-trans a b c bs cs s.lost t.lost;
-  place = t.place ∙ ap (λ n. capped (n + length cs)) s.place ∙ e;
-}
+took_trans {a = a} {b = b} {c = c} {bs = bs} {cs = cs} s t e = search (rules, Consumes-trans)
 
 -- a tag and then the bytes behind it
 pub head_taken : {a b c : Option (List ℕ)} {from mid to n : ℕ} {bs : List ℕ} (buf : List ℕ) → length buf ≡ 1 → n ≡ 1 →
     Took a b from mid (take n buf) → Took b c mid to bs → Took a c from to (get_or buf 0 0 ∷ bs)
-head_taken {a = a} {b = b} {from = from} {mid = mid} {bs = bs} (tag ∷ []) l e s t =
-    let P : ℕ → Type 0 = λ n. Took a b from mid (take n (tag ∷ [])) in
-    let first : Took a b from mid (tag ∷ []) = subst P e s in
-    took_trans first t (omega arith)
+head_taken {a = a} {b = b} {from = from} {mid = mid} {bs = bs} (tag ∷ []) l e s t = search (rules, took_trans)
 head_taken [] l e s t = absurd (omega (arith, l))
 head_taken (tag ∷ more ∷ rest) l e s t = absurd (omega (arith, l))
 

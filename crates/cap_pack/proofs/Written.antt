@@ -18,22 +18,7 @@ pub take-plain : (text first head bytes more : List ℕ) (len k m count end : �
     end ≡ len + 10 + length bytes → head ≡ first → more ≡ bytes →
     take end (put_mid (len + 10) m (set (put_mid (len + 1) k (set text len 255) head) (len + 9) count) more) ≡ take len text ++ 255 ∷ (first ++ count ∷ bytes)
 take-plain text first head bytes more len k m count end h l e n f b =
-    let tagged = set text len 255 in
-    let headed = put_mid (len + 1) k tagged head in
-    let counted = set headed (len + 9) count in
-    let long : length tagged ≡ length text = length-set text len 255 in
-    let same : length headed ≡ length text = search (rules, places) in
-    let wide : length counted ≡ length text = length-set headed (len + 9) count ∙ same in
-    let ends : end ≡ len + 10 + length more = n ∙ ap (λ l. len + 10 + length l) (sym b) in
-    take-put_mid (len + 10) m counted more end ends (omega arith)
-    ∙ ap (λ t. t ++ more) (take-pushed headed (len + 9) (len + 10) count (omega arith) (omega arith)
-    ∙ ap (λ t. t ++ count ∷ []) (take-put_mid (len + 1) k tagged head (len + 9) (omega (arith, l)) (omega arith)
-    ∙ ap (λ t. t ++ head) (take-pushed text len (len + 1) 255 (omega arith) (omega arith))))
-    ∙ append_assoc ((take len text ++ 255 ∷ []) ++ head) (count ∷ []) more
-    ∙ append_assoc (take len text ++ 255 ∷ []) head (count ∷ more)
-    ∙ append_assoc (take len text) (255 ∷ []) (head ++ count ∷ more)
-    ∙ ap (λ t. take len text ++ 255 ∷ (t ++ count ∷ more)) f
-    ∙ ap (λ t. take len text ++ 255 ∷ (first ++ count ∷ t)) b
+    search (rules, length-set, places, take-put_mid, take-pushed, append_assoc)
 
 -- after writes of a tag and of the bytes that it marks, with some behind them
 pub take-marked : (text marked bytes zeros : List ℕ) (len k tag ones end : ℕ) → ones ≡ length marked → len < length text → bytes ≡ marked ++ zeros →

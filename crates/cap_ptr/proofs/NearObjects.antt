@@ -36,7 +36,7 @@ row_found m s w q r has some start_is pointers words few last inside =
       finds = record {
         leads = object-lead m s w 0 s w q (pos r.start) (stands-near m s w q has (λ e. omega (arith, plain.0, e))) plain.0 some
             start_is;
-        sits = record { exists = HasWord-segment m s w q has; inside = omega (arith, words, inside); composite = λ c. absurd (plain.1 c.0 c.1) };
+        inside = record { exists = HasWord-segment m s w q has; inside = omega (arith, words, inside); composite = λ c. absurd (plain.1 c.0 c.1) };
       };
       words = words;
       few = few;

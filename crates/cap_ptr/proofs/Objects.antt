@@ -29,7 +29,7 @@ module _ (m : List (List ℕ)) (s w k t b q : ℕ) (leads : LeadsTo m s w k t b 
       let e = extent_structs q composite.0 composite.1 in
       let x : extra q tag ≡ none = extra-composite q tag composite ∙ sym none_is in
       record {
-        finds = record { leads = leads; sits = record { exists = there; inside = inside; composite = λ y. (tag, has, (struct, fits')) } };
+        finds = record { leads = leads; inside = record { exists = there; inside = inside; composite = λ y. (tag, has, (struct, fits')) } };
         object = record {
           tagged = λ y. (has, (struct, fits'));
           words = omega arith;
@@ -43,6 +43,6 @@ module _ (m : List (List ℕ)) (s w k t b q : ℕ) (leads : LeadsTo m s w k t b 
   pub found-plain : (none n c : ℕ) (x : Shape) → k ≤ 2 → ¬ IsComposite q → n ≡ extent q → n ≤ 2 ^ 29 → b + n ≤ length (segment_of m t)
       → none ≡ extra q 0 → none < 2 ^ 29 → c ≡ k + n + none → IsShape q 0 x → FindsObject m s w k t b q 0 n c x
   found-plain none n c x few plain n_is below inside none_is few_none c_is shape = record {
-    finds = record { leads = leads; sits = record { exists = there; inside = omega arith; composite = λ y. absurd (plain y) } };
+    finds = record { leads = leads; inside = record { exists = there; inside = omega arith; composite = λ y. absurd (plain y) } };
     object = record { tagged = λ y. absurd (plain y); words = n_is; charge = omega arith; small = omega arith; shape = shape };
   }

@@ -1,6 +1,7 @@
 pub mod CanonEnds
 pub mod Transcoding
 pub mod TranscodeEnds
+pub mod Breaking
 pub mod Demanding
 pub mod Explaining
 pub mod FilterEnds
@@ -11,6 +12,7 @@ pub mod Handing
 pub mod Judging
 pub mod Making
 pub mod Passing
+pub mod Placed
 pub mod Settling
 pub mod Sifting
 pub mod Streams

@@ -1,9 +1,9 @@
 -- How far the engine `run_filter` has come: the messages of a prefix of the stream were read and sifted.
 use Rattle.cap_spec.proofs.Lemmas.{all_append, one_stream}
-use Rattle.cap_spec.proofs.Prelude.{Bool, Err, IsTrue, List, None, Ok, Option, Result, Some, [], ap, append-nil}
+use Rattle.cap_spec.proofs.Prelude.{Bool, Err, IsTrue, List, None, Ok, Result, Some, [], ap, append-nil}
 use Rattle.cap_spec.proofs.Prelude.{append_assoc, arith, false, inl, inr, length, length-append, refl, subst, sum, sym}
 use Rattle.cap_spec.proofs.Prelude.{true, ℕ, ◌++◌, ◌+◌, ◌<◌, ◌∙◌, ◌∷◌, ◌≡◌, ◌≢◌, ◌≤◌, ◌⊎◌, Appends-trans, false≢true}
-use Rattle.cap_spec.proofs.Prelude.{AllByRecursion, Stream, sizes_of, IsDisjoint}
+use Rattle.cap_spec.proofs.Prelude.{AllByRecursion, Stream, sizes_of}
 use Rattle.cap_frame.proofs.Converse.{same_some}
 use Rattle.cap_vet.specs.Prelude.{words_under, depth_of, words_of, IsAccepted}
 use Rattle.cap_vet.specs.declared.limits.Limits.{Limits}
@@ -14,11 +14,11 @@ use Rattle.cap_text.specs.declared.fault.Cause.TheVariants.{Output, Refused, Mem
 use Rattle.cap_run.specs.Filtering.{AllAccepted, Covers, FiltersAll, FiltersUntil, LastAccepted, LastRefused, Logged}
 use Rattle.cap_run.specs.Filtering.{Noted, Notes, PassesLast, TellsMet, WantsMet, frame_in}
 use Rattle.cap_run.specs.Prelude.{OutFault, Demands, Cause, Canon, Frame, NotStrict, TooManyMessages, RunFault}
-use Rattle.cap_run.specs.Prelude.{IsStrictUnder, OrFaultIn, TellsMarked, WantsIn, PassesOn, ReadsUntil, TellsIn}
+use Rattle.cap_run.specs.Prelude.{IsStrictUnder, OrFaultIn, WantsIn, PassesOn, ReadsUntil, TellsIn}
 use Rattle.cap_run.specs.Prelude.{WantsInForm, Appended, EndStops, RunStops, Settled, StopsIn, FindsObjection}
-use Rattle.cap_run.specs.Prelude.{SiftsNext, objection_text, EndsStream, ReadsStream, Tells, TellsEach, Told}
-use Rattle.cap_run.specs.Prelude.{messages_of, one_noncanonical, one_refused, outcome_of, texts_of, WantsMarks}
-use Rattle.cap_run.specs.Prelude.{Objection, Counted, Accepted, NotCanonical, Outcome}
+use Rattle.cap_run.specs.Prelude.{SiftsNext, EndsStream, ReadsStream, Tells, TellsEach, Told}
+use Rattle.cap_run.specs.Prelude.{messages_of, one_noncanonical, one_refused, outcome_of, texts_of}
+use Rattle.cap_run.specs.Prelude.{Counted, Accepted, NotCanonical, Outcome}
 use Rattle.cap_run.specs.Sifting.{LogsMore, SiftStops, Sifts}
 use Rattle.cap_run.specs.declared.engines.stream.Counted.TheVariants.{Refused as was_refused}
 use Rattle.cap_run.specs.declared.settings.FilterForm.{FilterForm}
@@ -59,14 +59,6 @@ module _ {O : Type 0} (g : output.Ghosts O) where
   logged_stops first old new text line false fault e l s = (fault, stops_whole first new fault text line (stops_in g first old new fault text line l s))
   logged_stops first old new text line true fault e l s = absurd (false≢true (sym e))
 
--- one thing is found of a message where others are
-pub judges_as : (tells others : Tells) (wants needs : List (List ℕ) → Type 0) (m : List (List ℕ)) (r : Result (Option Objection) Cause)
-    → ((n : ℕ) (text : List ℕ) (counted : Counted) → tells n m text counted → others n m text counted) → (wants m → needs m)
-    → FindsObjection tells wants m r → FindsObjection others needs m r
-judges_as tells others wants needs m (Ok None) h k j = λ n. let said = j n in (said.0, h n said.0 Accepted said.1)
-judges_as tells others wants needs m (Ok (Some objection)) h k j = λ n. h n (objection_text n objection) was_refused (j n)
-judges_as tells others wants needs m (Err cause) h k j = (j.0, k j.1)
-
 module _ (form : FilterForm) (demands : Demands) (limits : Limits) (m : List (List ℕ)) where
   -- one that meets them is accepted
   pub judges_met : (report : Report) → form.exclusive ≡ false → IsStrictUnder demands m (words_of limits) (depth_of limits)
@@ -75,24 +67,6 @@ module _ (form : FilterForm) (demands : Demands) (limits : Limits) (m : List (Li
   judges_met report e strict accepted =
       subst (λ (x : Bool). FindsObjection (OrFaultIn demands (TellsMet x) limits) (WantsIn demands (WantsMet x) limits) m (Ok None)) (sym e)
       (λ n. (accepted_text n report, inl (strict, record { report = report; is_accepted = accepted; line = refl; counts = refl })))
-
-  -- or it is vetted exclusively
-  pub judges_marked : (r : Result (Option Objection) Cause) → form.exclusive ≡ true → IsStrictUnder demands m (words_of limits) (depth_of limits)
-      → (let words = words_under demands m (words_of limits) in let depth = depth_of limits in
-      FindsObjection (TellsMarked words depth) (WantsMarks words depth) m r)
-      → FindsObjection (TellsIn form demands limits) (WantsInForm form demands limits) m r
-  judges_marked r e strict j =
-      let words = words_under demands m (words_of limits) in
-      let depth = depth_of limits in
-      subst (λ (x : Bool). FindsObjection (OrFaultIn demands (TellsMet x) limits) (WantsIn demands (WantsMet x) limits) m r) (sym e)
-      (judges_as (TellsMarked words depth) (OrFaultIn demands TellsMarked limits) (WantsMarks words depth) (WantsIn demands WantsMarks limits) m r
-      (λ n text counted t. inl (strict, t)) (λ w. (strict, w)) j)
-
--- a message that is accepted after its words were marked uses none twice
-pub marked_disjoint : (words depth n : ℕ) (m : List (List ℕ)) (line : List ℕ) → TellsMarked words depth n m line Accepted
-    → IsDisjoint m
-marked_disjoint words depth n m line (inl (disjoint, accepted)) = disjoint
-marked_disjoint words depth n m line (inr overlap) = absurd (let e = overlap.counts in cc)
 
 module _ {O E : Type 0} (go : output.Ghosts O) (ge : output.Ghosts E) (pack : Bool) (verdict : Tells) (wants : List (List ℕ) → Type 0) (n : ℕ)
     (m : List (List ℕ)) where

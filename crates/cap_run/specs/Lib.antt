@@ -3,7 +3,9 @@ pub mod Checking
 pub mod Transcoding
 pub mod Demanding
 pub mod Engines
+pub mod Placed
 pub mod Explained
+pub mod Breaking
 pub mod Filtering
 pub mod Handed
 pub mod Making

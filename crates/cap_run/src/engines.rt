@@ -6,6 +6,7 @@ pub mod check;
 pub mod dump;
 pub mod exclusive;
 pub mod explain;
+pub(crate) mod explaining;
 pub mod filter;
 pub(crate) mod flushing;
 pub mod get;

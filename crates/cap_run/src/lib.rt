@@ -11,7 +11,10 @@ mod settings;
 
 pub use cap_path::{PathFault, parse_path};
 pub use cap_spec::Step;
-pub use cap_text::{Cause, CopyFault, RunFault, dump, write_copy_fault, write_fault};
+pub use cap_text::{
+    Cause, CopyFault, ExplainedFault, RunFault, dump, write_copy_fault, write_explained_fault,
+    write_fault,
+};
 pub use cap_vet::{Demands, Limits};
 pub use engines::canon::{run_canon, run_canon_with};
 pub use engines::check::{run_check, run_check_with};

@@ -1,5 +1,6 @@
 -- Small examples, computed from the definitions: each fixes what one of them says.
 use Rattle.std.specs.Fmt.{digits}
+use Rattle.cap_spec.specs.ObjectShapes.{is_struct}
 use Rattle.cap_spec.specs.Tree.{none}
 use Rattle.cap_spec.proofs.Prelude.{[], arith, codes, lit<, lit≤, refl, replicate, true, ◌++◌, ◌∷◌, ◌≡◌, layout, trim}
 use Rattle.cap_spec.proofs.Prelude.{Denotes, two_pads, Frames, frame_text, packed_ends, pack_text, IsBadAt, IsPath}
@@ -102,18 +103,24 @@ denotes-two_pads = (
   0,
   0x0000000100000000,
   0,
+  1,
+  0,
+  0,
   0,
   record {
-    finds = record {
-      leads = two_pads 0x0000000100000006 0x0000000200000002 0x0000000100000000 refl (refl, refl) refl refl (refl, refl)
-          (lit< tt, refl) refl refl;
-      sits = record { exists = lit< tt; inside = lit≤ tt; composite = λ (a, b). absurd (omega (arith, a)) };
+    object = record {
+      finds = record {
+        leads = two_pads 0x0000000100000006 0x0000000200000002 0x0000000100000000 refl (refl, refl) refl refl (refl, refl)
+            (lit< tt, refl) refl refl;
+        inside = record { exists = lit< tt; inside = lit≤ tt; composite = λ (a, b). absurd (omega (arith, a)) };
+      };
+      tagged = λ (a, b). absurd (omega (arith, a));
+      shape = is_struct refl refl;
     };
-    kind = refl;
-    data_words = refl;
     charge = refl;
     depth = refl;
   },
+  refl,
   (refl, refl, refl),
 )
 

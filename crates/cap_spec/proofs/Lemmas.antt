@@ -24,16 +24,19 @@ pub use Rattle.cap_spec.proofs.Paths.PathCounts.{first_cap, pointer_path_reached
 pub use Rattle.cap_spec.proofs.Paths.Preorder.{Before-asymmetric, Before-irreflexive, Before-trans, one_first_cap}
 pub use Rattle.cap_spec.proofs.Paths.Walks.{comes_beyond, coming_last, one_coming, one_reached}
 pub use Rattle.cap_spec.proofs.Pointers.Following.{leads-near, object-not_wrong, one_lead}
+pub use Rattle.cap_spec.proofs.Pointers.Shapes.{pointers_shape, struct_shape, structs_shape, structs_words}
 pub use Rattle.cap_spec.proofs.Strict.Faults.{strict_not_fault, strict_wider}
 pub use Rattle.cap_spec.proofs.Strict.FirstLax.{first_by_tour}
 pub use Rattle.cap_spec.proofs.Strict.Looking.{near_has_none}
 pub use Rattle.cap_spec.proofs.Trees.Charges.{each_charged, extent_pointers, extent_struct, extent_structs, extra_same}
 pub use Rattle.cap_spec.proofs.Trees.Charges.{lead_kind, length-places}
 pub use Rattle.cap_spec.proofs.Trees.DenotedTrees.{range_length}
-pub use Rattle.cap_spec.proofs.Trees.Finding.{SameObject, object_parts, one_object}
+pub use Rattle.cap_spec.proofs.Trees.Finding.{object_parts, one_found, one_object, pointers_found, scalars_found}
+pub use Rattle.cap_spec.proofs.Trees.Finding.{struct_found, structs_found}
 pub use Rattle.cap_spec.proofs.Trees.OneTree.{Formed, HasForm, formed, number_list, number_struct, one_tree}
 pub use Rattle.cap_spec.proofs.Trees.ReadingBack.{length-scalar_words}
 pub use Rattle.cap_spec.proofs.Trees.Readings.{word_within}
-pub use Rattle.cap_spec.proofs.Verdicts.OneFault.{one_of_last, one_refusal}
+pub use Rattle.cap_spec.proofs.Verdicts.KeptBefore.{kept_before}
+pub use Rattle.cap_spec.proofs.Verdicts.OneFault.{fault_tour, first_fault_kept, one_of_last, one_refusal}
 pub use Rattle.cap_spec.proofs.Verdicts.OneVerdict.{paths_cost_charge, paths_within_depth, reached_not_wrong}
 pub use Rattle.cap_spec.proofs.Verdicts.Refusals.{refused_justified, within_not_refused}

@@ -50,21 +50,22 @@ pub use Rattle.cap_spec.specs.Canonical.{data_of, element_contents, element_size
 pub use Rattle.cap_spec.specs.Canonical.{list_word, offsets, pointer_to, pointer_words, size, sizes, struct_word}
 pub use Rattle.cap_spec.specs.Canonical.{take_trees, trim, trim_all, trim_elements}
 pub use Rattle.cap_spec.specs.Copies.{HasCopy, IsCanonical}
-pub use Rattle.cap_spec.specs.Denoting.{AreElements, DenoteEach, Denotes, Finds, FindsPointers, FindsStruct}
-pub use Rattle.cap_spec.specs.Denoting.{FindsStructs, element_levels, value_at, values_of, words_from}
+pub use Rattle.cap_spec.specs.Denoting.{AreElements, DenoteEach, Denotes, Finds, FindsCharged, FindsKind}
+pub use Rattle.cap_spec.specs.Denoting.{element_levels, levels_below, value_at, values_of, words_from}
 pub use Rattle.cap_spec.specs.Endings.{BeginsMessage, Ending, EndsIn, TellsTooMany, TellsTooMuch, message, partial}
 pub use Rattle.cap_spec.specs.Endings.{too_large, too_many}
-pub use Rattle.cap_spec.specs.Faults.{AreShallow, HasNoRoot, IsFirstFault, IsFirstReason, IsRefused, is_deep, is_past}
+pub use Rattle.cap_spec.specs.Faults.{HasNoRoot, IsFaultAt, IsFirstFault, IsFirstReason, IsRefused, is_deep, is_past}
 pub use Rattle.cap_spec.specs.Following.{Condition, IsComposite, IsOnePad, IsTwoPad, Lead, Leads, Says, TagFits, Wrong}
 pub use Rattle.cap_spec.specs.Following.{extra, near, one_pad, rank, to_cap, to_null, to_object, two_pads}
 pub use Rattle.cap_spec.specs.Frames.{Frames, FramesZero, IsPartial, IsTable, Stream, frame_text, halves, in_contents}
 pub use Rattle.cap_spec.specs.Frames.{in_table, in_word, joined, paired, sizes_of}
-pub use Rattle.cap_spec.specs.Getting.{AreOnPath, Charges, IsFaultOnPath, IsRefusedOnPath, IsStartOf}
+pub use Rattle.cap_spec.specs.Getting.{AreOnPath, AreShallow, Charges, IsFaultOnPath, IsRefusedOnPath, IsStartOf}
 pub use Rattle.cap_spec.specs.GreatestLimits.{most_depth, most_words}
 pub use Rattle.cap_spec.specs.Lists.{AreDistinct, IsOneOf}
 pub use Rattle.cap_spec.specs.Messages.{HasWord, IsMessage, segment_of}
 pub use Rattle.cap_spec.specs.Occupying.{IsDisjoint, IsFirstOverlap, Occupies, Overlaps, Uses, empty_count, on_earlier}
 pub use Rattle.cap_spec.specs.Occupying.{on_root, pads_of, twice}
+pub use Rattle.cap_spec.specs.ObjectShapes.{HasKind}
 pub use Rattle.cap_spec.specs.PackedEnds.{ends_in, front_ends, packed_ends, word_ends}
 pub use Rattle.cap_spec.specs.PackedFrames.{packed_frame, table_of}
 pub use Rattle.cap_spec.specs.Packing.{full_run, group_size, group_text, pack_in, pack_text, tag_of, zero_bytes}
@@ -91,8 +92,9 @@ pub use Rattle.cap_spec.specs.Unamplified.{unamplified}
 pub use Rattle.cap_spec.specs.Unpacking.{Cut, Groups, IsGroup, Unpacks, given_in, given_of, group_length, group_words}
 pub use Rattle.cap_spec.specs.Unpacking.{groups_text, groups_words, is_cut_in, marked, marks, packed_is_cut, plain}
 pub use Rattle.cap_spec.specs.Unpacking.{spread, unpacked, zeros}
-pub use Rattle.cap_spec.specs.Verdicts.{CostOf, IsDeepAt, Justified, levels_below, no_root, past_limit, too_deep}
+pub use Rattle.cap_spec.specs.Verdicts.{CostOf, IsDeepAt, Justified, no_root, past_limit, too_deep}
 pub use Rattle.cap_spec.specs.Words.{IsWord, field, signed_offset_of}
+pub use Rattle.cap_spec.specs.declared.Kind.TheVariants.{Pointers, Scalars, Struct, Structs}
 pub use Rattle.cap_spec.specs.declared.Lax.{Lax}
 pub use Rattle.cap_spec.specs.declared.Lax.TheVariants.{CapabilityPad, EmptySegment, NullPad}
 pub use Rattle.cap_spec.specs.declared.Reason.{Reason}

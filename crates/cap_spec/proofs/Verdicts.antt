@@ -1,6 +1,7 @@
 -- Accepted or refused, and by which fault.
 pub mod OneVerdict
 pub mod OneFault
-pub mod Refusals
 pub mod OnPath
+pub mod KeptBefore
+pub mod Refusals
 pub mod Deciding

@@ -1,22 +1,14 @@
 -- What is at a spot of a message: its kind, and its n words from t:b on, the tag of a list of
 -- structs among them (standard: Objects; paths are the profile's).
 use Rattle.std.specs.Prelude.{List, ℕ, ◌+◌, ◌≡◌}
-use Rattle.cap_spec.specs.Denoting.{Finds, values_of, words_from}
-use Rattle.cap_spec.specs.Following.{HasTag, Leads, to_cap, to_null}
-use Rattle.cap_spec.specs.ObjectShapes.{HasKind}
+use Rattle.cap_spec.specs.Denoting.{FindsKind, values_of, words_from}
+use Rattle.cap_spec.specs.Following.{Leads, to_cap, to_null}
 use Rattle.cap_spec.specs.Paths.{ReachesSpot, Spot, element, word}
 use Rattle.cap_spec.specs.Pointers.{extent}
 use Rattle.cap_spec.specs.Showing.{Own, own_cap, own_null, own_pointers, own_scalars, own_struct, own_structs}
 use Rattle.cap_spec.specs.declared.Kind.{Kind}
 use Rattle.cap_spec.specs.declared.Kind.TheVariants.{Cap, Null, Pointers, Scalars, Struct, Structs}
 use Rattle.cap_spec.specs.declared.Step.{Step}
-
--- An object of this kind is found at s:w: n words from t:b on.
-pub record HasObjectAt (m : List (List ℕ)) (s w : ℕ) (kind : Kind) (t b n k q tag : ℕ) : Type 0 where
-  pub finds : Finds m s w k t b q
-  pub tagged : HasTag m t b q tag
-  pub shape : HasKind q tag kind
-  pub words : n ≡ extent q
 
 -- a struct that is an element has the words that its spot gives
 pub record IsElementAt (t' b' ds ps d p t b n : ℕ) : Type 0 where
@@ -30,7 +22,7 @@ pub record IsElementAt (t' b' ds ps d p t b n : ℕ) : Type 0 where
 abbrev pub HasObject : List (List ℕ) → Spot → Kind → ℕ → ℕ → ℕ → Type 0
 HasObject m (word s w) Null t b n = (k : ℕ) × Leads m s w k to_null
 HasObject m (word s w) (Cap i) t b n = (k : ℕ) × Leads m s w k (to_cap i)
-HasObject m (word s w) kind t b n = (k q tag : ℕ) × HasObjectAt m s w kind t b n k q tag
+HasObject m (word s w) kind t b n = (k q tag : ℕ) × FindsKind m s w kind k t b q tag × (n ≡ extent q)
 HasObject m (element t' b' ds ps) (Struct d p) t b n = IsElementAt t' b' ds ps d p t b n
 HasObject m (element t' b' ds ps) _ t b n = ⊥
 

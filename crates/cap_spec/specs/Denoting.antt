@@ -1,13 +1,16 @@
 -- Which tree a pointer word denotes, at what charge and depth (standard: Objects, Structs, Lists; charge and depth
 -- are the profile's reading of Security Considerations).
 use Rattle.std.specs.List.{range_with_len}
-use Rattle.std.specs.Prelude.{List, [], map, max, pos, slice_index, slice_range, suc, zero, ℕ, ◌%◌, ◌*◌, ◌+◌, ◌/◌, ◌<◌}
-use Rattle.std.specs.Prelude.{◌∷◌, ◌≡◌}
-use Rattle.cap_spec.specs.Following.{IsInside, Leads, extra, to_cap, to_null, to_object}
-use Rattle.cap_spec.specs.Messages.{HasWord, segment_of}
-use Rattle.cap_spec.specs.Pointers.{code, data_size, element_bits, extent, kind, list_size, middle, pointer_size}
+use Rattle.std.specs.Prelude.{List, [], if◌then◌else◌, map, max, pos, slice_index, slice_range, suc, zero, ℕ, ◌%◌, ◌*◌, ◌+◌, ◌/◌}
+use Rattle.std.specs.Prelude.{◌==◌, ◌∷◌, ◌≡◌}
+use Rattle.cap_spec.specs.Following.{HasTag, IsInside, Leads, extra, to_cap, to_null, to_object}
+use Rattle.cap_spec.specs.Messages.{segment_of}
+use Rattle.cap_spec.specs.ObjectShapes.{HasKind}
+use Rattle.cap_spec.specs.Pointers.{code, element_bits, extent, kind, middle}
 use Rattle.cap_spec.specs.Tree.{Tree, Trees, cap, more, none, null, pointers, scalars, struct, structs}
 use Rattle.cap_spec.specs.Words.{field}
+use Rattle.cap_spec.specs.declared.Kind.{Kind}
+use Rattle.cap_spec.specs.declared.Kind.TheVariants.{Pointers, Scalars, Struct, Structs}
 
 -- the places t:b, t:b+1 and so on, n of them
 abbrev pub places : ℕ → ℕ → ℕ → List (ℕ × ℕ)
@@ -16,7 +19,7 @@ places t b n = map (λ w. (t, w)) (range_with_len b n)
 -- The pointer word at s:w leads with k pads to the object of shape q at t:b, which is inside its segment.
 pub record Finds (m : List (List ℕ)) (s w k t b q : ℕ) : Type 0 where
   pub leads : Leads m s w k (to_object t (pos b) q)
-  pub sits : IsInside m t b q
+  pub inside : IsInside m t b q
 
 -- n words from b on
 abbrev pub words_from : List (List ℕ) → ℕ → ℕ → ℕ → List ℕ
@@ -35,43 +38,22 @@ abbrev pub element_levels : ℕ → ℕ
 element_levels zero = 0
 element_levels (suc n) = 1
 
--- A struct with these data words is found at s:w. Its children's charges and greatest depth are inner and deep,
--- and its own are cost and levels.
-pub record FindsStruct (m : List (List ℕ)) (s w : ℕ) (words : List ℕ) (k t b q inner deep cost levels : ℕ) : Type 0 where
-  pub finds : Finds m s w k t b q
-  pub kind : kind q ≡ 0
-  pub data_words : words ≡ words_from m t b (data_size q)
-  pub charge : cost ≡ k + extent q + inner
-  pub depth : levels ≡ 1 + deep
+-- how many levels an object takes below it, before its pointers: those of the elements of a struct
+-- list
+abbrev pub levels_below : ℕ → ℕ → ℕ
+levels_below q tag = if kind q == 0 then 0 else (if code q == 7 then element_levels (middle tag) else 0)
 
--- a list of values that aren't pointers
-pub record FindsScalars (m : List (List ℕ)) (s w e : ℕ) (values : List ℕ) (k t b q cost levels : ℕ) : Type 0 where
+-- The object that is found is of this kind, by its word q and the tag word of a list of structs.
+pub record FindsKind (m : List (List ℕ)) (s w : ℕ) (kind : Kind) (k t b q tag : ℕ) : Type 0 where
   pub finds : Finds m s w k t b q
-  pub kind : kind q ≡ 1
-  pub code : e ≡ code q
-  pub scalar : e < 6
-  pub elements : values ≡ values_of m t b e (list_size q)
-  pub charge : cost ≡ k + extent q + extra q 0
-  pub depth : levels ≡ 1
+  pub tagged : HasTag m t b q tag
+  pub shape : HasKind q tag kind
 
--- a list of pointers
-pub record FindsPointers (m : List (List ℕ)) (s w k t b q inner deep cost levels : ℕ) : Type 0 where
-  pub finds : Finds m s w k t b q
-  pub kind : kind q ≡ 1
-  pub code : code q ≡ 6
-  pub charge : cost ≡ k + extent q + inner
-  pub depth : levels ≡ 1 + deep
-
--- a list of structs of ds data words and ps pointers, with its tag
-pub record FindsStructs (m : List (List ℕ)) (s w ds ps k t b q tag inner deep cost levels : ℕ) : Type 0 where
-  pub finds : Finds m s w k t b q
-  pub kind : kind q ≡ 1
-  pub code : code q ≡ 7
-  pub has_tag : HasWord m t b tag
-  pub data_sizes : ds ≡ data_size tag
-  pub pointer_sizes : ps ≡ pointer_size tag
+-- Its charge is cost and its depth levels, where its children's charges and greatest depth are inner and deep.
+pub record FindsCharged (m : List (List ℕ)) (s w : ℕ) (kind : Kind) (k t b q tag inner deep cost levels : ℕ) : Type 0 where
+  pub object : FindsKind m s w kind k t b q tag
   pub charge : cost ≡ k + extent q + extra q tag + inner
-  pub depth : levels ≡ 1 + element_levels (middle tag) + deep
+  pub depth : levels ≡ 1 + levels_below q tag + deep
 
 abbrev mutual
   -- The pointer word at s:w denotes the tree t, at this charge and depth. Since t is finite, this is the least such relation.
@@ -79,15 +61,16 @@ abbrev mutual
   Denotes m s w null charge depth = Leads m s w charge to_null × (depth ≡ 0)
   Denotes m s w (cap i) charge depth = Leads m s w charge (to_cap i) × (depth ≡ 0)
   Denotes m s w (struct words ts) charge depth =
-      (k t b q inner deep : ℕ) × FindsStruct m s w words k t b q inner deep charge depth
-      × DenoteEach m (places t (b + data_size q) (pointer_size q)) ts inner deep
-  Denotes m s w (scalars e values) charge depth = (k t b q : ℕ) × FindsScalars m s w e values k t b q charge depth
+      (k t b q tag ds ps inner deep : ℕ) × FindsCharged m s w (Struct ds ps) k t b q tag inner deep charge depth
+      × (words ≡ words_from m t b ds) × DenoteEach m (places t (b + ds) ps) ts inner deep
+  Denotes m s w (scalars e values) charge depth =
+      (k t b q tag n : ℕ) × FindsCharged m s w (Scalars e n) k t b q tag 0 0 charge depth × (values ≡ values_of m t b e n)
   Denotes m s w (pointers ts) charge depth =
-      (k t b q inner deep : ℕ) × FindsPointers m s w k t b q inner deep charge depth
-      × DenoteEach m (places t b (list_size q)) ts inner deep
+      (k t b q tag n inner deep : ℕ) × FindsCharged m s w (Pointers n) k t b q tag inner deep charge depth
+      × DenoteEach m (places t b n) ts inner deep
   Denotes m s w (structs ds ps es) charge depth =
-      (k t b q tag inner deep : ℕ) × FindsStructs m s w ds ps k t b q tag inner deep charge depth
-      × AreElements m t (b + 1) ds ps (middle tag) es inner deep
+      (k t b q tag n inner deep : ℕ) × FindsCharged m s w (Structs n ds ps) k t b q tag inner deep charge depth
+      × AreElements m t (b + 1) ds ps n es inner deep
 
   -- pointer words at these places denote these trees, in order
   pub DenoteEach : List (List ℕ) → List (ℕ × ℕ) → Trees → ℕ → ℕ → Type 0

@@ -1,12 +1,16 @@
 -- Following the pointers on a path up to the first fault, where a word counts each time (profile;
 -- standard: Security Considerations).
 use Rattle.std.specs.Prelude.{List, [], length, ℕ, ◌++◌, ◌+◌, ◌<◌, ◌∷◌, ◌≡◌, ◌≤◌, ◌⊎◌}
-use Rattle.cap_spec.specs.Faults.{AreShallow, HasNoRoot, IsFirstReason}
+use Rattle.cap_spec.specs.Faults.{HasNoRoot, IsFirstReason}
 use Rattle.cap_spec.specs.Lists.{IsOneOf}
 use Rattle.cap_spec.specs.Paths.{Reaches, Rises}
-use Rattle.cap_spec.specs.Verdicts.{CostOf}
+use Rattle.cap_spec.specs.Verdicts.{CostOf, IsDeepAt}
 use Rattle.cap_spec.specs.declared.Refusal.{Refusal}
 use Rattle.cap_spec.specs.declared.Step.{Step}
+
+-- none of these paths leads to an object past the depth limit
+abbrev pub AreShallow : List (List ℕ) → ℕ → List (List Step) → Type 0
+AreShallow m depth paths = (p : List Step) (level s w : ℕ) → IsOneOf p paths → Reaches m p level s w → ¬ IsDeepAt m depth s w level
 
 -- one path begins another
 abbrev pub IsStartOf : List Step → List Step → Type 0

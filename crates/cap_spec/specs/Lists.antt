@@ -1,4 +1,4 @@
--- Elements of a list, and lists without an element twice.
+-- Elements of a list, and lists without an element twice (profile).
 use Rattle.std.specs.Prelude.{List, [], ⊤, ◌∷◌, ◌≡◌, ◌⊎◌}
 
 -- x is an element of the list

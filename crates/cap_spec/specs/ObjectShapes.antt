@@ -4,7 +4,14 @@ use Rattle.cap_spec.specs.Pointers.{code, data_size, kind, list_size, middle, po
 use Rattle.cap_spec.specs.declared.Kind.{Kind}
 use Rattle.cap_spec.specs.declared.Kind.TheVariants.{Pointers, Scalars, Struct, Structs}
 
--- the word q encodes a struct of d data words and p pointers
+-- The object of the word q, with its tag word if it is a list of structs, is of this kind.
+pub data HasKind (q tag : ℕ) (x : Kind) : Type 0 where
+  is_struct : kind q ≡ 0 → x ≡ Struct (data_size q) (pointer_size q) → HasKind q tag x
+  is_scalars : kind q ≡ 1 → code q < 6 → x ≡ Scalars (code q) (list_size q) → HasKind q tag x
+  is_pointers : kind q ≡ 1 → code q ≡ 6 → x ≡ Pointers (list_size q) → HasKind q tag x
+  is_structs : kind q ≡ 1 → code q ≡ 7 → x ≡ Structs (middle tag) (data_size tag) (pointer_size tag) → HasKind q tag x
+
+-- The same by its parts, as code has them. The word q encodes a struct of d data words and p pointers.
 pub record IsStructShape (q d p : ℕ) : Type 0 where
   pub kind : kind q ≡ 0
   pub data_words : d ≡ data_size q
@@ -31,11 +38,3 @@ pub record IsStructsShape (q tag size n d p : ℕ) : Type 0 where
   pub count : n ≡ middle tag
   pub data_words : d ≡ data_size tag
   pub pointers : p ≡ pointer_size tag
-
--- the object of the word q, with its tag word if it is a list of structs, is of this kind
-abbrev pub HasKind : ℕ → ℕ → Kind → Type 0
-HasKind q tag (Struct d p) = IsStructShape q d p
-HasKind q tag (Scalars c n) = IsScalarsShape q c n
-HasKind q tag (Pointers n) = IsPointersShape q n
-HasKind q tag (Structs n d p) = IsStructsShape q tag (list_size q) n d p
-HasKind q tag _ = ⊥

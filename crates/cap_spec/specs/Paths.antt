@@ -1,10 +1,11 @@
 -- Where the steps of a path lead in a message, and at what level (profile).
 use Rattle.std.specs.Prelude.{List, [], length, ℕ, ⊤, ◌*◌, ◌+◌, ◌<◌, ◌∷◌, ◌≡◌, ◌⊎◌}
-use Rattle.cap_spec.specs.Denoting.{Finds, element_levels}
+use Rattle.cap_spec.specs.Denoting.{Finds, FindsKind, element_levels}
 use Rattle.cap_spec.specs.Following.{HasTag, Leads, extra, to_cap, to_null}
 use Rattle.cap_spec.specs.Lists.{IsOneOf}
 use Rattle.cap_spec.specs.Messages.{HasWord}
-use Rattle.cap_spec.specs.Pointers.{code, data_size, extent, kind, list_size, middle, pointer_size}
+use Rattle.cap_spec.specs.Pointers.{extent}
+use Rattle.cap_spec.specs.declared.Kind.TheVariants.{Pointers, Struct, Structs}
 use Rattle.cap_spec.specs.declared.Step.{Step}
 use Rattle.cap_spec.specs.declared.Step.TheVariants.{Item, Ptr}
 
@@ -17,11 +18,11 @@ pub data Spot : Type 0 where
 -- One step leads from one spot to another.
 abbrev pub StepsTo : List (List ℕ) → Spot → Step → Spot → Type 0
 StepsTo m (word s w) (Ptr i) spot =
-    (k t b q : ℕ) × Finds m s w k t b q × (kind q ≡ 0) × (i < pointer_size q) × (spot ≡ word t (b + data_size q + i))
+    (k t b q tag ds ps : ℕ) × FindsKind m s w (Struct ds ps) k t b q tag × (i < ps) × (spot ≡ word t (b + ds + i))
 StepsTo m (word s w) (Item i) spot =
-    ((k t b q : ℕ) × Finds m s w k t b q × (kind q ≡ 1) × (code q ≡ 6) × (i < list_size q) × (spot ≡ word t (b + i)))
-    ⊎ ((k t b q tag : ℕ) × Finds m s w k t b q × (kind q ≡ 1) × (code q ≡ 7) × HasWord m t b tag × (i < middle tag)
-    × (spot ≡ element t (b + 1 + i * (data_size tag + pointer_size tag)) (data_size tag) (pointer_size tag)))
+    ((k t b q tag n : ℕ) × FindsKind m s w (Pointers n) k t b q tag × (i < n) × (spot ≡ word t (b + i)))
+    ⊎ ((k t b q tag n ds ps : ℕ) × FindsKind m s w (Structs n ds ps) k t b q tag × (i < n)
+    × (spot ≡ element t (b + 1 + i * (ds + ps)) ds ps))
 StepsTo m (element t b ds ps) (Ptr i) spot = (i < ps) × (spot ≡ word t (b + ds + i))
 StepsTo m (element t b ds ps) (Item i) spot = ⊥
 

@@ -1,10 +1,9 @@
 -- When a refusal is justified (profile; standard: Security Considerations).
-use Rattle.std.specs.Prelude.{List, Some, [], if◌then◌else◌, slice_get, ℕ, ◌+◌, ◌<◌, ◌==◌, ◌∷◌, ◌≡◌, ◌≤◌}
-use Rattle.cap_spec.specs.Denoting.{Finds, element_levels}
+use Rattle.std.specs.Prelude.{List, Some, [], slice_get, ℕ, ◌+◌, ◌<◌, ◌∷◌, ◌≡◌, ◌≤◌}
+use Rattle.cap_spec.specs.Denoting.{Finds, levels_below}
 use Rattle.cap_spec.specs.Following.{HasTag, Wrong}
 use Rattle.cap_spec.specs.Lists.{AreDistinct}
 use Rattle.cap_spec.specs.Paths.{Costs, Reaches}
-use Rattle.cap_spec.specs.Pointers.{code, kind, middle}
 use Rattle.cap_spec.specs.declared.Reason.{Reason}
 use Rattle.cap_spec.specs.declared.Reason.TheVariants.{DepthLimit, NoRoot, WordLimit}
 use Rattle.cap_spec.specs.declared.Refusal.{Refusal}
@@ -32,11 +31,6 @@ pub record PastLimit (m : List (List ℕ)) (limit s w : ℕ) : Type 0 where
 
 abbrev pub IsReachedWrong : List (List ℕ) → ℕ → ℕ → Reason → Type 0
 IsReachedWrong m s w v = (path : List Step) × (level : ℕ) × Reaches m path level s w × Wrong m s w v
-
--- how many levels an object takes below it, before its pointers: those of the elements of a struct
--- list
-abbrev pub levels_below : ℕ → ℕ → ℕ
-levels_below q tag = if kind q == 0 then 0 else (if code q == 7 then element_levels (middle tag) else 0)
 
 -- The pointer at s:w leads to an object of this level that takes levels past the limit.
 abbrev pub IsDeepAt : List (List ℕ) → ℕ → ℕ → ℕ → ℕ → Type 0

@@ -3,9 +3,10 @@ use Rattle.cap_spec.specs.Denoting.{places}
 use Rattle.cap_spec.specs.Texts.{all_lines, child_lines}
 use Rattle.cap_spec.specs.Tree.{none}
 use Rattle.cap_spec.specs.declared.Step.{Step}
+use Rattle.cap_spec.proofs.Pointers.Shapes.{structs_levels}
 use Rattle.cap_spec.proofs.Prelude.{List, None, Result, Some, [], ap, arith, codes, inl, inr, refl, subst, suc, sym}
 use Rattle.cap_spec.proofs.Prelude.{zero, ℕ, ◌++◌, ◌+◌, ◌<◌, ◌∙◌, ◌≡◌, ◌≤◌, eqb_tells, AreElements, DenoteEach, Denotes}
-use Rattle.cap_spec.proofs.Prelude.{element_levels, ReachesSpot, Spot, word, data_size, list_size, middle, pointer_size}
+use Rattle.cap_spec.proofs.Prelude.{element_levels, ReachesSpot, Spot, word}
 use Rattle.cap_spec.proofs.Prelude.{Own, kind_of, own_of, DenotesAt, dump_text, label, own_text, Tree, Trees, cap, more}
 use Rattle.cap_spec.proofs.Prelude.{null, part_at, pointers, scalars, struct, structs, tree_at, tree_count}
 use Rattle.cap_text.specs.Dumping.{child_letter_of, child_step_of, height, heights, shown_below, shown_count_of}
@@ -126,14 +127,15 @@ mutual
   pub height_denoted : (m : List (List ℕ)) (s w : ℕ) (t : Tree) (c d : ℕ) → Denotes m s w t c d → height t ≤ d
   height_denoted m s w null c d h = omega arith
   height_denoted m s w (cap i) c d h = omega arith
-  height_denoted m s w (struct words ts) c d (k, t, b, q, inner, deep, found, each) =
-      omega (arith, found.depth, heights_each m (places t (b + data_size q) (pointer_size q)) ts inner deep each)
+  height_denoted m s w (struct words ts) c d (k, t, b, q, tag, ds, ps, inner, deep, found, own, each) =
+      omega (arith, found.depth, heights_each m (places t (b + ds) ps) ts inner deep each)
   height_denoted m s w (scalars e vs) c d h = omega arith
-  height_denoted m s w (pointers ts) c d (k, t, b, q, inner, deep, found, each) =
-      omega (arith, found.depth, heights_each m (places t b (list_size q)) ts inner deep each)
-  height_denoted m s w (structs ds ps es) c d (k, t, b, q, tag, inner, deep, found, each) =
-      let r = heights_elements m t (b + 1) ds ps (middle tag) es inner deep each in
-      elim (eqb_tells (ds + ps) 0) [ inl e ↦ rw e.0 (omega arith) | inr e ↦ rw e.0 (omega (arith, found.depth, r)) ]
+  height_denoted m s w (pointers ts) c d (k, t, b, q, tag, n, inner, deep, found, each) =
+      omega (arith, found.depth, heights_each m (places t b n) ts inner deep each)
+  height_denoted m s w (structs ds ps es) c d (k, t, b, q, tag, n, inner, deep, found, each) =
+      let r = heights_elements m t (b + 1) ds ps n es inner deep each in
+      let l = structs_levels found.object.shape in
+      elim (eqb_tells (ds + ps) 0) [ inl e ↦ rw e.0 (omega arith) | inr e ↦ rw e.0 (omega (arith, found.depth, l, r)) ]
 
   heights_each : (m : List (List ℕ)) (ps : List (ℕ × ℕ)) (ts : Trees) (c d : ℕ) → DenoteEach m ps ts c d → heights ts ≤ 1 + d
   heights_each m ps none c d h = omega arith

@@ -1,3 +1,4 @@
+pub mod Appends
 pub mod Dumping
 pub mod Hexes
 pub mod Nodes

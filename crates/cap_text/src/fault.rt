@@ -1,6 +1,6 @@
 //! Why an engine ended before its input did. The engines are those of `cap_run`.
 
-use cap_frame::FrameFault;
+use cap_frame::{FrameFault, TableSums};
 use cap_spec::{CanonFault, StrictRefusal};
 use cap_vet::Refusal;
 use cap_words::{OutFault, SourceFault};
@@ -40,6 +40,30 @@ pub enum Cause {
     /// The message was accepted, and the allocation of the marks for its words failed. Only
     /// `run_vet_exclusive`, `run_vet_exclusive_with` and an exclusive `run_filter` mark words.
     Memory,
+}
+
+/// What is known of a message at which a stream breaks off, beside the fault.
+#[derive(Clone, Copy, Debug, PartialEq, Eq, Drop)]
+pub struct StreamBreak {
+    /// The position of the message's first byte in the input.
+    pub start: u64,
+    /// The most words that a message may have.
+    pub limit: u64,
+    /// What its table says, if that is whole. `None` after [`FrameFault::TooManySegments`].
+    pub table: Option<TableSums>,
+    /// Whether the input ends inside a word or inside a group of packed words. `false` if it doesn't
+    /// end there.
+    pub is_cut: bool,
+}
+
+/// Why an engine that explains ended before its stream did.
+#[derive(Clone, Copy, Debug, PartialEq, Eq, Drop, Error)]
+#[error("{fault:?}")]
+pub struct ExplainedFault {
+    /// Why, and at which message.
+    pub fault: RunFault,
+    /// What is known of the message, if the cause is [`Cause::Frame`].
+    pub at: StreamBreak,
 }
 
 /// Why a copy of words ended before its source did.

@@ -80,9 +80,13 @@ fn push_cause(page: &mut Page, number: u32, cause: Cause)
     }
 }
 
+/// The space for the line of a fault.
+pub(crate) const TEXT: usize = NUMBER + FAULT + 9;
+
 /// The line of a fault.
-fn fault_text(fault: &RunFault) -> Page
-    ensures { result ≡ fault_line fault.now.message fault.now.cause }
+pub(crate) fn fault_text(fault: &RunFault) -> Page
+    ensures line { result ≡ fault_line fault.now.message fault.now.cause }
+    ensures short { length result ≤ TEXT }
 {
     let mut page = Page::new();
     page.push_text(b"capvet: ");

@@ -5,6 +5,7 @@
 //! of a run are here, since each has a line.
 #![tactic(auto)]
 
+mod breaks;
 mod digits;
 mod fault;
 mod faults;
@@ -16,7 +17,8 @@ mod segments;
 mod tree;
 mod verdict;
 
-pub use fault::{Cause, CopyFault, RunFault};
+pub use breaks::write_explained_fault;
+pub use fault::{Cause, CopyFault, ExplainedFault, RunFault, StreamBreak};
 pub use faults::{write_copy_fault, write_fault};
 pub use get::write_node;
 pub use page::Page;

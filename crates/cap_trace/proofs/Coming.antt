@@ -37,9 +37,7 @@ at_root m depth exists some = record {
     record {
       exists = exists;
       inside = omega (arith, some);
-      formed = (refl, refl);
-      few = omega arith;
-      elements = omega arith;
+      counted = (refl, refl, refl);
       high = omega arith;
       low = omega arith;
     },
@@ -156,8 +154,8 @@ found_told m depth n fs f others count old new h e many written =
       omega (arith, many, long, few_steps m depth n fs f h),
     )
 
--- The branches have more space than the greatest depth needs.
-pub never_full : (m : List (List ℕ)) (depth n : ℕ) (fs : List Branch) (f : Branch) → depth ≤ 256 → HasCome m depth n fs f
-    → length fs ≡ 257 → ⊥
-never_full m depth n fs f shallow h full =
-    let k = (branches_without m depth 0 fs f h.branches).1 in omega (arith, k.high, k.low, shallow, full)
+-- Space for more branches than the depth limit has levels is never full.
+pub never_full : (m : List (List ℕ)) (depth n : ℕ) (fs : List Branch) (f : Branch) (space : ℕ) → depth < space
+    → HasCome m depth n fs f → length fs ≡ space → ⊥
+never_full m depth n fs f space enough h full =
+    let k = (branches_without m depth 0 fs f h.branches).1 in omega (arith, k.high, k.low, enough, full)

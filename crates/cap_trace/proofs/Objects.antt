@@ -12,27 +12,29 @@ use Rattle.cap_trace.specs.Prelude.{Step, Item, Ptr, IsBranch, rest_of, word_of,
 use Rattle.cap_trace.proofs.Branches.{branch}
 use Rattle.cap_ptr.specs.declared.shapes.Shape.TheVariants as shape
 
-pub struct_words : (m : List (List ℕ)) (s w : ℕ) {k t b : ℕ} (q tag : ℕ) {n c : ℕ} (d : ℕ) {p at left : ℕ} (level : ℕ)
-    → FindsObject m s w k t b q tag n c (shape.Struct d p) → at ≡ b + d → 0 < p → left ≡ p - 1 → (base : List Step)
-    → word_of base (branch Struct t at 0 left 0 0 0 0 (level + 1)) ∷ rest_of base (branch Struct t at 0 left 0 0 0 0 (level + 1))
-    ≡ object_children base q tag t b level
-struct_words m s w q tag d {p = zero} level f e some g base = absurd (omega arith)
-struct_words m s w {b} q tag d {p = suc p} {at} {left} level f e some g base =
+pub struct_words : (m : List (List ℕ)) (s w : ℕ) {k t b : ℕ} (q tag : ℕ) {n c : ℕ} (d : ℕ) {p at many : ℕ} (level : ℕ)
+    → FindsObject m s w k t b q tag n c (shape.Struct d p) → at ≡ b + d → 0 < p → many ≡ p → (base : List Step)
+    → word_of base (branch Struct t at (many - 1) many 0 0 0 (level + 1))
+    ∷ rest_of base (branch Struct t at (many - 1) many 0 0 0 (level + 1)) ≡ object_children base q tag t b level
+struct_words m s w q tag d {p = zero} level f e some g base = absurd (omega (arith, some))
+struct_words m s w {b} q tag d {p = suc p} {at} {many} level f e some g base =
     let start : at ≡ b + data_size q = omega (arith, e, f.object.shape.data_words) in
-    let many : pointer_size q ≡ suc p = sym f.object.shape.pointers in
-    let one : left ≡ p = omega (arith, g) in
-    rw (f.object.shape.kind, start, many, one) refl
+    let count : pointer_size q ≡ suc p = sym f.object.shape.pointers in
+    let one : suc p - 1 ≡ p = omega arith in
+    let first : suc p - (p + 1) ≡ 0 = omega arith in
+    rw (f.object.shape.kind, start, count, g, one, first) refl
 
 -- a list of pointers
-pub pointers_words : (m : List (List ℕ)) (s w : ℕ) {k t b : ℕ} (q tag : ℕ) {n c many more : ℕ} (level : ℕ)
-    → FindsObject m s w k t b q tag n c (shape.Pointers many) → 0 < many → more ≡ many - 1 → (base : List Step)
-    → word_of base (branch Pointers t b 0 0 0 more 0 1 (level + 1)) ∷ rest_of base (branch Pointers t b 0 0 0 more 0 1 (level + 1))
-    ≡ object_children base q tag t b level
-pointers_words m s w q tag {many = zero} level f some e base = absurd (omega arith)
-pointers_words m s w q tag {many = suc many} {more} level f some e base =
+pub pointers_words : (m : List (List ℕ)) (s w : ℕ) {k t b : ℕ} (q tag : ℕ) {n c many : ℕ} (level : ℕ)
+    → FindsObject m s w k t b q tag n c (shape.Pointers many) → 0 < many → (base : List Step)
+    → word_of base (branch Pointers t b (many - 1) many 0 0 0 (level + 1))
+    ∷ rest_of base (branch Pointers t b (many - 1) many 0 0 0 (level + 1)) ≡ object_children base q tag t b level
+pointers_words m s w q tag {many = zero} level f some base = absurd (omega (arith, some))
+pointers_words m s w q tag {many = suc many} level f some base =
     let count : list_size q ≡ suc many = sym f.object.shape.count in
-    let one : more ≡ many = omega (arith, e) in
-    rw (f.object.shape.kind, f.object.shape.code, count, one) refl
+    let one : suc many - 1 ≡ many = omega arith in
+    let first : suc many - (many + 1) ≡ 0 = omega arith in
+    rw (f.object.shape.kind, f.object.shape.code, count, one, first) refl
 
 -- elements that have no pointers have no pointer words
 no_pointers : (base : List Step) (level t b ds i n : ℕ) → element_rows base level t b ds 0 i n ≡ []
@@ -57,41 +59,40 @@ structs_fit m s w k t b q tag n c size count d p f =
     let fits : TagFits tag (list_size q) = (f.object.tagged (f.object.shape.kind, f.object.shape.code)).1 in
     let room : count * (d + p) ≤ list_size q =
     rw (f.object.shape.count, f.object.shape.data_words, f.object.shape.pointers) fits.1 in
-    omega (arith, room, f.finds.sits.inside, extent_structs q f.object.shape.kind f.object.shape.code)
+    omega (arith, room, f.finds.inside.inside, extent_structs q f.object.shape.kind f.object.shape.code)
 
-pub structs_words : (m : List (List ℕ)) (s w : ℕ) {k t b : ℕ} (q tag : ℕ) {n c : ℕ} (size : ℕ) {count : ℕ} (d : ℕ) {p at left more : ℕ} (level : ℕ)
-    → FindsObject m s w k t b q tag n c (shape.Structs size count d p) → at ≡ b + 1 + d → 0 < p → left ≡ p - 1
-    → 0 < count → more ≡ count - 1 → (base : List Step)
-    → word_of base (branch Structs t at 0 left 0 more d p (level + 2)) ∷ rest_of base (branch Structs t at 0 left 0 more d p (level + 2))
-    ≡ object_children base q tag t b level
-structs_words m s w q tag size {count = zero} d level f e some g each h base = absurd (omega arith)
-structs_words m s w q tag size {count = suc count} d {p = zero} level f e some g each h base = absurd (omega arith)
-structs_words m s w {b} q tag size {count = suc count} d {p = suc p} {left} {more} level f e some g each h base =
+pub structs_words : (m : List (List ℕ)) (s w : ℕ) {k t b : ℕ} (q tag : ℕ) {n c : ℕ} (size : ℕ) {count d p at many dw : ℕ} (level : ℕ)
+    → FindsObject m s w k t b q tag n c (shape.Structs size count d p) → at ≡ b + 1 + d → 0 < p → many ≡ p → dw ≡ d
+    → 0 < count → (base : List Step)
+    → word_of base (branch Structs t at (many - 1) many (count - 1) count dw (level + 2))
+    ∷ rest_of base (branch Structs t at (many - 1) many (count - 1) count dw (level + 2)) ≡ object_children base q tag t b level
+structs_words m s w q tag size {count = zero} level f e some g h each base = absurd (omega (arith, each))
+structs_words m s w q tag size {count = suc count} {p = zero} level f e some g h each base = absurd (omega (arith, some))
+structs_words m s w {b} q tag size {count = suc count} {d} {p = suc p} level f e some g h each base =
     let x : middle tag ≡ suc count = sym f.object.shape.count in
     let y : data_size tag ≡ d = sym f.object.shape.data_words in
     let z : pointer_size tag ≡ suc p = sym f.object.shape.pointers in
-    let one : left ≡ p = omega (arith, g) in
-    let rest : more ≡ count = omega (arith, h) in
+    let one : suc p - 1 ≡ p = omega arith in
+    let rest : suc count - 1 ≡ count = omega arith in
+    let index : suc p - (p + 1) ≡ 0 = omega arith in
+    let element : suc count - (count + 1) ≡ 0 = omega arith in
     let end : b + 1 + d + suc p ≡ b + 1 + d + 1 + p = omega arith in
     let path : (base ++ Item 0 ∷ []) ++ Ptr 0 ∷ [] ≡ base ++ Item 0 ∷ Ptr 0 ∷ [] =
     append_assoc base (Item 0 ∷ []) (Ptr 0 ∷ []) in
-    rw (f.object.shape.kind, f.object.shape.code, x, y, z, one, rest, e, end, path) refl
+    rw (f.object.shape.kind, f.object.shape.code, x, y, z, e, g, h, one, rest, index, element, end, path) refl
 
 -- the branch of a list of structs
-pub structs_branch : (m : List (List ℕ)) (s w : ℕ) {k t b : ℕ} (q tag : ℕ) {n c : ℕ} (size : ℕ) {count : ℕ} (d : ℕ) {p at left more : ℕ} (level depth i : ℕ)
-    → FindsObject m s w k t b q tag n c (shape.Structs size count d p) → at ≡ b + 1 + d → 0 < p → left ≡ p - 1
-    → 0 < count → more ≡ count - 1 → p < 2 ^ 16 → count < 2 ^ 32 → i + 1 ≤ level → level + element_levels count ≤ depth
-    → IsBranch m depth (i + 1) (branch Structs t at 0 left 0 more d p (level + 2))
-structs_branch m s w q tag size {count = zero} d level depth i f e some g each h short small high low =
-    absurd (omega arith)
-structs_branch m s w {k} {t} {b} q tag {n} {c} size {count = suc count} d {p} {more} level depth i f e some g each h short small high
-    low =
-    let rest : more ≡ count = omega (arith, h) in record {
-      exists = f.finds.sits.exists;
-      inside = rw rest (omega (arith, e, g, structs_fit m s w k t b q tag n c size (suc count) d p f));
-      formed = some;
-      few = omega (arith, g);
-      elements = omega (arith, h);
+pub structs_branch : (m : List (List ℕ)) (s w : ℕ) {k t b : ℕ} (q tag : ℕ) {n c : ℕ} (size : ℕ) {count d p at many dw : ℕ} (level depth i : ℕ)
+    → FindsObject m s w k t b q tag n c (shape.Structs size count d p) → at ≡ b + 1 + d → 0 < p → many ≡ p → dw ≡ d
+    → 0 < count → p < 2 ^ 16 → i + 1 ≤ level → level + element_levels count ≤ depth
+    → IsBranch m depth (i + 1) (branch Structs t at (many - 1) many (count - 1) count dw (level + 2))
+structs_branch m s w q tag size {count = zero} level depth i f e some g h each short high low =
+    absurd (omega (arith, each))
+structs_branch m s w {k} {t} {b} q tag {n} {c} size {count = suc count} {d} {p} level depth i f e some g h each short high low =
+    let rest : suc count - 1 ≡ count = omega arith in record {
+      exists = f.finds.inside.exists;
+      inside = rw (rest, h, g) (omega (arith, e, some, structs_fit m s w k t b q tag n c size (suc count) d p f));
+      counted = (omega (arith, g, some), omega arith, omega (arith, g, short));
       high = omega arith;
       low = omega arith;
     }
@@ -124,5 +125,5 @@ pub start_fits : (m : List (List ℕ)) (s w : ℕ) {k t b : ℕ} (q tag : ℕ) {
     → FindsObject m s w k t b q tag n c (shape.Structs size count d p) → at ≡ d → (count ≡ 0 → ⊥) → Fits w32 (b + 1 + at)
 start_fits m s w q tag size {count = zero} p at h f e some = absurd (some refl)
 start_fits m s w {k} {t} {b} q tag {n} {c} size {count = suc count} {d} p at h f e some =
-    let short = short_segment m t h f.finds.sits.exists in
+    let short = short_segment m t h f.finds.inside.exists in
     omega (arith, e, short, structs_fit m s w k t b q tag n c size (suc count) d p f)

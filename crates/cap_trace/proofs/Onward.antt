@@ -102,10 +102,9 @@ root_tour m some =
 -- a step leads on only from a word that finds an object
 step_finds : (m : List (List ℕ)) (s w : ℕ) (x : Step) (mid : Spot) → StepsTo m (word s w) x mid
     → (k t b q : ℕ) × Finds m s w k t b q
-step_finds m s w (Ptr i) mid g = (g.0, g.1, g.2, g.3, g.4)
-step_finds m s w (Item i) mid (inl g) = (g.0, g.1, g.2, g.3, g.4)
-step_finds m s w (Item i) mid (inr (k, t, b, q, tag, finds, is_list, of_structs, has_tag, less, ends)) =
-    (k, t, b, q, finds)
+step_finds m s w (Ptr i) mid (k, t, b, q, tag, ds, ps, found, less, ends) = (k, t, b, q, found.finds)
+step_finds m s w (Item i) mid (inl (k, t, b, q, tag, n, found, less, ends)) = (k, t, b, q, found.finds)
+step_finds m s w (Item i) mid (inr (k, t, b, q, tag, n, ds, ps, found, less, ends)) = (k, t, b, q, found.finds)
 
 -- no path goes on from a word that finds no object
 ends_there : (m : List (List ℕ)) (p : List Step) (level s w : ℕ) (x : Step) (v : List Step) (l s' w' : ℕ)

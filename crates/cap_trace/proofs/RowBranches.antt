@@ -1,8 +1,8 @@
 -- The first pointer word of an object that one word describes alone.
 use Rattle.cap_spec.proofs.Lemmas.{leads-near, object-not_wrong, one_object}
 use Rattle.cap_spec.proofs.Prelude.{List, None, Some, [], ap, arith, false, inl, inr, ne_eqb, pos, refl, subst, suc}
-use Rattle.cap_spec.proofs.Prelude.{sym, ℕ, ◌++◌, ◌+◌, ◌<◌, ◌==◌, ◌∙◌, ◌∷◌, ◌≡◌, ◌≤◌, Finds, IsComposite, to_object}
-use Rattle.cap_spec.proofs.Prelude.{HasWord, code, kind, list_size, pointer_size, levels_below}
+use Rattle.cap_spec.proofs.Prelude.{sym, zero, ℕ, ◌++◌, ◌+◌, ◌-◌, ◌<◌, ◌==◌, ◌∙◌, ◌∷◌, ◌≡◌, ◌≤◌, Finds, IsComposite, to_object}
+use Rattle.cap_spec.proofs.Prelude.{HasWord, code, data_size, kind, list_size, pointer_size, levels_below}
 use Rattle.cap_ptr.specs.Rows.{FindsRow, HasPointers}
 use Rattle.cap_ptr.specs.declared.near.Row.{Row}
 use Rattle.cap_ptr.proofs.NearObjects.{pointers-plain}
@@ -10,9 +10,9 @@ use Rattle.cap_vet.specs.Prelude.{object_children, Ahead, IsTrail}
 use Rattle.cap_vet.proofs.OneTrail.{object_trail}
 use Rattle.cap_trace.specs.NearPointers.{IsNearPointer}
 use Rattle.cap_trace.specs.Prelude.{Step, IsBranch, rest_of, word_of, PassesAt, GoesBelow, IsBlockedAt, Object, Branch}
-use Rattle.cap_trace.specs.Prelude.{Pointers}
+use Rattle.cap_trace.specs.Branches.{first_branch}
+use Rattle.cap_trace.specs.Prelude.{Pointers, Struct}
 use Rattle.cap_trace.specs.declared.near.NearPointer.{NearPointer}
-use Rattle.cap_trace.proofs.Branches.{branch}
 
 -- such an object takes no levels below its own
 row_levels : (q n other : ℕ) → HasPointers q n → levels_below q other ≡ 0
@@ -30,8 +30,8 @@ near_finds : (m : List (List ℕ)) (s w : ℕ) (p : NearPointer) (r : Row) → I
     → FindsRow m p.segment p.at p.word r → Finds m s w p.pads p.segment r.start p.word
 near_finds m s w p r h f =
     let plain = (pointers-plain p.word r.pointer_count f.pointers).0 in record {
-      leads = h.stands.leads (to_object p.segment (pos r.start) p.word) (leads-near m p.segment p.at 0 _ f.finds.leads p.word h.has (λ e. omega (arith, plain, e))).1;
-      sits = f.finds.sits;
+      leads = h.resolves.leads (to_object p.segment (pos r.start) p.word) (leads-near m p.segment p.at 0 _ f.finds.leads p.word h.has (λ e. omega (arith, plain, e))).1;
+      inside = f.finds.inside;
     }
 
 row_passes : (m : List (List ℕ)) (depth s w level : ℕ) (p : NearPointer) (r : Row) → IsNearPointer m s w p
@@ -80,14 +80,32 @@ row_some m depth from p r b h f within words branches = (
       (object_trail m seen _ ahead _ _ _ p.word 0 t (near_finds m from.segment from.at p r h f) (no_tag m p.segment p.at p.word r f))),
 )
 
+-- A struct has as many pointers as its word says.
+pub struct_count : (q n : ℕ) → HasPointers q n → kind q ≡ 0 → n ≡ pointer_size q
+struct_count q n (inl (k, e)) is = e
+struct_count q n (inr (inl (k, c, e))) is = absurd (omega (arith, k, is))
+struct_count q n (inr (inr (k, some, few, e))) is = absurd (omega (arith, k, is))
+
 -- What isn't a struct and has pointers is a list of them.
 pub list_count : (q n : ℕ) → HasPointers q n → (kind q ≡ 0 → ⊥) → 0 < n → (kind q ≡ 1) × (code q ≡ 6) × (n ≡ list_size q)
 list_count q n (inl (k, e)) other some = absurd (other k)
 list_count q n (inr (inl (k, c, e))) other some = (k, c, e)
 list_count q n (inr (inr (k, s, few, e))) other some = absurd (omega (arith, e, some))
 
--- Its words are those of the branch.
-pub row_list_words : (q t b at more level : ℕ) → kind q ≡ 1 → code q ≡ 6 → at ≡ b → list_size q ≡ suc more → (base : List Step)
-    → word_of base (branch Pointers t at 0 0 0 more 0 1 (level + 1)) ∷ rest_of base (branch Pointers t at 0 0 0 more 0 1 (level + 1))
+-- Its words are those of the branch,
+pub row_list_words : (q t b at n level : ℕ) → kind q ≡ 1 → code q ≡ 6 → at ≡ b → list_size q ≡ n → 0 < n → (base : List Step)
+    → word_of base (first_branch Pointers t at n (level + 1)) ∷ rest_of base (first_branch Pointers t at n (level + 1))
     ≡ object_children base q 0 t b level
-row_list_words q t b at more level k c start many base = rw (k, c, start, many) refl
+row_list_words q t b at zero level k c start many some base = absurd (omega (arith, some))
+row_list_words q t b at (suc n) level k c start many some base =
+    let one : suc n - 1 ≡ n = omega arith in
+    let first : suc n - (n + 1) ≡ 0 = omega arith in rw (k, c, start, many, one, first) refl
+
+-- and so are those of a struct.
+pub row_struct_words : (q t b at n level : ℕ) → kind q ≡ 0 → at ≡ b + data_size q → pointer_size q ≡ n → 0 < n → (base : List Step)
+    → word_of base (first_branch Struct t at n (level + 1)) ∷ rest_of base (first_branch Struct t at n (level + 1))
+    ≡ object_children base q 0 t b level
+row_struct_words q t b at zero level k start many some base = absurd (omega (arith, some))
+row_struct_words q t b at (suc n) level k start many some base =
+    let one : suc n - 1 ≡ n = omega arith in
+    let first : suc n - (n + 1) ≡ 0 = omega arith in rw (k, start, many, one, first) refl

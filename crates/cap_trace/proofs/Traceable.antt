@@ -1,7 +1,8 @@
 -- The pointer that a verdict names can be traced.
 use Rattle.cap_spec.specs.declared.Reason.{Reason}
-use Rattle.cap_spec.proofs.Lemmas.{Before-irreflexive, one_reached, one_of_last, paths_within_depth, reached_not_wrong}
-use Rattle.cap_spec.proofs.Prelude.{List, None, Option, Some, [], ap, arith, inl, inr, length, subst, sym, ℕ, ◌++◌, ◌∙◌}
+use Rattle.cap_spec.proofs.Lemmas.{Before-irreflexive, one_reached, kept_before, fault_tour, one_of_last}
+use Rattle.cap_spec.proofs.Lemmas.{paths_within_depth, reached_not_wrong}
+use Rattle.cap_spec.proofs.Prelude.{List, None, Option, Some, [], ap, arith, inl, inr, length, subst, sym, ℕ, ◌∙◌}
 use Rattle.cap_spec.proofs.Prelude.{◌∷◌, ◌≡◌, ◌⊎◌, IsWithin, IsFirstFault, Wrong, IsOneOf, IsFirstOverlap, Before}
 use Rattle.cap_spec.proofs.Prelude.{Reaches, IsFirstLax, CostOf}
 use Rattle.cap_spec.proofs.Verdicts.OneFault.{costs_not_wrong}
@@ -28,21 +29,16 @@ pub fault_traceable : (m : List (List ℕ)) (words depth : ℕ) (r : Refusal) �
 fault_traceable m words depth r f = record {
   segment = r.segment;
   at = r.word;
-  numbered = record {
-    level = f.level;
-    tour = f.before ++ f.path ∷ [];
-    reached = f.reached;
-    is_tour = f.tour;
-    count = f.pointers;
-  };
+  numbered = f.fault.numbered;
   passable = λ q b level s w reach.
-      let i = before q b (one_of_last q f.path f.before (f.tour.all q level s w reach (inr b))) in (
-        (λ v wrong. not_wrong_among m f.before f.charge q level s w v f.costs i reach wrong),
-        f.shallow q level s w i reach,
+      let tour = fault_tour f.fault in
+      let i = before q b (one_of_last q f.path f.fault.before (tour.all q level s w reach (inr b))) in (
+        (λ v wrong. not_wrong_among m f.fault.before f.fault.charge q level s w v f.fault.costs i reach wrong),
+        (kept_before f).1 q level s w i reach,
       );
 }
   where
-    before : (q : List Step) → Before q f.path → (q ≡ f.path) ⊎ IsOneOf q f.before → IsOneOf q f.before
+    before : (q : List Step) → Before q f.path → (q ≡ f.path) ⊎ IsOneOf q f.fault.before → IsOneOf q f.fault.before
     before q b (inl e) = absurd (Before-irreflexive q (subst (λ (u : List Step). Before q u) (sym e) b))
     before q b (inr i) = i
 

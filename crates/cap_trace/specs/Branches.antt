@@ -8,15 +8,22 @@ use Rattle.cap_trace.specs.declared.branch.Branch.{Branch}
 use Rattle.cap_trace.specs.declared.branch.Form.{Form}
 use Rattle.cap_trace.specs.declared.branch.Form.TheVariants.{Pointers, Root, Struct, Structs}
 
+-- which word of its row it is, and which element the row belongs to, from 0
+abbrev pub index_of : Branch → ℕ
+index_of f = f.row - (f.left + 1)
+
+abbrev pub element_of : Branch → ℕ
+element_of f = f.elements - (f.more + 1)
+
 -- the steps from the object to the word
-abbrev pub form_steps : Form → ℕ → ℕ → List Step
-form_steps Root e i = []
-form_steps Struct e i = Ptr i ∷ []
-form_steps Pointers e i = Item e ∷ []
-form_steps Structs e i = Item e ∷ Ptr i ∷ []
+abbrev pub form_steps : Form → Branch → List Step
+form_steps Root f = []
+form_steps Struct f = Ptr (index_of f) ∷ []
+form_steps Pointers f = Item (index_of f) ∷ []
+form_steps Structs f = Item (element_of f) ∷ Ptr (index_of f) ∷ []
 
 abbrev pub steps_of : Branch → List Step
-steps_of f = form_steps f.form f.element f.index
+steps_of f = form_steps f.form f
 
 -- the path to the word of the last branch, from the base
 abbrev pub path_from : List Step → List Branch → List Step
@@ -34,11 +41,11 @@ word_of base f = record { path = base ++ steps_of f; segment = f.segment; word =
 -- the words of the object after it
 abbrev pub form_rest : Form → List Step → Branch → List Ahead
 form_rest Root base f = []
-form_rest Struct base f = row base f.level Ptr f.segment (f.at + 1) (f.index + 1) f.left
-form_rest Pointers base f = row base f.level Item f.segment (f.at + 1) (f.element + 1) f.more
+form_rest Struct base f = row base f.level Ptr f.segment (f.at + 1) (index_of f + 1) f.left
+form_rest Pointers base f = row base f.level Item f.segment (f.at + 1) (index_of f + 1) f.left
 form_rest Structs base f =
-    row (base ++ Item f.element ∷ []) f.level Ptr f.segment (f.at + 1) (f.index + 1) f.left
-    ++ element_rows base f.level f.segment (f.at + 1 + f.left) f.data_words f.pointers (f.element + 1) f.more
+    row (base ++ Item (element_of f) ∷ []) f.level Ptr f.segment (f.at + 1) (index_of f + 1) f.left
+    ++ element_rows base f.level f.segment (f.at + 1 + f.left) f.data_words f.row (element_of f + 1) f.more
 
 abbrev pub rest_of : List Step → Branch → List Ahead
 rest_of base f = form_rest f.form base f
@@ -53,20 +60,18 @@ abbrev pub words_of_object : List Step → Option Branch → List Ahead
 words_of_object base None = []
 words_of_object base (Some f) = word_of base f ∷ rest_of base f
 
--- the numbers that a form leaves at 0
-abbrev pub IsFormed : Form → Branch → Type 0
-IsFormed Root f = (f.left ≡ 0) × (f.more ≡ 0)
-IsFormed Struct f = f.more ≡ 0
-IsFormed Pointers f = (f.left ≡ 0) × (f.data_words ≡ 0) × (f.pointers ≡ 1)
-IsFormed Structs f = 0 < f.pointers
+-- The word and the element are among those of the object, and a pointer's number has 16 bits.
+abbrev pub IsCounted : Form → Branch → Type 0
+IsCounted Root f = (f.left ≡ 0) × (f.more ≡ 0) × (f.row ≡ 1)
+IsCounted Struct f = (f.left < f.row) × (f.more ≡ 0) × (f.row ≤ 2 ^ 16)
+IsCounted Pointers f = (f.left < f.row) × (f.more ≡ 0)
+IsCounted Structs f = (f.left < f.row) × (f.more < f.elements) × (f.row ≤ 2 ^ 16)
 
 -- The words lie inside their segment. The branch is number n from the root, counted from 0.
 pub record IsBranch (m : List (List ℕ)) (depth n : ℕ) (f : Branch) : Type 0 where
   pub exists : f.segment < length m
-  pub inside : f.at + 1 + f.left + f.more * (f.data_words + f.pointers) ≤ length (segment_of m f.segment)
-  pub formed : IsFormed f.form f
-  pub few : f.index + f.left < 2 ^ 16
-  pub elements : f.element + f.more < 2 ^ 32
+  pub inside : f.at + 1 + f.left + f.more * (f.data_words + f.row) ≤ length (segment_of m f.segment)
+  pub counted : IsCounted f.form f
   pub high : n + 1 ≤ f.level
   pub low : f.level ≤ depth + 1
 
@@ -75,25 +80,9 @@ abbrev pub AreBranches : List (List ℕ) → ℕ → ℕ → List Branch → Typ
 AreBranches m depth n [] = ⊤
 AreBranches m depth n (f ∷ branches) = IsBranch m depth n f × AreBranches m depth (n + 1) branches
 
--- how many words of the object come after it with no other word between
-abbrev pub form_row : Form → Branch → ℕ
-form_row Root f = f.left
-form_row Struct f = f.left
-form_row Pointers f = f.more
-form_row Structs f = f.left
-
-abbrev pub row_left : Branch → ℕ
-row_left f = form_row f.form f
-
--- the branch after n of these words
-abbrev pub form_skipped : Form → Branch → ℕ → Branch
-form_skipped Root f n = record f { at = f.at + n; index = f.index + n; left = f.left - n }
-form_skipped Struct f n = record f { at = f.at + n; index = f.index + n; left = f.left - n }
-form_skipped Pointers f n = record f { at = f.at + n; element = f.element + n; more = f.more - n }
-form_skipped Structs f n = record f { at = f.at + n; index = f.index + n; left = f.left - n }
-
+-- the branch after n words of its row
 abbrev pub skipped : Branch → ℕ → Branch
-skipped f n = form_skipped f.form f n
+skipped f n = record f { at = f.at + n; left = f.left - n }
 
 -- the branch of the root word alone
 abbrev pub root_branch : Branch
@@ -101,15 +90,14 @@ root_branch = record {
   form = Root;
   segment = 0;
   at = 0;
-  index = 0;
   left = 0;
-  element = 0;
+  row = 1;
   more = 0;
+  elements = 0;
   data_words = 0;
-  pointers = 0;
   level = 1;
 }
 
--- the branch at the first pointer word of an object
-abbrev pub first_branch : Form → ℕ → ℕ → ℕ → ℕ → ℕ → Branch
-first_branch form s at left more level = record root_branch { form = form; segment = s; at = at; left = left; more = more; level = level }
+-- the branch at the first pointer word of an object whose row has n words
+abbrev pub first_branch : Form → ℕ → ℕ → ℕ → ℕ → Branch
+first_branch form s at n level = record root_branch { form = form; segment = s; at = at; left = n - 1; row = n; level = level }

@@ -3,8 +3,8 @@ pub use Rattle.cap_spec.specs.declared.Lax.{Lax}
 pub use Rattle.cap_spec.specs.declared.Refusal.{Refusal}
 pub use Rattle.cap_spec.specs.declared.Step.{Step}
 pub use Rattle.cap_spec.specs.declared.Step.TheVariants.{Item, Ptr}
-pub use Rattle.cap_trace.specs.Branches.{AreBranches, IsBranch, IsFormed, path_of, rest_from, rest_of, row_left}
-pub use Rattle.cap_trace.specs.Branches.{skipped, steps_of, word_of}
+pub use Rattle.cap_trace.specs.Branches.{AreBranches, IsBranch, IsCounted, path_of, rest_from, rest_of, skipped}
+pub use Rattle.cap_trace.specs.Branches.{steps_of, word_of}
 pub use Rattle.cap_trace.specs.PointerNumbers.{IsTraceable, PassesAt}
 pub use Rattle.cap_trace.specs.Seeking.{IsSought}
 pub use Rattle.cap_trace.specs.Traces.{GivesPath, GoesBelow, HasCome, IsBlockedAt, TellsPath, filled, word_ahead}

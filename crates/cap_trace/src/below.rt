@@ -86,15 +86,14 @@ fn branch_of(target: &Target, level: u32) -> Option<Branch>
                 return None;
             }
             let at = start + u32::from(data_words);
-            Some(Branch::first(Form::Struct, segment, at, pointers - 1, 0, level + 1))
+            Some(Branch::first(Form::Struct, segment, at, u32::from(pointers), level + 1))
         }
         Shape::Scalars { .. } => None,
         Shape::Pointers { count } => {
             if count == 0 {
                 return None;
             }
-            let list = Branch::first(Form::Pointers, segment, start, 0, count - 1, level + 1);
-            Some(list.of_elements(0, 1))
+            Some(Branch::first(Form::Pointers, segment, start, count, level + 1))
         }
         Shape::Structs {
             count,
@@ -106,9 +105,8 @@ fn branch_of(target: &Target, level: u32) -> Option<Branch>
                 return None;
             }
             let at = start + 1 + u32::from(data_words);
-            let (left, more) = (pointers - 1, count - 1);
-            let structs = Branch::first(Form::Structs, segment, at, left, more, level + 2);
-            Some(structs.of_elements(data_words, pointers))
+            let first = Branch::first(Form::Structs, segment, at, u32::from(pointers), level + 2);
+            Some(first.of_elements(count, u32::from(data_words)))
         }
     }
 }

@@ -2,9 +2,9 @@
 
 ghost use Rattle.cap_spec.specs.Messages.{IsMessage};
 ghost use Rattle.cap_spec.specs.declared.Step.{Step};
-ghost use Rattle.cap_trace.specs.Branches.{IsBranch, first_branch, rest_of, root_branch, row_left, skipped, steps_of, word_of};
+ghost use Rattle.cap_trace.specs.Branches.{IsBranch, IsCounted, first_branch, rest_of, root_branch, skipped, steps_of, word_of};
 ghost use Rattle.std.specs.Option.{option_to_list};
-ghost use Rattle.std.specs.Prelude.{◌++◌, ◌≡◌, ◌≤◌, [], ◌∷◌, IsFalse, IsTrue, List, ℕ};
+ghost use Rattle.std.specs.Prelude.{◌-◌, ◌++◌, ◌<◌, ◌≡◌, ◌≤◌, [], ◌∷◌, IsFalse, IsTrue, List, ℕ};
 
 use cap_spec::Step;
 
@@ -22,25 +22,24 @@ pub(crate) enum Form {
     Structs,
 }
 
-/// A pointer word of an object, and the words of the object after it.
+/// A pointer word of an object, and the words of the object after it. The pointers of a struct or of an
+/// element, and those of a list, are a row: no other word is between them.
 #[derive(Clone, Copy, Default)]
 pub(crate) struct Branch {
     pub(crate) form: Form,
     pub(crate) segment: u32,
     /// The word.
     pub(crate) at: u32,
-    /// Which pointer of its struct or element it is, from 0.
-    pub(crate) index: u16,
-    /// How many pointers of its struct or element come after it.
-    pub(crate) left: u16,
-    /// Which element it belongs to, from 0.
-    pub(crate) element: u32,
-    /// How many elements come after that one.
+    /// How many words of its row come after it.
+    pub(crate) left: u32,
+    /// How many words its row has.
+    pub(crate) row: u32,
+    /// How many elements of a list of structs come after its own.
     pub(crate) more: u32,
+    /// How many elements the list has.
+    pub(crate) elements: u32,
     /// Of each element, in words.
-    pub(crate) data_words: u16,
-    /// Of each element.
-    pub(crate) pointers: u16,
+    pub(crate) data_words: u32,
     /// The level of what these words lead to.
     pub(crate) level: u32,
 }
@@ -55,47 +54,43 @@ impl Branch {
             form: Form::Root,
             segment: 0,
             at: 0,
-            index: 0,
             left: 0,
-            element: 0,
+            row: 1,
             more: 0,
+            elements: 0,
             data_words: 0,
-            pointers: 0,
             level: 1,
         }
     }
 
-    /// The first pointer word of an object: how many pointers and elements come after its own.
+    /// The first pointer word of an object whose row has `row` words, and which has no further rows.
     #[inline(always)]
-    pub(crate) fn first(
-        form: Form,
-        segment: u32,
-        at: u32,
-        left: u16,
-        more: u32,
-        level: u32,
-    ) -> Branch
-        ensures { result ≡ first_branch form segment at left more level }
+    pub(crate) fn first(form: Form, segment: u32, at: u32, row: u32, level: u32) -> Branch
+        requires { 0 < row }
+        ensures { result ≡ first_branch form segment at row level }
     {
         Branch {
             form,
             segment,
             at,
-            left,
-            more,
+            left: row - 1,
+            row,
             level,
             ..Branch::root()
         }
     }
 
-    /// The same of elements of these sizes.
+    /// The same of a list of this many elements, of `data_words` words before the row of each.
     #[inline(always)]
-    pub(crate) fn of_elements(self, data_words: u16, pointers: u16) -> Branch
-        ensures { result ≡ record self { data_words = data_words; pointers = pointers } }
+    pub(crate) fn of_elements(self, elements: u32, data_words: u32) -> Branch
+        requires { 0 < elements }
+        ensures { result ≡
+            record self { more = elements - 1; elements = elements; data_words = data_words } }
     {
         Branch {
+            more: elements - 1,
+            elements,
             data_words,
-            pointers,
             ..self
         }
     }
@@ -113,65 +108,45 @@ impl Branch {
     {
         if self.left > 0 {
             self.at += 1;
-            self.index += 1;
             self.left -= 1;
             return true;
         }
         if self.more > 0 {
-            self.at = self.at + 1 + u32::from(self.data_words);
-            self.index = 0;
-            self.left = self.pointers - 1;
-            self.element += 1;
+            self.at = self.at + 1 + self.data_words;
+            self.left = self.row - 1;
             self.more -= 1;
             return true;
         }
         false
     }
 
-    /// How many pointer words of the object come after this one with no other word between.
-    #[inline(always)]
-    pub(crate) fn row_left(&self) -> u32
-        ensures { result ≡ row_left self.now }
-    {
-        match self.form {
-            Form::Pointers => self.more,
-            _ => u32::from(self.left),
-        }
-    }
-
-    /// Goes on over this many of these words.
+    /// Goes on over this many words of its row.
     #[inline(always)]
     pub(crate) fn skip(&mut self, words: u32)
-        requires few { words ≤ row_left self.old }
+        requires few { words ≤ self.old.left }
         requires branch { (m : List (List ℕ)) × (depth n : ℕ) × IsMessage m
             × IsBranch m depth n self.old }
         ensures { self.new ≡ skipped self.old words }
     {
         self.at += words;
-        match self.form {
-            Form::Pointers => {
-                self.element += words;
-                self.more -= words;
-            }
-            _ => {
-                self.index += words as u16;
-                self.left -= words as u16;
-            }
-        }
+        self.left -= words;
     }
 
     /// The steps from the object to the word: that to an element, and that to a pointer.
     #[inline(always)]
     pub(crate) fn steps(&self) -> (Option<Step>, Option<Step>)
+        requires { IsCounted self.now.form self.now }
         ensures { option_to_list result.0 ++ option_to_list result.1 ≡ steps_of self.now }
     {
-        let pointer = Some(Step::Ptr(self.index));
-        let element = Some(Step::Item(self.element));
+        let index = self.row - 1 - self.left;
         match self.form {
             Form::Root => (None, None),
-            Form::Struct => (None, pointer),
-            Form::Pointers => (element, None),
-            Form::Structs => (element, pointer),
+            Form::Struct => (None, Some(Step::Ptr(index as u16))),
+            Form::Pointers => (Some(Step::Item(index)), None),
+            Form::Structs => {
+                let element = self.elements - 1 - self.more;
+                (Some(Step::Item(element)), Some(Step::Ptr(index as u16)))
+            }
         }
     }
 }

@@ -12,10 +12,10 @@ ghost use Rattle.cap_trace.specs.declared.branch.Branch.{Branch};
 ghost use Rattle.std.specs.Prelude.{◌+◌, ◌++◌, ◌≡◌, ◌≤◌, [], ◌∷◌, IsFalse, IsTrue, List, None, Some, ℕ};
 
 use crate::below::{Below, below_target, look_below};
-use crate::branch::{Branch, Form};
+use crate::branch::Branch;
 use crate::lists::struct_list;
 use crate::near::{NearPointer, one_word_pad};
-use crate::row::{branch_of_list, branch_of_struct};
+use crate::row::branch_of_row;
 use arrayvec::ArrayVec;
 use cap_frame::Segments;
 use cap_ptr::{Row, Target, kind, middle, near_row};
@@ -74,14 +74,18 @@ pub(crate) fn seek<M: Segments, const N: usize>(
     requires come { HasCome (M.segments message.now) depth first others.old.items last.old }
     ensures { IsSought (M.segments message.now) depth number N others.new.items last.new result }
 {
-    // Nothing outside of this function has it, and it goes to `others` and back in two moves.
+    // Nothing outside of this function has it, so its fields stay in registers.
     let mut here = *last;
     let mut at = first;
     'words: loop {
-        at += pass_nulls(message, number - at, &mut here);
         if at == number {
             *last = here;
             return Sought::Found;
+        }
+        let nulls = pass_nulls(message, number - at, &mut here);
+        if nulls > 0 {
+            at += nulls;
+            continue;
         }
         match pass(message, depth, others, &mut here) {
             Passed::On => at += 1,
@@ -94,7 +98,7 @@ pub(crate) fn seek<M: Segments, const N: usize>(
     }
 }
 
-// Goes on over null words while others of the same object follow, and over at most as many as `most`.
+// Goes on over null words while others of the same row follow, and over at most as many as `most`.
 // Gives how many. In many lists of pointers nearly every word is null.
 #[inline(always)]
 fn pass_nulls<M: Segments>(message: &M, most: u64, last: &mut Branch) -> u64
@@ -104,51 +108,16 @@ fn pass_nulls<M: Segments>(message: &M, most: u64, last: &mut Branch) -> u64
     ensures passed { let m = M.segments message.now in (depth n : ℕ) (others : List Branch) →
         HasCome m depth n others last.old → HasCome m depth (n + result) others last.new }
 {
-    if message.word(last.segment, last.at) != 0 {
+    if message.word(last.segment, last.at) != 0 || last.left == 0 {
         return 0;
     }
-    match last.form {
-        Form::Structs => pass_null_elements(message, most, last),
-        _ => pass_null_row(message, most, last),
-    }
-}
-
-// The same of a struct or of a list of pointers, whose words are in one row.
-#[inline(always)]
-fn pass_null_row<M: Segments>(message: &M, most: u64, last: &mut Branch) -> u64
-    requires { (depth n : ℕ) × (others : List Branch)
-        × HasCome (M.segments message.now) depth n others last.old }
-    ensures few { result ≤ most }
-    ensures passed { let m = M.segments message.now in (depth n : ℕ) (others : List Branch) →
-        HasCome m depth n others last.old → HasCome m depth (n + result) others last.new }
-{
-    let most = most.min(u64::from(last.row_left())) as u32;
+    let most = most.min(u64::from(last.left)) as u32;
     let mut count = 0;
     'nulls: while count < most && message.word(last.segment, last.at + count) == 0 {
         count += 1;
     }
     last.skip(count);
     u64::from(count)
-}
-
-// The same of a list of structs.
-#[inline(always)]
-fn pass_null_elements<M: Segments>(message: &M, most: u64, last: &mut Branch) -> u64
-    requires { (depth n : ℕ) × (others : List Branch)
-        × HasCome (M.segments message.now) depth n others last.old }
-    ensures few { result ≤ most }
-    ensures passed { let m = M.segments message.now in (depth n : ℕ) (others : List Branch) →
-        HasCome m depth n others last.old → HasCome m depth (n + result) others last.new }
-{
-    let mut count = 0;
-    'nulls: while count < most && message.word(last.segment, last.at) == 0 {
-        if last.advance() {
-            count += 1;
-        } else {
-            return count;
-        }
-    }
-    count
 }
 
 // Goes on to the next pointer word in preorder. Most words are null, or describe their objects.
@@ -168,7 +137,13 @@ fn pass<M: Segments, const N: usize>(
     match look(message, depth, others, last) {
         Looked::Went(passed) => passed,
         Looked::Nothing => leave(others, last),
-        Looked::Unknown => pass_followed(message, depth, others, last),
+        Looked::Unknown => {
+            // It works on a copy, so that the branch of a loop has no address outside of it.
+            let mut from = *last;
+            let passed = pass_followed(message, depth, others, &mut from);
+            *last = from;
+            passed
+        }
     }
 }
 
@@ -251,12 +226,7 @@ fn look_row<const N: usize>(
     if row.pointer_count == 0 {
         return Looked::Nothing;
     }
-    // A struct and a list each have code of their own, since most numbers of their branches are 0.
-    if kind(near.word) == 0 {
-        let branch = branch_of_struct(near, row, last.level);
-        return Looked::Went(enter(others, last, branch));
-    }
-    let branch = branch_of_list(near, row, last.level);
+    let branch = branch_of_row(near, row, last.level);
     Looked::Went(enter(others, last, branch))
 }
 

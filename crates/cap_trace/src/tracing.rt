@@ -7,7 +7,7 @@ ghost use Rattle.cap_spec.specs.Strict.{IsFirstLax};
 ghost use Rattle.cap_spec.specs.declared.Lax.{Lax};
 ghost use Rattle.cap_spec.specs.declared.Refusal.{Refusal};
 ghost use Rattle.cap_spec.specs.declared.Step.{Step};
-ghost use Rattle.cap_trace.specs.Branches.{path_of, steps_of};
+ghost use Rattle.cap_trace.specs.Branches.{AreBranches, IsCounted, path_of, steps_of};
 ghost use Rattle.cap_trace.specs.PointerNumbers.{IsTraceable};
 ghost use Rattle.cap_trace.specs.Traces.{GivesPath, HasCome, TellsPath, filled};
 ghost use Rattle.cap_vet.specs.Limits.{depth_of};
@@ -66,35 +66,44 @@ fn traced<M: Segments>(message: &M, depth: u32, number: u64, steps: &mut [Step])
         return None;
     }
     // Most paths are short, and each search initializes its branches.
-    let mut others: BranchStack<8> = BranchStack::new();
+    let mut others: BranchStack<32> = BranchStack::new();
     let mut last = Branch::root();
     match seek(message, depth, 1, number, &mut others, &mut last) {
         Sought::Found => Some(write_path(others.as_slice(), &last, steps)),
         Sought::Missing => None,
-        Sought::Full(at) => traced_deep(message, depth, at, number, &others, last, steps),
+        Sought::Full(at) => {
+            // The default depth limit is 64.
+            if depth <= 64 {
+                return traced_deep::<M, 65>(message, depth, at, number, &others, last, steps);
+            }
+            traced_deep::<M, 257>(message, depth, at, number, &others, last, steps)
+        }
     }
 }
 
 // Goes on from the pointer word of number `at`, where those few branches are full, with as many as the
-// deepest path can have.
+// deepest path within the limit can have.
 #[cold]
 #[inline(never)]
-fn traced_deep<M: Segments>(
+fn traced_deep<M: Segments, const N: usize>(
     message: &M,
     depth: u32,
     at: u64,
     number: u64,
-    few: &BranchStack<8>,
+    few: &BranchStack<32>,
     from: Branch,
     steps: &mut [Step],
 ) -> Option<usize>
+    requires more { 32 ≤ N }
+    requires most { N ≤ 257 }
+    requires enough { depth < N }
     requires shallow { depth ≤ 256 }
     requires before { at ≤ number }
     requires come { HasCome (M.segments message.now) depth at few.now.items from }
     ensures tells { TellsPath (M.segments message.now) depth number steps.old result steps.new }
     ensures few { IfSome result (λ count. count ≤ depth) }
 {
-    let mut others: BranchStack<257> = BranchStack::new();
+    let mut others: BranchStack<N> = BranchStack::new();
     let mut last = from;
     if others.try_extend_from_slice(few.as_slice()).is_err() {
         unreachable!();
@@ -108,7 +117,9 @@ fn traced_deep<M: Segments>(
 
 // Writes the path over these branches as far as there is capacity, and gives how many steps it has.
 fn write_path(others: &[Branch], last: &Branch, steps: &mut [Step]) -> usize
-    requires { length others.now ≤ 257 }
+    requires few { length others.now ≤ 257 }
+    requires branches { (m : List (List ℕ)) × (depth : ℕ)
+        × AreBranches m depth 0 (others.now ++ last.now ∷ []) }
     ensures count { result ≡ length (path_of (others.now ++ last.now ∷ [])) }
     ensures steps { steps.new ≡ filled (path_of (others.now ++ last.now ∷ [])) steps.old }
 {
@@ -121,7 +132,8 @@ fn write_path(others: &[Branch], last: &Branch, steps: &mut [Step]) -> usize
 
 // Writes the steps of a branch at this place, as far as there is capacity. Gives the next place.
 fn write_steps(branch: &Branch, steps: &mut [Step], at: usize) -> usize
-    requires { at < 998 }
+    requires early { at < 998 }
+    requires counted { IsCounted branch.now.form branch.now }
     ensures place { result ≡ at + length (steps_of branch.now) }
     ensures few { result ≤ at + 2 }
     ensures steps { (path old : List Step) → at ≡ length path → steps.old ≡ filled path old →

@@ -1,10 +1,11 @@
 -- What a path arrives at, step by step, and what following the pointers on it costs.
 use Rattle.cap_spec.proofs.Paths.Walks.{coming_last}
+use Rattle.cap_spec.proofs.Pointers.Shapes.{structs_levels}
 use Rattle.cap_spec.proofs.Prelude.{List, None, Option, [], arith, inl, inr, length, length-append, refl, subst, suc}
 use Rattle.cap_spec.proofs.Prelude.{zero, ℕ, ◌++◌, ◌+◌, ◌-◌, ◌<◌, ◌∷◌, ◌≡◌, ◌≤◌, leb_tells, PathFinds, Finds}
 use Rattle.cap_spec.proofs.Prelude.{element_levels, AreShallow, IsFirstReason, IsComposite, AreOnPath, Charges}
 use Rattle.cap_spec.proofs.Prelude.{IsFaultOnPath, HasWord, segment_of, Costs, Reaches, ReachesSpot, Spot, StepsTo}
-use Rattle.cap_spec.proofs.Prelude.{element, word, middle, IsDeepAt, levels_below}
+use Rattle.cap_spec.proofs.Prelude.{element, word, IsDeepAt, levels_below}
 use Rattle.cap_spec.proofs.Verdicts.OnPath.{begins_itself, begins_longer, cost_last, on_element, on_nowhere, on_root}
 use Rattle.cap_spec.proofs.Verdicts.OnPath.{on_word, shallow_last}
 use Rattle.cap_vet.specs.Prelude.{Kind, Reason, Refusal, Step, Item, Ptr, Arrives, IsFound, element_of, AddsPointer}
@@ -73,21 +74,15 @@ shallow_here m words depth path s w k t b q tag at h f tagged = elim (leb_tells 
       (k, t, b, q, tag, f, tagged, over.1))
 ]
 
--- no list of structs
-no_tag : (m : List (List ℕ)) (t b q : ℕ) → (IsComposite q → ⊥) → IsComposite q → HasWord m t b 0
-no_tag m t b q none c = absurd (none c)
-
 -- So its pointers are at most one level past the limit,
 low_word : (m : List (List ℕ)) (words depth : ℕ) (path : List Step) (a : Spot) (at : Arrival) (step : Step) (s w : ℕ)
     → Arrives m words depth path a at → StepsTo m a step (word s w) → at.level ≤ depth
 low_word m words depth path (element t b ds ps) at step s w h g = h.levels
-low_word m words depth path (word s' w') at (Ptr i) s w h (k, t, b, q, f, struct, lt, e) =
-    let l = shallow_here m words depth path s' w' k t b q 0 at h f (no_tag m t b q (λ c. omega (arith, c.0, struct))) in
-    omega (arith, l)
-low_word m words depth path (word s' w') at (Item i) s w h (inl (k, t, b, q, f, list, code, lt, e)) =
-    let l = shallow_here m words depth path s' w' k t b q 0 at h f (no_tag m t b q (λ c. omega (arith, c.1, code))) in
-    omega (arith, l)
-low_word m words depth path (word s' w') at (Item i) s w h (inr (k, t, b, q, tag, f, list, code, has, lt, e)) = absurd (cc e)
+low_word m words depth path (word s' w') at (Ptr i) s w h (k, t, b, q, tag, ds, ps, f, lt, e) =
+    let l = shallow_here m words depth path s' w' k t b q tag at h f.finds f.tagged in omega (arith, l)
+low_word m words depth path (word s' w') at (Item i) s w h (inl (k, t, b, q, tag, n, f, lt, e)) =
+    let l = shallow_here m words depth path s' w' k t b q tag at h f.finds f.tagged in omega (arith, l)
+low_word m words depth path (word s' w') at (Item i) s w h (inr (k, t, b, q, tag, n, ds, ps, f, lt, e)) = absurd (cc e)
 
 -- a list with elements takes a level for them
 some_elements : (i n : ℕ) → i < n → element_levels n ≡ 1
@@ -99,12 +94,11 @@ low_element : (m : List (List ℕ)) (words depth : ℕ) (path : List Step) (a : 
     → Arrives m words depth path a at → StepsTo m a step (element t b ds ps) → at.level + 1 ≤ depth
 low_element m words depth path (element t' b' d p) at (Ptr i) t b ds ps h (lt, e) = absurd (cc e)
 low_element m words depth path (element t' b' d p) at (Item i) t b ds ps h g = absurd g
-low_element m words depth path (word s' w') at (Ptr i) t b ds ps h (k, t', b', q, f, struct, lt, e) = absurd (cc e)
-low_element m words depth path (word s' w') at (Item i) t b ds ps h (inl (k, t', b', q, f, list, code, lt, e)) = absurd (cc e)
-low_element m words depth path (word s' w') at (Item i) t b ds ps h (inr (k, t', b', q, tag, f, list, code, has, lt, e)) =
-    let l = shallow_here m words depth path s' w' k t' b' q tag at h f (λ c. has) in
-    let x : levels_below q tag ≡ element_levels (middle tag) = rw (list, code) refl in
-    omega (arith, l, x, some_elements i (middle tag) lt)
+low_element m words depth path (word s' w') at (Ptr i) t b ds ps h (k, t', b', q, tag, d, p, f, lt, e) = absurd (cc e)
+low_element m words depth path (word s' w') at (Item i) t b ds ps h (inl (k, t', b', q, tag, n, f, lt, e)) = absurd (cc e)
+low_element m words depth path (word s' w') at (Item i) t b ds ps h (inr (k, t', b', q, tag, n, d, p, f, lt, e)) =
+    let l = shallow_here m words depth path s' w' k t' b' q tag at h f.finds f.tagged in
+    omega (arith, l, structs_levels f.shape, some_elements i n lt)
 
 -- A path comes to no level past the one after the limit.
 pub arrives_low : (m : List (List ℕ)) (words depth : ℕ) (path : List Step) (a : Spot) (at : Arrival)
@@ -171,7 +165,7 @@ arrives_element m words depth path a at step t b ds ps lax e h g exists inside =
     record {
       comes = c;
       found = record {
-        stands = record { segment = refl; start = refl; data_words = refl; pointers = refl; words = refl };
+        object = record { segment = refl; start = refl; data_words = refl; pointers = refl; words = refl };
         exists = exists;
         inside = omega (arith, inside);
         own = omega arith;

@@ -1,9 +1,9 @@
 -- The children of a pointer word on a trail.
+use Rattle.cap_spec.proofs.Lemmas.{one_found, pointers_found, struct_found}
 use Rattle.cap_spec.proofs.Paths.Walks.{comes_beyond, walk_on}
-use Rattle.cap_spec.proofs.Prelude.{List, [], ap, append_assoc, arith, inl, inr, refl, subst, suc, sym, zero, ℕ, ◌++◌}
+use Rattle.cap_spec.proofs.Prelude.{List, [], append_assoc, arith, inl, inr, refl, subst, suc, sym, zero, ℕ, ◌++◌}
 use Rattle.cap_spec.proofs.Prelude.{◌+◌, ◌<◌, ◌∷◌, ◌≡◌, Finds, PathLeads, Reaches, Spot, StepsTo, number_of, word, code}
 use Rattle.cap_spec.proofs.Prelude.{data_size, kind, list_size, pointer_size}
-use Rattle.cap_spec.proofs.Trees.Finding.{SameObject, one_object}
 use Rattle.cap_vet.specs.Prelude.{Step, Item, Ptr, AreReached, EachApart, GoOnFrom, IsUnder, row}
 use Rattle.cap_vet.proofs.Apart.{Apart-steps}
 use Rattle.cap_vet.proofs.Trails.{AreChildren}
@@ -78,12 +78,6 @@ no_children m base level s w h none = record {
   complete = λ x v level' s' w' k. let (mid, n, goes, walks) = beyond m base x v level level' s w s' w' h k in none x v mid n s' w' goes walks;
 }
 
--- one object isn't of two kinds
-pub struct_no_list : (k t b q k' t' b' q' : ℕ) → SameObject k t b q k' t' b' q' → kind q ≡ 0 → kind q' ≡ 1 → ⊥
-struct_no_list k t b q k' t' b' q' same e e' =
-    let f : kind q ≡ kind q' = ap kind same.shape in
-    omega (arith, e, e', f)
-
 -- the children of a struct
 pub struct_children : (m : List (List ℕ)) (base : List Step) (level s w k t b q : ℕ) → Reaches m base level s w → Finds m s w k t b q → kind q ≡ 0
     → AreChildren m base (row base (level + 1) Ptr t (b + data_size q) 0 (pointer_size q))
@@ -92,27 +86,21 @@ struct_children m base level s w k t b q h f e = record {
   go_on = GoOnFrom-row base (level + 1) Ptr t (b + data_size q) 0 (pointer_size q);
   reached = AreReached-row m base (level + 1) Ptr t (b + data_size q) 0 (pointer_size q) (λ j l.
       subst (λ u. Reaches m (base ++ Ptr u ∷ []) (level + 1) t (b + data_size q + j)) (omega arith)
-      (one_step m base (Ptr j) level s w t (b + data_size q + j) h (k, t, b, q, f, e, l, refl)));
+      (one_step m base (Ptr j) level s w t (b + data_size q + j) h (k, t, b, q, 0, data_size q, pointer_size q, struct_found m s w k t b q f e, l, refl)));
   complete = λ x v level' s' w' r. let (mid, n, goes, walks) = beyond m base x v level level' s w s' w' h r in under x v mid goes;
 }
   where
     under : (x : Step) (v : List Step) (mid : Spot) → StepsTo m (word s w) x mid
         → IsUnder (base ++ x ∷ v) (row base (level + 1) Ptr t (b + data_size q) 0 (pointer_size q))
-    under (Ptr i) v mid (k', t', b', q', f', e', l, spot) =
-        let same = one_object m s w k t b q k' t' b' q' f f' in
-        let inside : i < pointer_size q = subst (λ u. i < pointer_size u) (sym same.shape) l in
+    under (Ptr i) v mid (k', t', b', q', tag, ds, ps, f', l, spot) =
+        let o = one_found (struct_found m s w k t b q f e) f' in
+        let same : pointer_size q ≡ ps = cc o.kind in
         subst (λ u. IsUnder (base ++ Ptr u ∷ v) (row base (level + 1) Ptr t (b + data_size q) 0 (pointer_size q))) (omega arith)
-        (IsUnder-row base (level + 1) Ptr t (b + data_size q) 0 (pointer_size q) i v inside)
-    under (Item i) v mid (inl (k', t', b', q', f', e', c', l, spot)) =
-        absurd (struct_no_list k t b q k' t' b' q' (one_object m s w k t b q k' t' b' q' f f') e e')
-    under (Item i) v mid (inr (k', t', b', q', tag, f', e', c', ht, l, spot)) =
-        absurd (struct_no_list k t b q k' t' b' q' (one_object m s w k t b q k' t' b' q' f f') e e')
-
--- one object isn't of two codes
-pub list_no_other : (k t b q k' t' b' q' : ℕ) → SameObject k t b q k' t' b' q' → code q ≡ 6 → code q' ≡ 7 → ⊥
-list_no_other k t b q k' t' b' q' same e e' =
-    let f : code q ≡ code q' = ap code same.shape in
-    omega (arith, e, e', f)
+        (IsUnder-row base (level + 1) Ptr t (b + data_size q) 0 (pointer_size q) i v (omega (arith, l, same)))
+    under (Item i) v mid (inl (k', t', b', q', tag, n, f', l, spot)) =
+        let o = one_found (struct_found m s w k t b q f e) f' in absurd (cc o.kind)
+    under (Item i) v mid (inr (k', t', b', q', tag, n, ds, ps, f', l, spot)) =
+        let o = one_found (struct_found m s w k t b q f e) f' in absurd (cc o.kind)
 
 -- the children of a list of pointers
 pub pointers_children : (m : List (List ℕ)) (base : List Step) (level s w k t b q : ℕ) → Reaches m base level s w
@@ -123,20 +111,17 @@ pointers_children m base level s w k t b q h f e c = record {
   go_on = GoOnFrom-row base (level + 1) Item t b 0 (list_size q);
   reached = AreReached-row m base (level + 1) Item t b 0 (list_size q) (λ j l.
       subst (λ u. Reaches m (base ++ Item u ∷ []) (level + 1) t (b + j)) (omega arith)
-      (one_step m base (Item j) level s w t (b + j) h (inl (k, t, b, q, f, e, c, l, refl))));
+      (one_step m base (Item j) level s w t (b + j) h (inl (k, t, b, q, 0, list_size q, pointers_found m s w k t b q f e c, l, refl))));
   complete = λ x v level' s' w' r. let (mid, n, goes, walks) = beyond m base x v level level' s w s' w' h r in under x v mid goes;
 }
   where
     under : (x : Step) (v : List Step) (mid : Spot) → StepsTo m (word s w) x mid → IsUnder (base ++ x ∷ v) (row base (level + 1) Item t b 0 (list_size q))
-    under (Ptr i) v mid (k', t', b', q', f', e', l, spot) =
-        let same = one_object m s w k t b q k' t' b' q' f f' in
-        absurd (struct_no_list k' t' b' q' k t b q
-        record { pads = sym same.pads; segment = sym same.segment; start = sym same.start; shape = sym same.shape }
-        e' e)
-    under (Item i) v mid (inl (k', t', b', q', f', e', c', l, spot)) =
-        let same = one_object m s w k t b q k' t' b' q' f f' in
-        let inside : i < list_size q = subst (λ u. i < list_size u) (sym same.shape) l in
+    under (Ptr i) v mid (k', t', b', q', tag, ds, ps, f', l, spot) =
+        let o = one_found (pointers_found m s w k t b q f e c) f' in absurd (cc o.kind)
+    under (Item i) v mid (inl (k', t', b', q', tag, n, f', l, spot)) =
+        let o = one_found (pointers_found m s w k t b q f e c) f' in
+        let same : list_size q ≡ n = cc o.kind in
         subst (λ u. IsUnder (base ++ Item u ∷ v) (row base (level + 1) Item t b 0 (list_size q))) (omega arith)
-        (IsUnder-row base (level + 1) Item t b 0 (list_size q) i v inside)
-    under (Item i) v mid (inr (k', t', b', q', tag, f', e', c', ht, l, spot)) =
-        absurd (list_no_other k t b q k' t' b' q' (one_object m s w k t b q k' t' b' q' f f') c c')
+        (IsUnder-row base (level + 1) Item t b 0 (list_size q) i v (omega (arith, l, same)))
+    under (Item i) v mid (inr (k', t', b', q', tag, n, ds, ps, f', l, spot)) =
+        let o = one_found (pointers_found m s w k t b q f e c) f' in absurd (cc o.kind)

@@ -1,8 +1,14 @@
 -- Which faults a message has under demands.
 use Rattle.cap_spec.specs.declared.StrictRefusal.TheVariants.{Refused}
-use Rattle.cap_spec.proofs.Prelude.{IsTrue, List, subst, ℕ, ◌≡◌, IsStrict, IsStrictFault}
+use Rattle.cap_spec.proofs.Lemmas.{within_not_refused}
+use Rattle.cap_spec.proofs.Prelude.{IsTrue, List, None, Option, Some, [], subst, ℕ, ◌≡◌, IsMessage, IsStrict, IsStrictFault}
+use Rattle.cap_spec.proofs.Prelude.{length}
 use Rattle.cap_spec.proofs.Strict.Faults.{one_strict_fault, strict_not_fault}
-use Rattle.cap_vet.specs.Prelude.{StrictRefusal, ManySegments, Pointer, IsDemandFault, words_under, Demands}
+use Rattle.cap_vet.specs.Demands.{IsMet}
+use Rattle.cap_vet.specs.Prelude.{StrictRefusal, ManySegments, Pointer, IsDemandFault, Meets, words_under, Demands}
+use Rattle.cap_vet.specs.Prelude.{HasNoFaultBy, HasWalked, IsAccepted, IsFaultBy, KnowsLax, Ahead, LaxPointer, Report, Step}
+use Rattle.cap_vet.proofs.Laxness.{fault_at_end, strict_at_end, within_of}
+use Rattle.cap_vet.proofs.Verdicts.{accepted_at_end}
 
 -- each is a reason not to be strict
 fault_of : (demands : Demands) (m : List (List ℕ)) (words depth : ℕ) (fault : StrictRefusal)
@@ -11,6 +17,30 @@ fault_of : (demands : Demands) (m : List (List ℕ)) (words depth : ℕ) (fault 
 fault_of demands m words depth (Refused refusal) h = h
 fault_of demands m words depth ManySegments h = h.1
 fault_of demands m words depth (Pointer what s w pointers) h = h.1
+
+-- there is one fault,
+pub one_fault_under : (demands : Demands) (m : List (List ℕ)) (words depth : ℕ) (a b : StrictRefusal)
+    → IsDemandFault demands m words depth a → IsDemandFault demands m words depth b → a ≡ b
+one_fault_under demands m words depth a b h k =
+    one_strict_fault m (words_under demands m words) depth a b (fault_of demands m words depth a h) (fault_of demands m words depth b k)
+
+-- and none of a message that meets the demands
+pub no_fault_under : (demands : Demands) (m : List (List ℕ)) (words depth : ℕ) (fault : StrictRefusal)
+    → Meets demands m words depth → IsDemandFault demands m words depth fault → ⊥
+no_fault_under demands m words depth (Refused refusal) met h =
+    within_not_refused m (words_under demands m words) depth refusal met.within h
+no_fault_under demands m words depth ManySegments met h =
+    strict_not_fault m (words_under demands m words) depth ManySegments (met.strict h.0) h.1
+no_fault_under demands m words depth (Pointer what s w n) met h =
+    strict_not_fault m (words_under demands m words) depth (Pointer what s w n) (met.strict h.0) h.1
+
+-- a fault of strictness is one only where a strict message is demanded
+strict_demanded : (demands : Demands) (count : ℕ) (first : Option LaxPointer) (fault : StrictRefusal)
+    → IsFaultBy demands count first fault → IsTrue demands.strict
+strict_demanded demands count first (Refused refusal) f = absurd f
+strict_demanded demands count first ManySegments f = f.0
+strict_demanded demands count None (Pointer what s w n) f = absurd f
+strict_demanded demands count (Some first) (Pointer what s w n) f = f.0
 
 -- The limits are those under the demands.
 module _ (demands : Demands) (m : List (List ℕ)) (words depth limit levels : ℕ)
@@ -41,3 +71,27 @@ module _ (demands : Demands) (m : List (List ℕ)) (words depth limit levels : �
       strict_not_fault m (words_under demands m words) depth fault
       (subst (λ u. IsStrict m u depth) same (subst (λ u. IsStrict m limit u) deep h))
       (fault_of demands m words depth fault k)
+
+  -- At its end a walk has met them,
+  pub met_at_end : {report : Report} (seen : List (List Step)) (ahead : List Ahead) (first : Option LaxPointer)
+      → HasWalked m limit levels [] report seen ahead → KnowsLax m seen first → HasNoFaultBy demands (length m) first
+      → IsMet demands m words depth report
+  met_at_end {report} seen ahead first w k none =
+      let accepted = subst (λ u. IsAccepted m u depth report) same (subst (λ u. IsAccepted m limit u report) deep (accepted_at_end seen ahead w)) in (
+        accepted,
+        record {
+          within = within_of m (words_under demands m words) depth report accepted;
+          strict = λ demanded.
+              let h = none demanded in
+              subst (λ u. IsStrict m u depth) same (subst (λ u. IsStrict m limit u) deep
+              (strict_at_end seen ahead w (subst (λ (u : Option LaxPointer). KnowsLax m seen u) h.1 k) h.0));
+        },
+      )
+
+  -- or has a fault.
+  pub demand_fault_at_end : {report : Report} (seen : List (List Step)) (ahead : List Ahead) (first : Option LaxPointer) (fault : StrictRefusal)
+      → IsMessage m → HasWalked m limit levels [] report seen ahead → KnowsLax m seen first → IsFaultBy demands (length m) first fault
+      → IsDemandFault demands m words depth fault
+  demand_fault_at_end {report} seen ahead first fault message w k f =
+      fault_demanded fault (strict_demanded demands (length m) first fault f)
+      (fault_at_end demands m limit levels seen first fault message (within_of m limit levels report (accepted_at_end seen ahead w)) k f)

@@ -1,13 +1,12 @@
 -- The children of a list of structs on a trail: the pointers of its elements, element by element.
-use Rattle.cap_spec.proofs.Lemmas.{one_word, one_object}
+use Rattle.cap_spec.proofs.Lemmas.{one_found, structs_found}
 use Rattle.cap_spec.proofs.Prelude.{List, [], append_assoc, arith, inl, inr, refl, subst, suc, sym, zero, ℕ, ◌*◌, ◌++◌}
 use Rattle.cap_spec.proofs.Prelude.{◌+◌, ◌<◌, ◌∙◌, ◌∷◌, ◌≡◌, Finds, element_levels, HasWord, PathLeads, Reaches, Spot}
 use Rattle.cap_spec.proofs.Prelude.{StepsTo, element, word, code, data_size, kind, middle, pointer_size}
 use Rattle.cap_vet.specs.Prelude.{Step, Item, Ptr, Ahead, Apart, AreReached, EachApart, GoOnFrom, IsUnder, element_rows}
 use Rattle.cap_vet.specs.Prelude.{row}
 use Rattle.cap_vet.proofs.Apart.{Apart-left, Apart-right, Apart-steps}
-use Rattle.cap_vet.proofs.Children.{AreReached-row, EachApart-row, GoOnFrom-row, IsUnder-row, beyond, list_no_other}
-use Rattle.cap_vet.proofs.Children.{reaches_on, struct_no_list}
+use Rattle.cap_vet.proofs.Children.{AreReached-row, EachApart-row, GoOnFrom-row, IsUnder-row, beyond, reaches_on}
 use Rattle.cap_vet.proofs.Trails.{AreChildren, AreReached-append, IsUnder-left, IsUnder-right}
 
 -- the first of these, where there is one, is apart from a path
@@ -108,10 +107,11 @@ two_steps : (m : List (List ℕ)) (base : List Step) (level s w k t b q tag e j 
     → e < middle tag → j < pointer_size tag
     → Reaches m (base ++ Item e ∷ Ptr j ∷ []) (level + (element_levels 1 + 1)) t (b + 1 + e * (data_size tag + pointer_size tag) + data_size tag + j)
 two_steps m base level s w k t b q tag e j h f is_list is_structs has l k' =
+    let found = structs_found m s w k t b q f tag is_list is_structs has in
     let spot : Spot = element t (b + 1 + e * (data_size tag + pointer_size tag)) (data_size tag) (pointer_size tag) in
     let last : Spot = word t (b + 1 + e * (data_size tag + pointer_size tag) + data_size tag + j) in
     reaches_on m base (Item e) (Ptr j ∷ []) level (element_levels 1 + 1) s w t (b + 1 + e * (data_size tag + pointer_size tag) + data_size tag + j) h
-    (spot, 1, inr (k, t, b, q, tag, f, is_list, is_structs, has, l, refl), (last, 0, (k', refl), (refl, refl), refl), refl)
+    (spot, 1, inr (k, t, b, q, tag, middle tag, data_size tag, pointer_size tag, found, l, refl), (last, 0, (k', refl), (refl, refl), refl), refl)
 
 -- a pointer word is no element
 word_no_element : (s w t b ds ps : ℕ) → word s w ≡ element t b ds ps → ⊥
@@ -134,22 +134,21 @@ structs_children m base level s w k t b q tag h f is_list is_structs has = recor
   where
     under : (x : Step) (v : List Step) (mid : Spot) (n s' w' : ℕ) → StepsTo m (word s w) x mid → PathLeads m mid v n (word s' w')
         → IsUnder (base ++ x ∷ v) (element_rows base (level + (element_levels 1 + 1)) t (b + 1) (data_size tag) (pointer_size tag) 0 (middle tag))
-    under (Ptr i) v mid n s' w' (k', t', b', q', f', e', l, spot) walks =
-        let same = one_object m s w k' t' b' q' k t b q f' f in
-        absurd (struct_no_list k' t' b' q' k t b q same e' is_list)
-    under (Item i) v mid n s' w' (inl (k', t', b', q', f', e', c', l, spot)) walks =
-        let same = one_object m s w k' t' b' q' k t b q f' f in
-        absurd (list_no_other k' t' b' q' k t b q same c' is_structs)
-    under (Item i) [] mid n s' w' (inr (k', t', b', q', tag', f', e', c', has', l, spot)) walks =
-        absurd (word_no_element s' w' t' (b' + 1 + i * (data_size tag' + pointer_size tag')) (data_size tag') (pointer_size tag') (walks.1 ∙ spot))
-    under (Item i) (Item j ∷ v) mid n s' w' (inr (k', t', b', q', tag', f', e', c', has', l, spot)) walks =
+    under (Ptr i) v mid n s' w' (k', t', b', q', tag', ds, ps, f', l, spot) walks =
+        let o = one_found (structs_found m s w k t b q f tag is_list is_structs has) f' in absurd (cc o.kind)
+    under (Item i) v mid n s' w' (inl (k', t', b', q', tag', size, f', l, spot)) walks =
+        let o = one_found (structs_found m s w k t b q f tag is_list is_structs has) f' in absurd (cc o.kind)
+    under (Item i) [] mid n s' w' (inr (k', t', b', q', tag', size, ds, ps, f', l, spot)) walks =
+        absurd (word_no_element s' w' t' (b' + 1 + i * (ds + ps)) ds ps (walks.1 ∙ spot))
+    under (Item i) (Item j ∷ v) mid n s' w' (inr (k', t', b', q', tag', size, ds, ps, f', l, spot)) walks =
         let here = subst (λ u. PathLeads m u (Item j ∷ v) n (word s' w')) spot walks in absurd here.2
-    under (Item i) (Ptr j ∷ v) mid n s' w' (inr (k', t', b', q', tag', f', e', c', has', l, spot)) walks =
+    under (Item i) (Ptr j ∷ v) mid n s' w' (inr (k', t', b', q', tag', size, ds, ps, f', l, spot)) walks =
         let here = subst (λ u. PathLeads m u (Ptr j ∷ v) n (word s' w')) spot walks in
-        let same = one_object m s w k' t' b' q' k t b q f' f in
-        let one : tag' ≡ tag = one_word m t b tag' tag (subst (λ u. HasWord m t u tag') same.start (subst (λ u. HasWord m u b' tag') same.segment has')) has in
-        let inside : i < middle tag = subst (λ u. i < middle u) one l in
-        let below : j < pointer_size tag = subst (λ u. j < pointer_size u) one here.2.0 in
+        let o = one_found (structs_found m s w k t b q f tag is_list is_structs has) f' in
+        let many : middle tag ≡ size = cc o.kind in
+        let few : pointer_size tag ≡ ps = cc o.kind in
+        let inside : i < middle tag = omega (arith, l, many) in
+        let below : j < pointer_size tag = omega (arith, here.2.0, few) in
         let e : 0 + i ≡ i = omega arith in
         subst (λ u. IsUnder (base ++ Item u ∷ Ptr j ∷ v)
         (element_rows base (level + (element_levels 1 + 1)) t (b + 1) (data_size tag) (pointer_size tag) 0

@@ -1,9 +1,13 @@
 -- A message has one fault for which it isn't exclusive over room, or none.
 use Rattle.cap_spec.proofs.Lemmas.{none_of_disjoint, one_overlap, one_refusal}
-use Rattle.cap_spec.proofs.Prelude.{List, ap, ap₂, arith, sym, ℕ, ◌∙◌, ◌≡◌, ◌≤◌, IsDisjoint}
-use Rattle.cap_vet.specs.Prelude.{IsExclusiveFault, IsAccepted, marks_of, NoRoom, Overlap, Report}
+use Rattle.cap_spec.proofs.Prelude.{List, ap, ap₂, arith, inl, inr, refl, sym, ℕ, ◌∙◌, ◌≡◌, ◌≤◌, ◌⊎◌, IsDisjoint, IsFirstOverlap}
+use Rattle.cap_vet.specs.Exclusives.{IsExclusiveRefusal}
+use Rattle.cap_vet.specs.Prelude.{Demands, IsDemandFault, IsExclusiveFault, IsAccepted, Meets, marks_of, NoRoom, Overlap, Report, StrictRefusal}
 use Rattle.cap_vet.specs.declared.exclusiveness.exclusive_room.ExclusiveFault.{ExclusiveFault}
 use Rattle.cap_vet.specs.declared.exclusiveness.exclusive_room.ExclusiveFault.TheVariants.{Refused}
+use Rattle.cap_vet.specs.declared.exclusiveness.exclusive_vetting.ExclusiveRefusal.{ExclusiveRefusal}
+use Rattle.cap_vet.specs.declared.exclusiveness.exclusive_vetting.ExclusiveRefusal.TheVariants as refusal
+use Rattle.cap_vet.proofs.Demanding.{no_fault_under, one_fault_under}
 use Rattle.cap_vet.proofs.OneReport.{not_both, one_report}
 
 -- there is one fault,
@@ -26,3 +30,25 @@ pub no_exclusive_fault : (m : List (List ℕ)) (words : ℕ) {depth room : ℕ} 
 no_exclusive_fault m words {depth} report (Refused r) a d l h = not_both m words depth report r a h
 no_exclusive_fault m words report (NoRoom n b) a d l h = omega (arith, l, h.1, h.2)
 no_exclusive_fault m words report (Overlap s w n) a d l h = none_of_disjoint m d h.3.path h.3.first.holds
+
+-- Under demands a message that isn't accepted has that one fault,
+module _ (demands : Demands) (m : List (List ℕ)) (words depth : ℕ) where
+  pub only_refused : (x : ExclusiveRefusal) (r : StrictRefusal) → IsExclusiveRefusal demands m words depth x
+      → IsDemandFault demands m words depth r → x ≡ refusal.Refused r
+  only_refused (refusal.Refused q) r h k = ap refusal.Refused (one_fault_under demands m words depth q r h k)
+  only_refused (refusal.Overlap s w n) r h k = absurd (no_fault_under demands m words depth r h.0.1.1 k)
+  only_refused refusal.Memory r h k = absurd (no_fault_under demands m words depth r h.1.1 k)
+
+  -- one without an overlap has none but want of memory,
+  pub only_memory : (x : ExclusiveRefusal) → IsExclusiveRefusal demands m words depth x → Meets demands m words depth
+      → IsDisjoint m → x ≡ refusal.Memory
+  only_memory (refusal.Refused q) h met d = absurd (no_fault_under demands m words depth q met h)
+  only_memory (refusal.Overlap s w n) h met d = absurd (none_of_disjoint m d h.1.path h.1.first.holds)
+  only_memory refusal.Memory h met d = refl
+
+  -- and one with an overlap has that or want of memory.
+  pub only_overlap : (x : ExclusiveRefusal) (s w n : ℕ) → IsExclusiveRefusal demands m words depth x
+      → Meets demands m words depth → IsFirstOverlap m s w n → (x ≡ refusal.Overlap s w n) ⊎ (x ≡ refusal.Memory)
+  only_overlap (refusal.Refused q) s w n h met f = absurd (no_fault_under demands m words depth q met h)
+  only_overlap (refusal.Overlap s' w' n') s w n h met f = (let same = one_overlap m s' w' n' s w n h.1 f in inl (cc))
+  only_overlap refusal.Memory s w n h met f = inr refl

@@ -14,9 +14,10 @@ mod Passing
 mod Verdicts
 mod ObjectRuns
 mod Looks
+mod Needed
 mod Near
 mod Keeping
-mod Founds
+pub mod Founds
 mod NodeSteps
 mod NearFound
 mod Shown
@@ -36,12 +37,11 @@ mod Bits
 mod Marking
 mod Pointing
 pub mod Ranges
-mod SecondWalk
+mod MarkingWalk
 pub mod OneReport
-pub mod ExclusiveFaults
 pub mod Laxness
-mod Splitting
 pub mod Demanding
+pub mod ExclusiveFaults
 mod Pads
 mod NearUses
 pub mod OneTrail

@@ -103,7 +103,7 @@ first_overlap m seen a ahead T used n t k o c e = record {
             (a.level, a.segment, a.word, used, r, o, i)
 
 -- Where all was looked at and nothing overlaps, the tree is disjoint.
-pub all_disjoint : (m : List (List ℕ)) (seen : List (List Step)) (T : ℕ → ℕ → Type 0) → IsTrail m seen [] → IsMarked m seen T → IsDisjoint m
-all_disjoint m seen T t k = disjoint_of_none m
+pub all_disjoint : (m : List (List ℕ)) (seen : List (List Step)) → IsTrail m seen [] → ((p : List Step) → IsOneOf p seen → ¬ Overlaps m p) → IsDisjoint m
+all_disjoint m seen t none = disjoint_of_none m
     (λ p over. let g = reached_overlap m p over in elim (t.complete p g.0 g.1 g.2 g.3)
-    [ inl one ↦ k.clear p one over | inr none ↦ absurd none ])
+    [ inl one ↦ none p one over | inr nothing ↦ absurd nothing ])

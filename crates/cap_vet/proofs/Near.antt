@@ -39,7 +39,7 @@ near_rises level depth (Some f) h e = (omega (arith, e), omega (arith, e))
 
 -- its pointer words lie inside its segment
 pub row_inside : (m : List (List ℕ)) (s w q : ℕ) (r : Row) → FindsRow m s w q r → r.pointers_start + r.pointer_count ≤ length (segment_of m s)
-row_inside m s w q r f = omega (arith, f.pointers_last, f.words, f.finds.sits.inside)
+row_inside m s w q r f = omega (arith, f.pointers_last, f.words, f.finds.inside.inside)
 
 -- A word that leads to an object over no pads says so itself.
 says_own : (m : List (List ℕ)) (t at q : ℕ) (b : ℤ) → Leads m t at 0 (to_object t b q) → Says t at q (to_object t b q)
@@ -49,7 +49,7 @@ says_own m t at q b (two_pads p f x h two hf hx one tag says e) = absurd (omega 
 
 -- So the pointer word whose place it takes leads there too.
 finds_over : (m : List (List ℕ)) (s w k t at b q : ℕ) → ResolvesTo m s w k t at q → Finds m t at 0 t b q → Finds m s w k t b q
-finds_over m s w k t at b q stands f = record { leads = stands.leads (to_object t (pos b) q) (says_own m t at q (pos b) f.leads); sits = f.sits }
+finds_over m s w k t at b q stands f = record { leads = stands.leads (to_object t (pos b) q) (says_own m t at q (pos b) f.leads); inside = f.inside }
 
 -- such an object within the limits
 pub looks_row : (m : List (List ℕ)) (words depth spent s w level k t at q : ℕ) (r : Row) (run : Option PointerRun) → FindsRow m t at q r

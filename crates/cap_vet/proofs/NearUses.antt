@@ -16,6 +16,6 @@ target_place m s w x (q, tag, f) none =
     let finds : Finds m s w 0 x.segment x.start q = subst (λ k. Finds m s w k x.segment x.start q) none f.finds in
     record {
       used = found_used m s w x.segment x.start q x.words finds f.object.words;
-      exists = f.finds.sits.exists;
-      inside = omega (arith, f.finds.sits.inside, f.object.words);
+      exists = f.finds.inside.exists;
+      inside = omega (arith, f.finds.inside.inside, f.object.words);
     }

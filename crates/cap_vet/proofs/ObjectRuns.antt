@@ -12,7 +12,7 @@ pub struct_room : (m : List (List ℕ)) (s w : ℕ) {k t b : ℕ} (q tag : ℕ) 
 struct_room m s w q tag d p f =
     omega (
       arith,
-      f.finds.sits.inside,
+      f.finds.inside.inside,
       extent_struct q f.object.shape.kind,
       f.object.shape.data_words,
       f.object.shape.pointers,
@@ -48,7 +48,7 @@ pub structs_fit : (m : List (List ℕ)) (s w k t b q tag n c size count d p : �
 structs_fit m s w k t b q tag n c size count d p f =
     let fits : TagFits tag (list_size q) = (f.object.tagged (f.object.shape.kind, f.object.shape.code)).1 in
     let room : count * (d + p) ≤ list_size q = rw (f.object.shape.count, f.object.shape.data_words, f.object.shape.pointers) fits.1 in
-    omega (arith, room, f.finds.sits.inside, extent_structs q f.object.shape.kind f.object.shape.code)
+    omega (arith, room, f.finds.inside.inside, extent_structs q f.object.shape.kind f.object.shape.code)
 
 -- the run of a list of structs
 pub structs_inside : (m : List (List ℕ)) (s w : ℕ) {k t b : ℕ} (q tag : ℕ) {n c : ℕ} (size : ℕ) {count d p at left more ds ps : ℕ} (level : ℕ)
@@ -58,7 +58,7 @@ pub structs_inside : (m : List (List ℕ)) (s w : ℕ) {k t b : ℕ} (q tag : �
 structs_inside m s w q tag size {count = zero} level f e1 e2 e3 e4 e5 some each = absurd (omega arith)
 structs_inside m s w {k} {t} {b} q tag {n} {c} size {count = suc count} {d} {p} {more} level f e1 e2 e3 e4 e5 some each =
     let e : more ≡ count = omega (arith, e3) in record {
-      exists = f.finds.sits.exists;
+      exists = f.finds.inside.exists;
       some = omega arith;
       each = λ h. omega arith;
       inside = rw (e, e4, e5) (omega (arith, e1, e2, structs_fit m s w k t b q tag n c size (suc count) d p f));
@@ -82,5 +82,5 @@ pub start_fits : (m : List (List ℕ)) (s w : ℕ) {k t b : ℕ} (q tag : ℕ) {
     → Fits w32 (b + 1 + at)
 start_fits m s w q tag size {count = zero} p at h f e some = absurd (some refl)
 start_fits m s w {k} {t} {b} q tag {n} {c} size {count = suc count} {d} p at h f e some =
-    let short = short_segment m t h f.finds.sits.exists in
+    let short = short_segment m t h f.finds.inside.exists in
     omega (arith, e, short, structs_fit m s w k t b q tag n c size (suc count) d p f)

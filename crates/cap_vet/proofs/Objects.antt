@@ -1,6 +1,6 @@
 -- What an object brings to a walk: its children, its cost, and how deep it goes.
 use Rattle.cap_spec.proofs.Lemmas.{one_word, extent_pointers, extent_struct, extent_structs, extra_same, lead_kind}
-use Rattle.cap_spec.proofs.Lemmas.{one_object}
+use Rattle.cap_spec.proofs.Lemmas.{one_found, scalars_found}
 use Rattle.cap_spec.proofs.Prelude.{List, [], ap, arith, false, inl, inr, length, length-append, map, max, pos, refl}
 use Rattle.cap_spec.proofs.Prelude.{subst, suc, true, zero, ℕ, ◌*◌, ◌++◌, ◌+◌, ◌<◌, ◌==◌, ◌∷◌, ◌≡◌, ◌≤◌, ◌⊎◌, eqb_tells}
 use Rattle.cap_spec.proofs.Prelude.{Finds, element_levels, IsComposite, TagFits, extra, HasWord, PathLeads, Reaches}
@@ -86,21 +86,14 @@ struct-brings m a k t b q tag low r f e =
     }
 
 -- a list of values has no step to go on by
-scalars_end : (m : List (List ℕ)) (s w k t b q : ℕ) → Finds m s w k t b q → kind q ≡ 1 → (code q == 6) ≡ false → (code q == 7) ≡ false
+scalars_end : (m : List (List ℕ)) (s w k t b q : ℕ) → Finds m s w k t b q → kind q ≡ 1 → code q < 6
     → (x : Step) (v : List Step) (mid : Spot) (n s' w' : ℕ) → StepsTo m (word s w) x mid → PathLeads m mid v n (word s' w') → ⊥
-scalars_end m s w k t b q f e no_pointers no_structs (Ptr i) v mid n s' w' (k', t', b', q', f', e', l, spot) walks =
-    let g : kind q ≡ kind q' = ap kind (one_object m s w k t b q k' t' b' q' f f').shape in
-    omega (arith, e, e', g)
-scalars_end m s w k t b q f e no_pointers no_structs (Item i) v mid n s' w' (inl (k', t', b', q', f', e', c', l, spot)) walks =
-    let g : code q ≡ code q' = ap code (one_object m s w k t b q k' t' b' q' f f').shape in
-    let h : (code q' == 6) ≡ false = subst (λ u. (u == 6) ≡ false) g no_pointers in
-    let x : true ≡ false = subst (λ u. (u == 6) ≡ false) c' h in
-    cc
-scalars_end m s w k t b q f e no_pointers no_structs (Item i) v mid n s' w' (inr (k', t', b', q', tag, f', e', c', has, l, spot)) walks =
-    let g : code q ≡ code q' = ap code (one_object m s w k t b q k' t' b' q' f f').shape in
-    let h : (code q' == 7) ≡ false = subst (λ u. (u == 7) ≡ false) g no_structs in
-    let x : true ≡ false = subst (λ u. (u == 7) ≡ false) c' h in
-    cc
+scalars_end m s w k t b q f e below (Ptr i) v mid n s' w' (k', t', b', q', tag, ds, ps, f', l, spot) walks =
+    let o = one_found (scalars_found m s w k t b q f e below) f' in cc o.kind
+scalars_end m s w k t b q f e below (Item i) v mid n s' w' (inl (k', t', b', q', tag, size, f', l, spot)) walks =
+    let o = one_found (scalars_found m s w k t b q f e below) f' in cc o.kind
+scalars_end m s w k t b q f e below (Item i) v mid n s' w' (inr (k', t', b', q', tag, size, ds, ps, f', l, spot)) walks =
+    let o = one_found (scalars_found m s w k t b q f e below) f' in cc o.kind
 
 scalars-brings : (m : List (List ℕ)) (a : Ahead) (k t b q tag low : ℕ) → Reaches m a.path a.level a.segment a.word
     → Finds m a.segment a.word k t b q → kind q ≡ 1
@@ -110,7 +103,7 @@ scalars-brings m a k t b q tag low r f e no_pointers no_structs below =
     let l : levels_below q tag ≡ 0 = rw (e, no_structs) refl in
     let ch : object_children a.path q tag t b a.level ≡ [] = rw (e, no_pointers, no_structs) refl in
     let pl : object_places q tag t b a.level ≡ [] = rw (e, no_pointers, no_structs) refl in record {
-      children = rw ch (no_children m a.path a.level a.segment a.word r (scalars_end m a.segment a.word k t b q f e no_pointers no_structs));
+      children = rw ch (no_children m a.path a.level a.segment a.word r (scalars_end m a.segment a.word k t b q f e below));
       counts = rw ch (counts-at m a [] (k + extent q + extra q 0) (k + extent q + extra q tag) low (max low a.level)
           (max low (a.level + levels_below q tag)) 0 (omega (arith, x)) (omega (arith, l))
           (scalars-counts m a k t b q low f e below));
@@ -145,7 +138,7 @@ structs-brings m a k t b q tag low r f e c has =
     (data_size tag) (pointer_size tag) 0 (middle tag) = rw (e, c) refl in
     let pl : object_places q tag t b a.level ≡ element_places (a.level + (element_levels 1 + 1)) t (b + 1)
     (data_size tag) (pointer_size tag) (middle tag) = rw (e, c) refl in
-    let fits : (tag' : ℕ) × HasWord m t b tag' × TagFits tag' (list_size q) = f.sits.composite (e, c) in
+    let fits : (tag' : ℕ) × HasWord m t b tag' × TagFits tag' (list_size q) = f.inside.composite (e, c) in
     let one : fits.0 ≡ tag = one_word m t b fits.0 tag fits.1 has in
     let room : middle tag * (data_size tag + pointer_size tag) ≤ list_size q = subst
     (λ u. middle u * (data_size u + pointer_size u) ≤ list_size q) one fits.2.1 in record {

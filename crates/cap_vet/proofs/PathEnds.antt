@@ -58,7 +58,7 @@ nothing_at m words depth path at e k t b n =
 pub something_at : (m : List (List ℕ)) (words depth : ℕ) (path : List Step) (at : Arrival) (a : Spot)
     → Arrives m words depth path a at
     → PathFinds m path at.found.kind at.found.place.segment at.found.place.start at.found.place.words
-something_at m words depth path at a h = (at.level, a, h.comes, h.found.stands)
+something_at m words depth path at a h = (at.level, a, h.comes, h.found.object)
 
 -- No pointer on it is rejected where none is known,
 none_lax : (m : List (List ℕ)) (path : List Step) (ways : List (List Step)) → AreOnPath m path ways

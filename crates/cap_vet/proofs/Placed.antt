@@ -11,10 +11,10 @@ pub stands_place : (m : List (List ℕ)) (a : Spot) (k : Kind) (p : Place) → H
     → MatchOption (place_of_kind k p) ((t b n : ℕ) → HasPlace m a t b n → ⊥) (λ q. HasPlace m a q.segment q.start q.words)
 stands_place m (word s w) Null p f = λ t b n h. null_no_object m s w f.0 h.0 t b h.1 f.1 h.2
 stands_place m (word s w) (Cap i) p f = λ t b n h. cap_no_object m s w f.0 i h.0 t b h.1 f.1 h.2
-stands_place m (word s w) (Struct d e) p (k, q, tag, f) = (k, q, f.finds, f.words)
-stands_place m (word s w) (Scalars c x) p (k, q, tag, f) = (k, q, f.finds, f.words)
-stands_place m (word s w) (Pointers x) p (k, q, tag, f) = (k, q, f.finds, f.words)
-stands_place m (word s w) (Structs x d e) p (k, q, tag, f) = (k, q, f.finds, f.words)
+stands_place m (word s w) (Struct d e) p (k, q, tag, f, words) = (k, q, f.finds, words)
+stands_place m (word s w) (Scalars c x) p (k, q, tag, f, words) = (k, q, f.finds, words)
+stands_place m (word s w) (Pointers x) p (k, q, tag, f, words) = (k, q, f.finds, words)
+stands_place m (word s w) (Structs x d e) p (k, q, tag, f, words) = (k, q, f.finds, words)
 stands_place m (element t' b' ds ps) (Struct d e) p f =
     let y : IsElementAt t' b' ds ps d e p.segment p.start p.words = f in (y.segment, y.start, y.words)
 stands_place m (element t' b' ds ps) k p f = absurd f

@@ -1,5 +1,7 @@
 -- How the count goes on at each kind of word.
-use Rattle.cap_spec.proofs.Pointers.Following.{one_lead}
+use Rattle.cap_spec.proofs.Lemmas.{one_lead, pointers_found, scalars_found, struct_found, structs_found}
+use Rattle.cap_spec.proofs.Pointers.Shapes.{pointers_extra, pointers_levels, scalars_levels, struct_extra, struct_levels}
+use Rattle.cap_spec.proofs.Pointers.Shapes.{structs_levels}
 use Rattle.cap_spec.proofs.Prelude.{List, [], arith, max, pos, refl, subst, suc, zero, ℕ, ◌+◌, ◌<◌, ◌≡◌, ◌≤◌, Finds}
 use Rattle.cap_spec.proofs.Prelude.{element_levels, values_of, words_from, Leads, extra, to_cap, to_null, to_object}
 use Rattle.cap_spec.proofs.Prelude.{HasWord, code, data_size, extent, kind, list_size, middle, pointer_size, cap, null}
@@ -50,11 +52,28 @@ cap-counts m a k i low h up near = record {
 -- a struct costs its pads and its words
 pub struct-counts : (m : List (List ℕ)) (a : Ahead) (k t b q low : ℕ) → Finds m a.segment a.word k t b q → kind q ≡ 0
     → Counts m a (row a.path (a.level + 1) Ptr t (b + data_size q) 0 (pointer_size q)) (k + extent q) low (max low a.level) 0
-struct-counts m a k t b q low f is_struct = record {
+struct-counts m a k t b q low f is_struct = let object = struct_found m a.segment a.word k t b q f is_struct in record {
   build = λ c top p k' owe. let r = owes-row m a.path (a.level + 1) Ptr t (b + data_size q) 0 (pointer_size q) c top p k' owe in record {
     tree = struct (words_from m t b (data_size q)) r.trees;
     depth = 1 + r.deep;
-    denotes = (k, t, b, q, c, r.deep, record { finds = f; kind = is_struct; data_words = refl; charge = refl; depth = refl }, r.denote);
+    denotes = (
+      k,
+      t,
+      b,
+      q,
+      0,
+      data_size q,
+      pointer_size q,
+      c,
+      r.deep,
+      record {
+        object = object;
+        charge = omega (arith, struct_extra object.shape);
+        depth = omega (arith, struct_levels object.shape);
+      },
+      refl,
+      r.denote,
+    );
     level = omega (arith, r.depth);
     pointers = omega (arith, r.pointers);
     cap_total = omega (arith, r.caps);
@@ -64,11 +83,20 @@ struct-counts m a k t b q low f is_struct = record {
 -- a list of values costs its pads, its words and its elements without bits
 pub scalars-counts : (m : List (List ℕ)) (a : Ahead) (k t b q low : ℕ) → Finds m a.segment a.word k t b q → kind q ≡ 1 → code q < 6
     → Counts m a [] (k + extent q + extra q 0) low (max low a.level) 0
-scalars-counts m a k t b q low f is_list below = record {
+scalars-counts m a k t b q low f is_list below = let object = scalars_found m a.segment a.word k t b q f is_list below in record {
   build = λ c top p k' (e1, e2, e3, e4). record {
     tree = scalars (code q) (values_of m t b (code q) (list_size q));
     depth = 1;
-    denotes = (k, t, b, q, record { finds = f; kind = is_list; code = refl; scalar = below; elements = refl; charge = omega (arith, e1); depth = refl });
+    denotes = (
+      k,
+      t,
+      b,
+      q,
+      0,
+      list_size q,
+      record { object = object; charge = omega (arith, e1); depth = omega (arith, scalars_levels object.shape) },
+      refl,
+    );
     level = omega (arith, e2);
     pointers = omega (arith, e3);
     cap_total = omega (arith, e4);
@@ -78,11 +106,26 @@ scalars-counts m a k t b q low f is_list below = record {
 -- a list of pointers costs its pads and its words
 pub pointers-counts : (m : List (List ℕ)) (a : Ahead) (k t b q low : ℕ) → Finds m a.segment a.word k t b q → kind q ≡ 1 → code q ≡ 6
     → Counts m a (row a.path (a.level + 1) Item t b 0 (list_size q)) (k + extent q) low (max low a.level) 0
-pointers-counts m a k t b q low f is_list is_pointers = record {
+pointers-counts m a k t b q low f is_list is_pointers = let object = pointers_found m a.segment a.word k t b q f is_list is_pointers in record {
   build = λ c top p k' owe. let r = owes-row m a.path (a.level + 1) Item t b 0 (list_size q) c top p k' owe in record {
     tree = pointers r.trees;
     depth = 1 + r.deep;
-    denotes = (k, t, b, q, c, r.deep, record { finds = f; kind = is_list; code = is_pointers; charge = refl; depth = refl }, r.denote);
+    denotes = (
+      k,
+      t,
+      b,
+      q,
+      0,
+      list_size q,
+      c,
+      r.deep,
+      record {
+        object = object;
+        charge = omega (arith, pointers_extra object.shape);
+        depth = omega (arith, pointers_levels object.shape);
+      },
+      r.denote,
+    );
     level = omega (arith, r.depth);
     pointers = omega (arith, r.pointers);
     cap_total = omega (arith, r.caps);
@@ -99,7 +142,7 @@ elements-level low level (suc n) top deep none h = omega (arith, h)
 pub structs-counts : (m : List (List ℕ)) (a : Ahead) (k t b q tag low : ℕ) → Finds m a.segment a.word k t b q → kind q ≡ 1 → code q ≡ 7 → HasWord m t b tag
     → Counts m a (element_rows a.path (a.level + (element_levels 1 + 1)) t (b + 1) (data_size tag) (pointer_size tag) 0
     (middle tag)) (k + extent q + extra q tag) low (max low (a.level + element_levels (middle tag))) 0
-structs-counts m a k t b q tag low f is_list is_structs has = record {
+structs-counts m a k t b q tag low f is_list is_structs has = let object = structs_found m a.segment a.word k t b q f tag is_list is_structs has in record {
   build = λ c top p k' owe. let r = owes-elements m a.path (a.level + (element_levels 1 + 1)) t (b + 1) (data_size tag)
       (pointer_size tag) 0 (middle tag) c top p k' owe in record {
         tree = structs (data_size tag) (pointer_size tag) r.elements;
@@ -110,18 +153,10 @@ structs-counts m a k t b q tag low f is_list is_structs has = record {
           b,
           q,
           tag,
+          middle tag,
           c,
           r.deep,
-          record {
-            finds = f;
-            kind = is_list;
-            code = is_structs;
-            has_tag = has;
-            data_sizes = refl;
-            pointer_sizes = refl;
-            charge = refl;
-            depth = refl;
-          },
+          record { object = object; charge = refl; depth = omega (arith, structs_levels object.shape) },
           r.are,
         );
         level = elements-level low a.level (middle tag) top r.deep r.none r.depth;

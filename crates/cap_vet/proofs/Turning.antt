@@ -43,15 +43,15 @@ next_ahead x places (a ∷ ahead) e =
 -- null and capabilities lead nowhere
 pub null_ends : (m : List (List ℕ)) (s w k : ℕ) → Leads m s w k to_null
     → (x : Step) (v : List Step) (mid : Spot) (n s' w' : ℕ) → StepsTo m (word s w) x mid → PathLeads m mid v n (word s' w') → ⊥
-null_ends m s w k h (Ptr i) v mid n s' w' (k', t', b', q', f', e, l, spot) walks = null_no_object m s w k k' t' b' q' h f'
-null_ends m s w k h (Item i) v mid n s' w' (inl (k', t', b', q', f', e, c, l, spot)) walks = null_no_object m s w k k' t' b' q' h f'
-null_ends m s w k h (Item i) v mid n s' w' (inr (k', t', b', q', tag, f', e, c, has, l, spot)) walks = null_no_object m s w k k' t' b' q' h f'
+null_ends m s w k h (Ptr i) v mid n s' w' (k', t', b', q', tag, ds, ps, f', l, spot) walks = null_no_object m s w k k' t' b' q' h f'.finds
+null_ends m s w k h (Item i) v mid n s' w' (inl (k', t', b', q', tag, size, f', l, spot)) walks = null_no_object m s w k k' t' b' q' h f'.finds
+null_ends m s w k h (Item i) v mid n s' w' (inr (k', t', b', q', tag, size, ds, ps, f', l, spot)) walks = null_no_object m s w k k' t' b' q' h f'.finds
 
 pub cap_ends : (m : List (List ℕ)) (s w k i : ℕ) → Leads m s w k (to_cap i)
     → (x : Step) (v : List Step) (mid : Spot) (n s' w' : ℕ) → StepsTo m (word s w) x mid → PathLeads m mid v n (word s' w') → ⊥
-cap_ends m s w k i h (Ptr j) v mid n s' w' (k', t', b', q', f', e, l, spot) walks = cap_no_object m s w k i k' t' b' q' h f'
-cap_ends m s w k i h (Item j) v mid n s' w' (inl (k', t', b', q', f', e, c, l, spot)) walks = cap_no_object m s w k i k' t' b' q' h f'
-cap_ends m s w k i h (Item j) v mid n s' w' (inr (k', t', b', q', tag, f', e, c, has, l, spot)) walks = cap_no_object m s w k i k' t' b' q' h f'
+cap_ends m s w k i h (Ptr j) v mid n s' w' (k', t', b', q', tag, ds, ps, f', l, spot) walks = cap_no_object m s w k i k' t' b' q' h f'.finds
+cap_ends m s w k i h (Item j) v mid n s' w' (inl (k', t', b', q', tag, size, f', l, spot)) walks = cap_no_object m s w k i k' t' b' q' h f'.finds
+cap_ends m s w k i h (Item j) v mid n s' w' (inr (k', t', b', q', tag, size, ds, ps, f', l, spot)) walks = cap_no_object m s w k i k' t' b' q' h f'.finds
 
 -- one more path that costs this much
 pub costs_on : (m : List (List ℕ)) (p : List Step) (seen : List (List Step)) (level s w cost charge : ℕ)

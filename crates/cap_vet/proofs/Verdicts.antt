@@ -1,9 +1,11 @@
 -- How a walk ends: at the first fault, or with the whole tree.
 use Rattle.cap_spec.specs.declared.Reason.TheVariants.{NoRoot}
 use Rattle.cap_spec.proofs.Frames.Messages.{HasWord-at}
+use Rattle.cap_spec.proofs.Lemmas.{fault_tour}
 use Rattle.cap_spec.proofs.Prelude.{List, None, Option, Some, [], arith, inl, inr, length, length-append, map, refl}
-use Rattle.cap_spec.proofs.Prelude.{reverse, subst, sym, ℕ, ◌++◌, ◌+◌, ◌<◌, ◌∷◌, ◌≡◌, Denotes, HasNoRoot, IsFirstFault}
-use Rattle.cap_spec.proofs.Prelude.{IsFirstReason, IsOneOf, segment_of, IsTour, Reaches, CostOf}
+use Rattle.cap_spec.proofs.Prelude.{reverse, subst, sym, ℕ, ◌++◌, ◌+◌, ◌<◌, ◌∷◌, ◌≡◌, Denotes, HasNoRoot, IsFaultAt}
+use Rattle.cap_spec.proofs.Prelude.{IsFirstFault, AreShallow, IsFirstReason, IsOneOf, segment_of, IsTour, Reaches, CostOf}
+use Rattle.cap_spec.proofs.Verdicts.OneFault.{none_before}
 use Rattle.cap_vet.specs.PointerRuns.{root_run}
 use Rattle.cap_vet.specs.Prelude.{Reason, Step, depth_of, words_of, IsCount, pointer_word_of, IsAccepted, IsFirstCapOf}
 use Rattle.cap_vet.specs.Prelude.{IsVetted, Ahead, IsTrail, IsWalking, HasWalked, IsFirstOf, IsNext, Progress, Limits}
@@ -24,7 +26,7 @@ CostOf-onto m [] later c d h k = subst (CostOf m later) (omega (arith, h)) k
 CostOf-onto m (p ∷ seen) later c d (level, s, w, one, rest, r, cost, others, e) k =
     subst (CostOf m (onto seen (p ∷ later))) (omega (arith, e)) (CostOf-onto m seen (p ∷ later) rest (one + d) others (level, s, w, one, d, r, cost, k, refl))
 
-CostOf-in_order : (m : List (List ℕ)) (seen : List (List Step)) (c : ℕ) → CostOf m seen c → CostOf m (in_order seen) c
+pub CostOf-in_order : (m : List (List ℕ)) (seen : List (List Step)) (c : ℕ) → CostOf m seen c → CostOf m (in_order seen) c
 CostOf-in_order m seen c h = subst (CostOf m (in_order seen)) (omega arith) (CostOf-onto m seen [] c 0 h refl)
 
 -- A first segment without words has no root.
@@ -49,18 +51,32 @@ pub first_fault : (m : List (List ℕ)) (words depth s w level : ℕ) (runs : Li
 first_fault m words depth s w level runs report v t h =
     let e : in_order (t.a.path ∷ t.seen) ≡ in_order t.seen ++ t.a.path ∷ [] = onto-append t.seen [] (t.a.path ∷ []) in
     let many : length (in_order t.seen ++ t.a.path ∷ []) ≡ report.pointers + 1 =
-    omega (arith, length-append (in_order t.seen) (t.a.path ∷ []), length-in_order t.seen, t.progress.number) in record {
-      path = t.a.path;
+    omega (arith, length-append (in_order t.seen) (t.a.path ∷ []), length-in_order t.seen, t.progress.number) in
+    let shallow : AreShallow m depth (in_order t.seen) =
+    (λ p l s' w' i r. t.progress.levels p l s' w' (in_order-IsOneOf p t.seen i) r) in
+    let fault : IsFaultAt m words depth t.a.path record { segment = s; word = w; reason = v; pointers = report.pointers + 1 } =
+    record {
+      numbered = record {
+        level = level;
+        tour = in_order t.seen ++ t.a.path ∷ [];
+        reached = rw (t.segment, t.at, t.leads_to) at t.progress.trail.ahead_reached.0;
+        is_tour = subst (IsTour m t.a.path) e (tour_of m t.seen t.a t.ahead t.progress.trail);
+        count = sym many;
+      };
       before = in_order t.seen;
-      level = level;
       charge = report.charge;
-      reached = rw (t.segment, t.at, t.leads_to) at t.progress.trail.ahead_reached.0;
-      tour = subst (IsTour m t.a.path) e (tour_of m t.seen t.a t.ahead t.progress.trail);
+      whole = refl;
       costs = CostOf-in_order m t.seen report.charge t.progress.costs;
-      within = t.progress.within;
-      shallow = λ p l s' w' i r. t.progress.levels p l s' w' (in_order-IsOneOf p t.seen i) r;
       reason = h;
-      pointers = sym many;
+    } in record {
+      path = t.a.path;
+      fault = fault;
+      first = record {
+        holds = (record { segment = s; word = w; reason = v; pointers = report.pointers + 1 }, fault);
+        first = λ other b (r, g).
+            none_before m words depth t.a.path (in_order t.seen) report.charge (fault_tour fault) fault.costs
+            t.progress.within shallow other b r g;
+      };
       few = omega (arith, t.progress.bound, t.progress.within);
     }
 
@@ -68,7 +84,7 @@ first_fault m words depth s w level runs report v t h =
 pub fault_next : {m : List (List ℕ)} {words depth s w level : ℕ} (runs : List PointerRun) {report : Report} {v : Reason}
     → (n : IsNext m words depth s w level runs report) → IsFirstReason m words depth report.charge s w level v
     → (f : IsFirstFault m words depth record { segment = s; word = w; reason = v; pointers = report.pointers + 1 })
-    × (f.before ≡ reverse n.seen)
+    × (f.fault.before ≡ reverse n.seen)
 unfolding first_fault
 fault_next {m} {words} {depth} {s} {w} {level} runs {report} {v} n h =
     (first_fault m words depth s w level runs report v n h, in_order-reverse n.seen)

@@ -5,7 +5,9 @@ use Rattle.cap_spec.specs.Prelude.{IsRefused, IsStrict, unamplified}
 use Rattle.cap_spec.specs.Strict.{IsStrictFault}
 use Rattle.cap_spec.specs.declared.StrictRefusal.{StrictRefusal}
 use Rattle.cap_spec.specs.declared.StrictRefusal.TheVariants.{ManySegments, Pointer, Refused}
+use Rattle.cap_vet.specs.Reports.{IsAccepted}
 use Rattle.cap_vet.specs.declared.demands.Demands.{Demands}
+use Rattle.cap_vet.specs.declared.report.Report.{Report}
 
 -- the word limit under the demands: that of an unamplified message where this is demanded
 abbrev pub words_under : Demands → List (List ℕ) → ℕ → ℕ
@@ -15,6 +17,10 @@ words_under demands m words = if demands.unamplified then unamplified m words el
 pub record Meets (demands : Demands) (m : List (List ℕ)) (words depth : ℕ) : Type 0 where
   pub within : IsWithin m (words_under demands m words) depth
   pub strict : IsTrue demands.strict → IsStrict m (words_under demands m words) depth
+
+-- it meets the demands, and this is the report of it
+abbrev pub IsMet : Demands → List (List ℕ) → ℕ → ℕ → Report → Type 0
+IsMet demands m words depth report = IsAccepted m (words_under demands m words) depth report × Meets demands m words depth
 
 -- why a message doesn't meet the demands: it is refused within this limit, or it is accepted, and isn't
 -- strict where this is demanded

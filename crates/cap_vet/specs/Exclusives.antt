@@ -1,23 +1,29 @@
 -- What an exclusive message is, and why a message isn't one (profile).
 use Rattle.std.specs.Prelude.{List, ℕ, ⊤, ◌<◌, ◌≡◌, ◌≤◌}
 use Rattle.cap_spec.specs.Prelude.{IsRefused, IsFirstOverlap}
+use Rattle.cap_vet.specs.Demands.{IsDemandFault, IsMet}
 use Rattle.cap_vet.specs.Reports.{IsAccepted}
 use Rattle.cap_vet.specs.Taken.{marks_of}
+use Rattle.cap_vet.specs.declared.demands.Demands.{Demands}
 use Rattle.cap_vet.specs.declared.exclusiveness.exclusive.Exclusive.{Exclusive}
 use Rattle.cap_vet.specs.declared.exclusiveness.exclusive_room.ExclusiveFault.{ExclusiveFault}
-use Rattle.cap_vet.specs.declared.exclusiveness.exclusive_vetting.Overlap.{Overlap}
+use Rattle.cap_vet.specs.declared.exclusiveness.exclusive_vetting.ExclusiveRefusal.{ExclusiveRefusal}
 use Rattle.cap_vet.specs.declared.nodes.vetted.Vetted.{Vetted}
 use Rattle.cap_vet.specs.declared.report.Report.{Report}
 use Rattle.cap_frame.specs.declared.segments.Segments as segments
 use Rattle.cap_vet.specs.declared.exclusiveness.exclusive_room.ExclusiveFault.TheVariants as fault
+use Rattle.cap_vet.specs.declared.exclusiveness.exclusive_vetting.ExclusiveRefusal.TheVariants as refusal
 
 -- the accepted message
 abbrev pub vetted_of : {M : Type 0} {g : segments.Ghosts M} → Exclusive M g → Vetted M g
 vetted_of e = e.vetted
 
--- this is the first pointer that overlaps
-abbrev pub OverlapsFirst : List (List ℕ) → Overlap → Type 0
-OverlapsFirst m o = IsFirstOverlap m o.segment o.word o.pointers
+-- why a message isn't exclusive under demands; without memory for marks it has no other fault
+abbrev pub IsExclusiveRefusal : Demands → List (List ℕ) → ℕ → ℕ → ExclusiveRefusal → Type 0
+IsExclusiveRefusal demands m words depth (refusal.Refused r) = IsDemandFault demands m words depth r
+IsExclusiveRefusal demands m words depth (refusal.Overlap s w n) =
+    ((report : Report) × IsMet demands m words depth report) × IsFirstOverlap m s w n
+IsExclusiveRefusal demands m words depth refusal.Memory = (report : Report) × IsMet demands m words depth report
 
 -- why a message isn't found exclusive with a buffer of `room` numbers; each message that isn't has
 -- one of these faults

@@ -32,7 +32,7 @@ own_words _ = 0
 -- its kind and its place are those of the object at the spot, and its words lie inside their
 -- segment
 pub record IsFound (m : List (List ℕ)) (a : Where) (f : Found) : Type 0 where
-  pub stands : HasObject m a f.kind f.place.segment f.place.start f.place.words
+  pub object : HasObject m a f.kind f.place.segment f.place.start f.place.words
   pub exists : f.place.segment < length m
   pub inside : f.place.start + f.place.words ≤ length (segment_of m f.place.segment)
   pub own : own_words f.kind ≤ f.place.words

@@ -9,9 +9,11 @@ pub mod Limits
 pub mod Looking
 pub mod Marks
 pub mod MarkSteps
+pub mod Needed
 pub mod Nodes
 pub mod NearFinding
 pub mod NullMarks
+pub mod Overlapping
 pub mod Owing
 pub mod Passing
 pub mod PathDemands

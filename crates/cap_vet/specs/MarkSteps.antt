@@ -1,9 +1,18 @@
 -- What marking the words of one pointer does to the marks (profile).
-use Rattle.std.specs.Prelude.{Bool, IsFalse, IsTrue, List, length, ℕ, ◌+◌, ◌<◌, ◌≤◌}
+use Rattle.std.specs.Prelude.{Bool, IsFalse, IsTrue, List, length, ℕ, ◌+◌, ◌<◌, ◌≡◌, ◌≤◌}
 use Rattle.cap_spec.specs.Prelude.{IsOneOf, segment_of, Occupies}
 use Rattle.cap_vet.specs.Marks.{Conflicts, MarksAll}
-use Rattle.cap_vet.specs.Taken.{HasRoom, IsTaken}
+use Rattle.cap_vet.specs.Taken.{HasRoom, IsTaken, bit_in}
 use Rattle.cap_vet.specs.declared.exclusiveness.marks.Marks.{Marks}
+
+-- These bits were clear and are set now, and no other changes; or one of them was set before.
+pub record SetsBits (old new : List ℕ) (from count : ℕ) (set : Bool) : Type 0 where
+  pub same_length : length new ≡ length old
+  pub taken : IsTrue set → (i : ℕ) → from ≤ i → i < from + count → bit_in new i ≡ 1
+  pub free : IsTrue set → (i : ℕ) → from ≤ i → i < from + count → bit_in old i ≡ 0
+  pub below : IsTrue set → (i : ℕ) → i < from → bit_in new i ≡ bit_in old i
+  pub above : IsTrue set → (i : ℕ) → from + count ≤ i → bit_in new i ≡ bit_in old i
+  pub conflict : IsFalse set → (i : ℕ) × (from ≤ i) × (i < from + count) × (bit_in old i ≡ 1)
 
 -- there is a bit for each word of the message
 abbrev pub HaveRoom : List (List ℕ) → Marks → Type 0

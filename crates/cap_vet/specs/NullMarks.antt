@@ -1,12 +1,15 @@
 -- A null word leaves the marks as they are: the law of the turn that marks words (profile).
 use Rattle.std.proofs.Common.{arith, inl, inr, subst, sym}
-use Rattle.std.specs.Prelude.{List, [], refl, ℕ, ◌∷◌, ◌≡◌}
+use Rattle.std.specs.Prelude.{List, None, Option, Some, [], refl, ℕ, ◌∷◌, ◌≡◌}
 use Rattle.cap_spec.specs.Occupying.{on_earlier, on_root, twice}
 use Rattle.cap_spec.specs.Prelude.{near, AreDistinct, IsOneOf, HasWord, Occupies, Overlaps, Uses, Reaches}
 use Rattle.cap_spec.specs.declared.Step.{Step}
 use Rattle.cap_spec.proofs.Disjoint.Overlaps.{one_used}
 use Rattle.cap_spec.proofs.Paths.Walks.{one_reached}
+use Rattle.cap_vet.specs.Overlapping.{KnowsMarks}
 use Rattle.cap_vet.specs.Taken.{HasMarked}
+use Rattle.cap_vet.specs.declared.exclusiveness.marks.Marks.{Marks}
+use Rattle.cap_vet.specs.declared.exclusiveness.overlap_turn.Overlap.{Overlap}
 
 -- a null word uses nothing
 null_used : (m : List (List ℕ)) (s w : ℕ) → HasWord m s w 0 → Occupies m s w []
@@ -29,7 +32,7 @@ null_no_overlap m p level s w r has (twice level' s' w' used r' o n) =
 null_no_overlap m p level s w r has (on_root u) = null_no_use m p level s w (0, 0) r has u
 null_no_overlap m p level s w r has (on_earlier other x b u v) = null_no_use m p level s w x r has v
 
-pub null_marked : (m : List (List ℕ)) (seen : List (List Step)) (p : List Step) (level s w : ℕ) (starts bits : List ℕ) → Reaches m p level s w → HasWord m s w 0
+null_marked : (m : List (List ℕ)) (seen : List (List Step)) (p : List Step) (level s w : ℕ) (starts bits : List ℕ) → Reaches m p level s w → HasWord m s w 0
     → HasMarked m seen starts bits → HasMarked m (p ∷ seen) starts bits
 null_marked m seen p level s w starts bits r has k = record {
   room = k.room;
@@ -46,3 +49,8 @@ null_marked m seen p level s w starts bits r has k = record {
     ];
   };
 }
+
+pub null_known_marks : (m : List (List ℕ)) (seen : List (List Step)) (p : List Step) (level s w : ℕ) (marks : Marks) (first : Option Overlap)
+    → Reaches m p level s w → HasWord m s w 0 → KnowsMarks m seen marks first → KnowsMarks m (p ∷ seen) marks first
+null_known_marks m seen p level s w marks None r has k = null_marked m seen p level s w marks.starts.now marks.bits.now r has k
+null_known_marks m seen p level s w marks (Some first) r has k = k

@@ -71,12 +71,12 @@ IsStopped m limits stops (ByTurn stop) = stops stop
 abbrev pub IsFaultNext : List (List ℕ) → Limits → ℕ → ℕ → ℕ → Report → Refusal → Type 0
 IsFaultNext m limits s w level report refusal =
     (runs : List PointerRun) (n : IsNextIn m limits s w level runs report)
-    → (f : IsFirstFault m (words_of limits) (depth_of limits) refusal) × (f.before ≡ reverse n.seen)
+    → (f : IsFirstFault m (words_of limits) (depth_of limits) refusal) × (f.fault.before ≡ reverse n.seen)
 
 -- where a walk stops at the first fault, K holds of all paths before it, the last in preorder first; without a root there is none
 abbrev pub HoldsBefore : {S : Type 0} → List (List ℕ) → Limits → (List (List Step) → Type 0) → Stopped S → Type 0
 HoldsBefore m limits K (Refused refusal) = (HasNoRoot m refusal × K [])
-    ⊎ ((f : IsFirstFault m (words_of limits) (depth_of limits) refusal) × (seen : List (List Step)) × (f.before ≡ reverse seen) × K seen)
+    ⊎ ((f : IsFirstFault m (words_of limits) (depth_of limits) refusal) × (seen : List (List Step)) × (f.fault.before ≡ reverse seen) × K seen)
 HoldsBefore m limits K (ByTurn stop) = ⊤
 
 -- K holds of all paths that reach pointer words, the last in preorder first

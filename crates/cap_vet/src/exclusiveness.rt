@@ -4,4 +4,5 @@ pub(crate) mod exclusive;
 pub(crate) mod exclusive_room;
 pub(crate) mod exclusive_vetting;
 pub(crate) mod marks;
+pub(crate) mod overlap_turn;
 pub(crate) mod uses;

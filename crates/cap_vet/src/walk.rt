@@ -3,6 +3,7 @@
 pub(crate) mod lists;
 pub(crate) mod look_described;
 pub(crate) mod looking;
+pub(crate) mod needed;
 pub(crate) mod pointer_run;
 pub(crate) mod targets;
 pub(crate) mod turn;

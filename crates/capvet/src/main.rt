@@ -13,8 +13,8 @@ use std::{env, fs, io};
 // How many bytes are written at a time.
 const BUFFER: usize = 65536;
 
-// How many bytes of a fault's line are held, which is more than any has.
-const LINE: usize = 256;
+// How many bytes of a fault's lines are held, which is more than any has.
+const LINE: usize = 1024;
 
 // The most bytes of an argument: Linux gives a program no longer one.
 const ARGUMENT: usize = 131072;

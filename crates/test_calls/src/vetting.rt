@@ -197,7 +197,7 @@ fn a_strict_verdict_is_copied(rt: HostRuntime) -> Result<(), Fail> {
 fn an_exclusive_verdict_is_copied(rt: HostRuntime) -> Result<(), Fail> {
     let message = OneSegment::new(&NULL).ok_or("no message")?;
     let limits = Limits::new(0, 0).ok_or("no limits")?;
-    match vet_exclusive(rt.alloc(), &message, limits) {
+    match vet_exclusive(rt.alloc(), &message, limits, Demands::default()) {
         Ok(exclusive) => same(&rt, cloned(&exclusive)?.into_vetted().report().pointers, 1),
         Err(_) => return Err("not exclusive".into()),
     }

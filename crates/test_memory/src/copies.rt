@@ -5,7 +5,7 @@ use crate::same::same;
 use cap_canon::{CanonFault, canonical, canonical_bytes, canonical_over};
 use cap_frame::OneSegment;
 use cap_run::{PathFault, Step, parse_path};
-use cap_vet::{ExclusiveRefusal, Limits, vet, vet_exclusive};
+use cap_vet::{Demands, ExclusiveRefusal, Limits, vet, vet_exclusive};
 use std::test::Fail;
 
 // A list of two structs in three words, and its canonical copy.
@@ -82,7 +82,7 @@ fn a_copy_over_a_buffer(rt: HostRuntime) -> Result<(), Fail> {
 fn marks_of_an_exclusive_message(rt: HostRuntime) -> Result<(), Fail> {
     let limits = Limits::new(100, 64).ok_or("limits")?;
     let message = OneSegment::new(&WORDS).ok_or("a message")?;
-    match vet_exclusive(rt.alloc(), &message, limits) {
+    match vet_exclusive(rt.alloc(), &message, limits, Demands::default()) {
         Ok(exclusive) => {
             same(&rt, exclusive.into_vetted().report().charge, 4);
             Ok(())

@@ -5,10 +5,11 @@ ghost use Rattle.cap_calls.specs.ExplainCalls.{FindsFewLines, TellsExplanation, 
 ghost use Rattle.cap_calls.specs.PackCalls.{TellsText};
 ghost use Rattle.cap_calls.specs.declared.answer.Answer.{Answer};
 ghost use Rattle.cap_calls.specs.declared.report.CallReport.{CallReport};
+ghost use Rattle.cap_explain.specs.Charges.{ChargeOf};
 ghost use Rattle.cap_explain.specs.Explaining.{explanation};
 ghost use Rattle.cap_vet.specs.Demands.{IsDemandFault};
 ghost use Rattle.cap_vet.specs.Limits.{depth_of, words_of};
-ghost use Rattle.std.specs.Prelude.{◌≡◌, ◌≤◌, List, length, ℕ};
+ghost use Rattle.std.specs.Prelude.{◌≡◌, ◌≤◌, List, None, length, ℕ};
 
 use crate::answer::Answer;
 use crate::calls::get::path_answer;
@@ -17,7 +18,7 @@ use crate::input::over_input;
 use crate::limits::CallLimits;
 use crate::over::Call;
 use crate::report::CallReport;
-use cap_explain::{Explanation, explain as explain_refusal};
+use cap_explain::{Explanation, Numbers, explain as explain_refusal, refusal_charge};
 use cap_frame::{ByteView, Segments};
 use cap_spec::StrictRefusal;
 use cap_trace::NamedPath;
@@ -25,7 +26,8 @@ use cap_vet::{Demands, Limits, limits_under, vet_with};
 
 /// Writes the lines that explain why [`crate::vet`] refuses the message that bytes are, to the start
 /// of `text` (docs/output.md, explain). They are the lines that `capvet explain` writes after the
-/// line of the verdict. The flags are as for [`crate::vet`]. Allocates nothing.
+/// line of the verdict, without the byte in the input. The flags are as for [`crate::vet`]. Allocates
+/// nothing.
 ///
 /// The first of these that applies is returned:
 /// - why there is no frame, or [`Answer::Trailing`], as for [`crate::vet`]; `required` is 0;
@@ -103,11 +105,29 @@ fn explained<'b>(
     let mut path = NamedPath::new();
     path.find_refused(view, limits, &refusal);
     let within = limits_under(view, limits, demands);
-    let (answer, count) = put_lines(view, &refusal, within, &path, out);
+    let numbers = numbers_of(view, &refusal, within);
+    let (answer, count) = put_lines(view, &refusal, numbers, &path, out);
     Found {
         answer,
         count,
         report: CallReport::of_refused(refusal),
+    }
+}
+
+// The numbers of a message that is refused within limits, and isn't one of a stream.
+#[inline(never)]
+fn numbers_of<'b>(view: &ByteView<'b>, refusal: &StrictRefusal, limits: Limits) -> Numbers
+    ensures words { result.words ≡ words_of limits }
+    ensures depth { result.depth ≡ depth_of limits }
+    ensures charge { let m = ⟦<ByteView<'b> as Segments>⟧.segments view.now in
+        ChargeOf m (words_of limits) (depth_of limits) refusal.now result.charge }
+    ensures start { result.start ≡ None }
+{
+    Numbers {
+        words: limits.words(),
+        depth: limits.depth(),
+        charge: refusal_charge(view, refusal, limits),
+        start: None,
     }
 }
 
@@ -117,17 +137,16 @@ fn explained<'b>(
 fn put_lines<'b>(
     view: &ByteView<'b>,
     refusal: &StrictRefusal,
-    limits: Limits,
+    numbers: Numbers,
     path: &NamedPath,
     out: &mut [u8],
 ) -> (Answer, usize)
     ensures tells { let m = ⟦<ByteView<'b> as Segments>⟧.segments view.now in
-        TellsText (explanation path.now m refusal.now (words_of limits) (depth_of limits)) out.old
-        result.0 result.1 out.new }
+        TellsText (explanation path.now m refusal.now numbers) out.old result.0 result.1 out.new }
     ensures few { result.1 ≤ 6144 }
 {
     let mut lines = Explanation::new();
-    explain_refusal(&mut lines, view, refusal, limits, path.steps());
+    explain_refusal(&mut lines, view, refusal, numbers, path.steps());
     put_text(lines.text(), out)
 }
 

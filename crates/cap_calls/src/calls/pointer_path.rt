@@ -4,17 +4,19 @@ ghost use Rattle.cap_calls.specs.PointerCalls.{FindsFew, TellsPointer, call_step
 ghost use Rattle.cap_calls.specs.declared.answer.Answer.{Answer};
 ghost use Rattle.cap_calls.specs.declared.report.CallReport.{CallReport};
 ghost use Rattle.cap_calls.specs.declared.step.CallStep.{CallStep};
-ghost use Rattle.std.specs.Prelude.{◌++◌, ◌≡◌, ◌≤◌, List, drop, length, map, ℕ};
+ghost use Rattle.cap_vet.specs.Limits.{depth_of, words_of};
+ghost use Rattle.std.specs.Prelude.{◌+◌, ◌++◌, ◌≡◌, ◌≤◌, List, drop, length, map, ℕ};
 
 use crate::answer::Answer;
 use crate::calls::get::path_answer;
 use crate::found::Found;
 use crate::input::over_input;
 use crate::limits::CallLimits;
+use crate::one_slice::OneSlice;
 use crate::over::Call;
 use crate::report::CallReport;
 use crate::step::CallStep;
-use cap_frame::ByteView;
+use cap_frame::{ByteView, Segments};
 use cap_trace::path_of_pointer;
 use cap_vet::{Demands, Limits, Step};
 
@@ -76,20 +78,62 @@ impl Call for Tracing {
         _demands: Demands,
         out: &mut [CallStep],
     ) -> Found {
-        // A message of few words may have a pointer of any number.
-        if self.number > limits.words() + 1 {
-            return path_answer(Answer::NoNode);
-        }
-        let mut path = [Step::Ptr(0); 256];
-        let Some(count) = path_of_pointer(view, limits, self.number, &mut path) else {
-            return path_answer(Answer::NoNode);
-        };
-        if count > out.len() {
-            return found_of_steps(Answer::BufferTooSmall, count);
-        }
-        put_steps(&path[..count], out);
-        found_of_steps(Answer::Good, count)
+        traced(view, limits, self.number, out)
     }
+
+    // A search of its own, which looks up neither starts nor sizes of segments.
+    #[inline(never)]
+    fn on_one<'b>(
+        &self,
+        view: &ByteView<'b>,
+        _words: u64,
+        limits: Limits,
+        _demands: Demands,
+        out: &mut [CallStep],
+    ) -> Found {
+        traced(&OneSlice::of(view), limits, self.number, out)
+    }
+}
+
+// What is found of a message, for the word of this number.
+#[inline(always)]
+fn traced<M: Segments>(message: &M, limits: Limits, number: u64, out: &mut [CallStep]) -> Found
+    ensures { let m = M.segments message.now in
+        FindsFew number out.old out.new m (words_of limits) (depth_of limits) result }
+{
+    // A message of few words may have a pointer of any number.
+    if number > limits.words() + 1 {
+        return path_answer(Answer::NoNode);
+    }
+    // Each call initializes its path.
+    if limits.depth() > 64 {
+        return put_path(message, limits, number, &mut [Step::Ptr(0); 256], out);
+    }
+    put_path(message, limits, number, &mut [Step::Ptr(0); 64], out)
+}
+
+// Puts the path to that word to the start of a buffer, if it fits. The path is written to `path` first.
+#[inline(always)]
+fn put_path<M: Segments>(
+    message: &M,
+    limits: Limits,
+    number: u64,
+    path: &mut [Step],
+    out: &mut [CallStep],
+) -> Found
+    requires counted { number ≤ words_of limits + 1 }
+    requires enough { depth_of limits ≤ length path.old }
+    ensures { let m = M.segments message.now in
+        FindsFew number out.old out.new m (words_of limits) (depth_of limits) result }
+{
+    let Some(count) = path_of_pointer(message, limits, number, path) else {
+        return path_answer(Answer::NoNode);
+    };
+    if count > out.len() {
+        return found_of_steps(Answer::BufferTooSmall, count);
+    }
+    put_steps(&path[..count], out);
+    found_of_steps(Answer::Good, count)
 }
 
 // What is found of a path of this many steps.

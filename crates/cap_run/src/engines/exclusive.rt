@@ -5,46 +5,58 @@ ghost use Rattle.cap_run.specs.Engines.{TellsStream};
 ghost use Rattle.cap_run.specs.Vetting.{WantsMarks};
 ghost use Rattle.cap_frame.specs.Limit.{limit_of};
 
-use crate::engines::sifting::{first_overlap, write_objection};
 use crate::engines::stream::Counted;
-use crate::engines::whole::{Teller, after_text, vet_all};
+use crate::engines::whole::{Judge, after_text, judge_all};
 use crate::peek::Peek;
 use crate::settings::{Outcome, Settings};
 use cap_frame::Segments;
-use cap_text::{Cause, Page, RunFault, write_accepted};
-use cap_vet::{Demands, Vetted};
+use cap_text::{Cause, Page, RunFault, write_accepted, write_overlap, write_refused};
+use cap_vet::{Demands, ExclusiveRefusal, Limits, vet_exclusive};
 use cap_words::ByteOut;
 use std::alloc::Global;
 
-/// Writes the numbers of an accepted message's tree if the message uses no word twice. Otherwise it
-/// writes the first pointer that overlaps.
+/// Vets a message under demands, and writes the numbers of its tree if it meets them and uses no word
+/// twice. Otherwise it writes the first reason why not, or the first pointer that overlaps.
 #[derive(Clone, Copy)]
-struct ExclusiveTeller {
+struct ExclusiveVetting {
     alloc: Global,
+    limits: Limits,
+    demands: Demands,
 }
 
-impl Teller for ExclusiveTeller {
-    ghost tells = { λ _. TellsMarked };
+impl Judge for ExclusiveVetting {
+    ghost tells = { λ v. OrFaultIn v.demands TellsMarked v.limits };
 
-    ghost wants = { λ _. WantsMarks };
+    ghost wants = { λ v. WantsIn v.demands WantsMarks v.limits };
 
-    fn tell<M: Segments, O: ByteOut>(
+    fn judge<M: Segments, O: ByteOut>(
         &self,
         page: &mut Page,
         out: &mut O,
         number: u32,
-        vetted: &Vetted<'_, M>,
+        message: &M,
     ) -> Result<Counted, Cause> {
-        match first_overlap(self.alloc, vetted) {
-            Ok(None) => {
-                let written = write_accepted(page, out, number, &vetted.report());
+        match vet_exclusive(self.alloc, message, self.limits, self.demands) {
+            Ok(exclusive) => {
+                let report = exclusive.into_vetted().report();
+                let written = write_accepted(page, out, number, &report);
                 after_text(written, Counted::Accepted)
             }
-            Ok(Some(objection)) => {
-                let written = write_objection(page, out, number, &objection);
+            Err(ExclusiveRefusal::Refused(refusal)) => {
+                let written = write_refused(page, out, number, &refusal);
                 after_text(written, Counted::Refused)
             }
-            Err(cause) => Err(cause),
+            Err(
+                ExclusiveRefusal::Overlap {
+                    segment,
+                    word,
+                    pointers,
+                },
+            ) => {
+                let written = write_overlap(page, out, number, segment, word, pointers);
+                after_text(written, Counted::Refused)
+            }
+            Err(ExclusiveRefusal::Memory) => Err(Cause::Memory),
         }
     }
 }
@@ -83,8 +95,7 @@ pub fn run_vet_exclusive<S: Peek, O: ByteOut>(
 /// `settings.live` says.
 ///
 /// Allocates to hold a message only if it is larger than all before it: eight bytes for each word.
-/// For a message that meets the demands it allocates the marks: one bit for each word, and at most
-/// 64 bits more.
+/// For each message it allocates the marks: one bit for each word, and at most 64 bits more.
 ///
 /// # Errors
 ///
@@ -109,6 +120,10 @@ pub fn run_vet_exclusive_with<S: Peek, O: ByteOut>(
         (OrFaultIn demands TellsMarked s.limits) (WantsIn demands WantsMarks s.limits)
         (limit_of s.size) s.messages source.old source.new out.old out.new result }
 {
-    let teller = ExclusiveTeller { alloc };
-    vet_all(alloc, source, out, settings, demands, teller)
+    let vetting = ExclusiveVetting {
+        alloc,
+        limits: settings.limits,
+        demands,
+    };
+    judge_all(alloc, source, out, settings, vetting)
 }

@@ -1,28 +1,34 @@
 //! The engines that write for each message whether it is accepted, and explain each refusal.
 
+ghost use Rattle.cap_explain.specs.Charges.{ChargeOf};
 ghost use Rattle.cap_explain.specs.Explaining.{explanation, overlap_explanation};
 ghost use Rattle.cap_frame.specs.Limit.{limit_of};
 ghost use Rattle.cap_run.specs.Demanding.{WantsIn, WantsMarksUnder};
-ghost use Rattle.cap_run.specs.Engines.{TellsStream};
+ghost use Rattle.cap_run.specs.Breaking.{ExplainsStream};
 ghost use Rattle.cap_run.specs.Explained.{OrFaultLinesIn, TellsExplainedExclusiveUnder, TellsExplainedUnder, TellsMarkedLines};
+ghost use Rattle.cap_run.specs.Running.{WritesOneOf};
 ghost use Rattle.cap_run.specs.Telling.{WantsNone};
-ghost use Rattle.cap_run.specs.Vetting.{WantsMarks};
+ghost use Rattle.cap_run.specs.Vetting.{TellsAccepted, WantsMarks};
+ghost use Rattle.cap_spec.specs.Tree.{Tree};
+ghost use Rattle.cap_vet.specs.Reports.{IsReport};
+ghost use Rattle.cap_vet.specs.Vettings.{message_of, report_of};
 ghost use Rattle.cap_spec.specs.GreatestLimits.{most_depth};
 ghost use Rattle.cap_spec.specs.Texts.{refused, strict_verdict, vet_text};
 ghost use Rattle.cap_text.specs.Writing.{Writes};
 ghost use Rattle.cap_vet.specs.Limits.{depth_of, words_of};
-ghost use Rattle.std.specs.Prelude.{◌++◌, ◌≡◌, codes};
+ghost use Rattle.std.specs.Prelude.{◌++◌, ◌<◌, ◌^◌, ◌≡◌, List, codes, ℕ};
 
+use crate::engines::explaining::{PlacedJudge, explain_all};
 use crate::engines::passing::write_more;
 use crate::engines::stream::Counted;
 use crate::engines::vet::VetTeller;
-use crate::engines::whole::{Judge, Teller, after_text, judge_all};
+use crate::engines::whole::{Teller, after_text};
 use crate::peek::Peek;
 use crate::settings::{Outcome, Settings};
-use cap_explain::{Explanation, explain, explain_overlap};
+use cap_explain::{Explanation, Numbers, explain, explain_overlap, refusal_charge};
 use cap_frame::Segments;
 use cap_spec::StrictRefusal;
-use cap_text::{Cause, Page, RunFault, write_accepted, write_overlap, write_refused};
+use cap_text::{Cause, ExplainedFault, Page, write_accepted, write_overlap, write_refused};
 use cap_trace::NamedPath;
 use cap_vet::{Demands, ExclusiveRefusal, Limits, Vetted, limits_under, vet_with};
 use cap_words::{ByteOut, OutFault};
@@ -38,24 +44,45 @@ fn greatest_limits() -> Limits
     }
 }
 
-/// Writes the line of a refused message, and the lines that explain the refusal within these limits.
+/// The numbers of a message that is refused within limits, and begins there in the input.
+fn numbers_of<M: Segments>(
+    message: &M,
+    refusal: &StrictRefusal,
+    limits: Limits,
+    start: Option<u64>,
+) -> Numbers
+    ensures words { result.words ≡ words_of limits }
+    ensures depth { result.depth ≡ depth_of limits }
+    ensures charge { ChargeOf (M.segments message.now) (words_of limits) (depth_of limits) refusal.now
+        result.charge }
+    ensures start { result.start ≡ start }
+{
+    Numbers {
+        words: limits.words(),
+        depth: limits.depth(),
+        charge: refusal_charge(message, refusal, limits),
+        start,
+    }
+}
+
+/// Writes the line of a refused message, and the lines that explain the refusal.
 fn write_refusal<M: Segments, O: ByteOut>(
     page: &mut Page,
     out: &mut O,
     number: u32,
     message: &M,
     refusal: &StrictRefusal,
-    limits: Limits,
+    numbers: Numbers,
     path: &NamedPath,
 ) -> Result<(), OutFault>
     ensures { Writes O.ByteOut out.old out.new result
         (vet_text number (strict_verdict refusal.now) ++ explanation path.now
-        (M.segments message.now) refusal.now (words_of limits) (depth_of limits)) }
+        (M.segments message.now) refusal.now numbers) }
 {
     match write_refused(page, out, number, refusal) {
         Ok(()) => {
             let mut lines = Explanation::new();
-            explain(&mut lines, message, refusal, limits, path.steps());
+            explain(&mut lines, message, refusal, numbers, path.steps());
             write_more(out, lines.text())
         }
         Err(fault) => Err(fault),
@@ -69,6 +96,7 @@ fn write_overlap_lines<M: Segments, O: ByteOut>(
     out: &mut O,
     number: u32,
     message: &M,
+    start: Option<u64>,
     segment: u32,
     word: u32,
     pointers: u64,
@@ -76,15 +104,70 @@ fn write_overlap_lines<M: Segments, O: ByteOut>(
 ) -> Result<(), OutFault>
     ensures { Writes O.ByteOut out.old out.new result
         (vet_text number (refused (codes "Overlap") segment word pointers)
-        ++ overlap_explanation path.now (M.segments message.now) segment word) }
+        ++ overlap_explanation path.now (M.segments message.now) start segment word) }
 {
     match write_overlap(page, out, number, segment, word, pointers) {
         Ok(()) => {
             let mut lines = Explanation::new();
-            explain_overlap(&mut lines, message, segment, word, path.steps());
+            explain_overlap(&mut lines, message, start, segment, word, path.steps());
             write_more(out, lines.text())
         }
         Err(fault) => Err(fault),
+    }
+}
+
+/// What an engine that explains writes about an accepted message, before which it knows how many words
+/// of the input are.
+trait PlacedTeller {
+    ghost use Rattle.cap_run.specs.declared.engines.stream.Counted.{Counted};
+
+    // The texts that may be written of a message that is accepted within these limits of words and
+    // levels, by the words of the messages before it and by its number. Each comes with what is
+    // counted then.
+    ghost tells: { Self → ℕ → ℕ → ℕ → ℕ → List (List ℕ) → List ℕ → Counted → Type 0 };
+
+    // The messages that need an allocation, of those that are accepted within these limits.
+    ghost wants: { Self → ℕ → ℕ → List (List ℕ) → Type 0 };
+
+    /// Writes the text of an accepted message. What the page held before isn't written.
+    ///
+    /// # Errors
+    ///
+    /// - [`Cause::Output`]: the output failed. It took a prefix of the text.
+    /// - [`Cause::Memory`]: an allocation failed. The output took nothing.
+    fn tell<M: Segments, O: ByteOut>(
+        &self,
+        page: &mut Page,
+        out: &mut O,
+        before: u64,
+        number: u32,
+        vetted: &Vetted<'_, M>,
+    ) -> Result<Counted, Cause>
+        requires { before < 2 ^ 61 }
+        ensures { (w d : ℕ) (t : Tree) → let m = M.segments (message_of vetted.now) in
+            IsReport m w d (report_of vetted.now) t →
+            WritesOneOf O.ByteOut (tells self.now before w d number m) (wants self.now w d m)
+            out.old out.new result };
+}
+
+/// Writes the numbers of an accepted message's tree.
+#[derive(Clone, Copy)]
+struct AcceptedTeller;
+
+impl PlacedTeller for AcceptedTeller {
+    ghost tells = { λ _ _. TellsAccepted };
+
+    ghost wants = { λ _ _ _. WantsNone };
+
+    fn tell<M: Segments, O: ByteOut>(
+        &self,
+        page: &mut Page,
+        out: &mut O,
+        _before: u64,
+        number: u32,
+        vetted: &Vetted<'_, M>,
+    ) -> Result<Counted, Cause> {
+        VetTeller.tell(page, out, number, vetted)
     }
 }
 
@@ -95,7 +178,7 @@ struct OverlapTeller {
     alloc: Global,
 }
 
-impl Teller for OverlapTeller {
+impl PlacedTeller for OverlapTeller {
     ghost tells = { λ _. TellsMarkedLines };
 
     ghost wants = { λ _. WantsMarks };
@@ -104,6 +187,7 @@ impl Teller for OverlapTeller {
         &self,
         page: &mut Page,
         out: &mut O,
+        before: u64,
         number: u32,
         vetted: &Vetted<'_, M>,
     ) -> Result<Counted, Cause> {
@@ -123,7 +207,15 @@ impl Teller for OverlapTeller {
                 let mut path = NamedPath::new();
                 path.find(message, greatest_limits(), pointers);
                 let written = write_overlap_lines(
-                    page, out, number, message, segment, word, pointers, &path,
+                    page,
+                    out,
+                    number,
+                    message,
+                    Some(8 * before),
+                    segment,
+                    word,
+                    pointers,
+                    &path,
                 );
                 after_text(written, Counted::Refused)
             }
@@ -143,7 +235,7 @@ struct Explaining<T> {
     teller: T,
 }
 
-impl<T: Teller> Judge for Explaining<T> {
+impl<T: PlacedTeller> PlacedJudge for Explaining<T> {
     ghost tells = { λ e. OrFaultLinesIn e.demands (T.tells e.teller) e.limits };
 
     ghost wants = { λ e. WantsIn e.demands (T.wants e.teller) e.limits };
@@ -152,16 +244,18 @@ impl<T: Teller> Judge for Explaining<T> {
         &self,
         page: &mut Page,
         out: &mut O,
+        before: u64,
         number: u32,
         message: &M,
     ) -> Result<Counted, Cause> {
         match vet_with(message, self.limits, self.demands) {
-            Ok(vetted) => self.teller.tell(page, out, number, &vetted),
+            Ok(vetted) => self.teller.tell(page, out, before, number, &vetted),
             Err(refusal) => {
-                let limits = limits_under(message, self.limits, self.demands);
                 let mut path = NamedPath::new();
                 path.find_refused(message, self.limits, &refusal);
-                let written = write_refusal(page, out, number, message, &refusal, limits, &path);
+                let limits = limits_under(message, self.limits, self.demands);
+                let numbers = numbers_of(message, &refusal, limits, Some(8 * before));
+                let written = write_refusal(page, out, number, message, &refusal, numbers, &path);
                 after_text(written, Counted::Refused)
             }
         }
@@ -175,24 +269,24 @@ impl<T: Teller> Judge for Explaining<T> {
 /// # Errors
 ///
 /// Those of [`run_vet_with`](crate::run_vet_with). A message's text is its line and the lines that
-/// explain it.
+/// explain it. The error has what is known of a message that can't be read.
 pub fn run_explain<S: Peek, O: ByteOut>(
     alloc: Global,
     source: &mut S,
     out: &mut O,
     settings: &Settings,
     demands: Demands,
-) -> Result<Outcome, RunFault>
-    ensures { let s = settings.now in TellsStream S.WordSource O.ByteOut
+) -> Result<Outcome, ExplainedFault>
+    ensures { let s = settings.now in ExplainsStream S.WordSource O.ByteOut
         (TellsExplainedUnder demands (words_of s.limits) (depth_of s.limits)) WantsNone
         (limit_of s.size) s.messages source.old source.new out.old out.new result }
 {
     let explaining = Explaining {
         limits: settings.limits,
         demands,
-        teller: VetTeller,
+        teller: AcceptedTeller,
     };
-    judge_all(alloc, source, out, settings, explaining)
+    explain_all(alloc, source, out, settings, explaining)
 }
 
 /// Does what [`run_vet_exclusive_with`](crate::run_vet_exclusive_with) does, and explains each
@@ -201,15 +295,15 @@ pub fn run_explain<S: Peek, O: ByteOut>(
 /// # Errors
 ///
 /// Those of [`run_vet_exclusive_with`](crate::run_vet_exclusive_with). A message's text is its line
-/// and the lines that explain it.
+/// and the lines that explain it. The error has what is known of a message that can't be read.
 pub fn run_explain_exclusive<S: Peek, O: ByteOut>(
     alloc: Global,
     source: &mut S,
     out: &mut O,
     settings: &Settings,
     demands: Demands,
-) -> Result<Outcome, RunFault>
-    ensures { let s = settings.now in TellsStream S.WordSource O.ByteOut
+) -> Result<Outcome, ExplainedFault>
+    ensures { let s = settings.now in ExplainsStream S.WordSource O.ByteOut
         (TellsExplainedExclusiveUnder demands (words_of s.limits) (depth_of s.limits))
         (WantsMarksUnder demands (words_of s.limits) (depth_of s.limits))
         (limit_of s.size) s.messages source.old source.new out.old out.new result }
@@ -219,5 +313,5 @@ pub fn run_explain_exclusive<S: Peek, O: ByteOut>(
         demands,
         teller: OverlapTeller { alloc },
     };
-    judge_all(alloc, source, out, settings, explaining)
+    explain_all(alloc, source, out, settings, explaining)
 }

@@ -138,8 +138,8 @@ fn sift_each<S: Peek, O: ByteOut, E: ByteOut>(
 /// fails.
 ///
 /// Allocates to hold a message only if it is larger than all before it: eight bytes for each word.
-/// With `form.exclusive` it allocates the marks for a message that meets the demands: one bit for
-/// each word, and at most 64 bits more.
+/// With `form.exclusive` it allocates the marks for each message: one bit for each word, and at most
+/// 64 bits more.
 ///
 /// # Errors
 ///

@@ -3,13 +3,10 @@
 ghost use Rattle.cap_run.specs.Filtering.{Logged, frame_in};
 ghost use Rattle.cap_run.specs.Sieves.{SiftsOne, SieveTells, SieveWants};
 ghost use Rattle.cap_run.specs.Sifting.{FindsObjection, objection_text};
-ghost use Rattle.cap_run.specs.Demanding.{TellsMarked};
+ghost use Rattle.cap_run.specs.Demanding.{OrFaultIn, TellsMarked, WantsIn};
 ghost use Rattle.cap_run.specs.Running.{Appended};
 ghost use Rattle.cap_run.specs.Vetting.{WantsMarks};
-ghost use Rattle.cap_spec.specs.Tree.{Tree};
 ghost use Rattle.cap_text.specs.Writing.{Stopped, Writes};
-ghost use Rattle.cap_vet.specs.Reports.{IsReport};
-ghost use Rattle.cap_vet.specs.Vettings.{message_of, report_of};
 ghost use Rattle.std.specs.Prelude.{◌++◌, ◌≡◌, [], IfErr, IsTrue, List, OnOk, false, ℕ};
 
 use crate::engines::passing::{FrameBuffers, write_frame, write_packed_frame};
@@ -18,7 +15,7 @@ use crate::settings::FilterForm;
 use cap_frame::{ByteView, Segments};
 use cap_spec::StrictRefusal;
 use cap_text::{Cause, Page, write_overlap, write_refused};
-use cap_vet::{Demands, ExclusiveRefusal, Limits, Vetted, vet_with};
+use cap_vet::{Demands, ExclusiveRefusal, Limits, vet_exclusive, vet_with};
 use cap_words::{ByteOut, OutFault};
 use std::alloc::Global;
 
@@ -33,38 +30,6 @@ pub(crate) enum Objection {
         word: u32,
         pointers: u64,
     },
-}
-
-/// The first pointer that overlaps in a message that meets the demands. `None` if there is none.
-///
-/// # Errors
-///
-/// [`Cause::Memory`]: the allocation of the marks failed.
-pub(crate) fn first_overlap<M: Segments>(
-    alloc: Global,
-    vetted: &Vetted<'_, M>,
-) -> Result<Option<Objection>, Cause>
-    ensures { (w d : ℕ) (t : Tree) → let m = M.segments (message_of vetted.now) in
-        IsReport m w d (report_of vetted.now) t →
-        FindsObjection (TellsMarked w d) (WantsMarks w d) m result }
-{
-    match vetted.into_exclusive(alloc) {
-        Ok(_) => Ok(None),
-        Err(
-            ExclusiveRefusal::Overlap {
-                segment,
-                word,
-                pointers,
-            },
-        ) => Ok(Some(Objection::Overlap {
-            segment,
-            word,
-            pointers,
-        })),
-        Err(ExclusiveRefusal::Memory) => Err(Cause::Memory),
-        // The message is accepted.
-        Err(ExclusiveRefusal::Refused(_)) => unreachable!(),
-    }
 }
 
 /// Writes the line of a refused message.
@@ -214,14 +179,39 @@ impl Sieve {
         ensures { let v = self.now in
             FindsObjection (SieveTells v) (SieveWants v) (M.segments message.now) result }
     {
+        if self.form.exclusive {
+            return self.judge_exclusively(message);
+        }
         match vet_with(message, self.limits, self.demands) {
-            Ok(vetted) => {
-                if self.form.exclusive {
-                    return first_overlap(self.alloc, &vetted);
-                }
-                Ok(None)
-            }
+            Ok(_) => Ok(None),
             Err(refusal) => Ok(Some(Objection::Unmet(refusal))),
+        }
+    }
+
+    /// The same of a message that may use no word twice.
+    ///
+    /// # Errors
+    ///
+    /// [`Cause::Memory`]: the allocation of the marks failed.
+    fn judge_exclusively<M: Segments>(&self, message: &M) -> Result<Option<Objection>, Cause>
+        ensures { let v = self.now in FindsObjection (OrFaultIn v.demands TellsMarked v.limits)
+            (WantsIn v.demands WantsMarks v.limits) (M.segments message.now) result }
+    {
+        match vet_exclusive(self.alloc, message, self.limits, self.demands) {
+            Ok(_) => Ok(None),
+            Err(ExclusiveRefusal::Refused(refusal)) => Ok(Some(Objection::Unmet(refusal))),
+            Err(
+                ExclusiveRefusal::Overlap {
+                    segment,
+                    word,
+                    pointers,
+                },
+            ) => Ok(Some(Objection::Overlap {
+                segment,
+                word,
+                pointers,
+            })),
+            Err(ExclusiveRefusal::Memory) => Err(Cause::Memory),
         }
     }
 

@@ -1,9 +1,9 @@
 -- Words and their plain spelling: each list of bytes splits into words and less than a word in one way.
 use Rattle.cap_spec.specs.Plain.{PlainSplits}
 use Rattle.cap_spec.proofs.Bytes.WordBytes.{bytes_back, bytes_below, word_back}
-use Rattle.cap_spec.proofs.Prelude.{List, [], ap, append-nil, arith, drop, drop_at, false, length, refl, subst, suc}
+use Rattle.cap_spec.proofs.Prelude.{List, [], ap, append-nil, arith, drop, drop_at, length, refl, subst, suc}
 use Rattle.cap_spec.proofs.Prelude.{sym, true, ℕ, ◌*◌, ◌++◌, ◌+◌, ◌/◌, ◌<◌, ◌↔◌, ◌∙◌, ◌∷◌, ◌≡◌, ◌≢◌, AllByRecursion}
-use Rattle.cap_spec.proofs.Prelude.{little_number, plain_is_cut, plain_text, plain_words, word_bytes, IsWord}
+use Rattle.cap_spec.proofs.Prelude.{little_number, plain_is_cut, plain_text, plain_words, word_bytes, IsWord, rules}
 
 -- eight bytes a word
 pub length_plain : (ws : List ℕ) → length (plain_text ws) ≡ 8 * length ws
@@ -26,10 +26,7 @@ words_exact (a ∷ b ∷ c ∷ d ∷ e ∷ f ∷ g ∷ h ∷ rest) = let t = wor
 pub plain_back : (ws rest : List ℕ) → AllByRecursion IsWord ws
     → plain_words (plain_text ws ++ rest) ≡ ws ++ plain_words rest
 plain_back [] rest a = refl
-plain_back (x ∷ ws) rest a =
-    let h : little_number 8 (word_bytes x) ≡ x = word_back x [] a.0 in
-    let t : plain_words (plain_text ws ++ rest) ≡ ws ++ plain_words rest = plain_back ws rest a.1 in
-    ap (λ k. k ∷ plain_words (plain_text ws ++ rest)) h ∙ ap (λ k. x ∷ k) t
+plain_back (x ∷ ws) rest a = search (rules, word_back, plain_back ws rest a.1)
 
 -- and is cut where what stands behind it is
 pub plain_cut_back : (ws rest : List ℕ) → plain_is_cut (plain_text ws ++ rest) ≡ plain_is_cut rest
@@ -38,26 +35,11 @@ plain_cut_back (x ∷ ws) rest = plain_cut_back ws rest
 
 -- less than eight bytes begin with no word
 pub plain_short : (rest : List ℕ) → length rest < 8 → plain_words rest ≡ []
-plain_short [] l = refl
-plain_short (a ∷ []) l = refl
-plain_short (a ∷ b ∷ []) l = refl
-plain_short (a ∷ b ∷ c ∷ []) l = refl
-plain_short (a ∷ b ∷ c ∷ d ∷ []) l = refl
-plain_short (a ∷ b ∷ c ∷ d ∷ e ∷ []) l = refl
-plain_short (a ∷ b ∷ c ∷ d ∷ e ∷ f ∷ []) l = refl
-plain_short (a ∷ b ∷ c ∷ d ∷ e ∷ f ∷ g ∷ []) l = refl
-plain_short (a ∷ b ∷ c ∷ d ∷ e ∷ f ∷ g ∷ h ∷ rest) l = absurd (omega arith)
+plain_short rest l = search rules
 
 -- and are cut where there are some
 pub plain_cut_short : (x : ℕ) (rest : List ℕ) → length rest < 7 → plain_is_cut (x ∷ rest) ≡ true
-plain_cut_short a [] l = refl
-plain_cut_short a (b ∷ []) l = refl
-plain_cut_short a (b ∷ c ∷ []) l = refl
-plain_cut_short a (b ∷ c ∷ d ∷ []) l = refl
-plain_cut_short a (b ∷ c ∷ d ∷ e ∷ []) l = refl
-plain_cut_short a (b ∷ c ∷ d ∷ e ∷ f ∷ []) l = refl
-plain_cut_short a (b ∷ c ∷ d ∷ e ∷ f ∷ g ∷ []) l = refl
-plain_cut_short a (b ∷ c ∷ d ∷ e ∷ f ∷ g ∷ h ∷ rest) l = absurd (omega arith)
+plain_cut_short a rest l = search rules
 
 -- eight bytes make a word
 pub eight_word : (a b c d e f g h : ℕ) → AllByRecursion (λ x. x < 256) (a ∷ b ∷ c ∷ d ∷ e ∷ f ∷ g ∷ h ∷ [])
@@ -113,34 +95,20 @@ plain_split (a ∷ b ∷ c ∷ d ∷ e ∷ f ∷ g ∷ h ∷ rest) all =
 
 -- bytes that split into words and less than a word begin with just these words
 pub plain_words_of : (bytes words rest : List ℕ) → PlainSplits bytes words rest → words ≡ plain_words bytes
-plain_words_of bytes words rest s =
-    let t = plain_back words rest s.are_words in
-    let u = plain_short rest s.partial in
-    sym (ap plain_words s.whole ∙ (t ∙ (ap (λ k. words ++ k) u ∙ append-nil words)))
+plain_words_of bytes words rest s = search (rules, plain_back, plain_short, append-nil)
 
 -- and leave just this
 pub plain_rest_of : (bytes words rest : List ℕ) → PlainSplits bytes words rest
     → rest ≡ drop (8 * length (plain_words bytes)) bytes
-plain_rest_of bytes words rest s =
-    let t = drop_at (plain_text words) rest (8 * length words) (length_plain words) in
-    let u = plain_words_of bytes words rest s in
-    sym (ap (λ k. drop (8 * length k) bytes) (sym u) ∙ (ap (λ k. drop (8 * length words) k) s.whole ∙ t))
+plain_rest_of bytes words rest s = search (rules, drop_at, length_plain, plain_words_of)
 
 -- they end inside a word where something is left
 pub plain_cut_of : (bytes words rest : List ℕ) → PlainSplits bytes words rest
     → (plain_is_cut bytes ≡ true) ↔ (rest ≢ [])
-plain_cut_of bytes words [] s =
-    let t : plain_is_cut bytes ≡ false = ap plain_is_cut s.whole ∙ plain_cut_back words [] in
-    ((λ e. absurd (let h : true ≡ false = sym e ∙ t in cc)), (λ n. absurd (n refl)))
-plain_cut_of bytes words (x ∷ rest) s =
-    let p = s.partial in
-    let t : plain_is_cut bytes ≡ true = ap plain_is_cut s.whole
-    ∙ (plain_cut_back words (x ∷ rest) ∙ plain_cut_short x rest (omega arith)) in
-    ((λ e h. cc), (λ n. t))
+plain_cut_of bytes words [] s = search (rules, plain_cut_back)
+plain_cut_of bytes words (x ∷ rest) s = search (rules, plain_cut_back, plain_cut_short)
 
 -- these words and this rest are such a split
 pub plain_split_by : (bytes words rest : List ℕ) → AllByRecursion (λ b. b < 256) bytes → words ≡ plain_words bytes
     → rest ≡ drop (8 * length (plain_words bytes)) bytes → PlainSplits bytes words rest
-plain_split_by bytes words rest all w r =
-    subst (λ k. PlainSplits bytes k rest) (sym w)
-    (subst (λ k. PlainSplits bytes (plain_words bytes) k) (sym r) (plain_split bytes all))
+plain_split_by bytes words rest all w r = search (rules, plain_split)

@@ -4,7 +4,7 @@ use Rattle.std.specs.Int.{bytes_low_first}
 use Rattle.cap_spec.proofs.Prelude.{List, [], ap, arith, flat_map, length, refl, suc, sym, zero, ℕ, ◌%◌, ◌*◌, ◌++◌, ◌+◌}
 use Rattle.cap_spec.proofs.Prelude.{◌/◌, ◌<◌, ◌^◌, ◌∙◌, ◌∷◌, ◌≡◌, pow-succ', byte_at, AllByRecursion, little_bytes}
 use Rattle.cap_spec.proofs.Prelude.{little_number, little_from-cons, little_number-reads_back, halves, word_bytes}
-use Rattle.cap_spec.proofs.Prelude.{IsWord}
+use Rattle.cap_spec.proofs.Prelude.{IsWord, rules}
 
 -- with one byte more below, each byte stands one place further up
 byte_at_up : (i a y : ℕ) → a < 256 → byte_at (suc i) (a + 256 * y) ≡ byte_at i y
@@ -18,37 +18,19 @@ byte_at_up (suc i) a y h =
 -- so do all of them
 bytes_up : (i k a y : ℕ) → a < 256 → bytes_low_first (suc i) k (a + 256 * y) ≡ bytes_low_first i k y
 bytes_up i zero a y h = refl
-bytes_up i (suc k) a y h =
-    let p : byte_at (suc i) (a + 256 * y) ≡ byte_at i y = byte_at_up i a y h in
-    let q : bytes_low_first (suc (suc i)) k (a + 256 * y) ≡ bytes_low_first (suc i) k y = bytes_up (suc i) k a y h in
-    ap (λ b. b ∷ bytes_low_first (suc (suc i)) k (a + 256 * y)) p ∙ ap (λ bs. byte_at i y ∷ bs) q
+bytes_up i (suc k) a y h = search (rules, byte_at_up, bytes_low_first, bytes_up (suc i) k a y h)
 
 -- the bytes of the number that bytes make are these bytes
 pub bytes_back : (bytes : List ℕ) → AllByRecursion (λ b. b < 256) bytes
     → little_bytes (length bytes) (little_number (length bytes) bytes) ≡ bytes
 bytes_back [] a = refl
-bytes_back (b ∷ bytes) a =
-    let h : b < 256 = a.0 in
-    let n = length bytes in
-    let y = little_number n bytes in
-    let e : little_number (suc n) (b ∷ bytes) ≡ b + 256 * y = ap (λ r. b + 256 * r) (little_from-cons 0 n b bytes) in
-    let low : (b + 256 * y) % 256 ≡ b = omega arith in
-    let u : bytes_low_first 1 n (b + 256 * y) ≡ little_bytes n y = bytes_up 0 n b y h in
-    let t : little_bytes n y ≡ bytes = bytes_back bytes a.1 in
-    ap (λ x. little_bytes (suc n) x) e ∙ (ap (λ k. k ∷ bytes_low_first 1 n (b + 256 * y)) low
-    ∙ ap (λ bs. b ∷ bs) (u ∙ t))
+bytes_back (b ∷ bytes) a = search (rules, little_from-cons, bytes_low_first, bytes_up, bytes_back bytes a.1)
 
 -- bytes make a number that is so large at most
 pub bytes_below : (bytes : List ℕ) → AllByRecursion (λ b. b < 256) bytes
     → little_number (length bytes) bytes < 256 ^ length bytes
 bytes_below [] a = omega arith
-bytes_below (b ∷ bytes) a =
-    let h : b < 256 = a.0 in
-    let n = length bytes in
-    let e = little_from-cons 0 n b bytes in
-    let t = bytes_below bytes a.1 in
-    let p = pow-succ' 256 n in
-    omega arith
+bytes_below (b ∷ bytes) a = search (rules, little_from-cons, pow-succ', bytes_below bytes a.1)
 
 -- the bytes of a number are below 256
 pub bytes_fit : (i k x : ℕ) → AllByRecursion (λ b. b < 256) (bytes_low_first i k x)
@@ -66,13 +48,4 @@ four_bytes x = little_bytes 4 x
 
 -- a word's bytes are those of its low half and then those of its high half
 pub word_halves : (x : ℕ) → word_bytes x ≡ flat_map four_bytes (halves x)
-word_halves x =
-    let a : byte_at 0 x ≡ byte_at 0 (x % 2 ^ 32) = omega arith in
-    let b : byte_at 1 x ≡ byte_at 1 (x % 2 ^ 32) = omega arith in
-    let c : byte_at 2 x ≡ byte_at 2 (x % 2 ^ 32) = omega arith in
-    let d : byte_at 3 x ≡ byte_at 3 (x % 2 ^ 32) = omega arith in
-    let e : byte_at 4 x ≡ byte_at 0 (x / 2 ^ 32) = omega arith in
-    let f : byte_at 5 x ≡ byte_at 1 (x / 2 ^ 32) = omega arith in
-    let g : byte_at 6 x ≡ byte_at 2 (x / 2 ^ 32) = omega arith in
-    let h : byte_at 7 x ≡ byte_at 3 (x / 2 ^ 32) = omega arith in
-    cc
+word_halves x = search rules

@@ -1,16 +1,20 @@
 -- The layout of a tree denotes that tree.
 use Rattle.cap_spec.specs.Denoting.{places}
+use Rattle.cap_spec.specs.ObjectShapes.{is_pointers, is_scalars, is_struct, is_structs}
 use Rattle.cap_spec.specs.Tree.{none}
 use Rattle.cap_spec.proofs.Canonical.Placing.{stand_inside, stand_read, stand_word}
 use Rattle.cap_spec.proofs.Canonical.PointerFields.{ListFields, StructFields, start_after, start_before, struct_fields}
-use Rattle.cap_spec.proofs.Canonical.TreeMeasures.{extent_scalars, extra_scalars, extra_structs, idle}
+use Rattle.cap_spec.proofs.Canonical.TreeMeasures.{idle, scalars_extra, structs_extra}
+use Rattle.cap_spec.proofs.Pointers.Shapes.{pointers_extra, pointers_levels, pointers_words, scalars_levels, scalars_words}
+use Rattle.cap_spec.proofs.Pointers.Shapes.{struct_extra, struct_levels, struct_words, structs_levels, structs_words}
 use Rattle.cap_spec.proofs.Prelude.{List, [], ap, ap₂, arith, if◌then◌else◌, length, ne_eqb, refl, subst, sym, ℕ, ◌*◌}
 use Rattle.cap_spec.proofs.Prelude.{◌+◌, ◌-◌, ◌<◌, ◌==◌, ◌^◌, ◌∙◌, ◌∷◌, ◌≡◌, ◌≢◌, ◌≤◌, slice_get_within, AllByRecursion}
-use Rattle.cap_spec.proofs.Prelude.{pointer_to, struct_word, AreElements, DenoteEach, Denotes, Finds, element_levels}
-use Rattle.cap_spec.proofs.Prelude.{values_of, words_from, IsComposite, TagFits, extra, near, HasWord, HasWordsAt}
-use Rattle.cap_spec.proofs.Prelude.{data_size, element_bits, extent, kind, list_size, list_words, middle, pointer_size}
-use Rattle.cap_spec.proofs.Prelude.{scalar_words, Trees, more, pointers, scalars, struct, structs, tree_count}
-use Rattle.cap_spec.proofs.Trees.Charges.{extent_pointers, extent_struct, extent_structs}
+use Rattle.cap_spec.proofs.Prelude.{pointer_to, struct_word, AreElements, DenoteEach, Denotes, Finds, FindsKind}
+use Rattle.cap_spec.proofs.Prelude.{element_levels, values_of, IsComposite, TagFits, extra, near, HasWord, HasKind}
+use Rattle.cap_spec.proofs.Prelude.{HasWordsAt, data_size, element_bits, extent, kind, list_size, list_words, middle}
+use Rattle.cap_spec.proofs.Prelude.{pointer_size, scalar_words, Trees, more, pointers, scalars, struct, structs}
+use Rattle.cap_spec.proofs.Prelude.{tree_count, Pointers, Scalars, Struct, Structs}
+use Rattle.cap_spec.proofs.Trees.Charges.{extent_struct}
 use Rattle.cap_spec.proofs.Trees.ReadingBack.{length-scalar_words, scalars_read}
 
 -- three and two
@@ -30,7 +34,7 @@ struct_finds seg a b offset q d p h f some e lt le =
     record {
       leads = near q h (λ z. absurd (omega (arith, z, f.kind)))
           (omega (arith, f.kind), some, refl, start_after q a b offset f.middle lt e, refl) refl;
-      sits = record {
+      inside = record {
         exists = omega arith;
         inside = omega (arith, x, le);
         composite = λ z. absurd (omega (arith, z.0, f.kind));
@@ -51,7 +55,7 @@ list_finds seg a b offset q c n h f e lt le tagged =
         start_after q a b offset f.middle lt e,
         refl,
       ) refl;
-      sits = record { exists = omega arith; inside = le; composite = tagged };
+      inside = record { exists = omega arith; inside = le; composite = tagged };
     }
   where
     zero_kind : (q : ℕ) → q ≡ 0 → kind q ≡ 1 → ⊥
@@ -65,32 +69,33 @@ struct_laid : (seg ws : List ℕ) (ts : Trees) (a b offset q inner deep : ℕ) �
     → DenoteEach (seg ∷ []) (places 0 (b + length ws) (tree_count ts)) ts inner deep
     → Denotes (seg ∷ []) 0 a (struct ws ts) (length ws + tree_count ts + inner) (1 + deep)
 struct_laid seg ws ts a b offset q inner deep h f some e lt le st each =
-    let x : extent q ≡ length ws + tree_count ts = extent_struct q f.kind
-    ∙ ap₂ (λ i j. i + j) f.data_words f.pointers in
-    let y : ws ≡ words_from (seg ∷ []) 0 b (data_size q) = sym (stand_read seg b (data_size q) ws f.data_words st) in (
+    let object : FindsKind (seg ∷ []) 0 a (Struct (length ws) (tree_count ts)) 0 0 b q 0 =
+    record {
+      finds = struct_finds seg a b offset q (length ws) (tree_count ts) h f
+          (λ z. absurd (has_words q (length ws) (tree_count ts) f.data_words f.pointers z some)) e lt le;
+      tagged = λ z. absurd (omega (arith, z.0, f.kind));
+      shape = is_struct f.kind (ap₂ Struct (sym f.data_words) (sym f.pointers));
+    } in (
       0,
       0,
       b,
       q,
+      0,
+      length ws,
+      tree_count ts,
       inner,
       deep,
       record {
-        finds = struct_finds seg a b offset q (length ws) (tree_count ts) h f
-            (λ z. absurd (has_words q (length ws) (tree_count ts) f.data_words f.pointers z some)) e lt le;
-        kind = f.kind;
-        data_words = y;
-        charge = omega (arith, x);
-        depth = refl;
+        object = object;
+        charge = omega (arith, struct_words object.shape, struct_extra object.shape);
+        depth = omega (arith, struct_levels object.shape);
       },
-      moved (data_size q) (length ws) (pointer_size q) (tree_count ts) f.data_words f.pointers each,
+      sym (stand_read seg b (length ws) ws refl st),
+      each,
     )
   where
     has_words : (q d p : ℕ) → data_size q ≡ d → pointer_size q ≡ p → q ≡ 0 → 0 < d + p → ⊥
     has_words q d p e g z some = omega arith
-
-    moved : (d d' p p' : ℕ) → d ≡ d' → p ≡ p' → DenoteEach (seg ∷ []) (places 0 (b + d') p') ts inner deep
-        → DenoteEach (seg ∷ []) (places 0 (b + d) p) ts inner deep
-    moved d d' p p' e g each = rw (e, g) each
 
 -- a struct without words
 empty_laid : (seg : List ℕ) (a : ℕ) → HasWord (seg ∷ []) 0 a (2 ^ 32 - 4) → Denotes (seg ∷ []) 0 a (struct [] none) 0 1
@@ -102,21 +107,27 @@ empty_laid seg a h =
       2 ^ 32 - 4,
       0,
       0,
+      0,
+      0,
+      0,
       record {
-        finds = record {
-          leads = near (2 ^ 32 - 4) h (λ z. absurd (omega (arith, z)))
-              (omega arith, (λ z. absurd (omega (arith, z))), refl, start_before a, refl) refl;
-          sits = record {
-            exists = omega arith;
-            inside = omega (arith, l);
-            composite = λ z. absurd (omega (arith, z.0));
+        object = record {
+          finds = record {
+            leads = near (2 ^ 32 - 4) h (λ z. absurd (omega (arith, z)))
+                (omega arith, (λ z. absurd (omega (arith, z))), refl, start_before a, refl) refl;
+            inside = record {
+              exists = omega arith;
+              inside = omega (arith, l);
+              composite = λ z. absurd (omega (arith, z.0));
+            };
           };
+          tagged = λ z. absurd (omega (arith, z.0));
+          shape = is_struct refl refl;
         };
-        kind = refl;
-        data_words = sym (stand_read seg a 0 [] refl (omega (arith, l)));
         charge = refl;
         depth = refl;
       },
+      sym (stand_read seg a 0 [] refl (omega (arith, l))),
       (refl, refl, refl),
     )
 
@@ -161,32 +172,34 @@ pub scalars_laid : (seg : List ℕ) (e : ℕ) (vs : List ℕ) (a b offset q : �
     → HasWordsAt seg b (scalar_words e vs)
     → Denotes (seg ∷ []) 0 a (scalars e vs) (list_words e (length vs) + idle e (length vs)) 1
 scalars_laid seg e vs a b offset q h f lt fit i lo st =
-    let x : extent q ≡ list_words e (length vs) = extent_scalars q e f.kind (sym f.code) lt
-    ∙ ap (list_words e) f.size in
-    let y : extra q 0 ≡ idle e (length vs) = extra_scalars q e f.kind (sym f.code) lt ∙ ap (idle e) f.size in
+    let x : HasKind q 0 (Scalars e (length vs)) =
+    is_scalars f.kind (omega (arith, f.code, lt)) (ap₂ Scalars (sym f.code) (sym f.size)) in
+    let y : extent q ≡ list_words e (length vs) = scalars_words x in
     let l : b + list_words e (length vs) ≤ length seg =
     (let r = stand_inside seg b (scalar_words e vs) st in omega (arith, r, length-scalar_words e vs)) in
-    let v : vs ≡ values_of (seg ∷ []) 0 b e (list_size q) =
-    sym (ap (values_of (seg ∷ []) 0 b e) f.size
-    ∙ scalars_read seg b e vs lt fit (stand_word seg b (scalar_words e vs) st)) in (
+    let v : vs ≡ values_of (seg ∷ []) 0 b e (length vs) =
+    sym (scalars_read seg b e vs lt fit (stand_word seg b (scalar_words e vs) st)) in (
       0,
       0,
       b,
       q,
+      0,
+      length vs,
       record {
-        finds = list_finds seg a b offset q e (length vs) h f i lo
-            (within b (extent q) (list_words e (length vs)) (length seg) x l)
-            (λ z. absurd (omega (arith, z.1, f.code, lt)));
-        kind = f.kind;
-        code = sym f.code;
-        scalar = lt;
-        elements = v;
-        charge = sums (extent q) (extra q 0) (list_words e (length vs)) (idle e (length vs)) x y;
-        depth = refl;
+        object = record {
+          finds = list_finds seg a b offset q e (length vs) h f i lo
+              (within b (extent q) (list_words e (length vs)) (length seg) y l)
+              (λ z. absurd (omega (arith, z.1, f.code, lt)));
+          tagged = λ z. absurd (omega (arith, z.1, f.code, lt));
+          shape = x;
+        };
+        charge = sums (extent q) (extra q 0) (list_words e (length vs)) (idle e (length vs)) y (scalars_extra x);
+        depth = omega (arith, scalars_levels x);
       },
+      v,
     )
   where
-    sums : (a b a' b' : ℕ) → a ≡ a' → b ≡ b' → a' + b' ≡ 0 + a + b
+    sums : (a b a' b' : ℕ) → a ≡ a' → b ≡ b' → a' + b' ≡ 0 + a + b + 0
     sums a b a' b' e g = omega arith
 
 -- a list of pointers
@@ -196,27 +209,28 @@ pub pointers_laid : (seg : List ℕ) (ts : Trees) (a b offset q inner deep : ℕ
     → DenoteEach (seg ∷ []) (places 0 b (tree_count ts)) ts inner deep
     → Denotes (seg ∷ []) 0 a (pointers ts) (tree_count ts + inner) (1 + deep)
 pointers_laid seg ts a b offset q inner deep h f i lo le each =
-    let x : extent q ≡ tree_count ts = extent_pointers q f.kind f.code ∙ f.size in (
+    let x : HasKind q 0 (Pointers (tree_count ts)) = is_pointers f.kind f.code (ap Pointers (sym f.size)) in (
       0,
       0,
       b,
       q,
+      0,
+      tree_count ts,
       inner,
       deep,
       record {
-        finds = list_finds seg a b offset q 6 (tree_count ts) h f i lo
-            (within b (extent q) (tree_count ts) (length seg) x le) (λ z. absurd (omega (arith, z.1, f.code)));
-        kind = f.kind;
-        code = f.code;
-        charge = omega (arith, x);
-        depth = refl;
+        object = record {
+          finds = list_finds seg a b offset q 6 (tree_count ts) h f i lo
+              (within b (extent q) (tree_count ts) (length seg) (pointers_words x) le)
+              (λ z. absurd (omega (arith, z.1, f.code)));
+          tagged = λ z. absurd (omega (arith, z.1, f.code));
+          shape = x;
+        };
+        charge = omega (arith, pointers_words x, pointers_extra x);
+        depth = omega (arith, pointers_levels x);
       },
-      moved (list_size q) (tree_count ts) f.size each,
+      each,
     )
-  where
-    moved : (n n' : ℕ) → n ≡ n' → DenoteEach (seg ∷ []) (places 0 b n') ts inner deep
-        → DenoteEach (seg ∷ []) (places 0 b n) ts inner deep
-    moved n n' e each = rw e each
 
 -- a list of structs
 pub structs_laid : (seg : List ℕ) (d p n : ℕ) (es : Trees) (a b offset q tag inner deep : ℕ) → HasWord (seg ∷ []) 0 a q
@@ -226,9 +240,9 @@ pub structs_laid : (seg : List ℕ) (d p n : ℕ) (es : Trees) (a b offset q tag
     → AreElements (seg ∷ []) 0 (b + 1) d p n es inner deep
     → Denotes (seg ∷ []) 0 a (structs d p es) (1 + n * (d + p) + idle (d + p) n + inner) (1 + element_levels n + deep)
 structs_laid seg d p n es a b offset q tag inner deep h f ht g i lo le each =
-    let x : extent q ≡ 1 + n * (d + p) = extent_structs q f.kind f.code ∙ ap (λ z. 1 + z) f.size in
-    let y : extra q tag ≡ idle (d + p) n = extra_structs q tag f.kind f.code
-    ∙ ap₂ idle (ap₂ (λ i j. i + j) g.data_words g.pointers) g.middle in
+    let k : HasKind q tag (Structs n d p) =
+    is_structs f.kind f.code (rw (g.middle, g.data_words, g.pointers) refl) in
+    let x : extent q ≡ 1 + n * (d + p) = structs_words k ∙ ap (λ z. 1 + z) f.size in
     let fit : middle tag * (data_size tag + pointer_size tag) ≡ list_size q =
     ap₂ (λ i j. i * j) g.middle (ap₂ (λ i j. i + j) g.data_words g.pointers) ∙ sym f.size in (
       0,
@@ -236,21 +250,21 @@ structs_laid seg d p n es a b offset q tag inner deep h f ht g i lo le each =
       b,
       q,
       tag,
+      n,
       inner,
       deep,
       record {
-        finds = list_finds seg a b offset q 7 (n * (d + p)) h f i lo
-            (within b (extent q) (1 + n * (d + p)) (length seg) x (inside b (n * (d + p)) (length seg) le))
-            (λ z. (tag, ht, (g.kind, at_most (middle tag * (data_size tag + pointer_size tag)) (list_size q) fit)));
-        kind = f.kind;
-        code = f.code;
-        has_tag = ht;
-        data_sizes = sym g.data_words;
-        pointer_sizes = sym g.pointers;
-        charge = sums (extent q) (extra q tag) (n * (d + p)) (idle (d + p) n) inner x y;
-        depth = ap (λ z. 1 + element_levels z + deep) (sym g.middle);
+        object = record {
+          finds = list_finds seg a b offset q 7 (n * (d + p)) h f i lo
+              (within b (extent q) (1 + n * (d + p)) (length seg) x (inside b (n * (d + p)) (length seg) le))
+              (λ z. (tag, ht, (g.kind, at_most (middle tag * (data_size tag + pointer_size tag)) (list_size q) fit)));
+          tagged = λ z. ht;
+          shape = k;
+        };
+        charge = sums (extent q) (extra q tag) (n * (d + p)) (idle (d + p) n) inner x (structs_extra k);
+        depth = omega (arith, structs_levels k);
       },
-      moved (middle tag) n g.middle each,
+      each,
     )
   where
     inside : (b n l : ℕ) → b + 1 + n ≤ l → b + (1 + n) ≤ l
@@ -261,7 +275,3 @@ structs_laid seg d p n es a b offset q tag inner deep h f ht g i lo le each =
 
     sums : (x y a b i : ℕ) → x ≡ 1 + a → y ≡ b → 1 + a + b + i ≡ 0 + x + y + i
     sums x y a b i e g = omega arith
-
-    moved : (k k' : ℕ) → k ≡ k' → AreElements (seg ∷ []) 0 (b + 1) d p k' es inner deep
-        → AreElements (seg ∷ []) 0 (b + 1) d p k es inner deep
-    moved k k' e each = rw e each

@@ -7,13 +7,13 @@ use Rattle.cap_spec.proofs.Canonical.Sizes.{trimmed_size_charged}
 use Rattle.cap_spec.proofs.Canonical.TreeMeasures.{FitEach, FitElements, Fits, Measured, measured}
 use Rattle.cap_spec.proofs.Canonical.TrimmedMeasures.{Trimmed, trimmed}
 use Rattle.cap_spec.proofs.Canonical.TrimmedTrees.{trimmed_is_tree}
-use Rattle.cap_spec.proofs.Prelude.{Bool, List, [], arith, drop, false, if◌then◌else◌, length, length-take, map, subst}
-use Rattle.cap_spec.proofs.Prelude.{suc, sym, take, true, zero, ℕ, ◌*◌, ◌++◌, ◌+◌, ◌-◌, ◌/◌, ◌<◌, ◌==◌, ◌^◌, ◌∷◌, ◌≡◌}
+use Rattle.cap_spec.proofs.Prelude.{List, [], arith, drop, length, length-take, map, subst}
+use Rattle.cap_spec.proofs.Prelude.{suc, sym, take, zero, ℕ, ◌*◌, ◌++◌, ◌+◌, ◌-◌, ◌/◌, ◌<◌, ◌^◌, ◌∷◌, ◌≡◌}
 use Rattle.cap_spec.proofs.Prelude.{◌≤◌, mul-le, AllByRecursion, range_with_len, content, contents, element_contents}
 use Rattle.cap_spec.proofs.Prelude.{element_sizes, element_words, layout, list_word, pointer_to, pointer_words, size}
 use Rattle.cap_spec.proofs.Prelude.{sizes, struct_word, trim, Denotes, element_bits, list_words, packed_word}
 use Rattle.cap_spec.proofs.Prelude.{scalar_words, AreElementTrees, AreTrees, IsTree, Tree, Trees, cap, more, null}
-use Rattle.cap_spec.proofs.Prelude.{pointers, scalars, struct, structs, tree_count, IsWord}
+use Rattle.cap_spec.proofs.Prelude.{pointers, scalars, struct, structs, tree_count, IsWord, rules}
 use Rattle.cap_spec.proofs.Trees.DenotedTrees.{AreWords, denoted_is_tree}
 
 -- values of one word fit the bits that they take together
@@ -45,10 +45,8 @@ packed_is_word bits per vs h a =
 value_words_are : (bits per a count : ℕ) (vs : List ℕ) → per * bits ≤ 64 → AllByRecursion (λ v. v < 2 ^ bits) vs
     → AllByRecursion IsWord (map (λ k. packed_word bits (take per (drop (k * per) vs))) (range_with_len a count))
 value_words_are bits per a zero vs h f = tt
-value_words_are bits per a (suc count) vs h f = (
-  packed_is_word bits per (drop (a * per) vs) h (all_drop (λ v. v < 2 ^ bits) (a * per) vs f),
-  value_words_are bits per (a + 1) count vs h f,
-)
+value_words_are bits per a (suc count) vs h f =
+    search (rules, packed_is_word, all_drop, value_words_are bits per (a + 1) count vs h f)
 
 scalar_words_are : (c : ℕ) (vs : List ℕ) → AllByRecursion (λ v. v < 2 ^ element_bits c) vs
     → AllByRecursion IsWord (scalar_words c vs)
@@ -56,10 +54,6 @@ scalar_words_are c vs f = value_words_are (element_bits c) (64 / element_bits c)
     (div-mul-le_self 64 (element_bits c)) f
 
 -- the pointer to a tree that fits
-either_word : (b : Bool) (x y : ℕ) → x < 2 ^ 64 → y < 2 ^ 64 → (if b then x else y) < 2 ^ 64
-either_word true x y h g = h
-either_word false x y h g = g
-
 struct_is_word : (offset d p : ℕ) → offset < 2 ^ 30 → d < 2 ^ 16 → p < 2 ^ 16 → struct_word offset d p < 2 ^ 64
 struct_is_word offset d p ho hd hp = omega arith
 
@@ -67,14 +61,7 @@ list_is_word : (offset c n : ℕ) → offset < 2 ^ 30 → c < 8 → n < 2 ^ 29 �
 list_is_word offset c n ho hc hn = omega arith
 
 pub pointer_is_word : (offset : ℕ) (t : Tree) → Fits t → offset < 2 ^ 30 → pointer_to offset t < 2 ^ 64
-pointer_is_word offset null f l = omega arith
-pointer_is_word offset (cap i) f l = omega (arith, f)
-pointer_is_word offset (struct ws ts) f l =
-    either_word ((length ws + tree_count ts) == 0) (2 ^ 32 - 4) (struct_word offset (length ws) (tree_count ts))
-    (omega arith) (struct_is_word offset (length ws) (tree_count ts) l f.0 f.1)
-pointer_is_word offset (scalars c vs) f l = list_is_word offset c (length vs) l (omega (arith, f.0)) f.1
-pointer_is_word offset (pointers ts) f l = list_is_word offset 6 (tree_count ts) l (omega arith) f.0
-pointer_is_word offset (structs d p es) f l = list_is_word offset 7 (tree_count es * (d + p)) l (omega arith) f.3
+pointer_is_word offset t f l = search (rules, list_is_word)
 
 -- pointers in a row
 row_is_words : (after : ℕ) (ts : Trees) → FitEach ts → after + tree_count ts + sizes ts < 2 ^ 29

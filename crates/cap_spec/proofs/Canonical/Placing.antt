@@ -2,7 +2,7 @@
 use Rattle.std.proofs.lemmas.List.{length_push}
 use Rattle.cap_spec.proofs.Prelude.{List, Some, [], ap, append-nil, append_assoc, arith, drop, get_or, length, refl}
 use Rattle.cap_spec.proofs.Prelude.{slice_get, subst, suc, take, zero, ℕ, ◌++◌, ◌+◌, ◌-◌, ◌<◌, ◌∙◌, ◌∷◌, ◌≡◌, ◌≤◌}
-use Rattle.cap_spec.proofs.Prelude.{get_or_from_slice_get, same_Some, slice_get_within, words_from, HasWordsAt}
+use Rattle.cap_spec.proofs.Prelude.{get_or_from_slice_get, same_Some, slice_get_within, words_from, HasWordsAt, rules}
 use Rattle.cap_spec.proofs.Trees.ReadingBack.{WordsAt}
 
 -- of words that stand joined each part stands at its place
@@ -34,9 +34,7 @@ stand_word words b (x ∷ xs) h (suc k) lt =
 pub rest_at : (words : List ℕ) (b x : ℕ) → slice_get words b ≡ Some x → drop b words ≡ x ∷ drop (b + 1) words
 rest_at [] b x h = absurd (cc h)
 rest_at (y ∷ ys) zero x h = ap (λ z. z ∷ ys) (same_Some y x h)
-rest_at (y ∷ ys) (suc b) x h =
-    let e : suc (b + 1) ≡ suc b + 1 = omega arith in
-    rest_at ys b x h ∙ ap (λ n. x ∷ drop n (y ∷ ys)) e
+rest_at (y ∷ ys) (suc b) x h = search (rules, rest_at ys b x h)
 
 -- words that stand from b on are the words that are read there
 pub stand_taken : (words : List ℕ) (b : ℕ) (xs : List ℕ) → HasWordsAt words b xs → take (length xs) (drop b words) ≡ xs
@@ -46,9 +44,7 @@ stand_taken words b (x ∷ xs) h =
 
 pub stand_read : (words : List ℕ) (b n : ℕ) (xs : List ℕ) → n ≡ length xs → HasWordsAt words b xs
     → words_from (words ∷ []) 0 b n ≡ xs
-stand_read words b n xs e h =
-    let l : b + n - b ≡ length xs = omega arith in
-    ap (λ k. take k (drop b words)) l ∙ stand_taken words b xs h
+stand_read words b n xs e h = search (rules, stand_taken)
 
 -- the word behind a front
 word_behind : (front : List ℕ) (x : ℕ) (xs : List ℕ) → slice_get (front ++ x ∷ xs) (length front) ≡ Some x
@@ -59,12 +55,7 @@ word_behind (y ∷ ys) x xs = word_behind ys x xs
 stand_behind : (front xs : List ℕ) → HasWordsAt (front ++ xs) (length front) xs
 stand_behind front [] = let e : length (front ++ []) ≡ length front = ap length (append-nil front) in omega arith
 stand_behind front (x ∷ xs) =
-    let r : HasWordsAt ((front ++ x ∷ []) ++ xs) (length (front ++ x ∷ [])) xs = stand_behind (front ++ x ∷ []) xs in
-    let e : (front ++ x ∷ []) ++ xs ≡ front ++ x ∷ xs = append_assoc front (x ∷ []) xs in (
-      word_behind front x xs,
-      subst (λ n. HasWordsAt (front ++ x ∷ xs) n xs) (length_push front x)
-          (subst (λ ws. HasWordsAt ws (length (front ++ x ∷ [])) xs) e r),
-    )
+    search (rules, append_assoc, word_behind, length_push, stand_behind (front ++ x ∷ []) xs)
 
 -- a list stands at the beginning of itself
 pub stand_whole : (xs : List ℕ) → HasWordsAt xs 0 xs

@@ -1,8 +1,7 @@
 -- The fields of the pointer words of a layout.
-use Rattle.std.proofs.Common.{◌-ℤ◌}
-use Rattle.cap_spec.proofs.Prelude.{ap, arith, cond, if◌then◌else◌, le-ltb, lt-ltb, ltb, nat_lt, negsuc, pos, suc, sym}
-use Rattle.cap_spec.proofs.Prelude.{ℕ, ◌*◌, ◌+ℤ◌, ◌+◌, ◌-◌, ◌<◌, ◌^◌, ◌∙◌, ◌≡◌, list_word, struct_word, cap_index, code}
-use Rattle.cap_spec.proofs.Prelude.{data_size, kind, list_size, middle, pointer_size, signed_offset_of}
+use Rattle.cap_spec.proofs.Prelude.{arith, cond, ltb, negsuc, pos, suc, sym, ℕ, ◌*◌, ◌+ℤ◌, ◌+◌, ◌-◌, ◌<◌, ◌^◌, ◌≡◌}
+use Rattle.cap_spec.proofs.Prelude.{list_word, struct_word, cap_index, code, data_size, kind, list_size, middle}
+use Rattle.cap_spec.proofs.Prelude.{pointer_size, signed_offset_of, common_steps, rules}
 
 -- of a struct's pointer, or of a tag
 pub record StructFields (q offset d p : ℕ) : Type 0 where
@@ -13,12 +12,7 @@ pub record StructFields (q offset d p : ℕ) : Type 0 where
 
 pub struct_fields : (offset d p : ℕ) → offset < 2 ^ 30 → d < 2 ^ 16 → p < 2 ^ 16
     → StructFields (struct_word offset d p) offset d p
-struct_fields offset d p ho hd hp = record {
-  kind = omega arith;
-  middle = omega arith;
-  data_words = omega arith;
-  pointers = omega arith;
-}
+struct_fields offset d p ho hd hp = search rules
 
 -- of a list's pointer
 pub record ListFields (q offset c n : ℕ) : Type 0 where
@@ -28,12 +22,7 @@ pub record ListFields (q offset c n : ℕ) : Type 0 where
   pub size : list_size q ≡ n
 
 pub list_fields : (offset c n : ℕ) → offset < 2 ^ 30 → c < 8 → n < 2 ^ 29 → ListFields (list_word offset c n) offset c n
-list_fields offset c n ho hc hn = record {
-  kind = omega arith;
-  middle = omega arith;
-  code = omega arith;
-  size = omega arith;
-}
+list_fields offset c n ho hc hn = search rules
 
 -- of a capability's pointer
 pub record CapFields (q i : ℕ) : Type 0 where
@@ -44,23 +33,14 @@ pub record CapFields (q i : ℕ) : Type 0 where
 pub cap_fields : (i : ℕ) → i < 2 ^ 32 → CapFields (3 + 2 ^ 32 * i) i
 cap_fields i h = record { kind = omega arith; middle = omega arith; index = omega arith }
 
--- an offset that isn't negative
-signed_below : (x : ℕ) → x < 2 ^ 29 → (if nat_lt x (2 ^ 29) then pos x else (pos x -ℤ pos (2 ^ 30))) ≡ pos x
-signed_below x h = ap (λ y. if y then pos x else (pos x -ℤ pos (2 ^ 30))) (lt-ltb x (2 ^ 29) h)
-
 -- where an object begins whose offset stands in these bits
 pub start_after : (q a b offset : ℕ) → middle q ≡ offset → offset < 2 ^ 29 → b ≡ a + 1 + offset
     → pos b ≡ pos (a + 1) +ℤ signed_offset_of q
-start_after q a b offset e h f =
-    let l : middle q < 2 ^ 29 = rw e h in
-    let i : b ≡ a + 1 + middle q = rw e f in
-    ap pos i ∙ ap (λ z. pos (a + 1) +ℤ z) (sym (signed_below (middle q) l))
+start_after q a b offset e h f = grind (arith, common_steps)
 
 -- one less than one more
 one_back : (a : ℕ) → cond (ltb (a + 1) 1) (negsuc (1 - suc (a + 1))) (pos (a + 1 - 1)) ≡ pos a
-one_back a =
-    let e : a + 1 - 1 ≡ a = omega arith in
-    ap (λ y. cond y (negsuc (1 - suc (a + 1))) (pos (a + 1 - 1))) (le-ltb (a + 1) 1 (omega arith)) ∙ ap pos e
+one_back a = grind (arith, common_steps)
 
 -- a struct without words begins where its pointer stands
 pub start_before : (a : ℕ) → pos a ≡ pos (a + 1) +ℤ signed_offset_of (2 ^ 32 - 4)

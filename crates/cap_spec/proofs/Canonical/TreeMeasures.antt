@@ -1,15 +1,17 @@
 -- How much a tree is charged without pads, how deep it is, and that its sizes fit the fields of pointer words:
 -- of what is denoted, and of the trimmed tree.
-use Rattle.cap_spec.specs.Denoting.{FindsScalars, places}
+use Rattle.cap_spec.specs.Denoting.{places}
 use Rattle.cap_spec.specs.Tree.{none}
-use Rattle.cap_spec.proofs.Prelude.{List, ap, ap₂, arith, if◌then◌else◌, length, max, ne_eqb, refl, suc, sym, ℕ, ◌*◌}
-use Rattle.cap_spec.proofs.Prelude.{◌+◌, ◌<◌, ◌==◌, ◌^◌, ◌∙◌, ◌≡◌, ◌≤◌, AllByRecursion, ⊤, AreElements, DenoteEach}
-use Rattle.cap_spec.proofs.Prelude.{Denotes, FindsPointers, FindsStruct, FindsStructs, element_levels, extra}
-use Rattle.cap_spec.proofs.Prelude.{segment_of, code, data_size, element_bits, extent, kind, list_size, list_words}
-use Rattle.cap_spec.proofs.Prelude.{middle, pointer_size, Tree, Trees, cap, more, null, pointers, scalars, struct}
-use Rattle.cap_spec.proofs.Prelude.{structs, tree_count}
-use Rattle.cap_spec.proofs.Trees.Charges.{each_charged, elements_fit, extent_pointers, extent_struct, extent_structs}
-use Rattle.cap_spec.proofs.Trees.Charges.{length-places}
+use Rattle.cap_spec.proofs.Pointers.Shapes.{pointers_levels, pointers_shape, pointers_words, scalars_levels, scalars_shape}
+use Rattle.cap_spec.proofs.Pointers.Shapes.{scalars_words, struct_levels, struct_shape, struct_words, structs_levels}
+use Rattle.cap_spec.proofs.Pointers.Shapes.{structs_shape, structs_words}
+use Rattle.cap_spec.proofs.Prelude.{List, ap, ap₂, arith, false, if◌then◌else◌, length, max, ne_eqb, refl, suc, sym, ℕ}
+use Rattle.cap_spec.proofs.Prelude.{◌*◌, ◌+◌, ◌<◌, ◌==◌, ◌^◌, ◌∙◌, ◌≡◌, ◌≤◌, AllByRecursion, ⊤, AreElements}
+use Rattle.cap_spec.proofs.Prelude.{DenoteEach, Denotes, FindsCharged, element_levels, values_of, words_from, extra}
+use Rattle.cap_spec.proofs.Prelude.{segment_of, HasKind, code, data_size, element_bits, extent, kind, list_size}
+use Rattle.cap_spec.proofs.Prelude.{list_words, middle, pointer_size, Tree, Trees, cap, more, null, pointers, scalars}
+use Rattle.cap_spec.proofs.Prelude.{struct, structs, tree_count, Pointers, Scalars, Struct, Structs}
+use Rattle.cap_spec.proofs.Trees.Charges.{each_charged, elements_fit, length-places}
 use Rattle.cap_spec.proofs.Trees.DenotedTrees.{cap_fits, elements_inside, range_length, values_fit}
 use Rattle.cap_spec.proofs.Trees.Readings.{length-values}
 
@@ -93,17 +95,9 @@ pub record ElementsMeasured (ds ps n : ℕ) (es : Trees) (c d : ℕ) : Type 0 wh
   pub charged : element_costs es ≤ c
   pub deep : element_heights es ≡ d
 
--- the words of a list of values, and what it costs beside
+-- the words of a list of values
 pub extent_scalars : (q e : ℕ) → kind q ≡ 1 → e ≡ code q → e < 6 → extent q ≡ list_words e (list_size q)
 extent_scalars q e k f lt = rw (k, f, ne_eqb (code q) 7 (λ z. absurd (omega (arith, f, lt, z)))) refl
-
-pub extra_scalars : (q e : ℕ) → kind q ≡ 1 → e ≡ code q → e < 6 → extra q 0 ≡ idle e (list_size q)
-extra_scalars q e k f lt = rw (k, ne_eqb (code q) 7 (λ z. absurd (omega (arith, f, lt, z))), f) refl
-
--- what a composite list costs beside its words
-pub extra_structs : (q tag : ℕ) → kind q ≡ 1 → code q ≡ 7
-    → extra q tag ≡ idle (data_size tag + pointer_size tag) (middle tag)
-extra_structs q tag k f = rw (k, f) refl
 
 -- fields fit their bits
 short_fits : (q : ℕ) → (data_size q < 2 ^ 16) × (pointer_size q < 2 ^ 16)
@@ -112,80 +106,94 @@ short_fits q = (omega arith, omega arith)
 long_fits : (q : ℕ) → (list_size q < 2 ^ 29) × (middle q < 2 ^ 30)
 long_fits q = (omega arith, omega arith)
 
+-- the cost of a list of values beside its words, and that of a list of structs
+pub scalars_extra : {q tag e n : ℕ} → HasKind q tag (Scalars e n) → extra q tag ≡ idle e n
+scalars_extra {q} {tag} {e} {n} h =
+    let x = scalars_shape h in
+    let seven : (code q == 7) ≡ false = ne_eqb (code q) 7 (λ z. omega (arith, z, x.code, x.scalar)) in
+    rw (x.kind, seven, x.code, x.count) refl
+
+pub structs_extra : {q tag n ds ps : ℕ} → HasKind q tag (Structs n ds ps) → extra q tag ≡ idle (ds + ps) n
+structs_extra {q} {tag} {n} {ds} {ps} h =
+    let x = structs_shape h in rw (x.kind, x.code, x.count, x.data_words, x.pointers) refl
+
 -- a struct that is found, with its measured children
-struct_measured : (m : List (List ℕ)) (s w : ℕ) (words : List ℕ) (ts : Trees) (k t b q inner deep c d : ℕ)
-    → FindsStruct m s w words k t b q inner deep c d
-    → tree_count ts ≡ pointer_size q → EachMeasured ts inner deep → Measured (struct words ts) c d
-struct_measured m s w words ts k t b q inner deep c d f n each =
-    let x : extent q ≡ data_size q + pointer_size q = extent_struct q f.kind in
-    let l : length words ≡ data_size q = ap length f.data_words
-    ∙ range_length m t b (data_size q) (omega (arith, f.finds.sits.inside, x)) in
+struct_measured : {m : List (List ℕ)} {s w k t b q tag ds ps inner deep c d : ℕ} (words : List ℕ) (ts : Trees)
+    → FindsCharged m s w (Struct ds ps) k t b q tag inner deep c d → words ≡ words_from m t b ds
+    → tree_count ts ≡ ps → EachMeasured ts inner deep → Measured (struct words ts) c d
+struct_measured {m} {s} {w} {k} {t} {b} {q} {tag} {ds} {ps} {inner} {deep} {c} {d} words ts f own n each =
+    let h = f.object.shape in
+    let x = struct_shape h in
+    let l : length words ≡ ds = ap length own
+    ∙ range_length m t b ds (omega (arith, f.object.finds.inside.inside, struct_words h)) in
     let y = short_fits q in
     record {
-      fits = (omega (arith, l, y.0), omega (arith, n, y.1), each.fits);
-      charged = omega (arith, f.charge, each.charged, l, n, x);
-      deep = omega (arith, f.depth, each.deep);
+      fits = (omega (arith, l, x.data_words, y.0), omega (arith, n, x.pointers, y.1), each.fits);
+      charged = omega (arith, f.charge, each.charged, l, n, struct_words h);
+      deep = omega (arith, f.depth, struct_levels h, each.deep);
     }
 
 -- a list of values that is found
-scalars_measured : (m : List (List ℕ)) (s w e : ℕ) (vs : List ℕ) (k t b q c d : ℕ) → FindsScalars m s w e vs k t b q c d
-    → Measured (scalars e vs) c d
-scalars_measured m s w e vs k t b q c d f =
-    let l : length vs ≡ list_size q = ap length f.elements ∙ length-values m t b e (list_size q) in
-    let x : extent q ≡ list_words e (length vs) = extent_scalars q e f.kind f.code f.scalar
-    ∙ ap (list_words e) (sym l) in
-    let y : extra q 0 ≡ idle e (length vs) = extra_scalars q e f.kind f.code f.scalar ∙ ap (idle e) (sym l) in
-    let z = long_fits q in
+scalars_measured : {m : List (List ℕ)} {s w e k t b q tag n c d : ℕ} (vs : List ℕ)
+    → FindsCharged m s w (Scalars e n) k t b q tag 0 0 c d → vs ≡ values_of m t b e n → Measured (scalars e vs) c d
+scalars_measured {m} {s} {w} {e} {k} {t} {b} {q} {tag} {n} {c} {d} vs f own =
+    let h = f.object.shape in
+    let x = scalars_shape h in
+    let l : length vs ≡ n = ap length own ∙ length-values m t b e n in
+    let y : extent q ≡ list_words e (length vs) = scalars_words h ∙ ap (list_words e) (sym l) in
+    let z : extra q tag ≡ idle e (length vs) = scalars_extra h ∙ ap (idle e) (sym l) in
+    let u = long_fits q in
     record {
       fits = (
-        f.scalar,
-        omega (arith, l, z.0),
-        rw f.elements (values_fit (segment_of m t) b (element_bits e) 0 (list_size q)),
+        x.scalar,
+        omega (arith, l, x.count, u.0),
+        rw own (values_fit (segment_of m t) b (element_bits e) 0 n),
       );
-      charged = sum_above k (extent q) (extra q 0) (list_words e (length vs)) (idle e (length vs)) c f.charge x y;
-      deep = sym f.depth;
+      charged = sum_above k (extent q) (extra q tag) (list_words e (length vs)) (idle e (length vs)) c f.charge y z;
+      deep = omega (arith, f.depth, scalars_levels h);
     }
   where
-    sum_above : (k a b a' b' c : ℕ) → c ≡ k + a + b → a ≡ a' → b ≡ b' → a' + b' ≤ c
+    sum_above : (k a b a' b' c : ℕ) → c ≡ k + a + b + 0 → a ≡ a' → b ≡ b' → a' + b' ≤ c
     sum_above k a b a' b' c e1 e2 e3 = omega arith
 
 -- a list of pointers that is found, with its measured entries
-pointers_measured : (m : List (List ℕ)) (s w : ℕ) (ts : Trees) (k t b q inner deep c d : ℕ)
-    → FindsPointers m s w k t b q inner deep c d
-    → tree_count ts ≡ list_size q → EachMeasured ts inner deep → Measured (pointers ts) c d
-pointers_measured m s w ts k t b q inner deep c d f n each =
-    let x : extent q ≡ list_size q = extent_pointers q f.kind f.code in
+pointers_measured : {m : List (List ℕ)} {s w k t b q tag n inner deep c d : ℕ} (ts : Trees)
+    → FindsCharged m s w (Pointers n) k t b q tag inner deep c d
+    → tree_count ts ≡ n → EachMeasured ts inner deep → Measured (pointers ts) c d
+pointers_measured {m} {s} {w} {k} {t} {b} {q} {tag} {n} {inner} {deep} {c} {d} ts f count each =
+    let h = f.object.shape in
+    let x = pointers_shape h in
     let y = long_fits q in
     record {
-      fits = (omega (arith, n, y.0), each.fits);
-      charged = omega (arith, f.charge, each.charged, n, x);
-      deep = omega (arith, f.depth, each.deep);
+      fits = (omega (arith, count, x.count, y.0), each.fits);
+      charged = omega (arith, f.charge, each.charged, count, pointers_words h);
+      deep = omega (arith, f.depth, pointers_levels h, each.deep);
     }
 
 -- a list of structs that is found, with its measured elements
-structs_measured : (m : List (List ℕ)) (s w ds ps : ℕ) (es : Trees) (k t b q tag inner deep c d : ℕ)
-    → FindsStructs m s w ds ps k t b q tag inner deep c d
-    → ElementsMeasured ds ps (middle tag) es inner deep → Measured (structs ds ps es) c d
-structs_measured m s w ds ps es k t b q tag inner deep c d f each =
-    let x : extent q ≡ 1 + list_size q = extent_structs q f.kind f.code in
-    let i : middle tag * ds + middle tag * ps ≤ list_size q = elements_fit m s w ds ps k t b q tag inner deep c d f in
+structs_measured : {m : List (List ℕ)} {s w ds ps k t b q tag n inner deep c d : ℕ} (es : Trees)
+    → FindsCharged m s w (Structs n ds ps) k t b q tag inner deep c d
+    → ElementsMeasured ds ps n es inner deep → Measured (structs ds ps es) c d
+structs_measured {m} {s} {w} {ds} {ps} {k} {t} {b} {q} {tag} {n} {inner} {deep} {c} {d} es f each =
+    let h = f.object.shape in
+    let x = structs_shape h in
+    let i : n * ds + n * ps ≤ list_size q = elements_fit f.object in
     let j : tree_count es * (ds + ps) ≤ list_size q = rw each.count (omega (arith, i)) in
-    let y : idle (ds + ps) (tree_count es) ≡ extra q tag =
-    rw (f.data_sizes, f.pointer_sizes, each.count) (sym (extra_structs q tag f.kind f.code)) in
+    let y : idle (ds + ps) (tree_count es) ≡ extra q tag = rw each.count (sym (structs_extra h)) in
     let z = short_fits tag in
     let u = long_fits q in
     let v = long_fits tag in
     record {
       fits = (
-        omega (arith, f.data_sizes, z.0),
-        omega (arith, f.pointer_sizes, z.1),
-        omega (arith, each.count, v.1),
+        omega (arith, x.data_words, z.0),
+        omega (arith, x.pointers, z.1),
+        omega (arith, each.count, x.count, v.1),
         below (tree_count es * (ds + ps)) (list_size q) (2 ^ 29) j u.0,
         each.fits,
       );
       charged = sum_above k (extent q) (extra q tag) inner (tree_count es * (ds + ps)) (idle (ds + ps) (tree_count es))
-          (element_costs es) (list_size q) c f.charge x y j each.charged;
-      deep = sym (f.depth ∙ ap₂ (λ n e. 1 + element_levels n + e) (sym each.count) (sym each.deep));
+          (element_costs es) (list_size q) c f.charge (structs_words h) y j each.charged;
+      deep = omega (arith, f.depth, structs_levels h, ap element_levels each.count, each.deep);
     }
   where
     below : (a b n : ℕ) → a ≤ b → b < n → a < n
@@ -199,20 +207,18 @@ mutual
   pub measured : (m : List (List ℕ)) (s w : ℕ) (t : Tree) (c d : ℕ) → Denotes m s w t c d → Measured t c d
   measured m s w null c d h = record { fits = tt; charged = omega arith; deep = sym h.1 }
   measured m s w (cap i) c d h = record { fits = cap_fits m s w c i h.0; charged = omega arith; deep = sym h.1 }
-  measured m s w (struct words ts) c d (k, t, b, q, inner, deep, found, each) =
-      struct_measured m s w words ts k t b q inner deep c d found
-      ((each_charged m (places t (b + data_size q) (pointer_size q)) ts inner deep each).0
-      ∙ length-places t (b + data_size q) (pointer_size q))
-      (each_measured m (places t (b + data_size q) (pointer_size q)) ts inner deep each)
-  measured m s w (scalars e vs) c d (k, t, b, q, found) = scalars_measured m s w e vs k t b q c d found
-  measured m s w (pointers ts) c d (k, t, b, q, inner, deep, found, each) =
-      pointers_measured m s w ts k t b q inner deep c d found
-      ((each_charged m (places t b (list_size q)) ts inner deep each).0 ∙ length-places t b (list_size q))
-      (each_measured m (places t b (list_size q)) ts inner deep each)
-  measured m s w (structs ds ps es) c d (k, t, b, q, tag, inner, deep, found, each) =
-      structs_measured m s w ds ps es k t b q tag inner deep c d found
-      (elements_measured m t (b + 1) ds ps (middle tag) es inner deep
-      (elements_inside m s w ds ps k t b q tag inner deep c d found) each)
+  measured m s w (struct words ts) c d (k, t, b, q, tag, ds, ps, inner, deep, found, own, each) =
+      struct_measured words ts found own
+      ((each_charged m (places t (b + ds) ps) ts inner deep each).0 ∙ length-places t (b + ds) ps)
+      (each_measured m (places t (b + ds) ps) ts inner deep each)
+  measured m s w (scalars e vs) c d (k, t, b, q, tag, n, found, own) = scalars_measured vs found own
+  measured m s w (pointers ts) c d (k, t, b, q, tag, n, inner, deep, found, each) =
+      pointers_measured ts found
+      ((each_charged m (places t b n) ts inner deep each).0 ∙ length-places t b n)
+      (each_measured m (places t b n) ts inner deep each)
+  measured m s w (structs ds ps es) c d (k, t, b, q, tag, n, inner, deep, found, each) =
+      structs_measured es found
+      (elements_measured m t (b + 1) ds ps n es inner deep (elements_inside found.object) each)
 
   pub each_measured : (m : List (List ℕ)) (ps : List (ℕ × ℕ)) (ts : Trees) (c d : ℕ) → DenoteEach m ps ts c d
       → EachMeasured ts c d

@@ -1,6 +1,6 @@
 -- A trimmed tree costs no more, is as deep, and fits where the tree fits.
 use Rattle.std.proofs.Common.{List, [], ap, ap₂, arith, if◌then◌else◌, length, length-take, length-take-le, max, refl}
-use Rattle.std.proofs.Common.{suc, sym, zero, ℕ, ◌*◌, ◌+◌, ◌<◌, ◌==◌, ◌^◌, ◌∙◌, ◌∷◌, ◌≡◌, ◌≤◌}
+use Rattle.std.proofs.Common.{suc, sym, zero, ℕ, ◌*◌, ◌+◌, ◌<◌, ◌==◌, ◌^◌, ◌∙◌, ◌∷◌, ◌≡◌, ◌≤◌, rules}
 use Rattle.std.proofs.Math.Dec.{eqb-suc-zero}
 use Rattle.std.proofs.lemmas.Nat.{mul-le}
 use Rattle.cap_spec.specs.Canonical.{children_needed, children_of, cut_elements, data_needed, data_of, is_null}
@@ -104,12 +104,8 @@ cut_costs d p x y (more t es) f = absurd f
 
 cut_fits : (d p x y : ℕ) (es : Trees) → d ≤ x → p ≤ y → FitElements x y es → FitElements d p (cut_elements d p es)
 cut_fits d p x y none hd hp f = tt
-cut_fits d p x y (more (struct words ts) es) hd hp f = (
-  length-take-le d words (omega (arith, f.0)),
-  tree_count-take_le p ts (omega (arith, f.1)),
-  fits-take p ts f.2,
-  cut_fits d p x y es hd hp f.3,
-)
+cut_fits d p x y (more (struct words ts) es) hd hp f =
+    search (rules, length-take-le, tree_count-take_le, fits-take, cut_fits d p x y es hd hp f.3)
 cut_fits d p x y (more t es) hd hp f = absurd f
 
 cut_heights : (d p x y : ℕ) (es : Trees) → children_of es ≤ p → FitElements x y es
@@ -134,11 +130,7 @@ children_of_le d p (more t es) f = absurd f
 
 -- elements without words cost no more than they did with words
 smaller : (n a b : ℕ) → a ≤ b → n * a + idle a n ≤ n * b + idle b n
-smaller n zero zero h = omega arith
-smaller n (suc a) zero h = absurd (omega (arith, h))
-smaller n zero (suc b) h = rw (eqb-suc-zero b) (omega arith)
-smaller n (suc a) (suc b) h = rw (eqb-suc-zero a, eqb-suc-zero b)
-    (let r = mul-le n (suc a) n (suc b) (omega arith) h in omega (arith, r))
+smaller n a b h = search (rules, eqb-suc-zero, mul-le)
 
 -- a trimmed tree, or trees, beside what it was
 pub record Trimmed (t u : Tree) : Type 0 where
@@ -161,15 +153,7 @@ pub record ElementsTrimmed (d p : ℕ) (es us : Trees) : Type 0 where
 -- a struct of trimmed children
 struct_trimmed : (words : List ℕ) (ts us : Trees) → Fits (struct words ts) → AllTrimmed ts us
     → Trimmed (struct words ts) (trim_struct words us)
-struct_trimmed words ts us f r =
-    let a = length-take (data_needed words) words in
-    let b = tree_count-take (children_needed us) us in
-    let e = costs-take (children_needed us) us in
-    record {
-      fits = (omega (arith, a, f.0), omega (arith, b, r.count, f.1), fits-take (children_needed us) us r.fits);
-      charged = omega (arith, a, b, e, r.count, r.charged);
-      deep = ap (λ n. 1 + n) (heights-take (children_needed us) us (omega arith) ∙ r.deep);
-    }
+struct_trimmed words ts us f r = search (rules, length-take, tree_count-take, costs-take, fits-take, heights-take)
 
 -- a struct list of elements with trimmed children
 structs_trimmed : (d p : ℕ) (es us : Trees) → Fits (structs d p es) → ElementsTrimmed d p es us

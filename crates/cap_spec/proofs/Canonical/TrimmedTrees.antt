@@ -7,7 +7,7 @@ use Rattle.cap_spec.proofs.Prelude.{ap, ap₂, arith, if◌then◌else◌, lengt
 use Rattle.cap_spec.proofs.Prelude.{◌==◌, ◌∙◌, ◌≡◌, ◌≤◌, children_needed, children_of, cut_elements, data_needed}
 use Rattle.cap_spec.proofs.Prelude.{data_of, is_null, take_trees, trim, trim_all, trim_elements, AreElementTrees}
 use Rattle.cap_spec.proofs.Prelude.{AreTrees, IsTree, Tree, Trees, cap, cap_count, cap_counts, has_cap, more, null}
-use Rattle.cap_spec.proofs.Prelude.{pointers, scalars, struct, structs, tree_count, IsWord}
+use Rattle.cap_spec.proofs.Prelude.{pointers, scalars, struct, structs, tree_count, IsWord, rules}
 
 -- a front of trees
 trees-take : (n : ℕ) (ts : Trees) → AreTrees ts → AreTrees (take_trees n ts)
@@ -19,13 +19,8 @@ trees-take (suc n) (more t ts) f = (f.0, trees-take n ts f.1)
 cut_trees : (d p x y : ℕ) (es : Trees) → d ≤ x → p ≤ y → AreElementTrees x y es
     → AreElementTrees d p (cut_elements d p es)
 cut_trees d p x y none hd hp f = tt
-cut_trees d p x y (more (struct words ts) es) hd hp f = (
-  all_take IsWord d words f.0,
-  length-take-le d words (omega (arith, f.1)),
-  tree_count-take_le p ts (omega (arith, f.2)),
-  trees-take p ts f.3,
-  cut_trees d p x y es hd hp f.4,
-)
+cut_trees d p x y (more (struct words ts) es) hd hp f =
+    search (rules, all_take, length-take-le, tree_count-take_le, trees-take, cut_trees d p x y es hd hp f.4)
 cut_trees d p x y (more t es) hd hp f = absurd f
 
 -- no element needs more than its size

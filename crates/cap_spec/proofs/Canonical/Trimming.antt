@@ -1,6 +1,6 @@
 -- A trimmed tree is its own trimmed tree.
 use Rattle.std.proofs.Common.{List, [], ap, ap₂, arith, if◌then◌else◌, max, refl, suc, sym, take, take-take, zero, ℕ}
-use Rattle.std.proofs.Common.{◌==◌, ◌∙◌, ◌∷◌, ◌≡◌, ◌≤◌}
+use Rattle.std.proofs.Common.{◌==◌, ◌∷◌, ◌≡◌, ◌≤◌, rules}
 use Rattle.std.proofs.Math.Dec.{eqb-suc-zero}
 use Rattle.cap_spec.specs.Canonical.{children_needed, children_of, cut_elements, data_needed, data_of, is_null}
 use Rattle.cap_spec.specs.Canonical.{take_trees, trim, trim_all, trim_elements, trim_struct, trim_structs}
@@ -61,8 +61,7 @@ trim_elements-cut d p (more (structs x y ts) es) = ap (more (structs x y ts)) (t
 pub cut_elements-cut : (d p : ℕ) (es : Trees) → cut_elements d p (cut_elements d p es) ≡ cut_elements d p es
 cut_elements-cut d p none = refl
 cut_elements-cut d p (more (struct words ts) es) =
-    ap₂ (λ (ws : List ℕ) (f : Trees × Trees). more (struct ws f.0) f.1) (take-take d d words (omega arith))
-    (ap₂ (λ (us : Trees) (rest : Trees). (us, rest)) (take_trees-take_trees p ts) (cut_elements-cut d p es))
+    search (rules, take-take, take_trees-take_trees, cut_elements-cut d p es)
 cut_elements-cut d p (more null es) = ap (more null) (cut_elements-cut d p es)
 cut_elements-cut d p (more (cap i) es) = ap (more (cap i)) (cut_elements-cut d p es)
 cut_elements-cut d p (more (scalars c vs) es) = ap (more (scalars c vs)) (cut_elements-cut d p es)
@@ -94,30 +93,11 @@ children_of-cut d p (more (structs x y ts) es) h = children_of-cut d p es h
 -- a trimmed struct of trimmed children, trimmed again
 trim_struct-again : (ws : List ℕ) (us : Trees) → trim_all us ≡ us → trim (trim_struct ws us) ≡ trim_struct ws us
 trim_struct-again ws us e =
-    let a : trim_all (take_trees (children_needed us) us) ≡ take_trees (children_needed us) us =
-    trim_all-take (children_needed us) us ∙ ap (take_trees (children_needed us)) e in
-    let b : data_needed (take (data_needed ws) ws) ≡ data_needed ws =
-    data_needed-take (data_needed ws) ws (omega arith) in
-    let c : children_needed (take_trees (children_needed us) us) ≡ children_needed us =
-    children_needed-take (children_needed us) us (omega arith) in
-    ap (trim_struct (take (data_needed ws) ws)) a
-    ∙ ap₂ struct (ap (λ x. take x (take (data_needed ws) ws)) b
-    ∙ take-take (data_needed ws) (data_needed ws) ws (omega arith))
-    (ap (λ x. take_trees x (take_trees (children_needed us) us)) c ∙ take_trees-take_trees (children_needed us) us)
+    search (rules, trim_all-take, data_needed-take, children_needed-take, take-take, take_trees-take_trees)
 
 -- trimmed elements of trimmed children, trimmed again
 trim_structs-again : (es : Trees) → trim_elements es ≡ es → trim (trim_structs es) ≡ trim_structs es
-trim_structs-again es e =
-    let a : trim_elements (cut_elements (data_of es) (children_of es) es)
-    ≡ cut_elements (data_of es) (children_of es) es =
-    trim_elements-cut (data_of es) (children_of es) es ∙ ap (cut_elements (data_of es) (children_of es)) e in
-    let b : data_of (cut_elements (data_of es) (children_of es) es) ≡ data_of es =
-    data_of-cut (data_of es) (children_of es) es (omega arith) in
-    let c : children_of (cut_elements (data_of es) (children_of es) es) ≡ children_of es =
-    children_of-cut (data_of es) (children_of es) es (omega arith) in
-    ap trim_structs a
-    ∙ (ap₂ (λ x y. structs x y (cut_elements x y (cut_elements (data_of es) (children_of es) es))) b c
-    ∙ ap (structs (data_of es) (children_of es)) (cut_elements-cut (data_of es) (children_of es) es))
+trim_structs-again es e = search (rules, trim_elements-cut, data_of-cut, children_of-cut, cut_elements-cut)
 
 mutual
   -- a trimmed tree is its own trimmed tree

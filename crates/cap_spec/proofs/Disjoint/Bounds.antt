@@ -2,7 +2,7 @@
 use Rattle.cap_spec.specs.Denoting.{places}
 use Rattle.cap_spec.specs.Occupying.{empty_counts}
 use Rattle.cap_spec.specs.Tree.{none}
-use Rattle.cap_spec.proofs.Canonical.TreeMeasures.{extra_scalars, extra_structs, idle}
+use Rattle.cap_spec.proofs.Canonical.TreeMeasures.{idle, scalars_extra, structs_extra}
 use Rattle.cap_spec.proofs.Disjoint.Places.{all_places, apart_append, few_places, in_all, in_places, length_all}
 use Rattle.cap_spec.proofs.Disjoint.Places.{pad_inside, pads_number, place_either}
 use Rattle.cap_spec.proofs.Frames.Messages.{HasWord-inside, HasWord-segment}
@@ -11,12 +11,13 @@ use Rattle.cap_spec.proofs.Paths.Depths.{elements_depth}
 use Rattle.cap_spec.proofs.Paths.PathCounts.{pointer_paths}
 use Rattle.cap_spec.proofs.Paths.PathLists.{behind, is_pointer, listed_rise, paths_below, paths_from}
 use Rattle.cap_spec.proofs.Paths.Preorder.{Rises-distinct}
+use Rattle.cap_spec.proofs.Pointers.Shapes.{pointers_extra, struct_extra}
 use Rattle.cap_spec.proofs.Prelude.{List, [], ap, append_assoc, arith, false, inl, inr, length, length-append, pos}
 use Rattle.cap_spec.proofs.Prelude.{refl, subst, suc, sum, sym, true, zero, ℕ, ◌*◌, ◌++◌, ◌+◌, ◌<◌, ◌∙◌, ◌∷◌, ◌≡◌}
 use Rattle.cap_spec.proofs.Prelude.{AreElements, DenoteEach, Denotes, Finds, Leads, extra, to_cap, to_null, to_object}
 use Rattle.cap_spec.proofs.Prelude.{sizes_of, AreDistinct, IsOneOf, HasWord, segment_of, IsDisjoint, Occupies, Uses}
-use Rattle.cap_spec.proofs.Prelude.{empty_count, pads_of, PathLeads, Spot, StepsTo, element, level_of, word, data_size}
-use Rattle.cap_spec.proofs.Prelude.{extent, list_size, middle, pointer_size, Tree, Trees, cap, more, null, pointers}
+use Rattle.cap_spec.proofs.Prelude.{empty_count, pads_of, PathLeads, Spot, StepsTo, element, level_of, word}
+use Rattle.cap_spec.proofs.Prelude.{extent, Tree, Trees, cap, more, null, pointers}
 use Rattle.cap_spec.proofs.Prelude.{scalars, struct, structs, tree_count, Step, Item, Ptr}
 use Rattle.cap_spec.proofs.Trees.Charges.{length-places}
 use Rattle.cap_spec.proofs.Trees.OneTree.{Formed, cons_parts, formed}
@@ -108,51 +109,35 @@ mutual
       ([], refl, refl) (omega arith) refl
   tree_counted m s w (cap i) c d h = counted_own m s w [] c 0 0 0 c 0 (owns_cap m s w c i h.0)
       ([], refl, refl) (omega arith) refl
-  tree_counted m s w (struct ws ts) c d (k, t, b, q, inner, deep, found, each) =
+  tree_counted m s w (struct ws ts) c d (k, t, b, q, tag, ds, ps, inner, deep, found, own, each) =
       counted_own m s w (paths_below is_pointer (struct ws ts)) (k + extent q + 0) 0 inner (empty_counts ts)
       c (empty_counts ts)
-      (owns_object m s w k t b q 0 found.finds)
-      (each_counted m (word s w) Ptr t (b + data_size q) (pointer_size q) 0 (pointer_size q)
-      (b + data_size q) ts inner deep
-      (λ j lt. (k, t, b, q, found.finds, found.kind, lt, refl)) (omega arith) (omega arith) each)
-      (omega (arith, found.charge)) (omega arith)
-  tree_counted m s w (scalars e vs) c d (k, t, b, q, found) =
-      let l : length vs ≡ list_size q = ap length found.elements ∙ length-values m t b e (list_size q) in
-      let x : extra q 0 ≡ idle e (length vs) = extra_scalars q e found.kind found.code found.scalar
-      ∙ ap (idle e) (sym l) in
-      counted_own m s w [] (k + extent q + extra q 0) (extra q 0) 0 0 c (idle e (length vs))
-      (owns_object m s w k t b q (extra q 0) found.finds) ([], refl, refl)
-      (found.charge ∙ omega arith) (sym x ∙ omega arith)
-  tree_counted m s w (pointers ts) c d (k, t, b, q, inner, deep, found, each) =
+      (owns_object m s w k t b q 0 found.object.finds)
+      (each_counted m (word s w) Ptr t (b + ds) ps 0 ps (b + ds) ts inner deep
+      (λ j lt. (k, t, b, q, tag, ds, ps, found.object, lt, refl)) (omega arith) (omega arith) each)
+      (omega (arith, found.charge, struct_extra found.object.shape)) (omega arith)
+  tree_counted m s w (scalars e vs) c d (k, t, b, q, tag, n, found, own) =
+      let l : length vs ≡ n = ap length own ∙ length-values m t b e n in
+      let x : extra q tag ≡ idle e (length vs) = scalars_extra found.object.shape ∙ ap (idle e) (sym l) in
+      counted_own m s w [] (k + extent q + extra q tag) (extra q tag) 0 0 c (idle e (length vs))
+      (owns_object m s w k t b q (extra q tag) found.object.finds) ([], refl, refl)
+      found.charge (sym x ∙ omega arith)
+  tree_counted m s w (pointers ts) c d (k, t, b, q, tag, n, inner, deep, found, each) =
       counted_own m s w (paths_below is_pointer (pointers ts)) (k + extent q + 0) 0 inner (empty_counts ts)
       c (empty_counts ts)
-      (owns_object m s w k t b q 0 found.finds)
-      (each_counted m (word s w) Item t b (list_size q) 0 (list_size q) b ts inner deep
-      (λ j lt. inl (k, t, b, q, found.finds, found.kind, found.code, lt, refl)) (omega arith) (omega arith) each)
-      (omega (arith, found.charge)) (omega arith)
-  tree_counted m s w (structs ds ps es) c d (k, t, b, q, tag, inner, deep, found, each) =
-      let n : middle tag ≡ tree_count es = (elements_depth m t (b + 1) ds ps (middle tag) es inner deep each).0 in
-      let y : extra q tag ≡ idle (data_size tag + pointer_size tag) (middle tag) =
-      extra_structs q tag found.kind found.code in
-      let x : extra q tag ≡ idle (ds + ps) (tree_count es) = y ∙ rw (found.data_sizes, found.pointer_sizes, n) refl in
+      (owns_object m s w k t b q 0 found.object.finds)
+      (each_counted m (word s w) Item t b n 0 n b ts inner deep
+      (λ j lt. inl (k, t, b, q, tag, n, found.object, lt, refl)) (omega arith) (omega arith) each)
+      (omega (arith, found.charge, pointers_extra found.object.shape)) (omega arith)
+  tree_counted m s w (structs ds ps es) c d (k, t, b, q, tag, n, inner, deep, found, each) =
+      let count : n ≡ tree_count es = (elements_depth m t (b + 1) ds ps n es inner deep each).0 in
+      let x : extra q tag ≡ idle (ds + ps) (tree_count es) =
+      structs_extra found.object.shape ∙ ap (idle (ds + ps)) count in
       counted_own m s w (paths_below is_pointer (structs ds ps es)) (k + extent q + extra q tag) (extra q tag)
       inner (empty_counts es) c (idle (ds + ps) (tree_count es) + empty_counts es)
-      (owns_object m s w k t b q (extra q tag) found.finds)
-      (elements_counted m (word s w) t (b + 1) ds ps (middle tag) 0 (middle tag) (b + 1) es inner deep
-      (λ j lt. inr (
-        k,
-        t,
-        b,
-        q,
-        tag,
-        found.finds,
-        found.kind,
-        found.code,
-        found.has_tag,
-        lt,
-        rw (found.data_sizes, found.pointer_sizes) refl,
-      ))
-      (omega arith) (omega arith) each)
+      (owns_object m s w k t b q (extra q tag) found.object.finds)
+      (elements_counted m (word s w) t (b + 1) ds ps n 0 n (b + 1) es inner deep
+      (λ j lt. inr (k, t, b, q, tag, n, ds, ps, found.object, lt, refl)) (omega arith) (omega arith) each)
       found.charge (ap (λ (u : ℕ). u + empty_counts es) (sym x))
 
   -- the same of words at places, which steps from one spot lead to
@@ -234,7 +219,7 @@ used_inside m path t x (level, s, w, used, r, (p, has, inr (inr (k, u, b, q, f, 
       | inr j ↦
           let c = in_places u b (extent q) t x j in
           let l : length (segment_of m t) ≡ length (segment_of m u) = ap (λ (v : ℕ). length (segment_of m v)) c.0 in
-          (omega (arith, c.0, f.sits.exists), omega (arith, c.2, f.sits.inside, l))
+          (omega (arith, c.0, f.inside.exists), omega (arith, c.2, f.inside.inside, l))
     ]
 
 -- The charge of a disjoint message, but for its empty elements, is less than the words of all segments:

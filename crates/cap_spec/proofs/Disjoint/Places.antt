@@ -5,18 +5,14 @@ use Rattle.cap_spec.specs.Denoting.{places}
 use Rattle.cap_spec.proofs.Frames.Messages.{HasWord-inside, HasWord-segment, one_word}
 use Rattle.cap_spec.proofs.Prelude.{List, [], ap, arith, eqb, false, inl, inr, length, length-append, ne_eqb, refl}
 use Rattle.cap_spec.proofs.Prelude.{subst, suc, sum, sym, zero, ℕ, ◌++◌, ◌+◌, ◌<◌, ◌∙◌, ◌∷◌, ◌≡◌, ◌≢◌, ◌≤◌, ◌⊎◌}
-use Rattle.cap_spec.proofs.Prelude.{cases_eq, Lead, Leads, near, one_pad, two_pads, sizes_of, AreDistinct, IsOneOf}
-use Rattle.cap_spec.proofs.Prelude.{HasWord, segment_of, pads_of, far_segment, kind, pad, two}
+use Rattle.cap_spec.proofs.Prelude.{cases_eq, Lead, Leads, sizes_of, AreDistinct, IsOneOf}
+use Rattle.cap_spec.proofs.Prelude.{HasWord, segment_of, pads_of, far_segment, kind, pad, two, rules}
 use Rattle.cap_spec.proofs.Trees.Charges.{length-places}
 
 -- the places of a range
 pub in_places : (t b n s w : ℕ) → IsOneOf (s, w) (places t b n) → (s ≡ t) × (b ≤ w) × (w < b + n)
 in_places t b zero s w h = absurd h
-in_places t b (suc n) s w (inl e) = (
-  ap (λ u. u.0) e,
-  (let f : w ≡ b = ap (λ u. u.1) e in omega arith),
-  (let f : w ≡ b = ap (λ u. u.1) e in omega arith),
-)
+in_places t b (suc n) s w (inl e) = search rules
 in_places t b (suc n) s w (inr h) = let r = in_places t (b + 1) n s w h in (r.0, omega (arith, r.1), omega (arith, r.2))
 
 pub at_place : (t b n w : ℕ) → b ≤ w → w < b + n → IsOneOf (t, w) (places t b n)
@@ -70,22 +66,7 @@ pads_in_a_row p h = by_two (two p) refl (omega arith)
 -- where it leads somewhere, they exist
 pub pads_inside : (m : List (List ℕ)) (s w k p : ℕ) (r : Lead) → Leads m s w k r → HasWord m s w p → kind p ≡ 2
     → (far_segment p < length m) × (pad p + (1 + two p) ≤ length (segment_of m (far_segment p)))
-pads_inside m s w k p r (near p' has n says e) h far = absurd (n (ap kind (one_word m s w p' p has h) ∙ far))
-pads_inside m s w k p r (one_pad p' q has (f, one) hasq n says e) h far =
-    let same : p' ≡ p = one_word m s w p' p has h in
-    let own : HasWord m (far_segment p) (pad p) q = subst (λ (u : ℕ). HasWord m (far_segment u) (pad u) q) same hasq in
-    let one' : two p ≡ 0 = ap two (sym same) ∙ one in (
-      HasWord-segment m (far_segment p) (pad p) q own,
-      omega (arith, one', HasWord-inside m (far_segment p) (pad p) q own),
-    )
-pads_inside m s w k p r (two_pads p' f q has (far', both) hasf hasq one tag e e') h far =
-    let same : p' ≡ p = one_word m s w p' p has h in
-    let own : HasWord m (far_segment p) (pad p + 1) q =
-    subst (λ (u : ℕ). HasWord m (far_segment u) (pad u + 1) q) same hasq in
-    let both' : two p ≡ 1 = ap two (sym same) ∙ both in (
-      HasWord-segment m (far_segment p) (pad p + 1) q own,
-      omega (arith, both', HasWord-inside m (far_segment p) (pad p + 1) q own),
-    )
+pads_inside m s w k p r x6 h far = search (rules, one_word, HasWord-segment, HasWord-inside)
 
 pub pad_inside : (m : List (List ℕ)) (s w k p : ℕ) (r : Lead) (t x : ℕ) → Leads m s w k r → HasWord m s w p
     → IsOneOf (t, x) (pads_of p)
@@ -104,20 +85,7 @@ pad_inside m s w k p r t x leads has i = elim (cases_eq (kind p) 2) [
 -- they are as many as the pointer leads over
 pub pads_number : (m : List (List ℕ)) (s w k p : ℕ) (r : Lead) → Leads m s w k r → HasWord m s w p
     → length (pads_of p) ≡ k
-pads_number m s w k p r (near p' has n says e) h =
-    ap length (no_pads p (λ far. n (ap kind (one_word m s w p' p has h) ∙ far))) ∙ sym e
-pads_number m s w k p r (one_pad p' q has (f, one) hasq n says e) h =
-    let same : p' ≡ p = one_word m s w p' p has h in
-    let far : kind p ≡ 2 = ap kind (sym same) ∙ f in
-    let one' : two p ≡ 0 = ap two (sym same) ∙ one in
-    let l : length (pads_of p) ≡ 1 = rw (far, one') refl in
-    l ∙ sym e
-pads_number m s w k p r (two_pads p' f q has (far', both) hasf hasq one tag e e') h =
-    let same : p' ≡ p = one_word m s w p' p has h in
-    let far : kind p ≡ 2 = ap kind (sym same) ∙ far' in
-    let both' : two p ≡ 1 = ap two (sym same) ∙ both in
-    let l : length (pads_of p) ≡ 2 = rw (far, both') refl in
-    l ∙ sym e'
+pads_number m s w k p r x6 h = search (rules, no_pads, one_word)
 
 -- a list of places without one of them
 remove : (x : ℕ × ℕ) (ys : List (ℕ × ℕ)) → IsOneOf x ys
@@ -144,13 +112,7 @@ all_places s (segment ∷ m) = places s 0 (length segment) ++ all_places (suc s)
 
 pub length_all : (s : ℕ) (m : List (List ℕ)) → length (all_places s m) ≡ sum (sizes_of m)
 length_all s [] = refl
-length_all s (segment ∷ m) =
-    let e = length_all (suc s) m in
-    let l = length-places s 0 (length segment) in
-    let f : sum (sizes_of (segment ∷ m)) ≡ (0 + length segment) + sum_by (λ (x : ℕ). x) (sizes_of m) =
-    sum_by_from (λ (x : ℕ). x) (0 + length segment) (sizes_of m) in
-    let g : sum (sizes_of m) ≡ 0 + sum_by (λ (x : ℕ). x) (sizes_of m) = sum_by_from (λ (x : ℕ). x) 0 (sizes_of m) in
-    length-append (places s 0 (length segment)) (all_places (suc s) m) ∙ omega (arith, e, l, f, g)
+length_all s (segment ∷ m) = search (rules, length-places, sum_by, sum_by_from, length-append, length_all (suc s) m)
 
 pub in_all : (s : ℕ) (m : List (List ℕ)) (t w : ℕ) → t < length m → w < length (segment_of m t)
     → IsOneOf (s + t, w) (all_places s m)

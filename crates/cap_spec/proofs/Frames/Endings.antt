@@ -3,23 +3,16 @@ use Rattle.cap_spec.proofs.Frames.Framing.{same_table, table_count, table_length
 use Rattle.cap_spec.proofs.Prelude.{Bool, List, [], ap, append_assoc, arith, false, length, length-append, refl, sum}
 use Rattle.cap_spec.proofs.Prelude.{sym, ℕ, ◌%◌, ◌++◌, ◌+◌, ◌/◌, ◌<◌, ◌^◌, ◌∙◌, ◌∷◌, ◌≡◌, ◌≤◌, sum_by-cons, Frames}
 use Rattle.cap_spec.proofs.Prelude.{IsPartial, IsTable, in_contents, in_table, in_word, joined, sizes_of}
+use Rattle.cap_spec.proofs.Prelude.{common_steps, rules}
 
 -- the segments joined are as long as their sizes together
 pub length_joined : (m : List (List ℕ)) → length (joined m) ≡ sum (sizes_of m)
 length_joined [] = refl
-length_joined (s ∷ m) =
-    let t = length_joined m in
-    let a = length-append s (joined m) in
-    let c = sum_by-cons (λ x. x) (length s) (sizes_of m) in
-    omega arith
+length_joined (s ∷ m) = search (rules, length-append, sum_by-cons, length_joined m)
 
 -- a frame has a first word
 pub frame_some : (own : List ℕ) (m : List (List ℕ)) → Frames own m → 0 < length own
-frame_some own m f =
-    let t = table_some f.table (sizes_of m) f.is_table in
-    let w = ap length f.whole in
-    let a = length-append f.table (joined m) in
-    omega arith
+frame_some own m f = grind (arith, common_steps)
 
 -- no words begin with a table
 pub no_table : (table rest sizes : List ℕ) → IsTable table sizes → [] ≡ table ++ rest → ⊥
@@ -30,12 +23,7 @@ no_table (p ∷ table) rest sizes t e = absurd (cc)
 pub table_few : (table rest sizes : List ℕ) (first : ℕ) (more : List ℕ) → IsTable table sizes
     → first ∷ more ≡ table ++ rest → first % 2 ^ 32 < 512
 table_few [] rest sizes first more t e = absurd (let h = table_some [] sizes t in omega arith)
-table_few (p ∷ table) rest sizes first more t e =
-    let h : first ≡ p = cc in
-    let c : p % 2 ^ 32 + 1 ≡ length sizes = table_count p table sizes t in
-    let d : first % 2 ^ 32 ≡ p % 2 ^ 32 = ap (λ k. k % 2 ^ 32) h in
-    let f = t.few in
-    omega arith
+table_few (p ∷ table) rest sizes first more t e = grind (arith, common_steps)
 
 -- what begins with a table isn't cut short inside one
 pub table_whole : (table rest sizes : List ℕ) (first : ℕ) (more : List ℕ) → IsTable table sizes
@@ -114,10 +102,7 @@ too_many_not_too_large first more table rest sizes n t e =
 pub too_many_not_partial : (limit first : ℕ) (more : List ℕ) (cut : Bool) → 512 < first % 2 ^ 32 + 1
     → IsPartial limit (first ∷ more) cut → ⊥
 too_many_not_partial limit first more cut n (in_word e c) = absurd (cc)
-too_many_not_partial limit first more cut n (in_table second rest e m l) =
-    let h : first ≡ second = cc in
-    let d : first % 2 ^ 32 ≡ second % 2 ^ 32 = ap (λ k. k % 2 ^ 32) h in
-    absurd (omega arith)
+too_many_not_partial limit first more cut n (in_table second rest e m l) = search rules
 too_many_not_partial limit first more cut n (in_contents table sizes rest e t m l) =
     too_many_not_too_large first more table rest sizes n t e
 

@@ -7,38 +7,23 @@ use Rattle.cap_spec.proofs.Frames.Framing.{one_frame}
 use Rattle.cap_spec.proofs.Prelude.{List, [], ap, arith, drop, flat_map, get_or, length, length-append, map, refl}
 use Rattle.cap_spec.proofs.Prelude.{replicate, suc, sym, zero, ℕ, ◌%◌, ◌*◌, ◌++◌, ◌+◌, ◌-◌, ◌/◌, ◌<◌, ◌^◌, ◌∙◌, ◌∷◌}
 use Rattle.cap_spec.proofs.Prelude.{◌≡◌, length-map, length-replicate, AllByRecursion, Frames, FramesZero, Stream}
-use Rattle.cap_spec.proofs.Prelude.{frame_text, halves, joined, paired, sizes_of, IsMessage, plain_text}
+use Rattle.cap_spec.proofs.Prelude.{frame_text, halves, joined, paired, sizes_of, IsMessage, plain_text, rules}
 
 -- the bytes of words are those of their halves
 pub plain_halves : (words : List ℕ) → plain_text words ≡ flat_map four_bytes (flat_map halves words)
 plain_halves [] = refl
-plain_halves (x ∷ words) =
-    let h = word_halves x in
-    let t = plain_halves words in
-    ap (λ k. k ++ plain_text words) h ∙ (ap (λ k. flat_map four_bytes (halves x) ++ k) t
-    ∙ sym (flat_map-append four_bytes (halves x) (flat_map halves words)))
+plain_halves (x ∷ words) = search (rules, word_halves, four_bytes, flat_map-append, plain_halves words)
 
 -- two numbers as halves of a word
 pair_halves : (a b : ℕ) → a < 2 ^ 32 → b < 2 ^ 32 → halves (a + 2 ^ 32 * b) ≡ a ∷ b ∷ []
-pair_halves a b h i =
-    let low : (a + 2 ^ 32 * b) % 2 ^ 32 ≡ a = omega arith in
-    let high : (a + 2 ^ 32 * b) / 2 ^ 32 ≡ b = omega arith in
-    ap (λ k. k ∷ (a + 2 ^ 32 * b) / 2 ^ 32 ∷ []) low ∙ ap (λ k. a ∷ k ∷ []) high
+pair_halves a b h i = search rules
 
 -- numbers in pairs have these numbers as halves, and zero behind an odd one
 pub paired_halves : (xs : List ℕ) → AllByRecursion (λ n. n < 2 ^ 32) xs
     → flat_map halves (paired xs) ≡ xs ++ replicate (length xs % 2) 0
 paired_halves [] all = refl
-paired_halves (a ∷ []) all =
-    let h : a < 2 ^ 32 = all.0 in
-    let low : a % 2 ^ 32 ≡ a = omega arith in
-    let high : a / 2 ^ 32 ≡ 0 = omega arith in
-    cc
-paired_halves (a ∷ b ∷ rest) all =
-    let t : flat_map halves (paired rest) ≡ rest ++ replicate (length rest % 2) 0 = paired_halves rest all.1.1 in
-    let p : length rest % 2 ≡ suc (suc (length rest)) % 2 = omega arith in
-    ap (λ k. k ++ flat_map halves (paired rest)) (pair_halves a b all.0 all.1.0)
-    ∙ (ap (λ k. a ∷ b ∷ k) t ∙ ap (λ n. a ∷ b ∷ (rest ++ replicate n 0)) p)
+paired_halves (a ∷ []) all = search rules
+paired_halves (a ∷ b ∷ rest) all = search (rules, pair_halves, paired_halves rest all.1.1)
 
 -- the sizes of a message fit
 sizes_fit : (m : List (List ℕ)) → AllByRecursion (λ segment. length segment < 2 ^ 32) m

@@ -1,6 +1,6 @@
 -- Tables and frames: words begin with at most one of each, and what that one is.
 use Rattle.std.proofs.Common.{List, [], ap, append_assoc, arith, flat_map, length, length-append, refl, sym, ℕ, ◌%◌}
-use Rattle.std.proofs.Common.{◌*◌, ◌++◌, ◌+◌, ◌-◌, ◌/◌, ◌<◌, ◌^◌, ◌∙◌, ◌∷◌, ◌≡◌}
+use Rattle.std.proofs.Common.{◌*◌, ◌++◌, ◌+◌, ◌-◌, ◌/◌, ◌<◌, ◌^◌, ◌∙◌, ◌∷◌, ◌≡◌, rules}
 use Rattle.cap_spec.specs.Frames.{Frames, IsTable, halves, joined, sizes_of}
 
 -- two lists of one length, each with more behind it, that make the same list are the same, and so is what is behind
@@ -25,11 +25,7 @@ table_some (p ∷ table) sizes t = omega arith
 
 -- the first word of a table tells how many segments there are
 pub table_count : (first : ℕ) (more sizes : List ℕ) → IsTable (first ∷ more) sizes → first % 2 ^ 32 + 1 ≡ length sizes
-table_count first more sizes t =
-    let e = t.numbers in
-    let h : first % 2 ^ 32 ≡ length sizes - 1 = cc in
-    let s = t.some in
-    omega arith
+table_count first more sizes t = search rules
 
 -- how many words a table has
 pub table_length : (table sizes : List ℕ) → IsTable table sizes → length table ≡ length sizes / 2 + 1

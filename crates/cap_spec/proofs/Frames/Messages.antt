@@ -1,7 +1,6 @@
 -- The words of a message at their places.
-use Rattle.cap_spec.proofs.Prelude.{List, [], ap, arith, get_or, inl, inr, length, subst, sym, ℕ, ◌<◌, ◌^◌, ◌∙◌, ◌≡◌}
-use Rattle.cap_spec.proofs.Prelude.{◌≤◌, cases_lt, get_or_past, same_Some, slice_get-get_or, slice_get_within, HasWord}
-use Rattle.cap_spec.proofs.Prelude.{IsMessage, segment_of}
+use Rattle.cap_spec.proofs.Prelude.{List, [], arith, get_or, length, subst, sym, ℕ, ◌<◌, ◌^◌, ◌∙◌, ◌≡◌, same_Some}
+use Rattle.cap_spec.proofs.Prelude.{slice_get-get_or, slice_get_within, HasWord, IsMessage, segment_of, common_steps}
 
 -- the word at a place is one word
 pub one_word : (m : List (List ℕ)) (s w x y : ℕ) → HasWord m s w x → HasWord m s w y → x ≡ y
@@ -15,15 +14,9 @@ HasWord-inside m s w x h = slice_get_within (segment_of m s) w x h
 pub HasWord-at : (m : List (List ℕ)) (s w : ℕ) → w < length (segment_of m s) → (x : ℕ) × HasWord m s w x
 HasWord-at m s w h = (get_or (segment_of m s) w 0, slice_get-get_or (segment_of m s) w 0 h)
 
--- a segment that there isn't has no words
-pub length-segment_of-past : (m : List (List ℕ)) (s : ℕ) → length m ≤ s → length (segment_of m s) ≡ 0
-length-segment_of-past m s h = ap length (get_or_past m s [] h)
-
 -- a word stands in a segment that there is
 pub HasWord-segment : (m : List (List ℕ)) (s w x : ℕ) → HasWord m s w x → s < length m
-HasWord-segment m s w x h =
-    let i : w < length (segment_of m s) = HasWord-inside m s w x h in
-    elim (cases_lt s (length m)) [ inl y ↦ y | inr y ↦ absurd (omega (arith, length-segment_of-past m s y)) ]
+HasWord-segment m s w x h = grind (arith, common_steps)
 
 -- a segment's places are numbers of 32 bits
 pub short_segment : (m : List (List ℕ)) (s : ℕ) → IsMessage m → s < length m → length (segment_of m s) < 2 ^ 32

@@ -10,7 +10,7 @@ use Rattle.cap_spec.proofs.Prelude.{length, length-drop, length-take-le, refl, s
 use Rattle.cap_spec.proofs.Prelude.{true, ℕ, ◌%◌, ◌*◌, ◌++◌, ◌+◌, ◌-◌, ◌/◌, ◌<◌, ◌^◌, ◌∙◌, ◌∷◌, ◌≡◌, ◌≤◌, cases_lt}
 use Rattle.cap_spec.proofs.Prelude.{sum_by-cons, AllByRecursion, BeginsMessage, Ending, EndsIn, TellsTooMany}
 use Rattle.cap_spec.proofs.Prelude.{TellsTooMuch, message, partial, too_large, too_many, IsPartial, IsTable, halves}
-use Rattle.cap_spec.proofs.Prelude.{in_contents, in_table, in_word, joined, sizes_of, IsWord}
+use Rattle.cap_spec.proofs.Prelude.{in_contents, in_table, in_word, joined, sizes_of, IsWord, common_steps, rules}
 
 -- words cut into segments of these sizes
 abbrev pub split : List ℕ → List ℕ → List (List ℕ)
@@ -31,23 +31,21 @@ split_sizes (n ∷ sizes) words l =
 pub split_joined : (sizes words : List ℕ) → words ≡ joined (split sizes words) ++ drop (sum sizes) words
 split_joined [] words = refl
 split_joined (n ∷ sizes) words =
-    let c : sum (n ∷ sizes) ≡ n + sum sizes = sum_by-cons (λ x. x) n sizes in
-    let t = split_joined sizes (drop n words) in
-    let d : drop (sum sizes) (drop n words) ≡ drop (sum (n ∷ sizes)) words = drop-drop (sum sizes) n words
-    ∙ ap (λ k. drop k words) (sym c) in
-    let a = append_assoc (take n words) (joined (split sizes (drop n words))) (drop (sum (n ∷ sizes)) words) in
-    let w = take-append-drop n words in
-    let u : drop n words ≡ joined (split sizes (drop n words)) ++ drop (sum (n ∷ sizes)) words = t
-    ∙ ap (λ k. joined (split sizes (drop n words)) ++ k) d in
-    sym w ∙ (ap (λ k. take n words ++ k) u ∙ sym a)
+    grind (
+      arith,
+      common_steps,
+      sum_by-cons,
+      drop-drop,
+      append_assoc,
+      take-append-drop,
+      split_joined sizes (drop n words),
+    )
 
 -- the halves of a word are below 2 ^ 32
 pub halves_fit : (words : List ℕ) → AllByRecursion IsWord words
     → AllByRecursion (λ n. n < 2 ^ 32) (flat_map halves words)
 halves_fit [] a = tt
-halves_fit (x ∷ words) a =
-    let h : x < 2 ^ 64 = a.0 in
-    ((omega arith), ((omega arith), halves_fit words a.1))
+halves_fit (x ∷ words) a = search (rules, halves_fit words a.1)
 
 -- the sizes in the table that begins with this word
 abbrev pub sizes_in : ℕ → List ℕ → List ℕ

@@ -1,11 +1,9 @@
 -- Streams of frames: none, one more in front, one more behind, and two joined.
-use Rattle.std.proofs.lemmas.List.Concat.{flat_map-append}
-use Rattle.cap_spec.proofs.Bytes.Lists.{all_append}
 use Rattle.cap_spec.proofs.Frames.Endings.{frame_some}
 use Rattle.cap_spec.proofs.Frames.Framing.{one_frame}
 use Rattle.cap_spec.proofs.Prelude.{List, [], ap, append-nil, append_assoc, arith, flat_map, inl, inr, length}
-use Rattle.cap_spec.proofs.Prelude.{length-append, map, refl, sym, ℕ, ◌++◌, ◌∙◌, ◌∷◌, ◌≡◌, ◌⊎◌, map-append}
-use Rattle.cap_spec.proofs.Prelude.{AllByRecursion, Frames, Stream}
+use Rattle.cap_spec.proofs.Prelude.{length-append, map, refl, sym, ℕ, ◌++◌, ◌∙◌, ◌∷◌, ◌≡◌, ◌⊎◌}
+use Rattle.cap_spec.proofs.Prelude.{AllByRecursion, Frames, Stream, common_steps, rules}
 
 -- no words are the stream of no messages
 pub stream_none : Stream [] []
@@ -28,14 +26,7 @@ stream_cons own rest m ms f s = record {
 -- two streams, one behind the other
 pub stream_append : (words rest : List ℕ) (ms ns : List (List (List ℕ))) → Stream words ms → Stream rest ns
     → Stream (words ++ rest) (ms ++ ns)
-stream_append words rest ms ns s t = record {
-  frames = s.frames ++ t.frames;
-  each = all_append (λ f. Frames f.0 f.1) s.frames t.frames s.each t.each;
-  whole = ap (λ k. k ++ rest) s.whole ∙ (ap (λ k. flat_map (λ f. f.0) s.frames ++ k) t.whole
-      ∙ sym (flat_map-append (λ f. f.0) s.frames t.frames));
-  messages = ap (λ k. k ++ ns) s.messages
-      ∙ (ap (λ k. map (λ f. f.1) s.frames ++ k) t.messages ∙ sym (map-append (λ f. f.1) s.frames t.frames));
-}
+stream_append words rest ms ns s t = grind (arith, common_steps)
 
 -- frames in front of others, in front of any words: the others go on from there
 pub frames_front : (fs hs : List (List ℕ × List (List ℕ))) (back : List ℕ) → AllByRecursion (λ f. Frames f.0 f.1) fs
@@ -61,12 +52,7 @@ frames_front (f ∷ fs) (h ∷ hs) back a b e =
 -- a stream that begins with another goes on behind it
 pub stream_front : (words back : List ℕ) (ms ns : List (List (List ℕ))) → Stream words ms → Stream (words ++ back) ns
     → (more : List (List (List ℕ))) × (ns ≡ ms ++ more) × Stream back more
-stream_front words back ms ns s t =
-    let front = frames_front s.frames t.frames back s.each t.each (sym t.whole ∙ ap (λ k. k ++ back) s.whole) in (
-      map (λ f. f.1) front.0,
-      t.messages ∙ (front.1 ∙ ap (λ k. k ++ map (λ f. f.1) front.0) (sym s.messages)),
-      record { frames = front.0; each = front.2; whole = front.3; messages = refl },
-    )
+stream_front words back ms ns s t = search (rules, frames_front)
 
 -- A stream has no words, or begins with the frame of its first message.
 pub record StreamNext (words : List ℕ) (ms : List (List (List ℕ))) : Type 0 where

@@ -3,11 +3,11 @@ use Rattle.cap_spec.proofs.Bytes.Plain.{length_plain}
 use Rattle.cap_spec.proofs.Packed.Unpacking.{cut_front, cut_short, length_marked, plain_reads, spread_append}
 use Rattle.cap_spec.proofs.Packed.Unpacking.{unpacked_front, unpacked_short, words_marked}
 use Rattle.cap_spec.proofs.Prelude.{List, [], ap, append-nil, append_assoc, arith, drop, drop_at, false, inl, inr}
-use Rattle.cap_spec.proofs.Prelude.{length, length-append, refl, slice_index, subst, sym, take, take_at, true, ℕ, ◌*◌}
+use Rattle.cap_spec.proofs.Prelude.{length, length-append, refl, slice_index, subst, sym, take_at, true, ℕ, ◌*◌}
 use Rattle.cap_spec.proofs.Prelude.{◌++◌, ◌+◌, ◌<◌, ◌∙◌, ◌∷◌, ◌≡◌, ◌≢◌, cases_lt, get_or_append_left, AllByRecursion}
-use Rattle.cap_spec.proofs.Prelude.{plain_text, plain_words, word_bytes, Cut, Groups, IsGroup, Unpacks, given_of}
-use Rattle.cap_spec.proofs.Prelude.{group_length, group_words, groups_text, groups_words, marked, marks, packed_is_cut}
-use Rattle.cap_spec.proofs.Prelude.{plain, unpacked, zeros, IsWord}
+use Rattle.cap_spec.proofs.Prelude.{plain_text, word_bytes, Cut, Groups, IsGroup, Unpacks, given_of}
+use Rattle.cap_spec.proofs.Prelude.{group_length, group_words, groups_text, groups_words, marked, packed_is_cut}
+use Rattle.cap_spec.proofs.Prelude.{plain, unpacked, zeros, IsWord, common_steps, rules}
 
 -- a group, whatever stands behind it: it is as long as its head says, and stands for its words
 pub record InFront (bytes words rest : List ℕ) : Type 0 where
@@ -22,15 +22,7 @@ plain_group x more = 255 ∷ (word_bytes x ++ length more ∷ plain_text more)
 -- of a plain group
 in_front_plain : (x : ℕ) (more rest : List ℕ) → IsWord x → AllByRecursion IsWord more
     → InFront (plain_group x more) (x ∷ more) rest
-in_front_plain x more rest h a =
-    let l : length (plain_text more) ≡ 8 * length more = length_plain more in
-    let t : take (8 * length more) (plain_text more ++ rest) ≡ plain_text more =
-    take_at (plain_text more) rest (8 * length more) l in
-    record {
-      some = omega arith;
-      long = omega arith;
-      spells = ap (λ k. plain_words (word_bytes x ++ k)) t ∙ plain_reads (x ∷ more) (h, a);
-    }
+in_front_plain x more rest h a = search (rules, length_plain, take_at, plain_reads)
 
 -- of any group
 pub in_front : (bytes words rest : List ℕ) → IsGroup bytes words → InFront bytes words rest
@@ -125,14 +117,7 @@ part_short tag part lacking spelled (plain x more h all few e w) some =
           omega (arith, g, i, l, a, m)
       | inr short ↦ omega (arith, g, short)
     ]
-part_short tag part lacking spelled (marked mark present p q all l e w) some =
-    let t : tag ≡ mark = cc in
-    let r : part ++ lacking ≡ present = cc in
-    let n = ap length r in
-    let a = length-append part lacking in
-    let g : group_length (tag ∷ part) ≡ 1 + marks 8 mark = ap (λ k. group_length (k ∷ part)) t
-    ∙ length_marked mark part p q in
-    omega (arith, g, n, a, l)
+part_short tag part lacking spelled (marked mark present p q all l e w) some = grind (arith, common_steps)
 
 -- a list that isn't empty has a member
 some_member : (xs : List ℕ) → xs ≢ [] → 0 < length xs

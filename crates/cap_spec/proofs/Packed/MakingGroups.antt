@@ -8,29 +8,17 @@ use Rattle.cap_spec.proofs.Prelude.{length-append, length-drop, length-take-le, 
 use Rattle.cap_spec.proofs.Prelude.{suc, sym, take, take-append-drop, take-take, zero, ℕ, ◌*◌, ◌++◌, ◌+◌, ◌-◌, ◌<◌, ◌∙◌}
 use Rattle.cap_spec.proofs.Prelude.{◌∷◌, ◌≡◌, ◌≢◌, ◌≤◌, cases_eq, drop-take, length-replicate, nil_from_length}
 use Rattle.cap_spec.proofs.Prelude.{AllByRecursion, little_number, plain_text, plain_words, word_bytes, IsGroup}
-use Rattle.cap_spec.proofs.Prelude.{group_length, group_words, marked, marks, plain, spread, zeros}
+use Rattle.cap_spec.proofs.Prelude.{group_length, group_words, marked, marks, plain, spread, zeros, common_steps, rules}
 
 -- bytes of whole words: so many words
 pub aligned_words : (n : ℕ) (bytes : List ℕ) → AllByRecursion (λ b. b < 256) bytes → length bytes ≡ 8 * n
     → length (plain_words bytes) ≡ n
-aligned_words n bytes all l =
-    let s = plain_split bytes all in
-    let p = s.partial in
-    let w = ap length s.whole in
-    let m = length_plain (plain_words bytes) in
-    let a = length-append (plain_text (plain_words bytes)) (drop (8 * length (plain_words bytes)) bytes) in
-    omega arith
+aligned_words n bytes all l = search (rules, plain_split, length_plain, length-append)
 
 -- they are the text of these words
 pub aligned_text : (n : ℕ) (bytes : List ℕ) → AllByRecursion (λ b. b < 256) bytes → length bytes ≡ 8 * n
     → plain_text (plain_words bytes) ≡ bytes
-aligned_text n bytes all l =
-    let s = plain_split bytes all in
-    let k = aligned_words n bytes all l in
-    let d = length-drop (8 * length (plain_words bytes)) bytes in
-    let r : drop (8 * length (plain_words bytes)) bytes ≡ [] =
-    nil_from_length (drop (8 * length (plain_words bytes)) bytes) (omega arith) in
-    sym (s.whole ∙ (ap (λ m. plain_text (plain_words bytes) ++ m) r ∙ append-nil (plain_text (plain_words bytes))))
+aligned_text n bytes all l = search (rules, plain_split, aligned_words, length-drop, nil_from_length, append-nil)
 
 -- eight bytes, a count, and the bytes of so many words are a plain group behind its tag
 makes_plain : (a b c d e f g h n : ℕ) (bytes : List ℕ)
@@ -151,25 +139,8 @@ complete_zeros (x ∷ bytes) h = absurd (omega arith)
 -- bytes that are shorter than their head says begin a group
 pub begins_group : (tag : ℕ) (bytes : List ℕ) → AllByRecursion (λ b. b < 256) (tag ∷ bytes)
     → length (tag ∷ bytes) < group_length (tag ∷ bytes) → Completes (tag ∷ bytes)
-begins_group tag bytes all h = elim (cases_eq tag 0) [
-  | inl zero_tag ↦
-      let l : group_length (tag ∷ bytes) ≡ 2 = ap (λ k. group_length (k ∷ bytes)) zero_tag in
-      subst (λ k. Completes (k ∷ bytes)) (sym zero_tag) (complete_zeros bytes (omega (arith, l, h)))
-  | inr some_tag ↦ elim (cases_eq tag 255) [
-    | inl full_tag ↦
-        let l : group_length (tag ∷ bytes) ≡ 10 + 8 * slice_index bytes 8 =
-        ap (λ k. group_length (k ∷ bytes)) full_tag in
-        subst (λ k. Completes (k ∷ bytes)) (sym full_tag) (complete_plain bytes all.1 (omega (arith, l, h)))
-    | inr other_tag ↦
-        let no : tag ≡ 0 → ⊥ = some_tag in
-        let not : tag ≡ 255 → ⊥ = other_tag in
-        let below : tag < 256 = all.0 in
-        let p : 0 < tag = omega (arith, no) in
-        let q : tag < 255 = omega (arith, not, below) in
-        let l = length_marked tag bytes p q in
-        complete_marked tag bytes p q all.1 (omega (arith, l, h))
-  ]
-]
+begins_group tag bytes all h =
+    grind (arith, common_steps, complete_zeros, complete_plain, length_marked, complete_marked)
 
 -- the bytes of a whole group of zeros
 whole_zeros : (bytes : List ℕ) → AllByRecursion (λ b. b < 256) bytes → 1 ≤ length bytes

@@ -2,12 +2,10 @@
 use Rattle.cap_spec.specs.PackedEnds.{group_ends}
 use Rattle.cap_spec.proofs.Packed.Groups.{in_front, part_is_short}
 use Rattle.cap_spec.proofs.Packed.Unpacking.{drop_less, group_some}
-use Rattle.cap_spec.proofs.Prelude.{List, [], ap, arith, drop, drop_at, false, if◌then◌else◌, inl, inr, le-ltb, length}
-use Rattle.cap_spec.proofs.Prelude.{length-append, lt-ltb, nat_lt, ne_eqb, refl, replicate, slice_index, suc, sym, take}
-use Rattle.cap_spec.proofs.Prelude.{zero, ℕ, ◌++◌, ◌+◌, ◌<◌, ◌==◌, ◌∙◌, ◌∷◌, ◌≡◌, ◌≢◌, ◌≤◌, cases_lt}
-use Rattle.cap_spec.proofs.Prelude.{get_or_append_left, length-replicate, ends_in, front_ends, packed_ends, word_ends}
-use Rattle.cap_spec.proofs.Prelude.{capped, plain_text, plain_words, word_bytes, IsGroup, given_of, group_length}
-use Rattle.cap_spec.proofs.Prelude.{marked, marks, plain, zeros}
+use Rattle.cap_spec.proofs.Prelude.{List, [], ap, arith, drop, drop_at, if◌then◌else◌, le-ltb, length, length-append}
+use Rattle.cap_spec.proofs.Prelude.{nat_lt, refl, suc, sym, take, zero, ℕ, ◌++◌, ◌+◌, ◌<◌, ◌∙◌, ◌∷◌, ◌≡◌, ◌≢◌, ◌≤◌}
+use Rattle.cap_spec.proofs.Prelude.{length-replicate, ends_in, front_ends, packed_ends, word_ends, capped, IsGroup}
+use Rattle.cap_spec.proofs.Prelude.{given_of, group_length, marked, plain, zeros, common_steps, rules}
 
 -- no bytes give only the end
 pub ends_nil : (n at : ℕ) → ends_in n at [] ≡ capped at ∷ []
@@ -37,44 +35,20 @@ ends_front : (at : ℕ) (bytes : List ℕ) → 0 < length bytes → group_length
     packed_ends at bytes ≡ front_ends at bytes ++ packed_ends (at + group_length bytes)
     (drop (group_length bytes) bytes)
 ends_front at [] s h = absurd (omega arith)
-ends_front at (x ∷ bytes) s h =
-    let k = group_length (x ∷ bytes) in
-    let rest = drop k (x ∷ bytes) in
-    ap (λ t. if t then (take (length (given_of (x ∷ bytes))) (front_ends at (x ∷ bytes)) ++ capped
-    (at + length (x ∷ bytes)) ∷ []) else (front_ends at (x ∷ bytes) ++ ends_in (length bytes) (at + k) rest))
-    (le-ltb (length (x ∷ bytes)) (group_length (x ∷ bytes)) h)
-    ∙ ap (λ r. front_ends at (x ∷ bytes) ++ r)
-    (ends_stable (length bytes) (length rest) (at + k) rest
-    (drop_less k (length bytes) x bytes (group_some x bytes) (omega arith)) (omega arith))
+ends_front at (x ∷ bytes) s h = search (rules, le-ltb, ends_stable, drop_less, group_some)
 
 -- where it isn't
 ends_short : (at : ℕ) (bytes : List ℕ) → length bytes < group_length bytes
     → packed_ends at bytes ≡ take (length (given_of bytes)) (front_ends at bytes) ++ capped (at + length bytes) ∷ []
 ends_short at [] h = absurd (omega arith)
-ends_short at (x ∷ bytes) h =
-    ap (λ t. if t then (take (length (given_of (x ∷ bytes))) (front_ends at (x ∷ bytes)) ++ capped
-    (at + length (x ∷ bytes)) ∷ []) else (front_ends at (x ∷ bytes) ++ ends_in (length bytes)
-    (at + group_length (x ∷ bytes)) (drop (group_length (x ∷ bytes)) (x ∷ bytes))))
-    (lt-ltb (length (x ∷ bytes)) (group_length (x ∷ bytes)) h)
-
--- at a tag that is neither 0 nor 255
-ends_marked : (at tag : ℕ) (bytes : List ℕ) → 0 < tag → tag < 255
-    → front_ends at (tag ∷ bytes) ≡ capped (at + (1 + marks 8 tag)) ∷ []
-ends_marked at tag bytes p q =
-    ap (λ t. if t then replicate (1 + slice_index bytes 0) (capped (at + 2)) else
-    (if tag == 255 then (capped (at + 10) ∷ word_ends (at + 10) (slice_index bytes 8))
-    else (capped (at + (1 + marks 8 tag)) ∷ []))) (ne_eqb tag 0 (λ e. absurd (omega arith)))
-    ∙ ap (λ t. if t then (capped (at + 10) ∷ word_ends (at + 10) (slice_index bytes 8))
-    else (capped (at + (1 + marks 8 tag)) ∷ [])) (ne_eqb tag 255 (λ e. absurd (omega arith)))
+ends_short at (x ∷ bytes) h = grind (arith, common_steps)
 
 -- the head of a group tells the positions of its words
 front_as_group : {bytes words : List ℕ} (at : ℕ) (rest : List ℕ) (g : IsGroup bytes words)
     → front_ends at (bytes ++ rest) ≡ group_ends at g
 front_as_group at rest (zeros n h e w) = ap (λ k. front_ends at (k ++ rest)) e
 front_as_group at rest (plain x more h a l e w) = ap (λ k. front_ends at (k ++ rest)) e
-front_as_group at rest (marked tag present p q a l e w) =
-    ap (λ k. front_ends at (k ++ rest)) e ∙ (ends_marked at tag (present ++ rest) p q
-    ∙ ap (λ n. capped (at + (1 + n)) ∷ []) (sym l))
+front_as_group at rest (marked tag present p q a l e w) = grind (arith, common_steps)
 
 -- a group in front comes off, with the positions of its words
 pub ends_off : (at : ℕ) (bytes words rest : List ℕ) (g : IsGroup bytes words)
@@ -90,37 +64,13 @@ ends_off at bytes words rest g =
     ∙ (ap (λ n. group_ends at g ++ packed_ends (at + n) (drop n (bytes ++ rest))) k
     ∙ ap (λ n. group_ends at g ++ packed_ends (at + length bytes) n) (drop_at bytes rest (length bytes) refl)))
 
--- no words, no positions
-none_taken : (words : List ℕ) (xs ys : List ℕ) → words ≡ [] → take (length words) xs ≡ take (length words) ys
-none_taken words xs ys e = ap (λ l. take (length l) xs) e ∙ sym (ap (λ l. take (length l) ys) e)
-
 -- the words that the beginning of a group gives have the positions that they have in the whole group
 part_as_group : (at tag : ℕ) (part lacking words : List ℕ) (g : IsGroup (tag ∷ (part ++ lacking)) words) →
     take (length (given_of (tag ∷ part))) (front_ends at (tag ∷ part))
     ≡ take (length (given_of (tag ∷ part))) (group_ends at g)
-part_as_group at tag part lacking words (zeros n h e w) =
-    let t : tag ≡ 0 = cc in
-    none_taken (given_of (tag ∷ part)) _ _ (ap (λ k. given_of (k ∷ part)) t)
-part_as_group at tag part lacking words (plain x more h all few e w) =
-    let t : tag ≡ 255 = cc in
-    let r : part ++ lacking ≡ word_bytes x ++ length more ∷ plain_text more = cc in
-    elim (cases_lt 8 (length part)) [
-      | inl long ↦
-          let i : slice_index part 8 ≡ length more = sym (get_or_append_left part lacking 0 8 long)
-          ∙ ap (λ k. slice_index k 8) r in
-          ap (λ l. take (length (given_of (tag ∷ part))) l)
-          (ap (λ k. front_ends at (k ∷ part)) t ∙ ap (λ n. capped (at + 10) ∷ word_ends (at + 10) n) i)
-      | inr short ↦
-          none_taken (given_of (tag ∷ part)) _ _ (ap (λ k. given_of (k ∷ part)) t
-          ∙ ap (λ b. if b then [] else plain_words (take 8 part ++ drop 9 part))
-          (lt-ltb (length part) 9 (omega (arith, short))))
-    ]
-part_as_group at tag part lacking words (marked mark present p q all l e w) =
-    let t : tag ≡ mark = cc in
-    let not_full : (tag == 255) ≡ false = ne_eqb tag 255 (λ h. absurd (omega (arith, t, q))) in
-    none_taken (given_of (tag ∷ part)) _ _ (ap
-    (λ b. if b then (if nat_lt (length part) 9 then [] else plain_words
-    (take 8 part ++ drop 9 part)) else []) not_full)
+part_as_group at tag part lacking words (zeros n h e w) = grind (arith, common_steps)
+part_as_group at tag part lacking words (plain x more h all few e w) = grind (arith, common_steps)
+part_as_group at tag part lacking words (marked mark present p q all l e w) = grind (arith, common_steps)
 
 -- the beginning of a group that isn't the whole of it: the words that it gives, and the end
 pub ends_cut : (at : ℕ) (part lacking words : List ℕ) → part ≢ [] → lacking ≢ []

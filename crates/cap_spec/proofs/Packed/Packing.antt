@@ -1,10 +1,10 @@
 -- How the packed text that is written splits into its groups.
 use Rattle.std.proofs.lemmas.List.Sums.{take_while-cons}
 use Rattle.cap_spec.proofs.Prelude.{Bool, List, [], ap, arith, cond, drop, false, filter, length, length-drop}
-use Rattle.cap_spec.proofs.Prelude.{length-take, min, nat_le, ne_eqb, not, refl, replicate, suc, take, take_while, true}
-use Rattle.cap_spec.proofs.Prelude.{zero, ℕ, ⊎_elim, ◌++◌, ◌+◌, ◌-◌, ◌<◌, ◌==◌, ◌∙◌, ◌∷◌, ◌≡◌, ◌≢◌, ◌≤◌, cases_lt}
+use Rattle.cap_spec.proofs.Prelude.{length-take, ne_eqb, not, refl, replicate, suc, take, take_while, true}
+use Rattle.cap_spec.proofs.Prelude.{zero, ℕ, ◌++◌, ◌+◌, ◌-◌, ◌<◌, ◌==◌, ◌∙◌, ◌∷◌, ◌≡◌, ◌≢◌, ◌≤◌}
 use Rattle.cap_spec.proofs.Prelude.{length-replicate, prefix_len, full_run, group_size, group_text, pack_in, pack_text}
-use Rattle.cap_spec.proofs.Prelude.{tag_of, zero_bytes, zero_run, plain_text, word_bytes}
+use Rattle.cap_spec.proofs.Prelude.{tag_of, zero_bytes, zero_run, plain_text, word_bytes, common_steps, rules}
 
 -- with room for all the groups, more room makes no difference
 pub pack_in-enough : (n m : ℕ) (ws : List ℕ) → length ws ≤ n → length ws ≤ m → pack_in n ws ≡ pack_in m ws
@@ -23,10 +23,7 @@ pack_in-enough (suc n) (suc m) (w ∷ ws) p q =
 pub pack_text-front : (w : ℕ) (ws : List ℕ) →
     pack_text (w ∷ ws) ≡ group_text w (group_size (w ∷ ws) - 1) (take (group_size (w ∷ ws) - 1) ws) ++ pack_text
     (drop (group_size (w ∷ ws) - 1) ws)
-pack_text-front w ws =
-    let k = group_size (w ∷ ws) - 1 in
-    ap (λ t. group_text w k (take k ws) ++ t)
-    (pack_in-enough (length ws) (length (drop k ws)) (drop k ws) (omega (arith, length-drop k ws)) (omega arith))
+pack_text-front w ws = search (rules, pack_in-enough, length-drop)
 
 take-front : (more rest : List ℕ) → take (length more) (more ++ rest) ≡ more
 take-front [] rest = refl
@@ -39,12 +36,7 @@ drop-front (x ∷ more) rest = drop-front more rest
 -- where the group in front takes just these words, its text and then that of the rest
 pub pack_text-group : (w : ℕ) (more rest : List ℕ) → group_size (w ∷ (more ++ rest)) ≡ 1 + length more →
     pack_text (w ∷ (more ++ rest)) ≡ group_text w (length more) more ++ pack_text rest
-pack_text-group w more rest e =
-    let k : group_size (w ∷ (more ++ rest)) - 1 ≡ length more = omega (arith, e) in
-    pack_text-front w (more ++ rest)
-    ∙ ap (λ n. group_text w n (take n (more ++ rest)) ++ pack_text (drop n (more ++ rest))) k
-    ∙ ap (λ t. group_text w (length more) t ++ pack_text (drop (length more) (more ++ rest))) (take-front more rest)
-    ∙ ap (λ t. group_text w (length more) more ++ pack_text t) (drop-front more rest)
+pack_text-group w more rest e = grind (arith, common_steps, pack_text-front, take-front, drop-front)
 
 front-pass : (p : ℕ → Bool) (x : ℕ) (xs : List ℕ) → p x ≡ true
     → length (take_while p (x ∷ xs)) ≡ 1 + length (take_while p xs)
@@ -61,26 +53,18 @@ front-more : (p : ℕ → Bool) (x : ℕ) (xs ys : List ℕ) →
     (length (take_while p xs) ≡ length xs → length (take_while p (xs ++ ys)) ≡ length xs + length (take_while p ys)) →
     (b : Bool) → p x ≡ b → length (take_while p (x ∷ xs)) ≡ 1 + length xs
     → length (take_while p (x ∷ (xs ++ ys))) ≡ 1 + length xs + length (take_while p ys)
-front-more p x xs ys more true e h = omega
-    (arith, more (omega (arith, h, front-pass p x xs e)), front-pass p x (xs ++ ys) e)
-front-more p x xs ys more false e h = absurd (omega (arith, h, front-stop p x xs e))
+front-more p x xs ys more x5 e h = search (rules, front-pass, front-stop)
 
 -- where all of a list passes, the front that passes goes on behind it
 pub front-append : (p : ℕ → Bool) (xs ys : List ℕ) → length (take_while p xs) ≡ length xs →
     length (take_while p (xs ++ ys)) ≡ length xs + length (take_while p ys)
 front-append p [] ys h = omega arith
-front-append p (x ∷ xs) ys h =
-    let more = front-more p x xs ys (front-append p xs ys) (p x) refl (omega (arith, h)) in
-    omega (arith, more)
+front-append p (x ∷ xs) ys h = search (rules, front-more, front-append p xs ys)
 
 -- a run of zero words, and what goes on behind it
 pub zero_run-append : (n : ℕ) (rest : List ℕ) → zero_run (replicate n 0 ++ rest) ≡ n + zero_run rest
 zero_run-append zero rest = omega arith
-zero_run-append (suc n) rest = omega (
-  arith,
-  front-pass (λ x. x == 0) 0 (replicate n 0 ++ rest) refl,
-  zero_run-append n rest,
-)
+zero_run-append (suc n) rest = search (rules, front-pass, zero_run-append n rest)
 
 -- another word than zero ends a run of zero words
 pub zero_run-ends : (w : ℕ) (ws : List ℕ) → w ≢ 0 → zero_run (w ∷ ws) ≡ 0
@@ -93,20 +77,13 @@ nonzero_word w h e = absurd (omega (arith, ap zero_bytes e))
 -- how many words a group of zero words takes
 pub group_size-zeros : (n : ℕ) (rest : List ℕ) → n ≤ 255 → (n < 255 → zero_run rest ≡ 0)
     → group_size (0 ∷ (replicate n 0 ++ rest)) ≡ 1 + n
-group_size-zeros n rest h closes =
-    let run = zero_run-append (suc n) rest in
-    ⊎_elim (λ less. omega (arith, run, closes less)) (λ full. omega (arith, run, full)) (cases_lt n 255)
+group_size-zeros n rest h closes = search (rules, zero_run-append)
 
 -- how many words a group of words as they are takes
 pub group_size-plain : (x : ℕ) (more rest : List ℕ) → zero_bytes x ≡ 0 → full_run more ≡ length more
     → length more ≤ 255 →
     (length more < 255 → full_run rest ≡ 0) → group_size (x ∷ (more ++ rest)) ≡ 1 + length more
-group_size-plain x more rest z e h closes =
-    let run = front-append (λ w. nat_le (zero_bytes w) 1) more rest e in
-    let size : min 255 (full_run (more ++ rest)) ≡ length more =
-    ⊎_elim (λ less. omega (arith, run, closes less)) (λ full. omega (arith, run, full))
-    (cases_lt (length more) 255) in
-    rw (ne_eqb x 0 (nonzero_word x (omega (arith, z))), z, size) refl
+group_size-plain x more rest z e h closes = search (rules, front-append, ne_eqb, nonzero_word)
 
 -- any other word is a group by itself
 pub group_size-marked : (x : ℕ) (rest : List ℕ) → x ≢ 0 → zero_bytes x ≢ 0 → group_size (x ∷ rest) ≡ 1
@@ -147,8 +124,4 @@ pack_text-marked x rest h z =
 -- a group of words as they are has at most 255 behind the first, each with at most one zero byte
 pub plain_full : (x : ℕ) (more : List ℕ) → zero_bytes x ≡ 0 → group_size (x ∷ more) ≡ 1 + length more
     → (full_run more ≡ length more) × (length more ≤ 255)
-plain_full x more z e =
-    let size : group_size (x ∷ more) ≡ 1 + min 255 (full_run more) =
-    rw (ne_eqb x 0 (nonzero_word x (omega (arith, z))), z) refl in
-    let le = front-le (λ w. nat_le (zero_bytes w) 1) more in
-    (omega (arith, size, e, le), omega (arith, size, e, le))
+plain_full x more z e = grind (arith, common_steps)

@@ -11,7 +11,7 @@ use Rattle.cap_spec.proofs.Prelude.{sym, take, take-append-drop, zero, ℕ, ◌%
 use Rattle.cap_spec.proofs.Prelude.{◌∙◌, ◌∷◌, ◌≡◌, ◌≢◌, ◌≤◌, pow-succ', cases_eq, AllByRecursion, little_number}
 use Rattle.cap_spec.proofs.Prelude.{little_from-cons, full_run, group_size, group_text, pack_in, pack_text, tag_of}
 use Rattle.cap_spec.proofs.Prelude.{zero_bytes, zero_run, zeros_in, plain_text, word_bytes, IsGroup, Unpacks, marked}
-use Rattle.cap_spec.proofs.Prelude.{marks, packed_is_cut, plain, spread, unpacked, zeros, IsWord}
+use Rattle.cap_spec.proofs.Prelude.{marks, packed_is_cut, plain, spread, unpacked, zeros, IsWord, rules}
 
 -- the bytes of a word that aren't zero
 abbrev pub present_of : List ℕ → List ℕ
@@ -40,24 +40,7 @@ count_more b bytes n = ap (λ t. (if t then 1 else 0) + zeros_in bytes) (ne_eqb 
 -- the tag marks as many bytes as aren't zero
 marks_tag : (bytes : List ℕ) → marks (length bytes) (tag_of bytes) ≡ length (present_of bytes)
 marks_tag [] = refl
-marks_tag (b ∷ bytes) = elim (cases_eq b 0) [
-  | inl none ↦
-      let t = tag_zero b bytes none in
-      let p = ap length (present_zero b bytes none) in
-      let low : tag_of (b ∷ bytes) % 2 ≡ 0 = omega (arith, t) in
-      let high : tag_of (b ∷ bytes) / 2 ≡ tag_of bytes = omega (arith, t) in
-      let m : marks (length bytes) (tag_of (b ∷ bytes) / 2) ≡ length (present_of bytes) = ap (marks (length bytes)) high
-      ∙ marks_tag bytes in
-      omega (arith, low, m, p)
-  | inr some ↦
-      let t = tag_more b bytes some in
-      let p = ap length (present_more b bytes some) in
-      let low : tag_of (b ∷ bytes) % 2 ≡ 1 = omega (arith, t) in
-      let high : tag_of (b ∷ bytes) / 2 ≡ tag_of bytes = omega (arith, t) in
-      let m : marks (length bytes) (tag_of (b ∷ bytes) / 2) ≡ length (present_of bytes) = ap (marks (length bytes)) high
-      ∙ marks_tag bytes in
-      omega (arith, low, m, p)
-]
+marks_tag (b ∷ bytes) = search (rules, tag_zero, present_zero, tag_more, present_more, marks_tag bytes)
 
 -- no bytes make no number
 pub spread_empty : (n tag : ℕ) → spread n tag [] ≡ 0
@@ -74,45 +57,23 @@ spread_even n tag (b ∷ present) e = spread_clear n tag b present e
 spread_tag : (bytes : List ℕ) → spread (length bytes) (tag_of bytes) (present_of bytes)
     ≡ little_number (length bytes) bytes
 spread_tag [] = refl
-spread_tag (b ∷ bytes) = elim (cases_eq b 0) [
-  | inl none ↦
-      let t = tag_zero b bytes none in
-      let n = length bytes in
-      let low : tag_of (b ∷ bytes) % 2 ≡ 0 = omega (arith, t) in
-      let high : tag_of (b ∷ bytes) / 2 ≡ tag_of bytes = omega (arith, t) in
-      let c = little_from-cons 0 n b bytes in
-      let s : spread n (tag_of bytes) (present_of bytes) ≡ little_number n bytes = spread_tag bytes in
-      let e : spread (suc n) (tag_of (b ∷ bytes)) (present_of (b ∷ bytes))
-      ≡ 256 * spread n (tag_of bytes) (present_of bytes) =
-      ap (spread (suc n) (tag_of (b ∷ bytes))) (present_zero b bytes none)
-      ∙ (spread_even n (tag_of (b ∷ bytes)) (present_of bytes) low
-      ∙ ap (λ k. 256 * spread n k (present_of bytes)) high) in
-      omega (arith, none, c, s, e)
-  | inr some ↦
-      let t = tag_more b bytes some in
-      let n = length bytes in
-      let low : tag_of (b ∷ bytes) % 2 ≡ 1 = omega (arith, t) in
-      let high : tag_of (b ∷ bytes) / 2 ≡ tag_of bytes = omega (arith, t) in
-      let c = little_from-cons 0 n b bytes in
-      let s : spread n (tag_of bytes) (present_of bytes) ≡ little_number n bytes = spread_tag bytes in
-      let e : spread (suc n) (tag_of (b ∷ bytes)) (present_of (b ∷ bytes))
-      ≡ b + 256 * spread n (tag_of bytes) (present_of bytes) =
-      ap (spread (suc n) (tag_of (b ∷ bytes))) (present_more b bytes some)
-      ∙ (spread_set n (tag_of (b ∷ bytes)) b (present_of bytes) low
-      ∙ ap (λ k. b + 256 * spread n k (present_of bytes)) high) in
-      omega (arith, c, s, e)
-]
+spread_tag (b ∷ bytes) =
+    search (
+      rules,
+      tag_zero,
+      little_from-cons,
+      present_zero,
+      spread_even,
+      tag_more,
+      present_more,
+      spread_set,
+      spread_tag bytes,
+    )
 
 -- a tag of so many bits
 pub tag_below : (bytes : List ℕ) → tag_of bytes < 2 ^ length bytes
 tag_below [] = omega arith
-tag_below (b ∷ bytes) =
-    let t = tag_below bytes in
-    let p = pow-succ' 2 (length bytes) in
-    elim (cases_eq b 0) [
-      | inl none ↦ let e = tag_zero b bytes none in omega (arith, t, p, e)
-      | inr some ↦ let e = tag_more b bytes some in omega (arith, t, p, e)
-    ]
+tag_below (b ∷ bytes) = search (rules, pow-succ', tag_zero, tag_more, tag_below bytes)
 
 -- with a zero byte not all are set
 tag_not_full : (bytes : List ℕ) → 0 < zeros_in bytes → tag_of bytes + 1 < 2 ^ length bytes
@@ -131,10 +92,7 @@ tag_not_full (b ∷ bytes) h =
 -- what holds of all bytes holds of those that aren't zero
 present_fit : (P : ℕ → Type 0) (bytes : List ℕ) → AllByRecursion P bytes → AllByRecursion P (present_of bytes)
 present_fit P [] all = tt
-present_fit P (b ∷ bytes) all = elim (cases_eq b 0) [
-  | inl none ↦ subst (AllByRecursion P) (sym (present_zero b bytes none)) (present_fit P bytes all.1)
-  | inr some ↦ subst (AllByRecursion P) (sym (present_more b bytes some)) (all.0, present_fit P bytes all.1)
-]
+present_fit P (b ∷ bytes) all = search (rules, present_zero, present_more, present_fit P bytes all.1)
 
 -- a word with a zero byte that isn't zero, by the bytes that aren't
 pub marked_group : (x : ℕ) → IsWord x → x ≢ 0 → 0 < zero_bytes x
@@ -241,6 +199,4 @@ pack_text_unpacks words all = pack_in_unpacks (length words) words (omega arith)
 -- and gives them, to the end
 pub pack_text_reads : (words : List ℕ) → AllByRecursion IsWord words
     → (unpacked (pack_text words) ≡ words) × (packed_is_cut (pack_text words) ≡ false)
-pack_text_reads words all =
-    let u = pack_text_unpacks words all in
-    (sym (unpacks_words (pack_text words) words u), unpacks_whole (pack_text words) words u)
+pack_text_reads words all = search (rules, pack_text_unpacks, unpacks_words, unpacks_whole)

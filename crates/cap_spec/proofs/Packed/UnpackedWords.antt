@@ -4,40 +4,31 @@ use Rattle.cap_spec.proofs.Bytes.Plain.{plain_split}
 use Rattle.cap_spec.proofs.Bytes.WordBytes.{bytes_fit}
 use Rattle.cap_spec.proofs.Packed.OneUnpacking.{Becomes, becomes, part, whole}
 use Rattle.cap_spec.proofs.Packed.Unpacking.{spread_clear, spread_set}
-use Rattle.cap_spec.proofs.Prelude.{Bool, List, [], arith, drop, false, if◌then◌else◌, inl, inr, length, nat_lt}
-use Rattle.cap_spec.proofs.Prelude.{replicate, slice_index, subst, suc, sym, take, true, zero, ℕ, ◌%◌, ◌++◌, ◌+◌, ◌/◌}
-use Rattle.cap_spec.proofs.Prelude.{◌<◌, ◌==◌, ◌^◌, ◌∷◌, ◌≡◌, pow-succ', cases_eq, AllByRecursion, little_from}
-use Rattle.cap_spec.proofs.Prelude.{little_number, plain_text, plain_words, word_bytes, Groups, IsGroup, Unpacks}
-use Rattle.cap_spec.proofs.Prelude.{given_of, groups_text, groups_words, marked, plain, spread, unpacked, zeros, IsWord}
+use Rattle.cap_spec.proofs.Prelude.{Bool, List, [], arith, drop, false, if◌then◌else◌, length, nat_lt, replicate}
+use Rattle.cap_spec.proofs.Prelude.{slice_index, subst, suc, sym, take, true, zero, ℕ, ◌++◌, ◌+◌, ◌/◌, ◌<◌, ◌==◌, ◌^◌}
+use Rattle.cap_spec.proofs.Prelude.{◌∷◌, pow-succ', AllByRecursion, little_from, little_number, plain_text}
+use Rattle.cap_spec.proofs.Prelude.{plain_words, word_bytes, Groups, IsGroup, Unpacks, given_of, groups_text}
+use Rattle.cap_spec.proofs.Prelude.{groups_words, marked, plain, spread, unpacked, zeros, IsWord, rules}
 
 -- bytes by a tag make a number of so many bytes
 pub spread_below : (n tag : ℕ) (present : List ℕ) → AllByRecursion (λ b. b < 256) present
     → spread n tag present < 256 ^ n
 spread_below zero tag present all = omega arith
 spread_below (suc n) tag [] all = let p = pow-succ' 256 n in let q = spread_below n tag [] tt in omega (arith, p, q)
-spread_below (suc n) tag (b ∷ present) all = elim (cases_eq (tag % 2) 0) [
-  | inl clear ↦
-      let c = spread_clear n tag b present clear in
-      let t = spread_below n (tag / 2) (b ∷ present) all in
-      let p = pow-succ' 256 n in
-      omega (arith, c, t, p)
-  | inr odd ↦
-      let one : tag % 2 ≡ 1 = (let no : tag % 2 ≡ 0 → ⊥ = odd in omega arith) in
-      let h : b < 256 = all.0 in
-      let c = spread_set n tag b present one in
-      let t = spread_below n (tag / 2) present all.1 in
-      let p = pow-succ' 256 n in
-      omega (arith, c, t, p, h)
-]
+spread_below (suc n) tag (b ∷ present) all =
+    search (
+      rules,
+      spread_clear,
+      pow-succ',
+      spread_set,
+      spread_below n (tag / 2) (b ∷ present) all,
+      spread_below n (tag / 2) present all.1,
+    )
 
 -- so do so many bytes as they are, of which those past the end are zeros
 little_below : (n i : ℕ) (bytes : List ℕ) → ((k : ℕ) → slice_index bytes k < 256) → little_from i n bytes < 256 ^ n
 little_below zero i bytes each = omega arith
-little_below (suc n) i bytes each =
-    let b = each i in
-    let rest = little_below n (suc i) bytes each in
-    let p = pow-succ' 256 n in
-    omega (arith, b, rest, p)
+little_below (suc n) i bytes each = search (rules, pow-succ', little_below n (suc i) bytes each)
 
 byte_at : (bytes : List ℕ) → AllByRecursion (λ b. b < 256) bytes → (i : ℕ) → slice_index bytes i < 256
 byte_at [] all i = omega arith
@@ -109,15 +100,7 @@ plain_are_bytes (x ∷ words) = all_append (λ b. b < 256) (word_bytes x) (plain
 
 -- a group is bytes
 pub group_are_bytes : (bytes words : List ℕ) → IsGroup bytes words → AllByRecursion (λ b. b < 256) bytes
-group_are_bytes bytes words (zeros n h e w) = subst (AllByRecursion (λ b. b < 256)) (sym e) ((omega arith), (h, tt))
-group_are_bytes bytes words (plain x more h all l e w) =
-    subst (AllByRecursion (λ b. b < 256)) (sym e) (
-      (omega arith),
-      all_append (λ b. b < 256) (word_bytes x) (length more ∷ plain_text more) (bytes_fit 0 8 x)
-          (l, plain_are_bytes more),
-    )
-group_are_bytes bytes words (marked tag present p q all l e w) =
-    subst (AllByRecursion (λ b. b < 256)) (sym e) ((omega (arith, q)), all)
+group_are_bytes bytes words x2 = search (rules, all_append, bytes_fit, plain_are_bytes)
 
 -- so are groups
 groups_are_bytes : (groups : Groups) → AllByRecursion (λ g. IsGroup g.0 g.1) groups

@@ -1,11 +1,11 @@
 -- Packed text as it is read: how many groups are looked for makes no difference,
 -- and the group in front comes off whole.
 use Rattle.cap_spec.proofs.Bytes.Plain.{plain_back}
-use Rattle.cap_spec.proofs.Prelude.{Bool, List, [], ap, append-nil, arith, drop, false, if◌then◌else◌, inl, inr, le-ltb}
-use Rattle.cap_spec.proofs.Prelude.{length, length-drop, lt-ltb, nat_lt, ne_eqb, refl, replicate, slice_index, suc, sym}
-use Rattle.cap_spec.proofs.Prelude.{take, true, zero, ℕ, ◌%◌, ◌*◌, ◌++◌, ◌+◌, ◌/◌, ◌<◌, ◌==◌, ◌∙◌, ◌∷◌, ◌≡◌, ◌≤◌}
-use Rattle.cap_spec.proofs.Prelude.{cases_eq, AllByRecursion, plain_text, plain_words, given_in, given_of, group_length}
-use Rattle.cap_spec.proofs.Prelude.{group_words, is_cut_in, marks, packed_is_cut, spread, unpacked, IsWord}
+use Rattle.cap_spec.proofs.Prelude.{Bool, List, [], ap, append-nil, arith, drop, false, if◌then◌else◌, inl, inr}
+use Rattle.cap_spec.proofs.Prelude.{le-ltb, length, length-drop, lt-ltb, nat_lt, refl, suc, sym, true, zero, ℕ, ◌%◌}
+use Rattle.cap_spec.proofs.Prelude.{◌*◌, ◌++◌, ◌+◌, ◌/◌, ◌<◌, ◌==◌, ◌∙◌, ◌∷◌, ◌≡◌, ◌≤◌, cases_eq, AllByRecursion}
+use Rattle.cap_spec.proofs.Prelude.{plain_text, plain_words, given_in, given_of, group_length, group_words, is_cut_in}
+use Rattle.cap_spec.proofs.Prelude.{marks, packed_is_cut, spread, unpacked, IsWord, common_steps, rules}
 
 -- two numbers above zero: so is the one chosen
 some_of : (c : Bool) (a b : ℕ) → 0 < a → 0 < b → 0 < (if c then a else b)
@@ -60,40 +60,22 @@ cut_stable (suc n) (suc m) (x ∷ bytes) p q =
 pub unpacked_front : (bytes : List ℕ) → 0 < length bytes → group_length bytes ≤ length bytes
     → unpacked bytes ≡ group_words bytes ++ unpacked (drop (group_length bytes) bytes)
 unpacked_front [] s h = absurd (omega arith)
-unpacked_front (x ∷ bytes) s h =
-    let k = group_length (x ∷ bytes) in
-    let rest = drop k (x ∷ bytes) in
-    ap (λ t. if t then given_of (x ∷ bytes) else (group_words (x ∷ bytes) ++ given_in (length bytes) rest))
-    (le-ltb (length (x ∷ bytes)) (group_length (x ∷ bytes)) h)
-    ∙ ap (λ r. group_words (x ∷ bytes) ++ r)
-    (given_stable (length bytes) (length rest) rest
-    (drop_less k (length bytes) x bytes (group_some x bytes) (omega arith)) (omega arith))
+unpacked_front (x ∷ bytes) s h = search (rules, le-ltb, given_stable, drop_less, group_some)
 
 -- and the bytes are cut where those behind it are
 pub cut_front : (bytes : List ℕ) → 0 < length bytes → group_length bytes ≤ length bytes
     → packed_is_cut bytes ≡ packed_is_cut (drop (group_length bytes) bytes)
 cut_front [] s h = absurd (omega arith)
-cut_front (x ∷ bytes) s h =
-    let k = group_length (x ∷ bytes) in
-    let rest = drop k (x ∷ bytes) in
-    ap (λ t. if t then true else is_cut_in (length bytes) rest)
-    (le-ltb (length (x ∷ bytes)) (group_length (x ∷ bytes)) h)
-    ∙ cut_stable (length bytes) (length rest) rest
-    (drop_less k (length bytes) x bytes (group_some x bytes) (omega arith)) (omega arith)
+cut_front (x ∷ bytes) s h = search (rules, le-ltb, cut_stable, drop_less, group_some)
 
 -- where it isn't whole, its whole words are all that is given
 pub unpacked_short : (bytes : List ℕ) → length bytes < group_length bytes → unpacked bytes ≡ given_of bytes
 unpacked_short [] h = absurd (omega arith)
-unpacked_short (x ∷ bytes) h =
-    ap (λ t. if t then given_of (x ∷ bytes)
-    else (group_words (x ∷ bytes) ++ given_in (length bytes) (drop (group_length (x ∷ bytes)) (x ∷ bytes))))
-    (lt-ltb (length (x ∷ bytes)) (group_length (x ∷ bytes)) h)
+unpacked_short (x ∷ bytes) h = grind (arith, common_steps)
 
 -- and the bytes are cut
 pub cut_short : (bytes : List ℕ) → length bytes < group_length bytes → packed_is_cut bytes ≡ true
-cut_short [] h = absurd (omega arith)
-cut_short (x ∷ bytes) h = ap (λ t. if t then true else is_cut_in (length bytes)
-    (drop (group_length (x ∷ bytes)) (x ∷ bytes))) (lt-ltb (length (x ∷ bytes)) (group_length (x ∷ bytes)) h)
+cut_short bytes h = search (rules, lt-ltb)
 
 -- a clear bit takes no byte
 pub spread_clear : (n tag b : ℕ) (present : List ℕ) → tag % 2 ≡ 0
@@ -141,18 +123,9 @@ plain_reads ws a = ap plain_words (sym (append-nil (plain_text ws))) ∙ (plain_
 
 -- how long the group in front is, at a tag that is neither 0 nor 255
 pub length_marked : (tag : ℕ) (bytes : List ℕ) → 0 < tag → tag < 255 → group_length (tag ∷ bytes) ≡ 1 + marks 8 tag
-length_marked tag bytes p q =
-    ap (λ t. if t then 2 else (if tag == 255 then (10 + 8 * slice_index bytes 8) else (1 + marks 8 tag)))
-    (ne_eqb tag 0 (λ e. absurd (omega arith)))
-    ∙ ap (λ t. if t then (10 + 8 * slice_index bytes 8) else (1 + marks 8 tag))
-    (ne_eqb tag 255 (λ e. absurd (omega arith)))
+length_marked tag bytes p q = grind (arith, common_steps)
 
 -- its word there
 pub words_marked : (tag : ℕ) (bytes : List ℕ) → 0 < tag → tag < 255
     → group_words (tag ∷ bytes) ≡ spread 8 tag bytes ∷ []
-words_marked tag bytes p q =
-    ap (λ t. if t then replicate (1 + slice_index bytes 0) 0 else
-    (if tag == 255 then plain_words (take 8 bytes ++ take (8 * slice_index bytes 8) (drop 9 bytes))
-    else (spread 8 tag bytes ∷ []))) (ne_eqb tag 0 (λ e. absurd (omega arith)))
-    ∙ ap (λ t. if t then plain_words (take 8 bytes ++ take (8 * slice_index bytes 8) (drop 9 bytes))
-    else (spread 8 tag bytes ∷ [])) (ne_eqb tag 255 (λ e. absurd (omega arith)))
+words_marked tag bytes p q = grind (arith, common_steps)

@@ -1,15 +1,15 @@
 -- Where a spot has a tree, the steps from it are the tree's parts.
 use Rattle.cap_spec.specs.Denoting.{places}
 use Rattle.cap_spec.specs.Tree.{none}
-use Rattle.cap_spec.proofs.Frames.Messages.{one_word}
 use Rattle.cap_spec.proofs.Pointers.Following.{one_lead}
-use Rattle.cap_spec.proofs.Prelude.{List, None, Option, Some, [], ap, arith, inl, inr, pos, refl, subst, suc, sym, zero}
-use Rattle.cap_spec.proofs.Prelude.{ℕ, ◌*◌, ◌+◌, ◌<◌, ◌∙◌, ◌∷◌, ◌≡◌, AreElements, DenoteEach, Denotes, Finds, Lead}
-use Rattle.cap_spec.proofs.Prelude.{Leads, near, one_pad, to_object, two_pads, HasWord, PathLeads, ReachesSpot, Spot}
-use Rattle.cap_spec.proofs.Prelude.{StepsTo, element, level_of, word, code, data_size, kind, list_size, middle}
-use Rattle.cap_spec.proofs.Prelude.{pointer_size, DenotesAt, Tree, Trees, more, node_at, part_at, pointers, struct}
-use Rattle.cap_spec.proofs.Prelude.{structs, tree_at, Step, Item, Ptr}
-use Rattle.cap_spec.proofs.Trees.Finding.{SameObject, one_object}
+use Rattle.cap_spec.proofs.Pointers.Shapes.{pointers_shape, struct_shape, structs_shape}
+use Rattle.cap_spec.proofs.Prelude.{List, None, Option, Some, [], arith, inl, inr, pos, refl, subst, suc, sym, zero}
+use Rattle.cap_spec.proofs.Prelude.{ℕ, ◌*◌, ◌+◌, ◌<◌, ◌∙◌, ◌∷◌, ◌≡◌, AreElements, DenoteEach, Denotes, Finds, FindsKind}
+use Rattle.cap_spec.proofs.Prelude.{Lead, Leads, near, one_pad, to_object, two_pads, HasWord, PathLeads, ReachesSpot}
+use Rattle.cap_spec.proofs.Prelude.{Spot, StepsTo, element, level_of, word, code, kind, DenotesAt, Tree, Trees, more}
+use Rattle.cap_spec.proofs.Prelude.{node_at, part_at, pointers, struct, structs, tree_at, Pointers, Struct, Structs, Step}
+use Rattle.cap_spec.proofs.Prelude.{Item, Ptr}
+use Rattle.cap_spec.proofs.Trees.Finding.{one_found}
 use Rattle.cap_spec.proofs.Trees.OneTree.{Formed, HasForm, cons_parts, form_of, formed, number_list, number_struct}
 
 -- the tree of a word has the form of the object that the word finds
@@ -85,69 +85,68 @@ elements_of m t b ds ps n (more (struct ws ts) es) c d (suc i) x u h f e =
 elements_of m t b ds ps n (more y es) c d i x u h f e = absurd h
 
 -- a word that finds a struct denotes a struct, whose children its pointer words denote
-struct_at : (m : List (List ℕ)) (s w : ℕ) (x : Tree) (c d k t b q i : ℕ) → Denotes m s w x c d → Finds m s w k t b q
-    → kind q ≡ 0 → i < pointer_size q
-    → (u : Tree) × (part_at x (Ptr i) ≡ Some u) × DenotesAt m (word t (b + data_size q + i)) u
-struct_at m s w (struct ws ts) c d k t b q i (k', t', b', q', inner, deep, found, each) f e lt =
-    let o : SameObject k t b q k' t' b' q' = one_object m s w k t b q k' t' b' q' f found.finds in
-    let r = each_at m t' (b' + data_size q') (pointer_size q') ts inner deep i (b + data_size q + i) each
-    (rw (← o.shape) lt) (rw (o.start, o.shape) refl) in
-    (r.0, r.1, (r.2, r.3, subst (λ (y : ℕ). Denotes m y (b + data_size q + i) r.0 r.2 r.3) (sym o.segment) r.4))
-struct_at m s w x c d k t b q i h f e lt =
-    absurd (omega (arith, number_struct (kind q) (code q) e, found_form m s w x c d k t b q h f))
+struct_at : (m : List (List ℕ)) (s w : ℕ) (x : Tree) (c d k t b q tag ds ps i : ℕ) → Denotes m s w x c d
+    → FindsKind m s w (Struct ds ps) k t b q tag → i < ps
+    → (u : Tree) × (part_at x (Ptr i) ≡ Some u) × DenotesAt m (word t (b + ds + i)) u
+struct_at m s w (struct ws ts) c d k t b q tag ds ps i h f lt =
+    let (k', t', b', q', tag', ds', ps', inner, deep, found, own, each) = h in
+    let o = one_found f found.object in
+    let x : ds ≡ ds' = cc o.kind in
+    let y : ps ≡ ps' = cc o.kind in
+    let r = each_at m t' (b' + ds') ps' ts inner deep i (b + ds + i) each (rw (← y) lt) (rw (o.start, x) refl) in
+    (r.0, r.1, (r.2, r.3, subst (λ (y : ℕ). Denotes m y (b + ds + i) r.0 r.2 r.3) (sym o.segment) r.4))
+struct_at m s w x c d k t b q tag ds ps i h f lt =
+    let y = struct_shape f.shape in
+    absurd (omega (arith, number_struct (kind q) (code q) y.kind, found_form m s w x c d k t b q h f.finds))
 
 -- a word that finds a list of pointers denotes one, whose entries they denote
-pointers_at : (m : List (List ℕ)) (s w : ℕ) (x : Tree) (c d k t b q i : ℕ) → Denotes m s w x c d → Finds m s w k t b q
-    → kind q ≡ 1 → code q ≡ 6 → i < list_size q
+pointers_at : (m : List (List ℕ)) (s w : ℕ) (x : Tree) (c d k t b q tag n i : ℕ) → Denotes m s w x c d
+    → FindsKind m s w (Pointers n) k t b q tag → i < n
     → (u : Tree) × (part_at x (Item i) ≡ Some u) × DenotesAt m (word t (b + i)) u
-pointers_at m s w (pointers ts) c d k t b q i (k', t', b', q', inner, deep, found, each) f e g lt =
-    let o : SameObject k t b q k' t' b' q' = one_object m s w k t b q k' t' b' q' f found.finds in
-    let r = each_at m t' b' (list_size q') ts inner deep i (b + i) each (rw (← o.shape) lt) (rw o.start refl) in
+pointers_at m s w (pointers ts) c d k t b q tag n i h f lt =
+    let (k', t', b', q', tag', n', inner, deep, found, each) = h in
+    let o = one_found f found.object in
+    let x : n ≡ n' = cc o.kind in
+    let r = each_at m t' b' n' ts inner deep i (b + i) each (rw (← x) lt) (rw o.start refl) in
     (r.0, r.1, (r.2, r.3, subst (λ (y : ℕ). Denotes m y (b + i) r.0 r.2 r.3) (sym o.segment) r.4))
-pointers_at m s w x c d k t b q i h f e g lt =
-    absurd (omega (arith, number_list (kind q) (code q) e, g, found_form m s w x c d k t b q h f))
+pointers_at m s w x c d k t b q tag n i h f lt =
+    let y = pointers_shape f.shape in
+    absurd (omega (arith, number_list (kind q) (code q) y.kind, y.code, found_form m s w x c d k t b q h f.finds))
 
 -- a tree at an element, by equal places
 element_moved : (m : List (List ℕ)) (t t' x ds ds' ps ps' : ℕ) (u : Tree) → t ≡ t' → ds ≡ ds' → ps ≡ ps'
     → DenotesAt m (element t x ds ps) u → DenotesAt m (element t' x ds' ps') u
 element_moved m t t' x ds ds' ps ps' u e f g h = rw (← e, ← f, ← g) h
 
--- a word that finds a composite list denotes a struct list, whose elements stand in it
-structs_at : (m : List (List ℕ)) (s w : ℕ) (x : Tree) (c d k t b q tag i : ℕ) → Denotes m s w x c d
-    → Finds m s w k t b q → kind q ≡ 1 → code q ≡ 7
-    → HasWord m t b tag → i < middle tag
-    → (u : Tree) × (part_at x (Item i) ≡ Some u)
-    × DenotesAt m (element t (b + 1 + i * (data_size tag + pointer_size tag)) (data_size tag) (pointer_size tag)) u
-structs_at m s w (structs ds ps es) c d k t b q tag i h f e g y lt =
-    let (k', t', b', q', tag', inner, deep, found, each) = h in
-    let o : SameObject k t b q k' t' b' q' = one_object m s w k t b q k' t' b' q' f found.finds in
-    let z : tag ≡ tag' = one_word m t b tag tag' y (rw (o.segment, o.start) found.has_tag) in
-    let r = elements_at m t' (b' + 1) ds ps (middle tag') es inner deep i
-    (b + 1 + i * (data_size tag + pointer_size tag)) each (rw (← z) lt)
-    (rw (o.start, z, found.data_sizes, found.pointer_sizes) refl) in
-    let y1 : ds ≡ data_size tag = found.data_sizes ∙ ap data_size (sym z) in
-    let y2 : ps ≡ pointer_size tag = found.pointer_sizes ∙ ap pointer_size (sym z) in (
-      r.0,
-      r.1,
-      element_moved m t' t (b + 1 + i * (data_size tag + pointer_size tag)) ds (data_size tag) ps
-          (pointer_size tag) r.0 (sym o.segment) y1 y2 r.2,
-    )
-structs_at m s w x c d k t b q tag i h f e g y lt =
-    absurd (omega (arith, number_list (kind q) (code q) e, g, found_form m s w x c d k t b q h f))
+-- a word that finds a composite list denotes a struct list, whose elements are in it
+structs_at : (m : List (List ℕ)) (s w : ℕ) (x : Tree) (c d k t b q tag n ds ps i : ℕ) → Denotes m s w x c d
+    → FindsKind m s w (Structs n ds ps) k t b q tag → i < n
+    → (u : Tree) × (part_at x (Item i) ≡ Some u) × DenotesAt m (element t (b + 1 + i * (ds + ps)) ds ps) u
+structs_at m s w (structs ds' ps' es) c d k t b q tag n ds ps i h f lt =
+    let (k', t', b', q', tag', n', inner, deep, found, each) = h in
+    let o = one_found f found.object in
+    let x : n ≡ n' = cc o.kind in
+    let y : ds ≡ ds' = cc o.kind in
+    let z : ps ≡ ps' = cc o.kind in
+    let r = elements_at m t' (b' + 1) ds' ps' n' es inner deep i (b + 1 + i * (ds + ps)) each (rw (← x) lt)
+    (rw (o.start, y, z) refl) in
+    (r.0, r.1, element_moved m t' t (b + 1 + i * (ds + ps)) ds' ds ps' ps r.0 (sym o.segment) (sym y) (sym z) r.2)
+structs_at m s w x c d k t b q tag n ds ps i h f lt =
+    let y = structs_shape f.shape in
+    absurd (omega (arith, number_list (kind q) (code q) y.kind, y.code, found_form m s w x c d k t b q h f.finds))
 
 -- A step from a spot that has a tree leads to where the tree's part stands.
 pub step_to_part : (m : List (List ℕ)) (a : Spot) (step : Step) (b : Spot) (x : Tree)
     → DenotesAt m a x → StepsTo m a step b
     → (u : Tree) × (part_at x step ≡ Some u) × DenotesAt m b u
-step_to_part m (word s w) (Ptr i) b x h (k, t, b', q, finds, is_struct, less, ends) =
-    let r = struct_at m s w x h.0 h.1 k t b' q i h.2 finds is_struct less in
+step_to_part m (word s w) (Ptr i) b x h (k, t, b', q, tag, ds, ps, finds, less, ends) =
+    let r = struct_at m s w x h.0 h.1 k t b' q tag ds ps i h.2 finds less in
     (r.0, r.1, subst (λ (y : Spot). DenotesAt m y r.0) (sym ends) r.2)
-step_to_part m (word s w) (Item i) b x h (inl (k, t, b', q, finds, is_list, of_pointers, less, ends)) =
-    let r = pointers_at m s w x h.0 h.1 k t b' q i h.2 finds is_list of_pointers less in
+step_to_part m (word s w) (Item i) b x h (inl (k, t, b', q, tag, n, finds, less, ends)) =
+    let r = pointers_at m s w x h.0 h.1 k t b' q tag n i h.2 finds less in
     (r.0, r.1, subst (λ (y : Spot). DenotesAt m y r.0) (sym ends) r.2)
-step_to_part m (word s w) (Item i) b x h (inr g) =
-    let (k, t, b', q, tag, finds, is_list, of_structs, has_tag, less, ends) = g in
-    let r = structs_at m s w x h.0 h.1 k t b' q tag i h.2 finds is_list of_structs has_tag less in
+step_to_part m (word s w) (Item i) b x h (inr (k, t, b', q, tag, n, ds, ps, finds, less, ends)) =
+    let r = structs_at m s w x h.0 h.1 k t b' q tag n ds ps i h.2 finds less in
     (r.0, r.1, subst (λ (y : Spot). DenotesAt m y r.0) (sym ends) r.2)
 step_to_part m (element t b ds ps) (Ptr i) y (struct ws ts) (c, d, own, each) g =
     let r = each_at m t (b + ds) ps ts c d i (b + ds + i) each g.0 refl in
@@ -159,33 +158,17 @@ step_to_part m (element t b ds ps) (Item i) y x h g = absurd g
 pub part_to_step : (m : List (List ℕ)) (a : Spot) (step : Step) (x u : Tree) → DenotesAt m a x → part_at x step ≡ Some u
     → (b : Spot) × StepsTo m a step b × DenotesAt m b u
 part_to_step m (word s w) (Ptr i) (struct ws ts) u h e =
-    let (k, t, b, q, inner, deep, found, each) = h.2 in
-    let r = each_of m t (b + data_size q) (pointer_size q) ts inner deep i
-    (b + data_size q + i) u each e refl in
-    (word t (b + data_size q + i), (k, t, b, q, found.finds, found.kind, r.0, refl), (r.1, r.2, r.3))
+    let (k, t, b, q, tag, ds, ps, inner, deep, found, own, each) = h.2 in
+    let r = each_of m t (b + ds) ps ts inner deep i (b + ds + i) u each e refl in
+    (word t (b + ds + i), (k, t, b, q, tag, ds, ps, found.object, r.0, refl), (r.1, r.2, r.3))
 part_to_step m (word s w) (Item i) (pointers ts) u h e =
-    let (k, t, b, q, inner, deep, found, each) = h.2 in
-    let r = each_of m t b (list_size q) ts inner deep i (b + i) u each e refl in
-    (word t (b + i), inl (k, t, b, q, found.finds, found.kind, found.code, r.0, refl), (r.1, r.2, r.3))
+    let (k, t, b, q, tag, n, inner, deep, found, each) = h.2 in
+    let r = each_of m t b n ts inner deep i (b + i) u each e refl in
+    (word t (b + i), inl (k, t, b, q, tag, n, found.object, r.0, refl), (r.1, r.2, r.3))
 part_to_step m (word s w) (Item i) (structs ds ps es) u h e =
-    let (k, t, b, q, tag, inner, deep, found, each) = h.2 in
-    let r = elements_of m t (b + 1) ds ps (middle tag) es inner deep i (b + 1 + i * (ds + ps)) u each e refl in (
-      element t (b + 1 + i * (ds + ps)) ds ps,
-      inr (
-        k,
-        t,
-        b,
-        q,
-        tag,
-        found.finds,
-        found.kind,
-        found.code,
-        found.has_tag,
-        r.0,
-        rw (found.data_sizes, found.pointer_sizes) refl,
-      ),
-      r.1,
-    )
+    let (k, t, b, q, tag, n, inner, deep, found, each) = h.2 in
+    let r = elements_of m t (b + 1) ds ps n es inner deep i (b + 1 + i * (ds + ps)) u each e refl in
+    (element t (b + 1 + i * (ds + ps)) ds ps, inr (k, t, b, q, tag, n, ds, ps, found.object, r.0, refl), r.1)
 part_to_step m (element t b ds ps) (Ptr i) (struct ws ts) u (c, d, own, each) e =
     let r = each_of m t (b + ds) ps ts c d i (b + ds + i) u each e refl in
     (word t (b + ds + i), (r.0, refl), (r.1, r.2, r.3))

@@ -4,7 +4,7 @@ use Rattle.cap_spec.proofs.Paths.Arrivals.{coming_to_node, node_parts, path_to_n
 use Rattle.cap_spec.proofs.Paths.Walks.{comes_beyond}
 use Rattle.cap_spec.proofs.Prelude.{List, Some, [], ap, arith, suc, zero, ℕ, ◌++◌, ◌+◌, ◌<◌, ◌∷◌, ◌≡◌, ◌≤◌, Denotes}
 use Rattle.cap_spec.proofs.Prelude.{PathLeads, Reaches, word, Tree, Trees, cap, more, node_at, null, part_at, pointers}
-use Rattle.cap_spec.proofs.Prelude.{scalars, struct, structs, tree_at, Step, Item, Ptr}
+use Rattle.cap_spec.proofs.Prelude.{scalars, struct, structs, tree_at, Step, rules}
 use Rattle.cap_spec.proofs.Trees.OneTree.{Same, one_tree}
 
 -- how many nodes a tree has
@@ -29,10 +29,7 @@ tree_below (more t ts) (suc i) u e = omega (arith, tree_below ts i u e)
 
 -- a part has fewer nodes
 part_below : (t : Tree) (step : Step) (u : Tree) → part_at t step ≡ Some u → weight u < weight t
-part_below (struct words ts) (Ptr i) u e = omega (arith, tree_below ts i u e)
-part_below (pointers ts) (Item i) u e = omega (arith, tree_below ts i u e)
-part_below (structs d p es) (Item i) u e = omega (arith, tree_below es i u e)
-part_below t step u e = absurd (cc e)
+part_below t step u e = search (rules, tree_below)
 
 -- a node has at most the nodes of the tree
 node_below : (t : Tree) (path : List Step) (u : Tree) → node_at t path ≡ Some u → weight u ≤ weight t

@@ -2,11 +2,12 @@
 use Rattle.cap_spec.specs.Denoting.{places}
 use Rattle.cap_spec.specs.Tree.{none}
 use Rattle.cap_spec.proofs.Paths.Arrivals.{lead_word}
-use Rattle.cap_spec.proofs.Paths.Depths.{below_pointers, below_scalars, below_struct, below_structs, levels_of_some}
+use Rattle.cap_spec.proofs.Paths.Depths.{levels_of_some}
+use Rattle.cap_spec.proofs.Pointers.Shapes.{pointers_levels, struct_levels, structs_levels}
 use Rattle.cap_spec.proofs.Prelude.{List, [], arith, inl, inr, max, refl, subst, suc, sym, zero, ℕ, ◌*◌, ◌+◌, ◌<◌, ◌∷◌}
 use Rattle.cap_spec.proofs.Prelude.{◌≡◌, ◌≤◌, ◌⊎◌, AreElements, DenoteEach, Denotes, Finds, element_levels, IsComposite}
-use Rattle.cap_spec.proofs.Prelude.{HasWord, PathLeads, Reaches, Spot, StepsTo, element, level_of, word, data_size}
-use Rattle.cap_spec.proofs.Prelude.{list_size, middle, pointer_size, Tree, Trees, cap, more, null, pointers, scalars}
+use Rattle.cap_spec.proofs.Prelude.{HasWord, PathLeads, Reaches, Spot, StepsTo, element, level_of, word}
+use Rattle.cap_spec.proofs.Prelude.{Tree, Trees, cap, more, null, pointers, scalars}
 use Rattle.cap_spec.proofs.Prelude.{struct, structs, levels_below, Step, Item, Ptr}
 use Rattle.cap_spec.proofs.Trees.OneTree.{Formed, cons_parts, formed}
 
@@ -82,47 +83,32 @@ mutual
   tree_deepest : (m : List (List ℕ)) (s w : ℕ) (t : Tree) (c d : ℕ) → Denotes m s w t c d → 0 < d → Deep m (word s w) d
   tree_deepest m s w null c d h lt = absurd (omega (arith, h.1))
   tree_deepest m s w (cap i) c d h lt = absurd (omega (arith, h.1))
-  tree_deepest m s w (struct ws ts) c d (k, t, b, q, inner, deep, found, each) lt =
+  tree_deepest m s w (struct ws ts) c d (k, t, b, q, tag, ds, ps, inner, deep, found, own, each) lt =
       elim (none_or_more deep) [
-        | inl e ↦ own_depth m s w k t b q 0 d found.finds (λ z. absurd (omega (arith, found.kind, z.0)))
-            (omega (arith, found.depth, e, below_struct q 0 found.kind))
-        | inr e ↦ deep_moved m (word s w) (1 + deep) d (sym found.depth)
-            (each_deepest m (word s w) Ptr t (b + data_size q) (pointer_size q) 0 (pointer_size q)
-            (b + data_size q) ts inner deep
-            (λ j less. (k, t, b, q, found.finds, found.kind, less, refl)) (omega arith) (omega arith) each e)
+        | inl e ↦ own_depth m s w k t b q tag d found.object.finds found.object.tagged (omega (arith, found.depth, e))
+        | inr e ↦
+            deep_moved m (word s w) (1 + deep) d (omega (arith, found.depth, struct_levels found.object.shape))
+            (each_deepest m (word s w) Ptr t (b + ds) ps 0 ps (b + ds) ts inner deep
+            (λ j less. (k, t, b, q, tag, ds, ps, found.object, less, refl)) (omega arith) (omega arith) each e)
       ]
-  tree_deepest m s w (scalars e vs) c d (k, t, b, q, found) lt =
-      own_depth m s w k t b q 0 d found.finds (λ z. absurd (omega (arith, found.code, found.scalar, z.1)))
-      (omega (arith, found.depth, below_scalars q 0 found.kind (omega (arith, found.code, found.scalar))))
-  tree_deepest m s w (pointers ts) c d (k, t, b, q, inner, deep, found, each) lt =
+  tree_deepest m s w (scalars e vs) c d (k, t, b, q, tag, n, found, own) lt =
+      own_depth m s w k t b q tag d found.object.finds found.object.tagged (omega (arith, found.depth))
+  tree_deepest m s w (pointers ts) c d (k, t, b, q, tag, n, inner, deep, found, each) lt =
       elim (none_or_more deep) [
-        | inl e ↦ own_depth m s w k t b q 0 d found.finds (λ z. absurd (omega (arith, found.code, z.1)))
-            (omega (arith, found.depth, e, below_pointers q 0 found.kind found.code))
-        | inr e ↦ deep_moved m (word s w) (1 + deep) d (sym found.depth)
-            (each_deepest m (word s w) Item t b (list_size q) 0 (list_size q) b ts inner deep
-            (λ j less. inl (k, t, b, q, found.finds, found.kind, found.code, less, refl)) (omega arith)
-            (omega arith) each e)
+        | inl e ↦ own_depth m s w k t b q tag d found.object.finds found.object.tagged (omega (arith, found.depth, e))
+        | inr e ↦
+            deep_moved m (word s w) (1 + deep) d (omega (arith, found.depth, pointers_levels found.object.shape))
+            (each_deepest m (word s w) Item t b n 0 n b ts inner deep
+            (λ j less. inl (k, t, b, q, tag, n, found.object, less, refl)) (omega arith) (omega arith) each e)
       ]
-  tree_deepest m s w (structs ds ps es) c d (k, t, b, q, tag, inner, deep, found, each) lt =
+  tree_deepest m s w (structs ds ps es) c d (k, t, b, q, tag, n, inner, deep, found, each) lt =
       elim (none_or_more deep) [
-        | inl e ↦ own_depth m s w k t b q tag d found.finds (λ z. found.has_tag)
-            (omega (arith, found.depth, e, below_structs q tag found.kind found.code))
-        | inr e ↦ deep_moved m (word s w) (element_levels (middle tag) + (1 + deep)) d (omega (arith, found.depth))
-            (elements_deepest m (word s w) t (b + 1) ds ps (middle tag) 0 (middle tag) (b + 1) es inner deep
-            (λ j less. inr (
-              k,
-              t,
-              b,
-              q,
-              tag,
-              found.finds,
-              found.kind,
-              found.code,
-              found.has_tag,
-              less,
-              rw (found.data_sizes, found.pointer_sizes) refl,
-            ))
-            (omega arith) (omega arith) each e)
+        | inl e ↦ own_depth m s w k t b q tag d found.object.finds found.object.tagged (omega (arith, found.depth, e))
+        | inr e ↦
+            deep_moved m (word s w) (element_levels n + (1 + deep)) d
+            (omega (arith, found.depth, structs_levels found.object.shape))
+            (elements_deepest m (word s w) t (b + 1) ds ps n 0 n (b + 1) es inner deep
+            (λ j less. inr (k, t, b, q, tag, n, ds, ps, found.object, less, refl)) (omega arith) (omega arith) each e)
       ]
 
   -- the same of words at places, which steps from one spot lead to

@@ -1,18 +1,17 @@
 -- No path leads deeper than the depth of the root's tree.
 use Rattle.cap_spec.specs.Denoting.{places}
 use Rattle.cap_spec.specs.Tree.{none}
-use Rattle.cap_spec.proofs.Frames.Messages.{one_word}
 use Rattle.cap_spec.proofs.Paths.Arrivals.{step_to_part}
 use Rattle.cap_spec.proofs.Paths.PathCounts.{is_element, step_kind}
 use Rattle.cap_spec.proofs.Paths.PathLists.{is_structs}
 use Rattle.cap_spec.proofs.Pointers.Following.{one_lead}
-use Rattle.cap_spec.proofs.Prelude.{Bool, List, Some, [], ap, arith, eqb, false, max, ne_eqb, pos, refl, subst, suc}
-use Rattle.cap_spec.proofs.Prelude.{sym, true, zero, ℕ, ◌+◌, ◌<◌, ◌∙◌, ◌∷◌, ◌≡◌, ◌≤◌, AreElements, DenoteEach, Denotes}
-use Rattle.cap_spec.proofs.Prelude.{Finds, element_levels, IsComposite, to_cap, to_null, to_object, HasWord, PathLeads}
-use Rattle.cap_spec.proofs.Prelude.{Spot, element, level_of, word, code, data_size, kind, list_size, middle}
-use Rattle.cap_spec.proofs.Prelude.{pointer_size, DenotesAt, Tree, Trees, cap, more, null, part_at, pointers, scalars}
-use Rattle.cap_spec.proofs.Prelude.{struct, structs, tree_at, tree_count, levels_below, Step, Item, Ptr}
-use Rattle.cap_spec.proofs.Trees.Finding.{SameObject, one_object}
+use Rattle.cap_spec.proofs.Pointers.Shapes.{pointers_levels, scalars_levels, struct_levels, structs_levels}
+use Rattle.cap_spec.proofs.Prelude.{Bool, List, Some, [], ap, arith, false, max, pos, refl, subst, suc, sym, true, zero}
+use Rattle.cap_spec.proofs.Prelude.{ℕ, ◌+◌, ◌<◌, ◌∙◌, ◌∷◌, ◌≡◌, ◌≤◌, AreElements, DenoteEach, Denotes, Finds}
+use Rattle.cap_spec.proofs.Prelude.{element_levels, IsComposite, to_cap, to_null, to_object, HasWord, PathLeads, Spot}
+use Rattle.cap_spec.proofs.Prelude.{element, level_of, word, DenotesAt, Tree, Trees, cap, more, null, part_at, pointers}
+use Rattle.cap_spec.proofs.Prelude.{scalars, struct, structs, tree_at, tree_count, levels_below, Step, Item, Ptr}
+use Rattle.cap_spec.proofs.Trees.Finding.{found_depth}
 
 -- the depth of a tree
 abbrev mutual
@@ -40,14 +39,16 @@ mutual
   pub denoted_depth : (m : List (List ℕ)) (s w : ℕ) (t : Tree) (c d : ℕ) → Denotes m s w t c d → d ≡ depth_of t
   denoted_depth m s w null c d h = h.1
   denoted_depth m s w (cap i) c d h = h.1
-  denoted_depth m s w (struct ws ts) c d (k, t, b, q, inner, deep, found, each) =
-      found.depth ∙ ap (λ x. 1 + x) (each_depth m (places t (b + data_size q) (pointer_size q)) ts inner deep each)
-  denoted_depth m s w (scalars e vs) c d (k, t, b, q, found) = found.depth
-  denoted_depth m s w (pointers ts) c d (k, t, b, q, inner, deep, found, each) = found.depth
-      ∙ ap (λ x. 1 + x) (each_depth m (places t b (list_size q)) ts inner deep each)
-  denoted_depth m s w (structs ds ps es) c d (k, t, b, q, tag, inner, deep, found, each) =
-      let r = elements_depth m t (b + 1) ds ps (middle tag) es inner deep each in
-      found.depth ∙ ap (λ x. 1 + element_levels x + deep) r.0 ∙ ap (λ x. 1 + element_levels (tree_count es) + x) r.1
+  denoted_depth m s w (struct ws ts) c d (k, t, b, q, tag, ds, ps, inner, deep, found, own, each) =
+      omega (arith, found.depth, struct_levels found.object.shape, each_depth m (places t (b + ds) ps) ts inner deep each)
+  denoted_depth m s w (scalars e vs) c d (k, t, b, q, tag, n, found, own) =
+      omega (arith, found.depth, scalars_levels found.object.shape)
+  denoted_depth m s w (pointers ts) c d (k, t, b, q, tag, n, inner, deep, found, each) =
+      omega (arith, found.depth, pointers_levels found.object.shape, each_depth m (places t b n) ts inner deep each)
+  denoted_depth m s w (structs ds ps es) c d (k, t, b, q, tag, n, inner, deep, found, each) =
+      let r = elements_depth m t (b + 1) ds ps n es inner deep each in
+      let l = structs_levels found.object.shape ∙ ap element_levels r.0 in
+      omega (arith, found.depth, l, r.1)
 
   pub each_depth : (m : List (List ℕ)) (ps : List (ℕ × ℕ)) (ts : Trees) (c d : ℕ) → DenoteEach m ps ts c d
       → d ≡ depth_each ts
@@ -111,8 +112,8 @@ part_depth : (m : List (List ℕ)) (a : Spot) (t : Tree) (step : Step) (u : Tree
 part_depth m a (struct ws ts) (Ptr i) u h e = omega (arith, tree_depth ts i u e)
 part_depth m a (pointers ts) (Item i) u h e = omega (arith, tree_depth ts i u e)
 part_depth m (word s w) (structs d p es) (Item i) u h e =
-    let (k, x, b, q, tag, inner, deep, found, each) = h.2 in
-    let r = element_depth es i u (elements_are_structs m x (b + 1) d p (middle tag) es inner deep each) e in
+    let (k, x, b, q, tag, n, inner, deep, found, each) = h.2 in
+    let r = element_depth es i u (elements_are_structs m x (b + 1) d p n es inner deep each) e in
     omega (arith, r.0, levels_of_some (tree_count es) r.1)
 part_depth m (element x b ds ps) (structs d p es) (Item i) u h e = absurd h
 part_depth m a t step u h e = absurd (cc e)
@@ -135,20 +136,7 @@ walk_depth m a (step ∷ path) n b t h (mid, below, goes, walks, level) =
     let z = walk_depth m mid path below b r.0 r.2 walks in
     (z.0, z.1, omega (arith, z.2, x, l, level))
 
--- the levels of what stands in an object, by its form
-pub below_struct : (q tag : ℕ) → kind q ≡ 0 → levels_below q tag ≡ 0
-below_struct q tag e = rw e refl
-
-pub below_pointers : (q tag : ℕ) → kind q ≡ 1 → code q ≡ 6 → levels_below q tag ≡ 0
-below_pointers q tag e f = rw (e, f) refl
-
-pub below_structs : (q tag : ℕ) → kind q ≡ 1 → code q ≡ 7 → levels_below q tag ≡ element_levels (middle tag)
-below_structs q tag e f = rw (e, f) refl
-
-pub below_scalars : (q tag : ℕ) → kind q ≡ 1 → code q < 6 → levels_below q tag ≡ 0
-below_scalars q tag e f = let g : eqb (code q) 7 ≡ false = ne_eqb (code q) 7 (omega arith) in rw (e, g) refl
-
--- an object and the levels of what stands in it are within the depth of what its pointer denotes
+-- an object and the levels of its elements are within the depth of what its pointer denotes
 pub object_depth : (m : List (List ℕ)) (s w : ℕ) (x : Tree) (c d k t b q tag : ℕ) → Denotes m s w x c d
     → Finds m s w k t b q → (IsComposite q → HasWord m t b tag)
     → 1 + levels_below q tag ≤ d
@@ -156,24 +144,10 @@ object_depth m s w null c d k t b q tag h f has =
     absurd (cc (one_lead m s w c k to_null (to_object t (pos b) q) h.0 f.leads).1)
 object_depth m s w (cap i) c d k t b q tag h f has =
     absurd (cc (one_lead m s w c k (to_cap i) (to_object t (pos b) q) h.0 f.leads).1)
-object_depth m s w (struct ws ts) c d k t b q tag (k', t', b', q', inner, deep, found, each) f has =
-    let o : SameObject k t b q k' t' b' q' = one_object m s w k t b q k' t' b' q' f found.finds in
-    omega (arith, below_struct q tag (ap kind o.shape ∙ found.kind), found.depth)
-object_depth m s w (scalars e vs) c d k t b q tag (k', t', b', q', found) f has =
-    let o : SameObject k t b q k' t' b' q' = one_object m s w k t b q k' t' b' q' f found.finds in
-    omega (
-      arith,
-      below_scalars q tag (ap kind o.shape ∙ found.kind)
-          (omega (arith, ap code o.shape, found.code, found.scalar)),
-      found.depth,
-    )
-object_depth m s w (pointers ts) c d k t b q tag (k', t', b', q', inner, deep, found, each) f has =
-    let o : SameObject k t b q k' t' b' q' = one_object m s w k t b q k' t' b' q' f found.finds in
-    omega (arith, below_pointers q tag (ap kind o.shape ∙ found.kind) (ap code o.shape ∙ found.code), found.depth)
-object_depth m s w (structs ds ps es) c d k t b q tag h f has =
-    let (k', t', b', q', tag', inner, deep, found, each) = h in
-    let o : SameObject k t b q k' t' b' q' = one_object m s w k t b q k' t' b' q' f found.finds in
-    let y : kind q ≡ 1 = ap kind o.shape ∙ found.kind in
-    let z : code q ≡ 7 = ap code o.shape ∙ found.code in
-    let e : tag ≡ tag' = one_word m t b tag tag' (has (y, z)) (rw (o.segment, o.start) found.has_tag) in
-    omega (arith, below_structs q tag y z, ap (λ v. element_levels (middle v)) e, found.depth)
+object_depth m s w (struct ws ts) c d k t b q tag (k', t', b', q', tag', ds, ps, inner, deep, found, own, each) f has =
+    found_depth found f has
+object_depth m s w (scalars e vs) c d k t b q tag (k', t', b', q', tag', n, found, own) f has = found_depth found f has
+object_depth m s w (pointers ts) c d k t b q tag (k', t', b', q', tag', n, inner, deep, found, each) f has =
+    found_depth found f has
+object_depth m s w (structs ds ps es) c d k t b q tag (k', t', b', q', tag', n, inner, deep, found, each) f has =
+    found_depth found f has

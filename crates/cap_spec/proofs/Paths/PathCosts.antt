@@ -5,11 +5,10 @@ use Rattle.cap_spec.proofs.Paths.Arrivals.{lead_word}
 use Rattle.cap_spec.proofs.Paths.PathCounts.{pointer_paths}
 use Rattle.cap_spec.proofs.Paths.PathLists.{behind, is_pointer, paths_below, paths_from}
 use Rattle.cap_spec.proofs.Prelude.{List, [], arith, false, inl, inr, refl, subst, suc, sym, true, zero, ℕ, ◌*◌, ◌++◌}
-use Rattle.cap_spec.proofs.Prelude.{◌+◌, ◌<◌, ◌∙◌, ◌∷◌, ◌≡◌, AreElements, DenoteEach, Denotes, Finds, extra, HasWord}
-use Rattle.cap_spec.proofs.Prelude.{Costs, PathLeads, Spot, StepsTo, element, level_of, word, code, data_size, extent}
-use Rattle.cap_spec.proofs.Prelude.{kind, list_size, middle, pointer_size, Tree, Trees, cap, more, null, pointers}
-use Rattle.cap_spec.proofs.Prelude.{scalars, struct, structs, CostOf, Step, Item, Ptr}
-use Rattle.cap_spec.proofs.Trees.Charges.{extra_pointers, extra_struct}
+use Rattle.cap_spec.proofs.Prelude.{◌+◌, ◌<◌, ◌∷◌, ◌≡◌, AreElements, DenoteEach, Denotes, extra, HasWord, Costs}
+use Rattle.cap_spec.proofs.Prelude.{PathLeads, Spot, StepsTo, element, level_of, word, extent, Tree, Trees, cap, more}
+use Rattle.cap_spec.proofs.Prelude.{null, pointers, scalars, struct, structs, CostOf, Step, Item, Ptr}
+use Rattle.cap_spec.proofs.Trees.Finding.{found_cost}
 use Rattle.cap_spec.proofs.Trees.OneTree.{Formed, cons_parts, formed}
 
 -- these paths lead from a spot to words that aren't wrong, and following them costs this much in all
@@ -38,54 +37,31 @@ cost_own : (m : List (List ℕ)) (s w : ℕ) (ps : List (List Step)) (one rest c
     → CostFrom m (word s w) ([] ∷ ps) c
 cost_own m s w ps one rest c g h e = (0, s, w, one, rest, (refl, refl), g, h, e)
 
--- an object's cost, where nothing is beside its words
-cost_alone : (m : List (List ℕ)) (s w k t b q : ℕ) → Finds m s w k t b q → (kind q ≡ 1 → code q ≡ 7 → ⊥) → extra q 0 ≡ 0
-    → Costs m s w (k + extent q)
-cost_alone m s w k t b q f n e = inr (inr (k, t, b, q, 0, f, λ z. absurd (n z.0 z.1), rw e (omega arith)))
-
 mutual
   -- what a word denotes is charged what its paths cost
   pub tree_cost : (m : List (List ℕ)) (s w : ℕ) (t : Tree) (c d : ℕ) → Denotes m s w t c d
       → CostFrom m (word s w) ([] ∷ paths_below is_pointer t) c
   tree_cost m s w null c d h = cost_own m s w [] c 0 c (inl h.0) refl (omega arith)
   tree_cost m s w (cap i) c d h = cost_own m s w [] c 0 c (inr (inl (i, h.0))) refl (omega arith)
-  tree_cost m s w (struct ws ts) c d (k, t, b, q, inner, deep, found, each) =
-      cost_own m s w (paths_below is_pointer (struct ws ts)) (k + extent q) inner c
-      (cost_alone m s w k t b q found.finds (λ z y. absurd (omega (arith, found.kind, z)))
-      (extra_struct q found.kind))
-      (each_cost m (word s w) Ptr t (b + data_size q) (pointer_size q) 0 (pointer_size q)
-      (b + data_size q) ts inner deep
-      (λ j lt. (k, t, b, q, found.finds, found.kind, lt, refl)) (omega arith) (omega arith) each)
+  tree_cost m s w (struct ws ts) c d (k, t, b, q, tag, ds, ps, inner, deep, found, own, each) =
+      cost_own m s w (paths_below is_pointer (struct ws ts)) (k + extent q + extra q tag) inner c
+      (found_cost found.object)
+      (each_cost m (word s w) Ptr t (b + ds) ps 0 ps (b + ds) ts inner deep
+      (λ j lt. (k, t, b, q, tag, ds, ps, found.object, lt, refl)) (omega arith) (omega arith) each)
       found.charge
-  tree_cost m s w (scalars e vs) c d (k, t, b, q, found) =
-      cost_own m s w [] (k + extent q + extra q 0) 0 c
-      (inr (inr (k, t, b, q, 0, found.finds, λ z. absurd (omega (arith, found.code, found.scalar, z.1)), refl))) refl
-      (found.charge ∙ omega arith)
-  tree_cost m s w (pointers ts) c d (k, t, b, q, inner, deep, found, each) =
-      cost_own m s w (paths_below is_pointer (pointers ts)) (k + extent q) inner c
-      (cost_alone m s w k t b q found.finds (λ z y. absurd (omega (arith, found.code, y)))
-      (extra_pointers q found.kind found.code))
-      (each_cost m (word s w) Item t b (list_size q) 0 (list_size q) b ts inner deep
-      (λ j lt. inl (k, t, b, q, found.finds, found.kind, found.code, lt, refl)) (omega arith) (omega arith) each)
+  tree_cost m s w (scalars e vs) c d (k, t, b, q, tag, n, found, own) =
+      cost_own m s w [] (k + extent q + extra q tag) 0 c (found_cost found.object) refl found.charge
+  tree_cost m s w (pointers ts) c d (k, t, b, q, tag, n, inner, deep, found, each) =
+      cost_own m s w (paths_below is_pointer (pointers ts)) (k + extent q + extra q tag) inner c
+      (found_cost found.object)
+      (each_cost m (word s w) Item t b n 0 n b ts inner deep
+      (λ j lt. inl (k, t, b, q, tag, n, found.object, lt, refl)) (omega arith) (omega arith) each)
       found.charge
-  tree_cost m s w (structs ds ps es) c d (k, t, b, q, tag, inner, deep, found, each) =
+  tree_cost m s w (structs ds ps es) c d (k, t, b, q, tag, n, inner, deep, found, each) =
       cost_own m s w (paths_below is_pointer (structs ds ps es)) (k + extent q + extra q tag) inner c
-      (inr (inr (k, t, b, q, tag, found.finds, λ z. found.has_tag, refl)))
-      (elements_cost m (word s w) t (b + 1) ds ps (middle tag) 0 (middle tag) (b + 1) es inner deep
-      (λ j lt. inr (
-        k,
-        t,
-        b,
-        q,
-        tag,
-        found.finds,
-        found.kind,
-        found.code,
-        found.has_tag,
-        lt,
-        rw (found.data_sizes, found.pointer_sizes) refl,
-      ))
-      (omega arith) (omega arith) each)
+      (found_cost found.object)
+      (elements_cost m (word s w) t (b + 1) ds ps n 0 n (b + 1) es inner deep
+      (λ j lt. inr (k, t, b, q, tag, n, ds, ps, found.object, lt, refl)) (omega arith) (omega arith) each)
       found.charge
 
   -- the same of words at places, which steps from one spot lead to

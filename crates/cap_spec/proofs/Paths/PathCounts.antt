@@ -5,6 +5,7 @@ use Rattle.cap_spec.proofs.Paths.PathLists.{listed_wanted, paths_below, pointers
 use Rattle.cap_spec.proofs.Paths.PathLists.{with_own}
 use Rattle.cap_spec.proofs.Paths.Preorder.{Before-asymmetric, Before-irreflexive, Rises-first}
 use Rattle.cap_spec.proofs.Pointers.Following.{one_lead}
+use Rattle.cap_spec.proofs.Pointers.Shapes.{pointers_shape, struct_shape, structs_shape}
 use Rattle.cap_spec.proofs.Prelude.{Bool, List, [], ap, arith, eqb, false, inl, inr, length, ne_eqb, not, refl, subst}
 use Rattle.cap_spec.proofs.Prelude.{suc, sym, true, zero, ℕ, ◌*◌, ◌+◌, ◌<◌, ◌↔◌, ◌∙◌, ◌∷◌, ◌≡◌, Denotes, Lead, Leads}
 use Rattle.cap_spec.proofs.Prelude.{to_cap, IsOneOf, Before, IsFirstCap, PathLeads, Reaches, ReachesCap, Rises, Spot}
@@ -33,18 +34,20 @@ all_structs (structs d p es) f = refl
 -- a step leads to an element where the tree of the spot is a struct list
 pub step_kind : (m : List (List ℕ)) (a : Spot) (step : Step) (b : Spot) (t : Tree) → DenotesAt m a t → StepsTo m a step b
     → is_element b ≡ is_structs t
-step_kind m (word s w) (Ptr i) b t h (k, t', b', q, finds, is_struct, less, ends) =
-    let f = found_form m s w t h.0 h.1 k t' b' q h.2 finds in
+step_kind m (word s w) (Ptr i) b t h (k, t', b', q, tag, ds, ps, finds, less, ends) =
+    let x = struct_shape finds.shape in
+    let f = found_form m s w t h.0 h.1 k t' b' q h.2 finds.finds in
     ap is_element ends ∙ sym (no_structs t (2 + kind q * (1 + code q)) f
-    (omega (arith, number_struct (kind q) (code q) is_struct)))
-step_kind m (word s w) (Item i) b t h (inl (k, t', b', q, finds, is_list, of_pointers, less, ends)) =
-    let f = found_form m s w t h.0 h.1 k t' b' q h.2 finds in
+    (omega (arith, number_struct (kind q) (code q) x.kind)))
+step_kind m (word s w) (Item i) b t h (inl (k, t', b', q, tag, n, finds, less, ends)) =
+    let x = pointers_shape finds.shape in
+    let f = found_form m s w t h.0 h.1 k t' b' q h.2 finds.finds in
     ap is_element ends ∙ sym (no_structs t (2 + kind q * (1 + code q)) f
-    (omega (arith, number_list (kind q) (code q) is_list, of_pointers)))
-step_kind m (word s w) (Item i) b t h (inr g) =
-    let (k, t', b', q, tag, finds, is_list, of_structs, has_tag, less, ends) = g in
-    let f = found_form m s w t h.0 h.1 k t' b' q h.2 finds in
-    let e : 2 + kind q * (1 + code q) ≡ 10 = omega (arith, number_list (kind q) (code q) is_list, of_structs) in
+    (omega (arith, number_list (kind q) (code q) x.kind, x.code)))
+step_kind m (word s w) (Item i) b t h (inr (k, t', b', q, tag, n, ds, ps, finds, less, ends)) =
+    let x = structs_shape finds.shape in
+    let f = found_form m s w t h.0 h.1 k t' b' q h.2 finds.finds in
+    let e : 2 + kind q * (1 + code q) ≡ 10 = omega (arith, number_list (kind q) (code q) x.kind, x.code) in
     ap is_element ends ∙ sym (all_structs t (subst (λ (n : ℕ). HasForm t n) e f))
 step_kind m (element x y ds ps) (Ptr i) b (struct words ts) h g = ap is_element g.1
 step_kind m (element x y ds ps) (Ptr i) b t h g = absurd h

@@ -3,7 +3,7 @@ use Rattle.cap_spec.proofs.Bytes.Lists.{all_append}
 use Rattle.cap_spec.proofs.Prelude.{List, [], ap, arith, codes, decimal, flat_map, get_or, inl, inr, length, refl, suc}
 use Rattle.cap_spec.proofs.Prelude.{take, zero, ℕ, ◌%◌, ◌++◌, ◌+◌, ◌<◌, ◌^◌, ◌∷◌, ◌≡◌, ◌≤◌, leb_tells, decimal_by_steps}
 use Rattle.cap_spec.proofs.Prelude.{decimal_injective, AllByRecursion, BeginsPath, IsBadAt, IsPath, IsStep, path_text}
-use Rattle.cap_spec.proofs.Prelude.{step_text, Step, Item, Ptr}
+use Rattle.cap_spec.proofs.Prelude.{step_text, Step, Item, Ptr, rules}
 
 abbrev pub IsDigit : ℕ → Type 0
 IsDigit b = (48 ≤ b) × (b < 58)
@@ -43,10 +43,7 @@ ends_number (Item i ∷ steps) = refl
 one_numbered : (i j : ℕ) (xs ys : List Step) → i < 2 ^ 64 → j < 2 ^ 64
     → decimal i ++ flat_map step_text xs ≡ decimal j ++ flat_map step_text ys
     → (i ≡ j) × (flat_map step_text xs ≡ flat_map step_text ys)
-one_numbered i j xs ys hi hj e =
-    let both = one_number (decimal i) (decimal j) (flat_map step_text xs) (flat_map step_text ys) (all_digits i hi)
-    (all_digits j hj) (ends_number xs) (ends_number ys) e in
-    (decimal_injective i j hi hj both.0, both.1)
+one_numbered i j xs ys hi hj e = search (rules, one_number, all_digits, ends_number, decimal_injective)
 
 -- the number of the step at the front, and the texts behind it
 ptr_front : (i j : ℕ) (xs ys : List Step) → flat_map step_text (Ptr i ∷ xs) ≡ flat_map step_text (Ptr j ∷ ys)
@@ -79,19 +76,11 @@ one_steps (Item i ∷ xs) (Item j ∷ ys) a b e =
 -- a path is read back from its text
 pub one_path_text : (xs ys : List Step) → AllByRecursion IsStep xs → AllByRecursion IsStep ys
     → path_text xs ≡ path_text ys → xs ≡ ys
-one_path_text [] [] a b e = refl
-one_path_text [] (Ptr j ∷ ys) a b e = absurd cc
-one_path_text [] (Item j ∷ ys) a b e = absurd cc
-one_path_text (Ptr i ∷ xs) [] a b e = absurd cc
-one_path_text (Item i ∷ xs) [] a b e = absurd cc
-one_path_text (x ∷ xs) (y ∷ ys) a b e = one_steps (x ∷ xs) (y ∷ ys) a b e
+one_path_text xs ys a b e = search (rules, one_steps)
 
 -- a text that is of no path is bad at one place
 pub one_bad_place : (text : List ℕ) (at at' : ℕ) → IsBadAt text at → IsBadAt text at' → at ≡ at'
-one_bad_place text at at' p q =
-    let le = q.longest at p.within p.begins in
-    let ge = p.longest at' q.within q.begins in
-    omega (arith, le, ge)
+one_bad_place text at at' p q = search rules
 
 -- where it is bad at no place, none of its beginnings that are so long begins a path
 none_from : (text : List ℕ) → (IsPath text → ⊥) → ((at : ℕ) → IsBadAt text at → ⊥) → (k n : ℕ) → n ≤ length text

@@ -3,8 +3,8 @@ use Rattle.cap_spec.specs.Paths.{IsFirst}
 use Rattle.cap_spec.proofs.Paths.Walks.{one_kind_of_step, one_reached, one_step}
 use Rattle.cap_spec.proofs.Prelude.{List, [], ap, arith, inl, inr, length, refl, subst, sym, ℕ, ◌++◌, ◌<◌, ◌∙◌, ◌∷◌}
 use Rattle.cap_spec.proofs.Prelude.{◌≡◌, ◌⊎◌, AreDistinct, IsOneOf, Before, IsFirstCap, IsNumbered, IsTour, PathLeads}
-use Rattle.cap_spec.proofs.Prelude.{Reaches, ReachesCap, ReachesSpot, Rises, Spot, StepsTo, number_of, word, Step, Item}
-use Rattle.cap_spec.proofs.Prelude.{Ptr}
+use Rattle.cap_spec.proofs.Prelude.{Reaches, ReachesCap, ReachesSpot, Rises, Spot, StepsTo, number_of, word, Step}
+use Rattle.cap_spec.proofs.Prelude.{rules}
 
 -- no path comes before itself
 pub Before-irreflexive : (p : List Step) → Before p p → ⊥
@@ -34,10 +34,7 @@ Before-longer (x ∷ xs) step q = inr (refl, Before-longer xs step q)
 -- steps from one spot that have one number are one step
 pub same_number : (m : List (List ℕ)) (a : Spot) (x y : Step) (b c : Spot) → StepsTo m a x b → StepsTo m a y c
     → number_of x ≡ number_of y → x ≡ y
-same_number m a (Ptr i) (Ptr j) b c g h e = ap Ptr e
-same_number m a (Ptr i) (Item j) b c g h e = absurd (one_kind_of_step m a i j b c g h)
-same_number m a (Item i) (Ptr j) b c g h e = absurd (one_kind_of_step m a j i c b h g)
-same_number m a (Item i) (Item j) b c g h e = ap Item e
+same_number m a x y b c g h e = search (rules, one_kind_of_step)
 
 -- two numbers are in one of three ways
 three_ways : (x y : ℕ) → (x ≡ y) ⊎ (x < y) ⊎ (y < x)
@@ -82,6 +79,43 @@ Rises-first p [] q h e = absurd e
 pub Rises-rest : (p : List Step) (ps : List (List Step)) → Rises (p ∷ ps) → Rises ps
 Rises-rest p [] h = tt
 Rises-rest p (x ∷ xs) h = h.1
+
+-- a path between two lists
+pub middle_is_one : (p : List Step) (xs ys : List (List Step)) → IsOneOf p (xs ++ p ∷ ys)
+middle_is_one p [] ys = inl refl
+middle_is_one p (x ∷ xs) ys = inr (middle_is_one p xs ys)
+
+pub front_is_one : (q p : List Step) (xs ys : List (List Step)) → IsOneOf q (xs ++ p ∷ []) → IsOneOf q (xs ++ p ∷ ys)
+front_is_one q p [] ys (inl e) = inl e
+front_is_one q p [] ys (inr h) = absurd h
+front_is_one q p (x ∷ xs) ys (inl e) = inl e
+front_is_one q p (x ∷ xs) ys (inr h) = inr (front_is_one q p xs ys h)
+
+pub front_or_back : (q p : List Step) (xs ys : List (List Step)) → IsOneOf q (xs ++ p ∷ ys)
+    → IsOneOf q (xs ++ p ∷ []) ⊎ IsOneOf q ys
+front_or_back q p [] ys (inl e) = inl (inl e)
+front_or_back q p [] ys (inr h) = inr h
+front_or_back q p (x ∷ xs) ys (inl e) = inl (inl e)
+front_or_back q p (x ∷ xs) ys (inr h) = elim (front_or_back q p xs ys h) [ inl i ↦ inl (inr i) | inr i ↦ inr i ]
+
+-- where the lists rise, the first rises up to it, comes before it, and the second comes after it
+pub Rises-front : (xs : List (List Step)) (p : List Step) (ys : List (List Step)) → Rises (xs ++ p ∷ ys)
+    → Rises (xs ++ p ∷ [])
+Rises-front [] p ys h = tt
+Rises-front (x ∷ []) p ys h = (h.0, tt)
+Rises-front (x ∷ z ∷ xs) p ys h = (h.0, Rises-front (z ∷ xs) p ys h.1)
+
+pub before_middle : (xs : List (List Step)) (p : List Step) (ys : List (List Step)) (q : List Step) → Rises (xs ++ p ∷ ys)
+    → IsOneOf q xs → Before q p
+before_middle [] p ys q h i = absurd i
+before_middle (x ∷ xs) p ys q h (inl e) =
+    subst (λ (u : List Step). Before u p) (sym e) (Rises-first x (xs ++ p ∷ ys) p h (middle_is_one p xs ys))
+before_middle (x ∷ xs) p ys q h (inr i) = before_middle xs p ys q (Rises-rest x (xs ++ p ∷ ys) h) i
+
+pub after_middle : (xs : List (List Step)) (p : List Step) (ys : List (List Step)) (q : List Step) → Rises (xs ++ p ∷ ys)
+    → IsOneOf q ys → Before p q
+after_middle [] p ys q h i = Rises-first p ys q h i
+after_middle (x ∷ xs) p ys q h i = after_middle xs p ys q (Rises-rest x (xs ++ p ∷ ys) h) i
 
 -- two rising lists of the same paths are one
 pub Rises-same : (ps qs : List (List Step)) → Rises ps → Rises qs → ((x : List Step) → IsOneOf x ps → IsOneOf x qs)

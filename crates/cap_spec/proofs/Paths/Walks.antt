@@ -1,49 +1,48 @@
 -- A path leads to one spot, at one level, and a longer path goes on from there.
-use Rattle.cap_spec.proofs.Frames.Messages.{one_word}
 use Rattle.cap_spec.proofs.Prelude.{List, [], ap, arith, inl, inr, refl, subst, sym, ℕ, ◌++◌, ◌+◌, ◌↔◌, ◌∙◌, ◌∷◌, ◌≡◌}
-use Rattle.cap_spec.proofs.Prelude.{PathLeads, Reaches, ReachesSpot, Spot, StepsTo, element, level_of, word, code, kind}
-use Rattle.cap_spec.proofs.Prelude.{Step, Item, Ptr}
-use Rattle.cap_spec.proofs.Trees.Finding.{SameObject, one_object}
+use Rattle.cap_spec.proofs.Prelude.{PathLeads, Reaches, ReachesSpot, Spot, StepsTo, element, level_of, word, Step}
+use Rattle.cap_spec.proofs.Prelude.{Item, Ptr}
+use Rattle.cap_spec.proofs.Trees.Finding.{one_found}
 
 -- one step leads to one spot
 pub one_step : (m : List (List ℕ)) (a : Spot) (step : Step) (b b' : Spot) → StepsTo m a step b → StepsTo m a step b' → b ≡ b'
-one_step m (word s w) (Ptr i) x y (k, t, b, q, finds, is_struct, less, ends) h =
-    let (k', t', b', q', finds', is_struct', less', ends') = h in
-    let o : SameObject k t b q k' t' b' q' = one_object m s w k t b q k' t' b' q' finds finds' in
-    ends ∙ rw (o.segment, o.start, o.shape) refl ∙ sym ends'
-one_step m (word s w) (Item i) x y (inl (k, t, b, q, finds, is_list, of_pointers, less, ends)) (inl h) =
-    let (k', t', b', q', finds', is_list', of_pointers', less', ends') = h in
-    let o : SameObject k t b q k' t' b' q' = one_object m s w k t b q k' t' b' q' finds finds' in
-    ends ∙ rw (o.segment, o.start) refl ∙ sym ends'
-one_step m (word s w) (Item i) x y (inl (k, t, b, q, finds, is_list, of_pointers, less, ends)) (inr h) =
-    let (k', t', b', q', tag, finds', is_list', of_structs, has_tag, less', ends') = h in
-    let o : SameObject k t b q k' t' b' q' = one_object m s w k t b q k' t' b' q' finds finds' in
-    absurd (omega (arith, ap code o.shape, of_pointers, of_structs))
-one_step m (word s w) (Item i) x y (inr g) (inl h) =
-    let (k, t, b, q, tag, finds, is_list, of_structs, has_tag, less, ends) = g in
-    let (k', t', b', q', finds', is_list, of_pointers, less, ends) = h in
-    let o : SameObject k t b q k' t' b' q' = one_object m s w k t b q k' t' b' q' finds finds' in
-    absurd (omega (arith, ap code o.shape, of_structs, of_pointers))
-one_step m (word s w) (Item i) x y (inr g) (inr h) =
-    let (k, t, b, q, tag, finds, is_list, of_structs, has_tag, less, ends) = g in
-    let (k', t', b', q', tag', finds', is_list, of_structs, has_tag', less, ends') = h in
-    let o : SameObject k t b q k' t' b' q' = one_object m s w k t b q k' t' b' q' finds finds' in
-    let e : tag ≡ tag' = one_word m t b tag tag' has_tag (rw (o.segment, o.start) has_tag') in
+one_step m (word s w) (Ptr i) x y (k, t, b, q, tag, ds, ps, finds, less, ends) h =
+    let (k', t', b', q', tag', ds', ps', finds', less', ends') = h in
+    let o = one_found finds finds' in
+    let e : ds ≡ ds' = cc o.kind in
     ends ∙ rw (o.segment, o.start, e) refl ∙ sym ends'
+one_step m (word s w) (Item i) x y (inl (k, t, b, q, tag, n, finds, less, ends)) (inl h) =
+    let (k', t', b', q', tag', n', finds', less', ends') = h in
+    let o = one_found finds finds' in
+    ends ∙ rw (o.segment, o.start) refl ∙ sym ends'
+one_step m (word s w) (Item i) x y (inl (k, t, b, q, tag, n, finds, less, ends)) (inr h) =
+    let (k', t', b', q', tag', n', ds, ps, finds', less', ends') = h in
+    let o = one_found finds finds' in
+    absurd (cc o.kind)
+one_step m (word s w) (Item i) x y (inr (k, t, b, q, tag, n, ds, ps, finds, less, ends)) (inl h) =
+    let (k', t', b', q', tag', n', finds', less', ends') = h in
+    let o = one_found finds finds' in
+    absurd (cc o.kind)
+one_step m (word s w) (Item i) x y (inr (k, t, b, q, tag, n, ds, ps, finds, less, ends)) (inr h) =
+    let (k', t', b', q', tag', n', ds', ps', finds', less', ends') = h in
+    let o = one_found finds finds' in
+    let e : ds ≡ ds' = cc o.kind in
+    let f : ps ≡ ps' = cc o.kind in
+    ends ∙ rw (o.segment, o.start, e, f) refl ∙ sym ends'
 one_step m (element t b ds ps) (Ptr i) x y g h = g.1 ∙ sym h.1
 one_step m (element t b ds ps) (Item i) x y g h = absurd g
 
 -- from one spot no step by a struct's pointer and a step by a list's element
 pub one_kind_of_step : (m : List (List ℕ)) (a : Spot) (i j : ℕ) (b b' : Spot) → StepsTo m a (Ptr i) b
     → StepsTo m a (Item j) b' → ⊥
-one_kind_of_step m (word s w) i j x y (k, t, b, q, finds, is_struct, less, ends) (inl h) =
-    let (k', t', b', q', finds', is_list, of_pointers, less', ends') = h in
-    let o : SameObject k t b q k' t' b' q' = one_object m s w k t b q k' t' b' q' finds finds' in
-    omega (arith, ap kind o.shape, is_struct, is_list)
-one_kind_of_step m (word s w) i j x y (k, t, b, q, finds, is_struct, less, ends) (inr h) =
-    let (k', t', b', q', tag, finds', is_list, of_structs, has_tag, less', ends') = h in
-    let o : SameObject k t b q k' t' b' q' = one_object m s w k t b q k' t' b' q' finds finds' in
-    omega (arith, ap kind o.shape, is_struct, is_list)
+one_kind_of_step m (word s w) i j x y (k, t, b, q, tag, ds, ps, finds, less, ends) (inl h) =
+    let (k', t', b', q', tag', n, finds', less', ends') = h in
+    let o = one_found finds finds' in
+    cc o.kind
+one_kind_of_step m (word s w) i j x y (k, t, b, q, tag, ds, ps, finds, less, ends) (inr h) =
+    let (k', t', b', q', tag', n, ds', ps', finds', less', ends') = h in
+    let o = one_found finds finds' in
+    cc o.kind
 one_kind_of_step m (element t b ds ps) i j x y g h = h
 
 -- a path from one spot leads to one spot, by one number of levels

@@ -7,7 +7,7 @@ use Rattle.cap_spec.proofs.Canonical.TreeMeasures.{FitElements, Fits, cost, elem
 use Rattle.cap_spec.proofs.Prelude.{List, [], ap, arith, false, refl, suc, sum, sym, zero, ℕ, ◌+◌, ◌<◌, ◌^◌, ◌∷◌, ◌≡◌}
 use Rattle.cap_spec.proofs.Prelude.{◌≤◌, children_of, cut_elements, data_of, element_sizes, layout, size, trim}
 use Rattle.cap_spec.proofs.Prelude.{trim_elements, HasCopy, Denotes, sizes_of, Tree, Trees, cap_counts, has_cap, more}
-use Rattle.cap_spec.proofs.Prelude.{struct, structs, tree_count, unamplified}
+use Rattle.cap_spec.proofs.Prelude.{struct, structs, tree_count, unamplified, rules}
 use Rattle.cap_spec.proofs.Trees.OneTree.{one_tree}
 
 -- n structs of a zero word, and n without words
@@ -102,23 +102,11 @@ trim-wide n = trimmed-zeros n
 
 fits-wide : (n : ℕ) → n < 2 ^ 29 → Fits (wide n)
 unfolding wide
-fits-wide n h = (
-  omega arith,
-  omega arith,
-  omega (arith, h, count-zeros n),
-  omega (arith, h, count-zeros n),
-  fit-zeros n,
-)
+fits-wide n h = search (rules, count-zeros, fit-zeros)
 
 fits-bare : (n : ℕ) → n < 2 ^ 29 → Fits (bare n)
 unfolding bare
-fits-bare n h = (
-  omega arith,
-  omega arith,
-  omega (arith, h, count-empties n),
-  omega (arith, count-empties n),
-  fit-empties n,
-)
+fits-bare n h = search (rules, count-empties, fit-empties)
 
 size-wide : (n : ℕ) → size (wide n) ≡ 1 + n
 unfolding wide

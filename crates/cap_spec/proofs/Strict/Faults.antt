@@ -2,7 +2,7 @@
 use Rattle.cap_spec.specs.declared.StrictRefusal.{StrictRefusal}
 use Rattle.cap_spec.specs.declared.StrictRefusal.TheVariants.{ManySegments, Pointer, Refused}
 use Rattle.cap_spec.proofs.Prelude.{List, ap, arith, inl, inr, length, refl, ℕ, ◌≡◌, ◌≤◌, ◌⊎◌, ∥∥₁_elim, props}
-use Rattle.cap_spec.proofs.Prelude.{cases_lt, IsWithin, IsLax, IsStrict, IsStrictFault, Lax, Step}
+use Rattle.cap_spec.proofs.Prelude.{cases_lt, IsWithin, IsLax, IsStrict, IsStrictFault, Lax, Step, common_steps, rules}
 use Rattle.cap_spec.proofs.Strict.FirstLax.{first_lax_or_none, one_first_lax}
 use Rattle.cap_spec.proofs.Verdicts.OneFault.{one_refusal}
 use Rattle.cap_spec.proofs.Verdicts.Refusals.{within_not_refused}
@@ -48,25 +48,12 @@ one_strict_fault m words depth (Pointer u s w n) (Pointer v s' w' n') h k =
 -- What is accepted within limits is accepted within wider ones,
 pub within_wider : (m : List (List ℕ)) (words depth words' depth' : ℕ) → IsWithin m words depth → words ≤ words'
     → depth ≤ depth' → IsWithin m words' depth'
-within_wider m words depth words' depth' (t, c, n, a) w d = (
-  t,
-  c,
-  n,
-  record {
-    denotes = a.denotes;
-    few_words = omega (arith, a.few_words, w);
-    few_levels = omega (arith, a.few_levels, d);
-  },
-)
+within_wider m words depth words' depth' (t, c, n, a) w d = search rules
 
 -- and strict where it is strict.
 pub strict_wider : (m : List (List ℕ)) (words depth words' depth' : ℕ) → IsStrict m words depth → words ≤ words'
     → depth ≤ depth' → IsStrict m words' depth'
-strict_wider m words depth words' depth' h w d = record {
-  accepted = within_wider m words depth words' depth' h.accepted w d;
-  few_segments = h.few_segments;
-  none = h.none;
-}
+strict_wider m words depth words' depth' h w d = grind (arith, common_steps)
 
 -- Of what may be strict it is known that it has few segments and no such pointer.
 pub strict_kept : (m : List (List ℕ)) (words depth : ℕ) → ∥ IsStrict m words depth ∥₁

@@ -2,8 +2,8 @@
 use Rattle.cap_spec.proofs.Paths.Arrivals.{coming_to_node, lead_word}
 use Rattle.cap_spec.proofs.Paths.PathCounts.{pointer_path_reached, pointer_paths}
 use Rattle.cap_spec.proofs.Paths.PathLists.{is_pointer, listed_rise}
-use Rattle.cap_spec.proofs.Paths.Preorder.{Before-asymmetric, Before-irreflexive, Rises-first, Rises-rest, one_first}
-use Rattle.cap_spec.proofs.Paths.Preorder.{one_number}
+use Rattle.cap_spec.proofs.Paths.Preorder.{Before-asymmetric, Before-irreflexive, Rises-front, after_middle}
+use Rattle.cap_spec.proofs.Paths.Preorder.{before_middle, front_is_one, front_or_back, one_first, one_number}
 use Rattle.cap_spec.proofs.Paths.Walks.{one_reached}
 use Rattle.cap_spec.proofs.Prelude.{List, [], ap, false, inl, inr, length, refl, subst, sym, ℕ, ◌++◌, ◌∷◌, ◌≡◌, ◌⊎◌}
 use Rattle.cap_spec.proofs.Prelude.{Denotes, IsOneOf, Before, IsTour, Reaches, Rises, word, IsFirstLax, IsLax, IsLaxAt}
@@ -11,43 +11,6 @@ use Rattle.cap_spec.proofs.Prelude.{Tree, Lax, Step}
 use Rattle.cap_spec.proofs.Strict.LaxForms.{lax_decided, one_lax}
 use Rattle.cap_spec.proofs.Trees.OneTree.{Formed, formed}
 use Rattle.cap_spec.proofs.Verdicts.OneFault.{one_of_last}
-
--- a path between two lists
-middle_is_one : (p : List Step) (xs ys : List (List Step)) → IsOneOf p (xs ++ p ∷ ys)
-middle_is_one p [] ys = inl refl
-middle_is_one p (x ∷ xs) ys = inr (middle_is_one p xs ys)
-
-front_is_one : (q p : List Step) (xs ys : List (List Step)) → IsOneOf q (xs ++ p ∷ []) → IsOneOf q (xs ++ p ∷ ys)
-front_is_one q p [] ys (inl e) = inl e
-front_is_one q p [] ys (inr h) = absurd h
-front_is_one q p (x ∷ xs) ys (inl e) = inl e
-front_is_one q p (x ∷ xs) ys (inr h) = inr (front_is_one q p xs ys h)
-
-front_or_back : (q p : List Step) (xs ys : List (List Step)) → IsOneOf q (xs ++ p ∷ ys)
-    → IsOneOf q (xs ++ p ∷ []) ⊎ IsOneOf q ys
-front_or_back q p [] ys (inl e) = inl (inl e)
-front_or_back q p [] ys (inr h) = inr h
-front_or_back q p (x ∷ xs) ys (inl e) = inl (inl e)
-front_or_back q p (x ∷ xs) ys (inr h) = elim (front_or_back q p xs ys h) [ inl i ↦ inl (inr i) | inr i ↦ inr i ]
-
--- where the lists rise, the first rises up to it, comes before it, and the second comes after it
-Rises-front : (xs : List (List Step)) (p : List Step) (ys : List (List Step)) → Rises (xs ++ p ∷ ys)
-    → Rises (xs ++ p ∷ [])
-Rises-front [] p ys h = tt
-Rises-front (x ∷ []) p ys h = (h.0, tt)
-Rises-front (x ∷ z ∷ xs) p ys h = (h.0, Rises-front (z ∷ xs) p ys h.1)
-
-before_middle : (xs : List (List Step)) (p : List Step) (ys : List (List Step)) (q : List Step) → Rises (xs ++ p ∷ ys)
-    → IsOneOf q xs → Before q p
-before_middle [] p ys q h i = absurd i
-before_middle (x ∷ xs) p ys q h (inl e) =
-    subst (λ (u : List Step). Before u p) (sym e) (Rises-first x (xs ++ p ∷ ys) p h (middle_is_one p xs ys))
-before_middle (x ∷ xs) p ys q h (inr i) = before_middle xs p ys q (Rises-rest x (xs ++ p ∷ ys) h) i
-
-after_middle : (xs : List (List Step)) (p : List Step) (ys : List (List Step)) (q : List Step) → Rises (xs ++ p ∷ ys)
-    → IsOneOf q ys → Before p q
-after_middle [] p ys q h i = Rises-first p ys q h i
-after_middle (x ∷ xs) p ys q h i = after_middle xs p ys q (Rises-rest x (xs ++ p ∷ ys) h) i
 
 -- the first path of a list at which something is so
 record FirstOf (P : List Step → Type 0) (ps : List (List Step)) : Type 0 where

@@ -28,7 +28,7 @@ pub empty_by_two : (m : List (List ℕ)) (s w k t b q : ℕ) → Finds m s w k t
     → (k ≡ 2) × (b ≡ 0) × (extent q ≡ 0)
 empty_by_two m s w k t b q f e =
     let l : length (segment_of m t) ≡ 0 = ap length e in
-    (two_words m s w k t b q f.leads e, omega (arith, l, f.sits.inside), omega (arith, l, f.sits.inside))
+    (two_words m s w k t b q f.leads e, omega (arith, l, f.inside.inside), omega (arith, l, f.inside.inside))
 
 -- a pointer of one of these forms has a landing pad
 pub lax_pads : (m : List (List ℕ)) (s w : ℕ) (what : Lax) → IsLaxAt m s w what

@@ -1,15 +1,12 @@
 -- Which form a pointer that can be followed has, by its word and the words of its landing pad.
-use Rattle.cap_spec.proofs.Pointers.Following.{leads-near, leads-one}
-use Rattle.cap_spec.proofs.Prelude.{List, arith, inl, inr, pos, refl, ℕ, ◌<◌, ◌≡◌, ◌≢◌, IsOnePad, one_pad, to_cap}
-use Rattle.cap_spec.proofs.Prelude.{to_null, to_object, HasWord, Costs, far_segment, kind, pad, IsLaxAt, Lax}
-use Rattle.cap_spec.proofs.Prelude.{CapabilityPad, EmptySegment, NullPad}
-use Rattle.cap_spec.proofs.Strict.LaxForms.{empty_by_two, lax_pads}
+use Rattle.cap_spec.proofs.Pointers.Following.{leads-one}
+use Rattle.cap_spec.proofs.Prelude.{List, arith, inl, inr, refl, ℕ, ◌≡◌, ◌≢◌, IsOnePad, one_pad, to_cap}
+use Rattle.cap_spec.proofs.Prelude.{to_null, HasWord, Costs, far_segment, kind, pad, IsLaxAt, Lax}
+use Rattle.cap_spec.proofs.Prelude.{CapabilityPad, NullPad, common_steps, rules}
 
 -- a pointer that isn't far has none of the forms
 pub near_has_none : (m : List (List ℕ)) (s w p : ℕ) → HasWord m s w p → kind p ≢ 2 → (what : Lax) → ¬ IsLaxAt m s w what
-near_has_none m s w p has n what x =
-    let l = lax_pads m s w what x in
-    absurd (omega (arith, l.3, leads-near m s w l.0 l.1 l.2 p has n))
+near_has_none m s w p has n what x = grind (arith, common_steps)
 
 -- It has a one-word pad.
 module _ (m : List (List ℕ)) (s w p q : ℕ) (has : HasWord m s w p) (one : IsOnePad p)
@@ -24,15 +21,8 @@ module _ (m : List (List ℕ)) (s w p q : ℕ) (has : HasWord m s w p) (one : Is
   cap_pad cost (inr (inl (i, h))) e =
       let g = leads-one m s w cost (to_cap i) h p q has one hasq in
       (i, one_pad p q has one hasq (λ f. absurd (omega (arith, e, f))) g.1 refl)
-  cap_pad cost (inr (inr (k, t, b, x, tag, f, tagged, sum))) e =
-      let g = leads-one m s w k (to_object t (pos b) x) f.leads p q has one hasq in
-      let l : kind q < 2 = g.1.0 in
-      absurd (omega (arith, e, l))
+  cap_pad cost (inr (inr (k, t, b, x, tag, f, tagged, sum))) e = grind (arith, common_steps)
 
   -- and that is neither
   pub other_pad : q ≢ 0 → kind q ≢ 3 → (what : Lax) → ¬ IsLaxAt m s w what
-  other_pad some n NullPad h = some (leads-one m s w 1 to_null h p q has one hasq).1
-  other_pad some n EmptySegment (k, t, b, x, f, e) =
-      let g = leads-one m s w k (to_object t (pos b) x) f.leads p q has one hasq in
-      absurd (omega (arith, g.0, (empty_by_two m s w k t b x f e).0))
-  other_pad some n CapabilityPad (i, h) = n (leads-one m s w 1 (to_cap i) h p q has one hasq).1.0.0
+  other_pad some n x2 h = search (rules, leads-one)

@@ -2,20 +2,20 @@
 use Rattle.cap_spec.specs.Denoting.{places}
 use Rattle.cap_spec.specs.Tree.{none}
 use Rattle.cap_spec.proofs.Canonical.TreeMeasures.{cost, costs, each_measured, element_costs, elements_measured}
-use Rattle.cap_spec.proofs.Canonical.TreeMeasures.{extent_scalars, extra_scalars, extra_structs, idle, measured}
-use Rattle.cap_spec.proofs.Frames.Messages.{one_word}
+use Rattle.cap_spec.proofs.Canonical.TreeMeasures.{idle, measured, scalars_extra, structs_extra}
 use Rattle.cap_spec.proofs.Paths.Arrivals.{found_form}
 use Rattle.cap_spec.proofs.Pointers.Following.{one_lead}
+use Rattle.cap_spec.proofs.Pointers.Shapes.{pointers_extra, pointers_shape, pointers_words, scalars_words, struct_extra}
+use Rattle.cap_spec.proofs.Pointers.Shapes.{struct_shape, struct_words, structs_shape, structs_words}
 use Rattle.cap_spec.proofs.Prelude.{List, [], ap, arith, inl, inr, length, pos, refl, subst, suc, sym, zero, ℕ, ◌*◌}
-use Rattle.cap_spec.proofs.Prelude.{◌+◌, ◌<◌, ◌∙◌, ◌∷◌, ◌≡◌, ◌≤◌, AreElements, DenoteEach, Denotes, Finds}
-use Rattle.cap_spec.proofs.Prelude.{FindsPointers, FindsStruct, FindsStructs, Lead, Leads, extra, to_cap, to_null}
-use Rattle.cap_spec.proofs.Prelude.{to_object, HasWord, segment_of, PathLeads, Spot, StepsTo, element, word, code}
-use Rattle.cap_spec.proofs.Prelude.{data_size, extent, kind, list_size, list_words, middle, pointer_size, Tree, Trees}
-use Rattle.cap_spec.proofs.Prelude.{cap, more, null, pointers, scalars, struct, structs, tree_count, Step, Item, Ptr}
-use Rattle.cap_spec.proofs.Trees.Charges.{each_charged, elements_fit, extent_pointers, extent_struct, extent_structs}
-use Rattle.cap_spec.proofs.Trees.Charges.{length-places}
+use Rattle.cap_spec.proofs.Prelude.{◌+◌, ◌<◌, ◌∙◌, ◌∷◌, ◌≡◌, ◌≤◌, AreElements, DenoteEach, Denotes, FindsCharged}
+use Rattle.cap_spec.proofs.Prelude.{FindsKind, words_from, Lead, Leads, extra, to_cap, to_null, to_object, segment_of}
+use Rattle.cap_spec.proofs.Prelude.{PathLeads, Spot, StepsTo, element, word, code, extent, kind, list_size, list_words}
+use Rattle.cap_spec.proofs.Prelude.{Tree, Trees, cap, more, null, pointers, scalars, struct, structs, tree_count}
+use Rattle.cap_spec.proofs.Prelude.{Pointers, Struct, Structs, Step, Item, Ptr}
+use Rattle.cap_spec.proofs.Trees.Charges.{each_charged, elements_fit, length-places}
 use Rattle.cap_spec.proofs.Trees.DenotedTrees.{elements_inside, range_length}
-use Rattle.cap_spec.proofs.Trees.Finding.{SameObject, one_object}
+use Rattle.cap_spec.proofs.Trees.Finding.{one_found}
 use Rattle.cap_spec.proofs.Trees.OneTree.{cons_parts, number_list, number_struct}
 use Rattle.cap_spec.proofs.Trees.Readings.{length-values}
 
@@ -26,11 +26,11 @@ Tight m (element t b ds ps) (struct words ts) = (c d : ℕ) × DenoteEach m (pla
 Tight m (element t b ds ps) _ = ⊥
 
 -- a charge of a cost and pads is no more than the cost where there are no pads
-no_pads_left : (k x i x' e c : ℕ) → c ≡ k + x + i → x ≡ x' → e ≤ i → c ≤ x' + e → (k ≡ 0) × (i ≤ e)
-no_pads_left k x i x' e c e1 e2 e3 e4 = (omega arith, omega arith)
+no_pads_left : (k x y i x' e c : ℕ) → c ≡ k + x + y + i → x ≡ x' → y ≡ 0 → e ≤ i → c ≤ x' + e → (k ≡ 0) × (i ≤ e)
+no_pads_left k x y i x' e c e1 e2 e3 e4 e5 = (omega arith, omega arith)
 
 -- the same of lists
-no_pads_scalars : (k x y x' y' c : ℕ) → c ≡ k + x + y → x ≡ x' → y ≡ y' → c ≤ x' + y' → k ≡ 0
+no_pads_scalars : (k x y x' y' c : ℕ) → c ≡ k + x + y + 0 → x ≡ x' → y ≡ y' → c ≤ x' + y' → k ≡ 0
 no_pads_scalars k x y x' y' c e1 e2 e3 e4 = omega arith
 
 no_pads_structs : (k x y i l a y' e c : ℕ) → c ≡ k + x + y + i → x ≡ 1 + l → y ≡ y' → a ≤ l → e ≤ i → c ≤ 1 + a + y' + e
@@ -38,75 +38,65 @@ no_pads_structs : (k x y i l a y' e c : ℕ) → c ≡ k + x + y + i → x ≡ 1
 no_pads_structs k x y i l a y' e c e1 e2 e3 e4 e5 e6 = (omega arith, omega arith)
 
 -- a struct that is charged no more than its cost has no pads, and nor have its children
-struct_tight : (m : List (List ℕ)) (s w : ℕ) (words : List ℕ) (ts : Trees) (k t b q inner deep c d : ℕ)
-    → FindsStruct m s w words k t b q inner deep c d
-    → DenoteEach m (places t (b + data_size q) (pointer_size q)) ts inner deep → c ≤ cost (struct words ts)
+struct_tight : {m : List (List ℕ)} {s w k t b q tag ds ps inner deep c d : ℕ} (words : List ℕ) (ts : Trees)
+    → FindsCharged m s w (Struct ds ps) k t b q tag inner deep c d → words ≡ words_from m t b ds
+    → DenoteEach m (places t (b + ds) ps) ts inner deep → c ≤ cost (struct words ts)
     → (k ≡ 0) × (inner ≤ costs ts)
-struct_tight m s w words ts k t b q inner deep c d f each le =
-    let x : extent q ≡ data_size q + pointer_size q = extent_struct q f.kind in
-    let l : length words ≡ data_size q = ap length f.data_words
-    ∙ range_length m t b (data_size q) (omega (arith, f.finds.sits.inside, x)) in
-    let n : tree_count ts ≡ pointer_size q =
-    (each_charged m (places t (b + data_size q) (pointer_size q)) ts inner deep each).0
-    ∙ length-places t (b + data_size q) (pointer_size q) in
-    let a = each_measured m (places t (b + data_size q) (pointer_size q)) ts inner deep each in
-    no_pads_left k (extent q) inner (length words + tree_count ts) (costs ts) c f.charge
-    (omega (arith, x, l, n)) a.charged le
+struct_tight {m} {s} {w} {k} {t} {b} {q} {tag} {ds} {ps} {inner} {deep} {c} {d} words ts f own each le =
+    let h = f.object.shape in
+    let x : extent q ≡ ds + ps = struct_words h in
+    let l : length words ≡ ds = ap length own ∙ range_length m t b ds (omega (arith, f.object.finds.inside.inside, x)) in
+    let n : tree_count ts ≡ ps = (each_charged m (places t (b + ds) ps) ts inner deep each).0 ∙ length-places t (b + ds) ps in
+    let a = each_measured m (places t (b + ds) ps) ts inner deep each in
+    no_pads_left k (extent q) (extra q tag) inner (length words + tree_count ts) (costs ts) c f.charge
+    (omega (arith, x, l, n)) (struct_extra h) a.charged le
 
-pointers_tight : (m : List (List ℕ)) (s w : ℕ) (ts : Trees) (k t b q inner deep c d : ℕ)
-    → FindsPointers m s w k t b q inner deep c d
-    → DenoteEach m (places t b (list_size q)) ts inner deep → c ≤ cost (pointers ts) → (k ≡ 0) × (inner ≤ costs ts)
-pointers_tight m s w ts k t b q inner deep c d f each le =
-    let x : extent q ≡ list_size q = extent_pointers q f.kind f.code in
-    let n : tree_count ts ≡ list_size q = (each_charged m (places t b (list_size q)) ts inner deep each).0
-    ∙ length-places t b (list_size q) in
-    let a = each_measured m (places t b (list_size q)) ts inner deep each in
-    no_pads_left k (extent q) inner (tree_count ts) (costs ts) c f.charge (omega (arith, x, n)) a.charged le
+pointers_tight : {m : List (List ℕ)} {s w k t b q tag n inner deep c d : ℕ} (ts : Trees)
+    → FindsCharged m s w (Pointers n) k t b q tag inner deep c d
+    → DenoteEach m (places t b n) ts inner deep → c ≤ cost (pointers ts) → (k ≡ 0) × (inner ≤ costs ts)
+pointers_tight {m} {s} {w} {k} {t} {b} {q} {tag} {n} {inner} {deep} {c} {d} ts f each le =
+    let h = f.object.shape in
+    let count : tree_count ts ≡ n = (each_charged m (places t b n) ts inner deep each).0 ∙ length-places t b n in
+    let a = each_measured m (places t b n) ts inner deep each in
+    no_pads_left k (extent q) (extra q tag) inner (tree_count ts) (costs ts) c f.charge
+    (omega (arith, pointers_words h, count)) (pointers_extra h) a.charged le
 
-structs_tight : (m : List (List ℕ)) (s w ds ps : ℕ) (es : Trees) (k t b q tag inner deep c d : ℕ)
-    → FindsStructs m s w ds ps k t b q tag inner deep c d
-    → AreElements m t (b + 1) ds ps (middle tag) es inner deep → c ≤ cost (structs ds ps es)
+structs_tight : {m : List (List ℕ)} {s w ds ps k t b q tag n inner deep c d : ℕ} (es : Trees)
+    → FindsCharged m s w (Structs n ds ps) k t b q tag inner deep c d
+    → AreElements m t (b + 1) ds ps n es inner deep → c ≤ cost (structs ds ps es)
     → (k ≡ 0) × (inner ≤ element_costs es)
-structs_tight m s w ds ps es k t b q tag inner deep c d f each le =
-    let a = elements_measured m t (b + 1) ds ps (middle tag) es inner deep
-    (elements_inside m s w ds ps k t b q tag inner deep c d f) each in
-    let x : extent q ≡ 1 + list_size q = extent_structs q f.kind f.code in
-    let i : middle tag * ds + middle tag * ps ≤ list_size q = elements_fit m s w ds ps k t b q tag inner deep c d f in
+structs_tight {m} {s} {w} {ds} {ps} {k} {t} {b} {q} {tag} {n} {inner} {deep} {c} {d} es f each le =
+    let h = f.object.shape in
+    let a = elements_measured m t (b + 1) ds ps n es inner deep (elements_inside f.object) each in
+    let i : n * ds + n * ps ≤ list_size q = elements_fit f.object in
     let j : tree_count es * (ds + ps) ≤ list_size q = rw a.count (omega (arith, i)) in
-    let y : extra q tag ≡ idle (ds + ps) (tree_count es) =
-    rw (f.data_sizes, f.pointer_sizes, a.count) (extra_structs q tag f.kind f.code) in
+    let y : extra q tag ≡ idle (ds + ps) (tree_count es) = rw a.count (structs_extra h) in
     no_pads_structs k (extent q) (extra q tag) inner (list_size q) (tree_count es * (ds + ps))
     (idle (ds + ps) (tree_count es)) (element_costs es) c
-    f.charge x y j a.charged le
+    f.charge (structs_words h) y j a.charged le
 
 -- a word whose tree is charged no more than its cost leads there without pads
 pub own_padless : (m : List (List ℕ)) (s w : ℕ) (t : Tree) (c d k : ℕ) (r : Lead) → Denotes m s w t c d → c ≤ cost t
     → Leads m s w k r → k ≡ 0
 own_padless m s w null c d k r h le l = omega (arith, le, one_lead m s w c k to_null r h.0 l)
 own_padless m s w (cap i) c d k r h le l = omega (arith, le, one_lead m s w c k (to_cap i) r h.0 l)
-own_padless m s w (struct words ts) c d k r (k', t, b, q, inner, deep, found, each) le l =
-    omega (
-      arith,
-      one_lead m s w k' k (to_object t (pos b) q) r found.finds.leads l,
-      struct_tight m s w words ts k' t b q inner deep c d found each le,
-    )
-own_padless m s w (scalars e vs) c d k r (k', t, b, q, found) le l =
-    let f = found in
-    let n : length vs ≡ list_size q = ap length f.elements ∙ length-values m t b e (list_size q) in
-    let x = extent_scalars q e f.kind f.code f.scalar ∙ ap (list_words e) (sym n) in
-    let y = extra_scalars q e f.kind f.code f.scalar ∙ ap (idle e) (sym n) in
-    let z : k' ≡ 0 = no_pads_scalars k' (extent q) (extra q 0) (list_words e (length vs)) (idle e (length vs))
-    c f.charge x y le in
-    omega (arith, one_lead m s w k' k (to_object t (pos b) q) r f.finds.leads l, z)
-own_padless m s w (pointers ts) c d k r (k', t, b, q, inner, deep, found, each) le l =
-    omega (
-      arith,
-      one_lead m s w k' k (to_object t (pos b) q) r found.finds.leads l,
-      pointers_tight m s w ts k' t b q inner deep c d found each le,
-    )
-own_padless m s w (structs ds ps es) c d k r (k', t, b, q, tag, inner, deep, found, each) le l =
-    let a = structs_tight m s w ds ps es k' t b q tag inner deep c d found each le in
-    omega (arith, one_lead m s w k' k (to_object t (pos b) q) r found.finds.leads l, a)
+own_padless m s w (struct words ts) c d k r (k', t, b, q, tag, ds, ps, inner, deep, found, own, each) le l =
+    let one = one_lead m s w k' k (to_object t (pos b) q) r found.object.finds.leads l in
+    omega (arith, one, struct_tight words ts found own each le)
+own_padless m s w (scalars e vs) c d k r (k', t, b, q, tag, n, found, own) le l =
+    let h = found.object.shape in
+    let count : length vs ≡ n = ap length own ∙ length-values m t b e n in
+    let x = scalars_words h ∙ ap (list_words e) (sym count) in
+    let y = scalars_extra h ∙ ap (idle e) (sym count) in
+    let z : k' ≡ 0 = no_pads_scalars k' (extent q) (extra q tag) (list_words e (length vs)) (idle e (length vs))
+    c found.charge x y le in
+    omega (arith, one_lead m s w k' k (to_object t (pos b) q) r found.object.finds.leads l, z)
+own_padless m s w (pointers ts) c d k r (k', t, b, q, tag, n, inner, deep, found, each) le l =
+    let one = one_lead m s w k' k (to_object t (pos b) q) r found.object.finds.leads l in
+    omega (arith, one, pointers_tight ts found each le)
+own_padless m s w (structs ds ps es) c d k r (k', t, b, q, tag, n, inner, deep, found, each) le l =
+    let one = one_lead m s w k' k (to_object t (pos b) q) r found.object.finds.leads l in
+    omega (arith, one, structs_tight es found each le)
 
 -- a word of a row, where the row is charged no more than its cost
 each_tight : (m : List (List ℕ)) (t b n : ℕ) (ts : Trees) (c d i x : ℕ) → DenoteEach m (places t b n) ts c d
@@ -163,69 +153,66 @@ elements_tight m t b ds ps n (more (struct ws ts) es) c d (suc i) x inside h le 
 elements_tight m t b ds ps n (more y es) c d i x inside h le lt e = absurd h
 
 -- a step from a word to a struct's pointer, to an entry of a list of pointers, and to an element
-to_pointer : (m : List (List ℕ)) (s w : ℕ) (x : Tree) (c d k t b q i : ℕ) → Denotes m s w x c d → c ≤ cost x
-    → Finds m s w k t b q
-    → kind q ≡ 0 → i < pointer_size q → (u : Tree) × Tight m (word t (b + data_size q + i)) u
-to_pointer m s w (struct ws ts) c d k t b q i (k', t', b', q', inner, deep, found, each) le f e lt =
-    let o : SameObject k t b q k' t' b' q' = one_object m s w k t b q k' t' b' q' f found.finds in
-    let a = struct_tight m s w ws ts k' t' b' q' inner deep c d found each le in
-    let r = each_tight m t' (b' + data_size q') (pointer_size q') ts inner deep i (b + data_size q + i) each a.1
-    (rw (← o.shape) lt) (rw (o.start, o.shape) refl) in
-    (r.0, subst (λ (y : ℕ). Tight m (word y (b + data_size q + i)) r.0) (sym o.segment) r.1)
-to_pointer m s w x c d k t b q i h le f e lt =
-    absurd (omega (arith, number_struct (kind q) (code q) e, found_form m s w x c d k t b q h f))
+to_pointer : (m : List (List ℕ)) (s w : ℕ) (x : Tree) (c d k t b q tag ds ps i : ℕ) → Denotes m s w x c d → c ≤ cost x
+    → FindsKind m s w (Struct ds ps) k t b q tag → i < ps → (u : Tree) × Tight m (word t (b + ds + i)) u
+to_pointer m s w (struct ws ts) c d k t b q tag ds ps i h le f lt =
+    let (k', t', b', q', tag', ds', ps', inner, deep, found, own, each) = h in
+    let o = one_found f found.object in
+    let x : ds ≡ ds' = cc o.kind in
+    let y : ps ≡ ps' = cc o.kind in
+    let a = struct_tight ws ts found own each le in
+    let r = each_tight m t' (b' + ds') ps' ts inner deep i (b + ds + i) each a.1 (rw (← y) lt) (rw (o.start, x) refl) in
+    (r.0, subst (λ (y : ℕ). Tight m (word y (b + ds + i)) r.0) (sym o.segment) r.1)
+to_pointer m s w x c d k t b q tag ds ps i h le f lt =
+    let y = struct_shape f.shape in
+    absurd (omega (arith, number_struct (kind q) (code q) y.kind, found_form m s w x c d k t b q h f.finds))
 
-to_entry : (m : List (List ℕ)) (s w : ℕ) (x : Tree) (c d k t b q i : ℕ) → Denotes m s w x c d → c ≤ cost x
-    → Finds m s w k t b q
-    → kind q ≡ 1 → code q ≡ 6 → i < list_size q → (u : Tree) × Tight m (word t (b + i)) u
-to_entry m s w (pointers ts) c d k t b q i (k', t', b', q', inner, deep, found, each) le f e g lt =
-    let o : SameObject k t b q k' t' b' q' = one_object m s w k t b q k' t' b' q' f found.finds in
-    let a = pointers_tight m s w ts k' t' b' q' inner deep c d found each le in
-    let r = each_tight m t' b' (list_size q') ts inner deep i (b + i) each a.1 (rw (← o.shape) lt) (rw o.start refl) in
+to_entry : (m : List (List ℕ)) (s w : ℕ) (x : Tree) (c d k t b q tag n i : ℕ) → Denotes m s w x c d → c ≤ cost x
+    → FindsKind m s w (Pointers n) k t b q tag → i < n → (u : Tree) × Tight m (word t (b + i)) u
+to_entry m s w (pointers ts) c d k t b q tag n i h le f lt =
+    let (k', t', b', q', tag', n', inner, deep, found, each) = h in
+    let o = one_found f found.object in
+    let x : n ≡ n' = cc o.kind in
+    let a = pointers_tight ts found each le in
+    let r = each_tight m t' b' n' ts inner deep i (b + i) each a.1 (rw (← x) lt) (rw o.start refl) in
     (r.0, subst (λ (y : ℕ). Tight m (word y (b + i)) r.0) (sym o.segment) r.1)
-to_entry m s w x c d k t b q i h le f e g lt =
-    absurd (omega (arith, number_list (kind q) (code q) e, g, found_form m s w x c d k t b q h f))
+to_entry m s w x c d k t b q tag n i h le f lt =
+    let y = pointers_shape f.shape in
+    absurd (omega (arith, number_list (kind q) (code q) y.kind, y.code, found_form m s w x c d k t b q h f.finds))
 
 -- an element by equal places
 tight_moved : (m : List (List ℕ)) (t t' x ds ds' ps ps' : ℕ) (u : Tree) → t ≡ t' → ds ≡ ds' → ps ≡ ps'
     → Tight m (element t x ds ps) u → Tight m (element t' x ds' ps') u
 tight_moved m t t' x ds ds' ps ps' u e f g h = rw (← e, ← f, ← g) h
 
-to_element : (m : List (List ℕ)) (s w : ℕ) (x : Tree) (c d k t b q tag i : ℕ) → Denotes m s w x c d → c ≤ cost x
-    → Finds m s w k t b q
-    → kind q ≡ 1 → code q ≡ 7 → HasWord m t b tag → i < middle tag
-    → (u : Tree) × Tight m (element t (b + 1 + i * (data_size tag + pointer_size tag)) (data_size tag)
-    (pointer_size tag)) u
-to_element m s w (structs ds ps es) c d k t b q tag i h le f e g y lt =
-    let (k', t', b', q', tag', inner, deep, found, each) = h in
-    let o : SameObject k t b q k' t' b' q' = one_object m s w k t b q k' t' b' q' f found.finds in
-    let z : tag ≡ tag' = one_word m t b tag tag' y (rw (o.segment, o.start) found.has_tag) in
-    let a = structs_tight m s w ds ps es k' t' b' q' tag' inner deep c d found each le in
-    let r = elements_tight m t' (b' + 1) ds ps (middle tag') es inner deep i
-    (b + 1 + i * (data_size tag + pointer_size tag))
-    (elements_inside m s w ds ps k' t' b' q' tag' inner deep c d found) each a.1 (rw (← z) lt)
-    (rw (o.start, z, found.data_sizes, found.pointer_sizes) refl) in
-    let y1 : ds ≡ data_size tag = found.data_sizes ∙ ap data_size (sym z) in
-    let y2 : ps ≡ pointer_size tag = found.pointer_sizes ∙ ap pointer_size (sym z) in (
-      r.0,
-      tight_moved m t' t (b + 1 + i * (data_size tag + pointer_size tag)) ds (data_size tag) ps (pointer_size tag)
-          r.0 (sym o.segment) y1 y2 r.1,
-    )
-to_element m s w x c d k t b q tag i h le f e g y lt =
-    absurd (omega (arith, number_list (kind q) (code q) e, g, found_form m s w x c d k t b q h f))
+to_element : (m : List (List ℕ)) (s w : ℕ) (x : Tree) (c d k t b q tag n ds ps i : ℕ) → Denotes m s w x c d → c ≤ cost x
+    → FindsKind m s w (Structs n ds ps) k t b q tag → i < n
+    → (u : Tree) × Tight m (element t (b + 1 + i * (ds + ps)) ds ps) u
+to_element m s w (structs ds' ps' es) c d k t b q tag n ds ps i h le f lt =
+    let (k', t', b', q', tag', n', inner, deep, found, each) = h in
+    let o = one_found f found.object in
+    let x : n ≡ n' = cc o.kind in
+    let y : ds ≡ ds' = cc o.kind in
+    let z : ps ≡ ps' = cc o.kind in
+    let a = structs_tight es found each le in
+    let r = elements_tight m t' (b' + 1) ds' ps' n' es inner deep i (b + 1 + i * (ds + ps))
+    (elements_inside found.object) each a.1 (rw (← x) lt) (rw (o.start, y, z) refl) in
+    (r.0, tight_moved m t' t (b + 1 + i * (ds + ps)) ds' ds ps' ps r.0 (sym o.segment) (sym y) (sym z) r.1)
+to_element m s w x c d k t b q tag n ds ps i h le f lt =
+    let y = structs_shape f.shape in
+    absurd (omega (arith, number_list (kind q) (code q) y.kind, y.code, found_form m s w x c d k t b q h f.finds))
 
 -- a step from a spot that is charged no more than its cost leads to another one
 step_tight : (m : List (List ℕ)) (a : Spot) (step : Step) (b : Spot) (x : Tree) → Tight m a x → StepsTo m a step b
     → (u : Tree) × Tight m b u
-step_tight m (word s w) (Ptr i) b x h (k, t, b', q, finds, is_struct, less, ends) =
-    let r = to_pointer m s w x h.0 h.1 k t b' q i h.2 h.3 finds is_struct less in
+step_tight m (word s w) (Ptr i) b x h (k, t, b', q, tag, ds, ps, finds, less, ends) =
+    let r = to_pointer m s w x h.0 h.1 k t b' q tag ds ps i h.2 h.3 finds less in
     (r.0, subst (λ (y : Spot). Tight m y r.0) (sym ends) r.1)
-step_tight m (word s w) (Item i) b x h (inl (k, t, b', q, finds, is_list, of_pointers, less, ends)) =
-    let r = to_entry m s w x h.0 h.1 k t b' q i h.2 h.3 finds is_list of_pointers less in
+step_tight m (word s w) (Item i) b x h (inl (k, t, b', q, tag, n, finds, less, ends)) =
+    let r = to_entry m s w x h.0 h.1 k t b' q tag n i h.2 h.3 finds less in
     (r.0, subst (λ (y : Spot). Tight m y r.0) (sym ends) r.1)
-step_tight m (word s w) (Item i) b x h (inr g) =
-    let (k, t, b', q, tag, finds, is_list, of_structs, has_tag, less, ends) = g in
-    let r = to_element m s w x h.0 h.1 k t b' q tag i h.2 h.3 finds is_list of_structs has_tag less in
+step_tight m (word s w) (Item i) b x h (inr (k, t, b', q, tag, n, ds, ps, finds, less, ends)) =
+    let r = to_element m s w x h.0 h.1 k t b' q tag n ds ps i h.2 h.3 finds less in
     (r.0, subst (λ (y : Spot). Tight m y r.0) (sym ends) r.1)
 step_tight m (element t b ds ps) (Ptr i) y (struct ws ts) h g =
     let r = each_tight m t (b + ds) ps ts h.0 h.1 i (b + ds + i) h.2 h.3 g.0 refl in

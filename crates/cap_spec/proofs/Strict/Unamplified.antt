@@ -5,9 +5,11 @@ use Rattle.cap_spec.proofs.Canonical.Sizes.{layout_charged}
 use Rattle.cap_spec.proofs.Disjoint.Bounds.{charge_below_words}
 use Rattle.cap_spec.proofs.Frames.Endings.{length_joined}
 use Rattle.cap_spec.proofs.Prelude.{List, [], ap, arith, inl, inr, length, length-append, sum, ℕ, ◌+◌, ◌-◌, ◌↔◌, ◌∷◌}
-use Rattle.cap_spec.proofs.Prelude.{◌≡◌, ◌≤◌, ◌⊎◌, layout, trim, HasCopy, Denotes, IsFirstReason, IsRefused, is_deep}
+use Rattle.cap_spec.proofs.Prelude.{◌≡◌, ◌≤◌, ◌⊎◌, layout, trim, HasCopy, Denotes, IsFaultAt, IsFirstReason, IsRefused, is_deep}
 use Rattle.cap_spec.proofs.Prelude.{is_past, frame_text, joined, paired, sizes_of, IsDisjoint, empty_count, Tree}
 use Rattle.cap_spec.proofs.Prelude.{unamplified, WordLimit, Refusal}
+use Rattle.cap_spec.proofs.Verdicts.KeptBefore.{kept_before}
+use Rattle.cap_spec.proofs.Verdicts.OneFault.{first_fault_kept}
 
 -- a charge is within the limit where it is within the words given, and within the words of the segments with the slack
 pub within_both : (m : List (List ℕ)) (words c : ℕ) → c ≤ unamplified m words
@@ -60,27 +62,24 @@ pub added_refusals : (m : List (List ℕ)) (few words depth : ℕ) (refusal : Re
     → IsRefused m few depth refusal
     → IsRefused m words depth refusal ⊎ (refusal.reason ≡ WordLimit)
 added_refusals m few words depth refusal le (inl h) = inl (inl h)
-added_refusals m few words depth refusal le (inr f) = by_reason f.reason
+added_refusals m few words depth refusal le (inr f) = by_reason f.fault.reason
   where
-    whole : IsFirstReason m words depth f.charge refusal.segment refusal.word f.level refusal.reason
+    again : IsFirstReason m words depth f.fault.charge refusal.segment refusal.word f.fault.numbered.level refusal.reason
         → IsRefused m words depth refusal
-    whole reason = inr (record {
-      path = f.path;
-      before = f.before;
-      level = f.level;
-      charge = f.charge;
-      reached = f.reached;
-      tour = f.tour;
-      costs = f.costs;
-      within = omega (arith, f.within, le);
-      shallow = f.shallow;
-      reason = reason;
-      pointers = f.pointers;
-      few = omega (arith, f.few, le);
-    })
+    again reason =
+        let fault : IsFaultAt m words depth f.path refusal = record {
+          numbered = f.fault.numbered;
+          before = f.fault.before;
+          charge = f.fault.charge;
+          whole = f.fault.whole;
+          costs = f.fault.costs;
+          reason = reason;
+        } in
+        let kept = kept_before f in
+        inr (first_fault_kept fault (omega (arith, kept.0, le)) kept.1 (omega (arith, f.few, le)))
 
-    by_reason : IsFirstReason m few depth f.charge refusal.segment refusal.word f.level refusal.reason
+    by_reason : IsFirstReason m few depth f.fault.charge refusal.segment refusal.word f.fault.numbered.level refusal.reason
         → IsRefused m words depth refusal ⊎ (refusal.reason ≡ WordLimit)
-    by_reason (is_wrong h) = inl (whole (is_wrong h))
-    by_reason (is_deep e h) = inl (whole (is_deep e h))
+    by_reason (is_wrong h) = inl (again (is_wrong h))
+    by_reason (is_deep e h) = inl (again (is_deep e h))
     by_reason (is_past cost e none costs past) = inr e

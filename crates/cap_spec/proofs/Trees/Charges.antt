@@ -1,17 +1,19 @@
 -- What a pointer word denotes is charged at least what following it costs,
 -- and one for each of its pointers but the root.
-use Rattle.std.proofs.Common.{Bool, List, ap, ap₂, arith, eqb, eqb-true, false, inl, inr, le_of_eq, length, pos, refl}
+use Rattle.std.proofs.Common.{Bool, List, ap, ap₂, arith, eqb, eqb-true, false, inl, inr, length, pos, refl}
 use Rattle.std.proofs.Common.{subst, suc, sym, true, zero, ℕ, ℤ, ◌*◌, ◌+◌, ◌<◌, ◌∙◌, ◌≡◌, ◌≢◌, ◌≤◌}
 use Rattle.std.proofs.lemmas.Bool.{eqb-false}
-use Rattle.cap_spec.specs.Denoting.{AreElements, DenoteEach, Denotes, FindsStructs, places}
+use Rattle.cap_spec.specs.Denoting.{AreElements, DenoteEach, Denotes, FindsKind, places}
 use Rattle.cap_spec.specs.Following.{Lead, Leads, extra, near, one_pad, to_cap, to_null, to_object, two_pads}
 use Rattle.cap_spec.specs.Paths.{Costs}
 use Rattle.cap_spec.specs.Pointers.{code, data_size, extent, kind, list_size, middle, pointer_size}
 use Rattle.cap_spec.specs.Tree.{Tree, Trees, cap, child_count, child_counts, more, none, null, pointer_count, pointers}
 use Rattle.cap_spec.specs.Tree.{scalars, struct, structs, tree_count}
+use Rattle.cap_spec.specs.declared.Kind.TheVariants.{Structs}
 use Rattle.cap_spec.proofs.Frames.Messages.{one_word}
 use Rattle.cap_spec.proofs.Pointers.Following.{one_lead}
-use Rattle.cap_spec.proofs.Trees.Finding.{SameObject, one_object}
+use Rattle.cap_spec.proofs.Pointers.Shapes.{pointers_words, struct_words, structs_shape, structs_words}
+use Rattle.cap_spec.proofs.Trees.Finding.{SameObject, found_cost, one_object}
 
 -- the extent of a struct, of a list of pointers, and of a composite list
 pub extent_struct : (q : ℕ) → kind q ≡ 0 → extent q ≡ data_size q + pointer_size q
@@ -28,14 +30,14 @@ pub pads_charged : (m : List (List ℕ)) (s w : ℕ) (t : Tree) (c d k : ℕ) (r
     → Leads m s w k r → k ≤ c
 pads_charged m s w null c d k r h l = omega (arith, one_lead m s w c k to_null r h.0 l)
 pads_charged m s w (cap i) c d k r h l = omega (arith, one_lead m s w c k (to_cap i) r h.0 l)
-pads_charged m s w (struct words ts) c d k r (k', t, b, q, inner, deep, found, each) l =
-    omega (arith, one_lead m s w k' k (to_object t (pos b) q) r found.finds.leads l, found.charge)
-pads_charged m s w (scalars e values) c d k r (k', t, b, q, found) l =
-    omega (arith, one_lead m s w k' k (to_object t (pos b) q) r found.finds.leads l, found.charge)
-pads_charged m s w (pointers ts) c d k r (k', t, b, q, inner, deep, found, each) l =
-    omega (arith, one_lead m s w k' k (to_object t (pos b) q) r found.finds.leads l, found.charge)
-pads_charged m s w (structs ds ps es) c d k r (k', t, b, q, tag, inner, deep, found, each) l =
-    omega (arith, one_lead m s w k' k (to_object t (pos b) q) r found.finds.leads l, found.charge)
+pads_charged m s w (struct words ts) c d k r (k', t, b, q, tag, ds, ps, inner, deep, found, own, each) l =
+    omega (arith, one_lead m s w k' k (to_object t (pos b) q) r found.object.finds.leads l, found.charge)
+pads_charged m s w (scalars e values) c d k r (k', t, b, q, tag, n, found, own) l =
+    omega (arith, one_lead m s w k' k (to_object t (pos b) q) r found.object.finds.leads l, found.charge)
+pads_charged m s w (pointers ts) c d k r (k', t, b, q, tag, n, inner, deep, found, each) l =
+    omega (arith, one_lead m s w k' k (to_object t (pos b) q) r found.object.finds.leads l, found.charge)
+pads_charged m s w (structs ds ps es) c d k r (k', t, b, q, tag, n, inner, deep, found, each) l =
+    omega (arith, one_lead m s w k' k (to_object t (pos b) q) r found.object.finds.leads l, found.charge)
 
 -- as many places as pointers
 pub length-places : (t b n : ℕ) → length (places t b n) ≡ n
@@ -43,42 +45,31 @@ length-places t b zero = refl
 length-places t b (suc n) = ap suc (length-places t (b + 1) n)
 
 -- the elements that the tag tells lie inside the list
-pub elements_fit : (m : List (List ℕ)) (s w ds ps k t b q tag inner deep c d : ℕ)
-    → FindsStructs m s w ds ps k t b q tag inner deep c d → middle tag * ds + middle tag * ps ≤ list_size q
-elements_fit m s w ds ps k t b q tag inner deep c d f =
-    let x = f.finds.sits.composite (f.kind, f.code) in
-    let e : x.0 ≡ tag = one_word m t b x.0 tag x.1 f.has_tag in
+pub elements_fit : {m : List (List ℕ)} {s w n ds ps k t b q tag : ℕ} → FindsKind m s w (Structs n ds ps) k t b q tag
+    → n * ds + n * ps ≤ list_size q
+elements_fit {m} {s} {w} {n} {ds} {ps} {k} {t} {b} {q} {tag} f =
+    let x = structs_shape f.shape in
+    let (there, has, fits) = f.finds.inside.composite (x.kind, x.code) in
+    let e : there ≡ tag = one_word m t b there tag has (f.tagged (x.kind, x.code)) in
     let g : middle tag * (data_size tag + pointer_size tag) ≤ list_size q =
-    subst (λ y. middle y * (data_size y + pointer_size y) ≤ list_size q) e x.2.1 in
-    rw (f.data_sizes, f.pointer_sizes) (omega (arith, g))
+    subst (λ y. middle y * (data_size y + pointer_size y) ≤ list_size q) e fits.1 in
+    rw (x.count, x.data_words, x.pointers) (omega (arith, g))
 
 mutual
   -- each pointer below the root is a word of some object, so that it is charged
   pub children_charged : (m : List (List ℕ)) (s w : ℕ) (t : Tree) (c d : ℕ) → Denotes m s w t c d → child_count t ≤ c
   children_charged m s w null c d h = omega arith
   children_charged m s w (cap i) c d h = omega arith
-  children_charged m s w (struct words ts) c d (k, t, b, q, inner, deep, found, each) =
-      let a = each_charged m (places t (b + data_size q) (pointer_size q)) ts inner deep each in
-      omega (
-        arith,
-        a,
-        length-places t (b + data_size q) (pointer_size q),
-        extent_struct q found.kind,
-        found.charge,
-      )
+  children_charged m s w (struct words ts) c d (k, t, b, q, tag, ds, ps, inner, deep, found, own, each) =
+      let a = each_charged m (places t (b + ds) ps) ts inner deep each in
+      omega (arith, a, length-places t (b + ds) ps, struct_words found.object.shape, found.charge)
   children_charged m s w (scalars e values) c d h = omega arith
-  children_charged m s w (pointers ts) c d (k, t, b, q, inner, deep, found, each) =
-      let a = each_charged m (places t b (list_size q)) ts inner deep each in
-      omega (arith, a, length-places t b (list_size q), extent_pointers q found.kind found.code, found.charge)
-  children_charged m s w (structs ds ps es) c d (k, t, b, q, tag, inner, deep, found, each) =
-      let a = elements_charged m t (b + 1) ds ps (middle tag) es inner deep each in
-      omega (
-        arith,
-        a,
-        elements_fit m s w ds ps k t b q tag inner deep c d found,
-        extent_structs q found.kind found.code,
-        found.charge,
-      )
+  children_charged m s w (pointers ts) c d (k, t, b, q, tag, n, inner, deep, found, each) =
+      let a = each_charged m (places t b n) ts inner deep each in
+      omega (arith, a, length-places t b n, pointers_words found.object.shape, found.charge)
+  children_charged m s w (structs ds ps es) c d (k, t, b, q, tag, n, inner, deep, found, each) =
+      let a = elements_charged m t (b + 1) ds ps n es inner deep each in
+      omega (arith, a, elements_fit found.object, structs_words found.object.shape, found.charge)
 
   -- the trees are as many as the places, and their children are charged
   pub each_charged : (m : List (List ℕ)) (ps : List (ℕ × ℕ)) (ts : Trees) (c d : ℕ) → DenoteEach m ps ts c d
@@ -150,37 +141,19 @@ extra_pointers q e f = rw (e, f) refl
 own_below : (a b c : ℕ) → c ≡ a + b → a ≤ c
 own_below a b c e = omega arith
 
-own_below_alone : (a x b c : ℕ) → x ≡ 0 → c ≡ a + b → a + x ≤ c
-own_below_alone a x b c e f = omega arith
-
 -- What a word denotes costs something of its own, which its charge has in it.
 pub own_cost : (m : List (List ℕ)) (s w : ℕ) (t : Tree) (c d : ℕ) → Denotes m s w t c d
     → (x : ℕ) × Costs m s w x × (x ≤ c)
 own_cost m s w null c d h = (c, inl h.0, omega arith)
 own_cost m s w (cap i) c d h = (c, inr (inl (i, h.0)), omega arith)
-own_cost m s w (struct words ts) c d (k, t, b, q, inner, deep, found, each) = (
-  k + extent q + extra q 0,
-  inr (inr
-      (k, t, b, q, 0, found.finds, λ z. absurd (omega (arith, found.kind, z.0)), refl)),
-  own_below_alone (k + extent q) (extra q 0) inner c (extra_struct q found.kind) found.charge,
-)
-own_cost m s w (scalars e values) c d (k, t, b, q, found) = (
-  k + extent q + extra q 0,
-  inr (inr
-      (k, t, b, q, 0, found.finds, λ z. absurd (omega (arith, found.code, found.scalar, z.1)), refl)),
-  le_of_eq (sym found.charge),
-)
-own_cost m s w (pointers ts) c d (k, t, b, q, inner, deep, found, each) = (
-  k + extent q + extra q 0,
-  inr (inr
-      (k, t, b, q, 0, found.finds, λ z. absurd (omega (arith, found.code, z.1)), refl)),
-  own_below_alone (k + extent q) (extra q 0) inner c (extra_pointers q found.kind found.code) found.charge,
-)
-own_cost m s w (structs ds ps es) c d (k, t, b, q, tag, inner, deep, found, each) = (
-  k + extent q + extra q tag,
-  inr (inr (k, t, b, q, tag, found.finds, λ z. found.has_tag, refl)),
-  own_below (k + extent q + extra q tag) inner c found.charge,
-)
+own_cost m s w (struct words ts) c d (k, t, b, q, tag, ds, ps, inner, deep, found, own, each) =
+    (k + extent q + extra q tag, found_cost found.object, own_below (k + extent q + extra q tag) inner c found.charge)
+own_cost m s w (scalars e values) c d (k, t, b, q, tag, n, found, own) =
+    (k + extent q + extra q tag, found_cost found.object, own_below (k + extent q + extra q tag) 0 c found.charge)
+own_cost m s w (pointers ts) c d (k, t, b, q, tag, n, inner, deep, found, each) =
+    (k + extent q + extra q tag, found_cost found.object, own_below (k + extent q + extra q tag) inner c found.charge)
+own_cost m s w (structs ds ps es) c d (k, t, b, q, tag, n, inner, deep, found, each) =
+    (k + extent q + extra q tag, found_cost found.object, own_below (k + extent q + extra q tag) inner c found.charge)
 
 -- The pointers of what a word denotes are at most its charge and one.
 pub pointers_charged : (m : List (List ℕ)) (s w : ℕ) (t : Tree) (c d : ℕ) → Denotes m s w t c d

@@ -3,13 +3,14 @@ use Rattle.std.proofs.Common.{mod-lt, pow_pos}
 use Rattle.cap_spec.specs.Denoting.{places}
 use Rattle.cap_spec.specs.Tree.{none}
 use Rattle.cap_spec.proofs.Bytes.Lists.{all_drop, all_take}
+use Rattle.cap_spec.proofs.Pointers.Shapes.{scalars_shape, structs_words}
 use Rattle.cap_spec.proofs.Prelude.{List, [], ap, arith, drop, length, length-drop, length-take-le, map, slice_index_or}
 use Rattle.cap_spec.proofs.Prelude.{suc, zero, ℕ, ◌%◌, ◌*◌, ◌+◌, ◌-◌, ◌/◌, ◌<◌, ◌^◌, ◌∙◌, ◌∷◌, ◌≡◌, ◌≤◌, AllByRecursion}
-use Rattle.cap_spec.proofs.Prelude.{range_with_len, AreElements, DenoteEach, Denotes, FindsStructs, value_at}
-use Rattle.cap_spec.proofs.Prelude.{words_from, Leads, near, one_pad, to_cap, two_pads, segment_of, data_size}
-use Rattle.cap_spec.proofs.Prelude.{element_bits, list_size, middle, pointer_size, AreElementTrees, AreTrees, IsTree}
-use Rattle.cap_spec.proofs.Prelude.{Tree, Trees, cap, more, null, pointers, scalars, struct, structs, IsWord, field}
-use Rattle.cap_spec.proofs.Trees.Charges.{each_charged, elements_fit, extent_structs, length-places}
+use Rattle.cap_spec.proofs.Prelude.{range_with_len, AreElements, DenoteEach, Denotes, FindsKind, value_at}
+use Rattle.cap_spec.proofs.Prelude.{words_from, Leads, near, one_pad, to_cap, two_pads, segment_of}
+use Rattle.cap_spec.proofs.Prelude.{element_bits, AreElementTrees, AreTrees, IsTree}
+use Rattle.cap_spec.proofs.Prelude.{Tree, Trees, cap, more, null, pointers, scalars, struct, structs, IsWord, field, Structs}
+use Rattle.cap_spec.proofs.Trees.Charges.{each_charged, elements_fit, length-places}
 
 -- a message of words
 abbrev pub AreWords : List (List ℕ) → Type 0
@@ -51,16 +52,9 @@ cap_fits m s w k i (one_pad p x has one pad_word far says pads) = rw says.1 (fie
 cap_fits m s w k i (two_pads p f x has two first second one tag r pads) = absurd (cc r)
 
 -- the elements of a struct list lie inside its segment
-pub elements_inside : (m : List (List ℕ)) (s w ds ps k t b q tag inner deep c d : ℕ)
-    → FindsStructs m s w ds ps k t b q tag inner deep c d
-    → b + 1 + middle tag * ds + middle tag * ps ≤ length (segment_of m t)
-elements_inside m s w ds ps k t b q tag inner deep c d f =
-    omega (
-      arith,
-      elements_fit m s w ds ps k t b q tag inner deep c d f,
-      extent_structs q f.kind f.code,
-      f.finds.sits.inside,
-    )
+pub elements_inside : {m : List (List ℕ)} {s w n ds ps k t b q tag : ℕ} → FindsKind m s w (Structs n ds ps) k t b q tag
+    → b + 1 + n * ds + n * ps ≤ length (segment_of m t)
+elements_inside f = omega (arith, elements_fit f, structs_words f.shape, f.finds.inside.inside)
 
 mutual
   -- what a message of words denotes is a tree
@@ -68,17 +62,15 @@ mutual
       → Denotes m s w t c d → IsTree t
   denoted_is_tree m a s w null c d h = tt
   denoted_is_tree m a s w (cap i) c d h = cap_fits m s w c i h.0
-  denoted_is_tree m a s w (struct words ts) c d (k, t, b, q, inner, deep, found, each) = (
-    rw found.data_words (range_words m t b (data_size q) a),
-    each_is_tree m a (places t (b + data_size q) (pointer_size q)) ts inner deep each,
-  )
-  denoted_is_tree m a s w (scalars e values) c d (k, t, b, q, found) =
-      (found.scalar, rw found.elements (values_fit (segment_of m t) b (element_bits e) 0 (list_size q)))
-  denoted_is_tree m a s w (pointers ts) c d (k, t, b, q, inner, deep, found, each) =
-      each_is_tree m a (places t b (list_size q)) ts inner deep each
-  denoted_is_tree m a s w (structs ds ps es) c d (k, t, b, q, tag, inner, deep, found, each) =
-      elements_are_trees m a t (b + 1) ds ps (middle tag) es inner deep
-      (elements_inside m s w ds ps k t b q tag inner deep c d found) each
+  denoted_is_tree m a s w (struct words ts) c d (k, t, b, q, tag, ds, ps, inner, deep, found, own, each) =
+      (rw own (range_words m t b ds a), each_is_tree m a (places t (b + ds) ps) ts inner deep each)
+  denoted_is_tree m a s w (scalars e values) c d (k, t, b, q, tag, n, found, own) =
+      let x = scalars_shape found.object.shape in
+      (x.scalar, rw own (values_fit (segment_of m t) b (element_bits e) 0 n))
+  denoted_is_tree m a s w (pointers ts) c d (k, t, b, q, tag, n, inner, deep, found, each) =
+      each_is_tree m a (places t b n) ts inner deep each
+  denoted_is_tree m a s w (structs ds ps es) c d (k, t, b, q, tag, n, inner, deep, found, each) =
+      elements_are_trees m a t (b + 1) ds ps n es inner deep (elements_inside found.object) each
 
   -- and what words at places denote are trees
   pub each_is_tree : (m : List (List ℕ)) → AreWords m → (ps : List (ℕ × ℕ)) (ts : Trees) (c d : ℕ)

@@ -1,13 +1,12 @@
 -- A pointer word denotes at most one tree, at one charge and one depth.
 use Rattle.std.proofs.Common.{List, ap, arith, max, pos, refl, subst, sym, ℕ, ◌*◌, ◌+◌, ◌<◌, ◌∙◌, ◌∷◌, ◌≡◌, ◌≤◌}
-use Rattle.cap_spec.specs.Denoting.{AreElements, DenoteEach, Denotes, FindsPointers, FindsScalars, FindsStruct}
-use Rattle.cap_spec.specs.Denoting.{FindsStructs, element_levels, places, values_of, words_from}
-use Rattle.cap_spec.specs.Following.{Lead, Leads, extra, to_cap, to_null, to_object}
-use Rattle.cap_spec.specs.Pointers.{code, data_size, extent, kind, list_size, middle, pointer_size}
+use Rattle.cap_spec.specs.Denoting.{AreElements, DenoteEach, Denotes, places}
+use Rattle.cap_spec.specs.Following.{Lead, Leads, to_cap, to_null, to_object}
+use Rattle.cap_spec.specs.Pointers.{code, kind}
 use Rattle.cap_spec.specs.Tree.{Tree, Trees, cap, more, none, null, pointers, scalars, struct, structs}
-use Rattle.cap_spec.proofs.Frames.Messages.{one_word}
 use Rattle.cap_spec.proofs.Pointers.Following.{one_lead}
-use Rattle.cap_spec.proofs.Trees.Finding.{SameObject, one_object}
+use Rattle.cap_spec.proofs.Pointers.Shapes.{pointers_shape, scalars_shape, struct_shape, structs_shape}
+use Rattle.cap_spec.proofs.Trees.Finding.{charged_same, one_found}
 
 -- what is the same of two trees, or of two lists of trees
 pub record Same {A : Type 0} (t t' : A) (c c' d d' : ℕ) : Type 0 where
@@ -48,27 +47,31 @@ number_list x y e = rw e (omega arith)
 pub formed : (m : List (List ℕ)) (s w : ℕ) (t : Tree) (c d : ℕ) → Denotes m s w t c d → Formed m s w t
 formed m s w null c d h = record { k = c; r = to_null; leads = h.0; form = refl }
 formed m s w (cap i) c d h = record { k = c; r = to_cap i; leads = h.0; form = refl }
-formed m s w (struct words ts) c d (k, t, b, q, inner, deep, found, each) =
+formed m s w (struct words ts) c d (k, t, b, q, tag, ds, ps, inner, deep, found, own, each) =
+    let x = struct_shape found.object.shape in
     record {
       k = k;
       r = to_object t (pos b) q;
-      leads = found.finds.leads;
-      form = number_struct (kind q) (code q) found.kind;
+      leads = found.object.finds.leads;
+      form = number_struct (kind q) (code q) x.kind;
     }
-formed m s w (scalars e values) c d (k, t, b, q, found) =
-    let n : 2 + kind q * (1 + code q) ≡ 3 + code q = number_list (kind q) (code q) found.kind in
+formed m s w (scalars e values) c d (k, t, b, q, tag, n, found, own) =
+    let x = scalars_shape found.object.shape in
+    let y : 2 + kind q * (1 + code q) ≡ 3 + code q = number_list (kind q) (code q) x.kind in
     record {
       k = k;
       r = to_object t (pos b) q;
-      leads = found.finds.leads;
-      form = (omega (arith, n, found.scalar, found.code), omega (arith, n, found.scalar, found.code));
+      leads = found.object.finds.leads;
+      form = (omega (arith, y, x.scalar, x.code), omega (arith, y, x.scalar, x.code));
     }
-formed m s w (pointers ts) c d (k, t, b, q, inner, deep, found, each) =
-    let n : 2 + kind q * (1 + code q) ≡ 3 + code q = number_list (kind q) (code q) found.kind in
-    record { k = k; r = to_object t (pos b) q; leads = found.finds.leads; form = n ∙ ap (λ x. 3 + x) found.code }
-formed m s w (structs ds ps es) c d (k, t, b, q, tag, inner, deep, found, each) =
-    let n : 2 + kind q * (1 + code q) ≡ 3 + code q = number_list (kind q) (code q) found.kind in
-    record { k = k; r = to_object t (pos b) q; leads = found.finds.leads; form = n ∙ ap (λ x. 3 + x) found.code }
+formed m s w (pointers ts) c d (k, t, b, q, tag, n, inner, deep, found, each) =
+    let x = pointers_shape found.object.shape in
+    let y : 2 + kind q * (1 + code q) ≡ 3 + code q = number_list (kind q) (code q) x.kind in
+    record { k = k; r = to_object t (pos b) q; leads = found.object.finds.leads; form = y ∙ ap (λ u. 3 + u) x.code }
+formed m s w (structs ds ps es) c d (k, t, b, q, tag, n, inner, deep, found, each) =
+    let x = structs_shape found.object.shape in
+    let y : 2 + kind q * (1 + code q) ≡ 3 + code q = number_list (kind q) (code q) x.kind in
+    record { k = k; r = to_object t (pos b) q; leads = found.object.finds.leads; form = y ∙ ap (λ u. 3 + u) x.code }
 
 -- two trees of one word have one number
 same_form : (m : List (List ℕ)) (s w : ℕ) (t t' : Tree) (c d c' d' : ℕ) → Denotes m s w t c d → Denotes m s w t' c' d'
@@ -82,96 +85,6 @@ same_form m s w t t' c d c' d' h h' =
 -- the parts of equal lists
 pub cons_parts : {A : Type 0} (x y : A) (xs ys : List A) → x ∷ xs ≡ y ∷ ys → (x ≡ y) × (xs ≡ ys)
 cons_parts x y xs ys e = (cc, cc)
-
--- sums of equal parts are equal
-sums : (f : ℕ → ℕ) (k k' q q' i i' c c' : ℕ) → k ≡ k' → q ≡ q' → i ≡ i' → c ≡ k + f q + i → c' ≡ k' + f q' + i' → c ≡ c'
-sums f k k' q q' i i' c c' e1 e2 e3 e4 e5 = cc
-
--- the same of one more part
-more_sums : (f : ℕ → ℕ) (g : ℕ → ℕ → ℕ) (k k' q q' x x' i i' c c' : ℕ) → k ≡ k' → q ≡ q' → x ≡ x' → i ≡ i'
-    → c ≡ k + f q + g q x + i → c' ≡ k' + f q' + g q' x' + i' → c ≡ c'
-more_sums f g k k' q q' x x' i i' c c' e1 e2 e3 e4 e5 e6 = cc
-
--- the same without a rest
-two_sums : (f g : ℕ → ℕ) (k k' q q' c c' : ℕ) → k ≡ k' → q ≡ q' → c ≡ k + f q + g q → c' ≡ k' + f q' + g q' → c ≡ c'
-two_sums f g k k' q q' c c' e1 e2 e4 e5 = cc
-
--- words read from equal places are equal
-same_read : (f : ℕ → ℕ → ℕ → List ℕ) (t t' b b' q q' : ℕ) (xs ys : List ℕ) → t ≡ t' → b ≡ b' → q ≡ q' → xs ≡ f t b q
-    → ys ≡ f t' b' q' → xs ≡ ys
-same_read f t t' b b' q q' xs ys e1 e2 e3 e4 e5 = cc
-
--- two structs found by one word, with equal children
-struct_same : (m : List (List ℕ)) (s w : ℕ) (ws ws' : List ℕ) (ts ts' : Trees)
-    (k t b q inner deep c d k' t' b' q' inner' deep' c' d' : ℕ)
-    → FindsStruct m s w ws k t b q inner deep c d → FindsStruct m s w ws' k' t' b' q' inner' deep' c' d'
-    → Same ts ts' inner inner' deep deep' → Same (struct ws ts) (struct ws' ts') c c' d d'
-struct_same m s w ws ws' ts ts' k t b q inner deep c d k' t' b' q' inner' deep' c' d' f g same =
-    let o : SameObject k t b q k' t' b' q' = one_object m s w k t b q k' t' b' q' f.finds g.finds in
-    let e : ws ≡ ws' = same_read (λ x y z. words_from m x y (data_size z)) t t' b b' q q' ws ws' o.segment o.start
-    o.shape f.data_words g.data_words in
-    record {
-      part = rw (e, same.part) refl;
-      charge = sums extent k k' q q' inner inner' c c' o.pads o.shape same.charge f.charge g.charge;
-      depth = omega (arith, f.depth, g.depth, same.depth);
-    }
-
--- two lists of values found by one word
-scalars_same : (m : List (List ℕ)) (s w e e' : ℕ) (vs vs' : List ℕ) (k t b q c d k' t' b' q' c' d' : ℕ)
-    → FindsScalars m s w e vs k t b q c d → FindsScalars m s w e' vs' k' t' b' q' c' d'
-    → Same (scalars e vs) (scalars e' vs') c c' d d'
-scalars_same m s w e e' vs vs' k t b q c d k' t' b' q' c' d' f g =
-    let o : SameObject k t b q k' t' b' q' = one_object m s w k t b q k' t' b' q' f.finds g.finds in
-    let x : e ≡ e' = f.code ∙ ap code o.shape ∙ sym g.code in
-    let y : vs ≡ vs' = same_read (λ i j z. values_of m i j (code z) (list_size z)) t t' b b' q q' vs vs' o.segment
-    o.start o.shape (rw (← f.code) f.elements) (rw (← g.code) g.elements) in
-    record {
-      part = rw (x, y) refl;
-      charge = two_sums extent (λ z. extra z 0) k k' q q' c c' o.pads o.shape f.charge g.charge;
-      depth = omega (arith, f.depth, g.depth);
-    }
-
--- two lists of pointers found by one word, with equal entries
-pointers_same : (m : List (List ℕ)) (s w : ℕ) (ts ts' : Trees)
-    (k t b q inner deep c d k' t' b' q' inner' deep' c' d' : ℕ)
-    → FindsPointers m s w k t b q inner deep c d → FindsPointers m s w k' t' b' q' inner' deep' c' d'
-    → Same ts ts' inner inner' deep deep' → Same (pointers ts) (pointers ts') c c' d d'
-pointers_same m s w ts ts' k t b q inner deep c d k' t' b' q' inner' deep' c' d' f g same =
-    let o : SameObject k t b q k' t' b' q' = one_object m s w k t b q k' t' b' q' f.finds g.finds in
-    record {
-      part = rw same.part refl;
-      charge = sums extent k k' q q' inner inner' c c' o.pads o.shape same.charge f.charge g.charge;
-      depth = omega (arith, f.depth, g.depth, same.depth);
-    }
-
--- the tag of a struct list that a word finds is one word
-one_tag : (m : List (List ℕ)) (s w ds ps k t b q tag inner deep c d ds' ps' k' t' b' q' tag' inner' deep' c' d' : ℕ)
-    → FindsStructs m s w ds ps k t b q tag inner deep c d
-    → FindsStructs m s w ds' ps' k' t' b' q' tag' inner' deep' c' d'
-    → tag ≡ tag'
-one_tag m s w ds ps k t b q tag inner deep c d ds' ps' k' t' b' q' tag' inner' deep' c' d' f g =
-    let o : SameObject k t b q k' t' b' q' = one_object m s w k t b q k' t' b' q' f.finds g.finds in
-    one_word m t b tag tag' f.has_tag (rw (o.segment, o.start) g.has_tag)
-
--- two struct lists found by one word, with equal elements
-structs_same : (m : List (List ℕ)) (s w ds ps : ℕ) (es es' : Trees)
-    (k t b q tag inner deep c d ds' ps' k' t' b' q' tag' inner' deep' c' d' : ℕ)
-    → FindsStructs m s w ds ps k t b q tag inner deep c d
-    → FindsStructs m s w ds' ps' k' t' b' q' tag' inner' deep' c' d'
-    → Same es es' inner inner' deep deep' → Same (structs ds ps es) (structs ds' ps' es') c c' d d'
-structs_same m s w ds ps es es' k t b q tag inner deep c d ds' ps' k' t' b' q' tag' inner' deep' c' d' f g same =
-    let o : SameObject k t b q k' t' b' q' = one_object m s w k t b q k' t' b' q' f.finds g.finds in
-    let x : tag ≡ tag' = one_tag m s w ds ps k t b q tag inner deep c d ds' ps' k' t' b' q' tag'
-    inner' deep' c' d' f g in
-    let y : ds ≡ ds' = f.data_sizes ∙ ap data_size x ∙ sym g.data_sizes in
-    let z : ps ≡ ps' = f.pointer_sizes ∙ ap pointer_size x ∙ sym g.pointer_sizes in
-    record {
-      part = rw (y, z, same.part) refl;
-      charge = more_sums extent extra k k' q q' tag tag' inner inner' c c' o.pads o.shape x
-          same.charge f.charge g.charge;
-      depth = sums element_levels 1 1 (middle tag) (middle tag') deep deep' d d' refl (ap middle x)
-          same.depth f.depth g.depth;
-    }
 
 -- what one more tree adds
 each_same : (t t' : Tree) (ts ts' : Trees) (c1 d1 c2 d2 c d c1' d1' c2' d2' c' d' : ℕ) → Same t t' c1 c1' d1 d1'
@@ -202,10 +115,6 @@ pub elements_moved : (m : List (List ℕ)) (es : Trees) (t x ds ps n c d t' x' d
     → AreElements m t' x' ds' ps' n' es c d → AreElements m t x ds ps n es c d
 elements_moved m es t x ds ps n c d t' x' ds' ps' n' e1 e2 e3 e4 e5 h = rw (e1, e2, e3, e4, e5) h
 
--- the places of an object's pointers are those of an equal object
-places_same : (f : ℕ → ℕ → ℕ → List (ℕ × ℕ)) (t b q t' b' q' : ℕ) → t ≡ t' → b ≡ b' → q ≡ q' → f t b q ≡ f t' b' q'
-places_same f t b q t' b' q' e1 e2 e3 = rw (e1, e2, e3) refl
-
 mutual
   -- what a pointer word denotes is one tree, with one charge and one depth
   pub one_tree : (m : List (List ℕ)) (s w : ℕ) (t t' : Tree) (c d c' d' : ℕ) → Denotes m s w t c d
@@ -220,40 +129,50 @@ mutual
       let o = one_lead m s w c c' (to_cap i) (to_cap i') h.0 h'.0 in
       let e : i ≡ i' = cc o.1 in
       record { part = ap cap e; charge = o.0; depth = omega (arith, h.1, h'.1) }
-  one_tree m s w (struct ws ts) (struct ws' ts') c d c' d' (k, t, b, q, inner, deep, found, each) h' =
-      let (k', t', b', q', inner', deep', found', each') = h' in
-      let o : SameObject k t b q k' t' b' q' =
-      one_object m s w k t b q k' t' b' q' found.finds found'.finds in
-      struct_same m s w ws ws' ts ts' k t b q inner deep c d k' t' b' q' inner' deep' c' d' found found'
-      (one_each m (places t (b + data_size q) (pointer_size q))
-      (places t' (b' + data_size q') (pointer_size q'))
-      (places_same (λ x y z. places x (y + data_size z) (pointer_size z)) t b q t' b' q'
-      o.segment o.start o.shape)
-      ts ts' inner deep inner' deep' each each')
-  one_tree m s w (scalars e vs) (scalars e' vs') c d c' d' (k, t, b, q, found) (k', t', b', q', found') =
-      scalars_same m s w e e' vs vs' k t b q c d k' t' b' q' c' d' found found'
-  one_tree m s w (pointers ts) (pointers ts') c d c' d' (k, t, b, q, inner, deep, found, each) h' =
-      let (k', t', b', q', inner', deep', found', each') = h' in
-      let o : SameObject k t b q k' t' b' q' =
-      one_object m s w k t b q k' t' b' q' found.finds found'.finds in
-      pointers_same m s w ts ts' k t b q inner deep c d k' t' b' q' inner' deep' c' d' found found'
-      (one_each m (places t b (list_size q)) (places t' b' (list_size q'))
-      (places_same (λ x y z. places x y (list_size z)) t b q t' b' q' o.segment o.start o.shape)
-      ts ts' inner deep inner' deep' each each')
+  one_tree m s w (struct ws ts) (struct ws' ts') c d c' d' h h' =
+      let (k, t, b, q, tag, ds, ps, inner, deep, found, own, each) = h in
+      let (k', t', b', q', tag', ds', ps', inner', deep', found', own', each') = h' in
+      let o = one_found found.object found'.object in
+      let x : ds ≡ ds' = cc o.kind in
+      let y : ps ≡ ps' = cc o.kind in
+      let e : ws ≡ ws' = own ∙ rw (o.segment, o.start, x) refl ∙ sym own' in
+      let same : Same ts ts' inner inner' deep deep' =
+      one_each m (places t (b + ds) ps) (places t' (b' + ds') ps') (rw (o.segment, o.start, x, y) refl)
+      ts ts' inner deep inner' deep' each each' in
+      let z = charged_same found found' same.charge same.depth in
+      record { part = rw (e, same.part) refl; charge = z.0; depth = z.1 }
+  one_tree m s w (scalars e vs) (scalars e' vs') c d c' d' h h' =
+      let (k, t, b, q, tag, n, found, own) = h in
+      let (k', t', b', q', tag', n', found', own') = h' in
+      let o = one_found found.object found'.object in
+      let x : e ≡ e' = cc o.kind in
+      let y : n ≡ n' = cc o.kind in
+      let v : vs ≡ vs' = own ∙ rw (o.segment, o.start, x, y) refl ∙ sym own' in
+      let z = charged_same found found' refl refl in
+      record { part = rw (x, v) refl; charge = z.0; depth = z.1 }
+  one_tree m s w (pointers ts) (pointers ts') c d c' d' h h' =
+      let (k, t, b, q, tag, n, inner, deep, found, each) = h in
+      let (k', t', b', q', tag', n', inner', deep', found', each') = h' in
+      let o = one_found found.object found'.object in
+      let x : n ≡ n' = cc o.kind in
+      let same : Same ts ts' inner inner' deep deep' =
+      one_each m (places t b n) (places t' b' n') (rw (o.segment, o.start, x) refl)
+      ts ts' inner deep inner' deep' each each' in
+      let z = charged_same found found' same.charge same.depth in
+      record { part = rw same.part refl; charge = z.0; depth = z.1 }
   one_tree m s w (structs ds ps es) (structs ds' ps' es') c d c' d' h h' =
-      let (k, t, b, q, tag, inner, deep, found, each) = h in
-      let (k', t', b', q', tag', inner', deep', found', each') = h' in
-      let o : SameObject k t b q k' t' b' q' =
-      one_object m s w k t b q k' t' b' q' found.finds found'.finds in
-      let x : tag ≡ tag' = one_tag m s w ds ps k t b q tag inner deep c d ds' ps' k' t' b' q' tag' inner'
-      deep' c' d' found found' in
-      structs_same m s w ds ps es es' k t b q tag inner deep c d ds' ps' k' t' b' q' tag' inner'
-      deep' c' d' found found'
-      (one_elements m t (b + 1) ds ps (middle tag) (middle tag) refl es es' inner deep inner' deep' each
-      (elements_moved m es' t (b + 1) ds ps (middle tag) inner' deep' t' (b' + 1) ds' ps' (middle tag') o.segment
-      (ap (λ y. y + 1) o.start)
-      (found.data_sizes ∙ ap data_size x ∙ sym found'.data_sizes)
-      (found.pointer_sizes ∙ ap pointer_size x ∙ sym found'.pointer_sizes) (ap middle x) each'))
+      let (k, t, b, q, tag, n, inner, deep, found, each) = h in
+      let (k', t', b', q', tag', n', inner', deep', found', each') = h' in
+      let o = one_found found.object found'.object in
+      let x : ds ≡ ds' = cc o.kind in
+      let y : ps ≡ ps' = cc o.kind in
+      let v : n ≡ n' = cc o.kind in
+      let same : Same es es' inner inner' deep deep' =
+      one_elements m t (b + 1) ds ps n n refl es es' inner deep inner' deep' each
+      (elements_moved m es' t (b + 1) ds ps n inner' deep' t' (b' + 1) ds' ps' n' o.segment
+      (ap (λ u. u + 1) o.start) x y v each') in
+      let z = charged_same found found' same.charge same.depth in
+      record { part = rw (x, y, same.part) refl; charge = z.0; depth = z.1 }
   one_tree m s w t t' c d c' d' h h' =
       let f = same_form m s w t t' c d c' d' h h' in absurd (omega (arith, f.1, f.2))
 

@@ -1,5 +1,5 @@
 -- Every word of a message has a fate: a reason is wrong there, or it leads to null,
--- to a capability or to an object that sits.
+-- to a capability or to an object inside its segment.
 use Rattle.cap_spec.proofs.Frames.Messages.{HasWord-at, HasWord-segment}
 use Rattle.cap_spec.proofs.Pointers.Following.{HasSegment, wrong-composite_tag, wrong-content_missing, wrong-missing}
 use Rattle.cap_spec.proofs.Pointers.Following.{wrong-out, wrong-outside, wrong-overrun, wrong-pad_far, wrong-pad_near}
@@ -9,12 +9,12 @@ use Rattle.cap_spec.proofs.Prelude.{◌≢◌, ◌≤◌, ◌⊎◌, cases_lt, e
 use Rattle.cap_spec.proofs.Prelude.{Lead, Leads, Says, Wrong, near, one_pad, to_cap, to_null, to_object, two_pads}
 use Rattle.cap_spec.proofs.Prelude.{HasWord, segment_of, IsFar, IsReserved, cap_index, code, data_size, extent}
 use Rattle.cap_spec.proofs.Prelude.{far_segment, kind, list_size, middle, pad, pointer_size, two, signed_offset_of}
-use Rattle.cap_spec.proofs.Prelude.{Reason, CompositeOverrun, CompositeTag, OutOfSegment, PadIsFar, PadNotFar}
-use Rattle.cap_spec.proofs.Prelude.{PadOutside, Reserved, SegmentMissing, TagKind, TagOffset}
+use Rattle.cap_spec.proofs.Prelude.{Reason, CompositeOverrun, CompositeTag, OutOfSegment, PadIsFar}
+use Rattle.cap_spec.proofs.Prelude.{PadOutside, Reserved, SegmentMissing, TagKind, TagOffset, common_steps}
 use Rattle.cap_spec.proofs.Trees.Charges.{extent_structs}
 
 -- Every word of a message has a fate: a reason is wrong there, or it leads to null,
--- to a capability or to an object that sits.
+-- to a capability or to an object inside its segment.
 abbrev pub Fate : List (List ℕ) → ℕ → ℕ → Type 0
 Fate m s w = ((v : Reason) × Wrong m s w v)
     ⊎ (((k : ℕ) × Leads m s w k to_null) ⊎ (((k i : ℕ) × Leads m s w k (to_cap i))
@@ -36,7 +36,7 @@ object-fate m s w k t (pos b) q leads there =
           q,
           record {
             leads = leads;
-            sits = record {
+            inside = record {
               exists = there;
               inside = inside;
               composite = λ c. absurd (other c.0);
@@ -51,7 +51,7 @@ object-fate m s w k t (pos b) q leads there =
             q,
             record {
               leads = leads;
-              sits = record {
+              inside = record {
                 exists = there;
                 inside = inside;
                 composite = λ c. absurd (other c.1);
@@ -84,7 +84,7 @@ object-fate m s w k t (pos b) q leads there =
               q,
               record {
                 leads = leads;
-                sits = record {
+                inside = record {
                   exists = there;
                   inside = inside;
                   composite = λ c. (tag, has, (struct, fits));
@@ -159,21 +159,10 @@ module _ (m : List (List ℕ)) (s w p f q : ℕ) (h : HasWord m s w p) (both : I
       ]
 
   one-far-fate : IsOnePad f → Fate m s w
-  one-far-fate one =
-      elim (cases_lt (far_segment f) (length m)) [
-        | inl there ↦ tag-fate one there
-        | inr past ↦ inl (SegmentMissing, wrong-content_missing m s w p f q h both hf hq one past)
-      ]
+  one-far-fate one = grind (arith, common_steps, tag-fate, wrong-content_missing)
 
   two-fate : Fate m s w
-  two-fate =
-      elim (eqb_tells (kind f) 2) [
-        | inr (x, other) ↦ inl (PadNotFar, wrong-pad_near m s w p f q h both hf hq (λ one. other one.0))
-        | inl (x, far) ↦ elim (eqb_tells (two f) 0) [
-          | inr (y, other) ↦ inl (PadNotFar, wrong-pad_near m s w p f q h both hf hq (λ one. other one.1))
-          | inl (y, single) ↦ one-far-fate (far, single)
-        ]
-      ]
+  two-fate = grind (arith, common_steps, wrong-pad_near, one-far-fate)
 
 -- its pad lies inside its segment, or it doesn't
 far-fate : (m : List (List ℕ)) (s w p : ℕ) → HasWord m s w p → IsFar p → far_segment p < length m

@@ -1,5 +1,5 @@
 -- Values that were packed into words are read back from them.
-use Rattle.std.proofs.lemmas.Nat.{mod_low, shr_high}
+use Rattle.std.proofs.lemmas.Nat.{shr_high}
 use Rattle.cap_spec.specs.Scalars.{value_words}
 use Rattle.cap_spec.proofs.Bytes.Lists.{all_drop, all_take}
 use Rattle.cap_spec.proofs.Prelude.{List, [], ap, ap₂, arith, drop, get_or, get_or-drop, get_or-take, length}
@@ -7,7 +7,7 @@ use Rattle.cap_spec.proofs.Prelude.{length-drop, length-take, map, mul_comm, ref
 use Rattle.cap_spec.proofs.Prelude.{◌%◌, ◌*◌, ◌+◌, ◌/◌, ◌<◌, ◌^◌, ◌∙◌, ◌∷◌, ◌≡◌, get_or_default, same_lists}
 use Rattle.cap_spec.proofs.Prelude.{get_or-map-range_with_len, length-map-range_with_len, AllByRecursion}
 use Rattle.cap_spec.proofs.Prelude.{range_with_len, value_at, element_bits, list_words, packed_word, scalar_words}
-use Rattle.cap_spec.proofs.Prelude.{field}
+use Rattle.cap_spec.proofs.Prelude.{field, common_steps, rules}
 
 -- a word of values, the lowest last
 turned : (v m r : ℕ) → v + m * r ≡ r * m + v
@@ -15,9 +15,7 @@ turned v m r = omega (arith, mul_comm m r)
 
 -- the lowest value of a word, and what stands above it
 low_value : (bits v r : ℕ) → v < 2 ^ bits → field (v + 2 ^ bits * r) 0 bits ≡ v
-low_value bits v r h =
-    let e : (v + 2 ^ bits * r) / 1 ≡ r * 2 ^ bits + v = omega (arith, turned v (2 ^ bits) r) in
-    ap (λ x. x % 2 ^ bits) e ∙ mod_low r bits v h
+low_value bits v r h = grind (arith, common_steps)
 
 high_values : (bits v r low : ℕ) → v < 2 ^ bits → field (v + 2 ^ bits * r) (bits + low) bits ≡ field r low bits
 high_values bits v r low h =
@@ -28,9 +26,7 @@ high_values bits v r low h =
 pub packed_field : (bits : ℕ) (vs : List ℕ) (j : ℕ) → AllByRecursion (λ v. v < 2 ^ bits) vs → j < length vs
     → field (packed_word bits vs) (j * bits) bits ≡ get_or vs j 0
 packed_field bits [] j a h = absurd (omega (arith, h))
-packed_field bits (v ∷ vs) zero a h =
-    let e : 0 * bits ≡ 0 = omega arith in
-    ap (λ x. field (v + 2 ^ bits * packed_word bits vs) x bits) e ∙ low_value bits v (packed_word bits vs) a.0
+packed_field bits (v ∷ vs) zero a h = search (rules, low_value)
 packed_field bits (v ∷ vs) (suc j) a h =
     let e : suc j * bits ≡ bits + j * bits = omega arith in
     ap (λ x. field (v + 2 ^ bits * packed_word bits vs) x bits) e
@@ -41,11 +37,7 @@ pub listed_field : (bits per : ℕ) (vs : List ℕ) (i k j : ℕ) → AllByRecur
     → k * per + j ≡ i → i < length vs
     → field (packed_word bits (take per (drop (k * per) vs))) (j * bits) bits ≡ get_or vs i 0
 listed_field bits per vs i k j a lt e h =
-    let l : j < length (take per (drop (k * per) vs)) =
-    omega (arith, length-take per (drop (k * per) vs), length-drop (k * per) vs, e, h, lt) in
-    packed_field bits (take per (drop (k * per) vs)) j
-    (all_take (λ v. v < 2 ^ bits) per (drop (k * per) vs) (all_drop (λ v. v < 2 ^ bits) (k * per) vs a)) l
-    ∙ (get_or-take per (drop (k * per) vs) j 0 lt ∙ (get_or-drop (k * per) vs j 0 ∙ ap (λ x. get_or vs x 0) e))
+    search (rules, length-take, length-drop, packed_field, all_take, all_drop, get_or-take, get_or-drop)
 
 -- where in a list of this many words of so many values each the value i of this many bits stands: the place in its word
 pub record Placed (bits per count i : ℕ) : Type 0 where
@@ -137,26 +129,16 @@ placed-32 n i h = record {
 }
 
 placed-64 : (n i : ℕ) → i < n → Placed 64 1 ((64 * n + 63) / 64) i
-placed-64 n i h = record {
-  place = 0;
-  below = omega arith;
-  index = omega arith;
-  low = omega arith;
-  inside = omega arith;
-}
+placed-64 n i h = search rules
 
 -- as many words as the list takes
 pub length-scalar_words : (c : ℕ) (vs : List ℕ) → length (scalar_words c vs) ≡ list_words c (length vs)
-length-scalar_words c vs =
-    length-map-range_with_len (λ k. packed_word (element_bits c)
-    (take (64 / element_bits c) (drop (k * (64 / element_bits c)) vs))) 0 (list_words c (length vs))
+length-scalar_words c vs = search (rules, length-map-range_with_len)
 
 -- word k of a list of values
 pub word_of_values : (bits count : ℕ) (vs : List ℕ) (k : ℕ) → k < count
     → get_or (value_words bits count vs) k 0 ≡ packed_word bits (take (64 / bits) (drop (k * (64 / bits)) vs))
-word_of_values bits count vs k h =
-    get_or-map-range_with_len (λ x. packed_word bits (take (64 / bits) (drop (x * (64 / bits)) vs))) 0 count k
-    k 0 h (omega arith)
+word_of_values bits count vs k h = search (rules, get_or-map-range_with_len)
 
 -- the words of a list stand here
 abbrev pub WordsAt : List ℕ → ℕ → List ℕ → Type 0

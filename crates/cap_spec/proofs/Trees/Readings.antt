@@ -3,9 +3,9 @@ use Rattle.cap_spec.proofs.Prelude.{List, None, Some, [], ap, arith, get_or, len
 use Rattle.cap_spec.proofs.Prelude.{◌*◌, ◌+◌, ◌-◌, ◌<◌, ◌∙◌, ◌∷◌, ◌≡◌, ◌≤◌, get_or-map-range_with_len}
 use Rattle.cap_spec.proofs.Prelude.{length-map-range_with_len, get_or_from_slice_get, slice_get-get_or, slice_get_past}
 use Rattle.cap_spec.proofs.Prelude.{value_at, values_of, HasWord, segment_of, plain_text, word_bytes, element_bits}
-use Rattle.cap_spec.proofs.Prelude.{list_words, scalar_words, field}
+use Rattle.cap_spec.proofs.Prelude.{list_words, scalar_words, field, rules}
 use Rattle.cap_spec.proofs.Trees.ReadingBack.{length-scalar_words}
-use Rattle.cap_spec.proofs.Trees.WordsRead.{as_many_words, whole_words, word_read}
+use Rattle.cap_spec.proofs.Trees.WordsRead.{word_read}
 
 -- a word that a message has, as an element of its segment
 pub word_there : (m : List (List ℕ)) (t w x : ℕ) → HasWord m t w x → get_or (segment_of m t) w 0 ≡ x
@@ -48,26 +48,10 @@ values_word_past m t b c n i past = slice_get_past (scalar_words c (values_of m 
 
 -- whether a list of values has a word i, by bits
 pub word_within : (c n i : ℕ) → i * 64 < element_bits c * n → i < list_words c n
-word_within zero n i h = absurd (omega (arith, h))
-word_within (suc zero) n i h = omega (arith, h)
-word_within (suc (suc zero)) n i h = omega (arith, h)
-word_within (suc (suc (suc zero))) n i h = omega (arith, h)
-word_within (suc (suc (suc (suc zero)))) n i h = omega (arith, h)
-word_within (suc (suc (suc (suc (suc c))))) n i h =
-    let x : ℕ = suc (suc (suc (suc (suc c)))) in
-    let e : element_bits x * n ≡ 64 * n = ap (λ y. y * n) (whole_words x (omega arith)) in
-    omega (arith, h, e, as_many_words x n (omega arith))
+word_within c n i h = search rules
 
 pub word_past : (c n i : ℕ) → element_bits c * n ≤ i * 64 → list_words c n ≤ i
-word_past zero n i h = omega arith
-word_past (suc zero) n i h = omega (arith, h)
-word_past (suc (suc zero)) n i h = omega (arith, h)
-word_past (suc (suc (suc zero))) n i h = omega (arith, h)
-word_past (suc (suc (suc (suc zero)))) n i h = omega (arith, h)
-word_past (suc (suc (suc (suc (suc c))))) n i h =
-    let x : ℕ = suc (suc (suc (suc (suc c)))) in
-    let e : element_bits x * n ≡ 64 * n = ap (λ y. y * n) (whole_words x (omega arith)) in
-    omega (arith, h, e, as_many_words x n (omega arith))
+word_past c n i h = search rules
 
 -- byte i of words: that of the word where it stands
 pub byte_there : (words : List ℕ) (i j x : ℕ) → j < 8 → slice_get words i ≡ Some x
@@ -93,6 +77,4 @@ byte_there (w ∷ ws) (suc i) j x lt h =
 pub byte_past : (words : List ℕ) (i j : ℕ) → slice_get words i ≡ None → slice_get (plain_text words) (i * 8 + j) ≡ None
 byte_past [] i j h = refl
 byte_past (w ∷ ws) zero j h = absurd (cc h)
-byte_past (w ∷ ws) (suc i) j h =
-    let e : suc i * 8 + j ≡ suc (suc (suc (suc (suc (suc (suc (suc (i * 8 + j)))))))) = omega arith in
-    ap (slice_get (plain_text (w ∷ ws))) e ∙ byte_past ws i j h
+byte_past (w ∷ ws) (suc i) j h = search (rules, byte_past ws i j h)

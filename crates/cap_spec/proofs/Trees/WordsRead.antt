@@ -1,11 +1,10 @@
 -- The words of a list of values that were read from words: those words, the bits past the last value zero.
 use Rattle.std.proofs.lemmas.List.{drop-map, take-map}
 use Rattle.std.proofs.lemmas.Nat.{mod-pow-add}
-use Rattle.cap_spec.proofs.Prelude.{List, ap, ap₂, arith, drop, false, get_or, inl, inr, length, map, min, mul_comm}
-use Rattle.cap_spec.proofs.Prelude.{ne_eqb, refl, shr-shr, subst, suc, sym, take, true, zero, ℕ, ◌%◌, ◌*◌, ◌+◌, ◌-◌}
-use Rattle.cap_spec.proofs.Prelude.{◌/◌, ◌<◌, ◌==◌, ◌^◌, ◌∙◌, ◌∷◌, ◌≡◌, ◌≤◌, ◌⊎◌, eqb_tells, length-map-range_with_len}
-use Rattle.cap_spec.proofs.Prelude.{range_with_len, value_at, element_bits, list_words, packed_word, scalar_words}
-use Rattle.cap_spec.proofs.Prelude.{field}
+use Rattle.cap_spec.proofs.Prelude.{List, ap, ap₂, arith, drop, get_or, length, map, min, mul_comm, shr-shr, subst}
+use Rattle.cap_spec.proofs.Prelude.{suc, sym, take, zero, ℕ, ◌%◌, ◌*◌, ◌+◌, ◌-◌, ◌/◌, ◌<◌, ◌^◌, ◌∙◌, ◌∷◌, ◌≡◌, ◌≤◌}
+use Rattle.cap_spec.proofs.Prelude.{length-map-range_with_len, range_with_len, value_at, element_bits, list_words}
+use Rattle.cap_spec.proofs.Prelude.{packed_word, scalar_words, field, common_steps}
 use Rattle.cap_spec.proofs.Trees.ReadingBack.{word_of_values}
 
 -- a field and the one above it
@@ -81,23 +80,7 @@ width_read words b bits per n k h =
 
 -- from code 5 on a value is a word
 pub whole_words : (c : ℕ) → 5 ≤ c → element_bits c ≡ 64
-whole_words c h =
-    rw (
-      ne_eqb c 0 (λ e. omega (arith, e, h)),
-      ne_eqb c 1 (λ e. omega (arith, e, h)),
-      ne_eqb c 2 (λ e. omega (arith, e, h)),
-      ne_eqb c 3 (λ e. omega (arith, e, h)),
-      ne_eqb c 4 (λ e. omega (arith, e, h)),
-    ) refl
-
-pub as_many_words : (c n : ℕ) → 5 ≤ c → list_words c n ≡ n
-as_many_words c n h = by_tests (eqb_tells c 7) (eqb_tells c 6)
-  where
-    by_tests : (((c == 7) ≡ true) × (c ≡ 7)) ⊎ (((c == 7) ≡ false) × (c ≡ 7 → ⊥))
-        → (((c == 6) ≡ true) × (c ≡ 6)) ⊎ (((c == 6) ≡ false) × (c ≡ 6 → ⊥)) → list_words c n ≡ n
-    by_tests (inl e) f = rw e.0 refl
-    by_tests (inr e) (inl f) = rw (e.0, f.0) refl
-    by_tests (inr e) (inr f) = rw (e.0, f.0, whole_words c h) (omega arith)
+whole_words c h = grind (arith, common_steps)
 
 -- word k of a list of values: the word that it was read from, without the bits past the last value
 pub word_read : (words : List ℕ) (b c n k : ℕ) → k < list_words c n

@@ -1,15 +1,18 @@
 -- Whether a word denotes a tree of at most so many levels is decided: so where it isn't known which one, there is one.
 use Rattle.cap_spec.specs.Denoting.{places}
 use Rattle.cap_spec.specs.Tree.{none}
-use Rattle.cap_spec.proofs.Frames.Messages.{HasWord-at, HasWord-inside, one_word}
+use Rattle.cap_spec.proofs.Frames.Messages.{HasWord-at, HasWord-inside}
 use Rattle.cap_spec.proofs.Paths.Arrivals.{found_form, lead_word}
+use Rattle.cap_spec.proofs.Pointers.Shapes.{pointers_levels, pointers_shape, scalars_levels, struct_levels, struct_shape}
+use Rattle.cap_spec.proofs.Pointers.Shapes.{structs_levels, structs_shape}
 use Rattle.cap_spec.proofs.Prelude.{List, [], ap, arith, inl, inr, length, max, pos, refl, subst, suc, sym, zero, ℕ}
-use Rattle.cap_spec.proofs.Prelude.{◌+◌, ◌-◌, ◌<◌, ◌∷◌, ◌≡◌, ◌≤◌, ◌⊎◌, ∥∥₁_elim, cases_lt, eqb_tells, AreElements}
-use Rattle.cap_spec.proofs.Prelude.{DenoteEach, Denotes, Finds, element_levels, values_of, words_from, extra, HasWord}
-use Rattle.cap_spec.proofs.Prelude.{segment_of, code, data_size, extent, kind, list_size, middle, pointer_size, Tree}
-use Rattle.cap_spec.proofs.Prelude.{Trees, cap, more, null, pointers, scalars, struct, structs}
+use Rattle.cap_spec.proofs.Prelude.{◌+◌, ◌-◌, ◌<◌, ◌∙◌, ◌∷◌, ◌≡◌, ◌≤◌, ◌⊎◌, ∥∥₁_elim, cases_lt, eqb_tells, AreElements}
+use Rattle.cap_spec.proofs.Prelude.{DenoteEach, Denotes, Finds, FindsKind, element_levels, levels_below, values_of}
+use Rattle.cap_spec.proofs.Prelude.{words_from, extra, HasWord, segment_of, code, data_size, extent, kind, list_size}
+use Rattle.cap_spec.proofs.Prelude.{middle, pointer_size, Tree, Trees, cap, more, null, pointers, scalars, struct}
+use Rattle.cap_spec.proofs.Prelude.{structs, Pointers, Struct, Structs}
 use Rattle.cap_spec.proofs.Trees.Charges.{lead_kind}
-use Rattle.cap_spec.proofs.Trees.Finding.{SameObject, one_object}
+use Rattle.cap_spec.proofs.Trees.Finding.{one_found, pointers_found, scalars_found, struct_found, structs_found}
 use Rattle.cap_spec.proofs.Trees.OneTree.{cons_parts, formed, number_list, number_struct}
 use Rattle.cap_spec.proofs.Trees.Outcomes.{Fate, fate}
 use Rattle.cap_spec.proofs.Verdicts.OneVerdict.{denoted_not_wrong}
@@ -96,172 +99,157 @@ elements_decided m n one t b ds ps (suc k) =
     both (inr never) rest = inr (λ e. never (first_element m n t b ds ps k e))
 
 -- An object is found at s:w.
-module _ (m : List (List ℕ)) (n s w k t b q : ℕ) (f : Finds m s w k t b q) where
+module _ (m : List (List ℕ)) (n s w k t b q tag : ℕ) where
   -- what a struct's pointers denote
-  in_struct : kind q ≡ 0 → TreeWithin m (suc n) s w → EachWithin m n (places t (b + data_size q) (pointer_size q))
-  in_struct e (struct ws ts, c, d, (k', t', b', q', inner, deep, found, each), le) =
-      let o : SameObject k t b q k' t' b' q' = one_object m s w k t b q k' t' b' q' f found.finds in
-      (ts, inner, deep, rw (o.segment, o.start, o.shape) each, omega (arith, found.depth, le))
-  in_struct e (x, c, d, h, le) = absurd (omega
-      (arith, number_struct (kind q) (code q) e, found_form m s w x c d k t b q h f))
+  in_struct : {ds ps : ℕ} → FindsKind m s w (Struct ds ps) k t b q tag → TreeWithin m (suc n) s w
+      → EachWithin m n (places t (b + ds) ps)
+  in_struct {ds} {ps} f (struct ws ts, c, d, h, le) =
+      let (k', t', b', q', tag', ds', ps', inner, deep, found, own, each) = h in
+      let o = one_found f found.object in
+      let x : ds ≡ ds' = cc o.kind in
+      let y : ps ≡ ps' = cc o.kind in
+      (ts, inner, deep, rw (o.segment, o.start, x, y) each, omega (arith, found.depth, le))
+  in_struct f (x, c, d, h, le) =
+      let y = struct_shape f.shape in absurd (omega
+      (arith, number_struct (kind q) (code q) y.kind, found_form m s w x c d k t b q h f.finds))
 
   -- what the entries of a list of pointers denote
-  in_pointers : kind q ≡ 1 → code q ≡ 6 → TreeWithin m (suc n) s w → EachWithin m n (places t b (list_size q))
-  in_pointers e g (pointers ts, c, d, (k', t', b', q', inner, deep, found, each), le) =
-      let o : SameObject k t b q k' t' b' q' = one_object m s w k t b q k' t' b' q' f found.finds in
-      (ts, inner, deep, rw (o.segment, o.start, o.shape) each, omega (arith, found.depth, le))
-  in_pointers e g (x, c, d, h, le) = absurd (omega
-      (arith, number_list (kind q) (code q) e, g, found_form m s w x c d k t b q h f))
+  in_pointers : {size : ℕ} → FindsKind m s w (Pointers size) k t b q tag → TreeWithin m (suc n) s w
+      → EachWithin m n (places t b size)
+  in_pointers {size} f (pointers ts, c, d, h, le) =
+      let (k', t', b', q', tag', size', inner, deep, found, each) = h in
+      let o = one_found f found.object in
+      let x : size ≡ size' = cc o.kind in
+      (ts, inner, deep, rw (o.segment, o.start, x) each, omega (arith, found.depth, le))
+  in_pointers f (x, c, d, h, le) =
+      let y = pointers_shape f.shape in absurd (omega
+      (arith, number_list (kind q) (code q) y.kind, y.code, found_form m s w x c d k t b q h f.finds))
 
   -- the elements of a list of structs
-  in_structs : (tag : ℕ) → kind q ≡ 1 → code q ≡ 7 → HasWord m t b tag → TreeWithin m (suc n) s w
-      → ElementsWithin m (n - element_levels (middle tag)) t (b + 1) (data_size tag) (pointer_size tag) (middle tag)
-      × (element_levels (middle tag) ≤ n)
-  in_structs tag e g y (structs ds ps es, c, d, (k', t', b', q', tag', inner, deep, found, each), le) =
-      let o : SameObject k t b q k' t' b' q' = one_object m s w k t b q k' t' b' q' f found.finds in
-      let z : tag ≡ tag' = one_word m t b tag tag' y (rw (o.segment, o.start) found.has_tag) in
-      let levels : element_levels (middle tag) ≡ element_levels (middle tag') = ap (λ u. element_levels (middle u)) z in (
-        (
-          es,
-          inner,
-          deep,
-          rw (o.segment, o.start, z, ← found.data_sizes, ← found.pointer_sizes) each,
-          omega (arith, found.depth, le, levels),
-        ),
+  in_structs : {size ds ps : ℕ} → FindsKind m s w (Structs size ds ps) k t b q tag → TreeWithin m (suc n) s w
+      → ElementsWithin m (n - element_levels size) t (b + 1) ds ps size × (element_levels size ≤ n)
+  in_structs {size} {ds} {ps} f (structs ds' ps' es, c, d, h, le) =
+      let (k', t', b', q', tag', size', inner, deep, found, each) = h in
+      let o = one_found f found.object in
+      let x : size ≡ size' = cc o.kind in
+      let y : ds ≡ ds' = cc o.kind in
+      let z : ps ≡ ps' = cc o.kind in
+      let levels = structs_levels found.object.shape ∙ ap element_levels (sym x) in (
+        (es, inner, deep, rw (o.segment, o.start, x, y, z) each, omega (arith, found.depth, le, levels)),
         omega (arith, found.depth, le, levels),
       )
-  in_structs tag e g y (x, c, d, h, le) =
-      absurd (omega (arith, number_list (kind q) (code q) e, g, found_form m s w x c d k t b q h f))
+  in_structs f (x, c, d, h, le) =
+      let y = structs_shape f.shape in absurd (omega
+      (arith, number_list (kind q) (code q) y.kind, y.code, found_form m s w x c d k t b q h f.finds))
 
-  -- an object has a level
-  no_level : TreeWithin m 0 s w → ⊥
-  no_level (null, c, d, h, le) = omega (arith, found_form m s w null c d k t b q h f)
-  no_level (cap i, c, d, h, le) = omega (
-    arith,
-    lead_kind m s w k t (pos b) q f.leads,
-    found_form m s w (cap i) c d k t b q h f,
-  )
-  no_level (struct ws ts, c, d, (k', t', b', q', inner, deep, found, each), le) = omega (arith, found.depth, le)
-  no_level (scalars e vs, c, d, (k', t', b', q', found), le) = omega (arith, found.depth, le)
-  no_level (pointers ts, c, d, (k', t', b', q', inner, deep, found, each), le) = omega (arith, found.depth, le)
-  no_level (structs ds ps es, c, d, (k', t', b', q', tag', inner, deep, found, each), le) = omega (arith, found.depth, le)
+-- An object has a level.
+no_level : (m : List (List ℕ)) (s w k t b q : ℕ) → Finds m s w k t b q → TreeWithin m 0 s w → ⊥
+no_level m s w k t b q f (null, c, d, h, le) = omega (arith, found_form m s w null c d k t b q h f)
+no_level m s w k t b q f (cap i, c, d, h, le) = omega (
+  arith,
+  lead_kind m s w k t (pos b) q f.leads,
+  found_form m s w (cap i) c d k t b q h f,
+)
+no_level m s w k t b q f (struct ws ts, c, d, (k', t', b', q', tag, ds, ps, inner, deep, found, own, each), le) =
+    omega (arith, found.depth, le)
+no_level m s w k t b q f (scalars e vs, c, d, (k', t', b', q', tag, n, found, own), le) = omega (arith, found.depth, le)
+no_level m s w k t b q f (pointers ts, c, d, (k', t', b', q', tag, n, inner, deep, found, each), le) =
+    omega (arith, found.depth, le)
+no_level m s w k t b q f (structs ds ps es, c, d, (k', t', b', q', tag, n, inner, deep, found, each), le) =
+    omega (arith, found.depth, le)
 
-  -- Where it is decided of each word with fewer levels, it is decided of the object.
-  module _ (one : (j : ℕ) → j ≤ n → (s w : ℕ) → Decided (TreeWithin m j s w)) where
-    struct_decided : kind q ≡ 0 → Decided (TreeWithin m (suc n) s w)
-    struct_decided e =
-        elim (each_decided m n (one n (omega arith)) (places t (b + data_size q) (pointer_size q))) [
-          | inl (ts, c, d, h, le) ↦ inl (
-            struct (words_from m t b (data_size q)) ts,
-            k + extent q + c,
-            1 + d,
-            (k, t, b, q, c, d, record { finds = f; kind = e; data_words = refl; charge = refl; depth = refl }, h),
-            omega (arith, le),
-          )
-          | inr never ↦ inr (λ x. never (in_struct e x))
-        ]
-
-    scalars_decided : kind q ≡ 1 → code q < 6 → Decided (TreeWithin m (suc n) s w)
-    scalars_decided e lt =
-        inl (
-          scalars (code q) (values_of m t b (code q) (list_size q)),
-          k + extent q + extra q 0,
-          1,
+-- Where it is decided of each word with fewer levels, it is decided of the object.
+module _ (m : List (List ℕ)) (n s w k t b q : ℕ) (f : Finds m s w k t b q)
+    (one : (j : ℕ) → j ≤ n → (s w : ℕ) → Decided (TreeWithin m j s w)) where
+  struct_decided : kind q ≡ 0 → Decided (TreeWithin m (suc n) s w)
+  struct_decided e =
+      let object = struct_found m s w k t b q f e in
+      elim (each_decided m n (one n (omega arith)) (places t (b + data_size q) (pointer_size q))) [
+        | inl (ts, c, d, h, le) ↦ inl (
+          struct (words_from m t b (data_size q)) ts,
+          k + extent q + extra q 0 + c,
+          1 + levels_below q 0 + d,
           (
             k,
             t,
             b,
             q,
-            record {
-              finds = f;
-              kind = e;
-              code = refl;
-              scalar = lt;
-              elements = refl;
-              charge = refl;
-              depth = refl;
-            },
+            0,
+            data_size q,
+            pointer_size q,
+            c,
+            d,
+            record { object = object; charge = refl; depth = refl },
+            refl,
+            h,
           ),
-          omega arith,
+          omega (arith, le, struct_levels object.shape),
         )
+        | inr never ↦ inr (λ x. never (in_struct m n s w k t b q 0 object x))
+      ]
 
-    pointers_decided : kind q ≡ 1 → code q ≡ 6 → Decided (TreeWithin m (suc n) s w)
-    pointers_decided e g =
-        elim (each_decided m n (one n (omega arith)) (places t b (list_size q))) [
-          | inl (ts, c, d, h, le) ↦ inl (
-            pointers ts,
-            k + extent q + c,
-            1 + d,
-            (
-              k,
-              t,
-              b,
-              q,
-              c,
-              d,
-              record { finds = f; kind = e; code = g; charge = refl; depth = refl },
-              h,
-            ),
-            omega (arith, le),
-          )
-          | inr never ↦ inr (λ x. never (in_pointers e g x))
-        ]
+  scalars_decided : kind q ≡ 1 → code q < 6 → Decided (TreeWithin m (suc n) s w)
+  scalars_decided e lt =
+      let object = scalars_found m s w k t b q f e lt in
+      inl (
+        scalars (code q) (values_of m t b (code q) (list_size q)),
+        k + extent q + extra q 0 + 0,
+        1 + levels_below q 0 + 0,
+        (k, t, b, q, 0, list_size q, record { object = object; charge = refl; depth = refl }, refl),
+        omega (arith, scalars_levels object.shape),
+      )
 
-    structs_decided : (tag : ℕ) → kind q ≡ 1 → code q ≡ 7 → HasWord m t b tag → Decided (TreeWithin m (suc n) s w)
-    structs_decided tag e g y =
-        elim (cases_lt n (element_levels (middle tag))) [
-          | inl past ↦ inr (λ x. omega (arith, past, (in_structs tag e g y x).1))
-          | inr fits ↦ elim (elements_decided m (n - element_levels (middle tag))
-              (one (n - element_levels (middle tag)) (omega arith)) t (b + 1) (data_size tag)
-              (pointer_size tag) (middle tag)) [
-                | inl (es, c, d, h, le) ↦ inl (
-                  structs (data_size tag) (pointer_size tag) es,
-                  k + extent q + extra q tag + c,
-                  1 + element_levels (middle tag) + d,
-                  (
-                    k,
-                    t,
-                    b,
-                    q,
-                    tag,
-                    c,
-                    d,
-                    record {
-                      finds = f;
-                      kind = e;
-                      code = g;
-                      has_tag = y;
-                      data_sizes = refl;
-                      pointer_sizes = refl;
-                      charge = refl;
-                      depth = refl;
-                    },
-                    h,
-                  ),
-                  omega (arith, le, fits),
-                )
-                | inr never ↦ inr (λ x. never (in_structs tag e g y x).0)
-              ]
-        ]
+  pointers_decided : kind q ≡ 1 → code q ≡ 6 → Decided (TreeWithin m (suc n) s w)
+  pointers_decided e g =
+      let object = pointers_found m s w k t b q f e g in
+      elim (each_decided m n (one n (omega arith)) (places t b (list_size q))) [
+        | inl (ts, c, d, h, le) ↦ inl (
+          pointers ts,
+          k + extent q + extra q 0 + c,
+          1 + levels_below q 0 + d,
+          (k, t, b, q, 0, list_size q, c, d, record { object = object; charge = refl; depth = refl }, h),
+          omega (arith, le, pointers_levels object.shape),
+        )
+        | inr never ↦ inr (λ x. never (in_pointers m n s w k t b q 0 object x))
+      ]
 
-    object_decided : Decided (TreeWithin m (suc n) s w)
-    object_decided =
-        elim (eqb_tells (kind q) 0) [
-          | inl (x, zero_kind) ↦ struct_decided zero_kind
-          | inr (x, other) ↦ list_decided (omega (arith, other, lead_kind m s w k t (pos b) q f.leads))
-        ]
-      where
-        list_decided : kind q ≡ 1 → Decided (TreeWithin m (suc n) s w)
-        list_decided e =
-            elim (cases_lt (code q) 6) [
-              | inl small ↦ scalars_decided e small
-              | inr large ↦ elim (eqb_tells (code q) 6) [
-                | inl (x, six) ↦ pointers_decided e six
-                | inr (x, other) ↦
-                    let g : code q ≡ 7 = omega (arith, other, large) in
-                    let y = f.sits.composite (e, g) in structs_decided y.0 e g y.1
-              ]
+  structs_decided : (tag : ℕ) → kind q ≡ 1 → code q ≡ 7 → HasWord m t b tag → Decided (TreeWithin m (suc n) s w)
+  structs_decided tag e g y =
+      let object = structs_found m s w k t b q f tag e g y in
+      elim (cases_lt n (element_levels (middle tag))) [
+        | inl past ↦ inr (λ x. omega (arith, past, (in_structs m n s w k t b q tag object x).1))
+        | inr fits ↦ elim (elements_decided m (n - element_levels (middle tag))
+            (one (n - element_levels (middle tag)) (omega arith)) t (b + 1) (data_size tag)
+            (pointer_size tag) (middle tag)) [
+              | inl (es, c, d, h, le) ↦ inl (
+                structs (data_size tag) (pointer_size tag) es,
+                k + extent q + extra q tag + c,
+                1 + levels_below q tag + d,
+                (k, t, b, q, tag, middle tag, c, d, record { object = object; charge = refl; depth = refl }, h),
+                omega (arith, le, fits, structs_levels object.shape),
+              )
+              | inr never ↦ inr (λ x. never (in_structs m n s w k t b q tag object x).0)
             ]
+      ]
+
+  object_decided : Decided (TreeWithin m (suc n) s w)
+  object_decided =
+      elim (eqb_tells (kind q) 0) [
+        | inl (x, zero_kind) ↦ struct_decided zero_kind
+        | inr (x, other) ↦ list_decided (omega (arith, other, lead_kind m s w k t (pos b) q f.leads))
+      ]
+    where
+      list_decided : kind q ≡ 1 → Decided (TreeWithin m (suc n) s w)
+      list_decided e =
+          elim (cases_lt (code q) 6) [
+            | inl small ↦ scalars_decided e small
+            | inr large ↦ elim (eqb_tells (code q) 6) [
+              | inl (x, six) ↦ pointers_decided e six
+              | inr (x, other) ↦
+                  let g : code q ≡ 7 = omega (arith, other, large) in
+                  let y = f.inside.composite (e, g) in structs_decided y.0 e g y.1
+            ]
+          ]
 
 -- Where it is decided of each object, it is decided of a word.
 word_decided : (m : List (List ℕ)) (n s w : ℕ) → ((k t b q : ℕ) → Finds m s w k t b q → Decided (TreeWithin m n s w))
@@ -286,7 +274,7 @@ word_decided m n s w object =
 
 -- It is decided for each number of levels up to n.
 up_to_decided : (m : List (List ℕ)) (n j : ℕ) → j ≤ n → (s w : ℕ) → Decided (TreeWithin m j s w)
-up_to_decided m n zero le s w = word_decided m zero s w (λ k t b q f. inr (no_level m 0 s w k t b q f))
+up_to_decided m n zero le s w = word_decided m zero s w (λ k t b q f. inr (no_level m s w k t b q f))
 up_to_decided m zero (suc j) le s w = absurd (omega (arith, le))
 up_to_decided m (suc n) (suc j) le s w =
     word_decided m (suc j) s w (λ k t b q f. object_decided m j s w k t b q f

@@ -2,9 +2,10 @@
 use Rattle.cap_spec.proofs.Paths.Preorder.{Before-longer, Rises-distinct, Rises-same}
 use Rattle.cap_spec.proofs.Paths.Walks.{comes_beyond, one_coming, one_reached}
 use Rattle.cap_spec.proofs.Prelude.{List, [], ap, append-nil, append_assoc, arith, inl, inr, length, length-append}
-use Rattle.cap_spec.proofs.Prelude.{refl, subst, sym, ℕ, ◌++◌, ◌+◌, ◌<◌, ◌∙◌, ◌∷◌, ◌≡◌, ◌≤◌, ◌⊎◌, AreShallow, AreOnPath}
-use Rattle.cap_spec.proofs.Prelude.{IsFaultOnPath, IsRefusedOnPath, IsStartOf, IsOneOf, HasWord, Before, Costs, Reaches}
-use Rattle.cap_spec.proofs.Prelude.{ReachesSpot, Rises, Spot, StepsTo, element, word, CostOf, IsDeepAt, Refusal, Step}
+use Rattle.cap_spec.proofs.Prelude.{refl, subst, sym, ℕ, ◌++◌, ◌+◌, ◌<◌, ◌∙◌, ◌∷◌, ◌≡◌, ◌≤◌, ◌⊎◌, AreShallow}
+use Rattle.cap_spec.proofs.Prelude.{AreOnPath, IsFaultOnPath, IsRefusedOnPath, IsStartOf, IsOneOf, HasWord, Before}
+use Rattle.cap_spec.proofs.Prelude.{Costs, Reaches, ReachesSpot, Rises, Spot, StepsTo, element, word, CostOf}
+use Rattle.cap_spec.proofs.Prelude.{IsDeepAt, Refusal, Step, rules}
 use Rattle.cap_spec.proofs.Verdicts.OneFault.{distinct_last, kept_without_fault, last_is_one, one_of_last, one_rootless}
 use Rattle.cap_spec.proofs.Verdicts.OneFault.{rootless, same_fault}
 use Rattle.cap_spec.proofs.Verdicts.OneVerdict.{cost_reached}
@@ -47,10 +48,7 @@ begins_last q done step (r, e) = go (begins_either q done [] r step e)
 before_last : (q done : List Step) (step : Step) → IsStartOf q done → Before q (done ++ step ∷ [])
 before_last q done step ([], e) = subst (λ x. Before q (x ++ step ∷ [])) (sym (e ∙ append-nil q))
     (Before-longer q step [])
-before_last q done step (x ∷ rest, e) =
-    let f : q ++ x ∷ (rest ++ step ∷ []) ≡ done ++ step ∷ [] =
-    sym (ap (λ y. y ++ step ∷ []) e ∙ append_assoc q (x ∷ rest) (step ∷ [])) in
-    subst (λ y. Before q y) f (Before-longer q x (rest ++ step ∷ []))
+before_last q done step (x ∷ rest, e) = search (rules, append_assoc, Before-longer)
 
 -- a rising list with a last path behind all of them
 rises_last : (ps : List (List Step)) (p : List Step) → Rises ps → ((q : List Step) → IsOneOf q ps → Before q p)

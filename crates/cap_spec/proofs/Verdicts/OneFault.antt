@@ -1,13 +1,12 @@
 -- A message is refused in one way: it has one first fault.
 use Rattle.std.proofs.lemmas.List.{append_cancel_right}
 use Rattle.cap_spec.specs.Faults.{is_wrong}
-use Rattle.cap_spec.proofs.Paths.Preorder.{Before-irreflexive, Before-total_coming, Before-trans, Rises-distinct}
-use Rattle.cap_spec.proofs.Paths.Preorder.{one_tour}
+use Rattle.cap_spec.proofs.Paths.Preorder.{Before-irreflexive, Before-trans, Rises-distinct, one_first, one_tour}
 use Rattle.cap_spec.proofs.Paths.Walks.{one_reached}
 use Rattle.cap_spec.proofs.Pointers.Following.{cap-not_wrong, null-not_wrong, object-not_wrong, one_wrong}
 use Rattle.cap_spec.proofs.Prelude.{List, Some, [], ap, arith, inl, inr, length, refl, slice_get, subst, sym, ℕ, ◌++◌}
-use Rattle.cap_spec.proofs.Prelude.{◌+◌, ◌∙◌, ◌∷◌, ◌≡◌, ◌≤◌, ◌⊎◌, AreShallow, HasNoRoot, IsFirstFault, IsFirstReason}
-use Rattle.cap_spec.proofs.Prelude.{IsRefused, is_deep, is_past, Wrong, AreDistinct, IsOneOf, Before, Costs, IsTour}
+use Rattle.cap_spec.proofs.Prelude.{◌+◌, ◌∙◌, ◌∷◌, ◌≡◌, ◌≤◌, ◌⊎◌, AreShallow, HasNoRoot, IsFaultAt, IsFirstFault}
+use Rattle.cap_spec.proofs.Prelude.{IsFirstReason, IsRefused, is_deep, is_past, Wrong, AreDistinct, IsOneOf, Before, Costs, IsTour}
 use Rattle.cap_spec.proofs.Prelude.{Reaches, Rises, CostOf, Reason, Refusal, Step}
 use Rattle.cap_spec.proofs.Verdicts.OneVerdict.{cost_reached, distinct_cost, take_out}
 
@@ -85,34 +84,56 @@ kept_without_fault m words depth level charge cost r way before kept reached cos
     (level, r.segment, r.word, one, charge, reached, own, costs, refl) in
     omega (arith, past, within, distinct_cost m (way ∷ before) kept (one + charge) cost distinct all both whole)
 
--- No first fault comes before another.
-no_earlier : (m : List (List ℕ)) (words depth : ℕ) (r r' : Refusal) (f : IsFirstFault m words depth r)
-    (f' : IsFirstFault m words depth r') → Before f.path f'.path → ⊥
-no_earlier m words depth r r' f f' b =
-    kept_without_fault m words depth f.level f.charge f'.charge r f.path f.before f'.before f.reached f.costs f.reason
-    (distinct_last f.before f.path (Rises-distinct (f.before ++ f.path ∷ []) f.tour.rising)) all f'.costs
-    f'.shallow f'.within
+-- the tour up to a fault
+pub fault_tour : {m : List (List ℕ)} {words depth : ℕ} {path : List Step} {r : Refusal} → (f : IsFaultAt m words depth path r)
+    → IsTour m path (f.before ++ path ∷ [])
+fault_tour {m} {words} {depth} {path} {r} f = subst (IsTour m path) f.whole f.numbered.is_tour
+
+-- Where the paths before one keep to the limits, none of them has a fault.
+pub none_before : (m : List (List ℕ)) (words depth : ℕ) (path : List Step) (before : List (List Step)) (charge : ℕ)
+    → IsTour m path (before ++ path ∷ []) → CostOf m before charge → charge ≤ words → AreShallow m depth before
+    → (other : List Step) → Before other path → (r : Refusal) → ¬ IsFaultAt m words depth other r
+none_before m words depth path before charge tour costs within shallow other b r f =
+    let reached = f.numbered.reached in
+    kept_without_fault m words depth f.numbered.level f.charge charge r other f.before before reached f.costs f.reason
+    (distinct_last f.before other (Rises-distinct (f.before ++ other ∷ []) (fault_tour f).rising)) all costs
+    shallow within
   where
-    kept : (q : List Step) (level s w : ℕ) → Reaches m q level s w → Before q f'.path → IsOneOf q f'.before
-    kept q level s w h k = elim (one_of_last q f'.path f'.before (f'.tour.all q level s w h (inr k))) [
-      | inl e ↦ absurd (Before-irreflexive f'.path (subst (λ u. Before u f'.path) e k))
+    kept : (q : List Step) (level s w : ℕ) → Reaches m q level s w → Before q path → IsOneOf q before
+    kept q level s w h k = elim (one_of_last q path before (tour.all q level s w h (inr k))) [
+      | inl e ↦ absurd (Before-irreflexive path (subst (λ u. Before u path) e k))
       | inr i ↦ i
     ]
 
-    here : IsOneOf f.path f'.before
-    here = kept f.path f.level r.segment r.word f.reached b
+    here : IsOneOf other before
+    here = kept other f.numbered.level r.segment r.word f.numbered.reached b
 
-    earlier : (q : List Step) → IsOneOf q f.before → IsOneOf q f'.before
+    earlier : (q : List Step) → IsOneOf q f.before → IsOneOf q before
     earlier q i =
         let c = cost_reached m f.before f.charge q f.costs i in
-        elim (f.tour.none_after q (last_is_one f.path q f.before i)) [
-          | inl e ↦ subst (λ u. IsOneOf u f'.before) (sym e) here
-          | inr k ↦ kept q c.0 c.1 c.2 c.3 (Before-trans q f.path f'.path k b)
+        elim ((fault_tour f).none_after q (last_is_one other q f.before i)) [
+          | inl e ↦ subst (λ u. IsOneOf u before) (sym e) here
+          | inr k ↦ kept q c.0 c.1 c.2 c.3 (Before-trans q other path k b)
         ]
 
-    all : (q : List Step) → IsOneOf q (f.path ∷ f.before) → IsOneOf q f'.before
-    all q (inl e) = subst (λ u. IsOneOf u f'.before) (sym e) here
+    all : (q : List Step) → IsOneOf q (other ∷ f.before) → IsOneOf q before
+    all q (inl e) = subst (λ u. IsOneOf u before) (sym e) here
     all q (inr i) = earlier q i
+
+-- So the first fault is where the paths before it keep to the limits.
+pub first_fault_kept : {m : List (List ℕ)} {words depth : ℕ} {path : List Step} {r : Refusal}
+    → (f : IsFaultAt m words depth path r) → f.charge ≤ words → AreShallow m depth f.before → r.pointers ≤ words + 1
+    → IsFirstFault m words depth r
+first_fault_kept {m} {words} {depth} {path} {r} f within shallow few = record {
+  path = path;
+  fault = f;
+  first = record {
+    holds = (r, f);
+    first = λ other b (r', g). none_before m words depth path f.before f.charge (fault_tour f) f.costs within shallow
+        other b r' g;
+  };
+  few = few;
+}
 
 -- refusals of equal parts are equal
 same_refusal : (a b : Refusal) → a.segment ≡ b.segment → a.word ≡ b.word → a.reason ≡ b.reason
@@ -149,12 +170,13 @@ same_fault m words depth level level' charge charge' r r' way before before' lis
 same_first_fault : (m : List (List ℕ)) (words depth : ℕ) (r r' : Refusal) (f : IsFirstFault m words depth r)
     (f' : IsFirstFault m words depth r') → f'.path ≡ f.path → r ≡ r'
 same_first_fault m words depth r r' f f' e =
-    let tour : IsTour m f.path (f'.before ++ f.path ∷ []) = subst (λ u. IsTour m u (f'.before ++ u ∷ [])) e f'.tour in
-    let lists : f.before ++ f.path ∷ [] ≡ f'.before ++ f.path ∷ [] =
-    one_tour m f.path (f.before ++ f.path ∷ []) (f'.before ++ f.path ∷ []) f.tour tour in
-    same_fault m words depth f.level f'.level f.charge f'.charge r r' f.path f.before f'.before lists f.tour.rising
-    f.reached (subst (λ u. Reaches m u f'.level r'.segment r'.word) e f'.reached)
-    f.costs f'.costs f.reason f'.reason f.pointers (f'.pointers ∙ ap (λ u. length (f'.before ++ u ∷ [])) e)
+    let g = f.fault in
+    let g' : IsFaultAt m words depth f.path r' = subst (λ u. IsFaultAt m words depth u r') e f'.fault in
+    let lists : g.before ++ f.path ∷ [] ≡ g'.before ++ f.path ∷ [] =
+    one_tour m f.path (g.before ++ f.path ∷ []) (g'.before ++ f.path ∷ []) (fault_tour g) (fault_tour g') in
+    same_fault m words depth g.numbered.level g'.numbered.level g.charge g'.charge r r' f.path g.before g'.before lists
+    (fault_tour g).rising g.numbered.reached g'.numbered.reached g.costs g'.costs g.reason g'.reason
+    (g.numbered.count ∙ ap length g.whole) (g'.numbered.count ∙ ap length g'.whole)
 
 -- Refusals of a message without a root are one.
 pub one_rootless : (m : List (List ℕ)) (r r' : Refusal) → HasNoRoot m r → HasNoRoot m r' → r ≡ r'
@@ -174,12 +196,12 @@ rootless (x ∷ m) p level s w e (root, n, has, walks, up) =
 pub one_refusal : (m : List (List ℕ)) (words depth : ℕ) (r r' : Refusal) → IsRefused m words depth r
     → IsRefused m words depth r' → r ≡ r'
 one_refusal m words depth r r' (inl h) (inl k) = one_rootless m r r' h k
-one_refusal m words depth r r' (inl h) (inr f) = absurd (rootless m f.path f.level r'.segment r'.word h.lacks.empty f.reached)
-one_refusal m words depth r r' (inr f) (inl h) = absurd (rootless m f.path f.level r.segment r.word h.lacks.empty f.reached)
+one_refusal m words depth r r' (inl h) (inr f) =
+    let n = f.fault.numbered in absurd (rootless m f.path n.level r'.segment r'.word h.lacks.empty n.reached)
+one_refusal m words depth r r' (inr f) (inl h) =
+    let n = f.fault.numbered in absurd (rootless m f.path n.level r.segment r.word h.lacks.empty n.reached)
 one_refusal m words depth r r' (inr f) (inr f') =
-    by_order (Before-total_coming m f.path f'.path f.level f'.level _ _ f.reached f'.reached)
-  where
-    by_order : (f.path ≡ f'.path) ⊎ Before f.path f'.path ⊎ Before f'.path f.path → r ≡ r'
-    by_order (inl e) = same_first_fault m words depth r r' f f' (sym e)
-    by_order (inr (inl b)) = absurd (no_earlier m words depth r r' f f' b)
-    by_order (inr (inr b)) = absurd (no_earlier m words depth r' r f' f b)
+    let n = f.fault.numbered in
+    let n' = f'.fault.numbered in
+    same_first_fault m words depth r r' f f' (sym (one_first m (λ p. (x : Refusal) × IsFaultAt m words depth p x) f.path
+    f'.path n.level n'.level r.segment r.word r'.segment r'.word n.reached n'.reached f.first f'.first))

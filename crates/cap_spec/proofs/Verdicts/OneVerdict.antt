@@ -1,18 +1,17 @@
 -- An accepted message has no justified refusal.
 use Rattle.cap_spec.specs.Following.{HasTag}
 use Rattle.cap_spec.specs.Verdicts.{is_wrong}
-use Rattle.cap_spec.proofs.Paths.Arrivals.{coming_to_node, lead_word}
+use Rattle.cap_spec.proofs.Paths.Arrivals.{coming_to_node}
 use Rattle.cap_spec.proofs.Paths.Depths.{denoted_depth, object_depth, walk_depth}
 use Rattle.cap_spec.proofs.Paths.PathCosts.{charge_is_cost}
 use Rattle.cap_spec.proofs.Paths.PathCounts.{pointer_path_reached, pointer_paths}
 use Rattle.cap_spec.proofs.Paths.Walks.{one_reached}
 use Rattle.cap_spec.proofs.Pointers.Following.{cap-not_wrong, null-not_wrong, object-not_wrong}
-use Rattle.cap_spec.proofs.Prelude.{List, Some, [], arith, inl, inr, refl, slice_get, subst, sym, ℕ, ◌+◌, ◌∙◌, ◌∷◌, ◌≡◌}
-use Rattle.cap_spec.proofs.Prelude.{◌≢◌, ◌≤◌, ◌⊎◌, IsWithin, Denotes, Finds, Wrong, AreDistinct, IsOneOf, HasWord}
-use Rattle.cap_spec.proofs.Prelude.{Costs, Reaches, word, Tree, cap, null, pointers, scalars, struct, structs, CostOf}
-use Rattle.cap_spec.proofs.Prelude.{Justified, levels_below, no_root, past_limit, too_deep, Reason, Refusal, Step}
+use Rattle.cap_spec.proofs.Prelude.{List, [], arith, inl, inr, refl, subst, sym, ℕ, ◌+◌, ◌∙◌, ◌∷◌, ◌≡◌, ◌≢◌, ◌≤◌, ◌⊎◌}
+use Rattle.cap_spec.proofs.Prelude.{IsWithin, Denotes, Finds, Wrong, AreDistinct, IsOneOf, Costs, Reaches, word, Tree}
+use Rattle.cap_spec.proofs.Prelude.{cap, null, pointers, scalars, struct, structs, CostOf, Justified, levels_below}
+use Rattle.cap_spec.proofs.Prelude.{no_root, past_limit, too_deep, Reason, Refusal, Step, common_steps}
 use Rattle.cap_spec.proofs.Trees.Charges.{one_cost}
-use Rattle.cap_spec.proofs.Trees.OneTree.{Formed, formed}
 
 -- one of some paths, its cost, and the others
 pub record TakenOut (m : List (List ℕ)) (p : List Step) (qs : List (List Step)) (y : ℕ) : Type 0 where
@@ -122,14 +121,14 @@ pub denoted_not_wrong : (m : List (List ℕ)) (s w : ℕ) (t : Tree) (c d : ℕ)
     → Wrong m s w v → ⊥
 denoted_not_wrong m s w null c d h v g = null-not_wrong m s w c h.0 v g
 denoted_not_wrong m s w (cap i) c d h v g = cap-not_wrong m s w c i h.0 v g
-denoted_not_wrong m s w (struct ws ts) c d (k, t, b, q, inner, deep, found, each) v g =
-    object-not_wrong m s w k t b q found.finds v g
-denoted_not_wrong m s w (scalars e vs) c d (k, t, b, q, found) v g =
-    object-not_wrong m s w k t b q found.finds v g
-denoted_not_wrong m s w (pointers ts) c d (k, t, b, q, inner, deep, found, each) v g =
-    object-not_wrong m s w k t b q found.finds v g
-denoted_not_wrong m s w (structs ds ps es) c d (k, t, b, q, tag, inner, deep, found, each) v g =
-    object-not_wrong m s w k t b q found.finds v g
+denoted_not_wrong m s w (struct ws ts) c d (k, t, b, q, tag, ds, ps, inner, deep, found, own, each) v g =
+    object-not_wrong m s w k t b q found.object.finds v g
+denoted_not_wrong m s w (scalars e vs) c d (k, t, b, q, tag, n, found, own) v g =
+    object-not_wrong m s w k t b q found.object.finds v g
+denoted_not_wrong m s w (pointers ts) c d (k, t, b, q, tag, n, inner, deep, found, each) v g =
+    object-not_wrong m s w k t b q found.object.finds v g
+denoted_not_wrong m s w (structs ds ps es) c d (k, t, b, q, tag, n, inner, deep, found, each) v g =
+    object-not_wrong m s w k t b q found.object.finds v g
 
 -- Where the root denotes a tree, nothing is wrong at a pointer word that a path reaches.
 pub reached_not_wrong : (m : List (List ℕ)) (t : Tree) (c d : ℕ) → Denotes m 0 0 t c d
@@ -137,17 +136,10 @@ pub reached_not_wrong : (m : List (List ℕ)) (t : Tree) (c d : ℕ) → Denotes
 reached_not_wrong m t c d h p level s w v g x =
     let r = coming_to_node m t c d h p level (word s w) g in denoted_not_wrong m s w r.0 r.2.0 r.2.1 r.2.2 v x
 
--- a segment without words has no root word
-rootless : (m : List (List ℕ)) (p : ℕ) → slice_get m 0 ≡ Some [] → HasWord m 0 0 p → ⊥
-rootless [] p e h = cc e
-rootless (x ∷ xs) p e h = let f : x ≡ [] = cc e in let g : slice_get [] 0 ≡ Some p = rw f at h in cc g
-
 -- An accepted message has no justified refusal.
 pub within_not_justified : (m : List (List ℕ)) (words depth : ℕ) (r : Refusal) → IsWithin m words depth
     → ¬ Justified m words depth r
-within_not_justified m words depth r (t, c, d, a) (no_root g) =
-    let f : Formed m 0 0 t = formed m 0 0 t c d a.denotes in
-    let p = lead_word m 0 0 f.k f.r f.leads in rootless m p.0 g.empty p.1
+within_not_justified m words depth r (t, c, d, a) (no_root g) = grind (arith, common_steps)
 within_not_justified m words depth r (t, c, d, a) (is_wrong g) =
     reached_not_wrong m t c d a.denotes g.0 g.1 r.segment r.word r.reason g.2 g.3
 within_not_justified m words depth r (t, c, d, a) (too_deep e (path, level, reached, (k, t', b, q, tag, finds, has, past))) =

@@ -4,29 +4,32 @@ use Rattle.cap_spec.specs.Verdicts.{is_wrong as wrong_there}
 use Rattle.cap_spec.proofs.Paths.Preorder.{Rises-distinct}
 use Rattle.cap_spec.proofs.Prelude.{List, [], inl, inr, ℕ, ◌++◌, ◌∷◌, IsWithin, IsFirstReason, IsRefused, is_deep}
 use Rattle.cap_spec.proofs.Prelude.{is_past, Justified, no_root, past_limit, too_deep, Refusal}
-use Rattle.cap_spec.proofs.Verdicts.OneFault.{distinct_last}
+use Rattle.cap_spec.proofs.Verdicts.KeptBefore.{kept_before}
+use Rattle.cap_spec.proofs.Verdicts.OneFault.{distinct_last, fault_tour}
 use Rattle.cap_spec.proofs.Verdicts.OneVerdict.{within_not_justified}
 
 -- A refusal at the first fault is justified.
 pub refused_justified : (m : List (List ℕ)) (words depth : ℕ) (r : Refusal) → IsRefused m words depth r
     → Justified m words depth r
 refused_justified m words depth r (inl h) = no_root h.lacks
-refused_justified m words depth r (inr f) = by_reason f.reason
+refused_justified m words depth r (inr f) = by_reason f.fault.reason
   where
-    by_reason : IsFirstReason m words depth f.charge r.segment r.word f.level r.reason → Justified m words depth r
-    by_reason (is_wrong h) = wrong_there (f.path, f.level, f.reached, h)
-    by_reason (is_deep e deep) = too_deep e (f.path, f.level, f.reached, deep)
+    by_reason : IsFirstReason m words depth f.fault.charge r.segment r.word f.fault.numbered.level r.reason
+        → Justified m words depth r
+    by_reason (is_wrong h) = wrong_there (f.path, f.fault.numbered.level, f.fault.numbered.reached, h)
+    by_reason (is_deep e deep) = too_deep e (f.path, f.fault.numbered.level, f.fault.numbered.reached, deep)
     by_reason (is_past cost e not_deep costs past) = past_limit e record {
-      paths = f.before;
+      paths = f.fault.before;
       last = f.path;
-      level = f.level;
-      before = f.charge;
+      level = f.fault.numbered.level;
+      before = f.fault.charge;
       one = cost;
-      reached = f.reached;
+      reached = f.fault.numbered.reached;
       costs = costs;
-      others = f.costs;
-      distinct = distinct_last f.before f.path (Rises-distinct (f.before ++ f.path ∷ []) f.tour.rising);
-      within = f.within;
+      others = f.fault.costs;
+      distinct = distinct_last f.fault.before f.path
+          (Rises-distinct (f.fault.before ++ f.path ∷ []) (fault_tour f.fault).rising);
+      within = (kept_before f).0;
       past = past;
     }
 

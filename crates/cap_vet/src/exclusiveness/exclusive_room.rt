@@ -3,8 +3,8 @@
 ghost use Rattle.cap_spec.specs.Occupying.{IsDisjoint};
 ghost use Rattle.cap_spec.specs.GreatestLimits.{most_depth, most_words};
 ghost use Rattle.cap_spec.specs.declared.Refusal.{Refusal};
-ghost use Rattle.cap_vet.specs.Exclusives.{IsExclusiveFault, KeepsRoom, OverlapsFirst, vetted_of};
-ghost use Rattle.cap_vet.specs.Limits.{depth_of, words_of};
+ghost use Rattle.cap_vet.specs.Exclusives.{IsExclusiveFault, KeepsRoom, vetted_of};
+ghost use Rattle.cap_vet.specs.Overlapping.{EndsMarking};
 ghost use Rattle.cap_vet.specs.Reports.{IsAccepted};
 ghost use Rattle.cap_vet.specs.Taken.{marks_of, start_of};
 ghost use Rattle.cap_vet.specs.Vettings.{message_of};
@@ -13,9 +13,9 @@ ghost use Rattle.cap_vet.specs.declared.report.Report.{Report};
 ghost use Rattle.std.specs.Prelude.{Err, ◌*◌, ◌≡◌, ◌≤◌, IfErr, IfOk, IsErrOf, IsOk, drop, length};
 
 use crate::exclusiveness::exclusive::Exclusive;
-use crate::exclusiveness::exclusive_vetting::{Overlap, mark_message};
+use crate::exclusiveness::exclusive_vetting::first_overlap;
 use crate::exclusiveness::marks::numbers_for;
-use crate::limits::Limits;
+use crate::exclusiveness::overlap_turn::Overlap;
 use crate::nodes::vetted::Vetted;
 use crate::report::Report;
 use cap_frame::Segments;
@@ -85,9 +85,9 @@ impl<'m, M: Segments> Vetted<'m, M> {
                 report: self.report,
             });
         }
-        match mark_cleared(self.message, &Limits::greatest(), &mut marks[..needed]) {
-            Ok(()) => Ok(Exclusive { vetted: self }),
-            Err(overlap) => Err(ExclusiveFault::Overlap {
+        match overlap_over(self.message, &mut marks[..needed]) {
+            None => Ok(Exclusive { vetted: self }),
+            Some(overlap) => Err(ExclusiveFault::Overlap {
                 segment: overlap.segment,
                 word: overlap.word,
                 pointers: overlap.pointers,
@@ -96,15 +96,14 @@ impl<'m, M: Segments> Vetted<'m, M> {
     }
 }
 
-// Clears the marks, whatever they are, and walks a message that is accepted once more.
-fn mark_cleared<M: Segments>(message: &M, limits: &Limits, bits: &mut [u64]) -> Result<(), Overlap>
+// The first pointer that overlaps in an accepted message. Clears the marks first, whatever they are.
+fn overlap_over<M: Segments>(message: &M, bits: &mut [u64]) -> Option<Overlap>
     requires enough { let m = M.segments message.now in
         start_of m (length m) ≤ 64 * length bits.old }
-    requires accepted { let m = M.segments message.now in
-        (report : Report) × IsAccepted m (words_of limits.now) (depth_of limits.now) report }
-    ensures ok { IfOk result (λ _. IsDisjoint (M.segments message.now)) }
-    ensures err { IfErr result (OverlapsFirst (M.segments message.now)) }
+    requires accepted { (report : Report)
+        × IsAccepted (M.segments message.now) most_words most_depth report }
+    ensures { EndsMarking (M.segments message.now) result }
 {
     bits.fill(0);
-    mark_message(message, limits, bits)
+    first_overlap(message, bits)
 }

@@ -1,40 +1,44 @@
 //! The verdict of a message of which no word may be used twice.
 
-ghost use Rattle.cap_spec.specs.Faults.{IsRefused};
 ghost use Rattle.cap_spec.specs.Frames.{sizes_of};
+ghost use Rattle.cap_spec.specs.GreatestLimits.{most_depth, most_words};
+ghost use Rattle.cap_spec.specs.Faults.{IsRefused};
+ghost use Rattle.cap_spec.specs.Messages.{segment_of};
 ghost use Rattle.cap_spec.specs.Occupying.{IsDisjoint, IsFirstOverlap, empty_count};
-ghost use Rattle.cap_spec.specs.Accepting.{IsWithin};
 ghost use Rattle.cap_spec.specs.Tree.{Tree};
-ghost use Rattle.cap_spec.specs.declared.Refusal.{Refusal};
-ghost use Rattle.cap_vet.specs.Exclusives.{OverlapsFirst, vetted_of};
-ghost use Rattle.cap_vet.specs.NullMarks.{null_marked};
+ghost use Rattle.cap_spec.specs.declared.StrictRefusal.{StrictRefusal};
+ghost use Rattle.cap_vet.specs.Demands.{IsDemandFault, IsMet, Meets, words_under};
+ghost use Rattle.cap_vet.specs.Exclusives.{IsExclusiveRefusal, vetted_of};
 ghost use Rattle.cap_vet.specs.Limits.{depth_of, words_of};
+ghost use Rattle.cap_vet.specs.Overlapping.{EndsMarking, KnowsFirsts, OverlapsFirst};
 ghost use Rattle.cap_vet.specs.Reports.{IsAccepted, IsReport};
-ghost use Rattle.cap_vet.specs.Taken.{HasMarked, HasRoom, IsTaken, start_of};
+ghost use Rattle.cap_vet.specs.Taken.{HasRoom, IsTaken, start_of};
+ghost use Rattle.cap_vet.specs.Turns.{IsWalking};
 ghost use Rattle.cap_vet.specs.Vettings.{message_of, report_of};
 ghost use Rattle.cap_vet.specs.declared.report.Report.{Report};
-ghost use Rattle.std.specs.Prelude.{Err, ◌+◌, ◌*◌, ◌<◌, ◌≡◌, ◌≤◌, ◌⊎◌, IfErr, IfOk, IsErrOf, IsOk, length, sum, ℕ};
+ghost use Rattle.std.specs.Prelude.{Err, ◌+◌, ◌*◌, ◌<◌, ◌≡◌, ◌≤◌, ◌⊎◌, [], IfErr, IfOk, IsErrOf, IsOk, length, sum, ℕ};
 
+use crate::demands::{Demands, limits_under, vet_with};
 use crate::exclusiveness::exclusive::Exclusive;
 use crate::exclusiveness::marks::{Marks, fill_starts, numbers_for};
-use crate::exclusiveness::uses::near_use;
+use crate::exclusiveness::overlap_turn::{Overlap, OverlapSearch};
 use crate::limits::Limits;
-use crate::nodes::place::Place;
 use crate::nodes::vetted::Vetted;
 use crate::report::Report;
-use crate::walk::turn::{Stopped, Turn};
-use crate::walk::vetting::vet;
+use crate::strictness::path_strictness::strict_fault;
+use crate::strictness::strict_turn::{LaxPointer, LaxSearch};
+use crate::walk::turn::Stopped;
 use crate::walk::walking::walk;
 use arrayvec::ArrayVec;
 use cap_frame::Segments;
-use cap_spec::Refusal;
+use cap_spec::{Refusal, StrictRefusal};
 use std::alloc::Global;
 
 /// Why a message isn't exclusive.
 #[derive(Clone, Copy, Debug, PartialEq, Eq, Drop)]
 pub enum ExclusiveRefusal {
-    /// It isn't accepted at all.
-    Refused(Refusal),
+    /// It isn't accepted at all, or doesn't meet the demands.
+    Refused(StrictRefusal),
     /// A pointer uses a word twice, the root word, or a word that an earlier pointer uses.
     Overlap {
         /// The segment of the first such pointer in preorder.
@@ -48,63 +52,116 @@ pub enum ExclusiveRefusal {
     Memory,
 }
 
-/// Vets a message, and accepts it if also no word is used twice: by two pointers that paths reach,
-/// by one pointer, or by the root (profile). A pointer uses its landing pads, also if it is null or
-/// a capability. It uses the words of its object, the tag among them. An object without words uses
-/// none, wherever it starts.
+/// Vets a message under demands, and accepts it if also no word is used twice: by two pointers that
+/// paths reach, by one pointer, or by the root (profile). A pointer uses its landing pads, also if it
+/// is null or a capability. It uses the words of its object, the tag among them. An object without
+/// words uses none, wherever it starts.
 ///
-/// Allocates once, after `vet` has accepted the message: one bit for each word of the message, and
-/// at most 64 bits more.
+/// Walks once. Allocates once: one bit for each word of the message, and at most 64 bits more. Where
+/// that fails, the message is vetted all the same.
 ///
 /// # Errors
 ///
-/// - [`ExclusiveRefusal::Refused`]: `vet` refuses the message.
-/// - [`ExclusiveRefusal::Memory`]: the message is accepted, and the allocation failed.
-/// - [`ExclusiveRefusal::Overlap`]: a second walk found a pointer that overlaps. It is the first in
-///   preorder that uses a word which is used already.
+/// - [`ExclusiveRefusal::Refused`]: [`crate::vet_with`] refuses the message.
+/// - [`ExclusiveRefusal::Memory`]: the message meets the demands, and the allocation failed.
+/// - [`ExclusiveRefusal::Overlap`]: the message meets the demands, and a pointer overlaps. It is the
+///   first in preorder that uses a word which is used already.
 pub fn vet_exclusive<'m, M: Segments>(
     alloc: Global,
     message: &'m M,
     limits: Limits,
+    demands: Demands,
 ) -> Result<Exclusive<'m, M>, ExclusiveRefusal>
     ensures ok { let m = M.segments message.now in IfOk result (λ e.
-        IsAccepted m (words_of limits) (depth_of limits) (report_of (vetted_of e)) × IsDisjoint m) }
+        IsMet demands m (words_of limits) (depth_of limits) (report_of (vetted_of e))
+        × IsDisjoint m) }
     ensures message { IfOk result (λ e. message_of (vetted_of e) ≡ message.now) }
 
     // Without that of elements which take no bits or no words, the charge is less than the words of
     // all segments.
     ensures bound { let m = M.segments message.now in
-        IfOk result (λ e. let r = report_of (vetted_of e) in
-        (t : Tree) × IsReport m (words_of limits) (depth_of limits) r t
+        IfOk result (λ e. let r = report_of (vetted_of e) in (t : Tree)
+        × IsReport m (words_under demands m (words_of limits)) (depth_of limits) r t
         × (r.charge < sum (sizes_of m) + empty_count t)) }
 
-    ensures refused { let m = M.segments message.now in (r : Refusal) →
-        IsErrOf result (ExclusiveRefusal.Refused r) →
-        IsRefused m (words_of limits) (depth_of limits) r }
-    ensures overlap { (s w n : ℕ) → IsErrOf result (ExclusiveRefusal.Overlap s w n) →
-        IsFirstOverlap (M.segments message.now) s w n }
-
-    // Only of a message that is accepted.
-    ensures overlap_accepted { let m = M.segments message.now in (s w n : ℕ) →
-        IsErrOf result (ExclusiveRefusal.Overlap s w n) →
-        (report : Report) × IsAccepted m (words_of limits) (depth_of limits) report }
-    ensures memory { let m = M.segments message.now in IsErrOf result ExclusiveRefusal.Memory →
-        (report : Report) × IsAccepted m (words_of limits) (depth_of limits) report }
+    ensures err { let m = M.segments message.now in
+        IfErr result (IsExclusiveRefusal demands m (words_of limits) (depth_of limits)) }
 
     // The other direction, unless the allocation fails.
-    ensures refuses { let m = M.segments message.now in (r : Refusal) →
-        IsRefused m (words_of limits) (depth_of limits) r →
+    ensures refuses { let m = M.segments message.now in (r : StrictRefusal) →
+        IsDemandFault demands m (words_of limits) (depth_of limits) r →
         result ≡ Err (ExclusiveRefusal.Refused r) }
     ensures accepts { let m = M.segments message.now in
-        IsWithin m (words_of limits) (depth_of limits) → IsDisjoint m →
+        Meets demands m (words_of limits) (depth_of limits) → IsDisjoint m →
         IsOk result ⊎ (result ≡ Err ExclusiveRefusal.Memory) }
     ensures names { let m = M.segments message.now in (s w n : ℕ) →
-        IsWithin m (words_of limits) (depth_of limits) → IsFirstOverlap m s w n →
+        Meets demands m (words_of limits) (depth_of limits) → IsFirstOverlap m s w n →
         (result ≡ Err (ExclusiveRefusal.Overlap s w n)) ⊎ (result ≡ Err ExclusiveRefusal.Memory) }
 {
-    match vet(message, limits) {
-        Ok(vetted) => vetted.into_exclusive(alloc),
+    // Without a root word there is nothing to mark.
+    if message.len(0) == 0 {
+        return Err(without_marks(message, limits, demands));
+    }
+    let Ok(mut bits) = Vec::from_elem(alloc, 0u64, numbers_for(message)) else {
+        return Err(without_marks(message, limits, demands));
+    };
+    match vet_marking(message, limits, demands, bits.as_mut_slice()) {
+        Ok((vetted, None)) => Ok(Exclusive { vetted }),
+        Ok((_, Some(overlap))) => Err(refusal_for(overlap)),
         Err(refusal) => Err(ExclusiveRefusal::Refused(refusal)),
+    }
+}
+
+// Why a message isn't exclusive if its words can't be marked.
+#[cold]
+#[inline(never)]
+fn without_marks<M: Segments>(message: &M, limits: Limits, demands: Demands) -> ExclusiveRefusal
+    ensures { let m = M.segments message.now in
+        IsExclusiveRefusal demands m (words_of limits) (depth_of limits) result }
+{
+    match vet_with(message, limits, demands) {
+        Ok(_) => ExclusiveRefusal::Memory,
+        Err(refusal) => ExclusiveRefusal::Refused(refusal),
+    }
+}
+
+// The refusal for a pointer that overlaps.
+fn refusal_for(overlap: Overlap) -> ExclusiveRefusal
+    ensures { result ≡ ExclusiveRefusal.Overlap overlap.segment overlap.word overlap.pointers }
+{
+    ExclusiveRefusal::Overlap {
+        segment: overlap.segment,
+        word: overlap.word,
+        pointers: overlap.pointers,
+    }
+}
+
+// Vets a message under demands, and looks for the first pointer that overlaps.
+fn vet_marking<'m, M: Segments>(
+    message: &'m M,
+    limits: Limits,
+    demands: Demands,
+    bits: &mut [u64],
+) -> Result<(Vetted<'m, M>, Option<Overlap>), StrictRefusal>
+    requires enough { let m = M.segments message.now in
+        start_of m (length m) ≤ 64 * length bits.old }
+    requires none { (s w : ℕ) → ¬ IsTaken (M.segments message.now) bits.old s w }
+    requires root { 0 < length (segment_of (M.segments message.now) 0) }
+    ensures ok { let m = M.segments message.now in IfOk result (λ r.
+        IsMet demands m (words_of limits) (depth_of limits) (report_of r.0) × EndsMarking m r.1) }
+    ensures message { IfOk result (λ r. message_of r.0 ≡ message.now) }
+    ensures err { let m = M.segments message.now in
+        IfErr result (IsDemandFault demands m (words_of limits) (depth_of limits)) }
+{
+    let limits = limits_under(message, limits, demands);
+    let mut report = Report::default();
+    let firsts = match mark_message(message, &limits, bits, &mut report) {
+        Ok(firsts) => firsts,
+        Err(refusal) => return Err(StrictRefusal::Refused(refusal)),
+    };
+    match strict_fault(message, demands, firsts.lax) {
+        None => Ok((Vetted { message, report }, firsts.overlap)),
+        Some(fault) => Err(fault),
     }
 }
 
@@ -125,7 +182,7 @@ impl<'m, M: Segments> Vetted<'m, M> {
         ensures value { IfOk result (λ e. vetted_of e ≡ self.entry) }
         ensures overlap { (s w n : ℕ) → IsErrOf result (ExclusiveRefusal.Overlap s w n) →
             IsFirstOverlap (M.segments (message_of self.entry)) s w n }
-        ensures not_refused { (r : Refusal) → ¬ IsErrOf result (ExclusiveRefusal.Refused r) }
+        ensures not_refused { (r : StrictRefusal) → ¬ IsErrOf result (ExclusiveRefusal.Refused r) }
 
         // The other direction, unless the allocation fails.
         ensures accepts { IsDisjoint (M.segments (message_of self.entry)) →
@@ -137,124 +194,113 @@ impl<'m, M: Segments> Vetted<'m, M> {
         let Ok(mut marks) = Vec::from_elem(alloc, 0u64, numbers_for(self.message)) else {
             return Err(ExclusiveRefusal::Memory);
         };
-        match mark_message(self.message, &Limits::greatest(), marks.as_mut_slice()) {
-            Ok(()) => Ok(Exclusive { vetted: self }),
-            Err(overlap) => Err(ExclusiveRefusal::Overlap {
-                segment: overlap.segment,
-                word: overlap.word,
-                pointers: overlap.pointers,
-            }),
+        match first_overlap(self.message, marks.as_mut_slice()) {
+            None => Ok(Exclusive { vetted: self }),
+            Some(overlap) => Err(refusal_for(overlap)),
         }
     }
 }
 
-/// The first pointer in preorder that uses a word which is used already.
-#[derive(Drop)]
-pub(crate) struct Overlap {
-    pub(crate) segment: u32,
-    pub(crate) word: u32,
-    /// How many pointer words were looked at, that one included.
-    pub(crate) pointers: u64,
-}
-
-/// Walks a message that is accepted once more. A table of where the bits of its segments start is made
-/// ready for each message of several alone.
-pub(crate) fn mark_message<M: Segments>(
-    message: &M,
-    limits: &Limits,
-    bits: &mut [u64],
-) -> Result<(), Overlap>
+/// The first pointer that overlaps in an accepted message. Walks the message once more.
+pub(crate) fn first_overlap<M: Segments>(message: &M, bits: &mut [u64]) -> Option<Overlap>
     requires enough { let m = M.segments message.now in
         start_of m (length m) ≤ 64 * length bits.old }
     requires none { (s w : ℕ) → ¬ IsTaken (M.segments message.now) bits.old s w }
-    requires accepted { let m = M.segments message.now in
-        (report : Report) × IsAccepted m (words_of limits.now) (depth_of limits.now) report }
-    ensures ok { IfOk result (λ _. IsDisjoint (M.segments message.now)) }
-    ensures err { IfErr result (OverlapsFirst (M.segments message.now)) }
+    requires accepted { (report : Report)
+        × IsAccepted (M.segments message.now) most_words most_depth report }
+    ensures { EndsMarking (M.segments message.now) result }
+{
+    let mut report = Report::default();
+    match mark_message(message, &Limits::greatest(), bits, &mut report) {
+        Ok(firsts) => firsts.overlap,
+        // The message is accepted.
+        Err(_) => unreachable!(),
+    }
+}
+
+/// The pointers that a walk has found, each the first of its kind in preorder.
+#[derive(Clone, Copy, Drop)]
+struct Firsts {
+    overlap: Option<Overlap>,
+    lax: Option<LaxPointer>,
+}
+
+// Walks a message, and marks what each pointer uses. A table of where the bits of its segments start is
+// made ready for each message of several alone.
+fn mark_message<M: Segments>(
+    message: &M,
+    limits: &Limits,
+    bits: &mut [u64],
+    report: &mut Report,
+) -> Result<Firsts, Refusal>
+    requires enough { let m = M.segments message.now in
+        start_of m (length m) ≤ 64 * length bits.old }
+    requires none { (s w : ℕ) → ¬ IsTaken (M.segments message.now) bits.old s w }
+    requires root { 0 < length (segment_of (M.segments message.now) 0) }
+    ensures ok { let m = M.segments message.now in IfOk result (λ firsts.
+        IsWalking m limits.now [] report.new (KnowsFirsts m firsts)) }
+    ensures err { let m = M.segments message.now in
+        IfErr result (IsRefused m (words_of limits.now) (depth_of limits.now)) }
 {
     if message.count() == 1 {
-        return mark_all(message, limits, &[0], bits);
+        return mark_all(message, limits, &[0], bits, report);
     }
-    mark_segments(message, limits, bits)
+    mark_segments(message, limits, bits, report)
 }
 
 // The same of a message of several segments.
 #[cold]
 #[inline(never)]
-fn mark_segments<M: Segments>(message: &M, limits: &Limits, bits: &mut [u64]) -> Result<(), Overlap>
+fn mark_segments<M: Segments>(
+    message: &M,
+    limits: &Limits,
+    bits: &mut [u64],
+    report: &mut Report,
+) -> Result<Firsts, Refusal>
     requires enough { let m = M.segments message.now in
         start_of m (length m) ≤ 64 * length bits.old }
     requires none { (s w : ℕ) → ¬ IsTaken (M.segments message.now) bits.old s w }
-    requires accepted { let m = M.segments message.now in
-        (report : Report) × IsAccepted m (words_of limits.now) (depth_of limits.now) report }
-    ensures ok { IfOk result (λ _. IsDisjoint (M.segments message.now)) }
-    ensures err { IfErr result (OverlapsFirst (M.segments message.now)) }
+    requires root { 0 < length (segment_of (M.segments message.now) 0) }
+    ensures ok { let m = M.segments message.now in IfOk result (λ firsts.
+        IsWalking m limits.now [] report.new (KnowsFirsts m firsts)) }
+    ensures err { let m = M.segments message.now in
+        IfErr result (IsRefused m (words_of limits.now) (depth_of limits.now)) }
 {
     let mut starts = ArrayVec::new();
     fill_starts(message, &mut starts);
-    mark_all(message, limits, starts.as_slice(), bits)
+    mark_all(message, limits, starts.as_slice(), bits, report)
 }
 
-// Marks what each pointer uses, from the root on.
+// The same with a table of where the bits of each segment start.
 fn mark_all<M: Segments>(
     message: &M,
     limits: &Limits,
     starts: &[u64],
     bits: &mut [u64],
-) -> Result<(), Overlap>
+    report: &mut Report,
+) -> Result<Firsts, Refusal>
     requires room { HasRoom (M.segments message.now) starts.now bits.old }
     requires none { (s w : ℕ) → ¬ IsTaken (M.segments message.now) bits.old s w }
-    requires accepted { let m = M.segments message.now in
-        (report : Report) × IsAccepted m (words_of limits.now) (depth_of limits.now) report }
-    ensures ok { IfOk result (λ _. IsDisjoint (M.segments message.now)) }
-    ensures err { IfErr result (OverlapsFirst (M.segments message.now)) }
+    requires root { 0 < length (segment_of (M.segments message.now) 0) }
+    ensures ok { let m = M.segments message.now in IfOk result (λ firsts.
+        IsWalking m limits.now [] report.new (KnowsFirsts m firsts)) }
+    ensures err { let m = M.segments message.now in
+        IfErr result (IsRefused m (words_of limits.now) (depth_of limits.now)) }
 {
-    let mut marks = Marks { starts, bits };
-    if !marks.mark_words(0, 0, 1) {
+    let mut search = OverlapSearch {
+        marks: Marks { starts, bits },
+        first: None,
+        strictness: LaxSearch { first: None },
+    };
+    if !search.marks.mark_words(0, 0, 1) {
         unreachable!();
     }
-    let mut report = Report::default();
-    match walk(message, limits, &mut marks, &mut report) {
-        Ok(()) => Ok(()),
-        Err(Stopped::ByTurn(overlap)) => Err(overlap),
-        // The message is accepted.
-        Err(Stopped::Refused(_)) => unreachable!(),
+    match walk(message, limits, &mut search, report) {
+        Ok(()) => Ok(Firsts {
+            overlap: search.first,
+            lax: search.strictness.first,
+        }),
+        Err(Stopped::Refused(refusal)) => Err(refusal),
+        Err(Stopped::ByTurn(never)) => match never {},
     }
-}
-
-impl Turn for Marks<'_> {
-    type Stop = Overlap;
-
-    ghost knows = { λ marks m seen. HasMarked m seen marks.starts.now marks.bits.now };
-
-    ghost stops = { OverlapsFirst };
-
-    #[inline(always)]
-    fn before<M: Segments>(&self, message: &M, s: u32, w: u32) -> Option<Place> {
-        near_use(message, s, w)
-    }
-
-    #[inline(always)]
-    fn after<M: Segments>(
-        &mut self,
-        message: &M,
-        s: u32,
-        w: u32,
-        used: Option<Place>,
-        _may_be_lax: bool,
-        pointers: u64,
-        _cost: u64,
-    ) -> Result<(), Overlap> {
-        if self.mark_pointer(message, s, w, used) {
-            return Ok(());
-        }
-        Err(Overlap {
-            segment: s,
-            word: w,
-            pointers,
-        })
-    }
-
-    ghost passes = { λ marks m seen p level s w reached null known.
-        null_marked m seen p level s w marks.starts.now marks.bits.now reached null known };
 }

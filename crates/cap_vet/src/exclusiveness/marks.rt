@@ -5,9 +5,9 @@ ghost use Rattle.cap_spec.specs.Following.{Lead, Leads};
 ghost use Rattle.cap_spec.specs.Messages.{HasWord};
 ghost use Rattle.cap_spec.specs.Occupying.{pads_of};
 ghost use Rattle.cap_vet.specs.Marks.{UsesPlace};
-ghost use Rattle.cap_vet.specs.MarkSteps.{HasBits, MarksPlaces, MarksUse};
-ghost use Rattle.cap_vet.specs.Taken.{AreStarts, bit_in, marks_of, start_of};
-ghost use Rattle.std.specs.Prelude.{◌+◌, ◌-◌, ◌*◌, ◌/◌, ◌<◌, ◌^◌, ◌≡◌, ◌≤◌, [], IfSome, IsFalse, IsTrue, List, length, ℕ};
+ghost use Rattle.cap_vet.specs.MarkSteps.{HasBits, MarksPlaces, MarksUse, SetsBits};
+ghost use Rattle.cap_vet.specs.Taken.{AreStarts, marks_of, start_of};
+ghost use Rattle.std.specs.Prelude.{◌+◌, ◌-◌, ◌*◌, ◌/◌, ◌<◌, ◌^◌, ◌≡◌, ◌≤◌, [], IfSome, List, length, ℕ};
 
 use crate::exclusiveness::uses::structs_use;
 use crate::lengths::message_words;
@@ -138,18 +138,33 @@ impl Marks<'_> {
 }
 
 // Sets `count` bits from bit `from` on, or answers `false` where one of them was set before.
+// Most objects have their bits in one number.
 #[inline(always)]
 fn set_bits(words: &mut [u64], from: u64, count: u64) -> bool
     requires inside { from + count ≤ 64 * length words.old }
     requires small { from + count < 2 ^ 63 }
-    ensures length { length words.new ≡ length words.old }
-    ensures taken { IsTrue result → (i : ℕ) → from ≤ i → i < from + count → bit_in words.new i ≡ 1 }
-    ensures free { IsTrue result → (i : ℕ) → from ≤ i → i < from + count → bit_in words.old i ≡ 0 }
-    ensures below { IsTrue result → (i : ℕ) → i < from → bit_in words.new i ≡ bit_in words.old i }
-    ensures above { IsTrue result → (i : ℕ) → from + count ≤ i →
-        bit_in words.new i ≡ bit_in words.old i }
-    ensures conflict { IsFalse result →
-        (i : ℕ) × (from ≤ i) × (i < from + count) × (bit_in words.old i ≡ 1) }
+    ensures { SetsBits words.old words.new from count result }
+{
+    let low = from % 64;
+    let high = low + count;
+    if low >= high || high > 64 {
+        return set_more(words, from, count);
+    }
+    let ones = mask(low as u32, high as u32);
+    let k = (from / 64) as usize;
+    if words[k] & ones != 0 {
+        return false;
+    }
+    words[k] |= ones;
+    true
+}
+
+// The same of bits in several numbers, or of none.
+#[inline(never)]
+fn set_more(words: &mut [u64], from: u64, count: u64) -> bool
+    requires inside { from + count ≤ 64 * length words.old }
+    requires small { from + count < 2 ^ 63 }
+    ensures { SetsBits words.old words.new from count result }
 {
     let end = from + count;
     let mut at = from;

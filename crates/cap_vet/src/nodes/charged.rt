@@ -1,8 +1,7 @@
 //! Getters of messages that weren't vetted.
 
 ghost use Rattle.cap_spec.specs.Arriving.{PathFinds};
-ghost use Rattle.cap_spec.specs.Faults.{AreShallow};
-ghost use Rattle.cap_spec.specs.Getting.{AreOnPath, Charges, IsFaultOnPath, IsRefusedOnPath};
+ghost use Rattle.cap_spec.specs.Getting.{AreOnPath, AreShallow, Charges, IsFaultOnPath, IsRefusedOnPath};
 ghost use Rattle.cap_spec.specs.Paths.{StepsTo, Spot as Where, word};
 ghost use Rattle.cap_spec.specs.Verdicts.{CostOf};
 ghost use Rattle.cap_spec.specs.declared.Kind.{Kind};

@@ -20,7 +20,7 @@ pub struct Node<'m, M: Segments> {
     pub(crate) spot: Spot,
     ghost exists: { segment_at spot < length (M.segments message.now) },
     ghost inside: { end_at spot ≤ length (segment_of (M.segments message.now) (segment_at spot)) },
-    ghost stands: { ∥ IsNode (M.segments message.now) (spot_of spot) ∥₁ },
+    ghost node: { ∥ IsNode (M.segments message.now) (spot_of spot) ∥₁ },
 }
 
 impl<'m, M: Segments> Clone for Node<'m, M> {
@@ -67,7 +67,7 @@ impl<'m, M: Segments> Node<'m, M> {
     #[inline(always)]
     pub fn view(&self) -> View<'m, M>
         ensures message { view_message result ≡ node_message self.now }
-        ensures stands { let m = M.segments (node_message self.now) in
+        ensures object { let m = M.segments (node_message self.now) in
             let spot = node_spot self.now in let place = kept_place result in
             HasObject m spot (view_kind result) place.segment place.start place.words }
 

@@ -173,7 +173,7 @@ pub(crate) fn described_within<M: Segments>(
     requires exists { segment < length (M.segments message.now) }
     requires inside { at < length (segment_of (M.segments message.now) segment) }
     requires pads { pads ≤ 2 }
-    requires stands { (s w : ℕ) × MayStandFor (M.segments message.now) s w pads segment at }
+    requires pointer { (s w : ℕ) × MayStandFor (M.segments message.now) s w pads segment at }
     requires spent { spent ≤ words_of limits.now }
     requires level { level ≤ depth_of limits.now + 1 }
     ensures looked { let m = M.segments message.now in (s w : ℕ) → MayStandFor m s w pads segment at →

@@ -33,7 +33,7 @@ list_needs_all-requires g c =
     (sym c.words_of_elements.ensures ∙ c.if-words_of_elements-from.false ∙ c.from.ensures ∙ c.list_size-size.ensures) in
     let at : AreElementsAt m 0 (a.end + 1) n d p = record {
       exists = HasWord-segment m 0 a.w a.word leads.has;
-      few = leads.stands.few;
+      few = leads.placed.few;
       inside = omega (arith, there.3, fits);
       sizes = (omega (arith, c.from-data_words.ensures), omega (arith, c.from-pointers.ensures));
     } in

@@ -16,7 +16,7 @@ returns-then-input_is_packed-clause-packed g c = λ _.
         place = new.place;
         spent = new.spent;
         failures = new.failures;
-        stands_on = unpacker_input;
+        reads_from = unpacker_input;
         shows_failures = new.shows_failures;
       };
       does = c.run_over.ensures;
@@ -34,7 +34,7 @@ returns-else-input_is_packed-clause-plain g c = λ _.
         place = new.place;
         spent = new.spent;
         failures = new.failures;
-        stands_on = input_of;
+        reads_from = input_of;
         shows_failures = new.shows_failures;
       };
       does = c.run_over-else-input_is_packed.ensures;

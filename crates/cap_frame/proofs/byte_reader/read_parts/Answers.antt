@@ -1,9 +1,10 @@
 -- The table and the words of the buffer behind it frame the message.
-use Rattle.std.proofs.Common.{Err, Ok, arith, false, length, refl, subst, sum, sym, take, ◌*◌, ◌∙◌, ◌≡◌, ◌≤◌}
+use Rattle.std.proofs.Common.{Err, IfSome, Ok, arith, false, length, refl, subst, sum, sym, take, ◌*◌, ◌∙◌, ◌≡◌, ◌≤◌}
 use Rattle.cap_spec.specs.Plain.{plain_words}
-use Rattle.cap_frame.specs.Prelude.{cut, Stops, Takes}
+use Rattle.cap_frame.specs.Prelude.{cut, FrameFault, LeavesSizes, Stops, Takes}
 use Rattle.cap_frame.proofs.InOneBuffer.{held_joined, held_sizes}
 use Rattle.cap_frame.proofs.Reading.{frame_stopped, frame_taken, no_frame, no_memory}
+use Rattle.cap_frame.proofs.TablesLeft.{left_contents}
 use Rattle.cap_frame.proofs.byte_reader.read_parts.Goals as goal
 
 pub returns-in-Ok-false-clause-read : goal.returns-in-Ok-false-clause-read
@@ -41,3 +42,10 @@ returns-in-Err-read_bytes-clause-read g c =
     let stops = subst (λ n. Stops g.S.WordSource n c.next_table.new.source c.read_bytes.new.source fault) many c.in-Err-read_bytes.ensures.err in
     frame_stopped g.S.WordSource sizes fault c.frame_fault.result c.frame_fault.ensures (rw c.in-Ok-true.field-0-test at e.next) (e.table (cc))
     (e.within (cc)) stops c.read_bytes.ensures.reads
+
+pub returns-in-Err-read_bytes-clause-left : goal.returns-in-Err-read_bytes-clause-left
+returns-in-Err-read_bytes-clause-left g c =
+    subst (λ (fault : FrameFault). IfSome (g.S.WordSource.words c.args.source.now) (λ ws. LeavesSizes fault ws c.next_table.new.sizes.items))
+    (sym c.frame_fault.ensures)
+    (left_contents g.S.WordSource c.args.source.now c.next_table.new.source c.next_table.new.sizes.items c.in-Err-read_bytes.fault
+    (c.in-Ok-true.ensures.table (cc)))

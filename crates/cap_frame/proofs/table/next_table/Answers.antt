@@ -1,8 +1,9 @@
 -- What is said after the first word, seen from before it.
-use Rattle.cap_spec.proofs.Prelude.{Err, Ok, arith, refl, subst, sym, true, ◌∙◌, common_steps}
-use Rattle.cap_frame.specs.Prelude.{limit_of, Faults}
+use Rattle.cap_spec.proofs.Prelude.{Err, IfSome, List, Ok, [], arith, refl, subst, sym, true, ℕ, ◌∙◌, common_steps}
+use Rattle.cap_frame.specs.Prelude.{limit_of, Faults, FrameFault, LeavesSizes}
 use Rattle.cap_frame.proofs.Behind.{behind_first, table_whole}
 use Rattle.cap_frame.proofs.Reading.{gave, next_first}
+use Rattle.cap_frame.proofs.TablesLeft.{left_inside, left_none, left_table}
 use Rattle.cap_frame.proofs.Taking.{reads_none, reads_one, usable_both}
 use Rattle.cap_frame.proofs.table.next_table.Goals as goal
 
@@ -87,3 +88,35 @@ returns-clause-table g c = λ _.
     let first = c.in-Ok-Some.first in
     let f = gave g.S.WordSource old mid first c.next.result (cc) e.words e.word e.stays e.for_good e.reads e.ok in
     table_whole g.S.WordSource first old mid c.read_sizes.new.source c.read_sizes.new.sizes.items f.takes c.in_default.ensures.ok
+
+pub returns-in-Err-clause-left : goal.returns-in-Err-clause-left
+returns-in-Err-clause-left g c =
+    let s = g.S.WordSource in
+    let old = c.args.source.now in
+    let none = left_none (s.words old) (s.is_cut old) (s.places old) (s.place c.next.new.self) c.in-Err.fault
+    (λ byte e. c.in-Err.ensures.truncated byte (cc)) in
+    let same = subst (λ (fault : FrameFault). IfSome (s.words old) (λ ws. LeavesSizes fault ws [])) (sym c.frame_fault.ensures) none in
+    subst (λ (sizes : List ℕ). IfSome (s.words old) (λ ws. LeavesSizes c.frame_fault.result ws sizes)) (sym c.requires.empty) same
+
+pub returns-in-Err-read_sizes-clause-left : goal.returns-in-Err-read_sizes-clause-left
+returns-in-Err-read_sizes-clause-left g c =
+    let s = g.S.WordSource in
+    let e = c.next.ensures in
+    let old = c.args.source.now in
+    let mid = c.next.new.self in
+    let first = c.in-Ok-Some.first in
+    let f = gave s old mid first c.next.result (cc) e.words e.word e.stays e.for_good e.reads e.ok in
+    let inside = left_inside s first old mid c.read_sizes.new.source _ f.takes c.in-Err-read_sizes.ensures.err in
+    let same = subst (λ (fault : FrameFault). IfSome (s.words old) (λ ws. LeavesSizes fault ws [])) (sym c.frame_fault-in-Err-read_sizes.ensures) inside in
+    subst (λ (sizes : List ℕ). IfSome (s.words old) (λ ws. LeavesSizes c.frame_fault-in-Err-read_sizes.result ws sizes)) (sym c.clear.ensures) same
+
+pub returns-then-words-clause-left : goal.returns-then-words-clause-left
+returns-then-words-clause-left g c =
+    let s = g.S.WordSource in
+    let e = c.next.ensures in
+    let old = c.args.source.now in
+    let mid = c.next.new.self in
+    let first = c.in-Ok-Some.first in
+    let f = gave s old mid first c.next.result (cc) e.words e.word e.stays e.for_good e.reads e.ok in
+    let new = c.read_sizes.new.source in
+    left_table s old new c.read_sizes.new.sizes.items (table_whole s first old mid new c.read_sizes.new.sizes.items f.takes c.in_default.ensures.ok)

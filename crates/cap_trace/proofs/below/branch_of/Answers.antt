@@ -20,13 +20,13 @@ returns-else-pointers-eq0-clause-words c = λ m s w q tag f base.
     let g = rw c.in-Struct.is at f in
     let some : 0 < c.in-Struct.pointers = omega (arith, c.if-pointers-eq0.false) in
     rw c.first.ensures
-    (struct_words m s w q tag _ c.args.level g (omega (arith, c.from.ensures)) some (omega arith) base)
+    (struct_words m s w q tag _ c.args.level g (omega (arith, c.from.ensures)) some c.from-in-Struct.ensures base)
 
 pub returns-else-count-eq0-clause-words : goal.returns-else-count-eq0-clause-words
 returns-else-count-eq0-clause-words c = λ m s w q tag f base.
     let g = rw c.in-Pointers.is at f in
     let some : 0 < c.in-Pointers.count = omega (arith, c.if-count-eq0.false) in
-    rw (c.of_elements.ensures, c.first-list.ensures) (pointers_words m s w q tag c.args.level g some (omega arith) base)
+    rw c.first-in-Pointers.ensures (pointers_words m s w q tag c.args.level g some base)
 
 pub returns-else-pointers-eq0-2-clause-words : goal.returns-else-pointers-eq0-2-clause-words
 returns-else-pointers-eq0-2-clause-words c = λ m s w q tag f base.
@@ -35,8 +35,8 @@ returns-else-pointers-eq0-2-clause-words c = λ m s w q tag f base.
     let each : 0 < c.in-Structs.count = omega (arith, c.if-count-eq0-2.false) in
     let at_start : c.args.target.now.start + 1 + c.from-in-Structs.result ≡ c.args.target.now.start + 1
     + c.in-Structs.data_words = omega (arith, c.from-in-Structs.ensures) in
-    rw (c.of_elements-in-Structs.ensures, c.first-structs.ensures)
-    (structs_words m s w q tag _ _ c.args.level g at_start some (omega arith) each (omega arith) base)
+    rw (c.of_elements.ensures, c.first-first.ensures)
+    (structs_words m s w q tag _ c.args.level g at_start some c.from-in-Structs-2.ensures c.from-in-Structs-3.ensures each base)
 
 pub returns-else-pointers-eq0-2-clause-branch : goal.returns-else-pointers-eq0-2-clause-branch
 returns-else-pointers-eq0-2-clause-branch c = λ m s w q tag depth n f high low.
@@ -46,7 +46,5 @@ returns-else-pointers-eq0-2-clause-branch c = λ m s w q tag depth n f high low.
     let at_start : c.args.target.now.start + 1 + c.from-in-Structs.result ≡ c.args.target.now.start + 1
     + c.in-Structs.data_words = omega (arith, c.from-in-Structs.ensures) in
     let short : c.in-Structs.pointers < 2 ^ 16 = search rules in
-    let small : c.in-Structs.count < 2 ^ 32 = search rules in
-    rw (c.of_elements-in-Structs.ensures, c.first-structs.ensures)
-    (structs_branch m s w q tag _ _ c.args.level depth n g at_start some (omega arith) each (omega arith)
-    short small high (rw c.in-Structs.is at low))
+    rw (c.of_elements.ensures, c.first-first.ensures)
+    (structs_branch m s w q tag _ c.args.level depth n g at_start some c.from-in-Structs-2.ensures c.from-in-Structs-3.ensures each short high (rw c.in-Structs.is at low))

@@ -30,7 +30,7 @@ look_row-requires g c =
           m,
           record {
             has = c.word-word.ensures;
-            stands = stands-near m last.segment last.at c.word-word.result c.word-word.ensures (λ e. omega (arith, row.plain.0, e));
+            resolves = stands-near m last.segment last.at c.word-word.result c.word-word.ensures (λ e. omega (arith, row.plain.0, e));
             few = omega arith;
           },
           row.row m last.segment c.word-word.ensures (sym c.len.ensures),
@@ -46,7 +46,7 @@ returns-in-Some g c =
     let row = c.in-Some.ensures in
     c.look_row.ensures m (record {
       has = c.word-word.ensures;
-      stands = stands-near m last.segment last.at c.word-word.result c.word-word.ensures (λ e. omega (arith, row.plain.0, e));
+      resolves = stands-near m last.segment last.at c.word-word.result c.word-word.ensures (λ e. omega (arith, row.plain.0, e));
       few = omega arith;
     }) (row.row m last.segment c.word-word.ensures (sym c.len.ensures))
 
@@ -60,7 +60,7 @@ look_other-requires g c =
           c.requires.come,
           record {
             has = c.word-word.ensures;
-            stands = stands-near _ last.segment last.at c.word-word.result c.word-word.ensures (λ e. omega (arith, c.kind.ensures, c.if-kind-ne2.true, e));
+            resolves = stands-near _ last.segment last.at c.word-word.result c.word-word.ensures (λ e. omega (arith, c.kind.ensures, c.if-kind-ne2.true, e));
             few = omega arith;
           },
         ),

@@ -10,7 +10,7 @@ look_target-requires g c =
     let b = (branches_without m c.args.depth 0 _ _ c.requires.come.1.branches).1 in (
       search rules,
       (
-        (m, g.met.M.Segments.is_message c.args.message.now, c.in-Some.ensures.found last.segment last.at c.requires.near.stands),
+        (m, g.met.M.Segments.is_message c.args.message.now, c.in-Some.ensures.found last.segment last.at c.requires.near.resolves),
         omega (arith, b.low, c.requires.shallow),
       ),
     )
@@ -18,7 +18,7 @@ look_target-requires g c =
 pub returns-in-Some : goal.returns-in-Some
 returns-in-Some g c =
     let m = g.M.Segments.segments c.args.message.now in
-    let last = c.args.last.now in c.look_target.ensures m (c.in-Some.ensures.found last.segment last.at c.requires.near.stands)
+    let last = c.args.last.now in c.look_target.ensures m (c.in-Some.ensures.found last.segment last.at c.requires.near.resolves)
 
 pub returns-then-middle-eq0 : goal.returns-then-middle-eq0
 returns-then-middle-eq0 g c =
@@ -27,5 +27,5 @@ returns-then-middle-eq0 g c =
       refl,
       refl,
       cap_below m c.args.depth c.args.near.now.pads (cap_index word) c.args.last.now
-          (c.requires.near.stands.leads (to_cap (cap_index word)) ((omega (arith, c.kind.ensures, c.if-kind-eq3.true), omega (arith, c.middle.ensures, c.if-middle-eq0.true)), refl)),
+          (c.requires.near.resolves.leads (to_cap (cap_index word)) ((omega (arith, c.kind.ensures, c.if-kind-eq3.true), omega (arith, c.middle.ensures, c.if-middle-eq0.true)), refl)),
     )

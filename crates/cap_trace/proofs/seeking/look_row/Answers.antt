@@ -14,16 +14,9 @@ returns-then-row-eq0 g c = λ m near f.
     let within : c.args.last.now.level ≤ c.args.depth = omega (arith, c.if-last-depth.false) in
     (refl, refl, row_none m c.args.depth c.args.last.now c.args.near.now c.args.row.now near f within c.if-row-eq0.true)
 
-pub returns-then-kind-eq0 : goal.returns-then-kind-eq0
-returns-then-kind-eq0 g c = λ m near f n h.
-    let within : c.args.last.now.level ≤ c.args.depth = omega (arith, c.if-last-depth.false) in
-    c.enter.ensures m c.args.depth n h
-    (row_some m c.args.depth c.args.last.now c.args.near.now c.args.row.now c.branch_of_struct-branch.result near f within
-    (c.branch_of_struct-branch.ensures.words m f) (λ i high. c.branch_of_struct-branch.ensures.branch m c.args.depth i f high within))
-
 pub returns : goal.returns
 returns g c = λ m near f n h.
     let within : c.args.last.now.level ≤ c.args.depth = omega (arith, c.if-last-depth.false) in
-    c.enter-2.ensures m c.args.depth n h
-    (row_some m c.args.depth c.args.last.now c.args.near.now c.args.row.now c.branch_of_list-branch.result near f within
-    (c.branch_of_list-branch.ensures.words m f) (λ i high. c.branch_of_list-branch.ensures.branch m c.args.depth i f high within))
+    c.enter.ensures m c.args.depth n h
+    (row_some m c.args.depth c.args.last.now c.args.near.now c.args.row.now c.branch_of_row-branch.result near f within
+    (c.branch_of_row-branch.ensures.words m f) (λ i high. c.branch_of_row-branch.ensures.branch m c.args.depth i f high within))

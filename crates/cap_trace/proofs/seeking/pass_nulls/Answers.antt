@@ -1,5 +1,8 @@
-use Rattle.std.proofs.Common.{arith}
+use Rattle.std.proofs.Common.{arith, ◌<◌}
+use Rattle.cap_spec.proofs.Frames.Messages.{short_segment}
+use Rattle.cap_trace.specs.Prelude.{skipped}
 use Rattle.cap_trace.proofs.Branches.{branches_without}
+use Rattle.cap_trace.proofs.Nulls.{came_in_row, null_below}
 use Rattle.cap_trace.proofs.seeking.pass_nulls.Goals as goal
 
 pub word-requires-clause-exists : goal.word-requires-clause-exists
@@ -10,3 +13,38 @@ pub word-requires-clause-inside : goal.word-requires-clause-inside
 word-requires-clause-inside g c =
     let (depth, n, others, h) = c.requires in
     let b = (branches_without _ depth 0 others _ h.branches).1 in omega (arith, b.inside)
+
+pub overflow_add-last : goal.overflow_add-last
+overflow_add-last g c =
+    let m = g.M.Segments.segments c.args.message.now in
+    let (depth, n, others, h) = c.requires in
+    let b = (branches_without m depth 0 others _ h.branches).1 in
+    omega (arith, b.inside, short_segment m c.args.last.now.segment (g.met.M.Segments.is_message c.args.message.now) b.exists, c.nulls-test.true, c.min-most.ensures, c.from.ensures)
+
+pub word-requires-in-nulls-clause-exists : goal.word-requires-in-nulls-clause-exists
+word-requires-in-nulls-clause-exists g c =
+    let (depth, n, others, h) = c.requires in (branches_without _ depth 0 others _ h.branches).1.exists
+
+pub word-requires-in-nulls-clause-inside : goal.word-requires-in-nulls-clause-inside
+word-requires-in-nulls-clause-inside g c =
+    let m = g.M.Segments.segments c.args.message.now in
+    let (depth, n, others, h) = c.requires in
+    let b = (branches_without m depth 0 others _ h.branches).1 in
+    omega (arith, b.inside, c.nulls-test.true, c.min-most.ensures, c.from.ensures)
+
+pub nulls-preserved : goal.nulls-preserved
+nulls-preserved g c = record {
+  few = omega arith;
+  passed = λ depth n others h.
+      let m = g.M.Segments.segments c.args.message.now in
+      let last = c.args.last.now in
+      let some : c.nulls.count < last.left = omega (arith, c.nulls-test.true, c.min-most.ensures, c.from.ensures) in
+      came_in_row m depth n c.nulls.count others last some
+      (null_below m depth (skipped last c.nulls.count) (rw c.if-word-eq0.true at c.word-in-nulls.ensures)) (c.nulls.invariant.passed depth n others h);
+}
+
+pub skip-requires-clause-branch : goal.skip-requires-clause-branch
+skip-requires-clause-branch g c =
+    let m = g.M.Segments.segments c.args.message.now in
+    let (depth, n, others, h) = c.requires in
+    (m, depth, _, g.met.M.Segments.is_message c.args.message.now, (branches_without m depth 0 others _ h.branches).1)

@@ -25,16 +25,22 @@ seek-requires g c =
     let some : 0 < length (segment_of m 0) = omega (arith, c.len.ensures, c.if-len-eq0.false) in
     (search rules, (c.requires, (omega (arith, c.if-number-eq0.false), rw (c.new-others.ensures, c.root-last.ensures) (at_root m c.args.depth exists some))))
 
+pub write_path-requires-clause-branches : goal.write_path-requires-clause-branches
+write_path-requires-clause-branches g c =
+    let m = g.M.Segments.segments c.args.message.now in
+    let k = subst (λ (u : Sought). IsSought m c.args.depth c.args.number 32 c.seek.new.others.items c.seek.new.last u) c.in-Found.is c.seek.ensures in
+    (m, c.args.depth, rw c.as_slice.ensures.value k.branches)
+
 pub returns-in-Found-clause-tells : goal.returns-in-Found-clause-tells
 returns-in-Found-clause-tells g c =
     let m = g.M.Segments.segments c.args.message.now in
-    let k = subst (λ (u : Sought). IsSought m c.args.depth c.args.number 8 c.seek.new.others.items c.seek.new.last u) c.in-Found.is c.seek.ensures in
+    let k = subst (λ (u : Sought). IsSought m c.args.depth c.args.number 32 c.seek.new.others.items c.seek.new.last u) c.in-Found.is c.seek.ensures in
     (found_told m c.args.depth c.args.number c.seek.new.others.items c.seek.new.last c.as_slice.result.now _ c.args.steps.now
     _ k c.as_slice.ensures.value c.write_path.ensures.count c.write_path.ensures.steps).0
 
 pub returns-in-Found-clause-few : goal.returns-in-Found-clause-few
 returns-in-Found-clause-few g c =
     let m = g.M.Segments.segments c.args.message.now in
-    let k = subst (λ (u : Sought). IsSought m c.args.depth c.args.number 8 c.seek.new.others.items c.seek.new.last u) c.in-Found.is c.seek.ensures in
+    let k = subst (λ (u : Sought). IsSought m c.args.depth c.args.number 32 c.seek.new.others.items c.seek.new.last u) c.in-Found.is c.seek.ensures in
     (found_told m c.args.depth c.args.number c.seek.new.others.items c.seek.new.last c.as_slice.result.now _ c.args.steps.now
     _ k c.as_slice.ensures.value c.write_path.ensures.count c.write_path.ensures.steps).1

@@ -1,8 +1,18 @@
 use Rattle.std.proofs.Common.{List, [], ap, arith, length, length-append, sym, take, take_all, ◌++◌, ◌∙◌, ◌≡◌}
 use Rattle.cap_trace.specs.Prelude.{Step, path_of, steps_of, filled, Branch}
-use Rattle.cap_trace.proofs.Branches.{path_from-last}
+use Rattle.cap_trace.proofs.Branches.{branch_at, branches_without, path_from-last}
 use Rattle.cap_trace.proofs.Filling.{written_more}
 use Rattle.cap_trace.proofs.tracing.write_path.Goals as goal
+
+pub write_steps-count-requires-clause-counted : goal.write_steps-count-requires-clause-counted
+write_steps-count-requires-clause-counted c =
+    let (m, depth, h) = c.requires.branches in
+    let b = (branches_without m depth 0 c.args.others.now c.args.last.now h).0 in
+    (branch_at m depth 0 c.args.others.now c.branches.branch-index _ b c.branches-test.true).counted
+
+pub write_steps-requires-clause-counted : goal.write_steps-requires-clause-counted
+write_steps-requires-clause-counted c =
+    let (m, depth, h) = c.requires.branches in (branches_without m depth 0 c.args.others.now c.args.last.now h).1.counted
 
 pub branches-preserved : goal.branches-preserved
 branches-preserved c =

@@ -1,6 +1,5 @@
 use Rattle.std.proofs.Common.{List, ap, arith, subst, ℕ, ◌∙◌}
 use Rattle.cap_frame.specs.Bytes.{cut}
-use Rattle.cap_vet.specs.Limits.{depth_of, words_of}
 use Rattle.cap_explain.specs.Explaining.{explanation}
 use Rattle.cap_calls.specs.PackCalls.{TellsText}
 use Rattle.cap_calls.proofs.calls.explain.put_lines.Goals as goal
@@ -10,7 +9,7 @@ returns-clause-tells c =
     let v = c.args.view.now in
     let m = cut v.sizes.now v.bytes.now in
     let lines = c.text.ensures.lines ∙ c.explain.ensures
-    ∙ ap (λ path. explanation path m c.args.refusal.now (words_of c.args.limits) (depth_of c.args.limits)) c.steps.ensures in
+    ∙ ap (λ path. explanation path m c.args.refusal.now c.args.numbers) c.steps.ensures in
     subst (λ (text : List ℕ). TellsText text c.args.out.now c.put_text.result.0 c.put_text.result.1 c.put_text.new.out) lines
     c.put_text.ensures.tells
 

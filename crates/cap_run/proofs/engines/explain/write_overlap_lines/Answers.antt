@@ -9,7 +9,7 @@ returns-in-Ok g c =
     let m = g.M.Segments.segments c.args.message.now in
     let line = vet_text c.args.number (refused (codes "Overlap") c.args.segment c.args.word c.args.pointers) in
     let lines = c.text.ensures.lines ∙ c.explain_overlap.ensures
-    ∙ ap (λ path. overlap_explanation path m c.args.segment c.args.word) c.steps.ensures in
+    ∙ ap (λ path. overlap_explanation path m c.args.start c.args.segment c.args.word) c.steps.ensures in
     subst (λ (lines : List ℕ). Writes g.O.ByteOut c.args.out.now c.write_more.new.out c.write_more.result (line ++ lines)) lines
     (c.write_more.ensures c.args.out.now line c.in-Ok.ensures)
 
@@ -17,5 +17,5 @@ pub returns-in-Err : goal.returns-in-Err
 returns-in-Err g c =
     let m = g.M.Segments.segments c.args.message.now in
     let line = vet_text c.args.number (refused (codes "Overlap") c.args.segment c.args.word c.args.pointers) in
-    let lines = overlap_explanation c.args.path.now m c.args.segment c.args.word in
+    let lines = overlap_explanation c.args.path.now m c.args.start c.args.segment c.args.word in
     stopped_more g.O.ByteOut c.args.out.now c.write_overlap.new.out c.in-Err.fault line lines c.in-Err.ensures

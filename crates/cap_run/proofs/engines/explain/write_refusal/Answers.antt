@@ -1,5 +1,4 @@
 use Rattle.cap_spec.proofs.Prelude.{List, ap, subst, ℕ, ◌++◌, ◌∙◌, strict_verdict, vet_text}
-use Rattle.cap_vet.specs.Limits.{depth_of, words_of}
 use Rattle.cap_explain.specs.Explaining.{explanation}
 use Rattle.cap_text.specs.Writing.{Writes}
 use Rattle.cap_text.proofs.Writing.{stopped_more}
@@ -10,7 +9,7 @@ returns-in-Ok g c =
     let m = g.M.Segments.segments c.args.message.now in
     let line = vet_text c.args.number (strict_verdict c.args.refusal.now) in
     let lines = c.text.ensures.lines ∙ c.explain.ensures
-    ∙ ap (λ path. explanation path m c.args.refusal.now (words_of c.args.limits) (depth_of c.args.limits)) c.steps.ensures in
+    ∙ ap (λ path. explanation path m c.args.refusal.now c.args.numbers) c.steps.ensures in
     subst (λ (lines : List ℕ). Writes g.O.ByteOut c.args.out.now c.write_more.new.out c.write_more.result (line ++ lines)) lines
     (c.write_more.ensures c.args.out.now line c.in-Ok.ensures)
 
@@ -18,5 +17,5 @@ pub returns-in-Err : goal.returns-in-Err
 returns-in-Err g c =
     let m = g.M.Segments.segments c.args.message.now in
     let line = vet_text c.args.number (strict_verdict c.args.refusal.now) in
-    let lines = explanation c.args.path.now m c.args.refusal.now (words_of c.args.limits) (depth_of c.args.limits) in
+    let lines = explanation c.args.path.now m c.args.refusal.now c.args.numbers in
     stopped_more g.O.ByteOut c.args.out.now c.write_refused.new.out c.in-Err.fault line lines c.in-Err.ensures

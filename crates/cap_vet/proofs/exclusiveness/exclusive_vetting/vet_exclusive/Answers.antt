@@ -1,54 +1,63 @@
-use Rattle.cap_spec.proofs.Lemmas.{one_refusal, within_not_refused}
-use Rattle.cap_spec.proofs.Prelude.{Err, ap, subst, sym, ◌≡◌, IsRefused, IsFirstOverlap}
-use Rattle.cap_vet.specs.Prelude.{Refusal, depth_of, words_of}
+use Rattle.cap_spec.proofs.Disjoint.Overlaps.{none_of_disjoint, one_overlap}
+use Rattle.cap_spec.proofs.Prelude.{Err, ap, inl, inr}
+use Rattle.cap_vet.specs.Prelude.{depth_of, report_of, words_of}
 use Rattle.cap_vet.specs.declared.exclusiveness.exclusive_vetting.ExclusiveRefusal.TheVariants.{Refused}
-use Rattle.cap_vet.proofs.OneReport.{not_both}
-use Rattle.cap_vet.proofs.Splitting.{exclusive_bound, exclusive_ok}
+use Rattle.cap_vet.proofs.Demanding.{no_fault_under, one_fault_under}
+use Rattle.cap_vet.proofs.ExclusiveFaults.{only_memory, only_overlap, only_refused}
+use Rattle.cap_vet.proofs.MarkingWalk.{disjoint_bound}
 use Rattle.cap_vet.proofs.exclusiveness.exclusive_vetting.vet_exclusive.Goals as goal
 
-pub returns-in-Ok-clause-ok : goal.returns-in-Ok-clause-ok
-returns-in-Ok-clause-ok g c =
-    exclusive_ok c.args.message.now (words_of c.args.limits) (depth_of c.args.limits) c.in-Ok.vetted
-    c.in-Ok.ensures.message c.in-Ok.ensures.ok
-    c.into_exclusive.result c.into_exclusive.ensures.value c.into_exclusive.ensures.ok
+pub returns-in_default-clause-refuses : goal.returns-in_default-clause-refuses
+returns-in_default-clause-refuses g c = λ r h. ap Err
+    (only_refused c.args.demands _ (words_of c.args.limits) (depth_of c.args.limits) c.without_marks-in_default.result r
+    c.without_marks-in_default.ensures h)
 
-pub returns-in-Ok-clause-bound : goal.returns-in-Ok-clause-bound
-returns-in-Ok-clause-bound g c =
-    exclusive_bound c.args.message.now (words_of c.args.limits) (depth_of c.args.limits) c.in-Ok.vetted
-    c.in-Ok.ensures.message c.in-Ok.ensures.ok
-    c.into_exclusive.result c.into_exclusive.ensures.value c.into_exclusive.ensures.ok
+pub returns-in_default-clause-accepts : goal.returns-in_default-clause-accepts
+returns-in_default-clause-accepts g c = λ met disjoint. inr (ap Err
+    (only_memory c.args.demands _ (words_of c.args.limits) (depth_of c.args.limits) c.without_marks-in_default.result
+    c.without_marks-in_default.ensures met disjoint))
 
-pub returns-in-Ok-clause-names : goal.returns-in-Ok-clause-names
-returns-in-Ok-clause-names g c = λ s w n within first.
-    c.into_exclusive.ensures.names s w n
-    (subst (λ u. IsFirstOverlap (g.M.Segments.segments u) s w n) (sym c.in-Ok.ensures.message) first)
+pub returns-in_default-clause-names : goal.returns-in_default-clause-names
+returns-in_default-clause-names g c = λ s w n met first. elim
+    (only_overlap c.args.demands _ (words_of c.args.limits) (depth_of c.args.limits) c.without_marks-in_default.result s w n
+    c.without_marks-in_default.ensures met first) [ inl e ↦ inl (ap Err e) | inr e ↦ inr (ap Err e) ]
 
-pub returns-in-Ok-clause-refused : goal.returns-in-Ok-clause-refused
-returns-in-Ok-clause-refused g c = λ r e. absurd (c.into_exclusive.ensures.not_refused r e)
+pub returns-in-Ok-default-None-clause-bound : goal.returns-in-Ok-default-None-clause-bound
+returns-in-Ok-default-None-clause-bound g c =
+    let ok = rw c.in-Ok-default-None.field-0-1-is at c.in-Ok-default-None.ensures.ok in
+    disjoint_bound _ _ _ (report_of c.in-Ok-default-None.vetted) ok.0.0 ok.1
 
-pub returns-in-Ok-clause-refuses : goal.returns-in-Ok-clause-refuses
-returns-in-Ok-clause-refuses g c = λ r h. absurd (not_both _ _ _ c.in-Ok.vetted.report r c.in-Ok.ensures.ok h)
+pub returns-in-Ok-default-None-clause-refuses : goal.returns-in-Ok-default-None-clause-refuses
+returns-in-Ok-default-None-clause-refuses g c = λ r h. absurd
+    (no_fault_under c.args.demands _ (words_of c.args.limits) (depth_of c.args.limits) r c.in-Ok-default-None.ensures.ok.0.1 h)
 
-pub returns-in-Err-clause-refuses : goal.returns-in-Err-clause-refuses
-returns-in-Err-clause-refuses g c =
-    λ r h. ap (λ u. Err (Refused u)) (one_refusal (g.M.Segments.segments c.args.message.now) (words_of c.args.limits)
-    (depth_of c.args.limits) c.in-Err.refusal r c.in-Err.ensures.err h)
+pub returns-in-Ok-default-None-clause-names : goal.returns-in-Ok-default-None-clause-names
+returns-in-Ok-default-None-clause-names g c = λ s w n met first.
+    let ok = rw c.in-Ok-default-None.field-0-1-is at c.in-Ok-default-None.ensures.ok in
+    absurd (none_of_disjoint _ ok.1 first.path first.first.holds)
 
-pub returns-in-Err-clause-accepts : goal.returns-in-Err-clause-accepts
-returns-in-Err-clause-accepts g c =
-    λ h disjoint. absurd (within_not_refused (g.M.Segments.segments c.args.message.now) (words_of c.args.limits)
-    (depth_of c.args.limits) c.in-Err.refusal h c.in-Err.ensures.err)
+pub returns-in-Ok-default-Some-clause-refuses : goal.returns-in-Ok-default-Some-clause-refuses
+returns-in-Ok-default-Some-clause-refuses g c = λ r h. absurd
+    (no_fault_under c.args.demands _ (words_of c.args.limits) (depth_of c.args.limits) r c.in-Ok-default-Some.ensures.ok.0.1 h)
 
-pub returns-in-Err-clause-names : goal.returns-in-Err-clause-names
-returns-in-Err-clause-names g c =
-    λ s w n h first. absurd (within_not_refused (g.M.Segments.segments c.args.message.now) (words_of c.args.limits)
-    (depth_of c.args.limits) c.in-Err.refusal h c.in-Err.ensures.err)
+pub returns-in-Ok-default-Some-clause-accepts : goal.returns-in-Ok-default-Some-clause-accepts
+returns-in-Ok-default-Some-clause-accepts g c = λ met disjoint.
+    let ok = rw c.in-Ok-default-Some.field-0-1-is at c.in-Ok-default-Some.ensures.ok in
+    absurd (none_of_disjoint _ disjoint ok.1.path ok.1.first.holds)
 
-pub returns-in-Err-clause-refused : goal.returns-in-Err-clause-refused
-returns-in-Err-clause-refused g c = λ r e.
-    (let same : c.in-Err.refusal ≡ r = cc in
-    subst (λ (x : Refusal). IsRefused (g.M.Segments.segments c.args.message.now) (words_of c.args.limits)
-    (depth_of c.args.limits) x) same c.in-Err.ensures.err)
+pub returns-in-Ok-default-Some-clause-names : goal.returns-in-Ok-default-Some-clause-names
+returns-in-Ok-default-Some-clause-names g c = λ s w n met first.
+    let ok = rw c.in-Ok-default-Some.field-0-1-is at c.in-Ok-default-Some.ensures.ok in
+    (let same = one_overlap (g.M.Segments.segments c.args.message.now) _ _ _ s w n ok.1 first in inl (cc))
 
-pub returns-in-Err-clause-memory : goal.returns-in-Err-clause-memory
-returns-in-Err-clause-memory g c = λ e. absurd (cc)
+pub returns-clause-refuses : goal.returns-clause-refuses
+returns-clause-refuses g c = λ r h. ap (λ u. Err (Refused u))
+    (one_fault_under c.args.demands _ (words_of c.args.limits) (depth_of c.args.limits) c.in-Err.refusal r c.in-Err.ensures.err h)
+
+pub returns-clause-accepts : goal.returns-clause-accepts
+returns-clause-accepts g c = λ met disjoint. absurd
+    (no_fault_under c.args.demands _ (words_of c.args.limits) (depth_of c.args.limits) c.in-Err.refusal met c.in-Err.ensures.err)
+
+pub returns-clause-names : goal.returns-clause-names
+returns-clause-names g c = λ s w n met first. absurd
+    (no_fault_under c.args.demands _ (words_of c.args.limits) (depth_of c.args.limits) c.in-Err.refusal met c.in-Err.ensures.err)

@@ -83,7 +83,7 @@ returns-clause-some g c =
     let i = c.loop-step.step-index in
     let h = c.loop-step.invariant.arrived in
     let whole : take i path ≡ path = take_all i path (omega (arith, c.loop-step-test.false)) in
-    (c.loop-step.at.level, h.0, subst (λ u. ReachesSpot m u c.loop-step.at.level h.0) whole h.1.comes, h.1.found.stands)
+    (c.loop-step.at.level, h.0, subst (λ u. ReachesSpot m u c.loop-step.at.level h.0) whole h.1.comes, h.1.found.object)
 
 pub returns-clause-refuses : goal.returns-clause-refuses
 returns-clause-refuses g c = λ r refused.

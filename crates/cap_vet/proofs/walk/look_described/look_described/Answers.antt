@@ -8,8 +8,8 @@ some_mapped : {A B C : Type 0} (o : Option A) → IfSome o (λ _. B) → (B → 
 some_mapped None b f = tt
 some_mapped (Some x) b f = f b
 
-pub described_within-requires-clause-stands : goal.described_within-requires-clause-stands
-described_within-requires-clause-stands g c = (
+pub described_within-requires-clause-pointer : goal.described_within-requires-clause-pointer
+described_within-requires-clause-pointer g c = (
   c.args.s,
   c.args.w,
   λ q has object. stands-one_pad _ c.args.s c.args.w c.word-word.result c.far_segment-segment.result c.pad-at.result q c.word-word.ensures

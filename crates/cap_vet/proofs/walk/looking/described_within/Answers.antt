@@ -18,7 +18,7 @@ pub target_within-requires-clause-found : goal.target_within-requires-clause-fou
 target_within-requires-clause-found g c =
     let m = g.M.Segments.segments c.args.message.now in
     let message : IsMessage m = search rules in
-    let (s, w, stands) = c.requires.stands in
+    let (s, w, stands) = c.requires.pointer in
     let list = c.in_ok-list.ensures in
     let f = list.found s w (stands c.word-word.result c.word-word.ensures (omega (arith, list.list))) in
     (m, s, w, f.0, f.1, message, f.2)

@@ -9,8 +9,8 @@ returns-then-word-eq0-clause-looked g c =
     let e = c.if-word-eq0.true in
     (near c.word-word.result c.word-word.ensures (omega (arith, e)) e refl, omega (arith, c.requires.spent))
 
-pub described_within-requires-clause-stands : goal.described_within-requires-clause-stands
-described_within-requires-clause-stands g c = (c.args.s, c.args.w, λ q has object. stands-near _ c.args.s c.args.w q has (λ k. omega (arith, k, object)))
+pub described_within-requires-clause-pointer : goal.described_within-requires-clause-pointer
+described_within-requires-clause-pointer g c = (c.args.s, c.args.w, λ q has object. stands-near _ c.args.s c.args.w q has (λ k. omega (arith, k, object)))
 
 pub returns-in-Some-clause-looked : goal.returns-in-Some-clause-looked
 returns-in-Some-clause-looked g c =

@@ -9,4 +9,4 @@ returns c = λ m s w at q f stands.
     (omega (arith, c.if-level-depth.false, c.depth.ensures.value))
     (omega (arith, c.if-spent-cost.false, c.words.ensures.value, c.from.ensures, c.from-2.ensures))
     c.requires.spent run.ensures.places
-    (run.ensures.inside m f.finds.sits.exists (row_inside m c.args.segment at q c.args.row.now f)) run.ensures.level)
+    (run.ensures.inside m f.finds.inside.exists (row_inside m c.args.segment at q c.args.row.now f)) run.ensures.level)

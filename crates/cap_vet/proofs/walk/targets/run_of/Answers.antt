@@ -22,7 +22,7 @@ returns-in-Struct-clause-places c = λ m s w q tag f.
 pub returns-in-Struct-clause-inside : goal.returns-in-Struct-clause-inside
 returns-in-Struct-clause-inside c = λ m s w q tag f.
     let g = rw c.in-Struct.is at f in
-    c.row_run.ensures.inside m g.finds.sits.exists (omega (arith, c.from.ensures, c.from-in-Struct.ensures, struct_room m s w q tag _ _ g))
+    c.row_run.ensures.inside m g.finds.inside.exists (omega (arith, c.from.ensures, c.from-in-Struct.ensures, struct_room m s w q tag _ _ g))
 
 pub returns-else-pointers-eq0-clause-places : goal.returns-else-pointers-eq0-clause-places
 returns-else-pointers-eq0-clause-places c = λ m s w q tag f.

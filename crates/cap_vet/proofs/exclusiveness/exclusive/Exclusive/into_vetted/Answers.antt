@@ -1,5 +1,5 @@
 use Rattle.cap_vet.specs.Vettings.{message_of}
-use Rattle.cap_vet.proofs.SecondWalk.{disjoint_kept}
+use Rattle.cap_vet.proofs.MarkingWalk.{disjoint_kept}
 use Rattle.cap_vet.proofs.exclusiveness.exclusive.Exclusive.into_vetted.Goals as goal
 
 pub returns-clause-disjoint : goal.returns-clause-disjoint

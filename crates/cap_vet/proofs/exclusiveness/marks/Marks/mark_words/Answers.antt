@@ -1,7 +1,7 @@
 use Rattle.std.proofs.Common.{arith, slice_index_or, ◌+◌, ◌≡◌}
 use Rattle.cap_vet.specs.Taken.{start_of}
 use Rattle.cap_vet.proofs.Ranges.{marks_range, range_conflict, start_within}
-use Rattle.cap_vet.proofs.SecondWalk.{room_kept}
+use Rattle.cap_vet.proofs.MarkingWalk.{room_kept}
 use Rattle.cap_vet.proofs.exclusiveness.marks.Marks.mark_words.Goals as goal
 
 pub overflow_add-start : goal.overflow_add-start
@@ -29,7 +29,7 @@ returns c = λ m h.
     let at = slice_index_or starts c.args.s 0 + c.from.result in
     let st : slice_index_or starts c.args.s 0 ≡ start_of m c.args.s = h.room.known.each c.args.s h.exists in
     let start : at ≡ start_of m c.args.s + c.args.from = omega (arith, st, c.from.ensures) in record {
-      room = room_kept m starts old c.set_bits.new.words h.room c.set_bits.ensures.length;
+      room = room_kept m starts old c.set_bits.new.words h.room c.set_bits.ensures.same_length;
       taken = λ e. marks_range m old c.set_bits.new.words c.args.s c.args.from c.args.count at h.exists h.inside start
           (λ i a b. c.set_bits.ensures.taken e i a (omega (arith, b, c.from-2.ensures)))
           (λ i a b. c.set_bits.ensures.free e i a (omega (arith, b, c.from-2.ensures)))

@@ -5,7 +5,7 @@ use Rattle.cap_vet.proofs.nodes.node.Node.child.Goals as goal
 pub invariant_of-child : goal.invariant_of-child
 invariant_of-child g c =
     let next = c.in_ok-next.ensures _ _ c.found.ensures in
-    record { exists = next.1.0; inside = next.1.1; stands = next_node (g.M.Segments.segments c.args.self.now.message.now) _ _ _ c.args.self.now.stands next.0 }
+    record { exists = next.1.0; inside = next.1.1; node = next_node (g.M.Segments.segments c.args.self.now.message.now) _ _ _ c.args.self.now.node next.0 }
 
 pub returns-clause-some : goal.returns-clause-some
 returns-clause-some g c = (c.in_ok-next.ensures _ _ c.found.ensures).0

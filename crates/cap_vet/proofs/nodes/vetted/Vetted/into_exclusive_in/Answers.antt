@@ -18,34 +18,34 @@ returns-then-marks-needed-clause-refuses g c = λ x h.
     (NoRoom c.numbers_for-needed.result c.args.self.report) x
     (vetted_kept _ _ c.args.self.accepted, c.if-marks-needed.true, c.numbers_for-needed.ensures.exact) h)
 
-pub mark_cleared-requires-clause-accepted : goal.mark_cleared-requires-clause-accepted
-mark_cleared-requires-clause-accepted g c =
-    (c.args.self.report, rw (c.greatest.ensures.words, c.greatest.ensures.depth) (vetted_kept _ _ c.args.self.accepted))
+pub overlap_over-requires-clause-accepted : goal.overlap_over-requires-clause-accepted
+overlap_over-requires-clause-accepted g c =
+    (c.args.self.report, vetted_kept _ _ c.args.self.accepted)
 
-pub returns-in-Ok-clause-refuses : goal.returns-in-Ok-clause-refuses
-returns-in-Ok-clause-refuses g c =
+pub returns-in-None-clause-refuses : goal.returns-in-None-clause-refuses
+returns-in-None-clause-refuses g c =
     let room : marks_of (g.M.Segments.segments c.args.self.message.now) ≤ length c.args.marks.now =
     omega (arith, c.numbers_for-needed.ensures.exact, c.if-marks-needed.false) in
     λ x h. absurd (no_exclusive_fault _ _ c.args.self.report x (vetted_kept _ _ c.args.self.accepted)
-    c.in-Ok.ensures.ok room h)
+    c.in-None.ensures room h)
 
-pub returns-in-Err-clause-err : goal.returns-in-Err-clause-err
-returns-in-Err-clause-err g c = (
+pub returns-in-Some-clause-err : goal.returns-in-Some-clause-err
+returns-in-Some-clause-err g c = (
   c.args.self.report,
   vetted_kept _ _ c.args.self.accepted,
   omega (arith, c.numbers_for-needed.ensures.exact, c.if-marks-needed.false),
-  c.in-Err.ensures.err,
+  c.in-Some.ensures,
 )
 
-pub returns-in-Err-clause-accepts : goal.returns-in-Err-clause-accepts
-returns-in-Err-clause-accepts g c = λ disjoint room. absurd
-    (none_of_disjoint _ disjoint c.in-Err.ensures.err.path c.in-Err.ensures.err.first.holds)
+pub returns-in-Some-clause-accepts : goal.returns-in-Some-clause-accepts
+returns-in-Some-clause-accepts g c = λ disjoint room. absurd
+    (none_of_disjoint _ disjoint c.in-Some.ensures.path c.in-Some.ensures.first.holds)
 
-pub returns-in-Err-clause-refuses : goal.returns-in-Err-clause-refuses
-returns-in-Err-clause-refuses g c =
+pub returns-in-Some-clause-refuses : goal.returns-in-Some-clause-refuses
+returns-in-Some-clause-refuses g c =
     let room : marks_of (g.M.Segments.segments c.args.self.message.now) ≤ length c.args.marks.now =
     omega (arith, c.numbers_for-needed.ensures.exact, c.if-marks-needed.false) in
     λ x h. ap Err (one_exclusive_fault (g.M.Segments.segments c.args.self.message.now) 268435456 256
     (length c.args.marks.now)
-    (Overlap c.in-Err.overlap.segment c.in-Err.overlap.word c.in-Err.overlap.pointers) x
-    (c.args.self.report, vetted_kept _ _ c.args.self.accepted, room, c.in-Err.ensures.err) h)
+    (Overlap c.in-Some.overlap.segment c.in-Some.overlap.word c.in-Some.overlap.pointers) x
+    (c.args.self.report, vetted_kept _ _ c.args.self.accepted, room, c.in-Some.ensures) h)

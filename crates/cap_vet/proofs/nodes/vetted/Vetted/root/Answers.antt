@@ -7,7 +7,7 @@ invariant_of-result g c =
     let message : IsMessage (g.M.Segments.segments c.args.self.now.message.now) = search rules in record {
       exists = message.some;
       inside = root_inside _ _ c.args.self.now.accepted;
-      stands = root_node _ _ c.args.self.now.accepted;
+      node = root_node _ _ c.args.self.now.accepted;
     }
 
 pub returns-clause-comes : goal.returns-clause-comes

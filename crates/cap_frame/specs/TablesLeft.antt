@@ -1,0 +1,44 @@
+-- What is known of the table of a message that isn't read (profile).
+use Rattle.std.specs.Prelude.{List, None, Option, Some, [], length, sum, ℕ, ⊤, ◌%◌, ◌*◌, ◌++◌, ◌+◌, ◌/◌, ◌<◌, ◌^◌, ◌∷◌, ◌≡◌, ◌⊎◌}
+use Rattle.cap_spec.specs.Frames.{IsTable}
+use Rattle.cap_frame.specs.Fronts.{table_words}
+use Rattle.cap_frame.specs.declared.fault.FrameFault.{FrameFault}
+use Rattle.cap_frame.specs.declared.fault.FrameFault.TheVariants.{Device, Memory, Spent, TooLarge, TooManySegments}
+use Rattle.cap_frame.specs.declared.fault.FrameFault.TheVariants.{Truncated}
+use Rattle.cap_frame.specs.declared.table.TableSums.{TableSums}
+
+-- There is no word, or the words end inside a table, of n div 2 + 1 words.
+abbrev pub LacksTable : List ℕ → Type 0
+LacksTable words = (words ≡ []) ⊎ ((first : ℕ) × (rest : List ℕ) × (words ≡ first ∷ rest)
+    × (length rest < (first % 2 ^ 32 + 1) / 2))
+
+-- The words begin with a table of these sizes.
+abbrev pub BeginsTable : List ℕ → List ℕ → Type 0
+BeginsTable words sizes = (table : List ℕ) × (rest : List ℕ) × (words ≡ table ++ rest) × IsTable table sizes
+
+-- the sizes of the table, or no sizes where it isn't whole
+abbrev pub HasSizes : List ℕ → List ℕ → Type 0
+HasSizes words [] = LacksTable words
+HasSizes words (size ∷ sizes) = BeginsTable words (size ∷ sizes)
+
+-- the sizes that are known after a fault
+abbrev pub LeavesSizes : FrameFault → List ℕ → List ℕ → Type 0
+LeavesSizes (TooManySegments count) words sizes = sizes ≡ []
+LeavesSizes (TooLarge n) words sizes = HasSizes words sizes
+LeavesSizes (Truncated byte) words sizes = HasSizes words sizes
+LeavesSizes Device words sizes = ⊤
+LeavesSizes Memory words sizes = ⊤
+LeavesSizes Spent words sizes = ⊤
+
+-- what is kept of sizes: how many they are, their sum, and the bytes of the table and of the words
+abbrev pub sums_of : List ℕ → Option TableSums
+sums_of [] = None
+sums_of (size ∷ sizes) = Some (record {
+  segments = length (size ∷ sizes);
+  words = sum (size ∷ sizes);
+  bytes = 8 * (table_words (length (size ∷ sizes)) + sum (size ∷ sizes));
+})
+
+-- What is kept of the table after a fault, where the words are these.
+abbrev pub LeavesTable : FrameFault → List ℕ → Option TableSums → Type 0
+LeavesTable fault words table = (sizes : List ℕ) × LeavesSizes fault words sizes × (table ≡ sums_of sizes)

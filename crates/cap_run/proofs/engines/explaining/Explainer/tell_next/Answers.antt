@@ -1,0 +1,47 @@
+use Rattle.std.proofs.Common.{Err, List, refl, subst, ℕ}
+use Rattle.cap_frame.specs.Limit.{limit_of}
+use Rattle.cap_run.specs.Running.{WritesOneOf}
+use Rattle.cap_run.proofs.Breaking.{read_breaks}
+use Rattle.cap_run.proofs.Placed.{frame_small}
+use Rattle.cap_run.proofs.Judging.{step_stops}
+use Rattle.cap_run.proofs.Streams.{reads_named}
+use Rattle.cap_run.proofs.engines.explaining.Explainer.tell_next.Goals as goal
+
+pub returns-in-Ok-clause-some : goal.returns-in-Ok-clause-some
+returns-in-Ok-clause-some g c =
+    let r = c.in-Ok-true.ensures.read.message (cc) in
+    let told = rw c.view-message.ensures at c.in-Ok.ensures in
+    let words = rw c.view-message.ensures at c.frame_words-room.ensures in (
+      record { message = _; text = told.0; counted = c.in-Ok.counted },
+      refl,
+      told.1,
+      reads_named g.S.WordSource (limit_of c.args.limit) c.args.source.now c.read_next.new.source
+          _ r c.in-Ok-true.ensures.read.next.works,
+      told.2,
+      words,
+      rw words (frame_small g.S.WordSource (limit_of c.args.limit) c.args.source.now c.read_next.new.source _ r c.args.limit.within),
+    )
+
+pub returns-in-Err-judge-clause-err : goal.returns-in-Err-judge-clause-err
+returns-in-Err-judge-clause-err g c =
+    let r = c.in-Ok-true.ensures.read.message (cc) in
+    let tells = g.J.PlacedJudge.tells c.args.self.now.judge c.args.before in
+    let wants = g.J.PlacedJudge.wants c.args.self.now.judge in
+    step_stops g.S.WordSource g.O.ByteOut tells wants
+    (limit_of c.args.limit) c.args.number _ c.args.source.now c.read_next.new.source
+    c.args.out.now c.judge.new.out c.in-Err-judge.cause
+    (reads_named g.S.WordSource (limit_of c.args.limit) c.args.source.now c.read_next.new.source
+    _ r c.in-Ok-true.ensures.read.next.works)
+    (subst (λ (m : List (List ℕ)). WritesOneOf g.O.ByteOut (tells c.args.number m) (wants m)
+    c.args.out.now c.judge.new.out (Err c.in-Err-judge.cause)) c.view-message.ensures c.in-Err-judge.ensures)
+
+pub returns-in-Ok-clause-none : goal.returns-in-Ok-clause-none
+returns-in-Ok-clause-none g c = λ e. absurd (cc)
+
+pub returns-in-Ok-false-clause-err : goal.returns-in-Ok-false-clause-err
+returns-in-Ok-false-clause-err g c = tt
+
+pub returns-in-Err-judge-clause-at : goal.returns-in-Err-judge-clause-at
+returns-in-Err-judge-clause-at g c =
+    read_breaks g.S.WordSource g.O.ByteOut _ _ c.args.out.now c.judge.new.out (limit_of c.args.limit) c.args.source.now
+    c.in-Err-judge.cause c.read_next.new.room.at c.in-Err-judge.ensures

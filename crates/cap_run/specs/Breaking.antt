@@ -1,0 +1,64 @@
+-- What is known of a message at which a stream breaks off (profile). gs and go have the members of
+-- their types.
+use Rattle.std.specs.Prelude.{Bool, Err, IfErr, IfSome, List, Ok, Result, length, ℕ, ⊤, ◌≡◌}
+use Rattle.cap_frame.specs.TablesLeft.{LeavesTable}
+use Rattle.cap_frame.specs.declared.fault.FrameFault.{FrameFault}
+use Rattle.cap_frame.specs.declared.fault.FrameFault.TheVariants.{Device, Memory, Spent, TooLarge, TooManySegments}
+use Rattle.cap_frame.specs.declared.fault.FrameFault.TheVariants.{Truncated}
+use Rattle.cap_text.specs.declared.fault.Cause.{Cause}
+use Rattle.cap_text.specs.declared.fault.Cause.TheVariants.{Canon, Frame, NotStrict, Output, Refused, TooManyMessages}
+use Rattle.cap_text.specs.declared.fault.Cause.TheVariants.{Memory as no_marks}
+use Rattle.cap_text.specs.declared.fault.ExplainedFault.{ExplainedFault}
+use Rattle.cap_text.specs.declared.fault.RunFault.{RunFault}
+use Rattle.cap_text.specs.declared.fault.StreamBreak.{StreamBreak}
+use Rattle.cap_run.specs.Placed.{PlacedTells, TellsPlaced}
+use Rattle.cap_run.specs.Streams.{ReadsStream}
+use Rattle.cap_run.specs.declared.settings.Outcome.{Outcome}
+use Rattle.cap_words.specs.declared.ends.ByteOut as output
+use Rattle.cap_words.specs.declared.sources.WordSource as source
+
+-- whether an input that ends inside a message ends inside a word
+abbrev pub EndsCut : FrameFault → Bool → Bool → Type 0
+EndsCut (TooManySegments count) cut told = ⊤
+EndsCut (TooLarge words) cut told = ⊤
+EndsCut (Truncated byte) cut told = told ≡ cut
+EndsCut Device cut told = ⊤
+EndsCut Memory cut told = ⊤
+EndsCut Spent cut told = ⊤
+
+-- an answer without what is known of the message at which the stream breaks off
+abbrev pub run_answer : Result Outcome ExplainedFault → Result Outcome RunFault
+run_answer (Ok outcome) = Ok outcome
+run_answer (Err fault) = Err fault.fault
+
+module _ {S : Type 0} (gs : source.Ghosts S) where
+  -- The source was `old` before the message that can't be read.
+  pub record BreaksAt (limit : ℕ) (old : S) (fault : FrameFault) (at : StreamBreak) : Type 0 where
+    pub start : at.start ≡ gs.place old
+    pub limit_is : at.limit ≡ limit
+    pub table : IfSome (gs.words old) (λ ws. LeavesTable fault ws at.table)
+    pub cut : IfSome (gs.words old) (λ ws. EndsCut fault (gs.is_cut old) at.is_cut)
+
+  -- the same, if the cause is that a message can't be read
+  abbrev pub BreaksBy : ℕ → S → Cause → StreamBreak → Type 0
+  BreaksBy limit old TooManyMessages at = ⊤
+  BreaksBy limit old (Frame fault) at = BreaksAt limit old fault at
+  BreaksBy limit old (Output fault) at = ⊤
+  BreaksBy limit old (Refused refusal) at = ⊤
+  BreaksBy limit old (NotStrict fault) at = ⊤
+  BreaksBy limit old (Canon fault) at = ⊤
+  BreaksBy limit old no_marks at = ⊤
+
+  -- The source was `mid` after the messages before the one at which the stream breaks off.
+  abbrev pub BreaksOff : ℕ → S → Result Outcome ExplainedFault → Type 0
+  BreaksOff limit old answer = IfErr answer (λ e. (ms : List (List (List ℕ))) × (mid : S)
+      × (length ms ≡ e.fault.message) × ReadsStream gs limit old mid ms
+      × BreaksBy limit mid e.fault.cause e.at)
+
+module _ {S O : Type 0} (gs : source.Ghosts S) (go : output.Ghosts O) where
+  -- What an engine does that explains: it writes a text of each message, and says what is known of
+  -- the message at which the stream breaks off.
+  pub record ExplainsStream (tells : PlacedTells) (wants : List (List ℕ) → Type 0) (limit most : ℕ)
+      (old new : S) (before after : O) (answer : Result Outcome ExplainedFault) : Type 0 where
+    pub told : TellsPlaced gs go tells wants limit most old new before after (run_answer answer)
+    pub broken : BreaksOff gs limit old answer

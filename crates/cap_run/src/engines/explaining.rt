@@ -1,0 +1,266 @@
+//! Reading the messages of a stream to explain each refusal, and why the stream breaks off.
+
+ghost use Rattle.cap_frame.specs.HeldBytes.{held_segments};
+ghost use Rattle.cap_frame.specs.Limit.{limit_of};
+ghost use Rattle.cap_frame.specs.Reading.{ReadsFrame};
+ghost use Rattle.cap_run.specs.Breaking.{BreaksAt, BreaksBy, BreaksOff, ExplainsStream, run_answer};
+ghost use Rattle.cap_run.specs.Placed.{PlacedEarly, PlacedToEnd, StepPlaces};
+ghost use Rattle.cap_run.specs.Running.{EndStops, StepStops, WritesOneOf};
+ghost use Rattle.cap_run.specs.Streams.{EndsStream};
+ghost use Rattle.std.specs.Prelude.{◌<◌, ◌^◌, ◌≡◌, ◌⊎◌, IfErr, IfOk, IfSome, List, OnOk, false, true, ℕ};
+
+use crate::engines::flushing::{AHEAD, flush_output, waits_for_message};
+use crate::engines::stream::{Counted, count};
+use crate::peek::Peek;
+use crate::settings::{Outcome, Settings};
+use cap_explain::frame_words;
+use cap_frame::{ByteMessage, FrameFault, Segments, SizeLimit, read_noting};
+use cap_text::{Cause, ExplainedFault, Page, RunFault, StreamBreak};
+use cap_words::{ByteOut, WordSource};
+use std::alloc::Global;
+
+/// The message that was read last, and the page for its text. If a message can't be read, what is
+/// known of it.
+#[derive(Drop)]
+struct ExplainRoom {
+    message: ByteMessage,
+    /// The words of its frame.
+    words: u64,
+    page: Page,
+    at: StreamBreak,
+}
+
+impl ExplainRoom {
+    /// What is kept before the first message.
+    fn new(alloc: Global) -> ExplainRoom {
+        ExplainRoom {
+            message: ByteMessage::blank(alloc),
+            words: 0,
+            page: Page::new(),
+            at: StreamBreak {
+                start: 0,
+                limit: 0,
+                table: None,
+                is_cut: false,
+            },
+        }
+    }
+}
+
+/// What an engine does with a message that was read, where it knows how many words of the input are
+/// before it.
+pub(crate) trait PlacedJudge {
+    ghost use Rattle.cap_run.specs.declared.engines.stream.Counted.{Counted};
+
+    // The texts that may be written of a message, by the words of the messages before it and by its
+    // number. Each comes with what is counted then.
+    ghost tells: { Self → ℕ → ℕ → List (List ℕ) → List ℕ → Counted → Type 0 };
+
+    // The messages that need an allocation.
+    ghost wants: { Self → List (List ℕ) → Type 0 };
+
+    /// Writes the text of a message. What the page held before isn't written.
+    ///
+    /// # Errors
+    ///
+    /// - [`Cause::Output`]: the output failed. It took a prefix of the text.
+    /// - [`Cause::Memory`]: an allocation failed. The output took nothing.
+    fn judge<M: Segments, O: ByteOut>(
+        &self,
+        page: &mut Page,
+        out: &mut O,
+        before: u64,
+        number: u32,
+        message: &M,
+    ) -> Result<Counted, Cause>
+        requires { before < 2 ^ 61 }
+        ensures { let m = M.segments message.now in WritesOneOf O.ByteOut
+            (tells self.now before number m) (wants self.now m) out.old out.new result };
+}
+
+/// Whether the input ends inside a word, if the source ended inside a message. The source stays as
+/// it is.
+fn is_cut_after<S: WordSource>(source: &mut S, fault: FrameFault) -> bool
+    requires { (byte : ℕ) → fault ≡ FrameFault.Truncated byte →
+        (S.ended source.old ≡ true) ⊎ (S.failed source.old ≡ true) }
+    ensures same { source.new ≡ source.old }
+    ensures ended { (byte : ℕ) → fault ≡ FrameFault.Truncated byte → S.ended source.old ≡ true →
+        result ≡ false }
+    ensures failed { (byte : ℕ) → fault ≡ FrameFault.Truncated byte → S.failed source.old ≡ true →
+        result ≡ true }
+{
+    match fault {
+        FrameFault::Truncated { byte: _ } => match source.next() {
+            Ok(_) => false,
+            Err(_) => true,
+        },
+        _ => false,
+    }
+}
+
+/// Reads the next message. If it can't be read, keeps what is known of it.
+fn read_next<S: WordSource>(
+    alloc: Global,
+    source: &mut S,
+    limit: SizeLimit,
+    room: &mut ExplainRoom,
+) -> Result<bool, FrameFault>
+    ensures read { ReadsFrame S.WordSource (λ m. held_segments room.new.message ≡ m)
+        (limit_of limit) source.old source.new result }
+    ensures at { IfErr result (λ fault.
+        BreaksAt S.WordSource (limit_of limit) source.old fault room.new.at) }
+{
+    let start = source.position();
+    let mut table = None;
+    match read_noting(alloc, source, limit, &mut room.message, &mut table) {
+        Ok(found) => Ok(found),
+        Err(fault) => {
+            let is_cut = is_cut_after(source, fault);
+            room.at = StreamBreak {
+                start,
+                limit: limit.words(),
+                table,
+                is_cut,
+            };
+            Err(fault)
+        }
+    }
+}
+
+/// Reads each message whole, and writes its text.
+#[derive(Clone, Copy)]
+struct Explainer<J> {
+    alloc: Global,
+    judge: J,
+}
+
+impl<J: PlacedJudge> Explainer<J> {
+    /// Reads the next message and writes its text. `None` if the stream ends before it.
+    fn tell_next<S: WordSource, O: ByteOut>(
+        &self,
+        room: &mut ExplainRoom,
+        source: &mut S,
+        out: &mut O,
+        limit: SizeLimit,
+        before: u64,
+        number: u32,
+    ) -> Result<Option<Counted>, Cause>
+        requires { before < 2 ^ 61 }
+        ensures some { IfOk result (λ r. IfSome r (λ counted. StepPlaces S.WordSource O.ByteOut
+            (J.tells self.now.judge before) (limit_of limit) number source.old source.new
+            out.old out.new counted room.new.words)) }
+        ensures none { result ≡ Ok None →
+            EndsStream S.WordSource source.old source.new × (out.new ≡ out.old) }
+        ensures err { IfErr result (λ cause. StepStops S.WordSource O.ByteOut
+            (J.tells self.now.judge before) (J.wants self.now.judge) (limit_of limit) number
+            source.old source.new out.old out.new cause) }
+        ensures at { IfErr result (λ cause.
+            BreaksBy S.WordSource (limit_of limit) source.old cause room.new.at) }
+    {
+        match read_next(self.alloc, source, limit, room) {
+            Ok(true) => {
+                let message = room.message.view();
+                room.words = frame_words(&message);
+                match self
+                    .judge
+                    .judge(&mut room.page, out, before, number, &message)
+                {
+                    Ok(counted) => Ok(Some(counted)),
+                    Err(cause) => Err(cause),
+                }
+            }
+            Ok(false) => Ok(None),
+            Err(fault) => Err(Cause::Frame(fault)),
+        }
+    }
+
+    /// Checks that the stream ends here. One more message is [`Cause::TooManyMessages`].
+    fn end<S: WordSource>(
+        &self,
+        room: &mut ExplainRoom,
+        source: &mut S,
+        limit: SizeLimit,
+    ) -> Result<(), Cause>
+        ensures ok { OnOk result (EndsStream S.WordSource source.old source.new) }
+        ensures err { IfErr result (λ cause.
+            EndStops S.WordSource (limit_of limit) source.old source.new cause) }
+        ensures at { IfErr result (λ cause.
+            BreaksBy S.WordSource (limit_of limit) source.old cause room.new.at) }
+    {
+        match read_next(self.alloc, source, limit, room) {
+            Ok(true) => Err(Cause::TooManyMessages),
+            Ok(false) => Ok(()),
+            Err(fault) => Err(Cause::Frame(fault)),
+        }
+    }
+
+    /// Reads the messages of a stream to its end, and writes the text of each.
+    fn tell_each<S: Peek, O: ByteOut>(
+        &self,
+        source: &mut S,
+        out: &mut O,
+        settings: &Settings,
+    ) -> Result<Outcome, ExplainedFault>
+        ensures ok { let s = settings.now in PlacedToEnd S.WordSource O.ByteOut
+            (J.tells self.now.judge) (limit_of s.size) s.messages
+            source.old source.new out.old out.new (run_answer result) }
+        ensures err { let s = settings.now in PlacedEarly S.WordSource O.ByteOut
+            (J.tells self.now.judge) (limit_of s.size) s.messages
+            source.old source.new out.old out.new (J.wants self.now.judge) (run_answer result) }
+        ensures broken { BreaksOff S.WordSource (limit_of settings.now.size) source.old result }
+    {
+        let mut outcome = Outcome {
+            messages: 0,
+            refused: 0,
+            noncanonical: 0,
+        };
+        let mut room = ExplainRoom::new(self.alloc);
+        let mut ahead = [0; AHEAD];
+        let mut before = 0;
+        for number in 0..settings.messages {
+            match self.tell_next(&mut room, source, out, settings.size, before, number) {
+                Ok(Some(counted)) => {
+                    let waits = waits_for_message(source, settings, &mut ahead);
+                    match flush_output(out, waits) {
+                        Ok(()) => {
+                            outcome = count(outcome, counted);
+                            before += room.words;
+                        }
+                        Err(fault) => return Err(stopped_at(number, Cause::Output(fault), room.at)),
+                    }
+                }
+                Ok(None) => return Ok(outcome),
+                Err(cause) => return Err(stopped_at(number, cause, room.at)),
+            }
+        }
+        match self.end(&mut room, source, settings.size) {
+            Ok(()) => Ok(outcome),
+            Err(cause) => Err(stopped_at(settings.messages, cause, room.at)),
+        }
+    }
+}
+
+/// The fault at a message, and what is known of the message.
+fn stopped_at(message: u32, cause: Cause, at: StreamBreak) -> ExplainedFault
+    ensures { result ≡ record { fault = record { message = message; cause = cause }; at = at } }
+{
+    ExplainedFault {
+        fault: RunFault { message, cause },
+        at,
+    }
+}
+
+/// Reads each message of a stream whole, and writes the text that comes of it. The error says what
+/// is known of a message that can't be read.
+pub(crate) fn explain_all<S: Peek, O: ByteOut, J: PlacedJudge + Drop>(
+    alloc: Global,
+    source: &mut S,
+    out: &mut O,
+    settings: &Settings,
+    judge: J,
+) -> Result<Outcome, ExplainedFault>
+    ensures { let s = settings.now in ExplainsStream S.WordSource O.ByteOut (J.tells judge)
+        (J.wants judge) (limit_of s.size) s.messages source.old source.new out.old out.new result }
+{
+    Explainer { alloc, judge }.tell_each(source, out, settings)
+}

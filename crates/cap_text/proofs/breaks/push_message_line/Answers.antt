@@ -1,0 +1,8 @@
+use Rattle.std.proofs.Common.{[], codes, decimal, ◌++◌, ◌∷◌}
+use Rattle.cap_text.proofs.Appends.{then}
+use Rattle.cap_text.proofs.breaks.push_message_line.Goals as goal
+
+pub returns-clause-items : goal.returns-clause-items
+returns-clause-items c =
+    then c.args.page.now c.push_named.new.self c.push_text.new.self (codes "  message at byte " ++ decimal c.args.start)
+    (codes " of the input" ++ 10 ∷ []) c.push_named.ensures.items c.push_text.ensures

@@ -1,0 +1,108 @@
+-- The turns and the end of a walk that marks words.
+use Rattle.std.proofs.Common.{is_some}
+use Rattle.cap_spec.specs.Denoting.{places}
+use Rattle.cap_spec.proofs.Disjoint.Bounds.{charge_below_words}
+use Rattle.cap_spec.proofs.Lemmas.{disjoint_of_none, none_of_disjoint, HasWord-inside, lead_word, Formed, formed}
+use Rattle.cap_spec.proofs.Prelude.{List, None, Option, Some, [], ap, arith, false, inl, inr, length, refl, subst, true, ℕ, ◌++◌, ◌<◌, ◌∷◌, ◌≡◌}
+use Rattle.cap_spec.proofs.Prelude.{∥∥₁_elim, props, segment_of, IsDisjoint, IsFirstOverlap, Occupies, pads_of, Costs}
+use Rattle.cap_spec.proofs.Prelude.{Err, Ok, OnOk, Result, empty_count, extent, sizes_of, sum, Tree, ◌+◌}
+use Rattle.cap_vet.specs.Prelude.{Step, Conflicts, IsMarked, MarksAll, IsAccepted, Ahead, IsTrail, HasWalked}
+use Rattle.cap_vet.specs.Prelude.{IsLookedAt, IsReport, Report}
+use Rattle.cap_vet.specs.Overlapping.{EndsMarking, KnowsMarks, KnowsOverlap}
+use Rattle.cap_vet.specs.Taken.{HasMarked, HasRoom}
+use Rattle.cap_vet.specs.declared.exclusiveness.marks.Marks.{Marks}
+use Rattle.cap_vet.specs.declared.exclusiveness.overlap_turn.Overlap.{Overlap}
+use Rattle.cap_vet.proofs.Marking.{all_disjoint, first_overlap, marks_on}
+use Rattle.cap_vet.proofs.Verdicts.{none_ahead}
+
+-- what costs something uses places
+used_at : (m : List (List ℕ)) (s w cost : ℕ) → Costs m s w cost → (used : List (ℕ × ℕ)) × Occupies m s w used
+used_at m s w cost (inl h) = let p = lead_word m s w cost _ h in (pads_of p.0, (p.0, p.1, inl (cost, h, refl)))
+used_at m s w cost (inr (inl (i, h))) = let p = lead_word m s w cost _ h in (pads_of p.0, (p.0, p.1, inr (inl (cost, i, h, refl))))
+used_at m s w cost (inr (inr (k, t, b, q, tag, f, has, e))) = let p =
+    lead_word m s w k _ f.leads in (pads_of p.0 ++ places t b (extent q), (p.0, p.1, inr (inr (k, t, b, q, f, refl))))
+
+-- a turn at a word whose places were free
+pub turn_on : {m : List (List ℕ)} (seen : List (List Step)) (a : Ahead) {s w n cost : ℕ} {T T' : ℕ → ℕ → Type 0} → IsLookedAt m seen a s w n cost
+    → IsMarked m seen T
+    → ((used : List (ℕ × ℕ)) → Occupies m s w used → MarksAll T T' used) → IsMarked m (a.path ∷ seen) T'
+turn_on {m} seen a {s} {w} {cost} {T} {T'} l k marks =
+    let u = used_at m s w cost l.costs in
+    let o : Occupies m a.segment a.word u.0 = rw (l.segment, l.word) u.1 in
+    marks_on m seen a l.later T T' u.0 l.trail k o (marks u.0 u.1)
+
+-- a word whose places weren't all free
+pub turn_overlap : {m : List (List ℕ)} (seen : List (List Step)) (a : Ahead) {s w n cost : ℕ} {T : ℕ → ℕ → Type 0} → IsLookedAt m seen a s w n cost
+    → IsMarked m seen T
+    → ((used : List (ℕ × ℕ)) × Occupies m s w used × Conflicts T used) → IsFirstOverlap m s w n
+turn_overlap {m} seen a {n} {T} l k (used, o, c) =
+    let o2 : Occupies m a.segment a.word used = rw (l.segment, l.word) o in
+    rw (← l.segment, ← l.word) (first_overlap m seen a l.later T used n l.trail k o2 c l.number)
+
+-- where none has overlapped yet, the words of these paths are marked,
+pub marks_known : (m : List (List ℕ)) (seen : List (List Step)) (marks : Marks) (first : Option Overlap) → is_some first ≡ false
+    → KnowsMarks m seen marks first → HasMarked m seen marks.starts.now marks.bits.now
+marks_known m seen marks None e k = k
+marks_known m seen marks (Some x) e k = absurd (cc e)
+
+-- and the marks of one path more say so of this one too
+pub known_marks : (m : List (List ℕ)) (seen : List (List Step)) (marks : Marks) (first : Option Overlap) → is_some first ≡ false
+    → HasMarked m seen marks.starts.now marks.bits.now → KnowsMarks m seen marks first
+known_marks m seen marks None e k = k
+known_marks m seen marks (Some x) e k = absurd (cc e)
+
+-- the first that overlaps stays the first
+pub still_overlaps : (m : List (List ℕ)) (seen more : List (List Step)) (marks : Marks) (first : Option Overlap) → is_some first ≡ true
+    → KnowsMarks m seen marks first → KnowsMarks m more marks first
+still_overlaps m seen more marks None e k = absurd (cc e)
+still_overlaps m seen more marks (Some x) e k = k
+
+-- a walk that goes on knows both
+pub both_known : {X E A : Type 0} (B : Type 0) (r : Result X E) → A → OnOk r B → OnOk r (A × B)
+both_known B (Ok x) a b = (a, b)
+both_known B (Err e) a b = tt
+
+-- what is marked once doesn't overlap
+pub knows_overlap : (m : List (List ℕ)) (seen : List (List Step)) (marks : Marks) (first : Option Overlap)
+    → KnowsMarks m seen marks first → KnowsOverlap m seen first
+knows_overlap m seen marks None k = k.marked.clear
+knows_overlap m seen marks (Some x) k = k
+
+-- the end
+pub ends_marking : (m : List (List ℕ)) {words depth : ℕ} {report : Report} (seen : List (List Step)) (ahead : List Ahead) (first : Option Overlap)
+    → HasWalked m words depth [] report seen ahead → KnowsOverlap m seen first → EndsMarking m first
+ends_marking m seen ahead None w k =
+    all_disjoint m seen (subst (λ (u : List Ahead). IsTrail m seen u) (none_ahead ahead w.places) w.progress.trail) k
+ends_marking m seen ahead (Some x) w k = k
+
+-- a message that uses no word twice is charged less than its words, but for elements without bits or words
+pub disjoint_bound : (m : List (List ℕ)) (words depth : ℕ) (report : Report) → IsAccepted m words depth report → IsDisjoint m
+    → (t : Tree) × IsReport m words depth report t × (report.charge < sum (sizes_of m) + empty_count t)
+disjoint_bound m words depth report (t, h) d = (t, h, charge_below_words m t report.charge report.depth h.within.denotes d)
+
+-- there is room whatever is marked
+pub room_kept : (m : List (List ℕ)) (starts marks after : List ℕ) → HasRoom m starts marks → length after ≡ length marks → HasRoom m starts after
+room_kept m starts marks after h e = record { known = h.known; enough = omega (arith, h.enough, e) }
+
+-- where nothing was marked, the root word's own mark is the first
+pub root_marked : (m : List (List ℕ)) (T T' : ℕ → ℕ → Type 0) → ((s w : ℕ) → T s w → ⊥) → MarksAll T T' ((0, 0) ∷ []) → IsMarked m [] T'
+root_marked m T T' none h = record {
+  root = h.set 0 0 (inl refl);
+  used = λ p s w one u. absurd one;
+  only = λ s w taken. elim (h.only s w taken) [
+    | inl before ↦ absurd (none s w before)
+    | inr place ↦ elim place [ inl e ↦ inl (ap (λ u. u.0) e, ap (λ u. u.1) e) | inr none_there ↦ absurd none_there ]
+  ];
+  clear = λ p one. absurd one;
+}
+
+-- an accepted message has a root word
+pub root_there : (m : List (List ℕ)) (words depth : ℕ) (report : Report) → IsAccepted m words depth report → 0 < length (segment_of m 0)
+root_there m words depth report (t, a) =
+    let f : Formed m 0 0 t = formed m 0 0 t report.charge report.depth a.within.denotes in
+    let p = lead_word m 0 0 f.k f.r f.leads in
+    HasWord-inside m 0 0 p.0 p.1
+
+-- whether a message is disjoint is one fact
+pub disjoint_kept : (m : List (List ℕ)) → ∥ IsDisjoint m ∥₁ → IsDisjoint m
+disjoint_kept m h = disjoint_of_none m (λ p over. let one : IsProp ⊥ = hlevel props in ∥∥₁_elim h one (λ d. none_of_disjoint m d p over))

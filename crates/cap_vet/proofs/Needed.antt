@@ -1,0 +1,118 @@
+-- The charge with the pointer at which the word limit is passed.
+use Rattle.cap_spec.specs.declared.Reason.TheVariants.{WordLimit}
+use Rattle.cap_spec.proofs.Frames.Messages.{HasWord-inside, HasWord-segment}
+use Rattle.cap_spec.proofs.Lemmas.{one_refusal, within_not_refused}
+use Rattle.cap_spec.proofs.Paths.Preorder.{Rises-distinct}
+use Rattle.cap_spec.proofs.Prelude.{List, [], ap, arith, inl, inr, length, reverse, subst, sym, ℕ, ◌++◌, ◌<◌, ◌^◌, ◌∙◌, ◌∷◌}
+use Rattle.cap_spec.proofs.Prelude.{◌+◌, ◌≡◌, ◌≢◌, ◌≤◌, AreDistinct, CostOf, Costs, HasWord, IsFirstFault, IsFirstReason, IsRefused, IsWithin, Leads}
+use Rattle.cap_spec.proofs.Prelude.{is_deep, is_past, near, one_pad, segment_of, two_pads, Lead}
+use Rattle.cap_spec.specs.Faults.{is_wrong}
+use Rattle.cap_spec.proofs.Verdicts.KeptBefore.{kept_before}
+use Rattle.cap_spec.proofs.Verdicts.OneFault.{distinct_last, fault_tour}
+use Rattle.cap_spec.proofs.Verdicts.OneVerdict.{distinct_cost}
+use Rattle.cap_spec.specs.declared.Refusal.{Refusal}
+use Rattle.cap_ptr.specs.Shapes.{IsFollowed, charge_of}
+use Rattle.cap_ptr.specs.declared.shapes.Followed.{Followed}
+use Rattle.cap_ptr.specs.declared.shapes.Followed.TheVariants as followed
+use Rattle.cap_vet.specs.Needed.{NeedsCharge, SumsBefore}
+use Rattle.cap_vet.specs.Prelude.{Reason, Step}
+use Rattle.cap_vet.proofs.Tours.{in_order-reverse}
+use Rattle.cap_vet.proofs.Verdicts.{CostOf-in_order}
+
+-- the word that leads somewhere
+leads_word : (m : List (List ℕ)) (s w k : ℕ) (r : Lead) → Leads m s w k r → (p : ℕ) × HasWord m s w p
+leads_word m s w k r (near p has a b c) = (p, has)
+leads_word m s w k r (one_pad p q has a b c d e) = (p, has)
+leads_word m s w k r (two_pads p f q has a b c d e g h) = (p, has)
+
+costs_word : (m : List (List ℕ)) (s w cost : ℕ) → Costs m s w cost → (p : ℕ) × HasWord m s w p
+costs_word m s w cost (inl l) = leads_word m s w cost _ l
+costs_word m s w cost (inr (inl (i, l))) = leads_word m s w cost _ l
+costs_word m s w cost (inr (inr (k, t, b, q, tag, f, h, e))) = leads_word m s w k _ f.leads
+
+-- where the word limit is passed, a pointer can be followed
+pub past_costs : (m : List (List ℕ)) (words depth before s w level : ℕ) (v : Reason) → IsFirstReason m words depth before s w level v
+    → v ≡ WordLimit → (cost : ℕ) × Costs m s w cost
+past_costs m words depth before s w level v (is_wrong x) e = absurd ((rw e at x).holds)
+past_costs m words depth before s w level v (is_deep x y) e = absurd (cc)
+past_costs m words depth before s w level v (is_past cost x y c z) e = (cost, c)
+
+-- so the word is there
+pub past_exists : (m : List (List ℕ)) (s w cost : ℕ) → Costs m s w cost → (s < length m) × (w < length (segment_of m s))
+past_exists m s w cost c =
+    let h = costs_word m s w cost c in
+    (HasWord-segment m s w h.0 h.1, HasWord-inside m s w h.0 h.1)
+
+-- paths cost the same in any order
+pub same_cost : (m : List (List ℕ)) (before seen : List (List Step)) (c d : ℕ) → AreDistinct before → before ≡ reverse seen
+    → CostOf m before c → CostOf m seen d → c ≡ d
+same_cost m before seen c d distinct e x y =
+    let z : CostOf m before d =
+    subst (λ (ps : List (List Step)). CostOf m ps d) (in_order-reverse seen ∙ sym e) (CostOf-in_order m seen d y) in
+    let le = distinct_cost m before before c d distinct (λ q i. i) x z in
+    let ge = distinct_cost m before before d c distinct (λ q i. i) z x in
+    omega (arith, le, ge)
+
+-- the paths before the first fault are distinct
+pub distinct_before : (before : List (List Step)) (path : List Step) → AreDistinct (before ++ path ∷ []) → AreDistinct before
+distinct_before before path d = (distinct_last before path d).1
+
+-- the charge of the first fault is that of the paths that a walk has seen before it
+charge_before : (m : List (List ℕ)) (words depth : ℕ) (r : Refusal) (f : IsFirstFault m words depth r) (seen : List (List Step)) (charge : ℕ)
+    → f.fault.before ≡ reverse seen → CostOf m seen charge → f.fault.charge ≡ charge
+charge_before m words depth r f seen charge e c =
+    let at = f.fault in
+    same_cost m at.before seen at.charge charge
+    (distinct_before at.before f.path (Rises-distinct (at.before ++ f.path ∷ []) (fault_tour at).rising)) e at.costs c
+
+-- what a walk says that stopped at a refusal
+module _ (m : List (List ℕ)) (words depth charge : ℕ) (r : Refusal) where
+  pub refused_of : SumsBefore m words depth r charge → IsRefused m words depth r
+  refused_of (inl h) = inl h.0
+  refused_of (inr h) = inr h.0
+
+  -- where the word limit is passed, the pointer can be followed
+  pub cost_there : SumsBefore m words depth r charge → r.reason ≡ WordLimit → (cost : ℕ) × Costs m r.segment r.word cost
+  cost_there (inl h) e = absurd (let no = h.0.lacks.reason in cc)
+  cost_there (inr h) e = let at = h.0.fault in
+      past_costs m words depth at.charge r.segment r.word at.numbered.level r.reason at.reason e
+
+  -- the charge before it is within the limit
+  pub charge_within : SumsBefore m words depth r charge → r.reason ≡ WordLimit → charge ≤ words
+  charge_within (inl h) e = absurd (let no = h.0.lacks.reason in cc)
+  charge_within (inr h) e = omega (arith, (kept_before h.0).0, charge_before m words depth r h.0 h.1 charge h.2 h.3.0)
+
+  -- with what the pointer costs it is the charge that is needed
+  pub needs_with : SumsBefore m words depth r charge → r.reason ≡ WordLimit → (cost : ℕ) → Costs m r.segment r.word cost
+      → NeedsCharge m words depth (charge + cost)
+  needs_with (inl h) e cost c = absurd (let no = h.0.lacks.reason in cc)
+  needs_with (inr h) e cost c = (
+    r,
+    h.0,
+    e,
+    cost,
+    c,
+    ap (λ x. x + cost) (sym (charge_before m words depth r h.0 h.1 charge h.2 h.3.0)),
+  )
+
+-- a message that is refused for another reason needs no charge
+pub other_reason : (m : List (List ℕ)) (words depth : ℕ) (r : Refusal) → IsRefused m words depth r → r.reason ≢ WordLimit
+    → (charge : ℕ) → ¬ NeedsCharge m words depth charge
+other_reason m words depth r h n charge (r', f, e, cost, c, x) =
+    n (ap (λ (r : Refusal). r.reason) (one_refusal m words depth r r' h (inr f)) ∙ e)
+
+-- nor does one that is accepted
+pub accepted_needs : (m : List (List ℕ)) (words depth : ℕ) → IsWithin m words depth → (charge : ℕ) → ¬ NeedsCharge m words depth charge
+accepted_needs m words depth w charge (r, f, e, cost, c, x) = within_not_refused m words depth r w (inr f)
+
+-- a pointer has at most two pad words
+few_pads : (m : List (List ℕ)) (s w k : ℕ) (r : Lead) → Leads m s w k r → k ≤ 2
+few_pads m s w k r (near p has a b c) = omega (arith, c)
+few_pads m s w k r (one_pad p q has a b c d e) = omega (arith, e)
+few_pads m s w k r (two_pads p f q has a b c d e g h) = omega (arith, h)
+
+-- following a pointer costs few words
+pub charge_small : (m : List (List ℕ)) (s w : ℕ) (f : Followed) → IsFollowed m s w f → charge_of f < 2 ^ 31
+charge_small m s w (followed.Null k) h = omega (arith, few_pads m s w k _ h)
+charge_small m s w (followed.Cap k i) h = omega (arith, few_pads m s w k _ h)
+charge_small m s w (followed.Target x) (q, tag, h) = h.object.small

@@ -1,0 +1,27 @@
+use Rattle.std.proofs.Common.{arith, sym, ◌∙◌}
+use Rattle.cap_vet.proofs.MarkingWalk.{known_marks, marks_known, still_overlaps, turn_on, turn_overlap}
+use Rattle.cap_vet.proofs.exclusiveness.overlap_turn.OverlapSearch.mark.Goals as goal
+
+pub mark_pointer-requires-clause-word : goal.mark_pointer-requires-clause-word
+mark_pointer-requires-clause-word g c =
+    let looked = c.requires.known.3 in
+    let known = marks_known _ _ c.args.self.now.marks _ (sym c.is_some.ensures ∙ c.if-is_some.false) c.requires.known.4 in
+    record { room = known.room; exists = looked.exists; inside = omega (arith, looked.inside) }
+
+pub returns-then-is_some-clause-known : goal.returns-then-is_some-clause-known
+returns-then-is_some-clause-known g c = λ seen a cost l k.
+    still_overlaps _ _ _ c.args.self.now.marks _ (sym c.is_some.ensures ∙ c.if-is_some.true) k
+
+pub returns-then-not-mark_pointer-clause-known : goal.returns-then-not-mark_pointer-clause-known
+returns-then-not-mark_pointer-clause-known g c = λ seen a cost l k.
+    let known = marks_known _ _ c.args.self.now.marks _ (sym c.is_some.ensures ∙ c.if-is_some.false) k in
+    turn_overlap seen a l known.marked (c.mark_pointer.ensures.conflict c.if-not-mark_pointer.true)
+
+pub returns-else-not-mark_pointer-clause-known : goal.returns-else-not-mark_pointer-clause-known
+returns-else-not-mark_pointer-clause-known g c = λ seen a cost l k.
+    let none = sym c.is_some.ensures ∙ c.if-is_some.false in
+    let known = marks_known _ _ c.args.self.now.marks _ none k in
+    known_marks _ _ c.mark_pointer.new.self _ none (record {
+      room = c.mark_pointer.ensures.room;
+      marked = turn_on seen a l known.marked (c.mark_pointer.ensures.taken c.if-not-mark_pointer.false);
+    })

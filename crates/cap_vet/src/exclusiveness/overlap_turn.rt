@@ -1,0 +1,99 @@
+//! The turn of a walk that marks words, and looks for the first pointer that uses one twice.
+
+ghost use Rattle.cap_spec.specs.declared.Step.{Step};
+ghost use Rattle.cap_vet.specs.Marks.{UsesPlace};
+ghost use Rattle.cap_vet.specs.NullMarks.{null_known_marks};
+ghost use Rattle.cap_vet.specs.Overlapping.{KnowsMarks};
+ghost use Rattle.cap_vet.specs.StrictNulls.{null_known};
+ghost use Rattle.cap_vet.specs.Stricts.{KnowsLax};
+ghost use Rattle.cap_vet.specs.Trails.{Ahead};
+ghost use Rattle.cap_vet.specs.Walking.{IsLookedAt};
+ghost use Rattle.std.specs.Prelude.{◌∷◌, ◌≡◌, IfSome, List, ℕ};
+
+use crate::exclusiveness::marks::Marks;
+use crate::exclusiveness::uses::near_use;
+use crate::nodes::place::Place;
+use crate::strictness::strict_turn::LaxSearch;
+use crate::walk::turn::Turn;
+use cap_frame::Segments;
+use std::convert::Infallible;
+
+/// The first pointer in preorder that uses a word which is used already.
+#[derive(Clone, Copy, Drop)]
+pub(crate) struct Overlap {
+    pub(crate) segment: u32,
+    pub(crate) word: u32,
+    /// How many pointer words were looked at, that one included.
+    pub(crate) pointers: u64,
+}
+
+/// A walk that remembers the first pointer which overlaps, and goes on without marks. It remembers the
+/// first pointer which common readers reject, too.
+#[derive(Drop)]
+pub(crate) struct OverlapSearch<'a> {
+    pub(crate) marks: Marks<'a>,
+    pub(crate) first: Option<Overlap>,
+    pub(crate) strictness: LaxSearch,
+}
+
+impl OverlapSearch<'_> {
+    // Marks what a pointer uses, unless one overlapped before.
+    #[inline(always)]
+    fn mark<M: Segments>(&mut self, message: &M, s: u32, w: u32, used: Option<Place>, pointers: u64)
+        requires used { IfSome used (UsesPlace (M.segments message.now) s w) }
+        requires known { let m = M.segments message.now in (seen : List (List Step)) × (a : Ahead)
+            × (cost : ℕ) × IsLookedAt m seen a s w pointers cost
+            × KnowsMarks m seen self.old.marks self.old.first }
+        ensures known { let m = M.segments message.now in (seen : List (List Step)) (a : Ahead)
+            (cost : ℕ) → IsLookedAt m seen a s w pointers cost →
+            KnowsMarks m seen self.old.marks self.old.first →
+            KnowsMarks m (a.path ∷ seen) self.new.marks self.new.first }
+        ensures strictness { self.new.strictness ≡ self.old.strictness }
+    {
+        if self.first.is_some() {
+            return;
+        }
+        if !self.marks.mark_pointer(message, s, w, used) {
+            self.first = Some(Overlap {
+                segment: s,
+                word: w,
+                pointers,
+            });
+        }
+    }
+}
+
+impl Turn for OverlapSearch<'_> {
+    type Stop = Infallible;
+
+    ghost knows = { λ search m seen.
+        KnowsMarks m seen search.marks search.first × KnowsLax m seen search.strictness.first };
+
+    ghost stops = { λ _ _. ⊥ };
+
+    #[inline(always)]
+    fn before<M: Segments>(&self, message: &M, s: u32, w: u32) -> Option<Place> {
+        near_use(message, s, w)
+    }
+
+    #[inline(always)]
+    fn after<M: Segments>(
+        &mut self,
+        message: &M,
+        s: u32,
+        w: u32,
+        used: Option<Place>,
+        may_be_lax: bool,
+        pointers: u64,
+        cost: u64,
+    ) -> Result<(), Infallible> {
+        self.mark(message, s, w, used, pointers);
+        self.strictness
+            .after(message, s, w, used, may_be_lax, pointers, cost)
+    }
+
+    ghost passes = { λ search m seen p level s w reached null known. (
+      null_known_marks m seen p level s w search.marks search.first reached null known.0,
+      null_known m seen p level s w search.strictness.first reached null known.1,
+    ) };
+}
