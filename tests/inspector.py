@@ -48,8 +48,9 @@ def program(words, stream):
 
 
 def explanations(words, stream):
-    """For each message the line of its verdict, and the lines that explain it."""
-    found = re.findall(r"^(message .*)\n((?:  .*\n)*)", output(["explain", *words], stream, False).decode(), re.M)
+    """For each message the line of its verdict, and the lines that explain it, without the byte in the input."""
+    text = re.sub(r", byte \d+ of the input$", "", output(["explain", *words], stream, False).decode(), flags=re.M)
+    found = re.findall(r"^(message .*)\n((?:  .*\n)*)", text, re.M)
     assert found, "the program explains nothing"
     return found
 
