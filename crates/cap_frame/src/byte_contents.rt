@@ -119,6 +119,8 @@ fn append_run<S: WordSource>(source: &mut S, bytes: &mut Vec<u8>, done: usize, n
 /// Reads `words` words into a buffer with capacity for their bytes. The bytes that it has already
 /// are read over in one piece, and the rest in pieces of no more than `PIECE`. After each of these
 /// the source may append literal words.
+// Inlined, since a stream may be of many small messages.
+#[inline(always)]
 pub(crate) fn read_bytes<S: WordSource>(
     source: &mut S,
     words: usize,
