@@ -107,9 +107,10 @@ fn push_fault<M: Segments>(
     }
 }
 
-/// Writes the lines that explain why a message is refused (docs/output.md, explain): the path to the
-/// pointer, where it is, the pointer word and its fields, where it leads, what is exceeded, and the
-/// reason as a sentence. What the text held before is removed. Allocates nothing.
+/// Writes the lines that explain why a message is refused (docs/output.md, explain). They give the
+/// path to the pointer, where it is, and the pointer word with its fields. Then come where it leads,
+/// what is exceeded, and the reason as a sentence. What the text held before is removed. Allocates
+/// nothing.
 ///
 /// A refusal that names no word of the message has only the line of the reason, and that of a path
 /// if one is given. A path of more than 257 steps has no line: no path to a pointer of a refusal has

@@ -29,7 +29,7 @@ fault_numbers demands m words depth fault h start = record {
 }
 
 -- The line of message n if it doesn't meet the demands, and the lines that explain the first reason.
--- So many words of the input are before the message.
+-- This number of words of the input is before the message.
 pub record TellsFaultLines (demands : Demands) (words depth before n : ℕ) (m : List (List ℕ))
     (text : List ℕ) (counted : Counted) : Type 0 where
   pub fault : StrictRefusal

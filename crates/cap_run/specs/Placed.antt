@@ -30,7 +30,7 @@ TellsFrom tells before n (t ∷ ts) = tells before n t.message t.text t.counted
     × TellsFrom tells (before + frame_words t.message) (n + 1) ts
 
 module _ {S O : Type 0} (gs : source.Ghosts S) (go : output.Ghosts O) where
-  -- a message of so many words was read, and its text as message n was written
+  -- a message of this number of words was read, and its text as message n was written
   abbrev pub StepPlaces : Tells → ℕ → ℕ → S → S → O → O → Counted → ℕ → Type 0
   StepPlaces tells limit n old new before after counted words = (t : Told) × (t.counted ≡ counted)
       × tells n t.message t.text t.counted × ReadsStream gs limit old new (t.message ∷ [])

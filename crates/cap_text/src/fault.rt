@@ -49,10 +49,12 @@ pub struct StreamBreak {
     pub start: u64,
     /// The most words that a message may have.
     pub limit: u64,
-    /// What its table says, if that is whole. `None` after [`FrameFault::TooManySegments`].
+    /// What its table says, if that is whole: after [`FrameFault::Truncated`] and
+    /// [`FrameFault::TooLarge`]. `None` after [`FrameFault::TooManySegments`]. After other faults it
+    /// has no meaning.
     pub table: Option<TableSums>,
-    /// Whether the input ends inside a word or inside a group of packed words. `false` if it doesn't
-    /// end there.
+    /// Whether the input ends inside a word or inside a group of packed words, after
+    /// [`FrameFault::Truncated`]. After other faults it has no meaning.
     pub is_cut: bool,
 }
 
