@@ -1,14 +1,14 @@
 -- With all three flags nothing but acceptance is demanded.
 use Rattle.cap_spec.specs.declared.Refusal.{Refusal}
-use Rattle.cap_spec.proofs.Prelude.{Bool, List, ap, arith, false, inl, inr, not, refl, subst, sym, ℕ, ◌∙◌, ◌≡◌}
-use Rattle.cap_spec.proofs.Prelude.{false≢true, IsRefused}
-use Rattle.cap_vet.specs.Prelude.{IsDemandFault, Meets, IsAccepted, marks_of}
+use Rattle.cap_spec.proofs.ProofNames.{Bool, List, ap, arith, false, inl, inr, not, refl, subst, sym, ℕ, ◌∙◌, ◌≡◌}
+use Rattle.cap_spec.proofs.ProofNames.{false≢true, IsRefused}
+use Rattle.cap_vet.specs.VetNames.{IsDemandFault, Meets, IsAccepted, marks_of}
 use Rattle.cap_calls.specs.CallFindings.{JudgesAny, accepted, without}
 use Rattle.cap_calls.specs.ExclusiveCalls.{MarksAny, too_small}
-use Rattle.cap_calls.specs.Prelude.{StrictRefusal, Demands, Report, Judges, Tells, TellsWhole, framed, refused}
-use Rattle.cap_calls.specs.Prelude.{refused_found, tells, trailing, allows_trailing, demands_of, has_no_table}
-use Rattle.cap_calls.specs.Prelude.{TellsInput, of_frame, of_no_words, of_words, Marks, exclusive, overlap, Found}
-use Rattle.cap_calls.specs.Prelude.{CallLimits}
+use Rattle.cap_calls.specs.CallNames.{StrictRefusal, Demands, Report, Judges, Tells, TellsWhole, framed, refused}
+use Rattle.cap_calls.specs.CallNames.{refused_found, tells, trailing, allows_trailing, demands_of, has_no_table}
+use Rattle.cap_calls.specs.CallNames.{TellsInput, of_frame, of_no_words, of_words, Marks, exclusive, overlap, Found}
+use Rattle.cap_calls.specs.CallNames.{CallLimits}
 use Rattle.cap_calls.proofs.Words.{one_input}
 use Rattle.cap_spec.specs.declared.StrictRefusal.TheVariants as strict
 use Rattle.cap_vet.specs.declared.exclusiveness.exclusive_room.ExclusiveFault.TheVariants as fault

@@ -1,21 +1,21 @@
 -- The bytes decide what each call finds.
 use Rattle.cap_spec.specs.declared.StrictRefusal.TheVariants.{Refused}
 use Rattle.cap_spec.proofs.Lemmas.{one_frame, strict_not_fault, within_not_refused}
-use Rattle.cap_spec.proofs.Prelude.{Bool, Err, List, None, Ok, Option, Result, [], ap, ap₂, length, not, refl, subst}
-use Rattle.cap_spec.proofs.Prelude.{sym, true, ℕ, ◌*◌, ◌-◌, ◌∙◌, ◌∷◌, ◌≡◌, ⊤, plain_words, IsStrictFault}
+use Rattle.cap_spec.proofs.ProofNames.{Bool, Err, List, None, Ok, Option, Result, [], ap, ap₂, length, not, refl, subst}
+use Rattle.cap_spec.proofs.ProofNames.{sym, true, ℕ, ◌*◌, ◌-◌, ◌∙◌, ◌∷◌, ◌≡◌, ⊤, plain_words, IsStrictFault}
 use Rattle.cap_spec.proofs.Strict.Faults.{one_strict_fault}
 use Rattle.cap_frame.specs.Framed.{TellsFront}
 use Rattle.cap_frame.specs.declared.fault.FrontFault.TheVariants.{TooLarge, TooManySegments, Truncated}
 use Rattle.cap_frame.proofs.FrontAnswers.{empty_answer, large_answer, many_answer, short_answer, whole_answer}
-use Rattle.cap_vet.specs.Prelude.{IsDemandFault, Meets, words_under, IsAccepted}
+use Rattle.cap_vet.specs.VetNames.{IsDemandFault, Meets, words_under, IsAccepted}
 use Rattle.cap_vet.proofs.OneReport.{one_report}
 use Rattle.cap_calls.specs.CallFindings.{Returns, accepted, trailing_found, without}
 use Rattle.cap_calls.specs.Calls.{IsCheck, TellsCheck, TellsFrame, canonical, not_canonical}
-use Rattle.cap_calls.specs.Prelude.{StrictRefusal, ManySegments, Pointer, FrontFault, Framed, Demands, Report, Judges}
-use Rattle.cap_calls.specs.Prelude.{Tells, TellsWhole, framed, framed_found, none_found, refused, refused_found, tells}
-use Rattle.cap_calls.specs.Prelude.{trailing, allows_trailing, demands_of, HasFrame, HasNoFrame, TellsInput, of_frame}
-use Rattle.cap_calls.specs.Prelude.{of_no_words, of_words, TellsMessage, TellsVet, Answer, Found, NoFrame, BadLimits}
-use Rattle.cap_calls.specs.Prelude.{Fault, CallLimits, CallReport}
+use Rattle.cap_calls.specs.CallNames.{StrictRefusal, ManySegments, Pointer, FrontFault, Framed, Demands, Report, Judges}
+use Rattle.cap_calls.specs.CallNames.{Tells, TellsWhole, framed, framed_found, none_found, refused, refused_found, tells}
+use Rattle.cap_calls.specs.CallNames.{trailing, allows_trailing, demands_of, HasFrame, HasNoFrame, TellsInput, of_frame}
+use Rattle.cap_calls.specs.CallNames.{of_no_words, of_words, TellsMessage, TellsVet, Answer, Found, NoFrame, BadLimits}
+use Rattle.cap_calls.specs.CallNames.{Fault, CallLimits, CallReport}
 use Rattle.cap_calls.specs.declared.front.NoFrame.TheVariants.{NoMessage}
 use Rattle.cap_calls.proofs.Words.{no_word_cause, one_input, one_word_cause}
 

@@ -1,9 +1,9 @@
 -- The words that a call gave are appended to the message.
 use Rattle.cap_spec.proofs.Lemmas.{all_drop, all_take, plain_split, words_exact}
-use Rattle.cap_spec.proofs.Prelude.{List, [], ap, append-nil, append_assoc, ap₂, arith, drop, length, length-drop}
-use Rattle.cap_spec.proofs.Prelude.{length-take-le, sym, take, take-append-drop, take-take, ℕ, ◌%◌, ◌*◌, ◌++◌, ◌+◌, ◌<◌}
-use Rattle.cap_spec.proofs.Prelude.{◌∙◌, ◌≡◌, ◌≤◌, drop_all, AllByRecursion, plain_text, plain_words}
-use Rattle.cap_calls.specs.Prelude.{WritesWords, Appends, IsOpen, Unpacking}
+use Rattle.cap_spec.proofs.ProofNames.{List, [], ap, append-nil, append_assoc, ap₂, arith, drop, length, length-drop}
+use Rattle.cap_spec.proofs.ProofNames.{length-take-le, sym, take, take-append-drop, take-take, ℕ, ◌%◌, ◌*◌, ◌++◌, ◌+◌, ◌<◌}
+use Rattle.cap_spec.proofs.ProofNames.{◌∙◌, ◌≡◌, ◌≤◌, drop_all, AllByRecursion, plain_text, plain_words}
+use Rattle.cap_calls.specs.CallNames.{WritesWords, Appends, IsOpen, Unpacking}
 use Rattle.cap_calls.specs.declared.packed_stream.Given.{Given}
 
 -- the words of the buffer from where the call began

@@ -1,13 +1,13 @@
 -- The bounds of the header suffice.
 use Rattle.cap_spec.proofs.Lemmas.{words_exact, length_joined, table_length}
-use Rattle.cap_spec.proofs.Prelude.{Bool, List, ap, arith, length, length-append, ℕ, ◌∙◌, ◌≡◌, ◌≤◌, ⊤, joined, sizes_of}
+use Rattle.cap_spec.proofs.ProofNames.{Bool, List, ap, arith, length, length-append, ℕ, ◌∙◌, ◌≡◌, ◌≤◌, ⊤, joined, sizes_of}
 use Rattle.cap_frame.specs.Fronts.{IsFront}
 use Rattle.cap_frame.specs.declared.fault.FrontFault.TheVariants.{TooLarge, TooManySegments, Truncated}
 use Rattle.cap_calls.specs.CallFindings.{without}
 use Rattle.cap_calls.specs.CallReports.{cause_input_required}
 use Rattle.cap_calls.specs.Calls.{FindsFrame}
-use Rattle.cap_calls.specs.Prelude.{frame_bound, Tells, TellsWhole, framed, tells, trailing, HasNoFrame, TellsInput}
-use Rattle.cap_calls.specs.Prelude.{of_frame, of_no_words, of_words, Found, NoFrame, BadLimits, Fault, CallLimits}
+use Rattle.cap_calls.specs.CallNames.{frame_bound, Tells, TellsWhole, framed, tells, trailing, HasNoFrame, TellsInput}
+use Rattle.cap_calls.specs.CallNames.{of_frame, of_no_words, of_words, Found, NoFrame, BadLimits, Fault, CallLimits}
 use Rattle.cap_calls.specs.declared.front.NoFrame.TheVariants.{NoMessage}
 
 -- a frame within the limit, which is in the bytes

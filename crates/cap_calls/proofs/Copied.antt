@@ -1,8 +1,8 @@
 -- The bytes and the buffer decide what the call for a canonical copy finds and writes.
 use Rattle.cap_spec.proofs.Lemmas.{length_plain, one_copy, length_joined}
-use Rattle.cap_spec.proofs.Prelude.{Bool, List, None, Option, Result, Some, [], ap, ap₂, arith, false, if◌then◌else◌}
-use Rattle.cap_spec.proofs.Prelude.{length, length-append, not, subst, sum, sym, true, unwrap_or, ℕ, ◌*◌, ◌+◌, ◌∙◌, ◌∷◌}
-use Rattle.cap_spec.proofs.Prelude.{◌≡◌, ◌≤◌, joined, sizes_of, IsFirstCap, plain_text, plain_words, unamplified}
+use Rattle.cap_spec.proofs.ProofNames.{Bool, List, None, Option, Result, Some, [], ap, ap₂, arith, false, if◌then◌else◌}
+use Rattle.cap_spec.proofs.ProofNames.{length, length-append, not, subst, sum, sym, true, unwrap_or, ℕ, ◌*◌, ◌+◌, ◌∙◌, ◌∷◌}
+use Rattle.cap_spec.proofs.ProofNames.{◌≡◌, ◌≤◌, joined, sizes_of, IsFirstCap, plain_text, plain_words, unamplified}
 use Rattle.cap_spec.proofs.Strict.Unamplified.{within_both}
 use Rattle.cap_vet.specs.Reports.{IsFirstCapOf}
 use Rattle.cap_canon.specs.CopyRooms.{TellsRoom}
@@ -11,9 +11,9 @@ use Rattle.cap_canon.proofs.Copies.{cap_no_copy, copy_charged}
 use Rattle.cap_calls.specs.CallFindings.{accepted, without}
 use Rattle.cap_calls.specs.CanonicalCalls.{Copies, FindsCopy, TellsCopy, copied, has_capability}
 use Rattle.cap_calls.specs.PackCalls.{too_small, written}
-use Rattle.cap_calls.specs.Prelude.{Demands, Report, TellsWhole, accepted_found, framed, refused, tells, trailing}
-use Rattle.cap_calls.specs.Prelude.{allows_amplified, allows_trailing, demands_of, HasFrame, TellsInput, of_frame}
-use Rattle.cap_calls.specs.Prelude.{of_no_words, of_words, size_found, TellsText, Answer, Found, CallLimits, CallReport}
+use Rattle.cap_calls.specs.CallNames.{Demands, Report, TellsWhole, accepted_found, framed, refused, tells, trailing}
+use Rattle.cap_calls.specs.CallNames.{allows_amplified, allows_trailing, demands_of, HasFrame, TellsInput, of_frame}
+use Rattle.cap_calls.specs.CallNames.{of_no_words, of_words, size_found, TellsText, Answer, Found, CallLimits, CallReport}
 use Rattle.cap_calls.proofs.Answers.{one_input_told, one_judged, one_returned}
 use Rattle.cap_calls.proofs.Texts.{one_text}
 use Rattle.cap_calls.proofs.Words.{few_words}

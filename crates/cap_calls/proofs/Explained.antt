@@ -14,9 +14,9 @@ use Rattle.cap_trace.proofs.Named.{one_path}
 use Rattle.cap_calls.specs.CallFindings.{without}
 use Rattle.cap_calls.specs.CallReports.{refused_report}
 use Rattle.cap_calls.specs.ExplainCalls.{FindsFewLines, FindsLines, TellsExplanation, accepted, explained, fault_lines, fault_numbers}
-use Rattle.cap_calls.specs.Prelude.{Step, StrictRefusal, Demands, framed, tells, trailing, allows_trailing, demands_of}
-use Rattle.cap_calls.specs.Prelude.{TellsInput, of_frame, of_no_words, of_words, TellsText, Answer, Found, CallLimits}
-use Rattle.cap_calls.specs.Prelude.{CallReport}
+use Rattle.cap_calls.specs.CallNames.{Step, StrictRefusal, Demands, framed, tells, trailing, allows_trailing, demands_of}
+use Rattle.cap_calls.specs.CallNames.{TellsInput, of_frame, of_no_words, of_words, TellsText, Answer, Found, CallLimits}
+use Rattle.cap_calls.specs.CallNames.{CallReport}
 use Rattle.cap_calls.proofs.Answers.{meets_no_fault, one_demand_fault, one_input_told, one_returned}
 use Rattle.cap_calls.proofs.Copied.{same_found}
 use Rattle.cap_calls.proofs.Texts.{one_text}

@@ -1,8 +1,8 @@
 -- Words in a buffer, one step after the other.
-use Rattle.cap_spec.proofs.Prelude.{List, [], ap, arith, drop, drop-drop, drop_at, length, length-append, length-drop}
-use Rattle.cap_spec.proofs.Prelude.{length-take, length-take-le, refl, subst, sym, take, take-append-drop, ℕ, ◌%◌, ◌++◌}
-use Rattle.cap_spec.proofs.Prelude.{◌+◌, ◌-◌, ◌∙◌, ◌≡◌, ◌≤◌, drop-append-le, nil_from_length, take-put_mid_below}
-use Rattle.cap_spec.proofs.Prelude.{post_of, put_mid, plain_words}
+use Rattle.cap_spec.proofs.ProofNames.{List, [], ap, arith, drop, drop-drop, drop_at, length, length-append, length-drop}
+use Rattle.cap_spec.proofs.ProofNames.{length-take, length-take-le, refl, subst, sym, take, take-append-drop, ℕ, ◌%◌, ◌++◌}
+use Rattle.cap_spec.proofs.ProofNames.{◌+◌, ◌-◌, ◌∙◌, ◌≡◌, ◌≤◌, drop-append-le, nil_from_length, take-put_mid_below}
+use Rattle.cap_spec.proofs.ProofNames.{post_of, put_mid, plain_words}
 use Rattle.cap_words.proofs.Filling.{plain_join}
 use Rattle.cap_words.proofs.Turns.{filled}
 use Rattle.cap_calls.specs.PackedStreams.{GivesWords, IsRunRest, WritesWords}

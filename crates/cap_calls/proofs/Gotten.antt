@@ -6,10 +6,10 @@ use Rattle.cap_path.specs.declared.steps.PathSteps.{PathSteps}
 use Rattle.cap_vet.proofs.PathFaults.{meets_no_path_fault, one_path_fault}
 use Rattle.cap_calls.specs.CallFindings.{without}
 use Rattle.cap_calls.specs.NodeCalls.{GetsFirst, TellsPath, bad_limits}
-use Rattle.cap_calls.specs.Prelude.{Step, Demands, TellsWhole, framed, none_found, refused_found, tells, trailing}
-use Rattle.cap_calls.specs.Prelude.{allows_trailing, demands_of, AreLimits, none_node, TellsMessage, Gets, TellsGet}
-use Rattle.cap_calls.specs.Prelude.{a_node, a_path, bad_path, bad_path_found, no_meeting, no_node, Answer, Found}
-use Rattle.cap_calls.specs.Prelude.{BadLimits, Fault, CallLimits, CallNode, CallReport}
+use Rattle.cap_calls.specs.CallNames.{Step, Demands, TellsWhole, framed, none_found, refused_found, tells, trailing}
+use Rattle.cap_calls.specs.CallNames.{allows_trailing, demands_of, AreLimits, none_node, TellsMessage, Gets, TellsGet}
+use Rattle.cap_calls.specs.CallNames.{a_node, a_path, bad_path, bad_path_found, no_meeting, no_node, Answer, Found}
+use Rattle.cap_calls.specs.CallNames.{BadLimits, Fault, CallLimits, CallNode, CallReport}
 use Rattle.cap_calls.specs.declared.front.NoFrame.TheVariants.{NoMessage}
 use Rattle.cap_calls.proofs.Answers.{one_returned, one_whole_told}
 use Rattle.cap_calls.proofs.OneNode.{one_node}

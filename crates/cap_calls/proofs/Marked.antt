@@ -1,17 +1,17 @@
 -- The bytes and the capacity decide what the call that vets exclusively finds.
 use Rattle.cap_spec.proofs.Lemmas.{none_of_disjoint, one_overlap, length_joined}
-use Rattle.cap_spec.proofs.Prelude.{Bool, List, [], ap, arith, drop, inl, inr, length, length-append, not, sym, ℕ, ◌+◌}
-use Rattle.cap_spec.proofs.Prelude.{◌/◌, ◌∙◌, ◌∷◌, ◌≡◌, ◌≤◌, ⊤, joined, plain_words}
+use Rattle.cap_spec.proofs.ProofNames.{Bool, List, [], ap, arith, drop, inl, inr, length, length-append, not, sym, ℕ, ◌+◌}
+use Rattle.cap_spec.proofs.ProofNames.{◌/◌, ◌∙◌, ◌∷◌, ◌≡◌, ◌≤◌, ⊤, joined, plain_words}
 use Rattle.cap_vet.specs.Exclusives.{KeepsRoom}
-use Rattle.cap_vet.specs.Prelude.{IsExclusiveFault, IsVetted, marks_of}
+use Rattle.cap_vet.specs.VetNames.{IsExclusiveFault, IsVetted, marks_of}
 use Rattle.cap_vet.specs.declared.exclusiveness.exclusive_room.ExclusiveFault.{ExclusiveFault}
 use Rattle.cap_vet.specs.declared.exclusiveness.exclusive_room.ExclusiveFault.TheVariants.{NoRoom, Overlap, Refused}
 use Rattle.cap_vet.proofs.OneReport.{not_both, one_report}
 use Rattle.cap_calls.specs.CallFindings.{accepted, without}
 use Rattle.cap_calls.specs.ExclusiveCalls.{FindsMarks, KeepsMarks, MarksIn, TellsExclusive, too_small}
-use Rattle.cap_calls.specs.Prelude.{Demands, Report, TellsWhole, accepted_found, framed, refused, tells, trailing}
-use Rattle.cap_calls.specs.Prelude.{allows_trailing, demands_of, HasFrame, TellsInput, of_frame, of_no_words, of_words}
-use Rattle.cap_calls.specs.Prelude.{Marks, exclusive, fault_found, overlap, Answer, Found, CallLimits, CallReport}
+use Rattle.cap_calls.specs.CallNames.{Demands, Report, TellsWhole, accepted_found, framed, refused, tells, trailing}
+use Rattle.cap_calls.specs.CallNames.{allows_trailing, demands_of, HasFrame, TellsInput, of_frame, of_no_words, of_words}
+use Rattle.cap_calls.specs.CallNames.{Marks, exclusive, fault_found, overlap, Answer, Found, CallLimits, CallReport}
 use Rattle.cap_calls.proofs.Answers.{one_input_told, one_judged, one_returned}
 use Rattle.cap_calls.proofs.Words.{few_words}
 use Rattle.cap_calls.specs.declared.answer.Answer.TheVariants as answer

@@ -1,11 +1,11 @@
 -- A message that more words belong to, and the end of one.
 use Rattle.cap_spec.proofs.Frames.Endings.{frame_some}
 use Rattle.cap_spec.proofs.Frames.OneEnding.{one_ending}
-use Rattle.cap_spec.proofs.Prelude.{Err, List, Option, Result, [], ap, append_assoc, arith, inl, inr, length}
-use Rattle.cap_spec.proofs.Prelude.{length-append, length-take-le, refl, sum, sym, take, ℕ, ◌%◌, ◌*◌, ◌++◌, ◌+◌, ◌-◌}
-use Rattle.cap_spec.proofs.Prelude.{◌/◌, ◌<◌, ◌^◌, ◌∙◌, ◌∷◌, ◌≡◌, ◌≤◌, take-append-add, cases_lt, false≢true}
-use Rattle.cap_spec.proofs.Prelude.{nil_from_length, put_mid, BeginsMessage, message, partial, too_large, too_many}
-use Rattle.cap_spec.proofs.Prelude.{IsPartial, in_contents, in_table, in_word, plain_is_cut, plain_words}
+use Rattle.cap_spec.proofs.ProofNames.{Err, List, Option, Result, [], ap, append_assoc, arith, inl, inr, length}
+use Rattle.cap_spec.proofs.ProofNames.{length-append, length-take-le, refl, sum, sym, take, ℕ, ◌%◌, ◌*◌, ◌++◌, ◌+◌, ◌-◌}
+use Rattle.cap_spec.proofs.ProofNames.{◌/◌, ◌<◌, ◌^◌, ◌∙◌, ◌∷◌, ◌≡◌, ◌≤◌, take-append-add, cases_lt, false≢true}
+use Rattle.cap_spec.proofs.ProofNames.{nil_from_length, put_mid, BeginsMessage, message, partial, too_large, too_many}
+use Rattle.cap_spec.proofs.ProofNames.{IsPartial, in_contents, in_table, in_word, plain_is_cut, plain_words}
 use Rattle.cap_words.proofs.Filling.{plain_join}
 use Rattle.cap_words.proofs.Turns.{filled}
 use Rattle.cap_frame.specs.Framed.{TellsFront}
@@ -15,7 +15,7 @@ use Rattle.cap_frame.proofs.Cuts.{words_inside}
 use Rattle.cap_frame.proofs.FrontAnswers.{short_answer}
 use Rattle.cap_frame.proofs.Parts.{take_words}
 use Rattle.cap_calls.specs.MessageStages.{CannotAppend}
-use Rattle.cap_calls.specs.Prelude.{FrontFault, Framed, words_to_come, IsOpen, Stage}
+use Rattle.cap_calls.specs.CallNames.{FrontFault, Framed, words_to_come, IsOpen, Stage}
 use Rattle.cap_calls.specs.declared.calls.unpack_message.Stage.TheVariants.{Open, TooLarge, TooMany, Whole}
 use Rattle.cap_calls.specs.declared.packed_stream.Given.{Given}
 use Rattle.cap_calls.proofs.Packed.{whole_by_length}

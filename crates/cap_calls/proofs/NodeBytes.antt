@@ -2,12 +2,12 @@
 use Rattle.cap_spec.specs.declared.Kind.TheVariants.{Pointers}
 use Rattle.cap_spec.proofs.Lemmas.{structs_words, word_within}
 use Rattle.cap_spec.proofs.Pointers.Shapes.{scalars_words, struct_words}
-use Rattle.cap_spec.proofs.Prelude.{List, [], arith, inl, inr, length, mul-le-mul_right, subst, sym, ℕ, ◌*◌, ◌+◌}
-use Rattle.cap_spec.proofs.Prelude.{◌/◌, ◌<◌, ◌∷◌, ◌≤◌, cases_lt, ⊤, HasObject, segment_of, HasPlace, IsPlace}
-use Rattle.cap_spec.proofs.Prelude.{PathLeads, ReachesSpot, Spot, StepsTo, element, word, element_bits}
-use Rattle.cap_spec.proofs.Prelude.{list_size, list_words}
+use Rattle.cap_spec.proofs.ProofNames.{List, [], arith, inl, inr, length, mul-le-mul_right, subst, sym, ℕ, ◌*◌, ◌+◌}
+use Rattle.cap_spec.proofs.ProofNames.{◌/◌, ◌<◌, ◌∷◌, ◌≤◌, cases_lt, ⊤, HasObject, segment_of, HasPlace, IsPlace}
+use Rattle.cap_spec.proofs.ProofNames.{PathLeads, ReachesSpot, Spot, StepsTo, element, word, element_bits}
+use Rattle.cap_spec.proofs.ProofNames.{list_size, list_words}
 use Rattle.cap_spec.proofs.Trees.Charges.{elements_fit}
-use Rattle.cap_calls.specs.Prelude.{Kind, Cap, Null, Scalars, Struct, Structs, Step, Item, Ptr, kind_node, offset_of}
+use Rattle.cap_calls.specs.CallNames.{Kind, Cap, Null, Scalars, Struct, Structs, Step, Item, Ptr, kind_node, offset_of}
 
 -- The words of an element are inside their segment.
 abbrev IsElementInside : List (List ℕ) → Spot → Type 0

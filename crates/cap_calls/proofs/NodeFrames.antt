@@ -2,10 +2,10 @@
 use Rattle.std.proofs.Common.{Bool, List, ap, arith, length, not, slice_index_or, ℕ, ◌+◌, ◌<◌, ◌∙◌, ◌≡◌, ◌≤◌}
 use Rattle.cap_calls.specs.CallFindings.{without}
 use Rattle.cap_calls.specs.NodeCalls.{bad_limits}
-use Rattle.cap_calls.specs.Prelude.{Step, Demands, TellsWhole, framed, tells, trailing, allows_trailing, demands_of}
-use Rattle.cap_calls.specs.Prelude.{HasFrame, none_node, Gets, TellsGet, a_node, a_path, bad_path, no_meeting, no_node}
-use Rattle.cap_calls.specs.Prelude.{GetsRange, TellsRange, path_after, Answer, Found, CallLimits, CallNode, CallReport}
-use Rattle.cap_calls.specs.Prelude.{CallStep}
+use Rattle.cap_calls.specs.CallNames.{Step, Demands, TellsWhole, framed, tells, trailing, allows_trailing, demands_of}
+use Rattle.cap_calls.specs.CallNames.{HasFrame, none_node, Gets, TellsGet, a_node, a_path, bad_path, no_meeting, no_node}
+use Rattle.cap_calls.specs.CallNames.{GetsRange, TellsRange, path_after, Answer, Found, CallLimits, CallNode, CallReport}
+use Rattle.cap_calls.specs.CallNames.{CallStep}
 use Rattle.cap_calls.proofs.Bounds.{length_inside}
 use Rattle.cap_calls.proofs.NodeBytes.{node_bounded}
 use Rattle.cap_calls.proofs.SegmentPlaces.{offset_inside}

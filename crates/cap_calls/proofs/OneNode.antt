@@ -1,9 +1,9 @@
 -- One node is at a path.
 use Rattle.cap_spec.specs.declared.Kind.TheVariants.{Pointers}
 use Rattle.cap_spec.proofs.Lemmas.{one_coming, one_lead, one_found}
-use Rattle.cap_spec.proofs.Prelude.{List, ap, ap₂, pos, refl, subst, sym, ℕ, ◌∙◌, ◌≡◌, HasObject, PathFinds, FindsKind}
-use Rattle.cap_spec.proofs.Prelude.{Leads, to_cap, to_null, to_object, Spot, element, word}
-use Rattle.cap_calls.specs.Prelude.{Kind, Cap, Null, Scalars, Struct, Structs, Step, kind_node, offset_of, CallNode}
+use Rattle.cap_spec.proofs.ProofNames.{List, ap, ap₂, pos, refl, subst, sym, ℕ, ◌∙◌, ◌≡◌, HasObject, PathFinds, FindsKind}
+use Rattle.cap_spec.proofs.ProofNames.{Leads, to_cap, to_null, to_object, Spot, element, word}
+use Rattle.cap_calls.specs.CallNames.{Kind, Cap, Null, Scalars, Struct, Structs, Step, kind_node, offset_of, CallNode}
 
 -- what a pointer word leads to
 data Seen (m : List (List ℕ)) (s w : ℕ) (k : Kind) (t b : ℕ) : Type 0 where

@@ -1,7 +1,7 @@
 -- Messages of one segment.
 use Rattle.cap_spec.proofs.Bytes.Plain.{words_exact}
-use Rattle.cap_spec.proofs.Prelude.{List, [], ap, arith, length, refl, suc, zero, ℕ, ◌/◌, ◌<◌, ◌∙◌, ◌∷◌, ◌≡◌}
-use Rattle.cap_spec.proofs.Prelude.{segment_of, plain_words}
+use Rattle.cap_spec.proofs.ProofNames.{List, [], ap, arith, length, refl, suc, zero, ℕ, ◌/◌, ◌<◌, ◌∙◌, ◌∷◌, ◌≡◌}
+use Rattle.cap_spec.proofs.ProofNames.{segment_of, plain_words}
 
 -- A message of one segment has no other.
 pub only_segment : (m : List (List ℕ)) → length m ≡ 1 → m ≡ segment_of m 0 ∷ []

@@ -7,7 +7,7 @@ use Rattle.cap_frame.specs.Fronts.{IsFront, TellsLarge, TellsMany}
 use Rattle.cap_frame.specs.declared.fault.FrontFault.TheVariants.{TooLarge, TooManySegments, Truncated}
 use Rattle.cap_frame.proofs.FrontAnswers.{empty_answer, large_answer, many_answer, short_answer}
 use Rattle.cap_calls.specs.CallReports.{none_report}
-use Rattle.cap_calls.specs.Prelude.{words_to_come, IsOpen, StopsCall, truncated, Answer, CallReport}
+use Rattle.cap_calls.specs.CallNames.{words_to_come, IsOpen, StopsCall, truncated, Answer, CallReport}
 use Rattle.cap_calls.specs.UnpackingMessages.{no_message, too_small}
 use Rattle.cap_calls.proofs.Answers.{Without}
 use Rattle.cap_calls.specs.UnpackingMessages as stop

@@ -1,9 +1,9 @@
 -- The bytes decide what packing answers and writes.
-use Rattle.cap_spec.proofs.Prelude.{List, ap, arith, drop, false, length, refl, sym, true, ℕ, ◌%◌, ◌++◌, ◌<◌, ◌∙◌, ◌≡◌}
-use Rattle.cap_spec.proofs.Prelude.{◌≤◌, false≢true, pack_text, plain_is_cut, plain_words}
+use Rattle.cap_spec.proofs.ProofNames.{List, ap, arith, drop, false, length, refl, sym, true, ℕ, ◌%◌, ◌++◌, ◌<◌, ◌∙◌, ◌≡◌}
+use Rattle.cap_spec.proofs.ProofNames.{◌≤◌, false≢true, pack_text, plain_is_cut, plain_words}
 use Rattle.cap_words.proofs.Pieces.{plain_end}
 use Rattle.cap_calls.specs.PackCalls.{TellsPack, too_small, whole, written}
-use Rattle.cap_calls.specs.Prelude.{cut, Answer, BufferTooSmall, Good}
+use Rattle.cap_calls.specs.CallNames.{cut, Answer, BufferTooSmall, Good}
 use Rattle.cap_calls.proofs.Texts.{one_text}
 
 -- Bytes and a buffer allow one answer.

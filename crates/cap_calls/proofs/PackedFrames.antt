@@ -2,11 +2,11 @@
 use Rattle.std.proofs.lemmas.List.Concat.{flat_map-append}
 use Rattle.cap_spec.proofs.Bytes.Lists.{all_append}
 use Rattle.cap_spec.proofs.Packed.Repacking.{pack_text_unpacks}
-use Rattle.cap_spec.proofs.Prelude.{List, [], ap, append-nil, ap₂, arith, drop, flat_map, get_or, length, length-append}
-use Rattle.cap_spec.proofs.Prelude.{refl, sum, sym, take, take-append-drop, zero-add, ℕ, ◌++◌, ◌+◌, ◌-◌, ◌/◌, ◌<◌, ◌∙◌}
-use Rattle.cap_spec.proofs.Prelude.{◌∷◌, ◌≡◌, ◌≤◌, length-map, map-append, take_more, sum_by-append, AllByRecursion}
-use Rattle.cap_spec.proofs.Prelude.{frame_text, joined, paired, sizes_of, IsMessage, packed_frame, table_of, pack_text}
-use Rattle.cap_spec.proofs.Prelude.{IsGroup, Unpacks, IsWord}
+use Rattle.cap_spec.proofs.ProofNames.{List, [], ap, append-nil, ap₂, arith, drop, flat_map, get_or, length, length-append}
+use Rattle.cap_spec.proofs.ProofNames.{refl, sum, sym, take, take-append-drop, zero-add, ℕ, ◌++◌, ◌+◌, ◌-◌, ◌/◌, ◌<◌, ◌∙◌}
+use Rattle.cap_spec.proofs.ProofNames.{◌∷◌, ◌≡◌, ◌≤◌, length-map, map-append, take_more, sum_by-append, AllByRecursion}
+use Rattle.cap_spec.proofs.ProofNames.{frame_text, joined, paired, sizes_of, IsMessage, packed_frame, table_of, pack_text}
+use Rattle.cap_spec.proofs.ProofNames.{IsGroup, Unpacks, IsWord}
 use Rattle.cap_frame.proofs.TableBytes.{numbers_fit, paired_words}
 
 -- texts that unpack to words do so one after the other

@@ -1,11 +1,11 @@
 -- The bytes and the buffer decide what the call that packs a message finds and writes.
 use Rattle.cap_spec.proofs.Lemmas.{length_joined, table_length}
-use Rattle.cap_spec.proofs.Prelude.{Bool, List, ap, arith, length, length-append, not, sym, ℕ, ◌*◌, ◌/◌, ◌∙◌, ◌≡◌, ◌≤◌}
-use Rattle.cap_spec.proofs.Prelude.{length-map, joined, sizes_of, packed_frame}
+use Rattle.cap_spec.proofs.ProofNames.{Bool, List, ap, arith, length, length-append, not, sym, ℕ, ◌*◌, ◌/◌, ◌∙◌, ◌≡◌, ◌≤◌}
+use Rattle.cap_spec.proofs.ProofNames.{length-map, joined, sizes_of, packed_frame}
 use Rattle.cap_calls.specs.CallFindings.{without}
 use Rattle.cap_calls.specs.PackedMessages.{Packs, PacksShort, TellsPackMessage}
-use Rattle.cap_calls.specs.Prelude.{TellsWhole, framed, tells, trailing, allows_trailing, TellsMessage, Answer, Found}
-use Rattle.cap_calls.specs.Prelude.{CallLimits, CallReport}
+use Rattle.cap_calls.specs.CallNames.{TellsWhole, framed, tells, trailing, allows_trailing, TellsMessage, Answer, Found}
+use Rattle.cap_calls.specs.CallNames.{CallLimits, CallReport}
 use Rattle.cap_calls.proofs.Answers.{message_by_flag, one_returned, one_whole_told, tells_less}
 use Rattle.cap_calls.proofs.Copied.{same_found}
 use Rattle.cap_calls.proofs.Texts.{one_text}

@@ -2,13 +2,13 @@
 use Rattle.cap_spec.proofs.Lemmas.{all_take, plain_short, words_exact}
 use Rattle.cap_spec.proofs.Packed.Groups.{group_off}
 use Rattle.cap_spec.proofs.Packed.Unpacking.{length_marked, spread_append, unpacked_front, unpacked_short}
-use Rattle.cap_spec.proofs.Prelude.{List, [], ap, append-nil, append_assoc, arith, drop, inl, inr, le-ltb, length}
-use Rattle.cap_spec.proofs.Prelude.{length-append, length-drop, length-take, length-take-le, lt-ltb, ne_eqb, refl}
-use Rattle.cap_spec.proofs.Prelude.{replicate, slice_index, subst, suc, sym, take, take-add, take-append-drop, take_all}
-use Rattle.cap_spec.proofs.Prelude.{zero, ℕ, ◌*◌, ◌++◌, ◌+◌, ◌-◌, ◌<◌, ◌==◌, ◌∙◌, ◌∷◌, ◌≡◌, ◌≢◌, ◌≤◌, ◌⊎◌}
-use Rattle.cap_spec.proofs.Prelude.{drop-append-add, take-append-add, cases_eq, cases_lt, cond-false, cond-true}
-use Rattle.cap_spec.proofs.Prelude.{drop_all, replicate-append-replicate, AllByRecursion, little_number, plain_words}
-use Rattle.cap_spec.proofs.Prelude.{given_of, marked, marks, spread, unpacked, zeros}
+use Rattle.cap_spec.proofs.ProofNames.{List, [], ap, append-nil, append_assoc, arith, drop, inl, inr, le-ltb, length}
+use Rattle.cap_spec.proofs.ProofNames.{length-append, length-drop, length-take, length-take-le, lt-ltb, ne_eqb, refl}
+use Rattle.cap_spec.proofs.ProofNames.{replicate, slice_index, subst, suc, sym, take, take-add, take-append-drop, take_all}
+use Rattle.cap_spec.proofs.ProofNames.{zero, ℕ, ◌*◌, ◌++◌, ◌+◌, ◌-◌, ◌<◌, ◌==◌, ◌∙◌, ◌∷◌, ◌≡◌, ◌≢◌, ◌≤◌, ◌⊎◌}
+use Rattle.cap_spec.proofs.ProofNames.{drop-append-add, take-append-add, cases_eq, cases_lt, cond-false, cond-true}
+use Rattle.cap_spec.proofs.ProofNames.{drop_all, replicate-append-replicate, AllByRecursion, little_number, plain_words}
+use Rattle.cap_spec.proofs.ProofNames.{given_of, marked, marks, spread, unpacked, zeros}
 use Rattle.cap_words.proofs.Filling.{plain_join}
 use Rattle.cap_pack.specs.Course.{first_word, head_rest, plain_of, zeros_of}
 use Rattle.cap_pack.proofs.Heads.{first_word-marked, first_word-plain, first_word-zeros, head_rest-marked}

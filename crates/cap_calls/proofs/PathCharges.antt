@@ -3,10 +3,10 @@ use Rattle.cap_spec.specs.declared.Step.{Step}
 use Rattle.cap_spec.proofs.Lemmas.{lead_word, part_to_step, step_to_part, coming_last, formed, paths_cost_charge}
 use Rattle.cap_spec.proofs.Lemmas.{paths_within_depth}
 use Rattle.cap_spec.proofs.Paths.Preorder.{Rises-distinct}
-use Rattle.cap_spec.proofs.Prelude.{List, None, Option, Some, [], append-nil, append_assoc, arith, length}
-use Rattle.cap_spec.proofs.Prelude.{length-append, refl, subst, sym, ℕ, ◌++◌, ◌+◌, ◌-◌, ◌<◌, ◌∷◌, ◌≡◌, IsWithin}
-use Rattle.cap_spec.proofs.Prelude.{AreOnPath, ReachesSpot, Spot, element, level_of, word, DenotesAt, Tree, part_at}
-use Rattle.cap_spec.proofs.Prelude.{CostOf}
+use Rattle.cap_spec.proofs.ProofNames.{List, None, Option, Some, [], append-nil, append_assoc, arith, length}
+use Rattle.cap_spec.proofs.ProofNames.{length-append, refl, subst, sym, ℕ, ◌++◌, ◌+◌, ◌-◌, ◌<◌, ◌∷◌, ◌≡◌, IsWithin}
+use Rattle.cap_spec.proofs.ProofNames.{AreOnPath, ReachesSpot, Spot, element, level_of, word, DenotesAt, Tree, part_at}
+use Rattle.cap_spec.proofs.ProofNames.{CostOf}
 use Rattle.cap_spec.proofs.Trees.Charges.{own_cost}
 use Rattle.cap_spec.proofs.Verdicts.OnPath.{cost_last, on_element, on_nowhere, on_root, on_word}
 use Rattle.cap_vet.specs.PathDemands.{KeepsToLimits}

@@ -6,8 +6,8 @@ use Rattle.cap_trace.proofs.Filling.{take_filled}
 use Rattle.cap_trace.proofs.Numbering.{one_numbered}
 use Rattle.cap_calls.specs.CallFindings.{without}
 use Rattle.cap_calls.specs.PointerCalls.{FindsFew, FindsPointer, TellsPointer, none, too_small, written}
-use Rattle.cap_calls.specs.Prelude.{Step, framed, tells, trailing, allows_trailing, TellsInput, of_frame, of_no_words}
-use Rattle.cap_calls.specs.Prelude.{of_words, call_step, steps_found, Answer, Found, CallLimits, CallReport, CallStep}
+use Rattle.cap_calls.specs.CallNames.{Step, framed, tells, trailing, allows_trailing, TellsInput, of_frame, of_no_words}
+use Rattle.cap_calls.specs.CallNames.{of_words, call_step, steps_found, Answer, Found, CallLimits, CallReport, CallStep}
 use Rattle.cap_calls.proofs.Answers.{one_input_told, one_returned}
 use Rattle.cap_calls.specs.declared.answer.Answer.TheVariants as answer
 

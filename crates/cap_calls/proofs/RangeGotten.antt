@@ -2,14 +2,14 @@
 use Rattle.std.proofs.Common.{ext_get_or, get_or-set_other, get_or-set_same, slice_set}
 use Rattle.cap_spec.specs.declared.Lax.{Lax}
 use Rattle.cap_spec.specs.declared.StrictRefusal.TheVariants.{Refused}
-use Rattle.cap_spec.proofs.Prelude.{List, ap, arith, eqb, false, get_or, inl, inr, length, length-set, not, refl, subst}
-use Rattle.cap_spec.proofs.Prelude.{sym, true, ℕ, ◌+◌, ◌<◌, ◌∙◌, ◌≡◌, ◌≤◌, ◌⊎◌, eqb_tells, leb_tells}
+use Rattle.cap_spec.proofs.ProofNames.{List, ap, arith, eqb, false, get_or, inl, inr, length, length-set, not, refl, subst}
+use Rattle.cap_spec.proofs.ProofNames.{sym, true, ℕ, ◌+◌, ◌<◌, ◌∙◌, ◌≡◌, ◌≤◌, ◌⊎◌, eqb_tells, leb_tells}
 use Rattle.cap_calls.specs.AnswerNumbers.{lax_answer}
-use Rattle.cap_calls.specs.Prelude.{Reason, Step, StrictRefusal, ManySegments, Pointer, Demands, reason_answer}
-use Rattle.cap_calls.specs.Prelude.{refusal_answer, refused_found, allows_trailing, demands_of, none_node, Gets}
-use Rattle.cap_calls.specs.Prelude.{bad_path_found, path_found, AreSteps, EndsRange, GetsRange, TellsRange, full, past}
-use Rattle.cap_calls.specs.Prelude.{path_after, stops, unknown, WritesFirst, Answer, Good, NoNode, Found, CallLimits}
-use Rattle.cap_calls.specs.Prelude.{CallNode, CallReport, CallStep}
+use Rattle.cap_calls.specs.CallNames.{Reason, Step, StrictRefusal, ManySegments, Pointer, Demands, reason_answer}
+use Rattle.cap_calls.specs.CallNames.{refusal_answer, refused_found, allows_trailing, demands_of, none_node, Gets}
+use Rattle.cap_calls.specs.CallNames.{bad_path_found, path_found, AreSteps, EndsRange, GetsRange, TellsRange, full, past}
+use Rattle.cap_calls.specs.CallNames.{path_after, stops, unknown, WritesFirst, Answer, Good, NoNode, Found, CallLimits}
+use Rattle.cap_calls.specs.CallNames.{CallNode, CallReport, CallStep}
 use Rattle.cap_calls.specs.RangeCalls.{IsBadStep, TellsSteps, bad_limits, bad_steps, range}
 use Rattle.cap_calls.proofs.Answers.{one_returned, one_whole_told}
 use Rattle.cap_calls.proofs.Gotten.{limits_alone, one_gets}

@@ -1,10 +1,10 @@
 -- The paths of a range go through the same steps but for one.
-use Rattle.cap_spec.proofs.Prelude.{Err, List, None, Ok, Option, Result, Some, [], ap, arith, drop, get_or, length}
-use Rattle.cap_spec.proofs.Prelude.{refl, subst, suc, sym, take, zero, ℕ, ◌++◌, ◌<◌, ◌∷◌, ◌≡◌, PathFinds}
+use Rattle.cap_spec.proofs.ProofNames.{Err, List, None, Ok, Option, Result, Some, [], ap, arith, drop, get_or, length}
+use Rattle.cap_spec.proofs.ProofNames.{refl, subst, suc, sym, take, zero, ℕ, ◌++◌, ◌<◌, ◌∷◌, ◌≡◌, PathFinds}
 use Rattle.cap_vet.specs.PathDemands.{IsPathFault, MeetsOnPath}
 use Rattle.cap_vet.specs.PathWays.{GivesAfter, IsGiven, IsStart}
-use Rattle.cap_calls.specs.Prelude.{Kind, Step, StrictRefusal, Demands, PathStart, View, path_after, step_after}
-use Rattle.cap_calls.specs.Prelude.{CallStep}
+use Rattle.cap_calls.specs.CallNames.{Kind, Step, StrictRefusal, Demands, PathStart, View, path_after, step_after}
+use Rattle.cap_calls.specs.CallNames.{CallStep}
 use Rattle.cap_frame.specs.declared.segments.Segments as segments
 
 -- A path goes through the steps before the one that varies, that one, and those after it.

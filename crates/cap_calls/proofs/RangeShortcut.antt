@@ -6,9 +6,9 @@ use Rattle.cap_vet.specs.PathWays.{GivesAfter, GivesElement, GivesPointer, IsSta
 use Rattle.cap_vet.specs.Taken.{start_of}
 use Rattle.cap_vet.specs.Views.{view_message}
 use Rattle.cap_vet.specs.declared.nodes.struct_elements.StructElements.{StructElements}
-use Rattle.cap_calls.specs.Prelude.{Kind, Step, Item, Ptr, Demands, PathStart, View, kind_node, offset_of, Gets, a_node}
-use Rattle.cap_calls.specs.Prelude.{path_found, path_after, step_after, HasCount, Good, Shortcut, Elements, CallNode}
-use Rattle.cap_calls.specs.Prelude.{CallStep}
+use Rattle.cap_calls.specs.CallNames.{Kind, Step, Item, Ptr, Demands, PathStart, View, kind_node, offset_of, Gets, a_node}
+use Rattle.cap_calls.specs.CallNames.{path_found, path_after, step_after, HasCount, Good, Shortcut, Elements, CallNode}
+use Rattle.cap_calls.specs.CallNames.{CallStep}
 use Rattle.cap_calls.specs.RangeCalls.{step_of}
 use Rattle.cap_calls.specs.RangeShortcut.{HasNodeAfter, IsShortcut}
 use Rattle.cap_calls.specs.declared.calls.get_range.Shortcut.TheVariants.{Pointers, Unknown}

@@ -1,10 +1,10 @@
 -- The words of a segment are where its frame has them, and inside the frame.
 use Rattle.std.proofs.Common.{le_refl}
 use Rattle.cap_spec.proofs.Lemmas.{length_joined, table_length}
-use Rattle.cap_spec.proofs.Prelude.{List, [], ap, append_assoc, arith, drop, drop-drop, length, length-append}
-use Rattle.cap_spec.proofs.Prelude.{slice_range, suc, sym, take, take-take, take_all, zero, ℕ, ◌*◌, ◌++◌, ◌+◌, ◌-◌, ◌<◌}
-use Rattle.cap_spec.proofs.Prelude.{◌∙◌, ◌∷◌, ◌≡◌, ◌≤◌, drop-append-add, take-append_seam, drop-take, length-map}
-use Rattle.cap_spec.proofs.Prelude.{words_from, joined, sizes_of, segment_of, plain_words}
+use Rattle.cap_spec.proofs.ProofNames.{List, [], ap, append_assoc, arith, drop, drop-drop, length, length-append}
+use Rattle.cap_spec.proofs.ProofNames.{slice_range, suc, sym, take, take-take, take_all, zero, ℕ, ◌*◌, ◌++◌, ◌+◌, ◌-◌, ◌<◌}
+use Rattle.cap_spec.proofs.ProofNames.{◌∙◌, ◌∷◌, ◌≡◌, ◌≤◌, drop-append-add, take-append_seam, drop-take, length-map}
+use Rattle.cap_spec.proofs.ProofNames.{words_from, joined, sizes_of, segment_of, plain_words}
 use Rattle.cap_frame.specs.Fronts.{IsFront, table_words}
 use Rattle.cap_frame.proofs.Parts.{drop_words, take_words}
 use Rattle.cap_vet.specs.Taken.{start_of}

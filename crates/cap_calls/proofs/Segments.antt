@@ -1,8 +1,8 @@
 -- The bytes decide where a segment is.
-use Rattle.cap_spec.proofs.Prelude.{List, ap, arith, length, refl, sym, ℕ, ◌*◌, ◌∙◌, ◌≡◌, segment_of}
+use Rattle.cap_spec.proofs.ProofNames.{List, ap, arith, length, refl, sym, ℕ, ◌*◌, ◌∙◌, ◌≡◌, segment_of}
 use Rattle.cap_frame.specs.Fronts.{IsFront}
 use Rattle.cap_calls.specs.CallFlags.{HasKnownFlags}
-use Rattle.cap_calls.specs.Prelude.{AreLimits, HasFrame, offset_of, cause_answer, found, Answer}
+use Rattle.cap_calls.specs.CallNames.{AreLimits, HasFrame, offset_of, cause_answer, found, Answer}
 use Rattle.cap_calls.specs.SegmentCalls.{AreSegmentWords, TellsSegment, any_size, none, without}
 use Rattle.cap_calls.proofs.Answers.{no_cause, one_cause, one_extent}
 use Rattle.cap_calls.proofs.SegmentPlaces.{segment_words}

@@ -1,9 +1,9 @@
 -- Separate segments are vetted as the frame of them is.
-use Rattle.cap_spec.proofs.Prelude.{List, ap, arith, false, length, refl, sym, ℕ, ◌/◌, ◌∙◌, ◌≡◌, length-map}
-use Rattle.cap_spec.proofs.Prelude.{plain_words}
-use Rattle.cap_calls.specs.Prelude.{framed, framed_found, tells, has_no_table, AreLimits, HasFrame, HasTrailing}
-use Rattle.cap_calls.specs.Prelude.{of_frame, TellsVet, TellsSegments, message, AreSegments, segments_in, Answer, Found}
-use Rattle.cap_calls.specs.Prelude.{CallLimits, CallReport}
+use Rattle.cap_spec.proofs.ProofNames.{List, ap, arith, false, length, refl, sym, ℕ, ◌/◌, ◌∙◌, ◌≡◌, length-map}
+use Rattle.cap_spec.proofs.ProofNames.{plain_words}
+use Rattle.cap_calls.specs.CallNames.{framed, framed_found, tells, has_no_table, AreLimits, HasFrame, HasTrailing}
+use Rattle.cap_calls.specs.CallNames.{of_frame, TellsVet, TellsSegments, message, AreSegments, segments_in, Answer, Found}
+use Rattle.cap_calls.specs.CallNames.{CallLimits, CallReport}
 use Rattle.cap_calls.specs.SegmentsCalls.{bad_limits, no_message}
 use Rattle.cap_calls.proofs.Answers.{one_extent}
 use Rattle.cap_calls.proofs.SeparateSegments.{not_both}

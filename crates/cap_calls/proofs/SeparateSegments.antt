@@ -1,8 +1,8 @@
 -- The bytes of separate segments decide what the call over them finds.
-use Rattle.cap_spec.proofs.Prelude.{List, [], ap, arith, inl, inr, length, refl, sym, ℕ, ◌*◌, ◌<◌, ◌∙◌, ◌≡◌, cases_lt}
-use Rattle.cap_spec.proofs.Prelude.{⊤}
-use Rattle.cap_calls.specs.Prelude.{framed_found, demands_of, IsGood, TellsSegments, message, AreSegments}
-use Rattle.cap_calls.specs.Prelude.{TellsNoSegments, segments_in, words_in, Answer, Found, CallLimits, CallReport}
+use Rattle.cap_spec.proofs.ProofNames.{List, [], ap, arith, inl, inr, length, refl, sym, ℕ, ◌*◌, ◌<◌, ◌∙◌, ◌≡◌, cases_lt}
+use Rattle.cap_spec.proofs.ProofNames.{⊤}
+use Rattle.cap_calls.specs.CallNames.{framed_found, demands_of, IsGood, TellsSegments, message, AreSegments}
+use Rattle.cap_calls.specs.CallNames.{TellsNoSegments, segments_in, words_in, Answer, Found, CallLimits, CallReport}
 use Rattle.cap_calls.specs.SegmentsCalls.{FindsSegments, bad_limits, no_message, no_segments_found}
 use Rattle.cap_calls.specs.Slices.{AreWhole, IsBadSegment}
 use Rattle.cap_calls.specs.declared.slices.SlicesFault.{SlicesFault}

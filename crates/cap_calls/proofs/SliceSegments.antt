@@ -1,9 +1,9 @@
 -- Segments that are separate slices.
 use Rattle.std.proofs.Common.{Bor}
 use Rattle.cap_spec.proofs.Bytes.Plain.{words_exact}
-use Rattle.cap_spec.proofs.Prelude.{List, [], ap, arith, below_more, get_or, length, subst, sum, take, zero-add, ℕ, ◌%◌}
-use Rattle.cap_spec.proofs.Prelude.{◌+◌, ◌/◌, ◌<◌, ◌^◌, ◌∙◌, ◌∷◌, ◌≡◌, ◌≤◌, get_or-map, get_or_default, length-map}
-use Rattle.cap_spec.proofs.Prelude.{take_more, sum_by-append, sizes_of, IsMessage, capped, plain_words}
+use Rattle.cap_spec.proofs.ProofNames.{List, [], ap, arith, below_more, get_or, length, subst, sum, take, zero-add, ℕ, ◌%◌}
+use Rattle.cap_spec.proofs.ProofNames.{◌+◌, ◌/◌, ◌<◌, ◌^◌, ◌∙◌, ◌∷◌, ◌≡◌, ◌≤◌, get_or-map, get_or_default, length-map}
+use Rattle.cap_spec.proofs.ProofNames.{take_more, sum_by-append, sizes_of, IsMessage, capped, plain_words}
 use Rattle.cap_frame.proofs.Cuts.{front_sum}
 use Rattle.cap_calls.specs.Slices.{bytes_of, segments_in, words_in}
 

@@ -1,9 +1,9 @@
 -- The bytes decide what the calls that pack and unpack answer and write.
 use Rattle.cap_spec.proofs.Bytes.Plain.{length_plain}
-use Rattle.cap_spec.proofs.Prelude.{List, ap, arith, drop, false, length, refl, sym, ℕ, ◌*◌, ◌++◌, ◌<◌, ◌^◌, ◌∙◌, ◌≡◌}
-use Rattle.cap_spec.proofs.Prelude.{◌≤◌, false≢true, plain_text, packed_is_cut, unpacked}
+use Rattle.cap_spec.proofs.ProofNames.{List, ap, arith, drop, false, length, refl, sym, ℕ, ◌*◌, ◌++◌, ◌<◌, ◌^◌, ◌∙◌, ◌≡◌}
+use Rattle.cap_spec.proofs.ProofNames.{◌≤◌, false≢true, plain_text, packed_is_cut, unpacked}
 use Rattle.cap_calls.specs.PackCalls.{TellsUnpack, too_large, too_small, whole, written}
-use Rattle.cap_calls.specs.Prelude.{TellsText, cut, Answer, BufferTooSmall, Good}
+use Rattle.cap_calls.specs.CallNames.{TellsText, cut, Answer, BufferTooSmall, Good}
 
 -- A text and a buffer allow one answer.
 pub one_text : (text old : List ℕ) (a b : Answer) (n k : ℕ) (xs ys : List ℕ) → TellsText text old a n xs

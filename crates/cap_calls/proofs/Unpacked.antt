@@ -1,10 +1,10 @@
 -- The group in front of packed bytes, by its kind.
 use Rattle.cap_spec.proofs.Bytes.Plain.{words_exact}
 use Rattle.cap_spec.proofs.Packed.Unpacking.{cut_front, length_marked, unpacked_front}
-use Rattle.cap_spec.proofs.Prelude.{List, [], ap, arith, drop, drop-drop, length, length-append, length-drop}
-use Rattle.cap_spec.proofs.Prelude.{length-take-le, slice_index, sym, take, ℕ, ◌*◌, ◌++◌, ◌+◌, ◌/◌, ◌<◌, ◌∙◌, ◌∷◌, ◌≡◌}
-use Rattle.cap_spec.proofs.Prelude.{◌≢◌, ◌≤◌, ones, plain_words, group_length, group_words, marks, packed_is_cut}
-use Rattle.cap_spec.proofs.Prelude.{unpacked}
+use Rattle.cap_spec.proofs.ProofNames.{List, [], ap, arith, drop, drop-drop, length, length-append, length-drop}
+use Rattle.cap_spec.proofs.ProofNames.{length-take-le, slice_index, sym, take, ℕ, ◌*◌, ◌++◌, ◌+◌, ◌/◌, ◌<◌, ◌∙◌, ◌∷◌, ◌≡◌}
+use Rattle.cap_spec.proofs.ProofNames.{◌≢◌, ◌≤◌, ones, plain_words, group_length, group_words, marks, packed_is_cut}
+use Rattle.cap_spec.proofs.ProofNames.{unpacked}
 use Rattle.cap_pack.proofs.Heads.{head_rest-marked, head_rest-ones}
 
 pub plain_count : (bs : List ℕ) → slice_index bs 0 ≡ 255 → 10 + 8 * slice_index bs 9 ≤ length bs

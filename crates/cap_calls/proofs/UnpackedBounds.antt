@@ -1,7 +1,7 @@
 -- A message that is unpacked has no more bytes than a frame within the limit.
 use Rattle.std.proofs.Common.{List, arith, inl, inr, length, ℕ, ◌≤◌}
-use Rattle.cap_calls.specs.Prelude.{frame_bound, IsOpen, StopsCall, TellsUnpackMessage, bad, too_many, truncated}
-use Rattle.cap_calls.specs.Prelude.{unpacks, Answer, CallLimits, CallReport, Unpacking}
+use Rattle.cap_calls.specs.CallNames.{frame_bound, IsOpen, StopsCall, TellsUnpackMessage, bad, too_many, truncated}
+use Rattle.cap_calls.specs.CallNames.{unpacks, Answer, CallLimits, CallReport, Unpacking}
 use Rattle.cap_calls.specs.UnpackingMessages.{no_message, too_large, too_small, whole}
 use Rattle.cap_calls.proofs.Bounds.{frame_short}
 

@@ -1,10 +1,10 @@
 -- What a call that unpacks a message tells, by the words that it gave and the stage of the message.
-use Rattle.cap_spec.proofs.Prelude.{List, arith, drop, length, length-take-le, subst, sym, take, take-take, ℕ, ◌*◌, ◌+◌}
-use Rattle.cap_spec.proofs.Prelude.{◌<◌, ◌∙◌, ◌≡◌, ◌≤◌, AllByRecursion}
+use Rattle.cap_spec.proofs.ProofNames.{List, arith, drop, length, length-take-le, subst, sym, take, take-take, ℕ, ◌*◌, ◌+◌}
+use Rattle.cap_spec.proofs.ProofNames.{◌<◌, ◌∙◌, ◌≡◌, ◌≤◌, AllByRecursion}
 use Rattle.cap_frame.specs.Fronts.{IsFront}
 use Rattle.cap_calls.specs.MessageStages.{ReachesStage}
-use Rattle.cap_calls.specs.Prelude.{AreLimits, IsEnd, Appends, IsOpen, IsState, StopsCall, TellsUnpackMessage, state_of}
-use Rattle.cap_calls.specs.Prelude.{unpacks, Answer, Stage, CallLimits, CallReport, Unpacking}
+use Rattle.cap_calls.specs.CallNames.{AreLimits, IsEnd, Appends, IsOpen, IsState, StopsCall, TellsUnpackMessage, state_of}
+use Rattle.cap_calls.specs.CallNames.{unpacks, Answer, Stage, CallLimits, CallReport, Unpacking}
 use Rattle.cap_calls.specs.declared.packed_stream.Given.{Given}
 use Rattle.cap_calls.proofs.AppendedWords.{appended, given_long, words_given}
 use Rattle.cap_calls.proofs.MessageStages.{all_of_message}

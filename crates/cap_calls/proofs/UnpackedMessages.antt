@@ -2,13 +2,13 @@
 use Rattle.std.proofs.lemmas.List.{append_cancel_left, drop-replicate}
 use Rattle.std.proofs.lemmas.List.Concat.{flat_map-append}
 use Rattle.cap_spec.proofs.Bytes.Plain.{length_plain, words_exact}
-use Rattle.cap_spec.proofs.Prelude.{List, [], ap, append-nil, append_assoc, ap₂, arith, drop, inl, inr, length}
-use Rattle.cap_spec.proofs.Prelude.{length-append, length-take-le, refl, replicate, subst, sym, take, take-append-drop}
-use Rattle.cap_spec.proofs.Prelude.{take_all, take_at, ℕ, ◌*◌, ◌++◌, ◌+◌, ◌-◌, ◌<◌, ◌∙◌, ◌∷◌, ◌≡◌, ◌≤◌, cases_lt}
-use Rattle.cap_spec.proofs.Prelude.{drop_all, length-replicate, take-append-le, take-replicate, too_large, too_many}
-use Rattle.cap_spec.proofs.Prelude.{plain_text, plain_words, word_bytes, unpacked}
-use Rattle.cap_calls.specs.Prelude.{GivesWords, words_to_come, Appends, IsOpen, StopsCall, TellsUnpackMessage, bad}
-use Rattle.cap_calls.specs.Prelude.{state_of, unpacks, Answer, CallLimits, CallReport, Unpacking}
+use Rattle.cap_spec.proofs.ProofNames.{List, [], ap, append-nil, append_assoc, ap₂, arith, drop, inl, inr, length}
+use Rattle.cap_spec.proofs.ProofNames.{length-append, length-take-le, refl, replicate, subst, sym, take, take-append-drop}
+use Rattle.cap_spec.proofs.ProofNames.{take_all, take_at, ℕ, ◌*◌, ◌++◌, ◌+◌, ◌-◌, ◌<◌, ◌∙◌, ◌∷◌, ◌≡◌, ◌≤◌, cases_lt}
+use Rattle.cap_spec.proofs.ProofNames.{drop_all, length-replicate, take-append-le, take-replicate, too_large, too_many}
+use Rattle.cap_spec.proofs.ProofNames.{plain_text, plain_words, word_bytes, unpacked}
+use Rattle.cap_calls.specs.CallNames.{GivesWords, words_to_come, Appends, IsOpen, StopsCall, TellsUnpackMessage, bad}
+use Rattle.cap_calls.specs.CallNames.{state_of, unpacks, Answer, CallLimits, CallReport, Unpacking}
 use Rattle.cap_calls.proofs.MessageStages.{open_not_whole}
 use Rattle.cap_calls.proofs.OneStop.{never_open, none_comes, one_stop}
 use Rattle.cap_calls.specs.UnpackingMessages as stop

@@ -1,12 +1,12 @@
 -- Two pieces of a stream, one after the other, are unpacked as one.
 use Rattle.std.proofs.lemmas.List.Concat.{flat_map-append}
 use Rattle.cap_spec.proofs.Bytes.Plain.{length_plain}
-use Rattle.cap_spec.proofs.Prelude.{List, ap, append_assoc, ap₂, arith, drop, drop-drop, drop_at, inl, inr, length}
-use Rattle.cap_spec.proofs.Prelude.{length-append, length-drop, length-take, length-take-le, refl, subst, sym, take}
-use Rattle.cap_spec.proofs.Prelude.{take_at, ℕ, ◌*◌, ◌++◌, ◌+◌, ◌-◌, ◌<◌, ◌∙◌, ◌≡◌, ◌≤◌, ◌⊎◌, cases_lt, drop-append-le}
-use Rattle.cap_spec.proofs.Prelude.{take-append-le, plain_text, word_bytes}
-use Rattle.cap_calls.specs.Prelude.{GivesWords, words_to_come, Appends, IsOpen, IsState, StopsCall, TellsUnpackMessage}
-use Rattle.cap_calls.specs.Prelude.{bad, state_of, unpacks, Answer, CallLimits, CallReport, Unpacking}
+use Rattle.cap_spec.proofs.ProofNames.{List, ap, append_assoc, ap₂, arith, drop, drop-drop, drop_at, inl, inr, length}
+use Rattle.cap_spec.proofs.ProofNames.{length-append, length-drop, length-take, length-take-le, refl, subst, sym, take}
+use Rattle.cap_spec.proofs.ProofNames.{take_at, ℕ, ◌*◌, ◌++◌, ◌+◌, ◌-◌, ◌<◌, ◌∙◌, ◌≡◌, ◌≤◌, ◌⊎◌, cases_lt, drop-append-le}
+use Rattle.cap_spec.proofs.ProofNames.{take-append-le, plain_text, word_bytes}
+use Rattle.cap_calls.specs.CallNames.{GivesWords, words_to_come, Appends, IsOpen, IsState, StopsCall, TellsUnpackMessage}
+use Rattle.cap_calls.specs.CallNames.{bad, state_of, unpacks, Answer, CallLimits, CallReport, Unpacking}
 use Rattle.cap_calls.specs.declared.answer.Answer.TheVariants.{NoMessage, Truncated}
 use Rattle.cap_calls.proofs.MessageStages.{open_not_whole}
 use Rattle.cap_calls.proofs.PackedStreams.{leads_both}

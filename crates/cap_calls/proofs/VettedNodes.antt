@@ -2,16 +2,16 @@
 use Rattle.std.proofs.Common.{IsFalse, List, ap, arith, inl, inr, length, not, subst, sym, true, ℕ, ◌∙◌, ◌≡◌, ◌⊎◌}
 use Rattle.cap_spec.specs.PathTexts.{IsPath}
 use Rattle.cap_spec.proofs.Paths.PathTexts.{path_not_bad}
-use Rattle.cap_vet.specs.Prelude.{Meets, words_under, MeetsOnPath}
+use Rattle.cap_vet.specs.VetNames.{Meets, words_under, MeetsOnPath}
 use Rattle.cap_vet.proofs.PathFaults.{meets_no_path_fault}
 use Rattle.cap_calls.specs.CallFindings.{accepted, without}
 use Rattle.cap_calls.specs.NodeCalls.{bad_limits}
-use Rattle.cap_calls.specs.Prelude.{Step, Demands, refusal_answer, framed, refused, tells, trailing, allows_trailing}
-use Rattle.cap_calls.specs.Prelude.{demands_of, has_no_table, HasFrame, HasTrailing, of_frame, of_no_words, of_words}
-use Rattle.cap_calls.specs.Prelude.{none_node, cause_answer, TellsMessage, TellsVet, Gets, TellsGet, a_node, a_path}
-use Rattle.cap_calls.specs.Prelude.{bad_path, no_meeting, no_node, AreSteps, EndsRange, GetsRange, TellsRange, full}
-use Rattle.cap_calls.specs.Prelude.{past, path_after, stops, unknown, Answer, Found, CallLimits, CallNode, CallReport}
-use Rattle.cap_calls.specs.Prelude.{CallStep}
+use Rattle.cap_calls.specs.CallNames.{Step, Demands, refusal_answer, framed, refused, tells, trailing, allows_trailing}
+use Rattle.cap_calls.specs.CallNames.{demands_of, has_no_table, HasFrame, HasTrailing, of_frame, of_no_words, of_words}
+use Rattle.cap_calls.specs.CallNames.{none_node, cause_answer, TellsMessage, TellsVet, Gets, TellsGet, a_node, a_path}
+use Rattle.cap_calls.specs.CallNames.{bad_path, no_meeting, no_node, AreSteps, EndsRange, GetsRange, TellsRange, full}
+use Rattle.cap_calls.specs.CallNames.{past, path_after, stops, unknown, Answer, Found, CallLimits, CallNode, CallReport}
+use Rattle.cap_calls.specs.CallNames.{CallStep}
 use Rattle.cap_calls.proofs.Answers.{no_cause, one_extent}
 use Rattle.cap_calls.proofs.PathCharges.{path_charged}
 use Rattle.cap_calls.proofs.Wider.{cause_not_zero, not_zero, refusal_not_zero}

@@ -1,17 +1,17 @@
 -- What is accepted is accepted with higher limits and more flags too.
 use Rattle.std.proofs.Math.Nat.{le-min, min-le_left, min-le_right}
-use Rattle.cap_spec.proofs.Prelude.{Bool, List, [], ap, arith, false, if◌then◌else◌, length, min, not, refl, subst, sum}
-use Rattle.cap_spec.proofs.Prelude.{sym, true, ℕ, ◌+◌, ◌<◌, ◌∙◌, ◌∷◌, ◌≡◌, ◌≤◌, false≢true, ⊤, sizes_of, plain_words}
+use Rattle.cap_spec.proofs.ProofNames.{Bool, List, [], ap, arith, false, if◌then◌else◌, length, min, not, refl, subst, sum}
+use Rattle.cap_spec.proofs.ProofNames.{sym, true, ℕ, ◌+◌, ◌<◌, ◌∙◌, ◌∷◌, ◌≡◌, ◌≤◌, false≢true, ⊤, sizes_of, plain_words}
 use Rattle.cap_spec.proofs.Strict.Faults.{strict_wider, within_wider}
-use Rattle.cap_vet.specs.Prelude.{Meets, words_under, IsAccepted}
+use Rattle.cap_vet.specs.VetNames.{Meets, words_under, IsAccepted}
 use Rattle.cap_calls.specs.AnswerNumbers.{answer_number}
 use Rattle.cap_calls.specs.CallFindings.{accepted, without}
 use Rattle.cap_calls.specs.CallFlags.{AllowsMore, allows_nonstrict}
 use Rattle.cap_calls.specs.CallInputs.{AreInputLimits, AreWordLimits}
-use Rattle.cap_calls.specs.Prelude.{Reason, StrictRefusal, Report, reason_answer, refusal_answer, Judges, TellsWhole}
-use Rattle.cap_calls.specs.Prelude.{framed, refused, tells, trailing, allows_amplified, allows_trailing, demands_of}
-use Rattle.cap_calls.specs.Prelude.{AreLimits, HasFrame, HasTrailing, HasWords, TellsInput, cause_answer, IsGood}
-use Rattle.cap_calls.specs.Prelude.{TellsVet, Answer, Found, NoFrame, BadLimits, Fault, CallLimits, CallReport}
+use Rattle.cap_calls.specs.CallNames.{Reason, StrictRefusal, Report, reason_answer, refusal_answer, Judges, TellsWhole}
+use Rattle.cap_calls.specs.CallNames.{framed, refused, tells, trailing, allows_amplified, allows_trailing, demands_of}
+use Rattle.cap_calls.specs.CallNames.{AreLimits, HasFrame, HasTrailing, HasWords, TellsInput, cause_answer, IsGood}
+use Rattle.cap_calls.specs.CallNames.{TellsVet, Answer, Found, NoFrame, BadLimits, Fault, CallLimits, CallReport}
 use Rattle.cap_calls.specs.declared.front.NoFrame.TheVariants.{NoMessage}
 use Rattle.cap_calls.proofs.Answers.{one_extent}
 use Rattle.cap_frame.specs.declared.fault.FrontFault.TheVariants as fault

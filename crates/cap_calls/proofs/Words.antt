@@ -1,11 +1,11 @@
 -- The words of one segment, or the one cause why there are none.
 use Rattle.std.proofs.Common.{IsFalse}
 use Rattle.cap_spec.proofs.Bytes.Plain.{words_exact}
-use Rattle.cap_spec.proofs.Prelude.{IsTrue, List, [], ap, arith, length, refl, sum, sym, zero-add, ℕ, ◌*◌, ◌∙◌, ◌∷◌}
-use Rattle.cap_spec.proofs.Prelude.{◌≡◌, ◌≤◌, false≢true, sizes_of, plain_words}
+use Rattle.cap_spec.proofs.ProofNames.{IsTrue, List, [], ap, arith, length, refl, sum, sym, zero-add, ℕ, ◌*◌, ◌∙◌, ◌∷◌}
+use Rattle.cap_spec.proofs.ProofNames.{◌≡◌, ◌≤◌, false≢true, sizes_of, plain_words}
 use Rattle.cap_frame.specs.declared.fault.FrontFault.TheVariants.{TooLarge, TooManySegments, Truncated}
 use Rattle.cap_calls.specs.CallInputs.{HasNoWords}
-use Rattle.cap_calls.specs.Prelude.{has_no_table, HasWords, NoFrame, BadLimits, Fault, CallLimits}
+use Rattle.cap_calls.specs.CallNames.{has_no_table, HasWords, NoFrame, BadLimits, Fault, CallLimits}
 use Rattle.cap_calls.specs.declared.front.NoFrame.TheVariants.{NoMessage}
 
 module _ (l : CallLimits) (bs : List ℕ) where

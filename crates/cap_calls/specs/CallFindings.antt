@@ -5,7 +5,7 @@ use Rattle.cap_spec.specs.Faults.{IsRefused}
 use Rattle.cap_spec.specs.declared.Refusal.{Refusal}
 use Rattle.cap_spec.specs.declared.StrictRefusal.{StrictRefusal}
 use Rattle.cap_spec.specs.declared.StrictRefusal.TheVariants.{Refused}
-use Rattle.cap_vet.specs.Prelude.{IsDemandFault, Meets, words_under, IsAccepted}
+use Rattle.cap_vet.specs.VetNames.{IsDemandFault, Meets, words_under, IsAccepted}
 use Rattle.cap_vet.specs.declared.demands.Demands.{Demands}
 use Rattle.cap_vet.specs.declared.report.Report.{Report}
 use Rattle.cap_calls.specs.AnswerNumbers.{refusal_answer}

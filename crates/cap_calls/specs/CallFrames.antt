@@ -2,7 +2,7 @@
 -- (profile; standard: Serialization Over a Stream).
 use Rattle.std.specs.Prelude.{Err, List, [], length, ℕ, ◌<◌, ◌≡◌, ◌≤◌}
 use Rattle.cap_spec.specs.GreatestLimits.{most_depth, most_words}
-use Rattle.cap_frame.specs.Prelude.{TellsFront, IsFront}
+use Rattle.cap_frame.specs.FrameNames.{TellsFront, IsFront}
 use Rattle.cap_calls.specs.CallFlags.{HasKnownFlags}
 use Rattle.cap_calls.specs.declared.front.NoFrame.{NoFrame}
 use Rattle.cap_calls.specs.declared.front.NoFrame.TheVariants.{BadLimits, Fault, NoMessage}

@@ -1,6 +1,6 @@
 -- The input of a call: a frame, or with the flag 8 the words of one segment (profile; standard: 64-bit Words).
 use Rattle.std.specs.Prelude.{Bool, IsFalse, IsTrue, List, [], length, ℕ, ◌%◌, ◌*◌, ◌+◌, ◌/◌, ◌<◌, ◌∷◌, ◌≡◌, ◌≤◌}
-use Rattle.cap_spec.specs.Prelude.{most_depth, most_words, plain_words}
+use Rattle.cap_spec.specs.SpecNames.{most_depth, most_words, plain_words}
 use Rattle.cap_frame.specs.declared.fault.FrontFault.TheVariants.{TooLarge, TooManySegments, Truncated}
 use Rattle.cap_calls.specs.CallFindings.{TellsWhole, framed_found, none_found}
 use Rattle.cap_calls.specs.CallFlags.{HasWordFlags, has_no_table}

@@ -1,7 +1,7 @@
 -- What the call for a canonical copy returns and writes, from the bytes and the buffer alone
 -- (standard: Canonicalization; the order is the profile's).
 use Rattle.std.specs.Prelude.{Err, List, Ok, Result, not, ℕ, ◌≡◌}
-use Rattle.cap_spec.specs.Prelude.{HasCopy, IsFirstCap, plain_text}
+use Rattle.cap_spec.specs.SpecNames.{HasCopy, IsFirstCap, plain_text}
 use Rattle.cap_vet.specs.declared.demands.Demands.{Demands}
 use Rattle.cap_vet.specs.declared.report.Report.{Report}
 use Rattle.cap_canon.specs.declared.fault.RoomFault.{RoomFault}

@@ -3,7 +3,7 @@
 use Rattle.std.specs.Prelude.{List, drop, length, not, ℕ, ⊤, ◌<◌, ◌≡◌, ◌≤◌, ◌⊎◌}
 use Rattle.cap_spec.specs.Occupying.{IsDisjoint, IsFirstOverlap}
 use Rattle.cap_spec.specs.declared.StrictRefusal.TheVariants.{Refused}
-use Rattle.cap_vet.specs.Prelude.{IsExclusiveFault, IsAccepted, marks_of}
+use Rattle.cap_vet.specs.VetNames.{IsExclusiveFault, IsAccepted, marks_of}
 use Rattle.cap_vet.specs.declared.demands.Demands.{Demands}
 use Rattle.cap_vet.specs.declared.exclusiveness.exclusive_room.ExclusiveFault.{ExclusiveFault}
 use Rattle.cap_vet.specs.declared.report.Report.{Report}

@@ -22,4 +22,4 @@ pub mod Slices
 pub mod PackedMessages
 pub mod PackedStreams
 pub mod UnpackingMessages
-pub mod Prelude
+pub mod CallNames

@@ -1,7 +1,7 @@
 -- What the calls that pack and unpack return and write, from the bytes alone
 -- (standard: Packing; the order of the answers is the profile's).
 use Rattle.std.specs.Prelude.{List, drop, false, length, true, ℕ, ◌++◌, ◌<◌, ◌^◌, ◌≡◌, ◌≤◌}
-use Rattle.cap_spec.specs.Prelude.{pack_text, plain_is_cut, plain_text, plain_words, packed_is_cut, unpacked}
+use Rattle.cap_spec.specs.SpecNames.{pack_text, plain_is_cut, plain_text, plain_words, packed_is_cut, unpacked}
 use Rattle.cap_calls.specs.declared.answer.Answer.{Answer}
 use Rattle.cap_calls.specs.declared.answer.Answer.TheVariants.{BufferTooSmall, Good, TooLarge, Truncated}
 

@@ -1,7 +1,7 @@
 -- What the call that packs a message returns and writes, from the bytes and the buffer alone
 -- (profile).
 use Rattle.std.specs.Prelude.{List, length, sum, ℕ, ◌*◌, ◌+◌, ◌≡◌, ◌≤◌}
-use Rattle.cap_spec.specs.Prelude.{sizes_of, packed_frame}
+use Rattle.cap_spec.specs.SpecNames.{sizes_of, packed_frame}
 use Rattle.cap_frame.specs.Fronts.{table_words}
 use Rattle.cap_calls.specs.CallFindings.{Returns}
 use Rattle.cap_calls.specs.CallReports.{none_report}

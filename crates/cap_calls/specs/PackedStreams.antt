@@ -2,7 +2,7 @@
 -- (standard: Packing; the bytes that a word takes are the profile's).
 use Rattle.std.specs.Prelude.{List, [], drop, if◌then◌else◌, length, replicate, take, ℕ, ◌%◌, ◌*◌, ◌++◌, ◌+◌, ◌<◌, ◌==◌}
 use Rattle.std.specs.Prelude.{◌∷◌, ◌≡◌, ◌≤◌, ◌⊎◌}
-use Rattle.cap_spec.specs.Prelude.{plain_words, marks, unpacked}
+use Rattle.cap_spec.specs.SpecNames.{plain_words, marks, unpacked}
 use Rattle.cap_calls.specs.declared.packed_stream.Given.{Given}
 
 -- The words that bytes give: first zero words of a run, then literal words of a run, then those of

@@ -1,6 +1,6 @@
 -- Where a segment of a framed message is (profile; standard: Serialization Over a Stream).
 use Rattle.std.specs.Prelude.{List, length, slice_range, ℕ, ◌*◌, ◌+◌, ◌<◌, ◌≡◌, ◌≤◌}
-use Rattle.cap_spec.specs.Prelude.{most_words, segment_of, plain_words}
+use Rattle.cap_spec.specs.SpecNames.{most_words, segment_of, plain_words}
 use Rattle.cap_frame.specs.Fronts.{IsFront}
 use Rattle.cap_calls.specs.CallFlags.{default_limits}
 use Rattle.cap_calls.specs.CallFrames.{HasFrame, HasNoFrame}

@@ -1,7 +1,7 @@
 -- Separate slices of bytes as the segments of a message (profile; standard: Messages, 64-bit Words).
 use Rattle.std.specs.Borrow.{Bor}
 use Rattle.std.specs.Prelude.{List, [], length, map, sum, ℕ, ◌%◌, ◌<◌, ◌≡◌, ◌≤◌}
-use Rattle.cap_spec.specs.Prelude.{sizes_of, segment_of, capped, plain_words}
+use Rattle.cap_spec.specs.SpecNames.{sizes_of, segment_of, capped, plain_words}
 use Rattle.cap_calls.specs.declared.slices.SlicesFault.{SlicesFault}
 use Rattle.cap_calls.specs.declared.slices.SlicesFault.TheVariants.{BadSegment, NoSegments, TooLarge, TooManySegments}
 

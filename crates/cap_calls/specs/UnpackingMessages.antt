@@ -3,7 +3,7 @@
 use Rattle.std.specs.Prelude.{Err, List, [], drop, if◌then◌else◌, length, slice_index, take, ℕ, ◌%◌, ◌*◌, ◌++◌, ◌+◌}
 use Rattle.std.specs.Prelude.{◌<◌, ◌==◌, ◌≡◌, ◌≢◌, ◌≤◌, ◌⊎◌}
 use Rattle.cap_spec.specs.Plain.{plain_text}
-use Rattle.cap_frame.specs.Prelude.{TellsFront, IsFront, TellsLarge, TellsMany}
+use Rattle.cap_frame.specs.FrameNames.{TellsFront, IsFront, TellsLarge, TellsMany}
 use Rattle.cap_frame.specs.declared.fault.FrontFault.TheVariants.{Truncated}
 use Rattle.cap_calls.specs.CallFrames.{AreLimits}
 use Rattle.cap_calls.specs.CallReports.{none_report}

@@ -1,8 +1,8 @@
 -- What is there already after the words of a copy.
 use Rattle.cap_spec.proofs.Bytes.Plain.{plain_back}
-use Rattle.cap_spec.proofs.Prelude.{List, [], ap, append-nil, ap₂, arith, drop, length, length-append, sym, take}
-use Rattle.cap_spec.proofs.Prelude.{take-append-drop, ℕ, ◌%◌, ◌++◌, ◌∙◌, ◌∷◌, ◌≡◌, ◌≤◌, AllByRecursion, plain_text}
-use Rattle.cap_spec.proofs.Prelude.{plain_words, word_bytes, IsWord}
+use Rattle.cap_spec.proofs.ProofNames.{List, [], ap, append-nil, ap₂, arith, drop, length, length-append, sym, take}
+use Rattle.cap_spec.proofs.ProofNames.{take-append-drop, ℕ, ◌%◌, ◌++◌, ◌∙◌, ◌∷◌, ◌≡◌, ◌≤◌, AllByRecursion, plain_text}
+use Rattle.cap_spec.proofs.ProofNames.{plain_words, word_bytes, IsWord}
 use Rattle.cap_words.proofs.Filling.{plain_join}
 use Rattle.cap_canon.specs.Kept.{Kept}
 

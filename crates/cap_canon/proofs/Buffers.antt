@@ -1,9 +1,9 @@
 -- The message and the capacity decide what is told of a copy into capacity, and what it then holds.
 use Rattle.cap_spec.proofs.Lemmas.{words_exact, one_copy, one_first_cap}
-use Rattle.cap_spec.proofs.Prelude.{Err, List, Ok, Result, ap, ap₂, arith, drop, length, sym, take_all, ℕ, ◌*◌, ◌++◌}
-use Rattle.cap_spec.proofs.Prelude.{◌∙◌, ◌≡◌, ◌≤◌, plain_text, plain_words}
+use Rattle.cap_spec.proofs.ProofNames.{Err, List, Ok, Result, ap, ap₂, arith, drop, length, sym, take_all, ℕ, ◌*◌, ◌++◌}
+use Rattle.cap_spec.proofs.ProofNames.{◌∙◌, ◌≡◌, ◌≤◌, plain_text, plain_words}
 use Rattle.cap_canon.specs.CopyRooms.{TellsRoom, has_capability, no_room, written}
-use Rattle.cap_canon.specs.Prelude.{CanonFault, first_words}
+use Rattle.cap_canon.specs.CanonNames.{CanonFault, first_words}
 use Rattle.cap_canon.specs.declared.fault.RoomFault.{RoomFault}
 use Rattle.cap_canon.specs.declared.fault.RoomFault.TheVariants.{HasCapability, NoRoom}
 use Rattle.cap_canon.proofs.Copies.{cap_no_copy}

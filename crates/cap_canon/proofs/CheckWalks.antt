@@ -1,7 +1,7 @@
 -- A message that is compared with its copy, one object more.
 use Rattle.cap_spec.proofs.Canonical.TreeMeasures.{Fits}
-use Rattle.cap_spec.proofs.Prelude.{List, [], length, ℕ, ◌++◌, ◌+◌, ◌∷◌, ◌≤◌, trim, Denotes, segment_of, Tree}
-use Rattle.cap_canon.specs.Prelude.{IsChecked, Due, IsPointed, OwnAt, below, own_size}
+use Rattle.cap_spec.proofs.ProofNames.{List, [], length, ℕ, ◌++◌, ◌+◌, ◌∷◌, ◌≤◌, trim, Denotes, segment_of, Tree}
+use Rattle.cap_canon.specs.CanonNames.{IsChecked, Due, IsPointed, OwnAt, below, own_size}
 use Rattle.cap_canon.proofs.LaidSteps.{object_laid}
 use Rattle.cap_canon.proofs.Walks.{root_fits, root_inside}
 use Rattle.cap_canon.proofs.Whole.{layout_laid}

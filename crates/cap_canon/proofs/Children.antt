@@ -2,10 +2,10 @@
 use Rattle.cap_spec.specs.Denoting.{places}
 use Rattle.cap_spec.specs.Tree.{none}
 use Rattle.cap_spec.proofs.Lemmas.{children_needed_le, each_charged, length-places}
-use Rattle.cap_spec.proofs.Prelude.{Bool, List, Some, ap, arith, false, if◌then◌else◌, inl, inr, max, refl, subst, suc}
-use Rattle.cap_spec.proofs.Prelude.{sym, true, zero, ℕ, ◌+◌, ◌-◌, ◌<◌, ◌==◌, ◌∙◌, ◌≡◌, ◌≤◌, ◌⊎◌, eqb_tells, same_Some}
-use Rattle.cap_spec.proofs.Prelude.{children_needed, is_null, DenoteEach, Denotes, Tree, Trees, more, tree_at}
-use Rattle.cap_spec.proofs.Prelude.{tree_count}
+use Rattle.cap_spec.proofs.ProofNames.{Bool, List, Some, ap, arith, false, if◌then◌else◌, inl, inr, max, refl, subst, suc}
+use Rattle.cap_spec.proofs.ProofNames.{sym, true, zero, ℕ, ◌+◌, ◌-◌, ◌<◌, ◌==◌, ◌∙◌, ◌≡◌, ◌≤◌, ◌⊎◌, eqb_tells, same_Some}
+use Rattle.cap_spec.proofs.ProofNames.{children_needed, is_null, DenoteEach, Denotes, Tree, Trees, more, tree_at}
+use Rattle.cap_spec.proofs.ProofNames.{tree_count}
 use Rattle.cap_spec.proofs.Trees.OneTree.{cons_parts}
 use Rattle.cap_canon.proofs.Needed.{later_needed, later_zero}
 

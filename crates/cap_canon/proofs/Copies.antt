@@ -1,12 +1,12 @@
 -- The one canonical copy of an accepted message.
 use Rattle.cap_spec.proofs.Lemmas.{layout_charged, first_cap, one_tree}
 use Rattle.cap_spec.proofs.Paths.PathCounts.{caps_counted}
-use Rattle.cap_spec.proofs.Prelude.{Err, List, None, Result, [], ap, arith, eqb-true, false, length, refl, subst, sym}
-use Rattle.cap_spec.proofs.Prelude.{true, ℕ, ◌+◌, ◌<◌, ◌==◌, ◌^◌, ◌∙◌, ◌∷◌, ◌≡◌, ◌≢◌, ◌≤◌, false≢true, layout, trim}
-use Rattle.cap_spec.proofs.Prelude.{HasCopy, IsCanonical, Denotes, Leads, to_cap, IsOneOf, IsFirstCap, Reaches, Tree}
-use Rattle.cap_spec.proofs.Prelude.{cap_count, has_cap}
+use Rattle.cap_spec.proofs.ProofNames.{Err, List, None, Result, [], ap, arith, eqb-true, false, length, refl, subst, sym}
+use Rattle.cap_spec.proofs.ProofNames.{true, ℕ, ◌+◌, ◌<◌, ◌==◌, ◌^◌, ◌∙◌, ◌∷◌, ◌≡◌, ◌≢◌, ◌≤◌, false≢true, layout, trim}
+use Rattle.cap_spec.proofs.ProofNames.{HasCopy, IsCanonical, Denotes, Leads, to_cap, IsOneOf, IsFirstCap, Reaches, Tree}
+use Rattle.cap_spec.proofs.ProofNames.{cap_count, has_cap}
 use Rattle.cap_vet.specs.Reports.{IsFirstCapOf, IsReport}
-use Rattle.cap_canon.specs.Prelude.{CanonFault, Step, Report, HasTree}
+use Rattle.cap_canon.specs.CanonNames.{CanonFault, Step, Report, HasTree}
 
 -- a message with a capability has no copy
 pub cap_no_copy : (m : List (List ℕ)) (s w : ℕ) (words : List ℕ) → IsFirstCap m s w → HasCopy m words → ⊥

@@ -1,6 +1,6 @@
 -- A copy after one object more.
-use Rattle.cap_spec.proofs.Prelude.{List, [], ap, arith, get_or, inl, length, length-append, length-set, set, subst}
-use Rattle.cap_spec.proofs.Prelude.{sym, ℕ, ◌++◌, ◌+◌, ◌-◌, ◌<◌, ◌∙◌, ◌∷◌, ◌≡◌, get_or_from_slice_get, pointer_to, Tree}
+use Rattle.cap_spec.proofs.ProofNames.{List, [], ap, arith, get_or, inl, length, length-append, length-set, set, subst}
+use Rattle.cap_spec.proofs.ProofNames.{sym, ℕ, ◌++◌, ◌+◌, ◌-◌, ◌<◌, ◌∙◌, ◌∷◌, ◌≡◌, get_or_from_slice_get, pointer_to, Tree}
 use Rattle.cap_canon.specs.Filling.{Agrees, OwnAppended}
 use Rattle.cap_canon.specs.Laying.{Due, IsPointed, OwnAt, below, own_size}
 use Rattle.cap_canon.proofs.Agreeing.{agrees_append, agrees_set}

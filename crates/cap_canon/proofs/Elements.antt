@@ -2,11 +2,11 @@
 use Rattle.cap_spec.specs.Denoting.{places}
 use Rattle.cap_spec.specs.Tree.{none}
 use Rattle.cap_spec.proofs.Lemmas.{tree_count-take_le, tree_count-trim_all}
-use Rattle.cap_spec.proofs.Prelude.{List, ap, ap₂, arith, drop, max, refl, subst, suc, sym, take, take-take, zero, ℕ}
-use Rattle.cap_spec.proofs.Prelude.{◌*◌, ◌+◌, ◌-◌, ◌<◌, ◌∙◌, ◌≡◌, ◌≤◌, children_needed, children_of, cut_elements}
-use Rattle.cap_spec.proofs.Prelude.{data_needed, data_of, take_trees, trim_all, trim_elements, AreElements, DenoteEach}
-use Rattle.cap_spec.proofs.Prelude.{words_from, segment_of, Trees, more, struct, tree_count}
-use Rattle.cap_canon.specs.Prelude.{AreElementsLeft, AreLeft, most_data}
+use Rattle.cap_spec.proofs.ProofNames.{List, ap, ap₂, arith, drop, max, refl, subst, suc, sym, take, take-take, zero, ℕ}
+use Rattle.cap_spec.proofs.ProofNames.{◌*◌, ◌+◌, ◌-◌, ◌<◌, ◌∙◌, ◌≡◌, ◌≤◌, children_needed, children_of, cut_elements}
+use Rattle.cap_spec.proofs.ProofNames.{data_needed, data_of, take_trees, trim_all, trim_elements, AreElements, DenoteEach}
+use Rattle.cap_spec.proofs.ProofNames.{words_from, segment_of, Trees, more, struct, tree_count}
+use Rattle.cap_canon.specs.CanonNames.{AreElementsLeft, AreLeft, most_data}
 use Rattle.cap_canon.proofs.Children.{row_count, row_needed, row_parts}
 use Rattle.cap_canon.proofs.Needed.{most_on}
 

@@ -1,14 +1,14 @@
 -- The pointer words of an object, and how many words it has of its own.
 use Rattle.cap_spec.specs.Tree.{none}
 use Rattle.cap_spec.proofs.Lemmas.{reverse-more, short_segment, range_length}
-use Rattle.cap_spec.proofs.Prelude.{IfSome, List, None, Option, Some, [], ap, arith, inl, inr, length, length-append}
-use Rattle.cap_spec.proofs.Prelude.{option_to_list, refl, reverse, subst, suc, sym, zero, ℕ, ◌*◌, ◌++◌, ◌+◌, ◌-◌, ◌<◌}
-use Rattle.cap_spec.proofs.Prelude.{◌^◌, ◌∙◌, ◌∷◌, ◌≡◌, ◌≤◌, ◌⊎◌, length-reverse, IsMessage, Tree, Trees, more, struct}
-use Rattle.cap_spec.proofs.Prelude.{tree_count}
+use Rattle.cap_spec.proofs.ProofNames.{IfSome, List, None, Option, Some, [], ap, arith, inl, inr, length, length-append}
+use Rattle.cap_spec.proofs.ProofNames.{option_to_list, refl, reverse, subst, suc, sym, zero, ℕ, ◌*◌, ◌++◌, ◌+◌, ◌-◌, ◌<◌}
+use Rattle.cap_spec.proofs.ProofNames.{◌^◌, ◌∙◌, ◌∷◌, ◌≡◌, ◌≤◌, ◌⊎◌, length-reverse, IsMessage, Tree, Trees, more, struct}
+use Rattle.cap_spec.proofs.ProofNames.{tree_count}
 use Rattle.cap_canon.specs.Objects.{IsPointersObject, IsStructObject, IsStructsObject}
-use Rattle.cap_canon.specs.Prelude.{OptionFull, further_places, option_places, places_of, row_places, AreBefore, Due}
-use Rattle.cap_canon.specs.Prelude.{below, element_slots, own_size, slots, AreElementsLeft, AreLeft, IsObject, AreOwed}
-use Rattle.cap_canon.specs.Prelude.{IsWalking, NextLeadsTo, Stacked, work_left, Object, Part, CopyRun, PointerPlace}
+use Rattle.cap_canon.specs.CanonNames.{OptionFull, further_places, option_places, places_of, row_places, AreBefore, Due}
+use Rattle.cap_canon.specs.CanonNames.{below, element_slots, own_size, slots, AreElementsLeft, AreLeft, IsObject, AreOwed}
+use Rattle.cap_canon.specs.CanonNames.{IsWalking, NextLeadsTo, Stacked, work_left, Object, Part, CopyRun, PointerPlace}
 use Rattle.cap_canon.proofs.Lengths.{size_below, size_due-append}
 use Rattle.cap_canon.proofs.Owing.{before_join, before_more, owed_count, stacked_more}
 use Rattle.cap_canon.proofs.Runs.{count_more}

@@ -1,10 +1,10 @@
 -- No pointer word of a copy is far.
 use Rattle.cap_spec.specs.Tree.{none}
 use Rattle.cap_spec.proofs.Lemmas.{FitElements, one_word}
-use Rattle.cap_spec.proofs.Prelude.{List, [], append_assoc, arith, false, inl, inr, length, refl, subst, suc, true}
-use Rattle.cap_spec.proofs.Prelude.{zero, ℕ, ◌*◌, ◌++◌, ◌+◌, ◌-◌, ◌<◌, ◌==◌, ◌^◌, ◌∙◌, ◌∷◌, ◌≡◌, ◌⊎◌, eqb_tells}
-use Rattle.cap_spec.proofs.Prelude.{pointer_to, size, struct_word, HasWord, segment_of, kind, Tree, Trees, cap, more}
-use Rattle.cap_spec.proofs.Prelude.{null, pointers, scalars, struct, structs, tree_count}
+use Rattle.cap_spec.proofs.ProofNames.{List, [], append_assoc, arith, false, inl, inr, length, refl, subst, suc, true}
+use Rattle.cap_spec.proofs.ProofNames.{zero, ℕ, ◌*◌, ◌++◌, ◌+◌, ◌-◌, ◌<◌, ◌==◌, ◌^◌, ◌∙◌, ◌∷◌, ◌≡◌, ◌⊎◌, eqb_tells}
+use Rattle.cap_spec.proofs.ProofNames.{pointer_to, size, struct_word, HasWord, segment_of, kind, Tree, Trees, cap, more}
+use Rattle.cap_spec.proofs.ProofNames.{null, pointers, scalars, struct, structs, tree_count}
 use Rattle.cap_canon.specs.Laying.{Due, Laid, element_slots, slots}
 
 -- one that leads to a tree

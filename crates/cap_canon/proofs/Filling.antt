@@ -2,12 +2,12 @@
 use Rattle.cap_spec.specs.Tree.{none}
 use Rattle.cap_spec.proofs.Canonical.Placing.{stand_word}
 use Rattle.cap_spec.proofs.Lemmas.{range_length, length-scalar_words}
-use Rattle.cap_spec.proofs.Prelude.{List, Some, [], ap, append_assoc, arith, get_or, inl, inr, length, length-append}
-use Rattle.cap_spec.proofs.Prelude.{refl, slice_get, subst, suc, sym, zero, ℕ, ◌*◌, ◌++◌, ◌+◌, ◌-◌, ◌<◌, ◌∙◌, ◌∷◌, ◌≡◌}
-use Rattle.cap_spec.proofs.Prelude.{◌≤◌, ◌⊎◌, get_or-append_right, get_or_append_left, length-map-range_with_len}
-use Rattle.cap_spec.proofs.Prelude.{slice_get_within, struct_word, value_at, values_of, words_from, segment_of}
-use Rattle.cap_spec.proofs.Prelude.{HasWordsAt, element_bits, list_words, scalar_words, Tree, Trees, more, struct}
-use Rattle.cap_spec.proofs.Prelude.{structs, tree_count}
+use Rattle.cap_spec.proofs.ProofNames.{List, Some, [], ap, append_assoc, arith, get_or, inl, inr, length, length-append}
+use Rattle.cap_spec.proofs.ProofNames.{refl, slice_get, subst, suc, sym, zero, ℕ, ◌*◌, ◌++◌, ◌+◌, ◌-◌, ◌<◌, ◌∙◌, ◌∷◌, ◌≡◌}
+use Rattle.cap_spec.proofs.ProofNames.{◌≤◌, ◌⊎◌, get_or-append_right, get_or_append_left, length-map-range_with_len}
+use Rattle.cap_spec.proofs.ProofNames.{slice_get_within, struct_word, value_at, values_of, words_from, segment_of}
+use Rattle.cap_spec.proofs.ProofNames.{HasWordsAt, element_bits, list_words, scalar_words, Tree, Trees, more, struct}
+use Rattle.cap_spec.proofs.ProofNames.{structs, tree_count}
 use Rattle.cap_canon.specs.Filling.{Fills, IsDue, OwnAppended, elements_from, part_words, parts_words}
 use Rattle.cap_canon.specs.Laying.{DataAt, Due, element_slots, own_size, slots}
 use Rattle.cap_canon.specs.Objects.{AreElementsLeft, IsPointersObject, IsScalarsObject, IsStructObject, IsStructsObject}

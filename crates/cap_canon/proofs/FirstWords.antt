@@ -1,11 +1,11 @@
 -- Words written as bytes over bytes that are there already.
 use Rattle.std.proofs.Math.Seq.{take-set-lt}
 use Rattle.cap_spec.proofs.Bytes.Plain.{length_plain, plain_back, words_exact}
-use Rattle.cap_spec.proofs.Prelude.{List, [], ap, append_assoc, ap₂, arith, drop, drop-drop, get_or, length}
-use Rattle.cap_spec.proofs.Prelude.{length-append, length-take-le, refl, set, suc, sym, take, take-append-drop}
-use Rattle.cap_spec.proofs.Prelude.{take_all, zero, ℕ, ◌*◌, ◌++◌, ◌+◌, ◌<◌, ◌∙◌, ◌∷◌, ◌≡◌, ◌≤◌, take-set_at}
-use Rattle.cap_spec.proofs.Prelude.{take-append-le, AllByRecursion, put_mid, plain_text, plain_words, word_bytes}
-use Rattle.cap_spec.proofs.Prelude.{IsWord}
+use Rattle.cap_spec.proofs.ProofNames.{List, [], ap, append_assoc, ap₂, arith, drop, drop-drop, get_or, length}
+use Rattle.cap_spec.proofs.ProofNames.{length-append, length-take-le, refl, set, suc, sym, take, take-append-drop}
+use Rattle.cap_spec.proofs.ProofNames.{take_all, zero, ℕ, ◌*◌, ◌++◌, ◌+◌, ◌<◌, ◌∙◌, ◌∷◌, ◌≡◌, ◌≤◌, take-set_at}
+use Rattle.cap_spec.proofs.ProofNames.{take-append-le, AllByRecursion, put_mid, plain_text, plain_words, word_bytes}
+use Rattle.cap_spec.proofs.ProofNames.{IsWord}
 use Rattle.cap_words.proofs.Filling.{plain_join}
 use Rattle.cap_canon.specs.FirstWords.{first_words}
 

@@ -4,16 +4,16 @@ use Rattle.cap_spec.proofs.Canonical.TrimmedMeasures.{tree_count-cut}
 use Rattle.cap_spec.proofs.Lemmas.{extent_scalars, children_needed_le, tree_count-take_le, tree_count-trim_all}
 use Rattle.cap_spec.proofs.Lemmas.{found_form, elements_depth, extent_pointers, extent_struct, extent_structs, one_found}
 use Rattle.cap_spec.proofs.Lemmas.{HasForm, number_list, number_struct}
-use Rattle.cap_spec.proofs.Prelude.{List, ap, arith, max, refl, subst, sym, take, ℕ, ◌*◌, ◌+◌, ◌<◌, ◌∙◌, ◌≡◌, ◌≤◌}
-use Rattle.cap_spec.proofs.Prelude.{children_needed, children_of, cut_elements, data_needed, data_of, take_trees, trim}
-use Rattle.cap_spec.proofs.Prelude.{trim_all, trim_elements, AreElements, DenoteEach, Denotes, values_of, words_from}
-use Rattle.cap_spec.proofs.Prelude.{TagFits, HasWord, code, kind, list_size, list_words}
-use Rattle.cap_spec.proofs.Prelude.{Tree, Trees, cap, null, pointers, scalars, struct, structs}
+use Rattle.cap_spec.proofs.ProofNames.{List, ap, arith, max, refl, subst, sym, take, ℕ, ◌*◌, ◌+◌, ◌<◌, ◌∙◌, ◌≡◌, ◌≤◌}
+use Rattle.cap_spec.proofs.ProofNames.{children_needed, children_of, cut_elements, data_needed, data_of, take_trees, trim}
+use Rattle.cap_spec.proofs.ProofNames.{trim_all, trim_elements, AreElements, DenoteEach, Denotes, values_of, words_from}
+use Rattle.cap_spec.proofs.ProofNames.{TagFits, HasWord, code, kind, list_size, list_words}
+use Rattle.cap_spec.proofs.ProofNames.{Tree, Trees, cap, null, pointers, scalars, struct, structs}
 use Rattle.cap_spec.proofs.Trees.OneTree.{elements_moved}
 use Rattle.cap_ptr.specs.Shapes.{FindsObject}
 use Rattle.cap_vet.proofs.Founds.{object_at}
 use Rattle.cap_canon.specs.Found.{IsStructsAt}
-use Rattle.cap_canon.specs.Prelude.{IsStructAt, IsObject, most_data, Part}
+use Rattle.cap_canon.specs.CanonNames.{IsStructAt, IsObject, most_data, Part}
 use Rattle.cap_canon.proofs.Children.{row_count}
 use Rattle.cap_canon.proofs.Elements.{elements_left, left_take, most_data_of, row_left, words_left}
 use Rattle.cap_canon.proofs.Trimmed.{children_needed-trim, children_of-trim, data_of-trim, tree_count-trim_elements}

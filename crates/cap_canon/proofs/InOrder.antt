@@ -4,32 +4,32 @@ use Rattle.cap_spec.specs.Tree.{none}
 use Rattle.cap_spec.specs.declared.Step.TheVariants.{Item, Ptr}
 use Rattle.cap_spec.proofs.Lemmas.{extent_scalars, one_word, one_lead, near_has_none, extent_pointers, extent_struct}
 use Rattle.cap_spec.proofs.Lemmas.{extent_structs, extra_same, range_length, object_parts, one_tree}
-use Rattle.cap_spec.proofs.Prelude.{Bool, List, None, [], ap, ap₂, arith, false, if◌then◌else◌, inl, inr, length, max}
-use Rattle.cap_spec.proofs.Prelude.{ne_eqb, not, pos, refl, subst, suc, sym, true, zero, ℕ, ◌*◌, ◌++◌, ◌+◌, ◌-◌, ◌<◌}
-use Rattle.cap_spec.proofs.Prelude.{◌==◌, ◌^◌, ◌↔◌, ◌∙◌, ◌∷◌, ◌≡◌, ◌≢◌, ◌≤◌, ◌⊎◌, eqb_tells, length-map-range_with_len}
-use Rattle.cap_spec.proofs.Prelude.{children_needed, children_of, data_needed, layout, list_word, pointer_to}
-use Rattle.cap_spec.proofs.Prelude.{struct_word, trim, IsCanonical, AreElements, DenoteEach, Denotes, Finds}
-use Rattle.cap_spec.proofs.Prelude.{element_levels, value_at, values_of, words_from, IsComposite, Lead, Leads, Says}
-use Rattle.cap_spec.proofs.Prelude.{extra, near, one_pad, to_cap, to_null, to_object, two_pads, HasWord, segment_of}
-use Rattle.cap_spec.proofs.Prelude.{Costs, Reaches, HasWordsAt, code, data_size, element_bits, extent, kind, list_size}
-use Rattle.cap_spec.proofs.Prelude.{list_words, middle, pointer_size, scalar_words, IsStrict, Tree, Trees, has_cap}
-use Rattle.cap_spec.proofs.Prelude.{more, struct, tree_count}
+use Rattle.cap_spec.proofs.ProofNames.{Bool, List, None, [], ap, ap₂, arith, false, if◌then◌else◌, inl, inr, length, max}
+use Rattle.cap_spec.proofs.ProofNames.{ne_eqb, not, pos, refl, subst, suc, sym, true, zero, ℕ, ◌*◌, ◌++◌, ◌+◌, ◌-◌, ◌<◌}
+use Rattle.cap_spec.proofs.ProofNames.{◌==◌, ◌^◌, ◌↔◌, ◌∙◌, ◌∷◌, ◌≡◌, ◌≢◌, ◌≤◌, ◌⊎◌, eqb_tells, length-map-range_with_len}
+use Rattle.cap_spec.proofs.ProofNames.{children_needed, children_of, data_needed, layout, list_word, pointer_to}
+use Rattle.cap_spec.proofs.ProofNames.{struct_word, trim, IsCanonical, AreElements, DenoteEach, Denotes, Finds}
+use Rattle.cap_spec.proofs.ProofNames.{element_levels, value_at, values_of, words_from, IsComposite, Lead, Leads, Says}
+use Rattle.cap_spec.proofs.ProofNames.{extra, near, one_pad, to_cap, to_null, to_object, two_pads, HasWord, segment_of}
+use Rattle.cap_spec.proofs.ProofNames.{Costs, Reaches, HasWordsAt, code, data_size, element_bits, extent, kind, list_size}
+use Rattle.cap_spec.proofs.ProofNames.{list_words, middle, pointer_size, scalar_words, IsStrict, Tree, Trees, has_cap}
+use Rattle.cap_spec.proofs.ProofNames.{more, struct, tree_count}
 use Rattle.cap_spec.proofs.Trees.Charges.{one_cost}
 use Rattle.cap_ptr.specs.Rows.{HasPointers}
 use Rattle.cap_ptr.specs.Shapes.{FindsObject, IsShape}
 use Rattle.cap_ptr.specs.declared.shapes.Shape.{Shape}
 use Rattle.cap_ptr.proofs.NearObjects.{pointers-no_extra, pointers-plain}
-use Rattle.cap_vet.specs.Prelude.{IsNotLax, object_children, IsAccepted, IsReport, KnowsLax, Ahead, IsTrail}
-use Rattle.cap_vet.specs.Prelude.{element_rows, row, IsLookedAt}
+use Rattle.cap_vet.specs.VetNames.{IsNotLax, object_children, IsAccepted, IsReport, KnowsLax, Ahead, IsTrail}
+use Rattle.cap_vet.specs.VetNames.{element_rows, row, IsLookedAt}
 use Rattle.cap_vet.proofs.Laxness.{knows_on, within_of}
 use Rattle.cap_vet.proofs.OneTrail.{object_trail, one_trail, root_trail}
 use Rattle.cap_canon.specs.InOrder.{AreDue, HasDiffered, HasOwn, IsAsInCopy, IsCompared, IsInOrder, IsLaidSoFar}
 use Rattle.cap_canon.specs.InOrder.{IsNextInOrder, IsOwn, LeadsToEnd, MayStand}
 use Rattle.cap_canon.specs.NullsInOrder.{null_compared}
 use Rattle.cap_canon.specs.Objects.{IsLeft}
-use Rattle.cap_canon.specs.Prelude.{Step, Report, IsChecked, Differs, HasNoWords, IsNotCanonical, NoCopyHas, AreBefore}
-use Rattle.cap_canon.specs.Prelude.{Due, IsPointed, Laid, OwnAt, below, element_slots, own_size, slots, AreElementsLeft}
-use Rattle.cap_canon.specs.Prelude.{AreLeft, IsObject, ForTrimmed, longest_copy, NeedsLess, most_data, Object, Part}
+use Rattle.cap_canon.specs.CanonNames.{Step, Report, IsChecked, Differs, HasNoWords, IsNotCanonical, NoCopyHas, AreBefore}
+use Rattle.cap_canon.specs.CanonNames.{Due, IsPointed, Laid, OwnAt, below, element_slots, own_size, slots, AreElementsLeft}
+use Rattle.cap_canon.specs.CanonNames.{AreLeft, IsObject, ForTrimmed, longest_copy, NeedsLess, most_data, Object, Part}
 use Rattle.cap_canon.specs.Trimming.{NeedsAll}
 use Rattle.cap_canon.proofs.CheckWalks.{check_first, check_on}
 use Rattle.cap_canon.proofs.Copies.{copy_charged, no_cap_reached}

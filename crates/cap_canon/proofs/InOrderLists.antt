@@ -1,9 +1,9 @@
 -- A list of structs, whose word leads to the end, that is as a copy has it, or not.
 use Rattle.cap_spec.proofs.Lemmas.{start_after, HasWord-segment, one_word, extent_structs}
-use Rattle.cap_spec.proofs.Prelude.{List, ap, arith, false, if◌then◌else◌, inl, inr, length, pos, refl, subst, sym}
-use Rattle.cap_spec.proofs.Prelude.{true, ℕ, ◌*◌, ◌+◌, ◌-◌, ◌<◌, ◌==◌, ◌^◌, ◌∙◌, ◌≡◌, ◌≢◌, ◌≤◌, ◌⊎◌, eqb_tells}
-use Rattle.cap_spec.proofs.Prelude.{list_word, struct_word, HasWord, segment_of, code, data_size, kind, list_size}
-use Rattle.cap_spec.proofs.Prelude.{middle, pointer_size}
+use Rattle.cap_spec.proofs.ProofNames.{List, ap, arith, false, if◌then◌else◌, inl, inr, length, pos, refl, subst, sym}
+use Rattle.cap_spec.proofs.ProofNames.{true, ℕ, ◌*◌, ◌+◌, ◌-◌, ◌<◌, ◌==◌, ◌^◌, ◌∙◌, ◌≡◌, ◌≢◌, ◌≤◌, ◌⊎◌, eqb_tells}
+use Rattle.cap_spec.proofs.ProofNames.{list_word, struct_word, HasWord, segment_of, code, data_size, kind, list_size}
+use Rattle.cap_spec.proofs.ProofNames.{middle, pointer_size}
 use Rattle.cap_ptr.specs.Reaching.{LeadsTo}
 use Rattle.cap_ptr.specs.Shapes.{FindsObject}
 use Rattle.cap_ptr.proofs.Objects.{found-structs}

@@ -3,10 +3,10 @@ use Rattle.cap_spec.specs.Tree.{none}
 use Rattle.cap_spec.proofs.Canonical.ElementPlaces.{children_begin, element_end, rest_begin}
 use Rattle.cap_spec.proofs.Canonical.Sizes.{length-contents, length-element_words, length-pointer_words}
 use Rattle.cap_spec.proofs.Lemmas.{stand_back, stand_front, FitElements, Fits}
-use Rattle.cap_spec.proofs.Prelude.{List, Some, ap, append_assoc, arith, length, refl, slice_get, subst, sym, ℕ, ◌*◌}
-use Rattle.cap_spec.proofs.Prelude.{◌++◌, ◌+◌, ◌↔◌, ◌∷◌, ◌≡◌, contents, element_contents, element_sizes, element_words}
-use Rattle.cap_spec.proofs.Prelude.{pointer_words, size, sizes, struct_word, HasWordsAt, Tree, Trees, cap, more, null}
-use Rattle.cap_spec.proofs.Prelude.{pointers, scalars, struct, structs, tree_count}
+use Rattle.cap_spec.proofs.ProofNames.{List, Some, ap, append_assoc, arith, length, refl, slice_get, subst, sym, ℕ, ◌*◌}
+use Rattle.cap_spec.proofs.ProofNames.{◌++◌, ◌+◌, ◌↔◌, ◌∷◌, ◌≡◌, contents, element_contents, element_sizes, element_words}
+use Rattle.cap_spec.proofs.ProofNames.{pointer_words, size, sizes, struct_word, HasWordsAt, Tree, Trees, cap, more, null}
+use Rattle.cap_spec.proofs.ProofNames.{pointers, scalars, struct, structs, tree_count}
 use Rattle.cap_canon.specs.Laying.{DataAt, Due, IsPointed, Laid, OwnAt, below, element_slots, own_size, slots}
 use Rattle.cap_canon.proofs.Laying.{due_row, laid_inside, row_due, stand_join}
 

@@ -1,9 +1,9 @@
 -- How many data words are needed, from the last one down.
 use Rattle.cap_spec.proofs.Lemmas.{data_needed_le, range_length}
-use Rattle.cap_spec.proofs.Prelude.{List, [], ap, arith, drop, false, get_or, get_or-drop, get_or-take, if◌then◌else◌}
-use Rattle.cap_spec.proofs.Prelude.{inl, inr, length, max, refl, suc, sym, take, true, zero, ℕ, ◌*◌, ◌+◌, ◌-◌, ◌<◌}
-use Rattle.cap_spec.proofs.Prelude.{◌==◌, ◌∙◌, ◌∷◌, ◌≡◌, ◌≢◌, ◌≤◌, ◌⊎◌, eqb_tells, get_or_from_slice_get, data_needed}
-use Rattle.cap_spec.proofs.Prelude.{words_from, HasWord, segment_of}
+use Rattle.cap_spec.proofs.ProofNames.{List, [], ap, arith, drop, false, get_or, get_or-drop, get_or-take, if◌then◌else◌}
+use Rattle.cap_spec.proofs.ProofNames.{inl, inr, length, max, refl, suc, sym, take, true, zero, ℕ, ◌*◌, ◌+◌, ◌-◌, ◌<◌}
+use Rattle.cap_spec.proofs.ProofNames.{◌==◌, ◌∙◌, ◌∷◌, ◌≡◌, ◌≢◌, ◌≤◌, ◌⊎◌, eqb_tells, get_or_from_slice_get, data_needed}
+use Rattle.cap_spec.proofs.ProofNames.{words_from, HasWord, segment_of}
 use Rattle.cap_canon.specs.Trimming.{most_data}
 
 -- a word that isn't zero is needed

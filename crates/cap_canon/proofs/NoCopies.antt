@@ -2,16 +2,16 @@
 use Rattle.cap_spec.specs.Denoting.{places}
 use Rattle.cap_spec.proofs.Lemmas.{StructFields, list_fields, struct_fields, Fits, children_needed_le, data_needed_le}
 use Rattle.cap_spec.proofs.Lemmas.{tree_count-take_le, one_word, range_length}
-use Rattle.cap_spec.proofs.Prelude.{List, ap, ap₂, arith, false, inl, inr, length, length-take-le, refl, subst, sym}
-use Rattle.cap_spec.proofs.Prelude.{take, true, ℕ, ◌*◌, ◌++◌, ◌+◌, ◌-◌, ◌<◌, ◌==◌, ◌^◌, ◌∙◌, ◌≡◌, ◌≢◌, ◌≤◌, ◌⊎◌}
-use Rattle.cap_spec.proofs.Prelude.{eqb_tells, children_needed, children_of, cut_elements, data_needed, data_of}
-use Rattle.cap_spec.proofs.Prelude.{pointer_to, struct_word, take_trees, trim, trim_all, trim_elements, AreElements}
-use Rattle.cap_spec.proofs.Prelude.{DenoteEach, Denotes, words_from, HasWord, segment_of, code, data_size, kind}
-use Rattle.cap_spec.proofs.Prelude.{list_size, middle, pointer_size, Tree, Trees, cap, null, pointers, scalars, struct}
-use Rattle.cap_spec.proofs.Prelude.{structs, tree_count}
+use Rattle.cap_spec.proofs.ProofNames.{List, ap, ap₂, arith, false, inl, inr, length, length-take-le, refl, subst, sym}
+use Rattle.cap_spec.proofs.ProofNames.{take, true, ℕ, ◌*◌, ◌++◌, ◌+◌, ◌-◌, ◌<◌, ◌==◌, ◌^◌, ◌∙◌, ◌≡◌, ◌≢◌, ◌≤◌, ◌⊎◌}
+use Rattle.cap_spec.proofs.ProofNames.{eqb_tells, children_needed, children_of, cut_elements, data_needed, data_of}
+use Rattle.cap_spec.proofs.ProofNames.{pointer_to, struct_word, take_trees, trim, trim_all, trim_elements, AreElements}
+use Rattle.cap_spec.proofs.ProofNames.{DenoteEach, Denotes, words_from, HasWord, segment_of, code, data_size, kind}
+use Rattle.cap_spec.proofs.ProofNames.{list_size, middle, pointer_size, Tree, Trees, cap, null, pointers, scalars, struct}
+use Rattle.cap_spec.proofs.ProofNames.{structs, tree_count}
 use Rattle.cap_ptr.specs.Shapes.{FindsObject}
-use Rattle.cap_canon.specs.Prelude.{IsStructAt, Differs, HasNoWords, NoCopyHas, IsPointed, Laid, OwnAt, below, own_size}
-use Rattle.cap_canon.specs.Prelude.{NeedsLess, most_data}
+use Rattle.cap_canon.specs.CanonNames.{IsStructAt, Differs, HasNoWords, NoCopyHas, IsPointed, Laid, OwnAt, below, own_size}
+use Rattle.cap_canon.specs.CanonNames.{NeedsLess, most_data}
 use Rattle.cap_canon.specs.Trimming.{ListNeedsLess}
 use Rattle.cap_canon.proofs.Children.{row_needed}
 use Rattle.cap_canon.proofs.Elements.{most_data_of}

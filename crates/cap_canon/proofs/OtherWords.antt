@@ -1,8 +1,8 @@
 -- A struct without words, and a list without bits, that are as a copy has them.
 use Rattle.cap_spec.proofs.Canonical.PointerFields.{start_before}
 use Rattle.cap_spec.proofs.Lemmas.{extent_scalars, HasWord-segment}
-use Rattle.cap_spec.proofs.Prelude.{List, ap, arith, refl, subst, sym, ℕ, ◌+◌, ◌-◌, ◌<◌, ◌^◌, ◌∙◌, ◌≡◌, list_word}
-use Rattle.cap_spec.proofs.Prelude.{Finds, extra, near, HasWord, code, extent, kind, list_size, middle}
+use Rattle.cap_spec.proofs.ProofNames.{List, ap, arith, refl, subst, sym, ℕ, ◌+◌, ◌-◌, ◌<◌, ◌^◌, ◌∙◌, ◌≡◌, list_word}
+use Rattle.cap_spec.proofs.ProofNames.{Finds, extra, near, HasWord, code, extent, kind, list_size, middle}
 use Rattle.cap_ptr.specs.Shapes.{FindsObject}
 use Rattle.cap_ptr.proofs.Objects.{found-plain}
 use Rattle.cap_canon.specs.InOrder.{HasOwn, IsNextInOrder, MayStand}

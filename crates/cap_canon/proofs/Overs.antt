@@ -1,13 +1,13 @@
 -- The words and the text of a copy at the start of a buffer.
 use Rattle.cap_spec.specs.declared.CanonFault.TheVariants.{HasCapability, Memory}
 use Rattle.cap_spec.proofs.Lemmas.{all_take, length_plain}
-use Rattle.cap_spec.proofs.Prelude.{Err, List, Ok, Result, [], ap, arith, inl, inr, length, length-take-le, sym, take}
-use Rattle.cap_spec.proofs.Prelude.{take_all, ℕ, ◌*◌, ◌<◌, ◌∙◌, ◌≡◌, ◌≤◌, ◌⊎◌, AllByRecursion, layout, trim, HasCopy}
-use Rattle.cap_spec.proofs.Prelude.{Denotes, IsFirstCap, plain_text, plain_words}
+use Rattle.cap_spec.proofs.ProofNames.{Err, List, Ok, Result, [], ap, arith, inl, inr, length, length-take-le, sym, take}
+use Rattle.cap_spec.proofs.ProofNames.{take_all, ℕ, ◌*◌, ◌<◌, ◌∙◌, ◌≡◌, ◌≤◌, ◌⊎◌, AllByRecursion, layout, trim, HasCopy}
+use Rattle.cap_spec.proofs.ProofNames.{Denotes, IsFirstCap, plain_text, plain_words}
 use Rattle.cap_words.proofs.WholeWords.{words_text}
 use Rattle.cap_canon.specs.CopyOvers.{MakesEnough, TellsOver, enough, grown, has_capability, made, no_copy, no_memory}
 use Rattle.cap_canon.specs.CopyOvers.{over, refused}
-use Rattle.cap_canon.specs.Prelude.{CanonFault, first_words}
+use Rattle.cap_canon.specs.CanonNames.{CanonFault, first_words}
 use Rattle.cap_canon.proofs.Copies.{copy_length, copy_of, same_fault}
 use Rattle.cap_canon.proofs.FirstWords.{first_taken}
 

@@ -1,12 +1,12 @@
 -- What the runs of a walk owe, word by word.
 use Rattle.cap_spec.proofs.Lemmas.{reverse-more, HasWord-inside, HasWord-segment, lead_word, Formed, formed}
-use Rattle.cap_spec.proofs.Prelude.{List, None, Option, Some, [], ap, arith, length, length-append, option_to_list}
-use Rattle.cap_spec.proofs.Prelude.{refl, reverse, subst, suc, sym, ℕ, ◌++◌, ◌+◌, ◌<◌, ◌^◌, ◌∙◌, ◌∷◌, ◌≡◌, ◌≤◌}
-use Rattle.cap_spec.proofs.Prelude.{length-reverse, reverse-append, Denotes, IsMessage, segment_of, Tree}
+use Rattle.cap_spec.proofs.ProofNames.{List, None, Option, Some, [], ap, arith, length, length-append, option_to_list}
+use Rattle.cap_spec.proofs.ProofNames.{refl, reverse, subst, suc, sym, ℕ, ◌++◌, ◌+◌, ◌<◌, ◌^◌, ◌∙◌, ◌∷◌, ◌≡◌, ◌≤◌}
+use Rattle.cap_spec.proofs.ProofNames.{length-reverse, reverse-append, Denotes, IsMessage, segment_of, Tree}
 use Rattle.cap_canon.specs.Laying.{size_due}
-use Rattle.cap_canon.specs.Prelude.{AreShort, IsFull, IsRest, OptionFull, all_places, first_place, option_places}
-use Rattle.cap_canon.specs.Prelude.{places_of, AreBefore, Due, AreOwed, IsNext, IsWalking, Stacked, longest_copy}
-use Rattle.cap_canon.specs.Prelude.{work_left, CopyRun, PointerPlace}
+use Rattle.cap_canon.specs.CanonNames.{AreShort, IsFull, IsRest, OptionFull, all_places, first_place, option_places}
+use Rattle.cap_canon.specs.CanonNames.{places_of, AreBefore, Due, AreOwed, IsNext, IsWalking, Stacked, longest_copy}
+use Rattle.cap_canon.specs.CanonNames.{work_left, CopyRun, PointerPlace}
 use Rattle.cap_canon.specs.StillToLay.{RunOwes}
 use Rattle.cap_canon.proofs.Runs.{count_more}
 

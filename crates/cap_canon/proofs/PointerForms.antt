@@ -1,7 +1,7 @@
 -- The pointer words of a copy have the forms of what they lead to.
 use Rattle.cap_spec.proofs.Canonical.PointerFields.{cap_fields, list_fields, struct_fields}
-use Rattle.cap_spec.proofs.Prelude.{ap, arith, false, lt-ltb, pos, refl, sym, ℕ, ◌*◌, ◌+◌, ◌<◌, ◌==◌, ◌^◌, ◌≡◌}
-use Rattle.cap_spec.proofs.Prelude.{nat_tests, list_word, struct_word, middle, signed_offset_of}
+use Rattle.cap_spec.proofs.ProofNames.{ap, arith, false, lt-ltb, pos, refl, sym, ℕ, ◌*◌, ◌+◌, ◌<◌, ◌==◌, ◌^◌, ◌≡◌}
+use Rattle.cap_spec.proofs.ProofNames.{nat_tests, list_word, struct_word, middle, signed_offset_of}
 use Rattle.cap_ptr.specs.Forms.{pointer_of}
 use Rattle.cap_ptr.specs.declared.forms.Pointer.TheVariants.{Cap, List, Struct}
 

@@ -1,11 +1,11 @@
 -- The words of ranges and of lists of values, as a copy appends them.
 use Rattle.cap_spec.proofs.Lemmas.{rest_at, HasWord-at, range_length, length-scalar_words}
-use Rattle.cap_spec.proofs.Prelude.{List, [], ap, ap₂, arith, drop, drop-drop, get_or, get_or-drop, get_or-take, inl}
-use Rattle.cap_spec.proofs.Prelude.{inr, length, length-append, refl, subst, suc, sym, take, take-add, zero, ℕ, ◌*◌}
-use Rattle.cap_spec.proofs.Prelude.{◌++◌, ◌+◌, ◌-◌, ◌<◌, ◌∙◌, ◌∷◌, ◌≡◌, ◌≤◌, ◌⊎◌, get_or-append_right}
-use Rattle.cap_spec.proofs.Prelude.{get_or_append_left, get_or_default, same_lists, length-map-range_with_len}
-use Rattle.cap_spec.proofs.Prelude.{get_or_from_slice_get, AllByRecursion, value_at, values_of, words_from, HasWord}
-use Rattle.cap_spec.proofs.Prelude.{segment_of, HasWordsAt, element_bits, list_words, scalar_words, IsWord, field}
+use Rattle.cap_spec.proofs.ProofNames.{List, [], ap, ap₂, arith, drop, drop-drop, get_or, get_or-drop, get_or-take, inl}
+use Rattle.cap_spec.proofs.ProofNames.{inr, length, length-append, refl, subst, suc, sym, take, take-add, zero, ℕ, ◌*◌}
+use Rattle.cap_spec.proofs.ProofNames.{◌++◌, ◌+◌, ◌-◌, ◌<◌, ◌∙◌, ◌∷◌, ◌≡◌, ◌≤◌, ◌⊎◌, get_or-append_right}
+use Rattle.cap_spec.proofs.ProofNames.{get_or_append_left, get_or_default, same_lists, length-map-range_with_len}
+use Rattle.cap_spec.proofs.ProofNames.{get_or_from_slice_get, AllByRecursion, value_at, values_of, words_from, HasWord}
+use Rattle.cap_spec.proofs.ProofNames.{segment_of, HasWordsAt, element_bits, list_words, scalar_words, IsWord, field}
 use Rattle.cap_spec.proofs.Trees.WordsRead.{values_read}
 use Rattle.cap_canon.specs.Filling.{elements_from}
 use Rattle.cap_canon.specs.Values.{used_bits}

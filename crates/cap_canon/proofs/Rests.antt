@@ -1,7 +1,7 @@
 -- How many bits of its last word a list of values takes, and lists that take all of them.
-use Rattle.cap_spec.proofs.Prelude.{List, ap, arith, length, subst, suc, sym, zero, ℕ, ◌%◌, ◌*◌, ◌+◌, ◌<◌, ◌∙◌, ◌≡◌}
-use Rattle.cap_spec.proofs.Prelude.{◌≢◌, ◌≤◌, nil_from_length, length-map-range_with_len, value_at, values_of, HasWord}
-use Rattle.cap_spec.proofs.Prelude.{segment_of, HasWordsAt, element_bits, list_words, scalar_words, IsWord, field}
+use Rattle.cap_spec.proofs.ProofNames.{List, ap, arith, length, subst, suc, sym, zero, ℕ, ◌%◌, ◌*◌, ◌+◌, ◌<◌, ◌∙◌, ◌≡◌}
+use Rattle.cap_spec.proofs.ProofNames.{◌≢◌, ◌≤◌, nil_from_length, length-map-range_with_len, value_at, values_of, HasWord}
+use Rattle.cap_spec.proofs.ProofNames.{segment_of, HasWordsAt, element_bits, list_words, scalar_words, IsWord, field}
 use Rattle.cap_spec.proofs.Trees.ReadingBack.{length-scalar_words}
 use Rattle.cap_canon.specs.Values.{used_bits}
 use Rattle.cap_canon.proofs.Ranges.{whole_field}

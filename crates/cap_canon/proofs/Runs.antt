@@ -2,8 +2,8 @@
 use Rattle.std.proofs.Common.{List, None, Option, Some, [], ap, append-nil, append_assoc, arith, length, length-append}
 use Rattle.std.proofs.Common.{option_to_list, refl, suc, sym, zero, ℕ, ◌++◌, ◌+◌, ◌-◌, ◌<◌, ◌∙◌, ◌∷◌, ◌≡◌}
 use Rattle.cap_canon.specs.CopyRuns.{IsShort}
-use Rattle.cap_canon.specs.Prelude.{AreShort, IsFull, IsRest, all_places, further_places, option_places, place}
-use Rattle.cap_canon.specs.Prelude.{places_of, root_run, row_places, CopyRun, PointerPlace}
+use Rattle.cap_canon.specs.CanonNames.{AreShort, IsFull, IsRest, all_places, further_places, option_places, place}
+use Rattle.cap_canon.specs.CanonNames.{places_of, root_run, row_places, CopyRun, PointerPlace}
 
 -- behind the first of several words in a row
 pub rest_of_row : (s b a : ℕ) {n : ℕ} (more skip gap p : ℕ) → 1 < n → IsFull record {

@@ -3,13 +3,13 @@ use Rattle.cap_spec.specs.Tree.{none}
 use Rattle.cap_spec.proofs.Canonical.PointerFields.{ListFields}
 use Rattle.cap_spec.proofs.Lemmas.{all_append, stand_back, StructFields, list_fields, struct_fields, one_word}
 use Rattle.cap_spec.proofs.Lemmas.{range_length}
-use Rattle.cap_spec.proofs.Prelude.{List, [], ap, arith, false, inl, inr, length, subst, suc, sym, true, zero, ℕ, ◌*◌}
-use Rattle.cap_spec.proofs.Prelude.{◌++◌, ◌+◌, ◌-◌, ◌<◌, ◌==◌, ◌^◌, ◌∙◌, ◌∷◌, ◌≡◌, ◌≤◌, ◌⊎◌, eqb_tells, nil_from_length}
-use Rattle.cap_spec.proofs.Prelude.{length-map-range_with_len, mul-le, AllByRecursion, list_word, pointer_to}
-use Rattle.cap_spec.proofs.Prelude.{struct_word, Finds, value_at, values_of, words_from, HasWord, segment_of}
-use Rattle.cap_spec.proofs.Prelude.{HasWordsAt, data_size, element_bits, list_size, list_words, pointer_size}
-use Rattle.cap_spec.proofs.Prelude.{scalar_words, Tree, Trees, cap, more, null, scalars, struct, tree_count, IsWord}
-use Rattle.cap_spec.proofs.Prelude.{field}
+use Rattle.cap_spec.proofs.ProofNames.{List, [], ap, arith, false, inl, inr, length, subst, suc, sym, true, zero, ℕ, ◌*◌}
+use Rattle.cap_spec.proofs.ProofNames.{◌++◌, ◌+◌, ◌-◌, ◌<◌, ◌==◌, ◌^◌, ◌∙◌, ◌∷◌, ◌≡◌, ◌≤◌, ◌⊎◌, eqb_tells, nil_from_length}
+use Rattle.cap_spec.proofs.ProofNames.{length-map-range_with_len, mul-le, AllByRecursion, list_word, pointer_to}
+use Rattle.cap_spec.proofs.ProofNames.{struct_word, Finds, value_at, values_of, words_from, HasWord, segment_of}
+use Rattle.cap_spec.proofs.ProofNames.{HasWordsAt, data_size, element_bits, list_size, list_words, pointer_size}
+use Rattle.cap_spec.proofs.ProofNames.{scalar_words, Tree, Trees, cap, more, null, scalars, struct, tree_count, IsWord}
+use Rattle.cap_spec.proofs.ProofNames.{field}
 use Rattle.cap_canon.specs.InPlace.{StandsIn}
 use Rattle.cap_canon.specs.Laying.{DataAt, IsPointed, OwnAt, own_size}
 use Rattle.cap_canon.specs.Objects.{AreElementsLeft, IsPointersObject, IsScalarsObject, IsStructObject, IsStructsObject}

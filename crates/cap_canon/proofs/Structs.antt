@@ -1,6 +1,6 @@
 -- Structs in a row, appended to a copy one after the other.
-use Rattle.cap_spec.proofs.Prelude.{List, ap, append_assoc, arith, length, length-append, subst, suc, sym, ℕ, ◌*◌, ◌++◌}
-use Rattle.cap_spec.proofs.Prelude.{◌+◌, ◌-◌, ◌<◌, ◌∙◌, ◌≡◌, ◌≤◌, words_from, segment_of}
+use Rattle.cap_spec.proofs.ProofNames.{List, ap, append_assoc, arith, length, length-append, subst, suc, sym, ℕ, ◌*◌, ◌++◌}
+use Rattle.cap_spec.proofs.ProofNames.{◌+◌, ◌-◌, ◌<◌, ◌∙◌, ◌≡◌, ◌≤◌, words_from, segment_of}
 use Rattle.cap_spec.proofs.Trees.DenotedTrees.{range_length}
 use Rattle.cap_canon.specs.Filling.{elements_from, parts_words}
 use Rattle.cap_canon.specs.Objects.{IsFewer}

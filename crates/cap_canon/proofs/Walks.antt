@@ -4,13 +4,13 @@ use Rattle.cap_spec.proofs.Canonical.TreeMeasures.{Measured, measured}
 use Rattle.cap_spec.proofs.Canonical.TrimmedMeasures.{Trimmed, trimmed}
 use Rattle.cap_spec.proofs.Lemmas.{stand_inside, length-content, Fits, HasWord-inside, lead_word, Formed, formed}
 use Rattle.cap_spec.proofs.Lemmas.{one_tree}
-use Rattle.cap_spec.proofs.Prelude.{List, Option, [], arith, length, option_to_list, refl, subst, sym, ℕ, ◌++◌, ◌+◌}
-use Rattle.cap_spec.proofs.Prelude.{◌-◌, ◌<◌, ◌∷◌, ◌≡◌, ◌≤◌, content, layout, trim, Denotes, IsMessage, segment_of}
-use Rattle.cap_spec.proofs.Prelude.{Tree}
+use Rattle.cap_spec.proofs.ProofNames.{List, Option, [], arith, length, option_to_list, refl, subst, sym, ℕ, ◌++◌, ◌+◌}
+use Rattle.cap_spec.proofs.ProofNames.{◌-◌, ◌<◌, ◌∷◌, ◌≡◌, ◌≤◌, content, layout, trim, Denotes, IsMessage, segment_of}
+use Rattle.cap_spec.proofs.ProofNames.{Tree}
 use Rattle.cap_canon.specs.CopyTurns.{IsTurn}
-use Rattle.cap_canon.specs.Prelude.{AreShort, IsFull, IsRest, first_place, place, places_of, root_run, Due, Laid, below}
-use Rattle.cap_canon.specs.Prelude.{own_size, IsObject, HasTree, IsNext, IsWalking, NextLeadsTo, Object, CopyRun}
-use Rattle.cap_canon.specs.Prelude.{PointerPlace}
+use Rattle.cap_canon.specs.CanonNames.{AreShort, IsFull, IsRest, first_place, place, places_of, root_run, Due, Laid, below}
+use Rattle.cap_canon.specs.CanonNames.{own_size, IsObject, HasTree, IsNext, IsWalking, NextLeadsTo, Object, CopyRun}
+use Rattle.cap_canon.specs.CanonNames.{PointerPlace}
 use Rattle.cap_canon.specs.StillToLay.{IsOwed}
 use Rattle.cap_canon.proofs.LaidSteps.{object_laid}
 use Rattle.cap_canon.proofs.Lengths.{size_below}

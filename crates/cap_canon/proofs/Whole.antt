@@ -1,8 +1,8 @@
 -- A whole layout is laid behind its root word.
 use Rattle.cap_spec.proofs.Canonical.Placing.{stand_taken, stand_whole}
 use Rattle.cap_spec.proofs.Lemmas.{rest_at, length-content, Fits}
-use Rattle.cap_spec.proofs.Prelude.{List, Some, [], ap, arith, drop, length, length-drop, refl, slice_get, subst, sym}
-use Rattle.cap_spec.proofs.Prelude.{take, take_all, ℕ, ◌↔◌, ◌∙◌, ◌∷◌, ◌≡◌, content, layout, pointer_to, size, Tree}
+use Rattle.cap_spec.proofs.ProofNames.{List, Some, [], ap, arith, drop, length, length-drop, refl, slice_get, subst, sym}
+use Rattle.cap_spec.proofs.ProofNames.{take, take_all, ℕ, ◌↔◌, ◌∙◌, ◌∷◌, ◌≡◌, content, layout, pointer_to, size, Tree}
 use Rattle.cap_canon.specs.Laying.{Laid}
 
 -- words are a layout exactly where it is laid from word 1 on, with the root word due

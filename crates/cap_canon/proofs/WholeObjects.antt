@@ -2,11 +2,11 @@
 use Rattle.cap_spec.specs.Denoting.{places}
 use Rattle.cap_spec.specs.Tree.{none}
 use Rattle.cap_spec.proofs.Frames.Messages.{one_word}
-use Rattle.cap_spec.proofs.Prelude.{List, ap, arith, false, length, max, refl, subst, suc, sym, true, zero, ℕ, ◌*◌, ◌+◌}
-use Rattle.cap_spec.proofs.Prelude.{◌-◌, ◌<◌, ◌∙◌, ◌≡◌, ◌≢◌, ◌≤◌, mul-le, children_needed, children_of, data_needed}
-use Rattle.cap_spec.proofs.Prelude.{is_null, AreElements, DenoteEach, Denotes, words_from, Leads, near, one_pad}
-use Rattle.cap_spec.proofs.Prelude.{to_null, two_pads, HasWord, segment_of, kind, Tree, Trees, cap, more, null}
-use Rattle.cap_spec.proofs.Prelude.{pointers, scalars, struct, structs}
+use Rattle.cap_spec.proofs.ProofNames.{List, ap, arith, false, length, max, refl, subst, suc, sym, true, zero, ℕ, ◌*◌, ◌+◌}
+use Rattle.cap_spec.proofs.ProofNames.{◌-◌, ◌<◌, ◌∙◌, ◌≡◌, ◌≢◌, ◌≤◌, mul-le, children_needed, children_of, data_needed}
+use Rattle.cap_spec.proofs.ProofNames.{is_null, AreElements, DenoteEach, Denotes, words_from, Leads, near, one_pad}
+use Rattle.cap_spec.proofs.ProofNames.{to_null, two_pads, HasWord, segment_of, kind, Tree, Trees, cap, more, null}
+use Rattle.cap_spec.proofs.ProofNames.{pointers, scalars, struct, structs}
 use Rattle.cap_canon.specs.NullsInOrder.{zero_null}
 use Rattle.cap_canon.specs.Trimming.{most_data}
 use Rattle.cap_canon.proofs.Children.{child_below, child_here, row_needed}

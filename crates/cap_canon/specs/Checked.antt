@@ -1,6 +1,6 @@
 -- A message that is compared with its canonical copy, part by part (profile).
 use Rattle.std.specs.Prelude.{List, length, ℕ, ◌↔◌, ◌≡◌, ◌≤◌}
-use Rattle.cap_spec.specs.Prelude.{layout, segment_of, Tree}
+use Rattle.cap_spec.specs.SpecNames.{layout, segment_of, Tree}
 use Rattle.cap_canon.specs.Laying.{Due, Laid}
 
 -- The words of segment 0 are the layout exactly if they lay what is due from end on.

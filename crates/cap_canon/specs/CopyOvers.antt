@@ -1,7 +1,7 @@
 -- The result for a canonical copy that is written over a buffer as bytes, which grows if it has to,
 -- and what the buffer holds then (standard: Canonicalization, 64-bit Words).
 use Rattle.std.specs.Prelude.{Err, List, Ok, Result, [], length, take, ℕ, ◌<◌, ◌≡◌, ◌≤◌}
-use Rattle.cap_spec.specs.Prelude.{HasCopy, IsFirstCap, plain_text}
+use Rattle.cap_spec.specs.SpecNames.{HasCopy, IsFirstCap, plain_text}
 use Rattle.cap_spec.specs.declared.CanonFault.{CanonFault}
 use Rattle.cap_spec.specs.declared.CanonFault.TheVariants.{HasCapability, Memory}
 

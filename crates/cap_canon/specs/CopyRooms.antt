@@ -1,7 +1,7 @@
 -- The result for a canonical copy that is written into a buffer as bytes, and what the buffer holds
 -- then (standard: Canonicalization, 64-bit Words).
 use Rattle.std.specs.Prelude.{Err, List, Ok, Result, drop, length, ℕ, ◌++◌, ◌<◌, ◌≡◌, ◌≤◌}
-use Rattle.cap_spec.specs.Prelude.{HasCopy, IsFirstCap, plain_text}
+use Rattle.cap_spec.specs.SpecNames.{HasCopy, IsFirstCap, plain_text}
 use Rattle.cap_canon.specs.declared.fault.RoomFault.{RoomFault}
 use Rattle.cap_canon.specs.declared.fault.RoomFault.TheVariants.{HasCapability, NoRoom}
 

@@ -1,6 +1,6 @@
 -- A turn of the walk, at one pointer word (profile).
 use Rattle.std.specs.Prelude.{List, length, ℕ, ◌++◌, ◌+◌, ◌∷◌, ◌≤◌}
-use Rattle.cap_spec.specs.Prelude.{layout, Tree}
+use Rattle.cap_spec.specs.SpecNames.{layout, Tree}
 use Rattle.cap_canon.specs.Laying.{Due, IsPointed, OwnAt, below, own_size}
 use Rattle.cap_canon.specs.StillToLay.{NextLeadsTo}
 use Rattle.cap_canon.specs.declared.objects.Object.{Object}

@@ -1,6 +1,6 @@
 -- Words of a copy beside those of the whole, whose pointer words may still be missing (profile).
 use Rattle.std.specs.Prelude.{List, [], length, slice_index, suc, zero, ℕ, ◌++◌, ◌+◌, ◌<◌, ◌∷◌, ◌≡◌, ◌≤◌, ◌⊎◌}
-use Rattle.cap_spec.specs.Prelude.{layout, words_from, Tree}
+use Rattle.cap_spec.specs.SpecNames.{layout, words_from, Tree}
 use Rattle.cap_canon.specs.Laying.{Due, IsPointed, OwnAt, below, own_size}
 use Rattle.cap_canon.specs.Objects.{IsObject}
 use Rattle.cap_canon.specs.declared.objects.Object.{Object}

@@ -1,7 +1,7 @@
 -- The struct or the list of structs that a pointer word finds, with the tree that the word denotes (profile).
 use Rattle.std.specs.Prelude.{List, length, ℕ, ◌*◌, ◌+◌, ◌<◌, ◌≡◌, ◌≤◌}
-use Rattle.cap_spec.specs.Prelude.{AreElements, DenoteEach, Finds, places, words_from, HasWord, segment_of, code}
-use Rattle.cap_spec.specs.Prelude.{data_size, kind, list_size, middle, pointer_size, Tree, Trees, struct, structs}
+use Rattle.cap_spec.specs.SpecNames.{AreElements, DenoteEach, Finds, places, words_from, HasWord, segment_of, code}
+use Rattle.cap_spec.specs.SpecNames.{data_size, kind, list_size, middle, pointer_size, Tree, Trees, struct, structs}
 
 -- The word at s:w finds a struct of ds data words and ps pointers at t:b.
 pub record LeadsToStruct (m : List (List ℕ)) (s w t b ds ps : ℕ) : Type 0 where

@@ -1,10 +1,10 @@
 -- A message that is compared with its canonical copy while it is vetted (profile).
 use Rattle.std.specs.Prelude.{List, None, [], length, ℕ, ⊤, ◌++◌, ◌+◌, ◌<◌, ◌^◌, ◌∷◌, ◌≡◌, ◌≢◌, ◌≤◌, ◌⊎◌}
 use Rattle.cap_spec.specs.Copies.{IsCanonical}
-use Rattle.cap_spec.specs.Prelude.{trim, Denotes, Finds, HasTag, most_words, HasWord, segment_of, Costs, code}
-use Rattle.cap_spec.specs.Prelude.{data_size, kind, middle, pointer_size, Tree}
+use Rattle.cap_spec.specs.SpecNames.{trim, Denotes, Finds, HasTag, most_words, HasWord, segment_of, Costs, code}
+use Rattle.cap_spec.specs.SpecNames.{data_size, kind, middle, pointer_size, Tree}
 use Rattle.cap_spec.specs.declared.Step.{Step}
-use Rattle.cap_vet.specs.Prelude.{object_children, KnowsLax, Ahead, IsTrail}
+use Rattle.cap_vet.specs.VetNames.{object_children, KnowsLax, Ahead, IsTrail}
 use Rattle.cap_canon.specs.Checked.{IsChecked}
 use Rattle.cap_canon.specs.Laying.{AreBefore, Due, IsPointed, Laid, OwnAt, below, own_size}
 use Rattle.cap_canon.specs.Objects.{IsLeft}

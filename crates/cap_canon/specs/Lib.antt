@@ -16,4 +16,4 @@ pub mod Roots
 pub mod StillToLay
 pub mod Trimming
 pub mod Values
-pub mod Prelude
+pub mod CanonNames

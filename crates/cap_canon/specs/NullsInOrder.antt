@@ -1,8 +1,8 @@
 -- A null word is where a copy has it: the law of the turn that compares a message with its copy (profile).
 use Rattle.std.proofs.Common.{ap, arith, inl, inr, subst, sym, ◌∙◌}
 use Rattle.std.specs.Prelude.{List, None, [], refl, ℕ, ◌+◌, ◌-◌, ◌<◌, ◌∷◌, ◌≡◌}
-use Rattle.cap_spec.specs.Prelude.{trim, Denotes, near, to_null, HasWord, segment_of, Reaches, Tree, cap, null}
-use Rattle.cap_spec.specs.Prelude.{pointers, scalars, struct, structs}
+use Rattle.cap_spec.specs.SpecNames.{trim, Denotes, near, to_null, HasWord, segment_of, Reaches, Tree, cap, null}
+use Rattle.cap_spec.specs.SpecNames.{pointers, scalars, struct, structs}
 use Rattle.cap_spec.specs.declared.Step.{Step}
 use Rattle.cap_spec.proofs.Pointers.Following.{one_lead}
 use Rattle.cap_spec.proofs.Trees.OneTree.{HasForm, form_of, formed}

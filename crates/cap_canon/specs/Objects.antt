@@ -2,8 +2,8 @@
 -- (profile).
 use Rattle.std.specs.Prelude.{List, length, ℕ, ⊤, ◌+◌, ◌<◌, ◌≡◌, ◌≤◌}
 use Rattle.cap_spec.specs.Denoting.{values_of}
-use Rattle.cap_spec.specs.Prelude.{trim, Denotes, Finds, words_from, segment_of, code, kind, list_size, list_words}
-use Rattle.cap_spec.specs.Prelude.{Tree, Trees, cap, null, pointers, scalars, struct, structs}
+use Rattle.cap_spec.specs.SpecNames.{trim, Denotes, Finds, words_from, segment_of, code, kind, list_size, list_words}
+use Rattle.cap_spec.specs.SpecNames.{Tree, Trees, cap, null, pointers, scalars, struct, structs}
 use Rattle.cap_spec.specs.Tree.{more, none, tree_count}
 use Rattle.cap_canon.specs.Found.{LeadsToStruct, LeadsToStructs}
 use Rattle.cap_canon.specs.declared.objects.Object.{Object}

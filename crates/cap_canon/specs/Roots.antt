@@ -1,6 +1,6 @@
 -- The tree that the root of an accepted message denotes, and what is left of it (profile).
 use Rattle.std.specs.Prelude.{List, ℕ, ◌<◌, ◌^◌, ◌↔◌, ◌≡◌, ◌≤◌}
-use Rattle.cap_spec.specs.Prelude.{layout, trim, Denotes, most_depth, most_words, Tree}
+use Rattle.cap_spec.specs.SpecNames.{layout, trim, Denotes, most_depth, most_words, Tree}
 
 -- The root denotes a tree of this depth, within the greatest limits.
 pub record HasTree (m : List (List ℕ)) (depth : ℕ) : Type 0 where

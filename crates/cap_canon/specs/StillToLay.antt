@@ -1,7 +1,7 @@
 -- What a walk over an accepted message still has to lay (profile).
 use Rattle.std.specs.Prelude.{Bool, List, Option, [], if◌then◌else◌, length, option_to_list, reverse, ℕ, ⊤, ◌++◌, ◌+◌}
 use Rattle.std.specs.Prelude.{◌<◌, ◌∷◌, ◌≡◌, ◌≤◌}
-use Rattle.cap_spec.specs.Prelude.{trim, Denotes, most_words, IsMessage, Tree}
+use Rattle.cap_spec.specs.SpecNames.{trim, Denotes, most_words, IsMessage, Tree}
 use Rattle.cap_canon.specs.CopyRuns.{IsFull, IsRest, all_places, places_of}
 use Rattle.cap_canon.specs.Laying.{AreBefore, Due, size_due}
 use Rattle.cap_canon.specs.Objects.{IsObject}

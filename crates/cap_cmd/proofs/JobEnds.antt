@@ -1,7 +1,7 @@
 -- What a job did, and what it did whose status is that of success.
 use Rattle.cap_spec.specs.declared.CanonFault.TheVariants.{HasCapability, Memory as canon_memory}
-use Rattle.cap_spec.proofs.Prelude.{Bool, Err, List, None, Ok, Option, Result, Some, arith, false, length, subst, sym}
-use Rattle.cap_spec.proofs.Prelude.{true, ℕ, ◌∙◌, ◌≡◌, ◌≤◌, Appends, Keeps, append_known, pack_text, plain_text}
+use Rattle.cap_spec.proofs.ProofNames.{Bool, Err, List, None, Ok, Option, Result, Some, arith, false, length, subst, sym}
+use Rattle.cap_spec.proofs.ProofNames.{true, ℕ, ◌∙◌, ◌≡◌, ◌≤◌, Appends, Keeps, append_known, pack_text, plain_text}
 use Rattle.cap_words.specs.declared.sources.SourceFault.TheVariants.{Device as source_device, Spent as source_spent}
 use Rattle.cap_words.specs.declared.sources.SourceFault.TheVariants.{Truncated as source_truncated}
 use Rattle.cap_frame.specs.Limit.{limit_of}
@@ -19,11 +19,11 @@ use Rattle.cap_text.specs.declared.fault.RunFault.{RunFault}
 use Rattle.cap_run.specs.Breaking.{run_answer}
 use Rattle.cap_run.specs.Placed.{PlacedTells, TellsFrom, TellsPlaced}
 use Rattle.cap_run.specs.Filtering.{FiltersStream}
-use Rattle.cap_run.specs.Prelude.{copies_of, TellsCheckUnder, TellsDumpUnder, TellsExclusiveUnder, TellsGetUnder}
-use Rattle.cap_run.specs.Prelude.{TellsVerdictUnder, WantsMarksUnder, TellsStream, most_packed_at_once, most_transcoded}
-use Rattle.cap_run.specs.Prelude.{most_unpacked_at_once, TellsExplainedExclusiveUnder, TellsExplainedUnder, PassesOn}
-use Rattle.cap_run.specs.Prelude.{TellsIn, WantsInForm, Appended, ReadsToEnd, Tells, TellsEach, TellsSegments, Told}
-use Rattle.cap_run.specs.Prelude.{WantsNone, messages_of, outcome_of, texts_of, Transcoded, TranscodesAll}
+use Rattle.cap_run.specs.RunNames.{copies_of, TellsCheckUnder, TellsDumpUnder, TellsExclusiveUnder, TellsGetUnder}
+use Rattle.cap_run.specs.RunNames.{TellsVerdictUnder, WantsMarksUnder, TellsStream, most_packed_at_once, most_transcoded}
+use Rattle.cap_run.specs.RunNames.{most_unpacked_at_once, TellsExplainedExclusiveUnder, TellsExplainedUnder, PassesOn}
+use Rattle.cap_run.specs.RunNames.{TellsIn, WantsInForm, Appended, ReadsToEnd, Tells, TellsEach, TellsSegments, Told}
+use Rattle.cap_run.specs.RunNames.{WantsNone, messages_of, outcome_of, texts_of, Transcoded, TranscodesAll}
 use Rattle.cap_run.specs.declared.settings.FilterForm.{FilterForm}
 use Rattle.cap_run.specs.declared.settings.Outcome.{Outcome}
 use Rattle.cap_run.specs.declared.settings.Settings.{Settings}

@@ -8,8 +8,8 @@ use Rattle.std.specs.Prelude.{Bool, Err, List, Ok, OnSome, Option, Result, Some,
 use Rattle.std.specs.Prelude.{option_map, sum, true, unwrap_or, ℕ, ◌||◌, ◌≡◌, ◌≤◌}
 use Rattle.cap_spec.specs.PackedEnds.{packed_ends}
 use Rattle.cap_spec.specs.Plain.{plain_ends}
-use Rattle.cap_spec.specs.Prelude.{Stream, sizes_of, pack_text, plain_is_cut, plain_text, plain_words, packed_is_cut}
-use Rattle.cap_spec.specs.Prelude.{unpacked}
+use Rattle.cap_spec.specs.SpecNames.{Stream, sizes_of, pack_text, plain_is_cut, plain_text, plain_words, packed_is_cut}
+use Rattle.cap_spec.specs.SpecNames.{unpacked}
 use Rattle.cap_words.specs.declared.ends.OutFault.{OutFault}
 use Rattle.cap_frame.specs.Limit.{limit_of}
 use Rattle.cap_vet.specs.Limits.{depth_of, words_of}
@@ -24,12 +24,12 @@ use Rattle.cap_run.specs.Breaking.{ExplainsStream, run_answer}
 use Rattle.cap_run.specs.Placed.{PlacedTells, TellsFrom}
 use Rattle.cap_run.specs.Engines.{ShowsStream}
 use Rattle.cap_run.specs.Filtering.{FiltersUnder}
-use Rattle.cap_run.specs.Prelude.{AreCanonised, Canonised, MakesCopiesUnder, canonised, copies_of, TellsCheckUnder}
-use Rattle.cap_run.specs.Prelude.{TellsDumpUnder, TellsExclusiveUnder, TellsGetUnder, TellsVerdictUnder}
-use Rattle.cap_run.specs.Prelude.{WantsMarksUnder, TellsStream, TranscodesWords, most_packed_at_once, most_transcoded}
-use Rattle.cap_run.specs.Prelude.{most_unpacked_at_once, TellsExplainedExclusiveUnder, TellsExplainedUnder, PassesOn}
-use Rattle.cap_run.specs.Prelude.{TellsIn, Tells, TellsEach, TellsSegments, Told, WantsNone, messages_of}
-use Rattle.cap_run.specs.Prelude.{noncanonical_in, refused_in, texts_of}
+use Rattle.cap_run.specs.RunNames.{AreCanonised, Canonised, MakesCopiesUnder, canonised, copies_of, TellsCheckUnder}
+use Rattle.cap_run.specs.RunNames.{TellsDumpUnder, TellsExclusiveUnder, TellsGetUnder, TellsVerdictUnder}
+use Rattle.cap_run.specs.RunNames.{WantsMarksUnder, TellsStream, TranscodesWords, most_packed_at_once, most_transcoded}
+use Rattle.cap_run.specs.RunNames.{most_unpacked_at_once, TellsExplainedExclusiveUnder, TellsExplainedUnder, PassesOn}
+use Rattle.cap_run.specs.RunNames.{TellsIn, Tells, TellsEach, TellsSegments, Told, WantsNone, messages_of}
+use Rattle.cap_run.specs.RunNames.{noncanonical_in, refused_in, texts_of}
 use Rattle.cap_run.specs.declared.settings.FilterForm.{FilterForm}
 use Rattle.cap_run.specs.declared.settings.Outcome.{Outcome}
 use Rattle.cap_run.specs.declared.settings.Settings.{Settings}

@@ -6,9 +6,9 @@ use Rattle.cap_spec.specs.declared.Step.{Step}
 use Rattle.cap_spec.specs.Faults.{is_wrong}
 use Rattle.cap_spec.proofs.Lemmas.{one_refusal}
 use Rattle.cap_spec.proofs.Paths.Preorder.{Rises-distinct, one_tour}
-use Rattle.cap_spec.proofs.Prelude.{List, None, Option, Some, [], ap, ap₂, arith, inl, inr, refl, subst, sym, ℕ, ◌++◌, ◌+◌}
-use Rattle.cap_spec.proofs.Prelude.{◌∙◌, ◌∷◌, ◌≡◌, ◌≢◌, IfSome, CostOf, Costs, IsFirstFault, IsFirstReason, IsRefused, IsTour}
-use Rattle.cap_spec.proofs.Prelude.{is_deep, is_past}
+use Rattle.cap_spec.proofs.ProofNames.{List, None, Option, Some, [], ap, ap₂, arith, inl, inr, refl, subst, sym, ℕ, ◌++◌, ◌+◌}
+use Rattle.cap_spec.proofs.ProofNames.{◌∙◌, ◌∷◌, ◌≡◌, ◌≢◌, IfSome, CostOf, Costs, IsFirstFault, IsFirstReason, IsRefused, IsTour}
+use Rattle.cap_spec.proofs.ProofNames.{is_deep, is_past}
 use Rattle.cap_spec.proofs.Trees.Charges.{one_cost}
 use Rattle.cap_spec.proofs.Verdicts.OneFault.{distinct_last, fault_tour}
 use Rattle.cap_spec.proofs.Verdicts.OneVerdict.{distinct_cost}

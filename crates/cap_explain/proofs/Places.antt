@@ -1,6 +1,6 @@
 -- Places that a message doesn't have.
-use Rattle.cap_spec.proofs.Prelude.{List, None, [], ap, length, ℕ, ◌∷◌, ◌≡◌, ◌≤◌, get_or_past, slice_get_past}
-use Rattle.cap_spec.proofs.Prelude.{segment_of}
+use Rattle.cap_spec.proofs.ProofNames.{List, None, [], ap, length, ℕ, ◌∷◌, ◌≡◌, ◌≤◌, get_or_past, slice_get_past}
+use Rattle.cap_spec.proofs.ProofNames.{segment_of}
 use Rattle.cap_explain.specs.Leading.{word_of}
 
 -- there is no word in a segment that doesn't exist

@@ -1,11 +1,11 @@
 -- The rest of a table behind its first word, and the contents behind a table: what was read, and why nothing was.
 use Rattle.std.proofs.lemmas.List.Elements.{All-from_recursion}
-use Rattle.cap_spec.proofs.Prelude.{Bool, IfSome, List, None, Option, Some, [], arith, drop, length, refl, subst, sum}
-use Rattle.cap_spec.proofs.Prelude.{sym, ℕ, ◌%◌, ◌++◌, ◌+◌, ◌/◌, ◌<◌, ◌^◌, ◌∷◌, ◌≡◌, ◌≤◌, get_or-map, length-map}
-use Rattle.cap_spec.proofs.Prelude.{Consumes, Frames, IsPartial, IsTable, in_contents, in_table, joined, sizes_of}
-use Rattle.cap_spec.proofs.Prelude.{IsMessage}
+use Rattle.cap_spec.proofs.ProofNames.{Bool, IfSome, List, None, Option, Some, [], arith, drop, length, refl, subst, sum}
+use Rattle.cap_spec.proofs.ProofNames.{sym, ℕ, ◌%◌, ◌++◌, ◌+◌, ◌/◌, ◌<◌, ◌^◌, ◌∷◌, ◌≡◌, ◌≤◌, get_or-map, length-map}
+use Rattle.cap_spec.proofs.ProofNames.{Consumes, Frames, IsPartial, IsTable, in_contents, in_table, joined, sizes_of}
+use Rattle.cap_spec.proofs.ProofNames.{IsMessage}
 use Rattle.cap_words.specs.declared.sources.SourceFault.TheVariants.{Device, Spent, Truncated}
-use Rattle.cap_frame.specs.Prelude.{SourceFault, Faults, TakesTable, frame_fault_of, IsUsable, Stops, Takes}
+use Rattle.cap_frame.specs.FrameNames.{SourceFault, Faults, TakesTable, frame_fault_of, IsUsable, Stops, Takes}
 use Rattle.cap_frame.proofs.Taking.{breaks_later, stops_later, takes_both}
 use Rattle.cap_words.specs.declared.sources.WordSource as source
 

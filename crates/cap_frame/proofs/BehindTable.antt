@@ -1,8 +1,8 @@
 -- What is kept of a framed message in front of bytes, and its segments.
 use Rattle.cap_spec.proofs.Frames.Framing.{length_halves}
-use Rattle.cap_spec.proofs.Prelude.{List, [], ap, arith, drop, flat_map, length, length-drop, length-take-le, sum, sym}
-use Rattle.cap_spec.proofs.Prelude.{zero-add, ℕ, ◌*◌, ◌+◌, ◌∙◌, ◌∷◌, ◌≡◌, ◌≤◌, halves, sizes_of, plain_words}
-use Rattle.cap_frame.specs.Prelude.{cut, sizes_told, table_words}
+use Rattle.cap_spec.proofs.ProofNames.{List, [], ap, arith, drop, flat_map, length, length-drop, length-take-le, sum, sym}
+use Rattle.cap_spec.proofs.ProofNames.{zero-add, ℕ, ◌*◌, ◌+◌, ◌∙◌, ◌∷◌, ◌≡◌, ◌≤◌, halves, sizes_of, plain_words}
+use Rattle.cap_frame.specs.FrameNames.{cut, sizes_told, table_words}
 use Rattle.cap_frame.proofs.Cuts.{cut_length, words_all}
 use Rattle.cap_frame.proofs.InOneBuffer.{held_sizes}
 

@@ -6,7 +6,7 @@ use Rattle.std.proofs.lemmas.Grind.{flat_map-append}
 use Rattle.std.proofs.lemmas.List.{map-append, take_more, take_more_set}
 use Rattle.cap_spec.specs.Frames.{joined, sizes_of}
 use Rattle.cap_spec.proofs.Frames.Endings.{length_joined}
-use Rattle.cap_frame.specs.Prelude.{SourceFault, IsUsable, ReadsInput, Stops, Takes}
+use Rattle.cap_frame.specs.FrameNames.{SourceFault, IsUsable, ReadsInput, Stops, Takes}
 use Rattle.cap_frame.specs.Rooms.{AreRooms}
 use Rattle.cap_frame.proofs.Cuts.{front_sum}
 use Rattle.cap_frame.proofs.Taking.{Took, took_more, took_none, took_stop}

@@ -1,11 +1,11 @@
 -- What is known of the words of a source decides the result of reading a message, its faults and out of memory aside.
 use Rattle.cap_spec.specs.Endings.{none}
 use Rattle.cap_spec.proofs.Lemmas.{one_frame, same_table, one_ending}
-use Rattle.cap_spec.proofs.Prelude.{Bool, Err, IfSome, List, None, Ok, OnSome, Option, Result, Some, [], ap, arith}
-use Rattle.cap_spec.proofs.Prelude.{drop, false, length, refl, subst, sum, sym, true, ℕ, ◌%◌, ◌++◌, ◌+◌, ◌^◌, ◌∙◌, ◌∷◌}
-use Rattle.cap_spec.proofs.Prelude.{◌≡◌, Consumes, ⊤, BeginsMessage, Ending, EndsIn, TellsTooMany, TellsTooMuch}
-use Rattle.cap_spec.proofs.Prelude.{message, partial, too_large, too_many, IsPartial}
-use Rattle.cap_frame.specs.Prelude.{ReadsNext, TakesFrame, Faults, Takes, FrameFault}
+use Rattle.cap_spec.proofs.ProofNames.{Bool, Err, IfSome, List, None, Ok, OnSome, Option, Result, Some, [], ap, arith}
+use Rattle.cap_spec.proofs.ProofNames.{drop, false, length, refl, subst, sum, sym, true, ℕ, ◌%◌, ◌++◌, ◌+◌, ◌^◌, ◌∙◌, ◌∷◌}
+use Rattle.cap_spec.proofs.ProofNames.{◌≡◌, Consumes, ⊤, BeginsMessage, Ending, EndsIn, TellsTooMany, TellsTooMuch}
+use Rattle.cap_spec.proofs.ProofNames.{message, partial, too_large, too_many, IsPartial}
+use Rattle.cap_frame.specs.FrameNames.{ReadsNext, TakesFrame, Faults, Takes, FrameFault}
 use Rattle.cap_frame.specs.Reading.{Decides}
 use Rattle.cap_frame.specs.ReadingFaults.{Answered}
 use Rattle.cap_frame.specs.declared.fault.FrameFault.TheVariants.{Device, Memory, Spent, TooLarge, TooManySegments}

@@ -1,11 +1,11 @@
 -- Words of segments whose bytes stand one behind the other.
 use Rattle.std.proofs.lemmas.List.Sums.{sum_by-take-le}
 use Rattle.cap_spec.proofs.Bytes.Plain.{words_exact}
-use Rattle.cap_spec.proofs.Prelude.{All, List, Some, [], ap, arith, drop, drop-drop, get_or, get_or-take, length}
-use Rattle.cap_spec.proofs.Prelude.{length-drop, length-take-le, refl, slice_get, subst, suc, sum, sym, take, zero}
-use Rattle.cap_spec.proofs.Prelude.{zero-add, ℕ, ◌*◌, ◌+◌, ◌-◌, ◌<◌, ◌^◌, ◌∙◌, ◌∷◌, ◌≡◌, ◌≤◌, drop-take, get_or_default}
-use Rattle.cap_spec.proofs.Prelude.{take_more, sum_by-append, sum_by-cons, little_from, little_number, IsMessage}
-use Rattle.cap_spec.proofs.Prelude.{plain_words}
+use Rattle.cap_spec.proofs.ProofNames.{All, List, Some, [], ap, arith, drop, drop-drop, get_or, get_or-take, length}
+use Rattle.cap_spec.proofs.ProofNames.{length-drop, length-take-le, refl, slice_get, subst, suc, sum, sym, take, zero}
+use Rattle.cap_spec.proofs.ProofNames.{zero-add, ℕ, ◌*◌, ◌+◌, ◌-◌, ◌<◌, ◌^◌, ◌∙◌, ◌∷◌, ◌≡◌, ◌≤◌, drop-take, get_or_default}
+use Rattle.cap_spec.proofs.ProofNames.{take_more, sum_by-append, sum_by-cons, little_from, little_number, IsMessage}
+use Rattle.cap_spec.proofs.ProofNames.{plain_words}
 use Rattle.cap_frame.specs.Bytes.{cut, starts_of}
 
 -- whole words are eight bytes each

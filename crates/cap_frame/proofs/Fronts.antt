@@ -3,13 +3,13 @@ use Rattle.std.proofs.lemmas.List.Concat.{flat_map-append}
 use Rattle.cap_spec.proofs.Bytes.Plain.{plain_cut_short}
 use Rattle.cap_spec.proofs.Frames.OneEnding.{makes_table}
 use Rattle.cap_spec.proofs.Lemmas.{all_take, plain_short, plain_split, length_halves, table_length}
-use Rattle.cap_spec.proofs.Prelude.{List, [], ap, append_assoc, arith, drop, flat_map, length, length-append}
-use Rattle.cap_spec.proofs.Prelude.{length-drop, length-take-le, refl, subst, suc, sum, sym, take, take-append-drop, ℕ}
-use Rattle.cap_spec.proofs.Prelude.{◌%◌, ◌*◌, ◌++◌, ◌+◌, ◌/◌, ◌<◌, ◌^◌, ◌∙◌, ◌∷◌, ◌≡◌, ◌≤◌, take-append-le}
-use Rattle.cap_spec.proofs.Prelude.{AllByRecursion, little_number, TellsTooMuch, IsPartial, IsTable, halves}
-use Rattle.cap_spec.proofs.Prelude.{in_contents, in_table, in_word, joined, sizes_of, plain_is_cut, plain_words, IsWord}
+use Rattle.cap_spec.proofs.ProofNames.{List, [], ap, append_assoc, arith, drop, flat_map, length, length-append}
+use Rattle.cap_spec.proofs.ProofNames.{length-drop, length-take-le, refl, subst, suc, sum, sym, take, take-append-drop, ℕ}
+use Rattle.cap_spec.proofs.ProofNames.{◌%◌, ◌*◌, ◌++◌, ◌+◌, ◌/◌, ◌<◌, ◌^◌, ◌∙◌, ◌∷◌, ◌≡◌, ◌≤◌, take-append-le}
+use Rattle.cap_spec.proofs.ProofNames.{AllByRecursion, little_number, TellsTooMuch, IsPartial, IsTable, halves}
+use Rattle.cap_spec.proofs.ProofNames.{in_contents, in_table, in_word, joined, sizes_of, plain_is_cut, plain_words, IsWord}
 use Rattle.cap_frame.specs.Fronts.{Wants, a_frame, a_table, a_word}
-use Rattle.cap_frame.specs.Prelude.{cut, IsFront, TellsLarge, TellsMany, sizes_told, table_words}
+use Rattle.cap_frame.specs.FrameNames.{cut, IsFront, TellsLarge, TellsMany, sizes_told, table_words}
 use Rattle.cap_frame.proofs.Cuts.{words_all, words_inside}
 use Rattle.cap_frame.proofs.Halves.{first_half}
 use Rattle.cap_frame.proofs.InOneBuffer.{held_joined, held_sizes}

@@ -1,9 +1,9 @@
 -- The halves of the words of bytes are the bytes' numbers of four bytes each.
 use Rattle.std.proofs.lemmas.Grind.{get_or_after_one}
 use Rattle.cap_spec.proofs.Frames.Framing.{length_halves}
-use Rattle.cap_spec.proofs.Prelude.{List, [], ap, arith, drop, flat_map, get_or, length, length-drop, suc, sum, sym}
-use Rattle.cap_spec.proofs.Prelude.{zero, zero-add, ℕ, ◌%◌, ◌*◌, ◌++◌, ◌+◌, ◌/◌, ◌<◌, ◌^◌, ◌∙◌, ◌∷◌, ◌≡◌, ◌≤◌}
-use Rattle.cap_spec.proofs.Prelude.{take_more, sum_by-append, AllByRecursion, little_number, halves, plain_words}
+use Rattle.cap_spec.proofs.ProofNames.{List, [], ap, arith, drop, flat_map, get_or, length, length-drop, suc, sum, sym}
+use Rattle.cap_spec.proofs.ProofNames.{zero, zero-add, ℕ, ◌%◌, ◌*◌, ◌++◌, ◌+◌, ◌/◌, ◌<◌, ◌^◌, ◌∙◌, ◌∷◌, ◌≡◌, ◌≤◌}
+use Rattle.cap_spec.proofs.ProofNames.{take_more, sum_by-append, AllByRecursion, little_number, halves, plain_words}
 use Rattle.cap_frame.specs.Fronts.{sizes_told}
 
 -- half k of the words is the number at byte 4 k

@@ -1,7 +1,7 @@
 -- Segments that are held in vectors: f gives the words of each.
 use Rattle.std.proofs.lemmas.List.Elements.{All-more}
-use Rattle.cap_spec.proofs.Prelude.{All, List, [], ap, arith, get_or, length, map, subst, sym, take, take_all, ℕ, ◌+◌}
-use Rattle.cap_spec.proofs.Prelude.{◌<◌, ◌^◌, ◌∙◌, ◌≡◌, ◌≤◌, get_or-map, length-map, IsMessage}
+use Rattle.cap_spec.proofs.ProofNames.{All, List, [], ap, arith, get_or, length, map, subst, sym, take, take_all, ℕ, ◌+◌}
+use Rattle.cap_spec.proofs.ProofNames.{◌<◌, ◌^◌, ◌∙◌, ◌≡◌, ◌≤◌, get_or-map, length-map, IsMessage}
 
 module _ {V : Type 0} (f : V → List ℕ) where
   -- the words of the vector at s are segment s

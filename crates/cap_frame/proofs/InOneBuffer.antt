@@ -1,11 +1,11 @@
 -- Words that are read into one buffer, piece by piece.
 use Rattle.cap_spec.proofs.Bytes.Plain.{words_exact}
-use Rattle.cap_spec.proofs.Prelude.{List, [], ap, append-nil, append_assoc, arith, drop, length, length-append}
-use Rattle.cap_spec.proofs.Prelude.{length-drop, length-take-le, refl, sum, sym, take, take-add, take-take, take_all, ℕ}
-use Rattle.cap_spec.proofs.Prelude.{◌%◌, ◌*◌, ◌++◌, ◌+◌, ◌-◌, ◌/◌, ◌∙◌, ◌∷◌, ◌≡◌, ◌≤◌, take-append_seam, take-append-le}
-use Rattle.cap_spec.proofs.Prelude.{sum_by-cons, joined, sizes_of, plain_words}
+use Rattle.cap_spec.proofs.ProofNames.{List, [], ap, append-nil, append_assoc, arith, drop, length, length-append}
+use Rattle.cap_spec.proofs.ProofNames.{length-drop, length-take-le, refl, sum, sym, take, take-add, take-take, take_all, ℕ}
+use Rattle.cap_spec.proofs.ProofNames.{◌%◌, ◌*◌, ◌++◌, ◌+◌, ◌-◌, ◌/◌, ◌∙◌, ◌∷◌, ◌≡◌, ◌≤◌, take-append_seam, take-append-le}
+use Rattle.cap_spec.proofs.ProofNames.{sum_by-cons, joined, sizes_of, plain_words}
 use Rattle.cap_words.proofs.Filling.{plain_join}
-use Rattle.cap_frame.specs.Prelude.{SourceFault, cut, IsUsable, ReadsInput, Stops, Takes}
+use Rattle.cap_frame.specs.FrameNames.{SourceFault, cut, IsUsable, ReadsInput, Stops, Takes}
 use Rattle.cap_frame.proofs.Cuts.{words_inside}
 use Rattle.cap_frame.proofs.Taking.{Took, took_more, took_stop}
 use Rattle.cap_words.specs.declared.sources.WordSource as source

@@ -1,9 +1,9 @@
 -- The bytes of some words of a segment, where the segments stand one behind the other.
 use Rattle.cap_spec.proofs.Lemmas.{all_drop, all_take, words_exact}
-use Rattle.cap_spec.proofs.Prelude.{Fits, List, [], ap, arith, drop, drop-drop, get_or, inl, inr, length, length-drop}
-use Rattle.cap_spec.proofs.Prelude.{length-take-le, slice_range, sum, sym, take, take-append-drop, take-take, take_all}
-use Rattle.cap_spec.proofs.Prelude.{w8, ℕ, ◌*◌, ◌++◌, ◌+◌, ◌-◌, ◌<◌, ◌∙◌, ◌≡◌, ◌≤◌, drop-append_seam, take-append_seam}
-use Rattle.cap_spec.proofs.Prelude.{cases_lt, drop-take, drop_all, plain_text, plain_words}
+use Rattle.cap_spec.proofs.ProofNames.{Fits, List, [], ap, arith, drop, drop-drop, get_or, inl, inr, length, length-drop}
+use Rattle.cap_spec.proofs.ProofNames.{length-take-le, slice_range, sum, sym, take, take-append-drop, take-take, take_all}
+use Rattle.cap_spec.proofs.ProofNames.{w8, ℕ, ◌*◌, ◌++◌, ◌+◌, ◌-◌, ◌<◌, ◌∙◌, ◌≡◌, ◌≤◌, drop-append_seam, take-append_seam}
+use Rattle.cap_spec.proofs.ProofNames.{cases_lt, drop-take, drop_all, plain_text, plain_words}
 use Rattle.cap_words.proofs.AtHand.{bytes_small}
 use Rattle.cap_words.proofs.Filling.{plain_join}
 use Rattle.cap_words.proofs.WholeWords.{words_text}

@@ -1,9 +1,9 @@
 -- Words put to a sink in several calls.
-use Rattle.cap_spec.proofs.Prelude.{Err, List, Result, [], ap, append-nil, append_assoc, arith, drop, drop-cons, false}
-use Rattle.cap_spec.proofs.Prelude.{get_or, length, refl, subst, suc, sym, true, zero, ℕ, ◌*◌, ◌++◌, ◌+◌, ◌/◌, ◌<◌, ◌^◌}
-use Rattle.cap_spec.proofs.Prelude.{◌∙◌, ◌∷◌, ◌≡◌, Keeps-trans, length-map, Keeps, frame_text, joined, paired}
-use Rattle.cap_spec.proofs.Prelude.{segment_of}
-use Rattle.cap_words.specs.Prelude.{DeviceFails, Failures, GrowthFails, WasSpent, Begins, StoppedPutting, WasPut}
+use Rattle.cap_spec.proofs.ProofNames.{Err, List, Result, [], ap, append-nil, append_assoc, arith, drop, drop-cons, false}
+use Rattle.cap_spec.proofs.ProofNames.{get_or, length, refl, subst, suc, sym, true, zero, ℕ, ◌*◌, ◌++◌, ◌+◌, ◌/◌, ◌<◌, ◌^◌}
+use Rattle.cap_spec.proofs.ProofNames.{◌∙◌, ◌∷◌, ◌≡◌, Keeps-trans, length-map, Keeps, frame_text, joined, paired}
+use Rattle.cap_spec.proofs.ProofNames.{segment_of}
+use Rattle.cap_words.specs.WordNames.{DeviceFails, Failures, GrowthFails, WasSpent, Begins, StoppedPutting, WasPut}
 use Rattle.cap_words.specs.declared.sinks.SinkFault.{SinkFault}
 use Rattle.cap_words.specs.declared.sinks.SinkFault.TheVariants.{Device, Memory, Spent}
 use Rattle.cap_words.proofs.Told.{begins_kept}

@@ -1,10 +1,10 @@
 -- What reading a message says, put together from what its steps say.
-use Rattle.cap_spec.proofs.Prelude.{Bool, Err, IfErr, IfOk, IfSome, List, None, Ok, OnOk, OnSome, Option, Result, Some}
-use Rattle.cap_spec.proofs.Prelude.{[], false, length, min, option_to_list, subst, sum, sym, true, ℕ, ◌+◌, ◌-◌, ◌^◌}
-use Rattle.cap_spec.proofs.Prelude.{◌∷◌, ◌≡◌, ◌≤◌, Consumes, joined, sizes_of}
+use Rattle.cap_spec.proofs.ProofNames.{Bool, Err, IfErr, IfOk, IfSome, List, None, Ok, OnOk, OnSome, Option, Result, Some}
+use Rattle.cap_spec.proofs.ProofNames.{[], false, length, min, option_to_list, subst, sum, sym, true, ℕ, ◌+◌, ◌-◌, ◌^◌}
+use Rattle.cap_spec.proofs.ProofNames.{◌∷◌, ◌≡◌, ◌≤◌, Consumes, joined, sizes_of}
 use Rattle.cap_words.specs.declared.sources.SourceFault.TheVariants.{Spent}
-use Rattle.cap_frame.specs.Prelude.{SourceFault, ReadsNext, TakesFrame, Faults, TakesTable, frame_fault_of, IsUsable}
-use Rattle.cap_frame.specs.Prelude.{ReadsInput, Stops, Takes, FrameFault}
+use Rattle.cap_frame.specs.FrameNames.{SourceFault, ReadsNext, TakesFrame, Faults, TakesTable, frame_fault_of, IsUsable}
+use Rattle.cap_frame.specs.FrameNames.{ReadsInput, Stops, Takes, FrameFault}
 use Rattle.cap_frame.specs.Reading.{ReadsFrame}
 use Rattle.cap_frame.specs.declared.fault.FrameFault.TheVariants.{Memory}
 use Rattle.cap_frame.proofs.Behind.{behind_contents, behind_message}

@@ -2,10 +2,10 @@
 use Rattle.cap_spec.specs.Messages.{root_of}
 use Rattle.cap_spec.proofs.Bytes.Plain.{length_plain}
 use Rattle.cap_spec.proofs.Frames.OneEnding.{split, split_joined, split_sizes}
-use Rattle.cap_spec.proofs.Prelude.{List, None, Option, Some, [], ap, append-nil, arith, false, get_or, length}
-use Rattle.cap_spec.proofs.Prelude.{length-append, length-take-le, refl, suc, sum, sym, take, zero, ℕ, ◌*◌, ◌++◌, ◌+◌}
-use Rattle.cap_spec.proofs.Prelude.{◌<◌, ◌∙◌, ◌∷◌, ◌≡◌, ◌≤◌, drop_all, sum_by-cons, joined, sizes_of, plain_text}
-use Rattle.cap_spec.proofs.Prelude.{plain_words}
+use Rattle.cap_spec.proofs.ProofNames.{List, None, Option, Some, [], ap, append-nil, arith, false, get_or, length}
+use Rattle.cap_spec.proofs.ProofNames.{length-append, length-take-le, refl, suc, sum, sym, take, zero, ℕ, ◌*◌, ◌++◌, ◌+◌}
+use Rattle.cap_spec.proofs.ProofNames.{◌<◌, ◌∙◌, ◌∷◌, ◌≡◌, ◌≤◌, drop_all, sum_by-cons, joined, sizes_of, plain_text}
+use Rattle.cap_spec.proofs.ProofNames.{plain_words}
 use Rattle.cap_frame.specs.Taking.{IsUsable, ReadsInput, Takes}
 use Rattle.cap_frame.proofs.Contents.{WordsSoFar, words_start}
 use Rattle.cap_frame.proofs.Taking.{took_more}

@@ -1,8 +1,8 @@
 -- The words of a table, and their bytes.
 use Rattle.cap_spec.proofs.Lemmas.{frame_text_frames, plain_reads}
-use Rattle.cap_spec.proofs.Prelude.{List, [], ap, append-nil, append_assoc, arith, drop, length, sym, ℕ, ◌*◌, ◌++◌, ◌+◌}
-use Rattle.cap_spec.proofs.Prelude.{◌/◌, ◌<◌, ◌^◌, ◌∙◌, ◌∷◌, ◌≡◌, ◌≤◌, drop_all, length-map, AllByRecursion, paired}
-use Rattle.cap_spec.proofs.Prelude.{IsMessage, plain_text, plain_words, word_bytes, IsWord}
+use Rattle.cap_spec.proofs.ProofNames.{List, [], ap, append-nil, append_assoc, arith, drop, length, sym, ℕ, ◌*◌, ◌++◌, ◌+◌}
+use Rattle.cap_spec.proofs.ProofNames.{◌/◌, ◌<◌, ◌^◌, ◌∙◌, ◌∷◌, ◌≡◌, ◌≤◌, drop_all, length-map, AllByRecursion, paired}
+use Rattle.cap_spec.proofs.ProofNames.{IsMessage, plain_text, plain_words, word_bytes, IsWord}
 use Rattle.cap_frame.specs.Numbers.{numbers_of, pair_at}
 use Rattle.cap_frame.proofs.Putting.{paired_from}
 

@@ -1,10 +1,10 @@
 -- Reading the table of segments word by word.
 use Rattle.std.proofs.lemmas.Grind.{flat_map-append}
 use Rattle.cap_spec.proofs.Lemmas.{all_append, length_halves}
-use Rattle.cap_spec.proofs.Prelude.{List, [], ap, arith, flat_map, length, length-append, length-take, refl, sym, take}
-use Rattle.cap_spec.proofs.Prelude.{take_all, ℕ, ◌%◌, ◌*◌, ◌++◌, ◌+◌, ◌/◌, ◌<◌, ◌^◌, ◌∙◌, ◌∷◌, ◌≡◌, AllByRecursion}
-use Rattle.cap_spec.proofs.Prelude.{halves, IsWord}
-use Rattle.cap_frame.specs.Prelude.{SourceFault, IsUsable, ReadsInput, Stops, Takes}
+use Rattle.cap_spec.proofs.ProofNames.{List, [], ap, arith, flat_map, length, length-append, length-take, refl, sym, take}
+use Rattle.cap_spec.proofs.ProofNames.{take_all, ℕ, ◌%◌, ◌*◌, ◌++◌, ◌+◌, ◌/◌, ◌<◌, ◌^◌, ◌∙◌, ◌∷◌, ◌≡◌, AllByRecursion}
+use Rattle.cap_spec.proofs.ProofNames.{halves, IsWord}
+use Rattle.cap_frame.specs.FrameNames.{SourceFault, IsUsable, ReadsInput, Stops, Takes}
 use Rattle.cap_frame.proofs.Taking.{Took, took_more, took_stop}
 use Rattle.cap_words.specs.declared.sources.WordSource as source
 

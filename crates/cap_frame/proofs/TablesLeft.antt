@@ -1,11 +1,11 @@
 -- What is known of a table after a fault.
 use Rattle.std.proofs.lemmas.List.Sums.{sum_by-le}
-use Rattle.cap_spec.proofs.Prelude.{Fits, IfSome, List, None, OnSome, Option, Some, [], arith, drop, get_or, inl, inr}
-use Rattle.cap_spec.proofs.Prelude.{length, subst, sum, true, w32, ℕ, ◌*◌, ◌≤◌, get_or_default}
-use Rattle.cap_spec.proofs.Prelude.{◌%◌, ◌+◌, ◌/◌, ◌<◌, ◌^◌, ◌∷◌, ◌≡◌, Bool, Consumes, IsTable, refl, ⊤}
+use Rattle.cap_spec.proofs.ProofNames.{Fits, IfSome, List, None, OnSome, Option, Some, [], arith, drop, get_or, inl, inr}
+use Rattle.cap_spec.proofs.ProofNames.{length, subst, sum, true, w32, ℕ, ◌*◌, ◌≤◌, get_or_default}
+use Rattle.cap_spec.proofs.ProofNames.{◌%◌, ◌+◌, ◌/◌, ◌<◌, ◌^◌, ◌∷◌, ◌≡◌, Bool, Consumes, IsTable, refl, ⊤}
 use Rattle.cap_words.specs.declared.sources.SourceFault.TheVariants.{Device, Spent, Truncated}
-use Rattle.cap_frame.specs.Prelude.{SourceFault, TakesTable, frame_fault_of, HasSizes, LeavesSizes, LeavesTable, Stops}
-use Rattle.cap_frame.specs.Prelude.{Takes, FrameFault}
+use Rattle.cap_frame.specs.FrameNames.{SourceFault, TakesTable, frame_fault_of, HasSizes, LeavesSizes, LeavesTable, Stops}
+use Rattle.cap_frame.specs.FrameNames.{Takes, FrameFault}
 use Rattle.cap_frame.specs.TablesLeft.{LacksTable, sums_of}
 use Rattle.cap_frame.specs.declared.table.TableSums.{TableSums}
 use Rattle.cap_words.specs.declared.sources.WordSource as source

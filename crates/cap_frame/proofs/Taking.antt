@@ -1,7 +1,7 @@
 -- Words taken from a source in several calls.
-use Rattle.cap_spec.proofs.Prelude.{Bool, IfSome, List, None, OnSome, Option, Some, [], ap, arith, drop, drop-drop}
-use Rattle.cap_spec.proofs.Prelude.{false, length, length-append, min, refl, subst, suc, sym, ℕ, ◌++◌, ◌+◌, ◌-◌, ◌<◌}
-use Rattle.cap_spec.proofs.Prelude.{◌^◌, ◌∙◌, ◌∷◌, ◌≡◌, ◌≤◌, Consumes-nil, Consumes}
+use Rattle.cap_spec.proofs.ProofNames.{Bool, IfSome, List, None, OnSome, Option, Some, [], ap, arith, drop, drop-drop}
+use Rattle.cap_spec.proofs.ProofNames.{false, length, length-append, min, refl, subst, suc, sym, ℕ, ◌++◌, ◌+◌, ◌-◌, ◌<◌}
+use Rattle.cap_spec.proofs.ProofNames.{◌^◌, ◌∙◌, ◌∷◌, ◌≡◌, ◌≤◌, Consumes-nil, Consumes}
 use Rattle.cap_words.specs.declared.sources.SourceFault.{SourceFault}
 use Rattle.cap_words.specs.declared.sources.SourceFault.TheVariants.{Device, Spent, Truncated}
 use Rattle.cap_words.proofs.Filling.{reads_both as both_read, reads_one as one_read, takes_both as both_taken}

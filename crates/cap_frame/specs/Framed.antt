@@ -1,7 +1,7 @@
 -- What contracts see of a framed message at the start of borrowed bytes (profile).
 use Rattle.std.specs.Prelude.{Err, IsOkAnd, IsSomeAnd, List, None, Ok, Option, Result, Some, [], drop, length, ℕ, ◌*◌}
 use Rattle.std.specs.Prelude.{◌+◌, ◌<◌, ◌≡◌, ◌≤◌}
-use Rattle.cap_spec.specs.Prelude.{IsPartial, plain_is_cut, plain_words}
+use Rattle.cap_spec.specs.SpecNames.{IsPartial, plain_is_cut, plain_words}
 use Rattle.cap_frame.specs.Bytes.{cut}
 use Rattle.cap_frame.specs.Fronts.{IsFront, TellsLarge, TellsMany, Wants, sizes_told, table_words}
 use Rattle.cap_frame.specs.declared.fault.FrontFault.{FrontFault}

@@ -3,7 +3,7 @@
 use Rattle.std.specs.Prelude.{List, [], drop, flat_map, length, sum, take, ℕ, ◌%◌, ◌*◌, ◌++◌, ◌+◌, ◌/◌, ◌<◌, ◌^◌, ◌∷◌}
 use Rattle.std.specs.Prelude.{◌≡◌, ◌≤◌}
 use Rattle.cap_spec.specs.Frames.{IsTable, halves}
-use Rattle.cap_spec.specs.Prelude.{TellsTooMany, TellsTooMuch, Frames, sizes_of, plain_words}
+use Rattle.cap_spec.specs.SpecNames.{TellsTooMany, TellsTooMuch, Frames, sizes_of, plain_words}
 
 -- The first n bytes are a frame of this message, which is within the limit.
 pub record IsFront (limit : ℕ) (bytes : List ℕ) (m : List (List ℕ)) (n : ℕ) : Type 0 where

@@ -11,4 +11,4 @@ pub mod Bytes
 pub mod HeldBytes
 pub mod Fronts
 pub mod Framed
-pub mod Prelude
+pub mod FrameNames

@@ -1,6 +1,6 @@
 -- What putting the words of a message does to a sink (profile). g has the members of its type.
 use Rattle.std.specs.Prelude.{Err, List, Ok, Result, false, true, ℕ, ◌≡◌}
-use Rattle.cap_words.specs.Prelude.{DeviceFails, GrowthFails, WasSpent, StoppedPutting, WasPut}
+use Rattle.cap_words.specs.WordNames.{DeviceFails, GrowthFails, WasSpent, StoppedPutting, WasPut}
 use Rattle.cap_words.specs.declared.sinks.SinkFault.{SinkFault}
 use Rattle.cap_words.specs.declared.sinks.SinkFault.TheVariants.{Device, Memory, Spent}
 use Rattle.cap_words.specs.declared.sinks.WordSink as sink

@@ -2,8 +2,8 @@
 use Rattle.cap_spec.specs.Tree.{none}
 use Rattle.cap_spec.proofs.Canonical.Layouts.{layout_denotes, trimmed_layout_denotes}
 use Rattle.cap_spec.proofs.Canonical.TreeMeasures.{Fits}
-use Rattle.cap_spec.proofs.Prelude.{[], lit<, refl, ℕ, ◌∷◌, ◌≡◌, ◌≤◌, layout, offsets, trim, Denotes, Tree, more, null}
-use Rattle.cap_spec.proofs.Prelude.{scalars, struct, structs}
+use Rattle.cap_spec.proofs.ProofNames.{[], lit<, refl, ℕ, ◌∷◌, ◌≡◌, ◌≤◌, layout, offsets, trim, Denotes, Tree, more, null}
+use Rattle.cap_spec.proofs.ProofNames.{scalars, struct, structs}
 
 -- a struct with a zero word and a null pointer at its end,
 -- which leads to a list of three bits and to a list of two structs with a null pointer each

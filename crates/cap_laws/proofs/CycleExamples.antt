@@ -1,11 +1,11 @@
 -- A struct whose one pointer leads back to the struct: the pointer that passes a limit is the first fault.
 use Rattle.cap_spec.specs.declared.Kind.TheVariants.{Pointers, Struct, Structs}
 use Rattle.cap_spec.proofs.Lemmas.{one_reached, one_found, one_object, struct_found, first_fault_kept}
-use Rattle.cap_spec.proofs.Prelude.{List, [], ap, ap₂, arith, inl, inr, length, lit<, lit≤, refl, subst, suc, sym, zero}
-use Rattle.cap_spec.proofs.Prelude.{ℕ, ◌++◌, ◌+◌, ◌<◌, ◌∙◌, ◌∷◌, ◌≡◌, ◌≤◌, ◌⊎◌, cases_lt, Finds, FindsKind, AreShallow}
-use Rattle.cap_spec.proofs.Prelude.{IsFaultAt, IsFirstReason, IsRefused, is_deep, is_past, near, IsOneOf, Before, Costs, IsTour}
-use Rattle.cap_spec.proofs.Prelude.{PathLeads, Reaches, Rises, Spot, StepsTo, word, CostOf}
-use Rattle.cap_laws.specs.Prelude.{Reason, DepthLimit, WordLimit, Step, Item, Ptr}
+use Rattle.cap_spec.proofs.ProofNames.{List, [], ap, ap₂, arith, inl, inr, length, lit<, lit≤, refl, subst, suc, sym, zero}
+use Rattle.cap_spec.proofs.ProofNames.{ℕ, ◌++◌, ◌+◌, ◌<◌, ◌∙◌, ◌∷◌, ◌≡◌, ◌≤◌, ◌⊎◌, cases_lt, Finds, FindsKind, AreShallow}
+use Rattle.cap_spec.proofs.ProofNames.{IsFaultAt, IsFirstReason, IsRefused, is_deep, is_past, near, IsOneOf, Before, Costs, IsTour}
+use Rattle.cap_spec.proofs.ProofNames.{PathLeads, Reaches, Rises, Spot, StepsTo, word, CostOf}
+use Rattle.cap_laws.specs.LawNames.{Reason, DepthLimit, WordLimit, Step, Item, Ptr}
 
 abbrev circle : List (List ℕ)
 circle = (0x00010000fffffffc ∷ []) ∷ []

@@ -6,10 +6,10 @@ use Rattle.cap_spec.proofs.Frames.Streams.{stream_cons, stream_none}
 use Rattle.cap_spec.proofs.Lemmas.{frame_text_frames, plain_reads}
 use Rattle.cap_spec.proofs.Packed.OneUnpacking.{cut_if_cut, unpacks_unless_cut}
 use Rattle.cap_spec.proofs.Packed.Repacking.{pack_text_reads}
-use Rattle.cap_spec.proofs.Prelude.{List, [], arith, false, length, lit<, refl, replicate, true, ℕ, ◌<◌, ◌^◌, ◌∷◌, ◌≡◌}
-use Rattle.cap_spec.proofs.Prelude.{AllByRecursion, EndsIn, message, partial, too_large, too_many, Frames, IsTable}
-use Rattle.cap_spec.proofs.Prelude.{Stream, in_contents, in_table, in_word, IsMessage, pack_text, plain_text}
-use Rattle.cap_spec.proofs.Prelude.{plain_words, Cut, Unpacks, unpacked, IsWord}
+use Rattle.cap_spec.proofs.ProofNames.{List, [], arith, false, length, lit<, refl, replicate, true, ℕ, ◌<◌, ◌^◌, ◌∷◌, ◌≡◌}
+use Rattle.cap_spec.proofs.ProofNames.{AllByRecursion, EndsIn, message, partial, too_large, too_many, Frames, IsTable}
+use Rattle.cap_spec.proofs.ProofNames.{Stream, in_contents, in_table, in_word, IsMessage, pack_text, plain_text}
+use Rattle.cap_spec.proofs.ProofNames.{plain_words, Cut, Unpacks, unpacked, IsWord}
 
 -- the table of one segment of one word
 table-one : IsTable (0x100000000 ∷ []) (1 ∷ [])

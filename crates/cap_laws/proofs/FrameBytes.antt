@@ -5,10 +5,10 @@ use Rattle.cap_spec.proofs.Frames.FrameTexts.{plain_halves}
 use Rattle.cap_spec.proofs.Frames.OneEnding.{halves_fit}
 use Rattle.cap_spec.proofs.Lemmas.{all_append, plain_split, bytes_back, plain_reads}
 use Rattle.cap_spec.proofs.Packed.MakingGroups.{aligned_text}
-use Rattle.cap_spec.proofs.Prelude.{List, [], ap, append_assoc, arith, drop, flat_map, length, length-append, refl, suc}
-use Rattle.cap_spec.proofs.Prelude.{sym, zero, ℕ, ◌%◌, ◌*◌, ◌++◌, ◌+◌, ◌-◌, ◌/◌, ◌<◌, ◌^◌, ◌∙◌, ◌∷◌, ◌≡◌, length-map}
-use Rattle.cap_spec.proofs.Prelude.{AllByRecursion, little_number, little_number-reads_back, Frames, halves, joined}
-use Rattle.cap_spec.proofs.Prelude.{sizes_of, plain_text, plain_words, word_bytes, IsWord}
+use Rattle.cap_spec.proofs.ProofNames.{List, [], ap, append_assoc, arith, drop, flat_map, length, length-append, refl, suc}
+use Rattle.cap_spec.proofs.ProofNames.{sym, zero, ℕ, ◌%◌, ◌*◌, ◌++◌, ◌+◌, ◌-◌, ◌/◌, ◌<◌, ◌^◌, ◌∙◌, ◌∷◌, ◌≡◌, length-map}
+use Rattle.cap_spec.proofs.ProofNames.{AllByRecursion, little_number, little_number-reads_back, Frames, halves, joined}
+use Rattle.cap_spec.proofs.ProofNames.{sizes_of, plain_text, plain_words, word_bytes, IsWord}
 use Rattle.cap_laws.specs.Framing.{FramesInBytes, four_bytes}
 
 -- four bytes a number

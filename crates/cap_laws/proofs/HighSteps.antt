@@ -1,9 +1,9 @@
 -- Steps of high numbers lead nowhere.
 use Rattle.cap_spec.proofs.Lemmas.{pointers_shape, struct_shape, structs_shape}
-use Rattle.cap_spec.proofs.Prelude.{List, [], arith, inl, inr, subst, sym, ℕ, ◌<◌, ◌^◌, ◌∷◌, ◌≤◌, ⊤, PathLeads}
-use Rattle.cap_spec.proofs.Prelude.{ReachesSpot, Spot, StepsTo, element, word}
+use Rattle.cap_spec.proofs.ProofNames.{List, [], arith, inl, inr, subst, sym, ℕ, ◌<◌, ◌^◌, ◌∷◌, ◌≤◌, ⊤, PathLeads}
+use Rattle.cap_spec.proofs.ProofNames.{ReachesSpot, Spot, StepsTo, element, word}
 use Rattle.cap_spec.proofs.Trees.DenotedTrees.{field_below}
-use Rattle.cap_laws.specs.Prelude.{Step, Item, Ptr}
+use Rattle.cap_laws.specs.LawNames.{Step, Item, Ptr}
 
 -- an element has less than 2 ^ 16 pointers
 abbrev HasFewPointers : Spot → Type 0

@@ -1,11 +1,11 @@
 -- A struct of one word, within its limits and past each of them.
 use Rattle.cap_spec.specs.Tree.{none}
 use Rattle.cap_spec.proofs.Lemmas.{struct_found, first_fault_kept}
-use Rattle.cap_spec.proofs.Prelude.{List, [], arith, inl, inr, lit<, lit≤, refl, subst, sym, ℕ, ◌∷◌, ◌≡◌, ◌⊎◌, Denotes}
-use Rattle.cap_spec.proofs.Prelude.{Finds, IsFaultAt, IsFirstReason, IsRefused, is_deep, is_past, near, IsOneOf, Before, IsTour}
-use Rattle.cap_spec.proofs.Prelude.{Reaches, struct, IsDeepAt}
+use Rattle.cap_spec.proofs.ProofNames.{List, [], arith, inl, inr, lit<, lit≤, refl, subst, sym, ℕ, ◌∷◌, ◌≡◌, ◌⊎◌, Denotes}
+use Rattle.cap_spec.proofs.ProofNames.{Finds, IsFaultAt, IsFirstReason, IsRefused, is_deep, is_past, near, IsOneOf, Before, IsTour}
+use Rattle.cap_spec.proofs.ProofNames.{Reaches, struct, IsDeepAt}
 use Rattle.cap_spec.proofs.Verdicts.OneVerdict.{paths_within_depth}
-use Rattle.cap_laws.specs.Prelude.{Reason, DepthLimit, WordLimit, Step}
+use Rattle.cap_laws.specs.LawNames.{Reason, DepthLimit, WordLimit, Step}
 
 -- a struct of one word
 abbrev one_word_struct : List (List ℕ)

@@ -1,6 +1,6 @@
 -- Exactly one thing comes of following a word.
 use Rattle.cap_spec.proofs.Pointers.Following.{cap-not_wrong, null-not_wrong, object-not_wrong, one_lead, one_wrong}
-use Rattle.cap_spec.proofs.Prelude.{List, ap, inl, inr, pos, ℕ, ◌≡◌, to_cap, to_null, to_object}
+use Rattle.cap_spec.proofs.ProofNames.{List, ap, inl, inr, pos, ℕ, ◌≡◌, to_cap, to_null, to_object}
 use Rattle.cap_spec.proofs.Trees.Outcomes.{fate}
 use Rattle.cap_laws.specs.FollowingLaws.{ComesOf, OneOutcome, Outcome, cap, null, object, refused}
 

@@ -5,7 +5,7 @@ use Rattle.cap_spec.specs.declared.Reason.TheVariants.{PadNotFar, PadOutside, Se
 use Rattle.cap_spec.proofs.Pointers.Following.{wrong-composite_tag, wrong-missing, wrong-out, wrong-outside}
 use Rattle.cap_spec.proofs.Pointers.Following.{wrong-overrun, wrong-pad_far, wrong-pad_near, wrong-tag_kind}
 use Rattle.cap_spec.proofs.Pointers.Following.{wrong-tag_offset}
-use Rattle.cap_spec.proofs.Prelude.{[], arith, inr, lit<, lit≤, pos, refl, ◌∷◌, ints, Wrong, near, one_pad}
+use Rattle.cap_spec.proofs.ProofNames.{[], arith, inr, lit<, lit≤, pos, refl, ◌∷◌, ints, Wrong, near, one_pad}
 
 -- Two segments of a word each, and a root that names segment 7.
 missing : Wrong ((0x0000000700000002 ∷ []) ∷ (0 ∷ []) ∷ []) 0 0 SegmentMissing

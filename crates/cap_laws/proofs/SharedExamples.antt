@@ -3,12 +3,12 @@
 use Rattle.cap_spec.specs.Tree.{none}
 use Rattle.cap_spec.proofs.Lemmas.{one_used, pointer_path_reached, one_reached, struct_found, first_fault_kept}
 use Rattle.cap_spec.proofs.Lemmas.{paths_within_depth}
-use Rattle.cap_spec.proofs.Prelude.{List, [], ap, arith, inl, inr, lit<, lit≤, refl, subst, sym, ℕ, ◌∙◌, ◌∷◌, ◌≡◌, ◌⊎◌}
-use Rattle.cap_spec.proofs.Prelude.{DenoteEach, Denotes, Finds, IsRefused, is_past, near, AreOnPath, Charges}
-use Rattle.cap_spec.proofs.Prelude.{IsFaultAt, IsFaultOnPath, AreDistinct, IsOneOf, IsFirstOverlap, Occupies, Overlaps, on_earlier}
-use Rattle.cap_spec.proofs.Prelude.{on_root, twice, Before, Costs, IsTour, Reaches, word, Tree, cap_count, more}
-use Rattle.cap_spec.proofs.Prelude.{pointer_count, struct, CostOf, IsDeepAt}
-use Rattle.cap_laws.specs.Prelude.{WordLimit, Step, Ptr}
+use Rattle.cap_spec.proofs.ProofNames.{List, [], ap, arith, inl, inr, lit<, lit≤, refl, subst, sym, ℕ, ◌∙◌, ◌∷◌, ◌≡◌, ◌⊎◌}
+use Rattle.cap_spec.proofs.ProofNames.{DenoteEach, Denotes, Finds, IsRefused, is_past, near, AreOnPath, Charges}
+use Rattle.cap_spec.proofs.ProofNames.{IsFaultAt, IsFaultOnPath, AreDistinct, IsOneOf, IsFirstOverlap, Occupies, Overlaps, on_earlier}
+use Rattle.cap_spec.proofs.ProofNames.{on_root, twice, Before, Costs, IsTour, Reaches, word, Tree, cap_count, more}
+use Rattle.cap_spec.proofs.ProofNames.{pointer_count, struct, CostOf, IsDeepAt}
+use Rattle.cap_laws.specs.LawNames.{WordLimit, Step, Ptr}
 use Rattle.cap_spec.proofs.Verdicts.OnPath as listing
 
 abbrev shared : List (List ℕ)

@@ -4,9 +4,9 @@ use Rattle.cap_spec.specs.declared.Lax.{Lax}
 use Rattle.cap_spec.specs.declared.Lax.TheVariants.{CapabilityPad, EmptySegment, NullPad}
 use Rattle.cap_spec.specs.declared.Step.{Step}
 use Rattle.cap_spec.proofs.Lemmas.{one_lead, first_by_tour, one_object}
-use Rattle.cap_spec.proofs.Prelude.{List, [], arith, inl, inr, lit<, lit≤, pos, refl, subst, sym, ℕ, ◌∷◌, ◌≡◌, ◌⊎◌}
-use Rattle.cap_spec.proofs.Prelude.{Denotes, Finds, near, one_pad, to_cap, to_null, to_object, two_pads, IsOneOf}
-use Rattle.cap_spec.proofs.Prelude.{segment_of, Before, IsTour, Reaches, IsFirstLax, IsLaxAt, IsStrict, null}
+use Rattle.cap_spec.proofs.ProofNames.{List, [], arith, inl, inr, lit<, lit≤, pos, refl, subst, sym, ℕ, ◌∷◌, ◌≡◌, ◌⊎◌}
+use Rattle.cap_spec.proofs.ProofNames.{Denotes, Finds, near, one_pad, to_cap, to_null, to_object, two_pads, IsOneOf}
+use Rattle.cap_spec.proofs.ProofNames.{segment_of, Before, IsTour, Reaches, IsFirstLax, IsLaxAt, IsStrict, null}
 use Rattle.cap_spec.proofs.Strict.Copies.{none_lax}
 
 -- a root whose one-word pad is zero

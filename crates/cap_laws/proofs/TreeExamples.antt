@@ -5,16 +5,16 @@ use Rattle.cap_spec.specs.declared.Reason.TheVariants.{NoRoot, Reserved}
 use Rattle.cap_spec.specs.declared.Refusal.{Refusal}
 use Rattle.cap_spec.proofs.Lemmas.{one_word, charge_is_cost, first_cap, pointer_path_reached, one_reached, one_lead}
 use Rattle.cap_spec.proofs.Lemmas.{one_object, struct_found, paths_within_depth, first_fault_kept, refused_justified}
-use Rattle.cap_spec.proofs.Prelude.{List, [], ap, arith, inl, inr, lit<, lit≤, pos, refl, subst, sym, ℕ, ◌<◌, ◌∙◌, ◌∷◌}
-use Rattle.cap_spec.proofs.Prelude.{◌≡◌, ◌⊎◌, AllByRecursion, AreElements, DenoteEach, Denotes, Finds, IsFaultAt}
-use Rattle.cap_spec.proofs.Prelude.{IsFirstReason}
-use Rattle.cap_spec.proofs.Prelude.{IsRefused, is_past, Condition, Wrong, near, rank, to_cap, to_null, to_object}
-use Rattle.cap_spec.proofs.Prelude.{AreDistinct, IsOneOf, IsDisjoint, Occupies, Before, IsFirstCap, IsPlace, IsTour}
-use Rattle.cap_spec.proofs.Prelude.{Reaches, word, IsTree, Tree, cap, cap_count, more, pointer_count, struct, structs}
-use Rattle.cap_spec.proofs.Prelude.{CostOf, Justified, IsWord}
+use Rattle.cap_spec.proofs.ProofNames.{List, [], ap, arith, inl, inr, lit<, lit≤, pos, refl, subst, sym, ℕ, ◌<◌, ◌∙◌, ◌∷◌}
+use Rattle.cap_spec.proofs.ProofNames.{◌≡◌, ◌⊎◌, AllByRecursion, AreElements, DenoteEach, Denotes, Finds, IsFaultAt}
+use Rattle.cap_spec.proofs.ProofNames.{IsFirstReason}
+use Rattle.cap_spec.proofs.ProofNames.{IsRefused, is_past, Condition, Wrong, near, rank, to_cap, to_null, to_object}
+use Rattle.cap_spec.proofs.ProofNames.{AreDistinct, IsOneOf, IsDisjoint, Occupies, Before, IsFirstCap, IsPlace, IsTour}
+use Rattle.cap_spec.proofs.ProofNames.{Reaches, word, IsTree, Tree, cap, cap_count, more, pointer_count, struct, structs}
+use Rattle.cap_spec.proofs.ProofNames.{CostOf, Justified, IsWord}
 use Rattle.cap_spec.proofs.Trees.DenotedTrees.{denoted_is_tree}
 use Rattle.cap_spec.proofs.Trees.Finding.{SameObject}
-use Rattle.cap_laws.specs.Prelude.{Reason, WordLimit, Step, Ptr}
+use Rattle.cap_laws.specs.LawNames.{Reason, WordLimit, Step, Ptr}
 
 -- a struct of two pointers: to a struct of the word 7, and to capability 5
 abbrev two_pointers : List (List ℕ)

@@ -1,6 +1,6 @@
 -- Charges and word limits (profile).
 use Rattle.std.specs.Prelude.{List, ℕ, ◌<◌, ◌≤◌}
-use Rattle.cap_spec.specs.Prelude.{Denotes, Tree, unamplified}
+use Rattle.cap_spec.specs.SpecNames.{Denotes, Tree, unamplified}
 
 -- the charge is within the unamplified limit for each limit that it is within
 abbrev pub IsWithinEach : List (List ℕ) → ℕ → Type 0

@@ -1,6 +1,6 @@
 -- What comes of following a pointer word: exactly one thing (standard: Inter-Segment Pointers).
 use Rattle.std.specs.Prelude.{List, ℕ, ◌≡◌}
-use Rattle.cap_spec.specs.Prelude.{Finds, Leads, Wrong, to_cap, to_null, HasWord}
+use Rattle.cap_spec.specs.SpecNames.{Finds, Leads, Wrong, to_cap, to_null, HasWord}
 use Rattle.cap_spec.specs.declared.Reason.{Reason}
 
 -- a reason why it is refused; or, over some pads, null, a capability, or an object:

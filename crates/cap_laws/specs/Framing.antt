@@ -5,7 +5,7 @@ use Rattle.std.specs.Prelude.{◌≤◌}
 use Rattle.byteorder.specs.Endian.{little_bytes}
 use Rattle.cap_spec.specs.Endings.{BeginsMessage, Ending, EndsIn}
 use Rattle.cap_spec.specs.Frames.{joined}
-use Rattle.cap_spec.specs.Prelude.{TellsTooMany, TellsTooMuch, Frames, IsPartial, sizes_of, plain_text, IsWord}
+use Rattle.cap_spec.specs.SpecNames.{TellsTooMany, TellsTooMuch, Frames, IsPartial, sizes_of, plain_text, IsWord}
 
 -- a number of four bytes, the lowest first
 abbrev pub four_bytes : ℕ → List ℕ

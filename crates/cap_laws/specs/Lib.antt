@@ -4,4 +4,4 @@ pub mod PlainLaws
 pub mod PackingLaws
 pub mod ReachingLaws
 pub mod AmplifyingLaws
-pub mod Prelude
+pub mod LawNames

@@ -1,6 +1,6 @@
 -- Where paths lead, as the laws of paths and verdicts say it (profile; standard: Objects).
 use Rattle.std.specs.Prelude.{List, ℕ}
-use Rattle.cap_spec.specs.Prelude.{Finds, HasTag, Reaches}
+use Rattle.cap_spec.specs.SpecNames.{Finds, HasTag, Reaches}
 use Rattle.cap_spec.specs.declared.Step.{Step}
 
 -- the path reaches a pointer word

@@ -1,11 +1,11 @@
 -- What bytes at hand give, one part after the other.
 use Rattle.cap_spec.proofs.Bytes.Plain.{length_plain, plain_split}
-use Rattle.cap_spec.proofs.Prelude.{Bool, IfSome, List, None, Option, Some, [], ap, append-nil, append_assoc, arith}
-use Rattle.cap_spec.proofs.Prelude.{drop, drop-drop, false, get_or, length, length-append, length-drop, length-take}
-use Rattle.cap_spec.proofs.Prelude.{length-take-le, lit<, option_map, refl, replicate, subst, suc, sym, take, take-add}
-use Rattle.cap_spec.proofs.Prelude.{take-append-drop, take-take, unwrap_or, zero, ℕ, ◌%◌, ◌*◌, ◌++◌, ◌+◌, ◌<◌, ◌^◌, ◌∙◌}
-use Rattle.cap_spec.proofs.Prelude.{◌∷◌, ◌≡◌, ◌≤◌, nil_from_length, Consumes, AllByRecursion, little_number, capped}
-use Rattle.cap_spec.proofs.Prelude.{plain_text, plain_words, rules}
+use Rattle.cap_spec.proofs.ProofNames.{Bool, IfSome, List, None, Option, Some, [], ap, append-nil, append_assoc, arith}
+use Rattle.cap_spec.proofs.ProofNames.{drop, drop-drop, false, get_or, length, length-append, length-drop, length-take}
+use Rattle.cap_spec.proofs.ProofNames.{length-take-le, lit<, option_map, refl, replicate, subst, suc, sym, take, take-add}
+use Rattle.cap_spec.proofs.ProofNames.{take-append-drop, take-take, unwrap_or, zero, ℕ, ◌%◌, ◌*◌, ◌++◌, ◌+◌, ◌<◌, ◌^◌, ◌∙◌}
+use Rattle.cap_spec.proofs.ProofNames.{◌∷◌, ◌≡◌, ◌≤◌, nil_from_length, Consumes, AllByRecursion, little_number, capped}
+use Rattle.cap_spec.proofs.ProofNames.{plain_text, plain_words, rules}
 use Rattle.cap_words.specs.TakingMany.{TakesAll}
 use Rattle.cap_words.specs.declared.phase.Phase.{Phase}
 use Rattle.cap_words.specs.declared.phase.Phase.TheVariants.{Open}

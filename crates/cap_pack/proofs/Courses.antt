@@ -1,9 +1,9 @@
 -- How the course of packed bytes goes on after the bytes in front.
 use Rattle.std.proofs.Common.{ltb-false}
-use Rattle.cap_spec.proofs.Prelude.{Bool, List, [], ap, arith, cond, drop, false, le-ltb, length, length-append}
-use Rattle.cap_spec.proofs.Prelude.{length-drop, lit<, lt-ltb, refl, suc, true, zero, ℕ, ◌++◌, ◌+◌, ◌<◌, ◌∙◌, ◌∷◌}
-use Rattle.cap_spec.proofs.Prelude.{◌≡◌, ◌≤◌, drop-append_seam, cond-false, cond-true, little_number, capped}
-use Rattle.cap_spec.proofs.Prelude.{common_steps}
+use Rattle.cap_spec.proofs.ProofNames.{Bool, List, [], ap, arith, cond, drop, false, le-ltb, length, length-append}
+use Rattle.cap_spec.proofs.ProofNames.{length-drop, lit<, lt-ltb, refl, suc, true, zero, ℕ, ◌++◌, ◌+◌, ◌<◌, ◌∙◌, ◌∷◌}
+use Rattle.cap_spec.proofs.ProofNames.{◌≡◌, ◌≤◌, drop-append_seam, cond-false, cond-true, little_number, capped}
+use Rattle.cap_spec.proofs.ProofNames.{common_steps}
 use Rattle.cap_pack.specs.Course.{ends, first_word, gives, head_rest, plain_of, stops, zeros_of, zeros_then, course}
 use Rattle.cap_pack.specs.Course.{course_in}
 use Rattle.cap_pack.proofs.Heads.{first_word-append, plain_of-append, zeros_of-append}

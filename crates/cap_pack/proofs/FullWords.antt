@@ -1,6 +1,6 @@
 -- The tag of eight bytes of which none is zero.
-use Rattle.cap_spec.proofs.Prelude.{Bool, List, [], arith, false, if◌then◌else◌, length, refl, true, ℕ, ◌+◌, ◌<◌}
-use Rattle.cap_spec.proofs.Prelude.{◌==◌, ◌∷◌, ◌≡◌, tag_of, zero_bytes, zeros_in, word_bytes, common_steps, rules}
+use Rattle.cap_spec.proofs.ProofNames.{Bool, List, [], arith, false, if◌then◌else◌, length, refl, true, ℕ, ◌+◌, ◌<◌}
+use Rattle.cap_spec.proofs.ProofNames.{◌==◌, ◌∷◌, ◌≡◌, tag_of, zero_bytes, zeros_in, word_bytes, common_steps, rules}
 
 -- a byte is zero, or its bit is set
 one_of : (b : Bool) → (if b then 1 else 0) + (if b then 0 else 1) ≡ 1

@@ -1,13 +1,13 @@
 -- The group in front of words that stand in bytes, and what is written of it.
 use Rattle.cap_spec.proofs.Lemmas.{all_drop, length_plain, words_exact, front-le}
 use Rattle.cap_spec.proofs.Packed.Packing.{group_size-marked, nonzero_word, pack_text-group, zero_run-append}
-use Rattle.cap_spec.proofs.Prelude.{List, [], ap, append-nil, append_assoc, arith, drop, drop-drop, filter, get_or}
-use Rattle.cap_spec.proofs.Prelude.{length, length-append, length-drop, length-set, length-take-le, min, nat_le, ne_eqb}
-use Rattle.cap_spec.proofs.Prelude.{not, refl, set, suc, sym, take, take-append-drop, take_at, zero, ℕ, ◌%◌, ◌*◌, ◌++◌}
-use Rattle.cap_spec.proofs.Prelude.{◌+◌, ◌-◌, ◌/◌, ◌<◌, ◌==◌, ◌∙◌, ◌∷◌, ◌≡◌, ◌≢◌, ◌≤◌, drop_all, take_rest}
-use Rattle.cap_spec.proofs.Prelude.{drop-put_mid, take-put_mid, AllByRecursion, little_number, put_mid, ones, full_run}
-use Rattle.cap_spec.proofs.Prelude.{group_size, group_text, pack_text, tag_of, zero_bytes, zero_run, plain_text}
-use Rattle.cap_spec.proofs.Prelude.{plain_words, word_bytes, common_steps, rules}
+use Rattle.cap_spec.proofs.ProofNames.{List, [], ap, append-nil, append_assoc, arith, drop, drop-drop, filter, get_or}
+use Rattle.cap_spec.proofs.ProofNames.{length, length-append, length-drop, length-set, length-take-le, min, nat_le, ne_eqb}
+use Rattle.cap_spec.proofs.ProofNames.{not, refl, set, suc, sym, take, take-append-drop, take_at, zero, ℕ, ◌%◌, ◌*◌, ◌++◌}
+use Rattle.cap_spec.proofs.ProofNames.{◌+◌, ◌-◌, ◌/◌, ◌<◌, ◌==◌, ◌∙◌, ◌∷◌, ◌≡◌, ◌≢◌, ◌≤◌, drop_all, take_rest}
+use Rattle.cap_spec.proofs.ProofNames.{drop-put_mid, take-put_mid, AllByRecursion, little_number, put_mid, ones, full_run}
+use Rattle.cap_spec.proofs.ProofNames.{group_size, group_text, pack_text, tag_of, zero_bytes, zero_run, plain_text}
+use Rattle.cap_spec.proofs.ProofNames.{plain_words, word_bytes, common_steps, rules}
 use Rattle.cap_words.proofs.Filling.{plain_join}
 use Rattle.cap_words.proofs.WholeWords.{words_text}
 use Rattle.cap_pack.specs.GroupTexts.{front_text}

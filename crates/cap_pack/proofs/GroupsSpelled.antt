@@ -3,13 +3,13 @@ use Rattle.std.proofs.lemmas.List.{drop_more}
 use Rattle.cap_spec.proofs.Packed.Packing.{front-append, front-le, group_size-plain, group_size-zeros, nonzero_word}
 use Rattle.cap_spec.proofs.Packed.Packing.{pack_text-marked, pack_text-plain, pack_text-zeros, plain_full}
 use Rattle.cap_spec.proofs.Packed.Repacking.{zero_front}
-use Rattle.cap_spec.proofs.Prelude.{Bool, List, [], ap, append-nil, append_assoc, arith, cond, drop, drop-drop, false}
-use Rattle.cap_spec.proofs.Prelude.{filter, get_or, leb, length, length-append, length-drop, length-take-le, not}
-use Rattle.cap_spec.proofs.Prelude.{refl, replicate, subst, suc, sym, take, take-append-drop, take_all, true, zero, ℕ}
-use Rattle.cap_spec.proofs.Prelude.{◌++◌, ◌+◌, ◌-◌, ◌<◌, ◌==◌, ◌∙◌, ◌∷◌, ◌≡◌, ◌≢◌, ◌≤◌, length-replicate}
-use Rattle.cap_spec.proofs.Prelude.{replicate-append-replicate, take_rest, take-put_mid, prefix_len, put_mid}
-use Rattle.cap_spec.proofs.Prelude.{full_run, group_size, pack_text, tag_of, zero_bytes, zero_run, plain_text}
-use Rattle.cap_spec.proofs.Prelude.{word_bytes, common_steps, rules}
+use Rattle.cap_spec.proofs.ProofNames.{Bool, List, [], ap, append-nil, append_assoc, arith, cond, drop, drop-drop, false}
+use Rattle.cap_spec.proofs.ProofNames.{filter, get_or, leb, length, length-append, length-drop, length-take-le, not}
+use Rattle.cap_spec.proofs.ProofNames.{refl, replicate, subst, suc, sym, take, take-append-drop, take_all, true, zero, ℕ}
+use Rattle.cap_spec.proofs.ProofNames.{◌++◌, ◌+◌, ◌-◌, ◌<◌, ◌==◌, ◌∙◌, ◌∷◌, ◌≡◌, ◌≢◌, ◌≤◌, length-replicate}
+use Rattle.cap_spec.proofs.ProofNames.{replicate-append-replicate, take_rest, take-put_mid, prefix_len, put_mid}
+use Rattle.cap_spec.proofs.ProofNames.{full_run, group_size, pack_text, tag_of, zero_bytes, zero_run, plain_text}
+use Rattle.cap_spec.proofs.ProofNames.{word_bytes, common_steps, rules}
 use Rattle.cap_pack.specs.Holding.{IsRun, Spells, first_zeros, held}
 use Rattle.cap_pack.specs.declared.group.Group.{Group}
 use Rattle.cap_pack.specs.declared.group.Group.TheVariants.{Plain}

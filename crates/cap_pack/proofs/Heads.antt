@@ -2,10 +2,10 @@
 use Rattle.std.proofs.Math.ListN.{get_or-append}
 use lib.Count.{ones_step, ones}
 use Rattle.cap_spec.proofs.Packed.Unpacking.{spread_append}
-use Rattle.cap_spec.proofs.Prelude.{Bool, List, [], ap, arith, cond, drop, eq-eqb, eqb, eqb-true, false, get_or, length}
-use Rattle.cap_spec.proofs.Prelude.{length-take, length-take-le, ne_eqb, refl, subst, suc, sym, take, take-append-drop}
-use Rattle.cap_spec.proofs.Prelude.{true, zero, ℕ, ⊎_elim, ◌%◌, ◌*◌, ◌++◌, ◌+◌, ◌/◌, ◌<◌, ◌^◌, ◌∙◌, ◌∷◌, ◌≡◌, ◌≢◌, ◌≤◌}
-use Rattle.cap_spec.proofs.Prelude.{pow-succ', cases_lt, cond-false, cond-true, little_number, marks, spread, rules}
+use Rattle.cap_spec.proofs.ProofNames.{Bool, List, [], ap, arith, cond, drop, eq-eqb, eqb, eqb-true, false, get_or, length}
+use Rattle.cap_spec.proofs.ProofNames.{length-take, length-take-le, ne_eqb, refl, subst, suc, sym, take, take-append-drop}
+use Rattle.cap_spec.proofs.ProofNames.{true, zero, ℕ, ⊎_elim, ◌%◌, ◌*◌, ◌++◌, ◌+◌, ◌/◌, ◌<◌, ◌^◌, ◌∙◌, ◌∷◌, ◌≡◌, ◌≢◌, ◌≤◌}
+use Rattle.cap_spec.proofs.ProofNames.{pow-succ', cases_lt, cond-false, cond-true, little_number, marks, spread, rules}
 use Rattle.cap_pack.specs.Course.{first_word, head_rest, plain_of, zeros_of}
 
 -- two choices are the same where both their branches are

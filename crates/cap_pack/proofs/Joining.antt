@@ -1,8 +1,8 @@
 -- How the open group of a packer ends.
 use Rattle.cap_spec.proofs.Packed.Packing.{pack_text-plain, pack_text-zeros, plain_full}
-use Rattle.cap_spec.proofs.Prelude.{List, None, Option, Some, [], ap, append-nil, length, length-take, refl, sym, ℕ}
-use Rattle.cap_spec.proofs.Prelude.{◌++◌, ◌<◌, ◌∙◌, ◌≡◌, length-replicate, Appends, Keeps, append_known, full_run}
-use Rattle.cap_spec.proofs.Prelude.{group_size, pack_text, zero_run, rules}
+use Rattle.cap_spec.proofs.ProofNames.{List, None, Option, Some, [], ap, append-nil, length, length-take, refl, sym, ℕ}
+use Rattle.cap_spec.proofs.ProofNames.{◌++◌, ◌<◌, ◌∙◌, ◌≡◌, length-replicate, Appends, Keeps, append_known, full_run}
+use Rattle.cap_spec.proofs.ProofNames.{group_size, pack_text, zero_run, rules}
 use Rattle.cap_pack.specs.Holding.{first_zeros, group_bytes, held}
 use Rattle.cap_pack.specs.declared.group.Group.{Group}
 use Rattle.cap_pack.specs.declared.group.Group.TheVariants.{Empty, Plain, Zeros}

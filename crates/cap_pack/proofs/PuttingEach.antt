@@ -1,11 +1,11 @@
 -- The words of a list or of bytes, put to a sink a piece after the other.
 use Rattle.byteorder.specs.Endian.{IsRead}
 use Rattle.cap_spec.proofs.Bytes.Plain.{plain_short}
-use Rattle.cap_spec.proofs.Prelude.{Bool, List, Option, [], ap, append-nil, append_assoc, arith, drop, drop-drop, false}
-use Rattle.cap_spec.proofs.Prelude.{length, length-drop, length-take-le, refl, subst, suc, sym, take, take-append-drop}
-use Rattle.cap_spec.proofs.Prelude.{ℕ, ◌*◌, ◌++◌, ◌+◌, ◌-◌, ◌<◌, ◌∙◌, ◌∷◌, ◌≡◌, ◌≤◌, Keeps-trans, take_rest, Keeps}
-use Rattle.cap_spec.proofs.Prelude.{little_number, plain_words, rules}
-use Rattle.cap_words.specs.Prelude.{Failures, Begins, StoppedPutting, WasPut}
+use Rattle.cap_spec.proofs.ProofNames.{Bool, List, Option, [], ap, append-nil, append_assoc, arith, drop, drop-drop, false}
+use Rattle.cap_spec.proofs.ProofNames.{length, length-drop, length-take-le, refl, subst, suc, sym, take, take-append-drop}
+use Rattle.cap_spec.proofs.ProofNames.{ℕ, ◌*◌, ◌++◌, ◌+◌, ◌-◌, ◌<◌, ◌∙◌, ◌∷◌, ◌≡◌, ◌≤◌, Keeps-trans, take_rest, Keeps}
+use Rattle.cap_spec.proofs.ProofNames.{little_number, plain_words, rules}
+use Rattle.cap_words.specs.WordNames.{Failures, Begins, StoppedPutting, WasPut}
 use Rattle.cap_words.proofs.Filling.{plain_join}
 use Rattle.cap_words.proofs.Told.{begins_kept}
 

@@ -3,12 +3,12 @@ use Rattle.std.proofs.Common.{bit_and}
 use Rattle.std.proofs.lemmas.List.Sums.{prefix_len-le-length, prefix_len_passes, prefix_len_stops}
 use Rattle.std.proofs.lemmas.Simd.{first_set_mask_l, map-map, zip2_of_maps, zip2_splat}
 use Rattle.std.specs.Int.Count.{count_trailing_zeros}
-use Rattle.cap_spec.proofs.Prelude.{Bool, List, [], ap, arith, cond, eqb, false, get_or, if◌then◌else◌, leb, length}
-use Rattle.cap_spec.proofs.Prelude.{length-take-le, map, not, refl, replicate, suc, sym, take, take_while, true, w64}
-use Rattle.cap_spec.proofs.Prelude.{w8, zero, ℕ, ⊎_elim, ◌%◌, ◌&&◌, ◌*◌, ◌+◌, ◌-◌, ◌/◌, ◌<◌, ◌==◌, ◌∙◌, ◌∷◌, ◌≡◌, ◌≤◌}
-use Rattle.cap_spec.proofs.Prelude.{and_parts, cases_lt, false≢true, length-map, bitmask_splat, prefix_len, chunk}
-use Rattle.cap_spec.proofs.Prelude.{mask_l, top, zip2, full_run, tag_of, zero_bytes, zero_run, zeros_in, word_bytes}
-use Rattle.cap_spec.proofs.Prelude.{marks, common_steps, rules}
+use Rattle.cap_spec.proofs.ProofNames.{Bool, List, [], ap, arith, cond, eqb, false, get_or, if◌then◌else◌, leb, length}
+use Rattle.cap_spec.proofs.ProofNames.{length-take-le, map, not, refl, replicate, suc, sym, take, take_while, true, w64}
+use Rattle.cap_spec.proofs.ProofNames.{w8, zero, ℕ, ⊎_elim, ◌%◌, ◌&&◌, ◌*◌, ◌+◌, ◌-◌, ◌/◌, ◌<◌, ◌==◌, ◌∙◌, ◌∷◌, ◌≡◌, ◌≤◌}
+use Rattle.cap_spec.proofs.ProofNames.{and_parts, cases_lt, false≢true, length-map, bitmask_splat, prefix_len, chunk}
+use Rattle.cap_spec.proofs.ProofNames.{mask_l, top, zip2, full_run, tag_of, zero_bytes, zero_run, zeros_in, word_bytes}
+use Rattle.cap_spec.proofs.ProofNames.{marks, common_steps, rules}
 use Rattle.cap_pack.proofs.Tags.{tag_fits, word_tag}
 
 -- its length

@@ -3,13 +3,13 @@ use Rattle.std.proofs.Common.{T, add-zero}
 use Rattle.std.proofs.lemmas.List.Sums.{length-filter}
 use Rattle.std.proofs.lemmas.Simd.{SwzOk, SwzOk-from_Each1, ones-mask_l, swz_l}
 use Rattle.cap_spec.proofs.Packed.Repacking.{spread_empty}
-use Rattle.cap_spec.proofs.Prelude.{Bool, List, [], add-one, ap, arith, cond, drop, eqb, eqb-true, false, filter}
-use Rattle.cap_spec.proofs.Prelude.{get_or, get_or-drop, if◌then◌else◌, leb, length, length-append, lt-ltb, ltb, map}
-use Rattle.cap_spec.proofs.Prelude.{not, refl, replicate, subst, suc, sym, take, true, w8, zero, zero-add, ℕ, ◌%◌, ◌&&◌}
-use Rattle.cap_spec.proofs.Prelude.{◌*◌, ◌++◌, ◌+◌, ◌-◌, ◌/◌, ◌<◌, ◌==◌, ◌||◌, ◌∙◌, ◌∷◌, ◌≡◌, ◌≤◌, take-append_seam}
-use Rattle.cap_spec.proofs.Prelude.{and_parts, false≢true, lt-leb, length-map, length-replicate, map-append, Each1}
-use Rattle.cap_spec.proofs.Prelude.{number_l, little_number, ones, tag_of, zero_bytes, zeros_in, word_bytes, marks}
-use Rattle.cap_spec.proofs.Prelude.{spread, rules}
+use Rattle.cap_spec.proofs.ProofNames.{Bool, List, [], add-one, ap, arith, cond, drop, eqb, eqb-true, false, filter}
+use Rattle.cap_spec.proofs.ProofNames.{get_or, get_or-drop, if◌then◌else◌, leb, length, length-append, lt-ltb, ltb, map}
+use Rattle.cap_spec.proofs.ProofNames.{not, refl, replicate, subst, suc, sym, take, true, w8, zero, zero-add, ℕ, ◌%◌, ◌&&◌}
+use Rattle.cap_spec.proofs.ProofNames.{◌*◌, ◌++◌, ◌+◌, ◌-◌, ◌/◌, ◌<◌, ◌==◌, ◌||◌, ◌∙◌, ◌∷◌, ◌≡◌, ◌≤◌, take-append_seam}
+use Rattle.cap_spec.proofs.ProofNames.{and_parts, false≢true, lt-leb, length-map, length-replicate, map-append, Each1}
+use Rattle.cap_spec.proofs.ProofNames.{number_l, little_number, ones, tag_of, zero_bytes, zeros_in, word_bytes, marks}
+use Rattle.cap_spec.proofs.ProofNames.{spread, rules}
 use Rattle.cap_pack.specs.Places.{marked_from, spread_from, spread_row, squeeze_row}
 use Rattle.cap_pack.proofs.Runs.{bits_behind, low_bit}
 use Rattle.cap_pack.proofs.Tags.{eight_number, mask_is_tag, word_tag}

@@ -1,7 +1,7 @@
 -- What one answer of the unpacker does to what is known of it.
-use Rattle.cap_spec.proofs.Prelude.{List, None, OnSome, Option, Some, [], ap, append-nil, arith, false, option_map}
-use Rattle.cap_spec.proofs.Prelude.{refl, suc, sym, true, unwrap_or, zero, ℕ, ◌++◌, ◌-◌, ◌<◌, ◌∙◌, ◌∷◌, ◌≡◌, Consumes}
-use Rattle.cap_spec.proofs.Prelude.{IsAtEnd, packed_ends, packed_is_cut, unpacked, common_steps, rules}
+use Rattle.cap_spec.proofs.ProofNames.{List, None, OnSome, Option, Some, [], ap, append-nil, arith, false, option_map}
+use Rattle.cap_spec.proofs.ProofNames.{refl, suc, sym, true, unwrap_or, zero, ℕ, ◌++◌, ◌-◌, ◌<◌, ◌∙◌, ◌∷◌, ◌≡◌, Consumes}
+use Rattle.cap_spec.proofs.ProofNames.{IsAtEnd, packed_ends, packed_is_cut, unpacked, common_steps, rules}
 use Rattle.cap_words.specs.declared.phase.Phase.{Phase}
 use Rattle.cap_words.specs.declared.phase.Phase.TheVariants.{Ended, Failed, Open}
 use Rattle.cap_pack.specs.Course.{Course, course, course_is_cut, course_places, course_words, ends, gives, stops}

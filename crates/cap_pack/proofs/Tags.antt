@@ -3,11 +3,11 @@ use Rattle.std.proofs.lemmas.Simd.{take_more_put_chunk}
 use Rattle.std.specs.Simd.Lanes.{digits_l, put_chunk}
 use Rattle.cap_spec.proofs.Lemmas.{length_plain, bytes_back}
 use Rattle.cap_spec.proofs.Packed.Repacking.{tag_below}
-use Rattle.cap_spec.proofs.Prelude.{Bool, List, [], ap, arith, cond, eqb, false, flat_map, if◌then◌else◌, length, map}
-use Rattle.cap_spec.proofs.Prelude.{not, refl, replicate, suc, sym, take, take-add, true, w8, ℕ, ◌%◌, ◌*◌, ◌++◌}
-use Rattle.cap_spec.proofs.Prelude.{◌+◌, ◌/◌, ◌<◌, ◌==◌, ◌∙◌, ◌∷◌, ◌≡◌, ◌≤◌, length-map, map-append, bitmask_splat}
-use Rattle.cap_spec.proofs.Prelude.{length-chunk, byte_at, AllByRecursion, Each1, chunk, mask_l, number_l, top, zip2}
-use Rattle.cap_spec.proofs.Prelude.{little_number, tag_of, word_bytes, rules}
+use Rattle.cap_spec.proofs.ProofNames.{Bool, List, [], ap, arith, cond, eqb, false, flat_map, if◌then◌else◌, length, map}
+use Rattle.cap_spec.proofs.ProofNames.{not, refl, replicate, suc, sym, take, take-add, true, w8, ℕ, ◌%◌, ◌*◌, ◌++◌}
+use Rattle.cap_spec.proofs.ProofNames.{◌+◌, ◌/◌, ◌<◌, ◌==◌, ◌∙◌, ◌∷◌, ◌≡◌, ◌≤◌, length-map, map-append, bitmask_splat}
+use Rattle.cap_spec.proofs.ProofNames.{length-chunk, byte_at, AllByRecursion, Each1, chunk, mask_l, number_l, top, zip2}
+use Rattle.cap_spec.proofs.ProofNames.{little_number, tag_of, word_bytes, rules}
 
 -- the tag of a word
 abbrev pub word_tag : ℕ → ℕ

@@ -2,13 +2,13 @@
 use Rattle.std.proofs.Common.{one-add}
 use Rattle.cap_spec.proofs.Packed.PackedEnds.{ends_nil}
 use Rattle.cap_spec.proofs.Packed.Unpacking.{cut_nil, given_nil, spread_append}
-use Rattle.cap_spec.proofs.Prelude.{Bool, List, [], ap, arith, cond, drop, eqb, false, le-ltb, length, length-drop}
-use Rattle.cap_spec.proofs.Prelude.{length-take, lit<, lt-ltb, ltb, ne_eqb, refl, replicate, slice_index, suc, sym}
-use Rattle.cap_spec.proofs.Prelude.{take, take-append-drop, true, zero, ℕ, ⊎_elim, ◌*◌, ◌++◌, ◌+◌, ◌<◌, ◌∙◌, ◌∷◌, ◌≡◌}
-use Rattle.cap_spec.proofs.Prelude.{◌≢◌, ◌≤◌, cases_eq, cases_lt, cond-false, cond-true, little_number, ends_in}
-use Rattle.cap_spec.proofs.Prelude.{front_ends, packed_ends, word_ends, capped, plain_words, given_in, given_of}
-use Rattle.cap_spec.proofs.Prelude.{group_length, group_words, is_cut_in, marks, packed_is_cut, spread, unpacked}
-use Rattle.cap_spec.proofs.Prelude.{common_steps, rules}
+use Rattle.cap_spec.proofs.ProofNames.{Bool, List, [], ap, arith, cond, drop, eqb, false, le-ltb, length, length-drop}
+use Rattle.cap_spec.proofs.ProofNames.{length-take, lit<, lt-ltb, ltb, ne_eqb, refl, replicate, slice_index, suc, sym}
+use Rattle.cap_spec.proofs.ProofNames.{take, take-append-drop, true, zero, ℕ, ⊎_elim, ◌*◌, ◌++◌, ◌+◌, ◌<◌, ◌∙◌, ◌∷◌, ◌≡◌}
+use Rattle.cap_spec.proofs.ProofNames.{◌≢◌, ◌≤◌, cases_eq, cases_lt, cond-false, cond-true, little_number, ends_in}
+use Rattle.cap_spec.proofs.ProofNames.{front_ends, packed_ends, word_ends, capped, plain_words, given_in, given_of}
+use Rattle.cap_spec.proofs.ProofNames.{group_length, group_words, is_cut_in, marks, packed_is_cut, spread, unpacked}
+use Rattle.cap_spec.proofs.ProofNames.{common_steps, rules}
 use Rattle.cap_pack.specs.Course.{Course, course, course_is_cut, course_places, course_words, gives, stops, zeros_then}
 use Rattle.cap_pack.specs.Course.{first_word, head_rest, plain_of, zeros_of}
 use Rattle.cap_pack.proofs.Courses.{course_head, course_head_stops, course_none, course_plain, course_plain_stops}

@@ -1,6 +1,6 @@
 -- What the unpacker's course makes of one read.
-use Rattle.cap_spec.proofs.Prelude.{List, Option, [], arith, get_or, length, suc, take, ℕ, ◌++◌, ◌+◌, ◌<◌}
-use Rattle.cap_spec.proofs.Prelude.{◌∷◌, ◌≡◌, Consumes-trans, little_number, capped, rules}
+use Rattle.cap_spec.proofs.ProofNames.{List, Option, [], arith, get_or, length, suc, take, ℕ, ◌++◌, ◌+◌, ◌<◌}
+use Rattle.cap_spec.proofs.ProofNames.{◌∷◌, ◌≡◌, Consumes-trans, little_number, capped, rules}
 use Rattle.cap_words.specs.Counting.{Took}
 use Rattle.cap_pack.specs.Course.{course, first_word, gives, head_rest, plain_of, stops, zeros_of, zeros_then}
 use Rattle.cap_pack.proofs.Courses.{course_head, course_head_stops, course_plain, course_plain_stops}

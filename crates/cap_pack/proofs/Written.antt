@@ -1,8 +1,8 @@
 -- What stands at the front of a buffer after the writes that spell a group.
 use Rattle.std.proofs.lemmas.List.{places}
-use Rattle.cap_spec.proofs.Prelude.{List, [], ap, append_assoc, arith, length, length-append, length-set}
-use Rattle.cap_spec.proofs.Prelude.{length-take-le, refl, rules, set, sym, take, take-take, take_at, ℕ, ◌++◌, ◌+◌, ◌<◌}
-use Rattle.cap_spec.proofs.Prelude.{◌∙◌, ◌∷◌, ◌≡◌, ◌≤◌, take-set_at, take-put_mid, put_mid}
+use Rattle.cap_spec.proofs.ProofNames.{List, [], ap, append_assoc, arith, length, length-append, length-set}
+use Rattle.cap_spec.proofs.ProofNames.{length-take-le, refl, rules, set, sym, take, take-take, take_at, ℕ, ◌++◌, ◌+◌, ◌<◌}
+use Rattle.cap_spec.proofs.ProofNames.{◌∙◌, ◌∷◌, ◌≡◌, ◌≤◌, take-set_at, take-put_mid, put_mid}
 
 -- after a write of the first element
 pub take-first : (xs : List ℕ) (x : ℕ) → 0 < length xs → take 1 (set xs 0 x) ≡ x ∷ []

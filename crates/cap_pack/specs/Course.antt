@@ -2,7 +2,7 @@
 use Rattle.std.specs.Prelude.{Bool, List, [], drop, false, if◌then◌else◌, length, nat_lt, slice_index, suc, true, zero}
 use Rattle.std.specs.Prelude.{ℕ, ◌+◌, ◌==◌, ◌∷◌}
 use Rattle.byteorder.specs.Endian.{little_number}
-use Rattle.cap_spec.specs.Prelude.{capped, marks, spread}
+use Rattle.cap_spec.specs.SpecNames.{capped, marks, spread}
 
 pub data Course : Type 0 where
   -- the input ends between groups, at this position

@@ -4,7 +4,7 @@ use Rattle.std.specs.List.{AllByRecursion}
 use Rattle.std.specs.Prelude.{Bool, IfSome, List, None, Option, Some, [], drop, false, if◌then◌else◌, length, nat_lt}
 use Rattle.std.specs.Prelude.{option_map, suc, true, zero, ℕ, ◌<◌, ◌==◌, ◌∷◌}
 use Rattle.byteorder.specs.Endian.{little_number}
-use Rattle.cap_spec.specs.Prelude.{spread, IsWord}
+use Rattle.cap_spec.specs.SpecNames.{spread, IsWord}
 use Rattle.cap_spec.proofs.Bytes.Lists.{all_drop}
 use Rattle.cap_spec.proofs.Packed.UnpackedWords.{eight_bytes_below, spread_below}
 use Rattle.cap_words.specs.declared.phase.Phase.{Phase}

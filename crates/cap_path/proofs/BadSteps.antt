@@ -1,10 +1,10 @@
 -- Where no path goes on with the step that is read.
 use Rattle.cap_spec.specs.declared.Step.{Step}
 use Rattle.cap_spec.specs.declared.Step.TheVariants.{Ptr, Item as item}
-use Rattle.cap_spec.proofs.Prelude.{Bool, List, None, Option, [], ap, append_assoc, arith, decimal, false, flat_map}
-use Rattle.cap_spec.proofs.Prelude.{get_or, if◌then◌else◌, length, length-take-le, ne_eqb, refl, subst, sym, take, true}
-use Rattle.cap_spec.proofs.Prelude.{ℕ, ◌++◌, ◌+◌, ◌-◌, ◌<◌, ◌∙◌, ◌∷◌, ◌≡◌, ◌≢◌, ◌≤◌, take_more, AllByRecursion, IsBadAt}
-use Rattle.cap_spec.proofs.Prelude.{IsStep, step_text}
+use Rattle.cap_spec.proofs.ProofNames.{Bool, List, None, Option, [], ap, append_assoc, arith, decimal, false, flat_map}
+use Rattle.cap_spec.proofs.ProofNames.{get_or, if◌then◌else◌, length, length-take-le, ne_eqb, refl, subst, sym, take, true}
+use Rattle.cap_spec.proofs.ProofNames.{ℕ, ◌++◌, ◌+◌, ◌-◌, ◌<◌, ◌∙◌, ◌∷◌, ◌≡◌, ◌≢◌, ◌≤◌, take_more, AllByRecursion, IsBadAt}
+use Rattle.cap_spec.proofs.ProofNames.{IsStep, step_text}
 use Rattle.cap_path.specs.PathReading.{IsBadNumber, is_digit, longer_number, no_digit, no_end, number_with}
 use Rattle.cap_path.proofs.PathReading.{Unfinished, bad_here, stops}
 use Rattle.cap_path.proofs.ReadSteps.{HasRead, IsReading, Item, Number, Pointer, Reading, Slash, item_number, next_of}

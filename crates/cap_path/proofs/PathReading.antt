@@ -2,12 +2,12 @@
 use Rattle.std.proofs.Common.{option_and_then}
 use Rattle.cap_spec.specs.declared.Step.{Step}
 use Rattle.cap_spec.specs.declared.Step.TheVariants.{Ptr, Item as item}
-use Rattle.cap_spec.proofs.Prelude.{List, None, Option, Some, [], ap, append-nil, append_assoc, arith, codes, decimal}
-use Rattle.cap_spec.proofs.Prelude.{drop, false, flat_map, get_or, get_or-take, inl, inr, length, length-take, nat_lt}
-use Rattle.cap_spec.proofs.Prelude.{ne_eqb, refl, subst, suc, sym, take, take-take, take_all, true, ℕ, ◌%◌, ◌*◌, ◌++◌}
-use Rattle.cap_spec.proofs.Prelude.{◌+◌, ◌-◌, ◌/◌, ◌<◌, ◌==◌, ◌^◌, ◌∙◌, ◌∷◌, ◌≡◌, ◌≤◌, split_at, leb_tells, nat_tests}
-use Rattle.cap_spec.proofs.Prelude.{decimal_by_steps, AllByRecursion, BeginsPath, IsBadAt, IsPath, IsStep, path_text}
-use Rattle.cap_spec.proofs.Prelude.{step_text}
+use Rattle.cap_spec.proofs.ProofNames.{List, None, Option, Some, [], ap, append-nil, append_assoc, arith, codes, decimal}
+use Rattle.cap_spec.proofs.ProofNames.{drop, false, flat_map, get_or, get_or-take, inl, inr, length, length-take, nat_lt}
+use Rattle.cap_spec.proofs.ProofNames.{ne_eqb, refl, subst, suc, sym, take, take-take, take_all, true, ℕ, ◌%◌, ◌*◌, ◌++◌}
+use Rattle.cap_spec.proofs.ProofNames.{◌+◌, ◌-◌, ◌/◌, ◌<◌, ◌==◌, ◌^◌, ◌∙◌, ◌∷◌, ◌≡◌, ◌≤◌, split_at, leb_tells, nat_tests}
+use Rattle.cap_spec.proofs.ProofNames.{decimal_by_steps, AllByRecursion, BeginsPath, IsBadAt, IsPath, IsStep, path_text}
+use Rattle.cap_spec.proofs.ProofNames.{step_text}
 use Rattle.cap_path.specs.PathReading.{is_digit, longer_number}
 use Rattle.cap_path.proofs.ReadSteps.{HasRead, IsReading, Item, Number, Pointer, Reading, Slash, Start, item_number}
 use Rattle.cap_path.proofs.ReadSteps.{next_of, pointer_number, read_begins, reading_text}

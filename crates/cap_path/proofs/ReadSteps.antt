@@ -3,11 +3,11 @@ use Rattle.std.proofs.lemmas.Grind.{flat_map-append}
 use Rattle.cap_spec.specs.declared.Step.{Step}
 use Rattle.cap_spec.specs.declared.Step.TheVariants.{Ptr, Item as item}
 use Rattle.cap_spec.proofs.Bytes.Lists.{all_append}
-use Rattle.cap_spec.proofs.Prelude.{Bool, List, None, Option, Some, [], ap, append-nil, append_assoc, arith, codes}
-use Rattle.cap_spec.proofs.Prelude.{decimal, false, flat_map, get_or, if◌then◌else◌, inl, inr, length, nat_lt, refl}
-use Rattle.cap_spec.proofs.Prelude.{sym, take, true, ℕ, ◌%◌, ◌*◌, ◌++◌, ◌+◌, ◌-◌, ◌/◌, ◌<◌, ◌==◌, ◌^◌, ◌∙◌, ◌∷◌, ◌≡◌}
-use Rattle.cap_spec.proofs.Prelude.{◌≢◌, ◌≤◌, ◌⊎◌, nat_tests, decimal_digit, decimal_step, take_more, AllByRecursion}
-use Rattle.cap_spec.proofs.Prelude.{BeginsPath, IsStep, path_text, step_text}
+use Rattle.cap_spec.proofs.ProofNames.{Bool, List, None, Option, Some, [], ap, append-nil, append_assoc, arith, codes}
+use Rattle.cap_spec.proofs.ProofNames.{decimal, false, flat_map, get_or, if◌then◌else◌, inl, inr, length, nat_lt, refl}
+use Rattle.cap_spec.proofs.ProofNames.{sym, take, true, ℕ, ◌%◌, ◌*◌, ◌++◌, ◌+◌, ◌-◌, ◌/◌, ◌<◌, ◌==◌, ◌^◌, ◌∙◌, ◌∷◌, ◌≡◌}
+use Rattle.cap_spec.proofs.ProofNames.{◌≢◌, ◌≤◌, ◌⊎◌, nat_tests, decimal_digit, decimal_step, take_more, AllByRecursion}
+use Rattle.cap_spec.proofs.ProofNames.{BeginsPath, IsStep, path_text, step_text}
 use Rattle.cap_path.specs.PathReading.{is_digit, longer_number, number_with}
 
 -- how far the last step of a text has been read: not at all, its slash, its letter, or a number that may have more digits

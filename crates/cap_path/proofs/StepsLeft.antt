@@ -3,9 +3,9 @@ use Rattle.std.proofs.lemmas.List.{at_drop_more}
 use Rattle.cap_spec.specs.declared.Step.{Step}
 use Rattle.cap_spec.specs.declared.Step.TheVariants.{Ptr, Item as item}
 use Rattle.cap_spec.proofs.Paths.PathTexts.{EndsNumber, all_digits, ends_number, one_number}
-use Rattle.cap_spec.proofs.Prelude.{List, None, Option, Some, [], ap, arith, decimal, drop, flat_map, get_or, inl, inr}
-use Rattle.cap_spec.proofs.Prelude.{length, refl, subst, sym, take-append-drop, ℕ, ◌++◌, ◌<◌, ◌∙◌, ◌∷◌, ◌≡◌, leb_tells}
-use Rattle.cap_spec.proofs.Prelude.{decimal_injective, drop_all, AllByRecursion, IsStep, step_text}
+use Rattle.cap_spec.proofs.ProofNames.{List, None, Option, Some, [], ap, arith, decimal, drop, flat_map, get_or, inl, inr}
+use Rattle.cap_spec.proofs.ProofNames.{length, refl, subst, sym, take-append-drop, ℕ, ◌++◌, ◌<◌, ◌∙◌, ◌∷◌, ◌≡◌, leb_tells}
+use Rattle.cap_spec.proofs.ProofNames.{decimal_injective, drop_all, AllByRecursion, IsStep, step_text}
 use Rattle.cap_path.specs.PathReading.{IsStepAt}
 use Rattle.cap_path.specs.PathSteps.{AreLeft}
 use Rattle.cap_path.specs.declared.steps.PathSteps.{PathSteps}

@@ -1,8 +1,8 @@
 -- What is so of a pointer word tells the answer of following it.
 use Rattle.cap_spec.specs.declared.Reason.{Reason}
 use Rattle.cap_spec.proofs.Pointers.Following.{cap-not_wrong, null-not_wrong, object-not_wrong, one_lead, one_wrong}
-use Rattle.cap_spec.proofs.Prelude.{Err, IfErr, IfOk, List, Ok, Result, ap, pos, refl, subst, ℕ, ◌≡◌, Finds, Leads}
-use Rattle.cap_spec.proofs.Prelude.{Wrong, to_cap, to_null, to_object}
+use Rattle.cap_spec.proofs.ProofNames.{Err, IfErr, IfOk, List, Ok, Result, ap, pos, refl, subst, ℕ, ◌≡◌, Finds, Leads}
+use Rattle.cap_spec.proofs.ProofNames.{Wrong, to_cap, to_null, to_object}
 use Rattle.cap_spec.proofs.Trees.Finding.{SameObject, one_object}
 use Rattle.cap_ptr.specs.Shapes.{AnswersObject, IsAnswer, IsFollowed, IsShapedObject}
 use Rattle.cap_ptr.specs.declared.shapes.Followed.{Followed}

@@ -1,8 +1,8 @@
 -- Why a pointer word alone describes its object.
 use Rattle.cap_spec.proofs.Frames.Messages.{HasWord-segment}
-use Rattle.cap_spec.proofs.Prelude.{List, arith, false, inl, inr, length, ne_eqb, pos, refl, true, ℕ, ◌*◌, ◌+ℤ◌, ◌+◌}
-use Rattle.cap_spec.proofs.Prelude.{◌/◌, ◌==◌, ◌^◌, ◌≡◌, ◌≢◌, ◌≤◌, ◌⊎◌, eqb_tells, extra, HasWord, segment_of, code}
-use Rattle.cap_spec.proofs.Prelude.{element_bits, extent, list_words, signed_offset_of}
+use Rattle.cap_spec.proofs.ProofNames.{List, arith, false, inl, inr, length, ne_eqb, pos, refl, true, ℕ, ◌*◌, ◌+ℤ◌, ◌+◌}
+use Rattle.cap_spec.proofs.ProofNames.{◌/◌, ◌==◌, ◌^◌, ◌≡◌, ◌≢◌, ◌≤◌, ◌⊎◌, eqb_tells, extra, HasWord, segment_of, code}
+use Rattle.cap_spec.proofs.ProofNames.{element_bits, extent, list_words, signed_offset_of}
 use Rattle.cap_spec.proofs.Trees.Charges.{extra_pointers, extra_struct}
 use Rattle.cap_ptr.specs.Rows.{FindsRow, HasPointers}
 use Rattle.cap_ptr.specs.Shapes.{FindsTarget, IsPlain, IsShape}

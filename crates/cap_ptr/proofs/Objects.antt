@@ -1,9 +1,9 @@
 -- What the words of an object tell of its place and its charge.
 use Rattle.cap_spec.specs.declared.Reason.TheVariants.{OutOfSegment}
 use Rattle.cap_spec.proofs.Pointers.Following.{wrong-out}
-use Rattle.cap_spec.proofs.Prelude.{List, arith, if◌then◌else◌, inr, length, pos, refl, sym, ℕ, ◌*◌, ◌+◌, ◌<◌, ◌==◌}
-use Rattle.cap_spec.proofs.Prelude.{◌^◌, ◌∙◌, ◌≡◌, ◌≤◌, ints, IsComposite, Wrong, extra, HasWord, segment_of, data_size}
-use Rattle.cap_spec.proofs.Prelude.{extent, kind, list_size, middle, pointer_size}
+use Rattle.cap_spec.proofs.ProofNames.{List, arith, if◌then◌else◌, inr, length, pos, refl, sym, ℕ, ◌*◌, ◌+◌, ◌<◌, ◌==◌}
+use Rattle.cap_spec.proofs.ProofNames.{◌^◌, ◌∙◌, ◌≡◌, ◌≤◌, ints, IsComposite, Wrong, extra, HasWord, segment_of, data_size}
+use Rattle.cap_spec.proofs.ProofNames.{extent, kind, list_size, middle, pointer_size}
 use Rattle.cap_spec.proofs.Trees.Charges.{extent_structs}
 use Rattle.cap_ptr.specs.Reaching.{LeadsTo}
 use Rattle.cap_ptr.specs.Shapes.{FindsObject, IsShape}

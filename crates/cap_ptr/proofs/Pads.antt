@@ -3,9 +3,9 @@ use Rattle.std.proofs.Common.{◌<ℤ◌}
 use Rattle.cap_spec.specs.declared.Reason.TheVariants.{OutOfSegment, PadNotFar, TagKind, TagOffset}
 use Rattle.cap_spec.proofs.Pointers.Following.{wrong-out, wrong-pad_far, wrong-pad_near, wrong-pad_reserved}
 use Rattle.cap_spec.proofs.Pointers.Following.{wrong-reserved, wrong-tag_kind, wrong-tag_offset}
-use Rattle.cap_spec.proofs.Prelude.{List, arith, inl, length, pos, refl, subst, ℕ, ℤ, ◌+ℤ◌, ◌+◌, ◌<◌, ◌≡◌, ◌≢◌, ◌≤◌}
-use Rattle.cap_spec.proofs.Prelude.{IsOnePad, Lead, Leads, Says, Wrong, near, one_pad, to_cap, to_null, to_object}
-use Rattle.cap_spec.proofs.Prelude.{two_pads, HasWord, far_segment, kind, middle, pad, signed_offset_of}
+use Rattle.cap_spec.proofs.ProofNames.{List, arith, inl, length, pos, refl, subst, ℕ, ℤ, ◌+ℤ◌, ◌+◌, ◌<◌, ◌≡◌, ◌≢◌, ◌≤◌}
+use Rattle.cap_spec.proofs.ProofNames.{IsOnePad, Lead, Leads, Says, Wrong, near, one_pad, to_cap, to_null, to_object}
+use Rattle.cap_spec.proofs.ProofNames.{two_pads, HasWord, far_segment, kind, middle, pad, signed_offset_of}
 use Rattle.cap_ptr.specs.Reaching.{HasTwoPad, LeadsTo, ResolvesTo}
 
 -- a word that says something isn't far

@@ -1,6 +1,6 @@
 -- What a pointer word alone says about its object (standard: Structs, Lists).
 use Rattle.std.specs.Prelude.{List, ℕ, ◌+◌, ◌<◌, ◌^◌, ◌≡◌, ◌≤◌, ◌⊎◌}
-use Rattle.cap_spec.specs.Prelude.{Finds, code, extent, kind, list_size, pointer_size}
+use Rattle.cap_spec.specs.SpecNames.{Finds, code, extent, kind, list_size, pointer_size}
 use Rattle.cap_ptr.specs.declared.near.Row.{Row}
 
 -- the word q describes an object that has no tag and is charged its words alone; it has n pointers

@@ -2,8 +2,8 @@
 use Rattle.std.specs.Prelude.{Err, List, Ok, Result, length, ℕ, ◌+◌, ◌<◌, ◌^◌, ◌≡◌, ◌≢◌, ◌≤◌}
 use Rattle.cap_spec.specs.Following.{IsComposite, TagFits}
 use Rattle.cap_spec.specs.ObjectShapes.{IsPointersShape, IsScalarsShape, IsStructShape, IsStructsShape}
-use Rattle.cap_spec.specs.Prelude.{Finds, Leads, Wrong, extra, to_cap, to_null, HasWord, segment_of, code, extent, kind}
-use Rattle.cap_spec.specs.Prelude.{list_size}
+use Rattle.cap_spec.specs.SpecNames.{Finds, Leads, Wrong, extra, to_cap, to_null, HasWord, segment_of, code, extent, kind}
+use Rattle.cap_spec.specs.SpecNames.{list_size}
 use Rattle.cap_spec.specs.declared.Reason.{Reason}
 use Rattle.cap_ptr.specs.declared.shapes.Followed.{Followed}
 use Rattle.cap_ptr.specs.declared.shapes.Shape.{Shape}

@@ -1,10 +1,10 @@
 -- What is read at the end of a path.
 use Rattle.cap_spec.specs.declared.Step.{Step}
 use Rattle.cap_spec.proofs.Lemmas.{one_coming, one_lead, one_tree}
-use Rattle.cap_spec.proofs.Prelude.{IfSome, List, MatchOption, None, Option, Some, [], ap, length, option_map, pos}
-use Rattle.cap_spec.proofs.Prelude.{refl, subst, sym, ℕ, ◌+◌, ◌<◌, ◌∙◌, ◌≡◌, ◌≤◌, Denotes, words_from, to_object}
-use Rattle.cap_spec.proofs.Prelude.{segment_of, HasPlace, IsPlace, ReachesSpot, Spot, element, word, plain_text, extent}
-use Rattle.cap_spec.proofs.Prelude.{Own, own_of, DenotesAt, Tree, node_at}
+use Rattle.cap_spec.proofs.ProofNames.{IfSome, List, MatchOption, None, Option, Some, [], ap, length, option_map, pos}
+use Rattle.cap_spec.proofs.ProofNames.{refl, subst, sym, ℕ, ◌+◌, ◌<◌, ◌∙◌, ◌≡◌, ◌≤◌, Denotes, words_from, to_object}
+use Rattle.cap_spec.proofs.ProofNames.{segment_of, HasPlace, IsPlace, ReachesSpot, Spot, element, word, plain_text, extent}
+use Rattle.cap_spec.proofs.ProofNames.{Own, own_of, DenotesAt, Tree, node_at}
 use Rattle.cap_vet.specs.Reports.{IsReport}
 use Rattle.cap_vet.specs.Views.{bytes_of_place}
 use Rattle.cap_vet.specs.declared.nodes.place.Place.{Place}

@@ -1,7 +1,7 @@
 -- What is read of a message at a path (profile).
 use Rattle.std.specs.Prelude.{List, MatchOption, Option, length, option_map, ℕ, ◌+◌, ◌<◌, ◌≡◌, ◌≤◌}
 use Rattle.cap_spec.specs.Paths.{IsPlace}
-use Rattle.cap_spec.specs.Prelude.{Denotes, segment_of, Own, Tree, node_at}
+use Rattle.cap_spec.specs.SpecNames.{Denotes, segment_of, Own, Tree, node_at}
 use Rattle.cap_spec.specs.Showing.{own_of}
 use Rattle.cap_spec.specs.declared.Step.{Step}
 use Rattle.cap_vet.specs.Reports.{IsReport}

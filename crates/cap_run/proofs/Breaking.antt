@@ -1,6 +1,6 @@
 -- What is known of a message at which a stream breaks off.
-use Rattle.cap_spec.proofs.Prelude.{Bool, Err, IfSome, List, None, OnSome, Option, Some, false, refl, true, ℕ, ◌≡◌, ◌⊎◌, ⊤}
-use Rattle.cap_frame.specs.Prelude.{Faults}
+use Rattle.cap_spec.proofs.ProofNames.{Bool, Err, IfSome, List, None, OnSome, Option, Some, false, refl, true, ℕ, ◌≡◌, ◌⊎◌, ⊤}
+use Rattle.cap_frame.specs.FrameNames.{Faults}
 use Rattle.cap_frame.specs.Taking.{IsOver}
 use Rattle.cap_frame.specs.declared.fault.FrameFault.{FrameFault}
 use Rattle.cap_frame.specs.declared.fault.FrameFault.TheVariants.{Device, Memory, Spent, TooLarge, TooManySegments}
@@ -8,7 +8,7 @@ use Rattle.cap_frame.specs.declared.fault.FrameFault.TheVariants.{Truncated}
 use Rattle.cap_text.specs.declared.fault.Cause.TheVariants.{Output, Refused, Memory as no_marks}
 use Rattle.cap_text.specs.declared.fault.StreamBreak.{StreamBreak}
 use Rattle.cap_run.specs.Breaking.{BreaksBy, EndsCut}
-use Rattle.cap_run.specs.Prelude.{Cause, Canon, Frame, NotStrict, TooManyMessages, WritesOneOf, Counted}
+use Rattle.cap_run.specs.RunNames.{Cause, Canon, Frame, NotStrict, TooManyMessages, WritesOneOf, Counted}
 use Rattle.cap_words.specs.declared.ends.ByteOut as output
 use Rattle.cap_words.specs.declared.sources.WordSource as source
 

@@ -3,19 +3,19 @@
 use Rattle.cap_spec.specs.declared.CanonFault.TheVariants.{Memory}
 use Rattle.cap_spec.specs.declared.StrictRefusal.TheVariants.{Refused as bad}
 use Rattle.cap_spec.proofs.Lemmas.{all_back, one_copy, one_stream, strict_not_fault, within_not_refused}
-use Rattle.cap_spec.proofs.Prelude.{Err, IfErr, IfOk, List, Ok, Result, Some, [], ap, arith, false, length, refl, subst}
-use Rattle.cap_spec.proofs.Prelude.{sum, sym, ℕ, ◌++◌, ◌∙◌, ◌∷◌, ◌≡◌, ◌≤◌, length-map, AllByRecursion, HasCopy, Stream}
-use Rattle.cap_spec.proofs.Prelude.{frame_text, sizes_of}
+use Rattle.cap_spec.proofs.ProofNames.{Err, IfErr, IfOk, List, Ok, Result, Some, [], ap, arith, false, length, refl, subst}
+use Rattle.cap_spec.proofs.ProofNames.{sum, sym, ℕ, ◌++◌, ◌∙◌, ◌∷◌, ◌≡◌, ◌≤◌, length-map, AllByRecursion, HasCopy, Stream}
+use Rattle.cap_spec.proofs.ProofNames.{frame_text, sizes_of}
 use Rattle.cap_frame.proofs.Converse.{same_some}
 use Rattle.cap_vet.specs.Demands.{words_under}
 use Rattle.cap_canon.proofs.Copies.{cap_no_copy}
 use Rattle.cap_text.specs.declared.fault.Cause.TheVariants.{Output, Refused, Memory as no_marks}
 use Rattle.cap_run.specs.Canons.{CanonStops}
 use Rattle.cap_run.specs.Demanding.{IsNotStrict}
-use Rattle.cap_run.specs.Prelude.{HasCapability, StrictRefusal, ManySegments, Pointer, Demands, Cause, Canon, Frame}
-use Rattle.cap_run.specs.Prelude.{NotStrict, TooManyMessages, RunFault, AreCanonised, Canonised, IsCanonised}
-use Rattle.cap_run.specs.Prelude.{MakesCopiesUnder, canonised, copies_of, IsStrictUnder, Made, Settled, SettledAt}
-use Rattle.cap_run.specs.Prelude.{ReadsStream, ReadsToEnd, Finishes, Outcome}
+use Rattle.cap_run.specs.RunNames.{HasCapability, StrictRefusal, ManySegments, Pointer, Demands, Cause, Canon, Frame}
+use Rattle.cap_run.specs.RunNames.{NotStrict, TooManyMessages, RunFault, AreCanonised, Canonised, IsCanonised}
+use Rattle.cap_run.specs.RunNames.{MakesCopiesUnder, canonised, copies_of, IsStrictUnder, Made, Settled, SettledAt}
+use Rattle.cap_run.specs.RunNames.{ReadsStream, ReadsToEnd, Finishes, Outcome}
 use Rattle.cap_run.proofs.Settling.{none_faulted, none_over, on_known, reads_next}
 use Rattle.cap_run.proofs.Streams.{reads_all}
 use Rattle.cap_words.specs.declared.sinks.WordSink as sink

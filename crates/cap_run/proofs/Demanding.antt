@@ -1,12 +1,12 @@
 -- Demands by default, and texts and allocations that are among others.
-use Rattle.cap_spec.proofs.Prelude.{Bool, Err, List, Ok, Result, [], ap, arith, false, if◌then◌else◌, length, true, ℕ}
-use Rattle.cap_spec.proofs.Prelude.{◌+◌, ◌∙◌, ◌∷◌, ◌≡◌, ◌≤◌, unamplified}
+use Rattle.cap_spec.proofs.ProofNames.{Bool, Err, List, Ok, Result, [], ap, arith, false, if◌then◌else◌, length, true, ℕ}
+use Rattle.cap_spec.proofs.ProofNames.{◌+◌, ◌∙◌, ◌∷◌, ◌≡◌, ◌≤◌, unamplified}
 use Rattle.cap_vet.specs.Demands.{words_under}
 use Rattle.cap_text.specs.declared.fault.Cause.TheVariants.{Output, Refused, Memory as no_marks}
 use Rattle.cap_run.specs.Demanding.{no_demands}
-use Rattle.cap_run.specs.Prelude.{Demands, Cause, Canon, Frame, NotStrict, TooManyMessages, RunFault, OrFault}
-use Rattle.cap_run.specs.Prelude.{WantsUnder, ReachesEnd, StopsEarly, TellsStream, RunStops, Tells, TellsEach, Told}
-use Rattle.cap_run.specs.Prelude.{WantsNone, Counted, Outcome}
+use Rattle.cap_run.specs.RunNames.{Demands, Cause, Canon, Frame, NotStrict, TooManyMessages, RunFault, OrFault}
+use Rattle.cap_run.specs.RunNames.{WantsUnder, ReachesEnd, StopsEarly, TellsStream, RunStops, Tells, TellsEach, Told}
+use Rattle.cap_run.specs.RunNames.{WantsNone, Counted, Outcome}
 use Rattle.cap_run.proofs.Settling.{settled}
 use Rattle.cap_words.specs.declared.ends.ByteOut as output
 use Rattle.cap_words.specs.declared.sources.WordSource as source

@@ -3,8 +3,8 @@ use Rattle.cap_spec.specs.declared.Step.{Step}
 use Rattle.cap_spec.specs.declared.Refusal.{Refusal}
 use Rattle.cap_spec.specs.declared.StrictRefusal.{StrictRefusal}
 use Rattle.cap_spec.specs.declared.StrictRefusal.TheVariants.{Refused}
-use Rattle.cap_spec.proofs.Prelude.{List, Option, Some, ap, inr, subst, ℕ, ◌∙◌, ◌≡◌, IsWithin, IsFirstOverlap}
-use Rattle.cap_vet.specs.Prelude.{IsDemandFault, words_under, depth_of, words_of}
+use Rattle.cap_spec.proofs.ProofNames.{List, Option, Some, ap, inr, subst, ℕ, ◌∙◌, ◌≡◌, IsWithin, IsFirstOverlap}
+use Rattle.cap_vet.specs.VetNames.{IsDemandFault, words_under, depth_of, words_of}
 use Rattle.cap_vet.specs.declared.demands.Demands.{Demands}
 use Rattle.cap_vet.specs.declared.limits.Limits.{Limits}
 use Rattle.cap_explain.specs.Charges.{ChargeOf, fault_charge}

@@ -1,6 +1,6 @@
 -- How a filter ended that refused no message.
 use Rattle.std.proofs.Common.{Bool, List, [], ap, arith, inl, inr, refl, subst, ℕ, ◌++◌, ◌∙◌, ◌∷◌, ◌≡◌}
-use Rattle.cap_run.specs.Prelude.{ReadsUntil, ReadsToEnd, Told, messages_of, one_refused, refused_in, Counted}
+use Rattle.cap_run.specs.RunNames.{ReadsUntil, ReadsToEnd, Told, messages_of, one_refused, refused_in, Counted}
 use Rattle.cap_run.specs.declared.engines.stream.Counted.TheVariants.{Refused}
 use Rattle.cap_words.specs.declared.sources.WordSource as source
 

@@ -1,7 +1,7 @@
 -- What is told of the node at a path of an accepted message.
 use Rattle.std.proofs.Common.{IfNone}
-use Rattle.cap_spec.proofs.Prelude.{IfSome, List, MatchOption, None, Option, Some, subst, sym, ℕ, ◌≡◌, DenotesAt}
-use Rattle.cap_spec.proofs.Prelude.{get_text, Tree}
+use Rattle.cap_spec.proofs.ProofNames.{IfSome, List, MatchOption, None, Option, Some, subst, sym, ℕ, ◌≡◌, DenotesAt}
+use Rattle.cap_spec.proofs.ProofNames.{get_text, Tree}
 use Rattle.cap_vet.specs.Views.{node_message, node_spot}
 use Rattle.cap_vet.specs.declared.nodes.node.Node.{Node}
 use Rattle.cap_frame.specs.declared.segments.Segments as segments

@@ -5,9 +5,9 @@ use Rattle.std.proofs.KnownBytes.{Appends-nil, Appends-trans}
 use Rattle.cap_words.specs.declared.ends.OutFault.TheVariants.{Device, Memory, Spent}
 use Rattle.cap_text.specs.Writing.{Stopped, Wrote}
 use Rattle.cap_text.specs.declared.fault.Cause.TheVariants.{Output, Refused, Memory as no_marks}
-use Rattle.cap_run.specs.Prelude.{OutFault, Cause, Canon, Frame, NotStrict, TooManyMessages, Appended, RunStops}
-use Rattle.cap_run.specs.Prelude.{StepStops, StopsIn, ReadsStream, Tells, TellsEach, Told, messages_of}
-use Rattle.cap_run.specs.Prelude.{one_noncanonical, one_refused, outcome_of, texts_of, Counted, Outcome}
+use Rattle.cap_run.specs.RunNames.{OutFault, Cause, Canon, Frame, NotStrict, TooManyMessages, Appended, RunStops}
+use Rattle.cap_run.specs.RunNames.{StepStops, StopsIn, ReadsStream, Tells, TellsEach, Told, messages_of}
+use Rattle.cap_run.specs.RunNames.{one_noncanonical, one_refused, outcome_of, texts_of, Counted, Outcome}
 use Rattle.cap_run.proofs.Streams.{reads_both, reads_none}
 use Rattle.cap_run.proofs.Telling.{each-snoc, messages_of-snoc, noncanonical_in_le, outcome_of-snoc, refused_in_le}
 use Rattle.cap_run.proofs.Telling.{texts_of-snoc}

@@ -1,13 +1,13 @@
 -- Words that are read at once and handed to a sink.
-use Rattle.cap_spec.proofs.Prelude.{List, OnSome, Some, [], ap, arith, false, inl, inr, length, length-append, refl}
-use Rattle.cap_spec.proofs.Prelude.{take, true, ℕ, ◌++◌, ◌+◌, ◌∷◌, ◌≡◌, ◌≤◌, ◌⊎◌, Keeps, plain_text, plain_words}
+use Rattle.cap_spec.proofs.ProofNames.{List, OnSome, Some, [], ap, arith, false, inl, inr, length, length-append, refl}
+use Rattle.cap_spec.proofs.ProofNames.{take, true, ℕ, ◌++◌, ◌+◌, ◌∷◌, ◌≡◌, ◌≤◌, ◌⊎◌, Keeps, plain_text, plain_words}
 use Rattle.cap_words.specs.Ends.{Fails, WasSpent}
 use Rattle.cap_words.specs.Sinks.{sink_fault_of}
 use Rattle.cap_words.specs.TakingMany.{TakesAll}
 use Rattle.cap_words.specs.declared.sources.SourceFault.{SourceFault}
 use Rattle.cap_words.specs.declared.sources.SourceFault.TheVariants.{Device, Spent, Truncated}
 use Rattle.cap_run.specs.Handed.{HandsOver}
-use Rattle.cap_run.specs.Prelude.{OutFault, Transcodes, ReadsWords, StopsMidway}
+use Rattle.cap_run.specs.RunNames.{OutFault, Transcodes, ReadsWords, StopsMidway}
 use Rattle.cap_run.specs.Transcoding.{GivesNone}
 use Rattle.cap_run.proofs.Making.{halts_behind}
 use Rattle.cap_run.proofs.Transcoding.{fills_both, fills_none, gives_both, gives_none}

@@ -1,7 +1,7 @@
 -- A message of one segment, whose words are handed over in one piece.
 use Rattle.cap_spec.proofs.Bytes.Plain.{words_exact}
-use Rattle.cap_spec.proofs.Prelude.{List, [], ap, append-nil, arith, false, length, sym, ℕ, ◌*◌, ◌++◌, ◌+◌, ◌-◌, ◌/◌}
-use Rattle.cap_spec.proofs.Prelude.{◌^◌, ◌∙◌, ◌∷◌, ◌≡◌, frame_text, plain_words}
+use Rattle.cap_spec.proofs.ProofNames.{List, [], ap, append-nil, arith, false, length, sym, ℕ, ◌*◌, ◌++◌, ◌+◌, ◌-◌, ◌/◌}
+use Rattle.cap_spec.proofs.ProofNames.{◌^◌, ◌∙◌, ◌∷◌, ◌≡◌, frame_text, plain_words}
 use Rattle.cap_words.specs.Sinks.{WasPut}
 use Rattle.cap_run.specs.Transcoding.{PutsWords}
 use Rattle.cap_words.specs.declared.sinks.WordSink as sink

@@ -2,8 +2,8 @@
 use Rattle.std.proofs.Common.{Err, List, Ok, Result, [], subst, sym, ℕ, ◌∷◌, ◌≡◌}
 use Rattle.cap_text.specs.Writing.{Writes}
 use Rattle.cap_text.specs.declared.fault.Cause.TheVariants.{Output, Refused, Memory as no_marks}
-use Rattle.cap_run.specs.Prelude.{OutFault, Cause, Canon, Frame, NotStrict, TooManyMessages, StepStops, WritesOneOf}
-use Rattle.cap_run.specs.Prelude.{ReadsStream, Tells, Counted}
+use Rattle.cap_run.specs.RunNames.{OutFault, Cause, Canon, Frame, NotStrict, TooManyMessages, StepStops, WritesOneOf}
+use Rattle.cap_run.specs.RunNames.{ReadsStream, Tells, Counted}
 use Rattle.cap_run.specs.Running.{counted_after}
 use Rattle.cap_words.specs.declared.ends.ByteOut as output
 use Rattle.cap_words.specs.declared.sources.WordSource as source

@@ -4,9 +4,9 @@ use Rattle.cap_spec.specs.declared.CanonFault.{CanonFault}
 use Rattle.cap_spec.specs.declared.CanonFault.TheVariants.{Memory}
 use Rattle.cap_spec.specs.declared.StrictRefusal.TheVariants.{Refused as bad}
 use Rattle.cap_spec.proofs.Bytes.Lists.{all_append}
-use Rattle.cap_spec.proofs.Prelude.{Err, IfErr, List, Ok, OnOk, Result, [], ap, append-nil, append_assoc, arith, inr}
-use Rattle.cap_spec.proofs.Prelude.{length, length-append, refl, subst, sym, true, ℕ, ◌++◌, ◌+◌, ◌<◌, ◌∙◌, ◌∷◌, ◌≡◌}
-use Rattle.cap_spec.proofs.Prelude.{false≢true, map-append, frame_text}
+use Rattle.cap_spec.proofs.ProofNames.{Err, IfErr, List, Ok, OnOk, Result, [], ap, append-nil, append_assoc, arith, inr}
+use Rattle.cap_spec.proofs.ProofNames.{length, length-append, refl, subst, sym, true, ℕ, ◌++◌, ◌+◌, ◌<◌, ◌∙◌, ◌∷◌, ◌≡◌}
+use Rattle.cap_spec.proofs.ProofNames.{false≢true, map-append, frame_text}
 use Rattle.cap_words.specs.Sinks.{Begins, sink_fault_of}
 use Rattle.cap_words.proofs.Told.{begins_kept}
 use Rattle.cap_frame.specs.Putting.{Blames, Halts}
@@ -17,9 +17,9 @@ use Rattle.cap_canon.proofs.Copies.{cap_no_copy, same_fault}
 use Rattle.cap_text.specs.declared.fault.Cause.TheVariants.{Output, Refused, Memory as no_marks}
 use Rattle.cap_run.specs.Canons.{CanonEnds, HasNoCopy}
 use Rattle.cap_run.specs.Making.{CopiesSoFar, CopyStops, Making, NextStops, StopsMaking, is_unfinished, refused_cause}
-use Rattle.cap_run.specs.Prelude.{HasCapability, StrictRefusal, ManySegments, Pointer, OutFault, SinkFault, Demands}
-use Rattle.cap_run.specs.Prelude.{Cause, Canon, Frame, NotStrict, TooManyMessages, Canonised, IsCanonised, canonised}
-use Rattle.cap_run.specs.Prelude.{copies_of, Made, EndStops, EndsStream, ReadsStream, PutsWords}
+use Rattle.cap_run.specs.RunNames.{HasCapability, StrictRefusal, ManySegments, Pointer, OutFault, SinkFault, Demands}
+use Rattle.cap_run.specs.RunNames.{Cause, Canon, Frame, NotStrict, TooManyMessages, Canonised, IsCanonised, canonised}
+use Rattle.cap_run.specs.RunNames.{copies_of, Made, EndStops, EndsStream, ReadsStream, PutsWords}
 use Rattle.cap_run.proofs.Streams.{reads_both, reads_none}
 use Rattle.cap_run.proofs.Transcoding.{fills_both, fills_none, spoils_last}
 use Rattle.cap_words.specs.declared.sinks.WordSink as sink

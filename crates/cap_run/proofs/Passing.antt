@@ -2,11 +2,11 @@
 use Rattle.std.proofs.Common.{IsErrOf, OnErr}
 use Rattle.std.proofs.lemmas.Grind.{flat_map-append}
 use Rattle.cap_spec.proofs.Bytes.Plain.{length_plain}
-use Rattle.cap_spec.proofs.Prelude.{Bool, List, Ok, OnOk, Result, [], ap, append-nil, append_assoc, arith, drop}
-use Rattle.cap_spec.proofs.Prelude.{drop-cons, drop-drop, false, flat_map, if◌then◌else◌, length, refl, subst, suc, sym}
-use Rattle.cap_spec.proofs.Prelude.{take, take_at, true, ℕ, ◌++◌, ◌+◌, ◌-◌, ◌<◌, ◌==◌, ◌∙◌, ◌∷◌, ◌≡◌, ◌≤◌, take_rest}
-use Rattle.cap_spec.proofs.Prelude.{Appends, joined, paired, segment_of, table_of, pack_text, zero_bytes, plain_text}
-use Rattle.cap_spec.proofs.Prelude.{plain_words, word_bytes}
+use Rattle.cap_spec.proofs.ProofNames.{Bool, List, Ok, OnOk, Result, [], ap, append-nil, append_assoc, arith, drop}
+use Rattle.cap_spec.proofs.ProofNames.{drop-cons, drop-drop, false, flat_map, if◌then◌else◌, length, refl, subst, suc, sym}
+use Rattle.cap_spec.proofs.ProofNames.{take, take_at, true, ℕ, ◌++◌, ◌+◌, ◌-◌, ◌<◌, ◌==◌, ◌∙◌, ◌∷◌, ◌≡◌, ◌≤◌, take_rest}
+use Rattle.cap_spec.proofs.ProofNames.{Appends, joined, paired, segment_of, table_of, pack_text, zero_bytes, plain_text}
+use Rattle.cap_spec.proofs.ProofNames.{plain_words, word_bytes}
 use Rattle.cap_words.specs.Ends.{DeviceFails, GrowthFails, Works}
 use Rattle.cap_words.specs.declared.ends.OutFault.{OutFault}
 use Rattle.cap_words.specs.declared.ends.OutFault.TheVariants.{Device, Memory, Spent}

@@ -2,18 +2,18 @@
 use Rattle.cap_spec.specs.Endings.{none}
 use Rattle.cap_spec.proofs.Frames.Streams.{StreamNext, stream_front, stream_next}
 use Rattle.cap_spec.proofs.Lemmas.{all_back, one_stream}
-use Rattle.cap_spec.proofs.Prelude.{Bool, Err, List, None, Ok, OnSome, Option, Result, Some, [], ap, arith, false, inl}
-use Rattle.cap_spec.proofs.Prelude.{inr, length, length-append, subst, sum, sym, ℕ, ◌++◌, ◌∙◌, ◌∷◌, ◌≡◌, ◌≤◌, ◌⊎◌}
-use Rattle.cap_spec.proofs.Prelude.{Consumes, AllByRecursion, ⊤, BeginsMessage, message, Stream, sizes_of}
+use Rattle.cap_spec.proofs.ProofNames.{Bool, Err, List, None, Ok, OnSome, Option, Result, Some, [], ap, arith, false, inl}
+use Rattle.cap_spec.proofs.ProofNames.{inr, length, length-append, subst, sum, sym, ℕ, ◌++◌, ◌∙◌, ◌∷◌, ◌≡◌, ◌≤◌, ◌⊎◌}
+use Rattle.cap_spec.proofs.ProofNames.{Consumes, AllByRecursion, ⊤, BeginsMessage, message, Stream, sizes_of}
 use Rattle.cap_frame.specs.ReadingFaults.{Answered, Faults}
 use Rattle.cap_frame.specs.declared.fault.FrameFault.{FrameFault}
 use Rattle.cap_frame.specs.declared.fault.FrameFault.TheVariants.{Device, Memory, Spent, TooLarge, TooManySegments}
 use Rattle.cap_frame.specs.declared.fault.FrameFault.TheVariants.{Truncated}
 use Rattle.cap_frame.proofs.Converse.{known_still, same_some, tells_fault, settled as settled_by}
 use Rattle.cap_text.specs.declared.fault.Cause.TheVariants.{Output, Refused, Memory as no_marks}
-use Rattle.cap_run.specs.Prelude.{Cause, Canon, Frame, NotStrict, TooManyMessages, RunFault, ReachesEnd, StopsEarly}
-use Rattle.cap_run.specs.Prelude.{Appended, RunStops, Settled, SettledAt, ReadsStream, Tells, TellsEach, Told}
-use Rattle.cap_run.specs.Prelude.{messages_of, outcome_of, texts_of, Outcome}
+use Rattle.cap_run.specs.RunNames.{Cause, Canon, Frame, NotStrict, TooManyMessages, RunFault, ReachesEnd, StopsEarly}
+use Rattle.cap_run.specs.RunNames.{Appended, RunStops, Settled, SettledAt, ReadsStream, Tells, TellsEach, Told}
+use Rattle.cap_run.specs.RunNames.{messages_of, outcome_of, texts_of, Outcome}
 use Rattle.cap_run.proofs.Telling.{length-messages_of}
 use Rattle.cap_words.specs.declared.ends.ByteOut as output
 use Rattle.cap_words.specs.declared.sources.WordSource as source

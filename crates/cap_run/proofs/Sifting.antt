@@ -1,11 +1,11 @@
 -- How far the engine `run_filter` has come: the messages of a prefix of the stream were read and sifted.
 use Rattle.cap_spec.proofs.Lemmas.{all_append, one_stream}
-use Rattle.cap_spec.proofs.Prelude.{Bool, Err, IsTrue, List, None, Ok, Result, Some, [], ap, append-nil}
-use Rattle.cap_spec.proofs.Prelude.{append_assoc, arith, false, inl, inr, length, length-append, refl, subst, sum, sym}
-use Rattle.cap_spec.proofs.Prelude.{true, ℕ, ◌++◌, ◌+◌, ◌<◌, ◌∙◌, ◌∷◌, ◌≡◌, ◌≢◌, ◌≤◌, ◌⊎◌, Appends-trans, false≢true}
-use Rattle.cap_spec.proofs.Prelude.{AllByRecursion, Stream, sizes_of}
+use Rattle.cap_spec.proofs.ProofNames.{Bool, Err, IsTrue, List, None, Ok, Result, Some, [], ap, append-nil}
+use Rattle.cap_spec.proofs.ProofNames.{append_assoc, arith, false, inl, inr, length, length-append, refl, subst, sum, sym}
+use Rattle.cap_spec.proofs.ProofNames.{true, ℕ, ◌++◌, ◌+◌, ◌<◌, ◌∙◌, ◌∷◌, ◌≡◌, ◌≢◌, ◌≤◌, ◌⊎◌, Appends-trans, false≢true}
+use Rattle.cap_spec.proofs.ProofNames.{AllByRecursion, Stream, sizes_of}
 use Rattle.cap_frame.proofs.Converse.{same_some}
-use Rattle.cap_vet.specs.Prelude.{words_under, depth_of, words_of, IsAccepted}
+use Rattle.cap_vet.specs.VetNames.{words_under, depth_of, words_of, IsAccepted}
 use Rattle.cap_vet.specs.declared.limits.Limits.{Limits}
 use Rattle.cap_vet.specs.declared.report.Report.{Report}
 use Rattle.cap_text.specs.Lines.{accepted_text}
@@ -13,12 +13,12 @@ use Rattle.cap_text.specs.Writing.{Stopped, Wrote}
 use Rattle.cap_text.specs.declared.fault.Cause.TheVariants.{Output, Refused, Memory as no_marks}
 use Rattle.cap_run.specs.Filtering.{AllAccepted, Covers, FiltersAll, FiltersUntil, LastAccepted, LastRefused, Logged}
 use Rattle.cap_run.specs.Filtering.{Noted, Notes, PassesLast, TellsMet, WantsMet, frame_in}
-use Rattle.cap_run.specs.Prelude.{OutFault, Demands, Cause, Canon, Frame, NotStrict, TooManyMessages, RunFault}
-use Rattle.cap_run.specs.Prelude.{IsStrictUnder, OrFaultIn, WantsIn, PassesOn, ReadsUntil, TellsIn}
-use Rattle.cap_run.specs.Prelude.{WantsInForm, Appended, EndStops, RunStops, Settled, StopsIn, FindsObjection}
-use Rattle.cap_run.specs.Prelude.{SiftsNext, EndsStream, ReadsStream, Tells, TellsEach, Told}
-use Rattle.cap_run.specs.Prelude.{messages_of, one_noncanonical, one_refused, outcome_of, texts_of}
-use Rattle.cap_run.specs.Prelude.{Counted, Accepted, NotCanonical, Outcome}
+use Rattle.cap_run.specs.RunNames.{OutFault, Demands, Cause, Canon, Frame, NotStrict, TooManyMessages, RunFault}
+use Rattle.cap_run.specs.RunNames.{IsStrictUnder, OrFaultIn, WantsIn, PassesOn, ReadsUntil, TellsIn}
+use Rattle.cap_run.specs.RunNames.{WantsInForm, Appended, EndStops, RunStops, Settled, StopsIn, FindsObjection}
+use Rattle.cap_run.specs.RunNames.{SiftsNext, EndsStream, ReadsStream, Tells, TellsEach, Told}
+use Rattle.cap_run.specs.RunNames.{messages_of, one_noncanonical, one_refused, outcome_of, texts_of}
+use Rattle.cap_run.specs.RunNames.{Counted, Accepted, NotCanonical, Outcome}
 use Rattle.cap_run.specs.Sifting.{LogsMore, SiftStops, Sifts}
 use Rattle.cap_run.specs.declared.engines.stream.Counted.TheVariants.{Refused as was_refused}
 use Rattle.cap_run.specs.declared.settings.FilterForm.{FilterForm}

@@ -1,8 +1,8 @@
 -- The messages of a stream, read one after the other.
 use Rattle.cap_spec.proofs.Bytes.Lists.{all_append}
 use Rattle.cap_spec.proofs.Frames.Streams.{stream_append, stream_none, stream_one}
-use Rattle.cap_spec.proofs.Prelude.{Bool, List, None, OnSome, Option, Some, [], ap, append-nil, false, refl, subst, sum}
-use Rattle.cap_spec.proofs.Prelude.{sym, ℕ, ◌++◌, ◌∙◌, ◌∷◌, ◌≡◌, ◌≤◌, Consumes, sizes_of}
+use Rattle.cap_spec.proofs.ProofNames.{Bool, List, None, OnSome, Option, Some, [], ap, append-nil, false, refl, subst, sum}
+use Rattle.cap_spec.proofs.ProofNames.{sym, ℕ, ◌++◌, ◌∙◌, ◌∷◌, ◌≡◌, ◌≤◌, Consumes, sizes_of}
 use Rattle.cap_words.specs.Ends.{Works}
 use Rattle.cap_frame.specs.Reading.{TakesFrame}
 use Rattle.cap_frame.proofs.Taking.{takes_both, takes_none}

@@ -1,9 +1,9 @@
 -- What was told of messages, with one message more.
 use Rattle.std.proofs.lemmas.Grind.{flat_map-append}
-use Rattle.cap_spec.proofs.Prelude.{List, [], ap, append-nil, arith, length, length-append, refl, subst, suc, sym, ℕ}
-use Rattle.cap_spec.proofs.Prelude.{◌++◌, ◌+◌, ◌∙◌, ◌∷◌, ◌≡◌, ◌≤◌, map-append}
-use Rattle.cap_run.specs.Prelude.{TellsEach, Told, messages_of, noncanonical_in, one_noncanonical, one_refused}
-use Rattle.cap_run.specs.Prelude.{outcome_of, refused_in, texts_of, Counted, Accepted, NotCanonical, Outcome}
+use Rattle.cap_spec.proofs.ProofNames.{List, [], ap, append-nil, arith, length, length-append, refl, subst, suc, sym, ℕ}
+use Rattle.cap_spec.proofs.ProofNames.{◌++◌, ◌+◌, ◌∙◌, ◌∷◌, ◌≡◌, ◌≤◌, map-append}
+use Rattle.cap_run.specs.RunNames.{TellsEach, Told, messages_of, noncanonical_in, one_noncanonical, one_refused}
+use Rattle.cap_run.specs.RunNames.{outcome_of, refused_in, texts_of, Counted, Accepted, NotCanonical, Outcome}
 use Rattle.cap_run.specs.declared.engines.stream.Counted.TheVariants.{Refused}
 
 pub messages_of-snoc : (ts : List Told) (t : Told) → messages_of (ts ++ t ∷ []) ≡ messages_of ts ++ t.message ∷ []

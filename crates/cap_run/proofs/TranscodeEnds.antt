@@ -1,11 +1,11 @@
 -- What is known of the words of a source decides how a copy of them ends, faults of devices and of the output aside.
-use Rattle.cap_spec.proofs.Prelude.{Err, List, Ok, Option, Result, Some, [], ap, append-nil, append_assoc, arith, drop}
-use Rattle.cap_spec.proofs.Prelude.{drop-drop, false, length, length-append, refl, subst, suc, sym, take, true, ℕ, ◌++◌}
-use Rattle.cap_spec.proofs.Prelude.{◌+◌, ◌<◌, ◌∙◌, ◌∷◌, ◌≡◌, ◌≤◌, take-append_seam, Consumes}
+use Rattle.cap_spec.proofs.ProofNames.{Err, List, Ok, Option, Result, Some, [], ap, append-nil, append_assoc, arith, drop}
+use Rattle.cap_spec.proofs.ProofNames.{drop-drop, false, length, length-append, refl, subst, suc, sym, take, true, ℕ, ◌++◌}
+use Rattle.cap_spec.proofs.ProofNames.{◌+◌, ◌<◌, ◌∙◌, ◌∷◌, ◌≡◌, ◌≤◌, take-append_seam, Consumes}
 use Rattle.cap_words.specs.declared.sources.SourceFault.TheVariants.{Device, Spent, Truncated}
 use Rattle.cap_frame.proofs.Converse.{known_still, same_some}
 use Rattle.cap_text.specs.declared.fault.CopyFault.TheVariants.{Output}
-use Rattle.cap_run.specs.Prelude.{CopyFault, Source, TooManyWords, TranscodesWords, Finishes, Transcoded, TranscodesAll}
+use Rattle.cap_run.specs.RunNames.{CopyFault, Source, TooManyWords, TranscodesWords, Finishes, Transcoded, TranscodesAll}
 use Rattle.cap_run.specs.Transcoding.{TranscodeSettled, TranscodesMost, TranscodesUntil}
 use Rattle.cap_run.proofs.Settling.{on_known}
 use Rattle.cap_words.specs.declared.sources.WordSource as source

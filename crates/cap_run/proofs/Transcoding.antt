@@ -1,8 +1,8 @@
 -- Words that are read and put one after the other.
 use Rattle.std.proofs.KnownBytes.{Keeps-refl}
-use Rattle.cap_spec.proofs.Prelude.{Err, List, Ok, OnSome, Result, [], ap, append-nil, append_assoc, arith, false, inl}
-use Rattle.cap_spec.proofs.Prelude.{inr, length-append, refl, subst, sym, true, ℕ, ◌++◌, ◌+◌, ◌<◌, ◌∙◌, ◌∷◌, ◌≡◌, ◌⊎◌}
-use Rattle.cap_spec.proofs.Prelude.{Keeps-trans, false≢true, Consumes, Keeps}
+use Rattle.cap_spec.proofs.ProofNames.{Err, List, Ok, OnSome, Result, [], ap, append-nil, append_assoc, arith, false, inl}
+use Rattle.cap_spec.proofs.ProofNames.{inr, length-append, refl, subst, sym, true, ℕ, ◌++◌, ◌+◌, ◌<◌, ◌∙◌, ◌∷◌, ◌≡◌, ◌⊎◌}
+use Rattle.cap_spec.proofs.ProofNames.{Keeps-trans, false≢true, Consumes, Keeps}
 use Rattle.cap_words.specs.Ends.{DeviceFails, GrowthFails, WasSpent, Works}
 use Rattle.cap_words.specs.Sinks.{Begins, StoppedPutting, sink_fault_of}
 use Rattle.cap_words.specs.declared.sinks.SinkFault.TheVariants.{Device, Memory, Spent}
@@ -11,8 +11,8 @@ use Rattle.cap_frame.specs.Putting.{Blames, Halts}
 use Rattle.cap_frame.proofs.Putting.{blames_later}
 use Rattle.cap_frame.proofs.Taking.{takes_both, takes_none, takes_one}
 use Rattle.cap_text.specs.declared.fault.CopyFault.TheVariants.{Output}
-use Rattle.cap_run.specs.Prelude.{OutFault, SinkFault, CopyFault, Source, TooManyWords, Transcodes, Finishes, PutsWords}
-use Rattle.cap_run.specs.Prelude.{ReadsWords, StopsMidway, Transcoded}
+use Rattle.cap_run.specs.RunNames.{OutFault, SinkFault, CopyFault, Source, TooManyWords, Transcodes, Finishes, PutsWords}
+use Rattle.cap_run.specs.RunNames.{ReadsWords, StopsMidway, Transcoded}
 use Rattle.cap_run.specs.PuttingEnds.{StopsAt, StopsPutting, is_open}
 use Rattle.cap_run.specs.Transcoding.{Spoils, StopsFinishing}
 use Rattle.cap_run.proofs.Streams.{all_taken}

@@ -3,14 +3,14 @@
 use Rattle.std.specs.List.{AllByRecursion}
 use Rattle.std.specs.Prelude.{Err, IfErr, IfOk, List, Ok, Result, Some, [], false, flat_map, length, map, sum, ℕ, ◌++◌}
 use Rattle.std.specs.Prelude.{◌<◌, ◌∷◌, ◌≡◌, ◌≤◌, ◌⊎◌}
-use Rattle.cap_spec.specs.Prelude.{HasCopy, Stream, frame_text, sizes_of, IsFirstCap}
+use Rattle.cap_spec.specs.SpecNames.{HasCopy, Stream, frame_text, sizes_of, IsFirstCap}
 use Rattle.cap_spec.specs.declared.CanonFault.{CanonFault}
 use Rattle.cap_spec.specs.declared.CanonFault.TheVariants.{HasCapability, Memory}
 use Rattle.cap_spec.specs.declared.StrictRefusal.TheVariants.{Refused as bad}
 use Rattle.cap_words.specs.Sinks.{sink_fault_of}
 use Rattle.cap_words.specs.declared.ends.OutFault.{OutFault}
-use Rattle.cap_frame.specs.Prelude.{Halts, Faults}
-use Rattle.cap_vet.specs.Prelude.{IsDemandFault, words_under, IsAccepted}
+use Rattle.cap_frame.specs.FrameNames.{Halts, Faults}
+use Rattle.cap_vet.specs.VetNames.{IsDemandFault, words_under, IsAccepted}
 use Rattle.cap_vet.specs.declared.demands.Demands.{Demands}
 use Rattle.cap_vet.specs.declared.report.Report.{Report}
 use Rattle.cap_text.specs.declared.fault.Cause.{Cause}

@@ -1,10 +1,10 @@
 -- What may be written of a message that is vetted under demands (profile).
 use Rattle.std.specs.Prelude.{IsTrue, List, false, ℕ, ◌≡◌, ◌⊎◌}
-use Rattle.cap_spec.specs.Prelude.{IsDisjoint, IsStrict, strict_verdict, vet_text}
+use Rattle.cap_spec.specs.SpecNames.{IsDisjoint, IsStrict, strict_verdict, vet_text}
 use Rattle.cap_spec.specs.declared.Step.{Step}
 use Rattle.cap_spec.specs.declared.StrictRefusal.{StrictRefusal}
 use Rattle.cap_spec.specs.declared.StrictRefusal.TheVariants.{ManySegments, Pointer, Refused as bad}
-use Rattle.cap_vet.specs.Prelude.{IsDemandFault, words_under, depth_of, words_of}
+use Rattle.cap_vet.specs.VetNames.{IsDemandFault, words_under, depth_of, words_of}
 use Rattle.cap_vet.specs.declared.demands.Demands.{Demands}
 use Rattle.cap_vet.specs.declared.limits.Limits.{Limits}
 use Rattle.cap_run.specs.Checking.{TellsChecked}

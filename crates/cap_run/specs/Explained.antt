@@ -1,8 +1,8 @@
 -- What may be written of a message whose refusal is explained (profile).
 use Rattle.std.specs.Prelude.{List, Option, Some, codes, ℕ, ◌*◌, ◌++◌, ◌≡◌, ◌⊎◌}
-use Rattle.cap_spec.specs.Prelude.{IsDisjoint, IsFirstOverlap, refused, strict_verdict, vet_text}
+use Rattle.cap_spec.specs.SpecNames.{IsDisjoint, IsFirstOverlap, refused, strict_verdict, vet_text}
 use Rattle.cap_spec.specs.declared.StrictRefusal.{StrictRefusal}
-use Rattle.cap_vet.specs.Prelude.{IsDemandFault, words_under, depth_of, words_of, IsAccepted}
+use Rattle.cap_vet.specs.VetNames.{IsDemandFault, words_under, depth_of, words_of, IsAccepted}
 use Rattle.cap_vet.specs.declared.demands.Demands.{Demands}
 use Rattle.cap_vet.specs.declared.limits.Limits.{Limits}
 use Rattle.cap_vet.specs.declared.report.Report.{Report}

@@ -3,7 +3,7 @@
 use Rattle.std.specs.List.{AllByRecursion}
 use Rattle.std.specs.Prelude.{Bool, IfErr, IfOk, IsTrue, List, Ok, Result, Some, [], false, length, sum, true, ℕ, ◌++◌}
 use Rattle.std.specs.Prelude.{◌∷◌, ◌≡◌, ◌≤◌, ◌⊎◌}
-use Rattle.cap_spec.specs.Prelude.{Stream, frame_text, sizes_of, packed_frame, plain_text}
+use Rattle.cap_spec.specs.SpecNames.{Stream, frame_text, sizes_of, packed_frame, plain_text}
 use Rattle.cap_words.specs.declared.ends.OutFault.{OutFault}
 use Rattle.cap_frame.specs.Limit.{limit_of}
 use Rattle.cap_vet.specs.declared.demands.Demands.{Demands}

@@ -17,4 +17,4 @@ pub mod Sifting
 pub mod Streams
 pub mod Telling
 pub mod Vetting
-pub mod Prelude
+pub mod RunNames

@@ -5,8 +5,8 @@ use Rattle.cap_spec.specs.Frames.{frame_text}
 use Rattle.cap_spec.specs.declared.StrictRefusal.{StrictRefusal}
 use Rattle.cap_spec.specs.declared.StrictRefusal.TheVariants.{ManySegments, Pointer, Refused as bad}
 use Rattle.cap_words.specs.Sinks.{sink_fault_of}
-use Rattle.cap_frame.specs.Prelude.{Halts, Faults}
-use Rattle.cap_vet.specs.Prelude.{IsDemandFault, words_under, IsAccepted}
+use Rattle.cap_frame.specs.FrameNames.{Halts, Faults}
+use Rattle.cap_vet.specs.VetNames.{IsDemandFault, words_under, IsAccepted}
 use Rattle.cap_vet.specs.declared.demands.Demands.{Demands}
 use Rattle.cap_vet.specs.declared.report.Report.{Report}
 use Rattle.cap_text.specs.declared.fault.Cause.{Cause}

@@ -1,6 +1,6 @@
 -- What may be written of a message that is vetted (profile).
 use Rattle.std.specs.Prelude.{List, codes, ℕ, ◌++◌, ◌≡◌}
-use Rattle.cap_spec.specs.Prelude.{IsFirstOverlap, refused, vet_text, Tree, node_at}
+use Rattle.cap_spec.specs.SpecNames.{IsFirstOverlap, refused, vet_text, Tree, node_at}
 use Rattle.cap_spec.specs.Texts.{dump_text, get_text}
 use Rattle.cap_spec.specs.declared.Step.{Step}
 use Rattle.cap_vet.specs.Reports.{IsAccepted, IsReport}

@@ -2,10 +2,10 @@
 use Rattle.std.specs.Fmt.{digits}
 use Rattle.cap_spec.specs.ObjectShapes.{is_struct}
 use Rattle.cap_spec.specs.Tree.{none}
-use Rattle.cap_spec.proofs.Prelude.{[], arith, codes, lit<, lit≤, refl, replicate, true, ◌++◌, ◌∷◌, ◌≡◌, layout, trim}
-use Rattle.cap_spec.proofs.Prelude.{Denotes, two_pads, Frames, frame_text, packed_ends, pack_text, IsBadAt, IsPath}
-use Rattle.cap_spec.proofs.Prelude.{scalar_words, accepted, dump_text, segments_text, vet_text, more, null, scalars}
-use Rattle.cap_spec.proofs.Prelude.{struct, structs, packed_is_cut, unpacked, Item, Ptr}
+use Rattle.cap_spec.proofs.ProofNames.{[], arith, codes, lit<, lit≤, refl, replicate, true, ◌++◌, ◌∷◌, ◌≡◌, layout, trim}
+use Rattle.cap_spec.proofs.ProofNames.{Denotes, two_pads, Frames, frame_text, packed_ends, pack_text, IsBadAt, IsPath}
+use Rattle.cap_spec.proofs.ProofNames.{scalar_words, accepted, dump_text, segments_text, vet_text, more, null, scalars}
+use Rattle.cap_spec.proofs.ProofNames.{struct, structs, packed_is_cut, unpacked, Item, Ptr}
 
 -- two words, each by the bytes that aren't zero
 pack-marked : pack_text (0x0002000300000008 ∷ 0x000001aa00000019 ∷ []) ≡ 0x51 ∷ 8 ∷ 3 ∷ 2 ∷ 0x31 ∷ 0x19 ∷ 0xaa ∷ 1 ∷ []

@@ -9,5 +9,5 @@ pub mod Verdicts
 pub mod Canonical
 pub mod Disjoint
 pub mod Strict
-pub mod Prelude
+pub mod ProofNames
 pub mod Lemmas

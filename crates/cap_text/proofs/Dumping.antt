@@ -4,14 +4,14 @@ use Rattle.cap_spec.specs.Texts.{all_lines, child_lines}
 use Rattle.cap_spec.specs.Tree.{none}
 use Rattle.cap_spec.specs.declared.Step.{Step}
 use Rattle.cap_spec.proofs.Pointers.Shapes.{structs_levels}
-use Rattle.cap_spec.proofs.Prelude.{List, None, Result, Some, [], ap, arith, codes, inl, inr, refl, subst, suc, sym}
-use Rattle.cap_spec.proofs.Prelude.{zero, ℕ, ◌++◌, ◌+◌, ◌<◌, ◌∙◌, ◌≡◌, ◌≤◌, eqb_tells, AreElements, DenoteEach, Denotes}
-use Rattle.cap_spec.proofs.Prelude.{element_levels, ReachesSpot, Spot, word}
-use Rattle.cap_spec.proofs.Prelude.{Own, kind_of, own_of, DenotesAt, dump_text, label, own_text, Tree, Trees, cap, more}
-use Rattle.cap_spec.proofs.Prelude.{null, part_at, pointers, scalars, struct, structs, tree_at, tree_count}
+use Rattle.cap_spec.proofs.ProofNames.{List, None, Result, Some, [], ap, arith, codes, inl, inr, refl, subst, suc, sym}
+use Rattle.cap_spec.proofs.ProofNames.{zero, ℕ, ◌++◌, ◌+◌, ◌<◌, ◌∙◌, ◌≡◌, ◌≤◌, eqb_tells, AreElements, DenoteEach, Denotes}
+use Rattle.cap_spec.proofs.ProofNames.{element_levels, ReachesSpot, Spot, word}
+use Rattle.cap_spec.proofs.ProofNames.{Own, kind_of, own_of, DenotesAt, dump_text, label, own_text, Tree, Trees, cap, more}
+use Rattle.cap_spec.proofs.ProofNames.{null, part_at, pointers, scalars, struct, structs, tree_at, tree_count}
 use Rattle.cap_text.specs.Dumping.{child_letter_of, child_step_of, height, heights, shown_below, shown_count_of}
 use Rattle.cap_text.specs.Dumping.{trees_from}
-use Rattle.cap_text.specs.Prelude.{Kind, OutFault, Added, Adds, Halted}
+use Rattle.cap_text.specs.TextNames.{Kind, OutFault, Added, Adds, Halted}
 use Rattle.cap_text.proofs.Paging.{Left, added_then, adds_then, halted_more, halted_then, left_done, left_start}
 use Rattle.cap_text.proofs.Paging.{left_step, left_stop}
 use Rattle.cap_words.specs.declared.ends.ByteOut as output

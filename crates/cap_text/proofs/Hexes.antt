@@ -1,8 +1,8 @@
 -- The digits of a word's bytes, as the crate `hex` writes them.
 use Rattle.hex.specs.Hex.{encode_lower, lower_digits, encode_with}
-use Rattle.cap_spec.proofs.Prelude.{List, [], ap, arith, eqb, eqb-true, flat_map, length, length-append, refl}
-use Rattle.cap_spec.proofs.Prelude.{slice_index, take, true, ℕ, ◌%◌, ◌++◌, ◌+◌, ◌/◌, ◌<◌, ◌∙◌, ◌∷◌, ◌≡◌, ◌≤◌}
-use Rattle.cap_spec.proofs.Prelude.{agree_below_at, take-put_mid, Each1, put_mid, word_bytes, hex, hex_digit}
+use Rattle.cap_spec.proofs.ProofNames.{List, [], ap, arith, eqb, eqb-true, flat_map, length, length-append, refl}
+use Rattle.cap_spec.proofs.ProofNames.{slice_index, take, true, ℕ, ◌%◌, ◌++◌, ◌+◌, ◌/◌, ◌<◌, ◌∙◌, ◌∷◌, ◌≡◌, ◌≤◌}
+use Rattle.cap_spec.proofs.ProofNames.{agree_below_at, take-put_mid, Each1, put_mid, word_bytes, hex, hex_digit}
 
 one_digit : (h : ℕ) → h < 16 → slice_index lower_digits h ≡ hex_digit h
 one_digit h l = eqb-true _ _ (agree_below_at (λ k. eqb (slice_index lower_digits k) (hex_digit k)) (λ k. true) 16 h refl l)

@@ -8,7 +8,7 @@ use Rattle.cap_spec.specs.Tree.{Tree, cap, null, pointers, scalars, struct, stru
 use Rattle.cap_spec.specs.declared.Kind.TheVariants.{Scalars, Struct}
 use Rattle.cap_spec.proofs.Canonical.Placing.{rest_at}
 use Rattle.cap_text.specs.Dumping.{head_of}
-use Rattle.cap_text.specs.Prelude.{Kind, OutFault, word_letter_of, Added, Adds, Halted}
+use Rattle.cap_text.specs.TextNames.{Kind, OutFault, word_letter_of, Added, Adds, Halted}
 use Rattle.cap_text.proofs.Paging.{Left, adds_then, left_done, left_step, left_stop}
 use Rattle.cap_words.specs.declared.ends.ByteOut as output
 

@@ -1,7 +1,7 @@
 -- How many digits a number has.
-use Rattle.cap_spec.proofs.Prelude.{List, ap, arith, decimal, drop, length, length-append, sym, take, take-add, ℕ, ◌++◌}
-use Rattle.cap_spec.proofs.Prelude.{◌+◌, ◌/◌, ◌<◌, ◌^◌, ◌∙◌, ◌≡◌, ◌≤◌, take-append_seam, decimal_digit, decimal_step}
-use Rattle.cap_spec.proofs.Prelude.{length-decimal-le}
+use Rattle.cap_spec.proofs.ProofNames.{List, ap, arith, decimal, drop, length, length-append, sym, take, take-add, ℕ, ◌++◌}
+use Rattle.cap_spec.proofs.ProofNames.{◌+◌, ◌/◌, ◌<◌, ◌^◌, ◌∙◌, ◌≡◌, ◌≤◌, take-append_seam, decimal_digit, decimal_step}
+use Rattle.cap_spec.proofs.ProofNames.{length-decimal-le}
 
 -- a number of one digit is one digit long
 pub length-decimal_digit : (n : ℕ) → n < 10 → length (decimal n) ≡ 1

@@ -1,7 +1,7 @@
 -- Texts that are put on a page one after the other.
 use Rattle.std.proofs.Common.{Err, List, Ok, Result, [], ap, append-nil, append_assoc, inl, inr, refl, subst, sym, ℕ}
 use Rattle.std.proofs.Common.{◌++◌, ◌∙◌, ◌≡◌, ◌⊎◌}
-use Rattle.cap_text.specs.Prelude.{OutFault, Added, Adds, Halted, Stopped, Writes, Wrote}
+use Rattle.cap_text.specs.TextNames.{OutFault, Added, Adds, Halted, Stopped, Writes, Wrote}
 use Rattle.cap_text.proofs.Writing.{stopped_more, stopped_then, writes_then, wrote_then}
 use Rattle.cap_words.specs.declared.ends.ByteOut as output
 

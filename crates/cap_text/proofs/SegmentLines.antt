@@ -1,6 +1,6 @@
 -- The sizes of a message's segments one by one, and the text that they make.
-use Rattle.cap_spec.proofs.Prelude.{List, add-one, ap, codes, drop, drop-cons, get_or, length, refl, subst, ℕ, ◌++◌}
-use Rattle.cap_spec.proofs.Prelude.{◌+◌, ◌<◌, ◌∷◌, ◌≡◌, line, outline_text, segment_lines, segments_text, then_number}
+use Rattle.cap_spec.proofs.ProofNames.{List, add-one, ap, codes, drop, drop-cons, get_or, length, refl, subst, ℕ, ◌++◌}
+use Rattle.cap_spec.proofs.ProofNames.{◌+◌, ◌<◌, ◌∷◌, ◌≡◌, line, outline_text, segment_lines, segments_text, then_number}
 use Rattle.cap_frame.specs.Outlines.{Outlines, root_in, sizes_in}
 use Rattle.cap_frame.specs.declared.outline.Outline.{Outline}
 use Rattle.cap_text.specs.Paging.{Added}

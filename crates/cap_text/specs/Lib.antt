@@ -4,4 +4,4 @@ pub mod BreakLines
 pub mod Lines
 pub mod Paging
 pub mod Writing
-pub mod Prelude
+pub mod TextNames

@@ -1,11 +1,11 @@
 -- The branches on the way down to a word, the last of them and the next word.
-use Rattle.cap_spec.proofs.Prelude.{List, Some, [], ap, append-nil, append_assoc, ap₂, arith, get_or, length, refl, subst, suc}
-use Rattle.cap_spec.proofs.Prelude.{sym, zero, ℕ, ◌*◌, ◌++◌, ◌+◌, ◌-◌, ◌<◌, ◌∙◌, ◌∷◌, ◌≡◌, ◌≤◌, segment_of}
+use Rattle.cap_spec.proofs.ProofNames.{List, Some, [], ap, append-nil, append_assoc, ap₂, arith, get_or, length, refl, subst, suc}
+use Rattle.cap_spec.proofs.ProofNames.{sym, zero, ℕ, ◌*◌, ◌++◌, ◌+◌, ◌-◌, ◌<◌, ◌∙◌, ◌∷◌, ◌≡◌, ◌≤◌, segment_of}
 use Rattle.cap_vet.specs.Trails.{Ahead, element_rows}
 use Rattle.cap_trace.specs.Branches.{path_from, words_of_object}
-use Rattle.cap_trace.specs.Prelude.{Step, Item, Ptr, AreBranches, IsBranch, IsCounted, path_of, rest_from, rest_of}
-use Rattle.cap_trace.specs.Prelude.{skipped, steps_of, word_of, word_ahead, Branch, Form, Pointers, Root, Struct}
-use Rattle.cap_trace.specs.Prelude.{Structs}
+use Rattle.cap_trace.specs.TraceNames.{Step, Item, Ptr, AreBranches, IsBranch, IsCounted, path_of, rest_from, rest_of}
+use Rattle.cap_trace.specs.TraceNames.{skipped, steps_of, word_of, word_ahead, Branch, Form, Pointers, Root, Struct}
+use Rattle.cap_trace.specs.TraceNames.{Structs}
 
 -- the path over one more branch
 pub path_from-last : (base : List Step) (fs : List Branch) (f : Branch)

@@ -1,13 +1,13 @@
 -- A search comes to the pointer words of a message one after the other.
 use Rattle.cap_spec.proofs.Lemmas.{HasWord-inside, Before-asymmetric, Before-irreflexive, one_reached, one_of_last}
-use Rattle.cap_spec.proofs.Prelude.{List, Some, [], ap, arith, inl, inr, length, length-append, refl, subst, sym, ℕ}
-use Rattle.cap_spec.proofs.Prelude.{◌++◌, ◌+◌, ◌<◌, ◌∙◌, ◌∷◌, ◌≡◌, ◌≤◌, ◌⊎◌, IsOneOf, segment_of, Before, IsNumbered}
-use Rattle.cap_spec.proofs.Prelude.{IsTour, PathLeads, Reaches, Spot, StepsTo, element, level_of, word}
+use Rattle.cap_spec.proofs.ProofNames.{List, Some, [], ap, arith, inl, inr, length, length-append, refl, subst, sym, ℕ}
+use Rattle.cap_spec.proofs.ProofNames.{◌++◌, ◌+◌, ◌<◌, ◌∙◌, ◌∷◌, ◌≡◌, ◌≤◌, ◌⊎◌, IsOneOf, segment_of, Before, IsNumbered}
+use Rattle.cap_spec.proofs.ProofNames.{IsTour, PathLeads, Reaches, Spot, StepsTo, element, level_of, word}
 use Rattle.cap_vet.specs.Trails.{IsTrail}
 use Rattle.cap_vet.proofs.OneTrail.{root_trail}
 use Rattle.cap_trace.specs.Branches.{root_branch}
-use Rattle.cap_trace.specs.Prelude.{Step, AreBranches, path_of, rest_from, IsTraceable, PassesAt, HasCome, IsBlockedAt}
-use Rattle.cap_trace.specs.Prelude.{TellsPath, filled, word_ahead, Branch}
+use Rattle.cap_trace.specs.TraceNames.{Step, AreBranches, path_of, rest_from, IsTraceable, PassesAt, HasCome, IsBlockedAt}
+use Rattle.cap_trace.specs.TraceNames.{TellsPath, filled, word_ahead, Branch}
 use Rattle.cap_trace.proofs.Branches.{branches_without}
 use Rattle.cap_trace.proofs.Numbering.{number_order}
 use Rattle.cap_trace.proofs.Onward.{next_tour, root_tour, up_to_last}

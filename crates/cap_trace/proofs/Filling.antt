@@ -2,7 +2,7 @@
 use Rattle.std.proofs.Common.{List, None, Option, Some, [], ap, arith, get_or, length, length-append, option_to_list}
 use Rattle.std.proofs.Common.{refl, set, suc, sym, take, zero, ℕ, ◌++◌, ◌+◌, ◌<◌, ◌∙◌, ◌∷◌, ◌≡◌, ◌≤◌}
 use Rattle.std.proofs.lemmas.List.{take_more}
-use Rattle.cap_trace.specs.Prelude.{Step, path_of, steps_of, filled, Branch}
+use Rattle.cap_trace.specs.TraceNames.{Step, path_of, steps_of, filled, Branch}
 use Rattle.cap_trace.proofs.Branches.{path_from-last}
 
 take_none : (n : ℕ) → ◌≡◌ {A = List Step} (take n []) []

@@ -1,9 +1,9 @@
 -- A search goes on past words with nothing below them.
 use Rattle.cap_spec.proofs.Pointers.Following.{cap-not_wrong, null-not_wrong}
-use Rattle.cap_spec.proofs.Prelude.{List, None, [], arith, refl, subst, ℕ, ◌++◌, ◌+◌, ◌<◌, ◌∷◌, ◌≡◌, Leads, near}
-use Rattle.cap_spec.proofs.Prelude.{to_cap, to_null, HasWord}
+use Rattle.cap_spec.proofs.ProofNames.{List, None, [], arith, refl, subst, ℕ, ◌++◌, ◌+◌, ◌<◌, ◌∷◌, ◌≡◌, Leads, near}
+use Rattle.cap_spec.proofs.ProofNames.{to_cap, to_null, HasWord}
 use Rattle.cap_vet.specs.Trails.{Ahead, IsTrail}
-use Rattle.cap_trace.specs.Prelude.{path_of, rest_from, skipped, GoesBelow, HasCome, Object, Branch}
+use Rattle.cap_trace.specs.TraceNames.{path_of, rest_from, skipped, GoesBelow, HasCome, Object, Branch}
 use Rattle.cap_trace.proofs.Branches.{branch_in_row, branches_with, branches_without, next_in_row, went_next}
 use Rattle.cap_trace.proofs.Coming.{came_next}
 use Rattle.cap_trace.proofs.Onward.{cap_finds_none, leaf_trail, null_finds_none}

@@ -2,8 +2,8 @@
 use Rattle.cap_spec.specs.declared.Step.{Step}
 use Rattle.cap_spec.proofs.Paths.Preorder.{Before-irreflexive, Before-total_coming, Before-trans, Rises-first}
 use Rattle.cap_spec.proofs.Paths.Preorder.{Rises-rest, one_number}
-use Rattle.cap_spec.proofs.Prelude.{List, [], arith, inl, inr, length, length-append, refl, subst, sym, ℕ, ◌++◌, ◌<◌}
-use Rattle.cap_spec.proofs.Prelude.{◌∷◌, ◌≡◌, ◌≤◌, ◌⊎◌, IsOneOf, Before, IsNumbered, Reaches, Rises, word}
+use Rattle.cap_spec.proofs.ProofNames.{List, [], arith, inl, inr, length, length-append, refl, subst, sym, ℕ, ◌++◌, ◌<◌}
+use Rattle.cap_spec.proofs.ProofNames.{◌∷◌, ◌≡◌, ◌≤◌, ◌⊎◌, IsOneOf, Before, IsNumbered, Reaches, Rises, word}
 use Rattle.cap_spec.proofs.Verdicts.OneFault.{one_of_last}
 
 -- A rising list of some of the paths of another isn't longer than that.

@@ -1,14 +1,14 @@
 -- The first pointer word of an object, as a branch.
 use Rattle.cap_spec.proofs.Lemmas.{one_word, short_segment, extent_structs, one_object}
-use Rattle.cap_spec.proofs.Prelude.{Fits, List, [], ap, append_assoc, arith, inl, inr, length, refl, subst, suc, sym}
-use Rattle.cap_spec.proofs.Prelude.{w32, zero, ℕ, ◌*◌, ◌++◌, ◌+◌, ◌-◌, ◌<◌, ◌^◌, ◌∙◌, ◌∷◌, ◌≡◌, ◌≤◌, ◌⊎◌, eqb_tells}
-use Rattle.cap_spec.proofs.Prelude.{element_levels, IsComposite, TagFits, HasWord, IsMessage, segment_of, code}
-use Rattle.cap_spec.proofs.Prelude.{data_size, list_size, middle, pointer_size, IsDeepAt, levels_below}
+use Rattle.cap_spec.proofs.ProofNames.{Fits, List, [], ap, append_assoc, arith, inl, inr, length, refl, subst, suc, sym}
+use Rattle.cap_spec.proofs.ProofNames.{w32, zero, ℕ, ◌*◌, ◌++◌, ◌+◌, ◌-◌, ◌<◌, ◌^◌, ◌∙◌, ◌∷◌, ◌≡◌, ◌≤◌, ◌⊎◌, eqb_tells}
+use Rattle.cap_spec.proofs.ProofNames.{element_levels, IsComposite, TagFits, HasWord, IsMessage, segment_of, code}
+use Rattle.cap_spec.proofs.ProofNames.{data_size, list_size, middle, pointer_size, IsDeepAt, levels_below}
 use Rattle.cap_ptr.specs.Shapes.{FindsObject, FindsTargetBy, IsShape}
 use Rattle.cap_ptr.specs.declared.shapes.Shape.{Shape}
 use Rattle.cap_ptr.specs.declared.shapes.Target.{Target}
-use Rattle.cap_vet.specs.Prelude.{levels_of, object_children, Ahead, element_rows}
-use Rattle.cap_trace.specs.Prelude.{Step, Item, Ptr, IsBranch, rest_of, word_of, Pointers, Struct, Structs}
+use Rattle.cap_vet.specs.VetNames.{levels_of, object_children, Ahead, element_rows}
+use Rattle.cap_trace.specs.TraceNames.{Step, Item, Ptr, IsBranch, rest_of, word_of, Pointers, Struct, Structs}
 use Rattle.cap_trace.proofs.Branches.{branch}
 use Rattle.cap_ptr.specs.declared.shapes.Shape.TheVariants as shape
 

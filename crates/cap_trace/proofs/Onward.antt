@@ -2,12 +2,12 @@
 use Rattle.cap_spec.proofs.Lemmas.{HasWord-at, Before-asymmetric, Before-irreflexive, Before-trans, comes_beyond}
 use Rattle.cap_spec.proofs.Lemmas.{one_lead, one_of_last}
 use Rattle.cap_spec.proofs.Paths.Preorder.{Before-longer}
-use Rattle.cap_spec.proofs.Prelude.{List, [], append-nil, inl, inr, length, pos, refl, subst, sym, ℕ, ◌++◌, ◌<◌, ◌∙◌}
-use Rattle.cap_spec.proofs.Prelude.{◌∷◌, ◌≡◌, ◌⊎◌, Finds, Leads, to_cap, to_null, to_object, IsOneOf, segment_of}
-use Rattle.cap_spec.proofs.Prelude.{Before, IsTour, Reaches, Spot, StepsTo, word}
+use Rattle.cap_spec.proofs.ProofNames.{List, [], append-nil, inl, inr, length, pos, refl, subst, sym, ℕ, ◌++◌, ◌<◌, ◌∙◌}
+use Rattle.cap_spec.proofs.ProofNames.{◌∷◌, ◌≡◌, ◌⊎◌, Finds, Leads, to_cap, to_null, to_object, IsOneOf, segment_of}
+use Rattle.cap_spec.proofs.ProofNames.{Before, IsTour, Reaches, Spot, StepsTo, word}
 use Rattle.cap_spec.proofs.Verdicts.OneFault.{last_is_one}
 use Rattle.cap_vet.specs.Trails.{Ahead, Apart, EachApart, Falls, IsTrail, IsUnder, Precedes}
-use Rattle.cap_trace.specs.Prelude.{Step, Item, Ptr}
+use Rattle.cap_trace.specs.TraceNames.{Step, Item, Ptr}
 use Rattle.cap_trace.proofs.Numbering.{Rises-last, before_later}
 
 -- paths that are apart are in order

@@ -1,17 +1,17 @@
 -- The first pointer word of an object that one word describes alone.
 use Rattle.cap_spec.proofs.Lemmas.{leads-near, object-not_wrong, one_object}
-use Rattle.cap_spec.proofs.Prelude.{List, None, Some, [], ap, arith, false, inl, inr, ne_eqb, pos, refl, subst, suc}
-use Rattle.cap_spec.proofs.Prelude.{sym, zero, ℕ, ◌++◌, ◌+◌, ◌-◌, ◌<◌, ◌==◌, ◌∙◌, ◌∷◌, ◌≡◌, ◌≤◌, Finds, IsComposite, to_object}
-use Rattle.cap_spec.proofs.Prelude.{HasWord, code, data_size, kind, list_size, pointer_size, levels_below}
+use Rattle.cap_spec.proofs.ProofNames.{List, None, Some, [], ap, arith, false, inl, inr, ne_eqb, pos, refl, subst, suc}
+use Rattle.cap_spec.proofs.ProofNames.{sym, zero, ℕ, ◌++◌, ◌+◌, ◌-◌, ◌<◌, ◌==◌, ◌∙◌, ◌∷◌, ◌≡◌, ◌≤◌, Finds, IsComposite, to_object}
+use Rattle.cap_spec.proofs.ProofNames.{HasWord, code, data_size, kind, list_size, pointer_size, levels_below}
 use Rattle.cap_ptr.specs.Rows.{FindsRow, HasPointers}
 use Rattle.cap_ptr.specs.declared.near.Row.{Row}
 use Rattle.cap_ptr.proofs.NearObjects.{pointers-plain}
-use Rattle.cap_vet.specs.Prelude.{object_children, Ahead, IsTrail}
+use Rattle.cap_vet.specs.VetNames.{object_children, Ahead, IsTrail}
 use Rattle.cap_vet.proofs.OneTrail.{object_trail}
 use Rattle.cap_trace.specs.NearPointers.{IsNearPointer}
-use Rattle.cap_trace.specs.Prelude.{Step, IsBranch, rest_of, word_of, PassesAt, GoesBelow, IsBlockedAt, Object, Branch}
+use Rattle.cap_trace.specs.TraceNames.{Step, IsBranch, rest_of, word_of, PassesAt, GoesBelow, IsBlockedAt, Object, Branch}
 use Rattle.cap_trace.specs.Branches.{first_branch}
-use Rattle.cap_trace.specs.Prelude.{Pointers, Struct}
+use Rattle.cap_trace.specs.TraceNames.{Pointers, Struct}
 use Rattle.cap_trace.specs.declared.near.NearPointer.{NearPointer}
 
 -- such an object takes no levels below its own

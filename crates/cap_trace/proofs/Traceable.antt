@@ -2,12 +2,12 @@
 use Rattle.cap_spec.specs.declared.Reason.{Reason}
 use Rattle.cap_spec.proofs.Lemmas.{Before-irreflexive, one_reached, kept_before, fault_tour, one_of_last}
 use Rattle.cap_spec.proofs.Lemmas.{paths_within_depth, reached_not_wrong}
-use Rattle.cap_spec.proofs.Prelude.{List, None, Option, Some, [], ap, arith, inl, inr, length, subst, sym, ℕ, ◌∙◌}
-use Rattle.cap_spec.proofs.Prelude.{◌∷◌, ◌≡◌, ◌⊎◌, IsWithin, IsFirstFault, Wrong, IsOneOf, IsFirstOverlap, Before}
-use Rattle.cap_spec.proofs.Prelude.{Reaches, IsFirstLax, CostOf}
+use Rattle.cap_spec.proofs.ProofNames.{List, None, Option, Some, [], ap, arith, inl, inr, length, subst, sym, ℕ, ◌∙◌}
+use Rattle.cap_spec.proofs.ProofNames.{◌∷◌, ◌≡◌, ◌⊎◌, IsWithin, IsFirstFault, Wrong, IsOneOf, IsFirstOverlap, Before}
+use Rattle.cap_spec.proofs.ProofNames.{Reaches, IsFirstLax, CostOf}
 use Rattle.cap_spec.proofs.Verdicts.OneFault.{costs_not_wrong}
 use Rattle.cap_trace.specs.PointerNumbers.{IsPassable}
-use Rattle.cap_trace.specs.Prelude.{Lax, Refusal, Step, IsTraceable, GivesPath, TellsPath, filled}
+use Rattle.cap_trace.specs.TraceNames.{Lax, Refusal, Step, IsTraceable, GivesPath, TellsPath, filled}
 use Rattle.cap_trace.proofs.Numbering.{one_numbered}
 
 -- nothing is wrong at the paths that have a cost

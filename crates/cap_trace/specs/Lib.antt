@@ -4,4 +4,4 @@ pub mod NamedPaths
 pub mod NearPointers
 pub mod Seeking
 pub mod Traces
-pub mod Prelude
+pub mod TraceNames

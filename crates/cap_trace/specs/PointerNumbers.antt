@@ -1,7 +1,7 @@
 -- The paths of a message by the numbers of their pointer words in preorder (profile).
 use Rattle.std.specs.Prelude.{List, ℕ}
 use Rattle.cap_spec.specs.Paths.{IsNumbered}
-use Rattle.cap_spec.specs.Prelude.{Wrong, Before, Reaches, IsDeepAt}
+use Rattle.cap_spec.specs.SpecNames.{Wrong, Before, Reaches, IsDeepAt}
 use Rattle.cap_spec.specs.declared.Reason.{Reason}
 use Rattle.cap_spec.specs.declared.Step.{Step}
 

@@ -1,7 +1,7 @@
 -- How a search for the pointer word of a number goes on, and what it comes to (profile).
 use Rattle.std.specs.Prelude.{List, None, Option, Some, [], drop, length, take, ℕ, ⊤, ◌++◌, ◌+◌, ◌∷◌, ◌≡◌, ◌⊎◌}
 use Rattle.cap_spec.specs.Paths.{IsTour}
-use Rattle.cap_spec.specs.Prelude.{Wrong, Before, IsDeepAt}
+use Rattle.cap_spec.specs.SpecNames.{Wrong, Before, IsDeepAt}
 use Rattle.cap_spec.specs.declared.Reason.{Reason}
 use Rattle.cap_spec.specs.declared.Step.{Step}
 use Rattle.cap_vet.specs.Trails.{Ahead, IsTrail}

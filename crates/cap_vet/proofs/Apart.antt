@@ -1,7 +1,7 @@
 -- The order of paths: which come before which, and which are apart.
 use Rattle.std.proofs.Common.{List, [], ap, arith, inl, inr, refl, subst, sym, ◌++◌, ◌<◌, ◌∙◌, ◌∷◌, ◌≡◌}
 use Rattle.cap_spec.specs.Paths.{Before, number_of}
-use Rattle.cap_vet.specs.Prelude.{Step, Apart}
+use Rattle.cap_vet.specs.VetNames.{Step, Apart}
 
 -- the first comes before the second
 pub apart-before : (p q : List Step) → Apart p q → Before p q

@@ -1,15 +1,15 @@
 -- What a path arrives at, step by step, and what following the pointers on it costs.
 use Rattle.cap_spec.proofs.Paths.Walks.{coming_last}
 use Rattle.cap_spec.proofs.Pointers.Shapes.{structs_levels}
-use Rattle.cap_spec.proofs.Prelude.{List, None, Option, [], arith, inl, inr, length, length-append, refl, subst, suc}
-use Rattle.cap_spec.proofs.Prelude.{zero, ℕ, ◌++◌, ◌+◌, ◌-◌, ◌<◌, ◌∷◌, ◌≡◌, ◌≤◌, leb_tells, PathFinds, Finds}
-use Rattle.cap_spec.proofs.Prelude.{element_levels, AreShallow, IsFirstReason, IsComposite, AreOnPath, Charges}
-use Rattle.cap_spec.proofs.Prelude.{IsFaultOnPath, HasWord, segment_of, Costs, Reaches, ReachesSpot, Spot, StepsTo}
-use Rattle.cap_spec.proofs.Prelude.{element, word, IsDeepAt, levels_below}
+use Rattle.cap_spec.proofs.ProofNames.{List, None, Option, [], arith, inl, inr, length, length-append, refl, subst, suc}
+use Rattle.cap_spec.proofs.ProofNames.{zero, ℕ, ◌++◌, ◌+◌, ◌-◌, ◌<◌, ◌∷◌, ◌≡◌, ◌≤◌, leb_tells, PathFinds, Finds}
+use Rattle.cap_spec.proofs.ProofNames.{element_levels, AreShallow, IsFirstReason, IsComposite, AreOnPath, Charges}
+use Rattle.cap_spec.proofs.ProofNames.{IsFaultOnPath, HasWord, segment_of, Costs, Reaches, ReachesSpot, Spot, StepsTo}
+use Rattle.cap_spec.proofs.ProofNames.{element, word, IsDeepAt, levels_below}
 use Rattle.cap_spec.proofs.Verdicts.OnPath.{begins_itself, begins_longer, cost_last, on_element, on_nowhere, on_root}
 use Rattle.cap_spec.proofs.Verdicts.OnPath.{on_word, shallow_last}
-use Rattle.cap_vet.specs.Prelude.{Kind, Reason, Refusal, Step, Item, Ptr, Arrives, IsFound, element_of, AddsPointer}
-use Rattle.cap_vet.specs.Prelude.{KnowsLaxOnPath, Arrival, Found, LaxPointer}
+use Rattle.cap_vet.specs.VetNames.{Kind, Reason, Refusal, Step, Item, Ptr, Arrives, IsFound, element_of, AddsPointer}
+use Rattle.cap_vet.specs.VetNames.{KnowsLaxOnPath, Arrival, Found, LaxPointer}
 use Rattle.cap_vet.proofs.NodeSteps.{comes_nowhere}
 use Rattle.cap_vet.proofs.PathLax.{lax_added, lax_same}
 

@@ -1,10 +1,10 @@
 -- The children of a pointer word on a trail.
 use Rattle.cap_spec.proofs.Lemmas.{one_found, pointers_found, struct_found}
 use Rattle.cap_spec.proofs.Paths.Walks.{comes_beyond, walk_on}
-use Rattle.cap_spec.proofs.Prelude.{List, [], append_assoc, arith, inl, inr, refl, subst, suc, sym, zero, ℕ, ◌++◌}
-use Rattle.cap_spec.proofs.Prelude.{◌+◌, ◌<◌, ◌∷◌, ◌≡◌, Finds, PathLeads, Reaches, Spot, StepsTo, number_of, word, code}
-use Rattle.cap_spec.proofs.Prelude.{data_size, kind, list_size, pointer_size}
-use Rattle.cap_vet.specs.Prelude.{Step, Item, Ptr, AreReached, EachApart, GoOnFrom, IsUnder, row}
+use Rattle.cap_spec.proofs.ProofNames.{List, [], append_assoc, arith, inl, inr, refl, subst, suc, sym, zero, ℕ, ◌++◌}
+use Rattle.cap_spec.proofs.ProofNames.{◌+◌, ◌<◌, ◌∷◌, ◌≡◌, Finds, PathLeads, Reaches, Spot, StepsTo, number_of, word, code}
+use Rattle.cap_spec.proofs.ProofNames.{data_size, kind, list_size, pointer_size}
+use Rattle.cap_vet.specs.VetNames.{Step, Item, Ptr, AreReached, EachApart, GoOnFrom, IsUnder, row}
 use Rattle.cap_vet.proofs.Apart.{Apart-steps}
 use Rattle.cap_vet.proofs.Trails.{AreChildren}
 

@@ -1,12 +1,12 @@
 -- Which faults a message has under demands.
 use Rattle.cap_spec.specs.declared.StrictRefusal.TheVariants.{Refused}
 use Rattle.cap_spec.proofs.Lemmas.{within_not_refused}
-use Rattle.cap_spec.proofs.Prelude.{IsTrue, List, None, Option, Some, [], subst, ℕ, ◌≡◌, IsMessage, IsStrict, IsStrictFault}
-use Rattle.cap_spec.proofs.Prelude.{length}
+use Rattle.cap_spec.proofs.ProofNames.{IsTrue, List, None, Option, Some, [], subst, ℕ, ◌≡◌, IsMessage, IsStrict, IsStrictFault}
+use Rattle.cap_spec.proofs.ProofNames.{length}
 use Rattle.cap_spec.proofs.Strict.Faults.{one_strict_fault, strict_not_fault}
 use Rattle.cap_vet.specs.Demands.{IsMet}
-use Rattle.cap_vet.specs.Prelude.{StrictRefusal, ManySegments, Pointer, IsDemandFault, Meets, words_under, Demands}
-use Rattle.cap_vet.specs.Prelude.{HasNoFaultBy, HasWalked, IsAccepted, IsFaultBy, KnowsLax, Ahead, LaxPointer, Report, Step}
+use Rattle.cap_vet.specs.VetNames.{StrictRefusal, ManySegments, Pointer, IsDemandFault, Meets, words_under, Demands}
+use Rattle.cap_vet.specs.VetNames.{HasNoFaultBy, HasWalked, IsAccepted, IsFaultBy, KnowsLax, Ahead, LaxPointer, Report, Step}
 use Rattle.cap_vet.proofs.Laxness.{fault_at_end, strict_at_end, within_of}
 use Rattle.cap_vet.proofs.Verdicts.{accepted_at_end}
 

@@ -1,10 +1,10 @@
 -- Paths that go on at the elements of a list of structs.
-use Rattle.cap_spec.proofs.Prelude.{List, Ok, Option, Some, [], append_assoc, arith, length, mul-le-mul_right, refl}
-use Rattle.cap_spec.proofs.Prelude.{subst, sym, ℕ, ◌*◌, ◌++◌, ◌+◌, ◌<◌, ◌∷◌, ◌≡◌, ◌≤◌, segment_of, Spot, StepsTo}
-use Rattle.cap_spec.proofs.Prelude.{element, word, IsDeepAt}
+use Rattle.cap_spec.proofs.ProofNames.{List, Ok, Option, Some, [], append_assoc, arith, length, mul-le-mul_right, refl}
+use Rattle.cap_spec.proofs.ProofNames.{subst, sym, ℕ, ◌*◌, ◌++◌, ◌+◌, ◌<◌, ◌∷◌, ◌≡◌, ◌≤◌, segment_of, Spot, StepsTo}
+use Rattle.cap_spec.proofs.ProofNames.{element, word, IsDeepAt}
 use Rattle.cap_vet.specs.PathWays.{LeadsToElements}
-use Rattle.cap_vet.specs.Prelude.{Step, Item, Ptr, Arrives, words_under, element_of, FindsNear, HasNoFaultBy}
-use Rattle.cap_vet.specs.Prelude.{GivesAfter, IsWay, Demands, Arrival, Found, PathStart, View, Way, To, LaxPointer}
+use Rattle.cap_vet.specs.VetNames.{Step, Item, Ptr, Arrives, words_under, element_of, FindsNear, HasNoFaultBy}
+use Rattle.cap_vet.specs.VetNames.{GivesAfter, IsWay, Demands, Arrival, Found, PathStart, View, Way, To, LaxPointer}
 use Rattle.cap_vet.specs.declared.nodes.struct_elements.StructElements.{StructElements}
 use Rattle.cap_vet.proofs.Charging.{arrives_element, arrives_word}
 use Rattle.cap_vet.proofs.PathLax.{adds_strict}

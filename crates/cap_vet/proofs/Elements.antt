@@ -1,10 +1,10 @@
 -- The children of a list of structs on a trail: the pointers of its elements, element by element.
 use Rattle.cap_spec.proofs.Lemmas.{one_found, structs_found}
-use Rattle.cap_spec.proofs.Prelude.{List, [], append_assoc, arith, inl, inr, refl, subst, suc, sym, zero, ℕ, ◌*◌, ◌++◌}
-use Rattle.cap_spec.proofs.Prelude.{◌+◌, ◌<◌, ◌∙◌, ◌∷◌, ◌≡◌, Finds, element_levels, HasWord, PathLeads, Reaches, Spot}
-use Rattle.cap_spec.proofs.Prelude.{StepsTo, element, word, code, data_size, kind, middle, pointer_size}
-use Rattle.cap_vet.specs.Prelude.{Step, Item, Ptr, Ahead, Apart, AreReached, EachApart, GoOnFrom, IsUnder, element_rows}
-use Rattle.cap_vet.specs.Prelude.{row}
+use Rattle.cap_spec.proofs.ProofNames.{List, [], append_assoc, arith, inl, inr, refl, subst, suc, sym, zero, ℕ, ◌*◌, ◌++◌}
+use Rattle.cap_spec.proofs.ProofNames.{◌+◌, ◌<◌, ◌∙◌, ◌∷◌, ◌≡◌, Finds, element_levels, HasWord, PathLeads, Reaches, Spot}
+use Rattle.cap_spec.proofs.ProofNames.{StepsTo, element, word, code, data_size, kind, middle, pointer_size}
+use Rattle.cap_vet.specs.VetNames.{Step, Item, Ptr, Ahead, Apart, AreReached, EachApart, GoOnFrom, IsUnder, element_rows}
+use Rattle.cap_vet.specs.VetNames.{row}
 use Rattle.cap_vet.proofs.Apart.{Apart-left, Apart-right, Apart-steps}
 use Rattle.cap_vet.proofs.Children.{AreReached-row, EachApart-row, GoOnFrom-row, IsUnder-row, beyond, reaches_on}
 use Rattle.cap_vet.proofs.Trails.{AreChildren, AreReached-append, IsUnder-left, IsUnder-right}

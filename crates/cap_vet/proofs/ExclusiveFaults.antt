@@ -1,8 +1,8 @@
 -- A message has one fault for which it isn't exclusive over room, or none.
 use Rattle.cap_spec.proofs.Lemmas.{none_of_disjoint, one_overlap, one_refusal}
-use Rattle.cap_spec.proofs.Prelude.{List, ap, ap₂, arith, inl, inr, refl, sym, ℕ, ◌∙◌, ◌≡◌, ◌≤◌, ◌⊎◌, IsDisjoint, IsFirstOverlap}
+use Rattle.cap_spec.proofs.ProofNames.{List, ap, ap₂, arith, inl, inr, refl, sym, ℕ, ◌∙◌, ◌≡◌, ◌≤◌, ◌⊎◌, IsDisjoint, IsFirstOverlap}
 use Rattle.cap_vet.specs.Exclusives.{IsExclusiveRefusal}
-use Rattle.cap_vet.specs.Prelude.{Demands, IsDemandFault, IsExclusiveFault, IsAccepted, Meets, marks_of, NoRoom, Overlap, Report, StrictRefusal}
+use Rattle.cap_vet.specs.VetNames.{Demands, IsDemandFault, IsExclusiveFault, IsAccepted, Meets, marks_of, NoRoom, Overlap, Report, StrictRefusal}
 use Rattle.cap_vet.specs.declared.exclusiveness.exclusive_room.ExclusiveFault.{ExclusiveFault}
 use Rattle.cap_vet.specs.declared.exclusiveness.exclusive_room.ExclusiveFault.TheVariants.{Refused}
 use Rattle.cap_vet.specs.declared.exclusiveness.exclusive_vetting.ExclusiveRefusal.{ExclusiveRefusal}

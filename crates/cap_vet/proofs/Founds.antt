@@ -2,8 +2,8 @@
 use Rattle.cap_spec.specs.ObjectShapes.{is_pointers, is_scalars, is_struct, is_structs}
 use Rattle.cap_spec.specs.declared.Kind.TheVariants.{Cap, Null, Pointers, Scalars, Struct}
 use Rattle.cap_spec.proofs.Lemmas.{extent_scalars, extent_struct}
-use Rattle.cap_spec.proofs.Prelude.{List, ap, ap₂, arith, refl, ℕ, FindsKind, Leads, to_cap, to_null, IsMessage}
-use Rattle.cap_spec.proofs.Prelude.{HasKind, word, list_words}
+use Rattle.cap_spec.proofs.ProofNames.{List, ap, ap₂, arith, refl, ℕ, FindsKind, Leads, to_cap, to_null, IsMessage}
+use Rattle.cap_spec.proofs.ProofNames.{HasKind, word, list_words}
 use Rattle.cap_ptr.specs.Shapes.{FindsObject, IsShape}
 use Rattle.cap_ptr.specs.declared.shapes.Shape.{Shape}
 use Rattle.cap_vet.specs.Finding.{IsFound, kind_of_shape}

@@ -1,10 +1,10 @@
 -- What an accepted message keeps, of which only that it is so is kept, tells its tree.
 use Rattle.cap_spec.proofs.Lemmas.{first_cap, one_first_cap, one_tree}
-use Rattle.cap_spec.proofs.Prelude.{List, None, Option, Some, ap, subst, sym, true, ℕ, ◌+◌, ◌∙◌, ◌≡◌, ◌≤◌, ∥∥₁_elim}
-use Rattle.cap_spec.proofs.Prelude.{∥∥₁_map, props, Denotes, IsFirstCap, Tree, cap_count, has_cap, pointer_count}
+use Rattle.cap_spec.proofs.ProofNames.{List, None, Option, Some, ap, subst, sym, true, ℕ, ◌+◌, ◌∙◌, ◌≡◌, ◌≤◌, ∥∥₁_elim}
+use Rattle.cap_spec.proofs.ProofNames.{∥∥₁_map, props, Denotes, IsFirstCap, Tree, cap_count, has_cap, pointer_count}
 use Rattle.cap_spec.proofs.Trees.OneTree.{Same}
 use Rattle.cap_spec.proofs.Verdicts.Deciding.{TreeWithin, tree_within}
-use Rattle.cap_vet.specs.Prelude.{IsFirstCapOf, IsReport, IsVetted, Report}
+use Rattle.cap_vet.specs.VetNames.{IsFirstCapOf, IsReport, IsVetted, Report}
 
 -- the first capability of a message that denotes a tree
 first_cap_kept : (m : List (List ℕ)) (t : Tree) (c d : ℕ) → Denotes m 0 0 t c d → (first : Option (ℕ × ℕ)) → ∥ IsFirstCapOf m first ∥₁ → IsFirstCapOf m first

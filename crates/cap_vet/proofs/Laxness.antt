@@ -3,14 +3,14 @@ use Rattle.std.proofs.Common.{is_some}
 use Rattle.cap_spec.specs.declared.Lax.TheVariants.{CapabilityPad, NullPad}
 use Rattle.cap_spec.specs.declared.StrictRefusal.TheVariants.{Refused}
 use Rattle.cap_spec.proofs.Lemmas.{Before-irreflexive, strict_wider, first_by_tour}
-use Rattle.cap_spec.proofs.Prelude.{List, None, Option, Some, [], arith, false, inl, inr, length, subst, ℕ, ◌<◌, ◌∷◌}
-use Rattle.cap_spec.proofs.Prelude.{◌≡◌, ◌≢◌, ◌≤◌, IsWithin, HasWord, IsMessage, Before, Costs, far_segment, kind, pad}
-use Rattle.cap_spec.proofs.Prelude.{two, IsFirstLax, IsLax, IsLaxAt, IsStrict, IsStrictFault}
+use Rattle.cap_spec.proofs.ProofNames.{List, None, Option, Some, [], arith, false, inl, inr, length, subst, ℕ, ◌<◌, ◌∷◌}
+use Rattle.cap_spec.proofs.ProofNames.{◌≡◌, ◌≢◌, ◌≤◌, IsWithin, HasWord, IsMessage, Before, Costs, far_segment, kind, pad}
+use Rattle.cap_spec.proofs.ProofNames.{two, IsFirstLax, IsLax, IsLaxAt, IsStrict, IsStrictFault}
 use Rattle.cap_spec.proofs.Strict.Faults.{strict_kept}
 use Rattle.cap_spec.proofs.Strict.Looking.{cap_pad, other_pad, zero_pad}
-use Rattle.cap_vet.specs.Prelude.{Lax, Step, StrictRefusal, ManySegments, Pointer, depth_of, words_of, IsNotLax}
-use Rattle.cap_vet.specs.Prelude.{IsFaultBy, IsAccepted, IsVetted, KnowsLax, Ahead, IsTrail, HasWalked, IsLookedAt}
-use Rattle.cap_vet.specs.Prelude.{Demands, Limits, Report, LaxPointer}
+use Rattle.cap_vet.specs.VetNames.{Lax, Step, StrictRefusal, ManySegments, Pointer, depth_of, words_of, IsNotLax}
+use Rattle.cap_vet.specs.VetNames.{IsFaultBy, IsAccepted, IsVetted, KnowsLax, Ahead, IsTrail, HasWalked, IsLookedAt}
+use Rattle.cap_vet.specs.VetNames.{Demands, Limits, Report, LaxPointer}
 use Rattle.cap_vet.specs.StrictNulls.{not_lax_path, still_knows}
 use Rattle.cap_vet.proofs.Keeping.{vetted_kept}
 use Rattle.cap_vet.proofs.Tours.{in_order, in_order-IsOneOf, length-in_order, tour_of}

@@ -1,9 +1,9 @@
 -- How the marks of a second walk go on, and what they tell at its end.
 use Rattle.cap_spec.proofs.Lemmas.{disjoint_of_none, one_used, Before-irreflexive, one_reached}
-use Rattle.cap_spec.proofs.Prelude.{List, [], arith, inl, inr, length, refl, subst, sym, ℕ, ◌+◌, ◌∷◌, ◌≡◌, ◌⊎◌}
-use Rattle.cap_spec.proofs.Prelude.{AreDistinct, IsOneOf, IsDisjoint, IsFirstOverlap, Occupies, Overlaps, Uses}
-use Rattle.cap_spec.proofs.Prelude.{on_earlier, on_root, twice, Before, Reaches}
-use Rattle.cap_vet.specs.Prelude.{Step, Conflicts, IsMarked, MarksAll, Ahead, IsTrail}
+use Rattle.cap_spec.proofs.ProofNames.{List, [], arith, inl, inr, length, refl, subst, sym, ℕ, ◌+◌, ◌∷◌, ◌≡◌, ◌⊎◌}
+use Rattle.cap_spec.proofs.ProofNames.{AreDistinct, IsOneOf, IsDisjoint, IsFirstOverlap, Occupies, Overlaps, Uses}
+use Rattle.cap_spec.proofs.ProofNames.{on_earlier, on_root, twice, Before, Reaches}
+use Rattle.cap_vet.specs.VetNames.{Step, Conflicts, IsMarked, MarksAll, Ahead, IsTrail}
 use Rattle.cap_vet.proofs.Tours.{Falls-before, in_order, length-in_order, tour_of, up_to_head}
 use Rattle.cap_vet.proofs.Trails.{falls-step}
 

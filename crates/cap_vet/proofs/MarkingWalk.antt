@@ -3,11 +3,11 @@ use Rattle.std.proofs.Common.{is_some}
 use Rattle.cap_spec.specs.Denoting.{places}
 use Rattle.cap_spec.proofs.Disjoint.Bounds.{charge_below_words}
 use Rattle.cap_spec.proofs.Lemmas.{disjoint_of_none, none_of_disjoint, HasWord-inside, lead_word, Formed, formed}
-use Rattle.cap_spec.proofs.Prelude.{List, None, Option, Some, [], ap, arith, false, inl, inr, length, refl, subst, true, ℕ, ◌++◌, ◌<◌, ◌∷◌, ◌≡◌}
-use Rattle.cap_spec.proofs.Prelude.{∥∥₁_elim, props, segment_of, IsDisjoint, IsFirstOverlap, Occupies, pads_of, Costs}
-use Rattle.cap_spec.proofs.Prelude.{Err, Ok, OnOk, Result, empty_count, extent, sizes_of, sum, Tree, ◌+◌}
-use Rattle.cap_vet.specs.Prelude.{Step, Conflicts, IsMarked, MarksAll, IsAccepted, Ahead, IsTrail, HasWalked}
-use Rattle.cap_vet.specs.Prelude.{IsLookedAt, IsReport, Report}
+use Rattle.cap_spec.proofs.ProofNames.{List, None, Option, Some, [], ap, arith, false, inl, inr, length, refl, subst, true, ℕ, ◌++◌, ◌<◌, ◌∷◌, ◌≡◌}
+use Rattle.cap_spec.proofs.ProofNames.{∥∥₁_elim, props, segment_of, IsDisjoint, IsFirstOverlap, Occupies, pads_of, Costs}
+use Rattle.cap_spec.proofs.ProofNames.{Err, Ok, OnOk, Result, empty_count, extent, sizes_of, sum, Tree, ◌+◌}
+use Rattle.cap_vet.specs.VetNames.{Step, Conflicts, IsMarked, MarksAll, IsAccepted, Ahead, IsTrail, HasWalked}
+use Rattle.cap_vet.specs.VetNames.{IsLookedAt, IsReport, Report}
 use Rattle.cap_vet.specs.Overlapping.{EndsMarking, KnowsMarks, KnowsOverlap}
 use Rattle.cap_vet.specs.Taken.{HasMarked, HasRoom}
 use Rattle.cap_vet.specs.declared.exclusiveness.marks.Marks.{Marks}

@@ -1,13 +1,13 @@
 -- What a walk needs to know of an object that its pointer word alone describes.
-use Rattle.cap_spec.proofs.Prelude.{List, None, Option, Some, arith, false, inl, inr, length, ne_eqb, pos, refl, subst}
-use Rattle.cap_spec.proofs.Prelude.{sym, ℕ, ℤ, ◌+◌, ◌-◌, ◌<◌, ◌==◌, ◌∙◌, ◌≡◌, ◌≤◌, Finds, Leads, Says, near, one_pad}
-use Rattle.cap_spec.proofs.Prelude.{to_object, two_pads, segment_of, code, data_size, extent, levels_below}
+use Rattle.cap_spec.proofs.ProofNames.{List, None, Option, Some, arith, false, inl, inr, length, ne_eqb, pos, refl, subst}
+use Rattle.cap_spec.proofs.ProofNames.{sym, ℕ, ℤ, ◌+◌, ◌-◌, ◌<◌, ◌==◌, ◌∙◌, ◌≡◌, ◌≤◌, Finds, Leads, Says, near, one_pad}
+use Rattle.cap_spec.proofs.ProofNames.{to_object, two_pads, segment_of, code, data_size, extent, levels_below}
 use Rattle.cap_spec.proofs.Trees.Charges.{extent_pointers, extent_struct}
 use Rattle.cap_ptr.specs.Reaching.{ResolvesTo}
 use Rattle.cap_ptr.specs.Rows.{FindsRow, HasPointers}
 use Rattle.cap_ptr.proofs.NearObjects.{pointers-no_extra, pointers-plain}
-use Rattle.cap_vet.specs.Prelude.{Row, IsLooked, RunRises, object_places, LevelIs, OptionIn, option_spots, row_places}
-use Rattle.cap_vet.specs.Prelude.{Object, PointerRun}
+use Rattle.cap_vet.specs.VetNames.{Row, IsLooked, RunRises, object_places, LevelIs, OptionIn, option_spots, row_places}
+use Rattle.cap_vet.specs.VetNames.{Object, PointerRun}
 
 -- a list of values has no pointers, and no levels below it
 six_not : (q : ℕ) → code q < 6 → (code q == 6) ≡ false

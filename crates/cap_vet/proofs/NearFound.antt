@@ -1,14 +1,14 @@
 -- What a look at one pointer word of a path finds.
 use Rattle.cap_spec.specs.declared.Kind.TheVariants.{Null}
 use Rattle.cap_spec.proofs.Lemmas.{one_word, near_has_none, extra_same, one_object}
-use Rattle.cap_spec.proofs.Prelude.{List, ap, arith, inl, inr, refl, subst, ℕ, ◌+◌, ◌∙◌, ◌≡◌, ◌≢◌, ◌≤◌, Lead, Leads}
-use Rattle.cap_spec.proofs.Prelude.{extra, near, one_pad, to_null, two_pads, HasWord, IsMessage, word, extent}
+use Rattle.cap_spec.proofs.ProofNames.{List, ap, arith, inl, inr, refl, subst, ℕ, ◌+◌, ◌∙◌, ◌≡◌, ◌≢◌, ◌≤◌, Lead, Leads}
+use Rattle.cap_spec.proofs.ProofNames.{extra, near, one_pad, to_null, two_pads, HasWord, IsMessage, word, extent}
 use Rattle.cap_ptr.specs.Rows.{FindsRow, HasPointers}
 use Rattle.cap_ptr.specs.Shapes.{FindsTarget, IsShape}
 use Rattle.cap_ptr.specs.declared.shapes.Shape.TheVariants.{Pointers, Scalars, Struct, Structs}
 use Rattle.cap_ptr.proofs.NearObjects.{pointers-no_extra, pointers-plain}
 use Rattle.cap_vet.specs.NearFinding.{IsNearWithin}
-use Rattle.cap_vet.specs.Prelude.{Row, Shape, Target, IsFound, levels_of, IsNotLax, FindsNear, Found}
+use Rattle.cap_vet.specs.VetNames.{Row, Shape, Target, IsFound, levels_of, IsNotLax, FindsNear, Found}
 use Rattle.cap_vet.proofs.Founds.{null_found}
 use Rattle.cap_vet.proofs.Looks.{followed_costs, followed_shallow}
 use Rattle.cap_ptr.specs.declared.shapes.Followed.TheVariants as followed

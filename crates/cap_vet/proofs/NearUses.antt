@@ -1,5 +1,5 @@
 -- What following a pointer over no landing pad uses.
-use Rattle.cap_spec.proofs.Prelude.{List, arith, length, subst, ℕ, ◌<◌, ◌≡◌, Finds, HasWord}
+use Rattle.cap_spec.proofs.ProofNames.{List, arith, length, subst, ℕ, ◌<◌, ◌≡◌, Finds, HasWord}
 use Rattle.cap_ptr.specs.Shapes.{FindsTarget}
 use Rattle.cap_ptr.specs.declared.shapes.Target.{Target}
 use Rattle.cap_vet.specs.Marks.{UsesPlace}

@@ -3,9 +3,9 @@ use Rattle.cap_spec.specs.declared.Reason.TheVariants.{WordLimit}
 use Rattle.cap_spec.proofs.Frames.Messages.{HasWord-inside, HasWord-segment}
 use Rattle.cap_spec.proofs.Lemmas.{one_refusal, within_not_refused}
 use Rattle.cap_spec.proofs.Paths.Preorder.{Rises-distinct}
-use Rattle.cap_spec.proofs.Prelude.{List, [], ap, arith, inl, inr, length, reverse, subst, sym, ℕ, ◌++◌, ◌<◌, ◌^◌, ◌∙◌, ◌∷◌}
-use Rattle.cap_spec.proofs.Prelude.{◌+◌, ◌≡◌, ◌≢◌, ◌≤◌, AreDistinct, CostOf, Costs, HasWord, IsFirstFault, IsFirstReason, IsRefused, IsWithin, Leads}
-use Rattle.cap_spec.proofs.Prelude.{is_deep, is_past, near, one_pad, segment_of, two_pads, Lead}
+use Rattle.cap_spec.proofs.ProofNames.{List, [], ap, arith, inl, inr, length, reverse, subst, sym, ℕ, ◌++◌, ◌<◌, ◌^◌, ◌∙◌, ◌∷◌}
+use Rattle.cap_spec.proofs.ProofNames.{◌+◌, ◌≡◌, ◌≢◌, ◌≤◌, AreDistinct, CostOf, Costs, HasWord, IsFirstFault, IsFirstReason, IsRefused, IsWithin, Leads}
+use Rattle.cap_spec.proofs.ProofNames.{is_deep, is_past, near, one_pad, segment_of, two_pads, Lead}
 use Rattle.cap_spec.specs.Faults.{is_wrong}
 use Rattle.cap_spec.proofs.Verdicts.KeptBefore.{kept_before}
 use Rattle.cap_spec.proofs.Verdicts.OneFault.{distinct_last, fault_tour}
@@ -15,7 +15,7 @@ use Rattle.cap_ptr.specs.Shapes.{IsFollowed, charge_of}
 use Rattle.cap_ptr.specs.declared.shapes.Followed.{Followed}
 use Rattle.cap_ptr.specs.declared.shapes.Followed.TheVariants as followed
 use Rattle.cap_vet.specs.Needed.{NeedsCharge, SumsBefore}
-use Rattle.cap_vet.specs.Prelude.{Reason, Step}
+use Rattle.cap_vet.specs.VetNames.{Reason, Step}
 use Rattle.cap_vet.proofs.Tours.{in_order-reverse}
 use Rattle.cap_vet.proofs.Verdicts.{CostOf-in_order}
 

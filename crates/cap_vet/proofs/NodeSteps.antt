@@ -2,11 +2,11 @@
 use Rattle.cap_spec.proofs.Lemmas.{HasWord-at, HasWord-inside, lead_word, part_to_step, step_to_part, comes_beyond}
 use Rattle.cap_spec.proofs.Lemmas.{coming_last, formed, reached_not_wrong}
 use Rattle.cap_spec.proofs.Paths.Arrivals.{node_to_coming}
-use Rattle.cap_spec.proofs.Prelude.{List, None, Option, Some, [], length, refl, subst, ℕ, ◌++◌, ◌+◌, ◌<◌, ◌∷◌, ◌≡◌}
-use Rattle.cap_spec.proofs.Prelude.{∥∥₁_elim, ∥∥₁_map, props, Denotes, Wrong, HasWord, segment_of, ReachesSpot, Spot}
-use Rattle.cap_spec.proofs.Prelude.{StepsTo, level_of, word, DenotesAt, Tree, node_at, part_at}
+use Rattle.cap_spec.proofs.ProofNames.{List, None, Option, Some, [], length, refl, subst, ℕ, ◌++◌, ◌+◌, ◌<◌, ◌∷◌, ◌≡◌}
+use Rattle.cap_spec.proofs.ProofNames.{∥∥₁_elim, ∥∥₁_map, props, Denotes, Wrong, HasWord, segment_of, ReachesSpot, Spot}
+use Rattle.cap_spec.proofs.ProofNames.{StepsTo, level_of, word, DenotesAt, Tree, node_at, part_at}
 use Rattle.cap_vet.specs.Nodes.{IsNode}
-use Rattle.cap_vet.specs.Prelude.{Reason, Step, IsVetted, Report}
+use Rattle.cap_vet.specs.VetNames.{Reason, Step, IsVetted, Report}
 
 -- the root word of a tree is there
 root_word : (m : List (List ℕ)) (t : Tree) (c d : ℕ) → Denotes m 0 0 t c d → (p : ℕ) × HasWord m 0 0 p

@@ -1,8 +1,8 @@
 -- At a node of an accepted message stands a tree.
 use Rattle.cap_spec.specs.Denoting.{places}
 use Rattle.cap_spec.proofs.Paths.Depths.{denoted_depth, depth_of, each_depth, walk_depth}
-use Rattle.cap_spec.proofs.Prelude.{List, arith, refl, ℕ, ◌+◌, ◌≤◌, ∥∥₁_map, words_from, Spot, element, word, DenotesAt}
-use Rattle.cap_spec.proofs.Prelude.{Tree, struct}
+use Rattle.cap_spec.proofs.ProofNames.{List, arith, refl, ℕ, ◌+◌, ◌≤◌, ∥∥₁_map, words_from, Spot, element, word, DenotesAt}
+use Rattle.cap_spec.proofs.ProofNames.{Tree, struct}
 use Rattle.cap_spec.proofs.Verdicts.Deciding.{EachWithin, TreeWithin, each_within, tree_within}
 use Rattle.cap_vet.specs.Nodes.{IsNode}
 

@@ -1,11 +1,11 @@
 -- The frames of objects: their words, and that they lie inside their segments.
 use Rattle.cap_spec.proofs.Lemmas.{short_segment, extent_struct, extent_structs}
-use Rattle.cap_spec.proofs.Prelude.{Fits, List, [], arith, inl, inr, length, refl, suc, sym, w32, zero, ℕ, ◌*◌, ◌+◌}
-use Rattle.cap_spec.proofs.Prelude.{◌-◌, ◌<◌, ◌∙◌, ◌≡◌, ◌≤◌, ◌⊎◌, element_levels, TagFits, IsMessage, segment_of}
-use Rattle.cap_spec.proofs.Prelude.{data_size, list_size, middle, pointer_size}
+use Rattle.cap_spec.proofs.ProofNames.{Fits, List, [], arith, inl, inr, length, refl, suc, sym, w32, zero, ℕ, ◌*◌, ◌+◌}
+use Rattle.cap_spec.proofs.ProofNames.{◌-◌, ◌<◌, ◌∙◌, ◌≡◌, ◌≤◌, ◌⊎◌, element_levels, TagFits, IsMessage, segment_of}
+use Rattle.cap_spec.proofs.ProofNames.{data_size, list_size, middle, pointer_size}
 use Rattle.cap_ptr.specs.Shapes.{FindsObject}
 use Rattle.cap_ptr.specs.declared.shapes.Shape.TheVariants.{Struct, Structs}
-use Rattle.cap_vet.specs.Prelude.{object_places, PointerWord, RunIn, element_places, row_places, spots}
+use Rattle.cap_vet.specs.VetNames.{object_places, PointerWord, RunIn, element_places, row_places, spots}
 
 -- a struct's words lie inside its segment
 pub struct_room : (m : List (List ℕ)) (s w : ℕ) {k t b : ℕ} (q tag : ℕ) {n c : ℕ} (d p : ℕ) → FindsObject m s w k t b q tag n c (Struct d p) → b + d + p ≤ length (segment_of m t)

@@ -1,14 +1,14 @@
 -- What an object brings to a walk: its children, its cost, and how deep it goes.
 use Rattle.cap_spec.proofs.Lemmas.{one_word, extent_pointers, extent_struct, extent_structs, extra_same, lead_kind}
 use Rattle.cap_spec.proofs.Lemmas.{one_found, scalars_found}
-use Rattle.cap_spec.proofs.Prelude.{List, [], ap, arith, false, inl, inr, length, length-append, map, max, pos, refl}
-use Rattle.cap_spec.proofs.Prelude.{subst, suc, true, zero, ℕ, ◌*◌, ◌++◌, ◌+◌, ◌<◌, ◌==◌, ◌∷◌, ◌≡◌, ◌≤◌, ◌⊎◌, eqb_tells}
-use Rattle.cap_spec.proofs.Prelude.{Finds, element_levels, IsComposite, TagFits, extra, HasWord, PathLeads, Reaches}
-use Rattle.cap_spec.proofs.Prelude.{Spot, StepsTo, word, code, data_size, extent, kind, list_size, middle, pointer_size}
-use Rattle.cap_spec.proofs.Prelude.{levels_below}
+use Rattle.cap_spec.proofs.ProofNames.{List, [], ap, arith, false, inl, inr, length, length-append, map, max, pos, refl}
+use Rattle.cap_spec.proofs.ProofNames.{subst, suc, true, zero, ℕ, ◌*◌, ◌++◌, ◌+◌, ◌<◌, ◌==◌, ◌∷◌, ◌≡◌, ◌≤◌, ◌⊎◌, eqb_tells}
+use Rattle.cap_spec.proofs.ProofNames.{Finds, element_levels, IsComposite, TagFits, extra, HasWord, PathLeads, Reaches}
+use Rattle.cap_spec.proofs.ProofNames.{Spot, StepsTo, word, code, data_size, extent, kind, list_size, middle, pointer_size}
+use Rattle.cap_spec.proofs.ProofNames.{levels_below}
 use Rattle.cap_vet.specs.Owing.{AreInLevels}
-use Rattle.cap_vet.specs.Prelude.{Step, Item, Ptr, object_children, object_places, element_places, pointer_word_of}
-use Rattle.cap_vet.specs.Prelude.{row_places, Ahead, element_rows, row}
+use Rattle.cap_vet.specs.VetNames.{Step, Item, Ptr, object_children, object_places, element_places, pointer_word_of}
+use Rattle.cap_vet.specs.VetNames.{row_places, Ahead, element_rows, row}
 use Rattle.cap_vet.proofs.Children.{no_children, pointers_children, struct_children}
 use Rattle.cap_vet.proofs.Counting.{Counts}
 use Rattle.cap_vet.proofs.Elements.{structs_children}

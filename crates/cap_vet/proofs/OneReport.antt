@@ -1,8 +1,8 @@
 -- An accepted message has one report, and no reason to be refused.
 use Rattle.cap_spec.proofs.Lemmas.{one_first_cap, one_tree, within_not_refused}
-use Rattle.cap_spec.proofs.Prelude.{List, None, Option, Some, ap, ap₂, refl, sym, ℕ, ◌∙◌, ◌≡◌, IsRefused, cap_count}
-use Rattle.cap_spec.proofs.Prelude.{pointer_count}
-use Rattle.cap_vet.specs.Prelude.{Refusal, IsAccepted, IsFirstCapOf, Report}
+use Rattle.cap_spec.proofs.ProofNames.{List, None, Option, Some, ap, ap₂, refl, sym, ℕ, ◌∙◌, ◌≡◌, IsRefused, cap_count}
+use Rattle.cap_spec.proofs.ProofNames.{pointer_count}
+use Rattle.cap_vet.specs.VetNames.{Refusal, IsAccepted, IsFirstCapOf, Report}
 
 -- there is one first capability, or none
 one_cap : (m : List (List ℕ)) (a b : Option (ℕ × ℕ)) → IsFirstCapOf m a → IsFirstCapOf m b → a ≡ b

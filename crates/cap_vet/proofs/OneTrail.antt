@@ -1,9 +1,9 @@
 -- What is ahead of a walk follows from the paths that it has looked at.
 use Rattle.cap_spec.proofs.Lemmas.{HasWord-at, Before-trans, one_reached}
-use Rattle.cap_spec.proofs.Prelude.{List, [], ap, append-nil, append_assoc, ap₂, arith, inl, inr, length, refl, subst}
-use Rattle.cap_spec.proofs.Prelude.{sym, ℕ, ◌++◌, ◌<◌, ◌∙◌, ◌∷◌, ◌≡◌, Finds, IsComposite, near, IsOneOf, HasWord}
-use Rattle.cap_spec.proofs.Prelude.{segment_of, Before, Reaches}
-use Rattle.cap_vet.specs.Prelude.{Step, object_children, Ahead, Apart, AreReached, EachApart, Falls, IsTrail, IsUnder}
+use Rattle.cap_spec.proofs.ProofNames.{List, [], ap, append-nil, append_assoc, ap₂, arith, inl, inr, length, refl, subst}
+use Rattle.cap_spec.proofs.ProofNames.{sym, ℕ, ◌++◌, ◌<◌, ◌∙◌, ◌∷◌, ◌≡◌, Finds, IsComposite, near, IsOneOf, HasWord}
+use Rattle.cap_spec.proofs.ProofNames.{segment_of, Before, Reaches}
+use Rattle.cap_vet.specs.VetNames.{Step, object_children, Ahead, Apart, AreReached, EachApart, Falls, IsTrail, IsUnder}
 use Rattle.cap_vet.specs.Trails.{Precedes}
 use Rattle.cap_vet.proofs.Apart.{apart-before, longer-differs, not_before-apart, not_before-self}
 use Rattle.cap_vet.proofs.Children.{beyond}

@@ -4,7 +4,7 @@ use Rattle.cap_spec.specs.Denoting.{AreElements, DenoteEach, places, words_from}
 use Rattle.cap_spec.specs.Tree.{Trees, cap_count, cap_counts, child_counts, more, none, pointer_count, struct}
 use Rattle.cap_spec.specs.Tree.{tree_count}
 use Rattle.cap_vet.specs.Owing.{Owe}
-use Rattle.cap_vet.specs.Prelude.{Step, Item, Ptr, Ahead, element_rows, row}
+use Rattle.cap_vet.specs.VetNames.{Step, Item, Ptr, Ahead, element_rows, row}
 
 -- what two lists owe together is what each owes
 pub record Parts (m : List (List ℕ)) (xs ys : List Ahead) (c d p k : ℕ) : Type 0 where

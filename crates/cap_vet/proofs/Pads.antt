@@ -4,10 +4,10 @@ use Rattle.cap_spec.specs.declared.Reason.{Reason}
 use Rattle.cap_spec.proofs.Disjoint.Places.{no_pads, pads_in_a_row}
 use Rattle.cap_spec.proofs.Lemmas.{one_word, lead_word, object-not_wrong}
 use Rattle.cap_spec.proofs.Pointers.Following.{cap-not_wrong, null-not_wrong}
-use Rattle.cap_spec.proofs.Prelude.{Bool, List, [], ap, arith, eqb, eqb-true, false, inl, inr, pos, refl, subst, sym}
-use Rattle.cap_spec.proofs.Prelude.{true, ℕ, ◌++◌, ◌+◌, ◌<◌, ◌==◌, ◌∙◌, ◌≡◌, ◌⊎◌, cases_eq, Finds, Lead, Leads, Wrong}
-use Rattle.cap_spec.proofs.Prelude.{near, one_pad, to_cap, to_null, to_object, two_pads, HasWord, Occupies, pads_of}
-use Rattle.cap_spec.proofs.Prelude.{extent, far_segment, kind, pad, two}
+use Rattle.cap_spec.proofs.ProofNames.{Bool, List, [], ap, arith, eqb, eqb-true, false, inl, inr, pos, refl, subst, sym}
+use Rattle.cap_spec.proofs.ProofNames.{true, ℕ, ◌++◌, ◌+◌, ◌<◌, ◌==◌, ◌∙◌, ◌≡◌, ◌⊎◌, cases_eq, Finds, Lead, Leads, Wrong}
+use Rattle.cap_spec.proofs.ProofNames.{near, one_pad, to_cap, to_null, to_object, two_pads, HasWord, Occupies, pads_of}
+use Rattle.cap_spec.proofs.ProofNames.{extent, far_segment, kind, pad, two}
 
 -- they are as many words in a row as the form of the pointer tells
 two_few : (p : ℕ) → two p < 2

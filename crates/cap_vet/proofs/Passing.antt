@@ -1,9 +1,9 @@
 -- Null words in a row, which a walk goes past.
-use Rattle.cap_spec.proofs.Prelude.{List, Some, [], ap, append-nil, arith, length, length-append, map, refl, reverse}
-use Rattle.cap_spec.proofs.Prelude.{subst, suc, zero, ℕ, ◌++◌, ◌+◌, ◌-◌, ◌<◌, ◌∷◌, ◌≡◌, ◌≤◌, length-map, reverse-append}
-use Rattle.cap_spec.proofs.Prelude.{AllByRecursion, near, HasWord}
-use Rattle.cap_vet.specs.Prelude.{Step, IsLooked, Passes, IsRest, RunIn, all_spots, element_places, pointer_word_of}
-use Rattle.cap_vet.specs.Prelude.{row_places, spots, Ahead, added, HasWalked, work_left, Report, PointerRun}
+use Rattle.cap_spec.proofs.ProofNames.{List, Some, [], ap, append-nil, arith, length, length-append, map, refl, reverse}
+use Rattle.cap_spec.proofs.ProofNames.{subst, suc, zero, ℕ, ◌++◌, ◌+◌, ◌-◌, ◌<◌, ◌∷◌, ◌≡◌, ◌≤◌, length-map, reverse-append}
+use Rattle.cap_spec.proofs.ProofNames.{AllByRecursion, near, HasWord}
+use Rattle.cap_vet.specs.VetNames.{Step, IsLooked, Passes, IsRest, RunIn, all_spots, element_places, pointer_word_of}
+use Rattle.cap_vet.specs.VetNames.{row_places, spots, Ahead, added, HasWalked, work_left, Report, PointerRun}
 use Rattle.cap_vet.specs.declared.walk.looking.Looked.TheVariants.{Null}
 use Rattle.cap_vet.proofs.Runs.{rest_of_row}
 use Rattle.cap_vet.proofs.Stacks.{next_seen, walks_on, work_smaller}

@@ -1,12 +1,12 @@
 -- What the end of a path says of the pointers on it.
 use Rattle.cap_spec.specs.declared.StrictRefusal.TheVariants.{Refused}
-use Rattle.cap_spec.proofs.Prelude.{Bool, List, None, Option, Some, arith, false, length, refl, subst, sym, true, ℕ}
-use Rattle.cap_spec.proofs.Prelude.{◌++◌, ◌-◌, ◌∷◌, ◌≡◌, ◌≤◌, PathFinds, AreOnPath, Charges, IsStartOf, Spot, IsLax}
+use Rattle.cap_spec.proofs.ProofNames.{Bool, List, None, Option, Some, arith, false, length, refl, subst, sym, true, ℕ}
+use Rattle.cap_spec.proofs.ProofNames.{◌++◌, ◌-◌, ◌∷◌, ◌≡◌, ◌≤◌, PathFinds, AreOnPath, Charges, IsStartOf, Spot, IsLax}
 use Rattle.cap_spec.proofs.Verdicts.OnPath.{on_nowhere}
 use Rattle.cap_vet.specs.Charging.{EndsAt}
-use Rattle.cap_vet.specs.Prelude.{Kind, Lax, Step, StrictRefusal, ManySegments, Pointer, Arrives, EndsEarly}
-use Rattle.cap_vet.specs.Prelude.{words_under, IsFirstLaxOnPath, IsPathFault, MeetsOnPath, HasNoFaultBy, IsFaultBy}
-use Rattle.cap_vet.specs.Prelude.{KnowsLaxOnPath, Demands, Arrival, LaxPointer}
+use Rattle.cap_vet.specs.VetNames.{Kind, Lax, Step, StrictRefusal, ManySegments, Pointer, Arrives, EndsEarly}
+use Rattle.cap_vet.specs.VetNames.{words_under, IsFirstLaxOnPath, IsPathFault, MeetsOnPath, HasNoFaultBy, IsFaultBy}
+use Rattle.cap_vet.specs.VetNames.{KnowsLaxOnPath, Demands, Arrival, LaxPointer}
 use Rattle.cap_vet.proofs.Charging.{arrives_nowhere, charges_nowhere}
 use Rattle.cap_vet.proofs.PathLax.{lax_same}
 

@@ -1,14 +1,14 @@
 -- The pointers on a path meet the demands, or have one fault.
 use Rattle.cap_spec.specs.declared.StrictRefusal.TheVariants.{Refused}
 use Rattle.cap_spec.proofs.Lemmas.{one_reached, one_of_last}
-use Rattle.cap_spec.proofs.Prelude.{List, [], ap, arith, inl, inr, length, length-append, refl, subst, sym, ℕ, ◌++◌}
-use Rattle.cap_spec.proofs.Prelude.{◌∙◌, ◌∷◌, ◌≡◌, ◌⊎◌, AreOnPath, IsRefusedOnPath, IsOneOf, Reaches, IsLax, IsLaxAt}
+use Rattle.cap_spec.proofs.ProofNames.{List, [], ap, arith, inl, inr, length, length-append, refl, subst, sym, ℕ, ◌++◌}
+use Rattle.cap_spec.proofs.ProofNames.{◌∙◌, ◌∷◌, ◌≡◌, ◌⊎◌, AreOnPath, IsRefusedOnPath, IsOneOf, Reaches, IsLax, IsLaxAt}
 use Rattle.cap_spec.proofs.Strict.Faults.{same_pointer}
 use Rattle.cap_spec.proofs.Strict.LaxForms.{one_lax}
 use Rattle.cap_spec.proofs.Verdicts.OnPath.{one_path_list, one_path_refusal, path_not_refused}
 use Rattle.cap_vet.specs.PathDemands.{KeepsToLimits}
-use Rattle.cap_vet.specs.Prelude.{Lax, Refusal, Step, StrictRefusal, ManySegments, Pointer, words_under}
-use Rattle.cap_vet.specs.Prelude.{IsFirstLaxOnPath, IsPathFault, MeetsOnPath, Demands}
+use Rattle.cap_vet.specs.VetNames.{Lax, Refusal, Step, StrictRefusal, ManySegments, Pointer, words_under}
+use Rattle.cap_vet.specs.VetNames.{IsFirstLaxOnPath, IsPathFault, MeetsOnPath, Demands}
 
 -- pointers that keep to the limits aren't refused
 kept_not_refused : (m : List (List ℕ)) (words depth : ℕ) (path : List Step) (r : Refusal) → KeepsToLimits m words depth path

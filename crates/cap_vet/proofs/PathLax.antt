@@ -1,9 +1,9 @@
 -- What is known of the pointers on a path that common readers reject, step by step.
 use Rattle.cap_spec.proofs.Lemmas.{one_reached, one_of_last}
-use Rattle.cap_spec.proofs.Prelude.{List, None, Option, Some, [], inl, inr, length, refl, subst, sym, ℕ, ◌++◌, ◌∙◌, ◌∷◌}
-use Rattle.cap_spec.proofs.Prelude.{◌≡◌, AreOnPath, Reaches, IsLaxAt}
+use Rattle.cap_spec.proofs.ProofNames.{List, None, Option, Some, [], inl, inr, length, refl, subst, sym, ℕ, ◌++◌, ◌∙◌, ◌∷◌}
+use Rattle.cap_spec.proofs.ProofNames.{◌≡◌, AreOnPath, Reaches, IsLaxAt}
 use Rattle.cap_spec.proofs.Verdicts.OnPath.{begins_itself, begins_longer}
-use Rattle.cap_vet.specs.Prelude.{Lax, Step, IsNotLax, IsFirstLaxOnPath, AddsPointer, KnowsLaxOnPath, LaxPointer}
+use Rattle.cap_vet.specs.VetNames.{Lax, Step, IsNotLax, IsFirstLaxOnPath, AddsPointer, KnowsLaxOnPath, LaxPointer}
 
 -- The first on the beginning of a path is the first on the path.
 lax_longer : (m : List (List ℕ)) (prev more : List Step) (s w : ℕ) (what : Lax) (n : ℕ)

@@ -1,12 +1,12 @@
 -- What is given for a path, by where it leads.
 use Rattle.std.proofs.Common.{IsOk}
-use Rattle.cap_spec.proofs.Prelude.{Err, List, None, Ok, Option, Result, Some, [], ap, append-nil, append_assoc, false}
-use Rattle.cap_spec.proofs.Prelude.{inl, inr, length, refl, subst, sym, true, ℕ, ◌++◌, ◌∙◌, ◌∷◌, ◌≡◌, ◌≤◌, PathFinds}
-use Rattle.cap_spec.proofs.Prelude.{IsFaultOnPath, IsRefusedOnPath, Spot, StepsTo}
+use Rattle.cap_spec.proofs.ProofNames.{Err, List, None, Ok, Option, Result, Some, [], ap, append-nil, append_assoc, false}
+use Rattle.cap_spec.proofs.ProofNames.{inl, inr, length, refl, subst, sym, true, ℕ, ◌++◌, ◌∙◌, ◌∷◌, ◌≡◌, ◌≤◌, PathFinds}
+use Rattle.cap_spec.proofs.ProofNames.{IsFaultOnPath, IsRefusedOnPath, Spot, StepsTo}
 use Rattle.cap_vet.specs.PathWays.{IsGiven}
-use Rattle.cap_vet.specs.Prelude.{Refusal, Step, StrictRefusal, Arrives, EndsEarly, words_under, IsPathFault}
-use Rattle.cap_vet.specs.Prelude.{MeetsOnPath, HasNoFaultBy, IsFaultBy, GivesAfter, IsWay, Demands, Arrival, Found}
-use Rattle.cap_vet.specs.Prelude.{PathStart, View, Way, Nowhere, To}
+use Rattle.cap_vet.specs.VetNames.{Refusal, Step, StrictRefusal, Arrives, EndsEarly, words_under, IsPathFault}
+use Rattle.cap_vet.specs.VetNames.{MeetsOnPath, HasNoFaultBy, IsFaultBy, GivesAfter, IsWay, Demands, Arrival, Found}
+use Rattle.cap_vet.specs.VetNames.{PathStart, View, Way, Nowhere, To}
 use Rattle.cap_vet.proofs.Charging.{fault_longer}
 use Rattle.cap_vet.proofs.PathEnds.{fault_at, meets_at, nothing_at, something_at}
 use Rattle.cap_vet.proofs.PathFaults.{meets_no_path_fault, one_path_fault}

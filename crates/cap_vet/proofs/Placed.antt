@@ -1,7 +1,7 @@
 -- The place of what stands at a spot.
 use Rattle.cap_spec.specs.declared.Kind.{Kind}
 use Rattle.cap_spec.specs.declared.Kind.TheVariants.{Cap, Null, Pointers, Scalars, Struct, Structs}
-use Rattle.cap_spec.proofs.Prelude.{List, MatchOption, ℕ, HasObject, IsElementAt, HasPlace, Spot, element, word}
+use Rattle.cap_spec.proofs.ProofNames.{List, MatchOption, ℕ, HasObject, IsElementAt, HasPlace, Spot, element, word}
 use Rattle.cap_vet.specs.Views.{place_of_kind}
 use Rattle.cap_vet.specs.declared.nodes.place.Place.{Place}
 use Rattle.cap_vet.proofs.Steps.{cap_no_object, null_no_object}

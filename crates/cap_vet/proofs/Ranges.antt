@@ -2,9 +2,9 @@
 use Rattle.std.proofs.Math.Seq.{get_or-append_seam}
 use Rattle.cap_spec.specs.Denoting.{places}
 use Rattle.cap_spec.proofs.Disjoint.Places.{apart_places, at_place, in_places}
-use Rattle.cap_spec.proofs.Prelude.{List, [], ap, arith, inl, inr, length, refl, slice_index, slice_index_or, subst}
-use Rattle.cap_spec.proofs.Prelude.{suc, sum, sym, zero, ℕ, ◌++◌, ◌+◌, ◌-◌, ◌<◌, ◌^◌, ◌∙◌, ◌∷◌, ◌≡◌, ◌≤◌, cases_eq}
-use Rattle.cap_spec.proofs.Prelude.{cases_lt, get_or_append_left, sum_by-cons, sizes_of, IsOneOf, IsMessage, segment_of}
+use Rattle.cap_spec.proofs.ProofNames.{List, [], ap, arith, inl, inr, length, refl, slice_index, slice_index_or, subst}
+use Rattle.cap_spec.proofs.ProofNames.{suc, sum, sym, zero, ℕ, ◌++◌, ◌+◌, ◌-◌, ◌<◌, ◌^◌, ◌∙◌, ◌∷◌, ◌≡◌, ◌≤◌, cases_eq}
+use Rattle.cap_spec.proofs.ProofNames.{cases_lt, get_or_append_left, sum_by-cons, sizes_of, IsOneOf, IsMessage, segment_of}
 use Rattle.cap_vet.specs.Marks.{MarksAll}
 use Rattle.cap_vet.specs.Taken.{AreStarts, IsTaken, bit_in, start_of}
 

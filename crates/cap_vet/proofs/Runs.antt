@@ -1,8 +1,8 @@
 -- The pointer words of a run, word by word.
-use Rattle.cap_spec.proofs.Prelude.{List, None, Option, Some, [], ap, arith, length, map, refl, suc, zero, ℕ, ◌*◌, ◌++◌}
-use Rattle.cap_spec.proofs.Prelude.{◌+◌, ◌-◌, ◌<◌, ◌∙◌, ◌∷◌, ◌≡◌, ◌≤◌, map-append, segment_of}
-use Rattle.cap_vet.specs.Prelude.{Step, Item, Ptr, IsRest, element_places, pointer_word_of, row_places, element_rows}
-use Rattle.cap_vet.specs.Prelude.{row, PointerRun}
+use Rattle.cap_spec.proofs.ProofNames.{List, None, Option, Some, [], ap, arith, length, map, refl, suc, zero, ℕ, ◌*◌, ◌++◌}
+use Rattle.cap_spec.proofs.ProofNames.{◌+◌, ◌-◌, ◌<◌, ◌∙◌, ◌∷◌, ◌≡◌, ◌≤◌, map-append, segment_of}
+use Rattle.cap_vet.specs.VetNames.{Step, Item, Ptr, IsRest, element_places, pointer_word_of, row_places, element_rows}
+use Rattle.cap_vet.specs.VetNames.{row, PointerRun}
 
 -- behind the first of several words in a row
 pub rest_of_row : (s b : ℕ) {n : ℕ} (more ds ps level : ℕ) → 1 < n → IsRest

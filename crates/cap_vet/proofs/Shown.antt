@@ -7,10 +7,10 @@ use Rattle.cap_spec.proofs.Lemmas.{found_form, elements_depth, one_lead, pointer
 use Rattle.cap_spec.proofs.Lemmas.{structs_shape, each_charged, length-places, one_found, HasForm, formed, number_list}
 use Rattle.cap_spec.proofs.Lemmas.{number_struct}
 use Rattle.cap_spec.proofs.Pointers.Shapes.{scalars_shape}
-use Rattle.cap_spec.proofs.Prelude.{List, ap, arith, refl, subst, sym, ℕ, ◌+◌, ◌∙◌, ◌≡◌, HasObject, IsElementAt, own_at}
-use Rattle.cap_spec.proofs.Prelude.{Denotes, FindsKind, values_of, words_from, Lead, Leads, to_cap, to_null, Spot}
-use Rattle.cap_spec.proofs.Prelude.{element, word, code, kind, own_of, DenotesAt, Tree, cap, null, pointers, scalars}
-use Rattle.cap_spec.proofs.Prelude.{struct, structs, tree_count}
+use Rattle.cap_spec.proofs.ProofNames.{List, ap, arith, refl, subst, sym, ℕ, ◌+◌, ◌∙◌, ◌≡◌, HasObject, IsElementAt, own_at}
+use Rattle.cap_spec.proofs.ProofNames.{Denotes, FindsKind, values_of, words_from, Lead, Leads, to_cap, to_null, Spot}
+use Rattle.cap_spec.proofs.ProofNames.{element, word, code, kind, own_of, DenotesAt, Tree, cap, null, pointers, scalars}
+use Rattle.cap_spec.proofs.ProofNames.{struct, structs, tree_count}
 use Rattle.cap_spec.proofs.Trees.OneTree.{form_of}
 
 -- a tree has the form of what its word leads to

@@ -1,10 +1,10 @@
 -- What is known of a step of a path where some path is known to come to it.
 use Rattle.cap_spec.specs.declared.Kind.TheVariants.{Pointers, Structs}
 use Rattle.cap_spec.proofs.Frames.Messages.{short_segment}
-use Rattle.cap_spec.proofs.Prelude.{List, Some, arith, length, subst, ℕ, ◌*◌, ◌+◌, ◌<◌, ◌^◌, ◌≡◌, ◌≤◌, ∥∥₁_elim}
-use Rattle.cap_spec.proofs.Prelude.{∥∥₁_map, props, IsMessage, segment_of, Spot}
+use Rattle.cap_spec.proofs.ProofNames.{List, Some, arith, length, subst, ℕ, ◌*◌, ◌+◌, ◌<◌, ◌^◌, ◌≡◌, ◌≤◌, ∥∥₁_elim}
+use Rattle.cap_spec.proofs.ProofNames.{∥∥₁_map, props, IsMessage, segment_of, Spot}
 use Rattle.cap_vet.specs.Finding.{IsSomewhere, StepLeads}
-use Rattle.cap_vet.specs.Prelude.{Step, IsFound, own_words, HasFound, SomeArrives, Arrival, Found, Way, Nowhere, To}
+use Rattle.cap_vet.specs.VetNames.{Step, IsFound, own_words, HasFound, SomeArrives, Arrival, Found, Way, Nowhere, To}
 use Rattle.cap_vet.specs.Ways.{IsSomeWay}
 use Rattle.cap_vet.specs.declared.nodes.spot.Spot.TheVariants.{Word}
 use Rattle.cap_vet.specs.declared.nodes.way.Way.TheVariants.{Refused}

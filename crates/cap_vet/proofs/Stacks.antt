@@ -1,13 +1,13 @@
 -- What one turn of a walk leaves of its runs.
 use Rattle.cap_spec.proofs.Bytes.Lists.{reverse-more}
-use Rattle.cap_spec.proofs.Prelude.{List, None, Option, Some, [], ap, arith, inl, inr, length, length-append, map}
-use Rattle.cap_spec.proofs.Prelude.{option_to_list, refl, reverse, subst, suc, sym, ℕ, ◌++◌, ◌+◌, ◌-◌, ◌<◌, ◌∙◌, ◌∷◌}
-use Rattle.cap_spec.proofs.Prelude.{◌≡◌, ◌≤◌, length-map, map-append, reverse-append, AllByRecursion, Finds, Leads}
-use Rattle.cap_spec.proofs.Prelude.{extra, near, to_cap, to_null, HasWord, Costs, Reaches, extent, levels_below}
-use Rattle.cap_vet.specs.Prelude.{Step, depth_of, words_of, IsLooked, RunRises, object_children, IsRest, LevelIs}
-use Rattle.cap_vet.specs.Prelude.{OptionIn, RunIn, all_spots, option_spots, pointer_word_of, spots, Ahead, added}
-use Rattle.cap_vet.specs.Prelude.{IsWalking, HasWalked, IsLookedAt, IsNext, Progress, work_left, Limits, Report}
-use Rattle.cap_vet.specs.Prelude.{PointerRun}
+use Rattle.cap_spec.proofs.ProofNames.{List, None, Option, Some, [], ap, arith, inl, inr, length, length-append, map}
+use Rattle.cap_spec.proofs.ProofNames.{option_to_list, refl, reverse, subst, suc, sym, ℕ, ◌++◌, ◌+◌, ◌-◌, ◌<◌, ◌∙◌, ◌∷◌}
+use Rattle.cap_spec.proofs.ProofNames.{◌≡◌, ◌≤◌, length-map, map-append, reverse-append, AllByRecursion, Finds, Leads}
+use Rattle.cap_spec.proofs.ProofNames.{extra, near, to_cap, to_null, HasWord, Costs, Reaches, extent, levels_below}
+use Rattle.cap_vet.specs.VetNames.{Step, depth_of, words_of, IsLooked, RunRises, object_children, IsRest, LevelIs}
+use Rattle.cap_vet.specs.VetNames.{OptionIn, RunIn, all_spots, option_spots, pointer_word_of, spots, Ahead, added}
+use Rattle.cap_vet.specs.VetNames.{IsWalking, HasWalked, IsLookedAt, IsNext, Progress, work_left, Limits, Report}
+use Rattle.cap_vet.specs.VetNames.{PointerRun}
 use Rattle.cap_vet.specs.Turning.{cost_of, run_below}
 use Rattle.cap_vet.specs.Turns.{GoesOn, GoesOnBelow, HasVisited, IsAt}
 use Rattle.cap_vet.specs.WalkSteps.{Continues, GoesOnWith, runs_left}

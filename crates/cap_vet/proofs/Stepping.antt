@@ -2,11 +2,11 @@
 use Rattle.cap_spec.specs.declared.Kind.TheVariants.{Cap, Null, Pointers, Scalars, Struct, Structs}
 use Rattle.cap_spec.proofs.Lemmas.{one_found, structs_words}
 use Rattle.cap_spec.proofs.Pointers.Shapes.{pointers_words}
-use Rattle.cap_spec.proofs.Prelude.{List, ap, arith, inl, inr, length, mul-le-mul_right, refl, subst, ℕ, ◌*◌, ◌+◌, ◌<◌}
-use Rattle.cap_spec.proofs.Prelude.{◌∙◌, ◌≡◌, ◌≤◌, HasObject, IsElementAt, segment_of, Spot, StepsTo, element, word}
-use Rattle.cap_spec.proofs.Prelude.{list_size}
+use Rattle.cap_spec.proofs.ProofNames.{List, ap, arith, inl, inr, length, mul-le-mul_right, refl, subst, ℕ, ◌*◌, ◌+◌, ◌<◌}
+use Rattle.cap_spec.proofs.ProofNames.{◌∙◌, ◌≡◌, ◌≤◌, HasObject, IsElementAt, segment_of, Spot, StepsTo, element, word}
+use Rattle.cap_spec.proofs.ProofNames.{list_size}
 use Rattle.cap_spec.proofs.Trees.Charges.{elements_fit}
-use Rattle.cap_vet.specs.Prelude.{Kind, Item, Ptr, IsFound, Found}
+use Rattle.cap_vet.specs.VetNames.{Kind, Item, Ptr, IsFound, Found}
 use Rattle.cap_vet.proofs.Steps.{cap_no_object, null_no_object}
 
 -- what stands there, where its kind is known

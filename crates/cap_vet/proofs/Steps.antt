@@ -2,11 +2,11 @@
 use Rattle.cap_spec.proofs.Lemmas.{one_lead, pointers_found, scalars_found, struct_found, structs_found}
 use Rattle.cap_spec.proofs.Pointers.Shapes.{pointers_extra, pointers_levels, scalars_levels, struct_extra, struct_levels}
 use Rattle.cap_spec.proofs.Pointers.Shapes.{structs_levels}
-use Rattle.cap_spec.proofs.Prelude.{List, [], arith, max, pos, refl, subst, suc, zero, ℕ, ◌+◌, ◌<◌, ◌≡◌, ◌≤◌, Finds}
-use Rattle.cap_spec.proofs.Prelude.{element_levels, values_of, words_from, Leads, extra, to_cap, to_null, to_object}
-use Rattle.cap_spec.proofs.Prelude.{HasWord, code, data_size, extent, kind, list_size, middle, pointer_size, cap, null}
-use Rattle.cap_spec.proofs.Prelude.{pointers, scalars, struct, structs}
-use Rattle.cap_vet.specs.Prelude.{Item, Ptr, Ahead, element_rows, row}
+use Rattle.cap_spec.proofs.ProofNames.{List, [], arith, max, pos, refl, subst, suc, zero, ℕ, ◌+◌, ◌<◌, ◌≡◌, ◌≤◌, Finds}
+use Rattle.cap_spec.proofs.ProofNames.{element_levels, values_of, words_from, Leads, extra, to_cap, to_null, to_object}
+use Rattle.cap_spec.proofs.ProofNames.{HasWord, code, data_size, extent, kind, list_size, middle, pointer_size, cap, null}
+use Rattle.cap_spec.proofs.ProofNames.{pointers, scalars, struct, structs}
+use Rattle.cap_vet.specs.VetNames.{Item, Ptr, Ahead, element_rows, row}
 use Rattle.cap_vet.proofs.Counting.{Counts}
 use Rattle.cap_vet.proofs.Owing.{owes-elements, owes-row}
 

@@ -1,9 +1,9 @@
 -- A trail up to a path is the tour of it.
 use mathlib.Core.List.{reverse_aux}
 use Rattle.cap_spec.proofs.Paths.Preorder.{Before-trans}
-use Rattle.cap_spec.proofs.Prelude.{List, [], append-nil, arith, inl, inr, length, refl, reverse, subst, sym, ℕ, ◌+◌}
-use Rattle.cap_spec.proofs.Prelude.{◌∙◌, ◌∷◌, ◌≡◌, ◌⊎◌, IsOneOf, Before, IsTour, Rises}
-use Rattle.cap_vet.specs.Prelude.{Step, Ahead, Apart, EachApart, Falls, IsTrail, IsUnder}
+use Rattle.cap_spec.proofs.ProofNames.{List, [], append-nil, arith, inl, inr, length, refl, reverse, subst, sym, ℕ, ◌+◌}
+use Rattle.cap_spec.proofs.ProofNames.{◌∙◌, ◌∷◌, ◌≡◌, ◌⊎◌, IsOneOf, Before, IsTour, Rises}
+use Rattle.cap_vet.specs.VetNames.{Step, Ahead, Apart, EachApart, Falls, IsTrail, IsUnder}
 use Rattle.cap_vet.proofs.Apart.{Apart-right, Apart-trans, longer-differs, not_apart-self, not_before-apart}
 use Rattle.cap_vet.proofs.Apart.{not_before-self}
 use Rattle.cap_vet.proofs.Trails.{falls-step, reached-step}

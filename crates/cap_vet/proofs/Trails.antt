@@ -1,8 +1,8 @@
 -- How a trail goes on.
 use Rattle.cap_spec.specs.declared.Step.{Step}
 use Rattle.cap_spec.proofs.Paths.Preorder.{Before-longer}
-use Rattle.cap_spec.proofs.Prelude.{List, [], append-nil, inl, inr, subst, sym, ℕ, ◌++◌, ◌∙◌, ◌∷◌, ◌≡◌, ◌⊎◌, IsOneOf}
-use Rattle.cap_spec.proofs.Prelude.{Before, Reaches}
+use Rattle.cap_spec.proofs.ProofNames.{List, [], append-nil, inl, inr, subst, sym, ℕ, ◌++◌, ◌∙◌, ◌∷◌, ◌≡◌, ◌⊎◌, IsOneOf}
+use Rattle.cap_spec.proofs.ProofNames.{Before, Reaches}
 use Rattle.cap_vet.specs.Trails.{Ahead, Apart, AreReached, EachApart, Falls, GoOnFrom, IsTrail, IsUnder, Precedes}
 use Rattle.cap_vet.proofs.Apart.{Apart-left, apart-before}
 

@@ -1,12 +1,12 @@
 -- What one turn of a walk keeps.
 use Rattle.cap_spec.proofs.Lemmas.{one_word, Before-asymmetric, one_reached, lead_kind, one_object}
-use Rattle.cap_spec.proofs.Prelude.{List, None, Option, Some, [], ap, append-nil, arith, false, inl, inr, length-append}
-use Rattle.cap_spec.proofs.Prelude.{map, max, pos, refl, subst, sym, true, ℕ, ◌++◌, ◌+◌, ◌<◌, ◌==◌, ◌∙◌, ◌∷◌, ◌≡◌, ◌≤◌}
-use Rattle.cap_spec.proofs.Prelude.{◌⊎◌, eqb_tells, Finds, element_levels, AreShallow, IsComposite, Leads, extra}
-use Rattle.cap_spec.proofs.Prelude.{to_cap, to_null, IsOneOf, HasWord, Before, Costs, PathLeads, Reaches, Spot, StepsTo}
-use Rattle.cap_spec.proofs.Prelude.{word, code, extent, kind, middle, CostOf, IsDeepAt, levels_below}
-use Rattle.cap_vet.specs.Prelude.{Step, Item, Ptr, object_children, IsCount, PointerWord, pointer_word_of, Ahead, Falls}
-use Rattle.cap_vet.specs.Prelude.{or_place, IsFirstOf, Progress}
+use Rattle.cap_spec.proofs.ProofNames.{List, None, Option, Some, [], ap, append-nil, arith, false, inl, inr, length-append}
+use Rattle.cap_spec.proofs.ProofNames.{map, max, pos, refl, subst, sym, true, ℕ, ◌++◌, ◌+◌, ◌<◌, ◌==◌, ◌∙◌, ◌∷◌, ◌≡◌, ◌≤◌}
+use Rattle.cap_spec.proofs.ProofNames.{◌⊎◌, eqb_tells, Finds, element_levels, AreShallow, IsComposite, Leads, extra}
+use Rattle.cap_spec.proofs.ProofNames.{to_cap, to_null, IsOneOf, HasWord, Before, Costs, PathLeads, Reaches, Spot, StepsTo}
+use Rattle.cap_spec.proofs.ProofNames.{word, code, extent, kind, middle, CostOf, IsDeepAt, levels_below}
+use Rattle.cap_vet.specs.VetNames.{Step, Item, Ptr, object_children, IsCount, PointerWord, pointer_word_of, Ahead, Falls}
+use Rattle.cap_vet.specs.VetNames.{or_place, IsFirstOf, Progress}
 use Rattle.cap_vet.specs.Walking.{LeadsToCap}
 use Rattle.cap_vet.proofs.Apart.{not_before-self}
 use Rattle.cap_vet.proofs.Children.{no_children}

@@ -2,14 +2,14 @@
 use Rattle.cap_spec.specs.declared.Reason.TheVariants.{NoRoot}
 use Rattle.cap_spec.proofs.Frames.Messages.{HasWord-at}
 use Rattle.cap_spec.proofs.Lemmas.{fault_tour}
-use Rattle.cap_spec.proofs.Prelude.{List, None, Option, Some, [], arith, inl, inr, length, length-append, map, refl}
-use Rattle.cap_spec.proofs.Prelude.{reverse, subst, sym, ℕ, ◌++◌, ◌+◌, ◌<◌, ◌∷◌, ◌≡◌, Denotes, HasNoRoot, IsFaultAt}
-use Rattle.cap_spec.proofs.Prelude.{IsFirstFault, AreShallow, IsFirstReason, IsOneOf, segment_of, IsTour, Reaches, CostOf}
+use Rattle.cap_spec.proofs.ProofNames.{List, None, Option, Some, [], arith, inl, inr, length, length-append, map, refl}
+use Rattle.cap_spec.proofs.ProofNames.{reverse, subst, sym, ℕ, ◌++◌, ◌+◌, ◌<◌, ◌∷◌, ◌≡◌, Denotes, HasNoRoot, IsFaultAt}
+use Rattle.cap_spec.proofs.ProofNames.{IsFirstFault, AreShallow, IsFirstReason, IsOneOf, segment_of, IsTour, Reaches, CostOf}
 use Rattle.cap_spec.proofs.Verdicts.OneFault.{none_before}
 use Rattle.cap_vet.specs.PointerRuns.{root_run}
-use Rattle.cap_vet.specs.Prelude.{Reason, Step, depth_of, words_of, IsCount, pointer_word_of, IsAccepted, IsFirstCapOf}
-use Rattle.cap_vet.specs.Prelude.{IsVetted, Ahead, IsTrail, IsWalking, HasWalked, IsFirstOf, IsNext, Progress, Limits}
-use Rattle.cap_vet.specs.Prelude.{Report, PointerRun}
+use Rattle.cap_vet.specs.VetNames.{Reason, Step, depth_of, words_of, IsCount, pointer_word_of, IsAccepted, IsFirstCapOf}
+use Rattle.cap_vet.specs.VetNames.{IsVetted, Ahead, IsTrail, IsWalking, HasWalked, IsFirstOf, IsNext, Progress, Limits}
+use Rattle.cap_vet.specs.VetNames.{Report, PointerRun}
 use Rattle.cap_vet.specs.Turns.{HoldsBefore}
 use Rattle.cap_vet.specs.declared.walk.turn.Stopped.{Stopped}
 use Rattle.cap_vet.specs.declared.walk.turn.Stopped.TheVariants.{ByTurn, Refused}

@@ -2,14 +2,14 @@
 use Rattle.cap_spec.specs.Showing.{bit_of, byte_of, count_of, scalar_of}
 use Rattle.cap_spec.specs.declared.Kind.TheVariants.{Cap, Null, Pointers, Scalars, Struct, Structs}
 use Rattle.cap_spec.proofs.Lemmas.{short_segment, range_length, word_within}
-use Rattle.cap_spec.proofs.Prelude.{List, None, Option, Some, ap, arith, get_or, inl, inr, length, min, option_map}
-use Rattle.cap_spec.proofs.Prelude.{refl, slice_get, subst, sym, ℕ, ◌%◌, ◌*◌, ◌+◌, ◌-◌, ◌/◌, ◌<◌, ◌==◌, ◌^◌, ◌∙◌, ◌≡◌}
-use Rattle.cap_spec.proofs.Prelude.{◌≤◌, ◌⊎◌, slice_get-get_or, own_at, value_at, values_of, words_from, HasWord}
-use Rattle.cap_spec.proofs.Prelude.{IsMessage, segment_of, word_bytes, element_bits, list_words, scalar_words, kind_of}
-use Rattle.cap_spec.proofs.Prelude.{words_of_own, field}
+use Rattle.cap_spec.proofs.ProofNames.{List, None, Option, Some, ap, arith, get_or, inl, inr, length, min, option_map}
+use Rattle.cap_spec.proofs.ProofNames.{refl, slice_get, subst, sym, ℕ, ◌%◌, ◌*◌, ◌+◌, ◌-◌, ◌/◌, ◌<◌, ◌==◌, ◌^◌, ◌∙◌, ◌≡◌}
+use Rattle.cap_spec.proofs.ProofNames.{◌≤◌, ◌⊎◌, slice_get-get_or, own_at, value_at, values_of, words_from, HasWord}
+use Rattle.cap_spec.proofs.ProofNames.{IsMessage, segment_of, word_bytes, element_bits, list_words, scalar_words, kind_of}
+use Rattle.cap_spec.proofs.ProofNames.{words_of_own, field}
 use Rattle.cap_spec.proofs.Trees.Readings.{byte_past, byte_there, length-values, length-values_words, value_past}
 use Rattle.cap_spec.proofs.Trees.Readings.{value_there, values_word_past, values_word_there, word_past}
-use Rattle.cap_vet.specs.Prelude.{Kind, own_words}
+use Rattle.cap_vet.specs.VetNames.{Kind, own_words}
 
 -- the kind of what is shown
 pub kind_shown : (m : List (List ℕ)) {k : Kind} (t b : ℕ) {n : ℕ} → own_words k ≤ n → b + n ≤ length (segment_of m t) → k ≡ kind_of (own_at m k t b)

@@ -1,7 +1,7 @@
 -- How far a path was followed in a message that needn't be vetted (profile).
 use Rattle.std.specs.Prelude.{Bool, List, false, length, true, ℕ, ◌++◌, ◌+◌, ◌<◌, ◌∷◌, ◌≡◌, ◌≤◌}
 use Rattle.cap_spec.specs.Paths.{element}
-use Rattle.cap_spec.specs.Prelude.{AreShallow, AreOnPath, ReachesSpot, Spot, StepsTo, word, CostOf}
+use Rattle.cap_spec.specs.SpecNames.{AreShallow, AreOnPath, ReachesSpot, Spot, StepsTo, word, CostOf}
 use Rattle.cap_spec.specs.declared.Step.{Step}
 use Rattle.cap_vet.specs.Finding.{IsFound}
 use Rattle.cap_vet.specs.PathStrictness.{KnowsLaxOnPath}

@@ -1,7 +1,7 @@
 -- What may be demanded of a message beside the limits (profile).
 use Rattle.std.specs.Prelude.{IsTrue, List, if◌then◌else◌, ℕ}
 use Rattle.cap_spec.specs.Accepting.{IsWithin}
-use Rattle.cap_spec.specs.Prelude.{IsRefused, IsStrict, unamplified}
+use Rattle.cap_spec.specs.SpecNames.{IsRefused, IsStrict, unamplified}
 use Rattle.cap_spec.specs.Strict.{IsStrictFault}
 use Rattle.cap_spec.specs.declared.StrictRefusal.{StrictRefusal}
 use Rattle.cap_spec.specs.declared.StrictRefusal.TheVariants.{ManySegments, Pointer, Refused}

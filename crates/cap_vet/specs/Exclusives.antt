@@ -1,6 +1,6 @@
 -- What an exclusive message is, and why a message isn't one (profile).
 use Rattle.std.specs.Prelude.{List, ℕ, ⊤, ◌<◌, ◌≡◌, ◌≤◌}
-use Rattle.cap_spec.specs.Prelude.{IsRefused, IsFirstOverlap}
+use Rattle.cap_spec.specs.SpecNames.{IsRefused, IsFirstOverlap}
 use Rattle.cap_vet.specs.Demands.{IsDemandFault, IsMet}
 use Rattle.cap_vet.specs.Reports.{IsAccepted}
 use Rattle.cap_vet.specs.Taken.{marks_of}

@@ -2,7 +2,7 @@
 use Rattle.std.specs.Prelude.{List, None, Option, Some, length, ℕ, ◌+◌, ◌<◌, ◌≤◌}
 use Rattle.cap_spec.specs.Arriving.{HasObject}
 use Rattle.cap_spec.specs.Paths.{Spot as Where}
-use Rattle.cap_spec.specs.Prelude.{IsMessage, segment_of, StepsTo, list_words}
+use Rattle.cap_spec.specs.SpecNames.{IsMessage, segment_of, StepsTo, list_words}
 use Rattle.cap_spec.specs.declared.Kind.{Kind}
 use Rattle.cap_spec.specs.declared.Kind.TheVariants.{Pointers, Scalars, Struct, Structs}
 use Rattle.cap_spec.specs.declared.Step.{Step}

@@ -32,4 +32,4 @@ pub mod Vettings
 pub mod Walking
 pub mod WalkSteps
 pub mod Ways
-pub mod Prelude
+pub mod VetNames

@@ -1,8 +1,8 @@
 -- What comes of looking at one pointer word of a walk (profile).
 use Rattle.std.specs.Prelude.{List, None, Option, Some, [], if◌then◌else◌, ℕ, ⊤, ◌+◌, ◌<◌, ◌==◌, ◌≡◌, ◌≢◌, ◌≤◌}
 use Rattle.cap_spec.specs.Denoting.{element_levels, levels_below}
-use Rattle.cap_spec.specs.Prelude.{Finds, HasTag, Leads, extra, to_cap, to_null, HasWord, code, data_size, extent, kind}
-use Rattle.cap_spec.specs.Prelude.{list_size, middle, pointer_size, IsLaxAt}
+use Rattle.cap_spec.specs.SpecNames.{Finds, HasTag, Leads, extra, to_cap, to_null, HasWord, code, data_size, extent, kind}
+use Rattle.cap_spec.specs.SpecNames.{list_size, middle, pointer_size, IsLaxAt}
 use Rattle.cap_spec.specs.declared.Lax.{Lax}
 use Rattle.cap_spec.specs.declared.Step.{Step}
 use Rattle.cap_spec.specs.declared.Step.TheVariants.{Item, Ptr}

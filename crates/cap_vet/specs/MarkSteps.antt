@@ -1,6 +1,6 @@
 -- What marking the words of one pointer does to the marks (profile).
 use Rattle.std.specs.Prelude.{Bool, IsFalse, IsTrue, List, length, ℕ, ◌+◌, ◌<◌, ◌≡◌, ◌≤◌}
-use Rattle.cap_spec.specs.Prelude.{IsOneOf, segment_of, Occupies}
+use Rattle.cap_spec.specs.SpecNames.{IsOneOf, segment_of, Occupies}
 use Rattle.cap_vet.specs.Marks.{Conflicts, MarksAll}
 use Rattle.cap_vet.specs.Taken.{HasRoom, IsTaken, bit_in}
 use Rattle.cap_vet.specs.declared.exclusiveness.marks.Marks.{Marks}

@@ -1,6 +1,6 @@
 -- What was found by a look at one pointer word of a path (profile).
 use Rattle.std.specs.Prelude.{List, ℕ, ◌≤◌, ◌⊎◌}
-use Rattle.cap_spec.specs.Prelude.{HasWord, Costs, word, IsDeepAt}
+use Rattle.cap_spec.specs.SpecNames.{HasWord, Costs, word, IsDeepAt}
 use Rattle.cap_ptr.specs.Rows.{FindsRow}
 use Rattle.cap_ptr.specs.declared.near.Row.{Row}
 use Rattle.cap_vet.specs.Finding.{IsFound}

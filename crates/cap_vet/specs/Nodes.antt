@@ -1,6 +1,6 @@
 -- What a node of an accepted message keeps (profile).
 use Rattle.std.specs.Prelude.{List, ℕ, ◌≤◌}
-use Rattle.cap_spec.specs.Prelude.{Denotes, most_depth, ReachesSpot, Spot, Tree}
+use Rattle.cap_spec.specs.SpecNames.{Denotes, most_depth, ReachesSpot, Spot, Tree}
 use Rattle.cap_spec.specs.declared.Step.{Step}
 
 -- The root denotes a tree within the greatest depth, and a path from it comes to the spot.

@@ -2,7 +2,7 @@
 use Rattle.std.proofs.Common.{arith, inl, inr, subst, sym}
 use Rattle.std.specs.Prelude.{List, None, Option, Some, [], refl, ℕ, ◌∷◌, ◌≡◌}
 use Rattle.cap_spec.specs.Occupying.{on_earlier, on_root, twice}
-use Rattle.cap_spec.specs.Prelude.{near, AreDistinct, IsOneOf, HasWord, Occupies, Overlaps, Uses, Reaches}
+use Rattle.cap_spec.specs.SpecNames.{near, AreDistinct, IsOneOf, HasWord, Occupies, Overlaps, Uses, Reaches}
 use Rattle.cap_spec.specs.declared.Step.{Step}
 use Rattle.cap_spec.proofs.Disjoint.Overlaps.{one_used}
 use Rattle.cap_spec.proofs.Paths.Walks.{one_reached}

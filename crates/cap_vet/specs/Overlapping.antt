@@ -1,6 +1,6 @@
 -- What a walk that marks words knows of the pointers that it has looked at (profile).
 use Rattle.std.specs.Prelude.{List, None, Option, Some, ℕ}
-use Rattle.cap_spec.specs.Prelude.{IsDisjoint, IsFirstOverlap, IsOneOf, Overlaps}
+use Rattle.cap_spec.specs.SpecNames.{IsDisjoint, IsFirstOverlap, IsOneOf, Overlaps}
 use Rattle.cap_spec.specs.declared.Step.{Step}
 use Rattle.cap_vet.specs.Stricts.{KnowsLax}
 use Rattle.cap_vet.specs.Taken.{HasMarked}

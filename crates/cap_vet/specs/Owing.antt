@@ -1,6 +1,6 @@
 -- What the pointer words that a walk still has to look at denote (profile).
 use Rattle.std.specs.Prelude.{List, [], max, ℕ, ⊤, ◌+◌, ◌∷◌, ◌≡◌, ◌≤◌}
-use Rattle.cap_spec.specs.Prelude.{Denotes, Tree, cap_count, pointer_count}
+use Rattle.cap_spec.specs.SpecNames.{Denotes, Tree, cap_count, pointer_count}
 use Rattle.cap_vet.specs.Trails.{Ahead}
 
 -- The trees of these words have this charge, number of pointers and number of capabilities in all. Their deepest level is one less than top.

@@ -1,7 +1,7 @@
 -- What may be demanded of the pointers on a path beside the limits (profile).
 use Rattle.std.specs.Prelude.{IsTrue, List, [], length, ℕ, ◌++◌, ◌∷◌, ◌≡◌, ◌≤◌}
 use Rattle.cap_spec.specs.Getting.{Charges, IsStartOf}
-use Rattle.cap_spec.specs.Prelude.{AreOnPath, IsRefusedOnPath, IsOneOf, Reaches, IsLax, IsLaxAt}
+use Rattle.cap_spec.specs.SpecNames.{AreOnPath, IsRefusedOnPath, IsOneOf, Reaches, IsLax, IsLaxAt}
 use Rattle.cap_spec.specs.declared.Lax.{Lax}
 use Rattle.cap_spec.specs.declared.Step.{Step}
 use Rattle.cap_spec.specs.declared.StrictRefusal.{StrictRefusal}

@@ -1,6 +1,6 @@
 -- What is known of the pointers on a path that common readers reject (profile).
 use Rattle.std.specs.Prelude.{IsTrue, List, None, Option, Some, ℕ, ◌<◌, ◌≡◌, ◌≤◌}
-use Rattle.cap_spec.specs.Prelude.{IsOneOf, IsLax, IsLaxAt}
+use Rattle.cap_spec.specs.SpecNames.{IsOneOf, IsLax, IsLaxAt}
 use Rattle.cap_spec.specs.declared.Lax.{Lax}
 use Rattle.cap_spec.specs.declared.Step.{Step}
 use Rattle.cap_spec.specs.declared.StrictRefusal.{StrictRefusal}

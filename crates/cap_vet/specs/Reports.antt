@@ -2,7 +2,7 @@
 use Rattle.std.specs.Prelude.{List, None, Option, Some, ℕ, ◌+◌, ◌≡◌, ◌≤◌}
 use Rattle.cap_spec.specs.Accepting.{DenotesWithin}
 use Rattle.cap_spec.specs.Paths.{ReachesCap}
-use Rattle.cap_spec.specs.Prelude.{most_depth, most_words, IsFirstCap, Tree, cap_count, pointer_count}
+use Rattle.cap_spec.specs.SpecNames.{most_depth, most_words, IsFirstCap, Tree, cap_count, pointer_count}
 use Rattle.cap_spec.specs.declared.Step.{Step}
 use Rattle.cap_vet.specs.declared.report.Report.{Report}
 

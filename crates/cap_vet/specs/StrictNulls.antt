@@ -1,7 +1,7 @@
 -- A null word isn't lax: the law of the turn that looks for lax pointers (profile).
 use Rattle.std.proofs.Common.{arith, inl, inr, subst}
 use Rattle.std.specs.Prelude.{List, None, Option, Some, ℕ, ◌∷◌}
-use Rattle.cap_spec.specs.Prelude.{HasWord, Reaches, IsLax, IsLaxAt}
+use Rattle.cap_spec.specs.SpecNames.{HasWord, Reaches, IsLax, IsLaxAt}
 use Rattle.cap_spec.specs.declared.Lax.{Lax}
 use Rattle.cap_spec.specs.declared.Step.{Step}
 use Rattle.cap_spec.proofs.Paths.Walks.{one_reached}

@@ -1,7 +1,7 @@
 -- What nodes and views are of (profile).
 use Rattle.std.specs.Prelude.{List, None, Option, Some, [], ℕ}
 use Rattle.cap_spec.specs.Arriving.{own_at}
-use Rattle.cap_spec.specs.Prelude.{words_from, Spot, plain_text, Own}
+use Rattle.cap_spec.specs.SpecNames.{words_from, Spot, plain_text, Own}
 use Rattle.cap_spec.specs.declared.Kind.{Kind}
 use Rattle.cap_spec.specs.declared.Kind.TheVariants.{Cap, Null}
 use Rattle.cap_vet.specs.Spots.{spot_of}

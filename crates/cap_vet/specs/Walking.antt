@@ -2,8 +2,8 @@
 use Rattle.std.specs.List.{AllByRecursion}
 use Rattle.std.specs.Prelude.{List, None, Option, Some, [], length, map, reverse, suc, ℕ, ⊤, ◌+◌, ◌-◌, ◌<◌, ◌∷◌, ◌≡◌}
 use Rattle.std.specs.Prelude.{◌≤◌}
-use Rattle.cap_spec.specs.Prelude.{AreShallow, Leads, to_cap, IsOneOf, HasWord, segment_of, Before, Costs, Reaches}
-use Rattle.cap_spec.specs.Prelude.{CostOf}
+use Rattle.cap_spec.specs.SpecNames.{AreShallow, Leads, to_cap, IsOneOf, HasWord, segment_of, Before, Costs, Reaches}
+use Rattle.cap_spec.specs.SpecNames.{CostOf}
 use Rattle.cap_spec.specs.declared.Step.{Step}
 use Rattle.cap_vet.specs.Owing.{AreInLevels, IsCount}
 use Rattle.cap_vet.specs.PointerRuns.{RunIn, all_spots, pointer_word_of}

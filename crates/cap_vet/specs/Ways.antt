@@ -1,6 +1,6 @@
 -- Where a path leads in a message that needn't be vetted (profile).
 use Rattle.std.specs.Prelude.{List, ℕ, ⊤}
-use Rattle.cap_spec.specs.Prelude.{IsRefusedOnPath, Spot}
+use Rattle.cap_spec.specs.SpecNames.{IsRefusedOnPath, Spot}
 use Rattle.cap_spec.specs.declared.Step.{Step}
 use Rattle.cap_vet.specs.Charging.{Arrives, EndsEarly}
 use Rattle.cap_vet.specs.Finding.{IsFound}

@@ -1,10 +1,10 @@
 -- Whole words that are taken from the bytes at hand.
 use Rattle.cap_spec.proofs.Bytes.Plain.{length_plain, plain_back, plain_cut_back, plain_split}
-use Rattle.cap_spec.proofs.Prelude.{Fits, List, None, Option, Some, [], ap, append-nil, arith, drop, get_or, length}
-use Rattle.cap_spec.proofs.Prelude.{length-append, length-take-le, option_map, suc, sym, take, unwrap_or, w8, ℕ, ◌*◌}
-use Rattle.cap_spec.proofs.Prelude.{◌++◌, ◌+◌, ◌<◌, ◌^◌, ◌∙◌, ◌∷◌, ◌≡◌, ◌≤◌, nil_from_length, Consumes, AllByRecursion}
-use Rattle.cap_spec.proofs.Prelude.{capped, plain_ends, plain_is_cut, plain_text, plain_words, IsWord}
-use Rattle.cap_words.specs.Prelude.{bytes_left, TakesAll, Phase, Open}
+use Rattle.cap_spec.proofs.ProofNames.{Fits, List, None, Option, Some, [], ap, append-nil, arith, drop, get_or, length}
+use Rattle.cap_spec.proofs.ProofNames.{length-append, length-take-le, option_map, suc, sym, take, unwrap_or, w8, ℕ, ◌*◌}
+use Rattle.cap_spec.proofs.ProofNames.{◌++◌, ◌+◌, ◌<◌, ◌^◌, ◌∙◌, ◌∷◌, ◌≡◌, ◌≤◌, nil_from_length, Consumes, AllByRecursion}
+use Rattle.cap_spec.proofs.ProofNames.{capped, plain_ends, plain_is_cut, plain_text, plain_words, IsWord}
+use Rattle.cap_words.specs.WordNames.{bytes_left, TakesAll, Phase, Open}
 
 pub bytes_small : (xs : List ℕ) → ((k : ℕ) → Fits w8 (get_or xs k 0)) → AllByRecursion (λ b. b < 256) xs
 bytes_small [] f = tt

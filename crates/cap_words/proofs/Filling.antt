@@ -1,11 +1,11 @@
 -- A source whose words are filled into a room, some at a time.
 use Rattle.std.proofs.lemmas.Grind.{flat_map-append}
 use Rattle.cap_spec.proofs.Bytes.Plain.{length_plain, plain_back, plain_short}
-use Rattle.cap_spec.proofs.Prelude.{Bool, List, None, OnSome, Option, Some, [], ap, append-nil, arith, drop, drop-drop}
-use Rattle.cap_spec.proofs.Prelude.{false, inl, inr, length, length-append, length-drop, length-take-le, min, refl}
-use Rattle.cap_spec.proofs.Prelude.{subst, suc, sym, take, take-append-drop, true, zero, ℕ, ◌%◌, ◌*◌, ◌++◌, ◌+◌, ◌-◌}
-use Rattle.cap_spec.proofs.Prelude.{◌/◌, ◌<◌, ◌^◌, ◌∙◌, ◌∷◌, ◌≡◌, ◌≤◌, ◌⊎◌, Consumes-nil, Consumes-trans, Consumes}
-use Rattle.cap_spec.proofs.Prelude.{put_mid, plain_text, plain_words, word_bytes, IsWord}
+use Rattle.cap_spec.proofs.ProofNames.{Bool, List, None, OnSome, Option, Some, [], ap, append-nil, arith, drop, drop-drop}
+use Rattle.cap_spec.proofs.ProofNames.{false, inl, inr, length, length-append, length-drop, length-take-le, min, refl}
+use Rattle.cap_spec.proofs.ProofNames.{subst, suc, sym, take, take-append-drop, true, zero, ℕ, ◌%◌, ◌*◌, ◌++◌, ◌+◌, ◌-◌}
+use Rattle.cap_spec.proofs.ProofNames.{◌/◌, ◌<◌, ◌^◌, ◌∙◌, ◌∷◌, ◌≡◌, ◌≤◌, ◌⊎◌, Consumes-nil, Consumes-trans, Consumes}
+use Rattle.cap_spec.proofs.ProofNames.{put_mid, plain_text, plain_words, word_bytes, IsWord}
 use Rattle.cap_words.specs.Ends.{Works}
 use Rattle.cap_words.specs.TakingMany.{EndsWithin, ReadsBytes, TakesAll}
 use Rattle.cap_words.proofs.Pieces.{on_some}

@@ -1,10 +1,10 @@
 -- Pieces of many words, by values: what was filled in, and where the input ends inside a piece.
 use Rattle.cap_spec.proofs.Bytes.Plain.{length_plain, plain_back, plain_short, plain_split}
-use Rattle.cap_spec.proofs.Prelude.{Bool, List, None, OnSome, Option, Some, [], ap, append-nil, arith, drop, false}
-use Rattle.cap_spec.proofs.Prelude.{length, option_map, refl, subst, sym, take, take_all, true, unwrap_or, ℕ, ◌%◌, ◌*◌}
-use Rattle.cap_spec.proofs.Prelude.{◌++◌, ◌+◌, ◌<◌, ◌^◌, ◌∙◌, ◌∷◌, ◌≡◌, ◌≤◌, Consumes-nil, take-append-le, Consumes}
-use Rattle.cap_spec.proofs.Prelude.{IsAtEnd, AllByRecursion, capped, plain_ends, plain_is_cut, plain_text, plain_words}
-use Rattle.cap_words.specs.Prelude.{bytes_left, TakesAll, Phase, Open}
+use Rattle.cap_spec.proofs.ProofNames.{Bool, List, None, OnSome, Option, Some, [], ap, append-nil, arith, drop, false}
+use Rattle.cap_spec.proofs.ProofNames.{length, option_map, refl, subst, sym, take, take_all, true, unwrap_or, ℕ, ◌%◌, ◌*◌}
+use Rattle.cap_spec.proofs.ProofNames.{◌++◌, ◌+◌, ◌<◌, ◌^◌, ◌∙◌, ◌∷◌, ◌≡◌, ◌≤◌, Consumes-nil, take-append-le, Consumes}
+use Rattle.cap_spec.proofs.ProofNames.{IsAtEnd, AllByRecursion, capped, plain_ends, plain_is_cut, plain_text, plain_words}
+use Rattle.cap_words.specs.WordNames.{bytes_left, TakesAll, Phase, Open}
 use Rattle.cap_words.specs.TakingMany.{EndsWithin}
 use Rattle.cap_words.proofs.AtHand.{taken}
 

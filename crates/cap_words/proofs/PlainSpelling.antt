@@ -1,7 +1,7 @@
 -- What a read and a write of the plain spelling do to what is known of words.
-use Rattle.cap_spec.proofs.Prelude.{List, None, Option, Some, ap, append_assoc, drop, sym, take, take-append-drop, ℕ}
-use Rattle.cap_spec.proofs.Prelude.{◌++◌, ◌∙◌, ◌∷◌, ◌≡◌, append_known-moved, Appends, Keeps, append_known, plain_text}
-use Rattle.cap_spec.proofs.Prelude.{word_bytes}
+use Rattle.cap_spec.proofs.ProofNames.{List, None, Option, Some, ap, append_assoc, drop, sym, take, take-append-drop, ℕ}
+use Rattle.cap_spec.proofs.ProofNames.{◌++◌, ◌∙◌, ◌∷◌, ◌≡◌, append_known-moved, Appends, Keeps, append_known, plain_text}
+use Rattle.cap_spec.proofs.ProofNames.{word_bytes}
 use Rattle.cap_words.specs.Sinks.{Begins}
 
 -- the bytes of a word were written

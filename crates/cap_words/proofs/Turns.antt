@@ -1,8 +1,8 @@
 -- An end over the turns of a loop that moves bytes.
-use Rattle.cap_spec.proofs.Prelude.{Bool, List, Option, ap, arith, drop, length, length-append, length-drop}
-use Rattle.cap_spec.proofs.Prelude.{length-take-le, refl, subst, suc, sym, take, take-add, zero, ℕ, ◌++◌, ◌+◌, ◌-◌, ◌<◌}
-use Rattle.cap_spec.proofs.Prelude.{◌∙◌, ◌≡◌, ◌≤◌, Appends-trans, Consumes-trans, take-append-add, take-append-le}
-use Rattle.cap_spec.proofs.Prelude.{take_rest, Appends, Consumes, post_of, put_mid}
+use Rattle.cap_spec.proofs.ProofNames.{Bool, List, Option, ap, arith, drop, length, length-append, length-drop}
+use Rattle.cap_spec.proofs.ProofNames.{length-take-le, refl, subst, suc, sym, take, take-add, zero, ℕ, ◌++◌, ◌+◌, ◌-◌, ◌<◌}
+use Rattle.cap_spec.proofs.ProofNames.{◌∙◌, ◌≡◌, ◌≤◌, Appends-trans, Consumes-trans, take-append-add, take-append-le}
+use Rattle.cap_spec.proofs.ProofNames.{take_rest, Appends, Consumes, post_of, put_mid}
 use Rattle.cap_words.specs.Ends.{Works}
 
 -- so many bytes were moved: with none of them the end is as it was, with some it worked

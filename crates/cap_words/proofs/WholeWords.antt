@@ -1,9 +1,9 @@
 -- The whole words of bytes, and their text.
 use Rattle.std.proofs.lemmas.Grind.{flat_map-append}
 use Rattle.cap_spec.proofs.Bytes.Plain.{length_plain, plain_split}
-use Rattle.cap_spec.proofs.Prelude.{List, Option, ap, arith, drop, length, length-append, sym, take, take_all, ℕ, ◌%◌}
-use Rattle.cap_spec.proofs.Prelude.{◌*◌, ◌++◌, ◌+◌, ◌/◌, ◌<◌, ◌∙◌, ◌≡◌, append_known-moved, take-append-le, Appends}
-use Rattle.cap_spec.proofs.Prelude.{Keeps, append_known, AllByRecursion, plain_text, plain_words, word_bytes}
+use Rattle.cap_spec.proofs.ProofNames.{List, Option, ap, arith, drop, length, length-append, sym, take, take_all, ℕ, ◌%◌}
+use Rattle.cap_spec.proofs.ProofNames.{◌*◌, ◌++◌, ◌+◌, ◌/◌, ◌<◌, ◌∙◌, ◌≡◌, append_known-moved, take-append-le, Appends}
+use Rattle.cap_spec.proofs.ProofNames.{Keeps, append_known, AllByRecursion, plain_text, plain_words, word_bytes}
 use Rattle.cap_words.specs.Sinks.{Begins}
 use Rattle.cap_words.proofs.PlainSpelling.{part_begins}
 

@@ -8,4 +8,4 @@ pub mod Sinks
 pub mod TakingMany
 pub mod Told
 pub mod Vectors
-pub mod Prelude
+pub mod WordNames

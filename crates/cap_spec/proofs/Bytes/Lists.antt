@@ -1,6 +1,6 @@
 -- What holds of each member of a list holds of each member of its parts. A list with one more member, reversed.
-use Rattle.cap_spec.proofs.Prelude.{List, None, Option, Some, [], ap, append-nil, drop, option_to_list, reverse, suc}
-use Rattle.cap_spec.proofs.Prelude.{take, zero, ℕ, ◌++◌, ◌∷◌, ◌≡◌, reverse-append, AllByRecursion}
+use Rattle.cap_spec.proofs.ProofNames.{List, None, Option, Some, [], ap, append-nil, drop, option_to_list, reverse, suc}
+use Rattle.cap_spec.proofs.ProofNames.{take, zero, ℕ, ◌++◌, ◌∷◌, ◌≡◌, reverse-append, AllByRecursion}
 
 -- of a front
 pub all_take : {A : Type 0} (P : A → Type 0) (n : ℕ) (xs : List A) → AllByRecursion P xs → AllByRecursion P (take n xs)

@@ -1,9 +1,9 @@
 -- Words and their plain spelling: each list of bytes splits into words and less than a word in one way.
 use Rattle.cap_spec.specs.Plain.{PlainSplits}
 use Rattle.cap_spec.proofs.Bytes.WordBytes.{bytes_back, bytes_below, word_back}
-use Rattle.cap_spec.proofs.Prelude.{List, [], ap, append-nil, arith, drop, drop_at, length, refl, subst, suc}
-use Rattle.cap_spec.proofs.Prelude.{sym, true, ℕ, ◌*◌, ◌++◌, ◌+◌, ◌/◌, ◌<◌, ◌↔◌, ◌∙◌, ◌∷◌, ◌≡◌, ◌≢◌, AllByRecursion}
-use Rattle.cap_spec.proofs.Prelude.{little_number, plain_is_cut, plain_text, plain_words, word_bytes, IsWord, rules}
+use Rattle.cap_spec.proofs.ProofNames.{List, [], ap, append-nil, arith, drop, drop_at, length, refl, subst, suc}
+use Rattle.cap_spec.proofs.ProofNames.{sym, true, ℕ, ◌*◌, ◌++◌, ◌+◌, ◌/◌, ◌<◌, ◌↔◌, ◌∙◌, ◌∷◌, ◌≡◌, ◌≢◌, AllByRecursion}
+use Rattle.cap_spec.proofs.ProofNames.{little_number, plain_is_cut, plain_text, plain_words, word_bytes, IsWord, rules}
 
 -- eight bytes a word
 pub length_plain : (ws : List ℕ) → length (plain_text ws) ≡ 8 * length ws

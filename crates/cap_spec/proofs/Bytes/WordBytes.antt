@@ -1,10 +1,10 @@
 -- The bytes of a word: they tell the word, and each eight bytes are those of one.
 use Rattle.std.proofs.Math.Nat.{div-div-eq-div-mul}
 use Rattle.std.specs.Int.{bytes_low_first}
-use Rattle.cap_spec.proofs.Prelude.{List, [], ap, arith, flat_map, length, refl, suc, sym, zero, ℕ, ◌%◌, ◌*◌, ◌++◌, ◌+◌}
-use Rattle.cap_spec.proofs.Prelude.{◌/◌, ◌<◌, ◌^◌, ◌∙◌, ◌∷◌, ◌≡◌, pow-succ', byte_at, AllByRecursion, little_bytes}
-use Rattle.cap_spec.proofs.Prelude.{little_number, little_from-cons, little_number-reads_back, halves, word_bytes}
-use Rattle.cap_spec.proofs.Prelude.{IsWord, rules}
+use Rattle.cap_spec.proofs.ProofNames.{List, [], ap, arith, flat_map, length, refl, suc, sym, zero, ℕ, ◌%◌, ◌*◌, ◌++◌, ◌+◌}
+use Rattle.cap_spec.proofs.ProofNames.{◌/◌, ◌<◌, ◌^◌, ◌∙◌, ◌∷◌, ◌≡◌, pow-succ', byte_at, AllByRecursion, little_bytes}
+use Rattle.cap_spec.proofs.ProofNames.{little_number, little_from-cons, little_number-reads_back, halves, word_bytes}
+use Rattle.cap_spec.proofs.ProofNames.{IsWord, rules}
 
 -- with one byte more below, each byte stands one place further up
 byte_at_up : (i a y : ℕ) → a < 256 → byte_at (suc i) (a + 256 * y) ≡ byte_at i y

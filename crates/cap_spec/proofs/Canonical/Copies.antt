@@ -2,8 +2,8 @@
 use Rattle.cap_spec.proofs.Canonical.Layouts.{one_layout, trimmed_layout_denotes}
 use Rattle.cap_spec.proofs.Canonical.TrimmedTrees.{has_cap-trim}
 use Rattle.cap_spec.proofs.Canonical.Trimming.{trim-trim}
-use Rattle.cap_spec.proofs.Prelude.{List, [], ap, refl, sym, ℕ, ◌<◌, ◌^◌, ◌↔◌, ◌∙◌, ◌∷◌, ◌≡◌, ◌≤◌, layout, trim}
-use Rattle.cap_spec.proofs.Prelude.{HasCopy, IsCanonical, Denotes, Tree, rules}
+use Rattle.cap_spec.proofs.ProofNames.{List, [], ap, refl, sym, ℕ, ◌<◌, ◌^◌, ◌↔◌, ◌∙◌, ◌∷◌, ◌≡◌, ◌≤◌, layout, trim}
+use Rattle.cap_spec.proofs.ProofNames.{HasCopy, IsCanonical, Denotes, Tree, rules}
 use Rattle.cap_spec.proofs.Trees.OneTree.{one_tree}
 
 -- a message has no more than one copy

@@ -7,13 +7,13 @@ use Rattle.cap_spec.proofs.Canonical.PointerFields.{ListFields, StructFields, st
 use Rattle.cap_spec.proofs.Canonical.TreeMeasures.{idle, scalars_extra, structs_extra}
 use Rattle.cap_spec.proofs.Pointers.Shapes.{pointers_extra, pointers_levels, pointers_words, scalars_levels, scalars_words}
 use Rattle.cap_spec.proofs.Pointers.Shapes.{struct_extra, struct_levels, struct_words, structs_levels, structs_words}
-use Rattle.cap_spec.proofs.Prelude.{List, [], ap, ap₂, arith, if◌then◌else◌, length, ne_eqb, refl, subst, sym, ℕ, ◌*◌}
-use Rattle.cap_spec.proofs.Prelude.{◌+◌, ◌-◌, ◌<◌, ◌==◌, ◌^◌, ◌∙◌, ◌∷◌, ◌≡◌, ◌≢◌, ◌≤◌, slice_get_within, AllByRecursion}
-use Rattle.cap_spec.proofs.Prelude.{pointer_to, struct_word, AreElements, DenoteEach, Denotes, Finds, FindsKind}
-use Rattle.cap_spec.proofs.Prelude.{element_levels, values_of, IsComposite, TagFits, extra, near, HasWord, HasKind}
-use Rattle.cap_spec.proofs.Prelude.{HasWordsAt, data_size, element_bits, extent, kind, list_size, list_words, middle}
-use Rattle.cap_spec.proofs.Prelude.{pointer_size, scalar_words, Trees, more, pointers, scalars, struct, structs}
-use Rattle.cap_spec.proofs.Prelude.{tree_count, Pointers, Scalars, Struct, Structs}
+use Rattle.cap_spec.proofs.ProofNames.{List, [], ap, ap₂, arith, if◌then◌else◌, length, ne_eqb, refl, subst, sym, ℕ, ◌*◌}
+use Rattle.cap_spec.proofs.ProofNames.{◌+◌, ◌-◌, ◌<◌, ◌==◌, ◌^◌, ◌∙◌, ◌∷◌, ◌≡◌, ◌≢◌, ◌≤◌, slice_get_within, AllByRecursion}
+use Rattle.cap_spec.proofs.ProofNames.{pointer_to, struct_word, AreElements, DenoteEach, Denotes, Finds, FindsKind}
+use Rattle.cap_spec.proofs.ProofNames.{element_levels, values_of, IsComposite, TagFits, extra, near, HasWord, HasKind}
+use Rattle.cap_spec.proofs.ProofNames.{HasWordsAt, data_size, element_bits, extent, kind, list_size, list_words, middle}
+use Rattle.cap_spec.proofs.ProofNames.{pointer_size, scalar_words, Trees, more, pointers, scalars, struct, structs}
+use Rattle.cap_spec.proofs.ProofNames.{tree_count, Pointers, Scalars, Struct, Structs}
 use Rattle.cap_spec.proofs.Trees.Charges.{extent_struct}
 use Rattle.cap_spec.proofs.Trees.ReadingBack.{length-scalar_words, scalars_read}
 

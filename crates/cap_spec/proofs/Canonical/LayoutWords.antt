@@ -7,13 +7,13 @@ use Rattle.cap_spec.proofs.Canonical.Sizes.{trimmed_size_charged}
 use Rattle.cap_spec.proofs.Canonical.TreeMeasures.{FitEach, FitElements, Fits, Measured, measured}
 use Rattle.cap_spec.proofs.Canonical.TrimmedMeasures.{Trimmed, trimmed}
 use Rattle.cap_spec.proofs.Canonical.TrimmedTrees.{trimmed_is_tree}
-use Rattle.cap_spec.proofs.Prelude.{List, [], arith, drop, length, length-take, map, subst}
-use Rattle.cap_spec.proofs.Prelude.{suc, sym, take, zero, ℕ, ◌*◌, ◌++◌, ◌+◌, ◌-◌, ◌/◌, ◌<◌, ◌^◌, ◌∷◌, ◌≡◌}
-use Rattle.cap_spec.proofs.Prelude.{◌≤◌, mul-le, AllByRecursion, range_with_len, content, contents, element_contents}
-use Rattle.cap_spec.proofs.Prelude.{element_sizes, element_words, layout, list_word, pointer_to, pointer_words, size}
-use Rattle.cap_spec.proofs.Prelude.{sizes, struct_word, trim, Denotes, element_bits, list_words, packed_word}
-use Rattle.cap_spec.proofs.Prelude.{scalar_words, AreElementTrees, AreTrees, IsTree, Tree, Trees, cap, more, null}
-use Rattle.cap_spec.proofs.Prelude.{pointers, scalars, struct, structs, tree_count, IsWord, rules}
+use Rattle.cap_spec.proofs.ProofNames.{List, [], arith, drop, length, length-take, map, subst}
+use Rattle.cap_spec.proofs.ProofNames.{suc, sym, take, zero, ℕ, ◌*◌, ◌++◌, ◌+◌, ◌-◌, ◌/◌, ◌<◌, ◌^◌, ◌∷◌, ◌≡◌}
+use Rattle.cap_spec.proofs.ProofNames.{◌≤◌, mul-le, AllByRecursion, range_with_len, content, contents, element_contents}
+use Rattle.cap_spec.proofs.ProofNames.{element_sizes, element_words, layout, list_word, pointer_to, pointer_words, size}
+use Rattle.cap_spec.proofs.ProofNames.{sizes, struct_word, trim, Denotes, element_bits, list_words, packed_word}
+use Rattle.cap_spec.proofs.ProofNames.{scalar_words, AreElementTrees, AreTrees, IsTree, Tree, Trees, cap, more, null}
+use Rattle.cap_spec.proofs.ProofNames.{pointers, scalars, struct, structs, tree_count, IsWord, rules}
 use Rattle.cap_spec.proofs.Trees.DenotedTrees.{AreWords, denoted_is_tree}
 
 -- values of one word fit the bits that they take together

@@ -11,12 +11,12 @@ use Rattle.cap_spec.proofs.Canonical.Sizes.{trimmed_size_charged}
 use Rattle.cap_spec.proofs.Canonical.TreeMeasures.{FitEach, FitElements, Fits, Measured, cost, costs, element_costs}
 use Rattle.cap_spec.proofs.Canonical.TreeMeasures.{element_heights, height, heights, measured}
 use Rattle.cap_spec.proofs.Canonical.TrimmedMeasures.{Trimmed, trimmed}
-use Rattle.cap_spec.proofs.Prelude.{List, [], ap, arith, length, length-append, refl, subst, sym, ℕ, ◌*◌, ◌++◌, ◌+◌}
-use Rattle.cap_spec.proofs.Prelude.{◌<◌, ◌^◌, ◌↔◌, ◌∙◌, ◌∷◌, ◌≡◌, ◌≤◌, content, contents, element_contents}
-use Rattle.cap_spec.proofs.Prelude.{element_sizes, element_words, layout, list_word, pointer_to, pointer_words, size}
-use Rattle.cap_spec.proofs.Prelude.{sizes, struct_word, trim, AreElements, DenoteEach, Denotes, near, HasWord}
-use Rattle.cap_spec.proofs.Prelude.{HasWordsAt, Tree, Trees, cap, more, null, pointers, scalars, struct, structs}
-use Rattle.cap_spec.proofs.Prelude.{tree_count}
+use Rattle.cap_spec.proofs.ProofNames.{List, [], ap, arith, length, length-append, refl, subst, sym, ℕ, ◌*◌, ◌++◌, ◌+◌}
+use Rattle.cap_spec.proofs.ProofNames.{◌<◌, ◌^◌, ◌↔◌, ◌∙◌, ◌∷◌, ◌≡◌, ◌≤◌, content, contents, element_contents}
+use Rattle.cap_spec.proofs.ProofNames.{element_sizes, element_words, layout, list_word, pointer_to, pointer_words, size}
+use Rattle.cap_spec.proofs.ProofNames.{sizes, struct_word, trim, AreElements, DenoteEach, Denotes, near, HasWord}
+use Rattle.cap_spec.proofs.ProofNames.{HasWordsAt, Tree, Trees, cap, more, null, pointers, scalars, struct, structs}
+use Rattle.cap_spec.proofs.ProofNames.{tree_count}
 use Rattle.cap_spec.proofs.Trees.OneTree.{one_tree}
 
 -- where a struct list's elements end, and its children's contents begin

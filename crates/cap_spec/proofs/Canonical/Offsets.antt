@@ -6,9 +6,9 @@ use Rattle.cap_spec.proofs.Canonical.ElementPlaces.{children_near, elements_only
 use Rattle.cap_spec.proofs.Canonical.Sizes.{trimmed_size_charged}
 use Rattle.cap_spec.proofs.Canonical.TreeMeasures.{FitEach, FitElements, Fits, Measured, measured}
 use Rattle.cap_spec.proofs.Canonical.TrimmedMeasures.{Trimmed, trimmed}
-use Rattle.cap_spec.proofs.Prelude.{List, arith, flat_map, ℕ, ◌*◌, ◌+◌, ◌<◌, ◌^◌, ◌≤◌, AllByRecursion, element_sizes}
-use Rattle.cap_spec.proofs.Prelude.{offsets, size, sizes, trim, Denotes, Tree, Trees, cap, more, null, pointers}
-use Rattle.cap_spec.proofs.Prelude.{scalars, struct, structs, tree_count}
+use Rattle.cap_spec.proofs.ProofNames.{List, arith, flat_map, ℕ, ◌*◌, ◌+◌, ◌<◌, ◌^◌, ◌≤◌, AllByRecursion, element_sizes}
+use Rattle.cap_spec.proofs.ProofNames.{offsets, size, sizes, trim, Denotes, Tree, Trees, cap, more, null, pointers}
+use Rattle.cap_spec.proofs.ProofNames.{scalars, struct, structs, tree_count}
 
 -- those of pointers in a row
 row_offsets : (most after : ℕ) (ts : Trees) → after + tree_count ts + sizes ts < most

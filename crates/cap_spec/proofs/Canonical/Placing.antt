@@ -1,8 +1,8 @@
 -- Words that stand in a segment, addressed by their positions.
 use Rattle.std.proofs.lemmas.List.{length_push}
-use Rattle.cap_spec.proofs.Prelude.{List, Some, [], ap, append-nil, append_assoc, arith, drop, get_or, length, refl}
-use Rattle.cap_spec.proofs.Prelude.{slice_get, subst, suc, take, zero, ℕ, ◌++◌, ◌+◌, ◌-◌, ◌<◌, ◌∙◌, ◌∷◌, ◌≡◌, ◌≤◌}
-use Rattle.cap_spec.proofs.Prelude.{get_or_from_slice_get, same_Some, slice_get_within, words_from, HasWordsAt, rules}
+use Rattle.cap_spec.proofs.ProofNames.{List, Some, [], ap, append-nil, append_assoc, arith, drop, get_or, length, refl}
+use Rattle.cap_spec.proofs.ProofNames.{slice_get, subst, suc, take, zero, ℕ, ◌++◌, ◌+◌, ◌-◌, ◌<◌, ◌∙◌, ◌∷◌, ◌≡◌, ◌≤◌}
+use Rattle.cap_spec.proofs.ProofNames.{get_or_from_slice_get, same_Some, slice_get_within, words_from, HasWordsAt, rules}
 use Rattle.cap_spec.proofs.Trees.ReadingBack.{WordsAt}
 
 -- of words that stand joined each part stands at its place

@@ -1,7 +1,7 @@
 -- The fields of the pointer words of a layout.
-use Rattle.cap_spec.proofs.Prelude.{arith, cond, ltb, negsuc, pos, suc, sym, ℕ, ◌*◌, ◌+ℤ◌, ◌+◌, ◌-◌, ◌<◌, ◌^◌, ◌≡◌}
-use Rattle.cap_spec.proofs.Prelude.{list_word, struct_word, cap_index, code, data_size, kind, list_size, middle}
-use Rattle.cap_spec.proofs.Prelude.{pointer_size, signed_offset_of, common_steps, rules}
+use Rattle.cap_spec.proofs.ProofNames.{arith, cond, ltb, negsuc, pos, suc, sym, ℕ, ◌*◌, ◌+ℤ◌, ◌+◌, ◌-◌, ◌<◌, ◌^◌, ◌≡◌}
+use Rattle.cap_spec.proofs.ProofNames.{list_word, struct_word, cap_index, code, data_size, kind, list_size, middle}
+use Rattle.cap_spec.proofs.ProofNames.{pointer_size, signed_offset_of, common_steps, rules}
 
 -- of a struct's pointer, or of a tag
 pub record StructFields (q offset d p : ℕ) : Type 0 where

@@ -5,12 +5,12 @@ use Rattle.cap_spec.specs.Tree.{none}
 use Rattle.cap_spec.proofs.Pointers.Shapes.{pointers_levels, pointers_shape, pointers_words, scalars_levels, scalars_shape}
 use Rattle.cap_spec.proofs.Pointers.Shapes.{scalars_words, struct_levels, struct_shape, struct_words, structs_levels}
 use Rattle.cap_spec.proofs.Pointers.Shapes.{structs_shape, structs_words}
-use Rattle.cap_spec.proofs.Prelude.{List, ap, ap₂, arith, false, if◌then◌else◌, length, max, ne_eqb, refl, suc, sym, ℕ}
-use Rattle.cap_spec.proofs.Prelude.{◌*◌, ◌+◌, ◌<◌, ◌==◌, ◌^◌, ◌∙◌, ◌≡◌, ◌≤◌, AllByRecursion, ⊤, AreElements}
-use Rattle.cap_spec.proofs.Prelude.{DenoteEach, Denotes, FindsCharged, element_levels, values_of, words_from, extra}
-use Rattle.cap_spec.proofs.Prelude.{segment_of, HasKind, code, data_size, element_bits, extent, kind, list_size}
-use Rattle.cap_spec.proofs.Prelude.{list_words, middle, pointer_size, Tree, Trees, cap, more, null, pointers, scalars}
-use Rattle.cap_spec.proofs.Prelude.{struct, structs, tree_count, Pointers, Scalars, Struct, Structs}
+use Rattle.cap_spec.proofs.ProofNames.{List, ap, ap₂, arith, false, if◌then◌else◌, length, max, ne_eqb, refl, suc, sym, ℕ}
+use Rattle.cap_spec.proofs.ProofNames.{◌*◌, ◌+◌, ◌<◌, ◌==◌, ◌^◌, ◌∙◌, ◌≡◌, ◌≤◌, AllByRecursion, ⊤, AreElements}
+use Rattle.cap_spec.proofs.ProofNames.{DenoteEach, Denotes, FindsCharged, element_levels, values_of, words_from, extra}
+use Rattle.cap_spec.proofs.ProofNames.{segment_of, HasKind, code, data_size, element_bits, extent, kind, list_size}
+use Rattle.cap_spec.proofs.ProofNames.{list_words, middle, pointer_size, Tree, Trees, cap, more, null, pointers, scalars}
+use Rattle.cap_spec.proofs.ProofNames.{struct, structs, tree_count, Pointers, Scalars, Struct, Structs}
 use Rattle.cap_spec.proofs.Trees.Charges.{each_charged, elements_fit, length-places}
 use Rattle.cap_spec.proofs.Trees.DenotedTrees.{cap_fits, elements_inside, range_length, values_fit}
 use Rattle.cap_spec.proofs.Trees.Readings.{length-values}

@@ -3,11 +3,11 @@ use Rattle.cap_spec.specs.Tree.{none}
 use Rattle.cap_spec.proofs.Bytes.Lists.{all_take}
 use Rattle.cap_spec.proofs.Canonical.TrimmedMeasures.{children_needed_le, data_needed_le, none_left, tree_count-take_le}
 use Rattle.cap_spec.proofs.Canonical.Trimming.{rest_below}
-use Rattle.cap_spec.proofs.Prelude.{ap, ap₂, arith, if◌then◌else◌, length-take-le, not, refl, suc, sym, zero, ℕ, ◌+◌}
-use Rattle.cap_spec.proofs.Prelude.{◌==◌, ◌∙◌, ◌≡◌, ◌≤◌, children_needed, children_of, cut_elements, data_needed}
-use Rattle.cap_spec.proofs.Prelude.{data_of, is_null, take_trees, trim, trim_all, trim_elements, AreElementTrees}
-use Rattle.cap_spec.proofs.Prelude.{AreTrees, IsTree, Tree, Trees, cap, cap_count, cap_counts, has_cap, more, null}
-use Rattle.cap_spec.proofs.Prelude.{pointers, scalars, struct, structs, tree_count, IsWord, rules}
+use Rattle.cap_spec.proofs.ProofNames.{ap, ap₂, arith, if◌then◌else◌, length-take-le, not, refl, suc, sym, zero, ℕ, ◌+◌}
+use Rattle.cap_spec.proofs.ProofNames.{◌==◌, ◌∙◌, ◌≡◌, ◌≤◌, children_needed, children_of, cut_elements, data_needed}
+use Rattle.cap_spec.proofs.ProofNames.{data_of, is_null, take_trees, trim, trim_all, trim_elements, AreElementTrees}
+use Rattle.cap_spec.proofs.ProofNames.{AreTrees, IsTree, Tree, Trees, cap, cap_count, cap_counts, has_cap, more, null}
+use Rattle.cap_spec.proofs.ProofNames.{pointers, scalars, struct, structs, tree_count, IsWord, rules}
 
 -- a front of trees
 trees-take : (n : ℕ) (ts : Trees) → AreTrees ts → AreTrees (take_trees n ts)

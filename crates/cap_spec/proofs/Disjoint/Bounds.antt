@@ -12,13 +12,13 @@ use Rattle.cap_spec.proofs.Paths.PathCounts.{pointer_paths}
 use Rattle.cap_spec.proofs.Paths.PathLists.{behind, is_pointer, listed_rise, paths_below, paths_from}
 use Rattle.cap_spec.proofs.Paths.Preorder.{Rises-distinct}
 use Rattle.cap_spec.proofs.Pointers.Shapes.{pointers_extra, struct_extra}
-use Rattle.cap_spec.proofs.Prelude.{List, [], ap, append_assoc, arith, false, inl, inr, length, length-append, pos}
-use Rattle.cap_spec.proofs.Prelude.{refl, subst, suc, sum, sym, true, zero, ℕ, ◌*◌, ◌++◌, ◌+◌, ◌<◌, ◌∙◌, ◌∷◌, ◌≡◌}
-use Rattle.cap_spec.proofs.Prelude.{AreElements, DenoteEach, Denotes, Finds, Leads, extra, to_cap, to_null, to_object}
-use Rattle.cap_spec.proofs.Prelude.{sizes_of, AreDistinct, IsOneOf, HasWord, segment_of, IsDisjoint, Occupies, Uses}
-use Rattle.cap_spec.proofs.Prelude.{empty_count, pads_of, PathLeads, Spot, StepsTo, element, level_of, word}
-use Rattle.cap_spec.proofs.Prelude.{extent, Tree, Trees, cap, more, null, pointers}
-use Rattle.cap_spec.proofs.Prelude.{scalars, struct, structs, tree_count, Step, Item, Ptr}
+use Rattle.cap_spec.proofs.ProofNames.{List, [], ap, append_assoc, arith, false, inl, inr, length, length-append, pos}
+use Rattle.cap_spec.proofs.ProofNames.{refl, subst, suc, sum, sym, true, zero, ℕ, ◌*◌, ◌++◌, ◌+◌, ◌<◌, ◌∙◌, ◌∷◌, ◌≡◌}
+use Rattle.cap_spec.proofs.ProofNames.{AreElements, DenoteEach, Denotes, Finds, Leads, extra, to_cap, to_null, to_object}
+use Rattle.cap_spec.proofs.ProofNames.{sizes_of, AreDistinct, IsOneOf, HasWord, segment_of, IsDisjoint, Occupies, Uses}
+use Rattle.cap_spec.proofs.ProofNames.{empty_count, pads_of, PathLeads, Spot, StepsTo, element, level_of, word}
+use Rattle.cap_spec.proofs.ProofNames.{extent, Tree, Trees, cap, more, null, pointers}
+use Rattle.cap_spec.proofs.ProofNames.{scalars, struct, structs, tree_count, Step, Item, Ptr}
 use Rattle.cap_spec.proofs.Trees.Charges.{length-places}
 use Rattle.cap_spec.proofs.Trees.OneTree.{Formed, cons_parts, formed}
 use Rattle.cap_spec.proofs.Trees.Readings.{length-values}

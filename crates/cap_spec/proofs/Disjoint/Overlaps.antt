@@ -3,10 +3,10 @@ use Rattle.cap_spec.specs.Denoting.{places}
 use Rattle.cap_spec.proofs.Frames.Messages.{one_word}
 use Rattle.cap_spec.proofs.Paths.Preorder.{Before-irreflexive, Before-total_coming, one_first, one_number}
 use Rattle.cap_spec.proofs.Pointers.Following.{one_lead}
-use Rattle.cap_spec.proofs.Prelude.{List, [], ap, inl, inr, pos, subst, sym, ℕ, ◌++◌, ◌∙◌, ◌∷◌, ◌≡◌, ◌⊎◌, cases_eq}
-use Rattle.cap_spec.proofs.Prelude.{Finds, Lead, Leads, to_cap, to_null, to_object, AreDistinct, IsOneOf, IsDisjoint}
-use Rattle.cap_spec.proofs.Prelude.{IsFirstOverlap, Occupies, Overlaps, on_earlier, on_root, pads_of, twice, Before}
-use Rattle.cap_spec.proofs.Prelude.{word, extent, Step}
+use Rattle.cap_spec.proofs.ProofNames.{List, [], ap, inl, inr, pos, subst, sym, ℕ, ◌++◌, ◌∙◌, ◌∷◌, ◌≡◌, ◌⊎◌, cases_eq}
+use Rattle.cap_spec.proofs.ProofNames.{Finds, Lead, Leads, to_cap, to_null, to_object, AreDistinct, IsOneOf, IsDisjoint}
+use Rattle.cap_spec.proofs.ProofNames.{IsFirstOverlap, Occupies, Overlaps, on_earlier, on_root, pads_of, twice, Before}
+use Rattle.cap_spec.proofs.ProofNames.{word, extent, Step}
 use Rattle.cap_spec.proofs.Trees.Finding.{one_object}
 
 -- a place is one of these, or isn't

@@ -3,10 +3,10 @@ use Rattle.std.proofs.Common.{sum_by}
 use Rattle.std.proofs.lemmas.List.Sums.{sum_by_from}
 use Rattle.cap_spec.specs.Denoting.{places}
 use Rattle.cap_spec.proofs.Frames.Messages.{HasWord-inside, HasWord-segment, one_word}
-use Rattle.cap_spec.proofs.Prelude.{List, [], ap, arith, eqb, false, inl, inr, length, length-append, ne_eqb, refl}
-use Rattle.cap_spec.proofs.Prelude.{subst, suc, sum, sym, zero, ℕ, ◌++◌, ◌+◌, ◌<◌, ◌∙◌, ◌∷◌, ◌≡◌, ◌≢◌, ◌≤◌, ◌⊎◌}
-use Rattle.cap_spec.proofs.Prelude.{cases_eq, Lead, Leads, sizes_of, AreDistinct, IsOneOf}
-use Rattle.cap_spec.proofs.Prelude.{HasWord, segment_of, pads_of, far_segment, kind, pad, two, rules}
+use Rattle.cap_spec.proofs.ProofNames.{List, [], ap, arith, eqb, false, inl, inr, length, length-append, ne_eqb, refl}
+use Rattle.cap_spec.proofs.ProofNames.{subst, suc, sum, sym, zero, ℕ, ◌++◌, ◌+◌, ◌<◌, ◌∙◌, ◌∷◌, ◌≡◌, ◌≢◌, ◌≤◌, ◌⊎◌}
+use Rattle.cap_spec.proofs.ProofNames.{cases_eq, Lead, Leads, sizes_of, AreDistinct, IsOneOf}
+use Rattle.cap_spec.proofs.ProofNames.{HasWord, segment_of, pads_of, far_segment, kind, pad, two, rules}
 use Rattle.cap_spec.proofs.Trees.Charges.{length-places}
 
 -- the places of a range

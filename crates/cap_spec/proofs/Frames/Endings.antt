@@ -1,9 +1,9 @@
 -- The five ways in which reading a message ends: no two of them hold of the same words.
 use Rattle.cap_spec.proofs.Frames.Framing.{same_table, table_count, table_length, table_some}
-use Rattle.cap_spec.proofs.Prelude.{Bool, List, [], ap, append_assoc, arith, false, length, length-append, refl, sum}
-use Rattle.cap_spec.proofs.Prelude.{sym, ℕ, ◌%◌, ◌++◌, ◌+◌, ◌/◌, ◌<◌, ◌^◌, ◌∙◌, ◌∷◌, ◌≡◌, ◌≤◌, sum_by-cons, Frames}
-use Rattle.cap_spec.proofs.Prelude.{IsPartial, IsTable, in_contents, in_table, in_word, joined, sizes_of}
-use Rattle.cap_spec.proofs.Prelude.{common_steps, rules}
+use Rattle.cap_spec.proofs.ProofNames.{Bool, List, [], ap, append_assoc, arith, false, length, length-append, refl, sum}
+use Rattle.cap_spec.proofs.ProofNames.{sym, ℕ, ◌%◌, ◌++◌, ◌+◌, ◌/◌, ◌<◌, ◌^◌, ◌∙◌, ◌∷◌, ◌≡◌, ◌≤◌, sum_by-cons, Frames}
+use Rattle.cap_spec.proofs.ProofNames.{IsPartial, IsTable, in_contents, in_table, in_word, joined, sizes_of}
+use Rattle.cap_spec.proofs.ProofNames.{common_steps, rules}
 
 -- the segments joined are as long as their sizes together
 pub length_joined : (m : List (List ℕ)) → length (joined m) ≡ sum (sizes_of m)

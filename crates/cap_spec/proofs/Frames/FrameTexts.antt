@@ -4,10 +4,10 @@ use Rattle.std.proofs.lemmas.List.Elements.{recursion_from_All}
 use Rattle.cap_spec.proofs.Bytes.WordBytes.{four_bytes, word_halves}
 use Rattle.cap_spec.proofs.Frames.Endings.{frame_some}
 use Rattle.cap_spec.proofs.Frames.Framing.{one_frame}
-use Rattle.cap_spec.proofs.Prelude.{List, [], ap, arith, drop, flat_map, get_or, length, length-append, map, refl}
-use Rattle.cap_spec.proofs.Prelude.{replicate, suc, sym, zero, ℕ, ◌%◌, ◌*◌, ◌++◌, ◌+◌, ◌-◌, ◌/◌, ◌<◌, ◌^◌, ◌∙◌, ◌∷◌}
-use Rattle.cap_spec.proofs.Prelude.{◌≡◌, length-map, length-replicate, AllByRecursion, Frames, FramesZero, Stream}
-use Rattle.cap_spec.proofs.Prelude.{frame_text, halves, joined, paired, sizes_of, IsMessage, plain_text, rules}
+use Rattle.cap_spec.proofs.ProofNames.{List, [], ap, arith, drop, flat_map, get_or, length, length-append, map, refl}
+use Rattle.cap_spec.proofs.ProofNames.{replicate, suc, sym, zero, ℕ, ◌%◌, ◌*◌, ◌++◌, ◌+◌, ◌-◌, ◌/◌, ◌<◌, ◌^◌, ◌∙◌, ◌∷◌}
+use Rattle.cap_spec.proofs.ProofNames.{◌≡◌, length-map, length-replicate, AllByRecursion, Frames, FramesZero, Stream}
+use Rattle.cap_spec.proofs.ProofNames.{frame_text, halves, joined, paired, sizes_of, IsMessage, plain_text, rules}
 
 -- the bytes of words are those of their halves
 pub plain_halves : (words : List ℕ) → plain_text words ≡ flat_map four_bytes (flat_map halves words)

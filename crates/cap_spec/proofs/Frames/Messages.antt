@@ -1,6 +1,6 @@
 -- The words of a message at their places.
-use Rattle.cap_spec.proofs.Prelude.{List, [], arith, get_or, length, subst, sym, ℕ, ◌<◌, ◌^◌, ◌∙◌, ◌≡◌, same_Some}
-use Rattle.cap_spec.proofs.Prelude.{slice_get-get_or, slice_get_within, HasWord, IsMessage, segment_of, common_steps}
+use Rattle.cap_spec.proofs.ProofNames.{List, [], arith, get_or, length, subst, sym, ℕ, ◌<◌, ◌^◌, ◌∙◌, ◌≡◌, same_Some}
+use Rattle.cap_spec.proofs.ProofNames.{slice_get-get_or, slice_get_within, HasWord, IsMessage, segment_of, common_steps}
 
 -- the word at a place is one word
 pub one_word : (m : List (List ℕ)) (s w x y : ℕ) → HasWord m s w x → HasWord m s w y → x ≡ y

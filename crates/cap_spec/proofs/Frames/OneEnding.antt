@@ -5,12 +5,12 @@ use Rattle.cap_spec.proofs.Frames.Endings.{message_not_none, message_not_partial
 use Rattle.cap_spec.proofs.Frames.Endings.{message_not_too_many, no_table, none_not_partial, too_large_not_partial}
 use Rattle.cap_spec.proofs.Frames.Endings.{too_many_not_partial, too_many_not_too_large}
 use Rattle.cap_spec.proofs.Frames.Framing.{length_halves}
-use Rattle.cap_spec.proofs.Prelude.{Bool, List, [], ap, append_assoc, arith, drop, drop-drop, false, flat_map, inl, inr}
-use Rattle.cap_spec.proofs.Prelude.{length, length-drop, length-take-le, refl, subst, sum, sym, take, take-append-drop}
-use Rattle.cap_spec.proofs.Prelude.{true, ℕ, ◌%◌, ◌*◌, ◌++◌, ◌+◌, ◌-◌, ◌/◌, ◌<◌, ◌^◌, ◌∙◌, ◌∷◌, ◌≡◌, ◌≤◌, cases_lt}
-use Rattle.cap_spec.proofs.Prelude.{sum_by-cons, AllByRecursion, BeginsMessage, Ending, EndsIn, TellsTooMany}
-use Rattle.cap_spec.proofs.Prelude.{TellsTooMuch, message, partial, too_large, too_many, IsPartial, IsTable, halves}
-use Rattle.cap_spec.proofs.Prelude.{in_contents, in_table, in_word, joined, sizes_of, IsWord, common_steps, rules}
+use Rattle.cap_spec.proofs.ProofNames.{Bool, List, [], ap, append_assoc, arith, drop, drop-drop, false, flat_map, inl, inr}
+use Rattle.cap_spec.proofs.ProofNames.{length, length-drop, length-take-le, refl, subst, sum, sym, take, take-append-drop}
+use Rattle.cap_spec.proofs.ProofNames.{true, ℕ, ◌%◌, ◌*◌, ◌++◌, ◌+◌, ◌-◌, ◌/◌, ◌<◌, ◌^◌, ◌∙◌, ◌∷◌, ◌≡◌, ◌≤◌, cases_lt}
+use Rattle.cap_spec.proofs.ProofNames.{sum_by-cons, AllByRecursion, BeginsMessage, Ending, EndsIn, TellsTooMany}
+use Rattle.cap_spec.proofs.ProofNames.{TellsTooMuch, message, partial, too_large, too_many, IsPartial, IsTable, halves}
+use Rattle.cap_spec.proofs.ProofNames.{in_contents, in_table, in_word, joined, sizes_of, IsWord, common_steps, rules}
 
 -- words cut into segments of these sizes
 abbrev pub split : List ℕ → List ℕ → List (List ℕ)

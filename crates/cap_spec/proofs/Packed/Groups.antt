@@ -2,12 +2,12 @@
 use Rattle.cap_spec.proofs.Bytes.Plain.{length_plain}
 use Rattle.cap_spec.proofs.Packed.Unpacking.{cut_front, cut_short, length_marked, plain_reads, spread_append}
 use Rattle.cap_spec.proofs.Packed.Unpacking.{unpacked_front, unpacked_short, words_marked}
-use Rattle.cap_spec.proofs.Prelude.{List, [], ap, append-nil, append_assoc, arith, drop, drop_at, false, inl, inr}
-use Rattle.cap_spec.proofs.Prelude.{length, length-append, refl, slice_index, subst, sym, take_at, true, ℕ, ◌*◌}
-use Rattle.cap_spec.proofs.Prelude.{◌++◌, ◌+◌, ◌<◌, ◌∙◌, ◌∷◌, ◌≡◌, ◌≢◌, cases_lt, get_or_append_left, AllByRecursion}
-use Rattle.cap_spec.proofs.Prelude.{plain_text, word_bytes, Cut, Groups, IsGroup, Unpacks, given_of}
-use Rattle.cap_spec.proofs.Prelude.{group_length, group_words, groups_text, groups_words, marked, packed_is_cut}
-use Rattle.cap_spec.proofs.Prelude.{plain, unpacked, zeros, IsWord, common_steps, rules}
+use Rattle.cap_spec.proofs.ProofNames.{List, [], ap, append-nil, append_assoc, arith, drop, drop_at, false, inl, inr}
+use Rattle.cap_spec.proofs.ProofNames.{length, length-append, refl, slice_index, subst, sym, take_at, true, ℕ, ◌*◌}
+use Rattle.cap_spec.proofs.ProofNames.{◌++◌, ◌+◌, ◌<◌, ◌∙◌, ◌∷◌, ◌≡◌, ◌≢◌, cases_lt, get_or_append_left, AllByRecursion}
+use Rattle.cap_spec.proofs.ProofNames.{plain_text, word_bytes, Cut, Groups, IsGroup, Unpacks, given_of}
+use Rattle.cap_spec.proofs.ProofNames.{group_length, group_words, groups_text, groups_words, marked, packed_is_cut}
+use Rattle.cap_spec.proofs.ProofNames.{plain, unpacked, zeros, IsWord, common_steps, rules}
 
 -- a group, whatever stands behind it: it is as long as its head says, and stands for its words
 pub record InFront (bytes words rest : List ℕ) : Type 0 where

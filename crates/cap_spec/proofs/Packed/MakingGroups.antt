@@ -3,12 +3,12 @@ use Rattle.cap_spec.proofs.Bytes.Lists.{all_append, all_take}
 use Rattle.cap_spec.proofs.Bytes.Plain.{eight_back, eight_word, length_plain, plain_split}
 use Rattle.cap_spec.proofs.Packed.Groups.{plain_group}
 use Rattle.cap_spec.proofs.Packed.Unpacking.{length_marked, spread_append, words_marked}
-use Rattle.cap_spec.proofs.Prelude.{List, [], ap, append-nil, arith, drop, get_or, get_or-take, inl, inr, length}
-use Rattle.cap_spec.proofs.Prelude.{length-append, length-drop, length-take-le, refl, replicate, slice_index, subst}
-use Rattle.cap_spec.proofs.Prelude.{suc, sym, take, take-append-drop, take-take, zero, ℕ, ◌*◌, ◌++◌, ◌+◌, ◌-◌, ◌<◌, ◌∙◌}
-use Rattle.cap_spec.proofs.Prelude.{◌∷◌, ◌≡◌, ◌≢◌, ◌≤◌, cases_eq, drop-take, length-replicate, nil_from_length}
-use Rattle.cap_spec.proofs.Prelude.{AllByRecursion, little_number, plain_text, plain_words, word_bytes, IsGroup}
-use Rattle.cap_spec.proofs.Prelude.{group_length, group_words, marked, marks, plain, spread, zeros, common_steps, rules}
+use Rattle.cap_spec.proofs.ProofNames.{List, [], ap, append-nil, arith, drop, get_or, get_or-take, inl, inr, length}
+use Rattle.cap_spec.proofs.ProofNames.{length-append, length-drop, length-take-le, refl, replicate, slice_index, subst}
+use Rattle.cap_spec.proofs.ProofNames.{suc, sym, take, take-append-drop, take-take, zero, ℕ, ◌*◌, ◌++◌, ◌+◌, ◌-◌, ◌<◌, ◌∙◌}
+use Rattle.cap_spec.proofs.ProofNames.{◌∷◌, ◌≡◌, ◌≢◌, ◌≤◌, cases_eq, drop-take, length-replicate, nil_from_length}
+use Rattle.cap_spec.proofs.ProofNames.{AllByRecursion, little_number, plain_text, plain_words, word_bytes, IsGroup}
+use Rattle.cap_spec.proofs.ProofNames.{group_length, group_words, marked, marks, plain, spread, zeros, common_steps, rules}
 
 -- bytes of whole words: so many words
 pub aligned_words : (n : ℕ) (bytes : List ℕ) → AllByRecursion (λ b. b < 256) bytes → length bytes ≡ 8 * n

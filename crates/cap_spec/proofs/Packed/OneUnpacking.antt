@@ -3,10 +3,10 @@ use Rattle.cap_spec.proofs.Bytes.Lists.{all_drop}
 use Rattle.cap_spec.proofs.Packed.Groups.{cut_is_cut, cut_words, unpacks_whole, unpacks_words}
 use Rattle.cap_spec.proofs.Packed.MakingGroups.{begins_group, whole_group}
 use Rattle.cap_spec.proofs.Packed.Unpacking.{cut_front, cut_short, group_some, unpacked_front, unpacked_short}
-use Rattle.cap_spec.proofs.Prelude.{List, [], ap, append_assoc, arith, drop, false, inl, inr, length, length-drop, refl}
-use Rattle.cap_spec.proofs.Prelude.{subst, suc, sym, take, take-append-drop, true, zero, ℕ, ◌++◌, ◌<◌, ◌∙◌, ◌∷◌, ◌≡◌}
-use Rattle.cap_spec.proofs.Prelude.{◌≤◌, ◌⊎◌, cases_lt, AllByRecursion, Cut, IsGroup, Unpacks, given_of, group_length}
-use Rattle.cap_spec.proofs.Prelude.{group_words, packed_is_cut, unpacked}
+use Rattle.cap_spec.proofs.ProofNames.{List, [], ap, append_assoc, arith, drop, false, inl, inr, length, length-drop, refl}
+use Rattle.cap_spec.proofs.ProofNames.{subst, suc, sym, take, take-append-drop, true, zero, ℕ, ◌++◌, ◌<◌, ◌∙◌, ◌∷◌, ◌≡◌}
+use Rattle.cap_spec.proofs.ProofNames.{◌≤◌, ◌⊎◌, cases_lt, AllByRecursion, Cut, IsGroup, Unpacks, given_of, group_length}
+use Rattle.cap_spec.proofs.ProofNames.{group_words, packed_is_cut, unpacked}
 
 -- what becomes of bytes: they unpack, or they are cut
 pub data Becomes (bytes : List ℕ) : Type 0 where

@@ -2,10 +2,10 @@
 use Rattle.cap_spec.specs.PackedEnds.{group_ends}
 use Rattle.cap_spec.proofs.Packed.Groups.{in_front, part_is_short}
 use Rattle.cap_spec.proofs.Packed.Unpacking.{drop_less, group_some}
-use Rattle.cap_spec.proofs.Prelude.{List, [], ap, arith, drop, drop_at, if◌then◌else◌, le-ltb, length, length-append}
-use Rattle.cap_spec.proofs.Prelude.{nat_lt, refl, suc, sym, take, zero, ℕ, ◌++◌, ◌+◌, ◌<◌, ◌∙◌, ◌∷◌, ◌≡◌, ◌≢◌, ◌≤◌}
-use Rattle.cap_spec.proofs.Prelude.{length-replicate, ends_in, front_ends, packed_ends, word_ends, capped, IsGroup}
-use Rattle.cap_spec.proofs.Prelude.{given_of, group_length, marked, plain, zeros, common_steps, rules}
+use Rattle.cap_spec.proofs.ProofNames.{List, [], ap, arith, drop, drop_at, if◌then◌else◌, le-ltb, length, length-append}
+use Rattle.cap_spec.proofs.ProofNames.{nat_lt, refl, suc, sym, take, zero, ℕ, ◌++◌, ◌+◌, ◌<◌, ◌∙◌, ◌∷◌, ◌≡◌, ◌≢◌, ◌≤◌}
+use Rattle.cap_spec.proofs.ProofNames.{length-replicate, ends_in, front_ends, packed_ends, word_ends, capped, IsGroup}
+use Rattle.cap_spec.proofs.ProofNames.{given_of, group_length, marked, plain, zeros, common_steps, rules}
 
 -- no bytes give only the end
 pub ends_nil : (n at : ℕ) → ends_in n at [] ≡ capped at ∷ []

@@ -1,10 +1,10 @@
 -- How the packed text that is written splits into its groups.
 use Rattle.std.proofs.lemmas.List.Sums.{take_while-cons}
-use Rattle.cap_spec.proofs.Prelude.{Bool, List, [], ap, arith, cond, drop, false, filter, length, length-drop}
-use Rattle.cap_spec.proofs.Prelude.{length-take, ne_eqb, not, refl, replicate, suc, take, take_while, true}
-use Rattle.cap_spec.proofs.Prelude.{zero, ℕ, ◌++◌, ◌+◌, ◌-◌, ◌<◌, ◌==◌, ◌∙◌, ◌∷◌, ◌≡◌, ◌≢◌, ◌≤◌}
-use Rattle.cap_spec.proofs.Prelude.{length-replicate, prefix_len, full_run, group_size, group_text, pack_in, pack_text}
-use Rattle.cap_spec.proofs.Prelude.{tag_of, zero_bytes, zero_run, plain_text, word_bytes, common_steps, rules}
+use Rattle.cap_spec.proofs.ProofNames.{Bool, List, [], ap, arith, cond, drop, false, filter, length, length-drop}
+use Rattle.cap_spec.proofs.ProofNames.{length-take, ne_eqb, not, refl, replicate, suc, take, take_while, true}
+use Rattle.cap_spec.proofs.ProofNames.{zero, ℕ, ◌++◌, ◌+◌, ◌-◌, ◌<◌, ◌==◌, ◌∙◌, ◌∷◌, ◌≡◌, ◌≢◌, ◌≤◌}
+use Rattle.cap_spec.proofs.ProofNames.{length-replicate, prefix_len, full_run, group_size, group_text, pack_in, pack_text}
+use Rattle.cap_spec.proofs.ProofNames.{tag_of, zero_bytes, zero_run, plain_text, word_bytes, common_steps, rules}
 
 -- with room for all the groups, more room makes no difference
 pub pack_in-enough : (n m : ℕ) (ws : List ℕ) → length ws ≤ n → length ws ≤ m → pack_in n ws ≡ pack_in m ws

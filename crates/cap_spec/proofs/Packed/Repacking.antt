@@ -5,13 +5,13 @@ use Rattle.cap_spec.proofs.Packed.Groups.{unpacks_whole, unpacks_words}
 use Rattle.cap_spec.proofs.Packed.OneUnpacking.{unpacks_with}
 use Rattle.cap_spec.proofs.Packed.Packing.{front-le, group_size-marked, nonzero_word, zero_run-append, zero_run-ends}
 use Rattle.cap_spec.proofs.Packed.Unpacking.{spread_clear, spread_none, spread_set}
-use Rattle.cap_spec.proofs.Prelude.{List, [], ap, arith, cond, drop, false, filter, if◌then◌else◌, inl, inr, length}
-use Rattle.cap_spec.proofs.Prelude.{length-drop, length-take-le, min, nat_le, ne_eqb, not, refl, replicate, subst, suc}
-use Rattle.cap_spec.proofs.Prelude.{sym, take, take-append-drop, zero, ℕ, ◌%◌, ◌*◌, ◌++◌, ◌+◌, ◌-◌, ◌/◌, ◌<◌, ◌==◌, ◌^◌}
-use Rattle.cap_spec.proofs.Prelude.{◌∙◌, ◌∷◌, ◌≡◌, ◌≢◌, ◌≤◌, pow-succ', cases_eq, AllByRecursion, little_number}
-use Rattle.cap_spec.proofs.Prelude.{little_from-cons, full_run, group_size, group_text, pack_in, pack_text, tag_of}
-use Rattle.cap_spec.proofs.Prelude.{zero_bytes, zero_run, zeros_in, plain_text, word_bytes, IsGroup, Unpacks, marked}
-use Rattle.cap_spec.proofs.Prelude.{marks, packed_is_cut, plain, spread, unpacked, zeros, IsWord, rules}
+use Rattle.cap_spec.proofs.ProofNames.{List, [], ap, arith, cond, drop, false, filter, if◌then◌else◌, inl, inr, length}
+use Rattle.cap_spec.proofs.ProofNames.{length-drop, length-take-le, min, nat_le, ne_eqb, not, refl, replicate, subst, suc}
+use Rattle.cap_spec.proofs.ProofNames.{sym, take, take-append-drop, zero, ℕ, ◌%◌, ◌*◌, ◌++◌, ◌+◌, ◌-◌, ◌/◌, ◌<◌, ◌==◌, ◌^◌}
+use Rattle.cap_spec.proofs.ProofNames.{◌∙◌, ◌∷◌, ◌≡◌, ◌≢◌, ◌≤◌, pow-succ', cases_eq, AllByRecursion, little_number}
+use Rattle.cap_spec.proofs.ProofNames.{little_from-cons, full_run, group_size, group_text, pack_in, pack_text, tag_of}
+use Rattle.cap_spec.proofs.ProofNames.{zero_bytes, zero_run, zeros_in, plain_text, word_bytes, IsGroup, Unpacks, marked}
+use Rattle.cap_spec.proofs.ProofNames.{marks, packed_is_cut, plain, spread, unpacked, zeros, IsWord, rules}
 
 -- the bytes of a word that aren't zero
 abbrev pub present_of : List ℕ → List ℕ

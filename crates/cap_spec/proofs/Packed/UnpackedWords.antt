@@ -4,11 +4,11 @@ use Rattle.cap_spec.proofs.Bytes.Plain.{plain_split}
 use Rattle.cap_spec.proofs.Bytes.WordBytes.{bytes_fit}
 use Rattle.cap_spec.proofs.Packed.OneUnpacking.{Becomes, becomes, part, whole}
 use Rattle.cap_spec.proofs.Packed.Unpacking.{spread_clear, spread_set}
-use Rattle.cap_spec.proofs.Prelude.{Bool, List, [], arith, drop, false, if◌then◌else◌, length, nat_lt, replicate}
-use Rattle.cap_spec.proofs.Prelude.{slice_index, subst, suc, sym, take, true, zero, ℕ, ◌++◌, ◌+◌, ◌/◌, ◌<◌, ◌==◌, ◌^◌}
-use Rattle.cap_spec.proofs.Prelude.{◌∷◌, pow-succ', AllByRecursion, little_from, little_number, plain_text}
-use Rattle.cap_spec.proofs.Prelude.{plain_words, word_bytes, Groups, IsGroup, Unpacks, given_of, groups_text}
-use Rattle.cap_spec.proofs.Prelude.{groups_words, marked, plain, spread, unpacked, zeros, IsWord, rules}
+use Rattle.cap_spec.proofs.ProofNames.{Bool, List, [], arith, drop, false, if◌then◌else◌, length, nat_lt, replicate}
+use Rattle.cap_spec.proofs.ProofNames.{slice_index, subst, suc, sym, take, true, zero, ℕ, ◌++◌, ◌+◌, ◌/◌, ◌<◌, ◌==◌, ◌^◌}
+use Rattle.cap_spec.proofs.ProofNames.{◌∷◌, pow-succ', AllByRecursion, little_from, little_number, plain_text}
+use Rattle.cap_spec.proofs.ProofNames.{plain_words, word_bytes, Groups, IsGroup, Unpacks, given_of, groups_text}
+use Rattle.cap_spec.proofs.ProofNames.{groups_words, marked, plain, spread, unpacked, zeros, IsWord, rules}
 
 -- bytes by a tag make a number of so many bytes
 pub spread_below : (n tag : ℕ) (present : List ℕ) → AllByRecursion (λ b. b < 256) present

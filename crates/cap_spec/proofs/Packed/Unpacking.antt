@@ -1,11 +1,11 @@
 -- Packed text as it is read: how many groups are looked for makes no difference,
 -- and the group in front comes off whole.
 use Rattle.cap_spec.proofs.Bytes.Plain.{plain_back}
-use Rattle.cap_spec.proofs.Prelude.{Bool, List, [], ap, append-nil, arith, drop, false, if◌then◌else◌, inl, inr}
-use Rattle.cap_spec.proofs.Prelude.{le-ltb, length, length-drop, lt-ltb, nat_lt, refl, suc, sym, true, zero, ℕ, ◌%◌}
-use Rattle.cap_spec.proofs.Prelude.{◌*◌, ◌++◌, ◌+◌, ◌/◌, ◌<◌, ◌==◌, ◌∙◌, ◌∷◌, ◌≡◌, ◌≤◌, cases_eq, AllByRecursion}
-use Rattle.cap_spec.proofs.Prelude.{plain_text, plain_words, given_in, given_of, group_length, group_words, is_cut_in}
-use Rattle.cap_spec.proofs.Prelude.{marks, packed_is_cut, spread, unpacked, IsWord, common_steps, rules}
+use Rattle.cap_spec.proofs.ProofNames.{Bool, List, [], ap, append-nil, arith, drop, false, if◌then◌else◌, inl, inr}
+use Rattle.cap_spec.proofs.ProofNames.{le-ltb, length, length-drop, lt-ltb, nat_lt, refl, suc, sym, true, zero, ℕ, ◌%◌}
+use Rattle.cap_spec.proofs.ProofNames.{◌*◌, ◌++◌, ◌+◌, ◌/◌, ◌<◌, ◌==◌, ◌∙◌, ◌∷◌, ◌≡◌, ◌≤◌, cases_eq, AllByRecursion}
+use Rattle.cap_spec.proofs.ProofNames.{plain_text, plain_words, given_in, given_of, group_length, group_words, is_cut_in}
+use Rattle.cap_spec.proofs.ProofNames.{marks, packed_is_cut, spread, unpacked, IsWord, common_steps, rules}
 
 -- two numbers above zero: so is the one chosen
 some_of : (c : Bool) (a b : ℕ) → 0 < a → 0 < b → 0 < (if c then a else b)

@@ -3,12 +3,12 @@ use Rattle.cap_spec.specs.Denoting.{places}
 use Rattle.cap_spec.specs.Tree.{none}
 use Rattle.cap_spec.proofs.Pointers.Following.{one_lead}
 use Rattle.cap_spec.proofs.Pointers.Shapes.{pointers_shape, struct_shape, structs_shape}
-use Rattle.cap_spec.proofs.Prelude.{List, None, Option, Some, [], arith, inl, inr, pos, refl, subst, suc, sym, zero}
-use Rattle.cap_spec.proofs.Prelude.{ℕ, ◌*◌, ◌+◌, ◌<◌, ◌∙◌, ◌∷◌, ◌≡◌, AreElements, DenoteEach, Denotes, Finds, FindsKind}
-use Rattle.cap_spec.proofs.Prelude.{Lead, Leads, near, one_pad, to_object, two_pads, HasWord, PathLeads, ReachesSpot}
-use Rattle.cap_spec.proofs.Prelude.{Spot, StepsTo, element, level_of, word, code, kind, DenotesAt, Tree, Trees, more}
-use Rattle.cap_spec.proofs.Prelude.{node_at, part_at, pointers, struct, structs, tree_at, Pointers, Struct, Structs, Step}
-use Rattle.cap_spec.proofs.Prelude.{Item, Ptr}
+use Rattle.cap_spec.proofs.ProofNames.{List, None, Option, Some, [], arith, inl, inr, pos, refl, subst, suc, sym, zero}
+use Rattle.cap_spec.proofs.ProofNames.{ℕ, ◌*◌, ◌+◌, ◌<◌, ◌∙◌, ◌∷◌, ◌≡◌, AreElements, DenoteEach, Denotes, Finds, FindsKind}
+use Rattle.cap_spec.proofs.ProofNames.{Lead, Leads, near, one_pad, to_object, two_pads, HasWord, PathLeads, ReachesSpot}
+use Rattle.cap_spec.proofs.ProofNames.{Spot, StepsTo, element, level_of, word, code, kind, DenotesAt, Tree, Trees, more}
+use Rattle.cap_spec.proofs.ProofNames.{node_at, part_at, pointers, struct, structs, tree_at, Pointers, Struct, Structs, Step}
+use Rattle.cap_spec.proofs.ProofNames.{Item, Ptr}
 use Rattle.cap_spec.proofs.Trees.Finding.{one_found}
 use Rattle.cap_spec.proofs.Trees.OneTree.{Formed, HasForm, cons_parts, form_of, formed, number_list, number_struct}
 

@@ -2,9 +2,9 @@
 use Rattle.cap_spec.specs.Tree.{none}
 use Rattle.cap_spec.proofs.Paths.Arrivals.{coming_to_node, node_parts, path_to_node}
 use Rattle.cap_spec.proofs.Paths.Walks.{comes_beyond}
-use Rattle.cap_spec.proofs.Prelude.{List, Some, [], ap, arith, suc, zero, ℕ, ◌++◌, ◌+◌, ◌<◌, ◌∷◌, ◌≡◌, ◌≤◌, Denotes}
-use Rattle.cap_spec.proofs.Prelude.{PathLeads, Reaches, word, Tree, Trees, cap, more, node_at, null, part_at, pointers}
-use Rattle.cap_spec.proofs.Prelude.{scalars, struct, structs, tree_at, Step, rules}
+use Rattle.cap_spec.proofs.ProofNames.{List, Some, [], ap, arith, suc, zero, ℕ, ◌++◌, ◌+◌, ◌<◌, ◌∷◌, ◌≡◌, ◌≤◌, Denotes}
+use Rattle.cap_spec.proofs.ProofNames.{PathLeads, Reaches, word, Tree, Trees, cap, more, node_at, null, part_at, pointers}
+use Rattle.cap_spec.proofs.ProofNames.{scalars, struct, structs, tree_at, Step, rules}
 use Rattle.cap_spec.proofs.Trees.OneTree.{Same, one_tree}
 
 -- how many nodes a tree has

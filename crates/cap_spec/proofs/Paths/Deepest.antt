@@ -4,11 +4,11 @@ use Rattle.cap_spec.specs.Tree.{none}
 use Rattle.cap_spec.proofs.Paths.Arrivals.{lead_word}
 use Rattle.cap_spec.proofs.Paths.Depths.{levels_of_some}
 use Rattle.cap_spec.proofs.Pointers.Shapes.{pointers_levels, struct_levels, structs_levels}
-use Rattle.cap_spec.proofs.Prelude.{List, [], arith, inl, inr, max, refl, subst, suc, sym, zero, ℕ, ◌*◌, ◌+◌, ◌<◌, ◌∷◌}
-use Rattle.cap_spec.proofs.Prelude.{◌≡◌, ◌≤◌, ◌⊎◌, AreElements, DenoteEach, Denotes, Finds, element_levels, IsComposite}
-use Rattle.cap_spec.proofs.Prelude.{HasWord, PathLeads, Reaches, Spot, StepsTo, element, level_of, word}
-use Rattle.cap_spec.proofs.Prelude.{Tree, Trees, cap, more, null, pointers, scalars}
-use Rattle.cap_spec.proofs.Prelude.{struct, structs, levels_below, Step, Item, Ptr}
+use Rattle.cap_spec.proofs.ProofNames.{List, [], arith, inl, inr, max, refl, subst, suc, sym, zero, ℕ, ◌*◌, ◌+◌, ◌<◌, ◌∷◌}
+use Rattle.cap_spec.proofs.ProofNames.{◌≡◌, ◌≤◌, ◌⊎◌, AreElements, DenoteEach, Denotes, Finds, element_levels, IsComposite}
+use Rattle.cap_spec.proofs.ProofNames.{HasWord, PathLeads, Reaches, Spot, StepsTo, element, level_of, word}
+use Rattle.cap_spec.proofs.ProofNames.{Tree, Trees, cap, more, null, pointers, scalars}
+use Rattle.cap_spec.proofs.ProofNames.{struct, structs, levels_below, Step, Item, Ptr}
 use Rattle.cap_spec.proofs.Trees.OneTree.{Formed, cons_parts, formed}
 
 -- a path from a spot to a word whose object is this deep, counted from the spot

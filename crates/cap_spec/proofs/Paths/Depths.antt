@@ -6,11 +6,11 @@ use Rattle.cap_spec.proofs.Paths.PathCounts.{is_element, step_kind}
 use Rattle.cap_spec.proofs.Paths.PathLists.{is_structs}
 use Rattle.cap_spec.proofs.Pointers.Following.{one_lead}
 use Rattle.cap_spec.proofs.Pointers.Shapes.{pointers_levels, scalars_levels, struct_levels, structs_levels}
-use Rattle.cap_spec.proofs.Prelude.{Bool, List, Some, [], ap, arith, false, max, pos, refl, subst, suc, sym, true, zero}
-use Rattle.cap_spec.proofs.Prelude.{ℕ, ◌+◌, ◌<◌, ◌∙◌, ◌∷◌, ◌≡◌, ◌≤◌, AreElements, DenoteEach, Denotes, Finds}
-use Rattle.cap_spec.proofs.Prelude.{element_levels, IsComposite, to_cap, to_null, to_object, HasWord, PathLeads, Spot}
-use Rattle.cap_spec.proofs.Prelude.{element, level_of, word, DenotesAt, Tree, Trees, cap, more, null, part_at, pointers}
-use Rattle.cap_spec.proofs.Prelude.{scalars, struct, structs, tree_at, tree_count, levels_below, Step, Item, Ptr}
+use Rattle.cap_spec.proofs.ProofNames.{Bool, List, Some, [], ap, arith, false, max, pos, refl, subst, suc, sym, true, zero}
+use Rattle.cap_spec.proofs.ProofNames.{ℕ, ◌+◌, ◌<◌, ◌∙◌, ◌∷◌, ◌≡◌, ◌≤◌, AreElements, DenoteEach, Denotes, Finds}
+use Rattle.cap_spec.proofs.ProofNames.{element_levels, IsComposite, to_cap, to_null, to_object, HasWord, PathLeads, Spot}
+use Rattle.cap_spec.proofs.ProofNames.{element, level_of, word, DenotesAt, Tree, Trees, cap, more, null, part_at, pointers}
+use Rattle.cap_spec.proofs.ProofNames.{scalars, struct, structs, tree_at, tree_count, levels_below, Step, Item, Ptr}
 use Rattle.cap_spec.proofs.Trees.Finding.{found_depth}
 
 -- the depth of a tree

@@ -4,10 +4,10 @@ use Rattle.cap_spec.specs.Tree.{none}
 use Rattle.cap_spec.proofs.Paths.Arrivals.{lead_word}
 use Rattle.cap_spec.proofs.Paths.PathCounts.{pointer_paths}
 use Rattle.cap_spec.proofs.Paths.PathLists.{behind, is_pointer, paths_below, paths_from}
-use Rattle.cap_spec.proofs.Prelude.{List, [], arith, false, inl, inr, refl, subst, suc, sym, true, zero, ℕ, ◌*◌, ◌++◌}
-use Rattle.cap_spec.proofs.Prelude.{◌+◌, ◌<◌, ◌∷◌, ◌≡◌, AreElements, DenoteEach, Denotes, extra, HasWord, Costs}
-use Rattle.cap_spec.proofs.Prelude.{PathLeads, Spot, StepsTo, element, level_of, word, extent, Tree, Trees, cap, more}
-use Rattle.cap_spec.proofs.Prelude.{null, pointers, scalars, struct, structs, CostOf, Step, Item, Ptr}
+use Rattle.cap_spec.proofs.ProofNames.{List, [], arith, false, inl, inr, refl, subst, suc, sym, true, zero, ℕ, ◌*◌, ◌++◌}
+use Rattle.cap_spec.proofs.ProofNames.{◌+◌, ◌<◌, ◌∷◌, ◌≡◌, AreElements, DenoteEach, Denotes, extra, HasWord, Costs}
+use Rattle.cap_spec.proofs.ProofNames.{PathLeads, Spot, StepsTo, element, level_of, word, extent, Tree, Trees, cap, more}
+use Rattle.cap_spec.proofs.ProofNames.{null, pointers, scalars, struct, structs, CostOf, Step, Item, Ptr}
 use Rattle.cap_spec.proofs.Trees.Finding.{found_cost}
 use Rattle.cap_spec.proofs.Trees.OneTree.{Formed, cons_parts, formed}
 

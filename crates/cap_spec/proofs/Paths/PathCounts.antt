@@ -6,11 +6,11 @@ use Rattle.cap_spec.proofs.Paths.PathLists.{with_own}
 use Rattle.cap_spec.proofs.Paths.Preorder.{Before-asymmetric, Before-irreflexive, Rises-first}
 use Rattle.cap_spec.proofs.Pointers.Following.{one_lead}
 use Rattle.cap_spec.proofs.Pointers.Shapes.{pointers_shape, struct_shape, structs_shape}
-use Rattle.cap_spec.proofs.Prelude.{Bool, List, [], ap, arith, eqb, false, inl, inr, length, ne_eqb, not, refl, subst}
-use Rattle.cap_spec.proofs.Prelude.{suc, sym, true, zero, ℕ, ◌*◌, ◌+◌, ◌<◌, ◌↔◌, ◌∙◌, ◌∷◌, ◌≡◌, Denotes, Lead, Leads}
-use Rattle.cap_spec.proofs.Prelude.{to_cap, IsOneOf, Before, IsFirstCap, PathLeads, Reaches, ReachesCap, Rises, Spot}
-use Rattle.cap_spec.proofs.Prelude.{StepsTo, element, level_of, word, code, kind, DenotesAt, Tree, cap, cap_count}
-use Rattle.cap_spec.proofs.Prelude.{has_cap, null, pointer_count, pointers, scalars, struct, structs, Step, Item, Ptr}
+use Rattle.cap_spec.proofs.ProofNames.{Bool, List, [], ap, arith, eqb, false, inl, inr, length, ne_eqb, not, refl, subst}
+use Rattle.cap_spec.proofs.ProofNames.{suc, sym, true, zero, ℕ, ◌*◌, ◌+◌, ◌<◌, ◌↔◌, ◌∙◌, ◌∷◌, ◌≡◌, Denotes, Lead, Leads}
+use Rattle.cap_spec.proofs.ProofNames.{to_cap, IsOneOf, Before, IsFirstCap, PathLeads, Reaches, ReachesCap, Rises, Spot}
+use Rattle.cap_spec.proofs.ProofNames.{StepsTo, element, level_of, word, code, kind, DenotesAt, Tree, cap, cap_count}
+use Rattle.cap_spec.proofs.ProofNames.{has_cap, null, pointer_count, pointers, scalars, struct, structs, Step, Item, Ptr}
 use Rattle.cap_spec.proofs.Trees.OneTree.{Formed, HasForm, form_of, formed, number_list, number_struct}
 
 abbrev pub is_element : Spot → Bool

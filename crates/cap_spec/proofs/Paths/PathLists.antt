@@ -1,9 +1,9 @@
 -- The paths to some of a tree's nodes, in preorder: they rise, they are exactly those, and how many they are.
 use Rattle.cap_spec.specs.Tree.{child_count, child_counts, none}
-use Rattle.cap_spec.proofs.Prelude.{Bool, List, Some, [], ap, arith, false, inl, inr, length, length-append, not, refl}
-use Rattle.cap_spec.proofs.Prelude.{subst, suc, sym, true, zero, ℕ, ◌++◌, ◌+◌, ◌<◌, ◌∙◌, ◌∷◌, ◌≡◌, ◌⊎◌, IsOneOf, Before}
-use Rattle.cap_spec.proofs.Prelude.{Rises, number_of, Tree, Trees, cap, cap_count, cap_counts, more, null, part_at}
-use Rattle.cap_spec.proofs.Prelude.{pointers, scalars, struct, structs, tree_at, tree_count, Step, Item, Ptr}
+use Rattle.cap_spec.proofs.ProofNames.{Bool, List, Some, [], ap, arith, false, inl, inr, length, length-append, not, refl}
+use Rattle.cap_spec.proofs.ProofNames.{subst, suc, sym, true, zero, ℕ, ◌++◌, ◌+◌, ◌<◌, ◌∙◌, ◌∷◌, ◌≡◌, ◌⊎◌, IsOneOf, Before}
+use Rattle.cap_spec.proofs.ProofNames.{Rises, number_of, Tree, Trees, cap, cap_count, cap_counts, more, null, part_at}
+use Rattle.cap_spec.proofs.ProofNames.{pointers, scalars, struct, structs, tree_at, tree_count, Step, Item, Ptr}
 
 -- each path behind one step
 abbrev pub behind : Step → List (List Step) → List (List Step)

@@ -1,9 +1,9 @@
 -- The steps of a path are read back from its text.
 use Rattle.cap_spec.proofs.Bytes.Lists.{all_append}
-use Rattle.cap_spec.proofs.Prelude.{List, [], ap, arith, codes, decimal, flat_map, get_or, inl, inr, length, refl, suc}
-use Rattle.cap_spec.proofs.Prelude.{take, zero, ℕ, ◌%◌, ◌++◌, ◌+◌, ◌<◌, ◌^◌, ◌∷◌, ◌≡◌, ◌≤◌, leb_tells, decimal_by_steps}
-use Rattle.cap_spec.proofs.Prelude.{decimal_injective, AllByRecursion, BeginsPath, IsBadAt, IsPath, IsStep, path_text}
-use Rattle.cap_spec.proofs.Prelude.{step_text, Step, Item, Ptr, rules}
+use Rattle.cap_spec.proofs.ProofNames.{List, [], ap, arith, codes, decimal, flat_map, get_or, inl, inr, length, refl, suc}
+use Rattle.cap_spec.proofs.ProofNames.{take, zero, ℕ, ◌%◌, ◌++◌, ◌+◌, ◌<◌, ◌^◌, ◌∷◌, ◌≡◌, ◌≤◌, leb_tells, decimal_by_steps}
+use Rattle.cap_spec.proofs.ProofNames.{decimal_injective, AllByRecursion, BeginsPath, IsBadAt, IsPath, IsStep, path_text}
+use Rattle.cap_spec.proofs.ProofNames.{step_text, Step, Item, Ptr, rules}
 
 abbrev pub IsDigit : ℕ → Type 0
 IsDigit b = (48 ≤ b) × (b < 58)

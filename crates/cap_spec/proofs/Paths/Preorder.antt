@@ -1,10 +1,10 @@
 -- Preorder is a strict total order on the paths of one message, and a tour is one list.
 use Rattle.cap_spec.specs.Paths.{IsFirst}
 use Rattle.cap_spec.proofs.Paths.Walks.{one_kind_of_step, one_reached, one_step}
-use Rattle.cap_spec.proofs.Prelude.{List, [], ap, arith, inl, inr, length, refl, subst, sym, ℕ, ◌++◌, ◌<◌, ◌∙◌, ◌∷◌}
-use Rattle.cap_spec.proofs.Prelude.{◌≡◌, ◌⊎◌, AreDistinct, IsOneOf, Before, IsFirstCap, IsNumbered, IsTour, PathLeads}
-use Rattle.cap_spec.proofs.Prelude.{Reaches, ReachesCap, ReachesSpot, Rises, Spot, StepsTo, number_of, word, Step}
-use Rattle.cap_spec.proofs.Prelude.{rules}
+use Rattle.cap_spec.proofs.ProofNames.{List, [], ap, arith, inl, inr, length, refl, subst, sym, ℕ, ◌++◌, ◌<◌, ◌∙◌, ◌∷◌}
+use Rattle.cap_spec.proofs.ProofNames.{◌≡◌, ◌⊎◌, AreDistinct, IsOneOf, Before, IsFirstCap, IsNumbered, IsTour, PathLeads}
+use Rattle.cap_spec.proofs.ProofNames.{Reaches, ReachesCap, ReachesSpot, Rises, Spot, StepsTo, number_of, word, Step}
+use Rattle.cap_spec.proofs.ProofNames.{rules}
 
 -- no path comes before itself
 pub Before-irreflexive : (p : List Step) → Before p p → ⊥

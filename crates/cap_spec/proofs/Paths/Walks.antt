@@ -1,7 +1,7 @@
 -- A path leads to one spot, at one level, and a longer path goes on from there.
-use Rattle.cap_spec.proofs.Prelude.{List, [], ap, arith, inl, inr, refl, subst, sym, ℕ, ◌++◌, ◌+◌, ◌↔◌, ◌∙◌, ◌∷◌, ◌≡◌}
-use Rattle.cap_spec.proofs.Prelude.{PathLeads, Reaches, ReachesSpot, Spot, StepsTo, element, level_of, word, Step}
-use Rattle.cap_spec.proofs.Prelude.{Item, Ptr}
+use Rattle.cap_spec.proofs.ProofNames.{List, [], ap, arith, inl, inr, refl, subst, sym, ℕ, ◌++◌, ◌+◌, ◌↔◌, ◌∙◌, ◌∷◌, ◌≡◌}
+use Rattle.cap_spec.proofs.ProofNames.{PathLeads, Reaches, ReachesSpot, Spot, StepsTo, element, level_of, word, Step}
+use Rattle.cap_spec.proofs.ProofNames.{Item, Ptr}
 use Rattle.cap_spec.proofs.Trees.Finding.{one_found}
 
 -- one step leads to one spot

@@ -1,10 +1,10 @@
 -- The conditions of the reasons at a word, and their order.
 use Rattle.cap_spec.specs.declared.Reason.TheVariants.{NoRoot}
 use Rattle.cap_spec.proofs.Frames.Messages.{HasWord-inside, at_word, one_word}
-use Rattle.cap_spec.proofs.Prelude.{List, arith, inl, inr, length, subst, sym, ℕ, ◌+◌, ◌<◌, ◌≡◌, ◌≢◌, Condition}
-use Rattle.cap_spec.proofs.Prelude.{IsOnePad, IsTwoPad, rank, HasWord, segment_of, IsFar, IsReserved, far_segment}
-use Rattle.cap_spec.proofs.Prelude.{kind, middle, pad, two, Reason, PadIsFar, PadNotFar, PadOutside, Reserved}
-use Rattle.cap_spec.proofs.Prelude.{SegmentMissing, TagKind, TagOffset, common_steps, rules}
+use Rattle.cap_spec.proofs.ProofNames.{List, arith, inl, inr, length, subst, sym, ℕ, ◌+◌, ◌<◌, ◌≡◌, ◌≢◌, Condition}
+use Rattle.cap_spec.proofs.ProofNames.{IsOnePad, IsTwoPad, rank, HasWord, segment_of, IsFar, IsReserved, far_segment}
+use Rattle.cap_spec.proofs.ProofNames.{kind, middle, pad, two, Reason, PadIsFar, PadNotFar, PadOutside, Reserved}
+use Rattle.cap_spec.proofs.ProofNames.{SegmentMissing, TagKind, TagOffset, common_steps, rules}
 
 -- Which conditions don't hold, by the form of the word. It is far, and the segment of its pad is missing, or the pad is
 -- outside of it:

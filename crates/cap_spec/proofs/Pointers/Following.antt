@@ -6,13 +6,13 @@ use Rattle.cap_spec.proofs.Pointers.Conditions.{NoneBelow, and_not, none_below_r
 use Rattle.cap_spec.proofs.Pointers.Conditions.{one-not_outside, one-not_pad_far, one-not_pad_near, one-not_reserved}
 use Rattle.cap_spec.proofs.Pointers.Conditions.{outside-not_missing, outside-not_reserved, two-none_below_far}
 use Rattle.cap_spec.proofs.Pointers.Conditions.{two-none_below_tag, two-not_tag_kind, two-not_tag_offset}
-use Rattle.cap_spec.proofs.Prelude.{List, arith, inl, inr, length, negsuc, pos, subst, ℕ, ℤ, ◌*◌, ◌+◌}
-use Rattle.cap_spec.proofs.Prelude.{◌<◌, ◌≡◌, ◌≢◌, ◌≤◌, ints, Finds, Condition, IsComposite, IsOnePad}
-use Rattle.cap_spec.proofs.Prelude.{IsTwoPad, Lead, Leads, Says, Wrong, near, one_pad, rank, to_cap, to_null, to_object}
-use Rattle.cap_spec.proofs.Prelude.{two_pads, HasWord, segment_of, IsFar, IsReserved, data_size, extent, far_segment}
-use Rattle.cap_spec.proofs.Prelude.{kind, list_size, middle, pad, pointer_size, two, Reason, CompositeOverrun}
-use Rattle.cap_spec.proofs.Prelude.{CompositeTag, DepthLimit, OutOfSegment, PadIsFar, PadNotFar, PadOutside, Reserved}
-use Rattle.cap_spec.proofs.Prelude.{SegmentMissing, TagKind, TagOffset, WordLimit, common_steps, rules}
+use Rattle.cap_spec.proofs.ProofNames.{List, arith, inl, inr, length, negsuc, pos, subst, ℕ, ℤ, ◌*◌, ◌+◌}
+use Rattle.cap_spec.proofs.ProofNames.{◌<◌, ◌≡◌, ◌≢◌, ◌≤◌, ints, Finds, Condition, IsComposite, IsOnePad}
+use Rattle.cap_spec.proofs.ProofNames.{IsTwoPad, Lead, Leads, Says, Wrong, near, one_pad, rank, to_cap, to_null, to_object}
+use Rattle.cap_spec.proofs.ProofNames.{two_pads, HasWord, segment_of, IsFar, IsReserved, data_size, extent, far_segment}
+use Rattle.cap_spec.proofs.ProofNames.{kind, list_size, middle, pad, pointer_size, two, Reason, CompositeOverrun}
+use Rattle.cap_spec.proofs.ProofNames.{CompositeTag, DepthLimit, OutOfSegment, PadIsFar, PadNotFar, PadOutside, Reserved}
+use Rattle.cap_spec.proofs.ProofNames.{SegmentMissing, TagKind, TagOffset, WordLimit, common_steps, rules}
 
 -- What a word leads to, by its form.
 module _ (m : List (List ℕ)) (s w k : ℕ) (r : Lead) where

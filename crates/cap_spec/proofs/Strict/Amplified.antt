@@ -4,10 +4,10 @@ use Rattle.cap_spec.specs.Tree.{none}
 use Rattle.cap_spec.proofs.Canonical.Layouts.{layout_denotes}
 use Rattle.cap_spec.proofs.Canonical.Sizes.{length-content}
 use Rattle.cap_spec.proofs.Canonical.TreeMeasures.{FitElements, Fits, cost, element_costs, height}
-use Rattle.cap_spec.proofs.Prelude.{List, [], ap, arith, false, refl, suc, sum, sym, zero, ℕ, ◌+◌, ◌<◌, ◌^◌, ◌∷◌, ◌≡◌}
-use Rattle.cap_spec.proofs.Prelude.{◌≤◌, children_of, cut_elements, data_of, element_sizes, layout, size, trim}
-use Rattle.cap_spec.proofs.Prelude.{trim_elements, HasCopy, Denotes, sizes_of, Tree, Trees, cap_counts, has_cap, more}
-use Rattle.cap_spec.proofs.Prelude.{struct, structs, tree_count, unamplified, rules}
+use Rattle.cap_spec.proofs.ProofNames.{List, [], ap, arith, false, refl, suc, sum, sym, zero, ℕ, ◌+◌, ◌<◌, ◌^◌, ◌∷◌, ◌≡◌}
+use Rattle.cap_spec.proofs.ProofNames.{◌≤◌, children_of, cut_elements, data_of, element_sizes, layout, size, trim}
+use Rattle.cap_spec.proofs.ProofNames.{trim_elements, HasCopy, Denotes, sizes_of, Tree, Trees, cap_counts, has_cap, more}
+use Rattle.cap_spec.proofs.ProofNames.{struct, structs, tree_count, unamplified, rules}
 use Rattle.cap_spec.proofs.Trees.OneTree.{one_tree}
 
 -- n structs of a zero word, and n without words

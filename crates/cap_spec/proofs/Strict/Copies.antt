@@ -3,8 +3,8 @@ use Rattle.cap_spec.proofs.Canonical.Layouts.{layout_denotes}
 use Rattle.cap_spec.proofs.Canonical.Sizes.{trimmed_size_charged}
 use Rattle.cap_spec.proofs.Canonical.TreeMeasures.{Measured, cost, height, measured}
 use Rattle.cap_spec.proofs.Canonical.TrimmedMeasures.{Trimmed, trimmed}
-use Rattle.cap_spec.proofs.Prelude.{List, [], arith, subst, sym, ℕ, ◌<◌, ◌^◌, ◌∙◌, ◌∷◌, ◌≡◌, ◌≤◌, layout, size, trim}
-use Rattle.cap_spec.proofs.Prelude.{HasCopy, Denotes, word, IsLax, IsStrict, Tree, Step}
+use Rattle.cap_spec.proofs.ProofNames.{List, [], arith, subst, sym, ℕ, ◌<◌, ◌^◌, ◌∙◌, ◌∷◌, ◌≡◌, ◌≤◌, layout, size, trim}
+use Rattle.cap_spec.proofs.ProofNames.{HasCopy, Denotes, word, IsLax, IsStrict, Tree, Step}
 use Rattle.cap_spec.proofs.Strict.LaxForms.{lax_pads}
 use Rattle.cap_spec.proofs.Strict.Padless.{own_padless, walk_tight}
 

@@ -1,8 +1,8 @@
 -- An accepted message is strict, or has one fault.
 use Rattle.cap_spec.specs.declared.StrictRefusal.{StrictRefusal}
 use Rattle.cap_spec.specs.declared.StrictRefusal.TheVariants.{ManySegments, Pointer, Refused}
-use Rattle.cap_spec.proofs.Prelude.{List, ap, arith, inl, inr, length, refl, ℕ, ◌≡◌, ◌≤◌, ◌⊎◌, ∥∥₁_elim, props}
-use Rattle.cap_spec.proofs.Prelude.{cases_lt, IsWithin, IsLax, IsStrict, IsStrictFault, Lax, Step, common_steps, rules}
+use Rattle.cap_spec.proofs.ProofNames.{List, ap, arith, inl, inr, length, refl, ℕ, ◌≡◌, ◌≤◌, ◌⊎◌, ∥∥₁_elim, props}
+use Rattle.cap_spec.proofs.ProofNames.{cases_lt, IsWithin, IsLax, IsStrict, IsStrictFault, Lax, Step, common_steps, rules}
 use Rattle.cap_spec.proofs.Strict.FirstLax.{first_lax_or_none, one_first_lax}
 use Rattle.cap_spec.proofs.Verdicts.OneFault.{one_refusal}
 use Rattle.cap_spec.proofs.Verdicts.Refusals.{within_not_refused}

@@ -5,9 +5,9 @@ use Rattle.cap_spec.proofs.Paths.PathLists.{is_pointer, listed_rise}
 use Rattle.cap_spec.proofs.Paths.Preorder.{Before-asymmetric, Before-irreflexive, Rises-front, after_middle}
 use Rattle.cap_spec.proofs.Paths.Preorder.{before_middle, front_is_one, front_or_back, one_first, one_number}
 use Rattle.cap_spec.proofs.Paths.Walks.{one_reached}
-use Rattle.cap_spec.proofs.Prelude.{List, [], ap, false, inl, inr, length, refl, subst, sym, ℕ, ◌++◌, ◌∷◌, ◌≡◌, ◌⊎◌}
-use Rattle.cap_spec.proofs.Prelude.{Denotes, IsOneOf, Before, IsTour, Reaches, Rises, word, IsFirstLax, IsLax, IsLaxAt}
-use Rattle.cap_spec.proofs.Prelude.{Tree, Lax, Step}
+use Rattle.cap_spec.proofs.ProofNames.{List, [], ap, false, inl, inr, length, refl, subst, sym, ℕ, ◌++◌, ◌∷◌, ◌≡◌, ◌⊎◌}
+use Rattle.cap_spec.proofs.ProofNames.{Denotes, IsOneOf, Before, IsTour, Reaches, Rises, word, IsFirstLax, IsLax, IsLaxAt}
+use Rattle.cap_spec.proofs.ProofNames.{Tree, Lax, Step}
 use Rattle.cap_spec.proofs.Strict.LaxForms.{lax_decided, one_lax}
 use Rattle.cap_spec.proofs.Trees.OneTree.{Formed, formed}
 use Rattle.cap_spec.proofs.Verdicts.OneFault.{one_of_last}

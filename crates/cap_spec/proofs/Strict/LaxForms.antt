@@ -2,10 +2,10 @@
 -- and whether it has one is decided.
 use Rattle.cap_spec.proofs.Frames.Messages.{HasWord-inside}
 use Rattle.cap_spec.proofs.Pointers.Following.{cap-not_wrong, null-not_wrong, object-not_wrong, one_lead}
-use Rattle.cap_spec.proofs.Prelude.{List, [], ap, arith, inl, inr, length, pos, refl, subst, sym, ℕ, ◌∷◌, ◌≡◌, ◌≢◌, ◌≤◌}
-use Rattle.cap_spec.proofs.Prelude.{◌⊎◌, eqb_tells, Finds, Lead, Leads, Wrong, near, one_pad, to_cap, to_null}
-use Rattle.cap_spec.proofs.Prelude.{to_object, two_pads, HasWord, segment_of, extent, pad, IsLaxAt, Lax, CapabilityPad}
-use Rattle.cap_spec.proofs.Prelude.{EmptySegment, NullPad, Reason}
+use Rattle.cap_spec.proofs.ProofNames.{List, [], ap, arith, inl, inr, length, pos, refl, subst, sym, ℕ, ◌∷◌, ◌≡◌, ◌≢◌, ◌≤◌}
+use Rattle.cap_spec.proofs.ProofNames.{◌⊎◌, eqb_tells, Finds, Lead, Leads, Wrong, near, one_pad, to_cap, to_null}
+use Rattle.cap_spec.proofs.ProofNames.{to_object, two_pads, HasWord, segment_of, extent, pad, IsLaxAt, Lax, CapabilityPad}
+use Rattle.cap_spec.proofs.ProofNames.{EmptySegment, NullPad, Reason}
 use Rattle.cap_spec.proofs.Trees.Finding.{one_object}
 use Rattle.cap_spec.proofs.Trees.Outcomes.{Fate, fate}
 

@@ -7,12 +7,12 @@ use Rattle.cap_spec.proofs.Paths.Arrivals.{found_form}
 use Rattle.cap_spec.proofs.Pointers.Following.{one_lead}
 use Rattle.cap_spec.proofs.Pointers.Shapes.{pointers_extra, pointers_shape, pointers_words, scalars_words, struct_extra}
 use Rattle.cap_spec.proofs.Pointers.Shapes.{struct_shape, struct_words, structs_shape, structs_words}
-use Rattle.cap_spec.proofs.Prelude.{List, [], ap, arith, inl, inr, length, pos, refl, subst, suc, sym, zero, ℕ, ◌*◌}
-use Rattle.cap_spec.proofs.Prelude.{◌+◌, ◌<◌, ◌∙◌, ◌∷◌, ◌≡◌, ◌≤◌, AreElements, DenoteEach, Denotes, FindsCharged}
-use Rattle.cap_spec.proofs.Prelude.{FindsKind, words_from, Lead, Leads, extra, to_cap, to_null, to_object, segment_of}
-use Rattle.cap_spec.proofs.Prelude.{PathLeads, Spot, StepsTo, element, word, code, extent, kind, list_size, list_words}
-use Rattle.cap_spec.proofs.Prelude.{Tree, Trees, cap, more, null, pointers, scalars, struct, structs, tree_count}
-use Rattle.cap_spec.proofs.Prelude.{Pointers, Struct, Structs, Step, Item, Ptr}
+use Rattle.cap_spec.proofs.ProofNames.{List, [], ap, arith, inl, inr, length, pos, refl, subst, suc, sym, zero, ℕ, ◌*◌}
+use Rattle.cap_spec.proofs.ProofNames.{◌+◌, ◌<◌, ◌∙◌, ◌∷◌, ◌≡◌, ◌≤◌, AreElements, DenoteEach, Denotes, FindsCharged}
+use Rattle.cap_spec.proofs.ProofNames.{FindsKind, words_from, Lead, Leads, extra, to_cap, to_null, to_object, segment_of}
+use Rattle.cap_spec.proofs.ProofNames.{PathLeads, Spot, StepsTo, element, word, code, extent, kind, list_size, list_words}
+use Rattle.cap_spec.proofs.ProofNames.{Tree, Trees, cap, more, null, pointers, scalars, struct, structs, tree_count}
+use Rattle.cap_spec.proofs.ProofNames.{Pointers, Struct, Structs, Step, Item, Ptr}
 use Rattle.cap_spec.proofs.Trees.Charges.{each_charged, elements_fit, length-places}
 use Rattle.cap_spec.proofs.Trees.DenotedTrees.{elements_inside, range_length}
 use Rattle.cap_spec.proofs.Trees.Finding.{one_found}

@@ -4,10 +4,10 @@ use Rattle.cap_spec.specs.Faults.{is_wrong}
 use Rattle.cap_spec.proofs.Canonical.Sizes.{layout_charged}
 use Rattle.cap_spec.proofs.Disjoint.Bounds.{charge_below_words}
 use Rattle.cap_spec.proofs.Frames.Endings.{length_joined}
-use Rattle.cap_spec.proofs.Prelude.{List, [], ap, arith, inl, inr, length, length-append, sum, ℕ, ◌+◌, ◌-◌, ◌↔◌, ◌∷◌}
-use Rattle.cap_spec.proofs.Prelude.{◌≡◌, ◌≤◌, ◌⊎◌, layout, trim, HasCopy, Denotes, IsFaultAt, IsFirstReason, IsRefused, is_deep}
-use Rattle.cap_spec.proofs.Prelude.{is_past, frame_text, joined, paired, sizes_of, IsDisjoint, empty_count, Tree}
-use Rattle.cap_spec.proofs.Prelude.{unamplified, WordLimit, Refusal}
+use Rattle.cap_spec.proofs.ProofNames.{List, [], ap, arith, inl, inr, length, length-append, sum, ℕ, ◌+◌, ◌-◌, ◌↔◌, ◌∷◌}
+use Rattle.cap_spec.proofs.ProofNames.{◌≡◌, ◌≤◌, ◌⊎◌, layout, trim, HasCopy, Denotes, IsFaultAt, IsFirstReason, IsRefused, is_deep}
+use Rattle.cap_spec.proofs.ProofNames.{is_past, frame_text, joined, paired, sizes_of, IsDisjoint, empty_count, Tree}
+use Rattle.cap_spec.proofs.ProofNames.{unamplified, WordLimit, Refusal}
 use Rattle.cap_spec.proofs.Verdicts.KeptBefore.{kept_before}
 use Rattle.cap_spec.proofs.Verdicts.OneFault.{first_fault_kept}
 

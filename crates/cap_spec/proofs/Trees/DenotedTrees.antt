@@ -4,12 +4,12 @@ use Rattle.cap_spec.specs.Denoting.{places}
 use Rattle.cap_spec.specs.Tree.{none}
 use Rattle.cap_spec.proofs.Bytes.Lists.{all_drop, all_take}
 use Rattle.cap_spec.proofs.Pointers.Shapes.{scalars_shape, structs_words}
-use Rattle.cap_spec.proofs.Prelude.{List, [], ap, arith, drop, length, length-drop, length-take-le, map, slice_index_or}
-use Rattle.cap_spec.proofs.Prelude.{suc, zero, ℕ, ◌%◌, ◌*◌, ◌+◌, ◌-◌, ◌/◌, ◌<◌, ◌^◌, ◌∙◌, ◌∷◌, ◌≡◌, ◌≤◌, AllByRecursion}
-use Rattle.cap_spec.proofs.Prelude.{range_with_len, AreElements, DenoteEach, Denotes, FindsKind, value_at}
-use Rattle.cap_spec.proofs.Prelude.{words_from, Leads, near, one_pad, to_cap, two_pads, segment_of}
-use Rattle.cap_spec.proofs.Prelude.{element_bits, AreElementTrees, AreTrees, IsTree}
-use Rattle.cap_spec.proofs.Prelude.{Tree, Trees, cap, more, null, pointers, scalars, struct, structs, IsWord, field, Structs}
+use Rattle.cap_spec.proofs.ProofNames.{List, [], ap, arith, drop, length, length-drop, length-take-le, map, slice_index_or}
+use Rattle.cap_spec.proofs.ProofNames.{suc, zero, ℕ, ◌%◌, ◌*◌, ◌+◌, ◌-◌, ◌/◌, ◌<◌, ◌^◌, ◌∙◌, ◌∷◌, ◌≡◌, ◌≤◌, AllByRecursion}
+use Rattle.cap_spec.proofs.ProofNames.{range_with_len, AreElements, DenoteEach, Denotes, FindsKind, value_at}
+use Rattle.cap_spec.proofs.ProofNames.{words_from, Leads, near, one_pad, to_cap, two_pads, segment_of}
+use Rattle.cap_spec.proofs.ProofNames.{element_bits, AreElementTrees, AreTrees, IsTree}
+use Rattle.cap_spec.proofs.ProofNames.{Tree, Trees, cap, more, null, pointers, scalars, struct, structs, IsWord, field, Structs}
 use Rattle.cap_spec.proofs.Trees.Charges.{each_charged, elements_fit, length-places}
 
 -- a message of words

@@ -4,13 +4,13 @@ use Rattle.cap_spec.proofs.Frames.Messages.{HasWord-at, HasWord-segment}
 use Rattle.cap_spec.proofs.Pointers.Following.{HasSegment, wrong-composite_tag, wrong-content_missing, wrong-missing}
 use Rattle.cap_spec.proofs.Pointers.Following.{wrong-out, wrong-outside, wrong-overrun, wrong-pad_far, wrong-pad_near}
 use Rattle.cap_spec.proofs.Pointers.Following.{wrong-pad_reserved, wrong-reserved, wrong-tag_kind, wrong-tag_offset}
-use Rattle.cap_spec.proofs.Prelude.{List, arith, inl, inr, length, negsuc, pos, refl, ℕ, ℤ, ◌*◌, ◌+ℤ◌, ◌+◌, ◌<◌, ◌≡◌}
-use Rattle.cap_spec.proofs.Prelude.{◌≢◌, ◌≤◌, ◌⊎◌, cases_lt, eqb_tells, ints, Finds, IsComposite, IsOnePad, IsTwoPad}
-use Rattle.cap_spec.proofs.Prelude.{Lead, Leads, Says, Wrong, near, one_pad, to_cap, to_null, to_object, two_pads}
-use Rattle.cap_spec.proofs.Prelude.{HasWord, segment_of, IsFar, IsReserved, cap_index, code, data_size, extent}
-use Rattle.cap_spec.proofs.Prelude.{far_segment, kind, list_size, middle, pad, pointer_size, two, signed_offset_of}
-use Rattle.cap_spec.proofs.Prelude.{Reason, CompositeOverrun, CompositeTag, OutOfSegment, PadIsFar}
-use Rattle.cap_spec.proofs.Prelude.{PadOutside, Reserved, SegmentMissing, TagKind, TagOffset, common_steps}
+use Rattle.cap_spec.proofs.ProofNames.{List, arith, inl, inr, length, negsuc, pos, refl, ℕ, ℤ, ◌*◌, ◌+ℤ◌, ◌+◌, ◌<◌, ◌≡◌}
+use Rattle.cap_spec.proofs.ProofNames.{◌≢◌, ◌≤◌, ◌⊎◌, cases_lt, eqb_tells, ints, Finds, IsComposite, IsOnePad, IsTwoPad}
+use Rattle.cap_spec.proofs.ProofNames.{Lead, Leads, Says, Wrong, near, one_pad, to_cap, to_null, to_object, two_pads}
+use Rattle.cap_spec.proofs.ProofNames.{HasWord, segment_of, IsFar, IsReserved, cap_index, code, data_size, extent}
+use Rattle.cap_spec.proofs.ProofNames.{far_segment, kind, list_size, middle, pad, pointer_size, two, signed_offset_of}
+use Rattle.cap_spec.proofs.ProofNames.{Reason, CompositeOverrun, CompositeTag, OutOfSegment, PadIsFar}
+use Rattle.cap_spec.proofs.ProofNames.{PadOutside, Reserved, SegmentMissing, TagKind, TagOffset, common_steps}
 use Rattle.cap_spec.proofs.Trees.Charges.{extent_structs}
 
 -- Every word of a message has a fate: a reason is wrong there, or it leads to null,

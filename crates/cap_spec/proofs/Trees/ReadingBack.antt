@@ -2,12 +2,12 @@
 use Rattle.std.proofs.lemmas.Nat.{shr_high}
 use Rattle.cap_spec.specs.Scalars.{value_words}
 use Rattle.cap_spec.proofs.Bytes.Lists.{all_drop, all_take}
-use Rattle.cap_spec.proofs.Prelude.{List, [], ap, ap₂, arith, drop, get_or, get_or-drop, get_or-take, length}
-use Rattle.cap_spec.proofs.Prelude.{length-drop, length-take, map, mul_comm, refl, shr-shr, suc, sym, take, zero, ℕ}
-use Rattle.cap_spec.proofs.Prelude.{◌%◌, ◌*◌, ◌+◌, ◌/◌, ◌<◌, ◌^◌, ◌∙◌, ◌∷◌, ◌≡◌, get_or_default, same_lists}
-use Rattle.cap_spec.proofs.Prelude.{get_or-map-range_with_len, length-map-range_with_len, AllByRecursion}
-use Rattle.cap_spec.proofs.Prelude.{range_with_len, value_at, element_bits, list_words, packed_word, scalar_words}
-use Rattle.cap_spec.proofs.Prelude.{field, common_steps, rules}
+use Rattle.cap_spec.proofs.ProofNames.{List, [], ap, ap₂, arith, drop, get_or, get_or-drop, get_or-take, length}
+use Rattle.cap_spec.proofs.ProofNames.{length-drop, length-take, map, mul_comm, refl, shr-shr, suc, sym, take, zero, ℕ}
+use Rattle.cap_spec.proofs.ProofNames.{◌%◌, ◌*◌, ◌+◌, ◌/◌, ◌<◌, ◌^◌, ◌∙◌, ◌∷◌, ◌≡◌, get_or_default, same_lists}
+use Rattle.cap_spec.proofs.ProofNames.{get_or-map-range_with_len, length-map-range_with_len, AllByRecursion}
+use Rattle.cap_spec.proofs.ProofNames.{range_with_len, value_at, element_bits, list_words, packed_word, scalar_words}
+use Rattle.cap_spec.proofs.ProofNames.{field, common_steps, rules}
 
 -- a word of values, the lowest last
 turned : (v m r : ℕ) → v + m * r ≡ r * m + v

@@ -1,9 +1,9 @@
 -- What is read of the words of a message, one word, value or byte at a time.
-use Rattle.cap_spec.proofs.Prelude.{List, None, Some, [], ap, arith, get_or, length, min, refl, slice_get, suc, zero, ℕ}
-use Rattle.cap_spec.proofs.Prelude.{◌*◌, ◌+◌, ◌-◌, ◌<◌, ◌∙◌, ◌∷◌, ◌≡◌, ◌≤◌, get_or-map-range_with_len}
-use Rattle.cap_spec.proofs.Prelude.{length-map-range_with_len, get_or_from_slice_get, slice_get-get_or, slice_get_past}
-use Rattle.cap_spec.proofs.Prelude.{value_at, values_of, HasWord, segment_of, plain_text, word_bytes, element_bits}
-use Rattle.cap_spec.proofs.Prelude.{list_words, scalar_words, field, rules}
+use Rattle.cap_spec.proofs.ProofNames.{List, None, Some, [], ap, arith, get_or, length, min, refl, slice_get, suc, zero, ℕ}
+use Rattle.cap_spec.proofs.ProofNames.{◌*◌, ◌+◌, ◌-◌, ◌<◌, ◌∙◌, ◌∷◌, ◌≡◌, ◌≤◌, get_or-map-range_with_len}
+use Rattle.cap_spec.proofs.ProofNames.{length-map-range_with_len, get_or_from_slice_get, slice_get-get_or, slice_get_past}
+use Rattle.cap_spec.proofs.ProofNames.{value_at, values_of, HasWord, segment_of, plain_text, word_bytes, element_bits}
+use Rattle.cap_spec.proofs.ProofNames.{list_words, scalar_words, field, rules}
 use Rattle.cap_spec.proofs.Trees.ReadingBack.{length-scalar_words}
 use Rattle.cap_spec.proofs.Trees.WordsRead.{word_read}
 

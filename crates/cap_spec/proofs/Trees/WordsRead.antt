@@ -1,10 +1,10 @@
 -- The words of a list of values that were read from words: those words, the bits past the last value zero.
 use Rattle.std.proofs.lemmas.List.{drop-map, take-map}
 use Rattle.std.proofs.lemmas.Nat.{mod-pow-add}
-use Rattle.cap_spec.proofs.Prelude.{List, ap, ap₂, arith, drop, get_or, length, map, min, mul_comm, shr-shr, subst}
-use Rattle.cap_spec.proofs.Prelude.{suc, sym, take, zero, ℕ, ◌%◌, ◌*◌, ◌+◌, ◌-◌, ◌/◌, ◌<◌, ◌^◌, ◌∙◌, ◌∷◌, ◌≡◌, ◌≤◌}
-use Rattle.cap_spec.proofs.Prelude.{length-map-range_with_len, range_with_len, value_at, element_bits, list_words}
-use Rattle.cap_spec.proofs.Prelude.{packed_word, scalar_words, field, common_steps}
+use Rattle.cap_spec.proofs.ProofNames.{List, ap, ap₂, arith, drop, get_or, length, map, min, mul_comm, shr-shr, subst}
+use Rattle.cap_spec.proofs.ProofNames.{suc, sym, take, zero, ℕ, ◌%◌, ◌*◌, ◌+◌, ◌-◌, ◌/◌, ◌<◌, ◌^◌, ◌∙◌, ◌∷◌, ◌≡◌, ◌≤◌}
+use Rattle.cap_spec.proofs.ProofNames.{length-map-range_with_len, range_with_len, value_at, element_bits, list_words}
+use Rattle.cap_spec.proofs.ProofNames.{packed_word, scalar_words, field, common_steps}
 use Rattle.cap_spec.proofs.Trees.ReadingBack.{word_of_values}
 
 -- a field and the one above it

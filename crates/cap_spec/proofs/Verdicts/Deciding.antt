@@ -5,12 +5,12 @@ use Rattle.cap_spec.proofs.Frames.Messages.{HasWord-at, HasWord-inside}
 use Rattle.cap_spec.proofs.Paths.Arrivals.{found_form, lead_word}
 use Rattle.cap_spec.proofs.Pointers.Shapes.{pointers_levels, pointers_shape, scalars_levels, struct_levels, struct_shape}
 use Rattle.cap_spec.proofs.Pointers.Shapes.{structs_levels, structs_shape}
-use Rattle.cap_spec.proofs.Prelude.{List, [], ap, arith, inl, inr, length, max, pos, refl, subst, suc, sym, zero, ℕ}
-use Rattle.cap_spec.proofs.Prelude.{◌+◌, ◌-◌, ◌<◌, ◌∙◌, ◌∷◌, ◌≡◌, ◌≤◌, ◌⊎◌, ∥∥₁_elim, cases_lt, eqb_tells, AreElements}
-use Rattle.cap_spec.proofs.Prelude.{DenoteEach, Denotes, Finds, FindsKind, element_levels, levels_below, values_of}
-use Rattle.cap_spec.proofs.Prelude.{words_from, extra, HasWord, segment_of, code, data_size, extent, kind, list_size}
-use Rattle.cap_spec.proofs.Prelude.{middle, pointer_size, Tree, Trees, cap, more, null, pointers, scalars, struct}
-use Rattle.cap_spec.proofs.Prelude.{structs, Pointers, Struct, Structs}
+use Rattle.cap_spec.proofs.ProofNames.{List, [], ap, arith, inl, inr, length, max, pos, refl, subst, suc, sym, zero, ℕ}
+use Rattle.cap_spec.proofs.ProofNames.{◌+◌, ◌-◌, ◌<◌, ◌∙◌, ◌∷◌, ◌≡◌, ◌≤◌, ◌⊎◌, ∥∥₁_elim, cases_lt, eqb_tells, AreElements}
+use Rattle.cap_spec.proofs.ProofNames.{DenoteEach, Denotes, Finds, FindsKind, element_levels, levels_below, values_of}
+use Rattle.cap_spec.proofs.ProofNames.{words_from, extra, HasWord, segment_of, code, data_size, extent, kind, list_size}
+use Rattle.cap_spec.proofs.ProofNames.{middle, pointer_size, Tree, Trees, cap, more, null, pointers, scalars, struct}
+use Rattle.cap_spec.proofs.ProofNames.{structs, Pointers, Struct, Structs}
 use Rattle.cap_spec.proofs.Trees.Charges.{lead_kind}
 use Rattle.cap_spec.proofs.Trees.Finding.{one_found, pointers_found, scalars_found, struct_found, structs_found}
 use Rattle.cap_spec.proofs.Trees.OneTree.{cons_parts, formed, number_list, number_struct}

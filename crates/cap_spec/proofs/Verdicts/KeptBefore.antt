@@ -1,10 +1,10 @@
 -- Where no path before one has a fault, these paths keep to the limits.
 use Rattle.cap_spec.proofs.Paths.Preorder.{Before-asymmetric, Before-trans, Rises-front}
 use Rattle.cap_spec.proofs.Paths.Preorder.{after_middle, before_middle, front_is_one, front_or_back, middle_is_one}
-use Rattle.cap_spec.proofs.Prelude.{List, [], append-nil, append_assoc, arith, inl, inr, length, refl, subst, sym, ℕ}
-use Rattle.cap_spec.proofs.Prelude.{◌++◌, ◌+◌, ◌∷◌, ◌≡◌, ◌≤◌, ◌⊎◌, cases_lt, AreShallow, IsFaultAt}
-use Rattle.cap_spec.proofs.Prelude.{IsFirstFault, IsFirstReason, is_deep, is_past, IsOneOf, Before, IsTour, Reaches}
-use Rattle.cap_spec.proofs.Prelude.{CostOf, IsDeepAt, Reason, DepthLimit, WordLimit, Refusal, Step}
+use Rattle.cap_spec.proofs.ProofNames.{List, [], append-nil, append_assoc, arith, inl, inr, length, refl, subst, sym, ℕ}
+use Rattle.cap_spec.proofs.ProofNames.{◌++◌, ◌+◌, ◌∷◌, ◌≡◌, ◌≤◌, ◌⊎◌, cases_lt, AreShallow, IsFaultAt}
+use Rattle.cap_spec.proofs.ProofNames.{IsFirstFault, IsFirstReason, is_deep, is_past, IsOneOf, Before, IsTour, Reaches}
+use Rattle.cap_spec.proofs.ProofNames.{CostOf, IsDeepAt, Reason, DepthLimit, WordLimit, Refusal, Step}
 use Rattle.cap_spec.proofs.Verdicts.OnPath.{cost_last, shallow_last}
 use Rattle.cap_spec.proofs.Verdicts.OneFault.{fault_tour, one_of_last}
 

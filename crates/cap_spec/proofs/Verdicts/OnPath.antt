@@ -1,11 +1,11 @@
 -- The pointers on a path: they are one list, which grows with the path, and they aren't both charged and refused.
 use Rattle.cap_spec.proofs.Paths.Preorder.{Before-longer, Rises-distinct, Rises-same}
 use Rattle.cap_spec.proofs.Paths.Walks.{comes_beyond, one_coming, one_reached}
-use Rattle.cap_spec.proofs.Prelude.{List, [], ap, append-nil, append_assoc, arith, inl, inr, length, length-append}
-use Rattle.cap_spec.proofs.Prelude.{refl, subst, sym, ℕ, ◌++◌, ◌+◌, ◌<◌, ◌∙◌, ◌∷◌, ◌≡◌, ◌≤◌, ◌⊎◌, AreShallow}
-use Rattle.cap_spec.proofs.Prelude.{AreOnPath, IsFaultOnPath, IsRefusedOnPath, IsStartOf, IsOneOf, HasWord, Before}
-use Rattle.cap_spec.proofs.Prelude.{Costs, Reaches, ReachesSpot, Rises, Spot, StepsTo, element, word, CostOf}
-use Rattle.cap_spec.proofs.Prelude.{IsDeepAt, Refusal, Step, rules}
+use Rattle.cap_spec.proofs.ProofNames.{List, [], ap, append-nil, append_assoc, arith, inl, inr, length, length-append}
+use Rattle.cap_spec.proofs.ProofNames.{refl, subst, sym, ℕ, ◌++◌, ◌+◌, ◌<◌, ◌∙◌, ◌∷◌, ◌≡◌, ◌≤◌, ◌⊎◌, AreShallow}
+use Rattle.cap_spec.proofs.ProofNames.{AreOnPath, IsFaultOnPath, IsRefusedOnPath, IsStartOf, IsOneOf, HasWord, Before}
+use Rattle.cap_spec.proofs.ProofNames.{Costs, Reaches, ReachesSpot, Rises, Spot, StepsTo, element, word, CostOf}
+use Rattle.cap_spec.proofs.ProofNames.{IsDeepAt, Refusal, Step, rules}
 use Rattle.cap_spec.proofs.Verdicts.OneFault.{distinct_last, kept_without_fault, last_is_one, one_of_last, one_rootless}
 use Rattle.cap_spec.proofs.Verdicts.OneFault.{rootless, same_fault}
 use Rattle.cap_spec.proofs.Verdicts.OneVerdict.{cost_reached}

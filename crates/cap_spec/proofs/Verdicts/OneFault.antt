@@ -4,10 +4,10 @@ use Rattle.cap_spec.specs.Faults.{is_wrong}
 use Rattle.cap_spec.proofs.Paths.Preorder.{Before-irreflexive, Before-trans, Rises-distinct, one_first, one_tour}
 use Rattle.cap_spec.proofs.Paths.Walks.{one_reached}
 use Rattle.cap_spec.proofs.Pointers.Following.{cap-not_wrong, null-not_wrong, object-not_wrong, one_wrong}
-use Rattle.cap_spec.proofs.Prelude.{List, Some, [], ap, arith, inl, inr, length, refl, slice_get, subst, sym, ℕ, ◌++◌}
-use Rattle.cap_spec.proofs.Prelude.{◌+◌, ◌∙◌, ◌∷◌, ◌≡◌, ◌≤◌, ◌⊎◌, AreShallow, HasNoRoot, IsFaultAt, IsFirstFault}
-use Rattle.cap_spec.proofs.Prelude.{IsFirstReason, IsRefused, is_deep, is_past, Wrong, AreDistinct, IsOneOf, Before, Costs, IsTour}
-use Rattle.cap_spec.proofs.Prelude.{Reaches, Rises, CostOf, Reason, Refusal, Step}
+use Rattle.cap_spec.proofs.ProofNames.{List, Some, [], ap, arith, inl, inr, length, refl, slice_get, subst, sym, ℕ, ◌++◌}
+use Rattle.cap_spec.proofs.ProofNames.{◌+◌, ◌∙◌, ◌∷◌, ◌≡◌, ◌≤◌, ◌⊎◌, AreShallow, HasNoRoot, IsFaultAt, IsFirstFault}
+use Rattle.cap_spec.proofs.ProofNames.{IsFirstReason, IsRefused, is_deep, is_past, Wrong, AreDistinct, IsOneOf, Before, Costs, IsTour}
+use Rattle.cap_spec.proofs.ProofNames.{Reaches, Rises, CostOf, Reason, Refusal, Step}
 use Rattle.cap_spec.proofs.Verdicts.OneVerdict.{cost_reached, distinct_cost, take_out}
 
 -- one of some paths and a last one

@@ -7,10 +7,10 @@ use Rattle.cap_spec.proofs.Paths.PathCosts.{charge_is_cost}
 use Rattle.cap_spec.proofs.Paths.PathCounts.{pointer_path_reached, pointer_paths}
 use Rattle.cap_spec.proofs.Paths.Walks.{one_reached}
 use Rattle.cap_spec.proofs.Pointers.Following.{cap-not_wrong, null-not_wrong, object-not_wrong}
-use Rattle.cap_spec.proofs.Prelude.{List, [], arith, inl, inr, refl, subst, sym, ℕ, ◌+◌, ◌∙◌, ◌∷◌, ◌≡◌, ◌≢◌, ◌≤◌, ◌⊎◌}
-use Rattle.cap_spec.proofs.Prelude.{IsWithin, Denotes, Finds, Wrong, AreDistinct, IsOneOf, Costs, Reaches, word, Tree}
-use Rattle.cap_spec.proofs.Prelude.{cap, null, pointers, scalars, struct, structs, CostOf, Justified, levels_below}
-use Rattle.cap_spec.proofs.Prelude.{no_root, past_limit, too_deep, Reason, Refusal, Step, common_steps}
+use Rattle.cap_spec.proofs.ProofNames.{List, [], arith, inl, inr, refl, subst, sym, ℕ, ◌+◌, ◌∙◌, ◌∷◌, ◌≡◌, ◌≢◌, ◌≤◌, ◌⊎◌}
+use Rattle.cap_spec.proofs.ProofNames.{IsWithin, Denotes, Finds, Wrong, AreDistinct, IsOneOf, Costs, Reaches, word, Tree}
+use Rattle.cap_spec.proofs.ProofNames.{cap, null, pointers, scalars, struct, structs, CostOf, Justified, levels_below}
+use Rattle.cap_spec.proofs.ProofNames.{no_root, past_limit, too_deep, Reason, Refusal, Step, common_steps}
 use Rattle.cap_spec.proofs.Trees.Charges.{one_cost}
 
 -- one of some paths, its cost, and the others

@@ -2,8 +2,8 @@
 use Rattle.cap_spec.specs.Faults.{is_wrong}
 use Rattle.cap_spec.specs.Verdicts.{is_wrong as wrong_there}
 use Rattle.cap_spec.proofs.Paths.Preorder.{Rises-distinct}
-use Rattle.cap_spec.proofs.Prelude.{List, [], inl, inr, ℕ, ◌++◌, ◌∷◌, IsWithin, IsFirstReason, IsRefused, is_deep}
-use Rattle.cap_spec.proofs.Prelude.{is_past, Justified, no_root, past_limit, too_deep, Refusal}
+use Rattle.cap_spec.proofs.ProofNames.{List, [], inl, inr, ℕ, ◌++◌, ◌∷◌, IsWithin, IsFirstReason, IsRefused, is_deep}
+use Rattle.cap_spec.proofs.ProofNames.{is_past, Justified, no_root, past_limit, too_deep, Refusal}
 use Rattle.cap_spec.proofs.Verdicts.KeptBefore.{kept_before}
 use Rattle.cap_spec.proofs.Verdicts.OneFault.{distinct_last, fault_tour}
 use Rattle.cap_spec.proofs.Verdicts.OneVerdict.{within_not_justified}

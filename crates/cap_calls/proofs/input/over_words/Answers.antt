@@ -1,7 +1,7 @@
 -- What is found of the words.
 use Rattle.cap_spec.proofs.Bytes.Plain.{words_exact}
-use Rattle.cap_spec.proofs.Prelude.{List, [], ap, arith, length, refl, subst, sum, zero-add, ℕ, ◌∷◌, ◌≡◌, sizes_of}
-use Rattle.cap_spec.proofs.Prelude.{plain_words}
+use Rattle.cap_spec.proofs.ProofNames.{List, [], ap, arith, length, refl, subst, sum, zero-add, ℕ, ◌∷◌, ◌≡◌, sizes_of}
+use Rattle.cap_spec.proofs.ProofNames.{plain_words}
 use Rattle.cap_vet.specs.Limits.{depth_of, words_of}
 use Rattle.cap_calls.specs.CallInputs.{of_no_words, of_words}
 use Rattle.cap_calls.proofs.input.over_words.Goals as goal

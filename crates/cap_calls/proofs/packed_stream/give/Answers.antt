@@ -1,5 +1,5 @@
 -- Some words more.
-use Rattle.cap_spec.proofs.Prelude.{ap, arith, drop, drop-drop, length, refl, sym, take, ◌-◌, ◌∙◌, take_rest}
+use Rattle.cap_spec.proofs.ProofNames.{ap, arith, drop, drop-drop, length, refl, sym, take, ◌-◌, ◌∙◌, take_rest}
 use Rattle.cap_calls.specs.PackedStreams.{words_to_come}
 use Rattle.cap_calls.proofs.GivenWords.{gives_more, gives_none}
 use Rattle.cap_calls.proofs.packed_stream.give.Goals as goal

@@ -1,8 +1,8 @@
 -- The first word of a group.
 use Rattle.cap_spec.proofs.Bytes.Plain.{plain_back}
-use Rattle.cap_spec.proofs.Prelude.{List, [], ap, arith, drop, drop_at, inl, length, length-append, length-drop, refl}
-use Rattle.cap_spec.proofs.Prelude.{rules, slice_index, subst, sym, take, take_at, ℕ, ◌++◌, ◌+◌, ◌∙◌, ◌∷◌, ◌≡◌}
-use Rattle.cap_spec.proofs.Prelude.{plain_words, word_bytes, IsWord}
+use Rattle.cap_spec.proofs.ProofNames.{List, [], ap, arith, drop, drop_at, inl, length, length-append, length-drop, refl}
+use Rattle.cap_spec.proofs.ProofNames.{rules, slice_index, subst, sym, take, take_at, ℕ, ◌++◌, ◌+◌, ◌∙◌, ◌∷◌, ◌≡◌}
+use Rattle.cap_spec.proofs.ProofNames.{plain_words, word_bytes, IsWord}
 use Rattle.cap_words.proofs.AtHand.{bytes_small}
 use Rattle.cap_calls.specs.PackedStreams.{GivesWords}
 use Rattle.cap_calls.proofs.GivenWords.{gives_none}

@@ -1,5 +1,5 @@
 -- The head by its tag.
-use Rattle.cap_spec.proofs.Prelude.{ap, arith, length, ℕ, ◌<◌, ◌≡◌, nat_tests}
+use Rattle.cap_spec.proofs.ProofNames.{ap, arith, length, ℕ, ◌<◌, ◌≡◌, nat_tests}
 use Rattle.cap_calls.specs.PackedStreams.{head_length}
 use Rattle.cap_calls.specs.UnpackingMessages.{bytes_needed}
 use Rattle.cap_calls.proofs.PackedStreams.{head_is}

@@ -1,5 +1,5 @@
 -- One slice more is whole and counted.
-use Rattle.cap_spec.proofs.Prelude.{List, [], ap, arith, get_or, length, ℕ, ◌%◌, ◌+◌, ◌/◌, ◌<◌, ◌≡◌, capped}
+use Rattle.cap_spec.proofs.ProofNames.{List, [], ap, arith, get_or, length, ℕ, ◌%◌, ◌+◌, ◌/◌, ◌<◌, ◌≡◌, capped}
 use Rattle.cap_calls.specs.Slices.{bytes_of}
 use Rattle.cap_calls.proofs.SliceSegments.{part_is, parts_count, sum_more}
 use Rattle.cap_calls.proofs.slices.total.Goals as goal

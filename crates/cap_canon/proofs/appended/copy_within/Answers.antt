@@ -1,5 +1,5 @@
 -- Those words are all that the vector has.
-use Rattle.cap_spec.proofs.Prelude.{ap, arith, ◌∙◌, plain_text}
+use Rattle.cap_spec.proofs.ProofNames.{ap, arith, ◌∙◌, plain_text}
 use Rattle.cap_words.proofs.WholeWords.{words_text}
 use Rattle.cap_canon.proofs.appended.copy_within.Goals as goal
 

@@ -1,5 +1,5 @@
-use Rattle.cap_spec.proofs.Prelude.{List, ap, append-nil, rules, subst, sym, ℕ, ◌++◌, ◌∙◌, AllByRecursion, words_from}
-use Rattle.cap_spec.proofs.Prelude.{IsWord}
+use Rattle.cap_spec.proofs.ProofNames.{List, ap, append-nil, rules, subst, sym, ℕ, ◌++◌, ◌∙◌, AllByRecursion, words_from}
+use Rattle.cap_spec.proofs.ProofNames.{IsWord}
 use Rattle.cap_canon.proofs.Ranges.{range_none, range_one}
 use Rattle.cap_canon.proofs.appending.append_row.Goals as goal
 

@@ -1,4 +1,4 @@
-use Rattle.cap_spec.proofs.Prelude.{ap, ◌++◌, ◌+◌, ◌∙◌, words_from}
+use Rattle.cap_spec.proofs.ProofNames.{ap, ◌++◌, ◌+◌, ◌∙◌, words_from}
 use Rattle.cap_canon.proofs.Afters.{fewer_before}
 use Rattle.cap_canon.proofs.Ranges.{words_split}
 use Rattle.cap_canon.proofs.appending.append_struct.Goals as goal

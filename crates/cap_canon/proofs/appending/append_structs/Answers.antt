@@ -1,4 +1,4 @@
-use Rattle.cap_spec.proofs.Prelude.{ap, arith, sym, ◌*◌, ◌++◌, ◌∙◌, ◌≡◌, words_from}
+use Rattle.cap_spec.proofs.ProofNames.{ap, arith, sym, ◌*◌, ◌++◌, ◌∙◌, ◌≡◌, words_from}
 use Rattle.cap_canon.specs.Filling.{elements_from}
 use Rattle.cap_canon.proofs.Afters.{fewer_before}
 use Rattle.cap_canon.proofs.Ranges.{elements_whole}

@@ -1,5 +1,5 @@
-use Rattle.cap_spec.proofs.Prelude.{List, [], ap, append_assoc, arith, subst, sym, ℕ, ◌++◌, ◌+◌, ◌-◌, ◌∙◌, ◌∷◌, ◌≡◌}
-use Rattle.cap_spec.proofs.Prelude.{AllByRecursion, words_from, list_words, IsWord}
+use Rattle.cap_spec.proofs.ProofNames.{List, [], ap, append_assoc, arith, subst, sym, ℕ, ◌++◌, ◌+◌, ◌-◌, ◌∙◌, ◌∷◌, ◌≡◌}
+use Rattle.cap_spec.proofs.ProofNames.{AllByRecursion, words_from, list_words, IsWord}
 use Rattle.cap_canon.proofs.Afters.{fewer_before}
 use Rattle.cap_canon.proofs.Ranges.{all_front, range_more, values_laid}
 use Rattle.cap_canon.proofs.appending.append_values.Goals as goal

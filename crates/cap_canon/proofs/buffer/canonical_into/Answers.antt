@@ -1,6 +1,6 @@
 -- No room, or the copy at the start of the buffer.
 use Rattle.cap_spec.proofs.Lemmas.{length_plain, layout_charged}
-use Rattle.cap_spec.proofs.Prelude.{Ok, ap, arith, drop, length, refl, sym, ℕ, ◌*◌, ◌++◌, ◌∙◌, ◌≡◌, plain_text}
+use Rattle.cap_spec.proofs.ProofNames.{Ok, ap, arith, drop, length, refl, sym, ℕ, ◌*◌, ◌++◌, ◌∙◌, ◌≡◌, plain_text}
 use Rattle.cap_vet.specs.Vettings.{message_of}
 use Rattle.cap_canon.specs.CopyRooms.{written}
 use Rattle.cap_canon.proofs.Afters.{front_and_after}

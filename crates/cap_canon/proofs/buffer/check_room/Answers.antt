@@ -1,6 +1,6 @@
 -- Enough for every copy, a capability, too little capacity, and enough for this copy.
 use Rattle.cap_spec.proofs.Bytes.Plain.{length_plain}
-use Rattle.cap_spec.proofs.Prelude.{Err, ap, arith, length, refl, sym, ℕ, ◌*◌, ◌∙◌, ◌≡◌, layout, trim, plain_text}
+use Rattle.cap_spec.proofs.ProofNames.{Err, ap, arith, length, refl, sym, ℕ, ◌*◌, ◌∙◌, ◌≡◌, layout, trim, plain_text}
 use Rattle.cap_vet.specs.Vettings.{message_of}
 use Rattle.cap_canon.specs.CopyRooms.{has_capability, no_room}
 use Rattle.cap_canon.specs.declared.fault.RoomFault.TheVariants.{NoRoom}

@@ -1,8 +1,8 @@
 -- All that the new vector holds is the copy.
 use Rattle.cap_spec.specs.declared.CanonFault.TheVariants.{HasCapability}
 use Rattle.cap_spec.proofs.Lemmas.{length_plain, one_copy, one_first_cap}
-use Rattle.cap_spec.proofs.Prelude.{Err, ap, ap₂, arith, inl, inr, length, subst, sym, take, take_all, ℕ, ◌<◌, ◌∙◌, ◌≡◌}
-use Rattle.cap_spec.proofs.Prelude.{HasCopy, IsFirstCap, plain_text, plain_words}
+use Rattle.cap_spec.proofs.ProofNames.{Err, ap, ap₂, arith, inl, inr, length, subst, sym, take, take_all, ℕ, ◌<◌, ◌∙◌, ◌≡◌}
+use Rattle.cap_spec.proofs.ProofNames.{HasCopy, IsFirstCap, plain_text, plain_words}
 use Rattle.cap_vet.specs.Vettings.{message_of}
 use Rattle.cap_canon.proofs.Copies.{cap_no_copy, same_fault}
 use Rattle.cap_canon.proofs.Overs.{new_fault, new_text}

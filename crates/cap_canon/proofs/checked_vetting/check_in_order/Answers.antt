@@ -1,4 +1,4 @@
-use Rattle.cap_spec.proofs.Prelude.{eq-eqb, eqb-true, sym, ◌∙◌, false≢true}
+use Rattle.cap_spec.proofs.ProofNames.{eq-eqb, eqb-true, sym, ◌∙◌, false≢true}
 use Rattle.cap_canon.proofs.Copies.{not_with_caps}
 use Rattle.cap_canon.proofs.InOrder.{compared_at_end, strict_compared}
 use Rattle.cap_canon.proofs.checked_vetting.check_in_order.Goals as goal

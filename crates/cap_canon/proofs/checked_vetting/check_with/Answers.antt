@@ -1,7 +1,7 @@
 use Rattle.std.proofs.Common.{Err, ap}
 use Rattle.cap_spec.specs.declared.StrictRefusal.TheVariants.{Refused}
 use Rattle.cap_spec.proofs.Verdicts.Refusals.{within_not_refused}
-use Rattle.cap_vet.specs.Prelude.{words_under, depth_of, words_of}
+use Rattle.cap_vet.specs.VetNames.{words_under, depth_of, words_of}
 use Rattle.cap_vet.proofs.Demanding.{one_demand_fault, strict_meets}
 use Rattle.cap_canon.proofs.checked_vetting.check_with.Goals as goal
 

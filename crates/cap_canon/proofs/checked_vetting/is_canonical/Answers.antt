@@ -1,13 +1,13 @@
 -- A walk within the greatest limits stops only at a message that isn't canonical: it was accepted before.
-use Rattle.cap_spec.proofs.Prelude.{List, arith, ℕ, ◌≡◌, false≢true, IsCanonical, most_depth, most_words, Tree}
+use Rattle.cap_spec.proofs.ProofNames.{List, arith, ℕ, ◌≡◌, false≢true, IsCanonical, most_depth, most_words, Tree}
 use Rattle.cap_spec.proofs.Strict.Faults.{within_wider}
 use Rattle.cap_spec.proofs.Verdicts.Refusals.{within_not_refused}
-use Rattle.cap_vet.specs.Prelude.{depth_of, words_of, IsReport}
+use Rattle.cap_vet.specs.VetNames.{depth_of, words_of, IsReport}
 use Rattle.cap_vet.specs.Turns.{IsStopped}
 use Rattle.cap_vet.specs.declared.limits.Limits.{Limits}
 use Rattle.cap_vet.specs.declared.walk.turn.Stopped.{Stopped}
 use Rattle.cap_vet.specs.declared.walk.turn.Stopped.TheVariants.{ByTurn, Refused}
-use Rattle.cap_canon.specs.Prelude.{Report, IsNotCanonical}
+use Rattle.cap_canon.specs.CanonNames.{Report, IsNotCanonical}
 use Rattle.cap_canon.proofs.checked_vetting.is_canonical.Goals as goal
 
 not_stopped : {S : Type 0} (m : List (List ℕ)) (limits : Limits) (stopped : Stopped S) (r : Report) (t : Tree) → words_of limits ≡ most_words

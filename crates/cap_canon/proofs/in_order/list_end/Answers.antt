@@ -1,4 +1,4 @@
-use Rattle.cap_spec.proofs.Prelude.{arith, false, inr, rules, sym, true, ◌<◌, ◌^◌, ◌∙◌, ◌≡◌, code}
+use Rattle.cap_spec.proofs.ProofNames.{arith, false, inr, rules, sym, true, ◌<◌, ◌^◌, ◌∙◌, ◌≡◌, code}
 use Rattle.cap_canon.proofs.InOrder.{pointers_next, values_differ, values_next}
 use Rattle.cap_canon.proofs.in_order.list_end.Goals as goal
 

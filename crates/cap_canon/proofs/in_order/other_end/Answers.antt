@@ -1,4 +1,4 @@
-use Rattle.cap_spec.proofs.Prelude.{arith, false, inl, inr, subst, sym, true, ◌∙◌, ◌≡◌, HasWord}
+use Rattle.cap_spec.proofs.ProofNames.{arith, false, inl, inr, subst, sym, true, ◌∙◌, ◌≡◌, HasWord}
 use Rattle.cap_canon.proofs.NoCopies.{other_differs}
 use Rattle.cap_canon.proofs.OtherWords.{no_bits_next, no_words_next}
 use Rattle.cap_canon.proofs.in_order.other_end.Goals as goal

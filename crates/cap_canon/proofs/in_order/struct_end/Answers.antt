@@ -1,5 +1,5 @@
 use Rattle.cap_spec.proofs.Frames.Messages.{one_word}
-use Rattle.cap_spec.proofs.Prelude.{inr, rules, subst, ◌<◌, ◌^◌, ◌∙◌, ◌≡◌, data_size, pointer_size}
+use Rattle.cap_spec.proofs.ProofNames.{inr, rules, subst, ◌<◌, ◌^◌, ◌∙◌, ◌≡◌, data_size, pointer_size}
 use Rattle.cap_canon.specs.InOrder.{HasNoWords}
 use Rattle.cap_canon.proofs.InOrder.{struct_differs, struct_empty, struct_next}
 use Rattle.cap_canon.proofs.in_order.struct_end.Goals as goal

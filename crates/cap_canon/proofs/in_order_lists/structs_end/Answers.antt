@@ -1,6 +1,6 @@
 use Rattle.cap_spec.proofs.Frames.Messages.{HasWord-segment}
-use Rattle.cap_spec.proofs.Prelude.{arith, inr, length, sym, ◌*◌, ◌+◌, ◌<◌, ◌∙◌, ◌≡◌, HasWord, segment_of, data_size}
-use Rattle.cap_spec.proofs.Prelude.{list_size, middle, pointer_size}
+use Rattle.cap_spec.proofs.ProofNames.{arith, inr, length, sym, ◌*◌, ◌+◌, ◌<◌, ◌∙◌, ◌≡◌, HasWord, segment_of, data_size}
+use Rattle.cap_spec.proofs.ProofNames.{list_size, middle, pointer_size}
 use Rattle.cap_canon.specs.Trimming.{AreElementsAt}
 use Rattle.cap_canon.proofs.InOrder.{structs_there}
 use Rattle.cap_canon.proofs.InOrderLists.{structs_differ, structs_next, structs_surplus}

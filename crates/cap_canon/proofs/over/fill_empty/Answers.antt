@@ -1,7 +1,7 @@
 -- A copy that is all that the buffer holds, or no memory.
 use Rattle.cap_spec.proofs.Lemmas.{length_plain, layout_charged, one_tree}
-use Rattle.cap_spec.proofs.Prelude.{Ok, ap, arith, length, refl, subst, sym, take, take_all, ◌∙◌, ◌≡◌, layout, trim}
-use Rattle.cap_spec.proofs.Prelude.{HasCopy, plain_text, plain_words}
+use Rattle.cap_spec.proofs.ProofNames.{Ok, ap, arith, length, refl, subst, sym, take, take_all, ◌∙◌, ◌≡◌, layout, trim}
+use Rattle.cap_spec.proofs.ProofNames.{HasCopy, plain_text, plain_words}
 use Rattle.cap_vet.specs.Vettings.{message_of}
 use Rattle.cap_canon.specs.CopyOvers.{grown, no_memory}
 use Rattle.cap_canon.proofs.Copies.{has_copy}

@@ -1,6 +1,6 @@
 -- No copy, or one at the start of a buffer that is long enough.
 use Rattle.cap_spec.proofs.Canonical.Sizes.{layout_charged}
-use Rattle.cap_spec.proofs.Prelude.{Ok, ap, arith, length, subst, sym, take, ◌*◌, ◌∙◌, ◌≡◌, ◌≤◌, HasCopy, plain_words}
+use Rattle.cap_spec.proofs.ProofNames.{Ok, ap, arith, length, subst, sym, take, ◌*◌, ◌∙◌, ◌≡◌, ◌≤◌, HasCopy, plain_words}
 use Rattle.cap_vet.specs.Vettings.{message_of}
 use Rattle.cap_canon.specs.CopyOvers.{TellsOver}
 use Rattle.cap_canon.proofs.Copies.{has_tree}

@@ -1,6 +1,6 @@
 -- Enough for every copy, no copy, enough for this one, and a new buffer.
 use Rattle.cap_spec.proofs.Bytes.Plain.{length_plain}
-use Rattle.cap_spec.proofs.Prelude.{Err, ap, arith, length, refl, sym, ℕ, ◌*◌, ◌∙◌, ◌≡◌, layout, trim, plain_text}
+use Rattle.cap_spec.proofs.ProofNames.{Err, ap, arith, length, refl, sym, ℕ, ◌*◌, ◌∙◌, ◌≡◌, layout, trim, plain_text}
 use Rattle.cap_vet.specs.Vettings.{message_of}
 use Rattle.cap_canon.specs.CopyOvers.{enough, made, no_copy, refused}
 use Rattle.cap_canon.proofs.Copies.{copy_charged, has_copy}

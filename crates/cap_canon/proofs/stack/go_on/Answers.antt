@@ -1,4 +1,4 @@
-use Rattle.cap_spec.proofs.Prelude.{[], append-nil, refl, rules, ◌++◌, ◌∙◌, ◌∷◌, ◌≡◌, nil_from_length}
+use Rattle.cap_spec.proofs.ProofNames.{[], append-nil, refl, rules, ◌++◌, ◌∙◌, ◌∷◌, ◌≡◌, nil_from_length}
 use Rattle.cap_canon.specs.CopyRuns.{run_kept}
 use Rattle.cap_canon.proofs.stack.go_on.Goals as goal
 

@@ -1,5 +1,5 @@
 use Rattle.cap_spec.specs.Denoting.{places}
-use Rattle.cap_spec.proofs.Prelude.{ℕ, ◌≤◌, children_needed, DenoteEach, Trees}
+use Rattle.cap_spec.proofs.ProofNames.{ℕ, ◌≤◌, children_needed, DenoteEach, Trees}
 use Rattle.cap_canon.proofs.trimming.pointers_left.Given as goal
 
 abbrev pub invariant-loop-left : goal.invariant-loop-left

@@ -1,5 +1,5 @@
-use Rattle.cap_spec.proofs.Prelude.{arith, eq-eqb, eqb-true, length, refl, sym, ◌%◌, ◌*◌, ◌+◌, ◌-◌, ◌<◌, ◌∙◌, ◌≡◌, ◌≢◌}
-use Rattle.cap_spec.proofs.Prelude.{segment_of, element_bits, list_words}
+use Rattle.cap_spec.proofs.ProofNames.{arith, eq-eqb, eqb-true, length, refl, sym, ◌%◌, ◌*◌, ◌+◌, ◌-◌, ◌<◌, ◌∙◌, ◌≡◌, ◌≢◌}
+use Rattle.cap_spec.proofs.ProofNames.{segment_of, element_bits, list_words}
 use Rattle.cap_canon.proofs.Rests.{rest_words, values_full}
 use Rattle.cap_canon.proofs.Standing.{range_words, stand_values, values_stand}
 use Rattle.cap_canon.proofs.values.ends_with_values.Goals as goal

@@ -1,7 +1,7 @@
-use Rattle.cap_spec.proofs.Prelude.{List, None, [], ap, arith, length, option_to_list, refl, rules, subst, sym, ◌++◌, ◌+◌, ◌∙◌}
-use Rattle.cap_spec.proofs.Prelude.{◌∷◌, ◌≡◌, ◌≤◌, trim, IsMessage}
+use Rattle.cap_spec.proofs.ProofNames.{List, None, [], ap, arith, length, option_to_list, refl, rules, subst, sym, ◌++◌, ◌+◌, ◌∙◌}
+use Rattle.cap_spec.proofs.ProofNames.{◌∷◌, ◌≡◌, ◌≤◌, trim, IsMessage}
 use Rattle.cap_spec.proofs.Trees.OneTree.{one_tree}
-use Rattle.cap_canon.specs.Prelude.{first_place, below, own_size, IsWalking, longest_copy, work_left, CopyRun}
+use Rattle.cap_canon.specs.CanonNames.{first_place, below, own_size, IsWalking, longest_copy, work_left, CopyRun}
 use Rattle.cap_canon.specs.StillToLay.{AreOwed, runs_left}
 use Rattle.cap_canon.specs.declared.objects.Object.TheVariants as object
 use Rattle.cap_canon.proofs.Entering.{entered, room_above, work_more}

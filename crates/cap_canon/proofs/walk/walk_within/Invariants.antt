@@ -1,5 +1,5 @@
 use Rattle.std.proofs.Common.{[], ◌++◌, ◌+◌, ◌-◌, ◌∷◌, ◌≡◌}
-use Rattle.cap_canon.specs.Prelude.{ForTrimmed, longest_copy, work_left}
+use Rattle.cap_canon.specs.CanonNames.{ForTrimmed, longest_copy, work_left}
 use Rattle.cap_canon.proofs.Walks.{AtRun}
 use Rattle.cap_canon.proofs.walk.walk_within.Given as goal
 

@@ -1,4 +1,4 @@
-use Rattle.cap_spec.proofs.Prelude.{ℕ, ◌*◌, ◌+◌, ◌<◌, ◌≡◌, HasWord}
+use Rattle.cap_spec.proofs.ProofNames.{ℕ, ◌*◌, ◌+◌, ◌<◌, ◌≡◌, HasWord}
 use Rattle.cap_canon.proofs.wholeness.first_set.Given as goal
 
 abbrev pub invariant-elements : goal.invariant-elements

@@ -1,4 +1,4 @@
-use Rattle.cap_spec.proofs.Prelude.{ap, arith, inl, inr, subst, ◌*◌, ◌+◌, ◌-◌, ◌<◌, ◌≡◌, HasWord, kind}
+use Rattle.cap_spec.proofs.ProofNames.{ap, arith, inl, inr, subst, ◌*◌, ◌+◌, ◌-◌, ◌<◌, ◌≡◌, HasWord, kind}
 use Rattle.cap_canon.proofs.WholeObjects.{element_inside, elements_empty, elements_short, elements_whole}
 use Rattle.cap_canon.proofs.WholeObjects.{isnt_null_word}
 use Rattle.cap_canon.proofs.wholeness.list_needs_pointers.Goals as goal

@@ -1,4 +1,4 @@
-use Rattle.cap_spec.proofs.Prelude.{arith, inl, inr, subst, ◌+◌, ◌-◌, ◌<◌, HasWord}
+use Rattle.cap_spec.proofs.ProofNames.{arith, inl, inr, subst, ◌+◌, ◌-◌, ◌<◌, HasWord}
 use Rattle.cap_canon.proofs.WholeObjects.{isnt_null_word, row_empty, row_short, row_whole}
 use Rattle.cap_canon.proofs.wholeness.needs_row.Goals as goal
 

@@ -1,4 +1,4 @@
-use Rattle.cap_spec.proofs.Prelude.{arith, ◌*◌, ◌∙◌, drop-put_mid}
+use Rattle.cap_spec.proofs.ProofNames.{arith, ◌*◌, ◌∙◌, drop-put_mid}
 use Rattle.cap_canon.proofs.FirstWords.{row_written}
 use Rattle.cap_canon.proofs.word_bytes.write_row.Goals as goal
 

@@ -1,4 +1,4 @@
-use Rattle.cap_spec.proofs.Prelude.{arith, rules, ◌*◌, ◌∙◌, drop-put_mid}
+use Rattle.cap_spec.proofs.ProofNames.{arith, rules, ◌*◌, ◌∙◌, drop-put_mid}
 use Rattle.cap_canon.proofs.FirstWords.{words_put}
 use Rattle.cap_canon.proofs.word_bytes.write_word.Goals as goal
 

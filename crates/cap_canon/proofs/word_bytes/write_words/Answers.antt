@@ -1,5 +1,5 @@
 -- The words of the copy are the first ones.
-use Rattle.cap_spec.proofs.Prelude.{ap, length, rules, sym, ◌∙◌, ◌≡◌, layout, trim}
+use Rattle.cap_spec.proofs.ProofNames.{ap, length, rules, sym, ◌∙◌, ◌≡◌, layout, trim}
 use Rattle.cap_canon.specs.FirstWords.{first_words}
 use Rattle.cap_canon.proofs.Buffers.{counted}
 use Rattle.cap_canon.proofs.FirstWords.{first_words_count}

@@ -1,4 +1,4 @@
-use Rattle.cap_spec.proofs.Prelude.{ap, sym, ◌∙◌, field}
+use Rattle.cap_spec.proofs.ProofNames.{ap, sym, ◌∙◌, field}
 use Rattle.cap_canon.proofs.Ranges.{whole_field}
 use Rattle.cap_canon.proofs.Rests.{rest_all, rest_part}
 use Rattle.cap_canon.proofs.words.last_word.Goals as goal

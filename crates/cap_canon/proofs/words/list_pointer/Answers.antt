@@ -1,4 +1,4 @@
-use Rattle.cap_spec.proofs.Prelude.{ap, arith, sym, w32, ◌∙◌, to_z_pos, list_word}
+use Rattle.cap_spec.proofs.ProofNames.{ap, arith, sym, w32, ◌∙◌, to_z_pos, list_word}
 use Rattle.cap_ptr.specs.declared.forms.Pointer.TheVariants.{List}
 use Rattle.cap_canon.proofs.PointerForms.{list_form}
 use Rattle.cap_canon.proofs.words.list_pointer.Goals as goal

@@ -1,5 +1,5 @@
-use Rattle.cap_spec.proofs.Prelude.{ap, sym, ◌∙◌, length-map-range_with_len, list_word, pointer_to, value_at}
-use Rattle.cap_spec.proofs.Prelude.{segment_of, element_bits}
+use Rattle.cap_spec.proofs.ProofNames.{ap, sym, ◌∙◌, length-map-range_with_len, list_word, pointer_to, value_at}
+use Rattle.cap_spec.proofs.ProofNames.{segment_of, element_bits}
 use Rattle.cap_canon.proofs.words.pointer_word.Goals as goal
 
 pub returns-in-Scalars : goal.returns-in-Scalars

@@ -1,4 +1,4 @@
-use Rattle.cap_spec.proofs.Prelude.{ap, arith, sym, w32, ◌+◌, ◌<◌, ◌∙◌, to_z_pos, struct_word}
+use Rattle.cap_spec.proofs.ProofNames.{ap, arith, sym, w32, ◌+◌, ◌<◌, ◌∙◌, to_z_pos, struct_word}
 use Rattle.cap_ptr.specs.declared.forms.Pointer.TheVariants.{Struct}
 use Rattle.cap_canon.proofs.PointerForms.{not_null, struct_form}
 use Rattle.cap_canon.proofs.words.struct_pointer.Goals as goal

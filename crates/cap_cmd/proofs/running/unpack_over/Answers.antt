@@ -1,4 +1,4 @@
-use Rattle.cap_spec.proofs.Prelude.{ap, subst, sym, ◌∙◌, append_known, plain_text}
+use Rattle.cap_spec.proofs.ProofNames.{ap, subst, sym, ◌∙◌, append_known, plain_text}
 use Rattle.cap_cmd.specs.Jobs.{GivesOutput}
 use Rattle.cap_cmd.proofs.running.unpack_over.Goals as goal
 

@@ -1,4 +1,4 @@
-use Rattle.cap_spec.proofs.Prelude.{[], ap, codes, decimal, ◌++◌, ◌∙◌, ◌∷◌, ◌≡◌, list_size}
+use Rattle.cap_spec.proofs.ProofNames.{[], ap, codes, decimal, ◌++◌, ◌∙◌, ◌∷◌, ◌≡◌, list_size}
 use Rattle.cap_explain.specs.Explaining.{needed}
 use Rattle.cap_explain.proofs.Appends.{then}
 use Rattle.cap_explain.proofs.lines.push_elements_line.Goals as goal

@@ -1,4 +1,4 @@
-use Rattle.cap_spec.proofs.Prelude.{ap, sym, ◌++◌, ◌+◌, ◌∙◌, ◌≡◌, far_segment, pad}
+use Rattle.cap_spec.proofs.ProofNames.{ap, sym, ◌++◌, ◌+◌, ◌∙◌, ◌≡◌, far_segment, pad}
 use Rattle.cap_explain.specs.Explaining.{landing_lines, pad_line}
 use Rattle.cap_explain.proofs.Appends.{then}
 use Rattle.cap_explain.proofs.lines.push_landing_lines.Goals as goal

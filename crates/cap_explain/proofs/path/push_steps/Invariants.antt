@@ -1,4 +1,4 @@
-use Rattle.cap_spec.proofs.Prelude.{flat_map, length, take, ◌*◌, ◌++◌, ◌+◌, ◌≡◌, ◌≤◌, step_text}
+use Rattle.cap_spec.proofs.ProofNames.{flat_map, length, take, ◌*◌, ◌++◌, ◌+◌, ◌≡◌, ◌≤◌, step_text}
 use Rattle.cap_explain.proofs.path.push_steps.Given as goal
 
 abbrev pub invariant-loop-step : goal.invariant-loop-step

@@ -1,6 +1,6 @@
 -- What is appended stands behind what was read.
 use Rattle.cap_spec.proofs.Bytes.Plain.{length_plain}
-use Rattle.cap_spec.proofs.Prelude.{[], ap, arith, length, length-append, refl, ◌∙◌, plain_words}
+use Rattle.cap_spec.proofs.ProofNames.{[], ap, arith, length, length-append, refl, ◌∙◌, plain_words}
 use Rattle.cap_frame.proofs.InOneBuffer.{appended_in, nothing_in}
 use Rattle.cap_frame.proofs.Taking.{takes_none}
 use Rattle.cap_frame.proofs.byte_contents.append_run.Goals as goal

@@ -1,7 +1,7 @@
 -- The table and the words of the buffer behind it frame the message.
 use Rattle.std.proofs.Common.{Err, IfSome, Ok, arith, false, length, refl, subst, sum, sym, take, ◌*◌, ◌∙◌, ◌≡◌, ◌≤◌}
 use Rattle.cap_spec.specs.Plain.{plain_words}
-use Rattle.cap_frame.specs.Prelude.{cut, FrameFault, LeavesSizes, Stops, Takes}
+use Rattle.cap_frame.specs.FrameNames.{cut, FrameFault, LeavesSizes, Stops, Takes}
 use Rattle.cap_frame.proofs.InOneBuffer.{held_joined, held_sizes}
 use Rattle.cap_frame.proofs.Reading.{frame_stopped, frame_taken, no_frame, no_memory}
 use Rattle.cap_frame.proofs.TablesLeft.{left_contents}

@@ -1,6 +1,6 @@
 -- Each number of the table is one more size.
-use Rattle.cap_spec.proofs.Prelude.{[], ap, arith, drop, length, length-append, sym, ◌*◌, ◌++◌, ◌+◌, ◌∙◌, ◌∷◌, ◌≡◌, ◌≤◌}
-use Rattle.cap_spec.proofs.Prelude.{take_rest, little_number, plain_words}
+use Rattle.cap_spec.proofs.ProofNames.{[], ap, arith, drop, length, length-append, sym, ◌*◌, ◌++◌, ◌+◌, ◌∙◌, ◌∷◌, ◌≡◌, ◌≤◌}
+use Rattle.cap_spec.proofs.ProofNames.{take_rest, little_number, plain_words}
 use Rattle.cap_words.proofs.AtHand.{bytes_small}
 use Rattle.cap_frame.specs.Fronts.{sizes_told}
 use Rattle.cap_frame.proofs.Cuts.{words_all}

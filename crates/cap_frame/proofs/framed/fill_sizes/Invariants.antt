@@ -1,4 +1,4 @@
-use Rattle.cap_spec.proofs.Prelude.{length, ◌≡◌, plain_words}
+use Rattle.cap_spec.proofs.ProofNames.{length, ◌≡◌, plain_words}
 use Rattle.cap_frame.specs.Fronts.{sizes_told}
 use Rattle.cap_frame.proofs.framed.fill_sizes.Given as goal
 

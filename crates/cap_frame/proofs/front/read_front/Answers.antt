@@ -1,7 +1,7 @@
 -- What each answer tells of the bytes.
-use Rattle.cap_spec.proofs.Prelude.{ap, arith, ◌*◌, ◌+◌, ◌/◌, ◌∙◌, nat_tests}
+use Rattle.cap_spec.proofs.ProofNames.{ap, arith, ◌*◌, ◌+◌, ◌/◌, ◌∙◌, nat_tests}
 use Rattle.cap_words.proofs.AtHand.{bytes_small}
-use Rattle.cap_frame.specs.Prelude.{table_words, limit_of}
+use Rattle.cap_frame.specs.FrameNames.{table_words, limit_of}
 use Rattle.cap_frame.proofs.Fronts.{begins, has_table, is_front, no_contents, no_first, no_table, tells_large}
 use Rattle.cap_frame.proofs.Fronts.{tells_many}
 use Rattle.cap_frame.proofs.front.read_front.Goals as goal

@@ -1,6 +1,6 @@
 -- Each number of the table adds to the sum.
-use Rattle.cap_spec.proofs.Prelude.{ap, arith, drop, length, sum, ◌*◌, ◌+◌, ◌∙◌, ◌≡◌, ◌≤◌, take_rest, little_number}
-use Rattle.cap_spec.proofs.Prelude.{plain_words}
+use Rattle.cap_spec.proofs.ProofNames.{ap, arith, drop, length, sum, ◌*◌, ◌+◌, ◌∙◌, ◌≡◌, ◌≤◌, take_rest, little_number}
+use Rattle.cap_spec.proofs.ProofNames.{plain_words}
 use Rattle.cap_words.proofs.AtHand.{bytes_small}
 use Rattle.cap_frame.specs.Fronts.{sizes_told}
 use Rattle.cap_frame.proofs.Cuts.{words_all}

@@ -1,4 +1,4 @@
-use Rattle.cap_spec.proofs.Prelude.{sum, ◌*◌, ◌≡◌, ◌≤◌, plain_words}
+use Rattle.cap_spec.proofs.ProofNames.{sum, ◌*◌, ◌≡◌, ◌≤◌, plain_words}
 use Rattle.cap_frame.specs.Fronts.{sizes_told}
 use Rattle.cap_frame.proofs.front.total_told.Given as goal
 

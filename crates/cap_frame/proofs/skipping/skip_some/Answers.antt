@@ -1,4 +1,4 @@
-use Rattle.cap_spec.proofs.Prelude.{[], arith, refl, subst, take, ◌∷◌, plain_words}
+use Rattle.cap_spec.proofs.ProofNames.{[], arith, refl, subst, take, ◌∷◌, plain_words}
 use Rattle.cap_frame.specs.Taking.{IsUsable, ReadsInput, Stops, Takes}
 use Rattle.cap_frame.proofs.Skips.{words_in}
 use Rattle.cap_frame.proofs.skipping.skip_some.Goals as goal

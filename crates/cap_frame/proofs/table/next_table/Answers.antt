@@ -1,6 +1,6 @@
 -- What is said after the first word, seen from before it.
-use Rattle.cap_spec.proofs.Prelude.{Err, IfSome, List, Ok, [], arith, refl, subst, sym, true, ℕ, ◌∙◌, common_steps}
-use Rattle.cap_frame.specs.Prelude.{limit_of, Faults, FrameFault, LeavesSizes}
+use Rattle.cap_spec.proofs.ProofNames.{Err, IfSome, List, Ok, [], arith, refl, subst, sym, true, ℕ, ◌∙◌, common_steps}
+use Rattle.cap_frame.specs.FrameNames.{limit_of, Faults, FrameFault, LeavesSizes}
 use Rattle.cap_frame.proofs.Behind.{behind_first, table_whole}
 use Rattle.cap_frame.proofs.Reading.{gave, next_first}
 use Rattle.cap_frame.proofs.TablesLeft.{left_inside, left_none, left_table}

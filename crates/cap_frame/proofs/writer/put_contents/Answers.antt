@@ -1,5 +1,5 @@
 -- Each turn puts the next segment.
-use Rattle.cap_spec.proofs.Prelude.{arith, drop, ◌+◌, joined, segment_of}
+use Rattle.cap_spec.proofs.ProofNames.{arith, drop, ◌+◌, joined, segment_of}
 use Rattle.cap_frame.proofs.Putting.{leaves_halts, leaves_less, segments_from}
 use Rattle.cap_frame.proofs.writer.put_contents.Goals as goal
 

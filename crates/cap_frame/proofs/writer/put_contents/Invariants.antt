@@ -1,4 +1,4 @@
-use Rattle.cap_spec.proofs.Prelude.{drop, joined}
+use Rattle.cap_spec.proofs.ProofNames.{drop, joined}
 use Rattle.cap_frame.proofs.Putting.{Leaves}
 use Rattle.cap_frame.proofs.writer.put_contents.Given as goal
 

@@ -1,6 +1,6 @@
 -- Each turn puts the next word of the segment.
 use Rattle.cap_spec.proofs.Canonical.Placing.{rest_at}
-use Rattle.cap_spec.proofs.Prelude.{[], drop, ◌+◌, ◌∷◌, segment_of}
+use Rattle.cap_spec.proofs.ProofNames.{[], drop, ◌+◌, ◌∷◌, segment_of}
 use Rattle.cap_frame.proofs.Putting.{halts_of, leaves_halts, leaves_less, puts_of}
 use Rattle.cap_frame.proofs.writer.put_segment.Goals as goal
 

@@ -1,4 +1,4 @@
-use Rattle.cap_spec.proofs.Prelude.{drop, segment_of}
+use Rattle.cap_spec.proofs.ProofNames.{drop, segment_of}
 use Rattle.cap_frame.proofs.Putting.{Leaves}
 use Rattle.cap_frame.proofs.writer.put_segment.Given as goal
 

@@ -1,5 +1,5 @@
 -- Each turn puts the next word of the table.
-use Rattle.cap_spec.proofs.Prelude.{[], arith, drop, ◌*◌, ◌+◌, ◌∷◌, paired}
+use Rattle.cap_spec.proofs.ProofNames.{[], arith, drop, ◌*◌, ◌+◌, ◌∷◌, paired}
 use Rattle.cap_frame.specs.Numbers.{numbers_of}
 use Rattle.cap_frame.proofs.Putting.{halts_of, leaves_halts, leaves_less, puts_of, table_from}
 use Rattle.cap_frame.proofs.writer.put_sizes.Goals as goal

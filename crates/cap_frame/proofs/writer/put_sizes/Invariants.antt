@@ -1,4 +1,4 @@
-use Rattle.cap_spec.proofs.Prelude.{drop, ◌*◌, ◌+◌, paired}
+use Rattle.cap_spec.proofs.ProofNames.{drop, ◌*◌, ◌+◌, paired}
 use Rattle.cap_frame.specs.Numbers.{numbers_of}
 use Rattle.cap_frame.proofs.Putting.{Leaves}
 use Rattle.cap_frame.proofs.writer.put_sizes.Given as goal

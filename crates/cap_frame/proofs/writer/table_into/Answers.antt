@@ -1,6 +1,6 @@
 -- Each turn writes one word more.
-use Rattle.cap_spec.proofs.Prelude.{ap, arith, length, take, ℕ, ◌*◌, ◌++◌, ◌+◌, ◌-◌, ◌/◌, ◌∙◌, ◌≡◌, take-put_mid}
-use Rattle.cap_spec.proofs.Prelude.{put_mid, word_bytes}
+use Rattle.cap_spec.proofs.ProofNames.{ap, arith, length, take, ℕ, ◌*◌, ◌++◌, ◌+◌, ◌-◌, ◌/◌, ◌∙◌, ◌≡◌, take-put_mid}
+use Rattle.cap_spec.proofs.ProofNames.{put_mid, word_bytes}
 use Rattle.cap_frame.proofs.TableBytes.{table_all, table_back, table_more}
 use Rattle.cap_frame.proofs.writer.table_into.Goals as goal
 

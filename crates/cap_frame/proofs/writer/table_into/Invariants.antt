@@ -1,4 +1,4 @@
-use Rattle.cap_spec.proofs.Prelude.{drop, take, ◌*◌, ◌++◌, ◌≡◌, paired, plain_text}
+use Rattle.cap_spec.proofs.ProofNames.{drop, take, ◌*◌, ◌++◌, ◌≡◌, paired, plain_text}
 use Rattle.cap_frame.specs.Numbers.{numbers_of}
 use Rattle.cap_frame.proofs.writer.table_into.Given as goal
 

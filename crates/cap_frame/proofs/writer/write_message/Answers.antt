@@ -1,5 +1,5 @@
 -- The first word, the rest of the table, and the contents.
-use Rattle.cap_spec.proofs.Prelude.{List, [], append-nil, refl, subst, sym, ℕ, ◌++◌, ◌∷◌, frame_text, joined}
+use Rattle.cap_spec.proofs.ProofNames.{List, [], append-nil, refl, subst, sym, ℕ, ◌++◌, ◌∷◌, frame_text, joined}
 use Rattle.cap_frame.specs.Numbers.{table_rest}
 use Rattle.cap_frame.specs.Putting.{Halts}
 use Rattle.cap_frame.proofs.Putting.{frame_from, halts_before, halts_of, leaves_halts, leaves_less, leaves_none, starts}

@@ -1,5 +1,5 @@
 use Rattle.cap_spec.proofs.Canonical.Trimming.{trim-trim}
-use Rattle.cap_spec.proofs.Prelude.{ap, layout}
+use Rattle.cap_spec.proofs.ProofNames.{ap, layout}
 use Rattle.cap_laws.proofs.canonical.trimmed_once_is_enough.Goals as goal
 
 pub returns-clause-tree : goal.returns-clause-tree

@@ -1,5 +1,5 @@
 use Rattle.cap_spec.proofs.Frames.FrameTexts.{frame_text_frames, frame_text_zero, zero_frame_is_text}
-use Rattle.cap_spec.proofs.Prelude.{subst, sym, FramesZero}
+use Rattle.cap_spec.proofs.ProofNames.{subst, sym, FramesZero}
 use Rattle.cap_laws.proofs.framing.frame_text_frames.Goals as goal
 
 pub returns-clause-frames : goal.returns-clause-frames

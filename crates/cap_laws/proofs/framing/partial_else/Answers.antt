@@ -1,6 +1,6 @@
 use Rattle.cap_spec.proofs.Frames.Endings.{none_not_partial}
 use Rattle.cap_spec.proofs.Frames.OneEnding.{message_partial, partial_else, too_large_partial, too_many_partial}
-use Rattle.cap_spec.proofs.Prelude.{[], subst, IsPartial}
+use Rattle.cap_spec.proofs.ProofNames.{[], subst, IsPartial}
 use Rattle.cap_laws.proofs.framing.partial_else.Goals as goal
 
 pub returns : goal.returns

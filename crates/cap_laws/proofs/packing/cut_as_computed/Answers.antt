@@ -1,6 +1,6 @@
 use Rattle.cap_spec.proofs.Packed.Groups.{cut_is_cut, cut_words}
 use Rattle.cap_spec.proofs.Packed.OneUnpacking.{cut_if_cut}
-use Rattle.cap_spec.proofs.Prelude.{subst, sym, Cut}
+use Rattle.cap_spec.proofs.ProofNames.{subst, sym, Cut}
 use Rattle.cap_laws.proofs.packing.cut_as_computed.Goals as goal
 
 pub returns : goal.returns

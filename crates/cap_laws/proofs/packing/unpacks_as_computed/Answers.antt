@@ -1,6 +1,6 @@
 use Rattle.cap_spec.proofs.Packed.Groups.{unpacks_whole, unpacks_words}
 use Rattle.cap_spec.proofs.Packed.OneUnpacking.{unpacks_unless_cut}
-use Rattle.cap_spec.proofs.Prelude.{subst, sym, Unpacks}
+use Rattle.cap_spec.proofs.ProofNames.{subst, sym, Unpacks}
 use Rattle.cap_laws.proofs.packing.unpacks_as_computed.Goals as goal
 
 pub returns : goal.returns

@@ -1,4 +1,4 @@
-use Rattle.cap_spec.proofs.Prelude.{arith, unamplified}
+use Rattle.cap_spec.proofs.ProofNames.{arith, unamplified}
 use Rattle.cap_spec.proofs.Strict.Unamplified.{added_refusals}
 use Rattle.cap_laws.proofs.unamplified.unamplified_adds_word_limits.Goals as goal
 

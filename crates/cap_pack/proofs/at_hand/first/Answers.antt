@@ -1,6 +1,6 @@
 use Rattle.cap_spec.proofs.Bytes.Plain.{plain_back}
-use Rattle.cap_spec.proofs.Prelude.{[], ap, arith, drop, length, refl, rules, take, take_all, ◌++◌, ◌∙◌, ◌∷◌, ◌≡◌}
-use Rattle.cap_spec.proofs.Prelude.{take-append-le, plain_words, word_bytes}
+use Rattle.cap_spec.proofs.ProofNames.{[], ap, arith, drop, length, refl, rules, take, take_all, ◌++◌, ◌∙◌, ◌∷◌, ◌≡◌}
+use Rattle.cap_spec.proofs.ProofNames.{take-append-le, plain_words, word_bytes}
 use Rattle.cap_pack.proofs.AtHand.{gives_head}
 use Rattle.cap_pack.proofs.at_hand.first.Goals as goal
 

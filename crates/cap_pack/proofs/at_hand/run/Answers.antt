@@ -1,5 +1,5 @@
-use Rattle.cap_spec.proofs.Prelude.{List, [], ap, arith, length, length-take-le, replicate, take, ℕ, ◌%◌, ◌*◌, ◌++◌}
-use Rattle.cap_spec.proofs.Prelude.{◌+◌, ◌-◌, ◌∙◌, ◌≡◌, put_mid, plain_words}
+use Rattle.cap_spec.proofs.ProofNames.{List, [], ap, arith, length, length-take-le, replicate, take, ℕ, ◌%◌, ◌*◌, ◌++◌}
+use Rattle.cap_spec.proofs.ProofNames.{◌+◌, ◌-◌, ◌∙◌, ◌≡◌, put_mid, plain_words}
 use Rattle.cap_words.proofs.Filling.{plain_join}
 use Rattle.cap_words.proofs.Turns.{filled, filled_within}
 use Rattle.cap_pack.proofs.AtHand.{gives_both, gives_plain, gives_zeros, zeros_are_words}

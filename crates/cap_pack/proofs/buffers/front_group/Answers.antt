@@ -1,5 +1,5 @@
 -- The group in front, by the tag of its first word.
-use Rattle.cap_spec.proofs.Prelude.{ap, arith, filter, length, not, ◌==◌, ◌∙◌, ◌≢◌, take_rest, zero_bytes, word_bytes}
+use Rattle.cap_spec.proofs.ProofNames.{ap, arith, filter, length, not, ◌==◌, ◌∙◌, ◌≢◌, take_rest, zero_bytes, word_bytes}
 use Rattle.cap_pack.proofs.GroupTexts.{full_front, marked_front, tag_full, tag_other, tag_zero, zeros_front}
 use Rattle.cap_pack.proofs.Shuffles.{ones_of_tag}
 use Rattle.cap_pack.proofs.buffers.front_group.Goals as goal

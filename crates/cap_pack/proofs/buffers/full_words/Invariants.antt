@@ -1,4 +1,4 @@
-use Rattle.cap_spec.proofs.Prelude.{length, min, ◌-◌, ◌/◌, ◌≡◌, ◌≤◌, full_run, plain_words}
+use Rattle.cap_spec.proofs.ProofNames.{length, min, ◌-◌, ◌/◌, ◌≡◌, ◌≤◌, full_run, plain_words}
 use Rattle.cap_pack.proofs.buffers.full_words.Given as goal
 
 abbrev pub invariant-loop-count : goal.invariant-loop-count

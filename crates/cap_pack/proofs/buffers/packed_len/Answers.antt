@@ -1,6 +1,6 @@
 -- One group more is counted, and no word is left.
-use Rattle.cap_spec.proofs.Prelude.{List, ap, arith, drop, length, length-append, length-drop, take, ℕ, ◌+◌, ◌-◌, ◌∙◌}
-use Rattle.cap_spec.proofs.Prelude.{◌≡◌, take_rest, pack_text, plain_words}
+use Rattle.cap_spec.proofs.ProofNames.{List, ap, arith, drop, length, length-append, length-drop, take, ℕ, ◌+◌, ◌-◌, ◌∙◌}
+use Rattle.cap_spec.proofs.ProofNames.{◌≡◌, take_rest, pack_text, plain_words}
 use Rattle.cap_pack.specs.GroupTexts.{front_text}
 use Rattle.cap_pack.proofs.GroupTexts.{pack_step}
 use Rattle.cap_pack.proofs.PuttingEach.{no_word}

@@ -1,4 +1,4 @@
-use Rattle.cap_spec.proofs.Prelude.{drop, length, ◌*◌, ◌+◌, ◌-◌, ◌≡◌, ◌≤◌, pack_text, plain_words}
+use Rattle.cap_spec.proofs.ProofNames.{drop, length, ◌*◌, ◌+◌, ◌-◌, ◌≡◌, ◌≤◌, pack_text, plain_words}
 use Rattle.cap_pack.proofs.buffers.packed_len.Given as goal
 
 -- the groups so far are counted

@@ -1,4 +1,4 @@
-use Rattle.cap_spec.proofs.Prelude.{ap, ◌*◌, ◌∙◌, take_rest, little_number}
+use Rattle.cap_spec.proofs.ProofNames.{ap, ◌*◌, ◌∙◌, take_rest, little_number}
 use Rattle.cap_pack.proofs.GroupTexts.{word_placed}
 use Rattle.cap_pack.proofs.buffers.word_at.Goals as goal
 

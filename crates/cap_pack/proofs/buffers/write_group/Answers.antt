@@ -1,5 +1,5 @@
 -- What was written, by the tag.
-use Rattle.cap_spec.proofs.Prelude.{ap, arith, length, refl, sym, ◌∙◌, ◌≡◌, ◌≢◌, zero_bytes}
+use Rattle.cap_spec.proofs.ProofNames.{ap, arith, length, refl, sym, ◌∙◌, ◌≡◌, ◌≢◌, zero_bytes}
 use Rattle.cap_words.proofs.AtHand.{bytes_small}
 use Rattle.cap_pack.proofs.FullWords.{full_word}
 use Rattle.cap_pack.proofs.GroupTexts.{full_room, full_written, marked_bytes, marked_room, marked_written, tag_full}

@@ -1,7 +1,7 @@
 -- One group more is written, and no word is left.
-use Rattle.cap_spec.proofs.Prelude.{List, ap, append-nil, append_assoc, arith, drop, length, length-append, length-drop}
-use Rattle.cap_spec.proofs.Prelude.{sym, take, take_all, ℕ, ◌++◌, ◌+◌, ◌-◌, ◌∙◌, ◌≡◌, ◌≤◌, take_rest, take-put_mid}
-use Rattle.cap_spec.proofs.Prelude.{pack_text, plain_words}
+use Rattle.cap_spec.proofs.ProofNames.{List, ap, append-nil, append_assoc, arith, drop, length, length-append, length-drop}
+use Rattle.cap_spec.proofs.ProofNames.{sym, take, take_all, ℕ, ◌++◌, ◌+◌, ◌-◌, ◌∙◌, ◌≡◌, ◌≤◌, take_rest, take-put_mid}
+use Rattle.cap_spec.proofs.ProofNames.{pack_text, plain_words}
 use Rattle.cap_pack.specs.GroupTexts.{front_text}
 use Rattle.cap_pack.proofs.GroupTexts.{pack_step, put_length}
 use Rattle.cap_pack.proofs.PuttingEach.{no_word}

@@ -1,4 +1,4 @@
-use Rattle.cap_spec.proofs.Prelude.{drop, length, take, ◌++◌, ◌+◌, ◌-◌, ◌≡◌, ◌≤◌, pack_text, plain_words}
+use Rattle.cap_spec.proofs.ProofNames.{drop, length, take, ◌++◌, ◌+◌, ◌-◌, ◌≡◌, ◌≤◌, pack_text, plain_words}
 use Rattle.cap_pack.proofs.buffers.write_text.Given as goal
 
 -- the text so far and that of the words that are left are the whole text

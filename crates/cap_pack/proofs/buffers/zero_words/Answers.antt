@@ -1,6 +1,6 @@
 -- One zero word more, another word, and as many as there may be.
 use Rattle.cap_spec.proofs.Lemmas.{words_exact, front-le}
-use Rattle.cap_spec.proofs.Prelude.{arith, eq-eqb, length, ne_eqb, sym, ◌==◌, ◌∙◌, ◌≡◌, ◌≤◌, zero_run, plain_words}
+use Rattle.cap_spec.proofs.ProofNames.{arith, eq-eqb, length, ne_eqb, sym, ◌==◌, ◌∙◌, ◌≡◌, ◌≤◌, zero_run, plain_words}
 use Rattle.cap_pack.proofs.Runs.{run_ends, run_more}
 use Rattle.cap_pack.proofs.buffers.zero_words.Goals as goal
 

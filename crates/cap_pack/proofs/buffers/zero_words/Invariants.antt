@@ -1,4 +1,4 @@
-use Rattle.cap_spec.proofs.Prelude.{length, min, ◌-◌, ◌/◌, ◌≡◌, ◌≤◌, zero_run, plain_words}
+use Rattle.cap_spec.proofs.ProofNames.{length, min, ◌-◌, ◌/◌, ◌≡◌, ◌≤◌, zero_run, plain_words}
 use Rattle.cap_pack.proofs.buffers.zero_words.Given as goal
 
 abbrev pub invariant-loop-count : goal.invariant-loop-count

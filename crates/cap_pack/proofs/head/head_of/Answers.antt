@@ -1,4 +1,4 @@
-use Rattle.cap_spec.proofs.Prelude.{ap, arith, ◌∙◌, spread}
+use Rattle.cap_spec.proofs.ProofNames.{ap, arith, ◌∙◌, spread}
 use Rattle.cap_pack.proofs.Heads.{first_word-marked, first_word-plain, first_word-zeros, plain_of-others}
 use Rattle.cap_pack.proofs.Heads.{plain_of-plain, spread_eight, zeros_of-others, zeros_of-zeros}
 use Rattle.cap_pack.proofs.head.head_of.Goals as goal

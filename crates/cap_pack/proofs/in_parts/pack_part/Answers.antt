@@ -1,8 +1,8 @@
 -- The groups of a piece, or a run that begins with it.
 use Rattle.cap_spec.proofs.Bytes.Plain.{words_exact}
-use Rattle.cap_spec.proofs.Prelude.{List, ap, arith, drop, drop_at, length, length-take-le, refl, sym, take, take_at}
-use Rattle.cap_spec.proofs.Prelude.{zero-add, ℕ, ◌*◌, ◌++◌, ◌∙◌, ◌≡◌, ◌≤◌, drop-append-le, post_of, pack_text}
-use Rattle.cap_spec.proofs.Prelude.{plain_words}
+use Rattle.cap_spec.proofs.ProofNames.{List, ap, arith, drop, drop_at, length, length-take-le, refl, sym, take, take_at}
+use Rattle.cap_spec.proofs.ProofNames.{zero-add, ℕ, ◌*◌, ◌++◌, ◌∙◌, ◌≡◌, ◌≤◌, drop-append-le, post_of, pack_text}
+use Rattle.cap_spec.proofs.ProofNames.{plain_words}
 use Rattle.cap_pack.specs.GroupTexts.{front_text}
 use Rattle.cap_pack.proofs.GroupTexts.{pack_step, words_parted}
 use Rattle.cap_pack.proofs.in_parts.pack_part.Goals as goal

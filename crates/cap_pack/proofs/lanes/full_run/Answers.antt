@@ -1,4 +1,4 @@
-use Rattle.cap_spec.proofs.Prelude.{arith, le-leb, leb, lt-leb, zero_bytes}
+use Rattle.cap_spec.proofs.ProofNames.{arith, le-leb, leb, lt-leb, zero_bytes}
 use Rattle.cap_pack.proofs.Runs.{run_ends, run_more}
 use Rattle.cap_pack.proofs.lanes.full_run.Goals as goal
 

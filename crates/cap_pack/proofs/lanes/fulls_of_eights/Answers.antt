@@ -1,4 +1,4 @@
-use Rattle.cap_spec.proofs.Prelude.{arith, leb, zero_bytes}
+use Rattle.cap_spec.proofs.ProofNames.{arith, leb, zero_bytes}
 use Rattle.cap_pack.proofs.Runs.{run_goes_on}
 use Rattle.cap_pack.proofs.lanes.fulls_of_eights.Goals as goal
 

@@ -1,4 +1,4 @@
-use Rattle.cap_spec.proofs.Prelude.{refl, word_bytes}
+use Rattle.cap_spec.proofs.ProofNames.{refl, word_bytes}
 use Rattle.cap_pack.proofs.Shuffles.{squeeze_by_places, squeeze_ok}
 use Rattle.cap_pack.proofs.lanes.squeeze_lanes.Goals as goal
 

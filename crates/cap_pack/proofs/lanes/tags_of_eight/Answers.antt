@@ -1,5 +1,5 @@
 use Rattle.std.proofs.lemmas.Simd.{below_from_Fits, chunk-fits}
-use Rattle.cap_spec.proofs.Prelude.{w64, ◌∙◌, length-chunk, chunk}
+use Rattle.cap_spec.proofs.ProofNames.{w64, ◌∙◌, length-chunk, chunk}
 use Rattle.cap_pack.proofs.Tags.{eight_tags}
 use Rattle.cap_pack.proofs.lanes.tags_of_eight.Goals as goal
 

@@ -1,4 +1,4 @@
-use Rattle.cap_spec.proofs.Prelude.{refl, ◌∙◌, length-chunk, chunk}
+use Rattle.cap_spec.proofs.ProofNames.{refl, ◌∙◌, length-chunk, chunk}
 use Rattle.cap_pack.proofs.Runs.{zeros_by_lanes}
 use Rattle.cap_pack.proofs.lanes.zeros_of_eight.Goals as goal
 

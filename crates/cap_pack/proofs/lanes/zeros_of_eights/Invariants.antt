@@ -1,4 +1,4 @@
-use Rattle.cap_spec.proofs.Prelude.{length, ◌-◌, ◌≤◌, zero_run}
+use Rattle.cap_spec.proofs.ProofNames.{length, ◌-◌, ◌≤◌, zero_run}
 use Rattle.cap_pack.proofs.lanes.zeros_of_eights.Given as goal
 
 abbrev pub invariant-loop-i : goal.invariant-loop-i

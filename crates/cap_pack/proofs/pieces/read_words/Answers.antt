@@ -1,4 +1,4 @@
-use Rattle.cap_spec.proofs.Prelude.{arith, length-take-le, refl, take, ◌*◌, ◌∙◌, ◌≡◌, take-put_mid}
+use Rattle.cap_spec.proofs.ProofNames.{arith, length-take-le, refl, take, ◌*◌, ◌∙◌, ◌≡◌, take-put_mid}
 use Rattle.cap_pack.proofs.PuttingEach.{words_read}
 use Rattle.cap_pack.proofs.pieces.read_words.Goals as goal
 

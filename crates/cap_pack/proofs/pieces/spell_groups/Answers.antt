@@ -1,5 +1,5 @@
-use Rattle.cap_spec.proofs.Prelude.{[], ap, arith, drop, filter, get_or, length-drop, length-take, not, refl, sym, take}
-use Rattle.cap_spec.proofs.Prelude.{ℕ, ◌++◌, ◌+◌, ◌-◌, ◌==◌, ◌∙◌, ◌∷◌, pack_text, tag_of, word_bytes}
+use Rattle.cap_spec.proofs.ProofNames.{[], ap, arith, drop, filter, get_or, length-drop, length-take, not, refl, sym, take}
+use Rattle.cap_spec.proofs.ProofNames.{ℕ, ◌++◌, ◌+◌, ◌-◌, ◌==◌, ◌∙◌, ◌∷◌, pack_text, tag_of, word_bytes}
 use Rattle.cap_pack.proofs.FullWords.{full_word, word_tag, zero_word}
 use Rattle.cap_pack.proofs.GroupsSpelled.{full_step, marked_step, more_spelled, zeros_step}
 use Rattle.cap_pack.proofs.pieces.spell_groups.Goals as goal

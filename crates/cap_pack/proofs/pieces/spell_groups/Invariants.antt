@@ -1,4 +1,4 @@
-use Rattle.cap_spec.proofs.Prelude.{List, drop, length, take, ℕ, ◌*◌, ◌++◌, ◌+◌, ◌-◌, ◌≡◌, ◌≤◌, pack_text}
+use Rattle.cap_spec.proofs.ProofNames.{List, drop, length, take, ℕ, ◌*◌, ◌++◌, ◌+◌, ◌-◌, ◌≡◌, ◌≤◌, pack_text}
 use Rattle.cap_pack.proofs.pieces.spell_groups.Given as goal
 
 abbrev pub invariant-loop-at : goal.invariant-loop-at

@@ -1,4 +1,4 @@
-use Rattle.cap_spec.proofs.Prelude.{arith, filter, not, refl, ◌==◌, ◌∙◌, word_bytes}
+use Rattle.cap_spec.proofs.ProofNames.{arith, filter, not, refl, ◌==◌, ◌∙◌, word_bytes}
 use Rattle.cap_pack.proofs.Shuffles.{ones_of_tag}
 use Rattle.cap_pack.proofs.Written.{take-marked}
 use Rattle.cap_pack.proofs.pieces.spell_marked.Goals as goal

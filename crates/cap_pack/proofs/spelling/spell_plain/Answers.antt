@@ -1,5 +1,5 @@
 use Rattle.cap_spec.proofs.Bytes.Plain.{length_plain}
-use Rattle.cap_spec.proofs.Prelude.{ap, arith, length, ◌∙◌, ◌≡◌, plain_text, word_bytes}
+use Rattle.cap_spec.proofs.ProofNames.{ap, arith, length, ◌∙◌, ◌≡◌, plain_text, word_bytes}
 use Rattle.cap_pack.proofs.Written.{take-plain}
 use Rattle.cap_pack.proofs.spelling.spell_plain.Goals as goal
 

@@ -1,8 +1,8 @@
 -- The steps that were pushed and those that are left are all.
 use Rattle.cap_spec.specs.declared.Step.{Step}
 use Rattle.cap_spec.proofs.Paths.PathTexts.{one_path_text}
-use Rattle.cap_spec.proofs.Prelude.{List, [], ap, append-nil, append_assoc, subst, sym, ◌++◌, ◌∙◌, ◌∷◌, ◌≡◌}
-use Rattle.cap_spec.proofs.Prelude.{AllByRecursion, IsStep, path_text}
+use Rattle.cap_spec.proofs.ProofNames.{List, [], ap, append-nil, append_assoc, subst, sym, ◌++◌, ◌∙◌, ◌∷◌, ◌≡◌}
+use Rattle.cap_spec.proofs.ProofNames.{AllByRecursion, IsStep, path_text}
 use Rattle.cap_path.proofs.StepsLeft.{no_step_left, step_left}
 use Rattle.cap_path.proofs.parsing.parse_path.Goals as goal
 

@@ -1,5 +1,5 @@
 use Rattle.cap_spec.specs.declared.Step.{Step}
-use Rattle.cap_spec.proofs.Prelude.{List, ◌++◌, ◌≡◌, AllByRecursion, IsStep, path_text}
+use Rattle.cap_spec.proofs.ProofNames.{List, ◌++◌, ◌≡◌, AllByRecursion, IsStep, path_text}
 use Rattle.cap_path.specs.PathSteps.{AreLeft, bytes_left}
 use Rattle.cap_path.proofs.parsing.parse_path.Given as goal
 

@@ -2,7 +2,7 @@
 use Rattle.std.proofs.lemmas.Result.{err_from_is_err_and}
 use Rattle.cap_spec.specs.declared.Step.{Step}
 use Rattle.cap_spec.specs.declared.Step.TheVariants.{Ptr, Item as item}
-use Rattle.cap_spec.proofs.Prelude.{IfErr, Result, arith, length, subst, sym, ℕ, ◌+◌, ◌<◌, IsBadAt}
+use Rattle.cap_spec.proofs.ProofNames.{IfErr, Result, arith, length, subst, sym, ℕ, ◌+◌, ◌<◌, IsBadAt}
 use Rattle.cap_path.proofs.BadSteps.{bad_letter, bad_number, items, pointers}
 use Rattle.cap_path.proofs.ReadSteps.{Item, Pointer}
 use Rattle.cap_path.proofs.reading.step_at.Goals as goal

@@ -1,5 +1,5 @@
 -- The text is read to its end, or to the byte where it is bad.
-use Rattle.cap_spec.proofs.Prelude.{[], ap, sym, ◌++◌, ◌∙◌, ◌∷◌, step_text}
+use Rattle.cap_spec.proofs.ProofNames.{[], ap, sym, ◌++◌, ◌∙◌, ◌∷◌, step_text}
 use Rattle.cap_path.proofs.ReadSteps.{are-snoc, texts-snoc}
 use Rattle.cap_path.proofs.steps.read_path.Goals as goal
 

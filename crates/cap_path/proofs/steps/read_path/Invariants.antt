@@ -1,6 +1,6 @@
 use Rattle.cap_spec.specs.declared.Step.{Step}
-use Rattle.cap_spec.proofs.Prelude.{List, flat_map, get_or, length, take, ◌-◌, ◌<◌, ◌≡◌, ◌≤◌, AllByRecursion, IsStep}
-use Rattle.cap_spec.proofs.Prelude.{step_text}
+use Rattle.cap_spec.proofs.ProofNames.{List, flat_map, get_or, length, take, ◌-◌, ◌<◌, ◌≡◌, ◌≤◌, AllByRecursion, IsStep}
+use Rattle.cap_spec.proofs.ProofNames.{step_text}
 use Rattle.cap_path.proofs.steps.read_path.Given as goal
 
 abbrev pub invariant-loop-at : goal.invariant-loop-at

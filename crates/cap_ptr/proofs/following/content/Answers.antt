@@ -1,4 +1,4 @@
-use Rattle.cap_spec.proofs.Prelude.{arith, sym, ◌∙◌, IsOnePad}
+use Rattle.cap_spec.proofs.ProofNames.{arith, sym, ◌∙◌, IsOnePad}
 use Rattle.cap_ptr.proofs.Pads.{content-lead, content-not_far, content-tag_kind, content-tag_offset}
 use Rattle.cap_ptr.proofs.following.content.Goals as goal
 

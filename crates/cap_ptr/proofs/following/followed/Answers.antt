@@ -1,4 +1,4 @@
-use Rattle.cap_spec.proofs.Prelude.{arith, refl, ◌∙◌, near}
+use Rattle.cap_spec.proofs.ProofNames.{arith, refl, ◌∙◌, near}
 use Rattle.cap_ptr.proofs.Pads.{stands-near}
 use Rattle.cap_ptr.proofs.following.followed.Goals as goal
 

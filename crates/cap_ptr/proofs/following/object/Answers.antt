@@ -1,4 +1,4 @@
-use Rattle.cap_spec.proofs.Prelude.{pos, refl, ◌+ℤ◌, ◌+◌, signed_offset_of}
+use Rattle.cap_spec.proofs.ProofNames.{pos, refl, ◌+ℤ◌, ◌+◌, signed_offset_of}
 use Rattle.cap_ptr.proofs.Pads.{object-lead, wrong-before}
 use Rattle.cap_ptr.proofs.following.object.Goals as goal
 

@@ -1,4 +1,4 @@
-use Rattle.cap_spec.proofs.Prelude.{rules, to_cap, to_null}
+use Rattle.cap_spec.proofs.ProofNames.{rules, to_cap, to_null}
 use Rattle.cap_ptr.proofs.following.resolved.Goals as goal
 
 pub returns-in-Null : goal.returns-in-Null

@@ -1,4 +1,4 @@
-use Rattle.cap_spec.proofs.Prelude.{arith, rules, IsComposite}
+use Rattle.cap_spec.proofs.ProofNames.{arith, rules, IsComposite}
 use Rattle.cap_ptr.proofs.Objects.{found-plain, wrong-past}
 use Rattle.cap_ptr.proofs.placing.target_at.Goals as goal
 

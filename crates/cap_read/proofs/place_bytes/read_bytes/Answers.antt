@@ -1,5 +1,5 @@
 -- The bytes of a view's place are those of the place of its path.
-use Rattle.cap_spec.proofs.Prelude.{Err, List, MatchOption, ap, subst, ℕ, ◌∙◌, ◌≡◌, HasPlace, ReachesSpot, Spot}
+use Rattle.cap_spec.proofs.ProofNames.{Err, List, MatchOption, ap, subst, ℕ, ◌∙◌, ◌≡◌, HasPlace, ReachesSpot, Spot}
 use Rattle.cap_frame.specs.Bytes.{cut}
 use Rattle.cap_frame.specs.declared.view.ByteView.{ByteView}
 use Rattle.cap_vet.specs.Views.{bytes_of_place, node_spot, view_place}

@@ -1,4 +1,4 @@
-use Rattle.cap_spec.proofs.Prelude.{ap, arith, length, length-append, replicate, ℕ, ◌*◌, ◌++◌, ◌∙◌, length-replicate}
+use Rattle.cap_spec.proofs.ProofNames.{ap, arith, length, length-append, replicate, ℕ, ◌*◌, ◌++◌, ◌∙◌, length-replicate}
 use Rattle.cap_text.proofs.node.begin_line.Goals as goal
 
 pub push_text-requires : goal.push_text-requires

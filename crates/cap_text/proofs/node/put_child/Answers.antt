@@ -1,4 +1,4 @@
-use Rattle.cap_spec.proofs.Prelude.{[], refl, replicate, ◌*◌, ◌++◌, ◌+◌, ◌∷◌, words_of_own, label, own_text, word_lines}
+use Rattle.cap_spec.proofs.ProofNames.{[], refl, replicate, ◌*◌, ◌++◌, ◌+◌, ◌∷◌, words_of_own, label, own_text, word_lines}
 use Rattle.cap_vet.specs.Views.{shown}
 use Rattle.cap_text.specs.Dumping.{head_of, word_letter_of}
 use Rattle.cap_text.proofs.Nodes.{adds_own, head_shown, words_shown}

@@ -1,6 +1,6 @@
-use Rattle.cap_spec.proofs.Prelude.{[], append-nil, subst, sym, word_lines}
+use Rattle.cap_spec.proofs.ProofNames.{[], append-nil, subst, sym, word_lines}
 use Rattle.cap_vet.specs.Views.{shown}
-use Rattle.cap_text.specs.Prelude.{word_letter_of, Added}
+use Rattle.cap_text.specs.TextNames.{word_letter_of, Added}
 use Rattle.cap_text.proofs.Nodes.{no_words}
 use Rattle.cap_text.proofs.Paging.{added_here}
 use Rattle.cap_text.proofs.node.put_own.Goals as goal

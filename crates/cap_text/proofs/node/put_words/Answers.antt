@@ -1,4 +1,4 @@
-use Rattle.cap_spec.proofs.Prelude.{[], drop, replicate, ◌*◌, ◌++◌, ◌∷◌, words_of_own, hex, label, word_lines}
+use Rattle.cap_spec.proofs.ProofNames.{[], drop, replicate, ◌*◌, ◌++◌, ◌∷◌, words_of_own, hex, label, word_lines}
 use Rattle.cap_vet.specs.Views.{shown}
 use Rattle.cap_text.proofs.Nodes.{lines_stop, word_step, words_done}
 use Rattle.cap_text.proofs.Paging.{added_line, left_start}

@@ -1,4 +1,4 @@
-use Rattle.cap_spec.proofs.Prelude.{drop, length, ◌-◌, words_of_own, word_lines}
+use Rattle.cap_spec.proofs.ProofNames.{drop, length, ◌-◌, words_of_own, word_lines}
 use Rattle.cap_vet.specs.Views.{shown}
 use Rattle.cap_text.proofs.Paging.{Left}
 use Rattle.cap_text.proofs.node.put_words.Given as goal

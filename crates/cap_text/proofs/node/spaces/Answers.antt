@@ -1,4 +1,4 @@
-use Rattle.cap_spec.proofs.Prelude.{arith, ◌*◌, take-replicate}
+use Rattle.cap_spec.proofs.ProofNames.{arith, ◌*◌, take-replicate}
 use Rattle.cap_text.proofs.node.spaces.Goals as goal
 
 pub returns : goal.returns

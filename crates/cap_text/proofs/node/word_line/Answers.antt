@@ -1,4 +1,4 @@
-use Rattle.cap_spec.proofs.Prelude.{[], ap, append_assoc, decimal, replicate, ◌*◌, ◌++◌, ◌∙◌, ◌∷◌, ◌≡◌, hex, label}
+use Rattle.cap_spec.proofs.ProofNames.{[], ap, append_assoc, decimal, replicate, ◌*◌, ◌++◌, ◌∙◌, ◌∷◌, ◌≡◌, hex, label}
 use Rattle.cap_text.proofs.Nodes.{five_texts}
 use Rattle.cap_text.proofs.node.word_line.Goals as goal
 

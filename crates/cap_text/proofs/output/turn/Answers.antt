@@ -1,5 +1,5 @@
 use Rattle.std.proofs.Common.{[], append-nil, subst, sym, ◌∙◌}
-use Rattle.cap_text.specs.Prelude.{Added, Stopped, Wrote}
+use Rattle.cap_text.specs.TextNames.{Added, Stopped, Wrote}
 use Rattle.cap_text.proofs.Paging.{turned}
 use Rattle.cap_text.proofs.output.turn.Goals as goal
 

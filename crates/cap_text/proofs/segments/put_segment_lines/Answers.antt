@@ -1,4 +1,4 @@
-use Rattle.cap_spec.proofs.Prelude.{arith, codes, drop, get_or, ◌++◌, ◌∷◌, line, segment_lines, then_number}
+use Rattle.cap_spec.proofs.ProofNames.{arith, codes, drop, get_or, ◌++◌, ◌∷◌, line, segment_lines, then_number}
 use Rattle.cap_frame.specs.Outlines.{sizes_in}
 use Rattle.cap_text.proofs.Nodes.{lines_stop}
 use Rattle.cap_text.proofs.Paging.{added_line}

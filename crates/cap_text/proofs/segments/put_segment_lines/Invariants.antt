@@ -1,4 +1,4 @@
-use Rattle.cap_spec.proofs.Prelude.{drop, segment_lines}
+use Rattle.cap_spec.proofs.ProofNames.{drop, segment_lines}
 use Rattle.cap_frame.specs.Outlines.{sizes_in}
 use Rattle.cap_text.proofs.Paging.{Left}
 use Rattle.cap_text.proofs.segments.put_segment_lines.Given as goal

@@ -1,4 +1,4 @@
-use Rattle.cap_spec.proofs.Prelude.{[], ap, append_assoc, codes, ◌++◌, ◌∙◌, ◌∷◌, hex}
+use Rattle.cap_spec.proofs.ProofNames.{[], ap, append_assoc, codes, ◌++◌, ◌∙◌, ◌∷◌, hex}
 use Rattle.cap_text.proofs.segments.word_line.Goals as goal
 
 pub returns : goal.returns

@@ -1,7 +1,7 @@
 use Rattle.std.proofs.Common.{ap, append_assoc, arith, codes, length, subst, sum, sym, ◌++◌, ◌∙◌, ◌≡◌}
 use Rattle.cap_spec.specs.Texts.{line, message_text, root_text, segment_lines, then_number}
 use Rattle.cap_frame.specs.Outlines.{root_in, sizes_in}
-use Rattle.cap_text.specs.Prelude.{Added, Stopped, Writes}
+use Rattle.cap_text.specs.TextNames.{Added, Stopped, Writes}
 use Rattle.cap_text.proofs.Paging.{added_then, halted_more, halted_then}
 use Rattle.cap_text.proofs.segments.write_segments.Goals as goal
 

@@ -1,4 +1,4 @@
-use Rattle.cap_spec.proofs.Prelude.{ap, arith, ◌+◌, ◌-◌, ◌<◌, ◌≤◌, DenotesAt, Tree}
+use Rattle.cap_spec.proofs.ProofNames.{ap, arith, ◌+◌, ◌-◌, ◌<◌, ◌≤◌, DenotesAt, Tree}
 use Rattle.cap_vet.specs.Views.{node_message, node_spot, shown}
 use Rattle.cap_text.specs.Dumping.{height, shown_count_of}
 use Rattle.cap_text.proofs.Dumping.{Below, all_out, below, below_fails, child_fails, child_height, child_is_there}

@@ -1,4 +1,4 @@
-use Rattle.cap_spec.proofs.Prelude.{DenotesAt, Tree}
+use Rattle.cap_spec.proofs.ProofNames.{DenotesAt, Tree}
 use Rattle.cap_vet.specs.Views.{node_message, node_spot}
 use Rattle.cap_text.proofs.Dumping.{ChildrenOut}
 use Rattle.cap_text.proofs.tree.+put_children.Given as goal

@@ -1,4 +1,4 @@
-use Rattle.cap_spec.proofs.Prelude.{[], arith, subst, dump_text}
+use Rattle.cap_spec.proofs.ProofNames.{[], arith, subst, dump_text}
 use Rattle.cap_text.specs.Paging.{Added, Halted}
 use Rattle.cap_text.proofs.tree.dump.Goals as goal
 

@@ -1,5 +1,5 @@
 use Rattle.std.proofs.Common.{ap, arith}
-use Rattle.cap_vet.specs.Prelude.{message_of, node_message, node_spot}
+use Rattle.cap_vet.specs.VetNames.{message_of, node_message, node_spot}
 use Rattle.cap_text.proofs.Dumping.{adds_dump, at_root, halts_dump, height_denoted}
 use Rattle.cap_text.proofs.tree.put_dump.Goals as goal
 

@@ -1,4 +1,4 @@
-use Rattle.cap_spec.proofs.Prelude.{arith, subst, ◌≡◌, accepted, dump_text, vet_text}
+use Rattle.cap_spec.proofs.ProofNames.{arith, subst, ◌≡◌, accepted, dump_text, vet_text}
 use Rattle.cap_vet.specs.Vettings.{report_of}
 use Rattle.cap_text.specs.Paging.{Added, Halted}
 use Rattle.cap_text.proofs.tree.write_tree.Goals as goal

@@ -1,4 +1,4 @@
-use Rattle.cap_spec.proofs.Prelude.{arith, sym, ◌+◌, ◌≡◌, data_size, kind}
+use Rattle.cap_spec.proofs.ProofNames.{arith, sym, ◌+◌, ◌≡◌, data_size, kind}
 use Rattle.cap_spec.proofs.Trees.Charges.{extent_pointers, extent_struct}
 use Rattle.cap_trace.proofs.RowBranches.{list_count, row_list_words, row_struct_words, struct_count}
 use Rattle.cap_trace.proofs.row.branch_of_row.Goals as goal

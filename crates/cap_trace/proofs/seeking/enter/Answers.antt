@@ -1,7 +1,7 @@
 use Rattle.std.proofs.Common.{List, [], arith, eqb-true, length, length-append, refl, subst, sym, ℕ, ◌++◌, ◌+◌, ◌∙◌}
 use Rattle.std.proofs.Common.{◌∷◌}
 use Rattle.cap_vet.specs.Trails.{Ahead, IsTrail}
-use Rattle.cap_trace.specs.Prelude.{IsBranch, path_of, rest_from, HasCome, Branch}
+use Rattle.cap_trace.specs.TraceNames.{IsBranch, path_of, rest_from, HasCome, Branch}
 use Rattle.cap_trace.proofs.Branches.{branches_with, branches_without, went_below}
 use Rattle.cap_trace.proofs.Coming.{came_next}
 use Rattle.cap_trace.proofs.seeking.enter.Goals as goal

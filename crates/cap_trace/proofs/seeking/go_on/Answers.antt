@@ -1,5 +1,5 @@
 use Rattle.std.proofs.Common.{List, [], ap, subst, ◌∙◌}
-use Rattle.cap_trace.specs.Prelude.{AreBranches, path_of, rest_from, Branch}
+use Rattle.cap_trace.specs.TraceNames.{AreBranches, path_of, rest_from, Branch}
 use Rattle.cap_trace.proofs.Branches.{branches_with, branches_without, went_next, went_up}
 use Rattle.cap_trace.proofs.seeking.go_on.Goals as goal
 

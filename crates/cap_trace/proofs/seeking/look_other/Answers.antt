@@ -1,4 +1,4 @@
-use Rattle.cap_spec.proofs.Prelude.{arith, refl, rules, to_cap, cap_index}
+use Rattle.cap_spec.proofs.ProofNames.{arith, refl, rules, to_cap, cap_index}
 use Rattle.cap_trace.proofs.Branches.{branches_without}
 use Rattle.cap_trace.proofs.Nulls.{cap_below}
 use Rattle.cap_trace.proofs.seeking.look_other.Goals as goal

@@ -1,5 +1,5 @@
 use Rattle.std.proofs.Common.{ap, refl, subst, ◌∙◌}
-use Rattle.cap_trace.specs.Prelude.{GoesBelow, Below, Object}
+use Rattle.cap_trace.specs.TraceNames.{GoesBelow, Below, Object}
 use Rattle.cap_trace.proofs.Coming.{none_past}
 use Rattle.cap_trace.proofs.seeking.look_target.Goals as goal
 

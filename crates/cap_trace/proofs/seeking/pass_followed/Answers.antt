@@ -1,5 +1,5 @@
 use Rattle.std.proofs.Common.{ap, rules, subst, ◌∙◌}
-use Rattle.cap_trace.specs.Prelude.{GoesBelow, Below, Object}
+use Rattle.cap_trace.specs.TraceNames.{GoesBelow, Below, Object}
 use Rattle.cap_trace.proofs.Branches.{branches_without}
 use Rattle.cap_trace.proofs.Coming.{none_past}
 use Rattle.cap_trace.proofs.seeking.pass_followed.Goals as goal

@@ -1,6 +1,6 @@
 use Rattle.std.proofs.Common.{arith, ◌<◌}
 use Rattle.cap_spec.proofs.Frames.Messages.{short_segment}
-use Rattle.cap_trace.specs.Prelude.{skipped}
+use Rattle.cap_trace.specs.TraceNames.{skipped}
 use Rattle.cap_trace.proofs.Branches.{branches_without}
 use Rattle.cap_trace.proofs.Nulls.{came_in_row, null_below}
 use Rattle.cap_trace.proofs.seeking.pass_nulls.Goals as goal

@@ -1,5 +1,5 @@
 use Rattle.std.proofs.Common.{List, ℕ, ◌+◌, ◌-◌, ◌≤◌}
-use Rattle.cap_trace.specs.Prelude.{skipped, HasCome, Branch}
+use Rattle.cap_trace.specs.TraceNames.{skipped, HasCome, Branch}
 use Rattle.cap_trace.proofs.seeking.pass_nulls.Given as goal
 
 abbrev pub invariant-nulls : goal.invariant-nulls

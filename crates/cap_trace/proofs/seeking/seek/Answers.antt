@@ -1,5 +1,5 @@
 use Rattle.std.proofs.Common.{List, ap, arith, length, rules, subst, sym, ◌+◌, ◌<◌, ◌∙◌, ◌≡◌}
-use Rattle.cap_trace.specs.Prelude.{HasCome, Branch}
+use Rattle.cap_trace.specs.TraceNames.{HasCome, Branch}
 use Rattle.cap_trace.specs.Seeking.{Passes}
 use Rattle.cap_trace.specs.declared.seeking.Passed.{Passed}
 use Rattle.cap_trace.proofs.seeking.seek.Goals as goal

@@ -1,5 +1,5 @@
-use Rattle.cap_spec.proofs.Prelude.{arith, length, refl, rules, subst, ◌<◌, segment_of}
-use Rattle.cap_trace.specs.Prelude.{IsSought, Sought}
+use Rattle.cap_spec.proofs.ProofNames.{arith, length, refl, rules, subst, ◌<◌, segment_of}
+use Rattle.cap_trace.specs.TraceNames.{IsSought, Sought}
 use Rattle.cap_trace.proofs.Coming.{at_root, found_told, has_root, some_number}
 use Rattle.cap_trace.proofs.tracing.traced.Goals.{then-number-eq0-via-else-number-eq0+then-len-eq0}
 use Rattle.cap_trace.proofs.tracing.traced.Goals.{then-number-eq0-via-then-number-eq0}

@@ -1,5 +1,5 @@
 use Rattle.std.proofs.Common.{subst}
-use Rattle.cap_trace.specs.Prelude.{IsSought, Sought}
+use Rattle.cap_trace.specs.TraceNames.{IsSought, Sought}
 use Rattle.cap_trace.proofs.Coming.{found_told, never_full}
 use Rattle.cap_trace.proofs.tracing.traced_deep.Goals as goal
 

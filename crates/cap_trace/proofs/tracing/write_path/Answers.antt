@@ -1,5 +1,5 @@
 use Rattle.std.proofs.Common.{List, [], ap, arith, length, length-append, sym, take, take_all, ◌++◌, ◌∙◌, ◌≡◌}
-use Rattle.cap_trace.specs.Prelude.{Step, path_of, steps_of, filled, Branch}
+use Rattle.cap_trace.specs.TraceNames.{Step, path_of, steps_of, filled, Branch}
 use Rattle.cap_trace.proofs.Branches.{branch_at, branches_without, path_from-last}
 use Rattle.cap_trace.proofs.Filling.{written_more}
 use Rattle.cap_trace.proofs.tracing.write_path.Goals as goal

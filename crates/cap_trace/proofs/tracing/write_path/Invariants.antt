@@ -1,5 +1,5 @@
 use Rattle.std.proofs.Common.{length, take, ◌*◌, ◌≡◌, ◌≤◌}
-use Rattle.cap_trace.specs.Prelude.{path_of, filled}
+use Rattle.cap_trace.specs.TraceNames.{path_of, filled}
 use Rattle.cap_trace.proofs.tracing.write_path.Given as goal
 
 abbrev pub invariant-branches : goal.invariant-branches

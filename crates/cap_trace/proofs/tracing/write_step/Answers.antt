@@ -1,5 +1,5 @@
 use Rattle.std.proofs.Common.{List, Option, ap, arith, length, option_to_list, set, sym, ℕ, ◌++◌, ◌∙◌}
-use Rattle.cap_trace.specs.Prelude.{Step, filled}
+use Rattle.cap_trace.specs.TraceNames.{Step, filled}
 use Rattle.cap_trace.proofs.Filling.{fill_past, fill_step}
 use Rattle.cap_trace.proofs.tracing.write_step.Goals.{else-at-steps, then-at-steps}
 use Rattle.cap_trace.proofs.tracing.write_step.Goals as goal

@@ -1,5 +1,5 @@
 use Rattle.std.proofs.Common.{List, ap, append_assoc, arith, length, length-append, option_to_list, ◌++◌, ◌∙◌, ◌≡◌}
-use Rattle.cap_trace.specs.Prelude.{Step, filled}
+use Rattle.cap_trace.specs.TraceNames.{Step, filled}
 use Rattle.cap_trace.proofs.Filling.{few_steps}
 use Rattle.cap_trace.proofs.tracing.write_steps.Goals as goal
 

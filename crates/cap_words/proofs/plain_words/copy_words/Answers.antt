@@ -1,5 +1,5 @@
 use Rattle.cap_spec.proofs.Bytes.Lists.{all_take}
-use Rattle.cap_spec.proofs.Prelude.{arith, ◌<◌, common_steps}
+use Rattle.cap_spec.proofs.ProofNames.{arith, ◌<◌, common_steps}
 use Rattle.cap_words.proofs.AtHand.{bytes_small}
 use Rattle.cap_words.proofs.plain_words.copy_words.Goals as goal
 

@@ -1,4 +1,4 @@
-use Rattle.cap_spec.proofs.Prelude.{length, take, ◌-◌, ◌≤◌, Consumes}
+use Rattle.cap_spec.proofs.ProofNames.{length, take, ◌-◌, ◌≤◌, Consumes}
 use Rattle.cap_words.proofs.Turns.{Moved}
 use Rattle.cap_words.proofs.transfer.fill_rest.Given as goal
 

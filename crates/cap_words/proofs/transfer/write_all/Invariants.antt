@@ -1,4 +1,4 @@
-use Rattle.cap_spec.proofs.Prelude.{length, take, ◌-◌, ◌≤◌, Appends}
+use Rattle.cap_spec.proofs.ProofNames.{length, take, ◌-◌, ◌≤◌, Appends}
 use Rattle.cap_words.proofs.Turns.{Moved}
 use Rattle.cap_words.proofs.transfer.write_all.Given as goal
 

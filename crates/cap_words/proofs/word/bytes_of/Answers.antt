@@ -1,4 +1,4 @@
-use Rattle.cap_spec.proofs.Prelude.{arith, rules, common_steps}
+use Rattle.cap_spec.proofs.ProofNames.{arith, rules, common_steps}
 use Rattle.cap_words.proofs.word.bytes_of.Goals as goal
 
 pub returns-clause-value : goal.returns-clause-value

@@ -2,7 +2,7 @@
 use Rattle.std.proofs.Common.{ap, length, refl}
 use Rattle.cap_frame.specs.Framed.{frame_bytes, framed_segments}
 use Rattle.cap_calls.specs.CallFindings.{without}
-use Rattle.cap_calls.specs.Prelude.{framed, Good, Found, CallReport}
+use Rattle.cap_calls.specs.CallNames.{framed, Good, Found, CallReport}
 use Rattle.cap_calls.proofs.calls.frame.extent.Goals as goal
 
 abbrev good : CallReport → Found

@@ -1,5 +1,5 @@
 -- The lengths of the texts fit.
-use Rattle.cap_spec.proofs.Prelude.{ap, arith, rules, sum, ◌+◌, ◌<◌, ◌^◌, ◌≡◌, sizes_of}
+use Rattle.cap_spec.proofs.ProofNames.{ap, arith, rules, sum, ◌+◌, ◌<◌, ◌^◌, ◌≡◌, sizes_of}
 use Rattle.cap_frame.specs.Bytes.{cut}
 use Rattle.cap_frame.proofs.InOneBuffer.{held_sizes}
 use Rattle.cap_calls.proofs.calls.pack_message.packed.Goals as goal

@@ -1,7 +1,7 @@
 -- One segment more is counted.
 use Rattle.cap_spec.proofs.Bytes.Plain.{length_plain}
-use Rattle.cap_spec.proofs.Prelude.{List, [], ap, arith, flat_map, get_or, length, length-append, rules, sum, take}
-use Rattle.cap_spec.proofs.Prelude.{take_all, ℕ, ◌*◌, ◌+◌, ◌<◌, ◌^◌, ◌∙◌, ◌≡◌, ◌≤◌, sizes_of, pack_text}
+use Rattle.cap_spec.proofs.ProofNames.{List, [], ap, arith, flat_map, get_or, length, length-append, rules, sum, take}
+use Rattle.cap_spec.proofs.ProofNames.{take_all, ℕ, ◌*◌, ◌+◌, ◌<◌, ◌^◌, ◌∙◌, ◌≡◌, ◌≤◌, sizes_of, pack_text}
 use Rattle.cap_frame.specs.Bytes.{cut}
 use Rattle.cap_calls.proofs.PackedFrames.{sizes_more, texts_more}
 use Rattle.cap_calls.proofs.calls.pack_message.segments_length.Goals as goal

@@ -1,9 +1,9 @@
 -- The table, and one segment more, are written.
 use borrow.Rule.Slice.PartMut.{same_len_mid}
 use Rattle.cap_spec.proofs.Bytes.Plain.{length_plain}
-use Rattle.cap_spec.proofs.Prelude.{List, [], ap, append-nil, append_assoc, arith, drop, flat_map, get_or, length}
-use Rattle.cap_spec.proofs.Prelude.{length-append, length-drop, rules, sym, take, take_all, take_at, ℕ, ◌*◌, ◌++◌, ◌+◌}
-use Rattle.cap_spec.proofs.Prelude.{◌-◌, ◌<◌, ◌^◌, ◌∙◌, ◌≡◌, ◌≤◌, take_rest, table_of, pack_text}
+use Rattle.cap_spec.proofs.ProofNames.{List, [], ap, append-nil, append_assoc, arith, drop, flat_map, get_or, length}
+use Rattle.cap_spec.proofs.ProofNames.{length-append, length-drop, rules, sym, take, take_all, take_at, ℕ, ◌*◌, ◌++◌, ◌+◌}
+use Rattle.cap_spec.proofs.ProofNames.{◌-◌, ◌<◌, ◌^◌, ◌∙◌, ◌≡◌, ◌≤◌, take_rest, table_of, pack_text}
 use Rattle.cap_words.proofs.Turns.{filled}
 use Rattle.cap_frame.specs.Bytes.{cut}
 use Rattle.cap_calls.proofs.PackedFrames.{texts_fit, texts_more}

@@ -1,4 +1,4 @@
-use Rattle.cap_spec.proofs.Prelude.{flat_map, length, take, ◌*◌, ◌++◌, ◌+◌, ◌≡◌, ◌≤◌, packed_frame, table_of, pack_text}
+use Rattle.cap_spec.proofs.ProofNames.{flat_map, length, take, ◌*◌, ◌++◌, ◌+◌, ◌≡◌, ◌≤◌, packed_frame, table_of, pack_text}
 use Rattle.cap_frame.specs.Bytes.{cut}
 use Rattle.cap_calls.proofs.calls.pack_message.write_parts.Given as goal
 

@@ -1,6 +1,6 @@
 use Rattle.std.proofs.Common.{List, ap, arith, drop, length, map, refl, ◌++◌, ◌∙◌, ◌≤◌}
 use Rattle.cap_calls.specs.PointerCalls.{none, too_small, written}
-use Rattle.cap_calls.specs.Prelude.{Step, call_step, steps_found, BufferTooSmall, Good, Found}
+use Rattle.cap_calls.specs.CallNames.{Step, call_step, steps_found, BufferTooSmall, Good, Found}
 use Rattle.cap_calls.proofs.PointerPaths.{path_kept}
 use Rattle.cap_calls.proofs.calls.pointer_path.put_path.Goals as goal
 

@@ -1,5 +1,5 @@
 use Rattle.std.proofs.Common.{List, ap, drop, map, slice_set, take, ◌++◌, ◌∙◌}
-use Rattle.cap_calls.specs.Prelude.{Ptr, call_step, CallStep}
+use Rattle.cap_calls.specs.CallNames.{Ptr, call_step, CallStep}
 use Rattle.cap_calls.proofs.PointerPaths.{put_one}
 use Rattle.cap_calls.proofs.calls.pointer_path.put_steps.Goals as goal
 

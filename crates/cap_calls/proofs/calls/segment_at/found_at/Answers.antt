@@ -1,7 +1,7 @@
 -- By the number of segments.
 use Rattle.std.proofs.Common.{arith, length, refl, subst}
 use Rattle.cap_frame.specs.Framed.{frame_bytes, framed_segments}
-use Rattle.cap_calls.specs.Prelude.{HasFrame, HasNoFrame, found, CallLimits}
+use Rattle.cap_calls.specs.CallNames.{HasFrame, HasNoFrame, found, CallLimits}
 use Rattle.cap_calls.specs.SegmentCalls.{none, without}
 use Rattle.cap_calls.proofs.calls.segment_at.found_at.Goals as goal
 

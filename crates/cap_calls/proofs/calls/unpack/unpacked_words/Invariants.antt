@@ -1,4 +1,4 @@
-use Rattle.cap_spec.proofs.Prelude.{drop, length, ◌*◌, ◌+◌, ◌-◌, ◌≡◌, ◌≤◌, packed_is_cut, unpacked}
+use Rattle.cap_spec.proofs.ProofNames.{drop, length, ◌*◌, ◌+◌, ◌-◌, ◌≡◌, ◌≤◌, packed_is_cut, unpacked}
 use Rattle.cap_calls.proofs.calls.unpack.unpacked_words.Given as goal
 
 -- the groups so far are counted, at most 128 words a byte

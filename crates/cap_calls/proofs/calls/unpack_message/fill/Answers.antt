@@ -1,8 +1,8 @@
 -- The words of one stage more.
-use Rattle.cap_spec.proofs.Prelude.{List, ap, arith, drop, drop-drop, inl, inr, length, length-drop, length-take, refl}
-use Rattle.cap_spec.proofs.Prelude.{subst, sym, take, ℕ, ◌+◌, ◌-◌, ◌∙◌, ◌≤◌, cases_lt, take_rest, take-put_mid_below}
+use Rattle.cap_spec.proofs.ProofNames.{List, ap, arith, drop, drop-drop, inl, inr, length, length-drop, length-take, refl}
+use Rattle.cap_spec.proofs.ProofNames.{subst, sym, take, ℕ, ◌+◌, ◌-◌, ◌∙◌, ◌≤◌, cases_lt, take_rest, take-put_mid_below}
 use Rattle.cap_frame.specs.Limit.{limit_of}
-use Rattle.cap_calls.specs.Prelude.{words_to_come, IsOpen}
+use Rattle.cap_calls.specs.CallNames.{words_to_come, IsOpen}
 use Rattle.cap_calls.proofs.GivenWords.{gives_more, gives_none}
 use Rattle.cap_calls.proofs.MessageStages.{ends_at, still_open, wanted_whole}
 use Rattle.cap_calls.proofs.calls.unpack_message.fill.Goals as goal

@@ -1,6 +1,6 @@
 use Rattle.std.proofs.Common.{length, take, ℕ, ◌%◌, ◌-◌, ◌<◌, ◌≡◌, ◌≤◌}
 use Rattle.cap_frame.specs.Limit.{limit_of}
-use Rattle.cap_calls.specs.Prelude.{WritesWords, IsOpen}
+use Rattle.cap_calls.specs.CallNames.{WritesWords, IsOpen}
 use Rattle.cap_calls.proofs.calls.unpack_message.fill.Given as goal
 
 -- the words so far, before each of which the message was open

@@ -1,5 +1,5 @@
 -- A message that is whole is not continued.
-use Rattle.cap_spec.proofs.Prelude.{refl, take, false≢true}
+use Rattle.cap_spec.proofs.ProofNames.{refl, take, false≢true}
 use Rattle.cap_frame.specs.Limit.{limit_of}
 use Rattle.cap_calls.proofs.MessageStages.{large_not_whole, many_not_whole, open_not_whole}
 use Rattle.cap_calls.proofs.calls.unpack_message.is_state.Goals as goal

@@ -1,5 +1,5 @@
 -- The buffer is full, or the input ends.
-use Rattle.cap_spec.proofs.Prelude.{ap, ap₂, arith, inl, inr, length, refl, sym, ℕ, ◌+◌, ◌<◌, ◌∙◌, cases_lt, nat_tests}
+use Rattle.cap_spec.proofs.ProofNames.{ap, ap₂, arith, inl, inr, length, refl, sym, ℕ, ◌+◌, ◌<◌, ◌∙◌, cases_lt, nat_tests}
 use Rattle.cap_calls.specs.UnpackingMessages.{too_small, truncated}
 use Rattle.cap_calls.specs.declared.report.CallReport.{CallReport}
 use Rattle.cap_calls.proofs.calls.unpack_message.open_stop.Goals.{else-given-eq0-via-else-given-eq0}

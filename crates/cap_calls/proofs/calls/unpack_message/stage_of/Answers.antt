@@ -1,6 +1,6 @@
 -- The bytes end inside a message.
 use Rattle.std.proofs.Common.{Err, inr, subst}
-use Rattle.cap_frame.specs.Prelude.{TellsFront, limit_of}
+use Rattle.cap_frame.specs.FrameNames.{TellsFront, limit_of}
 use Rattle.cap_frame.specs.declared.fault.FrontFault.{FrontFault}
 use Rattle.cap_calls.proofs.calls.unpack_message.stage_of.Goals as goal
 

@@ -1,7 +1,7 @@
 -- The stop at each stage.
 use Rattle.std.proofs.Common.{ap, ap₂, length, refl, subst, sym, ℕ, ◌∙◌}
 use Rattle.cap_frame.specs.Fronts.{IsFront}
-use Rattle.cap_calls.specs.Prelude.{IsEnd, too_many, Stage, CallReport}
+use Rattle.cap_calls.specs.CallNames.{IsEnd, too_many, Stage, CallReport}
 use Rattle.cap_calls.specs.UnpackingMessages.{too_large, whole}
 use Rattle.cap_calls.proofs.calls.unpack_message.stop_of.Goals as goal
 

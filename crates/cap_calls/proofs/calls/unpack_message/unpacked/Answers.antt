@@ -1,8 +1,8 @@
 -- What was written and why the call stops is what is told.
-use Rattle.cap_spec.proofs.Prelude.{List, subst, sym, ℕ, take_rest}
+use Rattle.cap_spec.proofs.ProofNames.{List, subst, sym, ℕ, take_rest}
 use Rattle.cap_words.proofs.AtHand.{bytes_small}
 use Rattle.cap_frame.specs.Limit.{limit_of}
-use Rattle.cap_calls.specs.Prelude.{IsEnd, StopsCall}
+use Rattle.cap_calls.specs.CallNames.{IsEnd, StopsCall}
 use Rattle.cap_calls.proofs.UnpackedFound.{told_stop}
 use Rattle.cap_calls.proofs.calls.unpack_message.unpacked.Goals as goal
 

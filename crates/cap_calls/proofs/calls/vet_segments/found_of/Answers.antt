@@ -1,9 +1,9 @@
 -- What is found of the message.
-use Rattle.cap_spec.proofs.Prelude.{List, ap, ap₂, length, refl, subst, sum, ℕ, ◌*◌, ◌∙◌, ◌≡◌, length-map, ⊤, sizes_of}
-use Rattle.cap_spec.proofs.Prelude.{plain_words}
+use Rattle.cap_spec.proofs.ProofNames.{List, ap, ap₂, length, refl, subst, sum, ℕ, ◌*◌, ◌∙◌, ◌≡◌, length-map, ⊤, sizes_of}
+use Rattle.cap_spec.proofs.ProofNames.{plain_words}
 use Rattle.cap_vet.specs.Limits.{depth_of, words_of}
-use Rattle.cap_calls.specs.Prelude.{Demands, Judges, framed_found, IsGood, message, AreSegments, TellsNoSegments}
-use Rattle.cap_calls.specs.Prelude.{segments_in, words_in}
+use Rattle.cap_calls.specs.CallNames.{Demands, Judges, framed_found, IsGood, message, AreSegments, TellsNoSegments}
+use Rattle.cap_calls.specs.CallNames.{segments_in, words_in}
 use Rattle.cap_calls.specs.SegmentsCalls.{no_message}
 use Rattle.cap_calls.specs.Slices.{bytes_of}
 use Rattle.cap_calls.proofs.calls.vet_segments.found_of.Goals as goal

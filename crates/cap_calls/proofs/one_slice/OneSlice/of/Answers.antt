@@ -1,5 +1,5 @@
 -- The slice has the words of the one segment.
-use Rattle.cap_spec.proofs.Prelude.{List, [], ap, subst, sym, ℕ, ◌∙◌, ◌∷◌, IsMessage}
+use Rattle.cap_spec.proofs.ProofNames.{List, [], ap, subst, sym, ℕ, ◌∙◌, ◌∷◌, IsMessage}
 use Rattle.cap_frame.specs.Bytes.{cut}
 use Rattle.cap_calls.proofs.OneSegments.{only_segment}
 use Rattle.cap_calls.proofs.one_slice.OneSlice.of.Goals as goal

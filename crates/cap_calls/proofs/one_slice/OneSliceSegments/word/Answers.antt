@@ -1,7 +1,7 @@
 -- The word is in its eight bytes of the slice.
 use Rattle.cap_spec.proofs.Bytes.Plain.{words_exact}
-use Rattle.cap_spec.proofs.Prelude.{List, Some, ap, arith, length, length-drop, rules, slice_get, sym, ℕ, ◌*◌, ◌+◌, ◌<◌}
-use Rattle.cap_spec.proofs.Prelude.{◌∙◌, ◌≤◌, take_rest, little_number, plain_words}
+use Rattle.cap_spec.proofs.ProofNames.{List, Some, ap, arith, length, length-drop, rules, slice_get, sym, ℕ, ◌*◌, ◌+◌, ◌<◌}
+use Rattle.cap_spec.proofs.ProofNames.{◌∙◌, ◌≤◌, take_rest, little_number, plain_words}
 use Rattle.cap_frame.proofs.Cuts.{word_at}
 use Rattle.cap_calls.proofs.OneSegments.{slice_size, slice_words}
 use Rattle.cap_calls.proofs.one_slice.OneSliceSegments.word.Goals as goal

@@ -1,5 +1,5 @@
 -- Slices within the limit are short enough for segments.
-use Rattle.cap_spec.proofs.Prelude.{arith, length, ◌≡◌, ◌≤◌, nat_tests}
+use Rattle.cap_spec.proofs.ProofNames.{arith, length, ◌≡◌, ◌≤◌, nat_tests}
 use Rattle.cap_calls.specs.Slices.{bytes_of, words_in}
 use Rattle.cap_calls.proofs.SliceSegments.{are_message}
 use Rattle.cap_calls.proofs.slices.SliceMessage.new.Goals as goal

@@ -1,5 +1,5 @@
 use Rattle.cap_spec.proofs.Lemmas.{length_plain, words_exact, range_length}
-use Rattle.cap_spec.proofs.Prelude.{ap, arith, length, length-append, ◌*◌, ◌∙◌, ◌≡◌, words_from}
+use Rattle.cap_spec.proofs.ProofNames.{ap, arith, length, length-append, ◌*◌, ◌∙◌, ◌≡◌, words_from}
 use Rattle.cap_canon.proofs.Afters.{row_joined}
 use Rattle.cap_canon.proofs.Standing.{range_words}
 use Rattle.cap_canon.proofs.appended.AppendedWordsCopyOutput.append_from.Goals as goal

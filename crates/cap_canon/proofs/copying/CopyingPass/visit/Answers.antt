@@ -1,4 +1,4 @@
-use Rattle.cap_spec.proofs.Prelude.{arith, length, subst, sym, layout}
+use Rattle.cap_spec.proofs.ProofNames.{arith, length, subst, sym, layout}
 use Rattle.cap_canon.specs.Objects.{IsObject}
 use Rattle.cap_canon.proofs.Afters.{kept_so}
 use Rattle.cap_canon.proofs.copying.CopyingPass.visit.Goals as goal

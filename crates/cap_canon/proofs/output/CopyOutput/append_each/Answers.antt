@@ -1,6 +1,6 @@
 use Rattle.cap_spec.proofs.Bytes.Lists.{all_append}
-use Rattle.cap_spec.proofs.Prelude.{List, [], ap, append_assoc, rules, subst, sym, ℕ, ◌++◌, ◌∙◌, ◌∷◌, AllByRecursion}
-use Rattle.cap_spec.proofs.Prelude.{words_from, IsWord}
+use Rattle.cap_spec.proofs.ProofNames.{List, [], ap, append_assoc, rules, subst, sym, ℕ, ◌++◌, ◌∙◌, ◌∷◌, AllByRecursion}
+use Rattle.cap_spec.proofs.ProofNames.{words_from, IsWord}
 use Rattle.cap_canon.proofs.Afters.{fewer_before}
 use Rattle.cap_canon.proofs.Ranges.{range_more}
 use Rattle.cap_canon.proofs.output.CopyOutput.append_each.Goals as goal

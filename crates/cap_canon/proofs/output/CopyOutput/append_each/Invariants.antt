@@ -1,4 +1,4 @@
-use Rattle.cap_spec.proofs.Prelude.{length, ℕ, ◌++◌, ◌≡◌, ◌≤◌, AllByRecursion, words_from, IsWord}
+use Rattle.cap_spec.proofs.ProofNames.{length, ℕ, ◌++◌, ◌≡◌, ◌≤◌, AllByRecursion, words_from, IsWord}
 use Rattle.cap_canon.proofs.output.CopyOutput.append_each.Given as goal
 
 abbrev pub invariant-words : goal.invariant-words

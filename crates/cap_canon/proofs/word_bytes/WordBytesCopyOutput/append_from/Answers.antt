@@ -1,5 +1,5 @@
 use Rattle.cap_spec.proofs.Lemmas.{length_plain, range_length}
-use Rattle.cap_spec.proofs.Prelude.{ap, arith, length, subst, ◌*◌, ◌++◌, ◌+◌, ◌∙◌, ◌≡◌, words_from}
+use Rattle.cap_spec.proofs.ProofNames.{ap, arith, length, subst, ◌*◌, ◌++◌, ◌+◌, ◌∙◌, ◌≡◌, words_from}
 use Rattle.cap_canon.specs.FirstWords.{first_words}
 use Rattle.cap_canon.proofs.FirstWords.{first_words_count}
 use Rattle.cap_canon.proofs.Standing.{range_words}

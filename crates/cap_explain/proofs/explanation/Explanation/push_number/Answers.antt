@@ -1,4 +1,4 @@
-use Rattle.cap_spec.proofs.Prelude.{List, ap, arith, decimal, length, length-append, ℕ, ◌∙◌, ◌≤◌, length-decimal-le}
+use Rattle.cap_spec.proofs.ProofNames.{List, ap, arith, decimal, length, length-append, ℕ, ◌∙◌, ◌≤◌, length-decimal-le}
 use Rattle.cap_explain.proofs.explanation.Explanation.push_number.Goals as goal
 
 pub returns-clause-fewer : goal.returns-clause-fewer

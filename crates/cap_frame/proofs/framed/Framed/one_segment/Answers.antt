@@ -1,6 +1,6 @@
 -- One segment stands behind a table of one word.
-use Rattle.cap_spec.proofs.Prelude.{[], ap, arith, drop, length, length-drop, sym, ◌*◌, ◌∙◌, ◌∷◌, ◌≡◌, take_rest}
-use Rattle.cap_frame.specs.Prelude.{cut, table_words}
+use Rattle.cap_spec.proofs.ProofNames.{[], ap, arith, drop, length, length-drop, sym, ◌*◌, ◌∙◌, ◌∷◌, ◌≡◌, take_rest}
+use Rattle.cap_frame.specs.FrameNames.{cut, table_words}
 use Rattle.cap_frame.proofs.BehindTable.{one_told, segments_are}
 use Rattle.cap_frame.proofs.framed.Framed.one_segment.Goals as goal
 

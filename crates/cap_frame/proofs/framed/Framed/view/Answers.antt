@@ -1,5 +1,5 @@
 -- The tables that were filled cut what stands behind the table in front.
-use Rattle.cap_spec.proofs.Prelude.{ap, arith, drop, length, sum, sym, take, ◌*◌, ◌-◌, ◌∙◌, ◌≡◌, take_rest, plain_words}
+use Rattle.cap_spec.proofs.ProofNames.{ap, arith, drop, length, sum, sym, take, ◌*◌, ◌-◌, ◌∙◌, ◌≡◌, take_rest, plain_words}
 use Rattle.cap_frame.specs.Bytes.{cut, starts_of}
 use Rattle.cap_frame.specs.Fronts.{sizes_told, table_words}
 use Rattle.cap_frame.proofs.BehindTable.{enough}

@@ -1,5 +1,5 @@
 -- The loop has looked at the lengths of all segments, or met one that is too long.
-use Rattle.cap_spec.proofs.Prelude.{arith, length, ◌<◌, ◌^◌, ◌≤◌, nat_tests}
+use Rattle.cap_spec.proofs.ProofNames.{arith, length, ◌<◌, ◌^◌, ◌≤◌, nat_tests}
 use Rattle.cap_frame.proofs.Held.{held_message, held_more, held_too_long}
 use Rattle.cap_frame.proofs.message.WordMessage.new.Goals as goal
 

@@ -1,5 +1,5 @@
 -- Whole words are all of their bytes.
-use Rattle.cap_spec.proofs.Prelude.{[], ap, arith, length, take_all, ◌*◌, ◌/◌, ◌∙◌, ◌∷◌, plain_words}
+use Rattle.cap_spec.proofs.ProofNames.{[], ap, arith, length, take_all, ◌*◌, ◌/◌, ◌∙◌, ◌∷◌, plain_words}
 use Rattle.cap_frame.proofs.view.ByteView.of_words.Goals as goal
 
 pub returns-clause-segments : goal.returns-clause-segments

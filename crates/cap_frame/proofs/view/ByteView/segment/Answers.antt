@@ -1,6 +1,6 @@
 -- The words of a segment are where the table of starts says.
-use Rattle.cap_spec.proofs.Prelude.{ap, arith, drop, length, slice_index_or, slice_range, take, take_all, ℕ, ◌*◌, ◌+◌}
-use Rattle.cap_spec.proofs.Prelude.{◌-◌, ◌<◌, ◌∙◌, ◌≡◌, segment_of, plain_text, plain_words}
+use Rattle.cap_spec.proofs.ProofNames.{ap, arith, drop, length, slice_index_or, slice_range, take, take_all, ℕ, ◌*◌, ◌+◌}
+use Rattle.cap_spec.proofs.ProofNames.{◌-◌, ◌<◌, ◌∙◌, ◌≡◌, segment_of, plain_text, plain_words}
 use Rattle.cap_frame.specs.Bytes.{cut}
 use Rattle.cap_frame.proofs.Cuts.{cut_length, starts_length}
 use Rattle.cap_frame.proofs.Parts.{part_facts}

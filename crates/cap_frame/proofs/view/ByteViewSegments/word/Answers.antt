@@ -1,5 +1,5 @@
-use Rattle.cap_spec.proofs.Prelude.{Some, ap, arith, length, length-drop, rules, slice_index_or, sym, ◌*◌, ◌+◌, ◌<◌}
-use Rattle.cap_spec.proofs.Prelude.{◌^◌, ◌∙◌, ◌≡◌, take_rest, little_number}
+use Rattle.cap_spec.proofs.ProofNames.{Some, ap, arith, length, length-drop, rules, slice_index_or, sym, ◌*◌, ◌+◌, ◌<◌}
+use Rattle.cap_spec.proofs.ProofNames.{◌^◌, ◌∙◌, ◌≡◌, take_rest, little_number}
 use Rattle.cap_frame.proofs.Cuts.{cut_length, place_facts, starts_length}
 use Rattle.cap_frame.proofs.view.ByteViewSegments.word.Goals as goal
 

@@ -1,4 +1,4 @@
-use Rattle.cap_spec.proofs.Prelude.{drop, length, true, ◌++◌, ◌-◌, ◌||◌, ◌≡◌, ◌≤◌, append_known, pack_text}
+use Rattle.cap_spec.proofs.ProofNames.{drop, length, true, ◌++◌, ◌-◌, ◌||◌, ◌≡◌, ◌≤◌, append_known, pack_text}
 use Rattle.cap_pack.specs.Holding.{held}
 use Rattle.cap_pack.proofs.PuttingEach.{PutSoFar}
 use Rattle.cap_pack.proofs.packer.Packer.put_all.Given as goal

@@ -1,5 +1,5 @@
-use Rattle.cap_spec.proofs.Prelude.{arith, drop, length, subst, sym, take, ◌++◌, ◌-◌, ◌∙◌, ◌≡◌, append_known-moved}
-use Rattle.cap_spec.proofs.Prelude.{take_rest, Keeps, append_known, pack_text}
+use Rattle.cap_spec.proofs.ProofNames.{arith, drop, length, subst, sym, take, ◌++◌, ◌-◌, ◌∙◌, ◌≡◌, append_known-moved}
+use Rattle.cap_spec.proofs.ProofNames.{take_rest, Keeps, append_known, pack_text}
 use Rattle.cap_words.specs.Sinks.{Begins}
 use Rattle.cap_words.proofs.PlainSpelling.{part_begins}
 use Rattle.cap_pack.specs.Holding.{group_bytes, held}

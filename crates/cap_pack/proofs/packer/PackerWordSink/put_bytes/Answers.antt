@@ -1,4 +1,4 @@
-use Rattle.cap_spec.proofs.Prelude.{ap, arith, drop, refl, sym, take, ◌*◌, ◌+◌, ◌||◌, ◌∙◌, plain_words}
+use Rattle.cap_spec.proofs.ProofNames.{ap, arith, drop, refl, sym, take, ◌*◌, ◌+◌, ◌||◌, ◌∙◌, plain_words}
 use Rattle.cap_pack.proofs.PuttingEach.{no_word, put_all, put_more, put_stops, words_next}
 use Rattle.cap_pack.proofs.packer.PackerWordSink.put_bytes.Goals as goal
 

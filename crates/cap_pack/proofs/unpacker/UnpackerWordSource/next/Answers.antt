@@ -1,4 +1,4 @@
-use Rattle.cap_spec.proofs.Prelude.{[], ap, arith, refl, sym, ◌-◌, ◌∙◌, Consumes-nil}
+use Rattle.cap_spec.proofs.ProofNames.{[], ap, arith, refl, sym, ◌-◌, ◌∙◌, Consumes-nil}
 use Rattle.cap_words.specs.declared.phase.Phase.TheVariants.{Ended}
 use Rattle.cap_pack.specs.Course.{ends}
 use Rattle.cap_pack.specs.State.{ahead}

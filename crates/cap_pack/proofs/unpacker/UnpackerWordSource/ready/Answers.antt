@@ -1,5 +1,5 @@
 use Rattle.cap_spec.proofs.Bytes.Lists.{all_take}
-use Rattle.cap_spec.proofs.Prelude.{arith, inr, take, ◌<◌, ◌∙◌, plain_words}
+use Rattle.cap_spec.proofs.ProofNames.{arith, inr, take, ◌<◌, ◌∙◌, plain_words}
 use Rattle.cap_words.proofs.AtHand.{bytes_small}
 use Rattle.cap_pack.proofs.AtHand.{given_for, some_words, words_at_hand}
 use Rattle.cap_pack.proofs.unpacker.UnpackerWordSource.ready.Goals as goal

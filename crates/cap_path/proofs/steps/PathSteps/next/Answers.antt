@@ -1,5 +1,5 @@
 -- The first step that is left is read.
-use Rattle.cap_spec.proofs.Prelude.{Some, [], ap, refl, ◌∙◌, ◌∷◌, take_rest}
+use Rattle.cap_spec.proofs.ProofNames.{Some, [], ap, refl, ◌∙◌, ◌∷◌, take_rest}
 use Rattle.cap_path.proofs.StepsLeft.{first_read, first_slash}
 use Rattle.cap_path.proofs.steps.PathSteps.next.Goals as goal
 

@@ -1,5 +1,5 @@
 use Rattle.std.proofs.Common.{arith, length-take-le, refl, subst}
-use Rattle.cap_vet.specs.Prelude.{depth_of, words_of, report_of}
+use Rattle.cap_vet.specs.VetNames.{depth_of, words_of, report_of}
 use Rattle.cap_run.specs.Canons.{HasNoCopy}
 use Rattle.cap_run.proofs.Demanding.{under_few}
 use Rattle.cap_run.proofs.Making.{has_no_copy, stops_refused}

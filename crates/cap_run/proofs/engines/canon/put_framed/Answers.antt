@@ -1,4 +1,4 @@
-use Rattle.cap_spec.proofs.Prelude.{List, [], arith, subst, sym, ℕ, ◌∷◌, plain_words}
+use Rattle.cap_spec.proofs.ProofNames.{List, [], arith, subst, sym, ℕ, ◌∷◌, plain_words}
 use Rattle.cap_frame.specs.Putting.{Halts}
 use Rattle.cap_frame.proofs.Putting.{halts_before, halts_of}
 use Rattle.cap_run.specs.Transcoding.{PutsWords}

@@ -1,5 +1,5 @@
-use Rattle.cap_spec.proofs.Prelude.{[], subst, sym, ◌∷◌, frame_text}
-use Rattle.cap_frame.specs.Prelude.{limit_of, Halts}
+use Rattle.cap_spec.proofs.ProofNames.{[], subst, sym, ◌∷◌, frame_text}
+use Rattle.cap_frame.specs.FrameNames.{limit_of, Halts}
 use Rattle.cap_run.proofs.Making.{next_stops}
 use Rattle.cap_run.proofs.Streams.{reads_named}
 use Rattle.cap_run.proofs.engines.canon.put_next.Goals as goal

@@ -1,6 +1,6 @@
 use Rattle.std.proofs.Common.{subst}
 use Rattle.cap_frame.specs.Limit.{limit_of}
-use Rattle.cap_run.specs.Prelude.{Demands, OrFaultIn, TellsMarked, WantsIn, TellsStream, WantsMarks}
+use Rattle.cap_run.specs.RunNames.{Demands, OrFaultIn, TellsMarked, WantsIn, TellsStream, WantsMarks}
 use Rattle.cap_run.proofs.Demanding.{default_none}
 use Rattle.cap_run.proofs.engines.exclusive.run_vet_exclusive.Goals as goal
 

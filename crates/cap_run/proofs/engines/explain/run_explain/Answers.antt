@@ -2,7 +2,7 @@ use Rattle.cap_frame.specs.Limit.{limit_of}
 use Rattle.cap_vet.specs.Limits.{depth_of, words_of}
 use Rattle.cap_run.specs.Breaking.{run_answer}
 use Rattle.cap_run.specs.Explained.{TellsExplainedUnder}
-use Rattle.cap_run.specs.Prelude.{WantsUnder, WantsNone}
+use Rattle.cap_run.specs.RunNames.{WantsUnder, WantsNone}
 use Rattle.cap_run.proofs.Placed.{placed_wants}
 use Rattle.cap_run.proofs.engines.explain.run_explain.Goals as goal
 

@@ -1,4 +1,4 @@
-use Rattle.cap_spec.proofs.Prelude.{List, ap, subst, ℕ, ◌++◌, ◌∙◌, strict_verdict, vet_text}
+use Rattle.cap_spec.proofs.ProofNames.{List, ap, subst, ℕ, ◌++◌, ◌∙◌, strict_verdict, vet_text}
 use Rattle.cap_explain.specs.Explaining.{explanation}
 use Rattle.cap_text.specs.Writing.{Writes}
 use Rattle.cap_text.proofs.Writing.{stopped_more}

@@ -1,4 +1,4 @@
-use Rattle.cap_spec.proofs.Prelude.{Err, refl, subst, sym, ◌≡◌}
+use Rattle.cap_spec.proofs.ProofNames.{Err, refl, subst, sym, ◌≡◌}
 use Rattle.cap_frame.specs.HeldBytes.{held_segments}
 use Rattle.cap_frame.specs.Limit.{limit_of}
 use Rattle.cap_frame.specs.Reading.{ReadsFrame}

@@ -1,6 +1,6 @@
 use Rattle.std.proofs.Common.{Err, List, Ok, subst, ℕ, ◌≡◌}
 use Rattle.cap_frame.specs.Limit.{limit_of}
-use Rattle.cap_run.specs.Prelude.{SieveTells, SieveWants, SiftsNext, Counted}
+use Rattle.cap_run.specs.RunNames.{SieveTells, SieveWants, SiftsNext, Counted}
 use Rattle.cap_run.specs.Sieves.{SiftsOne}
 use Rattle.cap_run.proofs.Sifting.{sift_stopped}
 use Rattle.cap_run.proofs.Streams.{reads_named}

@@ -1,5 +1,5 @@
 -- Each turn writes the next segment.
-use Rattle.cap_spec.proofs.Prelude.{List, arith, drop, subst, ℕ, ◌++◌, ◌+◌, joined, segment_of, plain_text}
+use Rattle.cap_spec.proofs.ProofNames.{List, arith, drop, subst, ℕ, ◌++◌, ◌+◌, joined, segment_of, plain_text}
 use Rattle.cap_frame.specs.Bytes.{cut}
 use Rattle.cap_text.specs.Writing.{Stopped, Wrote}
 use Rattle.cap_run.proofs.Passing.{contents_from, left_less, left_stops}

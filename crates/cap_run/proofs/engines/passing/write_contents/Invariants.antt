@@ -1,4 +1,4 @@
-use Rattle.cap_spec.proofs.Prelude.{List, drop, ℕ, joined, plain_text}
+use Rattle.cap_spec.proofs.ProofNames.{List, drop, ℕ, joined, plain_text}
 use Rattle.cap_frame.specs.Bytes.{cut}
 use Rattle.cap_text.specs.Writing.{Wrote}
 use Rattle.cap_run.proofs.Passing.{Left}

@@ -1,5 +1,5 @@
 use Rattle.std.proofs.lemmas.Grind.{flat_map-append}
-use Rattle.cap_spec.proofs.Prelude.{List, subst, sym, ℕ, joined, table_of, plain_text, word_bytes}
+use Rattle.cap_spec.proofs.ProofNames.{List, subst, sym, ℕ, joined, table_of, plain_text, word_bytes}
 use Rattle.cap_frame.specs.Bytes.{cut}
 use Rattle.cap_text.specs.Writing.{Stopped, Writes}
 use Rattle.cap_text.proofs.Writing.{stopped_more}

@@ -1,5 +1,5 @@
 -- Each turn writes the text of the next segment.
-use Rattle.cap_spec.proofs.Prelude.{List, arith, drop, flat_map, subst, ℕ, ◌++◌, ◌+◌, segment_of, pack_text}
+use Rattle.cap_spec.proofs.ProofNames.{List, arith, drop, flat_map, subst, ℕ, ◌++◌, ◌+◌, segment_of, pack_text}
 use Rattle.cap_frame.specs.Bytes.{cut}
 use Rattle.cap_text.specs.Writing.{Stopped, Wrote}
 use Rattle.cap_run.proofs.Passing.{left_less, left_stops, texts_from}

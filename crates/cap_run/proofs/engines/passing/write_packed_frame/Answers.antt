@@ -1,4 +1,4 @@
-use Rattle.cap_spec.proofs.Prelude.{flat_map, table_of, pack_text}
+use Rattle.cap_spec.proofs.ProofNames.{flat_map, table_of, pack_text}
 use Rattle.cap_frame.specs.Bytes.{cut}
 use Rattle.cap_text.proofs.Writing.{stopped_more}
 use Rattle.cap_run.proofs.engines.passing.write_packed_frame.Goals as goal

@@ -1,5 +1,5 @@
 -- Each turn writes the text of some words more, and at the end no word is left.
-use Rattle.cap_spec.proofs.Prelude.{ap, arith, drop, length, length-drop, take, ◌+◌, take_rest, pack_text, plain_words}
+use Rattle.cap_spec.proofs.ProofNames.{ap, arith, drop, length, length-drop, take, ◌+◌, take_rest, pack_text, plain_words}
 use Rattle.cap_pack.proofs.PuttingEach.{no_word}
 use Rattle.cap_run.proofs.Passing.{left_all, left_less, left_none, left_stops, part_from}
 use Rattle.cap_run.proofs.engines.passing.write_packed_more.Goals as goal

@@ -1,4 +1,4 @@
-use Rattle.cap_spec.proofs.Prelude.{List, drop, length, ℕ, ◌-◌, ◌≤◌, pack_text, plain_words}
+use Rattle.cap_spec.proofs.ProofNames.{List, drop, length, ℕ, ◌-◌, ◌≤◌, pack_text, plain_words}
 use Rattle.cap_text.specs.Writing.{Wrote}
 use Rattle.cap_run.proofs.Passing.{Left}
 use Rattle.cap_run.proofs.engines.passing.write_packed_more.Given as goal

@@ -1,4 +1,4 @@
-use Rattle.cap_spec.proofs.Prelude.{arith, subst, sym, take, plain_words}
+use Rattle.cap_spec.proofs.ProofNames.{arith, subst, sym, take, plain_words}
 use Rattle.cap_frame.specs.Putting.{Halts}
 use Rattle.cap_frame.proofs.Putting.{halts_of}
 use Rattle.cap_frame.proofs.Skips.{words_in}

@@ -1,4 +1,4 @@
-use Rattle.cap_spec.proofs.Prelude.{arith, length, rules, ◌≡◌, IsMessage}
+use Rattle.cap_spec.proofs.ProofNames.{arith, length, rules, ◌≡◌, IsMessage}
 use Rattle.cap_vet.proofs.Ranges.{one_start}
 use Rattle.cap_vet.proofs.exclusiveness.exclusive_vetting.mark_message.Goals as goal
 

@@ -1,6 +1,6 @@
 use Rattle.cap_spec.proofs.Disjoint.Overlaps.{none_of_disjoint, one_overlap}
-use Rattle.cap_spec.proofs.Prelude.{Err, ap, inl, inr}
-use Rattle.cap_vet.specs.Prelude.{depth_of, report_of, words_of}
+use Rattle.cap_spec.proofs.ProofNames.{Err, ap, inl, inr}
+use Rattle.cap_vet.specs.VetNames.{depth_of, report_of, words_of}
 use Rattle.cap_vet.specs.declared.exclusiveness.exclusive_vetting.ExclusiveRefusal.TheVariants.{Refused}
 use Rattle.cap_vet.proofs.Demanding.{no_fault_under, one_fault_under}
 use Rattle.cap_vet.proofs.ExclusiveFaults.{only_memory, only_overlap, only_refused}

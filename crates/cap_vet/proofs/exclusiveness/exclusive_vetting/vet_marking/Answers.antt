@@ -1,4 +1,4 @@
-use Rattle.cap_spec.proofs.Prelude.{rules, IsMessage}
+use Rattle.cap_spec.proofs.ProofNames.{rules, IsMessage}
 use Rattle.cap_vet.specs.Limits.{words_of}
 use Rattle.cap_vet.proofs.Demanding.{demand_fault_at_end, met_at_end}
 use Rattle.cap_vet.proofs.MarkingWalk.{ends_marking}

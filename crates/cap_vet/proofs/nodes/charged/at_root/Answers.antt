@@ -1,5 +1,5 @@
 use Rattle.cap_spec.proofs.Frames.Messages.{HasWord-at}
-use Rattle.cap_spec.proofs.Prelude.{arith, inl, inr, length, rules, ℕ, ◌<◌, HasWord, IsMessage, segment_of}
+use Rattle.cap_spec.proofs.ProofNames.{arith, inl, inr, length, rules, ℕ, ◌<◌, HasWord, IsMessage, segment_of}
 use Rattle.cap_ptr.specs.Shapes.{charge_of}
 use Rattle.cap_vet.proofs.Charging.{arrives_root, fault_root}
 use Rattle.cap_vet.proofs.Looks.{followed_costs, followed_shallow}

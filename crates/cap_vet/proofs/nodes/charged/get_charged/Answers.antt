@@ -1,7 +1,7 @@
-use Rattle.cap_spec.proofs.Prelude.{Err, [], ap, append_assoc, arith, drop, get_or, inr, length, subst, suc, sym, take}
-use Rattle.cap_spec.proofs.Prelude.{take_all, ◌++◌, ◌<◌, ◌∙◌, ◌∷◌, ◌≡◌, split_at, take_more, AreOnPath, ReachesSpot}
+use Rattle.cap_spec.proofs.ProofNames.{Err, [], ap, append_assoc, arith, drop, get_or, inr, length, subst, suc, sym, take}
+use Rattle.cap_spec.proofs.ProofNames.{take_all, ◌++◌, ◌<◌, ◌∙◌, ◌∷◌, ◌≡◌, split_at, take_more, AreOnPath, ReachesSpot}
 use Rattle.cap_spec.proofs.Verdicts.OnPath.{one_path_refusal, path_not_refused}
-use Rattle.cap_vet.specs.Prelude.{Step, Ptr, Arrives}
+use Rattle.cap_vet.specs.VetNames.{Step, Ptr, Arrives}
 use Rattle.cap_vet.proofs.Charging.{arrives_nowhere, charges_nowhere, fault_longer}
 use Rattle.cap_vet.proofs.nodes.charged.get_charged.Goals as goal
 

@@ -1,4 +1,4 @@
-use Rattle.cap_spec.proofs.Prelude.{take, ◌+◌, ◌≡◌, ◌≤◌, Spot}
+use Rattle.cap_spec.proofs.ProofNames.{take, ◌+◌, ◌≡◌, ◌≤◌, Spot}
 use Rattle.cap_vet.specs.Charging.{Arrives}
 use Rattle.cap_vet.proofs.nodes.charged.get_charged.Given as goal
 

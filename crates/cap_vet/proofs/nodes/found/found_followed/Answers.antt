@@ -1,4 +1,4 @@
-use Rattle.cap_spec.proofs.Prelude.{rules, IsMessage}
+use Rattle.cap_spec.proofs.ProofNames.{rules, IsMessage}
 use Rattle.cap_vet.proofs.nodes.found.found_followed.Goals as goal
 
 pub returns : goal.returns

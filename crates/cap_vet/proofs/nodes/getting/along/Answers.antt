@@ -1,7 +1,7 @@
 -- The path is followed step by step.
 use Rattle.std.proofs.Common.{List, [], ap, append-nil, append_assoc, arith, refl, subst, sym, ◌++◌, ◌∙◌, ◌∷◌}
 use Rattle.std.proofs.Math.Logic.{∥∥₁_map}
-use Rattle.cap_vet.specs.Prelude.{Step, Arrives, IsWay, Nowhere, To}
+use Rattle.cap_vet.specs.VetNames.{Step, Arrives, IsWay, Nowhere, To}
 use Rattle.cap_vet.specs.declared.nodes.way.Way.TheVariants.{Refused}
 use Rattle.cap_vet.proofs.PathWays.{all_steps, done_steps, step_nowhere, step_refused}
 use Rattle.cap_vet.proofs.Somewhere.{arrival_few, arrival_levels}

@@ -1,5 +1,5 @@
-use Rattle.cap_spec.proofs.Prelude.{List, ◌++◌, ◌≡◌, Spot}
-use Rattle.cap_vet.specs.Prelude.{Step, Arrives}
+use Rattle.cap_spec.proofs.ProofNames.{List, ◌++◌, ◌≡◌, Spot}
+use Rattle.cap_vet.specs.VetNames.{Step, Arrives}
 use Rattle.cap_vet.proofs.nodes.getting.along.Given as goal
 
 abbrev pub invariant-loop-step : goal.invariant-loop-step

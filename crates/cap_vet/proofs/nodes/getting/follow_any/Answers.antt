@@ -1,5 +1,5 @@
 -- A path is followed from the root on.
-use Rattle.cap_spec.proofs.Prelude.{[], word}
+use Rattle.cap_spec.proofs.ProofNames.{[], word}
 use Rattle.cap_vet.proofs.nodes.getting.follow_any.Goals as goal
 
 pub along-requires : goal.along-requires

@@ -1,6 +1,6 @@
 -- The path is followed by looks alone.
-use Rattle.cap_spec.proofs.Prelude.{List, Option, [], ap, append_assoc, arith, refl, subst, sym, ◌++◌, ◌∙◌, ◌∷◌, word}
-use Rattle.cap_vet.specs.Prelude.{Step, IsWay, SomeArrives, To, LaxPointer}
+use Rattle.cap_spec.proofs.ProofNames.{List, Option, [], ap, append_assoc, arith, refl, subst, sym, ◌++◌, ◌∙◌, ◌∷◌, word}
+use Rattle.cap_vet.specs.VetNames.{Step, IsWay, SomeArrives, To, LaxPointer}
 use Rattle.cap_vet.proofs.PathWays.{done_steps}
 use Rattle.cap_vet.proofs.Somewhere.{arrival_few, arrival_levels}
 use Rattle.cap_vet.proofs.StepsGiven.{no_step_given, step_given}

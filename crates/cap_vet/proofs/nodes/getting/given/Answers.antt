@@ -1,5 +1,5 @@
 -- What is given where the path leads.
-use Rattle.cap_spec.proofs.Prelude.{refl, rules, IsMessage}
+use Rattle.cap_spec.proofs.ProofNames.{refl, rules, IsMessage}
 use Rattle.cap_vet.proofs.PathWays.{nothing_given, nowhere_fault_given, refusal_given, something_given, to_fault_given}
 use Rattle.cap_vet.proofs.nodes.getting.given.Goals as goal
 

@@ -1,6 +1,6 @@
 -- The root, by a look at its pointer.
 use Rattle.cap_spec.proofs.Frames.Messages.{HasWord-at}
-use Rattle.cap_spec.proofs.Prelude.{None, arith, length, ℕ, ◌<◌, HasWord, segment_of}
+use Rattle.cap_spec.proofs.ProofNames.{None, arith, length, ℕ, ◌<◌, HasWord, segment_of}
 use Rattle.cap_vet.proofs.Charging.{arrives_root}
 use Rattle.cap_vet.proofs.nodes.near_arrival.at_root_near.Goals as goal
 

@@ -1,4 +1,4 @@
-use Rattle.cap_spec.proofs.Prelude.{arith, rules, sym, IsMessage}
+use Rattle.cap_spec.proofs.ProofNames.{arith, rules, sym, IsMessage}
 use Rattle.cap_ptr.proofs.Pads.{stands-near}
 use Rattle.cap_vet.proofs.NearFound.{finds_null, near_fits, not_near}
 use Rattle.cap_vet.proofs.nodes.near_found.found_near.Goals as goal

@@ -1,6 +1,6 @@
 -- One fault, or none.
 use Rattle.cap_spec.specs.declared.StrictRefusal.TheVariants.{Refused}
-use Rattle.cap_spec.proofs.Prelude.{Err, ap, false, refl, rules, true, IsMessage}
+use Rattle.cap_spec.proofs.ProofNames.{Err, ap, false, refl, rules, true, IsMessage}
 use Rattle.cap_spec.proofs.Strict.Faults.{one_strict_fault, strict_not_fault}
 use Rattle.cap_vet.specs.Limits.{depth_of, words_of}
 use Rattle.cap_vet.proofs.Laxness.{fault_at_end, strict_at_end, strict_within, within_of}

@@ -1,4 +1,4 @@
-use Rattle.cap_spec.proofs.Prelude.{ap, arith, kind}
+use Rattle.cap_spec.proofs.ProofNames.{ap, arith, kind}
 use Rattle.cap_ptr.specs.Shapes.{HasListAt}
 use Rattle.cap_ptr.proofs.Pads.{object-lead}
 use Rattle.cap_vet.proofs.walk.lists.struct_list.Goals as goal

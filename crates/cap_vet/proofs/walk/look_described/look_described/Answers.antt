@@ -1,5 +1,5 @@
 use Rattle.cap_spec.proofs.Frames.Messages.{HasWord-at}
-use Rattle.cap_spec.proofs.Prelude.{IfSome, None, Option, Some, arith, rules, ◌≡◌, kind, two}
+use Rattle.cap_spec.proofs.ProofNames.{IfSome, None, Option, Some, arith, rules, ◌≡◌, kind, two}
 use Rattle.cap_ptr.proofs.Pads.{stands-one_pad}
 use Rattle.cap_vet.proofs.Laxness.{object_form}
 use Rattle.cap_vet.proofs.walk.look_described.look_described.Goals as goal

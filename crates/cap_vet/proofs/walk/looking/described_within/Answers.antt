@@ -1,5 +1,5 @@
 use Rattle.cap_spec.proofs.Lemmas.{one_word, leads-near}
-use Rattle.cap_spec.proofs.Prelude.{IfSome, None, Option, Some, arith, rules, subst, sym, ◌<◌, ◌≢◌, IsMessage, kind}
+use Rattle.cap_spec.proofs.ProofNames.{IfSome, None, Option, Some, arith, rules, subst, sym, ◌<◌, ◌≢◌, IsMessage, kind}
 use Rattle.cap_vet.specs.Looking.{IsObjectWord}
 use Rattle.cap_vet.proofs.walk.looking.described_within.Goals as goal
 

@@ -1,5 +1,5 @@
 use Rattle.cap_spec.specs.Pointers.{IsCap}
-use Rattle.cap_spec.proofs.Prelude.{arith, refl, near, cap_index}
+use Rattle.cap_spec.proofs.ProofNames.{arith, refl, near, cap_index}
 use Rattle.cap_spec.proofs.Strict.Looking.{near_has_none}
 use Rattle.cap_ptr.proofs.Pads.{stands-near}
 use Rattle.cap_vet.proofs.walk.looking.look_near.Goals as goal

@@ -1,7 +1,7 @@
-use Rattle.cap_spec.proofs.Prelude.{arith, subst, sym, ◌+◌}
+use Rattle.cap_spec.proofs.ProofNames.{arith, subst, sym, ◌+◌}
 use Rattle.cap_spec.proofs.Verdicts.OneFault.{costs_not_wrong}
 use Rattle.cap_vet.specs.Needed.{NeedsCharge}
-use Rattle.cap_vet.specs.Prelude.{depth_of, words_of}
+use Rattle.cap_vet.specs.VetNames.{depth_of, words_of}
 use Rattle.cap_vet.proofs.Looks.{followed_costs}
 use Rattle.cap_vet.proofs.Needed.{charge_small, charge_within, cost_there, needs_with, other_reason, past_exists, refused_of}
 use Rattle.cap_vet.proofs.walk.needed.with_pointer.Goals as goal

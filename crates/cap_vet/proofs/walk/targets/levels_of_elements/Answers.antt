@@ -1,4 +1,4 @@
-use Rattle.cap_spec.proofs.Prelude.{arith, refl, suc, zero, ℕ, ◌<◌, ◌≡◌, element_levels}
+use Rattle.cap_spec.proofs.ProofNames.{arith, refl, suc, zero, ℕ, ◌<◌, ◌≡◌, element_levels}
 use Rattle.cap_vet.proofs.walk.targets.levels_of_elements.Goals as goal
 
 one_level : (n : ℕ) → 0 < n → 1 ≡ element_levels n

@@ -1,5 +1,5 @@
 use Rattle.cap_spec.proofs.Lemmas.{one_tree, one_refusal, refused_justified, within_not_refused}
-use Rattle.cap_spec.proofs.Prelude.{Err, ap, ◌∙◌, pointer_count}
+use Rattle.cap_spec.proofs.ProofNames.{Err, ap, ◌∙◌, pointer_count}
 use Rattle.cap_vet.proofs.Verdicts.{accepted_at_end, vetted_within}
 use Rattle.cap_vet.proofs.walk.vetting.vet.Goals as goal
 

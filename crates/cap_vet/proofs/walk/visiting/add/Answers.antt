@@ -1,6 +1,6 @@
 use Rattle.std.proofs.Common.{Bool, None, Option, Some, ap, arith, false, is_some, max, not, refl, true, ℕ, ◌+◌, ◌∙◌}
 use Rattle.std.proofs.Common.{◌≡◌}
-use Rattle.cap_vet.specs.Prelude.{added, or_place, Report, Object, PointerRun}
+use Rattle.cap_vet.specs.VetNames.{added, or_place, Report, Object, PointerRun}
 use Rattle.cap_vet.specs.declared.walk.looking.Looked.TheVariants.{Cap}
 use Rattle.cap_vet.proofs.walk.visiting.add.Goals as goal
 

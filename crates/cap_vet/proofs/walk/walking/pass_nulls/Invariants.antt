@@ -1,5 +1,5 @@
 use Rattle.std.proofs.Common.{List, [], ℕ, ◌++◌, ◌∷◌}
-use Rattle.cap_vet.specs.Prelude.{Step, Passes, Ahead, HasWalked, PointerRun}
+use Rattle.cap_vet.specs.VetNames.{Step, Passes, Ahead, HasWalked, PointerRun}
 use Rattle.cap_vet.proofs.walk.walking.pass_nulls.Given as goal
 
 abbrev pub invariant-nulls : goal.invariant-nulls

@@ -1,4 +1,4 @@
-use Rattle.cap_spec.proofs.Prelude.{◌∷◌, HasWord}
+use Rattle.cap_spec.proofs.ProofNames.{◌∷◌, HasWord}
 use Rattle.cap_vet.proofs.Stacks.{looked_at, looked_costs, null_visited, visited}
 use Rattle.cap_vet.proofs.walk.walking.turn_described.Goals as goal
 

@@ -1,4 +1,4 @@
-use Rattle.cap_spec.proofs.Prelude.{arith, inr, option_to_list, rules, ◌++◌, ◌∷◌, IsMessage}
+use Rattle.cap_spec.proofs.ProofNames.{arith, inr, option_to_list, rules, ◌++◌, ◌∷◌, IsMessage}
 use Rattle.cap_vet.proofs.Passing.{topmost_in}
 use Rattle.cap_vet.proofs.Runs.{has_rest}
 use Rattle.cap_vet.proofs.Stacks.{cost_charged, looked_at, next_at, steps_on}

@@ -1,4 +1,4 @@
-use Rattle.cap_spec.proofs.Prelude.{arith, inl, length, rules, ◌<◌, segment_of}
+use Rattle.cap_spec.proofs.ProofNames.{arith, inl, length, rules, ◌<◌, segment_of}
 use Rattle.cap_vet.proofs.Verdicts.{begins, no_root_at}
 use Rattle.cap_vet.proofs.walk.walking.walk.Goals as goal
 

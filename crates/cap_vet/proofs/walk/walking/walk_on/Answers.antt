@@ -1,4 +1,4 @@
-use Rattle.cap_spec.proofs.Prelude.{arith, option_to_list, rules, ◌++◌, IsMessage}
+use Rattle.cap_spec.proofs.ProofNames.{arith, option_to_list, rules, ◌++◌, IsMessage}
 use Rattle.cap_vet.specs.Limits.{depth_of, words_of}
 use Rattle.cap_vet.proofs.Passing.{topmost_in}
 use Rattle.cap_vet.proofs.Runs.{has_rest}

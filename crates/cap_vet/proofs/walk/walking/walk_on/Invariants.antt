@@ -1,5 +1,5 @@
 use Rattle.std.proofs.Common.{[], length, ◌++◌, ◌<◌, ◌∷◌}
-use Rattle.cap_vet.specs.Prelude.{words_of, IsWalking, work_left}
+use Rattle.cap_vet.specs.VetNames.{words_of, IsWalking, work_left}
 use Rattle.cap_vet.proofs.walk.walking.walk_on.Given as goal
 
 abbrev pub invariant-walk : goal.invariant-walk

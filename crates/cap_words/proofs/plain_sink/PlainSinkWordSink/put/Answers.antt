@@ -1,4 +1,4 @@
-use Rattle.cap_spec.proofs.Prelude.{ap, refl, sym, ◌++◌, plain_text}
+use Rattle.cap_spec.proofs.ProofNames.{ap, refl, sym, ◌++◌, plain_text}
 use Rattle.cap_words.proofs.PlainSpelling.{part_begins, word_put}
 use Rattle.cap_words.proofs.plain_sink.PlainSinkWordSink.put.Goals as goal
 

@@ -1,4 +1,4 @@
-use Rattle.cap_spec.proofs.Prelude.{refl, rules, plain_words}
+use Rattle.cap_spec.proofs.ProofNames.{refl, rules, plain_words}
 use Rattle.cap_words.proofs.AtHand.{bytes_small}
 use Rattle.cap_words.proofs.WholeWords.{whole_text, words_begin, words_put}
 use Rattle.cap_words.proofs.plain_sink.PlainSinkWordSink.put_bytes.Goals as goal

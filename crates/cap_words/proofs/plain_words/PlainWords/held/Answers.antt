@@ -1,7 +1,7 @@
 -- The words of a prefix of bytes are a prefix of their words.
-use Rattle.cap_spec.proofs.Prelude.{IfSome, List, None, Option, Some, [], ap, option_map, refl, rules, ℕ, ◌++◌, ◌∷◌}
-use Rattle.cap_spec.proofs.Prelude.{◌≡◌, little_number, plain_words}
-use Rattle.cap_words.specs.Prelude.{bytes_left, Phase, Open}
+use Rattle.cap_spec.proofs.ProofNames.{IfSome, List, None, Option, Some, [], ap, option_map, refl, rules, ℕ, ◌++◌, ◌∷◌}
+use Rattle.cap_spec.proofs.ProofNames.{◌≡◌, little_number, plain_words}
+use Rattle.cap_words.specs.WordNames.{bytes_left, Phase, Open}
 use Rattle.cap_words.proofs.plain_words.PlainWords.held.Goals as goal
 
 -- bytes begin with the words of a prefix

@@ -1,5 +1,5 @@
 use Rattle.std.proofs.lemmas.Slice.{overwrites}
-use Rattle.cap_spec.proofs.Prelude.{ap, arith, length, refl, rules, take, ◌/◌, ◌<◌, ◌∙◌, ◌≡◌, plain_words, word_bytes}
+use Rattle.cap_spec.proofs.ProofNames.{ap, arith, length, refl, rules, take, ◌/◌, ◌<◌, ◌∙◌, ◌≡◌, plain_words, word_bytes}
 use Rattle.cap_words.proofs.Filling.{ends_both, filled_all, filled_more, filled_still, filled_words, next_gives}
 use Rattle.cap_words.proofs.Filling.{reads_both, reads_one, ready_works, word_filled, word_within}
 use Rattle.cap_words.proofs.Turns.{filled, filled_within}

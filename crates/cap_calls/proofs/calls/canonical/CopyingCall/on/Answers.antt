@@ -3,7 +3,7 @@ use Rattle.std.proofs.Common.{ap, refl, subst, ◌∙◌}
 use Rattle.cap_frame.specs.Bytes.{cut}
 use Rattle.cap_canon.specs.CopyRooms.{TellsRoom}
 use Rattle.cap_calls.specs.CallFindings.{accepted}
-use Rattle.cap_calls.specs.Prelude.{ByteView, refused, size_found}
+use Rattle.cap_calls.specs.CallNames.{ByteView, refused, size_found}
 use Rattle.cap_calls.proofs.Copied.{copy_found}
 use Rattle.cap_calls.proofs.calls.canonical.CopyingCall.on.Goals as goal
 

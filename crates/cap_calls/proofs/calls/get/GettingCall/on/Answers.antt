@@ -1,7 +1,7 @@
 -- The view is of the message.
 use Rattle.std.proofs.Common.{ap, ◌∙◌}
 use Rattle.cap_frame.specs.Bytes.{cut}
-use Rattle.cap_calls.specs.Prelude.{ByteView, kind_node, offset_of, a_node, no_meeting, no_node}
+use Rattle.cap_calls.specs.CallNames.{ByteView, kind_node, offset_of, a_node, no_meeting, no_node}
 use Rattle.cap_calls.proofs.calls.get.GettingCall.on.Goals as goal
 
 pub returns-in-Ok-Some : goal.returns-in-Ok-Some

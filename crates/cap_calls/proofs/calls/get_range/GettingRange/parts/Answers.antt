@@ -1,7 +1,7 @@
 -- The steps are cut around the one that varies.
 use Rattle.std.proofs.Common.{List, ap, arith, drop, get_or, length, length-drop, suc, sym, take, take_all, ℕ, ◌++◌}
 use Rattle.std.proofs.Common.{◌+◌, ◌-◌, ◌∙◌, ◌∷◌, ◌≡◌}
-use Rattle.cap_calls.specs.Prelude.{path_after, step_after, CallStep}
+use Rattle.cap_calls.specs.CallNames.{path_after, step_after, CallStep}
 use Rattle.cap_calls.proofs.RangePaths.{path_parts}
 use Rattle.cap_calls.proofs.calls.get_range.GettingRange.parts.Goals as goal
 

@@ -1,8 +1,8 @@
 -- One node more is got, or the range ends.
 use Rattle.std.proofs.Common.{ap, arith, length, refl, sym, ℕ, ◌++◌, ◌<◌, ◌∙◌, ◌∷◌, ◌≡◌}
 use Rattle.cap_frame.specs.Bytes.{cut}
-use Rattle.cap_calls.specs.Prelude.{Step, ByteView, refused_found, kind_node, offset_of, Gets, a_node, no_meeting}
-use Rattle.cap_calls.specs.Prelude.{no_node, path_found, path_after, step_after, IsShortcutNode, Good, NoNode, Found}
+use Rattle.cap_calls.specs.CallNames.{Step, ByteView, refused_found, kind_node, offset_of, Gets, a_node, no_meeting}
+use Rattle.cap_calls.specs.CallNames.{no_node, path_found, path_after, step_after, IsShortcutNode, Good, NoNode, Found}
 use Rattle.cap_calls.proofs.RangeGotten.{more_so_far, nothing_not_good, range_full, range_stops, refused_not_good}
 use Rattle.cap_calls.proofs.RangeGotten.{written_also}
 use Rattle.cap_calls.proofs.RangePaths.{given_fault, given_node, given_nothing, given_path}

@@ -1,6 +1,6 @@
 -- How the nodes after a start are found.
-use Rattle.cap_spec.proofs.Prelude.{[], ap, arith, eqb-true, length, refl, sym, ◌<◌, ◌∙◌, ◌∷◌, ◌≡◌, nat_tests}
-use Rattle.cap_calls.specs.Prelude.{Step, CallStep}
+use Rattle.cap_spec.proofs.ProofNames.{[], ap, arith, eqb-true, length, refl, sym, ◌<◌, ◌∙◌, ◌∷◌, ◌≡◌, nat_tests}
+use Rattle.cap_calls.specs.CallNames.{Step, CallStep}
 use Rattle.cap_calls.proofs.RangeShortcut.{no_steps, one_step}
 use Rattle.cap_calls.proofs.calls.get_range.Shortcut.choose.Goals as goal
 

@@ -1,6 +1,6 @@
 -- Each element has its node.
 use Rattle.std.proofs.Common.{ap, arith, length, refl, subst, ℕ, ◌+◌, ◌<◌, ◌≡◌}
-use Rattle.cap_calls.specs.Prelude.{HasCount, IsShortcutNode, WritesFirst, Shortcut, Elements}
+use Rattle.cap_calls.specs.CallNames.{HasCount, IsShortcutNode, WritesFirst, Shortcut, Elements}
 use Rattle.cap_calls.proofs.RangeGotten.{more_written, none_written}
 use Rattle.cap_calls.proofs.RangeShortcut.{elements_node, node_in_segment}
 use Rattle.cap_calls.proofs.calls.get_range.Shortcut.elements.Goals as goal

@@ -1,5 +1,5 @@
 -- What was vetted is the view.
-use Rattle.cap_spec.proofs.Prelude.{ap, sym, ◌∙◌, false≢true}
+use Rattle.cap_spec.proofs.ProofNames.{ap, sym, ◌∙◌, false≢true}
 use Rattle.cap_calls.specs.CallFindings.{accepted, accepted_found, refused}
 use Rattle.cap_calls.specs.Calls.{canonical, not_canonical}
 use Rattle.cap_calls.specs.declared.answer.Answer.TheVariants.{Good, NotCanonical}

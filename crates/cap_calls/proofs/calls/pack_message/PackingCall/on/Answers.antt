@@ -1,6 +1,6 @@
 -- The table that was written is that of the message.
 use Rattle.cap_spec.proofs.Bytes.Plain.{length_plain}
-use Rattle.cap_spec.proofs.Prelude.{ap, arith, length, take, ℕ, ◌*◌, ◌+◌, ◌/◌, ◌∙◌, ◌≡◌, table_of}
+use Rattle.cap_spec.proofs.ProofNames.{ap, arith, length, take, ℕ, ◌*◌, ◌+◌, ◌/◌, ◌∙◌, ◌≡◌, table_of}
 use Rattle.cap_frame.specs.Bytes.{cut}
 use Rattle.cap_calls.proofs.PackedFrames.{table_size}
 use Rattle.cap_calls.proofs.calls.pack_message.PackingCall.on.Goals as goal

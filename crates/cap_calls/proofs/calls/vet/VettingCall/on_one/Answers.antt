@@ -1,7 +1,7 @@
 -- The verdict of the slice.
-use Rattle.cap_spec.proofs.Prelude.{subst, ⊤}
+use Rattle.cap_spec.proofs.ProofNames.{subst, ⊤}
 use Rattle.cap_vet.specs.Limits.{depth_of, words_of}
-use Rattle.cap_calls.specs.Prelude.{Judges, IsGood}
+use Rattle.cap_calls.specs.CallNames.{Judges, IsGood}
 use Rattle.cap_calls.proofs.calls.vet.VettingCall.on_one.Goals as goal
 
 pub returns : goal.returns

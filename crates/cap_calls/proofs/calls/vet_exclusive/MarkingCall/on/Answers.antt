@@ -1,9 +1,9 @@
 -- What is marked is the view.
-use Rattle.cap_spec.proofs.Prelude.{Err, ap, ap₂, drop, inl, length, refl, subst, ◌+◌, ◌/◌, ◌∙◌, ◌≡◌, ◌≤◌, IsDisjoint}
+use Rattle.cap_spec.proofs.ProofNames.{Err, ap, ap₂, drop, inl, length, refl, subst, ◌+◌, ◌/◌, ◌∙◌, ◌≡◌, ◌≤◌, IsDisjoint}
 use Rattle.cap_frame.specs.Bytes.{cut}
-use Rattle.cap_vet.specs.Prelude.{IsExclusiveFault, IsVetted, marks_of}
+use Rattle.cap_vet.specs.VetNames.{IsExclusiveFault, IsVetted, marks_of}
 use Rattle.cap_calls.specs.CallFindings.{accepted}
-use Rattle.cap_calls.specs.Prelude.{ByteView, accepted_found, refused, exclusive, fault_found, Good, Found}
+use Rattle.cap_calls.specs.CallNames.{ByteView, accepted_found, refused, exclusive, fault_found, Good, Found}
 use Rattle.cap_calls.proofs.Marked.{fault_kept, marked_fault, refused_kept}
 use Rattle.cap_calls.proofs.calls.vet_exclusive.MarkingCall.on.Goals as goal
 

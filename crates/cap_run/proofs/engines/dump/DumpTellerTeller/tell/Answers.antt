@@ -1,4 +1,4 @@
-use Rattle.cap_spec.proofs.Prelude.{refl, ◌++◌, dump_text}
+use Rattle.cap_spec.proofs.ProofNames.{refl, ◌++◌, dump_text}
 use Rattle.cap_vet.specs.Vettings.{message_of, report_of}
 use Rattle.cap_text.specs.Lines.{accepted_text}
 use Rattle.cap_run.specs.Vetting.{TellsTree}

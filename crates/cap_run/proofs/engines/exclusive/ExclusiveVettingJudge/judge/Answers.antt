@@ -1,8 +1,8 @@
-use Rattle.cap_spec.proofs.Prelude.{codes, inl, inr, refl, refused, strict_verdict, vet_text}
+use Rattle.cap_spec.proofs.ProofNames.{codes, inl, inr, refl, refused, strict_verdict, vet_text}
 use Rattle.cap_vet.specs.Exclusives.{vetted_of}
-use Rattle.cap_vet.specs.Prelude.{report_of}
+use Rattle.cap_vet.specs.VetNames.{report_of}
 use Rattle.cap_text.specs.Lines.{accepted_text}
-use Rattle.cap_run.specs.Prelude.{OrFaultIn, TellsMarked, WantsIn, WantsMarks, Accepted}
+use Rattle.cap_run.specs.RunNames.{OrFaultIn, TellsMarked, WantsIn, WantsMarks, Accepted}
 use Rattle.cap_run.specs.declared.engines.stream.Counted.TheVariants.{Refused}
 use Rattle.cap_run.proofs.Judging.{writes_text}
 use Rattle.cap_run.proofs.engines.exclusive.ExclusiveVettingJudge.judge.Goals as goal

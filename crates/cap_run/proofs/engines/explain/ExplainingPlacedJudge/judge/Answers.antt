@@ -1,9 +1,9 @@
-use Rattle.cap_spec.proofs.Prelude.{List, Some, ap, inl, inr, refl, subst, ℕ, ◌*◌, ◌++◌, ◌∙◌, ◌≡◌, strict_verdict, vet_text, Tree}
-use Rattle.cap_vet.specs.Prelude.{words_under, depth_of, words_of, IsReport, report_of}
+use Rattle.cap_spec.proofs.ProofNames.{List, Some, ap, inl, inr, refl, subst, ℕ, ◌*◌, ◌++◌, ◌∙◌, ◌≡◌, strict_verdict, vet_text, Tree}
+use Rattle.cap_vet.specs.VetNames.{words_under, depth_of, words_of, IsReport, report_of}
 use Rattle.cap_explain.specs.Explaining.{explanation}
 use Rattle.cap_trace.specs.NamedPaths.{fault_path}
 use Rattle.cap_run.specs.Explained.{fault_numbers}
-use Rattle.cap_run.specs.Prelude.{WantsUnder, OrFaultLines, WritesOneOf}
+use Rattle.cap_run.specs.RunNames.{WantsUnder, OrFaultLines, WritesOneOf}
 use Rattle.cap_run.specs.declared.engines.stream.Counted.TheVariants.{Refused}
 use Rattle.cap_run.proofs.Explaining.{same_numbers}
 use Rattle.cap_run.proofs.Judging.{writes_as, writes_text}

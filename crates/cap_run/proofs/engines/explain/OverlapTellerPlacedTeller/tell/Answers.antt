@@ -1,5 +1,5 @@
-use Rattle.cap_spec.proofs.Prelude.{Some, ap, codes, inl, inr, refl, subst, sym, ◌*◌, ◌++◌, ◌∙◌, ◌≡◌, IsWithin, most_depth}
-use Rattle.cap_spec.proofs.Prelude.{most_words, refused, vet_text}
+use Rattle.cap_spec.proofs.ProofNames.{Some, ap, codes, inl, inr, refl, subst, sym, ◌*◌, ◌++◌, ◌∙◌, ◌≡◌, IsWithin, most_depth}
+use Rattle.cap_spec.proofs.ProofNames.{most_words, refused, vet_text}
 use Rattle.cap_vet.specs.Vettings.{message_of, report_of}
 use Rattle.cap_explain.specs.Explaining.{overlap_explanation}
 use Rattle.cap_text.specs.Lines.{accepted_text}

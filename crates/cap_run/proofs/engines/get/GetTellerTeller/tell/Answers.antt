@@ -1,4 +1,4 @@
-use Rattle.cap_spec.proofs.Prelude.{refl, get_text, node_at}
+use Rattle.cap_spec.proofs.ProofNames.{refl, get_text, node_at}
 use Rattle.cap_vet.specs.Vettings.{message_of, report_of}
 use Rattle.cap_text.specs.Writing.{Writes}
 use Rattle.cap_run.specs.Vetting.{TellsNode}

@@ -1,4 +1,4 @@
-use Rattle.cap_spec.proofs.Prelude.{refl, rules, outline_text}
+use Rattle.cap_spec.proofs.ProofNames.{refl, rules, outline_text}
 use Rattle.cap_frame.specs.Limit.{limit_of}
 use Rattle.cap_frame.specs.Outlines.{root_in, sizes_in}
 use Rattle.cap_text.proofs.SegmentLines.{text_of_outline}

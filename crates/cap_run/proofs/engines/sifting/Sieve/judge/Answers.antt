@@ -1,7 +1,7 @@
-use Rattle.cap_spec.proofs.Prelude.{Bool, List, rules, subst, sym, ℕ}
-use Rattle.cap_vet.specs.Prelude.{report_of}
+use Rattle.cap_spec.proofs.ProofNames.{Bool, List, rules, subst, sym, ℕ}
+use Rattle.cap_vet.specs.VetNames.{report_of}
 use Rattle.cap_run.specs.Filtering.{TellsMet, WantsMet}
-use Rattle.cap_run.specs.Prelude.{FindsObjection, OrFaultIn, WantsIn}
+use Rattle.cap_run.specs.RunNames.{FindsObjection, OrFaultIn, WantsIn}
 use Rattle.cap_run.proofs.Sifting.{judges_met}
 use Rattle.cap_run.proofs.engines.sifting.Sieve.judge.Goals as goal
 

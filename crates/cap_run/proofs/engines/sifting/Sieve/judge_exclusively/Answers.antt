@@ -1,6 +1,6 @@
-use Rattle.cap_spec.proofs.Prelude.{inl, inr, refl}
+use Rattle.cap_spec.proofs.ProofNames.{inl, inr, refl}
 use Rattle.cap_vet.specs.Exclusives.{vetted_of}
-use Rattle.cap_vet.specs.Prelude.{report_of}
+use Rattle.cap_vet.specs.VetNames.{report_of}
 use Rattle.cap_text.specs.Lines.{accepted_text}
 use Rattle.cap_run.proofs.engines.sifting.Sieve.judge_exclusively.Goals as goal
 

@@ -1,6 +1,6 @@
 use Rattle.std.proofs.Common.{Ok, Option, subst}
 use Rattle.cap_frame.specs.Bytes.{cut}
-use Rattle.cap_run.specs.Prelude.{SieveTells, SieveWants, FindsObjection, objection_text, Objection}
+use Rattle.cap_run.specs.RunNames.{SieveTells, SieveWants, FindsObjection, objection_text, Objection}
 use Rattle.cap_run.proofs.Sifting.{sifts_passed, sifts_refused, sifts_stopped, sifts_unflushed}
 use Rattle.cap_run.proofs.engines.sifting.Sieve.sift.Goals as goal
 

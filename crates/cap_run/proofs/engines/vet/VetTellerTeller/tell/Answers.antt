@@ -1,7 +1,7 @@
 use Rattle.std.proofs.Common.{refl}
 use Rattle.cap_vet.specs.Vettings.{message_of, report_of}
 use Rattle.cap_text.specs.Lines.{accepted_text}
-use Rattle.cap_run.specs.Prelude.{TellsAccepted, Accepted}
+use Rattle.cap_run.specs.RunNames.{TellsAccepted, Accepted}
 use Rattle.cap_run.proofs.Judging.{writes_text}
 use Rattle.cap_run.proofs.engines.vet.VetTellerTeller.tell.Goals as goal
 

@@ -1,6 +1,6 @@
-use Rattle.cap_spec.proofs.Prelude.{List, ap, inl, inr, refl, subst, ℕ, strict_verdict, vet_text, Tree}
-use Rattle.cap_vet.specs.Prelude.{words_under, depth_of, words_of, IsReport, report_of}
-use Rattle.cap_run.specs.Prelude.{OrFault, WantsUnder, WritesOneOf}
+use Rattle.cap_spec.proofs.ProofNames.{List, ap, inl, inr, refl, subst, ℕ, strict_verdict, vet_text, Tree}
+use Rattle.cap_vet.specs.VetNames.{words_under, depth_of, words_of, IsReport, report_of}
+use Rattle.cap_run.specs.RunNames.{OrFault, WantsUnder, WritesOneOf}
 use Rattle.cap_run.specs.declared.engines.stream.Counted.TheVariants.{Refused}
 use Rattle.cap_run.proofs.Judging.{writes_as, writes_text}
 use Rattle.cap_run.proofs.engines.whole.VettingJudge.judge.Goals as goal

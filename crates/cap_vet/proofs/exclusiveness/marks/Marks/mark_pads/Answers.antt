@@ -1,8 +1,8 @@
 use Rattle.cap_spec.specs.Denoting.{places}
 use Rattle.cap_spec.proofs.Disjoint.Places.{no_pads, pads_inside}
 use Rattle.cap_spec.proofs.Frames.Messages.{one_word}
-use Rattle.cap_spec.proofs.Prelude.{List, [], ap, arith, inl, inr, length, refl, subst, sym, ℕ, ◌+◌, ◌<◌, ◌==◌, ◌∙◌}
-use Rattle.cap_spec.proofs.Prelude.{◌≡◌, segment_of, pads_of, far_segment, kind, pad, two}
+use Rattle.cap_spec.proofs.ProofNames.{List, [], ap, arith, inl, inr, length, refl, subst, sym, ℕ, ◌+◌, ◌<◌, ◌==◌, ◌∙◌}
+use Rattle.cap_spec.proofs.ProofNames.{◌≡◌, segment_of, pads_of, far_segment, kind, pad, two}
 use Rattle.cap_ptr.specs.declared.forms.Pointer.TheVariants.{Far}
 use Rattle.cap_vet.specs.MarkSteps.{HasBits, IsMarkedIn, MarksPlaces}
 use Rattle.cap_vet.specs.Marks.{MarksAll}

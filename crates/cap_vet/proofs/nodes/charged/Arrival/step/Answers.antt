@@ -1,4 +1,4 @@
-use Rattle.cap_spec.proofs.Prelude.{arith, refl, rules, IsMessage, element, word}
+use Rattle.cap_spec.proofs.ProofNames.{arith, refl, rules, IsMessage, element, word}
 use Rattle.cap_ptr.specs.Shapes.{charge_of}
 use Rattle.cap_vet.proofs.Charging.{arrives_element, arrives_word, fault_word}
 use Rattle.cap_vet.proofs.Looks.{followed_costs, followed_shallow}

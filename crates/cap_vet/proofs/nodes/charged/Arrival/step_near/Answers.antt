@@ -1,5 +1,5 @@
 -- One step on, by a look at its pointer.
-use Rattle.cap_spec.proofs.Prelude.{None, arith, rules, IsMessage, element, word}
+use Rattle.cap_spec.proofs.ProofNames.{None, arith, rules, IsMessage, element, word}
 use Rattle.cap_vet.proofs.Charging.{arrives_element, arrives_word}
 use Rattle.cap_vet.proofs.PathLax.{adds_none}
 use Rattle.cap_vet.proofs.Somewhere.{arrival_somewhere, arrival_within, step_exists, step_inside}

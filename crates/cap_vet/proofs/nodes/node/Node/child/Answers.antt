@@ -1,4 +1,4 @@
-use Rattle.cap_spec.proofs.Prelude.{rules, IsMessage}
+use Rattle.cap_spec.proofs.ProofNames.{rules, IsMessage}
 use Rattle.cap_vet.proofs.NodeSteps.{next_node, no_part, part_stands}
 use Rattle.cap_vet.proofs.nodes.node.Node.child.Goals as goal
 

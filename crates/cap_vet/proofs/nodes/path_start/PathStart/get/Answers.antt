@@ -1,6 +1,6 @@
 -- The path goes on from the first steps.
-use Rattle.cap_spec.proofs.Prelude.{[], arith, subst, sym, ◌++◌, ◌∷◌, ∥∥₁_map}
-use Rattle.cap_vet.specs.Prelude.{HasFound, IsWay, Way}
+use Rattle.cap_spec.proofs.ProofNames.{[], arith, subst, sym, ◌++◌, ◌∷◌, ∥∥₁_map}
+use Rattle.cap_vet.specs.VetNames.{HasFound, IsWay, Way}
 use Rattle.cap_vet.proofs.PathWays.{given_after, nowhere_longer, refused_longer, step_nowhere, step_on, step_refused}
 use Rattle.cap_vet.proofs.Somewhere.{arrival_few, arrival_levels, way_arrives, way_found}
 use Rattle.cap_vet.proofs.nodes.path_start.PathStart.get.Goals.{in-Nowhere, in-Refused, in-To+in-Err, in-To+in-Ok-None}

@@ -1,7 +1,7 @@
 use Rattle.cap_spec.proofs.Paths.Arrivals.{coming_to_node}
-use Rattle.cap_spec.proofs.Prelude.{arith, drop, get_or, length, subst, suc, sym, take, take_all, ◌<◌, ◌∙◌, ◌≡◌}
-use Rattle.cap_spec.proofs.Prelude.{split_at, take_more, ReachesSpot, Spot, StepsTo}
-use Rattle.cap_vet.specs.Prelude.{Ptr, message_of, node_spot}
+use Rattle.cap_spec.proofs.ProofNames.{arith, drop, get_or, length, subst, suc, sym, take, take_all, ◌<◌, ◌∙◌, ◌≡◌}
+use Rattle.cap_spec.proofs.ProofNames.{split_at, take_more, ReachesSpot, Spot, StepsTo}
+use Rattle.cap_vet.specs.VetNames.{Ptr, message_of, node_spot}
 use Rattle.cap_vet.proofs.NodeSteps.{comes_nowhere, comes_on, no_node}
 use Rattle.cap_vet.proofs.nodes.vetted.Vetted.get.Goals as goal
 

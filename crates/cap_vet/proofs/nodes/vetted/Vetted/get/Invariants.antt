@@ -1,5 +1,5 @@
-use Rattle.cap_spec.proofs.Prelude.{take, ℕ, ◌≡◌, ReachesSpot}
-use Rattle.cap_vet.specs.Prelude.{message_of, node_message, node_spot}
+use Rattle.cap_spec.proofs.ProofNames.{take, ℕ, ◌≡◌, ReachesSpot}
+use Rattle.cap_vet.specs.VetNames.{message_of, node_message, node_spot}
 use Rattle.cap_vet.proofs.nodes.vetted.Vetted.get.Given as goal
 
 abbrev pub invariant-loop-step : goal.invariant-loop-step

@@ -1,6 +1,6 @@
 use Rattle.std.proofs.Common.{Err, ap, arith, length, ◌≤◌}
 use Rattle.cap_spec.proofs.Disjoint.Overlaps.{none_of_disjoint}
-use Rattle.cap_vet.specs.Prelude.{marks_of, NoRoom, Overlap}
+use Rattle.cap_vet.specs.VetNames.{marks_of, NoRoom, Overlap}
 use Rattle.cap_vet.proofs.ExclusiveFaults.{no_exclusive_fault, one_exclusive_fault}
 use Rattle.cap_vet.proofs.Keeping.{vetted_kept}
 use Rattle.cap_vet.proofs.nodes.vetted.Vetted.into_exclusive_in.Goals as goal

@@ -1,4 +1,4 @@
-use Rattle.cap_spec.proofs.Prelude.{rules, IsMessage}
+use Rattle.cap_spec.proofs.ProofNames.{rules, IsMessage}
 use Rattle.cap_vet.proofs.NodeSteps.{root_comes, root_inside, root_node}
 use Rattle.cap_vet.proofs.nodes.vetted.Vetted.root.Goals as goal
 

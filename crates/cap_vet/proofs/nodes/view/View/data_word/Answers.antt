@@ -1,4 +1,4 @@
-use Rattle.cap_spec.proofs.Prelude.{rules, IsMessage}
+use Rattle.cap_spec.proofs.ProofNames.{rules, IsMessage}
 use Rattle.cap_vet.proofs.Views.{few_shown}
 use Rattle.cap_vet.proofs.nodes.view.View.data_word.Goals as goal
 

@@ -1,4 +1,4 @@
-use Rattle.cap_spec.proofs.Prelude.{arith}
+use Rattle.cap_spec.proofs.ProofNames.{arith}
 use Rattle.cap_vet.proofs.Turning.{costs_on}
 use Rattle.cap_vet.proofs.walk.needed.ChargeSumTurn.after.Goals as goal
 
