@@ -3,7 +3,7 @@ use Rattle.cap_spec.specs.Tree.{none}
 use Rattle.cap_spec.proofs.Canonical.Layouts.{layout_denotes, trimmed_layout_denotes}
 use Rattle.cap_spec.proofs.Canonical.TreeMeasures.{Fits}
 use Rattle.cap_spec.proofs.ProofNames.{[], lit<, refl, ℕ, ◌∷◌, ◌≡◌, ◌≤◌, layout, offsets, trim, Denotes, Tree, more, null}
-use Rattle.cap_spec.proofs.ProofNames.{scalars, struct, structs}
+use Rattle.cap_spec.proofs.ProofNames.{scalars, struct, structs, rules}
 
 -- a struct with a zero word and a null pointer at its end,
 -- which leads to a list of three bits and to a list of two structs with a null pointer each
@@ -13,14 +13,7 @@ untrimmed = struct (5 ∷ 0 ∷ []) (more (scalars 1 (1 ∷ 0 ∷ 1 ∷ []))
     (more (struct (0 ∷ []) (more null none)) none))) (more null none)))
 
 fits-untrimmed : Fits untrimmed
-fits-untrimmed = (
-  lit< tt,
-  lit< tt,
-  (
-    (lit< tt, lit< tt, (lit< tt, (lit< tt, (lit< tt, tt)))),
-    ((lit< tt, lit< tt, lit< tt, lit< tt, (refl, refl, (tt, tt), (refl, refl, (tt, tt), tt))), (tt, tt)),
-  ),
-)
+fits-untrimmed = search rules
 
 -- some message denotes it, at a charge of 11 and a depth of 3
 denotes-untrimmed : Denotes (layout untrimmed ∷ []) 0 0 untrimmed 11 3

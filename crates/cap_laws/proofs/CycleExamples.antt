@@ -1,11 +1,11 @@
 -- A struct whose one pointer leads back to the struct: the pointer that passes a limit is the first fault.
-use Rattle.cap_spec.specs.declared.Kind.TheVariants.{Pointers, Struct, Structs}
+use Rattle.cap_spec.specs.declared.Kind.TheVariants.{Struct}
 use Rattle.cap_spec.proofs.Lemmas.{one_reached, one_found, one_object, struct_found, first_fault_kept}
 use Rattle.cap_spec.proofs.ProofNames.{List, [], ap, ap₂, arith, inl, inr, length, lit<, lit≤, refl, subst, suc, sym, zero}
 use Rattle.cap_spec.proofs.ProofNames.{ℕ, ◌++◌, ◌+◌, ◌<◌, ◌∙◌, ◌∷◌, ◌≡◌, ◌≤◌, ◌⊎◌, cases_lt, Finds, FindsKind, AreShallow}
 use Rattle.cap_spec.proofs.ProofNames.{IsFaultAt, IsFirstReason, IsRefused, is_deep, is_past, near, IsOneOf, Before, Costs, IsTour}
-use Rattle.cap_spec.proofs.ProofNames.{PathLeads, Reaches, Rises, Spot, StepsTo, word, CostOf}
-use Rattle.cap_laws.specs.LawNames.{Reason, DepthLimit, WordLimit, Step, Item, Ptr}
+use Rattle.cap_spec.proofs.ProofNames.{PathLeads, Reaches, Rises, Spot, StepsTo, word, CostOf, common_steps, rules}
+use Rattle.cap_laws.specs.LawNames.{Reason, DepthLimit, WordLimit, Step, Ptr}
 
 abbrev circle : List (List ℕ)
 circle = (0x00010000fffffffc ∷ []) ∷ []
@@ -31,23 +31,12 @@ length-around (suc n) = let e = length-around n in omega (arith, e)
 
 -- a step leads around
 goes_around : (step : Step) (spot : Spot) → StepsTo circle (word 0 0) step spot → (step ≡ Ptr 0) × (spot ≡ word 0 0)
-goes_around (Ptr i) spot (k, t, b, q, tag, ds, ps, finds, few, e) =
-    let o = one_found finds object_circle in
-    let kind : Struct ds ps ≡ Struct 0 1 = o.kind in
-    let no_words : ds ≡ 0 = cc kind in
-    let one : ps ≡ 1 = cc kind in
-    let none : i ≡ 0 = omega (arith, few, one) in
-    (ap Ptr none, rw (o.segment, o.start, no_words, none) at e)
-goes_around (Item i) spot (inl (k, t, b, q, tag, n, finds, less, ends)) =
-    let kind : Pointers n ≡ Struct 0 1 = (one_found finds object_circle).kind in absurd (cc kind)
-goes_around (Item i) spot (inr (k, t, b, q, tag, n, ds, ps, finds, less, ends)) =
-    let kind : Structs n ds ps ≡ Struct 0 1 = (one_found finds object_circle).kind in absurd (cc kind)
+goes_around step spot x3 = grind (arith, common_steps, one_found, object_circle)
 
 -- so each path goes around
 walks_around : (n : ℕ) → PathLeads circle (word 0 0) (around n) n (word 0 0)
 walks_around zero = (refl, refl)
-walks_around (suc n) =
-    (word 0 0, n, (0, 0, 0, 0x00010000fffffffc, 0, 0, 1, object_circle, lit< tt, refl), walks_around n, omega arith)
+walks_around (suc n) = search (rules, object_circle, walks_around n)
 
 walk_is_around : (path : List Step) (n : ℕ) (spot : Spot) → PathLeads circle (word 0 0) path n spot → path ≡ around n
 walk_is_around [] n spot (e, same) = ap around (sym e)
@@ -86,9 +75,7 @@ length-arounds from (suc n) = let e = length-arounds (suc from) n in omega (arit
 
 arounds-last : (from n : ℕ) → arounds from n ++ around (from + n) ∷ [] ≡ arounds from (suc n)
 arounds-last from zero = ap (λ u. around u ∷ []) (omega arith)
-arounds-last from (suc n) =
-    let e : from + suc n ≡ suc from + n = omega arith in
-    ap (λ u. around from ∷ u) (ap (λ u. arounds (suc from) n ++ around u ∷ []) e ∙ arounds-last (suc from) n)
+arounds-last from (suc n) = grind (arith, common_steps, arounds-last (suc from) n)
 
 arounds-whole : (n : ℕ) → arounds 0 n ++ around n ∷ [] ≡ arounds 0 (suc n)
 arounds-whole n =
@@ -102,15 +89,12 @@ arounds-rise from (suc (suc n)) = (before_around from (suc from) (omega arith), 
 one_of_arounds : (q : List Step) (from n : ℕ) → IsOneOf q (arounds from n) → (j : ℕ) × (q ≡ around j) × (from ≤ j) × (j < from + n)
 one_of_arounds q from zero h = absurd h
 one_of_arounds q from (suc n) (inl e) = (from, e, omega arith, omega arith)
-one_of_arounds q from (suc n) (inr h) =
-    let (j, e, least, most) = one_of_arounds q (suc from) n h in (j, e, omega (arith, least), omega (arith, most))
+one_of_arounds q from (suc n) (inr h) = grind (arith, common_steps, one_of_arounds q (suc from) n h)
 
 around_is_one : (from n k : ℕ) → k < n → IsOneOf (around (from + k)) (arounds from n)
 around_is_one from zero k less = absurd (omega (arith, less))
 around_is_one from (suc n) zero less = inl (ap around (omega arith))
-around_is_one from (suc n) (suc k) less =
-    let e : suc from + k ≡ from + suc k = omega arith in
-    inr (subst (λ u. IsOneOf (around u) (arounds (suc from) n)) e (around_is_one (suc from) n k (omega (arith, less))))
+around_is_one from (suc n) (suc k) less = search (rules, around_is_one (suc from) n k (omega (arith, less)))
 
 -- they are the tour of the longest
 tour_around : (n : ℕ) → IsTour circle (around n) (arounds 0 n ++ around n ∷ [])

@@ -1,27 +1,18 @@
 -- Small examples: the premises of the laws of framing and packing are met,
 -- and each of the ways in which reading ends comes about.
-use Rattle.std.proofs.lemmas.List.Elements.{All-cons, All-nil}
 use Rattle.cap_spec.specs.Endings.{none}
 use Rattle.cap_spec.proofs.Frames.Streams.{stream_cons, stream_none}
 use Rattle.cap_spec.proofs.Lemmas.{frame_text_frames, plain_reads}
 use Rattle.cap_spec.proofs.Packed.OneUnpacking.{cut_if_cut, unpacks_unless_cut}
 use Rattle.cap_spec.proofs.Packed.Repacking.{pack_text_reads}
-use Rattle.cap_spec.proofs.ProofNames.{List, [], arith, false, length, lit<, refl, replicate, true, ℕ, ◌<◌, ◌^◌, ◌∷◌, ◌≡◌}
+use Rattle.cap_spec.proofs.ProofNames.{List, [], arith, false, lit<, refl, replicate, true, ℕ, ◌∷◌, ◌≡◌, common_steps}
 use Rattle.cap_spec.proofs.ProofNames.{AllByRecursion, EndsIn, message, partial, too_large, too_many, Frames, IsTable}
-use Rattle.cap_spec.proofs.ProofNames.{Stream, in_contents, in_table, in_word, IsMessage, pack_text, plain_text}
+use Rattle.cap_spec.proofs.ProofNames.{Stream, in_contents, in_table, in_word, IsMessage, pack_text, plain_text, rules}
 use Rattle.cap_spec.proofs.ProofNames.{plain_words, Cut, Unpacks, unpacked, IsWord}
 
 -- the table of one segment of one word
 table-one : IsTable (0x100000000 ∷ []) (1 ∷ [])
-table-one = record {
-  some = omega arith;
-  few = omega arith;
-  fit = ((omega arith), tt);
-  padding = [];
-  padding_fits = tt;
-  width = refl;
-  numbers = refl;
-}
+table-one = grind (arith, common_steps)
 
 -- and its frame
 frame-one : Frames (0x100000000 ∷ 7 ∷ []) ((7 ∷ []) ∷ [])
@@ -34,14 +25,7 @@ stream-two = stream_cons (0x100000000 ∷ 7 ∷ []) (0x100000000 ∷ 7 ∷ []) (
 
 -- a message within the limit, with a word behind it
 ends-message : EndsIn 1 (0x100000000 ∷ 7 ∷ 9 ∷ []) false message
-ends-message = record {
-  own = 0x100000000 ∷ 7 ∷ [];
-  rest = 9 ∷ [];
-  message = (7 ∷ []) ∷ [];
-  whole = refl;
-  frames = frame-one;
-  within = omega arith;
-}
+ends-message = search (rules, frame-one)
 
 -- nothing, between words
 ends-none : EndsIn 1 [] false none
@@ -53,14 +37,7 @@ ends-too_many = record { first = 512; rest = []; whole = refl; many = omega arit
 
 -- one word past a limit of none
 ends-too_large : EndsIn 0 (0x100000000 ∷ 7 ∷ []) false too_large
-ends-too_large = record {
-  table = 0x100000000 ∷ [];
-  rest = 7 ∷ [];
-  sizes = 1 ∷ [];
-  whole = refl;
-  is_table = table-one;
-  past = omega arith;
-}
+ends-too_large = search (rules, table-one)
 
 -- inside a word, inside a table of two words, and inside the contents
 ends-in_word : EndsIn 1 [] true partial
@@ -85,12 +62,7 @@ abbrev small : List (List ℕ)
 small = (7 ∷ []) ∷ [] ∷ []
 
 message-small : IsMessage small
-message-small = record {
-  some = omega arith;
-  few = omega arith;
-  lengths = All-cons (λ words. length words < 2 ^ 32) (7 ∷ []) ([] ∷ []) (lit< tt)
-      (All-cons (λ words. length words < 2 ^ 32) [] [] (lit< tt) (All-nil (λ words. length words < 2 ^ 32)));
-}
+message-small = search rules
 
 frame-small : Frames (0x100000001 ∷ 0 ∷ 7 ∷ []) small
 frame-small = frame_text_frames small message-small

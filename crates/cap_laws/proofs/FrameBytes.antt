@@ -8,7 +8,7 @@ use Rattle.cap_spec.proofs.Packed.MakingGroups.{aligned_text}
 use Rattle.cap_spec.proofs.ProofNames.{List, [], ap, append_assoc, arith, drop, flat_map, length, length-append, refl, suc}
 use Rattle.cap_spec.proofs.ProofNames.{sym, zero, ℕ, ◌%◌, ◌*◌, ◌++◌, ◌+◌, ◌-◌, ◌/◌, ◌<◌, ◌^◌, ◌∙◌, ◌∷◌, ◌≡◌, length-map}
 use Rattle.cap_spec.proofs.ProofNames.{AllByRecursion, little_number, little_number-reads_back, Frames, halves, joined}
-use Rattle.cap_spec.proofs.ProofNames.{sizes_of, plain_text, plain_words, word_bytes, IsWord}
+use Rattle.cap_spec.proofs.ProofNames.{sizes_of, plain_text, plain_words, word_bytes, IsWord, rules}
 use Rattle.cap_laws.specs.Framing.{FramesInBytes, four_bytes}
 
 -- four bytes a number
@@ -27,13 +27,7 @@ four_back : (xs ys : List ℕ) → AllByRecursion (λ n. n < 2 ^ 32) xs → AllB
 four_back [] [] a b e = refl
 four_back [] (y ∷ ys) a b e = absurd (cc)
 four_back (x ∷ xs) [] a b e = absurd (cc)
-four_back (x ∷ xs) (y ∷ ys) a b e =
-    let p : x < 2 ^ 32 = a.0 in
-    let q : y < 2 ^ 32 = b.0 in
-    let h : x ≡ y = sym (little_number-reads_back 4 x (flat_map four_bytes xs) (omega arith))
-    ∙ (ap (little_number 4) e ∙ little_number-reads_back 4 y (flat_map four_bytes ys) (omega arith)) in
-    let t : xs ≡ ys = four_back xs ys a.1 b.1 (ap (drop 4) e) in
-    ap (λ k. k ∷ xs) h ∙ ap (λ k. y ∷ k) t
+four_back (x ∷ xs) (y ∷ ys) a b e = search (rules, little_number-reads_back, four_back xs ys a.1 b.1 (ap (drop 4) e))
 
 -- Bytes as so many numbers of four bytes.
 record NumbersIn (bytes : List ℕ) (count : ℕ) : Type 0 where

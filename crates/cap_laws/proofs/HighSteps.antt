@@ -1,7 +1,7 @@
 -- Steps of high numbers lead nowhere.
 use Rattle.cap_spec.proofs.Lemmas.{pointers_shape, struct_shape, structs_shape}
 use Rattle.cap_spec.proofs.ProofNames.{List, [], arith, inl, inr, subst, sym, ℕ, ◌<◌, ◌^◌, ◌∷◌, ◌≤◌, ⊤, PathLeads}
-use Rattle.cap_spec.proofs.ProofNames.{ReachesSpot, Spot, StepsTo, element, word}
+use Rattle.cap_spec.proofs.ProofNames.{ReachesSpot, Spot, StepsTo, element, word, rules}
 use Rattle.cap_spec.proofs.Trees.DenotedTrees.{field_below}
 use Rattle.cap_laws.specs.LawNames.{Step, Item, Ptr}
 
@@ -28,11 +28,7 @@ walk_few m a (step ∷ path) n b h g = walk_few m g.0 path g.1 b (step_few m a s
 
 -- So no step to a pointer has a higher number,
 pointer_below : (m : List (List ℕ)) (a : Spot) (i : ℕ) (b : Spot) → HasFewPointers a → StepsTo m a (Ptr i) b → i < 65535
-pointer_below m (word s w) i b h (k, t, b', q, tag, ds, ps, finds, less, ends) =
-    let x = struct_shape finds.shape in
-    let few : ps < 2 ^ 16 = rw x.pointers (field_below q 48 16) in
-    omega (arith, few, less)
-pointer_below m (element t c ds ps) i b h g = omega (arith, h, g.0)
+pointer_below m a i b h g = search (rules, struct_shape, field_below)
 
 pub no_high_pointer : (m : List (List ℕ)) (path : List Step) (level i : ℕ) (a b : Spot) → ReachesSpot m path level a → 65535 ≤ i
     → StepsTo m a (Ptr i) b → ⊥
@@ -41,12 +37,4 @@ no_high_pointer m path level i a b c high g =
 
 -- and none to an element.
 pub no_high_element : (m : List (List ℕ)) (a b : Spot) (i : ℕ) → 2 ^ 30 ≤ i → StepsTo m a (Item i) b → ⊥
-no_high_element m (word s w) b i high (inl (k, t, b', q, tag, n, finds, less, ends)) =
-    let x = pointers_shape finds.shape in
-    let few : n < 2 ^ 29 = rw x.count (field_below q 35 29) in
-    omega (arith, high, few, less)
-no_high_element m (word s w) b i high (inr (k, t, b', q, tag, n, ds, ps, finds, less, ends)) =
-    let x = structs_shape finds.shape in
-    let few : n < 2 ^ 30 = rw x.count (field_below tag 2 30) in
-    omega (arith, high, few, less)
-no_high_element m (element t c ds ps) b i high g = g
+no_high_element m a b i x5 g = search (rules, pointers_shape, field_below, structs_shape)

@@ -3,7 +3,7 @@ use Rattle.cap_spec.specs.Tree.{none}
 use Rattle.cap_spec.proofs.Lemmas.{struct_found, first_fault_kept}
 use Rattle.cap_spec.proofs.ProofNames.{List, [], arith, inl, inr, lit<, lit≤, refl, subst, sym, ℕ, ◌∷◌, ◌≡◌, ◌⊎◌, Denotes}
 use Rattle.cap_spec.proofs.ProofNames.{Finds, IsFaultAt, IsFirstReason, IsRefused, is_deep, is_past, near, IsOneOf, Before, IsTour}
-use Rattle.cap_spec.proofs.ProofNames.{Reaches, struct, IsDeepAt}
+use Rattle.cap_spec.proofs.ProofNames.{Reaches, struct, IsDeepAt, rules}
 use Rattle.cap_spec.proofs.Verdicts.OneVerdict.{paths_within_depth}
 use Rattle.cap_laws.specs.LawNames.{Reason, DepthLimit, WordLimit, Step}
 
@@ -20,20 +20,7 @@ finds_word = record {
 
 -- it has a charge of 1 and a depth of 1
 denotes_word : Denotes one_word_struct 0 0 (struct (42 ∷ []) none) 1 1
-denotes_word = (
-  0,
-  0,
-  1,
-  0x0000000100000000,
-  0,
-  1,
-  0,
-  0,
-  0,
-  record { object = struct_found one_word_struct 0 0 0 0 1 0x0000000100000000 finds_word refl; charge = refl; depth = refl },
-  refl,
-  (refl, refl, refl),
-)
+denotes_word = search (rules, struct_found, finds_word)
 
 reaches_word : Reaches one_word_struct [] 1 0 0
 reaches_word = (0x0000000100000000, 0, refl, (refl, refl), refl)

@@ -1,6 +1,6 @@
 -- Exactly one thing comes of following a word.
 use Rattle.cap_spec.proofs.Pointers.Following.{cap-not_wrong, null-not_wrong, object-not_wrong, one_lead, one_wrong}
-use Rattle.cap_spec.proofs.ProofNames.{List, ap, inl, inr, pos, ℕ, ◌≡◌, to_cap, to_null, to_object}
+use Rattle.cap_spec.proofs.ProofNames.{List, ap, inl, inr, ℕ, ◌≡◌, to_cap, to_null, to_object, rules}
 use Rattle.cap_spec.proofs.Trees.Outcomes.{fate}
 use Rattle.cap_laws.specs.FollowingLaws.{ComesOf, OneOutcome, Outcome, cap, null, object, refused}
 
@@ -15,23 +15,13 @@ same m s w (cap k i) (refused v) h h' = absurd (cap-not_wrong m s w k i h v h')
 same m s w (object k t b q) (refused v) h h' = absurd (object-not_wrong m s w k t b q h v h')
 same m s w (null k) (null l) h h' = ap null (one_lead m s w l k to_null to_null h' h).0
 same m s w (null k) (cap l i) h h' = let e = (one_lead m s w l k (to_cap i) to_null h' h).1 in cc
-same m s w (null k) (object l t b q) h h' = let e =
-    (one_lead m s w l k (to_object t (pos b) q) to_null h'.leads h).1 in cc
+same m s w (null k) (object l t b q) h h' = search (rules, one_lead, to_object, to_null)
 same m s w (cap k i) (null l) h h' = let e = (one_lead m s w l k to_null (to_cap i) h' h).1 in cc
-same m s w (cap k i) (cap l j) h h' =
-    let e = (one_lead m s w l k (to_cap j) (to_cap i) h' h).1 in
-    let f = (one_lead m s w l k (to_cap j) (to_cap i) h' h).0 in
-    cc
-same m s w (cap k i) (object l t b q) h h' = let e =
-    (one_lead m s w l k (to_object t (pos b) q) (to_cap i) h'.leads h).1 in cc
-same m s w (object k t b q) (null l) h h' = let e =
-    (one_lead m s w l k to_null (to_object t (pos b) q) h' h.leads).1 in cc
-same m s w (object k t b q) (cap l i) h h' = let e =
-    (one_lead m s w l k (to_cap i) (to_object t (pos b) q) h' h.leads).1 in cc
-same m s w (object k t b q) (object l t' b' q') h h' =
-    let e = (one_lead m s w l k (to_object t' (pos b') q') (to_object t (pos b) q) h'.leads h.leads).1 in
-    let f = (one_lead m s w l k (to_object t' (pos b') q') (to_object t (pos b) q) h'.leads h.leads).0 in
-    cc
+same m s w (cap k i) (cap l j) h h' = search (rules, one_lead, to_cap)
+same m s w (cap k i) (object l t b q) h h' = search (rules, one_lead, to_object, to_cap)
+same m s w (object k t b q) (null l) h h' = search (rules, one_lead, to_null, to_object)
+same m s w (object k t b q) (cap l i) h h' = search (rules, one_lead, to_cap, to_object)
+same m s w (object k t b q) (object l t' b' q') h h' = search (rules, one_lead, to_object)
 
 -- exactly one thing comes of each word
 pub one_outcome : OneOutcome

@@ -3,11 +3,11 @@
 use Rattle.cap_spec.specs.Tree.{none}
 use Rattle.cap_spec.proofs.Lemmas.{one_used, pointer_path_reached, one_reached, struct_found, first_fault_kept}
 use Rattle.cap_spec.proofs.Lemmas.{paths_within_depth}
-use Rattle.cap_spec.proofs.ProofNames.{List, [], ap, arith, inl, inr, lit<, lit≤, refl, subst, sym, ℕ, ◌∙◌, ◌∷◌, ◌≡◌, ◌⊎◌}
-use Rattle.cap_spec.proofs.ProofNames.{DenoteEach, Denotes, Finds, IsRefused, is_past, near, AreOnPath, Charges}
-use Rattle.cap_spec.proofs.ProofNames.{IsFaultAt, IsFaultOnPath, AreDistinct, IsOneOf, IsFirstOverlap, Occupies, Overlaps, on_earlier}
+use Rattle.cap_spec.proofs.ProofNames.{List, [], ap, arith, inl, inr, lit<, lit≤, refl, subst, sym, ℕ, ◌∷◌, ◌≡◌, ◌⊎◌}
+use Rattle.cap_spec.proofs.ProofNames.{DenoteEach, Denotes, Finds, IsRefused, is_past, near, AreOnPath, Charges, rules}
+use Rattle.cap_spec.proofs.ProofNames.{IsFaultAt, IsFaultOnPath, IsOneOf, IsFirstOverlap, Occupies, Overlaps, on_earlier}
 use Rattle.cap_spec.proofs.ProofNames.{on_root, twice, Before, Costs, IsTour, Reaches, word, Tree, cap_count, more}
-use Rattle.cap_spec.proofs.ProofNames.{pointer_count, struct, CostOf, IsDeepAt}
+use Rattle.cap_spec.proofs.ProofNames.{pointer_count, struct, CostOf, IsDeepAt, common_steps}
 use Rattle.cap_laws.specs.LawNames.{WordLimit, Step, Ptr}
 use Rattle.cap_spec.proofs.Verdicts.OnPath as listing
 
@@ -40,36 +40,10 @@ finds_second = record {
 }
 
 denotes_first : Denotes shared 0 1 (struct (7 ∷ []) none) 1 1
-denotes_first = (
-  0,
-  0,
-  3,
-  0x0000000100000004,
-  0,
-  1,
-  0,
-  0,
-  0,
-  record { object = struct_found shared 0 1 0 0 3 0x0000000100000004 finds_first refl; charge = refl; depth = refl },
-  refl,
-  (refl, refl, refl),
-)
+denotes_first = search (rules, struct_found, finds_first)
 
 denotes_second : Denotes shared 0 2 (struct (7 ∷ []) none) 1 1
-denotes_second = (
-  0,
-  0,
-  3,
-  0x0000000100000000,
-  0,
-  1,
-  0,
-  0,
-  0,
-  record { object = struct_found shared 0 2 0 0 3 0x0000000100000000 finds_second refl; charge = refl; depth = refl },
-  refl,
-  (refl, refl, refl),
-)
+denotes_second = search (rules, struct_found, finds_second)
 
 denotes_each : DenoteEach shared ((0, 1) ∷ (0, 2) ∷ []) (more (struct (7 ∷ []) none) (more (struct (7 ∷ []) none) none)) 2 1
 denotes_each = (
@@ -121,13 +95,7 @@ reaches_first = (
 )
 
 reaches_second : Reaches shared (Ptr 1 ∷ []) 2 0 2
-reaches_second = (
-  0x0002000000000000,
-  1,
-  refl,
-  (word 0 2, 0, (0, 0, 1, 0x0002000000000000, 0, 0, 2, struct_found shared 0 0 0 0 1 0x0002000000000000 finds_both refl, lit< tt, refl), (refl, refl), refl),
-  refl,
-)
+reaches_second = search (rules, struct_found, finds_both)
 
 abbrev all_paths : List (List Step)
 all_paths = [] ∷ (Ptr 0 ∷ []) ∷ (Ptr 1 ∷ []) ∷ []
@@ -203,9 +171,8 @@ overlaps_second = on_earlier (Ptr 0 ∷ []) (0, 3) (inl (lit< tt))
 -- and neither the root nor the first uses one twice, or the root word's, or an earlier one's.
 uses_of : (path : List Step) (level s w : ℕ) (places : List (ℕ × ℕ)) → Reaches shared path level s w → Occupies shared s w places
     → (level' s' w' : ℕ) (used : List (ℕ × ℕ)) → Reaches shared path level' s' w' → Occupies shared s' w' used → used ≡ places
-uses_of path level s w places r own level' s' w' used r' occupied =
-    let at = one_reached shared path level' level s' w' s w r' r in
-    one_used shared s w used places (rw (at.1, at.2) at occupied) own
+uses_of path level s w places r x7 level' s' w' used r' occupied =
+    grind (arith, common_steps, one_reached shared path level' level s' w' s w r' r, one_used)
 
 zero_not_one : ◌≡◌ {A = ℕ} 0 1 → ⊥
 zero_not_one e = omega (arith, e)
@@ -214,65 +181,25 @@ apart_words : (w v : ℕ) → (w ≡ v → ⊥) → ◌≡◌ {A = ℕ × ℕ} (
 apart_words w v n e = n (ap (λ (x : ℕ × ℕ). x.1) e)
 
 root_alone : Overlaps shared [] → ⊥
-root_alone (twice level s w used r occupied n) =
-    n (subst AreDistinct (sym (uses_of [] 1 0 0 ((0, 1) ∷ (0, 2) ∷ []) reaches_both used_both level s w used r occupied))
-    ((λ h. elim h [ inl e ↦ apart_words 1 2 (λ x. omega (arith, x)) e | inr never ↦ never ]), ((λ h. h), tt)))
-root_alone (on_root (level, s, w, used, r, occupied, place)) =
-    elim (subst (IsOneOf (0, 0)) (uses_of [] 1 0 0 ((0, 1) ∷ (0, 2) ∷ []) reaches_both used_both level s w used r occupied) place) [
-      | inl e ↦ apart_words 0 1 (λ x. omega (arith, x)) e
-      | inr (inl e) ↦ apart_words 0 2 (λ x. omega (arith, x)) e
-      | inr (inr never) ↦ never
-    ]
-root_alone (on_earlier other x before u v) = absurd before
+root_alone x1 = search (rules, uses_of, reaches_both, used_both, apart_words)
 
 -- a path before the first pointer's is the root's
 before_first : (q : List Step) → Before q (Ptr 0 ∷ []) → IsOneOf q all_paths → q ≡ []
-before_first q before (inl e) = e
-before_first q before (inr (inl e)) = absurd (late (subst (λ (u : List Step). Before u (Ptr 0 ∷ [])) e before))
-  where
-    late : Before (Ptr 0 ∷ []) (Ptr 0 ∷ []) → ⊥
-    late (inl less) = omega (arith, less)
-    late (inr (same, never)) = never
-before_first q before (inr (inr (inl e))) = absurd (late (subst (λ (u : List Step). Before u (Ptr 0 ∷ [])) e before))
-  where
-    late : Before (Ptr 1 ∷ []) (Ptr 0 ∷ []) → ⊥
-    late (inl less) = omega (arith, less)
-    late (inr (same, never)) = never
-before_first q before (inr (inr (inr never))) = absurd never
+before_first q x2 x3 = search rules
 
 -- and one before the second pointer's is the root's or the first's
 before_second : (q : List Step) → Before q (Ptr 1 ∷ []) → IsOneOf q all_paths → (q ≡ []) ⊎ (q ≡ Ptr 0 ∷ [])
-before_second q before (inl e) = inl e
-before_second q before (inr (inl e)) = inr e
-before_second q before (inr (inr (inl e))) = absurd (late (subst (λ (u : List Step). Before u (Ptr 1 ∷ [])) e before))
-  where
-    late : Before (Ptr 1 ∷ []) (Ptr 1 ∷ []) → ⊥
-    late (inl less) = omega (arith, less)
-    late (inr (same, never)) = never
-before_second q before (inr (inr (inr never))) = absurd never
+before_second q x2 x3 = search rules
 
 not_third : (x : ℕ × ℕ) → IsOneOf x ((0, 1) ∷ (0, 2) ∷ []) → IsOneOf x ((0, 3) ∷ []) → ⊥
-not_third x (inl e) (inl f) = apart_words 1 3 (λ n. omega (arith, n)) (sym e ∙ f)
-not_third x (inr (inl e)) (inl f) = apart_words 2 3 (λ n. omega (arith, n)) (sym e ∙ f)
-not_third x (inr (inr never)) (inl f) = never
-not_third x h (inr never) = never
+not_third x h x3 = search (rules, apart_words)
 
 first_alone : Overlaps shared (Ptr 0 ∷ []) → ⊥
-first_alone (twice level s w used r occupied n) =
-    n (subst AreDistinct (sym (uses_of (Ptr 0 ∷ []) 2 0 1 ((0, 3) ∷ []) reaches_first used_first level s w used r occupied))
-    ((λ h. h), tt))
+first_alone (twice level s w used r occupied n) = search (rules, uses_of, reaches_first, used_first)
 first_alone (on_root (level, s, w, used, r, occupied, place)) =
-    elim (subst (IsOneOf (0, 0)) (uses_of (Ptr 0 ∷ []) 2 0 1 ((0, 3) ∷ []) reaches_first used_first level s w used r occupied) place) [
-      | inl e ↦ apart_words 0 3 (λ x. omega (arith, x)) e
-      | inr never ↦ never
-    ]
+    search (rules, uses_of, reaches_first, used_first, apart_words)
 first_alone (on_earlier other x before (l, s, w, used, r, occupied, place) (l', s', w', used', r', occupied', place')) =
-    let root : other ≡ [] = before_first other before
-    ((pointer_path_reached shared shared_tree 4 2 denotes_shared other).1 (l, s, w, r)) in
-    let here = uses_of [] 1 0 0 ((0, 1) ∷ (0, 2) ∷ []) reaches_both used_both l s w used
-    (subst (λ (u : List Step). Reaches shared u l s w) root r) occupied in
-    let there = uses_of (Ptr 0 ∷ []) 2 0 1 ((0, 3) ∷ []) reaches_first used_first l' s' w' used' r' occupied' in
-    not_third x (subst (IsOneOf x) here place) (subst (IsOneOf x) there place')
+    search (rules, before_first, pointer_path_reached, denotes_shared, uses_of, reaches_both, used_both, reaches_first, used_first, not_third)
 
 reached_of : (p : List Step) → Overlaps shared p → (level s w : ℕ) × Reaches shared p level s w
 reached_of p (twice level s w used r occupied n) = (level, s, w, r)
@@ -300,15 +227,7 @@ on_first : AreOnPath shared (Ptr 0 ∷ []) ([] ∷ (Ptr 0 ∷ []) ∷ [])
 on_first = listing.on_word shared [] ([] ∷ []) (Ptr 0) 2 0 1 (listing.on_root shared 0x0002000000000000 refl) reaches_first
 
 charges_first : Charges shared 5 2 (Ptr 0 ∷ []) 2
-charges_first = record {
-  ways = [] ∷ (Ptr 0 ∷ []) ∷ [];
-  on_path = on_first;
-  some = lit< tt;
-  cost = 3;
-  costs = costs_two_paths;
-  shallow = λ p level s w i r. none_deep p level s w r;
-  spent = refl;
-}
+charges_first = search (rules, on_first, costs_two_paths, none_deep)
 
 -- and one of 2 words is past at the first.
 fault_on_path : IsFaultOnPath shared 2 2 (Ptr 0 ∷ []) record { segment = 0; word = 1; reason = WordLimit; pointers = 2 }

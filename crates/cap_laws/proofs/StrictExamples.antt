@@ -4,9 +4,9 @@ use Rattle.cap_spec.specs.declared.Lax.{Lax}
 use Rattle.cap_spec.specs.declared.Lax.TheVariants.{CapabilityPad, EmptySegment, NullPad}
 use Rattle.cap_spec.specs.declared.Step.{Step}
 use Rattle.cap_spec.proofs.Lemmas.{one_lead, first_by_tour, one_object}
-use Rattle.cap_spec.proofs.ProofNames.{List, [], arith, inl, inr, lit<, lit≤, pos, refl, subst, sym, ℕ, ◌∷◌, ◌≡◌, ◌⊎◌}
+use Rattle.cap_spec.proofs.ProofNames.{List, [], arith, inl, inr, lit<, lit≤, refl, subst, sym, ℕ, ◌∷◌, ◌≡◌, ◌⊎◌, rules}
 use Rattle.cap_spec.proofs.ProofNames.{Denotes, Finds, near, one_pad, to_cap, to_null, to_object, two_pads, IsOneOf}
-use Rattle.cap_spec.proofs.ProofNames.{segment_of, Before, IsTour, Reaches, IsFirstLax, IsLaxAt, IsStrict, null}
+use Rattle.cap_spec.proofs.ProofNames.{Before, IsTour, Reaches, IsFirstLax, IsLaxAt, IsStrict, null}
 use Rattle.cap_spec.proofs.Strict.Copies.{none_lax}
 
 -- a root whose one-word pad is zero
@@ -85,13 +85,4 @@ two_words-found = record {
 
 -- it has none of the forms
 two_words-not_lax : (what : Lax) → ¬ IsLaxAt two_words 0 0 what
-two_words-not_lax NullPad h =
-    let x : to_null ≡ to_object 1 (pos 0) 0 =
-    (one_lead two_words 0 0 1 2 to_null (to_object 1 (pos 0) 0) h two_words-found.leads).1 in absurd cc
-two_words-not_lax EmptySegment (k, t, b, q, f, e) =
-    let o = one_object two_words 0 0 2 1 0 0 k t b q two_words-found f in
-    let none : segment_of two_words 1 ≡ [] = subst (λ u. segment_of two_words u ≡ []) (sym o.segment) e in
-    absurd (cc none)
-two_words-not_lax CapabilityPad (i, h) =
-    let x : to_cap i ≡ to_object 1 (pos 0) 0 =
-    (one_lead two_words 0 0 1 2 (to_cap i) (to_object 1 (pos 0) 0) h two_words-found.leads).1 in absurd cc
+two_words-not_lax x1 h = search (rules, to_null, to_object, one_lead, one_object, two_words-found, to_cap)

@@ -5,15 +5,14 @@ use Rattle.cap_spec.specs.declared.Reason.TheVariants.{NoRoot, Reserved}
 use Rattle.cap_spec.specs.declared.Refusal.{Refusal}
 use Rattle.cap_spec.proofs.Lemmas.{one_word, charge_is_cost, first_cap, pointer_path_reached, one_reached, one_lead}
 use Rattle.cap_spec.proofs.Lemmas.{one_object, struct_found, paths_within_depth, first_fault_kept, refused_justified}
-use Rattle.cap_spec.proofs.ProofNames.{List, [], ap, arith, inl, inr, lit<, lit≤, pos, refl, subst, sym, ℕ, ◌<◌, ◌∙◌, ◌∷◌}
+use Rattle.cap_spec.proofs.ProofNames.{List, [], ap, arith, inl, inr, lit<, lit≤, refl, subst, sym, ℕ, ◌<◌, ◌∙◌, ◌∷◌}
 use Rattle.cap_spec.proofs.ProofNames.{◌≡◌, ◌⊎◌, AllByRecursion, AreElements, DenoteEach, Denotes, Finds, IsFaultAt}
-use Rattle.cap_spec.proofs.ProofNames.{IsFirstReason}
+use Rattle.cap_spec.proofs.ProofNames.{IsFirstReason, rules}
 use Rattle.cap_spec.proofs.ProofNames.{IsRefused, is_past, Condition, Wrong, near, rank, to_cap, to_null, to_object}
 use Rattle.cap_spec.proofs.ProofNames.{AreDistinct, IsOneOf, IsDisjoint, Occupies, Before, IsFirstCap, IsPlace, IsTour}
 use Rattle.cap_spec.proofs.ProofNames.{Reaches, word, IsTree, Tree, cap, cap_count, more, pointer_count, struct, structs}
 use Rattle.cap_spec.proofs.ProofNames.{CostOf, Justified, IsWord}
 use Rattle.cap_spec.proofs.Trees.DenotedTrees.{denoted_is_tree}
-use Rattle.cap_spec.proofs.Trees.Finding.{SameObject}
 use Rattle.cap_laws.specs.LawNames.{Reason, WordLimit, Step, Ptr}
 
 -- a struct of two pointers: to a struct of the word 7, and to capability 5
@@ -40,20 +39,7 @@ finds_seven = record {
 }
 
 denotes_seven : Denotes two_pointers 0 1 (struct (7 ∷ []) none) 1 1
-denotes_seven = (
-  0,
-  0,
-  3,
-  0x0000000100000004,
-  0,
-  1,
-  0,
-  0,
-  0,
-  record { object = struct_found two_pointers 0 1 0 0 3 0x0000000100000004 finds_seven refl; charge = refl; depth = refl },
-  refl,
-  (refl, refl, refl),
-)
+denotes_seven = search (rules, struct_found, finds_seven)
 
 denotes_five : Denotes two_pointers 0 2 (cap 5) 0 0
 denotes_five = (near 0x0000000500000003 refl (λ e. omega (arith, e)) ((refl, refl), refl) refl, refl)
@@ -100,13 +86,7 @@ is_tree_two = denoted_is_tree two_pointers words_two 0 0 two_pointers_tree 3 2 d
 
 -- the second pointer is reached at level 2
 reaches_five : Reaches two_pointers (Ptr 1 ∷ []) 2 0 2
-reaches_five = (
-  0x0002000000000000,
-  1,
-  refl,
-  (word 0 2, 0, (0, 0, 1, 0x0002000000000000, 0, 0, 2, struct_found two_pointers 0 0 0 0 1 0x0002000000000000 finds_two refl, lit< tt, refl), (refl, refl), refl),
-  refl,
-)
+reaches_five = search (rules, struct_found, finds_two)
 
 -- three pointers, one capability, and a charge that is the cost of the paths
 counts_two : (pointer_count two_pointers_tree ≡ 3) × (cap_count two_pointers_tree ≡ 1)
@@ -245,13 +225,7 @@ reaches_round : Reaches round [] 1 0 0
 reaches_round = (0x00010000fffffffc, 0, refl, (refl, refl), refl)
 
 reaches_round_again : Reaches round (Ptr 0 ∷ []) 2 0 0
-reaches_round_again = (
-  0x00010000fffffffc,
-  1,
-  refl,
-  (word 0 0, 0, (0, 0, 0, 0x00010000fffffffc, 0, 0, 1, struct_found round 0 0 0 0 0 0x00010000fffffffc finds_round refl, lit< tt, refl), (refl, refl), refl),
-  refl,
-)
+reaches_round_again = search (rules, struct_found, finds_round)
 
 -- a list of one struct of the word 9
 abbrev one_element : List (List ℕ)
@@ -302,20 +276,7 @@ finds_lone = record {
 }
 
 denotes_lone : Denotes lone 0 0 (struct (7 ∷ []) none) 1 1
-denotes_lone = (
-  0,
-  0,
-  1,
-  0x0000000100000000,
-  0,
-  1,
-  0,
-  0,
-  0,
-  record { object = struct_found lone 0 0 0 0 1 0x0000000100000000 finds_lone refl; charge = refl; depth = refl },
-  refl,
-  (refl, refl, refl),
-)
+denotes_lone = search (rules, struct_found, finds_lone)
 
 -- its one path is the empty one, to the root
 root_alone : (path : List Step) (level s w : ℕ) → Reaches lone path level s w → (path ≡ []) × (s ≡ 0) × (w ≡ 0)
@@ -329,15 +290,7 @@ root_alone path level s w r =
 
 -- and uses the place of the word
 used_alone : (used : List (ℕ × ℕ)) → Occupies lone 0 0 used → used ≡ (0, 1) ∷ []
-used_alone used (p, has, inl (k, leads, e)) =
-    absurd (cc (one_lead lone 0 0 k 0 to_null (to_object 0 (pos 1) 0x0000000100000000) leads finds_lone.leads).1)
-used_alone used (p, has, inr (inl (k, i, leads, e))) =
-    absurd (cc (one_lead lone 0 0 k 0 (to_cap i) (to_object 0 (pos 1) 0x0000000100000000) leads finds_lone.leads).1)
-used_alone used (p, has, inr (inr (k, t, b, q, f, e))) =
-    let o : SameObject k t b q 0 0 1 0x0000000100000000 =
-    one_object lone 0 0 k t b q 0 0 1 0x0000000100000000 f finds_lone in
-    let word_is : p ≡ 0x0000000100000000 = one_word lone 0 0 p 0x0000000100000000 has refl in
-    rw (word_is, o.segment, o.start, o.shape) at e
+used_alone used x2 = search (rules, one_lead, to_null, to_object, to_cap, one_object, finds_lone, one_word)
 
 used_on_path : (path : List Step) (level s w : ℕ) (used : List (ℕ × ℕ)) → Reaches lone path level s w
     → Occupies lone s w used → used ≡ (0, 1) ∷ []
