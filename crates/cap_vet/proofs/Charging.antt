@@ -2,10 +2,10 @@
 use Rattle.cap_spec.proofs.Paths.Walks.{coming_last}
 use Rattle.cap_spec.proofs.Pointers.Shapes.{structs_levels}
 use Rattle.cap_spec.proofs.ProofNames.{List, None, Option, [], arith, inl, inr, length, length-append, refl, subst, suc}
-use Rattle.cap_spec.proofs.ProofNames.{zero, ℕ, ◌++◌, ◌+◌, ◌-◌, ◌<◌, ◌∷◌, ◌≡◌, ◌≤◌, leb_tells, PathFinds, Finds}
+use Rattle.cap_spec.proofs.ProofNames.{zero, ℕ, ◌++◌, ◌+◌, ◌-◌, ◌<◌, ◌∷◌, ◌≡◌, ◌≤◌, leb_tells, PathFinds, Finds, rules}
 use Rattle.cap_spec.proofs.ProofNames.{element_levels, AreShallow, IsFirstReason, IsComposite, AreOnPath, Charges}
 use Rattle.cap_spec.proofs.ProofNames.{IsFaultOnPath, HasWord, segment_of, Costs, Reaches, ReachesSpot, Spot, StepsTo}
-use Rattle.cap_spec.proofs.ProofNames.{element, word, IsDeepAt, levels_below}
+use Rattle.cap_spec.proofs.ProofNames.{element, word, IsDeepAt, levels_below, common_steps}
 use Rattle.cap_spec.proofs.Verdicts.OnPath.{begins_itself, begins_longer, cost_last, on_element, on_nowhere, on_root}
 use Rattle.cap_spec.proofs.Verdicts.OnPath.{on_word, shallow_last}
 use Rattle.cap_vet.specs.VetNames.{Kind, Reason, Refusal, Step, Item, Ptr, Arrives, IsFound, element_of, AddsPointer}
@@ -164,12 +164,7 @@ arrives_element m words depth path a at step t b ds ps lax e h g exists inside =
     (coming_last m path step (at.level + 1) (element t b ds ps)).1 (a, at.level, h.comes, g, refl) in
     record {
       comes = c;
-      found = record {
-        object = record { segment = refl; start = refl; data_words = refl; pointers = refl; words = refl };
-        exists = exists;
-        inside = omega (arith, inside);
-        own = omega arith;
-      };
+      found = search rules;
       ways = h.ways;
       on_path = on_element m path h.ways step (at.level + 1) t b ds ps h.on_path c;
       some = h.some;
@@ -185,20 +180,7 @@ arrives_element m words depth path a at step t b ds ps lax e h g exists inside =
 -- The first fault on the beginning of a path is the first on the path.
 pub fault_longer : (m : List (List ℕ)) (words depth : ℕ) (done rest path : List Step) (r : Refusal)
     → done ++ rest ≡ path → IsFaultOnPath m words depth done r → IsFaultOnPath m words depth path r
-fault_longer m words depth done rest path r e f = record {
-  way = f.way;
-  begin = subst (λ x. (on : List Step) × (x ≡ f.way ++ on)) e (begins_longer f.way done rest f.begin);
-  before = f.before;
-  level = f.level;
-  charge = f.charge;
-  reached = f.reached;
-  on_path = f.on_path;
-  costs = f.costs;
-  within = f.within;
-  shallow = f.shallow;
-  reason = f.reason;
-  pointers = f.pointers;
-}
+fault_longer m words depth done rest path r e f = grind (arith, common_steps, begins_longer)
 
 -- What was charged where a step leads nowhere.
 pub charges_nowhere : (m : List (List ℕ)) (words depth : ℕ) (done rest path : List Step) (step : Step) (a : Spot)

@@ -3,7 +3,7 @@ use Rattle.cap_spec.proofs.Lemmas.{one_found, pointers_found, struct_found}
 use Rattle.cap_spec.proofs.Paths.Walks.{comes_beyond, walk_on}
 use Rattle.cap_spec.proofs.ProofNames.{List, [], append_assoc, arith, inl, inr, refl, subst, suc, sym, zero, ℕ, ◌++◌}
 use Rattle.cap_spec.proofs.ProofNames.{◌+◌, ◌<◌, ◌∷◌, ◌≡◌, Finds, PathLeads, Reaches, Spot, StepsTo, number_of, word, code}
-use Rattle.cap_spec.proofs.ProofNames.{data_size, kind, list_size, pointer_size}
+use Rattle.cap_spec.proofs.ProofNames.{data_size, kind, list_size, pointer_size, rules}
 use Rattle.cap_vet.specs.VetNames.{Step, Item, Ptr, AreReached, EachApart, GoOnFrom, IsUnder, row}
 use Rattle.cap_vet.proofs.Apart.{Apart-steps}
 use Rattle.cap_vet.proofs.Trails.{AreChildren}
@@ -33,9 +33,7 @@ IsUnder-row base level step t b i (suc n) zero v h = inl (
       (sym (append_assoc base (step i ∷ []) v)),
 )
 IsUnder-row base level step t b i (suc n) (suc j) v h =
-    let e : (i + 1) + j ≡ i + suc j = omega arith in
-    inr (subst (λ u. IsUnder (base ++ step u ∷ v) (row base level step t (b + 1) (i + 1) n)) e
-    (IsUnder-row base level step t (b + 1) (i + 1) n j v (omega arith)))
+    search (rules, IsUnder-row base level step t (b + 1) (i + 1) n j v (omega arith))
 
 pub GoOnFrom-row : (base : List Step) (level : ℕ) (step : ℕ → Step) (t b i n : ℕ) → GoOnFrom base (row base level step t b i n)
 GoOnFrom-row base level step t b i zero = tt

@@ -1,5 +1,5 @@
 -- How a count goes on when the first word ahead is looked at.
-use Rattle.cap_spec.proofs.ProofNames.{List, arith, max, refl, subst, ℕ, ◌++◌, ◌+◌, ◌∷◌, ◌≡◌, Denotes, Tree, cap_count}
+use Rattle.cap_spec.proofs.ProofNames.{List, arith, max, refl, ℕ, ◌++◌, ◌+◌, ◌∷◌, ◌≡◌, Denotes, Tree, cap_count, rules}
 use Rattle.cap_spec.proofs.ProofNames.{pointer_count}
 use Rattle.cap_vet.specs.Owing.{Completes, Counted, IsCount, Owe}
 use Rattle.cap_vet.specs.Trails.{Ahead}
@@ -33,16 +33,7 @@ complete_on m counted a children ahead cost low' caps count step c top p k owe =
     (b.tree, cost + parts.c1, b.depth, parts.c2, parts.d2, parts.p2, parts.k2, b.denotes, parts.second, refl, refl, refl, refl) in
     let (t, d, all) = count.completes (cost + parts.c1 + parts.c2) (max (a.level + b.depth) parts.d2)
     (pointer_count b.tree + parts.p2) (cap_count b.tree + parts.k2) whole in
-    let e : counted.charge + (cost + parts.c1 + parts.c2) ≡ counted.charge + cost + c = omega (arith, parts.charge) in (
-      t,
-      d,
-      record {
-        denotes = subst (λ u. Denotes m 0 0 t u d) e all.denotes;
-        depth = omega (arith, all.depth, parts.top, b.level);
-        pointer_total = omega (arith, all.pointer_total, parts.pointers, b.pointers);
-        cap_total = omega (arith, all.cap_total, parts.caps, b.cap_total);
-      },
-    )
+    let e : counted.charge + (cost + parts.c1 + parts.c2) ≡ counted.charge + cost + c = omega (arith, parts.charge) in search rules
 
 -- The first word ahead is looked at, and its children come before the others.
 pub count-step : (m : List (List ℕ)) (counted : Counted) (a : Ahead) (children ahead : List Ahead) (cost low' caps : ℕ)

@@ -2,7 +2,7 @@
 use Rattle.cap_spec.specs.declared.StrictRefusal.TheVariants.{Refused}
 use Rattle.cap_spec.proofs.Lemmas.{within_not_refused}
 use Rattle.cap_spec.proofs.ProofNames.{IsTrue, List, None, Option, Some, [], subst, ℕ, ◌≡◌, IsMessage, IsStrict, IsStrictFault}
-use Rattle.cap_spec.proofs.ProofNames.{length}
+use Rattle.cap_spec.proofs.ProofNames.{length, rules}
 use Rattle.cap_spec.proofs.Strict.Faults.{one_strict_fault, strict_not_fault}
 use Rattle.cap_vet.specs.Demands.{IsMet}
 use Rattle.cap_vet.specs.VetNames.{StrictRefusal, ManySegments, Pointer, IsDemandFault, Meets, words_under, Demands}
@@ -48,29 +48,16 @@ module _ (demands : Demands) (m : List (List ℕ)) (words depth limit levels : �
   -- So there is one fault,
   pub one_demand_fault : (a b : StrictRefusal) → IsStrictFault m limit levels a
       → IsDemandFault demands m words depth b → a ≡ b
-  one_demand_fault a b h k =
-      one_strict_fault m (words_under demands m words) depth a b
-      (subst (λ u. IsStrictFault m u depth a) same (subst (λ u. IsStrictFault m limit u a) deep h))
-      (fault_of demands m words depth b k)
+  one_demand_fault a b h x4 = search (rules, one_strict_fault, fault_of)
 
   -- each reason not to be strict is a fault, where a strict message is demanded,
   pub fault_demanded : (fault : StrictRefusal) → IsTrue demands.strict → IsStrictFault m limit levels fault
       → IsDemandFault demands m words depth fault
-  fault_demanded fault strict h = by_reason fault
-      (subst (λ u. IsStrictFault m u depth fault) same (subst (λ u. IsStrictFault m limit u fault) deep h))
-    where
-      by_reason : (f : StrictRefusal) → IsStrictFault m (words_under demands m words) depth f
-          → IsDemandFault demands m words depth f
-      by_reason (Refused refusal) k = k
-      by_reason ManySegments k = (strict, k)
-      by_reason (Pointer what s w pointers) k = (strict, k)
+  fault_demanded fault x2 h = search rules
 
   -- and none of a strict message.
   pub strict_meets : (fault : StrictRefusal) → IsStrict m limit levels → IsDemandFault demands m words depth fault → ⊥
-  strict_meets fault h k =
-      strict_not_fault m (words_under demands m words) depth fault
-      (subst (λ u. IsStrict m u depth) same (subst (λ u. IsStrict m limit u) deep h))
-      (fault_of demands m words depth fault k)
+  strict_meets fault h x3 = search (rules, strict_not_fault, fault_of)
 
   -- At its end a walk has met them,
   pub met_at_end : {report : Report} (seen : List (List Step)) (ahead : List Ahead) (first : Option LaxPointer)

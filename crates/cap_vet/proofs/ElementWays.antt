@@ -1,7 +1,7 @@
 -- Paths that go on at the elements of a list of structs.
 use Rattle.cap_spec.proofs.ProofNames.{List, Ok, Option, Some, [], append_assoc, arith, length, mul-le-mul_right, refl}
 use Rattle.cap_spec.proofs.ProofNames.{subst, sym, ℕ, ◌*◌, ◌++◌, ◌+◌, ◌<◌, ◌∷◌, ◌≡◌, ◌≤◌, segment_of, Spot, StepsTo}
-use Rattle.cap_spec.proofs.ProofNames.{element, word, IsDeepAt}
+use Rattle.cap_spec.proofs.ProofNames.{element, word, IsDeepAt, rules}
 use Rattle.cap_vet.specs.PathWays.{LeadsToElements}
 use Rattle.cap_vet.specs.VetNames.{Step, Item, Ptr, Arrives, words_under, element_of, FindsNear, HasNoFaultBy}
 use Rattle.cap_vet.specs.VetNames.{GivesAfter, IsWay, Demands, Arrival, Found, PathStart, View, Way, To, LaxPointer}
@@ -86,6 +86,4 @@ module _ {M : Type 0} {g : segments.Ghosts M} (m : List (List ℕ)) (start : Pat
 
 -- Each element lies among the words of all of them.
 pub element_within : (first n d p i last : ℕ) → first + n * (d + p) ≤ last → i < n → first + i * (d + p) + d + p ≤ last
-element_within first n d p i last inside lt =
-    let some : (i + 1) * (d + p) ≤ n * (d + p) = mul-le-mul_right (d + p) (omega (arith, lt)) in
-    omega (arith, some, inside)
+element_within first n d p i last x7 lt = search (rules, mul-le-mul_right)

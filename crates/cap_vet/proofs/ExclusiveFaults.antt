@@ -1,6 +1,7 @@
 -- A message has one fault for which it isn't exclusive over room, or none.
 use Rattle.cap_spec.proofs.Lemmas.{none_of_disjoint, one_overlap, one_refusal}
 use Rattle.cap_spec.proofs.ProofNames.{List, ap, ap₂, arith, inl, inr, refl, sym, ℕ, ◌∙◌, ◌≡◌, ◌≤◌, ◌⊎◌, IsDisjoint, IsFirstOverlap}
+use Rattle.cap_spec.proofs.ProofNames.{rules}
 use Rattle.cap_vet.specs.Exclusives.{IsExclusiveRefusal}
 use Rattle.cap_vet.specs.VetNames.{Demands, IsDemandFault, IsExclusiveFault, IsAccepted, Meets, marks_of, NoRoom, Overlap, Report, StrictRefusal}
 use Rattle.cap_vet.specs.declared.exclusiveness.exclusive_room.ExclusiveFault.{ExclusiveFault}
@@ -35,9 +36,7 @@ no_exclusive_fault m words report (Overlap s w n) a d l h = none_of_disjoint m d
 module _ (demands : Demands) (m : List (List ℕ)) (words depth : ℕ) where
   pub only_refused : (x : ExclusiveRefusal) (r : StrictRefusal) → IsExclusiveRefusal demands m words depth x
       → IsDemandFault demands m words depth r → x ≡ refusal.Refused r
-  only_refused (refusal.Refused q) r h k = ap refusal.Refused (one_fault_under demands m words depth q r h k)
-  only_refused (refusal.Overlap s w n) r h k = absurd (no_fault_under demands m words depth r h.0.1.1 k)
-  only_refused refusal.Memory r h k = absurd (no_fault_under demands m words depth r h.1.1 k)
+  only_refused x r h x4 = search (rules, one_fault_under, no_fault_under)
 
   -- one without an overlap has none but want of memory,
   pub only_memory : (x : ExclusiveRefusal) → IsExclusiveRefusal demands m words depth x → Meets demands m words depth

@@ -5,7 +5,7 @@ use Rattle.cap_spec.specs.declared.StrictRefusal.TheVariants.{Refused}
 use Rattle.cap_spec.proofs.Lemmas.{Before-irreflexive, strict_wider, first_by_tour}
 use Rattle.cap_spec.proofs.ProofNames.{List, None, Option, Some, [], arith, false, inl, inr, length, subst, ℕ, ◌<◌, ◌∷◌}
 use Rattle.cap_spec.proofs.ProofNames.{◌≡◌, ◌≢◌, ◌≤◌, IsWithin, HasWord, IsMessage, Before, Costs, far_segment, kind, pad}
-use Rattle.cap_spec.proofs.ProofNames.{two, IsFirstLax, IsLax, IsLaxAt, IsStrict, IsStrictFault}
+use Rattle.cap_spec.proofs.ProofNames.{two, IsFirstLax, IsLax, IsLaxAt, IsStrict, IsStrictFault, rules}
 use Rattle.cap_spec.proofs.Strict.Faults.{strict_kept}
 use Rattle.cap_spec.proofs.Strict.Looking.{cap_pad, other_pad, zero_pad}
 use Rattle.cap_vet.specs.VetNames.{Lax, Step, StrictRefusal, ManySegments, Pointer, depth_of, words_of, IsNotLax}
@@ -86,11 +86,7 @@ strict_held m report vetted h =
 pub strict_at_end : {m : List (List ℕ)} {words depth : ℕ} {report : Report} (seen : List (List Step))
     (ahead : List Ahead)
     → HasWalked m words depth [] report seen ahead → KnowsLax m seen None → length m ≤ 511 → IsStrict m words depth
-strict_at_end {m} {words} {depth} {report} seen ahead w k few = record {
-  accepted = within_of m words depth report (accepted_at_end seen ahead w);
-  few_segments = few;
-  none = none_at_end m words depth report seen ahead w k;
-}
+strict_at_end {m} {words} {depth} {report} seen ahead w k few = search (rules, within_of, accepted_at_end, none_at_end)
 
 -- What is strict within limits is so within the greatest.
 pub strict_within : (m : List (List ℕ)) (limits : Limits) → IsStrict m (words_of limits) (depth_of limits)

@@ -1,11 +1,10 @@
 -- What is said of one pointer word that was followed within limits.
 use Rattle.cap_spec.specs.declared.Reason.TheVariants.{DepthLimit, WordLimit}
-use Rattle.cap_spec.proofs.ProofNames.{List, Option, ap, arith, false, inl, inr, refl, true, ℕ, ◌+◌, ◌-◌, ◌<◌, ◌==◌, ◌≡◌}
-use Rattle.cap_spec.proofs.ProofNames.{◌≤◌, ◌⊎◌, eqb_tells, element_levels, IsFirstReason, is_deep, is_past, IsComposite}
-use Rattle.cap_spec.proofs.ProofNames.{HasWord, Costs, code, IsDeepAt, levels_below}
+use Rattle.cap_spec.proofs.ProofNames.{List, Option, arith, inl, inr, refl, ℕ, ◌+◌, ◌-◌, ◌<◌, ◌≡◌, rules}
+use Rattle.cap_spec.proofs.ProofNames.{◌≤◌, IsFirstReason, is_deep, is_past, IsComposite}
+use Rattle.cap_spec.proofs.ProofNames.{HasWord, Costs, IsDeepAt, levels_below}
 use Rattle.cap_ptr.specs.Shapes.{FindsTargetBy, IsFollowed, IsShape, charge_of}
 use Rattle.cap_ptr.specs.declared.shapes.Followed.{Followed}
-use Rattle.cap_ptr.specs.declared.shapes.Shape.TheVariants.{Pointers, Scalars, Struct, Structs}
 use Rattle.cap_vet.specs.Looking.{LooksObject, deepest_of}
 use Rattle.cap_vet.specs.VetNames.{Shape, Target, levels_of, RunRises, object_places, OptionIn, option_spots, PointerRun}
 use Rattle.cap_vet.proofs.Steps.{cap_no_object, null_no_object}
@@ -14,14 +13,7 @@ use Rattle.cap_ptr.specs.declared.shapes.Followed.TheVariants as followed
 
 -- the levels of a shape
 levels_shape : (q tag : ℕ) (x : Shape) → IsShape q tag x → levels_of x ≡ levels_below q tag
-levels_shape q tag (Struct d p) h = rw h.kind refl
-levels_shape q tag (Scalars c n) h = by_code (eqb_tells (code q) 7)
-  where
-    by_code : (((code q == 7) ≡ true) × (code q ≡ 7)) ⊎ (((code q == 7) ≡ false) × (code q ≡ 7 → ⊥)) → levels_of (Scalars c n) ≡ levels_below q tag
-    by_code (inl e) = absurd (omega (arith, e.1, h.code, h.scalar))
-    by_code (inr e) = rw (h.kind, e.0) refl
-levels_shape q tag (Pointers n) h = rw (h.kind, h.code) refl
-levels_shape q tag (Structs size n d p) h = rw (h.kind, h.code) (ap element_levels h.count)
+levels_shape q tag x h = search rules
 
 -- a composite list has its tag
 tagged_of : (m : List (List ℕ)) (s w q tag : ℕ) (x : Target) → FindsTargetBy m s w q tag x → IsComposite q → HasWord m x.segment x.start tag
@@ -62,14 +54,4 @@ pub looks_object : {m : List (List ℕ)} {words depth spent s w level : ℕ} (q 
     → below ≡ levels_of x.shape → level + levels_of x.shape ≤ depth → x.charge ≤ words - spent → spent ≤ words
     → option_spots run ≡ object_places q tag x.segment x.start level → OptionIn m run → RunRises level depth run
     → LooksObject m words depth spent s w level x.charge (level + below) run x.pads x.segment x.start q tag
-looks_object {m} {s} {w} q tag x run f e shallow within room places inside rises = record {
-  finds = f.finds;
-  tagged = tagged_of m s w q tag x f;
-  charge = f.object.charge;
-  within = omega arith;
-  deepest = omega (arith, e, levels_shape q tag x.shape f.object.shape);
-  shallow = omega (arith, e, shallow);
-  places = places;
-  inside = inside;
-  rises = rises;
-}
+looks_object {m} {s} {w} q tag x run f e x10 x11 x12 x13 x14 x15 = search (rules, tagged_of, levels_shape)

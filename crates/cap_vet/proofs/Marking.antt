@@ -1,7 +1,7 @@
 -- How the marks of a second walk go on, and what they tell at its end.
 use Rattle.cap_spec.proofs.Lemmas.{disjoint_of_none, one_used, Before-irreflexive, one_reached}
-use Rattle.cap_spec.proofs.ProofNames.{List, [], arith, inl, inr, length, refl, subst, sym, ℕ, ◌+◌, ◌∷◌, ◌≡◌, ◌⊎◌}
-use Rattle.cap_spec.proofs.ProofNames.{AreDistinct, IsOneOf, IsDisjoint, IsFirstOverlap, Occupies, Overlaps, Uses}
+use Rattle.cap_spec.proofs.ProofNames.{List, [], arith, inl, inr, length, refl, subst, ℕ, ◌+◌, ◌∷◌, ◌≡◌, ◌⊎◌, rules}
+use Rattle.cap_spec.proofs.ProofNames.{IsOneOf, IsDisjoint, IsFirstOverlap, Occupies, Overlaps, Uses}
 use Rattle.cap_spec.proofs.ProofNames.{on_earlier, on_root, twice, Before, Reaches}
 use Rattle.cap_vet.specs.VetNames.{Step, Conflicts, IsMarked, MarksAll, Ahead, IsTrail}
 use Rattle.cap_vet.proofs.Tours.{Falls-before, in_order, length-in_order, tour_of, up_to_head}
@@ -25,9 +25,7 @@ seen_before m seen a ahead q level s w t r b = elim (up_to_head a seen ahead q t
 uses_of : (m : List (List ℕ)) (p : List Step) (level s w : ℕ) (used : List (ℕ × ℕ)) (x : ℕ × ℕ) → Reaches m p level s w
     → Occupies m s w used → Uses m p x → IsOneOf x used
 uses_of m p level s w used x r o (level', s', w', used', r', o', i) =
-    let same = one_reached m p level level' s w s' w' r r' in
-    let o2 : Occupies m s w used' = subst (λ (v : ℕ). Occupies m v w used') (sym same.1) (subst (λ (v : ℕ). Occupies m s' v used') (sym same.2) o') in
-    subst (λ (v : List (ℕ × ℕ)). IsOneOf x v) (one_used m s w used' used o2 o) i
+    search (rules, one_reached m p level level' s w s' w' r r', one_used)
 
 -- The next pointer's places were free: it doesn't overlap, and its places are marked.
 pub marks_on : (m : List (List ℕ)) (seen : List (List Step)) (a : Ahead) (ahead : List Ahead) (T T' : ℕ → ℕ → Type 0) (used : List (ℕ × ℕ))
@@ -53,10 +51,7 @@ marks_on m seen a ahead T T' used t k o h = record {
 
     never : Overlaps m a.path → ⊥
     never (twice level s w used' r' o' n) =
-        let same = one_reached m a.path a.level level a.segment a.word s w r r' in
-        let o2 : Occupies m a.segment a.word used' = subst (λ (v : ℕ). Occupies m v a.word used') (sym same.1)
-        (subst (λ (v : ℕ). Occupies m s v used') (sym same.2) o') in
-        n (subst (λ (v : List (ℕ × ℕ)). AreDistinct v) (one_used m a.segment a.word used used' o o2) h.apart)
+        search (rules, one_reached m a.path a.level level a.segment a.word s w r r', one_used)
     never (on_root u) = h.free 0 0 (uses_of m a.path a.level a.segment a.word used (0, 0) r o u) k.root
     never (on_earlier other (s, w) b u v) =
         h.free s w (uses_of m a.path a.level a.segment a.word used (s, w) r o v) (k.used other s w (seen_before m seen a ahead other u.0 u.1 u.2 t u.4 b) u)

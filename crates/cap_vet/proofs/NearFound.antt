@@ -1,11 +1,10 @@
 -- What a look at one pointer word of a path finds.
 use Rattle.cap_spec.specs.declared.Kind.TheVariants.{Null}
 use Rattle.cap_spec.proofs.Lemmas.{one_word, near_has_none, extra_same, one_object}
-use Rattle.cap_spec.proofs.ProofNames.{List, ap, arith, inl, inr, refl, subst, ℕ, ◌+◌, ◌∙◌, ◌≡◌, ◌≢◌, ◌≤◌, Lead, Leads}
-use Rattle.cap_spec.proofs.ProofNames.{extra, near, one_pad, to_null, two_pads, HasWord, IsMessage, word, extent}
+use Rattle.cap_spec.proofs.ProofNames.{List, arith, inl, inr, refl, subst, ℕ, ◌+◌, ◌≡◌, ◌≢◌, ◌≤◌, Lead, Leads, rules}
+use Rattle.cap_spec.proofs.ProofNames.{near, to_null, HasWord, IsMessage, word}
 use Rattle.cap_ptr.specs.Rows.{FindsRow, HasPointers}
 use Rattle.cap_ptr.specs.Shapes.{FindsTarget, IsShape}
-use Rattle.cap_ptr.specs.declared.shapes.Shape.TheVariants.{Pointers, Scalars, Struct, Structs}
 use Rattle.cap_ptr.proofs.NearObjects.{pointers-no_extra, pointers-plain}
 use Rattle.cap_vet.specs.NearFinding.{IsNearWithin}
 use Rattle.cap_vet.specs.VetNames.{Row, Shape, Target, IsFound, levels_of, IsNotLax, FindsNear, Found}
@@ -15,9 +14,7 @@ use Rattle.cap_ptr.specs.declared.shapes.Followed.TheVariants as followed
 
 -- a pointer without landing pads has no form that common readers reject
 not_lax : (m : List (List ℕ)) (s w k : ℕ) (r : Lead) → k ≡ 0 → Leads m s w k r → IsNotLax m s w
-not_lax m s w k r zero (near p has not_far says e) = near_has_none m s w p has not_far
-not_lax m s w k r zero (one_pad p q has one hasq n says e) = absurd (omega (arith, zero, e))
-not_lax m s w k r zero (two_pads p f q has two hasf hasq one tag says e) = absurd (omega (arith, zero, e))
+not_lax m s w k r x6 x7 = search (rules, near_has_none)
 
 -- a null word
 pub finds_null : (m : List (List ℕ)) (left depth s w level p : ℕ) → IsMessage m → HasWord m s w p → p ≡ 0
@@ -35,41 +32,21 @@ finds_null m left depth s w level p message has e =
 -- an object that is described by its word, alone or with a tag
 pub finds_object : (m : List (List ℕ)) (left depth s w level : ℕ) (x : Target) (f : Found) → FindsTarget m s w x → x.pads ≡ 0
     → IsFound m (word s w) f → x.charge ≤ left → level + levels_of x.shape ≤ depth → FindsNear m left depth s w level f x.charge
-finds_object m left depth s w level x f finds here found within shallow = record {
-  found = found;
-  costs = followed_costs m s w (followed.Target x) finds;
-  within = within;
-  shallow = followed_shallow m level (followed.Target x) finds shallow;
-  strict = not_lax m s w x.pads _ here finds.2.finds.leads;
-}
+finds_object m left depth s w level x f x9 here x11 x12 x13 = search (rules, followed_costs, followed_shallow, not_lax)
 
 -- An object that its word alone describes has no levels below its own,
 row_levels : (q tag n : ℕ) (x : Shape) → HasPointers q n → IsShape q tag x → levels_of x ≡ 0
-row_levels q tag n (Struct d p) has shape = refl
-row_levels q tag n (Scalars c k) has shape = refl
-row_levels q tag n (Pointers k) has shape = refl
-row_levels q tag n (Structs size k d p) has shape = absurd ((pointers-plain q n has).1 shape.kind shape.code)
+row_levels q tag n x x5 x6 = search (rules, pointers-plain)
 
 -- and is charged its words,
 pub row_charged : (m : List (List ℕ)) (s w q : ℕ) (r : Row) (x : Target) → FindsRow m s w q r → FindsTarget m s w x
     → (x.charge ≡ r.words) × (levels_of x.shape ≡ 0)
-row_charged m s w q r x row (p, tag, finds) =
-    let o = one_object m s w 0 s r.start q x.pads x.segment x.start p row.finds finds.finds in
-    let pointers : HasPointers p r.pointer_count = subst (λ u. HasPointers u r.pointer_count) o.shape row.pointers in
-    let plain = pointers-plain p r.pointer_count pointers in
-    let none : extra p tag ≡ 0 =
-    extra_same p tag 0 plain.0 (λ l c. absurd (plain.1 l c)) ∙ pointers-no_extra p r.pointer_count pointers in (
-      omega (arith, finds.object.charge, none, o.pads, row.words, ap extent o.shape),
-      row_levels p tag r.pointer_count x.shape pointers finds.object.shape,
-    )
+row_charged m s w q r x x7 x8 = search (rules, one_object, pointers-plain, extra_same, pointers-no_extra, row_levels)
 
 -- so the target of such a word within the limits is within them.
 pub near_fits : (m : List (List ℕ)) (left depth s w level p : ℕ) (x : Target) → HasWord m s w p → p ≢ 0 → FindsTarget m s w x
     → IsNearWithin m left depth s w level → (level + levels_of x.shape ≤ depth) × (x.charge ≤ left)
-near_fits m left depth s w level p x has some finds (inl null) = absurd (some (one_word m s w p 0 has null))
-near_fits m left depth s w level p x has some finds (inr (q, r, hasq, row, within, shallow)) =
-    let e = row_charged m s w q r x row finds in
-    (omega (arith, e.1, shallow), omega (arith, e.0, within))
+near_fits m left depth s w level p x x9 x10 x11 x12 = search (rules, one_word, row_charged)
 
 -- A word that isn't null and describes no object alone isn't such a word.
 pub not_near : (m : List (List ℕ)) (left depth s w level p : ℕ) → HasWord m s w p → p ≢ 0 → ((r : Row) → ¬ FindsRow m s w p r)

@@ -1,9 +1,9 @@
 -- What an object brings to a walk: its children, its cost, and how deep it goes.
-use Rattle.cap_spec.proofs.Lemmas.{one_word, extent_pointers, extent_struct, extent_structs, extra_same, lead_kind}
+use Rattle.cap_spec.proofs.Lemmas.{extent_pointers, extent_struct, extent_structs, extra_same, lead_kind}
 use Rattle.cap_spec.proofs.Lemmas.{one_found, scalars_found}
 use Rattle.cap_spec.proofs.ProofNames.{List, [], ap, arith, false, inl, inr, length, length-append, map, max, pos, refl}
 use Rattle.cap_spec.proofs.ProofNames.{subst, suc, true, zero, ℕ, ◌*◌, ◌++◌, ◌+◌, ◌<◌, ◌==◌, ◌∷◌, ◌≡◌, ◌≤◌, ◌⊎◌, eqb_tells}
-use Rattle.cap_spec.proofs.ProofNames.{Finds, element_levels, IsComposite, TagFits, extra, HasWord, PathLeads, Reaches}
+use Rattle.cap_spec.proofs.ProofNames.{Finds, element_levels, IsComposite, extra, HasWord, PathLeads, Reaches, rules}
 use Rattle.cap_spec.proofs.ProofNames.{Spot, StepsTo, word, code, data_size, extent, kind, list_size, middle, pointer_size}
 use Rattle.cap_spec.proofs.ProofNames.{levels_below}
 use Rattle.cap_vet.specs.Owing.{AreInLevels}
@@ -138,23 +138,11 @@ structs-brings m a k t b q tag low r f e c has =
     (data_size tag) (pointer_size tag) 0 (middle tag) = rw (e, c) refl in
     let pl : object_places q tag t b a.level ≡ element_places (a.level + (element_levels 1 + 1)) t (b + 1)
     (data_size tag) (pointer_size tag) (middle tag) = rw (e, c) refl in
-    let fits : (tag' : ℕ) × HasWord m t b tag' × TagFits tag' (list_size q) = f.inside.composite (e, c) in
-    let one : fits.0 ≡ tag = one_word m t b fits.0 tag fits.1 has in
-    let room : middle tag * (data_size tag + pointer_size tag) ≤ list_size q = subst
-    (λ u. middle u * (data_size u + pointer_size u) ≤ list_size q) one fits.2.1 in record {
+    record {
       children = rw ch (structs_children m a.path a.level a.segment a.word k t b q tag r f e c has);
-      counts = rw ch (counts-at m a (element_rows a.path (a.level + (element_levels 1 + 1)) t (b + 1) (data_size tag)
-          (pointer_size tag) 0 (middle tag)) (k + extent q + extra q tag) (k + extent q + extra q tag) low
-          (max low (a.level + element_levels (middle tag))) (max low (a.level + levels_below q tag)) 0 refl
-          (omega (arith, l)) (structs-counts m a k t b q tag low f e c has));
+      counts = search (rules, counts-at, structs-counts);
       places = rw (ch, pl) (places-elements a.path (a.level + (element_levels 1 + 1)) t (b + 1) (data_size tag) (pointer_size tag) 0 (middle tag));
-      few = rw ch (omega (
-        arith,
-        length-elements a.path (a.level + (element_levels 1 + 1)) t (b + 1) (data_size tag)
-            (pointer_size tag) 0 (middle tag),
-        extent_structs q e c,
-        room,
-      ));
+      few = search (rules, length-elements, extent_structs);
       near = rw (ch, l) (near-structs a.path low a.level t (b + 1) (data_size tag) (pointer_size tag) (middle tag));
     }
 
@@ -193,15 +181,4 @@ object-brings m a k t b q tag low r f tagged = elim (cases_of m a.segment a.word
 -- the children stand at the object's pointer words
 pub object_places-children : (base : List Step) (q tag t b level : ℕ)
     → map pointer_word_of (object_children base q tag t b level) ≡ object_places q tag t b level
-object_places-children base q tag t b level = by_kind (eqb_tells (kind q) 0) (eqb_tells (code q) 6) (eqb_tells (code q) 7)
-  where
-    by_kind : (((kind q == 0) ≡ true) × (kind q ≡ 0)) ⊎ (((kind q == 0) ≡ false) × (kind q ≡ 0 → ⊥))
-        → (((code q == 6) ≡ true) × (code q ≡ 6)) ⊎ (((code q == 6) ≡ false) × (code q ≡ 6 → ⊥))
-        → (((code q == 7) ≡ true) × (code q ≡ 7)) ⊎ (((code q == 7) ≡ false) × (code q ≡ 7 → ⊥))
-        → map pointer_word_of (object_children base q tag t b level) ≡ object_places q tag t b level
-    by_kind (inl h) i j = rw h.0 (places-row base (level + 1) Ptr t (b + data_size q) 0 (pointer_size q))
-    by_kind (inr h) (inl i) j = rw (h.0, i.0) (places-row base (level + 1) Item t b 0 (list_size q))
-    by_kind (inr h) (inr i) (inl j) = rw (h.0, i.0, j.0)
-        (places-elements base (level + (element_levels 1 + 1)) t (b + 1) (data_size tag) (pointer_size tag) 0
-        (middle tag))
-    by_kind (inr h) (inr i) (inr j) = rw (h.0, i.0, j.0) refl
+object_places-children base q tag t b level = search (rules, places-row, places-elements)

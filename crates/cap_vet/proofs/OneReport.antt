@@ -1,7 +1,6 @@
 -- An accepted message has one report, and no reason to be refused.
 use Rattle.cap_spec.proofs.Lemmas.{one_first_cap, one_tree, within_not_refused}
-use Rattle.cap_spec.proofs.ProofNames.{List, None, Option, Some, ap, ap₂, refl, sym, ℕ, ◌∙◌, ◌≡◌, IsRefused, cap_count}
-use Rattle.cap_spec.proofs.ProofNames.{pointer_count}
+use Rattle.cap_spec.proofs.ProofNames.{List, None, Option, Some, ap₂, refl, ℕ, ◌≡◌, IsRefused, rules}
 use Rattle.cap_vet.specs.VetNames.{Refusal, IsAccepted, IsFirstCapOf, Report}
 
 -- there is one first capability, or none
@@ -12,18 +11,11 @@ one_cap m (Some (s, w)) None h k = absurd (k h.path h.first.holds)
 one_cap m (Some (s, w)) (Some (t, x)) h k = (let same = one_first_cap m s w t x h k in ap₂ (λ (a b : ℕ). Some (a, b)) same.0 same.1)
 
 same_report : (a b : Report) → a.charge ≡ b.charge → a.depth ≡ b.depth → a.pointers ≡ b.pointers → a.caps ≡ b.caps → a.first_cap ≡ b.first_cap → a ≡ b
-same_report a b e1 e2 e3 e4 e5 =
-    let make : ℕ → ℕ → ℕ → ℕ → Option (ℕ × ℕ) → Report = λ c d p n f. record { charge = c; depth = d; pointers = p; caps = n; first_cap = f } in
-    ap (λ c. make c a.depth a.pointers a.caps a.first_cap) e1 ∙ (ap (λ d. make b.charge d a.pointers a.caps a.first_cap) e2
-    ∙ (ap (λ p. make b.charge b.depth p a.caps a.first_cap) e3 ∙ (ap (λ n. make b.charge b.depth b.pointers n a.first_cap) e4
-    ∙ ap (λ f. make b.charge b.depth b.pointers b.caps f) e5)))
+same_report a b e1 e2 e3 e4 e5 = search rules
 
 -- An accepted message has one report.
 pub one_report : (m : List (List ℕ)) (words depth : ℕ) (a b : Report) → IsAccepted m words depth a → IsAccepted m words depth b → a ≡ b
-one_report m words depth a b (t, h) (u, k) =
-    let same = one_tree m 0 0 t u a.charge a.depth b.charge b.depth h.within.denotes k.within.denotes in
-    same_report a b same.charge same.depth (h.pointers ∙ (ap pointer_count same.part ∙ sym k.pointers))
-    (h.caps ∙ (ap cap_count same.part ∙ sym k.caps)) (one_cap m a.first_cap b.first_cap h.first_cap k.first_cap)
+one_report m words depth a b x6 x7 = search (rules, one_tree, same_report, one_cap)
 
 -- A message isn't both accepted and refused.
 pub not_both : (m : List (List ℕ)) (words depth : ℕ) (a : Report) (r : Refusal) → IsAccepted m words depth a → IsRefused m words depth r → ⊥

@@ -1,8 +1,8 @@
 -- What is ahead of a walk follows from the paths that it has looked at.
 use Rattle.cap_spec.proofs.Lemmas.{HasWord-at, Before-trans, one_reached}
-use Rattle.cap_spec.proofs.ProofNames.{List, [], ap, append-nil, append_assoc, ap₂, arith, inl, inr, length, refl, subst}
+use Rattle.cap_spec.proofs.ProofNames.{List, [], append-nil, append_assoc, ap₂, arith, inl, inr, length, refl, subst}
 use Rattle.cap_spec.proofs.ProofNames.{sym, ℕ, ◌++◌, ◌<◌, ◌∙◌, ◌∷◌, ◌≡◌, Finds, IsComposite, near, IsOneOf, HasWord}
-use Rattle.cap_spec.proofs.ProofNames.{segment_of, Before, Reaches}
+use Rattle.cap_spec.proofs.ProofNames.{segment_of, Before, Reaches, rules}
 use Rattle.cap_vet.specs.VetNames.{Step, object_children, Ahead, Apart, AreReached, EachApart, Falls, IsTrail, IsUnder}
 use Rattle.cap_vet.specs.Trails.{Precedes}
 use Rattle.cap_vet.proofs.Apart.{apart-before, longer-differs, not_before-apart, not_before-self}
@@ -55,9 +55,7 @@ self_under a xs = inl ([], sym (append-nil a.path))
 one_path : (a b : Ahead) (xs ys : List Ahead) → EachApart (a ∷ xs) → EachApart (b ∷ ys) → IsUnder a.path (b ∷ ys)
     → IsUnder b.path (a ∷ xs) → a.path ≡ b.path
 one_path a b xs ys p q (inl (r, e)) (inl ([], f)) = sym (f ∙ append-nil a.path)
-one_path a b xs ys p q (inl (r, e)) (inl (x ∷ v, f)) =
-    let longer : a.path ++ x ∷ (v ++ r) ≡ a.path = sym (append_assoc a.path (x ∷ v) r) ∙ ap (λ (u : List Step). u ++ r) (sym f) ∙ sym e in
-    absurd (longer-differs a.path x (v ++ r) longer)
+one_path a b xs ys p q (inl (r, e)) (inl (x ∷ v, f)) = search (rules, append_assoc, longer-differs)
 one_path a b xs ys p q (inl (r, e)) (inr k) =
     let first : Apart (b.path ++ r) b.path = subst (λ (u : List Step). Apart u b.path) e (Apart-under a b.path xs p k) in
     absurd (not_before-self b.path r (apart-before (b.path ++ r) b.path first))
@@ -99,23 +97,14 @@ one_list m (a ∷ xs) (b ∷ ys) p q r k f g =
 -- So after the same paths the same words are ahead.
 pub one_trail : (m : List (List ℕ)) (seen : List (List Step)) (xs ys : List Ahead) → IsTrail m seen xs → IsTrail m seen ys
     → xs ≡ ys
-one_trail m seen xs ys t k =
-    one_list m xs ys t.apart k.apart t.ahead_reached k.ahead_reached (trail_covers m seen xs ys t k)
-    (trail_covers m seen ys xs k t)
+one_trail m seen xs ys t k = search (rules, one_list, trail_covers)
 
 -- At first the root word is ahead.
 pub root_trail : (m : List (List ℕ)) → 0 < length (segment_of m 0)
     → IsTrail m [] (record { path = []; segment = 0; word = 0; level = 1 } ∷ [])
 root_trail m some =
     let x = HasWord-at m 0 0 some in
-    let r : Reaches m [] 1 0 0 = (x.0, 0, x.1, (refl, refl), refl) in record {
-      falls = tt;
-      precedes = tt;
-      apart = tt;
-      seen_reached = λ q h. absurd h;
-      ahead_reached = (r, tt);
-      complete = λ q level s w h. inr (inl (q, refl));
-    }
+    search rules
 
 -- After a word that finds an object its pointer words are.
 pub object_trail : (m : List (List ℕ)) (seen : List (List Step)) (a : Ahead) (ahead : List Ahead) (k t b q tag : ℕ)

@@ -1,9 +1,9 @@
 -- Null words in a row, which a walk goes past.
-use Rattle.cap_spec.proofs.ProofNames.{List, Some, [], ap, append-nil, arith, length, length-append, map, refl, reverse}
+use Rattle.cap_spec.proofs.ProofNames.{List, Some, [], ap, append-nil, arith, length, length-append, refl, reverse}
 use Rattle.cap_spec.proofs.ProofNames.{subst, suc, zero, ℕ, ◌++◌, ◌+◌, ◌-◌, ◌<◌, ◌∷◌, ◌≡◌, ◌≤◌, length-map, reverse-append}
-use Rattle.cap_spec.proofs.ProofNames.{AllByRecursion, near, HasWord}
-use Rattle.cap_vet.specs.VetNames.{Step, IsLooked, Passes, IsRest, RunIn, all_spots, element_places, pointer_word_of}
-use Rattle.cap_vet.specs.VetNames.{row_places, spots, Ahead, added, HasWalked, work_left, Report, PointerRun}
+use Rattle.cap_spec.proofs.ProofNames.{AllByRecursion, near, HasWord, rules}
+use Rattle.cap_vet.specs.VetNames.{Step, IsLooked, Passes, IsRest, RunIn}
+use Rattle.cap_vet.specs.VetNames.{row_places, Ahead, added, HasWalked, work_left, Report, PointerRun}
 use Rattle.cap_vet.specs.declared.walk.looking.Looked.TheVariants.{Null}
 use Rattle.cap_vet.proofs.Runs.{rest_of_row}
 use Rattle.cap_vet.proofs.Stacks.{next_seen, walks_on, work_smaller}
@@ -55,13 +55,4 @@ row_length level t b (suc n) = ap suc (row_length level t (b + 1) n)
 pub topmost_few : (m : List (List ℕ)) (words depth : ℕ) (runs : List PointerRun) (f : PointerRun) (r : Report) (seen : List (List Step)) (ahead : List Ahead)
     → HasWalked m words depth (runs ++ f ∷ []) r seen ahead
     → r.pointers + f.left ≤ r.charge + 1
-topmost_few m words depth runs f r seen ahead w =
-    let places : map pointer_word_of ahead ≡ spots f ++ all_spots (reverse runs) = rw (reverse-append runs (f ∷ [])) at w.places in
-    let row = row_places f.level f.segment f.at f.left in
-    let others = element_places f.level f.segment (f.at + f.left) f.data_words f.pointers f.more in
-    let a : length (spots f ++ all_spots (reverse runs)) ≡ length (row ++ others) + length (all_spots (reverse runs)) =
-    length-append (row ++ others) (all_spots (reverse runs)) in
-    let b : length (row ++ others) ≡ length row + length others = length-append row others in
-    let n : length (map pointer_word_of ahead) ≡ length ahead = length-map ahead pointer_word_of in
-    let e : length (map pointer_word_of ahead) ≡ length (spots f ++ all_spots (reverse runs)) = ap length places in
-    omega (arith, w.progress.bound, a, b, n, e, row_length f.level f.segment f.at f.left)
+topmost_few m words depth runs f r seen ahead w = search (rules, reverse-append, length-append, length-map, row_length)

@@ -1,10 +1,10 @@
 -- What the end of a path says of the pointers on it.
-use Rattle.cap_spec.specs.declared.StrictRefusal.TheVariants.{Refused}
 use Rattle.cap_spec.proofs.ProofNames.{Bool, List, None, Option, Some, arith, false, length, refl, subst, sym, true, ℕ}
 use Rattle.cap_spec.proofs.ProofNames.{◌++◌, ◌-◌, ◌∷◌, ◌≡◌, ◌≤◌, PathFinds, AreOnPath, Charges, IsStartOf, Spot, IsLax}
+use Rattle.cap_spec.proofs.ProofNames.{rules}
 use Rattle.cap_spec.proofs.Verdicts.OnPath.{on_nowhere}
 use Rattle.cap_vet.specs.Charging.{EndsAt}
-use Rattle.cap_vet.specs.VetNames.{Kind, Lax, Step, StrictRefusal, ManySegments, Pointer, Arrives, EndsEarly}
+use Rattle.cap_vet.specs.VetNames.{Kind, Lax, Step, StrictRefusal, Arrives, EndsEarly}
 use Rattle.cap_vet.specs.VetNames.{words_under, IsFirstLaxOnPath, IsPathFault, MeetsOnPath, HasNoFaultBy, IsFaultBy}
 use Rattle.cap_vet.specs.VetNames.{KnowsLaxOnPath, Demands, Arrival, LaxPointer}
 use Rattle.cap_vet.proofs.Charging.{arrives_nowhere, charges_nowhere}
@@ -82,24 +82,12 @@ meets_at demands m words depth path at found e none =
 first_fields : (m : List (List ℕ)) (path : List Step) (ways : List (List Step)) (x : LaxPointer) (what : Lax) (s w n : ℕ)
     → KnowsLaxOnPath m path ways (Some x) → what ≡ x.what → s ≡ x.segment → w ≡ x.word → n ≡ x.pointers
     → IsFirstLaxOnPath m path s w what n
-first_fields m path ways x what s w n k e f g h =
-    subst (λ y. IsFirstLaxOnPath m path s w what y) (sym h)
-    (subst (λ y. IsFirstLaxOnPath m path s y what x.pointers) (sym g)
-    (subst (λ y. IsFirstLaxOnPath m path y x.word what x.pointers) (sym f)
-    (subst (λ (y : Lax). IsFirstLaxOnPath m path x.segment x.word y x.pointers) (sym e) k)))
+first_fields m path ways x what s w n x9 e f g h = search rules
 
 fault_by : (demands : Demands) (m : List (List ℕ)) (words depth : ℕ) (path : List Step) (at : Arrival) (o : Option LaxPointer)
     → length m ≤ 512 → at.lax ≡ o → Known m (words_under demands m words) depth path at → (fault : StrictRefusal)
     → IsFaultBy demands (length m) o fault → IsPathFault demands m words depth path fault
-fault_by demands m words depth path at o few e h (Refused r) f = absurd f
-fault_by demands m words depth path at o few e h ManySegments f = (f.0, (h.left, h.charges), omega (arith, f.1, few))
-fault_by demands m words depth path at None few e h (Pointer what s w n) f = absurd f
-fault_by demands m words depth path at (Some x) few e h (Pointer what s w n) (strict, count, form, segment, word, pointers) = (
-  strict,
-  (h.left, h.charges),
-  count,
-  first_fields m path h.ways x what s w n (subst (λ o. KnowsLaxOnPath m path h.ways o) e h.lax) form segment word pointers,
-)
+fault_by demands m words depth path at o x8 e h fault f = search (rules, first_fields)
 
 pub fault_at : (demands : Demands) (m : List (List ℕ)) (words depth : ℕ) (path : List Step) (at : Arrival) (found : Bool)
     (fault : StrictRefusal) → length m ≤ 512 → EndsAt m (words_under demands m words) depth path at found

@@ -3,6 +3,7 @@ use Rattle.cap_spec.specs.declared.StrictRefusal.TheVariants.{Refused}
 use Rattle.cap_spec.proofs.Lemmas.{one_reached, one_of_last}
 use Rattle.cap_spec.proofs.ProofNames.{List, [], ap, arith, inl, inr, length, length-append, refl, subst, sym, ℕ, ◌++◌}
 use Rattle.cap_spec.proofs.ProofNames.{◌∙◌, ◌∷◌, ◌≡◌, ◌⊎◌, AreOnPath, IsRefusedOnPath, IsOneOf, Reaches, IsLax, IsLaxAt}
+use Rattle.cap_spec.proofs.ProofNames.{rules}
 use Rattle.cap_spec.proofs.Strict.Faults.{same_pointer}
 use Rattle.cap_spec.proofs.Strict.LaxForms.{one_lax}
 use Rattle.cap_spec.proofs.Verdicts.OnPath.{one_path_list, one_path_refusal, path_not_refused}
@@ -36,14 +37,7 @@ begins_order : (p q rest s : List Step) → p ++ rest ≡ q ++ s → (p ≡ q) �
 begins_order [] [] rest s e = inl refl
 begins_order [] (y ∷ q) rest s e = inr (inl (y, q, refl))
 begins_order (x ∷ p) [] rest s e = inr (inr (x, p, refl))
-begins_order (x ∷ p) (y ∷ q) rest s e = go (begins_order p q rest s cc) cc
-  where
-    go : (p ≡ q) ⊎ ((z : Step) × (more : List Step) × (q ≡ p ++ z ∷ more)) ⊎ ((z : Step) × (more : List Step) × (p ≡ q ++ z ∷ more))
-        → x ≡ y → (x ∷ p ≡ y ∷ q) ⊎ ((z : Step) × (more : List Step) × (y ∷ q ≡ (x ∷ p) ++ z ∷ more))
-        ⊎ ((z : Step) × (more : List Step) × (x ∷ p ≡ (y ∷ q) ++ z ∷ more))
-    go (inl f) g = inl cc
-    go (inr (inl (z, more, f))) g = let h : y ∷ q ≡ x ∷ (p ++ z ∷ more) = cc in inr (inl (z, more, h))
-    go (inr (inr (z, more, f))) g = let h : x ∷ p ≡ y ∷ (q ++ z ∷ more) = cc in inr (inr (z, more, h))
+begins_order (x ∷ p) (y ∷ q) rest s e = search (rules, begins_order p q rest s cc)
 
 -- a path that goes on from another comes after it
 shorter : (m : List (List ℕ)) (p way : List Step) (x : Step) (more : List Step) (before : List (List Step)) (level s w : ℕ)
@@ -63,12 +57,7 @@ module _ (m : List (List ℕ)) (path : List Step) (s w s' w' : ℕ) (u v : Lax) 
       let x : IsLaxAt m s w v = subst (λ y. IsLaxAt m s y v) (sym r.2) (subst (λ y. IsLaxAt m y w' v) (sym r.1) g.lax) in
       let on : AreOnPath m f.way (g.before ++ f.way ∷ []) =
       subst (λ (y : List Step). AreOnPath m y (g.before ++ y ∷ [])) (sym e) g.on_path in
-      let lists = one_path_list m f.way (f.before ++ f.way ∷ []) (g.before ++ f.way ∷ []) f.on_path on in (
-        one_lax m s w u v f.lax x,
-        r.1,
-        r.2,
-        f.number ∙ ap length lists ∙ ap (λ (y : List Step). length (g.before ++ y ∷ [])) e ∙ sym g.number,
-      )
+      search (rules, one_path_list m f.way (f.before ++ f.way ∷ []) (g.before ++ f.way ∷ []) f.on_path on, one_lax)
 
   pub one_first_on_path : (u ≡ v) × (s ≡ s') × (w ≡ w') × (n ≡ n')
   one_first_on_path = by_order (begins_order f.way g.way f.begin.0 g.begin.0 (sym f.begin.1 ∙ g.begin.1))

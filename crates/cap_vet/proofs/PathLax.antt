@@ -1,7 +1,7 @@
 -- What is known of the pointers on a path that common readers reject, step by step.
 use Rattle.cap_spec.proofs.Lemmas.{one_reached, one_of_last}
 use Rattle.cap_spec.proofs.ProofNames.{List, None, Option, Some, [], inl, inr, length, refl, subst, sym, ℕ, ◌++◌, ◌∙◌, ◌∷◌}
-use Rattle.cap_spec.proofs.ProofNames.{◌≡◌, AreOnPath, Reaches, IsLaxAt}
+use Rattle.cap_spec.proofs.ProofNames.{◌≡◌, AreOnPath, Reaches, IsLaxAt, rules}
 use Rattle.cap_spec.proofs.Verdicts.OnPath.{begins_itself, begins_longer}
 use Rattle.cap_vet.specs.VetNames.{Lax, Step, IsNotLax, IsFirstLaxOnPath, AddsPointer, KnowsLaxOnPath, LaxPointer}
 
@@ -32,9 +32,7 @@ pub lax_added : (m : List (List ℕ)) (prev more : List Step) (ways : List (List
     → Reaches m (prev ++ more) level s w → n ≡ length (ways ++ (prev ++ more) ∷ [])
     → KnowsLaxOnPath m prev ways before → AddsPointer m s w n before after
     → KnowsLaxOnPath m (prev ++ more) (ways ++ (prev ++ more) ∷ []) after
-lax_added m prev more ways level s w n (Some x) after on r e k a =
-    subst (λ (o : Option LaxPointer). KnowsLaxOnPath m (prev ++ more) (ways ++ (prev ++ more) ∷ []) o) (sym a)
-    (lax_longer m prev more x.segment x.word x.what x.pointers k)
+lax_added m prev more ways level s w n (Some x) after on r e k a = search (rules, lax_longer)
 lax_added m prev more ways level s w n None None on r e k a = λ q i (level', s', w', what, reached, lax). elim (one_of_last q (prev ++ more) ways i) [
   | inl same ↦
       let z = one_reached m (prev ++ more) level' level s' w' s w (subst (λ y. Reaches m y level' s' w') same reached) r in

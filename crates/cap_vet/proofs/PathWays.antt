@@ -2,7 +2,7 @@
 use Rattle.std.proofs.Common.{IsOk}
 use Rattle.cap_spec.proofs.ProofNames.{Err, List, None, Ok, Option, Result, Some, [], ap, append-nil, append_assoc, false}
 use Rattle.cap_spec.proofs.ProofNames.{inl, inr, length, refl, subst, sym, true, ℕ, ◌++◌, ◌∙◌, ◌∷◌, ◌≡◌, ◌≤◌, PathFinds}
-use Rattle.cap_spec.proofs.ProofNames.{IsFaultOnPath, IsRefusedOnPath, Spot, StepsTo}
+use Rattle.cap_spec.proofs.ProofNames.{IsFaultOnPath, IsRefusedOnPath, Spot, StepsTo, rules}
 use Rattle.cap_vet.specs.PathWays.{IsGiven}
 use Rattle.cap_vet.specs.VetNames.{Refusal, Step, StrictRefusal, Arrives, EndsEarly, words_under, IsPathFault}
 use Rattle.cap_vet.specs.VetNames.{MeetsOnPath, HasNoFaultBy, IsFaultBy, GivesAfter, IsWay, Demands, Arrival, Found}
@@ -16,15 +16,7 @@ use Rattle.cap_spec.specs.declared.StrictRefusal.TheVariants as fault
 -- A path goes on as far as one that begins it, if that leads to nothing or is refused.
 module _ (m : List (List ℕ)) (words depth : ℕ) (path more : List Step) where
   pub nowhere_longer : (at : Arrival) → EndsEarly m words depth path at → EndsEarly m words depth (path ++ more) at
-  nowhere_longer at e = record {
-    done = e.done;
-    step = e.step;
-    rest = e.rest ++ more;
-    spot = e.spot;
-    whole = ap (λ (ss : List Step). ss ++ more) e.whole ∙ append_assoc e.done (e.step ∷ e.rest) more;
-    arrives = e.arrives;
-    nowhere = e.nowhere;
-  }
+  nowhere_longer at e = search (rules, append_assoc)
 
   pub refused_longer : (r : Refusal) → IsRefusedOnPath m words depth path r → IsRefusedOnPath m words depth (path ++ more) r
   refused_longer r (inl h) = inl h

@@ -3,7 +3,7 @@ use Rattle.std.proofs.Math.Seq.{get_or-append_seam}
 use Rattle.cap_spec.specs.Denoting.{places}
 use Rattle.cap_spec.proofs.Disjoint.Places.{apart_places, at_place, in_places}
 use Rattle.cap_spec.proofs.ProofNames.{List, [], ap, arith, inl, inr, length, refl, slice_index, slice_index_or, subst}
-use Rattle.cap_spec.proofs.ProofNames.{suc, sum, sym, zero, ℕ, ◌++◌, ◌+◌, ◌-◌, ◌<◌, ◌^◌, ◌∙◌, ◌∷◌, ◌≡◌, ◌≤◌, cases_eq}
+use Rattle.cap_spec.proofs.ProofNames.{suc, sum, sym, zero, ℕ, ◌++◌, ◌+◌, ◌-◌, ◌<◌, ◌∙◌, ◌∷◌, ◌≡◌, ◌≤◌, cases_eq, rules}
 use Rattle.cap_spec.proofs.ProofNames.{cases_lt, get_or_append_left, sum_by-cons, sizes_of, IsOneOf, IsMessage, segment_of}
 use Rattle.cap_vet.specs.Marks.{MarksAll}
 use Rattle.cap_vet.specs.Taken.{AreStarts, IsTaken, bit_in, start_of}
@@ -34,20 +34,9 @@ pub marks_range : (m : List (List ℕ)) (old new : List ℕ) (s from len at : �
 marks_range m old new s from len at h inside e set free below above = record {
   apart = apart_places s from len;
   free = λ s' w' p q. let r = in_places s from len s' w' p in
-      let f : start_of m s' ≡ start_of m s = ap (start_of m) r.0 in
-      let z : bit_in old (start_of m s' + w') ≡ 0 = free (start_of m s' + w') (omega (arith, f, r.1, e)) (omega (arith, f, r.2, e)) in
-      omega (arith, q.2, z);
-  set = λ s' w' p. let r = in_places s from len s' w' p in
-      let f : start_of m s' ≡ start_of m s = ap (start_of m) r.0 in
-      let g : length (segment_of m s') ≡ length (segment_of m s) = ap (λ u. length (segment_of m u)) r.0 in
-      (omega (arith, r.0), omega (arith, g, r.2), set (start_of m s' + w') (omega (arith, f, r.1, e)) (omega (arith, f, r.2, e)));
-  kept = λ s' w' q. elim (cases_lt (start_of m s' + w') at) [
-    | inl x ↦ (q.0, q.1, below (start_of m s' + w') x ∙ q.2)
-    | inr x ↦ elim (cases_lt (start_of m s' + w') (at + len)) [
-      | inl y ↦ (q.0, q.1, set (start_of m s' + w') x y)
-      | inr y ↦ (q.0, q.1, above (start_of m s' + w') y ∙ q.2)
-    ]
-  ];
+      search rules;
+  set = λ s' w' p. search (rules, in_places s from len s' w' p);
+  kept = search rules;
   only = λ s' w' q. elim (cases_lt (start_of m s' + w') at) [
     | inl x ↦ inl (q.0, q.1, sym (below (start_of m s' + w') x) ∙ q.2)
     | inr x ↦ elim (cases_lt (start_of m s' + w') (at + len)) [
@@ -83,10 +72,7 @@ start_next m s h = let e : s + 1 ≡ suc s = omega arith in ap (start_of m) e �
 pub starts_more : (m : List (List ℕ)) (starts : List ℕ) (s words k : ℕ) → length starts ≡ s
     → ((k : ℕ) → k < s → slice_index_or starts k 0 ≡ start_of m k) → words ≡ start_of m s → k < s + 1
     → slice_index_or (starts ++ words ∷ []) k 0 ≡ start_of m k
-starts_more m starts s words k many h e less = elim (cases_eq k s) [
-  | inl f ↦ ap (λ u. slice_index_or (starts ++ words ∷ []) u 0) (f ∙ sym many) ∙ get_or-append_seam starts words [] 0 ∙ e ∙ sym (ap (start_of m) f)
-  | inr f ↦ get_or_append_left starts (words ∷ []) 0 k (omega (arith, f, many)) ∙ h k (omega (arith, f))
-]
+starts_more m starts s words k many h e less = search (rules, get_or-append_seam, get_or_append_left)
 
 -- the words of a message of one segment have the bits from the first on
 only_start : (m : List (List ℕ)) (s : ℕ) → s < 1 → slice_index (0 ∷ []) s ≡ start_of m s
@@ -94,11 +80,7 @@ only_start m zero h = refl
 only_start m (suc s) h = absurd (omega arith)
 
 pub one_start : (m : List (List ℕ)) → IsMessage m → length m ≡ 1 → AreStarts m (0 ∷ [])
-one_start m h one =
-    let short : length (segment_of m 0) < 2 ^ 32 = h.lengths 0 [] (omega (arith, one)) in
-    let all : start_of m (length m) ≡ start_of m (0 + 1) = ap (start_of m) one in
-    let next = start_next m 0 (omega (arith, one)) in
-    record { many = sym one; each = λ s less. only_start m s (omega (arith, one)); few = omega (arith, all, next, short, only_start m 0 (omega arith)) }
+one_start m h one = search (rules, start_next, only_start)
 
 -- all segments together have as many words as their sizes sum to
 pub all_words : (m : List (List ℕ)) → start_of m (length m) ≡ sum (sizes_of m)

@@ -1,6 +1,6 @@
 -- The pointer words of a run, word by word.
-use Rattle.cap_spec.proofs.ProofNames.{List, None, Option, Some, [], ap, arith, length, map, refl, suc, zero, ℕ, ◌*◌, ◌++◌}
-use Rattle.cap_spec.proofs.ProofNames.{◌+◌, ◌-◌, ◌<◌, ◌∙◌, ◌∷◌, ◌≡◌, ◌≤◌, map-append, segment_of}
+use Rattle.cap_spec.proofs.ProofNames.{List, None, Option, Some, [], ap, arith, map, refl, suc, zero, ℕ, ◌++◌, rules}
+use Rattle.cap_spec.proofs.ProofNames.{◌+◌, ◌-◌, ◌<◌, ◌∙◌, ◌∷◌, ◌≡◌, map-append}
 use Rattle.cap_vet.specs.VetNames.{Step, Item, Ptr, IsRest, element_places, pointer_word_of, row_places, element_rows}
 use Rattle.cap_vet.specs.VetNames.{row, PointerRun}
 
@@ -9,18 +9,7 @@ pub rest_of_row : (s b : ℕ) {n : ℕ} (more ds ps level : ℕ) → 1 < n → I
     record { segment = s; at = b; left = n; more = more; data_words = ds; pointers = ps; level = level }
     (Some record { segment = s; at = b + 1; left = n - 1; more = more; data_words = ds; pointers = ps; level = level })
 rest_of_row s b {n = zero} more ds ps level h = absurd (omega arith)
-rest_of_row s b {n = suc n} more ds ps level h =
-    let e : suc n - 1 ≡ n = omega arith in
-    let f : b + 1 + n ≡ b + suc n = omega arith in record {
-      words = rw (e, f) refl;
-      inside = λ m i. record {
-        exists = i.exists;
-        some = omega arith;
-        each = i.each;
-        inside = let g : b + suc n + more * (ds + ps) ≤ length (segment_of m s) = i.inside in omega (arith, g);
-      };
-      level = refl;
-    }
+rest_of_row s b {n = suc n} more ds ps level h = search rules
 
 -- behind the last of them, the next element's
 pub rest_of_elements : (s b : ℕ) {n more : ℕ} (ds ps level : ℕ) → n ≡ 1 → 0 < more
@@ -36,17 +25,7 @@ pub rest_of_elements : (s b : ℕ) {n more : ℕ} (ds ps level : ℕ) → n ≡ 
           level;
     })
 rest_of_elements s b {more = zero} ds ps level e h = absurd (omega arith)
-rest_of_elements s b {n} {more = suc more} ds ps level e h =
-    let f : suc more - 1 ≡ more = omega arith in record {
-      words = rw (e, f) refl;
-      inside = λ m i. record {
-        exists = i.exists;
-        some = i.each (omega arith);
-        each = λ k. i.each (omega arith);
-        inside = let g : b + n + suc more * (ds + ps) ≤ length (segment_of m s) = i.inside in rw f (omega (arith, g, e));
-      };
-      level = refl;
-    }
+rest_of_elements s b {n} {more = suc more} ds ps level e h = search rules
 
 -- behind the last of them all, nothing
 pub rest_of_last : (s b : ℕ) {n more : ℕ} (ds ps level : ℕ) → n ≡ 1 → more ≡ 0

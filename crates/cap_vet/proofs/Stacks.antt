@@ -4,9 +4,10 @@ use Rattle.cap_spec.proofs.ProofNames.{List, None, Option, Some, [], ap, arith, 
 use Rattle.cap_spec.proofs.ProofNames.{option_to_list, refl, reverse, subst, suc, sym, ℕ, ◌++◌, ◌+◌, ◌-◌, ◌<◌, ◌∙◌, ◌∷◌}
 use Rattle.cap_spec.proofs.ProofNames.{◌≡◌, ◌≤◌, length-map, map-append, reverse-append, AllByRecursion, Finds, Leads}
 use Rattle.cap_spec.proofs.ProofNames.{extra, near, to_cap, to_null, HasWord, Costs, Reaches, extent, levels_below}
+use Rattle.cap_spec.proofs.ProofNames.{rules}
 use Rattle.cap_vet.specs.VetNames.{Step, depth_of, words_of, IsLooked, RunRises, object_children, IsRest, LevelIs}
 use Rattle.cap_vet.specs.VetNames.{OptionIn, RunIn, all_spots, option_spots, pointer_word_of, spots, Ahead, added}
-use Rattle.cap_vet.specs.VetNames.{IsWalking, HasWalked, IsLookedAt, IsNext, Progress, work_left, Limits, Report}
+use Rattle.cap_vet.specs.VetNames.{IsWalking, HasWalked, IsLookedAt, IsNext, work_left, Limits, Report}
 use Rattle.cap_vet.specs.VetNames.{PointerRun}
 use Rattle.cap_vet.specs.Turning.{cost_of, run_below}
 use Rattle.cap_vet.specs.Turns.{GoesOn, GoesOnBelow, HasVisited, IsAt}
@@ -56,22 +57,7 @@ next_seen m words depth runs f r report seen aheads w rest =
     let more = reverse-more runs r in
     let next = next_ahead (f.segment, f.at, f.level) (option_spots r ++ all_spots (reverse runs)) aheads
     (places ∙ ap (λ u. u ++ all_spots (reverse runs)) rest.words) in (
-      record {
-        seen = seen;
-        a = next.a;
-        ahead = next.ahead;
-        progress = subst (λ u. Progress m words depth report.charge report.depth report.pointers report.caps report.first_cap seen u) next.whole w.progress;
-        segment = next.segment;
-        at = next.word;
-        leads_to = next.level;
-        exists = inside.0.exists;
-        within = omega (arith, inside.0.some, inside.0.inside);
-        places = rw more (next.rest ∙ sym (spots-more r (reverse runs)));
-        inside = rw more (inside-more m r (reverse runs) (rest.inside m inside.0) inside.1);
-        stacked = rw more (stacked-rest depth f.level r (reverse runs) stacked.0 stacked.1 rest.level stacked.2);
-        high = rw more (high-rest f.level r (reverse runs) stacked.0);
-        low = stacked.1;
-      },
+      search (rules, spots-more, inside-more, stacked-rest, high-rest),
       refl,
     )
 
@@ -91,13 +77,7 @@ walks_on m words depth s w level runs report (looked.Null cost) t (h, within) =
     let own : Leads m t.a.segment t.a.word cost to_null = rw (t.segment, t.at) h in
     let more = reverse-more runs None in (
       t.ahead,
-      record {
-        progress = turn_null m words depth report.charge report.depth report.pointers report.caps cost report.first_cap
-            t.seen t.a t.ahead t.progress own within;
-        places = rw more t.places;
-        inside = rw more t.inside;
-        stacked = rw more t.stacked;
-      },
+      search (rules, turn_null),
     )
 walks_on m words depth s w level runs report (looked.Cap cost) t ((i, h), within) =
     let own : Leads m t.a.segment t.a.word cost (to_cap i) = rw (t.segment, t.at) h in
@@ -118,19 +98,7 @@ walks_on m words depth s w level runs report (looked.Object cost deep below) t (
     let shallow : t.a.level + levels_below q tag ≤ depth = omega (arith, o.shallow, o.deepest, t.leads_to) in
     let done = turn_object m words depth report.charge report.depth report.pointers report.caps k u b q tag
     report.first_cap t.seen t.a t.ahead t.progress own o.tagged within shallow in
-    let e : k + extent q + extra q tag ≡ cost = sym o.charge in
-    let g : t.a.level + levels_below q tag ≡ deep = omega (arith, o.deepest, t.leads_to) in
-    let places : map pointer_word_of (children ++ t.ahead) ≡ option_spots below ++ all_spots (reverse runs) =
-    map-append pointer_word_of children t.ahead ∙ rw (object_places-children t.a.path q tag u b t.a.level, t.leads_to, o.places, t.places) refl in
-    let more = reverse-more runs below in (
-      children ++ t.ahead,
-      record {
-        progress = rw (e, g) at done;
-        places = rw more (places ∙ sym (spots-more below (reverse runs)));
-        inside = rw more (inside-more m below (reverse runs) o.inside t.inside);
-        stacked = rw more (stacked-below depth level below (reverse runs) t.high o.rises t.stacked);
-      },
-    )
+    search (rules, map-append, object_places-children, reverse-more, spots-more, inside-more, stacked-below)
 
 -- a word has no more words below it than it costs
 few_below : (m : List (List ℕ)) (words depth s w level : ℕ) (runs : List PointerRun) (report : Report) (l : Looked) → IsNext m words depth s w level runs report
@@ -141,11 +109,7 @@ few_below m words depth s w level runs report (looked.Cap cost) t (h, within) = 
 few_below m words depth s w level runs report (looked.Object cost deep below) t (k, u, b, q, tag, o) =
     let own : Finds m t.a.segment t.a.word k u b q = rw (t.segment, t.at) o.finds in
     let brings = object-brings m t.a k u b q tag report.depth t.progress.trail.ahead_reached.0 own o.tagged in
-    let e : option_spots below ≡ map pointer_word_of (object_children t.a.path q tag u b t.a.level) =
-    o.places ∙ rw (← t.leads_to) (sym (object_places-children t.a.path q tag u b t.a.level)) in
-    let n : length (option_spots below) ≡ length (object_children t.a.path q tag u b t.a.level) =
-    ap length e ∙ length-map (object_children t.a.path q tag u b t.a.level) pointer_word_of in
-    (omega (arith, n, brings.few, o.charge), o.within)
+    search (rules, object_places-children, length-map)
 
 -- so the work that is left falls
 pub work_falls : (m : List (List ℕ)) (words depth s w level : ℕ) (runs : List PointerRun) (report : Report) (l : Looked)
@@ -154,24 +118,12 @@ pub work_falls : (m : List (List ℕ)) (words depth s w level : ℕ) (runs : Lis
     (work_left words runs report)
 work_falls m words depth s w level runs report l t h =
     let few = few_below m words depth s w level runs report l t h in
-    let more = reverse-more runs (run_below l) in
-    let spot = spots-more (run_below l) (reverse runs) in
-    let n : length (all_spots (reverse (runs ++ option_to_list (run_below l)))) ≡ length (option_spots (run_below l)) + length
-    (all_spots (reverse runs)) =
-    ap (λ u. length (all_spots u)) more ∙ ap length spot ∙ length-append (option_spots (run_below l)) (all_spots (reverse runs)) in
-    omega (arith, n, few.0, few.1)
+    search (rules, reverse-more, spots-more, length-append)
 
 -- and a word that is taken from its run was some of it
 pub work_rest : (words : ℕ) (runs : List PointerRun) (f : PointerRun) (r : Option PointerRun) (report : Report) → IsRest f r
     → work_next words (runs ++ option_to_list r) report ≡ work_left words (runs ++ f ∷ []) report
-work_rest words runs f r report rest =
-    let a : length (all_spots (reverse (runs ++ f ∷ []))) ≡ length (spots f ++ all_spots (reverse runs)) =
-    ap (λ u. length (all_spots u)) (reverse-append runs (f ∷ [])) in
-    let b : length (spots f ++ all_spots (reverse runs)) ≡ suc (length (option_spots r ++ all_spots (reverse runs))) =
-    ap (λ u. length (u ++ all_spots (reverse runs))) rest.words in
-    let c : length (all_spots (reverse (runs ++ option_to_list r))) ≡ length (option_spots r ++ all_spots (reverse runs)) =
-    ap (λ u. length (all_spots u)) (reverse-more runs r) ∙ ap length (spots-more r (reverse runs)) in
-    omega (arith, a, b, c)
+work_rest words runs f r report x6 = search (rules, reverse-append, reverse-more, spots-more)
 
 pub work_smaller : (words : ℕ) (runs left : List PointerRun) (f : PointerRun) (r : Option PointerRun) (report after : Report) → IsRest f r
     → work_left words left after < work_next words (runs ++ option_to_list r) report
@@ -183,10 +135,7 @@ pub turned : (m : List (List ℕ)) (limits : Limits) (runs left more : List Poin
     (K : List (List Step) → Type 0)
     → IsRest f r → left ≡ more → GoesOn m limits left after K (work_next (words_of limits) (runs ++ option_to_list r) report)
     → GoesOn m limits more after K (work_left (words_of limits) (runs ++ f ∷ []) report)
-turned m limits runs left more f r report after K rest e h =
-    let less : work_left (words_of limits) left after < work_left (words_of limits) (runs ++ f ∷ []) report =
-    omega (arith, h.less, work_rest (words_of limits) runs f r report rest) in
-    subst (λ u. GoesOn m limits u after K (work_left (words_of limits) (runs ++ f ∷ []) report)) e (record { walking = h.walking; less = less })
+turned m limits runs left more f r report after K x11 e h = search (rules, work_rest)
 
 -- a word that was looked at has this cost,
 pub looked_costs : (m : List (List ℕ)) (words depth spent s w level : ℕ) (l : Looked) → IsLooked m words depth spent s w level l → Costs m s w (cost_of l)
@@ -196,9 +145,7 @@ looked_costs m words depth spent s w level (looked.Object cost deep below) (k, t
 
 -- which is charged
 charge_added : (report : Report) (s w : ℕ) (l : Looked) → (added report s w l).charge ≡ report.charge + cost_of l
-charge_added report s w (looked.Null cost) = refl
-charge_added report s w (looked.Cap cost) = refl
-charge_added report s w (looked.Object cost deep below) = refl
+charge_added report s w l = search rules
 
 -- So where the next word was looked at, the walk goes on.
 pub visited : {m : List (List ℕ)} {limits : Limits} {s w level : ℕ} (runs : List PointerRun) {report : Report} (l : Looked)

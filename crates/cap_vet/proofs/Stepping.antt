@@ -1,9 +1,9 @@
 -- Where steps lead from what was found at a spot.
-use Rattle.cap_spec.specs.declared.Kind.TheVariants.{Cap, Null, Pointers, Scalars, Struct, Structs}
+use Rattle.cap_spec.specs.declared.Kind.TheVariants.{Pointers, Struct, Structs}
 use Rattle.cap_spec.proofs.Lemmas.{one_found, structs_words}
 use Rattle.cap_spec.proofs.Pointers.Shapes.{pointers_words}
-use Rattle.cap_spec.proofs.ProofNames.{List, ap, arith, inl, inr, length, mul-le-mul_right, refl, subst, ℕ, ◌*◌, ◌+◌, ◌<◌}
-use Rattle.cap_spec.proofs.ProofNames.{◌∙◌, ◌≡◌, ◌≤◌, HasObject, IsElementAt, segment_of, Spot, StepsTo, element, word}
+use Rattle.cap_spec.proofs.ProofNames.{List, arith, inl, inr, length, mul-le-mul_right, refl, subst, ℕ, ◌*◌, ◌+◌, ◌<◌}
+use Rattle.cap_spec.proofs.ProofNames.{◌≡◌, ◌≤◌, HasObject, segment_of, Spot, StepsTo, element, word, rules}
 use Rattle.cap_spec.proofs.ProofNames.{list_size}
 use Rattle.cap_spec.proofs.Trees.Charges.{elements_fit}
 use Rattle.cap_vet.specs.VetNames.{Kind, Item, Ptr, IsFound, Found}
@@ -16,39 +16,13 @@ as_kind m a f x h e = subst (λ u. HasObject m a u f.place.segment f.place.start
 -- a struct's pointers
 pub pointer_goes : (m : List (List ℕ)) (a : Spot) {f : Found} (d : ℕ) {p i x : ℕ} → IsFound m a f → f.kind ≡ Struct d p → i < p → x ≡ f.place.start + d + i
     → StepsTo m a (Ptr i) (word f.place.segment x)
-pointer_goes m (word s w) {f} d {p} h e lt ex =
-    let y = as_kind m (word s w) f (Struct d p) h e in
-    (y.0, f.place.segment, f.place.start, y.1, y.2, d, p, y.3, lt, ap (word f.place.segment) ex)
-pointer_goes m (element t' b' ds ps) {f} d {p} {x} h e lt ex =
-    let y : IsElementAt t' b' ds ps d p f.place.segment f.place.start f.place.words = as_kind m (element t' b' ds ps) f (Struct d p) h e in
-    (omega (arith, lt, y.pointers), ap (λ u. word u x) y.segment ∙ ap (word t') (omega (arith, ex, y.start, y.data_words)))
+pointer_goes m (word s w) {f} d {p} h e lt ex = search (rules, as_kind)
+pointer_goes m (element t' b' ds ps) {f} d {p} {x} h e lt ex = search (rules, as_kind)
 
 -- what isn't a struct has none
 no_pointer : (m : List (List ℕ)) (a : Spot) (f : Found) (k : Kind) (i : ℕ) (b : Spot) → f.kind ≡ k → ((d p : ℕ) → f.kind ≡ Struct d p → ⊥)
     → IsFound m a f → StepsTo m a (Ptr i) b → ⊥
-no_pointer m (word s w) f Null i b e none h g =
-    let y = as_kind m (word s w) f Null h e in
-    let (k, t, c, q, tag, ds, ps, found, less, ends) = g in
-    null_no_object m s w y.0 k t c q y.1 found.finds
-no_pointer m (word s w) f (Cap x) i b e none h g =
-    let y = as_kind m (word s w) f (Cap x) h e in
-    let (k, t, c, q, tag, ds, ps, found, less, ends) = g in
-    cap_no_object m s w y.0 x k t c q y.1 found.finds
-no_pointer m (word s w) f (Struct d p) i b e none h g = none d p e
-no_pointer m (word s w) f (Scalars c x) i b e none h (k, t, a, q, tag, ds, ps, found, less, ends) =
-    let y = as_kind m (word s w) f (Scalars c x) h e in
-    let o = one_found y.3 found in
-    cc o.kind
-no_pointer m (word s w) f (Pointers x) i b e none h (k, t, a, q, tag, ds, ps, found, less, ends) =
-    let y = as_kind m (word s w) f (Pointers x) h e in
-    let o = one_found y.3 found in
-    cc o.kind
-no_pointer m (word s w) f (Structs x d p) i b e none h (k, t, a, q, tag, ds, ps, found, less, ends) =
-    let y = as_kind m (word s w) f (Structs x d p) h e in
-    let o = one_found y.3 found in
-    cc o.kind
-no_pointer m (element t' b' ds ps) f (Struct d p) i b e none h g = none d p e
-no_pointer m (element t' b' ds ps) f k i b e none h g = absurd (as_kind m (element t' b' ds ps) f k h e)
+no_pointer m x2 f x4 i x6 e x8 h g = search (rules, as_kind, null_no_object, cap_no_object, one_found)
 
 pub pointer_of_other : (m : List (List ℕ)) (a : Spot) (f : Found) (i : ℕ) (b : Spot) → ((d p : ℕ) → f.kind ≡ Struct d p → ⊥) → IsFound m a f
     → StepsTo m a (Ptr i) b → ⊥
@@ -57,50 +31,29 @@ pointer_of_other m a f i b none h g = no_pointer m a f f.kind i b refl none h g
 -- the entries of a list of pointers
 pub entry_goes : (m : List (List ℕ)) (a : Spot) {f : Found} {n i x : ℕ} → IsFound m a f → f.kind ≡ Pointers n → i < n → x ≡ f.place.start + i
     → StepsTo m a (Item i) (word f.place.segment x)
-entry_goes m (word s w) {f} {n} h e lt ex =
-    let y = as_kind m (word s w) f (Pointers n) h e in
-    inl (y.0, f.place.segment, f.place.start, y.1, y.2, n, y.3, lt, ap (word f.place.segment) ex)
+entry_goes m (word s w) {f} {n} h e lt ex = search (rules, as_kind)
 entry_goes m (element t' b' ds ps) {f} {n} h e lt ex = absurd (as_kind m (element t' b' ds ps) f (Pointers n) h e)
 
 -- which lie inside their segment
 pub entry_inside : (m : List (List ℕ)) (a : Spot) (f : Found) (n i : ℕ) → IsFound m a f → f.kind ≡ Pointers n → i < n
     → f.place.start + i + 1 ≤ length (segment_of m f.place.segment)
-entry_inside m (word s w) f n i h e lt =
-    let y = as_kind m (word s w) f (Pointers n) h e in
-    omega (arith, lt, y.4, pointers_words y.3.shape, h.inside)
-entry_inside m (element t' b' ds ps) f n i h e lt = absurd (as_kind m (element t' b' ds ps) f (Pointers n) h e)
+entry_inside m a f n i h e lt = search (rules, as_kind, pointers_words)
 
 pub entry_past : (m : List (List ℕ)) (a : Spot) (f : Found) (n i : ℕ) (b : Spot) → IsFound m a f → f.kind ≡ Pointers n → n ≤ i → StepsTo m a (Item i) b → ⊥
-entry_past m (word s w) f n i b h e past (inl (k, t, c, q, tag, size, found, less, ends)) =
-    let y = as_kind m (word s w) f (Pointers n) h e in
-    let o = one_found y.3 found in
-    let x : n ≡ size = cc o.kind in
-    omega (arith, past, x, less)
-entry_past m (word s w) f n i b h e past (inr (k, t, c, q, tag, size, ds, ps, found, less, ends)) =
-    let y = as_kind m (word s w) f (Pointers n) h e in
-    let o = one_found y.3 found in
-    cc o.kind
-entry_past m (element t' b' ds ps) f n i b h e past g = absurd g
+entry_past m a f n i b h e x9 g = search (rules, as_kind, one_found)
 
 -- the elements of a list of structs
 pub element_goes : (m : List (List ℕ)) (a : Spot) {f : Found} {n : ℕ} (d p : ℕ) {i : ℕ} → IsFound m a f → f.kind ≡ Structs n d p → i < n
     → StepsTo m a (Item i) (element f.place.segment (f.place.start + 1 + i * (d + p)) d p)
-element_goes m (word s w) {f} {n} d p h e lt =
-    let y = as_kind m (word s w) f (Structs n d p) h e in
-    inr (y.0, f.place.segment, f.place.start, y.1, y.2, n, d, p, y.3, lt, refl)
+element_goes m (word s w) {f} {n} d p h e lt = search (rules, as_kind)
 element_goes m (element t' b' ds ps) {f} {n} d p h e lt = absurd (as_kind m (element t' b' ds ps) f (Structs n d p) h e)
 
 pub element_past : (m : List (List ℕ)) (a : Spot) {f : Found} {n : ℕ} (d p : ℕ) {i : ℕ} (b : Spot) → IsFound m a f → f.kind ≡ Structs n d p → n ≤ i
     → StepsTo m a (Item i) b → ⊥
 element_past m (word s w) {f} {n} d p b h e past (inl (k, t, c, q, tag, size, found, less, ends)) =
-    let y = as_kind m (word s w) f (Structs n d p) h e in
-    let o = one_found y.3 found in
-    cc o.kind
+    search (rules, as_kind, one_found)
 element_past m (word s w) {f} {n} d p b h e past (inr (k, t, c, q, tag, size, ds, ps, found, less, ends)) =
-    let y = as_kind m (word s w) f (Structs n d p) h e in
-    let o = one_found y.3 found in
-    let x : n ≡ size = cc o.kind in
-    omega (arith, past, x, less)
+    search (rules, as_kind, one_found)
 element_past m (element t' b' ds ps) d p b h e past g = absurd g
 
 -- an element lies inside its segment
@@ -116,8 +69,4 @@ element_inside m (element t' b' ds ps) {f} {n} d p h e lt = absurd (as_kind m (e
 -- and so do all of them together
 pub elements_inside : (m : List (List ℕ)) (a : Spot) (f : Found) (n d p : ℕ) → IsFound m a f → f.kind ≡ Structs n d p
     → f.place.start + 1 + n * (d + p) ≤ length (segment_of m f.place.segment)
-elements_inside m (word s w) f n d p h e =
-    let y = as_kind m (word s w) f (Structs n d p) h e in
-    let all : n * (d + p) ≤ list_size y.1 = omega (arith, elements_fit y.3) in
-    omega (arith, all, y.4, structs_words y.3.shape, h.inside)
-elements_inside m (element t' b' ds ps) f n d p h e = absurd (as_kind m (element t' b' ds ps) f (Structs n d p) h e)
+elements_inside m a f n d p h e = search (rules, as_kind, elements_fit, structs_words)

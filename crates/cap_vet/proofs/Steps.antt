@@ -5,7 +5,7 @@ use Rattle.cap_spec.proofs.Pointers.Shapes.{structs_levels}
 use Rattle.cap_spec.proofs.ProofNames.{List, [], arith, max, pos, refl, subst, suc, zero, ℕ, ◌+◌, ◌<◌, ◌≡◌, ◌≤◌, Finds}
 use Rattle.cap_spec.proofs.ProofNames.{element_levels, values_of, words_from, Leads, extra, to_cap, to_null, to_object}
 use Rattle.cap_spec.proofs.ProofNames.{HasWord, code, data_size, extent, kind, list_size, middle, pointer_size, cap, null}
-use Rattle.cap_spec.proofs.ProofNames.{pointers, scalars, struct, structs}
+use Rattle.cap_spec.proofs.ProofNames.{pointers, scalars, struct, structs, rules}
 use Rattle.cap_vet.specs.VetNames.{Item, Ptr, Ahead, element_rows, row}
 use Rattle.cap_vet.proofs.Counting.{Counts}
 use Rattle.cap_vet.proofs.Owing.{owes-elements, owes-row}
@@ -56,24 +56,7 @@ struct-counts m a k t b q low f is_struct = let object = struct_found m a.segmen
   build = λ c top p k' owe. let r = owes-row m a.path (a.level + 1) Ptr t (b + data_size q) 0 (pointer_size q) c top p k' owe in record {
     tree = struct (words_from m t b (data_size q)) r.trees;
     depth = 1 + r.deep;
-    denotes = (
-      k,
-      t,
-      b,
-      q,
-      0,
-      data_size q,
-      pointer_size q,
-      c,
-      r.deep,
-      record {
-        object = object;
-        charge = omega (arith, struct_extra object.shape);
-        depth = omega (arith, struct_levels object.shape);
-      },
-      refl,
-      r.denote,
-    );
+    denotes = search (rules, struct_extra, struct_levels);
     level = omega (arith, r.depth);
     pointers = omega (arith, r.pointers);
     cap_total = omega (arith, r.caps);
@@ -110,22 +93,7 @@ pointers-counts m a k t b q low f is_list is_pointers = let object = pointers_fo
   build = λ c top p k' owe. let r = owes-row m a.path (a.level + 1) Item t b 0 (list_size q) c top p k' owe in record {
     tree = pointers r.trees;
     depth = 1 + r.deep;
-    denotes = (
-      k,
-      t,
-      b,
-      q,
-      0,
-      list_size q,
-      c,
-      r.deep,
-      record {
-        object = object;
-        charge = omega (arith, pointers_extra object.shape);
-        depth = omega (arith, pointers_levels object.shape);
-      },
-      r.denote,
-    );
+    denotes = search (rules, pointers_extra, pointers_levels);
     level = omega (arith, r.depth);
     pointers = omega (arith, r.pointers);
     cap_total = omega (arith, r.caps);
@@ -147,18 +115,7 @@ structs-counts m a k t b q tag low f is_list is_structs has = let object = struc
       (pointer_size tag) 0 (middle tag) c top p k' owe in record {
         tree = structs (data_size tag) (pointer_size tag) r.elements;
         depth = 1 + element_levels (middle tag) + r.deep;
-        denotes = (
-          k,
-          t,
-          b,
-          q,
-          tag,
-          middle tag,
-          c,
-          r.deep,
-          record { object = object; charge = refl; depth = omega (arith, structs_levels object.shape) },
-          r.are,
-        );
+        denotes = search (rules, structs_levels);
         level = elements-level low a.level (middle tag) top r.deep r.none r.depth;
         pointers = omega (arith, r.pointers);
         cap_total = omega (arith, r.caps);

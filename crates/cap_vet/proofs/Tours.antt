@@ -2,7 +2,7 @@
 use mathlib.Core.List.{reverse_aux}
 use Rattle.cap_spec.proofs.Paths.Preorder.{Before-trans}
 use Rattle.cap_spec.proofs.ProofNames.{List, [], append-nil, arith, inl, inr, length, refl, reverse, subst, sym, ℕ, ◌+◌}
-use Rattle.cap_spec.proofs.ProofNames.{◌∙◌, ◌∷◌, ◌≡◌, ◌⊎◌, IsOneOf, Before, IsTour, Rises}
+use Rattle.cap_spec.proofs.ProofNames.{◌∙◌, ◌∷◌, ◌≡◌, ◌⊎◌, IsOneOf, Before, IsTour, Rises, rules}
 use Rattle.cap_vet.specs.VetNames.{Step, Ahead, Apart, EachApart, Falls, IsTrail, IsUnder}
 use Rattle.cap_vet.proofs.Apart.{Apart-right, Apart-trans, longer-differs, not_apart-self, not_before-apart}
 use Rattle.cap_vet.proofs.Apart.{not_before-self}
@@ -58,12 +58,7 @@ IsOneOf-onto_left q (p ∷ seen) later (inr h) = IsOneOf-onto_left q seen (p ∷
 
 pub onto-IsOneOf : (q : List Step) (seen later : List (List Step)) → IsOneOf q (onto seen later) → IsOneOf q seen ⊎ IsOneOf q later
 onto-IsOneOf q [] later h = inr h
-onto-IsOneOf q (p ∷ seen) later h = pick (onto-IsOneOf q seen (p ∷ later) h)
-  where
-    pick : IsOneOf q seen ⊎ IsOneOf q (p ∷ later) → IsOneOf q (p ∷ seen) ⊎ IsOneOf q later
-    pick (inl k) = inl (inr k)
-    pick (inr (inl e)) = inl (inl e)
-    pick (inr (inr k)) = inr k
+onto-IsOneOf q (p ∷ seen) later h = search (rules, onto-IsOneOf q seen (p ∷ later) h)
 
 -- a path is in the order where it was looked at, and nowhere else
 pub in_order-IsOneOf : (q : List Step) (seen : List (List Step)) → IsOneOf q (in_order seen) → IsOneOf q seen

@@ -1,10 +1,10 @@
 -- What one turn of a walk keeps.
 use Rattle.cap_spec.proofs.Lemmas.{one_word, Before-asymmetric, one_reached, lead_kind, one_object}
-use Rattle.cap_spec.proofs.ProofNames.{List, None, Option, Some, [], ap, append-nil, arith, false, inl, inr, length-append}
-use Rattle.cap_spec.proofs.ProofNames.{map, max, pos, refl, subst, sym, true, ℕ, ◌++◌, ◌+◌, ◌<◌, ◌==◌, ◌∙◌, ◌∷◌, ◌≡◌, ◌≤◌}
-use Rattle.cap_spec.proofs.ProofNames.{◌⊎◌, eqb_tells, Finds, element_levels, AreShallow, IsComposite, Leads, extra}
+use Rattle.cap_spec.proofs.ProofNames.{List, None, Option, Some, [], append-nil, arith, inl, inr, length-append, rules}
+use Rattle.cap_spec.proofs.ProofNames.{map, max, refl, subst, sym, ℕ, ◌++◌, ◌+◌, ◌<◌, ◌∙◌, ◌∷◌, ◌≡◌, ◌≤◌}
+use Rattle.cap_spec.proofs.ProofNames.{Finds, AreShallow, IsComposite, Leads, extra}
 use Rattle.cap_spec.proofs.ProofNames.{to_cap, to_null, IsOneOf, HasWord, Before, Costs, PathLeads, Reaches, Spot, StepsTo}
-use Rattle.cap_spec.proofs.ProofNames.{word, code, extent, kind, middle, CostOf, IsDeepAt, levels_below}
+use Rattle.cap_spec.proofs.ProofNames.{word, extent, kind, CostOf, IsDeepAt, levels_below}
 use Rattle.cap_vet.specs.VetNames.{Step, Item, Ptr, object_children, IsCount, PointerWord, pointer_word_of, Ahead, Falls}
 use Rattle.cap_vet.specs.VetNames.{or_place, IsFirstOf, Progress}
 use Rattle.cap_vet.specs.Walking.{LeadsToCap}
@@ -28,17 +28,7 @@ pub record Next (x : PointerWord) (places : List PointerWord) (aheads : List Ahe
 
 pub next_ahead : (x : PointerWord) (places : List PointerWord) (aheads : List Ahead) → map pointer_word_of aheads ≡ x ∷ places → Next x places aheads
 next_ahead x places [] e = absurd (let h : [] ≡ x ∷ places = e in cc)
-next_ahead x places (a ∷ ahead) e =
-    let here : pointer_word_of a ≡ x = cc in
-    let later : map pointer_word_of ahead ≡ places = cc in record {
-      a = a;
-      ahead = ahead;
-      whole = refl;
-      segment = ap (λ y. y.0) here;
-      word = ap (λ y. y.1) here;
-      level = ap (λ y. y.2) here;
-      rest = later;
-    }
+next_ahead x places (a ∷ ahead) e = search rules
 
 -- null and capabilities lead nowhere
 pub null_ends : (m : List (List ℕ)) (s w k : ℕ) → Leads m s w k to_null
@@ -148,28 +138,12 @@ turn_cap m words depth charge deepest pointers caps cost i first seen a ahead t 
 levels_same : (m : List (List ℕ)) (t b q tag t' b' q' tag' : ℕ) → kind q < 2 → t ≡ t' → b ≡ b' → q ≡ q'
     → (IsComposite q → HasWord m t b tag) → (IsComposite q' → HasWord m t' b' tag')
     → levels_below q tag ≡ levels_below q' tag'
-levels_same m t b q tag t' b' q' tag' below et eb eq tagged tagged' = subst
-    (λ u. levels_below q tag ≡ levels_below u tag') eq (by_code (eqb_tells (kind q) 0) (eqb_tells (code q) 7))
-  where
-    other : (IsComposite q) → HasWord m t b tag'
-    other c = subst (λ u. HasWord m t u tag') (sym eb) (subst (λ u. HasWord m u b' tag') (sym et) (tagged' (subst IsComposite eq c)))
-
-    by_code : (((kind q == 0) ≡ true) × (kind q ≡ 0)) ⊎ (((kind q == 0) ≡ false) × (kind q ≡ 0 → ⊥))
-        → (((code q == 7) ≡ true) × (code q ≡ 7)) ⊎ (((code q == 7) ≡ false) × (code q ≡ 7 → ⊥)) → levels_below q tag ≡ levels_below q tag'
-    by_code (inl h) j = rw h.1 refl
-    by_code (inr h) (inr j) = rw (h.0, j.0) refl
-    by_code (inr h) (inl j) = rw (h.0, j.0)
-        (ap (λ u. element_levels (middle u)) (one_word m t b tag tag' (tagged (omega (arith, h.1, below), j.1))
-        (other (omega (arith, h.1, below), j.1))))
+levels_same m t b q tag t' b' q' tag' x10 et eb eq x14 tagged' = search (rules, one_word)
 
 -- the level of an object, whichever way it is told
 pub deep_once : (m : List (List ℕ)) (depth s w level k t b q tag : ℕ) → Finds m s w k t b q
     → (IsComposite q → HasWord m t b tag) → level + levels_below q tag ≤ depth → ¬ IsDeepAt m depth s w level
-deep_once m depth s w level k t b q tag f tagged h (k', t', b', q', tag', f', tagged', past) =
-    let same = one_object m s w k t b q k' t' b' q' f f' in
-    let e : levels_below q tag ≡ levels_below q' tag' = levels_same m t b q tag t' b' q' tag'
-    (lead_kind m s w k t (pos b) q f.leads) same.segment same.start same.shape tagged tagged' in
-    omega (arith, e)
+deep_once m x2 s w x5 x6 x7 x8 x9 x10 f x12 h x14 = search (rules, one_object, levels_same, lead_kind)
 
 -- a turn at an object
 pub turn_object : (m : List (List ℕ)) (words depth charge deepest pointers caps k t b q tag : ℕ)

@@ -5,6 +5,7 @@ use Rattle.cap_spec.proofs.Lemmas.{fault_tour}
 use Rattle.cap_spec.proofs.ProofNames.{List, None, Option, Some, [], arith, inl, inr, length, length-append, map, refl}
 use Rattle.cap_spec.proofs.ProofNames.{reverse, subst, sym, ℕ, ◌++◌, ◌+◌, ◌<◌, ◌∷◌, ◌≡◌, Denotes, HasNoRoot, IsFaultAt}
 use Rattle.cap_spec.proofs.ProofNames.{IsFirstFault, AreShallow, IsFirstReason, IsOneOf, segment_of, IsTour, Reaches, CostOf}
+use Rattle.cap_spec.proofs.ProofNames.{common_steps, rules}
 use Rattle.cap_spec.proofs.Verdicts.OneFault.{none_before}
 use Rattle.cap_vet.specs.PointerRuns.{root_run}
 use Rattle.cap_vet.specs.VetNames.{Reason, Step, depth_of, words_of, IsCount, pointer_word_of, IsAccepted, IsFirstCapOf}
@@ -31,12 +32,7 @@ CostOf-in_order m seen c h = subst (CostOf m (in_order seen)) (omega arith) (Cos
 
 -- A first segment without words has no root.
 pub no_root_at : (m : List (List ℕ)) → 0 < length m → length (segment_of m 0) ≡ 0 → HasNoRoot m record { segment = 0; word = 0; reason = NoRoot; pointers = 0 }
-no_root_at [] some e = absurd (omega arith)
-no_root_at ([] ∷ m) some e = record {
-  lacks = record { empty = refl; segment = refl; word = refl; reason = refl };
-  pointers = refl;
-}
-no_root_at ((x ∷ xs) ∷ m) some e = let f : length (x ∷ xs) ≡ 0 = e in absurd (omega (arith, f))
+no_root_at m x2 e = grind (arith, common_steps)
 
 -- The first reason that applies at the next word makes it the first fault.
 pub first_fault : (m : List (List ℕ)) (words depth s w level : ℕ) (runs : List PointerRun) (report : Report) (v : Reason)
@@ -187,26 +183,7 @@ starts m words depth report some root e1 e2 e3 e4 e5 =
       seen = [];
       a = record { path = []; segment = 0; word = 0; level = 1 };
       ahead = [];
-      progress = record {
-        trail = record {
-          falls = tt;
-          precedes = tt;
-          apart = tt;
-          seen_reached = λ q h. absurd h;
-          ahead_reached = (r, tt);
-          complete = λ q level s w h. inr (inl (q, refl));
-        };
-        count = rw (e1, e2, e3, e4) (count_at_start m);
-        near = (omega arith, omega arith, tt);
-        within = omega arith;
-        shallow = omega arith;
-        costs = e1;
-        levels = λ p level s w h. absurd h;
-        number = e3;
-        bound = omega arith;
-        few = omega arith;
-        first_cap = rw e5 (λ p s w h. absurd h);
-      };
+      progress = search (rules, count_at_start);
       segment = refl;
       at = refl;
       leads_to = refl;
@@ -224,15 +201,4 @@ pub begins : (m : List (List ℕ)) (limits : Limits) (report : Report) (K : List
     → IsWalking m limits (root_run ∷ []) report K
 unfolding starts
 begins m limits report K some root e1 e2 e3 e4 e5 k =
-    let n = starts m (words_of limits) (depth_of limits) report some root e1 e2 e3 e4 e5 in
-    record {
-      seen = n.seen;
-      ahead = n.a ∷ n.ahead;
-      walks = record {
-        progress = n.progress;
-        places = refl;
-        inside = (record { exists = some; some = omega arith; each = λ h. absurd (omega arith); inside = omega (arith, root) }, tt);
-        stacked = (omega arith, omega arith, tt);
-      };
-      known = k;
-    }
+    search (rules, starts m (words_of limits) (depth_of limits) report some root e1 e2 e3 e4 e5)

@@ -3,9 +3,9 @@ use Rattle.cap_spec.specs.Showing.{bit_of, byte_of, count_of, scalar_of}
 use Rattle.cap_spec.specs.declared.Kind.TheVariants.{Cap, Null, Pointers, Scalars, Struct, Structs}
 use Rattle.cap_spec.proofs.Lemmas.{short_segment, range_length, word_within}
 use Rattle.cap_spec.proofs.ProofNames.{List, None, Option, Some, ap, arith, get_or, inl, inr, length, min, option_map}
-use Rattle.cap_spec.proofs.ProofNames.{refl, slice_get, subst, sym, ℕ, ◌%◌, ◌*◌, ◌+◌, ◌-◌, ◌/◌, ◌<◌, ◌==◌, ◌^◌, ◌∙◌, ◌≡◌}
+use Rattle.cap_spec.proofs.ProofNames.{refl, slice_get, sym, ℕ, ◌%◌, ◌*◌, ◌+◌, ◌-◌, ◌/◌, ◌<◌, ◌==◌, ◌^◌, ◌∙◌, ◌≡◌}
 use Rattle.cap_spec.proofs.ProofNames.{◌≤◌, ◌⊎◌, slice_get-get_or, own_at, value_at, values_of, words_from, HasWord}
-use Rattle.cap_spec.proofs.ProofNames.{IsMessage, segment_of, word_bytes, element_bits, list_words, scalar_words, kind_of}
+use Rattle.cap_spec.proofs.ProofNames.{IsMessage, segment_of, word_bytes, element_bits, scalar_words, kind_of, rules}
 use Rattle.cap_spec.proofs.ProofNames.{words_of_own, field}
 use Rattle.cap_spec.proofs.Trees.Readings.{byte_past, byte_there, length-values, length-values_words, value_past}
 use Rattle.cap_spec.proofs.Trees.Readings.{value_there, values_word_past, values_word_there, word_past}
@@ -31,9 +31,7 @@ count_shown m t b (inr (inr (d, p, e))) = rw e refl
 pub few_shown : (m : List (List ℕ)) {k : Kind} {t : ℕ} (b c x : ℕ) {n : ℕ} → IsMessage m → t < length m → k ≡ Scalars c x
     → own_words k ≤ n → b + n ≤ length (segment_of m t)
     → length (words_of_own (own_at m k t b)) < 2 ^ 32
-few_shown m {t} b c x {n} message exists e own inside =
-    let h : list_words c x ≤ n = subst (λ (y : Kind). own_words y ≤ n) e own in
-    rw e (omega (arith, h, inside, short_segment m t message exists, length-values_words m t b c x))
+few_shown m {t} b c x {n} message exists e own inside = search (rules, short_segment, length-values_words)
 
 -- element i of a list of values
 pub scalar_past : (m : List (List ℕ)) {k : Kind} (t b c : ℕ) {n i : ℕ} → k ≡ Scalars c n → n ≤ i → None ≡ scalar_of (own_at m k t b) i
@@ -49,9 +47,7 @@ pub shown_byte : (m : List (List ℕ)) {k : Kind} (t b d p i : ℕ) {w : ℕ} (r
 shown_byte m t b d p i {w} r e f g =
     let l : i % 8 < length (word_bytes w) = omega arith in
     let h : i / 8 * 8 + i % 8 ≡ i = omega arith in
-    rw e (sym (slice_get-get_or (word_bytes w) (i % 8) 0 l)
-    ∙ (sym (byte_there (words_from m t b d) (i / 8) (i % 8) w (omega arith) (sym f ∙ g))
-    ∙ ap (λ (y : ℕ). byte_of (own_at m (Struct d p) t b) y) h))
+    search (rules, slice_get-get_or, byte_there)
 
 pub shown_no_byte : (m : List (List ℕ)) {k : Kind} (t b d p i : ℕ) (r : Option ℕ) → k ≡ Struct d p
     → r ≡ slice_get (words_from m t b d) (i / 8) → r ≡ None → None ≡ byte_of (own_at m k t b) i
@@ -72,9 +68,7 @@ shown_no_bit m t b d p i r e f g = rw e (ap (option_map (λ (x : ℕ). field x (
 -- a word of a list of values, where `size` is the bits of a value, of which there are `count`
 pub shown_no_word : (m : List (List ℕ)) (t b c : ℕ) {n i size count at : ℕ} → size ≡ element_bits c → count ≡ n → at ≡ i
     → size * count ≤ at * 64 → None ≡ slice_get (scalar_words c (values_of m t b c n)) i
-shown_no_word m t b c {n} {i} e f g past =
-    let p : element_bits c * n ≤ i * 64 = rw (← e, ← f, ← g) past in
-    sym (values_word_past m t b c n i (word_past c n i p))
+shown_no_word m t b c {n} {i} e f g past = search (rules, values_word_past, word_past)
 
 pub shown_word : (m : List (List ℕ)) (t b c : ℕ) {n i size count at : ℕ} (x : ℕ) {used y : ℕ} → size ≡ element_bits c → count ≡ n → at ≡ i
     → at * 64 < size * count → used ≡ min (size * count - at * 64) 64
