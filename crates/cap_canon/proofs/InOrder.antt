@@ -2,7 +2,7 @@
 use Rattle.cap_spec.specs.Denoting.{places}
 use Rattle.cap_spec.specs.Tree.{none}
 use Rattle.cap_spec.specs.declared.Step.TheVariants.{Item, Ptr}
-use Rattle.cap_spec.proofs.Lemmas.{extent_scalars, one_word, one_lead, near_has_none, extent_pointers, extent_struct}
+use Rattle.cap_spec.proofs.Lemmas.{one_word, one_lead, near_has_none, extent_pointers, extent_struct}
 use Rattle.cap_spec.proofs.Lemmas.{extent_structs, extra_same, range_length, object_parts, one_tree}
 use Rattle.cap_spec.proofs.ProofNames.{Bool, List, None, [], ap, ap₂, arith, false, if◌then◌else◌, inl, inr, length, max}
 use Rattle.cap_spec.proofs.ProofNames.{ne_eqb, not, pos, refl, subst, suc, sym, true, zero, ℕ, ◌*◌, ◌++◌, ◌+◌, ◌-◌, ◌<◌}
@@ -12,7 +12,7 @@ use Rattle.cap_spec.proofs.ProofNames.{struct_word, trim, IsCanonical, AreElemen
 use Rattle.cap_spec.proofs.ProofNames.{element_levels, value_at, values_of, words_from, IsComposite, Lead, Leads, Says}
 use Rattle.cap_spec.proofs.ProofNames.{extra, near, one_pad, to_cap, to_null, to_object, two_pads, HasWord, segment_of}
 use Rattle.cap_spec.proofs.ProofNames.{Costs, Reaches, HasWordsAt, code, data_size, element_bits, extent, kind, list_size}
-use Rattle.cap_spec.proofs.ProofNames.{list_words, middle, pointer_size, scalar_words, IsStrict, Tree, Trees, has_cap}
+use Rattle.cap_spec.proofs.ProofNames.{middle, pointer_size, scalar_words, IsStrict, Tree, Trees, has_cap}
 use Rattle.cap_spec.proofs.ProofNames.{more, struct, tree_count}
 use Rattle.cap_spec.proofs.Trees.Charges.{one_cost}
 use Rattle.cap_ptr.specs.Rows.{HasPointers}
@@ -569,10 +569,6 @@ module _ (m : List (List ℕ)) (w word end cost : ℕ) (l : LeadsToEnd m w word 
   list_some : kind word ≡ 1 → word ≢ 0
   list_some k = λ z. (let e : kind word ≡ kind 0 = ap kind z in omega (arith, k, e))
 
-  -- of pointers
-  pub pointers_inside : kind word ≡ 1 → code word ≡ 6 → end + cost ≤ length (segment_of m 0)
-  pointers_inside k c = (row_there (list_size word) (inr (inl (k, c, refl))) (list_some k)).2
-
   pub pointers_next : word < 2 ^ 64 → kind word ≡ 1 → code word ≡ 6 → IsNextInOrder m w end (end + cost)
   pointers_next small k c =
       let n = list_size word in
@@ -591,13 +587,6 @@ module _ (m : List (List ℕ)) (w word end cost : ℕ) (l : LeadsToEnd m w word 
       let (_, finds, _, _) = object_there (omega (arith, k)) (list_some k) in
       let (tag, has, fits) = finds.inside.composite (k, c) in
       (tag, has, fits.0, omega (arith, finds.inside.inside, extent_structs word k c), fits.1)
-
-  -- or of values with bits.
-  pub row_of_values : kind word ≡ 1 → 0 < code word → code word < 6
-      → (cost ≡ list_words (code word) (list_size word)) × (end + cost ≤ length (segment_of m 0))
-  row_of_values k some few =
-      let (finds, words, inside) = row_there 0 (inr (inr (k, some, few, refl))) (list_some k) in
-      (words ∙ extent_scalars word (code word) k refl few, inside)
 
   pub values_next : word < 2 ^ 64 → kind word ≡ 1 → 0 < code word → code word < 6
       → HasWordsAt (segment_of m 0) end (scalar_words (code word) (values_of m 0 end (code word) (list_size word))) → IsNextInOrder m w end (end + cost)

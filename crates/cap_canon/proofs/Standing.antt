@@ -8,7 +8,7 @@ use Rattle.cap_spec.proofs.ProofNames.{◌++◌, ◌+◌, ◌-◌, ◌<◌, ◌=
 use Rattle.cap_spec.proofs.ProofNames.{length-map-range_with_len, mul-le, AllByRecursion, list_word, pointer_to}
 use Rattle.cap_spec.proofs.ProofNames.{struct_word, Finds, value_at, values_of, words_from, HasWord, segment_of}
 use Rattle.cap_spec.proofs.ProofNames.{HasWordsAt, data_size, element_bits, list_size, list_words, pointer_size}
-use Rattle.cap_spec.proofs.ProofNames.{scalar_words, Tree, Trees, cap, more, null, scalars, struct, tree_count, IsWord}
+use Rattle.cap_spec.proofs.ProofNames.{scalar_words, Tree, Trees, cap, more, scalars, struct, tree_count, IsWord}
 use Rattle.cap_spec.proofs.ProofNames.{field}
 use Rattle.cap_canon.specs.InPlace.{StandsIn}
 use Rattle.cap_canon.specs.Laying.{DataAt, IsPointed, OwnAt, own_size}
@@ -245,10 +245,6 @@ pub pointed_word : (m : List (List ℕ)) (slot end x : ℕ) (u : Tree) → HasWo
 pointed_word m slot end x u h p =
     let o : p.0 ≡ end - slot - 1 = omega (arith, p.1) in
     one_word m 0 slot x (pointer_to p.0 u) h p.2 ∙ ap (λ n. pointer_to n u) o
-
--- what has no words of its own
-pub nothing_own : (words : List ℕ) (end : ℕ) (u : Tree) → u ≡ null → end ≤ length words → OwnAt words end u × (end + own_size u ≤ length words)
-nothing_own words end u e h = subst (λ (v : Tree). OwnAt words end v × (end + own_size v ≤ length words)) (sym e) (tt, omega (arith, h))
 
 pub cap_own : (words : List ℕ) (end i : ℕ) (u : Tree) → u ≡ cap i → end ≤ length words → OwnAt words end u × (end + own_size u ≤ length words)
 cap_own words end i u e h = subst (λ (v : Tree). OwnAt words end v × (end + own_size v ≤ length words)) (sym e) (tt, omega (arith, h))

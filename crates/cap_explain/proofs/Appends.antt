@@ -4,7 +4,3 @@ use Rattle.std.proofs.Common.{List, ap, append_assoc, ℕ, ◌++◌, ◌∙◌, 
 -- two texts, or one and all that follow
 pub then : (a b c x y : List ℕ) → b ≡ a ++ x → c ≡ b ++ y → c ≡ a ++ (x ++ y)
 then a b c x y p q = q ∙ ap (λ t. t ++ y) p ∙ append_assoc a x y
-
--- the same of an equal second text
-pub then_as : (a b c x y z : List ℕ) → y ≡ z → b ≡ a ++ x → c ≡ b ++ y → c ≡ a ++ (x ++ z)
-then_as a b c x y z e p q = then a b c x y p q ∙ ap (λ t. a ++ (x ++ t)) e

@@ -15,7 +15,7 @@ use Rattle.cap_run.specs.Filtering.{AllAccepted, Covers, FiltersAll, FiltersUnti
 use Rattle.cap_run.specs.Filtering.{Noted, Notes, PassesLast, TellsMet, WantsMet, frame_in}
 use Rattle.cap_run.specs.RunNames.{OutFault, Demands, Cause, Canon, Frame, NotStrict, TooManyMessages, RunFault}
 use Rattle.cap_run.specs.RunNames.{IsStrictUnder, OrFaultIn, WantsIn, PassesOn, ReadsUntil, TellsIn}
-use Rattle.cap_run.specs.RunNames.{WantsInForm, Appended, EndStops, RunStops, Settled, StopsIn, FindsObjection}
+use Rattle.cap_run.specs.RunNames.{WantsInForm, Appended, RunStops, Settled, StopsIn, FindsObjection}
 use Rattle.cap_run.specs.RunNames.{SiftsNext, EndsStream, ReadsStream, Tells, TellsEach, Told}
 use Rattle.cap_run.specs.RunNames.{messages_of, one_noncanonical, one_refused, outcome_of, texts_of}
 use Rattle.cap_run.specs.RunNames.{Counted, Accepted, NotCanonical, Outcome}
@@ -299,32 +299,6 @@ module _ {S O E : Type 0} (gs : source.Ghosts S) (go : output.Ghosts O) (ge : ou
         stops (Canon fault) q = absurd q
         stops no_marks (m, reads, (want, o, (e, b))) =
             ((omega (arith, s.sifting.many), rw o s.sifting.appended, (m, reads, want)), keeps e)
-
-    -- or after the most messages
-    pub sieving_ends : (most : ℕ) (cause : Cause) → number ≡ most → EndStops gs limit mid new cause
-        → FiltersUntil gs go ge form verdict wants limit most old new before between first held (Err (record { message = most; cause = cause }))
-    sieving_ends most cause h q =
-        let w = s.sifting in (
-          w.ts,
-          mid,
-          sym (w.many ∙ h),
-          omega (arith, w.many),
-          w.reads,
-          w.each,
-          s.accepted,
-          ends cause q,
-          noted old mid before between first held outcome number failed w,
-        )
-      where
-        ends : (cause : Cause) → EndStops gs limit mid new cause
-            → RunStops gs go (PassesLast form.pack verdict s.sifting.ts) wants limit most s.sifting.ts mid new before between cause
-        ends TooManyMessages q = (s.sifting.many ∙ h, s.sifting.appended, q)
-        ends (Frame fault) q = (s.sifting.appended, q)
-        ends (Output fault) q = absurd q
-        ends (Refused refusal) q = absurd q
-        ends (NotStrict fault) q = absurd q
-        ends (Canon fault) q = absurd q
-        ends no_marks q = absurd q
 
   -- the messages that were read begin a stream that is known
   covers : (old new : S) (own : List ℕ) (ms : List (List (List ℕ))) (ts : List Told) → gs.words old ≡ Some own → Stream own ms

@@ -1,6 +1,6 @@
 -- The branches on the way down to a word, the last of them and the next word.
 use Rattle.cap_spec.proofs.ProofNames.{List, Some, [], ap, append-nil, append_assoc, ap₂, arith, get_or, length, refl, subst, suc}
-use Rattle.cap_spec.proofs.ProofNames.{sym, zero, ℕ, ◌*◌, ◌++◌, ◌+◌, ◌-◌, ◌<◌, ◌∙◌, ◌∷◌, ◌≡◌, ◌≤◌, segment_of}
+use Rattle.cap_spec.proofs.ProofNames.{sym, zero, ℕ, ◌++◌, ◌+◌, ◌-◌, ◌<◌, ◌∙◌, ◌∷◌, ◌≡◌}
 use Rattle.cap_vet.specs.Trails.{Ahead, element_rows}
 use Rattle.cap_trace.specs.Branches.{path_from, words_of_object}
 use Rattle.cap_trace.specs.TraceNames.{Step, Item, Ptr, AreBranches, IsBranch, IsCounted, path_of, rest_from, rest_of}
@@ -61,13 +61,6 @@ branch form s b left n more es ds level = record {
   level = level;
 }
 
--- The word is one of its row.
-pub among_row : (form : Form) (f : Branch) → IsCounted form f → f.left < f.row
-among_row Root f h = omega (arith, h.0, h.2)
-among_row Struct f h = h.0
-among_row Pointers f h = h.0
-among_row Structs f h = h.0
-
 -- The next word is the next one of the row.
 pub next_pointer : (form : Form) (s b left n more es ds level : ℕ) → 0 < left
     → IsCounted form (branch form s b left n more es ds level) → (base : List Step)
@@ -124,14 +117,6 @@ next_element Structs s b left (suc n) (suc more) es ds level none some h base =
     rw none
     (ap (λ (u : ℕ). element_rows base level s (b + 1 + 0) ds (suc n) u (suc more)) e ∙ first_of_next s b n more es ds level base)
 
--- After the last pointer of the last element there is none.
-pub no_next : (form : Form) (s b left n more es ds level : ℕ) → left ≡ 0 → more ≡ 0 → (base : List Step)
-    → rest_of base (branch form s b left n more es ds level) ≡ []
-no_next Root s b left n more es ds level none last base = refl
-no_next Struct s b left n more es ds level none last base = rw none refl
-no_next Pointers s b left n more es ds level none last base = rw none refl
-no_next Structs s b left n more es ds level none last base = rw (none, last) refl
-
 counted_pointer : (form : Form) (s b left n more es ds level : ℕ) → 0 < left
     → IsCounted form (branch form s b left n more es ds level)
     → IsCounted form (branch form s (b + 1) (left - 1) n more es ds level)
@@ -153,32 +138,6 @@ branch_pointer m depth k form s b left n more es ds level some h = record {
   high = h.high;
   low = h.low;
 }
-
-counted_element : (form : Form) (s b left n more es ds level : ℕ) → 0 < more
-    → IsCounted form (branch form s b left n more es ds level)
-    → IsCounted form (branch form s (b + 1 + ds) (n - 1) n (more - 1) es ds level)
-counted_element Root s b left n more es ds level some h = absurd (omega (arith, h.1, some))
-counted_element Struct s b left n more es ds level some h = absurd (omega (arith, h.1, some))
-counted_element Pointers s b left n more es ds level some h = absurd (omega (arith, h.1, some))
-counted_element Structs s b left n more es ds level some h =
-    let less : left < n = h.0 in
-    let also : more < es = h.1 in (omega (arith, less), omega (arith, also), h.2)
-
--- and that of the next element
-pub branch_element : (m : List (List ℕ)) (depth k : ℕ) (form : Form) (s b left n more es ds level : ℕ) → left ≡ 0
-    → 0 < more → IsBranch m depth k (branch form s b left n more es ds level)
-    → IsBranch m depth k (branch form s (b + 1 + ds) (n - 1) n (more - 1) es ds level)
-branch_element m depth k form s b left n zero es ds level none some h = absurd (omega (arith, some))
-branch_element m depth k form s b left n (suc more) es ds level none some h =
-    let f : suc more - 1 ≡ more = omega arith in
-    let each : left < n = among_row form (branch form s b left n (suc more) es ds level) h.counted in
-    record {
-      exists = h.exists;
-      inside = rw f (let g : b + 1 + left + suc more * (ds + n) ≤ length (segment_of m s) = h.inside in omega (arith, g, each));
-      counted = counted_element form s b left n (suc more) es ds level some h.counted;
-      high = h.high;
-      low = h.low;
-    }
 
 -- The words of a row come one after the other.
 pub next_in_row : (f : Branch) (n : ℕ) → n < f.left → IsCounted f.form (skipped f n) → (base : List Step)

@@ -104,14 +104,3 @@ way_found m words depth (Refused refusal) h = tt
 module _ (m : List (List ℕ)) (way : Way) (at : Arrival) (e : way ≡ To at) (h : HasFound m way) where
   there : HasFound m (To at)
   there = subst (λ (x : Way). HasFound m x) e h
-
-  pub found_exists : at.found.place.segment < length m
-  found_exists = let one : IsProp (at.found.place.segment < length m) = hlevel props in ∥∥₁_elim there one (λ x. x.1.exists)
-
-  pub found_inside : at.found.place.start + at.found.place.words ≤ length (segment_of m at.found.place.segment)
-  found_inside =
-      let one : IsProp (at.found.place.start + at.found.place.words ≤ length (segment_of m at.found.place.segment)) = hlevel props in
-      ∥∥₁_elim there one (λ x. x.1.inside)
-
-  pub found_own : own_words at.found.kind ≤ at.found.place.words
-  found_own = let one : IsProp (own_words at.found.kind ≤ at.found.place.words) = hlevel props in ∥∥₁_elim there one (λ x. x.1.own)
