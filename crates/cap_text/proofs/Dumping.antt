@@ -106,10 +106,10 @@ pub record Below (m : List (List ℕ)) (a : Spot) (t : Tree) (kind : Kind) (i : 
   pub at_i : part_at t (child_step_of kind i) ≡ Some tree
   pub denotes : DenotesAt m a tree
 
-pub below : (m m' : List (List ℕ)) (a : Spot) (t : Tree) (own : Own) (kind : Kind) (i n : ℕ) (step : Step)
+pub below : {m m' : List (List ℕ)} (a : Spot) (t : Tree) {own : Own} {kind : Kind} {i n : ℕ} {step : Step}
     → own ≡ own_of t → kind ≡ kind_of own → i < n → n ≡ shown_count_of kind
     → step ≡ child_step_of kind i → m' ≡ m → (u : Tree) × (part_at t step ≡ Some u) × DenotesAt m a u → Below m' a t kind i
-below m m' a t own kind i n step e k lt many s same p = record {
+below a t e k lt many s same p = record {
   of_tree = k ∙ ap kind_of e;
   within = omega (arith, lt, many);
   tree = p.0;
