@@ -1,7 +1,7 @@
 -- With all three flags nothing but acceptance is demanded.
 use Rattle.cap_spec.specs.declared.Refusal.{Refusal}
 use Rattle.cap_spec.proofs.ProofNames.{Bool, List, ap, arith, false, inl, inr, not, refl, subst, sym, ℕ, ◌∙◌, ◌≡◌}
-use Rattle.cap_spec.proofs.ProofNames.{false≢true, IsRefused}
+use Rattle.cap_spec.proofs.ProofNames.{false≢true, IsRefused, rules}
 use Rattle.cap_vet.specs.VetNames.{IsDemandFault, Meets, IsAccepted, marks_of}
 use Rattle.cap_calls.specs.CallFindings.{JudgesAny, accepted, without}
 use Rattle.cap_calls.specs.ExclusiveCalls.{MarksAny, too_small}
@@ -37,9 +37,7 @@ trailing_allowed l e = rw e refl
 -- Without a demand a message has only the faults for which it is refused.
 fault_refused : (m : List (List ℕ)) (w d : ℕ) (r : StrictRefusal) → IsDemandFault none m w d r
     → (refusal : Refusal) × IsRefused m w d refusal × (r ≡ strict.Refused refusal)
-fault_refused m w d (strict.Refused refusal) h = (refusal, h, refl)
-fault_refused m w d strict.ManySegments h = absurd (false≢true h.0)
-fault_refused m w d (strict.Pointer what s v n) h = absurd (false≢true h.0)
+fault_refused m w d r h = search (rules, false≢true)
 
 -- And it meets no demand if it is accepted.
 meets_none : (m : List (List ℕ)) (w d : ℕ) (r : Report) → IsAccepted m w d r → Meets none m w d

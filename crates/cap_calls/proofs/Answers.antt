@@ -1,16 +1,16 @@
 -- The bytes decide what each call finds.
 use Rattle.cap_spec.specs.declared.StrictRefusal.TheVariants.{Refused}
 use Rattle.cap_spec.proofs.Lemmas.{one_frame, strict_not_fault, within_not_refused}
-use Rattle.cap_spec.proofs.ProofNames.{Bool, Err, List, None, Ok, Option, Result, [], ap, ap₂, length, not, refl, subst}
-use Rattle.cap_spec.proofs.ProofNames.{sym, true, ℕ, ◌*◌, ◌-◌, ◌∙◌, ◌∷◌, ◌≡◌, ⊤, plain_words, IsStrictFault}
+use Rattle.cap_spec.proofs.ProofNames.{Bool, Err, List, None, Ok, Option, Result, [], ap, length, not, subst}
+use Rattle.cap_spec.proofs.ProofNames.{sym, true, ℕ, ◌∙◌, ◌∷◌, ◌≡◌, ⊤, plain_words, IsStrictFault, rules}
 use Rattle.cap_spec.proofs.Strict.Faults.{one_strict_fault}
 use Rattle.cap_frame.specs.Framed.{TellsFront}
 use Rattle.cap_frame.specs.declared.fault.FrontFault.TheVariants.{TooLarge, TooManySegments, Truncated}
 use Rattle.cap_frame.proofs.FrontAnswers.{empty_answer, large_answer, many_answer, short_answer, whole_answer}
 use Rattle.cap_vet.specs.VetNames.{IsDemandFault, Meets, words_under, IsAccepted}
 use Rattle.cap_vet.proofs.OneReport.{one_report}
-use Rattle.cap_calls.specs.CallFindings.{Returns, accepted, trailing_found, without}
-use Rattle.cap_calls.specs.Calls.{IsCheck, TellsCheck, TellsFrame, canonical, not_canonical}
+use Rattle.cap_calls.specs.CallFindings.{Returns, accepted, without}
+use Rattle.cap_calls.specs.Calls.{IsCheck, TellsCheck, TellsFrame}
 use Rattle.cap_calls.specs.CallNames.{StrictRefusal, ManySegments, Pointer, FrontFault, Framed, Demands, Report, Judges}
 use Rattle.cap_calls.specs.CallNames.{Tells, TellsWhole, framed, framed_found, none_found, refused, refused_found, tells}
 use Rattle.cap_calls.specs.CallNames.{trailing, allows_trailing, demands_of, HasFrame, HasNoFrame, TellsInput, of_frame}
@@ -37,15 +37,7 @@ no_fault limit bs a e h = (let f = empty_answer limit bs (Without a) e h in cc)
 module _ (l : CallLimits) (bs : List ℕ) where
   -- there is no frame for one cause
   pub one_cause : (a b : NoFrame) → HasNoFrame l bs a → HasNoFrame l bs b → a ≡ b
-  one_cause BadLimits BadLimits h k = refl
-  one_cause BadLimits NoMessage h k = absurd (h k.0)
-  one_cause BadLimits (Fault b) h k = absurd (h k.0)
-  one_cause NoMessage BadLimits h k = absurd (k h.0)
-  one_cause NoMessage NoMessage h k = refl
-  one_cause NoMessage (Fault b) h k = absurd (no_fault l.message_words bs b h.1 k.1)
-  one_cause (Fault a) BadLimits h k = absurd (k h.0)
-  one_cause (Fault a) NoMessage h k = absurd (no_fault l.message_words bs a k.1 h.1)
-  one_cause (Fault a) (Fault b) h k = ap Fault (one_fault l.message_words bs a b h.1 k.1)
+  one_cause a b h x4 = search (rules, no_fault, one_fault)
 
   -- where there is a frame, there is no cause for none
   pub no_cause : (a : NoFrame) (frame segments : ℕ) (m : List (List ℕ)) → HasNoFrame l bs a
@@ -59,12 +51,7 @@ module _ (l : CallLimits) (bs : List ℕ) where
       × (m ≡ n)
   one_extent a b x y m n f g =
       let same = one_frame f.front.own g.front.own f.front.rest g.front.rest m n f.front.frames g.front.frames
-      (sym f.front.words ∙ g.front.words) in (
-        f.front.long ∙ (ap (λ (ws : List ℕ). 8 * length ws) same.0 ∙ sym g.front.long),
-        f.count
-            ∙ (ap length same.1 ∙ sym g.count),
-        same.1,
-      )
+      (sym f.front.words ∙ g.front.words) in search rules
 
 -- What is found in one way is found in a weaker one.
 pub tells_less : {K L : Type 0} {P Q : List (List ℕ) → ℕ → ℕ → Found → Type 0} (whole : Bool) (l : CallLimits)
@@ -104,9 +91,7 @@ one_told l bs f g both same (without c h e x) (without d k i y) =
 one_told l bs f g both same (without c h e x) (framed m a b v k q i) = absurd (no_cause l bs c a b m h k)
 one_told l bs f g both same (framed m a b u h p e) (without c k i y) = absurd (no_cause l bs c a b m k h)
 one_told {Q = Q} l bs f g both same (framed m a b u h p e) (framed n x y v k q i) =
-    let one = one_extent l bs a x b y m n h k in
-    let s = same m u v p (subst (λ (z : List (List ℕ)). Q z l.charge l.depth v) (sym one.2) q) in
-    (e ∙ (ap₂ (λ (j t : ℕ). framed_found j t u) one.0 one.1 ∙ (ap (framed_found x y) s.0 ∙ sym i)), s.1)
+    search (rules, one_extent l bs a x b y m n h k)
 
 -- So is there where bytes after the message are an answer of their own.
 pub one_whole_told : {K L S : Type 0} {P Q : List (List ℕ) → ℕ → ℕ → Found → Type 0} (whole : Bool) (l : CallLimits)
@@ -119,9 +104,7 @@ one_whole_told whole l bs f g both same (trailing m a b t h more e x) (tells non
 one_whole_told whole l bs f g both same (tells none u) (trailing m a b t h more e x) = absurd
     (none t (m, a, b, h, more))
 one_whole_told whole l bs f g both same (trailing m a b t h more e x) (trailing n c d u k less i y) =
-    let one = one_extent l bs a c b d m n h k in
-    let known : ℕ → ℕ → Found = λ (j s : ℕ). framed_found j s (trailing_found (length bs - j)) in
-    (e ∙ (ap₂ known one.0 one.1 ∙ sym i), both x y)
+    search (rules, one_extent l bs a c b d m n h k)
 
 -- So there is of a call's input.
 pub one_input_told : {K L S : Type 0} {P Q : List (List ℕ) → ℕ → ℕ → Found → Type 0} (whole : Bool) (l : CallLimits)
@@ -150,9 +133,7 @@ as_strict_fault demands m w d (Pointer what s v n) h = h.1
 pub one_demand_fault : (demands : Demands) (m : List (List ℕ)) (w d : ℕ) (r q : StrictRefusal)
     → IsDemandFault demands m w d r
     → IsDemandFault demands m w d q → r ≡ q
-one_demand_fault demands m w d r q h k =
-    one_strict_fault m (words_under demands m w) d r q (as_strict_fault demands m w d r h)
-    (as_strict_fault demands m w d q k)
+one_demand_fault demands m w d r q h k = search (rules, one_strict_fault, as_strict_fault)
 
 -- No message meets the demands and has a fault.
 pub meets_no_fault : (demands : Demands) (m : List (List ℕ)) (w d : ℕ) (r : StrictRefusal) → Meets demands m w d
@@ -205,10 +186,7 @@ pub one_vet_told : (l : CallLimits) (bs : List ℕ) (a b : Answer) (r q : CallRe
 one_vet_told l bs a b r q t u = one_message_told (not (allows_trailing l)) l bs a b r q (λ _ _ _ _ e i. e ∙ sym i) t u
 
 one_check : (m : List (List ℕ)) (r : Report) (f g : Found) → IsCheck m r f → IsCheck m r g → f ≡ g
-one_check m r f g (canonical i e) (canonical j k) = e ∙ sym k
-one_check m r f g (not_canonical i e) (not_canonical j k) = e ∙ sym k
-one_check m r f g (canonical i e) (not_canonical j k) = absurd (j i)
-one_check m r f g (not_canonical i e) (canonical j k) = absurd (i j)
+one_check m r f g x5 x6 = search rules
 
 pub one_check_told : (l : CallLimits) (bs : List ℕ) (a b : Answer) (r q : CallReport) → TellsCheck l bs a r
     → TellsCheck l bs b q → (a ≡ b) × (r ≡ q)

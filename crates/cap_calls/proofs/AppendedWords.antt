@@ -2,7 +2,7 @@
 use Rattle.cap_spec.proofs.Lemmas.{all_drop, all_take, plain_split, words_exact}
 use Rattle.cap_spec.proofs.ProofNames.{List, [], ap, append-nil, append_assoc, ap₂, arith, drop, length, length-drop}
 use Rattle.cap_spec.proofs.ProofNames.{length-take-le, sym, take, take-append-drop, take-take, ℕ, ◌%◌, ◌*◌, ◌++◌, ◌+◌, ◌<◌}
-use Rattle.cap_spec.proofs.ProofNames.{◌∙◌, ◌≡◌, ◌≤◌, drop_all, AllByRecursion, plain_text, plain_words}
+use Rattle.cap_spec.proofs.ProofNames.{◌∙◌, ◌≡◌, ◌≤◌, drop_all, AllByRecursion, plain_text, plain_words, rules}
 use Rattle.cap_calls.specs.CallNames.{WritesWords, Appends, IsOpen, Unpacking}
 use Rattle.cap_calls.specs.declared.packed_stream.Given.{Given}
 
@@ -13,17 +13,7 @@ words_given start new g = plain_words (drop start (take g.written new))
 -- how many bytes they have
 pub given_long : (start z p : ℕ) (bytes old new : List ℕ) (g : Given) → start % 8 ≡ 0 → WritesWords start z p bytes old new g
     → start + 8 * length (words_given start new g) ≡ g.written
-given_long start z p bytes old new g first f =
-    let inside : g.written ≤ length new = omega (arith, f.fits, f.long) in
-    omega (
-      arith,
-      words_exact (drop start (take g.written new)),
-      length-drop start (take g.written new),
-      length-take-le g.written new inside,
-      f.whole,
-      first,
-      f.after,
-    )
+given_long start z p bytes old new g first f = search (rules, words_exact, length-drop, length-take-le)
 
 pub appended : (limit : ℕ) (bytes old new : List ℕ) (state : Unpacking) (g : Given) → AllByRecursion (λ b. b < 256) new
     → state.written % 8 ≡ 0 → WritesWords state.written state.zero_words state.literal_words bytes old new g

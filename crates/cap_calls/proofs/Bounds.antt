@@ -1,14 +1,13 @@
 -- The bounds of the header suffice.
 use Rattle.cap_spec.proofs.Lemmas.{words_exact, length_joined, table_length}
 use Rattle.cap_spec.proofs.ProofNames.{Bool, List, ap, arith, length, length-append, ℕ, ◌∙◌, ◌≡◌, ◌≤◌, ⊤, joined, sizes_of}
+use Rattle.cap_spec.proofs.ProofNames.{rules}
 use Rattle.cap_frame.specs.Fronts.{IsFront}
-use Rattle.cap_frame.specs.declared.fault.FrontFault.TheVariants.{TooLarge, TooManySegments, Truncated}
 use Rattle.cap_calls.specs.CallFindings.{without}
 use Rattle.cap_calls.specs.CallReports.{cause_input_required}
 use Rattle.cap_calls.specs.Calls.{FindsFrame}
 use Rattle.cap_calls.specs.CallNames.{frame_bound, Tells, TellsWhole, framed, tells, trailing, HasNoFrame, TellsInput}
-use Rattle.cap_calls.specs.CallNames.{of_frame, of_no_words, of_words, Found, NoFrame, BadLimits, Fault, CallLimits}
-use Rattle.cap_calls.specs.declared.front.NoFrame.TheVariants.{NoMessage}
+use Rattle.cap_calls.specs.CallNames.{of_frame, of_no_words, of_words, Found, NoFrame, CallLimits}
 
 -- a frame within the limit, which is in the bytes
 pub frame_short : (limit : ℕ) (bs : List ℕ) (m : List (List ℕ)) (n : ℕ) → IsFront limit bs m n → n ≤ frame_bound limit
@@ -26,18 +25,11 @@ frame_inside limit bs m n h =
 
 -- what is required of an input
 cause_short : (l : CallLimits) (bs : List ℕ) (c : NoFrame) → HasNoFrame l bs c → cause_input_required c ≤ frame_bound l.message_words
-cause_short l bs BadLimits h = omega arith
-cause_short l bs NoMessage h = omega arith
-cause_short l bs (Fault (TooManySegments n)) h = omega arith
-cause_short l bs (Fault (TooLarge n)) h = omega arith
-cause_short l bs (Fault (Truncated n)) h = omega (arith, h.1.3)
+cause_short l bs c h = search rules
 
 pub frame_told : (l : CallLimits) (bs : List ℕ) (f : Found) → Tells ⊤ FindsFrame l bs f
     → (f.report.input_required ≤ frame_bound l.message_words) × (f.report.length ≤ frame_bound l.message_words)
-frame_told l bs f (without c h e k) =
-    let required : f.report.input_required ≡ cause_input_required c = ap (λ (x : Found). x.report.input_required) e in
-    let none : f.report.length ≡ 0 = ap (λ (x : Found). x.report.length) e in
-    (omega (arith, required, cause_short l bs c h), omega (arith, none))
+frame_told l bs f (without c h e k) = search (rules, cause_short)
 frame_told l bs f (framed m x y g h p e) =
     let same : f.report.input_required ≡ g.report.input_required = ap (λ (x : Found). x.report.input_required) e in
     let none : g.report.input_required ≡ 0 = ap (λ (x : Found). x.report.input_required) p in

@@ -1,8 +1,9 @@
 -- The bytes and the buffer decide what the call for a canonical copy finds and writes.
 use Rattle.cap_spec.proofs.Lemmas.{length_plain, one_copy, length_joined}
-use Rattle.cap_spec.proofs.ProofNames.{Bool, List, None, Option, Result, Some, [], ap, ap₂, arith, false, if◌then◌else◌}
+use Rattle.cap_spec.proofs.ProofNames.{Bool, List, None, Option, Result, Some, [], ap, ap₂, arith, false}
 use Rattle.cap_spec.proofs.ProofNames.{length, length-append, not, subst, sum, sym, true, unwrap_or, ℕ, ◌*◌, ◌+◌, ◌∙◌, ◌∷◌}
-use Rattle.cap_spec.proofs.ProofNames.{◌≡◌, ◌≤◌, joined, sizes_of, IsFirstCap, plain_text, plain_words, unamplified}
+use Rattle.cap_spec.proofs.ProofNames.{◌≡◌, ◌≤◌, sizes_of, IsFirstCap, plain_text, plain_words, unamplified}
+use Rattle.cap_spec.proofs.ProofNames.{rules}
 use Rattle.cap_spec.proofs.Strict.Unamplified.{within_both}
 use Rattle.cap_vet.specs.Reports.{IsFirstCapOf}
 use Rattle.cap_canon.specs.CopyRooms.{TellsRoom}
@@ -37,9 +38,7 @@ one_copied old xs ys m r f g (copied ws h t e) (has_capability d i j) = absurd
     (cap_no_copy m g.report.segment g.report.word ws d h)
 one_copied old xs ys m r f g (copied ws h t e) (copied us j u i) =
     let same = one_copy m ws us h j in
-    let one = one_text (plain_text ws) old f.answer g.answer f.count g.count xs ys t
-    (subst (λ (vs : List ℕ). TellsText (plain_text vs) old g.answer g.count ys) (sym same) u) in
-    (same_found f g one.0 one.1 (e ∙ sym i), one.2)
+    search (rules, one_text, same_found)
 
 -- The call answers and tells one thing.
 pub one_copy_told : (l : CallLimits) (bs old : List ℕ) (a b : Answer) (n k : ℕ) (xs ys : List ℕ) (r q : CallReport)
@@ -91,10 +90,7 @@ few_copied demands old new m w d f (refused q h e k) = let none = ap (λ (x : Fo
 few_copied demands old new m w d f (accepted q h n (has_capability c e k)) = let none = ap (λ (x : Found). x.count) e
     in omega (arith, none)
 few_copied demands old new m w d f (accepted q (t, h) n (copied ws j u i)) =
-    let few = copy_charged m t q.charge q.depth ws h.within.denotes j in
-    let long = text_told (plain_text ws) old f.answer f.count new u in
-    let same : f.report.charge ≡ q.charge = ap (λ (z : CallReport). z.charge) i in
-    omega (arith, few, long, length_plain ws, same)
+    search (rules, copy_charged, text_told, length_plain)
 
 few_told : (whole : Bool) (demands : Demands) (l : CallLimits) (bs old new : List ℕ) (f : Found)
     → TellsWhole whole (new ≡ old) (Copies old new demands) l bs f → f.count ≤ 8 * (f.report.charge + 1)
@@ -103,10 +99,7 @@ few_told whole demands l bs old new f (trailing m x y t h more e k) = let none =
 few_told whole demands l bs old new f (tells none (without c h e k)) = let none = ap (λ (x : Found). x.count) e in
     omega (arith, none)
 few_told whole demands l bs old new f (tells none (framed m x y g h p e)) =
-    let few = few_copied demands old new m l.charge l.depth g p in
-    let count = ap (λ (x : Found). x.count) e in
-    let charge : f.report.charge ≡ g.report.charge = ap (λ (x : Found). x.report.charge) e in
-    omega (arith, few, count, charge)
+    search (rules, few_copied demands old new m l.charge l.depth g p)
 
 pub few_input : (whole : Bool) (demands : Demands) (l : CallLimits) (bs old new : List ℕ) (f : Found)
     → TellsInput whole (new ≡ old) (Copies old new demands) l bs f → f.count ≤ 8 * (f.report.charge + 1)
@@ -114,10 +107,7 @@ few_input whole demands l bs old new f (of_frame n t) = few_told whole demands l
 few_input whole demands l bs old new f (of_no_words y c h e k) = let none = ap (λ (x : Found). x.count) e in
     omega (arith, none)
 few_input whole demands l bs old new f (of_words y g h p e) =
-    let few = few_copied demands old new (plain_words bs ∷ []) l.charge l.depth g p in
-    let count = ap (λ (x : Found). x.count) e in
-    let charge : f.report.charge ≡ g.report.charge = ap (λ (x : Found). x.report.charge) e in
-    omega (arith, few, count, charge)
+    search (rules, few_copied demands old new (plain_words bs ∷ []) l.charge l.depth g p)
 
 -- and if it is unamplified, beside the words of the message
 short_copied : (demands : Demands) (old new : List ℕ) (m : List (List ℕ)) (w d : ℕ) (f : Found)
@@ -128,20 +118,12 @@ short_copied demands old new m w d f un (refused q h e k) = let none = ap (λ (x
 short_copied demands old new m w d f un (accepted q h n (has_capability c e k)) = let none = ap
     (λ (x : Found). x.count) e in omega (arith, none)
 short_copied demands old new m w d f un (accepted q (t, h) n (copied ws j u i)) =
-    let few = copy_charged m t q.charge q.depth ws h.within.denotes j in
-    let long = text_told (plain_text ws) old f.answer f.count new u in
-    let within : q.charge ≤ unamplified m w = subst (λ (z : Bool). q.charge ≤ (if z then unamplified m w else w)) un
-    h.within.few_words in
-    let most : q.charge ≤ sum (sizes_of m) + 4096 = ((within_both m w q.charge).0 within).1 in
-    omega (arith, few, long, length_plain ws, most)
+    search (rules, copy_charged, text_told, within_both, length_plain)
 
 -- a frame has the words of its segments, and its table
 frame_words : (l : CallLimits) (bs : List ℕ) (frame segments : ℕ) (m : List (List ℕ)) → HasFrame l bs frame segments m
     → 8 * sum (sizes_of m) ≤ frame
-frame_words l bs frame segments m h =
-    let table = h.front.frames.table in
-    let words = ap length h.front.frames.whole ∙ length-append table (joined m) in
-    omega (arith, h.front.long, words, length_joined m)
+frame_words l bs frame segments m h = search (rules, length-append, length_joined)
 
 short_told : (whole : Bool) (l : CallLimits) (bs old new : List ℕ) (f : Found) → allows_amplified l ≡ false
     → TellsWhole whole (new ≡ old) (Copies old new (demands_of l)) l bs f → f.count ≤ f.report.length + 8 * 4097

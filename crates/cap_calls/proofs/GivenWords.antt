@@ -1,8 +1,8 @@
 -- Words in a buffer, one step after the other.
 use Rattle.cap_spec.proofs.ProofNames.{List, [], ap, arith, drop, drop-drop, drop_at, length, length-append, length-drop}
-use Rattle.cap_spec.proofs.ProofNames.{length-take, length-take-le, refl, subst, sym, take, take-append-drop, ℕ, ◌%◌, ◌++◌}
+use Rattle.cap_spec.proofs.ProofNames.{length-take, length-take-le, subst, sym, take, take-append-drop, ℕ, ◌%◌, ◌++◌}
 use Rattle.cap_spec.proofs.ProofNames.{◌+◌, ◌-◌, ◌∙◌, ◌≡◌, ◌≤◌, drop-append-le, nil_from_length, take-put_mid_below}
-use Rattle.cap_spec.proofs.ProofNames.{post_of, put_mid, plain_words}
+use Rattle.cap_spec.proofs.ProofNames.{post_of, put_mid, plain_words, rules}
 use Rattle.cap_words.proofs.Filling.{plain_join}
 use Rattle.cap_words.proofs.Turns.{filled}
 use Rattle.cap_calls.specs.PackedStreams.{GivesWords, IsRunRest, WritesWords}
@@ -15,16 +15,7 @@ pub gives_none : (start z p : ℕ) (bytes old : List ℕ) → start ≤ length o
 gives_none start z p bytes old fits whole rest =
     let none : plain_words (drop start (take start old)) ≡ [] =
     ap plain_words (nil_from_length (drop start (take start old)) (omega (arith, length-drop start (take start old), length-take start old))) in
-    record {
-      after = omega arith;
-      fits = fits;
-      long = refl;
-      whole = whole;
-      leads = subst (λ (ws : List ℕ). GivesWords z p bytes ws 0 z p) (sym none) (leads_none z p bytes);
-      front = refl;
-      rest = refl;
-      left = rest;
-    }
+    search (rules, leads_none)
 
 -- Some words, and then others in the next part of the buffer.
 pub gives_more : (start z p k : ℕ) (bytes rest old out part given : List ℕ) (d e : Given) → start % 8 ≡ 0
@@ -51,17 +42,7 @@ gives_more start z p k bytes rest old out part given d e first s place size more
     let words : plain_words (drop start (take (at + n) longer)) ≡ plain_words own ++ plain_words (take n given) =
     ap plain_words both ∙ plain_join own (take n given) eight in
     let after : drop at longer ≡ given ++ post = drop_at (take at out) (given ++ post) at front in
-    let total : length longer ≡ length out =
-    omega (
-      arith,
-      length-append (take at out) (given ++ post),
-      length-append given post,
-      front,
-      size,
-      ap length behind,
-      length-append part post,
-      length-drop at out,
-    ) in
+    let total : length longer ≡ length out = search (rules, length-append, length-drop) in
     record {
       after = omega (arith, s.after);
       fits = omega (arith, t.fits, space, s.long, inside);

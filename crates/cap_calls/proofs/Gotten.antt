@@ -1,4 +1,5 @@
 -- The bytes and the path decide what the call for the node at a path finds.
+use Rattle.cap_spec.proofs.ProofNames.{rules}
 use Rattle.std.proofs.Common.{Bool, List, [], ap, get_or, not, slice_set, subst, sym, ℕ, ◌∙◌, ◌∷◌, ◌≡◌}
 use Rattle.cap_spec.proofs.Paths.PathTexts.{one_bad_place, one_path_text, path_not_bad}
 use Rattle.cap_path.specs.PathSteps.{AreLeft}
@@ -9,8 +10,7 @@ use Rattle.cap_calls.specs.NodeCalls.{GetsFirst, TellsPath, bad_limits}
 use Rattle.cap_calls.specs.CallNames.{Step, Demands, TellsWhole, framed, none_found, refused_found, tells, trailing}
 use Rattle.cap_calls.specs.CallNames.{allows_trailing, demands_of, AreLimits, none_node, TellsMessage, Gets, TellsGet}
 use Rattle.cap_calls.specs.CallNames.{a_node, a_path, bad_path, bad_path_found, no_meeting, no_node, Answer, Found}
-use Rattle.cap_calls.specs.CallNames.{BadLimits, Fault, CallLimits, CallNode, CallReport}
-use Rattle.cap_calls.specs.declared.front.NoFrame.TheVariants.{NoMessage}
+use Rattle.cap_calls.specs.CallNames.{BadLimits, CallLimits, CallNode, CallReport}
 use Rattle.cap_calls.proofs.Answers.{one_returned, one_whole_told}
 use Rattle.cap_calls.proofs.OneNode.{one_node}
 
@@ -32,11 +32,7 @@ one_gets path demands x y m w d f g (a_node k t b z meets at e n) (a_node k' t' 
 -- Bad limits are all that is found.
 pub limits_alone : {K : Type 0} {P : List (List ℕ) → ℕ → ℕ → Found → Type 0} (whole : Bool) (l : CallLimits) (bs : List ℕ)
     (f : Found) → ¬ AreLimits l → TellsWhole whole K P l bs f → (f ≡ none_found BadLimits) × K
-limits_alone whole l bs f bad (trailing m x y t h more e k) = absurd (bad h.are_limits)
-limits_alone whole l bs f bad (tells only (without BadLimits h e k)) = (e, k)
-limits_alone whole l bs f bad (tells only (without NoMessage h e k)) = absurd (bad h.0)
-limits_alone whole l bs f bad (tells only (without (Fault c) h e k)) = absurd (bad h.0)
-limits_alone whole l bs f bad (tells only (framed m x y g h p e)) = absurd (bad h.are_limits)
+limits_alone whole l bs f bad x6 = search rules
 
 one_told_path : (l : CallLimits) (bs text : List ℕ) (x y : CallNode) (f g : Found) → TellsPath l bs text x f
     → TellsPath l bs text y g → (f ≡ g) × (x ≡ y)
@@ -61,9 +57,7 @@ one_told_path l bs text x y f g (a_path p are is t) (a_path q also too u) =
 pub one_get_told : (l : CallLimits) (bs text : List ℕ) (a b : Answer) (x y : CallNode) (r q : CallReport)
     → TellsGet l bs text a x r → TellsGet l bs text b y q → (a ≡ b) × (x ≡ y) × (r ≡ q)
 one_get_told l bs text a b x y r q (f, t, h) (g, u, k) =
-    let same = one_told_path l bs text x y f g t u in
-    let one = one_returned f g a b r q same.0 h k in
-    (one.0, same.1, one.1)
+    search (rules, one_told_path l bs text x y f g t u, one_returned f g a b r q (one_told_path l bs text x y f g t u).0 h k)
 
 -- The first of some nodes is the one that was put there.
 put_first : (old other : CallNode) (nodes : List CallNode) (node : CallNode) → nodes ≡ slice_set (old ∷ []) 0 node

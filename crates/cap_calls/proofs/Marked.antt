@@ -1,15 +1,15 @@
 -- The bytes and the capacity decide what the call that vets exclusively finds.
 use Rattle.cap_spec.proofs.Lemmas.{none_of_disjoint, one_overlap, length_joined}
-use Rattle.cap_spec.proofs.ProofNames.{Bool, List, [], ap, arith, drop, inl, inr, length, length-append, not, sym, ℕ, ◌+◌}
-use Rattle.cap_spec.proofs.ProofNames.{◌/◌, ◌∙◌, ◌∷◌, ◌≡◌, ◌≤◌, ⊤, joined, plain_words}
+use Rattle.cap_spec.proofs.ProofNames.{Bool, List, [], ap, arith, drop, inr, length, length-append, not, sym, ℕ, ◌+◌}
+use Rattle.cap_spec.proofs.ProofNames.{◌/◌, ◌∙◌, ◌∷◌, ◌≡◌, ◌≤◌, ⊤, plain_words, rules}
 use Rattle.cap_vet.specs.Exclusives.{KeepsRoom}
 use Rattle.cap_vet.specs.VetNames.{IsExclusiveFault, IsVetted, marks_of}
 use Rattle.cap_vet.specs.declared.exclusiveness.exclusive_room.ExclusiveFault.{ExclusiveFault}
 use Rattle.cap_vet.specs.declared.exclusiveness.exclusive_room.ExclusiveFault.TheVariants.{NoRoom, Overlap, Refused}
 use Rattle.cap_vet.proofs.OneReport.{not_both, one_report}
-use Rattle.cap_calls.specs.CallFindings.{accepted, without}
+use Rattle.cap_calls.specs.CallFindings.{without}
 use Rattle.cap_calls.specs.ExclusiveCalls.{FindsMarks, KeepsMarks, MarksIn, TellsExclusive, too_small}
-use Rattle.cap_calls.specs.CallNames.{Demands, Report, TellsWhole, accepted_found, framed, refused, tells, trailing}
+use Rattle.cap_calls.specs.CallNames.{Demands, Report, TellsWhole, accepted_found, framed, tells, trailing}
 use Rattle.cap_calls.specs.CallNames.{allows_trailing, demands_of, HasFrame, TellsInput, of_frame, of_no_words, of_words}
 use Rattle.cap_calls.specs.CallNames.{Marks, exclusive, fault_found, overlap, Answer, Found, CallLimits, CallReport}
 use Rattle.cap_calls.proofs.Answers.{one_input_told, one_judged, one_returned}
@@ -45,21 +45,11 @@ one_exclusive_told l bs size a b n k r q (f, t, h, e) (g, u, i, j) =
 -- the marks of a message take few numbers beside the bytes of its frame
 few_marks : (l : CallLimits) (bs : List ℕ) (frame segments : ℕ) (m : List (List ℕ)) → HasFrame l bs frame segments m
     → marks_of m ≤ frame / 512 + 1
-few_marks l bs frame segments m h =
-    let own = h.front.own in
-    let table = h.front.frames.table in
-    let words = ap length h.front.frames.whole ∙ length-append table (joined m) in
-    omega (arith, h.front.long, words, length_joined m)
+few_marks l bs frame segments m h = search (rules, length-append, length_joined)
 
 marked_count : (size : ℕ) (demands : Demands) (m : List (List ℕ)) (w d : ℕ) (f : Found) → Marks size demands m w d f
     → f.count ≤ marks_of m
-marked_count size demands m w d f (refused q h e k) = let same = ap (λ (x : Found). x.count) e in omega (arith, same)
-marked_count size demands m w d f (accepted r h n (too_small few e)) = let same = ap (λ (x : Found). x.count) e in
-    omega (arith, same)
-marked_count size demands m w d f (accepted r h n (overlap s v k enough j e)) = let same = ap (λ (x : Found). x.count)
-    e in omega (arith, same)
-marked_count size demands m w d f (accepted r h n (exclusive enough j e)) = let same = ap (λ (x : Found). x.count) e
-    in omega (arith, same)
+marked_count size demands m w d f x7 = search rules
 
 few_required : (whole : Bool) (l : CallLimits) (bs : List ℕ) (size : ℕ) (demands : Demands) (f : Found)
     → TellsWhole whole ⊤ (Marks size demands) l bs f → f.count ≤ f.report.length / 512 + 1
@@ -68,11 +58,7 @@ few_required whole l bs size demands f (trailing m x y t h more e k) = let none 
 few_required whole l bs size demands f (tells none (without c h e k)) = let none = ap (λ (z : Found). z.count) e in
     omega (arith, none)
 few_required whole l bs size demands f (tells none (framed m x y g h p e)) =
-    let few = few_marks l bs x y m h in
-    let some = marked_count size demands m l.charge l.depth g p in
-    let count : f.count ≡ g.count = ap (λ (z : Found). z.count) e in
-    let long : f.report.length ≡ x = ap (λ (z : Found). z.report.length) e in
-    omega (arith, few, some, count, long)
+    search (rules, few_marks l bs x y m h, marked_count size demands m l.charge l.depth g p)
 
 pub few_input : (whole : Bool) (l : CallLimits) (bs : List ℕ) (size : ℕ) (demands : Demands) (f : Found)
     → TellsInput whole ⊤ (Marks size demands) l bs f → f.count ≤ f.report.length / 512 + 1
@@ -88,23 +74,11 @@ few_input whole l bs size demands f (of_words y g h p e) =
 -- What was found of the marks holds of all the bytes.
 marks_kept : (whole : Bool) (demands : Demands) (l : CallLimits) (bs old new : List ℕ) (f : Found)
     → TellsWhole whole (new ≡ old) (MarksIn old new demands) l bs f → KeepsMarks old new f
-marks_kept whole demands l bs old new f (trailing m x y t h more e k) = record
-    { rest = ap (drop f.count) k; kept = inr (inr k) }
-marks_kept whole demands l bs old new f (tells none (without c h e k)) = record
-    { rest = ap (drop f.count) k; kept = inr (inr k) }
-marks_kept whole demands l bs old new f (tells none (framed m x y g h p e)) =
-    let count : f.count ≡ g.count = ap (λ (z : Found). z.count) e in
-    let same : f.answer ≡ g.answer = ap (λ (z : Found). z.answer) e in
-    record { rest = rw count p.1.rest; kept = rw same p.1.kept }
+marks_kept whole demands l bs old new f x8 = search rules
 
 pub input_kept : (whole : Bool) (demands : Demands) (l : CallLimits) (bs old new : List ℕ) (f : Found)
     → TellsInput whole (new ≡ old) (MarksIn old new demands) l bs f → KeepsMarks old new f
-input_kept whole demands l bs old new f (of_frame n t) = marks_kept whole demands l bs old new f t
-input_kept whole demands l bs old new f (of_no_words y c h e k) = record { rest = ap (drop f.count) k; kept = inr (inr k) }
-input_kept whole demands l bs old new f (of_words y g h p e) =
-    let count : f.count ≡ g.count = ap (λ (z : Found). z.count) e in
-    let same : f.answer ≡ g.answer = ap (λ (z : Found). z.answer) e in
-    record { rest = rw count p.1.rest; kept = rw same p.1.kept }
+input_kept whole demands l bs old new f x8 = search (rules, marks_kept)
 
 -- A fault of an accepted message is what the call finds of it.
 pub marked_fault : (size : ℕ) (m : List (List ℕ)) (r : Report) (fault : ExclusiveFault) (f : Found) → IsVetted m r
@@ -119,14 +93,7 @@ marked_fault size m r (Overlap s w n) f v h e = overlap s w n h.2 h.3 e
 pub fault_kept : (old new : List ℕ) (m : List (List ℕ)) (fault : ExclusiveFault) (f : Found)
     → f ≡ fault_found (marks_of m) fault → KeepsRoom fault old new
     → drop (marks_of m) new ≡ drop (marks_of m) old → KeepsMarks old new f
-fault_kept old new m (Refused q) f e k rest = record { rest = ap (drop f.count) k; kept = inr (inr k) }
-fault_kept old new m (NoRoom n q) f e k rest = record { rest = ap (drop f.count) k; kept = inr (inr k) }
-fault_kept old new m (Overlap s w n) f e k rest =
-    record {
-      rest = (let same = ap (λ (z : Found). z.count) e in rw same rest);
-      kept = inr
-          (inl (ap (λ (z : Found). z.answer) e));
-    }
+fault_kept old new m fault f e x7 x8 = search rules
 
 -- Nothing is changed of a message that isn't accepted.
 pub refused_kept : (old new : List ℕ) (f : Found) → new ≡ old → KeepsMarks old new f

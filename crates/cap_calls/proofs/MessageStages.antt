@@ -1,7 +1,7 @@
 -- A message that more words belong to, and the end of one.
 use Rattle.cap_spec.proofs.Frames.Endings.{frame_some}
 use Rattle.cap_spec.proofs.Frames.OneEnding.{one_ending}
-use Rattle.cap_spec.proofs.ProofNames.{Err, List, Option, Result, [], ap, append_assoc, arith, inl, inr, length}
+use Rattle.cap_spec.proofs.ProofNames.{Err, List, Option, Result, [], ap, append_assoc, arith, inl, inr, length, rules}
 use Rattle.cap_spec.proofs.ProofNames.{length-append, length-take-le, refl, sum, sym, take, ℕ, ◌%◌, ◌*◌, ◌++◌, ◌+◌, ◌-◌}
 use Rattle.cap_spec.proofs.ProofNames.{◌/◌, ◌<◌, ◌^◌, ◌∙◌, ◌∷◌, ◌≡◌, ◌≤◌, take-append-add, cases_lt, false≢true}
 use Rattle.cap_spec.proofs.ProofNames.{nil_from_length, put_mid, BeginsMessage, message, partial, too_large, too_many}
@@ -9,14 +9,13 @@ use Rattle.cap_spec.proofs.ProofNames.{IsPartial, in_contents, in_table, in_word
 use Rattle.cap_words.proofs.Filling.{plain_join}
 use Rattle.cap_words.proofs.Turns.{filled}
 use Rattle.cap_frame.specs.Framed.{TellsFront}
-use Rattle.cap_frame.specs.Fronts.{IsFront, TellsLarge, TellsMany, Wants, a_frame, a_table, a_word, table_words}
+use Rattle.cap_frame.specs.Fronts.{IsFront, TellsLarge, TellsMany, a_frame, a_table, table_words}
 use Rattle.cap_frame.specs.declared.fault.FrontFault.TheVariants.{Truncated}
 use Rattle.cap_frame.proofs.Cuts.{words_inside}
 use Rattle.cap_frame.proofs.FrontAnswers.{short_answer}
 use Rattle.cap_frame.proofs.Parts.{take_words}
 use Rattle.cap_calls.specs.MessageStages.{CannotAppend}
 use Rattle.cap_calls.specs.CallNames.{FrontFault, Framed, words_to_come, IsOpen, Stage}
-use Rattle.cap_calls.specs.declared.calls.unpack_message.Stage.TheVariants.{Open, TooLarge, TooMany, Whole}
 use Rattle.cap_calls.specs.declared.packed_stream.Given.{Given}
 use Rattle.cap_calls.proofs.Packed.{whole_by_length}
 
@@ -122,21 +121,12 @@ still_open limit wanted at k n out given whole eight from within less inside o =
 
 -- It wants whole words.
 pub wanted_whole : (limit wanted : ℕ) (held : List ℕ) → IsOpen limit held wanted → wanted % 8 ≡ 0
-wanted_whole limit wanted held (inl none) = omega (arith, none.1)
-wanted_whole limit wanted held (inr t) = by_words t.1
-  where
-    by_words : Wants (plain_words held) wanted → wanted % 8 ≡ 0
-    by_words (a_word e n) = omega (arith, n)
-    by_words (a_table first rest e short n) = omega (arith, n)
-    by_words (a_frame table sizes rest e t n) = omega (arith, n)
+wanted_whole limit wanted held x4 = search rules
 
 -- how a call ends at any stage
 pub ends_at : (stage : Stage) (size : ℕ) (g : Given) (rest : List ℕ)
     → (g.written + 8 ≤ size → words_to_come g.zeros g.literal rest ≡ []) → CannotAppend stage size g rest
-ends_at (Open wanted) size g rest h = h
-ends_at (Whole segments) size g rest h = tt
-ends_at (TooMany count) size g rest h = tt
-ends_at (TooLarge words) size g rest h = tt
+ends_at stage size g rest h = search rules
 
 -- A message that is too large, or has too many segments, is not whole.
 pub many_not_whole : (limit count n : ℕ) (held : List ℕ) (m : List (List ℕ)) → TellsMany held count → IsFront limit held m n → ⊥

@@ -3,7 +3,7 @@ use Rattle.cap_spec.specs.declared.Kind.TheVariants.{Pointers}
 use Rattle.cap_spec.proofs.Lemmas.{structs_words, word_within}
 use Rattle.cap_spec.proofs.Pointers.Shapes.{scalars_words, struct_words}
 use Rattle.cap_spec.proofs.ProofNames.{List, [], arith, inl, inr, length, mul-le-mul_right, subst, sym, ℕ, ◌*◌, ◌+◌}
-use Rattle.cap_spec.proofs.ProofNames.{◌/◌, ◌<◌, ◌∷◌, ◌≤◌, cases_lt, ⊤, HasObject, segment_of, HasPlace, IsPlace}
+use Rattle.cap_spec.proofs.ProofNames.{◌/◌, ◌<◌, ◌∷◌, ◌≤◌, ⊤, HasObject, segment_of, HasPlace, IsPlace, rules}
 use Rattle.cap_spec.proofs.ProofNames.{PathLeads, ReachesSpot, Spot, StepsTo, element, word, element_bits}
 use Rattle.cap_spec.proofs.ProofNames.{list_size, list_words}
 use Rattle.cap_spec.proofs.Trees.Charges.{elements_fit}
@@ -51,10 +51,7 @@ some_bytes : (x words : ℕ) → x ≤ words * 64 → (x + 7) / 8 ≤ 8 * words
 some_bytes x words h = omega (arith, h)
 
 value_bytes : (c n : ℕ) → (element_bits c * n + 7) / 8 ≤ 8 * list_words c n
-value_bytes c n = elim (cases_lt (list_words c n * 64) (element_bits c * n)) [
-  | inl less ↦ absurd (omega (arith, word_within c n (list_words c n) less))
-  | inr enough ↦ some_bytes (element_bits c * n) (list_words c n) enough
-]
+value_bytes c n = search (rules, word_within, some_bytes)
 
 -- The bytes of a node are inside what its words are inside of.
 module _ (m : List (List ℕ)) (frame : ℕ)
@@ -63,9 +60,7 @@ module _ (m : List (List ℕ)) (frame : ℕ)
       → (kind_node k (offset_of m t b)).offset + (kind_node k (offset_of m t b)).length ≤ frame
   node_within (word s w) Null t b n h f = omega arith
   node_within (word s w) (Cap i) t b n h f = omega arith
-  node_within (word s w) (Struct d p) t b n h (x, q, tag, f, e) =
-      let r = bound t b n f.finds.inside.exists (omega (arith, e, f.finds.inside.inside)) in
-      omega (arith, r, e, struct_words f.shape)
+  node_within (word s w) (Struct d p) t b n h (x, q, tag, f, e) = search (rules, struct_words)
   node_within (word s w) (Scalars c y) t b n h (x, q, tag, f, e) =
       let r = bound t b n f.finds.inside.exists (omega (arith, e, f.finds.inside.inside)) in
       omega (arith, r, e, scalars_words f.shape, value_bytes c y)
@@ -75,10 +70,7 @@ module _ (m : List (List ℕ)) (frame : ℕ)
       let r = bound t b n f.finds.inside.exists (omega (arith, e, f.finds.inside.inside)) in
       let few : y * (d + p) ≤ list_size q = omega (arith, elements_fit f) in
       omega (arith, r, few, e, structs_words f.shape)
-  node_within (element u v ds ps) (Struct d p) t b n h f =
-      let g : (t < length m) × (b + (ds + ps) ≤ length (segment_of m t)) = rw (f.segment, f.start) h in
-      let r = bound t b (ds + ps) g.0 g.1 in
-      omega (arith, r, f.data_words)
+  node_within (element u v ds ps) (Struct d p) t b n h f = search rules
   node_within (element u v ds ps) k t b n h f = absurd f
 
   pub node_bounded : (path : List Step) (k : Kind) (t b n level : ℕ) (a : Spot) → ReachesSpot m path level a → HasObject m a k t b n

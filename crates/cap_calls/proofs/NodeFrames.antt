@@ -1,5 +1,6 @@
 -- The bytes of each node that a call reports are inside the frame that it reports.
-use Rattle.std.proofs.Common.{Bool, List, ap, arith, length, not, slice_index_or, ℕ, ◌+◌, ◌<◌, ◌∙◌, ◌≡◌, ◌≤◌}
+use Rattle.cap_spec.proofs.ProofNames.{rules}
+use Rattle.std.proofs.Common.{Bool, List, ap, arith, length, not, slice_index_or, ℕ, ◌+◌, ◌<◌, ◌≡◌, ◌≤◌}
 use Rattle.cap_calls.specs.CallFindings.{without}
 use Rattle.cap_calls.specs.NodeCalls.{bad_limits}
 use Rattle.cap_calls.specs.CallNames.{Step, Demands, TellsWhole, framed, tells, trailing, allows_trailing, demands_of}
@@ -40,18 +41,11 @@ module _ (l : CallLimits) (bs : List ℕ) where
 
   pub get_inside : (text : List ℕ) (a : Answer) (node : CallNode) (r : CallReport) → TellsGet l bs text a node r
       → (end_of node ≤ r.length) × (r.length ≤ length bs)
-  get_inside text a node r (f, bad_limits bad e n, (i, j)) =
-      let none : r.length ≡ 0 = ap (λ (z : CallReport). z.length) j ∙ ap (λ (z : Found). z.report.length) e in
-      (none_ends node r.length n, omega (arith, none))
-  get_inside text a node r (f, bad_path at are bad e n, (i, j)) =
-      let none : r.length ≡ 0 = ap (λ (z : CallReport). z.length) j ∙ ap (λ (z : Found). z.report.length) e in
-      (none_ends node r.length n, omega (arith, none))
+  get_inside text a node r (f, bad_limits bad e n, (i, j)) = search (rules, none_ends)
+  get_inside text a node r (f, bad_path at are bad e n, (i, j)) = search (rules, none_ends)
   get_inside text a node r (f, a_path path are whole t, (i, j)) =
       let long : r.length ≡ f.report.length = ap (λ (z : CallReport). z.length) j in
-      let whole = not (allows_trailing l) in (
-        omega (arith, long, message_inside whole path node (demands_of l) f t),
-        omega (arith, long, length_inside whole l bs f t),
-      )
+      search (rules, message_inside, length_inside)
 
   -- what is got of the nodes of a range
   range_message_inside : (whole : Bool) (path : ℕ → List Step) (old new : List CallNode) (demands : Demands) (f : Found) (k : ℕ)

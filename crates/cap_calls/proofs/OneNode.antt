@@ -1,8 +1,8 @@
 -- One node is at a path.
 use Rattle.cap_spec.specs.declared.Kind.TheVariants.{Pointers}
 use Rattle.cap_spec.proofs.Lemmas.{one_coming, one_lead, one_found}
-use Rattle.cap_spec.proofs.ProofNames.{List, ap, ap₂, pos, refl, subst, sym, ℕ, ◌∙◌, ◌≡◌, HasObject, PathFinds, FindsKind}
-use Rattle.cap_spec.proofs.ProofNames.{Leads, to_cap, to_null, to_object, Spot, element, word}
+use Rattle.cap_spec.proofs.ProofNames.{List, ap₂, refl, subst, sym, ℕ, ◌≡◌, HasObject, PathFinds, FindsKind}
+use Rattle.cap_spec.proofs.ProofNames.{Leads, to_cap, to_null, to_object, Spot, element, word, rules}
 use Rattle.cap_calls.specs.CallNames.{Kind, Cap, Null, Scalars, Struct, Structs, Step, kind_node, offset_of, CallNode}
 
 -- what a pointer word leads to
@@ -25,28 +25,7 @@ node_at m k t b = kind_node k (offset_of m t b)
 
 one_seen : (m : List (List ℕ)) (s w : ℕ) (k k' : Kind) (t b t' b' : ℕ) → Seen m s w k t b → Seen m s w k' t' b'
     → node_at m k t b ≡ node_at m k' t' b'
-one_seen m s w k k' t b t' b' (null x h e) (null y g f) =
-    ap (λ (z : Kind). node_at m z t b) e ∙ sym (ap (λ (z : Kind). node_at m z t' b') f)
-one_seen m s w k k' t b t' b' (null x h e) (cap y i g f) =
-    let c : to_null ≡ to_cap i = (one_lead m s w x y to_null (to_cap i) h g).1 in absurd (cc c)
-one_seen m s w k k' t b t' b' (null x h e) (object y q tag g) =
-    let c : to_null ≡ to_object t' (pos b') q = (one_lead m s w x y to_null (to_object t' (pos b') q) h g.finds.leads).1 in absurd (cc c)
-one_seen m s w k k' t b t' b' (cap x i h e) (null y g f) =
-    let c : to_cap i ≡ to_null = (one_lead m s w x y (to_cap i) to_null h g).1 in absurd (cc c)
-one_seen m s w k k' t b t' b' (cap x i h e) (cap y j g f) =
-    let c : to_cap i ≡ to_cap j = (one_lead m s w x y (to_cap i) (to_cap j) h g).1 in
-    let d : i ≡ j = cc in
-    ap (λ (z : Kind). node_at m z t b) e ∙ ap (λ (z : ℕ). node_at m (Cap z) t b) d
-    ∙ sym (ap (λ (z : Kind). node_at m z t' b') f)
-one_seen m s w k k' t b t' b' (cap x i h e) (object y q tag g) =
-    let c : to_cap i ≡ to_object t' (pos b') q = (one_lead m s w x y (to_cap i) (to_object t' (pos b') q) h g.finds.leads).1 in absurd (cc c)
-one_seen m s w k k' t b t' b' (object x q tag h) (null y g f) =
-    let c : to_object t (pos b) q ≡ to_null = (one_lead m s w x y (to_object t (pos b) q) to_null h.finds.leads g).1 in absurd (cc c)
-one_seen m s w k k' t b t' b' (object x q tag h) (cap y i g f) =
-    let c : to_object t (pos b) q ≡ to_cap i = (one_lead m s w x y (to_object t (pos b) q) (to_cap i) h.finds.leads g).1 in absurd (cc c)
-one_seen m s w k k' t b t' b' (object x q tag h) (object y u other g) =
-    let o = one_found h g in
-    ap (λ (z : Kind). node_at m z t b) o.kind ∙ ap₂ (λ (z v : ℕ). node_at m k' z v) o.segment o.start
+one_seen m s w k k' t b t' b' x10 x11 = search (rules, to_null, to_cap, one_lead, to_object, one_found)
 
 -- an element is a struct
 record IsElement (t' b' ds ps : ℕ) (k : Kind) (t b : ℕ) : Type 0 where
@@ -67,11 +46,7 @@ element_seen m t' b' ds ps (Structs x d p) t b n h = absurd h
 one_stand : (m : List (List ℕ)) (a : Spot) (k k' : Kind) (t b n t' b' n' : ℕ) → HasObject m a k t b n
     → HasObject m a k' t' b' n' → node_at m k t b ≡ node_at m k' t' b'
 one_stand m (word s w) k k' t b n t' b' n' h g = one_seen m s w k k' t b t' b' (seen m s w k t b n h) (seen m s w k' t' b' n' g)
-one_stand m (element u v ds ps) k k' t b n t' b' n' h g =
-    let e = element_seen m u v ds ps k t b n h in
-    let f = element_seen m u v ds ps k' t' b' n' g in
-    ap (λ (z : Kind). node_at m z t b) (e.kind ∙ sym f.kind)
-    ∙ ap₂ (λ (x y : ℕ). node_at m k' x y) (e.segment ∙ sym f.segment) (e.start ∙ sym f.start)
+one_stand m (element u v ds ps) k k' t b n t' b' n' h g = search (rules, element_seen)
 
 -- The node at a path is one.
 pub one_node : (m : List (List ℕ)) (path : List Step) (k k' : Kind) (t b n t' b' n' : ℕ) → PathFinds m path k t b n

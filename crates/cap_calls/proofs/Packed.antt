@@ -1,8 +1,8 @@
 -- The bytes decide what packing answers and writes.
-use Rattle.cap_spec.proofs.ProofNames.{List, ap, arith, drop, false, length, refl, sym, true, ℕ, ◌%◌, ◌++◌, ◌<◌, ◌∙◌, ◌≡◌}
-use Rattle.cap_spec.proofs.ProofNames.{◌≤◌, false≢true, pack_text, plain_is_cut, plain_words}
+use Rattle.cap_spec.proofs.ProofNames.{List, arith, drop, false, length, refl, true, ℕ, ◌%◌, ◌++◌, ◌<◌, ◌≡◌}
+use Rattle.cap_spec.proofs.ProofNames.{◌≤◌, false≢true, pack_text, plain_is_cut, plain_words, rules}
 use Rattle.cap_words.proofs.Pieces.{plain_end}
-use Rattle.cap_calls.specs.PackCalls.{TellsPack, too_small, whole, written}
+use Rattle.cap_calls.specs.PackCalls.{TellsPack, too_small, whole}
 use Rattle.cap_calls.specs.CallNames.{cut, Answer, BufferTooSmall, Good}
 use Rattle.cap_calls.proofs.Texts.{one_text}
 
@@ -10,10 +10,7 @@ use Rattle.cap_calls.proofs.Texts.{one_text}
 pub one_pack_told : (bs old : List ℕ) (a b : Answer) (n k : ℕ) (xs ys : List ℕ) → TellsPack bs old a n xs
     → TellsPack bs old b k ys →
     (a ≡ b) × (n ≡ k) × (xs ≡ ys)
-one_pack_told bs old a b n k xs ys (cut c e f g) (cut d h i j) = (e ∙ sym h, f ∙ sym i, g ∙ sym j)
-one_pack_told bs old a b n k xs ys (whole c t) (whole d u) = one_text (pack_text (plain_words bs)) old a b n k xs ys t u
-one_pack_told bs old a b n k xs ys (cut c e f g) (whole d u) = absurd (false≢true (sym d ∙ c))
-one_pack_told bs old a b n k xs ys (whole c t) (cut d h i j) = absurd (false≢true (sym c ∙ d))
+one_pack_told bs old a b n k xs ys x9 x10 = search (rules, one_text, false≢true)
 
 -- Their length decides whether they are words.
 pub cut_by_length : (bs : List ℕ) → 0 < length bs % 8 → plain_is_cut bs ≡ true
@@ -26,9 +23,7 @@ whole_by_length bs none = (plain_end 0 bs (omega arith)).whole none
 pub pack_written : (bs old new : List ℕ) (n : ℕ) → length bs % 8 ≡ 0 → n ≡ length (pack_text (plain_words bs))
     → n ≤ length old →
     new ≡ pack_text (plain_words bs) ++ drop n old → TellsPack bs old Good n new
-pack_written bs old new n w e r h =
-    whole (whole_by_length bs w)
-    (written (omega (arith, e, r)) refl e (h ∙ ap (λ (k : ℕ). pack_text (plain_words bs) ++ drop k old) e))
+pack_written bs old new n w e r h = search (rules, whole_by_length)
 
 -- Or it does not fit.
 pub pack_too_small : (bs old new : List ℕ) (n : ℕ) → length bs % 8 ≡ 0 → n ≡ length (pack_text (plain_words bs))

@@ -1,7 +1,7 @@
 -- The bytes and the buffer decide what the call that packs a message finds and writes.
 use Rattle.cap_spec.proofs.Lemmas.{length_joined, table_length}
 use Rattle.cap_spec.proofs.ProofNames.{Bool, List, ap, arith, length, length-append, not, sym, ℕ, ◌*◌, ◌/◌, ◌∙◌, ◌≡◌, ◌≤◌}
-use Rattle.cap_spec.proofs.ProofNames.{length-map, joined, sizes_of, packed_frame}
+use Rattle.cap_spec.proofs.ProofNames.{length-map, sizes_of, rules}
 use Rattle.cap_calls.specs.CallFindings.{without}
 use Rattle.cap_calls.specs.PackedMessages.{Packs, PacksShort, TellsPackMessage}
 use Rattle.cap_calls.specs.CallNames.{TellsWhole, framed, tells, trailing, allows_trailing, TellsMessage, Answer, Found}
@@ -13,9 +13,7 @@ use Rattle.cap_calls.proofs.Texts.{one_text}
 -- of a message
 one_packed : (old xs ys : List ℕ) (m : List (List ℕ)) (w d : ℕ) (f g : Found) → Packs old xs m w d f
     → Packs old ys m w d g → (f ≡ g) × (xs ≡ ys)
-one_packed old xs ys m w d f g (t, e) (u, i) =
-    let one = one_text (packed_frame m) old f.answer g.answer f.count g.count xs ys t u in
-    (same_found f g one.0 one.1 (e ∙ sym i), one.2)
+one_packed old xs ys m w d f g (t, e) (u, i) = search (rules, one_text, same_found)
 
 -- The call answers, reports and writes one thing.
 pub one_pack_message_told : (l : CallLimits) (bs old : List ℕ) (a b : Answer) (n k : ℕ) (xs ys : List ℕ)
@@ -40,9 +38,4 @@ packed_few whole l bs old new f (trailing m x y t h more e k) =
 packed_few whole l bs old new f (tells only (without c h e k)) =
     let none = ap (λ (z : Found). z.count) e in omega (arith, none)
 packed_few whole l bs old new f (tells only (framed m x y g h p e)) =
-    let frames = h.front.frames in
-    let words = ap length frames.whole ∙ length-append frames.table (joined m) in
-    let table = table_length frames.table (sizes_of m) frames.is_table in
-    let count : f.count ≡ g.count = ap (λ (z : Found). z.count) e in
-    let long : f.report.length ≡ x = ap (λ (z : Found). z.report.length) e in
-    omega (arith, p.1, count, long, h.front.long, words, length_joined m, table, length-map m length)
+    search (rules, table_length h.front.frames.table (sizes_of m) h.front.frames.is_table, length-append, length_joined, length-map)

@@ -1,13 +1,13 @@
 -- The bytes, the number and the capacity decide what the call for a path finds.
+use Rattle.cap_spec.proofs.ProofNames.{rules}
 use Rattle.std.proofs.Common.{Bool, List, [], ap, arith, drop, get_or, length, map, not, refl, set, suc, sym, take}
 use Rattle.std.proofs.Common.{zero, ℕ, ◌++◌, ◌+◌, ◌<◌, ◌∙◌, ◌∷◌, ◌≡◌, ◌≤◌}
 use Rattle.cap_trace.specs.Traces.{filled}
 use Rattle.cap_trace.proofs.Filling.{take_filled}
 use Rattle.cap_trace.proofs.Numbering.{one_numbered}
-use Rattle.cap_calls.specs.CallFindings.{without}
 use Rattle.cap_calls.specs.PointerCalls.{FindsFew, FindsPointer, TellsPointer, none, too_small, written}
-use Rattle.cap_calls.specs.CallNames.{Step, framed, tells, trailing, allows_trailing, TellsInput, of_frame, of_no_words}
-use Rattle.cap_calls.specs.CallNames.{of_words, call_step, steps_found, Answer, Found, CallLimits, CallReport, CallStep}
+use Rattle.cap_calls.specs.CallNames.{Step, allows_trailing, TellsInput}
+use Rattle.cap_calls.specs.CallNames.{call_step, steps_found, Answer, Found, CallLimits, CallReport, CallStep}
 use Rattle.cap_calls.proofs.Answers.{one_input_told, one_returned}
 use Rattle.cap_calls.specs.declared.answer.Answer.TheVariants as answer
 
@@ -15,10 +15,7 @@ module _ (n : ℕ) (old : List CallStep) (m : List (List ℕ)) (words depth : �
   one_pointer : (x y : List CallStep) (f g : Found) → FindsPointer n old x m words depth f → FindsPointer n old y m words depth g
       → (f ≡ g) × (x ≡ y)
   one_pointer x y f g (written p a few e i) (written q b less h k) =
-      let same : p ≡ q = one_numbered m n p q a.traceable.numbered b.traceable.numbered in (
-        e ∙ ap (λ (u : List Step). steps_found answer.Good (length u)) same ∙ sym h,
-        i ∙ ap (λ (u : List Step). map call_step u ++ drop (length u) old) same ∙ sym k,
-      )
+      search (rules, one_numbered m n p q a.traceable.numbered b.traceable.numbered)
   one_pointer x y f g (written p a few e i) (too_small q b less h k) =
       let same = ap length (one_numbered m n p q a.traceable.numbered b.traceable.numbered) in absurd (omega (arith, same, few, less))
   one_pointer x y f g (written p a few e i) (none missing h k) = absurd (missing p a)
@@ -46,23 +43,12 @@ one_pointer_told l bs number old a b n k x y r q (f, t, h, e) (g, u, i, j) =
 -- The steps are few, since the depth limit is.
 pub few_told : (whole : Bool) (l : CallLimits) (bs : List ℕ) (n : ℕ) (old new : List CallStep) (f : Found)
     → TellsInput whole (new ≡ old) (FindsFew n old new) l bs f → f.count ≤ 256
-few_told whole l bs n old new f (of_frame y (trailing m x z t h more e k)) =
-    let count = ap (λ (u : Found). u.count) e in omega (arith, count)
-few_told whole l bs n old new f (of_frame y (tells alone (without c h e k))) =
-    let count = ap (λ (u : Found). u.count) e in omega (arith, count)
-few_told whole l bs n old new f (of_frame y (tells alone (framed m x z g h p e))) =
-    let count = ap (λ (u : Found). u.count) e in omega (arith, count, p.1, h.are_limits.shallow)
-few_told whole l bs n old new f (of_no_words y c h e k) =
-    let count = ap (λ (u : Found). u.count) e in omega (arith, count)
-few_told whole l bs n old new f (of_words y g h p e) =
-    let count = ap (λ (u : Found). u.count) e in omega (arith, count, p.1, h.are_limits.shallow)
+few_told whole l bs n old new f x8 = search rules
 
 -- The path is the start of what was filled.
 pub path_kept : (path old new : List Step) (count : ℕ) → new ≡ filled path old → count ≡ length path → count ≤ length old
     → take count new ≡ path
-path_kept path old new count e f few =
-    ap (λ (u : List Step). take count u) e ∙ ap (λ (k : ℕ). take k (filled path old)) f
-    ∙ take_filled path old (omega (arith, f, few))
+path_kept path old new count e f few = search (rules, take_filled)
 
 -- One step after the others is put.
 pub put_one : (path : List Step) (old : List CallStep) (at : ℕ) (d : Step) → at < length path → length path ≤ length old
@@ -71,6 +57,4 @@ pub put_one : (path : List Step) (old : List CallStep) (at : ℕ) (d : Step) →
 put_one [] old at d h k = absurd (omega arith)
 put_one (p ∷ path) [] at d h k = absurd (omega arith)
 put_one (p ∷ path) (o ∷ old) zero d h k = refl
-put_one (p ∷ path) (o ∷ old) (suc at) d h k =
-    let e : suc at + 1 ≡ suc (at + 1) = omega arith in
-    rw e (ap (λ (u : List CallStep). call_step p ∷ u) (put_one path old at d (omega arith) (omega arith)))
+put_one (p ∷ path) (o ∷ old) (suc at) d h k = search (rules, put_one path old at d (omega arith) (omega arith))

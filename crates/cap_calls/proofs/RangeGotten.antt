@@ -1,11 +1,10 @@
 -- The bytes and the steps decide what the call for the nodes of a range finds.
 use Rattle.std.proofs.Common.{ext_get_or, get_or-set_other, get_or-set_same, slice_set}
 use Rattle.cap_spec.specs.declared.Lax.{Lax}
-use Rattle.cap_spec.specs.declared.StrictRefusal.TheVariants.{Refused}
 use Rattle.cap_spec.proofs.ProofNames.{List, ap, arith, eqb, false, get_or, inl, inr, length, length-set, not, refl, subst}
-use Rattle.cap_spec.proofs.ProofNames.{sym, true, ℕ, ◌+◌, ◌<◌, ◌∙◌, ◌≡◌, ◌≤◌, ◌⊎◌, eqb_tells, leb_tells}
+use Rattle.cap_spec.proofs.ProofNames.{sym, true, ℕ, ◌+◌, ◌<◌, ◌∙◌, ◌≡◌, ◌≤◌, ◌⊎◌, leb_tells, rules}
 use Rattle.cap_calls.specs.AnswerNumbers.{lax_answer}
-use Rattle.cap_calls.specs.CallNames.{Reason, Step, StrictRefusal, ManySegments, Pointer, Demands, reason_answer}
+use Rattle.cap_calls.specs.CallNames.{Reason, Step, StrictRefusal, Demands, reason_answer}
 use Rattle.cap_calls.specs.CallNames.{refusal_answer, refused_found, allows_trailing, demands_of, none_node, Gets}
 use Rattle.cap_calls.specs.CallNames.{bad_path_found, path_found, AreSteps, EndsRange, GetsRange, TellsRange, full, past}
 use Rattle.cap_calls.specs.CallNames.{path_after, stops, unknown, WritesFirst, Answer, Good, NoNode, Found, CallLimits}
@@ -18,29 +17,13 @@ use Rattle.cap_spec.specs.declared.Reason.TheVariants as reason
 
 -- A refusal isn't good.
 no_good_reason : (r : Reason) → reason_answer r ≡ Good → ⊥
-no_good_reason reason.NoRoot e = absurd (cc e)
-no_good_reason reason.Reserved e = absurd (cc e)
-no_good_reason reason.SegmentMissing e = absurd (cc e)
-no_good_reason reason.PadOutside e = absurd (cc e)
-no_good_reason reason.PadIsFar e = absurd (cc e)
-no_good_reason reason.PadNotFar e = absurd (cc e)
-no_good_reason reason.TagKind e = absurd (cc e)
-no_good_reason reason.TagOffset e = absurd (cc e)
-no_good_reason reason.OutOfSegment e = absurd (cc e)
-no_good_reason reason.CompositeTag e = absurd (cc e)
-no_good_reason reason.CompositeOverrun e = absurd (cc e)
-no_good_reason reason.DepthLimit e = absurd (cc e)
-no_good_reason reason.WordLimit e = absurd (cc e)
+no_good_reason r e = search rules
 
 no_good_lax : (what : Lax) → lax_answer what ≡ Good → ⊥
-no_good_lax lax.NullPad e = absurd (cc e)
-no_good_lax lax.EmptySegment e = absurd (cc e)
-no_good_lax lax.CapabilityPad e = absurd (cc e)
+no_good_lax what e = search rules
 
 no_good_refusal : (r : StrictRefusal) → refusal_answer r ≡ Good → ⊥
-no_good_refusal (Refused r) e = no_good_reason r.reason e
-no_good_refusal ManySegments e = absurd (cc e)
-no_good_refusal (Pointer what s w n) e = no_good_lax what e
+no_good_refusal r e = search (rules, no_good_reason, no_good_lax)
 
 pub refused_not_good : (r : StrictRefusal) → refused_found r ≡ path_found Good → ⊥
 refused_not_good r e = no_good_refusal r (ap (λ (f : Found). f.answer) e)
@@ -55,23 +38,12 @@ module _ (so : ℕ → CallNode → Type 0) (old : List CallNode) where
 
   pub more_written : (new after : List CallNode) (k : ℕ) (node : CallNode) → WritesFirst so k old new
       → k < length new → so k node → after ≡ slice_set new k node → WritesFirst so (k + 1) old after
-  more_written new after k node are lt is e =
-      subst (λ (xs : List CallNode). WritesFirst so (k + 1) old xs) (sym e)
-      record {
-        size = length-set new k node ∙ are.size;
-        within = omega (arith, lt, are.size);
-        nodes = λ j l. at j l (eqb_tells j k);
-        rest = λ j l. get_or-set_other new k j node none_node (λ e. omega (arith, l, e)) ∙ are.rest j (omega (arith, l));
-      }
+  more_written new after k node are lt is e = search (rules, length-set, get_or-set_other)
     where
       at : (j : ℕ) → j < k + 1 → (((eqb j k) ≡ true) × (j ≡ k)) ⊎ (((eqb j k) ≡ false) × (j ≡ k → ⊥))
           → so j (get_or (slice_set new k node) j none_node)
-      at j l (inl h) =
-          subst (λ (i : ℕ). so i (get_or (slice_set new k node) i none_node)) (sym h.1)
-          (subst (λ (x : CallNode). so k x) (sym (get_or-set_same new k node none_node lt)) is)
-      at j l (inr h) =
-          subst (λ (x : CallNode). so j x) (sym (get_or-set_other new k j node none_node h.1))
-          (are.nodes j (let ne = h.1 in grind (arith, l, ne)))
+      at j l (inl h) = search (rules, get_or-set_same)
+      at j l (inr h) = search (rules, get_or-set_other)
 
 -- Nodes that are so are so in another way too.
 pub written_also : (so also : ℕ → CallNode → Type 0) (old new : List CallNode) (k : ℕ)
@@ -169,16 +141,7 @@ module _ (path : ℕ → List Step) (old : List CallNode) (demands : Demands) (m
 
 -- Steps are bad in one way, and aren't good then.
 one_bad_step : (steps : List CallStep) (v a b : ℕ) → IsBadStep steps v a → IsBadStep steps v b → a ≡ b
-one_bad_step steps v a b (unknown l h first) (unknown k i also) = elim (leb_tells a b) [
-  | inl le ↦ elim (leb_tells b a) [
-    | inl ge ↦ (let p = le.1 in let q = ge.1 in omega (arith, p, q))
-    | inr lt ↦ (let no = also a lt.1 in absurd (omega (arith, no, h)))
-  ]
-  | inr lt ↦ (let no = first b lt.1 in absurd (omega (arith, no, i)))
-]
-one_bad_step steps v a b (unknown l h first) (past all k i) = (let no = all a l in absurd (omega (arith, no, h)))
-one_bad_step steps v a b (past all l e) (unknown k h first) = (let no = all b k in absurd (omega (arith, no, h)))
-one_bad_step steps v a b (past all l e) (past also k i) = e ∙ sym i
+one_bad_step steps v a b x5 x6 = search rules
 
 good_steps : (steps : List CallStep) (v a : ℕ) → AreSteps steps v → IsBadStep steps v a → ⊥
 good_steps steps v a are (unknown l h first) = (let no = are.known a l in omega (arith, no, h))
@@ -206,6 +169,4 @@ module _ (l : CallLimits) (bs : List ℕ) (steps : List CallStep) (v : ℕ) (old
       → TellsRange l bs steps v old a p x r → TellsRange l bs steps v old b q y s
       → (a ≡ b) × (p ≡ q) × (x ≡ y) × (r ≡ s)
   one_range_told a b p q x y r s (f, t, h, n) (g, u, k, o) =
-      let same = one_told_steps x y f g t u in
-      let one = one_returned f g a b r s same.0 h k in
-      (one.0, n ∙ ap (λ (z : Found). z.count) same.0 ∙ sym o, same.1, one.1)
+      search (rules, one_told_steps x y f g t u, one_returned f g a b r s (one_told_steps x y f g t u).0 h k)

@@ -1,6 +1,6 @@
 -- The paths of a range go through the same steps but for one.
 use Rattle.cap_spec.proofs.ProofNames.{Err, List, None, Ok, Option, Result, Some, [], ap, arith, drop, get_or, length}
-use Rattle.cap_spec.proofs.ProofNames.{refl, subst, suc, sym, take, zero, ℕ, ◌++◌, ◌<◌, ◌∷◌, ◌≡◌, PathFinds}
+use Rattle.cap_spec.proofs.ProofNames.{refl, subst, suc, sym, take, zero, ℕ, ◌++◌, ◌<◌, ◌∷◌, ◌≡◌, PathFinds, rules}
 use Rattle.cap_vet.specs.PathDemands.{IsPathFault, MeetsOnPath}
 use Rattle.cap_vet.specs.PathWays.{GivesAfter, IsGiven, IsStart}
 use Rattle.cap_calls.specs.CallNames.{Kind, Step, StrictRefusal, Demands, PathStart, View, path_after, step_after}
@@ -30,23 +30,14 @@ module _ {M : Type 0} {g : segments.Ghosts M} (demands : Demands) (m : List (Lis
   pub given_node : (o : Option (View M g)) (v : View M g) → r ≡ Ok o → o ≡ Some v → IsGiven demands m words depth path r
       → MeetsOnPath demands m words depth path
       × PathFinds m path v.found.kind v.found.place.segment v.found.place.start v.found.place.words
-  given_node o v e f h =
-      let k : IsGiven demands m words depth path (Ok (Some v)) =
-      subst (λ (x : Option (View M g)). IsGiven demands m words depth path (Ok x)) f
-      (subst (λ (x : Result (Option (View M g)) StrictRefusal). IsGiven demands m words depth path x) e h) in
-      (k.meets, k.some)
+  given_node o v e f h = search rules
 
   pub given_nothing : (o : Option (View M g)) → r ≡ Ok o → o ≡ None → IsGiven demands m words depth path r
       → MeetsOnPath demands m words depth path × ((k : Kind) (t b n : ℕ) → PathFinds m path k t b n → ⊥)
   given_nothing o e f h =
-      let k : IsGiven {M = M} {g = g} demands m words depth path (Ok None) =
-      subst (λ (x : Option (View M g)). IsGiven demands m words depth path (Ok x)) f
-      (subst (λ (x : Result (Option (View M g)) StrictRefusal). IsGiven demands m words depth path x) e h) in
+      let k : IsGiven {M = M} {g = g} demands m words depth path (Ok None) = search rules in
       (k.meets, k.none)
 
   pub given_fault : (fault : StrictRefusal) → r ≡ Err fault → IsGiven demands m words depth path r
       → IsPathFault demands m words depth path fault
-  given_fault fault e h =
-      let k : IsGiven {M = M} {g = g} demands m words depth path (Err fault) =
-      subst (λ (x : Result (Option (View M g)) StrictRefusal). IsGiven demands m words depth path x) e h in
-      k.err
+  given_fault fault e h = search rules

@@ -1,4 +1,5 @@
 -- Nodes of a range that are found by their number.
+use Rattle.cap_spec.proofs.ProofNames.{rules}
 use Rattle.std.proofs.Common.{List, Ok, Some, [], ap, arith, get_or, length, min, refl, subst, suc, sym, zero, ℕ, ◌*◌}
 use Rattle.std.proofs.Common.{◌++◌, ◌+◌, ◌<◌, ◌∙◌, ◌∷◌, ◌≡◌, ◌≤◌}
 use Rattle.cap_frame.specs.Fronts.{table_words}
@@ -11,7 +12,7 @@ use Rattle.cap_calls.specs.CallNames.{path_found, path_after, step_after, HasCou
 use Rattle.cap_calls.specs.CallNames.{CallStep}
 use Rattle.cap_calls.specs.RangeCalls.{step_of}
 use Rattle.cap_calls.specs.RangeShortcut.{HasNodeAfter, IsShortcut}
-use Rattle.cap_calls.specs.declared.calls.get_range.Shortcut.TheVariants.{Pointers, Unknown}
+use Rattle.cap_calls.specs.declared.calls.get_range.Shortcut.TheVariants.{Pointers}
 use Rattle.cap_frame.specs.declared.segments.Segments as segments
 
 -- a step to an element, whose number is none of the highest
@@ -40,11 +41,7 @@ shortcut_node m n start s t rest others v node e f h given is =
 pub node_in_segment : (m : List (List ℕ)) (kind : Kind) (segments words before t s b : ℕ) (node : CallNode)
     → segments ≡ length m → words ≡ start_of m t → s ≡ t → before ≡ 8 * (table_words segments + words)
     → node ≡ kind_node kind (before + 8 * b) → node ≡ kind_node kind (offset_of m s b)
-node_in_segment m kind segments words before t s b node e f g h is =
-    let table : table_words segments ≡ table_words (length m) = ap table_words e in
-    let same : start_of m s ≡ start_of m t = ap (λ (x : ℕ). start_of m x) g in
-    let at : before + 8 * b ≡ offset_of m s b = omega (arith, table, same, f, h) in
-    is ∙ ap (λ (x : ℕ). kind_node kind x) at
+node_in_segment m kind segments words before t s b node e f g h is = search rules
 
 -- A node is as the message of the elements says, if its view is of that message.
 pub node_of_elements : {M : Type 0} {g : segments.Ghosts M} (list : StructElements M g) (v : View M g) (node : CallNode)
@@ -102,6 +99,4 @@ one_step (s ∷ t ∷ steps) d e = absurd (omega (arith, e))
 -- how many segments the message has
 pub count_shortcut : {M : Type 0} {g : segments.Ghosts M} (m : List (List ℕ)) (start : PathStart M g) (step : CallStep) (rest : List CallStep)
     (shortcut : Shortcut M g) (n : ℕ) → n ≡ length m → IsShortcut m start step rest shortcut → HasCount n shortcut
-count_shortcut m start step rest (Elements list number) n e h = e ∙ ap (λ (x : List (List ℕ)). length x) (sym h.0)
-count_shortcut m start step rest (Pointers list number j) n e h = e ∙ ap (λ (x : List (List ℕ)). length x) (sym h.0)
-count_shortcut m start step rest Unknown n e h = tt
+count_shortcut m start step rest shortcut n e h = search rules

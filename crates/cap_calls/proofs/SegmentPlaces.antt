@@ -1,7 +1,7 @@
 -- The words of a segment are where its frame has them, and inside the frame.
 use Rattle.std.proofs.Common.{le_refl}
 use Rattle.cap_spec.proofs.Lemmas.{length_joined, table_length}
-use Rattle.cap_spec.proofs.ProofNames.{List, [], ap, append_assoc, arith, drop, drop-drop, length, length-append}
+use Rattle.cap_spec.proofs.ProofNames.{List, [], ap, append_assoc, arith, drop, drop-drop, length, length-append, rules}
 use Rattle.cap_spec.proofs.ProofNames.{slice_range, suc, sym, take, take-take, take_all, zero, ℕ, ◌*◌, ◌++◌, ◌+◌, ◌-◌, ◌<◌}
 use Rattle.cap_spec.proofs.ProofNames.{◌∙◌, ◌∷◌, ◌≡◌, ◌≤◌, drop-append-add, take-append_seam, drop-take, length-map}
 use Rattle.cap_spec.proofs.ProofNames.{words_from, joined, sizes_of, segment_of, plain_words}
@@ -17,20 +17,13 @@ joined_at : (m : List (List ℕ)) (s : ℕ) (rest : List ℕ) → s < length m
 joined_at [] s rest l = absurd (omega (arith, l))
 joined_at (xs ∷ m) zero rest l =
     ap (take (length xs)) (append_assoc xs (joined m) rest) ∙ take-append_seam xs (joined m ++ rest)
-joined_at (xs ∷ m) (suc s) rest l =
-    ap (λ (ws : List ℕ). take (length (segment_of m s)) (drop (length xs + start_of m s) ws)) (append_assoc xs (joined m) rest)
-    ∙ (ap (take (length (segment_of m s))) (drop-append-add xs (joined m ++ rest) (start_of m s))
-    ∙ joined_at m s rest (omega (arith, l)))
+joined_at (xs ∷ m) (suc s) rest l = search (rules, append_assoc, drop-append-add, joined_at m s rest (omega (arith, l)))
 
 -- some words of a segment, which is the first of some words
 part_of : (xs ys : List ℕ) (long b n : ℕ) → take long ys ≡ xs → b + n ≤ long → take n (drop b ys) ≡ slice_range xs b (b + n)
 part_of xs ys long b n e h =
     let whole : b + (long - b) ≡ long = omega (arith, h) in
-    let rest : drop b xs ≡ take (long - b) (drop b ys) =
-    ap (drop b) (sym e) ∙ (ap (λ (k : ℕ). drop b (take k ys)) (sym whole) ∙ drop-take b (long - b) ys) in
-    let count : b + n - b ≡ n = omega arith in
-    sym (ap (λ (k : ℕ). take k (drop b xs)) count
-    ∙ (ap (take n) rest ∙ take-take n (long - b) (drop b ys) (omega (arith, h))))
+    search (rules, drop-take, take-take)
 
 module _ (limit : ℕ) (bs : List ℕ) (m : List (List ℕ)) (x : ℕ) (h : IsFront limit bs m x) (t b n : ℕ) (exists : t < length m)
     (inside : b + n ≤ length (segment_of m t)) where
@@ -54,20 +47,11 @@ module _ (limit : ℕ) (bs : List ℕ) (m : List (List ℕ)) (x : ℕ) (h : IsFr
       ∙ part_of (segment_of m t) (drop before all) (length (segment_of m t)) b n (joined_at m t h.rest exists) inside)))
 
   pub words_at : (k : ℕ) → offset_of m t b ≡ 8 * k → slice_range (plain_words bs) k (k + n) ≡ words_from m t b n
-  words_at k e =
-      let same : k ≡ table_words (length m) + (start_of m t + b) = omega (arith, e) in
-      let long : k + n - k ≡ n = omega arith in
-      ap (λ (j : ℕ). take j (drop k (plain_words bs))) long
-      ∙ (ap (λ (j : ℕ). take n (drop j (plain_words bs))) same ∙ words_there)
+  words_at k e = search (rules, words_there)
 
   -- So are the words of the bytes from its offset on.
   pub bytes_at : plain_words (slice_range bs (offset_of m t b) (offset_of m t b + 8 * n)) ≡ words_from m t b n
-  bytes_at =
-      let at = offset_of m t b in
-      let long : at + 8 * n - at ≡ 8 * n = omega arith in
-      ap (λ (k : ℕ). plain_words (take k (drop at bs))) long
-      ∙ (sym (take_words n (drop at bs))
-      ∙ (ap (take n) (sym (drop_words (table_words (length m) + (start_of m t + b)) bs)) ∙ words_there))
+  bytes_at = search (rules, take_words, drop_words, words_there)
 
   -- And they are inside the frame.
   pub offset_inside : offset_of m t b + 8 * n ≤ x

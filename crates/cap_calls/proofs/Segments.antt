@@ -1,5 +1,5 @@
 -- The bytes decide where a segment is.
-use Rattle.cap_spec.proofs.ProofNames.{List, ap, arith, length, refl, sym, ℕ, ◌*◌, ◌∙◌, ◌≡◌, segment_of}
+use Rattle.cap_spec.proofs.ProofNames.{List, ap, arith, length, refl, sym, ℕ, ◌*◌, ◌∙◌, ◌≡◌, segment_of, rules}
 use Rattle.cap_frame.specs.Fronts.{IsFront}
 use Rattle.cap_calls.specs.CallFlags.{HasKnownFlags}
 use Rattle.cap_calls.specs.CallNames.{AreLimits, HasFrame, offset_of, cause_answer, found, Answer}
@@ -26,11 +26,7 @@ one_segment_told bs i a b x y s t (none m d o h w e p q) (found n f g k l j u v)
 one_segment_told bs i a b x y s t (found m d o h w e p q) (none n f g k l j u v) =
     absurd (omega (arith, w, l, same_count bs d f o g m n h k))
 one_segment_told bs i a b x y s t (found m d o h w e p q) (found n f g k l j u v) =
-    let one = (one_extent any_size bs d f o g m n h k).2 in (
-      e ∙ sym j,
-      p ∙ (ap (λ (z : List (List ℕ)). offset_of z i 0) one ∙ sym u),
-      q ∙ (ap (λ (z : List (List ℕ)). 8 * length (segment_of z i)) one ∙ sym v),
-    )
+    search (rules, (one_extent any_size bs d f o g m n h k).2)
 
 -- these are limits, and so a message that the bytes start with has a frame within them
 has_frame : (bs : List ℕ) (m : List (List ℕ)) (n : ℕ) → IsFront 268435456 bs m n → HasFrame any_size bs n (length m) m

@@ -1,12 +1,11 @@
 -- The bytes of separate segments decide what the call over them finds.
-use Rattle.cap_spec.proofs.ProofNames.{List, [], ap, arith, inl, inr, length, refl, sym, ℕ, ◌*◌, ◌<◌, ◌∙◌, ◌≡◌, cases_lt}
-use Rattle.cap_spec.proofs.ProofNames.{⊤}
+use Rattle.cap_spec.proofs.ProofNames.{List, [], ap, arith, length, sym, ℕ, ◌*◌, ◌<◌, ◌∙◌, ◌≡◌}
+use Rattle.cap_spec.proofs.ProofNames.{⊤, rules}
 use Rattle.cap_calls.specs.CallNames.{framed_found, demands_of, IsGood, TellsSegments, message, AreSegments}
 use Rattle.cap_calls.specs.CallNames.{TellsNoSegments, segments_in, words_in, Answer, Found, CallLimits, CallReport}
 use Rattle.cap_calls.specs.SegmentsCalls.{FindsSegments, bad_limits, no_message, no_segments_found}
 use Rattle.cap_calls.specs.Slices.{AreWhole, IsBadSegment}
 use Rattle.cap_calls.specs.declared.slices.SlicesFault.{SlicesFault}
-use Rattle.cap_calls.specs.declared.slices.SlicesFault.TheVariants.{BadSegment, NoSegments, TooLarge, TooManySegments}
 use Rattle.cap_calls.proofs.Answers.{one_judged, one_returned}
 
 module _ (limit : ℕ) (parts : List (List ℕ)) where
@@ -20,39 +19,15 @@ module _ (limit : ℕ) (parts : List (List ℕ)) where
 
   -- the first one is one
   one_bad : (s t : ℕ) → IsBadSegment parts s → IsBadSegment parts t → s ≡ t
-  one_bad s t h k = elim (cases_lt s t) [
-    | inl less ↦ absurd (omega (arith, h.cut, k.before s less))
-    | inr more ↦ elim (cases_lt t s) [
-      | inl less ↦ absurd (omega (arith, k.cut, h.before t less))
-      | inr same ↦ omega (arith, more, same)
-    ]
-  ]
+  one_bad s t h k = search rules
 
   -- there is no message for one cause
   one_no_segments : (a b : SlicesFault) → TellsNoSegments limit parts a → TellsNoSegments limit parts b → a ≡ b
-  one_no_segments NoSegments NoSegments h k = refl
-  one_no_segments NoSegments (TooManySegments n) h k = absurd (omega (arith, ap length h, k.0))
-  one_no_segments NoSegments (BadSegment t) h k = absurd (omega (arith, ap length h, k.1.inside))
-  one_no_segments NoSegments (TooLarge n) h k = absurd (no_words h k.2)
-  one_no_segments (TooManySegments m) NoSegments h k = absurd (omega (arith, ap length k, h.0))
-  one_no_segments (TooManySegments m) (TooManySegments n) h k = ap (λ (x : ℕ). TooManySegments x) (h.1 ∙ sym k.1)
-  one_no_segments (TooManySegments m) (BadSegment t) h k = absurd (omega (arith, h.0, k.0))
-  one_no_segments (TooManySegments m) (TooLarge n) h k = absurd (omega (arith, h.0, k.0))
-  one_no_segments (BadSegment s) NoSegments h k = absurd (omega (arith, ap length k, h.1.inside))
-  one_no_segments (BadSegment s) (TooManySegments n) h k = absurd (omega (arith, h.0, k.0))
-  one_no_segments (BadSegment s) (BadSegment t) h k = ap (λ (x : ℕ). BadSegment x) (one_bad s t h.1 k.1)
-  one_no_segments (BadSegment s) (TooLarge n) h k = absurd (not_whole s h.1 k.1)
-  one_no_segments (TooLarge m) NoSegments h k = absurd (no_words k h.2)
-  one_no_segments (TooLarge m) (TooManySegments n) h k = absurd (omega (arith, h.0, k.0))
-  one_no_segments (TooLarge m) (BadSegment t) h k = absurd (not_whole t k.1 h.1)
-  one_no_segments (TooLarge m) (TooLarge n) h k = ap (λ (x : ℕ). TooLarge x) (h.3 ∙ sym k.3)
+  one_no_segments a b h x4 = search (rules, one_bad, not_whole)
 
   -- and where there is a cause, there is no message
   pub not_both : (a : SlicesFault) → TellsNoSegments limit parts a → AreSegments limit parts → ⊥
-  not_both NoSegments h k = omega (arith, ap length h, k.some)
-  not_both (TooManySegments n) h k = omega (arith, h.0, k.few)
-  not_both (BadSegment s) h k = not_whole s h.1 k.whole
-  not_both (TooLarge n) h k = omega (arith, h.2, k.within)
+  not_both a h x3 = search (rules, not_whole)
 
 -- So there is one thing to be found.
 one_found : (l : CallLimits) (parts : List (List ℕ)) (f g : Found) → FindsSegments l parts f → FindsSegments l parts g → f ≡ g

@@ -3,7 +3,7 @@ use Rattle.std.proofs.Common.{Bor}
 use Rattle.cap_spec.proofs.Bytes.Plain.{words_exact}
 use Rattle.cap_spec.proofs.ProofNames.{List, [], ap, arith, below_more, get_or, length, subst, sum, take, zero-add, ℕ, ◌%◌}
 use Rattle.cap_spec.proofs.ProofNames.{◌+◌, ◌/◌, ◌<◌, ◌^◌, ◌∙◌, ◌∷◌, ◌≡◌, ◌≤◌, get_or-map, get_or_default, length-map}
-use Rattle.cap_spec.proofs.ProofNames.{take_more, sum_by-append, sizes_of, IsMessage, capped, plain_words}
+use Rattle.cap_spec.proofs.ProofNames.{take_more, sum_by-append, sizes_of, IsMessage, capped, plain_words, rules}
 use Rattle.cap_frame.proofs.Cuts.{front_sum}
 use Rattle.cap_calls.specs.Slices.{bytes_of, segments_in, words_in}
 
@@ -61,11 +61,7 @@ sum_more parts s words more h w e t =
     let inside : s < length sizes = omega (arith, long, h) in
     let next : sum (take (s + 1) sizes) ≡ sum (take s sizes) + sum (get_or sizes s 0 ∷ []) =
     ap sum (take_more sizes s 0 inside) ∙ sum_by-append (λ x. x) (take s sizes) (get_or sizes s 0 ∷ []) in
-    let one : sum (get_or sizes s 0 ∷ []) ≡ get_or sizes s 0 = zero-add (get_or sizes s 0) in
-    record {
-      total = omega (arith, e, t.total, next, one, size_is parts s h);
-      whole = below_more (λ (i : ℕ). length (get_or parts i []) % 8 ≡ 0) s t.whole w;
-    }
+    search (rules, zero-add, size_is, below_more)
 
 -- each of them is short enough for a segment if their sum is
 pub are_message : (slices : List (Bor (List ℕ))) → 1 ≤ length slices → length slices ≤ 512

@@ -6,7 +6,7 @@ use Rattle.cap_spec.proofs.ProofNames.{List, [], ap, append-nil, append_assoc, a
 use Rattle.cap_spec.proofs.ProofNames.{length-append, length-take-le, refl, replicate, subst, sym, take, take-append-drop}
 use Rattle.cap_spec.proofs.ProofNames.{take_all, take_at, ℕ, ◌*◌, ◌++◌, ◌+◌, ◌-◌, ◌<◌, ◌∙◌, ◌∷◌, ◌≡◌, ◌≤◌, cases_lt}
 use Rattle.cap_spec.proofs.ProofNames.{drop_all, length-replicate, take-append-le, take-replicate, too_large, too_many}
-use Rattle.cap_spec.proofs.ProofNames.{plain_text, plain_words, word_bytes, unpacked}
+use Rattle.cap_spec.proofs.ProofNames.{plain_text, rules}
 use Rattle.cap_calls.specs.CallNames.{GivesWords, words_to_come, Appends, IsOpen, StopsCall, TellsUnpackMessage, bad}
 use Rattle.cap_calls.specs.CallNames.{state_of, unpacks, Answer, CallLimits, CallReport, Unpacking}
 use Rattle.cap_calls.proofs.MessageStages.{open_not_whole}
@@ -15,10 +15,7 @@ use Rattle.cap_calls.specs.UnpackingMessages as stop
 
 -- no bytes give the zero words of a run alone
 nothing_more : (z p : ℕ) → words_to_come z p [] ≡ replicate z 0
-nothing_more z p =
-    ap (λ (x : List ℕ). replicate z 0 ++ (plain_words x ++ unpacked (drop (8 * p) []))) (take_all (8 * p) [] (omega arith))
-    ∙ (ap (λ (x : List ℕ). replicate z 0 ++ (plain_words [] ++ unpacked x)) (drop_all (8 * p) [] (omega arith))
-    ∙ append-nil (replicate z 0))
+nothing_more z p = search (rules, take_all, drop_all, append-nil)
 
 -- zero bytes for p literal words and a group more
 abbrev probe : ℕ → List ℕ
@@ -26,37 +23,13 @@ probe p = replicate (8 * p + 2) 0
 
 probe_long : (z p : ℕ) → length (words_to_come z p (probe p)) ≡ z + (p + 1)
 probe_long z p =
-    let words = plain_words (take (8 * p) (probe p)) in
     let front : take (8 * p) (probe p) ≡ replicate (8 * p) 0 = take-replicate (8 * p) (8 * p + 2) 0 (omega arith) in
     let two : 8 * p + 2 - 8 * p ≡ 2 = omega arith in
     let back : drop (8 * p) (probe p) ≡ 0 ∷ 0 ∷ [] = drop-replicate (8 * p) (8 * p + 2) 0 ∙ ap (λ (k : ℕ). replicate k 0) two in
-    omega (
-      arith,
-      length-append (replicate z 0) (words ++ unpacked (drop (8 * p) (probe p))),
-      length-replicate {A = ℕ} z 0,
-      length-append words (unpacked (drop (8 * p) (probe p))),
-      ap (λ (x : List ℕ). length (unpacked x)) back,
-      words_exact (take (8 * p) (probe p)),
-      ap length front,
-      length-replicate {A = ℕ} (8 * p) 0,
-    )
+    search (rules, length-append, length-replicate, words_exact)
 
 probe_short : (z p q : ℕ) → p < q → length (words_to_come z q (probe p)) ≡ z + p
-probe_short z p q h =
-    let many = length-replicate {A = ℕ} (8 * p + 2) 0 in
-    let front : take (8 * q) (probe p) ≡ probe p = take_all (8 * q) (probe p) (omega (arith, many, h)) in
-    let back : drop (8 * q) (probe p) ≡ [] = drop_all (8 * q) (probe p) (omega (arith, many, h)) in
-    let words = plain_words (take (8 * q) (probe p)) in
-    omega (
-      arith,
-      length-append (replicate z 0) (words ++ unpacked (drop (8 * q) (probe p))),
-      length-replicate {A = ℕ} z 0,
-      length-append words (unpacked (drop (8 * q) (probe p))),
-      ap (λ (x : List ℕ). length (unpacked x)) back,
-      words_exact (take (8 * q) (probe p)),
-      ap length front,
-      many,
-    )
+probe_short z p q h = search (rules, length-replicate, take_all, drop_all, length-append, words_exact)
 
 -- Two places that give the same words, whatever bytes follow, are one.
 one_place : (z p y q : ℕ) → ((more : List ℕ) → words_to_come z p more ≡ words_to_come y q more) → (z ≡ y) × (p ≡ q)
@@ -108,18 +81,7 @@ held_after : (limit : ℕ) (bytes old new : List ℕ) (state : Unpacking) (ws fr
     → Appends limit bytes old state ws c z p new
     → take (state.written + 8 * length front) new ≡ take state.written old ++ plain_text front
 held_after limit bytes old new state ws front tail c z p e t =
-    let start = take state.written old in
-    let more = plain_text tail ++ drop (state.written + 8 * length ws) old in
-    let text : new ≡ (start ++ plain_text front) ++ more =
-    t.text
-    ∙ (ap (λ (l : List ℕ). start ++ (plain_text l ++ drop (state.written + 8 * length ws) old)) e
-    ∙ (ap (λ (l : List ℕ). start ++ (l ++ drop (state.written + 8 * length ws) old)) (flat_map-append word_bytes front tail)
-    ∙ (ap (λ (l : List ℕ). start ++ l) (append_assoc (plain_text front) (plain_text tail) (drop (state.written + 8 * length ws) old))
-    ∙ sym (append_assoc start (plain_text front) more)))) in
-    let long : length start ≡ state.written = length-take-le state.written old (omega (arith, t.fits)) in
-    ap (take (state.written + 8 * length front)) text
-    ∙ take_at (start ++ plain_text front) more (state.written + 8 * length front)
-    (omega (arith, length-append start (plain_text front), long, length_plain front))
+    search (rules, flat_map-append, append_assoc, length-take-le, take_at, length-append, length_plain)
 
 -- A call that stops does not append fewer words than another.
 stops_last : (limit : ℕ) (bytes old new longer : List ℕ) (state : Unpacking) (ws vs : List ℕ) (c z p d y q : ℕ) (a : Answer)
@@ -145,15 +107,7 @@ stops_last limit bytes old new longer state ws vs c z p d y q a n w r f g less s
     let still : IsOpen limit held goes_on.0 = subst (λ (l : List ℕ). IsOpen limit l goes_on.0) same goes_on.1 in
     let some : 0 < length more = omega (arith, ap length all, length-append ws more, length-append vs others, less) in
     let long : length held ≡ state.written + 8 * length ws =
-    length-take-le (state.written + 8 * length ws) new
-    (omega (
-      arith,
-      ap length f.text,
-      length-append (take state.written old) (plain_text ws ++ drop (state.written + 8 * length ws) old),
-      length-append (plain_text ws) (drop (state.written + 8 * length ws) old),
-      length_plain ws,
-      length-take-le state.written old (omega (arith, f.fits)),
-    )) in
+    search (rules, length-take-le, length-append, length_plain) in
     not_last held goes_on.0 still s some (omega (arith, long, g.fits, less))
   where
     not_last : (held : List ℕ) (wanted : ℕ) → IsOpen limit held wanted
@@ -194,10 +148,7 @@ told_once : (limit : ℕ) (bytes old new longer : List ℕ) (state left last : U
     → (a ≡ b) × (c ≡ d) × (n ≡ k) × (new ≡ longer) × (left ≡ last) × (r ≡ q)
 told_once limit bytes old new longer state left last ws vs c z p d y x a b n k w v r q f g h i e j =
     let same = same_words limit bytes old new longer state ws vs c z p d y x a b n k w v r q f g h i in
-    let text : new ≡ longer =
-    f.text
-    ∙ (ap (λ (l : List ℕ). take state.written old ++ (plain_text l ++ drop (state.written + 8 * length l) old)) same
-    ∙ sym g.text) in
+    let text : new ≡ longer = search rules in
     let place = one_lead state.zero_words state.literal_words z p y x c d bytes ws f.leads
     (subst (λ (l : List ℕ). GivesWords state.zero_words state.literal_words bytes l d y x) (sym same) g.leads) in
     let held : take (state.written + 8 * length vs) longer ≡ take (state.written + 8 * length ws) new =
@@ -209,16 +160,7 @@ told_once limit bytes old new longer state left last ws vs c z p d y x a b n k w
     (sym place.2)
     (subst (λ (t : ℕ). StopsCall limit (length old) (take (state.written + 8 * length vs) longer) t x (drop d bytes) b k v q)
     (sym place.1) i))) in
-    let one = one_stop limit (take (state.written + 8 * length ws) new) (length old) z p (drop c bytes) a b n k w v r q h stop in (
-      one.0,
-      place.0,
-      one.1,
-      text,
-      e
-          ∙ (ap (λ (t : ℕ). state_of t z p state) one.2
-          ∙ (ap (λ (t : ℕ). state_of v t p state) place.1 ∙ (ap (λ (t : ℕ). state_of v y t state) place.2 ∙ sym j))),
-      one.3,
-    )
+    search (rules, one_stop limit (take (state.written + 8 * length ws) new) (length old) z p (drop c bytes) a b n k w v r q h stop)
 
 pub one_unpack_told : (l : CallLimits) (bs old : List ℕ) (state : Unpacking) (a b : Answer) (c d n k : ℕ) (xs ys : List ℕ)
     (left last : Unpacking) (r q : CallReport) → TellsUnpackMessage l bs old state a c n xs left r

@@ -4,7 +4,7 @@ use Rattle.cap_spec.proofs.Bytes.Plain.{length_plain}
 use Rattle.cap_spec.proofs.ProofNames.{List, ap, append_assoc, ap₂, arith, drop, drop-drop, drop_at, inl, inr, length}
 use Rattle.cap_spec.proofs.ProofNames.{length-append, length-drop, length-take, length-take-le, refl, subst, sym, take}
 use Rattle.cap_spec.proofs.ProofNames.{take_at, ℕ, ◌*◌, ◌++◌, ◌+◌, ◌-◌, ◌<◌, ◌∙◌, ◌≡◌, ◌≤◌, ◌⊎◌, cases_lt, drop-append-le}
-use Rattle.cap_spec.proofs.ProofNames.{take-append-le, plain_text, word_bytes}
+use Rattle.cap_spec.proofs.ProofNames.{take-append-le, plain_text, rules}
 use Rattle.cap_calls.specs.CallNames.{GivesWords, words_to_come, Appends, IsOpen, IsState, StopsCall, TellsUnpackMessage}
 use Rattle.cap_calls.specs.CallNames.{bad, state_of, unpacks, Answer, CallLimits, CallReport, Unpacking}
 use Rattle.cap_calls.specs.declared.answer.Answer.TheVariants.{NoMessage, Truncated}
@@ -30,24 +30,10 @@ module _ (limit : ℕ) (bytes more old new newer : List ℕ) (state : Unpacking)
 
   -- the buffer is as long as before
   pub same_size : length new ≡ length old
-  same_size =
-      omega (
-        arith,
-        ap length f.text,
-        length-append (take state.written old) (plain_text ws ++ drop (state.written + 8 * length ws) old),
-        length-append (plain_text ws) (drop (state.written + 8 * length ws) old),
-        length_plain ws,
-        start_long,
-        length-drop (state.written + 8 * length ws) old,
-        f.fits,
-      )
+  same_size = search (rules, length-append, length_plain, start_long, length-drop)
 
   front : take w new ≡ take state.written old ++ plain_text ws
-  front =
-      ap₂ (λ (k : ℕ) (l : List ℕ). take k l) at
-      (f.text ∙ sym (append_assoc (take state.written old) (plain_text ws) (drop (state.written + 8 * length ws) old)))
-      ∙ take_at (take state.written old ++ plain_text ws) (drop (state.written + 8 * length ws) old) (state.written + 8 * length ws)
-      (omega (arith, length-append (take state.written old) (plain_text ws), start_long, length_plain ws))
+  front = search (rules, append_assoc, take_at, length-append, start_long, length_plain)
 
   back : drop w new ≡ drop (state.written + 8 * length ws) old
   back =
@@ -71,27 +57,15 @@ module _ (limit : ℕ) (bytes more old new newer : List ℕ) (state : Unpacking)
       let text : newer ≡ held ++ rest = g.text ∙ ap (λ (l : List ℕ). l ++ rest) front in
       record {
         fits = omega (arith, g.fits, same_size, at, count);
-        leads =
-            leads_both state.zero_words state.literal_words z p y q c d (bytes ++ more) (drop c bytes ++ more) ws vs
-            (leads_longer state.zero_words state.literal_words z p c bytes more ws f.leads)
-            (sym (drop-append-le c bytes more f.leads.within)) g.leads;
-        text =
-            text
-            ∙ (append_assoc (take state.written old) (plain_text ws) rest
-            ∙ (ap (λ (l : List ℕ). take state.written old ++ l)
-            (sym (append_assoc (plain_text ws) (plain_text vs) (drop (w + 8 * length vs) new))
-            ∙ ap₂ (λ (l m : List ℕ). l ++ m) (sym (flat_map-append word_bytes ws vs)) after)));
+        leads = search (rules, leads_both, leads_longer, drop-append-le);
+        text = search (rules, append_assoc, flat_map-append);
         before = λ n l. elim (cases_lt n (length ws)) [
           | inl less ↦
               let few : state.written + 8 * n ≤ length held =
               omega (arith, less, length-append (take state.written old) (plain_text ws), start_long, length_plain ws) in
               let known = f.before n less in
               let same : take (state.written + 8 * n) newer ≡ take (state.written + 8 * n) new =
-              ap (take (state.written + 8 * n)) text
-              ∙ (take-append-le (state.written + 8 * n) held rest few
-              ∙ sym (ap (take (state.written + 8 * n))
-              (f.text ∙ sym (append_assoc (take state.written old) (plain_text ws) (drop (state.written + 8 * length ws) old)))
-              ∙ take-append-le (state.written + 8 * n) held (drop (state.written + 8 * length ws) old) few)) in
+              search (rules, take-append-le, append_assoc) in
               (known.0, subst (λ (x : List ℕ). IsOpen limit x known.0) (sym same) known.1)
           | inr more_words ↦
               let k = n - length ws in
@@ -147,16 +121,7 @@ pieces_told l bs more old state a b c d n k new newer left last r q (unpacks ws 
     still = goes_on l.message_words (length old) (take (state.written + 8 * length ws) new) z p (drop c bs) a n w r t h
 
     long : length (take (state.written + 8 * length ws) new) ≡ state.written + 8 * length ws
-    long =
-        length-take-le (state.written + 8 * length ws) new
-        (omega (
-          arith,
-          ap length f.text,
-          length-append (take state.written old) (plain_text ws ++ drop (state.written + 8 * length ws) old),
-          length-append (plain_text ws) (drop (state.written + 8 * length ws) old),
-          length_plain ws,
-          length-take-le state.written old (omega (arith, f.fits)),
-        ))
+    long = search (rules, length-take-le, length-append, length_plain)
 
     at : w ≡ state.written + 8 * length ws
     at = still.2 ∙ long

@@ -1,4 +1,5 @@
 -- The call for the node at a path refuses nothing that the vetter accepts.
+use Rattle.cap_spec.proofs.ProofNames.{rules}
 use Rattle.std.proofs.Common.{IsFalse, List, ap, arith, inl, inr, length, not, subst, sym, true, ℕ, ◌∙◌, ◌≡◌, ◌⊎◌}
 use Rattle.cap_spec.specs.PathTexts.{IsPath}
 use Rattle.cap_spec.proofs.Paths.PathTexts.{path_not_bad}
@@ -8,8 +9,8 @@ use Rattle.cap_calls.specs.CallFindings.{accepted, without}
 use Rattle.cap_calls.specs.NodeCalls.{bad_limits}
 use Rattle.cap_calls.specs.CallNames.{Step, Demands, refusal_answer, framed, refused, tells, trailing, allows_trailing}
 use Rattle.cap_calls.specs.CallNames.{demands_of, has_no_table, HasFrame, HasTrailing, of_frame, of_no_words, of_words}
-use Rattle.cap_calls.specs.CallNames.{none_node, cause_answer, TellsMessage, TellsVet, Gets, TellsGet, a_node, a_path}
-use Rattle.cap_calls.specs.CallNames.{bad_path, no_meeting, no_node, AreSteps, EndsRange, GetsRange, TellsRange, full}
+use Rattle.cap_calls.specs.CallNames.{none_node, cause_answer, TellsMessage, TellsVet, Gets, TellsGet, a_path}
+use Rattle.cap_calls.specs.CallNames.{bad_path, AreSteps, EndsRange, GetsRange, TellsRange, full}
 use Rattle.cap_calls.specs.CallNames.{past, path_after, stops, unknown, Answer, Found, CallLimits, CallNode, CallReport}
 use Rattle.cap_calls.specs.CallNames.{CallStep}
 use Rattle.cap_calls.proofs.Answers.{no_cause, one_extent}
@@ -55,10 +56,7 @@ accepted_frame l bs r off (f, of_frame n (tells only (framed m x y g h (accepted
 got : (path : List Step) (node : CallNode) (demands : Demands) (m : List (List ℕ)) (words depth : ℕ) (g : Found)
     → MeetsOnPath demands m words depth path → Gets path node demands m words depth g
     → (g.answer ≡ answer.Good) ⊎ (g.answer ≡ answer.NoNode)
-got path node demands m words depth g meets (no_meeting r h e n) =
-    absurd (meets_no_path_fault demands m words depth path r meets h)
-got path node demands m words depth g meets (no_node h none e n) = inr (ap (λ (z : Found). z.answer) e)
-got path node demands m words depth g meets (a_node k t b x h at e n) = inl (ap (λ (z : Found). z.answer) e)
+got path node demands m words depth g x8 x9 = search (rules, meets_no_path_fault)
 
 -- So each path of an accepted message has a node or none.
 module _ (l : CallLimits) (bs : List ℕ) (k : IsAcceptedFrame l bs) where

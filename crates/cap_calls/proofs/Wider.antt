@@ -2,6 +2,7 @@
 use Rattle.std.proofs.Math.Nat.{le-min, min-le_left, min-le_right}
 use Rattle.cap_spec.proofs.ProofNames.{Bool, List, [], ap, arith, false, if◌then◌else◌, length, min, not, refl, subst, sum}
 use Rattle.cap_spec.proofs.ProofNames.{sym, true, ℕ, ◌+◌, ◌<◌, ◌∙◌, ◌∷◌, ◌≡◌, ◌≤◌, false≢true, ⊤, sizes_of, plain_words}
+use Rattle.cap_spec.proofs.ProofNames.{rules}
 use Rattle.cap_spec.proofs.Strict.Faults.{strict_wider, within_wider}
 use Rattle.cap_vet.specs.VetNames.{Meets, words_under, IsAccepted}
 use Rattle.cap_calls.specs.AnswerNumbers.{answer_number}
@@ -11,8 +12,7 @@ use Rattle.cap_calls.specs.CallInputs.{AreInputLimits, AreWordLimits}
 use Rattle.cap_calls.specs.CallNames.{Reason, StrictRefusal, Report, reason_answer, refusal_answer, Judges, TellsWhole}
 use Rattle.cap_calls.specs.CallNames.{framed, refused, tells, trailing, allows_amplified, allows_trailing, demands_of}
 use Rattle.cap_calls.specs.CallNames.{AreLimits, HasFrame, HasTrailing, HasWords, TellsInput, cause_answer, IsGood}
-use Rattle.cap_calls.specs.CallNames.{TellsVet, Answer, Found, NoFrame, BadLimits, Fault, CallLimits, CallReport}
-use Rattle.cap_calls.specs.declared.front.NoFrame.TheVariants.{NoMessage}
+use Rattle.cap_calls.specs.CallNames.{TellsVet, Answer, Found, NoFrame, CallLimits, CallReport}
 use Rattle.cap_calls.proofs.Answers.{one_extent}
 use Rattle.cap_frame.specs.declared.fault.FrontFault.TheVariants as fault
 use Rattle.cap_spec.specs.declared.Lax.TheVariants as lax
@@ -26,33 +26,13 @@ pub not_zero : (a : Answer) → 1 ≤ answer_number a → a ≡ answer.Good → 
 not_zero a some e = omega (arith, some, ap answer_number e)
 
 pub cause_not_zero : (c : NoFrame) → 1 ≤ answer_number (cause_answer c)
-cause_not_zero BadLimits = omega arith
-cause_not_zero NoMessage = omega arith
-cause_not_zero (Fault (fault.TooManySegments n)) = omega arith
-cause_not_zero (Fault (fault.TooLarge n)) = omega arith
-cause_not_zero (Fault (fault.Truncated n)) = omega arith
+cause_not_zero c = search rules
 
 reason_not_zero : (r : Reason) → 1 ≤ answer_number (reason_answer r)
-reason_not_zero reason.NoRoot = omega arith
-reason_not_zero reason.Reserved = omega arith
-reason_not_zero reason.SegmentMissing = omega arith
-reason_not_zero reason.PadOutside = omega arith
-reason_not_zero reason.PadIsFar = omega arith
-reason_not_zero reason.PadNotFar = omega arith
-reason_not_zero reason.TagKind = omega arith
-reason_not_zero reason.TagOffset = omega arith
-reason_not_zero reason.OutOfSegment = omega arith
-reason_not_zero reason.CompositeTag = omega arith
-reason_not_zero reason.CompositeOverrun = omega arith
-reason_not_zero reason.DepthLimit = omega arith
-reason_not_zero reason.WordLimit = omega arith
+reason_not_zero r = search rules
 
 pub refusal_not_zero : (r : StrictRefusal) → 1 ≤ answer_number (refusal_answer r)
-refusal_not_zero (strict.Refused it) = reason_not_zero it.reason
-refusal_not_zero strict.ManySegments = omega arith
-refusal_not_zero (strict.Pointer lax.NullPad s w n) = omega arith
-refusal_not_zero (strict.Pointer lax.EmptySegment s w n) = omega arith
-refusal_not_zero (strict.Pointer lax.CapabilityPad s w n) = omega arith
+refusal_not_zero r = search (rules, reason_not_zero)
 
 -- a flag that is not set in k is not set in l
 unset : (b c : Bool) → (b ≡ true → c ≡ true) → not c ≡ true → not b ≡ true
@@ -64,12 +44,7 @@ module _ (l k : CallLimits) (more : AllowsMore l k) where
   lower : (m : List (List ℕ)) (b c : Bool) → (not c ≡ true → not b ≡ true)
       → (if not b then min l.charge (sum (sizes_of m) + 4096) else l.charge) ≤
       (if not c then min k.charge (sum (sizes_of m) + 4096) else k.charge)
-  lower m true true h = more.charge
-  lower m true false h = absurd (false≢true (h refl))
-  lower m false true h = omega (arith, min-le_left l.charge (sum (sizes_of m) + 4096), more.charge)
-  lower m false false h =
-      le-min (omega (arith, min-le_left l.charge (sum (sizes_of m) + 4096), more.charge))
-      (min-le_right l.charge (sum (sizes_of m) + 4096))
+  lower m b c h = search (rules, false≢true, min-le_left, le-min, min-le_right)
 
   limit : (m : List (List ℕ)) → words_under (demands_of l) m l.charge ≤ words_under (demands_of k) m k.charge
   limit m = lower m (allows_amplified l) (allows_amplified k)

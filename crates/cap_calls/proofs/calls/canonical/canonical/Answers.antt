@@ -13,9 +13,7 @@ returns-clause-tells c =
 
 pub returns-clause-only : goal.returns-clause-only
 returns-clause-only c = λ a n new r h.
-    let told = c.over_input-answer.ensures in
-    let flag = by_flag c.args.limits.now c.args.bytes.now told.0 _ c.allows_trailing-whole.ensures told.1 in
-    one_copy_told c.args.limits.now c.args.bytes.now c.args.out.now _ a _ n _ new _ r (told.0, flag, told.2, told.3) h
+    one_copy_told c.args.limits.now c.args.bytes.now c.args.out.now _ a _ n _ new _ r (returns-clause-tells c) h
 
 pub returns-clause-few : goal.returns-clause-few
 returns-clause-few c =

@@ -8,8 +8,7 @@ pub returns-clause-tells : goal.returns-clause-tells
 returns-clause-tells c = (c.extent-found.result, c.extent-found.ensures, (refl, refl))
 
 pub returns-clause-only : goal.returns-clause-only
-returns-clause-only c = λ a r h. one_frame_told c.args.limits.now c.args.bytes.now _ a _ r
-    (c.extent-found.result, c.extent-found.ensures, (refl, refl)) h
+returns-clause-only c = λ a r h. one_frame_told c.args.limits.now c.args.bytes.now _ a _ r (returns-clause-tells c) h
 
 pub returns-clause-input_required : goal.returns-clause-input_required
 returns-clause-input_required c = (frame_told c.args.limits.now c.args.bytes.now c.extent-found.result c.extent-found.ensures).0

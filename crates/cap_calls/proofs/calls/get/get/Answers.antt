@@ -8,5 +8,4 @@ returns-clause-tells c = (c.find-found.result, c.find-found.ensures, (refl, refl
 
 pub returns-clause-only : goal.returns-clause-only
 returns-clause-only c = λ a n r h.
-    one_get_told c.args.limits.now c.args.bytes.now c.args.path.now _ a _ n _ r
-    (c.find-found.result, c.find-found.ensures, (refl, refl)) h
+    one_get_told c.args.limits.now c.args.bytes.now c.args.path.now _ a _ n _ r (returns-clause-tells c) h

@@ -8,5 +8,4 @@ returns-clause-tells c = (c.find-what.result, c.find-what.ensures, (refl, refl),
 
 pub returns-clause-only : goal.returns-clause-only
 returns-clause-only c = λ a n new r h.
-    one_range_told c.args.limits.now c.args.bytes.now c.args.steps.now c.args.varying c.args.nodes.now _ a _ n _ new _ r
-    (c.find-what.result, c.find-what.ensures, (refl, refl), refl) h
+    one_range_told c.args.limits.now c.args.bytes.now c.args.steps.now c.args.varying c.args.nodes.now _ a _ n _ new _ r (returns-clause-tells c) h

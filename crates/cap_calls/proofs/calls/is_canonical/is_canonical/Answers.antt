@@ -9,7 +9,4 @@ returns-clause-tells c =
     (told.0, input_less true c.args.limits.now c.args.bytes.now told.0 (λ _. tt) (λ _ _ _ _ p. p) told.1, told.2)
 
 pub returns-clause-only : goal.returns-clause-only
-returns-clause-only c = λ a r h.
-    let told = c.over_input.ensures in
-    one_check_told c.args.limits.now c.args.bytes.now _ a _ r
-    (told.0, input_less true c.args.limits.now c.args.bytes.now told.0 (λ _. tt) (λ _ _ _ _ p. p) told.1, told.2) h
+returns-clause-only c = λ a r h. one_check_told c.args.limits.now c.args.bytes.now _ a _ r (returns-clause-tells c) h

@@ -12,9 +12,7 @@ returns-clause-tells c =
 
 pub returns-clause-only : goal.returns-clause-only
 returns-clause-only c = λ a n new r h.
-    let f = c.over-found.result in
-    let told = packs_by_flag c.args.limits.now c.args.bytes.now _ _ f _ c.allows_trailing-whole.ensures c.over-found.ensures in
-    one_pack_message_told c.args.limits.now c.args.bytes.now c.args.out.now _ a _ n _ new _ r (f, told, (refl, refl), refl) h
+    one_pack_message_told c.args.limits.now c.args.bytes.now c.args.out.now _ a _ n _ new _ r (returns-clause-tells c) h
 
 pub returns-clause-few : goal.returns-clause-few
 returns-clause-few c = packed_few _ c.args.limits.now c.args.bytes.now _ _ c.over-found.result c.over-found.ensures

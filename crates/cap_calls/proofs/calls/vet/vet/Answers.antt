@@ -11,9 +11,4 @@ returns-clause-tells c =
     (told.0, by_flag l bs told.0 _ c.allows_trailing-whole.ensures less, told.2)
 
 pub returns-clause-only : goal.returns-clause-only
-returns-clause-only c = λ a r h.
-    let l = c.args.limits.now in
-    let bs = c.args.bytes.now in
-    let told = c.over_input.ensures in
-    let less = input_less _ l bs told.0 (λ _. tt) (λ _ _ _ _ p. p) told.1 in
-    one_vet_told l bs _ a _ r (told.0, by_flag l bs told.0 _ c.allows_trailing-whole.ensures less, told.2) h
+returns-clause-only c = λ a r h. one_vet_told c.args.limits.now c.args.bytes.now _ a _ r (returns-clause-tells c) h

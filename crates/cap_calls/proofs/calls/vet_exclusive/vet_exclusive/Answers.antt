@@ -15,12 +15,7 @@ returns-clause-tells c =
     (told.0, by_flag l bs told.0 _ c.allows_trailing-whole.ensures less, told.2, told.3)
 
 pub returns-clause-only : goal.returns-clause-only
-returns-clause-only c = λ a n r h.
-    let l = c.args.limits.now in
-    let bs = c.args.bytes.now in
-    let told = c.over_input-answer.ensures in
-    let less = input_less _ l bs told.0 (λ _. tt) (λ _ _ _ _ p. p.0) told.1 in
-    one_exclusive_told l bs _ _ a _ n _ r (told.0, by_flag l bs told.0 _ c.allows_trailing-whole.ensures less, told.2, told.3) h
+returns-clause-only c = λ a n r h. one_exclusive_told c.args.limits.now c.args.bytes.now _ _ a _ n _ r (returns-clause-tells c) h
 
 pub returns-clause-few : goal.returns-clause-few
 returns-clause-few c =

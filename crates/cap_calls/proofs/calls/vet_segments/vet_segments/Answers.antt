@@ -9,5 +9,4 @@ returns-clause-tells c = (c.found_of-found.result, c.found_of-found.ensures, (re
 
 pub returns-clause-only : goal.returns-clause-only
 returns-clause-only c = λ a r h.
-    one_segments_told c.args.limits.now (bytes_of c.args.segments.now) _ a _ r
-    (c.found_of-found.result, c.found_of-found.ensures, (refl, refl)) h
+    one_segments_told c.args.limits.now (bytes_of c.args.segments.now) _ a _ r (returns-clause-tells c) h
