@@ -44,6 +44,9 @@ range_one m t b x h =
     let e : b + 0 ≡ b = omega arith in
     range_more m t b 0 x (subst (λ w. HasWord m t w x) (sym e) h) ∙ ap (λ xs. xs ++ x ∷ []) (range_none m t b)
 
+pub range_two : (m : List (List ℕ)) (t b x y : ℕ) → HasWord m t b x → HasWord m t (b + 1) y → words_from m t b 2 ≡ x ∷ y ∷ []
+range_two m t b x y h k = range_more m t b 1 y k ∙ ap (λ xs. xs ++ y ∷ []) (range_one m t b x h)
+
 -- what holds of all before others
 pub all_front : {A : Type 0} (P : A → Type 0) (xs ys : List A) → AllByRecursion P (xs ++ ys) → AllByRecursion P xs
 all_front P [] ys a = tt

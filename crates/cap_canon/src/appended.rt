@@ -73,6 +73,8 @@ impl CopyOutput for AppendedWords {
         write_word(self.bytes.as_mut_slice(), place as usize, word);
     }
 
+    // Inlined, since a copy calls it at nearly every object.
+    #[inline(always)]
     fn append_from<M: Segments>(&mut self, message: &M, segment: u32, start: u32, count: u32) {
         read_range(message, segment, start, count);
         match message.bytes_at(segment, start, count) {

@@ -96,7 +96,7 @@ fn append_struct<M: Segments, T: CopyOutput>(message: &M, part: &Part, copy: &mu
     append_row(message, part.segment, pointers, part.pointers_left, copy);
 }
 
-// Appends words in a row. One word is pushed, since a call that copies rows takes longer.
+// Appends words in a row. One or two words are pushed, since a call that copies rows takes longer.
 #[inline(always)]
 fn append_row<M: Segments, T: CopyOutput>(
     message: &M,
@@ -124,7 +124,32 @@ fn append_row<M: Segments, T: CopyOutput>(
         copy.push(message.word(segment, start));
         return;
     }
+    if count == 2 {
+        append_two(message, segment, start, copy);
+        return;
+    }
     copy.append_from(message, segment, start, count);
+}
+
+// Appends two words in a row.
+#[inline(always)]
+fn append_two<M: Segments, T: CopyOutput>(message: &M, segment: u32, start: u32, copy: &mut T)
+    requires exists { segment < length (M.segments message.now) }
+    requires inside { start + 2 ≤ length (segment_of (M.segments message.now) segment) }
+    requires capacity { length (T.words copy.old) + 2 ≤ T.capacity copy.old }
+    ensures words { T.words copy.new
+        ≡ T.words copy.old ++ words_from (M.segments message.now) segment start 2 }
+    ensures capacity { T.capacity copy.new ≡ T.capacity copy.old }
+    ensures borrow { T.borrow copy.new ≡ T.borrow copy.old }
+    ensures after { (n : ℕ) → length (T.words copy.new) ≤ n →
+        T.after copy.new n ≡ T.after copy.old n }
+    ensures are_words { let m = M.segments message.now in
+        AllByRecursion IsWord (words_from m segment start 2) }
+{
+    let first = message.word(segment, start);
+    let second = message.word(segment, start + 1);
+    copy.push(first);
+    copy.push(second);
 }
 
 // Appends what is left of each of `count` structs in a row.

@@ -90,23 +90,19 @@ pub(crate) fn copy_into<M: Segments, T: CopyOutput>(message: &M, depth: u32, cop
         T.after copy.new n ≡ T.after copy.old n) }
 {
     copy.push(0);
-    let mut copying = Copying {
-        source: message,
-        output: copy,
-    };
+    let mut copying = Copying { output: copy };
     let _words = walk(message, depth, &mut copying);
 }
 
-// A copy so far, and the message that it is made of.
+// A copy so far.
 #[derive(Drop)]
-struct Copying<'c, S, T> {
-    source: &'c S,
+struct Copying<'c, T> {
     output: &'c mut T,
 }
 
-impl<S: Segments, T: CopyOutput> Pass for Copying<'_, S, T> {
-    ghost state = { λ s m u end due. (S.segments s.source.now ≡ m)
-        × IsCopied (T.words s.output.now) (T.capacity s.output.now) u end due };
+impl<T: CopyOutput> Pass for Copying<'_, T> {
+    ghost state = { λ s _ u end due.
+        IsCopied (T.words s.output.now) (T.capacity s.output.now) u end due };
 
     ghost kept = { λ s u. record {
       capacity = T.capacity s.output.now;
@@ -116,8 +112,8 @@ impl<S: Segments, T: CopyOutput> Pass for Copying<'_, S, T> {
     } };
 
     #[inline(always)]
-    fn visit<M: Segments>(&mut self, _message: &M, object: &Object, place: PointerPlace, end: u32) {
-        lay(self.source, object, place.slot, end, self.output);
+    fn visit<M: Segments>(&mut self, message: &M, object: &Object, place: PointerPlace, end: u32) {
+        lay(message, object, place.slot, end, self.output);
     }
 }
 

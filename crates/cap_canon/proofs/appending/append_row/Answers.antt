@@ -30,3 +30,15 @@ returns-then-count-eq1-clause-are_words g c =
     ∙ range_one m c.args.segment c.args.start c.word.result c.word.ensures in
     let small : IsWord c.word.result = search rules in
     subst (λ (xs : List ℕ). AllByRecursion IsWord xs) (sym one) (small, tt)
+
+pub returns-then-count-eq2-clause-words : goal.returns-then-count-eq2-clause-words
+returns-then-count-eq2-clause-words g c =
+    let m = g.M.Segments.segments c.args.message.now in
+    let two = ap (λ n. words_from m c.args.segment c.args.start n) c.if-count-eq2.true in
+    c.append_two.ensures.words ∙ ap (λ xs. g.T.CopyOutput.words c.args.copy.now ++ xs) (sym two)
+
+pub returns-then-count-eq2-clause-are_words : goal.returns-then-count-eq2-clause-are_words
+returns-then-count-eq2-clause-are_words g c =
+    let m = g.M.Segments.segments c.args.message.now in
+    let two = ap (λ n. words_from m c.args.segment c.args.start n) c.if-count-eq2.true in
+    subst (λ (xs : List ℕ). AllByRecursion IsWord xs) (sym two) c.append_two.ensures.are_words

@@ -1,4 +1,4 @@
-use Rattle.std.proofs.Common.{[], ap, arith, length, refl, rules, subst, sym, ◌++◌, ◌∙◌, ◌∷◌, ◌≡◌, ◌≤◌}
+use Rattle.std.proofs.Common.{[], ap, arith, length, rules, subst, sym, ◌++◌, ◌∙◌, ◌∷◌, ◌≡◌, ◌≤◌}
 use Rattle.cap_spec.specs.Canonical.{layout, trim}
 use Rattle.cap_canon.specs.Filling.{Agrees}
 use Rattle.cap_canon.specs.Kept.{Kept}
@@ -9,21 +9,18 @@ use Rattle.cap_canon.proofs.copying.copy_into.Goals as goal
 pub walk-words-requires-clause-start : goal.walk-words-requires-clause-start
 walk-words-requires-clause-start g c = λ t x d h.
     (let u = trim t in
-    let first : g.T.CopyOutput.words c.push.new.self ≡ 0 ∷ [] = c.push.ensures.words ∙ ap (λ xs. xs ++ 0 ∷ []) c.requires.empty in (
-      refl,
-      record {
-        ends = ap length first;
-        agrees = subst (λ xs. Agrees xs (layout u) (record { slot = 0; tree = u } ∷ [])) (sym first) (root_agrees (layout u) 0 u);
-        space = omega (arith, c.requires.capacity t x d h, c.push.ensures.capacity);
-      },
-    ))
+    let first : g.T.CopyOutput.words c.push.new.self ≡ 0 ∷ [] = c.push.ensures.words ∙ ap (λ xs. xs ++ 0 ∷ []) c.requires.empty in record {
+      ends = ap length first;
+      agrees = subst (λ xs. Agrees xs (layout u) (record { slot = 0; tree = u } ∷ [])) (sym first) (root_agrees (layout u) 0 u);
+      space = omega (arith, c.requires.capacity t x d h, c.push.ensures.capacity);
+    })
 
 pub returns-clause-words : goal.returns-clause-words
 returns-clause-words g c = λ t x d h.
     let k = c.walk-words.ensures.done t x d h in
     let output = c.walk-words.new.pass.output in
-    let same : length (g.T.CopyOutput.words output.now) ≡ length (layout (trim t)) = k.1.1.ends ∙ k.0 in
-    let all : g.T.CopyOutput.words output.now ≡ layout (trim t) = agrees_all (g.T.CopyOutput.words output.now) (layout (trim t)) same k.1.1.agrees in
+    let same : length (g.T.CopyOutput.words output.now) ≡ length (layout (trim t)) = k.1.ends ∙ k.0 in
+    let all : g.T.CopyOutput.words output.now ≡ layout (trim t) = agrees_all (g.T.CopyOutput.words output.now) (layout (trim t)) same k.1.agrees in
     let name = ap (λ (q : Kept). q.name) (c.walk-words.ensures.kept t x d h) in
     search (rules, all, name)
 
