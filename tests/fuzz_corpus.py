@@ -118,6 +118,8 @@ def made():
     # (a list of bytes that is a text, one whose characters are escaped, and one that isn't valid UTF-8)
     for name, text in (("text", b"\xc2\xa7"), ("text-escaped", b"\"\n"), ("text-wrong", b"\xff\xc2")):
         found[name] = struct.pack("<IIQ8s", 0, 2, 1 | 2 << 32 | 3 << 35, text)
+    # (a struct of null pointers, more than bindings find at once)
+    found["pointers"] = struct.pack("<IIQ", 0, 41, 40 << 48) + bytes(8 * 40)
     found["segments-511"] = strict.many(511)
     found["segments-512"] = strict.many(512)
     found["empty"] = b""

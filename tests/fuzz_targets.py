@@ -11,6 +11,7 @@ import sys
 import time
 from dataclasses import dataclass, field
 from pathlib import Path
+from threading import Lock
 
 from harness import ARCHIVE, TOP
 from install import make
@@ -226,6 +227,8 @@ def go_bytes(path):
 class Go(Target):
     """A fuzz test of Go, by `go test -fuzz`."""
     needs = ("go", "cc", "pkg-config")
+    # (targets are built side by side)
+    copying = Lock()
 
     def __init__(self, folder, test, *needs):
         self.folder, self.test, self.needs = folder, test, (*Go.needs, *needs)
@@ -242,9 +245,10 @@ class Go(Target):
 
     def build(self, tree):
         parts = tree.folder / "path/src/capvet.invalid"
-        if not parts.exists():
-            shutil.copytree(tree.top / "bindings/go", parts / "capvet")
-            shutil.copytree(tree.top / "guard", parts / "guard")
+        with self.copying:
+            if not parts.exists():
+                shutil.copytree(tree.top / "bindings/go", parts / "capvet")
+                shutil.copytree(tree.top / "guard", parts / "guard")
         place, environment = self.place(tree)
         text, status = run(["go", "vet", "."], cwd=place, env=environment)
         return text if status else ""

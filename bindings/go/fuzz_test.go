@@ -10,6 +10,7 @@ import (
 	"os"
 	"path/filepath"
 	"reflect"
+	"regexp"
 	"strings"
 	"testing"
 
@@ -161,6 +162,9 @@ var errMost = errors.New("more messages")
 func scans(t *testing.T, s *capvet.Scanner, l capvet.Limits) (lines []string, err error) {
 	l.AllowTrailing = false
 	offset := int64(-1)
+	if s.Bytes() != nil {
+		t.Fatal("bytes before the first message")
+	}
 	for s.Scan() {
 		if s.Number() != len(lines) || s.Offset() < offset {
 			t.Fatal(s.Number(), s.Offset())
@@ -211,7 +215,7 @@ func FuzzScanner(f *testing.F) {
 		if !ok {
 			return
 		}
-		check, used, most := capvet.Vet, 0, []int{1 << 20, 70000}[in.choose(2)]
+		check, used, most := capvet.Vet, 0, []int{1 << 20, 70000, 9000}[in.choose(3)]
 		isExclusive := in.choose(2) == 0
 		if isExclusive {
 			check = capvet.VetExclusive
@@ -285,6 +289,7 @@ func FuzzCalls(f *testing.F) {
 		fuzzCanonical(t, in, b, report, err)
 		fuzzPacking(t, in, b)
 		fuzzNodes(t, in, b, err)
+		fuzzExplain(t, in, b, err)
 		fuzzErrors(t, in, b)
 	})
 }
@@ -321,6 +326,47 @@ func fuzzErrors(t *testing.T, in *input, b []byte) {
 		}
 	}()
 	capvet.AppendPacked(nil, b)
+}
+
+// explained is an explanation: lines that begin with two blanks, and the last one has the reason.
+var explained = regexp.MustCompile(`^(  [!-~][ -~]*\n)*  reason [ -~]+\n$`)
+
+// fuzzExplain explains what Vet refuses, and nothing else. The lines begin with the path of the refusal, and with the place and
+// the word at its position.
+func fuzzExplain(t *testing.T, in *input, b []byte, vetted error) {
+	lines, err := capvet.Explain(b, in.limits)
+	var refusal *capvet.Refusal
+	if !errors.As(vetted, &refusal) {
+		if lines != "" || !reflect.DeepEqual(err, vetted) {
+			t.Fatalf("%q, %v, %v", lines, err, vetted)
+		}
+		return
+	}
+	path := refusal.Path(b, in.limits)
+	if err != nil || !explained.MatchString(lines) || (path == "") != (refusal.Pointers == 0) {
+		t.Fatalf("%q, %v, path %q", lines, err, path)
+	}
+	start := ""
+	if path != "" {
+		place, word := placeOf(b, in.limits, refusal.Position)
+		start = fmt.Sprintf("  path %s\n  byte %d of the message\n  pointer %x ", path, place, word)
+	}
+	if !strings.HasPrefix(lines, start) {
+		t.Fatalf("%q does not begin with %q", lines, start)
+	}
+}
+
+// placeOf returns the place in bytes of a position in a message with its table, and the word there.
+func placeOf(b []byte, l capvet.Limits, p capvet.Position) (int, []byte) {
+	segments := [][]byte{b}
+	if !l.NoTable {
+		segments, _ = capvet.Segments(b)
+	}
+	place := 8*(len(segments)/2+1) + 8*int(p.Word)
+	for _, segment := range segments[:p.Segment] {
+		place += len(segment)
+	}
+	return place, segments[p.Segment][8*p.Word:][:8]
 }
 
 func fuzzVerdict(t *testing.T, in *input, b []byte, report capvet.Report, err error) {

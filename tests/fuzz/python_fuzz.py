@@ -11,6 +11,7 @@ The last line is 'Done N runs'. A broken rule is an AssertionError, with the sma
 - Streams give the same messages from a buffer, from a file, from a feed, and packed, in pieces of any size.
 - `nodes` gives what `node` gives.
 - The canonical form of a canonical form is the same, and unpacking gives what was packed.
+- Each refusal is explained, with its path, and nothing else is.
 - What is pickled is the same afterwards, and so is the path of a refusal.
 - The commands of `python -m capvet` say the same: see python_commands.py.
 """
@@ -98,6 +99,7 @@ def check_verdict(data, limits):
     if not is_error(frame) and not isinstance(report, capvet.FrameError):
         separate = result(capvet.vet_segments, [data[at:at + size] for at, size in frame.segments], limits=limits)
         assert same(separate, report) if is_error(report) else separate.charge == report.charge
+    check_explained(data, limits, report)
     if is_error(report):
         check_refusal(data, limits, report)
         return report
@@ -119,6 +121,18 @@ def check_refusal(data, limits, error):
         found = result(capvet.node, data, path, limits=limits)
         # (other reasons than those of a pointer come later)
         assert not isinstance(found, capvet.PathError), path
+
+
+def check_explained(data, limits, report):
+    """A refusal is explained, with its path, and nothing else is."""
+    lines = result(capvet.explain, data, limits=limits)
+    if not isinstance(report, capvet.Refusal):
+        assert same(lines, report if is_error(report) else None)
+        return
+    path = report.path(data, limits=limits)
+    assert lines.startswith("  " if path is None else f"  path {path}\n") and lines.endswith("\n")
+    *before, last = lines.splitlines()
+    assert all(line.startswith("  ") and line.isascii() for line in before) and last.startswith("  reason ")
 
 
 def check_buffers(data, limits):

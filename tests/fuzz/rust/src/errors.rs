@@ -1,17 +1,19 @@
 //! What the errors say and become, the paths of refusals, and packed messages.
 
 use crate::input::Input;
+use capnp::message::ReaderSegments;
 use capvet::{
     CanonicalError, ExclusiveError, FrameError, GetError, Limits, PackMessageError, Refusal, Step,
     UnpackMessageError, Unpacking, VetError,
 };
-use std::fmt::Display;
+use std::fmt::{Debug, Display};
 use std::io;
 
 /// An error has a text, and keeps it as an error of `std::io`.
-fn check<T, E: Copy + Display + Into<io::Error>>(result: Result<T, E>) {
+fn check<T, E: Copy + Debug + Display + Into<io::Error>>(result: Result<T, E>) {
     if let Err(error) = result {
         assert_ne!(error.to_string(), "");
+        assert_ne!(format!("{error:?}"), "");
         assert_eq!(error.into().to_string(), error.to_string());
     }
 }
@@ -19,6 +21,9 @@ fn check<T, E: Copy + Display + Into<io::Error>>(result: Result<T, E>) {
 /// An error of a frame keeps its text as an error of any call.
 fn check_frame(error: FrameError) {
     check::<(), _>(Err(error));
+    check::<(), _>(Err(UnpackMessageError::from(error)));
+    let more_helps = matches!(error, FrameError::NoMessage | FrameError::Truncated { .. });
+    assert_eq!(error.required().is_some(), more_helps);
     let texts = [
         VetError::from(error).to_string(),
         CanonicalError::from(error).to_string(),
@@ -35,13 +40,31 @@ fn check_frame(error: FrameError) {
 fn check_path(it: &Input, refusal: Refusal) {
     check::<(), _>(Err(refusal));
     assert_eq!(VetError::from(refusal).to_string(), refusal.to_string());
+    assert_eq!(refusal.reason.to_string(), VetError::from(refusal).name());
     if let Some(path) = refusal.path(it.bytes, it.limits) {
         let found = capvet::node(it.bytes, &path.to_string(), it.limits);
         assert!(!matches!(found, Err(GetError::BadPath { .. })));
-        assert_eq!(Some(&path), refusal.path(it.bytes, it.limits).as_ref());
+        assert_eq!(Some(path.clone()), refusal.path(it.bytes, it.limits));
         assert!(path.to_string().matches('/').count() == path.steps().len().max(1));
         assert!(format!("{:?}", path).starts_with("Path("));
     }
+}
+
+/// Of separate segments the first that ends inside a word is named, before what is wrong with the others.
+fn check_cut_segments(it: &mut Input) {
+    let (one, other) = it.bytes.split_at(it.choose(it.bytes.len() + 1));
+    let cut = [one, other]
+        .iter()
+        .position(|segment| segment.len() % 8 != 0);
+    let verdict = capvet::vet_segments(&[one, other], it.limits.no_table(false));
+    match verdict {
+        Err(VetError::Frame(FrameError::BadSegment { index, .. })) => assert_eq!(cut, Some(index)),
+        _ => assert_eq!(cut, None),
+    }
+    if let Err(error) = verdict {
+        assert_ne!(error.name(), "Unknown");
+    }
+    check(verdict);
 }
 
 /// The errors of all calls.
@@ -58,12 +81,16 @@ pub fn errors(it: &mut Input) {
     let mut small = vec![0; it.choose(20)];
     let mut marks = vec![0; it.choose(2)];
     let steps = [Step::Pointer(it.choose(3) as u32)];
+    let steps = &steps[..it.choose(3).min(1)];
     let text = String::from_utf8_lossy(&bytes[..it.choose(bytes.len() + 1) % 20]);
     check(capvet::vet_exclusive(bytes, limits, &mut marks));
     check(capvet::canonical_into(bytes, limits, &mut small));
     check(capvet::node(bytes, &text, limits));
     for varying in 0..2 {
-        if let Some(found) = capvet::nodes(bytes, steps, varying, limits).next() {
+        let mut nodes = capvet::nodes(bytes, steps, varying, limits);
+        let first = nodes.clone().next();
+        assert_eq!(nodes.next(), first);
+        if let Some(found) = first {
             check(found);
         }
     }
@@ -72,6 +99,7 @@ pub fn errors(it: &mut Input) {
     check(capvet::unpack(bytes, it.choose(99)));
     check(capvet::unpack_into(bytes, &mut small));
     check(capvet::pack_message_into(bytes, limits, &mut small));
+    check_cut_segments(it);
     assert!(capvet::cpu_supported() && capvet::version().0 == 1);
 }
 
@@ -88,9 +116,12 @@ pub fn packed_message(it: &mut Input) {
     loop {
         match capvet::unpack_message(&mut rest, limits, &mut out, &mut state) {
             Ok(found) => break assert!(found == length && rest.is_empty() && held == packed.len()),
-            Err(UnpackMessageError::BufferTooSmall { required, .. }) => out.resize(required, 0),
+            Err(error @ UnpackMessageError::BufferTooSmall { required, .. }) => {
+                check::<(), _>(Err(error));
+                assert_eq!(error.required(), None);
+                out.resize(required, 0);
+            }
             Err(error) => {
-                assert_ne!(error.to_string(), "");
                 check::<(), _>(Err(error));
                 assert!(error.required() > Some(0) && held < packed.len());
                 let begin = held - rest.len();
@@ -116,6 +147,7 @@ pub fn for_capnp(it: &Input) {
     match capvet_capnp::vetted(it.bytes, it.limits) {
         Ok(vetted) => {
             assert!(by_reader.is_ok() && by_segments.is_ok());
+            assert_eq!(vetted.len(), vetted.report().segments as usize);
             let (least, most) = (vetted.least_options(2), vetted.options(2));
             assert!(most.traversal_limit_in_words >= least.traversal_limit_in_words);
             assert!(most.nesting_limit >= least.nesting_limit);
@@ -173,11 +205,16 @@ pub fn readers(it: &Input) {
                 .and_then(Result::ok)
                 .map(|message| message.bytes().to_vec())
         );
-        packed.next();
+        if let Some(Err(error)) = packed.next() {
+            let text = error.to_string();
+            assert_ne!(format!("{error:?}"), "");
+            assert_eq!(io::Error::from(error).to_string(), text);
+        }
     }
     assert!(format!("{:?}", plain).starts_with("ReadMessages"));
     assert!(format!("{:?}", packed).starts_with("ReadPackedMessages"));
     assert!(format!("{:?}", all).starts_with("Messages"));
+    assert!(bytes.ends_with(all.rest()));
     let held = plain.partial().len();
     let left = plain.into_inner();
     assert!(bytes.ends_with(left) && held + left.len() <= bytes.len());

@@ -4,12 +4,14 @@
 //! - Streams give the same messages from a slice, in pieces of any size, and packed.
 //! - `nodes` gives what `node` gives, and neither leaves the message.
 //! - The canonical form of a canonical form is the same.
+//! - Each refusal is explained by the lines that the library writes, and nothing else is.
 //! - The crate `capnp` reads each strict message under the limits for it alone, at any address.
 
 #[path = "../../../readers/rust/src/walk.rs"]
 mod walk;
 
 mod errors;
+mod explaining;
 mod input;
 
 use capnp::message::Reader;
@@ -123,7 +125,8 @@ fn lines(bytes: &[u8], limits: Limits) -> Vec<Result<Report, VetError>> {
     capvet::messages(bytes, limits)
         .map(|message| {
             let message = message?;
-            let limits = limits.allow_trailing(false);
+            let (limits, kept) = (limits.allow_trailing(false), message);
+            assert_eq!(kept, message);
             assert_eq!(
                 capvet::vet(message.bytes(), limits).as_ref(),
                 Ok(message.report())
@@ -144,7 +147,7 @@ where
             Ok(message) => {
                 let report = *message.report();
                 assert_eq!(message.bytes().len(), report.length);
-                assert_eq!(message.as_ref().to_vec(), message.into_bytes());
+                assert_eq!(message.as_ref().to_vec(), message.clone().into_bytes());
                 Some(Ok(report))
             }
             Err(ReadError::NotAccepted(error)) => Some(Err(error)),
@@ -257,7 +260,9 @@ fn paths(it: &mut Input, is_accepted: bool) {
             node.u32_at(it.choose(9)),
         );
         let _ = (node.u64_at(it.choose(9)), node.bool_at(it.choose(999)));
-        for element in node.elements().take(9) {
+        let elements = node.elements();
+        assert_eq!(elements.len().min(9), elements.clone().take(9).count());
+        for element in elements.take(9) {
             assert_eq!(element.data().len() % 8, 0);
         }
         let below = it.choose(12) as u32;
@@ -320,6 +325,7 @@ pub unsafe extern "C" fn LLVMFuzzerTestOneInput(data: *const u8, size: usize) ->
         streams(&mut it);
         paths(&mut it, verdict.is_ok());
         readers(&mut it);
+        explaining::explain(&it, &verdict);
         errors::errors(&mut it);
         errors::packed_message(&mut it);
         errors::for_capnp(&it);
