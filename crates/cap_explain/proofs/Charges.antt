@@ -1,4 +1,4 @@
--- One refusal needs one charge.
+-- One refusal has one charge.
 use Rattle.std.proofs.lemmas.List.{append_cancel_right}
 use Rattle.cap_spec.specs.declared.Reason.TheVariants.{WordLimit}
 use Rattle.cap_spec.specs.declared.Refusal.{Refusal}
@@ -15,8 +15,8 @@ use Rattle.cap_spec.proofs.Verdicts.OneVerdict.{distinct_cost}
 use Rattle.std.specs.Prelude.{IfNone}
 use Rattle.cap_spec.specs.declared.StrictRefusal.{StrictRefusal}
 use Rattle.cap_spec.specs.declared.StrictRefusal.TheVariants.{ManySegments, Pointer, Refused}
+use Rattle.cap_vet.specs.ChargeUpTo.{IsChargeUpTo}
 use Rattle.cap_vet.specs.Demands.{IsDemandFault, words_under}
-use Rattle.cap_vet.specs.Needed.{NeedsCharge}
 use Rattle.cap_vet.specs.declared.demands.Demands.{Demands}
 use Rattle.cap_explain.specs.Charges.{ChargeOf, fault_charge, reason_charge, refusal_charge}
 
@@ -37,54 +37,54 @@ module _ (m : List (List ℕ)) (words depth : ℕ) where
   abbrev pub OnePath : Refusal → Type 0
   OnePath r = (k f : IsFirstFault m words depth r) → k.path ≡ f.path
 
-  -- so one charge is needed
-  one_needed : (r u : Refusal) → r ≡ u → OnePath r → (f : IsFirstFault m words depth r) (cost : ℕ) → Costs m r.segment r.word cost
+  -- so the charge up to it is one
+  one_up_to : (r u : Refusal) → r ≡ u → OnePath r → (f : IsFirstFault m words depth r) (cost : ℕ) → Costs m r.segment r.word cost
       → (k : IsFirstFault m words depth u) (one : ℕ) → Costs m u.segment u.word one → k.fault.charge + one ≡ f.fault.charge + cost
-  one_needed r u e paths f cost c =
+  one_up_to r u e paths f cost c =
       subst (λ (u : Refusal). (k : IsFirstFault m words depth u) (one : ℕ) → Costs m u.segment u.word one → k.fault.charge + one ≡ f.fault.charge + cost) e
       (λ k one d. ap₂ (λ x y. x + y) (sym (one_before r f k (paths k f))) (one_cost m r.segment r.word one cost d c))
 
-  -- a refusal for another reason needs none
-  pub no_need : (r : Refusal) → IsRefused m words depth r → r.reason ≢ WordLimit → (charge : ℕ) → ¬ NeedsCharge m words depth charge
-  no_need r h n charge (u, f, e, cost, c, x) = n (ap (λ (r : Refusal). r.reason) (one_refusal m words depth r u h (inr f)) ∙ e)
+  -- a refusal for another reason has none
+  pub no_charge : (r : Refusal) → IsRefused m words depth r → r.reason ≢ WordLimit → (charge : ℕ) → ¬ IsChargeUpTo m words depth charge
+  no_charge r h n charge (u, f, e, cost, c, x) = n (ap (λ (r : Refusal). r.reason) (one_refusal m words depth r u h (inr f)) ∙ e)
 
-  -- what is said to be needed is the charge of the first fault
+  -- the charge up to the pointer is that of the first fault
   by_reason : (r : Refusal) (f : IsFirstFault m words depth r) (reason : IsFirstReason m words depth f.fault.charge r.segment r.word f.fault.numbered.level r.reason)
-      (o : Option ℕ) → OnePath r → IfSome o (NeedsCharge m words depth) → IfNone o ((charge : ℕ) → ¬ NeedsCharge m words depth charge)
+      (o : Option ℕ) → OnePath r → IfSome o (IsChargeUpTo m words depth) → IfNone o ((charge : ℕ) → ¬ IsChargeUpTo m words depth charge)
       → o ≡ reason_charge m words depth f.fault.charge r.segment r.word f.fault.numbered.level r.reason reason
   by_reason r f (is_wrong x) None paths some none = refl
-  by_reason r f (is_wrong x) (Some n) paths some none = absurd (no_need r (inr f) (λ e. (rw e at x).holds) n some)
+  by_reason r f (is_wrong x) (Some n) paths some none = absurd (no_charge r (inr f) (λ e. (rw e at x).holds) n some)
   by_reason r f (is_deep named deep) None paths some none = refl
-  by_reason r f (is_deep named deep) (Some n) paths some none = absurd (no_need r (inr f) (λ e. let z = sym named ∙ e in cc) n some)
+  by_reason r f (is_deep named deep) (Some n) paths some none = absurd (no_charge r (inr f) (λ e. let z = sym named ∙ e in cc) n some)
   by_reason r f (is_past cost named shallow costs past) None paths some none =
       absurd (none (f.fault.charge + cost) (r, f, named, cost, costs, refl))
   by_reason r f (is_past cost named shallow costs past) (Some n) paths (u, k, e, one, c, x) none =
       let same = one_refusal m words depth r u (inr f) (inr k) in
-      ap (λ (n : ℕ). Some n) (x ∙ one_needed r u same paths f cost costs k one c)
+      ap (λ (n : ℕ). Some n) (x ∙ one_up_to r u same paths f cost costs k one c)
 
-  pub needed_is : (r : Refusal) (h : IsRefused m words depth r) (o : Option ℕ) → OnePath r → IfSome o (NeedsCharge m words depth)
-      → IfNone o ((charge : ℕ) → ¬ NeedsCharge m words depth charge) → o ≡ refusal_charge m words depth r h
-  needed_is r (inl h) None paths some none = refl
-  needed_is r (inl h) (Some n) paths some none = absurd (no_need r (inl h) (λ e. let z = sym h.lacks.reason ∙ e in cc) n some)
-  needed_is r (inr f) o paths some none = by_reason r f f.fault.reason o paths some none
+  pub charge_up_to_is : (r : Refusal) (h : IsRefused m words depth r) (o : Option ℕ) → OnePath r → IfSome o (IsChargeUpTo m words depth)
+      → IfNone o ((charge : ℕ) → ¬ IsChargeUpTo m words depth charge) → o ≡ refusal_charge m words depth r h
+  charge_up_to_is r (inl h) None paths some none = refl
+  charge_up_to_is r (inl h) (Some n) paths some none = absurd (no_charge r (inl h) (λ e. let z = sym h.lacks.reason ∙ e in cc) n some)
+  charge_up_to_is r (inr f) o paths some none = by_reason r f f.fault.reason o paths some none
 
-  -- the charge of a first fault is needed
+  -- the charge of a first fault is the charge up to its pointer
   charge_some : (r : Refusal) (f : IsFirstFault m words depth r) (reason : IsFirstReason m words depth f.fault.charge r.segment r.word f.fault.numbered.level r.reason)
-      → IfSome (reason_charge m words depth f.fault.charge r.segment r.word f.fault.numbered.level r.reason reason) (NeedsCharge m words depth)
+      → IfSome (reason_charge m words depth f.fault.charge r.segment r.word f.fault.numbered.level r.reason reason) (IsChargeUpTo m words depth)
   charge_some r f (is_wrong x) = tt
   charge_some r f (is_deep named deep) = tt
   charge_some r f (is_past cost named shallow costs past) = (r, f, named, cost, costs, refl)
 
   charge_none : (r : Refusal) (f : IsFirstFault m words depth r) (reason : IsFirstReason m words depth f.fault.charge r.segment r.word f.fault.numbered.level r.reason)
-      → IfNone (reason_charge m words depth f.fault.charge r.segment r.word f.fault.numbered.level r.reason reason) ((charge : ℕ) → ¬ NeedsCharge m words depth charge)
-  charge_none r f (is_wrong x) = no_need r (inr f) (λ e. (rw e at x).holds)
-  charge_none r f (is_deep named deep) = no_need r (inr f) (λ e. let z = sym named ∙ e in cc)
+      → IfNone (reason_charge m words depth f.fault.charge r.segment r.word f.fault.numbered.level r.reason reason) ((charge : ℕ) → ¬ IsChargeUpTo m words depth charge)
+  charge_none r f (is_wrong x) = no_charge r (inr f) (λ e. (rw e at x).holds)
+  charge_none r f (is_deep named deep) = no_charge r (inr f) (λ e. let z = sym named ∙ e in cc)
   charge_none r f (is_past cost named shallow costs past) = tt
 
   -- one refusal has one charge
   pub one_charge : (r : Refusal) (h k : IsRefused m words depth r) → OnePath r → refusal_charge m words depth r h ≡ refusal_charge m words depth r k
-  one_charge r (inl h) k paths = needed_is r k None paths tt (no_need r (inl h) (λ e. let z = sym h.lacks.reason ∙ e in cc))
-  one_charge r (inr f) k paths = needed_is r k _ paths (charge_some r f f.fault.reason) (charge_none r f f.fault.reason)
+  one_charge r (inl h) k paths = charge_up_to_is r k None paths tt (no_charge r (inl h) (λ e. let z = sym h.lacks.reason ∙ e in cc))
+  one_charge r (inr f) k paths = charge_up_to_is r k _ paths (charge_some r f f.fault.reason) (charge_none r f f.fault.reason)
 
 -- what is said of a fault is its charge
 pub charge_is : (demands : Demands) (m : List (List ℕ)) (words depth : ℕ) (fault : StrictRefusal)
@@ -92,8 +92,8 @@ pub charge_is : (demands : Demands) (m : List (List ℕ)) (words depth : ℕ) (f
     → (h : IsDemandFault demands m words depth fault) (charge : Option ℕ) → ChargeOf m (words_under demands m words) depth fault charge
     → charge ≡ fault_charge demands m words depth fault h
 charge_is demands m words depth (Refused r) paths h charge c =
-    let needed = c h in
-    needed_is m (words_under demands m words) depth r h charge (paths r) needed.0 needed.1
+    let charged = c h in
+    charge_up_to_is m (words_under demands m words) depth r h charge (paths r) charged.0 charged.1
 charge_is demands m words depth ManySegments paths h charge c = c
 charge_is demands m words depth (Pointer what s w pointers) paths h charge c = c
 

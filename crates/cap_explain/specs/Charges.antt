@@ -1,4 +1,4 @@
--- The charge that a message needs at its word limit, by its refusal (profile).
+-- The charge up to the pointer at which a message passes the word limit, by its refusal (profile).
 use Rattle.std.specs.Prelude.{IfNone, IfSome, List, None, Option, Some, ℕ, ◌+◌, ◌≡◌}
 use Rattle.std.proofs.Common.{inl, inr}
 use Rattle.cap_spec.specs.Faults.{IsFirstReason, IsRefused, is_deep, is_past, is_wrong}
@@ -6,8 +6,8 @@ use Rattle.cap_spec.specs.declared.Reason.{Reason}
 use Rattle.cap_spec.specs.declared.Refusal.{Refusal}
 use Rattle.cap_spec.specs.declared.StrictRefusal.{StrictRefusal}
 use Rattle.cap_spec.specs.declared.StrictRefusal.TheVariants.{ManySegments, Pointer, Refused}
+use Rattle.cap_vet.specs.ChargeUpTo.{IsChargeUpTo}
 use Rattle.cap_vet.specs.Demands.{IsDemandFault, words_under}
-use Rattle.cap_vet.specs.Needed.{NeedsCharge}
 use Rattle.cap_vet.specs.declared.demands.Demands.{Demands}
 
 -- what was charged before the pointer, and what the pointer costs, if that is past the word limit
@@ -33,13 +33,13 @@ fault_charge demands m words depth (Refused r) h =
 fault_charge demands m words depth ManySegments h = None
 fault_charge demands m words depth (Pointer what s w pointers) h = None
 
--- the charge that is needed, or that none is
-abbrev pub IsNeeded : List (List ℕ) → ℕ → ℕ → Option ℕ → Type 0
-IsNeeded m words depth charge = IfSome charge (NeedsCharge m words depth)
-    × IfNone charge ((n : ℕ) → ¬ NeedsCharge m words depth n)
+-- the charge up to that pointer, or that the word limit isn't passed
+abbrev pub HasChargeUpTo : List (List ℕ) → ℕ → ℕ → Option ℕ → Type 0
+HasChargeUpTo m words depth charge = IfSome charge (IsChargeUpTo m words depth)
+    × IfNone charge ((n : ℕ) → ¬ IsChargeUpTo m words depth n)
 
 -- what is said of a refusal of a message within limits
 abbrev pub ChargeOf : List (List ℕ) → ℕ → ℕ → StrictRefusal → Option ℕ → Type 0
-ChargeOf m words depth (Refused r) charge = IsRefused m words depth r → IsNeeded m words depth charge
+ChargeOf m words depth (Refused r) charge = IsRefused m words depth r → HasChargeUpTo m words depth charge
 ChargeOf m words depth ManySegments charge = charge ≡ None
 ChargeOf m words depth (Pointer what s w pointers) charge = charge ≡ None

@@ -1,12 +1,12 @@
-//! The charge that a message needs at its word limit.
+//! The charge of a message up to the pointer at which it passes the word limit.
 
-ghost use Rattle.cap_explain.specs.Charges.{ChargeOf, IsNeeded};
+ghost use Rattle.cap_explain.specs.Charges.{ChargeOf, HasChargeUpTo};
 ghost use Rattle.cap_spec.specs.Faults.{IsRefused};
 ghost use Rattle.cap_vet.specs.Limits.{depth_of, words_of};
 
 use cap_frame::Segments;
 use cap_spec::{Reason, Refusal, StrictRefusal};
-use cap_vet::{Limits, charge_needed};
+use cap_vet::{Limits, charge_up_to};
 
 /// The charge up to the pointer that this refusal of a message within limits names, with that
 /// pointer and its target, if the word limit is passed there. `None` if another reason applies. It
@@ -29,10 +29,10 @@ pub fn refusal_charge<M: Segments>(
 // The same of a refusal by `vet`.
 fn charge_of<M: Segments>(message: &M, refusal: &Refusal, limits: Limits) -> Option<u64>
     ensures { IsRefused (M.segments message.now) (words_of limits) (depth_of limits) refusal.now →
-        IsNeeded (M.segments message.now) (words_of limits) (depth_of limits) result }
+        HasChargeUpTo (M.segments message.now) (words_of limits) (depth_of limits) result }
 {
     match refusal.reason {
-        Reason::WordLimit => charge_needed(message, limits),
+        Reason::WordLimit => charge_up_to(message, limits),
         _ => None,
     }
 }

@@ -14,7 +14,7 @@ mod Passing
 mod Verdicts
 mod ObjectRuns
 mod Looks
-mod Needed
+mod ChargeUpTo
 mod Near
 mod Keeping
 pub mod Founds

@@ -8,7 +8,8 @@ use Rattle.cap_spec.proofs.ProofNames.{∥∥₁_elim, props, segment_of, IsDisj
 use Rattle.cap_spec.proofs.ProofNames.{Err, Ok, OnOk, Result, empty_count, extent, sizes_of, sum, Tree, ◌+◌}
 use Rattle.cap_vet.specs.VetNames.{Step, Conflicts, IsMarked, MarksAll, IsAccepted, Ahead, IsTrail, HasWalked}
 use Rattle.cap_vet.specs.VetNames.{IsLookedAt, IsReport, Report}
-use Rattle.cap_vet.specs.Overlapping.{EndsMarking, KnowsMarks, KnowsOverlap}
+use Rattle.cap_vet.specs.OverlapSteps.{KnowsMarks, KnowsOverlap}
+use Rattle.cap_vet.specs.Overlapping.{EndsMarking}
 use Rattle.cap_vet.specs.Taken.{HasMarked, HasRoom}
 use Rattle.cap_vet.specs.declared.exclusiveness.marks.Marks.{Marks}
 use Rattle.cap_vet.specs.declared.exclusiveness.overlap_turn.Overlap.{Overlap}

@@ -1,5 +1,7 @@
 pub mod Budgets
 pub mod Charging
+pub mod ChargeSteps
+pub mod ChargeUpTo
 pub mod Demands
 pub mod Exclusives
 pub mod Finding
@@ -9,11 +11,11 @@ pub mod Limits
 pub mod Looking
 pub mod Marks
 pub mod MarkSteps
-pub mod Needed
 pub mod Nodes
 pub mod NearFinding
 pub mod NullMarks
 pub mod Overlapping
+pub mod OverlapSteps
 pub mod Owing
 pub mod Passing
 pub mod PathDemands

@@ -6,7 +6,7 @@ use Rattle.cap_spec.specs.SpecNames.{near, AreDistinct, IsOneOf, HasWord, Occupi
 use Rattle.cap_spec.specs.declared.Step.{Step}
 use Rattle.cap_spec.proofs.Disjoint.Overlaps.{one_used}
 use Rattle.cap_spec.proofs.Paths.Walks.{one_reached}
-use Rattle.cap_vet.specs.Overlapping.{KnowsMarks}
+use Rattle.cap_vet.specs.OverlapSteps.{KnowsMarks}
 use Rattle.cap_vet.specs.Taken.{HasMarked}
 use Rattle.cap_vet.specs.declared.exclusiveness.marks.Marks.{Marks}
 use Rattle.cap_vet.specs.declared.exclusiveness.overlap_turn.Overlap.{Overlap}

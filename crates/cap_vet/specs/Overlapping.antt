@@ -1,30 +1,11 @@
--- What a walk that marks words knows of the pointers that it has looked at (profile).
+-- Whether a message uses a word twice, with the first pointer that does (profile).
 use Rattle.std.specs.Prelude.{List, None, Option, Some, ℕ}
-use Rattle.cap_spec.specs.SpecNames.{IsDisjoint, IsFirstOverlap, IsOneOf, Overlaps}
-use Rattle.cap_spec.specs.declared.Step.{Step}
-use Rattle.cap_vet.specs.Stricts.{KnowsLax}
-use Rattle.cap_vet.specs.Taken.{HasMarked}
-use Rattle.cap_vet.specs.declared.exclusiveness.exclusive_vetting.Firsts.{Firsts}
-use Rattle.cap_vet.specs.declared.exclusiveness.marks.Marks.{Marks}
+use Rattle.cap_spec.specs.SpecNames.{IsDisjoint, IsFirstOverlap}
 use Rattle.cap_vet.specs.declared.exclusiveness.overlap_turn.Overlap.{Overlap}
 
 -- this is the first pointer that overlaps
 abbrev pub OverlapsFirst : List (List ℕ) → Overlap → Type 0
 OverlapsFirst m o = IsFirstOverlap m o.segment o.word o.pointers
-
--- the words that these paths use are marked, and none is used twice; or this is the first pointer that overlaps
-abbrev pub KnowsMarks : List (List ℕ) → List (List Step) → Marks → Option Overlap → Type 0
-KnowsMarks m seen marks None = HasMarked m seen marks.starts.now marks.bits.now
-KnowsMarks m seen marks (Some first) = OverlapsFirst m first
-
--- none of these paths overlaps, or this is the first pointer that does
-abbrev pub KnowsOverlap : List (List ℕ) → List (List Step) → Option Overlap → Type 0
-KnowsOverlap m seen None = (path : List Step) → IsOneOf path seen → ¬ Overlaps m path
-KnowsOverlap m seen (Some first) = OverlapsFirst m first
-
--- the same of overlaps, and of pointers that common readers reject
-abbrev pub KnowsFirsts : List (List ℕ) → Firsts → List (List Step) → Type 0
-KnowsFirsts m firsts seen = KnowsOverlap m seen firsts.overlap × KnowsLax m seen firsts.lax
 
 -- no word is used twice, or this is the first pointer that overlaps
 abbrev pub EndsMarking : List (List ℕ) → Option Overlap → Type 0

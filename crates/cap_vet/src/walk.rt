@@ -1,9 +1,9 @@
 //! The walk through a message in preorder, one pointer word a turn, and the verdict.
 
+pub(crate) mod charge_up_to;
 pub(crate) mod lists;
 pub(crate) mod look_described;
 pub(crate) mod looking;
-pub(crate) mod needed;
 pub(crate) mod pointer_run;
 pub(crate) mod targets;
 pub(crate) mod turn;

@@ -3,7 +3,7 @@
 ghost use Rattle.cap_spec.specs.declared.Step.{Step};
 ghost use Rattle.cap_vet.specs.Marks.{UsesPlace};
 ghost use Rattle.cap_vet.specs.NullMarks.{null_known_marks};
-ghost use Rattle.cap_vet.specs.Overlapping.{KnowsMarks};
+ghost use Rattle.cap_vet.specs.OverlapSteps.{KnowsMarks};
 ghost use Rattle.cap_vet.specs.StrictNulls.{null_known};
 ghost use Rattle.cap_vet.specs.Stricts.{KnowsLax};
 ghost use Rattle.cap_vet.specs.Trails.{Ahead};

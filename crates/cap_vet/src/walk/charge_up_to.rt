@@ -1,8 +1,9 @@
-//! The charge of a message with the pointer at which it passes the word limit.
+//! The charge of a message up to the pointer at which it passes the word limit.
 
 ghost use Rattle.cap_spec.specs.declared.Step.{Step};
+ghost use Rattle.cap_vet.specs.ChargeSteps.{HasCost, SumsBefore, null_costs};
+ghost use Rattle.cap_vet.specs.ChargeUpTo.{IsChargeUpTo};
 ghost use Rattle.cap_vet.specs.Limits.{depth_of, words_of};
-ghost use Rattle.cap_vet.specs.Needed.{HasCost, NeedsCharge, SumsBefore, null_costs};
 ghost use Rattle.cap_vet.specs.Trails.{Ahead};
 ghost use Rattle.cap_vet.specs.Walking.{IsLookedAt};
 ghost use Rattle.std.specs.Prelude.{◌∷◌, ◌≡◌, ◌≢◌, IfNone, IfSome, IsFalse, IsTrue, List, ℕ};
@@ -65,7 +66,7 @@ fn is_past_limit(reason: Reason) -> bool
     }
 }
 
-// The charge of the pointers before the one that a refusal names, with what that one costs.
+// The charge of the pointers before the one that a refusal names, and what that one costs.
 fn with_pointer<M: Segments>(
     message: &M,
     limits: &Limits,
@@ -75,9 +76,9 @@ fn with_pointer<M: Segments>(
     requires before { SumsBefore (M.segments message.now) (words_of limits.now) (depth_of limits.now)
         refusal.now charge }
     ensures some { IfSome result
-        (NeedsCharge (M.segments message.now) (words_of limits.now) (depth_of limits.now)) }
-    ensures none { IfNone result ((needed : ℕ) →
-        ¬ NeedsCharge (M.segments message.now) (words_of limits.now) (depth_of limits.now) needed) }
+        (IsChargeUpTo (M.segments message.now) (words_of limits.now) (depth_of limits.now)) }
+    ensures none { IfNone result ((n : ℕ) →
+        ¬ IsChargeUpTo (M.segments message.now) (words_of limits.now) (depth_of limits.now) n) }
 {
     if is_past_limit(refusal.reason) {
         match follow(message, refusal.segment, refusal.word) {
@@ -92,11 +93,11 @@ fn with_pointer<M: Segments>(
 /// The charge up to the pointer at which the message passes the word limit, with that pointer and
 /// its target. `None` if the message is accepted within the limits, or is refused for another
 /// reason. Walks once. Allocates nothing.
-pub fn charge_needed<M: Segments>(message: &M, limits: Limits) -> Option<u64>
+pub fn charge_up_to<M: Segments>(message: &M, limits: Limits) -> Option<u64>
     ensures some { IfSome result
-        (NeedsCharge (M.segments message.now) (words_of limits) (depth_of limits)) }
+        (IsChargeUpTo (M.segments message.now) (words_of limits) (depth_of limits)) }
     ensures none { IfNone result ((charge : ℕ) →
-        ¬ NeedsCharge (M.segments message.now) (words_of limits) (depth_of limits) charge) }
+        ¬ IsChargeUpTo (M.segments message.now) (words_of limits) (depth_of limits) charge) }
 {
     let mut sum = ChargeSum { charge: 0 };
     let mut report = Report::default();

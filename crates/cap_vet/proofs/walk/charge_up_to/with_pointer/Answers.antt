@@ -1,10 +1,10 @@
 use Rattle.cap_spec.proofs.ProofNames.{arith, subst, sym, ◌+◌}
 use Rattle.cap_spec.proofs.Verdicts.OneFault.{costs_not_wrong}
-use Rattle.cap_vet.specs.Needed.{NeedsCharge}
+use Rattle.cap_vet.specs.ChargeUpTo.{IsChargeUpTo}
 use Rattle.cap_vet.specs.VetNames.{depth_of, words_of}
 use Rattle.cap_vet.proofs.Looks.{followed_costs}
-use Rattle.cap_vet.proofs.Needed.{charge_small, charge_within, cost_there, needs_with, other_reason, past_exists, refused_of}
-use Rattle.cap_vet.proofs.walk.needed.with_pointer.Goals as goal
+use Rattle.cap_vet.proofs.ChargeUpTo.{charge_small, charge_with, charge_within, cost_there, other_reason, past_exists, refused_of}
+use Rattle.cap_vet.proofs.walk.charge_up_to.with_pointer.Goals as goal
 
 pub returns-else-is_past_limit-clause-none : goal.returns-else-is_past_limit-clause-none
 returns-else-is_past_limit-clause-none g c =
@@ -45,9 +45,9 @@ pub returns-in-Ok-clause-some : goal.returns-in-Ok-clause-some
 returns-in-Ok-clause-some g c =
     let m = g.M.Segments.segments c.args.message.now in
     let r = c.args.refusal.now in
-    let needs = needs_with m _ _ c.args.charge r c.requires.before (c.is_past_limit.ensures.yes c.if-is_past_limit.true) _
+    let charge = charge_with m _ _ c.args.charge r c.requires.before (c.is_past_limit.ensures.yes c.if-is_past_limit.true) _
     (followed_costs m r.segment r.word c.in-Ok.followed c.in-Ok.ensures.ok) in
-    subst (λ n. NeedsCharge m (words_of c.args.limits.now) (depth_of c.args.limits.now) (c.args.charge + n)) (sym c.charge.ensures) needs
+    subst (λ n. IsChargeUpTo m (words_of c.args.limits.now) (depth_of c.args.limits.now) (c.args.charge + n)) (sym c.charge.ensures) charge
 
 pub returns-in-Err-clause-none : goal.returns-in-Err-clause-none
 returns-in-Err-clause-none g c =

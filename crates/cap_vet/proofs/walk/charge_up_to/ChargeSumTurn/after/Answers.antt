@@ -1,6 +1,6 @@
 use Rattle.cap_spec.proofs.ProofNames.{arith}
 use Rattle.cap_vet.proofs.Turning.{costs_on}
-use Rattle.cap_vet.proofs.walk.needed.ChargeSumTurn.after.Goals as goal
+use Rattle.cap_vet.proofs.walk.charge_up_to.ChargeSumTurn.after.Goals as goal
 
 pub returns-clause-ok : goal.returns-clause-ok
 returns-clause-ok g c = λ seen a l known.

@@ -1,20 +1,13 @@
--- What the charge is with the pointer at which a message passes the word limit (profile).
+-- What a walk that sums what pointers cost knows of those that it has looked at (profile).
 use Rattle.std.proofs.Common.{arith, inl, refl}
 use Rattle.std.specs.Prelude.{List, [], length, reverse, ℕ, ◌*◌, ◌+◌, ◌^◌, ◌∷◌, ◌≡◌, ◌≤◌, ◌⊎◌}
 use Rattle.cap_spec.specs.Faults.{HasNoRoot, IsFirstFault}
 use Rattle.cap_spec.specs.Following.{near}
 use Rattle.cap_spec.specs.Messages.{HasWord}
-use Rattle.cap_spec.specs.Paths.{Costs, Reaches}
+use Rattle.cap_spec.specs.Paths.{Reaches}
 use Rattle.cap_spec.specs.Verdicts.{CostOf}
-use Rattle.cap_spec.specs.declared.Reason.TheVariants.{WordLimit}
 use Rattle.cap_spec.specs.declared.Refusal.{Refusal}
 use Rattle.cap_spec.specs.declared.Step.{Step}
-
--- The charge of the paths before the pointer that the refusal names, and what that pointer costs.
-abbrev pub NeedsCharge : List (List ℕ) → ℕ → ℕ → ℕ → Type 0
-NeedsCharge m words depth charge = (r : Refusal) × (f : IsFirstFault m words depth r)
-    × (r.reason ≡ WordLimit) × (cost : ℕ) × Costs m r.segment r.word cost
-    × (charge ≡ f.fault.charge + cost)
 
 -- what these paths cost, in a number that holds it
 abbrev pub HasCost : List (List ℕ) → List (List Step) → ℕ → Type 0

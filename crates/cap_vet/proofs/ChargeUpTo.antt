@@ -1,4 +1,4 @@
--- The charge with the pointer at which the word limit is passed.
+-- The charge up to the pointer at which the word limit is passed.
 use Rattle.cap_spec.specs.declared.Reason.TheVariants.{WordLimit}
 use Rattle.cap_spec.proofs.Frames.Messages.{HasWord-inside, HasWord-segment}
 use Rattle.cap_spec.proofs.Lemmas.{one_refusal, within_not_refused}
@@ -14,7 +14,8 @@ use Rattle.cap_spec.specs.declared.Refusal.{Refusal}
 use Rattle.cap_ptr.specs.Shapes.{IsFollowed, charge_of}
 use Rattle.cap_ptr.specs.declared.shapes.Followed.{Followed}
 use Rattle.cap_ptr.specs.declared.shapes.Followed.TheVariants as followed
-use Rattle.cap_vet.specs.Needed.{NeedsCharge, SumsBefore}
+use Rattle.cap_vet.specs.ChargeSteps.{SumsBefore}
+use Rattle.cap_vet.specs.ChargeUpTo.{IsChargeUpTo}
 use Rattle.cap_vet.specs.VetNames.{Reason, Step}
 use Rattle.cap_vet.proofs.Tours.{in_order-reverse}
 use Rattle.cap_vet.proofs.Verdicts.{CostOf-in_order}
@@ -82,11 +83,11 @@ module _ (m : List (List ℕ)) (words depth charge : ℕ) (r : Refusal) where
   charge_within (inl h) e = absurd (let no = h.0.lacks.reason in cc)
   charge_within (inr h) e = omega (arith, (kept_before h.0).0, charge_before m words depth r h.0 h.1 charge h.2 h.3.0)
 
-  -- with what the pointer costs it is the charge that is needed
-  pub needs_with : SumsBefore m words depth r charge → r.reason ≡ WordLimit → (cost : ℕ) → Costs m r.segment r.word cost
-      → NeedsCharge m words depth (charge + cost)
-  needs_with (inl h) e cost c = absurd (let no = h.0.lacks.reason in cc)
-  needs_with (inr h) e cost c = (
+  -- with what the pointer costs it is the charge up to that
+  pub charge_with : SumsBefore m words depth r charge → r.reason ≡ WordLimit → (cost : ℕ) → Costs m r.segment r.word cost
+      → IsChargeUpTo m words depth (charge + cost)
+  charge_with (inl h) e cost c = absurd (let no = h.0.lacks.reason in cc)
+  charge_with (inr h) e cost c = (
     r,
     h.0,
     e,
@@ -95,15 +96,15 @@ module _ (m : List (List ℕ)) (words depth charge : ℕ) (r : Refusal) where
     ap (λ x. x + cost) (sym (charge_before m words depth r h.0 h.1 charge h.2 h.3.0)),
   )
 
--- a message that is refused for another reason needs no charge
+-- a message that is refused for another reason has none
 pub other_reason : (m : List (List ℕ)) (words depth : ℕ) (r : Refusal) → IsRefused m words depth r → r.reason ≢ WordLimit
-    → (charge : ℕ) → ¬ NeedsCharge m words depth charge
+    → (charge : ℕ) → ¬ IsChargeUpTo m words depth charge
 other_reason m words depth r h n charge (r', f, e, cost, c, x) =
     n (ap (λ (r : Refusal). r.reason) (one_refusal m words depth r r' h (inr f)) ∙ e)
 
 -- nor does one that is accepted
-pub accepted_needs : (m : List (List ℕ)) (words depth : ℕ) → IsWithin m words depth → (charge : ℕ) → ¬ NeedsCharge m words depth charge
-accepted_needs m words depth w charge (r, f, e, cost, c, x) = within_not_refused m words depth r w (inr f)
+pub accepted_none : (m : List (List ℕ)) (words depth : ℕ) → IsWithin m words depth → (charge : ℕ) → ¬ IsChargeUpTo m words depth charge
+accepted_none m words depth w charge (r, f, e, cost, c, x) = within_not_refused m words depth r w (inr f)
 
 -- a pointer has at most two pad words
 few_pads : (m : List (List ℕ)) (s w k : ℕ) (r : Lead) → Leads m s w k r → k ≤ 2
