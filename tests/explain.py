@@ -171,11 +171,17 @@ def charge_to(message, number):
     return charge
 
 
+def input_place(start, byte):
+    """Which byte of an input a byte of a message is that begins at a byte of it. Those of a packed input are counted unpacked."""
+    return f", byte {start[0] + byte} of the {'unpacked ' * start[1]}input" if start else ""
+
+
 def pointer_lines(message, segment, at, start):
-    """The lines on a pointer word, its landing pad, and its target. The message begins at a byte of an input, or at none."""
+    """The lines on a pointer word, its landing pad, and its target. `start` says where the message begins, and whether in a
+    packed input. It is None for a message in no input."""
     word = message[segment][at]
     byte = 8 * (len(message) // 2 + 1 + sum(map(len, message[:segment])) + at)
-    yield f"byte {byte} of the message" + ("" if start is None else f", byte {start + byte} of the input")
+    yield f"byte {byte} of the message{input_place(start, byte)}"
     yield f"pointer {hexed(word)} {form(word)}"
     landing = pads(message, word)
     for place in landing:
@@ -223,14 +229,14 @@ def explanation(message, reason, segment, at, pointers, words, depth, start):
     if reason == "CompositeOverrun":
         yield elements_line(message, segment, at)
     if reason == "DepthLimit":
-        yield f"limit level {depth + 1}, at most {depth}"
+        yield f"level {depth + 1}, limit {depth}"
     if reason == "WordLimit":
-        yield f"limit charge {charge_to(message, pointers)}, at most {words}"
+        yield f"charge {charge_to(message, pointers)}, limit {words}"
     yield f"reason {sentence(message, reason, segment, at)}"
 
 
 def lines_of(number, message, options, start):
-    """All lines of a message that begins at this byte of an input, or at none, and the reason if it is refused."""
+    """All lines of a message that begins there in an input, as in `pointer_lines`, and the reason if it is refused."""
     words = int(options[options.index("--words") + 1]) if "--words" in options else 8388608
     depth = int(options[options.index("--depth") + 1]) if "--depth" in options else 64
     if "--unamplified" in options:
@@ -329,7 +335,7 @@ def compare_lines(options, stream, first, seen):
     compare(f"{options}: messages from {first}", (len(stream), b""), (len(got), err))
     reasons, start = Counter(), 0
     for number, (frame, text) in enumerate(zip(stream, got)):
-        lines, reason = lines_of(number, segments_of(frame), words, start)
+        lines, reason = lines_of(number, segments_of(frame), words, (start, "--packed" in words))
         start += len(frame)
         reasons[reason] += 1
         compare(f"capvet explain {options}, {frame.hex()[:400]}", "\n".join(lines) + "\n", text)
@@ -377,21 +383,22 @@ def break_lines(text, is_packed, limit):
     number, start = 0, 0
     while words or is_cut:
         count, long, sizes = table_of(words)
-        where = f"  message at byte {start} of the input"
+        where = f"  message at byte {start} of the {'packed ' * is_packed}input"
         if count is not None and count > 512:
-            return number, [f"capvet: message {number}: TooManySegments {count}", where, f"  limit segments {count}, at most 512",
+            return number, [f"capvet: message {number}: TooManySegments {count}", where, f"  segments {count}, limit 512",
                             "  reason the first word of the message says more segments than a message may have"]
         told = [] if sizes is None else [f"  table segments {count}, words {sum(sizes)}"]
         if sizes is not None and sum(sizes) > limit:
             return number, [f"capvet: message {number}: TooLarge {sum(sizes)}", where, *told,
-                            f"  limit words {sum(sizes)}, at most {limit}",
+                            f"  words {sum(sizes)}, limit {limit}",
                             "  reason the segments together have more words than the limit allows"]
         if sizes is None or len(words) < long + sum(sizes):
-            needed = "" if sizes is None else f", needed {8 * (long + sum(sizes))}"
-            place = "segment table" if sizes is None else "segments"
-            end = ", and inside a word or a packed group" if is_cut else ", between two words"
+            needed = "" if sizes is None else f", needed {8 * (long + sum(sizes))}{' unpacked' * is_packed}"
+            place, part = "segment table" if sizes is None else "segments", "packed group" if is_packed else "word"
+            end = f", and inside a {part}" if is_cut else f", between two {part}s"
             return number, [f"capvet: message {number}: Truncated at byte {len(text)}", where, *told,
-                            f"  bytes there {len(text) - start}{needed}", f"  reason the input ends inside the {place}{end}"]
+                            f"  bytes there {len(text) - start}{' packed' * is_packed}{needed}",
+                            f"  reason the input ends inside the {place}{end}"]
         start, words, number = words[long + sum(sizes) - 1][1], words[long + sum(sizes):], number + 1
     return number, []
 
@@ -430,7 +437,7 @@ def compare_breaks(stream, many):
         seen[re.sub(r"\d+", "N", " ".join((lines or ["whole"])[0].split()[3:4] + lines[-1:]))] += 1
     for name, times in sorted(seen.items()):
         print(f"{times} {name}")
-    expect("each end of a stream", len(seen) >= 7 and min(seen.values()) >= many // 200, seen)
+    expect("each end of a stream", len(seen) >= 11 and min(seen.values()) >= many // 200, seen)
 
 
 def limits_of(words):

@@ -119,7 +119,8 @@ path to the pointer, as 'get' takes it, and the byte of the pointer in the messa
 Then comes the pointer word with its form and its fields, and so does each word of its landing pad.
 The next lines have the words of its target, its tag if it is a list of structs, and the length of
 that segment. The last ones have what is exceeded, if something is, and the reason as a sentence.
-If the input is no stream of messages, lines on standard error say why, after that of the fault. The
+If the input breaks off inside a message, or a message is too large, standard error has the line of
+this fault. Lines after it say where the message begins, what its table says, and the reason. The
 options are those of 'vet'.
 
 'pointers N' counts the pointers that were looked at, the named one included. In a path, pN is
@@ -134,7 +135,7 @@ Example:
     pointer bd0000000a010000 list of bytes, offset 47, elements 33
     target 0:55 to 0:59, words 5
     segment 0, words 392
-    limit level 4, at most 3
+    level 4, limit 3
     reason the target is at a deeper level than the limit allows
 """),
     (("filter --help", "filter -h", "help filter"), """\

@@ -137,7 +137,7 @@ CYCLE_EXPLAINED = f"""\
   pointer fcffffff00000100 struct, offset -1, data words 0, pointers 1
   target 0:0 to 0:0, words 1
   segment 0, words 1
-  limit level 65, at most 64
+  level 65, limit 64
   reason the target is at a deeper level than the limit allows
 """
 
@@ -382,7 +382,7 @@ case("canon --depth 3 examples/contacts.bin", err="capvet: message 0: refused De
 case("canon", NULL, "capvet: message 1: Truncated at byte 23\n", 1, NULL + NULL[:7])
 case("vet", NULL_ACCEPTED, "capvet: message 1: Truncated at byte 23\n", 1, NULL + NULL[:7])
 case("explain", NULL_ACCEPTED, "capvet: message 1: Truncated at byte 23\n  message at byte 16 of the input\n  bytes there 7\n"
-     "  reason the input ends inside the segment table, and inside a word or a packed group\n", 1, NULL + NULL[:7])
+     "  reason the input ends inside the segment table, and inside a word\n", 1, NULL + NULL[:7])
 case("dump", NULL_DUMP, "capvet: message 1: Truncated at byte 23\n", 1, NULL + NULL[:7])
 case("get /", NULL_FOUND, "capvet: message 1: Truncated at byte 23\n", 1, NULL + NULL[:7])
 case("segments", segments_text(NULL), "capvet: message 1: TooManySegments 513\n", 1, NULL + word("0002000000000000"))

@@ -23,7 +23,7 @@ func TestExplain(t *testing.T) {
 			"  reason segment 0 has no words, so the message has no root pointer\n", nil},
 		{"a list without a table", amplified[8:], capvet.Limits{NoTable: true}, "  path /\n  byte 8 of the message\n" +
 			"  pointer 0100000010800000 list of empty elements, offset 0, elements 4098\n  target 0:1, words 0\n" +
-			"  segment 0, words 1\n  limit charge 4098, at most 4097\n" +
+			"  segment 0, words 1\n  charge 4098, limit 4097\n" +
 			"  reason the charge up to this pointer and its target is more than the limit\n", nil},
 		{"no bytes", nil, capvet.Limits{}, "", &capvet.FrameError{Reason: capvet.NoMessage, Required: 8}},
 		{"bytes after the message", join(null, null[:8]), capvet.Limits{}, "",

@@ -14,7 +14,7 @@ LINES = """  path /
   pointer 0100000010800000 list of empty elements, offset 0, elements 4098
   target 0:1, words 0
   segment 0, words 1
-  limit charge 4098, at most 4097
+  charge 4098, limit 4097
   reason the charge up to this pointer and its target is more than the limit
 """
 

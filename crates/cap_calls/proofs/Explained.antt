@@ -6,6 +6,7 @@ use Rattle.cap_vet.specs.Demands.{IsDemandFault, words_under}
 use Rattle.cap_vet.specs.Limits.{depth_of, words_of}
 use Rattle.cap_vet.specs.declared.limits.Limits.{Limits}
 use Rattle.cap_explain.specs.Charges.{ChargeOf, fault_charge}
+use Rattle.cap_explain.specs.declared.numbers.MessageStart.{MessageStart}
 use Rattle.cap_explain.specs.declared.numbers.Numbers.{Numbers}
 use Rattle.cap_explain.proofs.Charges.{OnePath, charge_is, one_fault_charge}
 use Rattle.cap_trace.specs.NamedPaths.{fault_path}
@@ -38,7 +39,7 @@ same_numbers demands m words depth fault h within k w d kw kd c s =
     let at = subst (λ n. ChargeOf m (words_under demands m words) n fault k.charge) d
     (subst (λ n. ChargeOf m n (depth_of within) fault k.charge) w c) in
     let charge = charge_is demands m words depth fault (one_path_of demands m words depth) h k.charge at in
-    let make : ℕ → ℕ → Option ℕ → Option ℕ → Numbers = λ w d c s. record { words = w; depth = d; charge = c; start = s } in
+    let make : ℕ → ℕ → Option ℕ → Option MessageStart → Numbers = λ w d c s. record { words = w; depth = d; charge = c; start = s } in
     ap (λ x. make x k.depth k.charge k.start) (kw ∙ w)
     ∙ (ap (λ x. make (words_under demands m words) x k.charge k.start) (kd ∙ d)
     ∙ (ap (λ x. make (words_under demands m words) depth x k.start) charge

@@ -189,11 +189,11 @@ module _ {S O E P U : Type 0} (gs : source.Ghosts S) (go : output.Ghosts O) (ge 
       (WantsMarksUnder demands (words_of s.limits) (depth_of s.limits)) before after d.answer
       (sym d.reported.status_is ∙ e) d.does
   writes_all (Explain false) s demands first before after old new status e d =
-      placed_all gs go s first d.last (TellsExplainedUnder demands (words_of s.limits) (depth_of s.limits)) WantsNone
+      placed_all gs go s first d.last (TellsExplainedUnder s.packed demands (words_of s.limits) (depth_of s.limits)) WantsNone
       before after
       (run_answer d.answer) (sym d.reported.status_is ∙ e) d.does.told
   writes_all (Explain true) s demands first before after old new status e d =
-      placed_all gs go s first d.last (TellsExplainedExclusiveUnder demands (words_of s.limits) (depth_of s.limits))
+      placed_all gs go s first d.last (TellsExplainedExclusiveUnder s.packed demands (words_of s.limits) (depth_of s.limits))
       (WantsMarksUnder demands (words_of s.limits) (depth_of s.limits)) before after (run_answer d.answer)
       (sym d.reported.status_is ∙ e) d.does.told
   writes_all (Filter form) s demands first before after old new status e d =

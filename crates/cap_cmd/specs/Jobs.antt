@@ -57,7 +57,7 @@ is_packed Pack told = false
 is_packed Unpack told = true
 
 abbrev pub reads_packed : Job → Bool
-reads_packed job = is_packed job.task job.packed
+reads_packed job = is_packed job.task job.settings.packed
 
 -- the words of an input that is packed or not, where its bytes are known
 abbrev pub input_words : Bool → Option (List ℕ) → Option (List ℕ)
@@ -172,8 +172,8 @@ module _ {S O E : Type 0} (gs : source.Ghosts S) (go : output.Ghosts O) (ge : ou
   abbrev pub ExplainsTask : PlacedTells → (List (List ℕ) → Type 0) → Settings → S → O → O → E → E → ℕ
       → Type 0
   ExplainsTask tells wants s first before after = Runs
-      (λ last answer. ExplainsStream gs go tells wants (limit_of s.size) s.messages first last before
-      after answer)
+      (λ last answer. ExplainsStream gs go tells wants s.packed (limit_of s.size) s.messages first last
+      before after answer)
       (ReportsExplained ge)
 
   -- The engine that lets accepted messages through writes the lines of the others before `mid`. Its
@@ -211,11 +211,11 @@ module _ {S O E P U : Type 0} (gs : source.Ghosts S) (go : output.Ghosts O) (ge 
       TellsTask gs go ge (TellsExclusiveUnder demands (words_of s.limits) (depth_of s.limits))
       (WantsMarksUnder demands (words_of s.limits) (depth_of s.limits)) s first before after
   DoesTask (Explain false) s demands first before after =
-      ExplainsTask gs go ge (TellsExplainedUnder demands (words_of s.limits) (depth_of s.limits))
+      ExplainsTask gs go ge (TellsExplainedUnder s.packed demands (words_of s.limits) (depth_of s.limits))
       WantsNone s first before after
   DoesTask (Explain true) s demands first before after =
       ExplainsTask gs go ge
-      (TellsExplainedExclusiveUnder demands (words_of s.limits) (depth_of s.limits))
+      (TellsExplainedExclusiveUnder s.packed demands (words_of s.limits) (depth_of s.limits))
       (WantsMarksUnder demands (words_of s.limits) (depth_of s.limits)) s first before after
   DoesTask (Filter form) s demands first before after =
       FiltersTask gs go ge form s demands first before after
@@ -300,9 +300,9 @@ WritesAll (Vet false) s demands =
 WritesAll (Vet true) s demands =
     TellsInput (TellsExclusiveUnder demands (words_of s.limits) (depth_of s.limits)) s
 WritesAll (Explain false) s demands =
-    PlacesInput (TellsExplainedUnder demands (words_of s.limits) (depth_of s.limits)) s
+    PlacesInput (TellsExplainedUnder s.packed demands (words_of s.limits) (depth_of s.limits)) s
 WritesAll (Explain true) s demands =
-    PlacesInput (TellsExplainedExclusiveUnder demands (words_of s.limits) (depth_of s.limits)) s
+    PlacesInput (TellsExplainedExclusiveUnder s.packed demands (words_of s.limits) (depth_of s.limits)) s
 WritesAll (Filter form) s demands =
     TellsInput (PassesOn form.pack (TellsIn form demands s.limits)) s
 WritesAll Dump s demands =

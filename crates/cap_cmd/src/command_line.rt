@@ -90,8 +90,8 @@ fn task_of(alloc: Global, name: &str, options: &ArgMatches<'_>) -> Result<Task, 
     }
 }
 
-// The limits of the options, or the default ones. The parser lets no other limits through. The
-// input isn't known yet, so it may have to be waited for.
+// The limits of the options, or the default ones, and whether the input is packed. The parser lets no
+// other limits through. The input isn't known yet, so it may have to be waited for.
 fn settings_of(options: &ArgMatches<'_>) -> Option<Settings>
     ensures { IfSome result (λ settings. settings.messages ≡ most_messages) }
 {
@@ -102,6 +102,7 @@ fn settings_of(options: &ArgMatches<'_>) -> Option<Settings>
         limits: Limits::new(words, depth)?,
         size: SizeLimit::new(size)?,
         messages: u32::MAX,
+        packed: options.get_flag("packed"),
         live: true,
     })
 }
@@ -143,7 +144,6 @@ fn job_of(alloc: Global, task: Task, options: &ArgMatches<'_>) -> Result<Job, Jo
     match file_of(alloc, options) {
         Ok(file) => Ok(Job {
             task,
-            packed: options.get_flag("packed"),
             settings,
             demands,
             file,

@@ -46,10 +46,8 @@ pub enum Task {
 pub struct Job {
     /// What is done with the input.
     pub task: Task,
-    /// Whether the messages of the input are packed. The input of `Pack` never is, and that of
-    /// `Unpack` always.
-    pub packed: bool,
-    /// The limits.
+    /// The limits, and whether the messages of the input are packed. The input of `Pack` never is,
+    /// and that of `Unpack` always.
     pub settings: Settings,
     /// What is demanded of each message beside them. [`Task::Segments`], [`Task::Pack`] and
     /// [`Task::Unpack`] vet no message, and demand nothing.

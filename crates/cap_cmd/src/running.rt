@@ -26,9 +26,9 @@ fn input_is_packed(job: &Job) -> bool
     ensures { result ≡ reads_packed job.now }
 {
     match &job.task {
-        Task::Segments | Task::Vet { .. } | Task::Explain { .. } => job.packed,
-        Task::Dump | Task::Get { .. } => job.packed,
-        Task::Filter { .. } | Task::Check | Task::Canon => job.packed,
+        Task::Segments | Task::Vet { .. } | Task::Explain { .. } => job.settings.packed,
+        Task::Dump | Task::Get { .. } => job.settings.packed,
+        Task::Filter { .. } | Task::Check | Task::Canon => job.settings.packed,
         Task::Pack => false,
         Task::Unpack => true,
     }

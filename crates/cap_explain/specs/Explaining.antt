@@ -1,5 +1,5 @@
 -- The lines that explain a refusal (profile).
-use Rattle.std.specs.Prelude.{List, None, Option, Some, [], codes, decimal, if◌then◌else◌, length, min, nat_lt, ℕ, ◌*◌, ◌++◌}
+use Rattle.std.specs.Prelude.{Bool, List, None, Option, Some, [], codes, decimal, if◌then◌else◌, length, min, nat_lt, ℕ, ◌*◌, ◌++◌}
 use Rattle.std.specs.Prelude.{◌+◌, ◌-◌, ◌==◌, ◌^◌, ◌∷◌}
 use Rattle.cap_spec.specs.Messages.{segment_of}
 use Rattle.cap_spec.specs.PathTexts.{path_text}
@@ -15,19 +15,24 @@ use Rattle.cap_explain.specs.Leading.{byte_of, is_structs, landing_of, segment_a
 use Rattle.cap_explain.specs.Sentences.{names_pointer, sentence}
 use Rattle.cap_explain.specs.declared.landing.Landing.{Landing}
 use Rattle.cap_explain.specs.declared.landing.Landing.TheVariants.{Missing, Near, One, Outside, Two}
+use Rattle.cap_explain.specs.declared.numbers.MessageStart.{MessageStart}
 use Rattle.cap_explain.specs.declared.numbers.Numbers.{Numbers}
 use Rattle.cap_explain.specs.declared.sentences.Fault.{Fault}
 use Rattle.cap_explain.specs.declared.sentences.Fault.TheVariants.{ManySegments, NotStrict, Overlap, Refused}
 use Rattle.cap_explain.specs.declared.target.Target.{Target}
 
+-- the input in which bytes are counted: those of a packed one are counted unpacked
+abbrev pub of_unpacked_input : Bool → List ℕ
+of_unpacked_input packed = if packed then codes " of the unpacked input" else codes " of the input"
+
 -- which byte of an input, whose bytes are counted up to 2 ^ 64 - 1, a byte of the message is
-abbrev pub input_text : Option ℕ → ℕ → List ℕ
+abbrev pub input_text : Option MessageStart → ℕ → List ℕ
 input_text None byte = []
 input_text (Some start) byte =
-    (codes ", byte " ++ decimal (min (start + byte) (2 ^ 64 - 1))) ++ codes " of the input"
+    (codes ", byte " ++ decimal (min (start.byte + byte) (2 ^ 64 - 1))) ++ of_unpacked_input start.packed
 
 -- where the pointer word is
-abbrev pub byte_line : List (List ℕ) → Option ℕ → ℕ → ℕ → List ℕ
+abbrev pub byte_line : List (List ℕ) → Option MessageStart → ℕ → ℕ → List ℕ
 byte_line m start s w = (codes "  byte " ++ decimal (byte_of m s w))
     ++ (codes " of the message" ++ (input_text start (byte_of m s w) ++ 10 ∷ []))
 
@@ -94,21 +99,22 @@ abbrev pub segment_line : List (List ℕ) → ℕ → List ℕ
 segment_line m s = (codes "  segment " ++ decimal s) ++ segment_state m s ++ 10 ∷ []
 
 -- the lines on the pointer p at word w of segment s, by its landing pad and its target
-abbrev pub pointer_lines : List (List ℕ) → Option ℕ → ℕ → ℕ → ℕ → Landing → Option Target → List ℕ
+abbrev pub pointer_lines : List (List ℕ) → Option MessageStart → ℕ → ℕ → ℕ → Landing → Option Target
+    → List ℕ
 pointer_lines m start s w p landing target =
     byte_line m start s w ++ pointer_line p ++ landing_lines p landing ++ target_lines m target
     ++ segment_line m (segment_after s p landing)
 
--- the first level that is deeper than the limit
+-- the first level that is deeper than the limit, and the limit
 abbrev pub level_line : ℕ → List ℕ
 level_line depth =
-    (codes "  limit level " ++ decimal (depth + 1)) ++ (codes ", at most " ++ decimal depth) ++ 10 ∷ []
+    (codes "  level " ++ decimal (depth + 1)) ++ (codes ", limit " ++ decimal depth) ++ 10 ∷ []
 
--- the charge that is needed, and its limit
+-- the charge up to the pointer, and its limit
 abbrev pub charge_line : Option ℕ → ℕ → List ℕ
-charge_line None words = (codes "  limit charge, at most " ++ decimal words) ++ 10 ∷ []
+charge_line None words = (codes "  charge, limit " ++ decimal words) ++ 10 ∷ []
 charge_line (Some charge) words =
-    ((codes "  limit charge " ++ decimal charge) ++ (codes ", at most " ++ decimal words)) ++ 10 ∷ []
+    ((codes "  charge " ++ decimal charge) ++ (codes ", limit " ++ decimal words)) ++ 10 ∷ []
 
 -- how many words the elements of a tag need
 abbrev pub needed : ℕ → ℕ
@@ -137,6 +143,7 @@ excess_line m (Refused DepthLimit) target k = level_line k.depth
 excess_line m (Refused WordLimit) target k = charge_line k.charge k.words
 excess_line m _ target k = []
 
+-- the reason as a sentence
 abbrev pub reason_line : Fault → Landing → Option Target → List ℕ
 reason_line fault landing target =
     codes "  reason " ++ sentence fault landing target ++ 10 ∷ []
@@ -180,7 +187,7 @@ refusal_lines m (not_strict what s w pointers) k = lines_of m (NotStrict what) s
 abbrev pub explanation : Option (List Step) → List (List ℕ) → StrictRefusal → Numbers → List ℕ
 explanation path m refusal k = path_lines path ++ refusal_lines m refusal k
 
--- the lines that explain that a pointer overlaps, in a message that begins at a byte of the input
-abbrev pub overlap_explanation : Option (List Step) → List (List ℕ) → Option ℕ → ℕ → ℕ → List ℕ
+-- the lines that explain that a pointer overlaps
+abbrev pub overlap_explanation : Option (List Step) → List (List ℕ) → Option MessageStart → ℕ → ℕ → List ℕ
 overlap_explanation path m start s w = path_lines path
     ++ lines_of m Overlap s w (record { words = 0; depth = 0; charge = None; start = start })

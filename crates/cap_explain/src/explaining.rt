@@ -10,7 +10,7 @@ use crate::lines::{
     LINE, PLAIN, push_byte_line, push_excess_line, push_landing_lines, push_pointer_line,
     push_reason_line, push_segment_line, push_target_lines,
 };
-use crate::numbers::Numbers;
+use crate::numbers::{MessageStart, Numbers};
 use crate::path::push_path_lines;
 use crate::sentences::{Fault, names_pointer};
 use crate::target::{Target, segment_after, target_of};
@@ -34,7 +34,7 @@ struct Pointer {
 fn push_pointer_lines<M: Segments>(
     text: &mut Explanation,
     message: &M,
-    start: Option<u64>,
+    start: Option<MessageStart>,
     pointer: Pointer,
     target: &Option<Target>,
 )
@@ -147,11 +147,11 @@ pub fn explain<M: Segments>(
 }
 
 /// Writes the lines that explain that the pointer at word `word` of segment `segment` overlaps. The
-/// message begins at byte `start` of the input, if it is one of a stream. See [`explain`].
+/// message begins at `start`, if it is one of a stream. See [`explain`].
 pub fn explain_overlap<M: Segments>(
     text: &mut Explanation,
     message: &M,
-    start: Option<u64>,
+    start: Option<MessageStart>,
     segment: u32,
     word: u32,
     path: Option<&[Step]>,

@@ -17,5 +17,5 @@ mod words;
 pub use charge::refusal_charge;
 pub use explaining::{explain, explain_overlap};
 pub use explanation::Explanation;
-pub use numbers::Numbers;
+pub use numbers::{MessageStart, Numbers};
 pub use words::frame_words;

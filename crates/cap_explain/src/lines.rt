@@ -1,12 +1,12 @@
 //! The lines of an explanation.
 
-ghost use Rattle.cap_explain.specs.Explaining.{byte_line, charge_line, elements_line, excess_line, input_text, target_line, target_lines, target_place, target_range, landing_lines, level_line, overrun_line, pad_line, pointer_line, reason_line, segment_line, segment_state, tag_line, tag_note, tag_word, word_text};
+ghost use Rattle.cap_explain.specs.Explaining.{byte_line, charge_line, elements_line, excess_line, of_unpacked_input, input_text, target_line, target_lines, target_place, target_range, landing_lines, level_line, overrun_line, pad_line, pointer_line, reason_line, segment_line, segment_state, tag_line, tag_note, tag_word, word_text};
 ghost use Rattle.std.specs.Prelude.{◌+◌, ◌*◌, ◌++◌, ◌^◌, ◌<◌, ◌≡◌, ◌≤◌, IfSome, None, Some, length};
 
 use crate::explanation::{CAPACITY, DIGITS, Explanation};
 use crate::forms::{FORM, TAG, push_form, push_tag};
 use crate::landing::Landing;
-use crate::numbers::Numbers;
+use crate::numbers::{MessageStart, Numbers};
 use crate::sentences::{Fault, SENTENCE, sentence};
 use crate::target::{Target, extent, is_structs, needed, tag_of};
 use crate::words::byte_of;
@@ -23,15 +23,27 @@ pub(crate) const LINE: usize = PLAIN + FORM;
 /// The most bytes of the name of a line.
 const NAME: usize = 16;
 
+/// The name of the input in which bytes are counted.
+fn of_unpacked_input(packed: bool) -> &'static [u8]
+    ensures text { result.now ≡ of_unpacked_input packed }
+    ensures short { length result.now ≤ 22 }
+{
+    if packed {
+        b" of the unpacked input"
+    } else {
+        b" of the input"
+    }
+}
+
 /// Appends which byte of the input a byte of the message is, if the message is one of a stream.
-fn push_input_place(text: &mut Explanation, start: Option<u64>, byte: u64)
+fn push_input_place(text: &mut Explanation, start: Option<MessageStart>, byte: u64)
     requires { length text.old + 60 ≤ CAPACITY }
     ensures items { text.new ≡ text.old ++ input_text start byte }
     ensures few { length text.new ≤ length text.old + 60 }
 {
     if let Some(start) = start {
-        text.push_named(b", byte ", start.saturating_add(byte));
-        text.push_text(b" of the input");
+        text.push_named(b", byte ", start.byte.saturating_add(byte));
+        text.push_text(of_unpacked_input(start.packed));
     }
 }
 
@@ -39,7 +51,7 @@ fn push_input_place(text: &mut Explanation, start: Option<u64>, byte: u64)
 pub(crate) fn push_byte_line<M: Segments>(
     text: &mut Explanation,
     message: &M,
-    start: Option<u64>,
+    start: Option<MessageStart>,
     segment: u32,
     word: u32,
 )
@@ -228,37 +240,37 @@ pub(crate) fn push_segment_line<M: Segments>(text: &mut Explanation, message: &M
     text.push_text(b"\n");
 }
 
-/// Appends the first level that is deeper than the limit.
+/// Appends the first level that is deeper than the limit, and the limit.
 fn push_level_line(text: &mut Explanation, depth: u32)
     requires { length text.old + PLAIN ≤ CAPACITY }
     ensures items { text.new ≡ text.old ++ level_line depth }
     ensures few { length text.new ≤ length text.old + PLAIN }
 {
-    text.push_named(b"  limit level ", u64::from(depth) + 1);
-    text.push_named(b", at most ", u64::from(depth));
+    text.push_named(b"  level ", u64::from(depth) + 1);
+    text.push_named(b", limit ", u64::from(depth));
     text.push_text(b"\n");
 }
 
-/// Appends the charge that is needed, and its limit.
+/// Appends the charge up to the pointer, if it is known, and its limit.
 fn push_charge_line(text: &mut Explanation, charge: Option<u64>, words: u64)
     requires { length text.old + PLAIN ≤ CAPACITY }
     ensures items { text.new ≡ text.old ++ charge_line charge words }
     ensures few { length text.new ≤ length text.old + PLAIN }
 {
     match charge {
-        Some(charge) => push_needed_line(text, charge, words),
+        Some(charge) => push_charge_up_to_line(text, charge, words),
         None => push_words_line(text, words),
     }
 }
 
 /// Appends this charge, and its limit.
-fn push_needed_line(text: &mut Explanation, charge: u64, words: u64)
+fn push_charge_up_to_line(text: &mut Explanation, charge: u64, words: u64)
     requires { length text.old + PLAIN ≤ CAPACITY }
     ensures items { text.new ≡ text.old ++ charge_line (Some charge) words }
     ensures few { length text.new ≤ length text.old + PLAIN }
 {
-    text.push_named(b"  limit charge ", charge);
-    text.push_named(b", at most ", words);
+    text.push_named(b"  charge ", charge);
+    text.push_named(b", limit ", words);
     text.push_text(b"\n");
 }
 
@@ -268,7 +280,7 @@ fn push_words_line(text: &mut Explanation, words: u64)
     ensures items { text.new ≡ text.old ++ charge_line None words }
     ensures few { length text.new ≤ length text.old + PLAIN }
 {
-    text.push_named(b"  limit charge, at most ", words);
+    text.push_named(b"  charge, limit ", words);
     text.push_text(b"\n");
 }
 

@@ -1,14 +1,24 @@
 //! The numbers that an explanation names beside those of the message.
 
-/// The limits under which a message is refused, the charge that it needs, and where it begins.
+/// Where in an input a message begins.
+#[derive(Clone, Copy, Debug, PartialEq, Eq, Drop)]
+pub struct MessageStart {
+    /// Its first byte. The bytes of a packed input are counted unpacked.
+    pub byte: u64,
+    /// Whether the input is packed.
+    pub packed: bool,
+}
+
+/// The limits under which a message is refused, its charge up to the pointer that is named, and where
+/// it begins.
 #[derive(Clone, Copy, Debug, PartialEq, Eq, Drop)]
 pub struct Numbers {
     /// The limit of the charge, in words.
     pub words: u64,
     /// The limit of levels.
     pub depth: u32,
-    /// The charge with the pointer that is named and its target, if the word limit is passed there.
+    /// The charge up to the pointer that is named, with its target, if the word limit is passed there.
     pub charge: Option<u64>,
-    /// The byte of the input at which the message begins, if it is one of a stream.
-    pub start: Option<u64>,
+    /// Where the message begins, if it is one of a stream.
+    pub start: Option<MessageStart>,
 }

@@ -6,7 +6,9 @@ use Rattle.cap_spec.proofs.ProofNames.{◌%◌, ◌+◌, ◌/◌, ◌<◌, ◌^�
 use Rattle.cap_words.specs.declared.sources.SourceFault.TheVariants.{Device, Spent, Truncated}
 use Rattle.cap_frame.specs.FrameNames.{SourceFault, TakesTable, frame_fault_of, HasSizes, LeavesSizes, LeavesTable, Stops}
 use Rattle.cap_frame.specs.FrameNames.{Takes, FrameFault}
-use Rattle.cap_frame.specs.TablesLeft.{LacksTable, sums_of}
+use Rattle.cap_frame.specs.TableSteps.{sums_after}
+use Rattle.cap_frame.specs.TablesLeft.{KeepsTable, LacksTable, sums_of}
+use Rattle.cap_frame.specs.declared.fault.FrameFault.TheVariants as frame
 use Rattle.cap_frame.specs.declared.table.TableSums.{TableSums}
 use Rattle.cap_words.specs.declared.sources.WordSource as source
 
@@ -51,11 +53,21 @@ has (Some ws) None table sizes t c = absurd c
 has (Some ws) (Some rest) table [] t c = absurd (omega (arith, t.some))
 has (Some ws) (Some rest) table (size ∷ sizes) t c = (table, rest, c, t)
 
--- the sums of the sizes are kept
-pub left_sums : (o : Option (List ℕ)) (fault : FrameFault) (sizes : List ℕ) (table : Option TableSums) → table ≡ sums_of sizes
-    → IfSome o (λ ws. LeavesSizes fault ws sizes) → IfSome o (λ ws. LeavesTable fault ws table)
-left_sums None fault sizes table e h = tt
-left_sums (Some ws) fault sizes table e h = (sizes, h, e)
+-- the sums of sizes are kept, where these are known
+kept_sums : (o : Option (List ℕ)) (sizes : List ℕ) (table : Option TableSums) → table ≡ sums_of sizes → IfSome o (λ ws. HasSizes ws sizes)
+    → IfSome o (λ ws. KeepsTable ws table)
+kept_sums None sizes table e h = tt
+kept_sums (Some ws) sizes table e h = (sizes, h, e)
+
+-- and none after other faults
+pub left_sums : (o : Option (List ℕ)) (fault : FrameFault) (sizes : List ℕ) (table : Option TableSums) → table ≡ sums_after fault sizes
+    → IfSome o (λ ws. LeavesSizes fault ws sizes) → LeavesTable fault o table
+left_sums o (frame.TooManySegments count) sizes table e h = e
+left_sums o (frame.TooLarge n) sizes table e h = kept_sums o sizes table e h
+left_sums o (frame.Truncated byte) sizes table e h = kept_sums o sizes table e h
+left_sums o frame.Device sizes table e h = e
+left_sums o frame.Memory sizes table e h = e
+left_sums o frame.Spent sizes table e h = e
 
 module _ {X : Type 0} (g : source.Ghosts X) where
   -- the source stopped inside the table

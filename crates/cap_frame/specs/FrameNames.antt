@@ -7,6 +7,7 @@ pub use Rattle.cap_frame.specs.Limit.{limit_of}
 pub use Rattle.cap_frame.specs.Putting.{Halts}
 pub use Rattle.cap_frame.specs.Reading.{ReadsNext, TakesFrame}
 pub use Rattle.cap_frame.specs.ReadingFaults.{Faults, TakesTable, frame_fault_of}
-pub use Rattle.cap_frame.specs.TablesLeft.{HasSizes, LeavesSizes, LeavesTable}
+pub use Rattle.cap_frame.specs.TablesLeft.{HasSizes, LeavesTable}
+pub use Rattle.cap_frame.specs.TableSteps.{LeavesSizes}
 pub use Rattle.cap_frame.specs.Taking.{IsUsable, ReadsInput, Stops, Takes}
 pub use Rattle.cap_frame.specs.declared.fault.FrameFault.{FrameFault}

@@ -3,6 +3,7 @@ pub mod Outlines
 pub mod Taking
 pub mod ReadingFaults
 pub mod TablesLeft
+pub mod TableSteps
 pub mod Reading
 pub mod Rooms
 pub mod Putting

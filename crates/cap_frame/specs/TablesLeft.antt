@@ -1,5 +1,5 @@
 -- What is known of the table of a message that isn't read (profile).
-use Rattle.std.specs.Prelude.{List, None, Option, Some, [], length, sum, ℕ, ⊤, ◌%◌, ◌*◌, ◌++◌, ◌+◌, ◌/◌, ◌<◌, ◌^◌, ◌∷◌, ◌≡◌, ◌⊎◌}
+use Rattle.std.specs.Prelude.{IfSome, List, None, Option, Some, [], length, sum, ℕ, ◌%◌, ◌*◌, ◌++◌, ◌+◌, ◌/◌, ◌<◌, ◌^◌, ◌∷◌, ◌≡◌, ◌⊎◌}
 use Rattle.cap_spec.specs.Frames.{IsTable}
 use Rattle.cap_frame.specs.Fronts.{table_words}
 use Rattle.cap_frame.specs.declared.fault.FrameFault.{FrameFault}
@@ -21,15 +21,6 @@ abbrev pub HasSizes : List ℕ → List ℕ → Type 0
 HasSizes words [] = LacksTable words
 HasSizes words (size ∷ sizes) = BeginsTable words (size ∷ sizes)
 
--- the sizes that are known after a fault
-abbrev pub LeavesSizes : FrameFault → List ℕ → List ℕ → Type 0
-LeavesSizes (TooManySegments count) words sizes = sizes ≡ []
-LeavesSizes (TooLarge n) words sizes = HasSizes words sizes
-LeavesSizes (Truncated byte) words sizes = HasSizes words sizes
-LeavesSizes Device words sizes = ⊤
-LeavesSizes Memory words sizes = ⊤
-LeavesSizes Spent words sizes = ⊤
-
 -- what is kept of sizes: how many they are, their sum, and the bytes of the table and of the words
 abbrev pub sums_of : List ℕ → Option TableSums
 sums_of [] = None
@@ -39,6 +30,15 @@ sums_of (size ∷ sizes) = Some (record {
   bytes = 8 * (table_words (length (size ∷ sizes)) + sum (size ∷ sizes));
 })
 
--- What is kept of the table after a fault, where the words are these.
-abbrev pub LeavesTable : FrameFault → List ℕ → Option TableSums → Type 0
-LeavesTable fault words table = (sizes : List ℕ) × LeavesSizes fault words sizes × (table ≡ sums_of sizes)
+-- What is kept of the table at the start of these words, if it is whole.
+abbrev pub KeepsTable : List ℕ → Option TableSums → Type 0
+KeepsTable words table = (sizes : List ℕ) × HasSizes words sizes × (table ≡ sums_of sizes)
+
+-- What is kept of the table after a fault, by the words where they are known.
+abbrev pub LeavesTable : FrameFault → Option (List ℕ) → Option TableSums → Type 0
+LeavesTable (TooManySegments count) words table = table ≡ None
+LeavesTable (TooLarge n) words table = IfSome words (λ ws. KeepsTable ws table)
+LeavesTable (Truncated byte) words table = IfSome words (λ ws. KeepsTable ws table)
+LeavesTable Device words table = table ≡ None
+LeavesTable Memory words table = table ≡ None
+LeavesTable Spent words table = table ≡ None

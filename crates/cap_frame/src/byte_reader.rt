@@ -4,9 +4,10 @@ ghost use Rattle.cap_frame.specs.Bytes.{cut};
 ghost use Rattle.cap_frame.specs.HeldBytes.{LeavesRoom, held_segments, room_in};
 ghost use Rattle.cap_frame.specs.Limit.{limit_of};
 ghost use Rattle.cap_frame.specs.Reading.{IsResult, LacksMemory, ReadsFrame, has_message};
-ghost use Rattle.cap_frame.specs.TablesLeft.{LeavesSizes, LeavesTable};
+ghost use Rattle.cap_frame.specs.TableSteps.{LeavesSizes};
+ghost use Rattle.cap_frame.specs.TablesLeft.{LeavesTable};
 ghost use Rattle.cap_spec.specs.GreatestLimits.{most_words};
-ghost use Rattle.std.specs.Prelude.{◌*◌, ◌≡◌, ◌≤◌, [], ◌∷◌, IfErr, IfSome, IsErrOf, length, sum, true};
+ghost use Rattle.std.specs.Prelude.{◌*◌, ◌≡◌, ◌≤◌, [], ◌∷◌, IfErr, IfSome, IsErrOf, OnOk, length, sum, true};
 ghost use Rattle.std.specs.Vec.{vec_capacity, vec_len};
 
 use crate::byte_contents::{make_room, read_bytes};
@@ -14,7 +15,7 @@ use crate::byte_message::{ByteMessage, blank};
 use crate::fault::{FrameFault, frame_fault};
 use crate::limit::SizeLimit;
 use crate::segment_tables::fill_starts;
-use crate::table::{Sizes, TableSums, next_table, sums_of, total};
+use crate::table::{Sizes, TableSums, next_table, sums_after, total};
 use cap_words::WordSource;
 use std::alloc::Global;
 
@@ -110,8 +111,8 @@ pub fn read_into<S: WordSource>(
 /// # Errors
 ///
 /// Those of [`read_into`]. After `TooLarge`, and after `Truncated` if the whole table is there,
-/// `table` has the segments and the words that the table says. After another `Truncated`, and after
-/// `TooManySegments`, it is `None`.
+/// `table` has the segments and the words that the table says. After another error it is `None`.
+/// Without an error it stays as it was.
 // It has a body of its own: by a call of it `read_into` takes 25 instructions more for a message.
 pub fn read_noting<S: WordSource>(
     alloc: Global,
@@ -128,8 +129,8 @@ pub fn read_noting<S: WordSource>(
     // Nothing was allocated for a message past a limit.
     ensures room { LeavesRoom result (room_in message.old) (room_in message.new) }
     ensures blank { (result ≡ Ok true → ⊥) → held_segments message.new ≡ [] ∷ [] }
-    ensures table { IfErr result (λ fault. IfSome (S.words source.old) (λ ws.
-        LeavesTable fault ws table.new)) }
+    ensures table { IfErr result (λ fault. LeavesTable fault (S.words source.old) table.new) }
+    ensures same { OnOk result (table.new ≡ table.old) }
 {
     let ByteMessage {
         bytes,
@@ -146,7 +147,7 @@ pub fn read_noting<S: WordSource>(
             Ok(false)
         }
         Err(fault) => {
-            *table = sums_of(sizes);
+            *table = sums_after(fault, sizes);
             blank(sizes, starts);
             Err(fault)
         }

@@ -29,7 +29,7 @@ pub use front::front_of;
 pub use limit::SizeLimit;
 pub use message::{OneSegment, WordMessage};
 pub use outline::Outline;
-pub use outline_reader::read_outline;
+pub use outline_reader::{read_outline, read_outline_noting};
 pub use reader::read_message;
 pub use segment_tables::SegmentTables;
 pub use segments::Segments;

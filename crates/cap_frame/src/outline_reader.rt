@@ -3,13 +3,14 @@
 ghost use Rattle.cap_frame.specs.Limit.{limit_of};
 ghost use Rattle.cap_frame.specs.Outlines.{Outlines, root_in, sizes_in};
 ghost use Rattle.cap_frame.specs.Reading.{ReadsFrame};
-ghost use Rattle.std.specs.Prelude.{◌≡◌, [], IsErrOf, None, true};
+ghost use Rattle.cap_frame.specs.TablesLeft.{LeavesTable};
+ghost use Rattle.std.specs.Prelude.{◌≡◌, [], IfErr, IsErrOf, None, OnOk, true};
 
 use crate::fault::{FrameFault, frame_fault};
 use crate::limit::SizeLimit;
 use crate::outline::Outline;
 use crate::skipping::skip_contents;
-use crate::table::next_table;
+use crate::table::{TableSums, next_table, sums_after};
 use cap_words::WordSource;
 
 /// Reads the next message of a stream and keeps its outline. `false` if the stream ends before the
@@ -32,6 +33,31 @@ pub fn read_outline<S: WordSource>(
     ensures emptied { (result ≡ Ok true → ⊥)
         → (sizes_in outline.new ≡ []) × (root_in outline.new ≡ None) }
 {
+    read_outline_noting(source, limit, outline, &mut None)
+}
+
+/// Does what [`read_outline`] does, and keeps what the table says in `table` if the message can't be
+/// read.
+///
+/// # Errors
+///
+/// Those of [`read_outline`]. What `table` is after each error, and without one, is as
+/// [`read_noting`](crate::read_noting) leaves it.
+#[inline(always)]
+pub fn read_outline_noting<S: WordSource>(
+    source: &mut S,
+    limit: SizeLimit,
+    outline: &mut Outline,
+    table: &mut Option<TableSums>,
+) -> Result<bool, FrameFault>
+    ensures read { ReadsFrame S.WordSource (Outlines outline.new) (limit_of limit)
+        source.old source.new result }
+    ensures no_memory { IsErrOf result FrameFault.Memory → ⊥ }
+    ensures emptied { (result ≡ Ok true → ⊥)
+        → (sizes_in outline.new ≡ []) × (root_in outline.new ≡ None) }
+    ensures table { IfErr result (λ fault. LeavesTable fault (S.words source.old) table.new) }
+    ensures same { OnOk result (table.new ≡ table.old) }
+{
     outline.clear();
     match next_table(source, limit, &mut outline.sizes) {
         Ok(true) => {}
@@ -40,6 +66,7 @@ pub fn read_outline<S: WordSource>(
             return Ok(false);
         }
         Err(fault) => {
+            *table = sums_after(fault, &outline.sizes);
             outline.clear();
             return Err(fault);
         }
@@ -50,8 +77,10 @@ pub fn read_outline<S: WordSource>(
             Ok(true)
         }
         Err(fault) => {
+            let fault = frame_fault(fault);
+            *table = sums_after(fault, &outline.sizes);
             outline.clear();
-            Err(frame_fault(fault))
+            Err(fault)
         }
     }
 }

@@ -4,7 +4,8 @@ ghost use Rattle.arrayvec.specs.ArrayVec.{array_vec_len};
 ghost use Rattle.cap_frame.specs.Reading.{ReadsNext};
 ghost use Rattle.cap_frame.specs.ReadingFaults.{TakesTable};
 ghost use Rattle.cap_frame.specs.Limit.{limit_of};
-ghost use Rattle.cap_frame.specs.TablesLeft.{LeavesSizes, sums_of};
+ghost use Rattle.cap_frame.specs.TableSteps.{LeavesSizes, sums_after};
+ghost use Rattle.cap_frame.specs.TablesLeft.{sums_of};
 ghost use Rattle.cap_frame.specs.Taking.{IsUsable, ReadsInput, Stops, Takes};
 ghost use Rattle.cap_spec.specs.Frames.{IsTable, halves};
 ghost use Rattle.std.specs.Prelude.{◌%◌, ◌*◌, ◌+◌, ◌++◌, ◌/◌, ◌<◌, ◌^◌, ◌≡◌, ◌≤◌, [], ◌∷◌, IfErr, IfSome, IsErrOf, List, OnOk, false, length, sum, take, true, ℕ};
@@ -92,7 +93,7 @@ pub(crate) fn total(sizes: &[u32]) -> u64
 }
 
 /// What is kept of sizes, or `None` where there are none.
-pub(crate) fn sums_of(sizes: &[u32]) -> Option<TableSums>
+fn sums_of(sizes: &[u32]) -> Option<TableSums>
     requires { length sizes.now ≤ 512 }
     ensures { result ≡ sums_of sizes.now }
 {
@@ -106,6 +107,21 @@ pub(crate) fn sums_of(sizes: &[u32]) -> Option<TableSums>
         words,
         bytes: 8 * (u64::from(segments / 2 + 1) + words),
     })
+}
+
+/// What is kept of sizes after a fault: `None` unless the fault is `TooLarge` or `Truncated`.
+pub(crate) fn sums_after(fault: FrameFault, sizes: &[u32]) -> Option<TableSums>
+    requires { length sizes.now ≤ 512 }
+    ensures { result ≡ sums_after fault sizes.now }
+{
+    match fault {
+        FrameFault::TooLarge { .. } => sums_of(sizes),
+        FrameFault::Truncated { .. } => sums_of(sizes),
+        FrameFault::TooManySegments { .. } => None,
+        FrameFault::Device => None,
+        FrameFault::Memory => None,
+        FrameFault::Spent => None,
+    }
 }
 
 /// Reads the table of the next message. `false` where the stream ends before its first word.

@@ -12,10 +12,6 @@ use Rattle.cap_run.specs.RunNames.{Cause, Canon, Frame, NotStrict, TooManyMessag
 use Rattle.cap_words.specs.declared.ends.ByteOut as output
 use Rattle.cap_words.specs.declared.sources.WordSource as source
 
-any_words : (o : Option (List ℕ)) → IfSome o (λ ws. ⊤)
-any_words None = tt
-any_words (Some ws) = tt
-
 module _ {S : Type 0} (g : source.Ghosts S) where
   -- a source that ended inside a message gives no more words
   pub over_after : (limit : ℕ) (old new : S) (fault : FrameFault) → Faults g limit old new fault → (byte : ℕ) → fault ≡ Truncated byte
@@ -36,23 +32,24 @@ module _ {S : Type 0} (g : source.Ghosts S) where
   -- its next answer says whether it ended inside a word
   pub cut_after : (limit : ℕ) (old new : S) (fault : FrameFault) (told : Bool) → Faults g limit old new fault
       → ((byte : ℕ) → fault ≡ Truncated byte → g.ended new ≡ true → told ≡ false)
-      → ((byte : ℕ) → fault ≡ Truncated byte → g.failed new ≡ true → told ≡ true) → IfSome (g.words old) (λ ws. EndsCut fault (g.is_cut old) told)
-  cut_after limit old new (TooManySegments count) told f ended failed = any_words (g.words old)
-  cut_after limit old new (TooLarge words) told f ended failed = any_words (g.words old)
-  cut_after limit old new (Truncated at) told f ended failed =
+      → ((byte : ℕ) → fault ≡ Truncated byte → g.failed new ≡ true → told ≡ true)
+      → (((byte : ℕ) → fault ≡ Truncated byte → ⊥) → told ≡ false) → EndsCut fault (g.words old) (g.is_cut old) told
+  cut_after limit old new (TooManySegments count) told f ended failed other = other (λ byte e. cc)
+  cut_after limit old new (TooLarge words) told f ended failed other = other (λ byte e. cc)
+  cut_after limit old new (Truncated at) told f ended failed other =
       cut_of (g.words old) (g.is_cut old) told new f.how (ended at refl) (failed at refl)
-  cut_after limit old new Device told f ended failed = any_words (g.words old)
-  cut_after limit old new Memory told f ended failed = any_words (g.words old)
-  cut_after limit old new Spent told f ended failed = any_words (g.words old)
+  cut_after limit old new Device told f ended failed other = other (λ byte e. cc)
+  cut_after limit old new Memory told f ended failed other = other (λ byte e. cc)
+  cut_after limit old new Spent told f ended failed other = other (λ byte e. cc)
 
 module _ {S O : Type 0} (gs : source.Ghosts S) (go : output.Ghosts O) where
   -- a message that was read has none of it
-  pub read_breaks : (texts : List ℕ → Counted → Type 0) (wants : Type 0) (before after : O) (limit : ℕ) (old : S) (cause : Cause)
-      (at : StreamBreak) → WritesOneOf go texts wants before after (Err cause) → BreaksBy gs limit old cause at
-  read_breaks texts wants before after limit old TooManyMessages at w = absurd w
-  read_breaks texts wants before after limit old (Frame fault) at w = absurd w
-  read_breaks texts wants before after limit old (Output fault) at w = tt
-  read_breaks texts wants before after limit old (Refused refusal) at w = tt
-  read_breaks texts wants before after limit old (NotStrict fault) at w = tt
-  read_breaks texts wants before after limit old (Canon fault) at w = tt
-  read_breaks texts wants before after limit old no_marks at w = tt
+  pub read_breaks : (texts : List ℕ → Counted → Type 0) (wants : Type 0) (before after : O) (packed : Bool) (limit : ℕ) (old : S)
+      (cause : Cause) (at : StreamBreak) → WritesOneOf go texts wants before after (Err cause) → BreaksBy gs packed limit old cause at
+  read_breaks texts wants before after packed limit old TooManyMessages at w = absurd w
+  read_breaks texts wants before after packed limit old (Frame fault) at w = absurd w
+  read_breaks texts wants before after packed limit old (Output fault) at w = tt
+  read_breaks texts wants before after packed limit old (Refused refusal) at w = tt
+  read_breaks texts wants before after packed limit old (NotStrict fault) at w = tt
+  read_breaks texts wants before after packed limit old (Canon fault) at w = tt
+  read_breaks texts wants before after packed limit old no_marks at w = tt

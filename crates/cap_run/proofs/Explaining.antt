@@ -8,6 +8,7 @@ use Rattle.cap_vet.specs.VetNames.{IsDemandFault, words_under, depth_of, words_o
 use Rattle.cap_vet.specs.declared.demands.Demands.{Demands}
 use Rattle.cap_vet.specs.declared.limits.Limits.{Limits}
 use Rattle.cap_explain.specs.Charges.{ChargeOf, fault_charge}
+use Rattle.cap_explain.specs.declared.numbers.MessageStart.{MessageStart}
 use Rattle.cap_explain.specs.declared.numbers.Numbers.{Numbers}
 use Rattle.cap_explain.proofs.Charges.{OnePath, charge_is}
 use Rattle.cap_trace.proofs.Named.{one_path}
@@ -35,7 +36,7 @@ one_path_of demands m words depth r k f = same_path k.path f.path (one_path dema
 
 -- the numbers of a fault
 pub same_numbers : (demands : Demands) (m : List (List ℕ)) (words depth : ℕ) (fault : StrictRefusal)
-    (h : IsDemandFault demands m words depth fault) (start : Option ℕ) (within : Limits) (k : Numbers)
+    (h : IsDemandFault demands m words depth fault) (start : Option MessageStart) (within : Limits) (k : Numbers)
     → words_of within ≡ words_under demands m words → depth_of within ≡ depth → k.words ≡ words_of within → k.depth ≡ depth_of within
     → ChargeOf m (words_of within) (depth_of within) fault k.charge → k.start ≡ start
     → k ≡ fault_numbers demands m words depth fault h start
@@ -43,7 +44,7 @@ same_numbers demands m words depth fault h start within k w d kw kd c s =
     let at = subst (λ n. ChargeOf m (words_under demands m words) n fault k.charge) d
     (subst (λ n. ChargeOf m n (depth_of within) fault k.charge) w c) in
     let charge = charge_is demands m words depth fault (one_path_of demands m words depth) h k.charge at in
-    let make : ℕ → ℕ → Option ℕ → Option ℕ → Numbers = λ w d c s. record { words = w; depth = d; charge = c; start = s } in
+    let make : ℕ → ℕ → Option ℕ → Option MessageStart → Numbers = λ w d c s. record { words = w; depth = d; charge = c; start = s } in
     ap (λ x. make x k.depth k.charge k.start) (kw ∙ w)
     ∙ (ap (λ x. make (words_under demands m words) x k.charge k.start) (kd ∙ d)
     ∙ (ap (λ x. make (words_under demands m words) depth x k.start) charge

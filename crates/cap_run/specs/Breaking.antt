@@ -1,6 +1,6 @@
 -- What is known of a message at which a stream breaks off (profile). gs and go have the members of
 -- their types.
-use Rattle.std.specs.Prelude.{Bool, Err, IfErr, IfSome, List, Ok, Result, length, ℕ, ⊤, ◌≡◌}
+use Rattle.std.specs.Prelude.{Bool, Err, IfErr, IfSome, List, Ok, Option, Result, false, length, ℕ, ⊤, ◌≡◌}
 use Rattle.cap_frame.specs.TablesLeft.{LeavesTable}
 use Rattle.cap_frame.specs.declared.fault.FrameFault.{FrameFault}
 use Rattle.cap_frame.specs.declared.fault.FrameFault.TheVariants.{Device, Memory, Spent, TooLarge, TooManySegments}
@@ -17,14 +17,14 @@ use Rattle.cap_run.specs.declared.settings.Outcome.{Outcome}
 use Rattle.cap_words.specs.declared.ends.ByteOut as output
 use Rattle.cap_words.specs.declared.sources.WordSource as source
 
--- whether an input that ends inside a message ends inside a word
-abbrev pub EndsCut : FrameFault → Bool → Bool → Type 0
-EndsCut (TooManySegments count) cut told = ⊤
-EndsCut (TooLarge words) cut told = ⊤
-EndsCut (Truncated byte) cut told = told ≡ cut
-EndsCut Device cut told = ⊤
-EndsCut Memory cut told = ⊤
-EndsCut Spent cut told = ⊤
+-- whether the input ends inside a word, if it ends inside a message and its words are known
+abbrev pub EndsCut : FrameFault → Option (List ℕ) → Bool → Bool → Type 0
+EndsCut (TooManySegments count) words cut told = told ≡ false
+EndsCut (TooLarge n) words cut told = told ≡ false
+EndsCut (Truncated byte) words cut told = IfSome words (λ ws. told ≡ cut)
+EndsCut Device words cut told = told ≡ false
+EndsCut Memory words cut told = told ≡ false
+EndsCut Spent words cut told = told ≡ false
 
 -- an answer without what is known of the message at which the stream breaks off
 abbrev pub run_answer : Result Outcome ExplainedFault → Result Outcome RunFault
@@ -32,33 +32,36 @@ run_answer (Ok outcome) = Ok outcome
 run_answer (Err fault) = Err fault.fault
 
 module _ {S : Type 0} (gs : source.Ghosts S) where
-  -- The source was `old` before the message that can't be read.
-  pub record BreaksAt (limit : ℕ) (old : S) (fault : FrameFault) (at : StreamBreak) : Type 0 where
+  -- The source was `old` before the message that can't be read. Its input is packed or not.
+  pub record BreaksAt (packed : Bool) (limit : ℕ) (old : S) (fault : FrameFault)
+      (at : StreamBreak) : Type 0 where
     pub start : at.start ≡ gs.place old
+    pub packed_is : at.packed ≡ packed
     pub limit_is : at.limit ≡ limit
-    pub table : IfSome (gs.words old) (λ ws. LeavesTable fault ws at.table)
-    pub cut : IfSome (gs.words old) (λ ws. EndsCut fault (gs.is_cut old) at.is_cut)
+    pub table : LeavesTable fault (gs.words old) at.table
+    pub cut : EndsCut fault (gs.words old) (gs.is_cut old) at.is_cut
 
   -- the same, if the cause is that a message can't be read
-  abbrev pub BreaksBy : ℕ → S → Cause → StreamBreak → Type 0
-  BreaksBy limit old TooManyMessages at = ⊤
-  BreaksBy limit old (Frame fault) at = BreaksAt limit old fault at
-  BreaksBy limit old (Output fault) at = ⊤
-  BreaksBy limit old (Refused refusal) at = ⊤
-  BreaksBy limit old (NotStrict fault) at = ⊤
-  BreaksBy limit old (Canon fault) at = ⊤
-  BreaksBy limit old no_marks at = ⊤
+  abbrev pub BreaksBy : Bool → ℕ → S → Cause → StreamBreak → Type 0
+  BreaksBy packed limit old TooManyMessages at = ⊤
+  BreaksBy packed limit old (Frame fault) at = BreaksAt packed limit old fault at
+  BreaksBy packed limit old (Output fault) at = ⊤
+  BreaksBy packed limit old (Refused refusal) at = ⊤
+  BreaksBy packed limit old (NotStrict fault) at = ⊤
+  BreaksBy packed limit old (Canon fault) at = ⊤
+  BreaksBy packed limit old no_marks at = ⊤
 
   -- The source was `mid` after the messages before the one at which the stream breaks off.
-  abbrev pub BreaksOff : ℕ → S → Result Outcome ExplainedFault → Type 0
-  BreaksOff limit old answer = IfErr answer (λ e. (ms : List (List (List ℕ))) × (mid : S)
+  abbrev pub BreaksOff : Bool → ℕ → S → Result Outcome ExplainedFault → Type 0
+  BreaksOff packed limit old answer = IfErr answer (λ e. (ms : List (List (List ℕ))) × (mid : S)
       × (length ms ≡ e.fault.message) × ReadsStream gs limit old mid ms
-      × BreaksBy limit mid e.fault.cause e.at)
+      × BreaksBy packed limit mid e.fault.cause e.at)
 
 module _ {S O : Type 0} (gs : source.Ghosts S) (go : output.Ghosts O) where
   -- What an engine does that explains: it writes a text of each message, and says what is known of
   -- the message at which the stream breaks off.
-  pub record ExplainsStream (tells : PlacedTells) (wants : List (List ℕ) → Type 0) (limit most : ℕ)
-      (old new : S) (before after : O) (answer : Result Outcome ExplainedFault) : Type 0 where
+  pub record ExplainsStream (tells : PlacedTells) (wants : List (List ℕ) → Type 0) (packed : Bool)
+      (limit most : ℕ) (old new : S) (before after : O)
+      (answer : Result Outcome ExplainedFault) : Type 0 where
     pub told : TellsPlaced gs go tells wants limit most old new before after (run_answer answer)
-    pub broken : BreaksOff gs limit old answer
+    pub broken : BreaksOff gs packed limit old answer

@@ -1,5 +1,5 @@
 -- What may be written of a message whose refusal is explained (profile).
-use Rattle.std.specs.Prelude.{List, Option, Some, codes, ℕ, ◌*◌, ◌++◌, ◌≡◌, ◌⊎◌}
+use Rattle.std.specs.Prelude.{Bool, List, Option, Some, codes, ℕ, ◌*◌, ◌++◌, ◌≡◌, ◌⊎◌}
 use Rattle.cap_spec.specs.SpecNames.{IsDisjoint, IsFirstOverlap, refused, strict_verdict, vet_text}
 use Rattle.cap_spec.specs.declared.StrictRefusal.{StrictRefusal}
 use Rattle.cap_vet.specs.VetNames.{IsDemandFault, words_under, depth_of, words_of, IsAccepted}
@@ -8,6 +8,7 @@ use Rattle.cap_vet.specs.declared.limits.Limits.{Limits}
 use Rattle.cap_vet.specs.declared.report.Report.{Report}
 use Rattle.cap_explain.specs.Charges.{fault_charge}
 use Rattle.cap_explain.specs.Explaining.{explanation, overlap_explanation}
+use Rattle.cap_explain.specs.declared.numbers.MessageStart.{MessageStart}
 use Rattle.cap_explain.specs.declared.numbers.Numbers.{Numbers}
 use Rattle.cap_trace.specs.NamedPaths.{fault_path}
 use Rattle.cap_run.specs.Demanding.{IsStrictUnder}
@@ -17,10 +18,14 @@ use Rattle.cap_run.specs.Vetting.{TellsAccepted}
 use Rattle.cap_run.specs.declared.engines.stream.Counted.{Counted}
 use Rattle.cap_run.specs.declared.engines.stream.Counted.TheVariants.{Refused}
 
--- the limits of a message that doesn't meet the demands, the charge that it needs, and where in the
--- input it begins
+-- where a message begins before which there are this many words of an input
+abbrev pub start_after : Bool → ℕ → MessageStart
+start_after packed before = record { byte = 8 * before; packed = packed }
+
+-- the limits of a message that doesn't meet the demands, its charge up to the pointer that is named,
+-- and where it begins
 abbrev pub fault_numbers : (demands : Demands) (m : List (List ℕ)) (words depth : ℕ) (fault : StrictRefusal)
-    → IsDemandFault demands m words depth fault → Option ℕ → Numbers
+    → IsDemandFault demands m words depth fault → Option MessageStart → Numbers
 fault_numbers demands m words depth fault h start = record {
   words = words_under demands m words;
   depth = depth;
@@ -30,29 +35,30 @@ fault_numbers demands m words depth fault h start = record {
 
 -- The line of message n if it doesn't meet the demands, and the lines that explain the first reason.
 -- This number of words of the input is before the message.
-pub record TellsFaultLines (demands : Demands) (words depth before n : ℕ) (m : List (List ℕ))
+pub record TellsFaultLines (packed : Bool) (demands : Demands) (words depth before n : ℕ) (m : List (List ℕ))
     (text : List ℕ) (counted : Counted) : Type 0 where
   pub fault : StrictRefusal
   pub is_fault : IsDemandFault demands m words depth fault
   pub lines : text ≡ vet_text n (strict_verdict fault)
       ++ explanation (fault_path demands m words depth fault is_fault) m fault
-      (fault_numbers demands m words depth fault is_fault (Some (8 * before)))
+      (fault_numbers demands m words depth fault is_fault (Some (start_after packed before)))
   pub counts : counted ≡ Refused
 
 -- a text of a message that meets the demands, or those lines
-abbrev pub OrFaultLines : Demands → (ℕ → ℕ → ℕ → Tells) → ℕ → ℕ → PlacedTells
-OrFaultLines demands tells words depth before n m text counted =
+abbrev pub OrFaultLines : Bool → Demands → (ℕ → ℕ → ℕ → Tells) → ℕ → ℕ → PlacedTells
+OrFaultLines packed demands tells words depth before n m text counted =
     (IsStrictUnder demands m words depth
     × tells before (words_under demands m words) depth n m text counted)
-    ⊎ TellsFaultLines demands words depth before n m text counted
+    ⊎ TellsFaultLines packed demands words depth before n m text counted
 
 -- under the limits of the charge and of the depth
-abbrev pub OrFaultLinesIn : Demands → (ℕ → ℕ → ℕ → Tells) → Limits → PlacedTells
-OrFaultLinesIn demands tells limits = OrFaultLines demands tells (words_of limits) (depth_of limits)
+abbrev pub OrFaultLinesIn : Bool → Demands → (ℕ → ℕ → ℕ → Tells) → Limits → PlacedTells
+OrFaultLinesIn packed demands tells limits =
+    OrFaultLines packed demands tells (words_of limits) (depth_of limits)
 
 -- The line of a message that is accepted and uses some word twice, with the first pointer that
 -- overlaps, and the lines that explain it.
-pub record TellsOverlapLines (before words depth n : ℕ) (m : List (List ℕ)) (text : List ℕ)
+pub record TellsOverlapLines (packed : Bool) (before words depth n : ℕ) (m : List (List ℕ)) (text : List ℕ)
     (counted : Counted) : Type 0 where
   pub report : Report
   pub is_accepted : IsAccepted m words depth report
@@ -61,19 +67,19 @@ pub record TellsOverlapLines (before words depth n : ℕ) (m : List (List ℕ)) 
   pub pointers : ℕ
   pub is_first : IsFirstOverlap m segment word pointers
   pub lines : text ≡ vet_text n (refused (codes "Overlap") segment word pointers)
-      ++ overlap_explanation (Some is_first.path) m (Some (8 * before)) segment word
+      ++ overlap_explanation (Some is_first.path) m (Some (start_after packed before)) segment word
   pub counts : counted ≡ Refused
 
 -- the text of a message that is accepted: it uses no word twice, or the first overlap is explained
-abbrev pub TellsMarkedLines : ℕ → ℕ → ℕ → Tells
-TellsMarkedLines before words depth n m text counted =
+abbrev pub TellsMarkedLines : Bool → ℕ → ℕ → ℕ → Tells
+TellsMarkedLines packed before words depth n m text counted =
     (IsDisjoint m × TellsAccepted words depth n m text counted)
-    ⊎ TellsOverlapLines before words depth n m text counted
+    ⊎ TellsOverlapLines packed before words depth n m text counted
 
--- the text of `explain`
-abbrev pub TellsExplainedUnder : Demands → ℕ → ℕ → PlacedTells
-TellsExplainedUnder demands = OrFaultLines demands (λ before. TellsAccepted)
+-- the text of `explain` over an input that is packed or not
+abbrev pub TellsExplainedUnder : Bool → Demands → ℕ → ℕ → PlacedTells
+TellsExplainedUnder packed demands = OrFaultLines packed demands (λ before. TellsAccepted)
 
 -- the text of `explain --exclusive`
-abbrev pub TellsExplainedExclusiveUnder : Demands → ℕ → ℕ → PlacedTells
-TellsExplainedExclusiveUnder demands = OrFaultLines demands TellsMarkedLines
+abbrev pub TellsExplainedExclusiveUnder : Bool → Demands → ℕ → ℕ → PlacedTells
+TellsExplainedExclusiveUnder packed demands = OrFaultLines packed demands (TellsMarkedLines packed)

@@ -4,6 +4,7 @@ pub mod Transcoding
 pub mod Demanding
 pub mod Engines
 pub mod Placed
+pub mod PlacedSteps
 pub mod Explained
 pub mod Breaking
 pub mod Filtering

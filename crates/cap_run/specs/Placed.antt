@@ -1,15 +1,13 @@
 -- What was written for each message of a stream, by where in the input the message begins
 -- (profile). gs and go have the members of their types.
 use Rattle.std.specs.List.{AllByRecursion}
-use Rattle.std.specs.Prelude.{IfErr, IfOk, List, Ok, Result, Some, [], false, length, sum, ℕ, ◌+◌, ◌^◌, ◌∷◌, ◌≡◌, ◌≤◌}
+use Rattle.std.specs.Prelude.{IfErr, IfOk, List, Ok, Result, Some, [], false, length, sum, ℕ, ◌+◌, ◌∷◌, ◌≡◌, ◌≤◌}
 use Rattle.cap_spec.specs.Frames.{Stream, sizes_of}
 use Rattle.cap_explain.specs.Leading.{frame_words}
 use Rattle.cap_text.specs.declared.fault.RunFault.{RunFault}
-use Rattle.cap_text.specs.Writing.{Wrote}
 use Rattle.cap_run.specs.Running.{Appended, RunStops, Settled}
 use Rattle.cap_run.specs.Streams.{ReadsStream, ReadsToEnd}
 use Rattle.cap_run.specs.Telling.{Tells, Told, messages_of, outcome_of, texts_of}
-use Rattle.cap_run.specs.declared.engines.stream.Counted.{Counted}
 use Rattle.cap_run.specs.declared.settings.Outcome.{Outcome}
 use Rattle.cap_words.specs.declared.ends.ByteOut as output
 use Rattle.cap_words.specs.declared.sources.WordSource as source
@@ -28,13 +26,6 @@ abbrev pub TellsFrom : PlacedTells → ℕ → ℕ → List Told → Type 0
 TellsFrom tells before n [] = Unit {0}
 TellsFrom tells before n (t ∷ ts) = tells before n t.message t.text t.counted
     × TellsFrom tells (before + frame_words t.message) (n + 1) ts
-
-module _ {S O : Type 0} (gs : source.Ghosts S) (go : output.Ghosts O) where
-  -- a message of this number of words was read, and its text as message n was written
-  abbrev pub StepPlaces : Tells → ℕ → ℕ → S → S → O → O → Counted → ℕ → Type 0
-  StepPlaces tells limit n old new before after counted words = (t : Told) × (t.counted ≡ counted)
-      × tells n t.message t.text t.counted × ReadsStream gs limit old new (t.message ∷ [])
-      × Wrote go before after t.text × (words ≡ frame_words t.message) × (words ≤ 2 ^ 29)
 
 module _ {S O : Type 0} (gs : source.Ghosts S) (go : output.Ghosts O) (tells : PlacedTells)
     (limit most : ℕ) (old new : S) (before after : O) where

@@ -3,7 +3,7 @@
 use cap_frame::SizeLimit;
 use cap_vet::Limits;
 
-/// The limits of a run over a stream, and how its output is flushed, for every engine.
+/// The limits of a run over a stream, and what is known of its input, for every engine.
 #[derive(Clone, Copy, Debug, PartialEq, Eq, Drop)]
 pub struct Settings {
     /// The limits of a walk over a message.
@@ -12,6 +12,9 @@ pub struct Settings {
     pub size: SizeLimit,
     /// The most messages of a stream.
     pub messages: u32,
+    /// Whether the input is packed, so that the source unpacks it. Where an engine names a byte of
+    /// the input, it says so.
+    pub packed: bool,
     /// Whether the input may have to be waited for, as a pipe. What an engine writes of a message is
     /// then flushed before the input is asked for more, unless the source shows the whole next
     /// message, see [`Peek`](crate::Peek). If the input is never waited for, as a regular file, no

@@ -1,6 +1,6 @@
 //! The lines that explain why a stream breaks off.
 
-ghost use Rattle.cap_text.specs.BreakLines.{break_lines, bytes_line, cause_lines, cut_lines, cut_sentence, explained_fault_text, large_line, many_line, message_line, needed_text, reason_line, table_line};
+ghost use Rattle.cap_text.specs.BreakLines.{break_lines, bytes_line, cause_lines, cut_line, cut_lines, cut_part, cut_place, explained_fault_text, large_line, many_line, message_line, needed_text, of_packed_input, packed_note, reason_line, table_line, unpacked_note};
 ghost use Rattle.cap_text.specs.Writing.{Writes};
 ghost use Rattle.std.specs.Prelude.{◌*◌, ◌+◌, ◌++◌, ◌≡◌, ◌≤◌, length};
 
@@ -17,17 +17,36 @@ const LINE: usize = 128;
 /// The most bytes of a sentence.
 const SENTENCE: usize = 100;
 
+/// The most bytes of a part of a sentence.
+const PART: usize = 40;
+
+/// The most bytes of a note on how bytes are counted.
+const NOTE: usize = 20;
+
 /// The space for all lines.
 const LINES: usize = 5 * LINE;
 
+/// The name of the input in which bytes are counted.
+fn of_packed_input(packed: bool) -> &'static [u8]
+    ensures text { result.now ≡ of_packed_input packed }
+    ensures short { length result.now ≤ NOTE }
+{
+    if packed {
+        b" of the packed input"
+    } else {
+        b" of the input"
+    }
+}
+
 /// Appends where the message begins.
-fn push_message_line(page: &mut Page, start: u64)
+fn push_message_line(page: &mut Page, at: &StreamBreak)
     requires { length page.old + LINE ≤ CAPACITY }
-    ensures items { page.new ≡ page.old ++ message_line start }
+    ensures items { page.new ≡ page.old ++ message_line at.now }
     ensures few { length page.new ≤ length page.old + LINE }
 {
-    page.push_named(b"  message at byte ", start);
-    page.push_text(b" of the input\n");
+    page.push_named(b"  message at byte ", at.start);
+    page.push_text(of_packed_input(at.packed));
+    page.push_text(b"\n");
 }
 
 /// Appends what the table says, if it is whole.
@@ -43,25 +62,43 @@ fn push_table_line(page: &mut Page, table: Option<TableSums>)
     }
 }
 
+/// How the bytes of the input are counted, if it is packed.
+fn packed_note(packed: bool) -> &'static [u8]
+    ensures text { result.now ≡ packed_note packed }
+    ensures short { length result.now ≤ NOTE }
+{
+    if packed { b" packed" } else { b"" }
+}
+
+/// How the bytes of a message are counted, if the input is packed.
+fn unpacked_note(packed: bool) -> &'static [u8]
+    ensures text { result.now ≡ unpacked_note packed }
+    ensures short { length result.now ≤ NOTE }
+{
+    if packed { b" unpacked" } else { b"" }
+}
+
 /// Appends how many bytes the whole message has, if its table is whole.
-fn push_needed(page: &mut Page, table: Option<TableSums>)
-    requires { length page.old + 10 + DIGITS ≤ CAPACITY }
-    ensures items { page.new ≡ page.old ++ needed_text table }
-    ensures few { length page.new ≤ length page.old + 10 + DIGITS }
+fn push_needed(page: &mut Page, packed: bool, table: Option<TableSums>)
+    requires { length page.old + 10 + DIGITS + NOTE ≤ CAPACITY }
+    ensures items { page.new ≡ page.old ++ needed_text packed table }
+    ensures few { length page.new ≤ length page.old + 10 + DIGITS + NOTE }
 {
     if let Some(table) = table {
         page.push_named(b", needed ", table.bytes);
+        page.push_text(unpacked_note(packed));
     }
 }
 
 /// Appends how many bytes of the message are there.
-fn push_bytes_line(page: &mut Page, start: u64, byte: u64, table: Option<TableSums>)
+fn push_bytes_line(page: &mut Page, byte: u64, at: &StreamBreak)
     requires { length page.old + LINE ≤ CAPACITY }
-    ensures items { page.new ≡ page.old ++ bytes_line start byte table }
+    ensures items { page.new ≡ page.old ++ bytes_line byte at.now }
     ensures few { length page.new ≤ length page.old + LINE }
 {
-    page.push_named(b"  bytes there ", byte.saturating_sub(start));
-    push_needed(page, table);
+    page.push_named(b"  bytes there ", byte.saturating_sub(at.start));
+    page.push_text(packed_note(at.packed));
+    push_needed(page, at.packed, at.table);
     page.push_text(b"\n");
 }
 
@@ -71,8 +108,8 @@ fn push_many_line(page: &mut Page, count: u64)
     ensures items { page.new ≡ page.old ++ many_line count }
     ensures few { length page.new ≤ length page.old + LINE }
 {
-    page.push_named(b"  limit segments ", count);
-    page.push_text(b", at most 512\n");
+    page.push_named(b"  segments ", count);
+    page.push_text(b", limit 512\n");
 }
 
 /// Appends the words that are too many.
@@ -81,22 +118,32 @@ fn push_large_line(page: &mut Page, words: u64, limit: u64)
     ensures items { page.new ≡ page.old ++ large_line words limit }
     ensures few { length page.new ≤ length page.old + LINE }
 {
-    page.push_named(b"  limit words ", words);
-    page.push_named(b", at most ", limit);
+    page.push_named(b"  words ", words);
+    page.push_named(b", limit ", limit);
     page.push_text(b"\n");
 }
 
-/// Where the input ends, as a sentence.
-fn cut_sentence(table: Option<TableSums>, is_cut: bool) -> &'static [u8]
-    ensures sentence { result.now ≡ cut_sentence table is_cut }
-    ensures short { length result.now ≤ SENTENCE }
+/// The part of the message in which the input ends.
+fn cut_part(table: Option<TableSums>) -> &'static [u8]
+    ensures sentence { result.now ≡ cut_part table }
+    ensures short { length result.now ≤ PART }
 {
-    match (table.is_some(), is_cut) {
-        (false, false) => b"the input ends inside the segment table, between two words",
-        (false, true) =>
-            b"the input ends inside the segment table, and inside a word or a packed group",
-        (true, false) => b"the input ends inside the segments, between two words",
-        (true, true) => b"the input ends inside the segments, and inside a word or a packed group",
+    match table {
+        None => b"the input ends inside the segment table",
+        Some(_) => b"the input ends inside the segments",
+    }
+}
+
+/// What is cut then, of an input that is packed or not.
+fn cut_place(packed: bool, is_cut: bool) -> &'static [u8]
+    ensures sentence { result.now ≡ cut_place packed is_cut }
+    ensures short { length result.now ≤ PART }
+{
+    match (packed, is_cut) {
+        (false, false) => b", between two words",
+        (false, true) => b", and inside a word",
+        (true, false) => b", between two packed groups",
+        (true, true) => b", and inside a packed group",
     }
 }
 
@@ -112,13 +159,25 @@ fn push_reason_line(page: &mut Page, sentence: &[u8])
     page.push_text(b"\n");
 }
 
+/// Appends where the input ends, as the reason.
+fn push_cut_line(page: &mut Page, at: &StreamBreak)
+    requires { length page.old + LINE ≤ CAPACITY }
+    ensures items { page.new ≡ page.old ++ cut_line at.now }
+    ensures few { length page.new ≤ length page.old + LINE }
+{
+    page.push_text(b"  reason ");
+    page.push_text(cut_part(at.table));
+    page.push_text(cut_place(at.packed, at.is_cut));
+    page.push_text(b"\n");
+}
+
 /// Appends the lines of a message that is cut short at a byte.
 fn push_cut_lines(page: &mut Page, byte: u64, at: &StreamBreak)
     requires { length page.old + 2 * LINE ≤ CAPACITY }
     ensures { page.new ≡ page.old ++ cut_lines byte at.now }
 {
-    push_bytes_line(page, at.start, byte, at.table);
-    push_reason_line(page, cut_sentence(at.table, at.is_cut));
+    push_bytes_line(page, byte, at);
+    push_cut_line(page, at);
 }
 
 /// Appends the lines of a message that can't be read, after a line or more.
@@ -128,7 +187,7 @@ fn push_break_lines(page: &mut Page, fault: FrameFault, at: &StreamBreak)
 {
     match fault {
         FrameFault::TooManySegments { count } => {
-            push_message_line(page, at.start);
+            push_message_line(page, at);
             push_many_line(page, count);
             push_reason_line(
                 page,
@@ -136,7 +195,7 @@ fn push_break_lines(page: &mut Page, fault: FrameFault, at: &StreamBreak)
             );
         }
         FrameFault::TooLarge { words } => {
-            push_message_line(page, at.start);
+            push_message_line(page, at);
             push_table_line(page, at.table);
             push_large_line(page, words, at.limit);
             push_reason_line(
@@ -145,7 +204,7 @@ fn push_break_lines(page: &mut Page, fault: FrameFault, at: &StreamBreak)
             );
         }
         FrameFault::Truncated { byte } => {
-            push_message_line(page, at.start);
+            push_message_line(page, at);
             push_table_line(page, at.table);
             push_cut_lines(page, byte, at);
         }

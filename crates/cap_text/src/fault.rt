@@ -45,16 +45,18 @@ pub enum Cause {
 /// What is known of a message at which a stream breaks off, beside the fault.
 #[derive(Clone, Copy, Debug, PartialEq, Eq, Drop)]
 pub struct StreamBreak {
-    /// The position of the message's first byte in the input.
+    /// The position of the message's first byte in the input. The bytes of a packed input are counted
+    /// packed.
     pub start: u64,
+    /// Whether the input is packed.
+    pub packed: bool,
     /// The most words that a message may have.
     pub limit: u64,
     /// What its table says, if that is whole: after [`FrameFault::Truncated`] and
-    /// [`FrameFault::TooLarge`]. `None` after [`FrameFault::TooManySegments`]. After other faults it
-    /// has no meaning.
+    /// [`FrameFault::TooLarge`]. `None` after other faults.
     pub table: Option<TableSums>,
-    /// Whether the input ends inside a word or inside a group of packed words, after
-    /// [`FrameFault::Truncated`]. After other faults it has no meaning.
+    /// Whether the input ends inside a word, or inside a group if it is packed, after
+    /// [`FrameFault::Truncated`]. `false` after other faults.
     pub is_cut: bool,
 }
 

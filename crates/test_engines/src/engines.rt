@@ -13,6 +13,7 @@ pub(crate) fn settings(messages: u32) -> Option<Settings> {
         limits: Limits::new(8388608, 64)?,
         size: SizeLimit::new(8388608)?,
         messages,
+        packed: false,
         live: true,
     })
 }

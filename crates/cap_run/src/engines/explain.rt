@@ -5,7 +5,7 @@ ghost use Rattle.cap_explain.specs.Explaining.{explanation, overlap_explanation}
 ghost use Rattle.cap_frame.specs.Limit.{limit_of};
 ghost use Rattle.cap_run.specs.Demanding.{WantsIn, WantsMarksUnder};
 ghost use Rattle.cap_run.specs.Breaking.{ExplainsStream};
-ghost use Rattle.cap_run.specs.Explained.{OrFaultLinesIn, TellsExplainedExclusiveUnder, TellsExplainedUnder, TellsMarkedLines};
+ghost use Rattle.cap_run.specs.Explained.{OrFaultLinesIn, TellsExplainedExclusiveUnder, TellsExplainedUnder, TellsMarkedLines, start_after};
 ghost use Rattle.cap_run.specs.Running.{WritesOneOf};
 ghost use Rattle.cap_run.specs.Telling.{WantsNone};
 ghost use Rattle.cap_run.specs.Vetting.{TellsAccepted, WantsMarks};
@@ -25,7 +25,7 @@ use crate::engines::vet::VetTeller;
 use crate::engines::whole::{Teller, after_text};
 use crate::peek::Peek;
 use crate::settings::{Outcome, Settings};
-use cap_explain::{Explanation, Numbers, explain, explain_overlap, refusal_charge};
+use cap_explain::{Explanation, MessageStart, Numbers, explain, explain_overlap, refusal_charge};
 use cap_frame::Segments;
 use cap_spec::StrictRefusal;
 use cap_text::{Cause, ExplainedFault, Page, write_accepted, write_overlap, write_refused};
@@ -44,12 +44,23 @@ fn greatest_limits() -> Limits
     }
 }
 
+/// Where a message begins before which there are this many words of an input.
+fn start_after(packed: bool, before: u64) -> MessageStart
+    requires { before < 2 ^ 61 }
+    ensures { result ≡ start_after packed before }
+{
+    MessageStart {
+        byte: 8 * before,
+        packed,
+    }
+}
+
 /// The numbers of a message that is refused within limits, and begins there in the input.
 fn numbers_of<M: Segments>(
     message: &M,
     refusal: &StrictRefusal,
     limits: Limits,
-    start: Option<u64>,
+    start: Option<MessageStart>,
 ) -> Numbers
     ensures words { result.words ≡ words_of limits }
     ensures depth { result.depth ≡ depth_of limits }
@@ -96,7 +107,7 @@ fn write_overlap_lines<M: Segments, O: ByteOut>(
     out: &mut O,
     number: u32,
     message: &M,
-    start: Option<u64>,
+    start: Option<MessageStart>,
     segment: u32,
     word: u32,
     pointers: u64,
@@ -176,10 +187,11 @@ impl PlacedTeller for AcceptedTeller {
 #[derive(Clone, Copy)]
 struct OverlapTeller {
     alloc: Global,
+    packed: bool,
 }
 
 impl PlacedTeller for OverlapTeller {
-    ghost tells = { λ _. TellsMarkedLines };
+    ghost tells = { λ t. TellsMarkedLines t.packed };
 
     ghost wants = { λ _. WantsMarks };
 
@@ -204,6 +216,7 @@ impl PlacedTeller for OverlapTeller {
                 },
             ) => {
                 let message = vetted.message();
+                let start = start_after(self.packed, before);
                 let mut path = NamedPath::new();
                 path.find(message, greatest_limits(), pointers);
                 let written = write_overlap_lines(
@@ -211,7 +224,7 @@ impl PlacedTeller for OverlapTeller {
                     out,
                     number,
                     message,
-                    Some(8 * before),
+                    Some(start),
                     segment,
                     word,
                     pointers,
@@ -232,11 +245,12 @@ impl PlacedTeller for OverlapTeller {
 struct Explaining<T> {
     limits: Limits,
     demands: Demands,
+    packed: bool,
     teller: T,
 }
 
 impl<T: PlacedTeller> PlacedJudge for Explaining<T> {
-    ghost tells = { λ e. OrFaultLinesIn e.demands (T.tells e.teller) e.limits };
+    ghost tells = { λ e. OrFaultLinesIn e.packed e.demands (T.tells e.teller) e.limits };
 
     ghost wants = { λ e. WantsIn e.demands (T.wants e.teller) e.limits };
 
@@ -254,7 +268,8 @@ impl<T: PlacedTeller> PlacedJudge for Explaining<T> {
                 let mut path = NamedPath::new();
                 path.find_refused(message, self.limits, &refusal);
                 let limits = limits_under(message, self.limits, self.demands);
-                let numbers = numbers_of(message, &refusal, limits, Some(8 * before));
+                let start = start_after(self.packed, before);
+                let numbers = numbers_of(message, &refusal, limits, Some(start));
                 let written = write_refusal(page, out, number, message, &refusal, numbers, &path);
                 after_text(written, Counted::Refused)
             }
@@ -278,12 +293,13 @@ pub fn run_explain<S: Peek, O: ByteOut>(
     demands: Demands,
 ) -> Result<Outcome, ExplainedFault>
     ensures { let s = settings.now in ExplainsStream S.WordSource O.ByteOut
-        (TellsExplainedUnder demands (words_of s.limits) (depth_of s.limits)) WantsNone
-        (limit_of s.size) s.messages source.old source.new out.old out.new result }
+        (TellsExplainedUnder s.packed demands (words_of s.limits) (depth_of s.limits)) WantsNone
+        s.packed (limit_of s.size) s.messages source.old source.new out.old out.new result }
 {
     let explaining = Explaining {
         limits: settings.limits,
         demands,
+        packed: settings.packed,
         teller: AcceptedTeller,
     };
     explain_all(alloc, source, out, settings, explaining)
@@ -304,14 +320,18 @@ pub fn run_explain_exclusive<S: Peek, O: ByteOut>(
     demands: Demands,
 ) -> Result<Outcome, ExplainedFault>
     ensures { let s = settings.now in ExplainsStream S.WordSource O.ByteOut
-        (TellsExplainedExclusiveUnder demands (words_of s.limits) (depth_of s.limits))
+        (TellsExplainedExclusiveUnder s.packed demands (words_of s.limits) (depth_of s.limits))
         (WantsMarksUnder demands (words_of s.limits) (depth_of s.limits))
-        (limit_of s.size) s.messages source.old source.new out.old out.new result }
+        s.packed (limit_of s.size) s.messages source.old source.new out.old out.new result }
 {
     let explaining = Explaining {
         limits: settings.limits,
         demands,
-        teller: OverlapTeller { alloc },
+        packed: settings.packed,
+        teller: OverlapTeller {
+            alloc,
+            packed: settings.packed,
+        },
     };
     explain_all(alloc, source, out, settings, explaining)
 }

@@ -4,7 +4,8 @@ ghost use Rattle.cap_frame.specs.HeldBytes.{held_segments};
 ghost use Rattle.cap_frame.specs.Limit.{limit_of};
 ghost use Rattle.cap_frame.specs.Reading.{ReadsFrame};
 ghost use Rattle.cap_run.specs.Breaking.{BreaksAt, BreaksBy, BreaksOff, ExplainsStream, run_answer};
-ghost use Rattle.cap_run.specs.Placed.{PlacedEarly, PlacedToEnd, StepPlaces};
+ghost use Rattle.cap_run.specs.Placed.{PlacedEarly, PlacedToEnd};
+ghost use Rattle.cap_run.specs.PlacedSteps.{StepPlaces};
 ghost use Rattle.cap_run.specs.Running.{EndStops, StepStops, WritesOneOf};
 ghost use Rattle.cap_run.specs.Streams.{EndsStream};
 ghost use Rattle.std.specs.Prelude.{◌<◌, ◌^◌, ◌≡◌, ◌⊎◌, IfErr, IfOk, IfSome, List, OnOk, false, true, ℕ};
@@ -14,7 +15,9 @@ use crate::engines::stream::{Counted, count};
 use crate::peek::Peek;
 use crate::settings::{Outcome, Settings};
 use cap_explain::frame_words;
-use cap_frame::{ByteMessage, FrameFault, Segments, SizeLimit, read_noting};
+use cap_frame::{
+    ByteMessage, FrameFault, Outline, Segments, TableSums, read_noting, read_outline_noting,
+};
 use cap_text::{Cause, ExplainedFault, Page, RunFault, StreamBreak};
 use cap_words::{ByteOut, WordSource};
 use std::alloc::Global;
@@ -39,6 +42,7 @@ impl ExplainRoom {
             page: Page::new(),
             at: StreamBreak {
                 start: 0,
+                packed: false,
                 limit: 0,
                 table: None,
                 is_cut: false,
@@ -78,8 +82,8 @@ pub(crate) trait PlacedJudge {
             (tells self.now before number m) (wants self.now m) out.old out.new result };
 }
 
-/// Whether the input ends inside a word, if the source ended inside a message. The source stays as
-/// it is.
+/// Whether the input ends inside a word, if the source ended inside a message. Otherwise it is
+/// `false`. The source stays as it is.
 fn is_cut_after<S: WordSource>(source: &mut S, fault: FrameFault) -> bool
     requires { (byte : ℕ) → fault ≡ FrameFault.Truncated byte →
         (S.ended source.old ≡ true) ⊎ (S.failed source.old ≡ true) }
@@ -88,6 +92,7 @@ fn is_cut_after<S: WordSource>(source: &mut S, fault: FrameFault) -> bool
         result ≡ false }
     ensures failed { (byte : ℕ) → fault ≡ FrameFault.Truncated byte → S.failed source.old ≡ true →
         result ≡ true }
+    ensures other { ((byte : ℕ) → fault ≡ FrameFault.Truncated byte → ⊥) → result ≡ false }
 {
     match fault {
         FrameFault::Truncated { byte: _ } => match source.next() {
@@ -98,31 +103,72 @@ fn is_cut_after<S: WordSource>(source: &mut S, fault: FrameFault) -> bool
     }
 }
 
+/// What is known of a message that can't be read.
+fn break_at(settings: &Settings, start: u64, table: Option<TableSums>, is_cut: bool) -> StreamBreak
+    ensures { let s = settings.now in result ≡ record {
+      start = start;
+      packed = s.packed;
+      limit = limit_of s.size;
+      table = table;
+      is_cut = is_cut;
+    } }
+{
+    StreamBreak {
+        start,
+        packed: settings.packed,
+        limit: settings.size.words(),
+        table,
+        is_cut,
+    }
+}
+
 /// Reads the next message. If it can't be read, keeps what is known of it.
 fn read_next<S: WordSource>(
     alloc: Global,
     source: &mut S,
-    limit: SizeLimit,
+    settings: &Settings,
     room: &mut ExplainRoom,
 ) -> Result<bool, FrameFault>
     ensures read { ReadsFrame S.WordSource (λ m. held_segments room.new.message ≡ m)
-        (limit_of limit) source.old source.new result }
-    ensures at { IfErr result (λ fault.
-        BreaksAt S.WordSource (limit_of limit) source.old fault room.new.at) }
+        (limit_of settings.now.size) source.old source.new result }
+    ensures at { let s = settings.now in IfErr result (λ fault.
+        BreaksAt S.WordSource s.packed (limit_of s.size) source.old fault room.new.at) }
 {
     let start = source.position();
     let mut table = None;
-    match read_noting(alloc, source, limit, &mut room.message, &mut table) {
+    match read_noting(alloc, source, settings.size, &mut room.message, &mut table) {
         Ok(found) => Ok(found),
         Err(fault) => {
             let is_cut = is_cut_after(source, fault);
-            room.at = StreamBreak {
-                start,
-                limit: limit.words(),
-                table,
-                is_cut,
-            };
+            room.at = break_at(settings, start, table, is_cut);
             Err(fault)
+        }
+    }
+}
+
+/// Checks that the stream ends here. One more message is [`Cause::TooManyMessages`]. If it can't be
+/// read, `at` is what is known of it.
+fn end_explained<S: WordSource>(
+    source: &mut S,
+    settings: &Settings,
+    at: &mut StreamBreak,
+) -> Result<(), Cause>
+    ensures ok { OnOk result (EndsStream S.WordSource source.old source.new) }
+    ensures err { IfErr result (λ cause.
+        EndStops S.WordSource (limit_of settings.now.size) source.old source.new cause) }
+    ensures at { let s = settings.now in IfErr result (λ cause.
+        BreaksBy S.WordSource s.packed (limit_of s.size) source.old cause at.new) }
+    ensures memory { result ≡ Err (Cause.Frame FrameFault.Memory) → ⊥ }
+{
+    let start = source.position();
+    let mut table = None;
+    match read_outline_noting(source, settings.size, &mut Outline::new(), &mut table) {
+        Ok(true) => Err(Cause::TooManyMessages),
+        Ok(false) => Ok(()),
+        Err(fault) => {
+            let is_cut = is_cut_after(source, fault);
+            *at = break_at(settings, start, table, is_cut);
+            Err(Cause::Frame(fault))
         }
     }
 }
@@ -141,23 +187,23 @@ impl<J: PlacedJudge> Explainer<J> {
         room: &mut ExplainRoom,
         source: &mut S,
         out: &mut O,
-        limit: SizeLimit,
+        settings: &Settings,
         before: u64,
         number: u32,
     ) -> Result<Option<Counted>, Cause>
         requires { before < 2 ^ 61 }
         ensures some { IfOk result (λ r. IfSome r (λ counted. StepPlaces S.WordSource O.ByteOut
-            (J.tells self.now.judge before) (limit_of limit) number source.old source.new
-            out.old out.new counted room.new.words)) }
+            (J.tells self.now.judge before) (limit_of settings.now.size) number
+            source.old source.new out.old out.new counted room.new.words)) }
         ensures none { result ≡ Ok None →
             EndsStream S.WordSource source.old source.new × (out.new ≡ out.old) }
         ensures err { IfErr result (λ cause. StepStops S.WordSource O.ByteOut
-            (J.tells self.now.judge before) (J.wants self.now.judge) (limit_of limit) number
-            source.old source.new out.old out.new cause) }
-        ensures at { IfErr result (λ cause.
-            BreaksBy S.WordSource (limit_of limit) source.old cause room.new.at) }
+            (J.tells self.now.judge before) (J.wants self.now.judge) (limit_of settings.now.size)
+            number source.old source.new out.old out.new cause) }
+        ensures at { let s = settings.now in IfErr result (λ cause.
+            BreaksBy S.WordSource s.packed (limit_of s.size) source.old cause room.new.at) }
     {
-        match read_next(self.alloc, source, limit, room) {
+        match read_next(self.alloc, source, settings, room) {
             Ok(true) => {
                 let message = room.message.view();
                 room.words = frame_words(&message);
@@ -170,26 +216,6 @@ impl<J: PlacedJudge> Explainer<J> {
                 }
             }
             Ok(false) => Ok(None),
-            Err(fault) => Err(Cause::Frame(fault)),
-        }
-    }
-
-    /// Checks that the stream ends here. One more message is [`Cause::TooManyMessages`].
-    fn end<S: WordSource>(
-        &self,
-        room: &mut ExplainRoom,
-        source: &mut S,
-        limit: SizeLimit,
-    ) -> Result<(), Cause>
-        ensures ok { OnOk result (EndsStream S.WordSource source.old source.new) }
-        ensures err { IfErr result (λ cause.
-            EndStops S.WordSource (limit_of limit) source.old source.new cause) }
-        ensures at { IfErr result (λ cause.
-            BreaksBy S.WordSource (limit_of limit) source.old cause room.new.at) }
-    {
-        match read_next(self.alloc, source, limit, room) {
-            Ok(true) => Err(Cause::TooManyMessages),
-            Ok(false) => Ok(()),
             Err(fault) => Err(Cause::Frame(fault)),
         }
     }
@@ -207,7 +233,8 @@ impl<J: PlacedJudge> Explainer<J> {
         ensures err { let s = settings.now in PlacedEarly S.WordSource O.ByteOut
             (J.tells self.now.judge) (limit_of s.size) s.messages
             source.old source.new out.old out.new (J.wants self.now.judge) (run_answer result) }
-        ensures broken { BreaksOff S.WordSource (limit_of settings.now.size) source.old result }
+        ensures broken { let s = settings.now in
+            BreaksOff S.WordSource s.packed (limit_of s.size) source.old result }
     {
         let mut outcome = Outcome {
             messages: 0,
@@ -218,7 +245,7 @@ impl<J: PlacedJudge> Explainer<J> {
         let mut ahead = [0; AHEAD];
         let mut before = 0;
         for number in 0..settings.messages {
-            match self.tell_next(&mut room, source, out, settings.size, before, number) {
+            match self.tell_next(&mut room, source, out, settings, before, number) {
                 Ok(Some(counted)) => {
                     let waits = waits_for_message(source, settings, &mut ahead);
                     match flush_output(out, waits) {
@@ -233,7 +260,7 @@ impl<J: PlacedJudge> Explainer<J> {
                 Err(cause) => return Err(stopped_at(number, cause, room.at)),
             }
         }
-        match self.end(&mut room, source, settings.size) {
+        match end_explained(source, settings, &mut room.at) {
             Ok(()) => Ok(outcome),
             Err(cause) => Err(stopped_at(settings.messages, cause, room.at)),
         }
@@ -260,7 +287,8 @@ pub(crate) fn explain_all<S: Peek, O: ByteOut, J: PlacedJudge + Drop>(
     judge: J,
 ) -> Result<Outcome, ExplainedFault>
     ensures { let s = settings.now in ExplainsStream S.WordSource O.ByteOut (J.tells judge)
-        (J.wants judge) (limit_of s.size) s.messages source.old source.new out.old out.new result }
+        (J.wants judge) s.packed (limit_of s.size) s.messages
+        source.old source.new out.old out.new result }
 {
     Explainer { alloc, judge }.tell_each(source, out, settings)
 }

@@ -4,5 +4,5 @@ use Rattle.cap_explain.proofs.lines.push_words_line.Goals as goal
 
 pub returns-clause-items : goal.returns-clause-items
 returns-clause-items c =
-    then c.args.text.now c.push_named.new.self c.push_text.new.self (codes "  limit charge, at most " ++ decimal c.args.words) (10 ∷ [])
+    then c.args.text.now c.push_named.new.self c.push_text.new.self (codes "  charge, limit " ++ decimal c.args.words) (10 ∷ [])
     c.push_named.ensures.items c.push_text.ensures

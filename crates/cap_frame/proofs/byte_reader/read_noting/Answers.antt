@@ -15,5 +15,5 @@ returns-in-Err-clause-read g c = no_frame g.S.WordSource (Err c.in-Err.fault) (�
 
 pub returns-in-Err-clause-table : goal.returns-in-Err-clause-table
 returns-in-Err-clause-table g c =
-    left_sums (g.S.WordSource.words c.args.source.now) c.in-Err.fault c.read_parts.new.sizes.items c.sums_of.result
-    (c.sums_of.ensures ∙ rw c.deref-in-Err.ensures.0 refl) c.in-Err.ensures.left
+    left_sums (g.S.WordSource.words c.args.source.now) c.in-Err.fault c.read_parts.new.sizes.items c.sums_after.result
+    (c.sums_after.ensures ∙ rw c.deref-in-Err.ensures.0 refl) c.in-Err.ensures.left

@@ -12,7 +12,7 @@ returns g c =
     let words = words_of s.limits in
     let depth = depth_of s.limits in
     record {
-      told = placed_wants g.S.WordSource g.O.ByteOut (TellsExplainedUnder c.args.demands words depth) (limit_of s.size) s.messages
+      told = placed_wants g.S.WordSource g.O.ByteOut (TellsExplainedUnder s.packed c.args.demands words depth) (limit_of s.size) s.messages
           c.args.source.now c.explain_all.new.source c.args.out.now c.explain_all.new.out
           (WantsUnder c.args.demands (λ w d. WantsNone) words depth) WantsNone (λ m w. absurd w.1)
           (run_answer c.explain_all.result) c.explain_all.ensures.told;

@@ -7,18 +7,21 @@ use Rattle.cap_run.proofs.engines.explaining.read_next.Goals as goal
 
 pub is_cut_after-is_cut-requires : goal.is_cut_after-is_cut-requires
 is_cut_after-is_cut-requires g c =
-    over_after g.S.WordSource (limit_of c.args.limit) c.args.source.now c.read_noting.new.source c.in-Err.fault c.in-Err.ensures.read.next.err
+    over_after g.S.WordSource (limit_of c.args.settings.now.size) c.args.source.now c.read_noting.new.source c.in-Err.fault c.in-Err.ensures.read.next.err
 
 pub returns-in-Err-clause-read : goal.returns-in-Err-clause-read
 returns-in-Err-clause-read g c =
-    subst (λ new. ReadsFrame g.S.WordSource (λ m. held_segments c.read_noting.new.message ≡ m) (limit_of c.args.limit)
+    subst (λ new. ReadsFrame g.S.WordSource (λ m. held_segments c.read_noting.new.message ≡ m) (limit_of c.args.settings.now.size)
     c.args.source.now new (Err c.in-Err.fault)) (sym c.is_cut_after-is_cut.ensures.same) c.in-Err.ensures.read
 
 pub returns-in-Err-clause-at : goal.returns-in-Err-clause-at
-returns-in-Err-clause-at g c = record {
-  start = c.position-start.ensures;
-  limit_is = c.words.ensures.words;
-  table = c.in-Err.ensures.table;
-  cut = cut_after g.S.WordSource (limit_of c.args.limit) c.args.source.now c.read_noting.new.source c.in-Err.fault c.is_cut_after-is_cut.result
-      c.in-Err.ensures.read.next.err c.is_cut_after-is_cut.ensures.ended c.is_cut_after-is_cut.ensures.failed;
-}
+returns-in-Err-clause-at g c =
+    let cut = c.is_cut_after-is_cut.ensures in
+    rw c.break_at-room.ensures (record {
+      start = c.position-start.ensures;
+      packed_is = refl;
+      limit_is = refl;
+      table = c.in-Err.ensures.table;
+      cut = cut_after g.S.WordSource (limit_of c.args.settings.now.size) c.args.source.now c.read_noting.new.source c.in-Err.fault
+          c.is_cut_after-is_cut.result c.in-Err.ensures.read.next.err cut.ended cut.failed cut.other;
+    })

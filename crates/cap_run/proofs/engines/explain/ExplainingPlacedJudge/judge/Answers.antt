@@ -1,8 +1,9 @@
-use Rattle.cap_spec.proofs.ProofNames.{List, Some, ap, inl, inr, refl, subst, ℕ, ◌*◌, ◌++◌, ◌∙◌, ◌≡◌, strict_verdict, vet_text, Tree}
+use Rattle.cap_spec.proofs.ProofNames.{List, Some, ap, inl, inr, refl, subst, ℕ, ◌++◌, ◌∙◌, ◌≡◌, strict_verdict, vet_text, Tree}
 use Rattle.cap_vet.specs.VetNames.{words_under, depth_of, words_of, IsReport, report_of}
 use Rattle.cap_explain.specs.Explaining.{explanation}
 use Rattle.cap_trace.specs.NamedPaths.{fault_path}
-use Rattle.cap_run.specs.Explained.{fault_numbers}
+use Rattle.cap_explain.specs.declared.numbers.MessageStart.{MessageStart}
+use Rattle.cap_run.specs.Explained.{fault_numbers, start_after}
 use Rattle.cap_run.specs.RunNames.{WantsUnder, OrFaultLines, WritesOneOf}
 use Rattle.cap_run.specs.declared.engines.stream.Counted.TheVariants.{Refused}
 use Rattle.cap_run.proofs.Explaining.{same_numbers}
@@ -23,7 +24,7 @@ returns-in-Ok g c =
     c.args.out.now c.tell.new.out c.tell.result)
     (ap g.M.Segments.segments c.in-Ok.ensures.message) c.tell.ensures in
     writes_as g.O.ByteOut (g.T.PlacedTeller.tells v.teller c.args.before words depth c.args.number m)
-    (OrFaultLines v.demands (g.T.PlacedTeller.tells v.teller) (words_of v.limits) depth c.args.before c.args.number m)
+    (OrFaultLines v.packed v.demands (g.T.PlacedTeller.tells v.teller) (words_of v.limits) depth c.args.before c.args.number m)
     (g.T.PlacedTeller.wants v.teller words depth m)
     (WantsUnder v.demands (g.T.PlacedTeller.wants v.teller) (words_of v.limits) depth m)
     c.args.out.now c.tell.new.out c.tell.result (λ text counted e. inl (met.1.strict, e)) (λ w. (met.1.strict, w))
@@ -41,12 +42,12 @@ returns-in-Err g c =
     let path : c.find_refused.new.self ≡ fault_path v.demands m words depth refusal is_fault =
     c.find_refused.ensures v.demands words is_fault in
     let within = c.limits_under-limits.ensures in
-    let numbers : c.numbers_of-numbers.result ≡ fault_numbers v.demands m words depth refusal is_fault (Some (8 * c.args.before)) =
-    same_numbers v.demands m words depth refusal is_fault (Some (8 * c.args.before)) c.limits_under-limits.result c.numbers_of-numbers.result
+    let numbers : c.numbers_of-numbers.result ≡ fault_numbers v.demands m words depth refusal is_fault (Some (start_after v.packed c.args.before)) =
+    same_numbers v.demands m words depth refusal is_fault (Some (start_after v.packed c.args.before)) c.limits_under-limits.result c.numbers_of-numbers.result
     within.words within.depth c.numbers_of-numbers.ensures.words c.numbers_of-numbers.ensures.depth c.numbers_of-numbers.ensures.charge
-    c.numbers_of-numbers.ensures.start in
+    (c.numbers_of-numbers.ensures.start ∙ ap (λ (s : MessageStart). Some s) c.start_after-start.ensures) in
     writes_text g.O.ByteOut (line ++ explanation c.find_refused.new.self m refusal c.numbers_of-numbers.result) Refused
-    (OrFaultLines v.demands (g.T.PlacedTeller.tells v.teller) words depth c.args.before c.args.number m)
+    (OrFaultLines v.packed v.demands (g.T.PlacedTeller.tells v.teller) words depth c.args.before c.args.number m)
     (WantsUnder v.demands (g.T.PlacedTeller.wants v.teller) words depth m)
     c.args.out.now c.write_refusal-written.new.out c.write_refusal-written.result c.after_text.result
     (inr (record {

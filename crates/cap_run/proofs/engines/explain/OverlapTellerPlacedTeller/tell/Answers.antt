@@ -1,4 +1,4 @@
-use Rattle.cap_spec.proofs.ProofNames.{Some, ap, codes, inl, inr, refl, subst, sym, ◌*◌, ◌++◌, ◌∙◌, ◌≡◌, IsWithin, most_depth}
+use Rattle.cap_spec.proofs.ProofNames.{Some, ap, codes, inl, inr, refl, subst, sym, ◌++◌, ◌∙◌, ◌≡◌, IsWithin, most_depth}
 use Rattle.cap_spec.proofs.ProofNames.{most_words, refused, vet_text}
 use Rattle.cap_vet.specs.Vettings.{message_of, report_of}
 use Rattle.cap_explain.specs.Explaining.{overlap_explanation}
@@ -14,7 +14,7 @@ pub returns-in-Ok : goal.returns-in-Ok
 returns-in-Ok g c = λ words depth t h.
     let m = g.M.Segments.segments (message_of c.args.vetted.now) in
     let n = c.args.number in
-    writes_text g.O.ByteOut (accepted_text n c.report.result) Accepted (TellsMarkedLines c.args.before words depth n m) (WantsMarks words depth m)
+    writes_text g.O.ByteOut (accepted_text n c.report.result) Accepted (TellsMarkedLines c.args.self.now.packed c.args.before words depth n m) (WantsMarks words depth m)
     c.args.out.now c.write_accepted-written.new.out c.write_accepted-written.result c.after_text.result
     (inl (
       c.in-Ok.ensures.ok,
@@ -37,8 +37,8 @@ returns-in-Err-Overlap g c = λ words depth t h.
     (subst (IsWithin seen most_words) (sym c.greatest_limits.ensures)
     (accepted_within seen most_words most_depth _ c.message-message.ensures.accepted)) f)
     is_first in
-    writes_text g.O.ByteOut (line ++ overlap_explanation c.find.new.self seen (Some (8 * c.args.before)) refusal.segment refusal.word)
-    Refused (TellsMarkedLines c.args.before words depth n m) (WantsMarks words depth m)
+    writes_text g.O.ByteOut (line ++ overlap_explanation c.find.new.self seen (Some c.start_after-start.result) refusal.segment refusal.word)
+    Refused (TellsMarkedLines c.args.self.now.packed c.args.before words depth n m) (WantsMarks words depth m)
     c.args.out.now c.write_overlap_lines-written.new.out c.write_overlap_lines-written.result c.after_text-in-Err-Overlap.result
     (inr (record {
       report = report_of c.args.vetted.now;
@@ -47,8 +47,10 @@ returns-in-Err-Overlap g c = λ words depth t h.
       word = refusal.word;
       pointers = refusal.pointers;
       is_first = is_first;
-      lines = ap (λ message. line ++ overlap_explanation c.find.new.self (g.M.Segments.segments message) (Some (8 * c.args.before)) refusal.segment refusal.word) c.message-message.ensures.value
-          ∙ ap (λ p. line ++ overlap_explanation p m (Some (8 * c.args.before)) refusal.segment refusal.word) path;
+      lines = ap (λ message. line ++ overlap_explanation c.find.new.self (g.M.Segments.segments message) (Some c.start_after-start.result)
+          refusal.segment refusal.word) c.message-message.ensures.value
+          ∙ (ap (λ p. line ++ overlap_explanation p m (Some c.start_after-start.result) refusal.segment refusal.word) path
+          ∙ ap (λ s. line ++ overlap_explanation (Some is_first.path) m (Some s) refusal.segment refusal.word) c.start_after-start.ensures);
       counts = refl;
     }))
     c.write_overlap_lines-written.ensures c.after_text-in-Err-Overlap.ensures

@@ -15,11 +15,11 @@ returns-in-Ok-clause-some g c =
       record { message = _; text = told.0; counted = c.in-Ok.counted },
       refl,
       told.1,
-      reads_named g.S.WordSource (limit_of c.args.limit) c.args.source.now c.read_next.new.source
+      reads_named g.S.WordSource (limit_of c.args.settings.now.size) c.args.source.now c.read_next.new.source
           _ r c.in-Ok-true.ensures.read.next.works,
       told.2,
       words,
-      rw words (frame_small g.S.WordSource (limit_of c.args.limit) c.args.source.now c.read_next.new.source _ r c.args.limit.within),
+      rw words (frame_small g.S.WordSource (limit_of c.args.settings.now.size) c.args.source.now c.read_next.new.source _ r c.args.settings.now.size.within),
     )
 
 pub returns-in-Err-judge-clause-err : goal.returns-in-Err-judge-clause-err
@@ -28,9 +28,9 @@ returns-in-Err-judge-clause-err g c =
     let tells = g.J.PlacedJudge.tells c.args.self.now.judge c.args.before in
     let wants = g.J.PlacedJudge.wants c.args.self.now.judge in
     step_stops g.S.WordSource g.O.ByteOut tells wants
-    (limit_of c.args.limit) c.args.number _ c.args.source.now c.read_next.new.source
+    (limit_of c.args.settings.now.size) c.args.number _ c.args.source.now c.read_next.new.source
     c.args.out.now c.judge.new.out c.in-Err-judge.cause
-    (reads_named g.S.WordSource (limit_of c.args.limit) c.args.source.now c.read_next.new.source
+    (reads_named g.S.WordSource (limit_of c.args.settings.now.size) c.args.source.now c.read_next.new.source
     _ r c.in-Ok-true.ensures.read.next.works)
     (subst (λ (m : List (List ℕ)). WritesOneOf g.O.ByteOut (tells c.args.number m) (wants m)
     c.args.out.now c.judge.new.out (Err c.in-Err-judge.cause)) c.view-message.ensures c.in-Err-judge.ensures)
@@ -43,5 +43,5 @@ returns-in-Ok-false-clause-err g c = tt
 
 pub returns-in-Err-judge-clause-at : goal.returns-in-Err-judge-clause-at
 returns-in-Err-judge-clause-at g c =
-    read_breaks g.S.WordSource g.O.ByteOut _ _ c.args.out.now c.judge.new.out (limit_of c.args.limit) c.args.source.now
+    read_breaks g.S.WordSource g.O.ByteOut _ _ c.args.out.now c.judge.new.out c.args.settings.now.packed (limit_of c.args.settings.now.size) c.args.source.now
     c.in-Err-judge.cause c.read_next.new.room.at c.in-Err-judge.ensures
