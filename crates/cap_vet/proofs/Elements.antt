@@ -2,7 +2,7 @@
 use Rattle.cap_spec.proofs.Lemmas.{one_found, structs_found}
 use Rattle.cap_spec.proofs.ProofNames.{List, [], append_assoc, arith, inl, inr, refl, subst, suc, sym, zero, ℕ, ◌*◌, ◌++◌}
 use Rattle.cap_spec.proofs.ProofNames.{◌+◌, ◌<◌, ◌∙◌, ◌∷◌, ◌≡◌, Finds, element_levels, HasWord, PathLeads, Reaches, Spot}
-use Rattle.cap_spec.proofs.ProofNames.{StepsTo, element, word, code, data_size, kind, middle, pointer_size, rules}
+use Rattle.cap_spec.proofs.ProofNames.{StepsTo, element, word, code, data_size, kind, middle, pointer_size}
 use Rattle.cap_vet.specs.VetNames.{Step, Item, Ptr, Ahead, Apart, AreReached, EachApart, GoOnFrom, IsUnder, element_rows}
 use Rattle.cap_vet.specs.VetNames.{row}
 use Rattle.cap_vet.proofs.Apart.{Apart-left, Apart-right, Apart-steps}
@@ -77,7 +77,11 @@ reached-at : (m : List (List ℕ)) (level t : ℕ) (p p' : List Step) (w w' : �
 reached-at m level t p p' w w' e f h = subst (λ u. Reaches m u level t w') e (subst (λ u. Reaches m p level t u) f h)
 
 first_pointer : (base : List Step) (i j : ℕ) → base ++ Item (i + 0) ∷ Ptr j ∷ [] ≡ (base ++ Item i ∷ []) ++ Ptr (0 + j) ∷ []
-first_pointer base i j = search (rules, append_assoc)
+first_pointer base i j =
+    let e : i + 0 ≡ i = omega arith in
+    let f : 0 + j ≡ j = omega arith in
+    let g : (base ++ Item i ∷ []) ++ Ptr (0 + j) ∷ [] ≡ base ++ Item i ∷ Ptr (0 + j) ∷ [] = append_assoc base (Item i ∷ []) (Ptr (0 + j) ∷ []) in
+    cc
 
 later_pointer : (base : List Step) (i e j : ℕ) → base ++ Item (i + suc e) ∷ Ptr j ∷ [] ≡ base ++ Item ((i + 1) + e) ∷ Ptr j ∷ []
 later_pointer base i e j = let f : i + suc e ≡ (i + 1) + e = omega arith in cc
