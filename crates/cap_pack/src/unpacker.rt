@@ -172,7 +172,8 @@ impl<I: ByteIn> WordSource for Unpacker<I> {
         done.written
     }
 
-    // What is left of a run of words as they are.
+    // What is left of a run of words as they are. Inlined, since a stream may be of small messages.
+    #[inline(always)]
     fn append(&mut self, out: &mut Vec<u8>, most: usize) -> usize {
         // For the proof alone: the range of this number.
         let _read = self.bytes.read;
