@@ -8,6 +8,9 @@ the words of the message alone. Messages of a fixed seed are changed or made up:
 goes through the program once with one of the lines of OPTIONS. Each reason has to be among the refusals, as often as LEAST says
 for 6,000 messages.
 
+As many messages in which most pointers lead to words of one another go through the program with --exclusive. The
+first pointer that uses a word of an overlap is found here by its definition, from the words that each pointer uses.
+
 Streams that break off go through the program too, plain and packed, a fifth as many. Its lines on their ends are compared
 with what this script finds in their bytes.
 
@@ -27,7 +30,7 @@ import model
 from amount import cases
 from calls import CHECKS, compiled
 from harness import ARCHIVE, PROGRAM, compare, ended, expect, framed, outputs, over_file
-from made import changed, made_up, samples
+from made import changed, made_up, samples, shared
 from needs import missing
 from packing import packed
 from trees import bits, offset
@@ -222,6 +225,15 @@ def elements_line(message, segment, at):
     return f"elements need words {needed}, list has words {bits(shape, 35, 29)}"
 
 
+def earlier_lines(message, number):
+    """The line of the first pointer that uses a word which the pointer of this number uses too, if there is one."""
+    steps = model.vetted(message, 1 << 28, 256).steps
+    for count, ((segment, at), found) in enumerate(steps[:number - 1], 1):
+        if set(found.used) & set(steps[number - 1][1].used):
+            yield f"first used by {path_to(message, count)} at {segment}:{at}"
+            return
+
+
 def explanation(message, reason, segment, at, pointers, words, depth, start):
     if reason not in ("NoRoot", "ManySegments"):
         yield f"path {path_to(message, pointers)}"
@@ -233,6 +245,8 @@ def explanation(message, reason, segment, at, pointers, words, depth, start):
     if reason == "WordLimit":
         yield f"charge {charge_to(message, pointers)}, limit {words}"
     yield f"reason {sentence(message, reason, segment, at)}"
+    if reason == "Overlap":
+        yield from earlier_lines(message, pointers)
 
 
 def lines_of(number, message, options, start):
@@ -341,6 +355,16 @@ def compare_lines(options, stream, first, seen):
         compare(f"capvet explain {options}, {frame.hex()[:400]}", "\n".join(lines) + "\n", text)
     compare(f"the status with {options}", int(reasons.total() > reasons["accepted"]), status)
     seen += reasons
+
+
+def compare_overlaps(many):
+    """Runs of the program over messages in which most pointers lead to words of one another."""
+    chance, seen = random.Random("overlaps"), Counter()
+    stream = [shared(chance) for _ in range(many)]
+    for at in range(0, many, RUN):
+        compare_lines("--exclusive", stream[at:at + RUN], at, seen)
+    print(f"overlaps: {seen['Overlap']} among {many} messages, {seen['accepted']} accepted")
+    expect("overlaps among these messages", 2 * seen["Overlap"] >= many, seen)
 
 
 # Streams that break off
@@ -492,6 +516,7 @@ def main():
     seen, stream = Counter(), list(messages())
     for at in range(0, len(stream), RUN):
         compare_lines(OPTIONS[at // RUN % len(OPTIONS)], stream[at:at + RUN], at, seen)
+    compare_overlaps(MANY)
     explained_in_c(stream)
     compare_breaks(stream, MANY // 5)
     for reason, least in LEAST.items():

@@ -42,12 +42,40 @@ def changed(message, chance):
     return bytes(message)
 
 
+def table_of(sizes):
+    """The table of a message of segments of these sizes."""
+    numbers = [len(sizes) - 1, *sizes]
+    numbers += [0] * (len(numbers) % 2)
+    return struct.pack(f"<{len(numbers)}I", *numbers)
+
+
 def made_up(chance):
     """A message of few words, which are small numbers in the places of pointers."""
     sizes = [chance.randrange(0, 5) for _ in range(chance.choice((1, 1, 2, 3)))]
-    numbers = [len(sizes) - 1, *sizes]
-    numbers += [0] * (len(numbers) % 2)
     words = b"".join(
         struct.pack("<IHH", (chance.randrange(4) | chance.randrange(-2, 5) * 4) & 0xFFFFFFFF, chance.randrange(3),
                     chance.randrange(3)) for _ in range(sum(sizes)))
-    return struct.pack(f"<{len(numbers)}I", *numbers) + words
+    return table_of(sizes) + words
+
+
+def forward_word(chance, at, size, number, count):
+    """A word of a segment that leads only to later words of it, or to a landing pad in the next segment."""
+    kind, skip = chance.randrange(8), chance.randrange(min(size - at - 1, 3) + 1)
+    left = size - at - 1 - skip
+    if kind == 0 and chance.random() < 0.5:
+        return 0
+    if kind < 3 and number + 1 < count:
+        return 2 | chance.randrange(4) << 3 | number + 1 << 32
+    if kind < 5:
+        return 1 | skip << 2 | chance.choice((5, 6)) << 32 | chance.randrange(min(left, 3) + 1) << 35
+    data = chance.randrange(min(left, 2) + 1)
+    return skip << 2 | data << 32 | chance.randrange(min(left - data, 2) + 1) << 48
+
+
+def shared(chance):
+    """A message in which most pointers lead to words of one another."""
+    count = chance.choice((1, 1, 2, 3))
+    sizes = [chance.randrange(4, 14) for _ in range(count)]
+    words = [[forward_word(chance, at, size, number, count) for at in range(size)] for number, size in enumerate(sizes)]
+    words[0][0] = chance.randrange(2, 4) << 48
+    return table_of(sizes) + b"".join(struct.pack(f"<{len(segment)}Q", *segment) for segment in words)

@@ -177,6 +177,16 @@ abbrev pub path_lines : Option (List Step) → List ℕ
 path_lines None = []
 path_lines (Some steps) = path_explanation steps
 
+-- the line of the first pointer that uses a word which the pointer of an overlap uses too
+abbrev pub earlier_line : List Step → ℕ → ℕ → List ℕ
+earlier_line steps s w =
+    codes "  first used by " ++ (path_text steps ++ (codes " at " ++ (place_text s w ++ 10 ∷ [])))
+
+-- the same, if there is a path that isn't too long for a line
+abbrev pub earlier_explanation : Option (List Step) → ℕ → ℕ → List ℕ
+earlier_explanation None s w = []
+earlier_explanation (Some steps) s w = if nat_lt 257 (length steps) then [] else earlier_line steps s w
+
 -- the lines on a message that is refused
 abbrev pub refusal_lines : List (List ℕ) → StrictRefusal → Numbers → List ℕ
 refusal_lines m (refused r) k = lines_of m (Refused r.reason) r.segment r.word k

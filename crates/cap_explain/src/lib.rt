@@ -3,6 +3,7 @@
 #![tactic(auto)]
 
 mod charge;
+mod earlier;
 mod explaining;
 mod explanation;
 mod forms;
@@ -15,6 +16,7 @@ mod target;
 mod words;
 
 pub use charge::refusal_charge;
+pub use earlier::explain_earlier;
 pub use explaining::{explain, explain_overlap};
 pub use explanation::Explanation;
 pub use numbers::{MessageStart, Numbers};

@@ -10,7 +10,7 @@ use crate::explanation::{CAPACITY, DIGITS, Explanation, FEW_DIGITS};
 use cap_spec::Step;
 
 /// The most steps of a path that has a line.
-const STEPS: usize = 257;
+pub(crate) const STEPS: usize = 257;
 
 /// The space for the text of one step.
 const STEP: usize = FEW_DIGITS + 2;
@@ -45,7 +45,7 @@ fn push_steps(text: &mut Explanation, steps: &[Step])
 }
 
 /// Appends the text of a path.
-fn push_path(text: &mut Explanation, steps: &[Step])
+pub(crate) fn push_path(text: &mut Explanation, steps: &[Step])
     requires { length text.old + 1 + STEP * length steps.now + DIGITS ≤ CAPACITY }
     ensures items { text.new ≡ text.old ++ path_text steps.now }
     ensures few { length text.new ≤ length text.old + 1 + STEP * length steps.now }

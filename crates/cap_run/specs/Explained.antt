@@ -1,16 +1,19 @@
 -- What may be written of a message whose refusal is explained (profile).
-use Rattle.std.specs.Prelude.{Bool, List, Option, Some, codes, ℕ, ◌*◌, ◌++◌, ◌≡◌, ◌⊎◌}
+use Rattle.std.specs.Prelude.{Bool, List, None, Option, Some, [], codes, ℕ, ◌*◌, ◌++◌, ◌≡◌, ◌⊎◌}
 use Rattle.cap_spec.specs.SpecNames.{IsDisjoint, IsFirstOverlap, refused, strict_verdict, vet_text}
+use Rattle.cap_spec.specs.declared.Step.{Step}
 use Rattle.cap_spec.specs.declared.StrictRefusal.{StrictRefusal}
 use Rattle.cap_vet.specs.VetNames.{IsDemandFault, words_under, depth_of, words_of, IsAccepted}
 use Rattle.cap_vet.specs.declared.demands.Demands.{Demands}
 use Rattle.cap_vet.specs.declared.limits.Limits.{Limits}
 use Rattle.cap_vet.specs.declared.report.Report.{Report}
 use Rattle.cap_explain.specs.Charges.{fault_charge}
-use Rattle.cap_explain.specs.Explaining.{explanation, overlap_explanation}
+use Rattle.cap_explain.specs.Explaining.{earlier_explanation, explanation, overlap_explanation}
 use Rattle.cap_explain.specs.declared.numbers.MessageStart.{MessageStart}
 use Rattle.cap_explain.specs.declared.numbers.Numbers.{Numbers}
+use Rattle.cap_trace.specs.EarlierPointers.{IsEarlierOf, earlier_path}
 use Rattle.cap_trace.specs.NamedPaths.{fault_path}
+use Rattle.cap_trace.specs.declared.earlier.EarlierPointer.{EarlierPointer}
 use Rattle.cap_run.specs.Demanding.{IsStrictUnder}
 use Rattle.cap_run.specs.Placed.{PlacedTells}
 use Rattle.cap_run.specs.Telling.{Tells}
@@ -56,6 +59,21 @@ abbrev pub OrFaultLinesIn : Bool → Demands → (ℕ → ℕ → ℕ → Tells)
 OrFaultLinesIn packed demands tells limits =
     OrFaultLines packed demands tells (words_of limits) (depth_of limits)
 
+-- the line of the first pointer that uses a word which an overlap's pointer uses too, if there is one
+abbrev pub earlier_lines : Option (List Step) → Option EarlierPointer → List ℕ
+earlier_lines path None = []
+earlier_lines path (Some e) = earlier_explanation path e.segment e.word
+
+-- The line of message n, which begins there in the input, if this is the first pointer that
+-- overlaps: the lines that explain it, and that of the first pointer that uses such a word.
+abbrev pub IsOverlapText : (m : List (List ℕ)) (n : ℕ) (start : Option MessageStart) {s w pointers : ℕ}
+    → IsFirstOverlap m s w pointers → List ℕ → Type 0
+IsOverlapText m n start {s} {w} {pointers} f text =
+    (earlier : Option EarlierPointer) × (h : IsEarlierOf m f.path earlier)
+    × (text ≡ (vet_text n (refused (codes "Overlap") s w pointers)
+    ++ overlap_explanation (Some f.path) m start s w)
+    ++ earlier_lines (earlier_path m f.path earlier h) earlier)
+
 -- The line of a message that is accepted and uses some word twice, with the first pointer that
 -- overlaps, and the lines that explain it.
 pub record TellsOverlapLines (packed : Bool) (before words depth n : ℕ) (m : List (List ℕ)) (text : List ℕ)
@@ -66,8 +84,7 @@ pub record TellsOverlapLines (packed : Bool) (before words depth n : ℕ) (m : L
   pub word : ℕ
   pub pointers : ℕ
   pub is_first : IsFirstOverlap m segment word pointers
-  pub lines : text ≡ vet_text n (refused (codes "Overlap") segment word pointers)
-      ++ overlap_explanation (Some is_first.path) m (Some (start_after packed before)) segment word
+  pub lines : IsOverlapText m n (Some (start_after packed before)) is_first text
   pub counts : counted ≡ Refused
 
 -- the text of a message that is accepted: it uses no word twice, or the first overlap is explained

@@ -85,7 +85,7 @@ came_next m depth n fs gs f g h passes t branches = record {
     passed q level s w r (inr b) = h.passable q b level s w r
 
 -- The path to where it is has the number that it has come to.
-numbered_here : (m : List (List ℕ)) (depth n : ℕ) (fs : List Branch) (f : Branch) → HasCome m depth n fs f
+pub numbered_here : (m : List (List ℕ)) (depth n : ℕ) (fs : List Branch) (f : Branch) → HasCome m depth n fs f
     → IsNumbered m (path_of (fs ++ f ∷ [])) f.segment f.at n
 numbered_here m depth n fs f h =
     record { level = f.level; tour = h.tour; reached = h.trail.ahead_reached.0; is_tour = h.is_tour; count = h.number }

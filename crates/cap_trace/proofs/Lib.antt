@@ -1,10 +1,12 @@
 mod Branches
 mod Coming
+mod Common
 pub mod Filling
-pub mod Numbering
 pub mod Named
 mod Nulls
+pub mod Numbering
 mod Objects
 mod Onward
 mod RowBranches
+pub mod Sharing
 mod Traceable

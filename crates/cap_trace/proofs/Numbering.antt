@@ -7,7 +7,7 @@ use Rattle.cap_spec.proofs.ProofNames.{◌∷◌, ◌≡◌, ◌≤◌, ◌⊎�
 use Rattle.cap_spec.proofs.Verdicts.OneFault.{one_of_last}
 
 -- A rising list of some of the paths of another isn't longer than that.
-rises_fewer : (ps qs : List (List Step)) → Rises ps → Rises qs → ((x : List Step) → IsOneOf x ps → IsOneOf x qs)
+pub rises_fewer : (ps qs : List (List Step)) → Rises ps → Rises qs → ((x : List Step) → IsOneOf x ps → IsOneOf x qs)
     → length ps ≤ length qs
 rises_fewer [] qs h k f = omega arith
 rises_fewer (p ∷ ps) [] h k f = absurd (f p (inl refl))

@@ -1,14 +1,18 @@
-//! The path of a pointer word of a message, by the word's number in preorder.
+//! The path of a pointer word of a message, by the word's number in preorder, and the first pointer that
+//! uses a word of its object.
 #![tactic(auto)]
 
 mod below;
 mod branch;
+mod earlier;
 mod lists;
 mod naming;
 mod near;
 mod row;
 mod seeking;
 mod tracing;
+mod used_words;
 
+pub use earlier::{EarlierPointer, earlier_pointer};
 pub use naming::NamedPath;
 pub use tracing::path_of_pointer;

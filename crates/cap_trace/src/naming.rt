@@ -3,6 +3,7 @@
 ghost use Rattle.cap_trace.specs.NamedPaths.{pointer_number};
 ghost use Rattle.std.specs.Prelude.{◌≡◌};
 
+use crate::earlier::{EarlierPointer, earlier_pointer};
 use crate::tracing::path_of_pointer;
 use cap_frame::Segments;
 use cap_spec::{Step, StrictRefusal};
@@ -39,12 +40,16 @@ impl NamedPath {
     ghost use Rattle.cap_spec.specs.Strict.{IsFirstLax};
     ghost use Rattle.cap_spec.specs.declared.Lax.{Lax};
     ghost use Rattle.cap_spec.specs.declared.Refusal.{Refusal};
+    ghost use Rattle.cap_spec.specs.declared.Step.{Step};
+    ghost use Rattle.cap_trace.specs.EarlierPointers.{FindsEarlier};
     ghost use Rattle.cap_trace.specs.NamedPaths.{IsTraced, fault_path};
+    ghost use Rattle.cap_trace.specs.PointerNumbers.{IsTraceable};
+    ghost use Rattle.cap_trace.specs.Traces.{IsMissing};
     ghost use Rattle.cap_vet.specs.Demands.{IsDemandFault};
     ghost use Rattle.cap_vet.specs.Limits.{depth_of};
     ghost use Rattle.cap_vet.specs.declared.demands.Demands.{Demands};
     ghost use Rattle.std.specs.Option.{option_map};
-    ghost use Rattle.std.specs.Prelude.{◌≡◌, None, Some, ℕ};
+    ghost use Rattle.std.specs.Prelude.{◌≡◌, List, None, Some, ℕ};
 
     /// No path. Allocates nothing.
     #[inline(always)]
@@ -82,6 +87,34 @@ impl NamedPath {
     {
         let count = path_of_pointer(message, limits, number, &mut self.steps);
         self.count = count;
+    }
+
+    /// Finds the first pointer that uses a word which the pointer word of this number uses too, as
+    /// [`earlier_pointer`] does, and the path to it. There is no path if there is no such pointer.
+    pub fn find_earlier<M: Segments>(
+        &mut self,
+        message: &M,
+        limits: Limits,
+        number: u64,
+    ) -> Option<EarlierPointer>
+        ensures tells { let m = M.segments message.now in (path : List Step) →
+            IsTraceable m (depth_of limits) number path → FindsEarlier m path result self.new }
+        ensures missing { let m = M.segments message.now in
+            IsMissing m (depth_of limits) number → (result ≡ None) × (self.new ≡ None) }
+        ensures overlap { let m = M.segments message.now in (words s w : ℕ) →
+            IsWithin m words (depth_of limits) → (f : IsFirstOverlap m s w number) →
+            FindsEarlier m f.path result self.new }
+    {
+        match earlier_pointer(message, limits, number) {
+            Some(earlier) => {
+                self.find(message, limits, earlier.pointers);
+                Some(earlier)
+            }
+            None => {
+                self.count = None;
+                None
+            }
+        }
     }
 
     /// Finds the path to the pointer that the refusal of a message within these limits names. The word

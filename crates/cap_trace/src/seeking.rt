@@ -37,7 +37,7 @@ pub(crate) enum Sought {
 
 /// What comes of passing a pointer word.
 #[derive(Clone, Copy, Drop)]
-enum Passed {
+pub(crate) enum Passed {
     /// The search is at the next one.
     On,
     /// There is no way on.
@@ -120,9 +120,9 @@ fn pass_nulls<M: Segments>(message: &M, most: u64, last: &mut Branch) -> u64
     u64::from(count)
 }
 
-// Goes on to the next pointer word in preorder. Most words are null, or describe their objects.
+/// Goes on to the next pointer word in preorder. Most words are null, or describe their objects.
 #[inline(always)]
-fn pass<M: Segments, const N: usize>(
+pub(crate) fn pass<M: Segments, const N: usize>(
     message: &M,
     depth: u32,
     others: &mut BranchStack<N>,

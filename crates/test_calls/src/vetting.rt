@@ -2,6 +2,7 @@
 //! built program and from C.
 
 mod charges;
+mod earlier;
 mod nodes;
 mod paths;
 

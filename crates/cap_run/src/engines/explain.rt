@@ -5,16 +5,18 @@ ghost use Rattle.cap_explain.specs.Explaining.{explanation, overlap_explanation}
 ghost use Rattle.cap_frame.specs.Limit.{limit_of};
 ghost use Rattle.cap_run.specs.Demanding.{WantsIn, WantsMarksUnder};
 ghost use Rattle.cap_run.specs.Breaking.{ExplainsStream};
-ghost use Rattle.cap_run.specs.Explained.{OrFaultLinesIn, TellsExplainedExclusiveUnder, TellsExplainedUnder, TellsMarkedLines, start_after};
+ghost use Rattle.cap_run.specs.Explained.{IsOverlapText, OrFaultLinesIn, TellsExplainedExclusiveUnder, TellsExplainedUnder, TellsMarkedLines, earlier_lines, start_after};
 ghost use Rattle.cap_run.specs.Running.{WritesOneOf};
 ghost use Rattle.cap_run.specs.Telling.{WantsNone};
 ghost use Rattle.cap_run.specs.Vetting.{TellsAccepted, WantsMarks};
+ghost use Rattle.cap_spec.specs.Accepting.{IsWithin};
+ghost use Rattle.cap_spec.specs.Occupying.{IsFirstOverlap};
 ghost use Rattle.cap_spec.specs.Tree.{Tree};
 ghost use Rattle.cap_vet.specs.Reports.{IsReport};
 ghost use Rattle.cap_vet.specs.Vettings.{message_of, report_of};
 ghost use Rattle.cap_spec.specs.GreatestLimits.{most_depth};
 ghost use Rattle.cap_spec.specs.Texts.{refused, strict_verdict, vet_text};
-ghost use Rattle.cap_text.specs.Writing.{Writes};
+ghost use Rattle.cap_text.specs.Writing.{Writes, Wrote};
 ghost use Rattle.cap_vet.specs.Limits.{depth_of, words_of};
 ghost use Rattle.std.specs.Prelude.{◌++◌, ◌<◌, ◌^◌, ◌≡◌, List, codes, ℕ};
 
@@ -25,11 +27,13 @@ use crate::engines::vet::VetTeller;
 use crate::engines::whole::{Teller, after_text};
 use crate::peek::Peek;
 use crate::settings::{Outcome, Settings};
-use cap_explain::{Explanation, MessageStart, Numbers, explain, explain_overlap, refusal_charge};
+use cap_explain::{
+    Explanation, MessageStart, Numbers, explain, explain_earlier, explain_overlap, refusal_charge,
+};
 use cap_frame::Segments;
 use cap_spec::StrictRefusal;
 use cap_text::{Cause, ExplainedFault, Page, write_accepted, write_overlap, write_refused};
-use cap_trace::NamedPath;
+use cap_trace::{EarlierPointer, NamedPath};
 use cap_vet::{Demands, ExclusiveRefusal, Limits, Vetted, limits_under, vet_with};
 use cap_words::{ByteOut, OutFault};
 use std::alloc::Global;
@@ -127,6 +131,54 @@ fn write_overlap_lines<M: Segments, O: ByteOut>(
     }
 }
 
+/// Writes the line of the first pointer that uses a word which the pointer of an overlap uses too, if
+/// there is such a pointer. `path` is the path to it. Other text is before the line.
+fn write_earlier<O: ByteOut>(
+    out: &mut O,
+    earlier: Option<EarlierPointer>,
+    path: &NamedPath,
+) -> Result<(), OutFault>
+    ensures { (before : O) (text : List ℕ) → Wrote O.ByteOut before out.old text →
+        Writes O.ByteOut before out.new result (text ++ earlier_lines path.now earlier) }
+{
+    match earlier {
+        Some(earlier) => {
+            let mut lines = Explanation::new();
+            explain_earlier(&mut lines, earlier.segment, earlier.word, path.steps());
+            write_more(out, lines.text())
+        }
+        None => Ok(()),
+    }
+}
+
+/// Writes all lines about a message that uses a word twice: those on the first pointer that overlaps,
+/// and that of the first pointer that uses such a word.
+fn write_both_pointers<M: Segments, O: ByteOut>(
+    page: &mut Page,
+    out: &mut O,
+    number: u32,
+    message: &M,
+    start: Option<MessageStart>,
+    segment: u32,
+    word: u32,
+    pointers: u64,
+) -> Result<(), OutFault>
+    ensures { let m = M.segments message.now in (words : ℕ) → IsWithin m words most_depth →
+        (f : IsFirstOverlap m segment word pointers) → (text : List ℕ)
+        × IsOverlapText m number start f text × Writes O.ByteOut out.old out.new result text }
+{
+    let mut path = NamedPath::new();
+    path.find(message, greatest_limits(), pointers);
+    let mut earlier_path = NamedPath::new();
+    let earlier = earlier_path.find_earlier(message, greatest_limits(), pointers);
+    match write_overlap_lines(
+        page, out, number, message, start, segment, word, pointers, &path,
+    ) {
+        Ok(()) => write_earlier(out, earlier, &earlier_path),
+        Err(fault) => Err(fault),
+    }
+}
+
 /// What an engine that explains writes about an accepted message, before which it knows how many words
 /// of the input are.
 trait PlacedTeller {
@@ -215,20 +267,15 @@ impl PlacedTeller for OverlapTeller {
                     pointers,
                 },
             ) => {
-                let message = vetted.message();
-                let start = start_after(self.packed, before);
-                let mut path = NamedPath::new();
-                path.find(message, greatest_limits(), pointers);
-                let written = write_overlap_lines(
+                let written = write_both_pointers(
                     page,
                     out,
                     number,
-                    message,
-                    Some(start),
+                    vetted.message(),
+                    Some(start_after(self.packed, before)),
                     segment,
                     word,
                     pointers,
-                    &path,
                 );
                 after_text(written, Counted::Refused)
             }

@@ -1,0 +1,70 @@
+use Rattle.cap_spec.proofs.ProofNames.{arith, length, rules, subst, sym, ◌<◌, ◌∙◌, segment_of}
+use Rattle.cap_trace.specs.EarlierPointers.{places_of}
+use Rattle.cap_trace.specs.Seeking.{Passes}
+use Rattle.cap_trace.specs.Traces.{HasCome}
+use Rattle.cap_trace.specs.declared.seeking.Passed.{Passed}
+use Rattle.cap_trace.proofs.Branches.{branches_without}
+use Rattle.cap_trace.proofs.Coming.{at_root, has_root, never_full, some_number}
+use Rattle.cap_trace.proofs.Sharing.{first_using_here, none_first, none_using, still_none}
+use Rattle.cap_trace.proofs.earlier.first_using.Goals as goal
+
+pub words-init : goal.words-init
+words-init g c =
+    let m = g.M.Segments.segments c.args.message.now in
+    let (path, a) = c.requires.traced in
+    let exists : 0 < length m = search rules in
+    let some : 0 < length (segment_of m 0) = has_root m c.args.number path _ _ a.numbered in
+    record {
+      before = omega (arith, some_number m c.args.number path _ _ a.numbered);
+      come = rw (c.new-others.ensures, c.root-here.ensures) (at_root m c.args.depth exists some);
+      none = rw (c.new-others.ensures, c.root-here.ensures) (none_first m (places_of c.args.used.now));
+    }
+
+pub returns-then-at-number : goal.returns-then-at-number
+returns-then-at-number g c = λ path a.
+    let m = g.M.Segments.segments c.args.message.now in
+    none_using m c.args.depth c.args.number c.words.others.items c.words.here (places_of c.args.used.now) path
+    (subst (λ n. HasCome m c.args.depth n c.words.others.items c.words.here) c.if-at-number.true c.words.invariant.come)
+    c.words.invariant.none a
+
+pub uses_one-requires-clause-exists : goal.uses_one-requires-clause-exists
+uses_one-requires-clause-exists g c =
+    (branches_without _ c.args.depth 0 _ _ c.words.invariant.come.branches).1.exists
+
+pub uses_one-requires-clause-inside : goal.uses_one-requires-clause-inside
+uses_one-requires-clause-inside g c =
+    let b = (branches_without _ c.args.depth 0 _ _ c.words.invariant.come.branches).1 in omega (arith, b.inside)
+
+pub returns-then-uses_one : goal.returns-then-uses_one
+returns-then-uses_one g c = λ path a.
+    let m = g.M.Segments.segments c.args.message.now in
+    let uses = c.uses_one.ensures.0 c.if-uses_one.true in
+    first_using_here m c.args.depth c.words.at c.args.number c.words.others.items c.words.here (places_of c.args.used.now) path
+    c.words.invariant.come c.words.invariant.none uses (omega (arith, c.words.invariant.before, c.if-at-number.false)) a
+
+pub words-preserved : goal.words-preserved
+words-preserved g c =
+    let m = g.M.Segments.segments c.args.message.now in
+    let come = subst (λ (u : Passed). Passes m c.args.depth c.words.at 257 c.words.others.items c.words.here c.pass.new.others.items c.pass.new.last u)
+    c.in-On.is (c.pass.ensures c.words.at c.words.invariant.come) in record {
+      before = omega (arith, c.words.invariant.before, c.if-at-number.false);
+      come = come;
+      none = still_none m c.args.depth c.words.at c.words.others.items c.pass.new.others.items c.words.here c.pass.new.last
+          (places_of c.args.used.now) c.words.invariant.come come c.words.invariant.none
+          (λ uses. absurd (cc (sym c.if-uses_one.false ∙ c.uses_one.ensures.1 uses)));
+    }
+
+pub unreachable-requires : goal.unreachable-requires
+unreachable-requires g c =
+    let m = g.M.Segments.segments c.args.message.now in
+    let k = subst (λ (u : Passed). Passes m c.args.depth c.words.at 257 c.words.others.items c.words.here c.pass.new.others.items c.pass.new.last u)
+    c.in-Ended.is (c.pass.ensures c.words.at c.words.invariant.come) in
+    let (path, a) = c.requires.traced in
+    k c.args.number (omega (arith, c.words.invariant.before, c.if-at-number.false)) path a
+
+pub unreachable-requires-in-Full : goal.unreachable-requires-in-Full
+unreachable-requires-in-Full g c =
+    let m = g.M.Segments.segments c.args.message.now in
+    let k = subst (λ (u : Passed). Passes m c.args.depth c.words.at 257 c.words.others.items c.words.here c.pass.new.others.items c.pass.new.last u)
+    c.in-Full.is (c.pass.ensures c.words.at c.words.invariant.come) in
+    never_full m c.args.depth c.words.at c.words.others.items c.words.here 257 (omega (arith, c.requires.shallow)) c.words.invariant.come k.0

@@ -1,0 +1,122 @@
+//! The first pointer that uses a word which a later pointer uses too.
+
+ghost use Rattle.cap_spec.specs.Accepting.{IsWithin};
+ghost use Rattle.cap_spec.specs.Occupying.{IsFirstOverlap};
+ghost use Rattle.cap_spec.specs.declared.Step.{Step};
+ghost use Rattle.cap_trace.specs.EarlierPointers.{ComesTo, IsEarlier, IsEarlierOf, IsFirstUsing, TellsEarlier, places_of};
+ghost use Rattle.cap_trace.specs.PointerNumbers.{IsTraceable};
+ghost use Rattle.cap_trace.specs.Traces.{IsMissing};
+ghost use Rattle.cap_vet.specs.Limits.{depth_of};
+ghost use Rattle.std.specs.Prelude.{◌≡◌, ◌≤◌, IfSome, List, None, Some, ℕ};
+
+use crate::branch::Branch;
+use crate::seeking::{BranchStack, Passed, Sought, pass, seek};
+use crate::used_words::{UsedWords, uses_one};
+use cap_frame::Segments;
+use cap_vet::Limits;
+
+/// The first pointer that uses a word which a later pointer uses too.
+#[derive(Clone, Copy, Debug, PartialEq, Eq, Drop)]
+pub struct EarlierPointer {
+    /// The segment of its pointer word, counted from 0.
+    pub segment: u32,
+    /// The word in that segment, counted from 0.
+    pub word: u32,
+    /// Its number in preorder, where the root word is number 1.
+    pub pointers: u64,
+}
+
+/// The most branches on the way down to a pointer word.
+const BRANCHES: usize = 257;
+
+/// The first pointer in preorder that uses a word which the pointer word of this number uses too.
+/// `number` may be the `pointers` of an overlap. A pointer uses its landing pads and the words of its
+/// object. [`crate::path_of_pointer`] writes the path of either number.
+///
+/// `None` if no pointer before that word uses such a word. So it is for an overlap whose pointer uses
+/// a word twice itself, or the root word, and shares no other. `None` also if the message has no word
+/// of this number, or if a pointer before it can't be followed or leads past the depth limit. The
+/// word limit has no effect. Walks over the pointer words before that one twice. Allocates nothing.
+pub fn earlier_pointer<M: Segments>(
+    message: &M,
+    limits: Limits,
+    number: u64,
+) -> Option<EarlierPointer>
+    ensures tells { TellsEarlier (M.segments message.now) (depth_of limits) number result }
+    // The other direction: this pointer is the result.
+    ensures gives { let m = M.segments message.now in (path : List Step) (s w n : ℕ) →
+        IsTraceable m (depth_of limits) number path → IsEarlier m path s w n →
+        result ≡ Some (record { segment = s; word = w; pointers = n }) }
+    // So it is of an overlap.
+    ensures overlap { let m = M.segments message.now in (words s w : ℕ) →
+        IsWithin m words (depth_of limits) → (f : IsFirstOverlap m s w number) →
+        IsEarlierOf m f.path result }
+{
+    earlier_within(message, limits.depth(), number)
+}
+
+// The same by the depth limit alone.
+fn earlier_within<M: Segments>(message: &M, depth: u32, number: u64) -> Option<EarlierPointer>
+    requires { depth ≤ 256 }
+    ensures { TellsEarlier (M.segments message.now) depth number result }
+{
+    let last = word_of_number(message, depth, number)?;
+    let used = UsedWords::at(message, last.segment, last.at)?;
+    first_using(message, depth, number, &used)
+}
+
+// The pointer word of this number. `None` if it can't be traced.
+#[inline(never)]
+fn word_of_number<M: Segments>(message: &M, depth: u32, number: u64) -> Option<Branch>
+    requires { depth ≤ 256 }
+    ensures some { IfSome result (ComesTo (M.segments message.now) depth number) }
+    ensures none { result ≡ None → IsMissing (M.segments message.now) depth number }
+{
+    if number == 0 || message.len(0) == 0 {
+        return None;
+    }
+    let mut others: BranchStack<BRANCHES> = BranchStack::new();
+    let mut last = Branch::root();
+    match seek(message, depth, 1, number, &mut others, &mut last) {
+        Sought::Found => Some(last),
+        Sought::Missing => None,
+        Sought::Full(_) => unreachable!(),
+    }
+}
+
+// The first pointer that uses one of these words, of those before the word of this number.
+#[inline(never)]
+fn first_using<M: Segments>(
+    message: &M,
+    depth: u32,
+    number: u64,
+    used: &UsedWords,
+) -> Option<EarlierPointer>
+    requires shallow { depth ≤ 256 }
+    requires traced { (path : List Step) × IsTraceable (M.segments message.now) depth number path }
+    ensures { let m = M.segments message.now in (path : List Step) →
+        IsTraceable m depth number path → IsFirstUsing m (places_of used.now) path result }
+{
+    let mut others: BranchStack<BRANCHES> = BranchStack::new();
+    let mut here = Branch::root();
+    let mut at = 1;
+    'words: loop {
+        if at == number {
+            return None;
+        }
+        if uses_one(message, here.segment, here.at, used) {
+            return Some(EarlierPointer {
+                segment: here.segment,
+                word: here.at,
+                pointers: at,
+            });
+        }
+        match pass(message, depth, &mut others, &mut here) {
+            Passed::On => at += 1,
+            // The word of this number comes later.
+            Passed::Ended => unreachable!(),
+            // The branches are enough for the depth.
+            Passed::Full => unreachable!(),
+        }
+    }
+}
