@@ -1,5 +1,5 @@
 -- What is known of a message at which a stream breaks off.
-use Rattle.cap_spec.proofs.ProofNames.{Bool, Err, IfSome, List, None, OnSome, Option, Some, false, refl, true, ℕ, ◌≡◌, ◌⊎◌, ⊤}
+use Rattle.cap_spec.proofs.ProofNames.{Bool, Err, IfSome, List, None, OnSome, Option, Some, false, refl, true, ℕ, ◌≡◌, ◌⊎◌}
 use Rattle.cap_frame.specs.FrameNames.{Faults}
 use Rattle.cap_frame.specs.Taking.{IsOver}
 use Rattle.cap_frame.specs.declared.fault.FrameFault.{FrameFault}

@@ -13,7 +13,7 @@ use Rattle.cap_text.specs.declared.fault.Cause.TheVariants.{Output, Refused, Mem
 use Rattle.cap_text.specs.declared.fault.RunFault.{RunFault}
 use Rattle.cap_run.specs.Placed.{PlacedEarly, PlacedTells, PlacedToEnd, TellsFrom, TellsPlaced, words_told}
 use Rattle.cap_run.specs.RunNames.{Cause, Canon, Frame, NotStrict, TooManyMessages, StepStops}
-use Rattle.cap_run.specs.RunNames.{Appended, RunStops, Settled, ReadsStream, Tells, Told, messages_of, outcome_of}
+use Rattle.cap_run.specs.RunNames.{Appended, RunStops, Settled, ReadsStream, Told, messages_of, outcome_of}
 use Rattle.cap_run.specs.RunNames.{one_noncanonical, one_refused, texts_of, Counted, Outcome}
 use Rattle.cap_run.proofs.Going.{appended_more, appended_none, stops_in}
 use Rattle.cap_run.proofs.Settling.{on_known, settled_behind}
