@@ -14,8 +14,8 @@ first pointer that uses a word of an overlap is found here by its definition, fr
 Streams that break off go through the program too, plain and packed, a fifth as many. Its lines on their ends are compared
 with what this script finds in their bytes.
 
-tests/c/explain.c explains each of these messages too, with the limits and flags of the same options, and buffers of various
-sizes. It writes the lines after that of the verdict. It looks for no overlap. The last line is 'N passed, M failed', and the
+tests/c/explain.c explains each of these messages too, with the limits and flags of the same options. Its buffers have various
+sizes, one of them just the length of the text. It writes the lines after that of the verdict. It looks for no overlap. The last line is 'N passed, M failed', and the
 status is 1 if a case failed.
 """
 import random
@@ -483,13 +483,13 @@ def told_of(frame, words):
 def compare_calls(built, options, stream, first, chance):
     """One run of tests/c/explain.c over some messages."""
     words = [word for word in options.split() if word != "--exclusive"]
-    sizes, limits = [chance.choice((BOUND, BOUND, 1000, 400, 250, 90, 0)) for _ in stream], limits_of(words)
+    texts, limits = [told_of(frame, words) for frame in stream], limits_of(words)
+    sizes = [chance.choice((BOUND, 1000, 400, 250, 90, 0, len(told), max(len(told) - 1, 0))) for told, _ in texts]
     out, err, status = over_file([built], b"".join(
         limits.packed() + struct.pack("<3I", size, chance.randrange(8), len(frame)) + frame for size, frame in zip(sizes, stream)))
     compare(f"capvet_explain, {options}: messages from {first}", (0, b""), (status, err))
     at = 0
-    for frame, size in zip(stream, sizes):
-        told, place = told_of(frame, words)
+    for frame, size, (told, place) in zip(stream, sizes, texts):
         wanted = NO_NODE if not told else OK if len(told) <= size else BUFFER_TOO_SMALL
         fields = dict.fromkeys(model.FIELDS, 0) | dict(zip(("segment", "word", "pointers"), place))
         fields |= dict(length=len(frame), segments=len(segments_of(frame)))
