@@ -23,7 +23,7 @@
  *   frames       capvet_frame, capvet_segment_at.
  *   canonical    capvet_canonical, capvet_is_canonical.
  *   read         capvet_get, capvet_get_range.
- *   explain      capvet_explain, capvet_pointer_path.
+ *   explain      capvet_explain, capvet_pointer_path, capvet_earlier_pointer.
  *   packing      capvet_pack, capvet_unpack, capvet_pack_message, capvet_unpack_message.
  *   bounds       capvet_marks_bound, capvet_frame_bound, capvet_canonical_bound, capvet_pack_bound.
  *   other        capvet_answer_name, capvet_limits_default, capvet_version, capvet_cpu_supported.
@@ -289,9 +289,9 @@ CAPVET_INLINE const char *capvet_answer_name(uint32_t answer) CAPVET_NOEXCEPT {
 #define CAPVET_NO_TABLE 0x8u        /* the input is the words of one segment: no table, nothing after them */
 
 /* CAPVET_NO_TABLE is for what was stored without a table, such as the result of capvet_canonical. It works in
- * capvet_vet, capvet_vet_exclusive, capvet_canonical, capvet_is_canonical, capvet_pointer_path and
- * capvet_explain. report->length is then the length of the input, and report->segments is 1. In place of the
- * answers about the frame:
+ * capvet_vet, capvet_vet_exclusive, capvet_canonical, capvet_is_canonical, capvet_pointer_path,
+ * capvet_earlier_pointer and capvet_explain. report->length is then the length of the input, and report->segments is 1.
+ * In place of the answers about the frame:
  *
  *   - CAPVET_NO_MESSAGE: the input is empty.
  *   - CAPVET_TOO_LARGE: it has more than limits->message_words words, where a part of a word counts as one.
@@ -652,6 +652,25 @@ capvet_answer capvet_pointer_path(const uint8_t *bytes, size_t length, const cap
                                   capvet_step *steps, size_t step_count, size_t *required,
                                   capvet_report *report) CAPVET_NOEXCEPT;
 
+/* capvet_earlier_pointer -- the other pointer of an overlap: the first that uses a word which this one uses too.
+ *
+ *   bytes, length  the message
+ *   limits         as for capvet_vet
+ *   number         of a pointer in preorder, as for capvet_pointer_path
+ *
+ * For CAPVET_OVERLAP, report->pointers is the number of the pointer that overlaps. A pointer uses its landing pads and
+ * the words of its object. On CAPVET_OK, report->pointers is the number of the earlier pointer, and report->segment
+ * and report->word are its place. capvet_pointer_path gives the path to either.
+ *
+ * Returns CAPVET_NO_NODE if no pointer before that one uses such a word: a pointer may overlap because it uses a word
+ * twice itself, or the root word. CAPVET_NO_NODE also if capvet_pointer_path returns it for this number. The flags have
+ * the effect that they have there. The report has `length` and `segments`, and else only what is said here.
+ *
+ * Cost: two walks up to the pointer, so at most 2 * `number` steps. */
+CAPVET_CALL((3, 5))
+capvet_answer capvet_earlier_pointer(const uint8_t *bytes, size_t length, const capvet_limits *limits,
+                                     uint64_t number, capvet_report *report) CAPVET_NOEXCEPT;
+
 /* capvet_explain -- the reason of a refusal as lines of text, for a log.
  *
  *   bytes, length    the message, as for capvet_vet
@@ -670,7 +689,8 @@ capvet_answer capvet_pointer_path(const uint8_t *bytes, size_t length, const cap
  * CAPVET_BUFFER_TOO_SMALL or CAPVET_OK. The report has `length`, `segments`, and with the last two answers also the
  * place and `pointers` of the refusal. On CAPVET_OK the bytes after the text are unchanged.
  *
- * Overlaps are not looked for. For CAPVET_OVERLAP, capvet_pointer_path gives the path.
+ * Overlaps are not looked for. For CAPVET_OVERLAP, capvet_pointer_path gives the path, and capvet_earlier_pointer
+ * the other pointer.
  *
  * Cost: two walks up to the pointer, and a third one for CAPVET_WORD_LIMIT. */
 CAPVET_CALL((3, 6, 7))

@@ -93,10 +93,10 @@ def wanted_symbols(archive):
     own = {line.split()[-1] for line in lines if " T " in line}
     expect("what the archive wants", undefined - own <= {"memcpy", "memmove", "memset"}, str(undefined - own))
     for name in ("capvet_version", "capvet_frame", "capvet_vet", "capvet_vet_exclusive", "capvet_is_canonical",
-                 "capvet_canonical", "capvet_get", "capvet_get_range", "capvet_pointer_path", "capvet_explain", "capvet_pack",
-                 "capvet_unpack", "capvet_pack_message", "capvet_unpack_message", "capvet_limits_default", "capvet_abi_1",
-                 "capvet_segment_at", "capvet_vet_segments", "capvet_frame_bound", "capvet_marks_bound",
-                 "capvet_canonical_bound", "capvet_pack_bound"):
+                 "capvet_canonical", "capvet_get", "capvet_get_range", "capvet_pointer_path", "capvet_earlier_pointer",
+                 "capvet_explain", "capvet_pack", "capvet_unpack", "capvet_pack_message", "capvet_unpack_message",
+                 "capvet_limits_default", "capvet_abi_1", "capvet_segment_at", "capvet_vet_segments", "capvet_frame_bound",
+                 "capvet_marks_bound", "capvet_canonical_bound", "capvet_pack_bound"):
         expect(f"the archive has {name}", name in own)
 
 

@@ -111,6 +111,7 @@ def described(message, text, chance):
     yield call(9, (*over, SECOND, len(path), BUFFER, REPORT), 56, [(SECOND, path)])
     yield call(10, (*over, SECOND, count, chance.randrange(count + 1), BUFFER, nodes, *frame), 56 * nodes, [(SECOND, steps)])
     yield call(15, (*over, chance.choice((0, 1, 2, 3, 5, 9, 20, 2**40)), BUFFER, size // 8, *frame), size // 8 * 8)
+    yield call(21, (*over, chance.choice((0, 1, 2, 3, 5, 9, 20, 2**40)), REPORT))
     yield call(16, (*over, BUFFER, size, *frame), size)
     yield call(11, (where, len(message), BUFFER, size, REQUIRED), size)
     yield call(13, (*over, BUFFER, size, *frame), size)

@@ -1,21 +1,24 @@
-"""Compares capvet_pointer_path, from C, with a model that keeps the path to each pointer. tests/calls.py runs it.
+"""Compares capvet_pointer_path and capvet_earlier_pointer, from C, with a model that keeps the path to each pointer.
+tests/calls.py runs it.
 
 The messages are the samples, changed, cut and made ones, each with limits and flags. Most numbers are those that the model of
 tests/model.py has for the pointer that a verdict names: a refusal, one that common readers reject, or an overlap. Others are
 any number up to a few past the last pointer, and one that is too high for any. tests/c/paths.c checks that each path but its
-last step leads somewhere by capvet_get, which follows only the path. The paths of BY_HAND have known answers."""
+last step leads somewhere by capvet_get, which follows only the path. The paths of BY_HAND have known answers. The earlier
+pointer of each number is found here by its definition, from the words that each pointer uses."""
 import struct
 from collections import Counter
+from itertools import islice
 
 import model
 from amount import cases
 from harness import compare, expect, framed, over_file, under_valgrind
-from made import changed, made_up
+from made import changed, made_up, shared
 from model import EXCLUSIVE, FIELDS, VET, Limits, Refused, children, followed
 from needs import missing
 
 ANSWERS = model.ANSWERS | dict(NO_NODE=21)
-HEAD = struct.Struct("<IQ6Q4I4Q")
+HEAD, EARLIER = struct.Struct("<IQ6Q4I4Q"), struct.Struct("<I6Q4I4Q")
 MANY = cases(10_000, full=100_000)  # numbers of pointers
 POINTER, ELEMENT = 0, 1
 NAMED = ("OVERLAP", "NullPad", "EmptySegment", "CapabilityPad", "RESERVED", "SEGMENT_MISSING", "PAD_OUTSIDE", "PAD_IS_FAR",
@@ -66,43 +69,80 @@ def steps_below(found):
     return []
 
 
-def path_of(message, depth, number):
-    """The path to the pointer of this number in preorder, or None."""
+def walked(message, depth):
+    """Each pointer in preorder, as its place and its path, up to one that can't be followed or leads too deep."""
     stack = [(0, 0, 1, ())] if message[0] else []
-    while stack and number > 0:
+    while stack:
         segment, at, level, path = stack.pop()
-        number -= 1
-        if number == 0:
-            return path
+        yield (segment, at), path
         try:
             found = followed(message, segment, at)
         except Refused:
-            return None
+            return
         if found.kind not in ("null", "cap") and level + (found.kind == "structs" and found.sizes[0] > 0) > depth:
-            return None
+            return
         places, levels = children(found)
         below = [(*place, level + levels, path + steps) for place, steps in zip(places, steps_below(found))]
         stack.extend(reversed(below))
-    return None
+
+
+def up_to(message, limits, number):
+    """The pointers up to that of this number, or none if it has no path."""
+    # (no verdict counts more pointers, and a message of few words may have many more)
+    first = list(islice(walked(message, limits.depth), number)) if number <= limits.charge + 1 else []
+    return first if len(first) == number else []
+
+
+def words_used(message, place):
+    """The places that following a pointer uses."""
+    try:
+        return set(followed(message, *place).used)
+    except Refused:
+        return set()
+
+
+def opened(data, limits):
+    """The message that bytes are and the extent of its frame, or an answer and the fields of its report."""
+    if not limits.are_good(VET):
+        return None, ("BAD_LIMITS", {})
+    message, frame = model.taken(VET, data, limits, 0)
+    if message is None:
+        return None, frame
+    extent = dict(length=frame, segments=len(message))
+    if len(data) > frame and not limits.flags & model.TRAILING:
+        return None, ("TRAILING", dict(detail=len(data) - frame, **extent))
+    return message, extent
+
+
+def numbers_of(fields):
+    """The fields of a report, of which the others are 0."""
+    return tuple(fields.get(name, 0) for name in FIELDS)
+
+
+def earlier(data, limits, number):
+    """The answer of capvet_earlier_pointer, and the fields of its report."""
+    message, told = opened(data, limits)
+    if message is None:
+        return ANSWERS[told[0]], numbers_of(told[1])
+    *others, named = [place for place, _ in up_to(message, limits, number)] or [None]
+    words = words_used(message, named) if named else set()
+    for count, place in enumerate(others, 1):
+        if words and words & words_used(message, place):
+            return ANSWERS["OK"], numbers_of(dict(told, pointers=count, segment=place[0], word=place[1]))
+    return ANSWERS["NO_NODE"], numbers_of(told)
 
 
 def got(data, limits, number, capacity):
     """The answer of capvet_pointer_path, what it sets `required` to, the fields of its report, and the steps that it writes."""
 
     def result(answer, count=0, steps=(), **fields):
-        return ANSWERS[answer], count, tuple(fields.get(name, 0) for name in FIELDS), steps
+        return ANSWERS[answer], count, numbers_of(fields), steps
 
-    if not limits.are_good(VET):
-        return result("BAD_LIMITS")
-    message, frame = model.taken(VET, data, limits, 0)
+    message, told = opened(data, limits)
     if message is None:
-        answer, fields = frame
-        return result(answer, **fields)
-    extent = dict(length=frame, segments=len(message))
-    if len(data) > frame and not limits.flags & model.TRAILING:
-        return result("TRAILING", detail=len(data) - frame, **extent)
-    # (no verdict counts more pointers, and a message of few words may have many more)
-    path = path_of(message, limits.depth, number) if number <= limits.charge + 1 else None
+        return result(told[0], **told[1])
+    extent, first = told, up_to(message, limits, number)
+    path = first[-1][1] if first else None
     if path is None:
         return result("NO_NODE", **extent)
     if len(path) > capacity:
@@ -114,8 +154,9 @@ def requests(samples, chance):
     """Calls for a path, each with the answer of the verdict that names the pointer, or 0 for any pointer."""
     small = [message for message in samples if len(message) < 1000]
     while True:
-        kind = chance.randrange(10)
-        data = changed(chance.choice(small), chance) if kind < 6 else made_up(chance) if kind < 9 else chance.choice((*samples, *RARE))
+        kind = chance.randrange(12)
+        data = (changed(chance.choice(small), chance) if kind < 6 else made_up(chance) if kind < 9 else
+                shared(chance) if kind < 11 else chance.choice((*samples, *RARE)))
         if chance.randrange(20) == 0:
             data = data[:chance.randrange(len(data) + 1)]
         if chance.randrange(20) == 0:
@@ -141,8 +182,8 @@ def described(many):
 
 
 def replies(program, many):
-    """What C answers to these calls: the answer, `required`, the report and the steps. What it writes on standard error, and
-    its status."""
+    """What C answers to these calls: the answer, `required`, the report and the steps, and the answer and report of the
+    earlier pointer. What it writes on standard error, and its status."""
     out, *end = over_file([program], described(many))
     found, at = [], 0
     while at < len(out):
@@ -151,7 +192,9 @@ def replies(program, many):
         count = required if answer == 0 else 0
         steps = tuple(struct.unpack_from("<II", out, at + 8 * k) for k in range(count))
         at += 8 * count
-        found.append((answer, required, tuple(report), steps))
+        other, *its = EARLIER.unpack_from(out, at)
+        at += EARLIER.size
+        found.append((answer, required, tuple(report), steps, (other, tuple(its))))
     return found, *end
 
 
@@ -160,8 +203,10 @@ def compare_paths(program, many):
     found, err, status = replies(program, many)
     compare("paths, with the compiler's checks", (0, b""), (status, err))
     compare("replies to calls for a path", len(many), len(found))
-    for (data, limits, number, capacity, _), (answer, required, report, steps) in zip(many, found):
+    for (data, limits, number, capacity, _), (answer, required, report, steps, other) in zip(many, found):
         wanted, written = got(data, limits, number, capacity), (answer, required, report, steps)
+        answered, fields = earlier(data, limits, number)
+        compare(lambda: f"the pointer before {number} of {data.hex()} in {limits}", (answered, fields + (0,) * 4), other)
         expect(lambda: f"path {number} {capacity} of {data.hex()} in {limits}",
                (answer, required, report[:10], steps) == wanted and not any(report[10:]), written, wanted)
     return found
@@ -169,27 +214,30 @@ def compare_paths(program, many):
 
 def test(asking, watched, samples, chance):
     known = [(row[:4] + (odd,), row[4:]) for row in BY_HAND for odd in range(8)]
-    for (request, wanted), (answer, required, _, steps) in zip(known, compare_paths(asking, [request for request, _ in known])):
+    for (request, wanted), (answer, required, _, steps, _) in zip(known, compare_paths(asking, [request for request, _ in known])):
         compare(f"the path {request}", (ANSWERS[wanted[0]], *wanted[1:]), (answer, required, steps))
     asked = requests(samples, chance)
     if watched is not None and not missing("paths of pointers under valgrind", "valgrind"):
         under_valgrind("paths, under valgrind", watched, asking, described([next(asked)[0] for _ in range(2000)]))
     many = [next(asked) for _ in range(MANY)]
     found = compare_paths(asking, [request for request, _ in many])
-    answers = Counter(answer for answer, _, _, _ in found)
+    answers = Counter(answer for answer, *_ in found)
     for name in ("OK", "BAD_LIMITS", "BUFFER_TOO_SMALL", "NO_NODE", "TRAILING", "TRUNCATED"):
         expect(f"calls for a path that answer {name}", answers[ANSWERS[name]] >= 10, answers[ANSWERS[name]])
-    longer = sum(len(steps) > 2 for _, _, _, steps in found)
+    longer = sum(len(steps) > 2 for _, _, _, steps, _ in found)
     expect("paths of three steps and more", longer >= MANY // 50, longer)
     traced = of_verdicts(many, found)
-    print(f"calls: {len(many)} paths of pointers compared with the model, {traced} of them of a pointer that a verdict names")
+    shared = sum(other == ANSWERS["OK"] for *_, (other, _) in found)
+    expect("pointers that share a word with an earlier one", shared >= MANY // 50, shared)
+    print(f"calls: {len(many)} paths of pointers compared with the model, {traced} of them of a pointer that a verdict names, "
+          f"and {shared} with an earlier pointer")
 
 
 def of_verdicts(many, found):
     """Each pointer that a verdict names has its path. How many there are."""
     named, are_found = {ANSWERS[name]: name for name in NAMED}, (ANSWERS["OK"], ANSWERS["BUFFER_TOO_SMALL"])
     traced = Counter()
-    for (request, verdict), (answer, _, _, _) in zip(many, found):
+    for (request, verdict), (answer, *_) in zip(many, found):
         if verdict in named:
             expect(lambda: f"the path of {named[verdict]} of {request}", answer in are_found, answer)
             traced[named[verdict]] += 1

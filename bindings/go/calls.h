@@ -135,6 +135,13 @@ static inline capvet_go_result capvet_go_pointer_path(const uint8_t *bytes, size
   return result;
 }
 
+static inline capvet_go_result capvet_go_earlier_pointer(const uint8_t *bytes, size_t length, capvet_limits limits,
+                                                         uint64_t number) {
+  capvet_go_result result = {0};
+  result.answer = capvet_earlier_pointer(bytes, length, &limits, number, &result.report);
+  return result;
+}
+
 static inline capvet_go_result capvet_go_explain(const uint8_t *bytes, size_t length, capvet_limits limits, char *text,
                                                  size_t text_size) {
   capvet_go_result result = {0};

@@ -57,4 +57,22 @@ func TestPathOfAnOverlap(t *testing.T) {
 	if path := refusal.Path(nil, capvet.Limits{}); path != "" {
 		t.Errorf("%q of no bytes", path)
 	}
+	if path := refusal.EarlierPath(b, capvet.Limits{}); path != "/p0" {
+		t.Errorf("%q of the earlier pointer", path)
+	}
+	if path := refusal.EarlierPath(nil, capvet.Limits{}); path != "" {
+		t.Errorf("%q of the earlier pointer of no bytes", path)
+	}
+}
+
+func TestNoPointerUsesTheRootWordBefore(t *testing.T) {
+	b := framed(1<<48, 0xfffffff8|1<<32)
+	_, err := capvet.VetExclusive(b, capvet.Limits{})
+	var refusal *capvet.Refusal
+	if !errors.As(err, &refusal) || refusal.Reason != capvet.Overlap {
+		t.Fatal(err)
+	}
+	if path := refusal.EarlierPath(b, capvet.Limits{}); path != "" {
+		t.Errorf("%q", path)
+	}
 }

@@ -238,6 +238,13 @@ export function node(data: Bytes, path: string, limits?: Limits): Node | null;
 export function pointerPath(data: Bytes, pointer: number, limits?: Limits): string | null;
 
 /**
+ * The path to the first pointer that uses a word which the pointer of this number uses too: the other pointer of an overlap.
+ *
+ * Null if no pointer before that one uses such a word, or if `pointerPath` is null. Throws as `pointerPath` does.
+ */
+export function earlierPath(data: Bytes, pointer: number, limits?: Limits): string | null;
+
+/**
  * The reason of a refusal as lines of text, for a log, or null if the message is accepted.
  *
  * The lines are those of the program's command `explain`: the path to the pointer that `vet` names, its place in bytes,

@@ -16,6 +16,7 @@
 //   read       node(data, path, limits?), nodes(data, path, { first?, count?, ..limits }?)
 //   explain    explain(data, limits?)                   lines that explain a refusal, or null
 //              pointerPath(data, refusal.pointers, limits?)   which field is refused, as a path
+//              earlierPath(data, refusal.pointers, limits?)   the other pointer of an overlap, as a path
 //   packing    pack(data), packMessage(data, limits?), unpack(data, { maxSize? }?)
 //   other      version()
 //
@@ -36,7 +37,8 @@ import { load } from "./src/module.js";
 
 export { CapabilityError, CapvetError, FrameError, PathError, Refusal, UnpackError } from "./src/answers.js";
 export {
-  canonical, canonicalInto, explain, frame, isCanonical, pack, packMessage, pointerPath, unpack, version, vet, vetExclusive, vetSegments,
+  canonical, canonicalInto, earlierPath, explain, frame, isCanonical, pack, packMessage, pointerPath, unpack, version, vet, vetExclusive,
+  vetSegments,
 } from "./src/calls.js";
 export { Node, node, nodes } from "./src/nodes.js";
 export { MessageStream, messages, readMessages } from "./src/streams.js";

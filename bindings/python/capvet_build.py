@@ -76,6 +76,8 @@ capvet_answer capvet_get_range(const uint8_t *bytes, size_t length, const capvet
                                capvet_report *report);
 capvet_answer capvet_pointer_path(const uint8_t *bytes, size_t length, const capvet_limits *limits, uint64_t number,
                                   capvet_step *steps, size_t step_count, size_t *required, capvet_report *report);
+capvet_answer capvet_earlier_pointer(const uint8_t *bytes, size_t length, const capvet_limits *limits, uint64_t number,
+                                     capvet_report *report);
 capvet_answer capvet_explain(const uint8_t *bytes, size_t length, const capvet_limits *limits, char *text,
                              size_t text_size, size_t *required, capvet_report *report);
 capvet_answer capvet_pack(const uint8_t *bytes, size_t length, uint8_t *out, size_t out_size, size_t *required);

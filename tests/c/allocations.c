@@ -78,8 +78,8 @@ static const struct {
 } CALLS[] = {{"capvet_frame", capvet_frame}, {"capvet_vet", capvet_vet}, {"capvet_is_canonical", capvet_is_canonical}};
 
 enum {
-  FRAME, VET, IS_CANONICAL, UNPACK, PACK, EXCLUSIVE, SEGMENT_AT, VET_SEGMENTS, GET, GET_RANGE, POINTER_PATH, EXPLAIN,
-  PACK_MESSAGE, UNPACK_MESSAGE, COUNT
+  FRAME, VET, IS_CANONICAL, UNPACK, PACK, EXCLUSIVE, SEGMENT_AT, VET_SEGMENTS, GET, GET_RANGE, POINTER_PATH, EARLIER,
+  EXPLAIN, PACK_MESSAGE, UNPACK_MESSAGE, COUNT
 };
 
 /* How often each call gave each answer. */
@@ -88,7 +88,8 @@ static unsigned long seen[COUNT][64];
 static void answered(int call, unsigned long before, uint32_t answer) {
   static const char *const others[] = {"capvet_unpack", "capvet_pack", "capvet_vet_exclusive", "capvet_segment_at",
                                        "capvet_vet_segments", "capvet_get", "capvet_get_range",
-                                       "capvet_pointer_path", "capvet_explain", "capvet_pack_message", "capvet_unpack_message"};
+                                       "capvet_pointer_path", "capvet_earlier_pointer", "capvet_explain",
+                                       "capvet_pack_message", "capvet_unpack_message"};
   const char *name = call >= UNPACK ? others[call - UNPACK] : CALLS[call].name;
   expect(taken == before, name, taken - before);
   if (answer < 64) seen[call][answer]++;
@@ -164,22 +165,27 @@ static void ranges(const uint8_t *bytes, size_t length) {
   }
 }
 
-/* The pointer that a verdict names or the last one, with and without capacity, and one that there isn't. */
+/* The pointer that a verdict names or the last one, with and without capacity, and one that there isn't. Then the earlier
+ * pointer that shares a word with it. */
 static void paths(const uint8_t *bytes, size_t length) {
   capvet_step steps[CAPVET_MAX_DEPTH];
   capvet_report report;
   size_t required, room;
   uint64_t number;
+  unsigned long before;
   uint32_t answer = capvet_vet(bytes, length, &LIMITS[1], &report);
   number = report.pointers;
   for (room = 0; room <= CAPVET_MAX_DEPTH; room += CAPVET_MAX_DEPTH) {
-    unsigned long before = taken;
+    before = taken;
     answer = capvet_pointer_path(bytes, length, &LIMITS[1], room == 0 ? number : number + 1, steps, room, &required, &report);
     answered(POINTER_PATH, before, answer);
     before = taken;
     answer = capvet_pointer_path(bytes, length, &LIMITS[1], number, steps, room, &required, &report);
     answered(POINTER_PATH, before, answer);
   }
+  before = taken;
+  answer = capvet_earlier_pointer(bytes, length, &LIMITS[1], number, &report);
+  answered(EARLIER, before, answer);
 }
 
 /* Within each of the limits, without a buffer, and with one. */
@@ -305,6 +311,9 @@ static const struct {
               {POINTER_PATH, CAPVET_NO_NODE},
               {POINTER_PATH, CAPVET_BUFFER_TOO_SMALL},
               {POINTER_PATH, CAPVET_TRUNCATED},
+              {EARLIER, CAPVET_OK},
+              {EARLIER, CAPVET_NO_NODE},
+              {EARLIER, CAPVET_TRUNCATED},
               {EXPLAIN, CAPVET_OK},
               {EXPLAIN, CAPVET_BAD_LIMITS},
               {EXPLAIN, CAPVET_BUFFER_TOO_SMALL},
@@ -333,6 +342,7 @@ int main(int count, char **names) {
   int at;
   expect(taken == before, "capvet_version", version);
   marks(SHARED, sizeof SHARED);
+  paths(SHARED, sizeof SHARED);
   reports(NULL_ROOT, sizeof NULL_ROOT);
   for (at = 1; at < count; at++) {
     FILE *file;

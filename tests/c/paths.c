@@ -2,7 +2,8 @@
  *
  * A request is the limits, the number of a pointer in 8 bytes, the capacity in steps, the alignment and the length of the
  * input, in 4 bytes each, and the input. A reply is the answer in 4 bytes, `required` in 8, the report and the steps of
- * the path. Each buffer is a block of its own of exactly its length, and an empty one is NULL.
+ * the path. Then come the answer and the report of capvet_earlier_pointer for this number. Each buffer is a block of its
+ * own of exactly its length, and an empty one is NULL.
  *
  * The status is 4 if a call changed a step after those of the path, 5 if capvet_get finds nothing at a path without its
  * last step, and 6 if 256 steps are not enough. */
@@ -87,6 +88,10 @@ int main(int count, char **words) {
     put(&told, sizeof told);
     put(&report, sizeof report);
     put(steps, written * sizeof *steps);
+    memset(&report, 0xa5, sizeof report);
+    answer = capvet_earlier_pointer(input, length, &limits, number, &report);
+    put(&answer, sizeof answer);
+    put(&report, sizeof report);
     free(steps);
     free(bytes);
   }

@@ -18,13 +18,14 @@
 enum { STACK = 1 << 16, PAINT = 0xa5, OUT = 1 << 20, NODES = 8 };
 
 enum {
-  FRAME, SEGMENT_AT, VET, EXCLUSIVE, SEGMENTS, CANONICAL, IS_CANONICAL, GET, RANGE, POINTER_PATH, EXPLAIN, PACK, UNPACK,
-  PACK_MESSAGE, UNPACK_MESSAGE, BOUNDS, OTHER, CALLS
+  FRAME, SEGMENT_AT, VET, EXCLUSIVE, SEGMENTS, CANONICAL, IS_CANONICAL, GET, RANGE, POINTER_PATH, EARLIER, EXPLAIN, PACK,
+  UNPACK, PACK_MESSAGE, UNPACK_MESSAGE, BOUNDS, OTHER, CALLS
 };
 static const char *const NAMES[CALLS] = {
     "capvet_frame", "capvet_segment_at", "capvet_vet", "capvet_vet_exclusive", "capvet_vet_segments", "capvet_canonical",
-    "capvet_is_canonical", "capvet_get", "capvet_get_range", "capvet_pointer_path", "capvet_explain", "capvet_pack",
-    "capvet_unpack", "capvet_pack_message", "capvet_unpack_message", "capvet_..._bound", "capvet_version"};
+    "capvet_is_canonical", "capvet_get", "capvet_get_range", "capvet_pointer_path", "capvet_earlier_pointer",
+    "capvet_explain", "capvet_pack", "capvet_unpack", "capvet_pack_message", "capvet_unpack_message", "capvet_..._bound",
+    "capvet_version"};
 
 /* The input of the calls, and what they fill in. */
 static uint8_t bytes[OUT], out[OUT], packed[OUT];
@@ -72,6 +73,7 @@ static __attribute__((noinline)) void make_call(void) {
     case POINTER_PATH:
       answer = capvet_pointer_path(bytes, length, &limits, number, found_steps, room / sizeof *found_steps, &required, &report);
       break;
+    case EARLIER: answer = capvet_earlier_pointer(bytes, length, &limits, number, &report); break;
     case EXPLAIN: answer = capvet_explain(bytes, length, &limits, text, room / 64, &required, &report); break;
     case PACK: answer = capvet_pack(bytes, length, packed, room, &required); break;
     case UNPACK: answer = capvet_unpack(packed, packed_length, out, room, &required); break;

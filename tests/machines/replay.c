@@ -52,6 +52,7 @@ static uint32_t answer(uint32_t call, const uint64_t *a) {
     case 18: return least(capvet_frame_bound(N(0)));
     case 19: return least(capvet_canonical_bound(N(0)));
     case 20: return least(capvet_pack_bound(N(0)));
+    case 21: return capvet_earlier_pointer(P(0), N(1), P(2), a[3], P(4));
   }
   exit(2);
 }

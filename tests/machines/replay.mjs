@@ -10,7 +10,7 @@ const CALLS = [
   ["capvet_is_canonical", "pspp"], ["capvet_get", "psppspp"], ["capvet_get_range", "psppsspspp"], ["capvet_pack", "pspsp"],
   ["capvet_unpack", "pspsp"], ["capvet_pack_message", "psppspp"], ["capvet_unpack_message", "psppspppp"],
   ["capvet_pointer_path", "pspspspp"], ["capvet_explain", "psppspp"], ["capvet_marks_bound", "s"], ["capvet_frame_bound", "s"],
-  ["capvet_canonical_bound", "s"], ["capvet_pack_bound", "s"],
+  ["capvet_canonical_bound", "s"], ["capvet_pack_bound", "s"], ["capvet_earlier_pointer", "pspsp"],
 ];
 const NOTHING = 0xffffffffffffffffn, MOST = 0xffffffffn;
 

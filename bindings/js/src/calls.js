@@ -100,18 +100,30 @@ export function isCanonical(data, limits) {
 // The most steps of a path: one for each level.
 const MAX_STEPS = 256;
 
+// The number of a pointer, as the module takes it: in 32 bits, since no message has so many pointers.
+function pointerOf(pointer) {
+  return Math.min(numberOf("pointer", pointer, Number.MAX_SAFE_INTEGER), 2 ** 32 - 1);
+}
+
 export function pointerPath(data, pointer, limits) {
   const input = inputOf(data, limitsOf(limits)), start = after(input.length);
-  // (the module takes 32 bits, and no message has so many pointers)
-  const asked = Math.min(numberOf("pointer", pointer, Number.MAX_SAFE_INTEGER), 2 ** 32 - 1);
   place(input, 8 * MAX_STEPS);
-  const answer = calls.capvet_pointer_path(at.input, input.length, at.limits, asked, address(start), MAX_STEPS,
+  const answer = calls.capvet_pointer_path(at.input, input.length, at.limits, pointerOf(pointer), address(start), MAX_STEPS,
     at.required, at.report);
   if (answer === NO_NODE) return null;
   check(answer);
   const field = (index) => view.getUint32(start + 4 * index, true);
   const steps = Array.from({ length: number(REQUIRED) }, (_, index) => `${field(2 * index) ? "i" : "p"}${field(2 * index + 1)}`);
   return `/${steps.join("/")}`;
+}
+
+export function earlierPath(data, pointer, limits) {
+  const input = inputOf(data, limitsOf(limits));
+  place(input);
+  const answer = calls.capvet_earlier_pointer(at.input, input.length, at.limits, pointerOf(pointer), at.report);
+  if (answer === NO_NODE) return null;
+  check(answer);
+  return pointerPath(data, reportOf().pointers, limits);
 }
 
 // The most bytes of an explanation.

@@ -229,6 +229,16 @@ test("a pointer has its path", () => {
   assert.throws(() => capvet.pointerPath(new Uint8Array(3), 1), capvet.FrameError);
 });
 
+test("an overlap has two paths", () => {
+  const shared = sample("shared.bin"), refusal = thrown(() => capvet.vetExclusive(shared), capvet.Refusal);
+  assert.equal(capvet.pointerPath(shared, refusal.pointers), "/p1");
+  assert.equal(capvet.earlierPath(shared, refusal.pointers), "/p0");
+  assert.equal(capvet.earlierPath(shared, 2), null);
+  assert.equal(capvet.earlierPath(shared, 0), null);
+  assert.throws(() => capvet.earlierPath(shared, -1), RangeError);
+  assert.throws(() => capvet.earlierPath(new Uint8Array(3), 1), capvet.FrameError);
+});
+
 test("a refusal is explained", () => {
   assert.equal(capvet.explain(contacts), null);
   const damaged = contacts.slice();

@@ -74,13 +74,18 @@ class Refusal(CapvetError):
         the refusal is about no pointer, and may be None or another path if the data or the limits are not those of the
         refusal.
         """
-        view, report, required = read_only(data), ffi.new("capvet_report *"), ffi.new("size_t *")
-        steps = ffi.new("capvet_step[]", lib.CAPVET_MAX_DEPTH)
-        answer = lib.capvet_pointer_path(pointer_to(view), len(view), limits_of(limits), self.pointers, steps, len(steps), required,
-                                         report)
-        if answer != lib.CAPVET_OK:
+        return path_of(data, limits, self.pointers)
+
+    def earlier_path(self, data: Buffer, *, limits: Limits = DEFAULT) -> Optional[str]:
+        """The path to the first pointer that uses a word which this one uses too: the other pointer of an overlap.
+
+        It is found by three more walks up to the pointer. It is None if no pointer before this one uses such a word, or if
+        path() is None.
+        """
+        view, report = read_only(data), ffi.new("capvet_report *")
+        if lib.capvet_earlier_pointer(pointer_to(view), len(view), limits_of(limits), self.pointers, report) != lib.CAPVET_OK:
             return None
-        return "/" + "/".join(f"{'pi'[step.kind]}{step.number}" for step in steps[0:required[0]])
+        return path_of(view, limits, report.pointers)
 
 
 class CapabilityError(CapvetError):
@@ -113,6 +118,16 @@ _FRAME_TEXTS = {
 def name_of(answer: int) -> str:
     """The name of an answer."""
     return str(ffi.string(lib.capvet_answer_name(answer)), "ascii")
+
+
+def path_of(data: Buffer, limits: Limits, number: int) -> Optional[str]:
+    """The path to the pointer of this number in preorder."""
+    view, report, required = read_only(data), ffi.new("capvet_report *"), ffi.new("size_t *")
+    steps = ffi.new("capvet_step[]", lib.CAPVET_MAX_DEPTH)
+    answer = lib.capvet_pointer_path(pointer_to(view), len(view), limits_of(limits), number, steps, len(steps), required, report)
+    if answer != lib.CAPVET_OK:
+        return None
+    return "/" + "/".join(f"{'pi'[step.kind]}{step.number}" for step in steps[0:required[0]])
 
 
 def frame_error(answer: int, report: Any) -> FrameError:

@@ -37,6 +37,14 @@ def test_overlap():
     data = framed(2 << 48, 1 << 2 | 1 << 32, 1 << 32, 7)
     refusal = refusal_of(data, vet=capvet.vet_exclusive)
     assert (refusal.reason, refusal.path(data), refusal.path(b"")) == ("Overlap", "/p1", None)
+    assert (refusal.earlier_path(data), refusal.earlier_path(b"")) == ("/p0", None)
+
+
+def test_overlap_with_the_root_word():
+    # (no pointer uses that word)
+    data = framed(1 << 48, 0xFFFFFFF8 | 1 << 32)
+    refusal = refusal_of(data, vet=capvet.vet_exclusive)
+    assert (refusal.reason, refusal.path(data), refusal.earlier_path(data)) == ("Overlap", "/p0", None)
 
 
 def test_arguments():

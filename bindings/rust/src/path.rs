@@ -76,10 +76,46 @@ impl Refusal {
     /// ```
     #[must_use]
     pub fn path(&self, bytes: &[u8], limits: Limits) -> Option<Path> {
-        let mut steps = [Step::Pointer(0); LONGEST];
-        let (answer, count) = sys::pointer_path(bytes, &limits, self.pointers, &mut steps);
-        (answer == Answer::OK).then_some(Path { steps, count })
+        path_of(bytes, limits, self.pointers)
     }
+
+    /// The path to the first pointer that uses a word which this one uses too: the other pointer of an overlap. It is found by
+    /// three more walks up to the pointer.
+    ///
+    /// `None` if no pointer before this one uses such a word, or if [`path`](Refusal::path) is `None`.
+    ///
+    /// # Examples
+    ///
+    /// ```
+    /// use capvet::{ExclusiveError, Limits, VetError};
+    ///
+    /// // A struct of two pointers, which lead to one struct.
+    /// let message = [
+    ///     0, 0, 0, 0, 4, 0, 0, 0, 0, 0, 0, 0, 0, 0, 2, 0, 4, 0, 0, 0, 1, 0, 0, 0, 0, 0, 0, 0, 1, 0, 0, 0, 7, 0, 0, 0, 0, 0, 0, 0,
+    /// ];
+    /// match capvet::vet_exclusive(&message, Limits::DEFAULT, &mut [0]) {
+    ///     Err(ExclusiveError::NotAccepted(VetError::Refused(refusal))) => {
+    ///         let paths = [refusal.path(&message, Limits::DEFAULT), refusal.earlier_path(&message, Limits::DEFAULT)];
+    ///         assert_eq!(paths.map(|path| path.unwrap().to_string()), ["/p1", "/p0"]);
+    ///     }
+    ///     other => panic!("{other:?}"),
+    /// }
+    /// ```
+    #[must_use]
+    pub fn earlier_path(&self, bytes: &[u8], limits: Limits) -> Option<Path> {
+        let (answer, report) = sys::earlier_pointer(bytes, &limits, self.pointers);
+        if answer != Answer::OK {
+            return None;
+        }
+        path_of(bytes, limits, report.pointers)
+    }
+}
+
+/// The path to the pointer of this number in preorder.
+fn path_of(bytes: &[u8], limits: Limits, number: u64) -> Option<Path> {
+    let mut steps = [Step::Pointer(0); LONGEST];
+    let (answer, count) = sys::pointer_path(bytes, &limits, number, &mut steps);
+    (answer == Answer::OK).then_some(Path { steps, count })
 }
 
 #[cfg(all(test, feature = "std"))]
@@ -148,6 +184,23 @@ mod tests {
             Err(ExclusiveError::NotAccepted(VetError::Refused(overlap))) => {
                 let found = overlap.path(&bytes, Limits::DEFAULT).unwrap();
                 assert_eq!(found.to_string(), "/p1");
+                let earlier = overlap.earlier_path(&bytes, Limits::DEFAULT).unwrap();
+                assert_eq!(earlier.to_string(), "/p0");
+                assert_eq!(overlap.earlier_path(&[], Limits::DEFAULT), None);
+            }
+            other => panic!("{other:?}"),
+        }
+    }
+
+    // A pointer to the root word, which no pointer uses.
+    #[test]
+    fn no_pointer_uses_the_root_word_before() {
+        let bytes = framed(&[1 << 48, 0xFFFF_FFF8 | 1 << 32]);
+        match vet_exclusive(&bytes, Limits::DEFAULT, &mut [0]) {
+            Err(ExclusiveError::NotAccepted(VetError::Refused(overlap))) => {
+                let found = overlap.path(&bytes, Limits::DEFAULT).unwrap();
+                assert_eq!(found.to_string(), "/p0");
+                assert_eq!(overlap.earlier_path(&bytes, Limits::DEFAULT), None);
             }
             other => panic!("{other:?}"),
         }

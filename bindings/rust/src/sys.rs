@@ -199,6 +199,13 @@ extern "C" {
         required: *mut usize,
         report: *mut RawReport,
     ) -> Answer;
+    fn capvet_earlier_pointer(
+        bytes: *const u8,
+        length: usize,
+        limits: *const RawLimits,
+        number: u64,
+        report: *mut RawReport,
+    ) -> Answer;
     fn capvet_explain(
         bytes: *const u8,
         length: usize,
@@ -454,6 +461,16 @@ pub(crate) fn pointer_path(
         )
     };
     (answer, required)
+}
+
+/// Finds the first pointer that uses a word which the pointer of this number in preorder uses too. The report has it.
+pub(crate) fn earlier_pointer(bytes: &[u8], limits: &Limits, number: u64) -> (Answer, RawReport) {
+    let (limits, mut report) = (RawLimits::of(limits), RawReport::default());
+    // SAFETY: the declaration is the header's. `bytes` is borrowed for the call, and the structs are locals.
+    let answer = unsafe {
+        capvet_earlier_pointer(address(bytes), bytes.len(), &limits, number, &mut report)
+    };
+    (answer, report)
 }
 
 /// The most bytes of an explanation.

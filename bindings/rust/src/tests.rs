@@ -229,7 +229,7 @@ fn calls_are_declared_as_in_the_header() {
     let code = header();
     let declared = between(SYS, "extern \"C\" {", "\n}");
     let calls: Vec<_> = declared.split("fn ").skip(1).collect();
-    assert_eq!(calls.len(), 16);
+    assert_eq!(calls.len(), 17);
     for call in calls {
         let (name, here) = call.split_once('(').expect("parameters");
         let there = between(&code, &format!(" {name}("), ")");

@@ -3,6 +3,7 @@ pub mod Answers
 pub mod AppendedWords
 pub mod Bounds
 pub mod Copied
+pub mod EarlierFound
 pub mod Explained
 pub mod GivenWords
 pub mod Gotten

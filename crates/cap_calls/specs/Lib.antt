@@ -8,6 +8,7 @@ pub mod CallNodes
 pub mod CallReports
 pub mod Calls
 pub mod CanonicalCalls
+pub mod EarlierCalls
 pub mod ExclusiveCalls
 pub mod ExplainCalls
 pub mod MessageStages

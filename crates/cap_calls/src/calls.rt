@@ -1,6 +1,7 @@
 //! The calls, a file each.
 
 pub(crate) mod canonical;
+pub(crate) mod earlier_pointer;
 pub(crate) mod explain;
 pub(crate) mod frame;
 pub(crate) mod get;

@@ -23,6 +23,7 @@ mod unpacking;
 pub use answer::Answer;
 pub use buffer_sizes::{canonical_size, frame_size, marks_size, pack_size};
 pub use calls::canonical::canonical;
+pub use calls::earlier_pointer::earlier_pointer;
 pub use calls::explain::explain;
 pub use calls::frame::frame;
 pub use calls::get::get;

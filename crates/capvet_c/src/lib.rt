@@ -6,6 +6,7 @@ ghost use Rattle.cap_calls.specs.AnswerNumbers.{answer_number};
 ghost use Rattle.cap_calls.specs.CallBounds.{canonical_bound, frame_bound, marks_bound, pack_bound};
 ghost use Rattle.cap_calls.specs.CallFlags.{allows_amplified, default_limits};
 ghost use Rattle.cap_calls.specs.CanonicalCalls.{TellsCopy};
+ghost use Rattle.cap_calls.specs.EarlierCalls.{TellsEarlierCall};
 ghost use Rattle.cap_calls.specs.ExclusiveCalls.{TellsExclusive};
 ghost use Rattle.cap_calls.specs.ExplainCalls.{TellsExplanation};
 ghost use Rattle.cap_calls.specs.NodeCalls.{TellsGet};
@@ -25,9 +26,10 @@ ghost use Rattle.cap_calls.specs.Slices.{bytes_of};
 ghost use Rattle.std.specs.Prelude.{◌*◌, ◌+◌, ◌/◌, ◌≡◌, ◌≤◌, ◌⊎◌, IsFalse, List, drop, length, min, ℕ};
 
 use cap_calls::{
-    CallLimits, CallNode, CallReport, CallStep, Unpacking, canonical, canonical_size, explain,
-    frame, frame_size, get, get_range, is_canonical, marks_size, pack, pack_message, pack_size,
-    pointer_path, segment_at, unpack, unpack_message, version, vet, vet_exclusive, vet_segments,
+    CallLimits, CallNode, CallReport, CallStep, Unpacking, canonical, canonical_size,
+    earlier_pointer, explain, frame, frame_size, get, get_range, is_canonical, marks_size, pack,
+    pack_message, pack_size, pointer_path, segment_at, unpack, unpack_message, version, vet,
+    vet_exclusive, vet_segments,
 };
 
 /// Returns the version of the library: 65536 times its major number, 256 times its minor number,
@@ -336,6 +338,30 @@ pub extern "C" fn capvet_pointer_path(
     ensures few { required.new ≤ 256 }
 {
     pointer_path(bytes, limits, number, steps, required, report).number()
+}
+
+/// Finds the first pointer in preorder that uses a word which pointer `number` uses too. The
+/// `report.pointers` of `CAPVET_OVERLAP` is the number of the pointer that overlaps. The pointers
+/// before that one are followed, and the limit `depth` applies to them.
+///
+/// With `CAPVET_OK`, `report` has the segment, the word and the number of the earlier pointer.
+/// `CAPVET_NO_NODE`: no pointer before that one uses such a word, or [`capvet_pointer_path`] finds no
+/// path to that one. The result is the number of what [`earlier_pointer`] returns. The report is
+/// written whole. Allocates nothing.
+#[unsafe(no_mangle)]
+pub extern "C" fn capvet_earlier_pointer(
+    bytes: &[u8],
+    limits: &CallLimits,
+    number: u64,
+    report: &mut CallReport,
+) -> u32
+    ensures tells { (a : Answer) × TellsEarlierCall limits.now bytes.now number a report.new
+        × (result ≡ answer_number a) }
+    // The bytes and the number allow no other result.
+    ensures only { (a : Answer) (r : CallReport) → TellsEarlierCall limits.now bytes.now number a r →
+        (result ≡ answer_number a) × (report.new ≡ r) }
+{
+    earlier_pointer(bytes, limits, number, report).number()
 }
 
 /// Writes the lines that explain why [`capvet_vet`] refuses the message, to the start of `text`. They
