@@ -54,22 +54,22 @@ module _ (l : CallLimits) (bs : List ℕ) where
       (sym f.front.words ∙ g.front.words) in search rules
 
 -- What is found in one way is found in a weaker one.
-pub tells_less : {K L : Type 0} {P Q : List (List ℕ) → ℕ → ℕ → Found → Type 0} (whole : Bool) (l : CallLimits)
-    (bs : List ℕ) (f : Found)
+pub tells_less : {K L : Type 0} {P Q : List (List ℕ) → ℕ → ℕ → Found → Type 0} {whole : Bool} {l : CallLimits}
+    {bs : List ℕ} {f : Found}
     → (K → L) → ((m : List (List ℕ)) (w d : ℕ) (g : Found) → P m w d g → Q m w d g) → TellsWhole whole K P l bs f
     → TellsWhole whole L Q l bs f
-tells_less whole l bs f k p (trailing m x y t h more e i) = trailing m x y t h more e (k i)
-tells_less whole l bs f k p (tells none (without c h e x)) = tells none (without c h e (k x))
-tells_less whole l bs f k p (tells none (framed m x y g h i e)) = tells none
+tells_less k p (trailing m x y t h more e i) = trailing m x y t h more e (k i)
+tells_less k p (tells none (without c h e x)) = tells none (without c h e (k x))
+tells_less {l = l} k p (tells none (framed m x y g h i e)) = tells none
     (framed m x y g h (p m l.charge l.depth g i) e)
 
-pub input_less : {K L : Type 0} {P Q : List (List ℕ) → ℕ → ℕ → Found → Type 0} (whole : Bool) (l : CallLimits)
-    (bs : List ℕ) (f : Found)
+pub input_less : {K L : Type 0} {P Q : List (List ℕ) → ℕ → ℕ → Found → Type 0} {whole : Bool} {l : CallLimits}
+    {bs : List ℕ} {f : Found}
     → (K → L) → ((m : List (List ℕ)) (w d : ℕ) (g : Found) → P m w d g → Q m w d g) → TellsInput whole K P l bs f
     → TellsInput whole L Q l bs f
-input_less whole l bs f k p (of_frame n t) = of_frame n (tells_less whole l bs f k p t)
-input_less whole l bs f k p (of_no_words y c h e x) = of_no_words y c h e (k x)
-input_less whole l bs f k p (of_words y g h i e) = of_words y g h (p (plain_words bs ∷ []) l.charge l.depth g i) e
+input_less k p (of_frame n t) = of_frame n (tells_less k p t)
+input_less k p (of_no_words y c h e x) = of_no_words y c h e (k x)
+input_less {l = l} {bs = bs} k p (of_words y g h i e) = of_words y g h (p (plain_words bs ∷ []) l.charge l.depth g i) e
 
 -- What the flag allows is what the call asked for.
 pub by_flag : {K : Type 0} {P : List (List ℕ) → ℕ → ℕ → Found → Type 0} (l : CallLimits) (bs : List ℕ) (f : Found)
@@ -183,10 +183,10 @@ one_message_told whole l bs a b r q one (f, t, h) (g, u, k) =
 
 pub one_vet_told : (l : CallLimits) (bs : List ℕ) (a b : Answer) (r q : CallReport) → TellsVet l bs a r
     → TellsVet l bs b q → (a ≡ b) × (r ≡ q)
-one_vet_told l bs a b r q t u = one_message_told (not (allows_trailing l)) l bs a b r q (λ _ _ _ _ e i. e ∙ sym i) t u
+one_vet_told l bs a b r q t u = one_message_told (not (allows_trailing l)) l bs a b r q (λ m z x y e i. e ∙ sym i) t u
 
 one_check : (m : List (List ℕ)) (r : Report) (f g : Found) → IsCheck m r f → IsCheck m r g → f ≡ g
-one_check m r f g x5 x6 = search rules
+one_check m r f g h k = search rules
 
 pub one_check_told : (l : CallLimits) (bs : List ℕ) (a b : Answer) (r q : CallReport) → TellsCheck l bs a r
     → TellsCheck l bs b q → (a ≡ b) × (r ≡ q)

@@ -32,7 +32,7 @@ one_gets path demands x y m w d f g (a_node k t b z meets at e n) (a_node k' t' 
 -- Bad limits are all that is found.
 pub limits_alone : {K : Type 0} {P : List (List ℕ) → ℕ → ℕ → Found → Type 0} (whole : Bool) (l : CallLimits) (bs : List ℕ)
     (f : Found) → ¬ AreLimits l → TellsWhole whole K P l bs f → (f ≡ none_found BadLimits) × K
-limits_alone whole l bs f bad x6 = search rules
+limits_alone whole l bs f bad h = search rules
 
 one_told_path : (l : CallLimits) (bs text : List ℕ) (x y : CallNode) (f g : Found) → TellsPath l bs text x f
     → TellsPath l bs text y g → (f ≡ g) × (x ≡ y)

@@ -49,7 +49,7 @@ few_marks l bs frame segments m h = search (rules, length-append, length_joined)
 
 marked_count : (size : ℕ) (demands : Demands) (m : List (List ℕ)) (w d : ℕ) (f : Found) → Marks size demands m w d f
     → f.count ≤ marks_of m
-marked_count size demands m w d f x7 = search rules
+marked_count size demands m w d f h = search rules
 
 few_required : (whole : Bool) (l : CallLimits) (bs : List ℕ) (size : ℕ) (demands : Demands) (f : Found)
     → TellsWhole whole ⊤ (Marks size demands) l bs f → f.count ≤ f.report.length / 512 + 1
@@ -74,11 +74,11 @@ few_input whole l bs size demands f (of_words y g h p e) =
 -- What was found of the marks holds of all the bytes.
 marks_kept : (whole : Bool) (demands : Demands) (l : CallLimits) (bs old new : List ℕ) (f : Found)
     → TellsWhole whole (new ≡ old) (MarksIn old new demands) l bs f → KeepsMarks old new f
-marks_kept whole demands l bs old new f x8 = search rules
+marks_kept whole demands l bs old new f h = search rules
 
 pub input_kept : (whole : Bool) (demands : Demands) (l : CallLimits) (bs old new : List ℕ) (f : Found)
     → TellsInput whole (new ≡ old) (MarksIn old new demands) l bs f → KeepsMarks old new f
-input_kept whole demands l bs old new f x8 = search (rules, marks_kept)
+input_kept whole demands l bs old new f h = search (rules, marks_kept)
 
 -- A fault of an accepted message is what the call finds of it.
 pub marked_fault : (size : ℕ) (m : List (List ℕ)) (r : Report) (fault : ExclusiveFault) (f : Found) → IsVetted m r
@@ -93,7 +93,7 @@ marked_fault size m r (Overlap s w n) f v h e = overlap s w n h.2 h.3 e
 pub fault_kept : (old new : List ℕ) (m : List (List ℕ)) (fault : ExclusiveFault) (f : Found)
     → f ≡ fault_found (marks_of m) fault → KeepsRoom fault old new
     → drop (marks_of m) new ≡ drop (marks_of m) old → KeepsMarks old new f
-fault_kept old new m fault f e x7 x8 = search rules
+fault_kept old new m fault f e h k = search rules
 
 -- Nothing is changed of a message that isn't accepted.
 pub refused_kept : (old new : List ℕ) (f : Found) → new ≡ old → KeepsMarks old new f

@@ -121,7 +121,7 @@ still_open limit wanted at k n out given whole eight from within less inside o =
 
 -- It wants whole words.
 pub wanted_whole : (limit wanted : ℕ) (held : List ℕ) → IsOpen limit held wanted → wanted % 8 ≡ 0
-wanted_whole limit wanted held x4 = search rules
+wanted_whole limit wanted held h = search rules
 
 -- how a call ends at any stage
 pub ends_at : (stage : Stage) (size : ℕ) (g : Given) (rest : List ℕ)

@@ -25,7 +25,7 @@ node_at m k t b = kind_node k (offset_of m t b)
 
 one_seen : (m : List (List ℕ)) (s w : ℕ) (k k' : Kind) (t b t' b' : ℕ) → Seen m s w k t b → Seen m s w k' t' b'
     → node_at m k t b ≡ node_at m k' t' b'
-one_seen m s w k k' t b t' b' x10 x11 = search (rules, to_null, to_cap, one_lead, to_object, one_found)
+one_seen m s w k k' t b t' b' h e = search (rules, to_null, to_cap, one_lead, to_object, one_found)
 
 -- an element is a struct
 record IsElement (t' b' ds ps : ℕ) (k : Kind) (t b : ℕ) : Type 0 where

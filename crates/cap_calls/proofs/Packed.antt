@@ -10,7 +10,7 @@ use Rattle.cap_calls.proofs.Texts.{one_text}
 pub one_pack_told : (bs old : List ℕ) (a b : Answer) (n k : ℕ) (xs ys : List ℕ) → TellsPack bs old a n xs
     → TellsPack bs old b k ys →
     (a ≡ b) × (n ≡ k) × (xs ≡ ys)
-one_pack_told bs old a b n k xs ys x9 x10 = search (rules, one_text, false≢true)
+one_pack_told bs old a b n k xs ys h e = search (rules, one_text, false≢true)
 
 -- Their length decides whether they are words.
 pub cut_by_length : (bs : List ℕ) → 0 < length bs % 8 → plain_is_cut bs ≡ true

@@ -28,7 +28,7 @@ one_pack_message_told l bs old a b n k xs ys r q (f, t, h, e) (g, u, i, j) =
 -- What is found of the frame is found of its message, by the flag.
 pub packs_by_flag : (l : CallLimits) (bs old new : List ℕ) (f : Found) (w : Bool) → w ≡ allows_trailing l
     → TellsWhole (not w) (new ≡ old) (PacksShort old new) l bs f → TellsMessage (new ≡ old) (Packs old new) l bs f
-packs_by_flag l bs old new f w e t = message_by_flag l bs f w e (tells_less (not w) l bs f (λ k. k) (λ _ _ _ _ p. p.0) t)
+packs_by_flag l bs old new f w e t = message_by_flag l bs f w e (tells_less (λ k. k) (λ m x y g p. p.0) t)
 
 -- The text has at most ten bytes for each word of the frame.
 pub packed_few : (whole : Bool) (l : CallLimits) (bs old new : List ℕ) (f : Found)

@@ -23,7 +23,7 @@ marked_part : (tag : ℕ) (b : List ℕ) → tag ≢ 0 → tag ≢ 255 → tag <
 marked_part tag b z f small h = search (rules, length_marked, unpacked_short)
 
 pub head_part : (bytes : List ℕ) → AllByRecursion (λ b. b < 256) bytes → length bytes < head_length bytes → unpacked bytes ≡ []
-head_part bytes x2 h = search (rules, unpacked_short, lt-ltb, marked_part)
+head_part bytes k h = search (rules, unpacked_short, lt-ltb, marked_part)
 
 -- fewer bytes than those of the head give no word
 pub head_least : (bytes : List ℕ) (n : ℕ) → AllByRecursion (λ b. b < 256) bytes → n < head_length bytes

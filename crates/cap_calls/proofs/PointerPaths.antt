@@ -43,7 +43,7 @@ one_pointer_told l bs number old a b n k x y r q (f, t, h, e) (g, u, i, j) =
 -- The steps are few, since the depth limit is.
 pub few_told : (whole : Bool) (l : CallLimits) (bs : List ℕ) (n : ℕ) (old new : List CallStep) (f : Found)
     → TellsInput whole (new ≡ old) (FindsFew n old new) l bs f → f.count ≤ 256
-few_told whole l bs n old new f x8 = search rules
+few_told whole l bs n old new f h = search rules
 
 -- The path is the start of what was filled.
 pub path_kept : (path old new : List Step) (count : ℕ) → new ≡ filled path old → count ≡ length path → count ≤ length old

@@ -56,7 +56,7 @@ abbrev pub RangeSoFar : (ℕ → List Step) → List CallNode → List CallNode 
 RangeSoFar path old new demands m words depth k =
     WritesFirst (λ j node. Gets (path j) node demands m words depth (path_found Good)) k old new
 
-module _ (path : ℕ → List Step) (old : List CallNode) (demands : Demands) (m : List (List ℕ)) (w d : ℕ) where
+module _ (path : ℕ → List Step) {old : List CallNode} {demands : Demands} {m : List (List ℕ)} {w d : ℕ} where
   -- one node more
   pub more_so_far : (new after : List CallNode) (k : ℕ) (node : CallNode) → RangeSoFar path old new demands m w d k
       → k < length new → Gets (path k) node demands m w d (path_found Good) → after ≡ slice_set new k node
@@ -90,6 +90,7 @@ module _ (path : ℕ → List Step) (old : List CallNode) (demands : Demands) (m
             (e ∙ ap (λ (n : ℕ). record g { count = n }) (sym count));
       }
 
+module _ (path : ℕ → List Step) (old : List CallNode) (demands : Demands) (m : List (List ℕ)) (w d : ℕ) where
   -- A range doesn't stop where another has a node.
   not_before : (x y : List CallNode) (f g : Found) → GetsRange path old x demands m w d f → GetsRange path old y demands m w d g
       → g.count < f.count → f.count ≤ length old → ⊥
@@ -141,7 +142,7 @@ module _ (path : ℕ → List Step) (old : List CallNode) (demands : Demands) (m
 
 -- Steps are bad in one way, and aren't good then.
 one_bad_step : (steps : List CallStep) (v a b : ℕ) → IsBadStep steps v a → IsBadStep steps v b → a ≡ b
-one_bad_step steps v a b x5 x6 = search rules
+one_bad_step steps v a b h k = search rules
 
 good_steps : (steps : List CallStep) (v a : ℕ) → AreSteps steps v → IsBadStep steps v a → ⊥
 good_steps steps v a are (unknown l h first) = (let no = are.known a l in omega (arith, no, h))

@@ -9,13 +9,13 @@ use Rattle.cap_calls.specs.CallNames.{TellsText, Answer, BufferTooSmall, Good}
 pub one_text : (text old : List ℕ) (a b : Answer) (n k : ℕ) (xs ys : List ℕ) → TellsText text old a n xs
     → TellsText text old b k ys →
     (a ≡ b) × (n ≡ k) × (xs ≡ ys)
-one_text text old a b n k xs ys x9 x10 = search rules
+one_text text old a b n k xs ys h e = search rules
 
 -- So do packed bytes and a buffer.
 pub one_unpack_told : (bs old : List ℕ) (a b : Answer) (n k : ℕ) (xs ys : List ℕ) → TellsUnpack bs old a n xs
     → TellsUnpack bs old b k ys →
     (a ≡ b) × (n ≡ k) × (xs ≡ ys)
-one_unpack_told bs old a b n k xs ys x9 x10 = search (rules, one_text, false≢true)
+one_unpack_told bs old a b n k xs ys h e = search (rules, one_text, false≢true)
 
 -- The words are at the start of the buffer, and the bytes after them stay.
 pub unpack_written : (bs old : List ℕ) (n : ℕ) → length bs ≤ 2 ^ 53 → packed_is_cut bs ≡ false

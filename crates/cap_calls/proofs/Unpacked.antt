@@ -15,7 +15,7 @@ plain_count bs e l = search (rules, length-take-le, length-drop, length-append, 
 pub marked_length : (bs : List ℕ) → 0 < length bs → slice_index bs 0 < 256 → slice_index bs 0 ≢ 0
     → slice_index bs 0 ≢ 255 →
     group_length bs ≡ 1 + ones (slice_index bs 0)
-marked_length bs l x3 z f = search (rules, head_rest-ones, head_rest-marked, length_marked)
+marked_length bs l h z f = search (rules, head_rest-ones, head_rest-marked, length_marked)
 
 -- the groups behind the one in front go on with the words and with the end
 pub goes_on : (bs front : List ℕ) (at n k words : ℕ) → front ≡ drop at bs → 0 < length front → n ≡ group_length front

@@ -22,9 +22,9 @@ stop_bounded limit size held z literal rest a required written r (no_message non
 stop_bounded limit size held z literal rest a required written r (truncated wanted still none some e n w i) =
     omega (arith, n)
 
-pub unpack_bounded : (l : CallLimits) (bs old : List ℕ) (state : Unpacking) (a : Answer) (consumed required : ℕ)
-    (new : List ℕ) (left : Unpacking) (r : CallReport)
+pub unpack_bounded : {l : CallLimits} {bs old : List ℕ} {state : Unpacking} {a : Answer} {consumed required : ℕ}
+    {new : List ℕ} {left : Unpacking} {r : CallReport}
     → TellsUnpackMessage l bs old state a consumed required new left r → required ≤ frame_bound l.message_words
-unpack_bounded l bs old state a consumed required new left r (bad limits e c n o s i) = omega (arith, n)
-unpack_bounded l bs old state a consumed required new left r (unpacks words z literal written limits is appends stops s) =
+unpack_bounded (bad limits e c n o s i) = omega (arith, n)
+unpack_bounded {l = l} {old = old} {a = a} {required = required} {r = r} (unpacks words z literal written limits is appends stops s) =
     stop_bounded l.message_words (length old) _ z literal _ a required written r stops

@@ -56,7 +56,7 @@ accepted_frame l bs r off (f, of_frame n (tells only (framed m x y g h (accepted
 got : (path : List Step) (node : CallNode) (demands : Demands) (m : List (List ℕ)) (words depth : ℕ) (g : Found)
     → MeetsOnPath demands m words depth path → Gets path node demands m words depth g
     → (g.answer ≡ answer.Good) ⊎ (g.answer ≡ answer.NoNode)
-got path node demands m words depth g x8 x9 = search (rules, meets_no_path_fault)
+got path node demands m words depth g h k = search (rules, meets_no_path_fault)
 
 -- So each path of an accepted message has a node or none.
 module _ (l : CallLimits) (bs : List ℕ) (k : IsAcceptedFrame l bs) where

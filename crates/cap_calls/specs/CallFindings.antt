@@ -7,7 +7,7 @@ use Rattle.cap_spec.specs.declared.StrictRefusal.{StrictRefusal}
 use Rattle.cap_spec.specs.declared.StrictRefusal.TheVariants.{Refused}
 use Rattle.cap_vet.specs.VetNames.{IsDemandFault, Meets, words_under, IsAccepted}
 use Rattle.cap_vet.specs.declared.demands.Demands.{Demands}
-use Rattle.cap_vet.specs.declared.report.Report.{Report}
+use Rattle.cap_vet.specs.declared.walk.vetting.Report.{Report}
 use Rattle.cap_calls.specs.AnswerNumbers.{refusal_answer}
 use Rattle.cap_calls.specs.CallFrames.{HasFrame, HasNoFrame, HasTrailing}
 use Rattle.cap_calls.specs.CallReports.{accepted_report, cause_answer, no_frame_report, refused_report, trailing_report}

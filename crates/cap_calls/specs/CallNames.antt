@@ -8,11 +8,11 @@ pub use Rattle.cap_spec.specs.declared.StrictRefusal.{StrictRefusal}
 pub use Rattle.cap_spec.specs.declared.StrictRefusal.TheVariants.{ManySegments, Pointer}
 pub use Rattle.cap_frame.specs.declared.fault.FrontFault.{FrontFault}
 pub use Rattle.cap_frame.specs.declared.framed.Framed.{Framed}
-pub use Rattle.cap_frame.specs.declared.view.ByteView.{ByteView}
+pub use Rattle.cap_frame.specs.declared.byte_message.ByteView.{ByteView}
 pub use Rattle.cap_vet.specs.declared.demands.Demands.{Demands}
 pub use Rattle.cap_vet.specs.declared.nodes.path_start.PathStart.{PathStart}
 pub use Rattle.cap_vet.specs.declared.nodes.view.View.{View}
-pub use Rattle.cap_vet.specs.declared.report.Report.{Report}
+pub use Rattle.cap_vet.specs.declared.walk.vetting.Report.{Report}
 pub use Rattle.cap_calls.specs.AnswerNumbers.{reason_answer, refusal_answer}
 pub use Rattle.cap_calls.specs.CallBounds.{frame_bound}
 pub use Rattle.cap_calls.specs.CallFindings.{Judges, Tells, TellsWhole, accepted_found, framed, framed_found}

@@ -2,7 +2,7 @@
 -- (profile; standard: Serialization Over a Stream, Canonicalization).
 use Rattle.std.specs.Prelude.{List, not, true, ℕ, ⊤, ◌≡◌}
 use Rattle.cap_spec.specs.Copies.{IsCanonical}
-use Rattle.cap_vet.specs.declared.report.Report.{Report}
+use Rattle.cap_vet.specs.declared.walk.vetting.Report.{Report}
 use Rattle.cap_calls.specs.CallFindings.{Judges, Returns, Tells, TellsWhole, accepted_found}
 use Rattle.cap_calls.specs.CallFlags.{allows_trailing, demands_of}
 use Rattle.cap_calls.specs.CallInputs.{TellsInput}

@@ -3,7 +3,7 @@
 use Rattle.std.specs.Prelude.{Err, List, Ok, Result, not, ℕ, ◌≡◌}
 use Rattle.cap_spec.specs.SpecNames.{HasCopy, IsFirstCap, plain_text}
 use Rattle.cap_vet.specs.declared.demands.Demands.{Demands}
-use Rattle.cap_vet.specs.declared.report.Report.{Report}
+use Rattle.cap_vet.specs.declared.walk.vetting.Report.{Report}
 use Rattle.cap_canon.specs.declared.fault.RoomFault.{RoomFault}
 use Rattle.cap_calls.specs.CallFindings.{Judges, JudgesAny, Returns, Tells, accepted_found}
 use Rattle.cap_calls.specs.CallFlags.{allows_trailing, demands_of}

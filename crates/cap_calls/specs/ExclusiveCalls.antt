@@ -6,7 +6,7 @@ use Rattle.cap_spec.specs.declared.StrictRefusal.TheVariants.{Refused}
 use Rattle.cap_vet.specs.VetNames.{IsExclusiveFault, IsAccepted, marks_of}
 use Rattle.cap_vet.specs.declared.demands.Demands.{Demands}
 use Rattle.cap_vet.specs.declared.exclusiveness.exclusive_room.ExclusiveFault.{ExclusiveFault}
-use Rattle.cap_vet.specs.declared.report.Report.{Report}
+use Rattle.cap_vet.specs.declared.walk.vetting.Report.{Report}
 use Rattle.cap_calls.specs.CallFindings.{Judges, Returns, accepted_found, refused_found}
 use Rattle.cap_calls.specs.CallFlags.{allows_trailing, demands_of}
 use Rattle.cap_calls.specs.CallInputs.{TellsInput}

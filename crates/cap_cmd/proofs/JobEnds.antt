@@ -31,10 +31,10 @@ use Rattle.cap_run.proofs.FilterEnds.{reads_whole}
 use Rattle.cap_cmd.specs.Jobs.{CanonsInput, CanonsTo, DoesJob, DoesTask, PlacesInput, TellsInput, TranscodesInput, TranscodesTo}
 use Rattle.cap_cmd.specs.Jobs.{WritesAll, WritesInput, input_is_cut, input_words}
 use Rattle.cap_cmd.specs.Statuses.{cause_status, frame_status, outcome_status, run_status, transcode_status}
-use Rattle.cap_cmd.specs.declared.job.Job.{Job}
-use Rattle.cap_cmd.specs.declared.job.Task.{Task}
-use Rattle.cap_cmd.specs.declared.job.Task.TheVariants.{Check, Dump, Explain, Filter, Get, Pack, Segments, Unpack, Vet}
-use Rattle.cap_cmd.specs.declared.job.Task.TheVariants.{Canon as canon_task}
+use Rattle.cap_cmd.specs.declared.command_line.Job.{Job}
+use Rattle.cap_cmd.specs.declared.command_line.Task.{Task}
+use Rattle.cap_cmd.specs.declared.command_line.Task.TheVariants.{Check, Dump, Explain, Filter, Get, Pack, Segments, Unpack, Vet}
+use Rattle.cap_cmd.specs.declared.command_line.Task.TheVariants.{Canon as canon_task}
 use Rattle.cap_words.specs.declared.ends.ByteIn as input
 use Rattle.cap_words.specs.declared.ends.ByteOut as output
 use Rattle.cap_words.specs.declared.sinks.WordSink as sink
@@ -220,14 +220,17 @@ module _ {S O E P U : Type 0} (gs : source.Ghosts S) (go : output.Ghosts O) (ge 
       all_copied gs go s first d.last gu plain_text most_unpacked_at_once before after d.answer
       (sym d.reported.status_is ∙ e) d.does
 
+module _ {S O E P U : Type 0} {gs : source.Ghosts S} {go : output.Ghosts O} {ge : output.Ghosts E}
+    {gp : sink.Ghosts P} {gu : sink.Ghosts U} where
   -- and what a job wrote
-  pub job_writes_all : {I : Type 0} (gi : input.Ghosts I) (is_packed packed : Bool) (job : Job)
-      (start : I) (before after : O) (old new : E) (status : ℕ) → is_packed ≡ packed → status ≡ 0
+  pub job_writes_all : {I : Type 0} {gi : input.Ghosts I} {is_packed packed : Bool} {job : Job}
+      {start : I} {before after : O} {old new : E} {status : ℕ} → is_packed ≡ packed → status ≡ 0
       → DoesJob gi gs go ge gp gu packed job start before after old new status
       → WritesAll job.task job.settings job.demands (input_words is_packed (gi.to_come start))
       (input_is_cut is_packed (gi.to_come start)) (go.written before) (go.written after)
-  job_writes_all gi is_packed packed job start before after old new status same e j =
-      let written = writes_all job.task job.settings job.demands j.first before after old new status e j.does in
+  job_writes_all {gi = gi} {packed = packed} {job = job} {start = start} {before = before} {after = after} {old = old}
+      {new = new} {status = status} same e j =
+      let written = writes_all gs go ge gp gu job.task job.settings job.demands j.first before after old new status e j.does in
       let cut = subst (λ c. WritesAll job.task job.settings job.demands (gs.words j.first) c (go.written before)
       (go.written after))
       j.begins.is_cut written in

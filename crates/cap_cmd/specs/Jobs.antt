@@ -34,10 +34,10 @@ use Rattle.cap_run.specs.declared.settings.FilterForm.{FilterForm}
 use Rattle.cap_run.specs.declared.settings.Outcome.{Outcome}
 use Rattle.cap_run.specs.declared.settings.Settings.{Settings}
 use Rattle.cap_cmd.specs.Statuses.{run_status, transcode_status}
-use Rattle.cap_cmd.specs.declared.job.Job.{Job}
-use Rattle.cap_cmd.specs.declared.job.Task.{Task}
-use Rattle.cap_cmd.specs.declared.job.Task.TheVariants.{Canon, Check, Dump, Explain, Filter, Get, Pack, Segments}
-use Rattle.cap_cmd.specs.declared.job.Task.TheVariants.{Unpack, Vet}
+use Rattle.cap_cmd.specs.declared.command_line.Job.{Job}
+use Rattle.cap_cmd.specs.declared.command_line.Task.{Task}
+use Rattle.cap_cmd.specs.declared.command_line.Task.TheVariants.{Canon, Check, Dump, Explain, Filter, Get, Pack, Segments}
+use Rattle.cap_cmd.specs.declared.command_line.Task.TheVariants.{Unpack, Vet}
 use Rattle.cap_words.specs.declared.ends.ByteIn as input
 use Rattle.cap_words.specs.declared.ends.ByteOut as output
 use Rattle.cap_words.specs.declared.sinks.WordSink as sink

@@ -3,10 +3,7 @@
 #![tactic(auto)]
 
 mod command_line;
-mod job;
 mod running;
-mod status;
 
-pub use command_line::read_job;
-pub use job::{Job, JobFault, Task};
+pub use command_line::{Job, JobFault, Task, read_job};
 pub use running::run_job;

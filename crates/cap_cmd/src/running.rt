@@ -1,21 +1,25 @@
-//! Doing a job: its engine is run over an input, an output and an output for faults.
+//! Doing a job: its engine is run over an input, an output and an output for faults. The exit status
+//! is 0 if all is well, 1 for what the input is, and 3 for a failed device or if memory ran out.
 
-ghost use Rattle.cap_cmd.specs.Jobs.{CanonsTask, TranscodesTask, DoesJob, DoesTask, ReportsCopy, ReportsExplained, ReportsRun, WritesAll, input_is_cut, input_words, reads_packed};
+ghost use Rattle.cap_cmd.specs.Jobs.{CanonsTask, DoesJob, DoesTask, ReportsCopy, ReportsExplained, ReportsRun, TranscodesTask, WritesAll, input_is_cut, input_words, reads_packed};
+ghost use Rattle.cap_cmd.specs.Statuses.{cause_status, outcome_status, run_status, transcode_status};
+ghost use Rattle.cap_run.specs.Breaking.{run_answer};
 ghost use Rattle.cap_run.specs.Engines.{most_packed_at_once, most_unpacked_at_once};
 ghost use Rattle.cap_spec.specs.Packing.{pack_text};
 ghost use Rattle.cap_spec.specs.Plain.{plain_text};
 ghost use Rattle.std.specs.Prelude.{◌≡◌, false, true};
 
-use crate::job::{Job, Task};
-use crate::status::{explained_status, stream_status, words_status};
+use crate::command_line::{Job, Task};
+use cap_canon::CanonFault;
+use cap_frame::FrameFault;
 use cap_pack::{Packer, Unpacker};
 use cap_run::{
-    CopyFault, ExplainedFault, Outcome, Peek, RunFault, run_canon_with, run_check_with,
+    Cause, CopyFault, ExplainedFault, Outcome, Peek, RunFault, run_canon_with, run_check_with,
     run_dump_with, run_explain, run_explain_exclusive, run_filter, run_get_with, run_pack,
     run_segments, run_unpack, run_vet_exclusive_with, run_vet_with, write_copy_fault,
     write_explained_fault, write_fault,
 };
-use cap_words::{ByteIn, ByteOut, PlainSink, PlainWords, WordSink, WordSource};
+use cap_words::{ByteIn, ByteOut, PlainSink, PlainWords, SourceFault, WordSink, WordSource};
 use std::alloc::Global;
 
 /// The most words that are packed or unpacked.
@@ -251,5 +255,75 @@ pub fn run_job<I: ByteIn + Drop, O: ByteOut, E: ByteOut>(
         run_over(alloc, job, Unpacker::new(input), out, err)
     } else {
         run_over(alloc, job, PlainWords::new(input), out, err)
+    }
+}
+
+/// The exit status of a fault at a message.
+fn fault_status(cause: Cause) -> u8
+    ensures { result ≡ cause_status cause }
+{
+    match cause {
+        Cause::TooManyMessages => 1,
+        Cause::Frame(fault) => match fault {
+            FrameFault::TooManySegments { count: _ } => 1,
+            FrameFault::TooLarge { words: _ } => 1,
+            FrameFault::Truncated { byte: _ } => 1,
+            FrameFault::Device => 3,
+            FrameFault::Memory => 3,
+            FrameFault::Spent => 3,
+        },
+        Cause::Output(_) => 3,
+        Cause::Refused(_) => 1,
+        Cause::NotStrict(_) => 1,
+        Cause::Canon(CanonFault::HasCapability { .. }) => 1,
+        Cause::Canon(CanonFault::Memory) => 3,
+        Cause::Memory => 3,
+    }
+}
+
+/// The exit status of an outcome: 0 where every message was accepted.
+fn outcome_status(outcome: &Outcome) -> u8
+    ensures { result ≡ outcome_status outcome.now }
+{
+    if outcome.refused == 0 && outcome.noncanonical == 0 {
+        0
+    } else {
+        1
+    }
+}
+
+/// The exit status of an engine's answer: 0 where every message was accepted.
+pub(crate) fn stream_status(answer: &Result<Outcome, RunFault>) -> u8
+    ensures { result ≡ run_status answer.now }
+{
+    match answer {
+        Ok(outcome) => outcome_status(outcome),
+        Err(fault) => fault_status(fault.cause),
+    }
+}
+
+/// The exit status of the answer of an engine that explains, by the same rule.
+pub(crate) fn explained_status(answer: &Result<Outcome, ExplainedFault>) -> u8
+    ensures { result ≡ run_status (run_answer answer.now) }
+{
+    match answer {
+        Ok(outcome) => outcome_status(outcome),
+        Err(fault) => fault_status(fault.fault.cause),
+    }
+}
+
+/// The exit status of a copy's answer: 0 where all words were copied.
+pub(crate) fn words_status(answer: &Result<u64, CopyFault>) -> u8
+    ensures { result ≡ transcode_status answer.now }
+{
+    match answer {
+        Ok(_) => 0,
+        Err(CopyFault::TooManyWords) => 1,
+        Err(CopyFault::Source(fault)) => match fault {
+            SourceFault::Truncated { byte: _ } => 1,
+            SourceFault::Device => 3,
+            SourceFault::Spent => 3,
+        },
+        Err(CopyFault::Output(_)) => 3,
     }
 }

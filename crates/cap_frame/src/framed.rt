@@ -7,10 +7,10 @@ ghost use Rattle.cap_spec.specs.GreatestLimits.{most_words};
 ghost use Rattle.cap_spec.specs.Plain.{plain_words};
 ghost use Rattle.std.specs.Prelude.{◌*◌, ◌+◌, ◌≡◌, ◌≤◌, ◌↔◌, IfSome, IsSome, length, sum};
 
+use crate::byte_message::ByteView;
 use crate::segment_tables::{SegmentTables, fill_starts};
 use crate::segments::Segments;
 use crate::table::Sizes;
-use crate::view::ByteView;
 use byteorder::{ByteOrder, LittleEndian};
 
 /// The framed message at the start of borrowed bytes: its table is read, and its words are not

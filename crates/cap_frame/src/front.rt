@@ -6,9 +6,8 @@ ghost use Rattle.cap_frame.specs.Limit.{limit_of};
 ghost use Rattle.cap_spec.specs.Plain.{plain_words};
 ghost use Rattle.std.specs.Prelude.{◌*◌, ◌≡◌, ◌≤◌, length, sum};
 
-use crate::fault::FrontFault;
+use crate::fault::{FrontFault, SizeLimit};
 use crate::framed::Framed;
-use crate::limit::SizeLimit;
 use byteorder::{ByteOrder, LittleEndian};
 
 // How many words `count` segments have together, by the table at the start of bytes.

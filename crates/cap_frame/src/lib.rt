@@ -2,13 +2,11 @@
 //! and writing them to a sink.
 #![tactic(auto)]
 
-mod byte_contents;
 mod byte_message;
 mod byte_reader;
 mod fault;
 mod framed;
 mod front;
-mod limit;
 mod message;
 mod outline;
 mod outline_reader;
@@ -17,16 +15,13 @@ mod segment_tables;
 mod segments;
 mod skipping;
 mod table;
-mod view;
-mod words;
 mod writer;
 
-pub use byte_message::ByteMessage;
+pub use byte_message::{ByteMessage, ByteView};
 pub use byte_reader::{read_byte_message, read_into, read_noting};
-pub use fault::{FrameFault, FrontFault};
+pub use fault::{FrameFault, FrontFault, SizeLimit};
 pub use framed::Framed;
 pub use front::front_of;
-pub use limit::SizeLimit;
 pub use message::{OneSegment, WordMessage};
 pub use outline::Outline;
 pub use outline_reader::{read_outline, read_outline_noting};
@@ -34,5 +29,4 @@ pub use reader::read_message;
 pub use segment_tables::SegmentTables;
 pub use segments::Segments;
 pub use table::TableSums;
-pub use view::ByteView;
 pub use writer::{TABLE_BYTES, table_into, write_message};

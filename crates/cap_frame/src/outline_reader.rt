@@ -6,8 +6,7 @@ ghost use Rattle.cap_frame.specs.Reading.{ReadsFrame};
 ghost use Rattle.cap_frame.specs.TablesLeft.{LeavesTable};
 ghost use Rattle.std.specs.Prelude.{◌≡◌, [], IfErr, IsErrOf, None, OnOk, true};
 
-use crate::fault::{FrameFault, frame_fault};
-use crate::limit::SizeLimit;
+use crate::fault::{FrameFault, SizeLimit, frame_fault};
 use crate::outline::Outline;
 use crate::skipping::skip_contents;
 use crate::table::{TableSums, next_table, sums_after};

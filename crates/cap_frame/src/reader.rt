@@ -3,12 +3,10 @@
 ghost use Rattle.cap_frame.specs.Limit.{limit_of};
 ghost use Rattle.cap_frame.specs.Reading.{IsResult, ReadsFrame, has_message};
 
-use crate::fault::{FrameFault, frame_fault};
-use crate::limit::SizeLimit;
+use crate::fault::{FrameFault, SizeLimit, frame_fault};
 use crate::message::WordMessage;
 use crate::segments::Segments;
-use crate::table::{Sizes, next_table};
-use crate::words::{read_contents, rooms};
+use crate::table::{Sizes, next_table, read_contents, rooms};
 use cap_words::WordSource;
 use std::alloc::Global;
 

@@ -5,8 +5,7 @@ ghost use Rattle.cap_spec.specs.Frames.{joined, sizes_of};
 ghost use Rattle.cap_spec.specs.Messages.{root_of};
 ghost use Rattle.std.specs.Prelude.{◌*◌, ◌≡◌, ◌≤◌, IfErr, IfOk, List, OnOk, false, length, sum, ℕ};
 
-use crate::table::total;
-use crate::words::next_word;
+use crate::table::{next_word, total};
 use cap_words::{SourceFault, WordSource};
 
 // How many bytes of words are skipped at once.

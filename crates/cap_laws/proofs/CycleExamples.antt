@@ -31,7 +31,7 @@ length-around (suc n) = let e = length-around n in omega (arith, e)
 
 -- a step leads around
 goes_around : (step : Step) (spot : Spot) → StepsTo circle (word 0 0) step spot → (step ≡ Ptr 0) × (spot ≡ word 0 0)
-goes_around step spot x3 = grind (arith, common_steps, one_found, object_circle)
+goes_around step spot h = grind (arith, common_steps, one_found, object_circle)
 
 -- so each path goes around
 walks_around : (n : ℕ) → PathLeads circle (word 0 0) (around n) n (word 0 0)

@@ -37,4 +37,4 @@ no_high_pointer m path level i a b c high g =
 
 -- and none to an element.
 pub no_high_element : (m : List (List ℕ)) (a b : Spot) (i : ℕ) → 2 ^ 30 ≤ i → StepsTo m a (Item i) b → ⊥
-no_high_element m a b i x5 g = search (rules, pointers_shape, field_below, structs_shape)
+no_high_element m a b i h g = search (rules, pointers_shape, field_below, structs_shape)

@@ -181,18 +181,18 @@ apart_words : (w v : ℕ) → (w ≡ v → ⊥) → ◌≡◌ {A = ℕ × ℕ} (
 apart_words w v n e = n (ap (λ (x : ℕ × ℕ). x.1) e)
 
 root_alone : Overlaps shared [] → ⊥
-root_alone x1 = search (rules, uses_of, reaches_both, used_both, apart_words)
+root_alone h = search (rules, uses_of, reaches_both, used_both, apart_words)
 
 -- a path before the first pointer's is the root's
 before_first : (q : List Step) → Before q (Ptr 0 ∷ []) → IsOneOf q all_paths → q ≡ []
-before_first q x2 x3 = search rules
+before_first q h k = search rules
 
 -- and one before the second pointer's is the root's or the first's
 before_second : (q : List Step) → Before q (Ptr 1 ∷ []) → IsOneOf q all_paths → (q ≡ []) ⊎ (q ≡ Ptr 0 ∷ [])
-before_second q x2 x3 = search rules
+before_second q h k = search rules
 
 not_third : (x : ℕ × ℕ) → IsOneOf x ((0, 1) ∷ (0, 2) ∷ []) → IsOneOf x ((0, 3) ∷ []) → ⊥
-not_third x h x3 = search (rules, apart_words)
+not_third x h k = search (rules, apart_words)
 
 first_alone : Overlaps shared (Ptr 0 ∷ []) → ⊥
 first_alone (twice level s w used r occupied n) = search (rules, uses_of, reaches_first, used_first)

@@ -85,4 +85,4 @@ two_words-found = record {
 
 -- it has none of the forms
 two_words-not_lax : (what : Lax) → ¬ IsLaxAt two_words 0 0 what
-two_words-not_lax x1 h = search (rules, to_null, to_object, one_lead, one_object, two_words-found, to_cap)
+two_words-not_lax k h = search (rules, to_null, to_object, one_lead, one_object, two_words-found, to_cap)

@@ -290,7 +290,7 @@ root_alone path level s w r =
 
 -- and uses the place of the word
 used_alone : (used : List (ℕ × ℕ)) → Occupies lone 0 0 used → used ≡ (0, 1) ∷ []
-used_alone used x2 = search (rules, one_lead, to_null, to_object, to_cap, one_object, finds_lone, one_word)
+used_alone used h = search (rules, one_lead, to_null, to_object, to_cap, one_object, finds_lone, one_word)
 
 used_on_path : (path : List Step) (level s w : ℕ) (used : List (ℕ × ℕ)) → Reaches lone path level s w
     → Occupies lone s w used → used ≡ (0, 1) ∷ []

@@ -2,8 +2,8 @@
 use Rattle.cap_spec.proofs.ProofNames.{List, None, OnSome, Option, Some, [], ap, append-nil, arith, false, option_map}
 use Rattle.cap_spec.proofs.ProofNames.{refl, suc, sym, true, unwrap_or, zero, ℕ, ◌++◌, ◌-◌, ◌<◌, ◌∙◌, ◌∷◌, ◌≡◌, Consumes}
 use Rattle.cap_spec.proofs.ProofNames.{IsAtEnd, packed_ends, packed_is_cut, unpacked, common_steps, rules}
-use Rattle.cap_words.specs.declared.phase.Phase.{Phase}
-use Rattle.cap_words.specs.declared.phase.Phase.TheVariants.{Ended, Failed, Open}
+use Rattle.cap_words.specs.declared.ends.Phase.{Phase}
+use Rattle.cap_words.specs.declared.ends.Phase.TheVariants.{Ended, Failed, Open}
 use Rattle.cap_pack.specs.Course.{Course, course, course_is_cut, course_places, course_words, ends, gives, stops}
 use Rattle.cap_pack.specs.Course.{zeros_then}
 use Rattle.cap_pack.specs.State.{ahead}

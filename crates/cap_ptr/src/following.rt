@@ -2,18 +2,16 @@
 
 ghost use Rattle.cap_ptr.specs.Reaching.{HasTwoPad, ResolvesTo};
 ghost use Rattle.cap_ptr.specs.Shapes.{AnswersObject, IsAnswer, IsFollowed};
+ghost use Rattle.cap_ptr.specs.declared.shapes.Target.{Target};
 ghost use Rattle.cap_spec.specs.Denoting.{Finds};
 ghost use Rattle.cap_spec.specs.Following.{IsOnePad, IsTwoPad, Leads, Wrong, to_cap, to_null};
 ghost use Rattle.cap_spec.specs.Messages.{HasWord, segment_of};
 ghost use Rattle.cap_spec.specs.Pointers.{kind};
 ghost use Rattle.cap_spec.specs.declared.Reason.{Reason};
-ghost use Rattle.cap_ptr.specs.declared.shapes.Target.{Target};
 ghost use Rattle.std.specs.Prelude.{◌+◌, ◌^◌, ◌<◌, ◌≡◌, ◌≢◌, ◌≤◌, ◌↔◌, IfErr, IfOk, IsTrue, length, ℕ};
 
-use crate::fields::{far_segment, kind, middle, pad, two};
-use crate::forms::Pointer;
-use crate::placing::{start_of, target_at};
-use crate::shapes::Followed;
+use crate::forms::{Pointer, far_segment, kind, middle, pad, two};
+use crate::shapes::{Followed, start_of, target_at};
 use cap_frame::Segments;
 use cap_spec::Reason;
 

@@ -1,19 +1,19 @@
-//! Objects that their pointer word describes, alone or with a tag, in the word's segment.
+//! Objects that their pointer word describes, alone or with the tag of a list of structs, in the
+//! word's segment.
 
+ghost use Rattle.cap_ptr.specs.Reaching.{LeadsTo};
 ghost use Rattle.cap_ptr.specs.Rows.{FindsRow, HasPointers};
-ghost use Rattle.cap_ptr.specs.Shapes.{FindsTarget, IsPlain};
+ghost use Rattle.cap_ptr.specs.Shapes.{FindsTarget, HasListAt, IsPlain};
 ghost use Rattle.cap_ptr.specs.declared.near.Row.{Row};
-ghost use Rattle.cap_spec.specs.Following.{IsComposite};
+ghost use Rattle.cap_spec.specs.Following.{IsComposite, Wrong};
 ghost use Rattle.cap_spec.specs.Messages.{HasWord, segment_of};
-ghost use Rattle.cap_spec.specs.Pointers.{extent, list_words};
+ghost use Rattle.cap_spec.specs.Pointers.{data_size, extent, list_words, middle, pointer_size};
 ghost use Rattle.cap_spec.specs.Words.{signed_offset_of};
-ghost use Rattle.std.specs.Prelude.{◌+◌, ◌<◌, ◌^◌, ◌≡◌, ◌≤◌, ◌⊎◌, ◌+ℤ◌, pos, IfNone, IfSome, List, length, ℕ};
+ghost use Rattle.std.specs.Prelude.{◌+◌, ◌*◌, ◌≡◌, ◌≤◌, ◌↔◌, ◌==◌, ◌<◌, ◌^◌, ◌⊎◌, ◌+ℤ◌, IfErr, IfNone, IfOk, IfSome, IsTrue, List, if◌then◌else◌, length, pos, ℕ};
 
-use crate::fields::{code, data_size, kind, list_size, pointer_size};
-use crate::lists::is_structs;
-use crate::placing::start_of;
-use crate::shapes::Target;
-use crate::sizes::plain_shape;
+use crate::forms::{code, data_size, kind, list_size, middle, pointer_size};
+use crate::shapes::{Shape, Target, plain_shape, start_of};
+use cap_spec::Reason;
 
 /// The words of an object that its pointer word alone describes. Its pointers, if it has any, are
 /// its last words.
@@ -143,4 +143,79 @@ fn list_parts(code: u8, size: u64) -> Option<(u64, u64)>
         _ => return None,
     };
     Some(((bits * size + 63) / 64, 0))
+}
+
+/// The list of structs that a pointer word describes with this tag, where the list starts at this
+/// place, over some pads (encoding: Lists). Its words have to lie inside their segment, the tag at
+/// the start: [`tag_at`](crate::tag_at) says so of a word without pads.
+///
+/// # Errors
+///
+/// - [`Reason::CompositeTag`]: the tag isn't laid out as a struct pointer.
+/// - [`Reason::CompositeOverrun`]: the elements take more words than the list has.
+// It is inlined, so that in a walk's loop the result stays in registers.
+#[inline(always)]
+pub fn structs_target(
+    word: u64,
+    tag: u64,
+    segment: u32,
+    start: u32,
+    pads: u8,
+) -> Result<Target, Reason>
+    ensures ok { (m : List (List ℕ)) (s w : ℕ) → HasListAt m segment start word tag → pads ≤ 2 →
+        LeadsTo m s w pads segment start word → IfOk result (FindsTarget m s w) }
+    ensures pads { IfOk result (λ x. x.pads ≡ pads) }
+    ensures err { (m : List (List ℕ)) (s w : ℕ) → HasListAt m segment start word tag →
+        LeadsTo m s w pads segment start word → IfErr result (Wrong m s w) }
+{
+    let words = list_size(word);
+    if kind(tag) != 0 {
+        return Err(Reason::CompositeTag);
+    }
+    if words_of_elements(tag) > u64::from(words) {
+        return Err(Reason::CompositeOverrun);
+    }
+    Ok(Target {
+        segment,
+        start,
+        words: 1 + words,
+        pads,
+        charge: u64::from(pads) + 1 + u64::from(words) + u64::from(empty_structs(tag)),
+        shape: Shape::Structs {
+            words,
+            count: middle(tag),
+            data_words: data_size(tag),
+            pointers: pointer_size(tag),
+        },
+    })
+}
+
+/// A word is of a list of structs.
+#[inline(always)]
+pub(crate) fn is_structs(word: u64) -> bool
+    ensures { IsTrue result ↔ IsComposite word }
+{
+    kind(word) == 1 && code(word) == 7
+}
+
+/// How many words the elements take that a tag gives (encoding: Lists).
+#[inline(always)]
+pub fn words_of_elements(tag: u64) -> u64
+    ensures { result ≡ middle tag * (data_size tag + pointer_size tag) }
+{
+    let each = u64::from(data_size(tag)) + u64::from(pointer_size(tag));
+    u64::from(middle(tag)) * each
+}
+
+// How many elements a tag gives that have no words.
+#[inline(always)]
+fn empty_structs(tag: u64) -> u32
+    ensures value { result ≡ (if data_size tag + pointer_size tag == 0 then middle tag else 0) }
+    ensures within { result ≤ middle tag }
+{
+    if data_size(tag) == 0 && pointer_size(tag) == 0 {
+        middle(tag)
+    } else {
+        0
+    }
 }

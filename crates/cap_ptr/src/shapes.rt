@@ -1,4 +1,19 @@
-//! What following a pointer word gives.
+//! What following a pointer word gives: an object's sizes and shape, whether it lies inside its
+//! segment, and what it is charged.
+
+ghost use Rattle.cap_ptr.specs.Reaching.{LeadsTo};
+ghost use Rattle.cap_ptr.specs.Shapes.{IsAnswer, IsPlain, IsShape};
+ghost use Rattle.cap_spec.specs.Following.{IsComposite, extra};
+ghost use Rattle.cap_spec.specs.Messages.{segment_of};
+ghost use Rattle.cap_spec.specs.Pointers.{element_bits, extent, kind, list_words};
+ghost use Rattle.cap_spec.specs.Words.{signed_offset_of};
+ghost use Rattle.std.specs.Prelude.{◌+◌, ◌<◌, ◌^◌, ◌≡◌, ◌≤◌, ◌+ℤ◌, ◌<ℤ◌, IfNone, IfSome, length, pos, ℕ};
+
+use crate::forms::{code, data_size, kind, list_size, pointer_size};
+use crate::near::{is_structs, structs_target};
+use cap_frame::Segments;
+use cap_spec::Reason;
+use cap_words::signed_offset;
 
 /// The sizes of an object (encoding: Structs, Lists).
 #[derive(Clone, Copy, Debug, PartialEq, Eq, Drop)]
@@ -86,5 +101,144 @@ impl Followed {
             Followed::Null { pads } | Followed::Cap { pads, .. } => u64::from(pads),
             Followed::Target(target) => target.charge,
         }
+    }
+}
+
+/// How many bits each element of a list of this code has: codes 0 to 5 are those of values, and
+/// the others count as 64 (encoding: Lists).
+#[inline(always)]
+pub fn element_bits(code: u8) -> u32
+    ensures value { result ≡ element_bits code }
+    ensures few { result ≤ 64 }
+{
+    match code {
+        0 => 0,
+        1 => 1,
+        2 => 8,
+        3 => 16,
+        4 => 32,
+        _ => 64,
+    }
+}
+
+/// How many words a list takes without a tag, by its code and its size.
+#[inline(always)]
+pub(crate) fn list_words(code: u8, size: u32) -> u32
+    ensures value { result ≡ list_words code size }
+    ensures few { result ≤ size }
+{
+    ((u64::from(element_bits(code)) * u64::from(size) + 63) / 64) as u32
+}
+
+/// How many words the object of a struct or list pointer takes, with a tag.
+#[inline(always)]
+pub(crate) fn extent(word: u64) -> u32
+    ensures value { result ≡ extent word }
+    ensures few { result ≤ 2 ^ 29 }
+{
+    if kind(word) == 0 {
+        return u32::from(data_size(word)) + u32::from(pointer_size(word));
+    }
+    let words = list_words(code(word), list_size(word));
+    if code(word) == 7 { 1 + words } else { words }
+}
+
+/// The shape of an object that isn't a list of structs.
+#[inline(always)]
+pub(crate) fn plain_shape(word: u64) -> Shape
+    requires { IsPlain word }
+    ensures { (tag : ℕ) → IsShape word tag result }
+{
+    if kind(word) == 0 {
+        return Shape::Struct {
+            data_words: data_size(word),
+            pointers: pointer_size(word),
+        };
+    }
+    let count = list_size(word);
+    match code(word) {
+        6 => Shape::Pointers { count },
+        code => Shape::Scalars { code, count },
+    }
+}
+
+/// The target of the word `word`, which encodes its shape, from word `start` of a segment on.
+#[inline(always)]
+pub(crate) fn target_at<M: Segments>(
+    message: &M,
+    pads: u8,
+    segment: u32,
+    start: u64,
+    word: u64,
+) -> Result<Followed, Reason>
+    requires exists { segment < length (M.segments message.now) }
+    requires object { kind word < 2 }
+    requires pads { pads ≤ 2 }
+    requires near { start < 2 ^ 33 }
+    ensures { let m = M.segments message.now in (s w : ℕ) →
+        LeadsTo m s w pads segment start word → IsAnswer m s w result }
+{
+    let words = extent(word);
+    if start + u64::from(words) > u64::from(message.len(segment)) {
+        return Err(Reason::OutOfSegment);
+    }
+    let start = start as u32;
+    if is_structs(word) {
+        return composite(message, pads, segment, start, word);
+    }
+    let charge = u64::from(pads) + u64::from(words) + empty_elements(word);
+    Ok(Followed::Target(Target {
+        segment,
+        start,
+        words,
+        pads,
+        charge,
+        shape: plain_shape(word),
+    }))
+}
+
+// The word that the object of a struct or list pointer starts at, if it isn't negative.
+#[inline(always)]
+pub(crate) fn start_of(place: u32, word: u64) -> Option<u64>
+    ensures some { IfSome result (λ start. pos start ≡ pos (place + 1) +ℤ signed_offset_of word) }
+    ensures near { IfSome result (λ start. start < 2 ^ 33) }
+    ensures none { IfNone result ((pos (place + 1) +ℤ signed_offset_of word) <ℤ pos 0) }
+{
+    let start = i64::from(place) + 1 + signed_offset(word);
+    if start < 0 { None } else { Some(start as u64) }
+}
+
+// The target of the word `word` of a list of structs, whose words lie inside their segment.
+fn composite<M: Segments>(
+    message: &M,
+    pads: u8,
+    segment: u32,
+    start: u32,
+    word: u64,
+) -> Result<Followed, Reason>
+    requires exists { segment < length (M.segments message.now) }
+    requires composite { IsComposite word }
+    requires inside { start + extent word ≤ length (segment_of (M.segments message.now) segment) }
+    requires pads { pads ≤ 2 }
+    ensures { let m = M.segments message.now in (s w : ℕ) →
+        LeadsTo m s w pads segment start word → IsAnswer m s w result }
+{
+    let tag = message.word(segment, start);
+    match structs_target(word, tag, segment, start, pads) {
+        Ok(target) => Ok(Followed::Target(target)),
+        Err(reason) => Err(reason),
+    }
+}
+
+// How many elements of a list without a tag have no bits.
+fn empty_elements(word: u64) -> u64
+    requires { IsPlain word }
+    ensures value { (tag : ℕ) → result ≡ extra word tag }
+    ensures below { result < 2 ^ 29 }
+{
+    if kind(word) == 1 && code(word) == 0 {
+        u64::from(list_size(word))
+    } else {
+        0
     }
 }

@@ -8,7 +8,7 @@ use Rattle.cap_spec.proofs.ProofNames.{Own, own_of, DenotesAt, Tree, node_at}
 use Rattle.cap_vet.specs.Reports.{IsReport}
 use Rattle.cap_vet.specs.Views.{bytes_of_place}
 use Rattle.cap_vet.specs.declared.nodes.place.Place.{Place}
-use Rattle.cap_vet.specs.declared.report.Report.{Report}
+use Rattle.cap_vet.specs.declared.walk.vetting.Report.{Report}
 use Rattle.cap_read.specs.ReadNodes.{IsPlaceInside, IsRead}
 
 -- nothing has a place where a path doesn't come to a spot,

@@ -6,7 +6,7 @@ use Rattle.cap_spec.specs.Showing.{own_of}
 use Rattle.cap_spec.specs.declared.Step.{Step}
 use Rattle.cap_vet.specs.Reports.{IsReport}
 use Rattle.cap_vet.specs.declared.nodes.place.Place.{Place}
-use Rattle.cap_vet.specs.declared.report.Report.{Report}
+use Rattle.cap_vet.specs.declared.walk.vetting.Report.{Report}
 
 -- the place of a path, inside its segment
 pub record IsPlaceInside (m : List (List ℕ)) (path : List Step) (p : Place) : Type 0 where

@@ -4,6 +4,5 @@ pub mod Hexes
 pub mod Nodes
 pub mod Numbers
 pub mod Paging
-pub mod Reports
 pub mod SegmentLines
 pub mod Writing

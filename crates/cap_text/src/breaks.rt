@@ -6,8 +6,7 @@ ghost use Rattle.std.specs.Prelude.{◌*◌, ◌+◌, ◌++◌, ◌≡◌, ◌�
 
 use crate::fault::{Cause, ExplainedFault, StreamBreak};
 use crate::faults::{TEXT, fault_text};
-use crate::output::write_bytes;
-use crate::page::{CAPACITY, DIGITS, Page};
+use crate::page::{CAPACITY, DIGITS, Page, write_bytes};
 use cap_frame::{FrameFault, TableSums};
 use cap_words::{ByteOut, OutFault};
 

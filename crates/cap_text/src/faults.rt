@@ -1,13 +1,11 @@
 //! The lines of faults.
 
-ghost use Rattle.cap_text.specs.FaultLines.{canon_fault_text, cause_text, copy_fault_text as copy_text, frame_fault_text, source_fault_text};
-ghost use Rattle.cap_text.specs.FaultLines.{copy_fault_line, fault_line, run_fault_line};
+ghost use Rattle.cap_text.specs.FaultLines.{canon_fault_text, cause_text, copy_fault_line, copy_fault_text as copy_text, fault_line, frame_fault_text, run_fault_line, source_fault_text};
 ghost use Rattle.cap_text.specs.Writing.{Writes};
 ghost use Rattle.std.specs.Prelude.{◌+◌, ◌++◌, ◌≡◌, ◌≤◌, length};
 
 use crate::fault::{Cause, CopyFault, RunFault};
-use crate::output::write_bytes;
-use crate::page::{CAPACITY, NUMBER, Page};
+use crate::page::{CAPACITY, NUMBER, Page, write_bytes};
 use crate::verdict::{FAULT, name_of, push_place, push_refused, refused_for};
 use cap_frame::FrameFault;
 use cap_spec::CanonFault;

@@ -1,15 +1,14 @@
 //! The text for the node at a path.
 
-ghost use Rattle.cap_text.specs.Writing.{Writes};
 ghost use Rattle.cap_spec.specs.Standing.{DenotesAt};
 ghost use Rattle.cap_spec.specs.Texts.{get_text};
 ghost use Rattle.cap_spec.specs.Tree.{Tree};
+ghost use Rattle.cap_text.specs.Writing.{Writes};
 ghost use Rattle.cap_vet.specs.Views.{node_message, node_spot};
 ghost use Rattle.std.specs.Prelude.{IfNone, IfSome, None, Some};
 
 use crate::node::put_named;
-use crate::output::{write_bytes, write_page};
-use crate::page::Page;
+use crate::page::{Page, write_bytes, write_page};
 use cap_frame::Segments;
 use cap_vet::Node;
 use cap_words::{ByteOut, OutFault};

@@ -6,12 +6,10 @@
 #![tactic(auto)]
 
 mod breaks;
-mod digits;
 mod fault;
 mod faults;
 mod get;
 mod node;
-mod output;
 mod page;
 mod segments;
 mod tree;

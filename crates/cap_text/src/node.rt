@@ -1,16 +1,15 @@
 //! The line of a node of a message's tree, and the lines of its own words.
 
-ghost use Rattle.cap_text.specs.Dumping.{head_of, word_letter_of};
-ghost use Rattle.cap_text.specs.Paging.{Adds};
 ghost use Rattle.cap_spec.specs.Showing.{kind_of, words_of_own};
 ghost use Rattle.cap_spec.specs.Standing.{DenotesAt};
 ghost use Rattle.cap_spec.specs.Texts.{hex, label, own_text, word_lines};
 ghost use Rattle.cap_spec.specs.Tree.{Tree};
+ghost use Rattle.cap_text.specs.Dumping.{head_of, word_letter_of};
+ghost use Rattle.cap_text.specs.Paging.{Adds};
 ghost use Rattle.cap_vet.specs.Views.{node_message, node_spot, shown};
 ghost use Rattle.std.specs.Prelude.{◌*◌, ◌+◌, ◌++◌, ◌<◌, ◌≡◌, ◌≤◌, ◌∷◌, [], length, replicate};
 
-use crate::output::make_room;
-use crate::page::{CAPACITY, LINE, Page};
+use crate::page::{CAPACITY, LINE, Page, make_room};
 use cap_frame::Segments;
 use cap_vet::{Kind, Node, View};
 use cap_words::{ByteOut, OutFault};

@@ -1,13 +1,12 @@
 //! The text of a message's segments: their number and sizes, and the root word.
 
-ghost use Rattle.cap_text.specs.Paging.{Adds};
-ghost use Rattle.cap_text.specs.Writing.{Writes};
 ghost use Rattle.cap_frame.specs.Outlines.{root_in, sizes_in};
 ghost use Rattle.cap_spec.specs.Texts.{hex, line as plain_line, message_text, outline_text, root_text, segment_lines, then_number};
+ghost use Rattle.cap_text.specs.Paging.{Adds};
+ghost use Rattle.cap_text.specs.Writing.{Writes};
 ghost use Rattle.std.specs.Prelude.{◌+◌, ◌++◌, ◌≡◌, ◌≤◌, ◌∷◌, codes, length};
 
-use crate::output::{make_room, write_page};
-use crate::page::{CAPACITY, LINE, Page};
+use crate::page::{CAPACITY, LINE, Page, make_room, write_page};
 use cap_frame::Outline;
 use cap_words::{ByteOut, OutFault};
 

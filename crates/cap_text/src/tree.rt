@@ -1,20 +1,19 @@
 //! The text of a message's tree.
 
-ghost use Rattle.cap_text.specs.Dumping.{child_letter_of, child_step_of, height, shown_count_of};
-ghost use Rattle.cap_text.specs.Lines.{accepted_text};
-ghost use Rattle.cap_text.specs.Paging.{Adds};
-ghost use Rattle.cap_text.specs.Writing.{Writes};
 ghost use Rattle.cap_spec.specs.Denoting.{Denotes};
 ghost use Rattle.cap_spec.specs.Standing.{DenotesAt};
 ghost use Rattle.cap_spec.specs.Texts.{child_lines, dump_text};
 ghost use Rattle.cap_spec.specs.Tree.{Tree};
-ghost use Rattle.cap_vet.specs.Views.{node_message, node_spot};
+ghost use Rattle.cap_text.specs.Dumping.{child_letter_of, child_step_of, height, shown_count_of};
+ghost use Rattle.cap_text.specs.Lines.{accepted_text};
+ghost use Rattle.cap_text.specs.Paging.{Adds};
+ghost use Rattle.cap_text.specs.Writing.{Writes};
 ghost use Rattle.cap_vet.specs.Vettings.{message_of, report_of};
+ghost use Rattle.cap_vet.specs.Views.{node_message, node_spot};
 ghost use Rattle.std.specs.Prelude.{◌+◌, ◌++◌, ◌<◌, ◌≡◌, ◌≤◌, ℕ};
 
 use crate::node::{put_child, put_named};
-use crate::output::write_page;
-use crate::page::Page;
+use crate::page::{Page, write_page};
 use crate::verdict::accepted_line;
 use cap_frame::Segments;
 use cap_vet::{Kind, Node, Step, Vetted};

@@ -1,14 +1,12 @@
 //! The line of a verdict.
 
+ghost use Rattle.cap_spec.specs.Texts.{check_text, lax_name, reason_name, refused, strict_verdict, then_number, vet_text};
 ghost use Rattle.cap_text.specs.FaultLines.{place_text};
 ghost use Rattle.cap_text.specs.Lines.{accepted_text};
 ghost use Rattle.cap_text.specs.Writing.{Writes};
-ghost use Rattle.cap_spec.specs.Texts.{check_text, lax_name, reason_name, refused, strict_verdict};
-ghost use Rattle.cap_spec.specs.Texts.{then_number, vet_text};
 ghost use Rattle.std.specs.Prelude.{◌+◌, ◌++◌, ◌≡◌, ◌≤◌, codes, length};
 
-use crate::output::write_bytes;
-use crate::page::{CAPACITY, Page};
+use crate::page::{CAPACITY, Page, write_bytes};
 use cap_spec::{Lax, StrictRefusal};
 use cap_vet::{Reason, Report};
 use cap_words::{ByteOut, OutFault};

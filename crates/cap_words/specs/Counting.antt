@@ -2,7 +2,7 @@
 use Rattle.std.specs.Io.KnownBytes.{Consumes, IsAtEnd}
 use Rattle.std.specs.Prelude.{List, Option, length, ℕ, ◌+◌, ◌≡◌}
 use Rattle.cap_spec.specs.Plain.{capped}
-use Rattle.cap_words.specs.declared.counted.Counted.{Counted}
+use Rattle.cap_words.specs.declared.transfer.Counted.{Counted}
 
 -- what is known of the bytes to come lost these, and the count moved on by as many
 pub record Took (before after : Option (List ℕ)) (from to : ℕ) (bytes : List ℕ) : Type 0 where

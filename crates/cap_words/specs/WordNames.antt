@@ -3,5 +3,5 @@ pub use Rattle.cap_words.specs.Ends.{DeviceFails, Failures, GrowthFails, WasSpen
 pub use Rattle.cap_words.specs.PlainSource.{bytes_left}
 pub use Rattle.cap_words.specs.Sinks.{Begins, StoppedPutting, WasPut}
 pub use Rattle.cap_words.specs.TakingMany.{TakesAll}
-pub use Rattle.cap_words.specs.declared.phase.Phase.{Phase}
-pub use Rattle.cap_words.specs.declared.phase.Phase.TheVariants.{Open}
+pub use Rattle.cap_words.specs.declared.ends.Phase.{Phase}
+pub use Rattle.cap_words.specs.declared.ends.Phase.TheVariants.{Open}

@@ -5,7 +5,7 @@ ghost use Rattle.cap_words.specs.Told.{told_bytes};
 ghost use Rattle.std.specs.Io.KnownBytes.{IsAtEnd, Keeps, ReadConsumes, prepend_known};
 ghost use Rattle.std.specs.Prelude.{◌<◌, ◌≡◌, ◌≤◌, [], IfOk, IsErrOf, OnOk, false, if◌then◌else◌, length, slice_range, take, true, vec_len};
 
-use super::ends::{ByteIn, InFault};
+use crate::ends::{ByteIn, InFault};
 use std::alloc::{AllocError, Global};
 use std::io::Read;
 

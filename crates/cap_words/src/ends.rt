@@ -1,4 +1,4 @@
-//! The ends that bytes come in and go out by.
+//! The ends that bytes come in and go out by, and what a source does at its next call.
 
 ghost use Rattle.cap_words.specs.Ends.{Failures, InputFails, MemoryFails, NoFault, OutputFails, WasClosed};
 ghost use Rattle.std.specs.Io.KnownBytes.{Consumes, Keeps, ReadConsumes, WriteAppends};
@@ -134,4 +134,15 @@ pub trait ByteOut {
     {
         Ok(())
     }
+}
+
+/// What a source does at its next call.
+#[derive(Clone, Copy)]
+pub enum Phase {
+    /// It goes on.
+    Open,
+    /// It has returned that there are no more words.
+    Ended,
+    /// It has returned an error.
+    Failed,
 }

@@ -3,11 +3,9 @@
 #![tactic(auto)]
 
 mod buffered_in;
-mod counted;
 mod ends;
 mod from_read;
 mod from_write;
-mod phase;
 mod plain_sink;
 mod plain_words;
 mod sinks;
@@ -18,16 +16,14 @@ mod vec_out;
 mod word;
 
 pub use buffered_in::BufferedIn;
-pub use counted::Counted;
-pub use ends::{ByteIn, ByteOut, InFault, OutFault};
+pub use ends::{ByteIn, ByteOut, InFault, OutFault, Phase};
 pub use from_read::FromRead;
 pub use from_write::FromWrite;
-pub use phase::Phase;
 pub use plain_sink::PlainSink;
 pub use plain_words::PlainWords;
 pub use sinks::{SinkFault, WordSink};
 pub use slice_in::SliceIn;
 pub use sources::{SourceFault, WordSource};
-pub use transfer::{Filled, fill, write_all};
+pub use transfer::{Counted, Filled, fill, write_all};
 pub use vec_out::VecOut;
 pub use word::{bits, bytes_of, signed_offset, word_of};

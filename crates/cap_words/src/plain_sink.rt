@@ -7,10 +7,10 @@ ghost use Rattle.cap_words.specs.declared.plain_sink.PlainSink.{PlainSink};
 ghost use Rattle.std.specs.Io.KnownBytes.{append_known};
 ghost use Rattle.std.specs.Prelude.{◌≡◌, ◌||◌, List, false, ℕ};
 
-use super::ends::ByteOut;
-use super::sinks::{SinkFault, WordSink};
-use super::transfer::write_all;
-use super::word::bytes_of;
+use crate::ends::ByteOut;
+use crate::sinks::{SinkFault, WordSink};
+use crate::transfer::write_all;
+use crate::word::bytes_of;
 
 /// Writes words of eight bytes, the lowest byte first (encoding: 64-bit Words). It holds nothing
 /// back.

@@ -1,8 +1,8 @@
 //! Words from the plain encoding, eight bytes a word.
 
 ghost use Rattle.cap_spec.specs.Plain.{plain_ends, plain_is_cut, plain_words};
-ghost use Rattle.cap_words.specs.Laws.{known_are_words};
 ghost use Rattle.cap_words.specs.Inner.{input_of};
+ghost use Rattle.cap_words.specs.Laws.{known_are_words};
 ghost use Rattle.cap_words.specs.Phases.{has_ended, has_failed, source_spent};
 ghost use Rattle.cap_words.specs.PlainSource.{bytes_left};
 ghost use Rattle.cap_words.specs.declared.plain_words.PlainWords.{PlainWords};
@@ -10,11 +10,10 @@ ghost use Rattle.std.specs.List.{AllByRecursion};
 ghost use Rattle.std.specs.Option.{option_map};
 ghost use Rattle.std.specs.Prelude.{◌*◌, ◌++◌, ◌/◌, ◌<◌, ◌≡◌, ◌≤◌, ◌||◌, [], IfSome, List, OnSome, false, if◌then◌else◌, length, take, true, unwrap_or, ℕ};
 
-use super::counted::Counted;
-use super::ends::ByteIn;
-use super::phase::Phase;
-use super::sources::{SourceFault, WordSource};
-use super::word::word_of;
+use crate::ends::{ByteIn, Phase};
+use crate::sources::{SourceFault, WordSource};
+use crate::transfer::Counted;
+use crate::word::word_of;
 
 /// Reads words of eight bytes, the lowest byte first (encoding: 64-bit Words).
 #[derive(Drop)]

@@ -7,7 +7,7 @@ ghost use Rattle.cap_words.specs.declared.sinks.SinkFault.TheVariants.{Device, M
 ghost use Rattle.std.specs.Io.KnownBytes.{Keeps};
 ghost use Rattle.std.specs.Prelude.{◌≡◌, [], ◌∷◌, Bool, IsErrOf, List, OnErr, OnOk, Option, false, true, ℕ};
 
-use super::ends::OutFault;
+use crate::ends::OutFault;
 
 /// Why a sink didn't take a word, or wasn't finished.
 #[derive(Clone, Copy, Debug, PartialEq, Eq, Drop)]

@@ -4,7 +4,7 @@ ghost use Rattle.cap_words.specs.Laws.{each_byte};
 ghost use Rattle.cap_words.specs.Told.{are_bytes};
 ghost use Rattle.std.specs.Prelude.{◌≡◌, Some, false, true};
 
-use super::ends::{ByteIn, InFault};
+use crate::ends::{ByteIn, InFault};
 
 /// Reads a byte slice. It never fails.
 #[derive(Clone, Copy, Debug, Drop)]

@@ -13,8 +13,8 @@ ghost use Rattle.std.specs.Prelude.{◌*◌, ◌+◌, ◌++◌, ◌-◌, ◌/◌
 ghost use Rattle.std.specs.Prelude.{IfSome, IsErrOf, List, OnErr, OnOk, OnSome, Option, drop, false, length, min, take, true, ℕ};
 ghost use Rattle.std.specs.Vec.{vec_capacity, vec_len};
 
-use super::ends::InFault;
-use super::word::bytes_of;
+use crate::ends::InFault;
+use crate::word::bytes_of;
 
 /// Why a source gave no word.
 #[derive(Clone, Copy, Debug, PartialEq, Eq, Drop)]

@@ -6,7 +6,7 @@ ghost use Rattle.cap_words.specs.declared.vec_out.VecOut.{VecOut};
 ghost use Rattle.std.specs.Io.KnownBytes.{WriteAppends};
 ghost use Rattle.std.specs.Prelude.{◌-◌, ◌<◌, ◌==◌, ◌^◌, ◌≡◌, ◌≤◌, [], IfOk, IsErrOf, OnOk, Some, length, true};
 
-use super::ends::{ByteOut, OutFault};
+use crate::ends::{ByteOut, OutFault};
 use std::alloc::Global;
 
 /// Appends to a vector: all bytes of a call, or nothing if the vector can't grow. A later call may

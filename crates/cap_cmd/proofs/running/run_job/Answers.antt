@@ -42,12 +42,12 @@ returns-else-input_is_packed-clause-plain g c = λ _.
 
 pub returns-then-input_is_packed-clause-success : goal.returns-then-input_is_packed-clause-success
 returns-then-input_is_packed-clause-success g c = λ e.
-    job_writes_all _ g.O.ByteOut g.E.ByteOut _ _ g.I.ByteIn _ true _ _ _ _ _ _ _
+    job_writes_all {go = g.O.ByteOut} {ge = g.E.ByteOut} {gi = g.I.ByteIn} {packed = true}
     (sym c.input_is_packed.ensures ∙ c.if-input_is_packed.true) e
     (returns-then-input_is_packed-clause-packed g c (sym c.input_is_packed.ensures ∙ c.if-input_is_packed.true))
 
 pub returns-else-input_is_packed-clause-success : goal.returns-else-input_is_packed-clause-success
 returns-else-input_is_packed-clause-success g c = λ e.
-    job_writes_all _ g.O.ByteOut g.E.ByteOut _ _ g.I.ByteIn _ false _ _ _ _ _ _ _
+    job_writes_all {go = g.O.ByteOut} {ge = g.E.ByteOut} {gi = g.I.ByteIn} {packed = false}
     (sym c.input_is_packed.ensures ∙ c.if-input_is_packed.false) e
     (returns-else-input_is_packed-clause-plain g c (sym c.input_is_packed.ensures ∙ c.if-input_is_packed.false))

@@ -1,7 +1,7 @@
 -- The bytes of a view's place are those of the place of its path.
 use Rattle.cap_spec.proofs.ProofNames.{Err, List, MatchOption, ap, subst, ℕ, ◌∙◌, ◌≡◌, HasPlace, ReachesSpot, Spot}
 use Rattle.cap_frame.specs.Bytes.{cut}
-use Rattle.cap_frame.specs.declared.view.ByteView.{ByteView}
+use Rattle.cap_frame.specs.declared.byte_message.ByteView.{ByteView}
 use Rattle.cap_vet.specs.Views.{bytes_of_place, node_spot, view_place}
 use Rattle.cap_vet.specs.declared.nodes.place.Place.{Place}
 use Rattle.cap_read.proofs.Placing.{bytes_there, no_bytes_there, no_place}

@@ -9,7 +9,7 @@ returns-clause-tells c =
     let l = c.args.limits.now in
     let bs = c.args.bytes.now in
     let told = c.over_input-answer.ensures in
-    let less = input_less _ l bs told.0 (λ k. k) (λ _ _ _ _ p. p.0) told.1 in
+    let less = input_less (λ k. k) (λ m w d g p. p.0) told.1 in
     (told.0, by_flag l bs told.0 _ c.allows_trailing-whole.ensures less, told.2, told.3)
 
 pub returns-clause-only : goal.returns-clause-only

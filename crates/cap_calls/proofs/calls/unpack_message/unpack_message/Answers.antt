@@ -10,5 +10,4 @@ returns-clause-only c = λ u h.
     (one.0, (one.1, one.2, one.3, one.4, one.5))
 
 pub returns-clause-bound : goal.returns-clause-bound
-returns-clause-bound c =
-    unpack_bounded c.args.limits.now c.args.bytes.now c.args.out.now c.args.state.now _ _ _ _ _ _ c.unpacked-stop.ensures
+returns-clause-bound c = unpack_bounded c.unpacked-stop.ensures

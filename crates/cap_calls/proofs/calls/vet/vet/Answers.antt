@@ -7,7 +7,7 @@ returns-clause-tells c =
     let l = c.args.limits.now in
     let bs = c.args.bytes.now in
     let told = c.over_input.ensures in
-    let less = input_less _ l bs told.0 (λ _. tt) (λ _ _ _ _ p. p) told.1 in
+    let less = input_less (λ _. tt) (λ m w d g p. p) told.1 in
     (told.0, by_flag l bs told.0 _ c.allows_trailing-whole.ensures less, told.2)
 
 pub returns-clause-only : goal.returns-clause-only

@@ -11,7 +11,7 @@ returns-clause-tells c =
     let l = c.args.limits.now in
     let bs = c.args.bytes.now in
     let told = c.over_input-answer.ensures in
-    let less = input_less _ l bs told.0 (λ _. tt) (λ _ _ _ _ p. p.0) told.1 in
+    let less = input_less (λ _. tt) (λ m w d g p. p.0) told.1 in
     (told.0, by_flag l bs told.0 _ c.allows_trailing-whole.ensures less, told.2, told.3)
 
 pub returns-clause-only : goal.returns-clause-only
@@ -22,7 +22,7 @@ returns-clause-few c =
     let l = c.args.limits.now in
     let bs = c.args.bytes.now in
     let told = c.over_input-answer.ensures in
-    let few = few_input _ l bs _ _ told.0 (input_less _ l bs told.0 (λ _. tt) (λ _ _ _ _ p. p.0) told.1) in
+    let few = few_input _ l bs _ _ told.0 (input_less (λ _. tt) (λ m w d g p. p.0) told.1) in
     let long = ap (λ (r : CallReport). r.length) told.2.1 in
     omega (arith, few, long, told.3)
 
@@ -31,7 +31,7 @@ returns-clause-bound c =
     let l = c.args.limits.now in
     let bs = c.args.bytes.now in
     let told = c.over_input-answer.ensures in
-    let few = few_input _ l bs _ _ told.0 (input_less _ l bs told.0 (λ _. tt) (λ _ _ _ _ p. p.0) told.1) in
+    let few = few_input _ l bs _ _ told.0 (input_less (λ _. tt) (λ m w d g p. p.0) told.1) in
     let inside = input_inside _ l bs told.0 told.1 in
     omega (arith, few, inside, told.3)
 

@@ -54,7 +54,7 @@ returns-in-Ok-None c =
     c.get.result seen (c.new-start.ensures.start first refl) whole (c.get.ensures.given rest refl) in
     let nothing = given_nothing c.args.demands m c.args.limits.words c.args.limits.depth path c.get.result c.in-Ok-None.field-0
     c.in-Ok-None.is c.in-Ok-None.field-0-is given in
-    range_stops (λ k. path_after self.steps.now self.varying k) _ _ _ _ _ c.nodes.out c.nodes.k c.stopped.result (path_found NoNode)
+    range_stops (λ k. path_after self.steps.now self.varying k) c.nodes.out c.nodes.k c.stopped.result (path_found NoNode)
     c.nodes.invariant (omega (arith, c.nodes-test.true)) (no_node nothing.0 nothing.1 refl refl)
     nothing_not_good (c.stopped.ensures ∙ ap (λ (f : Found). record f { count = c.nodes.k }) c.path_answer.ensures)
 
@@ -70,7 +70,7 @@ returns-in-Err c =
     let given = given_path c.args.demands m _ c.args.limits.words c.args.limits.depth first rest path c.after.result c.new-start.result
     c.get.result seen (c.new-start.ensures.start first refl) whole (c.get.ensures.given rest refl) in
     let fault = given_fault c.args.demands m c.args.limits.words c.args.limits.depth path c.get.result c.in-Err.refusal c.in-Err.is given in
-    range_stops (λ k. path_after self.steps.now self.varying k) _ _ _ _ _ c.nodes.out c.nodes.k c.stopped-in-Err.result
+    range_stops (λ k. path_after self.steps.now self.varying k) c.nodes.out c.nodes.k c.stopped-in-Err.result
     (refused_found c.in-Err.refusal) c.nodes.invariant (omega (arith, c.nodes-test.true))
     (no_meeting c.in-Err.refusal fault refl refl) (refused_not_good c.in-Err.refusal)
     (c.stopped-in-Err.ensures ∙ ap (λ (f : Found). record f { count = c.nodes.k }) c.refused.ensures)
@@ -93,7 +93,7 @@ nodes-preserved c =
           let has = w.in-Some.ensures n start step c.parts.result.2.rest.now c.choose-shortcut.ensures in
           let gets = gets_shortcut c.args.demands m n c.args.limits.words c.args.limits.depth first rest path (step_after step c.nodes.k) start
           w.in-Some.node seen is (c.parts.ensures c.nodes.k) has in
-          more_so_far (λ k. path_after self.steps.now self.varying k) _ _ _ _ _ c.nodes.out _ c.nodes.k w.in-Some.node c.nodes.invariant
+          more_so_far (λ k. path_after self.steps.now self.varying k) c.nodes.out _ c.nodes.k w.in-Some.node c.nodes.invariant
           lt gets w.out-is)
       | in-None+in-Ok-Some w ↦ (
           let whole = c.parts.ensures c.nodes.k ∙ ap (λ (s : Step). first ++ s ∷ rest) (sym w.after.ensures) in
@@ -104,7 +104,7 @@ nodes-preserved c =
           let node = given_node c.args.demands m c.args.limits.words c.args.limits.depth path w.get.result w.in-Ok-Some.field-0 at
           w.in-Ok-Some.is w.in-Ok-Some.field-0-is given in
           let message = rw w.in-Ok-Some.field-0-is at w.in-Ok-Some.ensures.message in
-          more_so_far (λ k. path_after self.steps.now self.varying k) _ _ _ _ _ c.nodes.out _ c.nodes.k w.of.result c.nodes.invariant lt
+          more_so_far (λ k. path_after self.steps.now self.varying k) c.nodes.out _ c.nodes.k w.of.result c.nodes.invariant lt
           (a_node at.found.kind place.segment place.start place.words node.0 node.1 refl
           (w.of.ensures ∙ ap (λ (u : ByteView). kind_node at.found.kind (offset_of (cut u.sizes.now u.bytes.now) place.segment place.start))
           (message ∙ c.new-start.ensures.message)))
@@ -116,7 +116,7 @@ returns c =
     let self = c.args.self.now in
     let all : c.nodes.k ≡ length c.args.out.now = omega (arith, c.nodes-test.false, c.nodes.auto.k-end) in
     let out : length c.nodes.out ≡ c.nodes.k = omega (arith, c.nodes.invariant.size, all) in
-    range_full (λ k. path_after self.steps.now self.varying k) _ _ _ _ _ c.nodes.out c.nodes.k c.stopped-2.result
+    range_full (λ k. path_after self.steps.now self.varying k) c.nodes.out c.nodes.k c.stopped-2.result
     c.nodes.invariant all
     (c.stopped-2.ensures ∙ ap (λ (f : Found). record f { count = length c.nodes.out }) c.path_answer-2.ensures
     ∙ ap (λ (n : ℕ). record (path_found Good) { count = n }) out)

@@ -1,5 +1,0 @@
-use Rattle.std.proofs.Common.{rules}
-use Rattle.cap_cmd.proofs.status.words_status.Goals as goal
-
-pub returns-in-Truncated : goal.returns-in-Truncated
-returns-in-Truncated c = search rules

@@ -1,5 +1,0 @@
-use Rattle.std.proofs.Common.{rules}
-use Rattle.cap_frame.proofs.limit.SizeLimit.new.Goals as goal
-
-pub returns-else-words-le268435456-clause-some : goal.returns-else-words-le268435456-clause-some
-returns-else-words-le268435456-clause-some c = search rules

@@ -1,4 +1,0 @@
-use Rattle.cap_ptr.proofs.fields.two.Goals as goal
-
-pub returns : goal.returns
-returns c = c.bits.ensures

@@ -1,0 +1,4 @@
+use Rattle.cap_ptr.proofs.forms.list_size.Goals as goal
+
+pub returns : goal.returns
+returns c = c.bits.ensures

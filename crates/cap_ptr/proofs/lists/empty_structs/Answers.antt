@@ -1,5 +1,0 @@
-use Rattle.std.proofs.Common.{rules}
-use Rattle.cap_ptr.proofs.lists.empty_structs.Goals as goal
-
-pub returns-else-data_size-eq0-clause-value : goal.returns-else-data_size-eq0-clause-value
-returns-else-data_size-eq0-clause-value c = search rules

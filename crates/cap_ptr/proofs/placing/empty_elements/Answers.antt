@@ -1,5 +1,0 @@
-use Rattle.std.proofs.Common.{rules}
-use Rattle.cap_ptr.proofs.placing.empty_elements.Goals as goal
-
-pub returns-else-kind-eq1-clause-value : goal.returns-else-kind-eq1-clause-value
-returns-else-kind-eq1-clause-value c = search rules

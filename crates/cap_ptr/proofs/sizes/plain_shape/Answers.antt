@@ -1,5 +1,0 @@
-use Rattle.std.proofs.Common.{rules}
-use Rattle.cap_ptr.proofs.sizes.plain_shape.Goals as goal
-
-pub returns-in_default : goal.returns-in_default
-returns-in_default c = search rules
