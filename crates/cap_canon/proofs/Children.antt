@@ -2,10 +2,10 @@
 use Rattle.cap_spec.specs.Denoting.{places}
 use Rattle.cap_spec.specs.Tree.{none}
 use Rattle.cap_spec.proofs.Lemmas.{children_needed_le, each_charged, length-places}
-use Rattle.cap_spec.proofs.ProofNames.{Bool, List, Some, ap, arith, false, if◌then◌else◌, inl, inr, max, refl, subst, suc}
-use Rattle.cap_spec.proofs.ProofNames.{sym, true, zero, ℕ, ◌+◌, ◌-◌, ◌<◌, ◌==◌, ◌∙◌, ◌≡◌, ◌≤◌, ◌⊎◌, eqb_tells, same_Some}
+use Rattle.cap_spec.proofs.ProofNames.{Bool, List, Some, ap, arith, false, if◌then◌else◌, max, refl, subst, suc, sym}
+use Rattle.cap_spec.proofs.ProofNames.{true, zero, ℕ, ◌+◌, ◌-◌, ◌<◌, ◌==◌, ◌∙◌, ◌≡◌, ◌≤◌, ◌⊎◌, eqb_tells, same_Some}
 use Rattle.cap_spec.proofs.ProofNames.{children_needed, is_null, DenoteEach, Denotes, Tree, Trees, more, tree_at}
-use Rattle.cap_spec.proofs.ProofNames.{tree_count}
+use Rattle.cap_spec.proofs.ProofNames.{tree_count, rules}
 use Rattle.cap_spec.proofs.Trees.OneTree.{cons_parts}
 use Rattle.cap_canon.proofs.Needed.{later_needed, later_zero}
 
@@ -22,19 +22,7 @@ pub record Row (m : List (List ℕ)) (t b n : ℕ) (x : Tree) (xs : Trees) (c d 
   pub depth : d ≡ max d1 d2
 
 pub row_parts : (m : List (List ℕ)) (t b n : ℕ) (x : Tree) (xs : Trees) (c d : ℕ) → DenoteEach m (places t b n) (more x xs) c d → Row m t b n x xs c d
-row_parts m t b zero x xs c d (s, w, rest, c1, d1, c2, d2, begins, denotes, after, charge, depth) = absurd (cc begins)
-row_parts m t b (suc n) x xs c d (s, w, rest, c1, d1, c2, d2, begins, denotes, after, charge, depth) =
-    let e = cons_parts (t, b) (s, w) (places t (b + 1) n) rest begins in record {
-      others = n;
-      c1 = c1;
-      d1 = d1;
-      c2 = c2;
-      d2 = d2;
-      many = refl;
-      first = subst (λ (p : ℕ × ℕ). Denotes m p.0 p.1 x c1 d1) (sym e.0) denotes;
-      rest = subst (λ ps. DenoteEach m ps xs c2 d2) (sym e.1) after;
-      depth = depth;
-    }
+row_parts m t b h x xs c d k = search (rules, cons_parts)
 
 -- the tree of the word at a place of the row
 pub child_at : (m : List (List ℕ)) (t b n : ℕ) (ts : Trees) (c d i : ℕ) → DenoteEach m (places t b n) ts c d → i < n
@@ -62,8 +50,7 @@ row_needed m t b n ts c d h = omega (arith, row_count m t b n ts c d h, children
 -- a child that isn't null is needed
 first_child : (n : ℕ) (b : Bool) → b ≡ false → (((n == 0) ≡ true) × (n ≡ 0)) ⊎ (((n == 0) ≡ false) × (n ≡ 0 → ⊥))
     → 1 ≤ (if n == 0 then (if b then 0 else 1) else suc n)
-first_child n b e (inl a) = rw (a.0, e) (omega arith)
-first_child n b e (inr a) = rw a.0 (omega arith)
+first_child n b e h = search rules
 
 pub child_past : (ts : Trees) (i : ℕ) (u : Tree) → tree_at ts i ≡ Some u → is_null u ≡ false → suc i ≤ children_needed ts
 child_past none i u e f = absurd (cc e)
@@ -75,14 +62,10 @@ child_past (more t ts) (suc i) u e f = later_needed (children_needed ts) (if is_
 first_null : (n : ℕ) (b : Bool) → b ≡ true → (((n == 0) ≡ true) × (n ≡ 0)) ⊎ (((n == 0) ≡ false) × (n ≡ 0 → ⊥))
     → (if n == 0 then (if b then 0 else 1) else suc n) ≤ 1
     → (if n == 0 then (if b then 0 else 1) else suc n) ≤ 0
-first_null n b e (inl a) h = rw (a.0, e) (omega arith)
-first_null n b e (inr a) h =
-    let k : suc n ≤ 1 = rw a.0 at h in
-    absurd (a.1 (omega (arith, k)))
+first_null n b e k h = search rules
 
 one_child : (b : Bool) → (if b then 0 else 1) ≤ 1
-one_child true = omega arith
-one_child false = omega arith
+one_child h = search rules
 
 pub child_not : (ts : Trees) (i : ℕ) (u : Tree) → tree_at ts i ≡ Some u → is_null u ≡ true → children_needed ts ≤ suc i → children_needed ts ≤ i
 child_not none i u e f h = absurd (cc e)

@@ -1,22 +1,19 @@
 -- The one canonical copy of an accepted message.
 use Rattle.cap_spec.proofs.Lemmas.{layout_charged, first_cap, one_tree}
 use Rattle.cap_spec.proofs.Paths.PathCounts.{caps_counted}
-use Rattle.cap_spec.proofs.ProofNames.{Err, List, None, Result, [], ap, arith, eqb-true, false, length, refl, subst, sym}
+use Rattle.cap_spec.proofs.ProofNames.{Err, List, None, Result, [], arith, eqb-true, false, length, refl, subst, sym}
 use Rattle.cap_spec.proofs.ProofNames.{true, ℕ, ◌+◌, ◌<◌, ◌==◌, ◌^◌, ◌∙◌, ◌∷◌, ◌≡◌, ◌≢◌, ◌≤◌, false≢true, layout, trim}
-use Rattle.cap_spec.proofs.ProofNames.{HasCopy, IsCanonical, Denotes, Leads, to_cap, IsOneOf, IsFirstCap, Reaches, Tree}
-use Rattle.cap_spec.proofs.ProofNames.{cap_count, has_cap}
+use Rattle.cap_spec.proofs.ProofNames.{HasCopy, IsCanonical, Denotes, Leads, to_cap, IsOneOf, IsFirstCap, Reaches}
+use Rattle.cap_spec.proofs.ProofNames.{Tree, cap_count, has_cap, rules}
 use Rattle.cap_vet.specs.Reports.{IsFirstCapOf, IsReport}
 use Rattle.cap_canon.specs.CanonNames.{CanonFault, Step, Report, HasTree}
 
 -- a message with a capability has no copy
 pub cap_no_copy : (m : List (List ℕ)) (s w : ℕ) (words : List ℕ) → IsFirstCap m s w → HasCopy m words → ⊥
-cap_no_copy m s w words f h =
-    let c : has_cap h.tree ≡ true = (first_cap m h.tree h.charge h.depth h.denotes).1 (s, w, f) in
-    false≢true (sym h.no_caps ∙ c)
+cap_no_copy m s w words f h = search (rules, first_cap, false≢true)
 
 bool_cases : {A : Type 0} (b : _) → (b ≡ true → A) → (b ≡ false → A) → A
-bool_cases true f g = f refl
-bool_cases false f g = g refl
+bool_cases h f g = search rules
 
 -- an accepted message has a tree
 pub has_tree : (m : List (List ℕ)) (r : Report) (t : Tree) → IsReport m 268435456 256 r t → HasTree m r.depth
@@ -34,42 +31,24 @@ has_copy m r t k e = record { tree = t; charge = r.charge; depth = r.depth; deno
 
 -- it has at most one word more than the charge
 pub copy_charged : (m : List (List ℕ)) (t : Tree) (c d : ℕ) (words : List ℕ) → Denotes m 0 0 t c d → HasCopy m words → length words ≤ c + 1
-copy_charged m t c d words h k =
-    let same = one_tree m 0 0 t k.tree c d k.charge k.depth h k.denotes in
-    let e : length words ≡ length (layout (trim t)) = ap length k.laid ∙ ap (λ x. length (layout (trim x))) (sym same.part) in
-    omega (arith, e, layout_charged m 0 0 t c d h)
+copy_charged m t c d words h k = search (rules, one_tree, layout_charged)
 
 -- it has as many words as the layout
 pub copy_length : (m : List (List ℕ)) (words : List ℕ) (t : Tree) (c d : ℕ) → HasCopy m words → Denotes m 0 0 t c d → length words ≡ length (layout (trim t))
-copy_length m words t c d k h =
-    let same = one_tree m 0 0 k.tree t k.charge k.depth c d k.denotes h in
-    ap length k.laid ∙ ap (λ x. length (layout (trim x))) same.part
+copy_length m words t c d k h = search (rules, one_tree)
 
 -- the charge of an accepted message is below the greatest of an offset
 pub few_charged : (m : List (List ℕ)) (r : Report) (t u : Tree) (c d : ℕ) → IsReport m 268435456 256 r t → Denotes m 0 0 u c d → c < 2 ^ 29
-few_charged m r t u c d k h =
-    let same = one_tree m 0 0 t u r.charge r.depth c d k.within.denotes h in
-    let e : r.charge ≡ c = same.charge in
-    omega (arith, k.within.few_words, e)
+few_charged m r t u c d k h = search (rules, one_tree)
 
 -- words that are the layout of every tree that is denoted are the copy
 pub copy_of : (m : List (List ℕ)) (words made : List ℕ) → HasCopy m words → ((t : Tree) (c d : ℕ) → Denotes m 0 0 t c d → made ≡ layout (trim t))
     → HasCopy m made
-copy_of m words made k f = record {
-  tree = k.tree;
-  charge = k.charge;
-  depth = k.depth;
-  denotes = k.denotes;
-  no_caps = k.no_caps;
-  laid =
-      f k.tree k.charge k.depth k.denotes;
-}
+copy_of m words made k f = search rules
 
 -- a message with a capability is not its own copy
 pub not_with_caps : (m : List (List ℕ)) (r : Report) (t : Tree) → IsReport m 268435456 256 r t → r.caps ≢ 0 → IsCanonical m → ⊥
-not_with_caps m r t k some (words, h, e) =
-    let same = one_tree m 0 0 h.tree t h.charge h.depth r.charge r.depth h.denotes k.within.denotes in
-    bool_cases (cap_count t == 0) (λ z. some (k.caps ∙ eqb-true (cap_count t) 0 z)) (λ z. false≢true (sym h.no_caps ∙ (ap has_cap same.part ∙ rw z refl)))
+not_with_caps m r t k some h = search (rules, one_tree, bool_cases, eqb-true, false≢true)
 
 -- equal faults, whatever the answers would be
 pub same_fault : {A : Type 0} (f f' : CanonFault) → ◌≡◌ {A = Result A CanonFault} (Err f) (Err f') → f ≡ f'

@@ -2,10 +2,10 @@
 use Rattle.cap_spec.specs.Denoting.{places}
 use Rattle.cap_spec.specs.Tree.{none}
 use Rattle.cap_spec.proofs.Lemmas.{tree_count-take_le, tree_count-trim_all}
-use Rattle.cap_spec.proofs.ProofNames.{List, ap, ap₂, arith, drop, max, refl, subst, suc, sym, take, take-take, zero, ℕ}
-use Rattle.cap_spec.proofs.ProofNames.{◌*◌, ◌+◌, ◌-◌, ◌<◌, ◌∙◌, ◌≡◌, ◌≤◌, children_needed, children_of, cut_elements}
-use Rattle.cap_spec.proofs.ProofNames.{data_needed, data_of, take_trees, trim_all, trim_elements, AreElements, DenoteEach}
-use Rattle.cap_spec.proofs.ProofNames.{words_from, segment_of, Trees, more, struct, tree_count}
+use Rattle.cap_spec.proofs.ProofNames.{List, ap, ap₂, arith, max, refl, subst, suc, sym, take, take-take, zero, ℕ, ◌*◌}
+use Rattle.cap_spec.proofs.ProofNames.{◌+◌, ◌-◌, ◌<◌, ◌∙◌, ◌≡◌, ◌≤◌, children_needed, children_of, cut_elements}
+use Rattle.cap_spec.proofs.ProofNames.{data_needed, data_of, take_trees, trim_all, trim_elements, AreElements}
+use Rattle.cap_spec.proofs.ProofNames.{DenoteEach, words_from, Trees, more, struct, tree_count, rules}
 use Rattle.cap_canon.specs.CanonNames.{AreElementsLeft, AreLeft, most_data}
 use Rattle.cap_canon.proofs.Children.{row_count, row_needed, row_parts}
 use Rattle.cap_canon.proofs.Needed.{most_on}
@@ -25,20 +25,7 @@ pub record FirstElement (m : List (List ℕ)) (t b ds ps n : ℕ) (ws : List ℕ
 
 pub element_parts : (m : List (List ℕ)) (t b ds ps n : ℕ) (ws : List ℕ) (ts es : Trees) (c d : ℕ) → AreElements m t b ds ps n (more (struct ws ts) es) c d
     → FirstElement m t b ds ps n ws ts es c d
-element_parts m t b ds ps n ws ts es c d h =
-    let (fewer, c1, d1, c2, d2, counted, own, each, after, charge, depth) = h in
-    record {
-      others = fewer;
-      c1 = c1;
-      d1 = d1;
-      c2 = c2;
-      d2 = d2;
-      many = counted;
-      data_words = own;
-      children = each;
-      rest = after;
-      depth = depth;
-    }
+element_parts m t b ds ps n ws ts es c d h = search rules
 
 -- the data words that no element can do without, as they stand
 pub most_data_of : (m : List (List ℕ)) (t b ds ps n : ℕ) (es : Trees) (c d : ℕ) → AreElements m t b ds ps n es c d → most_data m t b ds ps n ≡ data_of es
@@ -133,10 +120,7 @@ children_seen m s start at ds ps count i most now lt is within k = record {
 -- all have their size already
 pub enough_children : (m : List (List ℕ)) (s start at ds ps count i most : ℕ) (es : Trees) (c d : ℕ) → most ≡ ps → ChildrenSeen m s start at ds ps count i most
     → AreElements m s start ds ps count es c d → most ≡ children_of es
-enough_children m s start at ds ps count i most es c d e k h =
-    let r = k.rest es c d h in
-    let l : children_of r.0 ≤ ps = children_within m s at ds ps (count - i) r.0 r.1 r.2 r.3 in
-    omega (arith, e, l, r.4)
+enough_children m s start at ds ps count i most es c d e k h = search (rules, children_within)
 
 -- the children of a row, trimmed
 pub row_left : (m : List (List ℕ)) (t b n deep : ℕ) (ts : Trees) (c d : ℕ) → DenoteEach m (places t b n) ts c d → d ≤ deep → AreLeft m deep t b (trim_all ts)
@@ -153,11 +137,7 @@ left_take m deep s w (suc n) (more u us) h = (h.0, left_take m deep s (w + 1) n 
 
 -- the front of words that stand in a range
 pub words_left : (m : List (List ℕ)) (t b ds d : ℕ) (ws : List ℕ) → ws ≡ words_from m t b ds → d ≤ ds → take d ws ≡ words_from m t b d
-words_left m t b ds d ws e le =
-    let x : b + ds - b ≡ ds = omega arith in
-    let y : d ≡ b + d - b = omega arith in
-    ap (take d) e ∙ (ap (λ n. take d (take n (drop b (segment_of m t)))) x
-    ∙ (take-take d ds (drop b (segment_of m t)) le ∙ ap (λ n. take n (drop b (segment_of m t))) y))
+words_left m t b ds d ws e le = search (rules, take-take)
 
 -- the elements of a list, cut to these sizes
 pub elements_left : (m : List (List ℕ)) (t b ds ps n d p deep : ℕ) (es : Trees) (c d' : ℕ) → d ≤ ds → p ≤ ps → AreElements m t b ds ps n es c d' → d' ≤ deep

@@ -1,18 +1,18 @@
 -- The pointer words of an object, and how many words it has of its own.
 use Rattle.cap_spec.specs.Tree.{none}
 use Rattle.cap_spec.proofs.Lemmas.{reverse-more, short_segment, range_length}
-use Rattle.cap_spec.proofs.ProofNames.{IfSome, List, None, Option, Some, [], ap, arith, inl, inr, length, length-append}
-use Rattle.cap_spec.proofs.ProofNames.{option_to_list, refl, reverse, subst, suc, sym, zero, ℕ, ◌*◌, ◌++◌, ◌+◌, ◌-◌, ◌<◌}
-use Rattle.cap_spec.proofs.ProofNames.{◌^◌, ◌∙◌, ◌∷◌, ◌≡◌, ◌≤◌, ◌⊎◌, length-reverse, IsMessage, Tree, Trees, more, struct}
-use Rattle.cap_spec.proofs.ProofNames.{tree_count}
+use Rattle.cap_spec.proofs.ProofNames.{IfSome, List, Option, [], ap, arith, inl, inr, length, length-append}
+use Rattle.cap_spec.proofs.ProofNames.{option_to_list, refl, reverse, subst, suc, sym, zero, ℕ, ◌*◌, ◌++◌, ◌+◌, ◌-◌}
+use Rattle.cap_spec.proofs.ProofNames.{◌<◌, ◌^◌, ◌∙◌, ◌∷◌, ◌≡◌, ◌≤◌, ◌⊎◌, length-reverse, IsMessage, Tree, Trees, more}
+use Rattle.cap_spec.proofs.ProofNames.{struct, tree_count, rules}
 use Rattle.cap_canon.specs.Objects.{IsPointersObject, IsStructObject, IsStructsObject}
-use Rattle.cap_canon.specs.CanonNames.{OptionFull, further_places, option_places, places_of, row_places, AreBefore, Due}
-use Rattle.cap_canon.specs.CanonNames.{below, element_slots, own_size, slots, AreElementsLeft, AreLeft, IsObject, AreOwed}
-use Rattle.cap_canon.specs.CanonNames.{IsWalking, NextLeadsTo, Stacked, work_left, Object, Part, CopyRun, PointerPlace}
+use Rattle.cap_canon.specs.CanonNames.{OptionFull, further_places, option_places, places_of, row_places, AreBefore}
+use Rattle.cap_canon.specs.CanonNames.{Due, below, element_slots, own_size, slots, AreElementsLeft, AreLeft, IsObject}
+use Rattle.cap_canon.specs.CanonNames.{AreOwed, IsWalking, NextLeadsTo, Stacked, work_left, Object, Part, CopyRun}
+use Rattle.cap_canon.specs.CanonNames.{PointerPlace}
 use Rattle.cap_canon.proofs.Lengths.{size_below, size_due-append}
 use Rattle.cap_canon.proofs.Owing.{before_join, before_more, owed_count, stacked_more}
 use Rattle.cap_canon.proofs.Runs.{count_more}
-use Rattle.cap_canon.specs.declared.objects.Object.TheVariants as object
 
 -- the run of the pointers of structs in a row
 abbrev pub structs_run_of : Part → ℕ → ℕ → CopyRun
@@ -99,9 +99,7 @@ struct_owed m deeper depth n end s w x u places k le e =
 pub pointers_owed : (m : List (List ℕ)) (deeper depth n end s w t b count : ℕ) (u : Tree) (places : List PointerPlace)
     → IsPointersObject m deeper s w u t b count → deeper + n ≤ depth
     → places ≡ row_places t b end count → AreOwed m depth n places (below end u)
-pointers_owed m deeper depth n end s w t b count u places k le e =
-    let row = row_owed m deeper depth n t b end count k.children le k.many k.below in
-    subst (λ x. AreOwed m depth n places (below end x)) (sym k.tree) (subst (λ ps. AreOwed m depth n ps (slots end k.children)) (sym e) row)
+pointers_owed m deeper depth n end s w t b count u places k le e = search (rules, row_owed)
 
 pub structs_none_owed : (m : List (List ℕ)) (deeper depth n end s w count : ℕ) (x : Part) (u : Tree) → IsStructsObject m deeper s w u count x
     → (count ≡ 0) ⊎ (x.pointers_left ≡ 0)
@@ -117,12 +115,7 @@ structs_none_owed m deeper depth n end s w count x u k z =
 pub structs_owed : (m : List (List ℕ)) (deeper depth n end s w count : ℕ) (x : Part) (r : CopyRun) (u : Tree) → IsStructsObject m deeper s w u count x
     → deeper + n ≤ depth → 0 < count
     → r ≡ structs_run_of x count end → AreOwed m depth n (places_of r) (below end u)
-structs_owed m deeper depth n end s w count x r u k le some e =
-    let skip = x.pointers - x.pointers_left + x.data_words in
-    let row = elements_owed m deeper depth n x.segment x.start (end + 1) skip x.data_words x.pointers x.data_left x.pointers_left (count - 1) k.elements
-    le (omega (arith, k.fewer.1)) (omega (arith, k.many, some)) k.below in
-    subst (λ v. AreOwed m depth n (places_of r) (below end v)) (sym k.tree)
-    (subst (λ y. AreOwed m depth n (places_of y) (element_slots x.data_left x.pointers_left (end + 1) k.elements)) (sym e) row)
+structs_owed m deeper depth n end s w count x r u k le some e = search (rules, elements_owed)
 
 -- what becomes due stands before the end of the own words
 slots_before : (a end : ℕ) (ts : Trees) → a + tree_count ts ≤ end → AreBefore end (slots a ts)
@@ -138,22 +131,7 @@ elements_before m deeper t b a ds ps d p end (more (struct ws us) es) h le =
 elements_before m deeper t b a ds ps d p end (more _ es) h le = absurd h
 
 pub below_before : (m : List (List ℕ)) (d s w end : ℕ) (u : Tree) (o : Object) → IsObject m d s w u o → AreBefore (end + own_size u) (below end u)
-below_before m d s w end u object.Null k = subst (λ x. AreBefore (end + own_size x) (below end x)) (sym k) tt
-below_before m d s w end u (object.Cap i) k = subst (λ x. AreBefore (end + own_size x) (below end x)) (sym k) tt
-below_before m d s w end u (object.Struct x) (deeper, le, k) =
-    subst (λ x. AreBefore (end + own_size x) (below end x)) (sym k.tree)
-    (slots_before (end + length k.words) (end + (length k.words + tree_count k.children)) k.children (omega arith))
-below_before m d s w end u (object.Scalars t b c n words) (le, k) = subst (λ x. AreBefore (end + own_size x) (below end x)) (sym k.tree) tt
-below_before m d s w end u (object.Pointers t b n) (deeper, le, k) =
-    subst (λ x. AreBefore (end + own_size x) (below end x)) (sym k.tree) (slots_before end (end + tree_count k.children) k.children (omega arith))
-below_before m d s w end u (object.Structs n x) (deeper, le, k) =
-    let size = tree_count k.elements * (x.data_left + x.pointers_left) in
-    subst (λ v. AreBefore (end + own_size v) (below end v)) (sym k.tree)
-    (elements_before m deeper x.segment x.start (end + 1) x.data_words x.pointers x.data_left x.pointers_left (end + (1 + size)) k.elements k.below
-    (behind size))
-  where
-    behind : (n : ℕ) → end + 1 + n ≤ end + (1 + n)
-    behind n = omega arith
+below_before m d s w end u h k = search (rules, slots_before, elements_before)
 
 -- The walk goes on with an object's pointer words.
 pub entered : (m : List (List ℕ)) (depth end now : ℕ) (p : PointerPlace) (tree : Tree) (due : List Due) (runs : List CopyRun) (r : Option CopyRun)
@@ -173,17 +151,11 @@ entered m depth end now p tree due runs r o k e full owed =
 -- its stack has capacity for them
 row_deep : (m : List (List ℕ)) (depth n t b a left : ℕ) (others : List PointerPlace) (due : List Due) → 0 < left
     → AreOwed m depth n (row_places t b a left ++ others) due → n ≤ depth
-row_deep m depth n t b a zero others due some h = absurd (omega (arith, some))
-row_deep m depth n t b a (suc left) others [] some h = absurd h
-row_deep m depth n t b a (suc left) others (x ∷ due) some h = omega (arith, h.1.5)
+row_deep m depth n t b a k others e some h = search rules
 
 pub room_above : (capacity : ℕ) (m : List (List ℕ)) (depth : ℕ) (due : List Due) (runs : List CopyRun) (rest below : Option CopyRun) → depth ≤ capacity
     → OptionFull below → AreOwed m depth (length (runs ++ option_to_list rest) + 1) (option_places below) due → IfSome below (λ _. length runs < capacity)
-room_above capacity m depth due runs rest None le full h = tt
-room_above capacity m depth due runs rest (Some f) le full h =
-    let l = length-append runs (option_to_list rest) in
-    let n = row_deep m depth (length (runs ++ option_to_list rest) + 1) f.segment f.at f.slot f.left _ due full.some h in
-    omega (arith, l, le, n)
+room_above capacity m depth due runs rest k le full h = search (rules, length-append, row_deep)
 
 -- the work grows by no more than the own words
 slots_count : (a : ℕ) (ts : Trees) → length (slots a ts) ≡ tree_count ts
@@ -200,27 +172,12 @@ elements_count m deeper t b a ds ps d p (more (struct ws us) es) h =
 elements_count m deeper t b a ds ps d p (more _ es) h = absurd h
 
 below_count : (m : List (List ℕ)) (d s w end : ℕ) (u : Tree) (o : Object) → IsObject m d s w u o → length (below end u) ≤ own_size u
-below_count m d s w end u object.Null k = subst (λ x. length (below end x) ≤ own_size x) (sym k) (omega arith)
-below_count m d s w end u (object.Cap i) k = subst (λ x. length (below end x) ≤ own_size x) (sym k) (omega arith)
-below_count m d s w end u (object.Struct x) (deeper, le, k) =
-    subst (λ x. length (below end x) ≤ own_size x) (sym k.tree) (let n = slots_count (end + length k.words) k.children in omega (arith, n))
-below_count m d s w end u (object.Scalars t b c n words) (le, k) = subst (λ x. length (below end x) ≤ own_size x) (sym k.tree) (omega arith)
-below_count m d s w end u (object.Pointers t b n) (deeper, le, k) =
-    subst (λ x. length (below end x) ≤ own_size x) (sym k.tree) (let n = slots_count end k.children in omega (arith, n))
-below_count m d s w end u (object.Structs n x) (deeper, le, k) =
-    let due = element_slots x.data_left x.pointers_left (end + 1) k.elements in
-    subst (λ v. length (below end v) ≤ own_size v) (sym k.tree)
-    (one_more (length due) (tree_count k.elements * (x.data_left + x.pointers_left))
-    (elements_count m deeper x.segment x.start (end + 1) x.data_words x.pointers x.data_left x.pointers_left k.elements k.below))
-  where
-    one_more : (a n : ℕ) → a ≤ n → a ≤ 1 + n
-    one_more a n h = omega arith
+below_count m d s w end u h k = search (rules, slots_count, elements_count)
 
 pub work_more : (m : List (List ℕ)) (d s w end : ℕ) (u : Tree) (o : Object) (runs : List CopyRun) (r : Option CopyRun) → IsObject m d s w u o
     → AreOwed m d 1 (option_places r) (below end u)
     → work_left (runs ++ option_to_list r) ≤ work_left runs + own_size u
-work_more m d s w end u o runs r k owed =
-    omega (arith, count_more runs r, owed_count m d 1 (option_places r) (below end u) owed, below_count m d s w end u o k)
+work_more m d s w end u o runs r k owed = search (rules, count_more, owed_count, below_count)
 
 -- the first pointer of the elements is a number of 32 bits
 pub structs_start : (m : List (List ℕ)) (deeper s w count : ℕ) (x : Part) (u : Tree) → IsMessage m → IsStructsObject m deeper s w u count x → 0 < count

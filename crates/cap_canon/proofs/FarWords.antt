@@ -1,25 +1,14 @@
 -- No pointer word of a copy is far.
 use Rattle.cap_spec.specs.Tree.{none}
 use Rattle.cap_spec.proofs.Lemmas.{FitElements, one_word}
-use Rattle.cap_spec.proofs.ProofNames.{List, [], append_assoc, arith, false, inl, inr, length, refl, subst, suc, true}
-use Rattle.cap_spec.proofs.ProofNames.{zero, ℕ, ◌*◌, ◌++◌, ◌+◌, ◌-◌, ◌<◌, ◌==◌, ◌^◌, ◌∙◌, ◌∷◌, ◌≡◌, ◌⊎◌, eqb_tells}
-use Rattle.cap_spec.proofs.ProofNames.{pointer_to, size, struct_word, HasWord, segment_of, kind, Tree, Trees, cap, more}
-use Rattle.cap_spec.proofs.ProofNames.{null, pointers, scalars, struct, structs, tree_count}
+use Rattle.cap_spec.proofs.ProofNames.{List, [], append_assoc, arith, subst, suc, zero, ℕ, ◌*◌, ◌++◌, ◌+◌, ◌-◌, ◌<◌}
+use Rattle.cap_spec.proofs.ProofNames.{◌∷◌, ◌≡◌, eqb_tells, pointer_to, size, HasWord, segment_of, kind, Tree, Trees}
+use Rattle.cap_spec.proofs.ProofNames.{cap, more, null, pointers, scalars, struct, structs, tree_count, rules}
 use Rattle.cap_canon.specs.Laying.{Due, Laid, element_slots, slots}
 
 -- one that leads to a tree
 near_word : (o word : ℕ) (t : Tree) → word ≡ pointer_to o t → kind word ≡ 2 → ⊥
-near_word o word null e k = omega (arith, e, k)
-near_word o word (cap i) e k = omega (arith, e, k)
-near_word o word (struct ws ts) e k = go (eqb_tells (length ws + tree_count ts) 0)
-  where
-    go : (((length ws + tree_count ts == 0) ≡ true) × (length ws + tree_count ts ≡ 0)) ⊎
-        (((length ws + tree_count ts == 0) ≡ false) × (length ws + tree_count ts ≡ 0 → ⊥)) → ⊥
-    go (inl y) = let n : word ≡ 2 ^ 32 - 4 = e ∙ rw y.0 refl in omega (arith, n, k)
-    go (inr y) = let n : word ≡ struct_word o (length ws) (tree_count ts) = e ∙ rw y.0 refl in omega (arith, n, k)
-near_word o word (scalars c vs) e k = omega (arith, e, k)
-near_word o word (pointers ts) e k = omega (arith, e, k)
-near_word o word (structs d p es) e k = omega (arith, e, k)
+near_word o word h e k = search (rules, eqb_tells)
 
 -- the last of a row
 pub row_near : (m : List (List ℕ)) (end a : ℕ) (ts : Trees) (due : List Due) (far : ℕ) → Laid (segment_of m 0) end (slots a ts ++ due)

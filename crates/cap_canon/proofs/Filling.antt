@@ -2,15 +2,15 @@
 use Rattle.cap_spec.specs.Tree.{none}
 use Rattle.cap_spec.proofs.Canonical.Placing.{stand_word}
 use Rattle.cap_spec.proofs.Lemmas.{range_length, length-scalar_words}
-use Rattle.cap_spec.proofs.ProofNames.{List, Some, [], ap, append_assoc, arith, get_or, inl, inr, length, length-append}
-use Rattle.cap_spec.proofs.ProofNames.{refl, slice_get, subst, suc, sym, zero, ℕ, ◌*◌, ◌++◌, ◌+◌, ◌-◌, ◌<◌, ◌∙◌, ◌∷◌, ◌≡◌}
-use Rattle.cap_spec.proofs.ProofNames.{◌≤◌, ◌⊎◌, get_or-append_right, get_or_append_left, length-map-range_with_len}
-use Rattle.cap_spec.proofs.ProofNames.{slice_get_within, struct_word, value_at, values_of, words_from, segment_of}
-use Rattle.cap_spec.proofs.ProofNames.{HasWordsAt, element_bits, list_words, scalar_words, Tree, Trees, more, struct}
-use Rattle.cap_spec.proofs.ProofNames.{structs, tree_count}
+use Rattle.cap_spec.proofs.ProofNames.{List, Some, [], ap, append_assoc, arith, inl, inr, length, length-append}
+use Rattle.cap_spec.proofs.ProofNames.{slice_get, subst, suc, sym, zero, ℕ, ◌*◌, ◌++◌, ◌+◌, ◌<◌, ◌∙◌, ◌∷◌, ◌≡◌}
+use Rattle.cap_spec.proofs.ProofNames.{◌≤◌, get_or-append_right, get_or_append_left, length-map-range_with_len}
+use Rattle.cap_spec.proofs.ProofNames.{slice_get_within, struct_word, values_of, words_from, segment_of, HasWordsAt}
+use Rattle.cap_spec.proofs.ProofNames.{scalar_words, Tree, Trees, more, struct, structs, tree_count, rules}
 use Rattle.cap_canon.specs.Filling.{Fills, IsDue, OwnAppended, elements_from, part_words, parts_words}
 use Rattle.cap_canon.specs.Laying.{DataAt, Due, element_slots, own_size, slots}
-use Rattle.cap_canon.specs.Objects.{AreElementsLeft, IsPointersObject, IsScalarsObject, IsStructObject, IsStructsObject}
+use Rattle.cap_canon.specs.Objects.{AreElementsLeft, IsPointersObject, IsScalarsObject, IsStructObject}
+use Rattle.cap_canon.specs.Objects.{IsStructsObject}
 use Rattle.cap_canon.specs.declared.objects.Part.{Part}
 use Rattle.cap_canon.proofs.Ranges.{length-elements_from}
 
@@ -27,27 +27,7 @@ due_right i (x ∷ xs) ys d = inr (due_right i xs ys d)
 -- two parts, one behind the other
 pub fills_join : (whole : List ℕ) (b c : ℕ) (xs ys : List ℕ) (due next : List Due) → c ≡ b + length xs → Fills whole b due xs → Fills whole c next ys
     → Fills whole b (due ++ next) (xs ++ ys)
-fills_join whole b c xs ys due next e f g k lt = go (sides k (length xs))
-  where
-    sides : (i n : ℕ) → (i < n) ⊎ (n ≤ i)
-    sides i n = search arith
-
-    first : k < length xs → (IsDue (b + k) due ⊎ (get_or xs k 0 ≡ get_or whole (b + k) 0))
-        → IsDue (b + k) (due ++ next) ⊎ (get_or (xs ++ ys) k 0 ≡ get_or whole (b + k) 0)
-    first l (inl d) = inl (due_left (b + k) due next d)
-    first l (inr s) = inr (get_or_append_left xs ys 0 k l ∙ s)
-
-    place : length xs ≤ k → c + (k - length xs) ≡ b + k
-    place l = omega (arith, l, e)
-
-    second : length xs ≤ k → (IsDue (c + (k - length xs)) next ⊎ (get_or ys (k - length xs) 0 ≡ get_or whole (c + (k - length xs)) 0))
-        → IsDue (b + k) (due ++ next) ⊎ (get_or (xs ++ ys) k 0 ≡ get_or whole (b + k) 0)
-    second l (inl d) = inl (due_right (b + k) due next (subst (λ n. IsDue n next) (place l) d))
-    second l (inr s) = inr (get_or-append_right xs ys (length xs) k 0 refl l ∙ (s ∙ ap (λ n. get_or whole n 0) (place l)))
-
-    go : (k < length xs) ⊎ (length xs ≤ k) → IsDue (b + k) (due ++ next) ⊎ (get_or (xs ++ ys) k 0 ≡ get_or whole (b + k) 0)
-    go (inl l) = first l (f k l)
-    go (inr l) = second l (g (k - length xs) (omega (arith, lt, length-append xs ys, l)))
+fills_join whole b c xs ys due next e f g k lt = search (rules, due_left, get_or_append_left, due_right, get_or-append_right, length-append)
 
 -- words that stand there
 pub fills_stand : (whole : List ℕ) (b : ℕ) (xs : List ℕ) → HasWordsAt whole b xs → Fills whole b [] xs
@@ -115,28 +95,16 @@ struct_appended m deep s w u x old new h e = subst (λ (v : Tree). OwnAppended o
 
 -- a list of values
 pub scalars_size : (m : List (List ℕ)) (s w : ℕ) (u : Tree) {t b c n words : ℕ} → IsScalarsObject m s w u t b c n words → own_size u ≡ words
-scalars_size m s w u {t} {b} {c} {n} h =
-    ap own_size h.tree ∙ (ap (list_words c) (length-map-range_with_len (value_at (segment_of m t) b (element_bits c)) 0 n) ∙ sym h.extent)
+scalars_size m s w u h = search (rules, length-map-range_with_len)
 
 pub scalars_appended : (m : List (List ℕ)) (s w : ℕ) (u : Tree) (t b c n words : ℕ) (old new : List ℕ) → IsScalarsObject m s w u t b c n words
     → new ≡ old ++ scalar_words c (values_of m t b c n) → OwnAppended old new u
-scalars_appended m s w u t b c n words old new h e =
-    subst (λ (v : Tree). OwnAppended old new v) (sym h.tree)
-    (record {
-      words = scalar_words c (values_of m t b c n);
-      appended = e;
-      many = length-scalar_words c (values_of m t b c n);
-      fill =
-          λ whole at. fills_stand whole (length old) (scalar_words c (values_of m t b c n)) at;
-    })
+scalars_appended m s w u t b c n words old new h e = search (rules, length-scalar_words, fills_stand)
 
 -- a list of pointers
 pub pointers_appended : (m : List (List ℕ)) (deep s w : ℕ) (u : Tree) (t b n : ℕ) (old new : List ℕ) → IsPointersObject m deep s w u t b n
     → new ≡ old ++ words_from m t b n → OwnAppended old new u
-pointers_appended m deep s w u t b n old new h e =
-    let x : length (words_from m t b n) ≡ tree_count h.children = range_length m t b n h.inside ∙ sym h.many in
-    subst (λ (v : Tree). OwnAppended old new v) (sym h.tree)
-    (record { words = words_from m t b n; appended = e; many = x; fill = λ whole at. fills_slots whole (length old) h.children (words_from m t b n) x })
+pointers_appended m deep s w u t b n old new h e = search (rules, range_length, fills_slots)
 
 -- what is left of a list of structs
 pub structs_appended : (m : List (List ℕ)) (deep s w : ℕ) (u : Tree) (n : ℕ) (x : Part) (old new : List ℕ) → IsStructsObject m deep s w u n x

@@ -5,7 +5,7 @@ use Rattle.cap_spec.proofs.ProofNames.{List, [], ap, append_assoc, ap₂, arith,
 use Rattle.cap_spec.proofs.ProofNames.{length-append, length-take-le, refl, set, suc, sym, take, take-append-drop}
 use Rattle.cap_spec.proofs.ProofNames.{take_all, zero, ℕ, ◌*◌, ◌++◌, ◌+◌, ◌<◌, ◌∙◌, ◌∷◌, ◌≡◌, ◌≤◌, take-set_at}
 use Rattle.cap_spec.proofs.ProofNames.{take-append-le, AllByRecursion, put_mid, plain_text, plain_words, word_bytes}
-use Rattle.cap_spec.proofs.ProofNames.{IsWord}
+use Rattle.cap_spec.proofs.ProofNames.{IsWord, rules}
 use Rattle.cap_words.proofs.Filling.{plain_join}
 use Rattle.cap_canon.specs.FirstWords.{first_words}
 
@@ -32,10 +32,7 @@ words_set (suc p) (a ∷ b ∷ c ∷ d ∷ e ∷ f ∷ g ∷ x ∷ rest) w is h 
 -- the same by what a part of bytes was overwritten with
 pub words_put : (p k : ℕ) (bytes given : List ℕ) (w : ℕ) → IsWord w → k ≡ 8 → 8 * p + 8 ≤ length bytes → given ≡ word_bytes w
     → plain_words (put_mid (8 * p) k bytes given) ≡ set (plain_words bytes) p w
-words_put p k bytes given w is eight h e =
-    ap (λ n. plain_words (put_mid (8 * p) n bytes given)) eight
-    ∙ ap (λ l. plain_words (take (8 * p) bytes ++ (given ++ l))) (drop-drop 8 (8 * p) bytes)
-    ∙ ap (λ l. plain_words (take (8 * p) bytes ++ (l ++ drop (8 * p + 8) bytes))) e ∙ words_set p bytes w is h
+words_put p k bytes given w is eight h e = search (rules, drop-drop, words_set)
 
 -- a vector whose slice was written over holds what the slice then held
 pub written_back : (n : ℕ) (given items : List ℕ) → length given ≡ n → take n (given ++ drop (length given) items) ≡ given

@@ -2,18 +2,18 @@
 use Rattle.cap_spec.specs.Denoting.{places}
 use Rattle.cap_spec.specs.Tree.{none}
 use Rattle.cap_spec.specs.declared.Step.TheVariants.{Item, Ptr}
-use Rattle.cap_spec.proofs.Lemmas.{one_word, one_lead, near_has_none, extent_pointers, extent_struct}
-use Rattle.cap_spec.proofs.Lemmas.{extent_structs, extra_same, range_length, object_parts, one_tree}
-use Rattle.cap_spec.proofs.ProofNames.{Bool, List, None, [], ap, ap₂, arith, false, if◌then◌else◌, inl, inr, length, max}
-use Rattle.cap_spec.proofs.ProofNames.{ne_eqb, not, pos, refl, subst, suc, sym, true, zero, ℕ, ◌*◌, ◌++◌, ◌+◌, ◌-◌, ◌<◌}
-use Rattle.cap_spec.proofs.ProofNames.{◌==◌, ◌^◌, ◌↔◌, ◌∙◌, ◌∷◌, ◌≡◌, ◌≢◌, ◌≤◌, ◌⊎◌, eqb_tells, length-map-range_with_len}
-use Rattle.cap_spec.proofs.ProofNames.{children_needed, children_of, data_needed, layout, list_word, pointer_to}
-use Rattle.cap_spec.proofs.ProofNames.{struct_word, trim, IsCanonical, AreElements, DenoteEach, Denotes, Finds}
-use Rattle.cap_spec.proofs.ProofNames.{element_levels, value_at, values_of, words_from, IsComposite, Lead, Leads, Says}
-use Rattle.cap_spec.proofs.ProofNames.{extra, near, one_pad, to_cap, to_null, to_object, two_pads, HasWord, segment_of}
-use Rattle.cap_spec.proofs.ProofNames.{Costs, Reaches, HasWordsAt, code, data_size, element_bits, extent, kind, list_size}
-use Rattle.cap_spec.proofs.ProofNames.{middle, pointer_size, scalar_words, IsStrict, Tree, Trees, has_cap}
-use Rattle.cap_spec.proofs.ProofNames.{more, struct, tree_count}
+use Rattle.cap_spec.proofs.Lemmas.{one_word, one_lead, near_has_none, extent_pointers, extent_struct, extent_structs}
+use Rattle.cap_spec.proofs.Lemmas.{extra_same, range_length, object_parts, one_tree}
+use Rattle.cap_spec.proofs.ProofNames.{Bool, List, None, [], ap, ap₂, arith, false, if◌then◌else◌, inl, inr, length}
+use Rattle.cap_spec.proofs.ProofNames.{max, ne_eqb, not, pos, refl, subst, suc, sym, true, zero, ℕ, ◌*◌, ◌++◌, ◌+◌}
+use Rattle.cap_spec.proofs.ProofNames.{◌-◌, ◌<◌, ◌==◌, ◌^◌, ◌↔◌, ◌∙◌, ◌∷◌, ◌≡◌, ◌≢◌, ◌≤◌, eqb_tells}
+use Rattle.cap_spec.proofs.ProofNames.{length-map-range_with_len, children_needed, children_of, data_needed, layout}
+use Rattle.cap_spec.proofs.ProofNames.{list_word, pointer_to, struct_word, trim, IsCanonical, AreElements, DenoteEach}
+use Rattle.cap_spec.proofs.ProofNames.{Denotes, Finds, element_levels, value_at, values_of, words_from, IsComposite}
+use Rattle.cap_spec.proofs.ProofNames.{Lead, Leads, Says, extra, to_cap, to_null, to_object, HasWord, segment_of}
+use Rattle.cap_spec.proofs.ProofNames.{Costs, Reaches, HasWordsAt, code, data_size, element_bits, extent, kind}
+use Rattle.cap_spec.proofs.ProofNames.{list_size, middle, pointer_size, scalar_words, IsStrict, Tree, Trees, has_cap}
+use Rattle.cap_spec.proofs.ProofNames.{more, struct, tree_count, rules}
 use Rattle.cap_spec.proofs.Trees.Charges.{one_cost}
 use Rattle.cap_ptr.specs.Rows.{HasPointers}
 use Rattle.cap_ptr.specs.Shapes.{FindsObject, IsShape}
@@ -27,9 +27,10 @@ use Rattle.cap_canon.specs.InOrder.{AreDue, HasDiffered, HasOwn, IsAsInCopy, IsC
 use Rattle.cap_canon.specs.InOrder.{IsNextInOrder, IsOwn, LeadsToEnd, MayStand}
 use Rattle.cap_canon.specs.NullsInOrder.{null_compared}
 use Rattle.cap_canon.specs.Objects.{IsLeft}
-use Rattle.cap_canon.specs.CanonNames.{Step, Report, IsChecked, Differs, HasNoWords, IsNotCanonical, NoCopyHas, AreBefore}
-use Rattle.cap_canon.specs.CanonNames.{Due, IsPointed, Laid, OwnAt, below, element_slots, own_size, slots, AreElementsLeft}
-use Rattle.cap_canon.specs.CanonNames.{AreLeft, IsObject, ForTrimmed, longest_copy, NeedsLess, most_data, Object, Part}
+use Rattle.cap_canon.specs.CanonNames.{Step, Report, IsChecked, Differs, HasNoWords, IsNotCanonical, NoCopyHas}
+use Rattle.cap_canon.specs.CanonNames.{AreBefore, Due, IsPointed, Laid, OwnAt, below, element_slots, own_size, slots}
+use Rattle.cap_canon.specs.CanonNames.{AreElementsLeft, AreLeft, IsObject, ForTrimmed, longest_copy, NeedsLess}
+use Rattle.cap_canon.specs.CanonNames.{most_data, Object, Part}
 use Rattle.cap_canon.specs.Trimming.{NeedsAll}
 use Rattle.cap_canon.proofs.CheckWalks.{check_first, check_on}
 use Rattle.cap_canon.proofs.Copies.{copy_charged, no_cap_reached}
@@ -84,13 +85,7 @@ elements_due m deep base level t b a d p i (suc n) (more _ es) z at e h = absurd
 own_of : (m : List (List ℕ)) (w end now q tag t b d : ℕ) (u : Tree) (o : Object) → w < end → HasWord m 0 w (pointer_to (end - w - 1) u)
     → OwnAt (segment_of m 0) end u → now ≡ end + own_size u → IsObject m d 0 w u o
     → ((path : List Step) (level : ℕ) → AreDue m (object_children path q tag t b level) (below end u)) → IsOwn m w end now q tag t b u
-own_of m w end now q tag t b d u o lt here own e is due = record {
-  pointed = (end - w - 1, omega (arith, lt), here);
-  own = own;
-  ends = e;
-  before = subst (λ n. AreBefore n (below end u)) (sym e) (below_before m d 0 w end u o is);
-  due = due;
-}
+own_of m w end now q tag t b d u o lt here own e is due = search (rules, below_before)
 
 -- a struct
 pub struct_own : (m : List (List ℕ)) (w end k t b q tag words charge d p : ℕ) → MayStand m w end
@@ -163,16 +158,7 @@ values_own m w end k t b q tag words charge c n s f has stand x cost deep h =
 pub structs_inside : (m : List (List ℕ)) (w k t b q tag words charge size n d p : ℕ)
     → FindsObject m 0 w k t b q tag words charge (shape.Structs size n d p)
     → (n < 2 ^ 30) × (n * (d + p) < 2 ^ 29) × (t < length m) × (b + 1 + n * (d + p) ≤ length (segment_of m t))
-structs_inside m w k t b q tag words charge size n d p f =
-    let tagged = f.object.tagged (f.object.shape.kind, f.object.shape.code) in
-    let fits : n * (d + p) ≤ list_size q = rw (f.object.shape.count, f.object.shape.data_words, f.object.shape.pointers) tagged.1.1 in
-    let extent = extent_structs q f.object.shape.kind f.object.shape.code in
-    let few : list_size q < 2 ^ 29 = omega arith in (
-      omega (arith, f.object.shape.count),
-      omega (arith, fits, few),
-      f.finds.inside.exists,
-      omega (arith, f.finds.inside.inside, extent, fits),
-    )
+structs_inside m w k t b q tag words charge size n d p f = search (rules, extent_structs)
 
 -- and where its tag is, if its word is the one of a copy
 pub structs_start : (m : List (List ℕ)) (w end k t b q tag words charge size n d p : ℕ) → MayStand m w end
@@ -259,8 +245,7 @@ next_in_order m seen a s w n cost end now l x k = record {
 -- one segment is compared, which isn't too long
 pub compared_one : (m : List (List ℕ)) (end : ℕ) (seen : List (List Step)) → IsCompared m end seen
     → (length m ≡ 1) × (length (segment_of m 0) ≤ longest_copy) × (end ≤ length (segment_of m 0))
-compared_one m end seen (inl k) = (k.one, k.few, k.inside)
-compared_one m end seen (inr (e, k)) = (k.one, k.few, omega (arith, e))
+compared_one m end seen h = search rules
 
 -- the word looked at is one of segment 0, and has its cost there
 pub next_inside : {m : List (List ℕ)} (seen : List (List Step)) (a : Ahead) {s w n cost : ℕ} (end : ℕ) → IsLookedAt m seen a s w n cost
@@ -297,11 +282,7 @@ not_canonical m seen a s w n cost end l k unlike (words, h, e) =
 
 -- what a word says by itself that isn't far
 says_near : (m : List (List ℕ)) (s w k word : ℕ) (r : Lead) → HasWord m s w word → kind word ≡ 3 → Leads m s w k r → Says s w word r
-says_near m s w k word r has c (near p h n says e) = subst (λ y. Says s w y r) (one_word m s w p word h has) says
-says_near m s w k word r has c (one_pad p q h far h' n says e) =
-    let two : kind word ≡ 2 = subst (λ y. kind y ≡ 2) (one_word m s w p word h has) far.0 in absurd (omega (arith, two, c))
-says_near m s w k word r has c (two_pads p f q h far h' h'' one tag e e') =
-    let two : kind word ≡ 2 = subst (λ y. kind y ≡ 2) (one_word m s w p word h has) far.0 in absurd (omega (arith, two, c))
+says_near m s w k word r has c h = search (rules, one_word)
 
 -- a word of kind 3 that can be followed leads to a capability
 leads_to_cap : (m : List (List ℕ)) (s w cost word : ℕ) → HasWord m s w word → kind word ≡ 3 → Costs m s w cost → (k i : ℕ) × Leads m s w k (to_cap i)
@@ -344,8 +325,7 @@ has_differed {m} seen a {s} {w} {n} {cost} end l lax differs k =
 -- no reader rejects a word that the walk knows, or that isn't far
 pub not_lax_word : (m : List (List ℕ)) (s w : ℕ) (lax : Bool) → (lax ≡ false → IsNotLax m s w)
     → (lax ≡ true → (word : ℕ) × HasWord m s w word × (kind word ≢ 2)) → IsNotLax m s w
-not_lax_word m s w false f g = f refl
-not_lax_word m s w true f g = let (word, has, n) = g refl in near_has_none m s w word has n
+not_lax_word m s w h f g = search (rules, near_has_none)
 
 -- The walk goes on after a null word, and after an object that is as a copy has it.
 pub compared_on : {m : List (List ℕ)} (seen : List (List Step)) (a : Ahead) {s w n cost : ℕ} (end now : ℕ) → IsLookedAt m seen a s w n cost
@@ -363,14 +343,10 @@ pub other_count : (m : List (List ℕ)) → length m ≢ 1 → IsNotCanonical m
 other_count m other t c d h few (words, k, e) = other (ap length e)
 
 pub empty_differs : (m : List (List ℕ)) → length (segment_of m 0) ≡ 0 → IsNotCanonical m
-empty_differs m free t c d h few (words, k, e) =
-    let same : length (segment_of m 0) ≡ length (layout (trim k.tree)) = ap (λ u. length (segment_of u 0)) e ∙ ap length k.laid in
-    omega (arith, same, free)
+empty_differs m free t c d h few k = search rules
 
 pub long_differs : (m : List (List ℕ)) → longest_copy < length (segment_of m 0) → IsNotCanonical m
-long_differs m long t c d h few (words, k, e) =
-    let same : length (segment_of m 0) ≡ length words = ap (λ u. length (segment_of u 0)) e in
-    omega (arith, same, long, few, copy_charged m t c d words h k)
+long_differs m long t c d h few k = search (rules, copy_charged)
 
 -- At first the root is due.
 pub first_in_order : (m : List (List ℕ)) → length m ≡ 1 → 0 < length (segment_of m 0) → length (segment_of m 0) ≤ longest_copy → IsInOrder m 1 []
@@ -463,30 +439,11 @@ module _ (m : List (List ℕ)) (w word end cost : ℕ) (l : LeadsToEnd m w word 
   -- Its object starts there.
   pub object_there : kind word < 2 → word ≢ 0
       → (tag : ℕ) × Finds m 0 w 0 0 end word × (IsComposite word → HasWord m 0 end tag) × (cost ≡ extent word + extra word tag)
-  object_there low some = go l.costs
-    where
-      lead : Leads m 0 w 0 (to_object 0 (pos end) word)
-      lead = subst (λ b. Leads m 0 w 0 (to_object 0 (pos b) word)) l.next
-          (near_lead m 0 w word (middle word) l.has low some refl (omega (arith, l.next, l.placed.inside, l.placed.few)))
-
-      go : Costs m 0 w cost → (tag : ℕ) × Finds m 0 w 0 0 end word × (IsComposite word → HasWord m 0 end tag) × (cost ≡ extent word + extra word tag)
-      go (inl h) = absurd (cc (one_lead m 0 w cost 0 to_null (to_object 0 (pos end) word) h lead).1)
-      go (inr (inl (i, h))) = absurd (cc (one_lead m 0 w cost 0 (to_cap i) (to_object 0 (pos end) word) h lead).1)
-      go (inr (inr (k, t, b, q, tag, f, has, e))) =
-          let one = one_lead m 0 w k 0 (to_object t (pos b) q) (to_object 0 (pos end) word) f.leads lead in
-          let parts = object_parts t b q 0 end word one.1 in
-          let own : (tag : ℕ) × Finds m 0 w k t b q × (IsComposite q → HasWord m t b tag) × (cost ≡ k + extent q + extra q tag) = (tag, f, has, e) in
-          let there : (tag : ℕ) × Finds m 0 w 0 0 end word × (IsComposite word → HasWord m 0 end tag) × (cost ≡ 0 + extent word + extra word tag) =
-          rw (one.0, parts.0, parts.1, parts.2) at own in
-          (there.0, there.1, there.2, omega (arith, there.3))
+  object_there low some = search (rules, near_lead, one_lead, object_parts)
 
   -- If it needs no tag, it takes what the word costs.
   row_there : (n : ℕ) → HasPointers word n → word ≢ 0 → Finds m 0 w 0 0 end word × (cost ≡ extent word) × (end + cost ≤ length (segment_of m 0))
-  row_there n pointers some =
-      let plain = pointers-plain word n pointers in
-      let (tag, finds, tagged, costs) = object_there plain.0 some in
-      let none : extra word tag ≡ 0 = extra_same word tag 0 plain.0 (λ k c. absurd (plain.1 k c)) ∙ pointers-no_extra word n pointers in
-      (finds, omega (arith, costs, none), omega (arith, costs, none, finds.inside.inside))
+  row_there n pointers some = search (rules, pointers-plain, object_there, extra_same, pointers-no_extra)
 
   object_of : (n : ℕ) (x : Shape) → HasPointers word n → word ≢ 0 → IsShape word 0 x → FindsObject m 0 w 0 0 end word 0 cost cost x
   object_of n x pointers some is =
@@ -524,24 +481,14 @@ module _ (m : List (List ℕ)) (w word end cost : ℕ) (l : LeadsToEnd m w word 
 
   -- It is a struct that costs something,
   struct_some : cost ≢ 0 → word ≢ 0
-  struct_some some = λ z.
-      let null : HasWord m 0 w 0 = subst (HasWord m 0 w) z l.has in
-      some (one_cost m 0 w cost 0 l.costs (inl (near 0 null (omega arith) refl refl)))
+  struct_some some = search (rules, one_cost)
 
   -- or it has no words,
   pub struct_empty : kind word ≡ 0 → cost ≡ 0 → HasNoWords word
-  struct_empty k free = (λ _. go (eqb_tells word 0), λ list. absurd (omega (arith, list, k)))
-    where
-      go : (((word == 0) ≡ true) × (word ≡ 0)) ⊎ (((word == 0) ≡ false) × (word ≡ 0 → ⊥)) → data_size word + pointer_size word ≡ 0
-      go (inl y) = rw y.1 refl
-      go (inr y) =
-          let words = (row_there (pointer_size word) (inl (k, refl)) y.1).1 in
-          omega (arith, words, free, extent_struct word k)
+  struct_empty k free = search (rules, eqb_tells, row_there, extent_struct)
 
   pub struct_inside : kind word ≡ 0 → cost ≢ 0 → (end + data_size word + pointer_size word ≤ length (segment_of m 0)) × (end + cost ≤ length (segment_of m 0))
-  struct_inside k some =
-      let (finds, words, inside) = row_there (pointer_size word) (inl (k, refl)) (struct_some some) in
-      (omega (arith, inside, words, extent_struct word k), inside)
+  struct_inside k some = search (rules, row_there, struct_some, extent_struct)
 
   pub struct_differs : kind word ≡ 0 → cost ≢ 0 → NeedsLess m 0 end (data_size word) (pointer_size word) → NoCopyHas m w end
   struct_differs k some less =
@@ -583,10 +530,7 @@ module _ (m : List (List ℕ)) (w word end cost : ℕ) (l : LeadsToEnd m w word 
   pub structs_there : kind word ≡ 1 → code word ≡ 7
       → (tag : ℕ) × HasWord m 0 end tag × (kind tag ≡ 0) × (end + 1 + list_size word ≤ length (segment_of m 0))
       × (middle tag * (data_size tag + pointer_size tag) ≤ list_size word)
-  structs_there k c =
-      let (_, finds, _, _) = object_there (omega (arith, k)) (list_some k) in
-      let (tag, has, fits) = finds.inside.composite (k, c) in
-      (tag, has, fits.0, omega (arith, finds.inside.inside, extent_structs word k c), fits.1)
+  structs_there k c = search (rules, object_there, list_some, extent_structs)
 
   pub values_next : word < 2 ^ 64 → kind word ≡ 1 → 0 < code word → code word < 6
       → HasWordsAt (segment_of m 0) end (scalar_words (code word) (values_of m 0 end (code word) (list_size word))) → IsNextInOrder m w end (end + cost)
@@ -602,8 +546,4 @@ module _ (m : List (List ℕ)) (w word end cost : ℕ) (l : LeadsToEnd m w word 
 
   pub values_differ : kind word ≡ 1 → 0 < code word → code word < 6
       → (HasWordsAt (segment_of m 0) end (scalar_words (code word) (values_of m 0 end (code word) (list_size word))) → ⊥) → NoCopyHas m w end
-  values_differ k some few stand x charge deep h lt small pointed own due laid =
-      let o = scalars_object m 0 w x charge deep (code word) (list_size word) h
-      (object_of 0 (shape.Scalars (code word) (list_size word)) (inr (inr (k, some, few, refl))) (list_some k)
-      (record { kind = k; code = refl; scalar = few; count = refl })) in
-      stand (subst (λ (u : Tree). OwnAt (segment_of m 0) end u) o.1.tree own)
+  values_differ k some few stand x charge deep h lt small pointed own due laid = search (rules, scalars_object, object_of, list_some)

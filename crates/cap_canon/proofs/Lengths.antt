@@ -1,7 +1,7 @@
 -- How many words are due.
-use Rattle.std.proofs.Common.{List, [], ap, arith, length, refl, ℕ, ◌*◌, ◌++◌, ◌+◌, ◌∷◌, ◌≡◌, ◌≤◌}
+use Rattle.std.proofs.Common.{List, [], ap, arith, refl, ℕ, ◌++◌, ◌+◌, ◌∷◌, ◌≡◌, ◌≤◌, rules}
 use Rattle.cap_spec.specs.Canonical.{element_sizes, size, sizes}
-use Rattle.cap_spec.specs.Tree.{Tree, Trees, cap, more, none, null, pointers, scalars, struct, structs, tree_count}
+use Rattle.cap_spec.specs.Tree.{Tree, Trees, cap, more, none, null, pointers, scalars, struct, structs}
 use Rattle.cap_canon.specs.Laying.{Due, below, element_slots, own_size, size_due, slots}
 
 pub size_due-append : (xs ys : List Due) → size_due (xs ++ ys) ≡ size_due xs + size_due ys
@@ -25,16 +25,7 @@ size_elements d p a (more (structs x y ts) es) = size_elements d p a es
 
 -- a tree's words are its own and those of what becomes due
 pub size_below : (end : ℕ) (u : Tree) → size u ≡ own_size u + size_due (below end u)
-size_below end null = omega arith
-size_below end (cap i) = omega arith
-size_below end (struct ws ts) = omega (arith, size_slots (end + length ws) ts)
-size_below end (scalars c vs) = omega arith
-size_below end (pointers ts) = omega (arith, size_slots end ts)
-size_below end (structs d p es) = let e = size_elements d p (end + 1) es in
-    step (tree_count es * (d + p)) (element_sizes es) (size_due (element_slots d p (end + 1) es)) e
-  where
-    step : (n a b : ℕ) → b ≡ a → 1 + n + a ≡ 1 + n + b
-    step n a b e = omega (arith, e)
+size_below end h = search (rules, size_slots, size_elements)
 
 -- its own words fit
 pub own_within : (end full : ℕ) (u : Tree) (due : List Due) (slot : ℕ) → end + size_due (record { slot = slot; tree = u } ∷ due) ≤ full

@@ -1,23 +1,20 @@
 -- How many data words are needed, from the last one down.
 use Rattle.cap_spec.proofs.Lemmas.{data_needed_le, range_length}
-use Rattle.cap_spec.proofs.ProofNames.{List, [], ap, arith, drop, false, get_or, get_or-drop, get_or-take, if◌then◌else◌}
-use Rattle.cap_spec.proofs.ProofNames.{inl, inr, length, max, refl, suc, sym, take, true, zero, ℕ, ◌*◌, ◌+◌, ◌-◌, ◌<◌}
-use Rattle.cap_spec.proofs.ProofNames.{◌==◌, ◌∙◌, ◌∷◌, ◌≡◌, ◌≢◌, ◌≤◌, ◌⊎◌, eqb_tells, get_or_from_slice_get, data_needed}
-use Rattle.cap_spec.proofs.ProofNames.{words_from, HasWord, segment_of}
+use Rattle.cap_spec.proofs.ProofNames.{List, [], arith, false, get_or, get_or-drop, get_or-take, if◌then◌else◌, length}
+use Rattle.cap_spec.proofs.ProofNames.{max, refl, suc, sym, true, zero, ℕ, ◌*◌, ◌+◌, ◌-◌, ◌<◌, ◌==◌, ◌∙◌, ◌∷◌, ◌≡◌}
+use Rattle.cap_spec.proofs.ProofNames.{◌≢◌, ◌≤◌, ◌⊎◌, eqb_tells, get_or_from_slice_get, data_needed, words_from}
+use Rattle.cap_spec.proofs.ProofNames.{HasWord, segment_of, rules}
 use Rattle.cap_canon.specs.Trimming.{most_data}
 
 -- a word that isn't zero is needed
 first_needed : (n x : ℕ) → x ≢ 0 → (((n == 0) ≡ true) × (n ≡ 0)) ⊎ (((n == 0) ≡ false) × (n ≡ 0 → ⊥))
     → (((x == 0) ≡ true) × (x ≡ 0)) ⊎ (((x == 0) ≡ false) × (x ≡ 0 → ⊥))
     → 1 ≤ (if n == 0 then (if x == 0 then 0 else 1) else suc n)
-first_needed n x h (inl a) (inl b) = absurd (h b.1)
-first_needed n x h (inl a) (inr b) = rw (a.0, b.0) (omega arith)
-first_needed n x h (inr a) b = rw a.0 (omega arith)
+first_needed n x h k e = search rules
 
 -- and what is needed later is needed behind it
 pub later_needed : (n y i : ℕ) → suc i ≤ n → (((n == 0) ≡ true) × (n ≡ 0)) ⊎ (((n == 0) ≡ false) × (n ≡ 0 → ⊥)) → suc (suc i) ≤ (if n == 0 then y else suc n)
-later_needed n y i h (inl a) = absurd (omega (arith, a.1, h))
-later_needed n y i h (inr a) = rw a.0 (omega (arith, h))
+later_needed n y i h k = search rules
 
 pub needed_past : (ws : List ℕ) (i : ℕ) → get_or ws i 0 ≢ 0 → suc i ≤ data_needed ws
 needed_past [] i h = absurd (h refl)
@@ -27,22 +24,14 @@ needed_past (x ∷ xs) (suc i) h = later_needed (data_needed xs) (if x == 0 then
 -- a zero word that stands last of those needed isn't needed
 first_zero : (n x : ℕ) → x ≡ 0 → (((n == 0) ≡ true) × (n ≡ 0)) ⊎ (((n == 0) ≡ false) × (n ≡ 0 → ⊥)) → (if n == 0 then (if x == 0 then 0 else 1) else suc n) ≤ 1
     → (if n == 0 then (if x == 0 then 0 else 1) else suc n) ≤ 0
-first_zero n x e (inl a) h = rw (a.0, e) (omega arith)
-first_zero n x e (inr a) h =
-    let k : suc n ≤ 1 = rw a.0 at h in
-    absurd (a.1 (omega (arith, k)))
+first_zero n x e k h = search rules
 
 pub later_zero : (n y i : ℕ) → (n ≤ suc i → n ≤ i) → y ≤ 1 → (((n == 0) ≡ true) × (n ≡ 0)) ⊎ (((n == 0) ≡ false) × (n ≡ 0 → ⊥))
     → (if n == 0 then y else suc n) ≤ suc (suc i) → (if n == 0 then y else suc n) ≤ suc i
-later_zero n y i r s (inl a) h = rw a.0 (omega (arith, s))
-later_zero n y i r s (inr a) h =
-    let k : suc n ≤ suc (suc i) = rw a.0 at h in
-    let l : n ≤ i = r (omega (arith, k)) in
-    rw a.0 (omega (arith, l))
+later_zero n y i r s k h = search rules
 
 one_at_most : (x : ℕ) → (((x == 0) ≡ true) × (x ≡ 0)) ⊎ (((x == 0) ≡ false) × (x ≡ 0 → ⊥)) → (if x == 0 then 0 else 1) ≤ 1
-one_at_most x (inl a) = rw a.0 (omega arith)
-one_at_most x (inr a) = rw a.0 (omega arith)
+one_at_most x h = search rules
 
 pub not_needed : (ws : List ℕ) (i : ℕ) → get_or ws i 0 ≡ 0 → data_needed ws ≤ suc i → data_needed ws ≤ i
 not_needed [] i e h = omega arith
@@ -52,10 +41,7 @@ not_needed (x ∷ xs) (suc i) e h = later_zero (data_needed xs) (if x == 0 then 
 
 -- a word of a range is that of its segment
 pub word_of_range : (m : List (List ℕ)) (s b n i x : ℕ) → i < n → HasWord m s (b + i) x → get_or (words_from m s b n) i 0 ≡ x
-word_of_range m s b n i x lt h =
-    let e : b + n - b ≡ n = omega arith in
-    ap (λ k. get_or (take k (drop b (segment_of m s))) i 0) e
-    ∙ (get_or-take n (drop b (segment_of m s)) i 0 lt ∙ (get_or-drop b (segment_of m s) i 0 ∙ get_or_from_slice_get (segment_of m s) (b + i) x 0 h))
+word_of_range m s b n i x lt h = search (rules, get_or-take, get_or-drop, get_or_from_slice_get)
 
 -- no more are needed than there are
 pub range_needed : (m : List (List ℕ)) (s b n : ℕ) → b + n ≤ length (segment_of m s) → data_needed (words_from m s b n) ≤ n
@@ -83,10 +69,7 @@ needed_here m s b n left least x lt le h nz most =
 pub needed_below : (m : List (List ℕ)) (s b n left least x : ℕ) → least < left → left ≤ n → HasWord m s (b + (left - 1)) x → x ≡ 0
     → data_needed (words_from m s b n) ≤ left
     → data_needed (words_from m s b n) ≤ left - 1
-needed_below m s b n left least x lt le h z most =
-    let i : left - 1 < n = omega (arith, lt, le) in
-    let e : get_or (words_from m s b n) (left - 1) 0 ≡ x = word_of_range m s b n (left - 1) x i h in
-    not_needed (words_from m s b n) (left - 1) (e ∙ z) (omega (arith, lt, most))
+needed_below m s b n left least x lt le h z most = search (rules, word_of_range, not_needed)
 
 -- one element more
 pub most_on : (a b m r : ℕ) → a ≡ max m b → max a r ≡ max m (max b r)
@@ -111,6 +94,4 @@ element_seen m s start at ds ps count i most now lt e w k =
 -- all have their size already
 pub enough_seen : (m : List (List ℕ)) (s start at ds ps count i most : ℕ) → i < count → start + count * (ds + ps) ≤ length (segment_of m s) → most ≡ ds
     → ElementsSeen m s start at ds ps count i most → most ≡ most_data m s start ds ps count
-enough_seen m s start at ds ps count i most lt h e k =
-    let a : most_data m s start ds ps count ≤ ds = most_within m s start ds ps count h in
-    omega (arith, e, k.rest, a)
+enough_seen m s start at ds ps count i most lt h e k = search (rules, most_within)

@@ -7,11 +7,11 @@ use Rattle.cap_spec.proofs.ProofNames.{take, true, ℕ, ◌*◌, ◌++◌, ◌+�
 use Rattle.cap_spec.proofs.ProofNames.{eqb_tells, children_needed, children_of, cut_elements, data_needed, data_of}
 use Rattle.cap_spec.proofs.ProofNames.{pointer_to, struct_word, take_trees, trim, trim_all, trim_elements, AreElements}
 use Rattle.cap_spec.proofs.ProofNames.{DenoteEach, Denotes, words_from, HasWord, segment_of, code, data_size, kind}
-use Rattle.cap_spec.proofs.ProofNames.{list_size, middle, pointer_size, Tree, Trees, cap, null, pointers, scalars, struct}
-use Rattle.cap_spec.proofs.ProofNames.{structs, tree_count}
+use Rattle.cap_spec.proofs.ProofNames.{list_size, middle, pointer_size, Tree, Trees, struct, structs}
+use Rattle.cap_spec.proofs.ProofNames.{tree_count, rules}
 use Rattle.cap_ptr.specs.Shapes.{FindsObject}
-use Rattle.cap_canon.specs.CanonNames.{IsStructAt, Differs, HasNoWords, NoCopyHas, IsPointed, Laid, OwnAt, below, own_size}
-use Rattle.cap_canon.specs.CanonNames.{NeedsLess, most_data}
+use Rattle.cap_canon.specs.CanonNames.{IsStructAt, Differs, HasNoWords, NoCopyHas, IsPointed, Laid, OwnAt, below}
+use Rattle.cap_canon.specs.CanonNames.{own_size, NeedsLess, most_data}
 use Rattle.cap_canon.specs.Trimming.{ListNeedsLess}
 use Rattle.cap_canon.proofs.Children.{row_needed}
 use Rattle.cap_canon.proofs.Elements.{most_data_of}
@@ -26,23 +26,7 @@ use Rattle.cap_ptr.specs.declared.shapes.Shape.TheVariants as shape
 -- is a struct's.
 pub word_parts : (o word : ℕ) (u : Tree) → o < 2 ^ 29 → Fits u → word ≡ pointer_to o u → kind word ≢ 3 → word ≢ 0 → word ≢ 2 ^ 32 - 4
     → (((kind word ≡ 0) × (data_size word + pointer_size word ≢ 0)) ⊎ (kind word ≡ 1)) × (middle word ≡ o)
-word_parts o word null small f e k z n = absurd (z e)
-word_parts o word (cap i) small f e k z n = absurd (k (omega (arith, e)))
-word_parts o word (struct ws ts) small f e k z n = go (eqb_tells (length ws + tree_count ts) 0)
-  where
-    go : (((length ws + tree_count ts == 0) ≡ true) × (length ws + tree_count ts ≡ 0)) ⊎
-        (((length ws + tree_count ts == 0) ≡ false) × (length ws + tree_count ts ≡ 0 → ⊥))
-        → (((kind word ≡ 0) × (data_size word + pointer_size word ≢ 0)) ⊎ (kind word ≡ 1)) × (middle word ≡ o)
-    go (inl y) = absurd (n (e ∙ rw y.0 refl))
-    go (inr y) =
-        let same : word ≡ struct_word o (length ws) (tree_count ts) = e ∙ rw y.0 refl in
-        let fields = struct_fields o (length ws) (tree_count ts) (omega (arith, small)) f.0 f.1 in
-        let d : data_size word ≡ length ws = ap data_size same ∙ fields.data_words in
-        let p : pointer_size word ≡ tree_count ts = ap pointer_size same ∙ fields.pointers in
-        (inl (ap kind same ∙ fields.kind, λ q. y.1 (omega (arith, q, d, p))), ap middle same ∙ fields.middle)
-word_parts o word (scalars c vs) small f e k z n = (inr (omega (arith, e)), omega (arith, e, small))
-word_parts o word (pointers ts) small f e k z n = (inr (omega (arith, e)), omega (arith, e, small))
-word_parts o word (structs d p es) small f e k z n = (inr (omega (arith, e)), omega (arith, e, small))
+word_parts o word h small f e k z n = search (rules, eqb_tells, struct_fields)
 
 -- So no copy has another word, unless it leads to the end: then it has words, or is that of a list without bits.
 pub no_word : (m : List (List ℕ)) (w end word : ℕ) → HasWord m 0 w word → kind word ≢ 3 → word ≢ 0 → word ≢ 2 ^ 32 - 4

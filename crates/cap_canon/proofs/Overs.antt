@@ -1,9 +1,9 @@
 -- The words and the text of a copy at the start of a buffer.
 use Rattle.cap_spec.specs.declared.CanonFault.TheVariants.{HasCapability, Memory}
 use Rattle.cap_spec.proofs.Lemmas.{all_take, length_plain}
-use Rattle.cap_spec.proofs.ProofNames.{Err, List, Ok, Result, [], ap, arith, inl, inr, length, length-take-le, sym, take}
-use Rattle.cap_spec.proofs.ProofNames.{take_all, ℕ, ◌*◌, ◌<◌, ◌∙◌, ◌≡◌, ◌≤◌, ◌⊎◌, AllByRecursion, layout, trim, HasCopy}
-use Rattle.cap_spec.proofs.ProofNames.{Denotes, IsFirstCap, plain_text, plain_words}
+use Rattle.cap_spec.proofs.ProofNames.{Err, List, Ok, [], ap, arith, length, length-take-le, take, take_all, ℕ, ◌*◌}
+use Rattle.cap_spec.proofs.ProofNames.{◌<◌, ◌∙◌, ◌≡◌, ◌≤◌, ◌⊎◌, AllByRecursion, layout, trim, HasCopy, Denotes}
+use Rattle.cap_spec.proofs.ProofNames.{IsFirstCap, plain_text, plain_words, rules}
 use Rattle.cap_words.proofs.WholeWords.{words_text}
 use Rattle.cap_canon.specs.CopyOvers.{MakesEnough, TellsOver, enough, grown, has_capability, made, no_copy, no_memory}
 use Rattle.cap_canon.specs.CopyOvers.{over, refused}
@@ -32,10 +32,7 @@ tells_err m old new fault (made words h l e g) = absurd (cc)
 -- one that is long enough, for this copy
 pub enough_of : (m : List (List ℕ)) (old new : List ℕ) → MakesEnough m old (Ok tt) new
     → (words : List ℕ) × HasCopy m words × (8 * length words ≤ length new)
-enough_of m old new (no_copy s w f e g) = absurd (cc)
-enough_of m old new (refused words h l e g) = absurd (cc)
-enough_of m old new (enough words h l e g) = (words, h, omega (arith, l, length_plain words, ap length g))
-enough_of m old new (made words h l e g) = (words, h, omega (arith, length_plain words, g))
+enough_of m old new h = search (rules, length_plain)
 
 -- and so for what is laid
 pub enough_for : (m : List (List ℕ)) (old new : List ℕ) → MakesEnough m old (Ok tt) new
@@ -50,11 +47,7 @@ module _ (m : List (List ℕ)) (old mid new : List ℕ) (n : ℕ) (same : length
     (writes : (t : _) (c d : ℕ) → Denotes m 0 0 t c d → first_words (length (layout (trim t))) new ≡ layout (trim t))
     (texts : (t : _) (c d : ℕ) → Denotes m 0 0 t c d → take (8 * length (layout (trim t))) new ≡ plain_text (layout (trim t))) where
   text_of : (words : List ℕ) → HasCopy m words → (n ≡ length words) × (take (length (plain_text words)) new ≡ plain_text words)
-  text_of words h = (
-    counts h.tree h.charge h.depth h.denotes ∙ ap length (sym h.laid),
-    ap (λ (k : ℕ). take k new) (length_plain words)
-        ∙ (ap (λ (ws : List ℕ). take (8 * length ws) new) h.laid ∙ (texts h.tree h.charge h.depth h.denotes ∙ ap plain_text (sym h.laid))),
-  )
+  text_of words h = search (rules, length_plain)
 
   pub tells_ok : MakesEnough m old (Ok tt) mid → TellsOver m old (Ok (8 * n)) new
   tells_ok (no_copy s w f e g) = absurd (cc)
@@ -91,23 +84,9 @@ module _ (m : List (List ℕ)) (old mid new : List ℕ) (n : ℕ) (same : length
 -- all of a new vector is the copy
 pub new_text : (m : List (List ℕ)) (count : ℕ) (new : List ℕ) → TellsOver m [] (Ok count) new
     → (words : List ℕ) × HasCopy m words × (new ≡ plain_text words) × (count ≡ length new)
-new_text m count new (has_capability s w f e g) = absurd (cc)
-new_text m count new (no_memory words h l e g) = absurd (cc)
-new_text m count new (over words h l e t g) =
-    let none : length (plain_text words) ≡ 0 = omega (arith, l) in
-    let some : length words ≡ length (layout (trim h.tree)) = ap length h.laid in
-    absurd (omega (arith, none, length_plain words, some))
-new_text m count new (grown words h l e t g) =
-    let c : count ≡ length (plain_text words) = same_count count (length (plain_text words)) e in
-    (words, h, sym (take_all (length (plain_text words)) new (omega (arith, g))) ∙ t, c ∙ sym g)
-  where
-    same_count : (a b : ℕ) → ◌≡◌ {A = Result ℕ CanonFault} (Ok a) (Ok b) → a ≡ b
-    same_count a b e = cc
+new_text m count new h = search (rules, length_plain, take_all)
 
 -- or there is none, by the fault
 pub new_fault : (m : List (List ℕ)) (fault : CanonFault) (new : List ℕ) → TellsOver m [] (Err fault) new
     → ((s w : ℕ) × IsFirstCap m s w × (fault ≡ HasCapability s w)) ⊎ ((words : List ℕ) × HasCopy m words × (fault ≡ Memory))
-new_fault m fault new (has_capability s w f e g) = inl (s, w, f, same_fault fault (HasCapability s w) e)
-new_fault m fault new (no_memory words h l e g) = inr (words, h, same_fault fault Memory e)
-new_fault m fault new (over words h l e t g) = absurd (cc)
-new_fault m fault new (grown words h l e t g) = absurd (cc)
+new_fault m fault new h = search (rules, same_fault)

@@ -2,7 +2,7 @@
 use Rattle.cap_spec.proofs.Lemmas.{reverse-more, HasWord-inside, HasWord-segment, lead_word, Formed, formed}
 use Rattle.cap_spec.proofs.ProofNames.{List, None, Option, Some, [], ap, arith, length, length-append, option_to_list}
 use Rattle.cap_spec.proofs.ProofNames.{refl, reverse, subst, suc, sym, ℕ, ◌++◌, ◌+◌, ◌<◌, ◌^◌, ◌∙◌, ◌∷◌, ◌≡◌, ◌≤◌}
-use Rattle.cap_spec.proofs.ProofNames.{length-reverse, reverse-append, Denotes, IsMessage, segment_of, Tree}
+use Rattle.cap_spec.proofs.ProofNames.{length-reverse, reverse-append, Denotes, IsMessage, segment_of, Tree, rules}
 use Rattle.cap_canon.specs.Laying.{size_due}
 use Rattle.cap_canon.specs.CanonNames.{AreShort, IsFull, IsRest, OptionFull, all_places, first_place, option_places}
 use Rattle.cap_canon.specs.CanonNames.{places_of, AreBefore, Due, AreOwed, IsNext, IsWalking, Stacked, longest_copy}
@@ -49,9 +49,7 @@ before_more end now (x ∷ xs) le h = (omega (arith, h.0, le), before_more end n
 pub stacked_more : (m : List (List ℕ)) (depth n : ℕ) (r : Option CopyRun) (runs : List CopyRun) (own rest : List Due) → n ≡ length runs + 1 → OptionFull r
     → AreOwed m depth n (option_places r) own → Stacked m depth runs rest
     → Stacked m depth (option_to_list r ++ runs) (own ++ rest)
-stacked_more m depth n None runs [] rest e f h s = s
-stacked_more m depth n None runs (x ∷ own) rest e f h s = absurd h
-stacked_more m depth n (Some r) runs own rest e f h s = (own, rest, refl, record { full = f; owed = subst (λ k. AreOwed m depth k (places_of r) own) e h }, s)
+stacked_more m depth n k runs g rest e f h s = search rules
 
 -- The topmost run of a walk: its first word, and the others.
 pub record Topmost (m : List (List ℕ)) (depth end : ℕ) (f : CopyRun) (runs : List CopyRun) (due : List Due) : Type 0 where

@@ -1,11 +1,12 @@
 -- The words of ranges and of lists of values, as a copy appends them.
 use Rattle.cap_spec.proofs.Lemmas.{rest_at, HasWord-at, range_length, length-scalar_words}
-use Rattle.cap_spec.proofs.ProofNames.{List, [], ap, ap₂, arith, drop, drop-drop, get_or, get_or-drop, get_or-take, inl}
-use Rattle.cap_spec.proofs.ProofNames.{inr, length, length-append, refl, subst, suc, sym, take, take-add, zero, ℕ, ◌*◌}
-use Rattle.cap_spec.proofs.ProofNames.{◌++◌, ◌+◌, ◌-◌, ◌<◌, ◌∙◌, ◌∷◌, ◌≡◌, ◌≤◌, ◌⊎◌, get_or-append_right}
+use Rattle.cap_spec.proofs.ProofNames.{List, [], ap, ap₂, arith, drop, drop-drop, get_or, get_or-drop, get_or-take}
+use Rattle.cap_spec.proofs.ProofNames.{inl, inr, length, length-append, refl, subst, suc, sym, take, take-add, zero, ℕ}
+use Rattle.cap_spec.proofs.ProofNames.{◌*◌, ◌++◌, ◌+◌, ◌-◌, ◌<◌, ◌∙◌, ◌∷◌, ◌≡◌, ◌≤◌, ◌⊎◌, get_or-append_right}
 use Rattle.cap_spec.proofs.ProofNames.{get_or_append_left, get_or_default, same_lists, length-map-range_with_len}
 use Rattle.cap_spec.proofs.ProofNames.{get_or_from_slice_get, AllByRecursion, value_at, values_of, words_from, HasWord}
 use Rattle.cap_spec.proofs.ProofNames.{segment_of, HasWordsAt, element_bits, list_words, scalar_words, IsWord, field}
+use Rattle.cap_spec.proofs.ProofNames.{rules}
 use Rattle.cap_spec.proofs.Trees.WordsRead.{values_read}
 use Rattle.cap_canon.specs.Filling.{elements_from}
 use Rattle.cap_canon.specs.Values.{used_bits}
@@ -16,9 +17,7 @@ range_is m t b n = let e : b + n - b ≡ n = omega arith in ap (λ k. take k (dr
 
 -- a range and the one behind it
 pub words_split : (m : List (List ℕ)) (t b x y : ℕ) → words_from m t b (x + y) ≡ words_from m t b x ++ words_from m t (b + x) y
-words_split m t b x y =
-    range_is m t b (x + y) ∙ (take-add x y (drop b (segment_of m t))
-    ∙ ap₂ (λ xs ys. xs ++ ys) (sym (range_is m t b x)) (ap (take y) (drop-drop x b (segment_of m t)) ∙ sym (range_is m t (b + x) y)))
+words_split m t b x y = search (rules, range_is, take-add, drop-drop)
 
 -- elements of which nothing is cut
 pub elements_whole : (m : List (List ℕ)) (t b ds ps n : ℕ) → words_from m t b (n * (ds + ps)) ≡ elements_from m t b ds ps ds ps n
@@ -32,8 +31,7 @@ elements_whole m t b ds ps (suc n) =
 
 -- one word more of a range
 pub range_more : (m : List (List ℕ)) (t b n x : ℕ) → HasWord m t (b + n) x → words_from m t b (n + 1) ≡ words_from m t b n ++ x ∷ []
-range_more m t b n x h =
-    words_split m t b n 1 ∙ ap (λ xs. words_from m t b n ++ xs) (range_is m t (b + n) 1 ∙ ap (take 1) (rest_at (segment_of m t) (b + n) x h))
+range_more m t b n x h = search (rules, words_split, range_is, rest_at)
 
 -- a range of no words, and one of one word
 pub range_none : (m : List (List ℕ)) (t b : ℕ) → words_from m t b 0 ≡ []
@@ -87,13 +85,7 @@ all_at (x ∷ xs) (suc k) a lt = all_at xs k a.1 (omega (arith, lt))
 
 -- every word of a list of values but the last is full of them
 pub used_all : (c n k : ℕ) → c < 6 → suc k < list_words c n → used_bits c n k ≡ 64
-used_all zero n k lt h = absurd (omega (arith, h))
-used_all (suc zero) n k lt h = omega (arith, h)
-used_all (suc (suc zero)) n k lt h = omega (arith, h)
-used_all (suc (suc (suc zero))) n k lt h = omega (arith, h)
-used_all (suc (suc (suc (suc zero)))) n k lt h = omega (arith, h)
-used_all (suc (suc (suc (suc (suc zero))))) n k lt h = omega (arith, h)
-used_all (suc (suc (suc (suc (suc (suc c)))))) n k lt h = absurd (omega (arith, lt))
+used_all e n k lt h = search rules
 
 pub whole_field : (x : ℕ) → IsWord x → field x 0 64 ≡ x
 whole_field x h = omega (arith, h)

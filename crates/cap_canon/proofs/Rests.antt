@@ -1,7 +1,8 @@
 -- How many bits of its last word a list of values takes, and lists that take all of them.
 use Rattle.cap_spec.proofs.ProofNames.{List, ap, arith, length, subst, suc, sym, zero, ℕ, ◌%◌, ◌*◌, ◌+◌, ◌<◌, ◌∙◌, ◌≡◌}
-use Rattle.cap_spec.proofs.ProofNames.{◌≢◌, ◌≤◌, nil_from_length, length-map-range_with_len, value_at, values_of, HasWord}
-use Rattle.cap_spec.proofs.ProofNames.{segment_of, HasWordsAt, element_bits, list_words, scalar_words, IsWord, field}
+use Rattle.cap_spec.proofs.ProofNames.{◌≢◌, ◌≤◌, nil_from_length, length-map-range_with_len, value_at, values_of}
+use Rattle.cap_spec.proofs.ProofNames.{HasWord, segment_of, HasWordsAt, element_bits, list_words, scalar_words, IsWord}
+use Rattle.cap_spec.proofs.ProofNames.{field, rules}
 use Rattle.cap_spec.proofs.Trees.ReadingBack.{length-scalar_words}
 use Rattle.cap_canon.specs.Values.{used_bits}
 use Rattle.cap_canon.proofs.Ranges.{whole_field}
@@ -9,33 +10,15 @@ use Rattle.cap_canon.proofs.Standing.{range_words, values_stand}
 
 -- where no bits are over, the values take all of the last word,
 pub rest_all : (c n before : ℕ) → c < 6 → list_words c n ≡ before + 1 → (element_bits c * n) % 64 ≡ 0 → used_bits c n before ≡ 64
-rest_all zero n before lt w e = absurd (omega (arith, w))
-rest_all (suc zero) n before lt w e = omega (arith, w, e)
-rest_all (suc (suc zero)) n before lt w e = omega (arith, w, e)
-rest_all (suc (suc (suc zero))) n before lt w e = omega (arith, w, e)
-rest_all (suc (suc (suc (suc zero)))) n before lt w e = omega (arith, w, e)
-rest_all (suc (suc (suc (suc (suc zero))))) n before lt w e = omega (arith, w, e)
-rest_all (suc (suc (suc (suc (suc (suc c)))))) n before lt w e = absurd (omega (arith, lt))
+rest_all h n before lt w e = search rules
 
 -- else as many of it as are over,
 pub rest_part : (c n before : ℕ) → c < 6 → list_words c n ≡ before + 1 → (element_bits c * n) % 64 ≢ 0 → used_bits c n before ≡ (element_bits c * n) % 64
-rest_part zero n before lt w e = absurd (omega (arith, w))
-rest_part (suc zero) n before lt w e = omega (arith, w, e)
-rest_part (suc (suc zero)) n before lt w e = omega (arith, w, e)
-rest_part (suc (suc (suc zero))) n before lt w e = omega (arith, w, e)
-rest_part (suc (suc (suc (suc zero)))) n before lt w e = omega (arith, w, e)
-rest_part (suc (suc (suc (suc (suc zero))))) n before lt w e = omega (arith, w, e)
-rest_part (suc (suc (suc (suc (suc (suc c)))))) n before lt w e = absurd (omega (arith, lt))
+rest_part h n before lt w e = search rules
 
 -- and the list has words.
 pub rest_words : (c n : ℕ) → c < 6 → (element_bits c * n) % 64 ≢ 0 → 0 < list_words c n
-rest_words zero n lt e = omega (arith, e)
-rest_words (suc zero) n lt e = omega (arith, e)
-rest_words (suc (suc zero)) n lt e = omega (arith, e)
-rest_words (suc (suc (suc zero))) n lt e = omega (arith, e)
-rest_words (suc (suc (suc (suc zero)))) n lt e = omega (arith, e)
-rest_words (suc (suc (suc (suc (suc zero))))) n lt e = omega (arith, e)
-rest_words (suc (suc (suc (suc (suc (suc c)))))) n lt e = absurd (omega (arith, lt))
+rest_words h n lt e = search rules
 
 -- A list stands there where no bits are over.
 pub values_full : (m : List (List ℕ)) (t b c n words : ℕ) → c < 6 → words ≡ list_words c n → b + words ≤ length (segment_of m t)

@@ -1,9 +1,9 @@
 -- The pointer words of a run, word by word.
 use Rattle.std.proofs.Common.{List, None, Option, Some, [], ap, append-nil, append_assoc, arith, length, length-append}
-use Rattle.std.proofs.Common.{option_to_list, refl, suc, sym, zero, ℕ, ◌++◌, ◌+◌, ◌-◌, ◌<◌, ◌∙◌, ◌∷◌, ◌≡◌}
+use Rattle.std.proofs.Common.{option_to_list, refl, suc, sym, zero, ℕ, ◌++◌, ◌+◌, ◌-◌, ◌<◌, ◌∙◌, ◌∷◌, ◌≡◌, rules}
 use Rattle.cap_canon.specs.CopyRuns.{IsShort}
-use Rattle.cap_canon.specs.CanonNames.{AreShort, IsFull, IsRest, all_places, further_places, option_places, place}
-use Rattle.cap_canon.specs.CanonNames.{places_of, root_run, row_places, CopyRun, PointerPlace}
+use Rattle.cap_canon.specs.CanonNames.{AreShort, IsFull, IsRest, all_places, option_places, place, places_of, root_run}
+use Rattle.cap_canon.specs.CanonNames.{row_places, CopyRun, PointerPlace}
 
 -- behind the first of several words in a row
 pub rest_of_row : (s b a : ℕ) {n : ℕ} (more skip gap p : ℕ) → 1 < n → IsFull record {
@@ -19,26 +19,14 @@ pub rest_of_row : (s b a : ℕ) {n : ℕ} (more skip gap p : ℕ) → 1 < n → 
 }
     → IsRest record { segment = s; at = b; slot = a; left = n; more = more; skip = skip; gap = gap; pointers = p }
     (Some record { segment = s; at = b + 1; slot = a + 1; left = n - 1; more = more; skip = skip; gap = gap; pointers = p })
-rest_of_row s b a {n = zero} more skip gap p h full = absurd (omega arith)
-rest_of_row s b a {n = suc n} more skip gap p h full =
-    let e : suc n - 1 ≡ n = omega arith in
-    let f : b + 1 + n ≡ b + suc n = omega arith in
-    let g : a + 1 + n ≡ a + suc n = omega arith in record {
-      words = rw (e, f, g) refl;
-      full = record { some = omega arith; each = full.each };
-    }
+rest_of_row s b a more skip gap p h full = search rules
 
 -- behind the last of them, the next element's
 pub rest_of_elements : (s b a : ℕ) {n more : ℕ} (skip gap p : ℕ) → n ≡ 1 → 0 < more
     → IsFull record { segment = s; at = b; slot = a; left = n; more = more; skip = skip; gap = gap; pointers = p }
     → IsRest record { segment = s; at = b; slot = a; left = n; more = more; skip = skip; gap = gap; pointers = p }
     (Some record { segment = s; at = b + 1 + skip; slot = a + 1 + gap; left = p; more = more - 1; skip = skip; gap = gap; pointers = p })
-rest_of_elements s b a {more = zero} skip gap p e h full = absurd (omega arith)
-rest_of_elements s b a {more = suc more} skip gap p e h full =
-    let f : suc more - 1 ≡ more = omega arith in record {
-      words = rw (e, f) refl;
-      full = record { some = full.each h; each = λ k. full.each h };
-    }
+rest_of_elements s b a skip gap p e h full = search rules
 
 -- behind the last of all
 pub rest_of_last : (s b a : ℕ) {n more : ℕ} (skip gap p : ℕ) → n ≡ 1 → more ≡ 0
@@ -74,17 +62,12 @@ second_short s b a (suc (suc n)) others h k = k.1.0
 
 -- and so is the first of the next element
 first_short : (s b a p : ℕ) (others : List PointerPlace) → 0 < p → AreShort (row_places s b a p ++ others) → IsShort (place s b a)
-first_short s b a zero others h k = absurd (omega arith)
-first_short s b a (suc p) others h k = k.0
+first_short s b a e others h k = search rules
 
 pub next_short : (s b a n more skip gap p : ℕ) → n ≡ 1 → 0 < more → 0 < p
     → AreShort (places_of record { segment = s; at = b; slot = a; left = n; more = more; skip = skip; gap = gap; pointers = p })
     → IsShort (place s (b + 1 + skip) (a + 1 + gap))
-next_short s b a n zero skip gap p e h g k = absurd (omega arith)
-next_short s b a n (suc more) skip gap p e h g k =
-    let l : AreShort (row_places s b a 1 ++ further_places s (b + 1) (a + 1) skip gap p (suc more)) = rw e at k in
-    let j : AreShort ((row_places s (b + 1 + skip) (a + 1 + gap) p ++ further_places s (b + 1 + skip + p) (a + 1 + gap + p) skip gap p more)) = l.1 in
-    first_short s (b + 1 + skip) (a + 1 + gap) p (further_places s (b + 1 + skip + p) (a + 1 + gap + p) skip gap p more) g j
+next_short s b a n c skip gap p e h g k = search (rules, first_short)
 
 -- the words of runs, one of which is the last
 pub all_places-append : (xs ys : List CopyRun) → all_places (xs ++ ys) ≡ all_places xs ++ all_places ys
@@ -93,11 +76,8 @@ all_places-append (x ∷ xs) ys = ap (λ ps. places_of x ++ ps) (all_places-appe
 
 -- with one more, where there is one
 pub option_all_places : (r : Option CopyRun) → all_places (option_to_list r) ≡ option_places r
-option_all_places None = refl
-option_all_places (Some f) = append-nil (places_of f)
+option_all_places h = search (rules, append-nil)
 
 pub count_more : (runs : List CopyRun) (r : Option CopyRun)
     → length (all_places (runs ++ option_to_list r)) ≡ length (all_places runs) + length (option_places r)
-count_more runs r =
-    ap length (all_places-append runs (option_to_list r)) ∙ (length-append (all_places runs) (all_places (option_to_list r))
-    ∙ ap (λ ps. length (all_places runs) + length ps) (option_all_places r))
+count_more runs r = search (rules, all_places-append, length-append, option_all_places)

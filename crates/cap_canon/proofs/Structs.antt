@@ -1,6 +1,6 @@
 -- Structs in a row, appended to a copy one after the other.
-use Rattle.cap_spec.proofs.ProofNames.{List, ap, append_assoc, arith, length, length-append, subst, suc, sym, ℕ, ◌*◌, ◌++◌}
-use Rattle.cap_spec.proofs.ProofNames.{◌+◌, ◌-◌, ◌<◌, ◌∙◌, ◌≡◌, ◌≤◌, words_from, segment_of}
+use Rattle.cap_spec.proofs.ProofNames.{List, ap, append_assoc, arith, length, length-append, subst, suc, sym, ℕ, ◌*◌}
+use Rattle.cap_spec.proofs.ProofNames.{◌++◌, ◌+◌, ◌-◌, ◌<◌, ◌∙◌, ◌≡◌, ◌≤◌, words_from, segment_of, rules}
 use Rattle.cap_spec.proofs.Trees.DenotedTrees.{range_length}
 use Rattle.cap_canon.specs.Filling.{elements_from, parts_words}
 use Rattle.cap_canon.specs.Objects.{IsFewer}
@@ -16,12 +16,7 @@ pub record StructsSoFar (m : List (List ℕ)) (x : Part) (b count i : ℕ) (old 
 pub struct_inside : (m : List (List ℕ)) (x : Part) (b count i : ℕ) (old now : List ℕ) (space : ℕ) → i < count
     → x.start + count * (x.data_words + x.pointers) ≤ length (segment_of m x.segment)
     → StructsSoFar m x b count i old now space → b + (x.data_words + x.pointers) ≤ length (segment_of m x.segment)
-struct_inside m x b count i old now space lt h k =
-    let each = x.data_words + x.pointers in
-    let n : (count - i - 1) + i + 1 ≡ count = omega (arith, lt) in
-    let e : ((count - i - 1) + i + 1) * each ≡ (count - i - 1) * each + i * each + each = omega arith in
-    let f : count * each ≡ (count - i - 1) * each + i * each + each = rw n at e in
-    omega (arith, k.place, f, h)
+struct_inside m x b count i old now space lt h k = search rules
 
 pub structs_more : (m : List (List ℕ)) (x : Part) (b count i : ℕ) (old now next : List ℕ) (space more : ℕ) → i < count → IsFewer x
     → b + (x.data_words + x.pointers) ≤ length (segment_of m x.segment)

@@ -1,17 +1,12 @@
 -- What trimming leaves, told of the tree before it.
-use Rattle.std.proofs.Common.{ap, ap₂, if◌then◌else◌, max, refl, suc, ◌==◌, ◌≡◌}
+use Rattle.std.proofs.Common.{ap, ap₂, if◌then◌else◌, max, refl, suc, ◌==◌, ◌≡◌, rules}
 use Rattle.cap_spec.specs.Canonical.{children_needed, children_of, data_needed, data_of, is_null, trim, trim_all}
 use Rattle.cap_spec.specs.Canonical.{trim_elements}
 use Rattle.cap_spec.specs.Tree.{Tree, Trees, cap, more, none, null, pointers, scalars, struct, structs, tree_count}
 
 -- a tree is null where it is null trimmed
 pub is_null-trim : (t : Tree) → is_null (trim t) ≡ is_null t
-is_null-trim null = refl
-is_null-trim (cap i) = refl
-is_null-trim (struct ws ts) = refl
-is_null-trim (scalars c vs) = refl
-is_null-trim (pointers ts) = refl
-is_null-trim (structs d p es) = refl
+is_null-trim h = search rules
 
 -- as many children are needed when each is trimmed
 pub children_needed-trim : (ts : Trees) → children_needed (trim_all ts) ≡ children_needed ts

@@ -1,16 +1,16 @@
 -- A walk over an accepted message, from turn to turn.
 use Rattle.cap_spec.proofs.Canonical.Sizes.{trimmed_size_charged}
-use Rattle.cap_spec.proofs.Canonical.TreeMeasures.{Measured, measured}
-use Rattle.cap_spec.proofs.Canonical.TrimmedMeasures.{Trimmed, trimmed}
+use Rattle.cap_spec.proofs.Canonical.TreeMeasures.{measured}
+use Rattle.cap_spec.proofs.Canonical.TrimmedMeasures.{trimmed}
 use Rattle.cap_spec.proofs.Lemmas.{stand_inside, length-content, Fits, HasWord-inside, lead_word, Formed, formed}
 use Rattle.cap_spec.proofs.Lemmas.{one_tree}
 use Rattle.cap_spec.proofs.ProofNames.{List, Option, [], arith, length, option_to_list, refl, subst, sym, ℕ, ◌++◌, ◌+◌}
 use Rattle.cap_spec.proofs.ProofNames.{◌-◌, ◌<◌, ◌∷◌, ◌≡◌, ◌≤◌, content, layout, trim, Denotes, IsMessage, segment_of}
-use Rattle.cap_spec.proofs.ProofNames.{Tree}
+use Rattle.cap_spec.proofs.ProofNames.{Tree, rules}
 use Rattle.cap_canon.specs.CopyTurns.{IsTurn}
-use Rattle.cap_canon.specs.CanonNames.{AreShort, IsFull, IsRest, first_place, place, places_of, root_run, Due, Laid, below}
-use Rattle.cap_canon.specs.CanonNames.{own_size, IsObject, HasTree, IsNext, IsWalking, NextLeadsTo, Object, CopyRun}
-use Rattle.cap_canon.specs.CanonNames.{PointerPlace}
+use Rattle.cap_canon.specs.CanonNames.{AreShort, IsFull, IsRest, first_place, place, places_of, root_run, Due, Laid}
+use Rattle.cap_canon.specs.CanonNames.{below, own_size, IsObject, HasTree, IsNext, IsWalking, NextLeadsTo, Object}
+use Rattle.cap_canon.specs.CanonNames.{CopyRun, PointerPlace}
 use Rattle.cap_canon.specs.StillToLay.{IsOwed}
 use Rattle.cap_canon.proofs.LaidSteps.{object_laid}
 use Rattle.cap_canon.proofs.Lengths.{size_below}
@@ -20,10 +20,7 @@ use Rattle.cap_canon.proofs.Whole.{layout_laid}
 
 -- what is owed fits the fields of words
 pub owed_fits : (m : List (List ℕ)) (depth n s w : ℕ) (u : Tree) → IsOwed m depth n s w u → Fits u
-owed_fits m depth n s w u o =
-    let a : Measured o.0 o.1 o.2 = measured m s w o.0 o.1 o.2 o.3 in
-    let b : Trimmed o.0 (trim o.0) = trimmed o.0 a.fits in
-    subst Fits (sym o.4) b.fits
+owed_fits m depth n s w u o = search (rules, measured, trimmed)
 
 -- and so does the root
 pub root_fits : (m : List (List ℕ)) (t : Tree) (c d : ℕ) → Denotes m 0 0 t c d → Fits (trim t)
@@ -144,12 +141,7 @@ pub record AtRun (m : List (List ℕ)) (state : List (List ℕ) → Tree → ℕ
 -- at the root
 pub first_run : (m : List (List ℕ)) (state : List (List ℕ) → Tree → ℕ → List Due → Type 0) (depth : ℕ) → IsMessage m → (k : HasTree m depth)
     → state m (trim k.tree) 1 (record { slot = 0; tree = trim k.tree } ∷ []) → AtRun m state depth [] root_run 1
-first_run m state depth is k so_far = record {
-  full = record { some = omega arith; each = λ h. absurd (omega (arith, h)) };
-  short = ((omega arith, omega arith), tt);
-  turn = λ rest r. subst (λ x. AtTurn m state depth (option_to_list x) (first_place root_run) 1) (sym (root_rest rest r))
-      (first_turn m state depth is k so_far);
-}
+first_run m state depth is k so_far = search (rules, root_rest, first_turn)
 
 -- The turn there, if this is left of the run after its first word.
 pub record TurnHere (m : List (List ℕ)) (state : List (List ℕ) → Tree → ℕ → List Due → Type 0) (depth : ℕ) (runs : List CopyRun)

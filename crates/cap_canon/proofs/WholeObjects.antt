@@ -2,11 +2,10 @@
 use Rattle.cap_spec.specs.Denoting.{places}
 use Rattle.cap_spec.specs.Tree.{none}
 use Rattle.cap_spec.proofs.Frames.Messages.{one_word}
-use Rattle.cap_spec.proofs.ProofNames.{List, ap, arith, false, length, max, refl, subst, suc, sym, true, zero, ℕ, ◌*◌, ◌+◌}
-use Rattle.cap_spec.proofs.ProofNames.{◌-◌, ◌<◌, ◌∙◌, ◌≡◌, ◌≢◌, ◌≤◌, mul-le, children_needed, children_of, data_needed}
-use Rattle.cap_spec.proofs.ProofNames.{is_null, AreElements, DenoteEach, Denotes, words_from, Leads, near, one_pad}
-use Rattle.cap_spec.proofs.ProofNames.{to_null, two_pads, HasWord, segment_of, kind, Tree, Trees, cap, more, null}
-use Rattle.cap_spec.proofs.ProofNames.{pointers, scalars, struct, structs}
+use Rattle.cap_spec.proofs.ProofNames.{List, ap, arith, false, length, max, refl, subst, suc, sym, true, zero, ℕ, ◌*◌}
+use Rattle.cap_spec.proofs.ProofNames.{◌+◌, ◌-◌, ◌<◌, ◌≡◌, ◌≢◌, ◌≤◌, mul-le, children_needed, children_of, data_needed}
+use Rattle.cap_spec.proofs.ProofNames.{is_null, AreElements, DenoteEach, Denotes, words_from, Leads, to_null, HasWord}
+use Rattle.cap_spec.proofs.ProofNames.{segment_of, kind, Tree, Trees, more, struct, rules}
 use Rattle.cap_canon.specs.NullsInOrder.{zero_null}
 use Rattle.cap_canon.specs.Trimming.{most_data}
 use Rattle.cap_canon.proofs.Children.{child_below, child_here, row_needed}
@@ -15,18 +14,11 @@ use Rattle.cap_canon.proofs.Needed.{most_within, needed_below, needed_here, rang
 
 -- a word that isn't zero or far leads to something
 no_null_lead : (m : List (List ℕ)) (s w x k : ℕ) → HasWord m s w x → x ≢ 0 → kind x ≢ 2 → Leads m s w k to_null → ⊥
-no_null_lead m s w x k has some here (near p h n says e) = some (one_word m s w x p has h ∙ says)
-no_null_lead m s w x k has some here (one_pad p q h far h' n says e) = here (subst (λ y. kind y ≡ 2) (one_word m s w p x h has) far.0)
-no_null_lead m s w x k has some here (two_pads p f q h far h' h'' one tag e e') = absurd (cc e)
+no_null_lead m s w x k has some here h = search (rules, one_word)
 
 pub isnt_null_word : (m : List (List ℕ)) (s w x : ℕ) (t : Tree) (c d : ℕ) → HasWord m s w x → x ≢ 0 → kind x ≢ 2
     → Denotes m s w t c d → is_null t ≡ false
-isnt_null_word m s w x null c d has some here h = absurd (no_null_lead m s w x c has some here h.0)
-isnt_null_word m s w x (cap i) c d has some here h = refl
-isnt_null_word m s w x (struct ws ts) c d has some here h = refl
-isnt_null_word m s w x (scalars e vs) c d has some here h = refl
-isnt_null_word m s w x (pointers ts) c d has some here h = refl
-isnt_null_word m s w x (structs y z es) c d has some here h = refl
+isnt_null_word m s w x k c d has some here h = search (rules, no_null_lead)
 
 -- a row whose last word isn't null
 pub row_whole : (m : List (List ℕ)) (t b p : ℕ) (ts : Trees) (c d : ℕ) → 0 < p
@@ -129,7 +121,4 @@ elements_short m t b ds ps n (more _ es) c d some zeros h = absurd h
 
 -- a word of an element is inside the list
 pub element_inside : (b o each k n l : ℕ) → k < n → o < each → b + n * each ≤ l → b + o + k * each < l
-element_inside b o each k n l lt small inside =
-    let a : suc k * each ≤ n * each = mul-le (suc k) each n each (omega (arith, lt)) (omega arith) in
-    let e : suc k * each ≡ each + k * each = omega arith in
-    omega (arith, a, e, small, inside)
+element_inside b o each k n l lt small inside = search (rules, mul-le)

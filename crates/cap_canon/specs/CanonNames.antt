@@ -1,7 +1,7 @@
 -- Names of specs that several files cite, passed on from one place. Declares nothing.
 pub use Rattle.cap_spec.specs.declared.CanonFault.{CanonFault}
 pub use Rattle.cap_spec.specs.declared.Step.{Step}
-pub use Rattle.cap_vet.specs.declared.report.Report.{Report}
+pub use Rattle.cap_vet.specs.declared.walk.vetting.Report.{Report}
 pub use Rattle.cap_canon.specs.Checked.{IsChecked}
 pub use Rattle.cap_canon.specs.CopyRuns.{AreShort, IsFull, IsRest, OptionFull, all_places, first_place, further_places}
 pub use Rattle.cap_canon.specs.CopyRuns.{option_places, place, places_of, root_run, row_places}

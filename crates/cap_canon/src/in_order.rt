@@ -42,17 +42,12 @@ impl Turn for InOrder {
     ghost stops = { λ m _. IsNotCanonical m };
 
     #[inline(always)]
-    fn before<M: Segments>(&self, _message: &M, _s: u32, _w: u32) -> Option<Place> {
-        None
-    }
-
-    #[inline(always)]
     fn after<M: Segments>(
         &mut self,
         message: &M,
         s: u32,
         w: u32,
-        _used: Option<Place>,
+        _object: Place,
         may_be_lax: bool,
         _pointers: u64,
         cost: u64,

@@ -86,4 +86,4 @@ module _ {M : Type 0} {g : segments.Ghosts M} (m : List (List ℕ)) (start : Pat
 
 -- Each element lies among the words of all of them.
 pub element_within : (first n d p i last : ℕ) → first + n * (d + p) ≤ last → i < n → first + i * (d + p) + d + p ≤ last
-element_within first n d p i last x7 lt = search (rules, mul-le-mul_right)
+element_within first n d p i last h lt = search (rules, mul-le-mul_right)

@@ -43,5 +43,5 @@ pub mod Laxness
 pub mod Demanding
 pub mod ExclusiveFaults
 mod Pads
-mod NearUses
+mod UsedPlaces
 pub mod OneTrail

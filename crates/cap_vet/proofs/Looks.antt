@@ -53,5 +53,6 @@ followed_past {m} {s} {w} {level} f h shallow past room =
 pub looks_object : {m : List (List ℕ)} {words depth spent s w level : ℕ} (q tag : ℕ) {below : ℕ} (x : Target) (run : Option PointerRun) → FindsTargetBy m s w q tag x
     → below ≡ levels_of x.shape → level + levels_of x.shape ≤ depth → x.charge ≤ words - spent → spent ≤ words
     → option_spots run ≡ object_places q tag x.segment x.start level → OptionIn m run → RunRises level depth run
-    → LooksObject m words depth spent s w level x.charge (level + below) run x.pads x.segment x.start q tag
-looks_object {m} {s} {w} q tag x run f e x10 x11 x12 x13 x14 x15 = search (rules, tagged_of, levels_shape)
+    → LooksObject m words depth spent s w level x.charge (level + below) run record { segment = x.segment; start = x.start; words = x.words }
+    x.pads x.segment x.start q tag
+looks_object {m} {s} {w} q tag x run f e h k g a b c = search (rules, tagged_of, levels_shape)

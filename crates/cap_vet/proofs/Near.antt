@@ -55,7 +55,7 @@ finds_over m s w k t at b q stands f = record { leads = stands.leads (to_object 
 pub looks_row : (m : List (List ℕ)) (words depth spent s w level k t at q : ℕ) (r : Row) (run : Option PointerRun) → FindsRow m t at q r
     → ResolvesTo m s w k t at q → level ≤ depth → k + r.words ≤ words - spent → spent ≤ words
     → option_spots run ≡ row_places (level + 1) t r.pointers_start r.pointer_count → OptionIn m run → LevelIs (level + 1) run
-    → IsLooked m words depth spent s w level (Object (k + r.words) level run)
+    → IsLooked m words depth spent s w level (Object (k + r.words) level run record { segment = t; start = r.start; words = r.words })
 looks_row m words depth spent s w level k t at q r run f stands shallow charge within places inside here =
     let plain = pointers-plain q r.pointer_count f.pointers in (
       k,
@@ -73,5 +73,6 @@ looks_row m words depth spent s w level k t at q r run f stands shallow charge w
         places = places ∙ near_places q r.start r.pointers_start r.pointer_count level t f.pointers (omega (arith, f.pointers_last, f.words));
         inside = inside;
         rises = near_rises level depth run shallow here;
+        own = rw f.words refl;
       },
     )

@@ -14,7 +14,7 @@ use Rattle.cap_ptr.specs.declared.shapes.Followed.TheVariants as followed
 
 -- a pointer without landing pads has no form that common readers reject
 not_lax : (m : List (List ℕ)) (s w k : ℕ) (r : Lead) → k ≡ 0 → Leads m s w k r → IsNotLax m s w
-not_lax m s w k r x6 x7 = search (rules, near_has_none)
+not_lax m s w k r h e = search (rules, near_has_none)
 
 -- a null word
 pub finds_null : (m : List (List ℕ)) (left depth s w level p : ℕ) → IsMessage m → HasWord m s w p → p ≡ 0
@@ -32,21 +32,21 @@ finds_null m left depth s w level p message has e =
 -- an object that is described by its word, alone or with a tag
 pub finds_object : (m : List (List ℕ)) (left depth s w level : ℕ) (x : Target) (f : Found) → FindsTarget m s w x → x.pads ≡ 0
     → IsFound m (word s w) f → x.charge ≤ left → level + levels_of x.shape ≤ depth → FindsNear m left depth s w level f x.charge
-finds_object m left depth s w level x f x9 here x11 x12 x13 = search (rules, followed_costs, followed_shallow, not_lax)
+finds_object m left depth s w level x f h here k e g = search (rules, followed_costs, followed_shallow, not_lax)
 
 -- An object that its word alone describes has no levels below its own,
 row_levels : (q tag n : ℕ) (x : Shape) → HasPointers q n → IsShape q tag x → levels_of x ≡ 0
-row_levels q tag n x x5 x6 = search (rules, pointers-plain)
+row_levels q tag n x h k = search (rules, pointers-plain)
 
 -- and is charged its words,
 pub row_charged : (m : List (List ℕ)) (s w q : ℕ) (r : Row) (x : Target) → FindsRow m s w q r → FindsTarget m s w x
     → (x.charge ≡ r.words) × (levels_of x.shape ≡ 0)
-row_charged m s w q r x x7 x8 = search (rules, one_object, pointers-plain, extra_same, pointers-no_extra, row_levels)
+row_charged m s w q r x h k = search (rules, one_object, pointers-plain, extra_same, pointers-no_extra, row_levels)
 
 -- so the target of such a word within the limits is within them.
 pub near_fits : (m : List (List ℕ)) (left depth s w level p : ℕ) (x : Target) → HasWord m s w p → p ≢ 0 → FindsTarget m s w x
     → IsNearWithin m left depth s w level → (level + levels_of x.shape ≤ depth) × (x.charge ≤ left)
-near_fits m left depth s w level p x x9 x10 x11 x12 = search (rules, one_word, row_charged)
+near_fits m left depth s w level p x h k e g = search (rules, one_word, row_charged)
 
 -- A word that isn't null and describes no object alone isn't such a word.
 pub not_near : (m : List (List ℕ)) (left depth s w level p : ℕ) → HasWord m s w p → p ≢ 0 → ((r : Row) → ¬ FindsRow m s w p r)

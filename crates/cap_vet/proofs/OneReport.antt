@@ -15,7 +15,7 @@ same_report a b e1 e2 e3 e4 e5 = search rules
 
 -- An accepted message has one report.
 pub one_report : (m : List (List ℕ)) (words depth : ℕ) (a b : Report) → IsAccepted m words depth a → IsAccepted m words depth b → a ≡ b
-one_report m words depth a b x6 x7 = search (rules, one_tree, same_report, one_cap)
+one_report m words depth a b h k = search (rules, one_tree, same_report, one_cap)
 
 -- A message isn't both accepted and refused.
 pub not_both : (m : List (List ℕ)) (words depth : ℕ) (a : Report) (r : Refusal) → IsAccepted m words depth a → IsRefused m words depth r → ⊥

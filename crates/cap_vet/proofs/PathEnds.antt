@@ -82,12 +82,12 @@ meets_at demands m words depth path at found e none =
 first_fields : (m : List (List ℕ)) (path : List Step) (ways : List (List Step)) (x : LaxPointer) (what : Lax) (s w n : ℕ)
     → KnowsLaxOnPath m path ways (Some x) → what ≡ x.what → s ≡ x.segment → w ≡ x.word → n ≡ x.pointers
     → IsFirstLaxOnPath m path s w what n
-first_fields m path ways x what s w n x9 e f g h = search rules
+first_fields m path ways x what s w n k e f g h = search rules
 
 fault_by : (demands : Demands) (m : List (List ℕ)) (words depth : ℕ) (path : List Step) (at : Arrival) (o : Option LaxPointer)
     → length m ≤ 512 → at.lax ≡ o → Known m (words_under demands m words) depth path at → (fault : StrictRefusal)
     → IsFaultBy demands (length m) o fault → IsPathFault demands m words depth path fault
-fault_by demands m words depth path at o x8 e h fault f = search (rules, first_fields)
+fault_by demands m words depth path at o k e h fault f = search (rules, first_fields)
 
 pub fault_at : (demands : Demands) (m : List (List ℕ)) (words depth : ℕ) (path : List Step) (at : Arrival) (found : Bool)
     (fault : StrictRefusal) → length m ≤ 512 → EndsAt m (words_under demands m words) depth path at found

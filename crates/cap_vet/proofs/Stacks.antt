@@ -1,7 +1,7 @@
 -- What one turn of a walk leaves of its runs.
 use Rattle.cap_spec.proofs.Bytes.Lists.{reverse-more}
 use Rattle.cap_spec.proofs.ProofNames.{List, None, Option, Some, [], ap, arith, inl, inr, length, length-append, map}
-use Rattle.cap_spec.proofs.ProofNames.{option_to_list, refl, reverse, subst, suc, sym, ℕ, ◌++◌, ◌+◌, ◌-◌, ◌<◌, ◌∙◌, ◌∷◌}
+use Rattle.cap_spec.proofs.ProofNames.{option_to_list, refl, reverse, subst, suc, sym, ℕ, ◌++◌, ◌+◌, ◌<◌, ◌∙◌, ◌∷◌}
 use Rattle.cap_spec.proofs.ProofNames.{◌≡◌, ◌≤◌, length-map, map-append, reverse-append, AllByRecursion, Finds, Leads}
 use Rattle.cap_spec.proofs.ProofNames.{extra, near, to_cap, to_null, HasWord, Costs, Reaches, extent, levels_below}
 use Rattle.cap_spec.proofs.ProofNames.{rules}
@@ -10,7 +10,7 @@ use Rattle.cap_vet.specs.VetNames.{OptionIn, RunIn, all_spots, option_spots, poi
 use Rattle.cap_vet.specs.VetNames.{IsWalking, HasWalked, IsLookedAt, IsNext, work_left, Limits, Report}
 use Rattle.cap_vet.specs.VetNames.{PointerRun}
 use Rattle.cap_vet.specs.Turning.{cost_of, run_below}
-use Rattle.cap_vet.specs.Turns.{GoesOn, GoesOnBelow, HasVisited, IsAt}
+use Rattle.cap_vet.specs.Turns.{GoesOn, GoesOnBelow, IsAt}
 use Rattle.cap_vet.specs.WalkSteps.{Continues, GoesOnWith, runs_left}
 use Rattle.cap_vet.specs.Walking.{AreNull, AreStacked, work_next}
 use Rattle.cap_vet.specs.declared.walk.looking.Looked.{Looked}
@@ -91,7 +91,7 @@ walks_on m words depth s w level runs report (looked.Cap cost) t ((i, h), within
         stacked = rw more t.stacked;
       },
     )
-walks_on m words depth s w level runs report (looked.Object cost deep below) t (k, u, b, q, tag, o) =
+walks_on m words depth s w level runs report (looked.Object cost deep below place) t (k, u, b, q, tag, o) =
     let own : Finds m t.a.segment t.a.word k u b q = rw (t.segment, t.at) o.finds in
     let children : List Ahead = object_children t.a.path q tag u b t.a.level in
     let within : report.charge + (k + extent q + extra q tag) ≤ words = omega (arith, o.within, o.charge) in
@@ -106,7 +106,7 @@ few_below : (m : List (List ℕ)) (words depth s w level : ℕ) (runs : List Poi
     × ((added report s w l).charge ≤ words)
 few_below m words depth s w level runs report (looked.Null cost) t (h, within) = (omega arith, within)
 few_below m words depth s w level runs report (looked.Cap cost) t (h, within) = (omega arith, within)
-few_below m words depth s w level runs report (looked.Object cost deep below) t (k, u, b, q, tag, o) =
+few_below m words depth s w level runs report (looked.Object cost deep below place) t (k, u, b, q, tag, o) =
     let own : Finds m t.a.segment t.a.word k u b q = rw (t.segment, t.at) o.finds in
     let brings = object-brings m t.a k u b q tag report.depth t.progress.trail.ahead_reached.0 own o.tagged in
     search (rules, object_places-children, length-map)
@@ -123,7 +123,7 @@ work_falls m words depth s w level runs report l t h =
 -- and a word that is taken from its run was some of it
 pub work_rest : (words : ℕ) (runs : List PointerRun) (f : PointerRun) (r : Option PointerRun) (report : Report) → IsRest f r
     → work_next words (runs ++ option_to_list r) report ≡ work_left words (runs ++ f ∷ []) report
-work_rest words runs f r report x6 = search (rules, reverse-append, reverse-more, spots-more)
+work_rest words runs f r report h = search (rules, reverse-append, reverse-more, spots-more)
 
 pub work_smaller : (words : ℕ) (runs left : List PointerRun) (f : PointerRun) (r : Option PointerRun) (report after : Report) → IsRest f r
     → work_left words left after < work_next words (runs ++ option_to_list r) report
@@ -135,17 +135,20 @@ pub turned : (m : List (List ℕ)) (limits : Limits) (runs left more : List Poin
     (K : List (List Step) → Type 0)
     → IsRest f r → left ≡ more → GoesOn m limits left after K (work_next (words_of limits) (runs ++ option_to_list r) report)
     → GoesOn m limits more after K (work_left (words_of limits) (runs ++ f ∷ []) report)
-turned m limits runs left more f r report after K x11 e h = search (rules, work_rest)
+turned m limits runs left more f r report after K k e h = search (rules, work_rest)
 
--- a word that was looked at has this cost,
+-- a word that was looked at has this cost
 pub looked_costs : (m : List (List ℕ)) (words depth spent s w level : ℕ) (l : Looked) → IsLooked m words depth spent s w level l → Costs m s w (cost_of l)
 looked_costs m words depth spent s w level (looked.Null cost) h = inl h.0
 looked_costs m words depth spent s w level (looked.Cap cost) h = inr (inl h.0)
-looked_costs m words depth spent s w level (looked.Object cost deep below) (k, t, b, q, tag, o) = inr (inr (k, t, b, q, tag, o.finds, o.tagged, o.charge))
+looked_costs m words depth spent s w level (looked.Object cost deep below place) (k, t, b, q, tag, o) = inr (inr (k, t, b, q, tag, o.finds, o.tagged, o.charge))
 
--- which is charged
-charge_added : (report : Report) (s w : ℕ) (l : Looked) → (added report s w l).charge ≡ report.charge + cost_of l
-charge_added report s w l = search rules
+-- The next word was looked at, and is the last so far. Below it is this run, and less is left of the walk.
+pub record HasVisited (m : List (List ℕ)) (limits : Limits) (s w level : ℕ) (runs : List PointerRun) (before : Report)
+    (n : IsNext m (words_of limits) (depth_of limits) s w level runs before) (below : Option PointerRun) (after : Report) : Type 0 where
+  pub later : List Ahead
+  pub walks : HasWalked m (words_of limits) (depth_of limits) (runs ++ option_to_list below) after (n.a.path ∷ n.seen) later
+  pub less : work_left (words_of limits) (runs ++ option_to_list below) after < work_next (words_of limits) runs before
 
 -- So where the next word was looked at, the walk goes on.
 pub visited : {m : List (List ℕ)} {limits : Limits} {s w level : ℕ} (runs : List PointerRun) {report : Report} (l : Looked)
@@ -158,16 +161,7 @@ visited {m} {limits} {s} {w} {level} runs {report} l n h =
       later = on.0;
       walks = on.1;
       less = work_falls m (words_of limits) (depth_of limits) s w level runs report l n h;
-      cost = cost_of l;
-      costs = looked_costs m (words_of limits) (depth_of limits) report.charge s w level l h;
-      charge = charge_added report s w l;
     }
-
--- what was charged at a word is its cost
-pub cost_charged : {m : List (List ℕ)} {s w : ℕ} (before : ℕ) {after cost : ℕ} → Costs m s w cost → after ≡ before + cost
-    → Costs m s w (after - before)
-cost_charged {m} {s} {w} before {after} {cost} costs e =
-    let same : cost ≡ after - before = omega (arith, e) in subst (Costs m s w) same costs
 
 -- What a turn gets of a word that was looked at.
 pub looked_at : {m : List (List ℕ)} {words depth s w level : ℕ} {runs below : List PointerRun} {report after : Report} {later : List Ahead}

@@ -22,7 +22,7 @@ pointer_goes m (element t' b' ds ps) {f} d {p} {x} h e lt ex = search (rules, as
 -- what isn't a struct has none
 no_pointer : (m : List (List ℕ)) (a : Spot) (f : Found) (k : Kind) (i : ℕ) (b : Spot) → f.kind ≡ k → ((d p : ℕ) → f.kind ≡ Struct d p → ⊥)
     → IsFound m a f → StepsTo m a (Ptr i) b → ⊥
-no_pointer m x2 f x4 i x6 e x8 h g = search (rules, as_kind, null_no_object, cap_no_object, one_found)
+no_pointer m k f a i b e c h g = search (rules, as_kind, null_no_object, cap_no_object, one_found)
 
 pub pointer_of_other : (m : List (List ℕ)) (a : Spot) (f : Found) (i : ℕ) (b : Spot) → ((d p : ℕ) → f.kind ≡ Struct d p → ⊥) → IsFound m a f
     → StepsTo m a (Ptr i) b → ⊥
@@ -40,7 +40,7 @@ pub entry_inside : (m : List (List ℕ)) (a : Spot) (f : Found) (n i : ℕ) → 
 entry_inside m a f n i h e lt = search (rules, as_kind, pointers_words)
 
 pub entry_past : (m : List (List ℕ)) (a : Spot) (f : Found) (n i : ℕ) (b : Spot) → IsFound m a f → f.kind ≡ Pointers n → n ≤ i → StepsTo m a (Item i) b → ⊥
-entry_past m a f n i b h e x9 g = search (rules, as_kind, one_found)
+entry_past m a f n i b h e k g = search (rules, as_kind, one_found)
 
 -- the elements of a list of structs
 pub element_goes : (m : List (List ℕ)) (a : Spot) {f : Found} {n : ℕ} (d p : ℕ) {i : ℕ} → IsFound m a f → f.kind ≡ Structs n d p → i < n

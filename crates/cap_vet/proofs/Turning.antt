@@ -138,12 +138,12 @@ turn_cap m words depth charge deepest pointers caps cost i first seen a ahead t 
 levels_same : (m : List (List ℕ)) (t b q tag t' b' q' tag' : ℕ) → kind q < 2 → t ≡ t' → b ≡ b' → q ≡ q'
     → (IsComposite q → HasWord m t b tag) → (IsComposite q' → HasWord m t' b' tag')
     → levels_below q tag ≡ levels_below q' tag'
-levels_same m t b q tag t' b' q' tag' x10 et eb eq x14 tagged' = search (rules, one_word)
+levels_same m t b q tag t' b' q' tag' h et eb eq k tagged' = search (rules, one_word)
 
 -- the level of an object, whichever way it is told
 pub deep_once : (m : List (List ℕ)) (depth s w level k t b q tag : ℕ) → Finds m s w k t b q
     → (IsComposite q → HasWord m t b tag) → level + levels_below q tag ≤ depth → ¬ IsDeepAt m depth s w level
-deep_once m x2 s w x5 x6 x7 x8 x9 x10 f x12 h x14 = search (rules, one_object, levels_same, lead_kind)
+deep_once m k s w e g a b c d f i h j = search (rules, one_object, levels_same, lead_kind)
 
 -- a turn at an object
 pub turn_object : (m : List (List ℕ)) (words depth charge deepest pointers caps k t b q tag : ℕ)

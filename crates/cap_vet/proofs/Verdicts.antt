@@ -32,7 +32,7 @@ CostOf-in_order m seen c h = subst (CostOf m (in_order seen)) (omega arith) (Cos
 
 -- A first segment without words has no root.
 pub no_root_at : (m : List (List ℕ)) → 0 < length m → length (segment_of m 0) ≡ 0 → HasNoRoot m record { segment = 0; word = 0; reason = NoRoot; pointers = 0 }
-no_root_at m x2 e = grind (arith, common_steps)
+no_root_at m h e = grind (arith, common_steps)
 
 -- The first reason that applies at the next word makes it the first fault.
 pub first_fault : (m : List (List ℕ)) (words depth s w level : ℕ) (runs : List PointerRun) (report : Report) (v : Reason)

@@ -12,6 +12,7 @@ use Rattle.cap_ptr.specs.declared.shapes.Followed.{Followed}
 use Rattle.cap_vet.specs.Levels.{levels_of}
 use Rattle.cap_vet.specs.PointerRuns.{OptionIn, PointerWord, element_places, option_spots, row_places}
 use Rattle.cap_vet.specs.Trails.{Ahead, element_rows, row}
+use Rattle.cap_vet.specs.declared.nodes.place.Place.{Place}
 use Rattle.cap_vet.specs.declared.walk.looking.Looked.{Looked}
 use Rattle.cap_vet.specs.declared.walk.looking.Looked.TheVariants.{Cap, Null, Object}
 use Rattle.cap_vet.specs.declared.walk.pointer_run.PointerRun.{PointerRun}
@@ -48,8 +49,9 @@ IsObjectWord m s w = (q : ℕ) → HasWord m s w q → (kind q < 2) × (q ≢ 0)
 abbrev pub IsNotLax : List (List ℕ) → ℕ → ℕ → Type 0
 IsNotLax m s w = (what : Lax) → ¬ IsLaxAt m s w what
 
--- An object is found, which keeps to the limits. Its pointer words are those of the run.
-pub record LooksObject (m : List (List ℕ)) (words depth spent s w level cost deep : ℕ) (run : Option PointerRun) (k t b q tag : ℕ) : Type 0 where
+-- An object is found, which keeps to the limits. Its pointer words are those of the run, and its words those of the place.
+pub record LooksObject (m : List (List ℕ)) (words depth spent s w level cost deep : ℕ) (run : Option PointerRun) (place : Place)
+    (k t b q tag : ℕ) : Type 0 where
   pub finds : Finds m s w k t b q
   pub tagged : HasTag m t b q tag
   pub charge : cost ≡ k + extent q + extra q tag
@@ -59,11 +61,13 @@ pub record LooksObject (m : List (List ℕ)) (words depth spent s w level cost d
   pub places : option_spots run ≡ object_places q tag t b level
   pub inside : OptionIn m run
   pub rises : RunRises level depth run
+  pub own : place ≡ record { segment = t; start = b; words = extent q }
 
 abbrev pub IsLooked : List (List ℕ) → ℕ → ℕ → ℕ → ℕ → ℕ → ℕ → Looked → Type 0
 IsLooked m words depth spent s w level (Null cost) = Leads m s w cost to_null × (spent + cost ≤ words)
 IsLooked m words depth spent s w level (Cap cost) = ((i : ℕ) × Leads m s w cost (to_cap i)) × (spent + cost ≤ words)
-IsLooked m words depth spent s w level (Object cost deep run) = (k t b q tag : ℕ) × LooksObject m words depth spent s w level cost deep run k t b q tag
+IsLooked m words depth spent s w level (Object cost deep run place) =
+    (k t b q tag : ℕ) × LooksObject m words depth spent s w level cost deep run place k t b q tag
 
 -- the deepest level that an object of this level takes, and 0 if there is none
 abbrev pub deepest_of : ℕ → Followed → ℕ

@@ -3,7 +3,7 @@ use Rattle.std.specs.Prelude.{List, [], ℕ, ◌++◌, ◌∷◌, ◌≤◌}
 use Rattle.cap_spec.specs.declared.Step.{Step}
 use Rattle.cap_vet.specs.Trails.{Ahead}
 use Rattle.cap_vet.specs.Walking.{AreNull, HasWalked, work_left}
-use Rattle.cap_vet.specs.declared.report.Report.{Report}
+use Rattle.cap_vet.specs.declared.walk.vetting.Report.{Report}
 use Rattle.cap_vet.specs.declared.walk.pointer_run.PointerRun.{PointerRun}
 
 -- The walk, which had looked at these paths, goes on after null words of run f, and g is left of that.

@@ -4,7 +4,7 @@ use Rattle.cap_spec.specs.Accepting.{DenotesWithin}
 use Rattle.cap_spec.specs.Paths.{ReachesCap}
 use Rattle.cap_spec.specs.SpecNames.{most_depth, most_words, IsFirstCap, Tree, cap_count, pointer_count}
 use Rattle.cap_spec.specs.declared.Step.{Step}
-use Rattle.cap_vet.specs.declared.report.Report.{Report}
+use Rattle.cap_vet.specs.declared.walk.vetting.Report.{Report}
 
 -- the place of the first capability in preorder, or that no path leads to one
 abbrev pub IsFirstCapOf : List (List ℕ) → Option (ℕ × ℕ) → Type 0

@@ -1,6 +1,7 @@
 -- How a report changes at one pointer word (profile).
 use Rattle.std.specs.Prelude.{None, Option, Some, max, ℕ, ◌+◌}
-use Rattle.cap_vet.specs.declared.report.Report.{Report}
+use Rattle.cap_vet.specs.declared.nodes.place.Place.{Place}
+use Rattle.cap_vet.specs.declared.walk.vetting.Report.{Report}
 use Rattle.cap_vet.specs.declared.walk.looking.Looked.{Looked}
 use Rattle.cap_vet.specs.declared.walk.looking.Looked.TheVariants.{Cap, Null, Object}
 use Rattle.cap_vet.specs.declared.walk.pointer_run.PointerRun.{PointerRun}
@@ -15,17 +16,23 @@ abbrev pub added : Report → ℕ → ℕ → Looked → Report
 added r s w (Null cost) = record { charge = r.charge + cost; depth = r.depth; pointers = r.pointers + 1; caps = r.caps; first_cap = r.first_cap }
 added r s w (Cap cost) =
     record { charge = r.charge + cost; depth = r.depth; pointers = r.pointers + 1; caps = r.caps + 1; first_cap = or_place r.first_cap s w }
-added r s w (Object cost deep run) =
+added r s w (Object cost deep run place) =
     record { charge = r.charge + cost; depth = max r.depth deep; pointers = r.pointers + 1; caps = r.caps; first_cap = r.first_cap }
 
 -- what following the word costs, in words
 abbrev pub cost_of : Looked → ℕ
 cost_of (Null cost) = cost
 cost_of (Cap cost) = cost
-cost_of (Object cost deep run) = cost
+cost_of (Object cost deep run place) = cost
+
+-- the words of the object, none for null and a capability
+abbrev pub place_of : Looked → Place
+place_of (Null cost) = record { segment = 0; start = 0; words = 0 }
+place_of (Cap cost) = record { segment = 0; start = 0; words = 0 }
+place_of (Object cost deep run place) = place
 
 -- the run of the pointer words below
 abbrev pub run_below : Looked → Option PointerRun
 run_below (Null cost) = None
 run_below (Cap cost) = None
-run_below (Object cost deep run) = run
+run_below (Object cost deep run place) = run

@@ -1,15 +1,14 @@
 -- What is known of a walk, and of what its turn knows, between two pointer words (profile).
-use Rattle.std.specs.Prelude.{IfOk, IfSome, List, Option, Result, [], option_to_list, reverse, ℕ, ⊤, ◌++◌, ◌+◌, ◌<◌}
-use Rattle.std.specs.Prelude.{◌∷◌, ◌≡◌, ◌⊎◌}
+use Rattle.std.specs.Prelude.{IfOk, IfSome, List, Option, Result, [], option_to_list, reverse, ℕ, ⊤, ◌++◌, ◌<◌}
+use Rattle.std.specs.Prelude.{◌≡◌, ◌⊎◌}
 use Rattle.cap_spec.specs.Faults.{HasNoRoot, IsFirstFault, IsRefused}
-use Rattle.cap_spec.specs.Paths.{Costs}
 use Rattle.cap_spec.specs.declared.Refusal.{Refusal}
 use Rattle.cap_spec.specs.declared.Step.{Step}
 use Rattle.cap_vet.specs.Limits.{depth_of, words_of}
 use Rattle.cap_vet.specs.Trails.{Ahead, IsTrail}
 use Rattle.cap_vet.specs.Walking.{HasWalked, IsNext, work_left, work_next}
 use Rattle.cap_vet.specs.declared.limits.Limits.{Limits}
-use Rattle.cap_vet.specs.declared.report.Report.{Report}
+use Rattle.cap_vet.specs.declared.walk.vetting.Report.{Report}
 use Rattle.cap_vet.specs.declared.walk.pointer_run.PointerRun.{PointerRun}
 use Rattle.cap_vet.specs.declared.walk.turn.Stopped.{Stopped}
 use Rattle.cap_vet.specs.declared.walk.turn.Stopped.TheVariants.{ByTurn, Refused}
@@ -29,22 +28,6 @@ IsNextIn m limits = IsNext m (words_of limits) (depth_of limits)
 pub record IsAt (m : List (List ℕ)) (limits : Limits) (s w level : ℕ) (runs : List PointerRun) (report : Report) (K : List (List Step) → Type 0) : Type 0 where
   pub next : IsNext m (words_of limits) (depth_of limits) s w level runs report
   pub known : K next.seen
-
--- The next word was looked at, and is the last so far. Below it is this run, and less is left of the walk. What the word
--- costs is charged.
-pub record HasVisited (m : List (List ℕ)) (limits : Limits) (s w level : ℕ) (runs : List PointerRun) (before : Report)
-    (n : IsNext m (words_of limits) (depth_of limits) s w level runs before) (below : Option PointerRun) (after : Report) : Type 0 where
-  pub later : List Ahead
-  pub walks : HasWalked m (words_of limits) (depth_of limits) (runs ++ option_to_list below) after (n.a.path ∷ n.seen) later
-  pub less : work_left (words_of limits) (runs ++ option_to_list below) after < work_next (words_of limits) runs before
-  pub cost : ℕ
-  pub costs : Costs m s w cost
-  pub charge : after.charge ≡ before.charge + cost
-
--- the next word was looked at, and below it is this run
-abbrev pub IsVisited : List (List ℕ) → Limits → ℕ → ℕ → ℕ → Report → Report → Option PointerRun → Type 0
-IsVisited m limits s w level before after below =
-    (runs : List PointerRun) (n : IsNextIn m limits s w level runs before) → HasVisited m limits s w level runs before n below after
 
 -- The walk goes on, and less than this is left of it.
 pub record GoesOn (m : List (List ℕ)) (limits : Limits) (runs : List PointerRun) (report : Report) (K : List (List Step) → Type 0) (left : ℕ) : Type 0 where

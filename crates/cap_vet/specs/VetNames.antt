@@ -46,7 +46,7 @@ pub use Rattle.cap_vet.specs.declared.nodes.path_start.PathStart.{PathStart}
 pub use Rattle.cap_vet.specs.declared.nodes.view.View.{View}
 pub use Rattle.cap_vet.specs.declared.nodes.way.Way.{Way}
 pub use Rattle.cap_vet.specs.declared.nodes.way.Way.TheVariants.{Nowhere, To}
-pub use Rattle.cap_vet.specs.declared.report.Report.{Report}
+pub use Rattle.cap_vet.specs.declared.walk.vetting.Report.{Report}
 pub use Rattle.cap_vet.specs.declared.strictness.strict_turn.LaxPointer.{LaxPointer}
 pub use Rattle.cap_vet.specs.declared.walk.looking.Looked.TheVariants.{Object}
 pub use Rattle.cap_vet.specs.declared.walk.pointer_run.PointerRun.{PointerRun}

@@ -6,7 +6,7 @@ use Rattle.cap_vet.specs.PointerRuns.{IsRest}
 use Rattle.cap_vet.specs.Turns.{GoesOn, HoldsBefore, IsStopped}
 use Rattle.cap_vet.specs.Walking.{work_left}
 use Rattle.cap_vet.specs.declared.limits.Limits.{Limits}
-use Rattle.cap_vet.specs.declared.report.Report.{Report}
+use Rattle.cap_vet.specs.declared.walk.vetting.Report.{Report}
 use Rattle.cap_vet.specs.declared.walk.pointer_run.PointerRun.{PointerRun}
 use Rattle.cap_vet.specs.declared.walk.turn.Stopped.{Stopped}
 use Rattle.cap_vet.specs.declared.walk.walking.Next.{Next}

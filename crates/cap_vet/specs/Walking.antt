@@ -8,7 +8,7 @@ use Rattle.cap_spec.specs.declared.Step.{Step}
 use Rattle.cap_vet.specs.Owing.{AreInLevels, IsCount}
 use Rattle.cap_vet.specs.PointerRuns.{RunIn, all_spots, pointer_word_of}
 use Rattle.cap_vet.specs.Trails.{Ahead, IsTrail}
-use Rattle.cap_vet.specs.declared.report.Report.{Report}
+use Rattle.cap_vet.specs.declared.walk.vetting.Report.{Report}
 use Rattle.cap_vet.specs.declared.walk.pointer_run.PointerRun.{PointerRun}
 
 -- each run's level is higher than there are runs below it

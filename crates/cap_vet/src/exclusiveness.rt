@@ -5,4 +5,3 @@ pub(crate) mod exclusive_room;
 pub(crate) mod exclusive_vetting;
 pub(crate) mod marks;
 pub(crate) mod overlap_turn;
-pub(crate) mod uses;

@@ -1,12 +1,8 @@
 //! The walk through a message in preorder, one pointer word a turn, and the verdict.
 
 pub(crate) mod charge_up_to;
-pub(crate) mod lists;
-pub(crate) mod look_described;
 pub(crate) mod looking;
 pub(crate) mod pointer_run;
-pub(crate) mod targets;
 pub(crate) mod turn;
 pub(crate) mod vetting;
-pub(crate) mod visiting;
 pub(crate) mod walking;

@@ -9,7 +9,7 @@ ghost use Rattle.cap_vet.specs.Reports.{IsAccepted};
 ghost use Rattle.cap_vet.specs.Taken.{marks_of, start_of};
 ghost use Rattle.cap_vet.specs.Vettings.{message_of};
 ghost use Rattle.cap_vet.specs.declared.exclusiveness.exclusive_room.ExclusiveFault.{ExclusiveFault};
-ghost use Rattle.cap_vet.specs.declared.report.Report.{Report};
+ghost use Rattle.cap_vet.specs.declared.walk.vetting.Report.{Report};
 ghost use Rattle.std.specs.Prelude.{Err, ◌*◌, ◌≡◌, ◌≤◌, IfErr, IfOk, IsErrOf, IsOk, drop, length};
 
 use crate::exclusiveness::exclusive::Exclusive;
@@ -17,7 +17,7 @@ use crate::exclusiveness::exclusive_vetting::first_overlap;
 use crate::exclusiveness::marks::numbers_for;
 use crate::exclusiveness::overlap_turn::Overlap;
 use crate::nodes::vetted::Vetted;
-use crate::report::Report;
+use crate::walk::vetting::Report;
 use cap_frame::Segments;
 use cap_spec::Refusal;
 

@@ -2,19 +2,18 @@
 
 ghost use Rattle.cap_spec.specs.Denoting.{places};
 ghost use Rattle.cap_spec.specs.Following.{Lead, Leads};
-ghost use Rattle.cap_spec.specs.Messages.{HasWord};
+ghost use Rattle.cap_spec.specs.Messages.{HasWord, segment_of};
 ghost use Rattle.cap_spec.specs.Occupying.{pads_of};
-ghost use Rattle.cap_vet.specs.Marks.{UsesPlace};
+ghost use Rattle.cap_vet.specs.Marks.{UsesAlone, UsesPlace};
 ghost use Rattle.cap_vet.specs.MarkSteps.{HasBits, MarksPlaces, MarksUse, SetsBits};
 ghost use Rattle.cap_vet.specs.Taken.{AreStarts, marks_of, start_of};
 ghost use Rattle.std.specs.Prelude.{◌+◌, ◌-◌, ◌*◌, ◌/◌, ◌<◌, ◌^◌, ◌≡◌, ◌≤◌, [], IfSome, List, length, ℕ};
 
-use crate::exclusiveness::uses::structs_use;
 use crate::lengths::message_words;
 use crate::nodes::place::Place;
 use arrayvec::ArrayVec;
 use cap_frame::Segments;
-use cap_ptr::{Followed, Pointer, follow};
+use cap_ptr::{Pointer, far_segment, kind, pad, two};
 
 /// The number of `u64`s that the marks of a message of `words` words take: one bit for each word of
 /// all segments together.
@@ -55,57 +54,38 @@ pub(crate) fn fill_starts<M: Segments>(message: &M, starts: &mut ArrayVec<u64, 5
 }
 
 impl Marks<'_> {
-    /// Marks what following the pointer at word `w` of segment `s` uses, or returns `false` if a part
-    /// of it is used twice or was marked before. A pointer that is wrong uses nothing. `near` is what
-    /// `near_use` returns for the word.
-    // It and what it calls for an object near by are inlined: a walk may look at millions of words.
+    /// Marks what following the pointer at word `w` of segment `s` uses, its pads and the words of its
+    /// object. Returns `false` if a part of it is used twice or was marked before.
+    // It is inlined with what it calls for all but far pointers: a walk may look at millions of words.
     #[inline(always)]
     pub(crate) fn mark_pointer<M: Segments>(
         &mut self,
         message: &M,
         s: u32,
         w: u32,
-        near: Option<Place>,
+        object: Place,
     ) -> bool
         requires word { HasBits (M.segments message.now) self.old s w 1 }
-        requires near { IfSome near (UsesPlace (M.segments message.now) s w) }
+        requires object { UsesPlace (M.segments message.now) s w object }
         ensures { MarksUse (M.segments message.now) self.old self.new s w result }
     {
-        match near {
+        match in_a_row(message, s, w, &object) {
             Some(place) => self.mark_words(place.segment, place.start, place.words),
-            None => self.mark_other(message, s, w),
+            None => self.mark_far(message, s, w, object),
         }
     }
 
-    // The same of a word that doesn't say it alone.
+    // The same of a far pointer, whose pads may be anywhere.
     #[inline(never)]
-    fn mark_other<M: Segments>(&mut self, message: &M, s: u32, w: u32) -> bool
-        requires { HasBits (M.segments message.now) self.old s w 1 }
+    fn mark_far<M: Segments>(&mut self, message: &M, s: u32, w: u32, object: Place) -> bool
+        requires word { HasBits (M.segments message.now) self.old s w 1 }
+        requires object { UsesPlace (M.segments message.now) s w object }
         ensures { MarksUse (M.segments message.now) self.old self.new s w result }
     {
-        if let Some(list) = structs_use(message, s, w) {
-            return self.mark_words(list.segment, list.start, list.words);
+        if !self.mark_pads(message, s, w) {
+            return false;
         }
-        self.mark_followed(message, s, w)
-    }
-
-    // The same of a word that has to be followed.
-    #[inline(never)]
-    fn mark_followed<M: Segments>(&mut self, message: &M, s: u32, w: u32) -> bool
-        requires { HasBits (M.segments message.now) self.old s w 1 }
-        ensures { MarksUse (M.segments message.now) self.old self.new s w result }
-    {
-        match follow(message, s, w) {
-            Err(_) => true,
-            Ok(Followed::Null { .. }) => self.mark_pads(message, s, w),
-            Ok(Followed::Cap { .. }) => self.mark_pads(message, s, w),
-            Ok(Followed::Target(target)) => {
-                if !self.mark_pads(message, s, w) {
-                    return false;
-                }
-                self.mark_words(target.segment, target.start, target.words)
-            }
-        }
+        self.mark_words(object.segment, object.start, object.words)
     }
 
     // Marks the pad words of a pointer.
@@ -135,6 +115,31 @@ impl Marks<'_> {
         let start = self.starts[s as usize] + u64::from(from);
         set_bits(self.bits, start, u64::from(count))
     }
+}
+
+// The words that following this pointer uses, if they are in a row: those of its object, with its pads
+// right before them. Most writers put a pad there.
+#[inline(always)]
+fn in_a_row<M: Segments>(message: &M, s: u32, w: u32, object: &Place) -> Option<Place>
+    requires exists { s < length (M.segments message.now) }
+    requires inside { w < length (segment_of (M.segments message.now) s) }
+    requires object { UsesPlace (M.segments message.now) s w object.now }
+    ensures { IfSome result (UsesAlone (M.segments message.now) s w) }
+{
+    let word = message.word(s, w);
+    if kind(word) != 2 {
+        return Some(*object);
+    }
+    let pads = 1 + u32::from(two(word));
+    let start = pad(word);
+    if far_segment(word) != object.segment || start + pads != object.start {
+        return None;
+    }
+    Some(Place {
+        segment: object.segment,
+        start,
+        words: pads + object.words,
+    })
 }
 
 // Sets `count` bits from bit `from` on, or answers `false` where one of them was set before.
@@ -189,5 +194,5 @@ fn mask(low: u32, high: u32) -> u64
     requires few { high ≤ 64 }
     ensures { result ≡ 2 ^ high - 2 ^ low }
 {
-    (u64::MAX >> (64 - high)) - ((1 << low) - 1)
+    (u64::MAX >> (64 - (high - low))) << low
 }

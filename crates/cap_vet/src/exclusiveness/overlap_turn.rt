@@ -8,10 +8,9 @@ ghost use Rattle.cap_vet.specs.StrictNulls.{null_known};
 ghost use Rattle.cap_vet.specs.Stricts.{KnowsLax};
 ghost use Rattle.cap_vet.specs.Trails.{Ahead};
 ghost use Rattle.cap_vet.specs.Walking.{IsLookedAt};
-ghost use Rattle.std.specs.Prelude.{◌∷◌, ◌≡◌, IfSome, List, ℕ};
+ghost use Rattle.std.specs.Prelude.{◌∷◌, ◌≡◌, List, ℕ};
 
 use crate::exclusiveness::marks::Marks;
-use crate::exclusiveness::uses::near_use;
 use crate::nodes::place::Place;
 use crate::strictness::strict_turn::LaxSearch;
 use crate::walk::turn::Turn;
@@ -39,8 +38,8 @@ pub(crate) struct OverlapSearch<'a> {
 impl OverlapSearch<'_> {
     // Marks what a pointer uses, unless one overlapped before.
     #[inline(always)]
-    fn mark<M: Segments>(&mut self, message: &M, s: u32, w: u32, used: Option<Place>, pointers: u64)
-        requires used { IfSome used (UsesPlace (M.segments message.now) s w) }
+    fn mark<M: Segments>(&mut self, message: &M, s: u32, w: u32, object: Place, pointers: u64)
+        requires object { UsesPlace (M.segments message.now) s w object }
         requires known { let m = M.segments message.now in (seen : List (List Step)) × (a : Ahead)
             × (cost : ℕ) × IsLookedAt m seen a s w pointers cost
             × KnowsMarks m seen self.old.marks self.old.first }
@@ -53,7 +52,7 @@ impl OverlapSearch<'_> {
         if self.first.is_some() {
             return;
         }
-        if !self.marks.mark_pointer(message, s, w, used) {
+        if !self.marks.mark_pointer(message, s, w, object) {
             self.first = Some(Overlap {
                 segment: s,
                 word: w,
@@ -72,24 +71,19 @@ impl Turn for OverlapSearch<'_> {
     ghost stops = { λ _ _. ⊥ };
 
     #[inline(always)]
-    fn before<M: Segments>(&self, message: &M, s: u32, w: u32) -> Option<Place> {
-        near_use(message, s, w)
-    }
-
-    #[inline(always)]
     fn after<M: Segments>(
         &mut self,
         message: &M,
         s: u32,
         w: u32,
-        used: Option<Place>,
+        object: Place,
         may_be_lax: bool,
         pointers: u64,
         cost: u64,
     ) -> Result<(), Infallible> {
-        self.mark(message, s, w, used, pointers);
+        self.mark(message, s, w, object, pointers);
         self.strictness
-            .after(message, s, w, used, may_be_lax, pointers, cost)
+            .after(message, s, w, object, may_be_lax, pointers, cost)
     }
 
     ghost passes = { λ search m seen p level s w reached null known. (

@@ -20,7 +20,7 @@ use crate::nodes::view::View;
 use crate::strictness::path_strictness::first_lax;
 use crate::strictness::strict_turn::LaxPointer;
 use crate::walk::looking::follow_within;
-use crate::walk::targets::levels_of_elements;
+use crate::walk::pointer_run::levels_of_elements;
 use cap_frame::Segments;
 use cap_spec::{Reason, Refusal, Step};
 

@@ -8,8 +8,8 @@ ghost use Rattle.std.specs.Prelude.{◌+◌, ◌<◌, ◌^◌, ◌≡◌, ◌≤
 
 use crate::nodes::found::{Found, object};
 use crate::nodes::place::Place;
-use crate::walk::lists::struct_list;
-use crate::walk::targets::levels_taken;
+use crate::walk::looking::struct_list;
+use crate::walk::pointer_run::levels_taken;
 use cap_frame::Segments;
 use cap_ptr::{Target, near_target};
 use cap_spec::Kind;

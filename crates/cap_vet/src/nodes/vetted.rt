@@ -5,7 +5,7 @@ ghost use Rattle.std.specs.Prelude.{◌≡◌, ⊤};
 
 use crate::nodes::node::Node;
 use crate::nodes::spot::Spot;
-use crate::report::Report;
+use crate::walk::vetting::Report;
 use cap_frame::Segments;
 use cap_spec::Step;
 use std::alloc::AllocError;

@@ -64,11 +64,6 @@ impl Turn for LaxSearch {
 
     ghost stops = { λ _ _. ⊥ };
 
-    #[inline(always)]
-    fn before<M: Segments>(&self, _message: &M, _s: u32, _w: u32) -> Option<Place> {
-        None
-    }
-
     // Only a far pointer has a landing pad.
     #[inline(always)]
     fn after<M: Segments>(
@@ -76,7 +71,7 @@ impl Turn for LaxSearch {
         message: &M,
         s: u32,
         w: u32,
-        _used: Option<Place>,
+        _object: Place,
         may_be_lax: bool,
         pointers: u64,
         _cost: u64,

@@ -10,8 +10,8 @@ ghost use Rattle.std.specs.Prelude.{◌∷◌, ◌≡◌, ◌≢◌, IfNone, IfS
 
 use crate::limits::Limits;
 use crate::nodes::place::Place;
-use crate::report::Report;
 use crate::walk::turn::{Stopped, Turn};
+use crate::walk::vetting::Report;
 use crate::walk::walking::walk;
 use cap_frame::Segments;
 use cap_ptr::{Reason, follow};
@@ -32,17 +32,12 @@ impl Turn for ChargeSum {
     ghost stops = { λ _ _. ⊥ };
 
     #[inline(always)]
-    fn before<M: Segments>(&self, _message: &M, _s: u32, _w: u32) -> Option<Place> {
-        None
-    }
-
-    #[inline(always)]
     fn after<M: Segments>(
         &mut self,
         _message: &M,
         _s: u32,
         _w: u32,
-        _used: Option<Place>,
+        _object: Place,
         _may_be_lax: bool,
         _pointers: u64,
         cost: u64,

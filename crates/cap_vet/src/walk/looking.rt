@@ -5,18 +5,20 @@ ghost use Rattle.cap_ptr.specs.Rows.{FindsRow};
 ghost use Rattle.cap_ptr.specs.Shapes.{FindsTarget, FindsTargetBy};
 ghost use Rattle.cap_spec.specs.Faults.{IsFirstReason};
 ghost use Rattle.cap_spec.specs.Messages.{IsMessage, segment_of};
-ghost use Rattle.cap_spec.specs.Pointers.{IsCap};
+ghost use Rattle.cap_spec.specs.Pointers.{IsCap, kind};
 ghost use Rattle.cap_vet.specs.Limits.{depth_of, words_of};
 ghost use Rattle.cap_vet.specs.Looking.{FollowsWithin, IsLooked, IsNotLax, IsObjectWord, MayStandFor, deepest_of};
-ghost use Rattle.cap_vet.specs.Turning.{cost_of};
-ghost use Rattle.std.specs.Prelude.{◌+◌, ◌-◌, ◌<◌, ◌^◌, ◌≡◌, ◌≤◌, ◌↔◌, IfErr, IfOk, IfSome, IsTrue, List, length, ℕ};
+ghost use Rattle.cap_vet.specs.Turning.{cost_of, place_of};
+ghost use Rattle.std.specs.Prelude.{◌+◌, ◌<◌, ◌≤◌, ◌≡◌, ◌-◌, ◌^◌, ◌↔◌, IfErr, IfOk, IfSome, IsTrue, List, length, ℕ};
 
 use crate::limits::Limits;
-use crate::walk::lists::struct_list;
-use crate::walk::pointer_run::PointerRun;
-use crate::walk::targets::{levels_taken, row_run, run_of};
+use crate::nodes::place::Place;
+use crate::walk::pointer_run::{PointerRun, levels_taken, row_run, run_of};
 use cap_frame::Segments;
-use cap_ptr::{Followed, Reason, Row, Target, follow, kind, middle, near_row};
+use cap_ptr::{
+    Followed, Reason, Row, Target, far_segment, follow, kind, middle, near_row, pad,
+    structs_target, tag_at, two,
+};
 
 /// What a pointer word leads to, within the limits.
 pub(crate) enum Looked {
@@ -24,8 +26,8 @@ pub(crate) enum Looked {
     Null(u64),
     /// A capability, at this charge.
     Cap(u64),
-    /// An object, at this charge: the deepest level that it takes, and its pointer words.
-    Object(u64, u32, Option<PointerRun>),
+    /// An object, at this charge: the deepest level that it takes, its pointer words, and its words.
+    Object(u64, u32, Option<PointerRun>, Place),
 }
 
 impl Looked {
@@ -37,7 +39,19 @@ impl Looked {
         match self {
             Looked::Null(cost) => *cost,
             Looked::Cap(cost) => *cost,
-            Looked::Object(cost, _, _) => *cost,
+            Looked::Object(cost, _, _, _) => *cost,
+        }
+    }
+
+    /// The words of the object: none for null and for a capability.
+    #[inline(always)]
+    pub(crate) fn place(&self) -> Place
+        ensures { result ≡ place_of self.now }
+    {
+        match self {
+            Looked::Null(_) => Place::NONE,
+            Looked::Cap(_) => Place::NONE,
+            Looked::Object(_, _, _, place) => *place,
         }
     }
 }
@@ -111,7 +125,8 @@ pub(crate) fn look<M: Segments>(
         Followed::Cap { pads, .. } => Ok(Looked::Cap(u64::from(pads))),
         Followed::Target(target) => {
             let deepest = level + levels_taken(&target.shape);
-            Ok(Looked::Object(target.charge, deepest, run_of(&target, level)))
+            let run = run_of(&target, level);
+            Ok(Looked::Object(target.charge, deepest, run, Place::of(&target)))
         }
     }
 }
@@ -210,7 +225,12 @@ fn row_within(
         return None;
     }
     let run = row_run(segment, row.pointers_start, row.pointer_count, level + 1);
-    Some(Looked::Object(cost, level, run))
+    let place = Place {
+        segment,
+        start: row.start,
+        words: row.words,
+    };
+    Some(Looked::Object(cost, level, run, place))
 }
 
 // This target of a pointer word. Returns a result only if it is within the limits.
@@ -227,5 +247,63 @@ fn target_within(limits: &Limits, spent: u64, target: &Target, level: u32) -> Op
     if deepest > limits.depth() || spent + target.charge > limits.words() {
         return None;
     }
-    Some(Looked::Object(target.charge, deepest, run_of(target, level)))
+    let run = run_of(target, level);
+    Some(Looked::Object(target.charge, deepest, run, Place::of(target)))
+}
+
+/// The list of structs that the word at this place describes with the list's tag. The word takes the
+/// place of a pointer word, over some pads.
+#[inline(always)]
+pub(crate) fn struct_list<M: Segments>(
+    message: &M,
+    pads: u8,
+    segment: u32,
+    at: u32,
+    word: u64,
+) -> Option<Target>
+    requires exists { segment < length (M.segments message.now) }
+    requires pads { pads ≤ 2 }
+    ensures list { IfSome result (λ _. kind word ≡ 1) }
+    ensures over { IfSome result (λ x. x.pads ≡ pads) }
+    ensures found { let m = M.segments message.now in (s w : ℕ) →
+        ResolvesTo m s w pads segment at word → IfSome result (FindsTarget m s w) }
+{
+    let start = tag_at(word, at, message.len(segment))?;
+    match structs_target(word, message.word(segment, start), segment, start, pads) {
+        Ok(list) => Some(list),
+        Err(_) => None,
+    }
+}
+
+/// Looks at word `w` of segment `s`, as `look_near` does, and also at a far pointer with a pad of one
+/// word that describes the object.
+#[inline(always)]
+pub(crate) fn look_described<M: Segments>(
+    message: &M,
+    limits: &Limits,
+    spent: u64,
+    s: u32,
+    w: u32,
+    level: u32,
+) -> Option<Looked>
+    requires exists { s < length (M.segments message.now) }
+    requires inside { w < length (segment_of (M.segments message.now) s) }
+    requires spent { spent ≤ words_of limits.now }
+    requires level { level ≤ depth_of limits.now + 1 }
+    ensures looked { let m = M.segments message.now in
+        IfSome result (IsLooked m (words_of limits.now) (depth_of limits.now) spent s w level) }
+    ensures strict { IfSome result (λ _. IsNotLax (M.segments message.now) s w) }
+{
+    if let Some(looked) = look_near(message, limits, spent, s, w, level) {
+        return Some(looked);
+    }
+    let word = message.word(s, w);
+    if kind(word) != 2 || two(word) != 0 {
+        return None;
+    }
+    let (segment, at) = (far_segment(word), pad(word));
+    if segment >= message.count() || at >= message.len(segment) {
+        return None;
+    }
+    described_within(message, limits, spent, 1, segment, at, level)
 }

@@ -1,8 +1,14 @@
-//! A run of pointer words that a walk still has to look at.
+//! The run of pointer words that a walk goes on with in an object.
 
-ghost use Rattle.cap_vet.specs.PointerRuns.{RunIn, IsRest, kept};
-ghost use Rattle.cap_spec.specs.Messages.{IsMessage};
-ghost use Rattle.std.specs.Prelude.{List, ℕ};
+ghost use Rattle.cap_ptr.specs.Shapes.{FindsTargetBy};
+ghost use Rattle.cap_spec.specs.Denoting.{element_levels};
+ghost use Rattle.cap_spec.specs.Messages.{IsMessage, segment_of};
+ghost use Rattle.cap_vet.specs.Levels.{levels_of};
+ghost use Rattle.cap_vet.specs.Looking.{RunRises, object_places};
+ghost use Rattle.cap_vet.specs.PointerRuns.{IsRest, LevelIs, OptionIn, RunIn, kept, option_spots, row_places};
+ghost use Rattle.std.specs.Prelude.{◌+◌, ◌<◌, ◌^◌, ◌≡◌, ◌≤◌, List, length, ℕ};
+
+use cap_ptr::{Shape, Target};
 
 /// `left` pointer words from `at` on, and then those of `more` further elements. Each element has
 /// `data_words` data words and then `pointers` pointers.
@@ -38,4 +44,93 @@ impl PointerRun {
         }
         false
     }
+}
+
+// How many levels the structs of a list of `count` elements take below their list.
+#[inline(always)]
+pub(crate) fn levels_of_elements(count: u32) -> u32
+    ensures value { result ≡ element_levels count }
+    ensures few { result ≤ 1 }
+{
+    if count == 0 { 0 } else { 1 }
+}
+
+// How many levels an object takes below its own.
+#[inline(always)]
+pub(crate) fn levels_taken(shape: &Shape) -> u32
+    ensures value { result ≡ levels_of shape.now }
+    ensures few { result ≤ 1 }
+{
+    match shape {
+        Shape::Structs { count, .. } => levels_of_elements(*count),
+        _ => 0,
+    }
+}
+
+// The pointer words of an object of this level.
+#[inline(always)]
+pub(crate) fn run_of(target: &Target, level: u32) -> Option<PointerRun>
+    requires found { (m : List (List ℕ)) × (s w q tag : ℕ) × IsMessage m
+        × FindsTargetBy m s w q tag target.now }
+    requires level { level < 2 ^ 31 }
+    ensures places { let x = target.now in
+        (m : List (List ℕ)) (s w q tag : ℕ) → FindsTargetBy m s w q tag x →
+        option_spots result ≡ object_places q tag x.segment x.start level }
+    ensures inside { (m : List (List ℕ)) (s w q tag : ℕ) →
+        FindsTargetBy m s w q tag target.now → OptionIn m result }
+    ensures rises { (depth : ℕ) → level + levels_of target.now.shape ≤ depth →
+        RunRises level depth result }
+{
+    match target.shape {
+        Shape::Struct {
+            data_words,
+            pointers,
+        } => {
+            let at = target.start + u32::from(data_words);
+            row_run(target.segment, at, u32::from(pointers), level + 1)
+        }
+        Shape::Scalars { .. } => None,
+        Shape::Pointers { count } => row_run(target.segment, target.start, count, level + 1),
+        Shape::Structs {
+            count,
+            data_words,
+            pointers,
+            ..
+        } => {
+            if count == 0 || pointers == 0 {
+                return None;
+            }
+            Some(PointerRun {
+                segment: target.segment,
+                at: target.start + 1 + u32::from(data_words),
+                left: u32::from(pointers),
+                more: count - 1,
+                data_words: u32::from(data_words),
+                pointers: u32::from(pointers),
+                level: level + 1 + levels_of_elements(1),
+            })
+        }
+    }
+}
+
+// The pointer words of a struct or of a list of pointers, which are in one row.
+#[inline(always)]
+pub(crate) fn row_run(segment: u32, at: u32, left: u32, level: u32) -> Option<PointerRun>
+    ensures places { option_spots result ≡ row_places level segment at left }
+    ensures inside { (m : List (List ℕ)) → segment < length m →
+        at + left ≤ length (segment_of m segment) → OptionIn m result }
+    ensures level { LevelIs level result }
+{
+    if left == 0 {
+        return None;
+    }
+    Some(PointerRun {
+        segment,
+        at,
+        left,
+        more: 0,
+        data_words: 0,
+        pointers: 0,
+        level,
+    })
 }

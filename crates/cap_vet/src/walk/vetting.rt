@@ -1,27 +1,42 @@
-//! The verdict of a message.
+//! The verdict of a message, and the numbers that are reported of an accepted one.
 
 ghost use Rattle.cap_spec.specs.Accepting.{IsWithin};
 ghost use Rattle.cap_spec.specs.Denoting.{Denotes};
 ghost use Rattle.cap_spec.specs.Faults.{IsRefused};
 ghost use Rattle.cap_spec.specs.Tree.{Tree, pointer_count};
+ghost use Rattle.cap_spec.specs.Verdicts.{Justified};
 ghost use Rattle.cap_spec.specs.declared.Refusal.{Refusal};
 ghost use Rattle.cap_spec.specs.declared.Step.{Step};
-ghost use Rattle.cap_spec.specs.Verdicts.{Justified};
 ghost use Rattle.cap_vet.specs.Limits.{depth_of, words_of};
 ghost use Rattle.cap_vet.specs.Reports.{IsAccepted};
 ghost use Rattle.cap_vet.specs.Turns.{HoldsBefore, HoldsOfAll, IsStopped};
 ghost use Rattle.cap_vet.specs.Vettings.{message_of, report_of};
-ghost use Rattle.std.specs.Prelude.{Err, ◌≡◌, IfErr, IfOk, IsOk, List, ⊤, ℕ};
+ghost use Rattle.std.specs.Prelude.{◌≡◌, ⊤, Err, IfErr, IfOk, IsOk, List, ℕ};
 
 use crate::limits::Limits;
 use crate::nodes::place::Place;
 use crate::nodes::vetted::Vetted;
-use crate::report::Report;
 use crate::walk::turn::{FirstTurn, Stopped, Turn};
 use crate::walk::walking::walk;
 use cap_frame::Segments;
 use cap_spec::Refusal;
 use std::convert::Infallible;
+
+/// The numbers of the tree that a message's root denotes.
+#[derive(Clone, Copy, Debug, Default, PartialEq, Eq)]
+pub struct Report {
+    /// The charge of all followings, in words; a target that is reached twice is charged twice.
+    pub charge: u64,
+    /// The deepest level of an object, a struct of a list among them, or 0 where there is none.
+    pub depth: u32,
+    /// The paths that reach a pointer word, the root and null ones too: a word that two paths reach
+    /// counts twice.
+    pub pointers: u64,
+    /// The paths that reach a capability.
+    pub caps: u64,
+    /// The segment and the word of the pointer that the first of them in preorder reaches.
+    pub first_cap: Option<(u32, u32)>,
+}
 
 /// Walks a message from its root in preorder, the pointers of each object in order. Accepts it if
 /// the root denotes a finite tree within the limits (encoding: Security Considerations). Allocates
@@ -115,17 +130,12 @@ impl Turn for Plain {
     ghost stops = { λ _ _. ⊥ };
 
     #[inline(always)]
-    fn before<M: Segments>(&self, _message: &M, _s: u32, _w: u32) -> Option<Place> {
-        None
-    }
-
-    #[inline(always)]
     fn after<M: Segments>(
         &mut self,
         _message: &M,
         _s: u32,
         _w: u32,
-        _used: Option<Place>,
+        _object: Place,
         _may_be_lax: bool,
         _pointers: u64,
         _cost: u64,

@@ -6,18 +6,16 @@ ghost use Rattle.cap_vet.specs.Passing.{Passes};
 ghost use Rattle.cap_vet.specs.PointerRuns.{RunIn, kept, root_run};
 ghost use Rattle.cap_vet.specs.Trails.{Ahead};
 ghost use Rattle.cap_vet.specs.Turns.{GoesOnIf, HoldsBefore, IsAt, IsStopped, IsWalking};
-ghost use Rattle.cap_vet.specs.Walking.{HasWalked};
 ghost use Rattle.cap_vet.specs.WalkSteps.{Continues, LeavesRoom, TakesTurn};
+ghost use Rattle.cap_vet.specs.Walking.{HasWalked};
 ghost use Rattle.std.specs.Option.{option_to_list};
 ghost use Rattle.std.specs.Prelude.{◌++◌, ◌<◌, ◌≡◌, ◌≤◌, [], ◌∷◌, IfErr, IfNone, IfOk, IfSome, IsFalse, IsTrue, List, length, ℕ};
 
 use crate::limits::Limits;
-use crate::report::Report;
-use crate::walk::look_described::look_described;
-use crate::walk::looking::Looked;
+use crate::walk::looking::{Looked, look_described};
 use crate::walk::pointer_run::PointerRun;
-use crate::walk::turn::{Stopped, Turn};
-use crate::walk::visiting::{add, visit};
+use crate::walk::turn::{Stopped, Turn, add, visit};
+use crate::walk::vetting::Report;
 use arrayvec::ArrayVec;
 use cap_frame::Segments;
 use cap_spec::{Reason, Refusal};
@@ -241,14 +239,14 @@ fn turn_followed<M: Segments, T: Turn, const N: usize>(
         stack.new.items run.new report.new (T.knows turn.new m) (T.stops m) result }
 {
     let (s, w) = (run.segment, run.at);
-    let used = turn.before(message, s, w);
-    let before = report.charge;
-    let below = match visit(message, limits, report, s, w, run.level) {
-        Ok(below) => below,
+    let looked = match visit(message, limits, report, s, w, run.level) {
+        Ok(looked) => looked,
         Err(refusal) => return Err(Stopped::Refused(refusal)),
     };
-    let cost = report.charge - before;
-    match turn.after(message, s, w, used, true, report.pointers, cost) {
+    let cost = looked.cost();
+    let place = looked.place();
+    let below = add(report, s, w, looked);
+    match turn.after(message, s, w, place, true, report.pointers, cost) {
         Ok(()) => Ok(go_on(stack, run, below)),
         Err(stop) => Err(Stopped::ByTurn(stop)),
     }
@@ -280,13 +278,13 @@ fn turn_described<M: Segments, T: Turn>(
     if message.word(s, w) == 0 {
         return Some(Ok(add(report, s, w, Looked::Null(0))));
     }
-    let used = turn.before(message, s, w);
     match look_described(message, limits, report.charge, s, w, level) {
         None => None,
         Some(looked) => {
             let cost = looked.cost();
+            let place = looked.place();
             let below = add(report, s, w, looked);
-            match turn.after(message, s, w, used, false, report.pointers, cost) {
+            match turn.after(message, s, w, place, false, report.pointers, cost) {
                 Ok(()) => Some(Ok(below)),
                 Err(stop) => Some(Err(stop)),
             }

@@ -1,22 +1,11 @@
-use Rattle.cap_spec.proofs.ProofNames.{ap, arith, sym, ◌*◌, ◌++◌, ◌∙◌, ◌≡◌, words_from}
-use Rattle.cap_canon.specs.Filling.{elements_from}
+use Rattle.cap_spec.proofs.ProofNames.{arith, ◌∙◌, rules}
 use Rattle.cap_canon.proofs.Afters.{fewer_before}
 use Rattle.cap_canon.proofs.Ranges.{elements_whole}
 use Rattle.cap_canon.proofs.Structs.{struct_inside, structs_more}
 use Rattle.cap_canon.proofs.appending.append_structs.Goals as goal
 
 pub returns-then-left-part-clause-words : goal.returns-then-left-part-clause-words
-returns-then-left-part-clause-words g c =
-    let m = g.M.Segments.segments c.args.message.now in
-    let x = c.args.part.now in
-    let d : x.data_left ≡ x.data_words = omega (arith, c.if-left-part.true, c.requires.fewer) in
-    let p : x.pointers_left ≡ x.pointers = omega (arith, c.if-left-part.true, c.requires.fewer) in
-    c.append_from.ensures.words
-    ∙ ap (λ xs. g.T.CopyOutput.words c.args.copy.now ++ xs)
-    (ap (λ k. words_from m x.segment x.start (c.args.count * k)) c.if-left-part.true
-    ∙ (elements_whole m x.segment x.start x.data_words x.pointers c.args.count
-    ∙ (ap (λ k. elements_from m x.segment x.start x.data_words x.pointers k x.pointers c.args.count) (sym d)
-    ∙ ap (λ k. elements_from m x.segment x.start x.data_words x.pointers x.data_left k c.args.count) (sym p))))
+returns-then-left-part-clause-words g c = search (rules, elements_whole)
 
 pub elements-preserved : goal.elements-preserved
 elements-preserved g c =

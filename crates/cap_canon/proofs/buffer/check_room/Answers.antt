@@ -24,19 +24,8 @@ returns-in-Err-HasCapability-clause-err g c = λ old long.
     (let h = rw c.in-Err-HasCapability.field-0-is at c.in-Err-HasCapability.ensures.err in
     has_capability h.0 h.1 h.3 (ap (λ f. Err (room_fault f)) h.2) refl)
 
-pub overflow_mul-needed : goal.overflow_mul-needed
-overflow_mul-needed g c =
-    let k = c.report.ensures.accepted in
-    let same = ap (λ r. r.charge) c.report.ensures.value in
-    omega (arith, k.1.within.few_words, c.in-Ok.ensures.few, same)
-
 pub returns-then-len-needed-clause-err : goal.returns-then-len-needed-clause-err
 returns-then-len-needed-clause-err g c = λ old same.
     (let h = c.in-Ok.ensures.ok in
     let long : length (plain_text h.0) ≡ 8 * c.in-Ok.words = length_plain h.0 ∙ ap (λ (k : ℕ). 8 * k) (sym h.2) in
     no_room h.0 h.1 (omega (arith, long, same, c.if-len-needed.true)) (ap (λ (k : ℕ). Err (NoRoom k)) (sym long)) refl)
-
-pub returns-clause-ok : goal.returns-clause-ok
-returns-clause-ok g c =
-    let h = c.in-Ok.ensures.ok in
-    (h.0, h.1, omega (arith, h.2, c.if-len-needed.false))

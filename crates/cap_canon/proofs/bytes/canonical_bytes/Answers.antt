@@ -1,8 +1,8 @@
 -- All that the new vector holds is the copy.
 use Rattle.cap_spec.specs.declared.CanonFault.TheVariants.{HasCapability}
 use Rattle.cap_spec.proofs.Lemmas.{length_plain, one_copy, one_first_cap}
-use Rattle.cap_spec.proofs.ProofNames.{Err, ap, ap₂, arith, inl, inr, length, subst, sym, take, take_all, ℕ, ◌<◌, ◌∙◌, ◌≡◌}
-use Rattle.cap_spec.proofs.ProofNames.{HasCopy, IsFirstCap, plain_text, plain_words}
+use Rattle.cap_spec.proofs.ProofNames.{Err, ap, ap₂, arith, inl, inr, subst, take, take_all, ℕ, ◌∙◌, ◌≡◌, HasCopy}
+use Rattle.cap_spec.proofs.ProofNames.{plain_text, plain_words, rules}
 use Rattle.cap_vet.specs.Vettings.{message_of}
 use Rattle.cap_canon.proofs.Copies.{cap_no_copy, same_fault}
 use Rattle.cap_canon.proofs.Overs.{new_fault, new_text}
@@ -19,19 +19,10 @@ returns-in-Ok-clause-ok g c =
     (made, text ∙ ap plain_text (one_copy m words (plain_words bytes) h made))
 
 pub returns-in-Ok-clause-few : goal.returns-in-Ok-clause-few
-returns-in-Ok-clause-few g c =
-    let m = g.M.Segments.segments (message_of c.args.v.now) in
-    let tells = rw c.new-bytes.ensures.items at c.in-Ok.ensures.tells in
-    let (words, h, text, count) = new_text m _ c.fill_over.new.buffer.items tells in
-    omega (arith, c.in-Ok.ensures.few, count)
+returns-in-Ok-clause-few g c = search (rules, new_text)
 
 pub returns-in-Ok-clause-capacity : goal.returns-in-Ok-clause-capacity
-returns-in-Ok-clause-capacity g c =
-    let m = g.M.Segments.segments (message_of c.args.v.now) in
-    let tells = rw c.new-bytes.ensures.items at c.in-Ok.ensures.tells in
-    let (words, h, text, count) = new_text m _ c.fill_over.new.buffer.items tells in
-    let some : 0 < c.in-Ok.field-0 = omega (arith, count, ap length text, length_plain words, ap length h.laid) in
-    c.in-Ok.ensures.exact (omega (arith, ap length c.new-bytes.ensures.items, some)) ∙ count
+returns-in-Ok-clause-capacity g c = search (rules, new_text, length_plain)
 
 pub returns-in-Ok-clause-copy : goal.returns-in-Ok-clause-copy
 returns-in-Ok-clause-copy g c = λ words h.
@@ -54,15 +45,7 @@ second : (a b s w : ℕ) → HasCapability a b ≡ HasCapability s w → b ≡ w
 second a b s w e = cc
 
 pub returns-in-Err-clause-cap : goal.returns-in-Err-clause-cap
-returns-in-Err-clause-cap g c = λ s w e.
-    let m = g.M.Segments.segments (message_of c.args.v.now) in
-    let tells = rw c.new-bytes.ensures.items at c.in-Err.ensures.tells in
-    elim (new_fault m _ c.fill_over.new.buffer.items tells) [
-      | inl (s', w', f, k) ↦
-          let same : HasCapability s' w' ≡ HasCapability s w = sym k ∙ same_fault _ (HasCapability s w) e in
-          subst (λ y. IsFirstCap m s y) (second s' w' s w same) (subst (λ x. IsFirstCap m x w') (first s' w' s w same) f)
-      | inr (words, h, k) ↦ absurd (cc)
-    ]
+returns-in-Err-clause-cap g c = search (rules, new_fault, same_fault, second, first)
 
 pub returns-in-Err-clause-memory : goal.returns-in-Err-clause-memory
 returns-in-Err-clause-memory g c = λ e s w f.

@@ -1,4 +1,4 @@
-use Rattle.cap_spec.proofs.ProofNames.{eq-eqb, eqb-true, sym, ◌∙◌, false≢true}
+use Rattle.cap_spec.proofs.ProofNames.{eq-eqb, eqb-true, sym, ◌∙◌, false≢true, rules}
 use Rattle.cap_canon.proofs.Copies.{not_with_caps}
 use Rattle.cap_canon.proofs.InOrder.{compared_at_end, strict_compared}
 use Rattle.cap_canon.proofs.checked_vetting.check_in_order.Goals as goal
@@ -9,11 +9,7 @@ returns-then-report-ne0-clause-ok g c =
     (c.in-Ok.ensures.ok, strict_compared _ _ _ seen _ _ trail known c.in-Ok.ensures.ok)
 
 pub returns-then-report-ne0-clause-canonical : goal.returns-then-report-ne0-clause-canonical
-returns-then-report-ne0-clause-canonical g c =
-    let vetted = rw c.in-Ok.ensures.message at c.report.ensures.accepted in (
-      λ yes. absurd (false≢true yes),
-      λ k. absurd (not_with_caps (g.M.Segments.segments c.args.message.now) c.report.result vetted.0 vetted.1 c.if-report-ne0.true k),
-    )
+returns-then-report-ne0-clause-canonical g c = search (rules, false≢true, not_with_caps)
 
 pub returns-else-report-ne0-clause-ok : goal.returns-else-report-ne0-clause-ok
 returns-else-report-ne0-clause-ok g c =

@@ -1,21 +1,17 @@
 -- A walk within the greatest limits stops only at a message that isn't canonical: it was accepted before.
-use Rattle.cap_spec.proofs.ProofNames.{List, arith, ℕ, ◌≡◌, false≢true, IsCanonical, most_depth, most_words, Tree}
+use Rattle.cap_spec.proofs.ProofNames.{List, ℕ, ◌≡◌, false≢true, IsCanonical, most_depth, most_words, Tree, rules}
 use Rattle.cap_spec.proofs.Strict.Faults.{within_wider}
 use Rattle.cap_spec.proofs.Verdicts.Refusals.{within_not_refused}
 use Rattle.cap_vet.specs.VetNames.{depth_of, words_of, IsReport}
 use Rattle.cap_vet.specs.Turns.{IsStopped}
 use Rattle.cap_vet.specs.declared.limits.Limits.{Limits}
 use Rattle.cap_vet.specs.declared.walk.turn.Stopped.{Stopped}
-use Rattle.cap_vet.specs.declared.walk.turn.Stopped.TheVariants.{ByTurn, Refused}
 use Rattle.cap_canon.specs.CanonNames.{Report, IsNotCanonical}
 use Rattle.cap_canon.proofs.checked_vetting.is_canonical.Goals as goal
 
 not_stopped : {S : Type 0} (m : List (List ℕ)) (limits : Limits) (stopped : Stopped S) (r : Report) (t : Tree) → words_of limits ≡ most_words
     → depth_of limits ≡ most_depth → IsReport m most_words most_depth r t → IsStopped m limits (λ _. IsNotCanonical m) stopped → IsCanonical m → ⊥
-not_stopped m limits (Refused refusal) r t w d k h canon =
-    within_not_refused m (words_of limits) (depth_of limits) refusal
-    (within_wider m most_words most_depth (words_of limits) (depth_of limits) (t, r.charge, r.depth, k.within) (omega (arith, w)) (omega (arith, d))) h
-not_stopped m limits (ByTurn stop) r t w d k h canon = h t r.charge r.depth k.within.denotes k.within.few_words canon
+not_stopped m limits e r t w d k h canon = search (rules, within_not_refused, within_wider)
 
 pub returns-in-Ok : goal.returns-in-Ok
 returns-in-Ok g c = rw c.message.ensures.value at c.in-Ok.ensures.canonical
@@ -29,9 +25,4 @@ returns-in-Err-Refused g c =
     )
 
 pub returns-in-Err-ByTurn : goal.returns-in-Err-ByTurn
-returns-in-Err-ByTurn g c =
-    let k = c.report-report.ensures.accepted in
-    let h = rw c.message.ensures.value at c.in-Err-ByTurn.ensures.err in (
-      λ yes. absurd (false≢true yes),
-      λ canon. absurd (not_stopped _ c.greatest.result _ c.report-report.result k.0 c.greatest.ensures.0 c.greatest.ensures.1 k.1 h canon),
-    )
+returns-in-Err-ByTurn g c = search (rules, false≢true, not_stopped)

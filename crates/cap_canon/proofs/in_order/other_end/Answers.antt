@@ -1,31 +1,16 @@
-use Rattle.cap_spec.proofs.ProofNames.{arith, false, inl, inr, subst, sym, true, ◌∙◌, ◌≡◌, HasWord}
+use Rattle.cap_spec.proofs.ProofNames.{arith, false, inr, sym, true, ◌∙◌, ◌≡◌, rules}
 use Rattle.cap_canon.proofs.NoCopies.{other_differs}
 use Rattle.cap_canon.proofs.OtherWords.{no_bits_next, no_words_next}
 use Rattle.cap_canon.proofs.in_order.other_end.Goals as goal
-
-pub returns-then-word-eq0-clause-some : goal.returns-then-word-eq0-clause-some
-returns-then-word-eq0-clause-some g c =
-    let a = c.args in
-    let m = g.M.Segments.segments a.message.now in
-    inl (subst (λ x. HasWord m 0 a.w x) c.if-word-eq0.true c.word-word.ensures, cc)
 
 pub returns-then-w-end-clause-none : goal.returns-then-w-end-clause-none
 returns-then-w-end-clause-none g c = inr (λ x c' d h lt. absurd (omega (arith, lt, c.if-w-end.true)))
 
 pub returns-then-word-eq-NO_WORDS-clause-some : goal.returns-then-word-eq-NO_WORDS-clause-some
-returns-then-word-eq-NO_WORDS-clause-some g c =
-    let a = c.args in
-    let m = g.M.Segments.segments a.message.now in
-    inr (no_words_next m a.w a.end (record { after = c.if-w-end.false; inside = c.requires.end.0; few = c.requires.end.1 })
-    (subst (λ x. HasWord m 0 a.w x) c.if-word-eq-NO_WORDS.true c.word-word.ensures))
+returns-then-word-eq-NO_WORDS-clause-some g c = search (rules, no_words_next)
 
 pub returns-then-is_empty_list-clause-some : goal.returns-then-is_empty_list-clause-some
-returns-then-is_empty_list-clause-some g c =
-    let a = c.args in
-    let m = g.M.Segments.segments a.message.now in
-    let (list, none, next) = c.is_empty_list.ensures.0 c.if-is_empty_list.true in
-    inr (no_bits_next m a.w a.end c.word-word.result (record { after = c.if-w-end.false; inside = c.requires.end.0; few = c.requires.end.1 })
-    c.word-word.ensures c.word-word.type_inv list none next)
+returns-then-is_empty_list-clause-some g c = search (rules, no_bits_next)
 
 pub returns-clause-none : goal.returns-clause-none
 returns-clause-none g c =

@@ -1,43 +1,18 @@
 use Rattle.cap_spec.proofs.Frames.Messages.{HasWord-segment}
-use Rattle.cap_spec.proofs.ProofNames.{arith, inr, length, sym, ◌*◌, ◌+◌, ◌<◌, ◌∙◌, ◌≡◌, HasWord, segment_of, data_size}
-use Rattle.cap_spec.proofs.ProofNames.{list_size, middle, pointer_size}
-use Rattle.cap_canon.specs.Trimming.{AreElementsAt}
+use Rattle.cap_spec.proofs.ProofNames.{inr, sym, ◌*◌, ◌+◌, ◌∙◌, ◌≡◌, HasWord, data_size, list_size, middle}
+use Rattle.cap_spec.proofs.ProofNames.{pointer_size, rules}
 use Rattle.cap_canon.proofs.InOrder.{structs_there}
 use Rattle.cap_canon.proofs.InOrderLists.{structs_differ, structs_next, structs_surplus}
 use Rattle.cap_canon.proofs.in_order_lists.structs_end.Goals as goal
 
 pub word-tag-requires-clause-exists : goal.word-tag-requires-clause-exists
-word-tag-requires-clause-exists g c =
-    let m = g.M.Segments.segments c.args.message.now in
-    rw c.requires.first (HasWord-segment m 0 c.args.w c.args.word c.requires.leads.1.has)
+word-tag-requires-clause-exists g c = search (rules, HasWord-segment)
 
 pub word-tag-requires-clause-inside : goal.word-tag-requires-clause-inside
-word-tag-requires-clause-inside g c =
-    let a = c.args in
-    let m = g.M.Segments.segments a.message.now in
-    let there = structs_there m a.w a.word a.end c.requires.leads.0 c.requires.leads.1 c.requires.list.0 c.requires.list.1 in
-    let inside : a.end < length (segment_of m 0) = omega (arith, there.3) in
-    rw c.requires.first inside
+word-tag-requires-clause-inside g c = search (rules, structs_there)
 
 pub list_needs_all-requires : goal.list_needs_all-requires
-list_needs_all-requires g c =
-    let a = c.args in
-    let m = g.M.Segments.segments a.message.now in
-    let (cost, leads) = c.requires.leads in
-    let there = structs_there m a.w a.word a.end cost leads c.requires.list.0 c.requires.list.1 in
-    let n = c.middle.result in
-    let d = c.from-data_words.result in
-    let p = c.from-pointers.result in
-    let fits : n * (d + p) ≡ list_size a.word =
-    rw (c.middle.ensures, c.from-data_words.ensures, c.data_size.ensures, c.from-pointers.ensures, c.pointer_size.ensures)
-    (sym c.words_of_elements.ensures ∙ c.if-words_of_elements-from.false ∙ c.from.ensures ∙ c.list_size-size.ensures) in
-    let at : AreElementsAt m 0 (a.end + 1) n d p = record {
-      exists = HasWord-segment m 0 a.w a.word leads.has;
-      few = leads.placed.few;
-      inside = omega (arith, there.3, fits);
-      sizes = (omega (arith, c.from-data_words.ensures), omega (arith, c.from-pointers.ensures));
-    } in
-    record { elements = rw c.requires.first at }
+list_needs_all-requires g c = search (rules, structs_there, HasWord-segment)
 
 pub returns-clause-some : goal.returns-clause-some
 returns-clause-some g c =

@@ -1,6 +1,7 @@
 -- No copy, or one at the start of a buffer that is long enough.
 use Rattle.cap_spec.proofs.Canonical.Sizes.{layout_charged}
-use Rattle.cap_spec.proofs.ProofNames.{Ok, ap, arith, length, subst, sym, take, ◌*◌, ◌∙◌, ◌≡◌, ◌≤◌, HasCopy, plain_words}
+use Rattle.cap_spec.proofs.ProofNames.{Ok, ap, arith, length, subst, sym, take, ◌*◌, ◌∙◌, ◌≡◌, ◌≤◌, HasCopy}
+use Rattle.cap_spec.proofs.ProofNames.{plain_words, rules}
 use Rattle.cap_vet.specs.Vettings.{message_of}
 use Rattle.cap_canon.specs.CopyOvers.{TellsOver}
 use Rattle.cap_canon.proofs.Copies.{has_tree}
@@ -23,11 +24,7 @@ fill_front-words-requires-clause-length g c =
     omega (arith, e, ap length c.as_mut_slice.ensures.value))
 
 pub overflow_mul-result : goal.overflow_mul-result
-overflow_mul-result g c =
-    let m = g.M.Segments.segments (message_of c.args.v.now) in
-    let k = c.report.ensures.accepted in
-    let counts = rw c.message.ensures.value at c.fill_front-words.ensures.count in
-    omega (arith, counts k.0 _ _ k.1.within.denotes, layout_charged m 0 0 k.0 _ _ k.1.within.denotes, k.1.within.few_words)
+overflow_mul-result g c = search (rules, layout_charged)
 
 pub returns-clause-tells : goal.returns-clause-tells
 returns-clause-tells g c =
@@ -72,24 +69,10 @@ returns-clause-within g c =
     subst (λ bytes. 8 * n ≤ length bytes) (sym back) (within_ok m old mid new n same counts writes texts c.in_default.ensures.makes)
 
 pub returns-clause-few : goal.returns-clause-few
-returns-clause-few g c =
-    let m = g.M.Segments.segments (message_of c.args.v.now) in
-    let k = c.report.ensures.accepted in
-    let counts = rw c.message.ensures.value at c.fill_front-words.ensures.count in
-    let same = ap (λ r. r.charge) c.report.ensures.value in
-    omega (arith, counts k.0 _ _ k.1.within.denotes, layout_charged m 0 0 k.0 _ _ k.1.within.denotes, same)
+returns-clause-few g c = search (rules, layout_charged)
 
 pub returns-clause-kept : goal.returns-clause-kept
-returns-clause-kept g c = λ le.
-    let m = g.M.Segments.segments (message_of c.args.v.now) in
-    let mid = c.make_enough.new.buffer.items in
-    let new = c.fill_front-words.new.out in
-    let counts = rw c.message.ensures.value at c.fill_front-words.ensures.count in
-    let writes = rw c.message.ensures.value at c.fill_front-words.ensures.words in
-    let texts = rw c.message.ensures.value at c.fill_front-words.ensures.text in
-    let same : length new ≡ length mid = c.fill_front-words.auto.out ∙ ap length c.as_mut_slice.ensures.value in
-    let all = grows m c.args.buffer.now.items mid new c.fill_front-words.result same counts writes texts c.in_default.ensures.makes in
-    c.in_default.ensures.kept (all.0 le)
+returns-clause-kept g c = search (rules, grows)
 
 pub returns-clause-exact : goal.returns-clause-exact
 returns-clause-exact g c = λ lt.

@@ -40,9 +40,5 @@ returns-in-Err-replace_zeros-clause-makes g c =
     let long : length (plain_text h.0) ≡ 8 * c.in-Ok.words = length_plain h.0 ∙ ap (λ (k : ℕ). 8 * k) (sym h.2) in
     refused h.0 h.1 (omega (arith, long, c.if-len-count.false, c.len-2.ensures)) refl c.in-Err-replace_zeros.ensures.err
 
-pub returns-in-Ok-replace_zeros-clause-kept : goal.returns-in-Ok-replace_zeros-clause-kept
-returns-in-Ok-replace_zeros-clause-kept g c = λ same.
-    absurd (omega (arith, c.in-Ok-replace_zeros.ensures.ok, same, c.if-len-count.false, c.len-2.ensures))
-
 pub returns-in-Ok-replace_zeros-clause-exact : goal.returns-in-Ok-replace_zeros-clause-exact
 returns-in-Ok-replace_zeros-clause-exact g c = λ _. c.in-Ok-replace_zeros.ensures.exact ∙ sym c.in-Ok-replace_zeros.ensures.ok

@@ -3,12 +3,6 @@ use Rattle.cap_canon.specs.CopyRuns.{option_places}
 use Rattle.cap_canon.proofs.Entering.{pointers_owed, struct_owed}
 use Rattle.cap_canon.proofs.stack.run_of.Goals as goal
 
-pub structs_run-requires : goal.structs_run-requires
-structs_run-requires c =
-    let (m, d, s, w, tree, is, object, small) = c.requires in
-    let k = rw c.in-Structs.is at object in
-    (m, k.0, s, w, tree, is, k.2, small)
-
 pub returns-in-Struct-clause-owed : goal.returns-in-Struct-clause-owed
 returns-in-Struct-clause-owed c = λ m d s w depth n tree h le.
     let k = rw c.in-Struct.is at h in

@@ -1,13 +1,12 @@
 use Rattle.cap_canon.proofs.Elements.{at_hand, children_seen, enough_children, no_children_seen}
 use Rattle.cap_canon.proofs.trimming.list_pointers_left.Goals as goal
+use Rattle.cap_spec.proofs.ProofNames.{rules}
 
 pub elements-init : goal.elements-init
 elements-init g c = no_children_seen (g.M.Segments.segments c.args.message.now) c.args.segment c.args.start c.args.data_words c.args.pointers c.args.count
 
 pub returns-then-most-pointers-clause-value : goal.returns-then-most-pointers-clause-value
-returns-then-most-pointers-clause-value g c = λ es c' d h.
-    enough_children (g.M.Segments.segments c.args.message.now) c.args.segment c.args.start c.elements.at c.args.data_words c.args.pointers c.args.count
-    c.elements.counter c.elements.most es c' d c.if-most-pointers.true c.elements.invariant h
+returns-then-most-pointers-clause-value g c = search (rules, enough_children)
 
 pub pointers_left-most-requires-clause-denote : goal.pointers_left-most-requires-clause-denote
 pointers_left-most-requires-clause-denote g c =
@@ -17,7 +16,4 @@ pointers_left-most-requires-clause-denote g c =
     (k.children, k.parts.c1, k.parts.d1, k.parts.children)
 
 pub elements-preserved : goal.elements-preserved
-elements-preserved g c =
-    children_seen (g.M.Segments.segments c.args.message.now) c.args.segment c.args.start c.elements.at c.args.data_words c.args.pointers c.args.count
-    c.elements.counter c.elements.most c.pointers_left-most.result c.elements-test.true c.pointers_left-most.ensures.value
-    c.pointers_left-most.ensures.within c.elements.invariant
+elements-preserved g c = search (rules, children_seen)

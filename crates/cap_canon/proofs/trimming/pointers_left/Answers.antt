@@ -1,13 +1,9 @@
-use Rattle.std.proofs.Common.{arith, ◌-◌}
+use Rattle.std.proofs.Common.{arith, ◌-◌, rules}
 use Rattle.cap_canon.proofs.Children.{child_at, child_below, child_here, row_needed}
 use Rattle.cap_canon.proofs.trimming.pointers_left.Goals as goal
 
 pub loop-left-init : goal.loop-left-init
-loop-left-init g c = record {
-  low = c.requires.least;
-  high = omega arith;
-  needed = row_needed (g.M.Segments.segments c.args.message.now) c.args.segment c.args.start c.args.count;
-}
+loop-left-init g c = search (rules, row_needed)
 
 pub is_null_at-requires : goal.is_null_at-requires
 is_null_at-requires g c =

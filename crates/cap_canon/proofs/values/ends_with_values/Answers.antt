@@ -1,5 +1,5 @@
-use Rattle.cap_spec.proofs.ProofNames.{arith, eq-eqb, eqb-true, length, refl, sym, ◌%◌, ◌*◌, ◌+◌, ◌-◌, ◌<◌, ◌∙◌, ◌≡◌, ◌≢◌}
-use Rattle.cap_spec.proofs.ProofNames.{segment_of, element_bits, list_words}
+use Rattle.cap_spec.proofs.ProofNames.{arith, eq-eqb, eqb-true, length, refl, sym, ◌%◌, ◌*◌, ◌+◌, ◌-◌, ◌<◌, ◌∙◌, ◌≡◌}
+use Rattle.cap_spec.proofs.ProofNames.{◌≢◌, segment_of, element_bits, list_words, rules}
 use Rattle.cap_canon.proofs.Rests.{rest_words, values_full}
 use Rattle.cap_canon.proofs.Standing.{range_words, stand_values, values_stand}
 use Rattle.cap_canon.proofs.values.ends_with_values.Goals as goal
@@ -12,9 +12,7 @@ returns-then-rest_bits-eq0 g c =
     (λ _. full, λ _. refl)
 
 pub overflow_sub-words : goal.overflow_sub-words
-overflow_sub-words g c =
-    let over : (element_bits c.args.code * c.args.count) % 64 ≢ 0 = λ z. c.if-rest_bits-eq0.false (c.rest_bits.ensures ∙ z) in
-    omega (arith, c.requires.words, rest_words c.args.code c.args.count c.requires.code over)
+overflow_sub-words g c = search (rules, rest_words)
 
 pub returns : goal.returns
 returns g c =

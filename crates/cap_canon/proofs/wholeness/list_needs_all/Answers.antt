@@ -1,9 +1,5 @@
-use Rattle.std.proofs.Common.{false, inl, inr, sym, true, ◌∙◌, ◌≡◌}
+use Rattle.std.proofs.Common.{inr}
 use Rattle.cap_canon.proofs.wholeness.list_needs_all.Goals as goal
-
-pub returns-then-not-list_needs_data-clause-no : goal.returns-then-not-list_needs_data-clause-no
-returns-then-not-list_needs_data-clause-no g c = λ _. inl (λ e.
-    let h : false ≡ true = sym c.if-not-list_needs_data.true ∙ c.list_needs_data.ensures.1 e in absurd (cc h))
 
 pub returns-clause-yes : goal.returns-clause-yes
 returns-clause-yes g c = λ y.

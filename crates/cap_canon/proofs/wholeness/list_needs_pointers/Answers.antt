@@ -1,4 +1,4 @@
-use Rattle.cap_spec.proofs.ProofNames.{ap, arith, inl, inr, subst, ◌*◌, ◌+◌, ◌-◌, ◌<◌, ◌≡◌, HasWord, kind}
+use Rattle.cap_spec.proofs.ProofNames.{ap, arith, inl, inr, subst, ◌*◌, ◌+◌, ◌-◌, ◌<◌, ◌≡◌, HasWord, kind, rules}
 use Rattle.cap_canon.proofs.WholeObjects.{element_inside, elements_empty, elements_short, elements_whole}
 use Rattle.cap_canon.proofs.WholeObjects.{isnt_null_word}
 use Rattle.cap_canon.proofs.wholeness.list_needs_pointers.Goals as goal
@@ -7,10 +7,7 @@ pub returns-then-pointers-eq0-clause-yes : goal.returns-then-pointers-eq0-clause
 returns-then-pointers-eq0-clause-yes g c = λ _ es c' d h. elements_empty (g.M.Segments.segments c.args.message.now) c.args.s c.args.start _ _ es c' d c.if-pointers-eq0.true h
 
 pub first_set-requires-clause-inside : goal.first_set-requires-clause-inside
-first_set-requires-clause-inside g c = λ k lt.
-    let a = c.args in
-    element_inside a.start (a.data_words + (a.pointers - 1)) (a.data_words + a.pointers) k a.count _ lt (omega (arith, c.if-pointers-eq0.false))
-    c.requires.elements.inside
+first_set-requires-clause-inside g c = search (rules, element_inside)
 
 pub returns-clause-yes : goal.returns-clause-yes
 returns-clause-yes g c = λ y es c' d h.

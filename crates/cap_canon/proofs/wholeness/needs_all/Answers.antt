@@ -1,9 +1,5 @@
-use Rattle.std.proofs.Common.{false, inl, inr, sym, true, ◌∙◌, ◌≡◌}
+use Rattle.std.proofs.Common.{inr}
 use Rattle.cap_canon.proofs.wholeness.needs_all.Goals as goal
-
-pub returns-then-not-needs_data-clause-no : goal.returns-then-not-needs_data-clause-no
-returns-then-not-needs_data-clause-no g c = λ _. inl (λ e.
-    let h : false ≡ true = sym c.if-not-needs_data.true ∙ c.needs_data.ensures.1 e in absurd (cc h))
 
 pub returns-clause-yes : goal.returns-clause-yes
 returns-clause-yes g c = λ y. record { data_words = c.needs_data.ensures.0 c.if-not-needs_data.false; pointers = c.needs_row.ensures.yes y }

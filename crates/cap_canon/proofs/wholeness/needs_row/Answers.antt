@@ -1,4 +1,4 @@
-use Rattle.cap_spec.proofs.ProofNames.{arith, inl, inr, subst, ◌+◌, ◌-◌, ◌<◌, HasWord}
+use Rattle.cap_spec.proofs.ProofNames.{arith, inl, inr, subst, ◌+◌, ◌-◌, ◌<◌, HasWord, rules}
 use Rattle.cap_canon.proofs.WholeObjects.{isnt_null_word, row_empty, row_short, row_whole}
 use Rattle.cap_canon.proofs.wholeness.needs_row.Goals as goal
 
@@ -6,13 +6,7 @@ pub returns-then-pointers-eq0-clause-yes : goal.returns-then-pointers-eq0-clause
 returns-then-pointers-eq0-clause-yes g c = λ _ ts c' d h. omega (arith, row_empty _ _ _ ts c' d c.if-pointers-eq0.true h)
 
 pub returns-clause-yes : goal.returns-clause-yes
-returns-clause-yes g c = λ y ts c' d h.
-    let m = g.M.Segments.segments c.args.message.now in
-    let some : 0 < c.args.pointers = omega (arith, c.if-pointers-eq0.false) in
-    let needed = c.is_needed.ensures.yes y in
-    let whole = row_whole m c.args.s c.args.start c.args.pointers ts c' d some (λ u c'' d' k.
-    isnt_null_word m c.args.s (c.args.start + (c.args.pointers - 1)) c.word.result u c'' d' c.word.ensures needed.0 needed.1 k) h in
-    omega (arith, whole)
+returns-clause-yes g c = search (rules, row_whole, isnt_null_word)
 
 pub returns-clause-no : goal.returns-clause-no
 returns-clause-no g c = λ n.

@@ -2,11 +2,6 @@ use Rattle.cap_spec.proofs.ProofNames.{arith, length, layout}
 use Rattle.cap_canon.proofs.Afters.{kept_so}
 use Rattle.cap_canon.proofs.copying.CopyingPass.visit.Goals as goal
 
-pub lay-requires-clause-ends : goal.lay-requires-clause-ends
-lay-requires-clause-ends g c =
-    let r = c.requires in
-    (r.4.ends, r.3.meets.next.inside, omega (arith, r.3.meets.next.small))
-
 pub lay-requires-clause-is : goal.lay-requires-clause-is
 lay-requires-clause-is g c =
     let r = c.requires in

@@ -1,8 +1,5 @@
 use Rattle.cap_vet.proofs.Bits.{mask_is}
 use Rattle.cap_vet.proofs.exclusiveness.marks.mask.Goals as goal
 
-pub overflow_sub-result-3 : goal.overflow_sub-result-3
-overflow_sub-result-3 c = (mask_is c.args.low c.args.high c.requires.some c.requires.few).0
-
 pub returns : goal.returns
-returns c = (mask_is c.args.low c.args.high c.requires.some c.requires.few).1
+returns c = mask_is c.args.low c.args.high c.requires.some c.requires.few

@@ -18,13 +18,13 @@ pub returns-in-Target-clause-ok : goal.returns-in-Target-clause-ok
 returns-in-Target-clause-ok g c =
     let h = rw c.in-Target.is at c.in_ok-followed.ensures.ok in
     let f = h.followed in
-    let shallow : c.args.level + levels_of c.in-Target.target.shape ≤ c.depth.result = omega (arith, c.from.ensures, h.shallow) in (
+    let shallow : c.args.level + levels_of c.in-Target.target.shape ≤ c.depth.result = omega (arith, c.from.ensures, h.shallow) in rw c.of.ensures (
       _,
       _,
       _,
       f.0,
       f.1,
-      looks_object f.0 f.1 c.in-Target.target c.run_of.result f.2 c.levels_taken.ensures.value (omega (arith, c.depth.ensures.value, shallow))
-          (omega (arith, c.words.ensures.value, h.within)) c.requires.spent (c.run_of.ensures.places _ _ _ f.0 f.1 f.2)
-          (c.run_of.ensures.inside _ _ _ f.0 f.1 f.2) (c.run_of.ensures.rises _ (omega (arith, c.depth.ensures.value, shallow))),
+      looks_object f.0 f.1 c.in-Target.target c.run_of-run.result f.2 c.levels_taken.ensures.value (omega (arith, c.depth.ensures.value, shallow))
+          (omega (arith, c.words.ensures.value, h.within)) c.requires.spent (c.run_of-run.ensures.places _ _ _ f.0 f.1 f.2)
+          (c.run_of-run.ensures.inside _ _ _ f.0 f.1 f.2) (c.run_of-run.ensures.rises _ (omega (arith, c.depth.ensures.value, shallow))),
     )

@@ -1,5 +1,6 @@
 use Rattle.cap_spec.proofs.ProofNames.{◌∷◌, HasWord}
 use Rattle.cap_vet.proofs.Stacks.{looked_at, looked_costs, null_visited, visited}
+use Rattle.cap_vet.proofs.UsedPlaces.{looked_place}
 use Rattle.cap_vet.proofs.walk.walking.turn_described.Goals as goal
 
 pub word-requires-clause-exists : goal.word-requires-clause-exists
@@ -8,17 +9,15 @@ word-requires-clause-exists g c = c.requires.1.next.exists
 pub word-requires-clause-inside : goal.word-requires-clause-inside
 word-requires-clause-inside g c = c.requires.1.next.within
 
-pub before-used-requires-clause-exists : goal.before-used-requires-clause-exists
-before-used-requires-clause-exists g c = c.requires.1.next.exists
-
-pub before-used-requires-clause-inside : goal.before-used-requires-clause-inside
-before-used-requires-clause-inside g c = c.requires.1.next.within
-
 pub look_described-requires-clause-exists : goal.look_described-requires-clause-exists
 look_described-requires-clause-exists g c = c.requires.1.next.exists
 
 pub look_described-requires-clause-inside : goal.look_described-requires-clause-inside
 look_described-requires-clause-inside g c = c.requires.1.next.within
+
+pub after-requires-clause-object : goal.after-requires-clause-object
+after-requires-clause-object g c =
+    rw c.place-place.ensures (looked_place {m = g.M.Segments.segments c.args.message.now} _ _ _ c.args.level _ c.requires.1.next.exists c.in-Some.ensures.looked)
 
 pub after-requires-clause-known : goal.after-requires-clause-known
 after-requires-clause-known g c =

@@ -1,16 +1,9 @@
-use Rattle.cap_spec.proofs.ProofNames.{arith, inr, option_to_list, rules, ◌++◌, ◌∷◌, IsMessage}
+use Rattle.cap_spec.proofs.ProofNames.{inr, option_to_list, rules, ◌++◌, ◌∷◌, IsMessage}
 use Rattle.cap_vet.proofs.Passing.{topmost_in}
 use Rattle.cap_vet.proofs.Runs.{has_rest}
-use Rattle.cap_vet.proofs.Stacks.{cost_charged, looked_at, next_at, steps_on}
+use Rattle.cap_vet.proofs.Stacks.{looked_at, looked_costs, next_at, steps_on, visited}
+use Rattle.cap_vet.proofs.UsedPlaces.{looked_place}
 use Rattle.cap_vet.proofs.walk.walking.turn_followed.Goals as goal
-
-pub before-used-requires-clause-exists : goal.before-used-requires-clause-exists
-before-used-requires-clause-exists g c = (topmost_in _ _ _ c.args.stack.now.items c.args.run.now c.args.report.now _ _ c.requires.walking.walks).exists
-
-pub before-used-requires-clause-inside : goal.before-used-requires-clause-inside
-before-used-requires-clause-inside g c =
-    let f = topmost_in _ _ _ c.args.stack.now.items c.args.run.now c.args.report.now _ _ c.requires.walking.walks in
-    omega (arith, f.some, f.inside)
 
 pub visit-requires : goal.visit-requires
 visit-requires g c =
@@ -29,15 +22,14 @@ after-requires-clause-known g c =
     let rest = has_rest c.args.run.now f.some in
     let at = next_at _ _ c.args.stack.now.items c.args.run.now _ _ _ c.requires.walking rest.1 in
     let n = at.next in
-    let on = c.in-Ok.ensures.ok (c.args.stack.now.items ++ option_to_list rest.0) n in
-    (n.seen, n.a, looked_at n on.walks (cost_charged _ on.costs on.charge), at.known)
+    let v = visited {limits = c.args.limits.now} (c.args.stack.now.items ++ option_to_list rest.0) _ n c.in-Ok.ensures.ok in
+    let costs = looked_costs (g.M.Segments.segments c.args.message.now) _ _ _ c.args.run.now.segment c.args.run.now.at _ _ c.in-Ok.ensures.ok in
+    (n.seen, n.a, rw (c.add-below.ensures.report, c.cost-cost.ensures) (looked_at n v.walks costs), at.known)
 
-pub overflow_sub-cost : goal.overflow_sub-cost
-overflow_sub-cost g c =
+pub after-requires-clause-object : goal.after-requires-clause-object
+after-requires-clause-object g c =
     let f = topmost_in _ _ _ c.args.stack.now.items c.args.run.now c.args.report.now _ _ c.requires.walking.walks in
-    let rest = has_rest c.args.run.now f.some in
-    let n = (next_at _ _ c.args.stack.now.items c.args.run.now _ _ _ c.requires.walking rest.1).next in
-    omega (arith, (c.in-Ok.ensures.ok (c.args.stack.now.items ++ option_to_list rest.0) n).charge)
+    rw c.place-place.ensures (looked_place {m = g.M.Segments.segments c.args.message.now} _ _ _ c.args.run.now.level _ f.exists c.in-Ok.ensures.ok)
 
 pub go_on-requires : goal.go_on-requires
 go_on-requires g c =
@@ -49,12 +41,14 @@ go_on-requires g c =
 
 pub returns-in-Ok-after : goal.returns-in-Ok-after
 returns-in-Ok-after g c = record {
-  ok = steps_on _ _ c.args.stack.now.items c.args.run.now c.args.report.now c.visit.new.report _ _ c.in-Ok.below c.go_on.result c.go_on.new.stack.items
+  ok = steps_on _ _ c.args.stack.now.items c.args.run.now c.args.report.now c.add-below.new.report _ _ c.add-below.result c.go_on.result c.go_on.new.stack.items
       c.go_on.new.run c.requires.walking (λ runs at.
       let n = at.next in
-      let on = c.in-Ok.ensures.ok runs n in
-      let known = c.in-Ok-after.ensures.ok n.seen n.a (looked_at n on.walks (cost_charged _ on.costs on.charge)) at.known in
-      record { walking = record { seen = n.a.path ∷ n.seen; ahead = on.later; walks = on.walks; known = known }; less = on.less })
+      let v = visited {limits = c.args.limits.now} runs _ n c.in-Ok.ensures.ok in
+      let costs = looked_costs (g.M.Segments.segments c.args.message.now) _ _ _ c.args.run.now.segment c.args.run.now.at _ _ c.in-Ok.ensures.ok in
+      let known = c.in-Ok-after.ensures.ok n.seen n.a (rw (c.add-below.ensures.report, c.cost-cost.ensures) (looked_at n v.walks costs)) at.known in
+      rw (c.add-below.ensures.run, c.add-below.ensures.report)
+      (record { walking = record { seen = n.a.path ∷ n.seen; ahead = v.later; walks = v.walks; known = known }; less = v.less }))
       c.go_on.ensures.runs;
   room = c.go_on.ensures.room;
   err = tt;

@@ -1,5 +1,5 @@
 use Rattle.cap_spec.proofs.ProofNames.{arith, refl, suc, zero, ℕ, ◌<◌, ◌≡◌, element_levels}
-use Rattle.cap_vet.proofs.walk.targets.levels_of_elements.Goals as goal
+use Rattle.cap_vet.proofs.walk.pointer_run.levels_of_elements.Goals as goal
 
 one_level : (n : ℕ) → 0 < n → 1 ≡ element_levels n
 one_level zero h = absurd (omega arith)

@@ -1,7 +1,7 @@
 use Rattle.std.proofs.Common.{arith, inl, inr, ◌+◌, ◌<◌, ◌∙◌, ◌≡◌}
 use Rattle.cap_vet.proofs.ObjectRuns.{start_fits, struct_places, struct_room, structs_empty, structs_inside}
 use Rattle.cap_vet.proofs.ObjectRuns.{structs_places}
-use Rattle.cap_vet.proofs.walk.targets.run_of.Goals as goal
+use Rattle.cap_vet.proofs.walk.pointer_run.run_of.Goals as goal
 
 pub returns-then-count-eq0-clause-places : goal.returns-then-count-eq0-clause-places
 returns-then-count-eq0-clause-places c = λ m s w q tag f.

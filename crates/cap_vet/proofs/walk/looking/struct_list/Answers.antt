@@ -1,7 +1,7 @@
 use Rattle.cap_spec.proofs.ProofNames.{ap, arith, kind}
 use Rattle.cap_ptr.specs.Shapes.{HasListAt}
 use Rattle.cap_ptr.proofs.Pads.{object-lead}
-use Rattle.cap_vet.proofs.walk.lists.struct_list.Goals as goal
+use Rattle.cap_vet.proofs.walk.looking.struct_list.Goals as goal
 
 pub returns-in-Ok-clause-found : goal.returns-in-Ok-clause-found
 returns-in-Ok-clause-found g c = λ s w stands.

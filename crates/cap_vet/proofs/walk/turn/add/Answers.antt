@@ -1,8 +1,9 @@
 use Rattle.std.proofs.Common.{Bool, None, Option, Some, ap, arith, false, is_some, max, not, refl, true, ℕ, ◌+◌, ◌∙◌}
 use Rattle.std.proofs.Common.{◌≡◌}
 use Rattle.cap_vet.specs.VetNames.{added, or_place, Report, Object, PointerRun}
+use Rattle.cap_vet.specs.declared.nodes.place.Place.{Place}
 use Rattle.cap_vet.specs.declared.walk.looking.Looked.TheVariants.{Cap}
-use Rattle.cap_vet.proofs.walk.visiting.add.Goals as goal
+use Rattle.cap_vet.proofs.walk.turn.add.Goals as goal
 
 first_place : (o : Option (ℕ × ℕ)) (s w : ℕ) (none : Bool) → is_some o ≡ not none → none ≡ true → Some (s, w) ≡ or_place o s w
 first_place None s w none e f = refl
@@ -17,10 +18,10 @@ cap_added : (r : Report) (s w cost : ℕ) (place : Option (ℕ × ℕ)) → plac
     (added r s w (Cap cost))
 cap_added r s w cost place e = rw e refl
 
-object_added : (r : Report) (s w cost deepest depth : ℕ) (run : Option PointerRun) → depth ≡ max r.depth deepest
+object_added : (r : Report) (s w cost deepest depth : ℕ) (run : Option PointerRun) (place : Place) → depth ≡ max r.depth deepest
     → ◌≡◌ {A = Report} record { charge = r.charge + cost; depth = depth; pointers = r.pointers + 1; caps = r.caps; first_cap = r.first_cap }
-    (added r s w (Object cost deepest run))
-object_added r s w cost deepest depth run e = rw e refl
+    (added r s w (Object cost deepest run place))
+object_added r s w cost deepest depth run place e = rw e refl
 
 pub returns-in-Null-clause-report : goal.returns-in-Null-clause-report
 returns-in-Null-clause-report c = rw c.in-Null.is refl
@@ -39,5 +40,5 @@ returns-else-is_none-clause-report c =
 
 pub returns-then-report-deepest-clause-report : goal.returns-then-report-deepest-clause-report
 returns-then-report-deepest-clause-report c =
-    rw c.in-Object.is (object_added c.args.report.now c.args.s c.args.w c.in-Object.cost c.in-Object.deepest c.in-Object.deepest c.in-Object.below
+    rw c.in-Object.is (object_added c.args.report.now c.args.s c.args.w c.in-Object.cost c.in-Object.deepest c.in-Object.deepest c.in-Object.below c.in-Object.field-3
     (omega (arith, c.if-report-deepest.true)))

@@ -2,7 +2,7 @@ use Rattle.cap_spec.proofs.Frames.Messages.{HasWord-at}
 use Rattle.cap_spec.proofs.ProofNames.{IfSome, None, Option, Some, arith, rules, ◌≡◌, kind, two}
 use Rattle.cap_ptr.proofs.Pads.{stands-one_pad}
 use Rattle.cap_vet.proofs.Laxness.{object_form}
-use Rattle.cap_vet.proofs.walk.look_described.look_described.Goals as goal
+use Rattle.cap_vet.proofs.walk.looking.look_described.Goals as goal
 
 some_mapped : {A B C : Type 0} (o : Option A) → IfSome o (λ _. B) → (B → C) → IfSome o (λ _. C)
 some_mapped None b f = tt
