@@ -1,14 +1,12 @@
 -- What is known of a message at which a stream breaks off.
-use Rattle.cap_spec.proofs.ProofNames.{Bool, Err, IfSome, List, None, OnSome, Option, Some, false, refl, true, ℕ, ◌≡◌, ◌⊎◌}
+use Rattle.cap_spec.proofs.ProofNames.{Bool, Err, IfSome, List, OnSome, Option, false, true, ℕ, ◌≡◌, ◌⊎◌, rules}
 use Rattle.cap_frame.specs.FrameNames.{Faults}
 use Rattle.cap_frame.specs.Taking.{IsOver}
 use Rattle.cap_frame.specs.declared.fault.FrameFault.{FrameFault}
-use Rattle.cap_frame.specs.declared.fault.FrameFault.TheVariants.{Device, Memory, Spent, TooLarge, TooManySegments}
 use Rattle.cap_frame.specs.declared.fault.FrameFault.TheVariants.{Truncated}
-use Rattle.cap_text.specs.declared.fault.Cause.TheVariants.{Output, Refused, Memory as no_marks}
 use Rattle.cap_text.specs.declared.fault.StreamBreak.{StreamBreak}
 use Rattle.cap_run.specs.Breaking.{BreaksBy, EndsCut}
-use Rattle.cap_run.specs.RunNames.{Cause, Canon, Frame, NotStrict, TooManyMessages, WritesOneOf, Counted}
+use Rattle.cap_run.specs.RunNames.{Cause, WritesOneOf, Counted}
 use Rattle.cap_words.specs.declared.ends.ByteOut as output
 use Rattle.cap_words.specs.declared.sources.WordSource as source
 
@@ -16,40 +14,21 @@ module _ {S : Type 0} (g : source.Ghosts S) where
   -- a source that ended inside a message gives no more words
   pub over_after : (limit : ℕ) (old new : S) (fault : FrameFault) → Faults g limit old new fault → (byte : ℕ) → fault ≡ Truncated byte
       → (g.ended new ≡ true) ⊎ (g.failed new ≡ true)
-  over_after limit old new (TooManySegments count) f byte e = absurd (cc)
-  over_after limit old new (TooLarge words) f byte e = absurd (cc)
-  over_after limit old new (Truncated at) f byte e = f.over
-  over_after limit old new Device f byte e = absurd (cc)
-  over_after limit old new Memory f byte e = absurd (cc)
-  over_after limit old new Spent f byte e = absurd (cc)
+  over_after limit old new x4 f byte e = search rules
 
   cut_of : (o : Option (List ℕ)) (cut told : Bool) (new : S) → OnSome o (IsOver g cut new) → (g.ended new ≡ true → told ≡ false)
       → (g.failed new ≡ true → told ≡ true) → IfSome o (λ ws. told ≡ cut)
-  cut_of None cut told new h e f = tt
-  cut_of (Some ws) true told new h e f = f h
-  cut_of (Some ws) false told new h e f = e h
+  cut_of x1 x2 told new h e f = search rules
 
   -- its next answer says whether it ended inside a word
   pub cut_after : (limit : ℕ) (old new : S) (fault : FrameFault) (told : Bool) → Faults g limit old new fault
       → ((byte : ℕ) → fault ≡ Truncated byte → g.ended new ≡ true → told ≡ false)
       → ((byte : ℕ) → fault ≡ Truncated byte → g.failed new ≡ true → told ≡ true)
       → (((byte : ℕ) → fault ≡ Truncated byte → ⊥) → told ≡ false) → EndsCut fault (g.words old) (g.is_cut old) told
-  cut_after limit old new (TooManySegments count) told f ended failed other = other (λ byte e. cc)
-  cut_after limit old new (TooLarge words) told f ended failed other = other (λ byte e. cc)
-  cut_after limit old new (Truncated at) told f ended failed other =
-      cut_of (g.words old) (g.is_cut old) told new f.how (ended at refl) (failed at refl)
-  cut_after limit old new Device told f ended failed other = other (λ byte e. cc)
-  cut_after limit old new Memory told f ended failed other = other (λ byte e. cc)
-  cut_after limit old new Spent told f ended failed other = other (λ byte e. cc)
+  cut_after limit old new x4 told f ended failed other = search (rules, cut_of)
 
 module _ {S O : Type 0} (gs : source.Ghosts S) (go : output.Ghosts O) where
   -- a message that was read has none of it
   pub read_breaks : (texts : List ℕ → Counted → Type 0) (wants : Type 0) (before after : O) (packed : Bool) (limit : ℕ) (old : S)
       (cause : Cause) (at : StreamBreak) → WritesOneOf go texts wants before after (Err cause) → BreaksBy gs packed limit old cause at
-  read_breaks texts wants before after packed limit old TooManyMessages at w = absurd w
-  read_breaks texts wants before after packed limit old (Frame fault) at w = absurd w
-  read_breaks texts wants before after packed limit old (Output fault) at w = tt
-  read_breaks texts wants before after packed limit old (Refused refusal) at w = tt
-  read_breaks texts wants before after packed limit old (NotStrict fault) at w = tt
-  read_breaks texts wants before after packed limit old (Canon fault) at w = tt
-  read_breaks texts wants before after packed limit old no_marks at w = tt
+  read_breaks texts wants before after packed limit old x8 at w = search rules

@@ -123,12 +123,15 @@ module _ {S K : Type 0} (gs : source.Ghosts S) (gk : sink.Ghosts K) (demands : D
       )
   canon_settled (Err fault) own ds end f w c s l a few = canon_behind f.1 f.0 ds own fault.cause _ w c s l a few f.4 f.6
 
+module _ {S K : Type 0} {gs : source.Ghosts S} {gk : sink.Ghosts K} {demands : Demands} {words depth limit most : ℕ}
+    {old new : S} {before after : K} where
   -- how the run ended says all that is promised of its answer
-  pub makes_ok : (n : ℕ) → Made gs gk demands words depth limit most old new before after n (Ok tt)
+  pub makes_ok : {n : ℕ} → Made gs gk demands words depth limit most old new before after n (Ok tt)
       → MakesCopiesUnder gs gk demands words depth limit most old new before after
       (Ok (record { messages = n; refused = 0; noncanonical = 0 }))
-  makes_ok n w =
-      let ok : SaysCopies (Ok (record { messages = n; refused = 0; noncanonical = 0 })) = (
+  makes_ok {n} w =
+      let outcome : Outcome = record { messages = n; refused = 0; noncanonical = 0 } in
+      let ok : SaysCopies gs gk demands words depth limit most old new before after (Ok outcome) = (
         w.cs,
         reads_all gs limit old w.mid new (canonised w.cs) w.reads w.ends.0,
         w.each,
@@ -139,13 +142,20 @@ module _ {S K : Type 0} (gs : source.Ghosts S) (gk : sink.Ghosts K) (demands : D
       record {
         ok = ok;
         err = tt;
-        whole = λ own ds wd c s l a few. canon_settled
-            (Ok (record { messages = n; refused = 0; noncanonical = 0 })) own ds ok tt wd c s l a few;
+        whole = λ own ds wd c s l a few.
+            canon_settled gs gk demands words depth limit most old new before after (Ok outcome) own ds ok tt wd c s l a few;
       }
 
-  pub makes_err : (n : ℕ) (cause : Cause) → Made gs gk demands words depth limit most old new before after n (Err cause)
+  pub makes_err : {n : ℕ} {cause : Cause} → Made gs gk demands words depth limit most old new before after n (Err cause)
       → MakesCopiesUnder gs gk demands words depth limit most old new before after
       (Err (record { message = n; cause = cause }))
-  makes_err n cause w =
-      let err : SaysNoCopies (Err (record { message = n; cause = cause })) = (w.cs, w.mid, sym w.many, omega (arith, w.many, w.few), w.reads, w.each, w.ends) in
-      record { ok = tt; err = err; whole = λ own ds wd c s l a few. canon_settled (Err (record { message = n; cause = cause })) own ds tt err wd c s l a few }
+  makes_err {n} {cause} w =
+      let fault : RunFault = record { message = n; cause = cause } in
+      let err : SaysNoCopies gs gk demands words depth limit most old new before after (Err fault) =
+      (w.cs, w.mid, sym w.many, omega (arith, w.many, w.few), w.reads, w.each, w.ends) in
+      record {
+        ok = tt;
+        err = err;
+        whole = λ own ds wd c s l a few.
+            canon_settled gs gk demands words depth limit most old new before after (Err fault) own ds tt err wd c s l a few;
+      }

@@ -4,7 +4,7 @@ use Rattle.cap_spec.specs.declared.Refusal.{Refusal}
 use Rattle.cap_spec.specs.declared.StrictRefusal.{StrictRefusal}
 use Rattle.cap_spec.specs.declared.StrictRefusal.TheVariants.{Refused}
 use Rattle.cap_spec.proofs.ProofNames.{List, Option, Some, ap, codes, inr, subst, ℕ, ◌++◌, ◌∙◌, ◌≡◌, IsWithin}
-use Rattle.cap_spec.proofs.ProofNames.{IsFirstOverlap, refused, vet_text}
+use Rattle.cap_spec.proofs.ProofNames.{IsFirstOverlap, refused, vet_text, rules}
 use Rattle.cap_vet.specs.VetNames.{IsDemandFault, words_under, depth_of, words_of}
 use Rattle.cap_vet.specs.declared.demands.Demands.{Demands}
 use Rattle.cap_vet.specs.declared.limits.Limits.{Limits}
@@ -18,20 +18,14 @@ use Rattle.cap_trace.specs.declared.earlier.EarlierPointer.{EarlierPointer}
 use Rattle.cap_trace.proofs.Named.{one_path}
 use Rattle.cap_run.specs.Explained.{IsOverlapText, earlier_lines, fault_numbers}
 use Rattle.cap_vet.specs.Reports.{IsAccepted}
-use Rattle.cap_vet.specs.declared.report.Report.{Report}
+use Rattle.cap_vet.specs.declared.walk.vetting.Report.{Report}
 
 -- the text of an overlap, by the paths that were found
 pub overlap_text : (m : List (List ℕ)) (n : ℕ) (start : Option MessageStart) {s w pointers : ℕ} (f : IsFirstOverlap m s w pointers)
     (path found : Option (List Step)) (earlier : Option EarlierPointer) → path ≡ Some f.path
     → FindsEarlier m f.path earlier found → IsOverlapText m n start f
     ((vet_text n (refused (codes "Overlap") s w pointers) ++ overlap_explanation path m start s w) ++ earlier_lines found earlier)
-overlap_text m n start {s} {w} {pointers} f path found earlier e (h, k) =
-    let line = vet_text n (refused (codes "Overlap") s w pointers) in (
-      earlier,
-      h,
-      ap (λ p. (line ++ overlap_explanation p m start s w) ++ earlier_lines found earlier) e
-          ∙ ap (λ p. (line ++ overlap_explanation (Some f.path) m start s w) ++ earlier_lines p earlier) k,
-    )
+overlap_text m n start f path found earlier e h = search rules
 
 -- an accepted message is within the limits
 pub accepted_within : (m : List (List ℕ)) (words depth : ℕ) (report : Report) → IsAccepted m words depth report

@@ -1,5 +1,5 @@
 -- How a filter ended that refused no message.
-use Rattle.std.proofs.Common.{Bool, List, [], ap, arith, inl, inr, refl, subst, ℕ, ◌++◌, ◌∙◌, ◌∷◌, ◌≡◌}
+use Rattle.std.proofs.Common.{Bool, List, [], ap, arith, refl, ℕ, ◌++◌, ◌∙◌, ◌∷◌, ◌≡◌, rules}
 use Rattle.cap_run.specs.RunNames.{ReadsUntil, ReadsToEnd, Told, messages_of, one_refused, refused_in, Counted}
 use Rattle.cap_run.specs.declared.engines.stream.Counted.TheVariants.{Refused}
 use Rattle.cap_words.specs.declared.sources.WordSource as source
@@ -16,6 +16,4 @@ last_counts (a ∷ front) t same e = last_counts front t same (grind (arith, e))
 -- with no message refused, the stream was read to its end
 pub reads_whole : {S : Type 0} (gs : source.Ghosts S) (limit : ℕ) (old new : S) (stop : Bool) (ts : List Told)
     → refused_in ts ≡ 0 → ReadsUntil gs stop limit old new ts → ReadsToEnd gs limit old new (messages_of ts)
-reads_whole gs limit old new stop ts e (inl k) = k.0
-reads_whole gs limit old new stop ts e (inr k) =
-    absurd (last_counts k.1.front k.1.last k.1.refused (subst (λ (x : List Told). refused_in x ≡ 0) k.1.whole e))
+reads_whole gs limit old new stop ts e h = search (rules, last_counts)

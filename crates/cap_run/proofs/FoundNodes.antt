@@ -1,7 +1,7 @@
 -- What is told of the node at a path of an accepted message.
 use Rattle.std.proofs.Common.{IfNone}
-use Rattle.cap_spec.proofs.ProofNames.{IfSome, List, MatchOption, None, Option, Some, subst, sym, ℕ, ◌≡◌, DenotesAt}
-use Rattle.cap_spec.proofs.ProofNames.{get_text, Tree}
+use Rattle.cap_spec.proofs.ProofNames.{IfSome, List, MatchOption, None, Option, Some, ℕ, ◌≡◌, DenotesAt, get_text}
+use Rattle.cap_spec.proofs.ProofNames.{Tree, rules}
 use Rattle.cap_vet.specs.Views.{node_message, node_spot}
 use Rattle.cap_vet.specs.declared.nodes.node.Node.{Node}
 use Rattle.cap_frame.specs.declared.segments.Segments as segments
@@ -12,6 +12,4 @@ module _ {M : Type 0} (g : segments.Ghosts M) where
       → IfSome node (λ n. (t : Tree) → DenotesAt (g.segments (node_message n)) (node_spot n) t → P (get_text k (Some t))) → IfNone node (P (get_text k None))
       → IfSome node (λ n. node_message n ≡ w) → MatchOption node (o ≡ None) (λ n. (u : Tree) × (o ≡ Some u) × DenotesAt (g.segments w) (node_spot n) u)
       → P (get_text k o)
-  node_told P k o w None found none message at = subst (λ x. P (get_text k x)) (sym at) none
-  node_told P k o w (Some n) found none message at =
-      subst (λ x. P (get_text k x)) (sym at.1) (found at.0 (subst (λ v. DenotesAt (g.segments v) (node_spot n) at.0) (sym message) at.2))
+  node_told x1 k o w x5 found x7 x8 at = search rules

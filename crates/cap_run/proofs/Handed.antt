@@ -1,6 +1,6 @@
 -- Words that are read at once and handed to a sink.
-use Rattle.cap_spec.proofs.ProofNames.{List, OnSome, Some, [], ap, arith, false, inl, inr, length, length-append, refl}
-use Rattle.cap_spec.proofs.ProofNames.{take, true, ℕ, ◌++◌, ◌+◌, ◌∷◌, ◌≡◌, ◌≤◌, ◌⊎◌, Keeps, plain_text, plain_words}
+use Rattle.cap_spec.proofs.ProofNames.{List, OnSome, Some, [], arith, false, inl, length, length-append, refl, take}
+use Rattle.cap_spec.proofs.ProofNames.{true, ℕ, ◌++◌, ◌+◌, ◌∷◌, ◌≡◌, ◌≤◌, ◌⊎◌, Keeps, plain_text, plain_words, rules}
 use Rattle.cap_words.specs.Ends.{Fails, WasSpent}
 use Rattle.cap_words.specs.Sinks.{sink_fault_of}
 use Rattle.cap_words.specs.TakingMany.{TakesAll}
@@ -20,16 +20,7 @@ module _ {S : Type 0} (gs : source.Ghosts S) where
       → TakesAll (gs.words old) (gs.words new) (gs.is_cut old) (gs.is_cut new) (gs.place old) (gs.place new)
       (gs.places old) (gs.places new) (plain_words (take n room))
       → (n ≡ 0) ⊎ (gs.spent old ≡ false) → gs.spent new ≡ gs.spent old → gs.failures new ≡ gs.failures old → ReadsWords gs old new (plain_words (take n room))
-  gives_ready old new n room fits text t u s f = record {
-    takes = t;
-    usable = usable u;
-    spent = s;
-    failures = f;
-  }
-    where
-      usable : (n ≡ 0) ⊎ (gs.spent old ≡ false) → (plain_words (take n room) ≡ []) ⊎ (gs.spent old ≡ false)
-      usable (inl e) = inl (ap (λ (k : ℕ). plain_words (take k room)) e)
-      usable (inr w) = inr w
+  gives_ready old new n room fits text t u s f = search rules
 
   -- why there was no next word
   pub gives_no_next : (old new : S) (fault : SourceFault) → gs.failed new ≡ true
@@ -39,28 +30,17 @@ module _ {S : Type 0} (gs : source.Ghosts S) where
       → (fault ≡ Spent → WasSpent (gs.spent old) (gs.spent new) (gs.failures old) (gs.failures new)
       × (gs.place new ≡ gs.place old) × Keeps (gs.unread old) (gs.unread new))
       → GivesNone gs old new fault
-  gives_no_next old new (Truncated byte) failed cut at device spent =
-      let a = at byte refl in
-      record {
-        none = rw a.0 (cut byte refl);
-        place = a.0;
-        usable = a.1;
-        spent = a.2;
-        failed = failed;
-        none_failed = a.3;
-      }
-  gives_no_next old new Device failed cut at device spent = let d = device refl in record { fails = d.0; spent = d.1; failed = failed }
-  gives_no_next old new Spent failed cut at device spent = let w = spent refl in record { was_spent = w.0; failed = failed; place = w.1; unread = w.2 }
+  gives_no_next old new x3 failed cut at device spent = search rules
 
-module _ {S K : Type 0} (gs : source.Ghosts S) (gk : sink.Ghosts K) where
+module _ {S K : Type 0} {gs : source.Ghosts S} {gk : sink.Ghosts K} where
   -- nothing yet
-  pub copies_start : (s : S) (k : K) → Transcodes gs gk s s k k 0
-  copies_start s k = record { own = []; many = refl; gives = gives_none gs s; fills = fills_none gk k }
+  pub copies_start : {s : S} {k : K} → Transcodes gs gk s s k k 0
+  copies_start {s} {k} = record { own = []; many = refl; gives = gives_none gs s; fills = fills_none gk k }
 
   -- some words, and then others
-  pub copies_both : (old now new : S) (before between after : K) (n m : ℕ) → Transcodes gs gk old now before between n
+  pub copies_both : {old now new : S} {before between after : K} {n m : ℕ} → Transcodes gs gk old now before between n
       → Transcodes gs gk now new between after m → Transcodes gs gk old new before after (n + m)
-  copies_both old now new before between after n m c d = record {
+  copies_both {old} {now} {new} {before} {between} {after} c d = record {
     own = c.own ++ d.own;
     many = let a = c.many in let b = d.many in omega (arith, length-append c.own d.own);
     gives = gives_both gs old now new c.own d.own c.gives d.gives;
@@ -68,11 +48,11 @@ module _ {S K : Type 0} (gs : source.Ghosts S) (gk : sink.Ghosts K) where
   }
 
   -- the output failed behind words that were put
-  pub stops_midway : (at_once most n rest : ℕ) (old now new : S) (before between after : K) (out : OutFault)
+  pub stops_midway : {at_once most n rest : ℕ} {old now new : S} {before between after : K} {out : OutFault}
       → Transcodes gs gk old now before between n → HandsOver gs gk rest now new between after out → rest ≤ at_once
       → n + rest ≤ most
       → StopsMidway gs gk at_once most old new before after out
-  stops_midway at_once most n rest old now new before between after out c h once room = record {
+  stops_midway {old = old} {now = now} {new = new} {before = before} {between = between} {after = after} {out = out} c h once room = record {
     done = c.own;
     piece = h.piece;
     mid = new;

@@ -1,17 +1,14 @@
 -- A message of one segment, whose words are handed over in one piece.
 use Rattle.cap_spec.proofs.Bytes.Plain.{words_exact}
-use Rattle.cap_spec.proofs.ProofNames.{List, [], ap, append-nil, arith, false, length, sym, ℕ, ◌*◌, ◌++◌, ◌+◌, ◌-◌, ◌/◌}
-use Rattle.cap_spec.proofs.ProofNames.{◌^◌, ◌∙◌, ◌∷◌, ◌≡◌, frame_text, plain_words}
+use Rattle.cap_spec.proofs.ProofNames.{List, [], append-nil, false, length, sym, ℕ, ◌*◌, ◌++◌, ◌/◌, ◌^◌, ◌∙◌}
+use Rattle.cap_spec.proofs.ProofNames.{◌∷◌, ◌≡◌, frame_text, plain_words, rules}
 use Rattle.cap_words.specs.Sinks.{WasPut}
 use Rattle.cap_run.specs.Transcoding.{PutsWords}
 use Rattle.cap_words.specs.declared.sinks.WordSink as sink
 
 -- the table of one segment is one word
 pub frame_of_bytes : (bytes : List ℕ) (x : ℕ) → x ≡ length bytes / 8 * 2 ^ 32 → frame_text (plain_words bytes ∷ []) ≡ (x ∷ []) ++ plain_words bytes
-frame_of_bytes bytes x e =
-    let ws = plain_words bytes in
-    let same : 1 - 1 + 2 ^ 32 * length ws ≡ x = omega (arith, words_exact bytes, e) in
-    ap (λ n. n ∷ (ws ++ [])) same ∙ ap (λ l. x ∷ l) (append-nil ws)
+frame_of_bytes bytes x e = search (rules, words_exact, append-nil)
 
 module _ {K : Type 0} (gk : sink.Ghosts K) where
   -- words were put, and no fault came

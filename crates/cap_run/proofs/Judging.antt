@@ -1,5 +1,5 @@
 -- Texts that are written about a message that was read.
-use Rattle.std.proofs.Common.{Err, List, Ok, Result, [], subst, sym, ℕ, ◌∷◌, ◌≡◌}
+use Rattle.std.proofs.Common.{Err, List, Result, [], ℕ, ◌∷◌, ◌≡◌, rules}
 use Rattle.cap_text.specs.Writing.{Writes}
 use Rattle.cap_text.specs.declared.fault.Cause.TheVariants.{Output, Refused, Memory as no_marks}
 use Rattle.cap_run.specs.RunNames.{OutFault, Cause, Canon, Frame, NotStrict, TooManyMessages, StepStops, WritesOneOf}
@@ -14,23 +14,13 @@ module _ {O : Type 0} (g : output.Ghosts O) where
       (r : Result Counted Cause)
       → ((text : List ℕ) (counted : Counted) → texts text counted → others text counted) → (wants → needs)
       → WritesOneOf g texts wants old new r → WritesOneOf g others needs old new r
-  writes_as texts others wants needs old new (Ok counted) h k w = (w.0, h w.0 counted w.1, w.2)
-  writes_as texts others wants needs old new (Err TooManyMessages) h k w = absurd w
-  writes_as texts others wants needs old new (Err (Frame fault)) h k w = absurd w
-  writes_as texts others wants needs old new (Err (Output fault)) h k w = (w.0, w.1, h w.0 w.1 w.2, w.3)
-  writes_as texts others wants needs old new (Err (Refused refusal)) h k w = absurd w
-  writes_as texts others wants needs old new (Err (NotStrict fault)) h k w = absurd w
-  writes_as texts others wants needs old new (Err (Canon fault)) h k w = absurd w
-  writes_as texts others wants needs old new (Err no_marks) h k w = (k w.0, w.1)
+  writes_as texts others wants needs old new x7 h k w = search rules
 
   -- a text was written, or the output failed in it
   pub writes_text : (text : List ℕ) (counted : Counted) (texts : List ℕ → Counted → Type 0) (wants : Type 0) (old new : O)
       (written : Result (Unit {0}) OutFault) (r : Result Counted Cause) → texts text counted → Writes g old new written text
       → r ≡ counted_after written counted → WritesOneOf g texts wants old new r
-  writes_text text counted texts wants old new (Ok done) r h w e =
-      subst (WritesOneOf g texts wants old new) (sym e) (text, h, w)
-  writes_text text counted texts wants old new (Err fault) r h w e =
-      subst (WritesOneOf g texts wants old new) (sym e) (text, counted, h, w)
+  writes_text text counted texts wants old new x7 r h w e = search rules
 
 module _ {S O : Type 0} (gs : source.Ghosts S) (go : output.Ghosts O) (tells : Tells)
     (wants : List (List ℕ) → Type 0) (limit n : ℕ) where

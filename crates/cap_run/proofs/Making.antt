@@ -2,11 +2,10 @@
 use Rattle.std.proofs.lemmas.Grind.{flat_map-append}
 use Rattle.cap_spec.specs.declared.CanonFault.{CanonFault}
 use Rattle.cap_spec.specs.declared.CanonFault.TheVariants.{Memory}
-use Rattle.cap_spec.specs.declared.StrictRefusal.TheVariants.{Refused as bad}
 use Rattle.cap_spec.proofs.Bytes.Lists.{all_append}
-use Rattle.cap_spec.proofs.ProofNames.{Err, IfErr, List, Ok, OnOk, Result, [], ap, append-nil, append_assoc, arith, inr}
-use Rattle.cap_spec.proofs.ProofNames.{length, length-append, refl, subst, sym, true, ℕ, ◌++◌, ◌+◌, ◌<◌, ◌∙◌, ◌∷◌, ◌≡◌}
-use Rattle.cap_spec.proofs.ProofNames.{false≢true, map-append, frame_text}
+use Rattle.cap_spec.proofs.ProofNames.{Err, IfErr, List, OnOk, Result, [], ap, append-nil, append_assoc, arith, length}
+use Rattle.cap_spec.proofs.ProofNames.{length-append, refl, subst, sym, true, ℕ, ◌++◌, ◌+◌, ◌<◌, ◌∙◌, ◌∷◌, ◌≡◌}
+use Rattle.cap_spec.proofs.ProofNames.{false≢true, map-append, frame_text, rules}
 use Rattle.cap_words.specs.Sinks.{Begins, sink_fault_of}
 use Rattle.cap_words.proofs.Told.{begins_kept}
 use Rattle.cap_frame.specs.Putting.{Blames, Halts}
@@ -17,9 +16,9 @@ use Rattle.cap_canon.proofs.Copies.{cap_no_copy, same_fault}
 use Rattle.cap_text.specs.declared.fault.Cause.TheVariants.{Output, Refused, Memory as no_marks}
 use Rattle.cap_run.specs.Canons.{CanonEnds, HasNoCopy}
 use Rattle.cap_run.specs.Making.{CopiesSoFar, CopyStops, Making, NextStops, StopsMaking, is_unfinished, refused_cause}
-use Rattle.cap_run.specs.RunNames.{HasCapability, StrictRefusal, ManySegments, Pointer, OutFault, SinkFault, Demands}
-use Rattle.cap_run.specs.RunNames.{Cause, Canon, Frame, NotStrict, TooManyMessages, Canonised, IsCanonised, canonised}
-use Rattle.cap_run.specs.RunNames.{copies_of, Made, EndStops, EndsStream, ReadsStream, PutsWords}
+use Rattle.cap_run.specs.RunNames.{HasCapability, StrictRefusal, OutFault, SinkFault, Demands, Cause, Canon, Frame}
+use Rattle.cap_run.specs.RunNames.{NotStrict, TooManyMessages, Canonised, IsCanonised, canonised, copies_of, Made}
+use Rattle.cap_run.specs.RunNames.{EndStops, EndsStream, ReadsStream, PutsWords}
 use Rattle.cap_run.proofs.Streams.{reads_both, reads_none}
 use Rattle.cap_run.proofs.Transcoding.{fills_both, fills_none, spoils_last}
 use Rattle.cap_words.specs.declared.sinks.WordSink as sink
@@ -36,21 +35,13 @@ has_no_copy m old new fault (grown words h l e t n) = absurd (cc)
 module _ {K : Type 0} (gk : sink.Ghosts K) where
   -- a fault came behind other words
   pub halts_behind : (old mid new : K) (a b : List ℕ) (fault : SinkFault) → PutsWords gk old mid a → Halts gk mid new b fault → Halts gk old new (a ++ b) fault
-  halts_behind old mid new a b fault f h = record {
-    stopped = λ ws.
-        subst (λ (xs : List ℕ). Begins (gk.text old xs) (gk.taken new)) (sym (append_assoc a b ws))
-        (begins_kept (gk.text old (a ++ (b ++ ws))) (gk.text mid (b ++ ws)) (gk.taken new) (f.put (b ++ ws)) (h.stopped ws));
-    closed = h.closed;
-    blames = blames_later gk old mid new fault f.spent f.failures h.blames;
-  }
+  halts_behind old mid new a b fault f h = search (rules, append_assoc, begins_kept, blames_later)
 
 module _ {K : Type 0} (gk : sink.Ghosts K) (demands : Demands) (words depth : ℕ) where
   -- a message that doesn't meet the demands has no copy
   pub stops_refused : (m : List (List ℕ)) (k : K) (fault : StrictRefusal) → IsDemandFault demands m words depth fault
       → CopyStops gk demands words depth m k k (refused_cause fault)
-  stops_refused m k (bad refusal) f = (f, refl)
-  stops_refused m k ManySegments f = (f, refl)
-  stops_refused m k (Pointer what s w pointers) f = (f, refl)
+  stops_refused m k x3 f = search rules
 
 -- one message more
 pub canonised-snoc : (cs : List Canonised) (c : Canonised) → canonised (cs ++ c ∷ []) ≡ canonised cs ++ c.message ∷ []
@@ -59,36 +50,17 @@ canonised-snoc cs c = map-append (λ d. d.message) cs (c ∷ [])
 pub copies_of-snoc : (cs : List Canonised) (c : Canonised) → copies_of (cs ++ c ∷ []) ≡ copies_of cs ++ frame_text (c.copy ∷ [])
 copies_of-snoc cs c = flat_map-append (λ d. frame_text (d.copy ∷ [])) cs (c ∷ []) ∙ ap (λ l. copies_of cs ++ l) (append-nil (frame_text (c.copy ∷ [])))
 
-module _ {S K : Type 0} (gs : source.Ghosts S) (gk : sink.Ghosts K) (demands : Demands) (words depth limit : ℕ) where
+module _ {S K : Type 0} {gs : source.Ghosts S} (gk : sink.Ghosts K) (demands : Demands) (words depth : ℕ) {limit : ℕ} where
   -- a message was read, and its copy wasn't put
-  pub next_stops : (m : List (List ℕ)) (old new : S) (before after : K) (cause : Cause)
+  pub next_stops : {m : List (List ℕ)} {old new : S} (before after : K) (cause : Cause)
       → ReadsStream gs limit old new (m ∷ []) → CopyStops gk demands words depth m before after cause
       → NextStops gs gk demands words depth limit old new before after cause
-  next_stops m old new before after TooManyMessages r s = s
-  next_stops m old new before after (Frame fault) r s = absurd s
-  next_stops m old new before after (Output fault) r s = (m, r, s)
-  next_stops m old new before after (Refused refusal) r s = (m, r, s)
-  next_stops m old new before after (NotStrict fault) r s = (m, r, s)
-  next_stops m old new before after (Canon fault) r s = (m, r, s)
-  next_stops m old new before after no_marks r s = s
+  next_stops before after x6 r s = search rules
 
+module _ {S K : Type 0} (gs : source.Ghosts S) (gk : sink.Ghosts K) (demands : Demands) (words depth limit : ℕ) where
   -- nothing was put yet
   pub so_far_none : (s : S) (k : K) → CopiesSoFar gs gk demands words depth limit s s k k 0
   so_far_none s k = record { cs = []; many = refl; reads = reads_none gs limit s; each = tt; fills = fills_none gk k }
-
-  -- one copy more
-  pub so_far_more : (old mid new : S) (before between after : K) (n : ℕ) (c : Canonised)
-      → CopiesSoFar gs gk demands words depth limit old mid before between n
-      → ReadsStream gs limit mid new (c.message ∷ []) → IsCanonised demands words depth c
-      → PutsWords gk between after (frame_text (c.copy ∷ []))
-      → CopiesSoFar gs gk demands words depth limit old new before after (n + 1)
-  so_far_more old mid new before between after n c w reads is fills = record {
-    cs = w.cs ++ c ∷ [];
-    many = length-append w.cs (c ∷ []) ∙ ap (λ k. k + 1) w.many;
-    reads = rw (canonised-snoc w.cs c) (reads_both gs limit old mid new (canonised w.cs) (c.message ∷ []) w.reads reads);
-    each = all_append (IsCanonised demands words depth) w.cs (c ∷ []) w.each (is, tt);
-    fills = rw (copies_of-snoc w.cs c) (fills_both gk before between after (copies_of w.cs) (frame_text (c.copy ∷ [])) w.fills fills);
-  }
 
   -- the run ended at the next message
   stops_next : (most : ℕ) (old mid new : S) (before between after : K) (n : ℕ) (cause : Cause) → n < most
@@ -111,74 +83,50 @@ module _ {S K : Type 0} (gs : source.Ghosts S) (gk : sink.Ghosts K) (demands : D
       ((omega (arith, less, w.many), s.0, s.2.0, s.1, s.2.1, s.2.2, s.2.3), rw s.2.4 w.fills)
   stops_next most old mid new before between after n no_marks less w s = absurd s
 
-  pub making_stops : (most : ℕ) (old mid new : S) (before between after : K) (n : ℕ) (cause : Cause) → n < most
-      → CopiesSoFar gs gk demands words depth limit old mid before between n
-      → NextStops gs gk demands words depth limit mid new between after cause
-      → Making gs gk demands words depth limit most old new before after n (Err cause)
-  making_stops most old mid new before between after n cause less w s = record {
-    cs = w.cs;
-    mid = mid;
-    many = w.many;
-    few = omega (arith, less);
-    reads = w.reads;
-    each = w.each;
-    stops = stops_next most old mid new before between after n cause less w s;
-  }
-
   stops_end : (most : ℕ) (mid new : S) (before after : K) (cs : List Canonised) (end : Result (Unit {0}) Cause) → length cs ≡ most
       → PutsWords gk before after (copies_of cs) → OnOk end (EndsStream gs mid new) → IfErr end (λ cause. EndStops gs limit mid new cause)
       → StopsMaking gs gk demands words depth limit most cs mid new before after end
-  stops_end most mid new before after cs (Ok ended) many f ok err = (ok, f)
-  stops_end most mid new before after cs (Err TooManyMessages) many f ok err = ((many, err.0, err.1), f)
-  stops_end most mid new before after cs (Err (Frame fault)) many f ok err = (err, f)
-  stops_end most mid new before after cs (Err (Output fault)) many f ok err = absurd err
-  stops_end most mid new before after cs (Err (Refused refusal)) many f ok err = absurd err
-  stops_end most mid new before after cs (Err (NotStrict fault)) many f ok err = absurd err
-  stops_end most mid new before after cs (Err (Canon fault)) many f ok err = absurd err
-  stops_end most mid new before after cs (Err no_marks) many f ok err = absurd err
-
-  -- as many copies were put as are allowed
-  pub making_ends : (most : ℕ) (old mid new : S) (before after : K) (n : ℕ) (end : Result (Unit {0}) Cause) → n ≡ most
-      → CopiesSoFar gs gk demands words depth limit old mid before after n
-      → OnOk end (EndsStream gs mid new) → IfErr end (λ cause. EndStops gs limit mid new cause)
-      → Making gs gk demands words depth limit most old new before after most end
-  making_ends most old mid new before after n end e w ok err = record {
-    cs = w.cs;
-    mid = mid;
-    many = w.many ∙ e;
-    few = omega arith;
-    reads = w.reads;
-    each = w.each;
-    stops = stops_end most mid new before after w.cs end (w.many ∙ e) w.fills ok err;
-  }
+  stops_end most mid new before after cs x7 many f ok err = search rules
 
   -- what is known before the sink is finished
   ends_before : (most : ℕ) (cs : List Canonised) (mid new : S) (before after : K) (end : Result (Unit {0}) Cause) → is_unfinished end ≡ true
       → StopsMaking gs gk demands words depth limit most cs mid new before after end
       → CanonEnds gs gk demands words depth limit most cs mid new end × PutsWords gk before after (copies_of cs)
-  ends_before most cs mid new before after (Ok ended) e s = s
-  ends_before most cs mid new before after (Err TooManyMessages) e s = s
-  ends_before most cs mid new before after (Err (Frame fault)) e s = s
-  ends_before most cs mid new before after (Err (Output fault)) e s = absurd (false≢true e)
-  ends_before most cs mid new before after (Err (Refused refusal)) e s = s
-  ends_before most cs mid new before after (Err (NotStrict fault)) e s = s
-  ends_before most cs mid new before after (Err (Canon fault)) e s = s
-  ends_before most cs mid new before after (Err no_marks) e s = absurd s
+  ends_before most cs mid new before after x7 e s = search (rules, false≢true)
+
+module _ {S K : Type 0} {gs : source.Ghosts S} {gk : sink.Ghosts K} {demands : Demands} {words depth limit : ℕ} where
+  -- one copy more
+  pub so_far_more : {old mid new : S} {before between after : K} {n : ℕ} (c : Canonised)
+      → CopiesSoFar gs gk demands words depth limit old mid before between n
+      → ReadsStream gs limit mid new (c.message ∷ []) → IsCanonised demands words depth c
+      → PutsWords gk between after (frame_text (c.copy ∷ []))
+      → CopiesSoFar gs gk demands words depth limit old new before after (n + 1)
+  so_far_more {old} {mid} {new} {before} {between} {after} c w reads is fills = record {
+    cs = w.cs ++ c ∷ [];
+    many = length-append w.cs (c ∷ []) ∙ ap (λ k. k + 1) w.many;
+    reads = rw (canonised-snoc w.cs c) (reads_both gs limit old mid new (canonised w.cs) (c.message ∷ []) w.reads reads);
+    each = all_append (IsCanonised demands words depth) w.cs (c ∷ []) w.each (is, tt);
+    fills = rw (copies_of-snoc w.cs c) (fills_both gk before between after (copies_of w.cs) (frame_text (c.copy ∷ [])) w.fills fills);
+  }
+
+  -- the run ended at the next message, after this many copies
+  pub making_stops : {most : ℕ} {old mid new : S} {before between after : K} {n : ℕ} (cause : Cause) → n < most
+      → CopiesSoFar gs gk demands words depth limit old mid before between n
+      → NextStops gs gk demands words depth limit mid new between after cause
+      → Making gs gk demands words depth limit most old new before after n (Err cause)
+  making_stops cause less w s = search (rules, stops_next gs gk demands words depth limit)
+
+  -- as many copies were put as are allowed
+  pub making_ends : {most : ℕ} {old mid new : S} {before after : K} {n : ℕ} {end : Result (Unit {0}) Cause} → n ≡ most
+      → CopiesSoFar gs gk demands words depth limit old mid before after n
+      → OnOk end (EndsStream gs mid new) → IfErr end (λ cause. EndStops gs limit mid new cause)
+      → Making gs gk demands words depth limit most old new before after most end
+  making_ends e w ok err = search (rules, stops_end gs gk demands words depth limit)
 
   -- the output failed as it was finished
-  pub made_spoiled : (most : ℕ) (old new : S) (before between after : K) (n : ℕ) (end : Result (Unit {0}) Cause) (out : OutFault) → is_unfinished end ≡ true
+  pub made_spoiled : {most : ℕ} {old new : S} {before between after : K} {n : ℕ} (end : Result (Unit {0}) Cause) {out : OutFault} → is_unfinished end ≡ true
       → Making gs gk demands words depth limit most old new before between n end
       → (gk.closed after ≡ true) × Begins (gk.text between []) (gk.taken after)
       → Blames gk between after (sink_fault_of out)
       → Made gs gk demands words depth limit most old new before after n (Err (Output out))
-  made_spoiled most old new before between after n end out e w o b =
-      let s = ends_before most w.cs w.mid new before between end e w.stops in
-      record {
-        cs = w.cs;
-        mid = w.mid;
-        many = w.many;
-        few = w.few;
-        reads = w.reads;
-        each = w.each;
-        ends = inr (record { end = end; ends = s.0; spoils = spoils_last gk before between after (copies_of w.cs) out s.1 o b });
-      }
+  made_spoiled end e w o b = search (rules, ends_before gs gk demands words depth limit, spoils_last)

@@ -3,10 +3,10 @@ use Rattle.std.proofs.Common.{IsErrOf, OnErr}
 use Rattle.std.proofs.lemmas.Grind.{flat_map-append}
 use Rattle.cap_spec.proofs.Bytes.Plain.{length_plain}
 use Rattle.cap_spec.proofs.ProofNames.{Bool, List, Ok, OnOk, Result, [], ap, append-nil, append_assoc, arith, drop}
-use Rattle.cap_spec.proofs.ProofNames.{drop-cons, drop-drop, false, flat_map, if◌then◌else◌, length, refl, subst, suc, sym}
-use Rattle.cap_spec.proofs.ProofNames.{take, take_at, true, ℕ, ◌++◌, ◌+◌, ◌-◌, ◌<◌, ◌==◌, ◌∙◌, ◌∷◌, ◌≡◌, ◌≤◌, take_rest}
-use Rattle.cap_spec.proofs.ProofNames.{Appends, joined, paired, segment_of, table_of, pack_text, zero_bytes, plain_text}
-use Rattle.cap_spec.proofs.ProofNames.{plain_words, word_bytes}
+use Rattle.cap_spec.proofs.ProofNames.{drop-cons, drop-drop, flat_map, if◌then◌else◌, length, refl, subst, sym, take}
+use Rattle.cap_spec.proofs.ProofNames.{take_at, true, ℕ, ◌++◌, ◌+◌, ◌-◌, ◌<◌, ◌∙◌, ◌∷◌, ◌≡◌, ◌≤◌, take_rest}
+use Rattle.cap_spec.proofs.ProofNames.{Appends, joined, paired, segment_of, table_of, pack_text}
+use Rattle.cap_spec.proofs.ProofNames.{plain_text, plain_words, word_bytes, rules}
 use Rattle.cap_words.specs.Ends.{DeviceFails, GrowthFails, Works}
 use Rattle.cap_words.specs.declared.ends.OutFault.{OutFault}
 use Rattle.cap_words.specs.declared.ends.OutFault.TheVariants.{Device, Memory, Spent}
@@ -46,26 +46,16 @@ module _ {O : Type 0} (g : output.Ghosts O) where
   -- the next ones were written
   pub left_less : (old now new : O) (text all rest front less : List ℕ) → rest ≡ front ++ less → Left old now text all rest
       → ((t : List ℕ) → Wrote g old now t → Wrote g old new (t ++ front)) → Left old new text all less
-  left_less old now new text all rest front less e l w = record {
-    done = l.done ++ front;
-    whole = l.whole ∙ (ap (λ (t : List ℕ). l.done ++ t) e ∙ sym (append_assoc l.done front less));
-    wrote = subst (Wrote g old new) (append_assoc text l.done front) (w (text ++ l.done) l.wrote);
-  }
+  left_less old now new text all rest front less e l w = search (rules, append_assoc)
 
   -- none is left
   pub left_none : (old now : O) (text all rest : List ℕ) → rest ≡ [] → Left old now text all rest → Wrote g old now (text ++ all)
-  left_none old now text all rest e l =
-      subst (λ (t : List ℕ). Wrote g old now (text ++ t)) (sym (l.whole ∙ (ap (λ (t : List ℕ). l.done ++ t) e ∙ append-nil l.done))) l.wrote
+  left_none old now text all rest e l = search (rules, append-nil)
 
   -- the output failed in the next ones
   pub left_stops : (old now new : O) (text all rest front less : List ℕ) (fault : OutFault) → rest ≡ front ++ less → Left old now text all rest
       → ((t : List ℕ) → Wrote g old now t → Stopped g old new fault (t ++ front)) → Stopped g old new fault (text ++ all)
-  left_stops old now new text all rest front less fault e l s =
-      let whole : all ≡ l.done ++ (front ++ less) = l.whole ∙ ap (λ (t : List ℕ). l.done ++ t) e in
-      let same : ((text ++ l.done) ++ front) ++ less ≡ text ++ all =
-      append_assoc (text ++ l.done) front less
-      ∙ (append_assoc text l.done (front ++ less) ∙ ap (λ (t : List ℕ). text ++ t) (sym whole)) in
-      subst (Stopped g old new fault) same (stopped_more g old new fault ((text ++ l.done) ++ front) less (s (text ++ l.done) l.wrote))
+  left_stops old now new text all rest front less fault e l s = search (rules, append_assoc, stopped_more)
 
 -- the bytes of segments, from the next one on
 pub contents_from : (m : List (List ℕ)) (s : ℕ) → s < length m
@@ -75,9 +65,7 @@ contents_from m s h = ap plain_text (segments_from m s h) ∙ flat_map-append wo
 -- their packed texts
 pub texts_from : (m : List (List ℕ)) (s : ℕ) → s < length m
     → flat_map pack_text (drop s m) ≡ pack_text (segment_of m s) ++ flat_map pack_text (drop (s + 1) m)
-texts_from m s h =
-    let one : suc s ≡ s + 1 = omega arith in
-    ap (flat_map pack_text) (drop-cons m s [] h) ∙ ap (λ (j : ℕ). pack_text (segment_of m s) ++ flat_map pack_text (drop j m)) one
+texts_from m s h = search (rules, drop-cons)
 
 -- a table isn't empty
 table_first : (m : List (List ℕ)) → table_of m ≡ pair_at (numbers_of m) 0 ∷ paired (drop 2 (numbers_of m))
@@ -88,31 +76,23 @@ some_table m = omega (arith, length_plain (table_of m), ap length (table_first m
 
 -- nor is the packed text of a word
 some_if : (a b : Bool) (x y z : ℕ) (xs ys zs rest : List ℕ) → 0 < length ((if a then x ∷ xs else (if b then y ∷ ys else (z ∷ zs))) ++ rest)
-some_if true b x y z xs ys zs rest = omega arith
-some_if false true x y z xs ys zs rest = omega arith
-some_if false false x y z xs ys zs rest = omega arith
+some_if h k x y z xs ys zs rest = search rules
 
 some_packed : (w : ℕ) (ws : List ℕ) → 0 < length (pack_text (w ∷ ws))
-some_packed w ws = some_if (w == 0) (zero_bytes w == 0) _ _ _ _ _ _ _
+some_packed w ws = search (rules, some_if)
 
 pub some_packed_table : (m : List (List ℕ)) → 0 < length (pack_text (table_of m))
-some_packed_table m =
-    subst (λ (ws : List ℕ). 0 < length (pack_text ws)) (sym (table_first m)) (some_packed (pair_at (numbers_of m) 0) (paired (drop 2 (numbers_of m))))
+some_packed_table m = search (rules, table_first, some_packed)
 
 -- the text of a table that was packed into a buffer
 pub packed_written : (m : List (List ℕ)) (table text new : List ℕ) (n : ℕ) → plain_words table ≡ table_of m
     → n ≡ length (pack_text (plain_words table)) → n ≤ length text → (n ≤ length text → new ≡ pack_text (plain_words table) ++ drop n text)
     → take n new ≡ pack_text (table_of m)
-packed_written m table text new n e long few written =
-    ap (take n) (written few) ∙ (take_at (pack_text (plain_words table)) (drop n text) n (sym long) ∙ ap pack_text e)
+packed_written m table text new n e long few written = search (rules, take_at)
 
 -- the text of some words, and then that of the words after them
 pub part_from : (bs : List ℕ) (done taken : ℕ) (part : List ℕ)
     → (let rest = take (length bs - done) (drop done bs) in
     pack_text (plain_words rest) ≡ part ++ pack_text (plain_words (drop taken rest)))
     → pack_text (plain_words (drop done bs)) ≡ part ++ pack_text (plain_words (drop (done + taken) bs))
-part_from bs done taken part e =
-    let rest = take (length bs - done) (drop done bs) in
-    let same : rest ≡ drop done bs = take_rest bs done in
-    ap (λ (xs : List ℕ). pack_text (plain_words xs)) (sym same)
-    ∙ (e ∙ ap (λ (xs : List ℕ). part ++ pack_text (plain_words xs)) (ap (drop taken) same ∙ drop-drop taken done bs))
+part_from bs done taken part e = search (rules, take_rest, drop-drop)

@@ -1,6 +1,6 @@
 -- How far an engine has come that knows where each message begins.
-use Rattle.std.proofs.Common.{Err, List, Ok, Result, Some, [], ap, arith, false, length, length-append, refl, subst, sum, sym}
-use Rattle.std.proofs.Common.{ℕ, ◌*◌, ◌++◌, ◌+◌, ◌<◌, ◌^◌, ◌∙◌, ◌∷◌, ◌≡◌, ◌≤◌}
+use Rattle.std.proofs.Common.{Err, List, Ok, Result, Some, [], ap, arith, false, length, length-append, subst, sum}
+use Rattle.std.proofs.Common.{sym, ℕ, ◌*◌, ◌++◌, ◌+◌, ◌<◌, ◌^◌, ◌∙◌, ◌∷◌, ◌≡◌, ◌≤◌, rules}
 use Rattle.std.specs.List.{AllByRecursion}
 use Rattle.cap_spec.specs.Frames.{Stream, sizes_of}
 use Rattle.std.proofs.lemmas.List.{length-map}
@@ -9,12 +9,10 @@ use Rattle.cap_frame.specs.Reading.{TakesFrame}
 use Rattle.cap_frame.proofs.Converse.{same_some}
 use Rattle.cap_explain.specs.Leading.{frame_words}
 use Rattle.cap_text.specs.Writing.{Wrote}
-use Rattle.cap_text.specs.declared.fault.Cause.TheVariants.{Output, Refused, Memory as no_marks}
 use Rattle.cap_text.specs.declared.fault.RunFault.{RunFault}
 use Rattle.cap_run.specs.Placed.{PlacedEarly, PlacedTells, PlacedToEnd, TellsFrom, TellsPlaced, words_told}
-use Rattle.cap_run.specs.RunNames.{Cause, Canon, Frame, NotStrict, TooManyMessages, StepStops}
-use Rattle.cap_run.specs.RunNames.{Appended, RunStops, Settled, ReadsStream, Told, messages_of, outcome_of}
-use Rattle.cap_run.specs.RunNames.{one_noncanonical, one_refused, texts_of, Counted, Outcome}
+use Rattle.cap_run.specs.RunNames.{Cause, StepStops, Appended, RunStops, Settled, ReadsStream, Told, messages_of}
+use Rattle.cap_run.specs.RunNames.{outcome_of, one_noncanonical, one_refused, texts_of, Counted, Outcome}
 use Rattle.cap_run.proofs.Going.{appended_more, appended_none, stops_in}
 use Rattle.cap_run.proofs.Settling.{on_known, settled_behind}
 use Rattle.cap_run.proofs.Streams.{reads_both, reads_none}
@@ -46,10 +44,7 @@ from-snoc tells b n (u ∷ ts) t p q = (
 -- the frame of a message that was read is small
 pub frame_small : {S : Type 0} (g : source.Ghosts S) (limit : ℕ) (old new : S) (held : List (List ℕ))
     → (m : List (List ℕ)) × TakesFrame g limit old new m × (held ≡ m) → limit ≤ 2 ^ 28 → frame_words held ≤ 2 ^ 29
-frame_small g limit old new held (m, t, e) few =
-    let segments = t.frames.is_table.few in
-    let same : length (sizes_of m) ≡ length m = length-map m (λ (ws : List ℕ). length ws) in
-    subst (λ (m : List (List ℕ)). frame_words m ≤ 2 ^ 29) (sym e) (omega (arith, segments, same, t.within, few))
+frame_small g limit old new held h few = search (rules, length-map)
 
 module _ {S O : Type 0} (gs : source.Ghosts S) (go : output.Ghosts O) (tells : PlacedTells) (limit : ℕ) where
   -- So many messages were read and told of, of so many words.
@@ -63,22 +58,24 @@ module _ {S O : Type 0} (gs : source.Ghosts S) (go : output.Ghosts O) (tells : P
     pub each : TellsFrom tells 0 0 ts
     pub appended : Appended go before after (texts_of ts)
 
+  -- no more were refused than there were
+  pub from_refused : (old new : S) (before after : O) (outcome : Outcome) (number words : ℕ)
+      → GoingFrom old new before after outcome number words → outcome.refused ≤ outcome.messages
+  from_refused old new before after outcome number words w = rw w.counts (refused_in_le w.ts)
+
+  -- no more weren't canonical than there were
+  pub from_noncanonical : (old new : S) (before after : O) (outcome : Outcome) (number words : ℕ)
+      → GoingFrom old new before after outcome number words → outcome.noncanonical ≤ outcome.messages
+  from_noncanonical old new before after outcome number words w = rw w.counts (noncanonical_in_le w.ts)
+
+module _ {S O : Type 0} {gs : source.Ghosts S} {go : output.Ghosts O} {tells : PlacedTells} {limit : ℕ} where
   -- none yet
-  pub from_none : (s : S) (o : O) → GoingFrom s s o o (record { messages = 0; refused = 0; noncanonical = 0 }) 0 0
-  from_none s o = record {
-    ts = [];
-    many = refl;
-    long = refl;
-    few = omega arith;
-    counts = refl;
-    reads = reads_none gs limit s;
-    each = tt;
-    appended = appended_none go o;
-  }
+  pub from_none : {s : S} {o : O} → GoingFrom gs go tells limit s s o o (record { messages = 0; refused = 0; noncanonical = 0 }) 0 0
+  from_none = search (rules, reads_none, appended_none)
 
   -- one more
-  pub from_more : (old mid new : S) (before between after : O) (outcome next : Outcome) (number words more : ℕ) (t : Told)
-      (counted : Counted) → t.counted ≡ counted → GoingFrom old mid before between outcome number words
+  pub from_more : {old mid new : S} {before between after : O} {outcome next : Outcome} {number words more : ℕ} (t : Told)
+      (counted : Counted) → t.counted ≡ counted → GoingFrom gs go tells limit old mid before between outcome number words
       → tells words number t.message t.text t.counted → ReadsStream gs limit mid new (t.message ∷ []) → Wrote go between after t.text
       → more ≡ frame_words t.message → more ≤ 2 ^ 29
       → next ≡ record {
@@ -87,8 +84,8 @@ module _ {S O : Type 0} (gs : source.Ghosts S) (go : output.Ghosts O) (tells : P
         noncanonical =
             outcome.noncanonical + one_noncanonical counted;
       }
-      → GoingFrom old new before after next (number + 1) (words + more)
-  from_more old mid new before between after outcome next number words more t counted same w told reads wrote is few counts = record {
+      → GoingFrom gs go tells limit old new before after next (number + 1) (words + more)
+  from_more {old} {mid} {new} {before} {between} {after} {outcome} {next} {number} {words} t counted same w told reads wrote is few counts = record {
     ts = w.ts ++ t ∷ [];
     many = length-append w.ts (t ∷ []) ∙ ap (λ n. n + 1) w.many;
     long = omega (arith, w.long, is, words_told-snoc w.ts t);
@@ -108,37 +105,13 @@ module _ {S O : Type 0} (gs : source.Ghosts S) (go : output.Ghosts O) (tells : P
     appended = rw (texts_of-snoc w.ts t) (appended_more go before between after (texts_of w.ts) t.text w.appended wrote);
   }
 
-  -- no more were refused than there were
-  pub from_refused : (old new : S) (before after : O) (outcome : Outcome) (number words : ℕ)
-      → GoingFrom old new before after outcome number words → outcome.refused ≤ outcome.messages
-  from_refused old new before after outcome number words w = rw w.counts (refused_in_le w.ts)
-
-  -- no more weren't canonical than there were
-  pub from_noncanonical : (old new : S) (before after : O) (outcome : Outcome) (number words : ℕ)
-      → GoingFrom old new before after outcome number words → outcome.noncanonical ≤ outcome.messages
-  from_noncanonical old new before after outcome number words w = rw w.counts (noncanonical_in_le w.ts)
-
 module _ {S O : Type 0} (gs : source.Ghosts S) (go : output.Ghosts O) (tells : PlacedTells) (wants : List (List ℕ) → Type 0) (limit : ℕ) where
   -- it ended at the next message
   pub from_stops : (old mid new : S) (before between after : O) (outcome : Outcome) (number words most : ℕ) (cause : Cause)
       → (w : GoingFrom gs go tells limit old mid before between outcome number words) → number < most
       → StepStops gs go (tells words) wants limit number mid new between after cause
       → RunStops gs go (tells (words_told w.ts)) wants limit most w.ts mid new before after cause
-  from_stops old mid new before between after outcome number words most TooManyMessages w h q = absurd q
-  from_stops old mid new before between after outcome number words most (Frame fault) w h q = (rw q.1 w.appended, q.0)
-  from_stops old mid new before between after outcome number words most (Output fault) w h q = (
-    q.0,
-    omega (arith, w.many),
-    subst (λ k. tells k (length w.ts) q.0.message q.0.text q.0.counted) w.long
-        (subst (λ k. tells words k q.0.message q.0.text q.0.counted) (sym w.many) q.1),
-    q.2,
-    stops_in go before between after fault (texts_of w.ts) q.0.text w.appended q.3,
-  )
-  from_stops old mid new before between after outcome number words most (Refused refusal) w h q = absurd q
-  from_stops old mid new before between after outcome number words most (NotStrict fault) w h q = absurd q
-  from_stops old mid new before between after outcome number words most (Canon fault) w h q = absurd q
-  from_stops old mid new before between after outcome number words most no_marks w h q =
-      (omega (arith, w.many), rw q.3 w.appended, (q.0, q.1, q.2))
+  from_stops old mid new before between after outcome number words most x11 w h q = search (rules, stops_in)
 
 module _ {S O : Type 0} (gs : source.Ghosts S) (go : output.Ghosts O) (tells : PlacedTells) (limit most : ℕ) (old new : S) (before after : O) where
   -- known words decide what was written
@@ -164,20 +137,4 @@ module _ {S O : Type 0} (gs : source.Ghosts S) (go : output.Ghosts O) (tells : P
   -- allocations that are among others
   pub placed_wants : (wants needs : List (List ℕ) → Type 0) → ((m : List (List ℕ)) → wants m → needs m) → (r : Result Outcome RunFault)
       → TellsPlaced gs go tells wants limit most old new before after r → TellsPlaced gs go tells needs limit most old new before after r
-  placed_wants wants needs want r t = record { ok = t.ok; err = early r t.err; whole = t.whole }
-    where
-      stops : (ts : List Told) (mid : S) (cause : Cause)
-          → RunStops gs go (tells (words_told ts)) wants limit most ts mid new before after cause
-          → RunStops gs go (tells (words_told ts)) needs limit most ts mid new before after cause
-      stops ts mid TooManyMessages s = s
-      stops ts mid (Frame fault) s = s
-      stops ts mid (Output fault) s = s
-      stops ts mid (Refused refusal) s = s
-      stops ts mid (NotStrict fault) s = s
-      stops ts mid (Canon fault) s = s
-      stops ts mid no_marks s = (s.0, s.1, (s.2.0, s.2.1, want s.2.0 s.2.2))
-
-      early : (r : Result Outcome RunFault) → PlacedEarly gs go tells limit most old new before after wants r
-          → PlacedEarly gs go tells limit most old new before after needs r
-      early (Ok outcome) e = tt
-      early (Err fault) e = (e.0, e.1, e.2, e.3, e.4, e.5, stops e.0 e.1 fault.cause e.6)
+  placed_wants wants needs want r t = search rules

@@ -2,13 +2,11 @@
 use Rattle.cap_spec.specs.Endings.{none}
 use Rattle.cap_spec.proofs.Frames.Streams.{StreamNext, stream_front, stream_next}
 use Rattle.cap_spec.proofs.Lemmas.{all_back, one_stream}
-use Rattle.cap_spec.proofs.ProofNames.{Bool, Err, List, None, Ok, OnSome, Option, Result, Some, [], ap, arith, false, inl}
+use Rattle.cap_spec.proofs.ProofNames.{Bool, Err, List, Ok, OnSome, Option, Result, Some, [], ap, arith, false, inl}
 use Rattle.cap_spec.proofs.ProofNames.{inr, length, length-append, subst, sum, sym, ℕ, ◌++◌, ◌∙◌, ◌∷◌, ◌≡◌, ◌≤◌, ◌⊎◌}
-use Rattle.cap_spec.proofs.ProofNames.{Consumes, AllByRecursion, ⊤, BeginsMessage, message, Stream, sizes_of}
+use Rattle.cap_spec.proofs.ProofNames.{Consumes, AllByRecursion, ⊤, BeginsMessage, message, Stream, sizes_of, rules}
 use Rattle.cap_frame.specs.ReadingFaults.{Answered, Faults}
 use Rattle.cap_frame.specs.declared.fault.FrameFault.{FrameFault}
-use Rattle.cap_frame.specs.declared.fault.FrameFault.TheVariants.{Device, Memory, Spent, TooLarge, TooManySegments}
-use Rattle.cap_frame.specs.declared.fault.FrameFault.TheVariants.{Truncated}
 use Rattle.cap_frame.proofs.Converse.{known_still, same_some, tells_fault, settled as settled_by}
 use Rattle.cap_text.specs.declared.fault.Cause.TheVariants.{Output, Refused, Memory as no_marks}
 use Rattle.cap_run.specs.RunNames.{Cause, Canon, Frame, NotStrict, TooManyMessages, RunFault, ReachesEnd, StopsEarly}
@@ -20,17 +18,11 @@ use Rattle.cap_words.specs.declared.sources.WordSource as source
 
 -- a fault that can't have come says anything
 pub answered_absurd : (fault : FrameFault) (P Q : Type 0) → (Q → ⊥) → Answered {A = Bool} (Err fault) Q → Answered {A = Outcome} (Err fault) P
-answered_absurd (TooManySegments n) P Q h a = absurd (h a)
-answered_absurd (TooLarge n) P Q h a = absurd (h a)
-answered_absurd (Truncated n) P Q h a = absurd (h a)
-answered_absurd Device P Q h a = tt
-answered_absurd Memory P Q h a = tt
-answered_absurd Spent P Q h a = tt
+answered_absurd k e g h a = search rules
 
 -- what is said of a known value
 pub on_known : {A : Type 0} (o : Option A) (x : A) (P : Type 0) → o ≡ Some x → OnSome o P → P
-on_known None x P e h = absurd (cc)
-on_known (Some y) x P e h = h
+on_known k x g e h = search rules
 
 module _ {S : Type 0} (g : source.Ghosts S) (limit : ℕ) where
   -- where the words are a stream, no message within the limit is refused

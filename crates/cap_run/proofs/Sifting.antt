@@ -1,24 +1,23 @@
 -- How far the engine `run_filter` has come: the messages of a prefix of the stream were read and sifted.
 use Rattle.cap_spec.proofs.Lemmas.{all_append, one_stream}
 use Rattle.cap_spec.proofs.ProofNames.{Bool, Err, IsTrue, List, None, Ok, Result, Some, [], ap, append-nil}
-use Rattle.cap_spec.proofs.ProofNames.{append_assoc, arith, false, inl, inr, length, length-append, refl, subst, sum, sym}
-use Rattle.cap_spec.proofs.ProofNames.{true, ℕ, ◌++◌, ◌+◌, ◌<◌, ◌∙◌, ◌∷◌, ◌≡◌, ◌≢◌, ◌≤◌, ◌⊎◌, Appends-trans, false≢true}
-use Rattle.cap_spec.proofs.ProofNames.{AllByRecursion, Stream, sizes_of}
+use Rattle.cap_spec.proofs.ProofNames.{append_assoc, arith, false, inl, inr, length, length-append, refl, subst, sum}
+use Rattle.cap_spec.proofs.ProofNames.{sym, true, ℕ, ◌++◌, ◌+◌, ◌<◌, ◌∙◌, ◌∷◌, ◌≡◌, ◌≢◌, ◌≤◌, ◌⊎◌, Appends-trans}
+use Rattle.cap_spec.proofs.ProofNames.{false≢true, AllByRecursion, Stream, sizes_of, rules}
 use Rattle.cap_frame.proofs.Converse.{same_some}
 use Rattle.cap_vet.specs.VetNames.{words_under, depth_of, words_of, IsAccepted}
 use Rattle.cap_vet.specs.declared.limits.Limits.{Limits}
-use Rattle.cap_vet.specs.declared.report.Report.{Report}
+use Rattle.cap_vet.specs.declared.walk.vetting.Report.{Report}
 use Rattle.cap_text.specs.Lines.{accepted_text}
 use Rattle.cap_text.specs.Writing.{Stopped, Wrote}
 use Rattle.cap_text.specs.declared.fault.Cause.TheVariants.{Output, Refused, Memory as no_marks}
 use Rattle.cap_run.specs.Filtering.{AllAccepted, Covers, FiltersAll, FiltersUntil, LastAccepted, LastRefused, Logged}
 use Rattle.cap_run.specs.Filtering.{Noted, Notes, PassesLast, TellsMet, WantsMet, frame_in}
 use Rattle.cap_run.specs.RunNames.{OutFault, Demands, Cause, Canon, Frame, NotStrict, TooManyMessages, RunFault}
-use Rattle.cap_run.specs.RunNames.{IsStrictUnder, OrFaultIn, WantsIn, PassesOn, ReadsUntil, TellsIn}
-use Rattle.cap_run.specs.RunNames.{WantsInForm, Appended, RunStops, Settled, StopsIn, FindsObjection}
-use Rattle.cap_run.specs.RunNames.{SiftsNext, EndsStream, ReadsStream, Tells, TellsEach, Told}
-use Rattle.cap_run.specs.RunNames.{messages_of, one_noncanonical, one_refused, outcome_of, texts_of}
-use Rattle.cap_run.specs.RunNames.{Counted, Accepted, NotCanonical, Outcome}
+use Rattle.cap_run.specs.RunNames.{IsStrictUnder, OrFaultIn, WantsIn, PassesOn, ReadsUntil, TellsIn, WantsInForm}
+use Rattle.cap_run.specs.RunNames.{Appended, RunStops, Settled, StopsIn, FindsObjection, SiftsNext, EndsStream}
+use Rattle.cap_run.specs.RunNames.{ReadsStream, Tells, TellsEach, Told, messages_of, one_noncanonical, one_refused}
+use Rattle.cap_run.specs.RunNames.{outcome_of, texts_of, Counted, Accepted, Outcome}
 use Rattle.cap_run.specs.Sifting.{LogsMore, SiftStops, Sifts}
 use Rattle.cap_run.specs.declared.engines.stream.Counted.TheVariants.{Refused as was_refused}
 use Rattle.cap_run.specs.declared.settings.FilterForm.{FilterForm}
@@ -37,27 +36,16 @@ module _ {O : Type 0} (g : output.Ghosts O) where
 
   -- some texts, and then others
   pub appended_both : (a b c : O) (xs ys : List ℕ) → Appended g a b xs → Appended g b c ys → Appended g a c (xs ++ ys)
-  appended_both a b c xs ys p q = record {
-    appended = Appends-trans (g.written a) (g.written b) (g.written c) xs ys p.appended q.appended;
-    spent = q.spent ∙ p.spent;
-    failures = q.failures ∙ p.failures;
-  }
+  appended_both a b c xs ys p q = search (rules, Appends-trans)
 
   -- a fault in a text behind others is one in all of it
   stops_whole : (a b : O) (fault : OutFault) (xs ys : List ℕ) → StopsIn g a b fault xs ys → StopsIn g a b fault [] (xs ++ ys)
-  stops_whole a b fault xs ys s = record {
-    fails = s.fails;
-    part = xs ++ s.part;
-    rest = s.rest;
-    whole = ap (λ (t : List ℕ). xs ++ t) s.whole ∙ sym (append_assoc xs s.part s.rest);
-    appended = s.appended;
-  }
+  stops_whole a b fault xs ys s = search (rules, append_assoc)
 
   -- or the log failed in it
   pub logged_stops : (first old new : O) (text line : List ℕ) (failed : Bool) (fault : OutFault) → failed ≡ false
       → Logged g first old text failed → Stopped g old new fault line → Logged g first new (text ++ line) true
-  logged_stops first old new text line false fault e l s = (fault, stops_whole first new fault text line (stops_in g first old new fault text line l s))
-  logged_stops first old new text line true fault e l s = absurd (false≢true (sym e))
+  logged_stops first old new text line x6 fault e l s = search (rules, stops_whole, stops_in, false≢true)
 
 module _ (form : FilterForm) (demands : Demands) (limits : Limits) (m : List (List ℕ)) where
   -- one that meets them is accepted
@@ -73,15 +61,7 @@ module _ {O E : Type 0} (go : output.Ghosts O) (ge : output.Ghosts E) (pack : Bo
   -- nothing goes to the log of an accepted message
   pub sifts_passed : (before after : O) (log : E) (failed waits stays : Bool) → (said : List ℕ) × verdict n m said Accepted
       → Wrote go before after (frame_in pack m) → Sifts go ge pack verdict wants n m before after log log failed failed waits stays (Ok Accepted)
-  sifts_passed before after log failed waits stays (said, v) w = (
-    frame_in pack m,
-    [],
-    (said, v, refl),
-    (said, v, refl),
-    wrote_appended go before after (frame_in pack m) w,
-    λ first text l. subst (λ (t : List ℕ). Logged ge first log t failed) (sym (append-nil text)) l,
-    λ e. refl,
-  )
+  sifts_passed before after log failed waits stays x7 w = search (rules, wrote_appended, append-nil)
 
   -- the output failed in its frame
   pub sifts_stopped : (before after : O) (log : E) (failed waits stays : Bool) (fault : OutFault) → (said : List ℕ) × verdict n m said Accepted
@@ -107,20 +87,12 @@ module _ {S O E : Type 0} (gs : source.Ghosts S) (go : output.Ghosts O) (ge : ou
   pub sift_stopped : (cause : Cause)
       → SiftsNext gs go ge pack verdict wants limit n old new before after first last failed fails waits stays (Err cause)
       → SiftStops gs go ge pack verdict wants limit n old new before after first last failed fails waits stays cause
-  sift_stopped TooManyMessages q = absurd q.2
-  sift_stopped (Frame fault) q = absurd q.2
-  sift_stopped (Output fault) q = q
-  sift_stopped (Refused refusal) q = absurd q.2
-  sift_stopped (NotStrict fault) q = absurd q.2
-  sift_stopped (Canon fault) q = absurd q.2
-  sift_stopped no_marks q = q
+  sift_stopped x1 q = search rules
 
 -- what isn't refused is accepted
 pub passed_accepted : (pack : Bool) (verdict : Tells) (n : ℕ) (m : List (List ℕ)) (text : List ℕ) (counted : Counted)
     → PassesOn pack verdict n m text counted → counted ≢ was_refused → counted ≡ Accepted
-passed_accepted pack verdict n m text Accepted p h = refl
-passed_accepted pack verdict n m text was_refused p h = absurd (h refl)
-passed_accepted pack verdict n m text NotCanonical p h = absurd p.2
+passed_accepted pack verdict n m text k p h = search rules
 
 module _ {S O E : Type 0} (gs : source.Ghosts S) (go : output.Ghosts O) (ge : output.Ghosts E) (form : FilterForm) (verdict : Tells)
     (wants : List (List ℕ) → Type 0) (limit : ℕ) where
@@ -172,8 +144,7 @@ module _ {S O E : Type 0} (gs : source.Ghosts S) (go : output.Ghosts O) (ge : ou
   -- what the log has of them
   noted : (old new : S) (before after : O) (first last : E) (outcome : Outcome) (number : ℕ) (failed : Bool)
       (w : Sifting old new before after first last outcome number failed) → Noted ge verdict (messages_of w.ts) first last
-  noted old new before after first last outcome number failed w =
-      record { us = w.us; same = w.same; each = w.notes; failed = failed; logged = w.logged }
+  noted old new before after first last outcome number failed w = search rules
 
   -- this many messages were read and sifted, and if it stops at a refused one, all were accepted
   pub record Sieving (old new : S) (before after : O) (first last : E) (outcome : Outcome) (number : ℕ) (failed waits : Bool) : Type 0 where
@@ -181,124 +152,6 @@ module _ {S O E : Type 0} (gs : source.Ghosts S) (go : output.Ghosts O) (ge : ou
     pub accepted : IsTrue form.stop → AllAccepted sifting.ts
     -- only the frame of an accepted message waits
     pub waiting : IsTrue waits → LastAccepted sifting.ts
-
-  -- none yet
-  pub sieving_none : (s : S) (o : O) (e : E) (failed waits : Bool) → failed ≡ false → waits ≡ false
-      → Sieving s s o o e e (record { messages = 0; refused = 0; noncanonical = 0 }) 0 failed waits
-  sieving_none s o e failed waits not_failed none_wait = rw (not_failed, none_wait) record {
-    sifting = record {
-      ts = [];
-      us = [];
-      many = refl;
-      long = refl;
-      counts = refl;
-      reads = reads_none gs limit s;
-      each = tt;
-      appended = appended_none go o;
-      same = refl;
-      notes = tt;
-      logged = appended_none ge e;
-    };
-    accepted = λ e. tt;
-    waiting = λ e. absurd (false≢true e);
-  }
-
-  module _ (old mid new : S) (before between after : O) (first held last : E) (outcome : Outcome) (number : ℕ)
-      (failed waits : Bool) (s : Sieving old mid before between first held outcome number failed waits) where
-    -- no more were refused than there were
-    pub sieving_refused : outcome.refused ≤ outcome.messages
-    sieving_refused = rw s.sifting.counts (refused_in_le s.sifting.ts)
-
-    -- no more weren't canonical than there were
-    pub sieving_noncanonical : outcome.noncanonical ≤ outcome.messages
-    sieving_noncanonical = rw s.sifting.counts (noncanonical_in_le s.sifting.ts)
-
-    module _ (next : Outcome) (fails stays : Bool) (counted : Counted)
-        (q : SiftsNext gs go ge form.pack verdict wants limit number mid new between after held last failed fails waits stays (Ok counted))
-        (counts : next ≡ record {
-          messages = outcome.messages + 1;
-          refused = outcome.refused + one_refused counted;
-          noncanonical = outcome.noncanonical + one_noncanonical counted;
-        }) where
-      -- one more, after which it goes on
-      pub sieving_more : (IsTrue form.stop → counted ≢ was_refused) → Sieving old new before after first last next (number + 1) fails stays
-      sieving_more h =
-          let v = sifting_more old mid new before between after first held last outcome next number failed fails waits stays counted s.sifting q counts in
-          let is : IsTrue form.stop → counted ≡ Accepted =
-          λ e. passed_accepted form.pack verdict number q.0 q.2.0 counted q.2.2 (h e) in
-          record {
-            sifting = v.0;
-            accepted = λ e. subst AllAccepted (sym v.1.2)
-                (all_append (λ (t : Told). t.counted ≡ Accepted) s.sifting.ts (v.1.0 ∷ []) (s.accepted e) (v.1.1 ∙ is e, tt));
-            waiting = λ e. record { front = s.sifting.ts; last = v.1.0; whole = v.1.2; accepted = v.1.1 ∙ q.2.6 e };
-          }
-
-      -- or it ends after it
-      pub sieving_last : (most : ℕ) → number < most → IsTrue form.stop × (counted ≡ was_refused)
-          → FiltersAll gs go ge form verdict wants limit most old new before after first last (Ok next)
-      sieving_last most h (e, r) =
-          let v = sifting_more old mid new before between after first held last outcome next number failed fails waits stays counted s.sifting q counts in
-          let last_one : LastRefused v.0.ts =
-          record { front = s.sifting.ts; last = v.1.0; whole = v.1.2; accepted = s.accepted e; refused = v.1.1 ∙ r } in (
-            v.0.ts,
-            inr (e, last_one, v.0.reads),
-            v.0.each,
-            v.0.appended,
-            omega (arith, v.0.many),
-            v.0.counts,
-            noted old new before after first last next (number + 1) fails v.0,
-          )
-
-    -- the stream ended after them
-    pub sieving_done : (most : ℕ) → number ≤ most → EndsStream gs mid new
-        → FiltersAll gs go ge form verdict wants limit most old new before between first held (Ok outcome)
-    sieving_done most h e = (
-      s.sifting.ts,
-      inl (reads_all gs limit old mid new (messages_of s.sifting.ts) s.sifting.reads e, s.accepted),
-      s.sifting.each,
-      s.sifting.appended,
-      omega (arith, s.sifting.many),
-      s.sifting.counts,
-      noted old mid before between first held outcome number failed s.sifting,
-    )
-
-    -- it ended at the next message
-    pub sieving_stops : (fails stays : Bool) (most : ℕ) (cause : Cause) → number < most
-        → SiftStops gs go ge form.pack verdict wants limit number mid new between after held last failed fails waits stays cause
-        → FiltersUntil gs go ge form verdict wants limit most old new before after first last (Err (record { message = number; cause = cause }))
-    sieving_stops fails stays most cause h q =
-        let w = s.sifting in
-        let p = stops cause q in
-        (w.ts, mid, sym w.many, omega (arith, w.many), w.reads, w.each, s.accepted, p.0, p.1)
-      where
-        keeps : last ≡ held → Noted ge verdict (messages_of s.sifting.ts) first last
-        keeps e = subst (Noted ge verdict (messages_of s.sifting.ts) first) (sym e)
-            (noted old mid before between first held outcome number failed s.sifting)
-
-        late : (counted : Counted) → (counted ≡ Accepted) ⊎ IsTrue waits → (counted ≡ Accepted) ⊎ LastAccepted s.sifting.ts
-        late counted (inl a) = inl a
-        late counted (inr w) = inr (s.waiting w)
-
-        stops : (cause : Cause) → SiftStops gs go ge form.pack verdict wants limit number mid new between after held last failed fails waits stays cause
-            → RunStops gs go (PassesLast form.pack verdict s.sifting.ts) wants limit most s.sifting.ts mid new before after cause
-            × Noted ge verdict (messages_of s.sifting.ts) first last
-        stops TooManyMessages q = absurd q
-        stops (Frame fault) (f, o, e, b) = ((rw o s.sifting.appended, f), keeps e)
-        stops (Output fault) (m, reads, (text, counted, l, p, z, (e, b))) = (
-          (
-            record { message = m; text = text; counted = counted },
-            omega (arith, s.sifting.many),
-            (late counted l, subst (λ (k : ℕ). PassesOn form.pack verdict k m text counted) (sym s.sifting.many) p),
-            reads,
-            stops_in go before between after fault (texts_of s.sifting.ts) text s.sifting.appended z,
-          ),
-          keeps e,
-        )
-        stops (Refused refusal) q = absurd q
-        stops (NotStrict fault) q = absurd q
-        stops (Canon fault) q = absurd q
-        stops no_marks (m, reads, (want, o, (e, b))) =
-            ((omega (arith, s.sifting.many), rw o s.sifting.appended, (m, reads, want)), keeps e)
 
   -- the messages that were read begin a stream that is known
   covers : (old new : S) (own : List ℕ) (ms : List (List (List ℕ))) (ts : List Told) → gs.words old ≡ Some own → Stream own ms
@@ -328,3 +181,118 @@ module _ {S O E : Type 0} (gs : source.Ghosts S) (go : output.Ghosts O) (ge : ou
   )
   filter_settled most old new before after first last (Err fault) own ms end f w c s l few =
       settled_behind gs go (PassesLast form.pack verdict f.0) limit most old new before after wants f.1 f.0 own ms fault.cause _ w c s l few f.4 f.7
+
+module _ {S O E : Type 0} {gs : source.Ghosts S} {go : output.Ghosts O} {ge : output.Ghosts E} {form : FilterForm} {verdict : Tells}
+    {wants : List (List ℕ) → Type 0} {limit : ℕ} where
+  -- none yet
+  pub sieving_none : {s : S} {o : O} {e : E} {failed waits : Bool} → failed ≡ false → waits ≡ false
+      → Sieving gs go ge form verdict wants limit s s o o e e (record { messages = 0; refused = 0; noncanonical = 0 }) 0 failed waits
+  sieving_none {s} {o} {e} not_failed none_wait = rw (not_failed, none_wait) record {
+    sifting = record {
+      ts = [];
+      us = [];
+      many = refl;
+      long = refl;
+      counts = refl;
+      reads = reads_none gs limit s;
+      each = tt;
+      appended = appended_none go o;
+      same = refl;
+      notes = tt;
+      logged = appended_none ge e;
+    };
+    accepted = λ e. tt;
+    waiting = λ e. absurd (false≢true e);
+  }
+
+  module _ {old mid : S} {before between : O} {first held : E} {outcome : Outcome} {number : ℕ} {failed waits : Bool}
+      (s : Sieving gs go ge form verdict wants limit old mid before between first held outcome number failed waits) where
+    -- no more were refused than there were
+    pub sieving_refused : outcome.refused ≤ outcome.messages
+    sieving_refused = rw s.sifting.counts (refused_in_le s.sifting.ts)
+
+    -- no more weren't canonical than there were
+    pub sieving_noncanonical : outcome.noncanonical ≤ outcome.messages
+    sieving_noncanonical = rw s.sifting.counts (noncanonical_in_le s.sifting.ts)
+
+    module _ (new : S) (after : O) (last : E) (next : Outcome) (fails stays : Bool) (counted : Counted)
+        (q : SiftsNext gs go ge form.pack verdict wants limit number mid new between after held last failed fails waits stays (Ok counted))
+        (counts : next ≡ record {
+          messages = outcome.messages + 1;
+          refused = outcome.refused + one_refused counted;
+          noncanonical = outcome.noncanonical + one_noncanonical counted;
+        }) where
+      -- one more, after which it goes on
+      pub sieving_more : (IsTrue form.stop → counted ≢ was_refused)
+          → Sieving gs go ge form verdict wants limit old new before after first last next (number + 1) fails stays
+      sieving_more h =
+          let v = sifting_more gs go ge form verdict wants limit old mid new before between after first held last outcome next number
+          failed fails waits stays counted s.sifting q counts in
+          let is : IsTrue form.stop → counted ≡ Accepted =
+          λ e. passed_accepted form.pack verdict number q.0 q.2.0 counted q.2.2 (h e) in
+          record {
+            sifting = v.0;
+            accepted = λ e. subst AllAccepted (sym v.1.2)
+                (all_append (λ (t : Told). t.counted ≡ Accepted) s.sifting.ts (v.1.0 ∷ []) (s.accepted e) (v.1.1 ∙ is e, tt));
+            waiting = λ e. record { front = s.sifting.ts; last = v.1.0; whole = v.1.2; accepted = v.1.1 ∙ q.2.6 e };
+          }
+
+      -- or it ends after it
+      pub sieving_last : (most : ℕ) → number < most → IsTrue form.stop × (counted ≡ was_refused)
+          → FiltersAll gs go ge form verdict wants limit most old new before after first last (Ok next)
+      sieving_last most h (e, r) =
+          let v = sifting_more gs go ge form verdict wants limit old mid new before between after first held last outcome next number
+          failed fails waits stays counted s.sifting q counts in
+          let last_one : LastRefused v.0.ts =
+          record { front = s.sifting.ts; last = v.1.0; whole = v.1.2; accepted = s.accepted e; refused = v.1.1 ∙ r } in (
+            v.0.ts,
+            inr (e, last_one, v.0.reads),
+            v.0.each,
+            v.0.appended,
+            omega (arith, v.0.many),
+            v.0.counts,
+            noted gs go ge form verdict wants limit old new before after first last next (number + 1) fails v.0,
+          )
+
+    -- the stream ended after them
+    pub sieving_done : (new : S) (most : ℕ) → number ≤ most → EndsStream gs mid new
+        → FiltersAll gs go ge form verdict wants limit most old new before between first held (Ok outcome)
+    sieving_done new most h e = search (rules, reads_all, noted gs go ge form verdict wants limit)
+
+    -- it ended at the next message
+    pub sieving_stops : (new : S) (after : O) (last : E) (fails stays : Bool) (most : ℕ) (cause : Cause) → number < most
+        → SiftStops gs go ge form.pack verdict wants limit number mid new between after held last failed fails waits stays cause
+        → FiltersUntil gs go ge form verdict wants limit most old new before after first last (Err (record { message = number; cause = cause }))
+    sieving_stops new after last fails stays most cause h q =
+        let w = s.sifting in
+        let p = stops cause q in
+        (w.ts, mid, sym w.many, omega (arith, w.many), w.reads, w.each, s.accepted, p.0, p.1)
+      where
+        keeps : last ≡ held → Noted ge verdict (messages_of s.sifting.ts) first last
+        keeps e = subst (Noted ge verdict (messages_of s.sifting.ts) first) (sym e)
+            (noted gs go ge form verdict wants limit old mid before between first held outcome number failed s.sifting)
+
+        late : (counted : Counted) → (counted ≡ Accepted) ⊎ IsTrue waits → (counted ≡ Accepted) ⊎ LastAccepted s.sifting.ts
+        late counted (inl a) = inl a
+        late counted (inr w) = inr (s.waiting w)
+
+        stops : (cause : Cause) → SiftStops gs go ge form.pack verdict wants limit number mid new between after held last failed fails waits stays cause
+            → RunStops gs go (PassesLast form.pack verdict s.sifting.ts) wants limit most s.sifting.ts mid new before after cause
+            × Noted ge verdict (messages_of s.sifting.ts) first last
+        stops TooManyMessages q = absurd q
+        stops (Frame fault) (f, o, e, b) = ((rw o s.sifting.appended, f), keeps e)
+        stops (Output fault) (m, reads, (text, counted, l, p, z, (e, b))) = (
+          (
+            record { message = m; text = text; counted = counted },
+            omega (arith, s.sifting.many),
+            (late counted l, subst (λ (k : ℕ). PassesOn form.pack verdict k m text counted) (sym s.sifting.many) p),
+            reads,
+            stops_in go before between after fault (texts_of s.sifting.ts) text s.sifting.appended z,
+          ),
+          keeps e,
+        )
+        stops (Refused refusal) q = absurd q
+        stops (NotStrict fault) q = absurd q
+        stops (Canon fault) q = absurd q
+        stops no_marks (m, reads, (want, o, (e, b))) =
+            ((omega (arith, s.sifting.many), rw o s.sifting.appended, (m, reads, want)), keeps e)

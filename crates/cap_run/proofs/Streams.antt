@@ -1,8 +1,8 @@
 -- The messages of a stream, read one after the other.
 use Rattle.cap_spec.proofs.Bytes.Lists.{all_append}
 use Rattle.cap_spec.proofs.Frames.Streams.{stream_append, stream_none, stream_one}
-use Rattle.cap_spec.proofs.ProofNames.{Bool, List, None, OnSome, Option, Some, [], ap, append-nil, false, refl, subst, sum}
-use Rattle.cap_spec.proofs.ProofNames.{sym, ℕ, ◌++◌, ◌∙◌, ◌∷◌, ◌≡◌, ◌≤◌, Consumes, sizes_of}
+use Rattle.cap_spec.proofs.ProofNames.{Bool, List, OnSome, Option, Some, [], append-nil, false, refl, subst, sum, sym}
+use Rattle.cap_spec.proofs.ProofNames.{ℕ, ◌++◌, ◌∙◌, ◌∷◌, ◌≡◌, ◌≤◌, Consumes, sizes_of, rules}
 use Rattle.cap_words.specs.Ends.{Works}
 use Rattle.cap_frame.specs.Reading.{TakesFrame}
 use Rattle.cap_frame.proofs.Taking.{takes_both, takes_none}
@@ -15,11 +15,7 @@ some_is xs ys e = cc
 -- known words that were all taken
 pub all_taken : (a b : Option (List ℕ)) (own : List ℕ) (c d : Bool) (P Q : Type 0) → Consumes a b own → OnSome a ((d ≡ c) × P)
     → OnSome b ((b ≡ Some []) × (d ≡ false) × Q) → OnSome a ((a ≡ Some own) × (c ≡ false))
-all_taken None b own c d P Q t s e = tt
-all_taken (Some x) None own c d P Q t s e = absurd t
-all_taken (Some x) (Some y) own c d P Q t s e =
-    let nil : y ≡ [] = some_is y [] e.0 in
-    (ap Some (t ∙ ap (λ w. own ++ w) nil ∙ append-nil own), sym s.0 ∙ e.1)
+all_taken h k own c d g a t s e = search (rules, some_is, append-nil)
 
 module _ {S : Type 0} (g : source.Ghosts S) where
   -- nothing was read yet
@@ -30,14 +26,7 @@ module _ {S : Type 0} (g : source.Ghosts S) where
   pub reads_one : (limit : ℕ) (old new : S) (m : List (List ℕ)) → TakesFrame g limit old new m
       → Works (g.spent old) (g.spent new) (g.failures old) (g.failures new)
       → ReadsStream g limit old new (m ∷ [])
-  reads_one limit old new m t w = record {
-    own = t.own;
-    takes = t.takes;
-    stream = stream_one t.own m t.frames;
-    within = (t.within, tt);
-    spent = w.still ∙ sym w.usable;
-    failures = w.none_failed;
-  }
+  reads_one limit old new m t w = search (rules, stream_one)
 
   -- it is one that a call named
   pub reads_named : (limit : ℕ) (old new : S) (held : List (List ℕ)) → (m : List (List ℕ)) × TakesFrame g limit old new m × (held ≡ m)
@@ -59,11 +48,4 @@ module _ {S : Type 0} (g : source.Ghosts S) where
   -- the stream ended behind these messages
   pub reads_all : (limit : ℕ) (old mid new : S) (ms : List (List (List ℕ))) → ReadsStream g limit old mid ms
       → EndsStream g mid new → ReadsToEnd g limit old new ms
-  reads_all limit old mid new ms r e = record {
-    own = r.own;
-    all = all_taken (g.words old) (g.words mid) r.own (g.is_cut old) (g.is_cut mid) _ _ r.takes.consumed r.takes.goes_on e.none;
-    stream = r.stream;
-    within = r.within;
-    ended = e.ended;
-    works = record { usable = sym r.spent ∙ e.works.usable; still = e.works.still; none_failed = e.works.none_failed ∙ r.failures };
-  }
+  reads_all limit old mid new ms r e = search (rules, all_taken)

@@ -1,10 +1,9 @@
 -- What was told of messages, with one message more.
 use Rattle.std.proofs.lemmas.Grind.{flat_map-append}
-use Rattle.cap_spec.proofs.ProofNames.{List, [], ap, append-nil, arith, length, length-append, refl, subst, suc, sym, ℕ}
-use Rattle.cap_spec.proofs.ProofNames.{◌++◌, ◌+◌, ◌∙◌, ◌∷◌, ◌≡◌, ◌≤◌, map-append}
+use Rattle.cap_spec.proofs.ProofNames.{List, [], ap, append-nil, arith, length, length-append, refl, subst, suc, ℕ}
+use Rattle.cap_spec.proofs.ProofNames.{◌++◌, ◌+◌, ◌∙◌, ◌∷◌, ◌≡◌, ◌≤◌, map-append, rules}
 use Rattle.cap_run.specs.RunNames.{TellsEach, Told, messages_of, noncanonical_in, one_noncanonical, one_refused}
-use Rattle.cap_run.specs.RunNames.{outcome_of, refused_in, texts_of, Counted, Accepted, NotCanonical, Outcome}
-use Rattle.cap_run.specs.declared.engines.stream.Counted.TheVariants.{Refused}
+use Rattle.cap_run.specs.RunNames.{outcome_of, refused_in, texts_of, Counted, Outcome}
 
 pub messages_of-snoc : (ts : List Told) (t : Told) → messages_of (ts ++ t ∷ []) ≡ messages_of ts ++ t.message ∷ []
 messages_of-snoc ts t = map-append (λ u. u.message) ts (t ∷ [])
@@ -27,14 +26,10 @@ noncanonical_in-snoc (u ∷ ts) t = let e = noncanonical_in-snoc ts t in omega (
 
 -- a message counts at most once
 one_refused_le : (counted : Counted) → one_refused counted ≤ 1
-one_refused_le Accepted = omega arith
-one_refused_le Refused = omega arith
-one_refused_le NotCanonical = omega arith
+one_refused_le h = search rules
 
 one_noncanonical_le : (counted : Counted) → one_noncanonical counted ≤ 1
-one_noncanonical_le Accepted = omega arith
-one_noncanonical_le Refused = omega arith
-one_noncanonical_le NotCanonical = omega arith
+one_noncanonical_le h = search rules
 
 -- no more are refused than there are
 pub refused_in_le : (ts : List Told) → refused_in ts ≤ length ts
@@ -54,15 +49,7 @@ pub outcome_of-snoc : (ts : List Told) (t : Told) (o : Outcome) → o ≡ outcom
       noncanonical = o.noncanonical
           + one_noncanonical t.counted;
     } ≡ outcome_of (ts ++ t ∷ [])
-outcome_of-snoc ts t o e =
-    let m : o.messages ≡ length ts = ap (λ p. p.messages) e in
-    let r : o.refused ≡ refused_in ts = ap (λ p. p.refused) e in
-    let n : o.noncanonical ≡ noncanonical_in ts = ap (λ p. p.noncanonical) e in
-    let m1 : o.messages + 1 ≡ length (ts ++ t ∷ []) = omega (arith, length-append ts (t ∷ [])) in
-    let r1 : o.refused + one_refused t.counted ≡ refused_in (ts ++ t ∷ []) = ap (λ k. k + one_refused t.counted) r ∙ sym (refused_in-snoc ts t) in
-    let n1 : o.noncanonical + one_noncanonical t.counted ≡ noncanonical_in (ts ++ t ∷ []) = ap
-    (λ k. k + one_noncanonical t.counted) n ∙ sym (noncanonical_in-snoc ts t) in
-    cc
+outcome_of-snoc ts t o e = search (rules, length-append, refused_in-snoc, noncanonical_in-snoc)
 
 -- there are as many messages as were told of
 pub length-messages_of : (ts : List Told) → length (messages_of ts) ≡ length ts

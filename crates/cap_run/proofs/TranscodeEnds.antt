@@ -1,11 +1,12 @@
 -- What is known of the words of a source decides how a copy of them ends, faults of devices and of the output aside.
-use Rattle.cap_spec.proofs.ProofNames.{Err, List, Ok, Option, Result, Some, [], ap, append-nil, append_assoc, arith, drop}
-use Rattle.cap_spec.proofs.ProofNames.{drop-drop, false, length, length-append, refl, subst, suc, sym, take, true, ℕ, ◌++◌}
-use Rattle.cap_spec.proofs.ProofNames.{◌+◌, ◌<◌, ◌∙◌, ◌∷◌, ◌≡◌, ◌≤◌, take-append_seam, Consumes}
+use Rattle.cap_spec.proofs.ProofNames.{Err, List, Ok, Option, Result, Some, [], ap, append-nil, append_assoc, arith}
+use Rattle.cap_spec.proofs.ProofNames.{drop, drop-drop, false, length, length-append, refl, subst, suc, sym, take}
+use Rattle.cap_spec.proofs.ProofNames.{true, ℕ, ◌++◌, ◌+◌, ◌<◌, ◌∙◌, ◌∷◌, ◌≡◌, ◌≤◌, take-append_seam, Consumes, rules}
 use Rattle.cap_words.specs.declared.sources.SourceFault.TheVariants.{Device, Spent, Truncated}
 use Rattle.cap_frame.proofs.Converse.{known_still, same_some}
 use Rattle.cap_text.specs.declared.fault.CopyFault.TheVariants.{Output}
-use Rattle.cap_run.specs.RunNames.{CopyFault, Source, TooManyWords, TranscodesWords, Finishes, Transcoded, TranscodesAll}
+use Rattle.cap_run.specs.RunNames.{CopyFault, Source, TooManyWords, TranscodesWords, Finishes, Transcoded}
+use Rattle.cap_run.specs.RunNames.{TranscodesAll}
 use Rattle.cap_run.specs.Transcoding.{TranscodeSettled, TranscodesMost, TranscodesUntil}
 use Rattle.cap_run.proofs.Settling.{on_known}
 use Rattle.cap_words.specs.declared.sources.WordSource as source
@@ -15,20 +16,11 @@ module _ {S K : Type 0} (gs : source.Ghosts S) (gk : sink.Ghosts K) (at_once mos
   -- known words that were all put
   pub all_put : (put : List ℕ) → gs.words old ≡ Some own → (c : TranscodesAll gs gk most old new before after put)
       → (put ≡ own) × (gs.is_cut old ≡ false) × (length own ≤ most)
-  all_put put w c =
-      let all = on_known (gs.words old) own _ w c.all in
-      let same = same_some own put (sym w ∙ all.0) in
-      (sym same, all.1, omega (arith, c.few, ap length same))
+  all_put put w c = search (rules, on_known, same_some)
 
   -- where one word too many was read, there are more of them
   pub most_put : gs.words old ≡ Some own → (c : TranscodesMost gs gk most old new before after) → (most < length own) × (c.own ≡ take most own)
-  most_put w c =
-      let here = known_still own (c.own ++ c.word ∷ []) (gs.words new)
-      (subst (λ (o : Option (List ℕ)). Consumes o (gs.words new) (c.own ++ c.word ∷ [])) w c.gives.takes.consumed) in
-      let whole : own ≡ c.own ++ (c.word ∷ here.0) = here.2 ∙ append_assoc c.own (c.word ∷ []) here.0 in (
-        omega (arith, ap length whole, length-append c.own (c.word ∷ here.0), c.many),
-        sym (ap (take most) whole ∙ (ap (λ (n : ℕ). take n (c.own ++ (c.word ∷ here.0))) (sym c.many) ∙ take-append_seam c.own (c.word ∷ here.0))),
-      )
+  most_put w c = search (rules, known_still, append_assoc, length-append, take-append_seam)
 
   -- where the input ended inside a word, all of them were put
   pub cut_put : (byte : ℕ) → gs.words old ≡ Some own → (c : TranscodesUntil gs gk most old new before after (Truncated byte))
@@ -83,13 +75,8 @@ module _ {S K : Type 0} (gs : source.Ghosts S) (gk : sink.Ghosts K) (at_once mos
   copy_many (Err (Source Spent)) w l c = tt
   copy_many (Err (Output fault)) w l c = tt
 
-module _ {S K : Type 0} (gs : source.Ghosts S) (gk : sink.Ghosts K) where
+module _ {S K : Type 0} {gs : source.Ghosts S} {gk : sink.Ghosts K} where
   -- how a copy ends says what it answers where the words are known
-  pub copies_words : (at_once most : ℕ) (old new : S) (before after : K) (r : Result ℕ CopyFault)
+  pub copies_words : {at_once most : ℕ} {old new : S} {before after : K} {r : Result ℕ CopyFault}
       → Transcoded gs gk at_once most old new before after r → TranscodesWords gs gk at_once most old new before after r
-  copies_words at_once most old new before after r c = record {
-    copied = c;
-    whole = λ own w i l. copy_whole gs gk at_once most old new before after own r w i l c;
-    cut_short = λ own w i l. copy_cut gs gk at_once most old new before after own r w i l c;
-    many = λ own w l. copy_many gs gk at_once most old new before after own r w l c;
-  }
+  copies_words c = search (rules, copy_whole, copy_cut, copy_many)

@@ -1,8 +1,8 @@
 -- Words that are read and put one after the other.
 use Rattle.std.proofs.KnownBytes.{Keeps-refl}
-use Rattle.cap_spec.proofs.ProofNames.{Err, List, Ok, OnSome, Result, [], ap, append-nil, append_assoc, arith, false, inl}
-use Rattle.cap_spec.proofs.ProofNames.{inr, length-append, refl, subst, sym, true, ℕ, ◌++◌, ◌+◌, ◌<◌, ◌∙◌, ◌∷◌, ◌≡◌, ◌⊎◌}
-use Rattle.cap_spec.proofs.ProofNames.{Keeps-trans, false≢true, Consumes, Keeps}
+use Rattle.cap_spec.proofs.ProofNames.{Err, List, Ok, OnSome, Result, [], ap, append-nil, append_assoc, arith, false}
+use Rattle.cap_spec.proofs.ProofNames.{inl, inr, length-append, refl, sym, true, ℕ, ◌++◌, ◌+◌, ◌<◌, ◌∙◌, ◌∷◌, ◌≡◌, ◌⊎◌}
+use Rattle.cap_spec.proofs.ProofNames.{Keeps-trans, false≢true, Consumes, Keeps, rules}
 use Rattle.cap_words.specs.Ends.{DeviceFails, GrowthFails, WasSpent, Works}
 use Rattle.cap_words.specs.Sinks.{Begins, StoppedPutting, sink_fault_of}
 use Rattle.cap_words.specs.declared.sinks.SinkFault.TheVariants.{Device, Memory, Spent}
@@ -11,8 +11,8 @@ use Rattle.cap_frame.specs.Putting.{Blames, Halts}
 use Rattle.cap_frame.proofs.Putting.{blames_later}
 use Rattle.cap_frame.proofs.Taking.{takes_both, takes_none, takes_one}
 use Rattle.cap_text.specs.declared.fault.CopyFault.TheVariants.{Output}
-use Rattle.cap_run.specs.RunNames.{OutFault, SinkFault, CopyFault, Source, TooManyWords, Transcodes, Finishes, PutsWords}
-use Rattle.cap_run.specs.RunNames.{ReadsWords, StopsMidway, Transcoded}
+use Rattle.cap_run.specs.RunNames.{OutFault, SinkFault, CopyFault, Source, TooManyWords, Transcodes, Finishes}
+use Rattle.cap_run.specs.RunNames.{PutsWords, ReadsWords, StopsMidway, Transcoded}
 use Rattle.cap_run.specs.PuttingEnds.{StopsAt, StopsPutting, is_open}
 use Rattle.cap_run.specs.Transcoding.{Spoils, StopsFinishing}
 use Rattle.cap_run.proofs.Streams.{all_taken}
@@ -28,13 +28,7 @@ module _ {S : Type 0} (gs : source.Ghosts S) where
   pub gives_one : (old new : S) (word : ℕ) → Consumes (gs.words old) (gs.words new) (word ∷ [])
       → OnSome (gs.words old) ((gs.is_cut new ≡ gs.is_cut old) × (gs.places old ≡ gs.place new ∷ gs.places new))
       → Works (gs.spent old) (gs.spent new) (gs.failures old) (gs.failures new) → ReadsWords gs old new (word ∷ [])
-  gives_one old new word c f w = record {
-    takes = takes_one gs old new word c f;
-    usable = inr w.usable;
-    spent = w.still
-        ∙ sym w.usable;
-    failures = w.none_failed;
-  }
+  gives_one old new word c f w = search (rules, takes_one)
 
   -- some words, and then others
   pub gives_both : (old mid new : S) (a b : List ℕ) → ReadsWords gs old mid a → ReadsWords gs mid new b → ReadsWords gs old new (a ++ b)
@@ -57,33 +51,18 @@ module _ {K : Type 0} (gk : sink.Ghosts K) where
 
   -- some words, and then others
   pub fills_both : (old mid new : K) (a b : List ℕ) → PutsWords gk old mid a → PutsWords gk mid new b → PutsWords gk old new (a ++ b)
-  fills_both old mid new a b p q = record {
-    put = λ ws. subst (λ (xs : List ℕ). Keeps (gk.text old xs) (gk.text new ws)) (sym (append_assoc a b ws))
-        (Keeps-trans (gk.text old (a ++ (b ++ ws))) (gk.text mid (b ++ ws)) (gk.text new ws) (p.put (b ++ ws))
-        (q.put ws));
-    closed = q.closed ∙ p.closed;
-    spent = q.spent ∙ p.spent;
-    failures = q.failures ∙ p.failures;
-  }
+  fills_both old mid new a b p q = search (rules, append_assoc, Keeps-trans)
 
   -- a fault at the next word, behind others
   pub stopped_behind : (old mid new : K) (own : List ℕ) (word : ℕ) (fault : SinkFault) → PutsWords gk old mid own → Halts gk mid new (word ∷ []) fault
       → StoppedPutting gk.text gk.taken old new (own ++ word ∷ [])
-  stopped_behind old mid new own word fault f h = λ ws.
-      subst (λ (xs : List ℕ). Begins (gk.text old xs) (gk.taken new)) (sym (append_assoc own (word ∷ []) ws))
-      (begins_kept (gk.text old (own ++ (word ∷ ws))) (gk.text mid (word ∷ ws)) (gk.taken new) (f.put (word ∷ ws)) (h.stopped ws))
+  stopped_behind old mid new own word fault f h = search (rules, append_assoc, begins_kept)
 
 module _ {K : Type 0} (gk : sink.Ghosts K) where
   -- the sink was finished behind these words
   pub finishes_behind : (old mid new : K) (own : List ℕ) → PutsWords gk old mid own → Keeps (gk.text mid []) (gk.taken new)
       → (gk.closed mid ≡ false) × (gk.closed new ≡ true) × (gk.failures new ≡ gk.failures mid) → Finishes gk old new own
-  finishes_behind old mid new own f k o = record {
-    finished = subst (λ (xs : List ℕ). Keeps (gk.text old xs) (gk.taken new)) (append-nil own)
-        (Keeps-trans (gk.text old (own ++ [])) (gk.text mid []) (gk.taken new) (f.put []) k);
-    was_open = sym f.closed ∙ o.0;
-    closed = o.1;
-    failures = o.2 ∙ f.failures;
-  }
+  finishes_behind old mid new own f k o = search (rules, append-nil, Keeps-trans)
 
   -- what the answer of a call to the sink says of the output
   pub blames_of : (old new : K) (r : Result (Unit {0}) SinkFault) (fault : SinkFault) → r ≡ Err fault
@@ -91,46 +70,15 @@ module _ {K : Type 0} (gk : sink.Ghosts K) where
       → (r ≡ Err Memory → GrowthFails (gk.spent old) (gk.failures old) (gk.failures new))
       → (r ≡ Err Spent → WasSpent (gk.spent old) (gk.spent new) (gk.failures old) (gk.failures new) × Keeps (gk.taken old) (gk.taken new))
       → Blames gk old new fault
-  blames_of old new r Device e d m s = d e
-  blames_of old new r Memory e d m s = m e
-  blames_of old new r Spent e d m s = (s e).0
+  blames_of old new r x4 e d m s = search rules
 
   -- the output failed behind these words, as the sink was finished
   pub spoils_last : (old mid new : K) (own : List ℕ) (out : OutFault) → PutsWords gk old mid own
       → (gk.closed new ≡ true) × Begins (gk.text mid []) (gk.taken new)
       → Blames gk mid new (sink_fault_of out) → Spoils gk old new own out
-  spoils_last old mid new own out f e b = record {
-    blames = blames_later gk old mid new (sink_fault_of out) f.spent f.failures b;
-    closed = e.0;
-    part = subst (λ (xs : List ℕ). Begins (gk.text old xs) (gk.taken new)) (append-nil own)
-        (begins_kept (gk.text old (own ++ [])) (gk.text mid []) (gk.taken new) (f.put []) e.1);
-  }
+  spoils_last old mid new own out f e b = search (rules, blames_later, append-nil, begins_kept)
 
 module _ {S K : Type 0} (gs : source.Ghosts S) (gk : sink.Ghosts K) where
-  -- one more word was read and put
-  pub copies_more : (old now new : S) (before between after : K) (n word : ℕ) → Transcodes gs gk old now before between n → ReadsWords gs now new (word ∷ [])
-      → PutsWords gk between after (word ∷ []) → Transcodes gs gk old new before after (n + 1)
-  copies_more old now new before between after n word c g f = record {
-    own = c.own ++ word ∷ [];
-    many = length-append c.own (word ∷ []) ∙ ap (λ k. k + 1) c.many;
-    gives = gives_both gs old now new c.own (word ∷ []) c.gives g;
-    fills = fills_both gk before between after c.own (word ∷ []) c.fills f;
-  }
-
-  -- one more word was read, and couldn't be put
-  pub copies_stops : (most : ℕ) (old now new : S) (before between after : K) (n word : ℕ) (out : OutFault) → n < most
-      → Transcodes gs gk old now before between n
-      → ReadsWords gs now new (word ∷ []) → Halts gk between after (word ∷ []) (sink_fault_of out) → StopsAt gs gk most old new before after out
-  copies_stops most old now new before between after n word out less c g h = record {
-    done = c.own;
-    word = word;
-    between = between;
-    few = omega (arith, less, c.many);
-    gives = gives_both gs old now new c.own (word ∷ []) c.gives g;
-    fills = c.fills;
-    halts = h;
-  }
-
   -- the sink was finished behind the words that were put
   pub copied_finished : (at_once most : ℕ) (old new : S) (before between after : K) (r : Result ℕ CopyFault)
       → StopsPutting gs gk at_once most old new before between r
@@ -174,10 +122,7 @@ module _ {S K : Type 0} (gs : source.Ghosts S) (gk : sink.Ghosts K) where
   -- the output failed before the sink was finished
   pub copied_failed : (at_once most : ℕ) (old new : S) (before after : K) (r : Result ℕ CopyFault) → is_open r ≡ false
       → StopsPutting gs gk at_once most old new before after r → Transcoded gs gk at_once most old new before after r
-  copied_failed at_once most old new before after (Ok n) e s = absurd (false≢true (sym e))
-  copied_failed at_once most old new before after (Err TooManyWords) e s = absurd (false≢true (sym e))
-  copied_failed at_once most old new before after (Err (Source fault)) e s = absurd (false≢true (sym e))
-  copied_failed at_once most old new before after (Err (Output fault)) e s = inl s
+  copied_failed at_once most old new before after x7 e s = search (rules, false≢true)
 
   -- the output failed as the sink was finished
   pub copied_spoiled : (at_once most : ℕ) (old new : S) (before between after : K) (r : Result ℕ CopyFault)
@@ -219,20 +164,33 @@ module _ {S K : Type 0} (gs : source.Ghosts S) (gk : sink.Ghosts K) where
       }
   copied_spoiled at_once most old new before between after (Err (Output fault)) out s h e b = absurd (false≢true h)
 
-  -- the output failed at a word
-  pub copied_stopped : (at_once most : ℕ) (old new : S) (before after : K) (out : OutFault) → 0 < at_once → StopsAt gs gk most old new before after out
-      → StopsMidway gs gk at_once most old new before after out
-  copied_stopped at_once most old new before after out some s = record {
-    done = s.done;
-    piece = s.word ∷ [];
-    mid = new;
-    between = s.between;
-    few = omega (arith, s.few, length-append s.done (s.word ∷ []));
-    some = omega arith;
-    in_pieces = omega (arith, some);
-    gives = s.gives;
-    behind = inl refl;
-    fills = s.fills;
-    halts = s.halts;
-    part = stopped_behind gk before s.between after s.done s.word (sink_fault_of out) s.fills s.halts;
+module _ {S K : Type 0} {gs : source.Ghosts S} {gk : sink.Ghosts K} where
+  -- one more word was read and put
+  pub copies_more : {old now new : S} {before between after : K} {n word : ℕ}
+      → Transcodes gs gk old now before between n → ReadsWords gs now new (word ∷ []) → PutsWords gk between after (word ∷ [])
+      → Transcodes gs gk old new before after (n + 1)
+  copies_more {old} {now} {new} {before} {between} {after} {word = word} c g f = record {
+    own = c.own ++ word ∷ [];
+    many = length-append c.own (word ∷ []) ∙ ap (λ k. k + 1) c.many;
+    gives = gives_both gs old now new c.own (word ∷ []) c.gives g;
+    fills = fills_both gk before between after c.own (word ∷ []) c.fills f;
   }
+
+  -- one more word was read, and couldn't be put
+  pub copies_stops : {most : ℕ} {old now new : S} {before between after : K} {n word : ℕ} {out : OutFault} → n < most
+      → Transcodes gs gk old now before between n
+      → ReadsWords gs now new (word ∷ []) → Halts gk between after (word ∷ []) (sink_fault_of out) → StopsAt gs gk most old new before after out
+  copies_stops {old = old} {now = now} {new = new} {between = between} {word = word} less c g h = record {
+    done = c.own;
+    word = word;
+    between = between;
+    few = omega (arith, less, c.many);
+    gives = gives_both gs old now new c.own (word ∷ []) c.gives g;
+    fills = c.fills;
+    halts = h;
+  }
+
+  -- the output failed at a word
+  pub copied_stopped : {at_once most : ℕ} {old new : S} {before after : K} {out : OutFault} → 0 < at_once → StopsAt gs gk most old new before after out
+      → StopsMidway gs gk at_once most old new before after out
+  copied_stopped some s = search (rules, length-append, stopped_behind)

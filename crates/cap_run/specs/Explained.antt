@@ -6,7 +6,7 @@ use Rattle.cap_spec.specs.declared.StrictRefusal.{StrictRefusal}
 use Rattle.cap_vet.specs.VetNames.{IsDemandFault, words_under, depth_of, words_of, IsAccepted}
 use Rattle.cap_vet.specs.declared.demands.Demands.{Demands}
 use Rattle.cap_vet.specs.declared.limits.Limits.{Limits}
-use Rattle.cap_vet.specs.declared.report.Report.{Report}
+use Rattle.cap_vet.specs.declared.walk.vetting.Report.{Report}
 use Rattle.cap_explain.specs.Charges.{fault_charge}
 use Rattle.cap_explain.specs.Explaining.{earlier_explanation, explanation, overlap_explanation}
 use Rattle.cap_explain.specs.declared.numbers.MessageStart.{MessageStart}

@@ -8,7 +8,6 @@ pub mod exclusive;
 pub mod explain;
 pub(crate) mod explaining;
 pub mod filter;
-pub(crate) mod flushing;
 pub mod get;
 pub(crate) mod passing;
 pub mod segments;

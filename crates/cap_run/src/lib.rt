@@ -6,8 +6,8 @@
 
 mod engines;
 mod fault;
-mod peek;
 mod settings;
+mod waiting;
 
 pub use cap_path::{PathFault, parse_path};
 pub use cap_spec::Step;
@@ -26,5 +26,5 @@ pub use engines::get::{run_get, run_get_with};
 pub use engines::segments::run_segments;
 pub use engines::transcode::{run_pack, run_unpack};
 pub use engines::vet::{run_vet, run_vet_with};
-pub use peek::Peek;
 pub use settings::{FilterForm, Outcome, Settings};
+pub use waiting::Peek;

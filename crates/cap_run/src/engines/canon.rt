@@ -1,21 +1,20 @@
 //! The engine that puts the canonical copy of each message to a sink.
 
-ghost use Rattle.cap_run.specs.Canons.{IsCanonised, MakesCopies, MakesCopiesUnder};
-ghost use Rattle.cap_run.specs.Transcoding.{PutsWords};
-ghost use Rattle.cap_run.specs.Making.{CopyStops, Made, Making, NextStops, PutsNext, is_unfinished, refused_cause};
-ghost use Rattle.cap_run.specs.Streams.{EndsStream};
 ghost use Rattle.cap_frame.specs.Limit.{limit_of};
 ghost use Rattle.cap_frame.specs.Putting.{Halts};
+ghost use Rattle.cap_run.specs.Canons.{IsCanonised, MakesCopies, MakesCopiesUnder};
+ghost use Rattle.cap_run.specs.Making.{CopyStops, Made, Making, NextStops, PutsNext, is_unfinished, refused_cause};
+ghost use Rattle.cap_run.specs.Streams.{EndsStream};
+ghost use Rattle.cap_run.specs.Transcoding.{PutsWords};
 ghost use Rattle.cap_spec.specs.Frames.{frame_text};
 ghost use Rattle.cap_spec.specs.Plain.{plain_words};
 ghost use Rattle.cap_vet.specs.Limits.{depth_of, words_of};
 ghost use Rattle.std.specs.Prelude.{◌*◌, ◌<◌, ◌≡◌, ◌^◌, [], ◌∷◌, IfErr, List, OnOk, false, length, true, ℕ};
 
-use crate::engines::flushing::{AHEAD, flush_sink, waits_for_message};
 use crate::engines::stream::end_stream;
 use crate::fault::output_fault;
-use crate::peek::Peek;
 use crate::settings::{Outcome, Settings};
+use crate::waiting::{AHEAD, Peek, flush_sink, waits_for_message};
 use cap_canon::canonical_over;
 use cap_frame::{ByteMessage, Segments, read_into};
 use cap_spec::StrictRefusal;

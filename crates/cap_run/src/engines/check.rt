@@ -10,8 +10,8 @@ ghost use Rattle.std.specs.Prelude.{◌≡◌, if◌then◌else◌};
 
 use crate::engines::stream::Counted;
 use crate::engines::whole::{Judge, after_text, judge_all};
-use crate::peek::Peek;
 use crate::settings::{Outcome, Settings};
+use crate::waiting::Peek;
 use cap_canon::check_with;
 use cap_frame::Segments;
 use cap_text::{Cause, Page, RunFault, write_check, write_refused};

@@ -7,8 +7,8 @@ ghost use Rattle.cap_frame.specs.Limit.{limit_of};
 
 use crate::engines::stream::Counted;
 use crate::engines::whole::{Judge, after_text, judge_all};
-use crate::peek::Peek;
 use crate::settings::{Outcome, Settings};
+use crate::waiting::Peek;
 use cap_frame::Segments;
 use cap_text::{Cause, Page, RunFault, write_accepted, write_overlap, write_refused};
 use cap_vet::{Demands, ExclusiveRefusal, Limits, vet_exclusive};

@@ -25,8 +25,8 @@ use crate::engines::passing::write_more;
 use crate::engines::stream::Counted;
 use crate::engines::vet::VetTeller;
 use crate::engines::whole::{Teller, after_text};
-use crate::peek::Peek;
 use crate::settings::{Outcome, Settings};
+use crate::waiting::Peek;
 use cap_explain::{
     Explanation, MessageStart, Numbers, explain, explain_earlier, explain_overlap, refusal_charge,
 };

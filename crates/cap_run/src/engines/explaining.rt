@@ -10,10 +10,9 @@ ghost use Rattle.cap_run.specs.Running.{EndStops, StepStops, WritesOneOf};
 ghost use Rattle.cap_run.specs.Streams.{EndsStream};
 ghost use Rattle.std.specs.Prelude.{◌<◌, ◌^◌, ◌≡◌, ◌⊎◌, IfErr, IfOk, IfSome, List, OnOk, false, true, ℕ};
 
-use crate::engines::flushing::{AHEAD, flush_output, waits_for_message};
 use crate::engines::stream::{Counted, count};
-use crate::peek::Peek;
 use crate::settings::{Outcome, Settings};
+use crate::waiting::{AHEAD, Peek, flush_output, waits_for_message};
 use cap_explain::frame_words;
 use cap_frame::{
     ByteMessage, FrameFault, Outline, Segments, TableSums, read_noting, read_outline_noting,

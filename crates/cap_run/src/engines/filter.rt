@@ -1,16 +1,15 @@
 //! The engine that lets the accepted messages of a stream through.
 
+ghost use Rattle.cap_frame.specs.Limit.{limit_of};
 ghost use Rattle.cap_run.specs.Filtering.{FiltersUnder};
 ghost use Rattle.cap_run.specs.Sieves.{SieveAll, SieveNext, SieveStops, SieveUntil};
 ghost use Rattle.cap_run.specs.Streams.{EndsStream};
-ghost use Rattle.cap_frame.specs.Limit.{limit_of};
 ghost use Rattle.std.specs.Prelude.{◌≡◌, ◌≢◌, IfErr, IsFalse, IsTrue};
 
-use crate::engines::flushing::{AHEAD, waits_for_message};
 use crate::engines::sifting::{Passage, Sieve};
 use crate::engines::stream::{Counted, count, end_stream};
-use crate::peek::Peek;
 use crate::settings::{FilterForm, Outcome, Settings};
+use crate::waiting::{AHEAD, Peek, waits_for_message};
 use cap_frame::{ByteMessage, read_into};
 use cap_text::{Cause, RunFault};
 use cap_vet::Demands;

@@ -6,8 +6,8 @@ ghost use Rattle.cap_frame.specs.Limit.{limit_of};
 ghost use Rattle.std.specs.Prelude.{false};
 
 use crate::engines::stream::{Counted, Engine, tell_all};
-use crate::peek::Peek;
 use crate::settings::{Outcome, Settings};
+use crate::waiting::Peek;
 use cap_frame::{Outline, SizeLimit, read_outline};
 use cap_text::{Cause, Page, RunFault, write_segments};
 use cap_words::{ByteOut, WordSource};

@@ -1,15 +1,14 @@
 //! Reading the messages of a stream, and writing a text for each.
 
-ghost use Rattle.cap_run.specs.Engines.{StopsEarly, ReachesEnd, TellsStream};
+ghost use Rattle.cap_frame.specs.Limit.{limit_of};
+ghost use Rattle.cap_run.specs.Engines.{ReachesEnd, StopsEarly, TellsStream};
 ghost use Rattle.cap_run.specs.Running.{EndStops, StepStops, StepTells};
 ghost use Rattle.cap_run.specs.Streams.{EndsStream};
 ghost use Rattle.cap_run.specs.Telling.{one_noncanonical, one_refused};
-ghost use Rattle.cap_frame.specs.Limit.{limit_of};
 ghost use Rattle.std.specs.Prelude.{◌+◌, ◌-◌, ◌<◌, ◌^◌, ◌≡◌, ◌≤◌, Bool, IfErr, IfOk, IfSome, List, OnOk, true, ℕ};
 
-use crate::engines::flushing::{AHEAD, flush_output, waits_for_message};
-use crate::peek::Peek;
 use crate::settings::{Outcome, Settings};
+use crate::waiting::{AHEAD, Peek, flush_output, waits_for_message};
 use cap_frame::{FrameFault, Outline, SizeLimit, read_outline};
 use cap_text::{Cause, RunFault};
 use cap_words::{ByteOut, OutFault, WordSource};

@@ -1,16 +1,15 @@
 //! The engines that put the words of one encoding in another. They don't look at framing.
 
-ghost use Rattle.cap_run.specs.Transcoding.{PutsWords, Transcoded};
+ghost use Rattle.cap_frame.specs.Putting.{Halts};
 ghost use Rattle.cap_run.specs.Engines.{TranscodesWords, most_packed_at_once, most_unpacked_at_once};
 ghost use Rattle.cap_run.specs.Handed.{HandsOver};
-ghost use Rattle.cap_run.specs.PuttingEnds.{Transcodes, StopsPutting, is_open};
-ghost use Rattle.cap_frame.specs.Putting.{Halts};
+ghost use Rattle.cap_run.specs.PuttingEnds.{StopsPutting, Transcodes, is_open};
+ghost use Rattle.cap_run.specs.Transcoding.{PutsWords, Transcoded};
 ghost use Rattle.cap_words.specs.Sinks.{sink_fault_of};
 ghost use Rattle.std.specs.Prelude.{◌*◌, ◌/◌, ◌≡◌, ◌≤◌, [], ◌∷◌, IfErr, IfOk, OnOk, length};
 
-use crate::engines::flushing::{flush_sink, waits_for_word};
 use crate::fault::output_fault;
-use crate::peek::Peek;
+use crate::waiting::{Peek, flush_sink, waits_for_word};
 use cap_pack::Packer;
 use cap_text::CopyFault;
 use cap_words::{ByteOut, OutFault, WordSink};

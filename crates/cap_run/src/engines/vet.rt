@@ -9,8 +9,8 @@ ghost use Rattle.cap_vet.specs.Limits.{depth_of, words_of};
 
 use crate::engines::stream::Counted;
 use crate::engines::whole::{Teller, after_text, vet_all};
-use crate::peek::Peek;
 use crate::settings::{Outcome, Settings};
+use crate::waiting::Peek;
 use cap_frame::Segments;
 use cap_text::{Cause, Page, RunFault, write_accepted};
 use cap_vet::{Demands, Vetted};

@@ -10,8 +10,8 @@ ghost use Rattle.cap_spec.specs.Tree.{Tree};
 ghost use Rattle.std.specs.Prelude.{◌≡◌, List, true, ℕ};
 
 use crate::engines::stream::{Counted, Engine, tell_all};
-use crate::peek::Peek;
 use crate::settings::{Outcome, Settings};
+use crate::waiting::Peek;
 use cap_frame::{ByteMessage, Segments, SizeLimit, read_into};
 use cap_text::{Cause, Page, RunFault, write_refused};
 use cap_vet::{Demands, Limits, Vetted, vet_with};

@@ -1,4 +1,4 @@
-use Rattle.std.proofs.Common.{arith, length-take-le, refl, subst}
+use Rattle.std.proofs.Common.{length-take-le, refl, subst, rules}
 use Rattle.cap_vet.specs.VetNames.{depth_of, words_of, report_of}
 use Rattle.cap_run.specs.Canons.{HasNoCopy}
 use Rattle.cap_run.proofs.Demanding.{under_few}
@@ -22,10 +22,4 @@ returns-in-Err-clause-err g c =
     (g.M.Segments.segments c.args.message.now) c.args.sink.now c.in-Err.refusal c.in-Err.ensures.err)
 
 pub put_framed-requires : goal.put_framed-requires
-put_framed-requires g c =
-    let under = under_few c.args.demands (g.M.Segments.segments c.args.message.now) (words_of c.args.limits) in
-    let within = c.in-Ok.ensures.ok.0.1.within in
-    let few = c.in-Ok-canonical_over.ensures.few in
-    let front = length-take-le c.in-Ok-canonical_over.count c.canonical_over.new.buffer.items c.in-Ok-canonical_over.ensures.within in
-    let most = c.args.limits.few in
-    rw c.deref.ensures.value (omega (arith, under, within, few, most, front))
+put_framed-requires g c = search (rules, under_few, length-take-le)

@@ -1,7 +1,6 @@
-use Rattle.cap_spec.proofs.ProofNames.{List, [], arith, subst, sym, ℕ, ◌∷◌, plain_words}
+use Rattle.cap_spec.proofs.ProofNames.{List, [], arith, subst, sym, ℕ, ◌∷◌, plain_words, rules}
 use Rattle.cap_frame.specs.Putting.{Halts}
 use Rattle.cap_frame.proofs.Putting.{halts_before, halts_of}
-use Rattle.cap_run.specs.Transcoding.{PutsWords}
 use Rattle.cap_run.proofs.Handing.{fills_of, frame_of_bytes}
 use Rattle.cap_run.proofs.Making.{halts_behind}
 use Rattle.cap_run.proofs.Transcoding.{fills_both}
@@ -28,10 +27,4 @@ returns-in-Err-put_bytes-clause-err g c =
     (halts_behind g.K.WordSink c.args.sink.now c.put.new.self c.put_bytes.new.self _ ws c.in-Err-put_bytes.fault first halts)
 
 pub returns-clause-ok : goal.returns-clause-ok
-returns-clause-ok g c =
-    let ws = plain_words c.args.copy.now in
-    let whole = frame_of_bytes c.args.copy.now c.table_of_one.result (omega (arith, c.table_of_one.ensures)) in
-    let first = fills_of g.K.WordSink c.args.sink.now c.put.new.self (c.table_of_one.result ∷ []) c.in_default.ensures.put c.in_default.ensures.ok in
-    let rest = fills_of g.K.WordSink c.put.new.self c.put_bytes.new.self ws c.in_default-put_bytes.ensures.put c.in_default-put_bytes.ensures.ok in
-    subst (PutsWords g.K.WordSink c.args.sink.now c.put_bytes.new.self) (sym whole)
-    (fills_both g.K.WordSink c.args.sink.now c.put.new.self c.put_bytes.new.self _ ws first rest)
+returns-clause-ok g c = search (rules, frame_of_bytes, fills_of, fills_both)

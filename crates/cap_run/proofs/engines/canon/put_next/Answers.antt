@@ -31,7 +31,7 @@ returns-in-Err-flush_sink-clause-err g c =
 pub returns-in-Err-put_copy-clause-err : goal.returns-in-Err-put_copy-clause-err
 returns-in-Err-put_copy-clause-err g c =
     let r = c.in-Ok-true.ensures.read.message (cc) in
-    next_stops _ _ _ _ _ _ _ _ _ c.args.sink.now c.put_copy.new.sink c.in-Err-put_copy.cause
+    next_stops g.K.WordSink _ _ _ c.args.sink.now c.put_copy.new.sink c.in-Err-put_copy.cause
     (reads_named g.S.WordSource (limit_of c.args.settings.now.size) c.args.source.now c.read_into.new.source _ r c.in-Ok-true.ensures.read.next.works)
     (rw c.view-view.ensures at c.in-Err-put_copy.ensures.err)
 

@@ -3,8 +3,8 @@ use Rattle.cap_run.proofs.engines.canon.run_canon_with.Goals as goal
 
 pub returns-in-Ok : goal.returns-in-Ok
 returns-in-Ok g c =
-    makes_ok _ _ _ _ _ _ _ _ _ _ _ _ (rw c.in-Ok.is at c.make_copies-messages.ensures)
+    makes_ok (rw c.in-Ok.is at c.make_copies-messages.ensures)
 
 pub returns-in-Err : goal.returns-in-Err
 returns-in-Err g c =
-    makes_err _ _ _ _ _ _ _ _ _ _ _ _ _ (rw c.in-Err.is at c.make_copies-messages.ensures)
+    makes_err (rw c.in-Err.is at c.make_copies-messages.ensures)

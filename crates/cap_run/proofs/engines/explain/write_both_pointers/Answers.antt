@@ -1,4 +1,4 @@
-use Rattle.cap_spec.proofs.ProofNames.{ap, codes, subst, sym, ◌++◌, ◌∙◌, IsWithin, refused, vet_text}
+use Rattle.cap_spec.proofs.ProofNames.{codes, subst, sym, ◌++◌, IsWithin, refused, vet_text}
 use Rattle.cap_explain.specs.Explaining.{overlap_explanation}
 use Rattle.cap_text.proofs.Writing.{stopped_more}
 use Rattle.cap_run.specs.Explained.{earlier_lines}

@@ -1,17 +1,7 @@
-use Rattle.cap_spec.proofs.ProofNames.{List, ap, codes, subst, ℕ, ◌++◌, ◌∙◌, refused, vet_text}
+use Rattle.cap_spec.proofs.ProofNames.{codes, refused, vet_text}
 use Rattle.cap_explain.specs.Explaining.{overlap_explanation}
-use Rattle.cap_text.specs.Writing.{Writes}
 use Rattle.cap_text.proofs.Writing.{stopped_more}
 use Rattle.cap_run.proofs.engines.explain.write_overlap_lines.Goals as goal
-
-pub returns-in-Ok : goal.returns-in-Ok
-returns-in-Ok g c =
-    let m = g.M.Segments.segments c.args.message.now in
-    let line = vet_text c.args.number (refused (codes "Overlap") c.args.segment c.args.word c.args.pointers) in
-    let lines = c.text.ensures.lines ∙ c.explain_overlap.ensures
-    ∙ ap (λ path. overlap_explanation path m c.args.start c.args.segment c.args.word) c.steps.ensures in
-    subst (λ (lines : List ℕ). Writes g.O.ByteOut c.args.out.now c.write_more.new.out c.write_more.result (line ++ lines)) lines
-    (c.write_more.ensures c.args.out.now line c.in-Ok.ensures)
 
 pub returns-in-Err : goal.returns-in-Err
 returns-in-Err g c =

@@ -1,4 +1,4 @@
-use Rattle.cap_spec.proofs.ProofNames.{Err, refl, subst, sym, ◌≡◌}
+use Rattle.cap_spec.proofs.ProofNames.{Err, subst, sym, ◌≡◌, rules}
 use Rattle.cap_frame.specs.HeldBytes.{held_segments}
 use Rattle.cap_frame.specs.Limit.{limit_of}
 use Rattle.cap_frame.specs.Reading.{ReadsFrame}
@@ -6,8 +6,7 @@ use Rattle.cap_run.proofs.Breaking.{cut_after, over_after}
 use Rattle.cap_run.proofs.engines.explaining.read_next.Goals as goal
 
 pub is_cut_after-is_cut-requires : goal.is_cut_after-is_cut-requires
-is_cut_after-is_cut-requires g c =
-    over_after g.S.WordSource (limit_of c.args.settings.now.size) c.args.source.now c.read_noting.new.source c.in-Err.fault c.in-Err.ensures.read.next.err
+is_cut_after-is_cut-requires g c = search (rules, over_after)
 
 pub returns-in-Err-clause-read : goal.returns-in-Err-clause-read
 returns-in-Err-clause-read g c =
@@ -15,13 +14,4 @@ returns-in-Err-clause-read g c =
     c.args.source.now new (Err c.in-Err.fault)) (sym c.is_cut_after-is_cut.ensures.same) c.in-Err.ensures.read
 
 pub returns-in-Err-clause-at : goal.returns-in-Err-clause-at
-returns-in-Err-clause-at g c =
-    let cut = c.is_cut_after-is_cut.ensures in
-    rw c.break_at-room.ensures (record {
-      start = c.position-start.ensures;
-      packed_is = refl;
-      limit_is = refl;
-      table = c.in-Err.ensures.table;
-      cut = cut_after g.S.WordSource (limit_of c.args.settings.now.size) c.args.source.now c.read_noting.new.source c.in-Err.fault
-          c.is_cut_after-is_cut.result c.in-Err.ensures.read.next.err cut.ended cut.failed cut.other;
-    })
+returns-in-Err-clause-at g c = search (rules, cut_after)

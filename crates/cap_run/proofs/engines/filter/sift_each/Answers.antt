@@ -1,23 +1,21 @@
-use Rattle.std.proofs.Common.{arith}
+use Rattle.std.proofs.Common.{arith, rules}
 use Rattle.cap_run.proofs.Sifting.{sieving_done, sieving_last, sieving_more, sieving_noncanonical, sieving_none}
 use Rattle.cap_run.proofs.Sifting.{sieving_refused, sieving_stops}
 use Rattle.cap_run.proofs.engines.filter.sift_each.Goals as goal
 
 pub loop-number-init : goal.loop-number-init
-loop-number-init g c = sieving_none _ _ _ _ _ _ _ _ _ _ _ _ c.new.ensures.failed c.new.ensures.waits
+loop-number-init g c = sieving_none c.new.ensures.failed c.new.ensures.waits
 
 pub count-outcome-requires-clause-refused : goal.count-outcome-requires-clause-refused
-count-outcome-requires-clause-refused g c =
-    sieving_refused _ _ _ _ _ _ _ _ _ c.loop-number.source _ _ c.loop-number.out _ _ c.loop-number.log _ _ _ _ c.loop-number.invariant
+count-outcome-requires-clause-refused g c = search (rules, sieving_refused)
 
 pub count-outcome-requires-clause-noncanonical : goal.count-outcome-requires-clause-noncanonical
-count-outcome-requires-clause-noncanonical g c =
-    sieving_noncanonical _ _ _ _ _ _ _ _ _ c.loop-number.source _ _ c.loop-number.out _ _ c.loop-number.log _ _ _ _ c.loop-number.invariant
+count-outcome-requires-clause-noncanonical g c = search (rules, sieving_noncanonical)
 
 pub returns-then-ends_after-clause-ok : goal.returns-then-ends_after-clause-ok
 returns-then-ends_after-clause-ok g c =
     let e = c.in-Ok-Some.field-0-is in
-    sieving_last _ _ _ _ _ _ _ _ _ c.sift_next.new.source _ _ c.sift_next.new.out _ _ c.sift_next.new.log _ _ _ _ c.loop-number.invariant
+    sieving_last c.loop-number.invariant c.sift_next.new.source c.sift_next.new.out c.sift_next.new.log
     c.count-outcome.result c.sift_next.new.room.passage.failed c.sift_next.new.room.passage.waits c.in-Ok-Some.counted
     (c.in-Ok-Some.ensures.some c.in-Ok-Some.counted (cc)) c.count-outcome.ensures
     c.args.settings.now.messages (omega arith) (c.ends_after.ensures.yes c.if-ends_after.true)
@@ -26,18 +24,18 @@ pub returns-in-Ok-None-clause-ok : goal.returns-in-Ok-None-clause-ok
 returns-in-Ok-None-clause-ok g c =
     let e = c.in-Ok-None.field-0-is in
     let end = c.in-Ok-None.ensures.none (cc) in
-    rw (end.1, end.2) (sieving_done _ _ _ _ _ _ _ _ _ c.sift_next.new.source _ _ c.sift_next.new.out _ _ c.sift_next.new.log _ _ _ _
-    c.loop-number.invariant c.args.settings.now.messages (omega arith) end.0)
+    rw (end.1, end.2) (sieving_done c.loop-number.invariant c.sift_next.new.source
+    c.args.settings.now.messages (omega arith) end.0)
 
 pub returns-in-Err-clause-err : goal.returns-in-Err-clause-err
 returns-in-Err-clause-err g c =
-    sieving_stops _ _ _ _ _ _ _ _ _ c.sift_next.new.source _ _ c.sift_next.new.out _ _ c.sift_next.new.log _ _ _ _ c.loop-number.invariant
+    sieving_stops c.loop-number.invariant c.sift_next.new.source c.sift_next.new.out c.sift_next.new.log
     c.sift_next.new.room.passage.failed c.sift_next.new.room.passage.waits c.args.settings.now.messages c.in-Err.cause (omega arith) c.in-Err.ensures.err
 
 pub loop-number-preserved : goal.loop-number-preserved
 loop-number-preserved g c =
     let e = c.in-Ok-Some.field-0-is in
-    sieving_more _ _ _ _ _ _ _ _ _ _ _ _ _ _ _ _ _ _ _ _ c.loop-number.invariant
+    sieving_more c.loop-number.invariant c.sift_next.new.source c.sift_next.new.out c.sift_next.new.log
     c.count-outcome.result c.sift_next.new.room.passage.failed c.sift_next.new.room.passage.waits c.in-Ok-Some.counted
     (c.in-Ok-Some.ensures.some c.in-Ok-Some.counted (cc)) c.count-outcome.ensures
     (c.ends_after.ensures.no c.if-ends_after.false)

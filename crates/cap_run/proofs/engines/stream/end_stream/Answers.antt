@@ -1,11 +1,9 @@
-use Rattle.cap_frame.specs.Limit.{limit_of}
 use Rattle.cap_run.proofs.Streams.{reads_one}
 use Rattle.cap_run.proofs.engines.stream.end_stream.Goals as goal
+use Rattle.cap_spec.proofs.ProofNames.{rules}
 
 pub returns-in-Ok-true-clause-err : goal.returns-in-Ok-true-clause-err
-returns-in-Ok-true-clause-err g c =
-    let r = c.in-Ok-true.ensures.read.message (cc) in
-    (r.0, reads_one g.S.WordSource (limit_of c.args.limit) c.args.source.now c.read_outline.new.source r.0 r.1 c.in-Ok-true.ensures.read.next.works)
+returns-in-Ok-true-clause-err g c = search (rules, reads_one)
 
 pub returns-in-Ok-true-clause-ok : goal.returns-in-Ok-true-clause-ok
 returns-in-Ok-true-clause-ok g c = tt

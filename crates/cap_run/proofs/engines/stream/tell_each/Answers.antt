@@ -1,18 +1,16 @@
-use Rattle.std.proofs.Common.{arith, sym}
+use Rattle.std.proofs.Common.{arith, sym, rules}
 use Rattle.cap_text.specs.declared.fault.Cause.TheVariants.{Output}
 use Rattle.cap_run.proofs.Going.{going_more, going_noncanonical, going_none, going_refused, going_stops}
 use Rattle.cap_run.proofs.engines.stream.tell_each.Goals as goal
 
 pub loop-number-init : goal.loop-number-init
-loop-number-init g c = going_none _ _ _ _ _ _
+loop-number-init g c = going_none
 
 pub count-outcome-requires-clause-refused : goal.count-outcome-requires-clause-refused
-count-outcome-requires-clause-refused g c =
-    going_refused _ _ _ _ _ _ _ _ _ _ c.loop-number.invariant
+count-outcome-requires-clause-refused g c = search (rules, going_refused)
 
 pub count-outcome-requires-clause-noncanonical : goal.count-outcome-requires-clause-noncanonical
-count-outcome-requires-clause-noncanonical g c =
-    going_noncanonical _ _ _ _ _ _ _ _ _ _ c.loop-number.invariant
+count-outcome-requires-clause-noncanonical g c = search (rules, going_noncanonical)
 
 pub returns-in-Err-clause-err : goal.returns-in-Err-clause-err
 returns-in-Err-clause-err g c =
@@ -46,5 +44,5 @@ returns-in-Err-flush_output-clause-err g c =
 pub loop-number-preserved : goal.loop-number-preserved
 loop-number-preserved g c =
     let r = rw c.in-Ok-Some.field-0-is at c.in-Ok-Some.ensures.some in
-    going_more _ _ _ _ _ _ _ _ _ _ _ _ _ r.0 c.in-Ok-Some.counted r.1 c.loop-number.invariant r.2 r.3
+    going_more r.0 c.in-Ok-Some.counted r.1 c.loop-number.invariant r.2 r.3
     (c.in-Ok.ensures c.loop-number.out r.0.text r.4) c.count-outcome.ensures

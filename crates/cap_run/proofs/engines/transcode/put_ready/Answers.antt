@@ -1,17 +1,13 @@
-use Rattle.cap_spec.proofs.ProofNames.{arith, subst, sym, take, plain_words}
+use Rattle.cap_spec.proofs.ProofNames.{arith, subst, sym, take, plain_words, rules}
 use Rattle.cap_frame.specs.Putting.{Halts}
 use Rattle.cap_frame.proofs.Putting.{halts_of}
 use Rattle.cap_frame.proofs.Skips.{words_in}
-use Rattle.cap_run.specs.PuttingEnds.{Transcodes}
 use Rattle.cap_run.proofs.Handed.{copies_start, gives_ready}
 use Rattle.cap_run.proofs.Handing.{fills_of}
 use Rattle.cap_run.proofs.engines.transcode.put_ready.Goals as goal
 
 pub returns-then-count-eq0-clause-ok : goal.returns-then-count-eq0-clause-ok
-returns-then-count-eq0-clause-ok g c =
-    let k = c.args.sink.now in
-    let same = c.ready-count.ensures.none (omega arith) in
-    subst (λ s. Transcodes g.S.WordSource g.K.WordSink c.args.source.now s k k 0) (sym same) (copies_start g.S.WordSource g.K.WordSink c.args.source.now k)
+returns-then-count-eq0-clause-ok g c = search (rules, copies_start)
 
 pub returns-in-Ok-clause-ok : goal.returns-in-Ok-clause-ok
 returns-in-Ok-clause-ok g c =
@@ -46,19 +42,4 @@ returns-in-Err-flush_sink-clause-err g c =
     }
 
 pub returns-in-Err-clause-err : goal.returns-in-Err-clause-err
-returns-in-Err-clause-err g c =
-    let e = c.ready-count.ensures in
-    let room = c.ready-count.new.out in
-    let ws = plain_words (take c.ready-count.result room) in
-    let many = words_in c.ready-count.result room e.room e.words.0 in
-    let halts = halts_of g.K.WordSink c.args.sink.now c.put_bytes.new.self ws c.put_bytes.result c.in-Err.fault
-    c.in-Err.is c.in-Err.ensures.err c.put_bytes.ensures.device c.put_bytes.ensures.memory
-    c.put_bytes.ensures.was_spent in
-    record {
-      piece = ws;
-      some = omega (arith, many);
-      few = omega (arith, many, e.room, c.ready-count.auto.out);
-      gives = gives_ready g.S.WordSource c.args.source.now c.ready-count.new.self c.ready-count.result room e.room
-          e.words.0 e.words.1 e.usable e.spent e.failures;
-      halts = subst (Halts g.K.WordSink c.args.sink.now c.put_bytes.new.self ws) (sym c.output_fault.ensures) halts;
-    }
+returns-in-Err-clause-err g c = search (rules, words_in, halts_of, gives_ready)

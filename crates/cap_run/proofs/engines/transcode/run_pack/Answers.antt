@@ -2,4 +2,4 @@ use Rattle.cap_run.proofs.TranscodeEnds.{copies_words}
 use Rattle.cap_run.proofs.engines.transcode.run_pack.Goals as goal
 
 pub returns : goal.returns
-returns g c = copies_words _ _ _ _ _ _ _ _ _ c.transcode.ensures
+returns g c = copies_words c.transcode.ensures

@@ -1,26 +1,11 @@
-use Rattle.cap_spec.proofs.ProofNames.{codes, inl, inr, refl, refused, strict_verdict, vet_text}
-use Rattle.cap_vet.specs.Exclusives.{vetted_of}
-use Rattle.cap_vet.specs.VetNames.{report_of}
-use Rattle.cap_text.specs.Lines.{accepted_text}
-use Rattle.cap_run.specs.RunNames.{OrFaultIn, TellsMarked, WantsIn, WantsMarks, Accepted}
+use Rattle.cap_spec.proofs.ProofNames.{codes, inl, inr, refl, refused, strict_verdict, vet_text, rules}
+use Rattle.cap_run.specs.RunNames.{OrFaultIn, TellsMarked, WantsIn, WantsMarks}
 use Rattle.cap_run.specs.declared.engines.stream.Counted.TheVariants.{Refused}
 use Rattle.cap_run.proofs.Judging.{writes_text}
 use Rattle.cap_run.proofs.engines.exclusive.ExclusiveVettingJudge.judge.Goals as goal
 
 pub returns-in-Ok : goal.returns-in-Ok
-returns-in-Ok g c =
-    let v = c.args.self.now in
-    let m = g.M.Segments.segments c.args.message.now in
-    let n = c.args.number in
-    let met = c.in-Ok.ensures.ok in
-    writes_text g.O.ByteOut (accepted_text n c.report-report.result) Accepted (OrFaultIn v.demands TellsMarked v.limits n m)
-    (WantsIn v.demands WantsMarks v.limits m)
-    c.args.out.now c.write_accepted-written.new.out c.write_accepted-written.result c.after_text.result
-    (inl (
-      met.0.1.strict,
-      inl (met.1, record { report = report_of (vetted_of c.in-Ok.exclusive); is_accepted = met.0.0; line = cc; counts = refl }),
-    ))
-    c.write_accepted-written.ensures c.after_text.ensures
+returns-in-Ok g c = search (rules, writes_text)
 
 pub returns-in-Err-Refused : goal.returns-in-Err-Refused
 returns-in-Err-Refused g c =

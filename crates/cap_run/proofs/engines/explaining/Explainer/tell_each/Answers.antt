@@ -1,20 +1,17 @@
-use Rattle.std.proofs.Common.{arith, sym, ◌∙◌}
+use Rattle.std.proofs.Common.{arith, sym, rules}
 use Rattle.cap_text.specs.declared.fault.Cause.TheVariants.{Output}
 use Rattle.cap_run.proofs.Placed.{from_more, from_noncanonical, from_none, from_refused, from_stops}
-use Rattle.cap_run.specs.Telling.{messages_of}
 use Rattle.cap_run.proofs.Telling.{length-messages_of}
 use Rattle.cap_run.proofs.engines.explaining.Explainer.tell_each.Goals as goal
 
 pub loop-number-init : goal.loop-number-init
-loop-number-init g c = from_none _ _ _ _ _ _
+loop-number-init g c = from_none
 
 pub count-outcome-requires-clause-refused : goal.count-outcome-requires-clause-refused
-count-outcome-requires-clause-refused g c =
-    from_refused _ _ _ _ _ _ _ _ _ _ _ c.loop-number.invariant
+count-outcome-requires-clause-refused g c = search (rules, from_refused)
 
 pub count-outcome-requires-clause-noncanonical : goal.count-outcome-requires-clause-noncanonical
-count-outcome-requires-clause-noncanonical g c =
-    from_noncanonical _ _ _ _ _ _ _ _ _ _ _ c.loop-number.invariant
+count-outcome-requires-clause-noncanonical g c = search (rules, from_noncanonical)
 
 pub returns-in-Err-clause-err : goal.returns-in-Err-clause-err
 returns-in-Err-clause-err g c =
@@ -49,24 +46,14 @@ returns-in-Err-flush_output-clause-err g c =
 pub loop-number-preserved : goal.loop-number-preserved
 loop-number-preserved g c =
     let r = rw c.in-Ok-Some.field-0-is at c.in-Ok-Some.ensures.some in
-    from_more _ _ _ _ _ _ _ _ _ _ _ _ _ _ _ r.0 c.in-Ok-Some.counted r.1 c.loop-number.invariant r.2 r.3
+    from_more r.0 c.in-Ok-Some.counted r.1 c.loop-number.invariant r.2 r.3
     (c.in-Ok.ensures c.loop-number.out r.0.text r.4) r.5 r.6 c.count-outcome.ensures
 
 pub returns-in-Err-clause-broken : goal.returns-in-Err-clause-broken
-returns-in-Err-clause-broken g c =
-    let w = c.loop-number.invariant in
-    rw c.stopped_at-in-Err.ensures (
-      messages_of w.ts,
-      c.loop-number.source,
-      length-messages_of w.ts ∙ w.many,
-      w.reads,
-      c.in-Err.ensures.at,
-    )
+returns-in-Err-clause-broken g c = search (rules, length-messages_of)
 
 pub returns-in-Err-flush_output-clause-broken : goal.returns-in-Err-flush_output-clause-broken
-returns-in-Err-flush_output-clause-broken g c =
-    let w = c.loop-number.invariant in
-    rw c.stopped_at.ensures (messages_of w.ts, c.loop-number.source, length-messages_of w.ts ∙ w.many, w.reads, tt)
+returns-in-Err-flush_output-clause-broken g c = search (rules, length-messages_of)
 
 pub tell_next-requires : goal.tell_next-requires
 tell_next-requires g c = omega (arith, c.loop-number.invariant.few)

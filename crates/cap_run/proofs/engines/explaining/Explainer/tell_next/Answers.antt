@@ -1,4 +1,4 @@
-use Rattle.std.proofs.Common.{Err, List, refl, subst, ℕ}
+use Rattle.std.proofs.Common.{Err, List, refl, subst, ℕ, rules}
 use Rattle.cap_frame.specs.Limit.{limit_of}
 use Rattle.cap_run.specs.Running.{WritesOneOf}
 use Rattle.cap_run.proofs.Breaking.{read_breaks}
@@ -42,6 +42,4 @@ pub returns-in-Ok-false-clause-err : goal.returns-in-Ok-false-clause-err
 returns-in-Ok-false-clause-err g c = tt
 
 pub returns-in-Err-judge-clause-at : goal.returns-in-Err-judge-clause-at
-returns-in-Err-judge-clause-at g c =
-    read_breaks g.S.WordSource g.O.ByteOut _ _ c.args.out.now c.judge.new.out c.args.settings.now.packed (limit_of c.args.settings.now.size) c.args.source.now
-    c.in-Err-judge.cause c.read_next.new.room.at c.in-Err-judge.ensures
+returns-in-Err-judge-clause-at g c = search (rules, read_breaks)

@@ -1,4 +1,4 @@
-use Rattle.cap_spec.proofs.ProofNames.{refl, rules, outline_text}
+use Rattle.cap_spec.proofs.ProofNames.{refl, outline_text}
 use Rattle.cap_frame.specs.Limit.{limit_of}
 use Rattle.cap_frame.specs.Outlines.{root_in, sizes_in}
 use Rattle.cap_text.proofs.SegmentLines.{text_of_outline}
@@ -26,9 +26,3 @@ returns-in-Err-write_segments-clause-err g c =
       reads_one g.S.WordSource (limit_of c.args.limit) c.args.source.now c.read_outline.new.source r.0 r.1 c.in-Ok-true.ensures.read.next.works,
       c.in-Err-write_segments.ensures,
     )
-
-pub returns-in-Err-clause-err : goal.returns-in-Err-clause-err
-returns-in-Err-clause-err g c = search rules
-
-pub returns-in-Err-clause-memory : goal.returns-in-Err-clause-memory
-returns-in-Err-clause-memory g c = search rules

@@ -1,4 +1,4 @@
-use Rattle.cap_spec.proofs.ProofNames.{Bool, List, rules, subst, sym, ℕ}
+use Rattle.cap_spec.proofs.ProofNames.{Bool, subst, sym}
 use Rattle.cap_vet.specs.VetNames.{report_of}
 use Rattle.cap_run.specs.Filtering.{TellsMet, WantsMet}
 use Rattle.cap_run.specs.RunNames.{FindsObjection, OrFaultIn, WantsIn}
@@ -16,6 +16,3 @@ returns-in-Ok g c =
     let v = c.args.self.now in
     let met = c.in-Ok.ensures.ok in
     judges_met v.form v.demands v.limits (g.M.Segments.segments c.args.message.now) (report_of c.in-Ok.field-0) c.if-self.false met.1.strict met.0
-
-pub returns-in-Err : goal.returns-in-Err
-returns-in-Err g c = search rules

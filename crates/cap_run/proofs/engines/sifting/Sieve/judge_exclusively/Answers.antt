@@ -33,8 +33,3 @@ returns-in-Err-Overlap g c = λ n.
         counts = refl;
       }),
     )
-
-pub returns-in-Err-Memory : goal.returns-in-Err-Memory
-returns-in-Err-Memory g c =
-    let h = rw c.in-Err-Memory.field-0-is at c.in-Err-Memory.ensures.err in
-    (refl, (h.1.1.strict, (h.0, h.1.0)))

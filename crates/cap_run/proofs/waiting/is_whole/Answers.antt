@@ -1,5 +1,5 @@
 use Rattle.std.proofs.lemmas.Bool.{false≢true}
-use Rattle.cap_run.proofs.peek.is_whole.Goals as goal
+use Rattle.cap_run.proofs.waiting.is_whole.Goals as goal
 
 pub returns-in-Err : goal.returns-in-Err
 returns-in-Err c = (
