@@ -13,16 +13,16 @@ use Rattle.cap_spec.proofs.ProofNames.{Wrong}
 use Rattle.cap_trace.specs.EarlierPointers.{HaveCommon, object_places}
 
 -- A common place of two ranges is in both.
-pub range_common : (t b n t' b' n' : ℕ) → HaveCommon (places t b n) (places t' b' n')
+pub range_common : {t b t' b' : ℕ} (n n' : ℕ) → HaveCommon (places t b n) (places t' b' n')
     → (t ≡ t') × (w : ℕ) × (b ≤ w) × (b' ≤ w) × (w < b + n) × (w < b' + n')
-range_common t b n t' b' n' ((s, w), i, j) =
+range_common {t} {b} {t'} {b'} n n' ((s, w), i, j) =
     let p = in_places t b n s w i in
     let q = in_places t' b' n' s w j in
     (omega (arith, p.0, q.0), w, p.1, q.1, p.2, q.2)
 
-pub common_range : (t b n t' b' n' w : ℕ) → t ≡ t' → b ≤ w → b' ≤ w → w < b + n → w < b' + n'
+pub common_range : {t b t' b' : ℕ} (n n' w : ℕ) → t ≡ t' → b ≤ w → b' ≤ w → w < b + n → w < b' + n'
     → HaveCommon (places t b n) (places t' b' n')
-common_range t b n t' b' n' w e low low' high high' = (
+common_range {t} {b} {t'} {b'} n n' w e low low' high high' = (
   (t, w),
   at_place t b n w low high,
   subst (λ (u : ℕ). IsOneOf (u, w) (places t' b' n')) (sym e) (at_place t' b' n' w low' high'),

@@ -2,6 +2,7 @@
 
 ghost use Rattle.cap_spec.specs.Accepting.{IsWithin};
 ghost use Rattle.cap_spec.specs.Faults.{IsFirstFault};
+ghost use Rattle.cap_spec.specs.Messages.{segment_of};
 ghost use Rattle.cap_spec.specs.Occupying.{IsFirstOverlap};
 ghost use Rattle.cap_spec.specs.Strict.{IsFirstLax};
 ghost use Rattle.cap_spec.specs.declared.Lax.{Lax};
@@ -65,47 +66,61 @@ fn traced<M: Segments>(message: &M, depth: u32, number: u64, steps: &mut [Step])
     if number == 0 || message.len(0) == 0 {
         return None;
     }
-    // Most paths are short, and each search initializes its branches.
-    let mut others: BranchStack<32> = BranchStack::new();
-    let mut last = Branch::root();
-    match seek(message, depth, 1, number, &mut others, &mut last) {
-        Sought::Found => Some(write_path(others.as_slice(), &last, steps)),
-        Sought::Missing => None,
-        Sought::Full(at) => {
-            // The default depth limit is 64.
-            if depth <= 64 {
-                return traced_deep::<M, 65>(message, depth, at, number, &others, last, steps);
-            }
-            traced_deep::<M, 257>(message, depth, at, number, &others, last, steps)
-        }
+    // Each search initializes its branches. A path has fewer branches than words were looked at.
+    if number <= 32 {
+        return traced_from_root::<M, 32>(message, depth, number, steps);
     }
+    // The default depth limit is 64.
+    traced_from_root::<M, 65>(message, depth, number, steps)
 }
 
-// Goes on from the pointer word of number `at`, where those few branches are full, with as many as the
-// deepest path within the limit can have.
-#[cold]
-#[inline(never)]
-fn traced_deep<M: Segments, const N: usize>(
+// The same of a message with a root word, with this many branches at first.
+#[inline(always)]
+fn traced_from_root<M: Segments, const N: usize>(
     message: &M,
     depth: u32,
-    at: u64,
     number: u64,
-    few: &BranchStack<32>,
-    from: Branch,
     steps: &mut [Step],
 ) -> Option<usize>
-    requires more { 32 ≤ N }
     requires most { N ≤ 257 }
-    requires enough { depth < N }
     requires shallow { depth ≤ 256 }
-    requires before { at ≤ number }
-    requires come { HasCome (M.segments message.now) depth at few.now.items from }
+    requires counted { 0 < number }
+    requires root { 0 < length (segment_of (M.segments message.now) 0) }
     ensures tells { TellsPath (M.segments message.now) depth number steps.old result steps.new }
     ensures few { IfSome result (λ count. count ≤ depth) }
 {
     let mut others: BranchStack<N> = BranchStack::new();
+    let mut last = Branch::root();
+    match seek(message, depth, 1, number, &mut others, &mut last) {
+        Sought::Found => Some(write_path(others.as_slice(), &last, steps)),
+        Sought::Missing => None,
+        Sought::Full(at) => traced_deep(message, depth, at, number, others.as_slice(), last, steps),
+    }
+}
+
+// Goes on from the pointer word of number `at`, where those few branches are full, with as many as the
+// deepest path can have.
+#[cold]
+#[inline(never)]
+fn traced_deep<M: Segments>(
+    message: &M,
+    depth: u32,
+    at: u64,
+    number: u64,
+    few: &[Branch],
+    from: Branch,
+    steps: &mut [Step],
+) -> Option<usize>
+    requires most { length few.now ≤ 257 }
+    requires shallow { depth ≤ 256 }
+    requires before { at ≤ number }
+    requires come { HasCome (M.segments message.now) depth at few.now from }
+    ensures tells { TellsPath (M.segments message.now) depth number steps.old result steps.new }
+    ensures few { IfSome result (λ count. count ≤ depth) }
+{
+    let mut others: BranchStack<257> = BranchStack::new();
     let mut last = from;
-    if others.try_extend_from_slice(few.as_slice()).is_err() {
+    if others.try_extend_from_slice(few).is_err() {
         unreachable!();
     }
     match seek(message, depth, at, number, &mut others, &mut last) {
