@@ -1,5 +1,5 @@
 -- The charge up to the pointer at which a message passes the word limit (profile).
-use Rattle.std.specs.Prelude.{List, ℕ, ◌*◌, ◌+◌, ◌≡◌}
+use Rattle.std.specs.Prelude.{List, ℕ, ◌+◌, ◌≡◌}
 use Rattle.cap_spec.specs.Faults.{IsFirstFault}
 use Rattle.cap_spec.specs.Paths.{Costs}
 use Rattle.cap_spec.specs.declared.Reason.TheVariants.{WordLimit}

@@ -13,6 +13,7 @@ pub mod Marks
 pub mod MarkSteps
 pub mod Nodes
 pub mod NearFinding
+pub mod NullCosts
 pub mod NullMarks
 pub mod Overlapping
 pub mod OverlapSteps

@@ -1,9 +1,10 @@
 //! The charge of a message up to the pointer at which it passes the word limit.
 
 ghost use Rattle.cap_spec.specs.declared.Step.{Step};
-ghost use Rattle.cap_vet.specs.ChargeSteps.{HasCost, SumsBefore, null_costs};
+ghost use Rattle.cap_vet.specs.ChargeSteps.{HasCost, SumsBefore};
 ghost use Rattle.cap_vet.specs.ChargeUpTo.{IsChargeUpTo};
 ghost use Rattle.cap_vet.specs.Limits.{depth_of, words_of};
+ghost use Rattle.cap_vet.specs.NullCosts.{null_costs};
 ghost use Rattle.cap_vet.specs.Trails.{Ahead};
 ghost use Rattle.cap_vet.specs.Walking.{IsLookedAt};
 ghost use Rattle.std.specs.Prelude.{◌∷◌, ◌≡◌, ◌≢◌, IfNone, IfSome, IsFalse, IsTrue, List, ℕ};

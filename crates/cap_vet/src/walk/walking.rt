@@ -35,7 +35,7 @@ enum Next {
     Done,
 }
 
-/// HasWalked a message from its root, and takes a turn at each pointer word but null ones. The report
+/// Walks a message from its root, and takes a turn at each pointer word but null ones. The report
 /// is of the whole walk.
 pub(crate) fn walk<M: Segments, T: Turn>(
     message: &M,
