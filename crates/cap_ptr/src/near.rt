@@ -1,5 +1,4 @@
-//! Objects that their pointer word describes, alone or with the tag of a list of structs, in the
-//! word's segment.
+//! Objects that their pointer word describes, alone or with the tag of a list of structs.
 
 ghost use Rattle.cap_ptr.specs.Reaching.{LeadsTo};
 ghost use Rattle.cap_ptr.specs.Rows.{FindsRow, HasPointers};

@@ -1,4 +1,4 @@
--- How the marks of a second walk go on, and what they tell at its end.
+-- How the marks of a walk go on, and what they show at its end.
 use Rattle.cap_spec.proofs.Lemmas.{disjoint_of_none, one_used, Before-irreflexive, one_reached}
 use Rattle.cap_spec.proofs.ProofNames.{List, [], arith, inl, inr, length, refl, subst, ℕ, ◌+◌, ◌∷◌, ◌≡◌, ◌⊎◌, rules}
 use Rattle.cap_spec.proofs.ProofNames.{IsOneOf, IsDisjoint, IsFirstOverlap, Occupies, Overlaps, Uses}

@@ -1,4 +1,4 @@
--- How a report changes at one pointer word (profile).
+-- The cost, the words and the pointers of what a word leads to, and the report after it (profile).
 use Rattle.std.specs.Prelude.{None, Option, Some, max, ℕ, ◌+◌}
 use Rattle.cap_vet.specs.declared.nodes.place.Place.{Place}
 use Rattle.cap_vet.specs.declared.walk.vetting.Report.{Report}

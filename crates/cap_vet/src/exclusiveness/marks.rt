@@ -56,7 +56,7 @@ pub(crate) fn fill_starts<M: Segments>(message: &M, starts: &mut ArrayVec<u64, 5
 impl Marks<'_> {
     /// Marks what following the pointer at word `w` of segment `s` uses, its pads and the words of its
     /// object. Returns `false` if a part of it is used twice or was marked before.
-    // It is inlined with what it calls for all but far pointers: a walk may look at millions of words.
+    // It is inlined, but for pads elsewhere: a walk may look at millions of words.
     #[inline(always)]
     pub(crate) fn mark_pointer<M: Segments>(
         &mut self,
@@ -118,7 +118,7 @@ impl Marks<'_> {
 }
 
 // The words that following this pointer uses, if they are in a row: those of its object, with its pads
-// right before them. Most writers put a pad there.
+// right before them. Most writers put a pad there. `None` says nothing of the words.
 #[inline(always)]
 fn in_a_row<M: Segments>(message: &M, s: u32, w: u32, object: &Place) -> Option<Place>
     requires exists { s < length (M.segments message.now) }

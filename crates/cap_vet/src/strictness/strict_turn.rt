@@ -64,7 +64,6 @@ impl Turn for LaxSearch {
 
     ghost stops = { λ _ _. ⊥ };
 
-    // Only a far pointer has a landing pad.
     #[inline(always)]
     fn after<M: Segments>(
         &mut self,

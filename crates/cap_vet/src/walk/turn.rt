@@ -40,10 +40,9 @@ pub trait Turn {
     // When it stops a walk through a message.
     ghost stops: { List (List ℕ) → Self.Stop → Type 0 };
 
-    /// The turn at this pointer word, which can be followed within the limits, and costs `cost`
-    /// words. It is number `pointers` of those looked at, and `object` has the words of its object,
-    /// none for null and a capability. If `may_be_lax` is false, common readers don't reject the
-    /// pointer.
+    /// The turn at this pointer word, which can be followed, and costs `cost` words. It is number
+    /// `pointers` of those looked at, and `object` has the words of its object, none for null and a
+    /// capability. If `may_be_lax` is false, common readers don't reject the pointer.
     fn after<M: Segments>(
         &mut self,
         message: &M,
