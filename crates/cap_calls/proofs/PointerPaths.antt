@@ -1,13 +1,10 @@
 -- The bytes, the number and the capacity decide what the call for a path finds.
 use Rattle.cap_spec.proofs.ProofNames.{rules}
-use Rattle.std.proofs.Common.{Bool, List, [], ap, arith, drop, get_or, length, map, not, refl, set, suc, sym, take}
-use Rattle.std.proofs.Common.{zero, ℕ, ◌++◌, ◌+◌, ◌<◌, ◌∙◌, ◌∷◌, ◌≡◌, ◌≤◌}
-use Rattle.cap_trace.specs.Traces.{filled}
-use Rattle.cap_trace.proofs.Filling.{take_filled}
+use Rattle.std.proofs.Common.{Bool, List, ap, arith, length, not, sym, ℕ, ◌∙◌, ◌≡◌, ◌≤◌}
 use Rattle.cap_trace.proofs.Numbering.{one_numbered}
 use Rattle.cap_calls.specs.PointerCalls.{FindsFew, FindsPointer, TellsPointer, none, too_small, written}
 use Rattle.cap_calls.specs.CallNames.{Step, allows_trailing, TellsInput}
-use Rattle.cap_calls.specs.CallNames.{call_step, steps_found, Answer, Found, CallLimits, CallReport, CallStep}
+use Rattle.cap_calls.specs.CallNames.{steps_found, Answer, Found, CallLimits, CallReport, CallStep}
 use Rattle.cap_calls.proofs.Answers.{one_input_told, one_returned}
 use Rattle.cap_calls.specs.declared.answer.Answer.TheVariants as answer
 
@@ -44,17 +41,3 @@ one_pointer_told l bs number old a b n k x y r q (f, t, h, e) (g, u, i, j) =
 pub few_told : (whole : Bool) (l : CallLimits) (bs : List ℕ) (n : ℕ) (old new : List CallStep) (f : Found)
     → TellsInput whole (new ≡ old) (FindsFew n old new) l bs f → f.count ≤ 256
 few_told whole l bs n old new f h = search rules
-
--- The path is the start of what was filled.
-pub path_kept : (path old new : List Step) (count : ℕ) → new ≡ filled path old → count ≡ length path → count ≤ length old
-    → take count new ≡ path
-path_kept path old new count e f few = search (rules, take_filled)
-
--- One step after the others is put.
-pub put_one : (path : List Step) (old : List CallStep) (at : ℕ) (d : Step) → at < length path → length path ≤ length old
-    → set (map call_step (take at path) ++ drop at old) at (call_step (get_or path at d))
-    ≡ map call_step (take (at + 1) path) ++ drop (at + 1) old
-put_one [] old at d h k = absurd (omega arith)
-put_one (p ∷ path) [] at d h k = absurd (omega arith)
-put_one (p ∷ path) (o ∷ old) zero d h k = refl
-put_one (p ∷ path) (o ∷ old) (suc at) d h k = search (rules, put_one path old at d (omega arith) (omega arith))

@@ -2,6 +2,7 @@
 
 ghost use Rattle.std.specs.Prelude.{◌+◌, ◌≡◌, ◌≤◌, min};
 
+use cap_trace::StepSlot;
 use cap_vet::Step;
 
 /// A step of a path, laid out as C has it. A path of such steps is written `/p0/i7` as text.
@@ -14,16 +15,13 @@ pub struct CallStep {
     pub number: u32,
 }
 
-impl CallStep {
+impl StepSlot for CallStep {
     ghost use Rattle.cap_calls.specs.PointerCalls.{call_step};
-    ghost use Rattle.cap_calls.specs.RangeCalls.{step_after};
-    ghost use Rattle.std.specs.Prelude.{◌≡◌};
 
-    // The step of a path.
+    ghost slot = { call_step };
+
     #[inline(always)]
-    pub(crate) fn of(step: Step) -> CallStep
-        ensures { result ≡ call_step step }
-    {
+    fn of(step: Step) -> CallStep {
         match step {
             Step::Ptr(number) => CallStep {
                 kind: 0,
@@ -32,6 +30,11 @@ impl CallStep {
             Step::Item(number) => CallStep { kind: 1, number },
         }
     }
+}
+
+impl CallStep {
+    ghost use Rattle.cap_calls.specs.RangeCalls.{step_after};
+    ghost use Rattle.std.specs.Prelude.{◌≡◌};
 
     // The step with this added to its number. Numbers stop at the highest of their kind, where
     // nothing ever is.

@@ -7,7 +7,7 @@ use Rattle.cap_vet.specs.Trails.{IsTrail}
 use Rattle.cap_vet.proofs.OneTrail.{root_trail}
 use Rattle.cap_trace.specs.Branches.{root_branch}
 use Rattle.cap_trace.specs.TraceNames.{Step, AreBranches, path_of, rest_from, IsTraceable, PassesAt, HasCome, IsBlockedAt}
-use Rattle.cap_trace.specs.TraceNames.{TellsPath, filled, word_ahead, Branch}
+use Rattle.cap_trace.specs.TraceNames.{IsPut, TellsPath, word_ahead, Branch}
 use Rattle.cap_trace.proofs.Branches.{branches_without}
 use Rattle.cap_trace.proofs.Numbering.{number_order}
 use Rattle.cap_trace.proofs.Onward.{next_tour, root_tour, up_to_last}
@@ -130,26 +130,32 @@ walk_steps m a [] n b h = h.0
 walk_steps m a (x ∷ path) n b h =
     omega (arith, h.4, one_level m a x h.0 h.2, walk_steps m h.0 path h.1 b h.3)
 
+-- Each step takes a level.
+pub level_counts : (m : List (List ℕ)) (depth n : ℕ) (fs : List Branch) (f : Branch) → HasCome m depth n fs f
+    → f.level ≡ length (path_of (fs ++ f ∷ [])) + 1
+level_counts m depth n fs f h =
+    let r = h.trail.ahead_reached.0 in
+    omega (arith, r.4, walk_steps m (word 0 0) (path_of (fs ++ f ∷ [])) r.1 (word f.segment f.at) r.3)
+
 -- A path has at most as many steps as there are levels.
 pub few_steps : (m : List (List ℕ)) (depth n : ℕ) (fs : List Branch) (f : Branch) → HasCome m depth n fs f
     → length (path_of (fs ++ f ∷ [])) ≤ depth
 few_steps m depth n fs f h =
-    let r = h.trail.ahead_reached.0 in
-    let k = (branches_without m depth 0 fs f h.branches).1 in
-    omega (arith, r.4, walk_steps m (word 0 0) (path_of (fs ++ f ∷ [])) r.1 (word f.segment f.at) r.3, k.low)
+    let k = (branches_without m depth 0 fs f h.branches).1 in omega (arith, level_counts m depth n fs f h, k.low)
 
 -- Its path is what is written, and has few steps.
-pub found_told : (m : List (List ℕ)) (depth n : ℕ) (fs : List Branch) (f : Branch) (others : List Branch) (count : ℕ)
-    (old new : List Step) → HasCome m depth n fs f → others ≡ fs → count ≡ length (path_of (others ++ f ∷ []))
-    → new ≡ filled (path_of (others ++ f ∷ [])) old → TellsPath m depth n old (Some count) new × (count ≤ depth)
-found_told m depth n fs f others count old new h e many written =
+pub found_told : {S : Type 0} (slot : Step → S) (m : List (List ℕ)) (depth n : ℕ) (fs : List Branch) (f : Branch)
+    (others : List Branch) (count : ℕ) (old new : List S) → HasCome m depth n fs f → others ≡ fs
+    → count ≡ length (path_of (others ++ f ∷ [])) → IsPut slot (path_of (others ++ f ∷ [])) old new
+    → TellsPath slot m depth n old (Some count) new × (count ≤ depth)
+found_told slot m depth n fs f others count old new h e many put =
     let same = ap (λ (u : List Branch). path_of (u ++ f ∷ [])) e in
     let long = ap (λ (u : List Step). length u) same in (
       (
         path_of (fs ++ f ∷ []),
         traceable_here m depth n fs f h,
         many ∙ long,
-        written ∙ ap (λ (u : List Step). filled u old) same,
+        subst (λ (u : List Step). IsPut slot u old new) same put,
       ),
       omega (arith, many, long, few_steps m depth n fs f h),
     )

@@ -1,7 +1,7 @@
 mod Branches
 mod Coming
 mod Common
-pub mod Filling
+mod Filling
 pub mod Named
 mod Nulls
 pub mod Numbering

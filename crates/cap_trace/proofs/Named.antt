@@ -6,9 +6,9 @@ use Rattle.cap_spec.proofs.ProofNames.{subst, sym, take, ℕ, ◌∙◌, ◌≡�
 use Rattle.cap_vet.specs.Demands.{IsDemandFault, words_under}
 use Rattle.cap_vet.specs.declared.demands.Demands.{Demands}
 use Rattle.cap_trace.specs.NamedPaths.{IsTraced, fault_path, pointer_number, refused_path}
-use Rattle.cap_trace.specs.TraceNames.{Lax, Refusal, Step, IsTraceable, GivesPath, TellsPath, filled}
+use Rattle.cap_trace.specs.TraceNames.{Lax, Refusal, Step, IsTraceable, GivesPath, TellsPath}
 use Rattle.cap_trace.proofs.Coming.{some_number}
-use Rattle.cap_trace.proofs.Filling.{take_filled}
+use Rattle.cap_trace.proofs.Filling.{take_put}
 use Rattle.cap_trace.proofs.Numbering.{one_numbered}
 use Rattle.cap_trace.proofs.Traceable.{fault_traceable, lax_traceable}
 
@@ -33,20 +33,18 @@ path_named demands m words depth n found (Pointer what s w k) e t first lax h =
 
 -- The first steps of a buffer with enough capacity are the path that was written to it.
 pub path_taken : (path old : List Step) (count : Option ℕ) (new : List Step) (depth : ℕ) → IfSome count (λ k. k ≤ depth)
-    → depth ≤ length old → GivesPath path old count new → option_map (λ n. take n new) count ≡ Some path
+    → depth ≤ length old → GivesPath (λ (s : Step). s) path old count new → option_map (λ n. take n new) count ≡ Some path
 path_taken path old count new depth few most g =
     let fits : length path ≤ depth = subst (λ (u : Option ℕ). IfSome u (λ k. k ≤ depth)) g.0 few in
-    ap (option_map (λ n. take n new)) g.0
-    ∙ ap (λ (u : List Step). Some (take (length path) u)) g.1 ∙ ap Some (take_filled path old (omega (arith, fits, most)))
+    ap (option_map (λ n. take n new)) g.0 ∙ ap Some (take_put path old new (omega (arith, fits, most)) g.1)
 
 -- So they are the traceable path.
 pub traced_taken : (m : List (List ℕ)) (depth n : ℕ) (old : List Step) (count : Option ℕ) (new : List Step)
-    → IfSome count (λ k. k ≤ depth) → depth ≤ length old → TellsPath m depth n old count new
+    → IfSome count (λ k. k ≤ depth) → depth ≤ length old → TellsPath (λ (s : Step). s) m depth n old count new
     → IsTraced m depth n (option_map (λ n. take n new) count)
 traced_taken m depth n old None new few most t = t.0
 traced_taken m depth n old (Some k) new few most t =
-    let e : take k new ≡ t.0 = ap (λ (u : List Step). take k u) t.3 ∙ ap (λ (j : ℕ). take j (filled t.0 old)) t.2
-    ∙ take_filled t.0 old (omega (arith, t.2, few, most)) in
+    let e : take k new ≡ t.0 = ap (λ (j : ℕ). take j new) t.2 ∙ take_put t.0 old new (omega (arith, t.2, few, most)) t.3 in
     subst (λ (u : List Step). IsTraceable m depth n u) (sym e) t.1
 
 -- The refusal decides the path.

@@ -7,7 +7,7 @@ pub use Rattle.cap_trace.specs.Branches.{AreBranches, IsBranch, IsCounted, path_
 pub use Rattle.cap_trace.specs.Branches.{steps_of, word_of}
 pub use Rattle.cap_trace.specs.PointerNumbers.{IsTraceable, PassesAt}
 pub use Rattle.cap_trace.specs.Seeking.{IsSought}
-pub use Rattle.cap_trace.specs.Traces.{GivesPath, GoesBelow, HasCome, IsBlockedAt, TellsPath, filled, word_ahead}
+pub use Rattle.cap_trace.specs.Traces.{GivesPath, GoesBelow, HasCome, IsBlockedAt, IsPut, TellsPath, word_ahead}
 pub use Rattle.cap_trace.specs.declared.below.Below.{Below}
 pub use Rattle.cap_trace.specs.declared.below.Below.TheVariants.{Object}
 pub use Rattle.cap_trace.specs.declared.branch.Branch.{Branch}

@@ -1,5 +1,5 @@
 -- How a search for the pointer word of a number goes on, and what it comes to (profile).
-use Rattle.std.specs.Prelude.{List, None, Option, Some, [], drop, length, take, ℕ, ⊤, ◌++◌, ◌+◌, ◌∷◌, ◌≡◌, ◌⊎◌}
+use Rattle.std.specs.Prelude.{List, None, Option, Some, [], drop, length, map, ℕ, ⊤, ◌++◌, ◌+◌, ◌<◌, ◌∷◌, ◌≡◌, ◌≤◌, ◌⊎◌}
 use Rattle.cap_spec.specs.Paths.{IsTour}
 use Rattle.cap_spec.specs.SpecNames.{Wrong, Before, IsDeepAt}
 use Rattle.cap_spec.specs.declared.Reason.{Reason}
@@ -48,16 +48,17 @@ pub record HasCome (m : List (List ℕ)) (depth n : ℕ) (others : List Branch) 
 abbrev pub IsMissing : List (List ℕ) → ℕ → ℕ → Type 0
 IsMissing m depth n = (path : List Step) → ¬ IsTraceable m depth n path
 
--- the first steps of the path that the buffer has capacity for, and then what was there
-abbrev pub filled : List Step → List Step → List Step
-filled path old = take (length old) path ++ drop (length path) old
+-- The path is at the start of the buffer, in a slot for each step. Or the buffer has too few slots, and is unchanged.
+abbrev pub IsPut : {S : Type 0} → (Step → S) → List Step → List S → List S → Type 0
+IsPut slot path old new =
+    (length path ≤ length old → new ≡ map slot path ++ drop (length path) old) × (length old < length path → new ≡ old)
 
--- The traceable path of this number has `count` steps, and is written as far as there is capacity. Or there is none.
-abbrev pub TellsPath : List (List ℕ) → ℕ → ℕ → List Step → Option ℕ → List Step → Type 0
-TellsPath m depth n old (Some count) new =
-    (path : List Step) × IsTraceable m depth n path × (count ≡ length path) × (new ≡ filled path old)
-TellsPath m depth n old None new = IsMissing m depth n × (new ≡ old)
+-- The traceable path of this number has `count` steps, and is written if it fits. Or there is none.
+abbrev pub TellsPath : {S : Type 0} → (Step → S) → List (List ℕ) → ℕ → ℕ → List S → Option ℕ → List S → Type 0
+TellsPath slot m depth n old (Some count) new =
+    (path : List Step) × IsTraceable m depth n path × (count ≡ length path) × IsPut slot path old new
+TellsPath slot m depth n old None new = IsMissing m depth n × (new ≡ old)
 
 -- This path is what is written.
-abbrev pub GivesPath : List Step → List Step → Option ℕ → List Step → Type 0
-GivesPath path old result new = (result ≡ Some (length path)) × (new ≡ filled path old)
+abbrev pub GivesPath : {S : Type 0} → (Step → S) → List Step → List S → Option ℕ → List S → Type 0
+GivesPath slot path old result new = (result ≡ Some (length path)) × IsPut slot path old new

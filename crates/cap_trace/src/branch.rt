@@ -2,11 +2,8 @@
 
 ghost use Rattle.cap_spec.specs.Messages.{IsMessage};
 ghost use Rattle.cap_spec.specs.declared.Step.{Step};
-ghost use Rattle.cap_trace.specs.Branches.{IsBranch, IsCounted, first_branch, rest_of, root_branch, skipped, steps_of, word_of};
-ghost use Rattle.std.specs.Option.{option_to_list};
-ghost use Rattle.std.specs.Prelude.{◌-◌, ◌++◌, ◌<◌, ◌≡◌, ◌≤◌, [], ◌∷◌, IsFalse, IsTrue, List, ℕ};
-
-use cap_spec::Step;
+ghost use Rattle.cap_trace.specs.Branches.{IsBranch, IsCounted, element_of, first_branch, index_of, rest_of, root_branch, skipped, word_of};
+ghost use Rattle.std.specs.Prelude.{◌-◌, ◌<◌, ◌≡◌, ◌≤◌, [], ◌∷◌, IsFalse, IsTrue, List, ℕ};
 
 /// How the steps lead from an object to its pointer word.
 #[derive(Clone, Copy, Default)]
@@ -132,21 +129,21 @@ impl Branch {
         self.left -= words;
     }
 
-    /// The steps from the object to the word: that to an element, and that to a pointer.
+    /// Which word of its row it is, from 0.
     #[inline(always)]
-    pub(crate) fn steps(&self) -> (Option<Step>, Option<Step>)
+    pub(crate) fn index(&self) -> u32
         requires { IsCounted self.now.form self.now }
-        ensures { option_to_list result.0 ++ option_to_list result.1 ≡ steps_of self.now }
+        ensures { result ≡ index_of self.now }
     {
-        let index = self.row - 1 - self.left;
-        match self.form {
-            Form::Root => (None, None),
-            Form::Struct => (None, Some(Step::Ptr(index as u16))),
-            Form::Pointers => (Some(Step::Item(index)), None),
-            Form::Structs => {
-                let element = self.elements - 1 - self.more;
-                (Some(Step::Item(element)), Some(Step::Ptr(index as u16)))
-            }
-        }
+        self.row - 1 - self.left
+    }
+
+    /// Which element of its list its row belongs to, from 0.
+    #[inline(always)]
+    pub(crate) fn element(&self) -> u32
+        requires { self.now.more < self.now.elements }
+        ensures { result ≡ element_of self.now }
+    {
+        self.elements - 1 - self.more
     }
 }

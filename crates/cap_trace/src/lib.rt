@@ -10,9 +10,11 @@ mod naming;
 mod near;
 mod row;
 mod seeking;
+mod slot;
 mod tracing;
 mod used_words;
 
 pub use earlier::{EarlierPointer, earlier_pointer};
 pub use naming::NamedPath;
+pub use slot::StepSlot;
 pub use tracing::path_of_pointer;

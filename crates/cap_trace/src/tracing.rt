@@ -10,13 +10,13 @@ ghost use Rattle.cap_spec.specs.declared.Refusal.{Refusal};
 ghost use Rattle.cap_spec.specs.declared.Step.{Step};
 ghost use Rattle.cap_trace.specs.Branches.{AreBranches, IsCounted, path_of, steps_of};
 ghost use Rattle.cap_trace.specs.PointerNumbers.{IsTraceable};
-ghost use Rattle.cap_trace.specs.Traces.{GivesPath, HasCome, TellsPath, filled};
+ghost use Rattle.cap_trace.specs.Traces.{GivesPath, HasCome, IsPut, TellsPath};
 ghost use Rattle.cap_vet.specs.Limits.{depth_of};
-ghost use Rattle.std.specs.Option.{option_to_list};
-ghost use Rattle.std.specs.Prelude.{◌+◌, ◌++◌, ◌<◌, ◌≡◌, ◌≤◌, [], ◌∷◌, IfSome, List, length, ℕ};
+ghost use Rattle.std.specs.Prelude.{◌+◌, ◌++◌, ◌<◌, ◌≡◌, ◌≤◌, [], ◌∷◌, IfSome, List, drop, length, map, ℕ};
 
-use crate::branch::Branch;
+use crate::branch::{Branch, Form};
 use crate::seeking::{BranchStack, Sought, seek};
+use crate::slot::StepSlot;
 use cap_frame::Segments;
 use cap_spec::Step;
 use cap_vet::Limits;
@@ -24,43 +24,47 @@ use cap_vet::Limits;
 /// Writes the path to the pointer word of this number in preorder, where the root word is number 1,
 /// and returns how many steps it has. These are at most as many as the depth limit has levels.
 /// `number` may be the `pointers` of a refusal, of a strict refusal or of an overlap: it is then the
-/// path to the pointer that is named. Of a path that has more steps than the buffer, the first ones
-/// are written.
+/// path to the pointer that is named. If it has more steps than the buffer, the buffer is unchanged.
 ///
 /// `None` if the message has no such word, or if a pointer before it can't be followed or leads past
 /// the depth limit. The buffer is then unchanged. The word limit has no effect. Allocates nothing.
-pub fn path_of_pointer<M: Segments>(
+pub fn path_of_pointer<M: Segments, S: StepSlot>(
     message: &M,
     limits: Limits,
     number: u64,
-    steps: &mut [Step],
+    steps: &mut [S],
 ) -> Option<usize>
     ensures tells { let m = M.segments message.now in
-        TellsPath m (depth_of limits) number steps.old result steps.new }
+        TellsPath S.slot m (depth_of limits) number steps.old result steps.new }
     ensures few { IfSome result (λ count. count ≤ depth_of limits) }
 
     // The other direction: the path of this number is written.
     ensures gives { let m = M.segments message.now in (path : List Step) →
-        IsTraceable m (depth_of limits) number path → GivesPath path steps.old result steps.new }
+        IsTraceable m (depth_of limits) number path → GivesPath S.slot path steps.old result steps.new }
 
     // So is that of a refusal, of a pointer that common readers reject, and of an overlap.
     ensures fault { let m = M.segments message.now in (words : ℕ) (r : Refusal) →
         (f : IsFirstFault m words (depth_of limits) r) → r.pointers ≡ number →
-        GivesPath f.path steps.old result steps.new }
+        GivesPath S.slot f.path steps.old result steps.new }
     ensures lax { let m = M.segments message.now in (words s w : ℕ) (what : Lax) →
         IsWithin m words (depth_of limits) → (f : IsFirstLax m s w what number) →
-        GivesPath f.path steps.old result steps.new }
+        GivesPath S.slot f.path steps.old result steps.new }
     ensures overlap { let m = M.segments message.now in (words s w : ℕ) →
         IsWithin m words (depth_of limits) → (f : IsFirstOverlap m s w number) →
-        GivesPath f.path steps.old result steps.new }
+        GivesPath S.slot f.path steps.old result steps.new }
 {
     traced(message, limits.depth(), number, steps)
 }
 
 // The same by the depth limit alone.
-fn traced<M: Segments>(message: &M, depth: u32, number: u64, steps: &mut [Step]) -> Option<usize>
+fn traced<M: Segments, S: StepSlot>(
+    message: &M,
+    depth: u32,
+    number: u64,
+    steps: &mut [S],
+) -> Option<usize>
     requires { depth ≤ 256 }
-    ensures tells { TellsPath (M.segments message.now) depth number steps.old result steps.new }
+    ensures tells { TellsPath S.slot (M.segments message.now) depth number steps.old result steps.new }
     ensures few { IfSome result (λ count. count ≤ depth) }
 {
     if number == 0 || message.len(0) == 0 {
@@ -68,25 +72,25 @@ fn traced<M: Segments>(message: &M, depth: u32, number: u64, steps: &mut [Step])
     }
     // Each search initializes its branches. A path has fewer branches than words were looked at.
     if number <= 32 {
-        return traced_from_root::<M, 32>(message, depth, number, steps);
+        return traced_from_root::<M, S, 32>(message, depth, number, steps);
     }
     // The default depth limit is 64.
-    traced_from_root::<M, 65>(message, depth, number, steps)
+    traced_from_root::<M, S, 65>(message, depth, number, steps)
 }
 
 // The same of a message with a root word, with this many branches at first.
 #[inline(always)]
-fn traced_from_root<M: Segments, const N: usize>(
+fn traced_from_root<M: Segments, S: StepSlot, const N: usize>(
     message: &M,
     depth: u32,
     number: u64,
-    steps: &mut [Step],
+    steps: &mut [S],
 ) -> Option<usize>
     requires most { N ≤ 257 }
     requires shallow { depth ≤ 256 }
     requires counted { 0 < number }
     requires root { 0 < length (segment_of (M.segments message.now) 0) }
-    ensures tells { TellsPath (M.segments message.now) depth number steps.old result steps.new }
+    ensures tells { TellsPath S.slot (M.segments message.now) depth number steps.old result steps.new }
     ensures few { IfSome result (λ count. count ≤ depth) }
 {
     let mut others: BranchStack<N> = BranchStack::new();
@@ -102,20 +106,20 @@ fn traced_from_root<M: Segments, const N: usize>(
 // deepest path can have.
 #[cold]
 #[inline(never)]
-fn traced_deep<M: Segments>(
+fn traced_deep<M: Segments, S: StepSlot>(
     message: &M,
     depth: u32,
     at: u64,
     number: u64,
     few: &[Branch],
     from: Branch,
-    steps: &mut [Step],
+    steps: &mut [S],
 ) -> Option<usize>
     requires most { length few.now ≤ 257 }
     requires shallow { depth ≤ 256 }
     requires before { at ≤ number }
     requires come { HasCome (M.segments message.now) depth at few.now from }
-    ensures tells { TellsPath (M.segments message.now) depth number steps.old result steps.new }
+    ensures tells { TellsPath S.slot (M.segments message.now) depth number steps.old result steps.new }
     ensures few { IfSome result (λ count. count ≤ depth) }
 {
     let mut others: BranchStack<257> = BranchStack::new();
@@ -130,47 +134,64 @@ fn traced_deep<M: Segments>(
     }
 }
 
-// Writes the path over these branches as far as there is capacity, and gives how many steps it has.
-fn write_path(others: &[Branch], last: &Branch, steps: &mut [Step]) -> usize
+// Writes the path over these branches to the start of the buffer, if it fits. Gives how many steps it
+// has.
+#[inline(always)]
+fn write_path<S: StepSlot>(others: &[Branch], last: &Branch, steps: &mut [S]) -> usize
     requires few { length others.now ≤ 257 }
+    requires level { last.now.level ≡ length (path_of (others.now ++ last.now ∷ [])) + 1 }
     requires branches { (m : List (List ℕ)) × (depth : ℕ)
         × AreBranches m depth 0 (others.now ++ last.now ∷ []) }
     ensures count { result ≡ length (path_of (others.now ++ last.now ∷ [])) }
-    ensures steps { steps.new ≡ filled (path_of (others.now ++ last.now ∷ [])) steps.old }
+    ensures steps { IsPut S.slot (path_of (others.now ++ last.now ∷ [])) steps.old steps.new }
 {
-    let mut count = 0;
-    'branches: for branch in others {
-        count = write_steps(branch, steps, count);
+    // Each step takes a level.
+    let count = (last.level - 1) as usize;
+    if count > steps.len() {
+        return count;
     }
-    write_steps(last, steps, count)
+    let mut at = 0;
+    'branches: for branch in others {
+        at = write_steps(branch, steps, at);
+    }
+    write_steps(last, steps, at)
 }
 
-// Writes the steps of a branch at this place, as far as there is capacity. Gives the next place.
-fn write_steps(branch: &Branch, steps: &mut [Step], at: usize) -> usize
+// Writes the steps of a branch at this place. Gives the next place.
+#[inline(always)]
+fn write_steps<S: StepSlot>(branch: &Branch, steps: &mut [S], at: usize) -> usize
     requires early { at < 998 }
     requires counted { IsCounted branch.now.form branch.now }
+    requires fits { at + length (steps_of branch.now) ≤ length steps.old }
     ensures place { result ≡ at + length (steps_of branch.now) }
     ensures few { result ≤ at + 2 }
-    ensures steps { (path old : List Step) → at ≡ length path → steps.old ≡ filled path old →
-        steps.new ≡ filled (path ++ steps_of branch.now) old }
+    ensures steps { (path : List Step) (old : List S) → at ≡ length path →
+        steps.old ≡ map S.slot path ++ drop at old →
+        steps.new ≡ map S.slot (path ++ steps_of branch.now) ++ drop result old }
 {
-    let (element, pointer) = branch.steps();
-    let next = write_step(steps, at, element);
-    write_step(steps, next, pointer)
+    let index = branch.index();
+    match branch.form {
+        Form::Root => at,
+        Form::Struct => write_step(steps, at, Step::Ptr(index as u16)),
+        Form::Pointers => write_step(steps, at, Step::Item(index)),
+        Form::Structs => {
+            let next = write_step(steps, at, Step::Item(branch.element()));
+            write_step(steps, next, Step::Ptr(index as u16))
+        }
+    }
 }
 
-// Writes a step at this place, if there is one, and there is capacity. Gives the next place.
-fn write_step(steps: &mut [Step], at: usize, step: Option<Step>) -> usize
-    requires { at < 1000 }
-    ensures place { result ≡ at + length (option_to_list step) }
-    ensures steps { (path old : List Step) → at ≡ length path → steps.old ≡ filled path old →
-        steps.new ≡ filled (path ++ option_to_list step) old }
+// Writes a step at this place. Gives the next place.
+#[inline(always)]
+fn write_step<S: StepSlot>(steps: &mut [S], at: usize, step: Step) -> usize
+    requires early { at < 1000 }
+    requires fits { at < length steps.old }
+    ensures place { result ≡ at + 1 }
+    ensures length { length steps.new ≡ length steps.old }
+    ensures steps { (path : List Step) (old : List S) → at ≡ length path →
+        steps.old ≡ map S.slot path ++ drop at old →
+        steps.new ≡ map S.slot (path ++ step ∷ []) ++ drop result old }
 {
-    let Some(step) = step else {
-        return at;
-    };
-    if at < steps.len() {
-        steps[at] = step;
-    }
+    steps[at] = S::of(step);
     at + 1
 }

@@ -1,11 +1,11 @@
 //! The call for the path to a pointer word.
 
-ghost use Rattle.cap_calls.specs.PointerCalls.{FindsFew, TellsPointer, call_step, steps_found};
+ghost use Rattle.cap_calls.specs.PointerCalls.{FindsFew, TellsPointer, steps_found};
 ghost use Rattle.cap_calls.specs.declared.answer.Answer.{Answer};
 ghost use Rattle.cap_calls.specs.declared.report.CallReport.{CallReport};
 ghost use Rattle.cap_calls.specs.declared.step.CallStep.{CallStep};
 ghost use Rattle.cap_vet.specs.Limits.{depth_of, words_of};
-ghost use Rattle.std.specs.Prelude.{◌+◌, ◌++◌, ◌≡◌, ◌≤◌, List, drop, length, map, ℕ};
+ghost use Rattle.std.specs.Prelude.{◌≡◌, ◌≤◌, List, ℕ};
 
 use crate::answer::Answer;
 use crate::calls::get::path_answer;
@@ -18,7 +18,7 @@ use crate::report::CallReport;
 use crate::step::CallStep;
 use cap_frame::{ByteView, Segments};
 use cap_trace::path_of_pointer;
-use cap_vet::{Demands, Limits, Step};
+use cap_vet::{Demands, Limits};
 
 /// Finds the path to a pointer word of the message that bytes are: the word of this number in
 /// preorder, where that of the root has number 1. The number that a report has as `pointers` is
@@ -105,34 +105,12 @@ fn traced<M: Segments>(message: &M, limits: Limits, number: u64, out: &mut [Call
     if number > limits.words() + 1 {
         return path_answer(Answer::NoNode);
     }
-    // Each call initializes its path.
-    if limits.depth() > 64 {
-        return put_path(message, limits, number, &mut [Step::Ptr(0); 256], out);
-    }
-    put_path(message, limits, number, &mut [Step::Ptr(0); 64], out)
-}
-
-// Puts the path to that word to the start of a buffer, if it fits. The path is written to `path` first.
-#[inline(always)]
-fn put_path<M: Segments>(
-    message: &M,
-    limits: Limits,
-    number: u64,
-    path: &mut [Step],
-    out: &mut [CallStep],
-) -> Found
-    requires counted { number ≤ words_of limits + 1 }
-    requires enough { depth_of limits ≤ length path.old }
-    ensures { let m = M.segments message.now in
-        FindsFew number out.old out.new m (words_of limits) (depth_of limits) result }
-{
-    let Some(count) = path_of_pointer(message, limits, number, path) else {
+    let Some(count) = path_of_pointer(message, limits, number, out) else {
         return path_answer(Answer::NoNode);
     };
     if count > out.len() {
         return found_of_steps(Answer::BufferTooSmall, count);
     }
-    put_steps(&path[..count], out);
     found_of_steps(Answer::Good, count)
 }
 
@@ -144,15 +122,5 @@ fn found_of_steps(answer: Answer, count: usize) -> Found
         answer,
         count,
         report: CallReport::none(),
-    }
-}
-
-// Puts the steps to the start of a buffer.
-fn put_steps(path: &[Step], out: &mut [CallStep])
-    requires { length path.now ≤ length out.old }
-    ensures { out.new ≡ map call_step path.now ++ drop (length path.now) out.old }
-{
-    'steps: for at in 0..path.len() {
-        out[at] = CallStep::of(path[at]);
     }
 }
