@@ -28,6 +28,8 @@ use cap_vet::Limits;
 ///
 /// `None` if the message has no such word, or if a pointer before it can't be followed or leads past
 /// the depth limit. The buffer is then unchanged. The word limit has no effect. Allocates nothing.
+// It is not inlined, so that its loop has all registers.
+#[inline(never)]
 pub fn path_of_pointer<M: Segments, S: StepSlot>(
     message: &M,
     limits: Limits,
@@ -135,8 +137,8 @@ fn traced_deep<M: Segments, S: StepSlot>(
 }
 
 // Writes the path over these branches to the start of the buffer, if it fits. Gives how many steps it
-// has.
-#[inline(always)]
+// has. The search doesn't share its registers.
+#[inline(never)]
 fn write_path<S: StepSlot>(others: &[Branch], last: &Branch, steps: &mut [S]) -> usize
     requires few { length others.now ≤ 257 }
     requires level { last.now.level ≡ length (path_of (others.now ++ last.now ∷ [])) + 1 }

@@ -95,3 +95,15 @@ fn the_longest_path(rt: HostRuntime) -> Result<(), Fail> {
     same(&rt, none, None);
     Ok(())
 }
+
+#[test]
+fn a_path_that_does_not_fit(rt: HostRuntime) -> Result<(), Fail> {
+    let limits = Limits::new(1000, 256).ok_or("no limits")?;
+    let cycle = message(rt.alloc(), &CYCLE)?;
+    let number = pointers_of(&cycle, limits)?;
+    let mut steps = [Step::Item(9); 255];
+    let count = path_of_pointer(&cycle, limits, number, &mut steps);
+    same(&rt, count, Some(256));
+    assert!(&rt; steps.iter().all(|step| *step == Step::Item(9)));
+    Ok(())
+}
