@@ -221,7 +221,8 @@ fn row_within(
         IfSome result (IsLooked m (words_of limits.now) (depth_of limits.now) spent s w level) }
 {
     let cost = u64::from(pads) + u64::from(row.words);
-    if level > limits.depth() || spent + cost > limits.words() {
+    // The words come first: docs/internals/speed.md has what the other order costs.
+    if spent + cost > limits.words() || level > limits.depth() {
         return None;
     }
     let run = row_run(segment, row.pointers_start, row.pointer_count, level + 1);
