@@ -5,7 +5,8 @@
 
 With no words it takes the crates of tests/planted.txt. `rt plant` makes the wrong bodies, for example one that gives up, or one
 that calls the real function with an argument changed. A body that meets the contract is a line of that list, with the reason why
-it may. A line that isn't on the list fails, and so does a line of the list that no longer comes. It takes minutes for each crate.
+it may. A line that isn't on the list fails, and so does a line of the list that no longer comes. It takes 1 to 40 processor
+minutes for each crate.
 
 A crate of the list is a line [NAME]. Each line below it has a kind, a file, a function with the body, and after ' -- ' the reason.
 The kinds are those of `rt plant`: `proves`, `no-ensures` and `untested`. The last line is 'N passed, M failed', and the status is

@@ -56,7 +56,7 @@ pub(crate) fn fill_starts<M: Segments>(message: &M, starts: &mut ArrayVec<u64, 5
 impl Marks<'_> {
     /// Marks what following the pointer at word `w` of segment `s` uses, its pads and the words of its
     /// object. Returns `false` if a part of it is used twice or was marked before.
-    // It is inlined, but for pads elsewhere: a walk may look at millions of words.
+    // It is inlined, but not for pads that lie apart: a walk may look at millions of words.
     #[inline(always)]
     pub(crate) fn mark_pointer<M: Segments>(
         &mut self,
