@@ -56,6 +56,7 @@ pub(crate) fn skip_words<S: WordSource>(source: &mut S, many: u64) -> Result<(),
 }
 
 /// Reads the words of segments of these sizes, and keeps the root word alone.
+#[inline(always)]
 pub(crate) fn skip_contents<S: WordSource>(
     source: &mut S,
     sizes: &[u32],
