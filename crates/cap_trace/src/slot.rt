@@ -1,16 +1,16 @@
-//! What the steps of a path are written to.
+//! A slot of a buffer, for one step of a path.
 
 ghost use Rattle.cap_spec.specs.declared.Step.{Step};
 ghost use Rattle.std.specs.Prelude.{◌≡◌};
 
 use cap_spec::Step;
 
-/// A place of a buffer, which holds one step of a path.
+/// A slot of a buffer, which holds one step of a path.
 pub trait StepSlot: Copy {
-    // The place with this step.
+    // The slot with this step.
     ghost slot: { Step → Self };
 
-    /// The place with this step.
+    /// The slot with this step.
     fn of(step: Step) -> Self
         ensures { result ≡ slot step };
 }
