@@ -192,8 +192,8 @@ def pointer_lines(message, segment, at, start):
     target, into = led_to(segment, at, word, landing)
     if target:
         yield from target_lines(message, target)
-    yield (f"segment {into}, words {len(message[into])}" if into < len(message)
-           else f"segment {into} does not exist, segments 0 to {len(message) - 1}")
+    yield (f"leads into segment {into}, words {len(message[into])}" if into < len(message)
+           else f"leads into segment {into}, which does not exist, segments 0 to {len(message) - 1}")
 
 
 def sentence(message, reason, segment, at):
@@ -243,7 +243,7 @@ def explanation(message, reason, segment, at, pointers, words, depth, start):
     if reason == "DepthLimit":
         yield f"level {depth + 1}, limit {depth}"
     if reason == "WordLimit":
-        yield f"charge {charge_to(message, pointers)}, limit {words}"
+        yield f"charge up to here {charge_to(message, pointers)}, limit {words}"
     yield f"reason {sentence(message, reason, segment, at)}"
     if reason == "Overlap":
         yield from earlier_lines(message, pointers)

@@ -264,7 +264,7 @@ def test_refusal(page, folder):
     page.load(folder / "damaged.bin")
     compare("the reason and the path", ["OutOfSegment", "/p0/i0/p0"], page.texts("#verdict .title b, #verdict .title button"))
     compare("the sentence", ["The target runs past the end of its segment."], page.texts(".sentence"))
-    compare("the facts", ["byte", "pointer", "target", "segment", "not looked at"], page.texts("#verdict dt"))
+    compare("the facts", ["byte", "pointer", "target", "leads into", "not looked at"], page.texts("#verdict dt"))
     compare("the crumbs", ["root", "p0", "i0", "p0"], page.texts("#crumbs > *"))
     compare("the tree", ["OutOfSegment"], page.texts(".item.refused .flag"))
     compare("rows that were not looked at", 7, len(page.texts(".item.unseen")))

@@ -136,7 +136,7 @@ CYCLE_EXPLAINED = f"""\
   byte 8 of the message, byte 8 of the input
   pointer fcffffff00000100 struct, offset -1, data words 0, pointers 1
   target 0:0 to 0:0, words 1
-  segment 0, words 1
+  leads into segment 0, words 1
   level 65, limit 64
   reason the target is at a deeper level than the limit allows
 """

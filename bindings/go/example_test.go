@@ -116,7 +116,7 @@ func ExampleExplain() {
 	//   byte 24 of the message
 	//   pointer 0000000001000000 struct, offset 0, data words 1, pointers 0
 	//   target 0:3 to 0:3, words 1
-	//   segment 0, words 3
+	//   leads into segment 0, words 3
 	//   reason the target runs past the end of its segment
 }
 

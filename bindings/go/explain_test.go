@@ -18,12 +18,12 @@ func TestExplain(t *testing.T) {
 		{"accepted", null, capvet.Limits{}, "", nil},
 		{"the root", framed(1 << 34), capvet.Limits{}, "  path /\n  byte 8 of the message\n" +
 			"  pointer 0000000004000000 struct, offset 0, data words 4, pointers 0\n  target 0:1 to 0:4, words 4\n" +
-			"  segment 0, words 1\n  reason the target runs past the end of its segment\n", nil},
+			"  leads into segment 0, words 1\n  reason the target runs past the end of its segment\n", nil},
 		{"no root", framed(), capvet.Limits{},
 			"  reason segment 0 has no words, so the message has no root pointer\n", nil},
 		{"a list without a table", amplified[8:], capvet.Limits{NoTable: true}, "  path /\n  byte 8 of the message\n" +
 			"  pointer 0100000010800000 list of empty elements, offset 0, elements 4098\n  target 0:1, words 0\n" +
-			"  segment 0, words 1\n  charge 4098, limit 4097\n" +
+			"  leads into segment 0, words 1\n  charge up to here 4098, limit 4097\n" +
 			"  reason the charge up to this pointer and its target is more than the limit\n", nil},
 		{"no bytes", nil, capvet.Limits{}, "", &capvet.FrameError{Reason: capvet.NoMessage, Required: 8}},
 		{"bytes after the message", join(null, null[:8]), capvet.Limits{}, "",

@@ -20,9 +20,9 @@ export function pathOf(steps) {
   return steps.length ? steps.map((step) => `/${step.label}`).join("") : "/";
 }
 
-/** A line of an explanation: its first word, and the rest. */
+/** A line of an explanation: its name, which is its first word or one of these, and the rest. */
 function lineOf(text) {
-  const [, name, rest] = /^ {2}(\w+) (.*)$/.exec(text);
+  const [, name, rest] = /^ {2}(leads into|charge up to here|\w+) (.*)$/.exec(text);
   return { name, text: rest };
 }
 

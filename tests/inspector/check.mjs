@@ -81,6 +81,9 @@ function checkRefused(it, message, verdict, text) {
   const names = facts.filter((fact) => fact.at !== null).map((fact) => fact.name);
   check("the words of the facts", facts.every((fact) => fact.at === null || fact.text.startsWith(beginning(message, fact))), it);
   check("the pointer is a fact", names[0] === "pointer", it);
+  const hasFact = (wanted) => facts.some(({ name }) => name === wanted);
+  check("the segment is a fact", reason === "Overlap" || hasFact("leads into"), it);
+  check("the charge is a fact", (reason === "WordLimit") === hasFact("charge up to here"), it);
   check("a circle", facts.every((fact) => fact.name !== "circle" || isCircle(message, fact)), it);
   check("each pad is a fact with a word", facts.every(({ name, at }) => name !== "pad" || at !== null), it);
   check("the place", message.place(way.at) === place, it);

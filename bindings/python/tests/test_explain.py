@@ -13,8 +13,8 @@ LINES = """  path /
   byte 8 of the message
   pointer 0100000010800000 list of empty elements, offset 0, elements 4098
   target 0:1, words 0
-  segment 0, words 1
-  charge 4098, limit 4097
+  leads into segment 0, words 1
+  charge up to here 4098, limit 4097
   reason the charge up to this pointer and its target is more than the limit
 """
 

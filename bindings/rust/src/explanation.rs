@@ -69,7 +69,7 @@ impl Eq for Explanation {}
 ///   byte 24 of the message
 ///   pointer 0000000001000000 struct, offset 0, data words 1, pointers 0
 ///   target 0:3 to 0:3, words 1
-///   segment 0, words 3
+///   leads into segment 0, words 3
 ///   reason the target runs past the end of its segment
 /// ";
 /// let explanation = capvet::explain(&message, Limits::DEFAULT)?;
@@ -115,8 +115,8 @@ mod tests {
   byte 8 of the message
   pointer 0100000010800000 list of empty elements, offset 0, elements 4098
   target 0:1, words 0
-  segment 0, words 1
-  charge 4098, limit 4097
+  leads into segment 0, words 1
+  charge up to here 4098, limit 4097
   reason the charge up to this pointer and its target is more than the limit
 ";
         assert_eq!(lines(&AMPLIFIED, Limits::DEFAULT), wanted);

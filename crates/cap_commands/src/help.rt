@@ -54,11 +54,12 @@ pub(crate) const EXPLAIN_NOTES: &str = "\
 After the line of 'vet', a refused message has lines that explain the refusal. They begin with the
 path to the pointer, as 'get' takes it, and the byte of the pointer in the message and in the input.
 Then comes the pointer word with its form and its fields, and so does each word of its landing pad.
-The next lines have the words of its target, its tag if it is a list of structs, and the length of
-that segment. The last ones have what is exceeded, if something is, and the reason as a sentence.
-If the input breaks off inside a message, or a message is too large, standard error has the line of
-this fault. Lines after it say where the message begins, what its table says, and the reason. The
-options are those of 'vet'.
+The next lines have the words of its target, its tag if it is a list of structs, and the segment
+that the pointer leads into, with its length. Then come what is exceeded, if something is, and the
+reason as a sentence. For Overlap a last line, 'first used by', names the earlier pointer that uses
+the same word, if there is one. If the input breaks off inside a message, or a message is too large,
+standard error has the line of this fault. Lines after it say where the message begins, what its
+table says, and the reason. The options are those of 'vet'.
 
 'pointers N' counts the pointers that were looked at, the named one included. In a path, pN is
 pointer N and iN is element N, both counted from 0. A place is SEGMENT:WORD, both counted from 0,
@@ -71,7 +72,7 @@ Example:
     byte 64 of the message, byte 64 of the input
     pointer bd0000000a010000 list of bytes, offset 47, elements 33
     target 0:55 to 0:59, words 5
-    segment 0, words 392
+    leads into segment 0, words 392
     level 4, limit 3
     reason the target is at a deeper level than the limit allows";
 

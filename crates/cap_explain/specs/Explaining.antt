@@ -92,11 +92,11 @@ target_lines m (Some t) = target_line t ++ tag_line t (tag_of m t)
 abbrev pub segment_state : List (List ℕ) → ℕ → List ℕ
 segment_state m s =
     if nat_lt s (length m) then codes ", words " ++ decimal (length (segment_of m s)) else
-    (codes " does not exist, segments 0 to " ++ decimal (length m - 1))
+    (codes ", which does not exist, segments 0 to " ++ decimal (length m - 1))
 
 -- the segment that the pointer leads into
 abbrev pub segment_line : List (List ℕ) → ℕ → List ℕ
-segment_line m s = (codes "  segment " ++ decimal s) ++ segment_state m s ++ 10 ∷ []
+segment_line m s = (codes "  leads into segment " ++ decimal s) ++ segment_state m s ++ 10 ∷ []
 
 -- the lines on the pointer p at word w of segment s, by its landing pad and its target
 abbrev pub pointer_lines : List (List ℕ) → Option MessageStart → ℕ → ℕ → ℕ → Landing → Option Target
@@ -114,7 +114,7 @@ level_line depth =
 abbrev pub charge_line : Option ℕ → ℕ → List ℕ
 charge_line None words = (codes "  charge, limit " ++ decimal words) ++ 10 ∷ []
 charge_line (Some charge) words =
-    ((codes "  charge " ++ decimal charge) ++ (codes ", limit " ++ decimal words)) ++ 10 ∷ []
+    ((codes "  charge up to here " ++ decimal charge) ++ (codes ", limit " ++ decimal words)) ++ 10 ∷ []
 
 -- how many words the elements of a tag need
 abbrev pub needed : ℕ → ℕ

@@ -225,7 +225,7 @@ fn push_segment_state<M: Segments>(text: &mut Explanation, message: &M, segment:
         text.push_named(b", words ", u64::from(message.len(segment)));
     } else {
         let last = message.count() - 1;
-        text.push_named(b" does not exist, segments 0 to ", u64::from(last));
+        text.push_named(b", which does not exist, segments 0 to ", u64::from(last));
     }
 }
 
@@ -235,7 +235,7 @@ pub(crate) fn push_segment_line<M: Segments>(text: &mut Explanation, message: &M
     ensures items { text.new ≡ text.old ++ segment_line (M.segments message.now) segment }
     ensures few { length text.new ≤ length text.old + PLAIN }
 {
-    text.push_named(b"  segment ", u64::from(segment));
+    text.push_named(b"  leads into segment ", u64::from(segment));
     push_segment_state(text, message, segment);
     text.push_text(b"\n");
 }
@@ -269,7 +269,7 @@ fn push_charge_up_to_line(text: &mut Explanation, charge: u64, words: u64)
     ensures items { text.new ≡ text.old ++ charge_line (Some charge) words }
     ensures few { length text.new ≤ length text.old + PLAIN }
 {
-    text.push_named(b"  charge ", charge);
+    text.push_named(b"  charge up to here ", charge);
     text.push_named(b", limit ", words);
     text.push_text(b"\n");
 }
