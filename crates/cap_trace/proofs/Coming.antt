@@ -44,6 +44,7 @@ at_root m depth exists some = record {
     tt,
   );
   passable = λ q b. absurd b;
+  few = omega arith;
 }
 
 -- a path reaches one place, so what passes there does
@@ -58,8 +59,8 @@ passes_there m depth p l s w l' s' w' r k h =
 pub came_next : (m : List (List ℕ)) (depth n : ℕ) (fs gs : List Branch) (f g : Branch) → (h : HasCome m depth n fs f)
     → PassesAt m depth f.segment f.at f.level
     → IsTrail m (path_of (fs ++ f ∷ []) ∷ h.seen) (word_ahead (path_of (gs ++ g ∷ [])) g ∷ rest_from [] (gs ++ g ∷ []))
-    → AreBranches m depth 0 (gs ++ g ∷ []) → HasCome m depth (n + 1) gs g
-came_next m depth n fs gs f g h passes t branches = record {
+    → AreBranches m depth 0 (gs ++ g ∷ []) → length gs ≤ length fs + 1 → HasCome m depth (n + 1) gs g
+came_next m depth n fs gs f g h passes t branches few = record {
   seen = path_of (fs ++ f ∷ []) ∷ h.seen;
   trail = t;
   tour = h.tour ++ path_of (gs ++ g ∷ []) ∷ [];
@@ -67,6 +68,7 @@ came_next m depth n fs gs f g h passes t branches = record {
   number = omega (arith, h.number, length-append h.tour (path_of (gs ++ g ∷ []) ∷ []));
   branches = branches;
   passable = λ q b level s w r. passed q level s w r (before q b (one_of_last q (path_of (gs ++ g ∷ [])) h.tour (tour.all q level s w r (inr b))));
+  few = omega (arith, h.few, few);
 }
   where
     tour : IsTour m (path_of (gs ++ g ∷ [])) (h.tour ++ path_of (gs ++ g ∷ []) ∷ [])
@@ -160,8 +162,9 @@ found_told slot m depth n fs f others count old new h e many put =
       omega (arith, many, long, few_steps m depth n fs f h),
     )
 
--- Space for more branches than the depth limit has levels is never full.
-pub never_full : (m : List (List ℕ)) (depth n : ℕ) (fs : List Branch) (f : Branch) (space : ℕ) → depth < space
-    → HasCome m depth n fs f → length fs ≡ space → ⊥
-never_full m depth n fs f space enough h full =
-    let k = (branches_without m depth 0 fs f h.branches).1 in omega (arith, k.high, k.low, enough, full)
+-- Before the word of a number, space is left for one more branch.
+pub has_space : (m : List (List ℕ)) (depth n more space : ℕ) (fs : List Branch) (f : Branch) → HasCome m depth n fs f → n < more
+    → (more ≤ space) ⊎ (depth < space) → length fs < space
+has_space m depth n more space fs f h less (inl enough) = omega (arith, h.few, less, enough)
+has_space m depth n more space fs f h less (inr enough) =
+    let k = (branches_without m depth 0 fs f h.branches).1 in omega (arith, k.high, k.low, enough)

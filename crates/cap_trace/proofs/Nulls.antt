@@ -45,4 +45,4 @@ came_in_row m depth k n fs f some below h =
     (subst (λ (u : List Ahead). IsTrail m (path_of (fs ++ here ∷ []) ∷ h.seen) u)
     (went_next fs here next (next_in_row f n some b.1.counted (path_of fs)))
     (below.2 h.seen (path_of (fs ++ here ∷ [])) (rest_from [] (fs ++ here ∷ [])) h.trail))
-    (branches_with m depth 0 fs next b.0 (branch_in_row m depth _ f n some b.1)))
+    (branches_with m depth 0 fs next b.0 (branch_in_row m depth _ f n some b.1)) (omega arith))

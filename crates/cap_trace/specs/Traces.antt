@@ -34,7 +34,7 @@ abbrev pub word_ahead : List Step → Branch → Ahead
 word_ahead path f = record { path = path; segment = f.segment; word = f.at; level = f.level }
 
 -- The search has come to the word of the branch, after the others on the way down. It is number n in preorder, and
--- each pointer before it passes.
+-- each pointer before it passes. The others are fewer than n.
 pub record HasCome (m : List (List ℕ)) (depth n : ℕ) (others : List Branch) (last : Branch) : Type 0 where
   pub seen : List (List Step)
   pub trail : IsTrail m seen (word_ahead (path_of (others ++ last ∷ [])) last ∷ rest_from [] (others ++ last ∷ []))
@@ -43,6 +43,7 @@ pub record HasCome (m : List (List ℕ)) (depth n : ℕ) (others : List Branch) 
   pub number : n ≡ length tour
   pub branches : AreBranches m depth 0 (others ++ last ∷ [])
   pub passable : (q : List Step) → Before q (path_of (others ++ last ∷ [])) → IsPassable m depth q
+  pub few : length others < n
 
 -- no path of this number can be traced
 abbrev pub IsMissing : List (List ℕ) → ℕ → ℕ → Type 0

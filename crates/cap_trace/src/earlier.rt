@@ -10,7 +10,7 @@ ghost use Rattle.cap_vet.specs.Limits.{depth_of};
 ghost use Rattle.std.specs.Prelude.{◌≡◌, ◌≤◌, IfSome, List, None, Some, ℕ};
 
 use crate::branch::Branch;
-use crate::seeking::{BranchStack, Passed, Sought, pass, seek};
+use crate::seeking::{BranchStack, pass, seek};
 use crate::used_words::{UsedWords, uses_one};
 use cap_frame::Segments;
 use cap_vet::Limits;
@@ -77,11 +77,10 @@ fn word_of_number<M: Segments>(message: &M, depth: u32, number: u64) -> Option<B
     }
     let mut others: BranchStack<BRANCHES> = BranchStack::new();
     let mut last = Branch::root();
-    match seek(message, depth, 1, number, &mut others, &mut last) {
-        Sought::Found => Some(last),
-        Sought::Missing => None,
-        Sought::Full(_) => unreachable!(),
+    if !seek(message, depth, number, &mut others, &mut last) {
+        return None;
     }
+    Some(last)
 }
 
 // The first pointer that uses one of these words, of those before the word of this number.
@@ -111,12 +110,10 @@ fn first_using<M: Segments>(
                 pointers: at,
             });
         }
-        match pass(message, depth, &mut others, &mut here) {
-            Passed::On => at += 1,
-            // The word of this number comes later.
-            Passed::Ended => unreachable!(),
-            // The branches are enough for the depth.
-            Passed::Full => unreachable!(),
+        // The word of this number comes later.
+        if !pass(message, depth, &mut others, &mut here) {
+            unreachable!();
         }
+        at += 1;
     }
 }

@@ -2,14 +2,14 @@
 
 ghost use Rattle.cap_ptr.specs.Rows.{FindsRow};
 ghost use Rattle.cap_ptr.specs.Shapes.{FindsTarget};
-ghost use Rattle.cap_spec.specs.Messages.{IsMessage};
-ghost use Rattle.cap_trace.specs.Branches.{AreBranches, path_of, rest_from};
+ghost use Rattle.cap_spec.specs.Messages.{IsMessage, segment_of};
+ghost use Rattle.cap_trace.specs.Branches.{root_branch};
 ghost use Rattle.cap_trace.specs.NearPointers.{IsNearPointer};
-ghost use Rattle.cap_trace.specs.Seeking.{IsLooked, IsSought, Passes};
-ghost use Rattle.cap_trace.specs.Traces.{GoesBelow, HasCome, word_ahead};
+ghost use Rattle.cap_trace.specs.Seeking.{IsLooked, Passes};
+ghost use Rattle.cap_trace.specs.Traces.{GoesBelow, HasCome, IsMissing};
 ghost use Rattle.cap_trace.specs.declared.below.Below.TheVariants.{Object};
 ghost use Rattle.cap_trace.specs.declared.branch.Branch.{Branch};
-ghost use Rattle.std.specs.Prelude.{◌+◌, ◌++◌, ◌≡◌, ◌≤◌, [], ◌∷◌, IsFalse, IsTrue, List, None, Some, ℕ};
+ghost use Rattle.std.specs.Prelude.{◌+◌, ◌<◌, ◌≡◌, ◌≤◌, ◌⊎◌, [], IsFalse, IsTrue, List, None, Some, length, ℕ};
 
 use crate::below::{Below, below_target, look_below};
 use crate::branch::Branch;
@@ -24,77 +24,58 @@ use cap_ptr::{Row, Target, kind, middle, near_row};
 /// greatest depth.
 pub(crate) type BranchStack<const N: usize> = ArrayVec<Branch, N>;
 
-/// What a search has come to.
-#[derive(Clone, Copy, Drop)]
-pub(crate) enum Sought {
-    /// The pointer word.
-    Found,
-    /// There is no such word, or a pointer before it can't be followed or leads past the depth limit.
-    Missing,
-    /// The pointer word of this number, where the branches are full.
-    Full(u64),
-}
-
-/// What comes of passing a pointer word.
-#[derive(Clone, Copy, Drop)]
-pub(crate) enum Passed {
-    /// The search is at the next one.
-    On,
-    /// There is no way on.
-    Ended,
-    /// The branches are full, and nothing has changed.
-    Full,
-}
-
 /// What comes of looking at a pointer word.
 #[derive(Clone, Copy, Drop)]
 enum Looked {
-    /// The search went on below it.
-    Went(Passed),
+    /// The search is at the first pointer word below it.
+    Entered,
+    /// It can't be followed, or leads past the depth limit.
+    Blocked,
     /// Nothing is below it, and nothing has changed.
     Nothing,
     /// It has to be followed, and nothing has changed.
     Unknown,
 }
 
-/// Looks at the pointer words of a message in preorder, from number `first` up to that of `number`.
+/// Looks at the pointer words of a message in preorder, from the root word up to that of this number.
 /// `last` is the word that the search has come to, and `others` are the branches before it on the way
-/// down.
+/// down. `false` if there is no such word, or if a pointer before it can't be followed or leads past the
+/// depth limit.
 #[inline(always)]
 pub(crate) fn seek<M: Segments, const N: usize>(
     message: &M,
     depth: u32,
-    first: u64,
     number: u64,
     others: &mut BranchStack<N>,
     last: &mut Branch,
-) -> Sought
+) -> bool
     requires shallow { depth ≤ 256 }
-    requires before { first ≤ number }
-    requires come { HasCome (M.segments message.now) depth first others.old.items last.old }
-    ensures { IsSought (M.segments message.now) depth number N others.new.items last.new result }
+    requires counted { 0 < number }
+    requires root { 0 < length (segment_of (M.segments message.now) 0) }
+    // Fewer branches are before a word than words were looked at, and at most one for each level.
+    requires capacity { (number ≤ N) ⊎ (depth < N) }
+    requires start { (others.old.items ≡ []) × (last.old ≡ root_branch) }
+    ensures found { IsTrue result →
+        HasCome (M.segments message.now) depth number others.new.items last.new }
+    ensures missing { IsFalse result → IsMissing (M.segments message.now) depth number }
 {
     // Nothing outside of this function has it, so its fields stay in registers.
     let mut here = *last;
-    let mut at = first;
+    let mut at = 1;
     'words: loop {
         if at == number {
             *last = here;
-            return Sought::Found;
+            return true;
         }
         let nulls = pass_nulls(message, number - at, &mut here);
         if nulls > 0 {
             at += nulls;
             continue;
         }
-        match pass(message, depth, others, &mut here) {
-            Passed::On => at += 1,
-            Passed::Ended => return Sought::Missing,
-            Passed::Full => {
-                *last = here;
-                return Sought::Full(at);
-            }
+        if !pass(message, depth, others, &mut here) {
+            return false;
         }
+        at += 1;
     }
 }
 
@@ -120,22 +101,25 @@ fn pass_nulls<M: Segments>(message: &M, most: u64, last: &mut Branch) -> u64
     u64::from(count)
 }
 
-/// Goes on to the next pointer word in preorder. Most words are null, or describe their objects.
+/// Goes on to the next pointer word in preorder. `false` if there is no way on. Most words are null, or
+/// describe their objects.
 #[inline(always)]
 pub(crate) fn pass<M: Segments, const N: usize>(
     message: &M,
     depth: u32,
     others: &mut BranchStack<N>,
     last: &mut Branch,
-) -> Passed
+) -> bool
     requires shallow { depth ≤ 256 }
+    requires capacity { length others.old.items < N }
     requires come { (n : ℕ) × HasCome (M.segments message.now) depth n others.old.items last.old }
     ensures { let m = M.segments message.now in (n : ℕ) →
         HasCome m depth n others.old.items last.old →
-        Passes m depth n N others.old.items last.old others.new.items last.new result }
+        Passes m depth n others.new.items last.new result }
 {
     match look(message, depth, others, last) {
-        Looked::Went(passed) => passed,
+        Looked::Entered => true,
+        Looked::Blocked => false,
         Looked::Nothing => leave(others, last),
         Looked::Unknown => {
             // It works on a copy, so that the branch of a loop has no address outside of it.
@@ -156,8 +140,9 @@ fn look<M: Segments, const N: usize>(
     last: &mut Branch,
 ) -> Looked
     requires shallow { depth ≤ 256 }
+    requires capacity { length others.old.items < N }
     requires come { (n : ℕ) × HasCome (M.segments message.now) depth n others.old.items last.old }
-    ensures { IsLooked (M.segments message.now) depth N others.old.items last.old
+    ensures { IsLooked (M.segments message.now) depth others.old.items last.old
         others.new.items last.new result }
 {
     let word = message.word(last.segment, last.at);
@@ -192,10 +177,11 @@ fn look_near<M: Segments, const N: usize>(
     near: &NearPointer,
 ) -> Looked
     requires shallow { depth ≤ 256 }
+    requires capacity { length others.old.items < N }
     requires come { (n : ℕ) × HasCome (M.segments message.now) depth n others.old.items last.old }
     requires near { let m = M.segments message.now in
         IsNearPointer m last.old.segment last.old.at near.now }
-    ensures { IsLooked (M.segments message.now) depth N others.old.items last.old
+    ensures { IsLooked (M.segments message.now) depth others.old.items last.old
         others.new.items last.new result }
 {
     match near_row(near.word, near.at, message.len(near.segment)) {
@@ -216,18 +202,20 @@ fn look_row<const N: usize>(
     requires found { (m : List (List ℕ)) × IsNearPointer m last.old.segment last.old.at near.now
         × FindsRow m near.now.segment near.now.at near.now.word row.now }
     requires level { last.old.level ≤ 257 }
+    requires capacity { length others.old.items < N }
     ensures { (m : List (List ℕ)) → IsNearPointer m last.old.segment last.old.at near.now →
         FindsRow m near.now.segment near.now.at near.now.word row.now →
-        IsLooked m depth N others.old.items last.old others.new.items last.new result }
+        IsLooked m depth others.old.items last.old others.new.items last.new result }
 {
     if last.level > depth {
-        return Looked::Went(Passed::Ended);
+        return Looked::Blocked;
     }
     if row.pointer_count == 0 {
         return Looked::Nothing;
     }
     let branch = branch_of_row(near, row, last.level);
-    Looked::Went(enter(others, last, branch))
+    enter(others, last, branch);
+    Looked::Entered
 }
 
 // The same of a word that describes no object alone: the list's tag may, or it is a capability.
@@ -240,10 +228,11 @@ fn look_other<M: Segments, const N: usize>(
     near: &NearPointer,
 ) -> Looked
     requires shallow { depth ≤ 256 }
+    requires capacity { length others.old.items < N }
     requires come { (n : ℕ) × HasCome (M.segments message.now) depth n others.old.items last.old }
     requires near { let m = M.segments message.now in
         IsNearPointer m last.old.segment last.old.at near.now }
-    ensures { IsLooked (M.segments message.now) depth N others.old.items last.old
+    ensures { IsLooked (M.segments message.now) depth others.old.items last.old
         others.new.items last.new result }
 {
     if let Some(list) = struct_list(message, near.pads, near.segment, near.at, near.word) {
@@ -266,13 +255,17 @@ fn look_target<const N: usize>(
     requires found { (m : List (List ℕ)) × IsMessage m
         × FindsTarget m last.old.segment last.old.at target.now }
     requires level { last.old.level ≤ 257 }
+    requires capacity { length others.old.items < N }
     ensures { (m : List (List ℕ)) → FindsTarget m last.old.segment last.old.at target.now →
-        IsLooked m depth N others.old.items last.old others.new.items last.new result }
+        IsLooked m depth others.old.items last.old others.new.items last.new result }
 {
     match below_target(target, depth, last) {
-        Below::Object(Some(branch)) => Looked::Went(enter(others, last, branch)),
+        Below::Object(Some(branch)) => {
+            enter(others, last, branch);
+            Looked::Entered
+        }
         Below::Object(None) => Looked::Nothing,
-        Below::Blocked => Looked::Went(Passed::Ended),
+        Below::Blocked => Looked::Blocked,
     }
 }
 
@@ -283,63 +276,44 @@ fn pass_followed<M: Segments, const N: usize>(
     depth: u32,
     others: &mut BranchStack<N>,
     last: &mut Branch,
-) -> Passed
+) -> bool
     requires shallow { depth ≤ 256 }
+    requires capacity { length others.old.items < N }
     requires come { (n : ℕ) × HasCome (M.segments message.now) depth n others.old.items last.old }
     ensures { let m = M.segments message.now in (n : ℕ) →
         HasCome m depth n others.old.items last.old →
-        Passes m depth n N others.old.items last.old others.new.items last.new result }
+        Passes m depth n others.new.items last.new result }
 {
     match look_below(message, depth, last) {
-        Below::Object(Some(branch)) => enter(others, last, branch),
+        Below::Object(Some(branch)) => {
+            enter(others, last, branch);
+            true
+        }
         Below::Object(None) => leave(others, last),
-        Below::Blocked => Passed::Ended,
+        Below::Blocked => false,
     }
 }
 
 // Goes on to the first pointer word of the object that the last one leads to.
 #[inline(always)]
-fn enter<const N: usize>(others: &mut BranchStack<N>, last: &mut Branch, branch: Branch) -> Passed
+fn enter<const N: usize>(others: &mut BranchStack<N>, last: &mut Branch, branch: Branch)
+    requires { length others.old.items < N }
     ensures { (m : List (List ℕ)) (depth n : ℕ) → HasCome m depth n others.old.items last.old →
         GoesBelow m depth last.old (Object (Some branch)) →
-        Passes m depth n N others.old.items last.old others.new.items last.new result }
+        HasCome m depth (n + 1) others.new.items last.new }
 {
-    if others.is_full() {
-        return Passed::Full;
-    }
     others.push(*last);
     *last = branch;
-    Passed::On
 }
 
-// Goes on from a word with no pointer words below it.
+// Goes on from a word with no pointer words below it. `false` if no word comes after it.
 #[inline(always)]
-fn leave<const N: usize>(others: &mut BranchStack<N>, last: &mut Branch) -> Passed
+fn leave<const N: usize>(others: &mut BranchStack<N>, last: &mut Branch) -> bool
     requires { (m : List (List ℕ)) × (depth n : ℕ) × IsMessage m
         × HasCome m depth n others.old.items last.old }
     ensures { (m : List (List ℕ)) (depth n : ℕ) → HasCome m depth n others.old.items last.old →
         GoesBelow m depth last.old (Object None) →
-        Passes m depth n N others.old.items last.old others.new.items last.new result }
-{
-    if go_on(others, last) {
-        return Passed::On;
-    }
-    Passed::Ended
-}
-
-// Goes on to the next pointer word that comes after the last one and is not below it. `false` if
-// there is none.
-#[inline(always)]
-fn go_on<const N: usize>(others: &mut BranchStack<N>, last: &mut Branch) -> bool
-    requires { (m : List (List ℕ)) × (depth : ℕ) × IsMessage m
-        × AreBranches m depth 0 (others.old.items ++ last.old ∷ []) }
-    ensures next { let ways = others.new.items ++ last.new ∷ [] in
-        IsTrue result → rest_from [] (others.old.items ++ last.old ∷ [])
-        ≡ word_ahead (path_of ways) last.new ∷ rest_from [] ways }
-    ensures branches { IsTrue result → (m : List (List ℕ)) (depth : ℕ) →
-        AreBranches m depth 0 (others.old.items ++ last.old ∷ []) →
-        AreBranches m depth 0 (others.new.items ++ last.new ∷ []) }
-    ensures none { IsFalse result → rest_from [] (others.old.items ++ last.old ∷ []) ≡ [] }
+        Passes m depth n others.new.items last.new result }
 {
     'up: loop {
         if last.advance() {

@@ -10,12 +10,12 @@ ghost use Rattle.cap_spec.specs.declared.Refusal.{Refusal};
 ghost use Rattle.cap_spec.specs.declared.Step.{Step};
 ghost use Rattle.cap_trace.specs.Branches.{AreBranches, IsCounted, path_of, steps_of};
 ghost use Rattle.cap_trace.specs.PointerNumbers.{IsTraceable};
-ghost use Rattle.cap_trace.specs.Traces.{GivesPath, HasCome, IsPut, TellsPath};
+ghost use Rattle.cap_trace.specs.Traces.{GivesPath, IsPut, TellsPath};
 ghost use Rattle.cap_vet.specs.Limits.{depth_of};
-ghost use Rattle.std.specs.Prelude.{◌+◌, ◌++◌, ◌<◌, ◌≡◌, ◌≤◌, [], ◌∷◌, IfSome, List, drop, length, map, ℕ};
+ghost use Rattle.std.specs.Prelude.{◌+◌, ◌++◌, ◌<◌, ◌≡◌, ◌≤◌, ◌⊎◌, [], ◌∷◌, IfSome, List, drop, length, map, ℕ};
 
 use crate::branch::{Branch, Form};
-use crate::seeking::{BranchStack, Sought, seek};
+use crate::seeking::{BranchStack, seek};
 use crate::slot::StepSlot;
 use cap_frame::Segments;
 use cap_spec::Step;
@@ -72,17 +72,20 @@ fn traced<M: Segments, S: StepSlot>(
     if number == 0 || message.len(0) == 0 {
         return None;
     }
-    // Each search initializes its branches. A path has fewer branches than words were looked at.
+    // Each search initializes its branches. Fewer are before a word than words were looked at, and at
+    // most one for each level. The default depth limit is 64.
     if number <= 32 {
-        return traced_from_root::<M, S, 32>(message, depth, number, steps);
+        return traced_within::<M, S, 32>(message, depth, number, steps);
     }
-    // The default depth limit is 64.
-    traced_from_root::<M, S, 65>(message, depth, number, steps)
+    if number <= 65 || depth <= 64 {
+        return traced_within::<M, S, 65>(message, depth, number, steps);
+    }
+    traced_within::<M, S, 257>(message, depth, number, steps)
 }
 
-// The same of a message with a root word, with this many branches at first.
+// The same of a message with a root word, with capacity for `N` branches.
 #[inline(always)]
-fn traced_from_root<M: Segments, S: StepSlot, const N: usize>(
+fn traced_within<M: Segments, S: StepSlot, const N: usize>(
     message: &M,
     depth: u32,
     number: u64,
@@ -92,48 +95,16 @@ fn traced_from_root<M: Segments, S: StepSlot, const N: usize>(
     requires shallow { depth ≤ 256 }
     requires counted { 0 < number }
     requires root { 0 < length (segment_of (M.segments message.now) 0) }
+    requires capacity { (number ≤ N) ⊎ (depth < N) }
     ensures tells { TellsPath S.slot (M.segments message.now) depth number steps.old result steps.new }
     ensures few { IfSome result (λ count. count ≤ depth) }
 {
     let mut others: BranchStack<N> = BranchStack::new();
     let mut last = Branch::root();
-    match seek(message, depth, 1, number, &mut others, &mut last) {
-        Sought::Found => Some(write_path(others.as_slice(), &last, steps)),
-        Sought::Missing => None,
-        Sought::Full(at) => traced_deep(message, depth, at, number, others.as_slice(), last, steps),
+    if !seek(message, depth, number, &mut others, &mut last) {
+        return None;
     }
-}
-
-// Goes on from the pointer word of number `at`, where those few branches are full, with as many as the
-// deepest path can have.
-#[cold]
-#[inline(never)]
-fn traced_deep<M: Segments, S: StepSlot>(
-    message: &M,
-    depth: u32,
-    at: u64,
-    number: u64,
-    few: &[Branch],
-    from: Branch,
-    steps: &mut [S],
-) -> Option<usize>
-    requires most { length few.now ≤ 257 }
-    requires shallow { depth ≤ 256 }
-    requires before { at ≤ number }
-    requires come { HasCome (M.segments message.now) depth at few.now from }
-    ensures tells { TellsPath S.slot (M.segments message.now) depth number steps.old result steps.new }
-    ensures few { IfSome result (λ count. count ≤ depth) }
-{
-    let mut others: BranchStack<257> = BranchStack::new();
-    let mut last = from;
-    if others.try_extend_from_slice(few).is_err() {
-        unreachable!();
-    }
-    match seek(message, depth, at, number, &mut others, &mut last) {
-        Sought::Found => Some(write_path(others.as_slice(), &last, steps)),
-        Sought::Missing => None,
-        Sought::Full(_) => unreachable!(),
-    }
+    Some(write_path(others.as_slice(), &last, steps))
 }
 
 // Writes the path over these branches to the start of the buffer, if it fits. Gives how many steps it

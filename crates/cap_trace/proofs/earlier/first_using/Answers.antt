@@ -1,10 +1,8 @@
-use Rattle.cap_spec.proofs.ProofNames.{arith, length, rules, subst, sym, ◌<◌, ◌∙◌, segment_of}
+use Rattle.cap_spec.proofs.ProofNames.{arith, inr, length, rules, subst, sym, ◌<◌, ◌∙◌, segment_of}
 use Rattle.cap_trace.specs.EarlierPointers.{places_of}
-use Rattle.cap_trace.specs.Seeking.{Passes}
 use Rattle.cap_trace.specs.Traces.{HasCome}
-use Rattle.cap_trace.specs.declared.seeking.Passed.{Passed}
 use Rattle.cap_trace.proofs.Branches.{branches_without}
-use Rattle.cap_trace.proofs.Coming.{at_root, has_root, never_full, some_number}
+use Rattle.cap_trace.proofs.Coming.{at_root, has_root, has_space, some_number}
 use Rattle.cap_trace.proofs.Sharing.{first_using_here, none_first, none_using, still_none}
 use Rattle.cap_trace.proofs.earlier.first_using.Goals as goal
 
@@ -42,11 +40,18 @@ returns-then-uses_one g c = λ path a.
     first_using_here m c.args.depth c.words.at c.args.number c.words.others.items c.words.here (places_of c.args.used.now) path
     c.words.invariant.come c.words.invariant.none uses (omega (arith, c.words.invariant.before, c.if-at-number.false)) a
 
+pub pass-requires : goal.pass-requires
+pass-requires g c =
+    let m = g.M.Segments.segments c.args.message.now in
+    let less : c.words.at < c.args.number = omega (arith, c.words.invariant.before, c.if-at-number.false) in
+    let space = has_space m c.args.depth c.words.at c.args.number 257 c.words.others.items c.words.here c.words.invariant.come less
+    (inr (omega (arith, c.requires.shallow))) in
+    (search rules, (c.requires.shallow, (space, (c.words.at, c.words.invariant.come))))
+
 pub words-preserved : goal.words-preserved
 words-preserved g c =
     let m = g.M.Segments.segments c.args.message.now in
-    let come = subst (λ (u : Passed). Passes m c.args.depth c.words.at 257 c.words.others.items c.words.here c.pass.new.others.items c.pass.new.last u)
-    c.in-On.is (c.pass.ensures c.words.at c.words.invariant.come) in record {
+    let come = rw c.if-not-pass.false at c.pass.ensures c.words.at c.words.invariant.come in record {
       before = omega (arith, c.words.invariant.before, c.if-at-number.false);
       come = come;
       none = still_none m c.args.depth c.words.at c.words.others.items c.pass.new.others.items c.words.here c.pass.new.last
@@ -57,14 +62,6 @@ words-preserved g c =
 pub unreachable-requires : goal.unreachable-requires
 unreachable-requires g c =
     let m = g.M.Segments.segments c.args.message.now in
-    let k = subst (λ (u : Passed). Passes m c.args.depth c.words.at 257 c.words.others.items c.words.here c.pass.new.others.items c.pass.new.last u)
-    c.in-Ended.is (c.pass.ensures c.words.at c.words.invariant.come) in
+    let k = rw c.if-not-pass.true at c.pass.ensures c.words.at c.words.invariant.come in
     let (path, a) = c.requires.traced in
     k c.args.number (omega (arith, c.words.invariant.before, c.if-at-number.false)) path a
-
-pub unreachable-requires-in-Full : goal.unreachable-requires-in-Full
-unreachable-requires-in-Full g c =
-    let m = g.M.Segments.segments c.args.message.now in
-    let k = subst (λ (u : Passed). Passes m c.args.depth c.words.at 257 c.words.others.items c.words.here c.pass.new.others.items c.pass.new.last u)
-    c.in-Full.is (c.pass.ensures c.words.at c.words.invariant.come) in
-    never_full m c.args.depth c.words.at c.words.others.items c.words.here 257 (omega (arith, c.requires.shallow)) c.words.invariant.come k.0

@@ -35,7 +35,7 @@ look_row-requires g c =
           },
           row.row m last.segment c.word-word.ensures (sym c.len.ensures),
         ),
-        omega (arith, b.low, c.requires.shallow),
+        (omega (arith, b.low, c.requires.shallow), c.requires.capacity),
       ),
     )
 
@@ -57,12 +57,15 @@ look_other-requires g c =
       (
         c.requires.shallow,
         (
-          c.requires.come,
-          record {
-            has = c.word-word.ensures;
-            resolves = stands-near _ last.segment last.at c.word-word.result c.word-word.ensures (λ e. omega (arith, c.kind.ensures, c.if-kind-ne2.true, e));
-            few = omega arith;
-          },
+          c.requires.capacity,
+          (
+            c.requires.come,
+            record {
+              has = c.word-word.ensures;
+              resolves = stands-near _ last.segment last.at c.word-word.result c.word-word.ensures (λ e. omega (arith, c.kind.ensures, c.if-kind-ne2.true, e));
+              few = omega arith;
+            },
+          ),
         ),
       ),
     )

@@ -9,7 +9,7 @@ look_row-requires g c =
       search rules,
       (
         (m, c.requires.near, c.in-Some.ensures.row m c.args.near.now.segment c.requires.near.has (sym c.len.ensures)),
-        omega (arith, b.low, c.requires.shallow),
+        (omega (arith, b.low, c.requires.shallow), c.requires.capacity),
       ),
     )
 

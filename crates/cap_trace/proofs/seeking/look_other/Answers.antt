@@ -11,7 +11,7 @@ look_target-requires g c =
       search rules,
       (
         (m, g.met.M.Segments.is_message c.args.message.now, c.in-Some.ensures.found last.segment last.at c.requires.near.resolves),
-        omega (arith, b.low, c.requires.shallow),
+        (omega (arith, b.low, c.requires.shallow), c.requires.capacity),
       ),
     )
 

@@ -1,13 +1,11 @@
 use Rattle.std.proofs.Common.{arith, refl, ◌≤◌}
-use Rattle.cap_trace.proofs.Coming.{none_past}
 use Rattle.cap_trace.proofs.RowBranches.{row_blocked, row_none, row_some}
 use Rattle.cap_trace.proofs.seeking.look_row.Goals as goal
 
 pub returns-then-last-depth : goal.returns-then-last-depth
-returns-then-last-depth g c = λ m near f n h more less path a.
+returns-then-last-depth g c = λ m near f.
     let last = c.args.last.now in
-    none_past m c.args.depth n more c.args.others.now.items last path h
-    (row_blocked m c.args.depth last.segment last.at last.level c.args.near.now c.args.row.now near f c.if-last-depth.true) less a
+    row_blocked m c.args.depth last.segment last.at last.level c.args.near.now c.args.row.now near f c.if-last-depth.true
 
 pub returns-then-row-eq0 : goal.returns-then-row-eq0
 returns-then-row-eq0 g c = λ m near f.

@@ -1,36 +1,29 @@
-use Rattle.std.proofs.Common.{rules, subst}
-use Rattle.cap_trace.specs.Seeking.{IsLooked}
-use Rattle.cap_trace.specs.declared.seeking.Looked.{Looked}
+use Rattle.std.proofs.Common.{rules}
+use Rattle.cap_trace.proofs.Coming.{none_past}
 use Rattle.cap_trace.proofs.seeking.pass.Goals as goal
 
-pub returns-in-Went : goal.returns-in-Went
-returns-in-Went g c =
+pub returns-in-Blocked : goal.returns-in-Blocked
+returns-in-Blocked g c = λ n h more less path a.
     let m = g.M.Segments.segments c.args.message.now in
-    subst (λ (u : Looked). IsLooked m c.args.depth g.row.N c.args.others.now.items c.args.last.now c.look.new.others.items c.look.new.last u)
-    c.in-Went.is c.look.ensures
+    none_past m c.args.depth n more c.args.others.now.items c.args.last.now path h c.in-Blocked.ensures less a
 
 pub leave-requires : goal.leave-requires
 leave-requires g c =
     let m = g.M.Segments.segments c.args.message.now in
-    let k = subst (λ (u : Looked). IsLooked m c.args.depth g.row.N c.args.others.now.items c.args.last.now c.look.new.others.items c.look.new.last u)
-    c.in-Nothing.is c.look.ensures in
-    (search rules, (m, c.args.depth, c.requires.come.0, g.met.M.Segments.is_message c.args.message.now, rw (k.0, k.1) c.requires.come.1))
+    let (others, last, below) = c.in-Nothing.ensures in
+    (search rules, (m, c.args.depth, c.requires.come.0, g.met.M.Segments.is_message c.args.message.now, rw (others, last) c.requires.come.1))
 
 pub returns-in-Nothing : goal.returns-in-Nothing
 returns-in-Nothing g c = λ n h.
     let m = g.M.Segments.segments c.args.message.now in
-    let k = subst (λ (u : Looked). IsLooked m c.args.depth g.row.N c.args.others.now.items c.args.last.now c.look.new.others.items c.look.new.last u)
-    c.in-Nothing.is c.look.ensures in
-    rw (← k.0, ← k.1) (c.leave.ensures m c.args.depth n (rw (k.0, k.1) h) (rw k.1 k.2))
+    let (others, last, below) = c.in-Nothing.ensures in
+    c.leave.ensures m c.args.depth n (rw (others, last) h) (rw last below)
 
 pub pass_followed-passed-requires : goal.pass_followed-passed-requires
 pass_followed-passed-requires g c =
-    let m = g.M.Segments.segments c.args.message.now in
-    let k = subst (λ (u : Looked). IsLooked m c.args.depth g.row.N c.args.others.now.items c.args.last.now c.look.new.others.items c.look.new.last u)
-    c.in-Unknown.is c.look.ensures in (search rules, (c.requires.shallow, (c.requires.come.0, rw (k.0, k.1) c.requires.come.1)))
+    let (others, last) = c.in-Unknown.ensures in
+    (search rules, (c.requires.shallow, (rw others c.requires.capacity, (c.requires.come.0, rw (others, last) c.requires.come.1))))
 
 pub returns-in-Unknown : goal.returns-in-Unknown
 returns-in-Unknown g c = λ n h.
-    let m = g.M.Segments.segments c.args.message.now in
-    let k = subst (λ (u : Looked). IsLooked m c.args.depth g.row.N c.args.others.now.items c.args.last.now c.look.new.others.items c.look.new.last u)
-    c.in-Unknown.is c.look.ensures in rw (← k.0, ← k.1) (c.pass_followed-passed.ensures n (rw (k.0, k.1) h))
+    let (others, last) = c.in-Unknown.ensures in c.pass_followed-passed.ensures n (rw (others, last) h)

@@ -1,5 +1,4 @@
-use Rattle.std.proofs.Common.{ap, rules, subst, ◌∙◌}
-use Rattle.cap_trace.specs.TraceNames.{GoesBelow, Below, Object}
+use Rattle.std.proofs.Common.{rules}
 use Rattle.cap_trace.proofs.Branches.{branches_without}
 use Rattle.cap_trace.proofs.Coming.{none_past}
 use Rattle.cap_trace.proofs.seeking.pass_followed.Goals as goal
@@ -17,19 +16,14 @@ leave-requires g c =
 pub returns-in-Object-Some : goal.returns-in-Object-Some
 returns-in-Object-Some g c = λ n h.
     let m = g.M.Segments.segments c.args.message.now in
-    c.enter.ensures m c.args.depth n h
-    (subst (λ (u : Below). GoesBelow m c.args.depth c.args.last.now u) (c.in-Object-Some.is ∙ ap Object c.in-Object-Some.field-0-is)
-    c.look_below.ensures)
+    c.enter.ensures m c.args.depth n h (rw c.in-Object-Some.field-0-is at c.in-Object-Some.ensures)
 
 pub returns-in-Object-None : goal.returns-in-Object-None
 returns-in-Object-None g c = λ n h.
     let m = g.M.Segments.segments c.args.message.now in
-    c.leave.ensures m c.args.depth n h
-    (subst (λ (u : Below). GoesBelow m c.args.depth c.args.last.now u) (c.in-Object-None.is ∙ ap Object c.in-Object-None.field-0-is)
-    c.look_below.ensures)
+    c.leave.ensures m c.args.depth n h (rw c.in-Object-None.field-0-is at c.in-Object-None.ensures)
 
 pub returns-in-Blocked : goal.returns-in-Blocked
 returns-in-Blocked g c = λ n h more less path a.
     let m = g.M.Segments.segments c.args.message.now in
-    let k = subst (λ (u : Below). GoesBelow m c.args.depth c.args.last.now u) c.in-Blocked.is c.look_below.ensures in
-    none_past m c.args.depth n more c.args.others.now.items c.args.last.now path h k less a
+    none_past m c.args.depth n more c.args.others.now.items c.args.last.now path h c.in-Blocked.ensures less a

@@ -1,8 +1,16 @@
-use Rattle.std.proofs.Common.{List, ap, arith, length, rules, subst, sym, ◌+◌, ◌<◌, ◌∙◌, ◌≡◌}
-use Rattle.cap_trace.specs.TraceNames.{HasCome, Branch}
-use Rattle.cap_trace.specs.Seeking.{Passes}
-use Rattle.cap_trace.specs.declared.seeking.Passed.{Passed}
+use Rattle.std.proofs.Common.{arith, length, rules, subst, ◌+◌, ◌<◌, ◌≡◌}
+use Rattle.cap_trace.specs.Traces.{HasCome}
+use Rattle.cap_trace.proofs.Coming.{at_root, has_space}
 use Rattle.cap_trace.proofs.seeking.seek.Goals as goal
+
+pub words-init : goal.words-init
+words-init g c =
+    let m = g.M.Segments.segments c.args.message.now in
+    let exists : 0 < length m = search rules in
+    record {
+      before = omega (arith, c.requires.counted);
+      come = rw (c.requires.start.0, c.requires.start.1) (at_root m c.args.depth exists c.requires.root);
+    }
 
 pub words-preserved-then-nulls-gt0 : goal.words-preserved-then-nulls-gt0
 words-preserved-then-nulls-gt0 g c = record {
@@ -11,50 +19,26 @@ words-preserved-then-nulls-gt0 g c = record {
 }
 
 pub pass-requires : goal.pass-requires
-pass-requires g c = (
-  search rules,
-  (
-    c.requires.shallow,
-    (
-      c.words.at + c.pass_nulls-nulls.result,
-      c.pass_nulls-nulls.ensures.passed c.args.depth c.words.at c.words.others.items c.words.invariant.come,
-    ),
-  ),
-)
+pass-requires g c =
+    let m = g.M.Segments.segments c.args.message.now in
+    let come = c.pass_nulls-nulls.ensures.passed c.args.depth c.words.at c.words.others.items c.words.invariant.come in
+    let less : c.words.at + c.pass_nulls-nulls.result < c.args.number = omega (arith, c.words.invariant.before, c.if-at-number.false, c.if-nulls-gt0.false) in
+    (search rules, (c.requires.shallow, (has_space m c.args.depth _ c.args.number g.row.N _ _ come less c.requires.capacity, (_, come))))
 
 pub words-preserved : goal.words-preserved
 words-preserved g c =
     let m = g.M.Segments.segments c.args.message.now in
-    let here : c.words.at + c.pass_nulls-nulls.result ≡ c.words.at = omega (arith, c.if-nulls-gt0.false) in
-    let come = subst (λ n. HasCome m c.args.depth n c.words.others.items c.pass_nulls-nulls.new.last) here
-    (c.pass_nulls-nulls.ensures.passed c.args.depth c.words.at c.words.others.items c.words.invariant.come) in
-    let k = subst (λ (u : Passed). Passes m c.args.depth c.words.at g.row.N c.words.others.items c.pass_nulls-nulls.new.last c.pass.new.others.items c.pass.new.last u)
-    c.in-On.is (c.pass.ensures c.words.at come) in record {
+    let next : c.words.at + c.pass_nulls-nulls.result + 1 ≡ c.words.at + 1 = omega (arith, c.if-nulls-gt0.false) in
+    let come = c.pass_nulls-nulls.ensures.passed c.args.depth c.words.at c.words.others.items c.words.invariant.come in
+    let k = rw c.if-not-pass.false at c.pass.ensures _ come in record {
       before = omega (arith, c.words.invariant.before, c.if-at-number.false);
-      come = k;
+      come = subst (λ n. HasCome m c.args.depth n c.pass.new.others.items c.pass.new.last) next k;
     }
 
-pub returns-in-Ended : goal.returns-in-Ended
-returns-in-Ended g c = λ path a.
+pub returns-then-not-pass-clause-missing : goal.returns-then-not-pass-clause-missing
+returns-then-not-pass-clause-missing g c = λ e path a.
     let m = g.M.Segments.segments c.args.message.now in
-    let here : c.words.at + c.pass_nulls-nulls.result ≡ c.words.at = omega (arith, c.if-nulls-gt0.false) in
-    let come = subst (λ n. HasCome m c.args.depth n c.words.others.items c.pass_nulls-nulls.new.last) here
-    (c.pass_nulls-nulls.ensures.passed c.args.depth c.words.at c.words.others.items c.words.invariant.come) in
-    let k = subst (λ (u : Passed). Passes m c.args.depth c.words.at g.row.N c.words.others.items c.pass_nulls-nulls.new.last c.pass.new.others.items c.pass.new.last u)
-    c.in-Ended.is (c.pass.ensures c.words.at come) in
-    let less : c.words.at < c.args.number = omega (arith, c.words.invariant.before, c.if-at-number.false) in
+    let come = c.pass_nulls-nulls.ensures.passed c.args.depth c.words.at c.words.others.items c.words.invariant.come in
+    let k = rw c.if-not-pass.true at c.pass.ensures _ come in
+    let less : c.words.at + c.pass_nulls-nulls.result < c.args.number = omega (arith, c.words.invariant.before, c.if-at-number.false, c.if-nulls-gt0.false) in
     k c.args.number less path a
-
-pub returns-in-Full : goal.returns-in-Full
-returns-in-Full g c =
-    let m = g.M.Segments.segments c.args.message.now in
-    let here : c.words.at + c.pass_nulls-nulls.result ≡ c.words.at = omega (arith, c.if-nulls-gt0.false) in
-    let come = subst (λ n. HasCome m c.args.depth n c.words.others.items c.pass_nulls-nulls.new.last) here
-    (c.pass_nulls-nulls.ensures.passed c.args.depth c.words.at c.words.others.items c.words.invariant.come) in
-    let k = subst (λ (u : Passed). Passes m c.args.depth c.words.at g.row.N c.words.others.items c.pass_nulls-nulls.new.last c.pass.new.others.items c.pass.new.last u)
-    c.in-Full.is (c.pass.ensures c.words.at come) in (
-      ap length k.1 ∙ k.0,
-      c.words.invariant.before,
-      subst (λ (u : Branch). HasCome m c.args.depth c.words.at c.pass.new.others.items u) (sym k.2)
-          (subst (λ (u : List Branch). HasCome m c.args.depth c.words.at u c.pass_nulls-nulls.new.last) (sym k.1) come),
-    )
