@@ -1,5 +1,5 @@
 # What capvet does with a sample, all proofs and tests, what is installed, and how fast it is.
-.PHONY: run build guard inspector install uninstall wheel dist check test gate plant growths fuzz times bench
+.PHONY: run build guard inspector install uninstall wheel dist check test gate plant allocations fuzz times bench
 
 # Where things are installed. DESTDIR goes before each of these paths, and no installed file has it in its text.
 PREFIX ?= /usr/local
@@ -142,7 +142,7 @@ test:
 SKIP ?=
 gate:
 	python3 tests/all.py --edits $(if $(ANEW),--anew) --full --skip "$(SKIP)"
-	@$(MAKE) --no-print-directory growths
+	@$(MAKE) --no-print-directory allocations
 	python3 tests/lifetimes.py
 
 # Tries wrong bodies of public functions, and compares those that the contracts let through with tests/planted.txt.
@@ -150,8 +150,8 @@ plant:
 	python3 tests/plant.py
 
 # Out-of-memory tests: each allocation fails in turn, first of the calls that allocate, then of the built program.
-growths:
-	python3 tests/growths.py
+allocations:
+	python3 tests/allocations.py
 	python3 tests/refusals.py build/capvet
 
 # Searches with each fuzz target for SECONDS seconds, side by side: see tests/fuzz.py. What reaches something new is kept in

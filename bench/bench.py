@@ -259,8 +259,8 @@ def write_packed(program, plain, path):
     """The packed encoding of a file, which unpacks to it again."""
     with open(path, "wb") as out:
         subprocess.run([program, "pack", plain], stdout=out, check=True)
-    with subprocess.Popen([program, "unpack", path], stdout=subprocess.PIPE) as back, open(plain, "rb") as wanted:
-        while part := wanted.read(MIB):
+    with subprocess.Popen([program, "unpack", path], stdout=subprocess.PIPE) as back, open(plain, "rb") as expected:
+        while part := expected.read(MIB):
             if back.stdout.read(len(part)) != part:
                 sys.exit(f"{path} doesn't unpack to {plain}")
         if back.stdout.read(1):
@@ -425,8 +425,8 @@ def main():
     args = options()
     chosen = choose(args.only)
     with tempfile.TemporaryDirectory() as folder:
-        wanted = [name for name in PEERS if any(it.timed.peer == name for it in chosen)]
-        built = build_peers(wanted, folder)
+        expected = [name for name in PEERS if any(it.timed.peer == name for it in chosen)]
+        built = build_peers(expected, folder)
         if args.write and len(built) < len(PEERS):
             sys.exit("--write takes both libraries")
         programs = built | {"PROGRAM": args.program}

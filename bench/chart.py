@@ -44,7 +44,7 @@ def svg(rows):
 
 
 def table(rows):
-    """The rows as a Markdown table. The first row is the heads. A `|` in a cell is escaped, as Markdown wants it."""
+    """The rows as a Markdown table. The first row is the heads. A `|` in a cell is escaped, as Markdown needs it."""
     heads, *rest = [[cell.replace("|", "\\|") for cell in row] for row in rows]
     parts = [heads, ["---" if i < 2 else "---:" for i in range(len(heads))], *rest]
     return "".join("| " + " | ".join(row) + " |\n" for row in parts)

@@ -38,8 +38,8 @@ def run(words):
 
 def instructions(words):
     """How many instructions a run takes, by valgrind."""
-    told = run(["valgrind", "--tool=callgrind", "--callgrind-out-file=/dev/null", *words]).stderr
-    return int(re.search(r"Collected : (\d+)", told).group(1))
+    reported = run(["valgrind", "--tool=callgrind", "--callgrind-out-file=/dev/null", *words]).stderr
+    return int(re.search(r"Collected : (\d+)", reported).group(1))
 
 
 def measured(args, program, mode, of, count):

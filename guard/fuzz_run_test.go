@@ -252,7 +252,7 @@ func (r *fuzzRun) readAgain(t *testing.T) {
 	if r.end != readAgain && r.end != unread {
 		return
 	}
-	wanted := "certificates are read"
+	want := "certificates are read"
 	if r.end == unread {
 		good, err := os.ReadFile(r.world.key)
 		if err != nil {
@@ -263,11 +263,11 @@ func (r *fuzzRun) readAgain(t *testing.T) {
 			t.Fatal(err)
 		}
 		if r.isSecret[client] || r.isSecret[server] {
-			wanted = "the old certificates stay"
+			want = "the old certificates stay"
 		}
 	}
 	r.signals <- syscall.SIGHUP
-	r.says(t, wanted)
+	r.says(t, want)
 }
 
 // dial connects to the guard, by TLS if it is so.
@@ -309,13 +309,13 @@ func (r *fuzzRun) serve(t *testing.T, stream []byte) {
 	if err != nil {
 		t.Fatal(err)
 	}
-	wanted := scanned(stream, o)
-	all := join(wanted.messages...)
+	want := scanned(stream, o)
+	all := join(want.messages...)
 	if r.isPacked {
-		all = padded(wanted.messages)
+		all = padded(want.messages)
 	}
 	if r.end == twice {
-		r.endTwice(t, wanted)
+		r.endTwice(t, want)
 	}
 	var got []byte
 	if r.hasServer() {
@@ -325,21 +325,21 @@ func (r *fuzzRun) serve(t *testing.T, stream []byte) {
 	await(t, "all is sent", sent)
 	replies := await(t, "the replies end", replied)
 	if r.end != twice {
-		r.checkMetrics(t, wanted)
+		r.checkMetrics(t, want)
 		r.signals <- syscall.SIGTERM
 		r.ends(t, statusDone)
 	}
-	r.check(t, o, wanted, all, arrived(t, o, got), replies)
+	r.check(t, o, want, all, arrived(t, o, got), replies)
 }
 
 // endTwice ends the guard by two signals, though its client is there.
-func (r *fuzzRun) endTwice(t *testing.T, wanted passing) {
+func (r *fuzzRun) endTwice(t *testing.T, want passing) {
 	if r.hasServer() {
 		await(t, "the server is connected to", r.backend.begun)
 	}
 	r.signals <- syscall.SIGTERM
 	r.says(t, "draining")
-	if r.hasMetrics && wanted.cause == closed && !r.isWrong {
+	if r.hasMetrics && want.cause == closed && !r.isWrong {
 		r.holds(t, "the guard is draining", func() bool { return r.get(t, "/health") == "draining\n" })
 	}
 	r.signals <- syscall.SIGTERM
@@ -347,7 +347,7 @@ func (r *fuzzRun) endTwice(t *testing.T, wanted passing) {
 }
 
 // check compares what arrived, what came back and what the log says.
-func (r *fuzzRun) check(t *testing.T, o *options, wanted passing, all, got, replies []byte) {
+func (r *fuzzRun) check(t *testing.T, o *options, want passing, all, got, replies []byte) {
 	log := r.out.String()
 	if !strings.Contains(log, "draining") || !strings.Contains(log, "ended") || strings.HasPrefix(log, "{") != r.isJSON {
 		t.Fatal(log)
@@ -367,10 +367,10 @@ func (r *fuzzRun) check(t *testing.T, o *options, wanted passing, all, got, repl
 	if !bytes.Equal(all, got) {
 		t.Fatal("other bytes arrived")
 	}
-	if wanted.cause == closed && !fuzzSame(o, all, replies) {
+	if want.cause == closed && !fuzzSame(o, all, replies) {
 		t.Fatal("other bytes come back")
 	}
-	if wanted.cause == refused && !strings.Contains(log, ending{err: wanted.err}.text()) {
+	if want.cause == refused && !strings.Contains(log, ending{err: want.err}.text()) {
 		t.Fatal(log)
 	}
 }
@@ -392,11 +392,11 @@ func (r *fuzzRun) get(t *testing.T, path string) string {
 }
 
 // checkMetrics looks for the lines of the metrics, which come once the connection has ended.
-func (r *fuzzRun) checkMetrics(t *testing.T, wanted passing) {
+func (r *fuzzRun) checkMetrics(t *testing.T, want passing) {
 	if !r.hasMetrics {
 		return
 	}
-	line := `connections_ended_total{cause="` + string(wanted.cause) + `"} 1`
+	line := `connections_ended_total{cause="` + string(want.cause) + `"} 1`
 	switch {
 	case !r.isReached():
 		line = `connections_rejected_total{cause="greeting"} 1`

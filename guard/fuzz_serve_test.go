@@ -210,24 +210,24 @@ func fuzzServed(t *testing.T, g *guard, o *options, peer, log string, it served)
 	if (n > 0) != (o.sendProxy > 0) {
 		t.Fatal("a header of", n, "bytes")
 	}
-	wanted := scanned(it.stream, o)
-	all := join(wanted.messages...)
+	want := scanned(it.stream, o)
+	all := join(want.messages...)
 	if o.packed[server] {
-		all = padded(wanted.messages)
+		all = padded(want.messages)
 	}
 	if got := arrived(t, o, it.got[n:]); !bytes.Equal(all, got) {
 		t.Fatal("other bytes arrived")
 	}
-	if wanted.cause == refused {
-		line := ending{err: wanted.err}.text()
+	if want.cause == refused {
+		line := ending{err: want.err}.text()
 		if !strings.Contains(log, line) || !strings.Contains(log, "requests") || !strings.Contains(log, peer) {
 			t.Fatalf("no %q of %q in %q", line, peer, log)
 		}
 	} else if log != "" || !fuzzSame(o, all, it.replies) {
 		t.Fatalf("%q, and %d bytes of %d come back", log, len(it.replies), len(all))
 	}
-	if testutil.ToFloat64(g.metrics.ended.WithLabelValues(string(wanted.cause))) != 1 {
-		t.Fatal("no end by", wanted.cause)
+	if testutil.ToFloat64(g.metrics.ended.WithLabelValues(string(want.cause))) != 1 {
+		t.Fatal("no end by", want.cause)
 	}
 }
 

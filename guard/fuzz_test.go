@@ -229,32 +229,32 @@ func isBefore(o *options, e ending) bool {
 
 // compareEnding compares an ending, and what arrived before it, with what should be passed on. `end` is the error after the
 // last byte.
-func compareEnding(t *testing.T, o *options, wanted passing, end error, e ending, got []byte) {
-	all := join(wanted.messages...)
+func compareEnding(t *testing.T, o *options, want passing, end error, e ending, got []byte) {
+	all := join(want.messages...)
 	if o.packed[server] {
 		// (the padding of a table is packed as zeros)
-		all = padded(wanted.messages)
+		all = padded(want.messages)
 	}
 	var cut *capvet.FrameError
-	isCut := errors.As(wanted.err, &cut) && cut.Reason == capvet.Truncated
+	isCut := errors.As(want.err, &cut) && cut.Reason == capvet.Truncated
 	if isBefore(o, e) {
 		if !bytes.HasPrefix(all, got) || end != io.EOF && e.err == end && !bytes.Equal(all, got) {
 			t.Fatal("other bytes arrived before the end")
 		}
 		return
 	}
-	if end != io.EOF && (isCut || wanted.cause == closed) {
+	if end != io.EOF && (isCut || want.cause == closed) {
 		t.Fatal("the connection has failed, and that is not the end", e)
 	}
-	if e.cause != wanted.cause || int(e.message) != len(wanted.messages) || e.offset != wanted.offset || !bytes.Equal(all, got) {
-		t.Fatalf("wanted %v after %d messages at %d, got %+v, the same bytes: %v", wanted.cause, len(wanted.messages), wanted.offset,
+	if e.cause != want.cause || int(e.message) != len(want.messages) || e.offset != want.offset || !bytes.Equal(all, got) {
+		t.Fatalf("want %v after %d messages at %d, got %+v, the same bytes: %v", want.cause, len(want.messages), want.offset,
 			e, bytes.Equal(all, got))
 	}
-	if wanted.err != nil && (e.reason() != (ending{err: wanted.err}).reason() || e.text() != (ending{err: wanted.err}).text()) {
-		t.Fatal(e.text(), wanted.err)
+	if want.err != nil && (e.reason() != (ending{err: want.err}).reason() || e.text() != (ending{err: want.err}).text()) {
+		t.Fatal(e.text(), want.err)
 	}
-	if e.path != wanted.path {
-		t.Fatal(e.path, wanted.path)
+	if e.path != want.path {
+		t.Fatal(e.path, want.path)
 	}
 }
 
@@ -322,7 +322,7 @@ func FuzzGreeting(f *testing.F) {
 			}
 		}
 		if end := headerEnd(data, version); !bytes.Equal(got, data[end:]) {
-			t.Fatalf("wanted %q after the header, got %q", data[end:], got)
+			t.Fatalf("want %q after the header, got %q", data[end:], got)
 		}
 		fuzzSentOn(t, g, c)
 	})

@@ -100,14 +100,14 @@ func (g *guard) handle(conn half) {
 		return
 	}
 	conn.SetDeadline(time.Time{})
-	behind, err := dialled(g.options.connect, g.secrets.current[server].Load(), g.options.connectTimeout, func(to net.Conn) error {
+	backend, err := dialled(g.options.connect, g.secrets.current[server].Load(), g.options.connectTimeout, func(to net.Conn) error {
 		return g.introduce(to, c)
 	})
 	if err != nil {
 		g.reject("connect", conn, err)
 		return
 	}
-	g.pass(&session{guard: g, peer: name(c.source), ends: [2]half{c.conn, behind}})
+	g.pass(&session{guard: g, peer: name(c.source), ends: [2]half{c.conn, backend}})
 }
 
 // reject notes why a client is not served.

@@ -215,18 +215,18 @@ func TestPackedSides(t *testing.T) {
 			from, to   net.Conn
 			sent, come side
 		}{{client, server, 0, 1}, {server, client, 1, 0}} {
-			sent, wanted := join(messages...), join(messages...)
+			sent, want := join(messages...), join(messages...)
 			if r.guard.options.packed[way.sent] {
 				sent = capvet.AppendPacked(nil, sent)
 			}
 			if r.guard.options.packed[way.come] {
-				wanted = nil
+				want = nil
 				for _, message := range messages {
-					wanted = append(wanted, mustPack(t, message)...)
+					want = append(want, mustPack(t, message)...)
 				}
 			}
 			go sends(way.from, sent)
-			gets(t, "messages", way.to, wanted)
+			gets(t, "messages", way.to, want)
 		}
 		for _, d := range []direction{requests, replies} {
 			if n := observed(t, r.guard.metrics.directions[d].vetSeconds); n == 0 {
@@ -367,11 +367,11 @@ func TestMemoryOfPackedMessages(t *testing.T) {
 		until(t, "nothing of the budget is in use", func() bool { return r.guard.memory.used.Load() == 0 })
 		client, server = r.pair()
 		send(client, large(100000))
-		wanted := large(100000)
+		want := large(100000)
 		if r.guard.options.packed[1] {
-			wanted = mustPack(t, wanted)
+			want = mustPack(t, want)
 		}
-		gets(t, "a message within the budget", server, wanted)
+		gets(t, "a message within the budget", server, want)
 	}
 	// (2 packed bytes claim 2 KiB of zeros, and 32 KiB of them a message of 64 MiB)
 	r := newRig(t, "--listen-packed", "--memory", "3000000")

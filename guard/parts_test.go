@@ -15,11 +15,11 @@ func TestBuffers(t *testing.T) {
 		t.Error(len(b.bytes))
 	}
 	for _, step := range []struct {
-		length, wanted int
-		ok             bool
+		length, want int
+		ok           bool
 	}{{small, ample, true}, {ample, 2 * ample, true}, {2 * ample, 2 * ample, false}} {
 		b.length = step.length
-		if ok := b.fit(1 << 20); ok != step.ok || len(b.bytes) != step.wanted || b.length != step.length {
+		if ok := b.fit(1 << 20); ok != step.ok || len(b.bytes) != step.want || b.length != step.length {
 			t.Errorf("%+v: %v, %d", step, ok, len(b.bytes))
 		}
 		if used := b.budget.used.Load(); used != int64(len(b.bytes)) {
@@ -68,15 +68,15 @@ func TestHeadersForServers(t *testing.T) {
 		{"PROXY TCP6 a b 1 2\r\n", "", ""},
 		{"PROXY TCP6 2001:db8::1 b 1 2\r\n", "", ""},
 	} {
-		for version, wanted := range []string{row.one, row.two} {
+		for version, want := range []string{row.one, row.two} {
 			g := &guard{options: &options{listenProxy: true, sendProxy: version + 1}}
 			got := &fuzzConn{}
 			c, err := g.introduced(&fuzzConn{state: 1, rest: []byte(row.from), end: io.EOF})
 			if err == nil {
 				err = g.introduce(got, c)
 			}
-			if (err == nil) != (wanted != "") || string(got.out) != wanted {
-				t.Errorf("%q became %q, and not %q: %v", row.from, got.out, wanted, err)
+			if (err == nil) != (want != "") || string(got.out) != want {
+				t.Errorf("%q became %q, and not %q: %v", row.from, got.out, want, err)
 			}
 		}
 	}
@@ -113,7 +113,7 @@ func TestPeers(t *testing.T) {
 }
 
 func TestAddresses(t *testing.T) {
-	for text, wanted := range map[string]address{
+	for text, want := range map[string]address{
 		"127.0.0.1:80":  {"tcp", "127.0.0.1:80"},
 		":80":           {"tcp", ":80"},
 		"[::1]:80":      {"tcp", "[::1]:80"},
@@ -121,7 +121,7 @@ func TestAddresses(t *testing.T) {
 		"systemd":       {"systemd", ""},
 		"systemd:guard": {"systemd", "guard"},
 	} {
-		if got, err := addressOf(text); got != wanted || err != nil {
+		if got, err := addressOf(text); got != want || err != nil {
 			t.Errorf("%s: %v, %v", text, got, err)
 		}
 	}

@@ -173,20 +173,20 @@ func (r *rig) pair() (client, server net.Conn) {
 }
 
 // gets checks that these bytes come next.
-func gets(t *testing.T, what string, conn io.Reader, wanted []byte) {
+func gets(t *testing.T, what string, conn io.Reader, want []byte) {
 	t.Helper()
-	got := make([]byte, len(wanted))
-	if n, err := io.ReadFull(conn, got); err != nil || !bytes.Equal(got, wanted) {
-		t.Fatalf("%s: got %d of %d bytes, equal: %v, %v", what, n, len(wanted), bytes.Equal(got, wanted), err)
+	got := make([]byte, len(want))
+	if n, err := io.ReadFull(conn, got); err != nil || !bytes.Equal(got, want) {
+		t.Fatalf("%s: got %d of %d bytes, equal: %v, %v", what, n, len(want), bytes.Equal(got, want), err)
 	}
 }
 
 // ends checks that these bytes come, and then the end.
-func ends(t *testing.T, what string, conn io.Reader, wanted []byte) {
+func ends(t *testing.T, what string, conn io.Reader, want []byte) {
 	t.Helper()
 	got, err := io.ReadAll(conn)
-	if err != nil && (errors.Is(err, os.ErrDeadlineExceeded) || len(wanted) > 0) || !bytes.Equal(got, wanted) {
-		t.Fatalf("%s: got %d bytes and not %d, %v", what, len(got), len(wanted), err)
+	if err != nil && (errors.Is(err, os.ErrDeadlineExceeded) || len(want) > 0) || !bytes.Equal(got, want) {
+		t.Fatalf("%s: got %d bytes and not %d, %v", what, len(got), len(want), err)
 	}
 }
 
@@ -213,7 +213,7 @@ func (r *rig) logs(words ...string) {
 }
 
 // counts checks that a metric gets to a number.
-func (r *rig) counts(what string, c prometheus.Collector, wanted float64) {
+func (r *rig) counts(what string, c prometheus.Collector, want float64) {
 	r.t.Helper()
-	until(r.t, what, func() bool { return testutil.ToFloat64(c) == wanted })
+	until(r.t, what, func() bool { return testutil.ToFloat64(c) == want })
 }

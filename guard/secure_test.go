@@ -101,12 +101,12 @@ func TestTLS(t *testing.T) {
 	if err != nil {
 		t.Fatal(err)
 	}
-	behind := &tls.Config{Certificates: []tls.Certificate{serverPair}, ClientAuth: tls.RequireAndVerifyClientCert, ClientCAs: ours.pool()}
+	backend := &tls.Config{Certificates: []tls.Certificate{serverPair}, ClientAuth: tls.RequireAndVerifyClientCert, ClientCAs: ours.pool()}
 	client := tls.Client(r.dial(), &tls.Config{RootCAs: ours.pool(), ServerName: "127.0.0.1", Certificates: []tls.Certificate{pair}})
 	// (the guard connects to the server once the client is greeted)
 	greeted := make(chan error, 1)
 	go func() { greeted <- client.Handshake() }()
-	server := tls.Server(r.accept(), behind)
+	server := tls.Server(r.accept(), backend)
 	sends(client, join(empty, shared, large(50000)))
 	gets(t, "requests", server, join(empty, shared, large(50000)))
 	if err := <-greeted; err != nil {

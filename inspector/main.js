@@ -69,7 +69,7 @@ const ANSWERS = {
     verdicts.clear();
     showMessage(null);
     state.number = -1;
-    state.wanted = null;
+    state.expected = null;
     showFault(null);
     list.update();
     showCounts();
@@ -79,19 +79,19 @@ const ANSWERS = {
     verdicts.add(batch);
     list.update();
     showProgress("Vetting", done, total);
-    if (state.wanted === null && verdicts.count) chooseMessage(0);
+    if (state.expected === null && verdicts.count) chooseMessage(0);
   },
 
   end({ fault, count }) {
     showProgress(null);
     showFault(fault ? fault.text : count ? null : "The input has no message.");
     // (what is wrong comes first, unless somebody has chosen)
-    if (state.wanted === 0 && !state.isChosen && verdicts.refused[0] > 0) chooseMessage(verdicts.refused[0]);
+    if (state.expected === 0 && !state.isChosen && verdicts.refused[0] > 0) chooseMessage(verdicts.refused[0]);
   },
 
   message(answer) {
     showProgress(null);
-    if (answer.number === state.wanted) showMessage(answer);
+    if (answer.number === state.expected) showMessage(answer);
   },
 
   canonical(answer) {
@@ -139,7 +139,7 @@ function showCounts() {
 // ------------------------------------------------------------------ the chosen message
 
 function chooseMessage(number, isChosen = false) {
-  state.wanted = number;
+  state.expected = number;
   state.isChosen = isChosen;
   list.select(number);
   ask({ type: "select", number });
@@ -244,7 +244,7 @@ function nextObject() {
 }
 
 function nextRefused() {
-  const { refused } = verdicts, found = refused.find((number) => number > (state.wanted ?? -1)) ?? refused[0];
+  const { refused } = verdicts, found = refused.find((number) => number > (state.expected ?? -1)) ?? refused[0];
   if (found !== undefined) chooseMessage(found, true);
 }
 
@@ -276,7 +276,7 @@ $("path").addEventListener("input", () => $("path").setCustomValidity(""));
 $("path").addEventListener("keydown", (event) => { if (event.key === "Escape") $("tree").focus(); });
 $("back").onclick = back;
 $("follow").onclick = follow;
-$("refused-only").onchange = ({ target }) => { list.filter(target.checked); if (state.wanted !== null) list.select(state.wanted); };
+$("refused-only").onchange = ({ target }) => { list.filter(target.checked); if (state.expected !== null) list.select(state.expected); };
 for (const id of ["open", "open-first"]) $(id).onclick = () => $("file").click();
 for (const id of ["paste", "paste-first"]) $(id).onclick = () => $("paste-dialog").showModal();
 $("file").onchange = ({ target }) => { openFile(target.files[0]); target.value = ""; };

@@ -128,13 +128,13 @@ def main(names):
     # (scripts that run side by side build a target once)
     with open(BUILT / "targets.lock", "w") as lock:
         fcntl.flock(lock, fcntl.LOCK_EX)
-        wanted = [name for name in names if not is_kept(name)]
-        for name in wanted:
+        expected = [name for name in names if not is_kept(name)]
+        for name in expected:
             for tool, package in lacking(name).items():
                 print(f"targets: {name} needs {tool}: install {package}", file=sys.stderr)
                 return 2
         with tempfile.TemporaryDirectory(prefix="capvet-targets-") as folder:
-            return 0 if build(wanted, TOP, Path(folder)) else 1
+            return 0 if build(expected, TOP, Path(folder)) else 1
 
 
 if __name__ == "__main__":

@@ -173,12 +173,12 @@ def mutated(server, frames, valid):
     """Changed messages, each on a connection of its own, every third one after valid ones."""
     segments = changed([Tree(message) for message in trees.messages(frames)], MUTATED, 11)
     messages = [framed(*it) for it in segments]
-    wanted, count = [], 0
+    expected, count = [], 0
     texts = refusals(messages, server.scratch, "--size", "131072", "--words", "131072", "--depth", "32")
     for number, (message, text) in enumerate(zip(messages, texts)):
         with server.connect() as peer:
             if text != "accepted":
-                wanted.append([name_of(peer), str(len(message)), text])
+                expected.append([name_of(peer), str(len(message)), text])
             send(peer, (valid if number % 3 == 0 else b"") + message)
             try:
                 peer.shutdown(socket.SHUT_WR)
@@ -187,13 +187,13 @@ def mutated(server, frames, valid):
             count += all_of(peer)[1]
     compare(f"{server.way}: connections of changed messages that ended", len(messages), count)
     # (calls in accepted messages may be anything, so their results can be too: only refusals are compared)
-    compare(f"{server.way}: refused messages", wanted, server.refused(len(wanted)))
-    server.survived(f"{len(messages)} changed messages, {len(wanted)} of them refused")
+    compare(f"{server.way}: refused messages", expected, server.refused(len(expected)))
+    server.survived(f"{len(messages)} changed messages, {len(expected)} of them refused")
 
 
 def cut_and_large(server, valid):
     """Frames that are cut, too large or of too many segments. Each one is reported."""
-    wanted = []
+    expected = []
     for number in range(FRAMES):
         words = 3 + number % 2000
         message = struct.pack("<II", 0, words) + bytes(8 * words)
@@ -205,12 +205,12 @@ def cut_and_large(server, valid):
                 (struct.pack("<II", 512 + number, 1), f"refused TooManySegments {513 + number}", 8),
                 (struct.pack("<II", 0xffffffff, 1), "refused TooManySegments 4294967296", 8)):
             with server.connect() as peer:
-                wanted.append([name_of(peer), str(came), text])
+                expected.append([name_of(peer), str(came), text])
                 send(peer, (valid if number % 3 == 0 else b"") + data)
                 if "cut" in text:
                     peer.shutdown(socket.SHUT_WR)
                 compare(f"{server.way}: a connection with {text}", True, all_of(peer)[1])
-    compare(f"{server.way}: frames that are cut or too large", wanted, server.refused(len(wanted)))
+    compare(f"{server.way}: frames that are cut or too large", expected, server.refused(len(expected)))
     server.survived("frames that are cut or too large")
 
 
@@ -351,8 +351,8 @@ def counted(server):
     server.memory()
     lines = server.lines("refused ")
     texts = [line.split(" ", 3)[3] for line in lines]
-    wanted = {"open": 0, "turned away": 0, "late": SLOW, "unread": 0, "refused": len(lines)}
-    compare("the counters", wanted, {name: number for name, number in server.counters.items() if name != "accepted"})
+    expected = {"open": 0, "turned away": 0, "late": SLOW, "unread": 0, "refused": len(lines)}
+    compare("the counters", expected, {name: number for name, number in server.counters.items() if name != "accepted"})
     compare("late messages among the lines", SLOW, sum(text.endswith(", late") for text in texts))
     compare("more connections are accepted than end by a refusal", True, server.counters["accepted"] > len(lines))
 

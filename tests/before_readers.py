@@ -181,15 +181,15 @@ def vetted(name, command, count, folder):
     for batch in range(0, count, 20_000):
         segments = changed(samples(), min(20_000, count - batch), batch)
         messages = [framed(*it) for it in segments]
-        wanted = refusals(messages, folder, "--words", 65536)
-        for number, (text, it) in enumerate(zip(wanted, segments)):
+        expected = refusals(messages, folder, "--words", 65536)
+        for number, (text, it) in enumerate(zip(expected, segments)):
             if text == "accepted":
                 tree = Tree(it)
-                wanted[number] = f"sum {tree.sum} pointers {len(tree.places)} caps {tree.caps}"
-        found.update(text.split()[0] for text in wanted)
+                expected[number] = f"sum {tree.sum} pointers {len(tree.places)} caps {tree.caps}"
+        found.update(text.split()[0] for text in expected)
         got, status = run([*command, with_lengths(messages, folder / "messages")])
         compare(f"{name}, status", 0, status)
-        differ(f"{name}, messages from {batch}", wanted, got.splitlines())
+        differ(f"{name}, messages from {batch}", expected, got.splitlines())
     compare(f"{name}, refuses some and accepts some", True, 10 * min(found.values()) > count)
     print(f"{name}: {found['sum']} accepted and read, {found['refused']} refused")
 
@@ -205,18 +205,18 @@ def attacked(name, program, count, folder):
     compare(f"{name}, the same results", 1, len({line.partition(":")[2] for line in same}))
     segments = changed([Tree(message) for message in trees.messages(record)], count, 7)
     messages = [framed(*it) for it in segments]
-    wanted = refusals(messages, folder)
+    expected = refusals(messages, folder)
     for number, it in enumerate(segments):
         # (libcapnp reads every fourth one by itself)
         if number % 4 == 1 and len(it) > 511:
-            wanted[number] = "not read"
+            expected[number] = "not read"
     text, status = run([program, "attack", with_lengths(messages, folder / "messages"), folder / "valid"])
     lines = text.splitlines()
     compare(f"{name}, status", 0, status)
     compare(f"{name}, exceptions from pointers or limits", [], [line for line in lines if line.startswith("threw")][:3])
-    differ(f"{name}, verdicts", wanted, [line for line in lines if re.match("refused|accepted|not read", line)])
+    differ(f"{name}, verdicts", expected, [line for line in lines if re.match("refused|accepted|not read", line)])
     compare(f"{name}, a client afterwards", same[1], lines[-1] if lines else "")
-    counts = Counter(it.split()[0] for it in wanted)
+    counts = Counter(it.split()[0] for it in expected)
     compare(f"{name}, refuses some and accepts some", True, 10 * min(counts["refused"], counts["accepted"]) > count)
     print(f"{name}: {dict(counts)}; " + ", ".join(line for line in lines if line.startswith("exceptions")))
 
@@ -225,34 +225,34 @@ def cuts(*stages):
     """What is printed of a message that ends too early: from each length on, what was required at least."""
     text = HEAD
     for start, end, least in stages:
-        told = f"disconnected: refused Truncated {least}, cut"
+        reported = f"disconnected: refused Truncated {least}, cut"
         line = f"  onRefused refused Truncated {least}, cut\n"
-        text += line + f"  from {start} bytes on: 2 words; then {told}; then {told};\n" + line * (end - start - 1)
+        text += line + f"  from {start} bytes on: 2 words; then {reported}; then {reported};\n" + line * (end - start - 1)
     return text
 
 
-def wanted_of_streams():
+def expected_of_streams():
     """What is printed of each stream, by the line before."""
-    wanted = {}
+    expected = {}
     for part, read in STREAMS.items():
         read, around = (text + "  the same buffer: 1\n  left open: 0\n" for text in (read, AROUND.get(part, read)))
         not_read = read.replace("2 files", "0 files").replace("2 open", "0 open")
-        wanted |= {f"{part}, files read": read, f"{part}, files not read": not_read, f"{part}, around": around}
+        expected |= {f"{part}, files read": read, f"{part}, files not read": not_read, f"{part}, around": around}
     for kind in ("files read", "files not read"):
-        wanted[f"one segment in parts, {kind}"] = cuts((1, 8, 8), (8, 32, 32))
-        wanted[f"two segments in parts, {kind}"] = cuts((1, 8, 8), (8, 16, 16), (16, 48, 48))
-        wanted[f"scratch space, {kind}"] = SPACE.format("elsewhere")
-    wanted |= {"one segment in parts, around": PARTS_AROUND, "two segments in parts, around": PARTS_AROUND,
+        expected[f"one segment in parts, {kind}"] = cuts((1, 8, 8), (8, 32, 32))
+        expected[f"two segments in parts, {kind}"] = cuts((1, 8, 8), (8, 16, 16), (16, 48, 48))
+        expected[f"scratch space, {kind}"] = SPACE.format("elsewhere")
+    expected |= {"one segment in parts, around": PARTS_AROUND, "two segments in parts, around": PARTS_AROUND,
                "scratch space, around": SPACE.format("there")}
-    return wanted
+    return expected
 
 
 def streams(name, program):
     text, status = run([program, "streams"])
     compare(f"{name}, status", 0, status)
-    for part, wanted in wanted_of_streams().items():
+    for part, expected in expected_of_streams().items():
         got = re.search(rf"^{part}\n((?:  .*\n)*)", text, re.M)
-        compare(f"{name}, {part}", wanted, got and got[1])
+        compare(f"{name}, {part}", expected, got and got[1])
 
 
 def instructions(command):
@@ -283,11 +283,11 @@ def cost(program):
 def faults(name, command):
     """Streams whose peers, callers and callbacks misbehave."""
     ran = subprocess.run([str(it) for it in command], capture_output=True, text=True, timeout=600)
-    wanted = [f"{part}, {kind}: {line}" for part, line in FAULTS.items() for kind in ("messages", "bytes", "bytes and files")]
+    expected = [f"{part}, {kind}: {line}" for part, line in FAULTS.items() for kind in ("messages", "bytes", "bytes and files")]
     # (a stream of bytes alone has no files)
-    wanted = [line.replace("2 given, 2 open", "0 given, 0 open") if line.startswith("files, bytes:") else line for line in wanted]
+    expected = [line.replace("2 given, 2 open", "0 given, 0 open") if line.startswith("files, bytes:") else line for line in expected]
     compare(f"{name}, status", 0, ran.returncode)
-    differ(name, [*wanted, *ALONE], ran.stdout.splitlines())
+    differ(name, [*expected, *ALONE], ran.stdout.splitlines())
     compare(f"{name}, exceptions of callbacks are logged", 3, ran.stderr.count("onRefused threw"))
 
 
@@ -332,9 +332,9 @@ def example(folder):
         with server.connect() as peer:
             address = "%s:%d" % peer.getsockname()
             peer.sendall((TOP / "examples/cycle.bin").read_bytes())
-            told = b"".join(iter(lambda: peer.recv(4096), b""))
+            reported = b"".join(iter(lambda: peer.recv(4096), b""))
         line = "refused DepthLimit at 0:0 pointers 33"
-        compare("the reason that the peer gets", True, line.encode() in told)
+        compare("the reason that the peer gets", True, line.encode() in reported)
         with server.connect() as peer:
             other = "%s:%d" % peer.getsockname()
             peer.sendall(bytes(5))
@@ -496,10 +496,10 @@ def from_rust(folder, environment, count):
     guide.write_text("#![allow(dead_code)]\n" + "".join(blocks) + "fn main() {}\n")
     text, status = run(["cargo", "build", *CARGO], cwd=folder / "copy/examples/rust/read", env=environment)
     compare("cargo build of the example", ("", 0), (text, status))
-    for file, wanted in (("contacts.bin", ("accepted, 391 words in capnp\n", 0)),
+    for file, expected in (("contacts.bin", ("accepted, 391 words in capnp\n", 0)),
                          ("contacts-many-segments.bin", ("accepted, 391 words in capnp\n", 0)),
                          ("cycle.bin", ("read: refused DepthLimit at 0:0 pointers 65\n", 1))):
-        compare(f"read of {file}, in Rust", wanted, run([folder / "target/debug/read", TOP / "examples" / file]))
+        compare(f"read of {file}, in Rust", expected, run([folder / "target/debug/read", TOP / "examples" / file]))
 
 
 def main():

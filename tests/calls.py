@@ -86,12 +86,12 @@ def header_alone(folder, compiler, standard):
     clean(f"the header in {compiler} -std={standard}", compiler, f"-std={standard}", *WARN, "-fsyntax-only", source)
 
 
-def wanted_symbols(archive):
-    """The names that the archive wants of others: those for memory that LLVM takes for granted, and no other."""
+def expected_symbols(archive):
+    """The names that the archive needs from others: those for memory that LLVM takes for granted, and no other."""
     lines = run(["nm", archive])[0].splitlines()
     undefined = {line.split()[-1] for line in lines if " U " in line}
     own = {line.split()[-1] for line in lines if " T " in line}
-    expect("what the archive wants", undefined - own <= {"memcpy", "memmove", "memset"}, str(undefined - own))
+    expect("what the archive needs", undefined - own <= {"memcpy", "memmove", "memset"}, str(undefined - own))
     for name in ("capvet_version", "capvet_frame", "capvet_vet", "capvet_vet_exclusive", "capvet_is_canonical",
                  "capvet_canonical", "capvet_get", "capvet_get_range", "capvet_pointer_path", "capvet_earlier_pointer",
                  "capvet_explain", "capvet_pack", "capvet_unpack", "capvet_pack_message", "capvet_unpack_message",
@@ -157,10 +157,10 @@ def compare_lines(lines, program):
     count = overlaps = 0
     for stream in streams(random.Random(SEED)):
         for command, words in (("vet", ["vet"]), ("exclusive", ["vet", "--exclusive"]), ("check", ["check"])):
-            wanted = over_file([program, *words], stream)
-            count += wanted[0].count(b"\n")
-            overlaps += wanted[0].count(b"Overlap")
-            compare(f"{command} of a stream of {len(stream)} bytes", wanted, over_file([lines, command], stream))
+            expected = over_file([program, *words], stream)
+            count += expected[0].count(b"\n")
+            overlaps += expected[0].count(b"Overlap")
+            compare(f"{command} of a stream of {len(stream)} bytes", expected, over_file([lines, command], stream))
     expect("messages with a word that is used twice", 100 * overlaps >= MANY, f"{overlaps}")
     print(f"calls: {count} lines compared with the program's, {overlaps} of a word that is used twice")
 
@@ -296,8 +296,8 @@ def test_packed_messages(folder, compiler, archive, program):
     output = packed_by_library(folder, frames)
     if output is None:
         return
-    for frame, text, wanted in zip(frames, texts, parts_of(output)):
-        expect(lambda: f"the packed message {frame.hex()}", text == wanted, lambda: f"  {text.hex()}\n  {wanted.hex()}")
+    for frame, text, expected in zip(frames, texts, parts_of(output)):
+        expect(lambda: f"the packed message {frame.hex()}", text == expected, lambda: f"  {text.hex()}\n  {expected.hex()}")
     print(f"calls: {len(texts)} messages packed as Cap'n Proto's C++ library does")
 
 
@@ -347,11 +347,11 @@ def test_pieces(folder, compiler, archive, program, texts, frames):
         under_valgrind("pieces, under valgrind", watched, pieces, b"".join(asked[:500]))
     at = count = 0
     for piece, text in cases:
-        wanted, answer = frames_of_text(text)
-        known = with_lengths(wanted) + struct.pack("<II", 0xFFFFFFFF, answer)
+        expected, answer = frames_of_text(text)
+        known = with_lengths(expected) + struct.pack("<II", 0xFFFFFFFF, answer)
         found = got[at:at + len(known)]
         expect(lambda: f"pieces of {piece} of {text.hex()}", found == known, found.hex)
-        at, count = at + len(known), count + len(wanted)
+        at, count = at + len(known), count + len(expected)
     expect("no more messages", at == len(got))
     print(f"calls: {len(cases)} packed streams unpacked in pieces, {count} messages")
 
@@ -506,7 +506,7 @@ def main():
         compilers = ["cc"]
     if not compilers:
         return ended()
-    wanted_symbols(ARCHIVE)
+    expected_symbols(ARCHIVE)
     for part in sys.argv[3:] or PARTS:
         with tempfile.TemporaryDirectory() as folder:
             PARTS[part](Path(folder), compilers, ARCHIVE, PROGRAM)

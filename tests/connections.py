@@ -113,12 +113,12 @@ def cases():
 
 def answers(name, program, folder, **environment):
     """The server's replies and lines for each stream. It ends with status 0."""
-    wanted = []
+    expected = []
     with Server(program, folder, 20, **environment) as server:
         for what, pieces, reply, lines in cases():
             compare(f"{name}, {what}", reply, send(server, pieces))
-            wanted += lines
-        compare(f"{name}, what it prints", (wanted, 0), server.stop())
+            expected += lines
+        compare(f"{name}, what it prints", (expected, 0), server.stop())
 
 
 def drops(text, pause, until):

@@ -42,7 +42,7 @@ message 2: accepted charge 20 depth 2 pointers 7 caps 0
 message 3: accepted charge 78 depth 7 pointers 21 caps 0
 """
 # Words of maintainers, which are in no page of a package.
-MAINTAINERS = re.compile(r"crates/|tests/|\brt \w|`?make (?:build|install|test|gate|dist|wheel|guard|uninstall|bench|growths|times|run)\b")
+MAINTAINERS = re.compile(r"crates/|tests/|\brt \w|`?make (?:build|install|test|gate|dist|wheel|guard|uninstall|bench|allocations|times|run)\b")
 PAGES = ("guide", "service", "output", "c", "go", "python")
 
 
@@ -126,8 +126,8 @@ def unpacked(dist, folder, built):
     root = contents(dist, folder, "x86_64", built)
     prefix = folder / "installed"
     compare("make install", ("", 0), install.make("install", folder, f"PREFIX={prefix}"))
-    wanted = {file for file in install.files_of(prefix)}
-    compare("what is installed is in the archive", set(), wanted - install.files_of(root).keys())
+    expected = {file for file in install.files_of(prefix)}
+    compare("what is installed is in the archive", set(), expected - install.files_of(root).keys())
     for part in ("examples", *packing.BINDINGS):
         there = run(["git", "ls-files", part], cwd=dist.parent)[0].split()
         compare(f"{part} of the archive", [], [it for it in there if not (root / it).exists()])
@@ -135,12 +135,12 @@ def unpacked(dist, folder, built):
     blocks = [block for language, block in reading.BLOCK.findall((root / "README.md").read_text()) if language == "sh"]
     compare("the README has five blocks of commands", 5, len(blocks))
     tools = ((), ("cc", "pkg-config"), ("cargo", "cc", "pkg-config"), ("go", "cc", "pkg-config"), ("wheel",))
-    wanted, ran = "", []
+    expected, ran = "", []
     for block, names in zip(blocks, tools):
         if not missing(f"commands of the README: {block.splitlines()[-1]}", *names):
             ran.append(block)
-            wanted += "391\n" if "wheel" in names else VETTED
-    compare("the commands of the README", (wanted, 0), run(["sh", "-ec", "\n".join(ran)], cwd=root, env=environment))
+            expected += "391\n" if "wheel" in names else VETTED
+    compare("the commands of the README", (expected, 0), run(["sh", "-ec", "\n".join(ran)], cwd=root, env=environment))
     if not missing("cargo test of the archive's crate", "cargo", "pkg-config"):
         environment["PKG_CONFIG_PATH"] = str(root / "lib/pkgconfig")
         compare("cargo test of the archive's crate", 0,
@@ -150,7 +150,7 @@ def unpacked(dist, folder, built):
 
 def pages(root, folder):
     """The pages of the archive: their links lead to files in it, they are for users, and their commands run at its top."""
-    lead_somewhere(root, "the archive")
+    lead_to_a_place(root, "the archive")
     environment = without_rt(folder) | {"PATH": f"{root}/bin:{os.environ['PATH']}", "PKG_CONFIG_PATH": str(root / "lib/pkgconfig")}
     for name in PAGES:
         tools = {"c": ("cc", "pkg-config"), "go": ("go", "cc", "pkg-config"), "python": ("wheel", "jq")}.get(name, ())
@@ -161,7 +161,7 @@ def pages(root, folder):
         reading.read(f"{name}.md of the archive", page, text, compare, "venv/bin/python")
 
 
-def lead_somewhere(root, whose):
+def lead_to_a_place(root, whose):
     """Each link of the pages below a folder leads to a file and a heading there, and no page speaks to maintainers."""
     texts = {page: page.read_text() for page in root.rglob("*.md")}
     compare(f"pages of {whose}", True, len(texts) > 9)
@@ -253,10 +253,10 @@ def archive(root, folder):
     compare("global symbols", calls, set(re.findall(r"FUNC +GLOBAL DEFAULT +\d+ (\w+)", run(["readelf", "-sW", library])[0])))
     source, plugin = folder / "plugin.c", folder / "plugin.so"
     source.write_text("#include <capvet.h>\nuint32_t plugin(void);\nuint32_t plugin(void) { return capvet_version(); }\n")
-    for hides, wanted in (([], True), (["-Wl,--exclude-libs,libcapvet.a"], False)):
+    for hides, expected in (([], True), (["-Wl,--exclude-libs,libcapvet.a"], False)):
         built = run(["cc", "-shared", "-fPIC", f"-I{root}/include", source, f"-L{root}/lib", "-lcapvet", *hides, "-o", plugin])
         compare(f"a plugin over the archive, {hides}", ("", 0), built)
-        compare(f"its exports, {hides}", wanted, " capvet_version" in run(["readelf", "--dyn-syms", "-W", plugin])[0])
+        compare(f"its exports, {hides}", expected, " capvet_version" in run(["readelf", "--dyn-syms", "-W", plugin])[0])
 
 
 def for_arm(dist, folder, built):

@@ -411,16 +411,16 @@ def break_lines(text, is_packed, limit):
         if count is not None and count > 512:
             return number, [f"capvet: message {number}: TooManySegments {count}", where, f"  segments {count}, limit 512",
                             "  reason the first word of the message says more segments than a message may have"]
-        told = [] if sizes is None else [f"  table segments {count}, words {sum(sizes)}"]
+        reported = [] if sizes is None else [f"  table segments {count}, words {sum(sizes)}"]
         if sizes is not None and sum(sizes) > limit:
-            return number, [f"capvet: message {number}: TooLarge {sum(sizes)}", where, *told,
+            return number, [f"capvet: message {number}: TooLarge {sum(sizes)}", where, *reported,
                             f"  words {sum(sizes)}, limit {limit}",
                             "  reason the segments together have more words than the limit allows"]
         if sizes is None or len(words) < long + sum(sizes):
             needed = "" if sizes is None else f", needed {8 * (long + sum(sizes))}{' unpacked' * is_packed}"
             place, part = "segment table" if sizes is None else "segments", "packed group" if is_packed else "word"
             end = f", and inside a {part}" if is_cut else f", between two {part}s"
-            return number, [f"capvet: message {number}: Truncated at byte {len(text)}", where, *told,
+            return number, [f"capvet: message {number}: Truncated at byte {len(text)}", where, *reported,
                             f"  bytes there {len(text) - start}{' packed' * is_packed}{needed}",
                             f"  reason the input ends inside the {place}{end}"]
         start, words, number = words[long + sum(sizes) - 1][1], words[long + sum(sizes):], number + 1
@@ -472,7 +472,7 @@ def limits_of(words):
     return model.Limits(charge=charge, depth=depth, flags=flags)
 
 
-def told_of(frame, words):
+def reported_of(frame, words):
     """The text on a message and the place of the refusal, or nothing and zeros if it is accepted."""
     lines, reason = lines_of(0, segments_of(frame), words, None)
     if reason == "accepted":
@@ -483,17 +483,17 @@ def told_of(frame, words):
 def compare_calls(built, options, stream, first, chance):
     """One run of tests/c/explain.c over some messages."""
     words = [word for word in options.split() if word != "--exclusive"]
-    texts, limits = [told_of(frame, words) for frame in stream], limits_of(words)
-    sizes = [chance.choice((BOUND, 1000, 400, 250, 90, 0, len(told), max(len(told) - 1, 0))) for told, _ in texts]
+    texts, limits = [reported_of(frame, words) for frame in stream], limits_of(words)
+    sizes = [chance.choice((BOUND, 1000, 400, 250, 90, 0, len(reported), max(len(reported) - 1, 0))) for reported, _ in texts]
     out, err, status = over_file([built], b"".join(
         limits.packed() + struct.pack("<3I", size, chance.randrange(8), len(frame)) + frame for size, frame in zip(sizes, stream)))
     compare(f"capvet_explain, {options}: messages from {first}", (0, b""), (status, err))
     at = 0
-    for frame, size, (told, place) in zip(stream, sizes, texts):
-        wanted = NO_NODE if not told else OK if len(told) <= size else BUFFER_TOO_SMALL
+    for frame, size, (reported, place) in zip(stream, sizes, texts):
+        expected = NO_NODE if not reported else OK if len(reported) <= size else BUFFER_TOO_SMALL
         fields = dict.fromkeys(model.FIELDS, 0) | dict(zip(("segment", "word", "pointers"), place))
         fields |= dict(length=len(frame), segments=len(segments_of(frame)))
-        reply = REPLY.pack(wanted, len(told), *fields.values(), 0, 0, 0, 0) + told.encode() * (wanted == OK)
+        reply = REPLY.pack(expected, len(reported), *fields.values(), 0, 0, 0, 0) + reported.encode() * (expected == OK)
         compare(f"capvet_explain {options} {size}, {frame.hex()[:400]}", reply, out[at:at + len(reply)])
         at += len(reply)
     compare(f"capvet_explain, {options}: replies from {first}", at, len(out))

@@ -200,15 +200,15 @@ def over_samples():
         stream = path.read_bytes()
         for options in OPTIONS:
             given = packed(stream) if "--packed" in options else stream
-            wanted = case(path.name, options, stream, given)
+            expected = case(path.name, options, stream, given)
             with tempfile.NamedTemporaryFile() as file:
                 file.write(given)
                 file.flush()
                 got = run(["filter", *options.split(), file.name])
-                compare(f"filter {options}, {path.name} from a file", wanted, got)
+                compare(f"filter {options}, {path.name} from a file", expected, got)
     path = TOP / "examples/contacts.packed"
-    wanted = (TOP / "examples/contacts.bin").read_bytes(), b"", 0
-    compare("filter --packed, contacts.packed", wanted, run(["filter", "--packed", path]))
+    expected = (TOP / "examples/contacts.bin").read_bytes(), b"", 0
+    compare("filter --packed, contacts.packed", expected, run(["filter", "--packed", path]))
 
 
 def over_changed(messages):
@@ -276,10 +276,10 @@ def by_libcapnp(messages):
             if b" accepted " in line and line.endswith(b" caps 0") and has_struct(next(trees.messages(message)))]
     ran = filtered("--pack", b"".join(some))
     compare("filter --pack, for capnp convert", (b"".join(packed_frame(it) for it in cut(b"".join(some))), b"", 0), ran)
-    wanted = converted("binary:binary", accepted(*some))
-    count = sum(1 for _ in cut(wanted[0]))
-    expect("capnp convert reads all of the frames", (count, *wanted[1:]) == (len(some), b"", 0), count, len(some), wanted[1:])
-    compare("filter --pack, read by capnp convert", wanted, converted("packed:binary", ran[0]))
+    expected = converted("binary:binary", accepted(*some))
+    count = sum(1 for _ in cut(expected[0]))
+    expect("capnp convert reads all of the frames", (count, *expected[1:]) == (len(some), b"", 0), count, len(some), expected[1:])
+    compare("filter --pack, read by capnp convert", expected, converted("packed:binary", ran[0]))
     expect("these are many", 5 * count >= len(messages), count)
 
 
@@ -401,17 +401,17 @@ def runs_of_zeros():
             err = live.take(live.ran.stderr, len(lines))
             live.send(whole[-1:])
             rest = live.end()
-        wanted = first, lines, (NULL, b"", int(more > 0))
-        compare(f"filter --packed, a run of zeros through {more} messages", wanted, (out, err, rest))
+        expected = first, lines, (NULL, b"", int(more > 0))
+        compare(f"filter --packed, a run of zeros through {more} messages", expected, (out, err, rest))
 
 
 def both_outputs():
     """Messages of each kind and the beginning of one, in one write."""
     stream = NULL + CYCLE + PADDED + CYCLE + SHARED
-    wanted, lines = accepted(NULL, PADDED, SHARED), lines_of(1, 3)
+    expected, lines = accepted(NULL, PADDED, SHARED), lines_of(1, 3)
     for options in ("", "--packed", "--pack"):
         given = packed(stream) + packed(SHARED)[:7] if "--packed" in options else stream + SHARED[:7]
-        text = b"".join(map(packed_frame, cut(wanted))) if options == "--pack" else wanted
+        text = b"".join(map(packed_frame, cut(expected))) if options == "--pack" else expected
         with Live(options) as live:
             live.send(given)
             out, err = live.take(live.ran.stdout, len(text)), live.take(live.ran.stderr, len(lines))
@@ -429,11 +429,11 @@ def whole_and_half():
         "a refused one between two": (NULL + CYCLE + PADDED, accepted(NULL, PADDED), lines_of(1)),
         "a refused one after two": (NULL + PADDED + CYCLE, accepted(NULL, PADDED), lines_of(2)),
     }
-    for name, (stream, wanted, lines) in streams.items():
+    for name, (stream, expected, lines) in streams.items():
         for options in ("", "--packed", "--pack"):
             is_packed = "--packed" in options
             given, more = (packed(stream), packed(PADDED)) if is_packed else (stream, PADDED)
-            text = b"".join(map(packed_frame, cut(wanted))) if options == "--pack" else wanted
+            text = b"".join(map(packed_frame, cut(expected))) if options == "--pack" else expected
             faults = []
             for size in range(len(more)):
                 with Live(options) as live:
@@ -454,10 +454,10 @@ def many_at_once():
     """More messages than buffers hold, of which some are refused, and the beginning of one."""
     part = NULL + PADDED + SHARED
     stream = (50 * part + CYCLE) * 200
-    wanted, lines = accepted(part) * 10_000, lines_of(*range(150, 151 * 200, 151))
+    expected, lines = accepted(part) * 10_000, lines_of(*range(150, 151 * 200, 151))
     for options in ("", "--packed", "--pack"):
         given = packed(stream + SHARED)[:-3] if "--packed" in options else stream + SHARED[:-3]
-        text = b"".join(map(packed_frame, cut(accepted(part)))) * 10_000 if options == "--pack" else wanted
+        text = b"".join(map(packed_frame, cut(accepted(part)))) * 10_000 if options == "--pack" else expected
         with Live(options) as live:
             writer = live.send_apart(given)
             out, err = live.take(live.ran.stdout, len(text)), live.take(live.ran.stderr, len(lines))
@@ -509,7 +509,7 @@ def broken_streams():
         last = len(packed(PADDED)) if is_packed else len(PADDED)
         for size in range(1, last):
             given = packed(first) + packed(PADDED)[:size] if is_packed else first + PADDED[:size]
-            _, err, _ = case(f"cut behind byte {size} of a message", options, first + PADDED, given)
+            _, err, _ = case(f"cut after byte {size} of a message", options, first + PADDED, given)
             expect("the line of a cut frame", err.endswith(f"Truncated at byte {len(given)}\n".encode()), err)
     # (tables that say 513 segments, too many words, and a message that is too large for --size)
     for options, more, said in (("", "0002000000000000", b"TooManySegments 513"),
@@ -732,8 +732,8 @@ def large_messages():
         file.flush()
         with subprocess.Popen([PROGRAM, "filter", file.name], stdout=subprocess.PIPE, stderr=subprocess.PIPE) as ran:
             out = subprocess.run(["cat"], stdin=ran.stdout, stdout=subprocess.PIPE, timeout=SECONDS).stdout
-            wanted = stream + stream + accepted(PADDED), lines_of(0, 2), 1
-            compare("filter of large messages from a file, into cat", wanted, (out, ran.stderr.read(), ran.wait(SECONDS)))
+            expected = stream + stream + accepted(PADDED), lines_of(0, 2), 1
+            compare("filter of large messages from a file, into cat", expected, (out, ran.stderr.read(), ran.wait(SECONDS)))
 
 
 def main():

@@ -182,15 +182,15 @@ def compare_calls(program, many):
             return answers
         answer, required, *fields = REPLY.unpack_from(replies, at)
         at += REPLY.size
-        wanted, least, report, out = model.called(call, data, limits, size)
+        expected, least, report, out = model.called(call, data, limits, size)
         got = replies[at:at + required] if call == CANONICAL and answer == ANSWERS["OK"] else b""
         at += len(got)
         answers[call, answer] += 1
         # the report as the header has it, and its reserved fields
-        wanted_fields = [*report, 0, 0, 0, 0]
+        expected_fields = [*report, 0, 0, 0, 0]
         expect(lambda: f"{CALLS[call]} of {data.hex()} with {limits} and {size}",
-               (answer, required, fields, got) == (wanted, least, wanted_fields, out),
-               lambda: f"wanted {wanted} {least} {dict(zip(FIELDS, report))} {out.hex()}\n"
+               (answer, required, fields, got) == (expected, least, expected_fields, out),
+               lambda: f"expected {expected} {least} {dict(zip(FIELDS, report))} {out.hex()}\n"
                        f"  got {answer} {required} {fields} {got.hex()}")
     expect("no more replies", at == len(replies))
     return answers

@@ -148,8 +148,8 @@ def as_shown(top, environment):
     (hello / "main.go").write_text(programs[0])
     environment = {**environment, "PKG_CONFIG_PATH": f"{environment['HOME']}/x/lib/pkgconfig"}
     for block in re.findall(r"^```console\n(.*?)^```$", page, re.M | re.S):
-        for command, wanted in re.findall(r"^\$ (.*)\n((?:(?!\$ ).*\n)*)", block, re.M):
-            compare(f"docs/go.md: {command}", wanted, run(["bash", "-c", command], cwd=hello, env=environment)[0])
+        for command, expected in re.findall(r"^\$ (.*)\n((?:(?!\$ ).*\n)*)", block, re.M):
+            compare(f"docs/go.md: {command}", expected, run(["bash", "-c", command], cwd=hello, env=environment)[0])
     (hello / "main.go").write_text(programs[1] + "\nfunc main() {}\n")
     go("go vet of the snippet of docs/go.md", ["vet", "."], hello, environment)
 

@@ -248,7 +248,7 @@ def as_filter(folder):
     refused one has the path of `capvet explain`."""
     messages, ended = list(filter.changed(cases(2000, 20_000))), 0  # changed messages, of which streams are made
     for options in FILTERS:
-        is_packed, paths, wanted = "--packed" in options, paths_of(messages, folder, options), []
+        is_packed, paths, expected = "--packed" in options, paths_of(messages, folder, options), []
         words = ["--listen-packed" if word == "--packed" else word for word in options]
         with rpc.Listener() as listener, Guard(folder, listener.address, *words) as guard:
             lines = ""
@@ -261,7 +261,7 @@ def as_filter(folder):
                 lines += re.sub(r" at byte \d+", "", err.decode())
                 count = len(list(filter.cut(out)))
                 if err:
-                    wanted.append(paths[at + count] if b": refused " in err else None)
+                    expected.append(paths[at + count] if b": refused " in err else None)
                 with guard.connect() as peer, listener.accept() as server:
                     half = len(given) // 2
                     send_quietly(peer, given[:half])
@@ -270,7 +270,7 @@ def as_filter(folder):
                     compare(f"messages from {at} {options}", (b"".join(frames[:count]), "closed"), all_of(server))
             said = guard.records()
             compare(f"the lines of {options}", lines, lines_of(said))
-            compare(f"the paths of {options}", wanted, [record.get("path") for record in said])
+            compare(f"the paths of {options}", expected, [record.get("path") for record in said])
             ended += len(said)
     compare("some streams are refused", True, ended > len(messages) // 25)
 

@@ -51,27 +51,27 @@ def expect(name, holds, *said, cases=1):
             print(f"FAILED: {first}", *more, sep="\n  ", flush=True)
 
 
-def compare(name, wanted, got):
+def compare(name, expected, got):
     """A case, which fails if what came isn't what was expected. How they differ is shown then."""
-    expect(name, wanted == got, *(differences(wanted, got) if wanted != got else ()))
+    expect(name, expected == got, *(differences(expected, got) if expected != got else ()))
 
 
-def differences(wanted, got):
+def differences(expected, got):
     """The lines that show how two values differ: of tuples the parts that do, and long texts from near the first difference on."""
-    if isinstance(wanted, tuple) and isinstance(got, tuple) and len(wanted) == len(got):
-        return [line for pair in zip(wanted, got) if pair[0] != pair[1] for line in differences(*pair)]
+    if isinstance(expected, tuple) and isinstance(got, tuple) and len(expected) == len(got):
+        return [line for pair in zip(expected, got) if pair[0] != pair[1] for line in differences(*pair)]
     lines = []
-    if isinstance(wanted, (str, bytes)) and isinstance(got, type(wanted)) and max(len(wanted), len(got)) > SHOWN:
-        at = next((at for at, pair in enumerate(zip(wanted, got)) if pair[0] != pair[1]), min(len(wanted), len(got)))
-        lines = [f"the lengths are {len(wanted)} and {len(got)}, and the first difference is at {at}"]
-        wanted, got = (text[max(0, at - 50):][:SHOWN] for text in (wanted, got))
-    return [*lines, f"wanted {wanted!r}", f"   got {got!r}"]
+    if isinstance(expected, (str, bytes)) and isinstance(got, type(expected)) and max(len(expected), len(got)) > SHOWN:
+        at = next((at for at, pair in enumerate(zip(expected, got)) if pair[0] != pair[1]), min(len(expected), len(got)))
+        lines = [f"the lengths are {len(expected)} and {len(got)}, and the first difference is at {at}"]
+        expected, got = (text[max(0, at - 50):][:SHOWN] for text in (expected, got))
+    return [*lines, f"expected {expected!r}", f"     got {got!r}"]
 
 
-def differ(name, wanted, got):
+def differ(name, expected, got):
     """Two cases for two lists: their lengths, and the first few elements that differ."""
-    compare(f"{name}, how many", len(wanted), len(got))
-    compare(name, [], [(number, *pair) for number, pair in enumerate(zip(wanted, got)) if pair[0] != pair[1]][:3])
+    compare(f"{name}, how many", len(expected), len(got))
+    compare(name, [], [(number, *pair) for number, pair in enumerate(zip(expected, got)) if pair[0] != pair[1]][:3])
 
 
 def ended():

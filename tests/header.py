@@ -36,10 +36,10 @@ CODE = r"^    ([A-Z]\w+) = (\d+),"
 def answers(path, pattern):
     """The names and numbers that a file has, each name once."""
     pairs = re.findall(pattern, (ROOT / path).read_text(), re.MULTILINE)
-    told = {name: int(number) for name, number in pairs}
-    if len(told) != len(pairs) or not told:
-        sys.exit(f"header: {path} tells {len(pairs)} answers, {len(told)} of them by names of their own")
-    return told
+    reported = {name: int(number) for name, number in pairs}
+    if len(reported) != len(pairs) or not reported:
+        sys.exit(f"header: {path} says {len(pairs)} answers, {len(reported)} of them by names of their own")
+    return reported
 
 
 def number(path, pattern):
@@ -63,19 +63,19 @@ def main():
     header = answers("include/capvet.h", r"^\s*CAPVET_(?!KIND_)([A-Z_]+) = (\d+)")
     code = answers("crates/cap_calls/src/answer.rt", CODE)
     specs = answers("crates/cap_calls/specs/AnswerNumbers.antt", r"^answer_number ([A-Z]\w+) = (\d+)")
-    for path, told in (("answer.rt", code), ("AnswerNumbers.antt", specs)):
-        there = {constant(name): number for name, number in told.items()}
+    for path, reported in (("answer.rt", code), ("AnswerNumbers.antt", specs)):
+        there = {constant(name): number for name, number in reported.items()}
         for name in sorted(header.keys() | there.keys()):
             if header.get(name) != there.get(name):
                 sys.exit(f"header: CAPVET_{name} is {header.get(name)}, and in {path} {there.get(name)}")
     for name, path, pattern in CONSTANTS:
-        told = number("include/capvet.h", rf"^#define CAPVET_{name} (?:UINT64_C\()?(\w+?)u?\)?(?: |$)")
+        reported = number("include/capvet.h", rf"^#define CAPVET_{name} (?:UINT64_C\()?(\w+?)u?\)?(?: |$)")
         there = number(path, pattern)
-        if there is None or told != there:
-            sys.exit(f"header: CAPVET_{name} is {told}, and in {path} {there}")
-    told = re.findall(r'^    case CAPVET_([A-Z_]+): return "(\w+)";', (ROOT / "include/capvet.h").read_text(), re.MULTILINE)
-    if [name for name, _ in told] != list(header) or {header[name]: text for name, text in told} != names():
-        sys.exit(f"header: capvet_answer_name has {told}")
+        if there is None or reported != there:
+            sys.exit(f"header: CAPVET_{name} is {reported}, and in {path} {there}")
+    reported = re.findall(r'^    case CAPVET_([A-Z_]+): return "(\w+)";', (ROOT / "include/capvet.h").read_text(), re.MULTILINE)
+    if [name for name, _ in reported] != list(header) or {header[name]: text for name, text in reported} != names():
+        sys.exit(f"header: capvet_answer_name has {reported}")
     version = answers("include/capvet.h", r"^#define CAPVET_VERSION_([A-Z]+) (\d+)$")
     text = re.findall(r'^#define CAPVET_VERSION_STRING "(.*)"$', (ROOT / "include/capvet.h").read_text(), re.MULTILINE)
     there = number("crates/cap_calls/src/calls/version.rt", r"^    (\d+)$")
@@ -84,8 +84,8 @@ def main():
     kinds = answers("include/capvet.h", r"^\s*CAPVET_KIND_([A-Z_]+) = (\d+)")
     code = answers("crates/cap_calls/src/node.rt", r"Kind(?:::|\.)(\w+)(?:[^=]*=> | [^}]*\}\s*\{\s*)CallNode \{\s*kind: (\d+)")
     specs = answers("crates/cap_calls/specs/CallNodes.antt", r"^kind_node \(?(\w+)[^=]*=\s*record none_node \{\s*kind = (\d+)")
-    for path, told in (("node.rt", code), ("CallNodes.antt", specs)):
-        there = {"NULL": 0} | {KINDS[name]: number for name, number in told.items()}
+    for path, reported in (("node.rt", code), ("CallNodes.antt", specs)):
+        there = {"NULL": 0} | {KINDS[name]: number for name, number in reported.items()}
         if there != kinds:
             sys.exit(f"header: the kinds of node are {kinds}, and in {path} {there}")
     print(f"{len(header) + len(CONSTANTS) + len(kinds)} passed, 0 failed")

@@ -474,13 +474,13 @@ def test_files(page, folder):
     page.call("Page.setDownloadBehavior", behavior="allow", downloadPath=str(folder))
     page.load(folder / "one.bin")
     page.wait("!document.getElementById('save-canonical').disabled")
-    for form, name, wanted in (("message", "one-0.bin", message), ("canonical", "one-0-canonical.bin", output(["canon"], message)),
+    for form, name, expected in (("message", "one-0.bin", message), ("canonical", "one-0-canonical.bin", output(["canon"], message)),
                                ("packed", "one-0-packed.bin", output(["filter", "--pack"], message))):
         page.value(f"document.getElementById('save-{form}').click()")
         end = time.monotonic() + SECONDS
         while not (folder / name).exists() and time.monotonic() < end:
             page.settle()
-        expect(f"the file {name}", (folder / name).exists() and (folder / name).read_bytes() == wanted)
+        expect(f"the file {name}", (folder / name).exists() and (folder / name).read_bytes() == expected)
     page.is_quiet("saved files")
 
 

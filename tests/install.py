@@ -46,9 +46,9 @@ def make(target, folder, *variables):
     for tool in ("rt", "cargo", "cc"):
         (refused / tool).write_text(f"#!/bin/sh\necho {tool} was called\nexit 1\n")
         (refused / tool).chmod(0o755)
-    told = ("PREFIX", "DESTDIR", "bindir", "libdir", "includedir", "mandir", "pkgconfigdir", "cmakedir", "completionsdir", "zshdir",
+    reported = ("PREFIX", "DESTDIR", "bindir", "libdir", "includedir", "mandir", "pkgconfigdir", "cmakedir", "completionsdir", "zshdir",
             "fishdir", "INSTALL", "MAKEFLAGS", "MAKELEVEL")
-    environment = {name: value for name, value in os.environ.items() if name not in told}
+    environment = {name: value for name, value in os.environ.items() if name not in reported}
     environment["PATH"] = f"{refused}:{os.environ['PATH']}"
     return run(["make", "-s", target, f"BUILT_PROGRAM={PROGRAM}", f"BUILT_ARCHIVE={ARCHIVE}", *variables], cwd=TOP, env=environment)
 
@@ -123,9 +123,9 @@ def options_of_help(command):
 def options():
     """The page, the completions and the program's help have the same commands and options."""
     page = (TOP / "docs/capvet.1").read_text().replace("\\-", "-")
-    told = set(re.findall(r"--[a-z-]+", page))
+    reported = set(re.findall(r"--[a-z-]+", page))
     of_help = {option for command in COMMANDS for option in options_of_help(command)} | {"--version"}
-    compare("options of the manual page", of_help, told)
+    compare("options of the manual page", of_help, reported)
     commands, _, _ = page.partition(".SH COMMANDS\n")[2].partition("\n.SH ")
     compare("commands of the manual page", [*COMMANDS, "help"], re.findall(r"^\.TP\n\.B (\w+)$", commands, re.M))
     synopsis = page.partition(".SH SYNOPSIS\n")[2].partition(".SH ")[0]
@@ -147,8 +147,8 @@ def versions():
     compare("manifests have a version", True, len([file for file in manifests if found[file]]) >= 2)
     for file in manifests:
         compare(f"the version of {file.relative_to(TOP)}", [version] * len(found[file]), found[file])
-    wanted = re.findall(r'"capvet ([^"]*)"', re.search(r"VERSIONS: \[&str; 2\] = (.*);", (TOP / "bindings/rust/build.rs").read_text())[1])
-    compare("the versions that the crate takes", [f">= {numbers[0]}.{numbers[1]}", f"< {int(numbers[0]) + 1}"], wanted)
+    expected = re.findall(r'"capvet ([^"]*)"', re.search(r"VERSIONS: \[&str; 2\] = (.*);", (TOP / "bindings/rust/build.rs").read_text())[1])
+    compare("the versions that the crate takes", [f">= {numbers[0]}.{numbers[1]}", f"< {int(numbers[0]) + 1}"], expected)
 
 
 def examples():
@@ -157,8 +157,8 @@ def examples():
     environment = {**os.environ, "PATH": f"{PROGRAM.parent}:{os.environ['PATH']}"}
     found = re.findall(r"^\$ (.*)\n((?:[^.$].*\n)*)", page, re.M)
     compare("examples of the manual page are found", 5, len(found))
-    for line, wanted in found:
-        compare(line, wanted, run(["sh", "-c", line], cwd=TOP, env=environment)[0])
+    for line, expected in found:
+        compare(line, expected, run(["sh", "-c", line], cwd=TOP, env=environment)[0])
 
 
 def completed(*words):
@@ -176,22 +176,22 @@ def completions():
     compare("commands by their beginning", ["pack"], completed("p"))
     compare("options without a command", ["--help", "--version"], completed("-"))
     compare("commands of help", sorted(COMMANDS), completed("help", ""))
-    compare("nothing behind help's command", [], completed("help", "vet", ""))
+    compare("nothing after help's command", [], completed("help", "vet", ""))
     compare("nothing of another command", [], completed("vat", ""))
     for command in COMMANDS:
         front = [command, "/p0"] if command == "get" else [command]
         compare(f"options of {command}", options_of_help(command), completed(*front, "-"))
         compare(f"files of {command}", samples, completed(*front, ""))
         compare(f"one file of {command}", [], completed(*front, "contacts.bin", ""))
-        compare(f"files of {command} behind --", samples, completed(*front, "--", ""))
-        compare(f"no option of {command} behind --", [], completed(*front, "--", "-"))
+        compare(f"files of {command} after --", samples, completed(*front, "--", ""))
+        compare(f"no option of {command} after --", [], completed(*front, "--", "-"))
     compare("files by their beginning", ["contacts.bin"], completed("vet", "--packed", "contacts.b"))
     compare("no file for a path", [], completed("get", ""))
     for option in ("--size", "--words", "--depth"):
         compare(f"nothing for the number of {option}", [], completed("vet", option, ""))
         compare(f"nothing for the number of {option}=", [], completed("vet", option, "=", ""))
-        compare(f"files behind {option}", samples, completed("vet", option, "7", ""))
-        compare(f"files behind {option}=", samples, completed("vet", option, "=", "7", ""))
+        compare(f"files after {option}", samples, completed("vet", option, "7", ""))
+        compare(f"files after {option}=", samples, completed("vet", option, "=", "7", ""))
 
 
 def by_fish(*words):

@@ -61,8 +61,8 @@ def answers_of_header():
     names = dict(re.findall(r'\[(\d+), "(\w+)"\]', (BINDING / "src/answers.js").read_text()))
     header = (TOP / "include/capvet.h").read_text()
     numbers = dict(re.findall(r"^  CAPVET_(\w+) = (\d+),", header, re.M))
-    wanted = {numbers[name]: text for name, text in re.findall(r'case CAPVET_(\w+): return "(\w+)"', header) if name != "OK"}
-    compare("the names of the answers", wanted, names)
+    expected = {numbers[name]: text for name, text in re.findall(r'case CAPVET_(\w+): return "(\w+)"', header) if name != "OK"}
+    compare("the names of the answers", expected, names)
 
 
 def tested(folder):
@@ -232,8 +232,8 @@ def as_shown(folder):
             (hello / "vet.mjs").write_text(block)
             last, status = run(["node", "vet.mjs", "../examples/contacts.bin"], cwd=hello)
             compare(f"a program of docs/js.md: {block[:60]}", 0, status)
-        for command, wanted in re.findall(r"^\$ (.*)\n((?:(?!\$ ).*\n)*)", block, re.M) if kind == "console" else ():
-            compare(f"docs/js.md: {command}", wanted, run(["bash", "-c", command], cwd=hello)[0])
+        for command, expected in re.findall(r"^\$ (.*)\n((?:(?!\$ ).*\n)*)", block, re.M) if kind == "console" else ():
+            compare(f"docs/js.md: {command}", expected, run(["bash", "-c", command], cwd=hello)[0])
         if kind == "" and not block.startswith("Content-Security-Policy"):
             compare("what a program of docs/js.md prints", block, last)
     compare("the last program of docs/js.md", "true\n", last)

@@ -32,7 +32,7 @@ class Request:
     name: str
     asked: dict
     stream: bytes
-    wanted: bytes
+    expected: bytes
 
 
 def written(words, stream):
@@ -58,7 +58,7 @@ def request(command, run_of, stream, chance, words="", **options):
 
 
 def some_path(chance):
-    """A path. Most lead somewhere in some message."""
+    """A path. Most lead to some place in some message."""
     return "".join(f"/{chance.choice('ppi')}{chance.choice((0, 0, 0, 1, 1, 2, 4))}" for _ in range(chance.randrange(1, 5)))
 
 
@@ -122,7 +122,7 @@ def requests(texts):
         for it in batch(messages, chance):
             if it.name.split() == ["vet", "--strict", "--unamplified"]:
                 for which, word in enumerate((b": accepted", b": refused")):
-                    verdicts[which] += it.wanted.count(word)
+                    verdicts[which] += it.expected.count(word)
             yield it
         if texts:
             made = [changed_text(text, chance) if chance.randrange(4) == 0 else text
@@ -149,7 +149,7 @@ def unpacker(folder):
 
 def same(where, it, got):
     """The answer is what was expected."""
-    compare(f"{where}: {it.name} {it.asked}", it.wanted, got)
+    compare(f"{where}: {it.name} {it.asked}", it.expected, got)
 
 
 def in_node(folder, where, texts):

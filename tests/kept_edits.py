@@ -126,11 +126,11 @@ class Prover:
         return self.answer if texts else ("logic=proved\n", 0)
 
 
-def tried(name, crate, wanted, prover=None, **how):
+def tried(name, crate, expected, prover=None, **how):
     """A run over the edit. What it returns, and how often it asks the prover: twice where the edit is tried, else never."""
     edits.checked = prover or Prover()
     got = edits.try_edits(crate, [crate / "must-fail/other.edit"], **how)
-    compare(name, wanted, (got, edits.checked.asked))
+    compare(name, expected, (got, edits.checked.asked))
 
 
 def of_runs(crate, folder):

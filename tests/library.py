@@ -78,8 +78,8 @@ def verdicts(command):
 def same(name, command, files):
     """The example writes of each file what the program writes of strict and unamplified messages, with the same status."""
     for file in files:
-        wanted = verdicts([PROGRAM, "vet", "--strict", "--unamplified", file])
-        compare(f"{name}, of {file.name}", wanted, verdicts([*command, file]))
+        expected = verdicts([PROGRAM, "vet", "--strict", "--unamplified", file])
+        compare(f"{name}, of {file.name}", expected, verdicts([*command, file]))
     refused = verdicts([*command, files[-1]])[0].count(b"refused")
     compare(f"{name}, of turned bits, refuses some and accepts some", True, 0 < refused < 500)
 
@@ -123,8 +123,8 @@ def as_shown(folder):
     shutil.copytree(TOP / "examples", folder / "shown/examples")
     environment = {**os.environ, "HOME": str(folder)}
     shown = run(["sh", "-ec", "\n".join(others)], cwd=folder / "shown", env=environment)
-    wanted = [run([PROGRAM, *words]) for words in (["--version"], ["vet", TOP / "examples/stream-of-four.bin"])]
-    compare("the README's commands for C", ("".join(text for text, _ in wanted), 0), shown)
+    expected = [run([PROGRAM, *words]) for words in (["--version"], ["vet", TOP / "examples/stream-of-four.bin"])]
+    compare("the README's commands for C", ("".join(text for text, _ in expected), 0), shown)
 
 
 def from_c(folder, environment, files):
@@ -154,9 +154,9 @@ def manual_from_c(compiler, build, link, folder):
     source, program = folder / "manual.c", folder / f"manual-{compiler}"
     source.write_text(text.replace("\\&\n", "\n").replace("\\e", "\\"))
     compare(f"{compiler} of the manual page", ("", 0), run([*build, source, *link, "-o", program]))
-    for sample, wanted in (("contacts.bin", ("Ok\n", 0)), ("cycle.bin", ("DepthLimit\n", 1)), ("stream-of-four.bin", ("Trailing\n", 1))):
+    for sample, expected in (("contacts.bin", ("Ok\n", 0)), ("cycle.bin", ("DepthLimit\n", 1)), ("stream-of-four.bin", ("Trailing\n", 1))):
         got = run(["sh", "-c", 'exec "$0" < "$1"', program, TOP / "examples" / sample])
-        compare(f"the manual page by {compiler}, of {sample}", wanted, got)
+        compare(f"the manual page by {compiler}, of {sample}", expected, got)
 
 
 def interrupting(folder):
@@ -182,8 +182,8 @@ def page_from_c(compiler, build, link, folder):
     environment = {**os.environ, "PATH": f"{PROGRAM.parent}:{os.environ['PATH']}", "LC_ALL": "C.UTF-8", "HOME": str(folder)}
     for language, block in re.findall(r"^```(sh|console)\n(.*?)^```$", text, re.M | re.S):
         shown = re.findall(r"^\$ (.*)\n((?:(?!\$ ).*\n)*)", block, re.M) if language == "console" else [(block, "")]
-        for command, wanted in shown:
-            compare(f"docs/c.md by {compiler}: {command}", wanted, run(["bash", "-c", command], cwd=place, env=environment)[0])
+        for command, expected in shown:
+            compare(f"docs/c.md by {compiler}: {command}", expected, run(["bash", "-c", command], cwd=place, env=environment)[0])
 
 
 def book(job, tags, owner=1 << 2 | 1 << 32):
@@ -211,8 +211,8 @@ def routed(name, program, folder):
         lines = "".join(f"message {number}: {file}\n" for number, (file, _) in enumerate(part))
         for times in (1, 2):
             compare(f"{name}, {len(part)} messages", (lines, status), run([program, found, stream]))
-            wanted = {file: b"".join(message for it, message in part if it == file) * times for file, _ in part}
-            compare(f"{name}, the files of {len(part)} messages", wanted, {it.name: it.read_bytes() for it in found.iterdir()})
+            expected = {file: b"".join(message for it, message in part if it == file) * times for file, _ in part}
+            compare(f"{name}, the files of {len(part)} messages", expected, {it.name: it.read_bytes() for it in found.iterdir()})
     stream.write_bytes(contacts + contacts[:-8])
     cut = ("message 0: employer-tagged.bin\nroute: message 1: no frame\n", 1)
     ran = run([program, found, stream])
@@ -239,8 +239,8 @@ def signs_from_c(folder, environment):
             shutil.copy(TOP / "examples/canonical" / other, words)
             verified = run(["openssl", "dgst", "-sha256", "-verify", public, "-signature", signature, words])
             compare(f"sign.c of {name}, against the words of {other}", other == copy, verified == ("Verified OK\n", 0))
-            wanted = ("verified\n", 0) if other == copy else ("sign: not signed by this key\n", 1)
-            compare(f"sign.c verifies {name} with the words of {other}", wanted, run([program, public, words, signature]))
+            expected = ("verified\n", 0) if other == copy else ("sign: not signed by this key\n", 1)
+            compare(f"sign.c verifies {name} with the words of {other}", expected, run([program, public, words, signature]))
     # (signed, and yet no canonical form: words of another order, and words that are cut)
     message = (TOP / "examples/contacts.bin").read_bytes()
     for text, answer in ((message[8:], "NotCanonical"), (message[8:-8], "OutOfSegment"), (message[8:-1], "Truncated"),
@@ -273,9 +273,9 @@ def receives_from_rust(program, files, folder):
         text = verdicts([PROGRAM, "pack", words])[0]
         for length in (len(text), len(text) * 2 // 3):
             packed.write_bytes(text[:length])
-            wanted = verdicts([PROGRAM, "vet", "--packed", "--strict", "--unamplified", packed])
+            expected = verdicts([PROGRAM, "vet", "--packed", "--strict", "--unamplified", packed])
             got = verdicts(["sh", "-c", 'exec "$0" < "$1"', program, packed])
-            compare(f"receive, of {length} packed bytes of {file.name}", wanted, got)
+            compare(f"receive, of {length} packed bytes of {file.name}", expected, got)
 
 
 def from_cplusplus(folder, environment, files):
@@ -381,8 +381,8 @@ def main():
         from_rust(folder, environment, files)
         environment["PKG_CONFIG_PATH"] = str(stage / "opt/capvet/lib/pkgconfig")
         environment["PKG_CONFIG_SYSROOT_DIR"] = str(stage)
-        wanted = [f"-I{stage}/opt/capvet/include", f"-L{stage}/opt/capvet/lib", "-lcapvet"]
-        compare("the flags of a staged tree", wanted, flags(environment, "capvet"))
+        expected = [f"-I{stage}/opt/capvet/include", f"-L{stage}/opt/capvet/lib", "-lcapvet"]
+        compare("the flags of a staged tree", expected, flags(environment, "capvet"))
     return ended()
 
 

@@ -183,7 +183,7 @@ await fetch("/end", { method: "POST", body: "" });
 
 def in_chromium(folder, native):
     """Compares what the module's calls leave in a page, piece by piece, by a server on this machine."""
-    described, wanted, ended = pieces(), [], Event()
+    described, expected, ended = pieces(), [], Event()
     files = {"/": (PAGE % ARENA).encode(), "/replay.mjs": (HERE / "replay.mjs").read_bytes(), "/capvet.wasm": (BUILT / "capvet.wasm").read_bytes()}
 
     class Page(BaseHTTPRequestHandler):
@@ -191,7 +191,7 @@ def in_chromium(folder, native):
             kinds, body = {"/": "text/html", "/replay.mjs": "text/javascript"}, files.get(self.path)
             if self.path.startswith("/calls/"):
                 body = next(described, None)
-                wanted[:] = [] if body is None else [answers(native, body)]
+                expected[:] = [] if body is None else [answers(native, body)]
             self.send_response(404 if body is None else 200)
             self.send_header("Content-Type", kinds.get(self.path, "application/octet-stream"))
             self.end_headers()
@@ -203,7 +203,7 @@ def in_chromium(folder, native):
             if self.path == "/end":
                 ended.set()
             else:
-                compare("WebAssembly in Chromium", got, wanted[0])
+                compare("WebAssembly in Chromium", got, expected[0])
             self.send_response(204)
             self.end_headers()
 
@@ -233,9 +233,9 @@ def test_calls(folder, archive):
     if not missing("the module in Node", "wasm-opt", "node"):
         others["WebAssembly in Node"] = lambda piece: in_node(folder, piece)
     for piece in pieces():
-        wanted = answers(native, piece)
+        expected = answers(native, piece)
         for name, by in others.items():
-            compare(f"{name}: {len(wanted)} bytes", wanted, by(piece))
+            compare(f"{name}: {len(expected)} bytes", expected, by(piece))
     if not missing("the module in a browser", "wasm-opt", "chromium"):
         in_chromium(folder, native)
 

@@ -185,7 +185,7 @@ def along(message, extent, limits, steps):
 
 
 def path_in(data, limits, chance):
-    """A path of a few steps, most of which lead somewhere."""
+    """A path of a few steps, most of which lead to some place."""
     message, _ = unframed(data, limits)
     try:
         walk = Walk(message, 1 << 28, 256)
@@ -293,10 +293,10 @@ def compare_nodes(program, many):
     compare("a reply to each call", len(many), len(found))
     answers, beside, on, seen = Counter(), 0, 0, {}
     for (data, limits, path), reply in zip(many, found):
-        wanted = got(data, limits, path)
+        expected = got(data, limits, path)
         node, report = reply[1:11], reply[11:]
         expect(lambda: f"get {path} of {data.hex()} in {limits}",
-               (reply[0], node[:8], report[:10]) == wanted and not any(node[8:] + report[10:]), lambda: f"{reply}\n  {wanted}")
+               (reply[0], node[:8], report[:10]) == expected and not any(node[8:] + report[10:]), lambda: f"{reply}\n  {expected}")
         answers[reply[0]] += 1
         if reply[0] >= 18 and reply[0] != ANSWERS["NO_NODE"]:
             on += 1
@@ -358,19 +358,19 @@ def test(asking, watched, program, samples, chance):
 def by_hand():
     """The calls of BY_HAND at each alignment, each with what it answers; then null elements, bad limits, faults after a node,
     and no input."""
-    for steps, varying, count, *wanted in BY_HAND:
+    for steps, varying, count, *expected in BY_HAND:
         for odd in range(8):
-            yield (THREE, Limits(), steps, varying, count, odd), wanted
-    for first, count, *wanted in (0, 3, "NO_NODE", 1, 0), (1, 2, "NO_NODE", 0, 0), (2, 1, "OK", 1, 0), (2, 2, "NO_NODE", 1, 0):
-        yield (GAP, Limits(), ((0, 0), (1, first), (0, 0)), 1, count, 0), wanted
+            yield (THREE, Limits(), steps, varying, count, odd), expected
+    for first, count, *expected in (0, 3, "NO_NODE", 1, 0), (1, 2, "NO_NODE", 0, 0), (2, 1, "OK", 1, 0), (2, 2, "NO_NODE", 1, 0):
+        yield (GAP, Limits(), ((0, 0), (1, first), (0, 0)), 1, count, 0), expected
     for limits in (Limits(flags=8), Limits(flags=16), Limits(depth=257), Limits(reserved=(0, 1))):
         yield (THREE, limits, ((2, 0),), 3, 2, 0), ["BAD_LIMITS", 0, 0]
-    for data, limits, *wanted in (
+    for data, limits, *expected in (
             (DEEPER, Limits(), "OK", 2, 0), (DEEPER, Limits(charge=4), "WORD_LIMIT", 1, 0),
             (DEEPER, Limits(depth=1), "DEPTH_LIMIT", 1, 0), (FAR, Limits(), "NullPad", 1, 0), (FAR, Limits(flags=2), "OK", 2, 0),
             (DEEPER + bytes(3), Limits(), "TRAILING", 0, 3), (DEEPER + bytes(3), Limits(flags=1), "OK", 2, 0),
             (DEEPER[:-1], Limits(), "TRUNCATED", 0, 0)):
-        yield (data, limits, ((0, 0),), 0, 2, 0), wanted
+        yield (data, limits, ((0, 0),), 0, 2, 0), expected
     yield (b"", Limits(), ((0, 0),), 0, 2, 0), ["NO_MESSAGE", 0, 0]
     yield (b"", Limits(), ((0, 0),), 0, 0, 0), ["NO_MESSAGE", 0, 0]
     yield (b"", Limits(), (), 0, 0, 0), ["BAD_PATH", 0, 0]
@@ -435,12 +435,12 @@ def compare_ranges(program, many):
         at += 12 + number * NODE_FIELDS.size
         report = REPORT.unpack_from(replies, at)
         at += REPORT.size
-        wanted = got_range(data, limits, steps, varying, count)
+        expected = got_range(data, limits, steps, varying, count)
         # (the fields of a node and of a report are followed by reserved ones)
         reserved = [*report[10:], *(field for node in found for field in node[len(NODE):])]
         expect(lambda: f"range {steps} {varying} {count} of {data.hex()} in {limits}",
-               (answer, [node[:len(NODE)] for node in found], report[:10]) == wanted and not any(reserved),
-               lambda: f"{answer} {found} {report}\n  {wanted}")
+               (answer, [node[:len(NODE)] for node in found], report[:10]) == expected and not any(reserved),
+               lambda: f"{answer} {found} {report}\n  {expected}")
         made.append((answer, number, report))
     expect("a reply to each call for a range", (len(made), at) == (len(many), len(replies)), len(made))
     return made
@@ -448,8 +448,8 @@ def compare_ranges(program, many):
 
 def test_ranges(asking, watched, samples, chance):
     known = list(by_hand())
-    for (request, wanted), (answer, found, report) in zip(known, compare_ranges(asking, [request for request, _ in known])):
-        compare(f"the range {request}", [ANSWERS[wanted[0]], *wanted[1:]], [answer, found, report[2]])
+    for (request, expected), (answer, found, report) in zip(known, compare_ranges(asking, [request for request, _ in known])):
+        compare(f"the range {request}", [ANSWERS[expected[0]], *expected[1:]], [answer, found, report[2]])
     asked = range_requests(requests(samples, chance), chance)
     if watched is not None and not missing("ranges of paths under valgrind", "valgrind"):
         under_valgrind("ranges, under valgrind", watched, asking, described_ranges([next(asked) for _ in range(2000)]))

@@ -43,8 +43,8 @@ def shown(page):
         shutil.copytree(TOP / "examples", Path(folder) / "examples")
         count = 0
         for _, block in BLOCK.findall((TOP / page).read_text()):
-            for command, wanted in commands(block):
-                compare(f"{page}: {command}", wanted, run(["bash", "-c", command], cwd=folder, env=environment)[0])
+            for command, expected in commands(block):
+                compare(f"{page}: {command}", expected, run(["bash", "-c", command], cwd=folder, env=environment)[0])
                 count += 1
         compare(f"{page} shows commands", True, count > 0)
 
@@ -98,14 +98,14 @@ def written():
         found = [fault.args[0]]
     compare("pages that are stale: run make pages", [], found)
     template = (folder / "believe.md.in").read_text()
-    for taken, left, wanted in LACKS:
+    for taken, left, expected in LACKS:
         compare(f"the page of definitions has {taken}", 1, template.count(taken))
         try:
             said = f"{len(Page(template.replace(taken, left)).write())} characters"
         except LookupError as fault:
             said = fault.args[0].split("\n")[0]
-        compare(f"the page of definitions without {taken}", wanted, said)
-    for comment, wanted in (("  # messages", "| `some.py` | messages | 1 | 2,000 |"), ("", "")):
+        compare(f"the page of definitions without {taken}", expected, said)
+    for comment, expected in (("  # messages", "| `some.py` | messages | 1 | 2,000 |"), ("", "")):
         with tempfile.TemporaryDirectory() as place:
             (Path(place) / "all.py").touch()
             (Path(place) / "some.py").write_text(f"MANY = cases(1, full=2_000){comment}\n")
@@ -113,7 +113,7 @@ def written():
                 said = scripts.Page("{cases}", Path(place)).write().split("\n")[-1]
             except LookupError as fault:
                 said = "" if "some.py, line 1" in fault.args[0] else fault.args[0]
-            compare(f"the number of cases with {comment!r}", wanted, said)
+            compare(f"the number of cases with {comment!r}", expected, said)
 
 
 def links(page):

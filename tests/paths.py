@@ -4,7 +4,7 @@ tests/calls.py runs it.
 The messages are the samples, changed, cut and made ones, each with limits and flags. Most numbers are those that the model of
 tests/model.py has for the pointer that a verdict names: a refusal, one that common readers reject, or an overlap. Others are
 any number up to a few past the last pointer, and one that is too high for any. tests/c/paths.c checks that each path but its
-last step leads somewhere by capvet_get, which follows only the path. The paths of BY_HAND have known answers. The earlier
+last step leads to some place by capvet_get, which follows only the path. The paths of BY_HAND have known answers. The earlier
 pointer of each number is found here by its definition, from the words that each pointer uses."""
 import struct
 from collections import Counter
@@ -121,15 +121,15 @@ def numbers_of(fields):
 
 def earlier(data, limits, number):
     """The answer of capvet_earlier_pointer, and the fields of its report."""
-    message, told = opened(data, limits)
+    message, reported = opened(data, limits)
     if message is None:
-        return ANSWERS[told[0]], numbers_of(told[1])
+        return ANSWERS[reported[0]], numbers_of(reported[1])
     *others, named = [place for place, _ in up_to(message, limits, number)] or [None]
     words = words_used(message, named) if named else set()
     for count, place in enumerate(others, 1):
         if words and words & words_used(message, place):
-            return ANSWERS["OK"], numbers_of(dict(told, pointers=count, segment=place[0], word=place[1]))
-    return ANSWERS["NO_NODE"], numbers_of(told)
+            return ANSWERS["OK"], numbers_of(dict(reported, pointers=count, segment=place[0], word=place[1]))
+    return ANSWERS["NO_NODE"], numbers_of(reported)
 
 
 def got(data, limits, number, capacity):
@@ -138,10 +138,10 @@ def got(data, limits, number, capacity):
     def result(answer, count=0, steps=(), **fields):
         return ANSWERS[answer], count, numbers_of(fields), steps
 
-    message, told = opened(data, limits)
+    message, reported = opened(data, limits)
     if message is None:
-        return result(told[0], **told[1])
-    extent, first = told, up_to(message, limits, number)
+        return result(reported[0], **reported[1])
+    extent, first = reported, up_to(message, limits, number)
     path = first[-1][1] if first else None
     if path is None:
         return result("NO_NODE", **extent)
@@ -204,18 +204,18 @@ def compare_paths(program, many):
     compare("paths, with the compiler's checks", (0, b""), (status, err))
     compare("replies to calls for a path", len(many), len(found))
     for (data, limits, number, capacity, _), (answer, required, report, steps, other) in zip(many, found):
-        wanted, written = got(data, limits, number, capacity), (answer, required, report, steps)
+        expected, written = got(data, limits, number, capacity), (answer, required, report, steps)
         answered, fields = earlier(data, limits, number)
         compare(lambda: f"the pointer before {number} of {data.hex()} in {limits}", (answered, fields + (0,) * 4), other)
         expect(lambda: f"path {number} {capacity} of {data.hex()} in {limits}",
-               (answer, required, report[:10], steps) == wanted and not any(report[10:]), written, wanted)
+               (answer, required, report[:10], steps) == expected and not any(report[10:]), written, expected)
     return found
 
 
 def test(asking, watched, samples, chance):
     known = [(row[:4] + (odd,), row[4:]) for row in BY_HAND for odd in range(8)]
-    for (request, wanted), (answer, required, _, steps, _) in zip(known, compare_paths(asking, [request for request, _ in known])):
-        compare(f"the path {request}", (ANSWERS[wanted[0]], *wanted[1:]), (answer, required, steps))
+    for (request, expected), (answer, required, _, steps, _) in zip(known, compare_paths(asking, [request for request, _ in known])):
+        compare(f"the path {request}", (ANSWERS[expected[0]], *expected[1:]), (answer, required, steps))
     asked = requests(samples, chance)
     if watched is not None and not missing("paths of pointers under valgrind", "valgrind"):
         under_valgrind("paths, under valgrind", watched, asking, described([next(asked)[0] for _ in range(2000)]))

@@ -54,9 +54,9 @@ def main(given):
     known = accepted()
     passed = failed = 0
     for crate in given or known:
-        lines, wanted = found(crate), known.get(crate, [])
-        wrong = ["not judged"] if lines is None else [f"not on the list: {line}" for line in lines if line not in wanted]
-        wrong += [f"no longer let through: {line}" for line in wanted if lines is not None and line not in lines]
+        lines, expected = found(crate), known.get(crate, [])
+        wrong = ["not judged"] if lines is None else [f"not on the list: {line}" for line in lines if line not in expected]
+        wrong += [f"no longer let through: {line}" for line in expected if lines is not None and line not in lines]
         passed, failed = passed + (not wrong), failed + len(wrong)
         for line in wrong:
             print(f"FAILED: {crate}: {line}")

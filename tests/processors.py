@@ -47,11 +47,11 @@ def library(folder):
     ends = set()
     for processor in OLD + NEW:
         compare(f"capvet_cpu_supported on {processor}", ("", int(processor in OLD)), emulated(processor, supported))
-        for name, wanted in SAMPLES.items():
+        for name, expected in SAMPLES.items():
             text, status = emulated(processor, vet, TOP / "examples" / name)
             # (qemu ends by the signal of its program, after a line of its own)
             killed = status == -signal.SIGILL
-            compare(f"the library on {processor}, {name}", True, killed and processor in OLD or (text, status) == (wanted, 0))
+            compare(f"the library on {processor}, {name}", True, killed and processor in OLD or (text, status) == (expected, 0))
             ends |= {(name, killed)} if processor == "Conroe" else set()
     compare("the library on Conroe", {("contacts.bin", False), ("contacts-many-segments.bin", True)}, ends)
 

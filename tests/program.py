@@ -60,16 +60,16 @@ def case(words, out="", err="", status=0, stdin=b"", stdout=subprocess.PIPE):
     """The program with these arguments, split at spaces where they are a text. Where a `stdout` is given, what the
     program writes to it isn't looked at. A case that was run before isn't run again."""
     words = tuple(words.split() if isinstance(words, str) else words)
-    wanted = encoded(out), encoded(err), status
-    if stdout == subprocess.PIPE and (words, stdin, wanted) in DONE:
+    expected = encoded(out), encoded(err), status
+    if stdout == subprocess.PIPE and (words, stdin, expected) in DONE:
         return
-    DONE.add((words, stdin, wanted))
+    DONE.add((words, stdin, expected))
     name = "capvet " + " ".join(it if isinstance(it, str) else repr(it) for it in words)
     if stdin:
         name += f", of {stdin[:80].hex()}"
     if stdout != subprocess.PIPE:
         name += ", with an output that fails"
-    compare(name, wanted, outputs([PROGRAM, *words], stdin, stdout=stdout))
+    compare(name, expected, outputs([PROGRAM, *words], stdin, stdout=stdout))
 
 
 def shell_case(line, out, status=0):
@@ -194,9 +194,9 @@ def contents(stream):
 def canonical_copies():
     """The copies of each sample's messages, plain and packed, against those of another program; each is canonical."""
     for name, copies in COPIES.items():
-        wanted = (sample(f"canonical/{copies}"), b"", 0)
+        expected = (sample(f"canonical/{copies}"), b"", 0)
         text, err, status = outputs([PROGRAM, "canon", f"examples/{name}"])
-        compare(f"capvet canon examples/{name}", wanted, (contents(text), err, status))
+        compare(f"capvet canon examples/{name}", expected, (contents(text), err, status))
         case("canon", text, stdin=text)
         shell_case(f"capvet pack examples/{name} | capvet canon --packed", text)
         shell_case(f"capvet canon examples/{name} | capvet check",
@@ -217,12 +217,12 @@ def samples():
             texts |= {"filter": stream, "filter --allow-nonstrict --allow-amplified": stream}
             shell_case(f"capvet pack {file} > {packed}", "")
             text = Path(packed).read_bytes()
-            for command, wanted in texts.items():
-                status = 1 if "not canonical" in str(wanted) else 0
-                case([*command.split(), file], wanted, status=status)
-                case(command, wanted, status=status, stdin=stream)
-                case([*command.split(), "--packed", packed], wanted, status=status)
-                case(f"{command} --packed", wanted, status=status, stdin=text)
+            for command, expected in texts.items():
+                status = 1 if "not canonical" in str(expected) else 0
+                case([*command.split(), file], expected, status=status)
+                case(command, expected, status=status, stdin=stream)
+                case([*command.split(), "--packed", packed], expected, status=status)
+                case(f"{command} --packed", expected, status=status, stdin=text)
             case("pack", text, stdin=stream)
             case(["unpack", packed], stream)
             case("unpack", stream, stdin=text)
@@ -239,16 +239,16 @@ def text_of(process, length):
     return bytes(text)
 
 
-def live_pipe(command, wanted, status=0):
+def live_pipe(command, expected, status=0):
     """The text of a message comes while the input is still open after it, and not only at the end."""
     piped = {"stdin": subprocess.PIPE, "stdout": subprocess.PIPE, "stderr": subprocess.PIPE}
     with subprocess.Popen([PROGRAM, *command.split()], cwd=TOP, **piped) as ran:
         ran.stdin.write(sample("contacts.bin"))
         ran.stdin.flush()
-        text = text_of(ran, len(wanted))
+        text = text_of(ran, len(expected))
         ran.stdin.close()
         text += ran.stdout.read()
-        compare(f"capvet {command}, with an input that stays open", (wanted, b"", status),
+        compare(f"capvet {command}, with an input that stays open", (expected, b"", status),
                 (text, ran.stderr.read(), ran.wait(60)))
 
 
@@ -260,13 +260,13 @@ def of_file(command, given, stdout):
         return outputs([PROGRAM, *command.split()], file, stdout=stdout)
 
 
-def not_blocking(command, wanted):
+def not_blocking(command, expected):
     """A command whose input has nothing yet, and doesn't wait for it."""
     reader, writer = os.pipe()
     os.set_blocking(reader, False)
     with os.fdopen(reader, "rb") as stdin, os.fdopen(writer, "wb"):
         got = outputs([PROGRAM, *command.split()], stdin)
-    compare(f"capvet {command}, of an input that doesn't wait", (b"", encoded(wanted), 3), got)
+    compare(f"capvet {command}, of an input that doesn't wait", (b"", encoded(expected), 3), got)
 
 
 def most_memory(process):
@@ -285,14 +285,14 @@ def waits_for_input(process):
         time.sleep(0.01)
 
 
-def resident(command, name, parts, wanted, most):
+def resident(command, name, parts, expected, most):
     """A command that gets these parts of a stream, and whose input stays open after them. It has to write the parts of
-    a text in `wanted` and no more, with at most `most` KiB resident."""
+    a text in `expected` and no more, with at most `most` KiB resident."""
     pipes = {"stdin": subprocess.PIPE, "stdout": subprocess.PIPE}
     with subprocess.Popen([PROGRAM, *command.split()], cwd=TOP, **pipes) as ran:
         writer = threading.Thread(target=lambda: [ran.stdin.write(part) for part in parts] + [ran.stdin.flush()])
         writer.start()
-        differs = next(((part, text) for part in wanted if (text := text_of(ran, len(part))) != part), None)
+        differs = next(((part, text) for part in expected if (text := text_of(ran, len(part))) != part), None)
         if differs is None:
             writer.join()
             waits_for_input(ran)
@@ -317,7 +317,7 @@ live_pipe("check", CHECKS["contacts.bin"].encode(), status=1)
 copy = sample("canonical/contacts.bin")
 live_pipe("canon", struct.pack("<II", 0, len(copy) // 8) + copy)
 live_pipe("filter", contacts)
-resident("vet", "a table that claims 64 MiB and has nothing behind it", [word("0000000000008000")], [], 4 << 10)
+resident("vet", "a table that claims 64 MiB and has nothing after it", [word("0000000000008000")], [], 4 << 10)
 COPIES = (64 << 20) // len(contacts)
 resident("vet", "64 MiB of small messages", [contacts] * COPIES,
          ["".join(CONTACTS.replace("0", str(number), 1) for number in range(COPIES)).encode()], 4 << 10)
@@ -397,15 +397,15 @@ def deepest_dump():
     stack of 8 MiB and of 1 MiB."""
     list_pointer, tag, null = "010000000f000000", "0400000000000100", "0000000000000000"
     stream = framed((list_pointer + tag) * 128 + null)
-    wanted = "message 0: accepted charge 256 depth 256 pointers 129 caps 0\nroot structs 1 0 1\n"
+    expected = "message 0: accepted charge 256 depth 256 pointers 129 caps 0\nroot structs 1 0 1\n"
     for level in range(1, 256, 2):
         below = "structs 1 0 1" if level < 255 else "null"
-        wanted += "  " * level + "i0 struct 0 1\n" + "  " * (level + 1) + f"p0 {below}\n"
+        expected += "  " * level + "i0 struct 0 1\n" + "  " * (level + 1) + f"p0 {below}\n"
     with tempfile.TemporaryDirectory() as folder:
         file = Path(folder) / "deepest.bin"
         file.write_bytes(stream)
         for kibibytes in (8192, 1024):
-            shell_case(f"ulimit -s {kibibytes} && capvet dump --depth 256 {file}", wanted)
+            shell_case(f"ulimit -s {kibibytes} && capvet dump --depth 256 {file}", expected)
 
 
 deepest_dump()
@@ -415,14 +415,14 @@ for table in (tables.VERDICTS, tables.OTHER_LIMITS, tables.ENDS, tables.MESSAGES
               tables.WORDS, filtering.CUT):
     rows(table)
 for table in (tables.LEVELS, tables.NESTED, tables.LEVELS_WITH_A_POINTER_LEFT, tables.OVERLAPS, tables.DUMPS, tables.GETS, tables.LADDER,
-              tables.BEHIND_A_REFUSAL, tables.COPY_ENDS, demands.ROWS, filtering.WHOLE, filtering.FORMS):
+              tables.AFTER_A_REFUSAL, tables.COPY_ENDS, demands.ROWS, filtering.WHOLE, filtering.FORMS):
     rows(table, also_packed=True)
 def overlaps(stream, overlap):
     """An accepted message, and what `vet --exclusive` writes of it: the overlap, or what `vet` writes."""
     text, err, status = outputs([PROGRAM, "vet"], stream)
     compare("capvet vet accepts a message", (b"message 0: accepted ", b"", 0), (text[:20], err, status))
-    wanted = text if overlap is None else f"message 0: refused Overlap at {overlap}\n"
-    case("vet --exclusive", wanted, status=0 if overlap is None else 1, stdin=stream)
+    expected = text if overlap is None else f"message 0: refused Overlap at {overlap}\n"
+    case("vet --exclusive", expected, status=0 if overlap is None else 1, stdin=stream)
 
 
 for stream, overlap in tables.USED_TWICE:
@@ -577,7 +577,7 @@ def long_messages():
         case("segments", "", f"capvet: message 0: Truncated at byte {8 * size + 7}\n", 1, stream[:-1])
 
 
-def in_sips(command, stream, wanted, status, most):
+def in_sips(command, stream, expected, status, most):
     """A stream that comes through a pipe, `most` bytes at a time."""
     pipes = {"stdin": subprocess.PIPE, "stdout": subprocess.PIPE, "stderr": subprocess.PIPE}
     with subprocess.Popen([PROGRAM, *command.split()], cwd=TOP, **pipes) as ran:
@@ -585,7 +585,7 @@ def in_sips(command, stream, wanted, status, most):
             ran.stdin.write(stream[at:at + most])
             ran.stdin.flush()
         out, err = ran.communicate(timeout=60)
-        compare(f"capvet {command}, in sips of {most} bytes", (encoded(wanted), b"", status), (out, err, ran.returncode))
+        compare(f"capvet {command}, in sips of {most} bytes", (encoded(expected), b"", status), (out, err, ran.returncode))
 
 
 def edged(kind, first, run):
@@ -618,7 +618,7 @@ def many_messages():
     case("vet", text, status=1, stdin=stream)
     for most in 1, 3, 7:
         in_sips("vet", stream, text, 1, most)
-    for row in tables.BEHIND_A_REFUSAL:
+    for row in tables.AFTER_A_REFUSAL:
         in_sips(row.words, word(row.stream), row.out, row.status, 1)
 
 
@@ -768,7 +768,7 @@ def closing_pipe(command, text):
                 taken += part
             ran.stdout.close()
             _, err = ran.communicate(SHARED, 60)
-            compare(f"capvet {command}, to a pipe that is closed behind {size} bytes",
+            compare(f"capvet {command}, to a pipe that is closed after {size} bytes",
                     (text[:size], FAILED.encode(), 3), (taken, err, ran.returncode))
 
 
@@ -777,7 +777,7 @@ def limit_memory(kibibytes):
     resource.setrlimit(resource.RLIMIT_AS, (kibibytes << 10, kibibytes << 10))
 
 
-def wants_memory(command, stream, *wanted):
+def needs_memory(command, stream, *expected):
     """The ends of runs with more and more memory, from too little for a start until a run ends with status 0."""
     seen = []
     for kibibytes in range(1 << 10, 64 << 10, 16):
@@ -788,11 +788,11 @@ def wants_memory(command, stream, *wanted):
             seen.append(got)
         if got[2] == 0:
             break
-    compare(f"capvet {command}, with more and more memory", [(encoded(out), encoded(err), status) for out, err, status in wanted],
+    compare(f"capvet {command}, with more and more memory", [(encoded(out), encoded(err), status) for out, err, status in expected],
             seen)
 
 
-def wants():
+def expects():
     """A small message, and then one of 1 MiB, for which the memory is too little at first. In `canon` its copy is as
     large."""
     words = 1 << 17
@@ -817,12 +817,12 @@ def wants():
     }
     for command, first in firsts.items():
         second = (first, "capvet: message 1: Memory\n", 3)
-        wants_memory(command, NULL + large, nothing, second, (encoded(first) + encoded(seconds[command]), "", 0))
+        needs_memory(command, NULL + large, nothing, second, (encoded(first) + encoded(seconds[command]), "", 0))
     # These hold nothing of a message.
-    wants_memory("segments", NULL + large, nothing, (segments_text(NULL + large), "", 0))
+    needs_memory("segments", NULL + large, nothing, (segments_text(NULL + large), "", 0))
     zeros = word("00ff") * (words // 256)
-    wants_memory("unpack", zeros, nothing, (bytes(8 * words), "", 0))
-    wants_memory("pack", bytes(8 * words), nothing, (zeros, "", 0))
+    needs_memory("unpack", zeros, nothing, (bytes(8 * words), "", 0))
+    needs_memory("pack", bytes(8 * words), nothing, (zeros, "", 0))
 
 
 cut_inputs()
@@ -830,7 +830,7 @@ short_outputs()
 short_errors()
 for command, text in SHARED_TEXTS.items():
     closing_pipe(command, encoded(text))
-wants()
+expects()
 
 # ------------------------------------------------------------------ command lines
 case([b"vet", b"\xff"], err="capvet: argument 2 is not UTF-8\n", status=2, stdin=NULL)
@@ -851,9 +851,9 @@ def help_example(command, status):
     """The example at the end of a command's help, run as it is there. It shows standard error too."""
     help_text, _, _ = outputs([PROGRAM, "help", *command.split()])
     _, _, example = help_text.decode().partition("\nExample:\n  $ ")
-    line, _, wanted = example.partition("\n")
-    wanted = wanted.replace("  ", "", 1).replace("\n  ", "\n")
-    shell_case(f"{{ {line}; }} 2>&1" if line else f"no example in the help of '{command}'", wanted, status)
+    line, _, expected = example.partition("\n")
+    expected = expected.replace("  ", "", 1).replace("\n  ", "\n")
+    shell_case(f"{{ {line}; }} 2>&1" if line else f"no example in the help of '{command}'", expected, status)
 
 
 for command in ("", *COMMANDS):

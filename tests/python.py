@@ -139,8 +139,8 @@ def typed(python, folder):
     found = re.findall(r"^wrong.py:(\d+): (?:error|note): (?:Revealed type is \"(.*)\"|.*)$", text, re.M)
     kinds = {2: "builtins.list[capvet.reports.Report]", 3: "builtins.list[builtins.memoryview]",
              4: "builtins.list[capvet.errors.Refusal]"}
-    wanted = {(str(number), kinds.get(number, "")) for number in range(2, 10)}
-    compare("mypy of what is wrong", (1, wanted), (status, set(found)))
+    expected = {(str(number), kinds.get(number, "")) for number in range(2, 10)}
+    compare("mypy of what is wrong", (1, expected), (status, set(found)))
 
 
 def instructions(command):
@@ -189,8 +189,8 @@ def from_sources(python, folder, prefix):
         shutil.copytree(sources, at)
         text, status = run([python, *PIP, "install", "-q", "--no-build-isolation", "--no-index", "--no-deps", "--force-reinstall", at],
                            env={**bare, **variables}, cwd=folder)
-        wanted = ("", 0) if line is None else (line, 1)
-        compare(f"pip install {name}", wanted, (text if line is None else line if line in text else text, status))
+        expected = ("", 0) if line is None else (line, 1)
+        compare(f"pip install {name}", expected, (text if line is None else line if line in text else text, status))
         if line is None and status == 0:
             said = run([python, "-c", "import capvet; print(capvet.vet(bytes([0, 0, 0, 0, 1] + [0] * 11)).pointers)"], cwd=folder)
             compare(f"the package {name}", ("1\n", 0), said)
@@ -287,12 +287,12 @@ def shown(python, folder):
         else:
             compare(f"docs/python.md, its program {number} prints", True, text.count("\n") in (1, 4) and "Error" not in text)
     variables = {**os.environ, "PATH": f"{place / 'venv/bin'}:{os.environ['PATH']}"}
-    for command, wanted in (it for language, text in blocks if language == "console"
+    for command, expected in (it for language, text in blocks if language == "console"
                             for it in re.findall(r"^\$ (.*)\n((?:(?!\$ ).*\n)*)", text, re.M)):
         needed = ["jq"] * ("jq" in command) + ["esbuild"] * (" map " in command)
         if missing(f"docs/python.md: {command}", *needed):
             continue
-        compare(f"docs/python.md: {command}", wanted, run(["bash", "-c", command], cwd=place, env=variables)[0])
+        compare(f"docs/python.md: {command}", expected, run(["bash", "-c", command], cwd=place, env=variables)[0])
 
 
 def main():

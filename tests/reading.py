@@ -34,7 +34,7 @@ def steps(page, python):
         if language == "sh":
             yield block.strip(), block.strip(), None
         elif language == "console":
-            yield from ((command, command, wanted) for command, wanted in commands(block))
+            yield from ((command, command, expected) for command, expected in commands(block))
         elif language == "c" and (name := PROGRAM.match(block)):
             yield f"cc {name[1]}", f"cc {name[1]} $(pkg-config --cflags --libs capvet) -o {name[1][:-2]}", ""
         elif language == "go" and block.startswith("// Command"):
@@ -54,8 +54,8 @@ def read(name, page, text, compare, python="python3"):
     ran = re.findall(rf"^{MARK}\n(.*?)^{MARK} (\d+)$", text, re.M | re.S)
     asked = list(steps(page, python))
     compare(f"{name}: steps", (True, len(asked)), (bool(asked), len(ran)))
-    for (step, _, wanted), (got, status) in zip(asked, ran):
-        if wanted is None:
+    for (step, _, expected), (got, status) in zip(asked, ran):
+        if expected is None:
             compare(f"{name}: {step}", "0", status if status == "0" else f"{status}: {got}")
         else:
-            compare(f"{name}: {step}", wanted, got)
+            compare(f"{name}: {step}", expected, got)

@@ -41,11 +41,11 @@ def library(folder):
 
 def run(words, stream, refusing, number):
     """What the program wrote and its status, and whether the allocation of this number was refused."""
-    told, tell = os.pipe()
-    environment = {"LD_PRELOAD": str(refusing), "REFUSE": str(number), "TELL": str(tell)}
-    got = outputs([PROGRAM, *words], stream, env=environment, pass_fds=[tell])
-    os.close(tell)
-    with open(told, "rb") as pipe:
+    reported, report = os.pipe()
+    environment = {"LD_PRELOAD": str(refusing), "REFUSE": str(number), "REPORT": str(report)}
+    got = outputs([PROGRAM, *words], stream, env=environment, pass_fds=[report])
+    os.close(report)
+    with open(reported, "rb") as pipe:
         return got, pipe.read() != b""
 
 
@@ -57,17 +57,17 @@ def refuse(command, stream, refusing, texts=()):
     of these texts."""
     words = command.split()
     whole, _ = run(words, stream, refusing, 0)
-    wants = [OUT_OF_MEMORY] + [(text, b"capvet: message %d: Memory\n" % at, 3) for at, text in enumerate(texts)]
+    ends = [OUT_OF_MEMORY] + [(text, b"capvet: message %d: Memory\n" % at, 3) for at, text in enumerate(texts)]
     ended = {}
     for number in range(1, MOST):
         end, was_refused = run(words, stream, refusing, number)
         if not was_refused:
             break
         ended.setdefault(end, []).append(number)
-    expect(f"capvet {command}", end == whole and not was_refused, f"wanted {whole} in the end, got {end}")
+    expect(f"capvet {command}", end == whole and not was_refused, f"expected {whole} in the end, got {end}")
     for end, numbers in ended.items():
-        expect(f"capvet {command}, allocations {numbers}", end in (whole, *wants), f"got {end}", cases=len(numbers))
-    for end in wants:
+        expect(f"capvet {command}, allocations {numbers}", end in (whole, *ends), f"got {end}", cases=len(numbers))
+    for end in ends:
         expect(f"capvet {command}", end in ended, f"never ended with {end}")
     print(f"capvet {command}: {number - 1} allocations refused", flush=True)
 

@@ -1,6 +1,6 @@
 /* Refuses one allocation of the program that LD_PRELOAD loads it into. The variable `REFUSE` has the number of
    that allocation, counted from 1 after the program's start. Then it writes a byte to the descriptor whose number
-   is in `TELL`. It needs no header, only the C library's own names of the functions that it replaces. */
+   is in `REPORT`. It needs no header, only the C library's own names of the functions that it replaces. */
 typedef __SIZE_TYPE__ size_t;
 
 void *__libc_malloc(size_t);
@@ -13,18 +13,18 @@ long write(int, const void *, size_t);
 void free(void *);
 
 static long until;
-static int tells;
+static int says;
 
 __attribute__((constructor)) static void start(void) {
-    const char *number = getenv("REFUSE"), *descriptor = getenv("TELL");
+    const char *number = getenv("REFUSE"), *descriptor = getenv("REPORT");
     until = number ? strtol(number, 0, 10) : 0;
-    tells = descriptor ? (int)strtol(descriptor, 0, 10) : -1;
+    says = descriptor ? (int)strtol(descriptor, 0, 10) : -1;
 }
 
 static int is_refused(void) {
     if (until == 0 || --until > 0)
         return 0;
-    return write(tells, "", 1) == 1;
+    return write(says, "", 1) == 1;
 }
 
 void *malloc(size_t size) { return is_refused() ? 0 : __libc_malloc(size); }

@@ -114,7 +114,7 @@ def as_user(script):
 def alone(base, folder, packages):
     """Each package by itself: apt installs it with what it needs, it works, and nothing of it is left."""
     for package in packages:
-        command, wanted = ALONE[package]
+        command, expected = ALONE[package]
         script = f"""set -e
 apt-get -qq install -y --no-install-recommends {package} > /srv/log 2>&1 || {{ cat /srv/log; exit 1; }}
 echo @@; {as_user(command)}; echo @@
@@ -126,7 +126,7 @@ dpkg -l '*capvet*' 2>/dev/null | grep '^[a-z]i\\|^rc' || true
         before, got, left = text.split("@@\n") if text.count("@@\n") == 2 else (text, None, None)
         compare(f"apt installs {package} on {base.name}, and it is used and purged", (0, ""), (status, before))
         if got is not None:
-            compare(f"{package} works", wanted, got if wanted is not None else None)
+            compare(f"{package} works", expected, got if expected is not None else None)
             compare(f"left of {package}", "", left)
 
 
@@ -199,7 +199,7 @@ def on_arm(dist, folder):
     base = folder / "arm64"
     used = ["capvet vet /srv/examples/contacts.bin", ALONE["python3-capvet"][0], "python3 -m capvet vet /srv/examples/shared.bin | tail -n 1",
             ALONE["capvet-guard"][0], "ls /usr/include/capvet.h"]
-    wanted = CONTACTS + "391\nfiles 1 bytes 40 messages 1 accepted 1 refused 0\ncapvet-guard\n/usr/include/capvet.h\n"
+    expected = CONTACTS + "391\nfiles 1 bytes 40 messages 1 accepted 1 refused 0\ncapvet-guard\n/usr/include/capvet.h\n"
     inside = f"""set -e
 echo 'deb [trusted=yes] file:/srv/dist/apt ./' > /etc/apt/sources.list.d/capvet.list
 apt-get -qq update; useradd -m reader
@@ -218,7 +218,7 @@ mount -t proc proc '{base}/proc'
 mount --rbind /dev '{base}/dev'
 chroot '{base}' bash < '{folder}/inside'
 """)
-    compare("the packages in a root for arm64", (wanted, 0), (text, status))
+    compare("the packages in a root for arm64", (expected, 0), (text, status))
 
 
 def check(dist, folder):

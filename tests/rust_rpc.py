@@ -183,18 +183,18 @@ def attacked(folder, server, frames):
     chance = random.Random(7)
     bases = [Tree(message) for frame in frames for message in trees.messages(frame) if len(frame) < 50_000]
     messages = [framed(*readers.changed(chance.choice(bases), chance)) for _ in range(MANY)]
-    wanted = [text for text in refusals(messages, folder, *map(str, LIMITS)) if text != "accepted"]
+    expected = [text for text in refusals(messages, folder, *map(str, LIMITS)) if text != "accepted"]
     closed = 0
     for number, message in enumerate(messages):
         before = b"".join(frames[:3]) if number % 3 == 0 else b""
         closed += exchanged(server, before + message)[1] == "closed"
     compare("connections of changed messages that end", len(messages), closed)
-    rpc.until(lambda: len(server.output.read_text().splitlines()) > len(wanted))
+    rpc.until(lambda: len(server.output.read_text().splitlines()) > len(expected))
     got = [text for text, _, _ in server.lines()]
-    compare("how many changed messages are refused", len(wanted), len(got))
-    compare("changed messages", [], [pair for pair in zip(wanted, got) if pair[0] != pair[1]][:3])
-    compare("it refuses some and accepts some", True, len(messages) // 10 < len(wanted) < len(messages) * 9 // 10)
-    print(f"rust rpc: {len(wanted)} of {len(messages)} changed messages refused")
+    compare("how many changed messages are refused", len(expected), len(got))
+    compare("changed messages", [], [pair for pair in zip(expected, got) if pair[0] != pair[1]][:3])
+    compare("it refuses some and accepts some", True, len(messages) // 10 < len(expected) < len(messages) * 9 // 10)
+    print(f"rust rpc: {len(expected)} of {len(messages)} changed messages refused")
 
 
 def frames_of(server, frames):
@@ -212,8 +212,8 @@ def frames_of(server, frames):
         for valid in (b"", hello):
             ended = exchanged(server, valid + data)[1]
             rpc.until(lambda: len(server.output.read_text()) > server.seen)
-            wanted = [(text, "1" if valid else "0", str(len(valid + data)))]
-            compare(f"a frame, {name}, after {len(valid)} bytes", ("closed", wanted), (ended, server.lines()))
+            expected = [(text, "1" if valid else "0", str(len(valid + data)))]
+            compare(f"a frame, {name}, after {len(valid)} bytes", ("closed", expected), (ended, server.lines()))
     after = server.counters()
     counted = {word: after.get(word, 0) - before.get(word, 0) for word in ("Truncated", "TooManySegments", "TooLarge", "ManySegments")}
     compare("frames that are counted", {"Truncated": 4, "TooManySegments": 4, "TooLarge": 2, "ManySegments": 2}, counted)

@@ -65,9 +65,9 @@ def as_shown(folder, python, modules):
     environment = {**os.environ, "HOME": str(folder), "LC_ALL": "C.UTF-8", "PYTHONPATH": str(modules)}
     for block in re.findall(r"^```console\n(.*?)^```$", page, re.M | re.S):
         if python or "venv/" not in block:
-            for command, wanted in re.findall(r"^\$ (.*)\n((?:(?!\$ ).*\n)*)", block, re.M):
+            for command, expected in re.findall(r"^\$ (.*)\n((?:(?!\$ ).*\n)*)", block, re.M):
                 text, _ = run(["bash", "-c", f"{then}\n{command}"], cwd=folder, env=environment)
-                compare(f"docs/scale.md: {command}", wanted, text)
+                compare(f"docs/scale.md: {command}", expected, text)
 
 
 def modules_of(folder):
@@ -135,10 +135,10 @@ def rows_of(name):
 def example(ran, folder, files):
     """The summary and the rows of the example."""
     rows = folder / "refused.csv"
-    wanted = of_program(files)
-    compare("the summary", (wanted, "", 1), ran("--bytes", "1000000", "--refused", rows, *files))
+    expected = of_program(files)
+    compare("the summary", (expected, "", 1), ran("--bytes", "1000000", "--refused", rows, *files))
     found = rows_of(rows)
-    compare("how many rows", f"refused DepthLimit {len(found)}\n", wanted.splitlines(True)[1])
+    compare("how many rows", f"refused DepthLimit {len(found)}\n", expected.splitlines(True)[1])
     for name in map(str, files[:2]):
         stream = Path(name).read_bytes()
         places = [int(row[2]) for row in found if row[0] == name]
@@ -148,10 +148,10 @@ def example(ran, folder, files):
     text = run([*ran.command[:1], "-m", "capvet", "vet", "--strict", "--unamplified", "--csv", *files], env=ran.environment)[0]
     compare("the rows of python -m capvet vet", sorted(",".join(row) for row in found),
             sorted(line for line in text.splitlines() if "DepthLimit," in line))
-    resumed(ran, folder, files, wanted, sorted(found))
+    resumed(ran, folder, files, expected, sorted(found))
 
 
-def resumed(ran, folder, files, wanted, rows):
+def resumed(ran, folder, files, expected, rows):
     """A run that is killed, and one that is interrupted, go on where they were."""
     csv_file, log = folder / "resumed.csv", folder / "log"
     words = ("--bytes", "1000000", "--refused", csv_file, "--log", log, "--resume", *files)
@@ -170,10 +170,10 @@ def resumed(ran, folder, files, wanted, rows):
             file.write(f"{files[0]},99")
     done = len(log.read_text().splitlines()) - 1
     text, said, status = ran(*words)
-    compare("the summary of a run that is resumed", (wanted, "", 1), (text, said, status))
+    compare("the summary of a run that is resumed", (expected, "", 1), (text, said, status))
     compare("its rows", rows, sorted(rows_of(csv_file)))
     compare("some were done before", True, done > 6)
-    compare("nothing is left to do", (wanted, "", 1), ran(*words))
+    compare("nothing is left to do", (expected, "", 1), ran(*words))
     text, said, status = ran("--depth", "3", *words)
     compare("a run with other options", ("", 3, True), (text, status, "is of a run with other options" in said))
 
@@ -184,13 +184,13 @@ def single_files(ran, folder, files):
     cut.write_bytes(files[0].read_bytes()[:-8 * 100])
     one.write_bytes((TOP / "examples/contacts.bin").read_bytes())
     none.write_bytes(b"")
-    wanted = of_program([cut, one])
-    compare("a cut file", (wanted, "", 1), ran("--refused", rows, cut, one))
+    expected = of_program([cut, one])
+    compare("a cut file", (expected, "", 1), ran("--refused", rows, cut, one))
     row = rows_of(rows)[-1]
     compare("its row", (str(cut), "Truncated", "", "", ""), (row[0], *row[3:]))
     start = int(row[2])
     compare("its place", (b"", 1), (subprocess.run([PROGRAM, "vet"], input=cut.read_bytes()[start:], capture_output=True).stdout, 1))
-    compare("a cut file in ranges", (wanted, "", 1), ran("--bytes", "1000000", cut, one))
+    compare("a cut file in ranges", (expected, "", 1), ran("--bytes", "1000000", cut, one))
     compare("a large message", (of_program([one]), "", 0), ran("--bytes", "100", one))
     stopped = folder / "stopped"
     stopped.write_bytes(b"\0\0\0\0\0\0\x80\xff" + one.read_bytes())
@@ -237,7 +237,7 @@ def refused_runs(ran, folder):
 
 def on_a_cluster(python, modules, files):
     """The same summary after a worker is killed halfway. With --idle two workers are timed beside one."""
-    wanted = of_program(files)
+    expected = of_program(files)
     environment = {**os.environ, "PYTHONPATH": f"{EXAMPLE.parent}:{modules}"}
     done = subprocess.run([python, TOP / "tests/scale_cluster.py", "time" if IS_IDLE else "kill", *files], env=environment,
                           capture_output=True, text=True, timeout=1200)
@@ -245,12 +245,12 @@ def on_a_cluster(python, modules, files):
     if done.returncode:
         print(done.stderr[-2000:])
         return
-    told = json.loads(done.stdout)
-    compare("a worker was killed", (True, ""), (told["killed"], told["said"]))
-    for name, summary in told["summaries"].items():
-        compare(f"the summary, {name}", wanted, summary)
+    reported = json.loads(done.stdout)
+    compare("a worker was killed", (True, ""), (reported["killed"], reported["said"]))
+    for name, summary in reported["summaries"].items():
+        compare(f"the summary, {name}", expected, summary)
     if IS_IDLE:
-        one, two = (min(told["seconds"][name]) for name in ("1", "2"))
+        one, two = (min(reported["seconds"][name]) for name in ("1", "2"))
         print(f"1 GiB takes {one:.1f} s by one worker and {two:.1f} s by two")
         compare(f"two workers need at most {MOST_RATIO} of the time of one", True, two <= MOST_RATIO * one)
 

@@ -597,7 +597,7 @@ GETS = (
 )
 
 # A null pointer, a message that is refused, and two pointers.
-BEHIND_A_REFUSAL = (
+AFTER_A_REFUSAL = (
     Row("dump", f"{NULL} {CYCLE} {SHARED}",
         "message 0: accepted charge 0 depth 0 pointers 1 caps 0\n"
         "root null\n"

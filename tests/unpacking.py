@@ -164,8 +164,8 @@ def calls_over(text, chance):
         if chance.randrange(40) == 0:
             state = other_state(state, out, chance)
         call = text[at:end], out, state, other_limits(limits, chance) if chance.randrange(60) == 0 else limits
-        wanted = answer, consumed, required, state, _, out = unpacked(*call)
-        yield call, wanted
+        expected = answer, consumed, required, state, _, out = unpacked(*call)
+        yield call, expected
         at += consumed
         if answer in (ANSWERS["TRUNCATED"], ANSWERS["NO_MESSAGE"]):
             if end == len(text):
@@ -192,13 +192,13 @@ def compare_calls(program, calls):
     replies, err, status = over_file([program], described(calls))
     compare("unpacking, with the compiler's checks", (b"", 0), (err, status))
     at, answers = 0, Counter()
-    for call, wanted in calls:
+    for call, expected in calls:
         end = at + REPLY.size + len(call[1])
         if end > len(replies):
             break
         reply, out = REPLY.unpack_from(replies, at), replies[end - len(call[1]):end]
-        holds = (*reply[:3], reply[3:8], reply[8:18], out) == wanted and not any(reply[18:])
-        expect(lambda: f"unpacking {call}", holds, lambda: f"{reply} {out}\n  {wanted}")
+        holds = (*reply[:3], reply[3:8], reply[8:18], out) == expected and not any(reply[18:])
+        expect(lambda: f"unpacking {call}", holds, lambda: f"{reply} {out}\n  {expected}")
         most = 8 * call[3].message_words + 2056
         expect("the bound of a frame", reply[2] <= most, lambda: f"{reply} is above {most}")
         answers[reply[0]] += 1

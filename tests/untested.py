@@ -49,9 +49,9 @@ def of_a_tool(folder):
     if needs.missing("a script that lacks a tool", HIDDEN):
         return
     environment = without(HIDDEN, folder)
-    for words, wanted in (((), (0, False, True)), (("--skip", ""), (1, True, True)), (("--skip", "go"), (1, True, True)),
+    for words, expected in (((), (0, False, True)), (("--skip", ""), (1, True, True)), (("--skip", "go"), (1, True, True)),
                           (("--skip", f"go {HIDDEN}"), (0, False, True))):
-        compare(f"all.py {words} without {HIDDEN}", wanted, gate(words, environment))
+        compare(f"all.py {words} without {HIDDEN}", expected, gate(words, environment))
     compare("all.py --skip '', with all tools", (0, False, False), gate(("--skip", ""), os.environ))
     text, status = run([sys.executable, TOP / "tests/needs.py"], env=environment)
     compare("needs.py names the package", (True, 0), ("man-db" in text.splitlines(), status))

@@ -34,20 +34,20 @@ func many(n int) []byte {
 }
 
 // same compares an error with the one that is expected, by its type and its fields.
-func same(t *testing.T, what string, wanted, got error) {
+func same(t *testing.T, what string, want, got error) {
 	t.Helper()
-	if !reflect.DeepEqual(wanted, got) {
-		t.Errorf("%s: wanted %#v, got %#v", what, wanted, got)
+	if !reflect.DeepEqual(want, got) {
+		t.Errorf("%s: want %#v, got %#v", what, want, got)
 	}
 }
 
 func TestErrorsOfVet(t *testing.T) {
 	trailing := append(join(null), 7)
 	for _, row := range []struct {
-		what   string
-		b      []byte
-		l      capvet.Limits
-		wanted error
+		what string
+		b    []byte
+		l    capvet.Limits
+		want error
 	}{
 		{"nil", nil, capvet.Limits{}, &capvet.FrameError{Reason: capvet.NoMessage, Required: 8}},
 		{"a part of the table", null[:7], capvet.Limits{}, &capvet.FrameError{Reason: capvet.Truncated, Required: 8}},
@@ -78,19 +78,19 @@ func TestErrorsOfVet(t *testing.T) {
 			&capvet.LimitsError{Limits: capvet.Limits{NoTable: true, AllowTrailing: true}}},
 	} {
 		_, err := capvet.Vet(row.b, row.l)
-		same(t, row.what, row.wanted, err)
+		same(t, row.what, row.want, err)
 		_, err = capvet.VetExclusive(row.b, row.l)
-		if row.wanted != nil || row.what == "trailing, allowed" {
-			same(t, row.what+", exclusive", row.wanted, err)
+		if row.want != nil || row.what == "trailing, allowed" {
+			same(t, row.what+", exclusive", row.want, err)
 		}
 		if row.l.AllowTrailing && !row.l.NoTable {
 			continue
 		}
 		_, err = capvet.IsCanonical(row.b, row.l)
-		same(t, row.what+", canonical", row.wanted, err)
+		same(t, row.what+", canonical", row.want, err)
 		dst, err := capvet.AppendCanonical([]byte("x"), row.b, row.l)
-		same(t, row.what+", copied", row.wanted, err)
-		if row.wanted != nil && string(dst) != "x" {
+		same(t, row.what+", copied", row.want, err)
+		if row.want != nil && string(dst) != "x" {
 			t.Errorf("%s: dst is %q", row.what, dst)
 		}
 	}
@@ -131,7 +131,7 @@ func TestErrorsAreTakenApart(t *testing.T) {
 			Limits: capvet.Limits{NoTable: true}},
 	} {
 		if err.Error() != text {
-			t.Errorf("wanted %q, got %q", text, err)
+			t.Errorf("want %q, got %q", text, err)
 		}
 	}
 	if text := (&capvet.LimitsError{}).Error(); !strings.HasPrefix(text, "capvet: BadLimits: {MessageWords:0 ") {
@@ -151,17 +151,17 @@ func TestVetAll(t *testing.T) {
 			}
 			count, length, err := capvet.VetAll(b, l)
 			l.AllowTrailing = true
-			wantedCount, wantedLength, wanted := 0, 0, error(nil)
-			for wantedLength < len(b) {
+			wantCount, wantLength, want := 0, 0, error(nil)
+			for wantLength < len(b) {
 				var report capvet.Report
-				if report, wanted = capvet.Vet(b[wantedLength:], l); wanted != nil {
+				if report, want = capvet.Vet(b[wantLength:], l); want != nil {
 					break
 				}
-				wantedCount, wantedLength = wantedCount+1, wantedLength+report.Length
+				wantCount, wantLength = wantCount+1, wantLength+report.Length
 			}
-			same(t, "VetAll", wanted, err)
-			if count != wantedCount || length != wantedLength {
-				t.Errorf("wanted %d of %d bytes, got %d of %d", wantedCount, wantedLength, count, length)
+			same(t, "VetAll", want, err)
+			if count != wantCount || length != wantLength {
+				t.Errorf("want %d of %d bytes, got %d of %d", wantCount, wantLength, count, length)
 			}
 		}
 	}
@@ -175,12 +175,12 @@ func TestVetAll(t *testing.T) {
 
 func TestCapabilities(t *testing.T) {
 	report, err := capvet.Vet(capability, capvet.Limits{})
-	wanted := capvet.Report{Length: 16, Segments: 1, Pointers: 1, Capabilities: 1}
-	if report != wanted || err != nil {
+	want := capvet.Report{Length: 16, Segments: 1, Pointers: 1, Capabilities: 1}
+	if report != want || err != nil {
 		t.Error(report, err)
 	}
 	_, err = capvet.AppendCanonical(nil, capability, capvet.Limits{})
-	same(t, "a copy", &capvet.CapabilityError{Report: wanted}, err)
+	same(t, "a copy", &capvet.CapabilityError{Report: want}, err)
 	is, err := capvet.IsCanonical(capability, capvet.Limits{})
 	if is || err != nil {
 		t.Error(is, err)
@@ -193,13 +193,13 @@ func TestCapabilities(t *testing.T) {
 
 func TestNodes(t *testing.T) {
 	shared := sample("shared.bin")
-	for path, wanted := range map[string]capvet.Node{
+	for path, want := range map[string]capvet.Node{
 		"/":   {Kind: capvet.Struct, Pointers: 2, Offset: 16, Data: shared[16:16]},
 		"/p1": {Kind: capvet.Struct, DataWords: 1, Offset: 32, Data: shared[32:40]},
 	} {
 		node, ok, err := capvet.Get(shared, path, capvet.Limits{})
-		if !reflect.DeepEqual(node, wanted) || !ok || err != nil {
-			t.Errorf("%s: wanted %+v, got %+v, %v, %v", path, wanted, node, ok, err)
+		if !reflect.DeepEqual(node, want) || !ok || err != nil {
+			t.Errorf("%s: want %+v, got %+v, %v, %v", path, want, node, ok, err)
 		}
 	}
 	for _, path := range []string{"/p2", "/p0/p0", "/i0"} {
@@ -233,14 +233,14 @@ func TestSegments(t *testing.T) {
 func TestOverlappingResults(t *testing.T) {
 	contacts := sample("contacts.bin")
 	packed := capvet.AppendPacked(nil, contacts)
-	wanted, err := capvet.AppendCanonical(nil, contacts, capvet.Limits{})
+	want, err := capvet.AppendCanonical(nil, contacts, capvet.Limits{})
 	if err != nil {
 		t.Fatal(err)
 	}
 	for at := 0; at < len(contacts); at += 100 {
 		b := join(contacts, make([]byte, len(contacts)))
 		copied, err := capvet.AppendCanonical(b[:at], b[:len(contacts):len(contacts)], capvet.Limits{})
-		if err != nil || !bytes.Equal(b[:len(contacts)], contacts) || !bytes.Equal(copied[at:], wanted) {
+		if err != nil || !bytes.Equal(b[:len(contacts)], contacts) || !bytes.Equal(copied[at:], want) {
 			t.Fatal(at, err)
 		}
 		if !bytes.Equal(capvet.AppendPacked(b[:at], b[:len(contacts)])[at:], packed) || !bytes.Equal(b[:len(contacts)], contacts) {
@@ -255,7 +255,7 @@ func TestOverlappingResults(t *testing.T) {
 	// (within the capacity of dst, in place)
 	dst := append(make([]byte, 0, len(contacts)+1), 'x')
 	copied, err := capvet.AppendCanonical(dst, contacts, capvet.Limits{})
-	if err != nil || &copied[0] != &dst[0] || copied[0] != 'x' || !bytes.Equal(copied[1:], wanted) {
+	if err != nil || &copied[0] != &dst[0] || copied[0] != 'x' || !bytes.Equal(copied[1:], want) {
 		t.Error(err)
 	}
 }
@@ -329,7 +329,7 @@ func TestVetAllocatesNothing(t *testing.T) {
 // Goroutines vet the same bytes at the same time. (The race detector looks at it.)
 func TestGoroutines(t *testing.T) {
 	contacts := sample("contacts.bin")
-	wanted, err := capvet.Vet(contacts, capvet.Limits{})
+	want, err := capvet.Vet(contacts, capvet.Limits{})
 	if err != nil {
 		t.Fatal(err)
 	}
@@ -341,7 +341,7 @@ func TestGoroutines(t *testing.T) {
 			for j := 0; j < 200; j++ {
 				report, err := capvet.VetExclusive(contacts, capvet.Limits{})
 				_, refusal := capvet.Vet(cycle, capvet.Limits{})
-				if report != wanted || err != nil || refusal == nil {
+				if report != want || err != nil || refusal == nil {
 					t.Error(report, err, refusal)
 				}
 			}
@@ -379,7 +379,7 @@ func TestReasons(t *testing.T) {
 		99:                      "Unknown",
 	} {
 		if reason.String() != name {
-			t.Errorf("wanted %s, got %v", name, reason)
+			t.Errorf("want %s, got %v", name, reason)
 		}
 	}
 }

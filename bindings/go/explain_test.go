@@ -33,7 +33,7 @@ func TestExplain(t *testing.T) {
 		lines, err := capvet.Explain(test.b, test.l)
 		same(t, test.name, test.err, err)
 		if lines != test.lines {
-			t.Errorf("%s: wanted %q, got %q", test.name, test.lines, lines)
+			t.Errorf("%s: want %q, got %q", test.name, test.lines, lines)
 		}
 	}
 }

@@ -193,16 +193,16 @@ func scans(t *testing.T, s *capvet.Scanner, l capvet.Limits) (lines []string, er
 }
 
 // sameEnd compares the error of a Scanner with that of the bytes. Of a packed stream only the reason is the same.
-func sameEnd(t *testing.T, wanted, got error, isPacked bool) {
+func sameEnd(t *testing.T, want, got error, isPacked bool) {
 	var one, other *capvet.FrameError
 	switch {
-	case errors.Is(wanted, io.EOF):
-		wanted = nil
-	case isPacked && errors.As(wanted, &one) && errors.As(got, &other) && one.Reason == other.Reason:
+	case errors.Is(want, io.EOF):
+		want = nil
+	case isPacked && errors.As(want, &one) && errors.As(got, &other) && one.Reason == other.Reason:
 		return
 	}
-	if !reflect.DeepEqual(wanted, got) {
-		t.Fatalf("wanted %#v, got %#v", wanted, got)
+	if !reflect.DeepEqual(want, got) {
+		t.Fatalf("want %#v, got %#v", want, got)
 	}
 }
 
@@ -238,7 +238,7 @@ func FuzzScanner(f *testing.F) {
 			}
 			return lines, err
 		}
-		wanted, end := verdicts(in.bytes, in.limits, func(b []byte, l capvet.Limits) (capvet.Report, error) {
+		want, end := verdicts(in.bytes, in.limits, func(b []byte, l capvet.Limits) (capvet.Report, error) {
 			l.AllowTrailing = false
 			return check(b, l)
 		})
@@ -246,31 +246,31 @@ func FuzzScanner(f *testing.F) {
 		scanner := capvet.NewScanner(plain, in.limits)
 		plain.inside = scanner.Inside
 		got, err := scan(scanner)
-		sameScan(t, wanted, got, plain.ends(end), err, false)
+		sameScan(t, want, got, plain.ends(end), err, false)
 		if len(in.bytes)%8 == 0 {
 			packed := piecesOf(in, capvet.AppendPacked(nil, in.bytes))
 			got, err = scan(capvet.NewPackedScanner(packed, in.limits))
-			sameScan(t, wanted, got, packed.ends(end), err, true)
+			sameScan(t, want, got, packed.ends(end), err, true)
 		}
 		// (any bytes as a packed stream: however it comes, it has the same messages)
-		wanted, end = scan(capvet.NewPackedScanner(bytes.NewReader(in.bytes), in.limits))
+		want, end = scan(capvet.NewPackedScanner(bytes.NewReader(in.bytes), in.limits))
 		packed := piecesOf(in, in.bytes)
 		got, err = scan(capvet.NewPackedScanner(packed, in.limits))
-		sameScan(t, wanted, got, packed.ends(end), err, true)
+		sameScan(t, want, got, packed.ends(end), err, true)
 	})
 }
 
 // sameScan compares what two scans gave. Without space one may have ended before the other.
-func sameScan(t *testing.T, wanted, got []string, end, err error, isPacked bool) {
+func sameScan(t *testing.T, want, got []string, end, err error, isPacked bool) {
 	if end == capvet.ErrNoSpace || err == capvet.ErrNoSpace {
-		if n := len(wanted); n < len(got) {
+		if n := len(want); n < len(got) {
 			got = got[:n]
 		}
-		wanted = wanted[:len(got)]
+		want = want[:len(got)]
 		end, err = nil, nil
 	}
-	if fmt.Sprint(wanted) != fmt.Sprint(got) {
-		t.Fatal(wanted, got)
+	if fmt.Sprint(want) != fmt.Sprint(got) {
+		t.Fatal(want, got)
 	}
 	sameEnd(t, end, err, isPacked)
 }

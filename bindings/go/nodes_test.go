@@ -48,22 +48,22 @@ func oneByOne(b []byte, path string, first uint32, count int, l capvet.Limits) (
 func sameRange(t *testing.T, b []byte, path string, first uint32, count int, l capvet.Limits) (int, error) {
 	t.Helper()
 	what := fmt.Sprintf("%d of %s from %d of %x in %+v", count, path, first, b, l)
-	wanted, wantedErr := oneByOne(b, path, first, count, l)
+	want, wantErr := oneByOne(b, path, first, count, l)
 	dst := make([]capvet.Node, count)
 	for k := range dst {
 		dst[k].Offset = -1 - k
 	}
 	n, err := capvet.GetRange(dst, b, path, first, l)
-	same(t, what, wantedErr, err)
-	if n != len(wanted) {
-		t.Fatalf("%s: wanted %d, got %d", what, len(wanted), n)
+	same(t, what, wantErr, err)
+	if n != len(want) {
+		t.Fatalf("%s: want %d, got %d", what, len(want), n)
 	}
 	for k, node := range dst {
 		if k >= n {
-			wanted = append(wanted, capvet.Node{Offset: -1 - k})
+			want = append(want, capvet.Node{Offset: -1 - k})
 		}
-		if !reflect.DeepEqual(wanted[k], node) || cap(node.Data) != len(node.Data) {
-			t.Fatalf("%s: wanted %+v, got %+v", what, wanted[k], node)
+		if !reflect.DeepEqual(want[k], node) || cap(node.Data) != len(node.Data) {
+			t.Fatalf("%s: want %+v, got %+v", what, want[k], node)
 		}
 	}
 	return n, err
@@ -167,7 +167,7 @@ func TestRanges(t *testing.T) {
 		n, err := sameRange(t, row.b, row.path, row.first, row.count, capvet.Limits{})
 		same(t, row.path, row.err, err)
 		if n != row.found {
-			t.Errorf("%d of %s from %d: wanted %d, got %d", row.count, row.path, row.first, row.found, n)
+			t.Errorf("%d of %s from %d: want %d, got %d", row.count, row.path, row.first, row.found, n)
 		}
 	}
 	for _, l := range []capvet.Limits{{Depth: 257}, {NoTable: true}} {
@@ -196,7 +196,7 @@ func TestPathsOfRanges(t *testing.T) {
 		}
 		_, got := capvet.GetRange(nil, nil, path, 0, capvet.Limits{})
 		if !reflect.DeepEqual(err, got) {
-			t.Errorf("%q: wanted %#v, got %#v", path, err, got)
+			t.Errorf("%q: want %#v, got %#v", path, err, got)
 		}
 	}
 	for path, at := range map[string]int{"": 0, "/": 1, "/p0": 3, "/*": 1, "/p*/i*": 5, "/p*0": 3, "*": 0} {

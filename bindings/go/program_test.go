@@ -118,9 +118,9 @@ func compare(t *testing.T, name string, stream []byte, exclusive bool) {
 func equal(t *testing.T, name string, input []byte, words []string, s *capvet.Scanner) {
 	t.Helper()
 	text, said, status := scanned(s, len(input))
-	wantedText, wantedSaid, wantedStatus := run(t, input, words...)
-	if text != wantedText || said != wantedSaid || status != wantedStatus {
-		t.Errorf("%s by %v: wanted\n%s%s%d, got\n%s%s%d", name, words, wantedText, wantedSaid, wantedStatus, text, said, status)
+	wantText, wantSaid, wantStatus := run(t, input, words...)
+	if text != wantText || said != wantSaid || status != wantStatus {
+		t.Errorf("%s by %v: want\n%s%s%d, got\n%s%s%d", name, words, wantText, wantSaid, wantStatus, text, said, status)
 	}
 }
 
@@ -191,10 +191,10 @@ func TestExplanationsAsTheProgram(t *testing.T) {
 				number++
 			}
 		}
-		wanted, _, _ := run(t, stream.Bytes(), append([]string{"explain"}, it.options...)...)
-		wanted = ofInput.ReplaceAllString(wanted, "")
-		if text.String() != wanted || !strings.Contains(wanted, "  reason ") {
-			t.Errorf("%v: the lines of %d bytes differ from those of the program, of %d", it.options, text.Len(), len(wanted))
+		want, _, _ := run(t, stream.Bytes(), append([]string{"explain"}, it.options...)...)
+		want = ofInput.ReplaceAllString(want, "")
+		if text.String() != want || !strings.Contains(want, "  reason ") {
+			t.Errorf("%v: the lines of %d bytes differ from those of the program, of %d", it.options, text.Len(), len(want))
 		}
 	}
 }
@@ -228,7 +228,7 @@ func TestCanonicalAsTheProgram(t *testing.T) {
 	messages := append(changed(*count/10), sample("contacts.bin"), sample("shared.bin"), capability)
 	forms := 0
 	for _, b := range messages {
-		wanted, _, status := run(t, b, "canon", "--strict", "--unamplified")
+		want, _, status := run(t, b, "canon", "--strict", "--unamplified")
 		words, err := capvet.AppendCanonical(make([]byte, 8), b, capvet.Limits{})
 		if err != nil {
 			words = nil
@@ -236,10 +236,10 @@ func TestCanonicalAsTheProgram(t *testing.T) {
 			forms++
 			words[4], words[5], words[6] = byte((len(words)-8)/8), byte((len(words)-8)>>11), byte((len(words)-8)>>19)
 		}
-		if string(words) != wanted || (err == nil) != (status == 0) {
+		if string(words) != want || (err == nil) != (status == 0) {
 			t.Fatalf("%x: %v", b, err)
 		}
-		for _, b := range [][]byte{b, []byte(wanted)} {
+		for _, b := range [][]byte{b, []byte(want)} {
 			is, err := capvet.IsCanonical(b, capvet.Limits{AllowAmplified: true})
 			line := map[bool]string{false: "not canonical", true: "canonical"}[is]
 			var refusal *capvet.Refusal
@@ -251,8 +251,8 @@ func TestCanonicalAsTheProgram(t *testing.T) {
 			} else if errors.Is(err, io.EOF) {
 				line = ""
 			}
-			if wanted, _, _ := run(t, b, "check", "--strict"); line != wanted {
-				t.Fatalf("%x: wanted %q, got %q", b, wanted, line)
+			if want, _, _ := run(t, b, "check", "--strict"); line != want {
+				t.Fatalf("%x: want %q, got %q", b, want, line)
 			}
 		}
 	}
@@ -276,15 +276,15 @@ func TestSegmentsAsTheProgram(t *testing.T) {
 		}
 		fmt.Fprintf(&all, "message %d: segments %d words %d\n%sroot %x\n", number, len(segments), sum, lines, segments[0][:8])
 	}
-	if wanted, _, _ := run(t, join(messages...), "segments"); all.String() != wanted {
-		t.Errorf("wanted %q, got %q", wanted, all.String())
+	if want, _, _ := run(t, join(messages...), "segments"); all.String() != want {
+		t.Errorf("want %q, got %q", want, all.String())
 	}
 }
 
 func TestPackingAsTheProgram(t *testing.T) {
 	for _, b := range append(changed(*count/20), sample("stream-of-four.bin"), make([]byte, 8*600), many(512)) {
 		packed := capvet.AppendPacked(nil, b)
-		if wanted, _, _ := run(t, b, "pack"); string(packed) != wanted {
+		if want, _, _ := run(t, b, "pack"); string(packed) != want {
 			t.Fatalf("%x", b)
 		}
 		if words, err := capvet.AppendUnpacked(nil, packed, len(b)); err != nil || !bytes.Equal(words, b) {
@@ -356,8 +356,8 @@ func TestTreesAsTheProgram(t *testing.T) {
 		fmt.Fprintf(&all, "message %d: %v\n", number, report)
 		tree(t, &all, b, limits, "/", "root", 0)
 	}
-	wanted, _, _ := run(t, join(messages...), "dump", "--strict", "--unamplified")
-	if all.String() != wanted {
-		t.Errorf("the trees of %d bytes differ from those of the program, of %d", all.Len(), len(wanted))
+	want, _, _ := run(t, join(messages...), "dump", "--strict", "--unamplified")
+	if all.String() != want {
+		t.Errorf("the trees of %d bytes differ from those of the program, of %d", all.Len(), len(want))
 	}
 }

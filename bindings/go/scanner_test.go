@@ -244,14 +244,14 @@ func TestBoundedScanners(t *testing.T) {
 					t.Errorf("%s: message %d, %d bytes in use", form.name, s.Number(), used)
 				}
 			}
-			wanted, err := len(messages), error(nil)
+			want, err := len(messages), error(nil)
 			if most < 1<<21 {
-				wanted, err = 0, capvet.ErrNoSpace
+				want, err = 0, capvet.ErrNoSpace
 				if most > 0 {
-					wanted = 1
+					want = 1
 				}
 			}
-			if s.Number() != wanted || s.Err() != err || used != 0 || peak > most {
+			if s.Number() != want || s.Err() != err || used != 0 || peak > most {
 				t.Errorf("%s, at most %d: %d messages, %v, %d in use, %d at one time", form.name, most, s.Number(), s.Err(), used, peak)
 			}
 		}
@@ -294,18 +294,18 @@ func TestInside(t *testing.T) {
 // However the bytes of a stream come, and whatever the reader returns with the last of them, the messages are the same.
 func TestScannersOverReaders(t *testing.T) {
 	stream := join(sample("stream-of-four.bin"), cycle, sample("shared.bin"), nullPad, many(512), null)
-	wanted, err := scan(capvet.NewScanner(bytes.NewReader(stream), capvet.Limits{}))
-	if err != nil || strings.Count(wanted, "accepted") != 6 || strings.Count(wanted, "refused") != 3 {
-		t.Fatal(wanted, err)
+	want, err := scan(capvet.NewScanner(bytes.NewReader(stream), capvet.Limits{}))
+	if err != nil || strings.Count(want, "accepted") != 6 || strings.Count(want, "refused") != 3 {
+		t.Fatal(want, err)
 	}
 	packed := capvet.AppendPacked(nil, stream)
 	for i, form := range []func(io.Reader) io.Reader{iotest.OneByteReader, iotest.HalfReader, iotest.DataErrReader} {
 		lines, err := scan(capvet.NewScanner(form(bytes.NewReader(stream)), capvet.Limits{}))
-		if lines != wanted || err != nil {
+		if lines != want || err != nil {
 			t.Error(i, lines, err)
 		}
 		lines, err = scan(capvet.NewPackedScanner(form(bytes.NewReader(packed)), capvet.Limits{}))
-		if lines != wanted || err != nil {
+		if lines != want || err != nil {
 			t.Error(i, lines, err)
 		}
 	}
@@ -315,10 +315,10 @@ func TestScannersEnd(t *testing.T) {
 	broken := errors.New("broken")
 	contacts, packed := sample("contacts.bin"), sample("contacts.packed")
 	for _, row := range []struct {
-		what   string
-		s      *capvet.Scanner
-		count  int
-		wanted error
+		what  string
+		s     *capvet.Scanner
+		count int
+		want  error
 	}{
 		{"nothing", capvet.NewScanner(strings.NewReader(""), capvet.Limits{}), 0, nil},
 		{"nothing, packed", capvet.NewPackedScanner(strings.NewReader(""), capvet.Limits{}), 0, nil},
@@ -347,7 +347,7 @@ func TestScannersEnd(t *testing.T) {
 	} {
 		for row.s.Scan() {
 		}
-		same(t, row.what, row.wanted, row.s.Err())
+		same(t, row.what, row.want, row.s.Err())
 		if row.s.Scan() || row.s.Number() != row.count || row.s.Bytes() != nil || row.s.Raw() != nil {
 			t.Errorf("%s: %d messages", row.what, row.s.Number())
 		}

@@ -198,10 +198,10 @@ export class Tree {
     let open = this.root, index = -1;
     for (const label of detail ? [...labels, detail] : labels) {
       const next = index < 0 ? open : this.opened(open, index);
-      const wanted = !next ? -1 : label === detail ? Number(label.slice(1)) : next.node.indexOf(label);
-      if (wanted < 0) break;
+      const expected = !next ? -1 : label === detail ? Number(label.slice(1)) : next.node.indexOf(label);
+      if (expected < 0) break;
       open = next;
-      index = wanted;
+      index = expected;
     }
     this.resize();
     this.point(index < 0 ? 0 : open.rowOf(index) + 1);

@@ -125,15 +125,15 @@ static const uint8_t NULL_ROOT[16] = {0, 0, 0, 0, 1};
 
 /* Without numbers for the marks, and with as many as are needed. */
 static void marks(const uint8_t *bytes, size_t length) {
-  static uint64_t room[1 << 12];
+  static uint64_t buffer[1 << 12];
   capvet_report report;
   size_t needed, again;
   unsigned long before = taken;
-  uint32_t answer = capvet_vet_exclusive(bytes, length, &LIMITS[1], room, 0, &needed, &report);
+  uint32_t answer = capvet_vet_exclusive(bytes, length, &LIMITS[1], buffer, 0, &needed, &report);
   answered(EXCLUSIVE, before, answer);
-  if (needed <= sizeof room / sizeof *room) {
+  if (needed <= sizeof buffer / sizeof *buffer) {
     before = taken;
-    answer = capvet_vet_exclusive(bytes, length, &LIMITS[1], room, needed, &again, &report);
+    answer = capvet_vet_exclusive(bytes, length, &LIMITS[1], buffer, needed, &again, &report);
     answered(EXCLUSIVE, before, answer);
   }
 }
@@ -170,17 +170,17 @@ static void ranges(const uint8_t *bytes, size_t length) {
 static void paths(const uint8_t *bytes, size_t length) {
   capvet_step steps[CAPVET_MAX_DEPTH];
   capvet_report report;
-  size_t required, room;
+  size_t required, capacity;
   uint64_t number;
   unsigned long before;
   uint32_t answer = capvet_vet(bytes, length, &LIMITS[1], &report);
   number = report.pointers;
-  for (room = 0; room <= CAPVET_MAX_DEPTH; room += CAPVET_MAX_DEPTH) {
+  for (capacity = 0; capacity <= CAPVET_MAX_DEPTH; capacity += CAPVET_MAX_DEPTH) {
     before = taken;
-    answer = capvet_pointer_path(bytes, length, &LIMITS[1], room == 0 ? number : number + 1, steps, room, &required, &report);
+    answer = capvet_pointer_path(bytes, length, &LIMITS[1], capacity == 0 ? number : number + 1, steps, capacity, &required, &report);
     answered(POINTER_PATH, before, answer);
     before = taken;
-    answer = capvet_pointer_path(bytes, length, &LIMITS[1], number, steps, room, &required, &report);
+    answer = capvet_pointer_path(bytes, length, &LIMITS[1], number, steps, capacity, &required, &report);
     answered(POINTER_PATH, before, answer);
   }
   before = taken;
@@ -191,12 +191,12 @@ static void paths(const uint8_t *bytes, size_t length) {
 /* Within each of the limits, without a buffer, and with one. */
 static void explanations(const uint8_t *bytes, size_t length) {
   static char text[CAPVET_EXPLANATION_BOUND];
-  size_t limits, room, required;
+  size_t limits, capacity, required;
   for (limits = 0; limits < sizeof LIMITS / sizeof *LIMITS; limits++)
-    for (room = 0; room <= sizeof text; room += sizeof text) {
+    for (capacity = 0; capacity <= sizeof text; capacity += sizeof text) {
       capvet_report report;
       unsigned long before = taken;
-      uint32_t answer = capvet_explain(bytes, length, &LIMITS[limits], text, room, &required, &report);
+      uint32_t answer = capvet_explain(bytes, length, &LIMITS[limits], text, capacity, &required, &report);
       answered(EXPLAIN, before, answer);
     }
 }
@@ -220,10 +220,10 @@ static void segments(const uint8_t *bytes, size_t length) {
   answered(VET_SEGMENTS, before, answer);
 }
 
-typedef capvet_answer (*spelling)(const uint8_t *, size_t, uint8_t *, size_t, size_t *);
+typedef capvet_answer (*encoder)(const uint8_t *, size_t, uint8_t *, size_t, size_t *);
 
 /* With an output buffer of length 0, and of the length that is needed. */
-static void spells(int number, spelling call, const uint8_t *bytes, size_t length) {
+static void encodes(int number, encoder call, const uint8_t *bytes, size_t length) {
   static uint8_t out[1 << 16];
   size_t written, needed;
   unsigned long before = taken;
@@ -267,8 +267,8 @@ static void parts(const uint8_t *bytes, size_t length) {
     paths(bytes, at);
     explanations(bytes, at);
     messages(bytes, at);
-    spells(UNPACK, capvet_unpack, bytes, at);
-    spells(PACK, capvet_pack, bytes, at);
+    encodes(UNPACK, capvet_unpack, bytes, at);
+    encodes(PACK, capvet_pack, bytes, at);
   }
   for (at = 0; at <= length; at += 8) {
     reports(bytes + at, length - at);
@@ -280,7 +280,7 @@ static void parts(const uint8_t *bytes, size_t length) {
 static const struct {
   int call;
   uint32_t answer;
-} WANTED[] = {{FRAME, CAPVET_OK},
+} EXPECTED[] = {{FRAME, CAPVET_OK},
               {FRAME, CAPVET_TOO_LARGE},
               {FRAME, CAPVET_TRUNCATED},
               {VET, CAPVET_OK},
@@ -353,7 +353,7 @@ int main(int count, char **names) {
     fclose(file);
     parts(bytes, length);
   }
-  for (i = 0; i < sizeof WANTED / sizeof *WANTED; i++)
-    expect(seen[WANTED[i].call][WANTED[i].answer] > 0, "an answer never came, of a call by this number", (unsigned long)i);
+  for (i = 0; i < sizeof EXPECTED / sizeof *EXPECTED; i++)
+    expect(seen[EXPECTED[i].call][EXPECTED[i].answer] > 0, "an answer never came, of a call by this number", (unsigned long)i);
   return failures != 0;
 }

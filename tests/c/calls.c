@@ -121,7 +121,7 @@ static void nodes(void) {
 }
 
 /* How many bytes a report asks for, where the buffer ends after `length` bytes of TWO. */
-static uint64_t wanted(size_t length) { return length < 8 ? 8 : length < 16 ? 16 : 56; }
+static uint64_t expected(size_t length) { return length < 8 ? 8 : length < 16 ? 16 : 56; }
 
 /* A message that arrives byte by byte. */
 static void arriving(void) {
@@ -134,7 +134,7 @@ static void arriving(void) {
     uint32_t answer = length == 0 ? CAPVET_NO_MESSAGE : length < 56 ? CAPVET_TRUNCATED : CAPVET_OK;
     EXPECT(f == answer, "frame of a front", length);
     EXPECT(v == answer, "vet of a front", length);
-    EXPECT(framed.input_required == (length < 56 ? wanted(length) : 0), "required", framed.input_required);
+    EXPECT(framed.input_required == (length < 56 ? expected(length) : 0), "required", framed.input_required);
     EXPECT(vetted.input_required == framed.input_required && vetted.detail == 0, "required by vet", vetted.input_required);
     EXPECT(framed.length == (length < 56 ? 0u : 56u), "length of a frame", framed.length);
     EXPECT(framed.segments == (length < 56 ? 0u : 2u), "segments of a frame", framed.segments);
@@ -246,18 +246,18 @@ static const uint8_t PACKED[] = {0,    2, 0x51, 8, 3, 2, 255, 1, 2, 3, 4, 5, 6, 
 static const uint8_t UNPACKED[48] = {0, 0, 0, 0, 0, 0, 0, 0, 0, 0, 0, 0, 0, 0, 0, 0, 0,    0, 0,    0, 0, 0, 0, 0,
                                      8, 0, 0, 0, 3, 0, 2, 0, 1, 2, 3, 4, 5, 6, 7, 8, 0x11, 0, 0x33, 0, 0, 0, 0, 0};
 
-/* The answer for a prefix of PACKED, with an output buffer of `room` bytes. The byte after it stays as it is. */
-static uint32_t unpacked(size_t length, size_t room, size_t *written, uint8_t *behind) {
+/* The answer for a prefix of PACKED, with an output buffer of `capacity` bytes. The byte after it stays as it is. */
+static uint32_t unpacked(size_t length, size_t capacity, size_t *written, uint8_t *after) {
   uint8_t *from = block(PACKED, length, 1);
-  uint8_t *out = malloc(room + 1);
+  uint8_t *out = malloc(capacity + 1);
   uint32_t answer;
   if (out == NULL) exit(3);
-  memset(out, 0xee, room + 1);
+  memset(out, 0xee, capacity + 1);
   *written = 77;
-  answer = capvet_unpack(from + 1, length, out, room, written);
-  EXPECT(out[room] == 0xee, "a byte behind the room", room);
-  memset(behind, 0, 64);
-  memcpy(behind, out, room < 64 ? room : 64);
+  answer = capvet_unpack(from + 1, length, out, capacity, written);
+  EXPECT(out[capacity] == 0xee, "a byte after the capacity", capacity);
+  memset(after, 0, 64);
+  memcpy(after, out, capacity < 64 ? capacity : 64);
   free(out);
   free(from);
   return answer;
@@ -270,7 +270,7 @@ static void unpacking(void) {
     size_t length, words;
   } whole[] = {{0, 0}, {2, 3}, {6, 4}, {24, 6}};
   uint8_t got[64];
-  size_t length, room, written, next = 0, k;
+  size_t length, capacity, written, next = 0, k;
   for (length = 0; length <= sizeof PACKED; length++) {
     int ends = next < 4 && whole[next].length == length;
     size_t words = ends ? whole[next].words : 0;
@@ -278,14 +278,14 @@ static void unpacking(void) {
     EXPECT(answer == (ends ? (uint32_t)CAPVET_OK : (uint32_t)CAPVET_TRUNCATED), "a front of packed bytes", length);
     EXPECT(written == 8 * words, "written of a front", written);
     EXPECT(memcmp(got, UNPACKED, 8 * words) == 0, "the words of a front", length);
-    for (k = 8 * words; k < 48; k++) EXPECT(got[k] == 0xee, "what stands behind the words", k);
+    for (k = 8 * words; k < 48; k++) EXPECT(got[k] == 0xee, "what is after the words", k);
     if (ends) next++;
   }
-  for (room = 0; room <= 48; room++) {
-    uint32_t answer = unpacked(sizeof PACKED, room, &written, got);
-    EXPECT(answer == (room < 48 ? (uint32_t)CAPVET_BUFFER_TOO_SMALL : (uint32_t)CAPVET_OK), "too little room", room);
-    EXPECT(written == 48, "the room that it takes", written);
-    for (k = 0; room < 48 && k < room; k++) EXPECT(got[k] == 0xee, "the room stays", k);
+  for (capacity = 0; capacity <= 48; capacity++) {
+    uint32_t answer = unpacked(sizeof PACKED, capacity, &written, got);
+    EXPECT(answer == (capacity < 48 ? (uint32_t)CAPVET_BUFFER_TOO_SMALL : (uint32_t)CAPVET_OK), "too little capacity", capacity);
+    EXPECT(written == 48, "the capacity that it takes", written);
+    for (k = 0; capacity < 48 && k < capacity; k++) EXPECT(got[k] == 0xee, "the buffer stays", k);
   }
 }
 
@@ -297,20 +297,20 @@ static const uint8_t LOOSE[72] = {1, 0, 0, 0, 1, 0, 0, 0, 5, 0, 0, 0, 0, 0, 0, 0
 static const uint8_t COPIED[32] = {0, 0, 0, 0, 1, 0, 1, 0, 7, 0, 0, 0, 0, 0, 0, 0,
                                    1, 0, 0, 0, 26, 0, 0, 0, 1, 2, 3, 0, 0, 0, 0, 0};
 
-/* The answer for a message, with an output buffer of `room` bytes. The byte after it stays as it is. */
-static uint32_t copied(const uint8_t *bytes, size_t length, size_t room, size_t *written, uint8_t *got,
+/* The answer for a message, with an output buffer of `capacity` bytes. The byte after it stays as it is. */
+static uint32_t copied(const uint8_t *bytes, size_t length, size_t capacity, size_t *written, uint8_t *got,
                        capvet_report *report) {
   uint8_t *from = block(bytes, length, 1);
-  uint8_t *out = malloc(room + 1);
+  uint8_t *out = malloc(capacity + 1);
   uint32_t answer;
   if (out == NULL) exit(3);
-  memset(out, 0xee, room + 1);
+  memset(out, 0xee, capacity + 1);
   *written = 77;
   *report = unwritten();
-  answer = capvet_canonical(from + 1, length, &LIMITS, out, room, written, report);
-  EXPECT(out[room] == 0xee, "a byte behind the room of a copy", room);
+  answer = capvet_canonical(from + 1, length, &LIMITS, out, capacity, written, report);
+  EXPECT(out[capacity] == 0xee, "a byte after the capacity of a copy", capacity);
   EXPECT(length == 0 || memcmp(from + 1, bytes, length) == 0, "the bytes of a message stay", length);
-  memcpy(got, out, room);
+  memcpy(got, out, capacity);
   free(out);
   free(from);
   return answer;
@@ -320,14 +320,14 @@ static uint32_t copied(const uint8_t *bytes, size_t length, size_t room, size_t 
 static void copying(void) {
   uint8_t got[40];
   capvet_report r;
-  size_t length, room, written, k;
-  for (room = 0; room <= sizeof got; room++) {
-    uint32_t answer = copied(LOOSE, sizeof LOOSE, room, &written, got, &r);
-    size_t from = room < sizeof COPIED ? 0 : sizeof COPIED;
-    EXPECT(answer == (from == 0 ? (uint32_t)CAPVET_BUFFER_TOO_SMALL : (uint32_t)CAPVET_OK), "the room of a copy", room);
-    EXPECT(written == sizeof COPIED, "the room that a copy takes", written);
-    EXPECT(memcmp(got, COPIED, from) == 0, "the words of a copy", room);
-    for (k = from; k < room; k++) EXPECT(got[k] == 0xee, "what stands behind a copy", k);
+  size_t length, capacity, written, k;
+  for (capacity = 0; capacity <= sizeof got; capacity++) {
+    uint32_t answer = copied(LOOSE, sizeof LOOSE, capacity, &written, got, &r);
+    size_t from = capacity < sizeof COPIED ? 0 : sizeof COPIED;
+    EXPECT(answer == (from == 0 ? (uint32_t)CAPVET_BUFFER_TOO_SMALL : (uint32_t)CAPVET_OK), "the capacity of a copy", capacity);
+    EXPECT(written == sizeof COPIED, "the capacity that a copy takes", written);
+    EXPECT(memcmp(got, COPIED, from) == 0, "the words of a copy", capacity);
+    for (k = from; k < capacity; k++) EXPECT(got[k] == 0xee, "what is after a copy", k);
     EXPECT(r.length == 64 && r.segments == 2 && r.detail == 0, "the frame of a copied message", r.length);
     EXPECT(r.charge == 5 && r.pointers == 2 && r.depth == 2, "the tree of a copied message", r.charge);
     EXPECT(r.capabilities == 0 && r.segment == 0 && r.word == 0, "no capability", r.capabilities);
@@ -337,13 +337,13 @@ static void copying(void) {
     EXPECT(answer == (length == 0 ? (uint32_t)CAPVET_NO_MESSAGE : (uint32_t)CAPVET_TRUNCATED), "a copy of a front",
            length);
     EXPECT(written == 0 && r.length == 0, "nothing of a front", written);
-    for (k = 0; k < sizeof got; k++) EXPECT(got[k] == 0xee, "the room stays of a front", k);
+    for (k = 0; k < sizeof got; k++) EXPECT(got[k] == 0xee, "the buffer stays of a front", k);
   }
-  for (room = 0; room <= sizeof got; room++) {
-    uint32_t answer = copied(TWO, sizeof TWO, room, &written, got, &r);
+  for (capacity = 0; capacity <= sizeof got; capacity++) {
+    uint32_t answer = copied(TWO, sizeof TWO, capacity, &written, got, &r);
     EXPECT(answer == CAPVET_HAS_CAPABILITY, "a copy of a capability", answer);
     EXPECT(written == 0 && r.capabilities == 1 && r.segment == 1 && r.word == 3, "the first capability", r.word);
-    for (k = 0; k < room; k++) EXPECT(got[k] == 0xee, "the room stays of a capability", k);
+    for (k = 0; k < capacity; k++) EXPECT(got[k] == 0xee, "the buffer stays of a capability", k);
   }
 }
 
@@ -376,20 +376,20 @@ static const uint8_t REFUSING[16] = {0, 0, 0, 0, 1, 0, 0, 0, 0xfc, 0xff, 0xff, 0
 static const uint8_t SHARED[40] = {0, 0, 0, 0, 4, 0, 0, 0, 0, 0, 0, 0, 0, 0, 2, 0, 4, 0, 0, 0,
                                    1, 0, 0, 0, 0, 0, 0, 0, 1, 0, 0, 0, 7, 0, 0, 0, 0, 0, 0, 0};
 
-/* The answer for a message, with `room` numbers for its marks. These numbers and one more are all ones before.
+/* The answer for a message, with `capacity` numbers for its marks. These numbers and one more are all ones before.
  * `kept` is how many of them still are, counted back from the last. */
-static uint32_t marked(const uint8_t *bytes, size_t length, size_t room, size_t *needed, size_t *kept,
+static uint32_t marked(const uint8_t *bytes, size_t length, size_t capacity, size_t *needed, size_t *kept,
                        capvet_report *report) {
   uint8_t *from = block(bytes, length, 1);
-  uint64_t *marks = malloc(8 * (room + 1));
+  uint64_t *marks = malloc(8 * (capacity + 1));
   uint32_t answer;
   if (marks == NULL) exit(3);
-  memset(marks, 0xff, 8 * (room + 1));
+  memset(marks, 0xff, 8 * (capacity + 1));
   *needed = 77;
   *report = unwritten();
-  answer = capvet_vet_exclusive(from + 1, length, &LIMITS, marks, room, needed, report);
+  answer = capvet_vet_exclusive(from + 1, length, &LIMITS, marks, capacity, needed, report);
   EXPECT(length == 0 || memcmp(from + 1, bytes, length) == 0, "the bytes of a marked message stay", length);
-  for (*kept = 0; *kept <= room && marks[room - *kept] == UINT64_MAX; ++*kept) continue;
+  for (*kept = 0; *kept <= capacity && marks[capacity - *kept] == UINT64_MAX; ++*kept) continue;
   free(marks);
   free(from);
   return answer;
@@ -400,27 +400,27 @@ static uint32_t marked(const uint8_t *bytes, size_t length, size_t room, size_t 
 static void marking(void) {
   static uint8_t wide[8 + 8 * 64];
   capvet_report r;
-  size_t room, needed, kept, length, words;
-  for (room = 0; room <= 3; room++) {
-    uint32_t enough = room == 0 ? CAPVET_BUFFER_TOO_SMALL : CAPVET_OK;
-    size_t used = room == 0 ? 0 : 1;
-    EXPECT(marked(TWO, sizeof TWO, room, &needed, &kept, &r) == enough, "an exclusive message", room);
-    EXPECT(needed == 1 && kept == room + 1 - used, "the numbers that it takes", needed);
+  size_t capacity, needed, kept, length, words;
+  for (capacity = 0; capacity <= 3; capacity++) {
+    uint32_t enough = capacity == 0 ? CAPVET_BUFFER_TOO_SMALL : CAPVET_OK;
+    size_t used = capacity == 0 ? 0 : 1;
+    EXPECT(marked(TWO, sizeof TWO, capacity, &needed, &kept, &r) == enough, "an exclusive message", capacity);
+    EXPECT(needed == 1 && kept == capacity + 1 - used, "the numbers that it takes", needed);
     EXPECT(r.length == 56 && r.segments == 2 && r.detail == 0, "its frame", r.length);
     EXPECT(r.charge == 4 && r.pointers == 3 && r.depth == 1, "its tree", r.charge);
     EXPECT(r.capabilities == 1 && r.segment == 1 && r.word == 3, "its capability", r.word);
-    enough = room == 0 ? CAPVET_BUFFER_TOO_SMALL : CAPVET_OVERLAP;
-    EXPECT(marked(SHARED, sizeof SHARED, room, &needed, &kept, &r) == enough, "words that are used twice", room);
-    EXPECT(needed == 1 && kept == room + 1 - used, "the numbers that their marks take", needed);
+    enough = capacity == 0 ? CAPVET_BUFFER_TOO_SMALL : CAPVET_OVERLAP;
+    EXPECT(marked(SHARED, sizeof SHARED, capacity, &needed, &kept, &r) == enough, "words that are used twice", capacity);
+    EXPECT(needed == 1 && kept == capacity + 1 - used, "the numbers that their marks take", needed);
     EXPECT(r.length == 40 && r.segments == 1 && r.detail == 0, "the frame of an overlap", r.length);
-    EXPECT(r.charge == (room == 0 ? 4u : 0u) && r.capabilities == 0, "the charge of an overlap", r.charge);
-    EXPECT(r.depth == (room == 0 ? 2u : 0u), "the depth of an overlap", r.depth);
-    EXPECT(r.pointers == 3 && r.segment == 0 && r.word == (room == 0 ? 0u : 2u), "the pointer that overlaps", r.word);
-    EXPECT(marked(SHARED, 32, room, &needed, &kept, &r) == CAPVET_TRUNCATED, "marks of a cut message", room);
-    EXPECT(needed == 0 && kept == room + 1 && r.input_required == 40, "no marks of a cut message", needed);
-    enough = marked(REFUSING, sizeof REFUSING, room, &needed, &kept, &r);
+    EXPECT(r.charge == (capacity == 0 ? 4u : 0u) && r.capabilities == 0, "the charge of an overlap", r.charge);
+    EXPECT(r.depth == (capacity == 0 ? 2u : 0u), "the depth of an overlap", r.depth);
+    EXPECT(r.pointers == 3 && r.segment == 0 && r.word == (capacity == 0 ? 0u : 2u), "the pointer that overlaps", r.word);
+    EXPECT(marked(SHARED, 32, capacity, &needed, &kept, &r) == CAPVET_TRUNCATED, "marks of a cut message", capacity);
+    EXPECT(needed == 0 && kept == capacity + 1 && r.input_required == 40, "no marks of a cut message", needed);
+    enough = marked(REFUSING, sizeof REFUSING, capacity, &needed, &kept, &r);
     EXPECT(enough == CAPVET_DEPTH_LIMIT, "marks of a refused message", enough);
-    EXPECT(needed == 0 && kept == room + 1 && r.length == 16, "no marks of a refused message", needed);
+    EXPECT(needed == 0 && kept == capacity + 1 && r.length == 16, "no marks of a refused message", needed);
   }
   for (length = 0; length < 56; length++) {
     uint32_t answer = length == 0 ? CAPVET_NO_MESSAGE : CAPVET_TRUNCATED;
@@ -429,11 +429,11 @@ static void marking(void) {
   }
   for (words = 63; words <= 64; words++) {
     wide[4] = (uint8_t)words;
-    for (room = 0; room <= 3; room++) {
+    for (capacity = 0; capacity <= 3; capacity++) {
       size_t takes = words == 63 ? 1 : 2;
-      uint32_t answer = room < takes ? CAPVET_BUFFER_TOO_SMALL : CAPVET_OK;
-      EXPECT(marked(wide, 8 + 8 * words, room, &needed, &kept, &r) == answer, "a number that is full", room);
-      EXPECT(needed == takes && kept == room + 1 - (room < takes ? 0 : takes), "the numbers that are told", needed);
+      uint32_t answer = capacity < takes ? CAPVET_BUFFER_TOO_SMALL : CAPVET_OK;
+      EXPECT(marked(wide, 8 + 8 * words, capacity, &needed, &kept, &r) == answer, "a number that is full", capacity);
+      EXPECT(needed == takes && kept == capacity + 1 - (capacity < takes ? 0 : takes), "the numbers that are reported", needed);
     }
   }
 }

@@ -68,7 +68,7 @@ int main(int count, char **words) {
   while (request(file)) {
     capvet_report report;
     size_t required = 77, at, written, head;
-    uint64_t told;
+    uint64_t reported;
     uint32_t answer;
     memset(&report, 0xa5, sizeof report);
     answer = capvet_explain(input, length, &limits, text, size, &required, &report);
@@ -80,9 +80,9 @@ int main(int count, char **words) {
       head = path_line(report.pointers, line);
       if (head > written || memcmp(line, text, head) != 0) return 5;
     }
-    told = required;
+    reported = required;
     put(&answer, sizeof answer);
-    put(&told, sizeof told);
+    put(&reported, sizeof reported);
     put(&report, sizeof report);
     put(text, written);
     free(text);

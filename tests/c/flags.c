@@ -71,12 +71,12 @@ int main(int count, char **words) {
   if (file == NULL) return 2;
   while (take(file, head, sizeof head)) {
     const uint8_t *input;
-    uint8_t *room;
+    uint8_t *buffer;
     capvet_limits limits;
     capvet_report report;
     size_t required = 77, item = head[0] == EXCLUSIVE ? 8 : 1, size, own = 77, written = 0;
     uint8_t *bytes, *out;
-    uint64_t told;
+    uint64_t reported;
     uint32_t answer;
     if (!take(file, &limits, sizeof limits) || !take(file, &length, sizeof length)) return 3;
     limits.flags = named(limits.flags);
@@ -86,18 +86,18 @@ int main(int count, char **words) {
     bytes = malloc(length + 1);
     if (bytes == NULL || out == NULL || !take(file, bytes + 1, length)) return 3;
     input = length == 0 ? NULL : bytes + 1;
-    room = size == 0 ? NULL : out;
+    buffer = size == 0 ? NULL : out;
     memset(out, 0xee, size + item);
     memset(&report, 0xa5, sizeof report);
     switch (head[0]) {
       case FRAME: answer = capvet_frame(input, length, &limits, &report); break;
       case VET: answer = capvet_vet(input, length, &limits, &report); break;
       case EXCLUSIVE:
-        answer = capvet_vet_exclusive(input, length, &limits, (uint64_t *)(void *)room, head[1], &required, &report);
+        answer = capvet_vet_exclusive(input, length, &limits, (uint64_t *)(void *)buffer, head[1], &required, &report);
         if (answer == CAPVET_OK || answer == CAPVET_OVERLAP) written = 8 * required;
         break;
       case CANONICAL:
-        answer = capvet_canonical(input, length, &limits, room, size, &required, &report);
+        answer = capvet_canonical(input, length, &limits, buffer, size, &required, &report);
         if (answer == CAPVET_OK) written = required;
         break;
       case SEGMENT_AT:
@@ -110,9 +110,9 @@ int main(int count, char **words) {
     }
     if (written > size) return 4;
     are_kept(out, written, size + item);
-    told = head[0] == EXCLUSIVE || head[0] == CANONICAL || head[0] == SEGMENT_AT ? required : 0;
+    reported = head[0] == EXCLUSIVE || head[0] == CANONICAL || head[0] == SEGMENT_AT ? required : 0;
     put(&answer, sizeof answer);
-    put(&told, sizeof told);
+    put(&reported, sizeof reported);
     put(&report, sizeof report);
     if (head[0] == CANONICAL && answer == CAPVET_OK) put(out, written);
     free(bytes);

@@ -115,21 +115,21 @@ static int copy(unsigned long n, const uint8_t *bytes, size_t length, const capv
   return 0;
 }
 
-/* The answer with `room` numbers for the marks. These numbers and one more are all ones before. The numbers
+/* The answer with `capacity` numbers for the marks. These numbers and one more are all ones before. The numbers
  * that aren't needed stay so, and so does the one more. */
-static uint32_t marked(const uint8_t *bytes, size_t length, const capvet_limits *limits, size_t room, size_t *needed,
+static uint32_t marked(const uint8_t *bytes, size_t length, const capvet_limits *limits, size_t capacity, size_t *needed,
                        capvet_report *report) {
-  uint64_t *marks = malloc(8 * room + 8);
+  uint64_t *marks = malloc(8 * capacity + 8);
   uint32_t answer;
   size_t k, from;
   if (marks == NULL) exit(3);
-  memset(marks, 0xff, 8 * room + 8);
+  memset(marks, 0xff, 8 * capacity + 8);
   *needed = 77;
   memset(report, 0xa5, sizeof *report);
-  answer = capvet_vet_exclusive(bytes, length, limits, marks, room, needed, report);
+  answer = capvet_vet_exclusive(bytes, length, limits, marks, capacity, needed, report);
   from = answer == CAPVET_OK || answer == CAPVET_OVERLAP ? *needed : 0;
-  if (from > room) exit(4);
-  for (k = from; k <= room; k++)
+  if (from > capacity) exit(4);
+  for (k = from; k <= capacity; k++)
     if (marks[k] != UINT64_MAX) exit(4);
   free(marks);
   return answer;

@@ -35,16 +35,16 @@ static const uint8_t WORDS[48] = {0, 0, 0, 0, 0, 0, 0, 0, 0, 0, 0, 0, 0, 0, 0, 0
                                   8, 0, 0, 0, 3, 0, 2, 0, 1, 2, 3, 4, 5, 6, 7, 8, 0x11, 0, 0x33, 0, 0, 0, 0, 0};
 static const uint8_t TEXT[19] = {0, 2, 0x51, 8, 3, 2, 255, 1, 2, 3, 4, 5, 6, 7, 8, 0, 5, 0x11, 0x33};
 
-/* The answer for a prefix of WORDS, with an output buffer of `room` bytes. `got` has the buffer's bytes then. */
-static uint32_t packed(size_t length, size_t room, size_t *written, uint8_t *got) {
-  uint8_t *from = block(length), *out = block(room);
+/* The answer for a prefix of WORDS, with an output buffer of `capacity` bytes. `got` has the buffer's bytes then. */
+static uint32_t packed(size_t length, size_t capacity, size_t *written, uint8_t *got) {
+  uint8_t *from = block(length), *out = block(capacity);
   uint32_t answer;
   memcpy(from + 1, WORDS, length);
-  memset(out, 0xee, room + 1);
+  memset(out, 0xee, capacity + 1);
   *written = 77;
-  answer = capvet_pack(from + 1, length, out + 1, room, written);
+  answer = capvet_pack(from + 1, length, out + 1, capacity, written);
   expect(memcmp(from + 1, WORDS, length) == 0, "the words stay", length);
-  memcpy(got, out + 1, room);
+  memcpy(got, out + 1, capacity);
   free(out);
   free(from);
   return answer;
@@ -55,7 +55,7 @@ static void known(void) {
   /* how many bytes the texts of the first words have */
   static const size_t texts[] = {0, 2, 2, 2, 6, 16, 19};
   uint8_t got[24];
-  size_t length, room, written, k;
+  size_t length, capacity, written, k;
   for (length = 0; length <= sizeof WORDS; length++) {
     int whole = length % 8 == 0;
     size_t text = whole ? texts[length / 8] : 0;
@@ -66,16 +66,16 @@ static void known(void) {
       expect(got[0] == 0 && got[1] == length / 8 - 1, "a run of zero words", got[1]);
     else
       expect(memcmp(got, TEXT, text) == 0, "the text of a front", length);
-    for (k = text; k < sizeof got; k++) expect(got[k] == 0xee, "what stands behind the text", k);
-    expect(packed(length, 0, &written, got) == (text > 0 ? (uint32_t)CAPVET_BUFFER_TOO_SMALL : answer), "no room", length);
-    expect(written == text, "the length that is told without room", written);
+    for (k = text; k < sizeof got; k++) expect(got[k] == 0xee, "what is after the text", k);
+    expect(packed(length, 0, &written, got) == (text > 0 ? (uint32_t)CAPVET_BUFFER_TOO_SMALL : answer), "no capacity", length);
+    expect(written == text, "the length that is reported without capacity", written);
   }
-  for (room = 0; room <= sizeof TEXT; room++) {
-    int fits = room == sizeof TEXT;
-    uint32_t answer = packed(sizeof WORDS, room, &written, got);
-    expect(answer == (fits ? (uint32_t)CAPVET_OK : (uint32_t)CAPVET_BUFFER_TOO_SMALL), "the answer of a room", answer);
+  for (capacity = 0; capacity <= sizeof TEXT; capacity++) {
+    int fits = capacity == sizeof TEXT;
+    uint32_t answer = packed(sizeof WORDS, capacity, &written, got);
+    expect(answer == (fits ? (uint32_t)CAPVET_OK : (uint32_t)CAPVET_BUFFER_TOO_SMALL), "the answer of a capacity", answer);
     expect(written == sizeof TEXT, "the length that it takes", written);
-    for (k = 0; !fits && k < room; k++) expect(got[k] == 0xee, "the room stays where it is too small", k);
+    for (k = 0; !fits && k < capacity; k++) expect(got[k] == 0xee, "the buffer stays where it is too small", k);
   }
 }
 

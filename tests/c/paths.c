@@ -74,7 +74,7 @@ int main(int count, char **words) {
   while (request(file)) {
     capvet_report report;
     size_t required = 77, at, written;
-    uint64_t told;
+    uint64_t reported;
     uint32_t answer;
     memset(&report, 0xa5, sizeof report);
     answer = capvet_pointer_path(input, length, &limits, number, steps, capacity, &required, &report);
@@ -83,9 +83,9 @@ int main(int count, char **words) {
     for (at = written * sizeof *steps; at < capacity * sizeof *steps; at++)
       if (((const uint8_t *)steps)[at] != 0xa5) return 4;
     leads_on(written);
-    told = required;
+    reported = required;
     put(&answer, sizeof answer);
-    put(&told, sizeof told);
+    put(&reported, sizeof reported);
     put(&report, sizeof report);
     put(steps, written * sizeof *steps);
     memset(&report, 0xa5, sizeof report);

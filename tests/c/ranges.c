@@ -86,7 +86,7 @@ int main(int count, char **words) {
   while (request(file)) {
     capvet_report report;
     size_t found = 77, at;
-    uint64_t told;
+    uint64_t reported;
     uint32_t answer;
     memset(&report, 0xa5, sizeof report);
     answer = capvet_get_range(input, length, &limits, steps, step_count, (size_t)varying, nodes, node_count, &found, &report);
@@ -94,9 +94,9 @@ int main(int count, char **words) {
     for (at = found * sizeof *nodes; at < node_count * sizeof *nodes; at++)
       if (((const uint8_t *)nodes)[at] != 0xa5) return 4;
     if (answer != CAPVET_BAD_PATH && answer != CAPVET_BAD_LIMITS) are_single(answer, found, &report);
-    told = found;
+    reported = found;
     put(&answer, sizeof answer);
-    put(&told, sizeof told);
+    put(&reported, sizeof reported);
     put(nodes, found * sizeof *nodes);
     put(&report, sizeof report);
     free(steps);

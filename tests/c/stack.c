@@ -45,7 +45,7 @@ static capvet_report report;
 static capvet_unpacking state;
 static size_t required, other;
 /* The size of output buffers: all of them, or nothing. */
-static size_t room;
+static size_t capacity;
 static uint32_t answer;
 
 static int called;
@@ -60,10 +60,10 @@ static __attribute__((noinline)) void make_call(void) {
     case SEGMENT_AT: answer = capvet_segment_at(bytes, length, 1, &required, &other); break;
     case VET: answer = capvet_vet(bytes, length, &limits, &report); break;
     case EXCLUSIVE:
-      answer = capvet_vet_exclusive(bytes, length, &limits, marks, room / 64, &required, &report);
+      answer = capvet_vet_exclusive(bytes, length, &limits, marks, capacity / 64, &required, &report);
       break;
     case SEGMENTS: answer = capvet_vet_segments(segments, segment_count, &limits, &report); break;
-    case CANONICAL: answer = capvet_canonical(bytes, length, &limits, out, room, &required, &report); break;
+    case CANONICAL: answer = capvet_canonical(bytes, length, &limits, out, capacity, &required, &report); break;
     case IS_CANONICAL: answer = capvet_is_canonical(bytes, length, &limits, &report); break;
     case GET: answer = capvet_get(bytes, length, &limits, path, path_length, nodes, &report); break;
     case RANGE:
@@ -71,15 +71,15 @@ static __attribute__((noinline)) void make_call(void) {
                                 &required, &report);
       break;
     case POINTER_PATH:
-      answer = capvet_pointer_path(bytes, length, &limits, number, found_steps, room / sizeof *found_steps, &required, &report);
+      answer = capvet_pointer_path(bytes, length, &limits, number, found_steps, capacity / sizeof *found_steps, &required, &report);
       break;
     case EARLIER: answer = capvet_earlier_pointer(bytes, length, &limits, number, &report); break;
-    case EXPLAIN: answer = capvet_explain(bytes, length, &limits, text, room / 64, &required, &report); break;
-    case PACK: answer = capvet_pack(bytes, length, packed, room, &required); break;
-    case UNPACK: answer = capvet_unpack(packed, packed_length, out, room, &required); break;
-    case PACK_MESSAGE: answer = capvet_pack_message(bytes, length, &limits, packed, room, &required, &report); break;
+    case EXPLAIN: answer = capvet_explain(bytes, length, &limits, text, capacity / 64, &required, &report); break;
+    case PACK: answer = capvet_pack(bytes, length, packed, capacity, &required); break;
+    case UNPACK: answer = capvet_unpack(packed, packed_length, out, capacity, &required); break;
+    case PACK_MESSAGE: answer = capvet_pack_message(bytes, length, &limits, packed, capacity, &required, &report); break;
     case UNPACK_MESSAGE:
-      answer = capvet_unpack_message(packed, packed_length, &limits, out, room, &state, &other, &required, &report);
+      answer = capvet_unpack_message(packed, packed_length, &limits, out, capacity, &state, &other, &required, &report);
       break;
     case BOUNDS:
       required = capvet_marks_bound(length) + capvet_canonical_bound(length) + capvet_pack_bound(length) +
@@ -92,7 +92,7 @@ static __attribute__((noinline)) void make_call(void) {
 /* How far below make_call's frame a call has written. */
 static size_t taken(int call, size_t size) {
   size_t at = 0;
-  room = size;
+  capacity = size;
   memset(&state, 0, sizeof state);
   memset(stack, PAINT, STACK);
   called = call;

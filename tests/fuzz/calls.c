@@ -177,12 +177,12 @@ static void check_segments(fuzz_input *in, capvet_answer answer, const capvet_re
     RULE(capvet_segment_at(in->bytes, in->length, at, &offset, &segments[at].length) == CAPVET_OK);
     segments[at].bytes = segments[at].length != 0 ? in->bytes + offset : NULL;
   }
-  capvet_report again, wanted = *report;
+  capvet_report again, expected = *report;
   const capvet_answer separate = capvet_vet_segments(segments, report->segments, &in->limits, &again);
   reached_answer(SEGMENTS, separate);
   if (answer != CAPVET_TRAILING) {
-    wanted.length = 8 * words_of_all(in, report);
-    RULE(separate == answer && is_equal(&wanted, &again));
+    expected.length = 8 * words_of_all(in, report);
+    RULE(separate == answer && is_equal(&expected, &again));
   }
   const size_t at = choose(in, report->segments);
   if (segments[at].length != 0) {
@@ -325,11 +325,11 @@ static void check_range(fuzz_input *in, const capvet_step *steps, size_t count) 
   for (size_t at = 0; at < found + (found < many); at++) {
     capvet_node node;
     path[varying].number = steps[varying].number + (uint32_t)at;
-    const capvet_answer wanted = node_of(in, path, count, &node, &one);
+    const capvet_answer expected = node_of(in, path, count, &node, &one);
     if (at < found) {
-      RULE(wanted == CAPVET_OK && memcmp(&node, &nodes[at], sizeof node) == 0);
-    } else if (wanted != CAPVET_BAD_PATH) {
-      RULE(answer == wanted && is_equal(&report, &one));
+      RULE(expected == CAPVET_OK && memcmp(&node, &nodes[at], sizeof node) == 0);
+    } else if (expected != CAPVET_BAD_PATH) {
+      RULE(answer == expected && is_equal(&report, &one));
     }
   }
 }

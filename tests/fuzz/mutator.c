@@ -91,8 +91,8 @@ static void change_segments(frame *it) {
   const uint32_t segments = 1 + below(4);
   const size_t table = WORD * (segments / 2 + 1);
   uint8_t *words = it->table + table;
-  const size_t room = it->most * WORD + (size_t)(it->words - it->table);
-  if (table + WORD * it->count > room) return;
+  const size_t capacity = it->most * WORD + (size_t)(it->words - it->table);
+  if (table + WORD * it->count > capacity) return;
   memmove(words, it->words, WORD * it->count);
   memset(it->table, 0, table);
   put(it->table, segments - 1);
@@ -104,7 +104,7 @@ static void change_segments(frame *it) {
   }
   it->segments = segments;
   it->words = words;
-  it->most = (room - table) / WORD;
+  it->most = (capacity - table) / WORD;
 }
 
 /* Makes the last segment take what the others leave. */

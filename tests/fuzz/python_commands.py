@@ -258,15 +258,15 @@ def check_killed(file, words, chance):
         send(run, is_inside, is_idle)
         if is_inside and run.is_at_lost and way == "inside":
             os._exit(9)
-    wanted = ran("vet", *words, *(it for it in names if way != "at" or str(it) != lost))
+    expected = ran("vet", *words, *(it for it in names if way != "at" or str(it) != lost))
     with mock.patch.multiple(vetting._Run, vet=vet_or_end, vet_file=file_or_end, send=send_or_end), \
             mock.patch.multiple(vetting, _MOST_FILES=most, _SECONDS=0 if way == "inside" else vetting._SECONDS):
         status, text, said = ran("vet", *words, "--jobs", chance.choice((1, 2)), *names)
     if way == "after" or file.stat().st_size == 0:
         # (one that ends between two files may have got the second one)
-        assert way == "after" and most == 1 and text.startswith("files 3 ") or way == "at" or (status, text, said) == wanted
+        assert way == "after" and most == 1 and text.startswith("files 3 ") or way == "at" or (status, text, said) == expected
         return
-    head, _, rest = wanted[1].partition("\n")
+    head, _, rest = expected[1].partition("\n")
     end = f"{head.replace('files 2', 'files 3')}\n{rest}failed KilledWorker 1\n"
     assert status == 3 and text.startswith("files 3 ") and text.endswith("failed KilledWorker 1\n")
     assert way == "inside" or text == end

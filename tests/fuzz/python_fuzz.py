@@ -231,20 +231,20 @@ def check_streams(data, limits, chance):
     if limits.no_table:
         assert is_error(result(capvet.MessageFeed, **options))
         return
-    wanted = seen(capvet.messages(data, **options))
-    assert wanted == seen(again(capvet.read_messages(Pieces(data, chance), **options)))
-    assert wanted == seen(again(capvet.read_messages(io.BufferedReader(Pieces(data, chance), 16), **options)))
-    assert wanted == seen(fed(data, chance, **options))
+    expected = seen(capvet.messages(data, **options))
+    assert expected == seen(again(capvet.read_messages(Pieces(data, chance), **options)))
+    assert expected == seen(again(capvet.read_messages(io.BufferedReader(Pieces(data, chance), 16), **options)))
+    assert expected == seen(fed(data, chance, **options))
     left = capvet.MessageFeed(**options)
     left.feed(data)
-    assert not wanted[0] or "were not read" in str(raised(left.close))
+    assert not expected[0] or "were not read" in str(raised(left.close))
     # (any bytes as a packed stream, and this stream packed)
     for packed in (data, capvet.pack(data[:len(data) // 8 * 8])):
         one = seen(capvet.read_messages(io.BytesIO(packed), packed=True, **options))
         assert one == seen(again(capvet.read_messages(Pieces(packed, chance), packed=True, **options)))
         assert one == seen(fed(packed, chance, packed=True, **options))
     # (of a part of a word nothing is packed, so then the end may be another one)
-    assert one[0] == wanted[0] and (one[1] == wanted[1] or len(data) % 8 > 0)
+    assert one[0] == expected[0] and (one[1] == expected[1] or len(data) % 8 > 0)
 
 
 def check_nodes(data, limits, chance, report):

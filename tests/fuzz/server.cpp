@@ -290,8 +290,8 @@ class Run {
     RULE(client.hasAddress() && client.isServed && client.refusals++ == 0);
     client.isUnread = refusal.cause == capvet::Cause::UNREAD;
     if (client.isUnread) return;
-    const auto wanted = client.model.refusal(client.end);
-    RULE(refusal.cause == wanted.cause && kj::str(refusal) == kj::str(wanted));
+    const auto expected = client.model.refusal(client.end);
+    RULE(refusal.cause == expected.cause && kj::str(refusal) == kj::str(expected));
   }
 
   // The peer of an address with a port.

@@ -248,7 +248,7 @@ class Run {
   bool isLost() const { return end == STALLS && model.answer == CAPVET_TRUNCATED && !isInTime(); }
 
   // The text of the exception at the end, or null for the end of the stream.
-  kj::String wanted() const {
+  kj::String expected() const {
     if (model.answer == CAPVET_OK || (model.answer == CAPVET_TRUNCATED && end == FAILS)) {
       return end == FAILS ? kj::str(FAILURE) : kj::String();
     }
@@ -273,7 +273,7 @@ class Run {
   }
 
   void checkEnd(const kj::Exception *exception, bool isAgain) {
-    const auto text = wanted();
+    const auto text = expected();
     if (isLost() && way != AROUND) {
       RULE(isAgain && exception != nullptr);
       RULE(exception->getDescription().startsWith("capvet: a read was canceled inside a message"));

@@ -13,18 +13,18 @@ namespace {
 
 const capnp::ReaderOptions NONE{0, 0};
 
-struct Wanted {
+struct Expected {
   capvet_answer answer;
   capvet_report report;
 };
 
 bool isEqual(const capvet_report &one, const capvet_report &two) { return memcmp(&one, &two, sizeof one) == 0; }
 
-Wanted wantedOf(const fuzz_input &in, kj::ArrayPtr<const kj::byte> bytes) {
-  Wanted wanted = {CAPVET_BAD_LIMITS, {}};
-  if ((in.limits.flags & CAPVET_NO_TABLE) != 0) return wanted;
-  wanted.answer = capvet_vet(bytes.begin(), bytes.size(), &in.limits, &wanted.report);
-  return wanted;
+Expected expectedOf(const fuzz_input &in, kj::ArrayPtr<const kj::byte> bytes) {
+  Expected expected = {CAPVET_BAD_LIMITS, {}};
+  if ((in.limits.flags & CAPVET_NO_TABLE) != 0) return expected;
+  expected.answer = capvet_vet(bytes.begin(), bytes.size(), &in.limits, &expected.report);
+  return expected;
 }
 
 // The canonical form, as hexadecimal digits.
@@ -81,38 +81,38 @@ void checkPath(const fuzz_input &in, const capvet::Refusal &refusal) {
 
 // The bytes that are borrowed, by both functions.
 void checkBorrowed(const fuzz_input &in, const capvet::Options &options, kj::ArrayPtr<const kj::byte> bytes) {
-  const auto wanted = wantedOf(in, bytes);
+  const auto expected = expectedOf(in, bytes);
   capvet::Refusal refusal;
   auto tried = capvet::tryVetted(bytes, refusal, options, NONE);
   auto *message = capvet::valueOf(tried);
   reached_answer(0, refusal.answer);
-  RULE(refusal.answer == wanted.answer && isEqual(refusal.report, wanted.report));
-  RULE((message != nullptr) == (wanted.answer == CAPVET_OK));
+  RULE(refusal.answer == expected.answer && isEqual(refusal.report, expected.report));
+  RULE((message != nullptr) == (expected.answer == CAPVET_OK));
   RULE(refusal.bytes.begin() == bytes.begin() && refusal.bytes.size() == bytes.size());
   checkPath(in, refusal);
   auto thrown = kj::runCatchingExceptions([&]() {
     auto same = capvet::vetted(bytes, options, NONE);
-    RULE(isEqual(same.report(), wanted.report));
+    RULE(isEqual(same.report(), expected.report));
   });
   auto *exception = capvet::valueOf(thrown);
-  RULE((exception != nullptr) == (wanted.answer != CAPVET_OK));
+  RULE((exception != nullptr) == (expected.answer != CAPVET_OK));
   if (exception != nullptr) RULE(exception->getDescription() == kj::str(refusal));
-  if (message != nullptr) readAll(in, *message, bytes.slice(0, wanted.report.length), options.readings > 1);
+  if (message != nullptr) readAll(in, *message, bytes.slice(0, expected.report.length), options.readings > 1);
 }
 
 // The bytes that are passed on, which the message keeps when it is moved.
 void checkOwned(const fuzz_input &in, const capvet::Options &options, kj::ArrayPtr<const kj::byte> bytes) {
-  const auto wanted = wantedOf(in, bytes);
+  const auto expected = expectedOf(in, bytes);
   capvet::Refusal refusal;
   auto tried = capvet::tryVetted(kj::heapArray<kj::byte>(bytes), refusal, options, NONE);
-  RULE(refusal.answer == wanted.answer && isEqual(refusal.report, wanted.report) && refusal.bytes.size() == 0);
+  RULE(refusal.answer == expected.answer && isEqual(refusal.report, expected.report) && refusal.bytes.size() == 0);
   auto thrown = kj::runCatchingExceptions([&]() {
     auto same = capvet::vetted(kj::heapArray<kj::byte>(bytes), options, NONE);
     auto moved = kj::mv(same);
-    readAll(in, moved, bytes.slice(0, wanted.report.length), options.readings > 1);
+    readAll(in, moved, bytes.slice(0, expected.report.length), options.readings > 1);
   });
-  RULE((capvet::valueOf(thrown) != nullptr) == (wanted.answer != CAPVET_OK));
-  RULE((capvet::valueOf(tried) != nullptr) == (wanted.answer == CAPVET_OK));
+  RULE((capvet::valueOf(thrown) != nullptr) == (expected.answer != CAPVET_OK));
+  RULE((capvet::valueOf(tried) != nullptr) == (expected.answer == CAPVET_OK));
 }
 
 }  // namespace

@@ -128,11 +128,11 @@ func compare(got []byte, messages int, counted *tally) {
 		return
 	}
 	p := planned(connectionOf(got), messages)
-	wanted := p.sent[:p.passed]
+	want := p.sent[:p.passed]
 	switch {
-	case bytes.Equal(got, wanted):
+	case bytes.Equal(got, want):
 		counted.messages.Add(int64(p.count))
-	case bytes.HasPrefix(wanted, got):
+	case bytes.HasPrefix(want, got):
 		counted.lost.Add(1)
 	default:
 		counted.wrong.Add(1)

@@ -81,7 +81,7 @@ function checkRefused(it, message, verdict, text) {
   const names = facts.filter((fact) => fact.at !== null).map((fact) => fact.name);
   check("the words of the facts", facts.every((fact) => fact.at === null || fact.text.startsWith(beginning(message, fact))), it);
   check("the pointer is a fact", names[0] === "pointer", it);
-  const hasFact = (wanted) => facts.some(({ name }) => name === wanted);
+  const hasFact = (expected) => facts.some(({ name }) => name === expected);
   check("the segment is a fact", reason === "Overlap" || hasFact("leads into"), it);
   check("the charge is a fact", (reason === "WordLimit") === hasFact("charge up to here"), it);
   check("a circle", facts.every((fact) => fact.name !== "circle" || isCircle(message, fact)), it);

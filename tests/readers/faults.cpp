@@ -72,7 +72,7 @@ struct Case {
       : io(io), pipe(io.provider->newCapabilityPipe()), reader(kj::heap<Reader>(kind, kj::mv(pipe.ends[0]), options, kj::mv(onRefused))) {}
 
   void note(const capvet::Refusal &refusal) {
-    told += std::string(" [") + kj::str(refusal).cStr() + ", " + std::to_string(refusal.bytes.size()) + " bytes]";
+    reported += std::string(" [") + kj::str(refusal).cStr() + ", " + std::to_string(refusal.bytes.size()) + " bytes]";
   }
   void write(const Bytes &bytes) { pipe.ends[1]->write(bytes.data(), bytes.size()).wait(io.waitScope); }
   void end() { pipe.ends[1]->shutdownWrite(); }
@@ -81,12 +81,12 @@ struct Case {
   std::string reads(int count) {
     std::string text;
     for (int at = 0; at < count; at++) text += read() + "; ";
-    return text + told;
+    return text + reported;
   }
 
   kj::AsyncIoContext &io;
   kj::CapabilityPipe pipe;
-  std::string told;
+  std::string reported;
   kj::Own<Reader> reader;
 };
 
@@ -107,16 +107,16 @@ std::string throwing(int kind, kj::AsyncIoContext &io) {
 // A callback that destroys the stream that calls it.
 std::string dropping(int kind, kj::AsyncIoContext &io) {
   kj::Own<Reader> *reader = nullptr;
-  std::string told;
-  Case it(kind, io, {}, [&reader, &told](const capvet::Refusal &refusal) {
-    told = kj::str(refusal).cStr();
+  std::string reported;
+  Case it(kind, io, {}, [&reader, &reported](const capvet::Refusal &refusal) {
+    reported = kj::str(refusal).cStr();
     *reader = nullptr;
-    told += ", " + std::to_string(refusal.peer.size()) + " letters of a peer";
+    reported += ", " + std::to_string(refusal.peer.size()) + " letters of a peer";
   });
   reader = &it.reader;
   it.write(CYCLE + OK);
   auto reading = it.reader->read();
-  return reading.wait(io.waitScope) + "; " + told;
+  return reading.wait(io.waitScope) + "; " + reported;
 }
 
 std::string badLimits(int kind, kj::AsyncIoContext &io) {
@@ -172,7 +172,7 @@ std::string slow(int kind, kj::AsyncIoContext &io) {
     KJ_ASSERT(!reading.poll(io.waitScope));
     it.pipe.ends[1]->write(&byte, 1).wait(io.waitScope);
   }
-  return reading.wait(io.waitScope) + it.told;
+  return reading.wait(io.waitScope) + it.reported;
 }
 
 // Writes to a peer that reads nothing: the buffers of the system fill up, and then the write fails at its time.
@@ -195,7 +195,7 @@ std::string unread(int kind, kj::AsyncIoContext &io, bool refuses) {
   text += wrote(it.reader->messages->writeMessage(segments)).wait(io.waitScope) + "; ";
   if (!refuses) text += reading.wait(io.waitScope) + "; ";
   io.provider->getTimer().afterDelay(1 * kj::MILLISECONDS).wait(io.waitScope);
-  return text + it.read() + ";" + it.told;
+  return text + it.read() + ";" + it.reported;
 }
 
 // A callback that destroys the stream whose write has failed.
@@ -204,10 +204,10 @@ std::string droppingUnread(int kind, kj::AsyncIoContext &io) {
   options.timer = &io.provider->getTimer();
   options.unread = 60 * kj::MILLISECONDS;
   kj::Own<Reader> *reader = nullptr;
-  std::string told;
-  Case it(kind, io, options, [&reader, &told](const capvet::Refusal &refusal) {
+  std::string reported;
+  Case it(kind, io, options, [&reader, &reported](const capvet::Refusal &refusal) {
     *reader = nullptr;
-    told = kj::str(refusal).cStr();
+    reported = kj::str(refusal).cStr();
   });
   reader = &it.reader;
   auto words = kj::heapArray<capnp::word>(1 << 20);
@@ -216,7 +216,7 @@ std::string droppingUnread(int kind, kj::AsyncIoContext &io) {
   auto writing = it.reader->messages->writeMessage(segments);
   auto failed = kj::runCatchingExceptions([&]() { writing.wait(io.waitScope); });
   auto *exception = capvet::valueOf(failed);
-  return told + "; " + (exception == nullptr ? "written" : exception->getDescription().cStr());
+  return reported + "; " + (exception == nullptr ? "written" : exception->getDescription().cStr());
 }
 
 // No message is read while one is being written.
@@ -234,7 +234,7 @@ std::string paced(int kind, kj::AsyncIoContext &io) {
   text += reading.poll(io.waitScope) ? "; read" : "; waits";
   auto taken = capnp::readMessage(*it.pipe.ends[1], {1 << 22, 64}).wait(io.waitScope);
   writing.wait(io.waitScope);
-  return text + "; " + reading.wait(io.waitScope) + it.told;
+  return text + "; " + reading.wait(io.waitScope) + it.reported;
 }
 
 // Messages of many sizes in pieces of many sizes: all bytes have to arrive, and in order.
@@ -312,7 +312,7 @@ std::string files(int kind, kj::AsyncIoContext &io) {
     for (auto &file : space) open += file != nullptr;
     text += std::to_string(given) + " given, " + std::to_string(open) + " open; ";
   }
-  return text + it.told;
+  return text + it.reported;
 }
 
 // Large messages whose first word is read alone, and the rest in pieces.

@@ -44,19 +44,19 @@ struct Connection {
 // Serves connections, and passes each refusal on.
 class Host final : private kj::TaskSet::ErrorHandler {
  public:
-  using Told = kj::Function<void(const capvet::Refusal &)>;
+  using Reported = kj::Function<void(const capvet::Refusal &)>;
 
-  Host(kj::Timer &timer, Told onRefused, const capvet::ServerOptions &options = {})
+  Host(kj::Timer &timer, Reported onRefused, const capvet::ServerOptions &options = {})
       : timer(timer),
-        told(kj::mv(onRefused)),
+        reported(kj::mv(onRefused)),
         options(options),
         server(service),
-        served(service, timer, options, [this](const capvet::Refusal &refusal) { told(refusal); }),
+        served(service, timer, options, [this](const capvet::Refusal &refusal) { reported(refusal); }),
         tasks(*this) {}
 
   void serve(kj::Own<kj::AsyncIoStream> stream, Way way) {
     // (moved, since kj::Function keeps what has a name by reference)
-    auto onRefused = [this](const capvet::Refusal &refusal) { told(refusal); };
+    auto onRefused = [this](const capvet::Refusal &refusal) { reported(refusal); };
     if (way == Way::SERVED) return served.serve(kj::mv(stream));
     if (way == Way::BYTES) {
       return server.accept(kj::heap<capvet::VettingIoStream>(kj::mv(stream), options.messages, kj::mv(onRefused)));
@@ -82,7 +82,7 @@ class Host final : private kj::TaskSet::ErrorHandler {
   void taskFailed(kj::Exception &&exception) override { printf("task: %s\n", exception.getDescription().cStr()); }
 
   kj::Timer &timer;
-  Told told;
+  Reported reported;
   capvet::ServerOptions options;
   capnp::Capability::Client service = kj::heap<CalculatorServer>();
   capnp::TwoPartyServer server;

@@ -65,8 +65,8 @@ class Watch final : public kj::ExceptionCallback {
     const std::string path = exception.getFile(), file = path.substr(path.rfind('/') + 1);
     const std::string text = exception.getDescription().cStr();
     const bool is_reading = file == "layout.c++" || file == "arena.c++" || file == "message.c++";
-    auto is_told = [&](const char *words) { return text.find(words) != std::string::npos; };
-    const bool is_schema = std::any_of(std::begin(OF_SCHEMAS), std::end(OF_SCHEMAS), is_told);
+    auto is_reported = [&](const char *words) { return text.find(words) != std::string::npos; };
+    const bool is_schema = std::any_of(std::begin(OF_SCHEMAS), std::end(OF_SCHEMAS), is_reported);
     if (is_reading && !is_schema) printf("threw %s: %s\n", file.c_str(), text.c_str());
     counts[is_reading ? "of schemas" : file]++;
   }

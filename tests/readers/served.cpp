@@ -59,10 +59,10 @@ int serve(const std::string &name, int seconds, uint32_t connections, bool paced
   options.messages.deadline = options.messages.unread = seconds * kj::SECONDS;
   options.messages.paced = paced;
   options.connections = options.connectionsOfAddress = connections;
-  auto told = [](const capvet::Refusal &refusal) {
+  auto reported = [](const capvet::Refusal &refusal) {
     print(kj::str("refused ", refusal.peer, " ", refusal.bytes.size(), " ", textOf(refusal)).cStr());
   };
-  Host host(io.provider->getTimer(), told, options);
+  Host host(io.provider->getTimer(), reported, options);
   auto listener = io.provider->getNetwork().parseAddress("127.0.0.1").wait(io.waitScope)->listen();
   print(std::to_string(listener->getPort()));
   auto serving = host.listen(*listener, ALL[way]).eagerlyEvaluate([](kj::Exception &&exception) {

@@ -19,7 +19,7 @@ function* chunks(bytes, size) {
 
 const hex = (bytes) => bytes && Buffer.from(bytes).toString("hex");
 const brief = ({ number, data, raw, report, refusal }) => ({ number, data: hex(data), raw: hex(raw), report, refusal: refusal?.message });
-const wanted = [...messages(stream)].map(brief);
+const expected = [...messages(stream)].map(brief);
 
 test("messages of a buffer, in place", () => {
   const found = [...messages(stream)];
@@ -79,7 +79,7 @@ test("streams in chunks of any size have the messages of the buffer", async () =
   for (const [bytes, packed] of [[stream, false], [packedWhole, true], [packedEach, true]]) {
     for (const size of [1, 2, 3, 7, 8, 9, 64, 1000, 4096, 65536, bytes.length]) {
       const found = await all(readMessages(chunks(bytes, size), { packed }));
-      assert.deepEqual(found.map(brief), wanted, `${packed} ${size}`);
+      assert.deepEqual(found.map(brief), expected, `${packed} ${size}`);
     }
   }
 });
@@ -89,7 +89,7 @@ test("each kind of source is read", async () => {
     () => [stream], () => [stream.slice().buffer], () => [new Uint8Array(0), stream, new Uint8Array(0)],
     () => Readable.from(chunks(Buffer.from(stream), 1000)), () => (async function* () { yield* chunks(stream, 999); })(),
     () => new Blob([stream]).stream(), () => new Response(stream).body];
-  for (const source of sources) assert.deepEqual((await all(readMessages(source()))).map(brief), wanted);
+  for (const source of sources) assert.deepEqual((await all(readMessages(source()))).map(brief), expected);
   for (const source of [undefined, null, "text", 3, {}, stream]) assert.throws(() => readMessages(source), TypeError);
   await assert.rejects(all(readMessages(["text"])), TypeError);
   assert.deepEqual(await all(readMessages([])), []);
@@ -247,7 +247,7 @@ test("a MessageStream has the same messages", async () => {
     for (const size of [64, 1000, bytes.length]) {
       const source = new ReadableStream({ start(it) { for (const chunk of chunks(bytes, size)) it.enqueue(chunk); it.close(); } });
       const found = await all(source.pipeThrough(new MessageStream({ packed })));
-      assert.deepEqual(found.map(brief), wanted);
+      assert.deepEqual(found.map(brief), expected);
     }
   }
 });
@@ -294,5 +294,5 @@ test("many streams take turns", async () => {
     return readMessages(chunks(packed ? packedWhole : stream, 500 + 77 * index), { packed });
   });
   const found = await Promise.all(walks.map(all));
-  for (const it of found) assert.deepEqual(it.map(brief), wanted);
+  for (const it of found) assert.deepEqual(it.map(brief), expected);
 });

@@ -90,12 +90,12 @@ def is_accepted(message):
 def test_nodes():
     data = (TOP / "examples/contacts.bin").read_bytes()
     for path in ("/", "/p0", "/p0/i1", "/p0/i1/p4", "/p0/i1/p0", "/p0/i99", "/p7"):
-        wanted = program("get", path, TOP / "examples/contacts.bin")[0].decode().splitlines()
+        expected = program("get", path, TOP / "examples/contacts.bin")[0].decode().splitlines()
         found = capvet.node(data, path)
-        assert (found is None) == (wanted == ["message 0: none"])
+        assert (found is None) == (expected == ["message 0: none"])
         if found is not None:
             assert bytes(found.data) == data[found.offset:found.offset + len(found.data)]
-            words = re.findall(r"^  \w+ (\w+)$", "\n".join(wanted[2:]), re.M)
+            words = re.findall(r"^  \w+ (\w+)$", "\n".join(expected[2:]), re.M)
             assert bytes(found.data).hex().ljust(16 * len(words), "0") == "".join(words) or found.kind == "structs"
     for path, position in (("", 0), ("/x", 1), ("/p01", 3), ("/p65536", 6)):
         with pytest.raises(capvet.PathError) as error:

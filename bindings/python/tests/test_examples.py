@@ -72,10 +72,10 @@ def test_changed_messages():
     messages = many(300, seed=11)
     with server() as (process, connect):
         for message in messages:
-            wanted, is_accepted = of(message, 0)
+            expected, is_accepted = of(message, 0)
             with connect() as peer, peer.makefile() as lines:
                 peer.sendall(message)
                 peer.shutdown(socket.SHUT_WR)
-                assert lines.read() == wanted
-            assert is_accepted or process.stderr.readline().endswith(wanted.partition(": ")[2])
+                assert lines.read() == expected
+            assert is_accepted or process.stderr.readline().endswith(expected.partition(": ")[2])
     assert process.returncode == 0

@@ -31,9 +31,9 @@ def test_as_the_program(limits, options):
     text = program("explain", *options, data=b"".join(messages))[0].decode()
     # (the library explains one message, which is in no input)
     text = re.sub(r", byte \d+ of the input", "", text)
-    wanted = re.split(r"^message .*\n", text, flags=re.M)[1:]
-    assert len(wanted) == len(messages) and 0 < wanted.count("") < len(wanted)
-    assert explained(messages, limits) == wanted
+    expected = re.split(r"^message .*\n", text, flags=re.M)[1:]
+    assert len(expected) == len(messages) and 0 < expected.count("") < len(expected)
+    assert explained(messages, limits) == expected
 
 
 def test_lines():

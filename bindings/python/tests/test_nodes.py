@@ -39,7 +39,7 @@ def iterated(data, path, limits=capvet.DEFAULT, **which):
 
 
 def starred(data, limits, chance):
-    """A path with a star, mostly one that leads somewhere: the numbers of its steps are those of the message's objects."""
+    """A path with a star, mostly one that leads to some place: the numbers of its steps are those of the message's objects."""
     steps, path = [], ""
     while len(steps) < 9:
         try:
@@ -77,10 +77,10 @@ def test_samples_and_changed():
         path = starred(message, LAX, chance)
         which = dict(first=chance.choice((0, 0, 1, 5))) if chance.randrange(2) else {}
         which.update(dict(count=chance.randrange(8)) if chance.randrange(3) == 0 else {})
-        wanted = one_by_one(message, path, limits, **which)
-        assert iterated(message, path, limits, **which) == wanted, (message.hex(), path, limits, which)
-        seen.update(many=len(wanted[0]) > 1, refused=wanted[1] is not None, refused_later=bool(wanted[0] and wanted[1]),
-                    gaps=None in wanted[0], ended=not wanted[1])
+        expected = one_by_one(message, path, limits, **which)
+        assert iterated(message, path, limits, **which) == expected, (message.hex(), path, limits, which)
+        seen.update(many=len(expected[0]) > 1, refused=expected[1] is not None, refused_later=bool(expected[0] and expected[1]),
+                    gaps=None in expected[0], ended=not expected[1])
     assert all(seen[name] >= 20 for name in ("many", "refused", "gaps", "ended")) and seen["refused_later"] >= 3, seen
 
 
@@ -154,9 +154,9 @@ def test_bad_paths():
                  "/i4294967296/p*", "/ö*", "/i*/p\0"):
         with pytest.raises(capvet.PathError) as error:
             capvet.nodes(b"", path)
-        with pytest.raises(capvet.PathError) as wanted:
+        with pytest.raises(capvet.PathError) as expected:
             capvet.node(b"", path.replace("*", "0", 1))
-        assert (str(error.value), vars(error.value)) == (str(wanted.value), vars(wanted.value)), path
+        assert (str(error.value), vars(error.value)) == (str(expected.value), vars(expected.value)), path
     for path, position in (("/", 1), ("/p0", 3), ("/p1*", 3), ("/p0/i1*/p1", 6), ("/i*/p*", 5), ("/i**", 3)):
         with pytest.raises(capvet.PathError) as error:
             capvet.nodes(b"", path)
@@ -168,9 +168,9 @@ def test_frames_and_limits():
         stream = capvet.nodes(data, "/p0/i*")
         with pytest.raises(capvet.FrameError) as error:
             next(stream)
-        with pytest.raises(capvet.FrameError) as wanted:
+        with pytest.raises(capvet.FrameError) as expected:
             capvet.node(data, "/p0/i0")
-        assert vars(error.value) == vars(wanted.value)
+        assert vars(error.value) == vars(expected.value)
     assert len(list(capvet.nodes(CONTACTS + b"1", "/p0/i*", limits=capvet.Limits(allow_trailing=True)))) == 7
     with pytest.raises(ValueError) as error:
         capvet.nodes(CONTACTS, "/p0/i*", limits=capvet.Limits(no_table=True))

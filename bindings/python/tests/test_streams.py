@@ -187,8 +187,8 @@ def test_feed_of_cut_streams():
     for data, is_packed in ((stream, False), (packed, True)):
         for end in range(len(data)):
             # (which test_cut and test_packed_and_cut compare with the program)
-            wanted = lines(capvet.read_messages(io.BytesIO(data[:end]), packed=is_packed, limits=LAX))
-            assert lines(fed(data[:end], 100, is_packed)) == wanted
+            expected = lines(capvet.read_messages(io.BytesIO(data[:end]), packed=is_packed, limits=LAX))
+            assert lines(fed(data[:end], 100, is_packed)) == expected
 
 
 def test_feed_yields_a_message_with_its_last_byte():

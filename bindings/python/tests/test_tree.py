@@ -37,15 +37,15 @@ def test_samples(file, options):
 
 def changed_stream():
     data = b"".join(many(2000))
-    wanted = program("dump", "--words", 2000, data=data)
-    assert wanted[0].count(b"message ") == 2000
-    return data, wanted
+    expected = program("dump", "--words", 2000, data=data)
+    assert expected[0].count(b"message ") == 2000
+    return data, expected
 
 
 def test_changed():
-    data, wanted = changed_stream()
+    data, expected = changed_stream()
     text, error, status = capvet("tree", "--words", 2000, data=data)
-    assert (without_guesses(text), error, status) == wanted
+    assert (without_guesses(text), error, status) == expected
     assert GUESS.search(text)
 
 
@@ -105,10 +105,10 @@ def test_json(file):
 
 
 def test_json_of_changed():
-    data, wanted = changed_stream()
+    data, expected = changed_stream()
     text, error, status = capvet("tree", "--json", "--words", 2000, data=data)
     messages = [json.loads(line) for line in text.decode().splitlines()]
-    assert ("".join(map(dumped_message, messages)).encode(), error, status) == wanted
+    assert ("".join(map(dumped_message, messages)).encode(), error, status) == expected
 
 
 def of_tree(node):
@@ -141,7 +141,7 @@ def test_paths_and_places(name):
 
 @pytest.mark.skipif(shutil.which("jq") is None, reason=needs.line("the JSON of tree, by jq", "jq"))
 def test_jq():
-    data, wanted = changed_stream()
+    data, expected = changed_stream()
     text = capvet("tree", "--json", "--words", 2000, data=data)[0]
     ran = subprocess.run(["jq", "-c", "."], input=text, capture_output=True)
     assert ran.returncode == 0 and ran.stderr == b""

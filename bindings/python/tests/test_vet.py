@@ -29,7 +29,7 @@ def files(tmp_path):
     return [*FILES, *made]
 
 
-def wanted_rows(files, options):
+def expected_rows(files, options):
     """The rows, by what the program prints."""
     rows, messages, accepted = [], 0, 0
     for file in files:
@@ -46,7 +46,7 @@ def wanted_rows(files, options):
 @pytest.mark.parametrize("options", [[], ["--strict", "--unamplified", "--exclusive", "--depth", 5]])
 @pytest.mark.parametrize("jobs", [1, 3])
 def test_rows(files, options, jobs):
-    rows, messages, accepted = wanted_rows(files, options)
+    rows, messages, accepted = expected_rows(files, options)
     counts = Counter((row[3] is None, row[2]) for row in rows)
     refused = sum(count for (is_stop, _), count in counts.items() if not is_stop)
     first = (f"files {len(files)} bytes {sum(file.stat().st_size for file in files)} messages {messages} accepted {accepted} "
@@ -61,9 +61,9 @@ def test_rows(files, options, jobs):
         if form:
             got = [tuple(row[name] for name in ("file", "message", "reason", "segment", "word", "pointers"))
                    for row in read(text.decode())]
-            wanted = [tuple("" if it is None and form == ["--csv"] else str(it) for it in row) for row in rows]
+            expected = [tuple("" if it is None and form == ["--csv"] else str(it) for it in row) for row in rows]
             order = sorted if jobs > 1 else list
-            assert order(tuple(map(str, row)) for row in got) == order(wanted)
+            assert order(tuple(map(str, row)) for row in got) == order(expected)
 
 
 def test_offsets(files):
@@ -260,9 +260,9 @@ def test_rows_and_trees_take_no_memory(tmp_path):
         for form in ([], ["--json"]):
             # (the message itself)
             assert memory_of(["tree", *form, name], None) < base + (8 << 20) + 1.3 * name.stat().st_size
-    wanted = program("dump", text)[0]
+    expected = program("dump", text)[0]
     got = capvet("tree", text)[0]
-    assert got.replace(b' guess "' + b"a" * (count * 8 - 1) + b'"', b"", 1) == wanted
+    assert got.replace(b' guess "' + b"a" * (count * 8 - 1) + b'"', b"", 1) == expected
     node = json.loads(capvet("tree", "--json", text)[0])["root"]
     assert len(node["words"]) == count and node["text_guess"] == "a" * (count * 8 - 1)
 

@@ -457,7 +457,7 @@ mod tests {
 
     #[test]
     fn segments_of_other_readers_are_vetted() {
-        for (bytes, wanted) in [
+        for (bytes, expected) in [
             (&FAR[..40], "accepted charge 2 depth 1 pointers 1 caps 0"),
             (
                 &[0, 0, 0, 0, 1, 0, 0, 0, 0xfc, 0xff, 0xff, 0xff, 0, 0, 1, 0],
@@ -468,7 +468,7 @@ mod tests {
             let segments = message.into_segments();
             let verdict = vet_segments(&segments, Limits::DEFAULT);
             let text = verdict.map_or_else(|error| error.to_string(), |report| report.to_string());
-            assert_eq!(text, wanted);
+            assert_eq!(text, expected);
             let framed = vetted(bytes, Limits::DEFAULT);
             assert_eq!(framed.is_ok(), verdict.is_ok());
             if let (Ok(framed), Ok(report)) = (framed, verdict) {

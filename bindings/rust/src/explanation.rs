@@ -111,7 +111,7 @@ mod tests {
 
     #[test]
     fn a_refused_message_has_lines() {
-        let wanted = "  path /
+        let expected = "  path /
   byte 8 of the message
   pointer 0100000010800000 list of empty elements, offset 0, elements 4098
   target 0:1, words 0
@@ -119,9 +119,9 @@ mod tests {
   charge up to here 4098, limit 4097
   reason the charge up to this pointer and its target is more than the limit
 ";
-        assert_eq!(lines(&AMPLIFIED, Limits::DEFAULT), wanted);
+        assert_eq!(lines(&AMPLIFIED, Limits::DEFAULT), expected);
         let debug = format!("{:?}", explain(&AMPLIFIED, Limits::DEFAULT));
-        assert_eq!(debug, format!("Ok(Some(Explanation({wanted:?})))"));
+        assert_eq!(debug, format!("Ok(Some(Explanation({expected:?})))"));
     }
 
     #[test]

@@ -256,14 +256,17 @@ mod tests {
     fn blocks_follow_one_another() {
         for count in [0, 1, 15, 16, 17, 31, 32, 33, 100] {
             let message = list_of(&capabilities(count));
-            let wanted: Vec<_> = (0..count as u32).collect();
-            assert_eq!(indices(elements(&message, 0)), wanted);
+            let expected: Vec<_> = (0..count as u32).collect();
+            assert_eq!(indices(elements(&message, 0)), expected);
             // (a slice serves too, and a vector that is borrowed)
             let steps: &[Step] = &[Pointer(0), Element(0)];
-            assert_eq!(indices(nodes(&message, steps, 1, Limits::DEFAULT)), wanted);
+            assert_eq!(
+                indices(nodes(&message, steps, 1, Limits::DEFAULT)),
+                expected
+            );
             let steps = steps.to_vec();
             let found = nodes(&message, &steps, 1, Limits::DEFAULT);
-            assert_eq!(indices(found), wanted);
+            assert_eq!(indices(found), expected);
         }
     }
 
@@ -302,10 +305,10 @@ mod tests {
             let steps = [Pointer(0), Element(from), Pointer(2), Element(0)];
             let found = nodes(CONTACTS, steps, 1, Limits::DEFAULT);
             let kinds: Result<Vec<_>, _> = found.map(|node| Ok(node?.kind())).collect();
-            let wanted = by_node(CONTACTS, steps.to_vec(), 1);
+            let expected = by_node(CONTACTS, steps.to_vec(), 1);
             assert_eq!(
-                (kinds, wanted.len()),
-                (Ok::<_, GetError>(wanted), count),
+                (kinds, expected.len()),
+                (Ok::<_, GetError>(expected), count),
                 "{from}"
             );
         }
@@ -388,12 +391,12 @@ mod tests {
             let mut lengths = Vec::new();
             for length in [200, 255, 256, 257, LONGEST - 1, LONGEST, LONGEST + 1, 2000] {
                 let steps = vec![step; length];
-                let wanted = node(&message, &text(&steps), deepest).transpose();
+                let expected = node(&message, &text(&steps), deepest).transpose();
                 for varying in [0, length / 2, length - 1] {
                     let found = nodes(&message, &steps, varying, deepest).next();
-                    assert_eq!(found, wanted, "{step:?} {length} {varying}");
+                    assert_eq!(found, expected, "{step:?} {length} {varying}");
                 }
-                lengths.extend(wanted.map(|it| it.is_ok()));
+                lengths.extend(expected.map(|it| it.is_ok()));
             }
             assert_eq!(lengths.first(), Some(&true));
             assert_eq!(lengths.last(), Some(&false));

@@ -420,7 +420,7 @@ mod tests {
         let whole = [STREAM, CYCLE, MANY_SEGMENTS].concat();
         for length in (0..whole.len()).step_by(7).chain([whole.len()]) {
             let cut = &whole[..length];
-            let wanted: Vec<_> = messages(cut, Limits::DEFAULT)
+            let expected: Vec<_> = messages(cut, Limits::DEFAULT)
                 .map(|item| {
                     item.map(|it| it.bytes().to_vec())
                         .map_err(|it| it.to_string())
@@ -428,7 +428,7 @@ mod tests {
                 .collect();
             assert_eq!(
                 texts(read_messages(cut, Limits::DEFAULT)),
-                wanted,
+                expected,
                 "{length}"
             );
         }
@@ -437,11 +437,11 @@ mod tests {
     #[test]
     fn a_packed_stream_has_the_items_of_its_words() {
         let whole = [STREAM, CYCLE, MANY_SEGMENTS].concat();
-        let wanted = texts(read_messages(&whole[..], Limits::DEFAULT));
+        let expected = texts(read_messages(&whole[..], Limits::DEFAULT));
         let stream = packed(&whole).concat();
         assert_eq!(
             texts(read_packed_messages(&stream[..], Limits::DEFAULT)),
-            wanted
+            expected
         );
         for length in (1..stream.len()).step_by(7) {
             let mut found = texts(read_packed_messages(&stream[..length], Limits::DEFAULT));
@@ -449,7 +449,7 @@ mod tests {
                 found.pop();
             }
             assert!(
-                found.len() < wanted.len() && found == wanted[..found.len()],
+                found.len() < expected.len() && found == expected[..found.len()],
                 "{length}"
             );
         }

@@ -244,12 +244,12 @@ fn calls_are_declared_as_in_the_header() {
         let (here, result) = here.split_once(") -> ").expect("a result");
         let here = here.trim().trim_end_matches(',');
         assert_eq!(here, parameters.join(", "), "{name}");
-        let wanted = if parameters.is_empty() {
+        let expected = if parameters.is_empty() {
             "u32"
         } else {
             "Answer"
         };
-        assert_eq!(result.trim_end_matches(';'), wanted, "{name}");
+        assert_eq!(result.trim_end_matches(';'), expected, "{name}");
     }
 }
 
@@ -613,13 +613,13 @@ fn a_stream_is_its_messages() {
     let lines: Vec<_> = messages(STREAM, Limits::DEFAULT)
         .map(|message| message.expect("each is accepted").report().to_string())
         .collect();
-    let wanted = [
+    let expected = [
         "accepted charge 391 depth 11 pointers 125 caps 0",
         "accepted charge 76 depth 4 pointers 34 caps 0",
         "accepted charge 20 depth 2 pointers 7 caps 0",
         "accepted charge 78 depth 7 pointers 21 caps 0",
     ];
-    assert_eq!(lines, wanted);
+    assert_eq!(lines, expected);
     let whole: Vec<u8> = messages(STREAM, Limits::DEFAULT)
         .flat_map(|message| message.expect("each is accepted").bytes().to_vec())
         .collect();

@@ -118,9 +118,9 @@ fn messages_are_accepted_and_refused_as_by_the_program() {
             let messages = capvet::messages(&stream, limits);
             let reports = messages.map(|message| message.map(|message| *message.report()));
             let texts: Vec<_> = reports.map(verdict).collect();
-            let wanted = expected(&texts, |text| text.starts_with("accepted"));
+            let expected = expected(&texts, |text| text.starts_with("accepted"));
             let printed = program("vet", &[&["vet"][..], options].concat(), &stream);
-            assert_eq!(printed, wanted, "{options:?}");
+            assert_eq!(printed, expected, "{options:?}");
         }
     }
     let known: Vec<_> = capvet::messages(&changed().concat(), Limits::DEFAULT)
@@ -252,11 +252,11 @@ fn a_word_that_is_used_twice_is_found_as_by_the_program() {
             .iter()
             .map(|it| verdict(vet_exclusive(it, limits)))
             .collect();
-        let wanted = expected(&texts, |text| text.starts_with("accepted"));
+        let expected = expected(&texts, |text| text.starts_with("accepted"));
         assert!(texts.iter().flatten().any(|text| text.contains("Overlap")));
         let options = [&["vet", "--exclusive"][..], options].concat();
         let printed = program("exclusive", &options, &changed.concat());
-        assert_eq!(printed, wanted, "{options:?}");
+        assert_eq!(printed, expected, "{options:?}");
     }
 }
 
@@ -272,13 +272,13 @@ fn messages_are_canonical_as_for_the_program() {
             .map(|result| result.map(|it| if it { "canonical" } else { "not canonical" }))
             .map(verdict)
             .collect();
-        let wanted = expected(&texts, |text| text == "canonical");
+        let expected = expected(&texts, |text| text == "canonical");
         let printed = program(
             "check",
             &[&["check"][..], options].concat(),
             &messages.concat(),
         );
-        assert_eq!(printed, wanted, "{options:?}");
+        assert_eq!(printed, expected, "{options:?}");
     }
 }
 
@@ -411,8 +411,8 @@ fn nodes_are_those_of_the_program() {
                 }
             }
         }
-        let wanted = (text.into_bytes(), Some(i32::from(refused)));
+        let expected = (text.into_bytes(), Some(i32::from(refused)));
         let printed = program("dump", &[&["dump"][..], options].concat(), &stream);
-        assert!(printed == wanted, "{options:?}");
+        assert!(printed == expected, "{options:?}");
     }
 }

@@ -5,13 +5,13 @@ use Rattle.cap_spec.proofs.ProofNames.{false≢true, IsRefused, rules}
 use Rattle.cap_vet.specs.VetNames.{IsDemandFault, Meets, IsAccepted, marks_of}
 use Rattle.cap_calls.specs.CallFindings.{JudgesAny, accepted, without}
 use Rattle.cap_calls.specs.ExclusiveCalls.{MarksAny, too_small}
-use Rattle.cap_calls.specs.CallNames.{StrictRefusal, Demands, Report, Judges, Tells, TellsWhole, framed, refused}
-use Rattle.cap_calls.specs.CallNames.{refused_found, tells, trailing, allows_trailing, demands_of, has_no_table}
-use Rattle.cap_calls.specs.CallNames.{TellsInput, of_frame, of_no_words, of_words, Marks, exclusive, overlap, Found}
+use Rattle.cap_calls.specs.CallNames.{StrictRefusal, Demands, Report, Judges, Reports, ReportsWhole, framed, refused}
+use Rattle.cap_calls.specs.CallNames.{refused_found, reports, trailing, allows_trailing, demands_of, has_no_table}
+use Rattle.cap_calls.specs.CallNames.{ReportsInput, of_frame, of_no_words, of_words, Marks, exclusive, overlap, Found}
 use Rattle.cap_calls.specs.CallNames.{CallLimits}
 use Rattle.cap_calls.proofs.Words.{one_input}
 use Rattle.cap_spec.specs.declared.StrictRefusal.TheVariants as strict
-use Rattle.cap_vet.specs.declared.exclusiveness.exclusive_room.ExclusiveFault.TheVariants as fault
+use Rattle.cap_vet.specs.declared.exclusiveness.exclusive_buffer.ExclusiveFault.TheVariants as fault
 
 -- no demand
 abbrev none : Demands
@@ -26,7 +26,7 @@ table_given l e = rw e refl
 
 -- then the input is a frame
 pub framed_input : {K : Type 0} {P : List (List ℕ) → ℕ → ℕ → Found → Type 0} (whole : Bool) (l : CallLimits)
-    (bs : List ℕ) (f : Found) → has_no_table l ≡ false → TellsInput whole K P l bs f → TellsWhole whole K P l bs f
+    (bs : List ℕ) (f : Found) → has_no_table l ≡ false → ReportsInput whole K P l bs f → ReportsWhole whole K P l bs f
 framed_input whole l bs f off (of_frame n t) = t
 framed_input whole l bs f off (of_no_words y c h e k) = one_input l off y
 framed_input whole l bs f off (of_words y g h p e) = one_input l off y
@@ -68,14 +68,14 @@ module _ {K : Type 0} {P : List (List ℕ) → Report → Found → Type 0} (l :
 marks_less : (size : ℕ) (m : List (List ℕ)) (w d : ℕ) (f : Found) → Marks size none m w d f → MarksAny size m w d f
 marks_less size m w d f (refused r h e k) =
     (let q = fault_refused m w d r h in inl (fault.Refused q.0, q.1, e ∙ ap refused_found q.2))
-marks_less size m w d f (accepted r h n (too_small few e)) = inl (fault.NoRoom (marks_of m) r, (h, few, refl), e)
+marks_less size m w d f (accepted r h n (too_small few e)) = inl (fault.BufferTooSmall (marks_of m) r, (h, few, refl), e)
 marks_less size m w d f (accepted r h n (overlap s v k enough first e)) = inl
     (fault.Overlap s v k, (r, h, enough, first), e)
 marks_less size m w d f (accepted r h n (exclusive enough j e)) = inr (r, h, j, enough, e)
 
 marks_more : (size : ℕ) (m : List (List ℕ)) (w d : ℕ) (f : Found) → MarksAny size m w d f → Marks size none m w d f
 marks_more size m w d f (inl (fault.Refused r, h, e)) = refused (strict.Refused r) h e tt
-marks_more size m w d f (inl (fault.NoRoom n r, h, e)) = accepted r h.0 (meets_none m w d r h.0)
+marks_more size m w d f (inl (fault.BufferTooSmall n r, h, e)) = accepted r h.0 (meets_none m w d r h.0)
     (too_small (omega (arith, h.1, h.2)) e)
 marks_more size m w d f (inl (fault.Overlap s v k, h, e)) = accepted h.0 h.1 (meets_none m w d h.0 h.1)
     (overlap s v k h.2 h.3 e)
@@ -97,23 +97,23 @@ all_marks_more l all size m f h =
 
 -- Bytes after the message change nothing if they may follow.
 module _ {K : Type 0} {P Q : List (List ℕ) → ℕ → ℕ → Found → Type 0} (l : CallLimits) (bs : List ℕ) (f : Found) where
-  tells_as : ((m : List (List ℕ)) (g : Found) → P m l.charge l.depth g → Q m l.charge l.depth g) → Tells K P l bs f
-      → Tells K Q l bs f
-  tells_as p (without c h e k) = without c h e k
-  tells_as p (framed m x y g h i e) = framed m x y g h (p m g i) e
+  reports_as : ((m : List (List ℕ)) (g : Found) → P m l.charge l.depth g → Q m l.charge l.depth g) → Reports K P l bs f
+      → Reports K Q l bs f
+  reports_as p (without c h e k) = without c h e k
+  reports_as p (framed m x y g h i e) = framed m x y g h (p m g i) e
 
   pub whole_as : (whole : Bool) → ((m : List (List ℕ)) (g : Found) → P m l.charge l.depth g → Q m l.charge l.depth g)
-      → TellsWhole whole K P l bs f → TellsWhole whole K Q l bs f
+      → ReportsWhole whole K P l bs f → ReportsWhole whole K Q l bs f
   whole_as whole p (trailing m x y t h more e k) = trailing m x y t h more e k
-  whole_as whole p (tells only t) = tells only (tells_as p t)
+  whole_as whole p (reports only t) = reports only (reports_as p t)
 
   pub whole_less : (whole : Bool) → whole ≡ false
       → ((m : List (List ℕ)) (g : Found) → P m l.charge l.depth g → Q m l.charge l.depth g)
-      → TellsWhole whole K P l bs f → Tells K Q l bs f
+      → ReportsWhole whole K P l bs f → Reports K Q l bs f
   whole_less whole may p (trailing m x y t h more e k) = absurd (false≢true (sym may ∙ t))
-  whole_less whole may p (tells only t) = tells_as p t
+  whole_less whole may p (reports only t) = reports_as p t
 
   pub whole_more : (whole : Bool) → whole ≡ false
       → ((m : List (List ℕ)) (g : Found) → P m l.charge l.depth g → Q m l.charge l.depth g)
-      → Tells K P l bs f → TellsWhole whole K Q l bs f
-  whole_more whole may p t = tells (λ only. absurd (false≢true (sym may ∙ only))) (tells_as p t)
+      → Reports K P l bs f → ReportsWhole whole K Q l bs f
+  whole_more whole may p t = reports (λ only. absurd (false≢true (sym may ∙ only))) (reports_as p t)

@@ -4,17 +4,17 @@ use Rattle.cap_spec.proofs.Lemmas.{one_frame, strict_not_fault, within_not_refus
 use Rattle.cap_spec.proofs.ProofNames.{Bool, Err, List, None, Ok, Option, Result, [], ap, length, not, subst}
 use Rattle.cap_spec.proofs.ProofNames.{sym, true, ℕ, ◌∙◌, ◌∷◌, ◌≡◌, ⊤, plain_words, IsStrictFault, rules}
 use Rattle.cap_spec.proofs.Strict.Faults.{one_strict_fault}
-use Rattle.cap_frame.specs.Framed.{TellsFront}
+use Rattle.cap_frame.specs.Framed.{ReportsFront}
 use Rattle.cap_frame.specs.declared.fault.FrontFault.TheVariants.{TooLarge, TooManySegments, Truncated}
 use Rattle.cap_frame.proofs.FrontAnswers.{empty_answer, large_answer, many_answer, short_answer, whole_answer}
 use Rattle.cap_vet.specs.VetNames.{IsDemandFault, Meets, words_under, IsAccepted}
 use Rattle.cap_vet.proofs.OneReport.{one_report}
 use Rattle.cap_calls.specs.CallFindings.{Returns, accepted, without}
-use Rattle.cap_calls.specs.Calls.{IsCheck, TellsCheck, TellsFrame}
+use Rattle.cap_calls.specs.Calls.{IsCheck, ReportsCheck, ReportsFrame}
 use Rattle.cap_calls.specs.CallNames.{StrictRefusal, ManySegments, Pointer, FrontFault, Framed, Demands, Report, Judges}
-use Rattle.cap_calls.specs.CallNames.{Tells, TellsWhole, framed, framed_found, none_found, refused, refused_found, tells}
-use Rattle.cap_calls.specs.CallNames.{trailing, allows_trailing, demands_of, HasFrame, HasNoFrame, TellsInput, of_frame}
-use Rattle.cap_calls.specs.CallNames.{of_no_words, of_words, TellsMessage, TellsVet, Answer, Found, NoFrame, BadLimits}
+use Rattle.cap_calls.specs.CallNames.{Reports, ReportsWhole, framed, framed_found, none_found, refused, refused_found, reports}
+use Rattle.cap_calls.specs.CallNames.{trailing, allows_trailing, demands_of, HasFrame, HasNoFrame, ReportsInput, of_frame}
+use Rattle.cap_calls.specs.CallNames.{of_no_words, of_words, ReportsMessage, ReportsVet, Answer, Found, NoFrame, BadLimits}
 use Rattle.cap_calls.specs.CallNames.{Fault, CallLimits, CallReport}
 use Rattle.cap_calls.specs.declared.front.NoFrame.TheVariants.{NoMessage}
 use Rattle.cap_calls.proofs.Words.{no_word_cause, one_input, one_word_cause}
@@ -24,14 +24,14 @@ abbrev pub Without : FrontFault → Result (Option Framed) FrontFault
 Without e = Err e
 
 -- bytes begin with no message in one way
-one_fault : (limit : ℕ) (bs : List ℕ) (a b : FrontFault) → TellsFront limit bs (Err a) → TellsFront limit bs (Err b)
+one_fault : (limit : ℕ) (bs : List ℕ) (a b : FrontFault) → ReportsFront limit bs (Err a) → ReportsFront limit bs (Err b)
     → a ≡ b
 one_fault limit bs a (TooManySegments n) h k = (let e = many_answer limit bs (Without a) n k h in cc)
 one_fault limit bs a (TooLarge n) h k = (let e = large_answer limit bs (Without a) n k h in cc)
 one_fault limit bs a (Truncated n) h k = (let e = short_answer limit bs (Without a) n k.0 k.1 h in cc)
 
 -- no bytes begin with no message in no other way
-no_fault : (limit : ℕ) (bs : List ℕ) (a : FrontFault) → bs ≡ [] → TellsFront limit bs (Err a) → ⊥
+no_fault : (limit : ℕ) (bs : List ℕ) (a : FrontFault) → bs ≡ [] → ReportsFront limit bs (Err a) → ⊥
 no_fault limit bs a e h = (let f = empty_answer limit bs (Without a) e h in cc)
 
 module _ (l : CallLimits) (bs : List ℕ) where
@@ -54,73 +54,73 @@ module _ (l : CallLimits) (bs : List ℕ) where
       (sym f.front.words ∙ g.front.words) in search rules
 
 -- What is found in one way is found in a weaker one.
-pub tells_less : {K L : Type 0} {P Q : List (List ℕ) → ℕ → ℕ → Found → Type 0} {whole : Bool} {l : CallLimits}
+pub reports_less : {K L : Type 0} {P Q : List (List ℕ) → ℕ → ℕ → Found → Type 0} {whole : Bool} {l : CallLimits}
     {bs : List ℕ} {f : Found}
-    → (K → L) → ((m : List (List ℕ)) (w d : ℕ) (g : Found) → P m w d g → Q m w d g) → TellsWhole whole K P l bs f
-    → TellsWhole whole L Q l bs f
-tells_less k p (trailing m x y t h more e i) = trailing m x y t h more e (k i)
-tells_less k p (tells none (without c h e x)) = tells none (without c h e (k x))
-tells_less {l = l} k p (tells none (framed m x y g h i e)) = tells none
+    → (K → L) → ((m : List (List ℕ)) (w d : ℕ) (g : Found) → P m w d g → Q m w d g) → ReportsWhole whole K P l bs f
+    → ReportsWhole whole L Q l bs f
+reports_less k p (trailing m x y t h more e i) = trailing m x y t h more e (k i)
+reports_less k p (reports none (without c h e x)) = reports none (without c h e (k x))
+reports_less {l = l} k p (reports none (framed m x y g h i e)) = reports none
     (framed m x y g h (p m l.charge l.depth g i) e)
 
 pub input_less : {K L : Type 0} {P Q : List (List ℕ) → ℕ → ℕ → Found → Type 0} {whole : Bool} {l : CallLimits}
     {bs : List ℕ} {f : Found}
-    → (K → L) → ((m : List (List ℕ)) (w d : ℕ) (g : Found) → P m w d g → Q m w d g) → TellsInput whole K P l bs f
-    → TellsInput whole L Q l bs f
-input_less k p (of_frame n t) = of_frame n (tells_less k p t)
+    → (K → L) → ((m : List (List ℕ)) (w d : ℕ) (g : Found) → P m w d g → Q m w d g) → ReportsInput whole K P l bs f
+    → ReportsInput whole L Q l bs f
+input_less k p (of_frame n t) = of_frame n (reports_less k p t)
 input_less k p (of_no_words y c h e x) = of_no_words y c h e (k x)
 input_less {l = l} {bs = bs} k p (of_words y g h i e) = of_words y g h (p (plain_words bs ∷ []) l.charge l.depth g i) e
 
 -- What the flag allows is what the call asked for.
 pub by_flag : {K : Type 0} {P : List (List ℕ) → ℕ → ℕ → Found → Type 0} (l : CallLimits) (bs : List ℕ) (f : Found)
     (w : Bool)
-    → w ≡ allows_trailing l → TellsInput (not w) K P l bs f → TellsInput (not (allows_trailing l)) K P l bs f
-by_flag {K} {P} l bs f w e t = subst (λ (z : Bool). TellsInput (not z) K P l bs f) e t
+    → w ≡ allows_trailing l → ReportsInput (not w) K P l bs f → ReportsInput (not (allows_trailing l)) K P l bs f
+by_flag {K} {P} l bs f w e t = subst (λ (z : Bool). ReportsInput (not z) K P l bs f) e t
 
 pub message_by_flag : {K : Type 0} {P : List (List ℕ) → ℕ → ℕ → Found → Type 0} (l : CallLimits) (bs : List ℕ)
-    (f : Found) (w : Bool) → w ≡ allows_trailing l → TellsWhole (not w) K P l bs f → TellsMessage K P l bs f
-message_by_flag {K} {P} l bs f w e t = subst (λ (z : Bool). TellsWhole (not z) K P l bs f) e t
+    (f : Found) (w : Bool) → w ≡ allows_trailing l → ReportsWhole (not w) K P l bs f → ReportsMessage K P l bs f
+message_by_flag {K} {P} l bs f w e t = subst (λ (z : Bool). ReportsWhole (not z) K P l bs f) e t
 
 -- There is one thing to be found, if there is one of each message.
-pub one_told : {K L S : Type 0} {P Q : List (List ℕ) → ℕ → ℕ → Found → Type 0} (l : CallLimits) (bs : List ℕ)
+pub one_reported : {K L S : Type 0} {P Q : List (List ℕ) → ℕ → ℕ → Found → Type 0} (l : CallLimits) (bs : List ℕ)
     (f g : Found) → (K → L → S)
     → ((m : List (List ℕ)) (h k : Found) → P m l.charge l.depth h → Q m l.charge l.depth k → (h ≡ k) × S)
-    → Tells K P l bs f → Tells L Q l bs g → (f ≡ g) × S
-one_told l bs f g both same (without c h e x) (without d k i y) =
+    → Reports K P l bs f → Reports L Q l bs g → (f ≡ g) × S
+one_reported l bs f g both same (without c h e x) (without d k i y) =
     (e ∙ (ap none_found (one_cause l bs c d h k) ∙ sym i), both x y)
-one_told l bs f g both same (without c h e x) (framed m a b v k q i) = absurd (no_cause l bs c a b m h k)
-one_told l bs f g both same (framed m a b u h p e) (without c k i y) = absurd (no_cause l bs c a b m k h)
-one_told {Q = Q} l bs f g both same (framed m a b u h p e) (framed n x y v k q i) =
+one_reported l bs f g both same (without c h e x) (framed m a b v k q i) = absurd (no_cause l bs c a b m h k)
+one_reported l bs f g both same (framed m a b u h p e) (without c k i y) = absurd (no_cause l bs c a b m k h)
+one_reported {Q = Q} l bs f g both same (framed m a b u h p e) (framed n x y v k q i) =
     search (rules, one_extent l bs a x b y m n h k)
 
 -- So is there where bytes after the message are an answer of their own.
-pub one_whole_told : {K L S : Type 0} {P Q : List (List ℕ) → ℕ → ℕ → Found → Type 0} (whole : Bool) (l : CallLimits)
+pub one_whole_reported : {K L S : Type 0} {P Q : List (List ℕ) → ℕ → ℕ → Found → Type 0} (whole : Bool) (l : CallLimits)
     (bs : List ℕ) (f g : Found)
     → (K → L → S) → ((m : List (List ℕ)) (h k : Found) → P m l.charge l.depth h → Q m l.charge l.depth k → (h ≡ k) × S)
-    → TellsWhole whole K P l bs f → TellsWhole whole L Q l bs g → (f ≡ g) × S
-one_whole_told whole l bs f g both same (tells none t) (tells also u) = one_told l bs f g both same t u
-one_whole_told whole l bs f g both same (trailing m a b t h more e x) (tells none u) = absurd
+    → ReportsWhole whole K P l bs f → ReportsWhole whole L Q l bs g → (f ≡ g) × S
+one_whole_reported whole l bs f g both same (reports none t) (reports also u) = one_reported l bs f g both same t u
+one_whole_reported whole l bs f g both same (trailing m a b t h more e x) (reports none u) = absurd
     (none t (m, a, b, h, more))
-one_whole_told whole l bs f g both same (tells none u) (trailing m a b t h more e x) = absurd
+one_whole_reported whole l bs f g both same (reports none u) (trailing m a b t h more e x) = absurd
     (none t (m, a, b, h, more))
-one_whole_told whole l bs f g both same (trailing m a b t h more e x) (trailing n c d u k less i y) =
+one_whole_reported whole l bs f g both same (trailing m a b t h more e x) (trailing n c d u k less i y) =
     search (rules, one_extent l bs a c b d m n h k)
 
 -- So there is of a call's input.
-pub one_input_told : {K L S : Type 0} {P Q : List (List ℕ) → ℕ → ℕ → Found → Type 0} (whole : Bool) (l : CallLimits)
+pub one_input_reported : {K L S : Type 0} {P Q : List (List ℕ) → ℕ → ℕ → Found → Type 0} (whole : Bool) (l : CallLimits)
     (bs : List ℕ) (f g : Found)
     → (K → L → S) → ((m : List (List ℕ)) (h k : Found) → P m l.charge l.depth h → Q m l.charge l.depth k → (h ≡ k) × S)
-    → TellsInput whole K P l bs f → TellsInput whole L Q l bs g → (f ≡ g) × S
-one_input_told whole l bs f g both same (of_frame n t) (of_frame o u) = one_whole_told whole l bs f g both same t u
-one_input_told whole l bs f g both same (of_frame n t) (of_no_words y d k i j) = one_input l n y
-one_input_told whole l bs f g both same (of_frame n t) (of_words y v k q i) = one_input l n y
-one_input_told whole l bs f g both same (of_no_words y c h e x) (of_frame n t) = one_input l n y
-one_input_told whole l bs f g both same (of_words y u h p e) (of_frame n t) = one_input l n y
-one_input_told whole l bs f g both same (of_no_words y c h e x) (of_no_words z d k i j) =
+    → ReportsInput whole K P l bs f → ReportsInput whole L Q l bs g → (f ≡ g) × S
+one_input_reported whole l bs f g both same (of_frame n t) (of_frame o u) = one_whole_reported whole l bs f g both same t u
+one_input_reported whole l bs f g both same (of_frame n t) (of_no_words y d k i j) = one_input l n y
+one_input_reported whole l bs f g both same (of_frame n t) (of_words y v k q i) = one_input l n y
+one_input_reported whole l bs f g both same (of_no_words y c h e x) (of_frame n t) = one_input l n y
+one_input_reported whole l bs f g both same (of_words y u h p e) (of_frame n t) = one_input l n y
+one_input_reported whole l bs f g both same (of_no_words y c h e x) (of_no_words z d k i j) =
     (e ∙ (ap none_found (one_word_cause l bs c d h k) ∙ sym i), both x j)
-one_input_told whole l bs f g both same (of_no_words y c h e x) (of_words z v k q i) = absurd (no_word_cause l bs c h k)
-one_input_told whole l bs f g both same (of_words y u h p e) (of_no_words z d k i j) = absurd (no_word_cause l bs d k h)
-one_input_told whole l bs f g both same (of_words y u h p e) (of_words z v k q i) =
+one_input_reported whole l bs f g both same (of_no_words y c h e x) (of_words z v k q i) = absurd (no_word_cause l bs c h k)
+one_input_reported whole l bs f g both same (of_words y u h p e) (of_no_words z d k i j) = absurd (no_word_cause l bs d k h)
+one_input_reported whole l bs f g both same (of_words y u h p e) (of_words z v k q i) =
     let s = same (plain_words bs ∷ []) u v p q in (e ∙ (ap (framed_found (length bs) 1) s.0 ∙ sym i), s.1)
 
 -- A message has one fault under demands.
@@ -164,30 +164,30 @@ pub one_returned : (f g : Found) (a b : Answer) (r q : CallReport) → f ≡ g �
 one_returned f g a b r q e (h, i) (j, k) =
     (h ∙ (ap (λ (x : Found). x.answer) e ∙ sym j), i ∙ (ap (λ (x : Found). x.report) e ∙ sym k))
 
-pub one_frame_told : (l : CallLimits) (bs : List ℕ) (a b : Answer) (r q : CallReport) → TellsFrame l bs a r
-    → TellsFrame l bs b q → (a ≡ b) × (r ≡ q)
-one_frame_told l bs a b r q (f, t, h) (g, u, k) =
-    one_returned f g a b r q (one_told {S = ⊤} l bs f g (λ _ _. tt) (λ m x y p s. (p ∙ sym s, tt)) t u).0 h k
+pub one_frame_reported : (l : CallLimits) (bs : List ℕ) (a b : Answer) (r q : CallReport) → ReportsFrame l bs a r
+    → ReportsFrame l bs b q → (a ≡ b) × (r ≡ q)
+one_frame_reported l bs a b r q (f, t, h) (g, u, k) =
+    one_returned f g a b r q (one_reported {S = ⊤} l bs f g (λ _ _. tt) (λ m x y p s. (p ∙ sym s, tt)) t u).0 h k
 
 -- What is found of an accepted message is found of the bytes.
-one_message_told : {P : List (List ℕ) → Report → Found → Type 0} (whole : Bool) (l : CallLimits) (bs : List ℕ)
+one_message_reported : {P : List (List ℕ) → Report → Found → Type 0} (whole : Bool) (l : CallLimits) (bs : List ℕ)
     (a b : Answer) (r q : CallReport)
     → ((m : List (List ℕ)) (z : Report) (x y : Found) → P m z x → P m z y → x ≡ y)
-    → (f : Found) × TellsInput whole ⊤ (Judges (demands_of l) ⊤ P) l bs f × Returns f a r
-    → (g : Found) × TellsInput whole ⊤ (Judges (demands_of l) ⊤ P) l bs g × Returns g b q → (a ≡ b) × (r ≡ q)
-one_message_told whole l bs a b r q one (f, t, h) (g, u, k) =
+    → (f : Found) × ReportsInput whole ⊤ (Judges (demands_of l) ⊤ P) l bs f × Returns f a r
+    → (g : Found) × ReportsInput whole ⊤ (Judges (demands_of l) ⊤ P) l bs g × Returns g b q → (a ≡ b) × (r ≡ q)
+one_message_reported whole l bs a b r q one (f, t, h) (g, u, k) =
     one_returned f g a b r q
-    (one_input_told {S = ⊤} whole l bs f g (λ _ _. tt)
+    (one_input_reported {S = ⊤} whole l bs f g (λ _ _. tt)
     (λ m x y p s. one_judged {S = ⊤} (demands_of l) m l.charge l.depth x y (λ _ _. tt)
     (λ z _ e i. (one m z x y e i, tt)) p s) t u).0 h k
 
-pub one_vet_told : (l : CallLimits) (bs : List ℕ) (a b : Answer) (r q : CallReport) → TellsVet l bs a r
-    → TellsVet l bs b q → (a ≡ b) × (r ≡ q)
-one_vet_told l bs a b r q t u = one_message_told (not (allows_trailing l)) l bs a b r q (λ m z x y e i. e ∙ sym i) t u
+pub one_vet_reported : (l : CallLimits) (bs : List ℕ) (a b : Answer) (r q : CallReport) → ReportsVet l bs a r
+    → ReportsVet l bs b q → (a ≡ b) × (r ≡ q)
+one_vet_reported l bs a b r q t u = one_message_reported (not (allows_trailing l)) l bs a b r q (λ m z x y e i. e ∙ sym i) t u
 
 one_check : (m : List (List ℕ)) (r : Report) (f g : Found) → IsCheck m r f → IsCheck m r g → f ≡ g
 one_check m r f g h k = search rules
 
-pub one_check_told : (l : CallLimits) (bs : List ℕ) (a b : Answer) (r q : CallReport) → TellsCheck l bs a r
-    → TellsCheck l bs b q → (a ≡ b) × (r ≡ q)
-one_check_told l bs a b r q t u = one_message_told true l bs a b r q one_check t u
+pub one_check_reported : (l : CallLimits) (bs : List ℕ) (a b : Answer) (r q : CallReport) → ReportsCheck l bs a r
+    → ReportsCheck l bs b q → (a ≡ b) × (r ≡ q)
+one_check_reported l bs a b r q t u = one_message_reported true l bs a b r q one_check t u

@@ -17,7 +17,7 @@ given_long start z p bytes old new g first f = search (rules, words_exact, lengt
 
 pub appended : (limit : ℕ) (bytes old new : List ℕ) (state : Unpacking) (g : Given) → AllByRecursion (λ b. b < 256) new
     → state.written % 8 ≡ 0 → WritesWords state.written state.zero_words state.literal_words bytes old new g
-    → ((n : ℕ) → state.written ≤ n → n < g.written → n % 8 ≡ 0 → (wanted : ℕ) × IsOpen limit (take n new) wanted)
+    → ((n : ℕ) → state.written ≤ n → n < g.written → n % 8 ≡ 0 → (needed : ℕ) × IsOpen limit (take n new) needed)
     → Appends limit bytes old state (words_given state.written new g) g.taken g.zeros g.literal new
 appended limit bytes old new state g small first f before =
     let W = state.written in

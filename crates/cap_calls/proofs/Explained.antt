@@ -14,11 +14,11 @@ use Rattle.cap_explain.specs.Explaining.{explanation}
 use Rattle.cap_trace.proofs.Named.{one_path}
 use Rattle.cap_calls.specs.CallFindings.{without}
 use Rattle.cap_calls.specs.CallReports.{refused_report}
-use Rattle.cap_calls.specs.ExplainCalls.{FindsFewLines, FindsLines, TellsExplanation, accepted, explained, fault_lines, fault_numbers}
-use Rattle.cap_calls.specs.CallNames.{Step, StrictRefusal, Demands, framed, tells, trailing, allows_trailing, demands_of}
-use Rattle.cap_calls.specs.CallNames.{TellsInput, of_frame, of_no_words, of_words, TellsText, Answer, Found, CallLimits}
+use Rattle.cap_calls.specs.ExplainCalls.{FindsFewLines, FindsLines, ReportsExplanation, accepted, explained, fault_lines, fault_numbers}
+use Rattle.cap_calls.specs.CallNames.{Step, StrictRefusal, Demands, framed, reports, trailing, allows_trailing, demands_of}
+use Rattle.cap_calls.specs.CallNames.{ReportsInput, of_frame, of_no_words, of_words, ReportsText, Answer, Found, CallLimits}
 use Rattle.cap_calls.specs.CallNames.{CallReport}
-use Rattle.cap_calls.proofs.Answers.{meets_no_fault, one_demand_fault, one_input_told, one_returned}
+use Rattle.cap_calls.proofs.Answers.{meets_no_fault, one_demand_fault, one_input_reported, one_returned}
 use Rattle.cap_calls.proofs.Copied.{same_found}
 use Rattle.cap_calls.proofs.Texts.{one_text}
 
@@ -64,30 +64,30 @@ module _ (demands : Demands) (m : List (List ℕ)) (words depth : ℕ) where
   one_lines old x y f g (explained r h t e) (explained q k u i) =
       let same : r ≡ q = one_demand_fault demands m words depth r q h k in
       let one = one_text (fault_lines demands m words depth r h) old f.answer g.answer f.count g.count x y t
-      (subst (λ (text : List ℕ). TellsText text old g.answer g.count y) (sym (one_explanation r q same h k)) u) in
+      (subst (λ (text : List ℕ). ReportsText text old g.answer g.count y) (sym (one_explanation r q same h k)) u) in
       (same_found f g one.0 one.1 (e ∙ (ap refused_report same ∙ sym i)), one.2)
   one_lines old x y f g (explained r h t e) (accepted n i k) = absurd (meets_no_fault demands m words depth r n h)
   one_lines old x y f g (accepted n e j) (explained q k u i) = absurd (meets_no_fault demands m words depth q n k)
   one_lines old x y f g (accepted n e j) (accepted o i k) = (e ∙ sym i, j ∙ sym k)
 
 -- The call answers, writes and reports one thing.
-pub one_explanation_told : (l : CallLimits) (bs old : List ℕ) (a b : Answer) (n k : ℕ) (x y : List ℕ) (r q : CallReport)
-    → TellsExplanation l bs old a n x r → TellsExplanation l bs old b k y q
+pub one_explanation_reported : (l : CallLimits) (bs old : List ℕ) (a b : Answer) (n k : ℕ) (x y : List ℕ) (r q : CallReport)
+    → ReportsExplanation l bs old a n x r → ReportsExplanation l bs old b k y q
     → (a ≡ b) × (n ≡ k) × (x ≡ y) × (r ≡ q)
-one_explanation_told l bs old a b n k x y r q (f, t, h, e) (g, u, i, j) =
-    let same = one_input_told {S = x ≡ y} (not (allows_trailing l)) l bs f g (λ s v. s ∙ sym v)
+one_explanation_reported l bs old a b n k x y r q (f, t, h, e) (g, u, i, j) =
+    let same = one_input_reported {S = x ≡ y} (not (allows_trailing l)) l bs f g (λ s v. s ∙ sym v)
     (λ m v w c d. one_lines (demands_of l) m l.charge l.depth old x y v w c d) t u in
     let one = one_returned f g a b r q same.0 h i in
     (one.0, e ∙ (ap (λ (z : Found). z.count) same.0 ∙ sym j), same.1, one.1)
 
 -- The lines are few.
 pub few_lines : (whole : Bool) (l : CallLimits) (bs old new : List ℕ) (demands : Demands) (f : Found)
-    → TellsInput whole (new ≡ old) (FindsFewLines old new demands) l bs f → f.count ≤ 6144
+    → ReportsInput whole (new ≡ old) (FindsFewLines old new demands) l bs f → f.count ≤ 6144
 few_lines whole l bs old new demands f (of_frame y (trailing m x z t h more e k)) =
     let count = ap (λ (u : Found). u.count) e in omega (arith, count)
-few_lines whole l bs old new demands f (of_frame y (tells alone (without c h e k))) =
+few_lines whole l bs old new demands f (of_frame y (reports alone (without c h e k))) =
     let count = ap (λ (u : Found). u.count) e in omega (arith, count)
-few_lines whole l bs old new demands f (of_frame y (tells alone (framed m x z g h p e))) =
+few_lines whole l bs old new demands f (of_frame y (reports alone (framed m x z g h p e))) =
     let count = ap (λ (u : Found). u.count) e in omega (arith, count, p.1)
 few_lines whole l bs old new demands f (of_no_words y c h e k) =
     let count = ap (λ (u : Found). u.count) e in omega (arith, count)

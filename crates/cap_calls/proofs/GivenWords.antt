@@ -31,7 +31,7 @@ gives_more start z p k bytes rest old out part given d e first s place size more
     let inside : at ≤ length out = omega (arith, s.fits, s.long) in
     let few : n ≤ length given = omega (arith, t.fits, size) in
     let space : length part ≤ length out - at = omega (arith, ap length place, length-take k (drop at out), length-drop at out) in
-    let behind : drop at out ≡ part ++ post =
+    let following : drop at out ≡ part ++ post =
     sym (take-append-drop k (drop at out)) ∙ ap (λ (l : List ℕ). l ++ post) (sym place) in
     let text : take (at + n) longer ≡ take at out ++ take n given = filled k out given inside few in
     let front : length (take at out) ≡ at = length-take-le at out inside in
@@ -58,7 +58,7 @@ gives_more start z p k bytes rest old out part given d e first s place size more
           ∙ (drop-append-le n given post few
           ∙ (ap (λ (l : List ℕ). l ++ post) t.rest
           ∙ (sym (drop-append-le n part post (omega (arith, few, size)))
-          ∙ (ap (drop n) (sym behind)
+          ∙ (ap (drop n) (sym following)
           ∙ (ap (drop n) s.rest ∙ drop-drop n at old))))));
       left = t.left;
     }

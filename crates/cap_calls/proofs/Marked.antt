@@ -2,17 +2,17 @@
 use Rattle.cap_spec.proofs.Lemmas.{none_of_disjoint, one_overlap, length_joined}
 use Rattle.cap_spec.proofs.ProofNames.{Bool, List, [], ap, arith, drop, inr, length, length-append, not, sym, ℕ, ◌+◌}
 use Rattle.cap_spec.proofs.ProofNames.{◌/◌, ◌∙◌, ◌∷◌, ◌≡◌, ◌≤◌, ⊤, plain_words, rules}
-use Rattle.cap_vet.specs.Exclusives.{KeepsRoom}
+use Rattle.cap_vet.specs.Exclusives.{KeepsUnused}
 use Rattle.cap_vet.specs.VetNames.{IsExclusiveFault, IsVetted, marks_of}
-use Rattle.cap_vet.specs.declared.exclusiveness.exclusive_room.ExclusiveFault.{ExclusiveFault}
-use Rattle.cap_vet.specs.declared.exclusiveness.exclusive_room.ExclusiveFault.TheVariants.{NoRoom, Overlap, Refused}
+use Rattle.cap_vet.specs.declared.exclusiveness.exclusive_buffer.ExclusiveFault.{ExclusiveFault}
+use Rattle.cap_vet.specs.declared.exclusiveness.exclusive_buffer.ExclusiveFault.TheVariants.{BufferTooSmall, Overlap, Refused}
 use Rattle.cap_vet.proofs.OneReport.{not_both, one_report}
 use Rattle.cap_calls.specs.CallFindings.{without}
-use Rattle.cap_calls.specs.ExclusiveCalls.{FindsMarks, KeepsMarks, MarksIn, TellsExclusive, too_small}
-use Rattle.cap_calls.specs.CallNames.{Demands, Report, TellsWhole, accepted_found, framed, tells, trailing}
-use Rattle.cap_calls.specs.CallNames.{allows_trailing, demands_of, HasFrame, TellsInput, of_frame, of_no_words, of_words}
+use Rattle.cap_calls.specs.ExclusiveCalls.{FindsMarks, KeepsMarks, MarksIn, ReportsExclusive, too_small}
+use Rattle.cap_calls.specs.CallNames.{Demands, Report, ReportsWhole, accepted_found, framed, reports, trailing}
+use Rattle.cap_calls.specs.CallNames.{allows_trailing, demands_of, HasFrame, ReportsInput, of_frame, of_no_words, of_words}
 use Rattle.cap_calls.specs.CallNames.{Marks, exclusive, fault_found, overlap, Answer, Found, CallLimits, CallReport}
-use Rattle.cap_calls.proofs.Answers.{one_input_told, one_judged, one_returned}
+use Rattle.cap_calls.proofs.Answers.{one_input_reported, one_judged, one_returned}
 use Rattle.cap_calls.proofs.Words.{few_words}
 use Rattle.cap_calls.specs.declared.answer.Answer.TheVariants as answer
 
@@ -33,10 +33,10 @@ one_marked size m r f g (exclusive enough j e) (overlap s w n also h i) = absurd
 one_marked size m r f g (exclusive enough j e) (exclusive also k i) = e ∙ sym i
 
 -- The call answers and reports one thing.
-pub one_exclusive_told : (l : CallLimits) (bs : List ℕ) (size : ℕ) (a b : Answer) (n k : ℕ) (r q : CallReport)
-    → TellsExclusive l bs size a n r → TellsExclusive l bs size b k q → (a ≡ b) × (n ≡ k) × (r ≡ q)
-one_exclusive_told l bs size a b n k r q (f, t, h, e) (g, u, i, j) =
-    let same = (one_input_told {S = ⊤} (not (allows_trailing l)) l bs f g (λ _ _. tt)
+pub one_exclusive_reported : (l : CallLimits) (bs : List ℕ) (size : ℕ) (a b : Answer) (n k : ℕ) (r q : CallReport)
+    → ReportsExclusive l bs size a n r → ReportsExclusive l bs size b k q → (a ≡ b) × (n ≡ k) × (r ≡ q)
+one_exclusive_reported l bs size a b n k r q (f, t, h, e) (g, u, i, j) =
+    let same = (one_input_reported {S = ⊤} (not (allows_trailing l)) l bs f g (λ _ _. tt)
     (λ m x y p s. one_judged {S = ⊤} (demands_of l) m l.charge l.depth x y (λ _ _. tt)
     (λ z _ c d. (one_marked size m z x y c d, tt)) p s) t u).0 in
     let one = one_returned f g a b r q same h i in
@@ -52,16 +52,16 @@ marked_count : (size : ℕ) (demands : Demands) (m : List (List ℕ)) (w d : ℕ
 marked_count size demands m w d f h = search rules
 
 few_required : (whole : Bool) (l : CallLimits) (bs : List ℕ) (size : ℕ) (demands : Demands) (f : Found)
-    → TellsWhole whole ⊤ (Marks size demands) l bs f → f.count ≤ f.report.length / 512 + 1
+    → ReportsWhole whole ⊤ (Marks size demands) l bs f → f.count ≤ f.report.length / 512 + 1
 few_required whole l bs size demands f (trailing m x y t h more e k) = let none = ap (λ (z : Found). z.count) e in
     omega (arith, none)
-few_required whole l bs size demands f (tells none (without c h e k)) = let none = ap (λ (z : Found). z.count) e in
+few_required whole l bs size demands f (reports none (without c h e k)) = let none = ap (λ (z : Found). z.count) e in
     omega (arith, none)
-few_required whole l bs size demands f (tells none (framed m x y g h p e)) =
+few_required whole l bs size demands f (reports none (framed m x y g h p e)) =
     search (rules, few_marks l bs x y m h, marked_count size demands m l.charge l.depth g p)
 
 pub few_input : (whole : Bool) (l : CallLimits) (bs : List ℕ) (size : ℕ) (demands : Demands) (f : Found)
-    → TellsInput whole ⊤ (Marks size demands) l bs f → f.count ≤ f.report.length / 512 + 1
+    → ReportsInput whole ⊤ (Marks size demands) l bs f → f.count ≤ f.report.length / 512 + 1
 few_input whole l bs size demands f (of_frame n t) = few_required whole l bs size demands f t
 few_input whole l bs size demands f (of_no_words y c h e k) = let none = ap (λ (z : Found). z.count) e in
     omega (arith, none)
@@ -73,25 +73,25 @@ few_input whole l bs size demands f (of_words y g h p e) =
 
 -- What was found of the marks holds of all the bytes.
 marks_kept : (whole : Bool) (demands : Demands) (l : CallLimits) (bs old new : List ℕ) (f : Found)
-    → TellsWhole whole (new ≡ old) (MarksIn old new demands) l bs f → KeepsMarks old new f
+    → ReportsWhole whole (new ≡ old) (MarksIn old new demands) l bs f → KeepsMarks old new f
 marks_kept whole demands l bs old new f h = search rules
 
 pub input_kept : (whole : Bool) (demands : Demands) (l : CallLimits) (bs old new : List ℕ) (f : Found)
-    → TellsInput whole (new ≡ old) (MarksIn old new demands) l bs f → KeepsMarks old new f
+    → ReportsInput whole (new ≡ old) (MarksIn old new demands) l bs f → KeepsMarks old new f
 input_kept whole demands l bs old new f h = search (rules, marks_kept)
 
 -- A fault of an accepted message is what the call finds of it.
 pub marked_fault : (size : ℕ) (m : List (List ℕ)) (r : Report) (fault : ExclusiveFault) (f : Found) → IsVetted m r
     → IsExclusiveFault m 268435456 256 size fault → f ≡ fault_found (marks_of m) fault → FindsMarks size m r f
 marked_fault size m r (Refused q) f v h e = absurd (not_both m 268435456 256 r q v h)
-marked_fault size m r (NoRoom n q) f v h e =
+marked_fault size m r (BufferTooSmall n q) f v h e =
     too_small (omega (arith, h.1, h.2))
     (e ∙ ap (accepted_found answer.BufferTooSmall (marks_of m)) (one_report m 268435456 256 q r h.0 v))
 marked_fault size m r (Overlap s w n) f v h e = overlap s w n h.2 h.3 e
 
 -- and of a fault, of which nothing beside the first numbers is changed
 pub fault_kept : (old new : List ℕ) (m : List (List ℕ)) (fault : ExclusiveFault) (f : Found)
-    → f ≡ fault_found (marks_of m) fault → KeepsRoom fault old new
+    → f ≡ fault_found (marks_of m) fault → KeepsUnused fault old new
     → drop (marks_of m) new ≡ drop (marks_of m) old → KeepsMarks old new f
 fault_kept old new m fault f e h k = search rules
 

@@ -8,8 +8,8 @@ use Rattle.cap_spec.proofs.ProofNames.{nil_from_length, put_mid, BeginsMessage, 
 use Rattle.cap_spec.proofs.ProofNames.{IsPartial, in_contents, in_table, in_word, plain_is_cut, plain_words}
 use Rattle.cap_words.proofs.Filling.{plain_join}
 use Rattle.cap_words.proofs.Turns.{filled}
-use Rattle.cap_frame.specs.Framed.{TellsFront}
-use Rattle.cap_frame.specs.Fronts.{IsFront, TellsLarge, TellsMany, a_frame, a_table, table_words}
+use Rattle.cap_frame.specs.Framed.{ReportsFront}
+use Rattle.cap_frame.specs.Fronts.{IsFront, GivesLarge, GivesMany, a_frame, a_table, table_words}
 use Rattle.cap_frame.specs.declared.fault.FrontFault.TheVariants.{Truncated}
 use Rattle.cap_frame.proofs.Cuts.{words_inside}
 use Rattle.cap_frame.proofs.FrontAnswers.{short_answer}
@@ -22,31 +22,31 @@ use Rattle.cap_calls.proofs.Packed.{whole_by_length}
 abbrev Fault : ℕ → Result (Option Framed) FrontFault
 Fault n = Err (Truncated n)
 
-same_wanted : (a b : ℕ) → Fault a ≡ Fault b → a ≡ b
-same_wanted a b e = cc
+same_needed : (a b : ℕ) → Fault a ≡ Fault b → a ≡ b
+same_needed a b e = cc
 
--- With more words, but fewer bytes than wanted, the message is still open.
-pub open_longer : (limit wanted : ℕ) (held longer words : List ℕ) → length held % 8 ≡ 0 → length longer % 8 ≡ 0
-    → plain_words longer ≡ plain_words held ++ words → length longer < wanted → IsOpen limit held wanted
-    → IsOpen limit longer wanted
-open_longer limit wanted held longer words h i e few (inl none) = inl
+-- With more words, but fewer bytes than needed, the message is still open.
+pub open_longer : (limit needed : ℕ) (held longer words : List ℕ) → length held % 8 ≡ 0 → length longer % 8 ≡ 0
+    → plain_words longer ≡ plain_words held ++ words → length longer < needed → IsOpen limit held needed
+    → IsOpen limit longer needed
+open_longer limit needed held longer words h i e few (inl none) = inl
     (nil_from_length longer (omega (arith, none.1, few, i)), none.1)
-open_longer limit wanted held longer words h i e few (inr t) = inr (further t.0)
+open_longer limit needed held longer words h i e few (inr t) = inr (further t.0)
   where
-    further : IsPartial limit (plain_words held) (plain_is_cut held) → TellsFront limit longer (Fault wanted)
+    further : IsPartial limit (plain_words held) (plain_is_cut held) → ReportsFront limit longer (Fault needed)
     further (in_word none cut) = absurd (false≢true (sym (whole_by_length held h) ∙ cut))
     further (in_table first rest w many short) =
         let need : ℕ = 8 * table_words (first % 2 ^ 32 + 1) in
-        let same : wanted ≡ need =
-        same_wanted wanted need (short_answer limit held (Fault wanted) need t.0 (a_table first rest w short refl) t) in
+        let same : needed ≡ need =
+        same_needed needed need (short_answer limit held (Fault needed) need t.0 (a_table first rest w short refl) t) in
         let whole : plain_words longer ≡ first ∷ (rest ++ words) = e ∙ ap (λ (l : List ℕ). l ++ words) w in
         let less : length (rest ++ words) < (first % 2 ^ 32 + 1) / 2 =
         omega (arith, same, few, words_inside longer, ap length whole) in
         (in_table first (rest ++ words) whole many less, a_table first (rest ++ words) whole less same, few, t.3)
     further (in_contents table sizes rest w s within short) =
         let need : ℕ = 8 * (length table + sum sizes) in
-        let same : wanted ≡ need =
-        same_wanted wanted need (short_answer limit held (Fault wanted) need t.0 (a_frame table sizes rest w s refl) t) in
+        let same : needed ≡ need =
+        same_needed needed need (short_answer limit held (Fault needed) need t.0 (a_frame table sizes rest w s refl) t) in
         let whole : plain_words longer ≡ table ++ (rest ++ words) =
         e ∙ (ap (λ (l : List ℕ). l ++ words) w ∙ append_assoc table rest words) in
         let less : length (rest ++ words) < sum sizes =
@@ -54,11 +54,11 @@ open_longer limit wanted held longer words h i e few (inr t) = inr (further t.0)
         (in_contents table sizes (rest ++ words) whole s within less, a_frame table sizes (rest ++ words) whole s same, few, t.3)
 
 -- No bytes are open and begin a whole message.
-pub open_not_whole : (limit wanted n : ℕ) (held : List ℕ) (m : List (List ℕ)) → IsOpen limit held wanted → IsFront limit held m n → ⊥
-open_not_whole limit wanted n held m (inl none) f =
+pub open_not_whole : (limit needed n : ℕ) (held : List ℕ) (m : List (List ℕ)) → IsOpen limit held needed → IsFront limit held m n → ⊥
+open_not_whole limit needed n held m (inl none) f =
     let some = frame_some f.own m f.frames in
     omega (arith, some, ap length f.words, length-append f.own f.rest, words_inside held, ap length none.0)
-open_not_whole limit wanted n held m (inr t) f =
+open_not_whole limit needed n held m (inr t) f =
     let b : BeginsMessage limit (plain_words held) = record
     { own = f.own; rest = f.rest; message = m; whole = f.words; frames = f.frames; within = f.within } in
     (let e = one_ending limit (plain_words held) (plain_is_cut held) message partial b t.0 in cc)
@@ -86,7 +86,7 @@ front_within limit n j held m less eight f =
 
 -- A message that was open before its last word, and not whole at the start, is all of the bytes.
 pub all_of_message : (limit start n : ℕ) (held : List ℕ) (m : List (List ℕ)) → start % 8 ≡ 0
-    → ((k : ℕ) → start ≤ k → k < length held → k % 8 ≡ 0 → (wanted : ℕ) × IsOpen limit (take k held) wanted)
+    → ((k : ℕ) → start ≤ k → k < length held → k % 8 ≡ 0 → (needed : ℕ) × IsOpen limit (take k held) needed)
     → ((m : List (List ℕ)) (n : ℕ) → ¬ IsFront limit (take start held) m n) → IsFront limit held m n → n ≡ length held
 all_of_message limit start n held m eight before unfinished f =
     let inside : n ≤ length held =
@@ -103,10 +103,10 @@ all_of_message limit start n held m eight before unfinished f =
       | inr all ↦ omega (arith, inside, all)
     ]
 
--- A message is open up to the bytes that it wants.
-pub still_open : (limit wanted at k n : ℕ) (out given : List ℕ) → at % 8 ≡ 0 → n % 8 ≡ 0 → at ≤ n → n ≤ at + length given → n < wanted
-    → at ≤ length out → IsOpen limit (take at out) wanted → IsOpen limit (take n (put_mid at k out given)) wanted
-still_open limit wanted at k n out given whole eight from within less inside o =
+-- A message is open up to the bytes that it needs.
+pub still_open : (limit needed at k n : ℕ) (out given : List ℕ) → at % 8 ≡ 0 → n % 8 ≡ 0 → at ≤ n → n ≤ at + length given → n < needed
+    → at ≤ length out → IsOpen limit (take at out) needed → IsOpen limit (take n (put_mid at k out given)) needed
+still_open limit needed at k n out given whole eight from within less inside o =
     let m = n - at in
     let sum_is : n ≡ at + m = omega (arith, from) in
     let few : m ≤ length given = omega (arith, within) in
@@ -115,13 +115,13 @@ still_open limit wanted at k n out given whole eight from within less inside o =
     let front : length (take at out) ≡ at = length-take-le at out inside in
     let long : length (take n (put_mid at k out given)) ≡ n =
     omega (arith, ap length text, length-append (take at out) (take m given), front, length-take-le m given few, sum_is) in
-    open_longer limit wanted (take at out) (take n (put_mid at k out given)) (plain_words (take m given)) (omega (arith, front, whole))
+    open_longer limit needed (take at out) (take n (put_mid at k out given)) (plain_words (take m given)) (omega (arith, front, whole))
     (omega (arith, long, eight)) (ap plain_words text ∙ plain_join (take at out) (take m given) (omega (arith, front, whole)))
     (omega (arith, long, less)) o
 
--- It wants whole words.
-pub wanted_whole : (limit wanted : ℕ) (held : List ℕ) → IsOpen limit held wanted → wanted % 8 ≡ 0
-wanted_whole limit wanted held h = search rules
+-- It needs whole words.
+pub needed_whole : (limit needed : ℕ) (held : List ℕ) → IsOpen limit held needed → needed % 8 ≡ 0
+needed_whole limit needed held h = search rules
 
 -- how a call ends at any stage
 pub ends_at : (stage : Stage) (size : ℕ) (g : Given) (rest : List ℕ)
@@ -129,13 +129,13 @@ pub ends_at : (stage : Stage) (size : ℕ) (g : Given) (rest : List ℕ)
 ends_at stage size g rest h = search rules
 
 -- A message that is too large, or has too many segments, is not whole.
-pub many_not_whole : (limit count n : ℕ) (held : List ℕ) (m : List (List ℕ)) → TellsMany held count → IsFront limit held m n → ⊥
+pub many_not_whole : (limit count n : ℕ) (held : List ℕ) (m : List (List ℕ)) → GivesMany held count → IsFront limit held m n → ⊥
 many_not_whole limit count n held m t f =
     let b : BeginsMessage limit (plain_words held) = record
     { own = f.own; rest = f.rest; message = m; whole = f.words; frames = f.frames; within = f.within } in
     (let e = one_ending limit (plain_words held) (plain_is_cut held) message too_many b t.0 in cc)
 
-pub large_not_whole : (limit words n : ℕ) (held : List ℕ) (m : List (List ℕ)) → TellsLarge limit held words → IsFront limit held m n → ⊥
+pub large_not_whole : (limit words n : ℕ) (held : List ℕ) (m : List (List ℕ)) → GivesLarge limit held words → IsFront limit held m n → ⊥
 large_not_whole limit words n held m t f =
     let b : BeginsMessage limit (plain_words held) = record
     { own = f.own; rest = f.rest; message = m; whole = f.words; frames = f.frames; within = f.within } in

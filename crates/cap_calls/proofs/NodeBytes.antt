@@ -20,11 +20,11 @@ step_inside m (word s w) (Ptr i) b (k, t, b', q, tag, ds, ps, found, less, ends)
 step_inside m (word s w) (Item i) b (inl (k, t, b', q, tag, n, found, less, ends)) =
     subst (λ (z : Spot). IsElementInside m z) (sym ends) tt
 step_inside m (word s w) (Item i) b (inr (k, t, c, q, tag, n, ds, ps, found, less, ends)) =
-    let room : n * (ds + ps) ≤ list_size q = omega (arith, elements_fit found) in
+    let capacity : n * (ds + ps) ≤ list_size q = omega (arith, elements_fit found) in
     let some : (i + 1) * (ds + ps) ≤ n * (ds + ps) = mul-le-mul_right (ds + ps) (omega (arith, less)) in
     let inside = found.finds.inside in
     subst (λ (z : Spot). IsElementInside m z) (sym ends)
-    (inside.exists, omega (arith, some, room, structs_words found.shape, inside.inside))
+    (inside.exists, omega (arith, some, capacity, structs_words found.shape, inside.inside))
 step_inside m (element t b ds ps) (Ptr i) c g = subst (λ (z : Spot). IsElementInside m z) (sym g.1) tt
 step_inside m (element t b ds ps) (Item i) c g = absurd g
 
@@ -37,14 +37,14 @@ comes_inside : (m : List (List ℕ)) (path : List Step) (level : ℕ) (a : Spot)
 comes_inside m path level a c = walk_inside m (word 0 0) path c.1 a tt c.3
 
 -- The words of the place of a path are inside their segment.
-stands_inside : (m : List (List ℕ)) (a : Spot) (t b n : ℕ) → IsElementInside m a → HasPlace m a t b n
+lies_inside : (m : List (List ℕ)) (a : Spot) (t b n : ℕ) → IsElementInside m a → HasPlace m a t b n
     → (t < length m) × (b + n ≤ length (segment_of m t))
-stands_inside m (word s w) t b n h (k, q, finds, e) = (finds.inside.exists, omega (arith, e, finds.inside.inside))
-stands_inside m (element u v ds ps) t b n h (e, f, g) = rw (e, f, g) h
+lies_inside m (word s w) t b n h (k, q, finds, e) = (finds.inside.exists, omega (arith, e, finds.inside.inside))
+lies_inside m (element u v ds ps) t b n h (e, f, g) = rw (e, f, g) h
 
 pub place_inside : (m : List (List ℕ)) (path : List Step) (t b n : ℕ) → IsPlace m path t b n
     → (t < length m) × (b + n ≤ length (segment_of m t))
-place_inside m path t b n (level, a, c, s) = stands_inside m a t b n (comes_inside m path level a c) s
+place_inside m path t b n (level, a, c, s) = lies_inside m a t b n (comes_inside m path level a c) s
 
 -- how many bytes the values of a list take at most
 some_bytes : (x words : ℕ) → x ≤ words * 64 → (x + 7) / 8 ≤ 8 * words

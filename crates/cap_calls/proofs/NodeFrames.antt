@@ -3,9 +3,9 @@ use Rattle.cap_spec.proofs.ProofNames.{rules}
 use Rattle.std.proofs.Common.{Bool, List, ap, arith, length, not, slice_index_or, ℕ, ◌+◌, ◌<◌, ◌≡◌, ◌≤◌}
 use Rattle.cap_calls.specs.CallFindings.{without}
 use Rattle.cap_calls.specs.NodeCalls.{bad_limits}
-use Rattle.cap_calls.specs.CallNames.{Step, Demands, TellsWhole, framed, tells, trailing, allows_trailing, demands_of}
-use Rattle.cap_calls.specs.CallNames.{HasFrame, none_node, Gets, TellsGet, a_node, a_path, bad_path, no_meeting, no_node}
-use Rattle.cap_calls.specs.CallNames.{GetsRange, TellsRange, path_after, Answer, Found, CallLimits, CallNode, CallReport}
+use Rattle.cap_calls.specs.CallNames.{Step, Demands, ReportsWhole, framed, reports, trailing, allows_trailing, demands_of}
+use Rattle.cap_calls.specs.CallNames.{HasFrame, none_node, Gets, ReportsGet, a_node, a_path, bad_path, no_meeting, no_node}
+use Rattle.cap_calls.specs.CallNames.{GetsRange, ReportsRange, path_after, Answer, Found, CallLimits, CallNode, CallReport}
 use Rattle.cap_calls.specs.CallNames.{CallStep}
 use Rattle.cap_calls.proofs.Bounds.{length_inside}
 use Rattle.cap_calls.proofs.NodeBytes.{node_bounded}
@@ -27,19 +27,19 @@ module _ (l : CallLimits) (bs : List ℕ) where
   gets_inside path node demands m words depth frame segments g h (no_meeting r f e n) = none_ends node frame n
   gets_inside path node demands m words depth frame segments g h (no_node meets none e n) = none_ends node frame n
   gets_inside path node demands m words depth frame segments g h (a_node k t b n meets (level, a, c, f) e i) =
-      let inside = node_bounded m frame (λ t b n exists room. offset_inside l.message_words bs m frame h.front t b n exists room)
+      let inside = node_bounded m frame (λ t b n exists capacity. offset_inside l.message_words bs m frame h.front t b n exists capacity)
       path k t b n level a c f in
       omega (arith, inside, ap end_of i)
 
   message_inside : (whole : Bool) (path : List Step) (node : CallNode) (demands : Demands) (f : Found)
-      → TellsWhole whole (node ≡ none_node) (Gets path node demands) l bs f → end_of node ≤ f.report.length
+      → ReportsWhole whole (node ≡ none_node) (Gets path node demands) l bs f → end_of node ≤ f.report.length
   message_inside whole path node demands f (trailing m x y t h more e i) = none_ends node f.report.length i
-  message_inside whole path node demands f (tells only (without c h e i)) = none_ends node f.report.length i
-  message_inside whole path node demands f (tells only (framed m x y g h p e)) =
+  message_inside whole path node demands f (reports only (without c h e i)) = none_ends node f.report.length i
+  message_inside whole path node demands f (reports only (framed m x y g h p e)) =
       let long : f.report.length ≡ x = ap (λ (z : Found). z.report.length) e in
       omega (arith, long, gets_inside path node demands m l.charge l.depth x y g h p)
 
-  pub get_inside : (text : List ℕ) (a : Answer) (node : CallNode) (r : CallReport) → TellsGet l bs text a node r
+  pub get_inside : (text : List ℕ) (a : Answer) (node : CallNode) (r : CallReport) → ReportsGet l bs text a node r
       → (end_of node ≤ r.length) × (r.length ≤ length bs)
   get_inside text a node r (f, bad_limits bad e n, (i, j)) = search (rules, none_ends)
   get_inside text a node r (f, bad_path at are bad e n, (i, j)) = search (rules, none_ends)
@@ -49,13 +49,13 @@ module _ (l : CallLimits) (bs : List ℕ) where
 
   -- what is got of the nodes of a range
   range_message_inside : (whole : Bool) (path : ℕ → List Step) (old new : List CallNode) (demands : Demands) (f : Found) (k : ℕ)
-      → k < f.count → TellsWhole whole (new ≡ old) (GetsRange path old new demands) l bs f
+      → k < f.count → ReportsWhole whole (new ≡ old) (GetsRange path old new demands) l bs f
       → end_of (slice_index_or new k none_node) ≤ f.report.length
   range_message_inside whole path old new demands f k less (trailing m x y t h more e i) =
       let none : f.count ≡ 0 = ap (λ (z : Found). z.count) e in absurd (omega (arith, less, none))
-  range_message_inside whole path old new demands f k less (tells only (without c h e i)) =
+  range_message_inside whole path old new demands f k less (reports only (without c h e i)) =
       let none : f.count ≡ 0 = ap (λ (z : Found). z.count) e in absurd (omega (arith, less, none))
-  range_message_inside whole path old new demands f k less (tells only (framed m x y g h p e)) =
+  range_message_inside whole path old new demands f k less (reports only (framed m x y g h p e)) =
       let long : f.report.length ≡ x = ap (λ (z : Found). z.report.length) e in
       let count : f.count ≡ g.count = ap (λ (z : Found). z.count) e in
       omega (
@@ -66,7 +66,7 @@ module _ (l : CallLimits) (bs : List ℕ) where
       )
 
   pub range_inside : (steps : List CallStep) (varying : ℕ) (old : List CallNode) (a : Answer) (n : ℕ) (new : List CallNode)
-      (r : CallReport) (k : ℕ) → TellsRange l bs steps varying old a n new r → k < n
+      (r : CallReport) (k : ℕ) → ReportsRange l bs steps varying old a n new r → k < n
       → (end_of (slice_index_or new k none_node) ≤ r.length) × (r.length ≤ length bs)
   range_inside steps varying old a n new r k (f, range.bad_limits bad e i, q, c) less =
       let none : f.count ≡ 0 = ap (λ (z : Found). z.count) e in absurd (omega (arith, less, none, c))

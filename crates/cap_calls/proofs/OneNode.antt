@@ -43,14 +43,14 @@ element_seen m t' b' ds ps (Scalars c x) t b n h = absurd h
 element_seen m t' b' ds ps (Pointers x) t b n h = absurd h
 element_seen m t' b' ds ps (Structs x d p) t b n h = absurd h
 
-one_stand : (m : List (List ℕ)) (a : Spot) (k k' : Kind) (t b n t' b' n' : ℕ) → HasObject m a k t b n
+one_lie : (m : List (List ℕ)) (a : Spot) (k k' : Kind) (t b n t' b' n' : ℕ) → HasObject m a k t b n
     → HasObject m a k' t' b' n' → node_at m k t b ≡ node_at m k' t' b'
-one_stand m (word s w) k k' t b n t' b' n' h g = one_seen m s w k k' t b t' b' (seen m s w k t b n h) (seen m s w k' t' b' n' g)
-one_stand m (element u v ds ps) k k' t b n t' b' n' h g = search (rules, element_seen)
+one_lie m (word s w) k k' t b n t' b' n' h g = one_seen m s w k k' t b t' b' (seen m s w k t b n h) (seen m s w k' t' b' n' g)
+one_lie m (element u v ds ps) k k' t b n t' b' n' h g = search (rules, element_seen)
 
 -- The node at a path is one.
 pub one_node : (m : List (List ℕ)) (path : List Step) (k k' : Kind) (t b n t' b' n' : ℕ) → PathFinds m path k t b n
     → PathFinds m path k' t' b' n' → kind_node k (offset_of m t b) ≡ kind_node k' (offset_of m t' b')
 one_node m path k k' t b n t' b' n' (l, a, c, h) (l', a', c', g) =
     let same : a ≡ a' = (one_coming m path l l' a a' c c').1 in
-    one_stand m a k k' t b n t' b' n' h (subst (λ (x : Spot). HasObject m x k' t' b' n') (sym same) g)
+    one_lie m a k k' t b n t' b' n' h (subst (λ (x : Spot). HasObject m x k' t' b' n') (sym same) g)

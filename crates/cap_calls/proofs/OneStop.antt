@@ -3,7 +3,7 @@ use Rattle.std.proofs.Common.{List, [], ap, inl, inr, length, refl, sym, ℕ, �
 use Rattle.cap_spec.specs.Endings.{Ending, EndsIn, message, none, partial, too_large, too_many}
 use Rattle.cap_spec.specs.Plain.{plain_is_cut, plain_words}
 use Rattle.cap_spec.proofs.Lemmas.{one_frame, one_ending}
-use Rattle.cap_frame.specs.Fronts.{IsFront, TellsLarge, TellsMany}
+use Rattle.cap_frame.specs.Fronts.{IsFront, GivesLarge, GivesMany}
 use Rattle.cap_frame.specs.declared.fault.FrontFault.TheVariants.{TooLarge, TooManySegments, Truncated}
 use Rattle.cap_frame.proofs.FrontAnswers.{empty_answer, large_answer, many_answer, short_answer}
 use Rattle.cap_calls.specs.CallReports.{none_report}
@@ -18,23 +18,23 @@ module _ (limit : ℕ) (held : List ℕ) where
       { own = f.own; rest = f.rest; message = m; whole = f.words; frames = f.frames; within = f.within }
 
   -- an open message ends in no other way
-  pub never_open : (e : Ending) (wanted : ℕ) → e ≢ none → e ≢ partial → EndsIn limit (plain_words held) (plain_is_cut held) e
-      → IsOpen limit held wanted → ⊥
-  never_open e wanted n p h (inl z) = n (one_ending limit (plain_words held) (plain_is_cut held) none e
+  pub never_open : (e : Ending) (needed : ℕ) → e ≢ none → e ≢ partial → EndsIn limit (plain_words held) (plain_is_cut held) e
+      → IsOpen limit held needed → ⊥
+  never_open e needed n p h (inl z) = n (one_ending limit (plain_words held) (plain_is_cut held) none e
       (ap plain_words z.0, ap plain_is_cut z.0) h)
-  never_open e wanted n p h (inr t) = p (one_ending limit (plain_words held) (plain_is_cut held) partial e t.0 h)
+  never_open e needed n p h (inr t) = p (one_ending limit (plain_words held) (plain_is_cut held) partial e t.0 h)
 
-  -- it wants one number of bytes
-  one_wanted : (a b : ℕ) → IsOpen limit held a → IsOpen limit held b → a ≡ b
-  one_wanted a b (inl x) (inl y) = x.1 ∙ sym y.1
-  one_wanted a b (inl x) (inr t) = absurd (let e = empty_answer limit held (Without (Truncated b)) x.0 t in cc)
-  one_wanted a b (inr t) (inl y) = absurd (let e = empty_answer limit held (Without (Truncated a)) y.0 t in cc)
-  one_wanted a b (inr t) (inr u) = (let e = short_answer limit held (Without (Truncated a)) b u.0 u.1 t in cc)
+  -- it needs one number of bytes
+  one_needed : (a b : ℕ) → IsOpen limit held a → IsOpen limit held b → a ≡ b
+  one_needed a b (inl x) (inl y) = x.1 ∙ sym y.1
+  one_needed a b (inl x) (inr t) = absurd (let e = empty_answer limit held (Without (Truncated b)) x.0 t in cc)
+  one_needed a b (inr t) (inl y) = absurd (let e = empty_answer limit held (Without (Truncated a)) y.0 t in cc)
+  one_needed a b (inr t) (inr u) = (let e = short_answer limit held (Without (Truncated a)) b u.0 u.1 t in cc)
 
-  one_many : (a b : ℕ) → TellsMany held a → TellsMany held b → a ≡ b
+  one_many : (a b : ℕ) → GivesMany held a → GivesMany held b → a ≡ b
   one_many a b h k = (let e = many_answer limit held (Without (TooManySegments a)) b k h in cc)
 
-  one_large : (a b : ℕ) → TellsLarge limit held a → TellsLarge limit held b → a ≡ b
+  one_large : (a b : ℕ) → GivesLarge limit held a → GivesLarge limit held b → a ≡ b
   one_large a b h k = (let e = large_answer limit held (Without (TooLarge a)) b k h in cc)
 
   one_whole : (m n : List (List ℕ)) (a b : ℕ) → IsFront limit held m a → IsFront limit held n b → m ≡ n
@@ -60,7 +60,7 @@ module _ (limit : ℕ) (held : List ℕ) where
     one_stop a b n k w v r q (stop.too_large c f e g h i) (stop.too_large c2 f2 e2 g2 h2 i2) =
         (e ∙ sym e2, g ∙ sym g2, h ∙ sym h2, i ∙ (ap (λ (x : ℕ). record none_report { detail = x }) (one_large c c2 f f2) ∙ sym i2))
     one_stop a b n k w v r q (too_small o x y e h i) (too_small o2 x2 y2 e2 h2 i2) =
-        (e ∙ sym e2, one_wanted n k o o2, h ∙ sym h2, i ∙ sym i2)
+        (e ∙ sym e2, one_needed n k o o2, h ∙ sym h2, i ∙ sym i2)
     one_stop a b n k w v r q (no_message o x y s e g h i) (no_message o2 x2 y2 s2 e2 g2 h2 i2) =
         (e ∙ sym e2, g ∙ sym g2, h ∙ sym h2, i ∙ sym i2)
     one_stop a b n k w v r q (truncated c o x y e g h i) (truncated c2 o2 x2 y2 e2 g2 h2 i2) =

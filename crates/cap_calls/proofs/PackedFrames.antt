@@ -16,13 +16,13 @@ unpacks_both a b ws vs h k = record {
   each = all_append (λ (g : List ℕ × List ℕ). IsGroup g.0 g.1) h.groups k.groups h.each k.each;
   text = ap₂ (λ (x y : List ℕ). x ++ y) h.text k.text
       ∙ sym (flat_map-append (λ (g : List ℕ × List ℕ). g.0) h.groups k.groups);
-  spelled = ap₂ (λ (x y : List ℕ). x ++ y) h.spelled k.spelled
+  encoded = ap₂ (λ (x y : List ℕ). x ++ y) h.encoded k.encoded
       ∙ sym (flat_map-append (λ (g : List ℕ × List ℕ). g.1) h.groups k.groups);
 }
 
 segments_unpack : (m : List (List ℕ)) → AllByRecursion (AllByRecursion IsWord) m
     → Unpacks (flat_map pack_text m) (joined m)
-segments_unpack [] all = record { groups = []; each = tt; text = refl; spelled = refl }
+segments_unpack [] all = record { groups = []; each = tt; text = refl; encoded = refl }
 segments_unpack (s ∷ m) all =
     unpacks_both (pack_text s) (flat_map pack_text m) s (joined m) (pack_text_unpacks s all.0) (segments_unpack m all.1)
 

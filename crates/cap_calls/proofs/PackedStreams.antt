@@ -36,7 +36,7 @@ head_least (tag ∷ b) (suc n) all l =
     let none : unpacked (tag ∷ take n b) ≡ [] = head_part (tag ∷ take n b) front (omega (arith, few, l)) in
     omega (arith, ap length none)
 
--- a run of literal words in front of more bytes
+-- a run of literal words before more bytes
 plain_front : (a b c d e f g h n : ℕ) (rest : List ℕ) →
     unpacked (255 ∷ a ∷ b ∷ c ∷ d ∷ e ∷ f ∷ g ∷ h ∷ n ∷ rest)
     ≡ plain_words (a ∷ b ∷ c ∷ d ∷ e ∷ f ∷ g ∷ h ∷ []) ++ words_to_come 0 n rest

@@ -8,7 +8,7 @@ use Rattle.cap_spec.proofs.ProofNames.{length-append, refl, subst, sym, ℕ, ◌
 use Rattle.cap_spec.proofs.ProofNames.{AreOnPath, ReachesSpot, Spot, element, level_of, word, DenotesAt, Tree, part_at}
 use Rattle.cap_spec.proofs.ProofNames.{CostOf}
 use Rattle.cap_spec.proofs.Trees.Charges.{own_cost}
-use Rattle.cap_spec.proofs.Verdicts.OnPath.{cost_last, on_element, on_nowhere, on_root, on_word}
+use Rattle.cap_spec.proofs.Verdicts.OnPath.{cost_last, on_element, on_no_node, on_root, on_word}
 use Rattle.cap_vet.specs.PathDemands.{KeepsToLimits}
 
 -- the pointers on a path, the root's among them, and what following them costs
@@ -45,7 +45,7 @@ step_costed m done step level (element t b ds ps) v k next h =
       costs = k.costs;
     }
 
--- one more step leads to a part of the tree, or nowhere
+-- one more step leads to a part of the tree, or to no node
 data StepsOn (m : List (List ℕ)) (done : List Step) (step : Step) (rest : List Step) : Type 0 where
   on : (level : ℕ) (b : Spot) (v : Tree) → ReachesSpot m (done ++ step ∷ []) level b → DenotesAt m b v
       → IsCosted m (done ++ step ∷ []) → StepsOn m done step rest
@@ -59,7 +59,7 @@ steps_on m done step rest level a u c d k = by_part (part_at u step) refl
     by_part None e = over (record {
       ways = k.ways;
       cost = k.cost;
-      on_path = on_nowhere m done rest k.ways step level a k.on_path c
+      on_path = on_no_node m done rest k.ways step level a k.on_path c
           (λ b g. let p = step_to_part m a step b u d g in absurd (cc (sym e, p.1)));
       some = k.some;
       costs = k.costs;
@@ -107,6 +107,6 @@ path_charged m words depth (t, c, d, a) path =
         costs = k.costs;
         shallow = λ p level s w i r (x, y, b, q, tag, found, tagged, past).
             omega (arith, a.few_levels, past, paths_within_depth m t c d h p level s w x y b q tag r found tagged);
-        spent = omega (arith, within, a.few_words);
+        consumed = omega (arith, within, a.few_words);
       },
     )

@@ -2,10 +2,10 @@
 use Rattle.cap_spec.proofs.ProofNames.{rules}
 use Rattle.std.proofs.Common.{Bool, List, ap, arith, length, not, sym, ℕ, ◌∙◌, ◌≡◌, ◌≤◌}
 use Rattle.cap_trace.proofs.Numbering.{one_numbered}
-use Rattle.cap_calls.specs.PointerCalls.{FindsFew, FindsPointer, TellsPointer, none, too_small, written}
-use Rattle.cap_calls.specs.CallNames.{Step, allows_trailing, TellsInput}
+use Rattle.cap_calls.specs.PointerCalls.{FindsFew, FindsPointer, ReportsPointer, none, too_small, written}
+use Rattle.cap_calls.specs.CallNames.{Step, allows_trailing, ReportsInput}
 use Rattle.cap_calls.specs.CallNames.{steps_found, Answer, Found, CallLimits, CallReport, CallStep}
-use Rattle.cap_calls.proofs.Answers.{one_input_told, one_returned}
+use Rattle.cap_calls.proofs.Answers.{one_input_reported, one_returned}
 use Rattle.cap_calls.specs.declared.answer.Answer.TheVariants as answer
 
 module _ (n : ℕ) (old : List CallStep) (m : List (List ℕ)) (words depth : ℕ) where
@@ -27,17 +27,17 @@ module _ (n : ℕ) (old : List CallStep) (m : List (List ℕ)) (words depth : �
   one_pointer x y f g (none missing e i) (none also h k) = (e ∙ sym h, i ∙ sym k)
 
 -- The call answers, writes and reports one thing.
-pub one_pointer_told : (l : CallLimits) (bs : List ℕ) (number : ℕ) (old : List CallStep) (a b : Answer) (n k : ℕ)
+pub one_pointer_reported : (l : CallLimits) (bs : List ℕ) (number : ℕ) (old : List CallStep) (a b : Answer) (n k : ℕ)
     (x y : List CallStep) (r q : CallReport)
-    → TellsPointer l bs number old a n x r → TellsPointer l bs number old b k y q
+    → ReportsPointer l bs number old a n x r → ReportsPointer l bs number old b k y q
     → (a ≡ b) × (n ≡ k) × (x ≡ y) × (r ≡ q)
-one_pointer_told l bs number old a b n k x y r q (f, t, h, e) (g, u, i, j) =
-    let same = one_input_told {S = x ≡ y} (not (allows_trailing l)) l bs f g (λ s v. s ∙ sym v)
+one_pointer_reported l bs number old a b n k x y r q (f, t, h, e) (g, u, i, j) =
+    let same = one_input_reported {S = x ≡ y} (not (allows_trailing l)) l bs f g (λ s v. s ∙ sym v)
     (λ m v w c d. one_pointer number old m l.charge l.depth x y v w c d) t u in
     let one = one_returned f g a b r q same.0 h i in
     (one.0, e ∙ (ap (λ (z : Found). z.count) same.0 ∙ sym j), same.1, one.1)
 
 -- The steps are few, since the depth limit is.
-pub few_told : (whole : Bool) (l : CallLimits) (bs : List ℕ) (n : ℕ) (old new : List CallStep) (f : Found)
-    → TellsInput whole (new ≡ old) (FindsFew n old new) l bs f → f.count ≤ 256
-few_told whole l bs n old new f h = search rules
+pub few_reported : (whole : Bool) (l : CallLimits) (bs : List ℕ) (n : ℕ) (old new : List CallStep) (f : Found)
+    → ReportsInput whole (new ≡ old) (FindsFew n old new) l bs f → f.count ≤ 256
+few_reported whole l bs n old new f h = search rules

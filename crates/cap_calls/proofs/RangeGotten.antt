@@ -6,11 +6,11 @@ use Rattle.cap_spec.proofs.ProofNames.{sym, true, ℕ, ◌+◌, ◌<◌, ◌∙�
 use Rattle.cap_calls.specs.AnswerNumbers.{lax_answer}
 use Rattle.cap_calls.specs.CallNames.{Reason, Step, StrictRefusal, Demands, reason_answer}
 use Rattle.cap_calls.specs.CallNames.{refusal_answer, refused_found, allows_trailing, demands_of, none_node, Gets}
-use Rattle.cap_calls.specs.CallNames.{bad_path_found, path_found, AreSteps, EndsRange, GetsRange, TellsRange, full, past}
+use Rattle.cap_calls.specs.CallNames.{bad_path_found, path_found, AreSteps, EndsRange, GetsRange, ReportsRange, full, past}
 use Rattle.cap_calls.specs.CallNames.{path_after, stops, unknown, WritesFirst, Answer, Good, NoNode, Found, CallLimits}
 use Rattle.cap_calls.specs.CallNames.{CallNode, CallReport, CallStep}
-use Rattle.cap_calls.specs.RangeCalls.{IsBadStep, TellsSteps, bad_limits, bad_steps, range}
-use Rattle.cap_calls.proofs.Answers.{one_returned, one_whole_told}
+use Rattle.cap_calls.specs.RangeCalls.{IsBadStep, ReportsSteps, bad_limits, bad_steps, range}
+use Rattle.cap_calls.proofs.Answers.{one_returned, one_whole_reported}
 use Rattle.cap_calls.proofs.Gotten.{limits_alone, one_gets}
 use Rattle.cap_spec.specs.declared.Lax.TheVariants as lax
 use Rattle.cap_spec.specs.declared.Reason.TheVariants as reason
@@ -149,25 +149,25 @@ good_steps steps v a are (unknown l h first) = (let no = are.known a l in omega 
 good_steps steps v a are (past all l e) = (let i = are.inside in omega (arith, i, l))
 
 module _ (l : CallLimits) (bs : List ℕ) (steps : List CallStep) (v : ℕ) (old : List CallNode) where
-  one_told_steps : (x y : List CallNode) (f g : Found) → TellsSteps l bs steps v old x f → TellsSteps l bs steps v old y g
+  one_reported_steps : (x y : List CallNode) (f g : Found) → ReportsSteps l bs steps v old x f → ReportsSteps l bs steps v old y g
       → (f ≡ g) × (x ≡ y)
-  one_told_steps x y f g (bad_limits h e n) (bad_limits k i o) = (e ∙ sym i, n ∙ sym o)
-  one_told_steps x y f g (bad_limits h e n) (bad_steps at are bad i o) = absurd (h are)
-  one_told_steps x y f g (bad_limits h e n) (range are t) =
+  one_reported_steps x y f g (bad_limits h e n) (bad_limits k i o) = (e ∙ sym i, n ∙ sym o)
+  one_reported_steps x y f g (bad_limits h e n) (bad_steps at are bad i o) = absurd (h are)
+  one_reported_steps x y f g (bad_limits h e n) (range are t) =
       (let u = limits_alone (not (allows_trailing l)) l bs g h t in (e ∙ sym u.0, n ∙ sym u.1))
-  one_told_steps x y f g (bad_steps at are bad e n) (bad_limits k i o) = absurd (k are)
-  one_told_steps x y f g (bad_steps at are bad e n) (bad_steps at' are' bad' i o) =
+  one_reported_steps x y f g (bad_steps at are bad e n) (bad_limits k i o) = absurd (k are)
+  one_reported_steps x y f g (bad_steps at are bad e n) (bad_steps at' are' bad' i o) =
       (e ∙ ap bad_path_found (one_bad_step steps v at at' bad bad') ∙ sym i, n ∙ sym o)
-  one_told_steps x y f g (bad_steps at are bad e n) (range good t) = absurd (good_steps steps v at good bad)
-  one_told_steps x y f g (range are t) (bad_limits k i o) =
+  one_reported_steps x y f g (bad_steps at are bad e n) (range good t) = absurd (good_steps steps v at good bad)
+  one_reported_steps x y f g (range are t) (bad_limits k i o) =
       (let u = limits_alone (not (allows_trailing l)) l bs f k t in (u.0 ∙ sym i, u.1 ∙ sym o))
-  one_told_steps x y f g (range good t) (bad_steps at are bad i o) = absurd (good_steps steps v at good bad)
-  one_told_steps x y f g (range good t) (range also u) =
-      one_whole_told {S = x ≡ y} (not (allows_trailing l)) l bs f g (λ a b. a ∙ sym b)
+  one_reported_steps x y f g (range good t) (bad_steps at are bad i o) = absurd (good_steps steps v at good bad)
+  one_reported_steps x y f g (range good t) (range also u) =
+      one_whole_reported {S = x ≡ y} (not (allows_trailing l)) l bs f g (λ a b. a ∙ sym b)
       (λ m a b r s. one_range (λ k. path_after steps v k) old (demands_of l) m l.charge l.depth x y a b r s) t u
 
-  pub one_range_told : (a b : Answer) (p q : ℕ) (x y : List CallNode) (r s : CallReport)
-      → TellsRange l bs steps v old a p x r → TellsRange l bs steps v old b q y s
+  pub one_range_reported : (a b : Answer) (p q : ℕ) (x y : List CallNode) (r s : CallReport)
+      → ReportsRange l bs steps v old a p x r → ReportsRange l bs steps v old b q y s
       → (a ≡ b) × (p ≡ q) × (x ≡ y) × (r ≡ s)
-  one_range_told a b p q x y r s (f, t, h, n) (g, u, k, o) =
-      search (rules, one_told_steps x y f g t u, one_returned f g a b r s (one_told_steps x y f g t u).0 h k)
+  one_range_reported a b p q x y r s (f, t, h, n) (g, u, k, o) =
+      search (rules, one_reported_steps x y f g t u, one_returned f g a b r s (one_reported_steps x y f g t u).0 h k)

@@ -1,8 +1,8 @@
 -- Separate segments are vetted as the frame of them is.
 use Rattle.cap_spec.proofs.ProofNames.{List, ap, arith, false, length, refl, sym, ℕ, ◌/◌, ◌∙◌, ◌≡◌, length-map}
 use Rattle.cap_spec.proofs.ProofNames.{plain_words}
-use Rattle.cap_calls.specs.CallNames.{framed, framed_found, tells, has_no_table, AreLimits, HasFrame, HasTrailing}
-use Rattle.cap_calls.specs.CallNames.{of_frame, TellsVet, TellsSegments, message, AreSegments, segments_in, Answer, Found}
+use Rattle.cap_calls.specs.CallNames.{framed, framed_found, reports, has_no_table, AreLimits, HasFrame, HasTrailing}
+use Rattle.cap_calls.specs.CallNames.{of_frame, ReportsVet, ReportsSegments, message, AreSegments, segments_in, Answer, Found}
 use Rattle.cap_calls.specs.CallNames.{CallLimits, CallReport}
 use Rattle.cap_calls.specs.SegmentsCalls.{bad_limits, no_message}
 use Rattle.cap_calls.proofs.Answers.{one_extent}
@@ -17,8 +17,8 @@ none_after : (l : CallLimits) (bs : List ℕ) (n : ℕ) (m : List (List ℕ)) �
 none_after l bs n m h (o, x, y, k, less) = omega (arith, less, (one_extent l bs x (length bs) y n o m k h).0)
 
 pub vetted_as_framed : (l : CallLimits) (parts : List (List ℕ)) (bs : List ℕ) (n : ℕ) (a : Answer) (r : CallReport)
-    → AreSegments l.message_words parts → HasFrame l bs (length bs) n (segments_in parts) → TellsSegments l parts a r
-    → TellsVet l bs a (record r { length = length bs })
+    → AreSegments l.message_words parts → HasFrame l bs (length bs) n (segments_in parts) → ReportsSegments l parts a r
+    → ReportsVet l bs a (record r { length = length bs })
 vetted_as_framed l parts bs n a r s h (f, bad_limits bad e, k) = absurd (bad h.are_limits)
 vetted_as_framed l parts bs n a r s h (f, no_message y c t e, k) = absurd (not_both l.message_words parts c t s)
 vetted_as_framed l parts bs n a r s h (f, message y z g t e, (i, j)) =
@@ -27,6 +27,6 @@ vetted_as_framed l parts bs n a r s h (f, message y z g t e, (i, j)) =
     let segments = ap (λ (k : ℕ). record g.report { length = length bs; segments = k }) count in (
       framed_found (length bs) n g,
       of_frame (table_given l h.are_limits)
-          (tells (λ _. none_after l bs n (segments_in parts) h) (framed (segments_in parts) (length bs) n g h t refl)),
+          (reports (λ _. none_after l bs n (segments_in parts) h) (framed (segments_in parts) (length bs) n g h t refl)),
       (i ∙ ap (λ (x : Found). x.answer) e, report ∙ segments),
     )

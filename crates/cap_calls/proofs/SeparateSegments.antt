@@ -1,8 +1,8 @@
 -- The bytes of separate segments decide what the call over them finds.
 use Rattle.cap_spec.proofs.ProofNames.{List, [], ap, arith, length, sym, ℕ, ◌*◌, ◌<◌, ◌∙◌, ◌≡◌}
 use Rattle.cap_spec.proofs.ProofNames.{⊤, rules}
-use Rattle.cap_calls.specs.CallNames.{framed_found, demands_of, IsGood, TellsSegments, message, AreSegments}
-use Rattle.cap_calls.specs.CallNames.{TellsNoSegments, segments_in, words_in, Answer, Found, CallLimits, CallReport}
+use Rattle.cap_calls.specs.CallNames.{framed_found, demands_of, IsGood, ReportsSegments, message, AreSegments}
+use Rattle.cap_calls.specs.CallNames.{ReportsNoSegments, segments_in, words_in, Answer, Found, CallLimits, CallReport}
 use Rattle.cap_calls.specs.SegmentsCalls.{FindsSegments, bad_limits, no_message, no_segments_found}
 use Rattle.cap_calls.specs.Slices.{AreWhole, IsBadSegment}
 use Rattle.cap_calls.specs.declared.slices.SlicesFault.{SlicesFault}
@@ -22,11 +22,11 @@ module _ (limit : ℕ) (parts : List (List ℕ)) where
   one_bad s t h k = search rules
 
   -- there is no message for one cause
-  one_no_segments : (a b : SlicesFault) → TellsNoSegments limit parts a → TellsNoSegments limit parts b → a ≡ b
+  one_no_segments : (a b : SlicesFault) → ReportsNoSegments limit parts a → ReportsNoSegments limit parts b → a ≡ b
   one_no_segments a b h x4 = search (rules, one_bad, not_whole)
 
   -- and where there is a cause, there is no message
-  pub not_both : (a : SlicesFault) → TellsNoSegments limit parts a → AreSegments limit parts → ⊥
+  pub not_both : (a : SlicesFault) → ReportsNoSegments limit parts a → AreSegments limit parts → ⊥
   not_both a h x3 = search (rules, not_whole)
 
 -- So there is one thing to be found.
@@ -45,6 +45,6 @@ one_found l parts f g (message h s v t e) (message k r w u i) =
     (λ z _ p q. (p ∙ sym q, tt)) t u).0 in
     e ∙ (ap (framed_found (8 * words_in parts) (length parts)) one ∙ sym i)
 
-pub one_segments_told : (l : CallLimits) (parts : List (List ℕ)) (a b : Answer) (r q : CallReport) → TellsSegments l parts a r
-    → TellsSegments l parts b q → (a ≡ b) × (r ≡ q)
-one_segments_told l parts a b r q (f, t, h) (g, u, k) = one_returned f g a b r q (one_found l parts f g t u) h k
+pub one_segments_reported : (l : CallLimits) (parts : List (List ℕ)) (a b : Answer) (r q : CallReport) → ReportsSegments l parts a r
+    → ReportsSegments l parts b q → (a ≡ b) × (r ≡ q)
+one_segments_reported l parts a b r q (f, t, h) (g, u, k) = one_returned f g a b r q (one_found l parts f g t u) h k

@@ -1,4 +1,4 @@
--- The group in front of packed bytes, by its kind.
+-- The group before packed bytes, by its kind.
 use Rattle.cap_spec.proofs.Bytes.Plain.{words_exact}
 use Rattle.cap_spec.proofs.Packed.Unpacking.{cut_front, length_marked, unpacked_front}
 use Rattle.cap_spec.proofs.ProofNames.{List, drop, drop-drop, length, length-append, length-drop, rules}
@@ -17,7 +17,7 @@ pub marked_length : (bs : List ℕ) → 0 < length bs → slice_index bs 0 < 256
     group_length bs ≡ 1 + ones (slice_index bs 0)
 marked_length bs l h z f = search (rules, head_rest-ones, head_rest-marked, length_marked)
 
--- the groups behind the one in front go on with the words and with the end
+-- the groups after the one in front go on with the words and with the end
 pub goes_on : (bs front : List ℕ) (at n k words : ℕ) → front ≡ drop at bs → 0 < length front → n ≡ group_length front
     → n ≤ length front →
     k ≡ length (group_words front)

@@ -1,14 +1,14 @@
 -- A message that is unpacked has no more bytes than a frame within the limit.
 use Rattle.std.proofs.Common.{List, arith, inl, inr, length, ℕ, ◌≤◌}
-use Rattle.cap_calls.specs.CallNames.{frame_bound, IsOpen, StopsCall, TellsUnpackMessage, bad, too_many, truncated}
+use Rattle.cap_calls.specs.CallNames.{frame_bound, IsOpen, StopsCall, ReportsUnpackMessage, bad, too_many, truncated}
 use Rattle.cap_calls.specs.CallNames.{unpacks, Answer, CallLimits, CallReport, Unpacking}
 use Rattle.cap_calls.specs.UnpackingMessages.{no_message, too_large, too_small, whole}
 use Rattle.cap_calls.proofs.Bounds.{frame_short}
 
 -- how many bytes an open message has
-open_bounded : (limit : ℕ) (held : List ℕ) (wanted : ℕ) → IsOpen limit held wanted → wanted ≤ frame_bound limit
-open_bounded limit held wanted (inl h) = omega (arith, h.1)
-open_bounded limit held wanted (inr h) = omega (arith, h.3)
+open_bounded : (limit : ℕ) (held : List ℕ) (needed : ℕ) → IsOpen limit held needed → needed ≤ frame_bound limit
+open_bounded limit held needed (inl h) = omega (arith, h.1)
+open_bounded limit held needed (inr h) = omega (arith, h.3)
 
 stop_bounded : (limit size : ℕ) (held : List ℕ) (z literal : ℕ) (rest : List ℕ) (a : Answer) (required written : ℕ)
     (r : CallReport) → StopsCall limit size held z literal rest a required written r → required ≤ frame_bound limit
@@ -19,12 +19,12 @@ stop_bounded limit size held z literal rest a required written r (too_large word
 stop_bounded limit size held z literal rest a required written r (too_small still next less e w i) =
     open_bounded limit held required still
 stop_bounded limit size held z literal rest a required written r (no_message none y l e q n w i) = omega (arith, n)
-stop_bounded limit size held z literal rest a required written r (truncated wanted still none some e n w i) =
+stop_bounded limit size held z literal rest a required written r (truncated needed still none some e n w i) =
     omega (arith, n)
 
 pub unpack_bounded : {l : CallLimits} {bs old : List ℕ} {state : Unpacking} {a : Answer} {consumed required : ℕ}
     {new : List ℕ} {left : Unpacking} {r : CallReport}
-    → TellsUnpackMessage l bs old state a consumed required new left r → required ≤ frame_bound l.message_words
+    → ReportsUnpackMessage l bs old state a consumed required new left r → required ≤ frame_bound l.message_words
 unpack_bounded (bad limits e c n o s i) = omega (arith, n)
 unpack_bounded {l = l} {old = old} {a = a} {required = required} {r = r} (unpacks words z literal written limits is appends stops s) =
     stop_bounded l.message_words (length old) _ z literal _ a required written r stops

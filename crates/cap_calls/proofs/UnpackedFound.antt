@@ -1,9 +1,9 @@
--- What a call that unpacks a message tells, by the words that it gave and the stage of the message.
+-- What a call that unpacks a message gives, by the words that it gave and the stage of the message.
 use Rattle.cap_spec.proofs.ProofNames.{List, arith, drop, length, length-take-le, subst, sym, take, take-take, ℕ, ◌*◌, ◌+◌}
 use Rattle.cap_spec.proofs.ProofNames.{◌<◌, ◌∙◌, ◌≡◌, ◌≤◌, AllByRecursion}
 use Rattle.cap_frame.specs.Fronts.{IsFront}
 use Rattle.cap_calls.specs.MessageStages.{ReachesStage}
-use Rattle.cap_calls.specs.CallNames.{AreLimits, IsEnd, Appends, IsOpen, IsState, StopsCall, TellsUnpackMessage, state_of}
+use Rattle.cap_calls.specs.CallNames.{AreLimits, IsEnd, Appends, IsOpen, IsState, StopsCall, ReportsUnpackMessage, state_of}
 use Rattle.cap_calls.specs.CallNames.{unpacks, Answer, Stage, CallLimits, CallReport, Unpacking}
 use Rattle.cap_calls.specs.declared.packed_stream.Given.{Given}
 use Rattle.cap_calls.proofs.AppendedWords.{appended, given_long, words_given}
@@ -32,15 +32,15 @@ at_end limit bs old new state g stage is f =
       ends = f.ends;
     }
 
--- So it tells this.
-pub told_stop : (l : CallLimits) (limit : ℕ) (bs old new : List ℕ) (state left : Unpacking) (g : Given) (stage : Stage) (a : Answer)
+-- So it gives this.
+pub reported_stop : (l : CallLimits) (limit : ℕ) (bs old new : List ℕ) (state left : Unpacking) (g : Given) (stage : Stage) (a : Answer)
     (consumed required : ℕ) (r : CallReport) → AreLimits l → limit ≡ l.message_words → AllByRecursion (λ b. b < 256) new
     → IsState limit state old → ReachesStage limit state.written state.zero_words state.literal_words bs old new g stage
     → ((size : ℕ) (held : List ℕ) → IsEnd limit size held (drop g.taken bs) g stage
     → StopsCall limit size held g.zeros g.literal (drop g.taken bs) a required left.written r) → consumed ≡ g.taken
     → left ≡ state_of left.written g.zeros g.literal state
-    → TellsUnpackMessage l bs old state a consumed required new left r
-told_stop l limit bs old new state left g stage a consumed required r lim e small is f stops c s =
+    → ReportsUnpackMessage l bs old state a consumed required new left r
+reported_stop l limit bs old new state left g stage a consumed required r lim e small is f stops c s =
     let ws = words_given state.written new g in
     let total : state.written + 8 * length ws ≡ g.written =
     given_long state.written state.zero_words state.literal_words bs old new g is.whole f.gives in

@@ -7,7 +7,7 @@ use Rattle.cap_spec.proofs.ProofNames.{length-append, length-take-le, refl, repl
 use Rattle.cap_spec.proofs.ProofNames.{take_all, take_at, ℕ, ◌*◌, ◌++◌, ◌+◌, ◌-◌, ◌<◌, ◌∙◌, ◌∷◌, ◌≡◌, ◌≤◌, cases_lt}
 use Rattle.cap_spec.proofs.ProofNames.{drop_all, length-replicate, take-append-le, take-replicate, too_large, too_many}
 use Rattle.cap_spec.proofs.ProofNames.{plain_text, rules}
-use Rattle.cap_calls.specs.CallNames.{GivesWords, words_to_come, Appends, IsOpen, StopsCall, TellsUnpackMessage, bad}
+use Rattle.cap_calls.specs.CallNames.{GivesWords, words_to_come, Appends, IsOpen, StopsCall, ReportsUnpackMessage, bad}
 use Rattle.cap_calls.specs.CallNames.{state_of, unpacks, Answer, CallLimits, CallReport, Unpacking}
 use Rattle.cap_calls.proofs.MessageStages.{open_not_whole}
 use Rattle.cap_calls.proofs.OneStop.{never_open, none_comes, one_stop}
@@ -110,16 +110,16 @@ stops_last limit bytes old new longer state ws vs c z p d y q a n w r f g less s
     search (rules, length-take-le, length-append, length_plain) in
     not_last held goes_on.0 still s some (omega (arith, long, g.fits, less))
   where
-    not_last : (held : List ℕ) (wanted : ℕ) → IsOpen limit held wanted
+    not_last : (held : List ℕ) (needed : ℕ) → IsOpen limit held needed
         → StopsCall limit (length old) held z p (drop c bytes) a n w r → 0 < length (words_to_come z p (drop c bytes))
         → length held + 8 ≤ length old → ⊥
-    not_last held wanted o (stop.whole m f e g h i) some room = open_not_whole limit wanted (length held) held m o f
-    not_last held wanted o (stop.too_many k f e g h i) some room = never_open limit held too_many wanted (λ j. cc) (λ j. cc) f.0 o
-    not_last held wanted o (stop.too_large k f e g h i) some room = never_open limit held too_large wanted (λ j. cc) (λ j. cc) f.0 o
-    not_last held wanted o (stop.too_small x y e g h i) some room = omega (arith, e, room)
-    not_last held wanted o (stop.no_message x y e g h i j k) some room =
+    not_last held needed o (stop.whole m f e g h i) some capacity = open_not_whole limit needed (length held) held m o f
+    not_last held needed o (stop.too_many k f e g h i) some capacity = never_open limit held too_many needed (λ j. cc) (λ j. cc) f.0 o
+    not_last held needed o (stop.too_large k f e g h i) some capacity = never_open limit held too_large needed (λ j. cc) (λ j. cc) f.0 o
+    not_last held needed o (stop.too_small x y e g h i) some capacity = omega (arith, e, capacity)
+    not_last held needed o (stop.no_message x y e g h i j k) some capacity =
         omega (arith, some, ap length (none_comes limit held z p (drop c bytes) y e g))
-    not_last held wanted o (stop.truncated k x y e g h i j) some room = omega (arith, some, ap length y)
+    not_last held needed o (stop.truncated k x y e g h i j) some capacity = omega (arith, some, ap length y)
 
 -- So two calls append the same words.
 same_words : (limit : ℕ) (bytes old new longer : List ℕ) (state : Unpacking) (ws vs : List ℕ) (c z p d y q : ℕ) (a b : Answer)
@@ -139,14 +139,14 @@ same_words limit bytes old new longer state ws vs c z p d y q a b n k w v r s f 
   ]
 ]
 
--- What is told of the same words.
-told_once : (limit : ℕ) (bytes old new longer : List ℕ) (state left last : Unpacking) (ws vs : List ℕ) (c z p d y x : ℕ) (a b : Answer)
+-- What is reported of the same words.
+reported_once : (limit : ℕ) (bytes old new longer : List ℕ) (state left last : Unpacking) (ws vs : List ℕ) (c z p d y x : ℕ) (a b : Answer)
     (n k w v : ℕ) (r q : CallReport) → Appends limit bytes old state ws c z p new → Appends limit bytes old state vs d y x longer
     → StopsCall limit (length old) (take (state.written + 8 * length ws) new) z p (drop c bytes) a n w r
     → StopsCall limit (length old) (take (state.written + 8 * length vs) longer) y x (drop d bytes) b k v q
     → left ≡ state_of w z p state → last ≡ state_of v y x state
     → (a ≡ b) × (c ≡ d) × (n ≡ k) × (new ≡ longer) × (left ≡ last) × (r ≡ q)
-told_once limit bytes old new longer state left last ws vs c z p d y x a b n k w v r q f g h i e j =
+reported_once limit bytes old new longer state left last ws vs c z p d y x a b n k w v r q f g h i e j =
     let same = same_words limit bytes old new longer state ws vs c z p d y x a b n k w v r q f g h i in
     let text : new ≡ longer = search rules in
     let place = one_lead state.zero_words state.literal_words z p y x c d bytes ws f.leads
@@ -162,15 +162,15 @@ told_once limit bytes old new longer state left last ws vs c z p d y x a b n k w
     (sym place.1) i))) in
     search (rules, one_stop limit (take (state.written + 8 * length ws) new) (length old) z p (drop c bytes) a b n k w v r q h stop)
 
-pub one_unpack_told : (l : CallLimits) (bs old : List ℕ) (state : Unpacking) (a b : Answer) (c d n k : ℕ) (xs ys : List ℕ)
-    (left last : Unpacking) (r q : CallReport) → TellsUnpackMessage l bs old state a c n xs left r
-    → TellsUnpackMessage l bs old state b d k ys last q
+pub one_unpack_reported : (l : CallLimits) (bs old : List ℕ) (state : Unpacking) (a b : Answer) (c d n k : ℕ) (xs ys : List ℕ)
+    (left last : Unpacking) (r q : CallReport) → ReportsUnpackMessage l bs old state a c n xs left r
+    → ReportsUnpackMessage l bs old state b d k ys last q
     → (a ≡ b) × (c ≡ d) × (n ≡ k) × (xs ≡ ys) × (left ≡ last) × (r ≡ q)
-one_unpack_told l bs old state a b c d n k xs ys left last r q (bad not_good e f g h i j) (bad also s t u v w x) =
+one_unpack_reported l bs old state a b c d n k xs ys left last r q (bad not_good e f g h i j) (bad also s t u v w x) =
     (e ∙ sym s, f ∙ sym t, g ∙ sym u, h ∙ sym v, i ∙ sym w, j ∙ sym x)
-one_unpack_told l bs old state a b c d n k xs ys left last r q (bad not_good e f g h i j) (unpacks vs y x v lim is g2 s w) =
+one_unpack_reported l bs old state a b c d n k xs ys left last r q (bad not_good e f g h i j) (unpacks vs y x v lim is g2 s w) =
     absurd (not_good (lim, is))
-one_unpack_told l bs old state a b c d n k xs ys left last r q (unpacks ws z p w lim is f s e) (bad not_good t u v g h i) =
+one_unpack_reported l bs old state a b c d n k xs ys left last r q (unpacks ws z p w lim is f s e) (bad not_good t u v g h i) =
     absurd (not_good (lim, is))
-one_unpack_told l bs old state a b c d n k xs ys left last r q (unpacks ws z p w lim is f h e) (unpacks vs y x v also it g i j) =
-    told_once l.message_words bs old xs ys state left last ws vs c z p d y x a b n k w v r q f g h i e j
+one_unpack_reported l bs old state a b c d n k xs ys left last r q (unpacks ws z p w lim is f h e) (unpacks vs y x v also it g i j) =
+    reported_once l.message_words bs old xs ys state left last ws vs c z p d y x a b n k w v r q f g h i e j

@@ -5,7 +5,7 @@ use Rattle.cap_spec.proofs.ProofNames.{List, ap, append_assoc, ap₂, arith, dro
 use Rattle.cap_spec.proofs.ProofNames.{length-append, length-drop, length-take, length-take-le, refl, subst, sym, take}
 use Rattle.cap_spec.proofs.ProofNames.{take_at, ℕ, ◌*◌, ◌++◌, ◌+◌, ◌-◌, ◌<◌, ◌∙◌, ◌≡◌, ◌≤◌, ◌⊎◌, cases_lt, drop-append-le}
 use Rattle.cap_spec.proofs.ProofNames.{take-append-le, plain_text, rules}
-use Rattle.cap_calls.specs.CallNames.{GivesWords, words_to_come, Appends, IsOpen, IsState, StopsCall, TellsUnpackMessage}
+use Rattle.cap_calls.specs.CallNames.{GivesWords, words_to_come, Appends, IsOpen, IsState, StopsCall, ReportsUnpackMessage}
 use Rattle.cap_calls.specs.CallNames.{bad, state_of, unpacks, Answer, CallLimits, CallReport, Unpacking}
 use Rattle.cap_calls.specs.declared.answer.Answer.TheVariants.{NoMessage, Truncated}
 use Rattle.cap_calls.proofs.MessageStages.{open_not_whole}
@@ -79,7 +79,7 @@ module _ (limit : ℕ) (bytes more old new newer : List ℕ) (state : Unpacking)
 -- After these two answers the message goes on.
 goes_on : (limit size : ℕ) (held : List ℕ) (z p : ℕ) (rest : List ℕ) (a : Answer) (n w : ℕ) (r : CallReport)
     → (a ≡ Truncated) ⊎ (a ≡ NoMessage) → StopsCall limit size held z p rest a n w r
-    → (wanted : ℕ) × IsOpen limit held wanted × (w ≡ length held)
+    → (needed : ℕ) × IsOpen limit held needed × (w ≡ length held)
 goes_on limit size held z p rest a n w r t (stop.whole m f e g h i) = absurd (other t e)
   where
     other : (a ≡ Truncated) ⊎ (a ≡ NoMessage) → a ≡ answer.Good → ⊥
@@ -104,19 +104,19 @@ goes_on limit size held z p rest a n w r t (stop.no_message x y e g h i j k) = (
 goes_on limit size held z p rest a n w r t (stop.truncated k x y e g h i j) = (k, x, i)
 
 -- A call over two pieces together does what two calls do.
-pub pieces_told : (l : CallLimits) (bs more old : List ℕ) (state : Unpacking) (a b : Answer) (c d n k : ℕ) (new newer : List ℕ)
-    (left last : Unpacking) (r q : CallReport) → TellsUnpackMessage l bs old state a c n new left r
-    → (a ≡ Truncated) ⊎ (a ≡ NoMessage) → TellsUnpackMessage l (drop c bs ++ more) new left b d k newer last q
-    → TellsUnpackMessage l (bs ++ more) old state b (c + d) k newer last q
-pieces_told l bs more old state a b c d n k new newer left last r q (bad not_good e f g h i j) t u = absurd (other t e)
+pub pieces_reported : (l : CallLimits) (bs more old : List ℕ) (state : Unpacking) (a b : Answer) (c d n k : ℕ) (new newer : List ℕ)
+    (left last : Unpacking) (r q : CallReport) → ReportsUnpackMessage l bs old state a c n new left r
+    → (a ≡ Truncated) ⊎ (a ≡ NoMessage) → ReportsUnpackMessage l (drop c bs ++ more) new left b d k newer last q
+    → ReportsUnpackMessage l (bs ++ more) old state b (c + d) k newer last q
+pieces_reported l bs more old state a b c d n k new newer left last r q (bad not_good e f g h i j) t u = absurd (other t e)
   where
     other : (a ≡ Truncated) ⊎ (a ≡ NoMessage) → a ≡ answer.BadLimits → ⊥
     other (inl t) e = cc
     other (inr t) e = cc
-pieces_told l bs more old state a b c d n k new newer left last r q (unpacks ws z p w lim is f h e) t u =
-    second (subst (λ (s : Unpacking). TellsUnpackMessage l (drop c bs ++ more) new s b d k newer last q) e u)
+pieces_reported l bs more old state a b c d n k new newer left last r q (unpacks ws z p w lim is f h e) t u =
+    second (subst (λ (s : Unpacking). ReportsUnpackMessage l (drop c bs ++ more) new s b d k newer last q) e u)
   where
-    still : (wanted : ℕ) × IsOpen l.message_words (take (state.written + 8 * length ws) new) wanted
+    still : (needed : ℕ) × IsOpen l.message_words (take (state.written + 8 * length ws) new) needed
         × (w ≡ length (take (state.written + 8 * length ws) new))
     still = goes_on l.message_words (length old) (take (state.written + 8 * length ws) new) z p (drop c bs) a n w r t h
 
@@ -138,8 +138,8 @@ pieces_told l bs more old state a b c d n k new newer left last r q (unpacks ws 
           (subst (λ (x : ℕ). IsOpen l.message_words (take x new) still.0) (sym at) still.1) h;
     }
 
-    second : TellsUnpackMessage l (drop c bs ++ more) new (state_of w z p state) b d k newer last q
-        → TellsUnpackMessage l (bs ++ more) old state b (c + d) k newer last q
+    second : ReportsUnpackMessage l (drop c bs ++ more) new (state_of w z p state) b d k newer last q
+        → ReportsUnpackMessage l (bs ++ more) old state b (c + d) k newer last q
     second (bad not_good e f g h i j) = absurd (not_good (lim, left_good))
     second (unpacks vs y x v also it g i j) =
         let count : w + 8 * length vs ≡ state.written + 8 * length (ws ++ vs) = omega (arith, at, length-append ws vs) in

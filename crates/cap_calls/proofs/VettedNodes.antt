@@ -7,10 +7,10 @@ use Rattle.cap_vet.specs.VetNames.{Meets, words_under, MeetsOnPath}
 use Rattle.cap_vet.proofs.PathFaults.{meets_no_path_fault}
 use Rattle.cap_calls.specs.CallFindings.{accepted, without}
 use Rattle.cap_calls.specs.NodeCalls.{bad_limits}
-use Rattle.cap_calls.specs.CallNames.{Step, Demands, refusal_answer, framed, refused, tells, trailing, allows_trailing}
+use Rattle.cap_calls.specs.CallNames.{Step, Demands, refusal_answer, framed, refused, reports, trailing, allows_trailing}
 use Rattle.cap_calls.specs.CallNames.{demands_of, has_no_table, HasFrame, HasTrailing, of_frame, of_no_words, of_words}
-use Rattle.cap_calls.specs.CallNames.{none_node, cause_answer, TellsMessage, TellsVet, Gets, TellsGet, a_path}
-use Rattle.cap_calls.specs.CallNames.{bad_path, AreSteps, EndsRange, GetsRange, TellsRange, full}
+use Rattle.cap_calls.specs.CallNames.{none_node, cause_answer, ReportsMessage, ReportsVet, Gets, ReportsGet, a_path}
+use Rattle.cap_calls.specs.CallNames.{bad_path, AreSteps, EndsRange, GetsRange, ReportsRange, full}
 use Rattle.cap_calls.specs.CallNames.{past, path_after, stops, unknown, Answer, Found, CallLimits, CallNode, CallReport}
 use Rattle.cap_calls.specs.CallNames.{CallStep}
 use Rattle.cap_calls.proofs.Answers.{no_cause, one_extent}
@@ -38,18 +38,18 @@ record IsAcceptedFrame (l : CallLimits) (bs : List ℕ) : Type 0 where
   meets : Meets (demands_of l) m l.charge l.depth
   alone : not (allows_trailing l) ≡ true → ¬ HasTrailing l bs
 
-accepted_frame : (l : CallLimits) (bs : List ℕ) (r : CallReport) → IsFalse (has_no_table l) → TellsVet l bs answer.Good r
+accepted_frame : (l : CallLimits) (bs : List ℕ) (r : CallReport) → IsFalse (has_no_table l) → ReportsVet l bs answer.Good r
     → IsAcceptedFrame l bs
 accepted_frame l bs r off (f, of_no_words on c h e k, q) = one_input l off on
 accepted_frame l bs r off (f, of_words on g h p e, q) = one_input l off on
 accepted_frame l bs r off (f, of_frame n (trailing m x y t h more e k), q) =
     absurd (not_zero answer.Trailing (omega arith) (sym (ap (λ (z : Found). z.answer) e) ∙ sym q.0))
-accepted_frame l bs r off (f, of_frame n (tells only (without c h e k)), q) =
+accepted_frame l bs r off (f, of_frame n (reports only (without c h e k)), q) =
     absurd (not_zero (cause_answer c) (cause_not_zero c) (sym (ap (λ (z : Found). z.answer) e) ∙ sym q.0))
-accepted_frame l bs r off (f, of_frame n (tells only (framed m x y g h (refused v u j i) e)), q) =
+accepted_frame l bs r off (f, of_frame n (reports only (framed m x y g h (refused v u j i) e)), q) =
     absurd (not_zero (refusal_answer v) (refusal_not_zero v)
     (sym (ap (λ (z : Found). z.answer) j) ∙ sym (ap (λ (z : Found). z.answer) e) ∙ sym q.0))
-accepted_frame l bs r off (f, of_frame n (tells only (framed m x y g h (accepted v u n' j) e)), q) =
+accepted_frame l bs r off (f, of_frame n (reports only (framed m x y g h (accepted v u n' j) e)), q) =
     record { m = m; frame = x; segments = y; framed = h; meets = n'; alone = only }
 
 -- what is found where the pointers on the path meet the demands
@@ -68,11 +68,11 @@ module _ (l : CallLimits) (bs : List ℕ) (k : IsAcceptedFrame l bs) where
       (meets_on_path (demands_of l) k.m l.charge l.depth k.meets path)
 
   path_got : (path : List Step) (node : CallNode) (f : Found)
-      → TellsMessage (node ≡ none_node) (Gets path node (demands_of l)) l bs f
+      → ReportsMessage (node ≡ none_node) (Gets path node (demands_of l)) l bs f
       → (f.answer ≡ answer.Good) ⊎ (f.answer ≡ answer.NoNode)
   path_got path node f (trailing m x y t h more e i) = absurd (k.alone t (m, x, y, h, more))
-  path_got path node f (tells only (without c h e i)) = absurd (no_cause l bs c k.frame k.segments k.m h k.framed)
-  path_got path node f (tells only (framed m x y g h p e)) =
+  path_got path node f (reports only (without c h e i)) = absurd (no_cause l bs c k.frame k.segments k.m h k.framed)
+  path_got path node f (reports only (framed m x y g h p e)) =
       let same : f.answer ≡ g.answer = ap (λ (z : Found). z.answer) e in
       elim (got path node (demands_of l) m l.charge l.depth g (on_path m x y h path) p) [
         | inl i ↦ inl (same ∙ i)
@@ -92,17 +92,17 @@ module _ (l : CallLimits) (bs : List ℕ) (k : IsAcceptedFrame l bs) where
       ]
 
   range_got : (path : ℕ → List Step) (old new : List CallNode) (f : Found)
-      → TellsMessage (new ≡ old) (GetsRange path old new (demands_of l)) l bs f
+      → ReportsMessage (new ≡ old) (GetsRange path old new (demands_of l)) l bs f
       → (f.answer ≡ answer.Good) ⊎ (f.answer ≡ answer.NoNode)
   range_got path old new f (trailing m x y t h more e i) = absurd (k.alone t (m, x, y, h, more))
-  range_got path old new f (tells only (without c h e i)) = absurd (no_cause l bs c k.frame k.segments k.m h k.framed)
-  range_got path old new f (tells only (framed m x y g h p e)) =
+  range_got path old new f (reports only (without c h e i)) = absurd (no_cause l bs c k.frame k.segments k.m h k.framed)
+  range_got path old new f (reports only (framed m x y g h p e)) =
       let same : f.answer ≡ g.answer = ap (λ (z : Found). z.answer) e in
       elim (ends_got path (length old) m g (on_path m x y h) p.end) [ inl i ↦ inl (same ∙ i) | inr i ↦ inr (same ∙ i) ]
 
 -- The call for the node at a path refuses nothing in a message that the vetter accepts.
 pub vetted_got : (l : CallLimits) (bs text : List ℕ) (a : Answer) (node : CallNode) (r q : CallReport)
-    → IsFalse (has_no_table l) → IsPath text → TellsVet l bs answer.Good r → TellsGet l bs text a node q
+    → IsFalse (has_no_table l) → IsPath text → ReportsVet l bs answer.Good r → ReportsGet l bs text a node q
     → (a ≡ answer.Good) ⊎ (a ≡ answer.NoNode)
 vetted_got l bs text a node r q off is vets (f, bad_limits bad e n, (i, j)) =
     absurd (bad ((accepted_frame l bs r off vets).framed.are_limits))
@@ -113,7 +113,7 @@ vetted_got l bs text a node r q off is vets (f, a_path path are whole t, (i, j))
 -- Nor does the call for the nodes of a range.
 pub vetted_range : (l : CallLimits) (bs : List ℕ) (steps : List CallStep) (varying : ℕ) (old : List CallNode) (a : Answer)
     (n : ℕ) (new : List CallNode) (r q : CallReport) → IsFalse (has_no_table l) → AreSteps steps varying
-    → TellsVet l bs answer.Good r → TellsRange l bs steps varying old a n new q → (a ≡ answer.Good) ⊎ (a ≡ answer.NoNode)
+    → ReportsVet l bs answer.Good r → ReportsRange l bs steps varying old a n new q → (a ≡ answer.Good) ⊎ (a ≡ answer.NoNode)
 vetted_range l bs steps varying old a n new r q off are vets (f, range.bad_limits bad e i, h, c) =
     absurd (bad ((accepted_frame l bs r off vets).framed.are_limits))
 vetted_range l bs steps varying old a n new r q off are vets (f, range.bad_steps at lim (unknown less two first) e i, h, c) =

@@ -9,10 +9,10 @@ use Rattle.cap_calls.specs.AnswerNumbers.{answer_number}
 use Rattle.cap_calls.specs.CallFindings.{accepted, without}
 use Rattle.cap_calls.specs.CallFlags.{AllowsMore, allows_nonstrict}
 use Rattle.cap_calls.specs.CallInputs.{AreInputLimits, AreWordLimits}
-use Rattle.cap_calls.specs.CallNames.{Reason, StrictRefusal, Report, reason_answer, refusal_answer, Judges, TellsWhole}
-use Rattle.cap_calls.specs.CallNames.{framed, refused, tells, trailing, allows_amplified, allows_trailing, demands_of}
-use Rattle.cap_calls.specs.CallNames.{AreLimits, HasFrame, HasTrailing, HasWords, TellsInput, cause_answer, IsGood}
-use Rattle.cap_calls.specs.CallNames.{TellsVet, Answer, Found, NoFrame, CallLimits, CallReport}
+use Rattle.cap_calls.specs.CallNames.{Reason, StrictRefusal, Report, reason_answer, refusal_answer, Judges, ReportsWhole}
+use Rattle.cap_calls.specs.CallNames.{framed, refused, reports, trailing, allows_amplified, allows_trailing, demands_of}
+use Rattle.cap_calls.specs.CallNames.{AreLimits, HasFrame, HasTrailing, HasWords, ReportsInput, cause_answer, IsGood}
+use Rattle.cap_calls.specs.CallNames.{ReportsVet, Answer, Found, NoFrame, CallLimits, CallReport}
 use Rattle.cap_calls.proofs.Answers.{one_extent}
 use Rattle.cap_frame.specs.declared.fault.FrontFault.TheVariants as fault
 use Rattle.cap_spec.specs.declared.Lax.TheVariants as lax
@@ -104,33 +104,33 @@ module _ (l k : CallLimits) (more : AllowsMore l k) where
       only (unset (allows_trailing l) (allows_trailing k) more.trailing e)
       (m, x, y, h, subst (λ (z : ℕ). z < length bs) (one_extent k bs a x b y n m g (frame bs x y m good h)).0 less)
 
-  framed_told : (bs : List ℕ) (f : Found) → AreLimits k → f.answer ≡ answer.Good
-      → TellsWhole (not (allows_trailing l)) ⊤ (Judges (demands_of l) ⊤ IsGood) l bs f
-      → TellsWhole (not (allows_trailing k)) ⊤ (Judges (demands_of k) ⊤ IsGood) k bs f
-  framed_told bs f good a (trailing m x y t h less e i) =
+  framed_reported : (bs : List ℕ) (f : Found) → AreLimits k → f.answer ≡ answer.Good
+      → ReportsWhole (not (allows_trailing l)) ⊤ (Judges (demands_of l) ⊤ IsGood) l bs f
+      → ReportsWhole (not (allows_trailing k)) ⊤ (Judges (demands_of k) ⊤ IsGood) k bs f
+  framed_reported bs f good a (trailing m x y t h less e i) =
       absurd (not_zero answer.Trailing (omega arith) (sym (ap (λ (z : Found). z.answer) e) ∙ a))
-  framed_told bs f good a (tells only (without c h e i)) =
+  framed_reported bs f good a (reports only (without c h e i)) =
       absurd (not_zero (cause_answer c) (cause_not_zero c) (sym (ap (λ (z : Found). z.answer) e) ∙ a))
-  framed_told bs f good a (tells only (framed m x y g h p e)) =
-      tells (none bs x y m good h only)
+  framed_reported bs f good a (reports only (framed m x y g h p e)) =
+      reports (none bs x y m good h only)
       (framed m x y g (frame bs x y m good h) (judged m g (sym (ap (λ (z : Found). z.answer) e) ∙ a) p) e)
 
   wider_words : (bs : List ℕ) → AreWordLimits k → HasWords l bs → HasWords k bs
   wider_words bs good h =
       record { are_limits = good; some = h.some; within = omega (arith, h.within, more.size); whole = h.whole }
 
-  input_told : (bs : List ℕ) (f : Found) → AreInputLimits k → f.answer ≡ answer.Good
-      → TellsInput (not (allows_trailing l)) ⊤ (Judges (demands_of l) ⊤ IsGood) l bs f
-      → TellsInput (not (allows_trailing k)) ⊤ (Judges (demands_of k) ⊤ IsGood) k bs f
-  input_told bs f good a (input.of_frame n t) =
-      let off = sym more.table ∙ n in input.of_frame off (framed_told bs f (good.frame off) a t)
-  input_told bs f good a (input.of_no_words y c h e i) =
+  input_reported : (bs : List ℕ) (f : Found) → AreInputLimits k → f.answer ≡ answer.Good
+      → ReportsInput (not (allows_trailing l)) ⊤ (Judges (demands_of l) ⊤ IsGood) l bs f
+      → ReportsInput (not (allows_trailing k)) ⊤ (Judges (demands_of k) ⊤ IsGood) k bs f
+  input_reported bs f good a (input.of_frame n t) =
+      let off = sym more.table ∙ n in input.of_frame off (framed_reported bs f (good.frame off) a t)
+  input_reported bs f good a (input.of_no_words y c h e i) =
       absurd (not_zero (cause_answer c) (cause_not_zero c) (sym (ap (λ (z : Found). z.answer) e) ∙ a))
-  input_told bs f good a (input.of_words y g h p e) =
+  input_reported bs f good a (input.of_words y g h p e) =
       let on = sym more.table ∙ y in
       input.of_words on g (wider_words bs (good.words on) h)
       (judged (plain_words bs ∷ []) g (sym (ap (λ (z : Found). z.answer) e) ∙ a) p) e
 
-  pub wider_told : (bs : List ℕ) (r : CallReport) → AreInputLimits k → TellsVet l bs answer.Good r
-      → TellsVet k bs answer.Good r
-  wider_told bs r good (f, t, (a, q)) = (f, input_told bs f good (sym a) t, (a, q))
+  pub wider_reported : (bs : List ℕ) (r : CallReport) → AreInputLimits k → ReportsVet l bs answer.Good r
+      → ReportsVet k bs answer.Good r
+  wider_reported bs r good (f, t, (a, q)) = (f, input_reported bs f good (sym a) t, (a, q))

@@ -40,22 +40,22 @@ framed_found frame segments f = record f { report = record f.report { length = f
 
 -- The bytes have no frame within the limits, and then something is kept. Or the call finds this of
 -- the message in the frame, within the limits of charge and depth.
-pub data Tells (kept : Type 0) (finds : List (List ℕ) → ℕ → ℕ → Found → Type 0) (l : CallLimits) (bytes : List ℕ)
+pub data Reports (kept : Type 0) (finds : List (List ℕ) → ℕ → ℕ → Found → Type 0) (l : CallLimits) (bytes : List ℕ)
     (f : Found) : Type 0 where
-  without : (cause : NoFrame) → HasNoFrame l bytes cause → f ≡ none_found cause → kept → Tells kept finds l bytes f
+  without : (cause : NoFrame) → HasNoFrame l bytes cause → f ≡ none_found cause → kept → Reports kept finds l bytes f
   framed : (m : List (List ℕ)) (frame segments : ℕ) (g : Found) → HasFrame l bytes frame segments m
       → finds m l.charge l.depth g
-      → f ≡ framed_found frame segments g → Tells kept finds l bytes f
+      → f ≡ framed_found frame segments g → Reports kept finds l bytes f
 
 -- The bytes have to be one message and nothing else, and more bytes follow it; then something is kept.
 -- Or the call reports the same as above.
-pub data TellsWhole (whole : Bool) (kept : Type 0) (finds : List (List ℕ) → ℕ → ℕ → Found → Type 0) (l : CallLimits)
+pub data ReportsWhole (whole : Bool) (kept : Type 0) (finds : List (List ℕ) → ℕ → ℕ → Found → Type 0) (l : CallLimits)
     (bytes : List ℕ) (f : Found) : Type 0 where
   trailing : (m : List (List ℕ)) (frame segments : ℕ) → whole ≡ true → HasFrame l bytes frame segments m
       → frame < length bytes
       → f ≡ framed_found frame segments (trailing_found (length bytes - frame)) → kept
-      → TellsWhole whole kept finds l bytes f
-  tells : (whole ≡ true → ¬ HasTrailing l bytes) → Tells kept finds l bytes f → TellsWhole whole kept finds l bytes f
+      → ReportsWhole whole kept finds l bytes f
+  reports : (whole ≡ true → ¬ HasTrailing l bytes) → Reports kept finds l bytes f → ReportsWhole whole kept finds l bytes f
 
 -- The message doesn't meet the demands, and then something is kept. Or it is accepted and meets them,
 -- and the call finds this.

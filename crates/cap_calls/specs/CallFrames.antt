@@ -2,7 +2,7 @@
 -- (profile; standard: Serialization Over a Stream).
 use Rattle.std.specs.Prelude.{Err, List, [], length, ℕ, ◌<◌, ◌≡◌, ◌≤◌}
 use Rattle.cap_spec.specs.GreatestLimits.{most_depth, most_words}
-use Rattle.cap_frame.specs.FrameNames.{TellsFront, IsFront}
+use Rattle.cap_frame.specs.FrameNames.{ReportsFront, IsFront}
 use Rattle.cap_calls.specs.CallFlags.{HasKnownFlags}
 use Rattle.cap_calls.specs.declared.front.NoFrame.{NoFrame}
 use Rattle.cap_calls.specs.declared.front.NoFrame.TheVariants.{BadLimits, Fault, NoMessage}
@@ -19,7 +19,7 @@ pub record AreLimits (l : CallLimits) : Type 0 where
 abbrev pub HasNoFrame : CallLimits → List ℕ → NoFrame → Type 0
 HasNoFrame l bytes BadLimits = ¬ AreLimits l
 HasNoFrame l bytes NoMessage = AreLimits l × (bytes ≡ [])
-HasNoFrame l bytes (Fault fault) = AreLimits l × TellsFront l.message_words bytes (Err fault)
+HasNoFrame l bytes (Fault fault) = AreLimits l × ReportsFront l.message_words bytes (Err fault)
 
 -- The first `frame` bytes frame a message of this number of segments, within the limits.
 pub record HasFrame (l : CallLimits) (bytes : List ℕ) (frame segments : ℕ) (m : List (List ℕ)) : Type 0 where

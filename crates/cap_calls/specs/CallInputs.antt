@@ -2,7 +2,7 @@
 use Rattle.std.specs.Prelude.{Bool, IsFalse, IsTrue, List, [], length, ℕ, ◌%◌, ◌*◌, ◌+◌, ◌/◌, ◌<◌, ◌∷◌, ◌≡◌, ◌≤◌}
 use Rattle.cap_spec.specs.SpecNames.{most_depth, most_words, plain_words}
 use Rattle.cap_frame.specs.declared.fault.FrontFault.TheVariants.{TooLarge, TooManySegments, Truncated}
-use Rattle.cap_calls.specs.CallFindings.{TellsWhole, framed_found, none_found}
+use Rattle.cap_calls.specs.CallFindings.{ReportsWhole, framed_found, none_found}
 use Rattle.cap_calls.specs.CallFlags.{HasWordFlags, has_no_table}
 use Rattle.cap_calls.specs.CallFrames.{AreLimits}
 use Rattle.cap_calls.specs.declared.found.Found.{Found}
@@ -29,8 +29,8 @@ HasNoWords l bytes NoMessage = AreWordLimits l × (bytes ≡ [])
 HasNoWords l bytes (Fault (TooManySegments count)) = ⊥
 HasNoWords l bytes (Fault (TooLarge words)) = AreWordLimits l × (8 * l.message_words < length bytes)
     × (words ≡ (length bytes + 7) / 8)
-HasNoWords l bytes (Fault (Truncated wanted)) = AreWordLimits l × (length bytes ≤ 8 * l.message_words)
-    × (0 < length bytes % 8) × (wanted ≡ 8 * (length bytes / 8 + 1))
+HasNoWords l bytes (Fault (Truncated needed)) = AreWordLimits l × (length bytes ≤ 8 * l.message_words)
+    × (0 < length bytes % 8) × (needed ≡ 8 * (length bytes / 8 + 1))
 
 -- The bytes are the words of one segment, within the limits.
 pub record HasWords (l : CallLimits) (bytes : List ℕ) : Type 0 where
@@ -40,11 +40,11 @@ pub record HasWords (l : CallLimits) (bytes : List ℕ) : Type 0 where
   pub whole : length bytes % 8 ≡ 0
 
 -- What a call reports of its input. It is a frame, or with the flag 8 a segment: its length is then the input's.
-pub data TellsInput (whole : Bool) (kept : Type 0) (finds : List (List ℕ) → ℕ → ℕ → Found → Type 0) (l : CallLimits)
+pub data ReportsInput (whole : Bool) (kept : Type 0) (finds : List (List ℕ) → ℕ → ℕ → Found → Type 0) (l : CallLimits)
     (bytes : List ℕ) (f : Found) : Type 0 where
-  of_frame : IsFalse (has_no_table l) → TellsWhole whole kept finds l bytes f → TellsInput whole kept finds l bytes f
+  of_frame : IsFalse (has_no_table l) → ReportsWhole whole kept finds l bytes f → ReportsInput whole kept finds l bytes f
   of_no_words : IsTrue (has_no_table l) → (cause : NoFrame) → HasNoWords l bytes cause → f ≡ none_found cause → kept
-      → TellsInput whole kept finds l bytes f
+      → ReportsInput whole kept finds l bytes f
   of_words : IsTrue (has_no_table l) → (g : Found) → HasWords l bytes → finds (plain_words bytes ∷ []) l.charge l.depth g
       → f ≡ framed_found (length bytes) 1 g
-      → TellsInput whole kept finds l bytes f
+      → ReportsInput whole kept finds l bytes f

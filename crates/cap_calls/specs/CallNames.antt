@@ -15,29 +15,29 @@ pub use Rattle.cap_vet.specs.declared.nodes.view.View.{View}
 pub use Rattle.cap_vet.specs.declared.walk.vetting.Report.{Report}
 pub use Rattle.cap_calls.specs.AnswerNumbers.{reason_answer, refusal_answer}
 pub use Rattle.cap_calls.specs.CallBounds.{frame_bound}
-pub use Rattle.cap_calls.specs.CallFindings.{Judges, Tells, TellsWhole, accepted_found, framed, framed_found}
-pub use Rattle.cap_calls.specs.CallFindings.{none_found, refused, refused_found, tells, trailing}
+pub use Rattle.cap_calls.specs.CallFindings.{Judges, Reports, ReportsWhole, accepted_found, framed, framed_found}
+pub use Rattle.cap_calls.specs.CallFindings.{none_found, refused, refused_found, reports, trailing}
 pub use Rattle.cap_calls.specs.CallFlags.{allows_amplified, allows_trailing, demands_of, has_no_table}
 pub use Rattle.cap_calls.specs.CallFrames.{AreLimits, HasFrame, HasNoFrame, HasTrailing}
-pub use Rattle.cap_calls.specs.CallInputs.{HasWords, TellsInput, of_frame, of_no_words, of_words}
+pub use Rattle.cap_calls.specs.CallInputs.{HasWords, ReportsInput, of_frame, of_no_words, of_words}
 pub use Rattle.cap_calls.specs.CallNodes.{kind_node, none_node, offset_of}
 pub use Rattle.cap_calls.specs.CallReports.{cause_answer}
-pub use Rattle.cap_calls.specs.Calls.{IsGood, TellsMessage, TellsVet}
+pub use Rattle.cap_calls.specs.Calls.{IsGood, ReportsMessage, ReportsVet}
 pub use Rattle.cap_calls.specs.CanonicalCalls.{size_found}
 pub use Rattle.cap_calls.specs.ExclusiveCalls.{Marks, exclusive, fault_found, overlap}
 pub use Rattle.cap_calls.specs.MessageStages.{IsEnd}
-pub use Rattle.cap_calls.specs.NodeCalls.{Gets, TellsGet, a_node, a_path, bad_path, bad_path_found, no_meeting, no_node}
+pub use Rattle.cap_calls.specs.NodeCalls.{Gets, ReportsGet, a_node, a_path, bad_path, bad_path_found, no_meeting, no_node}
 pub use Rattle.cap_calls.specs.NodeCalls.{path_found}
-pub use Rattle.cap_calls.specs.PackCalls.{TellsText, cut}
+pub use Rattle.cap_calls.specs.PackCalls.{ReportsText, cut}
 pub use Rattle.cap_calls.specs.PackedStreams.{GivesWords, WritesWords, words_to_come}
 pub use Rattle.cap_calls.specs.PointerCalls.{call_step, steps_found}
-pub use Rattle.cap_calls.specs.RangeCalls.{AreSteps, EndsRange, GetsRange, TellsRange, full, past, path_after}
+pub use Rattle.cap_calls.specs.RangeCalls.{AreSteps, EndsRange, GetsRange, ReportsRange, full, past, path_after}
 pub use Rattle.cap_calls.specs.RangeCalls.{step_after, stops, unknown}
 pub use Rattle.cap_calls.specs.RangeShortcut.{HasCount, IsShortcutNode, WritesFirst}
 pub use Rattle.cap_calls.specs.SegmentCalls.{found}
-pub use Rattle.cap_calls.specs.SegmentsCalls.{TellsSegments, message}
-pub use Rattle.cap_calls.specs.Slices.{AreSegments, TellsNoSegments, segments_in, words_in}
-pub use Rattle.cap_calls.specs.UnpackingMessages.{Appends, IsOpen, IsState, StopsCall, TellsUnpackMessage, bad}
+pub use Rattle.cap_calls.specs.SegmentsCalls.{ReportsSegments, message}
+pub use Rattle.cap_calls.specs.Slices.{AreSegments, ReportsNoSegments, segments_in, words_in}
+pub use Rattle.cap_calls.specs.UnpackingMessages.{Appends, IsOpen, IsState, StopsCall, ReportsUnpackMessage, bad}
 pub use Rattle.cap_calls.specs.UnpackingMessages.{state_of, too_many, truncated, unpacks}
 pub use Rattle.cap_calls.specs.declared.answer.Answer.{Answer}
 pub use Rattle.cap_calls.specs.declared.answer.Answer.TheVariants.{BufferTooSmall, Good, NoNode}

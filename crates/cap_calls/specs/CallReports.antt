@@ -33,7 +33,7 @@ cause_detail BadLimits = 0
 cause_detail NoMessage = 0
 cause_detail (Fault (fault.TooManySegments count)) = count
 cause_detail (Fault (fault.TooLarge words)) = words
-cause_detail (Fault (fault.Truncated wanted)) = 0
+cause_detail (Fault (fault.Truncated needed)) = 0
 
 -- how many bytes the input needs at least
 abbrev pub cause_input_required : NoFrame → ℕ
@@ -41,7 +41,7 @@ cause_input_required BadLimits = 0
 cause_input_required NoMessage = 8
 cause_input_required (Fault (fault.TooManySegments count)) = 0
 cause_input_required (Fault (fault.TooLarge words)) = 0
-cause_input_required (Fault (fault.Truncated wanted)) = wanted
+cause_input_required (Fault (fault.Truncated needed)) = needed
 
 -- of bytes without a frame
 abbrev pub no_frame_report : NoFrame → CallReport
@@ -81,4 +81,4 @@ cause_answer BadLimits = answer.BadLimits
 cause_answer NoMessage = answer.NoMessage
 cause_answer (Fault (fault.TooManySegments count)) = answer.TooManySegments
 cause_answer (Fault (fault.TooLarge words)) = answer.TooLarge
-cause_answer (Fault (fault.Truncated wanted)) = answer.Truncated
+cause_answer (Fault (fault.Truncated needed)) = answer.Truncated

@@ -3,9 +3,9 @@
 use Rattle.std.specs.Prelude.{List, not, true, ℕ, ⊤, ◌≡◌}
 use Rattle.cap_spec.specs.Copies.{IsCanonical}
 use Rattle.cap_vet.specs.declared.walk.vetting.Report.{Report}
-use Rattle.cap_calls.specs.CallFindings.{Judges, Returns, Tells, TellsWhole, accepted_found}
+use Rattle.cap_calls.specs.CallFindings.{Judges, Returns, Reports, ReportsWhole, accepted_found}
 use Rattle.cap_calls.specs.CallFlags.{allows_trailing, demands_of}
-use Rattle.cap_calls.specs.CallInputs.{TellsInput}
+use Rattle.cap_calls.specs.CallInputs.{ReportsInput}
 use Rattle.cap_calls.specs.CallReports.{none_report}
 use Rattle.cap_calls.specs.declared.answer.Answer.{Answer}
 use Rattle.cap_calls.specs.declared.answer.Answer.TheVariants.{Good, NotCanonical}
@@ -18,20 +18,20 @@ abbrev pub FindsFrame : List (List ℕ) → ℕ → ℕ → Found → Type 0
 FindsFrame m words depth f = f ≡ record { answer = Good; count = 0; report = none_report }
 
 -- of the frame at the start of the bytes
-abbrev pub TellsFrame : CallLimits → List ℕ → Answer → CallReport → Type 0
-TellsFrame l bytes a r = (f : Found) × Tells ⊤ FindsFrame l bytes f × Returns f a r
+abbrev pub ReportsFrame : CallLimits → List ℕ → Answer → CallReport → Type 0
+ReportsFrame l bytes a r = (f : Found) × Reports ⊤ FindsFrame l bytes f × Returns f a r
 
 -- What a call reports of the message that the bytes are, or start with if the flags allow it.
-abbrev pub TellsMessage : Type 0 → (List (List ℕ) → ℕ → ℕ → Found → Type 0) → CallLimits → List ℕ → Found → Type 0
-TellsMessage kept finds l = TellsWhole (not (allows_trailing l)) kept finds l
+abbrev pub ReportsMessage : Type 0 → (List (List ℕ) → ℕ → ℕ → Found → Type 0) → CallLimits → List ℕ → Found → Type 0
+ReportsMessage kept finds l = ReportsWhole (not (allows_trailing l)) kept finds l
 
 -- of a message that is accepted
 abbrev pub IsGood : List (List ℕ) → Report → Found → Type 0
 IsGood m report f = f ≡ accepted_found Good 0 report
 
-abbrev pub TellsVet : CallLimits → List ℕ → Answer → CallReport → Type 0
-TellsVet l bytes a r =
-    (f : Found) × TellsInput (not (allows_trailing l)) ⊤ (Judges (demands_of l) ⊤ IsGood) l bytes f × Returns f a r
+abbrev pub ReportsVet : CallLimits → List ℕ → Answer → CallReport → Type 0
+ReportsVet l bytes a r =
+    (f : Found) × ReportsInput (not (allows_trailing l)) ⊤ (Judges (demands_of l) ⊤ IsGood) l bytes f × Returns f a r
 
 -- of a message that is accepted: it is its own canonical copy, or isn't
 pub data IsCheck (m : List (List ℕ)) (report : Report) (f : Found) : Type 0 where
@@ -39,5 +39,5 @@ pub data IsCheck (m : List (List ℕ)) (report : Report) (f : Found) : Type 0 wh
   not_canonical : ¬ IsCanonical m → f ≡ accepted_found NotCanonical 0 report → IsCheck m report f
 
 -- of the message that the input is: no bytes may follow it, whatever the flags allow
-abbrev pub TellsCheck : CallLimits → List ℕ → Answer → CallReport → Type 0
-TellsCheck l bytes a r = (f : Found) × TellsInput true ⊤ (Judges (demands_of l) ⊤ IsCheck) l bytes f × Returns f a r
+abbrev pub ReportsCheck : CallLimits → List ℕ → Answer → CallReport → Type 0
+ReportsCheck l bytes a r = (f : Found) × ReportsInput true ⊤ (Judges (demands_of l) ⊤ IsCheck) l bytes f × Returns f a r

@@ -4,7 +4,7 @@ use Rattle.cap_spec.specs.declared.Step.{Step}
 use Rattle.cap_trace.specs.EarlierPointers.{IsEarlier}
 use Rattle.cap_calls.specs.CallFindings.{Returns}
 use Rattle.cap_calls.specs.CallFlags.{allows_trailing}
-use Rattle.cap_calls.specs.CallInputs.{TellsInput}
+use Rattle.cap_calls.specs.CallInputs.{ReportsInput}
 use Rattle.cap_calls.specs.CallReports.{place_report}
 use Rattle.cap_calls.specs.NodeCalls.{path_found}
 use Rattle.cap_calls.specs.PointerCalls.{IsCounted}
@@ -27,6 +27,6 @@ pub data FindsEarlier (n : ℕ) (m : List (List ℕ)) (words depth : ℕ) (f : F
       → f ≡ path_found NoNode → FindsEarlier n m words depth f
 
 -- Of the message that the input is or starts with.
-abbrev pub TellsEarlierCall : CallLimits → List ℕ → ℕ → Answer → CallReport → Type 0
-TellsEarlierCall l bytes n a r =
-    (f : Found) × TellsInput (not (allows_trailing l)) ⊤ (FindsEarlier n) l bytes f × Returns f a r
+abbrev pub ReportsEarlierCall : CallLimits → List ℕ → ℕ → Answer → CallReport → Type 0
+ReportsEarlierCall l bytes n a r =
+    (f : Found) × ReportsInput (not (allows_trailing l)) ⊤ (FindsEarlier n) l bytes f × Returns f a r

@@ -5,17 +5,17 @@ use Rattle.cap_spec.specs.Occupying.{IsDisjoint, IsFirstOverlap}
 use Rattle.cap_spec.specs.declared.StrictRefusal.TheVariants.{Refused}
 use Rattle.cap_vet.specs.VetNames.{IsExclusiveFault, IsAccepted, marks_of}
 use Rattle.cap_vet.specs.declared.demands.Demands.{Demands}
-use Rattle.cap_vet.specs.declared.exclusiveness.exclusive_room.ExclusiveFault.{ExclusiveFault}
+use Rattle.cap_vet.specs.declared.exclusiveness.exclusive_buffer.ExclusiveFault.{ExclusiveFault}
 use Rattle.cap_vet.specs.declared.walk.vetting.Report.{Report}
 use Rattle.cap_calls.specs.CallFindings.{Judges, Returns, accepted_found, refused_found}
 use Rattle.cap_calls.specs.CallFlags.{allows_trailing, demands_of}
-use Rattle.cap_calls.specs.CallInputs.{TellsInput}
+use Rattle.cap_calls.specs.CallInputs.{ReportsInput}
 use Rattle.cap_calls.specs.CallReports.{place_report}
 use Rattle.cap_calls.specs.declared.answer.Answer.{Answer}
 use Rattle.cap_calls.specs.declared.found.Found.{Found}
 use Rattle.cap_calls.specs.declared.limits.CallLimits.{CallLimits}
 use Rattle.cap_calls.specs.declared.report.CallReport.{CallReport}
-use Rattle.cap_vet.specs.declared.exclusiveness.exclusive_room.ExclusiveFault.TheVariants as fault
+use Rattle.cap_vet.specs.declared.exclusiveness.exclusive_buffer.ExclusiveFault.TheVariants as fault
 use Rattle.cap_calls.specs.declared.answer.Answer.TheVariants as answer
 
 -- of an accepted message whose marks take n numbers, and that uses a word twice: the pointer, and how
@@ -50,15 +50,15 @@ abbrev pub MarksIn : List ℕ → List ℕ → Demands → List (List ℕ) → �
 MarksIn old new demands m words depth f = Marks (length old) demands m words depth f × KeepsMarks old new f
 
 -- Of the message that the input is or starts with: n numbers are required for its marks.
-abbrev pub TellsExclusive : CallLimits → List ℕ → ℕ → Answer → ℕ → CallReport → Type 0
-TellsExclusive l bytes size a n r =
-    (f : Found) × TellsInput (not (allows_trailing l)) ⊤ (Marks size (demands_of l)) l bytes f × Returns f a r
+abbrev pub ReportsExclusive : CallLimits → List ℕ → ℕ → Answer → ℕ → CallReport → Type 0
+ReportsExclusive l bytes size a n r =
+    (f : Found) × ReportsInput (not (allows_trailing l)) ⊤ (Marks size (demands_of l)) l bytes f × Returns f a r
     × (n ≡ f.count)
 
 -- what is found of a message that isn't exclusive, whose marks take n numbers
 abbrev pub fault_found : ℕ → ExclusiveFault → Found
 fault_found n (fault.Refused refusal) = refused_found (Refused refusal)
-fault_found n (fault.NoRoom needed report) = accepted_found answer.BufferTooSmall n report
+fault_found n (fault.BufferTooSmall needed report) = accepted_found answer.BufferTooSmall n report
 fault_found n (fault.Overlap s w pointers) = overlap_found n s w pointers
 
 -- The message isn't exclusive, or it is accepted and exclusive. So a call finds with all three flags.

@@ -10,10 +10,10 @@ use Rattle.cap_trace.specs.NamedPaths.{fault_path}
 use Rattle.cap_calls.specs.CallBounds.{explanation_bound}
 use Rattle.cap_calls.specs.CallFindings.{Returns}
 use Rattle.cap_calls.specs.CallFlags.{allows_trailing, demands_of}
-use Rattle.cap_calls.specs.CallInputs.{TellsInput}
+use Rattle.cap_calls.specs.CallInputs.{ReportsInput}
 use Rattle.cap_calls.specs.CallReports.{refused_report}
 use Rattle.cap_calls.specs.NodeCalls.{path_found}
-use Rattle.cap_calls.specs.PackCalls.{TellsText}
+use Rattle.cap_calls.specs.PackCalls.{ReportsText}
 use Rattle.cap_calls.specs.declared.answer.Answer.{Answer}
 use Rattle.cap_calls.specs.declared.answer.Answer.TheVariants.{NoNode}
 use Rattle.cap_calls.specs.declared.found.Found.{Found}
@@ -40,7 +40,7 @@ fault_lines demands m words depth fault h =
 -- demands, or that it meets them.
 pub data FindsLines (old new : List ℕ) (demands : Demands) (m : List (List ℕ)) (words depth : ℕ) (f : Found) : Type 0 where
   explained : (fault : StrictRefusal) (h : IsDemandFault demands m words depth fault)
-      → TellsText (fault_lines demands m words depth fault h) old f.answer f.count new → f.report ≡ refused_report fault
+      → ReportsText (fault_lines demands m words depth fault h) old f.answer f.count new → f.report ≡ refused_report fault
       → FindsLines old new demands m words depth f
   accepted : Meets demands m words depth → f ≡ path_found NoNode → new ≡ old → FindsLines old new demands m words depth f
 
@@ -49,7 +49,7 @@ abbrev pub FindsFewLines : List ℕ → List ℕ → Demands → List (List ℕ)
 FindsFewLines old new demands m words depth f = FindsLines old new demands m words depth f × (f.count ≤ explanation_bound)
 
 -- Of the message that the input is or starts with.
-abbrev pub TellsExplanation : CallLimits → List ℕ → List ℕ → Answer → ℕ → List ℕ → CallReport → Type 0
-TellsExplanation l bytes old a n new r =
-    (f : Found) × TellsInput (not (allows_trailing l)) (new ≡ old) (FindsLines old new (demands_of l)) l bytes f
+abbrev pub ReportsExplanation : CallLimits → List ℕ → List ℕ → Answer → ℕ → List ℕ → CallReport → Type 0
+ReportsExplanation l bytes old a n new r =
+    (f : Found) × ReportsInput (not (allows_trailing l)) (new ≡ old) (FindsLines old new (demands_of l)) l bytes f
     × Returns f a r × (n ≡ f.count)

@@ -1,6 +1,6 @@
 -- How a message goes on of which a buffer holds the first bytes (profile).
 use Rattle.std.specs.Prelude.{List, [], drop, length, take, ℕ, ⊤, ◌%◌, ◌+◌, ◌<◌, ◌≡◌, ◌≤◌}
-use Rattle.cap_frame.specs.Fronts.{IsFront, TellsLarge, TellsMany}
+use Rattle.cap_frame.specs.Fronts.{IsFront, GivesLarge, GivesMany}
 use Rattle.cap_calls.specs.PackedStreams.{WritesWords, words_to_come}
 use Rattle.cap_calls.specs.UnpackingMessages.{IsOpen}
 use Rattle.cap_calls.specs.declared.calls.unpack_message.Stage.{Stage}
@@ -9,14 +9,14 @@ use Rattle.cap_calls.specs.declared.packed_stream.Given.{Given}
 
 -- what a stage says of the bytes
 abbrev pub IsStage : ℕ → List ℕ → Stage → Type 0
-IsStage limit held (Open wanted) = IsOpen limit held wanted
+IsStage limit held (Open needed) = IsOpen limit held needed
 IsStage limit held (Whole segments) = (m : List (List ℕ)) × (n : ℕ) × IsFront limit held m n × (segments ≡ length m)
-IsStage limit held (TooMany count) = TellsMany held count
-IsStage limit held (TooLarge words) = TellsLarge limit held words
+IsStage limit held (TooMany count) = GivesMany held count
+IsStage limit held (TooLarge words) = GivesLarge limit held words
 
 -- if more words belong to the message, the buffer of `size` bytes has no space for one, or none comes next
 abbrev pub CannotAppend : Stage → ℕ → Given → List ℕ → Type 0
-CannotAppend (Open wanted) size g rest =
+CannotAppend (Open needed) size g rest =
     g.written + 8 ≤ size → words_to_come g.zeros g.literal rest ≡ []
 CannotAppend (Whole segments) size g rest = ⊤
 CannotAppend (TooMany count) size g rest = ⊤
@@ -27,7 +27,7 @@ pub record ReachesStage (limit start zeros literal : ℕ) (bytes old new : List 
   pub gives : WritesWords start zeros literal bytes old new g
   pub is_stage : IsStage limit (take g.written new) stage
   pub before : (n : ℕ) → start ≤ n → n < g.written → n % 8 ≡ 0
-      → (wanted : ℕ) × IsOpen limit (take n new) wanted
+      → (needed : ℕ) × IsOpen limit (take n new) needed
   pub ends : CannotAppend stage (length old) g (drop g.taken bytes)
 
 -- A call stops at this stage, for a buffer of `size` bytes that holds these bytes of a message. A message that is

@@ -13,7 +13,7 @@ use Rattle.cap_calls.specs.CallFlags.{demands_of}
 use Rattle.cap_calls.specs.CallFrames.{AreLimits}
 use Rattle.cap_calls.specs.CallNodes.{kind_node, none_node, offset_of}
 use Rattle.cap_calls.specs.CallReports.{none_report}
-use Rattle.cap_calls.specs.Calls.{TellsMessage}
+use Rattle.cap_calls.specs.Calls.{ReportsMessage}
 use Rattle.cap_calls.specs.declared.answer.Answer.{Answer}
 use Rattle.cap_calls.specs.declared.answer.Answer.TheVariants.{BadPath, Good, NoNode}
 use Rattle.cap_calls.specs.declared.found.Found.{Found}
@@ -45,16 +45,16 @@ pub data Gets (path : List Step) (node : CallNode) (demands : Demands) (m : List
 
 -- Of a text: a limit is bad, or the text isn't a path, or this is found of its path in the message that the
 -- bytes are, or start with if the flags allow it.
-pub data TellsPath (l : CallLimits) (bytes text : List ℕ) (node : CallNode) (f : Found) : Type 0 where
-  bad_limits : ¬ AreLimits l → f ≡ none_found BadLimits → node ≡ none_node → TellsPath l bytes text node f
+pub data ReportsPath (l : CallLimits) (bytes text : List ℕ) (node : CallNode) (f : Found) : Type 0 where
+  bad_limits : ¬ AreLimits l → f ≡ none_found BadLimits → node ≡ none_node → ReportsPath l bytes text node f
   bad_path : (at : ℕ) → AreLimits l → IsBadAt text at → f ≡ bad_path_found at → node ≡ none_node
-      → TellsPath l bytes text node f
+      → ReportsPath l bytes text node f
   a_path : (path : List Step) → AllByRecursion IsStep path → text ≡ path_text path
-      → TellsMessage (node ≡ none_node) (Gets path node (demands_of l)) l bytes f
-      → TellsPath l bytes text node f
+      → ReportsMessage (node ≡ none_node) (Gets path node (demands_of l)) l bytes f
+      → ReportsPath l bytes text node f
 
-abbrev pub TellsGet : CallLimits → List ℕ → List ℕ → Answer → CallNode → CallReport → Type 0
-TellsGet l bytes text a node r = (f : Found) × TellsPath l bytes text node f × Returns f a r
+abbrev pub ReportsGet : CallLimits → List ℕ → List ℕ → Answer → CallNode → CallReport → Type 0
+ReportsGet l bytes text a node r = (f : Found) × ReportsPath l bytes text node f × Returns f a r
 
 -- what is found of a path is put into the first of some nodes
 abbrev pub GetsFirst : List Step → List CallNode → List CallNode → Demands → List (List ℕ) → ℕ → ℕ → Found → Type 0

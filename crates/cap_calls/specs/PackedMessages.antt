@@ -5,8 +5,8 @@ use Rattle.cap_spec.specs.SpecNames.{sizes_of, packed_frame}
 use Rattle.cap_frame.specs.Fronts.{table_words}
 use Rattle.cap_calls.specs.CallFindings.{Returns}
 use Rattle.cap_calls.specs.CallReports.{none_report}
-use Rattle.cap_calls.specs.Calls.{TellsMessage}
-use Rattle.cap_calls.specs.PackCalls.{TellsText}
+use Rattle.cap_calls.specs.Calls.{ReportsMessage}
+use Rattle.cap_calls.specs.PackCalls.{ReportsText}
 use Rattle.cap_calls.specs.declared.answer.Answer.{Answer}
 use Rattle.cap_calls.specs.declared.found.Found.{Found}
 use Rattle.cap_calls.specs.declared.limits.CallLimits.{CallLimits}
@@ -14,7 +14,7 @@ use Rattle.cap_calls.specs.declared.report.CallReport.{CallReport}
 
 -- of a message, for a buffer that held `old`, and then holds `new`
 abbrev pub Packs : List ℕ → List ℕ → List (List ℕ) → ℕ → ℕ → Found → Type 0
-Packs old new m words depth f = TellsText (packed_frame m) old f.answer f.count new × (f.report ≡ none_report)
+Packs old new m words depth f = ReportsText (packed_frame m) old f.answer f.count new × (f.report ≡ none_report)
 
 -- the same, and the text has at most ten bytes for each word of the frame
 abbrev pub PacksShort : List ℕ → List ℕ → List (List ℕ) → ℕ → ℕ → Found → Type 0
@@ -23,6 +23,6 @@ PacksShort old new m words depth f = Packs old new m words depth f
 
 -- Of the message that the bytes are, or start with if the flags allow it: n bytes are the length of
 -- its packed text.
-abbrev pub TellsPackMessage : CallLimits → List ℕ → List ℕ → Answer → ℕ → List ℕ → CallReport → Type 0
-TellsPackMessage l bytes old a n new r =
-    (f : Found) × TellsMessage (new ≡ old) (Packs old new) l bytes f × Returns f a r × (n ≡ f.count)
+abbrev pub ReportsPackMessage : CallLimits → List ℕ → List ℕ → Answer → ℕ → List ℕ → CallReport → Type 0
+ReportsPackMessage l bytes old a n new r =
+    (f : Found) × ReportsMessage (new ≡ old) (Packs old new) l bytes f × Returns f a r × (n ≡ f.count)

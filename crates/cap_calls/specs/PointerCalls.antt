@@ -5,7 +5,7 @@ use Rattle.cap_spec.specs.declared.Step.TheVariants.{Item, Ptr}
 use Rattle.cap_trace.specs.PointerNumbers.{IsTraceable}
 use Rattle.cap_calls.specs.CallFindings.{Returns}
 use Rattle.cap_calls.specs.CallFlags.{allows_trailing}
-use Rattle.cap_calls.specs.CallInputs.{TellsInput}
+use Rattle.cap_calls.specs.CallInputs.{ReportsInput}
 use Rattle.cap_calls.specs.CallReports.{none_report}
 use Rattle.cap_calls.specs.NodeCalls.{path_found}
 use Rattle.cap_calls.specs.declared.answer.Answer.{Answer}
@@ -46,7 +46,7 @@ abbrev pub FindsFew : ℕ → List CallStep → List CallStep → List (List ℕ
 FindsFew n old new m words depth f = FindsPointer n old new m words depth f × (f.count ≤ depth)
 
 -- Of the message that the input is or starts with.
-abbrev pub TellsPointer : CallLimits → List ℕ → ℕ → List CallStep → Answer → ℕ → List CallStep → CallReport → Type 0
-TellsPointer l bytes n old a required new r =
-    (f : Found) × TellsInput (not (allows_trailing l)) (new ≡ old) (FindsPointer n old new) l bytes f
+abbrev pub ReportsPointer : CallLimits → List ℕ → ℕ → List CallStep → Answer → ℕ → List CallStep → CallReport → Type 0
+ReportsPointer l bytes n old a required new r =
+    (f : Found) × ReportsInput (not (allows_trailing l)) (new ≡ old) (FindsPointer n old new) l bytes f
     × Returns f a r × (required ≡ f.count)

@@ -7,7 +7,7 @@ use Rattle.cap_calls.specs.CallFindings.{Returns, none_found}
 use Rattle.cap_calls.specs.CallFlags.{demands_of}
 use Rattle.cap_calls.specs.CallFrames.{AreLimits}
 use Rattle.cap_calls.specs.CallNodes.{none_node}
-use Rattle.cap_calls.specs.Calls.{TellsMessage}
+use Rattle.cap_calls.specs.Calls.{ReportsMessage}
 use Rattle.cap_calls.specs.NodeCalls.{Gets, bad_path_found, path_found}
 use Rattle.cap_calls.specs.declared.answer.Answer.{Answer}
 use Rattle.cap_calls.specs.declared.answer.Answer.TheVariants.{Good}
@@ -24,7 +24,7 @@ step_of zero number = Ptr (min number 65535)
 step_of (suc k) number = Item (min number 4294967295)
 
 -- The step with `more` added to its number. No struct has a pointer 65535, and no list an element
--- 4294967295 (`high_numbers_lead_nowhere` in `cap_laws`). So numbers past these lead to nothing as these do.
+-- 4294967295 (`high_numbers_lead_to_no_node` in `cap_laws`). So numbers past these lead to nothing as these do.
 abbrev pub step_after : CallStep → ℕ → Step
 step_after s more = step_of s.kind (s.number + more)
 
@@ -69,19 +69,19 @@ pub record GetsRange (path : ℕ → List Step) (old new : List CallNode) (deman
   pub end : EndsRange path (length old) demands m words depth f
 
 -- Of steps: a limit is bad, or they aren't a path, or this is found of the nodes of the range.
-pub data TellsSteps (l : CallLimits) (bytes : List ℕ) (steps : List CallStep) (varying : ℕ) (old new : List CallNode)
+pub data ReportsSteps (l : CallLimits) (bytes : List ℕ) (steps : List CallStep) (varying : ℕ) (old new : List CallNode)
     (f : Found) : Type 0 where
-  bad_limits : ¬ AreLimits l → f ≡ none_found BadLimits → new ≡ old → TellsSteps l bytes steps varying old new f
+  bad_limits : ¬ AreLimits l → f ≡ none_found BadLimits → new ≡ old → ReportsSteps l bytes steps varying old new f
   bad_steps : (at : ℕ) → AreLimits l → IsBadStep steps varying at → f ≡ bad_path_found at → new ≡ old
-      → TellsSteps l bytes steps varying old new f
+      → ReportsSteps l bytes steps varying old new f
   range : AreSteps steps varying
-      → TellsMessage (new ≡ old) (GetsRange (λ k. path_after steps varying k) old new (demands_of l)) l bytes f
-      → TellsSteps l bytes steps varying old new f
+      → ReportsMessage (new ≡ old) (GetsRange (λ k. path_after steps varying k) old new (demands_of l)) l bytes f
+      → ReportsSteps l bytes steps varying old new f
 
-abbrev pub TellsRange : CallLimits → List ℕ → List CallStep → ℕ → List CallNode → Answer → ℕ → List CallNode → CallReport
+abbrev pub ReportsRange : CallLimits → List ℕ → List CallStep → ℕ → List CallNode → Answer → ℕ → List CallNode → CallReport
     → Type 0
-TellsRange l bytes steps varying old a n new r =
-    (f : Found) × TellsSteps l bytes steps varying old new f × Returns f a r × (n ≡ f.count)
+ReportsRange l bytes steps varying old a n new r =
+    (f : Found) × ReportsSteps l bytes steps varying old new f × Returns f a r × (n ≡ f.count)
 
 -- A call for the nodes of a range in these bytes: what it is given, and what it returns, writes and reports.
 pub record RangeCall (l : CallLimits) (bytes : List ℕ) : Type 0 where
@@ -92,4 +92,4 @@ pub record RangeCall (l : CallLimits) (bytes : List ℕ) : Type 0 where
   pub count : ℕ
   pub after : List CallNode
   pub report : CallReport
-  pub tells : TellsRange l bytes steps varying before returned count after report
+  pub reports : ReportsRange l bytes steps varying before returned count after report

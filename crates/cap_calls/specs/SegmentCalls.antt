@@ -16,18 +16,18 @@ abbrev pub any_size : CallLimits
 any_size = record default_limits { message_words = most_words }
 
 -- Of segment `index` of the message that the bytes start with: where it starts, in bytes, and how many it has.
-pub data TellsSegment (bytes : List ℕ) (index : ℕ) (a : Answer) (start size : ℕ) : Type 0 where
+pub data ReportsSegment (bytes : List ℕ) (index : ℕ) (a : Answer) (start size : ℕ) : Type 0 where
   -- the bytes have no frame
   without : (cause : NoFrame) → HasNoFrame any_size bytes cause → a ≡ cause_answer cause → start ≡ 0 → size ≡ 0
-      → TellsSegment bytes index a start size
+      → ReportsSegment bytes index a start size
   -- the message has no such segment
   none : (m : List (List ℕ)) (frame segments : ℕ) → HasFrame any_size bytes frame segments m → length m ≤ index
       → a ≡ NoSegment → start ≡ 0 → size ≡ 0
-      → TellsSegment bytes index a start size
+      → ReportsSegment bytes index a start size
   -- it has
   found : (m : List (List ℕ)) (frame segments : ℕ) → HasFrame any_size bytes frame segments m → index < length m
       → a ≡ Good → start ≡ offset_of m index 0 → size ≡ 8 * length (segment_of m index)
-      → TellsSegment bytes index a start size
+      → ReportsSegment bytes index a start size
 
 -- If the bytes start with a message that has this segment, the bytes there are the segment's words.
 abbrev pub AreSegmentWords : List ℕ → ℕ → ℕ → ℕ → Type 0

@@ -5,7 +5,7 @@ use Rattle.cap_calls.specs.CallFlags.{demands_of}
 use Rattle.cap_calls.specs.CallFrames.{AreLimits, HasFrame}
 use Rattle.cap_calls.specs.CallReports.{none_report}
 use Rattle.cap_calls.specs.Calls.{IsGood}
-use Rattle.cap_calls.specs.Slices.{AreSegments, TellsNoSegments, segments_in, words_in}
+use Rattle.cap_calls.specs.Slices.{AreSegments, ReportsNoSegments, segments_in, words_in}
 use Rattle.cap_calls.specs.declared.answer.Answer.{Answer}
 use Rattle.cap_calls.specs.declared.found.Found.{Found}
 use Rattle.cap_calls.specs.declared.front.NoFrame.TheVariants.{BadLimits}
@@ -37,7 +37,7 @@ no_segments_found f =
 -- Of these limits, and of the bytes of each segment. The length is that of all segments, without a table.
 pub data FindsSegments (l : CallLimits) (parts : List (List ℕ)) (f : Found) : Type 0 where
   bad_limits : ¬ AreLimits l → f ≡ none_found BadLimits → FindsSegments l parts f
-  no_message : AreLimits l → (cause : SlicesFault) → TellsNoSegments l.message_words parts cause
+  no_message : AreLimits l → (cause : SlicesFault) → ReportsNoSegments l.message_words parts cause
       → f ≡ no_segments_found cause
       → FindsSegments l parts f
   message : AreLimits l → AreSegments l.message_words parts → (g : Found)
@@ -50,5 +50,5 @@ abbrev pub FramesParts : CallLimits → List (List ℕ) → List ℕ → Type 0
 FramesParts l parts bytes = AreSegments l.message_words parts
     × ((n : ℕ) × HasFrame l bytes (length bytes) n (segments_in parts))
 
-abbrev pub TellsSegments : CallLimits → List (List ℕ) → Answer → CallReport → Type 0
-TellsSegments l parts a r = (f : Found) × FindsSegments l parts f × Returns f a r
+abbrev pub ReportsSegments : CallLimits → List (List ℕ) → Answer → CallReport → Type 0
+ReportsSegments l parts a r = (f : Found) × FindsSegments l parts f × Returns f a r

@@ -35,9 +35,9 @@ pub record AreSegments (limit : ℕ) (parts : List (List ℕ)) : Type 0 where
   pub within : words_in parts ≤ limit
 
 -- why they aren't; the number of words stops at 2 ^ 64 - 1
-abbrev pub TellsNoSegments : ℕ → List (List ℕ) → SlicesFault → Type 0
-TellsNoSegments limit parts NoSegments = parts ≡ []
-TellsNoSegments limit parts (TooManySegments count) = (512 < length parts) × (count ≡ length parts)
-TellsNoSegments limit parts (BadSegment s) = (length parts ≤ 512) × IsBadSegment parts s
-TellsNoSegments limit parts (TooLarge words) = (length parts ≤ 512) × AreWhole parts × (limit < words_in parts)
+abbrev pub ReportsNoSegments : ℕ → List (List ℕ) → SlicesFault → Type 0
+ReportsNoSegments limit parts NoSegments = parts ≡ []
+ReportsNoSegments limit parts (TooManySegments count) = (512 < length parts) × (count ≡ length parts)
+ReportsNoSegments limit parts (BadSegment s) = (length parts ≤ 512) × IsBadSegment parts s
+ReportsNoSegments limit parts (TooLarge words) = (length parts ≤ 512) × AreWhole parts × (limit < words_in parts)
     × (words ≡ capped (words_in parts))

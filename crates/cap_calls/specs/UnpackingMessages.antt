@@ -3,7 +3,7 @@
 use Rattle.std.specs.Prelude.{Err, List, [], drop, if◌then◌else◌, length, slice_index, take, ℕ, ◌%◌, ◌*◌, ◌++◌, ◌+◌}
 use Rattle.std.specs.Prelude.{◌<◌, ◌==◌, ◌≡◌, ◌≢◌, ◌≤◌, ◌⊎◌}
 use Rattle.cap_spec.specs.Plain.{plain_text}
-use Rattle.cap_frame.specs.FrameNames.{TellsFront, IsFront, TellsLarge, TellsMany}
+use Rattle.cap_frame.specs.FrameNames.{ReportsFront, IsFront, GivesLarge, GivesMany}
 use Rattle.cap_frame.specs.declared.fault.FrontFault.TheVariants.{Truncated}
 use Rattle.cap_calls.specs.CallFrames.{AreLimits}
 use Rattle.cap_calls.specs.CallReports.{none_report}
@@ -14,10 +14,10 @@ use Rattle.cap_calls.specs.declared.report.CallReport.{CallReport}
 use Rattle.cap_calls.specs.declared.unpacking.Unpacking.{Unpacking}
 use Rattle.cap_calls.specs.declared.answer.Answer.TheVariants as answer
 
--- The bytes are none, or end inside a message within the limit. It has at least `wanted` bytes: those of its
+-- The bytes are none, or end inside a message within the limit. It has at least `needed` bytes: those of its
 -- first word, of its table, or of its frame.
 abbrev pub IsOpen : ℕ → List ℕ → ℕ → Type 0
-IsOpen limit held wanted = ((held ≡ []) × (wanted ≡ 8)) ⊎ TellsFront limit held (Err (Truncated wanted))
+IsOpen limit held needed = ((held ≡ []) × (needed ≡ 8)) ⊎ ReportsFront limit held (Err (Truncated needed))
 
 -- A state that a call may leave, for a buffer with these bytes.
 pub record IsState (limit : ℕ) (state : Unpacking) (out : List ℕ) : Type 0 where
@@ -36,7 +36,7 @@ pub record Appends (limit : ℕ) (bytes old : List ℕ) (state : Unpacking) (wor
   pub text : new ≡ take state.written old ++ (plain_text words ++ drop (state.written + 8 * length words) old)
   -- none after the end of a message
   pub before : (n : ℕ) → n < length words
-      → (wanted : ℕ) × IsOpen limit (take (state.written + 8 * n) new) wanted
+      → (needed : ℕ) × IsOpen limit (take (state.written + 8 * n) new) needed
   pub left : IsRunRest zeros literal
 
 -- how many bytes the rest of the input needs at least for its next word, or for the tag before it
@@ -52,9 +52,9 @@ pub data StopsCall (limit size : ℕ) (held : List ℕ) (zeros literal : ℕ) (r
       → written ≡ 0 → r ≡ record none_report { length = length held; segments = length m }
       → StopsCall limit size held zeros literal rest a required written r
   -- it has too many segments, or too many words
-  too_many : (count : ℕ) → TellsMany held count → a ≡ answer.TooManySegments → required ≡ 0 → written ≡ length held
+  too_many : (count : ℕ) → GivesMany held count → a ≡ answer.TooManySegments → required ≡ 0 → written ≡ length held
       → r ≡ record none_report { detail = count } → StopsCall limit size held zeros literal rest a required written r
-  too_large : (words : ℕ) → TellsLarge limit held words → a ≡ answer.TooLarge → required ≡ 0 → written ≡ length held
+  too_large : (words : ℕ) → GivesLarge limit held words → a ≡ answer.TooLarge → required ≡ 0 → written ≡ length held
       → r ≡ record none_report { detail = words } → StopsCall limit size held zeros literal rest a required written r
   -- a word comes next, for which the buffer is too small
   too_small : IsOpen limit held required → words_to_come zeros literal rest ≢ [] → size < length held + 8
@@ -64,7 +64,7 @@ pub data StopsCall (limit size : ℕ) (held : List ℕ) (zeros literal : ℕ) (r
   no_message : held ≡ [] → zeros ≡ 0 → literal ≡ 0 → rest ≡ [] → a ≡ answer.NoMessage → required ≡ 0 → written ≡ 0
       → r ≡ record none_report { input_required = 1 } → StopsCall limit size held zeros literal rest a required written r
   -- or the input ends before the next word of the message
-  truncated : (wanted : ℕ) → IsOpen limit held wanted → words_to_come zeros literal rest ≡ []
+  truncated : (needed : ℕ) → IsOpen limit held needed → words_to_come zeros literal rest ≡ []
       → ¬ ((held ≡ []) × (literal ≡ 0) × (rest ≡ [])) → a ≡ answer.Truncated → required ≡ 0 → written ≡ length held
       → r ≡ record none_report { input_required = bytes_needed literal rest }
       → StopsCall limit size held zeros literal rest a required written r
@@ -74,19 +74,19 @@ abbrev pub state_of : ℕ → ℕ → ℕ → Unpacking → Unpacking
 state_of written zeros literal state = record state { written = written; zero_words = zeros; literal_words = literal }
 
 -- What a call reports of a piece of the stream.
-pub data TellsUnpackMessage (l : CallLimits) (bytes old : List ℕ) (state : Unpacking) (a : Answer)
+pub data ReportsUnpackMessage (l : CallLimits) (bytes old : List ℕ) (state : Unpacking) (a : Answer)
     (consumed required : ℕ) (new : List ℕ) (left : Unpacking) (r : CallReport) : Type 0 where
   -- the limits are bad, or no call leaves this state
   bad : ¬ (AreLimits l × IsState l.message_words state old) → a ≡ answer.BadLimits → consumed ≡ 0 → required ≡ 0
       → new ≡ old → left ≡ state → r ≡ none_report
-      → TellsUnpackMessage l bytes old state a consumed required new left r
+      → ReportsUnpackMessage l bytes old state a consumed required new left r
   -- words are appended, and then the call stops
   unpacks : (words : List ℕ) (zeros literal written : ℕ) → AreLimits l → IsState l.message_words state old
       → Appends l.message_words bytes old state words consumed zeros literal new
       → StopsCall l.message_words (length old) (take (state.written + 8 * length words) new) zeros literal
       (drop consumed bytes) a required written r
       → left ≡ state_of written zeros literal state
-      → TellsUnpackMessage l bytes old state a consumed required new left r
+      → ReportsUnpackMessage l bytes old state a consumed required new left r
 
 -- what a call returns and writes
 pub record Unpacked : Type 0 where
@@ -99,7 +99,7 @@ pub record Unpacked : Type 0 where
 
 abbrev pub UnpacksTo : CallLimits → List ℕ → List ℕ → Unpacking → Unpacked → Type 0
 UnpacksTo l bytes old state u =
-    TellsUnpackMessage l bytes old state u.answer u.consumed u.required u.out u.state u.report
+    ReportsUnpackMessage l bytes old state u.answer u.consumed u.required u.out u.state u.report
 
 -- these are what it leaves beside its answer
 abbrev pub Leaves : Unpacked → ℕ → ℕ → List ℕ → Unpacking → CallReport → Type 0

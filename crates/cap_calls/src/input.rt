@@ -2,7 +2,7 @@
 
 ghost use Rattle.cap_calls.specs.CallFindings.{Returns};
 ghost use Rattle.cap_calls.specs.CallFlags.{demands_of, has_no_table};
-ghost use Rattle.cap_calls.specs.CallInputs.{HasNoWords, HasWords, TellsInput};
+ghost use Rattle.cap_calls.specs.CallInputs.{HasNoWords, HasWords, ReportsInput};
 ghost use Rattle.cap_calls.specs.declared.found.Found.{Found};
 ghost use Rattle.cap_spec.specs.Plain.{plain_words};
 ghost use Rattle.cap_vet.specs.Limits.{depth_of, words_of};
@@ -31,7 +31,7 @@ pub(crate) fn over_input<C: Call>(
     out: &mut [C::Item],
     report: &mut CallReport,
 ) -> (Answer, usize)
-    ensures { (f : Found) × TellsInput whole (out.new ≡ out.old)
+    ensures { (f : Found) × ReportsInput whole (out.new ≡ out.old)
         (λ m w d g. C.finds call.now (demands_of limits.now) m w d out.old g out.new)
         limits.now bytes.now f × Returns f result.0 report.new × (result.1 ≡ f.count) }
 {
@@ -50,7 +50,7 @@ pub(crate) fn over_input<C: Call>(
 #[inline(never)]
 fn over_words<C: Call>(call: &C, bytes: &[u8], limits: &CallLimits, out: &mut [C::Item]) -> Found
     requires { IsTrue (has_no_table limits.now) }
-    ensures { (whole : Bool) → TellsInput whole (out.new ≡ out.old)
+    ensures { (whole : Bool) → ReportsInput whole (out.new ≡ out.old)
         (λ m w d f. C.finds call.now (demands_of limits.now) m w d out.old f out.new)
         limits.now bytes.now result }
 {
@@ -92,6 +92,6 @@ fn whole_segment<'b>(
     }
     match ByteView::of_words(bytes, size) {
         Some(view) => Ok((view, walk)),
-        None => Err(NoFrame::Fault(FrontFault::Truncated { wanted: 8 * words })),
+        None => Err(NoFrame::Fault(FrontFault::Truncated { needed: 8 * words })),
     }
 }

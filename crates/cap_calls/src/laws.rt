@@ -2,13 +2,13 @@
 //! or more of these three flags [`crate::vet`] refuses no more. And separate segments are vetted as
 //! their frame is.
 
-ghost use Rattle.cap_calls.specs.CallFindings.{JudgesAny, Returns, Tells, TellsWhole};
+ghost use Rattle.cap_calls.specs.CallFindings.{JudgesAny, Returns, Reports, ReportsWhole};
 ghost use Rattle.cap_calls.specs.CallFlags.{AllowsMore};
 ghost use Rattle.cap_calls.specs.CallInputs.{AreInputLimits};
-ghost use Rattle.cap_calls.specs.SegmentsCalls.{FramesParts, TellsSegments};
-ghost use Rattle.cap_calls.specs.Calls.{IsCheck, IsGood, TellsCheck, TellsVet};
-ghost use Rattle.cap_calls.specs.CanonicalCalls.{TellsAnyCopy, TellsCopy};
-ghost use Rattle.cap_calls.specs.ExclusiveCalls.{MarksAny, TellsExclusive};
+ghost use Rattle.cap_calls.specs.SegmentsCalls.{FramesParts, ReportsSegments};
+ghost use Rattle.cap_calls.specs.Calls.{IsCheck, IsGood, ReportsCheck, ReportsVet};
+ghost use Rattle.cap_calls.specs.CanonicalCalls.{ReportsAnyCopy, ReportsCopy};
+ghost use Rattle.cap_calls.specs.ExclusiveCalls.{MarksAny, ReportsExclusive};
 ghost use Rattle.cap_calls.specs.declared.answer.Answer.{Answer};
 ghost use Rattle.cap_calls.specs.declared.answer.Answer.TheVariants.{Good};
 ghost use Rattle.cap_calls.specs.declared.found.Found.{Found};
@@ -21,17 +21,17 @@ ghost use Rattle.std.specs.Prelude.{◌≡◌, ◌↔◌, List, length, true, �
 /// [`crate::is_canonical`] no bytes may follow the message all the same.
 pub fn all_flags_demand_nothing()
     ensures vet { (l : CallLimits) (bytes : List ℕ) (a : Answer) (r : CallReport) → l.flags ≡ 7 →
-        TellsVet l bytes a r ↔
-        ((f : Found) × Tells ⊤ (JudgesAny ⊤ IsGood) l bytes f × Returns f a r) }
+        ReportsVet l bytes a r ↔
+        ((f : Found) × Reports ⊤ (JudgesAny ⊤ IsGood) l bytes f × Returns f a r) }
     ensures exclusive { (l : CallLimits) (bytes : List ℕ) (size : ℕ) (a : Answer) (n : ℕ)
-        (r : CallReport) → l.flags ≡ 7 → TellsExclusive l bytes size a n r ↔
-        ((f : Found) × Tells ⊤ (MarksAny size) l bytes f × Returns f a r × (n ≡ f.count)) }
+        (r : CallReport) → l.flags ≡ 7 → ReportsExclusive l bytes size a n r ↔
+        ((f : Found) × Reports ⊤ (MarksAny size) l bytes f × Returns f a r × (n ≡ f.count)) }
     ensures canonical { (l : CallLimits) (bytes old : List ℕ) (a : Answer) (n : ℕ) (new : List ℕ)
         (r : CallReport) → l.flags ≡ 7 →
-        TellsCopy l bytes old a n new r ↔ TellsAnyCopy l bytes old a n new r }
+        ReportsCopy l bytes old a n new r ↔ ReportsAnyCopy l bytes old a n new r }
     ensures is_canonical { (l : CallLimits) (bytes : List ℕ) (a : Answer) (r : CallReport) →
-        l.flags ≡ 7 → TellsCheck l bytes a r ↔
-        ((f : Found) × TellsWhole true ⊤ (JudgesAny ⊤ IsCheck) l bytes f × Returns f a r) }
+        l.flags ≡ 7 → ReportsCheck l bytes a r ↔
+        ((f : Found) × ReportsWhole true ⊤ (JudgesAny ⊤ IsCheck) l bytes f × Returns f a r) }
 {}
 
 /// What [`crate::vet`] accepts it accepts with higher limits and more of the flags 1, 2 and 4 too,
@@ -39,13 +39,13 @@ pub fn all_flags_demand_nothing()
 pub fn wider_limits_accept_as_much()
     ensures { (l k : CallLimits) (bytes : List ℕ) (r : CallReport) → AreInputLimits k →
         AllowsMore l k →
-        TellsVet l bytes Good r → TellsVet k bytes Good r }
+        ReportsVet l bytes Good r → ReportsVet k bytes Good r }
 {}
 
 /// What [`crate::vet_segments`] returns of separate segments, [`crate::vet`] returns of the bytes that
 /// frame them, with the same report apart from its length.
 pub fn separate_segments_are_vetted_as_framed()
     ensures { (l : CallLimits) (parts : List (List ℕ)) (bytes : List ℕ) (a : Answer)
-        (r : CallReport) → FramesParts l parts bytes → TellsSegments l parts a r →
-        TellsVet l bytes a (record r { length = length bytes }) }
+        (r : CallReport) → FramesParts l parts bytes → ReportsSegments l parts a r →
+        ReportsVet l bytes a (record r { length = length bytes }) }
 {}

@@ -4,8 +4,8 @@
 ghost use Rattle.cap_calls.specs.CallFlags.{has_no_table};
 ghost use Rattle.cap_calls.specs.CallFrames.{BeginsWith};
 ghost use Rattle.cap_calls.specs.CallNodes.{none_node, offset_of};
-ghost use Rattle.cap_calls.specs.Calls.{TellsVet};
-ghost use Rattle.cap_calls.specs.NodeCalls.{TellsGet};
+ghost use Rattle.cap_calls.specs.Calls.{ReportsVet};
+ghost use Rattle.cap_calls.specs.NodeCalls.{ReportsGet};
 ghost use Rattle.cap_calls.specs.RangeCalls.{AreSteps, RangeCall};
 ghost use Rattle.cap_calls.specs.declared.answer.Answer.{Answer};
 ghost use Rattle.cap_calls.specs.declared.answer.Answer.TheVariants.{Good, NoNode};
@@ -32,9 +32,9 @@ pub fn vetted_messages_have_their_nodes()
         (path : List Step) → MeetsOnPath demands m words depth path }
     ensures get { (l : CallLimits) (bytes text : List ℕ) (a : Answer) (node : CallNode)
         (r q : CallReport) → IsFalse (has_no_table l) → IsPath text →
-        TellsVet l bytes Good r → TellsGet l bytes text a node q → (a ≡ Good) ⊎ (a ≡ NoNode) }
+        ReportsVet l bytes Good r → ReportsGet l bytes text a node q → (a ≡ Good) ⊎ (a ≡ NoNode) }
     ensures get_range { (l : CallLimits) (bytes : List ℕ) (r : CallReport) (c : RangeCall l bytes) →
-        IsFalse (has_no_table l) → AreSteps c.steps c.varying → TellsVet l bytes Good r →
+        IsFalse (has_no_table l) → AreSteps c.steps c.varying → ReportsVet l bytes Good r →
         (c.returned ≡ Good) ⊎ (c.returned ≡ NoNode) }
 {}
 
@@ -54,7 +54,7 @@ pub fn offsets_are_of_words()
 /// length it reports, and this frame is inside the input.
 pub fn nodes_are_inside_their_frame()
     ensures get { (l : CallLimits) (bytes text : List ℕ) (a : Answer) (node : CallNode)
-        (r : CallReport) → TellsGet l bytes text a node r →
+        (r : CallReport) → ReportsGet l bytes text a node r →
         (node.offset + node.length ≤ r.length) × (r.length ≤ length bytes) }
     ensures get_range { (l : CallLimits) (bytes : List ℕ) (c : RangeCall l bytes) (k : ℕ) →
         k < c.count → let node = slice_index_or c.after k none_node in

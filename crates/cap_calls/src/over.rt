@@ -1,6 +1,6 @@
 //! A call over the message at the start of bytes.
 
-ghost use Rattle.cap_calls.specs.CallFindings.{TellsWhole};
+ghost use Rattle.cap_calls.specs.CallFindings.{ReportsWhole};
 ghost use Rattle.cap_calls.specs.CallFlags.{demands_of};
 ghost use Rattle.cap_calls.specs.declared.found.Found.{Found};
 ghost use Rattle.cap_frame.specs.Framed.{frame_bytes, framed_segments};
@@ -67,7 +67,7 @@ pub(crate) fn over<C: Call>(
     limits: &CallLimits,
     out: &mut [C::Item],
 ) -> Found
-    ensures { TellsWhole whole (out.new ≡ out.old)
+    ensures { ReportsWhole whole (out.new ≡ out.old)
         (λ m w d f. C.finds call.now (demands_of limits.now) m w d out.old f out.new)
         limits.now bytes.now result }
 {

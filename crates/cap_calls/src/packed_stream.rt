@@ -148,7 +148,7 @@ pub(crate) fn has_word(bytes: &[u8], zeros: u32, literal: u32) -> bool
 }
 
 /// How many bytes the next word needs at least, or the tag before it.
-pub(crate) fn needed(bytes: &[u8], literal: u32) -> u64
+pub(crate) fn bytes_required(bytes: &[u8], literal: u32) -> u64
     ensures { result ≡ bytes_needed literal bytes.now }
 {
     if literal > 0 {

@@ -67,7 +67,7 @@ impl CallReport {
             NoFrame::NoMessage => (8, 0),
             NoFrame::Fault(FrontFault::TooManySegments { count }) => (0, count),
             NoFrame::Fault(FrontFault::TooLarge { words }) => (0, words),
-            NoFrame::Fault(FrontFault::Truncated { wanted }) => (wanted, 0),
+            NoFrame::Fault(FrontFault::Truncated { needed }) => (needed, 0),
         };
         CallReport {
             input_required,

@@ -1,7 +1,7 @@
 //! Messages whose segments are separate slices.
 
 ghost use Rattle.cap_frame.specs.Limit.{limit_of};
-ghost use Rattle.cap_calls.specs.Slices.{AreSegments, AreWhole, IsBadSegment, TellsNoSegments, bytes_of, segments_in, words_in};
+ghost use Rattle.cap_calls.specs.Slices.{AreSegments, AreWhole, IsBadSegment, ReportsNoSegments, bytes_of, segments_in, words_in};
 ghost use Rattle.cap_spec.specs.Frames.{sizes_of};
 ghost use Rattle.cap_spec.specs.Messages.{IsMessage};
 ghost use Rattle.cap_spec.specs.Plain.{capped};
@@ -53,7 +53,7 @@ impl<'b> SliceMessage<'b> {
         ensures whole { IfOk result (λ _. AreSegments (limit_of limit) (bytes_of slices.now)) }
         ensures segments { let of = ⟦<SliceMessage<'b> as Segments>⟧.segments in
             IfOk result (λ m. of m ≡ segments_in (bytes_of slices.now)) }
-        ensures err { IfErr result (TellsNoSegments (limit_of limit) (bytes_of slices.now)) }
+        ensures err { IfErr result (ReportsNoSegments (limit_of limit) (bytes_of slices.now)) }
     {
         if slices.is_empty() {
             return Err(SlicesFault::NoSegments);

@@ -58,7 +58,7 @@ child_past (more t ts) zero u e f = first_child (children_needed ts) (is_null t)
 child_past (more t ts) (suc i) u e f = later_needed (children_needed ts) (if is_null t then 0 else 1) i (child_past ts i u e f)
     (eqb_tells (children_needed ts) 0)
 
--- and a null that stands last of those needed isn't
+-- and a null that is last of those needed isn't
 first_null : (n : ℕ) (b : Bool) → b ≡ true → (((n == 0) ≡ true) × (n ≡ 0)) ⊎ (((n == 0) ≡ false) × (n ≡ 0 → ⊥))
     → (if n == 0 then (if b then 0 else 1) else suc n) ≤ 1
     → (if n == 0 then (if b then 0 else 1) else suc n) ≤ 0

@@ -27,7 +27,7 @@ pub element_parts : (m : List (List ℕ)) (t b ds ps n : ℕ) (ws : List ℕ) (t
     → FirstElement m t b ds ps n ws ts es c d
 element_parts m t b ds ps n ws ts es c d h = search rules
 
--- the data words that no element can do without, as they stand
+-- the data words that no element can do without, as they are
 pub most_data_of : (m : List (List ℕ)) (t b ds ps n : ℕ) (es : Trees) (c d : ℕ) → AreElements m t b ds ps n es c d → most_data m t b ds ps n ≡ data_of es
 most_data_of m t b ds ps n none c d h = rw h.0 refl
 most_data_of m t b ds ps n (more (struct ws ts) es) c d h =
@@ -45,7 +45,7 @@ children_within m t b ds ps n (more (struct ws ts) es) c d h =
     omega (arith, row_needed m t (b + ds) ps ts k.c1 k.d1 k.children, children_within m t (b + ds + ps) ds ps k.others es k.c2 k.d2 k.rest)
 children_within m t b ds ps n (more _ es) c d h = absurd h
 
--- a turn of the loop over elements, at the one behind the first i
+-- a turn of the loop over elements, at the one after the first i
 pub record ChildrenSeen (m : List (List ℕ)) (s start at ds ps count i most : ℕ) : Type 0 where
   pub place : at ≡ start + i * (ds + ps)
   pub within : most ≤ ps
@@ -60,8 +60,8 @@ no_children_seen m s start ds ps count =
       rest = λ es c d h. (es, c, d, subst (λ n. AreElements m s start ds ps n es c d) e h, omega arith);
     }
 
--- the element at hand, and what is left of its children
-pub record AtHand (m : List (List ℕ)) (s start at ds ps count i most : ℕ) (all : Trees) : Type 0 where
+-- this element, and what is left of its children
+pub record Buffered (m : List (List ℕ)) (s start at ds ps count i most : ℕ) (all : Trees) : Type 0 where
   pub words : List ℕ
   pub children : Trees
   pub later : Trees
@@ -70,16 +70,16 @@ pub record AtHand (m : List (List ℕ)) (s start at ds ps count i most : ℕ) (a
   pub parts : FirstElement m s at ds ps (count - i) words children later charge depth
   pub same : max most (max (children_needed children) (children_of later)) ≡ children_of all
 
-pub at_hand : (m : List (List ℕ)) (s start at ds ps count i most : ℕ) (es : Trees) (c d : ℕ) → i < count → ChildrenSeen m s start at ds ps count i most
+pub buffered : (m : List (List ℕ)) (s start at ds ps count i most : ℕ) (es : Trees) (c d : ℕ) → i < count → ChildrenSeen m s start at ds ps count i most
     → AreElements m s start ds ps count es c d
-    → AtHand m s start at ds ps count i most es
-at_hand m s start at ds ps count i most es c d lt k h = go r.0 r.1 r.2 r.3 r.4
+    → Buffered m s start at ds ps count i most es
+buffered m s start at ds ps count i most es c d lt k h = go r.0 r.1 r.2 r.3 r.4
   where
     r : (fs : Trees) × (c' d' : ℕ) × AreElements m s at ds ps (count - i) fs c' d' × (max most (children_of fs) ≡ children_of es)
     r = k.rest es c d h
 
     go : (fs : Trees) (c' d' : ℕ) → AreElements m s at ds ps (count - i) fs c' d' → max most (children_of fs) ≡ children_of es
-        → AtHand m s start at ds ps count i most es
+        → Buffered m s start at ds ps count i most es
     go none c' d' f e = absurd (omega (arith, lt, f.0))
     go (more (struct ws ts) fs) c' d' f e = record {
       words = ws;
@@ -104,7 +104,7 @@ children_seen m s start at ds ps count i most now lt is within k = record {
     rest : (es : Trees) (c d : ℕ) → AreElements m s start ds ps count es c d
         → (fs : Trees) × (c' d' : ℕ) × AreElements m s (at + (ds + ps)) ds ps (count - (i + 1)) fs c' d' × (max now (children_of fs) ≡ children_of es)
     rest es c d h =
-        let a = at_hand m s start at ds ps count i most es c d lt k h in
+        let a = buffered m s start at ds ps count i most es c d lt k h in
         let p = a.parts in
         let e : at + ds + ps ≡ at + (ds + ps) = omega arith in
         let n : p.others ≡ count - (i + 1) = omega (arith, p.many, lt) in
@@ -135,7 +135,7 @@ left_take m deep s w zero us h = tt
 left_take m deep s w (suc n) none h = tt
 left_take m deep s w (suc n) (more u us) h = (h.0, left_take m deep s (w + 1) n us h.1)
 
--- the front of words that stand in a range
+-- the front of words that are in a range
 pub words_left : (m : List (List ℕ)) (t b ds d : ℕ) (ws : List ℕ) → ws ≡ words_from m t b ds → d ≤ ds → take d ws ≡ words_from m t b d
 words_left m t b ds d ws e le = search (rules, take-take)
 

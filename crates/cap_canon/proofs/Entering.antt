@@ -37,7 +37,7 @@ row_owed m deeper depth n t b a (suc p) (more u us) le e h =
     let l = h.0 in
     (refl, (l.0, l.1, l.2, l.3, l.4, omega (arith, l.5, le)), row_owed m deeper depth n t (b + 1) (a + 1) p us le (omega (arith, e)) h.1)
 
--- words that are owed, one behind the other
+-- words that are owed, one after the other
 owed_join : (m : List (List ℕ)) (depth n : ℕ) (ps qs : List PointerPlace) (xs ys : List Due) → AreOwed m depth n ps xs → AreOwed m depth n qs ys
     → AreOwed m depth n (ps ++ qs) (xs ++ ys)
 owed_join m depth n [] qs [] ys h k = k
@@ -117,7 +117,7 @@ pub structs_owed : (m : List (List ℕ)) (deeper depth n end s w count : ℕ) (x
     → r ≡ structs_run_of x count end → AreOwed m depth n (places_of r) (below end u)
 structs_owed m deeper depth n end s w count x r u k le some e = search (rules, elements_owed)
 
--- what becomes due stands before the end of the own words
+-- what becomes due is before the end of the own words
 slots_before : (a end : ℕ) (ts : Trees) → a + tree_count ts ≤ end → AreBefore end (slots a ts)
 slots_before a end none le = tt
 slots_before a end (more t ts) le = (omega (arith, le), slots_before (a + 1) end ts (omega (arith, le)))
@@ -153,9 +153,9 @@ row_deep : (m : List (List ℕ)) (depth n t b a left : ℕ) (others : List Point
     → AreOwed m depth n (row_places t b a left ++ others) due → n ≤ depth
 row_deep m depth n t b a k others e some h = search rules
 
-pub room_above : (capacity : ℕ) (m : List (List ℕ)) (depth : ℕ) (due : List Due) (runs : List CopyRun) (rest below : Option CopyRun) → depth ≤ capacity
+pub capacity_above : (capacity : ℕ) (m : List (List ℕ)) (depth : ℕ) (due : List Due) (runs : List CopyRun) (rest below : Option CopyRun) → depth ≤ capacity
     → OptionFull below → AreOwed m depth (length (runs ++ option_to_list rest) + 1) (option_places below) due → IfSome below (λ _. length runs < capacity)
-room_above capacity m depth due runs rest k le full h = search (rules, length-append, row_deep)
+capacity_above capacity m depth due runs rest k le full h = search (rules, length-append, row_deep)
 
 -- the work grows by no more than the own words
 slots_count : (a : ℕ) (ts : Trees) → length (slots a ts) ≡ tree_count ts

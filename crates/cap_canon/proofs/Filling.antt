@@ -1,6 +1,6 @@
 -- An object's own words, appended to a copy.
 use Rattle.cap_spec.specs.Tree.{none}
-use Rattle.cap_spec.proofs.Canonical.Placing.{stand_word}
+use Rattle.cap_spec.proofs.Canonical.Placing.{lie_word}
 use Rattle.cap_spec.proofs.Lemmas.{range_length, length-scalar_words}
 use Rattle.cap_spec.proofs.ProofNames.{List, Some, [], ap, append_assoc, arith, inl, inr, length, length-append}
 use Rattle.cap_spec.proofs.ProofNames.{slice_get, subst, suc, sym, zero, ℕ, ◌*◌, ◌++◌, ◌+◌, ◌<◌, ◌∙◌, ◌∷◌, ◌≡◌}
@@ -24,14 +24,14 @@ pub due_right : (i : ℕ) (xs ys : List Due) → IsDue i ys → IsDue i (xs ++ y
 due_right i [] ys d = d
 due_right i (x ∷ xs) ys d = inr (due_right i xs ys d)
 
--- two parts, one behind the other
+-- two parts, one after the other
 pub fills_join : (whole : List ℕ) (b c : ℕ) (xs ys : List ℕ) (due next : List Due) → c ≡ b + length xs → Fills whole b due xs → Fills whole c next ys
     → Fills whole b (due ++ next) (xs ++ ys)
 fills_join whole b c xs ys due next e f g k lt = search (rules, due_left, get_or_append_left, due_right, get_or-append_right, length-append)
 
--- words that stand there
-pub fills_stand : (whole : List ℕ) (b : ℕ) (xs : List ℕ) → HasWordsAt whole b xs → Fills whole b [] xs
-fills_stand whole b xs h k lt = inr (sym (stand_word whole b xs h k lt))
+-- words that are there
+pub fills_lie : (whole : List ℕ) (b : ℕ) (xs : List ℕ) → HasWordsAt whole b xs → Fills whole b [] xs
+fills_lie whole b xs h k lt = inr (sym (lie_word whole b xs h k lt))
 
 -- pointer words in a row, whatever they hold
 slot_due : (b k : ℕ) (ts : Trees) → k < tree_count ts → IsDue (b + k) (slots b ts)
@@ -53,7 +53,7 @@ elements_fill m whole deep t b c ds ps d p (more (struct ws us) es) hd hp h a at
     let x : length (words_from m t b d) ≡ d = range_length m t b d (omega (arith, hd, h, e)) in
     let y : length (words_from m t (b + ds) p) ≡ p = range_length m t (b + ds) p (omega (arith, hp, h, e)) in
     let l = length-append (words_from m t b d) (words_from m t (b + ds) p) in
-    let own : Fills whole c [] (words_from m t b d) = fills_stand whole c (words_from m t b d) (subst (λ xs. HasWordsAt whole c xs) a.0 at.0) in
+    let own : Fills whole c [] (words_from m t b d) = fills_lie whole c (words_from m t b d) (subst (λ xs. HasWordsAt whole c xs) a.0 at.0) in
     let row : Fills whole (c + d) (slots (c + d) us) (words_from m t (b + ds) p) = fills_slots whole (c + d) us (words_from m t (b + ds) p) (y ∙ sym a.1) in
     fills_join whole c (c + d + p) (words_from m t b d ++ words_from m t (b + ds) p) (elements_from m t (b + ds + ps) ds ps d p (tree_count es))
     (slots (c + d) us) (element_slots d p (c + d + p) es)
@@ -89,7 +89,7 @@ struct_appended m deep s w u x old new h e = subst (λ (v : Tree). OwnAppended o
       many = let a = length-append front row in omega (arith, a, y, z, l, h.many);
       fill = λ whole at.
           fills_join whole (length old) (length old + length h.words) front row [] (slots (length old + length h.words) h.children) (omega (arith, y, l))
-          (fills_stand whole (length old) front (subst (λ xs. HasWordsAt whole (length old) xs) h.data_words at))
+          (fills_lie whole (length old) front (subst (λ xs. HasWordsAt whole (length old) xs) h.data_words at))
           (fills_slots whole (length old + length h.words) h.children row (z ∙ sym h.many));
     }
 
@@ -99,7 +99,7 @@ scalars_size m s w u h = search (rules, length-map-range_with_len)
 
 pub scalars_appended : (m : List (List ℕ)) (s w : ℕ) (u : Tree) (t b c n words : ℕ) (old new : List ℕ) → IsScalarsObject m s w u t b c n words
     → new ≡ old ++ scalar_words c (values_of m t b c n) → OwnAppended old new u
-scalars_appended m s w u t b c n words old new h e = search (rules, length-scalar_words, fills_stand)
+scalars_appended m s w u t b c n words old new h e = search (rules, length-scalar_words, fills_lie)
 
 -- a list of pointers
 pub pointers_appended : (m : List (List ℕ)) (deep s w : ℕ) (u : Tree) (t b n : ℕ) (old new : List ℕ) → IsPointersObject m deep s w u t b n
@@ -141,7 +141,7 @@ structs_appended m deep s w u n x old new h e = subst (λ (v : Tree). OwnAppende
           let last = slice_get_within whole (length old) (struct_word (tree_count h.elements) x.data_left x.pointers_left) at.0 in
           let due = element_slots x.data_left x.pointers_left (length old + 1) h.elements in
           fills_join whole (length old) (length old + 1) word (parts_words m x n) [] due (omega arith)
-          (fills_stand whole (length old) word (subst (λ y. slice_get whole (length old) ≡ Some y) tag at.0, omega (arith, last)))
+          (fills_lie whole (length old) word (subst (λ y. slice_get whole (length old) ≡ Some y) tag at.0, omega (arith, last)))
           (subst (λ xs. Fills whole (length old + 1) due xs) count
           (elements_fill m whole deep x.segment x.start (length old + 1) x.data_words x.pointers x.data_left x.pointers_left h.elements h.fewer.0 h.fewer.1
           (omega (arith, inside, same)) h.below at.1));

@@ -38,7 +38,7 @@ words_put p k bytes given w is eight h e = search (rules, drop-drop, words_set)
 pub written_back : (n : ℕ) (given items : List ℕ) → length given ≡ n → take n (given ++ drop (length given) items) ≡ given
 written_back n given items e = take-append-le n given (drop (length given) items) (omega (arith, e)) ∙ take_all n given (omega (arith, e))
 
--- so many words are there
+-- this many words are there
 pub first_words_count : (n : ℕ) (bytes : List ℕ) → 8 * n ≤ length bytes → length (take n (plain_words bytes)) ≡ n
 first_words_count n bytes h = length-take-le n (plain_words bytes) (omega (arith, h, words_exact bytes))
 
@@ -53,7 +53,7 @@ first_taken n bytes h =
     sym (ap (take n) split ∙ take-append-le n (plain_words front) (plain_words (drop (8 * n) bytes)) (omega (arith, many))
     ∙ take_all n (plain_words front) (omega (arith, many)))
 
--- words in a row were written behind the first p
+-- words in a row were written after the first p
 pub row_written : (p k : ℕ) (bytes given words : List ℕ) → AllByRecursion IsWord words → given ≡ plain_text words → k ≡ length given → 8 * p + k ≤ length bytes
     → first_words (p + length words) (put_mid (8 * p) k bytes given) ≡ first_words p bytes ++ words
 row_written p k bytes given words are e same h =
@@ -62,15 +62,15 @@ row_written p k bytes given words are e same h =
     let size : length given ≡ 8 * length words = ap length e ∙ length_plain words in
     let long : length front ≡ 8 * p = length-take-le (8 * p) bytes (omega (arith, h)) in
     let many : length (first_words p bytes) ≡ p = first_words_count p bytes (omega (arith, h)) in
-    let behind : plain_words (given ++ rest) ≡ words ++ plain_words rest = ap (λ xs. plain_words (xs ++ rest)) e ∙ plain_back words rest are in
+    let after : plain_words (given ++ rest) ≡ words ++ plain_words rest = ap (λ xs. plain_words (xs ++ rest)) e ∙ plain_back words rest are in
     let split : plain_words (front ++ (given ++ rest)) ≡ first_words p bytes ++ (words ++ plain_words rest) =
-    plain_join front (given ++ rest) (omega (arith, long)) ∙ ap₂ (λ xs ys. xs ++ ys) (first_taken p bytes (omega (arith, h))) behind in
+    plain_join front (given ++ rest) (omega (arith, long)) ∙ ap₂ (λ xs ys. xs ++ ys) (first_taken p bytes (omega (arith, h))) after in
     let both : length (first_words p bytes ++ words) ≡ p + length words = length-append (first_words p bytes) words ∙ ap (λ n. n + length words) many in
     ap (take (p + length words)) (split ∙ sym (append_assoc (first_words p bytes) words (plain_words rest)))
     ∙ take-append-le (p + length words) (first_words p bytes ++ words) (plain_words rest) (omega (arith, both))
     ∙ take_all (p + length words) (first_words p bytes ++ words) (omega (arith, both))
 
--- word n was written behind the first n
+-- word n was written after the first n
 pub word_appended : (n w : ℕ) (given items : List ℕ) → 8 * n + 8 ≤ length items → plain_words given ≡ set (plain_words items) n w
     → first_words (n + 1) given ≡ first_words n items ++ w ∷ []
 word_appended n w given items h e = ap (take (n + 1)) e ∙ take-set_at (plain_words items) n (n + 1) w refl (omega (arith, words_exact items, h))

@@ -24,7 +24,7 @@ use Rattle.cap_vet.specs.VetNames.{element_rows, row, IsLookedAt}
 use Rattle.cap_vet.proofs.Laxness.{knows_on, within_of}
 use Rattle.cap_vet.proofs.OneTrail.{object_trail, one_trail, root_trail}
 use Rattle.cap_canon.specs.InOrder.{AreDue, HasDiffered, HasOwn, IsAsInCopy, IsCompared, IsInOrder, IsLaidSoFar}
-use Rattle.cap_canon.specs.InOrder.{IsNextInOrder, IsOwn, LeadsToEnd, MayStand}
+use Rattle.cap_canon.specs.InOrder.{IsNextInOrder, IsOwn, LeadsToEnd, MayStartAt}
 use Rattle.cap_canon.specs.NullsInOrder.{null_compared}
 use Rattle.cap_canon.specs.Objects.{IsLeft}
 use Rattle.cap_canon.specs.CanonNames.{Step, Report, IsChecked, Differs, HasNoWords, IsNotCanonical, NoCopyHas}
@@ -41,13 +41,13 @@ use Rattle.cap_canon.proofs.InPlace.{near_lead}
 use Rattle.cap_canon.proofs.LaidSteps.{object_laid}
 use Rattle.cap_canon.proofs.NoCopies.{no_struct}
 use Rattle.cap_canon.proofs.Owing.{before_join, before_more}
-use Rattle.cap_canon.proofs.Standing.{list_place, pointers_place, scalars_place, struct_place, structs_place}
-use Rattle.cap_canon.proofs.Standing.{structs_stand}
+use Rattle.cap_canon.proofs.LaidObjects.{list_place, pointers_place, scalars_place, struct_place, structs_place}
+use Rattle.cap_canon.proofs.LaidObjects.{structs_lie}
 use Rattle.cap_canon.proofs.Walks.{owed_fits}
 use Rattle.cap_ptr.specs.declared.shapes.Shape.TheVariants as shape
 use Rattle.cap_canon.specs.declared.objects.Object.TheVariants as object
 
--- words ahead that are due, one behind the other
+-- words ahead that are due, one after the other
 due_join : (m : List (List ℕ)) (xs ys : List Ahead) (ds es : List Due) → AreDue m xs ds → AreDue m ys es → AreDue m (xs ++ ys) (ds ++ es)
 due_join m [] ys [] es h k = k
 due_join m [] ys (x ∷ ds) es h k = absurd h
@@ -88,7 +88,7 @@ own_of : (m : List (List ℕ)) (w end now q tag t b d : ℕ) (u : Tree) (o : Obj
 own_of m w end now q tag t b d u o lt here own e is due = search (rules, below_before)
 
 -- a struct
-pub struct_own : (m : List (List ℕ)) (w end k t b q tag words charge d p : ℕ) → MayStand m w end
+pub struct_own : (m : List (List ℕ)) (w end k t b q tag words charge d p : ℕ) → MayStartAt m w end
     → FindsObject m 0 w k t b q tag words charge (shape.Struct d p)
     → HasWord m 0 w (if (d + p) == 0 then 2 ^ 32 - 4 else struct_word (end - w - 1) d p)
     → d ≡ max 0 (data_needed (words_from m t b d))
@@ -116,7 +116,7 @@ struct_own m w end k t b q tag words charge d p s f has sizes children x c deep 
     rw (f.object.shape.kind, ← f.object.shape.data_words, ← f.object.shape.pointers) due')
 
 -- a list of pointers
-pub pointers_own : (m : List (List ℕ)) (w end k t b q tag words charge n : ℕ) → MayStand m w end
+pub pointers_own : (m : List (List ℕ)) (w end k t b q tag words charge n : ℕ) → MayStartAt m w end
     → FindsObject m 0 w k t b q tag words charge (shape.Pointers n) → HasWord m 0 w (list_word (end - w - 1) 6 n)
     → HasOwn m w end (end + words) q tag t b
 pointers_own m w end k t b q tag words charge n s f has x c deep h =
@@ -136,17 +136,17 @@ pointers_own m w end k t b q tag words charge n s f has x c deep h =
     rw (f.object.shape.kind, f.object.shape.code, ← f.object.shape.count) due')
 
 -- a list of values
-pub values_own : (m : List (List ℕ)) (w end k t b q tag words charge c n : ℕ) → MayStand m w end
+pub values_own : (m : List (List ℕ)) (w end k t b q tag words charge c n : ℕ) → MayStartAt m w end
     → FindsObject m 0 w k t b q tag words charge (shape.Scalars c n) → HasWord m 0 w (list_word (end - w - 1) c n)
     → HasWordsAt (segment_of m 0) end (scalar_words c (values_of m 0 end c n)) → HasOwn m w end (end + words) q tag t b
-values_own m w end k t b q tag words charge c n s f has stand x cost deep h =
+values_own m w end k t b q tag words charge c n s f has lie x cost deep h =
     let o = scalars_object m 0 w x cost deep c n h f in
     let many : length (values_of m t b c n) ≡ n = length-map-range_with_len (value_at (segment_of m t) b (element_bits c)) 0 n in
     let e : pointer_to (end - w - 1) (trim x) ≡ list_word (end - w - 1) c n =
     ap (pointer_to (end - w - 1)) o.1.tree ∙ ap (λ i. list_word (end - w - 1) c i) many in
     let here : HasWord m 0 w (pointer_to (end - w - 1) (trim x)) = subst (λ z. HasWord m 0 w z) (sym e) has in
     let place = scalars_place m w end (trim x) t b c n words o.1 s.after (omega (arith, s.inside, s.few)) here in
-    let own : OwnAt (segment_of m 0) end (trim x) = subst (λ (v : Tree). OwnAt (segment_of m 0) end v) (sym place.tree) stand in
+    let own : OwnAt (segment_of m 0) end (trim x) = subst (λ (v : Tree). OwnAt (segment_of m 0) end v) (sym place.tree) lie in
     let ends : end + words ≡ end + own_size (trim x) = omega (arith, place.size) in
     let six : (code q == 6) ≡ false = ne_eqb (code q) 6 (λ z. omega (arith, z, f.object.shape.code, f.object.shape.scalar)) in
     let seven : (code q == 7) ≡ false = ne_eqb (code q) 7 (λ z. omega (arith, z, f.object.shape.code, f.object.shape.scalar)) in
@@ -161,7 +161,7 @@ pub structs_inside : (m : List (List ℕ)) (w k t b q tag words charge size n d 
 structs_inside m w k t b q tag words charge size n d p f = search (rules, extent_structs)
 
 -- and where its tag is, if its word is the one of a copy
-pub structs_start : (m : List (List ℕ)) (w end k t b q tag words charge size n d p : ℕ) → MayStand m w end
+pub structs_start : (m : List (List ℕ)) (w end k t b q tag words charge size n d p : ℕ) → MayStartAt m w end
     → FindsObject m 0 w k t b q tag words charge (shape.Structs size n d p) → HasWord m 0 w (list_word (end - w - 1) 7 (n * (d + p)))
     → (end < length (segment_of m 0)) × (list_size q ≡ n * (d + p))
 structs_start m w end k t b q tag words charge size n d p s f has =
@@ -171,7 +171,7 @@ structs_start m w end k t b q tag words charge size n d p s f has =
     (omega (arith, in_.3, r.start, seg), r.size)
 
 -- a list of structs
-pub structs_own : (m : List (List ℕ)) (w end k t b q tag words charge size n d p : ℕ) → MayStand m w end
+pub structs_own : (m : List (List ℕ)) (w end k t b q tag words charge size n d p : ℕ) → MayStartAt m w end
     → FindsObject m 0 w k t b q tag words charge (shape.Structs size n d p) → HasWord m 0 w (list_word (end - w - 1) 7 (n * (d + p)))
     → HasWord m 0 end (struct_word n d p) → d ≡ most_data m t (b + 1) d p n
     → ((es : Trees) (c' d' : ℕ) → AreElements m t (b + 1) d p n es c' d' → p ≡ children_of es)
@@ -184,12 +184,12 @@ structs_own m w end k t b q tag words charge size n d p s f has has_tag sizes ch
     ap (pointer_to (end - w - 1)) o.2.tree ∙ ap (λ i. list_word (end - w - 1) 7 (i * (d + p))) o.2.many in
     let here : HasWord m 0 w (pointer_to (end - w - 1) (trim x)) = subst (λ z. HasWord m 0 w z) (sym e) has in
     let place = structs_place m o.0 w end (trim x) n part o.2 s.after (omega (arith, s.inside, s.few)) here in
-    let stand = structs_stand m o.0 w end (trim x) n part o.2 place has_tag in
+    let lie = structs_lie m o.0 w end (trim x) n part o.2 place has_tag in
     let start = structs_start m w end k t b q tag words charge size n d p s f has in
     let size' : own_size (trim x) ≡ 1 + n * (d + p) = ap own_size o.2.tree ∙ ap (λ i. 1 + i * (d + p)) o.2.many in
     let extent = extent_structs q f.object.shape.kind f.object.shape.code in
     let ends : end + words ≡ end + own_size (trim x) = omega (arith, size', extent, start.1, f.object.words) in
-    own_of m w end (end + words) q tag t b deep (trim x) (object.Structs n part) s.after here stand.own ends o (λ path level.
+    own_of m w end (end + words) q tag t b deep (trim x) (object.Structs n part) s.after here lie.own ends o (λ path level.
     let rows = element_rows path (level + (element_levels 1 + 1)) t (b + 1) d p 0 n in
     let due : AreDue m rows (element_slots d p (end + 1) o.2.elements) =
     elements_due m o.0 path (level + (element_levels 1 + 1)) t (b + 1) (end + 1) d p 0 n o.2.elements place.segment place.start o.2.many o.2.below in
@@ -534,7 +534,7 @@ module _ (m : List (List ℕ)) (w word end cost : ℕ) (l : LeadsToEnd m w word 
 
   pub values_next : word < 2 ^ 64 → kind word ≡ 1 → 0 < code word → code word < 6
       → HasWordsAt (segment_of m 0) end (scalar_words (code word) (values_of m 0 end (code word) (list_size word))) → IsNextInOrder m w end (end + cost)
-  values_next small k some few stand =
+  values_next small k some few lie =
       let c = code word in
       let n = list_size word in
       let pointers : HasPointers word 0 = inr (inr (k, some, few, refl)) in
@@ -542,8 +542,8 @@ module _ (m : List (List ℕ)) (w word end cost : ℕ) (l : LeadsToEnd m w word 
       row_next 0 pointers (list_some k)
       (values_own m w end 0 0 end word 0 cost cost c n l.placed
       (object_of 0 (shape.Scalars c n) pointers (list_some k) (record { kind = k; code = refl; scalar = few; count = refl }))
-      (subst (HasWord m 0 w) same l.has) stand)
+      (subst (HasWord m 0 w) same l.has) lie)
 
   pub values_differ : kind word ≡ 1 → 0 < code word → code word < 6
       → (HasWordsAt (segment_of m 0) end (scalar_words (code word) (values_of m 0 end (code word) (list_size word))) → ⊥) → NoCopyHas m w end
-  values_differ k some few stand x charge deep h lt small pointed own due laid = search (rules, scalars_object, object_of, list_some)
+  values_differ k some few lie x charge deep h lt small pointed own due laid = search (rules, scalars_object, object_of, list_some)

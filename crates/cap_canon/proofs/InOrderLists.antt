@@ -7,18 +7,18 @@ use Rattle.cap_spec.proofs.ProofNames.{middle, pointer_size}
 use Rattle.cap_ptr.specs.Reaching.{LeadsTo}
 use Rattle.cap_ptr.specs.Shapes.{FindsObject}
 use Rattle.cap_ptr.proofs.Objects.{found-structs}
-use Rattle.cap_ptr.proofs.Pads.{object-lead, stands-near}
-use Rattle.cap_canon.specs.InOrder.{HasOwn, IsNextInOrder, LeadsToEnd, MayStand, NoCopyHas}
+use Rattle.cap_ptr.proofs.Pads.{object-lead, lies-near}
+use Rattle.cap_canon.specs.InOrder.{HasOwn, IsNextInOrder, LeadsToEnd, MayStartAt, NoCopyHas}
 use Rattle.cap_canon.specs.Trimming.{ListNeedsAll, ListNeedsLess}
 use Rattle.cap_canon.proofs.InOrder.{list_by_fields, struct_by_fields, structs_own, structs_there}
 use Rattle.cap_canon.proofs.NoCopies.{no_structs, no_surplus}
 use Rattle.cap_ptr.specs.declared.shapes.Shape.TheVariants as shape
 
 -- a near word leads to the end
-pub leads_to_end : (m : List (List ℕ)) (w end word : ℕ) → MayStand m w end → HasWord m 0 w word → kind word ≡ 1 → w + 1 + middle word ≡ end
+pub leads_to_end : (m : List (List ℕ)) (w end word : ℕ) → MayStartAt m w end → HasWord m 0 w word → kind word ≡ 1 → w + 1 + middle word ≡ end
     → LeadsTo m 0 w 0 0 end word
 leads_to_end m w end word s has list next =
-    object-lead m 0 w 0 0 w word (pos end) (stands-near m 0 w word has (λ e. omega (arith, e, list))) (omega (arith, list))
+    object-lead m 0 w 0 0 w word (pos end) (lies-near m 0 w word has (λ e. omega (arith, e, list))) (omega (arith, list))
     (λ z. (let e : kind word ≡ kind 0 = ap kind z in omega (arith, list, e)))
     (start_after word w end (middle word) refl (omega (arith, next, s.inside, s.few)) (sym next))
 

@@ -2,15 +2,15 @@
 use Rattle.cap_spec.specs.Tree.{none}
 use Rattle.cap_spec.proofs.Canonical.ElementPlaces.{children_begin, element_end, rest_begin}
 use Rattle.cap_spec.proofs.Canonical.Sizes.{length-contents, length-element_words, length-pointer_words}
-use Rattle.cap_spec.proofs.Lemmas.{stand_back, stand_front, FitElements, Fits}
+use Rattle.cap_spec.proofs.Lemmas.{lie_back, lie_front, FitElements, Fits}
 use Rattle.cap_spec.proofs.ProofNames.{List, Some, ap, append_assoc, arith, length, refl, slice_get, subst, sym, ℕ, ◌*◌}
 use Rattle.cap_spec.proofs.ProofNames.{◌++◌, ◌+◌, ◌↔◌, ◌∷◌, ◌≡◌, contents, element_contents, element_sizes, element_words}
 use Rattle.cap_spec.proofs.ProofNames.{pointer_words, size, sizes, struct_word, HasWordsAt, Tree, Trees, cap, more, null}
 use Rattle.cap_spec.proofs.ProofNames.{pointers, scalars, struct, structs, tree_count}
 use Rattle.cap_canon.specs.Laying.{DataAt, Due, IsPointed, Laid, OwnAt, below, element_slots, own_size, slots}
-use Rattle.cap_canon.proofs.Laying.{due_row, laid_inside, row_due, stand_join}
+use Rattle.cap_canon.proofs.Laying.{due_row, laid_inside, row_due, lie_join}
 
--- elements in a row, and the contents behind them
+-- elements in a row, and the contents after them
 pub elements_due : (words : List ℕ) (d p b c after : ℕ) (es : Trees) (due : List Due) → c ≡ b + tree_count es * (d + p) + after → FitElements d p es
     → HasWordsAt words b (element_words (d + p) after es) → HasWordsAt words c (element_contents es) → Laid words (c + element_sizes es) due
     → DataAt words b d p es × Laid words c (element_slots d p b es ++ due)
@@ -18,18 +18,18 @@ elements_due words d p b c after none due e f sp sc l = let i : c + 0 ≡ c = om
 elements_due words d p b c after (more (struct ws ts) es) due e f sp sc l =
     let pw = pointer_words (tree_count es * (d + p) + after) ts in
     let ew = element_words (d + p) (after + sizes ts) es in
-    let front : HasWordsAt words b (ws ++ pw) = stand_front words b (ws ++ pw) ew sp in
-    let own : HasWordsAt words b ws = stand_front words b ws pw front in
-    let below : HasWordsAt words (b + d) pw = stand_back words b (b + d) ws pw (ap (λ n. b + n) (sym f.0)) front in
+    let front : HasWordsAt words b (ws ++ pw) = lie_front words b (ws ++ pw) ew sp in
+    let own : HasWordsAt words b ws = lie_front words b ws pw front in
+    let below : HasWordsAt words (b + d) pw = lie_back words b (b + d) ws pw (ap (λ n. b + n) (sym f.0)) front in
     let i : c + element_sizes (more (struct ws ts) es) ≡ c + sizes ts + element_sizes es = omega arith in
     let r = elements_due words d p (b + d + p) (c + sizes ts) (after + sizes ts) es due
     (rest_begin c b (tree_count es) d p after (sizes ts) e) f.3
-    (stand_back words b (b + d + p) (ws ++ pw) ew (element_end b d p ws pw (tree_count ts) f.0
+    (lie_back words b (b + d + p) (ws ++ pw) ew (element_end b d p ws pw (tree_count ts) f.0
     (length-pointer_words (tree_count es * (d + p) + after) ts) f.1) sp)
-    (stand_back words c (c + sizes ts) (contents ts) (element_contents es) (ap (λ n. c + n) (sym (length-contents ts f.2))) sc)
+    (lie_back words c (c + sizes ts) (contents ts) (element_contents es) (ap (λ n. c + n) (sym (length-contents ts f.2))) sc)
     (subst (λ n. Laid words n due) i l) in
     let row = row_due words (b + d) c (tree_count es * (d + p) + after) ts (element_slots d p (b + d + p) es ++ due)
-    (children_begin c b (tree_count es) d p (tree_count ts) after e f.1) f.2 below (stand_front words c (contents ts) (element_contents es) sc) r.1 in
+    (children_begin c b (tree_count es) d p (tree_count ts) after e f.1) f.2 below (lie_front words c (contents ts) (element_contents es) sc) r.1 in
     ((own, r.0), subst (λ xs. Laid words c xs) (sym (append_assoc (slots (b + d) ts) (element_slots d p (b + d + p) es) due)) row)
 elements_due words d p b c after (more _ es) due e f sp sc l = absurd f
 
@@ -52,10 +52,10 @@ due_elements words d p b c after (more (struct ws ts) es) due e f da l =
     let r = due_elements words d p (b + d + p) (c + sizes ts) (after + sizes ts) es due
     (rest_begin c b (tree_count es) d p after (sizes ts) e) f.3 da.1 first.rest in
     let i : c + sizes ts + element_sizes es ≡ c + element_sizes (more (struct ws ts) es) = omega arith in
-    let own : HasWordsAt words b (ws ++ pw) = stand_join words b (b + d) ws pw (ap (λ n. b + n) (sym f.0)) da.0 first.row in record {
-      row = stand_join words b (b + d + p) (ws ++ pw) ew (element_end b d p ws pw (tree_count ts) f.0
+    let own : HasWordsAt words b (ws ++ pw) = lie_join words b (b + d) ws pw (ap (λ n. b + n) (sym f.0)) da.0 first.row in record {
+      row = lie_join words b (b + d + p) (ws ++ pw) ew (element_end b d p ws pw (tree_count ts) f.0
           (length-pointer_words (tree_count es * (d + p) + after) ts) f.1) own r.row;
-      below = stand_join words c (c + sizes ts) (contents ts) (element_contents es) (ap (λ n. c + n) (sym (length-contents ts f.2))) first.below r.below;
+      below = lie_join words c (c + sizes ts) (contents ts) (element_contents es) (ap (λ n. c + n) (sym (length-contents ts f.2))) first.below r.below;
       rest = subst (λ n. Laid words n due) i r.rest;
     }
 due_elements words d p b c after (more _ es) due e f da l = absurd f
@@ -70,12 +70,12 @@ struct_laid words end slot ws ts due f = (to, from)
         → IsPointed words end slot (struct ws ts) × HasWordsAt words end ws × Laid words (end + length ws + tree_count ts) (slots (end + length ws) ts ++ due)
     to (offset, e, p, s, l) =
         let pw = pointer_words 0 ts in
-        let front : HasWordsAt words end (ws ++ pw) = stand_front words end (ws ++ pw) (contents ts) s in
+        let front : HasWordsAt words end (ws ++ pw) = lie_front words end (ws ++ pw) (contents ts) s in
         let i : end + size (struct ws ts) ≡ end + length ws + tree_count ts + sizes ts = omega arith in (
           (offset, e, p),
-          stand_front words end ws pw front,
-          row_due words (end + length ws) (end + length ws + tree_count ts) 0 ts due (omega arith) f.2 (stand_back words end (end + length ws) ws pw refl front)
-              (stand_back words end (end + length ws + tree_count ts) (ws ++ pw) (contents ts)
+          lie_front words end ws pw front,
+          row_due words (end + length ws) (end + length ws + tree_count ts) 0 ts due (omega arith) f.2 (lie_back words end (end + length ws) ws pw refl front)
+              (lie_back words end (end + length ws + tree_count ts) (ws ++ pw) (contents ts)
               (element_end end (length ws) (tree_count ts) ws pw (tree_count ts) refl (length-pointer_words 0 ts) refl) s)
               (subst (λ n. Laid words n due) i l),
         )
@@ -89,17 +89,17 @@ struct_laid words end slot ws ts due f = (to, from)
           offset,
           e,
           p,
-          stand_join words end (end + length ws + tree_count ts) (ws ++ pw) (contents ts)
+          lie_join words end (end + length ws + tree_count ts) (ws ++ pw) (contents ts)
               (element_end end (length ws) (tree_count ts) ws pw (tree_count ts) refl (length-pointer_words 0 ts) refl)
-              (stand_join words end (end + length ws) ws pw refl own r.row) r.below,
+              (lie_join words end (end + length ws) ws pw refl own r.row) r.below,
           subst (λ n. Laid words n due) i r.rest,
         )
 
 structs_rest : (end n s : ℕ) → end + 1 + n + s ≡ end + (1 + n + s)
 structs_rest end n s = omega arith
 
-structs_behind : (end n x : ℕ) → x ≡ n → end + 1 + n ≡ end + 1 + x
-structs_behind end n x e = omega arith
+structs_after : (end n x : ℕ) → x ≡ n → end + 1 + n ≡ end + 1 + x
+structs_after end n x e = omega arith
 
 no_more : (x : ℕ) → x ≡ x + 0
 no_more x = omega arith
@@ -118,9 +118,9 @@ structs_laid words end slot d p es due f = (to, from)
         let ew = element_words (d + p) 0 es in
         let n : length ew ≡ tree_count es * (d + p) = length-element_words (d + p) 0 d p es f.4 in
         let r = elements_due words d p (end + 1) (end + 1 + tree_count es * (d + p)) 0 es due (no_more (end + 1 + tree_count es * (d + p))) f.4
-        (stand_front words (end + 1) ew (element_contents es) s.1)
-        (stand_back words (end + 1) (end + 1 + tree_count es * (d + p)) ew (element_contents es)
-        (structs_behind end (tree_count es * (d + p)) (length ew) n) s.1)
+        (lie_front words (end + 1) ew (element_contents es) s.1)
+        (lie_back words (end + 1) (end + 1 + tree_count es * (d + p)) ew (element_contents es)
+        (structs_after end (tree_count es * (d + p)) (length ew) n) s.1)
         (subst (λ x. Laid words x due) (sym (structs_rest end (tree_count es * (d + p)) (element_sizes es))) l) in
         ((offset, e, q), s.0, r.0, r.1)
 
@@ -136,8 +136,8 @@ structs_laid words end slot d p es due f = (to, from)
           q,
           (
             tag,
-            stand_join words (end + 1) (end + 1 + tree_count es * (d + p)) ew (element_contents es)
-                (structs_behind end (tree_count es * (d + p)) (length ew) n) r.row r.below,
+            lie_join words (end + 1) (end + 1 + tree_count es * (d + p)) ew (element_contents es)
+                (structs_after end (tree_count es * (d + p)) (length ew) n) r.row r.below,
           ),
           subst (λ x. Laid words x due) (structs_rest end (tree_count es * (d + p)) (element_sizes es)) r.rest,
         )
@@ -148,16 +148,16 @@ pub pointers_laid : (words : List ℕ) (end slot : ℕ) (ts : Trees) (due : List
     ↔ (IsPointed words end slot (pointers ts) × Laid words (end + tree_count ts) (slots end ts ++ due))
 pointers_laid words end slot ts due f = (to, from)
   where
-    behind : end + tree_count ts ≡ end + length (pointer_words 0 ts)
-    behind = omega (arith, length-pointer_words 0 ts)
+    following : end + tree_count ts ≡ end + length (pointer_words 0 ts)
+    following = omega (arith, length-pointer_words 0 ts)
 
     to : Laid words end (record { slot = slot; tree = pointers ts } ∷ due)
         → IsPointed words end slot (pointers ts) × Laid words (end + tree_count ts) (slots end ts ++ due)
     to (offset, e, p, s, l) =
         let i : end + size (pointers ts) ≡ end + tree_count ts + sizes ts = omega arith in (
           (offset, e, p),
-          row_due words end (end + tree_count ts) 0 ts due (omega arith) f.1 (stand_front words end (pointer_words 0 ts) (contents ts) s)
-              (stand_back words end (end + tree_count ts) (pointer_words 0 ts) (contents ts) behind s) (subst (λ n. Laid words n due) i l),
+          row_due words end (end + tree_count ts) 0 ts due (omega arith) f.1 (lie_front words end (pointer_words 0 ts) (contents ts) s)
+              (lie_back words end (end + tree_count ts) (pointer_words 0 ts) (contents ts) following s) (subst (λ n. Laid words n due) i l),
         )
 
     from : IsPointed words end slot (pointers ts) × Laid words (end + tree_count ts) (slots end ts ++ due)
@@ -168,7 +168,7 @@ pointers_laid words end slot ts due f = (to, from)
           offset,
           e,
           p,
-          stand_join words end (end + tree_count ts) (pointer_words 0 ts) (contents ts) behind r.row r.below,
+          lie_join words end (end + tree_count ts) (pointer_words 0 ts) (contents ts) following r.row r.below,
           subst (λ n. Laid words n due) i r.rest,
         )
 

@@ -4,20 +4,20 @@ use Rattle.cap_spec.specs.Canonical.{content, contents, pointer_to, pointer_word
 use Rattle.cap_spec.specs.Placing.{HasWordsAt}
 use Rattle.cap_spec.specs.Tree.{Trees, more, none, tree_count}
 use Rattle.cap_spec.proofs.Canonical.TreeMeasures.{FitEach}
-use Rattle.cap_spec.proofs.Lemmas.{stand_back, stand_front, stand_inside, length-content}
+use Rattle.cap_spec.proofs.Lemmas.{lie_back, lie_front, lie_inside, length-content}
 use Rattle.cap_canon.specs.Laying.{Due, Laid, slots}
 
--- parts that stand one behind the other stand joined
-pub stand_join : (words : List ℕ) (b c : ℕ) (xs ys : List ℕ) → c ≡ b + length xs → HasWordsAt words b xs → HasWordsAt words c ys → HasWordsAt words b (xs ++ ys)
-stand_join words b c [] ys e h k = let i : c ≡ b = omega arith in subst (λ n. HasWordsAt words n ys) i k
-stand_join words b c (x ∷ xs) ys e h k = (h.0, stand_join words (b + 1) c xs ys (omega arith) h.1 k)
+-- parts that are one after the other are joined
+pub lie_join : (words : List ℕ) (b c : ℕ) (xs ys : List ℕ) → c ≡ b + length xs → HasWordsAt words b xs → HasWordsAt words c ys → HasWordsAt words b (xs ++ ys)
+lie_join words b c [] ys e h k = let i : c ≡ b = omega arith in subst (λ n. HasWordsAt words n ys) i k
+lie_join words b c (x ∷ xs) ys e h k = (h.0, lie_join words (b + 1) c xs ys (omega arith) h.1 k)
 
 -- what is laid lies inside
 pub laid_inside : (words : List ℕ) (end : ℕ) (due : List Due) → Laid words end due → end ≤ length words
 laid_inside words end [] h = omega (arith, h)
-laid_inside words end (x ∷ due) (offset, e, p, s, rest) = let l = stand_inside words end (content x.tree) s in omega (arith, l)
+laid_inside words end (x ∷ due) (offset, e, p, s, rest) = let l = lie_inside words end (content x.tree) s in omega (arith, l)
 
--- pointer words in a row, and the contents behind them
+-- pointer words in a row, and the contents after them
 pub row_due : (words : List ℕ) (a c after : ℕ) (ts : Trees) (due : List Due) → c ≡ a + tree_count ts + after → FitEach ts
     → HasWordsAt words a (pointer_words after ts) → HasWordsAt words c (contents ts) → Laid words (c + sizes ts) due → Laid words c (slots a ts ++ due)
 row_due words a c after none due e f sp sc l = let i : c + 0 ≡ c = omega arith in subst (λ n. Laid words n due) i l
@@ -26,9 +26,9 @@ row_due words a c after (more t ts) due e f sp sc l =
       tree_count ts + after,
       omega (arith, e),
       sp.0,
-      stand_front words c (content t) (contents ts) sc,
+      lie_front words c (content t) (contents ts) sc,
       row_due words (a + 1) (c + size t) (after + size t) ts due (omega (arith, e)) f.1 sp.1
-          (stand_back words c (c + size t) (content t) (contents ts) (ap (λ n. c + n) (sym (length-content t f.0))) sc)
+          (lie_back words c (c + size t) (content t) (contents ts) (ap (λ n. c + n) (sym (length-content t f.0))) sc)
           (subst (λ n. Laid words n due) i l),
     )
 
@@ -52,6 +52,6 @@ due_row words a c after (more t ts) due e f (offset, eo, p, s, l) =
     let i : c + size t + sizes ts ≡ c + sizes (more t ts) = omega arith in
     let o : offset ≡ tree_count ts + after = omega (arith, e, eo) in record {
       row = (subst (λ n. slice_get words a ≡ Some (pointer_to n t)) o p, r.row);
-      below = stand_join words c (c + size t) (content t) (contents ts) (ap (λ n. c + n) (sym (length-content t f.0))) s r.below;
+      below = lie_join words c (c + size t) (content t) (contents ts) (ap (λ n. c + n) (sym (length-content t f.0))) s r.below;
       rest = subst (λ n. Laid words n due) i r.rest;
     }

@@ -26,7 +26,7 @@ mod PointerForms
 mod Ranges
 mod Rests
 mod Runs
-mod Standing
+mod LaidObjects
 mod Structs
 mod Trimmed
 mod Walks

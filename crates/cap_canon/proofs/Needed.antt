@@ -12,7 +12,7 @@ first_needed : (n x : ℕ) → x ≢ 0 → (((n == 0) ≡ true) × (n ≡ 0)) �
     → 1 ≤ (if n == 0 then (if x == 0 then 0 else 1) else suc n)
 first_needed n x h k e = search rules
 
--- and what is needed later is needed behind it
+-- and what is needed later is needed after it
 pub later_needed : (n y i : ℕ) → suc i ≤ n → (((n == 0) ≡ true) × (n ≡ 0)) ⊎ (((n == 0) ≡ false) × (n ≡ 0 → ⊥)) → suc (suc i) ≤ (if n == 0 then y else suc n)
 later_needed n y i h k = search rules
 
@@ -21,7 +21,7 @@ needed_past [] i h = absurd (h refl)
 needed_past (x ∷ xs) zero h = first_needed (data_needed xs) x h (eqb_tells (data_needed xs) 0) (eqb_tells x 0)
 needed_past (x ∷ xs) (suc i) h = later_needed (data_needed xs) (if x == 0 then 0 else 1) i (needed_past xs i h) (eqb_tells (data_needed xs) 0)
 
--- a zero word that stands last of those needed isn't needed
+-- a zero word that is last of those needed isn't needed
 first_zero : (n x : ℕ) → x ≡ 0 → (((n == 0) ≡ true) × (n ≡ 0)) ⊎ (((n == 0) ≡ false) × (n ≡ 0 → ⊥)) → (if n == 0 then (if x == 0 then 0 else 1) else suc n) ≤ 1
     → (if n == 0 then (if x == 0 then 0 else 1) else suc n) ≤ 0
 first_zero n x e k h = search rules
@@ -75,7 +75,7 @@ needed_below m s b n left least x lt le h z most = search (rules, word_of_range,
 pub most_on : (a b m r : ℕ) → a ≡ max m b → max a r ≡ max m (max b r)
 most_on a b m r e = omega (arith, e)
 
--- a turn of the loop over elements, at the one behind the first i
+-- a turn of the loop over elements, at the one after the first i
 pub record ElementsSeen (m : List (List ℕ)) (s start at ds ps count i most : ℕ) : Type 0 where
   pub place : at ≡ start + i * (ds + ps)
   pub within : most ≤ ds

@@ -17,7 +17,7 @@ use Rattle.cap_canon.proofs.Children.{row_needed}
 use Rattle.cap_canon.proofs.Elements.{most_data_of}
 use Rattle.cap_canon.proofs.FarWords.{elements_near, row_near}
 use Rattle.cap_canon.proofs.Found.{struct_found, structs_found}
-use Rattle.cap_canon.proofs.Standing.{pointed_word}
+use Rattle.cap_canon.proofs.LaidObjects.{pointed_word}
 use Rattle.cap_canon.proofs.Trimmed.{children_needed-trim, children_of-trim, data_of-trim}
 use Rattle.cap_canon.proofs.Walks.{owed_fits}
 use Rattle.cap_ptr.specs.declared.shapes.Shape.TheVariants as shape

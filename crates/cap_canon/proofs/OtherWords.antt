@@ -5,7 +5,7 @@ use Rattle.cap_spec.proofs.ProofNames.{List, ap, arith, refl, subst, sym, ℕ, �
 use Rattle.cap_spec.proofs.ProofNames.{Finds, extra, near, HasWord, code, extent, kind, list_size, middle}
 use Rattle.cap_ptr.specs.Shapes.{FindsObject}
 use Rattle.cap_ptr.proofs.Objects.{found-plain}
-use Rattle.cap_canon.specs.InOrder.{HasOwn, IsNextInOrder, MayStand}
+use Rattle.cap_canon.specs.InOrder.{HasOwn, IsNextInOrder, MayStartAt}
 use Rattle.cap_canon.proofs.InOrder.{list_by_fields, struct_own, values_own}
 use Rattle.cap_canon.proofs.InOrderLists.{leads_to_end}
 use Rattle.cap_canon.proofs.Needed.{range_needed}
@@ -14,7 +14,7 @@ use Rattle.cap_canon.proofs.WholeObjects.{row_empty}
 use Rattle.cap_ptr.specs.declared.shapes.Shape.TheVariants as shape
 
 -- a struct without words
-pub no_words_next : (m : List (List ℕ)) (w end : ℕ) → MayStand m w end → HasWord m 0 w (2 ^ 32 - 4) → IsNextInOrder m w end end
+pub no_words_next : (m : List (List ℕ)) (w end : ℕ) → MayStartAt m w end → HasWord m 0 w (2 ^ 32 - 4) → IsNextInOrder m w end end
 no_words_next m w end s has =
     let finds : Finds m 0 w 0 0 w (2 ^ 32 - 4) = record {
       leads = near (2 ^ 32 - 4) has (λ e. omega (arith, e)) (omega arith, (λ e. omega (arith, e)), refl, start_before w, refl) refl;
@@ -49,7 +49,7 @@ no_words_next m w end s has =
     }
 
 -- a list without bits
-pub no_bits_next : (m : List (List ℕ)) (w end word : ℕ) → MayStand m w end → HasWord m 0 w word → word < 2 ^ 64 → kind word ≡ 1 → code word ≡ 0
+pub no_bits_next : (m : List (List ℕ)) (w end word : ℕ) → MayStartAt m w end → HasWord m 0 w word → word < 2 ^ 64 → kind word ≡ 1 → code word ≡ 0
     → w + 1 + middle word ≡ end → IsNextInOrder m w end end
 no_bits_next m w end word s has small list c next =
     let n = list_size word in
@@ -63,8 +63,8 @@ no_bits_next m w end word s has small list c next =
     let offset : middle word ≡ end - w - 1 = omega (arith, next) in
     let same : word ≡ list_word (end - w - 1) 0 n = list_by_fields word small list
     ∙ (ap (λ i. list_word i (code word) (list_size word)) offset ∙ ap (λ i. list_word (end - w - 1) i (list_size word)) c) in
-    let stand = values_full m 0 end 0 n 0 (omega arith) (omega arith) (omega (arith, s.inside)) (λ k lt. absurd (omega (arith, lt))) (omega arith) in
-    let own = values_own m w end 0 0 end word 0 0 (0 + 0 + n) 0 n s f (subst (λ z. HasWord m 0 w z) same has) stand in
+    let lie = values_full m 0 end 0 n 0 (omega arith) (omega arith) (omega (arith, s.inside)) (λ k lt. absurd (omega (arith, lt))) (omega arith) in
+    let own = values_own m w end 0 0 end word 0 0 (0 + 0 + n) 0 n s f (subst (λ z. HasWord m 0 w z) same has) lie in
     let e : end + 0 ≡ end = omega arith in record {
       word = word;
       has = has;

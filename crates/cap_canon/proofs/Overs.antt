@@ -5,7 +5,7 @@ use Rattle.cap_spec.proofs.ProofNames.{Err, List, Ok, [], ap, arith, length, len
 use Rattle.cap_spec.proofs.ProofNames.{◌<◌, ◌∙◌, ◌≡◌, ◌≤◌, ◌⊎◌, AllByRecursion, layout, trim, HasCopy, Denotes}
 use Rattle.cap_spec.proofs.ProofNames.{IsFirstCap, plain_text, plain_words, rules}
 use Rattle.cap_words.proofs.WholeWords.{words_text}
-use Rattle.cap_canon.specs.CopyOvers.{MakesEnough, TellsOver, enough, grown, has_capability, made, no_copy, no_memory}
+use Rattle.cap_canon.specs.CopyOvers.{MakesEnough, ReportsOver, enough, grown, has_capability, made, no_copy, no_memory}
 use Rattle.cap_canon.specs.CopyOvers.{over, refused}
 use Rattle.cap_canon.specs.CanonNames.{CanonFault, first_words}
 use Rattle.cap_canon.proofs.Copies.{copy_length, copy_of, same_fault}
@@ -23,11 +23,11 @@ first_text words bytes small h e =
     whole ∙ ap plain_text (first_taken n bytes h ∙ e)
 
 -- a buffer that wasn't made long enough
-pub tells_err : (m : List (List ℕ)) (old new : List ℕ) (fault : CanonFault) → MakesEnough m old (Err fault) new → TellsOver m old (Err fault) new
-tells_err m old new fault (no_copy s w f e g) = has_capability s w f (ap Err (same_fault fault (HasCapability s w) e)) g
-tells_err m old new fault (refused words h l e g) = no_memory words h l (ap Err (same_fault fault Memory e)) g
-tells_err m old new fault (enough words h l e g) = absurd (cc)
-tells_err m old new fault (made words h l e g) = absurd (cc)
+pub reports_err : (m : List (List ℕ)) (old new : List ℕ) (fault : CanonFault) → MakesEnough m old (Err fault) new → ReportsOver m old (Err fault) new
+reports_err m old new fault (no_copy s w f e g) = has_capability s w f (ap Err (same_fault fault (HasCapability s w) e)) g
+reports_err m old new fault (refused words h l e g) = no_memory words h l (ap Err (same_fault fault Memory e)) g
+reports_err m old new fault (enough words h l e g) = absurd (cc)
+reports_err m old new fault (made words h l e g) = absurd (cc)
 
 -- one that is long enough, for this copy
 pub enough_of : (m : List (List ℕ)) (old new : List ℕ) → MakesEnough m old (Ok tt) new
@@ -49,13 +49,13 @@ module _ (m : List (List ℕ)) (old mid new : List ℕ) (n : ℕ) (same : length
   text_of : (words : List ℕ) → HasCopy m words → (n ≡ length words) × (take (length (plain_text words)) new ≡ plain_text words)
   text_of words h = search (rules, length_plain)
 
-  pub tells_ok : MakesEnough m old (Ok tt) mid → TellsOver m old (Ok (8 * n)) new
-  tells_ok (no_copy s w f e g) = absurd (cc)
-  tells_ok (refused words h l e g) = absurd (cc)
-  tells_ok (enough words h l e g) =
+  pub reports_ok : MakesEnough m old (Ok tt) mid → ReportsOver m old (Ok (8 * n)) new
+  reports_ok (no_copy s w f e g) = absurd (cc)
+  reports_ok (refused words h l e g) = absurd (cc)
+  reports_ok (enough words h l e g) =
       let x = text_of words h in
       over words h l (ap Ok (omega (arith, length_plain words, x.0))) x.1 (same ∙ ap length g)
-  tells_ok (made words h l e g) =
+  reports_ok (made words h l e g) =
       let x = text_of words h in
       grown words h l (ap Ok (omega (arith, length_plain words, x.0))) x.1 (same ∙ g)
 
@@ -82,11 +82,11 @@ module _ (m : List (List ℕ)) (old mid new : List ℕ) (n : ℕ) (same : length
       (λ le. absurd (omega (arith, le, l, length_plain words, x.0)), λ _. omega (arith, g, length_plain words, x.0))
 
 -- all of a new vector is the copy
-pub new_text : (m : List (List ℕ)) (count : ℕ) (new : List ℕ) → TellsOver m [] (Ok count) new
+pub new_text : (m : List (List ℕ)) (count : ℕ) (new : List ℕ) → ReportsOver m [] (Ok count) new
     → (words : List ℕ) × HasCopy m words × (new ≡ plain_text words) × (count ≡ length new)
 new_text m count new h = search (rules, length_plain, take_all)
 
 -- or there is none, by the fault
-pub new_fault : (m : List (List ℕ)) (fault : CanonFault) (new : List ℕ) → TellsOver m [] (Err fault) new
+pub new_fault : (m : List (List ℕ)) (fault : CanonFault) (new : List ℕ) → ReportsOver m [] (Err fault) new
     → ((s w : ℕ) × IsFirstCap m s w × (fault ≡ HasCapability s w)) ⊎ ((words : List ℕ) × HasCopy m words × (fault ≡ Memory))
 new_fault m fault new h = search (rules, same_fault)

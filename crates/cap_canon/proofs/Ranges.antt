@@ -11,11 +11,11 @@ use Rattle.cap_spec.proofs.Trees.WordsRead.{values_read}
 use Rattle.cap_canon.specs.Filling.{elements_from}
 use Rattle.cap_canon.specs.Values.{used_bits}
 
--- a range is a front of what stands from its beginning on
+-- a range is a prefix of what is from its beginning on
 range_is : (m : List (List ℕ)) (t b n : ℕ) → words_from m t b n ≡ take n (drop b (segment_of m t))
 range_is m t b n = let e : b + n - b ≡ n = omega arith in ap (λ k. take k (drop b (segment_of m t))) e
 
--- a range and the one behind it
+-- a range and the one after it
 pub words_split : (m : List (List ℕ)) (t b x y : ℕ) → words_from m t b (x + y) ≡ words_from m t b x ++ words_from m t (b + x) y
 words_split m t b x y = search (rules, range_is, take-add, drop-drop)
 
@@ -50,12 +50,12 @@ pub all_front : {A : Type 0} (P : A → Type 0) (xs ys : List A) → AllByRecurs
 all_front P [] ys a = tt
 all_front P (x ∷ xs) ys a = (a.0, all_front P xs ys a.1)
 
--- a range stands in its segment
-pub range_stands : (m : List (List ℕ)) (t b n : ℕ) → b + n ≤ length (segment_of m t) → HasWordsAt (segment_of m t) b (words_from m t b n)
-range_stands m t b zero h = let e : b + 0 - b ≡ 0 = omega arith in rw e (omega (arith, h))
-range_stands m t b (suc n) h =
+-- a range is in its segment
+pub range_lies : (m : List (List ℕ)) (t b n : ℕ) → b + n ≤ length (segment_of m t) → HasWordsAt (segment_of m t) b (words_from m t b n)
+range_lies m t b zero h = let e : b + 0 - b ≡ 0 = omega arith in rw e (omega (arith, h))
+range_lies m t b (suc n) h =
     let x = HasWord-at m t b (omega (arith, h)) in
-    let r : HasWordsAt (segment_of m t) (b + 1) (words_from m t (b + 1) n) = range_stands m t (b + 1) n (omega (arith, h)) in
+    let r : HasWordsAt (segment_of m t) (b + 1) (words_from m t (b + 1) n) = range_lies m t (b + 1) n (omega (arith, h)) in
     let e : words_from m t b (suc n) ≡ x.0 ∷ words_from m t (b + 1) n = range_is m t b (suc n)
     ∙ (ap (take (suc n)) (rest_at (segment_of m t) b x.0 x.1) ∙ ap (λ xs. x.0 ∷ xs) (sym (range_is m t (b + 1) n))) in
     subst (λ xs. HasWordsAt (segment_of m t) b xs) (sym e) (x.1, r)
@@ -90,7 +90,7 @@ used_all e n k lt h = search rules
 pub whole_field : (x : ℕ) → IsWord x → field x 0 64 ≡ x
 whole_field x h = omega (arith, h)
 
--- the words of a list of values: those that it is read from, the last one without the bits behind the last value
+-- the words of a list of values: those that it is read from, the last one without the bits after the last value
 pub values_laid : (m : List (List ℕ)) (t b c n before x : ℕ) → c < 6 → list_words c n ≡ before + 1 → b + before < length (segment_of m t)
     → AllByRecursion IsWord (words_from m t b before) → HasWord m t (b + before) x
     → scalar_words c (values_of m t b c n) ≡ words_from m t b before ++ field x 0 (used_bits c n before) ∷ []

@@ -6,7 +6,7 @@ use Rattle.cap_spec.proofs.ProofNames.{field, rules}
 use Rattle.cap_spec.proofs.Trees.ReadingBack.{length-scalar_words}
 use Rattle.cap_canon.specs.Values.{used_bits}
 use Rattle.cap_canon.proofs.Ranges.{whole_field}
-use Rattle.cap_canon.proofs.Standing.{range_words, values_stand}
+use Rattle.cap_canon.proofs.LaidObjects.{range_words, values_lie}
 
 -- where no bits are over, the values take all of the last word,
 pub rest_all : (c n before : ℕ) → c < 6 → list_words c n ≡ before + 1 → (element_bits c * n) % 64 ≡ 0 → used_bits c n before ≡ 64
@@ -20,7 +20,7 @@ rest_part h n before lt w e = search rules
 pub rest_words : (c n : ℕ) → c < 6 → (element_bits c * n) % 64 ≢ 0 → 0 < list_words c n
 rest_words h n lt e = search rules
 
--- A list stands there where no bits are over.
+-- A list is there where no bits are over.
 pub values_full : (m : List (List ℕ)) (t b c n words : ℕ) → c < 6 → words ≡ list_words c n → b + words ≤ length (segment_of m t)
     → ((k : ℕ) → k < words → (x : ℕ) × HasWord m t (b + k) x × IsWord x) → (element_bits c * n) % 64 ≡ 0
     → HasWordsAt (segment_of m t) b (scalar_words c (values_of m t b c n))
@@ -32,5 +32,5 @@ values_full m t b c n zero lt e inside h rest =
 values_full m t b c n (suc before) lt e inside h rest =
     let some : list_words c n ≡ before + 1 = omega (arith, e) in
     let last = h before (omega arith) in
-    values_stand m t b c n before last.0 lt some (omega (arith, inside)) (range_words m t b before (λ k less. h k (omega (arith, less)))) last.1
+    values_lie m t b c n before last.0 lt some (omega (arith, inside)) (range_words m t b before (λ k less. h k (omega (arith, less)))) last.1
     (sym (whole_field last.0 last.2) ∙ ap (λ i. field last.0 0 i) (sym (rest_all c n before lt some rest)))

@@ -5,7 +5,7 @@ use Rattle.cap_canon.specs.CopyRuns.{IsShort}
 use Rattle.cap_canon.specs.CanonNames.{AreShort, IsFull, IsRest, all_places, option_places, place, places_of, root_run}
 use Rattle.cap_canon.specs.CanonNames.{row_places, CopyRun, PointerPlace}
 
--- behind the first of several words in a row
+-- after the first of several words in a row
 pub rest_of_row : (s b a : ℕ) {n : ℕ} (more skip gap p : ℕ) → 1 < n → IsFull record {
   segment = s;
   at = b;
@@ -21,14 +21,14 @@ pub rest_of_row : (s b a : ℕ) {n : ℕ} (more skip gap p : ℕ) → 1 < n → 
     (Some record { segment = s; at = b + 1; slot = a + 1; left = n - 1; more = more; skip = skip; gap = gap; pointers = p })
 rest_of_row s b a more skip gap p h full = search rules
 
--- behind the last of them, the next element's
+-- after the last of them, the next element's
 pub rest_of_elements : (s b a : ℕ) {n more : ℕ} (skip gap p : ℕ) → n ≡ 1 → 0 < more
     → IsFull record { segment = s; at = b; slot = a; left = n; more = more; skip = skip; gap = gap; pointers = p }
     → IsRest record { segment = s; at = b; slot = a; left = n; more = more; skip = skip; gap = gap; pointers = p }
     (Some record { segment = s; at = b + 1 + skip; slot = a + 1 + gap; left = p; more = more - 1; skip = skip; gap = gap; pointers = p })
 rest_of_elements s b a skip gap p e h full = search rules
 
--- behind the last of all
+-- after the last of all
 pub rest_of_last : (s b a : ℕ) {n more : ℕ} (skip gap p : ℕ) → n ≡ 1 → more ≡ 0
     → IsRest record { segment = s; at = b; slot = a; left = n; more = more; skip = skip; gap = gap; pointers = p } None
 rest_of_last s b a skip gap p e f = record { words = rw (e, f) refl; full = tt }

@@ -1,4 +1,4 @@
--- What trimming leaves, told of the tree before it.
+-- What trimming leaves, reported of the tree before it.
 use Rattle.std.proofs.Common.{ap, ap₂, if◌then◌else◌, max, refl, suc, ◌==◌, ◌≡◌, rules}
 use Rattle.cap_spec.specs.Canonical.{children_needed, children_of, data_needed, data_of, is_null, trim, trim_all}
 use Rattle.cap_spec.specs.Canonical.{trim_elements}

@@ -2,7 +2,7 @@
 use Rattle.cap_spec.proofs.Canonical.Sizes.{trimmed_size_charged}
 use Rattle.cap_spec.proofs.Canonical.TreeMeasures.{measured}
 use Rattle.cap_spec.proofs.Canonical.TrimmedMeasures.{trimmed}
-use Rattle.cap_spec.proofs.Lemmas.{stand_inside, length-content, Fits, HasWord-inside, lead_word, Formed, formed}
+use Rattle.cap_spec.proofs.Lemmas.{lie_inside, length-content, Fits, HasWord-inside, lead_word, Formed, formed}
 use Rattle.cap_spec.proofs.Lemmas.{one_tree}
 use Rattle.cap_spec.proofs.ProofNames.{List, Option, [], arith, length, option_to_list, refl, subst, sym, ℕ, ◌++◌, ◌+◌}
 use Rattle.cap_spec.proofs.ProofNames.{◌-◌, ◌<◌, ◌∷◌, ◌≡◌, ◌≤◌, content, layout, trim, Denotes, IsMessage, segment_of}
@@ -83,7 +83,7 @@ this_turn : (m : List (List ℕ)) (state : List (List ℕ) → Tree → ℕ → 
 this_turn m state depth runs p end object k met =
     let fits = owed_fits m depth (length runs) p.segment p.word k.tree k.next.owed in
     let parts = (object_laid (layout (trim k.root)) end p.slot k.tree k.due fits).0 k.laid in
-    let i : end + length (content k.tree) ≤ length (layout (trim k.root)) = stand_inside (layout (trim k.root)) end (content k.tree) k.laid.3 in record {
+    let i : end + length (content k.tree) ≤ length (layout (trim k.root)) = lie_inside (layout (trim k.root)) end (content k.tree) k.laid.3 in record {
       depth = depth;
       runs = runs;
       meets = met;

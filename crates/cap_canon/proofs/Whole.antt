@@ -1,5 +1,5 @@
--- A whole layout is laid behind its root word.
-use Rattle.cap_spec.proofs.Canonical.Placing.{stand_taken, stand_whole}
+-- A whole layout is laid after its root word.
+use Rattle.cap_spec.proofs.Canonical.Placing.{lie_taken, lie_whole}
 use Rattle.cap_spec.proofs.Lemmas.{rest_at, length-content, Fits}
 use Rattle.cap_spec.proofs.ProofNames.{List, Some, [], ap, arith, drop, length, length-drop, refl, slice_get, subst, sym}
 use Rattle.cap_spec.proofs.ProofNames.{take, take_all, ℕ, ◌↔◌, ◌∙◌, ◌∷◌, ◌≡◌, content, layout, pointer_to, size, Tree}
@@ -13,13 +13,13 @@ layout_laid words u f = (to, from)
     own = length-content u f
 
     to : words ≡ layout u → Laid words 1 (record { slot = 0; tree = u } ∷ [])
-    to e = subst (λ ws. Laid ws 1 (record { slot = 0; tree = u } ∷ [])) (sym e) (0, omega arith, refl, (stand_whole (layout u)).1, omega (arith, own))
+    to e = subst (λ ws. Laid ws 1 (record { slot = 0; tree = u } ∷ [])) (sym e) (0, omega arith, refl, (lie_whole (layout u)).1, omega (arith, own))
 
     from : Laid words 1 (record { slot = 0; tree = u } ∷ []) → words ≡ layout u
     from (offset, e, p, s, l) =
         let o : offset ≡ 0 = omega (arith, e) in
         let root : slice_get words 0 ≡ Some (pointer_to 0 u) = subst (λ n. slice_get words 0 ≡ Some (pointer_to n u)) o p in
-        let behind : take (length (content u)) (drop 1 words) ≡ content u = stand_taken words 1 (content u) s in
+        let after : take (length (content u)) (drop 1 words) ≡ content u = lie_taken words 1 (content u) s in
         let all : take (length (content u)) (drop 1 words) ≡ drop 1 words =
         take_all (length (content u)) (drop 1 words) (omega (arith, length-drop 1 words, l, own)) in
-        rest_at words 0 (pointer_to 0 u) root ∙ ap (λ xs. pointer_to 0 u ∷ xs) (sym all ∙ behind)
+        rest_at words 0 (pointer_to 0 u) root ∙ ap (λ xs. pointer_to 0 u ∷ xs) (sym all ∙ after)

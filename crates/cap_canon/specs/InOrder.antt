@@ -47,14 +47,14 @@ abbrev pub HasOwn : List (List ℕ) → ℕ → ℕ → ℕ → ℕ → ℕ → 
 HasOwn m w end now q tag t b = (x : Tree) (c d : ℕ) → Denotes m 0 w x c d → IsOwn m w end now q tag t b (trim x)
 
 -- A copy may have the words of the object of the pointer word w from end on.
-pub record MayStand (m : List (List ℕ)) (w end : ℕ) : Type 0 where
+pub record MayStartAt (m : List (List ℕ)) (w end : ℕ) : Type 0 where
   pub after : w < end
   pub inside : end ≤ length (segment_of m 0)
   pub few : length (segment_of m 0) ≤ longest_copy
 
 -- The pointer word w of segment 0 is this word, which leads to the end of a copy. Following it costs this much.
 pub record LeadsToEnd (m : List (List ℕ)) (w word end cost : ℕ) : Type 0 where
-  pub placed : MayStand m w end
+  pub placed : MayStartAt m w end
   pub has : HasWord m 0 w word
   pub next : w + 1 + middle word ≡ end
   pub costs : Costs m 0 w cost

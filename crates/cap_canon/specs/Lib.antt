@@ -1,6 +1,6 @@
 pub mod Checked
 pub mod CopyOvers
-pub mod CopyRooms
+pub mod CopyBuffers
 pub mod CopyRuns
 pub mod CopyTurns
 pub mod Filling

@@ -1,12 +1,12 @@
 //! The canonical copy of a message, in the caller's buffer.
 
-ghost use Rattle.cap_canon.specs.CopyRooms.{TellsRoom};
-ghost use Rattle.cap_canon.specs.declared.fault.RoomFault.{RoomFault};
+ghost use Rattle.cap_canon.specs.CopyBuffers.{ReportsBuffer};
+ghost use Rattle.cap_canon.specs.declared.fault.BufferFault.{BufferFault};
 ghost use Rattle.cap_spec.specs.Copies.{HasCopy};
 ghost use Rattle.cap_vet.specs.Vettings.{message_of};
 ghost use Rattle.std.specs.Prelude.{◌*◌, ◌≡◌, ◌≤◌, Err, IfErr, IfOk, List, Result, length, ℕ};
 
-use crate::fault::RoomFault;
+use crate::fault::BufferFault;
 use crate::length::canonical_len;
 use crate::over::fits_any;
 use crate::word_bytes::fill_front;
@@ -24,18 +24,18 @@ use cap_vet::Vetted;
 ///
 /// After an error `out` is as it was.
 ///
-/// - [`RoomFault::HasCapability`]: a capability is reached, so there is no copy. The error names
+/// - [`BufferFault::HasCapability`]: a capability is reached, so there is no copy. The error names
 ///   the first in preorder.
-/// - [`RoomFault::NoRoom`]: there is a copy, and `out` is shorter. The error says how many bytes
+/// - [`BufferFault::BufferTooSmall`]: there is a copy, and `out` is shorter. The error says how many bytes
 ///   the copy has.
-pub fn canonical_into<M: Segments>(v: &Vetted<'_, M>, out: &mut [u8]) -> Result<usize, RoomFault>
-    ensures tells { TellsRoom (M.segments (message_of v.now)) out.old result out.new }
+pub fn canonical_into<M: Segments>(v: &Vetted<'_, M>, out: &mut [u8]) -> Result<usize, BufferFault>
+    ensures reports { ReportsBuffer (M.segments (message_of v.now)) out.old result out.new }
     // The message and the buffer allow no other result.
     ensures only { let m = M.segments (message_of v.now) in
-        (other : Result ℕ RoomFault) (new : List ℕ) → TellsRoom m out.old other new
+        (other : Result ℕ BufferFault) (new : List ℕ) → ReportsBuffer m out.old other new
         → (result ≡ other) × (out.new ≡ new) }
 {
-    if let Err(fault) = check_room(v, out.len()) {
+    if let Err(fault) = check_buffer(v, out.len()) {
         return Err(fault);
     }
     let words = fill_front(v.message(), v.report().depth, out);
@@ -43,11 +43,11 @@ pub fn canonical_into<M: Segments>(v: &Vetted<'_, M>, out: &mut [u8]) -> Result<
 }
 
 // Makes sure that a message has a copy, which fits into `len` bytes.
-fn check_room<M: Segments>(v: &Vetted<'_, M>, len: usize) -> Result<(), RoomFault>
+fn check_buffer<M: Segments>(v: &Vetted<'_, M>, len: usize) -> Result<(), BufferFault>
     ensures ok { IfOk result (λ _. (words : List ℕ) × HasCopy (M.segments (message_of v.now)) words
         × (8 * length words ≤ len)) }
     ensures err { let m = M.segments (message_of v.now) in IfErr result (λ fault.
-        (old : List ℕ) → length old ≡ len → TellsRoom m old (Err fault) old) }
+        (old : List ℕ) → length old ≡ len → ReportsBuffer m old (Err fault) old) }
 {
     if fits_any(&v.report(), len) {
         return Ok(());
@@ -55,13 +55,13 @@ fn check_room<M: Segments>(v: &Vetted<'_, M>, len: usize) -> Result<(), RoomFaul
     let words = match canonical_len(v) {
         Ok(words) => words,
         Err(CanonFault::HasCapability { segment, word }) => {
-            return Err(RoomFault::HasCapability { segment, word });
+            return Err(BufferFault::HasCapability { segment, word });
         }
         Err(CanonFault::Memory) => unreachable!(),
     };
     let needed = 8 * words as usize;
     if len < needed {
-        return Err(RoomFault::NoRoom { needed });
+        return Err(BufferFault::BufferTooSmall { needed });
     }
     Ok(())
 }

@@ -29,6 +29,6 @@ pub use bytes::canonical_bytes;
 pub use cap_spec::CanonFault;
 pub use checked_vetting::{check_with, is_canonical};
 pub use copying::canonical;
-pub use fault::RoomFault;
+pub use fault::BufferFault;
 pub use length::canonical_len;
 pub use over::canonical_over;

@@ -1,6 +1,6 @@
 //! The canonical copy of a message, over the buffer of an earlier one.
 
-ghost use Rattle.cap_canon.specs.CopyOvers.{MakesEnough, TellsOver};
+ghost use Rattle.cap_canon.specs.CopyOvers.{MakesEnough, ReportsOver};
 ghost use Rattle.cap_spec.specs.Copies.{HasCopy};
 ghost use Rattle.cap_spec.specs.GreatestLimits.{most_words};
 ghost use Rattle.cap_spec.specs.Plain.{plain_words};
@@ -34,8 +34,8 @@ pub fn canonical_over<M: Segments>(
     v: &Vetted<'_, M>,
     buffer: &mut Vec<u8>,
 ) -> Result<usize, CanonFault>
-    ensures tells { let m = M.segments (message_of v.now) in
-        TellsOver m buffer.old.items result buffer.new.items }
+    ensures reports { let m = M.segments (message_of v.now) in
+        ReportsOver m buffer.old.items result buffer.new.items }
     // What was written is the copy, within the buffer.
     ensures ok { let m = M.segments (message_of v.now) in IfOk result (λ count.
         HasCopy m (plain_words (take count buffer.new.items))) }
@@ -70,8 +70,8 @@ fn fill_empty<M: Segments>(
 ) -> Result<usize, CanonFault>
     requires empty { buffer.old.items ≡ [] }
     requires no_cap { (report_of v.now).first_cap ≡ None }
-    ensures tells { let m = M.segments (message_of v.now) in
-        TellsOver m buffer.old.items result buffer.new.items }
+    ensures reports { let m = M.segments (message_of v.now) in
+        ReportsOver m buffer.old.items result buffer.new.items }
     ensures ok { let m = M.segments (message_of v.now) in IfOk result (λ count.
         HasCopy m (plain_words (take count buffer.new.items))) }
     ensures within { IfOk result (λ count. count ≤ length buffer.new.items) }
@@ -93,8 +93,8 @@ pub(crate) fn fill_over<M: Segments>(
     v: &Vetted<'_, M>,
     buffer: &mut Vec<u8>,
 ) -> Result<usize, CanonFault>
-    ensures tells { let m = M.segments (message_of v.now) in
-        TellsOver m buffer.old.items result buffer.new.items }
+    ensures reports { let m = M.segments (message_of v.now) in
+        ReportsOver m buffer.old.items result buffer.new.items }
     ensures ok { let m = M.segments (message_of v.now) in IfOk result (λ count.
         HasCopy m (plain_words (take count buffer.new.items))) }
     ensures within { IfOk result (λ count. count ≤ length buffer.new.items) }

@@ -2,7 +2,7 @@
 use Rattle.cap_spec.specs.declared.CanonFault.TheVariants.{HasCapability, Memory as canon_memory}
 use Rattle.cap_spec.proofs.ProofNames.{Bool, Err, List, None, Ok, Option, Result, Some, arith, false, length, subst, sym}
 use Rattle.cap_spec.proofs.ProofNames.{true, ℕ, ◌∙◌, ◌≡◌, ◌≤◌, Appends, Keeps, append_known, pack_text, plain_text}
-use Rattle.cap_words.specs.declared.sources.SourceFault.TheVariants.{Device as source_device, Spent as source_spent}
+use Rattle.cap_words.specs.declared.sources.SourceFault.TheVariants.{Device as source_device, Spent as source_broken}
 use Rattle.cap_words.specs.declared.sources.SourceFault.TheVariants.{Truncated as source_truncated}
 use Rattle.cap_frame.specs.Limit.{limit_of}
 use Rattle.cap_frame.specs.declared.fault.FrameFault.{FrameFault}
@@ -17,18 +17,18 @@ use Rattle.cap_text.specs.declared.fault.CopyFault.{CopyFault}
 use Rattle.cap_text.specs.declared.fault.CopyFault.TheVariants.{Source, TooManyWords, Output as copy_output}
 use Rattle.cap_text.specs.declared.fault.RunFault.{RunFault}
 use Rattle.cap_run.specs.Breaking.{run_answer}
-use Rattle.cap_run.specs.Placed.{PlacedTells, TellsFrom, TellsPlaced}
+use Rattle.cap_run.specs.Placed.{PlacedReports, ReportsFrom, ReportsPlaced}
 use Rattle.cap_run.specs.Filtering.{FiltersStream}
-use Rattle.cap_run.specs.RunNames.{copies_of, TellsCheckUnder, TellsDumpUnder, TellsExclusiveUnder, TellsGetUnder}
-use Rattle.cap_run.specs.RunNames.{TellsVerdictUnder, WantsMarksUnder, TellsStream, most_packed_at_once, most_transcoded}
-use Rattle.cap_run.specs.RunNames.{most_unpacked_at_once, TellsExplainedExclusiveUnder, TellsExplainedUnder, PassesOn}
-use Rattle.cap_run.specs.RunNames.{TellsIn, WantsInForm, Appended, ReadsToEnd, Tells, TellsEach, TellsSegments, Told}
-use Rattle.cap_run.specs.RunNames.{WantsNone, messages_of, outcome_of, texts_of, Transcoded, TranscodesAll}
+use Rattle.cap_run.specs.RunNames.{copies_of, ReportsCheckUnder, ReportsDumpUnder, ReportsExclusiveUnder, ReportsGetUnder}
+use Rattle.cap_run.specs.RunNames.{ReportsVerdictUnder, AllocatesMarksUnder, ReportsStream, most_packed_at_once, most_transcoded}
+use Rattle.cap_run.specs.RunNames.{most_unpacked_at_once, ReportsExplainedExclusiveUnder, ReportsExplainedUnder, PassesOn}
+use Rattle.cap_run.specs.RunNames.{ReportsIn, AllocatesInForm, Appended, ReadsToEnd, Reports, ReportsEach, ReportsSegments, Reported}
+use Rattle.cap_run.specs.RunNames.{AllocatesNone, messages_of, outcome_of, texts_of, Transcoded, TranscodesAll}
 use Rattle.cap_run.specs.declared.settings.FilterForm.{FilterForm}
 use Rattle.cap_run.specs.declared.settings.Outcome.{Outcome}
 use Rattle.cap_run.specs.declared.settings.Settings.{Settings}
 use Rattle.cap_run.proofs.FilterEnds.{reads_whole}
-use Rattle.cap_cmd.specs.Jobs.{CanonsInput, CanonsTo, DoesJob, DoesTask, PlacesInput, TellsInput, TranscodesInput, TranscodesTo}
+use Rattle.cap_cmd.specs.Jobs.{CanonsInput, CanonsTo, DoesJob, DoesTask, PlacesInput, ReportsInput, TranscodesInput, TranscodesTo}
 use Rattle.cap_cmd.specs.Jobs.{WritesAll, WritesInput, input_is_cut, input_words}
 use Rattle.cap_cmd.specs.Statuses.{cause_status, frame_status, outcome_status, run_status, transcode_status}
 use Rattle.cap_cmd.specs.declared.command_line.Job.{Job}
@@ -55,7 +55,7 @@ module _ {S K : Type 0} (gs : source.Ghosts S) (gk : sink.Ghosts K) (at_once mos
   copied_all (Err TooManyWords) e c = absurd (cc)
   copied_all (Err (Source (source_truncated byte))) e c = absurd (cc)
   copied_all (Err (Source source_device)) e c = absurd (cc)
-  copied_all (Err (Source source_spent)) e c = absurd (cc)
+  copied_all (Err (Source source_broken)) e c = absurd (cc)
   copied_all (Err (copy_output fault)) e c = absurd (cc)
 
 -- no fault has that status
@@ -87,50 +87,50 @@ none_noncanonical o e = grind (arith, e)
 
 module _ {S O : Type 0} (gs : source.Ghosts S) (go : output.Ghosts O) (s : Settings) (old new : S) where
   -- no message of these was refused, and each is canonical where that was asked
-  all_told : (each : List Told → Type 0) (before after : O) (o : Outcome) (ts : List Told) → outcome_status o ≡ 0 → o ≡ outcome_of ts
+  all_reported : (each : List Reported → Type 0) (before after : O) (o : Outcome) (ts : List Reported) → outcome_status o ≡ 0 → o ≡ outcome_of ts
       → ReadsToEnd gs (limit_of s.size) old new (messages_of ts) → each ts
       → Appended go before after (texts_of ts) → length ts ≤ s.messages
       → WritesInput each s (gs.words old) (gs.is_cut old) (go.written before) (go.written after)
-  all_told each before after o ts e same reads told took many = record {
+  all_reported each before after o ts e same reads reported took many = record {
     own = reads.own;
     all = reads.all;
     ts = ts;
     stream = reads.stream;
     within = reads.within;
     many = many;
-    told = told;
+    reported = reported;
     accepted = none_refused (outcome_of ts) (subst (λ (x : Outcome). outcome_status x ≡ 0) same e);
     canonical = none_noncanonical (outcome_of ts) (subst (λ (x : Outcome). outcome_status x ≡ 0) same e);
     appended = took.appended;
   }
 
   -- all messages were accepted
-  told_all : (tells : Tells) (wants : List (List ℕ) → Type 0) (before after : O) (r : Result Outcome RunFault)
-      → run_status r ≡ 0 → TellsStream gs go tells wants (limit_of s.size) s.messages old new before after r
-      → TellsInput tells s (gs.words old) (gs.is_cut old) (go.written before) (go.written after)
-  told_all tells wants before after (Ok o) e t =
-      let k = t.ok in all_told (TellsEach tells 0) before after o k.0 e k.5 k.1 k.2 k.3 k.4
-  told_all tells wants before after (Err fault) e t = absurd (cause_fails fault.cause e)
+  reported_all : (reports : Reports) (allocates : List (List ℕ) → Type 0) (before after : O) (r : Result Outcome RunFault)
+      → run_status r ≡ 0 → ReportsStream gs go reports allocates (limit_of s.size) s.messages old new before after r
+      → ReportsInput reports s (gs.words old) (gs.is_cut old) (go.written before) (go.written after)
+  reported_all reports allocates before after (Ok o) e t =
+      let k = t.ok in all_reported (ReportsEach reports 0) before after o k.0 e k.5 k.1 k.2 k.3 k.4
+  reported_all reports allocates before after (Err fault) e t = absurd (cause_fails fault.cause e)
 
   -- the same by where each begins
-  placed_all : (tells : PlacedTells) (wants : List (List ℕ) → Type 0) (before after : O) (r : Result Outcome RunFault)
-      → run_status r ≡ 0 → TellsPlaced gs go tells wants (limit_of s.size) s.messages old new before after r
-      → PlacesInput tells s (gs.words old) (gs.is_cut old) (go.written before) (go.written after)
-  placed_all tells wants before after (Ok o) e t =
-      let k = t.ok in all_told (TellsFrom tells 0 0) before after o k.0 e k.5 k.1 k.2 k.3 k.4
-  placed_all tells wants before after (Err fault) e t = absurd (cause_fails fault.cause e)
+  placed_all : (reports : PlacedReports) (allocates : List (List ℕ) → Type 0) (before after : O) (r : Result Outcome RunFault)
+      → run_status r ≡ 0 → ReportsPlaced gs go reports allocates (limit_of s.size) s.messages old new before after r
+      → PlacesInput reports s (gs.words old) (gs.is_cut old) (go.written before) (go.written after)
+  placed_all reports allocates before after (Ok o) e t =
+      let k = t.ok in all_reported (ReportsFrom reports 0 0) before after o k.0 e k.5 k.1 k.2 k.3 k.4
+  placed_all reports allocates before after (Err fault) e t = absurd (cause_fails fault.cause e)
 
   -- all messages went on
-  passed_all : {E : Type 0} (ge : output.Ghosts E) (form : FilterForm) (verdict : Tells)
-      (wants : List (List ℕ) → Type 0) (before after : O) (first last : E)
+  passed_all : {E : Type 0} (ge : output.Ghosts E) (form : FilterForm) (verdict : Reports)
+      (allocates : List (List ℕ) → Type 0) (before after : O) (first last : E)
       (r : Result Outcome RunFault) → run_status r ≡ 0
-      → FiltersStream gs go ge form verdict wants (limit_of s.size) s.messages old new before after first last r
-      → TellsInput (PassesOn form.pack verdict) s (gs.words old) (gs.is_cut old) (go.written before) (go.written after)
-  passed_all ge form verdict wants before after first last (Ok o) e t =
+      → FiltersStream gs go ge form verdict allocates (limit_of s.size) s.messages old new before after first last r
+      → ReportsInput (PassesOn form.pack verdict) s (gs.words old) (gs.is_cut old) (go.written before) (go.written after)
+  passed_all ge form verdict allocates before after first last (Ok o) e t =
       let k = t.ok in
       let none = none_refused (outcome_of k.0) (subst (λ (x : Outcome). outcome_status x ≡ 0) k.5 e) in
-      all_told (TellsEach (PassesOn form.pack verdict) 0) before after o k.0 e k.5 (reads_whole gs (limit_of s.size) old new form.stop k.0 none k.1) k.2 k.3 k.4
-  passed_all ge form verdict wants before after first last (Err fault) e t = absurd (cause_fails fault.cause e)
+      all_reported (ReportsEach (PassesOn form.pack verdict) 0) before after o k.0 e k.5 (reads_whole gs (limit_of s.size) old new form.stop k.0 none k.1) k.2 k.3 k.4
+  passed_all ge form verdict allocates before after first last (Err fault) e t = absurd (cause_fails fault.cause e)
 
 module _ {S O K : Type 0} (gs : source.Ghosts S) (go : output.Ghosts O) (s : Settings) (old new : S)
     (gk : sink.Ghosts K) where
@@ -179,46 +179,46 @@ module _ {S O E P U : Type 0} (gs : source.Ghosts S) (go : output.Ghosts O) (ge 
       → DoesTask gs go ge gp gu task s demands first before after old new status
       → WritesAll task s demands (gs.words first) (gs.is_cut first) (go.written before) (go.written after)
   writes_all Segments s demands first before after old new status e d =
-      told_all gs go s first d.last TellsSegments WantsNone before after d.answer (sym d.reported.status_is ∙ e) d.does.told
+      reported_all gs go s first d.last ReportsSegments AllocatesNone before after d.answer (sym d.exited.status_is ∙ e) d.does.reported
   writes_all (Vet false) s demands first before after old new status e d =
-      told_all gs go s first d.last (TellsVerdictUnder demands (words_of s.limits) (depth_of s.limits)) WantsNone
+      reported_all gs go s first d.last (ReportsVerdictUnder demands (words_of s.limits) (depth_of s.limits)) AllocatesNone
       before after
-      d.answer (sym d.reported.status_is ∙ e) d.does
+      d.answer (sym d.exited.status_is ∙ e) d.does
   writes_all (Vet true) s demands first before after old new status e d =
-      told_all gs go s first d.last (TellsExclusiveUnder demands (words_of s.limits) (depth_of s.limits))
-      (WantsMarksUnder demands (words_of s.limits) (depth_of s.limits)) before after d.answer
-      (sym d.reported.status_is ∙ e) d.does
+      reported_all gs go s first d.last (ReportsExclusiveUnder demands (words_of s.limits) (depth_of s.limits))
+      (AllocatesMarksUnder demands (words_of s.limits) (depth_of s.limits)) before after d.answer
+      (sym d.exited.status_is ∙ e) d.does
   writes_all (Explain false) s demands first before after old new status e d =
-      placed_all gs go s first d.last (TellsExplainedUnder s.packed demands (words_of s.limits) (depth_of s.limits)) WantsNone
+      placed_all gs go s first d.last (ReportsExplainedUnder s.packed demands (words_of s.limits) (depth_of s.limits)) AllocatesNone
       before after
-      (run_answer d.answer) (sym d.reported.status_is ∙ e) d.does.told
+      (run_answer d.answer) (sym d.exited.status_is ∙ e) d.does.reported
   writes_all (Explain true) s demands first before after old new status e d =
-      placed_all gs go s first d.last (TellsExplainedExclusiveUnder s.packed demands (words_of s.limits) (depth_of s.limits))
-      (WantsMarksUnder demands (words_of s.limits) (depth_of s.limits)) before after (run_answer d.answer)
-      (sym d.reported.status_is ∙ e) d.does.told
+      placed_all gs go s first d.last (ReportsExplainedExclusiveUnder s.packed demands (words_of s.limits) (depth_of s.limits))
+      (AllocatesMarksUnder demands (words_of s.limits) (depth_of s.limits)) before after (run_answer d.answer)
+      (sym d.exited.status_is ∙ e) d.does.reported
   writes_all (Filter form) s demands first before after old new status e d =
-      passed_all gs go s first d.1.last ge form (TellsIn form demands s.limits) (WantsInForm form demands s.limits)
-      before after old d.0 d.1.answer (sym d.1.reported.status_is ∙ e) d.1.does
+      passed_all gs go s first d.1.last ge form (ReportsIn form demands s.limits) (AllocatesInForm form demands s.limits)
+      before after old d.0 d.1.answer (sym d.1.exited.status_is ∙ e) d.1.does
   writes_all Dump s demands first before after old new status e d =
-      told_all gs go s first d.last (TellsDumpUnder demands (words_of s.limits) (depth_of s.limits)) WantsNone before
+      reported_all gs go s first d.last (ReportsDumpUnder demands (words_of s.limits) (depth_of s.limits)) AllocatesNone before
       after
-      d.answer (sym d.reported.status_is ∙ e) d.does
+      d.answer (sym d.exited.status_is ∙ e) d.does
   writes_all (Get path) s demands first before after old new status e d =
-      told_all gs go s first d.last (TellsGetUnder demands (words_of s.limits) (depth_of s.limits) path.items)
-      WantsNone before after
-      d.answer (sym d.reported.status_is ∙ e) d.does
+      reported_all gs go s first d.last (ReportsGetUnder demands (words_of s.limits) (depth_of s.limits) path.items)
+      AllocatesNone before after
+      d.answer (sym d.exited.status_is ∙ e) d.does
   writes_all Check s demands first before after old new status e d =
-      told_all gs go s first d.last (TellsCheckUnder demands (words_of s.limits) (depth_of s.limits)) WantsNone before
+      reported_all gs go s first d.last (ReportsCheckUnder demands (words_of s.limits) (depth_of s.limits)) AllocatesNone before
       after
-      d.answer (sym d.reported.status_is ∙ e) d.does
+      d.answer (sym d.exited.status_is ∙ e) d.does
   writes_all canon_task s demands first before after old new status e d =
-      all_made gs go s first d.last gu demands before after d.answer (sym d.reported.status_is ∙ e) d.does
+      all_made gs go s first d.last gu demands before after d.answer (sym d.exited.status_is ∙ e) d.does
   writes_all Pack s demands first before after old new status e d =
       all_copied gs go s first d.last gp pack_text most_packed_at_once before after d.answer
-      (sym d.reported.status_is ∙ e) d.does
+      (sym d.exited.status_is ∙ e) d.does
   writes_all Unpack s demands first before after old new status e d =
       all_copied gs go s first d.last gu plain_text most_unpacked_at_once before after d.answer
-      (sym d.reported.status_is ∙ e) d.does
+      (sym d.exited.status_is ∙ e) d.does
 
 module _ {S O E P U : Type 0} {gs : source.Ghosts S} {go : output.Ghosts O} {ge : output.Ghosts E}
     {gp : sink.Ghosts P} {gu : sink.Ghosts U} where

@@ -21,14 +21,14 @@ use Rattle.cap_text.specs.declared.fault.CopyFault.{CopyFault}
 use Rattle.cap_text.specs.declared.fault.ExplainedFault.{ExplainedFault}
 use Rattle.cap_text.specs.declared.fault.RunFault.{RunFault}
 use Rattle.cap_run.specs.Breaking.{ExplainsStream, run_answer}
-use Rattle.cap_run.specs.Placed.{PlacedTells, TellsFrom}
+use Rattle.cap_run.specs.Placed.{PlacedReports, ReportsFrom}
 use Rattle.cap_run.specs.Engines.{ShowsStream}
 use Rattle.cap_run.specs.Filtering.{FiltersUnder}
-use Rattle.cap_run.specs.RunNames.{AreCanonised, Canonised, MakesCopiesUnder, canonised, copies_of, TellsCheckUnder}
-use Rattle.cap_run.specs.RunNames.{TellsDumpUnder, TellsExclusiveUnder, TellsGetUnder, TellsVerdictUnder}
-use Rattle.cap_run.specs.RunNames.{WantsMarksUnder, TellsStream, TranscodesWords, most_packed_at_once, most_transcoded}
-use Rattle.cap_run.specs.RunNames.{most_unpacked_at_once, TellsExplainedExclusiveUnder, TellsExplainedUnder, PassesOn}
-use Rattle.cap_run.specs.RunNames.{TellsIn, Tells, TellsEach, TellsSegments, Told, WantsNone, messages_of}
+use Rattle.cap_run.specs.RunNames.{AreCanonised, Canonised, MakesCopiesUnder, canonised, copies_of, ReportsCheckUnder}
+use Rattle.cap_run.specs.RunNames.{ReportsDumpUnder, ReportsExclusiveUnder, ReportsGetUnder, ReportsVerdictUnder}
+use Rattle.cap_run.specs.RunNames.{AllocatesMarksUnder, ReportsStream, TranscodesWords, most_packed_at_once, most_transcoded}
+use Rattle.cap_run.specs.RunNames.{most_unpacked_at_once, ReportsExplainedExclusiveUnder, ReportsExplainedUnder, PassesOn}
+use Rattle.cap_run.specs.RunNames.{ReportsIn, Reports, ReportsEach, ReportsSegments, Reported, AllocatesNone, messages_of}
 use Rattle.cap_run.specs.RunNames.{noncanonical_in, refused_in, texts_of}
 use Rattle.cap_run.specs.declared.settings.FilterForm.{FilterForm}
 use Rattle.cap_run.specs.declared.settings.Outcome.{Outcome}
@@ -45,16 +45,16 @@ use Rattle.cap_words.specs.declared.sources.WordSource as source
 
 -- the input of unpacking is packed, that of packing is not, and for messages the user decides
 abbrev pub is_packed : Task → Bool → Bool
-is_packed Segments told = told
-is_packed (Vet exclusive) told = told
-is_packed (Explain exclusive) told = told
-is_packed (Filter form) told = told
-is_packed Dump told = told
-is_packed (Get path) told = told
-is_packed Check told = told
-is_packed Canon told = told
-is_packed Pack told = false
-is_packed Unpack told = true
+is_packed Segments asked = asked
+is_packed (Vet exclusive) asked = asked
+is_packed (Explain exclusive) asked = asked
+is_packed (Filter form) asked = asked
+is_packed Dump asked = asked
+is_packed (Get path) asked = asked
+is_packed Check asked = asked
+is_packed Canon asked = asked
+is_packed Pack asked = false
+is_packed Unpack asked = true
 
 abbrev pub reads_packed : Job → Bool
 reads_packed job = is_packed job.task job.settings.packed
@@ -82,7 +82,7 @@ module _ {I S : Type 0} (gi : input.Ghosts I) (gs : source.Ghosts S) where
     pub is_cut : gs.is_cut first ≡ input_is_cut packed (gi.to_come start)
     pub places : OnSome (gi.to_come start) (gs.places first ≡ input_ends packed (gi.to_come start))
     pub place : gs.place first ≡ 0
-    pub spent : gs.spent first ≡ gi.spent start
+    pub broken : gs.broken first ≡ gi.broken start
     pub failures : gs.failures first ≡ gi.failures start
     pub reads_from : S → I
     pub shows_failures : (s : S) → gs.failures s ≡ gi.failures (reads_from s)
@@ -93,13 +93,13 @@ module _ {O K : Type 0} (go : output.Ghosts O) (gk : sink.Ghosts K) where
     pub empty : (ws : List ℕ) → gk.text first ws ≡ append_known (go.written start) (text ws)
     pub taken : gk.taken first ≡ go.written start
     pub closed : gk.closed first ≡ false
-    pub spent : gk.spent first ≡ go.spent start
+    pub broken : gk.broken first ≡ go.broken start
     pub failures : gk.failures first ≡ go.failures start
 
   -- This is the output that the sink writes to.
   pub record GivesOutput (last : K) (end : O) : Type 0 where
     pub taken : gk.taken last ≡ go.written end
-    pub spent : gk.spent last ≡ gk.closed last || go.spent end
+    pub broken : gk.broken last ≡ gk.closed last || go.broken end
     pub failures : gk.failures last ≡ go.failures end
 
   -- A sink begins over an output, an engine takes it from `begun` to `ended`, and gives the output
@@ -133,68 +133,68 @@ module _ {E : Type 0} (ge : output.Ghosts E) where
       × Writes ge old new r (line fault)
 
   -- The status and the line of a fault are those of this answer.
-  pub record Reports {A F : Type 0} (status_of : Result A F → ℕ) (line : F → List ℕ)
+  pub record Exits {A F : Type 0} (status_of : Result A F → ℕ) (line : F → List ℕ)
       (answer : Result A F) (old new : E) (status : ℕ) : Type 0 where
     pub status_is : status ≡ status_of answer
     pub line_is : WritesLine line answer old new
 
   -- the answer of an engine over messages
-  abbrev pub ReportsRun : Result Outcome RunFault → E → E → ℕ → Type 0
-  ReportsRun = Reports run_status run_fault_line
+  abbrev pub ExitsRun : Result Outcome RunFault → E → E → ℕ → Type 0
+  ExitsRun = Exits run_status run_fault_line
 
   -- the answer of an engine that explains: after the line of a fault come the lines that explain it
-  abbrev pub ReportsExplained : Result Outcome ExplainedFault → E → E → ℕ → Type 0
-  ReportsExplained = Reports (λ answer. run_status (run_answer answer)) explained_fault_text
+  abbrev pub ExitsExplained : Result Outcome ExplainedFault → E → E → ℕ → Type 0
+  ExitsExplained = Exits (λ answer. run_status (run_answer answer)) explained_fault_text
 
   -- the answer of an engine over words
-  abbrev pub ReportsCopy : Result ℕ CopyFault → E → E → ℕ → Type 0
-  ReportsCopy = Reports transcode_status copy_fault_line
+  abbrev pub ExitsCopy : Result ℕ CopyFault → E → E → ℕ → Type 0
+  ExitsCopy = Exits transcode_status copy_fault_line
 
 module _ {S E : Type 0} where
   -- An engine left its source at `last` and gave an answer, which is reported.
-  pub record Runs {A : Type 0} (engine : S → A → Type 0) (reports : A → E → E → ℕ → Type 0)
+  pub record Runs {A : Type 0} (engine : S → A → Type 0) (exits : A → E → E → ℕ → Type 0)
       (old new : E) (status : ℕ) : Type 0 where
     pub last : S
     pub answer : A
     pub does : engine last answer
-    pub reported : reports answer old new status
+    pub exited : exits answer old new status
 
 module _ {S O E : Type 0} (gs : source.Ghosts S) (go : output.Ghosts O) (ge : output.Ghosts E) where
   -- an engine that writes a text of each message
-  abbrev pub TellsTask : Tells → (List (List ℕ) → Type 0) → Settings → S → O → O → E → E → ℕ
+  abbrev pub ReportsTask : Reports → (List (List ℕ) → Type 0) → Settings → S → O → O → E → E → ℕ
       → Type 0
-  TellsTask tells wants s first before after = Runs
-      (λ last answer. TellsStream gs go tells wants (limit_of s.size) s.messages first last before
+  ReportsTask reports allocates s first before after = Runs
+      (λ last answer. ReportsStream gs go reports allocates (limit_of s.size) s.messages first last before
       after answer)
-      (ReportsRun ge)
+      (ExitsRun ge)
 
   -- an engine that explains
-  abbrev pub ExplainsTask : PlacedTells → (List (List ℕ) → Type 0) → Settings → S → O → O → E → E → ℕ
+  abbrev pub ExplainsTask : PlacedReports → (List (List ℕ) → Type 0) → Settings → S → O → O → E → E → ℕ
       → Type 0
-  ExplainsTask tells wants s first before after = Runs
-      (λ last answer. ExplainsStream gs go tells wants s.packed (limit_of s.size) s.messages first last
+  ExplainsTask reports allocates s first before after = Runs
+      (λ last answer. ExplainsStream gs go reports allocates s.packed (limit_of s.size) s.messages first last
       before after answer)
-      (ReportsExplained ge)
+      (ExitsExplained ge)
 
   -- The engine that lets accepted messages through writes the lines of the others before `mid`. Its
   -- answer is reported after them.
   abbrev pub FiltersTask : FilterForm → Settings → Demands → S → O → O → E → E → ℕ → Type 0
   FiltersTask form s demands first before after old new status = (mid : E) × Runs
       (λ last answer. FiltersUnder gs go ge s first last before after old mid form demands answer)
-      (ReportsRun ge) mid new status
+      (ExitsRun ge) mid new status
 
 module _ {S O E K : Type 0} (gs : source.Ghosts S) (go : output.Ghosts O) (ge : output.Ghosts E)
     (gk : sink.Ghosts K) where
   -- the engine that puts canonical copies to a sink over an output
   abbrev pub CanonsTask : Settings → Demands → S → O → O → E → E → ℕ → Type 0
   CanonsTask s demands first before after = Runs
-      (λ last answer. CanonsTo gs go gk s demands first last before after answer) (ReportsRun ge)
+      (λ last answer. CanonsTo gs go gk s demands first last before after answer) (ExitsRun ge)
 
   -- an engine that puts words to a sink over an output
   abbrev pub TranscodesTask : (List ℕ → List ℕ) → ℕ → S → O → O → E → E → ℕ → Type 0
   TranscodesTask text at_once first before after = Runs
       (λ last answer. TranscodesTo gs go gk text at_once first last before after answer)
-      (ReportsCopy ge)
+      (ExitsCopy ge)
 
 module _ {S O E P U : Type 0} (gs : source.Ghosts S) (go : output.Ghosts O) (ge : output.Ghosts E)
     (gp : sink.Ghosts P) (gu : sink.Ghosts U) where
@@ -203,31 +203,31 @@ module _ {S O E P U : Type 0} (gs : source.Ghosts S) (go : output.Ghosts O) (ge 
   abbrev pub DoesTask : Task → Settings → Demands → S → O → O → E → E → ℕ → Type 0
   DoesTask Segments s demands first before after = Runs
       (λ last answer. ShowsStream gs go (limit_of s.size) s.messages first last before after answer)
-      (ReportsRun ge)
+      (ExitsRun ge)
   DoesTask (Vet false) s demands first before after =
-      TellsTask gs go ge (TellsVerdictUnder demands (words_of s.limits) (depth_of s.limits))
-      WantsNone s first before after
+      ReportsTask gs go ge (ReportsVerdictUnder demands (words_of s.limits) (depth_of s.limits))
+      AllocatesNone s first before after
   DoesTask (Vet true) s demands first before after =
-      TellsTask gs go ge (TellsExclusiveUnder demands (words_of s.limits) (depth_of s.limits))
-      (WantsMarksUnder demands (words_of s.limits) (depth_of s.limits)) s first before after
+      ReportsTask gs go ge (ReportsExclusiveUnder demands (words_of s.limits) (depth_of s.limits))
+      (AllocatesMarksUnder demands (words_of s.limits) (depth_of s.limits)) s first before after
   DoesTask (Explain false) s demands first before after =
-      ExplainsTask gs go ge (TellsExplainedUnder s.packed demands (words_of s.limits) (depth_of s.limits))
-      WantsNone s first before after
+      ExplainsTask gs go ge (ReportsExplainedUnder s.packed demands (words_of s.limits) (depth_of s.limits))
+      AllocatesNone s first before after
   DoesTask (Explain true) s demands first before after =
       ExplainsTask gs go ge
-      (TellsExplainedExclusiveUnder s.packed demands (words_of s.limits) (depth_of s.limits))
-      (WantsMarksUnder demands (words_of s.limits) (depth_of s.limits)) s first before after
+      (ReportsExplainedExclusiveUnder s.packed demands (words_of s.limits) (depth_of s.limits))
+      (AllocatesMarksUnder demands (words_of s.limits) (depth_of s.limits)) s first before after
   DoesTask (Filter form) s demands first before after =
       FiltersTask gs go ge form s demands first before after
   DoesTask Dump s demands first before after =
-      TellsTask gs go ge (TellsDumpUnder demands (words_of s.limits) (depth_of s.limits))
-      WantsNone s first before after
+      ReportsTask gs go ge (ReportsDumpUnder demands (words_of s.limits) (depth_of s.limits))
+      AllocatesNone s first before after
   DoesTask (Get path) s demands first before after =
-      TellsTask gs go ge (TellsGetUnder demands (words_of s.limits) (depth_of s.limits) path.items)
-      WantsNone s first before after
+      ReportsTask gs go ge (ReportsGetUnder demands (words_of s.limits) (depth_of s.limits) path.items)
+      AllocatesNone s first before after
   DoesTask Check s demands first before after =
-      TellsTask gs go ge (TellsCheckUnder demands (words_of s.limits) (depth_of s.limits))
-      WantsNone s first before after
+      ReportsTask gs go ge (ReportsCheckUnder demands (words_of s.limits) (depth_of s.limits))
+      AllocatesNone s first before after
   DoesTask Canon s demands first before after =
       CanonsTask gs go ge gu s demands first before after
   DoesTask Pack s demands first before after =
@@ -247,28 +247,28 @@ module _ {I S O E P U : Type 0} (gi : input.Ghosts I) (gs : source.Ghosts S) (go
 
 -- All words are frames of messages, each within the limit, and none is cut short. Each message is
 -- accepted, and canonical if that was asked, and texts of them were written of which `each` holds.
-pub record WritesInput (each : List Told → Type 0) (s : Settings) (words : Option (List ℕ))
+pub record WritesInput (each : List Reported → Type 0) (s : Settings) (words : Option (List ℕ))
     (is_cut : Bool) (before after : Option (List ℕ)) : Type 0 where
   pub own : List ℕ
   pub all : OnSome words ((words ≡ Some own) × (is_cut ≡ false))
-  pub ts : List Told
+  pub ts : List Reported
   pub stream : Stream own (messages_of ts)
   pub within : AllByRecursion (λ m. sum (sizes_of m) ≤ limit_of s.size) (messages_of ts)
   pub many : length ts ≤ s.messages
-  pub told : each ts
+  pub reported : each ts
   pub accepted : refused_in ts ≡ 0
   pub canonical : noncanonical_in ts ≡ 0
   pub appended : Appends before after (texts_of ts)
 
 -- the text of each is one that may be written of it by its number
-abbrev pub TellsInput : Tells → Settings → Option (List ℕ) → Bool → Option (List ℕ)
+abbrev pub ReportsInput : Reports → Settings → Option (List ℕ) → Bool → Option (List ℕ)
     → Option (List ℕ) → Type 0
-TellsInput tells = WritesInput (TellsEach tells 0)
+ReportsInput reports = WritesInput (ReportsEach reports 0)
 
 -- the same by where it begins too
-abbrev pub PlacesInput : PlacedTells → Settings → Option (List ℕ) → Bool → Option (List ℕ)
+abbrev pub PlacesInput : PlacedReports → Settings → Option (List ℕ) → Bool → Option (List ℕ)
     → Option (List ℕ) → Type 0
-PlacesInput tells = WritesInput (TellsFrom tells 0 0)
+PlacesInput reports = WritesInput (ReportsFrom reports 0 0)
 
 -- All words are frames of messages, each within the limit, and none is cut short. Each message is
 -- accepted under the demands and has a canonical copy, and the frame of that was written.
@@ -294,23 +294,23 @@ pub record TranscodesInput (text : List ℕ → List ℕ) (words : Option (List 
 -- What a task with the status of success wrote of all words, by the task.
 abbrev pub WritesAll : Task → Settings → Demands → Option (List ℕ) → Bool → Option (List ℕ)
     → Option (List ℕ) → Type 0
-WritesAll Segments s demands = TellsInput TellsSegments s
+WritesAll Segments s demands = ReportsInput ReportsSegments s
 WritesAll (Vet false) s demands =
-    TellsInput (TellsVerdictUnder demands (words_of s.limits) (depth_of s.limits)) s
+    ReportsInput (ReportsVerdictUnder demands (words_of s.limits) (depth_of s.limits)) s
 WritesAll (Vet true) s demands =
-    TellsInput (TellsExclusiveUnder demands (words_of s.limits) (depth_of s.limits)) s
+    ReportsInput (ReportsExclusiveUnder demands (words_of s.limits) (depth_of s.limits)) s
 WritesAll (Explain false) s demands =
-    PlacesInput (TellsExplainedUnder s.packed demands (words_of s.limits) (depth_of s.limits)) s
+    PlacesInput (ReportsExplainedUnder s.packed demands (words_of s.limits) (depth_of s.limits)) s
 WritesAll (Explain true) s demands =
-    PlacesInput (TellsExplainedExclusiveUnder s.packed demands (words_of s.limits) (depth_of s.limits)) s
+    PlacesInput (ReportsExplainedExclusiveUnder s.packed demands (words_of s.limits) (depth_of s.limits)) s
 WritesAll (Filter form) s demands =
-    TellsInput (PassesOn form.pack (TellsIn form demands s.limits)) s
+    ReportsInput (PassesOn form.pack (ReportsIn form demands s.limits)) s
 WritesAll Dump s demands =
-    TellsInput (TellsDumpUnder demands (words_of s.limits) (depth_of s.limits)) s
+    ReportsInput (ReportsDumpUnder demands (words_of s.limits) (depth_of s.limits)) s
 WritesAll (Get path) s demands =
-    TellsInput (TellsGetUnder demands (words_of s.limits) (depth_of s.limits) path.items) s
+    ReportsInput (ReportsGetUnder demands (words_of s.limits) (depth_of s.limits) path.items) s
 WritesAll Check s demands =
-    TellsInput (TellsCheckUnder demands (words_of s.limits) (depth_of s.limits)) s
+    ReportsInput (ReportsCheckUnder demands (words_of s.limits) (depth_of s.limits)) s
 WritesAll Canon s demands = CanonsInput s demands
 WritesAll Pack s demands = TranscodesInput pack_text
 WritesAll Unpack s demands = TranscodesInput plain_text

@@ -3,7 +3,7 @@ use Rattle.std.specs.Prelude.{Err, Ok, Result, if◌then◌else◌, ℕ, ◌&&�
 use Rattle.cap_spec.specs.declared.CanonFault.{CanonFault}
 use Rattle.cap_spec.specs.declared.CanonFault.TheVariants.{HasCapability, Memory as canon_memory}
 use Rattle.cap_words.specs.declared.sources.SourceFault.{SourceFault}
-use Rattle.cap_words.specs.declared.sources.SourceFault.TheVariants.{Device as source_device, Spent as source_spent}
+use Rattle.cap_words.specs.declared.sources.SourceFault.TheVariants.{Device as source_device, Spent as source_broken}
 use Rattle.cap_words.specs.declared.sources.SourceFault.TheVariants.{Truncated as source_truncated}
 use Rattle.cap_frame.specs.declared.fault.FrameFault.{FrameFault}
 use Rattle.cap_frame.specs.declared.fault.FrameFault.TheVariants.{Device, Memory, Spent, TooLarge, TooManySegments}
@@ -52,7 +52,7 @@ run_status (Err fault) = cause_status fault.cause
 abbrev pub source_status : SourceFault → ℕ
 source_status (source_truncated byte) = 1
 source_status source_device = 3
-source_status source_spent = 3
+source_status source_broken = 3
 
 -- 0 where all words were copied
 abbrev pub transcode_status : Result ℕ CopyFault → ℕ

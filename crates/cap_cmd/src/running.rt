@@ -1,7 +1,7 @@
 //! Doing a job: its engine is run over an input, an output and an output for faults. The exit status
 //! is 0 if all is well, 1 for what the input is, and 3 for a failed device or if memory ran out.
 
-ghost use Rattle.cap_cmd.specs.Jobs.{CanonsTask, DoesJob, DoesTask, ReportsCopy, ReportsExplained, ReportsRun, TranscodesTask, WritesAll, input_is_cut, input_words, reads_packed};
+ghost use Rattle.cap_cmd.specs.Jobs.{CanonsTask, DoesJob, DoesTask, ExitsCopy, ExitsExplained, ExitsRun, TranscodesTask, WritesAll, input_is_cut, input_words, reads_packed};
 ghost use Rattle.cap_cmd.specs.Statuses.{cause_status, outcome_status, run_status, transcode_status};
 ghost use Rattle.cap_run.specs.Breaking.{run_answer};
 ghost use Rattle.cap_run.specs.Engines.{most_packed_at_once, most_unpacked_at_once};
@@ -40,7 +40,7 @@ fn input_is_packed(job: &Job) -> bool
 
 /// Writes the line of the fault that ended a run, if there is one, and returns the exit status.
 fn report_run<E: ByteOut>(err: &mut E, answer: &Result<Outcome, RunFault>) -> u8
-    ensures { ReportsRun E.ByteOut answer.now err.old err.new result }
+    ensures { ExitsRun E.ByteOut answer.now err.old err.new result }
 {
     if let Err(fault) = answer {
         let _ = write_fault(err, fault);
@@ -51,7 +51,7 @@ fn report_run<E: ByteOut>(err: &mut E, answer: &Result<Outcome, RunFault>) -> u8
 /// Writes the line of the fault that ended a run and the lines that explain it, if there is one, and
 /// returns the exit status.
 fn report_explained<E: ByteOut>(err: &mut E, answer: &Result<Outcome, ExplainedFault>) -> u8
-    ensures { ReportsExplained E.ByteOut answer.now err.old err.new result }
+    ensures { ExitsExplained E.ByteOut answer.now err.old err.new result }
 {
     if let Err(fault) = answer {
         let _ = write_explained_fault(err, fault);
@@ -62,7 +62,7 @@ fn report_explained<E: ByteOut>(err: &mut E, answer: &Result<Outcome, ExplainedF
 /// Writes the line of the fault that ended packing or unpacking, if there is one, and returns the
 /// exit status.
 fn report_transcode<E: ByteOut>(err: &mut E, answer: &Result<u64, CopyFault>) -> u8
-    ensures { ReportsCopy E.ByteOut answer.now err.old err.new result }
+    ensures { ExitsCopy E.ByteOut answer.now err.old err.new result }
 {
     if let Err(fault) = answer {
         let _ = write_copy_fault(err, fault);

@@ -22,7 +22,7 @@ small_bytes w = (omega arith, (omega arith, (omega arith, (omega arith, (omega a
 pub encode_is_hex : (w : ℕ) → encode_lower (word_bytes w) ≡ hex w
 encode_is_hex w = digits_of_bytes (word_bytes w) (small_bytes w)
 
--- sixteen digits that were put behind the first bytes of a page
+-- sixteen digits that were put after the first bytes of a page
 pub hex_put : (len k w : ℕ) (bytes out old : List ℕ) → out ≡ hex w → len ≤ length bytes → take len bytes ≡ old
     → take (len + 16) (put_mid len k bytes out) ≡ old ++ hex w
 hex_put len k w bytes out old e fits front =

@@ -11,7 +11,7 @@ use cap_spec::Step;
 /// Appends the line.
 fn push_earlier_line(text: &mut Explanation, steps: &[Step], segment: u32, word: u32)
     requires few { length steps.now ≤ STEPS }
-    requires room { length text.old + PATH + 4 * DIGITS ≤ CAPACITY }
+    requires fits { length text.old + PATH + 4 * DIGITS ≤ CAPACITY }
     ensures { text.new ≡ text.old ++ earlier_line steps.now segment word }
 {
     text.push_text(b"  first used by ");

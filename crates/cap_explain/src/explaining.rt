@@ -40,7 +40,7 @@ fn push_pointer_lines<M: Segments>(
 )
     requires exists { pointer.segment < length (M.segments message.now) }
     requires near { IfSome target.now (λ t. t.start < 2 ^ 34) }
-    requires room { length text.old + POINTER ≤ CAPACITY }
+    requires fits { length text.old + POINTER ≤ CAPACITY }
     ensures items { let p = pointer in text.new ≡ text.old ++ pointer_lines
         (M.segments message.now) start p.segment p.word p.value p.landing target.now }
     ensures few { length text.new ≤ length text.old + POINTER }
@@ -64,7 +64,7 @@ fn push_lines<M: Segments>(
 )
     requires exists { pointer.segment < length (M.segments message.now) }
     requires near { IfSome target.now (λ t. t.start < 2 ^ 34) }
-    requires room { length text.old + POINTER + 2 * PLAIN ≤ CAPACITY }
+    requires fits { length text.old + POINTER + 2 * PLAIN ≤ CAPACITY }
     ensures { let p = pointer in text.new ≡ text.old ++ lines_over
         (M.segments message.now) fault p.segment p.word numbers p.value p.landing target.now }
 {

@@ -100,7 +100,7 @@ impl Explanation {
 
     /// Appends a name and then a number.
     pub(crate) fn push_named(&mut self, name: &[u8], number: u64)
-        requires room { length self.old + length name.now + DIGITS ≤ CAPACITY }
+        requires fits { length self.old + length name.now + DIGITS ≤ CAPACITY }
         ensures items { self.new ≡ self.old ++ (name.now ++ decimal number) }
         ensures few { length self.new ≤ length self.old + length name.now + DIGITS }
         ensures fewer { number < 2 ^ 32 →

@@ -56,7 +56,7 @@ pub(crate) fn push_byte_line<M: Segments>(
     word: u32,
 )
     requires exists { segment < length (M.segments message.now) }
-    requires room { length text.old + LINE ≤ CAPACITY }
+    requires fits { length text.old + LINE ≤ CAPACITY }
     ensures items { text.new ≡ text.old ++ byte_line (M.segments message.now) start segment word }
     ensures few { length text.new ≤ length text.old + LINE }
 {
@@ -133,7 +133,7 @@ fn push_target_place(text: &mut Explanation, target: &Target, word: u64)
 /// Appends the first and the last word of the target.
 fn push_target_range(text: &mut Explanation, target: &Target)
     requires near { target.now.start < 2 ^ 34 }
-    requires room { length text.old + 4 * DIGITS + 8 ≤ CAPACITY }
+    requires fits { length text.old + 4 * DIGITS + 8 ≤ CAPACITY }
     ensures items { text.new ≡ text.old ++ target_range target.now }
     ensures few { length text.new ≤ length text.old + 4 * DIGITS + 8 }
 {
@@ -160,7 +160,7 @@ fn tag_note(word: u64) -> &'static [u8]
 /// Appends the line of the target.
 fn push_target_line(text: &mut Explanation, target: &Target)
     requires near { target.now.start < 2 ^ 34 }
-    requires room { length text.old + PLAIN ≤ CAPACITY }
+    requires fits { length text.old + PLAIN ≤ CAPACITY }
     ensures items { text.new ≡ text.old ++ target_line target.now }
     ensures few { length text.new ≤ length text.old + PLAIN }
 {
@@ -204,7 +204,7 @@ pub(crate) fn push_target_lines<M: Segments>(
     target: &Option<Target>,
 )
     requires near { IfSome target.now (λ t. t.start < 2 ^ 34) }
-    requires room { length text.old + PLAIN + LINE ≤ CAPACITY }
+    requires fits { length text.old + PLAIN + LINE ≤ CAPACITY }
     ensures items { text.new ≡ text.old
         ++ target_lines (M.segments message.now) target.now }
     ensures few { length text.new ≤ length text.old + PLAIN + LINE }

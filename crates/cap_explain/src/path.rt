@@ -60,7 +60,7 @@ pub(crate) fn push_path(text: &mut Explanation, steps: &[Step])
 /// Appends the line of a path.
 fn push_path_line(text: &mut Explanation, steps: &[Step])
     requires few { length steps.now ≤ STEPS }
-    requires room { length text.old + PATH + DIGITS ≤ CAPACITY }
+    requires fits { length text.old + PATH + DIGITS ≤ CAPACITY }
     ensures items { text.new ≡ text.old ++ path_line steps.now }
     ensures few { length text.new ≤ length text.old + PATH }
 {

@@ -7,40 +7,40 @@ use Rattle.std.proofs.lemmas.List.{map-append, take_more, take_more_set}
 use Rattle.cap_spec.specs.Frames.{joined, sizes_of}
 use Rattle.cap_spec.proofs.Frames.Endings.{length_joined}
 use Rattle.cap_frame.specs.FrameNames.{SourceFault, IsUsable, ReadsInput, Stops, Takes}
-use Rattle.cap_frame.specs.Rooms.{AreRooms}
+use Rattle.cap_frame.specs.Buffers.{AreBuffers}
 use Rattle.cap_frame.proofs.Cuts.{front_sum}
 use Rattle.cap_frame.proofs.Taking.{Took, took_more, took_none, took_stop}
 use Rattle.cap_words.specs.declared.sources.WordSource as source
 
--- as many rooms as sizes
-pub rooms_many : {V : Type 0} (f : V → List ℕ) (room : V → ℕ) (vs : List V) (ns : List ℕ) → AreRooms f room vs ns → length vs ≡ length ns
-rooms_many f room [] [] r = refl
-rooms_many f room [] (n ∷ ns) r = absurd r
-rooms_many f room (v ∷ vs) [] r = absurd r
-rooms_many f room (v ∷ vs) (n ∷ ns) r = ap suc (rooms_many f room vs ns r.1)
+-- as many buffers as sizes
+pub buffers_many : {V : Type 0} (f : V → List ℕ) (buffer : V → ℕ) (vs : List V) (ns : List ℕ) → AreBuffers f buffer vs ns → length vs ≡ length ns
+buffers_many f buffer [] [] r = refl
+buffers_many f buffer [] (n ∷ ns) r = absurd r
+buffers_many f buffer (v ∷ vs) [] r = absurd r
+buffers_many f buffer (v ∷ vs) (n ∷ ns) r = ap suc (buffers_many f buffer vs ns r.1)
 
--- one more room
-pub rooms_more : {V : Type 0} (f : V → List ℕ) (room : V → ℕ) (vs : List V) (ns : List ℕ) (v : V) (n : ℕ) → f v ≡ [] → n ≤ room v
-    → AreRooms f room vs ns → AreRooms f room (vs ++ v ∷ []) (ns ++ n ∷ [])
-rooms_more f room [] [] v n e h r = ((e, h), tt)
-rooms_more f room [] (m ∷ ns) v n e h r = absurd r
-rooms_more f room (w ∷ vs) [] v n e h r = absurd r
-rooms_more f room (w ∷ vs) (m ∷ ns) v n e h r = (r.0, rooms_more f room vs ns v n e h r.1)
+-- one more buffer
+pub buffers_more : {V : Type 0} (f : V → List ℕ) (buffer : V → ℕ) (vs : List V) (ns : List ℕ) (v : V) (n : ℕ) → f v ≡ [] → n ≤ buffer v
+    → AreBuffers f buffer vs ns → AreBuffers f buffer (vs ++ v ∷ []) (ns ++ n ∷ [])
+buffers_more f buffer [] [] v n e h r = ((e, h), tt)
+buffers_more f buffer [] (m ∷ ns) v n e h r = absurd r
+buffers_more f buffer (w ∷ vs) [] v n e h r = absurd r
+buffers_more f buffer (w ∷ vs) (m ∷ ns) v n e h r = (r.0, buffers_more f buffer vs ns v n e h r.1)
 
--- the room at s, and those behind it
-pub rooms_from : {V : Type 0} (f : V → List ℕ) (room : V → ℕ) (s : ℕ) (vs : List V) (ns : List ℕ) (v : V) → s < length vs → s < length ns
-    → AreRooms f room (drop s vs) (drop s ns)
-    → ((f (get_or vs s v) ≡ []) × (get_or ns s 0 ≤ room (get_or vs s v))) × AreRooms f room (drop (s + 1) vs) (drop (s + 1) ns)
-rooms_from f room s vs ns v h k r = rw add-one (rw (drop-cons vs s v h, drop-cons ns s 0 k) at r)
+-- the buffer at s, and those after it
+pub buffers_from : {V : Type 0} (f : V → List ℕ) (buffer : V → ℕ) (s : ℕ) (vs : List V) (ns : List ℕ) (v : V) → s < length vs → s < length ns
+    → AreBuffers f buffer (drop s vs) (drop s ns)
+    → ((f (get_or vs s v) ≡ []) × (get_or ns s 0 ≤ buffer (get_or vs s v))) × AreBuffers f buffer (drop (s + 1) vs) (drop (s + 1) ns)
+buffers_from f buffer s vs ns v h k r = rw add-one (rw (drop-cons vs s v h, drop-cons ns s 0 k) at r)
 
 module _ {X : Type 0} (g : source.Ghosts X) where
-  -- These words were read for a segment, so many.
+  -- These words were read for a segment, this many.
   pub record WordsSoFar (old now : X) (words : List ℕ) (many : ℕ) : Type 0 where
     pub took : Took g old now words
     pub length_is : length words ≡ many
 
   -- none yet
-  pub words_start : (s : X) (words : List ℕ) → g.spent s ≡ false → words ≡ [] → WordsSoFar s s words 0
+  pub words_start : (s : X) (words : List ℕ) → g.broken s ≡ false → words ≡ [] → WordsSoFar s s words 0
   words_start s words u e = record { took = subst (Took g s s) (sym e) (took_none g s u); length_is = ap length e }
 
   -- one more
@@ -56,21 +56,21 @@ module _ {X : Type 0} (g : source.Ghosts X) where
       → Stops g 1 now new fault → Stops g size old new fault
   words_stop old now new words many size fault h w s = took_stop g old now new words 1 size fault (omega (arith, w.length_is)) w.took s
 
-  module _ {V : Type 0} (f : V → List ℕ) (room : V → ℕ) where
-    -- The first s segments were read, and there is room for the others.
+  module _ {V : Type 0} (f : V → List ℕ) (buffer : V → ℕ) where
+    -- The first s segments were read, and there is capacity for the others.
     pub record SegmentsSoFar (old now : X) (s : ℕ) (segments : List V) (sizes : List ℕ) : Type 0 where
       pub took : Took g old now (joined (map f (take s segments)))
       pub sizes_are : sizes_of (map f (take s segments)) ≡ take s sizes
       pub many : length segments ≡ length sizes
-      pub rooms : AreRooms f room (drop s segments) (drop s sizes)
+      pub buffers : AreBuffers f buffer (drop s segments) (drop s sizes)
 
     -- none yet
-    pub segments_start : (s : X) (segments : List V) (sizes : List ℕ) → g.spent s ≡ false → AreRooms f room segments sizes → SegmentsSoFar s s 0 segments sizes
+    pub segments_start : (s : X) (segments : List V) (sizes : List ℕ) → g.broken s ≡ false → AreBuffers f buffer segments sizes → SegmentsSoFar s s 0 segments sizes
     segments_start s segments sizes u r = record {
       took = took_none g s u;
       sizes_are = refl;
-      many = rooms_many f room segments sizes r;
-      rooms = r;
+      many = buffers_many f buffer segments sizes r;
+      buffers = r;
     }
 
     -- one more segment
@@ -85,14 +85,14 @@ module _ {X : Type 0} (g : source.Ghosts X) where
         let words : joined (map f (take (s + 1) longer)) ≡ joined (map f (take s segments)) ++ f v =
         ap joined parts ∙ (flat_map-append (λ (ws : List ℕ). ws) (map f (take s segments)) (f v ∷ [])
         ∙ ap (λ (ws : List ℕ). joined (map f (take s segments)) ++ ws) (append-nil (f v))) in
-        let r = rooms_from f room s segments sizes v inside h t.rooms in
+        let r = buffers_from f buffer s segments sizes v inside h t.buffers in
         record {
           took = took_more g old now new (joined (map f (take s segments))) (f v) (joined (map f (take (s + 1) longer))) words t.took takes reads u;
           sizes_are =
               ap sizes_of parts ∙ (map-append (λ (ws : List ℕ). length ws) (map f (take s segments)) (f v ∷ [])
               ∙ (ap (λ (ns : List ℕ). ns ++ length (f v) ∷ []) t.sizes_are ∙ (ap (λ (k : ℕ). take s sizes ++ k ∷ []) (l ∙ d) ∙ sym (take_more sizes s 0 h))));
           many = ap length e ∙ (length-set segments s v ∙ t.many);
-          rooms = subst (λ (vs : List V). AreRooms f room vs (drop (s + 1) sizes)) (sym back) r.1;
+          buffers = subst (λ (vs : List V). AreBuffers f buffer vs (drop (s + 1) sizes)) (sym back) r.1;
         }
 
     -- the source stopped inside a segment

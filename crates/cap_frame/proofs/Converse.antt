@@ -3,7 +3,7 @@ use Rattle.cap_spec.specs.Endings.{none}
 use Rattle.cap_spec.proofs.Lemmas.{one_frame, same_table, one_ending}
 use Rattle.cap_spec.proofs.ProofNames.{Bool, Err, IfSome, List, None, Ok, OnSome, Option, Result, Some, [], ap, arith}
 use Rattle.cap_spec.proofs.ProofNames.{drop, false, length, refl, subst, sum, sym, true, ℕ, ◌%◌, ◌++◌, ◌+◌, ◌^◌, ◌∙◌, ◌∷◌}
-use Rattle.cap_spec.proofs.ProofNames.{◌≡◌, Consumes, ⊤, BeginsMessage, Ending, EndsIn, TellsTooMany, TellsTooMuch}
+use Rattle.cap_spec.proofs.ProofNames.{◌≡◌, Consumes, ⊤, BeginsMessage, Ending, EndsIn, GivesTooMany, GivesTooMuch}
 use Rattle.cap_spec.proofs.ProofNames.{message, partial, too_large, too_many, IsPartial}
 use Rattle.cap_frame.specs.FrameNames.{ReadsNext, TakesFrame, Faults, Takes, FrameFault}
 use Rattle.cap_frame.specs.Reading.{Decides}
@@ -23,15 +23,15 @@ same_some xs ys e = cc
 
 module _ (is : List (List ℕ) → Type 0) (limit : ℕ) (ws : List ℕ) (cut : Bool) (places : List ℕ) (left : Option (List ℕ)) where
   -- what a result says of known words, and of those that are left
-  abbrev pub Tells : Result Bool FrameFault → Type 0
-  Tells (Ok true) = (b : BeginsMessage limit ws) × (left ≡ Some b.rest) × is b.message
-  Tells (Ok false) = (ws ≡ []) × (cut ≡ false)
-  Tells (Err (TooManySegments count)) = (t : TellsTooMany ws) × (left ≡ Some t.rest) × (count ≡ t.first % 2 ^ 32 + 1)
-  Tells (Err (TooLarge words)) = (t : TellsTooMuch limit ws) × (left ≡ Some t.rest) × (words ≡ sum t.sizes)
-  Tells (Err (Truncated byte)) = IsPartial limit ws cut × (drop (length ws) places ≡ byte ∷ [])
-  Tells (Err Device) = ⊤
-  Tells (Err Memory) = ⊤
-  Tells (Err Spent) = ⊤
+  abbrev pub Reports : Result Bool FrameFault → Type 0
+  Reports (Ok true) = (b : BeginsMessage limit ws) × (left ≡ Some b.rest) × is b.message
+  Reports (Ok false) = (ws ≡ []) × (cut ≡ false)
+  Reports (Err (TooManySegments count)) = (t : GivesTooMany ws) × (left ≡ Some t.rest) × (count ≡ t.first % 2 ^ 32 + 1)
+  Reports (Err (TooLarge words)) = (t : GivesTooMuch limit ws) × (left ≡ Some t.rest) × (words ≡ sum t.sizes)
+  Reports (Err (Truncated byte)) = IsPartial limit ws cut × (drop (length ws) places ≡ byte ∷ [])
+  Reports (Err Device) = ⊤
+  Reports (Err Memory) = ⊤
+  Reports (Err Spent) = ⊤
 
   -- what the result is where the words end so
   abbrev pub Is : (e : Ending) → EndsIn limit ws cut e → Result Bool FrameFault → Type 0
@@ -46,7 +46,7 @@ module _ (is : List (List ℕ) → Type 0) (limit : ℕ) (ws : List ℕ) (cut : 
   only r d e k claim h = subst (λ (i : Ending). (h : EndsIn limit ws cut i) → Is i h r) (sym (one_ending limit ws cut d e k h)) claim h
 
   -- so how they end decides the result
-  pub settled : (r : Result Bool FrameFault) (e : Ending) (h : EndsIn limit ws cut e) → Tells r → Answered r (Is e h r)
+  pub settled : (r : Result Bool FrameFault) (e : Ending) (h : EndsIn limit ws cut e) → Reports r → Answered r (Is e h r)
   settled (Ok true) e h t = only (Ok true) message e t.0 (λ b.
       let same = one_frame t.0.own b.own t.0.rest b.rest t.0.message b.message t.0.frames b.frames (sym t.0.whole ∙ b.whole) in
       (refl, subst is same.1 t.2, t.1 ∙ ap Some same.2)) h
@@ -70,41 +70,41 @@ module _ {X : Type 0} (g : source.Ghosts X) (is : List (List ℕ) → Type 0) (l
   left_of ws own e t = known_still ws own (g.words new) (subst (λ (o : Option (List ℕ)). Consumes o (g.words new) own) e t.consumed)
 
   -- what a fault says of them
-  pub tells_fault : (fault : FrameFault) (ws : List ℕ) → g.words old ≡ Some ws → Faults g limit old new fault
-      → Tells is limit ws (g.is_cut old) (g.places old) (g.words new) (Err fault)
-  tells_fault (TooManySegments count) ws e h =
+  pub reports_fault : (fault : FrameFault) (ws : List ℕ) → g.words old ≡ Some ws → Faults g limit old new fault
+      → Reports is limit ws (g.is_cut old) (g.places old) (g.words new) (Err fault)
+  reports_fault (TooManySegments count) ws e h =
       let t = h.0 in
       let c = left_of ws (t.first ∷ []) e t.takes in
       (record { first = t.first; rest = c.0; whole = c.2; many = omega (arith, t.count_is, t.many) }, c.1, t.count_is)
-  tells_fault (TooLarge words) ws e h =
+  reports_fault (TooLarge words) ws e h =
       let t = h.0.1 in
       let c = left_of ws t.table e t.takes in
       (record { table = t.table; rest = c.0; sizes = h.0.0; whole = c.2; is_table = t.is_table; past = omega (arith, h.0.2, h.0.3) }, c.1, h.0.2)
-  tells_fault (Truncated byte) ws e h =
+  reports_fault (Truncated byte) ws e h =
       subst (λ (o : Option (List ℕ)). IfSome o (λ xs. IsPartial limit xs (g.is_cut old) × (drop (length xs) (g.places old) ≡ byte ∷ []))) e h.short
-  tells_fault Device ws e h = tt
-  tells_fault Memory ws e h = tt
-  tells_fault Spent ws e h = tt
+  reports_fault Device ws e h = tt
+  reports_fault Memory ws e h = tt
+  reports_fault Spent ws e h = tt
 
   abbrev pub SaysMessage : Result Bool FrameFault → Type 0
   SaysMessage r = r ≡ Ok true → (m : List (List ℕ)) × TakesFrame g limit old new m × is m
 
   -- and what each result says
-  tells : (r : Result Bool FrameFault) (ws : List ℕ) → g.words old ≡ Some ws → SaysMessage r → ReadsNext g limit old new r
-      → Tells is limit ws (g.is_cut old) (g.places old) (g.words new) r
-  tells (Ok true) ws e s n =
+  reports : (r : Result Bool FrameFault) (ws : List ℕ) → g.words old ≡ Some ws → SaysMessage r → ReadsNext g limit old new r
+      → Reports is limit ws (g.is_cut old) (g.places old) (g.words new) r
+  reports (Ok true) ws e s n =
       let t = s refl in
       let c = left_of ws t.1.own e t.1.takes in
       (record { own = t.1.own; rest = c.0; message = t.0; whole = c.2; frames = t.1.frames; within = t.1.within }, c.1, t.2)
-  tells (Ok false) ws e s n =
+  reports (Ok false) ws e s n =
       let k = subst (λ (o : Option (List ℕ)). OnSome o ((o ≡ Some []) × (g.is_cut old ≡ false) × (g.places old ≡ g.place new ∷ []))) e (n.none refl) in
       (same_some ws [] k.0, k.1)
-  tells (Err fault) ws e s n = tells_fault fault ws e n.err
+  reports (Err fault) ws e s n = reports_fault fault ws e n.err
 
   -- so known words decide the result
   pub decides : (r : Result Bool FrameFault) → SaysMessage r → ReadsNext g limit old new r → Decides g is limit old new r
   decides r s n =
-      let at = λ (ws : List ℕ) (e : g.words old ≡ Some ws). tells r ws e s n in
+      let at = λ (ws : List ℕ) (e : g.words old ≡ Some ws). reports r ws e s n in
       let cut = g.is_cut old in
       let places = g.places old in
       let left = g.words new in

@@ -1,4 +1,4 @@
--- Words of segments whose bytes stand one behind the other.
+-- Words of segments whose bytes are one after the other.
 use Rattle.std.proofs.lemmas.List.Sums.{sum_by-take-le}
 use Rattle.cap_spec.proofs.Bytes.Plain.{words_exact}
 use Rattle.cap_spec.proofs.ProofNames.{All, List, Some, [], ap, arith, drop, drop-drop, get_or, get_or-take, length}
@@ -16,7 +16,7 @@ words_inside bs = omega (arith, words_exact bs)
 pub words_all : (bs : List ℕ) → length bs < 8 * length (plain_words bs) + 8
 words_all bs = omega (arith, words_exact bs)
 
--- word w is spelled from byte 8 w on
+-- word w is encoded from byte 8 w on
 pub word_at : (bs : List ℕ) (w : ℕ) → w < length (plain_words bs) → slice_get (plain_words bs) w ≡ Some (little_number 8 (drop (8 * w) bs))
 word_at (a ∷ b ∷ c ∷ d ∷ e ∷ f ∷ g ∷ h ∷ rest) zero l = refl
 word_at (a ∷ b ∷ c ∷ d ∷ e ∷ f ∷ g ∷ h ∷ rest) (suc w) l =
@@ -32,7 +32,7 @@ word_at (a ∷ b ∷ c ∷ d ∷ e ∷ []) w l = absurd (omega arith)
 word_at (a ∷ b ∷ c ∷ d ∷ e ∷ f ∷ []) w l = absurd (omega arith)
 word_at (a ∷ b ∷ c ∷ d ∷ e ∷ f ∷ g ∷ []) w l = absurd (omega arith)
 
--- a number is in its own bytes, whatever stands behind them
+-- a number is in its own bytes, whatever is after them
 pub number_take : (i n m : ℕ) (xs : List ℕ) → i + n ≤ m → little_from i n (take m xs) ≡ little_from i n xs
 number_take i zero m xs h = refl
 number_take i (suc n) m xs h =
@@ -90,7 +90,7 @@ cut_words ns bs s l h =
     let e : length (plain_words part) ≡ n = omega (p, a, b, arith) in
     ap length (cut_at ns bs s l) ∙ e
 
--- its word w is spelled at the place that its start tells
+-- its word w is encoded at the place that its start gives
 pub cut_word : (ns bs : List ℕ) (s w : ℕ) → s < length ns → 8 * sum ns ≤ length bs → w < length (get_or (cut ns bs) s [])
     → slice_get (get_or (cut ns bs) s []) w ≡ Some (little_number 8 (drop (8 * (sum (take s ns) + w)) bs))
 cut_word ns bs s w l h inside =
@@ -125,7 +125,7 @@ cut_message ns bs some few small inside = record {
   lengths = cut_lengths ns bs small inside;
 }
 
--- where word w of segment s stands, by the table of starts, and what it is
+-- where word w of segment s is, by the table of starts, and what it is
 pub record PlaceFacts (ns starts bs : List ℕ) (s w : ℕ) : Type 0 where
   pub sums : get_or starts s 0 + w + 1 ≤ sum ns
   pub word : slice_get (get_or (cut ns bs) s []) w ≡ Some (little_number 8 (drop (8 * (get_or starts s 0 + w)) bs))

@@ -6,25 +6,25 @@ use Rattle.cap_spec.specs.Frames.{IsPartial}
 use Rattle.cap_spec.specs.Plain.{plain_is_cut, plain_words}
 use Rattle.cap_spec.proofs.Frames.Endings.{no_table, table_whole}
 use Rattle.cap_spec.proofs.Lemmas.{one_frame, same_table, one_ending}
-use Rattle.cap_frame.specs.Framed.{DecidesFront, TellsFront, frame_bytes, framed_segments}
-use Rattle.cap_frame.specs.Fronts.{IsFront, TellsLarge, TellsMany, Wants, a_frame, a_table, a_word, table_words}
+use Rattle.cap_frame.specs.Framed.{DecidesFront, ReportsFront, frame_bytes, framed_segments}
+use Rattle.cap_frame.specs.Fronts.{IsFront, GivesLarge, GivesMany, Needs, a_frame, a_table, a_word, table_words}
 use Rattle.cap_frame.specs.declared.fault.FrontFault.{FrontFault}
 use Rattle.cap_frame.specs.declared.fault.FrontFault.TheVariants.{TooLarge, TooManySegments, Truncated}
 use Rattle.cap_frame.specs.declared.framed.Framed.{Framed}
 
 -- words want one number of bytes
-one_wanted : (ws : List ℕ) (a b : ℕ) → Wants ws a → Wants ws b → a ≡ b
-one_wanted ws a b (a_word e h) (a_word f k) = h ∙ sym k
-one_wanted ws a b (a_word e h) (a_table first rest f l k) = absurd (cc)
-one_wanted ws a b (a_word e h) (a_frame table sizes rest f t k) = absurd (no_table table rest sizes t (sym e ∙ f))
-one_wanted ws a b (a_table first rest e l h) (a_word f k) = absurd (cc)
-one_wanted ws a b (a_table first rest e l h) (a_table other more f m k) =
+one_needed : (ws : List ℕ) (a b : ℕ) → Needs ws a → Needs ws b → a ≡ b
+one_needed ws a b (a_word e h) (a_word f k) = h ∙ sym k
+one_needed ws a b (a_word e h) (a_table first rest f l k) = absurd (cc)
+one_needed ws a b (a_word e h) (a_frame table sizes rest f t k) = absurd (no_table table rest sizes t (sym e ∙ f))
+one_needed ws a b (a_table first rest e l h) (a_word f k) = absurd (cc)
+one_needed ws a b (a_table first rest e l h) (a_table other more f m k) =
     let same : first ≡ other = (let s = sym e ∙ f in cc) in
     h ∙ (ap (λ (n : ℕ). 8 * table_words (n % 2 ^ 32 + 1)) same ∙ sym k)
-one_wanted ws a b (a_table first rest e l h) (a_frame table sizes more f t k) = absurd (table_whole table more sizes first rest t (sym e ∙ f) l)
-one_wanted ws a b (a_frame table sizes rest e t h) (a_word f k) = absurd (no_table table rest sizes t (sym f ∙ e))
-one_wanted ws a b (a_frame table sizes rest e t h) (a_table first more f l k) = absurd (table_whole table rest sizes first more t (sym f ∙ e) l)
-one_wanted ws a b (a_frame table sizes rest e t h) (a_frame other counts more f u k) =
+one_needed ws a b (a_table first rest e l h) (a_frame table sizes more f t k) = absurd (table_whole table more sizes first rest t (sym e ∙ f) l)
+one_needed ws a b (a_frame table sizes rest e t h) (a_word f k) = absurd (no_table table rest sizes t (sym f ∙ e))
+one_needed ws a b (a_frame table sizes rest e t h) (a_table first more f l k) = absurd (table_whole table rest sizes first more t (sym f ∙ e) l)
+one_needed ws a b (a_frame table sizes rest e t h) (a_frame other counts more f u k) =
     let same = same_table table other rest more sizes counts t u (sym e ∙ f) in
     h ∙ (ap (λ (n : ℕ). 8 * (n + sum sizes)) (ap length same.0) ∙ (ap (λ (n : ℕ). 8 * (length other + n)) (ap sum same.1) ∙ sym k))
 
@@ -41,14 +41,14 @@ module _ (limit : ℕ) (bs : List ℕ) where
   ending_of (Ok None) = none
   ending_of (Err (TooManySegments count)) = too_many
   ending_of (Err (TooLarge words)) = too_large
-  ending_of (Err (Truncated wanted)) = partial
+  ending_of (Err (Truncated needed)) = partial
 
-  told : (r : Result (Option Framed) FrontFault) → TellsFront limit bs r → EndsIn limit (plain_words bs) (plain_is_cut bs) (ending_of r)
-  told (Ok (Some f)) t = begins (framed_segments f) (frame_bytes f) t
-  told (Ok None) t = ends t
-  told (Err (TooManySegments count)) t = t.0
-  told (Err (TooLarge words)) t = t.0
-  told (Err (Truncated wanted)) t = t.0
+  reported : (r : Result (Option Framed) FrontFault) → ReportsFront limit bs r → EndsIn limit (plain_words bs) (plain_is_cut bs) (ending_of r)
+  reported (Ok (Some f)) t = begins (framed_segments f) (frame_bytes f) t
+  reported (Ok None) t = ends t
+  reported (Err (TooManySegments count)) t = t.0
+  reported (Err (TooLarge words)) t = t.0
+  reported (Err (Truncated needed)) t = t.0
 
   -- what the result is where they end so
   abbrev Is : (e : Ending) → EndsIn limit (plain_words bs) (plain_is_cut bs) e → Result (Option Framed) FrontFault → Type 0
@@ -56,9 +56,9 @@ module _ (limit : ℕ) (bs : List ℕ) where
   Is none b r = r ≡ Ok None
   Is too_many b r = r ≡ Err (TooManySegments (b.first % 2 ^ 32 + 1))
   Is too_large b r = r ≡ Err (TooLarge (sum b.sizes))
-  Is partial b r = (wanted : ℕ) → Wants (plain_words bs) wanted → r ≡ Err (Truncated wanted)
+  Is partial b r = (needed : ℕ) → Needs (plain_words bs) needed → r ≡ Err (Truncated needed)
 
-  claim : (r : Result (Option Framed) FrontFault) → TellsFront limit bs r → (h : EndsIn limit (plain_words bs) (plain_is_cut bs) (ending_of r))
+  claim : (r : Result (Option Framed) FrontFault) → ReportsFront limit bs r → (h : EndsIn limit (plain_words bs) (plain_is_cut bs) (ending_of r))
       → Is (ending_of r) h r
   claim (Ok (Some f)) t b =
       let same = one_frame t.own b.own t.rest b.rest (framed_segments f) b.message t.frames b.frames (sym t.words ∙ b.whole) in
@@ -70,43 +70,43 @@ module _ (limit : ℕ) (bs : List ℕ) where
   claim (Err (TooLarge words)) t b =
       let same = same_table t.0.table b.table t.0.rest b.rest t.0.sizes b.sizes t.0.is_table b.is_table (sym t.0.whole ∙ b.whole) in
       ap (λ (k : ℕ). Err (TooLarge k)) (t.1 ∙ ap sum same.1)
-  claim (Err (Truncated other)) t b = λ wanted w. ap (λ (k : ℕ). Err (Truncated k)) (one_wanted (plain_words bs) other wanted t.1 w)
+  claim (Err (Truncated other)) t b = λ needed w. ap (λ (k : ℕ). Err (Truncated k)) (one_needed (plain_words bs) other needed t.1 w)
 
   -- they end so in no other way
-  settled : (r : Result (Option Framed) FrontFault) (e : Ending) (h : EndsIn limit (plain_words bs) (plain_is_cut bs) e) → TellsFront limit bs r → Is e h r
+  settled : (r : Result (Option Framed) FrontFault) (e : Ending) (h : EndsIn limit (plain_words bs) (plain_is_cut bs) e) → ReportsFront limit bs r → Is e h r
   settled r e h t =
       subst (λ (i : Ending). (h : EndsIn limit (plain_words bs) (plain_is_cut bs) i) → Is i h r)
-      (sym (one_ending limit (plain_words bs) (plain_is_cut bs) (ending_of r) e (told r t) h)) (claim r t) h
+      (sym (one_ending limit (plain_words bs) (plain_is_cut bs) (ending_of r) e (reported r t) h)) (claim r t) h
 
   -- where a prefix of the bytes frames a message within the limit, that is the result
-  pub whole_answer : (r : Result (Option Framed) FrontFault) (m : List (List ℕ)) (n : ℕ) → IsFront limit bs m n → TellsFront limit bs r
+  pub whole_answer : (r : Result (Option Framed) FrontFault) (m : List (List ℕ)) (n : ℕ) → IsFront limit bs m n → ReportsFront limit bs r
       → IsOkAnd r (λ o. IsSomeAnd o (λ f. (framed_segments f ≡ m) × (frame_bytes f ≡ n)))
   whole_answer r m n w t =
       subst (λ (k : ℕ). IsOkAnd r (λ o. IsSomeAnd o (λ f. (framed_segments f ≡ m) × (frame_bytes f ≡ k)))) (sym w.long) (settled r message (begins m n w) t)
 
   -- where there are no bytes, there is no message
-  pub empty_answer : (r : Result (Option Framed) FrontFault) → bs ≡ [] → TellsFront limit bs r → r ≡ Ok None
+  pub empty_answer : (r : Result (Option Framed) FrontFault) → bs ≡ [] → ReportsFront limit bs r → r ≡ Ok None
   empty_answer r e t = settled r none (ends e) t
 
   -- where the first word gives too many segments, that is the result
-  pub many_answer : (r : Result (Option Framed) FrontFault) (count : ℕ) → TellsMany bs count → TellsFront limit bs r → r ≡ Err (TooManySegments count)
+  pub many_answer : (r : Result (Option Framed) FrontFault) (count : ℕ) → GivesMany bs count → ReportsFront limit bs r → r ≡ Err (TooManySegments count)
   many_answer r count w t = settled r too_many w.0 t ∙ ap (λ (k : ℕ). Err (TooManySegments k)) (sym w.1)
 
   -- where a table is past the limit, that is the result
-  pub large_answer : (r : Result (Option Framed) FrontFault) (words : ℕ) → TellsLarge limit bs words → TellsFront limit bs r → r ≡ Err (TooLarge words)
+  pub large_answer : (r : Result (Option Framed) FrontFault) (words : ℕ) → GivesLarge limit bs words → ReportsFront limit bs r → r ≡ Err (TooLarge words)
   large_answer r words w t = settled r too_large w.0 t ∙ ap (λ (k : ℕ). Err (TooLarge k)) (sym w.1)
 
   -- where the bytes end inside a frame, the result is how many are needed
-  pub short_answer : (r : Result (Option Framed) FrontFault) (wanted : ℕ) → IsPartial limit (plain_words bs) (plain_is_cut bs)
-      → Wants (plain_words bs) wanted → TellsFront limit bs r → r ≡ Err (Truncated wanted)
-  short_answer r wanted p w t = settled r partial p t wanted w
+  pub short_answer : (r : Result (Option Framed) FrontFault) (needed : ℕ) → IsPartial limit (plain_words bs) (plain_is_cut bs)
+      → Needs (plain_words bs) needed → ReportsFront limit bs r → r ≡ Err (Truncated needed)
+  short_answer r needed p w t = settled r partial p t needed w
 
   -- so the bytes decide the result
-  pub decides_front : (r : Result (Option Framed) FrontFault) → TellsFront limit bs r → DecidesFront limit bs r
+  pub decides_front : (r : Result (Option Framed) FrontFault) → ReportsFront limit bs r → DecidesFront limit bs r
   decides_front r t = record {
     whole = λ m n w. whole_answer r m n w t;
     empty = λ e. empty_answer r e t;
     many = λ count w. many_answer r count w t;
     large = λ words w. large_answer r words w t;
-    cut_short = λ wanted p w. short_answer r wanted p w t;
+    cut_short = λ needed p w. short_answer r needed p w t;
   }

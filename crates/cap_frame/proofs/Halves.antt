@@ -4,7 +4,7 @@ use Rattle.cap_spec.proofs.Frames.Framing.{length_halves}
 use Rattle.cap_spec.proofs.ProofNames.{List, [], ap, arith, drop, flat_map, get_or, length, length-drop, suc, sum, sym}
 use Rattle.cap_spec.proofs.ProofNames.{zero, zero-add, ℕ, ◌%◌, ◌*◌, ◌++◌, ◌+◌, ◌/◌, ◌<◌, ◌^◌, ◌∙◌, ◌∷◌, ◌≡◌, ◌≤◌}
 use Rattle.cap_spec.proofs.ProofNames.{take_more, sum_by-append, AllByRecursion, little_number, halves, plain_words}
-use Rattle.cap_frame.specs.Fronts.{sizes_told}
+use Rattle.cap_frame.specs.Fronts.{sizes_given}
 
 -- half k of the words is the number at byte 4 k
 pub half_at : (bs : List ℕ) (k : ℕ) → AllByRecursion (λ b. b < 256) bs → k < 2 * length (plain_words bs)
@@ -33,20 +33,20 @@ pub first_half : (bs : List ℕ) (first : ℕ) (more : List ℕ) → AllByRecurs
 first_half bs first more all e = ap (λ ws. get_or (flat_map halves ws) 0 0) (sym e) ∙ half_at bs 0 all (omega (arith, ap length e))
 
 -- one more size is the next number
-pub more_told : (bs : List ℕ) (s : ℕ) → AllByRecursion (λ b. b < 256) bs → s + 2 ≤ 2 * length (plain_words bs)
-    → sizes_told (s + 1) (plain_words bs) ≡ sizes_told s (plain_words bs) ++ little_number 4 (drop (4 + 4 * s) bs) ∷ []
-more_told bs s all l =
+pub more_given : (bs : List ℕ) (s : ℕ) → AllByRecursion (λ b. b < 256) bs → s + 2 ≤ 2 * length (plain_words bs)
+    → sizes_given (s + 1) (plain_words bs) ≡ sizes_given s (plain_words bs) ++ little_number 4 (drop (4 + 4 * s) bs) ∷ []
+more_given bs s all l =
     let numbers = flat_map halves (plain_words bs) in
     let long : s < length (drop 1 numbers) = omega (arith, length-drop 1 numbers, length_halves (plain_words bs), l) in
     let at : 4 * (1 + s) ≡ 4 + 4 * s = omega arith in
     let next : get_or (drop 1 numbers) s 0 ≡ little_number 4 (drop (4 + 4 * s) bs) =
     get_or_after_one numbers s 0 ∙ (half_at bs (1 + s) all (omega (arith, l)) ∙ ap (λ n. little_number 4 (drop n bs)) at) in
-    take_more (drop 1 numbers) s 0 long ∙ ap (λ n. sizes_told s (plain_words bs) ++ n ∷ []) next
+    take_more (drop 1 numbers) s 0 long ∙ ap (λ n. sizes_given s (plain_words bs) ++ n ∷ []) next
 
 -- and adds to their sum
 pub more_total : (bs : List ℕ) (s : ℕ) → AllByRecursion (λ b. b < 256) bs → s + 2 ≤ 2 * length (plain_words bs)
-    → sum (sizes_told (s + 1) (plain_words bs)) ≡ sum (sizes_told s (plain_words bs)) + little_number 4 (drop (4 + 4 * s) bs)
+    → sum (sizes_given (s + 1) (plain_words bs)) ≡ sum (sizes_given s (plain_words bs)) + little_number 4 (drop (4 + 4 * s) bs)
 more_total bs s all l =
     let n = little_number 4 (drop (4 + 4 * s) bs) in
-    ap sum (more_told bs s all l) ∙ (sum_by-append (λ x. x) (sizes_told s (plain_words bs)) (n ∷ [])
-    ∙ ap (λ k. sum (sizes_told s (plain_words bs)) + k) (zero-add n))
+    ap sum (more_given bs s all l) ∙ (sum_by-append (λ x. x) (sizes_given s (plain_words bs)) (n ∷ [])
+    ∙ ap (λ k. sum (sizes_given s (plain_words bs)) + k) (zero-add n))

@@ -10,7 +10,7 @@ use Rattle.cap_frame.proofs.Cuts.{words_inside}
 use Rattle.cap_frame.proofs.Taking.{Took, took_more, took_stop}
 use Rattle.cap_words.specs.declared.sources.WordSource as source
 
--- what stands in a buffer up to the end of a piece that was written over it
+-- what is in a buffer up to the end of a piece that was written over it
 pub piece_in : (start end many : ℕ) (before held more items piece post rest : List ℕ) → start ≤ length before → end ≤ many → length piece ≡ end - start
     → start ≤ end
     → held ≡ before ++ more → items ≡ take many ((take start held ++ (piece ++ post)) ++ rest) → take end items ≡ take start before ++ piece
@@ -24,7 +24,7 @@ piece_in start end many before held more items piece post rest h e l k b i =
     ap (λ (n : ℕ). take n ((take start before ++ piece) ++ (post ++ rest))) (sym long) ∙ take-append_seam (take start before ++ piece) (post ++ rest) in
     ap (take end) i ∙ (take-take end many _ e ∙ (ap (take end) parts ∙ shown))
 
--- what was appended stands behind what was read, where that was all
+-- what was appended is after what was read, where that was all
 pub appended_in : (done n : ℕ) (before given items : List ℕ) → length before ≤ done → length given ≡ n → items ≡ before ++ given
     → take (done + n) items ≡ take done before ++ given
 appended_in done n before given items h l e =
@@ -65,7 +65,7 @@ held_joined (n ∷ ns) bytes h =
     ∙ sym (ap plain_words parts ∙ plain_join (take (8 * n) bytes) (take (8 * sum ns) (drop (8 * n) bytes)) (omega (arith, long)))
 
 module _ {X : Type 0} (g : source.Ghosts X) where
-  -- The words of so many bytes in front of a buffer were read.
+  -- The words of this many bytes before a buffer were read.
   pub record BytesSoFar (old now : X) (done : ℕ) (bytes : List ℕ) : Type 0 where
     pub whole : done % 8 ≡ 0
     pub within : done ≤ length bytes

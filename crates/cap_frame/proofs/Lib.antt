@@ -3,7 +3,7 @@ pub mod Taking
 pub mod Tables
 pub mod Contents
 pub mod Skips
-pub mod Behind
+pub mod After
 pub mod TablesLeft
 pub mod Converse
 pub mod Reading
@@ -15,5 +15,5 @@ pub mod Parts
 pub mod Halves
 pub mod Fronts
 pub mod FrontAnswers
-pub mod BehindTable
+pub mod AfterTable
 pub mod TableBytes

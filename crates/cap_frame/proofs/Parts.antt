@@ -1,16 +1,16 @@
--- The bytes of some words of a segment, where the segments stand one behind the other.
+-- The bytes of some words of a segment, where the segments are one after the other.
 use Rattle.cap_spec.proofs.Lemmas.{all_drop, all_take, words_exact}
 use Rattle.cap_spec.proofs.ProofNames.{Fits, List, [], ap, arith, drop, drop-drop, get_or, inl, inr, length, length-drop}
 use Rattle.cap_spec.proofs.ProofNames.{length-take-le, slice_range, sum, sym, take, take-append-drop, take-take, take_all}
 use Rattle.cap_spec.proofs.ProofNames.{w8, ℕ, ◌*◌, ◌++◌, ◌+◌, ◌-◌, ◌<◌, ◌∙◌, ◌≡◌, ◌≤◌, drop-append_seam, take-append_seam}
 use Rattle.cap_spec.proofs.ProofNames.{cases_lt, drop-take, drop_all, plain_text, plain_words}
-use Rattle.cap_words.proofs.AtHand.{bytes_small}
+use Rattle.cap_words.proofs.Buffered.{bytes_small}
 use Rattle.cap_words.proofs.Filling.{plain_join}
 use Rattle.cap_words.proofs.WholeWords.{words_text}
 use Rattle.cap_frame.specs.Bytes.{cut, starts_of}
 use Rattle.cap_frame.proofs.Cuts.{cut_at, cut_length, cut_words, front_sum, start_is, words_inside}
 
--- so many words, and those behind them
+-- this many words, and those after them
 parts_of : (k : ℕ) (bs : List ℕ) → 8 * k ≤ length bs
     → (plain_words bs ≡ plain_words (take (8 * k) bs) ++ plain_words (drop (8 * k) bs)) × (length (plain_words (take (8 * k) bs)) ≡ k)
 parts_of k bs h =
@@ -19,7 +19,7 @@ parts_of k bs h =
       omega (arith, words_exact (take (8 * k) bs), front),
     )
 
--- the first bytes spell the first words
+-- the first bytes encode the first words
 pub take_words : (k : ℕ) (bs : List ℕ) → take k (plain_words bs) ≡ plain_words (take (8 * k) bs)
 take_words k bs = elim (cases_lt (length bs) (8 * k)) [
   | inl few ↦ take_all k (plain_words bs) (omega (arith, words_inside bs, few)) ∙ sym (ap plain_words (take_all (8 * k) bs (omega (arith, few))))
@@ -48,7 +48,7 @@ part_text bs at words fits inside =
     words_text (take (8 * words) (drop (8 * at) bs))
     (all_take (λ b. b < 256) (8 * words) (drop (8 * at) bs) (all_drop (λ b. b < 256) (8 * at) bs (bytes_small bs fits))) (omega (arith, e))
 
--- some words of a segment are spelled where their start and that of the segment tell
+-- some words of a segment are encoded where their start and that of the segment give
 pub part_words : (ns bs : List ℕ) (s start words : ℕ) → s < length ns → 8 * sum ns ≤ length bs → start + words ≤ length (get_or (cut ns bs) s [])
     → slice_range (get_or (cut ns bs) s []) start (start + words)
     ≡ plain_words (take (8 * words) (drop (8 * (sum (take s ns) + start)) bs))
@@ -72,10 +72,10 @@ part_words ns bs s start words l h inside =
     ∙ (take_words words (drop (8 * start) own)
     ∙ ap plain_words (ap (take (8 * words)) x ∙ (take-take (8 * words) r (drop (8 * start) (drop at bs)) m ∙ ap (take (8 * words)) y)))))
 
--- where words of segment s stand, by the table of starts, and what they are
+-- where words of segment s are, by the table of starts, and what they are
 pub record PartFacts (ns starts bs : List ℕ) (s start words : ℕ) : Type 0 where
   pub sums : get_or starts s 0 + start + words ≤ sum ns
-  pub spelled : plain_words (take (8 * words) (drop (8 * (get_or starts s 0 + start)) bs)) ≡ slice_range (get_or (cut ns bs) s []) start (start + words)
+  pub encoded : plain_words (take (8 * words) (drop (8 * (get_or starts s 0 + start)) bs)) ≡ slice_range (get_or (cut ns bs) s []) start (start + words)
 
 pub part_facts : (ns starts bs : List ℕ) (s start words : ℕ) → starts ≡ starts_of 0 ns → 8 * sum ns ≤ length bs → s < length (cut ns bs)
     → start + words ≤ length (get_or (cut ns bs) s []) → PartFacts ns starts bs s start words
@@ -87,5 +87,5 @@ part_facts ns starts bs s start words are inside exists within =
     let f : sum (take s ns) + get_or ns s 0 ≤ sum ns = front_sum ns s l in
     record {
       sums = omega (arith, at, e, f, within);
-      spelled = ap (λ k. plain_words (take (8 * words) (drop (8 * (k + start)) bs))) at ∙ sym (part_words ns bs s start words l inside within);
+      encoded = ap (λ k. plain_words (take (8 * words) (drop (8 * (k + start)) bs))) at ∙ sym (part_words ns bs s start words l inside within);
     }

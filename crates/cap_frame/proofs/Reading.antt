@@ -7,7 +7,7 @@ use Rattle.cap_frame.specs.FrameNames.{SourceFault, ReadsNext, TakesFrame, Fault
 use Rattle.cap_frame.specs.FrameNames.{ReadsInput, Stops, Takes, FrameFault}
 use Rattle.cap_frame.specs.Reading.{ReadsFrame}
 use Rattle.cap_frame.specs.declared.fault.FrameFault.TheVariants.{Memory}
-use Rattle.cap_frame.proofs.Behind.{behind_contents, behind_message}
+use Rattle.cap_frame.proofs.After.{after_contents, after_message}
 use Rattle.cap_frame.proofs.Converse.{decides}
 use Rattle.cap_frame.proofs.Taking.{reads_both, reads_none, reads_one, takes_one, usable_both}
 use Rattle.cap_words.specs.declared.sources.WordSource as source
@@ -27,7 +27,7 @@ module _ {X : Type 0} (g : source.Ghosts X) (limit : ℕ) (old mid new : X) wher
     ended = λ e. absurd (some e);
     stays = λ e. absurd (ended e);
     for_good = λ e. absurd (failed e);
-    spent = λ e. absurd (let h = usable.usable in cc);
+    broken = λ e. absurd (let h = usable.usable in cc);
     reads = reads_both g old mid new before reads;
     err = err;
   }
@@ -94,7 +94,7 @@ module _ {X : Type 0} (g : source.Ghosts X) {is : List (List ℕ) → Type 0} {l
   pub frame_taken : (m : List (List ℕ)) → ReadsNext g limit old mid (Ok true) → TakesTable g old mid sizes → sum sizes ≤ limit
       → Takes g mid new (joined m) → sizes_of m ≡ sizes → IsUsable g mid new → ReadsInput g mid new → is m → ReadsFrame g is limit old new (Ok true)
   frame_taken m n table within takes e works reads i =
-      let t = behind_message g old mid new sizes m table takes e in
+      let t = after_message g old mid new sizes m table takes e in
       let frame : TakesFrame g limit old new m = record { own = t.0; takes = t.1; frames = t.2; within = subst (λ ns. sum ns ≤ limit) (sym e) within } in
       read_frame g (Ok true) (λ _. (m, frame, i)) (next_later g limit old mid new (Ok true) n reads works tt (λ h. absurd (cc)))
 
@@ -102,5 +102,5 @@ module _ {X : Type 0} (g : source.Ghosts X) {is : List (List ℕ) → Type 0} {l
   pub frame_stopped : (fault : SourceFault) (f : FrameFault) → f ≡ frame_fault_of fault → ReadsNext g limit old mid (Ok true) → TakesTable g old mid sizes
       → sum sizes ≤ limit → Stops g (sum sizes) mid new fault → ReadsInput g mid new → ReadsFrame g is limit old new (Err f)
   frame_stopped fault f e n table within stops reads =
-      let faults = subst (Faults g limit old new) (sym e) (behind_contents g limit old mid new sizes fault table n.works within stops) in
+      let faults = subst (Faults g limit old new) (sym e) (after_contents g limit old mid new sizes fault table n.works within stops) in
       no_frame g (Err f) (λ i. absurd (cc)) (next_later g limit old mid new (Err f) n reads tt faults (λ i. absurd (cc)))

@@ -33,18 +33,18 @@ pub first_of_sum : (ns : List ℕ) → get_or ns 0 0 ≤ sum ns
 first_of_sum [] = omega arith
 first_of_sum (n ∷ ns) = omega (arith, sum_by-cons (λ x. x) n ns)
 
--- so many bytes of words are that many words
-pub words_in : (n : ℕ) (room : List ℕ) → n ≤ length room → take n room ≡ plain_text (plain_words (take n room)) → 8 * length (plain_words (take n room)) ≡ n
-words_in n room fits text = sym (length_plain (plain_words (take n room))) ∙ (sym (ap length text) ∙ length-take-le n room fits)
+-- this many bytes of words are that many words
+pub words_in : (n : ℕ) (buffer : List ℕ) → n ≤ length buffer → take n buffer ≡ plain_text (plain_words (take n buffer)) → 8 * length (plain_words (take n buffer)) ≡ n
+words_in n buffer fits text = sym (length_plain (plain_words (take n buffer))) ∙ (sym (ap length text) ∙ length-take-le n buffer fits)
 
 module _ {X : Type 0} (g : source.Ghosts X) where
-  -- So many words were passed over.
+  -- This many words were passed over.
   pub record SkippedSoFar (old now : X) (many : ℕ) : Type 0 where
     pub own : List ℕ
     pub so_far : WordsSoFar g old now own many
 
   -- none yet
-  pub skipped_none : (s : X) → g.spent s ≡ false → SkippedSoFar s s 0
+  pub skipped_none : (s : X) → g.broken s ≡ false → SkippedSoFar s s 0
   skipped_none s u = record { own = []; so_far = words_start g s [] u refl }
 
   -- some more

@@ -8,21 +8,21 @@ use Rattle.cap_frame.specs.FrameNames.{SourceFault, IsUsable, ReadsInput, Stops,
 use Rattle.cap_frame.proofs.Taking.{Took, took_more, took_stop}
 use Rattle.cap_words.specs.declared.sources.WordSource as source
 
--- the numbers of a table: those of its further words, behind the high half of its first
-abbrev pub behind : ℕ → List ℕ → List ℕ
-behind first more = first / 2 ^ 32 ∷ flat_map halves more
+-- the numbers of a table: those of its further words, after the high half of its first
+abbrev pub after : ℕ → List ℕ → List ℕ
+after first more = first / 2 ^ 32 ∷ flat_map halves more
 
-pub length_behind : (first : ℕ) (more : List ℕ) → length (behind first more) ≡ 1 + 2 * length more
-length_behind first more = omega (arith, length_halves more)
+pub length_after : (first : ℕ) (more : List ℕ) → length (after first more) ≡ 1 + 2 * length more
+length_after first more = omega (arith, length_halves more)
 
 module _ {X : Type 0} (g : source.Ghosts X) where
-  -- So many further words of a table were read, and these sizes found in them.
+  -- This many further words of a table were read, and these sizes found in them.
   pub record TableSoFar (first many : ℕ) (old now : X) (sizes : List ℕ) : Type 0 where
     pub more : List ℕ
     pub length_is : length more ≡ many
     pub took : Took g old now more
     pub fit : AllByRecursion IsWord more
-    pub sizes_are : sizes ≡ take (first % 2 ^ 32 + 1) (behind first more)
+    pub sizes_are : sizes ≡ take (first % 2 ^ 32 + 1) (after first more)
 
   -- one more word
   pub table_more : (first many : ℕ) (old now new : X) (sizes longer : List ℕ) (word : ℕ) → word < 2 ^ 64 → many < (first % 2 ^ 32 + 1) / 2
@@ -34,19 +34,19 @@ module _ {X : Type 0} (g : source.Ghosts X) where
     took = took_more g old now new t.more (word ∷ []) (t.more ++ word ∷ []) refl t.took takes reads usable;
     fit = all_append IsWord t.more (word ∷ []) t.fit (w, tt);
     sizes_are =
-        let short : sizes ≡ behind first t.more = t.sizes_are
-        ∙ take_all (first % 2 ^ 32 + 1) (behind first t.more) (omega (arith, length_behind first t.more, t.length_is)) in
-        let longer_is : sizes ++ halves word ≡ behind first (t.more ++ word ∷ []) = ap (λ (ns : List ℕ). ns ++ halves word) short
+        let short : sizes ≡ after first t.more = t.sizes_are
+        ∙ take_all (first % 2 ^ 32 + 1) (after first t.more) (omega (arith, length_after first t.more, t.length_is)) in
+        let longer_is : sizes ++ halves word ≡ after first (t.more ++ word ∷ []) = ap (λ (ns : List ℕ). ns ++ halves word) short
         ∙ ap (λ (ns : List ℕ). first / 2 ^ 32 ∷ ns) (sym (flat_map-append halves t.more (word ∷ []))) in
         e ∙ ap (take (first % 2 ^ 32 + 1)) longer_is;
   }
 
-  -- there is room for one more number at least
-  pub table_room : (first many : ℕ) (old now : X) (sizes : List ℕ) → many < (first % 2 ^ 32 + 1) / 2 → TableSoFar first many old now sizes
+  -- there is capacity for one more number at least
+  pub table_capacity : (first many : ℕ) (old now : X) (sizes : List ℕ) → many < (first % 2 ^ 32 + 1) / 2 → TableSoFar first many old now sizes
       → length sizes < first % 2 ^ 32 + 1
-  table_room first many old now sizes h t =
-      let l = length_behind first t.more in
-      let k = length-take (first % 2 ^ 32 + 1) (behind first t.more) in
+  table_capacity first many old now sizes h t =
+      let l = length_after first t.more in
+      let k = length-take (first % 2 ^ 32 + 1) (after first t.more) in
       let e = ap length t.sizes_are in
       omega (arith, t.length_is)
 

@@ -75,11 +75,11 @@ module _ {X : Type 0} (g : source.Ghosts X) where
   pub breaks_later : (old mid new : X) → IsUsable g old mid → Breaks g mid new → Breaks g old new
   breaks_later old mid new a b = record {
     fails = record { usable = a.usable; failed = b.fails.failed ∙ ap (λ n. n + 1) a.none_failed };
-    spent = b.spent;
+    broken = b.broken;
     failed = b.failed;
   }
 
-  -- the source stopped where n words were wanted after these
+  -- the source stopped where n words were needed after these
   pub stops_later : (old mid new : X) (taken : List ℕ) (n : ℕ) (fault : SourceFault) → Takes g old mid taken → IsUsable g old mid → Stops g n mid new fault
       → Stops g (length taken + n) old new fault
   stops_later old mid new taken n (Truncated byte) t a s = record {
@@ -92,9 +92,9 @@ module _ {X : Type 0} (g : source.Ghosts X) where
     how = over_both g (g.words old) (g.words mid) taken (g.is_cut old) (g.is_cut mid) new _ t.consumed t.goes_on s.how;
   }
   stops_later old mid new taken n Device t a s = breaks_later old mid new a s
-  stops_later old mid new taken n Spent t a s = absurd (let e = s.was_spent.spent in let f = a.still in cc)
+  stops_later old mid new taken n Spent t a s = absurd (let e = s.was_broken.broken in let f = a.still in cc)
 
-  -- more words were wanted
+  -- more words were needed
   pub stops_weaker : (old new : X) (m n : ℕ) (fault : SourceFault) → m ≤ n → Stops g m old new fault → Stops g n old new fault
   stops_weaker old new m n (Truncated byte) h s = record {
     short = short_weaker (g.words old) m n (g.places old) byte h s.short;
@@ -114,7 +114,7 @@ module _ {X : Type 0} (g : source.Ghosts X) where
     pub usable : IsUsable g old now
 
   -- none yet
-  pub took_none : (s : X) → g.spent s ≡ false → Took s s []
+  pub took_none : (s : X) → g.broken s ≡ false → Took s s []
   took_none s u = record { takes = takes_none s; reads = reads_none s; usable = record { usable = u; still = u; none_failed = refl } }
 
   -- and then others

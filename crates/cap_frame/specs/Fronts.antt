@@ -3,7 +3,7 @@
 use Rattle.std.specs.Prelude.{List, [], drop, flat_map, length, sum, take, ℕ, ◌%◌, ◌*◌, ◌++◌, ◌+◌, ◌/◌, ◌<◌, ◌^◌, ◌∷◌}
 use Rattle.std.specs.Prelude.{◌≡◌, ◌≤◌}
 use Rattle.cap_spec.specs.Frames.{IsTable, halves}
-use Rattle.cap_spec.specs.SpecNames.{TellsTooMany, TellsTooMuch, Frames, sizes_of, plain_words}
+use Rattle.cap_spec.specs.SpecNames.{GivesTooMany, GivesTooMuch, Frames, sizes_of, plain_words}
 
 -- The first n bytes are a frame of this message, which is within the limit.
 pub record IsFront (limit : ℕ) (bytes : List ℕ) (m : List (List ℕ)) (n : ℕ) : Type 0 where
@@ -15,29 +15,29 @@ pub record IsFront (limit : ℕ) (bytes : List ℕ) (m : List (List ℕ)) (n : �
   pub long : n ≡ 8 * length own
 
 -- The first word gives `count` segments, more than 512.
-abbrev pub TellsMany : List ℕ → ℕ → Type 0
-TellsMany bytes count = (t : TellsTooMany (plain_words bytes)) × (count ≡ t.first % 2 ^ 32 + 1)
+abbrev pub GivesMany : List ℕ → ℕ → Type 0
+GivesMany bytes count = (t : GivesTooMany (plain_words bytes)) × (count ≡ t.first % 2 ^ 32 + 1)
 
 -- The bytes begin with a table of at most 512 segments, whose sizes sum to `total` words, more than
 -- the limit.
-abbrev pub TellsLarge : ℕ → List ℕ → ℕ → Type 0
-TellsLarge limit bytes total = (t : TellsTooMuch limit (plain_words bytes)) × (total ≡ sum t.sizes)
+abbrev pub GivesLarge : ℕ → List ℕ → ℕ → Type 0
+GivesLarge limit bytes total = (t : GivesTooMuch limit (plain_words bytes)) × (total ≡ sum t.sizes)
 
 -- how many words the table of `count` segments has
 abbrev pub table_words : ℕ → ℕ
 table_words count = count / 2 + 1
 
 -- Of words that end inside a frame: how many bytes there must be to learn more.
-pub data Wants (words : List ℕ) (n : ℕ) : Type 0 where
+pub data Needs (words : List ℕ) (n : ℕ) : Type 0 where
   -- those of the first word
-  a_word : words ≡ [] → n ≡ 8 → Wants words n
+  a_word : words ≡ [] → n ≡ 8 → Needs words n
   -- those of the table
   a_table : (first : ℕ) (rest : List ℕ) → words ≡ first ∷ rest → length rest < (first % 2 ^ 32 + 1) / 2
-      → n ≡ 8 * table_words (first % 2 ^ 32 + 1) → Wants words n
+      → n ≡ 8 * table_words (first % 2 ^ 32 + 1) → Needs words n
   -- those of the whole frame
   a_frame : (table sizes rest : List ℕ) → words ≡ table ++ rest → IsTable table sizes
-      → n ≡ 8 * (length table + sum sizes) → Wants words n
+      → n ≡ 8 * (length table + sum sizes) → Needs words n
 
 -- the sizes of `count` segments, from the table at the start of the words
-abbrev pub sizes_told : ℕ → List ℕ → List ℕ
-sizes_told count words = take count (drop 1 (flat_map halves words))
+abbrev pub sizes_given : ℕ → List ℕ → List ℕ
+sizes_given count words = take count (drop 1 (flat_map halves words))

@@ -11,17 +11,17 @@ abbrev pub held_segments : ByteMessage → List (List ℕ)
 held_segments m = cut m.sizes.items m.bytes.items
 
 -- the capacity of its buffer, in bytes
-abbrev pub room_in : ByteMessage → ℕ
-room_in m = vec_capacity m.bytes
+abbrev pub capacity_in : ByteMessage → ℕ
+capacity_in m = vec_capacity m.bytes
 
 -- The capacity of a buffer that a message was read into, before and after. It stays where the
 -- contents weren't begun, and a buffer for which there is no memory is freed.
-abbrev pub LeavesRoom : Result Bool FrameFault → ℕ → ℕ → Type 0
-LeavesRoom (Ok true) old new = ⊤
-LeavesRoom (Ok false) old new = new ≡ old
-LeavesRoom (Err (TooManySegments count)) old new = new ≡ old
-LeavesRoom (Err (TooLarge words)) old new = new ≡ old
-LeavesRoom (Err (Truncated byte)) old new = ⊤
-LeavesRoom (Err Device) old new = ⊤
-LeavesRoom (Err Memory) old new = new ≡ 0
-LeavesRoom (Err Spent) old new = ⊤
+abbrev pub LeavesCapacity : Result Bool FrameFault → ℕ → ℕ → Type 0
+LeavesCapacity (Ok true) old new = ⊤
+LeavesCapacity (Ok false) old new = new ≡ old
+LeavesCapacity (Err (TooManySegments count)) old new = new ≡ old
+LeavesCapacity (Err (TooLarge words)) old new = new ≡ old
+LeavesCapacity (Err (Truncated byte)) old new = ⊤
+LeavesCapacity (Err Device) old new = ⊤
+LeavesCapacity (Err Memory) old new = new ≡ 0
+LeavesCapacity (Err Spent) old new = ⊤

@@ -5,7 +5,7 @@ pub mod ReadingFaults
 pub mod TablesLeft
 pub mod TableSteps
 pub mod Reading
-pub mod Rooms
+pub mod Buffers
 pub mod Putting
 pub mod Numbers
 pub mod Bytes

@@ -2,7 +2,7 @@
 -- members of the source's type.
 use Rattle.std.specs.Prelude.{Bool, Err, IfErr, IsOkAnd, IsSomeAnd, List, None, Ok, OnOk, OnSome, Option, Result, Some}
 use Rattle.std.specs.Prelude.{[], drop, false, length, sum, true, ℕ, ◌%◌, ◌*◌, ◌+◌, ◌<◌, ◌^◌, ◌∷◌, ◌≡◌, ◌≤◌}
-use Rattle.cap_spec.specs.Endings.{BeginsMessage, TellsTooMany, TellsTooMuch}
+use Rattle.cap_spec.specs.Endings.{BeginsMessage, GivesTooMany, GivesTooMuch}
 use Rattle.cap_spec.specs.Frames.{Frames, IsPartial, sizes_of}
 use Rattle.cap_frame.specs.ReadingFaults.{Answered, Faults, TakesTable}
 use Rattle.cap_frame.specs.Taking.{IsUsable, ReadsInput, Takes}
@@ -44,7 +44,7 @@ module _ {X : Type 0} (g : source.Ghosts X) where
     pub ended : result ≡ Ok false → g.ended new ≡ true
     pub stays : g.ended old ≡ true → (result ≡ Ok false) × (new ≡ old)
     pub for_good : g.failed old ≡ true → (result ≡ Err Spent) × (new ≡ old)
-    pub spent : g.spent old ≡ true → result ≡ Err Spent
+    pub broken : g.broken old ≡ true → result ≡ Err Spent
     -- Whatever the result is, the place counts the bytes that were read.
     pub reads : ReadsInput g old new
     -- Which words were taken before the fault, and the state of the source after it.
@@ -61,10 +61,10 @@ module _ {X : Type 0} (g : source.Ghosts X) where
     -- They end before the first one.
     pub no_word : g.words old ≡ Some [] → g.is_cut old ≡ false → Answered result (result ≡ Ok false)
     -- The first word gives too many segments.
-    pub many : (ws : List ℕ) → g.words old ≡ Some ws → (b : TellsTooMany ws)
+    pub many : (ws : List ℕ) → g.words old ≡ Some ws → (b : GivesTooMany ws)
         → Answered result ((result ≡ Err (TooManySegments (b.first % 2 ^ 32 + 1))) × (g.words new ≡ Some b.rest))
     -- The table is whole and past the limit.
-    pub large : (ws : List ℕ) → g.words old ≡ Some ws → (b : TellsTooMuch limit ws)
+    pub large : (ws : List ℕ) → g.words old ≡ Some ws → (b : GivesTooMuch limit ws)
         → Answered result ((result ≡ Err (TooLarge (sum b.sizes))) × (g.words new ≡ Some b.rest))
     -- They end inside a message.
     pub cut_short : (ws : List ℕ) → g.words old ≡ Some ws → IsPartial limit ws (g.is_cut old)

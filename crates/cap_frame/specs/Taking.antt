@@ -1,7 +1,7 @@
 -- What taking words from a source does to it (profile). g has the members of its type.
 use Rattle.std.specs.Io.KnownBytes.{Keeps}
 use Rattle.std.specs.Prelude.{Bool, IfSome, List, OnSome, [], drop, false, length, true, ℕ, ◌<◌, ◌∷◌, ◌≡◌, ◌⊎◌}
-use Rattle.cap_words.specs.Ends.{Fails, WasSpent, Works}
+use Rattle.cap_words.specs.Ends.{Fails, WasBroken, Works}
 use Rattle.cap_words.specs.TakingMany.{ReadsBytes, TakesWords}
 use Rattle.cap_words.specs.declared.sources.SourceFault.{SourceFault}
 use Rattle.cap_words.specs.declared.sources.SourceFault.TheVariants.{Device, Spent, Truncated}
@@ -18,7 +18,7 @@ module _ {X : Type 0} (g : source.Ghosts X) where
 
   -- there was no error: no error has closed it, before or now
   abbrev pub IsUsable : X → X → Type 0
-  IsUsable old new = Works (g.spent old) (g.spent new) (g.failures old) (g.failures new)
+  IsUsable old new = Works (g.broken old) (g.broken new) (g.failures old) (g.failures new)
 
   -- It has failed where the input ended inside a word, and else it has ended.
   abbrev pub IsOver : Bool → X → Type 0
@@ -29,20 +29,20 @@ module _ {X : Type 0} (g : source.Ghosts X) where
   pub record EndsAfter (P : List ℕ → Type 0) (old new : X) (byte : ℕ) : Type 0 where
     pub short : IfSome (g.words old) (λ ws. P ws × (drop (length ws) (g.places old) ≡ byte ∷ []))
     pub place : byte ≡ g.place new
-    pub usable : g.spent old ≡ false
+    pub usable : g.broken old ≡ false
     pub none_failed : g.failures new ≡ g.failures old
     pub over : (g.ended new ≡ true) ⊎ (g.failed new ≡ true)
     pub how : OnSome (g.words old) (IsOver (g.is_cut old) new)
 
   -- Its device failed.
   pub record Breaks (old new : X) : Type 0 where
-    pub fails : Fails (g.spent old) (g.failures old) (g.failures new)
-    pub spent : g.spent new ≡ true
+    pub fails : Fails (g.broken old) (g.failures old) (g.failures new)
+    pub broken : g.broken new ≡ true
     pub failed : g.failed new ≡ true
 
   -- An earlier fault had ended it.
   pub record Refuses (old new : X) : Type 0 where
-    pub was_spent : WasSpent (g.spent old) (g.spent new) (g.failures old) (g.failures new)
+    pub was_broken : WasBroken (g.broken old) (g.broken new) (g.failures old) (g.failures new)
     pub failed : g.failed new ≡ true
     pub place : g.place new ≡ g.place old
     pub unread : Keeps (g.unread old) (g.unread new)

@@ -1,7 +1,7 @@
 //! Reading messages into one buffer.
 
 ghost use Rattle.cap_frame.specs.Bytes.{cut};
-ghost use Rattle.cap_frame.specs.HeldBytes.{LeavesRoom, held_segments, room_in};
+ghost use Rattle.cap_frame.specs.HeldBytes.{LeavesCapacity, held_segments, capacity_in};
 ghost use Rattle.cap_frame.specs.Limit.{limit_of};
 ghost use Rattle.cap_frame.specs.Reading.{IsResult, LacksMemory, ReadsFrame, has_message};
 ghost use Rattle.cap_frame.specs.TableSteps.{LeavesSizes};
@@ -36,7 +36,7 @@ fn read_parts<S: WordSource>(
     ensures inside { result ≡ Ok true → 8 * sum sizes.new.items ≤ vec_len bytes.new }
     ensures memory { IsErrOf result FrameFault.Memory → LacksMemory S.WordSource (limit_of limit)
         (vec_capacity bytes.old) source.old source.new }
-    ensures room { LeavesRoom result (vec_capacity bytes.old) (vec_capacity bytes.new) }
+    ensures fits { LeavesCapacity result (vec_capacity bytes.old) (vec_capacity bytes.new) }
     ensures left { IfErr result (λ fault. IfSome (S.words source.old) (λ ws.
         LeavesSizes fault ws sizes.new.items)) }
 {
@@ -47,7 +47,7 @@ fn read_parts<S: WordSource>(
         Err(fault) => return Err(fault),
     }
     let words = total(sizes) as usize;
-    let Ok(()) = make_room(alloc, bytes, 8 * words) else {
+    let Ok(()) = make_space(alloc, bytes, 8 * words) else {
         return Err(FrameFault::Memory);
     };
     match read_bytes(source, words, bytes) {
@@ -79,9 +79,9 @@ pub fn read_into<S: WordSource>(
         source.old source.new result }
     // The capacity was less than the words of the table need.
     ensures memory { IsErrOf result FrameFault.Memory → LacksMemory S.WordSource (limit_of limit)
-        (room_in message.old) source.old source.new }
+        (capacity_in message.old) source.old source.new }
     // Nothing was allocated for a message past a limit.
-    ensures room { LeavesRoom result (room_in message.old) (room_in message.new) }
+    ensures fits { LeavesCapacity result (capacity_in message.old) (capacity_in message.new) }
     ensures blank { (result ≡ Ok true → ⊥) → held_segments message.new ≡ [] ∷ [] }
 {
     let ByteMessage {
@@ -125,9 +125,9 @@ pub fn read_noting<S: WordSource>(
         source.old source.new result }
     // The capacity was less than the words of the table need.
     ensures memory { IsErrOf result FrameFault.Memory → LacksMemory S.WordSource (limit_of limit)
-        (room_in message.old) source.old source.new }
+        (capacity_in message.old) source.old source.new }
     // Nothing was allocated for a message past a limit.
-    ensures room { LeavesRoom result (room_in message.old) (room_in message.new) }
+    ensures fits { LeavesCapacity result (capacity_in message.old) (capacity_in message.new) }
     ensures blank { (result ≡ Ok true → ⊥) → held_segments message.new ≡ [] ∷ [] }
     ensures table { IfErr result (λ fault. LeavesTable fault (S.words source.old) table.new) }
     ensures same { OnOk result (table.new ≡ table.old) }
@@ -208,7 +208,7 @@ const FEW: usize = 64;
 
 /// Makes sure that a buffer has capacity for `need` bytes. If it hasn't, it is freed before another
 /// is allocated, so that its contents are neither moved nor kept beside the new buffer.
-pub(crate) fn make_room(alloc: Global, bytes: &mut Vec<u8>, need: usize) -> Result<(), AllocError>
+pub(crate) fn make_space(alloc: Global, bytes: &mut Vec<u8>, need: usize) -> Result<(), AllocError>
     ensures ok { OnOk result (need ≤ vec_capacity bytes.new) }
     ensures refused { OnErr result (vec_capacity bytes.old < need) }
     ensures freed { OnErr result (vec_capacity bytes.new ≡ 0) }
@@ -223,7 +223,7 @@ pub(crate) fn make_room(alloc: Global, bytes: &mut Vec<u8>, need: usize) -> Resu
 // Makes a buffer at least `end` bytes long, within its capacity.
 #[inline(always)]
 fn lengthen(bytes: &mut Vec<u8>, end: usize)
-    requires room { end ≤ vec_capacity bytes.old }
+    requires fits { end ≤ vec_capacity bytes.old }
     ensures kept { (more : List ℕ) × (bytes.new.items ≡ bytes.old.items ++ more) }
     ensures long { (end ≤ vec_len bytes.new) × (vec_len bytes.old ≤ vec_len bytes.new) }
     ensures capacity { vec_capacity bytes.old ≤ vec_capacity bytes.new }
@@ -247,7 +247,7 @@ fn read_piece<S: WordSource>(
     requires whole { (start % 8 ≡ 0) × (end % 8 ≡ 0) }
     requires some { start < end }
     requires begun { start ≤ vec_len bytes.old }
-    requires room { end ≤ vec_capacity bytes.old }
+    requires fits { end ≤ vec_capacity bytes.old }
     ensures ok { OnOk result ((piece : List ℕ)
         × (take end bytes.new.items ≡ take start bytes.old.items ++ piece)
         × (length piece ≡ end - start)
@@ -270,7 +270,7 @@ fn read_piece<S: WordSource>(
 
 // How much of a fresh buffer is initialized after a run of literal words that was appended.
 #[inline(always)]
-fn piece_behind(run: usize) -> usize
+fn piece_after(run: usize) -> usize
     ensures { (result % 8 ≡ 0) × (0 < result) }
 {
     if run > FEW { FEW } else { PIECE }
@@ -283,7 +283,7 @@ fn append_run<S: WordSource>(source: &mut S, bytes: &mut Vec<u8>, done: usize, n
     requires whole { done % 8 ≡ 0 }
     requires begun { done ≤ vec_len bytes.old }
     requires within { done ≤ need }
-    requires usable { S.spent source.old ≡ false }
+    requires usable { S.broken source.old ≡ false }
     ensures ok { (piece : List ℕ)
         × (take (done + result) bytes.new.items ≡ take done bytes.old.items ++ piece)
         × (length piece ≡ result) × Takes S.WordSource source.old source.new (plain_words piece) }
@@ -310,9 +310,9 @@ pub(crate) fn read_bytes<S: WordSource>(
     words: usize,
     bytes: &mut Vec<u8>,
 ) -> Result<(), SourceFault>
-    requires usable { S.spent source.old ≡ false }
+    requires usable { S.broken source.old ≡ false }
     requires small { words ≤ most_words }
-    requires room { 8 * words ≤ vec_capacity bytes.old }
+    requires fits { 8 * words ≤ vec_capacity bytes.old }
     ensures ok { OnOk result (Takes S.WordSource source.old source.new
         (plain_words (take (8 * words) bytes.new.items))) }
     ensures within { OnOk result (8 * words ≤ vec_len bytes.new) }
@@ -326,7 +326,7 @@ pub(crate) fn read_bytes<S: WordSource>(
     'pieces: while done < need {
         // whole words, since an earlier message may have left any number of bytes
         let held = need.min(bytes.len() / 8 * 8);
-        let end = held.max(done + piece_behind(run).min(need - done));
+        let end = held.max(done + piece_after(run).min(need - done));
         match read_piece(source, bytes, done, end) {
             Ok(()) => {}
             Err(fault) => return Err(fault),

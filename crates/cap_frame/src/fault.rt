@@ -63,9 +63,9 @@ pub enum FrontFault {
     TooManySegments { count: u64 },
     /// The table's sizes sum to `words` words, more than the limit.
     TooLarge { words: u64 },
-    /// The bytes end inside the message. To learn more, there must be `wanted` bytes: 8, then those
+    /// The bytes end inside the message. To learn more, there must be `needed` bytes: 8, then those
     /// of the table, then those of the whole frame.
-    Truncated { wanted: u64 },
+    Truncated { needed: u64 },
 }
 
 /// What a fault of the source is to the reading of a message.

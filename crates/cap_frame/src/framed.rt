@@ -1,7 +1,7 @@
 //! A framed message at the start of borrowed bytes.
 
 ghost use Rattle.cap_frame.specs.Bytes.{starts_of};
-ghost use Rattle.cap_frame.specs.Fronts.{sizes_told, table_words};
+ghost use Rattle.cap_frame.specs.Fronts.{sizes_given, table_words};
 ghost use Rattle.cap_spec.specs.Frames.{sizes_of};
 ghost use Rattle.cap_spec.specs.GreatestLimits.{most_words};
 ghost use Rattle.cap_spec.specs.Plain.{plain_words};
@@ -25,7 +25,7 @@ pub struct Framed<'b> {
     pub(crate) words: u64,
     ghost some: { 1 ≤ count },
     ghost few: { count ≤ 512 },
-    ghost total: { words ≡ sum (sizes_told count (plain_words bytes.now)) },
+    ghost total: { words ≡ sum (sizes_given count (plain_words bytes.now)) },
     ghost small: { words ≤ most_words },
     ghost inside: { 8 * (table_words count + words) ≤ length bytes.now },
 }
@@ -73,8 +73,8 @@ impl<'b> Framed<'b> {
         ensures { ⟦<ByteView<'b> as Segments>⟧.segments result ≡ framed_segments self.now }
     {
         self.fill(tables);
-        let behind = &self.bytes[8 * (self.count as usize / 2 + 1)..];
-        ByteView::over(behind, &tables.starts, &tables.sizes)
+        let after = &self.bytes[8 * (self.count as usize / 2 + 1)..];
+        ByteView::over(after, &tables.starts, &tables.sizes)
     }
 
     /// The message as its one segment, whose size is put into `size`, or `None` if it has more.
@@ -96,7 +96,7 @@ impl<'b> Framed<'b> {
 fn fill_sizes(bytes: &[u8], count: u32, sizes: &mut Sizes)
     requires few { count ≤ 512 }
     requires inside { 8 * table_words count ≤ length bytes.now }
-    ensures { sizes.new.items ≡ sizes_told count (plain_words bytes.now) }
+    ensures { sizes.new.items ≡ sizes_given count (plain_words bytes.now) }
 {
     sizes.clear();
     'sizes: for s in 0..count as usize {

@@ -1,7 +1,7 @@
 //! Finding a framed message at the start of bytes.
 
-ghost use Rattle.cap_frame.specs.Framed.{DecidesFront, TellsFront};
-ghost use Rattle.cap_frame.specs.Fronts.{sizes_told, table_words};
+ghost use Rattle.cap_frame.specs.Framed.{DecidesFront, ReportsFront};
+ghost use Rattle.cap_frame.specs.Fronts.{sizes_given, table_words};
 ghost use Rattle.cap_frame.specs.Limit.{limit_of};
 ghost use Rattle.cap_spec.specs.Plain.{plain_words};
 ghost use Rattle.std.specs.Prelude.{◌*◌, ◌≡◌, ◌≤◌, length, sum};
@@ -11,10 +11,10 @@ use crate::framed::Framed;
 use byteorder::{ByteOrder, LittleEndian};
 
 // How many words `count` segments have together, by the table at the start of bytes.
-fn total_told(bytes: &[u8], count: u32) -> u64
+fn total_given(bytes: &[u8], count: u32) -> u64
     requires few { count ≤ 512 }
     requires inside { 8 * table_words count ≤ length bytes.now }
-    ensures { result ≡ sum (sizes_told count (plain_words bytes.now)) }
+    ensures { result ≡ sum (sizes_given count (plain_words bytes.now)) }
 {
     let mut words = 0u64;
     'sizes: for s in 0..count as usize {
@@ -25,13 +25,13 @@ fn total_told(bytes: &[u8], count: u32) -> u64
 
 // Reads the table at the start of bytes, and looks whether its message is whole.
 fn read_front(bytes: &[u8], limit: SizeLimit) -> Result<Option<Framed<'_>>, FrontFault>
-    ensures { TellsFront (limit_of limit) bytes.now result }
+    ensures { ReportsFront (limit_of limit) bytes.now result }
 {
     if bytes.is_empty() {
         return Ok(None);
     }
     if bytes.len() < 8 {
-        return Err(FrontFault::Truncated { wanted: 8 });
+        return Err(FrontFault::Truncated { needed: 8 });
     }
     let last = LittleEndian::read_u32(bytes);
     if last >= 512 {
@@ -42,15 +42,15 @@ fn read_front(bytes: &[u8], limit: SizeLimit) -> Result<Option<Framed<'_>>, Fron
     let count = last + 1;
     let table = 8 * (u64::from(count) / 2 + 1);
     if (bytes.len() as u64) < table {
-        return Err(FrontFault::Truncated { wanted: table });
+        return Err(FrontFault::Truncated { needed: table });
     }
-    let words = total_told(bytes, count);
+    let words = total_given(bytes, count);
     if words > limit.words() {
         return Err(FrontFault::TooLarge { words });
     }
-    let wanted = table + 8 * words;
-    if (bytes.len() as u64) < wanted {
-        return Err(FrontFault::Truncated { wanted });
+    let needed = table + 8 * words;
+    if (bytes.len() as u64) < needed {
+        return Err(FrontFault::Truncated { needed });
     }
     Ok(Some(Framed {
         bytes,
@@ -72,7 +72,7 @@ fn read_front(bytes: &[u8], limit: SizeLimit) -> Result<Option<Framed<'_>>, Fron
 /// - [`FrontFault::TooLarge`]: the sizes sum to more words than the limit.
 /// - [`FrontFault::Truncated`]: the contents aren't whole.
 pub fn front_of(bytes: &[u8], limit: SizeLimit) -> Result<Option<Framed<'_>>, FrontFault>
-    ensures tells { TellsFront (limit_of limit) bytes.now result }
+    ensures reports { ReportsFront (limit_of limit) bytes.now result }
     ensures decides { DecidesFront (limit_of limit) bytes.now result }
 {
     read_front(bytes, limit)

@@ -6,7 +6,7 @@ ghost use Rattle.cap_frame.specs.Reading.{IsResult, ReadsFrame, has_message};
 use crate::fault::{FrameFault, SizeLimit, frame_fault};
 use crate::message::WordMessage;
 use crate::segments::Segments;
-use crate::table::{Sizes, next_table, read_contents, rooms};
+use crate::table::{Sizes, buffers, next_table, read_contents};
 use cap_words::WordSource;
 use std::alloc::Global;
 
@@ -45,7 +45,7 @@ pub fn read_message<S: WordSource>(
         Ok(false) => return Ok(None),
         Err(fault) => return Err(fault),
     }
-    let Ok(mut segments) = rooms(alloc, &sizes) else {
+    let Ok(mut segments) = buffers(alloc, &sizes) else {
         return Err(FrameFault::Memory);
     };
     if let Err(fault) = read_contents(source, &sizes, &mut segments) {

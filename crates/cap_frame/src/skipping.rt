@@ -11,20 +11,20 @@ use cap_words::{SourceFault, WordSource};
 // How many bytes of words are skipped at once.
 const AT_ONCE: usize = 512;
 
-// Takes the buffered words, as many as `room` holds, or the next word if none is buffered. Returns
+// Takes the buffered words, as many as `buffer` holds, or the next word if none is buffered. Returns
 // how many.
 #[inline(always)]
-fn skip_some<S: WordSource>(source: &mut S, room: &mut [u8]) -> Result<u64, SourceFault>
-    requires usable { S.spent source.old ≡ false }
-    requires room { 8 ≤ length room.old }
-    ensures some { IfOk result (λ n. (1 ≤ n) × (8 * n ≤ length room.old)) }
+fn skip_some<S: WordSource>(source: &mut S, buffer: &mut [u8]) -> Result<u64, SourceFault>
+    requires usable { S.broken source.old ≡ false }
+    requires fits { 8 ≤ length buffer.old }
+    ensures some { IfOk result (λ n. (1 ≤ n) × (8 * n ≤ length buffer.old)) }
     ensures ok { IfOk result (λ n. (own : List ℕ)
         × Takes S.WordSource source.old source.new own × (length own ≡ n)) }
     ensures works { OnOk result (IsUsable S.WordSource source.old source.new) }
     ensures reads { ReadsInput S.WordSource source.old source.new }
     ensures err { IfErr result (Stops S.WordSource 1 source.old source.new) }
 {
-    let count = source.ready(room);
+    let count = source.ready(buffer);
     if count > 0 {
         return Ok(count as u64 / 8);
     }
@@ -36,18 +36,18 @@ fn skip_some<S: WordSource>(source: &mut S, room: &mut [u8]) -> Result<u64, Sour
 
 /// Reads `many` words, and keeps none.
 pub(crate) fn skip_words<S: WordSource>(source: &mut S, many: u64) -> Result<(), SourceFault>
-    requires usable { S.spent source.old ≡ false }
+    requires usable { S.broken source.old ≡ false }
     ensures ok { OnOk result ((own : List ℕ)
         × Takes S.WordSource source.old source.new own × (length own ≡ many)) }
     ensures works { OnOk result (IsUsable S.WordSource source.old source.new) }
     ensures reads { ReadsInput S.WordSource source.old source.new }
     ensures err { IfErr result (Stops S.WordSource many source.old source.new) }
 {
-    let mut room = [0; AT_ONCE];
+    let mut buffer = [0; AT_ONCE];
     let mut done = 0;
     'words: while done < many {
         let most = (many - done).min(AT_ONCE as u64 / 8) as usize;
-        match skip_some(source, &mut room[..8 * most]) {
+        match skip_some(source, &mut buffer[..8 * most]) {
             Ok(count) => done += count,
             Err(fault) => return Err(fault),
         }
@@ -61,7 +61,7 @@ pub(crate) fn skip_contents<S: WordSource>(
     source: &mut S,
     sizes: &[u32],
 ) -> Result<Option<u64>, SourceFault>
-    requires usable { S.spent source.old ≡ false }
+    requires usable { S.broken source.old ≡ false }
     requires some { 1 ≤ length sizes.now }
     requires few { length sizes.now ≤ 512 }
     ensures ok { IfOk result (λ root. (m : List (List ℕ))

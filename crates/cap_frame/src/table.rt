@@ -4,7 +4,7 @@ ghost use Rattle.arrayvec.specs.ArrayVec.{array_vec_len};
 ghost use Rattle.cap_frame.specs.Limit.{limit_of};
 ghost use Rattle.cap_frame.specs.Reading.{ReadsNext};
 ghost use Rattle.cap_frame.specs.ReadingFaults.{TakesTable};
-ghost use Rattle.cap_frame.specs.Rooms.{AreRooms};
+ghost use Rattle.cap_frame.specs.Buffers.{AreBuffers};
 ghost use Rattle.cap_frame.specs.TableSteps.{LeavesSizes, sums_after};
 ghost use Rattle.cap_frame.specs.TablesLeft.{sums_of};
 ghost use Rattle.cap_frame.specs.Taking.{IsUsable, ReadsInput, Stops, Takes};
@@ -48,7 +48,7 @@ fn high_half(word: u64) -> u32
 // Appends the numbers of a word, as far as there are sizes to come. What is left over is padding.
 fn push_halves(sizes: &mut Sizes, count: usize, word: u64)
     requires few { count ≤ 512 }
-    requires room { array_vec_len sizes.old < count }
+    requires fits { array_vec_len sizes.old < count }
     ensures { sizes.new.items ≡ take count (sizes.old.items ++ halves word) }
 {
     sizes.push(low_half(word));
@@ -65,7 +65,7 @@ fn read_sizes<S: WordSource>(
     sizes: &mut Sizes,
 ) -> Result<(), SourceFault>
     requires few { first % 2 ^ 32 < 512 }
-    requires usable { S.spent source.old ≡ false }
+    requires usable { S.broken source.old ≡ false }
     requires empty { sizes.old.items ≡ [] }
     ensures ok { OnOk result ((more : List ℕ) × Takes S.WordSource source.old source.new more
         × IsTable (first ∷ more) sizes.new.items) }
@@ -189,9 +189,9 @@ pub(crate) fn read_words<S: WordSource>(
     size: u32,
     words: &mut Vec<u64>,
 ) -> Result<(), SourceFault>
-    requires usable { S.spent source.old ≡ false }
+    requires usable { S.broken source.old ≡ false }
     requires empty { words.old.items ≡ [] }
-    requires room { size ≤ vec_capacity words.old }
+    requires fits { size ≤ vec_capacity words.old }
     ensures ok { OnOk result (Takes S.WordSource source.old source.new words.new.items) }
     ensures size { OnOk result (length words.new.items ≡ size) }
     ensures works { OnOk result (IsUsable S.WordSource source.old source.new) }
@@ -208,15 +208,15 @@ pub(crate) fn read_words<S: WordSource>(
 }
 
 /// Empty vectors with capacity for the words of segments of these sizes.
-pub(crate) fn rooms(alloc: Global, sizes: &[u32]) -> Result<Vec<Vec<u64>>, AllocError>
-    ensures { IfOk result (λ rooms. AreRooms (λ v. v.items) (λ v. vec_capacity v)
-        rooms.items sizes.now) }
+pub(crate) fn buffers(alloc: Global, sizes: &[u32]) -> Result<Vec<Vec<u64>>, AllocError>
+    ensures { IfOk result (λ buffers. AreBuffers (λ v. v.items) (λ v. vec_capacity v)
+        buffers.items sizes.now) }
 {
-    let mut rooms = Vec::with_capacity(alloc, sizes.len())?;
+    let mut buffers = Vec::with_capacity(alloc, sizes.len())?;
     'sizes: for size in sizes {
-        rooms.push(Vec::with_capacity(alloc, *size as usize)?)?;
+        buffers.push(Vec::with_capacity(alloc, *size as usize)?)?;
     }
-    Ok(rooms)
+    Ok(buffers)
 }
 
 /// Reads the words of all segments.
@@ -225,8 +225,8 @@ pub(crate) fn read_contents<S: WordSource>(
     sizes: &[u32],
     segments: &mut Vec<Vec<u64>>,
 ) -> Result<(), SourceFault>
-    requires usable { S.spent source.old ≡ false }
-    requires rooms { AreRooms (λ v. v.items) (λ v. vec_capacity v) segments.old.items sizes.now }
+    requires usable { S.broken source.old ≡ false }
+    requires buffers { AreBuffers (λ v. v.items) (λ v. vec_capacity v) segments.old.items sizes.now }
     ensures ok { OnOk result (Takes S.WordSource source.old source.new
         (joined (map (λ v. v.items) segments.new.items))) }
     ensures sizes { OnOk result (sizes_of (map (λ v. v.items) segments.new.items) ≡ sizes.now) }

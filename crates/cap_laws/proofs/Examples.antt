@@ -23,7 +23,7 @@ stream-two : Stream (0x100000000 ∷ 7 ∷ 0x100000000 ∷ 7 ∷ []) (((7 ∷ []
 stream-two = stream_cons (0x100000000 ∷ 7 ∷ []) (0x100000000 ∷ 7 ∷ []) ((7 ∷ []) ∷ []) (((7 ∷ []) ∷ []) ∷ []) frame-one
     (stream_cons (0x100000000 ∷ 7 ∷ []) [] ((7 ∷ []) ∷ []) [] frame-one stream_none)
 
--- a message within the limit, with a word behind it
+-- a message within the limit, with a word after it
 ends-message : EndsIn 1 (0x100000000 ∷ 7 ∷ 9 ∷ []) false message
 ends-message = search (rules, frame-one)
 
@@ -53,7 +53,7 @@ ends-in_contents = in_contents (0x100000000 ∷ []) (1 ∷ []) [] refl table-one
 unpacks-zeros : Unpacks (0 ∷ 3 ∷ []) (replicate 4 0)
 unpacks-zeros = unpacks_unless_cut (0 ∷ 3 ∷ []) ((omega arith), ((omega arith), tt)) refl
 
--- a run of zero words without its count, behind a word
+-- a run of zero words without its count, after a word
 cut-zeros : Cut (1 ∷ 9 ∷ 0 ∷ []) (9 ∷ [])
 cut-zeros = cut_if_cut (1 ∷ 9 ∷ 0 ∷ []) ((omega arith), ((omega arith), ((omega arith), tt))) refl
 

@@ -21,7 +21,7 @@ four_fit : (xs : List ℕ) → AllByRecursion (λ b. b < 256) (flat_map four_byt
 four_fit [] = tt
 four_fit (x ∷ xs) = all_append (λ b. b < 256) (four_bytes x) (flat_map four_bytes xs) (bytes_fit 0 4 x) (four_fit xs)
 
--- and tell the numbers
+-- and give the numbers
 four_back : (xs ys : List ℕ) → AllByRecursion (λ n. n < 2 ^ 32) xs → AllByRecursion (λ n. n < 2 ^ 32) ys
     → flat_map four_bytes xs ≡ flat_map four_bytes ys → xs ≡ ys
 four_back [] [] a b e = refl
@@ -29,14 +29,14 @@ four_back [] (y ∷ ys) a b e = absurd (cc)
 four_back (x ∷ xs) [] a b e = absurd (cc)
 four_back (x ∷ xs) (y ∷ ys) a b e = search (rules, little_number-reads_back, four_back xs ys a.1 b.1 (ap (drop 4) e))
 
--- Bytes as so many numbers of four bytes.
+-- Bytes as this many numbers of four bytes.
 record NumbersIn (bytes : List ℕ) (count : ℕ) : Type 0 where
   numbers : List ℕ
   many : length numbers ≡ count
   fit : AllByRecursion (λ n. n < 2 ^ 32) numbers
   text : flat_map four_bytes numbers ≡ bytes
 
--- so many bytes are so many numbers
+-- this many bytes are this many numbers
 numbers_in : (bytes : List ℕ) (count : ℕ) → AllByRecursion (λ b. b < 256) bytes → length bytes ≡ 4 * count
     → NumbersIn bytes count
 numbers_in [] count all l = record { numbers = []; many = omega arith; fit = tt; text = refl }
@@ -58,16 +58,16 @@ numbers_in (a ∷ b ∷ c ∷ d ∷ bytes) (suc count) all l =
       text = ap (λ k. k ++ flat_map four_bytes t.numbers) w ∙ ap (λ k. a ∷ b ∷ c ∷ d ∷ k) t.text;
     }
 
--- plain texts of words tell the words
-plain_tells : (a b : List ℕ) → AllByRecursion IsWord a → AllByRecursion IsWord b → plain_text a ≡ plain_text b → a ≡ b
-plain_tells a b p q e = sym (plain_reads a p) ∙ (ap plain_words e ∙ plain_reads b q)
+-- plain texts of words give the words
+plain_reports : (a b : List ℕ) → AllByRecursion IsWord a → AllByRecursion IsWord b → plain_text a ≡ plain_text b → a ≡ b
+plain_reports a b p q e = sym (plain_reads a p) ∙ (ap plain_words e ∙ plain_reads b q)
 
 -- the words of a message's segments are words
 joined_fit : (m : List (List ℕ)) → AllByRecursion (AllByRecursion IsWord) m → AllByRecursion IsWord (joined m)
 joined_fit [] all = tt
 joined_fit (s ∷ m) all = all_append IsWord s (joined m) all.0 (joined_fit m all.1)
 
--- the bytes of the numbers of a table, with so many padding numbers
+-- the bytes of the numbers of a table, with this many padding numbers
 number_bytes : (first : ℕ) (sizes padding : List ℕ)
     → flat_map four_bytes (first ∷ (sizes ++ padding))
     ≡ four_bytes first ++ (flat_map four_bytes sizes ++ flat_map four_bytes padding)
@@ -153,6 +153,6 @@ bytes_frame words m all contents_fit g =
             (halves_fit table table_fit)
             (first_fits, all_append (λ k. k < 2 ^ 32) (sizes_of m) pad.numbers g.fit pad.fit) numbers;
       };
-      whole = plain_tells words (table ++ joined m) all
+      whole = plain_reports words (table ++ joined m) all
           (all_append IsWord table (joined m) table_fit (joined_fit m contents_fit)) split;
     }

@@ -1,4 +1,4 @@
--- Steps of high numbers lead nowhere.
+-- Steps of high numbers lead to no node.
 use Rattle.cap_spec.proofs.Lemmas.{pointers_shape, struct_shape, structs_shape}
 use Rattle.cap_spec.proofs.ProofNames.{List, [], arith, inl, inr, subst, sym, ℕ, ◌<◌, ◌^◌, ◌∷◌, ◌≤◌, ⊤, PathLeads}
 use Rattle.cap_spec.proofs.ProofNames.{ReachesSpot, Spot, StepsTo, element, word, rules}

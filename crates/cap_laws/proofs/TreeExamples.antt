@@ -95,7 +95,7 @@ counts_two = (refl, refl)
 costs_two : CostOf two_pointers ([] ∷ (Ptr 0 ∷ []) ∷ (Ptr 1 ∷ []) ∷ []) 3
 costs_two = charge_is_cost two_pointers two_pointers_tree 3 2 denotes_two
 
--- the first capability stands at the second pointer
+-- the first capability is at the second pointer
 first_cap_two : (s w : ℕ) × IsFirstCap two_pointers s w
 first_cap_two = (first_cap two_pointers two_pointers_tree 3 2 denotes_two).0 refl
 

@@ -5,7 +5,7 @@ use Rattle.std.specs.Prelude.{◌≤◌}
 use Rattle.byteorder.specs.Endian.{little_bytes}
 use Rattle.cap_spec.specs.Endings.{BeginsMessage, Ending, EndsIn}
 use Rattle.cap_spec.specs.Frames.{joined}
-use Rattle.cap_spec.specs.SpecNames.{TellsTooMany, TellsTooMuch, Frames, IsPartial, sizes_of, plain_text, IsWord}
+use Rattle.cap_spec.specs.SpecNames.{GivesTooMany, GivesTooMuch, Frames, IsPartial, sizes_of, plain_text, IsWord}
 
 -- a number of four bytes, the lowest first
 abbrev pub four_bytes : ℕ → List ℕ
@@ -38,4 +38,4 @@ FramesByBytes = (words : List ℕ) (m : List (List ℕ)) → AllByRecursion IsWo
 abbrev pub PartialElse : Type 0
 PartialElse = (limit : ℕ) (words : List ℕ) (cut : Bool) → AllByRecursion IsWord words →
     IsPartial limit words cut
-    ↔ ((BeginsMessage limit words → ⊥) × (((words ≡ []) × (cut ≡ false)) → ⊥) × (TellsTooMany words → ⊥) × (TellsTooMuch limit words → ⊥))
+    ↔ ((BeginsMessage limit words → ⊥) × (((words ≡ []) × (cut ≡ false)) → ⊥) × (GivesTooMany words → ⊥) × (GivesTooMuch limit words → ⊥))

@@ -7,7 +7,7 @@ ghost use Rattle.cap_spec.specs.Tree.{Tree, node_at, pointer_count, cap_count, h
 ghost use Rattle.cap_spec.specs.Denoting.{Denotes};
 ghost use Rattle.cap_spec.specs.Paths.{Spot, StepsTo, PathLeads, ReachesSpot, Reaches, Before, Rises, IsTour, IsFirstCap, level_of, ReachesCap};
 ghost use Rattle.cap_spec.specs.Lists.{IsOneOf, AreDistinct};
-ghost use Rattle.cap_spec.specs.Standing.{DenotesAt};
+ghost use Rattle.cap_spec.specs.SpotTrees.{DenotesAt};
 ghost use Rattle.cap_spec.specs.PathTexts.{IsPath, IsBadAt, IsStep, path_text};
 ghost use Rattle.std.specs.List.{AllByRecursion};
 ghost use Rattle.cap_laws.specs.ReachingLaws.{ReachesSome};
@@ -40,7 +40,7 @@ pub fn last_step()
 
 /// From where a path comes to, no step to pointer 65,535 or a later one leads anywhere. No step to
 /// element 2^30 or a later one ever does.
-pub fn high_numbers_lead_nowhere()
+pub fn high_numbers_lead_to_no_node()
     ensures pointer { (m : List (List ℕ)) (path : List Step) (level i : ℕ) (a b : Spot) →
         ReachesSpot m path level a → 65535 ≤ i → ¬ StepsTo m a (Ptr i) b }
     ensures element { (m : List (List ℕ)) (a b : Spot) (i : ℕ) → 2 ^ 30 ≤ i → ¬ StepsTo m a (Item i) b }
@@ -114,6 +114,6 @@ pub fn one_path_text()
     ensures path { (xs ys : List Step) → AllByRecursion IsStep xs → AllByRecursion IsStep ys →
         path_text xs ≡ path_text ys → xs ≡ ys }
     ensures bad { (text : List ℕ) (at at' : ℕ) → IsBadAt text at → IsBadAt text at' → at ≡ at' }
-    ensures somewhere { (text : List ℕ) → ¬ IsPath text → ¬ ((at : ℕ) → ¬ IsBadAt text at) }
+    ensures at_some_place { (text : List ℕ) → ¬ IsPath text → ¬ ((at : ℕ) → ¬ IsBadAt text at) }
     ensures apart { (text : List ℕ) (at : ℕ) → IsPath text → ¬ IsBadAt text at }
 {}

@@ -13,7 +13,7 @@ branches_same : {A : Type 0} {b : Bool} (x : A) {y z : A} → (b ≡ false → y
 branches_same {b = true} x h = refl
 branches_same {b = false} x h = h refl
 
--- what is left behind some of the bytes is shorter
+-- what is left after some of the bytes is shorter
 left_shorter : (k f : ℕ) (bytes : List ℕ) → 0 < k → k ≤ length bytes → length bytes < suc f → length (drop k bytes) < f
 left_shorter k f bytes a b p = omega (arith, length-drop k bytes)
 
@@ -49,7 +49,7 @@ pub course_plain_stops : (n at : ℕ) (bs : List ℕ) → length bs < 8 → cour
 unfolding course course_in
 course_plain_stops n at bs l = cond-true _ _ _ (lt-ltb (length bs) 8 l)
 
--- a group behind its head
+-- a group after its head
 pub course_head : (at tag : ℕ) (bs ys : List ℕ) → length bs ≡ head_rest tag →
     course 0 at (tag ∷ bs ++ ys) ≡ gives (first_word tag bs) (capped (at + length (tag ∷ bs)))
     (zeros_then (zeros_of tag bs) (capped (at + length (tag ∷ bs))) (course (plain_of tag bs) (capped (at + length (tag ∷ bs))) ys))

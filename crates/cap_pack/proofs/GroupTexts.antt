@@ -1,4 +1,4 @@
--- The group in front of words that stand in bytes, and what is written of it.
+-- The group before words that are in bytes, and what is written of it.
 use Rattle.cap_spec.proofs.Lemmas.{all_drop, length_plain, words_exact, front-le}
 use Rattle.cap_spec.proofs.Packed.Packing.{group_size-marked, nonzero_word, pack_text-group, zero_run-append}
 use Rattle.cap_spec.proofs.ProofNames.{List, [], ap, append-nil, append_assoc, arith, drop, drop-drop, filter, get_or}
@@ -25,11 +25,11 @@ word_placed bs (suc k) l =
     ap (little_number 8) moved ∙ word_placed (drop 8 bs) k (omega (arith, l, length-drop 8 bs))
     ∙ sym (ap (λ ws. get_or ws (suc k) 0) (word_first bs (omega (arith, l))))
 
--- the first word, and those behind it
+-- the first word, and those after it
 pub words_first : (bs : List ℕ) → 8 ≤ length bs → plain_words bs ≡ get_or (plain_words bs) 0 0 ∷ plain_words (drop 8 bs)
 words_first bs l = search (rules, word_first)
 
--- words in front, and those behind them
+-- words in front, and those after them
 pub words_parted : (bs : List ℕ) (n : ℕ) → n % 8 ≡ 0 → n ≤ length bs → plain_words bs ≡ plain_words (take n bs) ++ plain_words (drop n bs)
 words_parted bs n e l =
     ap plain_words (sym (take-append-drop n bs)) ∙ plain_join (take n bs) (drop n bs) (omega (arith, e, length-take-le n bs l))
@@ -45,8 +45,8 @@ front_first bs k l =
     ap (λ ws. get_or ws 0 0) (parted ∙ ap (λ (ws : List ℕ). ws ++ plain_words (drop (8 + 8 * k) bs)) own) in
     own ∙ ap (λ (w : ℕ). w ∷ plain_words (drop 8 part)) (sym same)
 
-pub front_behind : (bs : List ℕ) (k : ℕ) → 8 + 8 * k ≤ length bs → length (plain_words (drop 8 (take (8 + 8 * k) bs))) ≡ k
-front_behind bs k l =
+pub front_after : (bs : List ℕ) (k : ℕ) → 8 + 8 * k ≤ length bs → length (plain_words (drop 8 (take (8 + 8 * k) bs))) ≡ k
+front_after bs k l =
     let part = take (8 + 8 * k) bs in
     omega (arith, words_exact (drop 8 part), length-drop 8 part, length-take-le (8 + 8 * k) bs l)
 
@@ -74,13 +74,13 @@ text_marked w ws h z = marked w (length ws) ws h z
     marked w n ws h z = rw (ne_eqb w 0 h, ne_eqb (zero_bytes w) 0 z) refl
 
 -- the group in front: a word and k others, and the length of the text
-pub record IsFront (bs : List ℕ) (k spelled : ℕ) : Type 0 where
+pub record IsFront (bs : List ℕ) (k encoded : ℕ) : Type 0 where
   pub size : 8 + 8 * k ≡ 8 * group_size (plain_words bs)
   pub most : k ≤ 255
   pub within : 8 + 8 * k ≤ length bs
-  pub text : spelled ≡ length (front_text (plain_words (take (8 + 8 * k) bs)))
+  pub text : encoded ≡ length (front_text (plain_words (take (8 + 8 * k) bs)))
 
--- so many words behind the first are there
+-- this many words after the first are there
 run_within : (bs rest : List ℕ) (k n : ℕ) → 8 ≤ length bs → rest ≡ drop 8 bs → k ≡ min 255 n → n ≤ length (plain_words rest) → 8 + 8 * k ≤ length bs
 run_within bs rest k n l e m f = omega (arith, l, ap length e, length-drop 8 bs, words_exact rest, m, f)
 
@@ -115,14 +115,14 @@ full_front bs rest k l e z m =
       size = omega (arith, m, first, same);
       most = omega (arith, m);
       within = within;
-      text = omega (arith, long, length_plain more, front_behind bs k within);
+      text = omega (arith, long, length_plain more, front_after bs k within);
     }
 
 pub marked_front : (bs : List ℕ) (n : ℕ) → 8 ≤ length bs → get_or (plain_words bs) 0 0 ≢ 0 → zero_bytes (get_or (plain_words bs) 0 0) ≢ 0 →
     n ≡ length (filter (λ b. not (b == 0)) (word_bytes (get_or (plain_words bs) 0 0))) → IsFront bs 0 (1 + n)
 marked_front bs n l h z e = search (rules, words_first, group_size-marked, front_first, text_marked)
 
--- the text of words is that of the group in front, and then that of the words behind it
+-- the text of words is that of the group in front, and then that of the words after it
 apart : (ws front rest : List ℕ) → ws ≡ front ++ rest → length front ≡ group_size ws → 0 < length front → pack_text ws ≡ front_text front ++ pack_text rest
 apart ws [] rest e l p = absurd (omega (arith, p))
 apart ws (w ∷ more) rest e l p = search (rules, pack_text-group)
@@ -133,10 +133,10 @@ pack_step bs front at n e size some within =
     let parted = words_parted front n (omega (arith, size)) within in
     let count : length (plain_words (take n front)) ≡ group_size (plain_words front) =
     omega (arith, words_exact (take n front), length-take-le n front within, size) in
-    let behind : drop n front ≡ drop (at + n) bs = ap (drop n) e ∙ drop-drop n at bs in
+    let following : drop n front ≡ drop (at + n) bs = ap (drop n) e ∙ drop-drop n at bs in
     ap (λ xs. pack_text (plain_words xs)) (sym e)
     ∙ apart (plain_words front) (plain_words (take n front)) (plain_words (drop n front)) parted count (omega (arith, count, size, some))
-    ∙ ap (λ xs. front_text (plain_words (take n front)) ++ pack_text (plain_words xs)) behind
+    ∙ ap (λ xs. front_text (plain_words (take n front)) ++ pack_text (plain_words xs)) following
 
 -- a part of a list that is written over
 pub put_is : (a k : ℕ) (xs ys : List ℕ) → a + k ≤ length xs → length ys ≡ k → put_mid a k xs ys ≡ (take a xs ++ ys) ++ drop (a + k) xs
@@ -160,20 +160,20 @@ two_set (x ∷ y ∷ z ∷ rest) a b l = absurd (omega (arith, l))
 pub zeros_written : (bs text : List ℕ) (tag n : ℕ) → 8 ≤ length bs → get_or (plain_words bs) 0 0 ≡ 0 →
     length text ≡ length (front_text (plain_words bs)) → tag ≡ 0 → n ≡ length bs / 8 - 1 →
     set (set text 0 tag) 1 n ≡ front_text (plain_words bs)
-zeros_written bs text tag n l z room t e = search (rules, words_first, text_zero, words_exact, length-drop, two_set)
+zeros_written bs text tag n l z capacity t e = search (rules, words_first, text_zero, words_exact, length-drop, two_set)
 
 -- the text of a run of words as they are
 pub full_long : (bs text : List ℕ) → 8 ≤ length bs → length bs % 8 ≡ 0 → zero_bytes (get_or (plain_words bs) 0 0) ≡ 0 →
     length text ≡ length (front_text (plain_words bs)) → length text ≡ 2 + length bs
-full_long bs text l w z room = search (rules, words_first, text_full, length_plain, words_exact, length-drop)
+full_long bs text l w z capacity = search (rules, words_first, text_full, length_plain, words_exact, length-drop)
 
-pub full_room : (bs text head : List ℕ) (tag n : ℕ) → 8 ≤ length bs → length bs % 8 ≡ 0 → zero_bytes (get_or (plain_words bs) 0 0) ≡ 0 →
+pub full_capacity : (bs text head : List ℕ) (tag n : ℕ) → 8 ≤ length bs → length bs % 8 ≡ 0 → zero_bytes (get_or (plain_words bs) 0 0) ≡ 0 →
     length text ≡ length (front_text (plain_words bs)) → length head ≡ 8 →
     (length (set (put_mid 1 8 (set text 0 tag) head) 9 n) ≡ length text)
     × (length (take (length (set (put_mid 1 8 (set text 0 tag) head) 9 n) - 10) (drop 10 (set (put_mid 1 8 (set text 0 tag) head) 9 n)))
     ≡ length (take (length bs - 8) (drop 8 bs)))
-full_room bs text head tag n l w z room h =
-    let long = full_long bs text l w z room in
+full_capacity bs text head tag n l w z capacity h =
+    let long = full_long bs text l w z capacity in
     let tagged = set text 0 tag in
     let headed = put_mid 1 8 tagged head in
     let all = set headed 9 n in
@@ -187,15 +187,15 @@ pub full_written : (bs text head rest : List ℕ) (tag n m word : ℕ) → AllBy
     length text ≡ length (front_text (plain_words bs)) → tag ≡ 255 → head ≡ word_bytes word → n ≡ length bs / 8 - 1 → rest ≡ take (length bs - 8) (drop 8 bs) →
     m ≡ length (set (put_mid 1 8 (set text 0 tag) head) 9 n) - 10 →
     put_mid 10 m (set (put_mid 1 8 (set text 0 tag) head) 9 n) rest ≡ front_text (plain_words bs)
-full_written bs text head rest tag n m word small l w v z room t h e r k =
+full_written bs text head rest tag n m word small l w v z capacity t h e r k =
     let zero : zero_bytes (get_or (plain_words bs) 0 0) ≡ 0 = ap zero_bytes (sym v) ∙ z in
-    let long = full_long bs text l w zero room in
+    let long = full_long bs text l w zero capacity in
     let eight : length head ≡ 8 = ap length h in
     let tagged = set text 0 tag in
     let headed = put_mid 1 8 tagged head in
     let all = set headed 9 n in
     let more = plain_words (drop 8 bs) in
-    let same : length all ≡ length text = (full_room bs text head tag n l w zero room eight).0 in
+    let same : length all ≡ length text = (full_capacity bs text head tag n l w zero capacity eight).0 in
     let a : length tagged ≡ length text = length-set text 0 tag in
     let b : length headed ≡ length tagged = put_length 1 8 tagged head (omega (arith, a, long, l)) eight in
     let left : rest ≡ drop 8 bs = r ∙ take_rest bs 8 in
@@ -220,22 +220,22 @@ marked_is : (bs : List ℕ) (word : ℕ) → 8 ≤ length bs → word ≡ get_or
 marked_is bs word l v h z =
     ap front_text (words_first bs l) ∙ ap (λ (x : ℕ). front_text (x ∷ plain_words (drop 8 bs))) (sym v) ∙ text_marked word (plain_words (drop 8 bs)) h z
 
-pub marked_room : (bs text bytes : List ℕ) (tag word : ℕ) → 8 ≤ length bs → word ≡ get_or (plain_words bs) 0 0 → word ≢ 0 → zero_bytes word ≢ 0 →
+pub marked_capacity : (bs text bytes : List ℕ) (tag word : ℕ) → 8 ≤ length bs → word ≡ get_or (plain_words bs) 0 0 → word ≢ 0 → zero_bytes word ≢ 0 →
     length text ≡ length (front_text (plain_words bs)) →
     bytes ≡ filter (λ b. not (b == 0)) (word_bytes word) → length (take (length (set text 0 tag) - 1) (drop 1 (set text 0 tag))) ≡ length bytes
-marked_room bs text bytes tag word l v h z room b =
+marked_capacity bs text bytes tag word l v h z capacity b =
     let marked = filter (λ b. not (b == 0)) (word_bytes word) in
-    let long : length text ≡ 1 + length marked = room ∙ ap length (marked_is bs word l v h z) ∙ omega arith in
+    let long : length text ≡ 1 + length marked = capacity ∙ ap length (marked_is bs word l v h z) ∙ omega arith in
     omega (arith, ap length (take_rest (set text 0 tag) 1), length-drop 1 (set text 0 tag), length-set text 0 tag, long, ap length b)
 
 pub marked_written : (bs text bytes : List ℕ) (tag m word : ℕ) → 8 ≤ length bs → word ≡ get_or (plain_words bs) 0 0 → word ≢ 0 → zero_bytes word ≢ 0 →
     length text ≡ length (front_text (plain_words bs)) →
     tag ≡ tag_of (word_bytes word) → bytes ≡ filter (λ b. not (b == 0)) (word_bytes word) → m ≡ length (set text 0 tag) - 1 →
     put_mid 1 m (set text 0 tag) bytes ≡ front_text (plain_words bs)
-marked_written bs text bytes tag m word l v h z room t b k =
+marked_written bs text bytes tag m word l v h z capacity t b k =
     let is = marked_is bs word l v h z in
     let marked = filter (λ b. not (b == 0)) (word_bytes word) in
-    let long : length text ≡ 1 + length marked = room ∙ ap length is ∙ omega arith in
+    let long : length text ≡ 1 + length marked = capacity ∙ ap length is ∙ omega arith in
     let a : length (set text 0 tag) ≡ length text = length-set text 0 tag in
     put_end 1 m (set text 0 tag) bytes (omega (arith, a, k, long)) (omega (arith, ap length b, a, k, long))
     ∙ ap (λ (xs : List ℕ). xs ++ bytes) (take-first text tag (omega (arith, long)))

@@ -1,4 +1,4 @@
--- The head of a group by its bytes alone, whatever comes behind them.
+-- The head of a group by its bytes alone, whatever comes after them.
 use Rattle.std.proofs.Math.ListN.{get_or-append}
 use lib.Count.{ones_step, ones}
 use Rattle.cap_spec.proofs.Packed.Unpacking.{spread_append}
@@ -47,7 +47,7 @@ first_same true q tag bs ys e = refl
 first_same false true tag bs ys e = little-append bs ys (omega arith)
 first_same false false tag bs ys e = spread_append 8 tag bs ys e
 
--- what a head says goes by its own bytes
+-- what a head says uses its own bytes
 pub first_word-append : (tag : ℕ) (bs ys : List ℕ) → length bs ≡ head_rest tag → first_word tag (bs ++ ys) ≡ first_word tag bs
 unfolding head_rest first_word
 first_word-append tag bs ys e = first_same (eqb tag 0) (eqb tag 255) tag bs ys e
@@ -72,7 +72,7 @@ pub plain_of-append : (tag : ℕ) (bs ys : List ℕ) → length bs ≡ head_rest
 unfolding head_rest plain_of
 plain_of-append tag bs ys e = plain_same (eqb tag 0) (eqb tag 255) tag bs ys (λ t. let z = eqb-true tag 0 t in ap (λ x. eqb x 255) z) e
 
--- What goes by the first bytes is the same of two lists that begin with the same.
+-- What uses the first bytes is the same of two lists that begin with the same.
 pub by_front : (f : List ℕ → ℕ) (n : ℕ) (bs ys : List ℕ) → ((xs more : List ℕ) → length xs ≡ n → f (xs ++ more) ≡ f xs)
     → n ≤ length ys → take n bs ≡ take n ys → f bs ≡ f ys
 by_front f n bs ys own fits same =

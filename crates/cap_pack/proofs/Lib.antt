@@ -1,4 +1,4 @@
-pub mod AtHand
+pub mod BufferedBytes
 pub mod Written
 pub mod Joining
 pub mod Heads
@@ -11,5 +11,5 @@ pub mod PuttingEach
 pub mod Tags
 pub mod Runs
 pub mod Shuffles
-pub mod GroupsSpelled
+pub mod GroupsEncoded
 pub mod GroupTexts

@@ -38,7 +38,7 @@ goes_on p zero n xs h = omega (arith, within_chunk p n xs)
 goes_on p (suc i) n [] h = absurd (omega arith)
 goes_on p (suc i) n (x ∷ xs) h = one_more (p x) i _ _ h (goes_on p i n xs)
 
--- where each of the first i elements passes, so does each of those that pass behind them
+-- where each of the first i elements passes, so does each of those that pass after them
 pub run_goes_on : (p : ℕ → Bool) (i n : ℕ) (xs : List ℕ) → i ≤ run p xs → i + run p (chunk i n xs) ≤ run p xs
 run_goes_on p i n xs h = omega (arith, goes_on p i n xs (omega (arith, run_is p xs)), run_is p xs, run_is p (chunk i n xs))
 
@@ -93,7 +93,7 @@ clear t = 255 - t
 abbrev above : ℕ → ℕ
 above t = bit_and (clear t) ((clear t + 255) % 256)
 
--- none stands above the lowest where at most one is clear: computed for each tag
+-- none is above the lowest where at most one is clear: computed for each tag
 same_test : Bool → Bool → Bool
 same_test true t = t
 same_test false t = not t
@@ -126,9 +126,9 @@ pub low_bit : (z : Bool) (t : ℕ) → (cond z 0 1 + 2 * t) % 2 ≡ cond z 0 1
 low_bit true t = omega arith
 low_bit false t = omega arith
 
-pub bits_behind : (z : Bool) (t : ℕ) → (cond z 0 1 + 2 * t) / 2 ≡ t
-bits_behind true t = omega arith
-bits_behind false t = omega arith
+pub bits_after : (z : Bool) (t : ℕ) → (cond z 0 1 + 2 * t) / 2 ≡ t
+bits_after true t = omega arith
+bits_after false t = omega arith
 
 zero_or_set : (z : Bool) → cond z 1 0 + cond z 0 1 ≡ 1
 zero_or_set true = refl
@@ -138,10 +138,10 @@ zeros_and_marks : (bs : List ℕ) → zeros_in bs + marks (length bs) (tag_of bs
 zeros_and_marks [] = refl
 zeros_and_marks (b ∷ bs) =
     let low = low_bit (b == 0) (tag_of bs) in
-    let behind : marks (length bs) (tag_of (b ∷ bs) / 2) ≡ marks (length bs) (tag_of bs) = ap (marks (length bs)) (bits_behind (b == 0) (tag_of bs)) in
-    omega (arith, low, behind, zero_or_set (b == 0), zeros_and_marks bs)
+    let following : marks (length bs) (tag_of (b ∷ bs) / 2) ≡ marks (length bs) (tag_of bs) = ap (marks (length bs)) (bits_after (b == 0) (tag_of bs)) in
+    omega (arith, low, following, zero_or_set (b == 0), zeros_and_marks bs)
 
--- the tag of a word tells whether it has at most one zero byte
+-- the tag of a word says whether it has at most one zero byte
 full_by_tag : (w : ℕ) → not (not (eqb (above (word_tag w)) 0)) ≡ leb (zero_bytes w) 1
 full_by_tag w =
     let all : 8 - marks 8 (word_tag w) ≡ zero_bytes w = omega (arith, zeros_and_marks (word_bytes w)) in

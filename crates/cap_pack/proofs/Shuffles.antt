@@ -1,4 +1,4 @@
--- Shuffles of bytes, by places that stand for the bits of a tag.
+-- Shuffles of bytes, by places that represent the bits of a tag.
 use Rattle.std.proofs.Common.{T, add-zero}
 use Rattle.std.proofs.lemmas.List.Sums.{length-filter}
 use Rattle.std.proofs.lemmas.Simd.{SwzOk, SwzOk-from_Each1, ones-mask_l, swz_l}
@@ -11,7 +11,7 @@ use Rattle.cap_spec.proofs.ProofNames.{and_parts, false≢true, lt-leb, length-m
 use Rattle.cap_spec.proofs.ProofNames.{number_l, little_number, ones, tag_of, zero_bytes, zeros_in, word_bytes, marks}
 use Rattle.cap_spec.proofs.ProofNames.{spread, rules}
 use Rattle.cap_pack.specs.Places.{marked_from, spread_from, spread_row, squeeze_row}
-use Rattle.cap_pack.proofs.Runs.{bits_behind, low_bit}
+use Rattle.cap_pack.proofs.Runs.{bits_after, low_bit}
 use Rattle.cap_pack.proofs.Tags.{eight_number, mask_is_tag, word_tag}
 
 -- a tag marks no more bytes than it has bits
@@ -139,7 +139,7 @@ spread_by_places xs row lanes tag e f =
     ∙ ap (λ l. little_number 8 (take 8 l)) (shuffled xs (spread_row tag ++ replicate 8 128) 0 (omega arith))
     ∙ sym (eight_number (map (pick xs) (spread_row tag)) refl) ∙ spread_picked 8 tag 0 xs (omega arith)
 
--- zeros behind the bytes change nothing
+-- zeros after the bytes change nothing
 none_either_way : (t : Bool) (x y : ℕ) → x ≡ 0 → y ≡ 0 → cond t (256 * x) (0 + 256 * y) ≡ 0
 none_either_way true x y e f = omega arith
 none_either_way false x y e f = omega arith
@@ -165,7 +165,7 @@ abbrev present : List ℕ → List ℕ
 present bs = filter (λ b. not (b == 0)) bs
 
 marked_first : (z : Bool) (n t k : ℕ) → marked_from (suc n) (cond z 0 1 + 2 * t) k ≡ cond z [] (k ∷ []) ++ marked_from n t (k + 1)
-marked_first z n t k = search (rules, low_bit, clear_bit, bits_behind)
+marked_first z n t k = search (rules, low_bit, clear_bit, bits_after)
 
 first_picked : (z : Bool) (xs ks : List ℕ) (k b : ℕ) → pick xs k ≡ b →
     map (pick xs) (cond z [] (k ∷ []) ++ ks) ≡ cond (not z) (b ∷ map (pick xs) ks) (map (pick xs) ks)
@@ -178,9 +178,9 @@ marked_picked [] xs ys k e h = refl
 marked_picked (b ∷ bs) xs ys k e h =
     let z : Bool = eqb b 0 in
     let this : pick xs k ≡ b = picked xs k (omega arith) ∙ ap (λ l. get_or l 0 0) e in
-    let behind : drop (k + 1) xs ≡ bs ++ ys = drop_next k xs ∙ ap (drop 1) e in
+    let following : drop (k + 1) xs ≡ bs ++ ys = drop_next k xs ∙ ap (drop 1) e in
     ap (map (pick xs)) (marked_first z (length bs) (tag_of bs) k) ∙ first_picked z xs (marked_from (length bs) (tag_of bs) (k + 1)) k b this
-    ∙ ap (λ l. cond (not z) (b ∷ l) l) (marked_picked bs xs ys (k + 1) behind (omega arith))
+    ∙ ap (λ l. cond (not z) (b ∷ l) l) (marked_picked bs xs ys (k + 1) following (omega arith))
 
 -- as many as the tag has bits set
 count_first : (z : Bool) (b : ℕ) (l : List ℕ) → length (cond (not z) (b ∷ l) l) ≡ cond z 0 1 + length l
@@ -191,7 +191,7 @@ present_count : (bs : List ℕ) → marks (length bs) (tag_of bs) ≡ length (pr
 present_count [] = refl
 present_count (b ∷ bs) =
     let z : Bool = eqb b 0 in
-    ap (λ r. r + marks (length bs) (tag_of (b ∷ bs) / 2)) (low_bit z (tag_of bs)) ∙ ap (λ t. cond z 0 1 + marks (length bs) t) (bits_behind z (tag_of bs))
+    ap (λ r. r + marks (length bs) (tag_of (b ∷ bs) / 2)) (low_bit z (tag_of bs)) ∙ ap (λ t. cond z 0 1 + marks (length bs) t) (bits_after z (tag_of bs))
     ∙ ap (λ m. cond z 0 1 + m) (present_count bs) ∙ sym (count_first z b (present bs))
 
 -- the places of a row

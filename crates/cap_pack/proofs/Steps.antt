@@ -8,19 +8,19 @@ use Rattle.cap_pack.specs.Course.{Course, course, course_is_cut, course_places, 
 use Rattle.cap_pack.specs.Course.{zeros_then}
 use Rattle.cap_pack.specs.State.{ahead}
 use Rattle.cap_pack.proofs.Courses.{course_none}
-use Rattle.cap_pack.proofs.Ties.{course_tells}
+use Rattle.cap_pack.proofs.Ties.{course_reports}
 
--- what a new unpacker tells
+-- what a new unpacker gives
 pub new_words : (known : Option (List ℕ)) → option_map (λ bs. course_words (course 0 0 bs)) known ≡ option_map unpacked known
 new_words None = refl
-new_words (Some bytes) = ap Some (course_tells 0 bytes).0
+new_words (Some bytes) = ap Some (course_reports 0 bytes).0
 
 pub new_cut : (known : Option (List ℕ)) → course_is_cut (course 0 0 (unwrap_or known [])) ≡ packed_is_cut (unwrap_or known [])
-new_cut known = (course_tells 0 (unwrap_or known [])).1
+new_cut known = (course_reports 0 (unwrap_or known [])).1
 
 pub new_places : (known : Option (List ℕ)) → OnSome known (course_places (course 0 0 (unwrap_or known [])) ≡ packed_ends 0 (unwrap_or known []))
 new_places None = tt
-new_places (Some bytes) = (course_tells 0 bytes).2
+new_places (Some bytes) = (course_reports 0 bytes).2
 
 -- A word was given for these bytes: one course came to the other.
 module _ (f g : List ℕ → Course) (w to : ℕ) (bs : List ℕ) (step : (ys : List ℕ) → f (bs ++ ys) ≡ gives w to (g ys)) where

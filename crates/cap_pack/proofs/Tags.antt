@@ -13,7 +13,7 @@ use Rattle.cap_spec.proofs.ProofNames.{little_number, tag_of, word_bytes, rules}
 abbrev pub word_tag : ℕ → ℕ
 word_tag w = tag_of (word_bytes w)
 
--- the lowest eight bytes of a number above whose lowest word stands another number
+-- the lowest eight bytes of a number above whose lowest word is another number
 eight_digits : (n w r : ℕ) → w < 18446744073709551616 → digits_l 256 (8 * suc n) (w + 18446744073709551616 * r) ≡ word_bytes w ++ digits_l 256 (8 * n) r
 eight_digits n w r h =
     let size : 8 * suc n ≡ suc (suc (suc (suc (suc (suc (suc (suc (8 * n)))))))) = omega arith in
@@ -44,7 +44,7 @@ pub mask_is_tag : (bs : List ℕ) → mask_l (map (λ b. not (eqb b 0)) bs) ≡ 
 mask_is_tag [] = refl
 mask_is_tag (b ∷ bs) = one_bit (eqb b 0) _ ∙ ap (λ t. (if b == 0 then 0 else 1) + 2 * t) (mask_is_tag bs)
 
--- the tag of a word's bytes and of those behind it
+-- the tag of a word's bytes and of those after it
 tag_above : (w : ℕ) (bs : List ℕ) → tag_of (word_bytes w ++ bs) ≡ word_tag w + 256 * tag_of bs
 tag_above w bs = omega arith
 
@@ -91,8 +91,8 @@ eight_tags ws fit l =
 pub eights_more : (ws out eight : List ℕ) (i : ℕ) → i + 8 ≤ length ws → length out ≡ length ws → eight ≡ map word_tag (chunk i 8 ws) →
     take i out ≡ map word_tag (take i ws) →
     take (i + 8) (put_chunk i out eight) ≡ map word_tag (take (i + 8) ws)
-eights_more ws out eight i room l e before =
-    let few : length eight ≡ 8 = ap length e ∙ length-map (chunk i 8 ws) word_tag ∙ length-chunk i 8 ws room in
+eights_more ws out eight i capacity l e before =
+    let few : length eight ≡ 8 = ap length e ∙ length-map (chunk i 8 ws) word_tag ∙ length-chunk i 8 ws capacity in
     take_more_put_chunk i out eight (i + 8) (omega arith) (omega arith) ∙ ap (λ t. t ++ eight) before ∙ ap (λ t. map word_tag (take i ws) ++ t) e
     ∙ sym (map-append word_tag (take i ws) (chunk i 8 ws)) ∙ ap (λ t. map word_tag t) (sym (take-add i 8 ws))
 

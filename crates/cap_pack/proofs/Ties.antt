@@ -14,179 +14,179 @@ use Rattle.cap_pack.specs.Course.{first_word, head_rest, plain_of, zeros_of}
 use Rattle.cap_pack.proofs.Courses.{course_head, course_head_stops, course_none, course_plain, course_plain_stops}
 
 -- a course gives these words, ends so, and is at these positions
-pub record Tells (c : Course) (ws : List ℕ) (u : Bool) (ps : List ℕ) : Type 0 where
+pub record Reports (c : Course) (ws : List ℕ) (u : Bool) (ps : List ℕ) : Type 0 where
   pub words : course_words c ≡ ws
   pub cut : course_is_cut c ≡ u
   pub ends : course_places c ≡ ps
 
-tells_along : {c d : Course} {ws vs : List ℕ} {u v : Bool} {ps qs : List ℕ} → c ≡ d → ws ≡ vs → u ≡ v → ps ≡ qs → Tells d vs v qs → Tells c ws u ps
-tells_along e f g h t = grind (arith, common_steps)
+reports_along : {c d : Course} {ws vs : List ℕ} {u v : Bool} {ps qs : List ℕ} → c ≡ d → ws ≡ vs → u ≡ v → ps ≡ qs → Reports d vs v qs → Reports c ws u ps
+reports_along e f g h t = grind (arith, common_steps)
 
-tells_one : {c : Course} {ws : List ℕ} {u : Bool} {ps : List ℕ} (x at : ℕ) → Tells c ws u ps → Tells (gives x at c) (x ∷ ws) u (at ∷ ps)
-tells_one x at t = record { words = ap (λ l. x ∷ l) t.words; cut = t.cut; ends = ap (λ l. at ∷ l) t.ends }
+reports_one : {c : Course} {ws : List ℕ} {u : Bool} {ps : List ℕ} (x at : ℕ) → Reports c ws u ps → Reports (gives x at c) (x ∷ ws) u (at ∷ ps)
+reports_one x at t = record { words = ap (λ l. x ∷ l) t.words; cut = t.cut; ends = ap (λ l. at ∷ l) t.ends }
 
-tells_zeros : {c : Course} {ws : List ℕ} {u : Bool} {ps : List ℕ} (n at : ℕ) → Tells c ws u ps →
-    Tells (zeros_then n at c) (replicate n 0 ++ ws) u (replicate n at ++ ps)
-tells_zeros zero at t = t
-tells_zeros (suc n) at t = tells_one 0 at (tells_zeros n at t)
+reports_zeros : {c : Course} {ws : List ℕ} {u : Bool} {ps : List ℕ} (n at : ℕ) → Reports c ws u ps →
+    Reports (zeros_then n at c) (replicate n 0 ++ ws) u (replicate n at ++ ps)
+reports_zeros zero at t = t
+reports_zeros (suc n) at t = reports_one 0 at (reports_zeros n at t)
 
-tells_true : {c : Course} {x : List ℕ} {u : Bool} {p : List ℕ} (y : List ℕ) (v : Bool) (q : List ℕ) {b : Bool} → b ≡ true → Tells c x u p →
-    Tells c (cond b x y) (cond b u v) (cond b p q)
-tells_true {x = x} {u = u} {p = p} y v q {b} e t = search (rules, cond-true)
+reports_true : {c : Course} {x : List ℕ} {u : Bool} {p : List ℕ} (y : List ℕ) (v : Bool) (q : List ℕ) {b : Bool} → b ≡ true → Reports c x u p →
+    Reports c (cond b x y) (cond b u v) (cond b p q)
+reports_true {x = x} {u = u} {p = p} y v q {b} e t = search (rules, cond-true)
 
-tells_false : {c : Course} {y : List ℕ} {v : Bool} {q : List ℕ} (x : List ℕ) (u : Bool) (p : List ℕ) {b : Bool} → b ≡ false → Tells c y v q →
-    Tells c (cond b x y) (cond b u v) (cond b p q)
-tells_false {y = y} {v = v} {q = q} x u p {b} e t = search (rules, cond-false)
+reports_false : {c : Course} {y : List ℕ} {v : Bool} {q : List ℕ} (x : List ℕ) (u : Bool) (p : List ℕ) {b : Bool} → b ≡ false → Reports c y v q →
+    Reports c (cond b x y) (cond b u v) (cond b p q)
+reports_false {y = y} {v = v} {q = q} x u p {b} e t = search (rules, cond-false)
 
 -- a position that has stopped stays where it is
 capped_more : (at m : ℕ) → capped (capped at + m) ≡ capped (at + m)
 capped_more at m = omega arith
 
 -- the input ends inside a group
-tells_stop : (at m : ℕ) → Tells (stops (capped (capped at + m))) [] true (capped (at + m) ∷ [])
-tells_stop at m = record { words = refl; cut = refl; ends = ap (λ p. p ∷ []) (capped_more at m) }
+reports_stop : (at m : ℕ) → Reports (stops (capped (capped at + m))) [] true (capped (at + m) ∷ [])
+reports_stop at m = record { words = refl; cut = refl; ends = ap (λ p. p ∷ []) (capped_more at m) }
 
--- a word as it is, behind so many bytes
-plain_behind : (n at : ℕ) (bs ys : List ℕ) → length bs ≡ 8 →
+-- a word as it is, after this many bytes
+plain_after : (n at : ℕ) (bs ys : List ℕ) → length bs ≡ 8 →
     course (suc n) (capped at) (bs ++ ys) ≡ gives (little_number 8 bs) (capped (at + length bs)) (course n (capped (at + length bs)) ys)
-plain_behind n at bs ys l = course_plain n (capped at) bs ys l ∙ ap (λ p. gives (little_number 8 bs) p (course n p ys)) (capped_more at (length bs))
+plain_after n at bs ys l = course_plain n (capped at) bs ys l ∙ ap (λ p. gives (little_number 8 bs) p (course n p ys)) (capped_more at (length bs))
 
--- a group behind its head
-head_behind : (at tag : ℕ) (bs ys : List ℕ) → length bs ≡ head_rest tag →
+-- a group after its head
+head_after : (at tag : ℕ) (bs ys : List ℕ) → length bs ≡ head_rest tag →
     course 0 (capped at) (tag ∷ bs ++ ys) ≡ gives (first_word tag bs) (capped (at + length (tag ∷ bs)))
     (zeros_then (zeros_of tag bs) (capped (at + length (tag ∷ bs))) (course (plain_of tag bs) (capped (at + length (tag ∷ bs))) ys))
-head_behind at tag bs ys l = search (rules, course_head, capped_more)
+head_after at tag bs ys l = search (rules, course_head, capped_more)
 
--- what so many words as they are give, and then groups
-behind : ℕ → ℕ → List ℕ → List ℕ
-behind k zero bytes = given_in k bytes
-behind k (suc n) (a ∷ b ∷ c ∷ d ∷ e ∷ f ∷ g ∷ h ∷ rest) = little_number 8 (a ∷ b ∷ c ∷ d ∷ e ∷ f ∷ g ∷ h ∷ []) ∷ behind k n rest
-behind k (suc n) bytes = []
+-- what this many words as they are give, and then groups
+following : ℕ → ℕ → List ℕ → List ℕ
+following k zero bytes = given_in k bytes
+following k (suc n) (a ∷ b ∷ c ∷ d ∷ e ∷ f ∷ g ∷ h ∷ rest) = little_number 8 (a ∷ b ∷ c ∷ d ∷ e ∷ f ∷ g ∷ h ∷ []) ∷ following k n rest
+following k (suc n) bytes = []
 
-behind_is_cut : ℕ → ℕ → List ℕ → Bool
-behind_is_cut k zero bytes = is_cut_in k bytes
-behind_is_cut k (suc n) (a ∷ b ∷ c ∷ d ∷ e ∷ f ∷ g ∷ h ∷ rest) = behind_is_cut k n rest
-behind_is_cut k (suc n) bytes = true
+after_is_cut : ℕ → ℕ → List ℕ → Bool
+after_is_cut k zero bytes = is_cut_in k bytes
+after_is_cut k (suc n) (a ∷ b ∷ c ∷ d ∷ e ∷ f ∷ g ∷ h ∷ rest) = after_is_cut k n rest
+after_is_cut k (suc n) bytes = true
 
-behind_ends : ℕ → ℕ → ℕ → List ℕ → List ℕ
-behind_ends k zero at bytes = ends_in k at bytes
-behind_ends k (suc n) at (a ∷ b ∷ c ∷ d ∷ e ∷ f ∷ g ∷ h ∷ rest) = capped (at + 8) ∷ behind_ends k n (at + 8) rest
-behind_ends k (suc n) at bytes = capped (at + length bytes) ∷ []
+after_ends : ℕ → ℕ → ℕ → List ℕ → List ℕ
+after_ends k zero at bytes = ends_in k at bytes
+after_ends k (suc n) at (a ∷ b ∷ c ∷ d ∷ e ∷ f ∷ g ∷ h ∷ rest) = capped (at + 8) ∷ after_ends k n (at + 8) rest
+after_ends k (suc n) at bytes = capped (at + length bytes) ∷ []
 
 eight_more : (n : ℕ) → 8 * suc n ≡ suc (suc (suc (suc (suc (suc (suc (suc (8 * n))))))))
 eight_more n = omega arith
 
 -- the bytes end inside those words
-behind_short : (k n at : ℕ) (bytes : List ℕ) → length bytes < 8 * n →
-    (behind k n bytes ≡ plain_words bytes) × (behind_is_cut k n bytes ≡ true)
-    × (behind_ends k n at bytes ≡ take (length (plain_words bytes)) (word_ends at n) ++ capped (at + length bytes) ∷ [])
-unfolding behind behind_is_cut behind_ends
-behind_short k zero at bytes p = absurd (omega arith)
-behind_short k (suc n) at (a ∷ b ∷ c ∷ d ∷ e ∷ f ∷ g ∷ h ∷ rest) p =
-    let t = behind_short k n (at + 8) rest (omega arith) in
+after_short : (k n at : ℕ) (bytes : List ℕ) → length bytes < 8 * n →
+    (following k n bytes ≡ plain_words bytes) × (after_is_cut k n bytes ≡ true)
+    × (after_ends k n at bytes ≡ take (length (plain_words bytes)) (word_ends at n) ++ capped (at + length bytes) ∷ [])
+unfolding following after_is_cut after_ends
+after_short k zero at bytes p = absurd (omega arith)
+after_short k (suc n) at (a ∷ b ∷ c ∷ d ∷ e ∷ f ∷ g ∷ h ∷ rest) p =
+    let t = after_short k n (at + 8) rest (omega arith) in
     let last : (at + 8) + length rest ≡ at + length (a ∷ b ∷ c ∷ d ∷ e ∷ f ∷ g ∷ h ∷ rest) = omega arith in (
       ap (λ l. little_number 8 (a ∷ b ∷ c ∷ d ∷ e ∷ f ∷ g ∷ h ∷ []) ∷ l) t.0,
       t.1,
       ap (λ l. capped (at + 8) ∷ l) t.2 ∙ ap (λ p. capped (at + 8) ∷ (take (length (plain_words rest)) (word_ends (at + 8) n) ++ capped p ∷ [])) last,
     )
-behind_short k (suc n) at bytes p = (refl, refl, refl)
+after_short k (suc n) at bytes p = (refl, refl, refl)
 
 -- they are all there
-behind_long : (k n at : ℕ) (bytes : List ℕ) → 8 * n ≤ length bytes →
-    (behind k n bytes ≡ plain_words (take (8 * n) bytes) ++ given_in k (drop (8 * n) bytes)) × (behind_is_cut k n bytes ≡ is_cut_in k (drop (8 * n) bytes))
-    × (behind_ends k n at bytes ≡ word_ends at n ++ ends_in k (at + 8 * n) (drop (8 * n) bytes))
-unfolding behind behind_is_cut behind_ends
-behind_long k zero at bytes p = let here : at ≡ at + 8 * 0 = omega arith in (refl, refl, ap (λ p. ends_in k p bytes) here)
-behind_long k (suc n) at (a ∷ b ∷ c ∷ d ∷ e ∷ f ∷ g ∷ h ∷ rest) p =
-    let t = behind_long k n (at + 8) rest (omega arith) in
+after_long : (k n at : ℕ) (bytes : List ℕ) → 8 * n ≤ length bytes →
+    (following k n bytes ≡ plain_words (take (8 * n) bytes) ++ given_in k (drop (8 * n) bytes)) × (after_is_cut k n bytes ≡ is_cut_in k (drop (8 * n) bytes))
+    × (after_ends k n at bytes ≡ word_ends at n ++ ends_in k (at + 8 * n) (drop (8 * n) bytes))
+unfolding following after_is_cut after_ends
+after_long k zero at bytes p = let here : at ≡ at + 8 * 0 = omega arith in (refl, refl, ap (λ p. ends_in k p bytes) here)
+after_long k (suc n) at (a ∷ b ∷ c ∷ d ∷ e ∷ f ∷ g ∷ h ∷ rest) p =
+    let t = after_long k n (at + 8) rest (omega arith) in
     let next : (at + 8) + 8 * n ≡ at + suc (suc (suc (suc (suc (suc (suc (suc (8 * n)))))))) = omega arith in
     rw (eight_more n) (
       ap (λ l. little_number 8 (a ∷ b ∷ c ∷ d ∷ e ∷ f ∷ g ∷ h ∷ []) ∷ l) t.0,
       t.1,
       ap (λ l. capped (at + 8) ∷ l) t.2 ∙ ap (λ p. capped (at + 8) ∷ (word_ends (at + 8) n ++ ends_in k p (drop (8 * n) rest))) next,
     )
-behind_long k (suc n) at bytes p = absurd (omega (arith, p))
+after_long k (suc n) at bytes p = absurd (omega (arith, p))
 
--- What is shown of all short bytes holds behind words as they are, too.
-Told : ℕ → Type 0
-Told k = (at : ℕ) (bytes : List ℕ) → length bytes ≤ k → Tells (course 0 (capped at) bytes) (given_in k bytes) (is_cut_in k bytes) (ends_in k at bytes)
+-- What is shown of all short bytes holds after words as they are, too.
+Reported : ℕ → Type 0
+Reported k = (at : ℕ) (bytes : List ℕ) → length bytes ≤ k → Reports (course 0 (capped at) bytes) (given_in k bytes) (is_cut_in k bytes) (ends_in k at bytes)
 
-plain_told : (k : ℕ) → Told k → (n at : ℕ) (bytes : List ℕ) → length bytes ≤ k →
-    Tells (course n (capped at) bytes) (behind k n bytes) (behind_is_cut k n bytes) (behind_ends k n at bytes)
-unfolding behind behind_is_cut behind_ends Told
-plain_told k t zero at bytes p = t at bytes p
-plain_told k t (suc n) at (a ∷ b ∷ c ∷ d ∷ e ∷ f ∷ g ∷ h ∷ rest) p =
-    tells_along (plain_behind n at (a ∷ b ∷ c ∷ d ∷ e ∷ f ∷ g ∷ h ∷ []) rest refl) refl refl refl (tells_one _ _ (plain_told k t n (at + 8) rest (omega arith)))
-plain_told k t (suc n) at bytes p = tells_along (course_plain_stops n (capped at) bytes (omega arith)) refl refl refl (tells_stop at (length bytes))
+plain_reported : (k : ℕ) → Reported k → (n at : ℕ) (bytes : List ℕ) → length bytes ≤ k →
+    Reports (course n (capped at) bytes) (following k n bytes) (after_is_cut k n bytes) (after_ends k n at bytes)
+unfolding following after_is_cut after_ends Reported
+plain_reported k t zero at bytes p = t at bytes p
+plain_reported k t (suc n) at (a ∷ b ∷ c ∷ d ∷ e ∷ f ∷ g ∷ h ∷ rest) p =
+    reports_along (plain_after n at (a ∷ b ∷ c ∷ d ∷ e ∷ f ∷ g ∷ h ∷ []) rest refl) refl refl refl (reports_one _ _ (plain_reported k t n (at + 8) rest (omega arith)))
+plain_reported k t (suc n) at bytes p = reports_along (course_plain_stops n (capped at) bytes (omega arith)) refl refl refl (reports_stop at (length bytes))
 
 -- the three kinds of groups
-zeros_told : (k : ℕ) → Told k → (at : ℕ) (bytes : List ℕ) → length bytes ≤ k →
-    Tells (course 0 (capped at) (0 ∷ bytes)) (given_in (suc k) (0 ∷ bytes)) (is_cut_in (suc k) (0 ∷ bytes)) (ends_in (suc k) at (0 ∷ bytes))
-unfolding Told head_rest first_word zeros_of plain_of
-zeros_told k t at [] p = tells_along (course_head_stops (capped at) 0 [] (lit< tt)) refl refl refl (tells_stop at 1)
-zeros_told k t at (n ∷ rest) p =
+zeros_reported : (k : ℕ) → Reported k → (at : ℕ) (bytes : List ℕ) → length bytes ≤ k →
+    Reports (course 0 (capped at) (0 ∷ bytes)) (given_in (suc k) (0 ∷ bytes)) (is_cut_in (suc k) (0 ∷ bytes)) (ends_in (suc k) at (0 ∷ bytes))
+unfolding Reported head_rest first_word zeros_of plain_of
+zeros_reported k t at [] p = reports_along (course_head_stops (capped at) 0 [] (lit< tt)) refl refl refl (reports_stop at 1)
+zeros_reported k t at (n ∷ rest) p =
     let many : 1 + n ≡ suc n = omega arith in
-    tells_false _ _ _ (le-ltb (suc (suc (length rest))) 2 (omega arith))
-    (tells_along (head_behind at 0 (n ∷ []) rest refl) (ap (λ m. replicate m 0 ++ given_in k rest) many) refl
+    reports_false _ _ _ (le-ltb (suc (suc (length rest))) 2 (omega arith))
+    (reports_along (head_after at 0 (n ∷ []) rest refl) (ap (λ m. replicate m 0 ++ given_in k rest) many) refl
     (ap (λ m. replicate m (capped (at + 2)) ++ ends_in k (at + 2) rest) many)
-    (tells_one 0 (capped (at + 2)) (tells_zeros n (capped (at + 2)) (t (at + 2) rest (omega arith)))))
+    (reports_one 0 (capped (at + 2)) (reports_zeros n (capped (at + 2)) (t (at + 2) rest (omega arith)))))
 
-plain_run_told : (k : ℕ) → Told k → (at : ℕ) (bytes : List ℕ) → length bytes ≤ k →
-    Tells (course 0 (capped at) (255 ∷ bytes)) (given_in (suc k) (255 ∷ bytes)) (is_cut_in (suc k) (255 ∷ bytes)) (ends_in (suc k) at (255 ∷ bytes))
-unfolding Told head_rest first_word zeros_of plain_of
-plain_run_told k t at (a ∷ b ∷ c ∷ d ∷ e ∷ f ∷ g ∷ h ∷ n ∷ rest) p =
+plain_run_reported : (k : ℕ) → Reported k → (at : ℕ) (bytes : List ℕ) → length bytes ≤ k →
+    Reports (course 0 (capped at) (255 ∷ bytes)) (given_in (suc k) (255 ∷ bytes)) (is_cut_in (suc k) (255 ∷ bytes)) (ends_in (suc k) at (255 ∷ bytes))
+unfolding Reported head_rest first_word zeros_of plain_of
+plain_run_reported k t at (a ∷ b ∷ c ∷ d ∷ e ∷ f ∷ g ∷ h ∷ n ∷ rest) p =
     let bytes : List ℕ = a ∷ b ∷ c ∷ d ∷ e ∷ f ∷ g ∷ h ∷ n ∷ rest in
     let one : ℕ = little_number 8 (a ∷ b ∷ c ∷ d ∷ e ∷ f ∷ g ∷ h ∷ []) in
-    let after : Tells (course n (capped (at + 10)) rest) (behind k n rest) (behind_is_cut k n rest) (behind_ends k n (at + 10) rest) =
-    plain_told k t n (at + 10) rest (omega arith) in
-    let step = head_behind at 255 (a ∷ b ∷ c ∷ d ∷ e ∷ f ∷ g ∷ h ∷ n ∷ []) rest refl in
+    let after : Reports (course n (capped (at + 10)) rest) (following k n rest) (after_is_cut k n rest) (after_ends k n (at + 10) rest) =
+    plain_reported k t n (at + 10) rest (omega arith) in
+    let step = head_after at 255 (a ∷ b ∷ c ∷ d ∷ e ∷ f ∷ g ∷ h ∷ n ∷ []) rest refl in
     let head : 10 + 8 * n ≡ suc (suc (suc (suc (suc (suc (suc (suc (suc (suc (8 * n)))))))))) = omega arith in
     ⊎_elim
-    (λ q. let s = behind_short k n (at + 10) rest q in
+    (λ q. let s = after_short k n (at + 10) rest q in
     let given : given_of (255 ∷ bytes) ≡ one ∷ plain_words rest = cond-false _ _ _ (le-ltb (length bytes) 9 (omega arith)) in
     let last : at + length (255 ∷ bytes) ≡ (at + 10) + length rest = omega arith in
-    tells_true _ _ _ (lt-ltb (length (255 ∷ bytes)) (10 + 8 * n) (omega arith))
-    (tells_along step (given ∙ ap (λ l. one ∷ l) (sym s.0)) (sym s.1)
+    reports_true _ _ _ (lt-ltb (length (255 ∷ bytes)) (10 + 8 * n) (omega arith))
+    (reports_along step (given ∙ ap (λ l. one ∷ l) (sym s.0)) (sym s.1)
     (ap (λ ws. take (length ws) (capped (at + 10) ∷ word_ends (at + 10) n) ++ capped (at + length (255 ∷ bytes)) ∷ []) given
     ∙ ap (λ p. capped (at + 10) ∷ (take (length (plain_words rest)) (word_ends (at + 10) n) ++ capped p ∷ [])) last ∙ ap (λ l. capped (at + 10) ∷ l) (sym s.2))
-    (tells_one one (capped (at + 10)) after)))
-    (λ q. let l = behind_long k n (at + 10) rest q in
+    (reports_one one (capped (at + 10)) after)))
+    (λ q. let l = after_long k n (at + 10) rest q in
     let next : at + suc (suc (suc (suc (suc (suc (suc (suc (suc (suc (8 * n)))))))))) ≡ (at + 10) + 8 * n = omega arith in
-    tells_false _ _ _ (le-ltb (length (255 ∷ bytes)) (10 + 8 * n) (omega arith))
-    (tells_along step
+    reports_false _ _ _ (le-ltb (length (255 ∷ bytes)) (10 + 8 * n) (omega arith))
+    (reports_along step
     (ap (λ m. one ∷ (plain_words (take (8 * n) rest) ++ given_in k (drop m (255 ∷ bytes)))) head ∙ ap (λ w. one ∷ w) (sym l.0))
     (ap (λ m. is_cut_in k (drop m (255 ∷ bytes))) head ∙ sym l.1)
     (ap (λ m. capped (at + 10) ∷ (word_ends (at + 10) n ++ ends_in k (at + m) (drop m (255 ∷ bytes)))) head
     ∙ ap (λ p. capped (at + 10) ∷ (word_ends (at + 10) n ++ ends_in k p (drop (8 * n) rest))) next ∙ ap (λ w. capped (at + 10) ∷ w) (sym l.2))
-    (tells_one one (capped (at + 10)) after)))
+    (reports_one one (capped (at + 10)) after)))
     (cases_lt (length rest) (8 * n))
-plain_run_told k t at bytes p = tells_along (course_head_stops (capped at) 255 bytes (omega arith)) refl refl refl (tells_stop at (length (255 ∷ bytes)))
+plain_run_reported k t at bytes p = reports_along (course_head_stops (capped at) 255 bytes (omega arith)) refl refl refl (reports_stop at (length (255 ∷ bytes)))
 
-tells_marked : {ws : List ℕ} {u : Bool} {ps : List ℕ} (w z o x at : ℕ) (bytes : List ℕ) → w ≡ x → z ≡ 0 → o ≡ 0 → Tells (course 0 at bytes) ws u ps →
-    Tells (gives w at (zeros_then z at (course o at bytes))) (x ∷ ws) u (at ∷ ps)
-tells_marked w z o x at bytes e f g t = tells_along (ap (λ n. gives n at (zeros_then z at (course o at bytes))) e
-    ∙ ap (λ n. gives x at (zeros_then n at (course o at bytes))) f ∙ ap (λ n. gives x at (course n at bytes)) g) refl refl refl (tells_one x at t)
+reports_marked : {ws : List ℕ} {u : Bool} {ps : List ℕ} (w z o x at : ℕ) (bytes : List ℕ) → w ≡ x → z ≡ 0 → o ≡ 0 → Reports (course 0 at bytes) ws u ps →
+    Reports (gives w at (zeros_then z at (course o at bytes))) (x ∷ ws) u (at ∷ ps)
+reports_marked w z o x at bytes e f g t = reports_along (ap (λ n. gives n at (zeros_then z at (course o at bytes))) e
+    ∙ ap (λ n. gives x at (zeros_then n at (course o at bytes))) f ∙ ap (λ n. gives x at (course n at bytes)) g) refl refl refl (reports_one x at t)
 
--- a head of so many further bytes that is a word by itself
-marked_in : (k : ℕ) → Told k → (at tag m x : ℕ) (bytes : List ℕ) → length bytes ≤ k → m ≡ head_rest tag →
+-- a head of this many further bytes that is a word by itself
+marked_in : (k : ℕ) → Reported k → (at tag m x : ℕ) (bytes : List ℕ) → length bytes ≤ k → m ≡ head_rest tag →
     (m ≤ length bytes → first_word tag (take m bytes) ≡ x) → zeros_of tag (take m bytes) ≡ 0 → plain_of tag (take m bytes) ≡ 0 →
-    Tells (course 0 (capped at) (tag ∷ bytes)) (cond (ltb (suc (length bytes)) (suc m)) [] (x ∷ given_in k (drop m bytes)))
+    Reports (course 0 (capped at) (tag ∷ bytes)) (cond (ltb (suc (length bytes)) (suc m)) [] (x ∷ given_in k (drop m bytes)))
     (cond (ltb (suc (length bytes)) (suc m)) true (is_cut_in k (drop m bytes)))
     (cond (ltb (suc (length bytes)) (suc m)) (capped (at + suc (length bytes)) ∷ []) (capped (at + suc m) ∷ ends_in k (at + suc m) (drop m bytes)))
-unfolding Told
+unfolding Reported
 marked_in k t at tag m x bytes p r e z o = ⊎_elim
-    (λ q. tells_true _ _ _ (lt-ltb (suc (length bytes)) (suc m) (omega arith))
-    (tells_along (course_head_stops (capped at) tag bytes (omega arith)) refl refl refl (tells_stop at (suc (length bytes)))))
+    (λ q. reports_true _ _ _ (lt-ltb (suc (length bytes)) (suc m) (omega arith))
+    (reports_along (course_head_stops (capped at) tag bytes (omega arith)) refl refl refl (reports_stop at (suc (length bytes)))))
     (λ q. let size : length (take m bytes) ≡ head_rest tag = omega (arith, length-take m bytes) in
     let whole : length (take m bytes) ≡ m = omega (arith, size, r) in
-    let step = head_behind at tag (take m bytes) (drop m bytes) size in
+    let step = head_after at tag (take m bytes) (drop m bytes) size in
     let short : length (drop m bytes) ≤ k = omega (arith, length-drop m bytes) in
     let place : capped (at + suc (length (take m bytes))) ≡ capped (at + suc m) = ap (λ n. capped (at + suc n)) whole in
-    tells_false _ _ _ (le-ltb (suc (length bytes)) (suc m) (omega arith))
-    (tells_along (ap (λ l. course 0 (capped at) (tag ∷ l)) (sym (take-append-drop m bytes)) ∙ step
+    reports_false _ _ _ (le-ltb (suc (length bytes)) (suc m) (omega arith))
+    (reports_along (ap (λ l. course 0 (capped at) (tag ∷ l)) (sym (take-append-drop m bytes)) ∙ step
     ∙ ap (λ p. gives (first_word tag (take m bytes)) p
     (zeros_then (zeros_of tag (take m bytes)) p (course (plain_of tag (take m bytes)) p (drop m bytes)))) place) refl refl refl
-    (tells_marked _ _ _ x (capped (at + suc m)) (drop m bytes) (e q) z o (t (at + suc m) (drop m bytes) short))))
+    (reports_marked _ _ _ x (capped (at + suc m)) (drop m bytes) (e q) z o (t (at + suc m) (drop m bytes) short))))
     (cases_lt (length bytes) m)
 
 -- a tag spreads only the bytes that it marks
@@ -198,22 +198,22 @@ spread-take tag m bytes e q =
 pick : {A : Type 0} (x y : Bool) (a b c : A) → x ≡ false → y ≡ false → cond x a (cond y b c) ≡ c
 pick x y a b c p q = cond-false x _ _ p ∙ cond-false y _ _ q
 
-marked_told : (k : ℕ) → Told k → (at tag : ℕ) (bytes : List ℕ) → tag ≢ 0 → tag ≢ 255 → length bytes ≤ k →
-    Tells (course 0 (capped at) (tag ∷ bytes)) (given_in (suc k) (tag ∷ bytes)) (is_cut_in (suc k) (tag ∷ bytes)) (ends_in (suc k) at (tag ∷ bytes))
+marked_reported : (k : ℕ) → Reported k → (at tag : ℕ) (bytes : List ℕ) → tag ≢ 0 → tag ≢ 255 → length bytes ≤ k →
+    Reports (course 0 (capped at) (tag ∷ bytes)) (given_in (suc k) (tag ∷ bytes)) (is_cut_in (suc k) (tag ∷ bytes)) (ends_in (suc k) at (tag ∷ bytes))
 unfolding head_rest first_word zeros_of plain_of
-marked_told k t at tag bytes z o p =
+marked_reported k t at tag bytes z o p =
     let m : ℕ = marks 8 tag in
     let not_zero : eqb tag 0 ≡ false = ne_eqb tag 0 z in
     let not_full : eqb tag 255 ≡ false = ne_eqb tag 255 o in
     let long : group_length (tag ∷ bytes) ≡ suc m = pick (eqb tag 0) (eqb tag 255) 2 (10 + 8 * slice_index bytes 8) (1 + m) not_zero not_full ∙ one-add m in
-    let spelled : group_words (tag ∷ bytes) ≡ spread 8 tag bytes ∷ [] = pick (eqb tag 0) (eqb tag 255) _ _ _ not_zero not_full in
+    let encoded : group_words (tag ∷ bytes) ≡ spread 8 tag bytes ∷ [] = pick (eqb tag 0) (eqb tag 255) _ _ _ not_zero not_full in
     let before : given_of (tag ∷ bytes) ≡ [] = cond-false (eqb tag 255) _ _ not_full in
     let placed : front_ends at (tag ∷ bytes) ≡ capped (at + suc m) ∷ [] = pick (eqb tag 0) (eqb tag 255) _ _ _ not_zero not_full
     ∙ ap (λ n. capped (at + n) ∷ []) (one-add m) in
     let whole : List ℕ → List ℕ = λ ws. cond (ltb (suc (length bytes)) (suc m)) [] (ws ++ given_in k (drop m bytes)) in
-    tells_along refl
+    reports_along refl
     (ap (λ n. cond (ltb (suc (length bytes)) n) (given_of (tag ∷ bytes)) (group_words (tag ∷ bytes) ++ given_in k (drop n (tag ∷ bytes)))) long
-    ∙ ap (λ ws. cond (ltb (suc (length bytes)) (suc m)) ws (group_words (tag ∷ bytes) ++ given_in k (drop m bytes))) before ∙ ap whole spelled)
+    ∙ ap (λ ws. cond (ltb (suc (length bytes)) (suc m)) ws (group_words (tag ∷ bytes) ++ given_in k (drop m bytes))) before ∙ ap whole encoded)
     (ap (λ n. cond (ltb (suc (length bytes)) n) true (is_cut_in k (drop n (tag ∷ bytes)))) long)
     (ap (λ n. cond (ltb (suc (length bytes)) n) (take (length (given_of (tag ∷ bytes))) (front_ends at (tag ∷ bytes))
     ++ capped (at + suc (length bytes)) ∷ []) (front_ends at (tag ∷ bytes) ++ ends_in k (at + n) (drop n (tag ∷ bytes)))) long
@@ -224,18 +224,18 @@ marked_told k t at tag bytes z o p =
     (λ q. pick (eqb tag 0) (eqb tag 255) _ _ _ not_zero not_full ∙ spread-take tag m bytes refl q)
     (cond-false (eqb tag 0) _ _ not_zero) (cond-false (eqb tag 255) _ _ not_full))
 
-told : (k : ℕ) → Told k
-unfolding Told
-told zero at [] p = tells_along (course_none (capped at)) refl refl refl (record { words = refl; cut = refl; ends = refl })
-told zero at (tag ∷ bytes) p = absurd (omega arith)
-told (suc k) at [] p =
-    tells_along (course_none (capped at)) (given_nil k) (cut_nil k) (ends_nil (suc k) at) (record { words = refl; cut = refl; ends = refl })
-told (suc k) at (tag ∷ bytes) p = ⊎_elim
-    (λ z. rw z (zeros_told k (told k) at bytes (omega arith)))
-    (λ z. ⊎_elim (λ o. rw o (plain_run_told k (told k) at bytes (omega arith))) (λ o. marked_told k (told k) at tag bytes z o (omega arith)) (cases_eq tag 255))
+reported : (k : ℕ) → Reported k
+unfolding Reported
+reported zero at [] p = reports_along (course_none (capped at)) refl refl refl (record { words = refl; cut = refl; ends = refl })
+reported zero at (tag ∷ bytes) p = absurd (omega arith)
+reported (suc k) at [] p =
+    reports_along (course_none (capped at)) (given_nil k) (cut_nil k) (ends_nil (suc k) at) (record { words = refl; cut = refl; ends = refl })
+reported (suc k) at (tag ∷ bytes) p = ⊎_elim
+    (λ z. rw z (zeros_reported k (reported k) at bytes (omega arith)))
+    (λ z. ⊎_elim (λ o. rw o (plain_run_reported k (reported k) at bytes (omega arith))) (λ o. marked_reported k (reported k) at tag bytes z o (omega arith)) (cases_eq tag 255))
     (cases_eq tag 0)
 
-pub course_tells : (at : ℕ) (bytes : List ℕ) → (course_words (course 0 (capped at) bytes) ≡ unpacked bytes)
+pub course_reports : (at : ℕ) (bytes : List ℕ) → (course_words (course 0 (capped at) bytes) ≡ unpacked bytes)
     × (course_is_cut (course 0 (capped at) bytes) ≡ packed_is_cut bytes) × (course_places (course 0 (capped at) bytes) ≡ packed_ends at bytes)
-unfolding Told
-course_tells at bytes = let t = told (length bytes) at bytes (omega arith) in (t.words, t.cut, t.ends)
+unfolding Reported
+course_reports at bytes = let t = reported (length bytes) at bytes (omega arith) in (t.words, t.cut, t.ends)

@@ -19,14 +19,14 @@ took_trans : {a b c : Option (List ℕ)} {from mid to : ℕ} {bs cs : List ℕ} 
     capped (capped (from + length bs) + length cs) ≡ capped (from + length (bs ++ cs)) → Took a c from to (bs ++ cs)
 took_trans {a = a} {b = b} {c = c} {bs = bs} {cs = cs} s t e = search (rules, Consumes-trans)
 
--- a tag and then the bytes behind it
+-- a tag and then the bytes after it
 pub head_taken : {a b c : Option (List ℕ)} {from mid to n : ℕ} {bs : List ℕ} (buf : List ℕ) → length buf ≡ 1 → n ≡ 1 →
     Took a b from mid (take n buf) → Took b c mid to bs → Took a c from to (get_or buf 0 0 ∷ bs)
 head_taken {a = a} {b = b} {from = from} {mid = mid} {bs = bs} (tag ∷ []) l e s t = search (rules, took_trans)
 head_taken [] l e s t = absurd (omega (arith, l))
 head_taken (tag ∷ more ∷ rest) l e s t = absurd (omega (arith, l))
 
--- a whole head is the first word of its group, and tells what comes then
+-- a whole head is the first word of its group, and says what comes then
 pub group_taken : {a b : Option (List ℕ)} {from to w z p tag : ℕ} {bs : List ℕ} → length bs ≡ head_rest tag → w ≡ first_word tag bs →
     z ≡ zeros_of tag bs → p ≡ plain_of tag bs → Took a b from to (tag ∷ bs) →
     (ys : List ℕ) → course 0 from ((tag ∷ bs) ++ ys) ≡ gives w to (zeros_then z to (course p to ys))

@@ -1,4 +1,4 @@
--- What stands at the front of a buffer after the writes that spell a group.
+-- What is at the start of a buffer after the writes that encode a group.
 use Rattle.std.proofs.lemmas.List.{places}
 use Rattle.cap_spec.proofs.ProofNames.{List, [], ap, append_assoc, arith, length, length-append, length-set}
 use Rattle.cap_spec.proofs.ProofNames.{length-take-le, refl, rules, set, sym, take, take-take, take_at, ℕ, ◌++◌, ◌+◌, ◌<◌}
@@ -9,18 +9,18 @@ pub take-first : (xs : List ℕ) (x : ℕ) → 0 < length xs → take 1 (set xs 
 take-first [] x h = absurd (omega (arith, h))
 take-first (y ∷ xs) x h = refl
 
--- after one write more behind the front
+-- after one write more after the front
 pub take-pushed : (xs : List ℕ) (n m x : ℕ) → m ≡ n + 1 → n < length xs → take m (set xs n x) ≡ take n xs ++ x ∷ []
 take-pushed xs n m x e h = take-set_at xs n m x e h
 
--- after writes of a word as it is and of those behind it
+-- after writes of a word as it is and of those after it
 pub take-plain : (text first head bytes more : List ℕ) (len k m count end : ℕ) → len + 10 ≤ length text → length head ≡ 8 → k ≡ 8 →
     end ≡ len + 10 + length bytes → head ≡ first → more ≡ bytes →
     take end (put_mid (len + 10) m (set (put_mid (len + 1) k (set text len 255) head) (len + 9) count) more) ≡ take len text ++ 255 ∷ (first ++ count ∷ bytes)
 take-plain text first head bytes more len k m count end h l e n f b =
     search (rules, length-set, places, take-put_mid, take-pushed, append_assoc)
 
--- after writes of a tag and of the bytes that it marks, with some behind them
+-- after writes of a tag and of the bytes that it marks, with some after them
 pub take-marked : (text marked bytes zeros : List ℕ) (len k tag ones end : ℕ) → ones ≡ length marked → len < length text → bytes ≡ marked ++ zeros →
     end ≡ len + 1 + ones →
     take end (put_mid (len + 1) k (set text len tag) bytes) ≡ take len text ++ tag ∷ marked

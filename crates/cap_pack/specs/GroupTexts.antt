@@ -1,4 +1,4 @@
--- The text of words that one group spells (profile; standard: Packing).
+-- The text of words that one group encodes (profile; standard: Packing).
 use Rattle.std.specs.Prelude.{List, [], length, ℕ, ◌∷◌}
 use Rattle.cap_spec.specs.Packing.{group_text}
 

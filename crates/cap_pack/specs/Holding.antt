@@ -29,5 +29,5 @@ IsRun [] = ⊤
 IsRun (w ∷ ws) = ((w ≡ 0) × (zero_run ws ≡ length ws)) ⊎ ((zero_bytes w ≡ 0) × (full_run ws ≡ length ws))
 
 -- whatever follows these words, this text encodes them but for those that are left
-abbrev pub Spells : List ℕ → List ℕ → List ℕ → Type 0
-Spells all text left = (ws : List ℕ) → pack_text (all ++ ws) ≡ text ++ pack_text (left ++ ws)
+abbrev pub Encodes : List ℕ → List ℕ → List ℕ → Type 0
+Encodes all text left = (ws : List ℕ) → pack_text (all ++ ws) ≡ text ++ pack_text (left ++ ws)

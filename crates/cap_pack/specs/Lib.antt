@@ -1,4 +1,4 @@
-pub mod AtHand
+pub mod Buffered
 pub mod Course
 pub mod CourseWords
 pub mod Holding

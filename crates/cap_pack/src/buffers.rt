@@ -20,7 +20,7 @@ pub fn pack_into(bytes: &[u8], out: &mut [u8]) -> usize
     ensures few { 4 * result ≤ 5 * length bytes.now }
     ensures written { result ≤ length out.old →
         out.new ≡ pack_text (plain_words bytes.now) ++ drop result out.old }
-    ensures no_room { length out.old < result → out.new ≡ out.old }
+    ensures too_small { length out.old < result → out.new ≡ out.old }
 {
     let len = packed_len(bytes);
     if out.len() < len {
@@ -38,9 +38,9 @@ fn packed_len(bytes: &[u8]) -> usize
     let mut at = 0;
     let mut len = 0;
     'counting: while bytes.len() - at >= 8 {
-        let (taken, spelled) = front_group(&bytes[at..]);
+        let (taken, encoded) = front_group(&bytes[at..]);
         at += taken;
-        len += spelled;
+        len += encoded;
     }
     len
 }
@@ -54,19 +54,19 @@ fn write_text(bytes: &[u8], text: &mut [u8])
     let mut len = 0;
     'writing: while bytes.len() - at >= 8 {
         let rest = &bytes[at..];
-        let (taken, spelled) = front_group(rest);
-        write_group(&rest[..taken], &mut text[len..len + spelled]);
+        let (taken, encoded) = front_group(rest);
+        write_group(&rest[..taken], &mut text[len..len + encoded]);
         at += taken;
-        len += spelled;
+        len += encoded;
     }
 }
 
-/// How many bytes the words of the group in front have, and how many bytes spell them.
+/// How many bytes the words of the group in front have, and how many bytes encode them.
 pub(crate) fn front_group(bytes: &[u8]) -> (usize, usize)
     requires { 8 ≤ length bytes.now }
     ensures size { result.0 ≡ 8 * group_size (plain_words bytes.now) }
     ensures within { (0 < result.0) × (result.0 ≤ 2048) × (result.0 ≤ length bytes.now) }
-    ensures spelled { result.1 ≡ length (front_text (plain_words (take result.0 bytes.now))) }
+    ensures encoded { result.1 ≡ length (front_text (plain_words (take result.0 bytes.now))) }
     ensures few { 4 * result.1 ≤ 5 * result.0 }
 {
     let tag = tag_of_word(word_at(bytes, 0));
@@ -113,10 +113,10 @@ fn full_words(bytes: &[u8]) -> usize
     count
 }
 
-/// Writes the group that spells just these words.
+/// Writes the group that encodes just these words.
 pub(crate) fn write_group(bytes: &[u8], text: &mut [u8])
     requires words { (8 ≤ length bytes.now) × (length bytes.now ≤ 2048) × (length bytes.now % 8 ≡ 0) }
-    requires room { length text.old ≡ length (front_text (plain_words bytes.now)) }
+    requires fits { length text.old ≡ length (front_text (plain_words bytes.now)) }
     ensures { text.new ≡ front_text (plain_words bytes.now) }
 {
     let word = word_at(bytes, 0);

@@ -5,7 +5,7 @@ ghost use Rattle.cap_words.specs.Ends.{MemoryFails, OutputFails};
 ghost use Rattle.std.specs.Io.KnownBytes.{Appends};
 ghost use Rattle.std.specs.Prelude.{◌≡◌, ◌≤◌, IsErrOf, OnErr, OnOk, take, true, ℕ};
 
-use super::spelling::{ROOM_BYTES, spell_plain, spell_zeros};
+use super::encoding::{BUFFER_BYTES, encode_plain, encode_zeros};
 use cap_words::{ByteOut, OutFault, write_all};
 
 /// The most words that follow the first one of a group.
@@ -24,18 +24,18 @@ pub(crate) enum Group {
 
 /// Encodes the group at the start of the buffer. Returns how many bytes that takes.
 #[inline(always)]
-pub(crate) fn spell_group(
+pub(crate) fn encode_group(
     group: Group,
     words: &[u64; MORE_WORDS],
-    room: &mut [u8; ROOM_BYTES],
+    buffer: &mut [u8; BUFFER_BYTES],
 ) -> usize
     ensures within { result ≤ 2050 }
-    ensures spelled { take result room.new ≡ group_bytes group words.now }
+    ensures encoded { take result buffer.new ≡ group_bytes group words.now }
 {
     match group {
         Group::Empty => 0,
-        Group::Zeros { more } => spell_zeros(room, 0, more),
-        Group::Plain { first, more } => spell_plain(room, 0, first, &words[..more as usize]),
+        Group::Zeros { more } => encode_zeros(buffer, 0, more),
+        Group::Plain { first, more } => encode_plain(buffer, 0, first, &words[..more as usize]),
     }
 }
 
@@ -45,23 +45,23 @@ pub(crate) fn write_group<O: ByteOut>(
     output: &mut O,
     group: Group,
     words: &[u64; MORE_WORDS],
-    room: &mut [u8; ROOM_BYTES],
+    buffer: &mut [u8; BUFFER_BYTES],
 ) -> Result<(), OutFault>
     ensures ok { OnOk result
         (Appends (O.written output.old) (O.written output.new) (group_bytes group words.now)) }
     ensures err { OnErr result ((n : ℕ)
         × Appends (O.written output.old) (O.written output.new)
         (take n (group_bytes group words.now))) }
-    ensures works { OnOk result ((O.spent output.new ≡ O.spent output.old)
+    ensures works { OnOk result ((O.broken output.new ≡ O.broken output.old)
         × (O.failures output.new ≡ O.failures output.old)) }
-    ensures idle { OnOk result (O.spent output.new ≡ true → output.new ≡ output.old) }
+    ensures idle { OnOk result (O.broken output.new ≡ true → output.new ≡ output.old) }
     ensures device { IsErrOf result OutFault.Device →
-        OutputFails O.spent O.failures output.old output.new × (O.spent output.new ≡ true) }
+        OutputFails O.broken O.failures output.old output.new × (O.broken output.new ≡ true) }
     ensures memory { IsErrOf result OutFault.Memory →
-        MemoryFails O.spent O.failures output.old output.new }
-    ensures was_spent { IsErrOf result OutFault.Spent →
-        (O.spent output.old ≡ true) × (output.new ≡ output.old) }
+        MemoryFails O.broken O.failures output.old output.new }
+    ensures was_broken { IsErrOf result OutFault.Spent →
+        (O.broken output.old ≡ true) × (output.new ≡ output.old) }
 {
-    let len = spell_group(group, words, room);
-    write_all(output, &room[..len])
+    let len = encode_group(group, words, buffer);
+    write_all(output, &buffer[..len])
 }

@@ -34,25 +34,25 @@ pub fn head_len(tag: u8) -> usize
 
 /// What a head says, by its tag and the bytes after the tag. Bytes after the head change nothing.
 #[inline(always)]
-pub(crate) fn head_of(tag: u8, room: &[u8; 9]) -> Head
-    ensures word { result.word ≡ first_word tag room.now }
-    ensures zeros { result.zeros ≡ zeros_of tag room.now }
-    ensures plain { result.plain ≡ plain_of tag room.now }
+pub(crate) fn head_of(tag: u8, buffer: &[u8; 9]) -> Head
+    ensures word { result.word ≡ first_word tag buffer.now }
+    ensures zeros { result.zeros ≡ zeros_of tag buffer.now }
+    ensures plain { result.plain ≡ plain_of tag buffer.now }
 {
     match tag {
         0 => Head {
             word: 0,
-            zeros: room[0],
+            zeros: buffer[0],
             plain: 0,
         },
         0xff => Head {
-            word: LittleEndian::read_u64(room),
+            word: LittleEndian::read_u64(buffer),
             zeros: 0,
-            plain: room[8],
+            plain: buffer[8],
         },
         _ => {
             let mut present = [0; 8];
-            present.copy_from_slice(&room[..8]);
+            present.copy_from_slice(&buffer[..8]);
             Head {
                 word: scatter(tag, &present),
                 zeros: 0,
@@ -91,11 +91,11 @@ fn after_tag(bytes: &[u8], len: usize) -> [u8; 9]
     requires { (len ≤ 9) × (len < length bytes.now) }
     ensures { take len result ≡ take len (drop 1 bytes.now) }
 {
-    let mut room = [0; 9];
+    let mut buffer = [0; 9];
     if bytes.len() > 9 {
-        room.copy_from_slice(&bytes[1..10]);
-        return room;
+        buffer.copy_from_slice(&bytes[1..10]);
+        return buffer;
     }
-    room[..len].copy_from_slice(&bytes[1..1 + len]);
-    room
+    buffer[..len].copy_from_slice(&bytes[1..1 + len]);
+    buffer
 }

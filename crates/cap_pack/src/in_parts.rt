@@ -5,11 +5,11 @@ ghost use Rattle.cap_spec.specs.Plain.{plain_words};
 ghost use Rattle.std.specs.Prelude.{◌++◌, ◌<◌, ◌≡◌, ◌≤◌, drop, length, take};
 
 use super::buffers::{front_group, write_group};
-use super::pieces::{PIECE_WORDS, read_words, spell_groups};
-use super::spelling::ROOM_BYTES;
+use super::encoding::BUFFER_BYTES;
+use super::pieces::{PIECE_WORDS, encode_groups, read_words};
 
 /// How many bytes the buffer for a part of a packed text has.
-pub const PART_BYTES: usize = ROOM_BYTES;
+pub const PART_BYTES: usize = BUFFER_BYTES;
 
 /// How much of some bytes was packed.
 #[derive(Clone, Copy, Debug, PartialEq, Eq, Drop)]
@@ -42,7 +42,7 @@ pub fn pack_part(bytes: &[u8], text: &mut [u8; PART_BYTES]) -> PackedPart
     }
     let mut words = [0; PIECE_WORDS];
     let count = read_words(bytes, &mut words);
-    let piece = spell_groups(&words[..count], text, 0);
+    let piece = encode_groups(&words[..count], text, 0);
     if piece.words > 0 {
         return PackedPart {
             taken: 8 * piece.words,

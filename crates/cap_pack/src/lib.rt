@@ -2,8 +2,9 @@
 //! kernels that take a vector of words or bytes at a time.
 #![tactic(auto)]
 
-mod at_hand;
+mod buffered;
 mod buffers;
+mod encoding;
 mod group;
 mod head;
 mod in_parts;
@@ -11,7 +12,6 @@ pub mod lanes;
 mod packer;
 mod pieces;
 mod reads;
-mod spelling;
 mod unpacker;
 
 pub use buffers::pack_into;

@@ -1,6 +1,6 @@
 //! A sink of words over packed bytes.
 
-ghost use Rattle.cap_pack.specs.Holding.{IsRun, Spells, first_zeros, group_bytes, held};
+ghost use Rattle.cap_pack.specs.Holding.{IsRun, Encodes, first_zeros, group_bytes, held};
 ghost use Rattle.cap_spec.specs.Packing.{group_size, pack_text};
 ghost use Rattle.cap_words.specs.Ends.{MemoryFails, OutputFails, WasClosed};
 ghost use Rattle.cap_words.specs.Sinks.{StaysOpen, StoppedPutting, WasPut, begins_appended};
@@ -8,10 +8,10 @@ ghost use Rattle.cap_words.specs.declared.sinks.SinkFault.TheVariants.{Device, M
 ghost use Rattle.std.specs.Io.KnownBytes.{Keeps, append_known};
 ghost use Rattle.std.specs.Prelude.{◌++◌, ◌<◌, ◌≡◌, ◌≤◌, ◌||◌, [], ◌∷◌, IsErrOf, List, OnErr, OnOk, drop, false, length, take, true, ℕ};
 
-use super::group::{Group, MORE_WORDS, spell_group, write_group};
+use super::encoding::BUFFER_BYTES;
+use super::group::{Group, MORE_WORDS, encode_group, write_group};
 use super::lanes::{full_run, zero_run};
-use super::pieces::{PIECE_WORDS, read_words, spell_groups};
-use super::spelling::ROOM_BYTES;
+use super::pieces::{PIECE_WORDS, encode_groups, read_words};
 use cap_words::{ByteOut, OutFault, SinkFault, WordSink, write_all};
 
 /// Writes words in one packed encoding (encoding: Packing). A zero word begins the longest run of
@@ -26,7 +26,7 @@ pub struct Packer<O> {
     // after the first word of a run of literal words
     words: [u64; MORE_WORDS],
     // where a group is encoded before it is written
-    room: [u8; ROOM_BYTES],
+    buffer: [u8; BUFFER_BYTES],
     ghost one_group: { group_size (held group words) ≡ length (held group words) },
     ghost full_first: { first_zeros group ≡ 0 },
 }
@@ -43,11 +43,11 @@ impl<O: ByteOut> Packer<O> {
             ⟦<Packer<O> as WordSink>⟧.text result ws
             ≡ append_known (O.written output) (pack_text ws) }
         ensures closed { ⟦<Packer<O> as WordSink>⟧.closed result ≡ false }
-        ensures spent { ⟦<Packer<O> as WordSink>⟧.spent result ≡ O.spent output }
+        ensures broken { ⟦<Packer<O> as WordSink>⟧.broken result ≡ O.broken output }
         ensures shows_taken { (s : Packer O) → ⟦<Packer<O> as WordSink>⟧.taken s ≡ O.written (packer_output s) }
-        ensures when_spent { (s : Packer O) →
-            ⟦<Packer<O> as WordSink>⟧.spent s
-            ≡ (⟦<Packer<O> as WordSink>⟧.closed s || O.spent (packer_output s)) }
+        ensures when_broken { (s : Packer O) →
+            ⟦<Packer<O> as WordSink>⟧.broken s
+            ≡ (⟦<Packer<O> as WordSink>⟧.closed s || O.broken (packer_output s)) }
         ensures shows_failures { (s : Packer O) →
             ⟦<Packer<O> as WordSink>⟧.failures s ≡ O.failures (packer_output s) }
         ensures text { (s : Packer O) →
@@ -60,7 +60,7 @@ impl<O: ByteOut> Packer<O> {
             closed: false,
             group: Group::Empty,
             words: [0; MORE_WORDS],
-            room: [0; ROOM_BYTES],
+            buffer: [0; BUFFER_BYTES],
         }
     }
 
@@ -85,7 +85,7 @@ impl<O: ByteOut> Packer<O> {
     pub fn put_all(&mut self, words: &[u64]) -> Result<(), SinkFault>
         ensures put { OnOk result (WasPut ⟦<Packer<O> as WordSink>⟧.text self.old self.new words.now) }
         ensures ok { OnOk result
-            (StaysOpen ⟦<Packer<O> as WordSink>⟧.closed ⟦<Packer<O> as WordSink>⟧.spent
+            (StaysOpen ⟦<Packer<O> as WordSink>⟧.closed ⟦<Packer<O> as WordSink>⟧.broken
             ⟦<Packer<O> as WordSink>⟧.failures self.old self.new) }
         ensures err { OnErr result ((⟦<Packer<O> as WordSink>⟧.closed self.new ≡ true)
             × StoppedPutting ⟦<Packer<O> as WordSink>⟧.text ⟦<Packer<O> as WordSink>⟧.taken self.old
@@ -93,11 +93,11 @@ impl<O: ByteOut> Packer<O> {
         ensures stays { ⟦<Packer<O> as WordSink>⟧.closed self.old ≡ true →
             (result ≡ Err Spent) × (self.new ≡ self.old) }
         ensures device { IsErrOf result Device →
-            OutputFails ⟦<Packer<O> as WordSink>⟧.spent ⟦<Packer<O> as WordSink>⟧.failures self.old self.new }
+            OutputFails ⟦<Packer<O> as WordSink>⟧.broken ⟦<Packer<O> as WordSink>⟧.failures self.old self.new }
         ensures memory { IsErrOf result Memory →
-            MemoryFails ⟦<Packer<O> as WordSink>⟧.spent ⟦<Packer<O> as WordSink>⟧.failures self.old self.new }
-        ensures was_spent { IsErrOf result Spent →
-            WasClosed ⟦<Packer<O> as WordSink>⟧.spent ⟦<Packer<O> as WordSink>⟧.failures self.old self.new
+            MemoryFails ⟦<Packer<O> as WordSink>⟧.broken ⟦<Packer<O> as WordSink>⟧.failures self.old self.new }
+        ensures was_broken { IsErrOf result Spent →
+            WasClosed ⟦<Packer<O> as WordSink>⟧.broken ⟦<Packer<O> as WordSink>⟧.failures self.old self.new
             × Keeps (⟦<Packer<O> as WordSink>⟧.taken self.old) (⟦<Packer<O> as WordSink>⟧.taken self.new) }
     {
         if self.closed {
@@ -122,7 +122,7 @@ impl<O: ByteOut> Packer<O> {
         ensures joined { held self.new.group self.new.words ≡ held self.old.group self.old.words
             ++ take result words.now }
         ensures apart { let rest = drop result words.now in result < length words.now →
-            Spells (held self.new.group self.new.words ++ rest)
+            Encodes (held self.new.group self.new.words ++ rest)
             (group_bytes self.new.group self.new.words) rest }
     {
         match self.group {
@@ -171,34 +171,34 @@ impl<O: ByteOut> Packer<O> {
         };
     }
 
-    // Takes a piece of words. What spells the groups that ended is written at once.
+    // Takes a piece of words. What encodes the groups that ended is written at once.
     fn put_piece(&mut self, words: &[u64]) -> Result<(), OutFault>
         requires { length words.now ≤ 64 }
         ensures ok { OnOk result (WasPut ⟦<Packer<O> as WordSink>⟧.text self.old self.new words.now) }
         ensures err { OnErr result (StoppedPutting ⟦<Packer<O> as WordSink>⟧.text ⟦<Packer<O> as WordSink>⟧.taken
             self.old self.new words.now) }
-        ensures works { OnOk result ((O.spent self.new.output ≡ O.spent self.old.output)
+        ensures works { OnOk result ((O.broken self.new.output ≡ O.broken self.old.output)
             × (O.failures self.new.output ≡ O.failures self.old.output)) }
-        ensures idle { OnOk result (O.spent self.new.output ≡ true →
+        ensures idle { OnOk result (O.broken self.new.output ≡ true →
             self.new.output ≡ self.old.output) }
         ensures device { IsErrOf result OutFault.Device →
-            OutputFails O.spent O.failures self.old.output self.new.output }
+            OutputFails O.broken O.failures self.old.output self.new.output }
         ensures memory { IsErrOf result OutFault.Memory →
-            MemoryFails O.spent O.failures self.old.output self.new.output }
-        ensures was_spent { IsErrOf result OutFault.Spent →
-            (O.spent self.old.output ≡ true) × (self.new.output ≡ self.old.output) }
+            MemoryFails O.broken O.failures self.old.output self.new.output }
+        ensures was_broken { IsErrOf result OutFault.Spent →
+            (O.broken self.old.output ≡ true) × (self.new.output ≡ self.old.output) }
         ensures closed { self.new.closed ≡ self.old.closed }
     {
         let joined = self.extend(words);
         if joined == words.len() {
             return Ok(());
         }
-        let start = spell_group(self.group, &self.words, &mut self.room);
-        let spelled = spell_groups(&words[joined..], &mut self.room, start);
-        if let Err(fault) = write_all(&mut self.output, &self.room[..spelled.bytes]) {
+        let start = encode_group(self.group, &self.words, &mut self.buffer);
+        let encoded = encode_groups(&words[joined..], &mut self.buffer, start);
+        if let Err(fault) = write_all(&mut self.output, &self.buffer[..encoded.bytes]) {
             return Err(fault);
         }
-        self.open(&words[joined + spelled.words..]);
+        self.open(&words[joined + encoded.words..]);
         Ok(())
     }
 }
@@ -212,7 +212,7 @@ impl<O: ByteOut> WordSink for Packer<O> {
 
     ghost closed = { λ s. s.closed };
 
-    ghost spent = { λ s. s.closed || O.spent s.output };
+    ghost broken = { λ s. s.closed || O.broken s.output };
 
     fn put(&mut self, word: u64) -> Result<(), SinkFault> {
         self.put_all(&[word])
@@ -253,7 +253,7 @@ impl<O: ByteOut> WordSink for Packer<O> {
             return Err(SinkFault::Spent);
         }
         self.closed = true;
-        match write_group(&mut self.output, self.group, &self.words, &mut self.room) {
+        match write_group(&mut self.output, self.group, &self.words, &mut self.buffer) {
             Ok(()) => Ok(()),
             Err(fault) => Err(SinkFault::from(fault)),
         }

@@ -5,8 +5,8 @@ ghost use Rattle.cap_spec.specs.Packing.{pack_text, tag_of};
 ghost use Rattle.cap_spec.specs.Plain.{plain_words, word_bytes};
 ghost use Rattle.std.specs.Prelude.{◌*◌, ◌+◌, ◌++◌, ◌<◌, ◌==◌, ◌≡◌, ◌≤◌, ◌∷◌, List, drop, filter, length, not, take, ℕ};
 
+use super::encoding::{BUFFER_BYTES, encode_plain, encode_zeros};
 use super::lanes::{full_run, squeezed, tag_of_word, zero_run};
-use super::spelling::{ROOM_BYTES, spell_plain, spell_zeros};
 use byteorder::{ByteOrder, LittleEndian};
 
 /// The most words of a piece.
@@ -26,7 +26,7 @@ pub(crate) fn read_words(bytes: &[u8], words: &mut [u64; PIECE_WORDS]) -> usize
 
 /// How much of a piece was encoded.
 #[derive(Clone, Copy)]
-pub(crate) struct Spelled {
+pub(crate) struct Encoded {
     /// the words of the groups that ended
     pub(crate) words: usize,
     /// the bytes in the buffer
@@ -36,11 +36,11 @@ pub(crate) struct Spelled {
 // Encodes a word by its tag and its bytes that aren't zero, after the first `len` bytes. Returns
 // how many bytes there are then.
 #[inline(always)]
-fn spell_marked(text: &mut [u8; ROOM_BYTES], len: usize, tag: u8, word: u64) -> usize
+fn encode_marked(text: &mut [u8; BUFFER_BYTES], len: usize, tag: u8, word: u64) -> usize
     requires marked { tag ≡ tag_of (word_bytes word) }
-    requires room { len + 9 ≤ 2690 }
+    requires fits { len + 9 ≤ 2690 }
     ensures within { result ≤ len + 9 }
-    ensures spelled { take result text.new ≡ take len text.old ++ tag
+    ensures encoded { take result text.new ≡ take len text.old ++ tag
         ∷ filter (λ b. not (b == 0)) (word_bytes word) }
 {
     text[len] = tag;
@@ -50,12 +50,12 @@ fn spell_marked(text: &mut [u8; ROOM_BYTES], len: usize, tag: u8, word: u64) -> 
 
 /// Encodes the groups of a piece of words after the first `start` bytes, but for a run at the end,
 /// which words after the piece may go on with.
-pub(crate) fn spell_groups(words: &[u64], text: &mut [u8; ROOM_BYTES], start: usize) -> Spelled
+pub(crate) fn encode_groups(words: &[u64], text: &mut [u8; BUFFER_BYTES], start: usize) -> Encoded
     requires few { length words.now ≤ 64 }
-    requires room { start ≤ 2050 }
+    requires fits { start ≤ 2050 }
     ensures words { result.words ≤ length words.now }
     ensures bytes { result.bytes ≤ 2690 }
-    ensures spelled { (ws : List ℕ) → take start text.old ++ pack_text (words.now ++ ws)
+    ensures encoded { (ws : List ℕ) → take start text.old ++ pack_text (words.now ++ ws)
         ≡ take result.bytes text.new ++ pack_text (drop result.words words.now ++ ws) }
     ensures run { IsRun (drop result.words words.now) }
 {
@@ -67,29 +67,29 @@ pub(crate) fn spell_groups(words: &[u64], text: &mut [u8; ROOM_BYTES], start: us
         if tag == 0 {
             let more = zero_run(&words[at + 1..]);
             if at + 1 + more == words.len() {
-                return Spelled {
+                return Encoded {
                     words: at,
                     bytes: len,
                 };
             }
-            len = spell_zeros(text, len, more as u8);
+            len = encode_zeros(text, len, more as u8);
             at += 1 + more;
         } else if tag == 255 {
             let more = full_run(&words[at + 1..]);
             if at + 1 + more == words.len() {
-                return Spelled {
+                return Encoded {
                     words: at,
                     bytes: len,
                 };
             }
-            len = spell_plain(text, len, word, &words[at + 1..at + 1 + more]);
+            len = encode_plain(text, len, word, &words[at + 1..at + 1 + more]);
             at += 1 + more;
         } else {
-            len = spell_marked(text, len, tag, word);
+            len = encode_marked(text, len, tag, word);
             at += 1;
         }
     }
-    Spelled {
+    Encoded {
         words: at,
         bytes: len,
     }

@@ -16,17 +16,17 @@ pub(crate) fn read_head<I: ByteIn>(bytes: &mut Counted<I>) -> Result<Option<Head
         ≡ group_course g.word g.zeros g.plain bytes.new.read ys))) }
     ensures none { result ≡ Ok None → Reads I.to_come bytes.old bytes.new []
         × IsAtEnd (I.to_come bytes.new.input) × (bytes.new.read ≡ bytes.old.read) }
-    ensures works { OnOk result (NoFault I.spent I.failures bytes.old.input bytes.new.input) }
+    ensures works { OnOk result (NoFault I.broken I.failures bytes.old.input bytes.new.input) }
     ensures truncated { (byte : ℕ) → IsErrOf result (SourceFault.Truncated byte) →
         (byte ≡ bytes.new.read) × ReadsAll I.to_come bytes.old bytes.new
         (λ bs. course 0 bytes.old.read bs ≡ stops bytes.new.read) }
     ensures worked { (byte : ℕ) → IsErrOf result (SourceFault.Truncated byte)
-        → NoFault I.spent I.failures bytes.old.input bytes.new.input }
+        → NoFault I.broken I.failures bytes.old.input bytes.new.input }
     ensures device { IsErrOf result SourceFault.Device →
-        InputFails I.spent I.failures bytes.old.input bytes.new.input }
+        InputFails I.broken I.failures bytes.old.input bytes.new.input }
     ensures reads { (bs : List ℕ) × Reads I.to_come bytes.old bytes.new bs }
-    ensures was_spent { IsErrOf result SourceFault.Spent →
-        (I.spent bytes.old.input ≡ true) × (bytes.new ≡ bytes.old) }
+    ensures was_broken { IsErrOf result SourceFault.Spent →
+        (I.broken bytes.old.input ≡ true) × (bytes.new ≡ bytes.old) }
 {
     let mut tag = [0];
     match bytes.fill(&mut tag) {
@@ -35,9 +35,9 @@ pub(crate) fn read_head<I: ByteIn>(bytes: &mut Counted<I>) -> Result<Option<Head
         Err(fault) => return Err(SourceFault::from(fault)),
     }
     let tag = tag[0];
-    let mut room = [0; 9];
-    match read_whole(bytes, &mut room[..head_len(tag)]) {
-        Ok(()) => Ok(Some(head_of(tag, &room))),
+    let mut buffer = [0; 9];
+    match read_whole(bytes, &mut buffer[..head_len(tag)]) {
+        Ok(()) => Ok(Some(head_of(tag, &buffer))),
         Err(fault) => Err(fault),
     }
 }
@@ -48,17 +48,17 @@ pub(crate) fn read_word<I: ByteIn>(bytes: &mut Counted<I>) -> Result<u64, Source
         × ((n : ℕ) (ys : List ℕ) →
         course (suc n) bytes.old.read (bs ++ ys)
         ≡ gives w bytes.new.read (course n bytes.new.read ys))) }
-    ensures works { OnOk result (NoFault I.spent I.failures bytes.old.input bytes.new.input) }
+    ensures works { OnOk result (NoFault I.broken I.failures bytes.old.input bytes.new.input) }
     ensures truncated { (byte : ℕ) → IsErrOf result (SourceFault.Truncated byte) →
         (byte ≡ bytes.new.read) × ReadsAll I.to_come bytes.old bytes.new
         (λ bs. (n : ℕ) → course (suc n) bytes.old.read bs ≡ stops bytes.new.read) }
     ensures worked { (byte : ℕ) → IsErrOf result (SourceFault.Truncated byte)
-        → NoFault I.spent I.failures bytes.old.input bytes.new.input }
+        → NoFault I.broken I.failures bytes.old.input bytes.new.input }
     ensures device { IsErrOf result SourceFault.Device →
-        InputFails I.spent I.failures bytes.old.input bytes.new.input }
+        InputFails I.broken I.failures bytes.old.input bytes.new.input }
     ensures reads { (bs : List ℕ) × Reads I.to_come bytes.old bytes.new bs }
-    ensures was_spent { IsErrOf result SourceFault.Spent →
-        (I.spent bytes.old.input ≡ true) × (bytes.new ≡ bytes.old) }
+    ensures was_broken { IsErrOf result SourceFault.Spent →
+        (I.broken bytes.old.input ≡ true) × (bytes.new ≡ bytes.old) }
 {
     let mut word = [0; 8];
     match read_whole(bytes, &mut word) {
@@ -71,17 +71,17 @@ pub(crate) fn read_word<I: ByteIn>(bytes: &mut Counted<I>) -> Result<u64, Source
 fn read_whole<I: ByteIn>(bytes: &mut Counted<I>, buf: &mut [u8]) -> Result<(), SourceFault>
     requires { 0 < length buf.old }
     ensures took { OnOk result (Reads I.to_come bytes.old bytes.new buf.new) }
-    ensures works { OnOk result (NoFault I.spent I.failures bytes.old.input bytes.new.input) }
+    ensures works { OnOk result (NoFault I.broken I.failures bytes.old.input bytes.new.input) }
     ensures truncated { (byte : ℕ) → IsErrOf result (SourceFault.Truncated byte) →
         (byte ≡ bytes.new.read) × ReadsAll I.to_come bytes.old bytes.new
         (λ bs. length bs < length buf.new) }
     ensures worked { (byte : ℕ) → IsErrOf result (SourceFault.Truncated byte)
-        → NoFault I.spent I.failures bytes.old.input bytes.new.input }
+        → NoFault I.broken I.failures bytes.old.input bytes.new.input }
     ensures device { IsErrOf result SourceFault.Device →
-        InputFails I.spent I.failures bytes.old.input bytes.new.input }
+        InputFails I.broken I.failures bytes.old.input bytes.new.input }
     ensures reads { (bs : List ℕ) × Reads I.to_come bytes.old bytes.new bs }
-    ensures was_spent { IsErrOf result SourceFault.Spent →
-        (I.spent bytes.old.input ≡ true) × (bytes.new ≡ bytes.old) }
+    ensures was_broken { IsErrOf result SourceFault.Spent →
+        (I.broken bytes.old.input ≡ true) × (bytes.new ≡ bytes.old) }
 {
     match bytes.fill(buf) {
         Ok(len) if len == buf.len() => Ok(()),

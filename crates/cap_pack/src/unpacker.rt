@@ -6,11 +6,11 @@ ghost use Rattle.cap_pack.specs.State.{ahead};
 ghost use Rattle.cap_spec.specs.PackedEnds.{packed_ends};
 ghost use Rattle.cap_spec.specs.Plain.{plain_words};
 ghost use Rattle.cap_spec.specs.Unpacking.{packed_is_cut, unpacked};
-ghost use Rattle.cap_words.specs.Phases.{has_ended, has_failed, source_spent};
+ghost use Rattle.cap_words.specs.Phases.{has_ended, has_failed, source_broken};
 ghost use Rattle.std.specs.Option.{option_map};
 ghost use Rattle.std.specs.Prelude.{◌++◌, ◌<◌, ◌≡◌, ◌≤◌, ◌||◌, [], IfSome, List, OnSome, false, if◌then◌else◌, length, take, unwrap_or, ℕ};
 
-use super::at_hand::{append_words, unpack};
+use super::buffered::{append_words, unpack};
 use super::reads::{read_head, read_word};
 use cap_words::{ByteIn, Counted, Phase, SourceFault, WordSource};
 
@@ -27,14 +27,14 @@ pub struct Unpacker<I: ByteIn> {
     // how many words as they are are still to be read
     plain: u8,
     // while zero words are held the input works
-    ghost usable: { 0 < zeros → I.spent bytes.input ≡ false },
+    ghost usable: { 0 < zeros → I.broken bytes.input ≡ false },
 }
 
 impl<I: ByteIn> Unpacker<I> {
     ghost use Rattle.cap_pack.specs.Input.{unpacker_input};
     ghost use Rattle.cap_pack.specs.declared.unpacker.Unpacker.{Unpacker};
 
-    /// The words that the packed bytes of `input` spell, from its next byte on.
+    /// The words that the packed bytes of `input` encode, from its next byte on.
     pub fn new(input: I) -> Unpacker<I>
         ensures input { unpacker_input result ≡ input }
         ensures words { ⟦<Unpacker<I> as WordSource>⟧.words result
@@ -48,11 +48,11 @@ impl<I: ByteIn> Unpacker<I> {
         ensures ended { ⟦<Unpacker<I> as WordSource>⟧.ended result ≡ false }
         ensures failed { ⟦<Unpacker<I> as WordSource>⟧.failed result ≡ false }
         ensures failures { ⟦<Unpacker<I> as WordSource>⟧.failures result ≡ I.failures input }
-        ensures spent { ⟦<Unpacker<I> as WordSource>⟧.spent result ≡ I.spent input }
-        ensures when_spent { (s : Unpacker I I.ByteIn) →
-            ⟦<Unpacker<I> as WordSource>⟧.spent s
+        ensures broken { ⟦<Unpacker<I> as WordSource>⟧.broken result ≡ I.broken input }
+        ensures when_broken { (s : Unpacker I I.ByteIn) →
+            ⟦<Unpacker<I> as WordSource>⟧.broken s
             ≡ (if ⟦<Unpacker<I> as WordSource>⟧.ended s then false else
-            (⟦<Unpacker<I> as WordSource>⟧.failed s || I.spent (unpacker_input s))) }
+            (⟦<Unpacker<I> as WordSource>⟧.failed s || I.broken (unpacker_input s))) }
         ensures shows_unread { (s : Unpacker I I.ByteIn) →
             ⟦<Unpacker<I> as WordSource>⟧.unread s ≡ I.to_come (unpacker_input s) }
         ensures shows_failures { (s : Unpacker I I.ByteIn) →
@@ -71,7 +71,7 @@ impl<I: ByteIn> Unpacker<I> {
     /// device isn't called. The bytes of `out` after those written may be overwritten. 0 doesn't say
     /// that no words are to come or buffered.
     pub fn peek(&self, out: &mut [u8]) -> usize
-        ensures room { result ≤ length out.new }
+        ensures fits { result ≤ length out.new }
         ensures words { IfSome (⟦<Unpacker<I> as WordSource>⟧.words self.now)
             (λ ws. (rest : List ℕ) × (ws ≡ plain_words (take result out.new) ++ rest)) }
     {
@@ -110,7 +110,7 @@ impl<I: ByteIn> WordSource for Unpacker<I> {
 
     ghost failures = { λ s. I.failures s.bytes.input };
 
-    ghost spent = { λ s. source_spent s.phase (I.spent s.bytes.input) };
+    ghost broken = { λ s. source_broken s.phase (I.broken s.bytes.input) };
 
     fn next(&mut self) -> Result<Option<u64>, SourceFault> {
         // For the proof alone: the range of this number.
@@ -198,7 +198,7 @@ impl<I: ByteIn> WordSource for Unpacker<I> {
 
     // Zero words of a run that are still to be given are no bytes: they don't delay a flush of what
     // was written so far.
-    fn is_at_hand(&self) -> bool {
+    fn is_buffered(&self) -> bool {
         match self.phase {
             Phase::Open => !self.bytes.input.held().is_empty(),
             _ => false,

@@ -8,12 +8,12 @@ use Rattle.cap_spec.proofs.ProofNames.{IsStep, step_text}
 use Rattle.cap_path.specs.PathReading.{IsBadNumber, is_digit, longer_number, no_digit, no_end, number_with}
 use Rattle.cap_path.proofs.PathReading.{Unfinished, bad_here, stops}
 use Rattle.cap_path.proofs.ReadSteps.{HasRead, IsReading, Item, Number, Pointer, Reading, Slash, item_number, next_of}
-use Rattle.cap_path.proofs.ReadSteps.{pointer_number, reading_text, spells_more}
+use Rattle.cap_path.proofs.ReadSteps.{pointer_number, reading_text, encodes_more}
 
--- how a step is spelled by a letter and a number, and read
-pub record IsSpelled (letter most : ℕ) (r : Reading) (make : ℕ → Step) : Type 0 where
+-- how a step is encoded by a letter and a number, and read
+pub record IsEncoded (letter most : ℕ) (r : Reading) (make : ℕ → Step) : Type 0 where
   pub begins : reading_text r ≡ 47 ∷ letter ∷ []
-  pub spells : (n : ℕ) → step_text (make n) ≡ 47 ∷ letter ∷ decimal n
+  pub encodes : (n : ℕ) → step_text (make n) ≡ 47 ∷ letter ∷ decimal n
   pub fits : (n : ℕ) → n ≤ most → IsStep (make n)
   pub reads : (done : List Step) → IsReading done r × Unfinished done r
   pub first : (b : ℕ) → is_digit b ≡ false → next_of r b ≡ None
@@ -27,20 +27,20 @@ later_item : (t : Bool) (o : Option ℕ) → (if t then o else None) ≡ None �
 later_item true o e = ap item_number e
 later_item false o e = refl
 
-pub pointers : IsSpelled 112 65535 Pointer Ptr
+pub pointers : IsEncoded 112 65535 Pointer Ptr
 pointers = record {
   begins = refl;
-  spells = λ n. refl;
+  encodes = λ n. refl;
   fits = λ n few. omega (arith, few);
   reads = λ done. (tt, tt);
   first = λ b none. rw none refl;
   later = λ n b other none. rw (ne_eqb b 47 other) (later_ptr (is_digit b) (longer_number n (b - 48) 65535) none);
 }
 
-pub items : IsSpelled 105 4294967295 Item item
+pub items : IsEncoded 105 4294967295 Item item
 items = record {
   begins = refl;
-  spells = λ n. refl;
+  encodes = λ n. refl;
   fits = λ n few. omega (arith, few);
   reads = λ done. (tt, tt);
   first = λ b none. rw none refl;
@@ -54,22 +54,22 @@ letter_read text slash letter lt here is =
     let less : slash < length text = omega (arith, lt) in
     let b = get_or text (slash + 1) 0 in
     take_more text (slash + 1) 0 lt
-    ∙ spells_more (take (slash + 1) text) (take slash text) (get_or text slash 0 ∷ []) (47 ∷ letter ∷ []) b
+    ∙ encodes_more (take (slash + 1) text) (take slash text) (get_or text slash 0 ∷ []) (47 ∷ letter ∷ []) b
     (take_more text slash 0 less) (ap (λ k. k ∷ b ∷ []) here ∙ ap (λ k. 47 ∷ k ∷ []) is)
 
 -- and then a number.
 pub step_read : (text : List ℕ) (slash letter n end : ℕ) (s : Step) → slash + 1 < length text → get_or text slash 0 ≡ 47
     → get_or text (slash + 1) 0 ≡ letter → step_text s ≡ 47 ∷ letter ∷ decimal n
     → take end text ≡ take (slash + 1 + 1) text ++ decimal n → take end text ≡ take slash text ++ step_text s
-step_read text slash letter n end s lt here is spelled e =
+step_read text slash letter n end s lt here is encoded e =
     e ∙ ap (λ l. l ++ decimal n) (letter_read text slash letter lt here is)
-    ∙ append_assoc (take slash text) (47 ∷ letter ∷ []) (decimal n) ∙ ap (λ l. take slash text ++ l) (sym spelled)
+    ∙ append_assoc (take slash text) (47 ∷ letter ∷ []) (decimal n) ∙ ap (λ l. take slash text ++ l) (sym encoded)
 
 module _ (text : List ℕ) (slash : ℕ) (done : List Step) (lt : slash < length text) (here : get_or text slash 0 ≡ 47)
     (are : AllByRecursion IsStep done) (before : take slash text ≡ flat_map step_text done) where
   read_on : (end : ℕ) (r : Reading) → IsReading done r → take end text ≡ take slash text ++ reading_text r
       → HasRead (take end text) done r
-  read_on end r fits e = record { are = are; fits = fits; spells = e ∙ ap (λ l. l ++ reading_text r) before }
+  read_on end r fits e = record { are = are; fits = fits; encodes = e ∙ ap (λ l. l ++ reading_text r) before }
 
   some_done : 1 < length text → slash + 1 ≡ length text → 0 < length done
   some_done long e = go done before
@@ -87,13 +87,13 @@ module _ (text : List ℕ) (slash : ℕ) (done : List Step) (lt : slash < length
       (λ more. rw (ne_eqb (get_or text (slash + 1) 0) 112 (none more).0, ne_eqb (get_or text (slash + 1) 0) 105 (none more).1) refl)
 
   -- There is no number.
-  pub bad_number : (letter most at : ℕ) (r : Reading) (make : ℕ → Step) → IsSpelled letter most r make
+  pub bad_number : (letter most at : ℕ) (r : Reading) (make : ℕ → Step) → IsEncoded letter most r make
       → slash + 1 < length text → get_or text (slash + 1) 0 ≡ letter → IsBadNumber text (slash + 1 + 1) most at → IsBadAt text at
   bad_number letter most at r make s more is (no_digit e none) =
       let read = letter_read text slash letter more here is ∙ ap (λ l. take slash text ++ l) (sym s.begins) in
       let h = subst (λ (n : ℕ). HasRead (take n text) done r) (sym e) (read_on (slash + 1 + 1) r (s.reads done).0 read) in
       stops text at done r (omega (arith, e, more)) h (λ _. (s.reads done).1) (λ less. s.first (get_or text at 0) (none less))
   bad_number letter most at r make s more is (no_end n few less e other none) =
-      let read = step_read text slash letter n at (make n) more here is (s.spells n) e in
+      let read = step_read text slash letter n at (make n) more here is (s.encodes n) e in
       bad_here text at done (Number (make n)) (read_on at (Number (make n)) (s.fits n few) read)
       (s.later n (get_or text at 0) other none) less

@@ -103,7 +103,7 @@ run_steps (s ∷ steps) r a e = run_both (step_text s) (flat_map step_text steps
 
 -- what was read is read
 run_read : (text : List ℕ) (done : List Step) (r : Reading) → HasRead text done r → run text Start ≡ Some r
-run_read text done r h = ap (λ t. run t Start) h.spells ∙ run_both (flat_map step_text done) (reading_text r) Start
+run_read text done r h = ap (λ t. run t Start) h.encodes ∙ run_both (flat_map step_text done) (reading_text r) Start
     (last_of done Start) (run_steps done Start h.are refl) ∙ rest r h.fits
   where
     rest : (r : Reading) → IsReading done r → run (reading_text r) (last_of done Start) ≡ Some r
@@ -185,7 +185,7 @@ unfinished text done r [] h u a e =
     let same : Some r ≡ Some Slash = sym (run_read text done r h) ∙ ap (λ t. run t Start) e in
     let is : r ≡ Slash = cc in
     longer_text done (subst (λ (x : Reading). Unfinished done x) is u)
-    (subst (λ (x : Reading). flat_map step_text done ++ reading_text x ≡ codes "/") is (sym h.spells ∙ e))
+    (subst (λ (x : Reading). flat_map step_text done ++ reading_text x ≡ codes "/") is (sym h.encodes ∙ e))
 unfinished text done r (s ∷ steps) h u a e =
     let last = last_is_step steps s in
     let same : Some r ≡ Some (Number last.0) = sym (run_read text done r h) ∙ ap (λ t. run t Start) e

@@ -58,7 +58,7 @@ IsReading done Item = Unit {0}
 pub record HasRead (text : List ℕ) (done : List Step) (reading : Reading) : Type 0 where
   pub are : AllByRecursion IsStep done
   pub fits : IsReading done reading
-  pub spells : text ≡ flat_map step_text done ++ reading_text reading
+  pub encodes : text ≡ flat_map step_text done ++ reading_text reading
 
 -- the text of steps, with one step more
 pub texts-snoc : (done : List Step) (s : Step) → flat_map step_text (done ++ s ∷ []) ≡ flat_map step_text done ++ step_text s
@@ -80,7 +80,7 @@ completes text rest done reading s h fits e = record {
   are = are-snoc done s h.are fits;
   rest = rest;
   whole = path-snoc done s ∙ ap (λ l. flat_map step_text done ++ l) e
-      ∙ sym (append_assoc (flat_map step_text done) (reading_text reading) rest) ∙ ap (λ l. l ++ rest) (sym h.spells);
+      ∙ sym (append_assoc (flat_map step_text done) (reading_text reading) rest) ∙ ap (λ l. l ++ rest) (sym h.encodes);
 }
 
 zero_text : decimal 0 ≡ 48 ∷ []
@@ -93,7 +93,7 @@ read_begins text done Start h =
       are = tt;
       rest = codes "/";
       whole = ap (λ l. l ++ codes "/")
-          (sym (h.spells ∙ ap (λ (d : List Step). flat_map step_text d ++ []) h.fits));
+          (sym (h.encodes ∙ ap (λ (d : List Step). flat_map step_text d ++ []) h.fits));
     }
 read_begins text done Slash h = completes text (codes "p0") done Slash (Ptr 0) h (omega arith) (ap (λ ds. 47 ∷ 112 ∷ ds) zero_text)
 read_begins text done Pointer h = completes text (codes "0") done Pointer (Ptr 0) h (omega arith) (ap (λ ds. 47 ∷ 112 ∷ ds) zero_text)
@@ -117,8 +117,8 @@ digit_more n b some few low high =
     sym (step ∙ ap (λ k. decimal k ++ ((48 + (10 * n + (b - 48)) % 10) ∷ [])) front ∙ ap (λ k. decimal n ++ (k ∷ [])) last)
 
 -- a text with one byte more
-pub spells_more : (text before x y : List ℕ) (b : ℕ) → text ≡ before ++ x → x ++ b ∷ [] ≡ y → text ++ b ∷ [] ≡ before ++ y
-spells_more text before x y b e f = ap (λ l. l ++ b ∷ []) e ∙ append_assoc before x (b ∷ []) ∙ ap (λ l. before ++ l) f
+pub encodes_more : (text before x y : List ℕ) (b : ℕ) → text ≡ before ++ x → x ++ b ∷ [] ≡ y → text ++ b ∷ [] ≡ before ++ y
+encodes_more text before x y b e f = ap (λ l. l ++ b ∷ []) e ∙ append_assoc before x (b ∷ []) ∙ ap (λ l. before ++ l) f
 
 -- a choice that gives something
 chosen : {A : Type 0} (t : Bool) (x y : Option A) (z : A) → (if t then x else y) ≡ Some z → ((t ≡ true) × (x ≡ Some z)) ⊎ ((t ≡ false) × (y ≡ Some z))
@@ -159,7 +159,7 @@ next_digit text from end n most k lt e few less is =
           let longer = longer_is n (b - 48) most k h.1 in (
             omega (arith, longer.1, longer.2),
             take_more text end 0 lt
-                ∙ spells_more (take end text) (take from text) (decimal n) (decimal k) b e
+                ∙ encodes_more (take end text) (take from text) (decimal n) (decimal k) b e
                 (digit_more n b longer.0 (omega (arith, few, less)) range.0 range.1 ∙ ap decimal (sym longer.2)),
           )
       | inr h ↦ let f = h.1 in absurd (cc)

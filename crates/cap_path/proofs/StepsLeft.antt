@@ -37,7 +37,7 @@ pub first_read : (text : List ℕ) (end : ℕ) (s step : Step) (more : List Step
     → (s ≡ step) × (drop end text ≡ flat_map step_text more)
 first_read text end s step more h are e =
     one_front s step (drop end text) (flat_map step_text more) h.fits are.0 (ends_after text end h.ends) (ends_number more)
-    (ap (λ l. l ++ drop end text) (sym h.spells) ∙ take-append-drop end text ∙ e)
+    (ap (λ l. l ++ drop end text) (sym h.encodes) ∙ take-append-drop end text ∙ e)
 
 -- The text of some steps begins with a slash, and is longer.
 pub first_slash : (text : List ℕ) (step : Step) (more : List Step) → text ≡ flat_map step_text (step ∷ more)

@@ -21,7 +21,7 @@ pub record IsNumberAt (text : List ℕ) (from most n end : ℕ) : Type 0 where
   pub few : n ≤ most
   pub some : from < end
   pub inside : end ≤ length text
-  pub spells : take end text ≡ take from text ++ decimal n
+  pub encodes : take end text ≡ take from text ++ decimal n
   pub ends : end < length text → slice_index text end ≡ 47
 
 -- no such number is at a place of a text: none goes on with this byte of the text
@@ -37,5 +37,5 @@ pub record IsStepAt (text : List ℕ) (slash : ℕ) (step : Step) (end : ℕ) : 
   pub fits : IsStep step
   pub some : slash < end
   pub inside : end ≤ length text
-  pub spells : take end text ≡ take slash text ++ step_text step
+  pub encodes : take end text ≡ take slash text ++ step_text step
   pub ends : end < length text → slice_index text end ≡ 47

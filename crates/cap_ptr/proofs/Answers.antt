@@ -1,4 +1,4 @@
--- What is so of a pointer word tells the answer of following it.
+-- What is so of a pointer word gives the answer of following it.
 use Rattle.cap_spec.specs.declared.Reason.{Reason}
 use Rattle.cap_spec.proofs.Pointers.Following.{cap-not_wrong, null-not_wrong, object-not_wrong, one_lead, one_wrong}
 use Rattle.cap_spec.proofs.ProofNames.{Err, IfErr, IfOk, List, Ok, Result, ap, pos, refl, subst, ℕ, ◌≡◌, Finds, Leads}

@@ -8,7 +8,7 @@ use Rattle.cap_ptr.specs.Rows.{FindsRow, HasPointers}
 use Rattle.cap_ptr.specs.Shapes.{FindsTarget, IsPlain, IsShape}
 use Rattle.cap_ptr.specs.declared.near.Row.{Row}
 use Rattle.cap_ptr.specs.declared.shapes.Shape.{Shape}
-use Rattle.cap_ptr.proofs.Pads.{object-lead, stands-near}
+use Rattle.cap_ptr.proofs.Pads.{object-lead, lies-near}
 
 -- a word that describes its object alone has no tag,
 pub pointers-plain : (q n : ℕ) → HasPointers q n → IsPlain q
@@ -34,7 +34,7 @@ row_found m s w q r has some start_is pointers words few last inside =
     let plain = pointers-plain q r.pointer_count pointers in
     record {
       finds = record {
-        leads = object-lead m s w 0 s w q (pos r.start) (stands-near m s w q has (λ e. omega (arith, plain.0, e))) plain.0 some
+        leads = object-lead m s w 0 s w q (pos r.start) (lies-near m s w q has (λ e. omega (arith, plain.0, e))) plain.0 some
             start_is;
         inside = record { exists = HasWord-segment m s w q has; inside = omega (arith, words, inside); composite = λ c. absurd (plain.1 c.0 c.1) };
       };

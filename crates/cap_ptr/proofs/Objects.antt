@@ -1,4 +1,4 @@
--- What the words of an object tell of its place and its charge.
+-- What the words of an object say of its place and its charge.
 use Rattle.cap_spec.specs.declared.Reason.TheVariants.{OutOfSegment}
 use Rattle.cap_spec.proofs.Pointers.Following.{wrong-out}
 use Rattle.cap_spec.proofs.ProofNames.{List, arith, if◌then◌else◌, inr, length, pos, refl, sym, ℕ, ◌*◌, ◌+◌, ◌<◌, ◌==◌}

@@ -1,4 +1,4 @@
--- Which word stands for a pointer word over its pads, and what a two-word pad leads to.
+-- Which word represents a pointer word over its pads, and what a two-word pad leads to.
 use Rattle.std.proofs.Common.{◌<ℤ◌}
 use Rattle.cap_spec.specs.declared.Reason.TheVariants.{OutOfSegment, PadNotFar, TagKind, TagOffset}
 use Rattle.cap_spec.proofs.Pointers.Following.{wrong-out, wrong-pad_far, wrong-pad_near, wrong-pad_reserved}
@@ -18,18 +18,18 @@ says_near t b q (to_object u x y) h f =
     let k : kind q < 2 = h.0 in
     absurd (omega arith)
 
--- a word that isn't far stands for itself
-pub stands-near : (m : List (List ℕ)) (s w p : ℕ) → HasWord m s w p → kind p ≢ 2 → ResolvesTo m s w 0 s w p
-stands-near m s w p h n = record {
+-- a word that isn't far represents itself
+pub lies-near : (m : List (List ℕ)) (s w p : ℕ) → HasWord m s w p → kind p ≢ 2 → ResolvesTo m s w 0 s w p
+lies-near m s w p h n = record {
   leads = λ r says. near p h n says refl;
   reserved = wrong-reserved m s w p h;
   far = λ f. absurd (n f);
 }
 
--- the word of a one-word pad stands for its pointer word
-pub stands-one_pad : (m : List (List ℕ)) (s w p t b q : ℕ) → HasWord m s w p → IsOnePad p → t ≡ far_segment p → b ≡ pad p → HasWord m t b q
+-- the word of a one-word pad represents its pointer word
+pub lies-one_pad : (m : List (List ℕ)) (s w p t b q : ℕ) → HasWord m s w p → IsOnePad p → t ≡ far_segment p → b ≡ pad p → HasWord m t b q
     → ResolvesTo m s w 1 t b q
-stands-one_pad m s w p t b q h one t_is b_is hq =
+lies-one_pad m s w p t b q h one t_is b_is hq =
     let hq' : HasWord m (far_segment p) (pad p) q = subst (λ y. HasWord m (far_segment p) y q) b_is (subst (λ x. HasWord m x b q) t_is hq) in
     record {
       leads = λ r says. one_pad p q h one hq' (says_near t b q r says)
@@ -54,7 +54,7 @@ module _ (m : List (List ℕ)) (s w p f q : ℕ) (h : HasTwoPad m s w p f q) whe
 -- the word of an object leads there
 pub object-lead : (m : List (List ℕ)) (s w k t b q : ℕ) (start : ℤ) → ResolvesTo m s w k t b q → kind q < 2 → q ≢ 0
     → start ≡ pos (b + 1) +ℤ signed_offset_of q → Leads m s w k (to_object t start q)
-object-lead m s w k t b q start stands kind_below some e = stands.leads (to_object t start q) (kind_below, some, refl, e, refl)
+object-lead m s w k t b q start lies kind_below some e = lies.leads (to_object t start q) (kind_below, some, refl, e, refl)
 
 -- an object that starts before its segment is outside
 pub wrong-before : (m : List (List ℕ)) (s w k t : ℕ) (start : ℤ) (q : ℕ) → Leads m s w k (to_object t start q) → t < length m → start <ℤ pos 0

@@ -15,13 +15,13 @@ use Rattle.cap_read.specs.ReadNodes.{IsPlaceInside, IsRead}
 pub no_place : (m : List (List ℕ)) (path : List Step) → ((level : ℕ) (a : Spot) → ReachesSpot m path level a → ⊥) → (t b n : ℕ) → IsPlace m path t b n → ⊥
 no_place m path none t b n h = none h.0 h.1 h.2
 
--- or where nothing stands at that spot;
+-- or where nothing is at that spot;
 no_place_there : (m : List (List ℕ)) (path : List Step) (level : ℕ) (a : Spot) → ReachesSpot m path level a → ((t b n : ℕ) → HasPlace m a t b n → ⊥) →
     (t b n : ℕ) → IsPlace m path t b n → ⊥
 no_place_there m path level a h none t b n g =
     none t b n (subst (λ (x : Spot). HasPlace m x t b n) (sym (one_coming m path level g.0 a g.1 h g.2).1) g.3)
 
--- and else the place of the path is that of what stands there.
+-- and else the place of the path is that of what is there.
 placed_there : (m : List (List ℕ)) (path : List Step) (level : ℕ) (a : Spot) (o : Option Place) → ReachesSpot m path level a
     → MatchOption o ((t b n : ℕ) → HasPlace m a t b n → ⊥) (λ p. HasPlace m a p.segment p.start p.words)
     → IfSome o (λ p. p.segment < length m) → IfSome o (λ p. p.start + p.words ≤ length (segment_of m p.segment))
@@ -65,23 +65,23 @@ node_read {m} {words} {depth} {path} {r} t a {o} h come node shows same s e i =
       placed = placed_there m path come.0 a o come.1 there e i;
     }
 
--- one thing stands at a spot
-one_stands : (m : List (List ℕ)) (a : Spot) (t b n t' b' n' : ℕ) → HasPlace m a t b n → HasPlace m a t' b' n' → (t ≡ t') × (b ≡ b') × (n ≡ n')
-one_stands m (word s w) t b n t' b' n' h g =
+-- one thing is at a spot
+one_lies : (m : List (List ℕ)) (a : Spot) (t b n t' b' n' : ℕ) → HasPlace m a t b n → HasPlace m a t' b' n' → (t ≡ t') × (b ≡ b') × (n ≡ n')
+one_lies m (word s w) t b n t' b' n' h g =
     let l : to_object t (pos b) h.1 ≡ to_object t' (pos b') g.1 =
     (one_lead m s w h.0 g.0 (to_object t (pos b) h.1) (to_object t' (pos b') g.1) h.2.leads g.2.leads).1 in
     let q : h.1 ≡ g.1 = cc in
     (cc, cc, h.3 ∙ (ap extent q ∙ sym g.3))
-one_stands m (element t'' b'' ds ps) t b n t' b' n' h g = (h.0 ∙ sym g.0, h.1 ∙ sym g.1, h.2 ∙ sym g.2)
+one_lies m (element t'' b'' ds ps) t b n t' b' n' h g = (h.0 ∙ sym g.0, h.1 ∙ sym g.1, h.2 ∙ sym g.2)
 
--- the bytes of the place of what stands at the end of a path are those of the place of the path
+-- the bytes of the place of what is at the end of a path are those of the place of the path
 pub bytes_there : (m : List (List ℕ)) (path : List Step) (level : ℕ) (a : Spot) (o : Option Place) → ReachesSpot m path level a
     → MatchOption o ((t b n : ℕ) → HasPlace m a t b n → ⊥) (λ p. HasPlace m a p.segment p.start p.words)
     → (t b n : ℕ) → IsPlace m path t b n → bytes_of_place m o ≡ plain_text (words_from m t b n)
 bytes_there m path level a None h s t b n g = absurd (no_place_there m path level a h s t b n g)
 bytes_there m path level a (Some p) h s t b n g =
     let same : g.1 ≡ a = sym (one_coming m path level g.0 a g.1 h g.2).1 in
-    let e = one_stands m a p.segment p.start p.words t b n s (subst (λ (x : Spot). HasPlace m x t b n) same g.3) in
+    let e = one_lies m a p.segment p.start p.words t b n s (subst (λ (x : Spot). HasPlace m x t b n) same g.3) in
     ap (λ x. plain_text (words_from m x p.start p.words)) e.0
     ∙ (ap (λ x. plain_text (words_from m t x p.words)) e.1 ∙ ap (λ x. plain_text (words_from m t b x)) e.2)
 

@@ -16,19 +16,19 @@ module _ {S : Type 0} (g : source.Ghosts S) where
       → (g.ended new ≡ true) ⊎ (g.failed new ≡ true)
   over_after limit old new x4 f byte e = search rules
 
-  cut_of : (o : Option (List ℕ)) (cut told : Bool) (new : S) → OnSome o (IsOver g cut new) → (g.ended new ≡ true → told ≡ false)
-      → (g.failed new ≡ true → told ≡ true) → IfSome o (λ ws. told ≡ cut)
-  cut_of x1 x2 told new h e f = search rules
+  cut_of : (o : Option (List ℕ)) (cut reported : Bool) (new : S) → OnSome o (IsOver g cut new) → (g.ended new ≡ true → reported ≡ false)
+      → (g.failed new ≡ true → reported ≡ true) → IfSome o (λ ws. reported ≡ cut)
+  cut_of x1 x2 reported new h e f = search rules
 
   -- its next answer says whether it ended inside a word
-  pub cut_after : (limit : ℕ) (old new : S) (fault : FrameFault) (told : Bool) → Faults g limit old new fault
-      → ((byte : ℕ) → fault ≡ Truncated byte → g.ended new ≡ true → told ≡ false)
-      → ((byte : ℕ) → fault ≡ Truncated byte → g.failed new ≡ true → told ≡ true)
-      → (((byte : ℕ) → fault ≡ Truncated byte → ⊥) → told ≡ false) → EndsCut fault (g.words old) (g.is_cut old) told
-  cut_after limit old new x4 told f ended failed other = search (rules, cut_of)
+  pub cut_after : (limit : ℕ) (old new : S) (fault : FrameFault) (reported : Bool) → Faults g limit old new fault
+      → ((byte : ℕ) → fault ≡ Truncated byte → g.ended new ≡ true → reported ≡ false)
+      → ((byte : ℕ) → fault ≡ Truncated byte → g.failed new ≡ true → reported ≡ true)
+      → (((byte : ℕ) → fault ≡ Truncated byte → ⊥) → reported ≡ false) → EndsCut fault (g.words old) (g.is_cut old) reported
+  cut_after limit old new x4 reported f ended failed other = search (rules, cut_of)
 
 module _ {S O : Type 0} (gs : source.Ghosts S) (go : output.Ghosts O) where
   -- a message that was read has none of it
-  pub read_breaks : (texts : List ℕ → Counted → Type 0) (wants : Type 0) (before after : O) (packed : Bool) (limit : ℕ) (old : S)
-      (cause : Cause) (at : StreamBreak) → WritesOneOf go texts wants before after (Err cause) → BreaksBy gs packed limit old cause at
-  read_breaks texts wants before after packed limit old x8 at w = search rules
+  pub read_breaks : (texts : List ℕ → Counted → Type 0) (allocates : Type 0) (before after : O) (packed : Bool) (limit : ℕ) (old : S)
+      (cause : Cause) (at : StreamBreak) → WritesOneOf go texts allocates before after (Err cause) → BreaksBy gs packed limit old cause at
+  read_breaks texts allocates before after packed limit old x8 at w = search rules

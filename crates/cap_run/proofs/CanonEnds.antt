@@ -80,32 +80,32 @@ module _ {S K : Type 0} (gs : source.Ghosts S) (gk : sink.Ghosts K) (demands : D
       (all_back (HasOne demands words depth) (canonised cs) (m ∷ next.0)
       (subst (AllByRecursion (HasOne demands words depth)) next.1 (each_has demands words depth ds a))).0
 
-  -- behind some messages of such a stream, no fault comes of the others
-  canon_behind : (mid : S) (cs ds : List Canonised) (own : List ℕ) (cause : Cause) (P : Type 0)
+  -- after some messages of such a stream, no fault comes of the others
+  canon_after : (mid : S) (cs ds : List Canonised) (own : List ℕ) (cause : Cause) (P : Type 0)
       → gs.words old ≡ Some own → gs.is_cut old ≡ false → Stream own (canonised ds)
       → AllByRecursion (λ m. sum (sizes_of m) ≤ limit) (canonised ds) → AreCanonised demands words depth ds
       → length ds ≤ most
       → ReadsStream gs limit old mid (canonised cs)
       → CanonStops gs gk demands words depth limit most cs mid new before after cause → SettledAt cause P
-  canon_behind mid cs ds own TooManyMessages P w c s l a few reads stops =
+  canon_after mid cs ds own TooManyMessages P w c s l a few reads stops =
       absurd (none_over gs limit old mid new (canonised cs) own (canonised ds) stops.0.1 w s reads stops.0.2
       (omega (arith, few, stops.0.0, length-canonised cs, length-canonised ds)))
-  canon_behind mid cs ds own (Frame fault) P w c s l a few reads stops = none_faulted gs limit old mid new
+  canon_after mid cs ds own (Frame fault) P w c s l a few reads stops = none_faulted gs limit old mid new
       (canonised cs) own (canonised ds) fault P w c s l reads stops.0
-  canon_behind mid cs ds own (Output fault) P w c s l a few reads stops = tt
-  canon_behind mid cs ds own (Refused refusal) P w c s l a few reads stops =
+  canon_after mid cs ds own (Output fault) P w c s l a few reads stops = tt
+  canon_after mid cs ds own (Refused refusal) P w c s l a few reads stops =
       let h = next_has mid cs ds own stops.0.1 w s a reads stops.0.2 in
       let k = h.1.is_accepted in
       absurd (within_not_refused stops.0.1 (words_under demands stops.0.1 words) depth refusal
       (k.0, h.1.report.charge, h.1.report.depth, k.1.within) stops.0.3)
-  canon_behind mid cs ds own (NotStrict fault) P w c s l a few reads stops =
+  canon_after mid cs ds own (NotStrict fault) P w c s l a few reads stops =
       let h = next_has mid cs ds own stops.0.1 w s a reads stops.0.2 in
       absurd (strict_is_strict demands stops.0.1 words depth fault h.1.is_strict stops.0.3)
-  canon_behind mid cs ds own (Canon (HasCapability seg word)) P w c s l a few reads stops =
+  canon_after mid cs ds own (Canon (HasCapability seg word)) P w c s l a few reads stops =
       let h = next_has mid cs ds own stops.0.1 w s a reads stops.0.3 in
       absurd (cap_no_copy stops.0.1 seg word h.0 stops.0.6 h.1.has_copy)
-  canon_behind mid cs ds own (Canon Memory) P w c s l a few reads stops = tt
-  canon_behind mid cs ds own no_marks P w c s l a few reads stops = absurd stops
+  canon_after mid cs ds own (Canon Memory) P w c s l a few reads stops = tt
+  canon_after mid cs ds own no_marks P w c s l a few reads stops = absurd stops
 
   -- such a stream is read to its end
   canon_settled : (r : Result Outcome RunFault) (own : List ℕ) (ds : List Canonised) → SaysCopies r → SaysNoCopies r
@@ -121,7 +121,7 @@ module _ {S K : Type 0} (gs : source.Ghosts S) (gk : sink.Ghosts K) (demands : D
         subst (Finishes gk before after) (same_copies demands words depth end.0 ds end.2 a same) end.3,
         ap (λ (o : Outcome). Ok o) (end.5 ∙ ap (λ (n : ℕ). record { messages = n; refused = 0; noncanonical = 0 }) many),
       )
-  canon_settled (Err fault) own ds end f w c s l a few = canon_behind f.1 f.0 ds own fault.cause _ w c s l a few f.4 f.6
+  canon_settled (Err fault) own ds end f w c s l a few = canon_after f.1 f.0 ds own fault.cause _ w c s l a few f.4 f.6
 
 module _ {S K : Type 0} {gs : source.Ghosts S} {gk : sink.Ghosts K} {demands : Demands} {words depth limit most : ℕ}
     {old new : S} {before after : K} where

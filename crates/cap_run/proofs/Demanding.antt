@@ -2,38 +2,38 @@
 use Rattle.cap_spec.proofs.ProofNames.{List, Result, [], false, ℕ, ◌+◌, ◌∷◌, ◌≡◌, ◌≤◌, rules}
 use Rattle.cap_vet.specs.Demands.{words_under}
 use Rattle.cap_run.specs.Demanding.{no_demands}
-use Rattle.cap_run.specs.RunNames.{Demands, Cause, RunFault, OrFault, WantsUnder, ReachesEnd, StopsEarly, TellsStream}
-use Rattle.cap_run.specs.RunNames.{RunStops, Tells, TellsEach, Told, WantsNone, Counted, Outcome}
+use Rattle.cap_run.specs.RunNames.{Demands, Cause, RunFault, OrFault, AllocatesUnder, ReachesEnd, StopsEarly, ReportsStream}
+use Rattle.cap_run.specs.RunNames.{RunStops, Reports, ReportsEach, Reported, AllocatesNone, Counted, Outcome}
 use Rattle.cap_run.proofs.Settling.{settled}
 use Rattle.cap_words.specs.declared.ends.ByteOut as output
 use Rattle.cap_words.specs.declared.sources.WordSource as source
 
-module _ (tells others : Tells)
-    (turn : (n : ℕ) (m : List (List ℕ)) (text : List ℕ) (counted : Counted) → tells n m text counted
+module _ (reports others : Reports)
+    (turn : (n : ℕ) (m : List (List ℕ)) (text : List ℕ) (counted : Counted) → reports n m text counted
     → others n m text counted) where
   -- each text is one of others
-  each_as : (n : ℕ) (ts : List Told) → TellsEach tells n ts → TellsEach others n ts
+  each_as : (n : ℕ) (ts : List Reported) → ReportsEach reports n ts → ReportsEach others n ts
   each_as n [] e = tt
   each_as n (t ∷ ts) e = (turn n t.message t.text t.counted e.0, each_as (n + 1) ts e.1)
 
-  module _ {S O : Type 0} (gs : source.Ghosts S) (go : output.Ghosts O) (wants needs : List (List ℕ) → Type 0)
-      (want : (m : List (List ℕ)) → wants m → needs m) (limit most : ℕ) (old new : S) (before after : O) where
-    stops_as : (ts : List Told) (mid : S) (cause : Cause)
-        → RunStops gs go tells wants limit most ts mid new before after cause
+  module _ {S O : Type 0} (gs : source.Ghosts S) (go : output.Ghosts O) (allocates needs : List (List ℕ) → Type 0)
+      (want : (m : List (List ℕ)) → allocates m → needs m) (limit most : ℕ) (old new : S) (before after : O) where
+    stops_as : (ts : List Reported) (mid : S) (cause : Cause)
+        → RunStops gs go reports allocates limit most ts mid new before after cause
         → RunStops gs go others needs limit most ts mid new before after cause
     stops_as ts mid x3 s = search rules
 
-    reaches_as : (r : Result Outcome RunFault) → ReachesEnd gs go tells limit most old new before after r
+    reaches_as : (r : Result Outcome RunFault) → ReachesEnd gs go reports limit most old new before after r
         → ReachesEnd gs go others limit most old new before after r
     reaches_as x1 e = search (rules, each_as)
 
-    early_as : (r : Result Outcome RunFault) → StopsEarly gs go tells limit most old new before after wants r
+    early_as : (r : Result Outcome RunFault) → StopsEarly gs go reports limit most old new before after allocates r
         → StopsEarly gs go others limit most old new before after needs r
     early_as x1 e = search (rules, each_as, stops_as)
 
     -- and so is what is written of a stream
-    pub stream_as : (r : Result Outcome RunFault) → TellsStream gs go tells wants limit most old new before after r
-        → TellsStream gs go others needs limit most old new before after r
+    pub stream_as : (r : Result Outcome RunFault) → ReportsStream gs go reports allocates limit most old new before after r
+        → ReportsStream gs go others needs limit most old new before after r
     stream_as r e =
         let ok = reaches_as r e.ok in
         let err = early_as r e.err in
@@ -52,11 +52,11 @@ default_none demands strict plain = search rules
 pub under_few : (demands : Demands) (m : List (List ℕ)) (words : ℕ) → words_under demands m words ≤ words
 under_few demands m words = search rules
 
-module _ {S O : Type 0} (gs : source.Ghosts S) (go : output.Ghosts O) (tells : ℕ → ℕ → Tells)
+module _ {S O : Type 0} (gs : source.Ghosts S) (go : output.Ghosts O) (reports : ℕ → ℕ → Reports)
     (words depth limit most : ℕ) (old new : S) (before after : O) (r : Result Outcome RunFault) where
   -- where no message needs an allocation
-  pub never_wants : (demands : Demands)
-      → TellsStream gs go (OrFault demands tells words depth) (WantsUnder demands (λ w d. WantsNone) words depth)
+  pub never_allocates : (demands : Demands)
+      → ReportsStream gs go (OrFault demands reports words depth) (AllocatesUnder demands (λ w d. AllocatesNone) words depth)
       limit most old new before after r
-      → TellsStream gs go (OrFault demands tells words depth) WantsNone limit most old new before after r
-  never_wants demands e = search (rules, stream_as)
+      → ReportsStream gs go (OrFault demands reports words depth) AllocatesNone limit most old new before after r
+  never_allocates demands e = search (rules, stream_as)

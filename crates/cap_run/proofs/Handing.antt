@@ -13,5 +13,5 @@ frame_of_bytes bytes x e = search (rules, words_exact, append-nil)
 module _ {K : Type 0} (gk : sink.Ghosts K) where
   -- words were put, and no fault came
   pub fills_of : (old new : K) (own : List ℕ) → WasPut gk.text old new own
-      → (gk.closed old ≡ false) × (gk.closed new ≡ false) × (gk.spent new ≡ gk.spent old) × (gk.failures new ≡ gk.failures old) → PutsWords gk old new own
-  fills_of old new own p o = record { put = p; closed = o.1 ∙ sym o.0; spent = o.2; failures = o.3 }
+      → (gk.closed old ≡ false) × (gk.closed new ≡ false) × (gk.broken new ≡ gk.broken old) × (gk.failures new ≡ gk.failures old) → PutsWords gk old new own
+  fills_of old new own p o = record { put = p; closed = o.1 ∙ sym o.0; broken = o.2; failures = o.3 }

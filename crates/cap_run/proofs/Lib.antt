@@ -16,4 +16,4 @@ pub mod Placed
 pub mod Settling
 pub mod Sifting
 pub mod Streams
-pub mod Telling
+pub mod Reporting

@@ -7,11 +7,11 @@ use Rattle.cap_spec.proofs.ProofNames.{Err, IfErr, List, OnOk, Result, [], ap, a
 use Rattle.cap_spec.proofs.ProofNames.{length-append, refl, subst, sym, true, ℕ, ◌++◌, ◌+◌, ◌<◌, ◌∙◌, ◌∷◌, ◌≡◌}
 use Rattle.cap_spec.proofs.ProofNames.{false≢true, map-append, frame_text, rules}
 use Rattle.cap_words.specs.Sinks.{Begins, sink_fault_of}
-use Rattle.cap_words.proofs.Told.{begins_kept}
+use Rattle.cap_words.proofs.Known.{begins_kept}
 use Rattle.cap_frame.specs.Putting.{Blames, Halts}
 use Rattle.cap_frame.proofs.Putting.{blames_later}
 use Rattle.cap_vet.specs.Demands.{IsDemandFault}
-use Rattle.cap_canon.specs.CopyOvers.{TellsOver, grown, has_capability, no_memory, over}
+use Rattle.cap_canon.specs.CopyOvers.{ReportsOver, grown, has_capability, no_memory, over}
 use Rattle.cap_canon.proofs.Copies.{cap_no_copy, same_fault}
 use Rattle.cap_text.specs.declared.fault.Cause.TheVariants.{Output, Refused, Memory as no_marks}
 use Rattle.cap_run.specs.Canons.{CanonEnds, HasNoCopy}
@@ -24,8 +24,8 @@ use Rattle.cap_run.proofs.Transcoding.{fills_both, fills_none, spoils_last}
 use Rattle.cap_words.specs.declared.sinks.WordSink as sink
 use Rattle.cap_words.specs.declared.sources.WordSource as source
 
--- what is told of the fault that came
-pub has_no_copy : (m : List (List ℕ)) (old new : List ℕ) (fault : CanonFault) → TellsOver m old (Err fault) new → HasNoCopy m fault
+-- what is reported of the fault that came
+pub has_no_copy : (m : List (List ℕ)) (old new : List ℕ) (fault : CanonFault) → ReportsOver m old (Err fault) new → HasNoCopy m fault
 has_no_copy m old new fault (has_capability s w f e g) = subst (HasNoCopy m) (sym (same_fault fault (HasCapability s w) e)) f
 has_no_copy m old new fault (no_memory words h l e g) =
     subst (HasNoCopy m) (sym (same_fault fault Memory e)) (λ s w f. cap_no_copy m s w words f h)
@@ -33,9 +33,9 @@ has_no_copy m old new fault (over words h l e t n) = absurd (cc)
 has_no_copy m old new fault (grown words h l e t n) = absurd (cc)
 
 module _ {K : Type 0} (gk : sink.Ghosts K) where
-  -- a fault came behind other words
-  pub halts_behind : (old mid new : K) (a b : List ℕ) (fault : SinkFault) → PutsWords gk old mid a → Halts gk mid new b fault → Halts gk old new (a ++ b) fault
-  halts_behind old mid new a b fault f h = search (rules, append_assoc, begins_kept, blames_later)
+  -- a fault came after other words
+  pub halts_after : (old mid new : K) (a b : List ℕ) (fault : SinkFault) → PutsWords gk old mid a → Halts gk mid new b fault → Halts gk old new (a ++ b) fault
+  halts_after old mid new a b fault f h = search (rules, append_assoc, begins_kept, blames_later)
 
 module _ {K : Type 0} (gk : sink.Ghosts K) (demands : Demands) (words depth : ℕ) where
   -- a message that doesn't meet the demands has no copy
@@ -74,7 +74,7 @@ module _ {S K : Type 0} (gs : source.Ghosts S) (gk : sink.Ghosts K) (demands : D
     few = omega (arith, less, w.many);
     reads = s.1;
     is_canonised = s.2.1;
-    halts = halts_behind gk before between after (copies_of w.cs) (frame_text (s.2.0 ∷ [])) (sink_fault_of fault) w.fills s.2.2;
+    halts = halts_after gk before between after (copies_of w.cs) (frame_text (s.2.0 ∷ [])) (sink_fault_of fault) w.fills s.2.2;
   }
   stops_next most old mid new before between after n (Refused refusal) less w s = ((omega (arith, less, w.many), s.0, s.1, s.2.0), rw s.2.1 w.fills)
   stops_next most old mid new before between after n (NotStrict fault) less w s =

@@ -7,7 +7,7 @@ use Rattle.cap_spec.proofs.ProofNames.{drop-cons, drop-drop, flat_map, if◌then
 use Rattle.cap_spec.proofs.ProofNames.{take_at, true, ℕ, ◌++◌, ◌+◌, ◌-◌, ◌<◌, ◌∙◌, ◌∷◌, ◌≡◌, ◌≤◌, take_rest}
 use Rattle.cap_spec.proofs.ProofNames.{Appends, joined, paired, segment_of, table_of, pack_text}
 use Rattle.cap_spec.proofs.ProofNames.{plain_text, plain_words, word_bytes, rules}
-use Rattle.cap_words.specs.Ends.{DeviceFails, GrowthFails, Works}
+use Rattle.cap_words.specs.Ends.{DeviceFails, AllocationFails, Works}
 use Rattle.cap_words.specs.declared.ends.OutFault.{OutFault}
 use Rattle.cap_words.specs.declared.ends.OutFault.TheVariants.{Device, Memory, Spent}
 use Rattle.cap_frame.specs.Numbers.{numbers_of, pair_at}
@@ -22,16 +22,16 @@ module _ {O : Type 0} (g : output.Ghosts O) where
       → OnOk r (Appends (g.written a) (g.written b) bytes)
       → OnErr r ((n : ℕ) × (n < length bytes) × Appends (g.written a) (g.written b) (take n bytes))
       → (bytes ≡ [] → (r ≡ Ok tt) × (b ≡ a))
-      → (0 < length bytes → OnOk r (Works (g.spent a) (g.spent b) (g.failures a) (g.failures b)))
-      → (IsErrOf r Device → DeviceFails (g.spent a) (g.failures a) (g.failures b) × (g.spent b ≡ true))
-      → (IsErrOf r Memory → GrowthFails (g.spent a) (g.failures a) (g.failures b))
-      → (IsErrOf r Spent → (g.spent a ≡ true) × (b ≡ a)) → Writes g o b r (text ++ bytes)
-  writes_more o a b r text [] w ok err none works device memory was_spent =
+      → (0 < length bytes → OnOk r (Works (g.broken a) (g.broken b) (g.failures a) (g.failures b)))
+      → (IsErrOf r Device → DeviceFails (g.broken a) (g.failures a) (g.failures b) × (g.broken b ≡ true))
+      → (IsErrOf r Memory → AllocationFails (g.broken a) (g.failures a) (g.failures b))
+      → (IsErrOf r Spent → (g.broken a ≡ true) × (b ≡ a)) → Writes g o b r (text ++ bytes)
+  writes_more o a b r text [] w ok err none works device memory was_broken =
       let e = none refl in
       subst (λ (x : Result (Unit {0}) OutFault). Writes g o b x (text ++ [])) (sym e.0)
       (subst (λ (x : O). Wrote g o x (text ++ [])) (sym e.1) (subst (Wrote g o a) (sym (append-nil text)) w))
-  writes_more o a b r text (x ∷ xs) w ok err none works device memory was_spent =
-      writes_then g o a b r text (x ∷ xs) w (writes_all g a b r (x ∷ xs) ok err (works (omega arith)) device memory was_spent)
+  writes_more o a b r text (x ∷ xs) w ok err none works device memory was_broken =
+      writes_then g o a b r text (x ∷ xs) w (writes_all g a b r (x ∷ xs) ok err (works (omega arith)) device memory was_broken)
 
   -- After this text, bytes were written that leave the rest of these.
   pub record Left (old now : O) (text all rest : List ℕ) : Type 0 where

@@ -10,34 +10,34 @@ use Rattle.cap_frame.proofs.Converse.{same_some}
 use Rattle.cap_explain.specs.Leading.{frame_words}
 use Rattle.cap_text.specs.Writing.{Wrote}
 use Rattle.cap_text.specs.declared.fault.RunFault.{RunFault}
-use Rattle.cap_run.specs.Placed.{PlacedEarly, PlacedTells, PlacedToEnd, TellsFrom, TellsPlaced, words_told}
-use Rattle.cap_run.specs.RunNames.{Cause, StepStops, Appended, RunStops, Settled, ReadsStream, Told, messages_of}
+use Rattle.cap_run.specs.Placed.{PlacedEarly, PlacedReports, PlacedToEnd, ReportsFrom, ReportsPlaced, words_reported}
+use Rattle.cap_run.specs.RunNames.{Cause, StepStops, Appended, RunStops, Settled, ReadsStream, Reported, messages_of}
 use Rattle.cap_run.specs.RunNames.{outcome_of, one_noncanonical, one_refused, texts_of, Counted, Outcome}
 use Rattle.cap_run.proofs.Going.{appended_more, appended_none, stops_in}
-use Rattle.cap_run.proofs.Settling.{on_known, settled_behind}
+use Rattle.cap_run.proofs.Settling.{on_known, settled_after}
 use Rattle.cap_run.proofs.Streams.{reads_both, reads_none}
-use Rattle.cap_run.proofs.Telling.{messages_of-snoc, noncanonical_in_le, outcome_of-snoc, refused_in_le, texts_of-snoc}
+use Rattle.cap_run.proofs.Reporting.{messages_of-snoc, noncanonical_in_le, outcome_of-snoc, refused_in_le, texts_of-snoc}
 use Rattle.cap_words.specs.declared.ends.ByteOut as output
 use Rattle.cap_words.specs.declared.sources.WordSource as source
 
-pub words_told-snoc : (ts : List Told) (t : Told) → words_told (ts ++ t ∷ []) ≡ words_told ts + frame_words t.message
-words_told-snoc [] t = omega arith
-words_told-snoc (u ∷ ts) t = let e = words_told-snoc ts t in omega (arith, e)
+pub words_reported-snoc : (ts : List Reported) (t : Reported) → words_reported (ts ++ t ∷ []) ≡ words_reported ts + frame_words t.message
+words_reported-snoc [] t = omega arith
+words_reported-snoc (u ∷ ts) t = let e = words_reported-snoc ts t in omega (arith, e)
 
 -- one more text
-from-snoc : (tells : PlacedTells) (b n : ℕ) (ts : List Told) (t : Told) → TellsFrom tells b n ts
-    → tells (b + words_told ts) (n + length ts) t.message t.text t.counted → TellsFrom tells b n (ts ++ t ∷ [])
-from-snoc tells b n [] t p q = (
-  subst (λ k. tells k n t.message t.text t.counted) (let e : b + 0 ≡ b = omega arith in e)
-      (subst (λ k. tells (b + 0) k t.message t.text t.counted) (let e : n + 0 ≡ n = omega arith in e) q),
+from-snoc : (reports : PlacedReports) (b n : ℕ) (ts : List Reported) (t : Reported) → ReportsFrom reports b n ts
+    → reports (b + words_reported ts) (n + length ts) t.message t.text t.counted → ReportsFrom reports b n (ts ++ t ∷ [])
+from-snoc reports b n [] t p q = (
+  subst (λ k. reports k n t.message t.text t.counted) (let e : b + 0 ≡ b = omega arith in e)
+      (subst (λ k. reports (b + 0) k t.message t.text t.counted) (let e : n + 0 ≡ n = omega arith in e) q),
   tt,
 )
-from-snoc tells b n (u ∷ ts) t p q = (
+from-snoc reports b n (u ∷ ts) t p q = (
   p.0,
-  from-snoc tells (b + frame_words u.message) (n + 1) ts t p.1
-      (subst (λ k. tells k (n + 1 + length ts) t.message t.text t.counted)
-      (let e : b + (frame_words u.message + words_told ts) ≡ b + frame_words u.message + words_told ts = omega arith in e)
-      (subst (λ k. tells (b + (frame_words u.message + words_told ts)) k t.message t.text t.counted)
+  from-snoc reports (b + frame_words u.message) (n + 1) ts t p.1
+      (subst (λ k. reports k (n + 1 + length ts) t.message t.text t.counted)
+      (let e : b + (frame_words u.message + words_reported ts) ≡ b + frame_words u.message + words_reported ts = omega arith in e)
+      (subst (λ k. reports (b + (frame_words u.message + words_reported ts)) k t.message t.text t.counted)
       (let e : n + length (u ∷ ts) ≡ n + 1 + length ts = omega arith in e) q)),
 )
 
@@ -46,16 +46,16 @@ pub frame_small : {S : Type 0} (g : source.Ghosts S) (limit : ℕ) (old new : S)
     → (m : List (List ℕ)) × TakesFrame g limit old new m × (held ≡ m) → limit ≤ 2 ^ 28 → frame_words held ≤ 2 ^ 29
 frame_small g limit old new held h few = search (rules, length-map)
 
-module _ {S O : Type 0} (gs : source.Ghosts S) (go : output.Ghosts O) (tells : PlacedTells) (limit : ℕ) where
-  -- So many messages were read and told of, of so many words.
+module _ {S O : Type 0} (gs : source.Ghosts S) (go : output.Ghosts O) (reports : PlacedReports) (limit : ℕ) where
+  -- This many messages were read and reported, of this many words.
   pub record GoingFrom (old new : S) (before after : O) (outcome : Outcome) (number words : ℕ) : Type 0 where
-    pub ts : List Told
+    pub ts : List Reported
     pub many : length ts ≡ number
-    pub long : words ≡ words_told ts
+    pub long : words ≡ words_reported ts
     pub few : words ≤ number * 2 ^ 29
     pub counts : outcome ≡ outcome_of ts
     pub reads : ReadsStream gs limit old new (messages_of ts)
-    pub each : TellsFrom tells 0 0 ts
+    pub each : ReportsFrom reports 0 0 ts
     pub appended : Appended go before after (texts_of ts)
 
   -- no more were refused than there were
@@ -68,15 +68,15 @@ module _ {S O : Type 0} (gs : source.Ghosts S) (go : output.Ghosts O) (tells : P
       → GoingFrom old new before after outcome number words → outcome.noncanonical ≤ outcome.messages
   from_noncanonical old new before after outcome number words w = rw w.counts (noncanonical_in_le w.ts)
 
-module _ {S O : Type 0} {gs : source.Ghosts S} {go : output.Ghosts O} {tells : PlacedTells} {limit : ℕ} where
+module _ {S O : Type 0} {gs : source.Ghosts S} {go : output.Ghosts O} {reports : PlacedReports} {limit : ℕ} where
   -- none yet
-  pub from_none : {s : S} {o : O} → GoingFrom gs go tells limit s s o o (record { messages = 0; refused = 0; noncanonical = 0 }) 0 0
+  pub from_none : {s : S} {o : O} → GoingFrom gs go reports limit s s o o (record { messages = 0; refused = 0; noncanonical = 0 }) 0 0
   from_none = search (rules, reads_none, appended_none)
 
   -- one more
-  pub from_more : {old mid new : S} {before between after : O} {outcome next : Outcome} {number words more : ℕ} (t : Told)
-      (counted : Counted) → t.counted ≡ counted → GoingFrom gs go tells limit old mid before between outcome number words
-      → tells words number t.message t.text t.counted → ReadsStream gs limit mid new (t.message ∷ []) → Wrote go between after t.text
+  pub from_more : {old mid new : S} {before between after : O} {outcome next : Outcome} {number words more : ℕ} (t : Reported)
+      (counted : Counted) → t.counted ≡ counted → GoingFrom gs go reports limit old mid before between outcome number words
+      → reports words number t.message t.text t.counted → ReadsStream gs limit mid new (t.message ∷ []) → Wrote go between after t.text
       → more ≡ frame_words t.message → more ≤ 2 ^ 29
       → next ≡ record {
         messages = outcome.messages + 1;
@@ -84,11 +84,11 @@ module _ {S O : Type 0} {gs : source.Ghosts S} {go : output.Ghosts O} {tells : P
         noncanonical =
             outcome.noncanonical + one_noncanonical counted;
       }
-      → GoingFrom gs go tells limit old new before after next (number + 1) (words + more)
-  from_more {old} {mid} {new} {before} {between} {after} {outcome} {next} {number} {words} t counted same w told reads wrote is few counts = record {
+      → GoingFrom gs go reports limit old new before after next (number + 1) (words + more)
+  from_more {old} {mid} {new} {before} {between} {after} {outcome} {next} {number} {words} t counted same w reported reads wrote is few counts = record {
     ts = w.ts ++ t ∷ [];
     many = length-append w.ts (t ∷ []) ∙ ap (λ n. n + 1) w.many;
-    long = omega (arith, w.long, is, words_told-snoc w.ts t);
+    long = omega (arith, w.long, is, words_reported-snoc w.ts t);
     few = omega (arith, w.few, few);
     counts = subst (λ (k : Counted). next ≡ record {
       messages = outcome.messages + 1;
@@ -99,30 +99,30 @@ module _ {S O : Type 0} {gs : source.Ghosts S} {go : output.Ghosts O} {tells : P
         (sym same) counts
         ∙ outcome_of-snoc w.ts t outcome w.counts;
     reads = rw (messages_of-snoc w.ts t) (reads_both gs limit old mid new (messages_of w.ts) (t.message ∷ []) w.reads reads);
-    each = from-snoc tells 0 0 w.ts t w.each
-        (subst (λ k. tells k (0 + length w.ts) t.message t.text t.counted) (let e : words ≡ 0 + words_told w.ts = omega (arith, w.long) in e)
-        (subst (λ k. tells words k t.message t.text t.counted) (let e : number ≡ 0 + length w.ts = omega (arith, w.many) in e) told));
+    each = from-snoc reports 0 0 w.ts t w.each
+        (subst (λ k. reports k (0 + length w.ts) t.message t.text t.counted) (let e : words ≡ 0 + words_reported w.ts = omega (arith, w.long) in e)
+        (subst (λ k. reports words k t.message t.text t.counted) (let e : number ≡ 0 + length w.ts = omega (arith, w.many) in e) reported));
     appended = rw (texts_of-snoc w.ts t) (appended_more go before between after (texts_of w.ts) t.text w.appended wrote);
   }
 
-module _ {S O : Type 0} (gs : source.Ghosts S) (go : output.Ghosts O) (tells : PlacedTells) (wants : List (List ℕ) → Type 0) (limit : ℕ) where
+module _ {S O : Type 0} (gs : source.Ghosts S) (go : output.Ghosts O) (reports : PlacedReports) (allocates : List (List ℕ) → Type 0) (limit : ℕ) where
   -- it ended at the next message
   pub from_stops : (old mid new : S) (before between after : O) (outcome : Outcome) (number words most : ℕ) (cause : Cause)
-      → (w : GoingFrom gs go tells limit old mid before between outcome number words) → number < most
-      → StepStops gs go (tells words) wants limit number mid new between after cause
-      → RunStops gs go (tells (words_told w.ts)) wants limit most w.ts mid new before after cause
+      → (w : GoingFrom gs go reports limit old mid before between outcome number words) → number < most
+      → StepStops gs go (reports words) allocates limit number mid new between after cause
+      → RunStops gs go (reports (words_reported w.ts)) allocates limit most w.ts mid new before after cause
   from_stops old mid new before between after outcome number words most x11 w h q = search (rules, stops_in)
 
-module _ {S O : Type 0} (gs : source.Ghosts S) (go : output.Ghosts O) (tells : PlacedTells) (limit most : ℕ) (old new : S) (before after : O) where
+module _ {S O : Type 0} (gs : source.Ghosts S) (go : output.Ghosts O) (reports : PlacedReports) (limit most : ℕ) (old new : S) (before after : O) where
   -- known words decide what was written
-  pub placed_whole : (wants : List (List ℕ) → Type 0) (r : Result Outcome RunFault) (own : List ℕ)
-      (ms : List (List (List ℕ))) → PlacedToEnd gs go tells limit most old new before after r
-      → PlacedEarly gs go tells limit most old new before after wants r → gs.words old ≡ Some own
+  pub placed_whole : (allocates : List (List ℕ) → Type 0) (r : Result Outcome RunFault) (own : List ℕ)
+      (ms : List (List (List ℕ))) → PlacedToEnd gs go reports limit most old new before after r
+      → PlacedEarly gs go reports limit most old new before after allocates r → gs.words old ≡ Some own
       → gs.is_cut old ≡ false → Stream own ms
       → AllByRecursion (λ m. sum (sizes_of m) ≤ limit) ms → length ms ≤ most
-      → Settled r ((ts : List Told) × (messages_of ts ≡ ms) × TellsFrom tells 0 0 ts × Appended go before after (texts_of ts)
+      → Settled r ((ts : List Reported) × (messages_of ts ≡ ms) × ReportsFrom reports 0 0 ts × Appended go before after (texts_of ts)
       × (r ≡ Ok (outcome_of ts)))
-  placed_whole wants (Ok outcome) own ms end fault w c s l few =
+  placed_whole allocates (Ok outcome) own ms end fault w c s l few =
       let all = on_known (gs.words old) own _ w end.1.all in
       let same = same_some own end.1.own (sym w ∙ all.0) in (
         end.0,
@@ -131,10 +131,10 @@ module _ {S O : Type 0} (gs : source.Ghosts S) (go : output.Ghosts O) (tells : P
         end.3,
         ap (λ (o : Outcome). Ok o) end.5,
       )
-  placed_whole wants (Err fault) own ms end f w c s l few =
-      settled_behind gs go (tells (words_told f.0)) limit most old new before after wants f.1 f.0 own ms fault.cause _ w c s l few f.4 f.6
+  placed_whole allocates (Err fault) own ms end f w c s l few =
+      settled_after gs go (reports (words_reported f.0)) limit most old new before after allocates f.1 f.0 own ms fault.cause _ w c s l few f.4 f.6
 
   -- allocations that are among others
-  pub placed_wants : (wants needs : List (List ℕ) → Type 0) → ((m : List (List ℕ)) → wants m → needs m) → (r : Result Outcome RunFault)
-      → TellsPlaced gs go tells wants limit most old new before after r → TellsPlaced gs go tells needs limit most old new before after r
-  placed_wants wants needs want r t = search rules
+  pub placed_allocates : (allocates needs : List (List ℕ) → Type 0) → ((m : List (List ℕ)) → allocates m → needs m) → (r : Result Outcome RunFault)
+      → ReportsPlaced gs go reports allocates limit most old new before after r → ReportsPlaced gs go reports needs limit most old new before after r
+  placed_allocates allocates needs want r t = search rules

@@ -7,12 +7,12 @@ use Rattle.cap_spec.proofs.ProofNames.{inr, length, length-append, subst, sum, s
 use Rattle.cap_spec.proofs.ProofNames.{Consumes, AllByRecursion, ⊤, BeginsMessage, message, Stream, sizes_of, rules}
 use Rattle.cap_frame.specs.ReadingFaults.{Answered, Faults}
 use Rattle.cap_frame.specs.declared.fault.FrameFault.{FrameFault}
-use Rattle.cap_frame.proofs.Converse.{known_still, same_some, tells_fault, settled as settled_by}
+use Rattle.cap_frame.proofs.Converse.{known_still, same_some, reports_fault, settled as settled_by}
 use Rattle.cap_text.specs.declared.fault.Cause.TheVariants.{Output, Refused, Memory as no_marks}
 use Rattle.cap_run.specs.RunNames.{Cause, Canon, Frame, NotStrict, TooManyMessages, RunFault, ReachesEnd, StopsEarly}
-use Rattle.cap_run.specs.RunNames.{Appended, RunStops, Settled, SettledAt, ReadsStream, Tells, TellsEach, Told}
+use Rattle.cap_run.specs.RunNames.{Appended, RunStops, Settled, SettledAt, ReadsStream, Reports, ReportsEach, Reported}
 use Rattle.cap_run.specs.RunNames.{messages_of, outcome_of, texts_of, Outcome}
-use Rattle.cap_run.proofs.Telling.{length-messages_of}
+use Rattle.cap_run.proofs.Reporting.{length-messages_of}
 use Rattle.cap_words.specs.declared.ends.ByteOut as output
 use Rattle.cap_words.specs.declared.sources.WordSource as source
 
@@ -35,7 +35,7 @@ module _ {S : Type 0} (g : source.Ghosts S) (limit : ℕ) where
       next (inl e) =
           answered_absurd fault P _ (λ a. (cc))
           (settled_by (λ m. ⊤) limit rest (g.is_cut mid) (g.places mid) (g.words new) (Err fault) none (e, c)
-          (tells_fault g (λ m. ⊤) limit mid new fault rest w h))
+          (reports_fault g (λ m. ⊤) limit mid new fault rest w h))
       next (inr t) =
           let within = (subst (AllByRecursion (λ m. sum (sizes_of m) ≤ limit)) t.messages l).0 in
           let begins : BeginsMessage limit rest =
@@ -50,7 +50,7 @@ module _ {S : Type 0} (g : source.Ghosts S) (limit : ℕ) where
           } in
           answered_absurd fault P _ (λ a. let e = a.0 in cc)
           (settled_by (λ m. ⊤) limit rest (g.is_cut mid) (g.places mid) (g.words new) (Err fault) message begins
-          (tells_fault g (λ m. ⊤) limit mid new fault rest w h))
+          (reports_fault g (λ m. ⊤) limit mid new fault rest w h))
 
 module _ {S : Type 0} (gs : source.Ghosts S) (limit : ℕ) (old mid new : S) (read : List (List (List ℕ))) (own : List ℕ) (ms : List (List (List ℕ))) where
   -- a stream of which some messages were read goes on with the others
@@ -60,7 +60,7 @@ module _ {S : Type 0} (gs : source.Ghosts S) (limit : ℕ) (old mid new : S) (re
       let here = known_still own reads.own (gs.words mid) (subst (λ (o : Option (List ℕ)). Consumes o (gs.words mid) reads.own) w reads.takes.consumed) in
       (here.0, here.1, stream_front reads.own here.0 read ms reads.stream (subst (λ (ws : List ℕ). Stream ws ms) here.2 s))
 
-  -- a message that was read behind them is the next
+  -- a message that was read after them is the next
   pub reads_next : (m : List (List ℕ)) → gs.words old ≡ Some own → Stream own ms → ReadsStream gs limit old mid read → ReadsStream gs limit mid new (m ∷ [])
       → (more : List (List (List ℕ))) × (ms ≡ read ++ (m ∷ more))
   reads_next m w s reads last =
@@ -85,35 +85,35 @@ module _ {S : Type 0} (gs : source.Ghosts S) (limit : ℕ) (old mid new : S) (re
       no_fault gs limit mid new front.0 front.2.0 fault P front.1 (cut.0 ∙ c) front.2.2
       (all_back (λ m. sum (sizes_of m) ≤ limit) read front.2.0 (subst (AllByRecursion (λ m. sum (sizes_of m) ≤ limit)) front.2.1 l)) stops
 
-module _ {S O : Type 0} (gs : source.Ghosts S) (go : output.Ghosts O) (tells_of : Tells) (limit most : ℕ) (old new : S) (before after : O) where
-  -- each of these messages was told of, and the stream ended
-  abbrev pub ToldEach : List (List (List ℕ)) → Result Outcome RunFault → Type 0
-  ToldEach ms r = (ts : List Told) × (messages_of ts ≡ ms) × TellsEach tells_of 0 ts × Appended go before after (texts_of ts) × (r ≡ Ok (outcome_of ts))
+module _ {S O : Type 0} (gs : source.Ghosts S) (go : output.Ghosts O) (reports_of : Reports) (limit most : ℕ) (old new : S) (before after : O) where
+  -- each of these messages was reported of, and the stream ended
+  abbrev pub ReportedEach : List (List (List ℕ)) → Result Outcome RunFault → Type 0
+  ReportedEach ms r = (ts : List Reported) × (messages_of ts ≡ ms) × ReportsEach reports_of 0 ts × Appended go before after (texts_of ts) × (r ≡ Ok (outcome_of ts))
 
-  -- behind some messages of the stream, no fault comes of the others
-  pub settled_behind : (wants : List (List ℕ) → Type 0) (mid : S) (ts : List Told) (own : List ℕ)
+  -- after some messages of the stream, no fault comes of the others
+  pub settled_after : (allocates : List (List ℕ) → Type 0) (mid : S) (ts : List Reported) (own : List ℕ)
       (ms : List (List (List ℕ))) (cause : Cause) (P : Type 0) → gs.words old ≡ Some own → gs.is_cut old ≡ false
       → Stream own ms
       → AllByRecursion (λ m. sum (sizes_of m) ≤ limit) ms → length ms ≤ most
-      → ReadsStream gs limit old mid (messages_of ts) → RunStops gs go tells_of wants limit most ts mid new before
+      → ReadsStream gs limit old mid (messages_of ts) → RunStops gs go reports_of allocates limit most ts mid new before
       after cause → SettledAt cause P
-  settled_behind wants mid ts own ms TooManyMessages P w c s l few reads stops =
+  settled_after allocates mid ts own ms TooManyMessages P w c s l few reads stops =
       absurd (none_over gs limit old mid new (messages_of ts) own ms stops.2.0 w s reads stops.2.1 (omega (arith, few, stops.0, length-messages_of ts)))
-  settled_behind wants mid ts own ms (Frame fault) P w c s l few reads stops = none_faulted gs limit old mid new
+  settled_after allocates mid ts own ms (Frame fault) P w c s l few reads stops = none_faulted gs limit old mid new
       (messages_of ts) own ms fault P w c s l reads stops.1
-  settled_behind wants mid ts own ms (Output fault) P w c s l few reads stops = tt
-  settled_behind wants mid ts own ms (Refused refusal) P w c s l few reads stops = absurd stops
-  settled_behind wants mid ts own ms (NotStrict fault) P w c s l few reads stops = absurd stops
-  settled_behind wants mid ts own ms (Canon fault) P w c s l few reads stops = absurd stops
-  settled_behind wants mid ts own ms no_marks P w c s l few reads stops = tt
+  settled_after allocates mid ts own ms (Output fault) P w c s l few reads stops = tt
+  settled_after allocates mid ts own ms (Refused refusal) P w c s l few reads stops = absurd stops
+  settled_after allocates mid ts own ms (NotStrict fault) P w c s l few reads stops = absurd stops
+  settled_after allocates mid ts own ms (Canon fault) P w c s l few reads stops = absurd stops
+  settled_after allocates mid ts own ms no_marks P w c s l few reads stops = tt
 
   -- a stream of messages within the limits is read to its end
-  pub settled : (wants : List (List ℕ) → Type 0) (r : Result Outcome RunFault) (own : List ℕ)
-      (ms : List (List (List ℕ))) → ReachesEnd gs go tells_of limit most old new before after r
-      → StopsEarly gs go tells_of limit most old new before after wants r → gs.words old ≡ Some own
+  pub settled : (allocates : List (List ℕ) → Type 0) (r : Result Outcome RunFault) (own : List ℕ)
+      (ms : List (List (List ℕ))) → ReachesEnd gs go reports_of limit most old new before after r
+      → StopsEarly gs go reports_of limit most old new before after allocates r → gs.words old ≡ Some own
       → gs.is_cut old ≡ false → Stream own ms
-      → AllByRecursion (λ m. sum (sizes_of m) ≤ limit) ms → length ms ≤ most → Settled r (ToldEach ms r)
-  settled wants (Ok outcome) own ms end fault w c s l few =
+      → AllByRecursion (λ m. sum (sizes_of m) ≤ limit) ms → length ms ≤ most → Settled r (ReportedEach ms r)
+  settled allocates (Ok outcome) own ms end fault w c s l few =
       let all = on_known (gs.words old) own _ w end.1.all in
       let same = same_some own end.1.own (sym w ∙ all.0) in (
         end.0,
@@ -122,5 +122,5 @@ module _ {S O : Type 0} (gs : source.Ghosts S) (go : output.Ghosts O) (tells_of 
         end.3,
         ap (λ (o : Outcome). Ok o) end.5,
       )
-  settled wants (Err fault) own ms end f w c s l few =
-      settled_behind wants f.1 f.0 own ms fault.cause _ w c s l few f.4 f.6
+  settled allocates (Err fault) own ms end f w c s l few =
+      settled_after allocates f.1 f.0 own ms fault.cause _ w c s l few f.4 f.6

@@ -12,33 +12,33 @@ use Rattle.cap_text.specs.Lines.{accepted_text}
 use Rattle.cap_text.specs.Writing.{Stopped, Wrote}
 use Rattle.cap_text.specs.declared.fault.Cause.TheVariants.{Output, Refused, Memory as no_marks}
 use Rattle.cap_run.specs.Filtering.{AllAccepted, Covers, FiltersAll, FiltersUntil, LastAccepted, LastRefused, Logged}
-use Rattle.cap_run.specs.Filtering.{Noted, Notes, PassesLast, TellsMet, WantsMet, frame_in}
+use Rattle.cap_run.specs.Filtering.{Noted, Notes, PassesLast, ReportsMet, AllocatesMet, frame_in}
 use Rattle.cap_run.specs.RunNames.{OutFault, Demands, Cause, Canon, Frame, NotStrict, TooManyMessages, RunFault}
-use Rattle.cap_run.specs.RunNames.{IsStrictUnder, OrFaultIn, WantsIn, PassesOn, ReadsUntil, TellsIn, WantsInForm}
+use Rattle.cap_run.specs.RunNames.{IsStrictUnder, OrFaultIn, AllocatesIn, PassesOn, ReadsUntil, ReportsIn, AllocatesInForm}
 use Rattle.cap_run.specs.RunNames.{Appended, RunStops, Settled, StopsIn, FindsObjection, SiftsNext, EndsStream}
-use Rattle.cap_run.specs.RunNames.{ReadsStream, Tells, TellsEach, Told, messages_of, one_noncanonical, one_refused}
+use Rattle.cap_run.specs.RunNames.{ReadsStream, Reports, ReportsEach, Reported, messages_of, one_noncanonical, one_refused}
 use Rattle.cap_run.specs.RunNames.{outcome_of, texts_of, Counted, Accepted, Outcome}
 use Rattle.cap_run.specs.Sifting.{LogsMore, SiftStops, Sifts}
 use Rattle.cap_run.specs.declared.engines.stream.Counted.TheVariants.{Refused as was_refused}
 use Rattle.cap_run.specs.declared.settings.FilterForm.{FilterForm}
 use Rattle.cap_run.proofs.Going.{appended_none, stops_in}
-use Rattle.cap_run.proofs.Settling.{on_known, reads_front, settled_behind}
+use Rattle.cap_run.proofs.Settling.{on_known, reads_front, settled_after}
 use Rattle.cap_run.proofs.Streams.{reads_all, reads_both, reads_none}
-use Rattle.cap_run.proofs.Telling.{each-snoc, messages_of-snoc, noncanonical_in_le, outcome_of-snoc, refused_in_le}
-use Rattle.cap_run.proofs.Telling.{texts_of-snoc}
+use Rattle.cap_run.proofs.Reporting.{each-snoc, messages_of-snoc, noncanonical_in_le, outcome_of-snoc, refused_in_le}
+use Rattle.cap_run.proofs.Reporting.{texts_of-snoc}
 use Rattle.cap_words.specs.declared.ends.ByteOut as output
 use Rattle.cap_words.specs.declared.sources.WordSource as source
 
 module _ {O : Type 0} (g : output.Ghosts O) where
   -- what was written without an error
   pub wrote_appended : (a b : O) (text : List ℕ) → Wrote g a b text → Appended g a b text
-  wrote_appended a b text w = record { appended = w.appended; spent = w.works.still ∙ sym w.works.usable; failures = w.works.none_failed }
+  wrote_appended a b text w = record { appended = w.appended; broken = w.works.still ∙ sym w.works.usable; failures = w.works.none_failed }
 
   -- some texts, and then others
   pub appended_both : (a b c : O) (xs ys : List ℕ) → Appended g a b xs → Appended g b c ys → Appended g a c (xs ++ ys)
   appended_both a b c xs ys p q = search (rules, Appends-trans)
 
-  -- a fault in a text behind others is one in all of it
+  -- a fault in a text after others is one in all of it
   stops_whole : (a b : O) (fault : OutFault) (xs ys : List ℕ) → StopsIn g a b fault xs ys → StopsIn g a b fault [] (xs ++ ys)
   stops_whole a b fault xs ys s = search (rules, append_assoc)
 
@@ -51,80 +51,80 @@ module _ (form : FilterForm) (demands : Demands) (limits : Limits) (m : List (Li
   -- one that meets them is accepted
   pub judges_met : (report : Report) → form.exclusive ≡ false → IsStrictUnder demands m (words_of limits) (depth_of limits)
       → IsAccepted m (words_under demands m (words_of limits)) (depth_of limits) report
-      → FindsObjection (TellsIn form demands limits) (WantsInForm form demands limits) m (Ok None)
+      → FindsObjection (ReportsIn form demands limits) (AllocatesInForm form demands limits) m (Ok None)
   judges_met report e strict accepted =
-      subst (λ (x : Bool). FindsObjection (OrFaultIn demands (TellsMet x) limits) (WantsIn demands (WantsMet x) limits) m (Ok None)) (sym e)
+      subst (λ (x : Bool). FindsObjection (OrFaultIn demands (ReportsMet x) limits) (AllocatesIn demands (AllocatesMet x) limits) m (Ok None)) (sym e)
       (λ n. (accepted_text n report, inl (strict, record { report = report; is_accepted = accepted; line = refl; counts = refl })))
 
-module _ {O E : Type 0} (go : output.Ghosts O) (ge : output.Ghosts E) (pack : Bool) (verdict : Tells) (wants : List (List ℕ) → Type 0) (n : ℕ)
+module _ {O E : Type 0} (go : output.Ghosts O) (ge : output.Ghosts E) (pack : Bool) (verdict : Reports) (allocates : List (List ℕ) → Type 0) (n : ℕ)
     (m : List (List ℕ)) where
   -- nothing goes to the log of an accepted message
   pub sifts_passed : (before after : O) (log : E) (failed waits stays : Bool) → (said : List ℕ) × verdict n m said Accepted
-      → Wrote go before after (frame_in pack m) → Sifts go ge pack verdict wants n m before after log log failed failed waits stays (Ok Accepted)
+      → Wrote go before after (frame_in pack m) → Sifts go ge pack verdict allocates n m before after log log failed failed waits stays (Ok Accepted)
   sifts_passed before after log failed waits stays x7 w = search (rules, wrote_appended, append-nil)
 
   -- the output failed in its frame
   pub sifts_stopped : (before after : O) (log : E) (failed waits stays : Bool) (fault : OutFault) → (said : List ℕ) × verdict n m said Accepted
       → Stopped go before after fault (frame_in pack m)
-      → Sifts go ge pack verdict wants n m before after log log failed failed waits stays (Err (Output fault))
+      → Sifts go ge pack verdict allocates n m before after log log failed failed waits stays (Err (Output fault))
   sifts_stopped before after log failed waits stays fault (said, v) s = (frame_in pack m, Accepted, inl refl, (said, v, refl), s, (refl, refl))
 
   -- or in a flush before the line of a refused one
   pub sifts_unflushed : (before after : O) (log : E) (failed waits stays : Bool) (fault : OutFault) (said : List ℕ)
       → verdict n m said was_refused → IsTrue waits × Stopped go before after fault []
-      → Sifts go ge pack verdict wants n m before after log log failed failed waits stays (Err (Output fault))
+      → Sifts go ge pack verdict allocates n m before after log log failed failed waits stays (Err (Output fault))
   sifts_unflushed before after log failed waits stays fault said v (w, s) = ([], was_refused, inr w, (said, v, refl), s, (refl, refl))
 
   -- nothing goes to the output of a refused one
   pub sifts_refused : (before after : O) (old new : E) (failed fails waits : Bool) (said : List ℕ) → verdict n m said was_refused
       → Appended go before after [] → LogsMore ge old new failed fails said
-      → Sifts go ge pack verdict wants n m before after old new failed fails waits false (Ok was_refused)
+      → Sifts go ge pack verdict allocates n m before after old new failed fails waits false (Ok was_refused)
   sifts_refused before after old new failed fails waits said v a l = ([], said, (said, v, refl), (said, v, refl), a, l, λ e. absurd (false≢true e))
 
-module _ {S O E : Type 0} (gs : source.Ghosts S) (go : output.Ghosts O) (ge : output.Ghosts E) (pack : Bool) (verdict : Tells)
-    (wants : List (List ℕ) → Type 0) (limit n : ℕ) (old new : S) (before after : O) (first last : E) (failed fails waits stays : Bool) where
+module _ {S O E : Type 0} (gs : source.Ghosts S) (go : output.Ghosts O) (ge : output.Ghosts E) (pack : Bool) (verdict : Reports)
+    (allocates : List (List ℕ) → Type 0) (limit n : ℕ) (old new : S) (before after : O) (first last : E) (failed fails waits stays : Bool) where
   -- a message was read, and no more came of it
   pub sift_stopped : (cause : Cause)
-      → SiftsNext gs go ge pack verdict wants limit n old new before after first last failed fails waits stays (Err cause)
-      → SiftStops gs go ge pack verdict wants limit n old new before after first last failed fails waits stays cause
+      → SiftsNext gs go ge pack verdict allocates limit n old new before after first last failed fails waits stays (Err cause)
+      → SiftStops gs go ge pack verdict allocates limit n old new before after first last failed fails waits stays cause
   sift_stopped x1 q = search rules
 
 -- what isn't refused is accepted
-pub passed_accepted : (pack : Bool) (verdict : Tells) (n : ℕ) (m : List (List ℕ)) (text : List ℕ) (counted : Counted)
+pub passed_accepted : (pack : Bool) (verdict : Reports) (n : ℕ) (m : List (List ℕ)) (text : List ℕ) (counted : Counted)
     → PassesOn pack verdict n m text counted → counted ≢ was_refused → counted ≡ Accepted
 passed_accepted pack verdict n m text k p h = search rules
 
-module _ {S O E : Type 0} (gs : source.Ghosts S) (go : output.Ghosts O) (ge : output.Ghosts E) (form : FilterForm) (verdict : Tells)
-    (wants : List (List ℕ) → Type 0) (limit : ℕ) where
+module _ {S O E : Type 0} (gs : source.Ghosts S) (go : output.Ghosts O) (ge : output.Ghosts E) (form : FilterForm) (verdict : Reports)
+    (allocates : List (List ℕ) → Type 0) (limit : ℕ) where
   -- this many messages were read and sifted
   pub record Sifting (old new : S) (before after : O) (first last : E) (outcome : Outcome) (number : ℕ) (failed : Bool) : Type 0 where
-    pub ts : List Told
-    pub us : List Told
+    pub ts : List Reported
+    pub us : List Reported
     pub many : length ts ≡ number
     pub long : length us ≡ number
     pub counts : outcome ≡ outcome_of ts
     pub reads : ReadsStream gs limit old new (messages_of ts)
-    pub each : TellsEach (PassesOn form.pack verdict) 0 ts
+    pub each : ReportsEach (PassesOn form.pack verdict) 0 ts
     pub appended : Appended go before after (texts_of ts)
     pub same : messages_of us ≡ messages_of ts
-    pub notes : TellsEach (Notes verdict) 0 us
+    pub notes : ReportsEach (Notes verdict) 0 us
     pub logged : Logged ge first last (texts_of us) failed
 
   -- one more
   sifting_more : (old mid new : S) (before between after : O) (first held last : E) (outcome next : Outcome) (number : ℕ)
       (failed fails waits stays : Bool) (counted : Counted) → (w : Sifting old mid before between first held outcome number failed)
-      → SiftsNext gs go ge form.pack verdict wants limit number mid new between after held last failed fails waits stays (Ok counted)
+      → SiftsNext gs go ge form.pack verdict allocates limit number mid new between after held last failed fails waits stays (Ok counted)
       → next ≡ record {
         messages = outcome.messages + 1;
         refused = outcome.refused + one_refused counted;
         noncanonical = outcome.noncanonical + one_noncanonical counted;
       }
       → (v : Sifting old new before after first last next (number + 1) fails)
-      × ((t : Told) × (t.counted ≡ counted) × (v.ts ≡ w.ts ++ t ∷ []))
+      × ((t : Reported) × (t.counted ≡ counted) × (v.ts ≡ w.ts ++ t ∷ []))
   sifting_more old mid new before between after first held last outcome next number failed fails waits stays counted w
       (m, reads, (text, line, p, n, wrote, logs, waiting)) counts =
-      let t : Told = record { message = m; text = text; counted = counted } in
-      let u : Told = record { message = m; text = line; counted = counted } in
+      let t : Reported = record { message = m; text = text; counted = counted } in
+      let u : Reported = record { message = m; text = line; counted = counted } in
       let v : Sifting old new before after first last next (number + 1) fails = record {
         ts = w.ts ++ t ∷ [];
         us = w.us ++ u ∷ [];
@@ -154,7 +154,7 @@ module _ {S O E : Type 0} (gs : source.Ghosts S) (go : output.Ghosts O) (ge : ou
     pub waiting : IsTrue waits → LastAccepted sifting.ts
 
   -- the messages that were read begin a stream that is known
-  covers : (old new : S) (own : List ℕ) (ms : List (List (List ℕ))) (ts : List Told) → gs.words old ≡ Some own → Stream own ms
+  covers : (old new : S) (own : List ℕ) (ms : List (List (List ℕ))) (ts : List Reported) → gs.words old ≡ Some own → Stream own ms
       → ReadsUntil gs form.stop limit old new ts → Covers form.stop ts ms
   covers old new own ms ts w s (inl (reads, accepted)) =
       let all = on_known (gs.words old) own _ w reads.all in
@@ -166,10 +166,10 @@ module _ {S O E : Type 0} (gs : source.Ghosts S) (go : output.Ghosts O) (ge : ou
 
   -- a stream of messages within the limits is read to its end, or to the first that is refused
   pub filter_settled : (most : ℕ) (old new : S) (before after : O) (first last : E) (r : Result Outcome RunFault) (own : List ℕ)
-      (ms : List (List (List ℕ))) → FiltersAll gs go ge form verdict wants limit most old new before after first last r
-      → FiltersUntil gs go ge form verdict wants limit most old new before after first last r → gs.words old ≡ Some own
+      (ms : List (List (List ℕ))) → FiltersAll gs go ge form verdict allocates limit most old new before after first last r
+      → FiltersUntil gs go ge form verdict allocates limit most old new before after first last r → gs.words old ≡ Some own
       → gs.is_cut old ≡ false → Stream own ms → AllByRecursion (λ m. sum (sizes_of m) ≤ limit) ms → length ms ≤ most
-      → Settled r ((ts : List Told) × Covers form.stop ts ms × TellsEach (PassesOn form.pack verdict) 0 ts
+      → Settled r ((ts : List Reported) × Covers form.stop ts ms × ReportsEach (PassesOn form.pack verdict) 0 ts
       × Appended go before after (texts_of ts) × (r ≡ Ok (outcome_of ts)) × Noted ge verdict (messages_of ts) first last)
   filter_settled most old new before after first last (Ok outcome) own ms end fault w c s l few = (
     end.0,
@@ -180,13 +180,13 @@ module _ {S O E : Type 0} (gs : source.Ghosts S) (go : output.Ghosts O) (ge : ou
     end.6,
   )
   filter_settled most old new before after first last (Err fault) own ms end f w c s l few =
-      settled_behind gs go (PassesLast form.pack verdict f.0) limit most old new before after wants f.1 f.0 own ms fault.cause _ w c s l few f.4 f.7
+      settled_after gs go (PassesLast form.pack verdict f.0) limit most old new before after allocates f.1 f.0 own ms fault.cause _ w c s l few f.4 f.7
 
-module _ {S O E : Type 0} {gs : source.Ghosts S} {go : output.Ghosts O} {ge : output.Ghosts E} {form : FilterForm} {verdict : Tells}
-    {wants : List (List ℕ) → Type 0} {limit : ℕ} where
+module _ {S O E : Type 0} {gs : source.Ghosts S} {go : output.Ghosts O} {ge : output.Ghosts E} {form : FilterForm} {verdict : Reports}
+    {allocates : List (List ℕ) → Type 0} {limit : ℕ} where
   -- none yet
   pub sieving_none : {s : S} {o : O} {e : E} {failed waits : Bool} → failed ≡ false → waits ≡ false
-      → Sieving gs go ge form verdict wants limit s s o o e e (record { messages = 0; refused = 0; noncanonical = 0 }) 0 failed waits
+      → Sieving gs go ge form verdict allocates limit s s o o e e (record { messages = 0; refused = 0; noncanonical = 0 }) 0 failed waits
   sieving_none {s} {o} {e} not_failed none_wait = rw (not_failed, none_wait) record {
     sifting = record {
       ts = [];
@@ -206,7 +206,7 @@ module _ {S O E : Type 0} {gs : source.Ghosts S} {go : output.Ghosts O} {ge : ou
   }
 
   module _ {old mid : S} {before between : O} {first held : E} {outcome : Outcome} {number : ℕ} {failed waits : Bool}
-      (s : Sieving gs go ge form verdict wants limit old mid before between first held outcome number failed waits) where
+      (s : Sieving gs go ge form verdict allocates limit old mid before between first held outcome number failed waits) where
     -- no more were refused than there were
     pub sieving_refused : outcome.refused ≤ outcome.messages
     sieving_refused = rw s.sifting.counts (refused_in_le s.sifting.ts)
@@ -216,7 +216,7 @@ module _ {S O E : Type 0} {gs : source.Ghosts S} {go : output.Ghosts O} {ge : ou
     sieving_noncanonical = rw s.sifting.counts (noncanonical_in_le s.sifting.ts)
 
     module _ (new : S) (after : O) (last : E) (next : Outcome) (fails stays : Bool) (counted : Counted)
-        (q : SiftsNext gs go ge form.pack verdict wants limit number mid new between after held last failed fails waits stays (Ok counted))
+        (q : SiftsNext gs go ge form.pack verdict allocates limit number mid new between after held last failed fails waits stays (Ok counted))
         (counts : next ≡ record {
           messages = outcome.messages + 1;
           refused = outcome.refused + one_refused counted;
@@ -224,24 +224,24 @@ module _ {S O E : Type 0} {gs : source.Ghosts S} {go : output.Ghosts O} {ge : ou
         }) where
       -- one more, after which it goes on
       pub sieving_more : (IsTrue form.stop → counted ≢ was_refused)
-          → Sieving gs go ge form verdict wants limit old new before after first last next (number + 1) fails stays
+          → Sieving gs go ge form verdict allocates limit old new before after first last next (number + 1) fails stays
       sieving_more h =
-          let v = sifting_more gs go ge form verdict wants limit old mid new before between after first held last outcome next number
+          let v = sifting_more gs go ge form verdict allocates limit old mid new before between after first held last outcome next number
           failed fails waits stays counted s.sifting q counts in
           let is : IsTrue form.stop → counted ≡ Accepted =
           λ e. passed_accepted form.pack verdict number q.0 q.2.0 counted q.2.2 (h e) in
           record {
             sifting = v.0;
             accepted = λ e. subst AllAccepted (sym v.1.2)
-                (all_append (λ (t : Told). t.counted ≡ Accepted) s.sifting.ts (v.1.0 ∷ []) (s.accepted e) (v.1.1 ∙ is e, tt));
+                (all_append (λ (t : Reported). t.counted ≡ Accepted) s.sifting.ts (v.1.0 ∷ []) (s.accepted e) (v.1.1 ∙ is e, tt));
             waiting = λ e. record { front = s.sifting.ts; last = v.1.0; whole = v.1.2; accepted = v.1.1 ∙ q.2.6 e };
           }
 
       -- or it ends after it
       pub sieving_last : (most : ℕ) → number < most → IsTrue form.stop × (counted ≡ was_refused)
-          → FiltersAll gs go ge form verdict wants limit most old new before after first last (Ok next)
+          → FiltersAll gs go ge form verdict allocates limit most old new before after first last (Ok next)
       sieving_last most h (e, r) =
-          let v = sifting_more gs go ge form verdict wants limit old mid new before between after first held last outcome next number
+          let v = sifting_more gs go ge form verdict allocates limit old mid new before between after first held last outcome next number
           failed fails waits stays counted s.sifting q counts in
           let last_one : LastRefused v.0.ts =
           record { front = s.sifting.ts; last = v.1.0; whole = v.1.2; accepted = s.accepted e; refused = v.1.1 ∙ r } in (
@@ -251,18 +251,18 @@ module _ {S O E : Type 0} {gs : source.Ghosts S} {go : output.Ghosts O} {ge : ou
             v.0.appended,
             omega (arith, v.0.many),
             v.0.counts,
-            noted gs go ge form verdict wants limit old new before after first last next (number + 1) fails v.0,
+            noted gs go ge form verdict allocates limit old new before after first last next (number + 1) fails v.0,
           )
 
     -- the stream ended after them
     pub sieving_done : (new : S) (most : ℕ) → number ≤ most → EndsStream gs mid new
-        → FiltersAll gs go ge form verdict wants limit most old new before between first held (Ok outcome)
-    sieving_done new most h e = search (rules, reads_all, noted gs go ge form verdict wants limit)
+        → FiltersAll gs go ge form verdict allocates limit most old new before between first held (Ok outcome)
+    sieving_done new most h e = search (rules, reads_all, noted gs go ge form verdict allocates limit)
 
     -- it ended at the next message
     pub sieving_stops : (new : S) (after : O) (last : E) (fails stays : Bool) (most : ℕ) (cause : Cause) → number < most
-        → SiftStops gs go ge form.pack verdict wants limit number mid new between after held last failed fails waits stays cause
-        → FiltersUntil gs go ge form verdict wants limit most old new before after first last (Err (record { message = number; cause = cause }))
+        → SiftStops gs go ge form.pack verdict allocates limit number mid new between after held last failed fails waits stays cause
+        → FiltersUntil gs go ge form verdict allocates limit most old new before after first last (Err (record { message = number; cause = cause }))
     sieving_stops new after last fails stays most cause h q =
         let w = s.sifting in
         let p = stops cause q in
@@ -270,14 +270,14 @@ module _ {S O E : Type 0} {gs : source.Ghosts S} {go : output.Ghosts O} {ge : ou
       where
         keeps : last ≡ held → Noted ge verdict (messages_of s.sifting.ts) first last
         keeps e = subst (Noted ge verdict (messages_of s.sifting.ts) first) (sym e)
-            (noted gs go ge form verdict wants limit old mid before between first held outcome number failed s.sifting)
+            (noted gs go ge form verdict allocates limit old mid before between first held outcome number failed s.sifting)
 
         late : (counted : Counted) → (counted ≡ Accepted) ⊎ IsTrue waits → (counted ≡ Accepted) ⊎ LastAccepted s.sifting.ts
         late counted (inl a) = inl a
         late counted (inr w) = inr (s.waiting w)
 
-        stops : (cause : Cause) → SiftStops gs go ge form.pack verdict wants limit number mid new between after held last failed fails waits stays cause
-            → RunStops gs go (PassesLast form.pack verdict s.sifting.ts) wants limit most s.sifting.ts mid new before after cause
+        stops : (cause : Cause) → SiftStops gs go ge form.pack verdict allocates limit number mid new between after held last failed fails waits stays cause
+            → RunStops gs go (PassesLast form.pack verdict s.sifting.ts) allocates limit most s.sifting.ts mid new before after cause
             × Noted ge verdict (messages_of s.sifting.ts) first last
         stops TooManyMessages q = absurd q
         stops (Frame fault) (f, o, e, b) = ((rw o s.sifting.appended, f), keeps e)

@@ -20,17 +20,17 @@ all_taken h k own c d g a t s e = search (rules, some_is, append-nil)
 module _ {S : Type 0} (g : source.Ghosts S) where
   -- nothing was read yet
   pub reads_none : (limit : ℕ) (s : S) → ReadsStream g limit s s []
-  reads_none limit s = record { own = []; takes = takes_none g s; stream = stream_none; within = tt; spent = refl; failures = refl }
+  reads_none limit s = record { own = []; takes = takes_none g s; stream = stream_none; within = tt; broken = refl; failures = refl }
 
   -- one message was read
   pub reads_one : (limit : ℕ) (old new : S) (m : List (List ℕ)) → TakesFrame g limit old new m
-      → Works (g.spent old) (g.spent new) (g.failures old) (g.failures new)
+      → Works (g.broken old) (g.broken new) (g.failures old) (g.failures new)
       → ReadsStream g limit old new (m ∷ [])
   reads_one limit old new m t w = search (rules, stream_one)
 
   -- it is one that a call named
   pub reads_named : (limit : ℕ) (old new : S) (held : List (List ℕ)) → (m : List (List ℕ)) × TakesFrame g limit old new m × (held ≡ m)
-      → Works (g.spent old) (g.spent new) (g.failures old) (g.failures new) → ReadsStream g limit old new (held ∷ [])
+      → Works (g.broken old) (g.broken new) (g.failures old) (g.failures new) → ReadsStream g limit old new (held ∷ [])
   reads_named limit old new held t w = subst (λ m. ReadsStream g limit old new (m ∷ [])) (sym t.2) (reads_one limit old new t.0 t.1 w)
 
   -- some messages were read, and then others
@@ -41,11 +41,11 @@ module _ {S : Type 0} (g : source.Ghosts S) where
     takes = takes_both g old mid new r.own s.own r.takes s.takes;
     stream = stream_append r.own s.own ms ns r.stream s.stream;
     within = all_append (λ m. sum (sizes_of m) ≤ limit) ms ns r.within s.within;
-    spent = s.spent ∙ r.spent;
+    broken = s.broken ∙ r.broken;
     failures = s.failures ∙ r.failures;
   }
 
-  -- the stream ended behind these messages
+  -- the stream ended after these messages
   pub reads_all : (limit : ℕ) (old mid new : S) (ms : List (List (List ℕ))) → ReadsStream g limit old mid ms
       → EndsStream g mid new → ReadsToEnd g limit old new ms
   reads_all limit old mid new ms r e = search (rules, all_taken)

@@ -54,7 +54,7 @@ module _ {S K : Type 0} (gs : source.Ghosts S) (gk : sink.Ghosts K) (at_once mos
   copy_whole (Err (Source Spent)) w i l c = tt
   copy_whole (Err (Output fault)) w i l c = tt
 
-  -- and where it is cut, that fault behind them
+  -- and where it is cut, that fault after them
   pub copy_cut : (r : Result ℕ CopyFault) → gs.words old ≡ Some own → gs.is_cut old ≡ true → length own ≤ most
       → Transcoded gs gk at_once most old new before after r
       → TranscodeSettled r ((byte : ℕ) × (r ≡ Err (Source (Truncated byte))) × (drop (length own) (gs.places old) ≡ byte ∷ []) × Finishes gk before after own)

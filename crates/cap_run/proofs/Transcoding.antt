@@ -3,10 +3,10 @@ use Rattle.std.proofs.KnownBytes.{Keeps-refl}
 use Rattle.cap_spec.proofs.ProofNames.{Err, List, Ok, OnSome, Result, [], ap, append-nil, append_assoc, arith, false}
 use Rattle.cap_spec.proofs.ProofNames.{inl, inr, length-append, refl, sym, true, ℕ, ◌++◌, ◌+◌, ◌<◌, ◌∙◌, ◌∷◌, ◌≡◌, ◌⊎◌}
 use Rattle.cap_spec.proofs.ProofNames.{Keeps-trans, false≢true, Consumes, Keeps, rules}
-use Rattle.cap_words.specs.Ends.{DeviceFails, GrowthFails, WasSpent, Works}
+use Rattle.cap_words.specs.Ends.{DeviceFails, AllocationFails, WasBroken, Works}
 use Rattle.cap_words.specs.Sinks.{Begins, StoppedPutting, sink_fault_of}
 use Rattle.cap_words.specs.declared.sinks.SinkFault.TheVariants.{Device, Memory, Spent}
-use Rattle.cap_words.proofs.Told.{begins_kept}
+use Rattle.cap_words.proofs.Known.{begins_kept}
 use Rattle.cap_frame.specs.Putting.{Blames, Halts}
 use Rattle.cap_frame.proofs.Putting.{blames_later}
 use Rattle.cap_frame.proofs.Taking.{takes_both, takes_none, takes_one}
@@ -22,12 +22,12 @@ use Rattle.cap_words.specs.declared.sources.WordSource as source
 module _ {S : Type 0} (gs : source.Ghosts S) where
   -- no words
   pub gives_none : (s : S) → ReadsWords gs s s []
-  gives_none s = record { takes = takes_none gs s; usable = inl refl; spent = refl; failures = refl }
+  gives_none s = record { takes = takes_none gs s; usable = inl refl; broken = refl; failures = refl }
 
   -- the next word
   pub gives_one : (old new : S) (word : ℕ) → Consumes (gs.words old) (gs.words new) (word ∷ [])
       → OnSome (gs.words old) ((gs.is_cut new ≡ gs.is_cut old) × (gs.places old ≡ gs.place new ∷ gs.places new))
-      → Works (gs.spent old) (gs.spent new) (gs.failures old) (gs.failures new) → ReadsWords gs old new (word ∷ [])
+      → Works (gs.broken old) (gs.broken new) (gs.failures old) (gs.failures new) → ReadsWords gs old new (word ∷ [])
   gives_one old new word c f w = search (rules, takes_one)
 
   -- some words, and then others
@@ -35,51 +35,51 @@ module _ {S : Type 0} (gs : source.Ghosts S) where
   gives_both old mid new a b p q = record {
     takes = takes_both gs old mid new a b p.takes q.takes;
     usable = usable p.usable q.usable;
-    spent = q.spent ∙ p.spent;
+    broken = q.broken ∙ p.broken;
     failures = q.failures ∙ p.failures;
   }
     where
-      usable : (a ≡ []) ⊎ (gs.spent old ≡ false) → (b ≡ []) ⊎ (gs.spent mid ≡ false) → (a ++ b ≡ []) ⊎ (gs.spent old ≡ false)
+      usable : (a ≡ []) ⊎ (gs.broken old ≡ false) → (b ≡ []) ⊎ (gs.broken mid ≡ false) → (a ++ b ≡ []) ⊎ (gs.broken old ≡ false)
       usable (inr u) v = inr u
       usable (inl e) (inl f) = inl (ap (λ (xs : List ℕ). xs ++ b) e ∙ f)
-      usable (inl e) (inr v) = inr (sym p.spent ∙ v)
+      usable (inl e) (inr v) = inr (sym p.broken ∙ v)
 
 module _ {K : Type 0} (gk : sink.Ghosts K) where
   -- no words
   pub fills_none : (k : K) → PutsWords gk k k []
-  fills_none k = record { put = λ ws. Keeps-refl (gk.text k ws); closed = refl; spent = refl; failures = refl }
+  fills_none k = record { put = λ ws. Keeps-refl (gk.text k ws); closed = refl; broken = refl; failures = refl }
 
   -- some words, and then others
   pub fills_both : (old mid new : K) (a b : List ℕ) → PutsWords gk old mid a → PutsWords gk mid new b → PutsWords gk old new (a ++ b)
   fills_both old mid new a b p q = search (rules, append_assoc, Keeps-trans)
 
-  -- a fault at the next word, behind others
-  pub stopped_behind : (old mid new : K) (own : List ℕ) (word : ℕ) (fault : SinkFault) → PutsWords gk old mid own → Halts gk mid new (word ∷ []) fault
+  -- a fault at the next word, after others
+  pub stopped_after : (old mid new : K) (own : List ℕ) (word : ℕ) (fault : SinkFault) → PutsWords gk old mid own → Halts gk mid new (word ∷ []) fault
       → StoppedPutting gk.text gk.taken old new (own ++ word ∷ [])
-  stopped_behind old mid new own word fault f h = search (rules, append_assoc, begins_kept)
+  stopped_after old mid new own word fault f h = search (rules, append_assoc, begins_kept)
 
 module _ {K : Type 0} (gk : sink.Ghosts K) where
-  -- the sink was finished behind these words
-  pub finishes_behind : (old mid new : K) (own : List ℕ) → PutsWords gk old mid own → Keeps (gk.text mid []) (gk.taken new)
+  -- the sink was finished after these words
+  pub finishes_after : (old mid new : K) (own : List ℕ) → PutsWords gk old mid own → Keeps (gk.text mid []) (gk.taken new)
       → (gk.closed mid ≡ false) × (gk.closed new ≡ true) × (gk.failures new ≡ gk.failures mid) → Finishes gk old new own
-  finishes_behind old mid new own f k o = search (rules, append-nil, Keeps-trans)
+  finishes_after old mid new own f k o = search (rules, append-nil, Keeps-trans)
 
   -- what the answer of a call to the sink says of the output
   pub blames_of : (old new : K) (r : Result (Unit {0}) SinkFault) (fault : SinkFault) → r ≡ Err fault
-      → (r ≡ Err Device → DeviceFails (gk.spent old) (gk.failures old) (gk.failures new))
-      → (r ≡ Err Memory → GrowthFails (gk.spent old) (gk.failures old) (gk.failures new))
-      → (r ≡ Err Spent → WasSpent (gk.spent old) (gk.spent new) (gk.failures old) (gk.failures new) × Keeps (gk.taken old) (gk.taken new))
+      → (r ≡ Err Device → DeviceFails (gk.broken old) (gk.failures old) (gk.failures new))
+      → (r ≡ Err Memory → AllocationFails (gk.broken old) (gk.failures old) (gk.failures new))
+      → (r ≡ Err Spent → WasBroken (gk.broken old) (gk.broken new) (gk.failures old) (gk.failures new) × Keeps (gk.taken old) (gk.taken new))
       → Blames gk old new fault
   blames_of old new r x4 e d m s = search rules
 
-  -- the output failed behind these words, as the sink was finished
+  -- the output failed after these words, as the sink was finished
   pub spoils_last : (old mid new : K) (own : List ℕ) (out : OutFault) → PutsWords gk old mid own
       → (gk.closed new ≡ true) × Begins (gk.text mid []) (gk.taken new)
       → Blames gk mid new (sink_fault_of out) → Spoils gk old new own out
   spoils_last old mid new own out f e b = search (rules, blames_later, append-nil, begins_kept)
 
 module _ {S K : Type 0} (gs : source.Ghosts S) (gk : sink.Ghosts K) where
-  -- the sink was finished behind the words that were put
+  -- the sink was finished after the words that were put
   pub copied_finished : (at_once most : ℕ) (old new : S) (before between after : K) (r : Result ℕ CopyFault)
       → StopsPutting gs gk at_once most old new before between r
       → is_open r ≡ true → Keeps (gk.text between []) (gk.taken after) → (gk.closed between ≡ false)
@@ -93,8 +93,8 @@ module _ {S K : Type 0} (gs : source.Ghosts S) (gk : sink.Ghosts K) where
           few = omega (arith, s.1, c.many);
           all = all_taken (gs.words old) (gs.words s.0) c.own (gs.is_cut old) (gs.is_cut s.0) _ _ c.gives.takes.consumed c.gives.takes.goes_on s.3.none;
           ended = s.3.ended;
-          works = record { usable = sym c.gives.spent ∙ s.3.works.usable; still = s.3.works.still; none_failed = s.3.works.none_failed ∙ c.gives.failures };
-          finishes = finishes_behind gk before between after c.own c.fills k o;
+          works = record { usable = sym c.gives.broken ∙ s.3.works.usable; still = s.3.works.still; none_failed = s.3.works.none_failed ∙ c.gives.failures };
+          finishes = finishes_after gk before between after c.own c.fills k o;
         },
       )
   copied_finished at_once most old new before between after (Err TooManyWords) s h k o =
@@ -104,7 +104,7 @@ module _ {S K : Type 0} (gs : source.Ghosts S) (gk : sink.Ghosts K) where
         word = s.1;
         many = c.many;
         gives = gives_both gs old s.0 new c.own (s.1 ∷ []) c.gives s.3;
-        finishes = finishes_behind gk before between after c.own c.fills k o;
+        finishes = finishes_after gk before between after c.own c.fills k o;
       }
   copied_finished at_once most old new before between after (Err (Source fault)) s h k o =
       let c = s.3 in
@@ -115,7 +115,7 @@ module _ {S K : Type 0} (gs : source.Ghosts S) (gk : sink.Ghosts K) where
         gives = c.gives;
         none = s.4;
         finishes =
-            finishes_behind gk before between after c.own c.fills k o;
+            finishes_after gk before between after c.own c.fills k o;
       }
   copied_finished at_once most old new before between after (Err (Output fault)) s h k o = absurd (false≢true h)
 
@@ -193,4 +193,4 @@ module _ {S K : Type 0} {gs : source.Ghosts S} {gk : sink.Ghosts K} where
   -- the output failed at a word
   pub copied_stopped : {at_once most : ℕ} {old new : S} {before after : K} {out : OutFault} → 0 < at_once → StopsAt gs gk most old new before after out
       → StopsMidway gs gk at_once most old new before after out
-  copied_stopped some s = search (rules, length-append, stopped_behind)
+  copied_stopped some s = search (rules, length-append, stopped_after)

@@ -11,7 +11,7 @@ use Rattle.cap_text.specs.declared.fault.Cause.TheVariants.{Memory as no_marks}
 use Rattle.cap_text.specs.declared.fault.ExplainedFault.{ExplainedFault}
 use Rattle.cap_text.specs.declared.fault.RunFault.{RunFault}
 use Rattle.cap_text.specs.declared.fault.StreamBreak.{StreamBreak}
-use Rattle.cap_run.specs.Placed.{PlacedTells, TellsPlaced}
+use Rattle.cap_run.specs.Placed.{PlacedReports, ReportsPlaced}
 use Rattle.cap_run.specs.Streams.{ReadsStream}
 use Rattle.cap_run.specs.declared.settings.Outcome.{Outcome}
 use Rattle.cap_words.specs.declared.ends.ByteOut as output
@@ -19,12 +19,12 @@ use Rattle.cap_words.specs.declared.sources.WordSource as source
 
 -- whether the input ends inside a word, if it ends inside a message and its words are known
 abbrev pub EndsCut : FrameFault → Option (List ℕ) → Bool → Bool → Type 0
-EndsCut (TooManySegments count) words cut told = told ≡ false
-EndsCut (TooLarge n) words cut told = told ≡ false
-EndsCut (Truncated byte) words cut told = IfSome words (λ ws. told ≡ cut)
-EndsCut Device words cut told = told ≡ false
-EndsCut Memory words cut told = told ≡ false
-EndsCut Spent words cut told = told ≡ false
+EndsCut (TooManySegments count) words cut reported = reported ≡ false
+EndsCut (TooLarge n) words cut reported = reported ≡ false
+EndsCut (Truncated byte) words cut reported = IfSome words (λ ws. reported ≡ cut)
+EndsCut Device words cut reported = reported ≡ false
+EndsCut Memory words cut reported = reported ≡ false
+EndsCut Spent words cut reported = reported ≡ false
 
 -- an answer without what is known of the message at which the stream breaks off
 abbrev pub run_answer : Result Outcome ExplainedFault → Result Outcome RunFault
@@ -60,8 +60,8 @@ module _ {S : Type 0} (gs : source.Ghosts S) where
 module _ {S O : Type 0} (gs : source.Ghosts S) (go : output.Ghosts O) where
   -- What an engine does that explains: it writes a text of each message, and says what is known of
   -- the message at which the stream breaks off.
-  pub record ExplainsStream (tells : PlacedTells) (wants : List (List ℕ) → Type 0) (packed : Bool)
+  pub record ExplainsStream (reports : PlacedReports) (allocates : List (List ℕ) → Type 0) (packed : Bool)
       (limit most : ℕ) (old new : S) (before after : O)
       (answer : Result Outcome ExplainedFault) : Type 0 where
-    pub told : TellsPlaced gs go tells wants limit most old new before after (run_answer answer)
+    pub reported : ReportsPlaced gs go reports allocates limit most old new before after (run_answer answer)
     pub broken : BreaksOff gs packed limit old answer

@@ -86,7 +86,7 @@ module _ {S K : Type 0} (gs : source.Ghosts S) (gk : sink.Ghosts K) (demands : D
         (sink_fault_of fault)
 
   -- The result was known, and the output returned this error as the sink was finished.
-  pub record StopsBehindCopies (mid new : S) (before after : K) (fault : OutFault) : Type 0 where
+  pub record StopsAfterCopies (mid new : S) (before after : K) (fault : OutFault) : Type 0 where
     pub end : Result (Unit {0}) Cause
     pub ends : CanonEnds mid new end
     pub spoils : Spoils gk before after (copies_of cs) fault
@@ -98,7 +98,7 @@ module _ {S K : Type 0} (gs : source.Ghosts S) (gk : sink.Ghosts K) (demands : D
   CanonStops mid new before after (Frame fault) = CanonEnds mid new (Err (Frame fault))
       × Finishes gk before after (copies_of cs)
   CanonStops mid new before after (Output fault) = StopsInCopy mid new before after fault
-      ⊎ StopsBehindCopies mid new before after fault
+      ⊎ StopsAfterCopies mid new before after fault
   CanonStops mid new before after (Refused refusal) = CanonEnds mid new (Err (Refused refusal))
       × Finishes gk before after (copies_of cs)
   CanonStops mid new before after (NotStrict fault) = CanonEnds mid new (Err (NotStrict fault))

@@ -8,7 +8,7 @@ use Rattle.cap_run.specs.declared.engines.stream.Counted.{Counted}
 use Rattle.cap_run.specs.declared.engines.stream.Counted.TheVariants.{Accepted, NotCanonical}
 
 -- the text of message n if it is accepted, by whether its words are its own canonical copy
-pub record TellsChecked (words depth n : ℕ) (m : List (List ℕ)) (text : List ℕ)
+pub record ReportsChecked (words depth n : ℕ) (m : List (List ℕ)) (text : List ℕ)
     (counted : Counted) : Type 0 where
   pub report : Report
   pub is_accepted : IsAccepted m words depth report

@@ -7,9 +7,9 @@ use Rattle.cap_spec.specs.declared.StrictRefusal.TheVariants.{ManySegments, Poin
 use Rattle.cap_vet.specs.VetNames.{IsDemandFault, words_under, depth_of, words_of}
 use Rattle.cap_vet.specs.declared.demands.Demands.{Demands}
 use Rattle.cap_vet.specs.declared.limits.Limits.{Limits}
-use Rattle.cap_run.specs.Checking.{TellsChecked}
-use Rattle.cap_run.specs.Telling.{Tells}
-use Rattle.cap_run.specs.Vetting.{TellsAccepted, TellsNode, TellsOverlap, TellsTree, WantsMarks}
+use Rattle.cap_run.specs.Checking.{ReportsChecked}
+use Rattle.cap_run.specs.Reporting.{Reports}
+use Rattle.cap_run.specs.Vetting.{ReportsAccepted, ReportsNode, ReportsOverlap, ReportsTree, AllocatesMarks}
 use Rattle.cap_run.specs.declared.engines.stream.Counted.{Counted}
 use Rattle.cap_run.specs.declared.engines.stream.Counted.TheVariants.{Refused}
 
@@ -30,7 +30,7 @@ IsNotStrict demands m words depth (Pointer what s w pointers) =
     IsDemandFault demands m words depth (Pointer what s w pointers)
 
 -- the line of message n if it doesn't meet the demands, with the first reason
-pub record TellsFault (demands : Demands) (words depth n : ℕ) (m : List (List ℕ)) (text : List ℕ)
+pub record ReportsFault (demands : Demands) (words depth n : ℕ) (m : List (List ℕ)) (text : List ℕ)
     (counted : Counted) : Type 0 where
   pub fault : StrictRefusal
   pub is_fault : IsDemandFault demands m words depth fault
@@ -38,51 +38,51 @@ pub record TellsFault (demands : Demands) (words depth n : ℕ) (m : List (List 
   pub counts : counted ≡ Refused
 
 -- a text of a message that meets the demands, or that line
-abbrev pub OrFault : Demands → (ℕ → ℕ → Tells) → ℕ → ℕ → Tells
-OrFault demands tells words depth n m text counted =
+abbrev pub OrFault : Demands → (ℕ → ℕ → Reports) → ℕ → ℕ → Reports
+OrFault demands reports words depth n m text counted =
     (IsStrictUnder demands m words depth
-    × tells (words_under demands m words) depth n m text counted)
-    ⊎ TellsFault demands words depth n m text counted
+    × reports (words_under demands m words) depth n m text counted)
+    ⊎ ReportsFault demands words depth n m text counted
 
 -- the messages that meet the demands and need an allocation then
-abbrev pub WantsUnder : Demands → (ℕ → ℕ → List (List ℕ) → Type 0) → ℕ → ℕ → List (List ℕ)
+abbrev pub AllocatesUnder : Demands → (ℕ → ℕ → List (List ℕ) → Type 0) → ℕ → ℕ → List (List ℕ)
     → Type 0
-WantsUnder demands wants words depth m = IsStrictUnder demands m words depth
-    × wants (words_under demands m words) depth m
+AllocatesUnder demands allocates words depth m = IsStrictUnder demands m words depth
+    × allocates (words_under demands m words) depth m
 
 -- both under the limits of the charge and of the depth
-abbrev pub OrFaultIn : Demands → (ℕ → ℕ → Tells) → Limits → Tells
-OrFaultIn demands tells limits = OrFault demands tells (words_of limits) (depth_of limits)
+abbrev pub OrFaultIn : Demands → (ℕ → ℕ → Reports) → Limits → Reports
+OrFaultIn demands reports limits = OrFault demands reports (words_of limits) (depth_of limits)
 
-abbrev pub WantsIn : Demands → (ℕ → ℕ → List (List ℕ) → Type 0) → Limits → List (List ℕ) → Type 0
-WantsIn demands wants limits = WantsUnder demands wants (words_of limits) (depth_of limits)
+abbrev pub AllocatesIn : Demands → (ℕ → ℕ → List (List ℕ) → Type 0) → Limits → List (List ℕ) → Type 0
+AllocatesIn demands allocates limits = AllocatesUnder demands allocates (words_of limits) (depth_of limits)
 
 -- the line of `vet`
-abbrev pub TellsVerdictUnder : Demands → ℕ → ℕ → Tells
-TellsVerdictUnder demands = OrFault demands TellsAccepted
+abbrev pub ReportsVerdictUnder : Demands → ℕ → ℕ → Reports
+ReportsVerdictUnder demands = OrFault demands ReportsAccepted
 
 -- the line of a message that is accepted: it uses no word twice, or with the first overlap
-abbrev pub TellsMarked : ℕ → ℕ → Tells
-TellsMarked words depth n m text counted =
-    (IsDisjoint m × TellsAccepted words depth n m text counted)
-    ⊎ TellsOverlap words depth n m text counted
+abbrev pub ReportsMarked : ℕ → ℕ → Reports
+ReportsMarked words depth n m text counted =
+    (IsDisjoint m × ReportsAccepted words depth n m text counted)
+    ⊎ ReportsOverlap words depth n m text counted
 
 -- the line of `vet --exclusive`
-abbrev pub TellsExclusiveUnder : Demands → ℕ → ℕ → Tells
-TellsExclusiveUnder demands = OrFault demands TellsMarked
+abbrev pub ReportsExclusiveUnder : Demands → ℕ → ℕ → Reports
+ReportsExclusiveUnder demands = OrFault demands ReportsMarked
 
 -- the messages whose words are marked: those that meet the demands
-abbrev pub WantsMarksUnder : Demands → ℕ → ℕ → List (List ℕ) → Type 0
-WantsMarksUnder demands = WantsUnder demands WantsMarks
+abbrev pub AllocatesMarksUnder : Demands → ℕ → ℕ → List (List ℕ) → Type 0
+AllocatesMarksUnder demands = AllocatesUnder demands AllocatesMarks
 
 -- the text of `dump`
-abbrev pub TellsDumpUnder : Demands → ℕ → ℕ → Tells
-TellsDumpUnder demands = OrFault demands TellsTree
+abbrev pub ReportsDumpUnder : Demands → ℕ → ℕ → Reports
+ReportsDumpUnder demands = OrFault demands ReportsTree
 
 -- the text of `get`
-abbrev pub TellsGetUnder : Demands → ℕ → ℕ → List Step → Tells
-TellsGetUnder demands words depth path = OrFault demands (λ w d. TellsNode w d path) words depth
+abbrev pub ReportsGetUnder : Demands → ℕ → ℕ → List Step → Reports
+ReportsGetUnder demands words depth path = OrFault demands (λ w d. ReportsNode w d path) words depth
 
 -- the line of `check`
-abbrev pub TellsCheckUnder : Demands → ℕ → ℕ → Tells
-TellsCheckUnder demands = OrFault demands TellsChecked
+abbrev pub ReportsCheckUnder : Demands → ℕ → ℕ → Reports
+ReportsCheckUnder demands = OrFault demands ReportsChecked

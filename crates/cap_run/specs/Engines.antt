@@ -13,7 +13,7 @@ use Rattle.cap_text.specs.declared.fault.CopyFault.TheVariants.{Source, TooManyW
 use Rattle.cap_text.specs.declared.fault.RunFault.{RunFault}
 use Rattle.cap_run.specs.Running.{Appended, RunStops, Settled}
 use Rattle.cap_run.specs.Streams.{ReadsStream, ReadsToEnd}
-use Rattle.cap_run.specs.Telling.{Tells, TellsEach, TellsSegments, Told, WantsNone, messages_of, outcome_of, texts_of}
+use Rattle.cap_run.specs.Reporting.{Reports, ReportsEach, ReportsSegments, Reported, AllocatesNone, messages_of, outcome_of, texts_of}
 use Rattle.cap_run.specs.Transcoding.{Finishes, TranscodeSettled, Transcoded}
 use Rattle.cap_run.specs.declared.settings.Outcome.{Outcome}
 use Rattle.cap_words.specs.declared.ends.ByteOut as output
@@ -36,35 +36,35 @@ most_unpacked_at_once = 1024
 abbrev pub most_messages : ℕ
 most_messages = 2 ^ 32 - 1
 
-module _ {S O : Type 0} (gs : source.Ghosts S) (go : output.Ghosts O) (tells : Tells)
+module _ {S O : Type 0} (gs : source.Ghosts S) (go : output.Ghosts O) (reports : Reports)
     (limit most : ℕ) (old new : S) (before after : O) where
   -- All words of the source are frames of these messages, and the text of each was written.
   abbrev pub ReachesEnd : Result Outcome RunFault → Type 0
-  ReachesEnd answer = IfOk answer (λ outcome. (ts : List Told)
-      × ReadsToEnd gs limit old new (messages_of ts) × TellsEach tells 0 ts
+  ReachesEnd answer = IfOk answer (λ outcome. (ts : List Reported)
+      × ReadsToEnd gs limit old new (messages_of ts) × ReportsEach reports 0 ts
       × Appended go before after (texts_of ts)
       × (length ts ≤ most) × (outcome ≡ outcome_of ts))
 
   -- The source was `mid` after the messages before the error had been read.
   abbrev pub StopsEarly : (List (List ℕ) → Type 0) → Result Outcome RunFault → Type 0
-  StopsEarly wants answer = IfErr answer (λ fault. (ts : List Told) × (mid : S)
+  StopsEarly allocates answer = IfErr answer (λ fault. (ts : List Reported) × (mid : S)
       × (fault.message ≡ length ts) × (length ts ≤ most)
-      × ReadsStream gs limit old mid (messages_of ts) × TellsEach tells 0 ts
-      × RunStops gs go tells wants limit most ts mid new before after fault.cause)
+      × ReadsStream gs limit old mid (messages_of ts) × ReportsEach reports 0 ts
+      × RunStops gs go reports allocates limit most ts mid new before after fault.cause)
 
 module _ {S O : Type 0} (gs : source.Ghosts S) (go : output.Ghosts O) where
   -- What an engine does over at most `most` messages, each of at most `limit` words: it writes a
-  -- text of each. A message in `wants` may need an allocation after it was read.
-  pub record TellsStream (tells : Tells) (wants : List (List ℕ) → Type 0) (limit most : ℕ)
+  -- text of each. A message in `allocates` may need an allocation after it was read.
+  pub record ReportsStream (reports : Reports) (allocates : List (List ℕ) → Type 0) (limit most : ℕ)
       (old new : S) (before after : O) (answer : Result Outcome RunFault) : Type 0 where
-    pub ok : ReachesEnd gs go tells limit most old new before after answer
-    pub err : StopsEarly gs go tells limit most old new before after wants answer
+    pub ok : ReachesEnd gs go reports limit most old new before after answer
+    pub err : StopsEarly gs go reports limit most old new before after allocates answer
     -- And the other way round: a stream of at most `most` messages, each within the limit, is read
     -- to its end.
     pub whole : (own : List ℕ) (ms : List (List (List ℕ))) → gs.words old ≡ Some own
         → gs.is_cut old ≡ false → Stream own ms
         → AllByRecursion (λ m. sum (sizes_of m) ≤ limit) ms → length ms ≤ most →
-        Settled answer ((ts : List Told) × (messages_of ts ≡ ms) × TellsEach tells 0 ts
+        Settled answer ((ts : List Reported) × (messages_of ts ≡ ms) × ReportsEach reports 0 ts
         × Appended go before after (texts_of ts)
         × (answer ≡ Ok (outcome_of ts)))
 
@@ -72,7 +72,7 @@ module _ {S O : Type 0} (gs : source.Ghosts S) (go : output.Ghosts O) where
   -- allocates nothing.
   pub record ShowsStream (limit most : ℕ) (old new : S) (before after : O)
       (answer : Result Outcome RunFault) : Type 0 where
-    pub told : TellsStream TellsSegments WantsNone limit most old new before after answer
+    pub reported : ReportsStream ReportsSegments AllocatesNone limit most old new before after answer
     pub no_memory : (n : ℕ) → IsErrOf answer (record { message = n; cause = Frame Memory }) → ⊥
 
 module _ {S K : Type 0} (gs : source.Ghosts S) (gk : sink.Ghosts K) where

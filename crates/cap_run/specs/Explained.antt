@@ -15,9 +15,9 @@ use Rattle.cap_trace.specs.EarlierPointers.{IsEarlierOf, earlier_path}
 use Rattle.cap_trace.specs.NamedPaths.{fault_path}
 use Rattle.cap_trace.specs.declared.earlier.EarlierPointer.{EarlierPointer}
 use Rattle.cap_run.specs.Demanding.{IsStrictUnder}
-use Rattle.cap_run.specs.Placed.{PlacedTells}
-use Rattle.cap_run.specs.Telling.{Tells}
-use Rattle.cap_run.specs.Vetting.{TellsAccepted}
+use Rattle.cap_run.specs.Placed.{PlacedReports}
+use Rattle.cap_run.specs.Reporting.{Reports}
+use Rattle.cap_run.specs.Vetting.{ReportsAccepted}
 use Rattle.cap_run.specs.declared.engines.stream.Counted.{Counted}
 use Rattle.cap_run.specs.declared.engines.stream.Counted.TheVariants.{Refused}
 
@@ -38,7 +38,7 @@ fault_numbers demands m words depth fault h start = record {
 
 -- The line of message n if it doesn't meet the demands, and the lines that explain the first reason.
 -- This number of words of the input is before the message.
-pub record TellsFaultLines (packed : Bool) (demands : Demands) (words depth before n : ℕ) (m : List (List ℕ))
+pub record ReportsFaultLines (packed : Bool) (demands : Demands) (words depth before n : ℕ) (m : List (List ℕ))
     (text : List ℕ) (counted : Counted) : Type 0 where
   pub fault : StrictRefusal
   pub is_fault : IsDemandFault demands m words depth fault
@@ -48,16 +48,16 @@ pub record TellsFaultLines (packed : Bool) (demands : Demands) (words depth befo
   pub counts : counted ≡ Refused
 
 -- a text of a message that meets the demands, or those lines
-abbrev pub OrFaultLines : Bool → Demands → (ℕ → ℕ → ℕ → Tells) → ℕ → ℕ → PlacedTells
-OrFaultLines packed demands tells words depth before n m text counted =
+abbrev pub OrFaultLines : Bool → Demands → (ℕ → ℕ → ℕ → Reports) → ℕ → ℕ → PlacedReports
+OrFaultLines packed demands reports words depth before n m text counted =
     (IsStrictUnder demands m words depth
-    × tells before (words_under demands m words) depth n m text counted)
-    ⊎ TellsFaultLines packed demands words depth before n m text counted
+    × reports before (words_under demands m words) depth n m text counted)
+    ⊎ ReportsFaultLines packed demands words depth before n m text counted
 
 -- under the limits of the charge and of the depth
-abbrev pub OrFaultLinesIn : Bool → Demands → (ℕ → ℕ → ℕ → Tells) → Limits → PlacedTells
-OrFaultLinesIn packed demands tells limits =
-    OrFaultLines packed demands tells (words_of limits) (depth_of limits)
+abbrev pub OrFaultLinesIn : Bool → Demands → (ℕ → ℕ → ℕ → Reports) → Limits → PlacedReports
+OrFaultLinesIn packed demands reports limits =
+    OrFaultLines packed demands reports (words_of limits) (depth_of limits)
 
 -- the line of the first pointer that uses a word which an overlap's pointer uses too, if there is one
 abbrev pub earlier_lines : Option (List Step) → Option EarlierPointer → List ℕ
@@ -76,7 +76,7 @@ IsOverlapText m n start {s} {w} {pointers} f text =
 
 -- The line of a message that is accepted and uses some word twice, with the first pointer that
 -- overlaps, and the lines that explain it.
-pub record TellsOverlapLines (packed : Bool) (before words depth n : ℕ) (m : List (List ℕ)) (text : List ℕ)
+pub record ReportsOverlapLines (packed : Bool) (before words depth n : ℕ) (m : List (List ℕ)) (text : List ℕ)
     (counted : Counted) : Type 0 where
   pub report : Report
   pub is_accepted : IsAccepted m words depth report
@@ -88,15 +88,15 @@ pub record TellsOverlapLines (packed : Bool) (before words depth n : ℕ) (m : L
   pub counts : counted ≡ Refused
 
 -- the text of a message that is accepted: it uses no word twice, or the first overlap is explained
-abbrev pub TellsMarkedLines : Bool → ℕ → ℕ → ℕ → Tells
-TellsMarkedLines packed before words depth n m text counted =
-    (IsDisjoint m × TellsAccepted words depth n m text counted)
-    ⊎ TellsOverlapLines packed before words depth n m text counted
+abbrev pub ReportsMarkedLines : Bool → ℕ → ℕ → ℕ → Reports
+ReportsMarkedLines packed before words depth n m text counted =
+    (IsDisjoint m × ReportsAccepted words depth n m text counted)
+    ⊎ ReportsOverlapLines packed before words depth n m text counted
 
 -- the text of `explain` over an input that is packed or not
-abbrev pub TellsExplainedUnder : Bool → Demands → ℕ → ℕ → PlacedTells
-TellsExplainedUnder packed demands = OrFaultLines packed demands (λ before. TellsAccepted)
+abbrev pub ReportsExplainedUnder : Bool → Demands → ℕ → ℕ → PlacedReports
+ReportsExplainedUnder packed demands = OrFaultLines packed demands (λ before. ReportsAccepted)
 
 -- the text of `explain --exclusive`
-abbrev pub TellsExplainedExclusiveUnder : Bool → Demands → ℕ → ℕ → PlacedTells
-TellsExplainedExclusiveUnder packed demands = OrFaultLines packed demands (TellsMarkedLines packed)
+abbrev pub ReportsExplainedExclusiveUnder : Bool → Demands → ℕ → ℕ → PlacedReports
+ReportsExplainedExclusiveUnder packed demands = OrFaultLines packed demands (ReportsMarkedLines packed)

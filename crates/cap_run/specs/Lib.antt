@@ -16,6 +16,6 @@ pub mod Running
 pub mod Sieves
 pub mod Sifting
 pub mod Streams
-pub mod Telling
+pub mod Reporting
 pub mod Vetting
 pub mod RunNames

@@ -11,23 +11,23 @@ pub use Rattle.cap_text.specs.declared.fault.CopyFault.{CopyFault}
 pub use Rattle.cap_text.specs.declared.fault.CopyFault.TheVariants.{Source, TooManyWords}
 pub use Rattle.cap_text.specs.declared.fault.RunFault.{RunFault}
 pub use Rattle.cap_run.specs.Canons.{AreCanonised, Canonised, IsCanonised, MakesCopiesUnder, canonised, copies_of}
-pub use Rattle.cap_run.specs.Demanding.{IsStrictUnder, OrFault, OrFaultIn, TellsCheckUnder, TellsDumpUnder}
-pub use Rattle.cap_run.specs.Demanding.{TellsExclusiveUnder, TellsGetUnder, TellsMarked, TellsVerdictUnder, WantsIn}
-pub use Rattle.cap_run.specs.Demanding.{WantsMarksUnder, WantsUnder}
-pub use Rattle.cap_run.specs.Engines.{ReachesEnd, StopsEarly, TellsStream, TranscodesWords, most_packed_at_once}
+pub use Rattle.cap_run.specs.Demanding.{IsStrictUnder, OrFault, OrFaultIn, ReportsCheckUnder, ReportsDumpUnder}
+pub use Rattle.cap_run.specs.Demanding.{ReportsExclusiveUnder, ReportsGetUnder, ReportsMarked, ReportsVerdictUnder, AllocatesIn}
+pub use Rattle.cap_run.specs.Demanding.{AllocatesMarksUnder, AllocatesUnder}
+pub use Rattle.cap_run.specs.Engines.{ReachesEnd, StopsEarly, ReportsStream, TranscodesWords, most_packed_at_once}
 pub use Rattle.cap_run.specs.Engines.{most_transcoded, most_unpacked_at_once}
-pub use Rattle.cap_run.specs.Explained.{OrFaultLines, TellsExplainedExclusiveUnder, TellsExplainedUnder}
-pub use Rattle.cap_run.specs.Filtering.{PassesOn, ReadsUntil, TellsIn, WantsInForm}
+pub use Rattle.cap_run.specs.Explained.{OrFaultLines, ReportsExplainedExclusiveUnder, ReportsExplainedUnder}
+pub use Rattle.cap_run.specs.Filtering.{PassesOn, ReadsUntil, ReportsIn, AllocatesInForm}
 pub use Rattle.cap_run.specs.Making.{Made}
 pub use Rattle.cap_run.specs.PuttingEnds.{Transcodes}
 pub use Rattle.cap_run.specs.Running.{Appended, EndStops, RunStops, Settled, SettledAt, StepStops, StopsIn, WritesOneOf}
-pub use Rattle.cap_run.specs.Sieves.{SieveTells, SieveWants}
+pub use Rattle.cap_run.specs.Sieves.{SieveReports, SieveAllocates}
 pub use Rattle.cap_run.specs.Sifting.{FindsObjection, SiftsNext, objection_text}
 pub use Rattle.cap_run.specs.Streams.{EndsStream, ReadsStream, ReadsToEnd}
-pub use Rattle.cap_run.specs.Telling.{Tells, TellsEach, TellsSegments, Told, WantsNone, messages_of, noncanonical_in}
-pub use Rattle.cap_run.specs.Telling.{one_noncanonical, one_refused, outcome_of, refused_in, texts_of}
+pub use Rattle.cap_run.specs.Reporting.{Reports, ReportsEach, ReportsSegments, Reported, AllocatesNone, messages_of, noncanonical_in}
+pub use Rattle.cap_run.specs.Reporting.{one_noncanonical, one_refused, outcome_of, refused_in, texts_of}
 pub use Rattle.cap_run.specs.Transcoding.{Finishes, PutsWords, ReadsWords, StopsMidway, Transcoded, TranscodesAll}
-pub use Rattle.cap_run.specs.Vetting.{TellsAccepted, WantsMarks}
+pub use Rattle.cap_run.specs.Vetting.{ReportsAccepted, AllocatesMarks}
 pub use Rattle.cap_run.specs.declared.engines.sifting.Objection.{Objection}
 pub use Rattle.cap_run.specs.declared.engines.stream.Counted.{Counted}
 pub use Rattle.cap_run.specs.declared.engines.stream.Counted.TheVariants.{Accepted, NotCanonical}

@@ -3,7 +3,7 @@
 use Rattle.std.specs.Io.KnownBytes.{Appends}
 use Rattle.std.specs.Prelude.{Bool, Err, List, Ok, Result, [], length, true, ℕ, ◌++◌, ◌<◌, ◌∷◌, ◌≡◌}
 use Rattle.cap_spec.specs.declared.CanonFault.TheVariants.{HasCapability, Memory as canon_memory}
-use Rattle.cap_words.specs.Ends.{DeviceFails, Failures, GrowthFails, WasSpent}
+use Rattle.cap_words.specs.Ends.{DeviceFails, Failures, AllocationFails, WasBroken}
 use Rattle.cap_words.specs.declared.ends.OutFault.{OutFault}
 use Rattle.cap_words.specs.declared.ends.OutFault.TheVariants.{Device, Memory, Spent}
 use Rattle.cap_frame.specs.ReadingFaults.{Answered, Faults}
@@ -13,7 +13,7 @@ use Rattle.cap_text.specs.declared.fault.Cause.TheVariants.{Canon, Frame, NotStr
 use Rattle.cap_text.specs.declared.fault.Cause.TheVariants.{Memory as no_marks}
 use Rattle.cap_text.specs.declared.fault.RunFault.{RunFault}
 use Rattle.cap_run.specs.Streams.{ReadsStream}
-use Rattle.cap_run.specs.Telling.{Tells, Told, texts_of}
+use Rattle.cap_run.specs.Reporting.{Reports, Reported, texts_of}
 use Rattle.cap_run.specs.declared.engines.stream.Counted.{Counted}
 use Rattle.cap_run.specs.declared.settings.Outcome.{Outcome}
 use Rattle.cap_words.specs.declared.ends.ByteOut as output
@@ -44,19 +44,19 @@ Settled (Err fault) P = SettledAt fault.cause P
 -- what an error of an output says of whether it is closed and how often it failed
 abbrev pub OutFails : OutFault → Bool → Bool → Failures → Failures → Type 0
 OutFails Device was is before after = DeviceFails was before after × (is ≡ true)
-OutFails Memory was is before after = GrowthFails was before after
-OutFails Spent was is before after = WasSpent was is before after
+OutFails Memory was is before after = AllocationFails was before after
+OutFails Spent was is before after = WasBroken was is before after
 
 module _ {O : Type 0} (g : output.Ghosts O) where
   -- The text was written without an error.
   pub record Appended (old new : O) (text : List ℕ) : Type 0 where
     pub appended : Appends (g.written old) (g.written new) text
-    pub spent : g.spent new ≡ g.spent old
+    pub broken : g.broken new ≡ g.broken old
     pub failures : g.failures new ≡ g.failures old
 
   -- The output returned this error after these texts and a prefix of the next.
   pub record StopsIn (old new : O) (fault : OutFault) (done text : List ℕ) : Type 0 where
-    pub fails : OutFails fault (g.spent old) (g.spent new) (g.failures old) (g.failures new)
+    pub fails : OutFails fault (g.broken old) (g.broken new) (g.failures old) (g.failures new)
     pub part : List ℕ
     pub rest : List ℕ
     pub whole : text ≡ part ++ rest
@@ -66,16 +66,16 @@ module _ {O : Type 0} (g : output.Ghosts O) where
   -- of one. Or an allocation failed that is needed, and nothing was written.
   abbrev pub WritesOneOf : (List ℕ → Counted → Type 0) → Type 0 → O → O → Result Counted Cause
       → Type 0
-  WritesOneOf texts wants old new (Ok counted) = (text : List ℕ) × texts text counted
+  WritesOneOf texts allocates old new (Ok counted) = (text : List ℕ) × texts text counted
       × Wrote g old new text
-  WritesOneOf texts wants old new (Err TooManyMessages) = ⊥
-  WritesOneOf texts wants old new (Err (Frame fault)) = ⊥
-  WritesOneOf texts wants old new (Err (Output fault)) =
+  WritesOneOf texts allocates old new (Err TooManyMessages) = ⊥
+  WritesOneOf texts allocates old new (Err (Frame fault)) = ⊥
+  WritesOneOf texts allocates old new (Err (Output fault)) =
       (text : List ℕ) × (counted : Counted) × texts text counted × Stopped g old new fault text
-  WritesOneOf texts wants old new (Err (Refused refusal)) = ⊥
-  WritesOneOf texts wants old new (Err (NotStrict fault)) = ⊥
-  WritesOneOf texts wants old new (Err (Canon fault)) = ⊥
-  WritesOneOf texts wants old new (Err no_marks) = wants × (new ≡ old)
+  WritesOneOf texts allocates old new (Err (Refused refusal)) = ⊥
+  WritesOneOf texts allocates old new (Err (NotStrict fault)) = ⊥
+  WritesOneOf texts allocates old new (Err (Canon fault)) = ⊥
+  WritesOneOf texts allocates old new (Err no_marks) = allocates × (new ≡ old)
 
 module _ {S : Type 0} (g : source.Ghosts S) where
   -- why a stream didn't end where it had to
@@ -91,40 +91,40 @@ module _ {S : Type 0} (g : source.Ghosts S) where
 
 module _ {S O : Type 0} (gs : source.Ghosts S) (go : output.Ghosts O) where
   -- a message was read, and its text as message n was written
-  abbrev pub StepTells : Tells → ℕ → ℕ → S → S → O → O → Counted → Type 0
-  StepTells tells limit n old new before after counted = (t : Told) × (t.counted ≡ counted)
-      × tells n t.message t.text t.counted × ReadsStream gs limit old new (t.message ∷ [])
+  abbrev pub StepReports : Reports → ℕ → ℕ → S → S → O → O → Counted → Type 0
+  StepReports reports limit n old new before after counted = (t : Reported) × (t.counted ≡ counted)
+      × reports n t.message t.text t.counted × ReadsStream gs limit old new (t.message ∷ [])
       × Wrote go before after t.text
 
   -- why an engine ended at message n, which may need an allocation after it was read
-  abbrev pub StepStops : Tells → (List (List ℕ) → Type 0) → ℕ → ℕ → S → S → O → O → Cause → Type 0
-  StepStops tells wants limit n old new before after TooManyMessages = ⊥
-  StepStops tells wants limit n old new before after (Frame fault) = Faults gs limit old new fault
+  abbrev pub StepStops : Reports → (List (List ℕ) → Type 0) → ℕ → ℕ → S → S → O → O → Cause → Type 0
+  StepStops reports allocates limit n old new before after TooManyMessages = ⊥
+  StepStops reports allocates limit n old new before after (Frame fault) = Faults gs limit old new fault
       × (after ≡ before)
-  StepStops tells wants limit n old new before after (Output fault) =
-      (t : Told) × tells n t.message t.text t.counted × ReadsStream gs limit old new
+  StepStops reports allocates limit n old new before after (Output fault) =
+      (t : Reported) × reports n t.message t.text t.counted × ReadsStream gs limit old new
       (t.message ∷ []) × Stopped go before after fault t.text
-  StepStops tells wants limit n old new before after (Refused refusal) = ⊥
-  StepStops tells wants limit n old new before after (NotStrict fault) = ⊥
-  StepStops tells wants limit n old new before after (Canon fault) = ⊥
-  StepStops tells wants limit n old new before after no_marks = (m : List (List ℕ))
-      × ReadsStream gs limit old new (m ∷ []) × wants m × (after ≡ before)
+  StepStops reports allocates limit n old new before after (Refused refusal) = ⊥
+  StepStops reports allocates limit n old new before after (NotStrict fault) = ⊥
+  StepStops reports allocates limit n old new before after (Canon fault) = ⊥
+  StepStops reports allocates limit n old new before after no_marks = (m : List (List ℕ))
+      × ReadsStream gs limit old new (m ∷ []) × allocates m × (after ≡ before)
 
   -- why an engine ended after these messages, when the source was `mid`
-  abbrev pub RunStops : Tells → (List (List ℕ) → Type 0) → ℕ → ℕ → List Told → S → S → O → O → Cause
+  abbrev pub RunStops : Reports → (List (List ℕ) → Type 0) → ℕ → ℕ → List Reported → S → S → O → O → Cause
       → Type 0
-  RunStops tells wants limit most ts mid new before after TooManyMessages =
+  RunStops reports allocates limit most ts mid new before after TooManyMessages =
       (length ts ≡ most) × Appended go before after (texts_of ts)
       × ((m : List (List ℕ)) × ReadsStream gs limit mid new (m ∷ []))
-  RunStops tells wants limit most ts mid new before after (Frame fault) = Appended go before after
+  RunStops reports allocates limit most ts mid new before after (Frame fault) = Appended go before after
       (texts_of ts) × Faults gs limit mid new fault
-  RunStops tells wants limit most ts mid new before after (Output fault) =
-      (t : Told) × (length ts < most) × tells (length ts) t.message t.text t.counted
+  RunStops reports allocates limit most ts mid new before after (Output fault) =
+      (t : Reported) × (length ts < most) × reports (length ts) t.message t.text t.counted
       × ReadsStream gs limit mid new (t.message ∷ [])
       × StopsIn go before after fault (texts_of ts) t.text
-  RunStops tells wants limit most ts mid new before after (Refused refusal) = ⊥
-  RunStops tells wants limit most ts mid new before after (NotStrict fault) = ⊥
-  RunStops tells wants limit most ts mid new before after (Canon fault) = ⊥
-  RunStops tells wants limit most ts mid new before after no_marks =
+  RunStops reports allocates limit most ts mid new before after (Refused refusal) = ⊥
+  RunStops reports allocates limit most ts mid new before after (NotStrict fault) = ⊥
+  RunStops reports allocates limit most ts mid new before after (Canon fault) = ⊥
+  RunStops reports allocates limit most ts mid new before after no_marks =
       (length ts < most) × Appended go before after (texts_of ts)
-      × ((m : List (List ℕ)) × ReadsStream gs limit mid new (m ∷ []) × wants m)
+      × ((m : List (List ℕ)) × ReadsStream gs limit mid new (m ∷ []) × allocates m)

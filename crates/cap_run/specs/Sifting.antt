@@ -11,7 +11,7 @@ use Rattle.cap_text.specs.declared.fault.Cause.TheVariants.{Memory as no_marks}
 use Rattle.cap_run.specs.Filtering.{Logged, Notes, PassesOn}
 use Rattle.cap_run.specs.Running.{Appended}
 use Rattle.cap_run.specs.Streams.{ReadsStream}
-use Rattle.cap_run.specs.Telling.{Tells}
+use Rattle.cap_run.specs.Reporting.{Reports}
 use Rattle.cap_run.specs.declared.engines.sifting.Objection.{Objection}
 use Rattle.cap_run.specs.declared.engines.sifting.Objection.TheVariants.{Overlap, Unmet}
 use Rattle.cap_run.specs.declared.engines.stream.Counted.{Counted}
@@ -30,12 +30,12 @@ objection_text n objection = vet_text n (objection_verdict objection)
 
 -- what is found of a message: it is accepted, or refused with this line, whatever its number is; or
 -- an allocation failed that it needs
-abbrev pub FindsObjection : Tells → (List (List ℕ) → Type 0) → List (List ℕ)
+abbrev pub FindsObjection : Reports → (List (List ℕ) → Type 0) → List (List ℕ)
     → Result (Option Objection) Cause → Type 0
-FindsObjection verdict wants m (Ok None) = (n : ℕ) → (line : List ℕ) × verdict n m line Accepted
-FindsObjection verdict wants m (Ok (Some objection)) = (n : ℕ)
+FindsObjection verdict allocates m (Ok None) = (n : ℕ) → (line : List ℕ) × verdict n m line Accepted
+FindsObjection verdict allocates m (Ok (Some objection)) = (n : ℕ)
     → verdict n m (objection_text n objection) was_refused
-FindsObjection verdict wants m (Err cause) = (cause ≡ no_marks) × wants m
+FindsObjection verdict allocates m (Err cause) = (cause ≡ no_marks) × allocates m
 
 module _ {E : Type 0} (ge : output.Ghosts E) where
   -- the log goes on with this line, unless it failed before or fails now
@@ -44,7 +44,7 @@ module _ {E : Type 0} (ge : output.Ghosts E) where
       → Logged ge first old text failed → Logged ge first new (text ++ line) fails
 
 module _ {O E : Type 0} (go : output.Ghosts O) (ge : output.Ghosts E) (pack : Bool)
-    (verdict : Tells) (wants : List (List ℕ) → Type 0) (n : ℕ) (m : List (List ℕ))
+    (verdict : Reports) (allocates : List (List ℕ) → Type 0) (n : ℕ) (m : List (List ℕ))
     (before after : O) (old new : E) (failed fails waits stays : Bool) where
   -- nothing was written to the log
   abbrev pub KeepsLog : Type 0
@@ -65,15 +65,15 @@ module _ {O E : Type 0} (go : output.Ghosts O) (ge : output.Ghosts E) (pack : Bo
   Sifts (Err (Refused refusal)) = ⊥
   Sifts (Err (NotStrict fault)) = ⊥
   Sifts (Err (Canon fault)) = ⊥
-  Sifts (Err no_marks) = wants m × (after ≡ before) × KeepsLog
+  Sifts (Err no_marks) = allocates m × (after ≡ before) × KeepsLog
 
 module _ {S O E : Type 0} (gs : source.Ghosts S) (go : output.Ghosts O) (ge : output.Ghosts E)
-    (pack : Bool) (verdict : Tells) (wants : List (List ℕ) → Type 0) (limit n : ℕ) (old new : S)
+    (pack : Bool) (verdict : Reports) (allocates : List (List ℕ) → Type 0) (limit n : ℕ) (old new : S)
     (before after : O) (first last : E) (failed fails waits stays : Bool) where
   -- message n was read and sifted
   abbrev pub SiftsNext : Result Counted Cause → Type 0
   SiftsNext r = (m : List (List ℕ)) × ReadsStream gs limit old new (m ∷ [])
-      × Sifts go ge pack verdict wants n m before after first last failed fails waits stays r
+      × Sifts go ge pack verdict allocates n m before after first last failed fails waits stays r
 
   -- why the engine ended at message n
   abbrev pub SiftStops : Cause → Type 0

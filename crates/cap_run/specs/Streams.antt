@@ -15,7 +15,7 @@ module _ {S : Type 0} (g : source.Ghosts S) where
     pub takes : Takes g old new own
     pub stream : Stream own ms
     pub within : AllByRecursion (λ m. sum (sizes_of m) ≤ limit) ms
-    pub spent : g.spent new ≡ g.spent old
+    pub broken : g.broken new ≡ g.broken old
     pub failures : g.failures new ≡ g.failures old
 
   -- There were no more words, and the input ended between words, at this place.
@@ -23,7 +23,7 @@ module _ {S : Type 0} (g : source.Ghosts S) where
     pub none : OnSome (g.words old) ((g.words old ≡ Some []) × (g.is_cut old ≡ false)
         × (g.places old ≡ g.place new ∷ []))
     pub ended : g.ended new ≡ true
-    pub works : Works (g.spent old) (g.spent new) (g.failures old) (g.failures new)
+    pub works : Works (g.broken old) (g.broken new) (g.failures old) (g.failures new)
 
   -- All words of the source are frames of these messages, each within the limit. They were read,
   -- and the source ended.
@@ -33,4 +33,4 @@ module _ {S : Type 0} (g : source.Ghosts S) where
     pub stream : Stream own ms
     pub within : AllByRecursion (λ m. sum (sizes_of m) ≤ limit) ms
     pub ended : g.ended new ≡ true
-    pub works : Works (g.spent old) (g.spent new) (g.failures old) (g.failures new)
+    pub works : Works (g.broken old) (g.broken new) (g.failures old) (g.failures new)

@@ -19,8 +19,8 @@ module _ {S : Type 0} (gs : source.Ghosts S) where
   -- These words were read without an error. If there were any, the source wasn't closed before.
   pub record ReadsWords (old new : S) (own : List ℕ) : Type 0 where
     pub takes : Takes gs old new own
-    pub usable : (own ≡ []) ⊎ (gs.spent old ≡ false)
-    pub spent : gs.spent new ≡ gs.spent old
+    pub usable : (own ≡ []) ⊎ (gs.broken old ≡ false)
+    pub broken : gs.broken new ≡ gs.broken old
     pub failures : gs.failures new ≡ gs.failures old
 
   -- There were no more words, and the input ended at this byte, inside a word.
@@ -28,8 +28,8 @@ module _ {S : Type 0} (gs : source.Ghosts S) where
     pub none : OnSome (gs.words old)
         ((gs.words old ≡ Some []) × (gs.is_cut old ≡ true) × (gs.places old ≡ byte ∷ []))
     pub place : byte ≡ gs.place new
-    pub usable : gs.spent old ≡ false
-    pub spent : gs.spent new ≡ true
+    pub usable : gs.broken old ≡ false
+    pub broken : gs.broken new ≡ true
     pub failed : gs.failed new ≡ true
     pub none_failed : gs.failures new ≡ gs.failures old
 
@@ -51,7 +51,7 @@ module _ {K : Type 0} (gk : sink.Ghosts K) where
   pub record PutsWords (old new : K) (own : List ℕ) : Type 0 where
     pub put : WasPut gk.text old new own
     pub closed : gk.closed new ≡ gk.closed old
-    pub spent : gk.spent new ≡ gk.spent old
+    pub broken : gk.broken new ≡ gk.broken old
     pub failures : gk.failures new ≡ gk.failures old
 
   -- Exactly these words were put, and the sink was finished.
@@ -73,7 +73,7 @@ module _ {S K : Type 0} (gs : source.Ghosts S) (gk : sink.Ghosts K) where
     pub few : length own ≤ most
     pub all : OnSome (gs.words old) ((gs.words old ≡ Some own) × (gs.is_cut old ≡ false))
     pub ended : gs.ended new ≡ true
-    pub works : Works (gs.spent old) (gs.spent new) (gs.failures old) (gs.failures new)
+    pub works : Works (gs.broken old) (gs.broken new) (gs.failures old) (gs.failures new)
     pub finishes : Finishes gk before after own
 
   -- One word more than the most was read, and those before it were put.
@@ -107,7 +107,7 @@ module _ {S K : Type 0} (gs : source.Ghosts S) (gk : sink.Ghosts K) where
     pub some : 0 < length piece
     pub in_pieces : length piece ≤ at_once
     pub gives : ReadsWords gs old mid (done ++ piece)
-    pub behind : (new ≡ mid) ⊎ StopsGiving gs most (done ++ piece) mid new
+    pub following : (new ≡ mid) ⊎ StopsGiving gs most (done ++ piece) mid new
     pub fills : PutsWords gk before between done
     pub halts : Halts gk between after piece (sink_fault_of fault)
     pub part : StoppedPutting gk.text gk.taken before after (done ++ piece)

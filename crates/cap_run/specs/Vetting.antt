@@ -10,7 +10,7 @@ use Rattle.cap_run.specs.declared.engines.stream.Counted.{Counted}
 use Rattle.cap_run.specs.declared.engines.stream.Counted.TheVariants.{Accepted, Refused}
 
 -- the line of message n if it is accepted, with the numbers of its tree
-pub record TellsAccepted (words depth n : ℕ) (m : List (List ℕ)) (text : List ℕ)
+pub record ReportsAccepted (words depth n : ℕ) (m : List (List ℕ)) (text : List ℕ)
     (counted : Counted) : Type 0 where
   pub report : Report
   pub is_accepted : IsAccepted m words depth report
@@ -18,7 +18,7 @@ pub record TellsAccepted (words depth n : ℕ) (m : List (List ℕ)) (text : Lis
   pub counts : counted ≡ Accepted
 
 -- if it is accepted and some word is used twice, with the first pointer that overlaps
-pub record TellsOverlap (words depth n : ℕ) (m : List (List ℕ)) (text : List ℕ)
+pub record ReportsOverlap (words depth n : ℕ) (m : List (List ℕ)) (text : List ℕ)
     (counted : Counted) : Type 0 where
   pub report : Report
   pub is_accepted : IsAccepted m words depth report
@@ -30,12 +30,12 @@ pub record TellsOverlap (words depth n : ℕ) (m : List (List ℕ)) (text : List
   pub counts : counted ≡ Refused
 
 -- the messages whose words are marked: those that are accepted
-abbrev pub WantsMarks : ℕ → ℕ → List (List ℕ) → Type 0
-WantsMarks words depth m = (report : Report) × IsAccepted m words depth report
+abbrev pub AllocatesMarks : ℕ → ℕ → List (List ℕ) → Type 0
+AllocatesMarks words depth m = (report : Report) × IsAccepted m words depth report
 
 -- the line of message n if it is accepted, with the numbers of its tree, and after it the whole
 -- tree
-pub record TellsTree (words depth n : ℕ) (m : List (List ℕ)) (text : List ℕ)
+pub record ReportsTree (words depth n : ℕ) (m : List (List ℕ)) (text : List ℕ)
     (counted : Counted) : Type 0 where
   pub report : Report
   pub tree : Tree
@@ -44,7 +44,7 @@ pub record TellsTree (words depth n : ℕ) (m : List (List ℕ)) (text : List �
   pub counts : counted ≡ Accepted
 
 -- the tree's node at a path, or that there is none, if message n is accepted
-pub record TellsNode (words depth : ℕ) (path : List Step) (n : ℕ) (m : List (List ℕ))
+pub record ReportsNode (words depth : ℕ) (path : List Step) (n : ℕ) (m : List (List ℕ))
     (text : List ℕ) (counted : Counted) : Type 0 where
   pub report : Report
   pub tree : Tree

@@ -18,9 +18,9 @@ use cap_words::{ByteIn, ByteOut, OutFault, PlainWords, SinkFault, WordSink, Word
 /// may wait for more bytes.
 pub trait Peek: WordSource {
     /// Whether buffered bytes hold the whole next message, within the limit. The source then gives
-    /// this message without a call of the device. `room` is a place for words that are looked at.
+    /// this message without a call of the device. `buffer` is a place for words that are looked at.
     /// `false` doesn't say that the message isn't buffered.
-    fn shows_message(&self, size: SizeLimit, room: &mut [u8]) -> bool
+    fn shows_message(&self, size: SizeLimit, buffer: &mut [u8]) -> bool
         ensures { IsTrue result → IfSome (Self.words self.now) (BeginsMessage (limit_of size)) };
 
     /// Whether buffered bytes hold the next word. The source then gives it without a call of the
@@ -41,7 +41,7 @@ fn is_whole(bytes: &[u8], size: SizeLimit) -> bool
 }
 
 impl<I: ByteIn> Peek for PlainWords<I> {
-    fn shows_message(&self, size: SizeLimit, _room: &mut [u8]) -> bool {
+    fn shows_message(&self, size: SizeLimit, _capacity: &mut [u8]) -> bool {
         is_whole(self.held(), size)
     }
 
@@ -52,28 +52,28 @@ impl<I: ByteIn> Peek for PlainWords<I> {
 
 // How many bytes there have to be to learn more of a message that begins with these bytes. `None` if
 // they hold it whole, or no more bytes make it a message within the limit.
-fn bytes_wanted(bytes: &[u8], size: SizeLimit) -> Option<u64> {
+fn bytes_needed(bytes: &[u8], size: SizeLimit) -> Option<u64> {
     match front_of(bytes, size) {
-        Err(FrontFault::Truncated { wanted }) => Some(wanted),
+        Err(FrontFault::Truncated { needed }) => Some(needed),
         _ => None,
     }
 }
 
 impl<I: ByteIn> Peek for Unpacker<I> {
-    // Its first word is looked at, then its table, and then all of it. A message that `room` can't
+    // Its first word is looked at, then its table, and then all of it. A message that `buffer` can't
     // hold isn't shown.
-    fn shows_message(&self, size: SizeLimit, room: &mut [u8]) -> bool {
-        let mut wanted = 8;
+    fn shows_message(&self, size: SizeLimit, buffer: &mut [u8]) -> bool {
+        let mut needed = 8;
         for _ in 0..3 {
-            if wanted > room.len() {
+            if needed > buffer.len() {
                 return false;
             }
-            let shown = self.peek(&mut room[..wanted]);
-            if is_whole(&room[..shown], size) {
+            let shown = self.peek(&mut buffer[..needed]);
+            if is_whole(&buffer[..shown], size) {
                 return true;
             }
-            match bytes_wanted(&room[..shown], size) {
-                Some(more) if shown == wanted && more <= room.len() as u64 => wanted =
+            match bytes_needed(&buffer[..shown], size) {
+                Some(more) if shown == needed && more <= buffer.len() as u64 => needed =
                     more as usize,
                 _ => return false,
             }

@@ -3,7 +3,7 @@ pub use Rattle.cap_spec.proofs.Bytes.Lists.{all_append, all_back, all_drop, all_
 pub use Rattle.cap_spec.proofs.Bytes.Plain.{length_plain, plain_short, plain_split, words_exact}
 pub use Rattle.cap_spec.proofs.Bytes.WordBytes.{bytes_back}
 pub use Rattle.cap_spec.proofs.Canonical.Copies.{one_copy}
-pub use Rattle.cap_spec.proofs.Canonical.Placing.{rest_at, stand_back, stand_front, stand_inside}
+pub use Rattle.cap_spec.proofs.Canonical.Placing.{rest_at, lie_back, lie_front, lie_inside}
 pub use Rattle.cap_spec.proofs.Canonical.PointerFields.{StructFields, list_fields, start_after, struct_fields}
 pub use Rattle.cap_spec.proofs.Canonical.Sizes.{layout_charged, length-content}
 pub use Rattle.cap_spec.proofs.Canonical.TreeMeasures.{FitElements, Fits, extent_scalars}

@@ -1,4 +1,4 @@
--- The packed spelling.
+-- The packed encoding.
 pub mod Unpacking
 pub mod Groups
 pub mod MakingGroups

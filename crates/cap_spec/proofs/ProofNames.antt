@@ -52,7 +52,7 @@ pub use Rattle.cap_spec.specs.Canonical.{take_trees, trim, trim_all, trim_elemen
 pub use Rattle.cap_spec.specs.Copies.{HasCopy, IsCanonical}
 pub use Rattle.cap_spec.specs.Denoting.{AreElements, DenoteEach, Denotes, Finds, FindsCharged, FindsKind}
 pub use Rattle.cap_spec.specs.Denoting.{element_levels, levels_below, value_at, values_of, words_from}
-pub use Rattle.cap_spec.specs.Endings.{BeginsMessage, Ending, EndsIn, TellsTooMany, TellsTooMuch, message, partial}
+pub use Rattle.cap_spec.specs.Endings.{BeginsMessage, Ending, EndsIn, GivesTooMany, GivesTooMuch, message, partial}
 pub use Rattle.cap_spec.specs.Endings.{too_large, too_many}
 pub use Rattle.cap_spec.specs.Faults.{HasNoRoot, IsFaultAt, IsFirstFault, IsFirstReason, IsRefused, is_deep, is_past}
 pub use Rattle.cap_spec.specs.Following.{Condition, IsComposite, IsOnePad, IsTwoPad, Lead, Leads, Says, TagFits, Wrong}
@@ -80,7 +80,7 @@ pub use Rattle.cap_spec.specs.Pointers.{IsFar, IsReserved, cap_index, code, data
 pub use Rattle.cap_spec.specs.Pointers.{far_segment, kind, list_size, list_words, middle, pad, pointer_size, two}
 pub use Rattle.cap_spec.specs.Scalars.{packed_word, scalar_words}
 pub use Rattle.cap_spec.specs.Showing.{Own, kind_of, own_of, words_of_own}
-pub use Rattle.cap_spec.specs.Standing.{DenotesAt}
+pub use Rattle.cap_spec.specs.SpotTrees.{DenotesAt}
 pub use Rattle.cap_spec.specs.Strict.{IsFirstLax, IsLax, IsLaxAt, IsStrict, IsStrictFault}
 pub use Rattle.cap_spec.specs.Texts.{accepted, dump_text, get_text, hex, hex_digit, label, line, outline_text, own_text}
 pub use Rattle.cap_spec.specs.Texts.{refused, segment_lines, segments_text, strict_verdict, then_number, vet_text}

@@ -12,14 +12,14 @@ pub record BeginsMessage (limit : ℕ) (words : List ℕ) : Type 0 where
   pub within : sum (sizes_of message) ≤ limit
 
 -- The first word gives more than 512 segments.
-pub record TellsTooMany (words : List ℕ) : Type 0 where
+pub record GivesTooMany (words : List ℕ) : Type 0 where
   pub first : ℕ
   pub rest : List ℕ
   pub whole : words ≡ first ∷ rest
   pub many : 512 < first % 2 ^ 32 + 1
 
 -- The words begin with a table of at most 512 segments, whose sizes are past the limit together.
-pub record TellsTooMuch (limit : ℕ) (words : List ℕ) : Type 0 where
+pub record GivesTooMuch (limit : ℕ) (words : List ℕ) : Type 0 where
   pub table : List ℕ
   pub rest : List ℕ
   pub sizes : List ℕ
@@ -35,6 +35,6 @@ pub data Ending : Type 0 where
 abbrev pub EndsIn : ℕ → List ℕ → Bool → Ending → Type 0
 EndsIn limit words cut message = BeginsMessage limit words
 EndsIn limit words cut none = (words ≡ []) × (cut ≡ false)
-EndsIn limit words cut too_many = TellsTooMany words
-EndsIn limit words cut too_large = TellsTooMuch limit words
+EndsIn limit words cut too_many = GivesTooMany words
+EndsIn limit words cut too_large = GivesTooMuch limit words
 EndsIn limit words cut partial = IsPartial limit words cut

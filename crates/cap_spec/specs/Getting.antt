@@ -33,7 +33,7 @@ pub record Charges (m : List (List ℕ)) (before depth : ℕ) (path : List Step)
   pub cost : ℕ
   pub costs : CostOf m ways cost
   pub shallow : AreShallow m depth ways
-  pub spent : left + cost ≡ before
+  pub consumed : left + cost ≡ before
 
 -- The refusal names the pointer that a beginning of the path reaches: those before it on the path keep to the limits.
 pub record IsFaultOnPath (m : List (List ℕ)) (words depth : ℕ) (path : List Step) (refusal : Refusal) : Type 0 where

@@ -13,9 +13,9 @@ word_ends at (suc n) = capped (at + 8) ∷ word_ends (at + 8) n
 -- head, except for a word after the head of a run of literal words. For that it is the end of the
 -- word.
 abbrev pub group_ends : {bytes words : List ℕ} → ℕ → IsGroup bytes words → List ℕ
-group_ends at (zeros n few text spelled) = replicate (1 + n) (capped (at + 2))
-group_ends at (plain x more first all few text spelled) = capped (at + 10) ∷ word_ends (at + 10) (length more)
-group_ends at (marked tag present some few all marks text spelled) = capped (at + (1 + length present)) ∷ []
+group_ends at (zeros n few text encoded) = replicate (1 + n) (capped (at + 2))
+group_ends at (plain x more first all few text encoded) = capped (at + 10) ∷ word_ends (at + 10) (length more)
+group_ends at (marked tag present some few all marks text encoded) = capped (at + (1 + length present)) ∷ []
 
 -- the same of the group at the start of the bytes, by its head as far as it is there
 abbrev pub front_ends : ℕ → List ℕ → List ℕ

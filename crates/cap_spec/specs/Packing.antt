@@ -30,7 +30,7 @@ group_size (w ∷ ws) =
     if w == 0 then min 256 (zero_run (w ∷ ws)) else
     (if zero_bytes w == 0 then (1 + min 255 (full_run ws)) else 1)
 
--- the group that spells a word and n further words
+-- the group that encodes a word and n further words
 abbrev pub group_text : ℕ → ℕ → List ℕ → List ℕ
 group_text w n more =
     if w == 0 then 0 ∷ n ∷ [] else

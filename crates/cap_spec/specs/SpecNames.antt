@@ -2,7 +2,7 @@
 pub use Rattle.cap_spec.specs.Canonical.{layout, trim}
 pub use Rattle.cap_spec.specs.Copies.{HasCopy}
 pub use Rattle.cap_spec.specs.Denoting.{AreElements, DenoteEach, Denotes, Finds, places, words_from}
-pub use Rattle.cap_spec.specs.Endings.{TellsTooMany, TellsTooMuch}
+pub use Rattle.cap_spec.specs.Endings.{GivesTooMany, GivesTooMuch}
 pub use Rattle.cap_spec.specs.Faults.{IsRefused}
 pub use Rattle.cap_spec.specs.Following.{HasTag, Leads, Wrong, extra, near, to_cap, to_null}
 pub use Rattle.cap_spec.specs.Frames.{Frames, IsPartial, Stream, frame_text, sizes_of}

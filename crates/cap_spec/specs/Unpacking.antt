@@ -1,4 +1,4 @@
--- Packed text: which bytes spell which words, and what is given of bytes that end inside a group (standard: Packing;
+-- Packed text: which bytes encode which words, and what is given of bytes that end inside a group (standard: Packing;
 -- present zero bytes and runs across messages are the profile's).
 use Rattle.std.specs.List.{AllByRecursion}
 use Rattle.std.specs.Prelude.{Bool, List, [], drop, false, flat_map, if◌then◌else◌, length, nat_lt, replicate}
@@ -43,7 +43,7 @@ pub record Unpacks (bytes words : List ℕ) : Type 0 where
   pub groups : Groups
   pub each : AllByRecursion (λ g. IsGroup g.0 g.1) groups
   pub text : bytes ≡ groups_text groups
-  pub spelled : words ≡ groups_words groups
+  pub encoded : words ≡ groups_words groups
 
 -- what is given of the beginning of a group: of one with the tag ff, after a whole head, the whole
 -- words
@@ -61,8 +61,8 @@ pub record Cut (bytes words : List ℕ) : Type 0 where
   pub lacking : List ℕ
   pub begun : part ≢ []
   pub proper : lacking ≢ []
-  pub spelled : List ℕ
-  pub group : IsGroup (part ++ lacking) spelled
+  pub encoded : List ℕ
+  pub group : IsGroup (part ++ lacking) encoded
   pub text : bytes ≡ whole ++ part
   pub given : words ≡ before ++ given_of part
 

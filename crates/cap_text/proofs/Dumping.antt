@@ -24,7 +24,7 @@ next_tree (more t ts) (suc i) u e =
     let n : suc i + 1 ≡ suc (i + 1) = omega arith in
     next_tree ts i u e ∙ ap (λ k. more u (trees_from k (more t ts))) (sym n)
 
--- and none behind the last
+-- and none after the last
 no_tree : (ts : Trees) (i : ℕ) → tree_count ts ≤ i → trees_from i ts ≡ none
 no_tree none zero h = refl
 no_tree none (suc i) h = refl
@@ -85,7 +85,7 @@ module _ (t : Tree) (kind : Kind) (i : ℕ) (k : kind ≡ kind_of (own_of t)) (w
   pub child_of : (u : Tree) → part_at t (child_step_of kind i) ≡ Some u → tree_at (shown_below t) i ≡ Some u
   child_of u e = sym (part_below t i is_within) ∙ ap (λ x. part_at t (child_step_of x i)) (sym k) ∙ e
 
-  -- it leads somewhere
+  -- it leads to some place
   pub child_is_there : (step : Step) → step ≡ child_step_of kind i → part_at t step ≡ None → ⊥
   child_is_there step s e =
       tree_is_there (shown_below t) i is_within (sym (part_below t i is_within) ∙ ap (λ x. part_at t (child_step_of x i)) (sym k) ∙ ap (part_at t) (sym s) ∙ e)
@@ -98,7 +98,7 @@ module _ (t : Tree) (kind : Kind) (i : ℕ) (k : kind ≡ kind_of (own_of t)) (w
 pub kind_shown : (t : Tree) (own : Own) (kind : Kind) → own ≡ own_of t → kind ≡ kind_of own → kind ≡ kind_of (own_of t)
 kind_shown t own kind e k = k ∙ ap kind_of e
 
--- The child at number i of a node of this tree and kind, which stands at a spot of a message, with its tree.
+-- The child at number i of a node of this tree and kind, which is at a spot of a message, with its tree.
 pub record Below (m : List (List ℕ)) (a : Spot) (t : Tree) (kind : Kind) (i : ℕ) : Type 0 where
   pub of_tree : kind ≡ kind_of (own_of t)
   pub within : i < shown_count_of kind
@@ -167,7 +167,7 @@ module _ {O : Type 0} (g : output.Ghosts O) (level : ℕ) (t : Tree) (kind : Kin
   lines_are : all_lines level (child_letter_of kind) 0 (shown_below t) ≡ child_lines level t
   lines_are = ap (λ x. all_lines level (child_letter_of x) 0 (shown_below t)) k ∙ sym (lines_below level t)
 
-  -- behind the last all are
+  -- after the last all are
   pub all_out : (a b : O × List ℕ) (i : ℕ) → shown_count_of kind ≤ i → ChildrenOut g level t kind a b i → Added g a b (child_lines level t)
   all_out a b i h l =
       let many : tree_count (shown_below t) ≤ i = subst (λ n. n ≤ i) (ap shown_count_of k ∙ count_below t) h in
@@ -213,7 +213,7 @@ module _ {O : Type 0} (g : output.Ghosts O) (level : ℕ) (t : Tree) (kind : Kin
         (all_lines level (child_letter_of kind) (i + 1) (trees_from (i + 1) (shown_below t))) (left_next l)
         (halted_then g b c d fault (own_text level (label letter i) u) (child_lines (level + 1) u) v q))
 
--- The tree of a message stands at the spot to which the empty path comes.
+-- The tree of a message is at the spot to which the empty path comes.
 pub at_root : (m m' : List (List ℕ)) (a : Spot) (t : Tree) (c d : ℕ) → m' ≡ m → ReachesSpot m [] 1 a → Denotes m 0 0 t c d → DenotesAt m' a t
 at_root m m' a t c d same comes h =
     subst (λ x. DenotesAt x a t) (sym same) (subst (λ x. DenotesAt m x t) (sym comes.3.1) (let at : DenotesAt m (word 0 0) t = (c, d, h) in at))

@@ -17,7 +17,7 @@ pub four_texts : (name text a b c d : List ℕ) → a ≡ name → b ≡ a ++ 32
 four_texts name text a b c d p q r s =
     s ∙ ap (λ l. l ++ 10 ∷ []) (r ∙ ap (λ l. l ++ text) (q ∙ ap (λ l. l ++ 32 ∷ []) p) ∙ append_assoc name (32 ∷ []) text)
 
--- the same behind the spaces of a level
+-- the same after the spaces of a level
 pub five_texts : (spaces name text a b c d e : List ℕ) → a ≡ spaces → b ≡ a ++ name → c ≡ b ++ 32 ∷ [] → d ≡ c ++ text → e ≡ d ++ 10 ∷ []
     → e ≡ spaces ++ (name ++ 32 ∷ text ++ 10 ∷ [])
 five_texts spaces name text a b c d e p q r s t =

@@ -15,7 +15,7 @@ length-decimal_step n h fits = ap length (decimal_step n h fits) ∙ length-appe
 pub length-decimal_two : (n : ℕ) → 10 ≤ n → n < 100 → n < 2 ^ 64 → length (decimal n) ≡ 2
 length-decimal_two n h few fits = length-decimal_step n h fits ∙ ap (λ k. k + 1) (length-decimal_digit (n / 10) (omega arith))
 
--- from 100 on it is two digits longer than what is in front of them
+-- from 100 on it is two digits longer than what is before them
 pub length-decimal_pair : (n : ℕ) → 100 ≤ n → n < 2 ^ 64 → length (decimal n) ≡ 2 + length (decimal (n / 100))
 length-decimal_pair n h fits =
     let front : n / 10 / 10 ≡ n / 100 = omega arith in
@@ -25,9 +25,9 @@ length-decimal_pair n h fits =
 pub length-decimal_few : (n : ℕ) → n < 2 ^ 64 → length (decimal n) ≤ 20
 length-decimal_few n h = length-decimal-le 20 n (omega arith) (omega arith) h
 
--- a text that was written behind the first bytes stands behind them
-pub text_behind : (old new text rest : List ℕ) (start end : ℕ) → start + length text ≡ end
+-- a text that was written after the first bytes is after them
+pub text_after : (old new text rest : List ℕ) (start end : ℕ) → start + length text ≡ end
     → take start new ≡ take start old → drop start new ≡ text ++ rest → take end new ≡ take start old ++ text
-text_behind old new text rest start end e before written =
+text_after old new text rest start end e before written =
     ap (λ n. take n new) (sym e) ∙ take-add start (length text) new ∙ ap (λ l. l ++ take (length text) (drop start new)) before
     ∙ ap (λ l. take start old ++ take (length text) l) written ∙ ap (λ l. take start old ++ l) (take-append_seam text rest)

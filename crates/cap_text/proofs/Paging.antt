@@ -31,22 +31,22 @@ module _ {O : Type 0} (g : output.Ghosts O) where
     out = gone_then a.0 b.0 c.0 p.gone q.gone p.out q.out;
   }
 
-  -- a line behind what made room for it
+  -- a line after what made capacity for it
   pub added_line : (a b : O × List ℕ) (now text : List ℕ) → Added g a b [] → now ≡ b.1 ++ text → Added g a (b.0, now) text
   added_line a b now text p e = added_then a b (b.0, now) [] text p (added_here b now text e)
 
-  halted_behind : (a b c : O) (fault : OutFault) (held now gone xs ys : List ℕ) → held ++ xs ≡ gone ++ now → Gone a b gone → Stopped g b c fault (now ++ ys)
+  halted_after : (a b c : O) (fault : OutFault) (held now gone xs ys : List ℕ) → held ++ xs ≡ gone ++ now → Gone a b gone → Stopped g b c fault (now ++ ys)
       → Stopped g a c fault (held ++ (xs ++ ys))
-  halted_behind a b c fault held now gone xs ys e (inl h) q =
+  halted_after a b c fault held now gone xs ys e (inl h) q =
       let same : now ++ ys ≡ held ++ (xs ++ ys) = ap (λ t. t ++ ys) (sym (e ∙ ap (λ t. t ++ now) h.1)) ∙ append_assoc held xs ys in
       subst (λ o. Stopped g o c fault (held ++ (xs ++ ys))) h.0 (subst (Stopped g b c fault) same q)
-  halted_behind a b c fault held now gone xs ys e (inr w) q =
+  halted_after a b c fault held now gone xs ys e (inr w) q =
       let same : gone ++ (now ++ ys) ≡ held ++ (xs ++ ys) = sym (append_assoc gone now ys) ∙ ap (λ t. t ++ ys) (sym e) ∙ append_assoc held xs ys in
       subst (Stopped g a c fault) same (stopped_then g a b c fault gone (now ++ ys) w q)
 
   -- one text, and then a fault in another
   pub halted_then : (a b c : O × List ℕ) (fault : OutFault) (xs ys : List ℕ) → Added g a b xs → Halted g b c fault ys → Halted g a c fault (xs ++ ys)
-  halted_then a b c fault xs ys p q = halted_behind a.0 b.0 c.0 fault a.1 b.1 p.gone xs ys p.whole p.out q
+  halted_then a b c fault xs ys p q = halted_after a.0 b.0 c.0 fault a.1 b.1 p.gone xs ys p.whole p.out q
 
   -- a fault in the first text is one in both
   pub halted_more : (a b : O × List ℕ) (fault : OutFault) (xs ys : List ℕ) → Halted g a b fault xs → Halted g a b fault (xs ++ ys)
@@ -78,7 +78,7 @@ module _ {O : Type 0} (g : output.Ghosts O) where
   left_stop a b c fault all xs rest l q =
       subst (Halted g a c fault) (sym l.whole) (halted_then a b c fault l.part (xs ++ rest) l.added (halted_more b c fault xs rest q))
 
-  -- what stood on a page went out, and it is empty
+  -- what was on a page went out, and it is empty
   pub turned : (a b : O) (held : List ℕ) → Wrote g a b held → Added g (a, held) (b, []) []
   turned a b held w = record { gone = held; whole = refl; out = inr w }
 

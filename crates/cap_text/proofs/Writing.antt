@@ -3,7 +3,7 @@ use Rattle.std.proofs.Common.{Err, IsErrOf, List, Ok, OnErr, OnOk, Option, Resul
 use Rattle.std.proofs.Common.{drop, length, refl, sym, take, take-append-drop, true, ℕ, ◌++◌, ◌+◌, ◌<◌, ◌∙◌, ◌≡◌}
 use Rattle.std.proofs.KnownBytes.{Appends-kept, Appends-trans}
 use Rattle.std.specs.Io.KnownBytes.{Appends, Keeps}
-use Rattle.cap_words.specs.Ends.{DeviceFails, GrowthFails, WasSpent, Works}
+use Rattle.cap_words.specs.Ends.{DeviceFails, AllocationFails, WasBroken, Works}
 use Rattle.cap_words.specs.declared.ends.OutFault.{OutFault}
 use Rattle.cap_words.specs.declared.ends.OutFault.TheVariants.{Device, Memory, Spent}
 use Rattle.cap_text.specs.Writing.{Stopped, Writes, WritesPart, Wrote}
@@ -31,15 +31,15 @@ module _ {O T : Type 0} (g : output.Ghosts O) where
   -- the clauses of a call that writes all bytes, put together
   pub writes_all : (a b : O) (r : Result T OutFault) (text : List ℕ) → OnOk r (Appends (g.written a) (g.written b) text)
       → OnErr r ((n : ℕ) × (n < length text) × Appends (g.written a) (g.written b) (take n text))
-      → OnOk r (Works (g.spent a) (g.spent b) (g.failures a) (g.failures b))
-      → (IsErrOf r Device → DeviceFails (g.spent a) (g.failures a) (g.failures b) × (g.spent b ≡ true))
-      → (IsErrOf r Memory → GrowthFails (g.spent a) (g.failures a) (g.failures b))
-      → (IsErrOf r Spent → (g.spent a ≡ true) × (b ≡ a)) → Writes g a b r text
-  writes_all a b (Ok x) text ok err works device memory was_spent = record { appended = ok; works = works }
-  writes_all a b (Err Device) text ok err works device memory was_spent =
+      → OnOk r (Works (g.broken a) (g.broken b) (g.failures a) (g.failures b))
+      → (IsErrOf r Device → DeviceFails (g.broken a) (g.failures a) (g.failures b) × (g.broken b ≡ true))
+      → (IsErrOf r Memory → AllocationFails (g.broken a) (g.failures a) (g.failures b))
+      → (IsErrOf r Spent → (g.broken a ≡ true) × (b ≡ a)) → Writes g a b r text
+  writes_all a b (Ok x) text ok err works device memory was_broken = record { appended = ok; works = works }
+  writes_all a b (Err Device) text ok err works device memory was_broken =
       ((device refl).0, (device refl).1, part_of (g.written a) (g.written b) text err.0 err.2)
-  writes_all a b (Err Memory) text ok err works device memory was_spent = (memory refl, part_of (g.written a) (g.written b) text err.0 err.2)
-  writes_all a b (Err Spent) text ok err works device memory was_spent = was_spent refl
+  writes_all a b (Err Memory) text ok err works device memory was_broken = (memory refl, part_of (g.written a) (g.written b) text err.0 err.2)
+  writes_all a b (Err Spent) text ok err works device memory was_broken = was_broken refl
 
 module _ {O : Type 0} (g : output.Ghosts O) where
   -- one text, and then another
@@ -86,15 +86,15 @@ module _ {O : Type 0} (g : output.Ghosts O) where
 
   -- the output was asked to hand on what was written
   pub writes_kept : {T : Type 0} (a b c : O) (r : Result T OutFault) (text : List ℕ) → Wrote g a b text → Keeps (g.written b) (g.written c)
-      → OnOk r ((g.spent c ≡ g.spent b) × (g.failures c ≡ g.failures b))
-      → (IsErrOf r Device → DeviceFails (g.spent b) (g.failures b) (g.failures c) × (g.spent c ≡ true))
-      → (IsErrOf r Memory → GrowthFails (g.spent b) (g.failures b) (g.failures c))
-      → (IsErrOf r Spent → WasSpent (g.spent b) (g.spent c) (g.failures b) (g.failures c)) → Writes g a c r text
-  writes_kept a b c (Ok x) text w k ok device memory spent = record {
+      → OnOk r ((g.broken c ≡ g.broken b) × (g.failures c ≡ g.failures b))
+      → (IsErrOf r Device → DeviceFails (g.broken b) (g.failures b) (g.failures c) × (g.broken c ≡ true))
+      → (IsErrOf r Memory → AllocationFails (g.broken b) (g.failures b) (g.failures c))
+      → (IsErrOf r Spent → WasBroken (g.broken b) (g.broken c) (g.failures b) (g.failures c)) → Writes g a c r text
+  writes_kept a b c (Ok x) text w k ok device memory broken = record {
     appended = Appends-kept (g.written a) (g.written b) (g.written c) text w.appended k;
     works = record { usable = w.works.usable; still = ok.0 ∙ w.works.still; none_failed = ok.1 ∙ w.works.none_failed };
   }
-  writes_kept a b c (Err Device) text w k ok device memory spent = (
+  writes_kept a b c (Err Device) text w k ok device memory broken = (
     record {
       usable = w.works.usable;
       failed = (device refl).0.failed
@@ -105,7 +105,7 @@ module _ {O : Type 0} (g : output.Ghosts O) where
     (device refl).1,
     record { part = text; rest = []; whole = sym (append-nil text); appended = Appends-kept (g.written a) (g.written b) (g.written c) text w.appended k },
   )
-  writes_kept a b c (Err Memory) text w k ok device memory spent = (
+  writes_kept a b c (Err Memory) text w k ok device memory broken = (
     record {
       usable = w.works.usable;
       device = (memory refl).device ∙ ap (λ f. f.device) w.works.none_failed;
@@ -114,4 +114,4 @@ module _ {O : Type 0} (g : output.Ghosts O) where
     },
     record { part = text; rest = []; whole = sym (append-nil text); appended = Appends-kept (g.written a) (g.written b) (g.written c) text w.appended k },
   )
-  writes_kept a b c (Err Spent) text w k ok device memory spent = let e = w.works.still in let f = (spent refl).spent in absurd (cc)
+  writes_kept a b c (Err Spent) text w k ok device memory broken = let e = w.works.still in let f = (broken refl).broken in absurd (cc)

@@ -5,7 +5,7 @@ use Rattle.cap_spec.specs.declared.CanonFault.{CanonFault}
 use Rattle.cap_spec.specs.declared.CanonFault.TheVariants.{HasCapability, Memory as canon_memory}
 use Rattle.cap_spec.specs.declared.Refusal.{Refusal}
 use Rattle.cap_words.specs.declared.sources.SourceFault.{SourceFault}
-use Rattle.cap_words.specs.declared.sources.SourceFault.TheVariants.{Device as source_device, Spent as source_spent}
+use Rattle.cap_words.specs.declared.sources.SourceFault.TheVariants.{Device as source_device, Spent as source_broken}
 use Rattle.cap_words.specs.declared.sources.SourceFault.TheVariants.{Truncated as source_truncated}
 use Rattle.cap_frame.specs.declared.fault.FrameFault.{FrameFault}
 use Rattle.cap_frame.specs.declared.fault.FrameFault.TheVariants.{Device, Memory, Spent, TooLarge, TooManySegments}
@@ -70,7 +70,7 @@ run_fault_line fault = fault_line fault.message fault.cause
 abbrev pub source_fault_text : SourceFault → List ℕ
 source_fault_text (source_truncated byte) = codes "Truncated at byte" ++ then_number byte
 source_fault_text source_device = codes "Device"
-source_fault_text source_spent = codes "Spent"
+source_fault_text source_broken = codes "Spent"
 
 -- the text for a copy of words that ended early
 abbrev pub copy_fault_text : CopyFault → List ℕ

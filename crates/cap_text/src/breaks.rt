@@ -149,7 +149,7 @@ fn cut_place(packed: bool, is_cut: bool) -> &'static [u8]
 /// Appends the line of the reason.
 fn push_reason_line(page: &mut Page, sentence: &[u8])
     requires short { length sentence.now ≤ SENTENCE }
-    requires room { length page.old + LINE ≤ CAPACITY }
+    requires fits { length page.old + LINE ≤ CAPACITY }
     ensures items { page.new ≡ page.old ++ reason_line sentence.now }
     ensures few { length page.new ≤ length page.old + LINE }
 {

@@ -1,6 +1,6 @@
 //! The text for the node at a path.
 
-ghost use Rattle.cap_spec.specs.Standing.{DenotesAt};
+ghost use Rattle.cap_spec.specs.SpotTrees.{DenotesAt};
 ghost use Rattle.cap_spec.specs.Texts.{get_text};
 ghost use Rattle.cap_spec.specs.Tree.{Tree};
 ghost use Rattle.cap_text.specs.Writing.{Writes};

@@ -1,7 +1,7 @@
 //! The line of a node of a message's tree, and the lines of its own words.
 
 ghost use Rattle.cap_spec.specs.Showing.{kind_of, words_of_own};
-ghost use Rattle.cap_spec.specs.Standing.{DenotesAt};
+ghost use Rattle.cap_spec.specs.SpotTrees.{DenotesAt};
 ghost use Rattle.cap_spec.specs.Texts.{hex, label, own_text, word_lines};
 ghost use Rattle.cap_spec.specs.Tree.{Tree};
 ghost use Rattle.cap_text.specs.Dumping.{head_of, word_letter_of};
@@ -9,7 +9,7 @@ ghost use Rattle.cap_text.specs.Paging.{Adds};
 ghost use Rattle.cap_vet.specs.Views.{node_message, node_spot, shown};
 ghost use Rattle.std.specs.Prelude.{◌*◌, ◌+◌, ◌++◌, ◌<◌, ◌≡◌, ◌≤◌, ◌∷◌, [], length, replicate};
 
-use crate::page::{CAPACITY, LINE, Page, make_room};
+use crate::page::{CAPACITY, LINE, Page, make_space};
 use cap_frame::Segments;
 use cap_vet::{Kind, Node, View};
 use cap_words::{ByteOut, OutFault};
@@ -67,7 +67,7 @@ fn push_head(page: &mut Page, kind: Kind)
 #[inline(always)]
 fn named_line(page: &mut Page, name: &[u8], kind: Kind)
     requires short { length name.now ≤ NAME }
-    requires room { length page.old + LINE ≤ CAPACITY }
+    requires fits { length page.old + LINE ≤ CAPACITY }
     ensures { page.new ≡ page.old ++ (name.now ++ 32 ∷ head_of kind ++ 10 ∷ []) }
 {
     page.push_text(name);
@@ -89,7 +89,7 @@ fn spaces(level: u32) -> &'static [u8]
 #[inline(always)]
 fn begin_line(page: &mut Page, level: u32)
     requires low { level ≤ DEEPEST }
-    requires room { length page.old + LINE ≤ CAPACITY }
+    requires fits { length page.old + LINE ≤ CAPACITY }
     ensures items { page.new ≡ page.old ++ replicate (2 * level) 32 }
     ensures few { length page.new ≤ length page.old + INDENT }
 {
@@ -99,7 +99,7 @@ fn begin_line(page: &mut Page, level: u32)
 /// Appends at a level the line of a child, by its letter and number.
 fn child_line(page: &mut Page, level: u32, letter: u8, i: u32, kind: Kind)
     requires low { level ≤ DEEPEST }
-    requires room { length page.old + LINE ≤ CAPACITY }
+    requires fits { length page.old + LINE ≤ CAPACITY }
     ensures { page.new ≡ page.old
         ++ (replicate (2 * level) 32 ++ (label letter i ++ 32 ∷ head_of kind ++ 10 ∷ [])) }
 {
@@ -114,7 +114,7 @@ fn child_line(page: &mut Page, level: u32, letter: u8, i: u32, kind: Kind)
 #[inline(always)]
 fn word_line(page: &mut Page, level: u32, letter: u8, i: u32, word: u64)
     requires low { level ≤ DEEPEST }
-    requires room { length page.old + LINE ≤ CAPACITY }
+    requires fits { length page.old + LINE ≤ CAPACITY }
     ensures { page.new ≡ page.old
         ++ (replicate (2 * level) 32 ++ (label letter i ++ 32 ∷ hex word ++ 10 ∷ [])) }
 {
@@ -142,7 +142,7 @@ fn put_words<M: Segments, O: ByteOut>(
 {
     let mut i = 0;
     while let Some(word) = view.data_word(i) {
-        match make_room(page, out) {
+        match make_space(page, out) {
             Ok(()) => {}
             Err(fault) => return Err(fault),
         }
@@ -193,7 +193,7 @@ pub(crate) fn put_named<M: Segments, O: ByteOut>(
     ensures { (t : Tree) → DenotesAt (M.segments (node_message node.now)) (node_spot node.now) t →
         Adds O.ByteOut (out.old, page.old) (out.new, page.new) result (own_text 0 name.now t) }
 {
-    match make_room(page, out) {
+    match make_space(page, out) {
         Ok(()) => {
             let view = node.view();
             let kind = view.kind();
@@ -225,7 +225,7 @@ pub(crate) fn put_child<M: Segments, O: ByteOut>(
 {
     let view = node.view();
     let kind = view.kind();
-    match make_room(page, out) {
+    match make_space(page, out) {
         Ok(()) => {
             child_line(page, level, letter, i, kind);
             put_own(page, out, level + 1, kind, &view)

@@ -102,7 +102,7 @@ impl Page {
     /// Appends a name and then a number.
     #[inline(always)]
     pub(crate) fn push_named(&mut self, name: &[u8], number: u64)
-        requires room { length self.old + length name.now + DIGITS ≤ CAPACITY }
+        requires fits { length self.old + length name.now + DIGITS ≤ CAPACITY }
         ensures items { self.new ≡ self.old ++ (name.now ++ decimal number) }
         ensures few { length self.new ≤ length self.old + length name.now + DIGITS }
     {
@@ -181,8 +181,8 @@ pub(crate) fn write_bytes<O: ByteOut>(out: &mut O, text: &[u8]) -> Result<(), Ou
 /// Makes space on a page for a line of 768 bytes: if there isn't enough, writes the page and clears
 /// it.
 #[inline]
-pub(crate) fn make_room<O: ByteOut>(page: &mut Page, out: &mut O) -> Result<(), OutFault>
-    ensures room { OnOk result (length page.new + LINE ≤ CAPACITY) }
+pub(crate) fn make_space<O: ByteOut>(page: &mut Page, out: &mut O) -> Result<(), OutFault>
+    ensures fits { OnOk result (length page.new + LINE ≤ CAPACITY) }
     ensures adds { Adds O.ByteOut (out.old, page.old) (out.new, page.new) result [] }
 {
     if page.len() <= CAPACITY - LINE {
@@ -196,7 +196,7 @@ pub(crate) fn make_room<O: ByteOut>(page: &mut Page, out: &mut O) -> Result<(), 
 #[inline(never)]
 fn turn<O: ByteOut>(page: &mut Page, out: &mut O) -> Result<(), OutFault>
     requires { 0 < length page.old }
-    ensures room { OnOk result (length page.new + LINE ≤ CAPACITY) }
+    ensures fits { OnOk result (length page.new + LINE ≤ CAPACITY) }
     ensures adds { Adds O.ByteOut (out.old, page.old) (out.new, page.new) result [] }
 {
     match write_bytes(out, page.text()) {

@@ -6,7 +6,7 @@ ghost use Rattle.cap_text.specs.Paging.{Adds};
 ghost use Rattle.cap_text.specs.Writing.{Writes};
 ghost use Rattle.std.specs.Prelude.{◌+◌, ◌++◌, ◌≡◌, ◌≤◌, ◌∷◌, codes, length};
 
-use crate::page::{CAPACITY, LINE, Page, make_room, write_page};
+use crate::page::{CAPACITY, LINE, Page, make_space, write_page};
 use cap_frame::Outline;
 use cap_words::{ByteOut, OutFault};
 
@@ -73,7 +73,7 @@ fn put_segment_lines<O: ByteOut>(
 {
     let sizes = outline.sizes();
     for s in 0..outline.count() {
-        match make_room(page, out) {
+        match make_space(page, out) {
             Ok(()) => segment_line(page, s, sizes[s as usize]),
             Err(fault) => return Err(fault),
         }
@@ -91,7 +91,7 @@ fn put_root_line<O: ByteOut>(
     ensures { Adds O.ByteOut (out.old, page.old) (out.new, page.new) result
         (plain_line 0 (codes "root " ++ root_text root)) }
 {
-    match make_room(page, out) {
+    match make_space(page, out) {
         Ok(()) => {
             root_line(page, root);
             Ok(())

@@ -1,7 +1,7 @@
 //! The text of a message's tree.
 
 ghost use Rattle.cap_spec.specs.Denoting.{Denotes};
-ghost use Rattle.cap_spec.specs.Standing.{DenotesAt};
+ghost use Rattle.cap_spec.specs.SpotTrees.{DenotesAt};
 ghost use Rattle.cap_spec.specs.Texts.{child_lines, dump_text};
 ghost use Rattle.cap_spec.specs.Tree.{Tree};
 ghost use Rattle.cap_text.specs.Dumping.{child_letter_of, child_step_of, height, shown_count_of};

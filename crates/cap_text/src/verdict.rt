@@ -174,7 +174,7 @@ fn refused_line(page: &mut Page, number: u32, name: &[u8], segment: u32, word: u
 /// Appends the name of the reason for which a message is refused, and the place.
 pub(crate) fn push_refused(page: &mut Page, name: &[u8], segment: u32, word: u32)
     requires short { length name.now ≤ NAME }
-    requires room { length page.old + FAULT ≤ CAPACITY }
+    requires fits { length page.old + FAULT ≤ CAPACITY }
     ensures items { page.new ≡ page.old
         ++ (codes "refused " ++ name.now ++ place_text segment word) }
     ensures few { length page.new ≤ length page.old + FAULT }

@@ -7,7 +7,7 @@ use Rattle.cap_vet.specs.Trails.{IsTrail}
 use Rattle.cap_vet.proofs.OneTrail.{root_trail}
 use Rattle.cap_trace.specs.Branches.{root_branch}
 use Rattle.cap_trace.specs.TraceNames.{Step, AreBranches, path_of, rest_from, IsTraceable, PassesAt, HasCome, IsBlockedAt}
-use Rattle.cap_trace.specs.TraceNames.{IsPut, TellsPath, word_ahead, Branch}
+use Rattle.cap_trace.specs.TraceNames.{IsPut, ReportsPath, word_ahead, Branch}
 use Rattle.cap_trace.proofs.Branches.{branches_without}
 use Rattle.cap_trace.proofs.Numbering.{number_order}
 use Rattle.cap_trace.proofs.Onward.{next_tour, root_tour, up_to_last}
@@ -146,11 +146,11 @@ few_steps m depth n fs f h =
     let k = (branches_without m depth 0 fs f h.branches).1 in omega (arith, level_counts m depth n fs f h, k.low)
 
 -- Its path is what is written, and has few steps.
-pub found_told : {S : Type 0} (slot : Step → S) (m : List (List ℕ)) (depth n : ℕ) (fs : List Branch) (f : Branch)
+pub found_reported : {S : Type 0} (slot : Step → S) (m : List (List ℕ)) (depth n : ℕ) (fs : List Branch) (f : Branch)
     (others : List Branch) (count : ℕ) (old new : List S) → HasCome m depth n fs f → others ≡ fs
     → count ≡ length (path_of (others ++ f ∷ [])) → IsPut slot (path_of (others ++ f ∷ [])) old new
-    → TellsPath slot m depth n old (Some count) new × (count ≤ depth)
-found_told slot m depth n fs f others count old new h e many put =
+    → ReportsPath slot m depth n old (Some count) new × (count ≤ depth)
+found_reported slot m depth n fs f others count old new h e many put =
     let same = ap (λ (u : List Branch). path_of (u ++ f ∷ [])) e in
     let long = ap (λ (u : List Step). length u) same in (
       (

@@ -6,7 +6,7 @@ use Rattle.cap_spec.proofs.ProofNames.{subst, sym, take, ℕ, ◌∙◌, ◌≡�
 use Rattle.cap_vet.specs.Demands.{IsDemandFault, words_under}
 use Rattle.cap_vet.specs.declared.demands.Demands.{Demands}
 use Rattle.cap_trace.specs.NamedPaths.{IsTraced, fault_path, pointer_number, refused_path}
-use Rattle.cap_trace.specs.TraceNames.{Lax, Refusal, Step, IsTraceable, GivesPath, TellsPath}
+use Rattle.cap_trace.specs.TraceNames.{Lax, Refusal, Step, IsTraceable, GivesPath, ReportsPath}
 use Rattle.cap_trace.proofs.Coming.{some_number}
 use Rattle.cap_trace.proofs.Filling.{take_put}
 use Rattle.cap_trace.proofs.Numbering.{one_numbered}
@@ -40,7 +40,7 @@ path_taken path old count new depth few most g =
 
 -- So they are the traceable path.
 pub traced_taken : (m : List (List ℕ)) (depth n : ℕ) (old : List Step) (count : Option ℕ) (new : List Step)
-    → IfSome count (λ k. k ≤ depth) → depth ≤ length old → TellsPath (λ (s : Step). s) m depth n old count new
+    → IfSome count (λ k. k ≤ depth) → depth ≤ length old → ReportsPath (λ (s : Step). s) m depth n old count new
     → IsTraced m depth n (option_map (λ n. take n new) count)
 traced_taken m depth n old None new few most t = t.0
 traced_taken m depth n old (Some k) new few most t =

@@ -57,9 +57,9 @@ pub structs_fit : (m : List (List ℕ)) (s w k t b q tag n c size count d p : �
     → b + 1 + count * (d + p) ≤ length (segment_of m t)
 structs_fit m s w k t b q tag n c size count d p f =
     let fits : TagFits tag (list_size q) = (f.object.tagged (f.object.shape.kind, f.object.shape.code)).1 in
-    let room : count * (d + p) ≤ list_size q =
+    let capacity : count * (d + p) ≤ list_size q =
     rw (f.object.shape.count, f.object.shape.data_words, f.object.shape.pointers) fits.1 in
-    omega (arith, room, f.finds.inside.inside, extent_structs q f.object.shape.kind f.object.shape.code)
+    omega (arith, capacity, f.finds.inside.inside, extent_structs q f.object.shape.kind f.object.shape.code)
 
 pub structs_words : (m : List (List ℕ)) (s w : ℕ) {k t b : ℕ} (q tag : ℕ) {n c : ℕ} (size : ℕ) {count d p at many dw : ℕ} (level : ℕ)
     → FindsObject m s w k t b q tag n c (shape.Structs size count d p) → at ≡ b + 1 + d → 0 < p → many ≡ p → dw ≡ d

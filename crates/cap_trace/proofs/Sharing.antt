@@ -4,7 +4,7 @@ use Rattle.cap_spec.proofs.Paths.Preorder.{Before-total_coming, one_first, one_n
 use Rattle.cap_spec.proofs.ProofNames.{List, None, Option, Some, [], arith, inl, inr, length, length-append, refl, subst, sym, ℕ}
 use Rattle.cap_spec.proofs.ProofNames.{◌++◌, ◌+◌, ◌<◌, ◌∷◌, ◌≡◌, ◌≤◌, ◌⊎◌, IsOneOf, Occupies, Uses, Before, IsNumbered}
 use Rattle.cap_spec.proofs.ProofNames.{Reaches, word, ap}
-use Rattle.cap_trace.specs.EarlierPointers.{IsEarlier, IsEarlierOf, IsFirstUsing, NoneUses, SharesBefore, TellsEarlier}
+use Rattle.cap_trace.specs.EarlierPointers.{IsEarlier, IsEarlierOf, IsFirstUsing, NoneUses, SharesBefore, ReportsEarlier}
 use Rattle.cap_trace.specs.EarlierPointers.{UsesOneAt, UsesOneOf}
 use Rattle.cap_trace.specs.NamedPaths.{IsTraced}
 use Rattle.cap_trace.specs.TraceNames.{Step, IsTraceable, HasCome, Branch, path_of}
@@ -139,20 +139,20 @@ earlier_of_using m depth n fs f path places (Some e) h a o (other, numbered, bef
     }
 
 -- So it is of the word that the search has come to.
-pub earlier_told : (m : List (List ℕ)) (depth n : ℕ) (fs : List Branch) (f : Branch) (places : List (ℕ × ℕ))
+pub earlier_reported : (m : List (List ℕ)) (depth n : ℕ) (fs : List Branch) (f : Branch) (places : List (ℕ × ℕ))
     (result : Option EarlierPointer) → HasCome m depth n fs f → Occupies m f.segment f.at places
-    → ((path : List Step) → IsTraceable m depth n path → IsFirstUsing m places path result) → TellsEarlier m depth n result
-earlier_told m depth n fs f places None h o first = λ path a. earlier_of_using m depth n fs f path places None h a o (first path a)
-earlier_told m depth n fs f places (Some e) h o first =
+    → ((path : List Step) → IsTraceable m depth n path → IsFirstUsing m places path result) → ReportsEarlier m depth n result
+earlier_reported m depth n fs f places None h o first = λ path a. earlier_of_using m depth n fs f path places None h a o (first path a)
+earlier_reported m depth n fs f places (Some e) h o first =
     let path = path_of (fs ++ f ∷ []) in
     let a = traceable_here m depth n fs f h in
     (path, a, earlier_of_using m depth n fs f path places (Some e) h a o (first path a))
 
--- A number has one path, so what is told of it is so of each of its paths.
-pub told_earlier : (m : List (List ℕ)) (depth n : ℕ) (path : List Step) (result : Option EarlierPointer)
-    → IsTraceable m depth n path → TellsEarlier m depth n result → IsEarlierOf m path result
-told_earlier m depth n path None a none = none path a
-told_earlier m depth n path (Some e) a (other, b, h) =
+-- A number has one path, so what is reported of it is so of each of its paths.
+pub reported_earlier : (m : List (List ℕ)) (depth n : ℕ) (path : List Step) (result : Option EarlierPointer)
+    → IsTraceable m depth n path → ReportsEarlier m depth n result → IsEarlierOf m path result
+reported_earlier m depth n path None a none = none path a
+reported_earlier m depth n path (Some e) a (other, b, h) =
     subst (λ (u : List Step). IsEarlierOf m u (Some e)) (one_numbered m n other path b.numbered a.numbered) h
 
 -- one earlier pointer comes first

@@ -7,7 +7,7 @@ use Rattle.cap_spec.proofs.ProofNames.{◌∷◌, ◌≡◌, ◌⊎◌, IsWithin
 use Rattle.cap_spec.proofs.ProofNames.{Reaches, IsFirstLax, CostOf}
 use Rattle.cap_spec.proofs.Verdicts.OneFault.{costs_not_wrong}
 use Rattle.cap_trace.specs.PointerNumbers.{IsPassable}
-use Rattle.cap_trace.specs.TraceNames.{Lax, Refusal, Step, IsPut, IsTraceable, GivesPath, TellsPath}
+use Rattle.cap_trace.specs.TraceNames.{Lax, Refusal, Step, IsPut, IsTraceable, GivesPath, ReportsPath}
 use Rattle.cap_trace.proofs.Numbering.{one_numbered}
 
 -- nothing is wrong at the paths that have a cost
@@ -70,7 +70,7 @@ overlap_traceable m words depth s w n a f = record {
 
 -- What is written is the traceable path of its number.
 pub gives_traceable : {S : Type 0} (slot : Step → S) (m : List (List ℕ)) (depth n : ℕ) (path : List Step) (old : List S)
-    (result : Option ℕ) (new : List S) → TellsPath slot m depth n old result new → IsTraceable m depth n path
+    (result : Option ℕ) (new : List S) → ReportsPath slot m depth n old result new → IsTraceable m depth n path
     → GivesPath slot path old result new
 gives_traceable slot m depth n path old None new h a = absurd (h.0 path a)
 gives_traceable slot m depth n path old (Some count) new h a =
@@ -79,7 +79,7 @@ gives_traceable slot m depth n path old (Some count) new h a =
 
 -- So it is that of the first fault.
 pub gives_fault : {S : Type 0} (slot : Step → S) (m : List (List ℕ)) (words depth n : ℕ) (r : Refusal) (old : List S)
-    (result : Option ℕ) (new : List S) → TellsPath slot m depth n old result new
+    (result : Option ℕ) (new : List S) → ReportsPath slot m depth n old result new
     → (f : IsFirstFault m words depth r) → r.pointers ≡ n → GivesPath slot f.path old result new
 gives_fault slot m words depth n r old result new h f e =
     gives_traceable slot m depth n f.path old result new h

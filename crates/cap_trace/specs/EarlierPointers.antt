@@ -33,9 +33,9 @@ IsEarlierOf m path None = (other : List Step) → ¬ SharesBefore m path other
 IsEarlierOf m path (Some e) = IsEarlier m path e.segment e.word e.pointers
 
 -- The pointer word of number n in preorder can be traced, and this is that earlier pointer. Or there is none.
-abbrev pub TellsEarlier : List (List ℕ) → ℕ → ℕ → Option EarlierPointer → Type 0
-TellsEarlier m depth n None = (path : List Step) → IsTraceable m depth n path → IsEarlierOf m path None
-TellsEarlier m depth n (Some e) = (path : List Step) × IsTraceable m depth n path × IsEarlierOf m path (Some e)
+abbrev pub ReportsEarlier : List (List ℕ) → ℕ → ℕ → Option EarlierPointer → Type 0
+ReportsEarlier m depth n None = (path : List Step) → IsTraceable m depth n path → IsEarlierOf m path None
+ReportsEarlier m depth n (Some e) = (path : List Step) × IsTraceable m depth n path × IsEarlierOf m path (Some e)
 
 -- the path to that pointer, if there is one
 abbrev pub earlier_path : (m : List (List ℕ)) (path : List Step) (e : Option EarlierPointer) → IsEarlierOf m path e
@@ -84,9 +84,9 @@ IsFirstUsing m places path (Some e) = (other : List Step) × IsNumbered m other 
     × Before other path × UsesOneOf m places other × NoneUses m places other
 
 -- following the pointer at s:w uses these words, or it can't be followed
-abbrev pub TellsUsed : List (List ℕ) → ℕ → ℕ → Option UsedWords → Type 0
-TellsUsed m s w None = (used : List (ℕ × ℕ)) → ¬ Occupies m s w used
-TellsUsed m s w (Some used) = Occupies m s w (places_of used)
+abbrev pub ReportsUsed : List (List ℕ) → ℕ → ℕ → Option UsedWords → Type 0
+ReportsUsed m s w None = (used : List (ℕ × ℕ)) → ¬ Occupies m s w used
+ReportsUsed m s w (Some used) = Occupies m s w (places_of used)
 
 -- the search can come to the pointer word of number n, after the others on the way down
 abbrev pub ComesTo : List (List ℕ) → ℕ → ℕ → Branch → Type 0

@@ -11,8 +11,8 @@ abbrev pub Passes : List (List ℕ) → ℕ → ℕ → List Branch → Branch �
 Passes m depth n next branch true = HasCome m depth (n + 1) next branch
 Passes m depth n next branch false = (more : ℕ) → n < more → IsMissing m depth more
 
--- What comes of looking at the word of a branch: the search has come to the first word below it, or there is no way on,
--- or nothing is below it, or none of these is known.
+-- What comes of looking at the word of a branch. The search has come to the first word below it, or there is no way on.
+-- Or nothing is below it, or none of these is known.
 abbrev pub IsLooked : List (List ℕ) → ℕ → List Branch → Branch → List Branch → Branch → Looked → Type 0
 IsLooked m depth others last next branch Entered = (n : ℕ) → HasCome m depth n others last → HasCome m depth (n + 1) next branch
 IsLooked m depth others last next branch Blocked = IsBlockedAt m depth last.segment last.at last.level

@@ -55,10 +55,10 @@ IsPut slot path old new =
     (length path ≤ length old → new ≡ map slot path ++ drop (length path) old) × (length old < length path → new ≡ old)
 
 -- The traceable path of this number has `count` steps, and is written if it fits. Or there is none.
-abbrev pub TellsPath : {S : Type 0} → (Step → S) → List (List ℕ) → ℕ → ℕ → List S → Option ℕ → List S → Type 0
-TellsPath slot m depth n old (Some count) new =
+abbrev pub ReportsPath : {S : Type 0} → (Step → S) → List (List ℕ) → ℕ → ℕ → List S → Option ℕ → List S → Type 0
+ReportsPath slot m depth n old (Some count) new =
     (path : List Step) × IsTraceable m depth n path × (count ≡ length path) × IsPut slot path old new
-TellsPath slot m depth n old None new = IsMissing m depth n × (new ≡ old)
+ReportsPath slot m depth n old None new = IsMissing m depth n × (new ≡ old)
 
 -- This path is what is written.
 abbrev pub GivesPath : {S : Type 0} → (Step → S) → List Step → List S → Option ℕ → List S → Type 0

@@ -3,7 +3,7 @@
 ghost use Rattle.cap_spec.specs.Accepting.{IsWithin};
 ghost use Rattle.cap_spec.specs.Occupying.{IsFirstOverlap};
 ghost use Rattle.cap_spec.specs.declared.Step.{Step};
-ghost use Rattle.cap_trace.specs.EarlierPointers.{ComesTo, IsEarlier, IsEarlierOf, IsFirstUsing, TellsEarlier, places_of};
+ghost use Rattle.cap_trace.specs.EarlierPointers.{ComesTo, IsEarlier, IsEarlierOf, IsFirstUsing, ReportsEarlier, places_of};
 ghost use Rattle.cap_trace.specs.PointerNumbers.{IsTraceable};
 ghost use Rattle.cap_trace.specs.Traces.{IsMissing};
 ghost use Rattle.cap_vet.specs.Limits.{depth_of};
@@ -42,7 +42,7 @@ pub fn earlier_pointer<M: Segments>(
     limits: Limits,
     number: u64,
 ) -> Option<EarlierPointer>
-    ensures tells { TellsEarlier (M.segments message.now) (depth_of limits) number result }
+    ensures reports { ReportsEarlier (M.segments message.now) (depth_of limits) number result }
     // The other direction: this pointer is the result.
     ensures gives { let m = M.segments message.now in (path : List Step) (s w n : ℕ) →
         IsTraceable m (depth_of limits) number path → IsEarlier m path s w n →
@@ -58,7 +58,7 @@ pub fn earlier_pointer<M: Segments>(
 // The same by the depth limit alone.
 fn earlier_within<M: Segments>(message: &M, depth: u32, number: u64) -> Option<EarlierPointer>
     requires { depth ≤ 256 }
-    ensures { TellsEarlier (M.segments message.now) depth number result }
+    ensures { ReportsEarlier (M.segments message.now) depth number result }
 {
     let last = word_of_number(message, depth, number)?;
     let used = UsedWords::at(message, last.segment, last.at)?;

@@ -97,7 +97,7 @@ impl NamedPath {
         limits: Limits,
         number: u64,
     ) -> Option<EarlierPointer>
-        ensures tells { let m = M.segments message.now in (path : List Step) →
+        ensures reports { let m = M.segments message.now in (path : List Step) →
             IsTraceable m (depth_of limits) number path → FindsEarlier m path result self.new }
         ensures missing { let m = M.segments message.now in
             IsMissing m (depth_of limits) number → (result ≡ None) × (self.new ≡ None) }

@@ -10,7 +10,7 @@ ghost use Rattle.cap_spec.specs.declared.Refusal.{Refusal};
 ghost use Rattle.cap_spec.specs.declared.Step.{Step};
 ghost use Rattle.cap_trace.specs.Branches.{AreBranches, IsCounted, path_of, steps_of};
 ghost use Rattle.cap_trace.specs.PointerNumbers.{IsTraceable};
-ghost use Rattle.cap_trace.specs.Traces.{GivesPath, IsPut, TellsPath};
+ghost use Rattle.cap_trace.specs.Traces.{GivesPath, IsPut, ReportsPath};
 ghost use Rattle.cap_vet.specs.Limits.{depth_of};
 ghost use Rattle.std.specs.Prelude.{◌+◌, ◌++◌, ◌<◌, ◌≡◌, ◌≤◌, ◌⊎◌, [], ◌∷◌, IfSome, List, drop, length, map, ℕ};
 
@@ -36,8 +36,8 @@ pub fn path_of_pointer<M: Segments, S: StepSlot>(
     number: u64,
     steps: &mut [S],
 ) -> Option<usize>
-    ensures tells { let m = M.segments message.now in
-        TellsPath S.slot m (depth_of limits) number steps.old result steps.new }
+    ensures reports { let m = M.segments message.now in
+        ReportsPath S.slot m (depth_of limits) number steps.old result steps.new }
     ensures few { IfSome result (λ count. count ≤ depth_of limits) }
 
     // The other direction: the path of this number is written.
@@ -66,7 +66,7 @@ fn traced<M: Segments, S: StepSlot>(
     steps: &mut [S],
 ) -> Option<usize>
     requires { depth ≤ 256 }
-    ensures tells { TellsPath S.slot (M.segments message.now) depth number steps.old result steps.new }
+    ensures reports { ReportsPath S.slot (M.segments message.now) depth number steps.old result steps.new }
     ensures few { IfSome result (λ count. count ≤ depth) }
 {
     if number == 0 || message.len(0) == 0 {
@@ -96,7 +96,7 @@ fn traced_within<M: Segments, S: StepSlot, const N: usize>(
     requires counted { 0 < number }
     requires root { 0 < length (segment_of (M.segments message.now) 0) }
     requires capacity { (number ≤ N) ⊎ (depth < N) }
-    ensures tells { TellsPath S.slot (M.segments message.now) depth number steps.old result steps.new }
+    ensures reports { ReportsPath S.slot (M.segments message.now) depth number steps.old result steps.new }
     ensures few { IfSome result (λ count. count ≤ depth) }
 {
     let mut others: BranchStack<N> = BranchStack::new();

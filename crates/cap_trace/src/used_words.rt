@@ -2,7 +2,7 @@
 
 ghost use Rattle.cap_spec.specs.Messages.{segment_of};
 ghost use Rattle.cap_spec.specs.Occupying.{pads_of};
-ghost use Rattle.cap_trace.specs.EarlierPointers.{HaveCommon, TellsUsed, UsesOneAt, object_places, places_in, places_of};
+ghost use Rattle.cap_trace.specs.EarlierPointers.{HaveCommon, ReportsUsed, UsesOneAt, object_places, places_in, places_of};
 ghost use Rattle.std.specs.Prelude.{◌<◌, ◌≡◌, ◌↔◌, [], IsTrue, length};
 
 use cap_frame::Segments;
@@ -28,7 +28,7 @@ impl UsedWords {
     pub(crate) fn at<M: Segments>(message: &M, s: u32, w: u32) -> Option<UsedWords>
         requires exists { s < length (M.segments message.now) }
         requires inside { w < length (segment_of (M.segments message.now) s) }
-        ensures { TellsUsed (M.segments message.now) s w result }
+        ensures { ReportsUsed (M.segments message.now) s w result }
     {
         match follow(message, s, w) {
             Ok(followed) => Some(UsedWords {

@@ -20,7 +20,7 @@ use Rattle.cap_vet.specs.VetNames.{Reason, Step}
 use Rattle.cap_vet.proofs.Tours.{in_order-reverse}
 use Rattle.cap_vet.proofs.Verdicts.{CostOf-in_order}
 
--- the word that leads somewhere
+-- the word that leads to some place
 leads_word : (m : List (List ℕ)) (s w k : ℕ) (r : Lead) → Leads m s w k r → (p : ℕ) × HasWord m s w p
 leads_word m s w k r (near p has a b c) = (p, has)
 leads_word m s w k r (one_pad p q has a b c d e) = (p, has)

@@ -6,11 +6,11 @@ use Rattle.cap_spec.proofs.ProofNames.{zero, ℕ, ◌++◌, ◌+◌, ◌-◌, �
 use Rattle.cap_spec.proofs.ProofNames.{element_levels, AreShallow, IsFirstReason, IsComposite, AreOnPath, Charges}
 use Rattle.cap_spec.proofs.ProofNames.{IsFaultOnPath, HasWord, segment_of, Costs, Reaches, ReachesSpot, Spot, StepsTo}
 use Rattle.cap_spec.proofs.ProofNames.{element, word, IsDeepAt, levels_below, common_steps}
-use Rattle.cap_spec.proofs.Verdicts.OnPath.{begins_itself, begins_longer, cost_last, on_element, on_nowhere, on_root}
+use Rattle.cap_spec.proofs.Verdicts.OnPath.{begins_itself, begins_longer, cost_last, on_element, on_no_node, on_root}
 use Rattle.cap_spec.proofs.Verdicts.OnPath.{on_word, shallow_last}
 use Rattle.cap_vet.specs.VetNames.{Kind, Reason, Refusal, Step, Item, Ptr, Arrives, IsFound, element_of, AddsPointer}
 use Rattle.cap_vet.specs.VetNames.{KnowsLaxOnPath, Arrival, Found, LaxPointer}
-use Rattle.cap_vet.proofs.NodeSteps.{comes_nowhere}
+use Rattle.cap_vet.proofs.NodeSteps.{comes_no_node}
 use Rattle.cap_vet.proofs.PathLax.{lax_added, lax_same}
 
 -- none of no paths is too deep
@@ -22,16 +22,16 @@ root_reached : (m : List (List ℕ)) (root : ℕ) → HasWord m 0 0 root → Rea
 root_reached m root has = (root, 0, has, (refl, refl), refl)
 
 -- At the root,
-pub arrives_root : (m : List (List ℕ)) (words depth root spent : ℕ) (f : Found) (lax : Option LaxPointer) → HasWord m 0 0 root
-    → IsFound m (word 0 0) f → Costs m 0 0 spent → spent ≤ words → ¬ IsDeepAt m depth 0 0 1 → AddsPointer m 0 0 1 None lax
-    → Arrives m words depth [] (word 0 0) record { found = f; level = 1; spent = spent; pointers = 1; lax = lax }
-arrives_root m words depth root spent f lax has found costs within shallow adds = record {
+pub arrives_root : (m : List (List ℕ)) (words depth root consumed : ℕ) (f : Found) (lax : Option LaxPointer) → HasWord m 0 0 root
+    → IsFound m (word 0 0) f → Costs m 0 0 consumed → consumed ≤ words → ¬ IsDeepAt m depth 0 0 1 → AddsPointer m 0 0 1 None lax
+    → Arrives m words depth [] (word 0 0) record { found = f; level = 1; consumed = consumed; pointers = 1; lax = lax }
+arrives_root m words depth root consumed f lax has found costs within shallow adds = record {
   comes = root_reached m root has;
   found = found;
   ways = [] ∷ [];
   on_path = on_root m root has;
   some = omega arith;
-  costs = (1, 0, 0, spent, 0, root_reached m root has, costs, refl, omega arith);
+  costs = (1, 0, 0, consumed, 0, root_reached m root has, costs, refl, omega arith);
   shallow = shallow_last m depth [] [] 1 0 0 (none_deep m depth) (root_reached m root has) shallow;
   within = within;
   pointers = refl;
@@ -109,10 +109,10 @@ arrives_low m words depth path (element t b ds ps) at h = (omega (arith, h.level
 -- One step on at a pointer word,
 pub arrives_word : (m : List (List ℕ)) {words depth : ℕ} (path : List Step) (a : Spot) (at : Arrival) (step : Step)
     {s w cost : ℕ} {f : Found} (lax : Option LaxPointer) → Arrives m words depth path a at → StepsTo m a step (word s w)
-    → IsFound m (word s w) f → Costs m s w cost → cost ≤ words - at.spent → ¬ IsDeepAt m depth s w (at.level + 1)
+    → IsFound m (word s w) f → Costs m s w cost → cost ≤ words - at.consumed → ¬ IsDeepAt m depth s w (at.level + 1)
     → AddsPointer m s w (at.pointers + 1) at.lax lax
     → Arrives m words depth (path ++ step ∷ []) (word s w)
-    record { found = f; level = at.level + 1; spent = at.spent + cost; pointers = at.pointers + 1; lax = lax }
+    record { found = f; level = at.level + 1; consumed = at.consumed + cost; pointers = at.pointers + 1; lax = lax }
 arrives_word m {words} {depth} path a at step {s} {w} {cost} lax h g found costs within shallow adds =
     let r : Reaches m (path ++ step ∷ []) (at.level + 1) s w = next_comes m words depth path a at step s w h g in
     let l = length-append h.ways ((path ++ step ∷ []) ∷ []) in
@@ -122,7 +122,7 @@ arrives_word m {words} {depth} path a at step {s} {w} {cost} lax h g found costs
       ways = h.ways ++ (path ++ step ∷ []) ∷ [];
       on_path = on_word m path h.ways step (at.level + 1) s w h.on_path r;
       some = omega (arith, l);
-      costs = cost_last m h.ways (path ++ step ∷ []) (at.level + 1) s w cost at.spent h.costs r costs;
+      costs = cost_last m h.ways (path ++ step ∷ []) (at.level + 1) s w cost at.consumed h.costs r costs;
       shallow = shallow_last m depth h.ways (path ++ step ∷ []) (at.level + 1) s w h.shallow r shallow;
       within = omega (arith, within, h.within);
       pointers = omega (arith, l, h.pointers);
@@ -135,7 +135,7 @@ arrives_word m {words} {depth} path a at step {s} {w} {cost} lax h g found costs
 -- whose fault is the first,
 pub fault_word : (m : List (List ℕ)) (words depth : ℕ) (path : List Step) (a : Spot) (at : Arrival) (step : Step)
     (s w : ℕ) (v : Reason) → Arrives m words depth path a at → StepsTo m a step (word s w)
-    → IsFirstReason m words depth at.spent s w (at.level + 1) v → IsFaultOnPath m words depth
+    → IsFirstReason m words depth at.consumed s w (at.level + 1) v → IsFaultOnPath m words depth
     (path ++ step ∷ []) record { segment = s; word = w; reason = v; pointers = at.pointers + 1 }
 fault_word m words depth path a at step s w v h g reason =
     let r : Reaches m (path ++ step ∷ []) (at.level + 1) s w = next_comes m words depth path a at step s w h g in
@@ -144,7 +144,7 @@ fault_word m words depth path a at step s w v h g reason =
       begin = begins_itself (path ++ step ∷ []);
       before = h.ways;
       level = at.level + 1;
-      charge = at.spent;
+      charge = at.consumed;
       reached = r;
       on_path = on_word m path h.ways step (at.level + 1) s w h.on_path r;
       costs = h.costs;
@@ -182,22 +182,22 @@ pub fault_longer : (m : List (List ℕ)) (words depth : ℕ) (done rest path : L
     → done ++ rest ≡ path → IsFaultOnPath m words depth done r → IsFaultOnPath m words depth path r
 fault_longer m words depth done rest path r e f = grind (arith, common_steps, begins_longer)
 
--- What was charged where a step leads nowhere.
-pub charges_nowhere : (m : List (List ℕ)) (words depth : ℕ) (done rest path : List Step) (step : Step) (a : Spot)
+-- What was charged where a step leads to no node.
+pub charges_no_node : (m : List (List ℕ)) (words depth : ℕ) (done rest path : List Step) (step : Step) (a : Spot)
     (at : Arrival) → done ++ step ∷ rest ≡ path → Arrives m words depth done a at
-    → ((b : Spot) → StepsTo m a step b → ⊥) → Charges m words depth path (words - at.spent)
-charges_nowhere m words depth done rest path step a at e h none = record {
+    → ((b : Spot) → StepsTo m a step b → ⊥) → Charges m words depth path (words - at.consumed)
+charges_no_node m words depth done rest path step a at e h none = record {
   ways = h.ways;
-  on_path = subst (λ x. AreOnPath m x h.ways) e (on_nowhere m done rest h.ways step at.level a h.on_path h.comes none);
+  on_path = subst (λ x. AreOnPath m x h.ways) e (on_no_node m done rest h.ways step at.level a h.on_path h.comes none);
   some = h.some;
-  cost = at.spent;
+  cost = at.consumed;
   costs = h.costs;
   shallow = h.shallow;
-  spent = omega (arith, h.within);
+  consumed = omega (arith, h.within);
 }
 
-pub arrives_nowhere : (m : List (List ℕ)) (words depth : ℕ) (done rest path : List Step) (step : Step) (a : Spot)
+pub arrives_no_node : (m : List (List ℕ)) (words depth : ℕ) (done rest path : List Step) (step : Step) (a : Spot)
     (at : Arrival) → path ≡ done ++ step ∷ rest → Arrives m words depth done a at
     → ((b : Spot) → StepsTo m a step b → ⊥) → (k : Kind) (t b n : ℕ) → PathFinds m path k t b n → ⊥
-arrives_nowhere m words depth done rest path step a at e h none k t b n
-    (level, spot, comes, stands) = comes_nowhere m path done rest step at.level a e h.comes none level spot comes
+arrives_no_node m words depth done rest path step a at e h none k t b n
+    (level, spot, comes, lies) = comes_no_node m path done rest step at.level a e h.comes none level spot comes

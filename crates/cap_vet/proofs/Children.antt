@@ -8,7 +8,7 @@ use Rattle.cap_vet.specs.VetNames.{Step, Item, Ptr, AreReached, EachApart, GoOnF
 use Rattle.cap_vet.proofs.Apart.{Apart-steps}
 use Rattle.cap_vet.proofs.Trails.{AreChildren}
 
--- what reaches a pointer word behind one that is reached goes on from it by steps of its own
+-- what reaches a pointer word after one that is reached goes on from it by steps of its own
 pub beyond : (m : List (List ℕ)) (base : List Step) (x : Step) (v : List Step) (level level' s w s' w' : ℕ)
     → Reaches m base level s w → Reaches m (base ++ x ∷ v) level' s' w'
     → (mid : Spot) × (n : ℕ) × StepsTo m (word s w) x mid × PathLeads m mid v n (word s' w')

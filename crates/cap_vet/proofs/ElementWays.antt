@@ -25,7 +25,7 @@ element_arrival at e i = record at {
 -- and what the path to a pointer of it arrives at
 abbrev pointer_arrival : Arrival → Found → ℕ → Arrival
 pointer_arrival at f cost =
-    record { found = f; level = at.level + 1; spent = at.spent + cost; pointers = at.pointers + 1; lax = at.lax }
+    record { found = f; level = at.level + 1; consumed = at.consumed + cost; pointers = at.pointers + 1; lax = at.lax }
 
 module _ {M : Type 0} {g : segments.Ghosts M} (m : List (List ℕ)) (start : PathStart M g) (e : StructElements M g) (v : View M g)
     (are : LeadsToElements m start e) (exists : e.segment < length m) (i : ℕ) (lt : i < e.count)

@@ -58,7 +58,7 @@ go_on-elements base level t b ds ps i (suc n) =
     (go_on-further base (Item i) (row (base ++ Item i ∷ []) level Ptr t (b + ds) 0 ps) (GoOnFrom-row (base ++ Item i ∷ []) level Ptr t (b + ds) 0 ps))
     (go_on-elements base level t (b + ds + ps) ds ps (i + 1) n)
 
--- the elements behind one are apart from it
+-- the elements after one are apart from it
 head-elements : (base : List Step) (level t b ds ps i j n : ℕ) → i < j → HeadApart (base ++ Item i ∷ []) (element_rows base level t b ds ps j n)
 head-elements base level t b ds ps i j zero h = tt
 head-elements base level t b ds zero i j (suc n) h = head-elements base level t (b + ds + 0) ds 0 i (j + 1) n (omega arith)

@@ -1,4 +1,4 @@
--- What an accepted message keeps, of which only that it is so is kept, tells its tree.
+-- What an accepted message keeps, of which only that it is so is kept, gives its tree.
 use Rattle.cap_spec.proofs.Lemmas.{first_cap, one_first_cap, one_tree}
 use Rattle.cap_spec.proofs.ProofNames.{List, None, Option, Some, ap, subst, sym, true, ℕ, ◌+◌, ◌∙◌, ◌≡◌, ◌≤◌, ∥∥₁_elim}
 use Rattle.cap_spec.proofs.ProofNames.{∥∥₁_map, props, Denotes, IsFirstCap, Tree, cap_count, has_cap, pointer_count}

@@ -30,7 +30,7 @@ mod Charging
 mod PathEnds
 mod PathWays
 mod ElementWays
-mod Somewhere
+mod AtSomePlace
 mod StepsGiven
 pub mod PathFaults
 mod Bits

@@ -36,23 +36,23 @@ followed_shallow m {depth} {s} {w} level (followed.Target x) (q, tag, h) e =
     deep_once m depth s w level x.pads x.segment x.start q tag h.finds (tagged_of m s w q tag x h) (omega (arith, e, levels_shape q tag x.shape h.object.shape))
 
 -- and what takes one is
-pub followed_deep : {m : List (List ℕ)} {words depth spent s w level : ℕ} (f : Followed) → IsFollowed m s w f → depth < deepest_of level f
-    → IsFirstReason m words depth spent s w level DepthLimit
+pub followed_deep : {m : List (List ℕ)} {words depth consumed s w level : ℕ} (f : Followed) → IsFollowed m s w f → depth < deepest_of level f
+    → IsFirstReason m words depth consumed s w level DepthLimit
 followed_deep (followed.Null k) h e = absurd (omega arith)
 followed_deep (followed.Cap k i) h e = absurd (omega arith)
 followed_deep {m} {s} {w} (followed.Target x) (q, tag, h) e =
     is_deep refl (x.pads, x.segment, x.start, q, tag, h.finds, tagged_of m s w q tag x h, omega (arith, e, levels_shape q tag x.shape h.object.shape))
 
 -- what costs more than the words that are left is past the word limit
-pub followed_past : {m : List (List ℕ)} {words depth spent s w level : ℕ} (f : Followed) → IsFollowed m s w f → deepest_of level f ≤ depth
-    → words - spent < charge_of f → spent ≤ words → IsFirstReason m words depth spent s w level WordLimit
-followed_past {m} {s} {w} {level} f h shallow past room =
+pub followed_past : {m : List (List ℕ)} {words depth consumed s w level : ℕ} (f : Followed) → IsFollowed m s w f → deepest_of level f ≤ depth
+    → words - consumed < charge_of f → consumed ≤ words → IsFirstReason m words depth consumed s w level WordLimit
+followed_past {m} {s} {w} {level} f h shallow past capacity =
     is_past (charge_of f) refl (followed_shallow m level f h shallow) (followed_costs m s w f h) (omega arith)
 
 -- an object within the limits
-pub looks_object : {m : List (List ℕ)} {words depth spent s w level : ℕ} (q tag : ℕ) {below : ℕ} (x : Target) (run : Option PointerRun) → FindsTargetBy m s w q tag x
-    → below ≡ levels_of x.shape → level + levels_of x.shape ≤ depth → x.charge ≤ words - spent → spent ≤ words
+pub looks_object : {m : List (List ℕ)} {words depth consumed s w level : ℕ} (q tag : ℕ) {below : ℕ} (x : Target) (run : Option PointerRun) → FindsTargetBy m s w q tag x
+    → below ≡ levels_of x.shape → level + levels_of x.shape ≤ depth → x.charge ≤ words - consumed → consumed ≤ words
     → option_spots run ≡ object_places q tag x.segment x.start level → OptionIn m run → RunRises level depth run
-    → LooksObject m words depth spent s w level x.charge (level + below) run record { segment = x.segment; start = x.start; words = x.words }
+    → LooksObject m words depth consumed s w level x.charge (level + below) run record { segment = x.segment; start = x.start; words = x.words }
     x.pads x.segment x.start q tag
 looks_object {m} {s} {w} q tag x run f e h k g a b c = search (rules, tagged_of, levels_shape)

@@ -10,7 +10,7 @@ use Rattle.cap_vet.specs.VetNames.{Step, Conflicts, IsMarked, MarksAll, IsAccept
 use Rattle.cap_vet.specs.VetNames.{IsLookedAt, IsReport, Report}
 use Rattle.cap_vet.specs.OverlapSteps.{KnowsMarks, KnowsOverlap}
 use Rattle.cap_vet.specs.Overlapping.{EndsMarking}
-use Rattle.cap_vet.specs.Taken.{HasMarked, HasRoom}
+use Rattle.cap_vet.specs.Taken.{HasMarked, HasCapacity}
 use Rattle.cap_vet.specs.declared.exclusiveness.marks.Marks.{Marks}
 use Rattle.cap_vet.specs.declared.exclusiveness.overlap_turn.Overlap.{Overlap}
 use Rattle.cap_vet.proofs.Marking.{all_disjoint, first_overlap, marks_on}
@@ -81,9 +81,9 @@ pub disjoint_bound : (m : List (List ℕ)) (words depth : ℕ) (report : Report)
     → (t : Tree) × IsReport m words depth report t × (report.charge < sum (sizes_of m) + empty_count t)
 disjoint_bound m words depth report (t, h) d = (t, h, charge_below_words m t report.charge report.depth h.within.denotes d)
 
--- there is room whatever is marked
-pub room_kept : (m : List (List ℕ)) (starts marks after : List ℕ) → HasRoom m starts marks → length after ≡ length marks → HasRoom m starts after
-room_kept m starts marks after h e = record { known = h.known; enough = omega (arith, h.enough, e) }
+-- there is capacity whatever is marked
+pub capacity_kept : (m : List (List ℕ)) (starts marks after : List ℕ) → HasCapacity m starts marks → length after ≡ length marks → HasCapacity m starts after
+capacity_kept m starts marks after h e = record { known = h.known; enough = omega (arith, h.enough, e) }
 
 -- where nothing was marked, the root word's own mark is the first
 pub root_marked : (m : List (List ℕ)) (T T' : ℕ → ℕ → Type 0) → ((s w : ℕ) → T s w → ⊥) → MarksAll T T' ((0, 0) ∷ []) → IsMarked m [] T'

@@ -49,14 +49,14 @@ says_own m t at q b (two_pads p f x h two hf hx one tag says e) = absurd (omega 
 
 -- So the pointer word whose place it takes leads there too.
 finds_over : (m : List (List ℕ)) (s w k t at b q : ℕ) → ResolvesTo m s w k t at q → Finds m t at 0 t b q → Finds m s w k t b q
-finds_over m s w k t at b q stands f = record { leads = stands.leads (to_object t (pos b) q) (says_own m t at q (pos b) f.leads); inside = f.inside }
+finds_over m s w k t at b q lies f = record { leads = lies.leads (to_object t (pos b) q) (says_own m t at q (pos b) f.leads); inside = f.inside }
 
 -- such an object within the limits
-pub looks_row : (m : List (List ℕ)) (words depth spent s w level k t at q : ℕ) (r : Row) (run : Option PointerRun) → FindsRow m t at q r
-    → ResolvesTo m s w k t at q → level ≤ depth → k + r.words ≤ words - spent → spent ≤ words
+pub looks_row : (m : List (List ℕ)) (words depth consumed s w level k t at q : ℕ) (r : Row) (run : Option PointerRun) → FindsRow m t at q r
+    → ResolvesTo m s w k t at q → level ≤ depth → k + r.words ≤ words - consumed → consumed ≤ words
     → option_spots run ≡ row_places (level + 1) t r.pointers_start r.pointer_count → OptionIn m run → LevelIs (level + 1) run
-    → IsLooked m words depth spent s w level (Object (k + r.words) level run record { segment = t; start = r.start; words = r.words })
-looks_row m words depth spent s w level k t at q r run f stands shallow charge within places inside here =
+    → IsLooked m words depth consumed s w level (Object (k + r.words) level run record { segment = t; start = r.start; words = r.words })
+looks_row m words depth consumed s w level k t at q r run f lies shallow charge within places inside here =
     let plain = pointers-plain q r.pointer_count f.pointers in (
       k,
       t,
@@ -64,7 +64,7 @@ looks_row m words depth spent s w level k t at q r run f stands shallow charge w
       q,
       0,
       record {
-        finds = finds_over m s w k t at r.start q stands f.finds;
+        finds = finds_over m s w k t at r.start q lies f.finds;
         tagged = λ c. absurd (plain.1 c.0 c.1);
         charge = omega (arith, f.words, pointers-no_extra q r.pointer_count f.pointers);
         within = omega arith;

@@ -52,12 +52,12 @@ node_not_wrong m s w v h x =
     let one : IsProp ⊥ = hlevel props in
     ∥∥₁_elim h one (λ n. reached_not_wrong m n.tree n.charge n.depth n.denotes n.path n.level s w v n.comes x)
 
--- where a step leads, the part of the tree stands
-pub part_stands : (m : List (List ℕ)) (a b : Spot) (step : Step) (t : Tree) → StepsTo m a step b → DenotesAt m a t
+-- where a step leads, the part of the tree is
+pub part_lies : (m : List (List ℕ)) (a b : Spot) (step : Step) (t : Tree) → StepsTo m a step b → DenotesAt m a t
     → (u : Tree) × (part_at t step ≡ Some u) × DenotesAt m b u
-part_stands m a b step t g h = step_to_part m a step b t h g
+part_lies m a b step t g h = step_to_part m a step b t h g
 
--- and where it leads nowhere, there is no part
+-- and where it leads to no node, there is no part
 pub no_part : (m : List (List ℕ)) (a : Spot) (step : Step) (t : Tree) → ((b : Spot) → StepsTo m a step b → ⊥) → DenotesAt m a t → part_at t step ≡ None
 no_part m a step t none h = go (part_at t step) refl
   where
@@ -65,7 +65,7 @@ no_part m a step t none h = go (part_at t step) refl
     go None e = e
     go (Some u) e = let r = part_to_step m a step t u h e in absurd (none r.0 r.1)
 
--- a path that leads nowhere has no node
+-- a path that leads to no node has no node
 pub no_node : (m : List (List ℕ)) (path : List Step) (t : Tree) (c d : ℕ)
     → ((level : ℕ) (a : Spot) → ReachesSpot m path level a → ⊥) → Denotes m 0 0 t c d → node_at t path ≡ None
 no_node m path t c d none h = go (node_at t path) refl
@@ -74,10 +74,10 @@ no_node m path t c d none h = go (node_at t path) refl
     go None e = e
     go (Some u) e = let r = node_to_coming m t c d h path u e in absurd (none r.0 r.1 r.2)
 
--- where the path up to here leads, and the next step leads nowhere, the whole path does
-pub comes_nowhere : (m : List (List ℕ)) (path done rest : List Step) (step : Step) (level : ℕ) (a : Spot) → path ≡ done ++ step ∷ rest → ReachesSpot m done level a
+-- where the path up to here leads, and the next step leads to no node, the whole path does
+pub comes_no_node : (m : List (List ℕ)) (path done rest : List Step) (step : Step) (level : ℕ) (a : Spot) → path ≡ done ++ step ∷ rest → ReachesSpot m done level a
     → ((b : Spot) → StepsTo m a step b → ⊥) → (level' : ℕ) (b : Spot) → ReachesSpot m path level' b → ⊥
-comes_nowhere m path done rest step level a e h none level' b g =
+comes_no_node m path done rest step level a e h none level' b g =
     let g' : ReachesSpot m (done ++ step ∷ rest) level' b = subst (λ u. ReachesSpot m u level' b) e g in
     let w = (comes_beyond m done (step ∷ rest) level level' a b h g').1 in none w.0 w.2
 

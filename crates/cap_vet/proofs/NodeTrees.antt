@@ -1,4 +1,4 @@
--- At a node of an accepted message stands a tree.
+-- At a node of an accepted message is a tree.
 use Rattle.cap_spec.specs.Denoting.{places}
 use Rattle.cap_spec.proofs.Paths.Depths.{denoted_depth, depth_of, each_depth, walk_depth}
 use Rattle.cap_spec.proofs.ProofNames.{List, arith, refl, ℕ, ◌+◌, ◌≤◌, ∥∥₁_map, words_from, Spot, element, word, DenotesAt}
@@ -6,7 +6,7 @@ use Rattle.cap_spec.proofs.ProofNames.{Tree, struct}
 use Rattle.cap_spec.proofs.Verdicts.Deciding.{EachWithin, TreeWithin, each_within, tree_within}
 use Rattle.cap_vet.specs.Nodes.{IsNode}
 
--- a tree of at most 256 levels stands there
+-- a tree of at most 256 levels is there
 abbrev ShallowAt : List (List ℕ) → Spot → Type 0
 ShallowAt m a = (t : Tree) × DenotesAt m a t × (depth_of t ≤ 256)
 
@@ -15,7 +15,7 @@ shallow_node m a n =
     let r = walk_depth m (word 0 0) n.path n.comes.1 a n.tree (n.charge, n.depth, n.denotes) n.comes.3 in
     (r.0, r.1, omega (arith, r.2, denoted_depth m 0 0 n.tree n.charge n.depth n.denotes, n.shallow))
 
--- so a word denotes one of so many levels,
+-- so a word denotes one of this many levels,
 word_tree : (m : List (List ℕ)) (s w : ℕ) → ShallowAt m (word s w) → TreeWithin m 256 s w
 word_tree m s w (t, h, le) = (t, h.0, h.1, h.2, omega (arith, denoted_depth m s w t h.0 h.1 h.2, le))
 

@@ -7,10 +7,10 @@ use Rattle.cap_ptr.specs.declared.shapes.Shape.TheVariants.{Struct, Structs}
 use Rattle.cap_vet.specs.VetNames.{object_places, PointerWord, RunIn, element_places, row_places, spots}
 
 -- a struct's words lie inside its segment
-pub struct_room : (m : List (List ℕ)) (s w : ℕ) {k t b : ℕ} (q tag : ℕ) {n c : ℕ} (d p : ℕ) → FindsObject m s w k t b q tag n c (Struct d p) → b + d + p ≤ length (segment_of m t)
-struct_room m s w q tag d p f = search (rules, extent_struct)
+pub struct_capacity : (m : List (List ℕ)) (s w : ℕ) {k t b : ℕ} (q tag : ℕ) {n c : ℕ} (d p : ℕ) → FindsObject m s w k t b q tag n c (Struct d p) → b + d + p ≤ length (segment_of m t)
+struct_capacity m s w q tag d p f = search (rules, extent_struct)
 
--- its pointer words are those behind its data
+-- its pointer words are those after its data
 pub struct_places : (m : List (List ℕ)) (s w : ℕ) {k t b : ℕ} (q tag : ℕ) {n c : ℕ} (d : ℕ) {p at left : ℕ} (level : ℕ)
     → FindsObject m s w k t b q tag n c (Struct d p) → at ≡ b + d → left ≡ p
     → row_places (level + 1) t at left ≡ object_places q tag t b level

@@ -178,7 +178,7 @@ object-brings m a k t b q tag low r f tagged = elim (cases_of m a.segment a.word
   | a_table e c ↦ structs-brings m a k t b q tag low r f e c (tagged (e, c))
 ]
 
--- the children stand at the object's pointer words
+-- the children are at the object's pointer words
 pub object_places-children : (base : List Step) (q tag t b level : ℕ)
     → map pointer_word_of (object_children base q tag t b level) ≡ object_places q tag t b level
 object_places-children base q tag t b level = search (rules, places-row, places-elements)

@@ -1,4 +1,4 @@
--- What the pointers of an object owe tells what they denote.
+-- What the pointers of an object owe says what they denote.
 use Rattle.std.proofs.Common.{List, [], ap, arith, max, refl, suc, zero, ℕ, ◌++◌, ◌+◌, ◌∷◌, ◌≡◌}
 use Rattle.cap_spec.specs.Denoting.{AreElements, DenoteEach, places, words_from}
 use Rattle.cap_spec.specs.Tree.{Trees, cap_count, cap_counts, child_counts, more, none, pointer_count, struct}

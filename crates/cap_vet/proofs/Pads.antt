@@ -4,7 +4,7 @@ use Rattle.cap_spec.proofs.Disjoint.Places.{pads_in_a_row}
 use Rattle.cap_spec.proofs.ProofNames.{Bool, arith, eqb-true, false, refl, rules, sym, true, ℕ, ◌+◌, ◌<◌, ◌==◌, ◌∙◌, ◌≡◌, ◌⊎◌}
 use Rattle.cap_spec.proofs.ProofNames.{far_segment, kind, pad, pads_of, two}
 
--- they are as many words in a row as the form of the pointer tells
+-- they are as many words in a row as the form of the pointer gives
 two_few : (p : ℕ) → two p < 2
 two_few p = omega arith
 

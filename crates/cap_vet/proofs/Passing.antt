@@ -8,9 +8,9 @@ use Rattle.cap_vet.specs.declared.walk.looking.Looked.TheVariants.{Null}
 use Rattle.cap_vet.proofs.Runs.{rest_of_row}
 use Rattle.cap_vet.proofs.Stacks.{next_seen, walks_on, work_smaller}
 
--- behind the first of several words in a row
-abbrev pub behind : PointerRun → PointerRun
-behind f = record { segment = f.segment; at = f.at + 1; left = f.left - 1; more = f.more; data_words = f.data_words; pointers = f.pointers; level = f.level }
+-- after the first of several words in a row
+abbrev pub after : PointerRun → PointerRun
+after f = record { segment = f.segment; at = f.at + 1; left = f.left - 1; more = f.more; data_words = f.data_words; pointers = f.pointers; level = f.level }
 
 -- with one pointer word more
 abbrev pub counted : Report → Report
@@ -19,24 +19,24 @@ counted r = record { charge = r.charge; depth = r.depth; pointers = r.pointers +
 -- one null word is one turn
 pub passes_on : (m : List (List ℕ)) (words depth : ℕ) (runs : List PointerRun) (seen : List (List Step)) (old f : PointerRun) (before r : Report) → 1 < f.left
     → HasWord m f.segment f.at 0
-    → Passes m words depth runs seen old before f r → Passes m words depth runs seen old before (behind f) (counted r)
+    → Passes m words depth runs seen old before f r → Passes m words depth runs seen old before (after f) (counted r)
 passes_on m words depth runs seen old f before r left null passed =
-    let rest : IsRest f (Some (behind f)) = rest_of_row f.segment f.at f.more f.data_words f.pointers f.level left in
-    let (next, same_seen) = next_seen m words depth runs f (Some (behind f)) r (passed.nulls ++ seen) passed.later passed.walks rest in
+    let rest : IsRest f (Some (after f)) = rest_of_row f.segment f.at f.more f.data_words f.pointers f.level left in
+    let (next, same_seen) = next_seen m words depth runs f (Some (after f)) r (passed.nulls ++ seen) passed.later passed.walks rest in
     let looked : IsLooked m words depth r.charge f.segment f.at f.level (Null 0) = (near 0 null (omega arith) refl refl, omega (arith, next.progress.within)) in
-    let (later, turned) = walks_on m words depth f.segment f.at f.level (runs ++ behind f ∷ []) r (Null 0) next looked in
+    let (later, turned) = walks_on m words depth f.segment f.at f.level (runs ++ after f ∷ []) r (Null 0) next looked in
     let same : r.charge + 0 ≡ r.charge = omega arith in
     let e : added r f.segment f.at (Null 0) ≡ counted r = rw same refl in
-    let stack : (runs ++ behind f ∷ []) ++ [] ≡ runs ++ behind f ∷ [] = append-nil (runs ++ behind f ∷ []) in
-    let walks : HasWalked m words depth (runs ++ behind f ∷ []) (counted r) (next.a.path ∷ next.seen) later =
-    subst (λ u. HasWalked m words depth (runs ++ behind f ∷ []) u (next.a.path ∷ next.seen) later) e
+    let stack : (runs ++ after f ∷ []) ++ [] ≡ runs ++ after f ∷ [] = append-nil (runs ++ after f ∷ []) in
+    let walks : HasWalked m words depth (runs ++ after f ∷ []) (counted r) (next.a.path ∷ next.seen) later =
+    subst (λ u. HasWalked m words depth (runs ++ after f ∷ []) u (next.a.path ∷ next.seen) later) e
     (subst (λ u. HasWalked m words depth u (added r f.segment f.at (Null 0)) (next.a.path ∷ next.seen) later) stack turned) in
-    let smaller : work_left words (runs ++ behind f ∷ []) (counted r) < work_left words (runs ++ f ∷ []) r =
-    work_smaller words runs (runs ++ behind f ∷ []) f (Some (behind f)) r (counted r) rest (omega arith) in record {
+    let smaller : work_left words (runs ++ after f ∷ []) (counted r) < work_left words (runs ++ f ∷ []) r =
+    work_smaller words runs (runs ++ after f ∷ []) f (Some (after f)) r (counted r) rest (omega arith) in record {
       nulls = next.a.path ∷ passed.nulls;
       later = later;
       are_null = ((next.a.level, next.a.segment, next.a.word, next.progress.trail.ahead_reached.0, rw (next.segment, next.at) null), passed.are_null);
-      walks = subst (λ u. HasWalked m words depth (runs ++ behind f ∷ []) (counted r) (next.a.path ∷ u) later) same_seen walks;
+      walks = subst (λ u. HasWalked m words depth (runs ++ after f ∷ []) (counted r) (next.a.path ∷ u) later) same_seen walks;
       less = omega (arith, passed.less, smaller);
     }
 

@@ -2,12 +2,12 @@
 use Rattle.cap_spec.proofs.ProofNames.{Bool, List, None, Option, Some, arith, false, length, refl, subst, sym, true, ℕ}
 use Rattle.cap_spec.proofs.ProofNames.{◌++◌, ◌-◌, ◌∷◌, ◌≡◌, ◌≤◌, PathFinds, AreOnPath, Charges, IsStartOf, Spot, IsLax}
 use Rattle.cap_spec.proofs.ProofNames.{rules}
-use Rattle.cap_spec.proofs.Verdicts.OnPath.{on_nowhere}
+use Rattle.cap_spec.proofs.Verdicts.OnPath.{on_no_node}
 use Rattle.cap_vet.specs.Charging.{EndsAt}
 use Rattle.cap_vet.specs.VetNames.{Kind, Lax, Step, StrictRefusal, Arrives, EndsEarly}
 use Rattle.cap_vet.specs.VetNames.{words_under, IsFirstLaxOnPath, IsPathFault, MeetsOnPath, HasNoFaultBy, IsFaultBy}
 use Rattle.cap_vet.specs.VetNames.{KnowsLaxOnPath, Demands, Arrival, LaxPointer}
-use Rattle.cap_vet.proofs.Charging.{arrives_nowhere, charges_nowhere}
+use Rattle.cap_vet.proofs.Charging.{arrives_no_node, charges_no_node}
 use Rattle.cap_vet.proofs.PathLax.{lax_same}
 
 -- The pointers on the path, and what is known of them.
@@ -24,35 +24,35 @@ known m words depth path at true (a, h) = record {
   ways = h.ways;
   on_path = h.on_path;
   lax = h.lax;
-  left = words - at.spent;
+  left = words - at.consumed;
   charges = record {
     ways = h.ways;
     on_path = h.on_path;
     some = h.some;
-    cost = at.spent;
+    cost = at.consumed;
     costs = h.costs;
     shallow = h.shallow;
-    spent = omega (arith, h.within);
+    consumed = omega (arith, h.within);
   };
 }
 known m words depth path at false e =
     let h = e.arrives in
     let on : AreOnPath m (e.done ++ e.step ∷ e.rest) h.ways =
-    on_nowhere m e.done e.rest h.ways e.step at.level e.spot h.on_path h.comes e.nowhere in
+    on_no_node m e.done e.rest h.ways e.step at.level e.spot h.on_path h.comes e.no_node in
     record {
       ways = h.ways;
       on_path = subst (λ x. AreOnPath m x h.ways) (sym e.whole) on;
       lax = subst (λ x. KnowsLaxOnPath m x h.ways at.lax) (sym e.whole)
           (lax_same m e.done (e.step ∷ e.rest) h.ways at.lax h.lax);
-      left = words - at.spent;
-      charges = charges_nowhere m words depth e.done e.rest path e.step e.spot at (sym e.whole) h e.nowhere;
+      left = words - at.consumed;
+      charges = charges_no_node m words depth e.done e.rest path e.step e.spot at (sym e.whole) h e.no_node;
     }
 
 -- Nothing is at the path.
 pub nothing_at : (m : List (List ℕ)) (words depth : ℕ) (path : List Step) (at : Arrival)
     → EndsEarly m words depth path at → (k : Kind) (t b n : ℕ) → ¬ PathFinds m path k t b n
 nothing_at m words depth path at e k t b n =
-    arrives_nowhere m words depth e.done e.rest path e.step e.spot at e.whole e.arrives e.nowhere k t b n
+    arrives_no_node m words depth e.done e.rest path e.step e.spot at e.whole e.arrives e.no_node k t b n
 
 -- Something is.
 pub something_at : (m : List (List ℕ)) (words depth : ℕ) (path : List Step) (at : Arrival) (a : Spot)

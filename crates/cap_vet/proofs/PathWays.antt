@@ -6,7 +6,7 @@ use Rattle.cap_spec.proofs.ProofNames.{IsFaultOnPath, IsRefusedOnPath, Spot, Ste
 use Rattle.cap_vet.specs.PathWays.{IsGiven}
 use Rattle.cap_vet.specs.VetNames.{Refusal, Step, StrictRefusal, Arrives, EndsEarly, words_under, IsPathFault}
 use Rattle.cap_vet.specs.VetNames.{MeetsOnPath, HasNoFaultBy, IsFaultBy, GivesAfter, IsWay, Demands, Arrival, Found}
-use Rattle.cap_vet.specs.VetNames.{PathStart, View, Way, Nowhere, To}
+use Rattle.cap_vet.specs.VetNames.{PathStart, View, Way, Early, To}
 use Rattle.cap_vet.proofs.Charging.{fault_longer}
 use Rattle.cap_vet.proofs.PathEnds.{fault_at, meets_at, nothing_at, something_at}
 use Rattle.cap_vet.proofs.PathFaults.{meets_no_path_fault, one_path_fault}
@@ -15,18 +15,18 @@ use Rattle.cap_spec.specs.declared.StrictRefusal.TheVariants as fault
 
 -- A path goes on as far as one that begins it, if that leads to nothing or is refused.
 module _ (m : List (List ℕ)) (words depth : ℕ) (path more : List Step) where
-  pub nowhere_longer : (at : Arrival) → EndsEarly m words depth path at → EndsEarly m words depth (path ++ more) at
-  nowhere_longer at e = search (rules, append_assoc)
+  pub no_node_longer : (at : Arrival) → EndsEarly m words depth path at → EndsEarly m words depth (path ++ more) at
+  no_node_longer at e = search (rules, append_assoc)
 
   pub refused_longer : (r : Refusal) → IsRefusedOnPath m words depth path r → IsRefusedOnPath m words depth (path ++ more) r
   refused_longer r (inl h) = inl h
   refused_longer r (inr f) = inr (fault_longer m words depth path more (path ++ more) r refl f)
 
 -- One step more leads to nothing,
-pub step_nowhere : (m : List (List ℕ)) (words depth : ℕ) (path rest : List Step) (step : Step) (a : Spot) (at : Arrival)
+pub step_no_node : (m : List (List ℕ)) (words depth : ℕ) (path rest : List Step) (step : Step) (a : Spot) (at : Arrival)
     → Arrives m words depth path a at → ((b : Spot) → StepsTo m a step b → ⊥) → EndsEarly m words depth (path ++ step ∷ rest) at
-step_nowhere m words depth path rest step a at h none =
-    record { done = path; step = step; rest = rest; spot = a; whole = refl; arrives = h; nowhere = none }
+step_no_node m words depth path rest step a at h none =
+    record { done = path; step = step; rest = rest; spot = a; whole = refl; arrives = h; no_node = none }
 
 -- is refused,
 pub step_refused : (m : List (List ℕ)) (words depth : ℕ) (path rest : List Step) (step : Step) (r : Refusal)
@@ -74,12 +74,12 @@ module _ {M : Type 0} {g : segments.Ghosts M} (demands : Demands) (m : List (Lis
   }
 
   -- and of a path to nothing
-  pub nowhere_fault_given : (at : Arrival) (fault : StrictRefusal) → length m ≤ 512
-      → IsWay m (words_under demands m words) depth path (Nowhere at) → IsFaultBy demands (length m) at.lax fault
+  pub no_node_fault_given : (at : Arrival) (fault : StrictRefusal) → length m ≤ 512
+      → IsWay m (words_under demands m words) depth path (Early at) → IsFaultBy demands (length m) at.lax fault
       → IsGiven {M = M} {g = g} demands m words depth path (Err fault)
-  nowhere_fault_given at fault few h f = fault_given fault (fault_at demands m words depth path at false fault few h f)
+  no_node_fault_given at fault few h f = fault_given fault (fault_at demands m words depth path at false fault few h f)
 
-  pub nothing_given : (at : Arrival) → IsWay m (words_under demands m words) depth path (Nowhere at)
+  pub nothing_given : (at : Arrival) → IsWay m (words_under demands m words) depth path (Early at)
       → HasNoFaultBy demands (length m) at.lax → IsGiven {M = M} {g = g} demands m words depth path (Ok None)
   nothing_given at h none = record {
     meets = meets_at demands m words depth path at false h none;

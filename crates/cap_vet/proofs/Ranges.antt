@@ -59,7 +59,7 @@ range_conflict m old s from len at i h inside e low high taken =
 pub start_within : (m : List (List ℕ)) (s : ℕ) → s < length m → start_of m s + length (segment_of m s) ≤ start_of m (length m)
 start_within m s h = start_order m s (length m) h (omega arith)
 
--- the next segment starts behind this one
+-- the next segment starts after this one
 start_suc : (m : List (List ℕ)) (s : ℕ) → s < length m → start_of m (suc s) ≡ start_of m s + length (segment_of m s)
 start_suc [] s h = absurd (omega arith)
 start_suc (x ∷ m) zero h = omega arith

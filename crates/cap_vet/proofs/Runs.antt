@@ -4,14 +4,14 @@ use Rattle.cap_spec.proofs.ProofNames.{◌+◌, ◌-◌, ◌<◌, ◌∙◌, ◌
 use Rattle.cap_vet.specs.VetNames.{Step, Item, Ptr, IsRest, element_places, pointer_word_of, row_places, element_rows}
 use Rattle.cap_vet.specs.VetNames.{row, PointerRun}
 
--- behind the first of several words in a row
+-- after the first of several words in a row
 pub rest_of_row : (s b : ℕ) {n : ℕ} (more ds ps level : ℕ) → 1 < n → IsRest
     record { segment = s; at = b; left = n; more = more; data_words = ds; pointers = ps; level = level }
     (Some record { segment = s; at = b + 1; left = n - 1; more = more; data_words = ds; pointers = ps; level = level })
 rest_of_row s b {n = zero} more ds ps level h = absurd (omega arith)
 rest_of_row s b {n = suc n} more ds ps level h = search rules
 
--- behind the last of them, the next element's
+-- after the last of them, the next element's
 pub rest_of_elements : (s b : ℕ) {n more : ℕ} (ds ps level : ℕ) → n ≡ 1 → 0 < more
     → IsRest record { segment = s; at = b; left = n; more = more; data_words = ds; pointers = ps; level = level }
     (Some record {
@@ -27,7 +27,7 @@ pub rest_of_elements : (s b : ℕ) {n more : ℕ} (ds ps level : ℕ) → n ≡ 
 rest_of_elements s b {more = zero} ds ps level e h = absurd (omega arith)
 rest_of_elements s b {n} {more = suc more} ds ps level e h = search rules
 
--- behind the last of them all, nothing
+-- after the last of them all, nothing
 pub rest_of_last : (s b : ℕ) {n more : ℕ} (ds ps level : ℕ) → n ≡ 1 → more ≡ 0
     → IsRest record { segment = s; at = b; left = n; more = more; data_words = ds; pointers = ps; level = level } None
 rest_of_last s b ds ps level e h = record { words = rw (e, h) refl; inside = λ m i. tt; level = tt }
@@ -43,12 +43,12 @@ has_rest_of s b (suc (suc n)) more ds ps level h = (_, rest_of_row s b more ds p
 pub has_rest : (f : PointerRun) → 0 < f.left → (rest : Option PointerRun) × IsRest f rest
 has_rest f some = has_rest_of f.segment f.at f.left f.more f.data_words f.pointers f.level some
 
--- where a row of words stands
+-- where a row of words is
 pub places-row : (base : List Step) (level : ℕ) (step : ℕ → Step) (t b i n : ℕ) → map pointer_word_of (row base level step t b i n) ≡ row_places level t b n
 places-row base level step t b i zero = refl
 places-row base level step t b i (suc n) = ap (λ u. (t, b, level) ∷ u) (places-row base level step t (b + 1) (i + 1) n)
 
--- where the rows of elements stand
+-- where the rows of elements are
 pub places-elements : (base : List Step) (level t b ds ps i n : ℕ)
     → map pointer_word_of (element_rows base level t b ds ps i n) ≡ element_places level t b ds ps n
 places-elements base level t b ds ps i zero = refl

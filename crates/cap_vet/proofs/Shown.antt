@@ -1,4 +1,4 @@
--- What stands at a spot is the node of the tree there.
+-- What is at a spot is the node of the tree there.
 use Rattle.cap_spec.specs.Showing.{own_cap, own_null, own_pointers, own_scalars, own_struct, own_structs}
 use Rattle.cap_spec.specs.declared.Kind.{Kind}
 use Rattle.cap_spec.specs.declared.Kind.TheVariants.{Cap, Null, Pointers, Scalars, Struct, Structs}
@@ -53,16 +53,16 @@ structs_own : (m : List (List ℕ)) (s w : ℕ) (x : Tree) (c d k t b q tag n ds
 structs_own m s w x c d k t b q tag n ds ps h f =
     search (rules, one_found, elements_depth, same_structs, found_form, scalars, structs_shape, number_list)
 
--- What stands at a spot is the node of the tree there.
-pub stands_own : (m : List (List ℕ)) (a : Spot) (k : Kind) (t b n : ℕ) (x : Tree) → HasObject m a k t b n → DenotesAt m a x → own_at m k t b ≡ own_of x
-stands_own m (word s w) Null t b n x f h = sym (null_own m s w x h.0 h.1 f.0 h.2 f.1)
-stands_own m (word s w) (Cap i) t b n x f h = sym (cap_own m s w x h.0 h.1 f.0 i h.2 f.1)
-stands_own m (word s w) (Struct d p) t b n x (k, q, tag, f, e) h = sym (struct_own m s w x h.0 h.1 k t b q tag d p h.2 f)
-stands_own m (word s w) (Scalars c y) t b n x (k, q, tag, f, e) h = sym (scalars_own m s w x h.0 h.1 k t b q tag c y h.2 f)
-stands_own m (word s w) (Pointers y) t b n x (k, q, tag, f, e) h = sym (pointers_own m s w x h.0 h.1 k t b q tag y h.2 f)
-stands_own m (word s w) (Structs y d p) t b n x (k, q, tag, f, e) h =
+-- What is at a spot is the node of the tree there.
+pub lies_own : (m : List (List ℕ)) (a : Spot) (k : Kind) (t b n : ℕ) (x : Tree) → HasObject m a k t b n → DenotesAt m a x → own_at m k t b ≡ own_of x
+lies_own m (word s w) Null t b n x f h = sym (null_own m s w x h.0 h.1 f.0 h.2 f.1)
+lies_own m (word s w) (Cap i) t b n x f h = sym (cap_own m s w x h.0 h.1 f.0 i h.2 f.1)
+lies_own m (word s w) (Struct d p) t b n x (k, q, tag, f, e) h = sym (struct_own m s w x h.0 h.1 k t b q tag d p h.2 f)
+lies_own m (word s w) (Scalars c y) t b n x (k, q, tag, f, e) h = sym (scalars_own m s w x h.0 h.1 k t b q tag c y h.2 f)
+lies_own m (word s w) (Pointers y) t b n x (k, q, tag, f, e) h = sym (pointers_own m s w x h.0 h.1 k t b q tag y h.2 f)
+lies_own m (word s w) (Structs y d p) t b n x (k, q, tag, f, e) h =
     sym (structs_own m s w x h.0 h.1 k t b q tag y d p h.2 f)
-stands_own m (element t' b' ds ps) (Struct d p) t b n (struct ws ts) f h =
+lies_own m (element t' b' ds ps) (Struct d p) t b n (struct ws ts) f h =
     search (rules, each_charged, length-places, same_struct)
-stands_own m (element t' b' ds ps) (Struct d p) t b n x f h = absurd h
-stands_own m (element t' b' ds ps) k t b n x f h = absurd f
+lies_own m (element t' b' ds ps) (Struct d p) t b n x f h = absurd h
+lies_own m (element t' b' ds ps) k t b n x f h = absurd f

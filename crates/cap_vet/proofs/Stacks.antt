@@ -138,10 +138,10 @@ pub turned : (m : List (List ℕ)) (limits : Limits) (runs left more : List Poin
 turned m limits runs left more f r report after K k e h = search (rules, work_rest)
 
 -- a word that was looked at has this cost
-pub looked_costs : (m : List (List ℕ)) (words depth spent s w level : ℕ) (l : Looked) → IsLooked m words depth spent s w level l → Costs m s w (cost_of l)
-looked_costs m words depth spent s w level (looked.Null cost) h = inl h.0
-looked_costs m words depth spent s w level (looked.Cap cost) h = inr (inl h.0)
-looked_costs m words depth spent s w level (looked.Object cost deep below place) (k, t, b, q, tag, o) = inr (inr (k, t, b, q, tag, o.finds, o.tagged, o.charge))
+pub looked_costs : (m : List (List ℕ)) (words depth consumed s w level : ℕ) (l : Looked) → IsLooked m words depth consumed s w level l → Costs m s w (cost_of l)
+looked_costs m words depth consumed s w level (looked.Null cost) h = inl h.0
+looked_costs m words depth consumed s w level (looked.Cap cost) h = inr (inl h.0)
+looked_costs m words depth consumed s w level (looked.Object cost deep below place) (k, t, b, q, tag, o) = inr (inr (k, t, b, q, tag, o.finds, o.tagged, o.charge))
 
 -- The next word was looked at, and is the last so far. Below it is this run, and less is left of the walk.
 pub record HasVisited (m : List (List ℕ)) (limits : Limits) (s w level : ℕ) (runs : List PointerRun) (before : Report)

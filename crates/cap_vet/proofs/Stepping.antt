@@ -9,7 +9,7 @@ use Rattle.cap_spec.proofs.Trees.Charges.{elements_fit}
 use Rattle.cap_vet.specs.VetNames.{Kind, Item, Ptr, IsFound, Found}
 use Rattle.cap_vet.proofs.Steps.{cap_no_object, null_no_object}
 
--- what stands there, where its kind is known
+-- what is there, where its kind is known
 as_kind : (m : List (List ℕ)) (a : Spot) (f : Found) (x : Kind) → IsFound m a f → f.kind ≡ x → HasObject m a x f.place.segment f.place.start f.place.words
 as_kind m a f x h e = subst (λ u. HasObject m a u f.place.segment f.place.start f.place.words) e h.object
 

@@ -8,7 +8,7 @@ use Rattle.cap_vet.proofs.Apart.{Apart-right, Apart-trans, longer-differs, not_a
 use Rattle.cap_vet.proofs.Apart.{not_before-self}
 use Rattle.cap_vet.proofs.Trails.{falls-step, reached-step}
 
--- the paths of the first list, the last one first, in front of the second
+-- the paths of the first list, the last one first, before the second
 abbrev pub onto : List (List Step) → List (List Step) → List (List Step)
 onto [] later = later
 onto (p ∷ seen) later = onto seen (p ∷ later)
@@ -60,7 +60,7 @@ pub onto-IsOneOf : (q : List Step) (seen later : List (List Step)) → IsOneOf q
 onto-IsOneOf q [] later h = inr h
 onto-IsOneOf q (p ∷ seen) later h = search (rules, onto-IsOneOf q seen (p ∷ later) h)
 
--- a path is in the order where it was looked at, and nowhere else
+-- a path is in the order where it was looked at, and at no other place
 pub in_order-IsOneOf : (q : List Step) (seen : List (List Step)) → IsOneOf q (in_order seen) → IsOneOf q seen
 in_order-IsOneOf q seen h = elim (onto-IsOneOf q seen [] h) [ inl k ↦ k | inr k ↦ absurd k ]
 
@@ -71,7 +71,7 @@ length-onto (p ∷ seen) later = let e = length-onto seen (p ∷ later) in omega
 pub length-in_order : (seen : List (List Step)) → length (in_order seen) ≡ length seen
 length-in_order seen = let e = length-onto seen [] in omega (arith, e)
 
--- of falling paths the first comes behind the others
+-- of falling paths the first comes after the others
 pub Falls-before : (p q : List Step) (seen : List (List Step)) → Falls (p ∷ seen) → IsOneOf q seen → Before q p
 Falls-before p q [] f h = absurd h
 Falls-before p q (r ∷ seen) f (inl e) = subst (λ u. Before u p) (sym e) f.0

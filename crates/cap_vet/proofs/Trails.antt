@@ -31,7 +31,7 @@ EachApart-append base [] b ys h g k l = l
 EachApart-append base (a ∷ []) b ys h g k l = (go_on-apart base a b g.0 k, l)
 EachApart-append base (a ∷ c ∷ xs) b ys h g k l = (h.0, EachApart-append base (c ∷ xs) b ys h.1 g.1 k l)
 
--- the children of the head, and then what was ahead behind it
+-- the children of the head, and then what was ahead after it
 pub apart-step : (a : Ahead) (children ahead : List Ahead) → EachApart (a ∷ ahead) → EachApart children → GoOnFrom a.path children
     → EachApart (children ++ ahead)
 apart-step a children [] h k g = subst EachApart (sym (append-nil children)) k
@@ -58,7 +58,7 @@ pub falls-step : (a : Ahead) (seen : List (List Step)) (ahead : List Ahead) → 
 falls-step a [] ahead h k = tt
 falls-step a (p ∷ seen) ahead h k = (k, h)
 
--- What lies behind a pointer word: its children, in order, and nothing else that a path reaches.
+-- What lies after a pointer word: its children, in order, and nothing else that a path reaches.
 pub record AreChildren (m : List (List ℕ)) (base : List Step) (children : List Ahead) : Type 0 where
   pub apart : EachApart children
   pub go_on : GoOnFrom base children

@@ -16,7 +16,7 @@ use Rattle.cap_vet.proofs.Steps.{cap-counts, cap_no_object, null-counts, null_no
 use Rattle.cap_vet.proofs.Tours.{Falls-before}
 use Rattle.cap_vet.proofs.Trails.{falls-step, trail-step}
 
--- the word ahead that stands at a place
+-- the word ahead that is at a place
 pub record Next (x : PointerWord) (places : List PointerWord) (aheads : List Ahead) : Type 0 where
   pub a : Ahead
   pub ahead : List Ahead
@@ -30,7 +30,7 @@ pub next_ahead : (x : PointerWord) (places : List PointerWord) (aheads : List Ah
 next_ahead x places [] e = absurd (let h : [] ≡ x ∷ places = e in cc)
 next_ahead x places (a ∷ ahead) e = search rules
 
--- null and capabilities lead nowhere
+-- null and capabilities lead to no node
 pub null_ends : (m : List (List ℕ)) (s w k : ℕ) → Leads m s w k to_null
     → (x : Step) (v : List Step) (mid : Spot) (n s' w' : ℕ) → StepsTo m (word s w) x mid → PathLeads m mid v n (word s' w') → ⊥
 null_ends m s w k h (Ptr i) v mid n s' w' (k', t', b', q', tag, ds, ps, f', l, spot) walks = null_no_object m s w k k' t' b' q' h f'.finds
@@ -70,7 +70,7 @@ first_on m p seen (Some place) none (r, k, l, f) = (r, inr k, l, λ q s w i befo
     earlier q s w (inl e) before lead = none s w (subst (λ u. LeadsToCap m u s w) e lead)
     earlier q s w (inr i) before lead = f q s w i before lead
 
--- a capability behind all that was looked at
+-- a capability after all that was looked at
 pub first_cap : (m : List (List ℕ)) (p : List Step) (seen : List (List Step)) (first : Option (ℕ × ℕ)) (s w : ℕ)
     → Falls (p ∷ seen) → LeadsToCap m p s w → IsFirstOf m seen first → IsFirstOf m (p ∷ seen) (or_place first s w)
 first_cap m p seen None s w falls here h = (p, inl refl, here, λ q s' w' i before lead. earlier q s' w' i before lead)
@@ -140,7 +140,7 @@ levels_same : (m : List (List ℕ)) (t b q tag t' b' q' tag' : ℕ) → kind q <
     → levels_below q tag ≡ levels_below q' tag'
 levels_same m t b q tag t' b' q' tag' h et eb eq k tagged' = search (rules, one_word)
 
--- the level of an object, whichever way it is told
+-- the level of an object, whichever way it is reported
 pub deep_once : (m : List (List ℕ)) (depth s w level k t b q tag : ℕ) → Finds m s w k t b q
     → (IsComposite q → HasWord m t b tag) → level + levels_below q tag ≤ depth → ¬ IsDeepAt m depth s w level
 deep_once m k s w e g a b c d f i h j = search (rules, one_object, levels_same, lead_kind)

@@ -12,25 +12,25 @@ use Rattle.cap_vet.proofs.Pads.{pad_places}
 use Rattle.cap_vet.specs.declared.walk.looking.Looked.TheVariants as looked
 
 -- null and a capability use their pads alone
-pub looked_place : {m : List (List ℕ)} (words depth spent : ℕ) {s w : ℕ} (level : ℕ) (l : Looked) → s < length m
-    → IsLooked m words depth spent s w level l → UsesPlace m s w (place_of l)
-looked_place words depth spent level (looked.Null cost) there h = record {
+pub looked_place : {m : List (List ℕ)} (words depth consumed : ℕ) {s w : ℕ} (level : ℕ) (l : Looked) → s < length m
+    → IsLooked m words depth consumed s w level l → UsesPlace m s w (place_of l)
+looked_place words depth consumed level (looked.Null cost) there h = record {
   used = λ q has. (q, has, inl (cost, h.0, append-nil (pads_of q)));
   exists = omega (arith, there);
   inside = omega arith;
 }
-looked_place words depth spent level (looked.Cap cost) there h = record {
+looked_place words depth consumed level (looked.Cap cost) there h = record {
   used = λ q has. (q, has, inr (inl (cost, h.0.0, h.0.1, append-nil (pads_of q))));
   exists = omega (arith, there);
   inside = omega arith;
 }
-looked_place words depth spent level (looked.Object cost deep run place) there (k, t, b, q, tag, o) = rw o.own (record {
+looked_place words depth consumed level (looked.Object cost deep run place) there (k, t, b, q, tag, o) = rw o.own (record {
   used = λ p has. (p, has, inr (inr (k, t, b, q, o.finds, refl)));
   exists = o.finds.inside.exists;
   inside = o.finds.inside.inside;
 })
 
--- what uses places leads somewhere
+-- what uses places leads to some place
 pub used_leads : {m : List (List ℕ)} {s w : ℕ} {used : List (ℕ × ℕ)} → Occupies m s w used → (k : ℕ) × (r : Lead) × Leads m s w k r
 used_leads (p, has, inl (k, h, e)) = (k, to_null, h)
 used_leads (p, has, inr (inl (k, i, h, e))) = (k, to_cap i, h)

@@ -20,9 +20,9 @@ pub record Arrives (m : List (List ℕ)) (words depth : ℕ) (path : List Step) 
   pub ways : List (List Step)
   pub on_path : AreOnPath m path ways
   pub some : 0 < length ways
-  pub costs : CostOf m ways at.spent
+  pub costs : CostOf m ways at.consumed
   pub shallow : AreShallow m depth ways
-  pub within : at.spent ≤ words
+  pub within : at.consumed ≤ words
   pub pointers : at.pointers ≡ length ways
   pub levels : at.level ≤ deepest_at depth spot
   pub few : at.pointers ≤ at.level
@@ -36,7 +36,7 @@ pub record EndsEarly (m : List (List ℕ)) (words depth : ℕ) (path : List Step
   pub spot : Spot
   pub whole : path ≡ done ++ step ∷ rest
   pub arrives : Arrives m words depth done spot at
-  pub nowhere : (b : Spot) → ¬ StepsTo m spot step b
+  pub no_node : (b : Spot) → ¬ StepsTo m spot step b
 
 -- something is at the end of the path, or nothing
 abbrev pub EndsAt : List (List ℕ) → ℕ → ℕ → List Step → Arrival → Bool → Type 0

@@ -6,12 +6,12 @@ use Rattle.cap_vet.specs.Reports.{IsAccepted}
 use Rattle.cap_vet.specs.Taken.{marks_of}
 use Rattle.cap_vet.specs.declared.demands.Demands.{Demands}
 use Rattle.cap_vet.specs.declared.exclusiveness.exclusive.Exclusive.{Exclusive}
-use Rattle.cap_vet.specs.declared.exclusiveness.exclusive_room.ExclusiveFault.{ExclusiveFault}
+use Rattle.cap_vet.specs.declared.exclusiveness.exclusive_buffer.ExclusiveFault.{ExclusiveFault}
 use Rattle.cap_vet.specs.declared.exclusiveness.exclusive_vetting.ExclusiveRefusal.{ExclusiveRefusal}
 use Rattle.cap_vet.specs.declared.nodes.vetted.Vetted.{Vetted}
 use Rattle.cap_vet.specs.declared.walk.vetting.Report.{Report}
 use Rattle.cap_frame.specs.declared.segments.Segments as segments
-use Rattle.cap_vet.specs.declared.exclusiveness.exclusive_room.ExclusiveFault.TheVariants as fault
+use Rattle.cap_vet.specs.declared.exclusiveness.exclusive_buffer.ExclusiveFault.TheVariants as fault
 use Rattle.cap_vet.specs.declared.exclusiveness.exclusive_vetting.ExclusiveRefusal.TheVariants as refusal
 
 -- the accepted message
@@ -25,15 +25,17 @@ IsExclusiveRefusal demands m words depth (refusal.Overlap s w n) =
     ((report : Report) × IsMet demands m words depth report) × IsFirstOverlap m s w n
 IsExclusiveRefusal demands m words depth refusal.Memory = (report : Report) × IsMet demands m words depth report
 
--- why a message isn't found exclusive with a buffer of `room` numbers; each message that isn't has
+-- why a message isn't found exclusive with a buffer of `capacity` numbers; each message that isn't has
 -- one of these faults
 abbrev pub IsExclusiveFault : List (List ℕ) → ℕ → ℕ → ℕ → ExclusiveFault → Type 0
-IsExclusiveFault m words depth room (fault.Refused r) = IsRefused m words depth r
-IsExclusiveFault m words depth room (fault.NoRoom needed report) = IsAccepted m words depth report × (room < needed) × (needed ≡ marks_of m)
-IsExclusiveFault m words depth room (fault.Overlap s w n) = (report : Report) × IsAccepted m words depth report × (marks_of m ≤ room) × IsFirstOverlap m s w n
+IsExclusiveFault m words depth capacity (fault.Refused r) = IsRefused m words depth r
+IsExclusiveFault m words depth capacity (fault.BufferTooSmall needed report) =
+    IsAccepted m words depth report × (capacity < needed) × (needed ≡ marks_of m)
+IsExclusiveFault m words depth capacity (fault.Overlap s w n) =
+    (report : Report) × IsAccepted m words depth report × (marks_of m ≤ capacity) × IsFirstOverlap m s w n
 
 -- numbers of the buffer that aren't used stay as they were
-abbrev pub KeepsRoom : ExclusiveFault → List ℕ → List ℕ → Type 0
-KeepsRoom (fault.Refused r) old new = new ≡ old
-KeepsRoom (fault.NoRoom needed report) old new = new ≡ old
-KeepsRoom (fault.Overlap s w n) old new = ⊤
+abbrev pub KeepsUnused : ExclusiveFault → List ℕ → List ℕ → Type 0
+KeepsUnused (fault.Refused r) old new = new ≡ old
+KeepsUnused (fault.BufferTooSmall needed report) old new = new ≡ old
+KeepsUnused (fault.Overlap s w n) old new = ⊤

@@ -38,8 +38,8 @@ pub record IsFound (m : List (List ℕ)) (a : Where) (f : Found) : Type 0 where
   pub own : own_words f.kind ≤ f.place.words
 
 -- it is found in some message
-abbrev pub IsSomewhere : Found → Type 0
-IsSomewhere f = ∥ ((m : List (List ℕ)) × (a : Where) × IsMessage m × IsFound m a f) ∥₁
+abbrev pub IsAtSomePlace : Found → Type 0
+IsAtSomePlace f = ∥ ((m : List (List ℕ)) × (a : Where) × IsMessage m × IsFound m a f) ∥₁
 
 -- the answer says where a step leads from what was found
 abbrev pub StepLeads : Found → Step → Option Spot → Type 0

@@ -38,8 +38,8 @@ RunRises level depth None = ⊤
 RunRises level depth (Some f) = (level + 1 ≤ f.level) × (f.level ≤ depth + 1)
 
 -- the word at t:b takes the place of the pointer word at s:w, over k pads, if it is that of an object
-abbrev pub MayStandFor : List (List ℕ) → ℕ → ℕ → ℕ → ℕ → ℕ → Type 0
-MayStandFor m s w k t b = (q : ℕ) → HasWord m t b q → kind q < 2 → ResolvesTo m s w k t b q
+abbrev pub MayReplace : List (List ℕ) → ℕ → ℕ → ℕ → ℕ → ℕ → Type 0
+MayReplace m s w k t b = (q : ℕ) → HasWord m t b q → kind q < 2 → ResolvesTo m s w k t b q
 
 -- the word at s:w is neither null nor far nor a capability
 abbrev pub IsObjectWord : List (List ℕ) → ℕ → ℕ → Type 0
@@ -50,12 +50,12 @@ abbrev pub IsNotLax : List (List ℕ) → ℕ → ℕ → Type 0
 IsNotLax m s w = (what : Lax) → ¬ IsLaxAt m s w what
 
 -- An object is found, which keeps to the limits. Its pointer words are those of the run, and its words those of the place.
-pub record LooksObject (m : List (List ℕ)) (words depth spent s w level cost deep : ℕ) (run : Option PointerRun) (place : Place)
+pub record LooksObject (m : List (List ℕ)) (words depth consumed s w level cost deep : ℕ) (run : Option PointerRun) (place : Place)
     (k t b q tag : ℕ) : Type 0 where
   pub finds : Finds m s w k t b q
   pub tagged : HasTag m t b q tag
   pub charge : cost ≡ k + extent q + extra q tag
-  pub within : spent + cost ≤ words
+  pub within : consumed + cost ≤ words
   pub deepest : deep ≡ level + levels_below q tag
   pub shallow : deep ≤ depth
   pub places : option_spots run ≡ object_places q tag t b level
@@ -64,10 +64,10 @@ pub record LooksObject (m : List (List ℕ)) (words depth spent s w level cost d
   pub own : place ≡ record { segment = t; start = b; words = extent q }
 
 abbrev pub IsLooked : List (List ℕ) → ℕ → ℕ → ℕ → ℕ → ℕ → ℕ → Looked → Type 0
-IsLooked m words depth spent s w level (Null cost) = Leads m s w cost to_null × (spent + cost ≤ words)
-IsLooked m words depth spent s w level (Cap cost) = ((i : ℕ) × Leads m s w cost (to_cap i)) × (spent + cost ≤ words)
-IsLooked m words depth spent s w level (Object cost deep run place) =
-    (k t b q tag : ℕ) × LooksObject m words depth spent s w level cost deep run place k t b q tag
+IsLooked m words depth consumed s w level (Null cost) = Leads m s w cost to_null × (consumed + cost ≤ words)
+IsLooked m words depth consumed s w level (Cap cost) = ((i : ℕ) × Leads m s w cost (to_cap i)) × (consumed + cost ≤ words)
+IsLooked m words depth consumed s w level (Object cost deep run place) =
+    (k t b q tag : ℕ) × LooksObject m words depth consumed s w level cost deep run place k t b q tag
 
 -- the deepest level that an object of this level takes, and 0 if there is none
 abbrev pub deepest_of : ℕ → Followed → ℕ

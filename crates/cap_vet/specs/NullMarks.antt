@@ -35,7 +35,7 @@ null_no_overlap m p level s w r has (on_earlier other x b u v) = null_no_use m p
 null_marked : (m : List (List ℕ)) (seen : List (List Step)) (p : List Step) (level s w : ℕ) (starts bits : List ℕ) → Reaches m p level s w → HasWord m s w 0
     → HasMarked m seen starts bits → HasMarked m (p ∷ seen) starts bits
 null_marked m seen p level s w starts bits r has k = record {
-  room = k.room;
+  fits = k.fits;
   marked = record {
     root = k.marked.root;
     used = λ q s' w' one u. elim one [

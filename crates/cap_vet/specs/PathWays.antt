@@ -70,7 +70,7 @@ pub record LeadsToElements {M : Type 0} {g : segments.Ghosts M} (m : List (List 
   pub kind : at.found.kind ≡ Structs e.count e.data_words e.pointers
   pub segment : e.segment ≡ at.found.place.segment
   pub first : e.first ≡ at.found.place.start + 1
-  pub left : e.left ≡ start.words - at.spent
+  pub left : e.left ≡ start.words - at.consumed
   pub level : e.level ≡ at.level + 2
   pub depth : e.depth ≡ start.depth
 

@@ -31,11 +31,11 @@ pub record AreStarts (m : List (List ℕ)) (starts : List ℕ) : Type 0 where
   pub few : start_of m (length m) < 2 ^ 42
 
 -- There is a bit for each word.
-pub record HasRoom (m : List (List ℕ)) (starts bits : List ℕ) : Type 0 where
+pub record HasCapacity (m : List (List ℕ)) (starts bits : List ℕ) : Type 0 where
   pub known : AreStarts m starts
   pub enough : start_of m (length m) ≤ 64 * length bits
 
 -- There is a bit for each word. The root word and the words that these paths use are marked, and none is used twice.
 pub record HasMarked (m : List (List ℕ)) (seen : List (List Step)) (starts bits : List ℕ) : Type 0 where
-  pub room : HasRoom m starts bits
+  pub fits : HasCapacity m starts bits
   pub marked : IsMarked m seen (IsTaken m bits)

@@ -38,14 +38,14 @@ pub use Rattle.cap_vet.specs.Views.{node_message, node_spot}
 pub use Rattle.cap_vet.specs.Walking.{HasWalked, IsFirstOf, IsLookedAt, IsNext, Progress, work_left}
 pub use Rattle.cap_vet.specs.Ways.{HasFound, IsWay, SomeArrives}
 pub use Rattle.cap_vet.specs.declared.demands.Demands.{Demands}
-pub use Rattle.cap_vet.specs.declared.exclusiveness.exclusive_room.ExclusiveFault.TheVariants.{NoRoom, Overlap}
+pub use Rattle.cap_vet.specs.declared.exclusiveness.exclusive_buffer.ExclusiveFault.TheVariants.{BufferTooSmall, Overlap}
 pub use Rattle.cap_vet.specs.declared.limits.Limits.{Limits}
 pub use Rattle.cap_vet.specs.declared.nodes.charged.Arrival.{Arrival}
 pub use Rattle.cap_vet.specs.declared.nodes.found.Found.{Found}
 pub use Rattle.cap_vet.specs.declared.nodes.path_start.PathStart.{PathStart}
 pub use Rattle.cap_vet.specs.declared.nodes.view.View.{View}
 pub use Rattle.cap_vet.specs.declared.nodes.way.Way.{Way}
-pub use Rattle.cap_vet.specs.declared.nodes.way.Way.TheVariants.{Nowhere, To}
+pub use Rattle.cap_vet.specs.declared.nodes.way.Way.TheVariants.{Early, To}
 pub use Rattle.cap_vet.specs.declared.walk.vetting.Report.{Report}
 pub use Rattle.cap_vet.specs.declared.strictness.strict_turn.LaxPointer.{LaxPointer}
 pub use Rattle.cap_vet.specs.declared.walk.looking.Looked.TheVariants.{Object}

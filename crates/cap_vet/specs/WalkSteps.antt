@@ -19,10 +19,10 @@ runs_left Full items run = items ++ run ∷ []
 runs_left Done items run = []
 
 -- whether a stack of n runs may take one more, if it may have this many at most
-abbrev pub LeavesRoom : Next → ℕ → ℕ → Type 0
-LeavesRoom More n most = n < most
-LeavesRoom Full n most = n ≡ most
-LeavesRoom Done n most = ⊤
+abbrev pub LeavesCapacity : Next → ℕ → ℕ → Type 0
+LeavesCapacity More n most = n < most
+LeavesCapacity Full n most = n ≡ most
+LeavesCapacity Done n most = ⊤
 
 -- After the first word of a run the run below it is left, and then what comes after that word.
 pub record Continues (next : Next) (before : List PointerRun) (old : PointerRun)
@@ -42,6 +42,6 @@ pub record TakesTurn {S : Type 0} (m : List (List ℕ)) (limits : Limits) (most 
     (report : Report) (after : List PointerRun) (new : PointerRun) (counted : Report) (K : List (List Step) → Type 0)
     (stops : S → Type 0) (result : Result Next (Stopped S)) : Type 0 where
   pub ok : IfOk result (λ next. GoesOnWith m limits next before old report after new counted K)
-  pub room : IfOk result (λ next. LeavesRoom next (length after) most)
+  pub fits : IfOk result (λ next. LeavesCapacity next (length after) most)
   pub err : IfErr result (IsStopped m limits stops)
   pub known : IfErr result (HoldsBefore m limits K)

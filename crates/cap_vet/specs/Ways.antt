@@ -6,12 +6,12 @@ use Rattle.cap_vet.specs.Charging.{Arrives, EndsEarly}
 use Rattle.cap_vet.specs.Finding.{IsFound}
 use Rattle.cap_vet.specs.declared.nodes.charged.Arrival.{Arrival}
 use Rattle.cap_vet.specs.declared.nodes.way.Way.{Way}
-use Rattle.cap_vet.specs.declared.nodes.way.Way.TheVariants.{Nowhere, Refused, To}
+use Rattle.cap_vet.specs.declared.nodes.way.Way.TheVariants.{Early, Refused, To}
 
 -- The path arrives at something, or at nothing, or is refused.
 abbrev pub IsWay : List (List ℕ) → ℕ → ℕ → List Step → Way → Type 0
 IsWay m words depth path (To at) = (spot : Spot) × Arrives m words depth path spot at
-IsWay m words depth path (Nowhere at) = EndsEarly m words depth path at
+IsWay m words depth path (Early at) = EndsEarly m words depth path at
 IsWay m words depth path (Refused refusal) = IsRefusedOnPath m words depth path refusal
 
 -- some path leads this way

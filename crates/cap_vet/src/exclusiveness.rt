@@ -1,7 +1,7 @@
 //! Exclusive messages: those in which no two pointers use the same word.
 
 pub(crate) mod exclusive;
-pub(crate) mod exclusive_room;
+pub(crate) mod exclusive_buffer;
 pub(crate) mod exclusive_vetting;
 pub(crate) mod marks;
 pub(crate) mod overlap_turn;

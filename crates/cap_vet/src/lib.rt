@@ -15,7 +15,7 @@ pub use cap_ptr::Reason;
 pub use cap_spec::{Kind, Lax, Refusal, Step, StrictRefusal};
 pub use demands::{Demands, limits_under, vet_with};
 pub use exclusiveness::exclusive::Exclusive;
-pub use exclusiveness::exclusive_room::ExclusiveFault;
+pub use exclusiveness::exclusive_buffer::ExclusiveFault;
 pub use exclusiveness::exclusive_vetting::{ExclusiveRefusal, vet_exclusive};
 pub use exclusiveness::marks::marks_for;
 pub use limits::Limits;

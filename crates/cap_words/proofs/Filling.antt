@@ -1,4 +1,4 @@
--- A source whose words are filled into a room, some at a time.
+-- A source whose words are filled into a buffer, some at a time.
 use Rattle.std.proofs.lemmas.Grind.{flat_map-append}
 use Rattle.cap_spec.proofs.Bytes.Plain.{length_plain, plain_back, plain_short}
 use Rattle.cap_spec.proofs.ProofNames.{Bool, List, None, OnSome, Option, Some, [], ap, append-nil, arith, drop, drop-drop}
@@ -12,7 +12,7 @@ use Rattle.cap_words.proofs.Pieces.{on_some}
 use Rattle.cap_words.proofs.Turns.{filled, filled_within}
 use Rattle.cap_words.specs.declared.sources.WordSource as source
 
--- the words of whole words and of what stands behind them
+-- the words of whole words and of what is after them
 pub plain_join : (xs ys : List ℕ) → length xs % 8 ≡ 0 → plain_words (xs ++ ys) ≡ plain_words xs ++ plain_words ys
 plain_join [] ys e = refl
 plain_join (a ∷ []) ys e = absurd (omega arith)
@@ -52,7 +52,7 @@ takes_one {a} word {c} {d} {p} {q} {ps} {qs} t g = record { consumed = t; goes_o
     go None g = tt
     go (Some x) g = (g.0, sym g.1)
 
--- the input ended behind words that were taken, fewer than were wanted
+-- the input ended after words that were taken, fewer than were needed
 pub ends_both : {a b : Option (List ℕ)} {own : List ℕ} {count : ℕ} (at : ℕ) {p q : ℕ} {ps qs : List ℕ} {c d : Bool} (inside : Bool) → length own < count →
     TakesAll a b c d p q ps qs own
     → OnSome b ((b ≡ Some []) × (d ≡ inside) × (qs ≡ at ∷ [])) → EndsWithin count a c inside ps at
@@ -81,29 +81,29 @@ reads_both {a} {b} {c} s t = record {
   counted = rw (length-append s.bytes t.bytes) (omega (arith, s.counted, t.counted));
 }
 
--- a call that gave bytes at hand worked
+-- a call that gave buffered bytes worked
 pub ready_works : {A : Type 0} (n : ℕ) {was is : Bool} {before after : A} → 0 < n → (n ≡ 0) ⊎ (was ≡ false) → is ≡ was → after ≡ before →
     Works was is before after
 ready_works n some (inl none) still same = absurd (omega arith)
 ready_works n some (inr usable) still same = record { usable = usable; still = still ∙ usable; none_failed = same }
 
--- what stands before a piece of a room stays
-pub front_kept : (at k : ℕ) (room given : List ℕ) → at ≤ length room → take at (put_mid at k room given) ≡ take at room
-front_kept at k room given h =
-    ap (λ n. take n (put_mid at k room given)) {y = at + 0} (omega arith) ∙ (filled k room given h (omega arith) ∙ append-nil (take at room))
+-- what is before a piece of a buffer stays
+pub front_kept : (at k : ℕ) (buffer given : List ℕ) → at ≤ length buffer → take at (put_mid at k buffer given) ≡ take at buffer
+front_kept at k buffer given h =
+    ap (λ n. take n (put_mid at k buffer given)) {y = at + 0} (omega arith) ∙ (filled k buffer given h (omega arith) ∙ append-nil (take at buffer))
 
--- the bytes of a word, in a room that was written to before
-pub word_filled : {at : ℕ} (k l : ℕ) (room before given : List ℕ) → at ≤ length room → 8 ≤ length given
-    → take (at + 8) (put_mid at l (put_mid at k room before) given) ≡ take at room ++ take 8 given
-word_filled {at} k l room before given h long =
-    let within : at + 0 ≤ length (put_mid at k room before) = filled_within k room before h (omega arith) in
-    filled l (put_mid at k room before) given (omega arith) long ∙ ap (λ xs. xs ++ take 8 given) (front_kept at k room before h)
+-- the bytes of a word, in a buffer that was written to before
+pub word_filled : {at : ℕ} (k l : ℕ) (buffer before given : List ℕ) → at ≤ length buffer → 8 ≤ length given
+    → take (at + 8) (put_mid at l (put_mid at k buffer before) given) ≡ take at buffer ++ take 8 given
+word_filled {at} k l buffer before given h long =
+    let within : at + 0 ≤ length (put_mid at k buffer before) = filled_within k buffer before h (omega arith) in
+    filled l (put_mid at k buffer before) given (omega arith) long ∙ ap (λ xs. xs ++ take 8 given) (front_kept at k buffer before h)
 
-pub word_within : {at : ℕ} (k l : ℕ) (room before given : List ℕ) → at ≤ length room → 8 ≤ length given →
-    at + 8 ≤ length (put_mid at l (put_mid at k room before) given)
-word_within {at} k l room before given h long =
-    let within : at + 0 ≤ length (put_mid at k room before) = filled_within k room before h (omega arith) in
-    filled_within l (put_mid at k room before) given (omega arith) long
+pub word_within : {at : ℕ} (k l : ℕ) (buffer before given : List ℕ) → at ≤ length buffer → 8 ≤ length given →
+    at + 8 ≤ length (put_mid at l (put_mid at k buffer before) given)
+word_within {at} k l buffer before given h long =
+    let within : at + 0 ≤ length (put_mid at k buffer before) = filled_within k buffer before h (omega arith) in
+    filled_within l (put_mid at k buffer before) given (omega arith) long
 
 -- no bytes were appended
 pub none_appended : {items : List ℕ} {words : Option (List ℕ)} {cut : Bool} {place : ℕ} {places : List ℕ}
@@ -113,7 +113,7 @@ none_appended {items} {words} {place} {places} =
     ([], sym (append-nil items), refl, refl, record { consumed = Consumes-nil words; goes_on = on_some words _ (refl, refl) })
 
 module _ {X : Type 0} (g : source.Ghosts X) where
-  -- The words of so many bytes at the front of a room were taken.
+  -- The words of this many bytes at the start of a buffer were taken.
   pub record FilledSoFar (old now : X) (done : ℕ) (out : List ℕ) : Type 0 where
     pub whole : done % 8 ≡ 0
     pub within : done ≤ length out
@@ -122,11 +122,11 @@ module _ {X : Type 0} (g : source.Ghosts X) where
         (plain_words (take done out))
     pub reads : ReadsBytes (g.unread old) (g.unread now) (g.place old) (g.place now)
     pub none : done ≡ 0 → now ≡ old
-    pub some : 0 < done → Works (g.spent old) (g.spent now) (g.failures old) (g.failures now)
+    pub some : 0 < done → Works (g.broken old) (g.broken now) (g.failures old) (g.failures now)
     pub ended : g.ended old ≡ true → done ≡ 0
     pub failed : g.failed old ≡ true → done ≡ 0
 
-  -- What a call gave at the front of a piece: these bytes, and their words.
+  -- What a call gave at the start of a piece: these bytes, and their words.
   pub record GivesSome (now new : X) (n : ℕ) (given : List ℕ) : Type 0 where
     pub some : 0 < n
     pub within : n ≤ length given
@@ -134,14 +134,14 @@ module _ {X : Type 0} (g : source.Ghosts X) where
     pub takes : TakesAll (g.words now) (g.words new) (g.is_cut now) (g.is_cut new) (g.place now) (g.place new) (g.places now) (g.places new)
         (plain_words (take n given))
     pub reads : ReadsBytes (g.unread now) (g.unread new) (g.place now) (g.place new)
-    pub works : Works (g.spent now) (g.spent new) (g.failures now) (g.failures new)
+    pub works : Works (g.broken now) (g.broken new) (g.failures now) (g.failures new)
     pub not_ended : g.ended now ≡ true → n ≡ 0
     pub not_failed : g.failed now ≡ true → n ≡ 0
 
   -- the next word gives its eight bytes
   pub next_gives : (now new : X) (given : List ℕ) (word : ℕ) → given ≡ word_bytes word → IsWord word
       → Consumes (g.words now) (g.words new) (word ∷ []) → OnSome (g.words now) ((g.is_cut new ≡ g.is_cut now) × (g.places now ≡ g.place new ∷ g.places new))
-      → ReadsBytes (g.unread now) (g.unread new) (g.place now) (g.place new) → Works (g.spent now) (g.spent new) (g.failures now) (g.failures new)
+      → ReadsBytes (g.unread now) (g.unread new) (g.place now) (g.place new) → Works (g.broken now) (g.broken new) (g.failures now) (g.failures new)
       → (g.ended now ≡ true → ⊥) → (g.failed now ≡ true → ⊥) → GivesSome now new 8 given
   next_gives now new given word e is t p r w not_ended not_failed =
       let bytes : take 8 given ≡ word_bytes word = ap (take 8) e in
@@ -161,23 +161,23 @@ module _ {X : Type 0} (g : source.Ghosts X) where
 
   -- without a fault so far, and then
   pub works_both : (old now new : X) (done : ℕ) (out : List ℕ) → FilledSoFar old now done out →
-      Works (g.spent now) (g.spent new) (g.failures now) (g.failures new)
-      → Works (g.spent old) (g.spent new) (g.failures old) (g.failures new)
-  works_both old now new zero out f w = subst (λ (s : X). Works (g.spent s) (g.spent new) (g.failures s) (g.failures new)) (f.none refl) w
+      Works (g.broken now) (g.broken new) (g.failures now) (g.failures new)
+      → Works (g.broken old) (g.broken new) (g.failures old) (g.failures new)
+  works_both old now new zero out f w = subst (λ (s : X). Works (g.broken s) (g.broken new) (g.failures s) (g.failures new)) (f.none refl) w
   works_both old now new (suc k) out f w = let v = f.some (omega arith) in record {
     usable = v.usable;
     still = w.still;
     none_failed = w.none_failed ∙ v.none_failed;
   }
 
-  -- so many words are that
+  -- this many words are that
   pub filled_words : (old : X) {now : X} {done : ℕ} {out : List ℕ} → FilledSoFar old now done out → 8 * length (plain_words (take done out)) ≡ done
   filled_words old {done} {out} f = sym (length_plain (plain_words (take done out))) ∙ (sym (ap length f.text) ∙ length-take-le done out f.within)
 
   -- one more piece
   pub filled_more : (old now new : X) (done n : ℕ) (out longer given : List ℕ) → FilledSoFar old now done out → GivesSome now new n given
       → take (done + n) longer ≡ take done out ++ take n given → done + n ≤ length longer → FilledSoFar old new (done + n) longer
-  filled_more old now new done n out longer given f p e room =
+  filled_more old now new done n out longer given f p e buffer =
       let many = filled_words old f in
       let more : 8 * length (plain_words (take n given)) ≡ n = sym (length_plain (plain_words (take n given)))
       ∙ (sym (ap length p.text) ∙ length-take-le n given p.within) in
@@ -188,7 +188,7 @@ module _ {X : Type 0} (g : source.Ghosts X) where
       (g.places new) ws in
       record {
         whole = omega (arith, f.whole, more);
-        within = room;
+        within = buffer;
         text =
             e ∙ (ap (λ l. l ++ take n given) f.text ∙ (ap (λ l. plain_text (plain_words (take done out)) ++ l) p.text
             ∙ (sym (flat_map-append word_bytes (plain_words (take done out)) (plain_words (take n given))) ∙ ap plain_text (sym words))));

@@ -1,10 +1,10 @@
 mod Buffering
-pub mod AtHand
+pub mod Buffered
 pub mod Fields
 pub mod Filling
 pub mod Pieces
-pub mod PlainSpelling
+pub mod PlainEncoding
 pub mod Skipped
-pub mod Told
+pub mod Known
 pub mod Turns
 pub mod WholeWords

@@ -6,7 +6,7 @@ use Rattle.cap_spec.proofs.ProofNames.{◌++◌, ◌+◌, ◌<◌, ◌^◌, ◌�
 use Rattle.cap_spec.proofs.ProofNames.{IsAtEnd, AllByRecursion, capped, plain_ends, plain_is_cut, plain_text, plain_words}
 use Rattle.cap_words.specs.WordNames.{bytes_left, TakesAll, Phase, Open}
 use Rattle.cap_words.specs.TakingMany.{EndsWithin}
-use Rattle.cap_words.proofs.AtHand.{taken}
+use Rattle.cap_words.proofs.Buffered.{taken}
 
 -- how plain text ends, by its length
 pub record PlainEnd (at : ℕ) (bytes : List ℕ) : Type 0 where
@@ -33,7 +33,7 @@ plain_end at (a ∷ b ∷ c ∷ d ∷ e ∷ f ∷ g ∷ h ∷ rest) low =
       last = t.last ∙ ap (λ n. n ∷ []) (omega arith);
     }
 
--- the input ended behind these bytes, by a source that is open
+-- the input ended after these bytes, by a source that is open
 pub ends_within : {phase : Phase} (a b : Option (List ℕ)) (bytes : List ℕ) (count : ℕ) {at next : ℕ} {inside : Bool} → phase ≡ Open → at < 2 ^ 64 →
     length bytes < 8 * count → next ≡ capped (at + length bytes)
     → plain_is_cut bytes ≡ inside → Consumes a b bytes → IsAtEnd b

@@ -1,4 +1,4 @@
--- What is left of the bytes in a buffer behind some that were skipped.
+-- What is left of the bytes in a buffer after some that were skipped.
 use Rattle.std.proofs.Common.{List, None, Option, Some, ap, append_assoc, arith, drop, drop-drop, length, length-take}
 use Rattle.std.proofs.Common.{min, slice_range, sym, take, take-append-drop, ℕ, ◌++◌, ◌+◌, ◌-◌, ◌∙◌, ◌≡◌}
 use Rattle.std.proofs.lemmas.List.{drop-take, drop_min}

@@ -5,18 +5,18 @@ use Rattle.cap_spec.proofs.ProofNames.{◌∙◌, ◌≡◌, ◌≤◌, Appends-
 use Rattle.cap_spec.proofs.ProofNames.{take_rest, Appends, Consumes, post_of, put_mid}
 use Rattle.cap_words.specs.Ends.{Works}
 
--- so many bytes were moved: with none of them the end is as it was, with some it worked
-pub record Moved {E A : Type 0} (spent : E → Bool) (failures : E → A) (moved : ℕ) (old new : E) : Type 0 where
+-- this many bytes were moved: with none of them the end is as it was, with some it worked
+pub record Moved {E A : Type 0} (broken : E → Bool) (failures : E → A) (moved : ℕ) (old new : E) : Type 0 where
   pub none : moved ≡ 0 → new ≡ old
-  pub some : 0 < moved → Works (spent old) (spent new) (failures old) (failures new)
+  pub some : 0 < moved → Works (broken old) (broken new) (failures old) (failures new)
 
 -- a turn that works moves some more
-pub moved_more : {E A : Type 0} (spent : E → Bool) (failures : E → A) (m n : ℕ) (old mid new : E)
-    → Moved spent failures m old mid → 0 < n → Works (spent mid) (spent new) (failures mid) (failures new) → Moved spent failures (m + n) old new
-moved_more spent failures zero n old mid new before some works =
-    let P = λ (e : _). Works (spent e) (spent new) (failures e) (failures new) in
+pub moved_more : {E A : Type 0} (broken : E → Bool) (failures : E → A) (m n : ℕ) (old mid new : E)
+    → Moved broken failures m old mid → 0 < n → Works (broken mid) (broken new) (failures mid) (failures new) → Moved broken failures (m + n) old new
+moved_more broken failures zero n old mid new before some works =
+    let P = λ (e : _). Works (broken e) (broken new) (failures e) (failures new) in
     record { none = λ none. absurd (omega arith); some = λ _. subst P (before.none refl) works }
-moved_more spent failures (suc m) n old mid new before some works =
+moved_more broken failures (suc m) n old mid new before some works =
     let was = before.some (omega arith) in
     record {
       none = λ none. absurd (omega arith);

@@ -5,7 +5,7 @@ use Rattle.cap_spec.proofs.ProofNames.{List, Option, ap, arith, drop, length, le
 use Rattle.cap_spec.proofs.ProofNames.{◌*◌, ◌++◌, ◌+◌, ◌/◌, ◌<◌, ◌∙◌, ◌≡◌, append_known-moved, take-append-le, Appends}
 use Rattle.cap_spec.proofs.ProofNames.{Keeps, append_known, AllByRecursion, plain_text, plain_words, word_bytes}
 use Rattle.cap_words.specs.Sinks.{Begins}
-use Rattle.cap_words.proofs.PlainSpelling.{part_begins}
+use Rattle.cap_words.proofs.PlainEncoding.{part_begins}
 
 -- the front of bytes that holds their whole words is the text of these
 pub whole_text : (bytes : List ℕ) → AllByRecursion (λ b. b < 256) bytes → take (length bytes / 8 * 8) bytes ≡ plain_text (plain_words bytes)

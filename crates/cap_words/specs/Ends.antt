@@ -14,8 +14,8 @@ pub record Fails (was : Bool) (before after : ℕ) : Type 0 where
   pub failed : after ≡ before + 1
 
 -- an error had closed the end before
-pub record WasSpent {A : Type 0} (was is : Bool) (before after : A) : Type 0 where
-  pub spent : was ≡ true
+pub record WasBroken {A : Type 0} (was is : Bool) (before after : A) : Type 0 where
+  pub broken : was ≡ true
   pub still : is ≡ true
   pub none_failed : after ≡ before
 
@@ -31,7 +31,7 @@ pub record DeviceFails (was : Bool) (before after : Failures) : Type 0 where
   pub memory : after.memory ≡ before.memory
 
 -- an allocation failed
-pub record GrowthFails (was : Bool) (before after : Failures) : Type 0 where
+pub record AllocationFails (was : Bool) (before after : Failures) : Type 0 where
   pub usable : was ≡ false
   pub device : after.device ≡ before.device
   pub failed : after.memory ≡ before.memory + 1
@@ -39,17 +39,17 @@ pub record GrowthFails (was : Bool) (before after : Failures) : Type 0 where
 -- The same by the members of an end, and its states before and after the call.
 
 abbrev pub NoFault : {S A : Type 0} → (S → Bool) → (S → A) → S → S → Type 0
-NoFault spent failures old new = Works (spent old) (spent new) (failures old) (failures new)
+NoFault broken failures old new = Works (broken old) (broken new) (failures old) (failures new)
 
 -- a failure of its device closes an input
 abbrev pub InputFails : {S : Type 0} → (S → Bool) → (S → ℕ) → S → S → Type 0
-InputFails spent failures old new = Fails (spent old) (failures old) (failures new) × (spent new ≡ true)
+InputFails broken failures old new = Fails (broken old) (failures old) (failures new) × (broken new ≡ true)
 
 abbrev pub OutputFails : {S : Type 0} → (S → Bool) → (S → Failures) → S → S → Type 0
-OutputFails spent failures old new = DeviceFails (spent old) (failures old) (failures new)
+OutputFails broken failures old new = DeviceFails (broken old) (failures old) (failures new)
 
 abbrev pub MemoryFails : {S : Type 0} → (S → Bool) → (S → Failures) → S → S → Type 0
-MemoryFails spent failures old new = GrowthFails (spent old) (failures old) (failures new)
+MemoryFails broken failures old new = AllocationFails (broken old) (failures old) (failures new)
 
 abbrev pub WasClosed : {S A : Type 0} → (S → Bool) → (S → A) → S → S → Type 0
-WasClosed spent failures old new = WasSpent (spent old) (spent new) (failures old) (failures new)
+WasClosed broken failures old new = WasBroken (broken old) (broken new) (failures old) (failures new)

@@ -7,7 +7,7 @@ use Rattle.std.specs.Prelude.{refl, true, ℕ, ◌&&◌, ◌<◌, ◌∷◌, ◌
 use Rattle.cap_spec.specs.SpecNames.{plain_words, IsWord}
 use Rattle.cap_spec.proofs.Bytes.Plain.{plain_split}
 use Rattle.cap_words.specs.PlainSource.{bytes_left}
-use Rattle.cap_words.specs.Told.{are_bytes, told_bytes}
+use Rattle.cap_words.specs.Known.{are_bytes, known_bytes}
 use Rattle.cap_words.specs.declared.ends.Phase.{Phase}
 use Rattle.cap_words.specs.declared.ends.Phase.TheVariants.{Ended, Failed, Open}
 
@@ -27,11 +27,11 @@ passed_bytes bytes true e = each_byte bytes e
 passed_bytes bytes false e = tt
 
 -- the numbers that a reader is known to give are bytes
-pub told_are_bytes : (known : Option (List ℕ)) → IfSome (told_bytes known) (AllByRecursion (λ b. b < 256))
-told_are_bytes None = tt
-told_are_bytes (Some bytes) = passed_bytes bytes (are_bytes bytes) refl
+pub known_are_bytes : (known : Option (List ℕ)) → IfSome (known_bytes known) (AllByRecursion (λ b. b < 256))
+known_are_bytes None = tt
+known_are_bytes (Some bytes) = passed_bytes bytes (are_bytes bytes) refl
 
--- bytes that are known spell words
+-- bytes that are known encode words
 pub known_are_words : (phase : Phase) (known : Option (List ℕ)) → IfSome known (AllByRecursion (λ b. b < 256))
     → IfSome (option_map plain_words (bytes_left phase known)) (AllByRecursion IsWord)
 known_are_words Open None all = tt

@@ -6,6 +6,6 @@ pub mod Phases
 pub mod PlainSource
 pub mod Sinks
 pub mod TakingMany
-pub mod Told
+pub mod Known
 pub mod Vectors
 pub mod WordNames

@@ -20,10 +20,10 @@ has_failed Ended = false
 has_failed Failed = true
 
 -- whether an error has closed it, by its own phase and by whether one has closed its input
-abbrev pub source_spent : Phase → Bool → Bool
-source_spent Open input = input
-source_spent Ended input = false
-source_spent Failed input = true
+abbrev pub source_broken : Phase → Bool → Bool
+source_broken Open input = input
+source_broken Ended input = false
+source_broken Failed input = true
 
 -- an input's fault as its source returns it
 abbrev pub source_fault_of : InFault → SourceFault

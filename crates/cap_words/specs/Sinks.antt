@@ -5,7 +5,7 @@ use Rattle.cap_words.specs.declared.ends.OutFault.{OutFault}
 use Rattle.cap_words.specs.declared.ends.OutFault.TheVariants.{Device, Memory, Spent}
 use Rattle.cap_words.specs.declared.sinks.SinkFault.{SinkFault}
 use Rattle.cap_words.specs.declared.sinks.SinkFault.TheVariants.{Device as of_device, Memory as of_memory}
-use Rattle.cap_words.specs.declared.sinks.SinkFault.TheVariants.{Spent as was_spent}
+use Rattle.cap_words.specs.declared.sinks.SinkFault.TheVariants.{Spent as was_broken}
 
 -- a known text begins with the known bytes
 abbrev pub Begins : Option (List ℕ) → Option (List ℕ) → Type 0
@@ -19,8 +19,8 @@ WasPut text old new xs = (ws : List ℕ) → Keeps (text old (xs ++ ws)) (text n
 
 -- it was open, stays open, and nothing failed
 abbrev pub StaysOpen : {K A : Type 0} → (K → Bool) → (K → Bool) → (K → A) → K → K → Type 0
-StaysOpen closed spent failures old new =
-    (closed old ≡ false) × (closed new ≡ false) × (spent new ≡ spent old) × (failures new ≡ failures old)
+StaysOpen closed broken failures old new =
+    (closed old ≡ false) × (closed new ≡ false) × (broken new ≡ broken old) × (failures new ≡ failures old)
 
 -- a fault came while these words were put: what was taken begins each text that goes on after them
 abbrev pub StoppedPutting : {K : Type 0} → (K → List ℕ → Option (List ℕ)) → (K → Option (List ℕ)) → K → K → List ℕ → Type 0
@@ -39,4 +39,4 @@ begins_appended (Some bytes) more = (more, refl)
 abbrev pub sink_fault_of : OutFault → SinkFault
 sink_fault_of Device = of_device
 sink_fault_of Memory = of_memory
-sink_fault_of Spent = was_spent
+sink_fault_of Spent = was_broken

@@ -12,9 +12,9 @@ abbrev pub vec_failures : VecOut → Failures
 vec_failures output = record { device = 0; memory = output.refused }
 
 -- its count of failed allocations can't go up any more
-abbrev pub vec_spent : VecOut → Bool
-vec_spent output = output.refused == 2 ^ 64 - 1
+abbrev pub vec_broken : VecOut → Bool
+vec_broken output = output.refused == 2 ^ 64 - 1
 
 -- how many bytes it takes before it has to grow
-abbrev pub vec_room : VecOut → ℕ
-vec_room output = vec_capacity output.bytes - vec_len output.bytes
+abbrev pub vec_spare : VecOut → ℕ
+vec_spare output = vec_capacity output.bytes - vec_len output.bytes

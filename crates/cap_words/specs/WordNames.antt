@@ -1,5 +1,5 @@
 -- Names of specs that several files cite, passed on from one place. Declares nothing.
-pub use Rattle.cap_words.specs.Ends.{DeviceFails, Failures, GrowthFails, WasSpent}
+pub use Rattle.cap_words.specs.Ends.{DeviceFails, Failures, AllocationFails, WasBroken}
 pub use Rattle.cap_words.specs.PlainSource.{bytes_left}
 pub use Rattle.cap_words.specs.Sinks.{Begins, StoppedPutting, WasPut}
 pub use Rattle.cap_words.specs.TakingMany.{TakesAll}

@@ -1,7 +1,7 @@
 //! An input over std's readers, with a buffer.
 
-ghost use Rattle.cap_words.specs.Laws.{told_are_bytes};
-ghost use Rattle.cap_words.specs.Told.{told_bytes};
+ghost use Rattle.cap_words.specs.Laws.{known_are_bytes};
+ghost use Rattle.cap_words.specs.Known.{known_bytes};
 ghost use Rattle.std.specs.Io.KnownBytes.{IsAtEnd, Keeps, ReadConsumes, prepend_known};
 ghost use Rattle.std.specs.Prelude.{◌<◌, ◌≡◌, ◌≤◌, [], IfOk, IsErrOf, OnOk, false, if◌then◌else◌, length, slice_range, take, true, vec_len};
 
@@ -26,7 +26,7 @@ pub struct BufferedIn<R: Read> {
     start: usize,
     end: usize,
     failed: bool,
-    ghost room: { 0 < vec_len buffer },
+    ghost fits: { 0 < vec_len buffer },
     ghost ordered: { start ≤ end },
     ghost inside: { end ≤ vec_len buffer },
     ghost none_held: { failed ≡ true → start ≡ end },
@@ -44,11 +44,11 @@ impl<R: Read> BufferedIn<R> {
     where
         R: Drop,
         ensures to_come { IfOk result (λ s.
-            ⟦<BufferedIn<R> as ByteIn>⟧.to_come s ≡ told_bytes (R.remaining reader)) }
-        ensures spent { IfOk result (λ s. ⟦<BufferedIn<R> as ByteIn>⟧.spent s ≡ false) }
+            ⟦<BufferedIn<R> as ByteIn>⟧.to_come s ≡ known_bytes (R.remaining reader)) }
+        ensures broken { IfOk result (λ s. ⟦<BufferedIn<R> as ByteIn>⟧.broken s ≡ false) }
         ensures fails_once { (s : BufferedIn R R.Read) →
             ⟦<BufferedIn<R> as ByteIn>⟧.failures s
-            ≡ (if ⟦<BufferedIn<R> as ByteIn>⟧.spent s then 1 else 0) }
+            ≡ (if ⟦<BufferedIn<R> as ByteIn>⟧.broken s then 1 else 0) }
     {
         let mut buffer = Vec::with_capacity(alloc, BUFFER)?;
         buffer.resize(BUFFER, 0)?;
@@ -67,14 +67,14 @@ impl<R: Read> BufferedIn<R> {
     fn refill(&mut self) -> Result<(), InFault>
         requires { self.old.start ≡ self.old.end }
         ensures bytes { Keeps
-            (prepend_known (⟦<BufferedIn<R> as ByteIn>⟧.at_hand self.old) (R.remaining self.old.reader))
-            (prepend_known (⟦<BufferedIn<R> as ByteIn>⟧.at_hand self.new) (R.remaining self.new.reader)) }
+            (prepend_known (⟦<BufferedIn<R> as ByteIn>⟧.buffered self.old) (R.remaining self.old.reader))
+            (prepend_known (⟦<BufferedIn<R> as ByteIn>⟧.buffered self.new) (R.remaining self.new.reader)) }
         ensures end { OnOk result (self.new.start ≡ self.new.end →
             IsAtEnd (R.remaining self.new.reader)) }
         ensures ok { OnOk result ((self.old.failed ≡ false) × (self.new.failed ≡ false)) }
         ensures device { IsErrOf result InFault.Device →
             (self.old.failed ≡ false) × (self.new.failed ≡ true) }
-        ensures was_spent { IsErrOf result InFault.Spent →
+        ensures was_broken { IsErrOf result InFault.Spent →
             (self.old.failed ≡ true) × (self.new ≡ self.old) }
     {
         if self.failed {
@@ -106,7 +106,7 @@ impl<R: Read> BufferedIn<R> {
         ensures ok { OnOk result ((self.old.failed ≡ false) × (self.new.failed ≡ false)) }
         ensures device { IsErrOf result InFault.Device →
             (self.old.failed ≡ false) × (self.new.failed ≡ true) }
-        ensures was_spent { IsErrOf result InFault.Spent →
+        ensures was_broken { IsErrOf result InFault.Spent →
             (self.old.failed ≡ true) × (self.new ≡ self.old) }
     {
         if self.failed {
@@ -119,13 +119,13 @@ impl<R: Read> BufferedIn<R> {
 }
 
 impl<R: Read> ByteIn for BufferedIn<R> {
-    ghost to_come = { λ s. told_bytes (prepend_known (slice_range s.buffer.items s.start s.end) (R.remaining s.reader)) };
+    ghost to_come = { λ s. known_bytes (prepend_known (slice_range s.buffer.items s.start s.end) (R.remaining s.reader)) };
 
     ghost failures = { λ s. if s.failed then 1 else 0 };
 
-    ghost spent = { λ s. s.failed };
+    ghost broken = { λ s. s.failed };
 
-    ghost at_hand = { λ s. slice_range s.buffer.items s.start s.end };
+    ghost buffered = { λ s. slice_range s.buffer.items s.start s.end };
 
     #[inline(always)]
     fn held(&self) -> &[u8] {
@@ -158,7 +158,7 @@ impl<R: Read> ByteIn for BufferedIn<R> {
         Ok(count)
     }
 
-    ghost are_bytes = { λ s. told_are_bytes (prepend_known (slice_range s.buffer.items s.start s.end) (R.remaining s.reader)) };
+    ghost are_bytes = { λ s. known_are_bytes (prepend_known (slice_range s.buffer.items s.start s.end) (R.remaining s.reader)) };
 }
 
 // Copies as many bytes as there are and as `to` has space for. A copy that fills `to` is a case of
@@ -166,14 +166,14 @@ impl<R: Read> ByteIn for BufferedIn<R> {
 #[inline(always)]
 fn copy_front(from: &[u8], to: &mut [u8]) -> usize
     ensures within { result ≤ length from.now }
-    ensures room { result ≤ length to.new }
+    ensures fits { result ≤ length to.new }
     ensures copied { take result to.new ≡ take result from.now }
     ensures some { 0 < length from.now → 0 < length to.old → 0 < result }
 {
-    let room = to.len();
-    if room <= from.len() {
-        to.copy_from_slice(&from[..room]);
-        room
+    let capacity = to.len();
+    if capacity <= from.len() {
+        to.copy_from_slice(&from[..capacity]);
+        capacity
     } else {
         to[..from.len()].copy_from_slice(from);
         from.len()

@@ -34,26 +34,26 @@ pub trait ByteIn {
     ghost failures: { Self → ℕ };
 
     // An earlier fault has ended it.
-    ghost spent: { Self → Bool };
+    ghost broken: { Self → Bool };
 
     // The bytes that can be taken without a call of the device.
-    ghost at_hand: { Self → List ℕ };
+    ghost buffered: { Self → List ℕ };
 
     /// The buffered bytes, which are the first of those to come. They can be taken without a call
     /// of the device. An input that an error has closed has none. An input that holds nothing back
     /// always has none.
     fn held(&self) -> &[u8]
-        ensures held { result.now ≡ at_hand self.now }
+        ensures held { result.now ≡ buffered self.now }
         ensures known { IfSome (to_come self.now) (λ xs. (rest : List ℕ) × (xs ≡ result.now ++ rest)) }
-        ensures usable { 0 < length result.now → spent self.now ≡ false };
+        ensures usable { 0 < length result.now → broken self.now ≡ false };
 
     /// Takes the first `count` of the buffered bytes, or all of them if there are fewer. Nothing
     /// else happens: if there are none to take, the input stays as it is.
     fn skip(&mut self, count: usize)
-        ensures idle { take count (at_hand self.old) ≡ [] → self.new ≡ self.old }
-        ensures bytes { Consumes (to_come self.old) (to_come self.new) (take count (at_hand self.old)) }
-        ensures left { at_hand self.new ≡ drop count (at_hand self.old) }
-        ensures spent { spent self.new ≡ spent self.old }
+        ensures idle { take count (buffered self.old) ≡ [] → self.new ≡ self.old }
+        ensures bytes { Consumes (to_come self.old) (to_come self.new) (take count (buffered self.old)) }
+        ensures left { buffered self.new ≡ drop count (buffered self.old) }
+        ensures broken { broken self.new ≡ broken self.old }
         ensures failures { failures self.new ≡ failures self.old };
 
     /// The next bytes, at most as many as `buf` has. With an empty `buf` the result is always 0,
@@ -69,11 +69,11 @@ pub trait ByteIn {
     fn read(&mut self, buf: &mut [u8]) -> Result<usize, InFault>
         ensures within { IfOk result (λ n. n ≤ length buf.new) }
         ensures bytes { ReadConsumes (to_come self.old) (to_come self.new) result buf.new }
-        ensures no_room { buf.old ≡ [] → (result ≡ Ok 0) × (self.new ≡ self.old) }
-        ensures for_good { spent self.old ≡ true → self.new ≡ self.old }
-        ensures ok { 0 < length buf.old → OnOk result (NoFault spent failures self.old self.new) }
-        ensures device { IsErrOf result InFault.Device → InputFails spent failures self.old self.new }
-        ensures was_spent { IsErrOf result InFault.Spent → WasClosed spent failures self.old self.new };
+        ensures too_small { buf.old ≡ [] → (result ≡ Ok 0) × (self.new ≡ self.old) }
+        ensures for_good { broken self.old ≡ true → self.new ≡ self.old }
+        ensures ok { 0 < length buf.old → OnOk result (NoFault broken failures self.old self.new) }
+        ensures device { IsErrOf result InFault.Device → InputFails broken failures self.old self.new }
+        ensures was_broken { IsErrOf result InFault.Spent → WasClosed broken failures self.old self.new };
 
     // What is known to come are bytes.
     ghost are_bytes: { (s : Self) → IfSome (to_come s) (AllByRecursion (λ b. b < 256)) };
@@ -88,7 +88,7 @@ pub trait ByteOut {
     ghost failures: { Self → Failures };
 
     // An earlier fault has ended it.
-    ghost spent: { Self → Bool };
+    ghost broken: { Self → Bool };
 
     /// Takes a beginning of the bytes, at least one of them if there is one, and returns how many.
     /// With no bytes nothing happens.
@@ -105,13 +105,13 @@ pub trait ByteOut {
         ensures within { IfOk result (λ n. n ≤ length buf.now) }
         ensures bytes { WriteAppends (written self.old) (written self.new) result buf.now }
         ensures no_bytes { buf.now ≡ [] → (result ≡ Ok 0) × (self.new ≡ self.old) }
-        ensures for_good { spent self.old ≡ true → self.new ≡ self.old }
+        ensures for_good { broken self.old ≡ true → self.new ≡ self.old }
         ensures some { 0 < length buf.now → IfOk result (λ n. 0 < n) }
-        ensures ok { 0 < length buf.now → OnOk result (NoFault spent failures self.old self.new) }
+        ensures ok { 0 < length buf.now → OnOk result (NoFault broken failures self.old self.new) }
         ensures device { IsErrOf result OutFault.Device →
-            OutputFails spent failures self.old self.new × (spent self.new ≡ true) }
-        ensures memory { IsErrOf result OutFault.Memory → MemoryFails spent failures self.old self.new }
-        ensures was_spent { IsErrOf result OutFault.Spent → WasClosed spent failures self.old self.new };
+            OutputFails broken failures self.old self.new × (broken self.new ≡ true) }
+        ensures memory { IsErrOf result OutFault.Memory → MemoryFails broken failures self.old self.new }
+        ensures was_broken { IsErrOf result OutFault.Spent → WasClosed broken failures self.old self.new };
 
     /// Flushes what was written, if the output or its device holds some of it back. No byte is
     /// added or lost. An output that holds nothing back returns `Ok` even after `Device`.
@@ -124,13 +124,13 @@ pub trait ByteOut {
     /// - [`OutFault::Spent`]: an earlier error has closed the output.
     fn flush(&mut self) -> Result<(), OutFault>
         ensures bytes { Keeps (written self.old) (written self.new) }
-        ensures for_good { spent self.old ≡ true → self.new ≡ self.old }
-        ensures ok { OnOk result ((spent self.new ≡ spent self.old)
+        ensures for_good { broken self.old ≡ true → self.new ≡ self.old }
+        ensures ok { OnOk result ((broken self.new ≡ broken self.old)
             × (failures self.new ≡ failures self.old)) }
         ensures device { IsErrOf result OutFault.Device →
-            OutputFails spent failures self.old self.new × (spent self.new ≡ true) }
-        ensures memory { IsErrOf result OutFault.Memory → MemoryFails spent failures self.old self.new }
-        ensures was_spent { IsErrOf result OutFault.Spent → WasClosed spent failures self.old self.new }
+            OutputFails broken failures self.old self.new × (broken self.new ≡ true) }
+        ensures memory { IsErrOf result OutFault.Memory → MemoryFails broken failures self.old self.new }
+        ensures was_broken { IsErrOf result OutFault.Spent → WasClosed broken failures self.old self.new }
     {
         Ok(())
     }

@@ -1,8 +1,8 @@
 //! An input over std's readers.
 
-ghost use Rattle.cap_words.specs.Laws.{told_are_bytes};
+ghost use Rattle.cap_words.specs.Laws.{known_are_bytes};
 ghost use Rattle.cap_words.specs.Inner.{reader_of};
-ghost use Rattle.cap_words.specs.Told.{told_bytes};
+ghost use Rattle.cap_words.specs.Known.{known_bytes};
 ghost use Rattle.cap_words.specs.declared.from_read.FromRead.{FromRead};
 ghost use Rattle.std.specs.Prelude.{◌≡◌, [], false, if◌then◌else◌};
 
@@ -21,13 +21,13 @@ impl<R: Read> FromRead<R> {
     /// An input with all that `reader` has still to come.
     pub fn new(reader: R) -> FromRead<R>
         ensures reader { reader_of result ≡ reader }
-        ensures to_come { ⟦<FromRead<R> as ByteIn>⟧.to_come result ≡ told_bytes (R.remaining reader) }
-        ensures spent { ⟦<FromRead<R> as ByteIn>⟧.spent result ≡ false }
+        ensures to_come { ⟦<FromRead<R> as ByteIn>⟧.to_come result ≡ known_bytes (R.remaining reader) }
+        ensures broken { ⟦<FromRead<R> as ByteIn>⟧.broken result ≡ false }
         ensures shows_to_come { (s : FromRead R) →
-            ⟦<FromRead<R> as ByteIn>⟧.to_come s ≡ told_bytes (R.remaining (reader_of s)) }
+            ⟦<FromRead<R> as ByteIn>⟧.to_come s ≡ known_bytes (R.remaining (reader_of s)) }
         ensures fails_once { (s : FromRead R) →
             ⟦<FromRead<R> as ByteIn>⟧.failures s
-            ≡ (if ⟦<FromRead<R> as ByteIn>⟧.spent s then 1 else 0) }
+            ≡ (if ⟦<FromRead<R> as ByteIn>⟧.broken s then 1 else 0) }
     {
         FromRead {
             reader,
@@ -44,13 +44,13 @@ impl<R: Read> FromRead<R> {
 }
 
 impl<R: Read> ByteIn for FromRead<R> {
-    ghost to_come = { λ s. told_bytes (R.remaining s.reader) };
+    ghost to_come = { λ s. known_bytes (R.remaining s.reader) };
 
     ghost failures = { λ s. if s.failed then 1 else 0 };
 
-    ghost spent = { λ s. s.failed };
+    ghost broken = { λ s. s.failed };
 
-    ghost at_hand = { λ _. [] };
+    ghost buffered = { λ _. [] };
 
     fn held(&self) -> &[u8] {
         &[]
@@ -74,5 +74,5 @@ impl<R: Read> ByteIn for FromRead<R> {
         }
     }
 
-    ghost are_bytes = { λ s. told_are_bytes (R.remaining s.reader) };
+    ghost are_bytes = { λ s. known_are_bytes (R.remaining s.reader) };
 }

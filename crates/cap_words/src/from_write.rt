@@ -21,13 +21,13 @@ impl<W: Write> FromWrite<W> {
     pub fn new(writer: W) -> FromWrite<W>
         ensures writer { writer_of result ≡ writer }
         ensures written { ⟦<FromWrite<W> as ByteOut>⟧.written result ≡ W.contents writer }
-        ensures spent { ⟦<FromWrite<W> as ByteOut>⟧.spent result ≡ false }
+        ensures broken { ⟦<FromWrite<W> as ByteOut>⟧.broken result ≡ false }
         ensures shows_written { (s : FromWrite W) →
             ⟦<FromWrite<W> as ByteOut>⟧.written s ≡ W.contents (writer_of s) }
         ensures fails_once { (s : FromWrite W) →
             (⟦<FromWrite<W> as ByteOut>⟧.failures s).device
-            ≡ (if ⟦<FromWrite<W> as ByteOut>⟧.spent s then 1 else 0) }
-        ensures no_growths { (s : FromWrite W) → (⟦<FromWrite<W> as ByteOut>⟧.failures s).memory ≡ 0 }
+            ≡ (if ⟦<FromWrite<W> as ByteOut>⟧.broken s then 1 else 0) }
+        ensures no_allocations { (s : FromWrite W) → (⟦<FromWrite<W> as ByteOut>⟧.failures s).memory ≡ 0 }
     {
         FromWrite {
             writer,
@@ -37,7 +37,7 @@ impl<W: Write> FromWrite<W> {
 
     /// Whether the writer has failed, so that it isn't called any more.
     pub fn has_failed(&self) -> bool
-        ensures { result ≡ ⟦<FromWrite<W> as ByteOut>⟧.spent self.now }
+        ensures { result ≡ ⟦<FromWrite<W> as ByteOut>⟧.broken self.now }
     {
         self.failed
     }
@@ -55,7 +55,7 @@ impl<W: Write> ByteOut for FromWrite<W> {
 
     ghost failures = { λ s. record { device = if s.failed then 1 else 0; memory = 0 } };
 
-    ghost spent = { λ s. s.failed };
+    ghost broken = { λ s. s.failed };
 
     fn write(&mut self, buf: &[u8]) -> Result<usize, OutFault> {
         if buf.is_empty() {

@@ -27,14 +27,14 @@ impl<O: ByteOut> PlainSink<O> {
         ensures taken { ⟦<PlainSink<O> as WordSink>⟧.taken result ≡ O.written output }
         ensures closed { ⟦<PlainSink<O> as WordSink>⟧.closed result ≡ false }
         ensures failures { ⟦<PlainSink<O> as WordSink>⟧.failures result ≡ O.failures output }
-        ensures spent { ⟦<PlainSink<O> as WordSink>⟧.spent result ≡ O.spent output }
+        ensures broken { ⟦<PlainSink<O> as WordSink>⟧.broken result ≡ O.broken output }
         ensures holds_nothing { (s : PlainSink O) (ws : List ℕ) → ⟦<PlainSink<O> as WordSink>⟧.text s ws
             ≡ append_known (⟦<PlainSink<O> as WordSink>⟧.taken s) (plain_text ws) }
         ensures shows_taken { (s : PlainSink O) →
             ⟦<PlainSink<O> as WordSink>⟧.taken s ≡ O.written (output_of s) }
-        ensures when_spent { (s : PlainSink O) →
-            ⟦<PlainSink<O> as WordSink>⟧.spent s
-            ≡ (⟦<PlainSink<O> as WordSink>⟧.closed s || O.spent (output_of s)) }
+        ensures when_broken { (s : PlainSink O) →
+            ⟦<PlainSink<O> as WordSink>⟧.broken s
+            ≡ (⟦<PlainSink<O> as WordSink>⟧.closed s || O.broken (output_of s)) }
         ensures shows_failures { (s : PlainSink O) →
             ⟦<PlainSink<O> as WordSink>⟧.failures s ≡ O.failures (output_of s) }
     {
@@ -61,7 +61,7 @@ impl<O: ByteOut> WordSink for PlainSink<O> {
 
     ghost closed = { λ s. s.closed };
 
-    ghost spent = { λ s. s.closed || O.spent s.output };
+    ghost broken = { λ s. s.closed || O.broken s.output };
 
     fn put(&mut self, word: u64) -> Result<(), SinkFault> {
         if self.closed {

@@ -3,7 +3,7 @@
 ghost use Rattle.cap_spec.specs.Plain.{plain_ends, plain_is_cut, plain_words};
 ghost use Rattle.cap_words.specs.Inner.{input_of};
 ghost use Rattle.cap_words.specs.Laws.{known_are_words};
-ghost use Rattle.cap_words.specs.Phases.{has_ended, has_failed, source_spent};
+ghost use Rattle.cap_words.specs.Phases.{has_ended, has_failed, source_broken};
 ghost use Rattle.cap_words.specs.PlainSource.{bytes_left};
 ghost use Rattle.cap_words.specs.declared.plain_words.PlainWords.{PlainWords};
 ghost use Rattle.std.specs.List.{AllByRecursion};
@@ -23,7 +23,7 @@ pub struct PlainWords<I: ByteIn> {
 }
 
 impl<I: ByteIn> PlainWords<I> {
-    /// The words that the bytes of `input` spell.
+    /// The words that the bytes of `input` encode.
     pub fn new(input: I) -> PlainWords<I>
         ensures input { input_of result ≡ input }
         ensures words { ⟦<PlainWords<I> as WordSource>⟧.words result
@@ -37,11 +37,11 @@ impl<I: ByteIn> PlainWords<I> {
         ensures ended { ⟦<PlainWords<I> as WordSource>⟧.ended result ≡ false }
         ensures failed { ⟦<PlainWords<I> as WordSource>⟧.failed result ≡ false }
         ensures failures { ⟦<PlainWords<I> as WordSource>⟧.failures result ≡ I.failures input }
-        ensures spent { ⟦<PlainWords<I> as WordSource>⟧.spent result ≡ I.spent input }
-        ensures when_spent { (s : PlainWords I) →
-            ⟦<PlainWords<I> as WordSource>⟧.spent s
+        ensures broken { ⟦<PlainWords<I> as WordSource>⟧.broken result ≡ I.broken input }
+        ensures when_broken { (s : PlainWords I) →
+            ⟦<PlainWords<I> as WordSource>⟧.broken s
             ≡ (if ⟦<PlainWords<I> as WordSource>⟧.ended s then false else
-            (⟦<PlainWords<I> as WordSource>⟧.failed s || I.spent (input_of s))) }
+            (⟦<PlainWords<I> as WordSource>⟧.failed s || I.broken (input_of s))) }
         ensures shows_unread { (s : PlainWords I) →
             ⟦<PlainWords<I> as WordSource>⟧.unread s ≡ I.to_come (input_of s) }
         ensures shows_failures { (s : PlainWords I) →
@@ -60,7 +60,7 @@ impl<I: ByteIn> PlainWords<I> {
             (λ ws. (rest : List ℕ) × (ws ≡ plain_words result.now ++ rest)) }
         ensures open { ⟦<PlainWords<I> as WordSource>⟧.ended self.now ≡ false →
             ⟦<PlainWords<I> as WordSource>⟧.failed self.now ≡ false →
-            result.now ≡ I.at_hand (input_of self.now) }
+            result.now ≡ I.buffered (input_of self.now) }
         ensures stays { ⟦<PlainWords<I> as WordSource>⟧.ended self.now ≡ true → result.now ≡ [] }
         ensures for_good { ⟦<PlainWords<I> as WordSource>⟧.failed self.now ≡ true →
             result.now ≡ [] }
@@ -96,7 +96,7 @@ impl<I: ByteIn> WordSource for PlainWords<I> {
 
     ghost failures = { λ s. I.failures s.bytes.input };
 
-    ghost spent = { λ s. source_spent s.phase (I.spent s.bytes.input) };
+    ghost broken = { λ s. source_broken s.phase (I.broken s.bytes.input) };
 
     // Inlined, since it is called at each word of a message.
     #[inline(always)]
@@ -180,7 +180,7 @@ impl<I: ByteIn> WordSource for PlainWords<I> {
         }
     }
 
-    fn is_at_hand(&self) -> bool {
+    fn is_buffered(&self) -> bool {
         match self.phase {
             Phase::Open => !self.bytes.input.held().is_empty(),
             _ => false,
@@ -200,7 +200,7 @@ impl<I: ByteIn> WordSource for PlainWords<I> {
 #[inline(always)]
 fn copy_words(from: &[u8], to: &mut [u8]) -> usize
     ensures within { result ≤ length from.now }
-    ensures room { result ≤ length to.new }
+    ensures fits { result ≤ length to.new }
     ensures words { result ≡ 8 * (result / 8) }
     ensures copied { take result to.new ≡ take result from.now }
     ensures bytes { AllByRecursion (λ b. b < 256) (take result from.now) }

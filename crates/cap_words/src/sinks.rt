@@ -47,19 +47,19 @@ pub trait WordSink {
     ghost closed: { Self → Bool };
 
     // It is closed, or an earlier fault has ended its output.
-    ghost spent: { Self → Bool };
+    ghost broken: { Self → Bool };
 
     /// Takes one more word. After a fault every call answers `Spent`, and what the output took is a
     /// beginning of the text.
     fn put(&mut self, word: u64) -> Result<(), SinkFault>
         ensures put { OnOk result (WasPut text self.old self.new (word ∷ [])) }
-        ensures ok { OnOk result (StaysOpen closed spent failures self.old self.new) }
+        ensures ok { OnOk result (StaysOpen closed broken failures self.old self.new) }
         ensures err { OnErr result ((closed self.new ≡ true)
             × ((ws : List ℕ) → Begins (text self.old (word ∷ ws)) (taken self.new))) }
         ensures stays { closed self.old ≡ true → (result ≡ Err Spent) × (self.new ≡ self.old) }
-        ensures device { IsErrOf result Device → OutputFails spent failures self.old self.new }
-        ensures memory { IsErrOf result Memory → MemoryFails spent failures self.old self.new }
-        ensures was_spent { IsErrOf result Spent → WasClosed spent failures self.old self.new
+        ensures device { IsErrOf result Device → OutputFails broken failures self.old self.new }
+        ensures memory { IsErrOf result Memory → MemoryFails broken failures self.old self.new }
+        ensures was_broken { IsErrOf result Spent → WasClosed broken failures self.old self.new
             × Keeps (taken self.old) (taken self.new) };
 
     /// Takes the words of these bytes, one after the other, the lowest byte of each first; less than a
@@ -67,27 +67,27 @@ pub trait WordSink {
     /// is a beginning of the text. A closed sink answers `Spent` also where there is no word.
     fn put_bytes(&mut self, bytes: &[u8]) -> Result<(), SinkFault>
         ensures put { OnOk result (WasPut text self.old self.new (plain_words bytes.now)) }
-        ensures ok { OnOk result (StaysOpen closed spent failures self.old self.new) }
+        ensures ok { OnOk result (StaysOpen closed broken failures self.old self.new) }
         ensures err { OnErr result ((closed self.new ≡ true)
             × StoppedPutting text taken self.old self.new (plain_words bytes.now)) }
         ensures stays { closed self.old ≡ true → (result ≡ Err Spent) × (self.new ≡ self.old) }
-        ensures device { IsErrOf result Device → OutputFails spent failures self.old self.new }
-        ensures memory { IsErrOf result Memory → MemoryFails spent failures self.old self.new }
-        ensures was_spent { IsErrOf result Spent → WasClosed spent failures self.old self.new
+        ensures device { IsErrOf result Device → OutputFails broken failures self.old self.new }
+        ensures memory { IsErrOf result Memory → MemoryFails broken failures self.old self.new }
+        ensures was_broken { IsErrOf result Spent → WasClosed broken failures self.old self.new
             × Keeps (taken self.old) (taken self.new) };
 
     /// Flushes the output, which passes on the bytes that it holds back. A word that the sink holds back
     /// itself stays: `finish` writes it. After a fault every call answers `Spent`.
     fn flush(&mut self) -> Result<(), SinkFault>
         ensures put { OnOk result (WasPut text self.old self.new []) }
-        ensures ok { OnOk result (StaysOpen closed spent failures self.old self.new) }
+        ensures ok { OnOk result (StaysOpen closed broken failures self.old self.new) }
         ensures err { OnErr result ((closed self.new ≡ true)
             × StoppedPutting text taken self.old self.new []) }
         ensures kept { Keeps (taken self.old) (taken self.new) }
         ensures stays { closed self.old ≡ true → (result ≡ Err Spent) × (self.new ≡ self.old) }
-        ensures device { IsErrOf result Device → OutputFails spent failures self.old self.new }
-        ensures memory { IsErrOf result Memory → MemoryFails spent failures self.old self.new }
-        ensures was_spent { IsErrOf result Spent → WasClosed spent failures self.old self.new };
+        ensures device { IsErrOf result Device → OutputFails broken failures self.old self.new }
+        ensures memory { IsErrOf result Memory → MemoryFails broken failures self.old self.new }
+        ensures was_broken { IsErrOf result Spent → WasClosed broken failures self.old self.new };
 
     /// Writes what is held back. After `Ok` as after a fault every call answers `Spent`.
     fn finish(&mut self) -> Result<(), SinkFault>
@@ -97,9 +97,9 @@ pub trait WordSink {
         ensures err { OnErr result ((closed self.new ≡ true)
             × Begins (text self.old []) (taken self.new)) }
         ensures stays { closed self.old ≡ true → (result ≡ Err Spent) × (self.new ≡ self.old) }
-        ensures device { IsErrOf result Device → OutputFails spent failures self.old self.new }
-        ensures memory { IsErrOf result Memory → MemoryFails spent failures self.old self.new }
-        ensures was_spent { IsErrOf result Spent → WasClosed spent failures self.old self.new
+        ensures device { IsErrOf result Device → OutputFails broken failures self.old self.new }
+        ensures memory { IsErrOf result Memory → MemoryFails broken failures self.old self.new }
+        ensures was_broken { IsErrOf result Spent → WasClosed broken failures self.old self.new
             × Keeps (taken self.old) (taken self.new) };
 
     // What was taken begins each text that may come of it.

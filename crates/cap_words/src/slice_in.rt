@@ -1,7 +1,7 @@
 //! An input over bytes in memory.
 
 ghost use Rattle.cap_words.specs.Laws.{each_byte};
-ghost use Rattle.cap_words.specs.Told.{are_bytes};
+ghost use Rattle.cap_words.specs.Known.{are_bytes};
 ghost use Rattle.std.specs.Prelude.{◌≡◌, Some, false, true};
 
 use crate::ends::{ByteIn, InFault};
@@ -20,7 +20,7 @@ impl<'a> SliceIn<'a> {
     /// An input with all of `bytes` still to come.
     pub fn new(bytes: &'a [u8]) -> SliceIn<'a>
         ensures to_come { ⟦<SliceIn<'a> as ByteIn>⟧.to_come result ≡ Some bytes.now }
-        ensures never_spent { (s : SliceIn) → ⟦<SliceIn<'a> as ByteIn>⟧.spent s ≡ false }
+        ensures never_broken { (s : SliceIn) → ⟦<SliceIn<'a> as ByteIn>⟧.broken s ≡ false }
         ensures never_fails { (s : SliceIn) → ⟦<SliceIn<'a> as ByteIn>⟧.failures s ≡ 0 }
     {
         SliceIn { rest: bytes }
@@ -32,9 +32,9 @@ impl ByteIn for SliceIn<'_> {
 
     ghost failures = { λ _. 0 };
 
-    ghost spent = { λ _. false };
+    ghost broken = { λ _. false };
 
-    ghost at_hand = { λ s. s.rest.now };
+    ghost buffered = { λ s. s.rest.now };
 
     #[inline(always)]
     fn held(&self) -> &[u8] {

@@ -65,7 +65,7 @@ pub trait WordSource {
     ghost failures: { Self → ℕ };
 
     // An earlier fault has ended it, or its input.
-    ghost spent: { Self → Bool };
+    ghost broken: { Self → Bool };
 
     /// The next word, or `None` if the input ends between words, and from then on.
     ///
@@ -92,15 +92,15 @@ pub trait WordSource {
         ensures for_good { failed self.old ≡ true → (result ≡ Err Spent) × (self.new ≡ self.old) }
         ensures reads { (bs : List ℕ) × Consumes (unread self.old) (unread self.new) bs
             × (place self.new ≡ min (place self.old + length bs) (2 ^ 64 - 1)) }
-        ensures ok { OnOk result (NoFault spent failures self.old self.new) }
+        ensures ok { OnOk result (NoFault broken failures self.old self.new) }
         ensures truncated { (byte : ℕ) → IsErrOf result (Truncated byte) →
             OnSome (words self.old) ((words self.old ≡ Some []) × (is_cut self.old ≡ true)
             × (places self.old ≡ place self.new ∷ [])) }
         ensures at { (byte : ℕ) → IsErrOf result (Truncated byte) →
-            (byte ≡ place self.new) × (spent self.old ≡ false) × (spent self.new ≡ true)
+            (byte ≡ place self.new) × (broken self.old ≡ false) × (broken self.new ≡ true)
             × (failures self.new ≡ failures self.old) }
-        ensures device { IsErrOf result Device → InputFails spent failures self.old self.new }
-        ensures was_spent { IsErrOf result Spent → WasClosed spent failures self.old self.new
+        ensures device { IsErrOf result Device → InputFails broken failures self.old self.new }
+        ensures was_broken { IsErrOf result Spent → WasClosed broken failures self.old self.new
             × (place self.new ≡ place self.old) × Keeps (unread self.old) (unread self.new) };
 
     /// Gives the bytes of buffered words, as far as `out` has space for whole ones, and returns how
@@ -108,21 +108,21 @@ pub trait WordSource {
     /// `next` does. The bytes of `out` after those given may be overwritten, even if the result is
     /// 0.
     fn ready(&mut self, out: &mut [u8]) -> usize
-        ensures room { result ≤ length out.new }
+        ensures fits { result ≤ length out.new }
         ensures words { let ws = plain_words (take result out.new) in
             (take result out.new ≡ plain_text ws)
             × TakesWords words is_cut place places self.old self.new ws }
-        ensures usable { (result ≡ 0) ⊎ (spent self.old ≡ false) }
+        ensures usable { (result ≡ 0) ⊎ (broken self.old ≡ false) }
         ensures stays { ended self.old ≡ true → result ≡ 0 }
         ensures for_good { failed self.old ≡ true → result ≡ 0 }
-        ensures spent { spent self.new ≡ spent self.old }
+        ensures broken { broken self.new ≡ broken self.old }
         ensures failures { failures self.new ≡ failures self.old }
         ensures none { result ≡ 0 → self.new ≡ self.old }
         ensures reads { ReadsBytes (unread self.old) (unread self.new) (place self.old)
             (place self.new) }
     {
         // For the proof alone: the range of this number.
-        let _room = out.len();
+        let _capacity = out.len();
         0
     }
 
@@ -132,22 +132,22 @@ pub trait WordSource {
     /// `ready` do.
     fn append(&mut self, out: &mut Vec<u8>, most: usize) -> usize
         ensures most { result ≤ most }
-        ensures room { vec_len out.old + result ≤ vec_capacity out.old }
+        ensures fits { vec_len out.old + result ≤ vec_capacity out.old }
         ensures words { (given : List ℕ) × (out.new.items ≡ out.old.items ++ given)
             × (length given ≡ result) × (given ≡ plain_text (plain_words given))
             × TakesWords words is_cut place places self.old self.new (plain_words given) }
         ensures capacity { vec_capacity out.old ≤ vec_capacity out.new }
-        ensures usable { (result ≡ 0) ⊎ (spent self.old ≡ false) }
+        ensures usable { (result ≡ 0) ⊎ (broken self.old ≡ false) }
         ensures stays { ended self.old ≡ true → result ≡ 0 }
         ensures for_good { failed self.old ≡ true → result ≡ 0 }
-        ensures spent { spent self.new ≡ spent self.old }
+        ensures broken { broken self.new ≡ broken self.old }
         ensures failures { failures self.new ≡ failures self.old }
         ensures none { result ≡ 0 → self.new ≡ self.old }
         ensures reads { ReadsBytes (unread self.old) (unread self.new) (place self.old)
             (place self.new) }
     {
         // For the proof alone: the range of this number.
-        let _room = out.len().min(most);
+        let _capacity = out.len().min(most);
         0
     }
 
@@ -166,7 +166,7 @@ pub trait WordSource {
             × TakesWords words is_cut place places self.old self.new ws }
         ensures rest { let whole = length out.old / 8 * 8 in drop whole out.new ≡ drop whole out.old }
         ensures none { length out.old < 8 → (result ≡ Ok true) × (self.new ≡ self.old) }
-        ensures works { 8 ≤ length out.old → OnOk result (NoFault spent failures self.old self.new) }
+        ensures works { 8 ≤ length out.old → OnOk result (NoFault broken failures self.old self.new) }
         ensures reads { ReadsBytes (unread self.old) (unread self.new) (place self.old)
             (place self.new) }
         ensures ended { result ≡ Ok false →
@@ -182,10 +182,10 @@ pub trait WordSource {
             EndsWithin (length out.old / 8) (words self.old) (is_cut self.old) true
             (places self.old) (place self.new) }
         ensures at { (byte : ℕ) → IsErrOf result (Truncated byte) →
-            (byte ≡ place self.new) × (spent self.old ≡ false) × (spent self.new ≡ true)
+            (byte ≡ place self.new) × (broken self.old ≡ false) × (broken self.new ≡ true)
             × (failures self.new ≡ failures self.old) }
-        ensures device { IsErrOf result Device → InputFails spent failures self.old self.new }
-        ensures was_spent { IsErrOf result Spent → WasClosed spent failures self.old self.new
+        ensures device { IsErrOf result Device → InputFails broken failures self.old self.new }
+        ensures was_broken { IsErrOf result Spent → WasClosed broken failures self.old self.new
             × (place self.new ≡ place self.old) × Keeps (unread self.old) (unread self.new) }
     {
         let whole = out.len() / 8 * 8;
@@ -211,8 +211,8 @@ pub trait WordSource {
     /// Whether bytes of the input are buffered, so that the next word may come without a call of
     /// the device. `false` doesn't say that no words are to come: `next` does. A source that has
     /// ended or failed has no buffered bytes, nor has one with a closed input.
-    fn is_at_hand(&self) -> bool
-        ensures usable { result ≡ true → spent self.now ≡ false }
+    fn is_buffered(&self) -> bool
+        ensures usable { result ≡ true → broken self.now ≡ false }
         ensures stays { ended self.now ≡ true → result ≡ false }
         ensures for_good { failed self.now ≡ true → result ≡ false }
     {

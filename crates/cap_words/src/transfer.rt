@@ -11,7 +11,7 @@ use crate::ends::{ByteIn, ByteOut, InFault, OutFault};
 /// How many bytes of a buffer were filled, and the fault that came before it was full.
 #[derive(Clone, Copy, Debug, PartialEq, Eq, Drop)]
 pub struct Filled {
-    /// The bytes at the front of the buffer that came from the input.
+    /// The bytes at the start of the buffer that came from the input.
     pub len: usize,
     /// Why there are no more of them, where it isn't that the input ended.
     pub fault: Option<InFault>,
@@ -23,15 +23,15 @@ pub struct Filled {
 pub fn fill<I: ByteIn>(input: &mut I, buf: &mut [u8]) -> Filled
     ensures len { result.len ≤ length buf.new }
     ensures bytes { Consumes (I.to_come input.old) (I.to_come input.new) (take result.len buf.new) }
-    ensures no_room { buf.old ≡ [] → (result.fault ≡ None) × (input.new ≡ input.old) }
+    ensures too_small { buf.old ≡ [] → (result.fault ≡ None) × (input.new ≡ input.old) }
     ensures end { IfNone result.fault (result.len < length buf.new → IsAtEnd (I.to_come input.new)) }
     ensures short { IfSome result.fault (λ _. result.len < length buf.new) }
     ensures ok { 0 < length buf.old →
-        IfNone result.fault (NoFault I.spent I.failures input.old input.new) }
+        IfNone result.fault (NoFault I.broken I.failures input.old input.new) }
     ensures device { result.fault ≡ Some InFault.Device →
-        InputFails I.spent I.failures input.old input.new }
-    ensures was_spent { result.fault ≡ Some InFault.Spent →
-        (I.spent input.old ≡ true) × (result.len ≡ 0) × (input.new ≡ input.old) }
+        InputFails I.broken I.failures input.old input.new }
+    ensures was_broken { result.fault ≡ Some InFault.Spent →
+        (I.broken input.old ≡ true) × (result.len ≡ 0) × (input.new ≡ input.old) }
 {
     // Nearly always the first read fills the buffer, so the loop for the others is a function of
     // its own.
@@ -63,10 +63,10 @@ fn fill_rest<I: ByteIn>(input: &mut I, buf: &mut [u8]) -> Filled
     ensures end { IfNone result.fault (result.len < length buf.new → IsAtEnd (I.to_come input.new)) }
     ensures short { IfSome result.fault (λ _. result.len < length buf.new) }
     ensures ok { 0 < length buf.old →
-        IfNone result.fault (NoFault I.spent I.failures input.old input.new) }
+        IfNone result.fault (NoFault I.broken I.failures input.old input.new) }
     ensures device { result.fault ≡ Some InFault.Device →
-        InputFails I.spent I.failures input.old input.new }
-    ensures was_spent { result.fault ≡ Some InFault.Spent → I.spent input.old ≡ true }
+        InputFails I.broken I.failures input.old input.new }
+    ensures was_broken { result.fault ≡ Some InFault.Spent → I.broken input.old ≡ true }
 {
     let mut len = 0;
     while len < buf.len() {
@@ -97,13 +97,13 @@ pub fn write_all<O: ByteOut>(output: &mut O, bytes: &[u8]) -> Result<(), OutFaul
         × Appends (O.written output.old) (O.written output.new) (take n bytes.now)) }
     ensures no_bytes { bytes.now ≡ [] → (result ≡ Ok tt) × (output.new ≡ output.old) }
     ensures works { 0 < length bytes.now →
-        OnOk result (NoFault O.spent O.failures output.old output.new) }
+        OnOk result (NoFault O.broken O.failures output.old output.new) }
     ensures device { IsErrOf result OutFault.Device →
-        OutputFails O.spent O.failures output.old output.new × (O.spent output.new ≡ true) }
+        OutputFails O.broken O.failures output.old output.new × (O.broken output.new ≡ true) }
     ensures memory { IsErrOf result OutFault.Memory →
-        MemoryFails O.spent O.failures output.old output.new }
-    ensures was_spent { IsErrOf result OutFault.Spent →
-        (O.spent output.old ≡ true) × (output.new ≡ output.old) }
+        MemoryFails O.broken O.failures output.old output.new }
+    ensures was_broken { IsErrOf result OutFault.Spent →
+        (O.broken output.old ≡ true) × (output.new ≡ output.old) }
 {
     let mut done = 0;
     while done < bytes.len() {
@@ -142,12 +142,12 @@ impl<I: ByteIn> Counted<I> {
         ensures end { IfOk result (λ n. n < length buf.new → IsAtEnd (I.to_come self.new.input)) }
         ensures still { result ≡ Ok 0 → self.new.read ≡ self.old.read }
         ensures works { 0 < length buf.old →
-            OnOk result (NoFault I.spent I.failures self.old.input self.new.input) }
+            OnOk result (NoFault I.broken I.failures self.old.input self.new.input) }
         ensures device { IsErrOf result InFault.Device →
-            InputFails I.spent I.failures self.old.input self.new.input }
+            InputFails I.broken I.failures self.old.input self.new.input }
         ensures reads { (bs : List ℕ) × Reads I.to_come self.old self.new bs }
-        ensures was_spent { IsErrOf result InFault.Spent →
-            (I.spent self.old.input ≡ true) × (self.new ≡ self.old) }
+        ensures was_broken { IsErrOf result InFault.Spent →
+            (I.broken self.old.input ≡ true) × (self.new ≡ self.old) }
     {
         let read = self.read;
         let filled = fill(&mut self.input, buf);

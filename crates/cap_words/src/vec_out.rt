@@ -1,7 +1,7 @@
 //! An output into memory.
 
 ghost use Rattle.cap_words.specs.Ends.{MemoryFails, NoFault, OutputFails, WasClosed};
-ghost use Rattle.cap_words.specs.Vectors.{vec_failures, vec_room, vec_spent, vec_written};
+ghost use Rattle.cap_words.specs.Vectors.{vec_failures, vec_spare, vec_broken, vec_written};
 ghost use Rattle.cap_words.specs.declared.vec_out.VecOut.{VecOut};
 ghost use Rattle.std.specs.Io.KnownBytes.{WriteAppends};
 ghost use Rattle.std.specs.Prelude.{◌-◌, ◌<◌, ◌==◌, ◌^◌, ◌≡◌, ◌≤◌, [], IfOk, IsErrOf, OnOk, Some, length, true};
@@ -22,8 +22,8 @@ impl VecOut {
     pub fn new(alloc: Global) -> VecOut
         ensures written { ⟦<VecOut as ByteOut>⟧.written result ≡ Some [] }
         ensures none_failed { ⟦<VecOut as ByteOut>⟧.failures result ≡ record { device = 0; memory = 0 } }
-        ensures when_spent { (s : VecOut) →
-            ⟦<VecOut as ByteOut>⟧.spent s
+        ensures when_broken { (s : VecOut) →
+            ⟦<VecOut as ByteOut>⟧.broken s
             ≡ ((⟦<VecOut as ByteOut>⟧.failures s).memory == 2 ^ 64 - 1) }
         ensures no_device { (s : VecOut) → (⟦<VecOut as ByteOut>⟧.failures s).device ≡ 0 }
     {
@@ -46,7 +46,7 @@ impl ByteOut for VecOut {
 
     ghost failures = { vec_failures };
 
-    ghost spent = { vec_spent };
+    ghost broken = { vec_broken };
 
     /// Takes all the bytes, or none where the vector can't grow.
     fn write(&mut self, buf: &[u8]) -> Result<usize, OutFault>
@@ -54,18 +54,18 @@ impl ByteOut for VecOut {
         ensures all { IfOk result (λ n. n ≡ length buf.now) }
         ensures bytes { WriteAppends (vec_written self.old) (vec_written self.new) result buf.now }
         ensures no_bytes { buf.now ≡ [] → (result ≡ Ok 0) × (self.new ≡ self.old) }
-        ensures for_good { vec_spent self.old ≡ true → self.new ≡ self.old }
+        ensures for_good { vec_broken self.old ≡ true → self.new ≡ self.old }
         ensures some { 0 < length buf.now → IfOk result (λ n. 0 < n) }
         ensures ok { 0 < length buf.now →
-            OnOk result (NoFault vec_spent vec_failures self.old self.new) }
+            OnOk result (NoFault vec_broken vec_failures self.old self.new) }
         ensures device { IsErrOf result OutFault.Device →
-            OutputFails vec_spent vec_failures self.old self.new × (vec_spent self.new ≡ true) }
+            OutputFails vec_broken vec_failures self.old self.new × (vec_broken self.new ≡ true) }
         ensures memory { IsErrOf result OutFault.Memory →
-            MemoryFails vec_spent vec_failures self.old self.new }
+            MemoryFails vec_broken vec_failures self.old self.new }
         ensures full { IsErrOf result OutFault.Memory →
-            (vec_room self.old < length buf.now) × (vec_room self.old ≤ vec_room self.new) }
-        ensures was_spent { IsErrOf result OutFault.Spent →
-            WasClosed vec_spent vec_failures self.old self.new }
+            (vec_spare self.old < length buf.now) × (vec_spare self.old ≤ vec_spare self.new) }
+        ensures was_broken { IsErrOf result OutFault.Spent →
+            WasClosed vec_broken vec_failures self.old self.new }
     {
         if buf.is_empty() {
             return Ok(0);

@@ -1,4 +1,4 @@
-//! A word's bit fields, and the eight bytes that spell it.
+//! A word's bit fields, and the eight bytes that encode it.
 
 ghost use Rattle.byteorder.specs.Endian.{little_number};
 ghost use Rattle.cap_spec.specs.Plain.{word_bytes};
@@ -32,7 +32,7 @@ pub fn signed_offset(word: u64) -> i64
     }
 }
 
-/// The word that eight bytes spell, the lowest byte first.
+/// The word that eight bytes encode, the lowest byte first.
 pub fn word_of(bytes: &[u8; 8]) -> u64
     ensures value { result ≡ little_number 8 bytes.now }
     ensures inverse { word_bytes result ≡ bytes.now }
@@ -40,7 +40,7 @@ pub fn word_of(bytes: &[u8; 8]) -> u64
     LittleEndian::read_u64(bytes)
 }
 
-/// The eight bytes that spell a word, the lowest byte first.
+/// The eight bytes that encode a word, the lowest byte first.
 pub fn bytes_of(word: u64) -> [u8; 8]
     ensures value { result ≡ word_bytes word }
     ensures inverse { little_number 8 result ≡ word }

@@ -138,9 +138,9 @@ fn run_over(rt: &HostRuntime, job: &Job, input: &mut Input) -> u8 {
     };
     let (status, out) = run_job(rt.alloc(), job, input, out, &mut err);
     // An output that failed has its line already.
-    let is_told = out.has_failed() || out.into_inner().flush().is_ok();
+    let is_reported = out.has_failed() || out.into_inner().flush().is_ok();
     let _ = err.into_inner().flush();
-    if is_told {
+    if is_reported {
         status
     } else {
         fail(rt, "capvet: output failed\n", FAILED)

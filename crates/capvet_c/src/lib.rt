@@ -1,22 +1,22 @@
 //! The calls that C makes, under their names in `include/capvet.h`.
 #![tactic(auto)]
 
-ghost use Rattle.cap_calls.specs.Calls.{TellsCheck, TellsFrame, TellsVet};
+ghost use Rattle.cap_calls.specs.Calls.{ReportsCheck, ReportsFrame, ReportsVet};
 ghost use Rattle.cap_calls.specs.AnswerNumbers.{answer_number};
 ghost use Rattle.cap_calls.specs.CallBounds.{canonical_bound, frame_bound, marks_bound, pack_bound};
 ghost use Rattle.cap_calls.specs.CallFlags.{allows_amplified, default_limits};
-ghost use Rattle.cap_calls.specs.CanonicalCalls.{TellsCopy};
-ghost use Rattle.cap_calls.specs.EarlierCalls.{TellsEarlierCall};
-ghost use Rattle.cap_calls.specs.ExclusiveCalls.{TellsExclusive};
-ghost use Rattle.cap_calls.specs.ExplainCalls.{TellsExplanation};
-ghost use Rattle.cap_calls.specs.NodeCalls.{TellsGet};
-ghost use Rattle.cap_calls.specs.RangeCalls.{TellsRange};
-ghost use Rattle.cap_calls.specs.PackCalls.{TellsPack, TellsUnpack};
-ghost use Rattle.cap_calls.specs.PointerCalls.{TellsPointer};
-ghost use Rattle.cap_calls.specs.SegmentCalls.{AreSegmentWords, TellsSegment};
-ghost use Rattle.cap_calls.specs.SegmentsCalls.{TellsSegments};
-ghost use Rattle.cap_calls.specs.PackedMessages.{TellsPackMessage};
-ghost use Rattle.cap_calls.specs.UnpackingMessages.{Leaves, TellsUnpackMessage, Unpacked, UnpacksTo};
+ghost use Rattle.cap_calls.specs.CanonicalCalls.{ReportsCopy};
+ghost use Rattle.cap_calls.specs.EarlierCalls.{ReportsEarlierCall};
+ghost use Rattle.cap_calls.specs.ExclusiveCalls.{ReportsExclusive};
+ghost use Rattle.cap_calls.specs.ExplainCalls.{ReportsExplanation};
+ghost use Rattle.cap_calls.specs.NodeCalls.{ReportsGet};
+ghost use Rattle.cap_calls.specs.RangeCalls.{ReportsRange};
+ghost use Rattle.cap_calls.specs.PackCalls.{ReportsPack, ReportsUnpack};
+ghost use Rattle.cap_calls.specs.PointerCalls.{ReportsPointer};
+ghost use Rattle.cap_calls.specs.SegmentCalls.{AreSegmentWords, ReportsSegment};
+ghost use Rattle.cap_calls.specs.SegmentsCalls.{ReportsSegments};
+ghost use Rattle.cap_calls.specs.PackedMessages.{ReportsPackMessage};
+ghost use Rattle.cap_calls.specs.UnpackingMessages.{Leaves, ReportsUnpackMessage, Unpacked, UnpacksTo};
 ghost use Rattle.cap_calls.specs.declared.answer.Answer.{Answer};
 ghost use Rattle.cap_calls.specs.declared.answer.Answer.TheVariants.{Good, Overlap};
 ghost use Rattle.cap_calls.specs.declared.node.CallNode.{CallNode};
@@ -98,10 +98,10 @@ pub extern "C" fn capvet_limits_default(limits: &mut CallLimits)
 /// is written whole. Allocates nothing.
 #[unsafe(no_mangle)]
 pub extern "C" fn capvet_frame(bytes: &[u8], limits: &CallLimits, report: &mut CallReport) -> u32
-    ensures tells { (a : Answer) × TellsFrame limits.now bytes.now a report.new
+    ensures reports { (a : Answer) × ReportsFrame limits.now bytes.now a report.new
         × (result ≡ answer_number a) }
     // The bytes allow no other result.
-    ensures only { (a : Answer) (r : CallReport) → TellsFrame limits.now bytes.now a r →
+    ensures only { (a : Answer) (r : CallReport) → ReportsFrame limits.now bytes.now a r →
         (result ≡ answer_number a) × (report.new ≡ r) }
     // No more bytes are required than a frame within the limit has, and no frame has more.
     ensures input_required { report.new.input_required ≤ frame_bound limits.now.message_words }
@@ -121,11 +121,11 @@ pub extern "C" fn capvet_segment_at(
     offset: &mut usize,
     segment_length: &mut usize,
 ) -> u32
-    ensures tells { (a : Answer)
-        × TellsSegment bytes.now index a offset.new segment_length.new
+    ensures reports { (a : Answer)
+        × ReportsSegment bytes.now index a offset.new segment_length.new
         × (result ≡ answer_number a) }
     // The bytes allow no other result.
-    ensures only { (a : Answer) (start size : ℕ) → TellsSegment bytes.now index a start size →
+    ensures only { (a : Answer) (start size : ℕ) → ReportsSegment bytes.now index a start size →
         (result ≡ answer_number a) × (offset.new ≡ start) × (segment_length.new ≡ size) }
     // The words of the segment are the bytes there.
     ensures words { AreSegmentWords bytes.now index offset.new segment_length.new }
@@ -139,10 +139,10 @@ pub extern "C" fn capvet_segment_at(
 /// [`vet`] returns. The report is written whole. Allocates nothing.
 #[unsafe(no_mangle)]
 pub extern "C" fn capvet_vet(bytes: &[u8], limits: &CallLimits, report: &mut CallReport) -> u32
-    ensures tells { (a : Answer) × TellsVet limits.now bytes.now a report.new
+    ensures reports { (a : Answer) × ReportsVet limits.now bytes.now a report.new
         × (result ≡ answer_number a) }
     // The bytes allow no other result.
-    ensures only { (a : Answer) (r : CallReport) → TellsVet limits.now bytes.now a r →
+    ensures only { (a : Answer) (r : CallReport) → ReportsVet limits.now bytes.now a r →
         (result ≡ answer_number a) × (report.new ≡ r) }
 {
     vet(bytes, limits, report).number()
@@ -158,11 +158,11 @@ pub extern "C" fn capvet_vet_segments(
     limits: &CallLimits,
     report: &mut CallReport,
 ) -> u32
-    ensures tells { (a : Answer) × TellsSegments limits.now (bytes_of segments.now) a report.new
+    ensures reports { (a : Answer) × ReportsSegments limits.now (bytes_of segments.now) a report.new
         × (result ≡ answer_number a) }
     // The bytes allow no other result.
     ensures only { (a : Answer) (r : CallReport) →
-        TellsSegments limits.now (bytes_of segments.now) a r →
+        ReportsSegments limits.now (bytes_of segments.now) a r →
         (result ≡ answer_number a) × (report.new ≡ r) }
 {
     vet_segments(segments, limits, report).number()
@@ -183,12 +183,12 @@ pub extern "C" fn capvet_vet_exclusive(
     required: &mut usize,
     report: &mut CallReport,
 ) -> u32
-    ensures tells { (a : Answer)
-        × TellsExclusive limits.now bytes.now (length marks.old) a required.new report.new
+    ensures reports { (a : Answer)
+        × ReportsExclusive limits.now bytes.now (length marks.old) a required.new report.new
         × (result ≡ answer_number a) }
     // The bytes and the capacity allow no other result.
     ensures only { (a : Answer) (n : ℕ) (r : CallReport) →
-        TellsExclusive limits.now bytes.now (length marks.old) a n r →
+        ReportsExclusive limits.now bytes.now (length marks.old) a n r →
         (result ≡ answer_number a) × (required.new ≡ n) × (report.new ≡ r) }
     // These capacities are always enough.
     ensures few { required.new ≤ report.new.length / 512 + 1 }
@@ -216,12 +216,12 @@ pub extern "C" fn capvet_canonical(
     required: &mut usize,
     report: &mut CallReport,
 ) -> u32
-    ensures tells { (a : Answer)
-        × TellsCopy limits.now bytes.now out.old a required.new out.new report.new
+    ensures reports { (a : Answer)
+        × ReportsCopy limits.now bytes.now out.old a required.new out.new report.new
         × (result ≡ answer_number a) }
     // The bytes and the capacity allow no other result.
     ensures only { (a : Answer) (n : ℕ) (new : List ℕ) (r : CallReport) →
-        TellsCopy limits.now bytes.now out.old a n new r →
+        ReportsCopy limits.now bytes.now out.old a n new r →
         (result ≡ answer_number a) × (required.new ≡ n) × (out.new ≡ new) × (report.new ≡ r) }
     // These capacities are always enough.
     ensures few { required.new ≤ 8 * (report.new.charge + 1) }
@@ -244,10 +244,10 @@ pub extern "C" fn capvet_is_canonical(
     limits: &CallLimits,
     report: &mut CallReport,
 ) -> u32
-    ensures tells { (a : Answer) × TellsCheck limits.now bytes.now a report.new
+    ensures reports { (a : Answer) × ReportsCheck limits.now bytes.now a report.new
         × (result ≡ answer_number a) }
     // The bytes allow no other result.
-    ensures only { (a : Answer) (r : CallReport) → TellsCheck limits.now bytes.now a r →
+    ensures only { (a : Answer) (r : CallReport) → ReportsCheck limits.now bytes.now a r →
         (result ≡ answer_number a) × (report.new ≡ r) }
 {
     is_canonical(bytes, limits, report).number()
@@ -269,11 +269,11 @@ pub extern "C" fn capvet_get(
     node: &mut CallNode,
     report: &mut CallReport,
 ) -> u32
-    ensures tells { (a : Answer) × TellsGet limits.now bytes.now path.now a node.new report.new
+    ensures reports { (a : Answer) × ReportsGet limits.now bytes.now path.now a node.new report.new
         × (result ≡ answer_number a) }
     // The bytes and the path allow no other result.
     ensures only { (a : Answer) (n : CallNode) (r : CallReport) →
-        TellsGet limits.now bytes.now path.now a n r →
+        ReportsGet limits.now bytes.now path.now a n r →
         (result ≡ answer_number a) × (node.new ≡ n) × (report.new ≡ r) }
 {
     get(bytes, limits, path, node, report).number()
@@ -298,11 +298,11 @@ pub extern "C" fn capvet_get_range(
     found: &mut usize,
     report: &mut CallReport,
 ) -> u32
-    ensures tells { (a : Answer) × TellsRange limits.now bytes.now steps.now varying nodes.old a
+    ensures reports { (a : Answer) × ReportsRange limits.now bytes.now steps.now varying nodes.old a
         found.new nodes.new report.new × (result ≡ answer_number a) }
     // The bytes and the steps allow no other result.
     ensures only { (a : Answer) (n : ℕ) (new : List CallNode) (r : CallReport) →
-        TellsRange limits.now bytes.now steps.now varying nodes.old a n new r →
+        ReportsRange limits.now bytes.now steps.now varying nodes.old a n new r →
         (result ≡ answer_number a) × (found.new ≡ n) × (nodes.new ≡ new) × (report.new ≡ r) }
 {
     get_range(bytes, limits, steps, varying, nodes, found, report).number()
@@ -327,12 +327,12 @@ pub extern "C" fn capvet_pointer_path(
     required: &mut usize,
     report: &mut CallReport,
 ) -> u32
-    ensures tells { (a : Answer)
-        × TellsPointer limits.now bytes.now number steps.old a required.new steps.new report.new
+    ensures reports { (a : Answer)
+        × ReportsPointer limits.now bytes.now number steps.old a required.new steps.new report.new
         × (result ≡ answer_number a) }
     // The bytes, the number and the capacity allow no other result.
     ensures only { (a : Answer) (n : ℕ) (new : List CallStep) (r : CallReport) →
-        TellsPointer limits.now bytes.now number steps.old a n new r →
+        ReportsPointer limits.now bytes.now number steps.old a n new r →
         (result ≡ answer_number a) × (required.new ≡ n) × (steps.new ≡ new) × (report.new ≡ r) }
     // This capacity is always enough.
     ensures few { required.new ≤ 256 }
@@ -355,10 +355,10 @@ pub extern "C" fn capvet_earlier_pointer(
     number: u64,
     report: &mut CallReport,
 ) -> u32
-    ensures tells { (a : Answer) × TellsEarlierCall limits.now bytes.now number a report.new
+    ensures reports { (a : Answer) × ReportsEarlierCall limits.now bytes.now number a report.new
         × (result ≡ answer_number a) }
     // The bytes and the number allow no other result.
-    ensures only { (a : Answer) (r : CallReport) → TellsEarlierCall limits.now bytes.now number a r →
+    ensures only { (a : Answer) (r : CallReport) → ReportsEarlierCall limits.now bytes.now number a r →
         (result ≡ answer_number a) × (report.new ≡ r) }
 {
     earlier_pointer(bytes, limits, number, report).number()
@@ -380,12 +380,12 @@ pub extern "C" fn capvet_explain(
     required: &mut usize,
     report: &mut CallReport,
 ) -> u32
-    ensures tells { (a : Answer)
-        × TellsExplanation limits.now bytes.now text.old a required.new text.new report.new
+    ensures reports { (a : Answer)
+        × ReportsExplanation limits.now bytes.now text.old a required.new text.new report.new
         × (result ≡ answer_number a) }
     // The bytes and the capacity allow no other result.
     ensures only { (a : Answer) (n : ℕ) (new : List ℕ) (r : CallReport) →
-        TellsExplanation limits.now bytes.now text.old a n new r →
+        ReportsExplanation limits.now bytes.now text.old a n new r →
         (result ≡ answer_number a) × (required.new ≡ n) × (text.new ≡ new) × (report.new ≡ r) }
     // This capacity is always enough.
     ensures few { required.new ≤ 6144 }
@@ -402,10 +402,10 @@ pub extern "C" fn capvet_explain(
 /// nothing.
 #[unsafe(no_mangle)]
 pub extern "C" fn capvet_pack(bytes: &[u8], out: &mut [u8], required: &mut usize) -> u32
-    ensures tells { (a : Answer) × TellsPack bytes.now out.old a required.new out.new
+    ensures reports { (a : Answer) × ReportsPack bytes.now out.old a required.new out.new
         × (result ≡ answer_number a) }
     // The bytes and the capacity allow no other result.
-    ensures only { (a : Answer) (n : ℕ) (new : List ℕ) → TellsPack bytes.now out.old a n new →
+    ensures only { (a : Answer) (n : ℕ) (new : List ℕ) → ReportsPack bytes.now out.old a n new →
         (result ≡ answer_number a) × (required.new ≡ n) × (out.new ≡ new) }
     // This capacity is always enough.
     ensures bound { required.new ≤ pack_bound (length bytes.now) }
@@ -423,10 +423,10 @@ pub extern "C" fn capvet_pack(bytes: &[u8], out: &mut [u8], required: &mut usize
 /// nothing.
 #[unsafe(no_mangle)]
 pub extern "C" fn capvet_unpack(bytes: &[u8], out: &mut [u8], required: &mut usize) -> u32
-    ensures tells { (a : Answer) × TellsUnpack bytes.now out.old a required.new out.new
+    ensures reports { (a : Answer) × ReportsUnpack bytes.now out.old a required.new out.new
         × (result ≡ answer_number a) }
     // The bytes and the capacity allow no other result.
-    ensures only { (a : Answer) (n : ℕ) (new : List ℕ) → TellsUnpack bytes.now out.old a n new →
+    ensures only { (a : Answer) (n : ℕ) (new : List ℕ) → ReportsUnpack bytes.now out.old a n new →
         (result ≡ answer_number a) × (required.new ≡ n) × (out.new ≡ new) }
 {
     unpack(bytes, out, required).number()
@@ -449,12 +449,12 @@ pub extern "C" fn capvet_pack_message(
     required: &mut usize,
     report: &mut CallReport,
 ) -> u32
-    ensures tells { (a : Answer)
-        × TellsPackMessage limits.now bytes.now out.old a required.new out.new report.new
+    ensures reports { (a : Answer)
+        × ReportsPackMessage limits.now bytes.now out.old a required.new out.new report.new
         × (result ≡ answer_number a) }
     // The bytes and the capacity allow no other result.
     ensures only { (a : Answer) (n : ℕ) (new : List ℕ) (r : CallReport) →
-        TellsPackMessage limits.now bytes.now out.old a n new r →
+        ReportsPackMessage limits.now bytes.now out.old a n new r →
         (result ≡ answer_number a) × (required.new ≡ n) × (out.new ≡ new) × (report.new ≡ r) }
     // These capacities are always enough.
     ensures few { required.new ≤ report.new.length / 8 * 10 }
@@ -483,7 +483,7 @@ pub extern "C" fn capvet_unpack_message(
     required: &mut usize,
     report: &mut CallReport,
 ) -> u32
-    ensures tells { (a : Answer) × TellsUnpackMessage limits.now bytes.now out.old state.old a
+    ensures reports { (a : Answer) × ReportsUnpackMessage limits.now bytes.now out.old state.old a
         consumed.new required.new out.new state.new report.new × (result ≡ answer_number a) }
     // The bytes, the state and the contents of the buffer allow no other result.
     ensures only { (u : Unpacked) → UnpacksTo limits.now bytes.now out.old state.old u →

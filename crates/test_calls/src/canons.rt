@@ -25,7 +25,7 @@ fn has_copy<M: Segments>(
     rt: &impl Abort,
     alloc: Global,
     message: &M,
-    wanted: &[u64],
+    expected: &[u64],
     is_own: bool,
 ) -> Result<(), Fail> {
     let limits = Limits::new(100, 10).ok_or("no limits")?;
@@ -33,10 +33,10 @@ fn has_copy<M: Segments>(
         return Err("refused".into());
     };
     let checked = (is_canonical(&vetted), is_checked(message, limits)?);
-    same_of(rt, &wanted, checked, (is_own, is_own));
-    same(rt, canonical_len(&vetted), Ok(wanted.len() as u64));
+    same_of(rt, &expected, checked, (is_own, is_own));
+    same(rt, canonical_len(&vetted), Ok(expected.len() as u64));
     match canonical(alloc, &vetted) {
-        Ok(made) => same(rt, made.as_slice(), wanted),
+        Ok(made) => same(rt, made.as_slice(), expected),
         Err(_) => return Err("no copy".into()),
     }
     Ok(())
@@ -78,12 +78,12 @@ static COPIES: [(&[&[u64]], &[u64]); 3] = [
 
 #[test]
 fn copies_of_known_messages(rt: HostRuntime) -> Result<(), Fail> {
-    for (spelled, copied) in &COPIES {
+    for (encoded, copied) in &COPIES {
         let copy = words(rt.alloc(), *copied)?;
         has_copy(
             &rt,
             rt.alloc(),
-            &message(rt.alloc(), *spelled)?,
+            &message(rt.alloc(), *encoded)?,
             &copy,
             false,
         )?;

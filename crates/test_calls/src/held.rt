@@ -5,18 +5,18 @@ use std::alloc::{AllocError, Global};
 use std::test::Fail;
 
 /// The words of a stream, each read from its first byte on.
-pub(crate) fn words(alloc: Global, spelled: &[u64]) -> Result<Vec<u64>, AllocError> {
-    let mut words = Vec::with_capacity(alloc, spelled.len())?;
-    for word in spelled {
+pub(crate) fn words(alloc: Global, encoded: &[u64]) -> Result<Vec<u64>, AllocError> {
+    let mut words = Vec::with_capacity(alloc, encoded.len())?;
+    for word in encoded {
         words.push(word.swap_bytes())?;
     }
     Ok(words)
 }
 
 /// The message whose segments have these words, each read from its first byte on.
-pub(crate) fn message(alloc: Global, spelled: &[&[u64]]) -> Result<WordMessage, Fail> {
+pub(crate) fn message(alloc: Global, encoded: &[&[u64]]) -> Result<WordMessage, Fail> {
     let mut segments = Vec::new(alloc);
-    for segment in spelled {
+    for segment in encoded {
         segments.push(words(alloc, segment)?)?;
     }
     Ok(WordMessage::new(segments).ok_or("no message")?)

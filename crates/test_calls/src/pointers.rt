@@ -77,8 +77,8 @@ static FORMS: [(u64, Pointer); 10] = [
 
 #[test]
 fn forms_of_words(rt: HostRuntime) {
-    for (spelled, pointer) in &FORMS {
-        let word = spelled.swap_bytes();
+    for (encoded, pointer) in &FORMS {
+        let word = encoded.swap_bytes();
         let form = Pointer::of(word);
         same(&rt, form, *pointer);
         same(&rt, form.word(), word);
@@ -159,9 +159,9 @@ fn at_root<M: Segments>(rt: &impl Abort, message: &M) -> Result<Followed, Reason
 
 #[test]
 fn first_words_of_messages(rt: HostRuntime) -> Result<(), Fail> {
-    for (spelled, wanted) in &FOLLOWED {
-        let held = message(rt.alloc(), *spelled)?;
-        same_of(&rt, spelled, at_root(&rt, &held), *wanted);
+    for (encoded, expected) in &FOLLOWED {
+        let held = message(rt.alloc(), *encoded)?;
+        same_of(&rt, encoded, at_root(&rt, &held), *expected);
     }
     Ok(())
 }

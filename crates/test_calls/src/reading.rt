@@ -53,22 +53,22 @@ static READ: [(u64, &[Step], Read); 3] = [
 #[test]
 fn a_struct_in_another_segment(rt: HostRuntime) -> Result<(), Fail> {
     let held = message(rt.alloc(), APART)?;
-    for (most, path, wanted) in &READ {
+    for (most, path, expected) in &READ {
         let limits = Limits::new(*most, 1).ok_or("no limits")?;
-        same_of(&rt, most, read_at(&held, limits, *path), *wanted);
+        same_of(&rt, most, read_at(&held, limits, *path), *expected);
     }
     Ok(())
 }
 
 // The words at a path, or the word of a refusal, and why.
-type Wanted = Result<&'static [u64], (u32, Reason)>;
+type Expected = Result<&'static [u64], (u32, Reason)>;
 
 // The words of a framed message, a word limit, and paths with what is there. Each word is written from its
 // first byte on.
-type Row = (&'static [u64], u64, &'static [(&'static [Step], Wanted)]);
+type Row = (&'static [u64], u64, &'static [(&'static [Step], Expected)]);
 
 // The bytes of words.
-fn spelled(alloc: Global, words: &[u64]) -> Result<Vec<u8>, AllocError> {
+fn encoded(alloc: Global, words: &[u64]) -> Result<Vec<u8>, AllocError> {
     let mut bytes = Vec::new(alloc);
     for word in words {
         bytes.extend_from_slice(&word.to_be_bytes())?;
@@ -95,11 +95,11 @@ fn has_bytes(
     message: &ByteView<'_>,
     limits: Limits,
     path: &[Step],
-    wanted: Wanted,
+    expected: Expected,
 ) -> Result<(), Fail> {
-    let bytes = spelled(alloc, wanted.unwrap_or(&[]))?;
-    let wanted = wanted.map(|_| bytes.as_slice());
-    same_of(rt, &path, bytes_at(message, limits, path), wanted);
+    let bytes = encoded(alloc, expected.unwrap_or(&[]))?;
+    let expected = expected.map(|_| bytes.as_slice());
+    same_of(rt, &path, bytes_at(message, limits, path), expected);
     Ok(())
 }
 
@@ -209,15 +209,15 @@ static PLACES: [Row; 7] = [
 fn the_bytes_at_paths(rt: HostRuntime) -> Result<(), Fail> {
     let size = SizeLimit::new(9).ok_or("no limit")?;
     for (frame, most, places) in &PLACES {
-        let bytes = spelled(rt.alloc(), *frame)?;
+        let bytes = encoded(rt.alloc(), *frame)?;
         let Ok(Some(framed)) = front_of(&bytes, size) else {
             return Err("no message".into());
         };
         let mut tables = SegmentTables::new();
         let message = framed.view(&mut tables);
         let limits = Limits::new(*most, 10).ok_or("no limits")?;
-        for (path, wanted) in *places {
-            has_bytes(&rt, rt.alloc(), &message, limits, *path, *wanted)?;
+        for (path, expected) in *places {
+            has_bytes(&rt, rt.alloc(), &message, limits, *path, *expected)?;
         }
     }
     Ok(())

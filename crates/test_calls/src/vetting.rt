@@ -106,9 +106,14 @@ fn strict_report<M: Segments>(
 #[test]
 fn verdicts_of_known_messages(rt: HostRuntime) -> Result<(), Fail> {
     let limits = Limits::new(8388608, 64).ok_or("no limits")?;
-    for (spelled, wanted) in &ROWS {
-        let several = message(rt.alloc(), *spelled)?;
-        same_of(&rt, spelled, strict_report(&rt, &several, limits), *wanted);
+    for (encoded, expected) in &ROWS {
+        let several = message(rt.alloc(), *encoded)?;
+        same_of(
+            &rt,
+            encoded,
+            strict_report(&rt, &several, limits),
+            *expected,
+        );
     }
     Ok(())
 }
@@ -116,11 +121,11 @@ fn verdicts_of_known_messages(rt: HostRuntime) -> Result<(), Fail> {
 // A message over borrowed words.
 #[test]
 fn the_verdict_of_a_segment(rt: HostRuntime) -> Result<(), Fail> {
-    let (spelled, wanted) = &ROWS[0];
-    let segment = words(rt.alloc(), spelled[0])?;
+    let (encoded, expected) = &ROWS[0];
+    let segment = words(rt.alloc(), encoded[0])?;
     let alone = OneSegment::new(&segment).ok_or("no message")?;
     let limits = Limits::new(8388608, 64).ok_or("no limits")?;
-    same(&rt, strict_report(&rt, &alone, limits), *wanted);
+    same(&rt, strict_report(&rt, &alone, limits), *expected);
     Ok(())
 }
 
@@ -135,12 +140,12 @@ static BOUNDS: [(u64, u32, Option<(u64, u32)>); 6] = [
 
 #[test]
 fn the_bounds_of_limits(rt: HostRuntime) {
-    for (most_words, most_depth, wanted) in &BOUNDS {
+    for (most_words, most_depth, expected) in &BOUNDS {
         let limits = Limits::new(*most_words, *most_depth);
         same(
             &rt,
             limits.map(|limits| (limits.words(), limits.depth())),
-            *wanted,
+            *expected,
         );
     }
 }

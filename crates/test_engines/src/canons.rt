@@ -118,8 +118,8 @@ static ENDS: [(&[u8], u32, End); 8] = [
 
 #[test]
 fn finishes_the_sink_before_each_fault(rt: HostRuntime) {
-    for (stream, messages, wanted) in &ENDS {
+    for (stream, messages, expected) in &ENDS {
         let answer = end_of_copies(&rt, rt.alloc(), *stream, *messages);
-        assert!(rt; answer == Some(*wanted));
+        assert!(rt; answer == Some(*expected));
     }
 }

@@ -28,16 +28,16 @@ static PIECES: [(usize, u32, SourceFault, u64, u32); 7] = [
 
 #[test]
 fn a_fault_inside_a_piece_is_counted(rt: HostRuntime) {
-    let mut room = [9; 27];
-    for (most, at, wanted, position, calls) in &PIECES {
+    let mut buffer = [9; 27];
+    for (most, at, expected, position, calls) in &PIECES {
         let fault = Fault {
             at: *at,
             kind: Some(ErrorKind::Interrupted),
         };
         let mut source = PlainWords::new(FromRead::new(Reader::new(&SEVENS, *most, fault)));
-        same_of(&rt, most, source.fill(&mut room), Err(*wanted));
+        same_of(&rt, most, source.fill(&mut buffer), Err(*expected));
         same_of(&rt, most, source.position(), *position);
-        same_of(&rt, most, source.fill(&mut room), Err(SourceFault::Spent));
+        same_of(&rt, most, source.fill(&mut buffer), Err(SourceFault::Spent));
         same_of(&rt, most, source.next(), Err(SourceFault::Spent));
         same_of(&rt, most, source.into_inner().into_inner().calls, *calls);
     }

@@ -21,7 +21,7 @@ const FIRST: u64 = 1;
 
 const SECOND: u64 = 0x0102_0304_0506_0708;
 
-// Words, and the offsets that they spell.
+// Words, and the offsets that they encode.
 static OFFSETS: [(u64, i64); 5] = [
     (0x0001_0002_0000_0000, 0),
     (0xffff_ffff_ffff_fffc, -1),
@@ -42,7 +42,7 @@ fn fields_and_bytes_of_words(rt: HostRuntime) {
         bits(word, 63, 1),
         bits(word, 1, 63),
     ];
-    let wanted = [
+    let expected = [
         0x8123_4567_89ab_cdef,
         0,
         0,
@@ -51,7 +51,7 @@ fn fields_and_bytes_of_words(rt: HostRuntime) {
         1,
         0x4091_a2b3_c4d5_e6f7,
     ];
-    same(&rt, fields, wanted);
+    same(&rt, fields, expected);
     for (word, want) in &OFFSETS {
         same_of(&rt, word, signed_offset(*word), *want);
     }
@@ -112,28 +112,28 @@ static SLICES: [(usize, &[Takes]); 6] = [
     (
         20,
         &[
-            Takes::AtHand(true),
+            Takes::Buffered(true),
             Takes::Next(Ok(Some(FIRST))),
-            Takes::AtHand(true),
+            Takes::Buffered(true),
             Takes::Next(Ok(Some(SECOND))),
-            Takes::AtHand(true),
+            Takes::Buffered(true),
             Takes::Next(Err(SourceFault::Truncated { byte: 20 })),
-            Takes::AtHand(false),
+            Takes::Buffered(false),
         ],
     ),
-    (0, &[Takes::AtHand(false)]),
+    (0, &[Takes::Buffered(false)]),
 ];
 
 #[test]
 fn words_of_a_slice(rt: HostRuntime) {
-    let mut room = [9; 32];
+    let mut buffer = [9; 32];
     for (len, steps) in &SLICES {
         let mut source = PlainWords::new(SliceIn::new(part(&TEXT, 0, *len)));
-        take_by(&rt, &mut source, &TEXT, &mut room, *steps);
+        take_by(&rt, &mut source, &TEXT, &mut buffer, *steps);
     }
     // no bytes of a reader are buffered
     let mut source = PlainWords::new(FromRead::new(TEXT.as_slice()));
-    take_by(&rt, &mut source, &TEXT, &mut [], &[Takes::AtHand(false)]);
+    take_by(&rt, &mut source, &TEXT, &mut [], &[Takes::Buffered(false)]);
 }
 
 // How many bytes a call of the reader gives at most, which call fails, how many there are, and calls of
@@ -157,20 +157,20 @@ static BUFFERED: [(usize, u32, u32, &[Takes]); 2] = [
         2,
         2,
         &[
-            Takes::AtHand(false),
+            Takes::Buffered(false),
             Takes::Next(Ok(Some(FIRST))),
-            Takes::AtHand(true),
+            Takes::Buffered(true),
             Takes::Next(Ok(Some(SECOND))),
-            Takes::AtHand(false),
+            Takes::Buffered(false),
             Takes::Next(Err(SourceFault::Device)),
-            Takes::AtHand(false),
+            Takes::Buffered(false),
         ],
     ),
 ];
 
 #[test]
-fn words_at_hand_of_a_buffer(rt: HostRuntime) -> Result<(), Fail> {
-    let mut room = [9; 32];
+fn words_buffered_of_a_buffer(rt: HostRuntime) -> Result<(), Fail> {
+    let mut buffer = [9; 32];
     for (most, fails_at, calls, steps) in &BUFFERED {
         let fault = Fault {
             at: *fails_at,
@@ -178,7 +178,7 @@ fn words_at_hand_of_a_buffer(rt: HostRuntime) -> Result<(), Fail> {
         };
         let mut reader = Reader::new(&TEXT, *most, fault);
         let mut source = PlainWords::new(BufferedIn::new(rt.alloc(), &mut reader)?);
-        take_by(&rt, &mut source, &TEXT, &mut room, *steps);
+        take_by(&rt, &mut source, &TEXT, &mut buffer, *steps);
         drop(source);
         same_of(&rt, most, reader.calls, *calls);
     }
@@ -231,19 +231,25 @@ static HELD_BY_A_BUFFER: [Reads; 13] = [
 ];
 
 #[test]
-fn bytes_at_hand(rt: HostRuntime) -> Result<(), Fail> {
-    let mut room = [9; 24];
+fn bytes_buffered(rt: HostRuntime) -> Result<(), Fail> {
+    let mut buffer = [9; 24];
     let mut slice = SliceIn::new(&TEXT);
-    read_by(&rt, &mut slice, &TEXT, &mut room, &HELD);
+    read_by(&rt, &mut slice, &TEXT, &mut buffer, &HELD);
     let mut whole = PlainWords::new(SliceIn::new(&TEXT)).into_inner();
-    read_by(&rt, &mut whole, &TEXT, &mut room, &ALL);
+    read_by(&rt, &mut whole, &TEXT, &mut buffer, &ALL);
     let mut input = BufferedIn::new(rt.alloc(), TEXT.as_slice())?;
-    read_by(&rt, &mut input, &TEXT, &mut room, &NONE_HELD);
-    read_by(&rt, &mut input, &TEXT, &mut room, &HELD_BY_A_BUFFER);
+    read_by(&rt, &mut input, &TEXT, &mut buffer, &NONE_HELD);
+    read_by(&rt, &mut input, &TEXT, &mut buffer, &HELD_BY_A_BUFFER);
     let mut reader = FromRead::new(TEXT.as_slice());
-    read_by(&rt, &mut reader, &TEXT, &mut room, &NONE_HELD);
-    read_by(&rt, &mut reader, &TEXT, &mut room, &[Reads::Read(3, Ok(3))]);
-    read_by(&rt, &mut reader, &TEXT, &mut room, &NONE_HELD);
+    read_by(&rt, &mut reader, &TEXT, &mut buffer, &NONE_HELD);
+    read_by(
+        &rt,
+        &mut reader,
+        &TEXT,
+        &mut buffer,
+        &[Reads::Read(3, Ok(3))],
+    );
+    read_by(&rt, &mut reader, &TEXT, &mut buffer, &NONE_HELD);
     Ok(())
 }
 
@@ -283,14 +289,14 @@ fn expect_reads<R: AllocGlobal + Abort>(
 ) -> Result<(), Fail> {
     let mut bytes = Vec::from_elem(rt.alloc(), 7, len)?;
     bytes.extend_from_slice(&TEXT)?;
-    let mut room = Vec::from_elem(rt.alloc(), 0, 100_000)?;
+    let mut buffer = Vec::from_elem(rt.alloc(), 0, 100_000)?;
     let fault = Fault {
         at: fails_at,
         kind: Some(ErrorKind::Interrupted),
     };
     let mut reader = Reader::new(&bytes, usize::MAX, fault);
     let mut input = BufferedIn::new(rt.alloc(), &mut reader)?;
-    read_by(rt, &mut input, &bytes, &mut room, steps);
+    read_by(rt, &mut input, &bytes, &mut buffer, steps);
     drop(input);
     if fails_at > 0 {
         same(rt, reader.calls, fails_at);

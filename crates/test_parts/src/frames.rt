@@ -38,7 +38,7 @@ fn is_message<M: Segments>(message: &M, want: &[&[u64]]) -> bool {
 }
 
 // The segments of a message, none, or a fault.
-type Wanted<'a> = Result<Option<&'a [&'a [u64]]>, FrameFault>;
+type Expected<'a> = Result<Option<&'a [&'a [u64]]>, FrameFault>;
 
 // The source gives this message, none, or this fault, where each segment is a vector.
 fn expect_vectors<S: WordSource>(
@@ -46,14 +46,14 @@ fn expect_vectors<S: WordSource>(
     alloc: Global,
     source: &mut S,
     limit: SizeLimit,
-    want: Wanted<'_>,
+    want: Expected<'_>,
 ) {
     match (read_message(alloc, source, limit), want) {
         (Ok(Some(message)), Ok(Some(segments))) => {
             assert!(rt; is_message(&message, segments), "in vectors");
         }
         (Ok(None), Ok(None)) => {}
-        (Err(fault), Err(wanted)) => same(rt, fault, wanted),
+        (Err(fault), Err(expected)) => same(rt, fault, expected),
         _ => assert!(rt; false, "another answer in vectors"),
     }
 }
@@ -64,14 +64,14 @@ fn expect_buffer<S: WordSource>(
     alloc: Global,
     source: &mut S,
     limit: SizeLimit,
-    want: Wanted<'_>,
+    want: Expected<'_>,
 ) {
     match (read_byte_message(alloc, source, limit), want) {
         (Ok(Some(message)), Ok(Some(segments))) => {
             assert!(rt; is_message(&message.view(), segments), "in a buffer");
         }
         (Ok(None), Ok(None)) => {}
-        (Err(fault), Err(wanted)) => same(rt, fault, wanted),
+        (Err(fault), Err(expected)) => same(rt, fault, expected),
         _ => assert!(rt; false, "another answer in a buffer"),
     }
 }
@@ -85,14 +85,14 @@ const PADDED: &[u64] = &[0x1_0000_0001, 0xdead_beef_0000_0001, 5, 6];
 // Sizes whose sum doesn't fit 32 bits.
 const SUM: &[u64] = &[0xffff_ffff_0000_0001, 0xffff_ffff, 3];
 
-const SPENT: Result<Option<u64>, SourceFault> = Err(SourceFault::Spent);
+const CLOSED: Result<Option<u64>, SourceFault> = Err(SourceFault::Spent);
 
 // Words, how many bytes of them are given, the limit, what they give, and then.
 type Case<'a> = (
     &'a [u64],
     usize,
     u64,
-    Wanted<'a>,
+    Expected<'a>,
     Result<Option<u64>, SourceFault>,
 );
 
@@ -108,7 +108,7 @@ static CASES: [Case<'static>; 13] = [
     ),
     (THREE, 0, 3, Ok(None), Ok(None)),
     // The input ends inside the first word, the table or the contents, between words or in one.
-    (THREE, 5, 3, Err(FrameFault::Truncated { byte: 5 }), SPENT),
+    (THREE, 5, 3, Err(FrameFault::Truncated { byte: 5 }), CLOSED),
     (
         THREE,
         8,
@@ -116,7 +116,13 @@ static CASES: [Case<'static>; 13] = [
         Err(FrameFault::Truncated { byte: 8 }),
         Ok(None),
     ),
-    (THREE, 12, 3, Err(FrameFault::Truncated { byte: 12 }), SPENT),
+    (
+        THREE,
+        12,
+        3,
+        Err(FrameFault::Truncated { byte: 12 }),
+        CLOSED,
+    ),
     (
         THREE,
         32,
@@ -124,7 +130,13 @@ static CASES: [Case<'static>; 13] = [
         Err(FrameFault::Truncated { byte: 32 }),
         Ok(None),
     ),
-    (THREE, 39, 3, Err(FrameFault::Truncated { byte: 39 }), SPENT),
+    (
+        THREE,
+        39,
+        3,
+        Err(FrameFault::Truncated { byte: 39 }),
+        CLOSED,
+    ),
     (PADDED, 32, 2, Ok(Some(&[&[5], &[6]])), Ok(None)),
     // One segment without words.
     (&[0], 8, 0, Ok(Some(&[&[]])), Ok(None)),
@@ -154,7 +166,7 @@ fn expect_each_way(
     alloc: Global,
     bytes: &[u8],
     limit: SizeLimit,
-    want: Wanted<'_>,
+    want: Expected<'_>,
     then: Result<Option<u64>, SourceFault>,
 ) {
     let mut source = PlainWords::new(SliceIn::new(bytes));

@@ -19,4 +19,4 @@ mod steps;
 #[cfg(test)]
 mod unpacking;
 #[cfg(test)]
-mod unpacking_at_hand;
+mod unpacking_buffered;

@@ -26,7 +26,7 @@ pub(crate) enum Reads {
 pub(crate) enum Takes {
     Next(Result<Option<u64>, SourceFault>),
     Position(u64),
-    AtHand(bool),
+    Buffered(bool),
     // The buffer's length, and the bytes that are given.
     Ready(usize, usize, usize),
 }
@@ -45,9 +45,9 @@ pub(crate) enum Writes {
 }
 
 // The first bytes of a buffer, or all of it.
-pub(crate) fn front(room: &mut [u8], most: usize) -> &mut [u8] {
-    let len = most.min(room.len());
-    &mut room[..len]
+pub(crate) fn front(buffer: &mut [u8], most: usize) -> &mut [u8] {
+    let len = most.min(buffer.len());
+    &mut buffer[..len]
 }
 
 // At most `most` bytes, from the byte `from` on.
@@ -60,23 +60,23 @@ pub(crate) fn read_by<I: ByteIn>(
     rt: &impl Abort,
     input: &mut I,
     text: &[u8],
-    room: &mut [u8],
+    buffer: &mut [u8],
     steps: &[Reads],
 ) {
     for (at, step) in steps.iter().enumerate() {
         match step {
             Reads::Held(from, len) => same_of(rt, &at, input.held(), part(text, *from, *len)),
             Reads::Skip(count) => input.skip(*count),
-            Reads::Read(size, wanted) => {
-                same_of(rt, &at, input.read(front(room, *size)), *wanted);
+            Reads::Read(size, expected) => {
+                same_of(rt, &at, input.read(front(buffer, *size)), *expected);
             }
             Reads::Fill(size, len, fault) => {
-                let filled = fill(input, front(room, *size));
+                let filled = fill(input, front(buffer, *size));
                 same_of(rt, &at, filled.len, *len);
                 same_of(rt, &at, filled.fault, *fault);
             }
             Reads::Gave(place, from, len) => {
-                same_of(rt, &at, part(room, *place, *len), part(text, *from, *len));
+                same_of(rt, &at, part(buffer, *place, *len), part(text, *from, *len));
             }
         }
     }
@@ -86,17 +86,17 @@ pub(crate) fn take_by<S: WordSource>(
     rt: &impl Abort,
     source: &mut S,
     text: &[u8],
-    room: &mut [u8],
+    buffer: &mut [u8],
     steps: &[Takes],
 ) {
     for (at, step) in steps.iter().enumerate() {
         match step {
-            Takes::Next(wanted) => same_of(rt, &at, source.next(), *wanted),
-            Takes::Position(wanted) => same_of(rt, &at, source.position(), *wanted),
-            Takes::AtHand(wanted) => same_of(rt, &at, source.is_at_hand(), *wanted),
+            Takes::Next(expected) => same_of(rt, &at, source.next(), *expected),
+            Takes::Position(expected) => same_of(rt, &at, source.position(), *expected),
+            Takes::Buffered(expected) => same_of(rt, &at, source.is_buffered(), *expected),
             Takes::Ready(size, from, len) => {
-                same_of(rt, &at, source.ready(front(room, *size)), *len);
-                same_of(rt, &at, part(room, 0, *len), part(text, *from, *len));
+                same_of(rt, &at, source.ready(front(buffer, *size)), *len);
+                same_of(rt, &at, part(buffer, 0, *len), part(text, *from, *len));
             }
         }
     }
@@ -105,11 +105,11 @@ pub(crate) fn take_by<S: WordSource>(
 pub(crate) fn put_by<K: WordSink>(rt: &impl Abort, sink: &mut K, text: &[u8], steps: &[Puts]) {
     for (at, step) in steps.iter().enumerate() {
         match step {
-            Puts::Word(word, wanted) => same_of(rt, &at, sink.put(*word), *wanted),
-            Puts::Bytes(from, len, wanted) => {
-                same_of(rt, &at, sink.put_bytes(part(text, *from, *len)), *wanted);
+            Puts::Word(word, expected) => same_of(rt, &at, sink.put(*word), *expected),
+            Puts::Bytes(from, len, expected) => {
+                same_of(rt, &at, sink.put_bytes(part(text, *from, *len)), *expected);
             }
-            Puts::Finish(wanted) => same_of(rt, &at, sink.finish(), *wanted),
+            Puts::Finish(expected) => same_of(rt, &at, sink.finish(), *expected),
         }
     }
 }
@@ -117,10 +117,10 @@ pub(crate) fn put_by<K: WordSink>(rt: &impl Abort, sink: &mut K, text: &[u8], st
 pub(crate) fn write_by<O: ByteOut>(rt: &impl Abort, output: &mut O, text: &[u8], steps: &[Writes]) {
     for (at, step) in steps.iter().enumerate() {
         match step {
-            Writes::Write(from, len, wanted) => {
-                same_of(rt, &at, output.write(part(text, *from, *len)), *wanted);
+            Writes::Write(from, len, expected) => {
+                same_of(rt, &at, output.write(part(text, *from, *len)), *expected);
             }
-            Writes::Flush(wanted) => same_of(rt, &at, output.flush(), *wanted),
+            Writes::Flush(expected) => same_of(rt, &at, output.flush(), *expected),
         }
     }
 }

@@ -53,13 +53,13 @@ static ROWS: [Row; 4] = [
         &[0x10, 1, 0, 1, 0x10],
         &[
             Takes::Next(Ok(Some(0x1_0000_0000))),
-            Takes::AtHand(true),
+            Takes::Buffered(true),
             Takes::Next(Ok(Some(0))),
-            Takes::AtHand(true),
+            Takes::Buffered(true),
             Takes::Next(Ok(Some(0))),
-            Takes::AtHand(true),
+            Takes::Buffered(true),
             Takes::Next(Err(SourceFault::Truncated { byte: 5 })),
-            Takes::AtHand(false),
+            Takes::Buffered(false),
             Takes::Next(Err(SourceFault::Spent)),
         ],
         &[],
@@ -67,12 +67,12 @@ static ROWS: [Row; 4] = [
     (
         &[0, 1],
         &[
-            Takes::AtHand(true),
+            Takes::Buffered(true),
             Takes::Next(Ok(Some(0))),
-            Takes::AtHand(false),
+            Takes::Buffered(false),
             Takes::Next(Ok(Some(0))),
             Takes::Next(Ok(None)),
-            Takes::AtHand(false),
+            Takes::Buffered(false),
         ],
         &[],
     ),
@@ -80,11 +80,11 @@ static ROWS: [Row; 4] = [
 
 #[test]
 fn positions_and_what_is_left(rt: HostRuntime) {
-    let mut room = [0; 32];
+    let mut buffer = [0; 32];
     for (text, taken, left) in &ROWS {
         let mut source = Unpacker::new(SliceIn::new(*text));
         take_by(&rt, &mut source, *text, &mut [], *taken);
         let mut input = source.into_inner();
-        read_by(&rt, &mut input, *text, &mut room, *left);
+        read_by(&rt, &mut input, *text, &mut buffer, *left);
     }
 }

@@ -86,12 +86,12 @@ impl Read for Reader<'_> {
 }
 
 /// A writer that takes at most `most` bytes a call, and counts its calls, flushes among them. It
-/// also fails once it has taken `room` bytes.
+/// also fails once it has taken `buffer` bytes.
 #[derive(Drop)]
 pub struct Writer {
     pub taken: Vec<u8>,
     pub most: usize,
-    pub room: usize,
+    pub capacity: usize,
     pub fault: Fault,
     pub calls: u32,
 }
@@ -102,19 +102,23 @@ impl Writer {
         Writer {
             taken: Vec::new(alloc),
             most,
-            room: usize::MAX,
+            capacity: usize::MAX,
             fault,
             calls: 0,
         }
     }
 
-    /// One that takes `room` bytes and then fails: by an error where `tells`, and else by taking none.
-    pub fn full(alloc: Global, room: usize, tells: bool) -> Writer {
-        let kind = if tells { Some(ErrorKind::Other) } else { None };
+    /// One that takes `buffer` bytes and then fails: by an error where `reports`, and else by taking none.
+    pub fn full(alloc: Global, capacity: usize, reports: bool) -> Writer {
+        let kind = if reports {
+            Some(ErrorKind::Other)
+        } else {
+            None
+        };
         Writer {
             taken: Vec::new(alloc),
             most: usize::MAX,
-            room,
+            capacity,
             fault: Fault { at: 0, kind },
             calls: 0,
         }
@@ -124,15 +128,15 @@ impl Writer {
 impl Write for Writer {
     fn write(&mut self, buf: &[u8]) -> io::Result<usize> {
         self.calls = self.calls.saturating_add(1);
-        if self.calls == self.fault.at || self.room == 0 {
+        if self.calls == self.fault.at || self.capacity == 0 {
             return match self.fault.kind {
                 Some(kind) => Err(io::Error::from(kind)),
                 None => Ok(0),
             };
         }
-        let count = buf.len().min(self.most).min(self.room);
+        let count = buf.len().min(self.most).min(self.capacity);
         self.taken.extend_from_slice(&buf[..count])?;
-        self.room = self.room.saturating_sub(count);
+        self.capacity = self.capacity.saturating_sub(count);
         Ok(count)
     }
 

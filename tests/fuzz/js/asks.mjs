@@ -251,10 +251,10 @@ export function difference(asks, answers) {
       if (it.line !== answers[at].trimEnd()) return `${name}: ${it.line}, and by the native library ${answers[at]}`;
       continue;
     }
-    const wanted = answers[at].split("\n").slice(0, it.second);
-    const isSame = wanted.every((line, index) => line === it.lines[index] || (index >= it.lines.length && line === "NoNode") ||
+    const expected = answers[at].split("\n").slice(0, it.second);
+    const isSame = expected.every((line, index) => line === it.lines[index] || (index >= it.lines.length && line === "NoNode") ||
       (index >= it.lines.length && !/^(Ok|NoNode)/.test(it.lines.at(-1) ?? "Ok")));
-    if (!isSame) return `${name}: ${it.lines}, and by the native library ${wanted}`;
+    if (!isSame) return `${name}: ${it.lines}, and by the native library ${expected}`;
   }
   return null;
 }

@@ -1,7 +1,7 @@
 //! The call that writes a canonical copy between buffers.
 
 ghost use Rattle.cap_calls.specs.CallBounds.{canonical_bound};
-ghost use Rattle.cap_calls.specs.CanonicalCalls.{Copies, TellsCopy, size_found};
+ghost use Rattle.cap_calls.specs.CanonicalCalls.{Copies, ReportsCopy, size_found};
 ghost use Rattle.cap_calls.specs.CallFlags.{allows_amplified};
 ghost use Rattle.cap_calls.specs.declared.answer.Answer.{Answer};
 ghost use Rattle.cap_calls.specs.declared.report.CallReport.{CallReport};
@@ -13,7 +13,7 @@ use crate::input::over_input;
 use crate::limits::CallLimits;
 use crate::over::Call;
 use crate::report::CallReport;
-use cap_canon::{RoomFault, canonical_into};
+use cap_canon::{BufferFault, canonical_into};
 use cap_frame::ByteView;
 use cap_vet::{Demands, Limits, Report, vet_with};
 
@@ -38,10 +38,10 @@ pub fn canonical(
     required: &mut usize,
     report: &mut CallReport,
 ) -> Answer
-    ensures tells { TellsCopy limits.now bytes.now out.old result required.new out.new report.new }
+    ensures reports { ReportsCopy limits.now bytes.now out.old result required.new out.new report.new }
     // The bytes and the capacity allow no other result.
     ensures only { (a : Answer) (n : ℕ) (new : List ℕ) (r : CallReport) →
-        TellsCopy limits.now bytes.now out.old a n new r →
+        ReportsCopy limits.now bytes.now out.old a n new r →
         (result ≡ a) × (required.new ≡ n) × (out.new ≡ new) × (report.new ≡ r) }
     // These capacities are always enough.
     ensures few { required.new ≤ 8 * (report.new.charge + 1) }
@@ -81,14 +81,14 @@ impl Call for Copying {
 }
 
 // What is found of an accepted message, by the result of its copy.
-fn found_of_size(written: Result<usize, RoomFault>, report: Report) -> Found
+fn found_of_size(written: Result<usize, BufferFault>, report: Report) -> Found
     ensures { result ≡ size_found written report }
 {
     match written {
         Ok(count) => Found::accepted(Answer::Good, count, report),
-        Err(RoomFault::NoRoom { needed }) => {
+        Err(BufferFault::BufferTooSmall { needed }) => {
             Found::accepted(Answer::BufferTooSmall, needed, report)
         }
-        Err(RoomFault::HasCapability { .. }) => Found::accepted(Answer::HasCapability, 0, report),
+        Err(BufferFault::HasCapability { .. }) => Found::accepted(Answer::HasCapability, 0, report),
     }
 }

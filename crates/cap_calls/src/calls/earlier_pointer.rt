@@ -1,6 +1,6 @@
 //! The call for the earlier pointer of an overlap.
 
-ghost use Rattle.cap_calls.specs.EarlierCalls.{FindsEarlier, TellsEarlierCall};
+ghost use Rattle.cap_calls.specs.EarlierCalls.{FindsEarlier, ReportsEarlierCall};
 ghost use Rattle.cap_calls.specs.declared.answer.Answer.{Answer};
 ghost use Rattle.cap_calls.specs.declared.report.CallReport.{CallReport};
 ghost use Rattle.cap_vet.specs.Limits.{depth_of, words_of};
@@ -36,9 +36,9 @@ pub fn earlier_pointer(
     number: u64,
     report: &mut CallReport,
 ) -> Answer
-    ensures tells { TellsEarlierCall limits.now bytes.now number result report.new }
+    ensures reports { ReportsEarlierCall limits.now bytes.now number result report.new }
     // The bytes and the number allow no other result.
-    ensures only { (a : Answer) (r : CallReport) → TellsEarlierCall limits.now bytes.now number a r →
+    ensures only { (a : Answer) (r : CallReport) → ReportsEarlierCall limits.now bytes.now number a r →
         (result ≡ a) × (report.new ≡ r) }
 {
     let whole = !limits.allows_trailing();

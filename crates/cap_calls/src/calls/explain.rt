@@ -1,8 +1,8 @@
 //! The call that explains a refusal.
 
 ghost use Rattle.cap_calls.specs.CallReports.{refused_report};
-ghost use Rattle.cap_calls.specs.ExplainCalls.{FindsFewLines, TellsExplanation, fault_lines};
-ghost use Rattle.cap_calls.specs.PackCalls.{TellsText};
+ghost use Rattle.cap_calls.specs.ExplainCalls.{FindsFewLines, ReportsExplanation, fault_lines};
+ghost use Rattle.cap_calls.specs.PackCalls.{ReportsText};
 ghost use Rattle.cap_calls.specs.declared.answer.Answer.{Answer};
 ghost use Rattle.cap_calls.specs.declared.report.CallReport.{CallReport};
 ghost use Rattle.cap_explain.specs.Charges.{ChargeOf};
@@ -46,11 +46,11 @@ pub fn explain(
     required: &mut usize,
     report: &mut CallReport,
 ) -> Answer
-    ensures tells { TellsExplanation limits.now bytes.now text.old result required.new text.new
+    ensures reports { ReportsExplanation limits.now bytes.now text.old result required.new text.new
         report.new }
     // The bytes and the capacity allow no other result.
     ensures only { (a : Answer) (n : ℕ) (new : List ℕ) (r : CallReport) →
-        TellsExplanation limits.now bytes.now text.old a n new r →
+        ReportsExplanation limits.now bytes.now text.old a n new r →
         (result ≡ a) × (required.new ≡ n) × (text.new ≡ new) × (report.new ≡ r) }
     // This capacity is always enough.
     ensures few { required.new ≤ 6144 }
@@ -97,7 +97,7 @@ fn explained<'b>(
 ) -> Found
     ensures lines { let m = ⟦<ByteView<'b> as Segments>⟧.segments view.now in
         (h : IsDemandFault demands m (words_of limits) (depth_of limits) refusal) →
-        TellsText (fault_lines demands m (words_of limits) (depth_of limits) refusal h) out.old
+        ReportsText (fault_lines demands m (words_of limits) (depth_of limits) refusal h) out.old
         result.answer result.count out.new }
     ensures few { result.count ≤ 6144 }
     ensures report { result.report ≡ refused_report refusal }
@@ -141,8 +141,8 @@ fn put_lines<'b>(
     path: &NamedPath,
     out: &mut [u8],
 ) -> (Answer, usize)
-    ensures tells { let m = ⟦<ByteView<'b> as Segments>⟧.segments view.now in
-        TellsText (explanation path.now m refusal.now numbers) out.old result.0 result.1 out.new }
+    ensures reports { let m = ⟦<ByteView<'b> as Segments>⟧.segments view.now in
+        ReportsText (explanation path.now m refusal.now numbers) out.old result.0 result.1 out.new }
     ensures few { result.1 ≤ 6144 }
 {
     let mut lines = Explanation::new();
@@ -152,7 +152,7 @@ fn put_lines<'b>(
 
 // Puts a text to the start of a buffer, if it fits. Gives its length too.
 fn put_text(text: &[u8], out: &mut [u8]) -> (Answer, usize)
-    ensures tells { TellsText text.now out.old result.0 result.1 out.new }
+    ensures reports { ReportsText text.now out.old result.0 result.1 out.new }
     ensures count { result.1 ≡ length text.now }
 {
     let count = text.len();

@@ -1,8 +1,8 @@
 //! The call that reports the length of a frame.
 
-ghost use Rattle.cap_calls.specs.Calls.{TellsFrame, FindsFrame};
+ghost use Rattle.cap_calls.specs.Calls.{ReportsFrame, FindsFrame};
 ghost use Rattle.cap_calls.specs.CallBounds.{frame_bound};
-ghost use Rattle.cap_calls.specs.CallFindings.{Tells};
+ghost use Rattle.cap_calls.specs.CallFindings.{Reports};
 ghost use Rattle.cap_calls.specs.declared.answer.Answer.{Answer};
 ghost use Rattle.cap_calls.specs.declared.report.CallReport.{CallReport};
 ghost use Rattle.std.specs.Prelude.{◌≡◌, ◌≤◌, ⊤};
@@ -19,9 +19,9 @@ use crate::report::CallReport;
 /// It returns [`Answer::Good`], or why there is no frame within the limits. The report is written
 /// whole.
 pub fn frame(bytes: &[u8], limits: &CallLimits, report: &mut CallReport) -> Answer
-    ensures tells { TellsFrame limits.now bytes.now result report.new }
+    ensures reports { ReportsFrame limits.now bytes.now result report.new }
     // The bytes allow no other result.
-    ensures only { (a : Answer) (r : CallReport) → TellsFrame limits.now bytes.now a r →
+    ensures only { (a : Answer) (r : CallReport) → ReportsFrame limits.now bytes.now a r →
         (result ≡ a) × (report.new ≡ r) }
     // No more bytes are required than a frame within the limit has, and no frame has more.
     ensures input_required { report.new.input_required ≤ frame_bound limits.now.message_words }
@@ -34,7 +34,7 @@ pub fn frame(bytes: &[u8], limits: &CallLimits, report: &mut CallReport) -> Answ
 
 // What is found of the frame.
 fn extent(bytes: &[u8], limits: &CallLimits) -> Found
-    ensures { Tells ⊤ FindsFrame limits.now bytes.now result }
+    ensures { Reports ⊤ FindsFrame limits.now bytes.now result }
 {
     match front(bytes, limits) {
         Ok((framed, _)) => Found {

@@ -1,7 +1,7 @@
 //! The call for the node at a path.
 
 ghost use Rattle.cap_calls.specs.CallFrames.{AreLimits};
-ghost use Rattle.cap_calls.specs.NodeCalls.{GetsFirst, TellsGet, TellsPath, bad_path_found, path_found};
+ghost use Rattle.cap_calls.specs.NodeCalls.{GetsFirst, ReportsGet, ReportsPath, bad_path_found, path_found};
 ghost use Rattle.cap_calls.specs.declared.answer.Answer.{Answer};
 ghost use Rattle.cap_calls.specs.declared.node.CallNode.{CallNode};
 ghost use Rattle.cap_calls.specs.declared.report.CallReport.{CallReport};
@@ -43,10 +43,10 @@ pub fn get(
     node: &mut CallNode,
     report: &mut CallReport,
 ) -> Answer
-    ensures tells { TellsGet limits.now bytes.now path.now result node.new report.new }
+    ensures reports { ReportsGet limits.now bytes.now path.now result node.new report.new }
     // The bytes and the path allow no other result.
     ensures only { (a : Answer) (n : CallNode) (r : CallReport) →
-        TellsGet limits.now bytes.now path.now a n r →
+        ReportsGet limits.now bytes.now path.now a n r →
         (result ≡ a) × (node.new ≡ n) × (report.new ≡ r) }
 {
     let found = find(bytes, limits, path, node);
@@ -56,7 +56,7 @@ pub fn get(
 
 // What the call finds.
 fn find(bytes: &[u8], limits: &CallLimits, path: &[u8], node: &mut CallNode) -> Found
-    ensures { TellsPath limits.now bytes.now path.now node.new result }
+    ensures { ReportsPath limits.now bytes.now path.now node.new result }
 {
     *node = CallNode::none();
     match read_path(path) {

@@ -1,6 +1,6 @@
 //! The call for the nodes at the paths of a range.
 
-ghost use Rattle.cap_calls.specs.RangeCalls.{AreSteps, GetsRange, IsBadStep, TellsRange, TellsSteps, path_after, step_after};
+ghost use Rattle.cap_calls.specs.RangeCalls.{AreSteps, GetsRange, IsBadStep, ReportsRange, ReportsSteps, path_after, step_after};
 ghost use Rattle.cap_calls.specs.declared.answer.Answer.{Answer};
 ghost use Rattle.cap_calls.specs.declared.node.CallNode.{CallNode};
 ghost use Rattle.cap_calls.specs.declared.report.CallReport.{CallReport};
@@ -43,11 +43,11 @@ pub fn get_range(
     found: &mut usize,
     report: &mut CallReport,
 ) -> Answer
-    ensures tells { TellsRange limits.now bytes.now steps.now varying nodes.old result found.new
+    ensures reports { ReportsRange limits.now bytes.now steps.now varying nodes.old result found.new
         nodes.new report.new }
     // The bytes and the steps allow no other result.
     ensures only { (a : Answer) (n : ℕ) (new : List CallNode) (r : CallReport) →
-        TellsRange limits.now bytes.now steps.now varying nodes.old a n new r →
+        ReportsRange limits.now bytes.now steps.now varying nodes.old a n new r →
         (result ≡ a) × (found.new ≡ n) × (nodes.new ≡ new) × (report.new ≡ r) }
 {
     let what = find(bytes, limits, steps, varying, nodes);
@@ -64,7 +64,7 @@ fn find(
     varying: usize,
     nodes: &mut [CallNode],
 ) -> Found
-    ensures { TellsSteps limits.now bytes.now steps.now varying nodes.old nodes.new result }
+    ensures { ReportsSteps limits.now bytes.now steps.now varying nodes.old nodes.new result }
 {
     match bad_step(steps, varying) {
         Some(at) => {

@@ -1,7 +1,7 @@
 //! The call that checks whether a message is canonical.
 
 ghost use Rattle.cap_calls.specs.CallFindings.{Judges};
-ghost use Rattle.cap_calls.specs.Calls.{IsCheck, TellsCheck};
+ghost use Rattle.cap_calls.specs.Calls.{IsCheck, ReportsCheck};
 ghost use Rattle.cap_calls.specs.declared.answer.Answer.{Answer};
 ghost use Rattle.cap_calls.specs.declared.report.CallReport.{CallReport};
 ghost use Rattle.std.specs.Prelude.{◌≡◌, ⊤};
@@ -24,9 +24,9 @@ use cap_vet::{Demands, Limits};
 /// also for one with a capability. Otherwise it returns what [`crate::vet`] does without flag 1:
 /// bytes after the message always give [`Answer::Trailing`]. The report is written whole.
 pub fn is_canonical(bytes: &[u8], limits: &CallLimits, report: &mut CallReport) -> Answer
-    ensures tells { TellsCheck limits.now bytes.now result report.new }
+    ensures reports { ReportsCheck limits.now bytes.now result report.new }
     // The bytes allow no other result.
-    ensures only { (a : Answer) (r : CallReport) → TellsCheck limits.now bytes.now a r →
+    ensures only { (a : Answer) (r : CallReport) → ReportsCheck limits.now bytes.now a r →
         (result ≡ a) × (report.new ≡ r) }
 {
     over_input(&Checking, true, bytes, limits, &mut [], report).0

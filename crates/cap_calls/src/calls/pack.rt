@@ -1,7 +1,7 @@
 //! The call that packs between buffers.
 
 ghost use Rattle.cap_calls.specs.CallBounds.{pack_bound};
-ghost use Rattle.cap_calls.specs.PackCalls.{TellsPack};
+ghost use Rattle.cap_calls.specs.PackCalls.{ReportsPack};
 ghost use Rattle.cap_calls.specs.declared.answer.Answer.{Answer};
 ghost use Rattle.std.specs.Prelude.{◌≡◌, ◌≤◌, List, length, ℕ};
 
@@ -19,9 +19,9 @@ use cap_pack::pack_into;
 ///
 /// Without [`Answer::Good`], `out` is unchanged; with it, the bytes after the text are.
 pub fn pack(bytes: &[u8], out: &mut [u8], required: &mut usize) -> Answer
-    ensures tells { TellsPack bytes.now out.old result required.new out.new }
+    ensures reports { ReportsPack bytes.now out.old result required.new out.new }
     // The bytes and the capacity allow no other result.
-    ensures only { (a : Answer) (n : ℕ) (new : List ℕ) → TellsPack bytes.now out.old a n new →
+    ensures only { (a : Answer) (n : ℕ) (new : List ℕ) → ReportsPack bytes.now out.old a n new →
         (result ≡ a) × (required.new ≡ n) × (out.new ≡ new) }
     // This capacity is always enough.
     ensures bound { required.new ≤ pack_bound (length bytes.now) }
@@ -31,7 +31,7 @@ pub fn pack(bytes: &[u8], out: &mut [u8], required: &mut usize) -> Answer
 
 // The same, without the clause `only`.
 fn pack_all(bytes: &[u8], out: &mut [u8], required: &mut usize) -> Answer
-    ensures tells { TellsPack bytes.now out.old result required.new out.new }
+    ensures reports { ReportsPack bytes.now out.old result required.new out.new }
     ensures bound { required.new ≤ pack_bound (length bytes.now) }
 {
     *required = 0;

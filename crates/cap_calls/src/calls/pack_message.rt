@@ -1,7 +1,7 @@
 //! The call that packs one message.
 
 ghost use Rattle.cap_calls.specs.CallBounds.{pack_bound};
-ghost use Rattle.cap_calls.specs.PackedMessages.{Packs, PacksShort, TellsPackMessage};
+ghost use Rattle.cap_calls.specs.PackedMessages.{Packs, PacksShort, ReportsPackMessage};
 ghost use Rattle.cap_calls.specs.declared.answer.Answer.{Answer};
 ghost use Rattle.cap_calls.specs.declared.report.CallReport.{CallReport};
 ghost use Rattle.cap_spec.specs.Frames.{sizes_of};
@@ -39,11 +39,11 @@ pub fn pack_message(
     required: &mut usize,
     report: &mut CallReport,
 ) -> Answer
-    ensures tells { TellsPackMessage limits.now bytes.now out.old result required.new out.new
+    ensures reports { ReportsPackMessage limits.now bytes.now out.old result required.new out.new
         report.new }
     // The bytes and the capacity allow no other result.
     ensures only { (a : Answer) (n : ℕ) (new : List ℕ) (r : CallReport) →
-        TellsPackMessage limits.now bytes.now out.old a n new r →
+        ReportsPackMessage limits.now bytes.now out.old a n new r →
         (result ≡ a) × (required.new ≡ n) × (out.new ≡ new) × (report.new ≡ r) }
     // These capacities are always enough.
     ensures few { required.new ≤ report.new.length / 8 * 10 }
@@ -84,7 +84,7 @@ fn packed<'b>(table: &[u8], message: &ByteView<'b>, out: &mut [u8]) -> Found
     requires short { length table.now ≤ 2056 }
     requires table { let m = ⟦<ByteView<'b> as Segments>⟧.segments message.now in
         plain_words table.now ≡ table_of m }
-    ensures tells { let m = ⟦<ByteView<'b> as Segments>⟧.segments message.now in
+    ensures reports { let m = ⟦<ByteView<'b> as Segments>⟧.segments message.now in
         (words depth : ℕ) → Packs out.old out.new m words depth result }
     ensures few { let m = ⟦<ByteView<'b> as Segments>⟧.segments message.now in
         4 * result.count ≤ 5 * (length table.now + 8 * sum (sizes_of m)) }

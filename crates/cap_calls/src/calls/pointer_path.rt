@@ -1,6 +1,6 @@
 //! The call for the path to a pointer word.
 
-ghost use Rattle.cap_calls.specs.PointerCalls.{FindsFew, TellsPointer, steps_found};
+ghost use Rattle.cap_calls.specs.PointerCalls.{FindsFew, ReportsPointer, steps_found};
 ghost use Rattle.cap_calls.specs.declared.answer.Answer.{Answer};
 ghost use Rattle.cap_calls.specs.declared.report.CallReport.{CallReport};
 ghost use Rattle.cap_calls.specs.declared.step.CallStep.{CallStep};
@@ -43,11 +43,11 @@ pub fn pointer_path(
     required: &mut usize,
     report: &mut CallReport,
 ) -> Answer
-    ensures tells { TellsPointer limits.now bytes.now number steps.old result required.new steps.new
+    ensures reports { ReportsPointer limits.now bytes.now number steps.old result required.new steps.new
         report.new }
     // The bytes, the number and the capacity allow no other result.
     ensures only { (a : Answer) (n : ℕ) (new : List CallStep) (r : CallReport) →
-        TellsPointer limits.now bytes.now number steps.old a n new r →
+        ReportsPointer limits.now bytes.now number steps.old a n new r →
         (result ≡ a) × (required.new ≡ n) × (steps.new ≡ new) × (report.new ≡ r) }
     // This capacity is always enough.
     ensures few { required.new ≤ 256 }

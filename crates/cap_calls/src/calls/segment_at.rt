@@ -1,7 +1,7 @@
 //! The call that reports where a segment of a frame is.
 
 ghost use Rattle.cap_calls.specs.CallNodes.{offset_of};
-ghost use Rattle.cap_calls.specs.SegmentCalls.{AreSegmentWords, TellsSegment, any_size};
+ghost use Rattle.cap_calls.specs.SegmentCalls.{AreSegmentWords, ReportsSegment, any_size};
 ghost use Rattle.cap_calls.specs.declared.answer.Answer.{Answer};
 ghost use Rattle.cap_frame.specs.Framed.{framed_segments};
 ghost use Rattle.cap_spec.specs.Messages.{segment_of};
@@ -28,9 +28,9 @@ pub fn segment_at(
     offset: &mut usize,
     segment_length: &mut usize,
 ) -> Answer
-    ensures tells { TellsSegment bytes.now index result offset.new segment_length.new }
+    ensures reports { ReportsSegment bytes.now index result offset.new segment_length.new }
     // The bytes allow no other result.
-    ensures only { (a : Answer) (start size : ℕ) → TellsSegment bytes.now index a start size →
+    ensures only { (a : Answer) (start size : ℕ) → ReportsSegment bytes.now index a start size →
         (result ≡ a) × (offset.new ≡ start) × (segment_length.new ≡ size) }
     // The words of the segment are the bytes there.
     ensures words { AreSegmentWords bytes.now index offset.new segment_length.new }
@@ -43,7 +43,7 @@ pub fn segment_at(
 
 // The answer, and the two numbers.
 fn found_at(bytes: &[u8], index: u32) -> (Answer, usize, usize)
-    ensures { TellsSegment bytes.now index result.0 result.1 result.2 }
+    ensures { ReportsSegment bytes.now index result.0 result.1 result.2 }
 {
     let limits = any_size();
     match front(bytes, &limits) {

@@ -1,6 +1,6 @@
 //! The call that unpacks between buffers.
 
-ghost use Rattle.cap_calls.specs.PackCalls.{TellsUnpack};
+ghost use Rattle.cap_calls.specs.PackCalls.{ReportsUnpack};
 ghost use Rattle.cap_calls.specs.declared.answer.Answer.{Answer};
 ghost use Rattle.cap_spec.specs.Plain.{plain_text};
 ghost use Rattle.cap_spec.specs.Unpacking.{group_length, group_words, packed_is_cut, unpacked};
@@ -25,9 +25,9 @@ const MOST_PACKED: usize = 9007199254740992;
 ///
 /// Without [`Answer::Good`], `out` is unchanged; with it, the bytes after the words are.
 pub fn unpack(bytes: &[u8], out: &mut [u8], required: &mut usize) -> Answer
-    ensures tells { TellsUnpack bytes.now out.old result required.new out.new }
+    ensures reports { ReportsUnpack bytes.now out.old result required.new out.new }
     // The bytes and the capacity allow no other result.
-    ensures only { (a : Answer) (n : ℕ) (new : List ℕ) → TellsUnpack bytes.now out.old a n new →
+    ensures only { (a : Answer) (n : ℕ) (new : List ℕ) → ReportsUnpack bytes.now out.old a n new →
         (result ≡ a) × (required.new ≡ n) × (out.new ≡ new) }
 {
     unpack_all(bytes, out, required)
@@ -35,7 +35,7 @@ pub fn unpack(bytes: &[u8], out: &mut [u8], required: &mut usize) -> Answer
 
 // The same, without the clause `only`.
 fn unpack_all(bytes: &[u8], out: &mut [u8], required: &mut usize) -> Answer
-    ensures { TellsUnpack bytes.now out.old result required.new out.new }
+    ensures { ReportsUnpack bytes.now out.old result required.new out.new }
 {
     *required = 0;
     if bytes.len() > MOST_PACKED {

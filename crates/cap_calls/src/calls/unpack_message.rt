@@ -5,7 +5,7 @@ ghost use Rattle.cap_calls.specs.CallFrames.{AreLimits};
 ghost use Rattle.cap_calls.specs.CallReports.{none_report};
 ghost use Rattle.cap_calls.specs.MessageStages.{IsEnd, IsStage, ReachesStage};
 ghost use Rattle.cap_calls.specs.PackedStreams.{IsRunRest};
-ghost use Rattle.cap_calls.specs.UnpackingMessages.{IsState, Leaves, StopsCall, TellsUnpackMessage, Unpacked, UnpacksTo, state_of};
+ghost use Rattle.cap_calls.specs.UnpackingMessages.{IsState, Leaves, StopsCall, ReportsUnpackMessage, Unpacked, UnpacksTo, state_of};
 ghost use Rattle.cap_calls.specs.declared.answer.Answer.{Answer};
 ghost use Rattle.cap_calls.specs.declared.report.CallReport.{CallReport};
 ghost use Rattle.cap_calls.specs.declared.unpacking.Unpacking.{Unpacking};
@@ -14,7 +14,7 @@ ghost use Rattle.std.specs.Prelude.{◌%◌, ◌≡◌, ◌≤◌, Decides, IfNo
 
 use crate::answer::Answer;
 use crate::limits::CallLimits;
-use crate::packed_stream::{Given, give, has_word, needed};
+use crate::packed_stream::{Given, bytes_required, give, has_word};
 use crate::report::CallReport;
 use crate::unpacking::Unpacking;
 use cap_frame::{FrontFault, SizeLimit, front_of};
@@ -51,7 +51,7 @@ pub fn unpack_message(
     required: &mut usize,
     report: &mut CallReport,
 ) -> Answer
-    ensures tells { TellsUnpackMessage limits.now bytes.now out.old state.old result consumed.new
+    ensures reports { ReportsUnpackMessage limits.now bytes.now out.old state.old result consumed.new
         required.new out.new state.new report.new }
     // The bytes, the state and the contents of the buffer allow no other result.
     ensures only { (u : Unpacked) → UnpacksTo limits.now bytes.now out.old state.old u →
@@ -81,8 +81,8 @@ struct Stop {
 // How a message goes on of which a buffer holds the first bytes.
 #[derive(Clone, Copy)]
 pub(crate) enum Stage {
-    // More words belong to it, up to `wanted` bytes.
-    Open { wanted: u64 },
+    // More words belong to it, up to `needed` bytes.
+    Open { needed: u64 },
     // It is whole.
     Whole { segments: u32 },
     // It has too many segments.
@@ -93,7 +93,7 @@ pub(crate) enum Stage {
 
 // What a call returns, for a buffer that is written.
 fn unpacked(bytes: &[u8], limits: &CallLimits, out: &mut [u8], state: Unpacking) -> Stop
-    ensures { TellsUnpackMessage limits.now bytes.now out.old state result.answer result.consumed
+    ensures { ReportsUnpackMessage limits.now bytes.now out.old state result.answer result.consumed
         result.required out.new result.state result.report }
 {
     let Some(size) = size_limit(limits) else {
@@ -170,8 +170,8 @@ fn stage_of(held: &[u8], size: SizeLimit) -> Stage
         Ok(Some(framed)) => Stage::Whole {
             segments: framed.count(),
         },
-        Ok(None) => Stage::Open { wanted: 8 },
-        Err(FrontFault::Truncated { wanted }) => Stage::Open { wanted },
+        Ok(None) => Stage::Open { needed: 8 },
+        Err(FrontFault::Truncated { needed }) => Stage::Open { needed },
         Err(FrontFault::TooManySegments { count }) => Stage::TooMany { count },
         Err(FrontFault::TooLarge { words }) => Stage::TooLarge { words },
     }
@@ -193,13 +193,13 @@ fn fill(bytes: &[u8], size: SizeLimit, out: &mut [u8], state: Unpacking) -> (Giv
     let most = out.len() / 8 * 8;
     'stages: loop {
         let stage = stage_of(&out[..done.written], size);
-        let wanted = match stage {
-            Stage::Open { wanted } => wanted,
+        let needed = match stage {
+            Stage::Open { needed } => needed,
             Stage::Whole { .. } => return (done, stage),
             Stage::TooMany { .. } => return (done, stage),
             Stage::TooLarge { .. } => return (done, stage),
         };
-        let end = most.min(wanted as usize);
+        let end = most.min(needed as usize);
         let next = give(
             &bytes[done.taken..],
             &mut out[done.written..end],
@@ -211,7 +211,7 @@ fn fill(bytes: &[u8], size: SizeLimit, out: &mut [u8], state: Unpacking) -> (Giv
             written: done.written + next.written,
             ..next
         };
-        if (done.written as u64) < wanted {
+        if (done.written as u64) < needed {
             return (done, stage_of(&out[..done.written], size));
         }
     }
@@ -239,7 +239,7 @@ fn stop_of(rest: &[u8], given: Given, stage: Stage, state: Unpacking) -> Stop
         report: CallReport::none(),
     };
     match stage {
-        Stage::Open { wanted } => open_stop(rest, given, wanted, stop),
+        Stage::Open { needed } => open_stop(rest, given, needed, stop),
         Stage::Whole { segments } => whole_stop(given.written, segments, stop),
         Stage::TooMany { count } => refused_stop(Answer::TooManySegments, count, stop),
         Stage::TooLarge { words } => refused_stop(Answer::TooLarge, words, stop),
@@ -288,12 +288,12 @@ fn refused_stop(answer: Answer, detail: u64, stop: Stop) -> Stop
     }
 }
 
-// The same if more words belong to the message, up to `wanted` bytes.
-fn open_stop(rest: &[u8], given: Given, wanted: u64, stop: Stop) -> Stop
+// The same if more words belong to the message, up to `needed` bytes.
+fn open_stop(rest: &[u8], given: Given, needed: u64, stop: Stop) -> Stop
     requires { (stop.answer ≡ Answer.Truncated) × (stop.required ≡ 0) × (stop.report ≡ none_report)
         × (stop.state.written ≡ given.written) }
     ensures stops { (limit size : ℕ) (held : List ℕ) →
-        IsEnd limit size held rest.now given (Stage.Open wanted) →
+        IsEnd limit size held rest.now given (Stage.Open needed) →
         StopsCall limit size held given.zeros given.literal rest.now result.answer result.required
         result.state.written result.report }
     ensures consumed { result.consumed ≡ stop.consumed }
@@ -302,7 +302,7 @@ fn open_stop(rest: &[u8], given: Given, wanted: u64, stop: Stop) -> Stop
     if has_word(rest, given.zeros, given.literal) {
         return Stop {
             answer: Answer::BufferTooSmall,
-            required: wanted as usize,
+            required: needed as usize,
             ..stop
         };
     }
@@ -318,7 +318,7 @@ fn open_stop(rest: &[u8], given: Given, wanted: u64, stop: Stop) -> Stop
     }
     Stop {
         report: CallReport {
-            input_required: needed(rest, given.literal),
+            input_required: bytes_required(rest, given.literal),
             ..stop.report
         },
         ..stop

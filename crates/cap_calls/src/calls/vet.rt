@@ -1,7 +1,7 @@
 //! The call that vets a message.
 
 ghost use Rattle.cap_calls.specs.CallFindings.{Judges};
-ghost use Rattle.cap_calls.specs.Calls.{IsGood, TellsVet};
+ghost use Rattle.cap_calls.specs.Calls.{IsGood, ReportsVet};
 ghost use Rattle.cap_calls.specs.declared.answer.Answer.{Answer};
 ghost use Rattle.cap_calls.specs.declared.report.CallReport.{CallReport};
 ghost use Rattle.cap_vet.specs.Limits.{depth_of, words_of};
@@ -29,9 +29,9 @@ use cap_vet::{Demands, Limits, vet_with};
 /// [`Answer::Trailing`], the reason of a refusal, [`Answer::ManySegments`], the form of the first
 /// pointer that isn't strict. The report is written whole.
 pub fn vet(bytes: &[u8], limits: &CallLimits, report: &mut CallReport) -> Answer
-    ensures tells { TellsVet limits.now bytes.now result report.new }
+    ensures reports { ReportsVet limits.now bytes.now result report.new }
     // The bytes allow no other result.
-    ensures only { (a : Answer) (r : CallReport) → TellsVet limits.now bytes.now a r →
+    ensures only { (a : Answer) (r : CallReport) → ReportsVet limits.now bytes.now a r →
         (result ≡ a) × (report.new ≡ r) }
 {
     let whole = !limits.allows_trailing();

@@ -1,12 +1,12 @@
 //! The call that vets a message of which no word may be used twice.
 
 ghost use Rattle.cap_calls.specs.CallBounds.{marks_bound};
-ghost use Rattle.cap_calls.specs.ExclusiveCalls.{MarksIn, TellsExclusive, fault_found};
+ghost use Rattle.cap_calls.specs.ExclusiveCalls.{MarksIn, ReportsExclusive, fault_found};
 ghost use Rattle.cap_calls.specs.declared.answer.Answer.{Answer};
 ghost use Rattle.cap_calls.specs.declared.answer.Answer.TheVariants.{Good, Overlap};
 ghost use Rattle.cap_calls.specs.declared.report.CallReport.{CallReport};
 ghost use Rattle.cap_spec.specs.declared.Refusal.{Refusal};
-ghost use Rattle.cap_vet.specs.declared.exclusiveness.exclusive_room.ExclusiveFault.TheVariants.{Refused};
+ghost use Rattle.cap_vet.specs.declared.exclusiveness.exclusive_buffer.ExclusiveFault.TheVariants.{Refused};
 ghost use Rattle.std.specs.Prelude.{◌+◌, ◌/◌, ◌≡◌, ◌≤◌, ◌⊎◌, drop, length, ℕ};
 
 use crate::answer::Answer;
@@ -39,11 +39,11 @@ pub fn vet_exclusive(
     required: &mut usize,
     report: &mut CallReport,
 ) -> Answer
-    ensures tells { TellsExclusive limits.now bytes.now (length marks.old) result required.new
+    ensures reports { ReportsExclusive limits.now bytes.now (length marks.old) result required.new
         report.new }
     // The bytes and the capacity allow no other result.
     ensures only { (a : Answer) (n : ℕ) (r : CallReport) →
-        TellsExclusive limits.now bytes.now (length marks.old) a n r →
+        ReportsExclusive limits.now bytes.now (length marks.old) a n r →
         (result ≡ a) × (required.new ≡ n) × (report.new ≡ r) }
     // These capacities are always enough.
     ensures few { required.new ≤ report.new.length / 512 + 1 }
@@ -94,7 +94,7 @@ fn found_of_fault(fault: ExclusiveFault, numbers: usize) -> Found
 {
     match fault {
         ExclusiveFault::Refused(_) => unreachable!(),
-        ExclusiveFault::NoRoom { report, .. } => {
+        ExclusiveFault::BufferTooSmall { report, .. } => {
             Found::accepted(Answer::BufferTooSmall, numbers, report)
         }
         ExclusiveFault::Overlap {

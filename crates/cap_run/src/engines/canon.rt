@@ -94,7 +94,7 @@ fn put_copy<K: WordSink, M: Segments>(
 
 /// The buffers of a run, which are filled again at each message.
 #[derive(Drop)]
-struct CanonRoom {
+struct CanonBuffers {
     /// The message that was read last.
     message: ByteMessage,
     /// Its copy.
@@ -107,7 +107,7 @@ struct CanonRoom {
 /// buffer too. `false` if the stream ends before it.
 fn put_next<S: Peek, K: WordSink>(
     alloc: Global,
-    room: &mut CanonRoom,
+    buffers: &mut CanonBuffers,
     source: &mut S,
     sink: &mut K,
     settings: &Settings,
@@ -123,13 +123,13 @@ fn put_next<S: Peek, K: WordSink>(
         source.old source.new sink.old sink.new cause) }
 {
     let (limits, size) = (settings.limits, settings.size);
-    match read_into(alloc, source, size, &mut room.message) {
+    match read_into(alloc, source, size, &mut buffers.message) {
         Ok(true) => {
-            let view = room.message.view();
-            if let Err(cause) = put_copy(alloc, sink, &view, &mut room.copy, limits, demands) {
+            let view = buffers.message.view();
+            if let Err(cause) = put_copy(alloc, sink, &view, &mut buffers.copy, limits, demands) {
                 return Err(cause);
             }
-            let waits = waits_for_message(source, settings, &mut room.ahead);
+            let waits = waits_for_message(source, settings, &mut buffers.ahead);
             match flush_sink(sink, waits) {
                 Ok(()) => Ok(true),
                 Err(fault) => Err(Cause::Output(output_fault(fault))),
@@ -153,13 +153,13 @@ fn put_copies<S: Peek, K: WordSink>(
         demands (words_of s.limits) (depth_of s.limits) (limit_of s.size) s.messages
         source.old source.new sink.old sink.new result.0 result.1 }
 {
-    let mut room = CanonRoom {
+    let mut buffers = CanonBuffers {
         message: ByteMessage::blank(alloc),
         copy: Vec::new(alloc),
         ahead: [0; AHEAD],
     };
     for number in 0..settings.messages {
-        match put_next(alloc, &mut room, source, sink, settings, demands) {
+        match put_next(alloc, &mut buffers, source, sink, settings, demands) {
             Ok(true) => {}
             Ok(false) => return (number, Ok(())),
             Err(cause) => return (number, Err(cause)),

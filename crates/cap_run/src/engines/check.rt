@@ -1,9 +1,9 @@
 //! The engine that writes for each message whether it is canonical.
 
-ghost use Rattle.cap_run.specs.Checking.{TellsChecked};
-ghost use Rattle.cap_run.specs.Demanding.{OrFaultIn, TellsCheckUnder, no_demands};
-ghost use Rattle.cap_run.specs.Engines.{TellsStream};
-ghost use Rattle.cap_run.specs.Telling.{WantsNone};
+ghost use Rattle.cap_run.specs.Checking.{ReportsChecked};
+ghost use Rattle.cap_run.specs.Demanding.{OrFaultIn, ReportsCheckUnder, no_demands};
+ghost use Rattle.cap_run.specs.Engines.{ReportsStream};
+ghost use Rattle.cap_run.specs.Reporting.{AllocatesNone};
 ghost use Rattle.cap_frame.specs.Limit.{limit_of};
 ghost use Rattle.cap_vet.specs.Limits.{depth_of, words_of};
 ghost use Rattle.std.specs.Prelude.{◌≡◌, if◌then◌else◌};
@@ -28,9 +28,9 @@ struct Checking {
 }
 
 impl Judge for Checking {
-    ghost tells = { λ c. OrFaultIn c.demands TellsChecked c.limits };
+    ghost reports = { λ c. OrFaultIn c.demands ReportsChecked c.limits };
 
-    ghost wants = { λ _. WantsNone };
+    ghost allocates = { λ _. AllocatesNone };
 
     fn judge<M: Segments, O: ByteOut>(
         &self,
@@ -74,8 +74,8 @@ pub fn run_check<S: Peek, O: ByteOut>(
     out: &mut O,
     settings: &Settings,
 ) -> Result<Outcome, RunFault>
-    ensures { let s = settings.now in TellsStream S.WordSource O.ByteOut
-        (TellsCheckUnder no_demands (words_of s.limits) (depth_of s.limits)) WantsNone
+    ensures { let s = settings.now in ReportsStream S.WordSource O.ByteOut
+        (ReportsCheckUnder no_demands (words_of s.limits) (depth_of s.limits)) AllocatesNone
         (limit_of s.size) s.messages source.old source.new out.old out.new result }
 {
     run_check_with(alloc, source, out, settings, Demands::default())
@@ -110,8 +110,8 @@ pub fn run_check_with<S: Peek, O: ByteOut>(
     settings: &Settings,
     demands: Demands,
 ) -> Result<Outcome, RunFault>
-    ensures { let s = settings.now in TellsStream S.WordSource O.ByteOut
-        (TellsCheckUnder demands (words_of s.limits) (depth_of s.limits)) WantsNone
+    ensures { let s = settings.now in ReportsStream S.WordSource O.ByteOut
+        (ReportsCheckUnder demands (words_of s.limits) (depth_of s.limits)) AllocatesNone
         (limit_of s.size) s.messages source.old source.new out.old out.new result }
 {
     let checking = Checking {

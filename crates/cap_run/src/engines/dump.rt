@@ -1,14 +1,14 @@
 //! The engine that writes the tree of each message.
 
-ghost use Rattle.cap_run.specs.Demanding.{TellsDumpUnder, no_demands};
-ghost use Rattle.cap_run.specs.Engines.{TellsStream};
-ghost use Rattle.cap_run.specs.Telling.{WantsNone};
-ghost use Rattle.cap_run.specs.Vetting.{TellsTree};
+ghost use Rattle.cap_run.specs.Demanding.{ReportsDumpUnder, no_demands};
+ghost use Rattle.cap_run.specs.Engines.{ReportsStream};
+ghost use Rattle.cap_run.specs.Reporting.{AllocatesNone};
+ghost use Rattle.cap_run.specs.Vetting.{ReportsTree};
 ghost use Rattle.cap_frame.specs.Limit.{limit_of};
 ghost use Rattle.cap_vet.specs.Limits.{depth_of, words_of};
 
 use crate::engines::stream::Counted;
-use crate::engines::whole::{Teller, after_text, vet_all};
+use crate::engines::whole::{Printer, after_text, vet_all};
 use crate::settings::{Outcome, Settings};
 use crate::waiting::Peek;
 use cap_frame::Segments;
@@ -19,14 +19,14 @@ use std::alloc::Global;
 
 /// Writes the tree of a message.
 #[derive(Clone, Copy)]
-struct DumpTeller;
+struct DumpPrinter;
 
-impl Teller for DumpTeller {
-    ghost tells = { λ _. TellsTree };
+impl Printer for DumpPrinter {
+    ghost reports = { λ _. ReportsTree };
 
-    ghost wants = { λ _ _ _. WantsNone };
+    ghost allocates = { λ _ _ _. AllocatesNone };
 
-    fn tell<M: Segments, O: ByteOut>(
+    fn print<M: Segments, O: ByteOut>(
         &self,
         page: &mut Page,
         out: &mut O,
@@ -48,8 +48,8 @@ pub fn run_dump<S: Peek, O: ByteOut>(
     out: &mut O,
     settings: &Settings,
 ) -> Result<Outcome, RunFault>
-    ensures { let s = settings.now in TellsStream S.WordSource O.ByteOut
-        (TellsDumpUnder no_demands (words_of s.limits) (depth_of s.limits)) WantsNone
+    ensures { let s = settings.now in ReportsStream S.WordSource O.ByteOut
+        (ReportsDumpUnder no_demands (words_of s.limits) (depth_of s.limits)) AllocatesNone
         (limit_of s.size) s.messages source.old source.new out.old out.new result }
 {
     run_dump_with(alloc, source, out, settings, Demands::default())
@@ -82,9 +82,9 @@ pub fn run_dump_with<S: Peek, O: ByteOut>(
     settings: &Settings,
     demands: Demands,
 ) -> Result<Outcome, RunFault>
-    ensures { let s = settings.now in TellsStream S.WordSource O.ByteOut
-        (TellsDumpUnder demands (words_of s.limits) (depth_of s.limits)) WantsNone
+    ensures { let s = settings.now in ReportsStream S.WordSource O.ByteOut
+        (ReportsDumpUnder demands (words_of s.limits) (depth_of s.limits)) AllocatesNone
         (limit_of s.size) s.messages source.old source.new out.old out.new result }
 {
-    vet_all(alloc, source, out, settings, demands, DumpTeller)
+    vet_all(alloc, source, out, settings, demands, DumpPrinter)
 }

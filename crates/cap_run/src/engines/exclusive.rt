@@ -1,8 +1,8 @@
 //! The engine that writes for each message whether it is accepted and uses no word twice.
 
-ghost use Rattle.cap_run.specs.Demanding.{OrFaultIn, TellsMarked, WantsIn, no_demands};
-ghost use Rattle.cap_run.specs.Engines.{TellsStream};
-ghost use Rattle.cap_run.specs.Vetting.{WantsMarks};
+ghost use Rattle.cap_run.specs.Demanding.{OrFaultIn, ReportsMarked, AllocatesIn, no_demands};
+ghost use Rattle.cap_run.specs.Engines.{ReportsStream};
+ghost use Rattle.cap_run.specs.Vetting.{AllocatesMarks};
 ghost use Rattle.cap_frame.specs.Limit.{limit_of};
 
 use crate::engines::stream::Counted;
@@ -25,9 +25,9 @@ struct ExclusiveVetting {
 }
 
 impl Judge for ExclusiveVetting {
-    ghost tells = { λ v. OrFaultIn v.demands TellsMarked v.limits };
+    ghost reports = { λ v. OrFaultIn v.demands ReportsMarked v.limits };
 
-    ghost wants = { λ v. WantsIn v.demands WantsMarks v.limits };
+    ghost allocates = { λ v. AllocatesIn v.demands AllocatesMarks v.limits };
 
     fn judge<M: Segments, O: ByteOut>(
         &self,
@@ -73,8 +73,8 @@ pub fn run_vet_exclusive<S: Peek, O: ByteOut>(
     out: &mut O,
     settings: &Settings,
 ) -> Result<Outcome, RunFault>
-    ensures { let s = settings.now in TellsStream S.WordSource O.ByteOut
-        (OrFaultIn no_demands TellsMarked s.limits) (WantsIn no_demands WantsMarks s.limits)
+    ensures { let s = settings.now in ReportsStream S.WordSource O.ByteOut
+        (OrFaultIn no_demands ReportsMarked s.limits) (AllocatesIn no_demands AllocatesMarks s.limits)
         (limit_of s.size) s.messages source.old source.new out.old out.new result }
 {
     run_vet_exclusive_with(alloc, source, out, settings, Demands::default())
@@ -116,8 +116,8 @@ pub fn run_vet_exclusive_with<S: Peek, O: ByteOut>(
     settings: &Settings,
     demands: Demands,
 ) -> Result<Outcome, RunFault>
-    ensures { let s = settings.now in TellsStream S.WordSource O.ByteOut
-        (OrFaultIn demands TellsMarked s.limits) (WantsIn demands WantsMarks s.limits)
+    ensures { let s = settings.now in ReportsStream S.WordSource O.ByteOut
+        (OrFaultIn demands ReportsMarked s.limits) (AllocatesIn demands AllocatesMarks s.limits)
         (limit_of s.size) s.messages source.old source.new out.old out.new result }
 {
     let vetting = ExclusiveVetting {

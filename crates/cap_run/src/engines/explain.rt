@@ -3,12 +3,12 @@
 ghost use Rattle.cap_explain.specs.Charges.{ChargeOf};
 ghost use Rattle.cap_explain.specs.Explaining.{explanation, overlap_explanation};
 ghost use Rattle.cap_frame.specs.Limit.{limit_of};
-ghost use Rattle.cap_run.specs.Demanding.{WantsIn, WantsMarksUnder};
+ghost use Rattle.cap_run.specs.Demanding.{AllocatesIn, AllocatesMarksUnder};
 ghost use Rattle.cap_run.specs.Breaking.{ExplainsStream};
-ghost use Rattle.cap_run.specs.Explained.{IsOverlapText, OrFaultLinesIn, TellsExplainedExclusiveUnder, TellsExplainedUnder, TellsMarkedLines, earlier_lines, start_after};
+ghost use Rattle.cap_run.specs.Explained.{IsOverlapText, OrFaultLinesIn, ReportsExplainedExclusiveUnder, ReportsExplainedUnder, ReportsMarkedLines, earlier_lines, start_after};
 ghost use Rattle.cap_run.specs.Running.{WritesOneOf};
-ghost use Rattle.cap_run.specs.Telling.{WantsNone};
-ghost use Rattle.cap_run.specs.Vetting.{TellsAccepted, WantsMarks};
+ghost use Rattle.cap_run.specs.Reporting.{AllocatesNone};
+ghost use Rattle.cap_run.specs.Vetting.{ReportsAccepted, AllocatesMarks};
 ghost use Rattle.cap_spec.specs.Accepting.{IsWithin};
 ghost use Rattle.cap_spec.specs.Occupying.{IsFirstOverlap};
 ghost use Rattle.cap_spec.specs.Tree.{Tree};
@@ -23,8 +23,8 @@ ghost use Rattle.std.specs.Prelude.{◌++◌, ◌<◌, ◌^◌, ◌≡◌, List,
 use crate::engines::explaining::{PlacedJudge, explain_all};
 use crate::engines::passing::write_more;
 use crate::engines::stream::Counted;
-use crate::engines::vet::VetTeller;
-use crate::engines::whole::{Teller, after_text};
+use crate::engines::vet::VetPrinter;
+use crate::engines::whole::{Printer, after_text};
 use crate::settings::{Outcome, Settings};
 use crate::waiting::Peek;
 use cap_explain::{
@@ -181,16 +181,16 @@ fn write_both_pointers<M: Segments, O: ByteOut>(
 
 /// What an engine that explains writes about an accepted message, before which it knows how many words
 /// of the input are.
-trait PlacedTeller {
+trait PlacedPrinter {
     ghost use Rattle.cap_run.specs.declared.engines.stream.Counted.{Counted};
 
     // The texts that may be written of a message that is accepted within these limits of words and
     // levels, by the words of the messages before it and by its number. Each comes with what is
     // counted then.
-    ghost tells: { Self → ℕ → ℕ → ℕ → ℕ → List (List ℕ) → List ℕ → Counted → Type 0 };
+    ghost reports: { Self → ℕ → ℕ → ℕ → ℕ → List (List ℕ) → List ℕ → Counted → Type 0 };
 
     // The messages that need an allocation, of those that are accepted within these limits.
-    ghost wants: { Self → ℕ → ℕ → List (List ℕ) → Type 0 };
+    ghost allocates: { Self → ℕ → ℕ → List (List ℕ) → Type 0 };
 
     /// Writes the text of an accepted message. What the page held before isn't written.
     ///
@@ -198,7 +198,7 @@ trait PlacedTeller {
     ///
     /// - [`Cause::Output`]: the output failed. It took a prefix of the text.
     /// - [`Cause::Memory`]: an allocation failed. The output took nothing.
-    fn tell<M: Segments, O: ByteOut>(
+    fn print<M: Segments, O: ByteOut>(
         &self,
         page: &mut Page,
         out: &mut O,
@@ -209,20 +209,20 @@ trait PlacedTeller {
         requires { before < 2 ^ 61 }
         ensures { (w d : ℕ) (t : Tree) → let m = M.segments (message_of vetted.now) in
             IsReport m w d (report_of vetted.now) t →
-            WritesOneOf O.ByteOut (tells self.now before w d number m) (wants self.now w d m)
+            WritesOneOf O.ByteOut (reports self.now before w d number m) (allocates self.now w d m)
             out.old out.new result };
 }
 
 /// Writes the numbers of an accepted message's tree.
 #[derive(Clone, Copy)]
-struct AcceptedTeller;
+struct AcceptedPrinter;
 
-impl PlacedTeller for AcceptedTeller {
-    ghost tells = { λ _ _. TellsAccepted };
+impl PlacedPrinter for AcceptedPrinter {
+    ghost reports = { λ _ _. ReportsAccepted };
 
-    ghost wants = { λ _ _ _. WantsNone };
+    ghost allocates = { λ _ _ _. AllocatesNone };
 
-    fn tell<M: Segments, O: ByteOut>(
+    fn print<M: Segments, O: ByteOut>(
         &self,
         page: &mut Page,
         out: &mut O,
@@ -230,24 +230,24 @@ impl PlacedTeller for AcceptedTeller {
         number: u32,
         vetted: &Vetted<'_, M>,
     ) -> Result<Counted, Cause> {
-        VetTeller.tell(page, out, number, vetted)
+        VetPrinter.print(page, out, number, vetted)
     }
 }
 
 /// Writes the numbers of an accepted message's tree if the message uses no word twice. Otherwise it
 /// explains the first pointer that overlaps.
 #[derive(Clone, Copy)]
-struct OverlapTeller {
+struct OverlapPrinter {
     alloc: Global,
     packed: bool,
 }
 
-impl PlacedTeller for OverlapTeller {
-    ghost tells = { λ t. TellsMarkedLines t.packed };
+impl PlacedPrinter for OverlapPrinter {
+    ghost reports = { λ t. ReportsMarkedLines t.packed };
 
-    ghost wants = { λ _. WantsMarks };
+    ghost allocates = { λ _. AllocatesMarks };
 
-    fn tell<M: Segments, O: ByteOut>(
+    fn print<M: Segments, O: ByteOut>(
         &self,
         page: &mut Page,
         out: &mut O,
@@ -293,13 +293,13 @@ struct Explaining<T> {
     limits: Limits,
     demands: Demands,
     packed: bool,
-    teller: T,
+    printer: T,
 }
 
-impl<T: PlacedTeller> PlacedJudge for Explaining<T> {
-    ghost tells = { λ e. OrFaultLinesIn e.packed e.demands (T.tells e.teller) e.limits };
+impl<T: PlacedPrinter> PlacedJudge for Explaining<T> {
+    ghost reports = { λ e. OrFaultLinesIn e.packed e.demands (T.reports e.printer) e.limits };
 
-    ghost wants = { λ e. WantsIn e.demands (T.wants e.teller) e.limits };
+    ghost allocates = { λ e. AllocatesIn e.demands (T.allocates e.printer) e.limits };
 
     fn judge<M: Segments, O: ByteOut>(
         &self,
@@ -310,7 +310,7 @@ impl<T: PlacedTeller> PlacedJudge for Explaining<T> {
         message: &M,
     ) -> Result<Counted, Cause> {
         match vet_with(message, self.limits, self.demands) {
-            Ok(vetted) => self.teller.tell(page, out, before, number, &vetted),
+            Ok(vetted) => self.printer.print(page, out, before, number, &vetted),
             Err(refusal) => {
                 let mut path = NamedPath::new();
                 path.find_refused(message, self.limits, &refusal);
@@ -340,14 +340,14 @@ pub fn run_explain<S: Peek, O: ByteOut>(
     demands: Demands,
 ) -> Result<Outcome, ExplainedFault>
     ensures { let s = settings.now in ExplainsStream S.WordSource O.ByteOut
-        (TellsExplainedUnder s.packed demands (words_of s.limits) (depth_of s.limits)) WantsNone
+        (ReportsExplainedUnder s.packed demands (words_of s.limits) (depth_of s.limits)) AllocatesNone
         s.packed (limit_of s.size) s.messages source.old source.new out.old out.new result }
 {
     let explaining = Explaining {
         limits: settings.limits,
         demands,
         packed: settings.packed,
-        teller: AcceptedTeller,
+        printer: AcceptedPrinter,
     };
     explain_all(alloc, source, out, settings, explaining)
 }
@@ -367,15 +367,15 @@ pub fn run_explain_exclusive<S: Peek, O: ByteOut>(
     demands: Demands,
 ) -> Result<Outcome, ExplainedFault>
     ensures { let s = settings.now in ExplainsStream S.WordSource O.ByteOut
-        (TellsExplainedExclusiveUnder s.packed demands (words_of s.limits) (depth_of s.limits))
-        (WantsMarksUnder demands (words_of s.limits) (depth_of s.limits))
+        (ReportsExplainedExclusiveUnder s.packed demands (words_of s.limits) (depth_of s.limits))
+        (AllocatesMarksUnder demands (words_of s.limits) (depth_of s.limits))
         s.packed (limit_of s.size) s.messages source.old source.new out.old out.new result }
 {
     let explaining = Explaining {
         limits: settings.limits,
         demands,
         packed: settings.packed,
-        teller: OverlapTeller {
+        printer: OverlapPrinter {
             alloc,
             packed: settings.packed,
         },

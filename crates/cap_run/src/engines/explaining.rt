@@ -24,7 +24,7 @@ use std::alloc::Global;
 /// The message that was read last, and the page for its text. If a message can't be read, what is
 /// known of it.
 #[derive(Drop)]
-struct ExplainRoom {
+struct ExplainBuffers {
     message: ByteMessage,
     /// The words of its frame.
     words: u64,
@@ -32,10 +32,10 @@ struct ExplainRoom {
     at: StreamBreak,
 }
 
-impl ExplainRoom {
+impl ExplainBuffers {
     /// What is kept before the first message.
-    fn new(alloc: Global) -> ExplainRoom {
-        ExplainRoom {
+    fn new(alloc: Global) -> ExplainBuffers {
+        ExplainBuffers {
             message: ByteMessage::blank(alloc),
             words: 0,
             page: Page::new(),
@@ -57,10 +57,10 @@ pub(crate) trait PlacedJudge {
 
     // The texts that may be written of a message, by the words of the messages before it and by its
     // number. Each comes with what is counted then.
-    ghost tells: { Self → ℕ → ℕ → List (List ℕ) → List ℕ → Counted → Type 0 };
+    ghost reports: { Self → ℕ → ℕ → List (List ℕ) → List ℕ → Counted → Type 0 };
 
     // The messages that need an allocation.
-    ghost wants: { Self → List (List ℕ) → Type 0 };
+    ghost allocates: { Self → List (List ℕ) → Type 0 };
 
     /// Writes the text of a message. What the page held before isn't written.
     ///
@@ -78,7 +78,7 @@ pub(crate) trait PlacedJudge {
     ) -> Result<Counted, Cause>
         requires { before < 2 ^ 61 }
         ensures { let m = M.segments message.now in WritesOneOf O.ByteOut
-            (tells self.now before number m) (wants self.now m) out.old out.new result };
+            (reports self.now before number m) (allocates self.now m) out.old out.new result };
 }
 
 /// Whether the input ends inside a word, if the source ended inside a message. Otherwise it is
@@ -126,20 +126,26 @@ fn read_next<S: WordSource>(
     alloc: Global,
     source: &mut S,
     settings: &Settings,
-    room: &mut ExplainRoom,
+    buffers: &mut ExplainBuffers,
 ) -> Result<bool, FrameFault>
-    ensures read { ReadsFrame S.WordSource (λ m. held_segments room.new.message ≡ m)
+    ensures read { ReadsFrame S.WordSource (λ m. held_segments buffers.new.message ≡ m)
         (limit_of settings.now.size) source.old source.new result }
     ensures at { let s = settings.now in IfErr result (λ fault.
-        BreaksAt S.WordSource s.packed (limit_of s.size) source.old fault room.new.at) }
+        BreaksAt S.WordSource s.packed (limit_of s.size) source.old fault buffers.new.at) }
 {
     let start = source.position();
     let mut table = None;
-    match read_noting(alloc, source, settings.size, &mut room.message, &mut table) {
+    match read_noting(
+        alloc,
+        source,
+        settings.size,
+        &mut buffers.message,
+        &mut table,
+    ) {
         Ok(found) => Ok(found),
         Err(fault) => {
             let is_cut = is_cut_after(source, fault);
-            room.at = break_at(settings, start, table, is_cut);
+            buffers.at = break_at(settings, start, table, is_cut);
             Err(fault)
         }
     }
@@ -181,9 +187,9 @@ struct Explainer<J> {
 
 impl<J: PlacedJudge> Explainer<J> {
     /// Reads the next message and writes its text. `None` if the stream ends before it.
-    fn tell_next<S: WordSource, O: ByteOut>(
+    fn print_next<S: WordSource, O: ByteOut>(
         &self,
-        room: &mut ExplainRoom,
+        buffers: &mut ExplainBuffers,
         source: &mut S,
         out: &mut O,
         settings: &Settings,
@@ -192,23 +198,23 @@ impl<J: PlacedJudge> Explainer<J> {
     ) -> Result<Option<Counted>, Cause>
         requires { before < 2 ^ 61 }
         ensures some { IfOk result (λ r. IfSome r (λ counted. StepPlaces S.WordSource O.ByteOut
-            (J.tells self.now.judge before) (limit_of settings.now.size) number
-            source.old source.new out.old out.new counted room.new.words)) }
+            (J.reports self.now.judge before) (limit_of settings.now.size) number
+            source.old source.new out.old out.new counted buffers.new.words)) }
         ensures none { result ≡ Ok None →
             EndsStream S.WordSource source.old source.new × (out.new ≡ out.old) }
         ensures err { IfErr result (λ cause. StepStops S.WordSource O.ByteOut
-            (J.tells self.now.judge before) (J.wants self.now.judge) (limit_of settings.now.size)
+            (J.reports self.now.judge before) (J.allocates self.now.judge) (limit_of settings.now.size)
             number source.old source.new out.old out.new cause) }
         ensures at { let s = settings.now in IfErr result (λ cause.
-            BreaksBy S.WordSource s.packed (limit_of s.size) source.old cause room.new.at) }
+            BreaksBy S.WordSource s.packed (limit_of s.size) source.old cause buffers.new.at) }
     {
-        match read_next(self.alloc, source, settings, room) {
+        match read_next(self.alloc, source, settings, buffers) {
             Ok(true) => {
-                let message = room.message.view();
-                room.words = frame_words(&message);
+                let message = buffers.message.view();
+                buffers.words = frame_words(&message);
                 match self
                     .judge
-                    .judge(&mut room.page, out, before, number, &message)
+                    .judge(&mut buffers.page, out, before, number, &message)
                 {
                     Ok(counted) => Ok(Some(counted)),
                     Err(cause) => Err(cause),
@@ -220,18 +226,18 @@ impl<J: PlacedJudge> Explainer<J> {
     }
 
     /// Reads the messages of a stream to its end, and writes the text of each.
-    fn tell_each<S: Peek, O: ByteOut>(
+    fn print_each<S: Peek, O: ByteOut>(
         &self,
         source: &mut S,
         out: &mut O,
         settings: &Settings,
     ) -> Result<Outcome, ExplainedFault>
         ensures ok { let s = settings.now in PlacedToEnd S.WordSource O.ByteOut
-            (J.tells self.now.judge) (limit_of s.size) s.messages
+            (J.reports self.now.judge) (limit_of s.size) s.messages
             source.old source.new out.old out.new (run_answer result) }
         ensures err { let s = settings.now in PlacedEarly S.WordSource O.ByteOut
-            (J.tells self.now.judge) (limit_of s.size) s.messages
-            source.old source.new out.old out.new (J.wants self.now.judge) (run_answer result) }
+            (J.reports self.now.judge) (limit_of s.size) s.messages
+            source.old source.new out.old out.new (J.allocates self.now.judge) (run_answer result) }
         ensures broken { let s = settings.now in
             BreaksOff S.WordSource s.packed (limit_of s.size) source.old result }
     {
@@ -240,28 +246,32 @@ impl<J: PlacedJudge> Explainer<J> {
             refused: 0,
             noncanonical: 0,
         };
-        let mut room = ExplainRoom::new(self.alloc);
+        let mut buffers = ExplainBuffers::new(self.alloc);
         let mut ahead = [0; AHEAD];
         let mut before = 0;
         for number in 0..settings.messages {
-            match self.tell_next(&mut room, source, out, settings, before, number) {
+            match self.print_next(&mut buffers, source, out, settings, before, number) {
                 Ok(Some(counted)) => {
                     let waits = waits_for_message(source, settings, &mut ahead);
                     match flush_output(out, waits) {
                         Ok(()) => {
                             outcome = count(outcome, counted);
-                            before += room.words;
+                            before += buffers.words;
                         }
-                        Err(fault) => return Err(stopped_at(number, Cause::Output(fault), room.at)),
+                        Err(fault) => return Err(stopped_at(
+                            number,
+                            Cause::Output(fault),
+                            buffers.at,
+                        )),
                     }
                 }
                 Ok(None) => return Ok(outcome),
-                Err(cause) => return Err(stopped_at(number, cause, room.at)),
+                Err(cause) => return Err(stopped_at(number, cause, buffers.at)),
             }
         }
-        match end_explained(source, settings, &mut room.at) {
+        match end_explained(source, settings, &mut buffers.at) {
             Ok(()) => Ok(outcome),
-            Err(cause) => Err(stopped_at(settings.messages, cause, room.at)),
+            Err(cause) => Err(stopped_at(settings.messages, cause, buffers.at)),
         }
     }
 }
@@ -285,9 +295,9 @@ pub(crate) fn explain_all<S: Peek, O: ByteOut, J: PlacedJudge + Drop>(
     settings: &Settings,
     judge: J,
 ) -> Result<Outcome, ExplainedFault>
-    ensures { let s = settings.now in ExplainsStream S.WordSource O.ByteOut (J.tells judge)
-        (J.wants judge) s.packed (limit_of s.size) s.messages
+    ensures { let s = settings.now in ExplainsStream S.WordSource O.ByteOut (J.reports judge)
+        (J.allocates judge) s.packed (limit_of s.size) s.messages
         source.old source.new out.old out.new result }
 {
-    Explainer { alloc, judge }.tell_each(source, out, settings)
+    Explainer { alloc, judge }.print_each(source, out, settings)
 }

@@ -18,7 +18,7 @@ use std::alloc::Global;
 
 /// The message that was read last, and what else is kept from one message to the next.
 #[derive(Drop)]
-struct FilterRoom {
+struct FilterBuffers {
     message: ByteMessage,
     /// A place for words that are looked at ahead.
     ahead: [u8; AHEAD],
@@ -29,7 +29,7 @@ struct FilterRoom {
 /// accepted message is flushed if the input may have to be waited for before the next one is whole.
 fn sift_next<S: Peek, O: ByteOut, E: ByteOut>(
     sieve: &Sieve,
-    room: &mut FilterRoom,
+    buffers: &mut FilterBuffers,
     source: &mut S,
     out: &mut O,
     log: &mut E,
@@ -38,19 +38,19 @@ fn sift_next<S: Peek, O: ByteOut, E: ByteOut>(
 ) -> Result<Option<Counted>, Cause>
     ensures some { (counted : Counted) → result ≡ Ok (Some counted) →
         SieveNext S.WordSource O.ByteOut E.ByteOut sieve.now (limit_of settings.now.size) number
-        source.old source.new out.old out.new log.old log.new room.old room.new (Ok counted) }
+        source.old source.new out.old out.new log.old log.new buffers.old buffers.new (Ok counted) }
     ensures none { result ≡ Ok None → EndsStream S.WordSource source.old source.new
         × (out.new ≡ out.old) × (log.new ≡ log.old)
-        × (room.new.passage.failed ≡ room.old.passage.failed) }
+        × (buffers.new.passage.failed ≡ buffers.old.passage.failed) }
     ensures err { IfErr result (SieveStops S.WordSource O.ByteOut E.ByteOut sieve.now
         (limit_of settings.now.size) number source.old source.new out.old out.new log.old log.new
-        room.old room.new) }
+        buffers.old buffers.new) }
 {
-    match read_into(sieve.alloc, source, settings.size, &mut room.message) {
+    match read_into(sieve.alloc, source, settings.size, &mut buffers.message) {
         Ok(true) => {
-            let wait = !waits_for_message(source, settings, &mut room.ahead);
-            let message = room.message.view();
-            match sieve.sift(&mut room.passage, out, log, wait, number, &message) {
+            let wait = !waits_for_message(source, settings, &mut buffers.ahead);
+            let message = buffers.message.view();
+            match sieve.sift(&mut buffers.passage, out, log, wait, number, &message) {
                 Ok(counted) => Ok(Some(counted)),
                 Err(cause) => Err(cause),
             }
@@ -89,13 +89,13 @@ fn sift_each<S: Peek, O: ByteOut, E: ByteOut>(
         refused: 0,
         noncanonical: 0,
     };
-    let mut room = FilterRoom {
+    let mut buffers = FilterBuffers {
         message: ByteMessage::blank(sieve.alloc),
         ahead: [0; AHEAD],
         passage: Passage::new(),
     };
     for number in 0..settings.messages {
-        match sift_next(sieve, &mut room, source, out, log, settings, number) {
+        match sift_next(sieve, &mut buffers, source, out, log, settings, number) {
             Ok(Some(counted)) => {
                 outcome = count(outcome, counted);
                 if ends_after(counted, sieve.form.stop) {

@@ -1,14 +1,14 @@
 //! The engine that writes the node of each message at one path.
 
-ghost use Rattle.cap_run.specs.Demanding.{TellsGetUnder, no_demands};
-ghost use Rattle.cap_run.specs.Engines.{TellsStream};
-ghost use Rattle.cap_run.specs.Telling.{WantsNone};
-ghost use Rattle.cap_run.specs.Vetting.{TellsNode};
+ghost use Rattle.cap_run.specs.Demanding.{ReportsGetUnder, no_demands};
+ghost use Rattle.cap_run.specs.Engines.{ReportsStream};
+ghost use Rattle.cap_run.specs.Reporting.{AllocatesNone};
+ghost use Rattle.cap_run.specs.Vetting.{ReportsNode};
 ghost use Rattle.cap_frame.specs.Limit.{limit_of};
 ghost use Rattle.cap_vet.specs.Limits.{depth_of, words_of};
 
 use crate::engines::stream::Counted;
-use crate::engines::whole::{Teller, after_text, vet_all};
+use crate::engines::whole::{Printer, after_text, vet_all};
 use crate::settings::{Outcome, Settings};
 use crate::waiting::Peek;
 use cap_frame::Segments;
@@ -20,16 +20,16 @@ use std::alloc::Global;
 
 /// Writes the node at this path of a message's tree.
 #[derive(Clone, Copy)]
-struct GetTeller<'p> {
+struct GetPrinter<'p> {
     path: &'p [Step],
 }
 
-impl<'p> Teller for GetTeller<'p> {
-    ghost tells = { λ t words depth. TellsNode words depth t.path.now };
+impl<'p> Printer for GetPrinter<'p> {
+    ghost reports = { λ t words depth. ReportsNode words depth t.path.now };
 
-    ghost wants = { λ _ _ _. WantsNone };
+    ghost allocates = { λ _ _ _. AllocatesNone };
 
-    fn tell<M: Segments, O: ByteOut>(
+    fn print<M: Segments, O: ByteOut>(
         &self,
         page: &mut Page,
         out: &mut O,
@@ -53,8 +53,8 @@ pub fn run_get<S: Peek, O: ByteOut>(
     settings: &Settings,
     path: &[Step],
 ) -> Result<Outcome, RunFault>
-    ensures { let s = settings.now in TellsStream S.WordSource O.ByteOut
-        (TellsGetUnder no_demands (words_of s.limits) (depth_of s.limits) path.now) WantsNone
+    ensures { let s = settings.now in ReportsStream S.WordSource O.ByteOut
+        (ReportsGetUnder no_demands (words_of s.limits) (depth_of s.limits) path.now) AllocatesNone
         (limit_of s.size) s.messages source.old source.new out.old out.new result }
 {
     run_get_with(alloc, source, out, settings, Demands::default(), path)
@@ -90,9 +90,9 @@ pub fn run_get_with<S: Peek, O: ByteOut>(
     demands: Demands,
     path: &[Step],
 ) -> Result<Outcome, RunFault>
-    ensures { let s = settings.now in TellsStream S.WordSource O.ByteOut
-        (TellsGetUnder demands (words_of s.limits) (depth_of s.limits) path.now) WantsNone
+    ensures { let s = settings.now in ReportsStream S.WordSource O.ByteOut
+        (ReportsGetUnder demands (words_of s.limits) (depth_of s.limits) path.now) AllocatesNone
         (limit_of s.size) s.messages source.old source.new out.old out.new result }
 {
-    vet_all(alloc, source, out, settings, demands, GetTeller { path })
+    vet_all(alloc, source, out, settings, demands, GetPrinter { path })
 }

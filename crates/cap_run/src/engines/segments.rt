@@ -1,11 +1,11 @@
 //! The engine that writes how each message is cut into segments.
 
 ghost use Rattle.cap_run.specs.Engines.{ShowsStream};
-ghost use Rattle.cap_run.specs.Telling.{TellsSegments, WantsNone};
+ghost use Rattle.cap_run.specs.Reporting.{ReportsSegments, AllocatesNone};
 ghost use Rattle.cap_frame.specs.Limit.{limit_of};
 ghost use Rattle.std.specs.Prelude.{false};
 
-use crate::engines::stream::{Counted, Engine, tell_all};
+use crate::engines::stream::{Counted, Engine, print_all};
 use crate::settings::{Outcome, Settings};
 use crate::waiting::Peek;
 use cap_frame::{Outline, SizeLimit, read_outline};
@@ -14,7 +14,7 @@ use cap_words::{ByteOut, WordSource};
 
 /// The outline of the message that was read last, and the page for its text.
 #[derive(Drop)]
-struct OutlineRoom {
+struct OutlineBuffers {
     outline: Outline,
     page: Page,
 }
@@ -24,31 +24,31 @@ struct OutlineRoom {
 struct SegmentsEngine;
 
 impl Engine for SegmentsEngine {
-    ghost tells = { λ _. TellsSegments };
+    ghost reports = { λ _. ReportsSegments };
 
-    ghost wants = { λ _. WantsNone };
+    ghost allocates = { λ _. AllocatesNone };
 
     ghost takes_memory = { false };
 
-    type Room = OutlineRoom;
+    type Buffers = OutlineBuffers;
 
-    fn room(&self) -> OutlineRoom {
-        OutlineRoom {
+    fn buffers(&self) -> OutlineBuffers {
+        OutlineBuffers {
             outline: Outline::new(),
             page: Page::new(),
         }
     }
 
-    fn tell_next<S: WordSource, O: ByteOut>(
+    fn print_next<S: WordSource, O: ByteOut>(
         &self,
-        room: &mut OutlineRoom,
+        buffers: &mut OutlineBuffers,
         source: &mut S,
         out: &mut O,
         limit: SizeLimit,
         number: u32,
     ) -> Result<Option<Counted>, Cause> {
-        match read_outline(source, limit, &mut room.outline) {
-            Ok(true) => match write_segments(&mut room.page, out, number, &room.outline) {
+        match read_outline(source, limit, &mut buffers.outline) {
+            Ok(true) => match write_segments(&mut buffers.page, out, number, &buffers.outline) {
                 Ok(()) => Ok(Some(Counted::Accepted)),
                 Err(fault) => Err(Cause::Output(fault)),
             },
@@ -84,5 +84,5 @@ pub fn run_segments<S: Peek, O: ByteOut>(
     ensures { let s = settings.now in ShowsStream S.WordSource O.ByteOut
         (limit_of s.size) s.messages source.old source.new out.old out.new result }
 {
-    tell_all(source, out, settings, &SegmentsEngine)
+    print_all(source, out, settings, &SegmentsEngine)
 }

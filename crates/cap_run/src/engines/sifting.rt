@@ -1,11 +1,11 @@
 //! Vetting a message, and then passing it on or writing its line.
 
 ghost use Rattle.cap_run.specs.Filtering.{Logged, frame_in};
-ghost use Rattle.cap_run.specs.Sieves.{SiftsOne, SieveTells, SieveWants};
+ghost use Rattle.cap_run.specs.Sieves.{SiftsOne, SieveReports, SieveAllocates};
 ghost use Rattle.cap_run.specs.Sifting.{FindsObjection, objection_text};
-ghost use Rattle.cap_run.specs.Demanding.{OrFaultIn, TellsMarked, WantsIn};
+ghost use Rattle.cap_run.specs.Demanding.{OrFaultIn, ReportsMarked, AllocatesIn};
 ghost use Rattle.cap_run.specs.Running.{Appended};
-ghost use Rattle.cap_run.specs.Vetting.{WantsMarks};
+ghost use Rattle.cap_run.specs.Vetting.{AllocatesMarks};
 ghost use Rattle.cap_text.specs.Writing.{Stopped, Writes};
 ghost use Rattle.std.specs.Prelude.{◌++◌, ◌≡◌, [], IfErr, IsTrue, List, OnOk, false, ℕ};
 
@@ -177,7 +177,7 @@ impl Sieve {
     /// [`Cause::Memory`]: an allocation failed.
     fn judge<M: Segments>(&self, message: &M) -> Result<Option<Objection>, Cause>
         ensures { let v = self.now in
-            FindsObjection (SieveTells v) (SieveWants v) (M.segments message.now) result }
+            FindsObjection (SieveReports v) (SieveAllocates v) (M.segments message.now) result }
     {
         if self.form.exclusive {
             return self.judge_exclusively(message);
@@ -194,8 +194,8 @@ impl Sieve {
     ///
     /// [`Cause::Memory`]: the allocation of the marks failed.
     fn judge_exclusively<M: Segments>(&self, message: &M) -> Result<Option<Objection>, Cause>
-        ensures { let v = self.now in FindsObjection (OrFaultIn v.demands TellsMarked v.limits)
-            (WantsIn v.demands WantsMarks v.limits) (M.segments message.now) result }
+        ensures { let v = self.now in FindsObjection (OrFaultIn v.demands ReportsMarked v.limits)
+            (AllocatesIn v.demands AllocatesMarks v.limits) (M.segments message.now) result }
     {
         match vet_exclusive(self.alloc, message, self.limits, self.demands) {
             Ok(_) => Ok(None),

@@ -1,10 +1,10 @@
 //! Reading the messages of a stream, and writing a text for each.
 
 ghost use Rattle.cap_frame.specs.Limit.{limit_of};
-ghost use Rattle.cap_run.specs.Engines.{ReachesEnd, StopsEarly, TellsStream};
-ghost use Rattle.cap_run.specs.Running.{EndStops, StepStops, StepTells};
+ghost use Rattle.cap_run.specs.Engines.{ReachesEnd, StopsEarly, ReportsStream};
+ghost use Rattle.cap_run.specs.Running.{EndStops, StepStops, StepReports};
 ghost use Rattle.cap_run.specs.Streams.{EndsStream};
-ghost use Rattle.cap_run.specs.Telling.{one_noncanonical, one_refused};
+ghost use Rattle.cap_run.specs.Reporting.{one_noncanonical, one_refused};
 ghost use Rattle.std.specs.Prelude.{◌+◌, ◌-◌, ◌<◌, ◌^◌, ◌≡◌, ◌≤◌, Bool, IfErr, IfOk, IfSome, List, OnOk, true, ℕ};
 
 use crate::settings::{Outcome, Settings};
@@ -29,19 +29,19 @@ pub(crate) trait Engine {
     ghost use Rattle.cap_run.specs.declared.engines.stream.Counted.{Counted};
 
     // The texts that may be written of a message, by its number, each with what is counted then.
-    ghost tells: { Self → ℕ → List (List ℕ) → List ℕ → Counted → Type 0 };
+    ghost reports: { Self → ℕ → List (List ℕ) → List ℕ → Counted → Type 0 };
 
     // The messages at which an allocation may fail after they were read.
-    ghost wants: { Self → List (List ℕ) → Type 0 };
+    ghost allocates: { Self → List (List ℕ) → Type 0 };
 
     // Whether it allocates to read a message.
     ghost takes_memory: { Bool };
 
     /// The buffers that it fills again at each message, and keeps from one message to the next.
-    type Room: Drop;
+    type Buffers: Drop;
 
     /// The buffers as they are before the first message.
-    fn room(&self) -> Self::Room;
+    fn buffers(&self) -> Self::Buffers;
 
     /// Reads the next message and writes its text. `None` if the stream ends before it. The text
     /// doesn't depend on what the buffers held before.
@@ -52,20 +52,20 @@ pub(crate) trait Engine {
     /// - [`Cause::Output`]: the output failed. It took a prefix of the text.
     /// - [`Cause::Memory`]: the message was read, and an allocation failed then. The output took
     ///   nothing.
-    fn tell_next<S: WordSource, O: ByteOut>(
+    fn print_next<S: WordSource, O: ByteOut>(
         &self,
-        room: &mut Self::Room,
+        buffers: &mut Self::Buffers,
         source: &mut S,
         out: &mut O,
         limit: SizeLimit,
         number: u32,
     ) -> Result<Option<Counted>, Cause>
-        ensures some { IfOk result (λ r. IfSome r (StepTells S.WordSource O.ByteOut
-            (tells self.now) (limit_of limit) number source.old source.new out.old out.new)) }
+        ensures some { IfOk result (λ r. IfSome r (StepReports S.WordSource O.ByteOut
+            (reports self.now) (limit_of limit) number source.old source.new out.old out.new)) }
         ensures none { result ≡ Ok None →
             EndsStream S.WordSource source.old source.new × (out.new ≡ out.old) }
         ensures err { IfErr result (λ cause. StepStops S.WordSource O.ByteOut
-            (tells self.now) (wants self.now) (limit_of limit) number
+            (reports self.now) (allocates self.now) (limit_of limit) number
             source.old source.new out.old out.new cause) }
         ensures memory { result ≡ Err (Cause.Frame FrameFault.Memory) → takes_memory ≡ true };
 }
@@ -116,17 +116,17 @@ pub(crate) fn count(outcome: Outcome, counted: Counted) -> Outcome
 }
 
 // Reads the messages of a stream to its end, and writes the text of each.
-fn tell_each<S: Peek, O: ByteOut, E: Engine>(
+fn print_each<S: Peek, O: ByteOut, E: Engine>(
     source: &mut S,
     out: &mut O,
     settings: &Settings,
     engine: &E,
 ) -> Result<Outcome, RunFault>
-    ensures ok { let s = settings.now in ReachesEnd S.WordSource O.ByteOut (E.tells engine.now)
+    ensures ok { let s = settings.now in ReachesEnd S.WordSource O.ByteOut (E.reports engine.now)
         (limit_of s.size) s.messages source.old source.new out.old out.new result }
-    ensures err { let s = settings.now in StopsEarly S.WordSource O.ByteOut (E.tells engine.now)
+    ensures err { let s = settings.now in StopsEarly S.WordSource O.ByteOut (E.reports engine.now)
         (limit_of s.size) s.messages source.old source.new out.old out.new
-        (E.wants engine.now) result }
+        (E.allocates engine.now) result }
     ensures memory { (n : ℕ) →
         result ≡ Err (record { message = n; cause = Cause.Frame FrameFault.Memory }) →
         E.takes_memory ≡ true }
@@ -136,10 +136,10 @@ fn tell_each<S: Peek, O: ByteOut, E: Engine>(
         refused: 0,
         noncanonical: 0,
     };
-    let mut room = engine.room();
+    let mut buffers = engine.buffers();
     let mut ahead = [0; AHEAD];
     for number in 0..settings.messages {
-        match engine.tell_next(&mut room, source, out, settings.size, number) {
+        match engine.print_next(&mut buffers, source, out, settings.size, number) {
             Ok(Some(counted)) => {
                 let waits = waits_for_message(source, settings, &mut ahead);
                 match flush_output(out, waits) {
@@ -165,18 +165,18 @@ fn tell_each<S: Peek, O: ByteOut, E: Engine>(
 
 /// Reads the messages of a stream to its end, and writes the text of each before it reads the next.
 /// It flushes the text if the input may have to be waited for before the next message is whole.
-pub(crate) fn tell_all<S: Peek, O: ByteOut, E: Engine>(
+pub(crate) fn print_all<S: Peek, O: ByteOut, E: Engine>(
     source: &mut S,
     out: &mut O,
     settings: &Settings,
     engine: &E,
 ) -> Result<Outcome, RunFault>
-    ensures told { let s = settings.now in TellsStream S.WordSource O.ByteOut
-        (E.tells engine.now) (E.wants engine.now) (limit_of s.size) s.messages
+    ensures reported { let s = settings.now in ReportsStream S.WordSource O.ByteOut
+        (E.reports engine.now) (E.allocates engine.now) (limit_of s.size) s.messages
         source.old source.new out.old out.new result }
     ensures memory { (n : ℕ) →
         result ≡ Err (record { message = n; cause = Cause.Frame FrameFault.Memory }) →
         E.takes_memory ≡ true }
 {
-    tell_each(source, out, settings, engine)
+    print_each(source, out, settings, engine)
 }

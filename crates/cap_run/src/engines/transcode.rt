@@ -15,32 +15,32 @@ use cap_text::CopyFault;
 use cap_words::{ByteOut, OutFault, WordSink};
 
 // The buffer of `run_pack` in bytes. The packer gets at most these 64 words in one call.
-const ROOM_TO_PACK: usize = 8 * 64;
+const BUFFER_TO_PACK: usize = 8 * 64;
 
 // The buffer of `run_unpack` in bytes. The sink gets at most these 1024 words in one call.
-const ROOM_TO_UNPACK: usize = 8 * 1024;
+const BUFFER_TO_UNPACK: usize = 8 * 1024;
 
-/// Puts the buffered words of the source that fit in `room`, in one call, and returns how many
+/// Puts the buffered words of the source that fit in `buffer`, in one call, and returns how many
 /// words these are. They are flushed if the input may have to be waited for. 0 doesn't say that no
 /// words are to come.
 #[inline]
 fn put_ready<S: Peek, K: WordSink>(
     source: &mut S,
     sink: &mut K,
-    room: &mut [u8],
+    buffer: &mut [u8],
     live: bool,
 ) -> Result<u64, OutFault>
-    ensures few { IfOk result (λ n. 8 * n ≤ length room.old) }
+    ensures few { IfOk result (λ n. 8 * n ≤ length buffer.old) }
     ensures ok { IfOk result
         (Transcodes S.WordSource K.WordSink source.old source.new sink.old sink.new) }
-    ensures err { IfErr result (HandsOver S.WordSource K.WordSink (length room.old / 8)
+    ensures err { IfErr result (HandsOver S.WordSource K.WordSink (length buffer.old / 8)
         source.old source.new sink.old sink.new) }
 {
-    let count = source.ready(room);
+    let count = source.ready(buffer);
     if count == 0 {
         return Ok(0);
     }
-    if let Err(fault) = sink.put_bytes(&room[..count]) {
+    if let Err(fault) = sink.put_bytes(&buffer[..count]) {
         return Err(output_fault(fault));
     }
     match flush_sink(sink, waits_for_word(source, live)) {
@@ -70,23 +70,23 @@ fn put_word<S: Peek, K: WordSink>(
 }
 
 /// Puts the words of a source to a sink, at most `words` of them, and doesn't finish the sink. One
-/// piece is the buffered words that fit in `room`, or one word if none are buffered. Returns how
+/// piece is the buffered words that fit in `buffer`, or one word if none are buffered. Returns how
 /// many words were put.
 fn put_words<S: Peek, K: WordSink>(
     source: &mut S,
     sink: &mut K,
     words: u64,
-    room: &mut [u8],
+    buffer: &mut [u8],
     live: bool,
 ) -> Result<u64, CopyFault>
-    requires { 8 ≤ length room.old }
-    ensures { StopsPutting S.WordSource K.WordSink (length room.old / 8) words
+    requires { 8 ≤ length buffer.old }
+    ensures { StopsPutting S.WordSource K.WordSink (length buffer.old / 8) words
         source.old source.new sink.old sink.new result }
 {
     let mut put = 0;
     while put < words {
-        let most = (words - put).min(room.len() as u64 / 8) as usize;
-        let count = match put_ready(source, sink, &mut room[..8 * most], live) {
+        let most = (words - put).min(buffer.len() as u64 / 8) as usize;
+        let count = match put_ready(source, sink, &mut buffer[..8 * most], live) {
             Ok(count) => count,
             Err(fault) => return Err(CopyFault::Output(fault)),
         };
@@ -120,20 +120,20 @@ fn without_fault(answer: &Result<u64, CopyFault>) -> bool
     }
 }
 
-/// Puts the words of a source to a sink, at most `words` of them, in pieces that fit in `room`.
+/// Puts the words of a source to a sink, at most `words` of them, in pieces that fit in `buffer`.
 /// Finishes the sink unless the output failed before.
 fn transcode<S: Peek, K: WordSink>(
     source: &mut S,
     sink: &mut K,
     words: u64,
-    room: &mut [u8],
+    buffer: &mut [u8],
     live: bool,
 ) -> Result<u64, CopyFault>
-    requires { 8 ≤ length room.old }
-    ensures { Transcoded S.WordSource K.WordSink (length room.old / 8) words
+    requires { 8 ≤ length buffer.old }
+    ensures { Transcoded S.WordSource K.WordSink (length buffer.old / 8) words
         source.old source.new sink.old sink.new result }
 {
-    let answer = put_words(source, sink, words, room, live);
+    let answer = put_words(source, sink, words, buffer, live);
     if without_fault(&answer) {
         match sink.finish() {
             Ok(()) => answer,
@@ -174,7 +174,7 @@ pub fn run_pack<S: Peek, O: ByteOut>(
     ensures { TranscodesWords S.WordSource ⟦<Packer<O> as WordSink>⟧ most_packed_at_once words
         source.old source.new sink.old sink.new result }
 {
-    transcode(source, sink, words, &mut [0; ROOM_TO_PACK], live)
+    transcode(source, sink, words, &mut [0; BUFFER_TO_PACK], live)
 }
 
 /// Puts the words of a source to a sink, at most `words` of them, finishes the sink, and returns
@@ -207,5 +207,5 @@ pub fn run_unpack<S: Peek, K: WordSink>(
     ensures { TranscodesWords S.WordSource K.WordSink most_unpacked_at_once words
         source.old source.new sink.old sink.new result }
 {
-    transcode(source, sink, words, &mut [0; ROOM_TO_UNPACK], live)
+    transcode(source, sink, words, &mut [0; BUFFER_TO_UNPACK], live)
 }

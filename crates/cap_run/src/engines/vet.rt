@@ -1,14 +1,14 @@
 //! The engine that writes for each message whether it is accepted.
 
-ghost use Rattle.cap_run.specs.Demanding.{TellsVerdictUnder, no_demands};
-ghost use Rattle.cap_run.specs.Engines.{TellsStream};
-ghost use Rattle.cap_run.specs.Telling.{WantsNone};
-ghost use Rattle.cap_run.specs.Vetting.{TellsAccepted};
+ghost use Rattle.cap_run.specs.Demanding.{ReportsVerdictUnder, no_demands};
+ghost use Rattle.cap_run.specs.Engines.{ReportsStream};
+ghost use Rattle.cap_run.specs.Reporting.{AllocatesNone};
+ghost use Rattle.cap_run.specs.Vetting.{ReportsAccepted};
 ghost use Rattle.cap_frame.specs.Limit.{limit_of};
 ghost use Rattle.cap_vet.specs.Limits.{depth_of, words_of};
 
 use crate::engines::stream::Counted;
-use crate::engines::whole::{Teller, after_text, vet_all};
+use crate::engines::whole::{Printer, after_text, vet_all};
 use crate::settings::{Outcome, Settings};
 use crate::waiting::Peek;
 use cap_frame::Segments;
@@ -19,14 +19,14 @@ use std::alloc::Global;
 
 /// Writes the numbers of a message's tree.
 #[derive(Clone, Copy)]
-pub(crate) struct VetTeller;
+pub(crate) struct VetPrinter;
 
-impl Teller for VetTeller {
-    ghost tells = { λ _. TellsAccepted };
+impl Printer for VetPrinter {
+    ghost reports = { λ _. ReportsAccepted };
 
-    ghost wants = { λ _ _ _. WantsNone };
+    ghost allocates = { λ _ _ _. AllocatesNone };
 
-    fn tell<M: Segments, O: ByteOut>(
+    fn print<M: Segments, O: ByteOut>(
         &self,
         page: &mut Page,
         out: &mut O,
@@ -50,8 +50,8 @@ pub fn run_vet<S: Peek, O: ByteOut>(
     out: &mut O,
     settings: &Settings,
 ) -> Result<Outcome, RunFault>
-    ensures { let s = settings.now in TellsStream S.WordSource O.ByteOut
-        (TellsVerdictUnder no_demands (words_of s.limits) (depth_of s.limits)) WantsNone
+    ensures { let s = settings.now in ReportsStream S.WordSource O.ByteOut
+        (ReportsVerdictUnder no_demands (words_of s.limits) (depth_of s.limits)) AllocatesNone
         (limit_of s.size) s.messages source.old source.new out.old out.new result }
 {
     run_vet_with(alloc, source, out, settings, Demands::default())
@@ -86,9 +86,9 @@ pub fn run_vet_with<S: Peek, O: ByteOut>(
     settings: &Settings,
     demands: Demands,
 ) -> Result<Outcome, RunFault>
-    ensures { let s = settings.now in TellsStream S.WordSource O.ByteOut
-        (TellsVerdictUnder demands (words_of s.limits) (depth_of s.limits)) WantsNone
+    ensures { let s = settings.now in ReportsStream S.WordSource O.ByteOut
+        (ReportsVerdictUnder demands (words_of s.limits) (depth_of s.limits)) AllocatesNone
         (limit_of s.size) s.messages source.old source.new out.old out.new result }
 {
-    vet_all(alloc, source, out, settings, demands, VetTeller)
+    vet_all(alloc, source, out, settings, demands, VetPrinter)
 }

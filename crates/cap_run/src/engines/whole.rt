@@ -1,15 +1,15 @@
 //! Writing a text about each message of a stream, with the whole message in memory.
 
 ghost use Rattle.cap_frame.specs.Limit.{limit_of};
-ghost use Rattle.cap_run.specs.Demanding.{OrFaultIn, WantsIn};
-ghost use Rattle.cap_run.specs.Engines.{TellsStream};
+ghost use Rattle.cap_run.specs.Demanding.{OrFaultIn, AllocatesIn};
+ghost use Rattle.cap_run.specs.Engines.{ReportsStream};
 ghost use Rattle.cap_run.specs.Running.{WritesOneOf, counted_after};
 ghost use Rattle.cap_vet.specs.Reports.{IsReport};
 ghost use Rattle.cap_vet.specs.Vettings.{message_of, report_of};
 ghost use Rattle.cap_spec.specs.Tree.{Tree};
 ghost use Rattle.std.specs.Prelude.{◌≡◌, List, true, ℕ};
 
-use crate::engines::stream::{Counted, Engine, tell_all};
+use crate::engines::stream::{Counted, Engine, print_all};
 use crate::settings::{Outcome, Settings};
 use crate::waiting::Peek;
 use cap_frame::{ByteMessage, Segments, SizeLimit, read_into};
@@ -19,15 +19,15 @@ use cap_words::{ByteOut, OutFault, WordSource};
 use std::alloc::Global;
 
 /// What an engine writes about an accepted message.
-pub(crate) trait Teller {
+pub(crate) trait Printer {
     ghost use Rattle.cap_run.specs.declared.engines.stream.Counted.{Counted};
 
     // The texts that may be written of a message that is accepted within these limits of words and
     // levels, by its number. Each comes with what is counted then.
-    ghost tells: { Self → ℕ → ℕ → ℕ → List (List ℕ) → List ℕ → Counted → Type 0 };
+    ghost reports: { Self → ℕ → ℕ → ℕ → List (List ℕ) → List ℕ → Counted → Type 0 };
 
     // The messages that need an allocation, of those that are accepted within these limits.
-    ghost wants: { Self → ℕ → ℕ → List (List ℕ) → Type 0 };
+    ghost allocates: { Self → ℕ → ℕ → List (List ℕ) → Type 0 };
 
     /// Writes the text of an accepted message. What the page held before isn't written.
     ///
@@ -35,7 +35,7 @@ pub(crate) trait Teller {
     ///
     /// - [`Cause::Output`]: the output failed. It took a prefix of the text.
     /// - [`Cause::Memory`]: an allocation failed. The output took nothing.
-    fn tell<M: Segments, O: ByteOut>(
+    fn print<M: Segments, O: ByteOut>(
         &self,
         page: &mut Page,
         out: &mut O,
@@ -44,7 +44,7 @@ pub(crate) trait Teller {
     ) -> Result<Counted, Cause>
         ensures { (w d : ℕ) (t : Tree) → let m = M.segments (message_of vetted.now) in
             IsReport m w d (report_of vetted.now) t →
-            WritesOneOf O.ByteOut (tells self.now w d number m) (wants self.now w d m)
+            WritesOneOf O.ByteOut (reports self.now w d number m) (allocates self.now w d m)
             out.old out.new result };
 }
 
@@ -63,10 +63,10 @@ pub(crate) trait Judge {
     ghost use Rattle.cap_run.specs.declared.engines.stream.Counted.{Counted};
 
     // The texts that may be written of a message, by its number, each with what is counted then.
-    ghost tells: { Self → ℕ → List (List ℕ) → List ℕ → Counted → Type 0 };
+    ghost reports: { Self → ℕ → List (List ℕ) → List ℕ → Counted → Type 0 };
 
     // The messages that need an allocation.
-    ghost wants: { Self → List (List ℕ) → Type 0 };
+    ghost allocates: { Self → List (List ℕ) → Type 0 };
 
     /// Writes the text of a message. What the page held before isn't written.
     ///
@@ -82,7 +82,7 @@ pub(crate) trait Judge {
         message: &M,
     ) -> Result<Counted, Cause>
         ensures { let m = M.segments message.now in WritesOneOf O.ByteOut
-            (tells self.now number m) (wants self.now m) out.old out.new result };
+            (reports self.now number m) (allocates self.now m) out.old out.new result };
 }
 
 /// Vets a message under demands, and writes the text of its teller if the message meets them.
@@ -91,13 +91,13 @@ pub(crate) trait Judge {
 struct Vetting<T> {
     limits: Limits,
     demands: Demands,
-    teller: T,
+    printer: T,
 }
 
-impl<T: Teller> Judge for Vetting<T> {
-    ghost tells = { λ v. OrFaultIn v.demands (T.tells v.teller) v.limits };
+impl<T: Printer> Judge for Vetting<T> {
+    ghost reports = { λ v. OrFaultIn v.demands (T.reports v.printer) v.limits };
 
-    ghost wants = { λ v. WantsIn v.demands (T.wants v.teller) v.limits };
+    ghost allocates = { λ v. AllocatesIn v.demands (T.allocates v.printer) v.limits };
 
     fn judge<M: Segments, O: ByteOut>(
         &self,
@@ -107,7 +107,7 @@ impl<T: Teller> Judge for Vetting<T> {
         message: &M,
     ) -> Result<Counted, Cause> {
         match vet_with(message, self.limits, self.demands) {
-            Ok(vetted) => self.teller.tell(page, out, number, &vetted),
+            Ok(vetted) => self.printer.print(page, out, number, &vetted),
             Err(refusal) => {
                 let written = write_refused(page, out, number, &refusal);
                 after_text(written, Counted::Refused)
@@ -118,7 +118,7 @@ impl<T: Teller> Judge for Vetting<T> {
 
 /// The message that was read last, and the page for its text.
 #[derive(Drop)]
-pub(crate) struct MessageRoom {
+pub(crate) struct MessageBuffers {
     message: ByteMessage,
     page: Page,
 }
@@ -131,34 +131,34 @@ struct Whole<J> {
 }
 
 impl<J: Judge> Engine for Whole<J> {
-    ghost tells = { λ w. J.tells w.judge };
+    ghost reports = { λ w. J.reports w.judge };
 
-    ghost wants = { λ w. J.wants w.judge };
+    ghost allocates = { λ w. J.allocates w.judge };
 
     ghost takes_memory = { true };
 
-    type Room = MessageRoom;
+    type Buffers = MessageBuffers;
 
-    fn room(&self) -> MessageRoom {
-        MessageRoom {
+    fn buffers(&self) -> MessageBuffers {
+        MessageBuffers {
             message: ByteMessage::blank(self.alloc),
             page: Page::new(),
         }
     }
 
-    fn tell_next<S: WordSource, O: ByteOut>(
+    fn print_next<S: WordSource, O: ByteOut>(
         &self,
-        room: &mut MessageRoom,
+        buffers: &mut MessageBuffers,
         source: &mut S,
         out: &mut O,
         limit: SizeLimit,
         number: u32,
     ) -> Result<Option<Counted>, Cause> {
-        match read_into(self.alloc, source, limit, &mut room.message) {
+        match read_into(self.alloc, source, limit, &mut buffers.message) {
             Ok(true) => {
                 match self
                     .judge
-                    .judge(&mut room.page, out, number, &room.message.view())
+                    .judge(&mut buffers.page, out, number, &buffers.message.view())
                 {
                     Ok(counted) => Ok(Some(counted)),
                     Err(cause) => Err(cause),
@@ -178,30 +178,30 @@ pub(crate) fn judge_all<S: Peek, O: ByteOut, J: Judge + Drop>(
     settings: &Settings,
     judge: J,
 ) -> Result<Outcome, RunFault>
-    ensures { let s = settings.now in TellsStream S.WordSource O.ByteOut (J.tells judge)
-        (J.wants judge) (limit_of s.size) s.messages source.old source.new out.old out.new result }
+    ensures { let s = settings.now in ReportsStream S.WordSource O.ByteOut (J.reports judge)
+        (J.allocates judge) (limit_of s.size) s.messages source.old source.new out.old out.new result }
 {
-    tell_all(source, out, settings, &Whole { alloc, judge })
+    print_all(source, out, settings, &Whole { alloc, judge })
 }
 
 /// Vets each message of a stream, and writes the text of a teller for each that meets the demands.
-pub(crate) fn vet_all<S: Peek, O: ByteOut, T: Teller + Drop>(
+pub(crate) fn vet_all<S: Peek, O: ByteOut, T: Printer + Drop>(
     alloc: Global,
     source: &mut S,
     out: &mut O,
     settings: &Settings,
     demands: Demands,
-    teller: T,
+    printer: T,
 ) -> Result<Outcome, RunFault>
-    ensures { let s = settings.now in TellsStream S.WordSource O.ByteOut
-        (OrFaultIn demands (T.tells teller) s.limits)
-        (WantsIn demands (T.wants teller) s.limits)
+    ensures { let s = settings.now in ReportsStream S.WordSource O.ByteOut
+        (OrFaultIn demands (T.reports printer) s.limits)
+        (AllocatesIn demands (T.allocates printer) s.limits)
         (limit_of s.size) s.messages source.old source.new out.old out.new result }
 {
     let vetting = Vetting {
         limits: settings.limits,
         demands,
-        teller,
+        printer,
     };
     judge_all(alloc, source, out, settings, vetting)
 }

@@ -8,7 +8,7 @@ all_take P zero xs a = tt
 all_take P (suc n) [] a = tt
 all_take P (suc n) (x ∷ xs) a = (a.0, all_take P n xs a.1)
 
--- of what stands behind it
+-- of what is after it
 pub all_drop : {A : Type 0} (P : A → Type 0) (n : ℕ) (xs : List A) → AllByRecursion P xs → AllByRecursion P (drop n xs)
 all_drop P zero xs a = a
 all_drop P (suc n) [] a = tt

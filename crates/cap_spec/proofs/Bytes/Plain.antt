@@ -1,4 +1,4 @@
--- Words and their plain spelling: each list of bytes splits into words and less than a word in one way.
+-- Words and their plain encoding: each list of bytes splits into words and less than a word in one way.
 use Rattle.cap_spec.specs.Plain.{PlainSplits}
 use Rattle.cap_spec.proofs.Bytes.WordBytes.{bytes_back, bytes_below, word_back}
 use Rattle.cap_spec.proofs.ProofNames.{List, [], ap, append-nil, arith, drop, drop_at, length, refl, subst, suc}
@@ -22,13 +22,13 @@ words_exact (a ∷ b ∷ c ∷ d ∷ e ∷ f ∷ []) = refl
 words_exact (a ∷ b ∷ c ∷ d ∷ e ∷ f ∷ g ∷ []) = refl
 words_exact (a ∷ b ∷ c ∷ d ∷ e ∷ f ∷ g ∷ h ∷ rest) = let t = words_exact rest in omega (arith, t)
 
--- the text of words, whatever stands behind it, begins with these words
+-- the text of words, whatever is after it, begins with these words
 pub plain_back : (ws rest : List ℕ) → AllByRecursion IsWord ws
     → plain_words (plain_text ws ++ rest) ≡ ws ++ plain_words rest
 plain_back [] rest a = refl
 plain_back (x ∷ ws) rest a = search (rules, word_back, plain_back ws rest a.1)
 
--- and is cut where what stands behind it is
+-- and is cut where what is after it is
 pub plain_cut_back : (ws rest : List ℕ) → plain_is_cut (plain_text ws ++ rest) ≡ plain_is_cut rest
 plain_cut_back [] rest = refl
 plain_cut_back (x ∷ ws) rest = plain_cut_back ws rest
@@ -51,7 +51,7 @@ pub eight_back : (a b c d e f g h : ℕ) → AllByRecursion (λ x. x < 256) (a �
     → word_bytes (little_number 8 (a ∷ b ∷ c ∷ d ∷ e ∷ f ∷ g ∷ h ∷ [])) ≡ a ∷ b ∷ c ∷ d ∷ e ∷ f ∷ g ∷ h ∷ []
 eight_back a b c d e f g h all = bytes_back (a ∷ b ∷ c ∷ d ∷ e ∷ f ∷ g ∷ h ∷ []) all
 
--- bytes are the text of the words that they begin with, and less than a word behind it
+-- bytes are the text of the words that they begin with, and less than a word after it
 pub plain_split : (bytes : List ℕ) → AllByRecursion (λ b. b < 256) bytes
     → PlainSplits bytes (plain_words bytes) (drop (8 * length (plain_words bytes)) bytes)
 plain_split [] all = record { are_words = tt; whole = refl; partial = omega arith }

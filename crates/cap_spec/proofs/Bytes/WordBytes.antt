@@ -1,4 +1,4 @@
--- The bytes of a word: they tell the word, and each eight bytes are those of one.
+-- The bytes of a word: they give the word, and each eight bytes are those of one.
 use Rattle.std.proofs.Math.Nat.{div-div-eq-div-mul}
 use Rattle.std.specs.Int.{bytes_low_first}
 use Rattle.cap_spec.proofs.ProofNames.{List, [], ap, arith, flat_map, length, refl, suc, sym, zero, ℕ, ◌%◌, ◌*◌, ◌++◌, ◌+◌}
@@ -6,7 +6,7 @@ use Rattle.cap_spec.proofs.ProofNames.{◌/◌, ◌<◌, ◌^◌, ◌∙◌, ◌
 use Rattle.cap_spec.proofs.ProofNames.{little_number, little_from-cons, little_number-reads_back, halves, word_bytes}
 use Rattle.cap_spec.proofs.ProofNames.{IsWord, rules}
 
--- with one byte more below, each byte stands one place further up
+-- with one byte more below, each byte is one place further up
 byte_at_up : (i a y : ℕ) → a < 256 → byte_at (suc i) (a + 256 * y) ≡ byte_at i y
 byte_at_up zero a y h = omega arith
 byte_at_up (suc i) a y h =
@@ -38,7 +38,7 @@ bytes_fit i zero x = tt
 bytes_fit zero (suc k) x = ((omega arith), bytes_fit 1 k x)
 bytes_fit (suc i) (suc k) x = ((omega arith), bytes_fit (suc (suc i)) k x)
 
--- the bytes of a word, whatever stands behind them, make the word
+-- the bytes of a word, whatever is after them, make the word
 pub word_back : (x : ℕ) (rest : List ℕ) → IsWord x → little_number 8 (word_bytes x ++ rest) ≡ x
 word_back x rest h = little_number-reads_back 8 x rest (omega arith)
 

@@ -2,7 +2,7 @@
 use Rattle.cap_spec.specs.Denoting.{places}
 use Rattle.cap_spec.specs.ObjectShapes.{is_pointers, is_scalars, is_struct, is_structs}
 use Rattle.cap_spec.specs.Tree.{none}
-use Rattle.cap_spec.proofs.Canonical.Placing.{stand_inside, stand_read, stand_word}
+use Rattle.cap_spec.proofs.Canonical.Placing.{lie_inside, lie_read, lie_word}
 use Rattle.cap_spec.proofs.Canonical.PointerFields.{ListFields, StructFields, start_after, start_before, struct_fields}
 use Rattle.cap_spec.proofs.Canonical.TreeMeasures.{idle, scalars_extra, structs_extra}
 use Rattle.cap_spec.proofs.Pointers.Shapes.{pointers_extra, pointers_levels, pointers_words, scalars_levels, scalars_words}
@@ -90,7 +90,7 @@ struct_laid seg ws ts a b offset q inner deep h f some e lt le st each =
         charge = omega (arith, struct_words object.shape, struct_extra object.shape);
         depth = omega (arith, struct_levels object.shape);
       },
-      sym (stand_read seg b (length ws) ws refl st),
+      sym (lie_read seg b (length ws) ws refl st),
       each,
     )
   where
@@ -127,7 +127,7 @@ empty_laid seg a h =
         charge = refl;
         depth = refl;
       },
-      sym (stand_read seg a 0 [] refl (omega (arith, l))),
+      sym (lie_read seg a 0 [] refl (omega (arith, l))),
       (refl, refl, refl),
     )
 
@@ -176,9 +176,9 @@ scalars_laid seg e vs a b offset q h f lt fit i lo st =
     is_scalars f.kind (omega (arith, f.code, lt)) (ap₂ Scalars (sym f.code) (sym f.size)) in
     let y : extent q ≡ list_words e (length vs) = scalars_words x in
     let l : b + list_words e (length vs) ≤ length seg =
-    (let r = stand_inside seg b (scalar_words e vs) st in omega (arith, r, length-scalar_words e vs)) in
+    (let r = lie_inside seg b (scalar_words e vs) st in omega (arith, r, length-scalar_words e vs)) in
     let v : vs ≡ values_of (seg ∷ []) 0 b e (length vs) =
-    sym (scalars_read seg b e vs lt fit (stand_word seg b (scalar_words e vs) st)) in (
+    sym (scalars_read seg b e vs lt fit (lie_word seg b (scalar_words e vs) st)) in (
       0,
       0,
       b,

@@ -30,7 +30,7 @@ packed_below bits (v ∷ vs) a =
     subst (λ n. v + 2 ^ bits * packed_word bits vs < n) (sym e)
     (one_more v (2 ^ bits) (packed_word bits vs) (2 ^ (length vs * bits)) a.0 (packed_below bits vs a.1))
 
--- and so many a word fit a word
+-- and this many a word fit a word
 packed_is_word : (bits per : ℕ) (vs : List ℕ) → per * bits ≤ 64 → AllByRecursion (λ v. v < 2 ^ bits) vs
     → packed_word bits (take per vs) < 2 ^ 64
 packed_is_word bits per vs h a =

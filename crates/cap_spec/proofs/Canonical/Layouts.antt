@@ -1,10 +1,10 @@
--- The layout of a tree denotes that tree: wherever its content stands, and a pointer with the offset to there.
+-- The layout of a tree denotes that tree: wherever its content is, and a pointer with the offset to there.
 use Rattle.cap_spec.specs.Denoting.{places}
 use Rattle.cap_spec.specs.Tree.{none}
 use Rattle.cap_spec.proofs.Canonical.ElementPlaces.{children_begin, children_near, element_end, rest_begin, rest_near}
 use Rattle.cap_spec.proofs.Canonical.ElementPlaces.{without_tag}
 use Rattle.cap_spec.proofs.Canonical.Laying.{any_struct_laid, not_far, pointers_laid, scalars_laid, structs_laid}
-use Rattle.cap_spec.proofs.Canonical.Placing.{stand_back, stand_front, stand_inside, stand_read, stand_whole}
+use Rattle.cap_spec.proofs.Canonical.Placing.{lie_back, lie_front, lie_inside, lie_read, lie_whole}
 use Rattle.cap_spec.proofs.Canonical.PointerFields.{CapFields, cap_fields, list_fields, struct_fields}
 use Rattle.cap_spec.proofs.Canonical.Sizes.{length-content, length-contents, length-element_words, length-pointer_words}
 use Rattle.cap_spec.proofs.Canonical.Sizes.{trimmed_size_charged}
@@ -31,7 +31,7 @@ nothing_more : (x : ℕ) → x ≡ x + 0
 nothing_more x = omega arith
 
 mutual
-  -- a pointer word to where a tree's content stands denotes the tree
+  -- a pointer word to where a tree's content is denotes the tree
   pub word_denotes : (seg : List ℕ) (t : Tree) (a offset b : ℕ) → HasWord (seg ∷ []) 0 a (pointer_to offset t)
       → HasWordsAt seg b (content t)
       → b ≡ a + 1 + offset → Fits t → offset < 2 ^ 29 → size t < 2 ^ 29 → Denotes (seg ∷ []) 0 a t (cost t) (height t)
@@ -41,33 +41,33 @@ mutual
       (near (3 + 2 ^ 32 * i) h (not_far _ c.kind) ((c.kind, c.middle), c.index) refl, refl)
   word_denotes seg (struct ws ts) a offset b h st e f lo ls =
       let front : HasWordsAt seg b (ws ++ pointer_words 0 ts) =
-      stand_front seg b (ws ++ pointer_words 0 ts) (contents ts) st in
+      lie_front seg b (ws ++ pointer_words 0 ts) (contents ts) st in
       let n : length (ws ++ pointer_words 0 ts) ≡ length ws + tree_count ts =
       (let x = length-append ws (pointer_words 0 ts) in omega (arith, x, length-pointer_words 0 ts)) in
       let le : b + length ws + tree_count ts ≤ length seg =
-      (let x = stand_inside seg b (ws ++ pointer_words 0 ts) front in omega (arith, x, n)) in
+      (let x = lie_inside seg b (ws ++ pointer_words 0 ts) front in omega (arith, x, n)) in
       any_struct_laid seg ws ts a b offset (costs ts) (heights ts) h f.0 f.1 e lo le
-      (stand_front seg b ws (pointer_words 0 ts) front)
+      (lie_front seg b ws (pointer_words 0 ts) front)
       (each_denote seg ts 0 (b + length ws) (b + length ws + tree_count ts)
-      (stand_back seg b (b + length ws) ws (pointer_words 0 ts) refl front)
-      (stand_back seg b (b + length ws + tree_count ts) (ws ++ pointer_words 0 ts) (contents ts) (omega (arith, n)) st)
+      (lie_back seg b (b + length ws) ws (pointer_words 0 ts) refl front)
+      (lie_back seg b (b + length ws + tree_count ts) (ws ++ pointer_words 0 ts) (contents ts) (omega (arith, n)) st)
       (omega arith) f.2 (omega (arith, ls)))
   word_denotes seg (scalars c vs) a offset b h st e f lo ls =
       scalars_laid seg c vs a b offset (list_word offset c (length vs)) h
       (list_fields offset c (length vs) (omega (arith, lo)) (omega (arith, f.0)) f.1) f.0 f.2 e lo st
   word_denotes seg (pointers ts) a offset b h st e f lo ls =
-      let front : HasWordsAt seg b (pointer_words 0 ts) = stand_front seg b (pointer_words 0 ts) (contents ts) st in
+      let front : HasWordsAt seg b (pointer_words 0 ts) = lie_front seg b (pointer_words 0 ts) (contents ts) st in
       let le : b + tree_count ts ≤ length seg =
-      (let x = stand_inside seg b (pointer_words 0 ts) front in omega (arith, x, length-pointer_words 0 ts)) in
+      (let x = lie_inside seg b (pointer_words 0 ts) front in omega (arith, x, length-pointer_words 0 ts)) in
       pointers_laid seg ts a b offset (list_word offset 6 (tree_count ts)) (costs ts) (heights ts) h
       (list_fields offset 6 (tree_count ts) (omega (arith, lo)) (omega arith) f.0) e lo le
       (each_denote seg ts 0 b (b + tree_count ts) front
-      (stand_back seg b (b + tree_count ts) (pointer_words 0 ts) (contents ts)
+      (lie_back seg b (b + tree_count ts) (pointer_words 0 ts) (contents ts)
       (omega (arith, length-pointer_words 0 ts)) st)
       (omega arith) f.1 (omega (arith, ls)))
   word_denotes seg (structs d p es) a offset b h st e f lo ls =
       let front : HasWordsAt seg (b + 1) (element_words (d + p) 0 es) =
-      stand_front seg (b + 1) (element_words (d + p) 0 es) (element_contents es) st.1 in
+      lie_front seg (b + 1) (element_words (d + p) 0 es) (element_contents es) st.1 in
       let n : length (element_words (d + p) 0 es) ≡ tree_count es * (d + p) =
       length-element_words (d + p) 0 d p es f.4 in
       structs_laid seg d p (tree_count es) es a b offset (list_word offset 7 (tree_count es * (d + p)))
@@ -75,9 +75,9 @@ mutual
       (list_fields offset 7 (tree_count es * (d + p)) (omega (arith, lo)) (omega arith) f.3) st.0
       (struct_fields (tree_count es) d p f.2 f.0 f.1) e lo
       (elements_inside b (length (element_words (d + p) 0 es)) (tree_count es * (d + p)) (length seg)
-      (stand_inside seg (b + 1) (element_words (d + p) 0 es) front) n)
+      (lie_inside seg (b + 1) (element_words (d + p) 0 es) front) n)
       (elements_denote seg d p es 0 (b + 1) (b + 1 + tree_count es * (d + p)) front
-      (stand_back seg (b + 1) (b + 1 + tree_count es * (d + p)) (element_words (d + p) 0 es) (element_contents es)
+      (lie_back seg (b + 1) (b + 1 + tree_count es * (d + p)) (element_words (d + p) 0 es) (element_contents es)
       (elements_end b (length (element_words (d + p) 0 es)) (tree_count es * (d + p)) n) st.1)
       (nothing_more (b + 1 + tree_count es * (d + p))) f.4
       (without_tag (tree_count es * (d + p)) (element_sizes es) (2 ^ 29) ls))
@@ -97,10 +97,10 @@ mutual
     costs ts,
     heights ts,
     refl,
-    word_denotes seg t pb (tree_count ts + after) cb sp.0 (stand_front seg cb (content t) (contents ts) sc)
+    word_denotes seg t pb (tree_count ts + after) cb sp.0 (lie_front seg cb (content t) (contents ts) sc)
         (omega (arith, e)) f.0 (omega (arith, l)) (omega (arith, l)),
     each_denote seg ts (after + size t) (pb + 1) (cb + size t) sp.1
-        (stand_back seg cb (cb + size t) (content t) (contents ts) (ap (λ n. cb + n) (sym (length-content t f.0))) sc)
+        (lie_back seg cb (cb + size t) (content t) (contents ts) (ap (λ n. cb + n) (sym (length-content t f.0))) sc)
         (omega (arith, e)) f.1 (omega (arith, l)),
     refl,
     refl,
@@ -116,12 +116,12 @@ mutual
   elements_denote seg d p (more (struct ws ts) es) after eb cb sp sc e f l =
       let pw = pointer_words (tree_count es * (d + p) + after) ts in
       let ew = element_words (d + p) (after + sizes ts) es in
-      let front : HasWordsAt seg eb (ws ++ pw) = stand_front seg eb (ws ++ pw) ew sp in
-      let own : HasWordsAt seg eb ws = stand_front seg eb ws pw front in
-      let below : HasWordsAt seg (eb + d) pw = stand_back seg eb (eb + d) ws pw (ap (λ n. eb + n) (sym f.0)) front in
+      let front : HasWordsAt seg eb (ws ++ pw) = lie_front seg eb (ws ++ pw) ew sp in
+      let own : HasWordsAt seg eb ws = lie_front seg eb ws pw front in
+      let below : HasWordsAt seg (eb + d) pw = lie_back seg eb (eb + d) ws pw (ap (λ n. eb + n) (sym f.0)) front in
       let each : DenoteEach (seg ∷ []) (places 0 (eb + d) (tree_count ts)) ts (costs ts) (heights ts) =
       each_denote seg ts (tree_count es * (d + p) + after) (eb + d) cb below
-      (stand_front seg cb (contents ts) (element_contents es) sc)
+      (lie_front seg cb (contents ts) (element_contents es) sc)
       (children_begin cb eb (tree_count es) d p (tree_count ts) after e f.1) f.2
       (children_near after (tree_count es) d p (tree_count ts) (sizes ts) (element_sizes es) (2 ^ 29) l f.1) in (
         tree_count es,
@@ -130,13 +130,13 @@ mutual
         element_costs es,
         element_heights es,
         refl,
-        sym (stand_read seg eb d ws (sym f.0) own),
+        sym (lie_read seg eb d ws (sym f.0) own),
         subst (λ n. DenoteEach (seg ∷ []) (places 0 (eb + d) n) ts (costs ts) (heights ts)) f.1 each,
         elements_denote seg d p es (after + sizes ts) (eb + d + p) (cb + sizes ts)
-            (stand_back seg eb (eb + d + p) (ws ++ pw) ew
+            (lie_back seg eb (eb + d + p) (ws ++ pw) ew
             (element_end eb d p ws pw (tree_count ts) f.0
             (length-pointer_words (tree_count es * (d + p) + after) ts) f.1) sp)
-            (stand_back seg cb (cb + sizes ts) (contents ts) (element_contents es)
+            (lie_back seg cb (cb + sizes ts) (contents ts) (element_contents es)
             (ap (λ n. cb + n) (sym (length-contents ts f.2))) sc)
             (rest_begin cb eb (tree_count es) d p after (sizes ts) e) f.3
             (rest_near after (tree_count es) (d + p) (sizes ts) (element_sizes es) (2 ^ 29) l),
@@ -147,7 +147,7 @@ mutual
 
 -- the layout of a tree that fits, as one segment, denotes the tree
 pub layout_denotes : (t : Tree) → Fits t → size t < 2 ^ 29 → Denotes (layout t ∷ []) 0 0 t (cost t) (height t)
-layout_denotes t f l = word_denotes (layout t) t 0 0 1 refl (stand_whole (layout t)).1 refl f (omega arith) l
+layout_denotes t f l = word_denotes (layout t) t 0 0 1 refl (lie_whole (layout t)).1 refl f (omega arith) l
 
 -- the layout of what is denoted, trimmed, denotes the trimmed tree, at no more charge and the same depth
 pub trimmed_layout_denotes : (m : List (List ℕ)) (s w : ℕ) (t : Tree) (c d : ℕ) → Denotes m s w t c d → c < 2 ^ 29

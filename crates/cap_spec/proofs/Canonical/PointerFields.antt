@@ -33,7 +33,7 @@ pub record CapFields (q i : ℕ) : Type 0 where
 pub cap_fields : (i : ℕ) → i < 2 ^ 32 → CapFields (3 + 2 ^ 32 * i) i
 cap_fields i h = record { kind = omega arith; middle = omega arith; index = omega arith }
 
--- where an object begins whose offset stands in these bits
+-- where an object begins whose offset is in these bits
 pub start_after : (q a b offset : ℕ) → middle q ≡ offset → offset < 2 ^ 29 → b ≡ a + 1 + offset
     → pos b ≡ pos (a + 1) +ℤ signed_offset_of q
 start_after q a b offset e h f = grind (arith, common_steps)
@@ -42,6 +42,6 @@ start_after q a b offset e h f = grind (arith, common_steps)
 one_back : (a : ℕ) → cond (ltb (a + 1) 1) (negsuc (1 - suc (a + 1))) (pos (a + 1 - 1)) ≡ pos a
 one_back a = grind (arith, common_steps)
 
--- a struct without words begins where its pointer stands
+-- a struct without words begins where its pointer is
 pub start_before : (a : ℕ) → pos a ≡ pos (a + 1) +ℤ signed_offset_of (2 ^ 32 - 4)
 start_before a = sym (one_back a)

@@ -41,7 +41,7 @@ with_idle : (a b i c : ℕ) → b ≤ c → 1 + a + b ≤ 1 + a + i + c
 with_idle a b i c h = omega arith
 
 mutual
-  -- the content of a tree has as many words as its size tells
+  -- the content of a tree has as many words as its size gives
   pub length-content : (t : Tree) → Fits t → length (content t) ≡ size t
   length-content null f = refl
   length-content (cap i) f = refl

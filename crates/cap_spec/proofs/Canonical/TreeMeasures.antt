@@ -203,7 +203,7 @@ structs_measured {m} {s} {w} {ds} {ps} {k} {t} {b} {q} {tag} {n} {inner} {deep} 
     sum_above k x y i a b e l c e1 e2 e3 e4 e5 = omega arith
 
 mutual
-  -- what a word denotes is charged its cost at least, is as deep as told, and fits
+  -- what a word denotes is charged its cost at least, is as deep as reported, and fits
   pub measured : (m : List (List ℕ)) (s w : ℕ) (t : Tree) (c d : ℕ) → Denotes m s w t c d → Measured t c d
   measured m s w null c d h = record { fits = tt; charged = omega arith; deep = sym h.1 }
   measured m s w (cap i) c d h = record { fits = cap_fits m s w c i h.0; charged = omega arith; deep = sym h.1 }

@@ -46,7 +46,7 @@ children_needed_le (more t ts) = go (children_needed ts) (tree_count ts) t (chil
     go zero l t h = let b = bit t in omega (arith, b)
     go (suc n) l t h = rw (eqb-suc-zero n) (omega arith)
 
--- a front of trees: how many, what they cost, and that they fit
+-- a prefix of trees: how many, what they cost, and that they fit
 tree_count-take : (n : ℕ) (ts : Trees) → tree_count (take_trees n ts) ≤ tree_count ts
 tree_count-take zero ts = omega arith
 tree_count-take (suc n) none = omega arith

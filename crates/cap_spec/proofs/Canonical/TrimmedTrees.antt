@@ -9,7 +9,7 @@ use Rattle.cap_spec.proofs.ProofNames.{data_of, is_null, take_trees, trim, trim_
 use Rattle.cap_spec.proofs.ProofNames.{AreTrees, IsTree, Tree, Trees, cap, cap_count, cap_counts, has_cap, more, null}
 use Rattle.cap_spec.proofs.ProofNames.{pointers, scalars, struct, structs, tree_count, IsWord, rules}
 
--- a front of trees
+-- a prefix of trees
 trees-take : (n : ℕ) (ts : Trees) → AreTrees ts → AreTrees (take_trees n ts)
 trees-take zero ts f = tt
 trees-take (suc n) none f = tt

@@ -11,7 +11,7 @@ pub rest_below : (n x d : ℕ) → (if n == 0 then x else suc n) ≤ suc d → n
 rest_below zero x d h = omega arith
 rest_below (suc n) x d h = let g : suc (suc n) ≤ suc d = rw (eqb-suc-zero n) at h in omega arith
 
--- where a front of no words is long enough, none are needed of the rest
+-- where a prefix of no words is long enough, none are needed of the rest
 none_needed : (n x : ℕ) → (if n == 0 then x else suc n) ≤ 0 → (if n == 0 then x else suc n) ≡ 0
 none_needed n x h = omega (arith, h)
 

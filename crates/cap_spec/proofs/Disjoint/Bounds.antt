@@ -9,7 +9,7 @@ use Rattle.cap_spec.proofs.Frames.Messages.{HasWord-inside, HasWord-segment}
 use Rattle.cap_spec.proofs.Paths.Arrivals.{lead_word}
 use Rattle.cap_spec.proofs.Paths.Depths.{elements_depth}
 use Rattle.cap_spec.proofs.Paths.PathCounts.{pointer_paths}
-use Rattle.cap_spec.proofs.Paths.PathLists.{behind, is_pointer, listed_rise, paths_below, paths_from}
+use Rattle.cap_spec.proofs.Paths.PathLists.{after_step, is_pointer, listed_rise, paths_below, paths_from}
 use Rattle.cap_spec.proofs.Paths.Preorder.{Rises-distinct}
 use Rattle.cap_spec.proofs.Pointers.Shapes.{pointers_extra, struct_extra}
 use Rattle.cap_spec.proofs.ProofNames.{List, [], ap, append_assoc, arith, false, inl, inr, length, length-append, pos}
@@ -76,13 +76,13 @@ used_append m a (p ∷ ps) qs xs ys (n, s, w, one, rest, walks, occupies, after,
       ∙ append_assoc one rest ys,
 )
 
-used_behind : (m : List (List ℕ)) (a b : Spot) (step : Step) (ps : List (List Step)) (us : List (ℕ × ℕ))
-    → StepsTo m a step b → UsedFrom m b ps us → UsedFrom m a (behind step ps) us
-used_behind m a b step [] us g h = h
-used_behind m a b step (p ∷ ps) us g (n, s, w, one, rest, walks, occupies, after, parts) =
-    (level_of b + n, s, w, one, rest, (b, n, g, walks, refl), occupies, used_behind m a b step ps rest g after, parts)
+used_after : (m : List (List ℕ)) (a b : Spot) (step : Step) (ps : List (List Step)) (us : List (ℕ × ℕ))
+    → StepsTo m a step b → UsedFrom m b ps us → UsedFrom m a (after_step step ps) us
+used_after m a b step [] us g h = h
+used_after m a b step (p ∷ ps) us g (n, s, w, one, rest, walks, occupies, after, parts) =
+    (level_of b + n, s, w, one, rest, (b, n, g, walks, refl), occupies, used_after m a b step ps rest g after, parts)
 
--- and these are so many as the charge is but for e
+-- and these are this many as the charge is but for e
 abbrev Counted : List (List ℕ) → Spot → List (List Step) → ℕ → ℕ → Type 0
 Counted m a ps c e = (us : List (ℕ × ℕ)) × UsedFrom m a ps us × (c ≡ length us + e)
 
@@ -91,9 +91,9 @@ counted_append : (m : List (List ℕ)) (a : Spot) (ps qs : List (List Step)) (c 
 counted_append m a ps qs c c' e e' (xs, g, k) (ys, h, l) =
     (xs ++ ys, used_append m a ps qs xs ys g h, omega (arith, k, l, length-append xs ys))
 
-counted_behind : (m : List (List ℕ)) (a b : Spot) (step : Step) (ps : List (List Step)) (c e : ℕ) → StepsTo m a step b
-    → Counted m b ps c e → Counted m a (behind step ps) c e
-counted_behind m a b step ps c e g (us, h, k) = (us, used_behind m a b step ps us g h, k)
+counted_after : (m : List (List ℕ)) (a b : Spot) (step : Step) (ps : List (List Step)) (c e : ℕ) → StepsTo m a step b
+    → Counted m b ps c e → Counted m a (after_step step ps) c e
+counted_after m a b step ps c e g (us, h, k) = (us, used_after m a b step ps us g h, k)
 
 counted_own : (m : List (List ℕ)) (s w : ℕ) (ps : List (List Step)) (one x rest e c f : ℕ) → Owns m s w one x
     → Counted m (word s w) ps rest e → c ≡ one + rest → f ≡ x + e
@@ -156,9 +156,9 @@ mutual
       subst (λ (v : ℕ). StepsTo m a (step i) (word t v)) (sym f) (goes i (omega arith)) in
       subst (λ (v : ℕ). Counted m a (paths_from is_pointer false step i (more u ts)) v
       (empty_counts (more u ts))) (sym charge)
-      (counted_append m a (behind (step i) ([] ∷ paths_below is_pointer u))
+      (counted_append m a (after_step (step i) ([] ∷ paths_below is_pointer u))
       (paths_from is_pointer false step (suc i) ts) c1 c2 (empty_count u) (empty_counts ts)
-      (counted_behind m a (word t b) (step i) ([] ∷ paths_below is_pointer u) c1 (empty_count u) y x)
+      (counted_after m a (word t b) (step i) ([] ∷ paths_below is_pointer u) c1 (empty_count u) y x)
       (each_counted m a step t (b + 1) n (suc i) all start ts c2 d2 goes (omega arith) (omega arith) (rw p.1 after)))
 
   -- and of the elements of a struct list
@@ -176,9 +176,9 @@ mutual
       (omega arith) each in
       subst (λ (v : ℕ). Counted m a (paths_from is_pointer true Item i (more (struct ws ts) es)) v
       (empty_counts (more (struct ws ts) es))) (sym charge)
-      (counted_append m a (behind (Item i) (paths_from is_pointer false Ptr 0 ts))
+      (counted_append m a (after_step (Item i) (paths_from is_pointer false Ptr 0 ts))
       (paths_from is_pointer true Item (suc i) es) c1 c2 (empty_counts ts) (empty_counts es)
-      (counted_behind m a (element t b ds ps) (Item i) (paths_from is_pointer false Ptr 0 ts) c1 (empty_counts ts) y x)
+      (counted_after m a (element t b ds ps) (Item i) (paths_from is_pointer false Ptr 0 ts) c1 (empty_counts ts) y x)
       (elements_counted m a t (b + ds + ps) ds ps fewer (suc i) all start es c2 d2 goes (omega (arith, counted))
       (omega arith) after))
   elements_counted m a t b ds ps n i all start (more x es) c d goes e f h = absurd h

@@ -63,7 +63,7 @@ pads_in_a_row p h = by_two (two p) refl (omega arith)
     by_two (suc zero) e lt = rw (h, e) refl
     by_two (suc (suc n)) e lt = absurd (omega (arith, e))
 
--- where it leads somewhere, they exist
+-- where it leads to some place, they exist
 pub pads_inside : (m : List (List ℕ)) (s w k p : ℕ) (r : Lead) → Leads m s w k r → HasWord m s w p → kind p ≡ 2
     → (far_segment p < length m) × (pad p + (1 + two p) ≤ length (segment_of m (far_segment p)))
 pads_inside m s w k p r x6 h far = search (rules, one_word, HasWord-segment, HasWord-inside)

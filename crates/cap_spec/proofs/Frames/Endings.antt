@@ -19,7 +19,7 @@ pub no_table : (table rest sizes : List ℕ) → IsTable table sizes → [] ≡ 
 no_table [] rest sizes t e = absurd (let h = table_some [] sizes t in omega arith)
 no_table (p ∷ table) rest sizes t e = absurd (cc)
 
--- what begins with a table tells of at most 512 segments
+-- what begins with a table says of at most 512 segments
 pub table_few : (table rest sizes : List ℕ) (first : ℕ) (more : List ℕ) → IsTable table sizes
     → first ∷ more ≡ table ++ rest → first % 2 ^ 32 < 512
 table_few [] rest sizes first more t e = absurd (let h = table_some [] sizes t in omega arith)
@@ -39,7 +39,7 @@ table_whole (p ∷ table) rest sizes first more t e l =
     let a = length-append table rest in
     omega arith
 
--- the table in front of a frame
+-- the table before a frame
 pub frame_table : (own rest : List ℕ) (m : List (List ℕ)) → (f : Frames own m)
     → own ++ rest ≡ f.table ++ (joined m ++ rest)
 frame_table own rest m f = ap (λ w. w ++ rest) f.whole ∙ append_assoc f.table (joined m) rest
@@ -52,7 +52,7 @@ message_not_none own rest m f e =
     let a = length-append own rest in
     absurd (omega arith)
 
--- what begins with a frame, a first word that tells of too many segments: not both
+-- what begins with a frame, a first word that gives too many segments: not both
 pub message_not_too_many : (own rest : List ℕ) (m : List (List ℕ)) (first : ℕ) (more : List ℕ) → Frames own m
     → own ++ rest ≡ first ∷ more → 512 < first % 2 ^ 32 + 1 → ⊥
 message_not_too_many own rest m first more f e n =
@@ -91,14 +91,14 @@ message_not_partial limit own rest m cut f (in_contents table sizes more e t n l
     let j = length_joined m in
     absurd (omega arith)
 
--- a table and a first word that tells of too many segments: not both
+-- a table and a first word that gives too many segments: not both
 pub too_many_not_too_large : (first : ℕ) (more table rest sizes : List ℕ) → 512 < first % 2 ^ 32 + 1
     → IsTable table sizes → first ∷ more ≡ table ++ rest → ⊥
 too_many_not_too_large first more table rest sizes n t e =
     let h = table_few table rest sizes first more t e in
     absurd (omega arith)
 
--- a first word that tells of too many segments, a part of a frame: not both
+-- a first word that gives too many segments, a part of a frame: not both
 pub too_many_not_partial : (limit first : ℕ) (more : List ℕ) (cut : Bool) → 512 < first % 2 ^ 32 + 1
     → IsPartial limit (first ∷ more) cut → ⊥
 too_many_not_partial limit first more cut n (in_word e c) = absurd (cc)

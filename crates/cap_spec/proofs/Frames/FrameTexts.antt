@@ -18,7 +18,7 @@ plain_halves (x ∷ words) = search (rules, word_halves, four_bytes, flat_map-ap
 pair_halves : (a b : ℕ) → a < 2 ^ 32 → b < 2 ^ 32 → halves (a + 2 ^ 32 * b) ≡ a ∷ b ∷ []
 pair_halves a b h i = search rules
 
--- numbers in pairs have these numbers as halves, and zero behind an odd one
+-- numbers in pairs have these numbers as halves, and zero after an odd one
 pub paired_halves : (xs : List ℕ) → AllByRecursion (λ n. n < 2 ^ 32) xs
     → flat_map halves (paired xs) ≡ xs ++ replicate (length xs % 2) 0
 paired_halves [] all = refl
@@ -72,7 +72,7 @@ are_zeros : (xs : List ℕ) → AllByRecursion (λ (k : ℕ). k ≡ 0) xs → xs
 are_zeros [] all = refl
 are_zeros (x ∷ xs) all = ap (λ k. k ∷ xs) all.0 ∙ ap (λ l. 0 ∷ l) (are_zeros xs all.1)
 
--- words are told by their halves
+-- words are reported by their halves
 word_back : (x : ℕ) → x ≡ x % 2 ^ 32 + 2 ^ 32 * (x / 2 ^ 32)
 word_back x = omega arith
 
@@ -94,7 +94,7 @@ frame_text_zero m is = record {
   zero_padding = zeros_zero (suc (length (sizes_of m)) % 2);
 }
 
--- so many zeros
+-- this many zeros
 zeros : (xs : List ℕ) (n : ℕ) → AllByRecursion (λ (k : ℕ). k ≡ 0) xs → length xs ≡ n → xs ≡ replicate n 0
 zeros xs n all e = are_zeros xs all ∙ ap (λ k. replicate k 0) e
 

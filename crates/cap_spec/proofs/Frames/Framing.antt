@@ -3,7 +3,7 @@ use Rattle.std.proofs.Common.{List, [], ap, append_assoc, arith, flat_map, lengt
 use Rattle.std.proofs.Common.{◌*◌, ◌++◌, ◌+◌, ◌-◌, ◌/◌, ◌<◌, ◌^◌, ◌∙◌, ◌∷◌, ◌≡◌, rules}
 use Rattle.cap_spec.specs.Frames.{Frames, IsTable, halves, joined, sizes_of}
 
--- two lists of one length, each with more behind it, that make the same list are the same, and so is what is behind
+-- two lists of one length, each with more after it, that make the same list are the same, and so is what is after
 pub same_parts : {A : Type 0} → (a b x y : List A) → length a ≡ length b → a ++ x ≡ b ++ y → (a ≡ b) × (x ≡ y)
 same_parts [] [] x y l e = (refl, e)
 same_parts [] (d ∷ b) x y l e = absurd (omega arith)
@@ -23,7 +23,7 @@ pub table_some : (table sizes : List ℕ) → IsTable table sizes → 0 < length
 table_some [] sizes t = absurd (let e = t.numbers in cc)
 table_some (p ∷ table) sizes t = omega arith
 
--- the first word of a table tells how many segments there are
+-- the first word of a table says how many segments there are
 pub table_count : (first : ℕ) (more sizes : List ℕ) → IsTable (first ∷ more) sizes → first % 2 ^ 32 + 1 ≡ length sizes
 table_count first more sizes t = search rules
 
@@ -53,7 +53,7 @@ same_table (p ∷ a) (q ∷ b) x y m n s t e =
     let f : m ++ s.padding ≡ n ++ t.padding = (let i = s.numbers in let j = t.numbers in cc) in
     (r.0, (same_parts m n s.padding t.padding l f).0, r.1)
 
--- the sizes of segments tell how words are cut into them
+-- the sizes of segments say how words are cut into them
 pub same_joined : (m n : List (List ℕ)) (x y : List ℕ) → sizes_of m ≡ sizes_of n → joined m ++ x ≡ joined n ++ y
     → (m ≡ n) × (x ≡ y)
 same_joined [] [] x y l e = (refl, e)

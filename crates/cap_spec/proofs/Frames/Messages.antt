@@ -6,7 +6,7 @@ use Rattle.cap_spec.proofs.ProofNames.{slice_get-get_or, slice_get_within, HasWo
 pub one_word : (m : List (List ℕ)) (s w x y : ℕ) → HasWord m s w x → HasWord m s w y → x ≡ y
 one_word m s w x y p q = same_Some x y (sym p ∙ q)
 
--- a word stands inside its segment
+-- a word is inside its segment
 pub HasWord-inside : (m : List (List ℕ)) (s w x : ℕ) → HasWord m s w x → w < length (segment_of m s)
 HasWord-inside m s w x h = slice_get_within (segment_of m s) w x h
 
@@ -14,7 +14,7 @@ HasWord-inside m s w x h = slice_get_within (segment_of m s) w x h
 pub HasWord-at : (m : List (List ℕ)) (s w : ℕ) → w < length (segment_of m s) → (x : ℕ) × HasWord m s w x
 HasWord-at m s w h = (get_or (segment_of m s) w 0, slice_get-get_or (segment_of m s) w 0 h)
 
--- a word stands in a segment that there is
+-- a word is in a segment that there is
 pub HasWord-segment : (m : List (List ℕ)) (s w x : ℕ) → HasWord m s w x → s < length m
 HasWord-segment m s w x h = grind (arith, common_steps)
 

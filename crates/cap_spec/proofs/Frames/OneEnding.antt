@@ -8,8 +8,8 @@ use Rattle.cap_spec.proofs.Frames.Framing.{length_halves}
 use Rattle.cap_spec.proofs.ProofNames.{Bool, List, [], ap, append_assoc, arith, drop, drop-drop, false, flat_map, inl, inr}
 use Rattle.cap_spec.proofs.ProofNames.{length, length-drop, length-take-le, refl, subst, sum, sym, take, take-append-drop}
 use Rattle.cap_spec.proofs.ProofNames.{true, ℕ, ◌%◌, ◌*◌, ◌++◌, ◌+◌, ◌-◌, ◌/◌, ◌<◌, ◌^◌, ◌∙◌, ◌∷◌, ◌≡◌, ◌≤◌, cases_lt}
-use Rattle.cap_spec.proofs.ProofNames.{sum_by-cons, AllByRecursion, BeginsMessage, Ending, EndsIn, TellsTooMany}
-use Rattle.cap_spec.proofs.ProofNames.{TellsTooMuch, message, partial, too_large, too_many, IsPartial, IsTable, halves}
+use Rattle.cap_spec.proofs.ProofNames.{sum_by-cons, AllByRecursion, BeginsMessage, Ending, EndsIn, GivesTooMany}
+use Rattle.cap_spec.proofs.ProofNames.{GivesTooMuch, message, partial, too_large, too_many, IsPartial, IsTable, halves}
 use Rattle.cap_spec.proofs.ProofNames.{in_contents, in_table, in_word, joined, sizes_of, IsWord, common_steps, rules}
 
 -- words cut into segments of these sizes
@@ -51,7 +51,7 @@ halves_fit (x ∷ words) a = search (rules, halves_fit words a.1)
 abbrev pub sizes_in : ℕ → List ℕ → List ℕ
 sizes_in first more = take (first % 2 ^ 32 + 1) (first / 2 ^ 32 ∷ flat_map halves more)
 
--- as many words as the first one tells are a table
+-- as many words as the first one gives are a table
 pub makes_table : (first : ℕ) (more : List ℕ) → AllByRecursion IsWord (first ∷ more) → first % 2 ^ 32 < 512
     → length more ≡ (first % 2 ^ 32 + 1) / 2 → IsTable (first ∷ more) (sizes_in first more)
 makes_table first more a n l =
@@ -73,10 +73,10 @@ makes_table first more a n l =
       numbers = cc;
     }
 
--- behind a table one of three is the case
-pub behind_table : (limit : ℕ) (words table rest sizes : List ℕ) (cut : Bool) → IsTable table sizes
+-- after a table one of three is the case
+pub after_table : (limit : ℕ) (words table rest sizes : List ℕ) (cut : Bool) → IsTable table sizes
     → words ≡ table ++ rest → (e : Ending) × EndsIn limit words cut e
-behind_table limit words table rest sizes cut t w = elim (cases_lt limit (sum sizes)) [
+after_table limit words table rest sizes cut t w = elim (cases_lt limit (sum sizes)) [
   | inl past ↦ (too_large, record { table = table; rest = rest; sizes = sizes; whole = w; is_table = t; past = past })
   | inr within ↦ elim (cases_lt (length rest) (sum sizes)) [
     | inl short ↦ (partial, in_contents table sizes rest w t within short)
@@ -110,18 +110,18 @@ some_ending limit (first ∷ rest) cut a = elim (cases_lt 512 (first % 2 ^ 32 + 
         let k = (first % 2 ^ 32 + 1) / 2 in
         let more = take k rest in
         let t = makes_table first more (a.0, all_take IsWord k rest a.1) (omega arith) (length-take-le k rest long) in
-        behind_table limit (first ∷ rest) (first ∷ more) (drop k rest) (sizes_in first more) cut t
+        after_table limit (first ∷ rest) (first ∷ more) (drop k rest) (sizes_in first more) cut t
         (ap (λ x. first ∷ x) (sym (take-append-drop k rest)))
   ]
 ]
 
--- a message and a first word that tells of too many segments: not both
-pub message_too_many : (limit : ℕ) (words : List ℕ) → BeginsMessage limit words → TellsTooMany words → ⊥
+-- a message and a first word that gives too many segments: not both
+pub message_too_many : (limit : ℕ) (words : List ℕ) → BeginsMessage limit words → GivesTooMany words → ⊥
 message_too_many limit words b c = message_not_too_many b.own b.rest b.message c.first c.rest b.frames
     (sym b.whole ∙ c.whole) c.many
 
 -- a message and a table past the limit: not both
-pub message_too_large : (limit : ℕ) (words : List ℕ) → BeginsMessage limit words → TellsTooMuch limit words → ⊥
+pub message_too_large : (limit : ℕ) (words : List ℕ) → BeginsMessage limit words → GivesTooMuch limit words → ⊥
 message_too_large limit words b c = message_not_too_large limit b.own b.rest b.message c.table c.rest c.sizes b.frames
     b.within c.is_table (sym b.whole ∙ c.whole) c.past
 
@@ -132,17 +132,17 @@ message_partial limit words cut b p = message_not_partial limit b.own b.rest b.m
     (subst (λ w. IsPartial limit w cut) b.whole p)
 
 -- too many segments and a table past the limit: not both
-pub too_many_too_large : (limit : ℕ) (words : List ℕ) → TellsTooMany words → TellsTooMuch limit words → ⊥
+pub too_many_too_large : (limit : ℕ) (words : List ℕ) → GivesTooMany words → GivesTooMuch limit words → ⊥
 too_many_too_large limit words b c = too_many_not_too_large b.first b.rest c.table c.rest c.sizes b.many c.is_table
     (sym b.whole ∙ c.whole)
 
 -- too many segments and a part of a frame: not both
-pub too_many_partial : (limit : ℕ) (words : List ℕ) (cut : Bool) → TellsTooMany words → IsPartial limit words cut → ⊥
+pub too_many_partial : (limit : ℕ) (words : List ℕ) (cut : Bool) → GivesTooMany words → IsPartial limit words cut → ⊥
 too_many_partial limit words cut b p =
     too_many_not_partial limit b.first b.rest cut b.many (subst (λ w. IsPartial limit w cut) b.whole p)
 
 -- a table past the limit and a part of a frame: not both
-pub too_large_partial : (limit : ℕ) (words : List ℕ) (cut : Bool) → TellsTooMuch limit words
+pub too_large_partial : (limit : ℕ) (words : List ℕ) (cut : Bool) → GivesTooMuch limit words
     → IsPartial limit words cut → ⊥
 too_large_partial limit words cut b p =
     too_large_not_partial limit b.table b.rest b.sizes cut b.is_table b.past
@@ -185,8 +185,8 @@ one_ending limit words cut partial too_large a b = absurd (too_large_partial lim
 
 -- words that end in none of the other four ways are part of a frame
 pub partial_else : (limit : ℕ) (words : List ℕ) (cut : Bool) → AllByRecursion IsWord words →
-    (BeginsMessage limit words → ⊥) → ((words ≡ []) × (cut ≡ false) → ⊥) → (TellsTooMany words → ⊥)
-    → (TellsTooMuch limit words → ⊥) → IsPartial limit words cut
+    (BeginsMessage limit words → ⊥) → ((words ≡ []) × (cut ≡ false) → ⊥) → (GivesTooMany words → ⊥)
+    → (GivesTooMuch limit words → ⊥) → IsPartial limit words cut
 partial_else limit words cut all a b c d = (let e = some_ending limit words cut all in pick e.0 e.1)
   where
     pick : (e : Ending) → EndsIn limit words cut e → IsPartial limit words cut

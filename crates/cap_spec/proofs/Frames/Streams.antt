@@ -1,4 +1,4 @@
--- Streams of frames: none, one more in front, one more behind, and two joined.
+-- Streams of frames: none, one more in front, one more after, and two joined.
 use Rattle.cap_spec.proofs.Frames.Endings.{frame_some}
 use Rattle.cap_spec.proofs.Frames.Framing.{one_frame}
 use Rattle.cap_spec.proofs.ProofNames.{List, [], ap, append-nil, append_assoc, arith, flat_map, inl, inr, length}
@@ -13,7 +13,7 @@ stream_none = record { frames = []; each = tt; whole = refl; messages = refl }
 pub stream_one : (own : List ℕ) (m : List (List ℕ)) → Frames own m → Stream own (m ∷ [])
 stream_one own m f = record { frames = (own, m) ∷ []; each = (f, tt); whole = sym (append-nil own); messages = refl }
 
--- with a frame in front of a stream
+-- with a frame before a stream
 pub stream_cons : (own rest : List ℕ) (m : List (List ℕ)) (ms : List (List (List ℕ))) → Frames own m → Stream rest ms
     → Stream (own ++ rest) (m ∷ ms)
 stream_cons own rest m ms f s = record {
@@ -23,12 +23,12 @@ stream_cons own rest m ms f s = record {
   messages = ap (λ k. m ∷ k) s.messages;
 }
 
--- two streams, one behind the other
+-- two streams, one after the other
 pub stream_append : (words rest : List ℕ) (ms ns : List (List (List ℕ))) → Stream words ms → Stream rest ns
     → Stream (words ++ rest) (ms ++ ns)
 stream_append words rest ms ns s t = grind (arith, common_steps)
 
--- frames in front of others, in front of any words: the others go on from there
+-- frames before others, before any words: the others go on from there
 pub frames_front : (fs hs : List (List ℕ × List (List ℕ))) (back : List ℕ) → AllByRecursion (λ f. Frames f.0 f.1) fs
     → AllByRecursion (λ f. Frames f.0 f.1) hs
     → flat_map (λ f. f.0) hs ≡ flat_map (λ f. f.0) fs ++ back
@@ -49,7 +49,7 @@ frames_front (f ∷ fs) (h ∷ hs) back a b e =
     let rest = frames_front fs hs back a.1 b.1 one.2 in
     (rest.0, (let same = one.1 in let tail = rest.1 in cc), rest.2, rest.3)
 
--- a stream that begins with another goes on behind it
+-- a stream that begins with another goes on after it
 pub stream_front : (words back : List ℕ) (ms ns : List (List (List ℕ))) → Stream words ms → Stream (words ++ back) ns
     → (more : List (List (List ℕ))) × (ns ≡ ms ++ more) × Stream back more
 stream_front words back ms ns s t = search (rules, frames_front)

@@ -9,52 +9,52 @@ use Rattle.cap_spec.proofs.ProofNames.{plain_text, word_bytes, Cut, Groups, IsGr
 use Rattle.cap_spec.proofs.ProofNames.{group_length, group_words, groups_text, groups_words, marked, packed_is_cut}
 use Rattle.cap_spec.proofs.ProofNames.{plain, unpacked, zeros, IsWord, common_steps, rules}
 
--- a group, whatever stands behind it: it is as long as its head says, and stands for its words
-pub record InFront (bytes words rest : List ℕ) : Type 0 where
+-- a group, whatever is after it: it is as long as its head says, and represents its words
+pub record IsBefore (bytes words rest : List ℕ) : Type 0 where
   pub some : 0 < length bytes
   pub long : group_length (bytes ++ rest) ≡ length bytes
-  pub spells : group_words (bytes ++ rest) ≡ words
+  pub encodes : group_words (bytes ++ rest) ≡ words
 
 -- the bytes of a plain group
 abbrev pub plain_group : ℕ → List ℕ → List ℕ
 plain_group x more = 255 ∷ (word_bytes x ++ length more ∷ plain_text more)
 
 -- of a plain group
-in_front_plain : (x : ℕ) (more rest : List ℕ) → IsWord x → AllByRecursion IsWord more
-    → InFront (plain_group x more) (x ∷ more) rest
-in_front_plain x more rest h a = search (rules, length_plain, take_at, plain_reads)
+is_before_plain : (x : ℕ) (more rest : List ℕ) → IsWord x → AllByRecursion IsWord more
+    → IsBefore (plain_group x more) (x ∷ more) rest
+is_before_plain x more rest h a = search (rules, length_plain, take_at, plain_reads)
 
 -- of any group
-pub in_front : (bytes words rest : List ℕ) → IsGroup bytes words → InFront bytes words rest
-in_front bytes words rest (zeros n h e w) =
-    subst (λ k. InFront k words rest) (sym e) (record { some = omega arith; long = refl; spells = sym w })
-in_front bytes words rest (plain x more h a l e w) =
-    subst (λ k. InFront k words rest) (sym e)
-    (subst (λ k. InFront (plain_group x more) k rest) (sym w) (in_front_plain x more rest h a))
-in_front bytes words rest (marked tag present p q a l e w) =
-    subst (λ k. InFront k words rest) (sym e) (record {
+pub is_before : (bytes words rest : List ℕ) → IsGroup bytes words → IsBefore bytes words rest
+is_before bytes words rest (zeros n h e w) =
+    subst (λ k. IsBefore k words rest) (sym e) (record { some = omega arith; long = refl; encodes = sym w })
+is_before bytes words rest (plain x more h a l e w) =
+    subst (λ k. IsBefore k words rest) (sym e)
+    (subst (λ k. IsBefore (plain_group x more) k rest) (sym w) (is_before_plain x more rest h a))
+is_before bytes words rest (marked tag present p q a l e w) =
+    subst (λ k. IsBefore k words rest) (sym e) (record {
       some = omega arith;
       long = (let k = length_marked tag (present ++ rest) p q in omega (arith, k, l));
-      spells = words_marked tag (present ++ rest) p q ∙ (ap (λ k. k ∷ []) (spread_append 8 tag present rest l) ∙ sym w);
+      encodes = words_marked tag (present ++ rest) p q ∙ (ap (λ k. k ∷ []) (spread_append 8 tag present rest l) ∙ sym w);
     })
 
--- a group in front comes off: its words first, and then those of what is behind it
+-- a group in front comes off: its words first, and then those of what is after it
 pub group_off : (bytes words rest : List ℕ) → IsGroup bytes words → unpacked (bytes ++ rest) ≡ words ++ unpacked rest
 group_off bytes words rest g =
-    let f = in_front bytes words rest g in
+    let f = is_before bytes words rest g in
     let s = f.some in
     let k : group_length (bytes ++ rest) ≡ length bytes = f.long in
     let l = length-append bytes rest in
     let u = unpacked_front (bytes ++ rest) (omega (arith, s, l)) (omega (arith, k, l)) in
     let d : drop (group_length (bytes ++ rest)) (bytes ++ rest) ≡ rest = ap (λ n. drop n (bytes ++ rest)) k
     ∙ drop_at bytes rest (length bytes) refl in
-    u ∙ (ap (λ n. n ++ unpacked (drop (group_length (bytes ++ rest)) (bytes ++ rest))) f.spells
+    u ∙ (ap (λ n. n ++ unpacked (drop (group_length (bytes ++ rest)) (bytes ++ rest))) f.encodes
     ∙ ap (λ n. words ++ unpacked n) d)
 
--- and the bytes are cut where those behind it are
+-- and the bytes are cut where those after it are
 pub cut_off : (bytes words rest : List ℕ) → IsGroup bytes words → packed_is_cut (bytes ++ rest) ≡ packed_is_cut rest
 cut_off bytes words rest g =
-    let f = in_front bytes words rest g in
+    let f = is_before bytes words rest g in
     let s = f.some in
     let k : group_length (bytes ++ rest) ≡ length bytes = f.long in
     let l = length-append bytes rest in
@@ -72,7 +72,7 @@ groups_off (g ∷ groups) rest a =
     ∙ (group_off g.0 g.1 (groups_text groups ++ rest) a.0
     ∙ (ap (λ k. g.1 ++ k) (groups_off groups rest a.1) ∙ sym (append_assoc g.1 (groups_words groups) (unpacked rest))))
 
--- and the bytes are cut where those behind them are
+-- and the bytes are cut where those after them are
 pub groups_cut_off : (groups : Groups) (rest : List ℕ) → AllByRecursion (λ g. IsGroup g.0 g.1) groups
     → packed_is_cut (groups_text groups ++ rest) ≡ packed_is_cut rest
 groups_cut_off [] rest a = refl
@@ -84,7 +84,7 @@ groups_cut_off (g ∷ groups) rest a =
 pub unpacks_words : (bytes words : List ℕ) → Unpacks bytes words → words ≡ unpacked bytes
 unpacks_words bytes words u =
     let t : unpacked (groups_text u.groups ++ []) ≡ groups_words u.groups ++ [] = groups_off u.groups [] u.each in
-    u.spelled ∙ (sym (append-nil (groups_words u.groups))
+    u.encoded ∙ (sym (append-nil (groups_words u.groups))
     ∙ (sym t ∙ (ap unpacked (append-nil (groups_text u.groups)) ∙ ap unpacked (sym u.text))))
 
 -- and aren't cut
@@ -94,16 +94,16 @@ unpacks_whole bytes words u =
     ap packed_is_cut (u.text ∙ sym (append-nil (groups_text u.groups))) ∙ t
 
 -- the beginning of a group is shorter than its head says
-pub part_short : (tag : ℕ) (part lacking spelled : List ℕ) → IsGroup (tag ∷ (part ++ lacking)) spelled
+pub part_short : (tag : ℕ) (part lacking encoded : List ℕ) → IsGroup (tag ∷ (part ++ lacking)) encoded
     → 0 < length lacking → length (tag ∷ part) < group_length (tag ∷ part)
-part_short tag part lacking spelled (zeros n h e w) some =
+part_short tag part lacking encoded (zeros n h e w) some =
     let t : tag ≡ 0 = cc in
     let l = ap length e in
     let a = length-append part lacking in
     let k : length part ≡ 0 = omega arith in
     let g : group_length (tag ∷ part) ≡ 2 = ap (λ k. group_length (k ∷ part)) t in
     omega (arith, k, g)
-part_short tag part lacking spelled (plain x more h all few e w) some =
+part_short tag part lacking encoded (plain x more h all few e w) some =
     let t : tag ≡ 255 = cc in
     let r : part ++ lacking ≡ word_bytes x ++ length more ∷ plain_text more = cc in
     let l = ap length r in
@@ -117,7 +117,7 @@ part_short tag part lacking spelled (plain x more h all few e w) some =
           omega (arith, g, i, l, a, m)
       | inr short ↦ omega (arith, g, short)
     ]
-part_short tag part lacking spelled (marked mark present p q all l e w) some = grind (arith, common_steps)
+part_short tag part lacking encoded (marked mark present p q all l e w) some = grind (arith, common_steps)
 
 -- a list that isn't empty has a member
 some_member : (xs : List ℕ) → xs ≢ [] → 0 < length xs
@@ -125,26 +125,26 @@ some_member [] n = absurd (n refl)
 some_member (x ∷ xs) n = omega arith
 
 -- the beginning of a group that isn't the whole of it
-pub part_is_short : (part lacking spelled : List ℕ) → part ≢ [] → lacking ≢ [] → IsGroup (part ++ lacking) spelled
+pub part_is_short : (part lacking encoded : List ℕ) → part ≢ [] → lacking ≢ [] → IsGroup (part ++ lacking) encoded
     → length part < group_length part
-part_is_short [] lacking spelled n m g = absurd (n refl)
-part_is_short (tag ∷ part) lacking spelled n m g = part_short tag part lacking spelled g (some_member lacking m)
+part_is_short [] lacking encoded n m g = absurd (n refl)
+part_is_short (tag ∷ part) lacking encoded n m g = part_short tag part lacking encoded g (some_member lacking m)
 
 -- bytes that are cut with words given before give just these words
 pub cut_words : (bytes words : List ℕ) → Cut bytes words → words ≡ unpacked bytes
 cut_words bytes words c =
-    let s = part_is_short c.part c.lacking c.spelled c.begun c.proper c.group in
+    let s = part_is_short c.part c.lacking c.encoded c.begun c.proper c.group in
     let u = c.unpacks in
     let t = groups_off u.groups c.part u.each in
     let v : unpacked bytes ≡ groups_words u.groups ++ unpacked c.part =
     ap unpacked (c.text ∙ ap (λ k. k ++ c.part) u.text) ∙ t in
     sym (v ∙ (ap (λ k. groups_words u.groups ++ k) (unpacked_short c.part s)
-    ∙ (ap (λ k. k ++ given_of c.part) (sym u.spelled) ∙ sym c.given)))
+    ∙ (ap (λ k. k ++ given_of c.part) (sym u.encoded) ∙ sym c.given)))
 
 -- and are cut
 pub cut_is_cut : (bytes words : List ℕ) → Cut bytes words → packed_is_cut bytes ≡ true
 cut_is_cut bytes words c =
-    let s = part_is_short c.part c.lacking c.spelled c.begun c.proper c.group in
+    let s = part_is_short c.part c.lacking c.encoded c.begun c.proper c.group in
     let u = c.unpacks in
     ap packed_is_cut (c.text ∙ ap (λ k. k ++ c.part) u.text)
     ∙ (groups_cut_off u.groups c.part u.each ∙ cut_short c.part s)

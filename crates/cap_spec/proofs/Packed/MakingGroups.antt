@@ -10,7 +10,7 @@ use Rattle.cap_spec.proofs.ProofNames.{◌∷◌, ◌≡◌, ◌≢◌, ◌≤�
 use Rattle.cap_spec.proofs.ProofNames.{AllByRecursion, little_number, plain_text, plain_words, word_bytes, IsGroup}
 use Rattle.cap_spec.proofs.ProofNames.{group_length, group_words, marked, marks, plain, spread, zeros, common_steps, rules}
 
--- bytes of whole words: so many words
+-- bytes of whole words: this many words
 pub aligned_words : (n : ℕ) (bytes : List ℕ) → AllByRecursion (λ b. b < 256) bytes → length bytes ≡ 8 * n
     → length (plain_words bytes) ≡ n
 aligned_words n bytes all l = search (rules, plain_split, length_plain, length-append)
@@ -20,7 +20,7 @@ pub aligned_text : (n : ℕ) (bytes : List ℕ) → AllByRecursion (λ b. b < 25
     → plain_text (plain_words bytes) ≡ bytes
 aligned_text n bytes all l = search (rules, plain_split, aligned_words, length-drop, nil_from_length, append-nil)
 
--- eight bytes, a count, and the bytes of so many words are a plain group behind its tag
+-- eight bytes, a count, and the bytes of this many words are a plain group after its tag
 makes_plain : (a b c d e f g h n : ℕ) (bytes : List ℕ)
     → AllByRecursion (λ x. x < 256) (a ∷ b ∷ c ∷ d ∷ e ∷ f ∷ g ∷ h ∷ n ∷ bytes) → length bytes ≡ 8 * n →
     IsGroup (255 ∷ a ∷ b ∷ c ∷ d ∷ e ∷ f ∷ g ∷ h ∷ n ∷ bytes) (plain_words (a ∷ b ∷ c ∷ d ∷ e ∷ f ∷ g ∷ h ∷ bytes))
@@ -51,7 +51,7 @@ makes_plain a b c d e f g h n bytes all l =
     plain x (plain_words bytes) (eight_word a b c d e f g h eight) (plain_split bytes more).are_words
     (omega (arith, k, count)) (sym text) refl
 
--- bytes as long as the count among them says are a plain group behind its tag
+-- bytes as long as the count among them says are a plain group after its tag
 pub is_plain : (bytes : List ℕ) → AllByRecursion (λ x. x < 256) bytes → length bytes ≡ 9 + 8 * slice_index bytes 8 →
     IsGroup (255 ∷ bytes) (plain_words (take 8 bytes ++ drop 9 bytes))
 is_plain [] all l = absurd (omega arith)
@@ -67,7 +67,7 @@ is_plain (a ∷ b ∷ c ∷ d ∷ e ∷ f ∷ g ∷ h ∷ n ∷ bytes) all l =
     makes_plain a b c d e f g h n bytes all
     (let k : suc (suc (suc (suc (suc (suc (suc (suc (suc (length bytes))))))))) ≡ 9 + 8 * n = l in omega arith)
 
--- zeros behind a list change no number in it, read as zero past its end
+-- zeros after a list change no number in it, read as zero past its end
 padded : (bytes : List ℕ) (k i : ℕ) → get_or (bytes ++ replicate k 0) i 0 ≡ get_or bytes i 0
 padded [] zero i = refl
 padded [] (suc k) zero = refl
@@ -87,7 +87,7 @@ pub record Completes (bytes : List ℕ) : Type 0 where
   pub words : List ℕ
   pub group : IsGroup (bytes ++ lacking) words
 
--- so many zeros are some
+-- this many zeros are some
 zeros_some : (k : ℕ) → 0 < k → replicate {A = ℕ} k 0 ≢ []
 zeros_some k p e = let l : length (replicate {A = ℕ} k 0) ≡ k = length-replicate {A = ℕ} k 0 in
     absurd (let m = ap length e in omega arith)

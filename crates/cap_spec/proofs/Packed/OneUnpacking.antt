@@ -1,4 +1,4 @@
--- Every list of bytes either unpacks to words or is cut behind words, and just to those that it gives.
+-- Every list of bytes either unpacks to words or is cut after words, and just to those that it gives.
 use Rattle.cap_spec.proofs.Bytes.Lists.{all_drop}
 use Rattle.cap_spec.proofs.Packed.Groups.{cut_is_cut, cut_words, unpacks_whole, unpacks_words}
 use Rattle.cap_spec.proofs.Packed.MakingGroups.{begins_group, whole_group}
@@ -21,28 +21,28 @@ becomes_part tag bytes all h =
     part (cut_short (tag ∷ bytes) h) (record {
       whole = [];
       before = [];
-      unpacks = record { groups = []; each = tt; text = refl; spelled = refl };
+      unpacks = record { groups = []; each = tt; text = refl; encoded = refl };
       part = tag ∷ bytes;
       lacking = c.lacking;
       begun = (λ e. cc);
       proper = c.some;
-      spelled = c.words;
+      encoded = c.words;
       group = c.group;
       text = refl;
       given = unpacked_short (tag ∷ bytes) h;
     })
 
--- with a group in front of words that unpack, so do they together
+-- with a group before words that unpack, so do they together
 pub unpacks_with : (own words rest more : List ℕ) → IsGroup own words → Unpacks rest more
     → Unpacks (own ++ rest) (words ++ more)
 unpacks_with own words rest more g u = record {
   groups = (own, words) ∷ u.groups;
   each = (g, u.each);
   text = ap (λ k. own ++ k) u.text;
-  spelled = ap (λ k. words ++ k) u.spelled;
+  encoded = ap (λ k. words ++ k) u.encoded;
 }
 
--- with a group in front of words that are cut, so are they together
+-- with a group before words that are cut, so are they together
 pub cut_with : (own words rest more : List ℕ) → IsGroup own words → Cut rest more → Cut (own ++ rest) (words ++ more)
 cut_with own words rest more g c = record {
   whole = own ++ c.whole;
@@ -52,13 +52,13 @@ cut_with own words rest more g c = record {
   lacking = c.lacking;
   begun = c.begun;
   proper = c.proper;
-  spelled = c.spelled;
+  encoded = c.encoded;
   group = c.group;
   text = ap (λ k. own ++ k) c.text ∙ sym (append_assoc own c.whole c.part);
   given = ap (λ k. words ++ k) c.given ∙ sym (append_assoc words c.before (given_of c.part));
 }
 
--- with a whole group in front, bytes become what those behind it do
+-- with a whole group in front, bytes become what those after it do
 becomes_with : (bytes own words rest : List ℕ) → IsGroup own words → own ++ rest ≡ bytes
     → unpacked bytes ≡ words ++ unpacked rest → packed_is_cut bytes ≡ packed_is_cut rest → Becomes rest → Becomes bytes
 becomes_with bytes own words rest g e u c (whole k r) =
@@ -68,9 +68,9 @@ becomes_with bytes own words rest g e u c (part k r) =
     part (c ∙ k) (subst (λ b. Cut b (unpacked bytes)) e
     (subst (λ w. Cut (own ++ rest) w) (sym u) (cut_with own words rest (unpacked rest) g r)))
 
--- each list of bytes, in so many groups at most
+-- each list of bytes, in this many groups at most
 becomes_in : (n : ℕ) (bytes : List ℕ) → length bytes ≤ n → AllByRecursion (λ b. b < 256) bytes → Becomes bytes
-becomes_in n [] l all = whole refl (record { groups = []; each = tt; text = refl; spelled = refl })
+becomes_in n [] l all = whole refl (record { groups = []; each = tt; text = refl; encoded = refl })
 becomes_in zero (tag ∷ bytes) l all = absurd (omega arith)
 becomes_in (suc n) (tag ∷ bytes) l all = elim (cases_lt (length (tag ∷ bytes)) (group_length (tag ∷ bytes))) [
   | inl short ↦ becomes_part tag bytes all short
@@ -93,7 +93,7 @@ unpacks_from : (bytes : List ℕ) → packed_is_cut bytes ≡ false → Becomes 
 unpacks_from bytes c (whole k u) = u
 unpacks_from bytes c (part k u) = absurd (let h : true ≡ false = sym k ∙ c in cc)
 
--- bytes that are cut are so behind what they give
+-- bytes that are cut are so after what they give
 cut_from : (bytes : List ℕ) → packed_is_cut bytes ≡ true → Becomes bytes → Cut bytes (unpacked bytes)
 cut_from bytes c (whole k u) = absurd (let h : true ≡ false = sym c ∙ k in cc)
 cut_from bytes c (part k u) = u
@@ -103,7 +103,7 @@ pub unpacks_unless_cut : (bytes : List ℕ) → AllByRecursion (λ b. b < 256) b
     → Unpacks bytes (unpacked bytes)
 unpacks_unless_cut bytes all c = unpacks_from bytes c (becomes bytes all)
 
--- bytes that are cut are so behind what they give, for bytes below 256
+-- bytes that are cut are so after what they give, for bytes below 256
 pub cut_if_cut : (bytes : List ℕ) → AllByRecursion (λ b. b < 256) bytes → packed_is_cut bytes ≡ true
     → Cut bytes (unpacked bytes)
 cut_if_cut bytes all c = cut_from bytes c (becomes bytes all)

@@ -1,6 +1,6 @@
--- Positions in packed bytes: those of the group in front come first, and then those behind it.
+-- Positions in packed bytes: those of the group in front come first, and then those after it.
 use Rattle.cap_spec.specs.PackedEnds.{group_ends}
-use Rattle.cap_spec.proofs.Packed.Groups.{in_front, part_is_short}
+use Rattle.cap_spec.proofs.Packed.Groups.{is_before, part_is_short}
 use Rattle.cap_spec.proofs.Packed.Unpacking.{drop_less, group_some}
 use Rattle.cap_spec.proofs.ProofNames.{List, [], ap, arith, drop, drop_at, if◌then◌else◌, le-ltb, length, length-append}
 use Rattle.cap_spec.proofs.ProofNames.{nat_lt, refl, suc, sym, take, zero, ℕ, ◌++◌, ◌+◌, ◌<◌, ◌∙◌, ◌∷◌, ◌≡◌, ◌≢◌, ◌≤◌}
@@ -15,7 +15,7 @@ ends_nil (suc n) at = let e : at + 0 ≡ at = omega arith in ends_nil n (at + 0)
 pub ends_none : (at : ℕ) → packed_ends at [] ≡ capped at ∷ []
 ends_none at = refl
 
--- with room for all the groups, more room makes no difference
+-- with capacity for all the groups, more capacity makes no difference
 ends_stable : (n m at : ℕ) (bytes : List ℕ) → length bytes ≤ n → length bytes ≤ m
     → ends_in n at bytes ≡ ends_in m at bytes
 ends_stable n m at [] p q = ends_nil n at ∙ sym (ends_nil m at)
@@ -43,7 +43,7 @@ ends_short : (at : ℕ) (bytes : List ℕ) → length bytes < group_length bytes
 ends_short at [] h = absurd (omega arith)
 ends_short at (x ∷ bytes) h = grind (arith, common_steps)
 
--- the head of a group tells the positions of its words
+-- the head of a group gives the positions of its words
 front_as_group : {bytes words : List ℕ} (at : ℕ) (rest : List ℕ) (g : IsGroup bytes words)
     → front_ends at (bytes ++ rest) ≡ group_ends at g
 front_as_group at rest (zeros n h e w) = ap (λ k. front_ends at (k ++ rest)) e
@@ -54,7 +54,7 @@ front_as_group at rest (marked tag present p q a l e w) = grind (arith, common_s
 pub ends_off : (at : ℕ) (bytes words rest : List ℕ) (g : IsGroup bytes words)
     → packed_ends at (bytes ++ rest) ≡ group_ends at g ++ packed_ends (at + length bytes) rest
 ends_off at bytes words rest g =
-    let f = in_front bytes words rest g in
+    let f = is_before bytes words rest g in
     let s = f.some in
     let k : group_length (bytes ++ rest) ≡ length bytes = f.long in
     let l = length-append bytes rest in

@@ -6,7 +6,7 @@ use Rattle.cap_spec.proofs.ProofNames.{zero, ℕ, ◌++◌, ◌+◌, ◌-◌, �
 use Rattle.cap_spec.proofs.ProofNames.{length-replicate, prefix_len, full_run, group_size, group_text, pack_in, pack_text}
 use Rattle.cap_spec.proofs.ProofNames.{tag_of, zero_bytes, zero_run, plain_text, word_bytes, common_steps, rules}
 
--- with room for all the groups, more room makes no difference
+-- with capacity for all the groups, more capacity makes no difference
 pub pack_in-enough : (n m : ℕ) (ws : List ℕ) → length ws ≤ n → length ws ≤ m → pack_in n ws ≡ pack_in m ws
 pack_in-enough zero zero ws p q = refl
 pack_in-enough zero (suc m) [] p q = refl
@@ -55,13 +55,13 @@ front-more : (p : ℕ → Bool) (x : ℕ) (xs ys : List ℕ) →
     → length (take_while p (x ∷ (xs ++ ys))) ≡ 1 + length xs + length (take_while p ys)
 front-more p x xs ys more x5 e h = search (rules, front-pass, front-stop)
 
--- where all of a list passes, the front that passes goes on behind it
+-- where all of a list passes, the front that passes goes on after it
 pub front-append : (p : ℕ → Bool) (xs ys : List ℕ) → length (take_while p xs) ≡ length xs →
     length (take_while p (xs ++ ys)) ≡ length xs + length (take_while p ys)
 front-append p [] ys h = omega arith
 front-append p (x ∷ xs) ys h = search (rules, front-more, front-append p xs ys)
 
--- a run of zero words, and what goes on behind it
+-- a run of zero words, and what goes on after it
 pub zero_run-append : (n : ℕ) (rest : List ℕ) → zero_run (replicate n 0 ++ rest) ≡ n + zero_run rest
 zero_run-append zero rest = omega arith
 zero_run-append (suc n) rest = search (rules, front-pass, zero_run-append n rest)
@@ -121,7 +121,7 @@ pack_text-marked x rest h z =
         → group_text x 0 [] ≡ tag_of (word_bytes x) ∷ filter (λ b. not (b == 0)) (word_bytes x)
     marked_group x h z = rw (ne_eqb x 0 h, ne_eqb (zero_bytes x) 0 z) refl
 
--- a group of words as they are has at most 255 behind the first, each with at most one zero byte
+-- a group of words as they are has at most 255 after the first, each with at most one zero byte
 pub plain_full : (x : ℕ) (more : List ℕ) → zero_bytes x ≡ 0 → group_size (x ∷ more) ≡ 1 + length more
     → (full_run more ≡ length more) × (length more ≤ 255)
 plain_full x more z e = grind (arith, common_steps)

@@ -70,7 +70,7 @@ spread_tag (b ∷ bytes) =
       spread_tag bytes,
     )
 
--- a tag of so many bits
+-- a tag of this many bits
 pub tag_below : (bytes : List ℕ) → tag_of bytes < 2 ^ length bytes
 tag_below [] = omega arith
 tag_below (b ∷ bytes) = search (rules, pow-succ', tag_zero, tag_more, tag_below bytes)
@@ -111,7 +111,7 @@ marked_group x h n z =
     marked tag present some (omega (arith, full)) (present_fit (λ b. b < 256) (word_bytes x) (bytes_fit 0 8 x)) (sym m)
     refl (ap (λ k. k ∷ []) (sym s))
 
--- a front of a run of zero words
+-- a prefix of a run of zero words
 pub zero_front : (k : ℕ) (words : List ℕ) → k ≤ zero_run words → take k words ≡ replicate k 0
 zero_front zero words h = refl
 zero_front (suc k) [] h = absurd (omega arith)
@@ -123,15 +123,15 @@ zero_front (suc k) (x ∷ words) h = elim (cases_eq x 0) [
   | inr n ↦ let r = zero_run-ends x words n in absurd (omega (arith, h, r))
 ]
 
--- how many words the group in front takes behind its first
-abbrev behind : ℕ → List ℕ → ℕ
-behind x words = group_size (x ∷ words) - 1
+-- how many words the group in front takes after its first
+abbrev after : ℕ → List ℕ → ℕ
+after x words = group_size (x ∷ words) - 1
 
 -- a run of zero words is a group
-zeros_group : (words : List ℕ) → IsGroup (group_text 0 (behind 0 words) (take (behind 0 words) words))
-    (0 ∷ take (behind 0 words) words)
+zeros_group : (words : List ℕ) → IsGroup (group_text 0 (after 0 words) (take (after 0 words) words))
+    (0 ∷ take (after 0 words) words)
 zeros_group words =
-    let k = behind 0 words in
+    let k = after 0 words in
     let r : zero_run (0 ∷ words) ≡ 1 + zero_run words = zero_run-append 1 words in
     let size : group_size (0 ∷ words) ≡ min 256 (zero_run (0 ∷ words)) = refl in
     let e : suc k ≡ 1 + k = omega arith in
@@ -140,9 +140,9 @@ zeros_group words =
 
 -- a word without a zero byte and those that go on with it are a group
 plain_group_of : (x : ℕ) (words : List ℕ) → IsWord x → AllByRecursion IsWord words → zero_bytes x ≡ 0 →
-    IsGroup (group_text x (behind x words) (take (behind x words) words)) (x ∷ take (behind x words) words)
+    IsGroup (group_text x (after x words) (take (after x words) words)) (x ∷ take (after x words) words)
 plain_group_of x words h all z =
-    let k = behind x words in
+    let k = after x words in
     let n : x ≢ 0 = nonzero_word x (omega (arith, z)) in
     let size : group_size (x ∷ words) ≡ 1 + min 255 (full_run words) = rw (ne_eqb x 0 n, z) refl in
     let le = front-le (λ w. nat_le (zero_bytes w) 1) words in
@@ -154,35 +154,35 @@ plain_group_of x words h all z =
 
 -- any other word is a group by itself
 marked_group_of : (x : ℕ) (words : List ℕ) → IsWord x → x ≢ 0 → zero_bytes x ≢ 0 →
-    IsGroup (group_text x (behind x words) (take (behind x words) words)) (x ∷ take (behind x words) words)
+    IsGroup (group_text x (after x words) (take (after x words) words)) (x ∷ take (after x words) words)
 marked_group_of x words h n z =
     let size = group_size-marked x words n z in
-    let k : behind x words ≡ 0 = omega (arith, size) in
+    let k : after x words ≡ 0 = omega (arith, size) in
     let some : 0 < zero_bytes x = (let no : zero_bytes x ≡ 0 → ⊥ = z in omega (arith, no)) in
     let text : group_text x 0 [] ≡ tag_of (word_bytes x) ∷ present_of (word_bytes x) =
     rw (ne_eqb x 0 n, ne_eqb (zero_bytes x) 0 z) refl in
     subst (λ j. IsGroup (group_text x j (take j words)) (x ∷ take j words)) (sym k)
     (subst (λ t. IsGroup t (x ∷ [])) (sym text) (marked_group x h n some))
 
--- the text of the group in front is a group, which stands for the words that it takes
+-- the text of the group in front is a group, which represents the words that it takes
 pub front_group : (x : ℕ) (words : List ℕ) → IsWord x → AllByRecursion IsWord words →
     IsGroup (group_text x (group_size (x ∷ words) - 1) (take (group_size (x ∷ words) - 1) words))
     (x ∷ take (group_size (x ∷ words) - 1) words)
 front_group x words h all = elim (cases_eq x 0) [
-  | inl e ↦ subst (λ y. IsGroup (group_text y (behind y words) (take (behind y words) words))
-      (y ∷ take (behind y words) words)) (sym e) (zeros_group words)
+  | inl e ↦ subst (λ y. IsGroup (group_text y (after y words) (take (after y words) words))
+      (y ∷ take (after y words) words)) (sym e) (zeros_group words)
   | inr n ↦ elim (cases_eq (zero_bytes x) 0) [
     | inl z ↦ plain_group_of x words h all z
     | inr z ↦ marked_group_of x words h n z
   ]
 ]
 
--- in so many groups at most
+-- in this many groups at most
 pack_in_unpacks : (n : ℕ) (words : List ℕ) → length words ≤ n → AllByRecursion IsWord words
     → Unpacks (pack_in n words) words
-pack_in_unpacks zero [] l all = record { groups = []; each = tt; text = refl; spelled = refl }
+pack_in_unpacks zero [] l all = record { groups = []; each = tt; text = refl; encoded = refl }
 pack_in_unpacks zero (x ∷ words) l all = absurd (omega arith)
-pack_in_unpacks (suc n) [] l all = record { groups = []; each = tt; text = refl; spelled = refl }
+pack_in_unpacks (suc n) [] l all = record { groups = []; each = tt; text = refl; encoded = refl }
 pack_in_unpacks (suc n) (x ∷ words) l all =
     let k = group_size (x ∷ words) - 1 in
     let d = length-drop k words in

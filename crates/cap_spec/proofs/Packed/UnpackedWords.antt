@@ -10,7 +10,7 @@ use Rattle.cap_spec.proofs.ProofNames.{◌∷◌, pow-succ', AllByRecursion, lit
 use Rattle.cap_spec.proofs.ProofNames.{plain_words, word_bytes, Groups, IsGroup, Unpacks, given_of, groups_text}
 use Rattle.cap_spec.proofs.ProofNames.{groups_words, marked, plain, spread, unpacked, zeros, IsWord, rules}
 
--- bytes by a tag make a number of so many bytes
+-- bytes by a tag make a number of this many bytes
 pub spread_below : (n tag : ℕ) (present : List ℕ) → AllByRecursion (λ b. b < 256) present
     → spread n tag present < 256 ^ n
 spread_below zero tag present all = omega arith
@@ -25,7 +25,7 @@ spread_below (suc n) tag (b ∷ present) all =
       spread_below n (tag / 2) present all.1,
     )
 
--- so do so many bytes as they are, of which those past the end are zeros
+-- so do this many bytes as they are, of which those past the end are zeros
 little_below : (n i : ℕ) (bytes : List ℕ) → ((k : ℕ) → slice_index bytes k < 256) → little_from i n bytes < 256 ^ n
 little_below zero i bytes each = omega arith
 little_below (suc n) i bytes each = search (rules, pow-succ', little_below n (suc i) bytes each)
@@ -43,7 +43,7 @@ zeros_are_words : (n : ℕ) → AllByRecursion IsWord (replicate n 0)
 zeros_are_words zero = tt
 zeros_are_words (suc n) = ((omega arith), zeros_are_words n)
 
--- a group stands for words
+-- a group represents words
 pub group_are_words : (bytes words : List ℕ) → IsGroup bytes words → AllByRecursion IsWord words
 group_are_words bytes words (zeros n h e w) = subst (AllByRecursion IsWord) (sym w) (zeros_are_words (1 + n))
 group_are_words bytes words (plain x more h all l e w) = subst (AllByRecursion IsWord) (sym w) (h, all)
@@ -60,7 +60,7 @@ groups_are_words (g ∷ groups) all = all_append IsWord g.1 (groups_words groups
 
 -- bytes unpack to words
 pub unpacks_are_words : (bytes words : List ℕ) → Unpacks bytes words → AllByRecursion IsWord words
-unpacks_are_words bytes words u = subst (AllByRecursion IsWord) (sym u.spelled) (groups_are_words u.groups u.each)
+unpacks_are_words bytes words u = subst (AllByRecursion IsWord) (sym u.encoded) (groups_are_words u.groups u.each)
 
 -- what is given of the beginning of a group are words
 given_are_words : (bytes : List ℕ) → AllByRecursion (λ b. b < 256) bytes → AllByRecursion IsWord (given_of bytes)
@@ -83,10 +83,10 @@ unpacked_by : (bytes : List ℕ) → AllByRecursion (λ b. b < 256) bytes → Be
     → AllByRecursion IsWord (unpacked bytes)
 unpacked_by bytes all (whole k u) = unpacks_are_words bytes (unpacked bytes) u
 unpacked_by bytes all (part k c) =
-    let behind = all_back (λ b. b < 256) c.whole c.part (subst (AllByRecursion (λ b. b < 256)) c.text all) in
+    let after = all_back (λ b. b < 256) c.whole c.part (subst (AllByRecursion (λ b. b < 256)) c.text all) in
     subst (AllByRecursion IsWord) (sym c.given)
     (all_append IsWord c.before (given_of c.part) (unpacks_are_words c.whole c.before c.unpacks)
-    (given_are_words c.part behind))
+    (given_are_words c.part after))
 
 -- packed bytes give words
 pub unpacked_are_words : (bytes : List ℕ) → AllByRecursion (λ b. b < 256) bytes → AllByRecursion IsWord (unpacked bytes)

@@ -16,7 +16,7 @@ some_of false a b p q = q
 pub group_some : (tag : ℕ) (bytes : List ℕ) → 0 < group_length (tag ∷ bytes)
 group_some tag bytes = some_of (tag == 0) _ _ (omega arith) (some_of (tag == 255) _ _ (omega arith) (omega arith))
 
--- what is left behind a group is shorter
+-- what is left after a group is shorter
 pub drop_less : (k n x : ℕ) (bytes : List ℕ) → 0 < k → length bytes ≤ n → length (drop k (x ∷ bytes)) ≤ n
 drop_less k n x bytes p q = let d = length-drop k (x ∷ bytes) in omega arith
 
@@ -30,7 +30,7 @@ pub cut_nil : (n : ℕ) → is_cut_in n [] ≡ false
 cut_nil zero = refl
 cut_nil (suc n) = cut_nil n
 
--- with room for all the groups, more room makes no difference to the words
+-- with capacity for all the groups, more capacity makes no difference to the words
 pub given_stable : (n m : ℕ) (bytes : List ℕ) → length bytes ≤ n → length bytes ≤ m
     → given_in n bytes ≡ given_in m bytes
 given_stable n m [] p q = given_nil n ∙ sym (given_nil m)
@@ -56,13 +56,13 @@ cut_stable (suc n) (suc m) (x ∷ bytes) p q =
     (cut_stable n m (drop k (x ∷ bytes)) (drop_less k n x bytes s (omega (arith, p)))
     (drop_less k m x bytes s (omega (arith, q))))
 
--- where the group in front is whole, its words come first, and then those of what is behind it
+-- where the group in front is whole, its words come first, and then those of what is after it
 pub unpacked_front : (bytes : List ℕ) → 0 < length bytes → group_length bytes ≤ length bytes
     → unpacked bytes ≡ group_words bytes ++ unpacked (drop (group_length bytes) bytes)
 unpacked_front [] s h = absurd (omega arith)
 unpacked_front (x ∷ bytes) s h = search (rules, le-ltb, given_stable, drop_less, group_some)
 
--- and the bytes are cut where those behind it are
+-- and the bytes are cut where those after it are
 pub cut_front : (bytes : List ℕ) → 0 < length bytes → group_length bytes ≤ length bytes
     → packed_is_cut bytes ≡ packed_is_cut (drop (group_length bytes) bytes)
 cut_front [] s h = absurd (omega arith)
@@ -98,7 +98,7 @@ spread_none (suc n) tag (b ∷ present) e =
     let t = spread_none n (tag / 2) (b ∷ present) (omega arith) in
     omega (arith, c, t)
 
--- what stands behind the bytes that a tag marks makes no difference to its word
+-- what is after the bytes that a tag marks makes no difference to its word
 pub spread_append : (n tag : ℕ) (present rest : List ℕ) → length present ≡ marks n tag
     → spread n tag (present ++ rest) ≡ spread n tag present
 spread_append zero tag present rest e = refl

@@ -135,7 +135,7 @@ structs_at m s w x c d k t b q tag n ds ps i h f lt =
     let y = structs_shape f.shape in
     absurd (omega (arith, number_list (kind q) (code q) y.kind, y.code, found_form m s w x c d k t b q h f.finds))
 
--- A step from a spot that has a tree leads to where the tree's part stands.
+-- A step from a spot that has a tree leads to where the tree's part is.
 pub step_to_part : (m : List (List ℕ)) (a : Spot) (step : Step) (b : Spot) (x : Tree)
     → DenotesAt m a x → StepsTo m a step b
     → (u : Tree) × (part_at x step ≡ Some u) × DenotesAt m b u
@@ -154,7 +154,7 @@ step_to_part m (element t b ds ps) (Ptr i) y (struct ws ts) (c, d, own, each) g 
 step_to_part m (element t b ds ps) (Ptr i) y x h g = absurd h
 step_to_part m (element t b ds ps) (Item i) y x h g = absurd g
 
--- Each part of the tree of a spot stands where a step leads.
+-- Each part of the tree of a spot is where a step leads.
 pub part_to_step : (m : List (List ℕ)) (a : Spot) (step : Step) (x u : Tree) → DenotesAt m a x → part_at x step ≡ Some u
     → (b : Spot) × StepsTo m a step b × DenotesAt m b u
 part_to_step m (word s w) (Ptr i) (struct ws ts) u h e =
@@ -176,12 +176,12 @@ part_to_step m (element t b ds ps) (Item i) (struct ws ts) u h e = absurd (cc e)
 part_to_step m (word s w) step x u h e = absurd (cc e)
 part_to_step m (element t b ds ps) step x u h e = absurd h
 
--- the node behind one step
-node_behind : (x u : Tree) (step : Step) (path : List Step) → part_at x step ≡ Some u
+-- the node after one step
+node_after : (x u : Tree) (step : Step) (path : List Step) → part_at x step ≡ Some u
     → node_at x (step ∷ path) ≡ node_at u path
-node_behind x u step path e = rw e refl
+node_after x u step path e = rw e refl
 
--- Where a path leads from a spot that has a tree, the tree's node at the path stands.
+-- Where a path leads from a spot that has a tree, the tree's node at the path is.
 pub path_to_node : (m : List (List ℕ)) (a : Spot) (path : List Step) (n : ℕ) (b : Spot) (x : Tree) → DenotesAt m a x
     → PathLeads m a path n b
     → (u : Tree) × (node_at x path ≡ Some u) × DenotesAt m b u
@@ -189,9 +189,9 @@ path_to_node m a [] n b x h g = (x, refl, subst (λ (y : Spot). DenotesAt m y x)
 path_to_node m a (step ∷ path) n b x h (mid, below, goes, walks, level) =
     let r = step_to_part m a step mid x h goes in
     let z = path_to_node m mid path below b r.0 r.2 walks in
-    (z.0, node_behind x r.0 step path r.1 ∙ z.1, z.2)
+    (z.0, node_after x r.0 step path r.1 ∙ z.1, z.2)
 
--- a node behind one step is a node of a part
+-- a node after one step is a node of a part
 pub node_parts : (x u : Tree) (step : Step) (path : List Step) → node_at x (step ∷ path) ≡ Some u
     → (v : Tree) × (part_at x step ≡ Some v) × (node_at v path ≡ Some u)
 node_parts x u step path e = go (part_at x step) refl
@@ -200,7 +200,7 @@ node_parts x u step path e = go (part_at x step) refl
     go None f = absurd (cc (rw f at e))
     go (Some v) f = (v, f, rw f at e)
 
--- Each node of the tree of a spot stands where its path leads.
+-- Each node of the tree of a spot is where its path leads.
 pub node_to_path : (m : List (List ℕ)) (a : Spot) (path : List Step) (x u : Tree) → DenotesAt m a x
     → node_at x path ≡ Some u
     → (n : ℕ) × (b : Spot) × PathLeads m a path n b × DenotesAt m b u
@@ -211,19 +211,19 @@ node_to_path m a (step ∷ path) x u h e =
     let g = node_to_path m z.0 path r.0 u z.2 r.2 in
     (level_of z.0 + g.0, g.1, (z.0, g.0, z.1, g.2, refl), g.3)
 
--- a word that leads somewhere is there
+-- a word that leads to some place is there
 pub lead_word : (m : List (List ℕ)) (s w k : ℕ) (r : Lead) → Leads m s w k r → (p : ℕ) × HasWord m s w p
 lead_word m s w k r (near p has far says pads) = (p, has)
 lead_word m s w k r (one_pad p x has one pad_word far says pads) = (p, has)
 lead_word m s w k r (two_pads p f x has two first second one tag e pads) = (p, has)
 
--- Where the root denotes a tree, a path comes to where the tree's node at the path stands,
+-- Where the root denotes a tree, a path comes to where the tree's node at the path is,
 pub coming_to_node : (m : List (List ℕ)) (x : Tree) (c d : ℕ) → Denotes m 0 0 x c d
     → (path : List Step) (level : ℕ) (spot : Spot) → ReachesSpot m path level spot
     → (u : Tree) × (node_at x path ≡ Some u) × DenotesAt m spot u
 coming_to_node m x c d h path level spot g = path_to_node m (word 0 0) path g.1 spot x (c, d, h) g.3
 
--- and each node of the tree stands where its path comes to.
+-- and each node of the tree is where its path comes to.
 pub node_to_coming : (m : List (List ℕ)) (x : Tree) (c d : ℕ) → Denotes m 0 0 x c d → (path : List Step) (u : Tree)
     → node_at x path ≡ Some u
     → (level : ℕ) × (spot : Spot) × ReachesSpot m path level spot × DenotesAt m spot u

@@ -27,7 +27,7 @@ pub record Deep (m : List (List ℕ)) (a : Spot) (d : ℕ) : Type 0 where
   pub has_tag : IsComposite q → HasWord m t b tag
   pub depth : d ≡ n + 1 + levels_below q tag
 
--- behind one step
+-- after one step
 deeper : (m : List (List ℕ)) (a b : Spot) (step : Step) (d : ℕ) → StepsTo m a step b → Deep m b d
     → Deep m a (level_of b + d)
 deeper m a b step d g h = record {

@@ -28,7 +28,7 @@ abbrev mutual
   depth_each none = 0
   depth_each (more t ts) = max (depth_of t) (depth_each ts)
 
-  -- and of what stands in elements
+  -- and of what is in elements
   pub depth_elements : Trees → ℕ
   depth_elements none = 0
   depth_elements (more (struct words ts) es) = max (depth_each ts) (depth_elements es)
@@ -123,7 +123,7 @@ spot_level : (b : Spot) → level_of b ≡ level_if (is_element b)
 spot_level (word s w) = refl
 spot_level (element t b ds ps) = refl
 
--- What stands where a path leads is less deep than the tree of its first spot by the levels on the way.
+-- What is where a path leads is less deep than the tree of its first spot by the levels on the way.
 pub walk_depth : (m : List (List ℕ)) (a : Spot) (path : List Step) (n : ℕ) (b : Spot) (t : Tree) → DenotesAt m a t
     → PathLeads m a path n b
     → (u : Tree) × DenotesAt m b u × (n + depth_of u ≤ depth_of t)

@@ -3,7 +3,7 @@ use Rattle.cap_spec.specs.Denoting.{places}
 use Rattle.cap_spec.specs.Tree.{none}
 use Rattle.cap_spec.proofs.Paths.Arrivals.{lead_word}
 use Rattle.cap_spec.proofs.Paths.PathCounts.{pointer_paths}
-use Rattle.cap_spec.proofs.Paths.PathLists.{behind, is_pointer, paths_below, paths_from}
+use Rattle.cap_spec.proofs.Paths.PathLists.{after_step, is_pointer, paths_below, paths_from}
 use Rattle.cap_spec.proofs.ProofNames.{List, [], arith, false, inl, inr, refl, subst, suc, sym, true, zero, ℕ, ◌*◌, ◌++◌}
 use Rattle.cap_spec.proofs.ProofNames.{◌+◌, ◌<◌, ◌∷◌, ◌≡◌, AreElements, DenoteEach, Denotes, extra, HasWord, Costs}
 use Rattle.cap_spec.proofs.ProofNames.{PathLeads, Spot, StepsTo, element, level_of, word, extent, Tree, Trees, cap, more}
@@ -24,12 +24,12 @@ cost_append m a [] qs x y g h = subst (λ (z : ℕ). CostFrom m a qs z) (omega a
 cost_append m a (p ∷ ps) qs x y (n, s, w, one, rest, walks, costs, after, sum) h =
     (n, s, w, one, rest + y, walks, costs, cost_append m a ps qs rest y after h, omega (arith, sum))
 
--- behind one step paths cost what they cost from its end
-cost_behind : (m : List (List ℕ)) (a b : Spot) (step : Step) (ps : List (List Step)) (x : ℕ) → StepsTo m a step b
-    → CostFrom m b ps x → CostFrom m a (behind step ps) x
-cost_behind m a b step [] x g h = h
-cost_behind m a b step (p ∷ ps) x g (n, s, w, one, rest, walks, costs, after, sum) =
-    (level_of b + n, s, w, one, rest, (b, n, g, walks, refl), costs, cost_behind m a b step ps rest g after, sum)
+-- after one step paths cost what they cost from its end
+cost_after : (m : List (List ℕ)) (a b : Spot) (step : Step) (ps : List (List Step)) (x : ℕ) → StepsTo m a step b
+    → CostFrom m b ps x → CostFrom m a (after_step step ps) x
+cost_after m a b step [] x g h = h
+cost_after m a b step (p ∷ ps) x g (n, s, w, one, rest, walks, costs, after, sum) =
+    (level_of b + n, s, w, one, rest, (b, n, g, walks, refl), costs, cost_after m a b step ps rest g after, sum)
 
 -- a word's own cost, and that of the paths below it
 cost_own : (m : List (List ℕ)) (s w : ℕ) (ps : List (List Step)) (one rest c : ℕ) → Costs m s w one
@@ -78,9 +78,9 @@ mutual
       let y : StepsTo m a (step i) (word t b) =
       subst (λ (v : ℕ). StepsTo m a (step i) (word t v)) (sym f) (goes i (omega arith)) in
       subst (λ (v : ℕ). CostFrom m a (paths_from is_pointer false step i (more u ts)) v) (sym charge)
-      (cost_append m a (behind (step i) ([] ∷ paths_below is_pointer u))
+      (cost_append m a (after_step (step i) ([] ∷ paths_below is_pointer u))
       (paths_from is_pointer false step (suc i) ts) c1 c2
-      (cost_behind m a (word t b) (step i) ([] ∷ paths_below is_pointer u) c1 y x)
+      (cost_after m a (word t b) (step i) ([] ∷ paths_below is_pointer u) c1 y x)
       (each_cost m a step t (b + 1) n (suc i) all start ts c2 d2 goes (omega arith) (omega arith) (rw p.1 after)))
 
   -- and of the elements of a struct list
@@ -97,9 +97,9 @@ mutual
       each_cost m (element t b ds ps) Ptr t (b + ds) ps 0 ps (b + ds) ts c1 d1 (λ j lt. (lt, refl)) (omega arith)
       (omega arith) each in
       subst (λ (v : ℕ). CostFrom m a (paths_from is_pointer true Item i (more (struct ws ts) es)) v) (sym charge)
-      (cost_append m a (behind (Item i) (paths_from is_pointer false Ptr 0 ts))
+      (cost_append m a (after_step (Item i) (paths_from is_pointer false Ptr 0 ts))
       (paths_from is_pointer true Item (suc i) es) c1 c2
-      (cost_behind m a (element t b ds ps) (Item i) (paths_from is_pointer false Ptr 0 ts) c1 y x)
+      (cost_after m a (element t b ds ps) (Item i) (paths_from is_pointer false Ptr 0 ts) c1 y x)
       (elements_cost m a t (b + ds + ps) ds ps fewer (suc i) all start es c2 d2 goes (omega (arith, counted))
       (omega arith) after))
   elements_cost m a t b ds ps n i all start (more x es) c d goes e f h = absurd h

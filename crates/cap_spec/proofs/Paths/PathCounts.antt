@@ -1,7 +1,7 @@
 -- The pointers and the capabilities of the tree that the root denotes are as many as the paths that reach them.
 use Rattle.cap_spec.proofs.Paths.Arrivals.{found_form, lead_word, part_to_step, step_to_part}
-use Rattle.cap_spec.proofs.Paths.PathLists.{Wants, caps_listed, is_cap, is_pointer, is_structs, listed_rise}
-use Rattle.cap_spec.proofs.Paths.PathLists.{listed_wanted, paths_below, pointers_listed, wanted_listed, wants_cap}
+use Rattle.cap_spec.proofs.Paths.PathLists.{Needs, caps_listed, is_cap, is_pointer, is_structs, listed_rise}
+use Rattle.cap_spec.proofs.Paths.PathLists.{listed_expected, paths_below, pointers_listed, expected_listed, needs_cap}
 use Rattle.cap_spec.proofs.Paths.PathLists.{with_own}
 use Rattle.cap_spec.proofs.Paths.Preorder.{Before-asymmetric, Before-irreflexive, Rises-first}
 use Rattle.cap_spec.proofs.Pointers.Following.{one_lead}
@@ -53,28 +53,28 @@ step_kind m (element x y ds ps) (Ptr i) b (struct words ts) h g = ap is_element 
 step_kind m (element x y ds ps) (Ptr i) b t h g = absurd h
 step_kind m (element x y ds ps) (Item i) b t h g = absurd g
 
--- The nodes that a test wants are where walks end,
--- of which the spot's own test tells the same of each spot and its tree.
-pub wanted_walk : (m : List (List ℕ)) (test : Bool → Tree → Bool) (P : Spot → Type 0)
+-- The nodes that a test selects are where walks end,
+-- of which the spot's own test gives the same of each spot and its tree.
+pub expected_walk : (m : List (List ℕ)) (test : Bool → Tree → Bool) (P : Spot → Type 0)
     → ((a : Spot) (t : Tree) → DenotesAt m a t → test (is_element a) t ≡ true → P a)
-    → (a : Spot) (t : Tree) (q : List Step) → DenotesAt m a t → Wants test (is_element a) t q
+    → (a : Spot) (t : Tree) (q : List Step) → DenotesAt m a t → Needs test (is_element a) t q
     → (n : ℕ) × (b : Spot) × PathLeads m a q n b × P b
-wanted_walk m test P own a t [] h g = (0, a, (refl, refl), own a t h g)
-wanted_walk m test P own a t (step ∷ path) h g =
+expected_walk m test P own a t [] h g = (0, a, (refl, refl), own a t h g)
+expected_walk m test P own a t (step ∷ path) h g =
     let r = part_to_step m a step t g.0 h g.1 in
     let k = step_kind m a step r.0 t h r.1 in
-    let z = wanted_walk m test P own r.0 g.0 path r.2 (subst (λ (e : Bool). Wants test e g.0 path) (sym k) g.2) in
+    let z = expected_walk m test P own r.0 g.0 path r.2 (subst (λ (e : Bool). Needs test e g.0 path) (sym k) g.2) in
     (level_of r.0 + z.0, z.1, (r.0, z.0, r.1, z.2, refl), z.3)
 
-pub walk_wanted : (m : List (List ℕ)) (test : Bool → Tree → Bool) (P : Spot → Type 0)
+pub walk_expected : (m : List (List ℕ)) (test : Bool → Tree → Bool) (P : Spot → Type 0)
     → ((a : Spot) (t : Tree) → DenotesAt m a t → P a → test (is_element a) t ≡ true)
     → (a : Spot) (t : Tree) (q : List Step) → DenotesAt m a t → (n : ℕ) (b : Spot) → PathLeads m a q n b → P b
-    → Wants test (is_element a) t q
-walk_wanted m test P own a t [] h n b g p = own a t h (subst P g.1 p)
-walk_wanted m test P own a t (step ∷ path) h n b (mid, below, goes, walks, level) p =
+    → Needs test (is_element a) t q
+walk_expected m test P own a t [] h n b g p = own a t h (subst P g.1 p)
+walk_expected m test P own a t (step ∷ path) h n b (mid, below, goes, walks, level) p =
     let r = step_to_part m a step mid t h goes in
     let k = step_kind m a step mid t h goes in
-    (r.0, r.1, subst (λ (e : Bool). Wants test e r.0 path) k (walk_wanted m test P own mid r.0 path r.2 below b walks p))
+    (r.0, r.1, subst (λ (e : Bool). Needs test e r.0 path) k (walk_expected m test P own mid r.0 path r.2 below b walks p))
 
 -- a spot that is a pointer word
 abbrev pub IsWordSpot : Spot → Type 0
@@ -84,21 +84,21 @@ IsWordSpot a = (s w : ℕ) × (a ≡ word s w)
 abbrev pub IsCapSpot : List (List ℕ) → Spot → Type 0
 IsCapSpot m a = (s w k i : ℕ) × (a ≡ word s w) × Leads m s w k (to_cap i)
 
-wanted_word : (m : List (List ℕ)) (a : Spot) (t : Tree) → DenotesAt m a t
+expected_word : (m : List (List ℕ)) (a : Spot) (t : Tree) → DenotesAt m a t
     → is_pointer (is_element a) t ≡ true → IsWordSpot a
-wanted_word m (word s w) t h e = (s, w, refl)
-wanted_word m (element x b ds ps) t h e = absurd (cc e)
+expected_word m (word s w) t h e = (s, w, refl)
+expected_word m (element x b ds ps) t h e = absurd (cc e)
 
-word_wanted : (m : List (List ℕ)) (a : Spot) (t : Tree) → DenotesAt m a t → IsWordSpot a
+word_expected : (m : List (List ℕ)) (a : Spot) (t : Tree) → DenotesAt m a t → IsWordSpot a
     → is_pointer (is_element a) t ≡ true
-word_wanted m a t h p = rw p.2 refl
+word_expected m a t h p = rw p.2 refl
 
-wanted_cap : (m : List (List ℕ)) (a : Spot) (t : Tree) → DenotesAt m a t
-    → wants_cap (is_element a) t ≡ true → IsCapSpot m a
-wanted_cap m (word s w) (cap i) h e = (s, w, h.0, i, refl, h.2.0)
-wanted_cap m (element x b ds ps) (struct words ts) h e = absurd (cc e)
-wanted_cap m (word s w) t h e = absurd (cc e)
-wanted_cap m (element x b ds ps) t h e = absurd h
+expected_cap : (m : List (List ℕ)) (a : Spot) (t : Tree) → DenotesAt m a t
+    → needs_cap (is_element a) t ≡ true → IsCapSpot m a
+expected_cap m (word s w) (cap i) h e = (s, w, h.0, i, refl, h.2.0)
+expected_cap m (element x b ds ps) (struct words ts) h e = absurd (cc e)
+expected_cap m (word s w) t h e = absurd (cc e)
+expected_cap m (element x b ds ps) t h e = absurd h
 
 -- a tree of the form of a capability is one
 cap_form : (t : Tree) → HasForm t 1 → is_cap t ≡ true
@@ -114,21 +114,21 @@ abbrev LeadsAt : List (List ℕ) → Spot → ℕ → Lead → Type 0
 LeadsAt m (word s w) k r = Leads m s w k r
 LeadsAt m (element t b ds ps) k r = ⊥
 
-cap_wanted : (m : List (List ℕ)) (a : Spot) (t : Tree) → DenotesAt m a t → IsCapSpot m a
-    → wants_cap (is_element a) t ≡ true
-cap_wanted m (word s w) t (c, d, h) (s', w', k, i, is, leads) =
+cap_expected : (m : List (List ℕ)) (a : Spot) (t : Tree) → DenotesAt m a t → IsCapSpot m a
+    → needs_cap (is_element a) t ≡ true
+cap_expected m (word s w) t (c, d, h) (s', w', k, i, is, leads) =
     let f : Formed m s w t = formed m s w t c d h in
     let l : Leads m s w k (to_cap i) = subst (λ (z : Spot). LeadsAt m z k (to_cap i)) (sym is) leads in
     let r = one_lead m s w f.k k f.r (to_cap i) f.leads l in
     cap_form t (subst (λ (z : Lead). HasForm t (form_of z)) r.1 f.form)
-cap_wanted m (element x b ds ps) t h p = absurd (cc p.4)
+cap_expected m (element x b ds ps) t h p = absurd (cc p.4)
 
 -- the paths to pointer words, and to capabilities
 abbrev pub pointer_paths : Tree → List (List Step)
 pointer_paths t = with_own true (paths_below is_pointer t)
 
 abbrev pub cap_paths : Tree → List (List Step)
-cap_paths t = with_own (is_cap t) (paths_below wants_cap t)
+cap_paths t = with_own (is_cap t) (paths_below needs_cap t)
 
 -- The paths that reach a pointer word are exactly the listed ones, where the root denotes the tree.
 pub pointer_path_reached : (m : List (List ℕ)) (t : Tree) (c d : ℕ) → Denotes m 0 0 t c d → (q : List Step)
@@ -139,14 +139,14 @@ pointer_path_reached m t c d h q = (to, from)
     to g =
         let f : Formed m 0 0 t = formed m 0 0 t c d h in
         let p = lead_word m 0 0 f.k f.r f.leads in
-        let (n, b, walks, found) = wanted_walk m is_pointer IsWordSpot (wanted_word m) (word 0 0) t q (c, d, h)
-        (listed_wanted is_pointer false t q g) in
+        let (n, b, walks, found) = expected_walk m is_pointer IsWordSpot (expected_word m) (word 0 0) t q (c, d, h)
+        (listed_expected is_pointer false t q g) in
         let (s, w, is) = found in
         (1 + n, s, w, (p.0, n, p.1, subst (λ (z : Spot). PathLeads m (word 0 0) q n z) is walks, refl))
 
     from : (level s w : ℕ) × Reaches m q level s w → IsOneOf q (pointer_paths t)
-    from (level, s, w, (root, n, has, walks, is)) = wanted_listed is_pointer false t q
-        (walk_wanted m is_pointer IsWordSpot (word_wanted m) (word 0 0) t q (c, d, h) n (word s w) walks (s, w, refl))
+    from (level, s, w, (root, n, has, walks, is)) = expected_listed is_pointer false t q
+        (walk_expected m is_pointer IsWordSpot (word_expected m) (word 0 0) t q (c, d, h) n (word s w) walks (s, w, refl))
 
 -- The paths that reach a capability are exactly the listed ones.
 pub cap_path_reached : (m : List (List ℕ)) (t : Tree) (c d : ℕ) → Denotes m 0 0 t c d → (q : List Step)
@@ -157,15 +157,15 @@ cap_path_reached m t c d h q = (to, from)
     to g =
         let f : Formed m 0 0 t = formed m 0 0 t c d h in
         let p = lead_word m 0 0 f.k f.r f.leads in
-        let (n, b, walks, found) = wanted_walk m wants_cap (IsCapSpot m) (wanted_cap m) (word 0 0) t q (c, d, h)
-        (listed_wanted wants_cap false t q g) in
+        let (n, b, walks, found) = expected_walk m needs_cap (IsCapSpot m) (expected_cap m) (word 0 0) t q (c, d, h)
+        (listed_expected needs_cap false t q g) in
         let (s, w, k, i, is, leads) = found in
         let there : PathLeads m (word 0 0) q n (word s w) = subst (λ (z : Spot). PathLeads m (word 0 0) q n z) is walks in
         (1 + n, s, w, k, i, (p.0, n, p.1, there, refl), leads)
 
     from : ReachesCap m q → IsOneOf q (cap_paths t)
-    from (level, s, w, k, i, (root, n, has, walks, is), leads) = wanted_listed wants_cap false t q
-        (walk_wanted m wants_cap (IsCapSpot m) (cap_wanted m) (word 0 0) t q (c, d, h) n (word s w) walks
+    from (level, s, w, k, i, (root, n, has, walks, is), leads) = expected_listed needs_cap false t q
+        (walk_expected m needs_cap (IsCapSpot m) (cap_expected m) (word 0 0) t q (c, d, h) n (word s w) walks
         (s, w, k, i, refl, leads))
 
 -- There is a rising list of exactly the paths that reach a pointer word, of as many as the tree's pointers,
@@ -183,7 +183,7 @@ pointers_counted m t c d h = (
 pub caps_counted : (m : List (List ℕ)) (t : Tree) (c d : ℕ) → Denotes m 0 0 t c d
     → (paths : List (List Step)) × Rises paths × (length paths ≡ cap_count t)
     × ((q : List Step) → IsOneOf q paths ↔ ReachesCap m q)
-caps_counted m t c d h = (cap_paths t, listed_rise wants_cap false t, caps_listed false t, cap_path_reached m t c d h)
+caps_counted m t c d h = (cap_paths t, listed_rise needs_cap false t, caps_listed false t, cap_path_reached m t c d h)
 
 -- The first of the paths to capabilities is the first in preorder.
 first_of : (m : List (List ℕ)) (t : Tree) (c d : ℕ) → Denotes m 0 0 t c d → (paths : List (List Step)) → Rises paths
@@ -222,13 +222,13 @@ member_some : (q : List Step) (ps : List (List Step)) → IsOneOf q ps → 0 < l
 member_some q [] i = absurd i
 member_some q (p ∷ ps) i = omega arith
 
--- A tree has a capability where some word is the first in preorder that leads to one, and nowhere else.
+-- A tree has a capability where some word is the first in preorder that leads to one, and at no other place.
 pub first_cap : (m : List (List ℕ)) (t : Tree) (c d : ℕ) → Denotes m 0 0 t c d → (has_cap t ≡ true)
     ↔ ((s w : ℕ) × IsFirstCap m s w)
 first_cap m t c d h = (to, from)
   where
     to : has_cap t ≡ true → (s w : ℕ) × IsFirstCap m s w
-    to e = first_of m t c d h (cap_paths t) (listed_rise wants_cap false t) (cap_path_reached m t c d h)
+    to e = first_of m t c d h (cap_paths t) (listed_rise needs_cap false t) (cap_path_reached m t c d h)
         (omega (arith, caps_listed false t, more_than_none (cap_count t) e))
 
     from : (s w : ℕ) × IsFirstCap m s w → has_cap t ≡ true

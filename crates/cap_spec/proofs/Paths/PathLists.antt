@@ -5,12 +5,12 @@ use Rattle.cap_spec.proofs.ProofNames.{subst, suc, sym, true, zero, ℕ, ◌++�
 use Rattle.cap_spec.proofs.ProofNames.{Rises, number_of, Tree, Trees, cap, cap_count, cap_counts, more, null, part_at}
 use Rattle.cap_spec.proofs.ProofNames.{pointers, scalars, struct, structs, tree_at, tree_count, Step, Item, Ptr}
 
--- each path behind one step
-abbrev pub behind : Step → List (List Step) → List (List Step)
-behind step [] = []
-behind step (p ∷ ps) = (step ∷ p) ∷ behind step ps
+-- each path after one step
+abbrev pub after_step : Step → List (List Step) → List (List Step)
+after_step step [] = []
+after_step step (p ∷ ps) = (step ∷ p) ∷ after_step step ps
 
--- the empty path before the others, where the node itself is wanted
+-- the empty path before the others, where the node itself is selected
 abbrev pub with_own : Bool → List (List Step) → List (List Step)
 with_own true ps = [] ∷ ps
 with_own false ps = ps
@@ -20,7 +20,7 @@ abbrev pub is_structs : Tree → Bool
 is_structs (structs d p es) = true
 is_structs _ = false
 
--- The paths to the nodes that a test wants, which sees whether the node is an element of a struct list.
+-- The paths to the nodes that a test selects, which sees whether the node is an element of a struct list.
 abbrev mutual
   -- but the empty one
   pub paths_below : (Bool → Tree → Bool) → Tree → List (List Step)
@@ -35,12 +35,12 @@ abbrev mutual
   pub paths_from : (Bool → Tree → Bool) → Bool → (ℕ → Step) → ℕ → Trees → List (List Step)
   paths_from test is_element step i none = []
   paths_from test is_element step i (more t ts) =
-      behind (step i) (with_own (test is_element t) (paths_below test t)) ++ paths_from test is_element step (suc i) ts
+      after_step (step i) (with_own (test is_element t) (paths_below test t)) ++ paths_from test is_element step (suc i) ts
 
--- the test wants the node at the path
-abbrev pub Wants : (Bool → Tree → Bool) → Bool → Tree → List Step → Type 0
-Wants test is_element t [] = test is_element t ≡ true
-Wants test is_element t (step ∷ path) = (u : Tree) × (part_at t step ≡ Some u) × Wants test (is_structs t) u path
+-- the test selects the node at the path
+abbrev pub Needs : (Bool → Tree → Bool) → Bool → Tree → List Step → Type 0
+Needs test is_element t [] = test is_element t ≡ true
+Needs test is_element t (step ∷ path) = (u : Tree) × (part_at t step ≡ Some u) × Needs test (is_structs t) u path
 
 -- a member of two lists joined is one of the first or one of the second
 member_append : (p : List Step) (xs ys : List (List Step)) → IsOneOf p (xs ++ ys) → IsOneOf p xs ⊎ IsOneOf p ys
@@ -62,18 +62,18 @@ member_back : (p : List Step) (xs ys : List (List Step)) → IsOneOf p ys → Is
 member_back p [] ys h = h
 member_back p (x ∷ xs) ys h = inr (member_back p xs ys h)
 
--- what stands behind a step
-member_behind : (step : Step) (q : List Step) (ps : List (List Step)) → IsOneOf q (behind step ps)
+-- what is after a step
+member_after : (step : Step) (q : List Step) (ps : List (List Step)) → IsOneOf q (after_step step ps)
     → (p : List Step) × (q ≡ step ∷ p) × IsOneOf p ps
-member_behind step q [] h = absurd h
-member_behind step q (p ∷ ps) (inl e) = (p, e, inl refl)
-member_behind step q (p ∷ ps) (inr h) = let r = member_behind step q ps h in (r.0, r.1, inr r.2)
+member_after step q [] h = absurd h
+member_after step q (p ∷ ps) (inl e) = (p, e, inl refl)
+member_after step q (p ∷ ps) (inr h) = let r = member_after step q ps h in (r.0, r.1, inr r.2)
 
-behind_member : (step : Step) (p : List Step) (ps : List (List Step)) → IsOneOf p ps
-    → IsOneOf (step ∷ p) (behind step ps)
-behind_member step p [] h = absurd h
-behind_member step p (q ∷ qs) (inl e) = inl (ap (λ x. step ∷ x) e)
-behind_member step p (q ∷ qs) (inr h) = inr (behind_member step p qs h)
+after_member : (step : Step) (p : List Step) (ps : List (List Step)) → IsOneOf p ps
+    → IsOneOf (step ∷ p) (after_step step ps)
+after_member step p [] h = absurd h
+after_member step p (q ∷ qs) (inl e) = inl (ap (λ x. step ∷ x) e)
+after_member step p (q ∷ qs) (inr h) = inr (after_member step p qs h)
 
 -- a path into one of the parts, whose rest is one of the part's
 record IntoPart (test : Bool → Tree → Bool) (e : Bool) (step : ℕ → Step) (i : ℕ) (ts : Trees) (q : List Step) : Type 0 where
@@ -90,14 +90,14 @@ from_to_part : (test : Bool → Tree → Bool) (e : Bool) (step : ℕ → Step) 
 from_to_part test e step i none q h = absurd h
 from_to_part test e step i (more t ts) q h =
     go (λ g. from_to_part test e step (suc i) ts q g)
-    (member_append q (behind (step i) (with_own (test e t) (paths_below test t)))
+    (member_append q (after_step (step i) (with_own (test e t) (paths_below test t)))
     (paths_from test e step (suc i) ts) h)
   where
     go : (IsOneOf q (paths_from test e step (suc i) ts) → IntoPart test e step (suc i) ts q)
-        → IsOneOf q (behind (step i) (with_own (test e t) (paths_below test t)))
+        → IsOneOf q (after_step (step i) (with_own (test e t) (paths_below test t)))
         ⊎ IsOneOf q (paths_from test e step (suc i) ts) → IntoPart test e step i (more t ts) q
     go later (inl g) =
-        let r = member_behind (step i) q (with_own (test e t) (paths_below test t)) g in
+        let r = member_after (step i) q (with_own (test e t) (paths_below test t)) g in
         let k : i ≡ i + 0 = omega arith in
         record {
           number = 0;
@@ -119,7 +119,7 @@ from_to_part test e step i (more t ts) q h =
           listed = r.listed;
         }
 
--- and each path that the test wants in a part is one of them
+-- and each path that the test selects in a part is one of them
 part_to_from : (test : Bool → Tree → Bool) (e : Bool) (step : ℕ → Step) (i : ℕ) (ts : Trees) (j x : ℕ) (u : Tree)
     (p : List Step) → tree_at ts j ≡ Some u → x ≡ i + j
     → IsOneOf p (with_own (test e u) (paths_below test u)) → IsOneOf (step x ∷ p) (paths_from test e step i ts)
@@ -127,13 +127,13 @@ part_to_from test e step i none j x u p f k h = absurd (cc f)
 part_to_from test e step i (more t ts) zero x u p f k h =
     let y : x ≡ i = omega arith in
     let z : u ≡ t = cc f in
-    member_front (step x ∷ p) (behind (step i) (with_own (test e t) (paths_below test t)))
+    member_front (step x ∷ p) (after_step (step i) (with_own (test e t) (paths_below test t)))
     (paths_from test e step (suc i) ts)
-    (subst (λ (v : ℕ). IsOneOf (step v ∷ p) (behind (step i) (with_own (test e t) (paths_below test t)))) (sym y)
-    (behind_member (step i) p (with_own (test e t) (paths_below test t))
+    (subst (λ (v : ℕ). IsOneOf (step v ∷ p) (after_step (step i) (with_own (test e t) (paths_below test t)))) (sym y)
+    (after_member (step i) p (with_own (test e t) (paths_below test t))
     (subst (λ (v : Tree). IsOneOf p (with_own (test e v) (paths_below test v))) z h)))
 part_to_from test e step i (more t ts) (suc j) x u p f k h =
-    member_back (step x ∷ p) (behind (step i) (with_own (test e t) (paths_below test t)))
+    member_back (step x ∷ p) (after_step (step i) (with_own (test e t) (paths_below test t)))
     (paths_from test e step (suc i) ts)
     (part_to_from test e step (suc i) ts j x u p f (omega arith) h)
 
@@ -182,21 +182,21 @@ part_to_below test t step u p f h = absurd (cc f)
 empty_not_below : (test : Bool → Tree → Bool) (t : Tree) → IsOneOf [] (paths_below test t) → ⊥
 empty_not_below test t h = let r : BelowPart test t [] = below_to_part test t [] h in absurd (cc r.is)
 
--- The listed paths are those to the nodes that the test wants,
-pub listed_wanted : (test : Bool → Tree → Bool) (e : Bool) (t : Tree) (q : List Step)
-    → IsOneOf q (with_own (test e t) (paths_below test t)) → Wants test e t q
-listed_wanted test e t [] h = go (test e t) h
+-- The listed paths are those to the nodes that the test selects,
+pub listed_expected : (test : Bool → Tree → Bool) (e : Bool) (t : Tree) (q : List Step)
+    → IsOneOf q (with_own (test e t) (paths_below test t)) → Needs test e t q
+listed_expected test e t [] h = go (test e t) h
   where
     go : (b : Bool) → IsOneOf [] (with_own b (paths_below test t)) → b ≡ true
     go true g = refl
     go false g = absurd (empty_not_below test t g)
-listed_wanted test e t (step ∷ path) h =
+listed_expected test e t (step ∷ path) h =
     let r : BelowPart test t (step ∷ path) = below_to_part test t (step ∷ path) (go (test e t) h) in
     let x : step ≡ r.step = cc r.is in
     let y : path ≡ r.rest = cc r.is in (
       r.part,
       subst (λ (z : Step). part_at t z ≡ Some r.part) (sym x) r.at,
-      listed_wanted test (is_structs t) r.part path
+      listed_expected test (is_structs t) r.part path
           (subst (λ (z : List Step). IsOneOf z (with_own (test (is_structs t) r.part)
           (paths_below test r.part))) (sym y) r.listed),
     )
@@ -208,11 +208,11 @@ listed_wanted test e t (step ∷ path) h =
     go false g = g
 
 -- and each path to such a node is listed.
-pub wanted_listed : (test : Bool → Tree → Bool) (e : Bool) (t : Tree) (q : List Step) → Wants test e t q
+pub expected_listed : (test : Bool → Tree → Bool) (e : Bool) (t : Tree) (q : List Step) → Needs test e t q
     → IsOneOf q (with_own (test e t) (paths_below test t))
-wanted_listed test e t [] h = subst (λ (b : Bool). IsOneOf [] (with_own b (paths_below test t))) (sym h) (inl refl)
-wanted_listed test e t (step ∷ path) h =
-    go (test e t) (part_to_below test t step h.0 path h.1 (wanted_listed test (is_structs t) h.0 path h.2))
+expected_listed test e t [] h = subst (λ (b : Bool). IsOneOf [] (with_own b (paths_below test t))) (sym h) (inl refl)
+expected_listed test e t (step ∷ path) h =
+    go (test e t) (part_to_below test t step h.0 path h.1 (expected_listed test (is_structs t) h.0 path h.2))
   where
     go : (b : Bool) → IsOneOf (step ∷ path) (paths_below test t)
         → IsOneOf (step ∷ path) (with_own b (paths_below test t))
@@ -227,11 +227,11 @@ Rises-append (x ∷ []) [] g h k = tt
 Rises-append (x ∷ []) (y ∷ ys) g h k = (k x y (inl refl) (inl refl), h)
 Rises-append (x ∷ z ∷ xs) ys g h k = (g.0, Rises-append (z ∷ xs) ys g.1 h (λ a b i j. k a b (inr i) j))
 
--- a rising list behind one step rises
-Rises-behind : (step : Step) (ps : List (List Step)) → Rises ps → Rises (behind step ps)
-Rises-behind step [] h = tt
-Rises-behind step (p ∷ []) h = tt
-Rises-behind step (p ∷ q ∷ ps) h = (inr (refl, h.0), Rises-behind step (q ∷ ps) h.1)
+-- a rising list after one step rises
+Rises-after_step : (step : Step) (ps : List (List Step)) → Rises ps → Rises (after_step step ps)
+Rises-after_step step [] h = tt
+Rises-after_step step (p ∷ []) h = tt
+Rises-after_step step (p ∷ q ∷ ps) h = (inr (refl, h.0), Rises-after_step step (q ∷ ps) h.1)
 
 -- and rises with the empty path before it
 Rises-own : (test : Bool → Tree → Bool) (t : Tree) (b : Bool) (ps : List (List Step)) → ps ≡ paths_below test t
@@ -250,10 +250,10 @@ Rises-own test t true (p ∷ ps) e h = (
 -- a path into one part comes before those into later parts
 steps_before : (test : Bool → Tree → Bool) (e : Bool) (step : ℕ → Step) → ((i : ℕ) → number_of (step i) ≡ i)
     → (i : ℕ) (t : Tree) (ts : Trees) (x y : List Step)
-    → IsOneOf x (behind (step i) (with_own (test e t) (paths_below test t)))
+    → IsOneOf x (after_step (step i) (with_own (test e t) (paths_below test t)))
     → IsOneOf y (paths_from test e step (suc i) ts) → Before x y
 steps_before test e step numbers i t ts x y f g =
-    let a = member_behind (step i) x (with_own (test e t) (paths_below test t)) f in
+    let a = member_after (step i) x (with_own (test e t) (paths_below test t)) f in
     let b : IntoPart test e step (suc i) ts y = from_to_part test e step (suc i) ts y g in
     let lt : number_of (step i) < number_of (step (suc i + b.number)) =
     omega (arith, numbers i, numbers (suc i + b.number)) in
@@ -275,20 +275,20 @@ mutual
       → (i : ℕ) (ts : Trees) → Rises (paths_from test e step i ts)
   from_rises test e step numbers i none = tt
   from_rises test e step numbers i (more t ts) =
-      Rises-append (behind (step i) (with_own (test e t) (paths_below test t))) (paths_from test e step (suc i) ts)
-      (Rises-behind (step i) (with_own (test e t) (paths_below test t))
+      Rises-append (after_step (step i) (with_own (test e t) (paths_below test t))) (paths_from test e step (suc i) ts)
+      (Rises-after_step (step i) (with_own (test e t) (paths_below test t))
       (Rises-own test t (test e t) (paths_below test t) refl (below_rises test t)))
       (from_rises test e step numbers (suc i) ts)
       (λ x y f g. steps_before test e step numbers i t ts x y f g)
 
--- and with the empty path, where the node is wanted.
+-- and with the empty path, where the node is needed.
 pub listed_rise : (test : Bool → Tree → Bool) (e : Bool) (t : Tree) → Rises (with_own (test e t) (paths_below test t))
 listed_rise test e t = Rises-own test t (test e t) (paths_below test t) refl (below_rises test t)
 
--- as many behind a step as before
-length-behind : (step : Step) (ps : List (List Step)) → length (behind step ps) ≡ length ps
-length-behind step [] = refl
-length-behind step (p ∷ ps) = ap suc (length-behind step ps)
+-- as many after a step as before
+length-after_step : (step : Step) (ps : List (List Step)) → length (after_step step ps) ≡ length ps
+length-after_step step [] = refl
+length-after_step step (p ∷ ps) = ap suc (length-after_step step ps)
 
 -- every node but the elements of struct lists
 abbrev pub is_pointer : Bool → Tree → Bool
@@ -308,10 +308,10 @@ mutual
       → length (paths_from is_pointer false step i ts) ≡ tree_count ts + child_counts ts
   from_pointers step i none = refl
   from_pointers step i (more t ts) =
-      length-append (behind (step i) ([] ∷ paths_below is_pointer t)) (paths_from is_pointer false step (suc i) ts)
+      length-append (after_step (step i) ([] ∷ paths_below is_pointer t)) (paths_from is_pointer false step (suc i) ts)
       ∙ omega (
         arith,
-        length-behind (step i) ([] ∷ paths_below is_pointer t),
+        length-after_step (step i) ([] ∷ paths_below is_pointer t),
         below_pointers t,
         from_pointers step (suc i) ts,
       )
@@ -320,10 +320,10 @@ mutual
       → length (paths_from is_pointer true step i es) ≡ child_counts es
   from_elements step i none = refl
   from_elements step i (more t ts) =
-      length-append (behind (step i) (paths_below is_pointer t)) (paths_from is_pointer true step (suc i) ts)
+      length-append (after_step (step i) (paths_below is_pointer t)) (paths_from is_pointer true step (suc i) ts)
       ∙ omega (
         arith,
-        length-behind (step i) (paths_below is_pointer t),
+        length-after_step (step i) (paths_below is_pointer t),
         below_pointers t,
         from_elements step (suc i) ts,
       )
@@ -337,12 +337,12 @@ abbrev pub is_cap : Tree → Bool
 is_cap (cap i) = true
 is_cap _ = false
 
-abbrev pub wants_cap : Bool → Tree → Bool
-wants_cap is_element t = is_cap t
+abbrev pub needs_cap : Bool → Tree → Bool
+needs_cap is_element t = is_cap t
 
 mutual
   -- The capabilities of a tree are as many as the paths to them.
-  pub caps_listed : (e : Bool) (t : Tree) → length (with_own (is_cap t) (paths_below wants_cap t)) ≡ cap_count t
+  pub caps_listed : (e : Bool) (t : Tree) → length (with_own (is_cap t) (paths_below needs_cap t)) ≡ cap_count t
   caps_listed e null = refl
   caps_listed e (cap i) = refl
   caps_listed e (struct words ts) = from_caps false Ptr 0 ts
@@ -351,14 +351,14 @@ mutual
   caps_listed e (structs d p es) = from_caps true Item 0 es
 
   pub from_caps : (e : Bool) (step : ℕ → Step) (i : ℕ) (ts : Trees)
-      → length (paths_from wants_cap e step i ts) ≡ cap_counts ts
+      → length (paths_from needs_cap e step i ts) ≡ cap_counts ts
   from_caps e step i none = refl
   from_caps e step i (more t ts) =
-      length-append (behind (step i) (with_own (is_cap t) (paths_below wants_cap t)))
-      (paths_from wants_cap e step (suc i) ts)
+      length-append (after_step (step i) (with_own (is_cap t) (paths_below needs_cap t)))
+      (paths_from needs_cap e step (suc i) ts)
       ∙ omega (
         arith,
-        length-behind (step i) (with_own (is_cap t) (paths_below wants_cap t)),
+        length-after_step (step i) (with_own (is_cap t) (paths_below needs_cap t)),
         caps_listed e t,
         from_caps e step (suc i) ts,
       )

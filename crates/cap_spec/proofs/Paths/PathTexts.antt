@@ -45,7 +45,7 @@ one_numbered : (i j : ℕ) (xs ys : List Step) → i < 2 ^ 64 → j < 2 ^ 64
     → (i ≡ j) × (flat_map step_text xs ≡ flat_map step_text ys)
 one_numbered i j xs ys hi hj e = search (rules, one_number, all_digits, ends_number, decimal_injective)
 
--- the number of the step at the front, and the texts behind it
+-- the number of the step at the front, and the texts after it
 ptr_front : (i j : ℕ) (xs ys : List Step) → flat_map step_text (Ptr i ∷ xs) ≡ flat_map step_text (Ptr j ∷ ys)
     → decimal i ++ flat_map step_text xs ≡ decimal j ++ flat_map step_text ys
 ptr_front i j xs ys e = cc
@@ -85,22 +85,22 @@ one_bad_place text at at' p q = search rules
 -- where it is bad at no place, none of its beginnings that are so long begins a path
 none_from : (text : List ℕ) → (IsPath text → ⊥) → ((at : ℕ) → IsBadAt text at → ⊥) → (k n : ℕ) → n ≤ length text
     → length text ≤ n + k → BeginsPath (take n text) → ⊥
-none_from text none nowhere zero n few long p =
-    nowhere n (record { none = none; within = few; begins = p; longest = λ n' less q. omega (arith, less, long) })
-none_from text none nowhere (suc k) n few long p =
+none_from text none no_node zero n few long p =
+    no_node n (record { none = none; within = few; begins = p; longest = λ n' less q. omega (arith, less, long) })
+none_from text none no_node (suc k) n few long p =
     let longest : (n' : ℕ) → n' ≤ length text → BeginsPath (take n' text)
     → n' ≤ n = λ n' less q. elim (leb_tells n' n) [
       | inl le ↦ le.1
-      | inr over ↦ let more = over.1 in absurd (none_from text none nowhere k n' less (omega (arith, more, long)) q)
+      | inr over ↦ let more = over.1 in absurd (none_from text none no_node k n' less (omega (arith, more, long)) q)
     ] in
-    nowhere n (record { none = none; within = few; begins = p; longest = longest })
+    no_node n (record { none = none; within = few; begins = p; longest = longest })
 
--- so it is bad somewhere
-pub bad_somewhere : (text : List ℕ) → (IsPath text → ⊥) → ((at : ℕ) → IsBadAt text at → ⊥) → ⊥
-bad_somewhere text none nowhere =
-    none_from text none nowhere (length text) 0 (omega arith) (omega arith)
+-- so it is bad at some place
+pub bad_at_some_place : (text : List ℕ) → (IsPath text → ⊥) → ((at : ℕ) → IsBadAt text at → ⊥) → ⊥
+bad_at_some_place text none no_node =
+    none_from text none no_node (length text) 0 (omega arith) (omega arith)
     (record { steps = []; are = tt; rest = codes "/"; whole = refl })
 
--- a text of a path is bad nowhere
+-- a text of a path is bad at no place
 pub path_not_bad : (text : List ℕ) (at : ℕ) → IsPath text → IsBadAt text at → ⊥
 path_not_bad text at p q = q.none p

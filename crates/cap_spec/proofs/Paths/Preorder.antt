@@ -12,7 +12,7 @@ Before-irreflexive [] h = h
 Before-irreflexive (x ∷ xs) (inl h) = omega arith
 Before-irreflexive (x ∷ xs) (inr h) = Before-irreflexive xs h.1
 
--- what comes before a path comes before those behind it
+-- what comes before a path comes before those after it
 pub Before-trans : (p q r : List Step) → Before p q → Before q r → Before p r
 Before-trans p [] r h g = absurd h
 Before-trans p (y ∷ ys) [] h g = absurd g
@@ -40,7 +40,7 @@ same_number m a x y b c g h e = search (rules, one_kind_of_step)
 three_ways : (x y : ℕ) → (x ≡ y) ⊎ (x < y) ⊎ (y < x)
 three_ways x y = grind arith
 
--- of two paths that lead somewhere from one spot, they are one, or one comes before the other
+-- of two paths that lead to some place from one spot, they are one, or one comes before the other
 pub Before-total : (m : List (List ℕ)) (a : Spot) (p q : List Step) (n n' : ℕ) (b c : Spot) → PathLeads m a p n b
     → PathLeads m a q n' c → (p ≡ q) ⊎ Before p q ⊎ Before q p
 Before-total m a [] [] n n' b c g h = inl refl

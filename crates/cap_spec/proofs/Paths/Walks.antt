@@ -72,7 +72,7 @@ record WalkParts (m : List (List ℕ)) (a c : Spot) (p q : List Step) (n : ℕ) 
   second : PathLeads m mid q below c
   levels : n ≡ above + below
 
--- and each beginning of a path leads somewhere
+-- and each beginning of a path leads to some place
 walk_parts : (m : List (List ℕ)) (a c : Spot) (p q : List Step) (n : ℕ) → PathLeads m a (p ++ q) n c
     → WalkParts m a c p q n
 walk_parts m a c [] q n h =

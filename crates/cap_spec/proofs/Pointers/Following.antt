@@ -44,7 +44,7 @@ HasSegment m to_null = Unit {0}
 HasSegment m (to_cap i) = Unit {0}
 HasSegment m (to_object t b q) = t < length m
 
--- none of the conditions on pads holds at a word that leads somewhere
+-- none of the conditions on pads holds at a word that leads to some place
 pub leads_clean : (m : List (List ℕ)) (s w k : ℕ) (r : Lead) → Leads m s w k r → HasSegment m r
     → NoneBelow m s w (rank OutOfSegment)
 leads_clean m s w k r (near p h n says e) exists = grind (arith, common_steps)
@@ -163,7 +163,7 @@ module _ (m : List (List ℕ)) (s w k : ℕ) (r : Lead) (leads : Leads m s w k r
         (one_lead m s w k' k (to_object t (pos b) q) r leads' leads).1 (composite, has, n),
   )
 
-  -- where it leads somewhere, in a segment that exists, and none of these conditions holds, nothing is wrong
+  -- where it leads to some place, in a segment that exists, and none of these conditions holds, nothing is wrong
   clean-not_wrong : HasSegment m r → ¬ Condition m s w OutOfSegment → ¬ Condition m s w CompositeTag
       → ¬ Condition m s w CompositeOverrun → (v : Reason) → ¬ Wrong m s w v
   clean-not_wrong exists n9 n10 n11 OutOfSegment x = n9 x.holds

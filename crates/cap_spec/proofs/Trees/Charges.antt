@@ -44,7 +44,7 @@ pub length-places : (t b n : ℕ) → length (places t b n) ≡ n
 length-places t b zero = refl
 length-places t b (suc n) = ap suc (length-places t (b + 1) n)
 
--- the elements that the tag tells lie inside the list
+-- the elements that the tag gives lie inside the list
 pub elements_fit : {m : List (List ℕ)} {s w n ds ps k t b q tag : ℕ} → FindsKind m s w (Structs n ds ps) k t b q tag
     → n * ds + n * ps ≤ list_size q
 elements_fit {m} {s} {w} {n} {ds} {ps} {k} {t} {b} {q} {tag} f =

@@ -16,7 +16,7 @@ pub record SameObject (k t b q k' t' b' q' : ℕ) : Type 0 where
   pub start : b ≡ b'
   pub shape : q ≡ q'
 
--- a lead to an object tells its parts
+-- a lead to an object gives its parts
 pub object_parts : (t b q t' b' q' : ℕ) → to_object t (pos b) q ≡ to_object t' (pos b') q'
     → (t ≡ t') × (b ≡ b') × (q ≡ q')
 object_parts t b q t' b' q' e = (cc, cc, cc)

@@ -13,7 +13,7 @@ use Rattle.cap_spec.proofs.ProofNames.{field, common_steps, rules}
 turned : (v m r : ℕ) → v + m * r ≡ r * m + v
 turned v m r = omega (arith, mul_comm m r)
 
--- the lowest value of a word, and what stands above it
+-- the lowest value of a word, and what is above it
 low_value : (bits v r : ℕ) → v < 2 ^ bits → field (v + 2 ^ bits * r) 0 bits ≡ v
 low_value bits v r h = grind (arith, common_steps)
 
@@ -39,7 +39,7 @@ pub listed_field : (bits per : ℕ) (vs : List ℕ) (i k j : ℕ) → AllByRecur
 listed_field bits per vs i k j a lt e h =
     search (rules, length-take, length-drop, packed_field, all_take, all_drop, get_or-take, get_or-drop)
 
--- where in a list of this many words of so many values each the value i of this many bits stands: the place in its word
+-- where in a list of this many words of this many values each the value i of this many bits is: the place in its word
 pub record Placed (bits per count i : ℕ) : Type 0 where
   pub place : ℕ
   pub below : place < per
@@ -47,12 +47,12 @@ pub record Placed (bits per count i : ℕ) : Type 0 where
   pub low : (i * bits) % 64 ≡ place * bits
   pub inside : (i * bits) / 64 < count
 
--- values that stand in words are those values
+-- values that are in words are those values
 pub values_read : (words : List ℕ) (b bits per count : ℕ) (vs : List ℕ) → AllByRecursion (λ v. v < 2 ^ bits) vs
     → ((k : ℕ) → k < count → get_or words (b + k) 0 ≡ packed_word bits (take per (drop (k * per) vs)))
     → ((i : ℕ) → i < length vs → Placed bits per count i)
     → map (value_at words b bits) (range_with_len 0 (length vs)) ≡ vs
-values_read words b bits per count vs a stand placed =
+values_read words b bits per count vs a lie placed =
     same_lists (map (value_at words b bits) (range_with_len 0 (length vs))) vs
     (length-map-range_with_len (value_at words b bits) 0 (length vs))
     (λ i d lt. each i d (rw (length-map-range_with_len (value_at words b bits) 0 (length vs)) at lt))
@@ -60,7 +60,7 @@ values_read words b bits per count vs a stand placed =
     at_place : (i : ℕ) → i < length vs → value_at words b bits i ≡ get_or vs i 0
     at_place i h =
         let p : Placed bits per count i = placed i h in
-        ap₂ (λ x y. field x y bits) (stand ((i * bits) / 64) p.inside) p.low
+        ap₂ (λ x y. field x y bits) (lie ((i * bits) / 64) p.inside) p.low
         ∙ listed_field bits per vs i ((i * bits) / 64) p.place a p.below p.index h
 
     each : (i d : ℕ) → i < length vs → get_or (map (value_at words b bits) (range_with_len 0 (length vs)))
@@ -140,7 +140,7 @@ pub word_of_values : (bits count : ℕ) (vs : List ℕ) (k : ℕ) → k < count
     → get_or (value_words bits count vs) k 0 ≡ packed_word bits (take (64 / bits) (drop (k * (64 / bits)) vs))
 word_of_values bits count vs k h = search (rules, get_or-map-range_with_len)
 
--- the words of a list stand here
+-- the words of a list are here
 abbrev pub WordsAt : List ℕ → ℕ → List ℕ → Type 0
 WordsAt words b xs = (k : ℕ) → k < length xs → get_or words (b + k) 0 ≡ get_or xs k 0
 
@@ -149,9 +149,9 @@ bits_read : (words : List ℕ) (b bits count : ℕ) (vs : List ℕ) → AllByRec
     → WordsAt words b (value_words bits count vs)
     → ((i : ℕ) → i < length vs → Placed bits (64 / bits) count i)
     → map (value_at words b bits) (range_with_len 0 (length vs)) ≡ vs
-bits_read words b bits count vs a stand placed =
+bits_read words b bits count vs a lie placed =
     values_read words b bits (64 / bits) count vs a
-    (λ k h. stand k (rw (length-map-range_with_len
+    (λ k h. lie k (rw (length-map-range_with_len
     (λ x. packed_word bits (take (64 / bits) (drop (x * (64 / bits)) vs))) 0 count) h)
     ∙ word_of_values bits count vs k h) placed
 
@@ -159,15 +159,15 @@ bits_read words b bits count vs a stand placed =
 pub scalars_read : (words : List ℕ) (b c : ℕ) (vs : List ℕ) → c < 6 → AllByRecursion (λ v. v < 2 ^ element_bits c) vs
     → WordsAt words b (scalar_words c vs)
     → map (value_at words b (element_bits c)) (range_with_len 0 (length vs)) ≡ vs
-scalars_read words b zero vs lt a stand = voids_read words b vs a
-scalars_read words b (suc zero) vs lt a stand =
-    bits_read words b 1 (list_words 1 (length vs)) vs a stand (placed-1 (length vs))
-scalars_read words b (suc (suc zero)) vs lt a stand =
-    bits_read words b 8 (list_words 2 (length vs)) vs a stand (placed-8 (length vs))
-scalars_read words b (suc (suc (suc zero))) vs lt a stand =
-    bits_read words b 16 (list_words 3 (length vs)) vs a stand (placed-16 (length vs))
-scalars_read words b (suc (suc (suc (suc zero)))) vs lt a stand =
-    bits_read words b 32 (list_words 4 (length vs)) vs a stand (placed-32 (length vs))
-scalars_read words b (suc (suc (suc (suc (suc zero))))) vs lt a stand =
-    bits_read words b 64 (list_words 5 (length vs)) vs a stand (placed-64 (length vs))
-scalars_read words b (suc (suc (suc (suc (suc (suc c)))))) vs lt a stand = absurd (omega (arith, lt))
+scalars_read words b zero vs lt a lie = voids_read words b vs a
+scalars_read words b (suc zero) vs lt a lie =
+    bits_read words b 1 (list_words 1 (length vs)) vs a lie (placed-1 (length vs))
+scalars_read words b (suc (suc zero)) vs lt a lie =
+    bits_read words b 8 (list_words 2 (length vs)) vs a lie (placed-8 (length vs))
+scalars_read words b (suc (suc (suc zero))) vs lt a lie =
+    bits_read words b 16 (list_words 3 (length vs)) vs a lie (placed-16 (length vs))
+scalars_read words b (suc (suc (suc (suc zero)))) vs lt a lie =
+    bits_read words b 32 (list_words 4 (length vs)) vs a lie (placed-32 (length vs))
+scalars_read words b (suc (suc (suc (suc (suc zero))))) vs lt a lie =
+    bits_read words b 64 (list_words 5 (length vs)) vs a lie (placed-64 (length vs))
+scalars_read words b (suc (suc (suc (suc (suc (suc c)))))) vs lt a lie = absurd (omega (arith, lt))

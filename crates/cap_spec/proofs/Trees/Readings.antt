@@ -32,7 +32,7 @@ pub length-values_words : (m : List (List ℕ)) (t b c n : ℕ)
 length-values_words m t b c n = length-scalar_words c (values_of m t b c n)
     ∙ ap (list_words c) (length-values m t b c n)
 
--- word i of a list of values: the word that stands there, its bits past the last value cut
+-- word i of a list of values: the word that is there, its bits past the last value cut
 pub values_word_there : (m : List (List ℕ)) (t b c n i x : ℕ) → i < list_words c n → HasWord m t (b + i) x
     → slice_get (scalar_words c (values_of m t b c n)) i ≡ Some (field x 0 (min 64 (element_bits c * n - i * 64)))
 values_word_there m t b c n i x lt h =
@@ -53,7 +53,7 @@ word_within c n i h = search rules
 pub word_past : (c n i : ℕ) → element_bits c * n ≤ i * 64 → list_words c n ≤ i
 word_past c n i h = search rules
 
--- byte i of words: that of the word where it stands
+-- byte i of words: that of the word where it is
 pub byte_there : (words : List ℕ) (i j x : ℕ) → j < 8 → slice_get words i ≡ Some x
     → slice_get (plain_text words) (i * 8 + j) ≡ slice_get (word_bytes x) j
 byte_there [] i j x lt h = absurd (cc h)

@@ -55,7 +55,7 @@ take-range a zero (suc k) = let e : 0 ≡ min (suc k) 0 = omega arith in ap (ran
 take-range a (suc n) (suc k) = let e : suc (min k n) ≡ min (suc k) (suc n) = omega arith in
     ap (λ xs. a ∷ xs) (take-range (a + 1) n k) ∙ ap (range_with_len a) e
 
--- word k of values of one width, where so many of them fill a word
+-- word k of values of one width, where this many of them fill a word
 width_read : (words : List ℕ) (b bits per n k : ℕ)
     → ((j : ℕ) → j < per → value_at words b bits (k * per + j) ≡ field (get_or words (b + k) 0) (0 + j * bits) bits)
     → packed_word bits (take per (drop (k * per) (map (value_at words b bits) (range_with_len 0 n))))

@@ -1,4 +1,4 @@
--- Whether a word denotes a tree of at most so many levels is decided: so where it isn't known which one, there is one.
+-- Whether a word denotes a tree of at most this many levels is decided: so where it isn't known which one, there is one.
 use Rattle.cap_spec.specs.Denoting.{places}
 use Rattle.cap_spec.specs.Tree.{none}
 use Rattle.cap_spec.proofs.Frames.Messages.{HasWord-at, HasWord-inside}

@@ -44,13 +44,13 @@ begins_last q done step (r, e) = go (begins_either q done [] r step e)
     go (inl h) = inr h
     go (inr (more, f, g)) = inl (f ∙ ap (λ x. done ++ step ∷ x) (none more g))
 
--- and comes behind what begins the shorter one
+-- and comes after what begins the shorter one
 before_last : (q done : List Step) (step : Step) → IsStartOf q done → Before q (done ++ step ∷ [])
 before_last q done step ([], e) = subst (λ x. Before q (x ++ step ∷ [])) (sym (e ∙ append-nil q))
     (Before-longer q step [])
 before_last q done step (x ∷ rest, e) = search (rules, append_assoc, Before-longer)
 
--- a rising list with a last path behind all of them
+-- a rising list with a last path after all of them
 rises_last : (ps : List (List Step)) (p : List Step) → Rises ps → ((q : List Step) → IsOneOf q ps → Before q p)
     → Rises (ps ++ p ∷ [])
 rises_last [] p h k = tt
@@ -147,11 +147,11 @@ on_element m done ways step level t b ds ps h c = record {
         absurd (cc f)
     all q level' s' w' r (inr x) = h.all q level' s' w' x r
 
--- and where a step leads nowhere, neither.
-pub on_nowhere : (m : List (List ℕ)) (done rest : List Step) (ways : List (List Step)) (step : Step) (level : ℕ)
+-- and where a step leads to no node, neither.
+pub on_no_node : (m : List (List ℕ)) (done rest : List Step) (ways : List (List Step)) (step : Step) (level : ℕ)
     (a : Spot) → AreOnPath m done ways → ReachesSpot m done level a
     → ((b : Spot) → StepsTo m a step b → ⊥) → AreOnPath m (done ++ step ∷ rest) ways
-on_nowhere m done rest ways step level a h c none = record {
+on_no_node m done rest ways step level a h c none = record {
   rising = h.rising;
   begin = λ q i. begins_longer q done (step ∷ rest) (h.begin q i);
   reached = h.reached;

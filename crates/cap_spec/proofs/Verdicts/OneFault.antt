@@ -63,7 +63,7 @@ one_reason m words depth before s w level u v (is_past cost e none costs past) (
 one_reason m words depth before s w level u v (is_past cost e none costs past)
     (is_past cost' e' none' costs' past') = e ∙ sym e'
 
--- Where some paths keep to the limits, there is no fault at one of them behind others of them.
+-- Where some paths keep to the limits, there is no fault at one of them after others of them.
 pub kept_without_fault : (m : List (List ℕ)) (words depth level charge cost : ℕ) (r : Refusal) (way : List Step)
     (before kept : List (List Step)) → Reaches m way level r.segment r.word → CostOf m before charge
     → IsFirstReason m words depth charge r.segment r.word level r.reason → AreDistinct (way ∷ before)
@@ -144,7 +144,7 @@ same_refusal a b e1 e2 e3 e4 =
     ∙ (ap (λ w. make b.segment w a.reason a.pointers) e2
     ∙ (ap (λ v. make b.segment b.word v a.pointers) e3 ∙ ap (λ n. make b.segment b.word b.reason n) e4))
 
--- Faults at one path behind the same paths are one refusal.
+-- Faults at one path after the same paths are one refusal.
 pub same_fault : (m : List (List ℕ)) (words depth level level' charge charge' : ℕ) (r r' : Refusal) (way : List Step)
     (before before' : List (List Step)) → before ++ way ∷ [] ≡ before' ++ way ∷ []
     → Rises (before ++ way ∷ []) → Reaches m way level r.segment r.word → Reaches m way level' r'.segment r'.word

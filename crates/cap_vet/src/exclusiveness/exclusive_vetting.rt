@@ -13,7 +13,7 @@ ghost use Rattle.cap_vet.specs.Limits.{depth_of, words_of};
 ghost use Rattle.cap_vet.specs.OverlapSteps.{KnowsFirsts};
 ghost use Rattle.cap_vet.specs.Overlapping.{EndsMarking, OverlapsFirst};
 ghost use Rattle.cap_vet.specs.Reports.{IsAccepted, IsReport};
-ghost use Rattle.cap_vet.specs.Taken.{HasRoom, IsTaken, start_of};
+ghost use Rattle.cap_vet.specs.Taken.{HasCapacity, IsTaken, start_of};
 ghost use Rattle.cap_vet.specs.Turns.{IsWalking};
 ghost use Rattle.cap_vet.specs.Vettings.{message_of, report_of};
 ghost use Rattle.cap_vet.specs.declared.walk.vetting.Report.{Report};
@@ -280,7 +280,7 @@ fn mark_all<M: Segments>(
     bits: &mut [u64],
     report: &mut Report,
 ) -> Result<Firsts, Refusal>
-    requires room { HasRoom (M.segments message.now) starts.now bits.old }
+    requires fits { HasCapacity (M.segments message.now) starts.now bits.old }
     requires none { (s w : ℕ) → ¬ IsTaken (M.segments message.now) bits.old s w }
     requires root { 0 < length (segment_of (M.segments message.now) 0) }
     ensures ok { let m = M.segments message.now in IfOk result (λ firsts.

@@ -32,7 +32,7 @@ pub(crate) struct Arrival {
     // The level of it, 1 for the root.
     pub(crate) level: u64,
     // What following the pointers on the way cost, in words.
-    pub(crate) spent: u64,
+    pub(crate) consumed: u64,
     // How many pointers that were.
     pub(crate) pointers: u64,
     // The first of them that common readers reject.
@@ -60,7 +60,7 @@ pub(crate) fn at_root<M: Segments>(message: &M, words: u64, depth: u32) -> Resul
         Ok(followed) => Ok(Arrival {
             found: found_of(followed),
             level: 1,
-            spent: followed.charge(),
+            consumed: followed.charge(),
             pointers: 1,
             lax: first_lax(message, None, 0, 0, 1),
         }),
@@ -104,14 +104,14 @@ impl Arrival {
         match self.found.step(step) {
             None => Ok(None),
             Some(Spot::Word { segment, word }) => {
-                let left = words - self.spent;
+                let left = words - self.consumed;
                 let level = self.level + 1;
                 let pointers = self.pointers + 1;
                 match follow_within(message, left, depth, segment, word, level) {
                     Ok(followed) => Ok(Some(Arrival {
                         found: found_of(followed),
                         level,
-                        spent: self.spent + followed.charge(),
+                        consumed: self.consumed + followed.charge(),
                         pointers,
                         lax: first_lax(message, self.lax, segment, word, pointers),
                     })),
@@ -207,13 +207,13 @@ pub fn get_charged<'m, M: Segments>(
         match at.step(message, words, depth, *step) {
             Ok(Some(next)) => at = next,
             Ok(None) => {
-                budget.words = words - at.spent;
+                budget.words = words - at.consumed;
                 return Ok(None);
             }
             Err(fault) => return Err(fault),
         }
     }
-    budget.words = words - at.spent;
+    budget.words = words - at.consumed;
     let view = View {
         message,
         found: at.found,

@@ -5,7 +5,7 @@ ghost use Rattle.cap_spec.specs.Following.{Wrong};
 ghost use Rattle.cap_spec.specs.Messages.{IsMessage, segment_of};
 ghost use Rattle.cap_spec.specs.Paths.{word};
 ghost use Rattle.cap_spec.specs.declared.Reason.{Reason};
-ghost use Rattle.cap_vet.specs.Finding.{IsFound, IsSomewhere, StepLeads, element_of, kind_of_shape};
+ghost use Rattle.cap_vet.specs.Finding.{IsFound, IsAtSomePlace, StepLeads, element_of, kind_of_shape};
 ghost use Rattle.std.specs.Prelude.{◌<◌, ◌≡◌, List, length, ℕ};
 
 use crate::nodes::place::Place;
@@ -53,7 +53,7 @@ impl Found {
     /// Where a step leads from there.
     #[inline(always)]
     pub(crate) fn step(&self, step: Step) -> Option<Spot>
-        requires { IsSomewhere self.now }
+        requires { IsAtSomePlace self.now }
         ensures { StepLeads self.now step result }
     {
         match step {
@@ -65,7 +65,7 @@ impl Found {
     // The pointer of a struct.
     #[inline(always)]
     fn pointer(&self, i: u16) -> Option<Spot>
-        requires { IsSomewhere self.now }
+        requires { IsAtSomePlace self.now }
         ensures { StepLeads self.now (Step.Ptr i) result }
     {
         let Kind::Struct {
@@ -87,7 +87,7 @@ impl Found {
     // The element of a list of pointers or of structs.
     #[inline(always)]
     fn item(&self, i: u32) -> Option<Spot>
-        requires { IsSomewhere self.now }
+        requires { IsAtSomePlace self.now }
         ensures { StepLeads self.now (Step.Item i) result }
     {
         match self.kind {

@@ -116,7 +116,7 @@ pub(crate) fn given<'m, M: Segments>(
                 found: at.found,
             })),
         },
-        Way::Nowhere(at) => match strict_fault(message, demands, at.lax) {
+        Way::Early(at) => match strict_fault(message, demands, at.lax) {
             Some(fault) => Err(fault),
             None => Ok(None),
         },
@@ -204,7 +204,7 @@ pub(crate) fn along<M: Segments, S: StepSource + Copy>(
     while let Some(step) = left.next_step() {
         match at.step(message, words, depth, step) {
             Ok(Some(next)) => at = next,
-            Ok(None) => return Way::Nowhere(at),
+            Ok(None) => return Way::Early(at),
             Err(refusal) => return Way::Refused(refusal),
         }
     }

@@ -21,11 +21,11 @@ pub(crate) fn at_root_near<M: Segments>(message: &M, words: u64, depth: u32) -> 
     if message.len(0) == 0 {
         return None;
     }
-    let (found, spent) = found_near(message, words, depth, 0, 0, 1)?;
+    let (found, consumed) = found_near(message, words, depth, 0, 0, 1)?;
     Some(Arrival {
         found,
         level: 1,
-        spent,
+        consumed,
         pointers: 1,
         lax: None,
     })
@@ -54,13 +54,13 @@ impl Arrival {
         match self.found.step(step) {
             None => None,
             Some(Spot::Word { segment, word }) => {
-                let left = words - self.spent;
+                let left = words - self.consumed;
                 let level = self.level + 1;
                 let (found, charge) = found_near(message, left, depth, segment, word, level)?;
                 Some(Arrival {
                     found,
                     level,
-                    spent: self.spent + charge,
+                    consumed: self.consumed + charge,
                     pointers: self.pointers + 1,
                     lax: None,
                 })

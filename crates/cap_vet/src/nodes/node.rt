@@ -39,7 +39,7 @@ impl<'m, M: Segments> Node<'m, M> {
     ghost use Rattle.cap_spec.specs.Arriving.{HasObject};
     ghost use Rattle.cap_spec.specs.Paths.{StepsTo, Spot as Where, HasPlace};
     ghost use Rattle.cap_spec.specs.Showing.{own_of};
-    ghost use Rattle.cap_spec.specs.Standing.{DenotesAt};
+    ghost use Rattle.cap_spec.specs.SpotTrees.{DenotesAt};
     ghost use Rattle.cap_spec.specs.Tree.{Tree, part_at};
     ghost use Rattle.cap_vet.specs.Finding.{IsFound};
     ghost use Rattle.cap_vet.specs.Views.{kept_place, node_message, node_spot, shown, view_kind, view_message, view_place};

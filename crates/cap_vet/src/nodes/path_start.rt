@@ -100,7 +100,7 @@ impl<'m, M: Segments> PathStart<'m, M> {
                 count,
                 data_words,
                 pointers,
-                left: self.words - at.spent,
+                left: self.words - at.consumed,
                 level: at.level + 2,
                 depth: self.depth,
             }),
@@ -127,10 +127,10 @@ impl<'m, M: Segments> PathStart<'m, M> {
         let way = match self.way {
             Way::To(at) => match at.step(self.message, self.words, self.depth, step) {
                 Ok(Some(next)) => along(self.message, self.words, self.depth, next, rest),
-                Ok(None) => Way::Nowhere(at),
+                Ok(None) => Way::Early(at),
                 Err(refusal) => Way::Refused(refusal),
             },
-            Way::Nowhere(at) => Way::Nowhere(at),
+            Way::Early(at) => Way::Early(at),
             Way::Refused(refusal) => Way::Refused(refusal),
         };
         given(self.message, self.demands, way)

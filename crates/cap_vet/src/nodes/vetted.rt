@@ -33,7 +33,7 @@ impl<'m, M: Segments> Copy for Vetted<'m, M> {}
 impl<'m, M: Segments> Vetted<'m, M> {
     ghost use Rattle.cap_spec.specs.Denoting.{Denotes};
     ghost use Rattle.cap_spec.specs.Paths.{ReachesSpot, Spot as Where};
-    ghost use Rattle.cap_spec.specs.Standing.{DenotesAt};
+    ghost use Rattle.cap_spec.specs.SpotTrees.{DenotesAt};
     ghost use Rattle.cap_spec.specs.Tree.{Tree, node_at};
     ghost use Rattle.cap_vet.specs.Views.{node_message, node_spot};
     ghost use Rattle.cap_vet.specs.Vettings.{message_of, report_of};

@@ -9,7 +9,7 @@ pub(crate) enum Way {
     /// To something.
     To(Arrival),
     /// To nothing. This is what its last step but those that lead to nothing arrived at.
-    Nowhere(Arrival),
+    Early(Arrival),
     /// It is refused.
     Refused(Refusal),
 }

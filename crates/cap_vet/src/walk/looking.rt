@@ -7,7 +7,7 @@ ghost use Rattle.cap_spec.specs.Faults.{IsFirstReason};
 ghost use Rattle.cap_spec.specs.Messages.{IsMessage, segment_of};
 ghost use Rattle.cap_spec.specs.Pointers.{IsCap, kind};
 ghost use Rattle.cap_vet.specs.Limits.{depth_of, words_of};
-ghost use Rattle.cap_vet.specs.Looking.{FollowsWithin, IsLooked, IsNotLax, IsObjectWord, MayStandFor, deepest_of};
+ghost use Rattle.cap_vet.specs.Looking.{FollowsWithin, IsLooked, IsNotLax, IsObjectWord, MayReplace, deepest_of};
 ghost use Rattle.cap_vet.specs.Turning.{cost_of, place_of};
 ghost use Rattle.std.specs.Prelude.{◌+◌, ◌<◌, ◌≤◌, ◌≡◌, ◌-◌, ◌^◌, ◌↔◌, IfErr, IfOk, IfSome, IsTrue, List, length, ℕ};
 
@@ -96,7 +96,7 @@ fn deepest_level(followed: &Followed, level: u64) -> u64
     }
 }
 
-/// Looks at word `w` of segment `s`, whose target has this level, where `spent` words were charged
+/// Looks at word `w` of segment `s`, whose target has this level, where `consumed` words were charged
 /// before. The error is the first reason that applies.
 // It is inlined into the function outside of a walk's loop that asks it, so that its result stays in
 // registers.
@@ -104,21 +104,21 @@ fn deepest_level(followed: &Followed, level: u64) -> u64
 pub(crate) fn look<M: Segments>(
     message: &M,
     limits: &Limits,
-    spent: u64,
+    consumed: u64,
     s: u32,
     w: u32,
     level: u32,
 ) -> Result<Looked, Reason>
     requires exists { s < length (M.segments message.now) }
     requires inside { w < length (segment_of (M.segments message.now) s) }
-    requires spent { spent ≤ words_of limits.now }
+    requires consumed { consumed ≤ words_of limits.now }
     requires level { level ≤ depth_of limits.now + 1 }
     ensures ok { let m = M.segments message.now in
-        IfOk result (IsLooked m (words_of limits.now) (depth_of limits.now) spent s w level) }
+        IfOk result (IsLooked m (words_of limits.now) (depth_of limits.now) consumed s w level) }
     ensures err { let m = M.segments message.now in
-        IfErr result (IsFirstReason m (words_of limits.now) (depth_of limits.now) spent s w level) }
+        IfErr result (IsFirstReason m (words_of limits.now) (depth_of limits.now) consumed s w level) }
 {
-    let left = limits.words() - spent;
+    let left = limits.words() - consumed;
     let followed = follow_within(message, left, limits.depth(), s, w, u64::from(level))?;
     match followed {
         Followed::Null { pads } => Ok(Looked::Null(u64::from(pads))),
@@ -138,24 +138,24 @@ pub(crate) fn look<M: Segments>(
 pub(crate) fn look_near<M: Segments>(
     message: &M,
     limits: &Limits,
-    spent: u64,
+    consumed: u64,
     s: u32,
     w: u32,
     level: u32,
 ) -> Option<Looked>
     requires exists { s < length (M.segments message.now) }
     requires inside { w < length (segment_of (M.segments message.now) s) }
-    requires spent { spent ≤ words_of limits.now }
+    requires consumed { consumed ≤ words_of limits.now }
     requires level { level ≤ depth_of limits.now + 1 }
     ensures looked { let m = M.segments message.now in
-        IfSome result (IsLooked m (words_of limits.now) (depth_of limits.now) spent s w level) }
+        IfSome result (IsLooked m (words_of limits.now) (depth_of limits.now) consumed s w level) }
     ensures strict { IfSome result (λ _. IsNotLax (M.segments message.now) s w) }
 {
     let word = message.word(s, w);
     if word == 0 {
         return Some(Looked::Null(0));
     }
-    if let Some(looked) = described_within(message, limits, spent, 0, s, w, level) {
+    if let Some(looked) = described_within(message, limits, consumed, 0, s, w, level) {
         return Some(looked);
     }
     if is_cap(word) {
@@ -179,7 +179,7 @@ fn is_cap(word: u64) -> bool
 pub(crate) fn described_within<M: Segments>(
     message: &M,
     limits: &Limits,
-    spent: u64,
+    consumed: u64,
     pads: u8,
     segment: u32,
     at: u32,
@@ -188,41 +188,41 @@ pub(crate) fn described_within<M: Segments>(
     requires exists { segment < length (M.segments message.now) }
     requires inside { at < length (segment_of (M.segments message.now) segment) }
     requires pads { pads ≤ 2 }
-    requires pointer { (s w : ℕ) × MayStandFor (M.segments message.now) s w pads segment at }
-    requires spent { spent ≤ words_of limits.now }
+    requires pointer { (s w : ℕ) × MayReplace (M.segments message.now) s w pads segment at }
+    requires consumed { consumed ≤ words_of limits.now }
     requires level { level ≤ depth_of limits.now + 1 }
-    ensures looked { let m = M.segments message.now in (s w : ℕ) → MayStandFor m s w pads segment at →
-        IfSome result (IsLooked m (words_of limits.now) (depth_of limits.now) spent s w level) }
+    ensures looked { let m = M.segments message.now in (s w : ℕ) → MayReplace m s w pads segment at →
+        IfSome result (IsLooked m (words_of limits.now) (depth_of limits.now) consumed s w level) }
     ensures object { IfSome result (λ _. IsObjectWord (M.segments message.now) segment at) }
 {
     let word = message.word(segment, at);
     if let Some(row) = near_row(word, at, message.len(segment)) {
-        return row_within(limits, spent, pads, segment, &row, level);
+        return row_within(limits, consumed, pads, segment, &row, level);
     }
     let list = struct_list(message, pads, segment, at, word)?;
-    target_within(limits, spent, &list, level)
+    target_within(limits, consumed, &list, level)
 }
 
 // This row of an object, over some pads. Returns a result only if it is within the limits.
 #[inline(always)]
 fn row_within(
     limits: &Limits,
-    spent: u64,
+    consumed: u64,
     pads: u8,
     segment: u32,
     row: &Row,
     level: u32,
 ) -> Option<Looked>
     requires pads { pads ≤ 2 }
-    requires spent { spent ≤ words_of limits.now }
+    requires consumed { consumed ≤ words_of limits.now }
     requires level { level ≤ depth_of limits.now + 1 }
     ensures { (m : List (List ℕ)) (s w at q : ℕ) → FindsRow m segment at q row.now →
         ResolvesTo m s w pads segment at q →
-        IfSome result (IsLooked m (words_of limits.now) (depth_of limits.now) spent s w level) }
+        IfSome result (IsLooked m (words_of limits.now) (depth_of limits.now) consumed s w level) }
 {
     let cost = u64::from(pads) + u64::from(row.words);
     // The words come first: docs/internals/speed.md has what the other order costs.
-    if spent + cost > limits.words() || level > limits.depth() {
+    if consumed + cost > limits.words() || level > limits.depth() {
         return None;
     }
     let run = row_run(segment, row.pointers_start, row.pointer_count, level + 1);
@@ -236,16 +236,16 @@ fn row_within(
 
 // This target of a pointer word. Returns a result only if it is within the limits.
 #[inline(always)]
-fn target_within(limits: &Limits, spent: u64, target: &Target, level: u32) -> Option<Looked>
+fn target_within(limits: &Limits, consumed: u64, target: &Target, level: u32) -> Option<Looked>
     requires found { (m : List (List ℕ)) × (s w q tag : ℕ) × IsMessage m
         × FindsTargetBy m s w q tag target.now }
-    requires spent { spent ≤ words_of limits.now }
+    requires consumed { consumed ≤ words_of limits.now }
     requires level { level ≤ depth_of limits.now + 1 }
     ensures { (m : List (List ℕ)) (s w : ℕ) → FindsTarget m s w target.now →
-        IfSome result (IsLooked m (words_of limits.now) (depth_of limits.now) spent s w level) }
+        IfSome result (IsLooked m (words_of limits.now) (depth_of limits.now) consumed s w level) }
 {
     let deepest = level + levels_taken(&target.shape);
-    if deepest > limits.depth() || spent + target.charge > limits.words() {
+    if deepest > limits.depth() || consumed + target.charge > limits.words() {
         return None;
     }
     let run = run_of(target, level);
@@ -282,20 +282,20 @@ pub(crate) fn struct_list<M: Segments>(
 pub(crate) fn look_described<M: Segments>(
     message: &M,
     limits: &Limits,
-    spent: u64,
+    consumed: u64,
     s: u32,
     w: u32,
     level: u32,
 ) -> Option<Looked>
     requires exists { s < length (M.segments message.now) }
     requires inside { w < length (segment_of (M.segments message.now) s) }
-    requires spent { spent ≤ words_of limits.now }
+    requires consumed { consumed ≤ words_of limits.now }
     requires level { level ≤ depth_of limits.now + 1 }
     ensures looked { let m = M.segments message.now in
-        IfSome result (IsLooked m (words_of limits.now) (depth_of limits.now) spent s w level) }
+        IfSome result (IsLooked m (words_of limits.now) (depth_of limits.now) consumed s w level) }
     ensures strict { IfSome result (λ _. IsNotLax (M.segments message.now) s w) }
 {
-    if let Some(looked) = look_near(message, limits, spent, s, w, level) {
+    if let Some(looked) = look_near(message, limits, consumed, s, w, level) {
         return Some(looked);
     }
     let word = message.word(s, w);
@@ -306,5 +306,5 @@ pub(crate) fn look_described<M: Segments>(
     if segment >= message.count() || at >= message.len(segment) {
         return None;
     }
-    described_within(message, limits, spent, 1, segment, at, level)
+    described_within(message, limits, consumed, 1, segment, at, level)
 }

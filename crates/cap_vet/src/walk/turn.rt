@@ -106,7 +106,7 @@ pub(crate) fn visit<M: Segments>(
 // Counts a pointer word, and gives the run of its object's pointers.
 #[inline(always)]
 pub(crate) fn add(report: &mut Report, s: u32, w: u32, looked: Looked) -> Option<PointerRun>
-    requires room { ((added report.old s w looked).charge < 2 ^ 64)
+    requires fits { ((added report.old s w looked).charge < 2 ^ 64)
         × ((added report.old s w looked).pointers < 2 ^ 64)
         × ((added report.old s w looked).caps < 2 ^ 64) }
     ensures report { report.new ≡ added report.old s w looked }

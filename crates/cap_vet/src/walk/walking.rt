@@ -6,7 +6,7 @@ ghost use Rattle.cap_vet.specs.Passing.{Passes};
 ghost use Rattle.cap_vet.specs.PointerRuns.{RunIn, kept, root_run};
 ghost use Rattle.cap_vet.specs.Trails.{Ahead};
 ghost use Rattle.cap_vet.specs.Turns.{GoesOnIf, HoldsBefore, IsAt, IsStopped, IsWalking};
-ghost use Rattle.cap_vet.specs.WalkSteps.{Continues, LeavesRoom, TakesTurn};
+ghost use Rattle.cap_vet.specs.WalkSteps.{Continues, LeavesCapacity, TakesTurn};
 ghost use Rattle.cap_vet.specs.Walking.{HasWalked};
 ghost use Rattle.std.specs.Option.{option_to_list};
 ghost use Rattle.std.specs.Prelude.{◌++◌, ◌<◌, ◌≡◌, ◌≤◌, [], ◌∷◌, IfErr, IfNone, IfOk, IfSome, IsFalse, IsTrue, List, length, ℕ};
@@ -130,7 +130,7 @@ fn walk_on<M: Segments, T: Turn, const N: usize>(
     first: &mut PointerRun,
     counts: &mut Report,
 ) -> Result<bool, Stopped<T::Stop>>
-    requires room { (length stack.old.items < N) × (N ≤ 257) }
+    requires fits { (length stack.old.items < N) × (N ≤ 257) }
     requires walking { let m = M.segments message.now in
         IsWalking m limits.now (stack.old.items ++ first.old ∷ []) counts.old (T.knows turn.old m) }
     ensures done { let m = M.segments message.now in IfOk result (λ done. IsTrue done →
@@ -204,7 +204,7 @@ fn turn_other<M: Segments, T: Turn, const N: usize>(
     run: &mut PointerRun,
     report: &mut Report,
 ) -> Result<Next, Stopped<T::Stop>>
-    requires room { (length stack.old.items < N) × (N ≤ 257) }
+    requires fits { (length stack.old.items < N) × (N ≤ 257) }
     requires walking { let m = M.segments message.now in
         IsWalking m limits.now (stack.old.items ++ run.old ∷ []) report.old (T.knows turn.old m) }
     ensures { let m = M.segments message.now in
@@ -231,7 +231,7 @@ fn turn_followed<M: Segments, T: Turn, const N: usize>(
     run: &mut PointerRun,
     report: &mut Report,
 ) -> Result<Next, Stopped<T::Stop>>
-    requires room { (length stack.old.items < N) × (N ≤ 257) }
+    requires fits { (length stack.old.items < N) × (N ≤ 257) }
     requires walking { let m = M.segments message.now in
         IsWalking m limits.now (stack.old.items ++ run.old ∷ []) report.old (T.knows turn.old m) }
     ensures { let m = M.segments message.now in
@@ -319,10 +319,10 @@ fn go_on<const N: usize>(
     run: &mut PointerRun,
     below: Option<PointerRun>,
 ) -> Next
-    requires room { (length stack.old.items < N) × (N ≤ 257) }
+    requires fits { (length stack.old.items < N) × (N ≤ 257) }
     requires inside { (m : List (List ℕ)) × IsMessage m × RunIn m run.old }
     ensures runs { Continues result stack.old.items run.old below stack.new.items run.new }
-    ensures room { LeavesRoom result (length stack.new.items) N }
+    ensures fits { LeavesCapacity result (length stack.new.items) N }
 {
     match below {
         Some(below) => {
@@ -353,7 +353,7 @@ fn go_on<const N: usize>(
 #[inline(always)]
 fn push_kept<const N: usize>(stack: &mut Stack<N>, more: bool, run: PointerRun)
     requires few { N ≤ 257 }
-    requires room { length (stack.old.items ++ option_to_list (kept more run)) ≤ N }
+    requires fits { length (stack.old.items ++ option_to_list (kept more run)) ≤ N }
     ensures { stack.new.items ≡ stack.old.items ++ option_to_list (kept more run) }
 {
     if more {

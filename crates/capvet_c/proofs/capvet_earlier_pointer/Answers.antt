@@ -3,8 +3,8 @@ use Rattle.std.proofs.Common.{ap, ◌∙◌}
 use Rattle.cap_calls.specs.AnswerNumbers.{answer_number}
 use Rattle.capvet_c.proofs.capvet_earlier_pointer.Goals as goal
 
-pub returns-clause-tells : goal.returns-clause-tells
-returns-clause-tells c = (c.earlier_pointer.result, c.earlier_pointer.ensures.tells, c.number.ensures)
+pub returns-clause-reports : goal.returns-clause-reports
+returns-clause-reports c = (c.earlier_pointer.result, c.earlier_pointer.ensures.reports, c.number.ensures)
 
 pub returns-clause-only : goal.returns-clause-only
 returns-clause-only c = λ a r h.

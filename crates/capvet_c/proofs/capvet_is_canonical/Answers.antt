@@ -6,5 +6,5 @@ use Rattle.capvet_c.proofs.capvet_is_canonical.Goals as goal
 pub returns-clause-only : goal.returns-clause-only
 returns-clause-only c = λ a r h. let same = c.is_canonical.ensures.only a r h in (c.number.ensures ∙ ap answer_number same.0, same.1)
 
-pub returns-clause-tells : goal.returns-clause-tells
-returns-clause-tells c = (c.is_canonical.result, c.is_canonical.ensures.tells, c.number.ensures)
+pub returns-clause-reports : goal.returns-clause-reports
+returns-clause-reports c = (c.is_canonical.result, c.is_canonical.ensures.reports, c.number.ensures)

@@ -6,5 +6,5 @@ use Rattle.capvet_c.proofs.capvet_pack.Goals as goal
 pub returns-clause-only : goal.returns-clause-only
 returns-clause-only c = λ a n new h. let same = c.pack.ensures.only a n new h in (c.number.ensures ∙ ap answer_number same.0, same.1, same.2)
 
-pub returns-clause-tells : goal.returns-clause-tells
-returns-clause-tells c = (c.pack.result, c.pack.ensures.tells, c.number.ensures)
+pub returns-clause-reports : goal.returns-clause-reports
+returns-clause-reports c = (c.pack.result, c.pack.ensures.reports, c.number.ensures)

@@ -3,8 +3,8 @@ use Rattle.std.proofs.Common.{ap, ◌∙◌}
 use Rattle.cap_calls.specs.AnswerNumbers.{answer_number}
 use Rattle.capvet_c.proofs.capvet_pointer_path.Goals as goal
 
-pub returns-clause-tells : goal.returns-clause-tells
-returns-clause-tells c = (c.pointer_path.result, c.pointer_path.ensures.tells, c.number.ensures)
+pub returns-clause-reports : goal.returns-clause-reports
+returns-clause-reports c = (c.pointer_path.result, c.pointer_path.ensures.reports, c.number.ensures)
 
 pub returns-clause-only : goal.returns-clause-only
 returns-clause-only c = λ a n new r h.

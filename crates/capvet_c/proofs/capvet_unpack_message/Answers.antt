@@ -8,5 +8,5 @@ returns-clause-only c = λ u h.
     let same = c.unpack_message.ensures.only u h in
     (c.number.ensures ∙ ap answer_number same.0, same.1)
 
-pub returns-clause-tells : goal.returns-clause-tells
-returns-clause-tells c = (c.unpack_message.result, c.unpack_message.ensures.tells, c.number.ensures)
+pub returns-clause-reports : goal.returns-clause-reports
+returns-clause-reports c = (c.unpack_message.result, c.unpack_message.ensures.reports, c.number.ensures)

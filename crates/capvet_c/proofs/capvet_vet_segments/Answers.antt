@@ -6,5 +6,5 @@ use Rattle.capvet_c.proofs.capvet_vet_segments.Goals as goal
 pub returns-clause-only : goal.returns-clause-only
 returns-clause-only c = λ a r h. let same = c.vet_segments.ensures.only a r h in (c.number.ensures ∙ ap answer_number same.0, same.1)
 
-pub returns-clause-tells : goal.returns-clause-tells
-returns-clause-tells c = (c.vet_segments.result, c.vet_segments.ensures.tells, c.number.ensures)
+pub returns-clause-reports : goal.returns-clause-reports
+returns-clause-reports c = (c.vet_segments.result, c.vet_segments.ensures.reports, c.number.ensures)

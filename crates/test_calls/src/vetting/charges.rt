@@ -154,9 +154,14 @@ static CHARGES: [Row; 18] = [
 
 #[test]
 fn pointers_are_charged_and_levels_counted(rt: HostRuntime) -> Result<(), Fail> {
-    for (spelled, words, depth, path, wanted, left) in &CHARGES {
-        let given = charged(&message(rt.alloc(), *spelled)?, *words, *depth, *path);
-        same_of(&rt, &(spelled, words, depth, path), given, (*wanted, *left));
+    for (encoded, words, depth, path, expected, left) in &CHARGES {
+        let given = charged(&message(rt.alloc(), *encoded)?, *words, *depth, *path);
+        same_of(
+            &rt,
+            &(encoded, words, depth, path),
+            given,
+            (*expected, *left),
+        );
     }
     Ok(())
 }
@@ -243,8 +248,8 @@ static VALUES: [(&[u64], &[u64], &[u64]); 9] = [
 
 #[test]
 fn values_of_each_size(rt: HostRuntime) -> Result<(), Fail> {
-    for (spelled, elements, list_words) in &VALUES {
-        let held = message(rt.alloc(), &[*spelled])?;
+    for (encoded, elements, list_words) in &VALUES {
+        let held = message(rt.alloc(), &[*encoded])?;
         let view = root_of(&held)?;
         shows_elements(&rt, &view, *elements);
         shows_words(&rt, &view, *list_words);
@@ -269,12 +274,12 @@ static DATA: [(u32, (Option<u64>, Option<u8>, Option<bool>)); 11] = [
 
 #[test]
 fn the_data_of_a_struct(rt: HostRuntime) -> Result<(), Fail> {
-    let spelled = &[0x0000000002000000, 0x0102030405060708, 0x80];
-    let held = message(rt.alloc(), &[spelled])?;
+    let encoded = &[0x0000000002000000, 0x0102030405060708, 0x80];
+    let held = message(rt.alloc(), &[encoded])?;
     let view = root_of(&held)?;
-    for (i, wanted) in &DATA {
+    for (i, expected) in &DATA {
         let given = (view.data_word(*i), view.byte(*i), view.bit(*i));
-        same_of(&rt, i, given, *wanted);
+        same_of(&rt, i, given, *expected);
     }
     same(&rt, (view.scalar(0), view.count()), (None, None));
     Ok(())

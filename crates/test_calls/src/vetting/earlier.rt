@@ -74,8 +74,8 @@ static ROWS: [Row; 6] = [
 fn earlier_pointers(rt: HostRuntime) -> Result<(), Fail> {
     let limits = Limits::new(100, 10).ok_or("no limits")?;
     let mut path = NamedPath::new();
-    for (spelled, number, expected) in &ROWS {
-        let message = message(rt.alloc(), *spelled)?;
+    for (encoded, number, expected) in &ROWS {
+        let message = message(rt.alloc(), *encoded)?;
         let named = expected.map(|(segment, word, pointers, _)| EarlierPointer {
             segment,
             word,
@@ -83,19 +83,19 @@ fn earlier_pointers(rt: HostRuntime) -> Result<(), Fail> {
         });
         same_of(
             &rt,
-            spelled,
+            encoded,
             earlier_pointer(&message, limits, *number),
             named,
         );
         same_of(
             &rt,
-            spelled,
+            encoded,
             path.find_earlier(&message, limits, *number),
             named,
         );
         same_of(
             &rt,
-            spelled,
+            encoded,
             path.steps(),
             expected.map(|(_, _, _, steps)| steps),
         );

@@ -74,8 +74,8 @@ fn nodes_of_a_known_message(rt: HostRuntime) -> Result<(), Fail> {
     let Ok(vetted) = vet(&elements, limits) else {
         return Err("refused".into());
     };
-    for (path, wanted) in &NODES {
-        same_of(&rt, path, at(&rt, &vetted, *path), *wanted);
+    for (path, expected) in &NODES {
+        same_of(&rt, path, at(&rt, &vetted, *path), *expected);
     }
     Ok(())
 }

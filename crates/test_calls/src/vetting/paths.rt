@@ -67,12 +67,12 @@ fn pointers_of<M: Segments>(message: &M, limits: Limits) -> Result<u64, Fail> {
 #[test]
 fn paths_of_refusals(rt: HostRuntime) -> Result<(), Fail> {
     let limits = Limits::new(100, 10).ok_or("no limits")?;
-    for (spelled, path) in &ROWS {
-        let message = message(rt.alloc(), *spelled)?;
+    for (encoded, path) in &ROWS {
+        let message = message(rt.alloc(), *encoded)?;
         let number = pointers_of(&message, limits)?;
         let mut steps = [Step::Item(9); 4];
         let count = path_of_pointer(&message, limits, number, &mut steps);
-        same_of(&rt, spelled, count, Some(path.len()));
+        same_of(&rt, encoded, count, Some(path.len()));
         assert!(&rt; steps.starts_with(*path));
         same(&rt, steps.get(path.len()).copied(), Some(Step::Item(9)));
     }

@@ -78,11 +78,11 @@ fn exclusive(it: &mut Input, verdict: &Result<Report, VetError>) {
             Err(ExclusiveError::BufferTooSmall {
                 required, report, ..
             }),
-            Ok(wanted),
+            Ok(expected),
         ) => {
-            assert!(*required > marks.len() && report == wanted);
+            assert!(*required > marks.len() && report == expected);
         }
-        (Ok(report), Ok(wanted)) => assert!(report == wanted && by_alloc.as_ref() == Ok(report)),
+        (Ok(report), Ok(expected)) => assert!(report == expected && by_alloc.as_ref() == Ok(report)),
         (error, _) => assert_eq!(error, &by_alloc),
     }
     assert!(verdict.is_ok() || by_alloc.is_err());
@@ -169,7 +169,7 @@ fn streams(it: &mut Input) {
     if limits.has_no_table() {
         return;
     }
-    let wanted = lines(bytes, limits);
+    let expected = lines(bytes, limits);
     let got = read(capvet::read_messages(
         Pieces {
             input: it,
@@ -177,7 +177,7 @@ fn streams(it: &mut Input) {
         },
         limits,
     ));
-    assert_eq!(wanted, got);
+    assert_eq!(expected, got);
     let packed = match capvet::pack(&bytes[..bytes.len() / 8 * 8]) {
         Ok(packed) => packed,
         Err(error) => panic!("{}", error),
@@ -193,7 +193,7 @@ fn streams(it: &mut Input) {
     let is_whole = |it: &&Result<Report, VetError>| {
         !matches!(it, Err(VetError::Frame(FrameError::Truncated { .. })))
     };
-    assert!(wanted
+    assert!(expected
         .iter()
         .filter(is_whole)
         .eq(got.iter().filter(is_whole)));

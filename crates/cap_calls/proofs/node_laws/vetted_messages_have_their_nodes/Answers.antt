@@ -9,4 +9,4 @@ returns-clause-get c = vetted_got
 
 pub returns-clause-get_range : goal.returns-clause-get_range
 returns-clause-get_range c = λ l bs r call off are vets.
-    vetted_range l bs call.steps call.varying call.before call.returned call.count call.after r call.report off are vets call.tells
+    vetted_range l bs call.steps call.varying call.before call.returned call.count call.after r call.report off are vets call.reports

@@ -3,7 +3,7 @@ use Rattle.cap_spec.proofs.Bytes.Plain.{plain_back}
 use Rattle.cap_spec.proofs.ProofNames.{List, [], ap, arith, drop, drop_at, inl, length, length-append, length-drop, refl}
 use Rattle.cap_spec.proofs.ProofNames.{rules, slice_index, subst, sym, take, take_at, ℕ, ◌++◌, ◌+◌, ◌∙◌, ◌∷◌, ◌≡◌}
 use Rattle.cap_spec.proofs.ProofNames.{plain_words, word_bytes, IsWord}
-use Rattle.cap_words.proofs.AtHand.{bytes_small}
+use Rattle.cap_words.proofs.Buffered.{bytes_small}
 use Rattle.cap_calls.specs.PackedStreams.{GivesWords}
 use Rattle.cap_calls.proofs.GivenWords.{gives_none}
 use Rattle.cap_calls.proofs.PackedStreams.{leads_head, no_head, one_run}

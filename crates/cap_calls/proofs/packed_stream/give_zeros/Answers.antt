@@ -2,7 +2,7 @@
 use Rattle.std.proofs.Common.{List, ap, arith, drop, drop_at, inr, length, length-append, length-drop, length-take-le}
 use Rattle.std.proofs.Common.{refl, replicate, subst, sym, take, take_at, ℕ, ◌*◌, ◌++◌, ◌-◌, ◌∙◌, ◌≡◌, ◌≤◌}
 use Rattle.cap_spec.specs.Plain.{plain_words}
-use Rattle.cap_pack.proofs.AtHand.{zeros_are_words}
+use Rattle.cap_pack.proofs.BufferedBytes.{zeros_are_words}
 use Rattle.cap_calls.specs.PackedStreams.{GivesWords}
 use Rattle.cap_calls.proofs.PackedStreams.{leads_zeros}
 use Rattle.cap_calls.proofs.packed_stream.give_zeros.Goals as goal

@@ -1,6 +1,6 @@
 -- A whole head has a word.
 use Rattle.std.proofs.Common.{[], ap₂, arith, refl, ℕ, ◌∙◌, ◌∷◌, ◌≡◌}
-use Rattle.cap_words.proofs.AtHand.{bytes_small}
+use Rattle.cap_words.proofs.Buffered.{bytes_small}
 use Rattle.cap_calls.specs.PackedStreams.{words_to_come}
 use Rattle.cap_calls.proofs.PackedStreams.{leads_head, no_head, some_come}
 use Rattle.cap_calls.proofs.packed_stream.has_word.Goals as goal

@@ -1,4 +1,4 @@
-use Rattle.cap_words.proofs.AtHand.{bytes_small}
+use Rattle.cap_words.proofs.Buffered.{bytes_small}
 use Rattle.cap_canon.proofs.appended.read_bytes.Goals as goal
 
 pub returns : goal.returns

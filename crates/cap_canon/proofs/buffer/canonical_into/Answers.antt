@@ -1,19 +1,19 @@
--- No room, or the copy at the start of the buffer.
+-- A buffer that is too small, or the copy at the start of the buffer.
 use Rattle.cap_spec.proofs.Lemmas.{length_plain, layout_charged}
 use Rattle.cap_spec.proofs.ProofNames.{Ok, ap, arith, drop, length, refl, sym, ℕ, ◌*◌, ◌++◌, ◌∙◌, ◌≡◌, plain_text}
 use Rattle.cap_vet.specs.Vettings.{message_of}
-use Rattle.cap_canon.specs.CopyRooms.{written}
+use Rattle.cap_canon.specs.CopyBuffers.{written}
 use Rattle.cap_canon.proofs.Afters.{front_and_after}
-use Rattle.cap_canon.proofs.Buffers.{one_room}
+use Rattle.cap_canon.proofs.Buffers.{one_buffer}
 use Rattle.cap_canon.proofs.Copies.{copy_length, has_tree}
 use Rattle.cap_canon.proofs.buffer.canonical_into.Goals as goal
 
-pub returns-in-Err-clause-tells : goal.returns-in-Err-clause-tells
-returns-in-Err-clause-tells g c = c.in-Err.ensures.err c.args.out.now refl
+pub returns-in-Err-clause-reports : goal.returns-in-Err-clause-reports
+returns-in-Err-clause-reports g c = c.in-Err.ensures.err c.args.out.now refl
 
 pub returns-in-Err-clause-only : goal.returns-in-Err-clause-only
-returns-in-Err-clause-only g c = λ told new h.
-    one_room (g.M.Segments.segments (message_of c.args.v.now)) c.args.out.now _ told _ new (returns-in-Err-clause-tells g c) h
+returns-in-Err-clause-only g c = λ reported new h.
+    one_buffer (g.M.Segments.segments (message_of c.args.v.now)) c.args.out.now _ reported _ new (returns-in-Err-clause-reports g c) h
 
 pub fill_front-words-requires-clause-tree : goal.fill_front-words-requires-clause-tree
 fill_front-words-requires-clause-tree g c = let k = c.report.ensures.accepted in rw c.message.ensures.value (has_tree _ c.report.result k.0 k.1)
@@ -31,8 +31,8 @@ overflow_mul-result g c =
     let counts = rw c.message.ensures.value at c.fill_front-words.ensures.count in
     omega (arith, counts k.0 _ _ k.1.within.denotes, layout_charged m 0 0 k.0 _ _ k.1.within.denotes, k.1.within.few_words)
 
-pub returns-clause-tells : goal.returns-clause-tells
-returns-clause-tells g c =
+pub returns-clause-reports : goal.returns-clause-reports
+returns-clause-reports g c =
     let h = c.in_default.ensures.ok in
     let words = h.0 in
     let denotes = h.1.denotes in
@@ -49,5 +49,5 @@ returns-clause-tells g c =
     ∙ ap (λ (k : ℕ). plain_text words ++ drop k c.args.out.now) (sym long)))
 
 pub returns-clause-only : goal.returns-clause-only
-returns-clause-only g c = λ told new h.
-    one_room (g.M.Segments.segments (message_of c.args.v.now)) c.args.out.now _ told _ new (returns-clause-tells g c) h
+returns-clause-only g c = λ reported new h.
+    one_buffer (g.M.Segments.segments (message_of c.args.v.now)) c.args.out.now _ reported _ new (returns-clause-reports g c) h

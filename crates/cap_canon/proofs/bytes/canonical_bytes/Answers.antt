@@ -12,8 +12,8 @@ pub returns-in-Ok-clause-ok : goal.returns-in-Ok-clause-ok
 returns-in-Ok-clause-ok g c =
     let m = g.M.Segments.segments (message_of c.args.v.now) in
     let bytes = c.fill_over.new.buffer.items in
-    let tells = rw c.new-bytes.ensures.items at c.in-Ok.ensures.tells in
-    let (words, h, text, count) = new_text m _ bytes tells in
+    let reports = rw c.new-bytes.ensures.items at c.in-Ok.ensures.reports in
+    let (words, h, text, count) = new_text m _ bytes reports in
     let all : take c.in-Ok.field-0 bytes ≡ bytes = take_all c.in-Ok.field-0 bytes (omega (arith, count)) in
     let made : HasCopy m (plain_words bytes) = subst (λ xs. HasCopy m (plain_words xs)) all c.in-Ok.ensures.ok in
     (made, text ∙ ap plain_text (one_copy m words (plain_words bytes) h made))
@@ -27,15 +27,15 @@ returns-in-Ok-clause-capacity g c = search (rules, new_text, length_plain)
 pub returns-in-Ok-clause-copy : goal.returns-in-Ok-clause-copy
 returns-in-Ok-clause-copy g c = λ words h.
     let m = g.M.Segments.segments (message_of c.args.v.now) in
-    let tells = rw c.new-bytes.ensures.items at c.in-Ok.ensures.tells in
-    let (other, k, text, count) = new_text m _ c.fill_over.new.buffer.items tells in
+    let reports = rw c.new-bytes.ensures.items at c.in-Ok.ensures.reports in
+    let (other, k, text, count) = new_text m _ c.fill_over.new.buffer.items reports in
     text ∙ ap plain_text (one_copy m other words k h)
 
 pub returns-in-Ok-clause-first_cap : goal.returns-in-Ok-clause-first_cap
 returns-in-Ok-clause-first_cap g c = λ s w f.
     let m = g.M.Segments.segments (message_of c.args.v.now) in
-    let tells = rw c.new-bytes.ensures.items at c.in-Ok.ensures.tells in
-    let (words, h, text, count) = new_text m _ c.fill_over.new.buffer.items tells in
+    let reports = rw c.new-bytes.ensures.items at c.in-Ok.ensures.reports in
+    let (words, h, text, count) = new_text m _ c.fill_over.new.buffer.items reports in
     absurd (cap_no_copy m s w words f h)
 
 first : (a b s w : ℕ) → HasCapability a b ≡ HasCapability s w → a ≡ s
@@ -50,8 +50,8 @@ returns-in-Err-clause-cap g c = search (rules, new_fault, same_fault, second, fi
 pub returns-in-Err-clause-memory : goal.returns-in-Err-clause-memory
 returns-in-Err-clause-memory g c = λ e s w f.
     let m = g.M.Segments.segments (message_of c.args.v.now) in
-    let tells = rw c.new-bytes.ensures.items at c.in-Err.ensures.tells in
-    elim (new_fault m _ c.fill_over.new.buffer.items tells) [
+    let reports = rw c.new-bytes.ensures.items at c.in-Err.ensures.reports in
+    elim (new_fault m _ c.fill_over.new.buffer.items reports) [
       | inl (s', w', f', k) ↦ absurd (cc)
       | inr (words, h, k) ↦ absurd (cap_no_copy m s w words f h)
     ]
@@ -59,8 +59,8 @@ returns-in-Err-clause-memory g c = λ e s w f.
 pub returns-in-Err-clause-copy : goal.returns-in-Err-clause-copy
 returns-in-Err-clause-copy g c = λ words h.
     let m = g.M.Segments.segments (message_of c.args.v.now) in
-    let tells = rw c.new-bytes.ensures.items at c.in-Err.ensures.tells in
-    elim (new_fault m _ c.fill_over.new.buffer.items tells) [
+    let reports = rw c.new-bytes.ensures.items at c.in-Err.ensures.reports in
+    elim (new_fault m _ c.fill_over.new.buffer.items reports) [
       | inl (s', w', f, k) ↦ absurd (cap_no_copy m s' w' words f h)
       | inr (words', h', k) ↦ k
     ]
@@ -68,8 +68,8 @@ returns-in-Err-clause-copy g c = λ words h.
 pub returns-in-Err-clause-first_cap : goal.returns-in-Err-clause-first_cap
 returns-in-Err-clause-first_cap g c = λ s w f.
     let m = g.M.Segments.segments (message_of c.args.v.now) in
-    let tells = rw c.new-bytes.ensures.items at c.in-Err.ensures.tells in
-    elim (new_fault m _ c.fill_over.new.buffer.items tells) [
+    let reports = rw c.new-bytes.ensures.items at c.in-Err.ensures.reports in
+    elim (new_fault m _ c.fill_over.new.buffer.items reports) [
       | inl (s', w', f', k) ↦
           let same = one_first_cap m s' w' s w f' f in
           ap Err (k ∙ ap₂ (λ x y. HasCapability x y) same.0 same.1)

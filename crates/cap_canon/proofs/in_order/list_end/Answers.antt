@@ -23,5 +23,5 @@ returns-clause-none g c =
     let a = c.args in
     let some : 0 < code a.word = omega (arith, c.code-code.ensures, c.if-code-eq0.false) in
     let few : code a.word < 6 = omega (arith, c.code-code.ensures, c.if-code-eq6.false, c.if-code-eq7.false) in
-    inr (values_differ (g.M.Segments.segments a.message.now) a.w a.word a.end a.cost c.requires.leads c.requires.kind some few (λ stand.
-    let h : false ≡ true = sym c.if-ends_with_values.false ∙ c.ends_with_values.ensures.1 (rw (c.code-code.ensures, c.list_size.ensures) stand) in cc h))
+    inr (values_differ (g.M.Segments.segments a.message.now) a.w a.word a.end a.cost c.requires.leads c.requires.kind some few (λ lie.
+    let h : false ≡ true = sym c.if-ends_with_values.false ∙ c.ends_with_values.ensures.1 (rw (c.code-code.ensures, c.list_size.ensures) lie) in cc h))

@@ -16,8 +16,8 @@ copy_within-requires-clause-most g c =
     let same = one_tree m 0 0 k.0 t r.charge r.depth x d k.1.within.denotes f in
     omega (arith, layout_charged m 0 0 t x d f, same.charge))
 
-pub returns-in_default-clause-tells : goal.returns-in_default-clause-tells
-returns-in_default-clause-tells g c =
+pub returns-in_default-clause-reports : goal.returns-in_default-clause-reports
+returns-in_default-clause-reports g c =
     let m = g.M.Segments.segments (message_of c.args.v.now) in
     let r = c.report-report.result in
     let k = c.report-report.ensures.accepted in
@@ -25,8 +25,8 @@ returns-in_default-clause-tells g c =
     let words = layout (trim k.0) in
     no_memory words (has_copy m r k.0 k.1 none) (omega (arith, ap length c.requires.empty, length_plain words)) refl c.requires.empty
 
-pub returns-clause-tells : goal.returns-clause-tells
-returns-clause-tells g c =
+pub returns-clause-reports : goal.returns-clause-reports
+returns-clause-reports g c =
     let m = g.M.Segments.segments (message_of c.args.v.now) in
     let r = c.report-report.result in
     let k = c.report-report.ensures.accepted in
@@ -47,9 +47,9 @@ returns-clause-ok g c =
     let none = ap (λ q. q.first_cap) c.report-report.ensures.value ∙ c.requires.no_cap in
     let words = layout (trim k.0) in
     let new = c.in-Ok.bytes.items in
-    let spells = rw c.message.ensures.value at c.in-Ok.ensures.words in
+    let encodes = rw c.message.ensures.value at c.in-Ok.ensures.words in
     let same : plain_words (take c.len.result new) ≡ words = ap plain_words (take_all c.len.result new (omega (arith, c.len.ensures)))
-    ∙ spells k.0 _ _ k.1.within.denotes in
+    ∙ encodes k.0 _ _ k.1.within.denotes in
     subst (HasCopy m) (sym same) (has_copy m r k.0 k.1 none)
 
 pub returns-clause-few : goal.returns-clause-few

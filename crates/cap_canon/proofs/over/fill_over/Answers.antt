@@ -3,15 +3,15 @@ use Rattle.cap_spec.proofs.Canonical.Sizes.{layout_charged}
 use Rattle.cap_spec.proofs.ProofNames.{Ok, ap, arith, length, subst, sym, take, ◌*◌, ◌∙◌, ◌≡◌, ◌≤◌, HasCopy}
 use Rattle.cap_spec.proofs.ProofNames.{plain_words, rules}
 use Rattle.cap_vet.specs.Vettings.{message_of}
-use Rattle.cap_canon.specs.CopyOvers.{TellsOver}
+use Rattle.cap_canon.specs.CopyOvers.{ReportsOver}
 use Rattle.cap_canon.proofs.Copies.{has_tree}
 use Rattle.cap_canon.proofs.FirstWords.{written_back}
-use Rattle.cap_canon.proofs.Overs.{copy_ok, enough_for, grows, tells_err, tells_ok, within_ok}
+use Rattle.cap_canon.proofs.Overs.{copy_ok, enough_for, grows, reports_err, reports_ok, within_ok}
 use Rattle.cap_canon.proofs.over.fill_over.Goals as goal
 
-pub returns-in-Err-clause-tells : goal.returns-in-Err-clause-tells
-returns-in-Err-clause-tells g c =
-    tells_err (g.M.Segments.segments (message_of c.args.v.now)) c.args.buffer.now.items c.make_enough.new.buffer.items c.in-Err.fault c.in-Err.ensures.makes
+pub returns-in-Err-clause-reports : goal.returns-in-Err-clause-reports
+returns-in-Err-clause-reports g c =
+    reports_err (g.M.Segments.segments (message_of c.args.v.now)) c.args.buffer.now.items c.make_enough.new.buffer.items c.in-Err.fault c.in-Err.ensures.makes
 
 pub fill_front-words-requires-clause-tree : goal.fill_front-words-requires-clause-tree
 fill_front-words-requires-clause-tree g c = let k = c.report.ensures.accepted in rw c.message.ensures.value (has_tree _ c.report.result k.0 k.1)
@@ -26,8 +26,8 @@ fill_front-words-requires-clause-length g c =
 pub overflow_mul-result : goal.overflow_mul-result
 overflow_mul-result g c = search (rules, layout_charged)
 
-pub returns-clause-tells : goal.returns-clause-tells
-returns-clause-tells g c =
+pub returns-clause-reports : goal.returns-clause-reports
+returns-clause-reports g c =
     let m = g.M.Segments.segments (message_of c.args.v.now) in
     let old = c.args.buffer.now.items in
     let mid = c.make_enough.new.buffer.items in
@@ -38,7 +38,7 @@ returns-clause-tells g c =
     let texts = rw c.message.ensures.value at c.fill_front-words.ensures.text in
     let same : length new ≡ length mid = c.fill_front-words.auto.out ∙ ap length c.as_mut_slice.ensures.value in
     let back = written_back _ new mid (c.fill_front-words.auto.out ∙ c.as_mut_slice.ensures.len) in
-    subst (TellsOver m old (Ok (8 * n))) (sym back) (tells_ok m old mid new n same counts writes texts c.in_default.ensures.makes)
+    subst (ReportsOver m old (Ok (8 * n))) (sym back) (reports_ok m old mid new n same counts writes texts c.in_default.ensures.makes)
 
 pub returns-clause-ok : goal.returns-clause-ok
 returns-clause-ok g c =

@@ -4,7 +4,7 @@ use Rattle.cap_spec.proofs.Trees.OneTree.{one_tree}
 use Rattle.cap_canon.specs.CanonNames.{first_place, below, own_size, IsWalking, longest_copy, work_left, CopyRun}
 use Rattle.cap_canon.specs.StillToLay.{AreOwed, runs_left}
 use Rattle.cap_canon.specs.declared.objects.Object.TheVariants as object
-use Rattle.cap_canon.proofs.Entering.{entered, room_above, work_more}
+use Rattle.cap_canon.proofs.Entering.{entered, capacity_above, work_more}
 use Rattle.cap_canon.proofs.Lengths.{own_within}
 use Rattle.cap_canon.proofs.Owing.{next_work}
 use Rattle.cap_canon.proofs.Runs.{has_rest}
@@ -81,9 +81,9 @@ go_on-requires-in-walk g c =
     c.object_at-object.ensures in
     let runs = w.stack.items ++ option_to_list r.0 in
     let owed = c.run_of-below.ensures.owed m h.met.d w.run.segment w.run.at c.args.depth (length runs) h.at.tree h.met.is h.met.levels in
-    let room = room_above _ m c.args.depth (below w.end h.at.tree) w.stack.items r.0 c.run_of-below.result c.requires.capacity.0
+    let capacity = capacity_above _ m c.args.depth (below w.end h.at.tree) w.stack.items r.0 c.run_of-below.result c.requires.capacity.0
     c.run_of-below.ensures.full owed in
-    (search rules, (c.requires.capacity.1, (room, (w.invariant.at.full, w.invariant.at.short))))
+    (search rules, (c.requires.capacity.1, (capacity, (w.invariant.at.full, w.invariant.at.short))))
 
 pub returns-then-not-go_on-2-clause-done : goal.returns-then-not-go_on-2-clause-done
 returns-then-not-go_on-2-clause-done g c =

@@ -1,6 +1,6 @@
 -- The bytes of those words.
 use Rattle.cap_spec.proofs.ProofNames.{arith, length, ◌*◌, ◌≤◌, layout, trim}
-use Rattle.cap_words.proofs.AtHand.{bytes_small}
+use Rattle.cap_words.proofs.Buffered.{bytes_small}
 use Rattle.cap_canon.proofs.Overs.{first_text}
 use Rattle.cap_canon.proofs.word_bytes.fill_front.Goals as goal
 

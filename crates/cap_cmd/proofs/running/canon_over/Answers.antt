@@ -17,12 +17,12 @@ returns g c =
           empty = λ ws. new.holds_nothing first ws ∙ ap (λ o. append_known o (plain_text ws)) new.taken;
           taken = new.taken;
           closed = new.closed;
-          spent = new.spent;
+          broken = new.broken;
           failures = new.failures;
         };
         puts = c.run_canon_with-answer.ensures;
         gives = subst (GivesOutput g.O.ByteOut _ last) (sym c.into_inner.ensures)
-            (record { taken = new.shows_taken last; spent = new.when_spent last; failures = new.shows_failures last });
+            (record { taken = new.shows_taken last; broken = new.when_broken last; failures = new.shows_failures last });
       };
-      reported = c.report_run.ensures;
+      exited = c.report_run.ensures;
     }

@@ -5,7 +5,7 @@ returns-then-exclusive g c = rw c.if-exclusive.true (record {
   last = c.run_explain_exclusive-answer.new.source;
   answer = c.run_explain_exclusive-answer.result;
   does = c.run_explain_exclusive-answer.ensures;
-  reported = c.report_explained.ensures;
+  exited = c.report_explained.ensures;
 })
 
 pub returns-else-exclusive : goal.returns-else-exclusive
@@ -13,5 +13,5 @@ returns-else-exclusive g c = rw c.if-exclusive.false (record {
   last = c.run_explain-answer.new.source;
   answer = c.run_explain-answer.result;
   does = c.run_explain-answer.ensures;
-  reported = c.report_explained-else-exclusive.ensures;
+  exited = c.report_explained-else-exclusive.ensures;
 })

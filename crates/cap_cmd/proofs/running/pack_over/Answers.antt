@@ -17,12 +17,12 @@ returns g c =
           empty = new.empty;
           taken = new.taken;
           closed = new.closed;
-          spent = new.spent;
+          broken = new.broken;
           failures = new.shows_failures first ∙ ap (λ o. g.O.ByteOut.failures o) new.output;
         };
         puts = c.run_pack-answer.ensures;
         gives = subst (GivesOutput g.O.ByteOut _ last) (sym c.into_inner.ensures)
-            (record { taken = new.shows_taken last; spent = new.when_spent last; failures = new.shows_failures last });
+            (record { taken = new.shows_taken last; broken = new.when_broken last; failures = new.shows_failures last });
       };
-      reported = c.report_transcode.ensures;
+      exited = c.report_transcode.ensures;
     }

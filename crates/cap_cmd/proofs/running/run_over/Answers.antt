@@ -5,7 +5,7 @@ returns-in-Segments g c = rw c.in-Segments.is (record {
   last = c.run_segments-answer.new.source;
   answer = c.run_segments-answer.result;
   does = c.run_segments-answer.ensures;
-  reported = c.report_run.ensures;
+  exited = c.report_run.ensures;
 })
 
 pub returns-in-Vet : goal.returns-in-Vet
@@ -21,7 +21,7 @@ returns-in-Filter g c = rw c.in-Filter.is (
     last = c.run_filter-answer.new.source;
     answer = c.run_filter-answer.result;
     does = c.run_filter-answer.ensures;
-    reported = c.report_run-in-Filter.ensures;
+    exited = c.report_run-in-Filter.ensures;
   },
 )
 
@@ -30,7 +30,7 @@ returns-in-Dump g c = rw c.in-Dump.is (record {
   last = c.run_dump_with-answer.new.source;
   answer = c.run_dump_with-answer.result;
   does = c.run_dump_with-answer.ensures;
-  reported = c.report_run-in-Dump.ensures;
+  exited = c.report_run-in-Dump.ensures;
 })
 
 pub returns-in-Get : goal.returns-in-Get
@@ -38,7 +38,7 @@ returns-in-Get g c = rw c.in-Get.is (record {
   last = c.run_get_with-answer.new.source;
   answer = c.run_get_with-answer.result;
   does = rw c.as_slice-path.ensures.value at c.run_get_with-answer.ensures;
-  reported = c.report_run-in-Get.ensures;
+  exited = c.report_run-in-Get.ensures;
 })
 
 pub returns-in-Check : goal.returns-in-Check
@@ -46,7 +46,7 @@ returns-in-Check g c = rw c.in-Check.is (record {
   last = c.run_check_with-answer.new.source;
   answer = c.run_check_with-answer.result;
   does = c.run_check_with-answer.ensures;
-  reported = c.report_run-in-Check.ensures;
+  exited = c.report_run-in-Check.ensures;
 })
 
 pub returns-in-Canon : goal.returns-in-Canon

@@ -5,7 +5,7 @@ returns-then-exclusive g c = rw c.if-exclusive.true (record {
   last = c.run_vet_exclusive_with-answer.new.source;
   answer = c.run_vet_exclusive_with-answer.result;
   does = c.run_vet_exclusive_with-answer.ensures;
-  reported = c.report_run.ensures;
+  exited = c.report_run.ensures;
 })
 
 pub returns-else-exclusive : goal.returns-else-exclusive
@@ -13,5 +13,5 @@ returns-else-exclusive g c = rw c.if-exclusive.false (record {
   last = c.run_vet_with-answer.new.source;
   answer = c.run_vet_with-answer.result;
   does = c.run_vet_with-answer.ensures;
-  reported = c.report_run-else-exclusive.ensures;
+  exited = c.report_run-else-exclusive.ensures;
 })

@@ -1,4 +1,4 @@
--- What is appended stands behind what was read.
+-- What is appended is after what was read.
 use Rattle.cap_spec.proofs.Bytes.Plain.{length_plain}
 use Rattle.cap_spec.proofs.ProofNames.{[], ap, arith, length, length-append, refl, ◌∙◌, plain_words}
 use Rattle.cap_frame.proofs.InOneBuffer.{appended_in, nothing_in}
@@ -26,4 +26,4 @@ returns-clause-long g c =
 
 pub returns-clause-works : goal.returns-clause-works
 returns-clause-works g c =
-    record { usable = c.requires.usable; still = c.append.ensures.spent ∙ c.requires.usable; none_failed = c.append.ensures.failures }
+    record { usable = c.requires.usable; still = c.append.ensures.broken ∙ c.requires.usable; none_failed = c.append.ensures.failures }

@@ -5,7 +5,7 @@ abbrev pub invariant-steps : goal.invariant-steps
 invariant-steps l = record {
   kept : (more : List ℕ) × (l.bytes.items ≡ l.initial.bytes.items ++ more);
   longer : vec_len l.initial.bytes ≤ vec_len l.bytes;
-  room : vec_capacity l.initial.bytes ≤ vec_capacity l.bytes;
+  fits : vec_capacity l.initial.bytes ≤ vec_capacity l.bytes;
 }
 
 abbrev pub decreases-steps : goal.decreases-steps

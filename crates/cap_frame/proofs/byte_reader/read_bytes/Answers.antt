@@ -1,4 +1,4 @@
--- Each piece reads on behind those before it.
+-- Each piece reads on after those before it.
 use Rattle.std.proofs.Common.{arith, ◌%◌, ◌*◌, ◌+◌, ◌≡◌, ◌≤◌}
 use Rattle.cap_frame.proofs.InOneBuffer.{bytes_more, bytes_stop}
 use Rattle.cap_frame.proofs.Taking.{reads_both}
@@ -9,7 +9,7 @@ pieces-preserved g c =
     let piece = c.in-Ok.ensures.ok in
     let run = c.append_run-run.ensures in
     let so_far = c.pieces.invariant.0 in
-    let whole : c.max-end.result % 8 ≡ 0 = omega (arith, so_far.whole, c.max-end.ensures, c.min.ensures, c.min-held.ensures, c.piece_behind.ensures.0) in
+    let whole : c.max-end.result % 8 ≡ 0 = omega (arith, so_far.whole, c.max-end.ensures, c.min.ensures, c.min-held.ensures, c.piece_after.ensures.0) in
     let read = bytes_more g.S.WordSource c.args.source.now c.pieces.source c.read_piece.new.source c.pieces.done c.max-end.result c.pieces.bytes.items
     c.read_piece.new.bytes.items piece.0 whole (omega (arith, c.in-Ok.ensures.within))
     piece.1 so_far piece.3 c.read_piece.ensures.reads c.in-Ok.ensures.works in (

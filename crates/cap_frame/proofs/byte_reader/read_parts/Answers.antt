@@ -1,4 +1,4 @@
--- The table and the words of the buffer behind it frame the message.
+-- The table and the words of the buffer after it frame the message.
 use Rattle.std.proofs.Common.{Err, IfSome, Ok, arith, false, length, refl, subst, sum, sym, take, ◌*◌, ◌∙◌, ◌≡◌, ◌≤◌}
 use Rattle.cap_spec.specs.Plain.{plain_words}
 use Rattle.cap_frame.specs.FrameNames.{cut, FrameFault, LeavesSizes, Stops, Takes}

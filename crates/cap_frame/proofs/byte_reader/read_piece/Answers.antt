@@ -1,4 +1,4 @@
--- The words of a piece stand behind those that were read before.
+-- The words of a piece are after those that were read before.
 use Rattle.std.proofs.Common.{arith, length, refl, ◌-◌, ◌∙◌, ◌≡◌}
 use Rattle.cap_frame.proofs.InOneBuffer.{piece_in}
 use Rattle.cap_frame.proofs.byte_reader.read_piece.Goals as goal

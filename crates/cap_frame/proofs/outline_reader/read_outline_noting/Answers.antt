@@ -1,4 +1,4 @@
--- The table and the contents behind it frame the message.
+-- The table and the contents after it frame the message.
 use Rattle.std.proofs.Common.{Err, IfSome, Ok, false, refl, subst, sym, ◌∙◌}
 use Rattle.cap_frame.specs.FrameNames.{FrameFault, LeavesSizes}
 use Rattle.cap_frame.proofs.Reading.{frame_stopped, frame_taken, no_frame}

@@ -1,6 +1,6 @@
--- The table and the contents behind it frame the message.
+-- The table and the contents after it frame the message.
 use Rattle.cap_spec.proofs.ProofNames.{Err, Ok, false, map, subst, sym, ◌∙◌, IsTable}
-use Rattle.cap_frame.proofs.Behind.{message_of}
+use Rattle.cap_frame.proofs.After.{message_of}
 use Rattle.cap_frame.proofs.Reading.{frame_stopped, frame_taken, no_frame, no_memory}
 use Rattle.cap_frame.proofs.reader.read_message.Goals as goal
 

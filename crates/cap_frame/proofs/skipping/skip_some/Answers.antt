@@ -6,13 +6,13 @@ use Rattle.cap_frame.proofs.skipping.skip_some.Goals as goal
 pub returns-then-count-gt0-clause-some : goal.returns-then-count-gt0-clause-some
 returns-then-count-gt0-clause-some g c =
     let e = c.ready-count.ensures in
-    let many = words_in c.ready-count.result c.ready-count.new.out e.room e.words.0 in
-    (omega (arith, many, c.if-count-gt0.true), omega (arith, e.room, c.ready-count.auto.out))
+    let many = words_in c.ready-count.result c.ready-count.new.out e.fits e.words.0 in
+    (omega (arith, many, c.if-count-gt0.true), omega (arith, e.fits, c.ready-count.auto.out))
 
 pub returns-then-count-gt0-clause-ok : goal.returns-then-count-gt0-clause-ok
 returns-then-count-gt0-clause-ok g c =
     let e = c.ready-count.ensures in
-    let many = words_in c.ready-count.result c.ready-count.new.out e.room e.words.0 in
+    let many = words_in c.ready-count.result c.ready-count.new.out e.fits e.words.0 in
     (plain_words (take c.ready-count.result c.ready-count.new.out), e.words.1, omega (arith, many))
 
 pub returns-then-count-gt0-clause-works : goal.returns-then-count-gt0-clause-works

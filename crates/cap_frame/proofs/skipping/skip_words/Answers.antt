@@ -10,7 +10,7 @@ words-init g c = record { few = omega arith; skipped = skipped_none g.S.WordSour
 pub words-preserved : goal.words-preserved
 words-preserved g c =
     let own = c.in-Ok.ensures.ok in
-    let long = length-take-le (8 * c.min-most.result) c.words.room (omega arith) in
+    let long = length-take-le (8 * c.min-most.result) c.words.buffer (omega arith) in
     record {
       few = omega (arith, c.in-Ok.ensures.some, long);
       skipped = skipped_more g.S.WordSource c.args.source.now c.words.source c.skip_some.new.source c.words.done c.in-Ok.count own.0

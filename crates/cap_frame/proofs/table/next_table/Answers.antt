@@ -1,7 +1,7 @@
 -- What is said after the first word, seen from before it.
 use Rattle.cap_spec.proofs.ProofNames.{Err, IfSome, List, Ok, [], arith, refl, subst, sym, true, ℕ, ◌∙◌, common_steps}
 use Rattle.cap_frame.specs.FrameNames.{limit_of, Faults, FrameFault, LeavesSizes}
-use Rattle.cap_frame.proofs.Behind.{behind_first, table_whole}
+use Rattle.cap_frame.proofs.After.{after_first, table_whole}
 use Rattle.cap_frame.proofs.Reading.{gave, next_first}
 use Rattle.cap_frame.proofs.TablesLeft.{left_inside, left_none, left_table}
 use Rattle.cap_frame.proofs.Taking.{reads_none, reads_one, usable_both}
@@ -16,7 +16,7 @@ returns-in-Ok-None-clause-next g c =
       ended = λ h. e.ended (cc);
       stays = λ h. (refl, (e.stays h).1);
       for_good = λ h. absurd (let k = (e.for_good h).0 in cc);
-      spent = λ h. absurd (let k = e.ok.usable in cc);
+      broken = λ h. absurd (let k = e.ok.usable in cc);
       reads = reads_one g.S.WordSource c.args.source.now c.next.new.self c.next.ensures.reads;
       err = tt;
     }
@@ -28,7 +28,7 @@ returns-in-Err-clause-next g c = record {
   ended = λ h. absurd (cc);
   stays = λ h. absurd (let k = (c.in-Err.ensures.stays h).0 in cc);
   for_good = grind (arith, common_steps);
-  spent = grind (arith, common_steps);
+  broken = grind (arith, common_steps);
   reads = reads_one g.S.WordSource c.args.source.now c.next.new.self c.next.ensures.reads;
   err = grind (arith, common_steps);
 }
@@ -51,7 +51,7 @@ returns-in-Err-read_sizes-clause-next g c =
     let first = c.in-Ok-Some.first in
     let f = gave g.S.WordSource old mid first c.next.result (cc) e.words e.word e.stays e.for_good e.reads e.ok in
     let new = c.read_sizes.new.source in
-    let faults = behind_first g.S.WordSource (limit_of c.args.limit) first old mid new _ (omega arith) f.takes f.usable c.in-Err-read_sizes.ensures.err in
+    let faults = after_first g.S.WordSource (limit_of c.args.limit) first old mid new _ (omega arith) f.takes f.usable c.in-Err-read_sizes.ensures.err in
     next_first g.S.WordSource (limit_of c.args.limit) old mid new first (Err _) f c.read_sizes.ensures.reads tt
     (subst (Faults g.S.WordSource (limit_of c.args.limit) old new) (sym c.frame_fault-in-Err-read_sizes.ensures) faults) (λ h. absurd (cc))
 

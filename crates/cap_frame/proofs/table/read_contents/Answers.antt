@@ -5,7 +5,7 @@ use Rattle.cap_frame.proofs.table.read_contents.Goals as goal
 
 pub segments-init : goal.segments-init
 segments-init g c = segments_start g.S.WordSource (λ v. v.items)
-    (λ v. vec_capacity v) c.args.source.now c.args.segments.now.items c.args.sizes.now c.requires.usable c.requires.rooms
+    (λ v. vec_capacity v) c.args.source.now c.args.segments.now.items c.args.sizes.now c.requires.usable c.requires.buffers
 
 pub returns-in-Err-clause-err : goal.returns-in-Err-clause-err
 returns-in-Err-clause-err g c =

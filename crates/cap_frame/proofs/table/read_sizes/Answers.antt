@@ -1,14 +1,14 @@
 -- Each word appends its halves to the sizes, as far as there are sizes to come.
 use Rattle.std.proofs.Common.{arith, ◌%◌, ◌+◌, ◌/◌, ◌<◌, ◌^◌}
 use Rattle.cap_spec.proofs.Frames.OneEnding.{makes_table}
-use Rattle.cap_frame.proofs.Tables.{table_more, table_room, table_stops}
+use Rattle.cap_frame.proofs.Tables.{table_more, table_capacity, table_stops}
 use Rattle.cap_frame.proofs.Taking.{reads_both}
 use Rattle.cap_frame.proofs.table.read_sizes.Goals as goal
 
-pub push_halves-requires-clause-room : goal.push_halves-requires-clause-room
-push_halves-requires-clause-room g c =
+pub push_halves-requires-clause-fits : goal.push_halves-requires-clause-fits
+push_halves-requires-clause-fits g c =
     let more : c.table.counter < (c.args.first % 2 ^ 32 + 1) / 2 = omega arith in
-    let room = table_room g.S.WordSource c.args.first c.table.counter c.args.source.now c.table.source c.table.sizes.items more c.table.invariant in
+    let capacity = table_capacity g.S.WordSource c.args.first c.table.counter c.args.source.now c.table.source c.table.sizes.items more c.table.invariant in
     omega arith
 
 pub returns-in-Err-clause-err : goal.returns-in-Err-clause-err

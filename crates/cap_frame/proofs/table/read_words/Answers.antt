@@ -12,7 +12,7 @@ pub words-preserved : goal.words-preserved
 words-preserved g c = record {
   far = words_more g.S.WordSource c.args.source.now c.words.source c.next_word.new.source c.words.words.items c.push_reserved.new.self.items c.words.counter
       c.in-Ok.word c.words.invariant.far c.in-Ok.ensures.ok c.next_word.ensures.reads c.in-Ok.ensures.works c.push_reserved.ensures.items;
-  room = let h = c.push_reserved.ensures.capacity in let i = c.words.invariant.room in omega arith;
+  fits = let h = c.push_reserved.ensures.capacity in let i = c.words.invariant.fits in omega arith;
 }
 
 pub returns-in-Err-clause-reads : goal.returns-in-Err-clause-reads

@@ -5,5 +5,5 @@ use Rattle.cap_frame.proofs.table.read_words.Given as goal
 abbrev pub invariant-words : goal.invariant-words
 invariant-words g l = record {
   far : WordsSoFar g.S.WordSource l.initial.source l.source l.words.items l.counter;
-  room : l.size ≤ vec_capacity l.words;
+  fits : l.size ≤ vec_capacity l.words;
 }

@@ -10,7 +10,7 @@ returns-in-Err g c =
     leaves_halts g.K.WordSink c.args.sink.now c.words.sink c.put.new.self all (drop c.words.w all) (c.word.result ∷ [])
     (drop (c.words.w + 1) all) c.in-Err.fault (rest_at all c.words.w c.word.result c.word.ensures) c.words.invariant
     (halts_of g.K.WordSink c.words.sink c.put.new.self (c.word.result ∷ []) c.put.result c.in-Err.fault c.in-Err.is c.in-Err.ensures.err c.put.ensures.device
-    c.put.ensures.memory c.put.ensures.was_spent)
+    c.put.ensures.memory c.put.ensures.was_broken)
 
 pub words-preserved : goal.words-preserved
 words-preserved g c =

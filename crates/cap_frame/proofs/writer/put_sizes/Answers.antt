@@ -11,7 +11,7 @@ returns-in-Err g c =
     leaves_halts g.K.WordSink c.args.sink.now c.table.sink c.put.new.self (paired (drop 2 (numbers_of m))) (paired (drop (2 * c.table.w + 2) (numbers_of m)))
     (c.table_word.result ∷ []) (paired (drop (2 * (c.table.w + 1) + 2) (numbers_of m))) c.in-Err.fault next c.table.invariant
     (halts_of g.K.WordSink c.table.sink c.put.new.self (c.table_word.result ∷ []) c.put.result c.in-Err.fault c.in-Err.is c.in-Err.ensures.err
-    c.put.ensures.device c.put.ensures.memory c.put.ensures.was_spent)
+    c.put.ensures.device c.put.ensures.memory c.put.ensures.was_broken)
 
 pub table-preserved : goal.table-preserved
 table-preserved g c =

@@ -11,7 +11,7 @@ returns-in-Err-clause-put g c =
     let first = c.table_word.result ∷ [] in
     let halts =
     halts_of g.K.WordSink c.args.sink.now c.put.new.self first c.put.result c.in-Err.fault c.in-Err.is c.in-Err.ensures.err c.put.ensures.device
-    c.put.ensures.memory c.put.ensures.was_spent in
+    c.put.ensures.memory c.put.ensures.was_broken in
     subst (λ (ws : List ℕ). Halts g.K.WordSink c.args.sink.now c.put.new.self ws c.in-Err.fault) (sym (frame_from m c.table_word.result c.table_word.ensures))
     (halts_before g.K.WordSink c.args.sink.now c.put.new.self first (table_rest m ++ joined m) c.in-Err.fault halts)
 

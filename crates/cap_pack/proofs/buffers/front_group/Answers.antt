@@ -17,8 +17,8 @@ returns-in-0-clause-within c =
     let front = zeros_front c.args.bytes.now _ c.zero_words.result c.requires (take_rest c.args.bytes.now 8) zero c.zero_words.ensures in
     (omega arith, omega (arith, front.most), front.within)
 
-pub returns-in-0-clause-spelled : goal.returns-in-0-clause-spelled
-returns-in-0-clause-spelled c =
+pub returns-in-0-clause-encoded : goal.returns-in-0-clause-encoded
+returns-in-0-clause-encoded c =
     let zero = tag_zero c.args.bytes.now c.word_at.result c.tag_of_word-tag.result c.word_at.ensures (omega (arith, c.word_at.type_inv))
     c.tag_of_word-tag.ensures c.in-0.is in
     (zeros_front c.args.bytes.now _ c.zero_words.result c.requires (take_rest c.args.bytes.now 8) zero c.zero_words.ensures).text
@@ -34,8 +34,8 @@ returns-in-255-clause-within c =
     let front = full_front c.args.bytes.now _ c.full_words-more.result c.requires (take_rest c.args.bytes.now 8) full c.full_words-more.ensures in
     (omega arith, omega (arith, front.most), front.within)
 
-pub returns-in-255-clause-spelled : goal.returns-in-255-clause-spelled
-returns-in-255-clause-spelled c =
+pub returns-in-255-clause-encoded : goal.returns-in-255-clause-encoded
+returns-in-255-clause-encoded c =
     let full = tag_full c.args.bytes.now c.word_at.result c.tag_of_word-tag.result c.word_at.ensures c.tag_of_word-tag.ensures c.in-255.is in
     (full_front c.args.bytes.now _ c.full_words-more.result c.requires (take_rest c.args.bytes.now 8) full c.full_words-more.ensures).text
 
@@ -47,8 +47,8 @@ returns-in_default-clause-size c =
     ∙ ap (λ w. length (filter (λ b. not (b == 0)) (word_bytes w))) c.word_at.ensures in
     (marked_front c.args.bytes.now _ c.requires (λ e. other.0 (c.word_at.ensures ∙ e)) (λ z. other.1 (ap zero_bytes c.word_at.ensures ∙ z)) count).size
 
-pub returns-in_default-clause-spelled : goal.returns-in_default-clause-spelled
-returns-in_default-clause-spelled c =
+pub returns-in_default-clause-encoded : goal.returns-in_default-clause-encoded
+returns-in_default-clause-encoded c =
     let other : (c.word_at.result ≢ 0)
     × (zero_bytes c.word_at.result ≢ 0) = tag_other c.word_at.result c.tag_of_word-tag.result c.tag_of_word-tag.ensures (omega arith) (omega arith) in
     let count = ones_of_tag c.word_at.result c.tag_of_word-tag.result c.tag_of_word-tag.ensures

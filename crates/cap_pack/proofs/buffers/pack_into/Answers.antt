@@ -1,4 +1,4 @@
--- The text is written where there is room, and only there.
+-- The text is written where there is capacity, and only there.
 use Rattle.std.proofs.Common.{List, ap, arith, drop, ℕ, ◌++◌}
 use Rattle.cap_pack.proofs.buffers.pack_into.Goals as goal
 
@@ -8,5 +8,5 @@ returns-then-out-len-clause-written c = λ h. absurd (omega (arith, h, c.if-out-
 pub returns-clause-written : goal.returns-clause-written
 returns-clause-written c = λ _. ap (λ (t : List ℕ). t ++ drop c.packed_len-len.result c.args.out.now) c.write_text.ensures
 
-pub returns-clause-no_room : goal.returns-clause-no_room
-returns-clause-no_room c = λ h. absurd (omega (arith, h, c.if-out-len.false))
+pub returns-clause-too_small : goal.returns-clause-too_small
+returns-clause-too_small c = λ h. absurd (omega (arith, h, c.if-out-len.false))

@@ -20,7 +20,7 @@ counting-preserved c =
     ap length step ∙ length-append (front_text (plain_words (take taken left))) (pack_text (plain_words (drop (at + taken) bytes))) in
     record {
       inside = omega (arith, far.inside, group.within.2, ap length (take_rest bytes at), length-drop at bytes);
-      counted = omega (arith, far.counted, long, group.spelled);
+      counted = omega (arith, far.counted, long, group.encoded);
       few = omega (arith, far.few, group.few);
     }
 

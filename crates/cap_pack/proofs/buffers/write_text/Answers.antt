@@ -18,7 +18,7 @@ slice_bounds-write_group-end-in-writing c =
     let long : length (pack_text (plain_words (drop at bytes)))
     ≡ length (front_text (plain_words (take taken left))) + length (pack_text (plain_words (drop (at + taken) bytes))) =
     ap length step ∙ length-append (front_text (plain_words (take taken left))) (pack_text (plain_words (drop (at + taken) bytes))) in
-    let fits : c.writing.len + c.front_group-taken.result.1 ≤ length c.writing.text = omega (arith, c.writing.invariant.room, long, group.spelled) in
+    let fits : c.writing.len + c.front_group-taken.result.1 ≤ length c.writing.text = omega (arith, c.writing.invariant.fits, long, group.encoded) in
     fits
 
 pub writing-preserved : goal.writing-preserved
@@ -30,29 +30,29 @@ writing-preserved c =
     let far = c.writing.invariant in
     let group = c.front_group-taken.ensures in
     let taken : ℕ = c.front_group-taken.result.0 in
-    let spelled : ℕ = c.front_group-taken.result.1 in
+    let encoded : ℕ = c.front_group-taken.result.1 in
     let left : List ℕ = take (length bytes - at) (drop at bytes) in
     let front = front_text (plain_words (take taken left)) in
-    let behind = pack_text (plain_words (drop (at + taken) bytes)) in
+    let following = pack_text (plain_words (drop (at + taken) bytes)) in
     let step = pack_step bytes left at taken (take_rest bytes at) group.size group.within.0 group.within.2 in
-    let long : length (pack_text (plain_words (drop at bytes))) ≡ length front + length behind = ap length step ∙ length-append front behind in
+    let long : length (pack_text (plain_words (drop at bytes))) ≡ length front + length following = ap length step ∙ length-append front following in
     let new = c.write_group.new.text in
-    let count : length new ≡ spelled = ap length c.write_group.ensures ∙ sym group.spelled in
+    let count : length new ≡ encoded = ap length c.write_group.ensures ∙ sym group.encoded in
     record {
       inside = omega (arith, far.inside, group.within.2, ap length (take_rest bytes at), length-drop at bytes);
-      room = omega (
+      fits = omega (
         arith,
-        put_length len (len + spelled - len) text new (omega (arith, far.room, long, group.spelled)) (omega (arith, count)),
-        far.room,
+        put_length len (len + encoded - len) text new (omega (arith, far.fits, long, group.encoded)) (omega (arith, count)),
+        far.fits,
         long,
-        group.spelled,
+        group.encoded,
       );
-      spelled =
-          ap (λ (t : List ℕ). t ++ behind) (take-put_mid len (len + spelled - len) text new (len + spelled) (omega (arith, count)) (omega (arith, far.room)))
-          ∙ append_assoc (take len text) new behind
-          ∙ ap (λ (t : List ℕ). take len text ++ (t ++ behind)) c.write_group.ensures
+      encoded =
+          ap (λ (t : List ℕ). t ++ following) (take-put_mid len (len + encoded - len) text new (len + encoded) (omega (arith, count)) (omega (arith, far.fits)))
+          ∙ append_assoc (take len text) new following
+          ∙ ap (λ (t : List ℕ). take len text ++ (t ++ following)) c.write_group.ensures
           ∙ ap (λ (t : List ℕ). take len text ++ t) (sym step)
-          ∙ far.spelled;
+          ∙ far.encoded;
     }
 
 pub returns : goal.returns
@@ -62,5 +62,5 @@ returns c =
     let far = c.writing.invariant in
     let none = no_word c.args.bytes.now c.writing.at (omega (arith, c.writing-test.false)) in
     let no_text : length (pack_text (plain_words (drop c.writing.at c.args.bytes.now))) ≡ 0 = ap (λ ws. length (pack_text ws)) none in
-    sym (take_all len text (omega (arith, far.room, no_text))) ∙ sym (append-nil (take len text))
-    ∙ sym (ap (λ ws. take len text ++ pack_text ws) none) ∙ far.spelled
+    sym (take_all len text (omega (arith, far.fits, no_text))) ∙ sym (append-nil (take len text))
+    ∙ sym (ap (λ ws. take len text ++ pack_text ws) none) ∙ far.encoded

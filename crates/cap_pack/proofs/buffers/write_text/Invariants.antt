@@ -5,8 +5,8 @@ use Rattle.cap_pack.proofs.buffers.write_text.Given as goal
 abbrev pub invariant-writing : goal.invariant-writing
 invariant-writing l = record {
   inside : l.at ≤ length l.bytes;
-  room : length l.text ≡ l.len + length (pack_text (plain_words (drop l.at l.bytes)));
-  spelled : take l.len l.text ++ pack_text (plain_words (drop l.at l.bytes)) ≡ pack_text (plain_words l.bytes);
+  fits : length l.text ≡ l.len + length (pack_text (plain_words (drop l.at l.bytes)));
+  encoded : take l.len l.text ++ pack_text (plain_words (drop l.at l.bytes)) ≡ pack_text (plain_words l.bytes);
 }
 
 abbrev pub decreases-writing : goal.decreases-writing

@@ -1,4 +1,4 @@
--- What a head says goes by its own bytes.
+-- What a head says uses its own bytes.
 use Rattle.std.proofs.Common.{arith, drop, length, length-drop, slice_index, ◌∙◌, ◌≤◌}
 use Rattle.cap_pack.specs.Course.{first_word, plain_of, zeros_of}
 use Rattle.cap_pack.proofs.Heads.{by_front, first_word-append, plain_of-append, zeros_of-append}

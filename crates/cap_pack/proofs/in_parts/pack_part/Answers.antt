@@ -12,12 +12,12 @@ returns-then-piece-gt0-clause-text c =
     let bs = c.args.bytes.now in
     let count = c.read_words-count.result in
     let own = take count c.read_words-count.new.words in
-    let k = c.spell_groups-piece.result.words in
+    let k = c.encode_groups-piece.result.words in
     let rest = plain_words (drop (8 * count) bs) in
     let within = c.read_words-count.ensures.within in
     let parted : plain_words bs ≡ own ++ rest =
     words_parted bs (8 * count) (omega arith) within ∙ ap (λ (ws : List ℕ). ws ++ rest) (sym c.read_words-count.ensures.words) in
-    let few : k ≤ length own = c.spell_groups-piece.ensures.words in
+    let few : k ≤ length own = c.encode_groups-piece.ensures.words in
     let long : length own ≡ count =
     omega (
       arith,
@@ -31,8 +31,8 @@ returns-then-piece-gt0-clause-text c =
     let left : drop k own ++ rest ≡ plain_words (drop (8 * k) bs) =
     sym (drop-append-le k own rest few) ∙ (ap (drop k) (sym parted ∙ all)
     ∙ drop_at (plain_words (take (8 * k) bs)) (plain_words (drop (8 * k) bs)) k first) in
-    ap pack_text parted ∙ (c.spell_groups-piece.ensures.spelled rest
-    ∙ ap (λ (ws : List ℕ). take c.spell_groups-piece.result.bytes c.spell_groups-piece.new.text ++ pack_text ws) left)
+    ap pack_text parted ∙ (c.encode_groups-piece.ensures.encoded rest
+    ∙ ap (λ (ws : List ℕ). take c.encode_groups-piece.result.bytes c.encode_groups-piece.new.text ++ pack_text ws) left)
 
 pub returns-clause-text : goal.returns-clause-text
 returns-clause-text c =
@@ -42,7 +42,7 @@ returns-clause-text c =
     let n : ℕ = c.front_group-taken.result.1 in
     let new = c.write_group.new.text in
     let step = pack_step bs bs 0 taken refl group.size group.within.0 group.within.2 in
-    let long : length new ≡ n = ap length c.write_group.ensures ∙ sym group.spelled in
+    let long : length new ≡ n = ap length c.write_group.ensures ∙ sym group.encoded in
     step ∙ (ap (λ (k : ℕ). front_text (plain_words (take taken bs)) ++ pack_text (plain_words (drop k bs))) (zero-add taken)
     ∙ ap (λ (t : List ℕ). t ++ pack_text (plain_words (drop taken bs)))
-    (sym c.write_group.ensures ∙ sym (take_at new (post_of 0 n c.spell_groups-piece.new.text) n long)))
+    (sym c.write_group.ensures ∙ sym (take_at new (post_of 0 n c.encode_groups-piece.new.text) n long)))

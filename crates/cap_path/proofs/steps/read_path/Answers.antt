@@ -10,7 +10,7 @@ loop-at-preserved c =
     let step = c.in_ok-end.ensures.ok in (
       h.0 ++ s ∷ [],
       are-snoc h.0 s h.1 step.fits,
-      step.spells ∙ ap (λ l. l ++ step_text s) h.2 ∙ sym (texts-snoc h.0 s),
+      step.encodes ∙ ap (λ l. l ++ step_text s) h.2 ∙ sym (texts-snoc h.0 s),
       step.inside,
       step.ends,
     )

@@ -1,5 +1,5 @@
 use Rattle.cap_spec.proofs.ProofNames.{arith, refl, ◌∙◌, near}
-use Rattle.cap_ptr.proofs.Pads.{stands-near}
+use Rattle.cap_ptr.proofs.Pads.{lies-near}
 use Rattle.cap_ptr.proofs.following.followed.Goals as goal
 
 pub returns-then-word-eq0 : goal.returns-then-word-eq0
@@ -10,4 +10,4 @@ returns-then-word-eq0 g c =
 pub returns-then-kind-ne2 : goal.returns-then-kind-ne2
 returns-then-kind-ne2 g c =
     c.resolved.ensures c.args.s c.args.w
-    (stands-near _ c.args.s c.args.w c.word-word.result c.word-word.ensures (λ e. c.if-kind-ne2.true (c.kind.ensures ∙ e)))
+    (lies-near _ c.args.s c.args.w c.word-word.result c.word-word.ensures (λ e. c.if-kind-ne2.true (c.kind.ensures ∙ e)))

@@ -24,10 +24,10 @@ returns-in-Some-clause-bytes c = λ t b n h.
     let spot = node_spot c.in-Some.node in
     let view = c.view-view.result in
     let comes = subst (λ u. (level : ℕ) × ReachesSpot (seg u) c.args.path.now level spot) message c.in-Some.ensures.some in
-    let stands = subst (λ u. MatchOption (view_place view) ((t b n : ℕ) → HasPlace (seg u) spot t b n → ⊥)
+    let lies = subst (λ u. MatchOption (view_place view) ((t b n : ℕ) → HasPlace (seg u) spot t b n → ⊥)
     (λ (p : Place). HasPlace (seg u) spot p.segment p.start p.words)) of_node c.view-view.ensures.place in
     let bytes = subst (λ u. c.bytes.result.now ≡ bytes_of_place (seg u) (view_place view)) of_view c.bytes.ensures in
-    bytes ∙ bytes_there (seg c.args.message.now) c.args.path.now comes.0 spot (view_place view) comes.1 stands t b n h
+    bytes ∙ bytes_there (seg c.args.message.now) c.args.path.now comes.0 spot (view_place view) comes.1 lies t b n h
 
 pub returns-in-Some-clause-empty : goal.returns-in-Some-clause-empty
 returns-in-Some-clause-empty c = λ none.
@@ -37,10 +37,10 @@ returns-in-Some-clause-empty c = λ none.
     let spot = node_spot c.in-Some.node in
     let view = c.view-view.result in
     let comes = subst (λ u. (level : ℕ) × ReachesSpot (seg u) c.args.path.now level spot) message c.in-Some.ensures.some in
-    let stands = subst (λ u. MatchOption (view_place view) ((t b n : ℕ) → HasPlace (seg u) spot t b n → ⊥)
+    let lies = subst (λ u. MatchOption (view_place view) ((t b n : ℕ) → HasPlace (seg u) spot t b n → ⊥)
     (λ (p : Place). HasPlace (seg u) spot p.segment p.start p.words)) of_node c.view-view.ensures.place in
     let bytes = subst (λ u. c.bytes.result.now ≡ bytes_of_place (seg u) (view_place view)) of_view c.bytes.ensures in
-    bytes ∙ no_bytes_there (seg c.args.message.now) c.args.path.now comes.0 spot (view_place view) comes.1 stands none
+    bytes ∙ no_bytes_there (seg c.args.message.now) c.args.path.now comes.0 spot (view_place view) comes.1 lies none
 
 pub returns-in-Err-clause-refuses : goal.returns-in-Err-clause-refuses
 returns-in-Err-clause-refuses c = λ r h.

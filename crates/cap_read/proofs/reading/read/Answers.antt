@@ -26,13 +26,13 @@ returns-in-Some-clause-ok g c =
     let node = subst (λ u. (t : Tree) (x d : ℕ) → Denotes (g.M.Segments.segments u) 0 0 t x d →
     (y : Tree) × (node_at t path ≡ Some y) × DenotesAt (g.M.Segments.segments u) spot y) message c.in-Some.ensures.node in
     let shows = subst (λ u. (t : Tree) → DenotesAt (g.M.Segments.segments u) spot t → shown view ≡ own_of t) of_node c.view-view.ensures.shows in
-    let stands = subst (λ u. MatchOption (view_place view) ((t b n : ℕ) → HasPlace (g.M.Segments.segments u) spot t b n → ⊥)
+    let lies = subst (λ u. MatchOption (view_place view) ((t b n : ℕ) → HasPlace (g.M.Segments.segments u) spot t b n → ⊥)
     (λ (p : Place). HasPlace (g.M.Segments.segments u) spot p.segment p.start p.words)) of_node c.view-view.ensures.place in
     let exists = subst (λ u. IfSome c.place.result (λ (p : Place). p.segment < length (g.M.Segments.segments u))) of_view c.place.ensures.exists in
     let inside = subst (λ u. IfSome c.place.result (λ (p : Place). p.start + p.words ≤ length (segment_of (g.M.Segments.segments u) p.segment)))
     of_view c.place.ensures.inside in
     let tree = c.in-Ok.ensures.ok in
-    node_read tree.0 spot (rw c.report-report.ensures.value tree.1) comes node shows c.place.ensures.value stands exists inside
+    node_read tree.0 spot (rw c.report-report.ensures.value tree.1) comes node shows c.place.ensures.value lies exists inside
 
 pub returns-in-Err-clause-refuses : goal.returns-in-Err-clause-refuses
 returns-in-Err-clause-refuses g c = λ r h.

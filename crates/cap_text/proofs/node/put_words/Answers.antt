@@ -10,13 +10,13 @@ loop-word-init g c = left_start g.O.ByteOut (c.args.out.now, c.args.page.now) (w
 pub loop-word-preserved : goal.loop-word-preserved
 loop-word-preserved g c =
     word_step g.O.ByteOut c.args.level c.args.letter c.loop-word.i c.in-Some.word (words_of_own (shown c.args.view.now)) c.in-Some.ensures.value
-    (c.args.out.now, c.args.page.now) (c.loop-word.out, c.loop-word.page) (c.make_room.new.out, c.word_line.new.page) c.loop-word.invariant
-    (added_line g.O.ByteOut (c.loop-word.out, c.loop-word.page) (c.make_room.new.out, c.make_room.new.page) c.word_line.new.page
+    (c.args.out.now, c.args.page.now) (c.loop-word.out, c.loop-word.page) (c.make_space.new.out, c.word_line.new.page) c.loop-word.invariant
+    (added_line g.O.ByteOut (c.loop-word.out, c.loop-word.page) (c.make_space.new.out, c.make_space.new.page) c.word_line.new.page
     (replicate (2 * c.args.level) 32 ++ (label c.args.letter c.loop-word.i ++ 32 ∷ hex c.in-Some.word ++ 10 ∷ [])) c.in-Ok.ensures.adds c.word_line.ensures)
 
 pub returns-in-Err : goal.returns-in-Err
 returns-in-Err g c =
-    lines_stop g.O.ByteOut (c.args.out.now, c.args.page.now) (c.loop-word.out, c.loop-word.page) (c.make_room.new.out, c.make_room.new.page) c.in-Err.fault
+    lines_stop g.O.ByteOut (c.args.out.now, c.args.page.now) (c.loop-word.out, c.loop-word.page) (c.make_space.new.out, c.make_space.new.page) c.in-Err.fault
     (word_lines c.args.level c.args.letter 0 (words_of_own (shown c.args.view.now)))
     (word_lines c.args.level c.args.letter c.loop-word.i (drop c.loop-word.i (words_of_own (shown c.args.view.now))))
     c.loop-word.invariant c.in-Err.ensures.adds

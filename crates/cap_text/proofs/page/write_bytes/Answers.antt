@@ -6,4 +6,4 @@ pub returns : goal.returns
 returns g c =
     writes_all g.O.ByteOut c.args.out.now c.write_all.new.output c.write_all.result c.args.text.now
     c.write_all.ensures.ok c.write_all.ensures.err (c.write_all.ensures.works (omega arith)) c.write_all.ensures.device
-    c.write_all.ensures.memory c.write_all.ensures.was_spent
+    c.write_all.ensures.memory c.write_all.ensures.was_broken

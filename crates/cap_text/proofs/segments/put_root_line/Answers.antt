@@ -5,10 +5,10 @@ use Rattle.cap_text.proofs.segments.put_root_line.Goals as goal
 
 pub returns-in-Ok : goal.returns-in-Ok
 returns-in-Ok g c =
-    added_line g.O.ByteOut (c.args.out.now, c.args.page.now) (c.make_room.new.out, c.make_room.new.page)
+    added_line g.O.ByteOut (c.args.out.now, c.args.page.now) (c.make_space.new.out, c.make_space.new.page)
     c.root_line.new.page (line 0 (codes "root " ++ root_text c.args.root)) c.in-Ok.ensures.adds c.root_line.ensures
 
 pub returns-in-Err : goal.returns-in-Err
 returns-in-Err g c =
-    halted_more g.O.ByteOut (c.args.out.now, c.args.page.now) (c.make_room.new.out, c.make_room.new.page) c.in-Err.fault
+    halted_more g.O.ByteOut (c.args.out.now, c.args.page.now) (c.make_space.new.out, c.make_space.new.page) c.in-Err.fault
     [] (line 0 (codes "root " ++ root_text c.args.root)) c.in-Err.ensures.adds

@@ -1,14 +1,14 @@
 use Rattle.std.proofs.Common.{None, Option, arith, subst, sym}
-use Rattle.cap_trace.specs.EarlierPointers.{TellsEarlier, places_of}
+use Rattle.cap_trace.specs.EarlierPointers.{ReportsEarlier, places_of}
 use Rattle.cap_trace.specs.declared.earlier.EarlierPointer.{EarlierPointer}
 use Rattle.cap_trace.proofs.Branches.{branches_without}
 use Rattle.cap_trace.proofs.Coming.{traceable_here}
-use Rattle.cap_trace.proofs.Sharing.{earlier_told, none_unused}
+use Rattle.cap_trace.proofs.Sharing.{earlier_reported, none_unused}
 use Rattle.cap_trace.proofs.earlier.earlier_within.Goals as goal
 
 pub returns-in_err-last : goal.returns-in_err-last
 returns-in_err-last g c =
-    subst (λ (r : Option EarlierPointer). TellsEarlier (g.M.Segments.segments c.args.message.now) c.args.depth c.args.number r)
+    subst (λ (r : Option EarlierPointer). ReportsEarlier (g.M.Segments.segments c.args.message.now) c.args.depth c.args.number r)
     (sym c.from_residual.ensures) (λ path a. absurd (c.word_of_number.ensures.none c.in_err-last.was path a))
 
 pub at-requires-clause-exists : goal.at-requires-clause-exists
@@ -21,7 +21,7 @@ at-requires-clause-inside g c =
 
 pub returns-in_err-used : goal.returns-in_err-used
 returns-in_err-used g c =
-    subst (λ (r : Option EarlierPointer). TellsEarlier (g.M.Segments.segments c.args.message.now) c.args.depth c.args.number r)
+    subst (λ (r : Option EarlierPointer). ReportsEarlier (g.M.Segments.segments c.args.message.now) c.args.depth c.args.number r)
     (sym c.from_residual-in_err-used.ensures)
     (λ path a. none_unused _ c.args.depth c.args.number _ c.in_ok-last.last path c.in_ok-last.ensures.some.1 a c.in_err-used.ensures)
 
@@ -30,5 +30,5 @@ first_using-requires-clause-traced g c = (_, traceable_here _ c.args.depth c.arg
 
 pub returns : goal.returns
 returns g c =
-    earlier_told _ c.args.depth c.args.number _ c.in_ok-last.last (places_of c.in_ok-used.used) c.first_using.result
+    earlier_reported _ c.args.depth c.args.number _ c.in_ok-last.last (places_of c.in_ok-used.used) c.first_using.result
     c.in_ok-last.ensures.some.1 c.in_ok-used.ensures c.first_using.ensures

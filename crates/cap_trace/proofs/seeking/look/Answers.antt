@@ -1,5 +1,5 @@
 use Rattle.std.proofs.Common.{arith, refl, rules, sym}
-use Rattle.cap_ptr.proofs.Pads.{stands-near}
+use Rattle.cap_ptr.proofs.Pads.{lies-near}
 use Rattle.cap_trace.proofs.Branches.{branches_without}
 use Rattle.cap_trace.proofs.Nulls.{null_below}
 use Rattle.cap_trace.proofs.seeking.look.Goals as goal
@@ -30,7 +30,7 @@ look_row-requires g c =
           m,
           record {
             has = c.word-word.ensures;
-            resolves = stands-near m last.segment last.at c.word-word.result c.word-word.ensures (λ e. omega (arith, row.plain.0, e));
+            resolves = lies-near m last.segment last.at c.word-word.result c.word-word.ensures (λ e. omega (arith, row.plain.0, e));
             few = omega arith;
           },
           row.row m last.segment c.word-word.ensures (sym c.len.ensures),
@@ -46,7 +46,7 @@ returns-in-Some g c =
     let row = c.in-Some.ensures in
     c.look_row.ensures m (record {
       has = c.word-word.ensures;
-      resolves = stands-near m last.segment last.at c.word-word.result c.word-word.ensures (λ e. omega (arith, row.plain.0, e));
+      resolves = lies-near m last.segment last.at c.word-word.result c.word-word.ensures (λ e. omega (arith, row.plain.0, e));
       few = omega arith;
     }) (row.row m last.segment c.word-word.ensures (sym c.len.ensures))
 
@@ -62,7 +62,7 @@ look_other-requires g c =
             c.requires.come,
             record {
               has = c.word-word.ensures;
-              resolves = stands-near _ last.segment last.at c.word-word.result c.word-word.ensures (λ e. omega (arith, c.kind.ensures, c.if-kind-ne2.true, e));
+              resolves = lies-near _ last.segment last.at c.word-word.result c.word-word.ensures (λ e. omega (arith, c.kind.ensures, c.if-kind-ne2.true, e));
               few = omega arith;
             },
           ),

@@ -4,8 +4,8 @@ use Rattle.cap_trace.proofs.tracing.traced.Goals.{then-number-eq0-via-else-numbe
 use Rattle.cap_trace.proofs.tracing.traced.Goals.{then-number-eq0-via-then-number-eq0}
 use Rattle.cap_trace.proofs.tracing.traced.Goals as goal
 
-pub returns-then-number-eq0-clause-tells : goal.returns-then-number-eq0-clause-tells
-returns-then-number-eq0-clause-tells g c = (
+pub returns-then-number-eq0-clause-reports : goal.returns-then-number-eq0-clause-reports
+returns-then-number-eq0-clause-reports g c = (
   (λ path a.
       let m = g.M.Segments.segments c.args.message.now in
       let some : 0 < c.args.number = some_number m c.args.number path _ _ a.numbered in

@@ -1,9 +1,9 @@
 use Rattle.std.proofs.Common.{refl}
-use Rattle.cap_trace.proofs.Coming.{found_told, level_counts}
+use Rattle.cap_trace.proofs.Coming.{found_reported, level_counts}
 use Rattle.cap_trace.proofs.tracing.traced_within.Goals as goal
 
-pub returns-then-not-seek-clause-tells : goal.returns-then-not-seek-clause-tells
-returns-then-not-seek-clause-tells g c = (c.seek.ensures.missing c.if-not-seek.true, refl)
+pub returns-then-not-seek-clause-reports : goal.returns-then-not-seek-clause-reports
+returns-then-not-seek-clause-reports g c = (c.seek.ensures.missing c.if-not-seek.true, refl)
 
 pub write_path-requires-clause-branches : goal.write_path-requires-clause-branches
 write_path-requires-clause-branches g c =
@@ -15,14 +15,14 @@ write_path-requires-clause-level g c =
     let come = c.seek.ensures.found c.if-not-seek.false in
     rw c.as_slice.ensures.value (level_counts (g.M.Segments.segments c.args.message.now) c.args.depth _ _ _ come)
 
-pub returns-clause-tells : goal.returns-clause-tells
-returns-clause-tells g c =
+pub returns-clause-reports : goal.returns-clause-reports
+returns-clause-reports g c =
     let come = c.seek.ensures.found c.if-not-seek.false in
-    (found_told g.S.StepSlot.slot (g.M.Segments.segments c.args.message.now) c.args.depth c.args.number c.seek.new.others.items c.seek.new.last
+    (found_reported g.S.StepSlot.slot (g.M.Segments.segments c.args.message.now) c.args.depth c.args.number c.seek.new.others.items c.seek.new.last
     c.as_slice.result.now _ c.args.steps.now _ come c.as_slice.ensures.value c.write_path.ensures.count c.write_path.ensures.steps).0
 
 pub returns-clause-few : goal.returns-clause-few
 returns-clause-few g c =
     let come = c.seek.ensures.found c.if-not-seek.false in
-    (found_told g.S.StepSlot.slot (g.M.Segments.segments c.args.message.now) c.args.depth c.args.number c.seek.new.others.items c.seek.new.last
+    (found_reported g.S.StepSlot.slot (g.M.Segments.segments c.args.message.now) c.args.depth c.args.number c.seek.new.others.items c.seek.new.last
     c.as_slice.result.now _ c.args.steps.now _ come c.as_slice.ensures.value c.write_path.ensures.count c.write_path.ensures.steps).1

@@ -1,5 +1,5 @@
 use Rattle.std.proofs.Common.{rules}
 use Rattle.cap_words.proofs.buffered_in.copy_front.Goals as goal
 
-pub returns-else-room-from-clause-some : goal.returns-else-room-from-clause-some
-returns-else-room-from-clause-some c = search rules
+pub returns-else-capacity-from-clause-some : goal.returns-else-capacity-from-clause-some
+returns-else-capacity-from-clause-some c = search rules

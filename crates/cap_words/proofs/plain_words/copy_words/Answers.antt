@@ -1,6 +1,6 @@
 use Rattle.cap_spec.proofs.Bytes.Lists.{all_take}
 use Rattle.cap_spec.proofs.ProofNames.{arith, ◌<◌, common_steps}
-use Rattle.cap_words.proofs.AtHand.{bytes_small}
+use Rattle.cap_words.proofs.Buffered.{bytes_small}
 use Rattle.cap_words.proofs.plain_words.copy_words.Goals as goal
 
 pub returns-clause-bytes : goal.returns-clause-bytes

@@ -7,11 +7,11 @@ loop-len-preserved g c =
     let within = c.loop-len.invariant.within in
     let given = c.in-Ok.ensures.within in
     let long = rest_length c.loop-len.len c.loop-len.buf in
-    let room : 0 < length (take (length c.loop-len.buf - c.loop-len.len) (drop c.loop-len.len c.loop-len.buf)) = omega arith in
+    let capacity : 0 < length (take (length c.loop-len.buf - c.loop-len.len) (drop c.loop-len.len c.loop-len.buf)) = omega arith in
     let not_end = c.in-Ok.count-test.1 in
     record {
       within = filled_within (length c.loop-len.buf - c.loop-len.len) c.loop-len.buf c.read.new.buf within given;
       taken = read_more _ _ _ c.loop-len.len (length c.loop-len.buf - c.loop-len.len) c.in-Ok.count c.loop-len.buf c.read.new.buf within given
           c.loop-len.invariant.taken c.in-Ok.ensures.bytes.0;
-      moved = moved_more _ _ c.loop-len.len c.in-Ok.count _ _ _ c.loop-len.invariant.moved (omega arith) (c.in-Ok.ensures.ok room);
+      moved = moved_more _ _ c.loop-len.len c.in-Ok.count _ _ _ c.loop-len.invariant.moved (omega arith) (c.in-Ok.ensures.ok capacity);
     }

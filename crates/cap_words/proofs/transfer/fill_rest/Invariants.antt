@@ -6,7 +6,7 @@ abbrev pub invariant-loop-len : goal.invariant-loop-len
 invariant-loop-len g l = record {
   within : l.len ≤ length l.buf;
   taken : Consumes (g.I.ByteIn.to_come l.initial.input) (g.I.ByteIn.to_come l.input) (take l.len l.buf);
-  moved : Moved g.I.ByteIn.spent g.I.ByteIn.failures l.len l.initial.input l.input;
+  moved : Moved g.I.ByteIn.broken g.I.ByteIn.failures l.len l.initial.input l.input;
 }
 
 abbrev pub decreases-loop-len : goal.decreases-loop-len

@@ -9,10 +9,10 @@ returns-then-number-words g c =
 
 pub returns-in-Some : goal.returns-in-Some
 returns-in-Some g c =
-    let (path, a, h) = c.in-Some.ensures.tells in
+    let (path, a, h) = c.in-Some.ensures.reports in
     earlier path _ _ _ (record { traceable = a; within = omega (arith, c.if-number-words.false, c.words.ensures.value) }) h
     (ap (λ (r : CallReport). record { answer = Good; count = 0; report = r }) c.of_place.ensures)
 
 pub returns-in-None : goal.returns-in-None
 returns-in-None g c =
-    none (λ path s w k a h. c.in-None.ensures.tells path a.traceable h.other h.first.holds) c.path_answer-in-None.ensures
+    none (λ path s w k a h. c.in-None.ensures.reports path a.traceable h.other h.first.holds) c.path_answer-in-None.ensures

@@ -1,24 +1,24 @@
--- Nothing else is told of the bytes and the capacity.
+-- Nothing else is reported of the bytes and the capacity.
 use Rattle.std.proofs.Common.{arith}
 use Rattle.cap_calls.specs.CallFlags.{demands_of}
 use Rattle.cap_calls.proofs.Answers.{by_flag, input_less}
-use Rattle.cap_calls.proofs.Explained.{few_lines, one_explanation_told}
+use Rattle.cap_calls.proofs.Explained.{few_lines, one_explanation_reported}
 use Rattle.cap_calls.proofs.calls.explain.explain.Goals as goal
 
-pub returns-clause-tells : goal.returns-clause-tells
-returns-clause-tells c =
+pub returns-clause-reports : goal.returns-clause-reports
+returns-clause-reports c =
     let l = c.args.limits.now in
     let bs = c.args.bytes.now in
-    let told = c.over_input-answer.ensures in
-    let less = input_less (λ k. k) (λ m w d g p. p.0) told.1 in
-    (told.0, by_flag l bs told.0 _ c.allows_trailing-whole.ensures less, told.2, told.3)
+    let reported = c.over_input-answer.ensures in
+    let less = input_less (λ k. k) (λ m w d g p. p.0) reported.1 in
+    (reported.0, by_flag l bs reported.0 _ c.allows_trailing-whole.ensures less, reported.2, reported.3)
 
 pub returns-clause-only : goal.returns-clause-only
 returns-clause-only c = λ a n new r h.
-    one_explanation_told c.args.limits.now c.args.bytes.now c.args.text.now _ a _ n _ new _ r (returns-clause-tells c) h
+    one_explanation_reported c.args.limits.now c.args.bytes.now c.args.text.now _ a _ n _ new _ r (returns-clause-reports c) h
 
 pub returns-clause-few : goal.returns-clause-few
 returns-clause-few c =
-    let told = c.over_input-answer.ensures in
+    let reported = c.over_input-answer.ensures in
     let l = c.args.limits.now in
-    omega (arith, told.3, few_lines _ l c.args.bytes.now c.args.text.now _ (demands_of l) told.0 told.1)
+    omega (arith, reported.3, few_lines _ l c.args.bytes.now c.args.text.now _ (demands_of l) reported.0 reported.1)

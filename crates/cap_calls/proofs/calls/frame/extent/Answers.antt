@@ -1,4 +1,4 @@
--- What was found is what is told.
+-- What was found is what is reported.
 use Rattle.std.proofs.Common.{ap, length, refl}
 use Rattle.cap_frame.specs.Framed.{frame_bytes, framed_segments}
 use Rattle.cap_calls.specs.CallFindings.{without}

@@ -4,16 +4,16 @@ use Rattle.cap_calls.specs.PackCalls.{cut}
 use Rattle.cap_calls.proofs.Packed.{cut_by_length, pack_too_small, pack_written}
 use Rattle.cap_calls.proofs.calls.pack.pack_all.Goals as goal
 
-pub returns-then-bytes-ne0-clause-tells : goal.returns-then-bytes-ne0-clause-tells
-returns-then-bytes-ne0-clause-tells c = cut (cut_by_length c.args.bytes.now (omega (arith, c.if-bytes-ne0.true))) refl refl refl
+pub returns-then-bytes-ne0-clause-reports : goal.returns-then-bytes-ne0-clause-reports
+returns-then-bytes-ne0-clause-reports c = cut (cut_by_length c.args.bytes.now (omega (arith, c.if-bytes-ne0.true))) refl refl refl
 
-pub returns-then-size-count-clause-tells : goal.returns-then-size-count-clause-tells
-returns-then-size-count-clause-tells c =
+pub returns-then-size-count-clause-reports : goal.returns-then-size-count-clause-reports
+returns-then-size-count-clause-reports c =
     pack_too_small c.args.bytes.now c.args.out.now _ _ (omega arith) c.pack_into-count.ensures.len c.if-size-count.true
-    (c.pack_into-count.ensures.no_room c.if-size-count.true)
+    (c.pack_into-count.ensures.too_small c.if-size-count.true)
 
-pub returns-clause-tells : goal.returns-clause-tells
-returns-clause-tells c =
+pub returns-clause-reports : goal.returns-clause-reports
+returns-clause-reports c =
     pack_written c.args.bytes.now c.args.out.now _ _ (omega arith) c.pack_into-count.ensures.len
     (omega (arith, c.if-size-count.false))
     (c.pack_into-count.ensures.written (omega (arith, c.if-size-count.false)))

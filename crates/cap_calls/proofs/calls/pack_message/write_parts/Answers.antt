@@ -73,15 +73,15 @@ segments-preserved c =
       texts_fit m (s + 1),
     ) in
     let part = take (length text - at) (drop at text) in
-    let room : length part ≡ length text - at = ap length (take_rest text at) ∙ length-drop at text in
+    let capacity : length part ≡ length text - at = ap length (take_rest text at) ∙ length-drop at text in
     let given = c.pack_into-at-in-segments.new.out in
     let new : given ≡ own ++ drop n part =
-    c.pack_into-at-in-segments.ensures.written (omega (arith, room, fit)) ∙ ap (λ ws. pack_text ws ++ drop n part) c.in-Some.ensures.words in
+    c.pack_into-at-in-segments.ensures.written (omega (arith, capacity, fit)) ∙ ap (λ ws. pack_text ws ++ drop n part) c.in-Some.ensures.words in
     let enough : n ≤ length given = omega (arith, ap length new, length-append own (drop n part), long) in
     record {
       at = omega (arith, far.at, long, ap length next, length-append done own);
       size = same_len_mid at (length text - at) text given
-          (omega (arith, ap length new, length-append own (drop n part), length-drop n part, long, room, fit)) ∙ far.size;
+          (omega (arith, ap length new, length-append own (drop n part), length-drop n part, long, capacity, fit)) ∙ far.size;
       written = filled {at = at} (length text - at) {n = n} text given (omega (arith, fit)) enough
           ∙ (ap (λ (t : List ℕ). take at text ++ take n t) new
           ∙ (ap (λ (t : List ℕ). take at text ++ t) (take_at own (drop n part) n (sym long))

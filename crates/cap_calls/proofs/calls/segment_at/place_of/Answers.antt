@@ -1,7 +1,7 @@
 -- The words of a message are few enough for a number of bytes.
 use Rattle.std.proofs.Common.{List, ap, arith, rules, ℕ, ◌*◌, ◌+◌, ◌/◌, ◌<◌, ◌^◌, ◌∙◌, ◌≡◌, ◌≤◌}
 use Rattle.cap_frame.specs.Framed.{framed_segments}
-use Rattle.cap_frame.proofs.BehindTable.{segments_are, words_are}
+use Rattle.cap_frame.proofs.AfterTable.{segments_are, words_are}
 use Rattle.cap_vet.specs.Taken.{start_of}
 use Rattle.cap_vet.proofs.Ranges.{all_words, start_within}
 use Rattle.cap_calls.proofs.calls.segment_at.place_of.Goals as goal

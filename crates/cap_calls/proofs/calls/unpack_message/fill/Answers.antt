@@ -4,7 +4,7 @@ use Rattle.cap_spec.proofs.ProofNames.{subst, sym, take, ℕ, ◌+◌, ◌-◌, 
 use Rattle.cap_frame.specs.Limit.{limit_of}
 use Rattle.cap_calls.specs.CallNames.{words_to_come, IsOpen}
 use Rattle.cap_calls.proofs.GivenWords.{gives_more, gives_none}
-use Rattle.cap_calls.proofs.MessageStages.{ends_at, still_open, wanted_whole}
+use Rattle.cap_calls.proofs.MessageStages.{ends_at, still_open, needed_whole}
 use Rattle.cap_calls.proofs.calls.unpack_message.fill.Goals as goal
 
 pub stages-init : goal.stages-init
@@ -40,16 +40,16 @@ stages-preserved c =
                   (sym (take-put_mid_below d.written k out given n (omega (arith, few)) inside)) known.1,
             )
         | inr many ↦ (
-          c.in-Open.wanted,
-          still_open (limit_of c.args.size) c.in-Open.wanted d.written k n out given far.gives.whole whole many
+          c.in-Open.needed,
+          still_open (limit_of c.args.size) c.in-Open.needed d.written k n out given far.gives.whole whole many
               (omega (arith, less, gives.fits, gives.long)) (omega (arith, less, gives.fits, length-take k (drop d.written out))) inside
               c.in-Open.ensures,
         )
       ];
     }
 
-pub returns-then-done-wanted : goal.returns-then-done-wanted
-returns-then-done-wanted c =
+pub returns-then-done-needed : goal.returns-then-done-needed
+returns-then-done-needed c =
     let state = c.args.state in
     let bs = c.args.bytes.now in
     let out = c.stages.out in
@@ -61,7 +61,7 @@ returns-then-done-wanted c =
     let k = c.min-end.result - d.written in
     let part = take k (drop d.written out) in
     let inside : d.written ≤ length out = omega (arith, far.gives.fits, far.gives.long) in
-    let eight = wanted_whole (limit_of c.args.size) c.in-Open.wanted (take d.written out) c.in-Open.ensures in
+    let eight = needed_whole (limit_of c.args.size) c.in-Open.needed (take d.written out) c.in-Open.ensures in
     record {
       gives = gives_more state.written state.zero_words state.literal_words k bs (take (length bs - d.taken) (drop d.taken bs)) c.args.out.now
           out part given d e c.requires.whole far.gives refl gives.long (take_rest bs d.taken) gives;
@@ -74,8 +74,8 @@ returns-then-done-wanted c =
                   (sym (take-put_mid_below d.written k out given n (omega (arith, few)) inside)) known.1,
             )
         | inr many ↦ (
-          c.in-Open.wanted,
-          still_open (limit_of c.args.size) c.in-Open.wanted d.written k n out given far.gives.whole whole many
+          c.in-Open.needed,
+          still_open (limit_of c.args.size) c.in-Open.needed d.written k n out given far.gives.whole whole many
               (omega (arith, less, gives.fits, gives.long)) (omega (arith, less, gives.fits, length-take k (drop d.written out))) inside
               c.in-Open.ensures,
         )
@@ -94,6 +94,6 @@ returns-then-done-wanted c =
             far.gives.long,
             length-take k (drop d.written out),
             length-drop d.written out,
-            c.if-done-wanted.true,
+            c.if-done-needed.true,
           )));
     }

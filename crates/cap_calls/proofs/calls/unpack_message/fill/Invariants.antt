@@ -8,7 +8,7 @@ abbrev pub invariant-stages : goal.invariant-stages
 invariant-stages l = record {
   gives : WritesWords l.fn.state.written l.fn.state.zero_words l.fn.state.literal_words l.bytes l.fn.out l.out l.done;
   before : (n : ℕ) → l.fn.state.written ≤ n → n < l.done.written → n % 8 ≡ 0
-      → (wanted : ℕ) × IsOpen (limit_of l.size) (take n l.out) wanted;
+      → (needed : ℕ) × IsOpen (limit_of l.size) (take n l.out) needed;
 }
 
 abbrev pub decreases-stages : goal.decreases-stages

@@ -18,7 +18,7 @@ returns-in-Open c =
         second = rest.2;
         whole = c.if-state-ne0.false;
         inside = c.if-state-out.false;
-        unfinished = λ m n f. open_not_whole (limit_of c.args.size) c.in-Open.wanted n (take c.args.state.now.written c.args.out.now) m c.in-Open.ensures f;
+        unfinished = λ m n f. open_not_whole (limit_of c.args.size) c.in-Open.needed n (take c.args.state.now.written c.args.out.now) m c.in-Open.ensures f;
       },
       λ _. refl,
     )

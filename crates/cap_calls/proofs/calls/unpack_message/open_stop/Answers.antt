@@ -18,7 +18,7 @@ returns-then-has_word-clause-stops c = λ limit size held e.
 
 pub returns-clause-stops : goal.returns-clause-stops
 returns-clause-stops c = λ limit size held e.
-    truncated c.args.wanted e.is_stage (c.has_word.ensures.none c.if-has_word.false)
+    truncated c.args.needed e.is_stage (c.has_word.ensures.none c.if-has_word.false)
     (λ (h, p, r). elim c.else-given-eq0.branch [
       | else-given-eq0-via-then-given-eq0+then-given-eq0-2+else-is_empty w ↦
           let some : 0 < length c.args.rest.now = grind (arith, nat_tests, w.is_empty.ensures, w.if-is_empty.false) in
@@ -27,4 +27,4 @@ returns-clause-stops c = λ limit size held e.
       | else-given-eq0-via-else-given-eq0 w ↦ w.if-given-eq0.false (sym e.long ∙ ap length h)
     ])
     c.requires.0 c.requires.1 (c.requires.3 ∙ sym e.long)
-    (ap₂ (λ (x : CallReport) (k : ℕ). record x { input_required = k }) c.requires.2 c.needed.ensures)
+    (ap₂ (λ (x : CallReport) (k : ℕ). record x { input_required = k }) c.requires.2 c.bytes_required.ensures)

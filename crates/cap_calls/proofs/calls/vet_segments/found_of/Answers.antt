@@ -2,7 +2,7 @@
 use Rattle.cap_spec.proofs.ProofNames.{List, ap, ap₂, length, refl, subst, sum, ℕ, ◌*◌, ◌∙◌, ◌≡◌, length-map, ⊤, sizes_of}
 use Rattle.cap_spec.proofs.ProofNames.{plain_words}
 use Rattle.cap_vet.specs.Limits.{depth_of, words_of}
-use Rattle.cap_calls.specs.CallNames.{Demands, Judges, framed_found, IsGood, message, AreSegments, TellsNoSegments}
+use Rattle.cap_calls.specs.CallNames.{Demands, Judges, framed_found, IsGood, message, AreSegments, ReportsNoSegments}
 use Rattle.cap_calls.specs.CallNames.{segments_in, words_in}
 use Rattle.cap_calls.specs.SegmentsCalls.{no_message}
 use Rattle.cap_calls.specs.Slices.{bytes_of}
@@ -32,5 +32,5 @@ pub returns-in-Err : goal.returns-in-Err
 returns-in-Err c =
     let parts = bytes_of c.args.segments.now in
     no_message (c.in-Some.ensures.some.0 refl) c.in-Err.fault
-    (subst (λ (n : ℕ). TellsNoSegments n parts c.in-Err.fault) c.in-Some.ensures.size c.in-Err.ensures.err)
+    (subst (λ (n : ℕ). ReportsNoSegments n parts c.in-Err.fault) c.in-Some.ensures.size c.in-Err.ensures.err)
     c.without_message.ensures

@@ -1,7 +1,7 @@
 use Rattle.cap_spec.proofs.Lemmas.{length_plain, words_exact, range_length}
 use Rattle.cap_spec.proofs.ProofNames.{length-append, rules}
 use Rattle.cap_canon.proofs.Afters.{row_joined}
-use Rattle.cap_canon.proofs.Standing.{range_words}
+use Rattle.cap_canon.proofs.LaidObjects.{range_words}
 use Rattle.cap_canon.proofs.appended.AppendedWordsCopyOutput.append_from.Goals as goal
 
 pub unwrap-requires : goal.unwrap-requires

@@ -1,7 +1,7 @@
 use Rattle.cap_spec.proofs.Lemmas.{length_plain, range_length}
 use Rattle.cap_spec.proofs.ProofNames.{rules}
 use Rattle.cap_canon.proofs.FirstWords.{first_words_count}
-use Rattle.cap_canon.proofs.Standing.{range_words}
+use Rattle.cap_canon.proofs.LaidObjects.{range_words}
 use Rattle.cap_canon.proofs.word_bytes.WordBytesCopyOutput.append_from.Goals as goal
 
 pub write_row-requires : goal.write_row-requires

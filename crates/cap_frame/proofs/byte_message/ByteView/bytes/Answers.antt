@@ -1,4 +1,4 @@
--- The words that are asked for stand where the table of starts tells.
+-- The words that are asked for are where the table of starts gives.
 use Rattle.std.proofs.Common.{ap, arith, length, rules, slice_index_or, ◌+◌, ◌<◌, ◌^◌, ◌∙◌, ◌≡◌}
 use Rattle.cap_spec.specs.Plain.{plain_text, plain_words}
 use Rattle.cap_frame.proofs.Cuts.{cut_length, starts_length}
@@ -28,4 +28,4 @@ pub returns : goal.returns
 returns c =
     let m = c.args.self.now in
     let p = part_facts m.sizes.now m.starts.now m.bytes.now c.args.s c.args.start c.args.words m.starts_are m.inside c.requires.exists c.requires.inside in
-    c.words_at.ensures.text ∙ (ap (λ bs. plain_text (plain_words bs)) c.words_at.ensures.part ∙ ap plain_text p.spelled)
+    c.words_at.ensures.text ∙ (ap (λ bs. plain_text (plain_words bs)) c.words_at.ensures.part ∙ ap plain_text p.encoded)

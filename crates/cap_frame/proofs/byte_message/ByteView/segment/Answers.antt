@@ -30,7 +30,7 @@ returns-clause-words c =
     let same : at ≡ at + 0 = omega arith in
     let all : slice_range own 0 (0 + n) ≡ own = take_all (0 + n - 0) own (omega (arith, c.len.ensures)) in
     ap plain_words c.words_at.ensures.part
-    ∙ (ap (λ (k : ℕ). plain_words (take (8 * n) (drop (8 * k) m.bytes.now))) same ∙ (p.spelled ∙ all))
+    ∙ (ap (λ (k : ℕ). plain_words (take (8 * n) (drop (8 * k) m.bytes.now))) same ∙ (p.encoded ∙ all))
 
 pub returns-clause-text : goal.returns-clause-text
 returns-clause-text c =
@@ -44,4 +44,4 @@ returns-clause-text c =
     let all : slice_range own 0 (0 + n) ≡ own = take_all (0 + n - 0) own (omega (arith, c.len.ensures)) in
     c.words_at.ensures.text
     ∙ ap plain_text (ap plain_words c.words_at.ensures.part
-    ∙ (ap (λ (k : ℕ). plain_words (take (8 * n) (drop (8 * k) m.bytes.now))) same ∙ (p.spelled ∙ all)))
+    ∙ (ap (λ (k : ℕ). plain_words (take (8 * n) (drop (8 * k) m.bytes.now))) same ∙ (p.encoded ∙ all)))

@@ -1,4 +1,4 @@
-use Rattle.cap_frame.proofs.BehindTable.{segments_are}
+use Rattle.cap_frame.proofs.AfterTable.{segments_are}
 use Rattle.cap_frame.proofs.framed.Framed.count.Goals as goal
 
 pub returns : goal.returns

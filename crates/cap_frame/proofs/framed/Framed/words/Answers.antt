@@ -1,4 +1,4 @@
-use Rattle.cap_frame.proofs.BehindTable.{words_are}
+use Rattle.cap_frame.proofs.AfterTable.{words_are}
 use Rattle.cap_frame.proofs.framed.Framed.words.Goals as goal
 
 pub returns-clause-total : goal.returns-clause-total

@@ -1,6 +1,6 @@
 use Rattle.std.proofs.Common.{ap, arith, refl, sym, take, ◌++◌, ◌+◌, ◌∙◌, ◌∷◌}
 use Rattle.cap_pack.specs.Holding.{held}
-use Rattle.cap_pack.proofs.GroupsSpelled.{full_apart, full_one, plain_extended, zeros_apart, zeros_joined, zeros_one}
+use Rattle.cap_pack.proofs.GroupsEncoded.{full_apart, full_one, plain_extended, zeros_apart, zeros_joined, zeros_one}
 use Rattle.cap_pack.proofs.packer.Packer.extend.Goals as goal
 
 pub invariant_of-self : goal.invariant_of-self

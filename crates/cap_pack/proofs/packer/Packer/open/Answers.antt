@@ -1,5 +1,5 @@
 use Rattle.std.proofs.Common.{arith, length, refl, ◌-◌}
-use Rattle.cap_pack.proofs.GroupsSpelled.{run_zeros, zeros_one}
+use Rattle.cap_pack.proofs.GroupsEncoded.{run_zeros, zeros_one}
 use Rattle.cap_pack.proofs.packer.Packer.open.Goals as goal
 
 pub invariant_of-self-then-first-eq0 : goal.invariant_of-self-then-first-eq0

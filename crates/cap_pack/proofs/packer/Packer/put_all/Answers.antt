@@ -1,5 +1,5 @@
 use Rattle.std.proofs.Common.{ap, arith, drop, refl, sym, ◌||◌, ◌∙◌}
-use Rattle.cap_pack.proofs.GroupsSpelled.{piece_split}
+use Rattle.cap_pack.proofs.GroupsEncoded.{piece_split}
 use Rattle.cap_pack.proofs.PuttingEach.{put_more, put_stops}
 use Rattle.cap_pack.proofs.packer.Packer.put_all.Goals as goal
 
@@ -21,7 +21,7 @@ loop-done-preserved g c =
           c.in_default.ensures.ok (
             is_open,
             c.put_piece.ensures.closed ∙ is_open,
-            ap (λ t. t || g.O.ByteOut.spent c.put_piece.new.self.output) c.put_piece.ensures.closed
+            ap (λ t. t || g.O.ByteOut.broken c.put_piece.new.self.output) c.put_piece.ensures.closed
                 ∙ ap (λ t. c.loop-done.self.closed || t) c.in_default.ensures.works.0,
             c.in_default.ensures.works.1,
           );

@@ -8,8 +8,8 @@ invariant-loop-done g l = record {
   within : l.done ≤ length l.words;
   put : PutSoFar (λ s ws. append_known (g.O.ByteOut.written s.output) (pack_text (held s.group s.words ++ ws))) (λ s. g.O.ByteOut.written s.output)
       (λ s. s.closed)
-      (λ s. s.closed || g.O.ByteOut.spent s.output) (λ s. g.O.ByteOut.failures s.output) l.initial.self l.self l.words (drop l.done l.words);
-  idle : g.O.ByteOut.spent l.self.output ≡ true → l.self.output ≡ l.initial.self.output;
+      (λ s. s.closed || g.O.ByteOut.broken s.output) (λ s. g.O.ByteOut.failures s.output) l.initial.self l.self l.words (drop l.done l.words);
+  idle : g.O.ByteOut.broken l.self.output ≡ true → l.self.output ≡ l.initial.self.output;
 }
 
 abbrev pub decreases-loop-done : goal.decreases-loop-done

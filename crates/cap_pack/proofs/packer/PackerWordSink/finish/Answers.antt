@@ -1,5 +1,5 @@
 use Rattle.cap_spec.proofs.ProofNames.{[], arith, refl, ◌++◌, pack_text}
-use Rattle.cap_words.proofs.PlainSpelling.{part_begins}
+use Rattle.cap_words.proofs.PlainEncoding.{part_begins}
 use Rattle.cap_pack.specs.Holding.{group_bytes, held}
 use Rattle.cap_pack.proofs.Joining.{group_written, no_more}
 use Rattle.cap_pack.proofs.packer.PackerWordSink.finish.Goals as goal

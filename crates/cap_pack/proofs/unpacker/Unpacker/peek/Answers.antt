@@ -1,5 +1,5 @@
 use Rattle.std.proofs.Common.{arith}
-use Rattle.cap_pack.proofs.AtHand.{words_ahead}
+use Rattle.cap_pack.proofs.BufferedBytes.{words_ahead}
 use Rattle.cap_pack.proofs.unpacker.Unpacker.peek.Goals as goal
 
 pub returns-clause-words : goal.returns-clause-words

@@ -1,5 +1,5 @@
 use Rattle.std.proofs.Common.{arith, inr, length, length-take-le, take, ◌*◌, ◌≡◌}
-use Rattle.cap_pack.proofs.AtHand.{words_appended}
+use Rattle.cap_pack.proofs.BufferedBytes.{words_appended}
 use Rattle.cap_pack.proofs.unpacker.UnpackerWordSource.append.Goals as goal
 
 pub returns-clause-words : goal.returns-clause-words

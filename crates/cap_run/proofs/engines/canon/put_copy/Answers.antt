@@ -11,7 +11,7 @@ returns-in-Err-canonical_over-clause-err g c = (
   c.in-Ok.ensures.ok.0,
   c.in-Ok.ensures.ok.1.strict,
   subst (λ m. HasNoCopy (g.M.Segments.segments m) c.in-Err-canonical_over.fault) c.in-Ok.ensures.message
-      (has_no_copy _ c.args.copy.now.items c.canonical_over.new.buffer.items c.in-Err-canonical_over.fault c.in-Err-canonical_over.ensures.tells),
+      (has_no_copy _ c.args.copy.now.items c.canonical_over.new.buffer.items c.in-Err-canonical_over.fault c.in-Err-canonical_over.ensures.reports),
   refl,
 )
 

@@ -1,5 +1,5 @@
 use Rattle.cap_frame.specs.Limit.{limit_of}
-use Rattle.cap_run.specs.Filtering.{TellsIn, WantsInForm}
+use Rattle.cap_run.specs.Filtering.{ReportsIn, AllocatesInForm}
 use Rattle.cap_run.proofs.Sifting.{filter_settled}
 use Rattle.cap_run.proofs.engines.filter.run_filter.Goals as goal
 
@@ -11,7 +11,7 @@ returns g c =
       ok = e.ok;
       err = e.err;
       whole = λ own ms.
-          filter_settled g.S.WordSource g.O.ByteOut g.E.ByteOut c.args.form (TellsIn c.args.form c.args.demands s.limits)
-          (WantsInForm c.args.form c.args.demands s.limits) (limit_of s.size) s.messages c.args.source.now c.sift_each.new.source c.args.out.now
+          filter_settled g.S.WordSource g.O.ByteOut g.E.ByteOut c.args.form (ReportsIn c.args.form c.args.demands s.limits)
+          (AllocatesInForm c.args.form c.args.demands s.limits) (limit_of s.size) s.messages c.args.source.now c.sift_each.new.source c.args.out.now
           c.sift_each.new.out c.args.log.now c.sift_each.new.log c.sift_each.result own ms e.ok e.err;
     }

@@ -4,11 +4,11 @@ use Rattle.cap_run.proofs.Transcoding.{copied_stopped, copies_more, copies_stops
 use Rattle.cap_run.proofs.engines.transcode.put_words.Goals as goal
 
 pub loop-put-init : goal.loop-put-init
-loop-put-init g c = record { few = omega arith; room = refl; copies = copies_start }
+loop-put-init g c = record { few = omega arith; fits = refl; copies = copies_start }
 
 pub returns-in-Err : goal.returns-in-Err
 returns-in-Err g c =
-    let long = length-take-le (8 * c.min-most.result) c.loop-put.room (omega arith) in
+    let long = length-take-le (8 * c.min-most.result) c.loop-put.buffer (omega arith) in
     stops_midway c.loop-put.invariant.copies c.in-Err.ensures.err (omega (arith, long)) (omega (arith, long))
 
 pub loop-put-preserved-then-count-gt0 : goal.loop-put-preserved-then-count-gt0
@@ -44,7 +44,7 @@ returns-in-Err-next g c =
       now,
       gives_no_next g.S.WordSource c.put_ready.new.source c.next.new.self c.in-Err-next.fault c.in-Err-next.ensures.err
           (λ byte e. c.in-Err-next.ensures.truncated byte (cc)) (λ byte e. c.in-Err-next.ensures.at byte (cc))
-          (λ e. c.in-Err-next.ensures.device (cc)) (λ e. c.in-Err-next.ensures.was_spent (cc)),
+          (λ e. c.in-Err-next.ensures.device (cc)) (λ e. c.in-Err-next.ensures.was_broken (cc)),
     )
 
 pub loop-put-preserved : goal.loop-put-preserved
@@ -54,7 +54,7 @@ loop-put-preserved g c =
     (rw c.in-Ok-Some.field-0-is at c.in-Ok-Some.ensures.words) (rw c.in-Ok-Some.field-0-is at c.in-Ok-Some.ensures.word) c.in-Ok-Some.ensures.ok in
     record {
       few = omega arith;
-      room = omega arith;
+      fits = omega arith;
       copies = copies_more now gives c.in_default.ensures.ok;
     }
 

@@ -5,7 +5,7 @@ use Rattle.cap_run.proofs.engines.transcode.put_words.Given as goal
 abbrev pub invariant-loop-put : goal.invariant-loop-put
 invariant-loop-put g l = record {
   few : l.put ≤ l.words;
-  room : length l.room ≡ length l.initial.room;
+  fits : length l.buffer ≡ length l.initial.buffer;
   copies : Transcodes g.S.WordSource g.K.WordSink l.initial.source l.source l.initial.sink l.sink l.put;
 }
 

@@ -1,6 +1,6 @@
-use Rattle.cap_run.proofs.Demanding.{never_wants}
+use Rattle.cap_run.proofs.Demanding.{never_allocates}
 use Rattle.cap_run.proofs.engines.vet.run_vet_with.Goals as goal
 use Rattle.cap_spec.proofs.ProofNames.{rules}
 
 pub returns : goal.returns
-returns g c = search (rules, never_wants)
+returns g c = search (rules, never_allocates)

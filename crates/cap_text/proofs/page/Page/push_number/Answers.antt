@@ -1,6 +1,6 @@
 use Rattle.std.proofs.Common.{ap, arith, decimal, drop, length, length-append, length-take-le, subst, sym, take, ◌++◌}
 use Rattle.std.proofs.Common.{◌+◌, ◌∙◌, ◌≡◌}
-use Rattle.cap_text.proofs.Numbers.{length-decimal_few, text_behind}
+use Rattle.cap_text.proofs.Numbers.{length-decimal_few, text_after}
 use Rattle.cap_text.proofs.page.Page.push_number.Goals as goal
 
 pub overflow_add-end : goal.overflow_add-end
@@ -17,7 +17,7 @@ returns-clause-items c =
     let start : c.write_digits.result ≡ c.self.inside.len = omega (arith, c.write_digits.ensures.start, c.digit_count.ensures) in
     let end : c.self.inside.len + length (decimal c.args.n) ≡ c.self.inside.len + c.digit_count.result = ap
     (λ k. c.self.inside.len + k) (sym c.digit_count.ensures) in
-    text_behind c.self.inside.bytes c.write_digits.new.buf (decimal c.args.n)
+    text_after c.self.inside.bytes c.write_digits.new.buf (decimal c.args.n)
     (drop (c.self.inside.len + c.digit_count.result) c.self.inside.bytes) c.self.inside.len
     (c.self.inside.len + c.digit_count.result)
     end (subst (λ k. take k c.write_digits.new.buf ≡ take k c.self.inside.bytes) start c.write_digits.ensures.before)
@@ -30,7 +30,7 @@ returns-clause-few c =
     let start : c.write_digits.result ≡ c.self.inside.len = omega (arith, c.write_digits.ensures.start, c.digit_count.ensures) in
     let end : c.self.inside.len + length (decimal c.args.n) ≡ c.self.inside.len + c.digit_count.result = ap
     (λ k. c.self.inside.len + k) (sym c.digit_count.ensures) in
-    let items = text_behind c.self.inside.bytes c.write_digits.new.buf (decimal c.args.n)
+    let items = text_after c.self.inside.bytes c.write_digits.new.buf (decimal c.args.n)
     (drop (c.self.inside.len + c.digit_count.result) c.self.inside.bytes) c.self.inside.len
     (c.self.inside.len + c.digit_count.result)
     end (subst (λ k. take k c.write_digits.new.buf ≡ take k c.self.inside.bytes) start c.write_digits.ensures.before)

@@ -6,7 +6,7 @@ use Rattle.cap_trace.proofs.naming.NamedPath.find.Goals as goal
 pub returns-clause-traced : goal.returns-clause-traced
 returns-clause-traced g c =
     let most : depth_of c.args.limits ≤ length c.self.inside.steps = omega (arith, c.args.limits.shallow) in
-    traced_taken _ _ _ c.self.inside.steps _ _ c.path_of_pointer-count.ensures.few most c.path_of_pointer-count.ensures.tells
+    traced_taken _ _ _ c.self.inside.steps _ _ c.path_of_pointer-count.ensures.few most c.path_of_pointer-count.ensures.reports
 
 pub returns-clause-fault : goal.returns-clause-fault
 returns-clause-fault g c = λ words r f e.

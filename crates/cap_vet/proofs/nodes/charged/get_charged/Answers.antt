@@ -2,7 +2,7 @@ use Rattle.cap_spec.proofs.ProofNames.{Err, [], ap, append_assoc, arith, drop, g
 use Rattle.cap_spec.proofs.ProofNames.{take_all, ◌++◌, ◌<◌, ◌∙◌, ◌∷◌, ◌≡◌, split_at, take_more, AreOnPath, ReachesSpot}
 use Rattle.cap_spec.proofs.Verdicts.OnPath.{one_path_refusal, path_not_refused}
 use Rattle.cap_vet.specs.VetNames.{Step, Ptr, Arrives}
-use Rattle.cap_vet.proofs.Charging.{arrives_nowhere, charges_nowhere, fault_longer}
+use Rattle.cap_vet.proofs.Charging.{arrives_no_node, charges_no_node, fault_longer}
 use Rattle.cap_vet.proofs.nodes.charged.get_charged.Goals as goal
 
 pub returns-in-Err-clause-accepts : goal.returns-in-Err-clause-accepts
@@ -21,12 +21,12 @@ returns-in-Ok-None-clause-ok g c =
     let lt : i < length path = omega (arith, c.loop-step-test.true) in
     let h = c.loop-step.invariant.arrived in
     let none = rw c.in-Ok-None.field-0-is at (c.in-Ok-None.ensures.none (take i path) h.0 h.1) in
-    charges_nowhere m _ _ (take i path) (drop (suc i) path) path (get_or path i (Ptr 0)) h.0 c.loop-step.at (sym (split_at path i (Ptr 0) lt)) h.1 none
+    charges_no_node m _ _ (take i path) (drop (suc i) path) path (get_or path i (Ptr 0)) h.0 c.loop-step.at (sym (split_at path i (Ptr 0) lt)) h.1 none
 
 pub returns-in-Ok-None-clause-refuses : goal.returns-in-Ok-None-clause-refuses
 returns-in-Ok-None-clause-refuses g c = λ r refused.
     (let k = returns-in-Ok-None-clause-ok g c in
-    absurd (path_not_refused _ _ _ c.args.path.now k.ways k.cost r k.on_path k.some k.costs k.shallow (omega (arith, k.spent)) refused))
+    absurd (path_not_refused _ _ _ c.args.path.now k.ways k.cost r k.on_path k.some k.costs k.shallow (omega (arith, k.consumed)) refused))
 
 pub returns-in-Ok-None-clause-none : goal.returns-in-Ok-None-clause-none
 returns-in-Ok-None-clause-none g c =
@@ -36,7 +36,7 @@ returns-in-Ok-None-clause-none g c =
     let lt : i < length path = omega (arith, c.loop-step-test.true) in
     let h = c.loop-step.invariant.arrived in
     let none = rw c.in-Ok-None.field-0-is at (c.in-Ok-None.ensures.none (take i path) h.0 h.1) in
-    arrives_nowhere m _ _ (take i path) (drop (suc i) path) path (get_or path i (Ptr 0)) h.0 c.loop-step.at (split_at path i (Ptr 0) lt) h.1 none
+    arrives_no_node m _ _ (take i path) (drop (suc i) path) path (get_or path i (Ptr 0)) h.0 c.loop-step.at (split_at path i (Ptr 0) lt) h.1 none
 
 pub returns-in-Err-step-clause-err : goal.returns-in-Err-step-clause-err
 returns-in-Err-step-clause-err g c =
@@ -93,7 +93,7 @@ returns-clause-refuses g c = λ r refused.
     let h = c.loop-step.invariant.arrived in
     let whole : take i path ≡ path = take_all i path (omega (arith, c.loop-step-test.false)) in
     let on : AreOnPath m path h.1.ways = subst (λ u. AreOnPath m u h.1.ways) whole h.1.on_path in
-    absurd (path_not_refused m _ _ path h.1.ways c.loop-step.at.spent r on h.1.some h.1.costs h.1.shallow h.1.within refused))
+    absurd (path_not_refused m _ _ path h.1.ways c.loop-step.at.consumed r on h.1.some h.1.costs h.1.shallow h.1.within refused))
 
 pub returns-in-Err-clause-ok : goal.returns-in-Err-clause-ok
 returns-in-Err-clause-ok g c = tt

@@ -1,10 +1,10 @@
 -- The path is followed step by step.
 use Rattle.std.proofs.Common.{List, [], ap, append-nil, append_assoc, arith, refl, subst, sym, ◌++◌, ◌∙◌, ◌∷◌}
 use Rattle.std.proofs.Math.Logic.{∥∥₁_map}
-use Rattle.cap_vet.specs.VetNames.{Step, Arrives, IsWay, Nowhere, To}
+use Rattle.cap_vet.specs.VetNames.{Step, Arrives, IsWay, Early, To}
 use Rattle.cap_vet.specs.declared.nodes.way.Way.TheVariants.{Refused}
-use Rattle.cap_vet.proofs.PathWays.{all_steps, done_steps, step_nowhere, step_refused}
-use Rattle.cap_vet.proofs.Somewhere.{arrival_few, arrival_levels}
+use Rattle.cap_vet.proofs.PathWays.{all_steps, done_steps, step_no_node, step_refused}
+use Rattle.cap_vet.proofs.AtSomePlace.{arrival_few, arrival_levels}
 use Rattle.cap_vet.proofs.StepsGiven.{no_step_given, step_given}
 use Rattle.cap_vet.proofs.nodes.getting.along.Goals as goal
 
@@ -58,8 +58,8 @@ returns-in-Ok-None-clause-way g c = λ first steps a arrives left.
     let n = step_given g.S.StepSource.gives c.loop-step.left c.next_step.new.self c.next_step.result step k.0 c.in-Some.is
     c.next_step.ensures.some c.next_step.ensures.none k.2 in
     let none = rw c.in-Ok-None.field-0-is at (c.in-Ok-None.ensures.none (first ++ h.0) x.0 x.1) in
-    subst (λ (ss : List Step). IsWay m c.args.words c.args.depth ss (Nowhere c.loop-step.at)) (all_steps first h.0 steps k.0 n.0 step k.1 n.1)
-    (step_nowhere m c.args.words c.args.depth (first ++ h.0) n.0 step x.0 c.loop-step.at x.1 none)
+    subst (λ (ss : List Step). IsWay m c.args.words c.args.depth ss (Early c.loop-step.at)) (all_steps first h.0 steps k.0 n.0 step k.1 n.1)
+    (step_no_node m c.args.words c.args.depth (first ++ h.0) n.0 step x.0 c.loop-step.at x.1 none)
 
 pub returns-in-Err-clause-way : goal.returns-in-Err-clause-way
 returns-in-Err-clause-way g c = λ first steps a arrives left.
@@ -95,7 +95,7 @@ returns-in-Ok-None-clause-leads g c =
     ∥∥₁_map c.requires.arrived (λ r.
     let x = h.1 r.0 r.1 r.2 in
     let none = rw c.in-Ok-None.field-0-is at (c.in-Ok-None.ensures.none (r.0 ++ h.0) x.0 x.1) in
-    ((r.0 ++ h.0) ++ step ∷ [], step_nowhere m c.args.words c.args.depth (r.0 ++ h.0) [] step x.0 c.loop-step.at x.1 none))
+    ((r.0 ++ h.0) ++ step ∷ [], step_no_node m c.args.words c.args.depth (r.0 ++ h.0) [] step x.0 c.loop-step.at x.1 none))
 
 pub returns-in-Err-clause-leads : goal.returns-in-Err-clause-leads
 returns-in-Err-clause-leads g c =

@@ -2,7 +2,7 @@
 use Rattle.cap_spec.proofs.ProofNames.{List, Option, [], ap, append_assoc, arith, refl, subst, sym, ◌++◌, ◌∙◌, ◌∷◌, word}
 use Rattle.cap_vet.specs.VetNames.{Step, IsWay, SomeArrives, To, LaxPointer}
 use Rattle.cap_vet.proofs.PathWays.{done_steps}
-use Rattle.cap_vet.proofs.Somewhere.{arrival_few, arrival_levels}
+use Rattle.cap_vet.proofs.AtSomePlace.{arrival_few, arrival_levels}
 use Rattle.cap_vet.proofs.StepsGiven.{no_step_given, step_given}
 use Rattle.cap_vet.proofs.nodes.getting.follow_near.Goals as goal
 

@@ -2,7 +2,7 @@
 use Rattle.std.proofs.Math.Logic.{∥∥₁_map}
 use Rattle.cap_vet.specs.declared.nodes.way.Way.TheVariants.{To}
 use Rattle.cap_vet.proofs.PathWays.{way_as}
-use Rattle.cap_vet.proofs.Somewhere.{way_found}
+use Rattle.cap_vet.proofs.AtSomePlace.{way_found}
 use Rattle.cap_vet.proofs.nodes.getting.given_within.Goals as goal
 
 pub given-requires : goal.given-requires

@@ -1,5 +1,5 @@
 use Rattle.cap_spec.proofs.ProofNames.{arith, rules, sym, IsMessage}
-use Rattle.cap_ptr.proofs.Pads.{stands-near}
+use Rattle.cap_ptr.proofs.Pads.{lies-near}
 use Rattle.cap_vet.proofs.NearFound.{finds_null, near_fits, not_near}
 use Rattle.cap_vet.proofs.nodes.near_found.found_near.Goals as goal
 
@@ -19,7 +19,7 @@ returns-clause-found g c =
     let m = g.M.Segments.segments c.args.message.now in
     let list = c.in_ok-list.ensures in
     c.object_within-2.ensures.found m c.args.s c.args.w
-    (list.found c.args.s c.args.w (stands-near m c.args.s c.args.w c.word-word.result c.word-word.ensures (λ k. omega (arith, k, list.list)))) list.over
+    (list.found c.args.s c.args.w (lies-near m c.args.s c.args.w c.word-word.result c.word-word.ensures (λ k. omega (arith, k, list.list)))) list.over
 
 pub returns-in_err-list-clause-some : goal.returns-in_err-list-clause-some
 returns-in_err-list-clause-some g c = λ near.

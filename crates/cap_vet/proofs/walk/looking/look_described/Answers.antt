@@ -1,6 +1,6 @@
 use Rattle.cap_spec.proofs.Frames.Messages.{HasWord-at}
 use Rattle.cap_spec.proofs.ProofNames.{IfSome, None, Option, Some, arith, rules, ◌≡◌, kind, two}
-use Rattle.cap_ptr.proofs.Pads.{stands-one_pad}
+use Rattle.cap_ptr.proofs.Pads.{lies-one_pad}
 use Rattle.cap_vet.proofs.Laxness.{object_form}
 use Rattle.cap_vet.proofs.walk.looking.look_described.Goals as goal
 
@@ -12,14 +12,14 @@ pub described_within-requires-clause-pointer : goal.described_within-requires-cl
 described_within-requires-clause-pointer g c = (
   c.args.s,
   c.args.w,
-  λ q has object. stands-one_pad _ c.args.s c.args.w c.word-word.result c.far_segment-segment.result c.pad-at.result q c.word-word.ensures
+  λ q has object. lies-one_pad _ c.args.s c.args.w c.word-word.result c.far_segment-segment.result c.pad-at.result q c.word-word.ensures
       (omega (arith, c.kind.ensures, c.if-kind-ne2.false), omega (arith, c.two.ensures, c.if-two-ne0.false)) c.far_segment-segment.ensures
       c.pad-at.ensures has,
 )
 
 pub returns-clause-looked : goal.returns-clause-looked
 returns-clause-looked g c =
-    c.described_within.ensures.looked c.args.s c.args.w (λ q has object. stands-one_pad _ c.args.s c.args.w c.word-word.result c.far_segment-segment.result
+    c.described_within.ensures.looked c.args.s c.args.w (λ q has object. lies-one_pad _ c.args.s c.args.w c.word-word.result c.far_segment-segment.result
     c.pad-at.result q c.word-word.ensures (omega (arith, c.kind.ensures, c.if-kind-ne2.false), omega (arith, c.two.ensures, c.if-two-ne0.false))
     c.far_segment-segment.ensures c.pad-at.ensures has)
 

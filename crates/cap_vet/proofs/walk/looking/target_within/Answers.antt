@@ -13,7 +13,7 @@ returns c = λ m s w f.
       f.0,
       f.1,
       looks_object f.0 f.1 x c.run_of-run.result f.2 c.levels_taken.ensures.value
-          (omega (arith, c.depth.ensures.value, shallow)) (omega (arith, c.words.ensures.value, c.if-spent-target.false)) c.requires.spent
+          (omega (arith, c.depth.ensures.value, shallow)) (omega (arith, c.words.ensures.value, c.if-consumed-target.false)) c.requires.consumed
           (c.run_of-run.ensures.places m s w f.0 f.1 f.2) (c.run_of-run.ensures.inside m s w f.0 f.1 f.2)
           (c.run_of-run.ensures.rises _ (omega (arith, c.depth.ensures.value, shallow))),
     )

@@ -1,5 +1,5 @@
 use Rattle.std.proofs.Common.{arith, inl, inr, ◌+◌, ◌<◌, ◌∙◌, ◌≡◌}
-use Rattle.cap_vet.proofs.ObjectRuns.{start_fits, struct_places, struct_room, structs_empty, structs_inside}
+use Rattle.cap_vet.proofs.ObjectRuns.{start_fits, struct_places, struct_capacity, structs_empty, structs_inside}
 use Rattle.cap_vet.proofs.ObjectRuns.{structs_places}
 use Rattle.cap_vet.proofs.walk.pointer_run.run_of.Goals as goal
 
@@ -22,7 +22,7 @@ returns-in-Struct-clause-places c = λ m s w q tag f.
 pub returns-in-Struct-clause-inside : goal.returns-in-Struct-clause-inside
 returns-in-Struct-clause-inside c = λ m s w q tag f.
     let g = rw c.in-Struct.is at f in
-    c.row_run.ensures.inside m g.finds.inside.exists (omega (arith, c.from.ensures, c.from-in-Struct.ensures, struct_room m s w q tag _ _ g))
+    c.row_run.ensures.inside m g.finds.inside.exists (omega (arith, c.from.ensures, c.from-in-Struct.ensures, struct_capacity m s w q tag _ _ g))
 
 pub returns-else-pointers-eq0-clause-places : goal.returns-else-pointers-eq0-clause-places
 returns-else-pointers-eq0-clause-places c = λ m s w q tag f.

@@ -40,8 +40,8 @@ returns-in-None-pop-clause-runs g c =
       runs = rw (c.in-None.is, c.if-advance.false, none) refl;
     }
 
-pub returns-then-is_full-clause-room : goal.returns-then-is_full-clause-room
-returns-then-is_full-clause-room g c = eqb-true (length c.push_kept.new.stack.items) g.row.N (sym c.is_full.ensures.value ∙ c.if-is_full.true)
+pub returns-then-is_full-clause-fits : goal.returns-then-is_full-clause-fits
+returns-then-is_full-clause-fits g c = eqb-true (length c.push_kept.new.stack.items) g.row.N (sym c.is_full.ensures.value ∙ c.if-is_full.true)
 
-pub returns-in-Some-pop-clause-room : goal.returns-in-Some-pop-clause-room
-returns-in-Some-pop-clause-room g c = omega (arith, c.in-Some-pop.ensures.len, c.requires.room)
+pub returns-in-Some-pop-clause-fits : goal.returns-in-Some-pop-clause-fits
+returns-in-Some-pop-clause-fits g c = omega (arith, c.in-Some-pop.ensures.len, c.requires.fits)

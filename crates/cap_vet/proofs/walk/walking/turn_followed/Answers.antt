@@ -36,7 +36,7 @@ go_on-requires g c =
     let m = g.M.Segments.segments c.args.message.now in
     let message : IsMessage m = search rules in (
       search rules,
-      (c.requires.room, (m, message, topmost_in _ _ _ c.args.stack.now.items c.args.run.now c.args.report.now _ _ c.requires.walking.walks)),
+      (c.requires.fits, (m, message, topmost_in _ _ _ c.args.stack.now.items c.args.run.now c.args.report.now _ _ c.requires.walking.walks)),
     )
 
 pub returns-in-Ok-after : goal.returns-in-Ok-after
@@ -50,7 +50,7 @@ returns-in-Ok-after g c = record {
       rw (c.add-below.ensures.run, c.add-below.ensures.report)
       (record { walking = record { seen = n.a.path ∷ n.seen; ahead = v.later; walks = v.walks; known = known }; less = v.less }))
       c.go_on.ensures.runs;
-  room = c.go_on.ensures.room;
+  fits = c.go_on.ensures.fits;
   err = tt;
   known = tt;
 }
@@ -61,7 +61,7 @@ returns-in-Err g c =
     let rest = has_rest c.args.run.now f.some in
     let at = next_at _ _ c.args.stack.now.items c.args.run.now _ _ _ c.requires.walking rest.1 in
     let fault = c.in-Err.ensures.err (c.args.stack.now.items ++ option_to_list rest.0) at.next in
-    record { ok = tt; room = tt; err = inr fault.0; known = inr (fault.0, at.next.seen, fault.1, at.known) }
+    record { ok = tt; fits = tt; err = inr fault.0; known = inr (fault.0, at.next.seen, fault.1, at.known) }
 
 pub after-requires-clause-strict : goal.after-requires-clause-strict
 after-requires-clause-strict g c = λ f. absurd (cc f)

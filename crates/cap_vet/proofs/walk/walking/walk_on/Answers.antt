@@ -27,7 +27,7 @@ go_on-requires g c =
     let message : IsMessage m = search rules in (
       search rules,
       (
-        (c.walk.invariant.room, c.requires.room.1),
+        (c.walk.invariant.fits, c.requires.fits.1),
         (m, message, topmost_in _ _ _ c.walk.stack.items c.walk.run c.walk.report _ _ c.walk.invariant.walking.walks),
       ),
     )
@@ -35,7 +35,7 @@ go_on-requires g c =
 pub turn_other-requires : goal.turn_other-requires
 turn_other-requires g c = (
   search rules,
-  ((c.walk.invariant.room, c.requires.room.1), rw (c.in-None.ensures.none.0, c.in-None.ensures.none.1) c.walk.invariant.walking),
+  ((c.walk.invariant.fits, c.requires.fits.1), rw (c.in-None.ensures.none.0, c.in-None.ensures.none.1) c.walk.invariant.walking),
 )
 
 pub pass_nulls-requires : goal.pass_nulls-requires
@@ -56,7 +56,7 @@ walk-preserved-then-is_null g c =
     let known = known_past m (g.T.Turn.knows c.turn_described.new.turn m) passed.nulls on.walking.seen
     (g.met.T.Turn.passes c.turn_described.new.turn m) passed.are_null on.walking.known in
     record {
-      room = rw c.in-More.is at c.go_on.ensures.room;
+      fits = rw c.in-More.is at c.go_on.ensures.fits;
       walking = record { seen = passed.nulls ++ on.walking.seen; ahead = passed.later; walks = passed.walks; known = known };
     }
 
@@ -75,7 +75,7 @@ walk-preserved-else-is_null g c =
     let on = rw c.in-More.is at (steps_on m c.args.limits.now c.walk.stack.items c.walk.run c.walk.report c.turn_described.new.report _
     (g.T.Turn.knows c.turn_described.new.turn m) c.in-Some-Ok.below c.go_on.result c.go_on.new.stack.items c.go_on.new.run c.walk.invariant.walking
     (λ runs at. rw c.in-Some-Ok.field-0-is at (c.in-Some-Ok.ensures.ok runs at)) c.go_on.ensures.runs) in
-    record { room = rw c.in-More.is at c.go_on.ensures.room; walking = on.walking }
+    record { fits = rw c.in-More.is at c.go_on.ensures.fits; walking = on.walking }
 
 pub walk-smaller-else-is_null : goal.walk-smaller-else-is_null
 walk-smaller-else-is_null g c =
@@ -91,7 +91,7 @@ returns-in-Full-clause-full g c = λ f.
     let on = rw c.in-Full.is at (steps_on m c.args.limits.now c.walk.stack.items c.walk.run c.walk.report c.turn_described.new.report _
     (g.T.Turn.knows c.turn_described.new.turn m) c.in-Some-Ok.below c.go_on.result c.go_on.new.stack.items c.go_on.new.run c.walk.invariant.walking
     (λ runs at. rw c.in-Some-Ok.field-0-is at (c.in-Some-Ok.ensures.ok runs at)) c.go_on.ensures.runs) in
-    (rw c.in-Full.is at c.go_on.ensures.room, on.walking)
+    (rw c.in-Full.is at c.go_on.ensures.fits, on.walking)
 
 pub returns-in-Done-clause-done : goal.returns-in-Done-clause-done
 returns-in-Done-clause-done g c = λ f.
@@ -104,7 +104,7 @@ returns-in-Done-clause-done g c = λ f.
 pub walk-preserved : goal.walk-preserved
 walk-preserved g c =
     let on = rw (c.in-Ok-More.field-0-is, c.in-None.ensures.none.0) at c.in-Ok-More.ensures.ok in
-    record { room = rw c.in-Ok-More.field-0-is at c.in-Ok-More.ensures.room; walking = on.walking }
+    record { fits = rw c.in-Ok-More.field-0-is at c.in-Ok-More.ensures.fits; walking = on.walking }
 
 pub walk-smaller : goal.walk-smaller
 walk-smaller g c =
@@ -114,7 +114,7 @@ walk-smaller g c =
 pub returns-in-Ok-Full-clause-full : goal.returns-in-Ok-Full-clause-full
 returns-in-Ok-Full-clause-full g c = λ f.
     let on = rw (c.in-Ok-Full.field-0-is, c.in-None.ensures.none.0) at c.in-Ok-Full.ensures.ok in
-    (rw c.in-Ok-Full.field-0-is at c.in-Ok-Full.ensures.room, on.walking)
+    (rw c.in-Ok-Full.field-0-is at c.in-Ok-Full.ensures.fits, on.walking)
 
 pub returns-in-Ok-Done-clause-done : goal.returns-in-Ok-Done-clause-done
 returns-in-Ok-Done-clause-done g c = λ f.

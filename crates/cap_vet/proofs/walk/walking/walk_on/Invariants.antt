@@ -4,7 +4,7 @@ use Rattle.cap_vet.proofs.walk.walking.walk_on.Given as goal
 
 abbrev pub invariant-walk : goal.invariant-walk
 invariant-walk g l = record {
-  room : length l.stack.items < g.row.N;
+  fits : length l.stack.items < g.row.N;
   walking : IsWalking (g.M.Segments.segments l.message) l.limits (l.stack.items ++ l.run ∷ []) l.report
       (g.T.Turn.knows l.turn (g.M.Segments.segments l.message));
 }

@@ -4,7 +4,7 @@ use Rattle.std.proofs.Common.{◌∙◌, ◌≡◌}
 use Rattle.std.proofs.KnownBytes.{Keeps-refl, prepend_known-read}
 use Rattle.std.specs.Io.KnownBytes.{IsAtEnd, Keeps, prepend_known}
 use Rattle.cap_words.proofs.Buffering.{given_off, none_between}
-use Rattle.cap_words.proofs.Told.{told_consumes, told_end, told_past}
+use Rattle.cap_words.proofs.Known.{known_consumes, known_end, known_past}
 use Rattle.cap_words.proofs.buffered_in.BufferedInByteIn.read.Goals.{else-self, then-self+else-buf-ge-BUFFER+in_default}
 use Rattle.cap_words.proofs.buffered_in.BufferedInByteIn.read.Goals as goal
 
@@ -30,7 +30,7 @@ returns-clause-bytes g c =
       | else-self w ↦ absurd (w.if-self.false (rw w.self-is at empty))
     ] in
     (ap (λ k. take k (drop (s.start + given.result) s.buffer.items)) {y = 0} (omega arith), end)) in
-    (told_consumes _ _ _ read.0, λ zero some. told_end _ (read.1 (zero, some)))
+    (known_consumes _ _ _ read.0, λ zero some. known_end _ (read.1 (zero, some)))
 
 -- nothing was held, before or after
 pub returns-then-buf-ge-BUFFER-clause-bytes : goal.returns-then-buf-ge-BUFFER-clause-bytes
@@ -38,5 +38,5 @@ returns-then-buf-ge-BUFFER-clause-bytes g c =
     let old = c.args.self.now in
     let new = c.read_past.new.self in
     let held = c.read_past.ensures.held in
-    told_past _ _ c.read_past.result _ (none_between old.buffer.items old.start old.end c.if-self.true)
+    known_past _ _ c.read_past.result _ (none_between old.buffer.items old.start old.end c.if-self.true)
     (none_between new.buffer.items new.start new.end (held.1 ∙ c.if-self.true ∙ sym held.2)) c.read_past.ensures.bytes

@@ -1,11 +1,11 @@
 use Rattle.std.proofs.Common.{rules}
-use Rattle.cap_words.proofs.Told.{told_consumes, told_end}
+use Rattle.cap_words.proofs.Known.{known_consumes, known_end}
 use Rattle.cap_words.proofs.from_read.FromReadByteIn.read.Goals as goal
 
 pub returns-in-Ok-clause-bytes : goal.returns-in-Ok-clause-bytes
 returns-in-Ok-clause-bytes g c =
     let read = c.in-Ok.ensures.bytes in
-    (told_consumes _ _ _ read.0, λ zero some. told_end _ (read.1 zero some))
+    (known_consumes _ _ _ read.0, λ zero some. known_end _ (read.1 zero some))
 
 pub returns-in-Err-clause-device : goal.returns-in-Err-clause-device
 returns-in-Err-clause-device g c = search rules

@@ -4,8 +4,8 @@ use Rattle.cap_words.proofs.plain_sink.PlainSink.new.Goals as goal
 pub returns-clause-closed : goal.returns-clause-closed
 returns-clause-closed g c = search rules
 
-pub returns-clause-spent : goal.returns-clause-spent
-returns-clause-spent g c = search rules
+pub returns-clause-broken : goal.returns-clause-broken
+returns-clause-broken g c = search rules
 
 pub returns-clause-holds_nothing : goal.returns-clause-holds_nothing
 returns-clause-holds_nothing g c = search rules

@@ -1,5 +1,5 @@
 use Rattle.cap_spec.proofs.ProofNames.{ap, refl, sym, ◌++◌, plain_text}
-use Rattle.cap_words.proofs.PlainSpelling.{part_begins, word_put}
+use Rattle.cap_words.proofs.PlainEncoding.{part_begins, word_put}
 use Rattle.cap_words.proofs.plain_sink.PlainSinkWordSink.put.Goals as goal
 
 pub returns-in-Ok-clause-put : goal.returns-in-Ok-clause-put

@@ -1,5 +1,5 @@
 use Rattle.cap_spec.proofs.ProofNames.{refl, rules, plain_words}
-use Rattle.cap_words.proofs.AtHand.{bytes_small}
+use Rattle.cap_words.proofs.Buffered.{bytes_small}
 use Rattle.cap_words.proofs.WholeWords.{whole_text, words_begin, words_put}
 use Rattle.cap_words.proofs.plain_sink.PlainSinkWordSink.put_bytes.Goals as goal
 
@@ -31,5 +31,5 @@ returns-in-Err-clause-device g c = search rules
 pub returns-in-Err-clause-memory : goal.returns-in-Err-clause-memory
 returns-in-Err-clause-memory g c = search rules
 
-pub returns-in-Err-clause-was_spent : goal.returns-in-Err-clause-was_spent
-returns-in-Err-clause-was_spent g c = search rules
+pub returns-in-Err-clause-was_broken : goal.returns-in-Err-clause-was_broken
+returns-in-Err-clause-was_broken g c = search rules

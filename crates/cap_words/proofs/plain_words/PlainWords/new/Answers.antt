@@ -13,8 +13,8 @@ returns-clause-places g c = search rules
 pub returns-clause-ended : goal.returns-clause-ended
 returns-clause-ended g c = search rules
 
-pub returns-clause-spent : goal.returns-clause-spent
-returns-clause-spent g c = search rules
+pub returns-clause-broken : goal.returns-clause-broken
+returns-clause-broken g c = search rules
 
 pub returns-clause-shows_failures : goal.returns-clause-shows_failures
 returns-clause-shows_failures g c = search rules

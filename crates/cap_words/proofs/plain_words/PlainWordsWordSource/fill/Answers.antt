@@ -1,6 +1,6 @@
 use Rattle.std.proofs.Common.{arith, drop, length, length-drop, length-take-le, refl, take, ◌*◌, ◌++◌, ◌/◌, ◌<◌, ◌≡◌}
 use Rattle.std.specs.List.{AllByRecursion}
-use Rattle.cap_words.proofs.AtHand.{bytes_small}
+use Rattle.cap_words.proofs.Buffered.{bytes_small}
 use Rattle.cap_words.proofs.Pieces.{ends_within, none_filled, piece_filled, plain_end}
 use Rattle.cap_words.proofs.plain_words.PlainWordsWordSource.fill.Goals as goal
 

@@ -1,5 +1,5 @@
 use Rattle.std.proofs.Common.{arith, ◌/◌}
-use Rattle.cap_words.proofs.AtHand.{ready_words}
+use Rattle.cap_words.proofs.Buffered.{ready_words}
 use Rattle.cap_words.proofs.plain_words.PlainWordsWordSource.ready.Goals as goal
 
 pub returns-clause-words : goal.returns-clause-words

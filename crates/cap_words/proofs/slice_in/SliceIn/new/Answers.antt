@@ -1,5 +1,5 @@
 use Rattle.std.proofs.Common.{arith}
-use Rattle.cap_words.proofs.Told.{bytes_by_index}
+use Rattle.cap_words.proofs.Known.{bytes_by_index}
 use Rattle.cap_words.proofs.slice_in.SliceIn.new.Goals as goal
 
 pub invariant_of-result : goal.invariant_of-result

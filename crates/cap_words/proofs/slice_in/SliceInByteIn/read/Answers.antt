@@ -1,4 +1,4 @@
-use Rattle.cap_words.proofs.Told.{bytes_dropped}
+use Rattle.cap_words.proofs.Known.{bytes_dropped}
 use Rattle.cap_words.proofs.slice_in.SliceInByteIn.read.Goals as goal
 
 pub invariant_of-self : goal.invariant_of-self

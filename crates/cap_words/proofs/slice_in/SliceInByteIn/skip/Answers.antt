@@ -1,5 +1,5 @@
 use Rattle.std.proofs.lemmas.List.{take_rest}
-use Rattle.cap_words.proofs.Told.{bytes_dropped}
+use Rattle.cap_words.proofs.Known.{bytes_dropped}
 use Rattle.cap_words.proofs.slice_in.SliceInByteIn.skip.Goals as goal
 
 pub invariant_of-self : goal.invariant_of-self

@@ -15,15 +15,15 @@ loop-done-preserved-then-count-gt0 g c =
           filled_more s _ _ _ c.loop-done.done c.ready-count.result c.loop-done.out _ c.ready-count.new.out far
           record {
             some = c.if-count-gt0.true;
-            within = e.room;
+            within = e.fits;
             text = e.words.0;
             takes = e.words.1;
             reads = e.reads;
-            works = ready_works c.ready-count.result c.if-count-gt0.true e.usable e.spent e.failures;
+            works = ready_works c.ready-count.result c.if-count-gt0.true e.usable e.broken e.failures;
             not_ended = e.stays;
             not_failed = e.for_good;
           }
-          (filled _ _ _ far.within e.room) (filled_within _ _ _ far.within e.room);
+          (filled _ _ _ far.within e.fits) (filled_within _ _ _ far.within e.fits);
       rest = search (rules, overwrites);
     }
 

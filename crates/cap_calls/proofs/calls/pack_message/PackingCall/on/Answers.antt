@@ -12,4 +12,4 @@ returns c =
     let n = c.table_into-length.result in
     let long : length (take n c.table_into-length.new.table) ≡ 8 * (length m / 2 + 1) =
     ap length c.table_into-length.ensures.bytes ∙ (length_plain (table_of m) ∙ ap (λ (k : ℕ). 8 * k) (table_size m)) in
-    (c.packed.ensures.tells c.args._words c.args._limits.depth, omega (arith, c.packed.ensures.few, long))
+    (c.packed.ensures.reports c.args._words c.args._limits.depth, omega (arith, c.packed.ensures.few, long))

@@ -1,7 +1,7 @@
 use Rattle.std.proofs.Common.{inl, inr, refl}
 use Rattle.cap_spec.specs.Texts.{check_text, strict_verdict, vet_text}
 use Rattle.cap_vet.specs.Vettings.{report_of}
-use Rattle.cap_run.specs.Checking.{TellsChecked}
+use Rattle.cap_run.specs.Checking.{ReportsChecked}
 use Rattle.cap_run.specs.Demanding.{OrFaultIn}
 use Rattle.cap_run.specs.declared.engines.stream.Counted.TheVariants.{Refused}
 use Rattle.cap_run.proofs.Judging.{writes_text}
@@ -12,7 +12,7 @@ returns-in-Ok g c =
     let v = c.args.self.now in
     let met = c.in-Ok.ensures.ok in
     writes_text g.O.ByteOut (check_text c.args.number c.in-Ok.canonical) c.count_of.result
-    (OrFaultIn v.demands TellsChecked v.limits c.args.number (g.M.Segments.segments c.args.message.now)) ⊥
+    (OrFaultIn v.demands ReportsChecked v.limits c.args.number (g.M.Segments.segments c.args.message.now)) ⊥
     c.args.out.now c.write_check-written.new.out c.write_check-written.result c.after_text.result
     (inl (
       met.1.strict,
@@ -31,7 +31,7 @@ pub returns-in-Err : goal.returns-in-Err
 returns-in-Err g c =
     let v = c.args.self.now in
     writes_text g.O.ByteOut (vet_text c.args.number (strict_verdict c.in-Err.refusal)) Refused
-    (OrFaultIn v.demands TellsChecked v.limits c.args.number (g.M.Segments.segments c.args.message.now)) ⊥
+    (OrFaultIn v.demands ReportsChecked v.limits c.args.number (g.M.Segments.segments c.args.message.now)) ⊥
     c.args.out.now c.write_refused-written.new.out c.write_refused-written.result c.after_text-in-Err.result
     (inr (record { fault = c.in-Err.refusal; is_fault = c.in-Err.ensures.err; line = refl; counts = refl }))
     c.write_refused-written.ensures c.after_text-in-Err.ensures

@@ -4,7 +4,7 @@ use Rattle.cap_explain.specs.Explaining.{explanation}
 use Rattle.cap_trace.specs.NamedPaths.{fault_path}
 use Rattle.cap_explain.specs.declared.numbers.MessageStart.{MessageStart}
 use Rattle.cap_run.specs.Explained.{fault_numbers, start_after}
-use Rattle.cap_run.specs.RunNames.{WantsUnder, OrFaultLines, WritesOneOf}
+use Rattle.cap_run.specs.RunNames.{AllocatesUnder, OrFaultLines, WritesOneOf}
 use Rattle.cap_run.specs.declared.engines.stream.Counted.TheVariants.{Refused}
 use Rattle.cap_run.proofs.Explaining.{same_numbers}
 use Rattle.cap_run.proofs.Judging.{writes_as, writes_text}
@@ -17,18 +17,18 @@ returns-in-Ok g c =
     let words = words_under v.demands m (words_of v.limits) in
     let depth = depth_of v.limits in
     let met = c.in-Ok.ensures.ok in
-    let told = subst (λ (m : List (List ℕ)). (words depth : ℕ) (t : Tree)
+    let reported = subst (λ (m : List (List ℕ)). (words depth : ℕ) (t : Tree)
     → IsReport m words depth (report_of c.in-Ok.vetted) t
-    → WritesOneOf g.O.ByteOut (g.T.PlacedTeller.tells v.teller c.args.before words depth c.args.number m)
-    (g.T.PlacedTeller.wants v.teller words depth m)
-    c.args.out.now c.tell.new.out c.tell.result)
-    (ap g.M.Segments.segments c.in-Ok.ensures.message) c.tell.ensures in
-    writes_as g.O.ByteOut (g.T.PlacedTeller.tells v.teller c.args.before words depth c.args.number m)
-    (OrFaultLines v.packed v.demands (g.T.PlacedTeller.tells v.teller) (words_of v.limits) depth c.args.before c.args.number m)
-    (g.T.PlacedTeller.wants v.teller words depth m)
-    (WantsUnder v.demands (g.T.PlacedTeller.wants v.teller) (words_of v.limits) depth m)
-    c.args.out.now c.tell.new.out c.tell.result (λ text counted e. inl (met.1.strict, e)) (λ w. (met.1.strict, w))
-    (told words depth met.0.0 met.0.1)
+    → WritesOneOf g.O.ByteOut (g.T.PlacedPrinter.reports v.printer c.args.before words depth c.args.number m)
+    (g.T.PlacedPrinter.allocates v.printer words depth m)
+    c.args.out.now c.print.new.out c.print.result)
+    (ap g.M.Segments.segments c.in-Ok.ensures.message) c.print.ensures in
+    writes_as g.O.ByteOut (g.T.PlacedPrinter.reports v.printer c.args.before words depth c.args.number m)
+    (OrFaultLines v.packed v.demands (g.T.PlacedPrinter.reports v.printer) (words_of v.limits) depth c.args.before c.args.number m)
+    (g.T.PlacedPrinter.allocates v.printer words depth m)
+    (AllocatesUnder v.demands (g.T.PlacedPrinter.allocates v.printer) (words_of v.limits) depth m)
+    c.args.out.now c.print.new.out c.print.result (λ text counted e. inl (met.1.strict, e)) (λ w. (met.1.strict, w))
+    (reported words depth met.0.0 met.0.1)
 
 pub returns-in-Err : goal.returns-in-Err
 returns-in-Err g c =
@@ -47,8 +47,8 @@ returns-in-Err g c =
     within.words within.depth c.numbers_of-numbers.ensures.words c.numbers_of-numbers.ensures.depth c.numbers_of-numbers.ensures.charge
     (c.numbers_of-numbers.ensures.start ∙ ap (λ (s : MessageStart). Some s) c.start_after-start.ensures) in
     writes_text g.O.ByteOut (line ++ explanation c.find_refused.new.self m refusal c.numbers_of-numbers.result) Refused
-    (OrFaultLines v.packed v.demands (g.T.PlacedTeller.tells v.teller) words depth c.args.before c.args.number m)
-    (WantsUnder v.demands (g.T.PlacedTeller.wants v.teller) words depth m)
+    (OrFaultLines v.packed v.demands (g.T.PlacedPrinter.reports v.printer) words depth c.args.before c.args.number m)
+    (AllocatesUnder v.demands (g.T.PlacedPrinter.allocates v.printer) words depth m)
     c.args.out.now c.write_refusal-written.new.out c.write_refusal-written.result c.after_text.result
     (inr (record {
       fault = refusal;

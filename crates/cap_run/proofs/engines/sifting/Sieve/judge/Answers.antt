@@ -1,14 +1,14 @@
 use Rattle.cap_spec.proofs.ProofNames.{Bool, subst, sym}
 use Rattle.cap_vet.specs.VetNames.{report_of}
-use Rattle.cap_run.specs.Filtering.{TellsMet, WantsMet}
-use Rattle.cap_run.specs.RunNames.{FindsObjection, OrFaultIn, WantsIn}
+use Rattle.cap_run.specs.Filtering.{ReportsMet, AllocatesMet}
+use Rattle.cap_run.specs.RunNames.{FindsObjection, OrFaultIn, AllocatesIn}
 use Rattle.cap_run.proofs.Sifting.{judges_met}
 use Rattle.cap_run.proofs.engines.sifting.Sieve.judge.Goals as goal
 
 pub returns-then-self : goal.returns-then-self
 returns-then-self g c =
     let v = c.args.self.now in
-    subst (λ (x : Bool). FindsObjection (OrFaultIn v.demands (TellsMet x) v.limits) (WantsIn v.demands (WantsMet x) v.limits)
+    subst (λ (x : Bool). FindsObjection (OrFaultIn v.demands (ReportsMet x) v.limits) (AllocatesIn v.demands (AllocatesMet x) v.limits)
     (g.M.Segments.segments c.args.message.now) c.judge_exclusively.result) (sym c.if-self.true) c.judge_exclusively.ensures
 
 pub returns-in-Ok : goal.returns-in-Ok

@@ -1,6 +1,6 @@
 use Rattle.cap_spec.proofs.ProofNames.{List, ap, inl, inr, refl, subst, ℕ, strict_verdict, vet_text, Tree}
 use Rattle.cap_vet.specs.VetNames.{words_under, depth_of, words_of, IsReport, report_of}
-use Rattle.cap_run.specs.RunNames.{OrFault, WantsUnder, WritesOneOf}
+use Rattle.cap_run.specs.RunNames.{OrFault, AllocatesUnder, WritesOneOf}
 use Rattle.cap_run.specs.declared.engines.stream.Counted.TheVariants.{Refused}
 use Rattle.cap_run.proofs.Judging.{writes_as, writes_text}
 use Rattle.cap_run.proofs.engines.whole.VettingJudge.judge.Goals as goal
@@ -12,18 +12,18 @@ returns-in-Ok g c =
     let words = words_under v.demands m (words_of v.limits) in
     let depth = depth_of v.limits in
     let met = c.in-Ok.ensures.ok in
-    let told = subst (λ (m : List (List ℕ)). (words depth : ℕ) (t : Tree)
+    let reported = subst (λ (m : List (List ℕ)). (words depth : ℕ) (t : Tree)
     → IsReport m words depth (report_of c.in-Ok.vetted) t
-    → WritesOneOf g.O.ByteOut (g.T.Teller.tells v.teller words depth c.args.number m)
-    (g.T.Teller.wants v.teller words depth m)
-    c.args.out.now c.tell.new.out c.tell.result)
-    (ap g.M.Segments.segments c.in-Ok.ensures.message) c.tell.ensures in
-    writes_as g.O.ByteOut (g.T.Teller.tells v.teller words depth c.args.number m)
-    (OrFault v.demands (g.T.Teller.tells v.teller) (words_of v.limits) depth c.args.number m)
-    (g.T.Teller.wants v.teller words depth m)
-    (WantsUnder v.demands (g.T.Teller.wants v.teller) (words_of v.limits) depth m)
-    c.args.out.now c.tell.new.out c.tell.result (λ text counted e. inl (met.1.strict, e)) (λ w. (met.1.strict, w))
-    (told words depth met.0.0 met.0.1)
+    → WritesOneOf g.O.ByteOut (g.T.Printer.reports v.printer words depth c.args.number m)
+    (g.T.Printer.allocates v.printer words depth m)
+    c.args.out.now c.print.new.out c.print.result)
+    (ap g.M.Segments.segments c.in-Ok.ensures.message) c.print.ensures in
+    writes_as g.O.ByteOut (g.T.Printer.reports v.printer words depth c.args.number m)
+    (OrFault v.demands (g.T.Printer.reports v.printer) (words_of v.limits) depth c.args.number m)
+    (g.T.Printer.allocates v.printer words depth m)
+    (AllocatesUnder v.demands (g.T.Printer.allocates v.printer) (words_of v.limits) depth m)
+    c.args.out.now c.print.new.out c.print.result (λ text counted e. inl (met.1.strict, e)) (λ w. (met.1.strict, w))
+    (reported words depth met.0.0 met.0.1)
 
 pub returns-in-Err : goal.returns-in-Err
 returns-in-Err g c =
@@ -32,8 +32,8 @@ returns-in-Err g c =
     let words = words_of v.limits in
     let depth = depth_of v.limits in
     writes_text g.O.ByteOut (vet_text c.args.number (strict_verdict c.in-Err.refusal)) Refused
-    (OrFault v.demands (g.T.Teller.tells v.teller) words depth c.args.number m)
-    (WantsUnder v.demands (g.T.Teller.wants v.teller) words depth m)
+    (OrFault v.demands (g.T.Printer.reports v.printer) words depth c.args.number m)
+    (AllocatesUnder v.demands (g.T.Printer.allocates v.printer) words depth m)
     c.args.out.now c.write_refused-written.new.out c.write_refused-written.result c.after_text.result
     (inr (record {
       fault = c.in-Err.refusal;

@@ -13,7 +13,7 @@ pub mark_words-requires : goal.mark_words-requires
 mark_words-requires g c =
     let has = HasWord-at (g.M.Segments.segments c.args.message.now) c.args.s c.args.w (omega (arith, c.requires.word.inside)) in
     let pads = c.mark_pads.ensures has.0 has.1 in
-    (g.M.Segments.segments c.args.message.now, record { room = pads.room; exists = c.requires.object.exists; inside = c.requires.object.inside })
+    (g.M.Segments.segments c.args.message.now, record { fits = pads.fits; exists = c.requires.object.exists; inside = c.requires.object.inside })
 
 pub returns-then-not-mark_pads : goal.returns-then-not-mark_pads
 returns-then-not-mark_pads g c =
@@ -25,4 +25,4 @@ returns g c =
     let has = HasWord-at (g.M.Segments.segments c.args.message.now) c.args.s c.args.w (omega (arith, c.requires.word.inside)) in
     let pads = rw c.if-not-mark_pads.false at (c.mark_pads.ensures has.0 has.1) in
     marks_both (c.requires.object.used has.0 has.1) pads
-    (c.mark_words.ensures _ (record { room = pads.room; exists = c.requires.object.exists; inside = c.requires.object.inside }))
+    (c.mark_words.ensures _ (record { fits = pads.fits; exists = c.requires.object.exists; inside = c.requires.object.inside }))

@@ -20,7 +20,7 @@ mark_words-requires g c =
     (elim c.if-two.branch [ then-two w ↦ inl (w.if-two.true, w.pads-is) | else-two w ↦ inr (w.if-two.false, w.pads-is) ]) in
     let e : length (segment_of m c.in-Far.segment) ≡ length (segment_of m (far_segment c.word.result)) = ap (λ (u : ℕ). length (segment_of m u)) f.3 in
     let there : c.in-Far.segment < length m = subst (λ (u : ℕ). u < length m) (sym f.3) r.0 in
-    (m, record { room = c.requires.word.room; exists = there; inside = omega (arith, r.1, f.2, n, e) })
+    (m, record { fits = c.requires.word.fits; exists = there; inside = omega (arith, r.1, f.2, n, e) })
 
 pub returns-after-two : goal.returns-after-two
 returns-after-two g c = λ p has.
@@ -32,7 +32,7 @@ returns-after-two g c = λ p has.
     let e : length (segment_of m c.in-Far.segment) ≡ length (segment_of m (far_segment c.word.result)) = ap (λ (u : ℕ). length (segment_of m u)) f.3 in
     let there : c.in-Far.segment < length m = subst (λ (u : ℕ). u < length m) (sym f.3) r.0 in
     let bits : HasBits m c.args.self.now c.in-Far.segment c.in-Far.pad c.if-two.pads =
-    record { room = c.requires.word.room; exists = there; inside = omega (arith, r.1, f.2, n, e) } in
+    record { fits = c.requires.word.fits; exists = there; inside = omega (arith, r.1, f.2, n, e) } in
     let same : places c.in-Far.segment c.in-Far.pad c.if-two.pads ≡ pads_of p =
     pad_places c.word.result c.in-Far.segment c.in-Far.pad c.if-two.pads f.0 f.3 f.2 n
     ∙ ap pads_of (one_word m c.args.s c.args.w c.word.result p c.word.ensures has) in
@@ -45,7 +45,7 @@ returns-in_default g c = λ p has.
     let none : pads_of p ≡ [] = no_pads p (λ far. let own : kind c.word.result ≡ 2 = ap kind (sym e) ∙ far in
     c.in_default.not-Far (two c.word.result == 1) (pad c.word.result) (far_segment c.word.result)
     (sym (c.of.ensures.one_form (Far (two c.word.result == 1) (pad c.word.result) (far_segment c.word.result)) (own, refl, refl, refl)))) in record {
-      room = c.requires.word.room;
+      fits = c.requires.word.fits;
       taken = λ _. subst (λ (u : List (ℕ × ℕ)). MarksAll (IsMarkedIn m c.args.self.now) (IsMarkedIn m c.args.self.now) u) (sym none)
           (marks_none (IsMarkedIn m c.args.self.now));
       conflict = λ e. absurd (cc e);

@@ -1,35 +1,35 @@
 use Rattle.std.proofs.Common.{arith, slice_index_or, ◌+◌, ◌≡◌}
 use Rattle.cap_vet.specs.Taken.{start_of}
 use Rattle.cap_vet.proofs.Ranges.{marks_range, range_conflict, start_within}
-use Rattle.cap_vet.proofs.MarkingWalk.{room_kept}
+use Rattle.cap_vet.proofs.MarkingWalk.{capacity_kept}
 use Rattle.cap_vet.proofs.exclusiveness.marks.Marks.mark_words.Goals as goal
 
 pub overflow_add-start : goal.overflow_add-start
 overflow_add-start c =
     let (m, h) = c.requires in
-    let st : slice_index_or c.args.self.now.starts.now c.args.s 0 ≡ start_of m c.args.s = h.room.known.each c.args.s h.exists in
-    omega (arith, st, start_within m c.args.s h.exists, c.from.ensures, h.inside, h.room.known.few)
+    let st : slice_index_or c.args.self.now.starts.now c.args.s 0 ≡ start_of m c.args.s = h.fits.known.each c.args.s h.exists in
+    omega (arith, st, start_within m c.args.s h.exists, c.from.ensures, h.inside, h.fits.known.few)
 
 pub set_bits-requires-clause-inside : goal.set_bits-requires-clause-inside
 set_bits-requires-clause-inside c =
     let (m, h) = c.requires in
-    let st : slice_index_or c.args.self.now.starts.now c.args.s 0 ≡ start_of m c.args.s = h.room.known.each c.args.s h.exists in
-    omega (arith, st, start_within m c.args.s h.exists, c.from.ensures, c.from-2.ensures, h.inside, h.room.enough)
+    let st : slice_index_or c.args.self.now.starts.now c.args.s 0 ≡ start_of m c.args.s = h.fits.known.each c.args.s h.exists in
+    omega (arith, st, start_within m c.args.s h.exists, c.from.ensures, c.from-2.ensures, h.inside, h.fits.enough)
 
 pub set_bits-requires-clause-small : goal.set_bits-requires-clause-small
 set_bits-requires-clause-small c =
     let (m, h) = c.requires in
-    let st : slice_index_or c.args.self.now.starts.now c.args.s 0 ≡ start_of m c.args.s = h.room.known.each c.args.s h.exists in
-    omega (arith, st, start_within m c.args.s h.exists, c.from.ensures, c.from-2.ensures, h.inside, h.room.known.few)
+    let st : slice_index_or c.args.self.now.starts.now c.args.s 0 ≡ start_of m c.args.s = h.fits.known.each c.args.s h.exists in
+    omega (arith, st, start_within m c.args.s h.exists, c.from.ensures, c.from-2.ensures, h.inside, h.fits.known.few)
 
 pub returns : goal.returns
 returns c = λ m h.
     let starts = c.args.self.now.starts.now in
     let old = c.args.self.now.bits.now in
     let at = slice_index_or starts c.args.s 0 + c.from.result in
-    let st : slice_index_or starts c.args.s 0 ≡ start_of m c.args.s = h.room.known.each c.args.s h.exists in
+    let st : slice_index_or starts c.args.s 0 ≡ start_of m c.args.s = h.fits.known.each c.args.s h.exists in
     let start : at ≡ start_of m c.args.s + c.args.from = omega (arith, st, c.from.ensures) in record {
-      room = room_kept m starts old c.set_bits.new.words h.room c.set_bits.ensures.same_length;
+      fits = capacity_kept m starts old c.set_bits.new.words h.fits c.set_bits.ensures.same_length;
       taken = λ e. marks_range m old c.set_bits.new.words c.args.s c.args.from c.args.count at h.exists h.inside start
           (λ i a b. c.set_bits.ensures.taken e i a (omega (arith, b, c.from-2.ensures)))
           (λ i a b. c.set_bits.ensures.free e i a (omega (arith, b, c.from-2.ensures)))

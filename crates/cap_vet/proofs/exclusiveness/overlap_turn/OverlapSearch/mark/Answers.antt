@@ -6,7 +6,7 @@ pub mark_pointer-requires-clause-word : goal.mark_pointer-requires-clause-word
 mark_pointer-requires-clause-word g c =
     let looked = c.requires.known.3 in
     let known = marks_known _ _ c.args.self.now.marks _ (sym c.is_some.ensures ∙ c.if-is_some.false) c.requires.known.4 in
-    record { room = known.room; exists = looked.exists; inside = omega (arith, looked.inside) }
+    record { fits = known.fits; exists = looked.exists; inside = omega (arith, looked.inside) }
 
 pub returns-then-is_some-clause-known : goal.returns-then-is_some-clause-known
 returns-then-is_some-clause-known g c = λ seen a cost l k.
@@ -22,6 +22,6 @@ returns-else-not-mark_pointer-clause-known g c = λ seen a cost l k.
     let none = sym c.is_some.ensures ∙ c.if-is_some.false in
     let known = marks_known _ _ c.args.self.now.marks _ none k in
     known_marks _ _ c.mark_pointer.new.self _ none (record {
-      room = c.mark_pointer.ensures.room;
+      fits = c.mark_pointer.ensures.fits;
       marked = turn_on seen a l known.marked (c.mark_pointer.ensures.taken c.if-not-mark_pointer.false);
     })

@@ -2,7 +2,7 @@ use Rattle.cap_spec.proofs.ProofNames.{arith, refl, rules, IsMessage, element, w
 use Rattle.cap_ptr.specs.Shapes.{charge_of}
 use Rattle.cap_vet.proofs.Charging.{arrives_element, arrives_word, fault_word}
 use Rattle.cap_vet.proofs.Looks.{followed_costs, followed_shallow}
-use Rattle.cap_vet.proofs.Somewhere.{arrival_somewhere, arrival_within, step_exists, step_inside}
+use Rattle.cap_vet.proofs.AtSomePlace.{arrival_at_some_place, arrival_within, step_exists, step_inside}
 use Rattle.cap_vet.proofs.nodes.charged.Arrival.step.Goals as goal
 
 pub returns-in-None-clause-none : goal.returns-in-None-clause-none
@@ -28,7 +28,7 @@ pub returns-in-Err-clause-err : goal.returns-in-Err-clause-err
 returns-in-Err-clause-err g c = λ path a h.
     let m = g.M.Segments.segments c.args.message.now in
     let goes = (rw c.in-Some-Word.field-0-is at c.in-Some-Word.ensures) m a h.found in
-    fault_word m _ _ path a c.args.self.now c.args.step _ _ _ h goes.0 (c.in-Err.ensures.err c.args.words c.args.self.now.spent refl h.within)
+    fault_word m _ _ path a c.args.self.now c.args.step _ _ _ h goes.0 (c.in-Err.ensures.err c.args.words c.args.self.now.consumed refl h.within)
 
 pub returns-in-Some-Element-clause-some : goal.returns-in-Some-Element-clause-some
 returns-in-Some-Element-clause-some g c = λ path a h.
@@ -44,7 +44,7 @@ pub step-requires : goal.step-requires
 step-requires g c =
     let m = g.M.Segments.segments c.args.message.now in
     let message : IsMessage m = search rules in
-    arrival_somewhere m _ _ c.args.self.now c.requires.arrived message
+    arrival_at_some_place m _ _ c.args.self.now c.requires.arrived message
 
 pub follow_within-requires-clause-exists : goal.follow_within-requires-clause-exists
 follow_within-requires-clause-exists g c =

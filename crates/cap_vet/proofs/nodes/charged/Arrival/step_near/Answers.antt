@@ -2,14 +2,14 @@
 use Rattle.cap_spec.proofs.ProofNames.{None, arith, rules, IsMessage, element, word}
 use Rattle.cap_vet.proofs.Charging.{arrives_element, arrives_word}
 use Rattle.cap_vet.proofs.PathLax.{adds_none}
-use Rattle.cap_vet.proofs.Somewhere.{arrival_somewhere, arrival_within, step_exists, step_inside}
+use Rattle.cap_vet.proofs.AtSomePlace.{arrival_at_some_place, arrival_within, step_exists, step_inside}
 use Rattle.cap_vet.proofs.nodes.charged.Arrival.step_near.Goals as goal
 
 pub step-requires : goal.step-requires
 step-requires g c =
     let m = g.M.Segments.segments c.args.message.now in
     let message : IsMessage m = search rules in
-    arrival_somewhere m _ _ c.args.self.now c.requires.arrived message
+    arrival_at_some_place m _ _ c.args.self.now c.requires.arrived message
 
 pub overflow_sub-left : goal.overflow_sub-left
 overflow_sub-left g c = let l = arrival_within _ _ _ c.args.self.now c.requires.arrived in omega (arith, l)

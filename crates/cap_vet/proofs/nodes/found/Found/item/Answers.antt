@@ -1,5 +1,5 @@
 use Rattle.std.proofs.Common.{arith}
-use Rattle.cap_vet.proofs.Somewhere.{somewhere_element, somewhere_entry}
+use Rattle.cap_vet.proofs.AtSomePlace.{at_some_place_element, at_some_place_entry}
 use Rattle.cap_vet.proofs.Stepping.{element_goes, element_inside, element_past, entry_goes, entry_inside, entry_past}
 use Rattle.cap_vet.proofs.nodes.found.Found.item.Goals as goal
 
@@ -23,20 +23,20 @@ returns-else-i-count-2 c = λ m a h. rw (c.from.ensures, c.from-in-Structs.ensur
 
 pub overflow_add-result : goal.overflow_add-result
 overflow_add-result c =
-    let l = somewhere_entry c.args.self.now _ c.args.i c.requires c.in-Pointers.is (omega (arith, c.if-i-count.false)) in
+    let l = at_some_place_entry c.args.self.now _ c.args.i c.requires c.in-Pointers.is (omega (arith, c.if-i-count.false)) in
     omega (arith, l)
 
 pub overflow_add-result-in-Structs : goal.overflow_add-result-in-Structs
 overflow_add-result-in-Structs c =
-    let l = somewhere_element c.args.self.now _ _ _ c.args.i c.requires c.in-Structs.is (omega (arith, c.if-i-count-2.false)) in
+    let l = at_some_place_element c.args.self.now _ _ _ c.args.i c.requires c.in-Structs.is (omega (arith, c.if-i-count-2.false)) in
     omega (arith, l)
 
 pub overflow_mul-result : goal.overflow_mul-result
 overflow_mul-result c = rw (c.from.ensures, c.from-in-Structs.ensures)
-    (let l = somewhere_element c.args.self.now _ _ _ c.args.i c.requires c.in-Structs.is (omega (arith, c.if-i-count-2.false)) in
+    (let l = at_some_place_element c.args.self.now _ _ _ c.args.i c.requires c.in-Structs.is (omega (arith, c.if-i-count-2.false)) in
     omega (arith, l))
 
 pub overflow_add-result-in-Structs-2 : goal.overflow_add-result-in-Structs-2
 overflow_add-result-in-Structs-2 c = rw (c.from.ensures, c.from-in-Structs.ensures)
-    (let l = somewhere_element c.args.self.now _ _ _ c.args.i c.requires c.in-Structs.is (omega (arith, c.if-i-count-2.false)) in
+    (let l = at_some_place_element c.args.self.now _ _ _ c.args.i c.requires c.in-Structs.is (omega (arith, c.if-i-count-2.false)) in
     omega (arith, l))

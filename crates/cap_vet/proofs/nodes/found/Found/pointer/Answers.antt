@@ -1,5 +1,5 @@
 use Rattle.std.proofs.Common.{arith}
-use Rattle.cap_vet.proofs.Somewhere.{somewhere_last, somewhere_own}
+use Rattle.cap_vet.proofs.AtSomePlace.{at_some_place_last, at_some_place_own}
 use Rattle.cap_vet.proofs.Stepping.{pointer_goes, pointer_of_other}
 use Rattle.cap_vet.proofs.nodes.found.Found.pointer.Goals as goal
 
@@ -15,12 +15,12 @@ returns c = λ m a h.
 
 pub overflow_add-result : goal.overflow_add-result
 overflow_add-result c =
-    let own = rw c.in-Struct.is at (somewhere_own c.args.self.now c.requires) in
-    let last = somewhere_last c.args.self.now c.requires in
+    let own = rw c.in-Struct.is at (at_some_place_own c.args.self.now c.requires) in
+    let last = at_some_place_last c.args.self.now c.requires in
     omega (arith, own, last, c.from.ensures)
 
 pub overflow_add-result-2 : goal.overflow_add-result-2
 overflow_add-result-2 c =
-    let own = rw c.in-Struct.is at (somewhere_own c.args.self.now c.requires) in
-    let last = somewhere_last c.args.self.now c.requires in
+    let own = rw c.in-Struct.is at (at_some_place_own c.args.self.now c.requires) in
+    let last = at_some_place_last c.args.self.now c.requires in
     omega (arith, own, last, c.from.ensures, c.from-2.ensures, c.if-i-pointers.false)

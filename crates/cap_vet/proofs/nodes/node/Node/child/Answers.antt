@@ -1,5 +1,5 @@
 use Rattle.cap_spec.proofs.ProofNames.{rules, IsMessage}
-use Rattle.cap_vet.proofs.NodeSteps.{next_node, no_part, part_stands}
+use Rattle.cap_vet.proofs.NodeSteps.{next_node, no_part, part_lies}
 use Rattle.cap_vet.proofs.nodes.node.Node.child.Goals as goal
 
 pub invariant_of-child : goal.invariant_of-child
@@ -11,7 +11,7 @@ pub returns-clause-some : goal.returns-clause-some
 returns-clause-some g c = (c.in_ok-next.ensures _ _ c.found.ensures).0
 
 pub returns-clause-part : goal.returns-clause-part
-returns-clause-part g c = λ t h. part_stands (g.M.Segments.segments c.args.self.now.message.now) _ _ _ t (c.in_ok-next.ensures _ _ c.found.ensures).0 h
+returns-clause-part g c = λ t h. part_lies (g.M.Segments.segments c.args.self.now.message.now) _ _ _ t (c.in_ok-next.ensures _ _ c.found.ensures).0 h
 
 pub returns-in_err-next-clause-none : goal.returns-in_err-next-clause-none
 returns-in_err-next-clause-none g c = rw c.from_residual.ensures (c.in_err-next.ensures _ _ c.found.ensures)

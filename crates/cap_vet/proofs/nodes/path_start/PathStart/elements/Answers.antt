@@ -1,7 +1,7 @@
 -- The list is where the first steps lead.
 use Rattle.std.proofs.Common.{arith, refl}
 use Rattle.cap_vet.specs.Ways.{SomeArrives}
-use Rattle.cap_vet.proofs.Somewhere.{arrival_elements, arrival_exists, arrival_levels, way_arrives}
+use Rattle.cap_vet.proofs.AtSomePlace.{arrival_elements, arrival_exists, arrival_levels, way_arrives}
 use Rattle.cap_vet.proofs.nodes.path_start.PathStart.elements.Goals as goal
 
 pub returns-in-None-clause-elements : goal.returns-in-None-clause-elements

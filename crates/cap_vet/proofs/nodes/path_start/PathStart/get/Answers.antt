@@ -1,9 +1,9 @@
 -- The path goes on from the first steps.
 use Rattle.cap_spec.proofs.ProofNames.{[], arith, subst, sym, ◌++◌, ◌∷◌, ∥∥₁_map}
 use Rattle.cap_vet.specs.VetNames.{HasFound, IsWay, Way}
-use Rattle.cap_vet.proofs.PathWays.{given_after, nowhere_longer, refused_longer, step_nowhere, step_on, step_refused}
-use Rattle.cap_vet.proofs.Somewhere.{arrival_few, arrival_levels, way_arrives, way_found}
-use Rattle.cap_vet.proofs.nodes.path_start.PathStart.get.Goals.{in-Nowhere, in-Refused, in-To+in-Err, in-To+in-Ok-None}
+use Rattle.cap_vet.proofs.PathWays.{given_after, no_node_longer, refused_longer, step_no_node, step_on, step_refused}
+use Rattle.cap_vet.proofs.AtSomePlace.{arrival_few, arrival_levels, way_arrives, way_found}
+use Rattle.cap_vet.proofs.nodes.path_start.PathStart.get.Goals.{in-Early, in-Refused, in-To+in-Err, in-To+in-Ok-None}
 use Rattle.cap_vet.proofs.nodes.path_start.PathStart.get.Goals.{in-To+in-Ok-Some}
 use Rattle.cap_vet.proofs.nodes.path_start.PathStart.get.Goals as goal
 
@@ -35,7 +35,7 @@ given-requires g c =
       | in-To+in-Ok-Some w ↦ record { found = subst (λ (x : Way). HasFound m x) (sym w.way'-is) (way_found m start.words start.depth _ w.along.ensures.leads) }
       | in-To+in-Ok-None w ↦ record { found = subst (λ (x : Way). HasFound m x) (sym w.way'-is) tt }
       | in-To+in-Err w ↦ record { found = subst (λ (x : Way). HasFound m x) (sym w.way'-is) tt }
-      | in-Nowhere w ↦ record { found = subst (λ (x : Way). HasFound m x) (sym w.way'-is) tt }
+      | in-Early w ↦ record { found = subst (λ (x : Way). HasFound m x) (sym w.way'-is) tt }
       | in-Refused w ↦ record { found = subst (λ (x : Way). HasFound m x) (sym w.way'-is) tt }
     ]
 
@@ -55,14 +55,14 @@ returns-clause-given g c = λ steps left.
           let h = rw w.in-To.is at leads in
           let none = rw w.in-Ok-None.field-0-is at (w.in-Ok-None.ensures.none first h.0 h.1) in
           subst (λ (x : Way). IsWay m start.words start.depth (first ++ step ∷ steps) x) (sym w.way'-is)
-          (step_nowhere m start.words start.depth first steps step h.0 w.in-To.at h.1 none))
+          (step_no_node m start.words start.depth first steps step h.0 w.in-To.at h.1 none))
       | in-To+in-Err w ↦ (
           let h = rw w.in-To.is at leads in
           subst (λ (x : Way). IsWay m start.words start.depth (first ++ step ∷ steps) x) (sym w.way'-is)
           (step_refused m start.words start.depth first steps step w.in-Err.refusal (w.in-Err.ensures.err first h.0 h.1)))
-      | in-Nowhere w ↦ (
+      | in-Early w ↦ (
           subst (λ (x : Way). IsWay m start.words start.depth (first ++ step ∷ steps) x) (sym w.way'-is)
-          (nowhere_longer m start.words start.depth first (step ∷ steps) w.in-Nowhere.at (rw w.in-Nowhere.is at leads)))
+          (no_node_longer m start.words start.depth first (step ∷ steps) w.in-Early.at (rw w.in-Early.is at leads)))
       | in-Refused w ↦ (
           subst (λ (x : Way). IsWay m start.words start.depth (first ++ step ∷ steps) x) (sym w.way'-is)
           (refused_longer m start.words start.depth first (step ∷ steps) w.in-Refused.refusal (rw w.in-Refused.is at leads)))

@@ -2,7 +2,7 @@ use Rattle.cap_spec.proofs.Paths.Arrivals.{coming_to_node}
 use Rattle.cap_spec.proofs.ProofNames.{arith, drop, get_or, length, subst, suc, sym, take, take_all, ◌<◌, ◌∙◌, ◌≡◌}
 use Rattle.cap_spec.proofs.ProofNames.{split_at, take_more, ReachesSpot, Spot, StepsTo}
 use Rattle.cap_vet.specs.VetNames.{Ptr, message_of, node_spot}
-use Rattle.cap_vet.proofs.NodeSteps.{comes_nowhere, comes_on, no_node}
+use Rattle.cap_vet.proofs.NodeSteps.{comes_no_node, comes_on, no_node}
 use Rattle.cap_vet.proofs.nodes.vetted.Vetted.get.Goals as goal
 
 pub returns-in-None-clause-none : goal.returns-in-None-clause-none
@@ -12,7 +12,7 @@ returns-in-None-clause-none g c =
     let none = subst (λ u. (b : Spot) → StepsTo (g.M.Segments.segments u) (node_spot c.loop-step.node)
     (get_or path i (Ptr 0)) b → ⊥) c.loop-step.invariant.0 c.in-None.ensures.none in
     let lt : i < length path = omega (arith, c.loop-step-test.true) in
-    comes_nowhere _ path (take i path) (drop (suc i) path) (get_or path i (Ptr 0)) _ _ (split_at path i (Ptr 0) lt) c.loop-step.invariant.1.1 none
+    comes_no_node _ path (take i path) (drop (suc i) path) (get_or path i (Ptr 0)) _ _ (split_at path i (Ptr 0) lt) c.loop-step.invariant.1.1 none
 
 pub returns-in-None-clause-node : goal.returns-in-None-clause-node
 returns-in-None-clause-node g c = λ t x d h. no_node _ c.args.path.now t x d (returns-in-None-clause-none g c) h

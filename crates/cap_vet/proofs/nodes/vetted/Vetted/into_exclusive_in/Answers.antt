@@ -1,6 +1,6 @@
 use Rattle.std.proofs.Common.{Err, ap, arith, length, ◌≤◌}
 use Rattle.cap_spec.proofs.Disjoint.Overlaps.{none_of_disjoint}
-use Rattle.cap_vet.specs.VetNames.{marks_of, NoRoom, Overlap}
+use Rattle.cap_vet.specs.VetNames.{marks_of, BufferTooSmall, Overlap}
 use Rattle.cap_vet.proofs.ExclusiveFaults.{no_exclusive_fault, one_exclusive_fault}
 use Rattle.cap_vet.proofs.Keeping.{vetted_kept}
 use Rattle.cap_vet.proofs.nodes.vetted.Vetted.into_exclusive_in.Goals as goal
@@ -15,7 +15,7 @@ returns-then-marks-needed-clause-err g c = (
 pub returns-then-marks-needed-clause-refuses : goal.returns-then-marks-needed-clause-refuses
 returns-then-marks-needed-clause-refuses g c = λ x h.
     ap Err (one_exclusive_fault (g.M.Segments.segments c.args.self.message.now) 268435456 256 (length c.args.marks.now)
-    (NoRoom c.numbers_for-needed.result c.args.self.report) x
+    (BufferTooSmall c.numbers_for-needed.result c.args.self.report) x
     (vetted_kept _ _ c.args.self.accepted, c.if-marks-needed.true, c.numbers_for-needed.ensures.exact) h)
 
 pub overlap_over-requires-clause-accepted : goal.overlap_over-requires-clause-accepted
@@ -24,10 +24,10 @@ overlap_over-requires-clause-accepted g c =
 
 pub returns-in-None-clause-refuses : goal.returns-in-None-clause-refuses
 returns-in-None-clause-refuses g c =
-    let room : marks_of (g.M.Segments.segments c.args.self.message.now) ≤ length c.args.marks.now =
+    let capacity : marks_of (g.M.Segments.segments c.args.self.message.now) ≤ length c.args.marks.now =
     omega (arith, c.numbers_for-needed.ensures.exact, c.if-marks-needed.false) in
     λ x h. absurd (no_exclusive_fault _ _ c.args.self.report x (vetted_kept _ _ c.args.self.accepted)
-    c.in-None.ensures room h)
+    c.in-None.ensures capacity h)
 
 pub returns-in-Some-clause-err : goal.returns-in-Some-clause-err
 returns-in-Some-clause-err g c = (
@@ -38,14 +38,14 @@ returns-in-Some-clause-err g c = (
 )
 
 pub returns-in-Some-clause-accepts : goal.returns-in-Some-clause-accepts
-returns-in-Some-clause-accepts g c = λ disjoint room. absurd
+returns-in-Some-clause-accepts g c = λ disjoint capacity. absurd
     (none_of_disjoint _ disjoint c.in-Some.ensures.path c.in-Some.ensures.first.holds)
 
 pub returns-in-Some-clause-refuses : goal.returns-in-Some-clause-refuses
 returns-in-Some-clause-refuses g c =
-    let room : marks_of (g.M.Segments.segments c.args.self.message.now) ≤ length c.args.marks.now =
+    let capacity : marks_of (g.M.Segments.segments c.args.self.message.now) ≤ length c.args.marks.now =
     omega (arith, c.numbers_for-needed.ensures.exact, c.if-marks-needed.false) in
     λ x h. ap Err (one_exclusive_fault (g.M.Segments.segments c.args.self.message.now) 268435456 256
     (length c.args.marks.now)
     (Overlap c.in-Some.overlap.segment c.in-Some.overlap.word c.in-Some.overlap.pointers) x
-    (c.args.self.report, vetted_kept _ _ c.args.self.accepted, room, c.in-Some.ensures) h)
+    (c.args.self.report, vetted_kept _ _ c.args.self.accepted, capacity, c.in-Some.ensures) h)

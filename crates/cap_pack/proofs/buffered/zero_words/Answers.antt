@@ -1,0 +1,18 @@
+use Rattle.std.proofs.Common.{ap, arith, drop, length, length-take-le, replicate, take, take_all, ℕ, ◌*◌, ◌∙◌, ◌≡◌}
+use Rattle.std.proofs.lemmas.List.{take-append-le, take-replicate}
+use Rattle.cap_pack.proofs.buffered.zero_words.Goals as goal
+
+pub returns-clause-zeros : goal.returns-clause-zeros
+returns-clause-zeros c =
+    let n = 8 * c.min-words.result in
+    let given = c.fill.new.self in
+    let long : length given ≡ n = omega (arith, c.fill.ensures.len, length-take-le n c.args.out.now (omega arith)) in
+    take-append-le n given (drop n c.args.out.now) (omega arith) ∙ take_all n given (omega arith)
+    ∙ (c.fill.ensures.after (λ y h. h) ∙ ap (λ (k : ℕ). replicate k 0) (length-take-le n c.args.out.now (omega arith)))
+
+pub returns-then-out-ge-FEW-clause-zeros : goal.returns-then-out-ge-FEW-clause-zeros
+returns-then-out-ge-FEW-clause-zeros c =
+    let n = 8 * c.min-words.result in
+    let given = c.copy_from_slice.new.self in
+    let long : length given ≡ 32 = omega (arith, c.copy_from_slice.ensures.len, length-take-le 32 c.args.out.now (omega arith)) in
+    take-append-le n given (drop 32 c.args.out.now) (omega arith) ∙ (ap (take n) c.copy_from_slice.ensures.after ∙ take-replicate n 32 0 (omega arith))

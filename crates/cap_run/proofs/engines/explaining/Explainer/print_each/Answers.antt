@@ -1,0 +1,59 @@
+use Rattle.std.proofs.Common.{arith, sym, rules}
+use Rattle.cap_text.specs.declared.fault.Cause.TheVariants.{Output}
+use Rattle.cap_run.proofs.Placed.{from_more, from_noncanonical, from_none, from_refused, from_stops}
+use Rattle.cap_run.proofs.Reporting.{length-messages_of}
+use Rattle.cap_run.proofs.engines.explaining.Explainer.print_each.Goals as goal
+
+pub loop-number-init : goal.loop-number-init
+loop-number-init g c = from_none
+
+pub count-outcome-requires-clause-refused : goal.count-outcome-requires-clause-refused
+count-outcome-requires-clause-refused g c = search (rules, from_refused)
+
+pub count-outcome-requires-clause-noncanonical : goal.count-outcome-requires-clause-noncanonical
+count-outcome-requires-clause-noncanonical g c = search (rules, from_noncanonical)
+
+pub returns-in-Err-clause-err : goal.returns-in-Err-clause-err
+returns-in-Err-clause-err g c =
+    let w = c.loop-number.invariant in
+    rw c.stopped_at-in-Err.ensures (
+      w.ts,
+      c.loop-number.source,
+      sym w.many,
+      omega (arith, w.many),
+      w.reads,
+      w.each,
+      from_stops _ _ _ (g.J.PlacedJudge.allocates c.args.self.now.judge) _ _ _ c.print_next.new.source _ _ c.print_next.new.out
+          _ _ _ c.args.settings.now.messages c.in-Err.cause w (omega arith) c.in-Err.ensures.err,
+    )
+
+pub returns-in-Err-flush_output-clause-err : goal.returns-in-Err-flush_output-clause-err
+returns-in-Err-flush_output-clause-err g c =
+    let w = c.loop-number.invariant in
+    let r = rw c.in-Ok-Some.field-0-is at c.in-Ok-Some.ensures.some in
+    rw c.stopped_at.ensures (
+      w.ts,
+      c.loop-number.source,
+      sym w.many,
+      omega (arith, w.many),
+      w.reads,
+      w.each,
+      from_stops _ _ _ (g.J.PlacedJudge.allocates c.args.self.now.judge) _ _ _ c.print_next.new.source _ _ c.flush_output.new.out
+          _ _ _ c.args.settings.now.messages (Output c.in-Err-flush_output.fault) w (omega arith)
+          (r.0, r.2, r.3, c.in-Err-flush_output.ensures c.loop-number.out r.0.text r.4),
+    )
+
+pub loop-number-preserved : goal.loop-number-preserved
+loop-number-preserved g c =
+    let r = rw c.in-Ok-Some.field-0-is at c.in-Ok-Some.ensures.some in
+    from_more r.0 c.in-Ok-Some.counted r.1 c.loop-number.invariant r.2 r.3
+    (c.in-Ok.ensures c.loop-number.out r.0.text r.4) r.5 r.6 c.count-outcome.ensures
+
+pub returns-in-Err-clause-broken : goal.returns-in-Err-clause-broken
+returns-in-Err-clause-broken g c = search (rules, length-messages_of)
+
+pub returns-in-Err-flush_output-clause-broken : goal.returns-in-Err-flush_output-clause-broken
+returns-in-Err-flush_output-clause-broken g c = search (rules, length-messages_of)
+
+pub print_next-requires : goal.print_next-requires
+print_next-requires g c = omega (arith, c.loop-number.invariant.few)

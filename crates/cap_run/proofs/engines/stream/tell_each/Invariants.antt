@@ -1,7 +1,0 @@
-use Rattle.cap_frame.specs.Limit.{limit_of}
-use Rattle.cap_run.proofs.Going.{Going}
-use Rattle.cap_run.proofs.engines.stream.tell_each.Given as goal
-
-abbrev pub invariant-loop-number : goal.invariant-loop-number
-invariant-loop-number g l =
-    Going g.S.WordSource g.O.ByteOut (g.E.Engine.tells l.engine) (limit_of l.settings.size) l.initial.source l.source l.initial.out l.out l.outcome l.number
