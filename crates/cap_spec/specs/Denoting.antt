@@ -44,14 +44,14 @@ abbrev pub levels_below : ℕ → ℕ → ℕ
 levels_below q tag = if kind q == 0 then 0 else (if code q == 7 then element_levels (middle tag) else 0)
 
 -- The object that is found is of this kind, by its word q and the tag word of a list of structs.
-pub record FindsKind (m : List (List ℕ)) (s w : ℕ) (kind : Kind) (k t b q tag : ℕ) : Type 0 where
+pub record FindsKind (m : List (List ℕ)) (s w : ℕ) (what : Kind) (k t b q tag : ℕ) : Type 0 where
   pub finds : Finds m s w k t b q
   pub tagged : HasTag m t b q tag
-  pub shape : HasKind q tag kind
+  pub shape : HasKind q tag what
 
 -- Its charge is cost and its depth levels, where its children's charges and greatest depth are inner and deep.
-pub record FindsCharged (m : List (List ℕ)) (s w : ℕ) (kind : Kind) (k t b q tag inner deep cost levels : ℕ) : Type 0 where
-  pub object : FindsKind m s w kind k t b q tag
+pub record FindsCharged (m : List (List ℕ)) (s w : ℕ) (what : Kind) (k t b q tag inner deep cost levels : ℕ) : Type 0 where
+  pub object : FindsKind m s w what k t b q tag
   pub charge : cost ≡ k + extent q + extra q tag + inner
   pub depth : levels ≡ 1 + levels_below q tag + deep
 
