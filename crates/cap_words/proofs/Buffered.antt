@@ -3,7 +3,7 @@ use Rattle.cap_spec.proofs.Bytes.Plain.{length_plain, plain_back, plain_cut_back
 use Rattle.cap_spec.proofs.ProofNames.{Fits, List, None, Option, Some, [], ap, append-nil, arith, drop, get_or, length}
 use Rattle.cap_spec.proofs.ProofNames.{length-append, length-take-le, option_map, suc, sym, take, unwrap_or, w8, ℕ, ◌*◌}
 use Rattle.cap_spec.proofs.ProofNames.{◌++◌, ◌+◌, ◌<◌, ◌^◌, ◌∙◌, ◌∷◌, ◌≡◌, ◌≤◌, nil_from_length, Consumes, AllByRecursion}
-use Rattle.cap_spec.proofs.ProofNames.{capped, plain_ends, plain_is_cut, plain_text, plain_words, IsWord}
+use Rattle.cap_spec.proofs.ProofNames.{capped, plain_ends, plain_is_cut, plain_text, plain_words, IsWord, rules}
 use Rattle.cap_words.specs.WordNames.{bytes_left, TakesAll, Phase, Open}
 
 pub bytes_small : (xs : List ℕ) → ((k : ℕ) → Fits w8 (get_or xs k 0)) → AllByRecursion (λ b. b < 256) xs
@@ -13,10 +13,8 @@ bytes_small (x ∷ xs) f = ((f 0).fits, bytes_small xs (λ k. f (suc k)))
 -- the places after words, and the last of them
 ends_back : (at now : ℕ) (ws rest : List ℕ) → at < 2 ^ 64 → now ≡ capped (at + 8 * length ws) →
     now ∷ plain_ends now rest ≡ drop (length ws) (at ∷ plain_ends at (plain_text ws ++ rest))
-ends_back at now [] rest low e =
-    let same : now ≡ at = omega arith in
-    ap (λ k. k ∷ plain_ends k rest) same
 ends_back at now (w ∷ ws) rest low e = ends_back (capped (at + 8)) now ws rest (omega arith) (omega arith)
+ends_back at now ws rest low e = search rules
 
 pub taken : (a b : Option (List ℕ)) (bs : List ℕ) (k at now : ℕ) → AllByRecursion (λ b. b < 256) bs → length bs ≡ 8 * k → at < 2 ^ 64 →
     now ≡ capped (at + 8 * k) → Consumes a b bs

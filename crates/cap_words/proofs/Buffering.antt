@@ -1,17 +1,18 @@
 -- A buffer out of whose front bytes are given.
-use Rattle.std.proofs.Common.{List, [], ap, arith, drop, drop-drop, length, length-take, slice_range, sym, take}
-use Rattle.std.proofs.Common.{take-add, take-take, ℕ, ◌++◌, ◌+◌, ◌-◌, ◌∙◌, ◌≡◌, ◌≤◌}
+use Rattle.cap_spec.proofs.ProofNames.{rules}
+use Rattle.std.proofs.Common.{List, [], ap, arith, drop, drop-drop, length, length-take, slice_range, take}
+use Rattle.std.proofs.Common.{take-add, take-take, ℕ, ◌++◌, ◌+◌, ◌-◌, ◌≡◌, ◌≤◌}
 
 -- n of them were given, and the others are still held
 pub given_off : (xs given : List ℕ) (start end n : ℕ) → n ≤ length (slice_range xs start end) → take n given ≡ take n (slice_range xs start end)
     → slice_range xs start end ≡ take n given ++ slice_range xs (start + n) end
-given_off xs given start end n within same =
-    let held = drop start xs in
-    let few : n ≤ end - start = omega (arith, length-take (end - start) held) in
-    let whole : end - start ≡ n + (end - (start + n)) = omega arith in
-    ap (λ k. take k held) whole ∙ take-add n (end - (start + n)) held
-    ∙ ap (λ l. take n held ++ take (end - (start + n)) l) (drop-drop n start xs)
-    ∙ ap (λ l. l ++ slice_range xs (start + n) end) (sym (same ∙ take-take n (end - start) held few))
+given_off xs given start end n within same = search (
+  rules,
+  length-take (end - start) (drop start xs),
+  take-add n (end - (start + n)) (drop start xs),
+  drop-drop n start xs,
+  take-take n (end - start) (drop start xs) (omega (arith, length-take (end - start) (drop start xs))),
+)
 
 -- nothing is held from a place up to itself
 pub none_between : (xs : List ℕ) (start end : ℕ) → start ≡ end → slice_range xs start end ≡ []

@@ -1,11 +1,11 @@
 -- A source whose words are filled into a buffer, some at a time.
 use Rattle.std.proofs.lemmas.Grind.{flat_map-append}
 use Rattle.cap_spec.proofs.Bytes.Plain.{length_plain, plain_back, plain_short}
-use Rattle.cap_spec.proofs.ProofNames.{Bool, List, None, OnSome, Option, Some, [], ap, append-nil, arith, drop, drop-drop}
-use Rattle.cap_spec.proofs.ProofNames.{false, inl, inr, length, length-append, length-drop, length-take-le, min, refl}
-use Rattle.cap_spec.proofs.ProofNames.{subst, suc, sym, take, take-append-drop, true, zero, ℕ, ◌%◌, ◌*◌, ◌++◌, ◌+◌, ◌-◌}
+use Rattle.cap_spec.proofs.ProofNames.{Bool, List, OnSome, Option, Some, [], ap, append-nil, arith, drop, drop-drop}
+use Rattle.cap_spec.proofs.ProofNames.{false, length, length-append, length-drop, length-take-le, min}
+use Rattle.cap_spec.proofs.ProofNames.{subst, sym, take, take-append-drop, true, ℕ, ◌%◌, ◌*◌, ◌++◌, ◌+◌, ◌-◌}
 use Rattle.cap_spec.proofs.ProofNames.{◌/◌, ◌<◌, ◌^◌, ◌∙◌, ◌∷◌, ◌≡◌, ◌≤◌, ◌⊎◌, Consumes-nil, Consumes-trans, Consumes}
-use Rattle.cap_spec.proofs.ProofNames.{put_mid, plain_text, plain_words, word_bytes, IsWord}
+use Rattle.cap_spec.proofs.ProofNames.{put_mid, plain_text, plain_words, word_bytes, IsWord, rules, common_steps}
 use Rattle.cap_words.specs.Ends.{Works}
 use Rattle.cap_words.specs.TakingMany.{EndsWithin, ReadsBytes, TakesAll}
 use Rattle.cap_words.proofs.Pieces.{on_some}
@@ -14,60 +14,24 @@ use Rattle.cap_words.specs.declared.sources.WordSource as source
 
 -- the words of whole words and of what is after them
 pub plain_join : (xs ys : List ℕ) → length xs % 8 ≡ 0 → plain_words (xs ++ ys) ≡ plain_words xs ++ plain_words ys
-plain_join [] ys e = refl
-plain_join (a ∷ []) ys e = absurd (omega arith)
-plain_join (a ∷ b ∷ []) ys e = absurd (omega arith)
-plain_join (a ∷ b ∷ c ∷ []) ys e = absurd (omega arith)
-plain_join (a ∷ b ∷ c ∷ d ∷ []) ys e = absurd (omega arith)
-plain_join (a ∷ b ∷ c ∷ d ∷ x ∷ []) ys e = absurd (omega arith)
-plain_join (a ∷ b ∷ c ∷ d ∷ x ∷ f ∷ []) ys e = absurd (omega arith)
-plain_join (a ∷ b ∷ c ∷ d ∷ x ∷ f ∷ g ∷ []) ys e = absurd (omega arith)
 plain_join (a ∷ b ∷ c ∷ d ∷ x ∷ f ∷ g ∷ h ∷ xs) ys e = let t = plain_join xs ys (omega arith) in cc
+plain_join xs ys e = search rules
 
 -- some words were taken, and then others
 pub takes_both : {a b c : Option (List ℕ)} {own more : List ℕ} {d e f : Bool} {p q r : ℕ} {ps qs rs : List ℕ}
     → TakesAll a b d e p q ps qs own → TakesAll b c e f q r qs rs more → TakesAll a c d f p r ps rs (own ++ more)
-takes_both {a} {b} {c} {own} {more} {d} {e} {f} {p} {q} {r} {ps} {qs} {rs} t u = record {
-  consumed = Consumes-trans a b c own more t.consumed u.consumed;
-  goes_on = go a b t.consumed t.goes_on u.goes_on;
-}
-  where
-    go : (a b : Option (List ℕ)) → Consumes a b own → OnSome a ((e ≡ d) × (q ∷ qs ≡ drop (length own) (p ∷ ps))) →
-        OnSome b ((f ≡ e) × (r ∷ rs ≡ drop (length more) (q ∷ qs)))
-        → OnSome a ((f ≡ d) × (r ∷ rs ≡ drop (length (own ++ more)) (p ∷ ps)))
-    go None b t g h = tt
-    go (Some x) None t g h = absurd t
-    go (Some x) (Some y) t g h = (
-      h.0 ∙ g.0,
-      h.1 ∙ (ap (drop (length more)) g.1
-          ∙ (drop-drop (length more) (length own) (p ∷ ps) ∙ ap (λ n. drop n (p ∷ ps)) (sym (length-append own more)))),
-    )
+takes_both {a} {b} {c} {own} {more} {d} {e} {f} {p} {q} {r} {ps} {qs} {rs} t u = search (rules, Consumes-trans, drop-drop, length-append)
 
 -- the next word, as a call gives it
 pub takes_one : {a b : Option (List ℕ)} (word : ℕ) {c d : Bool} {p q : ℕ} {ps qs : List ℕ} → Consumes a b (word ∷ []) →
     OnSome a ((d ≡ c) × (ps ≡ q ∷ qs)) → TakesAll a b c d p q ps qs (word ∷ [])
-takes_one {a} word {c} {d} {p} {q} {ps} {qs} t g = record { consumed = t; goes_on = go a g }
-  where
-    go : (a : Option (List ℕ)) → OnSome a ((d ≡ c) × (ps ≡ q ∷ qs)) → OnSome a ((d ≡ c) × (q ∷ qs ≡ drop 1 (p ∷ ps)))
-    go None g = tt
-    go (Some x) g = (g.0, sym g.1)
+takes_one {a} word {c} {d} {p} {q} {ps} {qs} t g = search rules
 
 -- the input ended after words that were taken, fewer than were needed
 pub ends_both : {a b : Option (List ℕ)} {own : List ℕ} {count : ℕ} (at : ℕ) {p q : ℕ} {ps qs : List ℕ} {c d : Bool} (inside : Bool) → length own < count →
     TakesAll a b c d p q ps qs own
     → OnSome b ((b ≡ Some []) × (d ≡ inside) × (qs ≡ at ∷ [])) → EndsWithin count a c inside ps at
-ends_both {a} {b} {own} {count} at {p} {q} {ps} {qs} {c} {d} inside few t s = go a b t.consumed t.goes_on s
-  where
-    go : (a b : Option (List ℕ)) → Consumes a b own → OnSome a ((d ≡ c) × (q ∷ qs ≡ drop (length own) (p ∷ ps))) →
-        OnSome b ((b ≡ Some []) × (d ≡ inside) × (qs ≡ at ∷ [])) → EndsWithin count a c inside ps at
-    go None b t g s = tt
-    go (Some x) None t g s = absurd t
-    go (Some x) (Some y) t g s =
-        let none : y ≡ [] = let e = s.0 in cc in
-        let all : x ≡ own = t ∙ ap (λ l. own ++ l) none ∙ append-nil own in
-        let next : suc (length own) ≡ length own + 1 = omega arith in
-        let places : drop (length own) ps ≡ qs = ap (λ n. drop n (p ∷ ps)) next ∙ (sym (drop-drop 1 (length own) (p ∷ ps)) ∙ ap (drop 1) (sym g.1)) in
-        rw all (few, sym g.0 ∙ s.1, places ∙ s.2)
+ends_both {a} {b} {own} {count} at {p} {q} {ps} {qs} {c} {d} inside few t s = search (rules, append-nil own, drop-drop 1 (length own) (p ∷ ps))
 
 -- bytes that a call read
 pub reads_one : {a b : Option (List ℕ)} {p q : ℕ} → (bs : List ℕ) × Consumes a b bs × (q ≡ min (p + length bs) (2 ^ 64 - 1)) → ReadsBytes a b p q
@@ -75,42 +39,31 @@ reads_one r = record { bytes = r.0; lost = r.1; counted = let e = r.2 in omega (
 
 -- and then others
 pub reads_both : {a b c : Option (List ℕ)} {p q r : ℕ} → ReadsBytes a b p q → ReadsBytes b c q r → ReadsBytes a c p r
-reads_both {a} {b} {c} s t = record {
-  bytes = s.bytes ++ t.bytes;
-  lost = Consumes-trans a b c s.bytes t.bytes s.lost t.lost;
-  counted = rw (length-append s.bytes t.bytes) (omega (arith, s.counted, t.counted));
-}
+reads_both {a} {b} {c} s t = search (rules, Consumes-trans, length-append)
 
 -- a call that gave buffered bytes worked
 pub ready_works : {A : Type 0} (n : ℕ) {was is : Bool} {before after : A} → 0 < n → (n ≡ 0) ⊎ (was ≡ false) → is ≡ was → after ≡ before →
     Works was is before after
-ready_works n some (inl none) still same = absurd (omega arith)
-ready_works n some (inr usable) still same = record { usable = usable; still = still ∙ usable; none_failed = same }
+ready_works n some x3 still same = search rules
 
 -- what is before a piece of a buffer stays
 pub front_kept : (at k : ℕ) (buffer given : List ℕ) → at ≤ length buffer → take at (put_mid at k buffer given) ≡ take at buffer
-front_kept at k buffer given h =
-    ap (λ n. take n (put_mid at k buffer given)) {y = at + 0} (omega arith) ∙ (filled k buffer given h (omega arith) ∙ append-nil (take at buffer))
+front_kept at k buffer given h = grind (arith, common_steps, filled, append-nil)
 
 -- the bytes of a word, in a buffer that was written to before
 pub word_filled : {at : ℕ} (k l : ℕ) (buffer before given : List ℕ) → at ≤ length buffer → 8 ≤ length given
     → take (at + 8) (put_mid at l (put_mid at k buffer before) given) ≡ take at buffer ++ take 8 given
-word_filled {at} k l buffer before given h long =
-    let within : at + 0 ≤ length (put_mid at k buffer before) = filled_within k buffer before h (omega arith) in
-    filled l (put_mid at k buffer before) given (omega arith) long ∙ ap (λ xs. xs ++ take 8 given) (front_kept at k buffer before h)
+word_filled {at} k l buffer before given h long = search (rules, filled_within, filled, front_kept)
 
 pub word_within : {at : ℕ} (k l : ℕ) (buffer before given : List ℕ) → at ≤ length buffer → 8 ≤ length given →
     at + 8 ≤ length (put_mid at l (put_mid at k buffer before) given)
-word_within {at} k l buffer before given h long =
-    let within : at + 0 ≤ length (put_mid at k buffer before) = filled_within k buffer before h (omega arith) in
-    filled_within l (put_mid at k buffer before) given (omega arith) long
+word_within {at} k l buffer before given h long = search (rules, filled_within)
 
 -- no bytes were appended
 pub none_appended : {items : List ℕ} {words : Option (List ℕ)} {cut : Bool} {place : ℕ} {places : List ℕ}
     → (given : List ℕ) × (items ≡ items ++ given) × (length given ≡ 0) × (given ≡ plain_text (plain_words given))
     × TakesAll words words cut cut place place places places (plain_words given)
-none_appended {items} {words} {place} {places} =
-    ([], sym (append-nil items), refl, refl, record { consumed = Consumes-nil words; goes_on = on_some words _ (refl, refl) })
+none_appended {items} {words} {place} {places} = search (rules, append-nil, Consumes-nil, on_some)
 
 module _ {X : Type 0} (g : source.Ghosts X) where
   -- The words of this many bytes at the start of a buffer were taken.
@@ -143,32 +96,13 @@ module _ {X : Type 0} (g : source.Ghosts X) where
       → Consumes (g.words now) (g.words new) (word ∷ []) → OnSome (g.words now) ((g.is_cut new ≡ g.is_cut now) × (g.places now ≡ g.place new ∷ g.places new))
       → ReadsBytes (g.unread now) (g.unread new) (g.place now) (g.place new) → Works (g.broken now) (g.broken new) (g.failures now) (g.failures new)
       → (g.ended now ≡ true → ⊥) → (g.failed now ≡ true → ⊥) → GivesSome now new 8 given
-  next_gives now new given word e is t p r w not_ended not_failed =
-      let bytes : take 8 given ≡ word_bytes word = ap (take 8) e in
-      let one : plain_words (take 8 given) ≡ word ∷ [] = ap plain_words bytes ∙ plain_back (word ∷ []) [] (is, tt) in
-      let P = λ (ws : List ℕ). TakesAll (g.words now) (g.words new) (g.is_cut now) (g.is_cut new) (g.place now) (g.place new) (g.places now)
-      (g.places new) ws in
-      record {
-        some = omega arith;
-        within = let long : length given ≡ 8 = ap length e in omega arith;
-        text = bytes ∙ sym (ap plain_text one);
-        takes = subst P (sym one) (takes_one word t p);
-        reads = r;
-        works = w;
-        not_ended = λ x. absurd (not_ended x);
-        not_failed = λ x. absurd (not_failed x);
-      }
+  next_gives now new given word e is t p r w not_ended not_failed = search (rules, plain_back, takes_one)
 
   -- without a fault so far, and then
   pub works_both : (old now new : X) (done : ℕ) (out : List ℕ) → FilledSoFar old now done out →
       Works (g.broken now) (g.broken new) (g.failures now) (g.failures new)
       → Works (g.broken old) (g.broken new) (g.failures old) (g.failures new)
-  works_both old now new zero out f w = subst (λ (s : X). Works (g.broken s) (g.broken new) (g.failures s) (g.failures new)) (f.none refl) w
-  works_both old now new (suc k) out f w = let v = f.some (omega arith) in record {
-    usable = v.usable;
-    still = w.still;
-    none_failed = w.none_failed ∙ v.none_failed;
-  }
+  works_both old now new done out f w = search rules
 
   -- this many words are that
   pub filled_words : (old : X) {now : X} {done : ℕ} {out : List ℕ} → FilledSoFar old now done out → 8 * length (plain_words (take done out)) ≡ done
@@ -208,12 +142,13 @@ module _ {X : Type 0} (g : source.Ghosts X) where
   pub filled_all : (old now : X) (done : ℕ) (out : List ℕ) (count : ℕ) → FilledSoFar old now done out → count ≡ length out / 8 → done ≡ count * 8
       → (length (plain_words out) ≡ count) × (take (8 * length (plain_words out)) out ≡ plain_text (plain_words out))
       × TakesAll (g.words old) (g.words now) (g.is_cut old) (g.is_cut now) (g.place old) (g.place now) (g.places old) (g.places now) (plain_words out)
-  filled_all old now done out count f c d =
-      let ws = plain_words (take done out) in
-      let many : 8 * length ws ≡ done = filled_words old f in
-      let front : length (take done out) % 8 ≡ 0 = ap (λ k. k % 8) (length-take-le done out f.within) ∙ f.whole in
-      let few : length (drop done out) < 8 = omega (arith, length-drop done out) in
-      let same : plain_words out ≡ ws =
-      ap plain_words (sym (take-append-drop done out)) ∙ plain_join (take done out) (drop done out) front
-      ∙ ap (λ l. ws ++ l) (plain_short (drop done out) few) ∙ append-nil ws in
-      rw same (omega (arith, many), ap (λ k. take k out) many ∙ f.text, f.takes)
+  filled_all old now done out count f c d = search (
+    rules,
+    filled_words old f,
+    length-take-le done out f.within,
+    length-drop done out,
+    take-append-drop done out,
+    plain_join (take done out) (drop done out) (ap (λ k. k % 8) (length-take-le done out f.within) ∙ f.whole),
+    plain_short (drop done out) (omega (arith, length-drop done out)),
+    append-nil (plain_words (take done out)),
+  )

@@ -1,5 +1,6 @@
 -- What a reader gives, read by read.
-use Rattle.std.proofs.Common.{Bool, Err, List, None, Ok, Option, Result, Some, [], ap, drop, false, if◌then◌else◌}
+use Rattle.cap_spec.proofs.ProofNames.{rules}
+use Rattle.std.proofs.Common.{Bool, List, None, Option, Result, Some, [], ap, drop, false, if◌then◌else◌}
 use Rattle.std.proofs.Common.{lt-ltb, nat_lt, refl, slice_index, subst, suc, sym, take, take-append-drop, true, zero, ℕ}
 use Rattle.std.proofs.Common.{◌&&◌, ◌++◌, ◌<◌, ◌∙◌, ◌∷◌, ◌≡◌}
 use Rattle.std.proofs.KnownBytes.{Keeps-refl, prepend_known-nil}
@@ -27,40 +28,26 @@ known_rest bs ys true e = subst (λ c. Consumes (Some (bs ++ ys)) (if c then Som
 known_rest bs ys false e = tt
 
 pub known_consumes : (a b : Option (List ℕ)) (bs : List ℕ) → Consumes a b bs → Consumes (known_bytes a) (known_bytes b) bs
-known_consumes None b bs p = tt
-known_consumes (Some xs) None bs p = absurd p
-known_consumes (Some xs) (Some ys) bs p =
-    subst (λ l. Consumes (known_bytes (Some l)) (known_bytes (Some ys)) bs) (sym p) (known_rest bs ys (are_bytes (bs ++ ys)) refl)
+known_consumes a b bs p = search (rules, known_rest)
 
 -- and is at its end where that is
 pub known_end : (a : Option (List ℕ)) → IsAtEnd a → IsAtEnd (known_bytes a)
-known_end None p = tt
-known_end (Some xs) p = subst (λ l. IsAtEnd (known_bytes (Some l))) (sym p) refl
+known_end a p = search rules
 
 -- and keeps what it reported where it lost nothing
 known_keeps : (a b : Option (List ℕ)) → Keeps a b → Keeps (known_bytes a) (known_bytes b)
-known_keeps None b p = tt
-known_keeps (Some xs) None p = absurd p
-known_keeps (Some xs) (Some ys) p = subst (λ l. Keeps (known_bytes (Some xs)) (known_bytes (Some l))) (sym p) (Keeps-refl (known_bytes (Some xs)))
+known_keeps a b p = search (rules, Keeps-refl)
 
 known_read : {E : Type 0} (a b : Option (List ℕ)) (answer : Result ℕ E) (buf : List ℕ) → ReadConsumes a b answer buf →
     ReadConsumes (known_bytes a) (known_bytes b) answer buf
-known_read a b (Ok n) buf p = (known_consumes a b _ p.0, λ none some. known_end b (p.1 none some))
-known_read a b (Err e) buf p = known_keeps a b p
+known_read a b answer buf p = search (rules, known_consumes, known_end, known_keeps)
 
 -- a read past a buffer that holds nothing
 pub known_past : {E : Type 0} (a b : Option (List ℕ)) {held left : List ℕ} (answer : Result ℕ E) (buf : List ℕ) → held ≡ [] → left ≡ [] →
     ReadConsumes a b answer buf
     → ReadConsumes (known_bytes (prepend_known held a)) (known_bytes (prepend_known left b)) answer buf
-known_past a b {held} {left} answer buf none nothing p =
-    let before : prepend_known held a ≡ a = ap (λ l. prepend_known l a) none ∙ prepend_known-nil a in
-    let after : prepend_known left b ≡ b = ap (λ l. prepend_known l b) nothing ∙ prepend_known-nil b in
-    subst (λ k. ReadConsumes (known_bytes k) (known_bytes (prepend_known left b)) answer buf) (sym before)
-    (subst (λ k. ReadConsumes (known_bytes a) (known_bytes k) answer buf) (sym after) (known_read a b answer buf p))
+known_past a b {held} {left} answer buf none nothing p = search (rules, prepend_known-nil, known_read)
 
 -- what begins the kept text begins the text
 pub begins_kept : (a b part : Option (List ℕ)) → Keeps a b → Begins b part → Begins a part
-begins_kept None b part k h = tt
-begins_kept (Some x) None part k h = absurd k
-begins_kept (Some x) (Some y) None k h = absurd h
-begins_kept (Some x) (Some y) (Some p) k h = (h.0, sym k ∙ h.1)
+begins_kept a b part k h = search rules

@@ -1,9 +1,10 @@
 -- Pieces of many words, by values: what was filled in, and where the input ends inside a piece.
 use Rattle.cap_spec.proofs.Bytes.Plain.{length_plain, plain_back, plain_short, plain_split}
-use Rattle.cap_spec.proofs.ProofNames.{Bool, List, None, OnSome, Option, Some, [], ap, append-nil, arith, drop, false}
-use Rattle.cap_spec.proofs.ProofNames.{length, option_map, refl, subst, sym, take, take_all, true, unwrap_or, ℕ, ◌%◌, ◌*◌}
+use Rattle.cap_spec.proofs.ProofNames.{Bool, List, OnSome, Option, [], ap, append-nil, arith, drop, false}
+use Rattle.cap_spec.proofs.ProofNames.{length, option_map, subst, take, take_all, true, unwrap_or, ℕ, ◌%◌, ◌*◌}
 use Rattle.cap_spec.proofs.ProofNames.{◌++◌, ◌+◌, ◌<◌, ◌^◌, ◌∙◌, ◌∷◌, ◌≡◌, ◌≤◌, Consumes-nil, take-append-le, Consumes}
 use Rattle.cap_spec.proofs.ProofNames.{IsAtEnd, AllByRecursion, capped, plain_ends, plain_is_cut, plain_text, plain_words}
+use Rattle.cap_spec.proofs.ProofNames.{rules}
 use Rattle.cap_words.specs.WordNames.{bytes_left, TakesAll, Phase, Open}
 use Rattle.cap_words.specs.TakingMany.{EndsWithin}
 use Rattle.cap_words.proofs.Buffered.{taken}
@@ -16,14 +17,6 @@ pub record PlainEnd (at : ℕ) (bytes : List ℕ) : Type 0 where
   pub last : drop (length (plain_words bytes)) (plain_ends at bytes) ≡ capped (at + length bytes) ∷ []
 
 pub plain_end : (at : ℕ) (bytes : List ℕ) → at < 2 ^ 64 → PlainEnd at bytes
-plain_end at [] low = record { many = omega arith; whole = λ e. refl; cut = λ some. absurd (omega arith); last = ap (λ n. n ∷ []) (omega arith) }
-plain_end at (a ∷ []) low = record { many = omega arith; whole = λ e. absurd (omega arith); cut = λ some. refl; last = refl }
-plain_end at (a ∷ b ∷ []) low = record { many = omega arith; whole = λ e. absurd (omega arith); cut = λ some. refl; last = refl }
-plain_end at (a ∷ b ∷ c ∷ []) low = record { many = omega arith; whole = λ e. absurd (omega arith); cut = λ some. refl; last = refl }
-plain_end at (a ∷ b ∷ c ∷ d ∷ []) low = record { many = omega arith; whole = λ e. absurd (omega arith); cut = λ some. refl; last = refl }
-plain_end at (a ∷ b ∷ c ∷ d ∷ e ∷ []) low = record { many = omega arith; whole = λ e. absurd (omega arith); cut = λ some. refl; last = refl }
-plain_end at (a ∷ b ∷ c ∷ d ∷ e ∷ f ∷ []) low = record { many = omega arith; whole = λ e. absurd (omega arith); cut = λ some. refl; last = refl }
-plain_end at (a ∷ b ∷ c ∷ d ∷ e ∷ f ∷ g ∷ []) low = record { many = omega arith; whole = λ e. absurd (omega arith); cut = λ some. refl; last = refl }
 plain_end at (a ∷ b ∷ c ∷ d ∷ e ∷ f ∷ g ∷ h ∷ rest) low =
     let t = plain_end (capped (at + 8)) rest (omega arith) in
     record {
@@ -32,6 +25,7 @@ plain_end at (a ∷ b ∷ c ∷ d ∷ e ∷ f ∷ g ∷ h ∷ rest) low =
       cut = λ some. t.cut (omega arith);
       last = t.last ∙ ap (λ n. n ∷ []) (omega arith);
     }
+plain_end at bytes low = search rules
 
 -- the input ended after these bytes, by a source that is open
 pub ends_within : {phase : Phase} (a b : Option (List ℕ)) (bytes : List ℕ) (count : ℕ) {at next : ℕ} {inside : Bool} → phase ≡ Open → at < 2 ^ 64 →
@@ -39,28 +33,17 @@ pub ends_within : {phase : Phase} (a b : Option (List ℕ)) (bytes : List ℕ) (
     → plain_is_cut bytes ≡ inside → Consumes a b bytes → IsAtEnd b
     → EndsWithin count (option_map plain_words (bytes_left phase a)) (plain_is_cut (unwrap_or (bytes_left phase a) [])) inside
     (plain_ends at (unwrap_or (bytes_left phase a) [])) next
-ends_within a b bytes count {at} {next} {inside} is_open low few value cut p end = rw is_open (go a b p end)
-  where
-    go : (a b : Option (List ℕ)) → Consumes a b bytes → IsAtEnd b →
-        EndsWithin count (option_map plain_words a) (plain_is_cut (unwrap_or a [])) inside (plain_ends at (unwrap_or a [])) next
-    go None b p end = tt
-    go (Some x) None p end = absurd p
-    go (Some x) (Some y) p end =
-        let all : x ≡ bytes = p ∙ ap (λ l. bytes ++ l) end ∙ append-nil bytes in
-        let t = plain_end at bytes low in
-        rw all (omega (arith, t.many), cut, t.last ∙ ap (λ n. n ∷ []) (sym value))
+ends_within a b bytes count {at} {next} {inside} is_open low few value cut p end = search (rules, append-nil, plain_end)
 
 -- what holds is said of a known value
 pub on_some : {A : Type 0} (o : Option A) (P : Type 0) → P → OnSome o P
-on_some None P h = tt
-on_some (Some x) P h = h
+on_some o P h = search rules
 
 -- nothing was asked for
 pub none_filled : {words : Option (List ℕ)} {cut : Bool} {at : ℕ} {places : List ℕ} (out : List ℕ) {count : ℕ} → length out < 8 → count ≡ 0
     → (length (plain_words out) ≡ count) × (take (8 * length (plain_words out)) out ≡ plain_text (plain_words out))
     × TakesAll words words cut cut at at places places (plain_words out)
-none_filled {words} out few none =
-    rw (plain_short out few) (sym none, refl, record { consumed = Consumes-nil words; goes_on = on_some words _ (refl, refl) })
+none_filled {words} out few none = search (rules, plain_short, Consumes-nil, on_some)
 
 -- the front of bytes are bytes
 pub front_all : (xs ys : List ℕ) → AllByRecursion (λ b. b < 256) (xs ++ ys) → AllByRecursion (λ b. b < 256) xs

@@ -1,7 +1,7 @@
 -- What a read and a write of the plain encoding do to what is known of words.
 use Rattle.cap_spec.proofs.ProofNames.{List, None, Option, Some, ap, append_assoc, drop, sym, take, take-append-drop, ℕ}
-use Rattle.cap_spec.proofs.ProofNames.{◌++◌, ◌∙◌, ◌∷◌, ◌≡◌, append_known-moved, Appends, Keeps, append_known, plain_text}
-use Rattle.cap_spec.proofs.ProofNames.{word_bytes}
+use Rattle.cap_spec.proofs.ProofNames.{◌++◌, ◌∷◌, ◌≡◌, append_known-moved, Appends, Keeps, append_known, plain_text}
+use Rattle.cap_spec.proofs.ProofNames.{word_bytes, rules}
 use Rattle.cap_words.specs.Sinks.{Begins}
 
 -- the bytes of a word were written
@@ -13,7 +13,4 @@ word_put a b bytes w ws e p = append_known-moved a b bytes (plain_text ws) (plai
 pub part_begins : (a b : Option (List ℕ)) (n : ℕ) (bytes rest all : List ℕ) → all ≡ bytes ++ rest → Appends a b (take n bytes) → Begins (append_known a all) b
 part_begins None b n bytes rest all e p = tt
 part_begins (Some x) None n bytes rest all e p = absurd p
-part_begins (Some x) (Some y) n bytes rest all e p =
-    let split : all ≡ take n bytes ++ (drop n bytes ++ rest) = e ∙ ap (λ l. l ++ rest) (sym (take-append-drop n bytes))
-    ∙ append_assoc (take n bytes) (drop n bytes) rest in
-    (drop n bytes ++ rest, ap (λ l. x ++ l) split ∙ sym (append_assoc x (take n bytes) (drop n bytes ++ rest)) ∙ ap (λ l. l ++ (drop n bytes ++ rest)) (sym p))
+part_begins (Some x) (Some y) n bytes rest all e p = search (rules, take-append-drop n bytes, append_assoc (take n bytes) (drop n bytes) rest, append_assoc x (take n bytes) (drop n bytes ++ rest))

@@ -1,6 +1,7 @@
+use Rattle.cap_spec.proofs.ProofNames.{rules}
 use Rattle.std.proofs.BufReadLemmas.{zero_unless_positive}
-use Rattle.std.proofs.Common.{ap, arith, drop, length, length-drop, length-take, slice_range, sym, take, ◌+◌, ◌-◌, ◌<◌}
-use Rattle.std.proofs.Common.{◌∙◌, ◌≡◌}
+use Rattle.std.proofs.Common.{ap, arith, drop, length, length-drop, length-take, slice_range, take, ◌+◌, ◌-◌, ◌<◌}
+use Rattle.std.proofs.Common.{◌≡◌}
 use Rattle.std.proofs.KnownBytes.{Keeps-refl, prepend_known-read}
 use Rattle.std.specs.Io.KnownBytes.{IsAtEnd, Keeps, prepend_known}
 use Rattle.cap_words.proofs.Buffering.{given_off, none_between}
@@ -34,9 +35,4 @@ returns-clause-bytes g c =
 
 -- nothing was held, before or after
 pub returns-then-buf-ge-BUFFER-clause-bytes : goal.returns-then-buf-ge-BUFFER-clause-bytes
-returns-then-buf-ge-BUFFER-clause-bytes g c =
-    let old = c.args.self.now in
-    let new = c.read_past.new.self in
-    let held = c.read_past.ensures.held in
-    known_past _ _ c.read_past.result _ (none_between old.buffer.items old.start old.end c.if-self.true)
-    (none_between new.buffer.items new.start new.end (held.1 ∙ c.if-self.true ∙ sym held.2)) c.read_past.ensures.bytes
+returns-then-buf-ge-BUFFER-clause-bytes g c = search (rules, known_past, none_between c.args.self.now.buffer.items c.args.self.now.start c.args.self.now.end c.if-self.true, none_between)

@@ -3,9 +3,7 @@ use Rattle.cap_words.proofs.Known.{known_consumes, known_end}
 use Rattle.cap_words.proofs.from_read.FromReadByteIn.read.Goals as goal
 
 pub returns-in-Ok-clause-bytes : goal.returns-in-Ok-clause-bytes
-returns-in-Ok-clause-bytes g c =
-    let read = c.in-Ok.ensures.bytes in
-    (known_consumes _ _ _ read.0, λ zero some. known_end _ (read.1 zero some))
+returns-in-Ok-clause-bytes g c = search (rules, known_consumes, known_end)
 
 pub returns-in-Err-clause-device : goal.returns-in-Err-clause-device
 returns-in-Err-clause-device g c = search rules

@@ -1,22 +1,15 @@
 -- The words of a prefix of bytes are a prefix of their words.
-use Rattle.cap_spec.proofs.ProofNames.{IfSome, List, None, Option, Some, [], ap, option_map, refl, rules, ℕ, ◌++◌, ◌∷◌}
+use Rattle.cap_spec.proofs.ProofNames.{IfSome, List, None, Option, Some, [], ap, option_map, rules, ℕ, ◌++◌, ◌∷◌}
 use Rattle.cap_spec.proofs.ProofNames.{◌≡◌, little_number, plain_words}
 use Rattle.cap_words.specs.WordNames.{bytes_left, Phase, Open}
 use Rattle.cap_words.proofs.plain_words.PlainWords.held.Goals as goal
 
 -- bytes begin with the words of a prefix
 front_words : (xs ys : List ℕ) → (rest : List ℕ) × (plain_words (xs ++ ys) ≡ plain_words xs ++ rest)
-front_words [] ys = (plain_words ys, refl)
-front_words (a ∷ []) ys = (plain_words (a ∷ ys), refl)
-front_words (a ∷ b ∷ []) ys = (plain_words (a ∷ b ∷ ys), refl)
-front_words (a ∷ b ∷ c ∷ []) ys = (plain_words (a ∷ b ∷ c ∷ ys), refl)
-front_words (a ∷ b ∷ c ∷ d ∷ []) ys = (plain_words (a ∷ b ∷ c ∷ d ∷ ys), refl)
-front_words (a ∷ b ∷ c ∷ d ∷ e ∷ []) ys = (plain_words (a ∷ b ∷ c ∷ d ∷ e ∷ ys), refl)
-front_words (a ∷ b ∷ c ∷ d ∷ e ∷ f ∷ []) ys = (plain_words (a ∷ b ∷ c ∷ d ∷ e ∷ f ∷ ys), refl)
-front_words (a ∷ b ∷ c ∷ d ∷ e ∷ f ∷ g ∷ []) ys = (plain_words (a ∷ b ∷ c ∷ d ∷ e ∷ f ∷ g ∷ ys), refl)
 front_words (a ∷ b ∷ c ∷ d ∷ e ∷ f ∷ g ∷ h ∷ xs) ys =
     let t = front_words xs ys in
     (t.0, ap (λ (ws : List ℕ). little_number 8 (a ∷ b ∷ c ∷ d ∷ e ∷ f ∷ g ∷ h ∷ []) ∷ ws) t.1)
+front_words xs ys = search rules
 
 -- the same of a source that is open
 shown : (phase : Phase) (known : Option (List ℕ)) (bytes : List ℕ) → phase ≡ Open
@@ -30,8 +23,7 @@ shown phase known bytes is_open h = rw is_open (go known h)
     go (Some xs) h = let t = front_words bytes h.0 in (t.0, rw h.1 t.1)
 
 pub returns-in-Open-clause-words : goal.returns-in-Open-clause-words
-returns-in-Open-clause-words g c =
-    shown c.args.self.now.phase (g.I.ByteIn.to_come c.args.self.now.bytes.input) c.held.result.now c.in-Open.is c.held.ensures.known
+returns-in-Open-clause-words g c = search (rules, shown)
 
 pub returns-in_default : goal.returns-in_default
 returns-in_default g c = search rules

@@ -1,4 +1,5 @@
-use Rattle.std.proofs.Common.{arith, drop, length, length-drop, length-take-le, refl, take, ◌*◌, ◌++◌, ◌/◌, ◌<◌, ◌≡◌}
+use Rattle.cap_spec.proofs.ProofNames.{rules, common_steps}
+use Rattle.std.proofs.Common.{arith, drop, length, length-drop, length-take-le, take, ◌*◌, ◌++◌, ◌/◌, ◌<◌, ◌≡◌}
 use Rattle.std.specs.List.{AllByRecursion}
 use Rattle.cap_words.proofs.Buffered.{bytes_small}
 use Rattle.cap_words.proofs.Pieces.{ends_within, none_filled, piece_filled, plain_end}
@@ -22,27 +23,20 @@ returns-then-count-whole-clause-full g c = λ is.
     (omega (arith, c.in-Ok.ensures.took.place, count)) c.in-Ok.ensures.took.lost
 
 pub returns-then-count-eq0-clause-ended : goal.returns-then-count-eq0-clause-ended
-returns-then-count-eq0-clause-ended g c = λ is.
-    let given = c.fill.new.buf in
-    let n = c.in-Ok.count in
-    let long : length given ≡ 8 * (length c.args.out.now / 8) =
-    omega (arith, c.fill.auto.buf, length-take-le (length c.args.out.now / 8 * 8) c.args.out.now (omega arith)) in
-    let count : length (take n given) ≡ n = length-take-le n given c.in-Ok.ensures.len in
-    let took = c.in-Ok.ensures.took in (
-      refl,
-      ends_within _ _ (take n given) _ c.in-Open.is (omega arith) (omega (arith, long, count, c.in-Ok.ensures.len)) took.place
-          ((plain_end c.args.self.now.bytes.read (take n given) (omega arith)).whole (omega (arith, count))) took.lost
-          (c.in-Ok.ensures.end (omega (arith, long, c.in-Ok.ensures.len))),
-    )
+returns-then-count-eq0-clause-ended g c = search (
+  rules,
+  length-take-le (length c.args.out.now / 8 * 8) c.args.out.now (omega arith),
+  length-take-le c.in-Ok.count c.fill.new.buf c.in-Ok.ensures.len,
+  ends_within,
+  plain_end c.args.self.now.bytes.read (take c.in-Ok.count c.fill.new.buf) (omega arith),
+)
 
 pub returns-else-count-eq0-clause-truncated : goal.returns-else-count-eq0-clause-truncated
-returns-else-count-eq0-clause-truncated g c = λ byte is.
-    let given = c.fill.new.buf in
-    let n = c.in-Ok.count in
-    let long : length given ≡ 8 * (length c.args.out.now / 8) =
-    omega (arith, c.fill.auto.buf, length-take-le (length c.args.out.now / 8 * 8) c.args.out.now (omega arith)) in
-    let count : length (take n given) ≡ n = length-take-le n given c.in-Ok.ensures.len in
-    let took = c.in-Ok.ensures.took in
-    ends_within _ _ (take n given) _ c.in-Open.is (omega arith) (omega (arith, long, count, c.in-Ok.ensures.len)) took.place
-    ((plain_end c.args.self.now.bytes.read (take n given) (omega arith)).cut (omega (arith, count))) took.lost
-    (c.in-Ok.ensures.end (omega (arith, long, c.in-Ok.ensures.len)))
+returns-else-count-eq0-clause-truncated g c = grind (
+  arith,
+  common_steps,
+  length-take-le (length c.args.out.now / 8 * 8) c.args.out.now (omega arith),
+  length-take-le c.in-Ok.count c.fill.new.buf c.in-Ok.ensures.len,
+  ends_within,
+  plain_end c.args.self.now.bytes.read (take c.in-Ok.count c.fill.new.buf) (omega arith),
+)

@@ -1,5 +1,5 @@
 use Rattle.std.proofs.lemmas.Slice.{overwrites}
-use Rattle.cap_spec.proofs.ProofNames.{ap, arith, length, refl, rules, take, ◌/◌, ◌<◌, ◌∙◌, ◌≡◌, plain_words, word_bytes}
+use Rattle.cap_spec.proofs.ProofNames.{ap, arith, length, rules, ◌/◌, ◌∙◌, ◌≡◌, word_bytes}
 use Rattle.cap_words.proofs.Filling.{ends_both, filled_all, filled_more, filled_still, filled_words, next_gives}
 use Rattle.cap_words.proofs.Filling.{reads_both, reads_one, ready_works, word_filled, word_within}
 use Rattle.cap_words.proofs.Turns.{filled, filled_within}
@@ -47,31 +47,21 @@ loop-done-preserved g c =
     }
 
 pub returns-in-Ok-None-clause-reads : goal.returns-in-Ok-None-clause-reads
-returns-in-Ok-None-clause-reads g c =
-    let still = filled_still g.Self.WordSource _ (c.ready-count.ensures.none (omega arith)) c.loop-done.invariant.filled in
-    reads_both still.reads (reads_one c.next.ensures.reads)
+returns-in-Ok-None-clause-reads g c = search (rules, reads_both, reads_one)
 
 pub returns-in-Err-clause-reads : goal.returns-in-Err-clause-reads
-returns-in-Err-clause-reads g c =
-    let still = filled_still g.Self.WordSource _ (c.ready-count.ensures.none (omega arith)) c.loop-done.invariant.filled in
-    reads_both still.reads (reads_one c.next.ensures.reads)
+returns-in-Err-clause-reads g c = search (rules, reads_both, reads_one)
 
 pub returns-in-Ok-None-clause-ended : goal.returns-in-Ok-None-clause-ended
-returns-in-Ok-None-clause-ended g c = λ is.
-    let far = c.loop-done.invariant.filled in
-    let still = filled_still g.Self.WordSource _ (c.ready-count.ensures.none (omega arith)) far in
-    let few : length (plain_words (take c.loop-done.done c.loop-done.out)) < length c.args.out.now / 8 =
-    omega (arith, filled_words g.Self.WordSource _ far) in
-    let e = rw c.in-Ok-None.field-0-is at c.in-Ok-None.ensures in
-    (e.ended refl, ends_both _ _ few still.takes (e.none refl))
+returns-in-Ok-None-clause-ended g c = search (rules, filled_still, filled_words, ends_both)
 
 pub returns-in-Err-clause-truncated : goal.returns-in-Err-clause-truncated
-returns-in-Err-clause-truncated g c = λ byte is.
-    let far = c.loop-done.invariant.filled in
-    let still = filled_still g.Self.WordSource _ (c.ready-count.ensures.none (omega arith)) far in
-    let few : length (plain_words (take c.loop-done.done c.loop-done.out)) < length c.args.out.now / 8 =
-    omega (arith, filled_words g.Self.WordSource _ far) in
-    ends_both _ _ few still.takes (c.in-Err.ensures.truncated byte (cc))
+returns-in-Err-clause-truncated g c = search (
+  rules,
+  filled_still g.Self.WordSource _ (c.ready-count.ensures.none (omega arith)) c.loop-done.invariant.filled,
+  filled_words g.Self.WordSource _ c.loop-done.invariant.filled,
+  ends_both,
+)
 
 pub returns-clause-full : goal.returns-clause-full
 returns-clause-full g c = λ is.
