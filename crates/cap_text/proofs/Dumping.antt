@@ -6,9 +6,9 @@ use Rattle.cap_spec.specs.declared.Step.{Step}
 use Rattle.cap_spec.proofs.Pointers.Shapes.{structs_levels}
 use Rattle.cap_spec.proofs.ProofNames.{List, None, Result, Some, [], ap, arith, codes, inl, inr, refl, subst, suc, sym}
 use Rattle.cap_spec.proofs.ProofNames.{zero, ℕ, ◌++◌, ◌+◌, ◌<◌, ◌∙◌, ◌≡◌, ◌≤◌, eqb_tells, AreElements, DenoteEach, Denotes}
-use Rattle.cap_spec.proofs.ProofNames.{element_levels, ReachesSpot, Spot, word}
+use Rattle.cap_spec.proofs.ProofNames.{element_levels, ReachesSpot, Spot}
 use Rattle.cap_spec.proofs.ProofNames.{Own, kind_of, own_of, DenotesAt, dump_text, label, own_text, Tree, Trees, cap, more}
-use Rattle.cap_spec.proofs.ProofNames.{null, part_at, pointers, scalars, struct, structs, tree_at, tree_count}
+use Rattle.cap_spec.proofs.ProofNames.{null, part_at, pointers, scalars, struct, structs, tree_at, tree_count, rules}
 use Rattle.cap_text.specs.Dumping.{child_letter_of, child_step_of, height, heights, shown_below, shown_count_of}
 use Rattle.cap_text.specs.Dumping.{trees_from}
 use Rattle.cap_text.specs.TextNames.{Kind, OutFault, Added, Adds, Halted}
@@ -20,62 +20,37 @@ use Rattle.cap_words.specs.declared.ends.ByteOut as output
 next_tree : (ts : Trees) (i : ℕ) (u : Tree) → tree_at ts i ≡ Some u → trees_from i ts ≡ more u (trees_from (i + 1) ts)
 next_tree none i u e = absurd (cc e)
 next_tree (more t ts) zero u e = let f : t ≡ u = cc e in rw f refl
-next_tree (more t ts) (suc i) u e =
-    let n : suc i + 1 ≡ suc (i + 1) = omega arith in
-    next_tree ts i u e ∙ ap (λ k. more u (trees_from k (more t ts))) (sym n)
+next_tree (more t ts) (suc i) u e = search (rules, next_tree ts i u e)
 
 -- and none after the last
 no_tree : (ts : Trees) (i : ℕ) → tree_count ts ≤ i → trees_from i ts ≡ none
 no_tree none zero h = refl
-no_tree none (suc i) h = refl
-no_tree (more t ts) zero h = absurd (omega (arith, h))
 no_tree (more t ts) (suc i) h = no_tree ts i (omega (arith, h))
+no_tree ts i h = search rules
 
 -- there is a tree at each number below the count
 tree_is_there : (ts : Trees) (i : ℕ) → i < tree_count ts → tree_at ts i ≡ None → ⊥
-tree_is_there none i h e = absurd (omega (arith, h))
-tree_is_there (more t ts) zero h e = absurd (cc e)
 tree_is_there (more t ts) (suc i) h e = tree_is_there ts i (omega (arith, h)) e
+tree_is_there ts i h e = search rules
 
 -- each is lower than the node above by one
 height_at : (ts : Trees) (i : ℕ) (u : Tree) → tree_at ts i ≡ Some u → height u + 1 ≤ heights ts
-height_at none i u e = absurd (cc e)
-height_at (more t ts) zero u e = let f : t ≡ u = cc e in omega (arith, ap height f)
 height_at (more t ts) (suc i) u e = omega (arith, height_at ts i u e)
+height_at ts i u e = search rules
 
 -- a node's lines are those of the children that are shown
 lines_below : (level : ℕ) (t : Tree) → child_lines level t ≡ all_lines level (child_letter_of (kind_of (own_of t))) 0 (shown_below t)
-lines_below level null = refl
-lines_below level (cap i) = refl
-lines_below level (struct words ts) = refl
-lines_below level (scalars c vs) = refl
-lines_below level (pointers ts) = refl
-lines_below level (structs d p es) = elim (eqb_tells (d + p) 0) [ inl h ↦ rw h.0 refl | inr h ↦ rw h.0 refl ]
+lines_below level t = search (rules, eqb_tells)
 
 height_below : (t : Tree) → height t ≡ heights (shown_below t)
-height_below null = refl
-height_below (cap i) = refl
-height_below (struct words ts) = refl
-height_below (scalars c vs) = refl
-height_below (pointers ts) = refl
-height_below (structs d p es) = elim (eqb_tells (d + p) 0) [ inl h ↦ rw h.0 refl | inr h ↦ rw h.0 refl ]
+height_below t = search (rules, eqb_tells)
 
 count_below : (t : Tree) → shown_count_of (kind_of (own_of t)) ≡ tree_count (shown_below t)
-count_below null = refl
-count_below (cap i) = refl
-count_below (struct words ts) = refl
-count_below (scalars c vs) = refl
-count_below (pointers ts) = refl
-count_below (structs d p es) = elim (eqb_tells (d + p) 0) [ inl h ↦ rw h.0 refl | inr h ↦ rw h.0 refl ]
+count_below t = search (rules, eqb_tells)
 
 -- the step to a child that is shown leads to it
 part_below : (t : Tree) (i : ℕ) → i < tree_count (shown_below t) → part_at t (child_step_of (kind_of (own_of t)) i) ≡ tree_at (shown_below t) i
-part_below null i h = absurd (omega (arith, h))
-part_below (cap k) i h = absurd (omega (arith, h))
-part_below (struct words ts) i h = refl
-part_below (scalars c vs) i h = absurd (omega (arith, h))
-part_below (pointers ts) i h = refl
-part_below (structs d p es) i h = elim (eqb_tells (d + p) 0) [ inl e ↦ absurd (omega (arith, rw e.0 at h)) | inr e ↦ rw e.0 refl ]
+part_below t i h = search (rules, eqb_tells)
 
 module _ (t : Tree) (kind : Kind) (i : ℕ) (k : kind ≡ kind_of (own_of t)) (within : i < shown_count_of kind) where
   is_within : i < tree_count (shown_below t)
@@ -87,8 +62,7 @@ module _ (t : Tree) (kind : Kind) (i : ℕ) (k : kind ≡ kind_of (own_of t)) (w
 
   -- it leads to some place
   pub child_is_there : (step : Step) → step ≡ child_step_of kind i → part_at t step ≡ None → ⊥
-  child_is_there step s e =
-      tree_is_there (shown_below t) i is_within (sym (part_below t i is_within) ∙ ap (λ x. part_at t (child_step_of x i)) (sym k) ∙ ap (part_at t) (sym s) ∙ e)
+  child_is_there step s e = search (rules, tree_is_there, is_within, part_below)
 
   -- to a node that is lower by one
   pub child_height : (u : Tree) → part_at t (child_step_of kind i) ≡ Some u → height u + 1 ≤ height t
@@ -109,18 +83,11 @@ pub record Below (m : List (List ℕ)) (a : Spot) (t : Tree) (kind : Kind) (i : 
 pub below : {m m' : List (List ℕ)} (a : Spot) (t : Tree) {own : Own} {kind : Kind} {i n : ℕ} {step : Step}
     → own ≡ own_of t → kind ≡ kind_of own → i < n → n ≡ shown_count_of kind
     → step ≡ child_step_of kind i → m' ≡ m → (u : Tree) × (part_at t step ≡ Some u) × DenotesAt m a u → Below m' a t kind i
-below a t e k lt many s same p = record {
-  of_tree = k ∙ ap kind_of e;
-  within = omega (arith, lt, many);
-  tree = p.0;
-  at_i = ap (part_at t) (sym s) ∙ p.1;
-  denotes = subst (λ x. DenotesAt x a p.0) (sym same) p.2;
-}
+below a t e k lt many s same p = search rules
 
 -- no elements take more levels than some
 levels_of_few : (n : ℕ) → element_levels n ≤ element_levels 1
-levels_of_few zero = omega arith
-levels_of_few (suc n) = omega arith
+levels_of_few n = search rules
 
 mutual
   -- what a pointer word denotes nests one level of lines for each of depth
@@ -169,10 +136,7 @@ module _ {O : Type 0} (g : output.Ghosts O) (level : ℕ) (t : Tree) (kind : Kin
 
   -- after the last all are
   pub all_out : (a b : O × List ℕ) (i : ℕ) → shown_count_of kind ≤ i → ChildrenOut g level t kind a b i → Added g a b (child_lines level t)
-  all_out a b i h l =
-      let many : tree_count (shown_below t) ≤ i = subst (λ n. n ≤ i) (ap shown_count_of k ∙ count_below t) h in
-      let rest = ap (all_lines level (child_letter_of kind) i) (no_tree (shown_below t) i many) in
-      subst (Added g a b) lines_are (left_done g a b _ (subst (Left g a b (all_lines level (child_letter_of kind) 0 (shown_below t))) rest l))
+  all_out a b i h l = search (rules, count_below, no_tree, lines_are, left_done)
 
   module _ (i : ℕ) (within : i < shown_count_of kind) (u : Tree) (at_i : part_at t (child_step_of kind i) ≡ Some u)
       (letter : ℕ) (is : letter ≡ child_letter_of kind) (a b : O × List ℕ) where
@@ -180,29 +144,18 @@ module _ {O : Type 0} (g : output.Ghosts O) (level : ℕ) (t : Tree) (kind : Kin
     left_next : ChildrenOut g level t kind a b i
         → Left g a b (all_lines level (child_letter_of kind) 0 (shown_below t))
         (own_text level (label letter i) u ++ child_lines (level + 1) u ++ all_lines level (child_letter_of kind) (i + 1) (trees_from (i + 1) (shown_below t)))
-    left_next l =
-        subst (Left g a b (all_lines level (child_letter_of kind) 0 (shown_below t)))
-        (ap (all_lines level (child_letter_of kind) i) (next_tree (shown_below t) i u (child_of t kind i k within u at_i))
-        ∙ ap (λ x. own_text level (label x i) u ++ child_lines (level + 1) u ++ all_lines level (child_letter_of kind)
-        (i + 1) (trees_from (i + 1) (shown_below t))) (sym is)) l
+    left_next l = search (rules, next_tree, child_of)
 
     -- one more child is put
     pub child_out : (c d : O × List ℕ) → ChildrenOut g level t kind a b i
         → Added g b c (own_text level (label letter i) u) → Added g c d (child_lines (level + 1) u)
         → ChildrenOut g level t kind a d (i + 1)
-    child_out c d l v w =
-        left_step g a b d (all_lines level (child_letter_of kind) 0 (shown_below t)) (own_text level (label letter i) u ++ child_lines (level + 1) u)
-        (all_lines level (child_letter_of kind) (i + 1) (trees_from (i + 1) (shown_below t))) (left_next l)
-        (added_then g b c d (own_text level (label letter i) u) (child_lines (level + 1) u) v w)
+    child_out c d l v w = search (rules, left_step, left_next, added_then)
 
     -- a fault came in its own lines
     pub child_fails : (c : O × List ℕ) (fault : OutFault) → ChildrenOut g level t kind a b i → Halted g b c fault (own_text level (label letter i) u)
         → Halted g a c fault (child_lines level t)
-    child_fails c fault l q =
-        subst (Halted g a c fault) lines_are
-        (left_stop g a b c fault (all_lines level (child_letter_of kind) 0 (shown_below t)) (own_text level (label letter i) u ++ child_lines (level + 1) u)
-        (all_lines level (child_letter_of kind) (i + 1) (trees_from (i + 1) (shown_below t))) (left_next l)
-        (halted_more g b c fault (own_text level (label letter i) u) (child_lines (level + 1) u) q))
+    child_fails c fault l q = search (rules, lines_are, left_stop, left_next, halted_more)
 
     -- or in those below it
     pub below_fails : (c d : O × List ℕ) (fault : OutFault) → ChildrenOut g level t kind a b i → Added g b c (own_text level (label letter i) u)
@@ -215,8 +168,7 @@ module _ {O : Type 0} (g : output.Ghosts O) (level : ℕ) (t : Tree) (kind : Kin
 
 -- The tree of a message is at the spot to which the empty path comes.
 pub at_root : (m m' : List (List ℕ)) (a : Spot) (t : Tree) (c d : ℕ) → m' ≡ m → ReachesSpot m [] 1 a → Denotes m 0 0 t c d → DenotesAt m' a t
-at_root m m' a t c d same comes h =
-    subst (λ x. DenotesAt x a t) (sym same) (subst (λ x. DenotesAt m x t) (sym comes.3.1) (let at : DenotesAt m (word 0 0) t = (c, d, h) in at))
+at_root m m' a t c d same comes h = search rules
 
 module _ {O : Type 0} (g : output.Ghosts O) where
   -- the root's own lines, and then what is below it

@@ -1,7 +1,7 @@
 -- How many digits a number has.
-use Rattle.cap_spec.proofs.ProofNames.{List, ap, arith, decimal, drop, length, length-append, sym, take, take-add, ℕ, ◌++◌}
+use Rattle.cap_spec.proofs.ProofNames.{List, ap, arith, decimal, drop, length, length-append, take, take-add, ℕ, ◌++◌}
 use Rattle.cap_spec.proofs.ProofNames.{◌+◌, ◌/◌, ◌<◌, ◌^◌, ◌∙◌, ◌≡◌, ◌≤◌, take-append_seam, decimal_digit, decimal_step}
-use Rattle.cap_spec.proofs.ProofNames.{length-decimal-le}
+use Rattle.cap_spec.proofs.ProofNames.{length-decimal-le, rules}
 
 -- a number of one digit is one digit long
 pub length-decimal_digit : (n : ℕ) → n < 10 → length (decimal n) ≡ 1
@@ -17,9 +17,7 @@ length-decimal_two n h few fits = length-decimal_step n h fits ∙ ap (λ k. k +
 
 -- from 100 on it is two digits longer than what is before them
 pub length-decimal_pair : (n : ℕ) → 100 ≤ n → n < 2 ^ 64 → length (decimal n) ≡ 2 + length (decimal (n / 100))
-length-decimal_pair n h fits =
-    let front : n / 10 / 10 ≡ n / 100 = omega arith in
-    omega (arith, length-decimal_step n (omega arith) fits, length-decimal_step (n / 10) (omega arith) (omega arith), ap (λ k. length (decimal k)) front)
+length-decimal_pair n h fits = search (rules, length-decimal_step)
 
 -- a number of 64 bits has at most 20 digits
 pub length-decimal_few : (n : ℕ) → n < 2 ^ 64 → length (decimal n) ≤ 20
@@ -28,6 +26,4 @@ length-decimal_few n h = length-decimal-le 20 n (omega arith) (omega arith) h
 -- a text that was written after the first bytes is after them
 pub text_after : (old new text rest : List ℕ) (start end : ℕ) → start + length text ≡ end
     → take start new ≡ take start old → drop start new ≡ text ++ rest → take end new ≡ take start old ++ text
-text_after old new text rest start end e before written =
-    ap (λ n. take n new) (sym e) ∙ take-add start (length text) new ∙ ap (λ l. l ++ take (length text) (drop start new)) before
-    ∙ ap (λ l. take start old ++ take (length text) l) written ∙ ap (λ l. take start old ++ l) (take-append_seam text rest)
+text_after old new text rest start end e before written = search (rules, take-add, take-append_seam)

@@ -1,5 +1,6 @@
 -- Texts that are put on a page one after the other.
-use Rattle.std.proofs.Common.{Err, List, Ok, Result, [], ap, append-nil, append_assoc, inl, inr, refl, subst, sym, ℕ}
+use Rattle.cap_spec.proofs.ProofNames.{rules, arith, common_steps}
+use Rattle.std.proofs.Common.{List, Result, [], append-nil, append_assoc, inl, inr, refl, subst, sym, ℕ}
 use Rattle.std.proofs.Common.{◌++◌, ◌∙◌, ◌≡◌, ◌⊎◌}
 use Rattle.cap_text.specs.TextNames.{OutFault, Added, Adds, Halted, Stopped, Writes, Wrote}
 use Rattle.cap_text.proofs.Writing.{stopped_more, stopped_then, writes_then, wrote_then}
@@ -11,12 +12,7 @@ module _ {O : Type 0} (g : output.Ghosts O) where
   Gone a b xs = ((b ≡ a) × (xs ≡ [])) ⊎ Wrote g a b xs
 
   gone_then : (a b c : O) (xs ys : List ℕ) → Gone a b xs → Gone b c ys → Gone a c (xs ++ ys)
-  gone_then a b c xs ys (inl h) (inl k) = inl (k.0 ∙ h.0, ap (λ t. t ++ ys) h.1 ∙ k.1)
-  gone_then a b c xs ys (inl h) (inr w) = inr (subst (λ t. Wrote g a c (t ++ ys)) (sym h.1) (subst (λ o. Wrote g o c ys) h.0 w))
-  gone_then a b c xs ys (inr w) (inl k) = inr
-      (subst (λ o. Wrote g a o (xs ++ ys)) (sym k.0)
-      (subst (Wrote g a b) (sym (ap (λ t. xs ++ t) k.1 ∙ append-nil xs)) w))
-  gone_then a b c xs ys (inr w) (inr v) = inr (wrote_then g a b c xs ys w v)
+  gone_then a b c xs ys x6 x7 = search (rules, append-nil, wrote_then)
 
   -- a text that is on the page alone
   pub added_here : (a : O × List ℕ) (now text : List ℕ) → now ≡ a.1 ++ text → Added g a (a.0, now) text
@@ -24,12 +20,7 @@ module _ {O : Type 0} (g : output.Ghosts O) where
 
   -- one text, and then another
   pub added_then : (a b c : O × List ℕ) (xs ys : List ℕ) → Added g a b xs → Added g b c ys → Added g a c (xs ++ ys)
-  added_then a b c xs ys p q = record {
-    gone = p.gone ++ q.gone;
-    whole = sym (append_assoc a.1 xs ys) ∙ ap (λ t. t ++ ys) p.whole ∙ append_assoc p.gone b.1 ys
-        ∙ ap (λ t. p.gone ++ t) q.whole ∙ sym (append_assoc p.gone q.gone c.1);
-    out = gone_then a.0 b.0 c.0 p.gone q.gone p.out q.out;
-  }
+  added_then a b c xs ys p q = search (rules, append_assoc a.1 xs ys, append_assoc p.gone b.1 ys, append_assoc p.gone q.gone c.1, gone_then a.0 b.0 c.0 p.gone q.gone p.out q.out)
 
   -- a line after what made capacity for it
   pub added_line : (a b : O × List ℕ) (now text : List ℕ) → Added g a b [] → now ≡ b.1 ++ text → Added g a (b.0, now) text
@@ -37,12 +28,7 @@ module _ {O : Type 0} (g : output.Ghosts O) where
 
   halted_after : (a b c : O) (fault : OutFault) (held now gone xs ys : List ℕ) → held ++ xs ≡ gone ++ now → Gone a b gone → Stopped g b c fault (now ++ ys)
       → Stopped g a c fault (held ++ (xs ++ ys))
-  halted_after a b c fault held now gone xs ys e (inl h) q =
-      let same : now ++ ys ≡ held ++ (xs ++ ys) = ap (λ t. t ++ ys) (sym (e ∙ ap (λ t. t ++ now) h.1)) ∙ append_assoc held xs ys in
-      subst (λ o. Stopped g o c fault (held ++ (xs ++ ys))) h.0 (subst (Stopped g b c fault) same q)
-  halted_after a b c fault held now gone xs ys e (inr w) q =
-      let same : gone ++ (now ++ ys) ≡ held ++ (xs ++ ys) = sym (append_assoc gone now ys) ∙ ap (λ t. t ++ ys) (sym e) ∙ append_assoc held xs ys in
-      subst (Stopped g a c fault) same (stopped_then g a b c fault gone (now ++ ys) w q)
+  halted_after a b c fault held now gone xs ys e x11 q = search (rules, append_assoc, stopped_then)
 
   -- one text, and then a fault in another
   pub halted_then : (a b c : O × List ℕ) (fault : OutFault) (xs ys : List ℕ) → Added g a b xs → Halted g b c fault ys → Halted g a c fault (xs ++ ys)
@@ -50,13 +36,11 @@ module _ {O : Type 0} (g : output.Ghosts O) where
 
   -- a fault in the first text is one in both
   pub halted_more : (a b : O × List ℕ) (fault : OutFault) (xs ys : List ℕ) → Halted g a b fault xs → Halted g a b fault (xs ++ ys)
-  halted_more a b fault xs ys q =
-      subst (Stopped g a.0 b.0 fault) (append_assoc a.1 xs ys) (stopped_more g a.0 b.0 fault (a.1 ++ xs) ys q)
+  halted_more a b fault xs ys q = search (rules, append_assoc, stopped_more)
 
   -- one text, and then another or a fault in it
   pub adds_then : {T : Type 0} (a b c : O × List ℕ) (r : Result T OutFault) (xs ys : List ℕ) → Added g a b xs → Adds g b c r ys → Adds g a c r (xs ++ ys)
-  adds_then a b c (Ok x) xs ys p q = added_then a b c xs ys p q
-  adds_then a b c (Err fault) xs ys p q = halted_then a b c fault xs ys p q
+  adds_then a b c r xs ys p q = grind (arith, common_steps, added_then, halted_then)
 
   -- what was put so far, and the rest, are the whole text
   pub record Left (a b : O × List ℕ) (all rest : List ℕ) : Type 0 where
@@ -68,8 +52,7 @@ module _ {O : Type 0} (g : output.Ghosts O) where
   left_start a all = record { part = []; whole = refl; added = added_here a a.1 [] (sym (append-nil a.1)) }
 
   pub left_step : (a b c : O × List ℕ) (all xs rest : List ℕ) → Left a b all (xs ++ rest) → Added g b c xs → Left a c all rest
-  left_step a b c all xs rest l w =
-      record { part = l.part ++ xs; whole = l.whole ∙ sym (append_assoc l.part xs rest); added = added_then a b c l.part xs l.added w }
+  left_step a b c all xs rest l w = search (rules, append_assoc l.part xs rest, added_then a b c l.part xs l.added w)
 
   pub left_done : (a b : O × List ℕ) (all : List ℕ) → Left a b all [] → Added g a b all
   left_done a b all l = let e : all ≡ l.part = l.whole ∙ append-nil l.part in subst (Added g a b) (sym e) l.added
@@ -84,9 +67,7 @@ module _ {O : Type 0} (g : output.Ghosts O) where
 
   gone_out : {T : Type 0} (a b c : O) (r : Result T OutFault) (all gone now : List ℕ) → all ≡ gone ++ now
       → Gone a b gone → Writes g b c r now → Writes g a c r all
-  gone_out a b c r all gone now e (inl h) w =
-      subst (λ o. Writes g o c r all) h.0 (subst (Writes g b c r) (sym (e ∙ ap (λ t. t ++ now) h.1)) w)
-  gone_out a b c r all gone now e (inr v) w = subst (Writes g a c r) (sym e) (writes_then g a b c r gone now v w)
+  gone_out a b c r all gone now e x9 w = search (rules, writes_then)
 
   -- or it is written
   pub page_out : {T : Type 0} (a b c : O) (r : Result T OutFault) (held now text : List ℕ)

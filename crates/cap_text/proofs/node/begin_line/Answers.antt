@@ -1,4 +1,4 @@
-use Rattle.cap_spec.proofs.ProofNames.{ap, arith, length, length-append, replicate, ℕ, ◌*◌, ◌++◌, ◌∙◌, length-replicate}
+use Rattle.cap_spec.proofs.ProofNames.{ap, arith, length, ℕ, ◌*◌, ◌++◌, ◌∙◌, length-replicate}
 use Rattle.cap_text.proofs.node.begin_line.Goals as goal
 
 pub push_text-requires : goal.push_text-requires
@@ -6,8 +6,3 @@ push_text-requires c = omega (arith, ap length c.spaces.ensures, length-replicat
 
 pub returns-clause-items : goal.returns-clause-items
 returns-clause-items c = c.push_text.ensures ∙ ap (λ l. c.args.page.now ++ l) c.spaces.ensures
-
-pub returns-clause-few : goal.returns-clause-few
-returns-clause-few c =
-    let e = ap length (c.push_text.ensures ∙ ap (λ l. c.args.page.now ++ l) c.spaces.ensures) in
-    omega (arith, e, length-append c.args.page.now (replicate (2 * c.args.level) 32), length-replicate {A = ℕ} (2 * c.args.level) 32, c.requires.low)

@@ -1,4 +1,5 @@
-use Rattle.cap_spec.proofs.ProofNames.{arith, codes, drop, get_or, ◌++◌, ◌∷◌, line, segment_lines, then_number}
+use Rattle.cap_spec.proofs.ProofNames.{arith, drop, segment_lines}
+use Rattle.cap_spec.proofs.ProofNames.{common_steps}
 use Rattle.cap_frame.specs.Outlines.{sizes_in}
 use Rattle.cap_text.proofs.Nodes.{lines_stop}
 use Rattle.cap_text.proofs.Paging.{added_line}
@@ -13,8 +14,4 @@ returns-in-Err g c =
     c.in-Err.ensures.adds
 
 pub loop-s-preserved : goal.loop-s-preserved
-loop-s-preserved g c =
-    lines_step g.O.ByteOut (c.args.out.now, c.args.page.now) (c.loop-s.out, c.loop-s.page) (c.make_space.new.out, c.segment_line.new.page)
-    (sizes_in c.args.outline.now) c.loop-s.s (omega arith) c.loop-s.invariant
-    (added_line g.O.ByteOut (c.loop-s.out, c.loop-s.page) (c.make_space.new.out, c.make_space.new.page) c.segment_line.new.page
-    (line 0 (codes "segment" ++ then_number c.loop-s.s ++ 58 ∷ then_number (get_or (sizes_in c.args.outline.now) c.loop-s.s 0))) c.in-Ok.ensures.adds (cc))
+loop-s-preserved g c = grind (arith, common_steps, lines_step, added_line)

@@ -1,6 +1,6 @@
-use Rattle.cap_spec.proofs.ProofNames.{ap, arith, ◌+◌, ◌-◌, ◌<◌, ◌≤◌}
-use Rattle.cap_vet.specs.Views.{node_spot, shown}
-use Rattle.cap_text.specs.Dumping.{height, shown_count_of}
+use Rattle.cap_spec.proofs.ProofNames.{ap, arith, ◌+◌, ◌-◌, ◌<◌, ◌≤◌, rules}
+use Rattle.cap_vet.specs.Views.{node_spot}
+use Rattle.cap_text.specs.Dumping.{height}
 use Rattle.cap_text.proofs.Dumping.{all_out, below, below_fails, child_fails, child_height, child_is_there}
 use Rattle.cap_text.proofs.Dumping.{child_out, kind_shown, none_out}
 use Rattle.cap_text.proofs.tree.+put_children.Goals as goal
@@ -9,11 +9,7 @@ pub loop-i-init : goal.loop-i-init
 loop-i-init g t c = λ x d. none_out g.O.ByteOut c.args.level x c.kind-kind.result (c.args.out.now, c.args.page.now)
 
 pub unreachable-requires : goal.unreachable-requires
-unreachable-requires g t c =
-    let x = c.requires.low.0 in
-    let k = kind_shown x (shown c.view.result) c.kind-kind.result (c.view.ensures.shows x c.requires.low.1) c.kind-kind.ensures.shows in
-    let within : c.loop-i.i < shown_count_of c.kind-kind.result = omega (arith, c.loop-i-test.true, c.shown_count-i-end.ensures) in
-    child_is_there x c.kind-kind.result c.loop-i.i k within c.child_step.result c.child_step.ensures (c.in_default.ensures.part x c.requires.low.1)
+unreachable-requires g t c = search (rules, kind_shown, child_is_there)
 
 pub put_child-requires : goal.put_child-requires
 put_child-requires g t c =
@@ -62,18 +58,7 @@ returns-in-Err-put_children g t c = λ x d.
     (c.in-Ok.ensures low.tree low.denotes) (c.in-Err-put_children.ensures low.tree low.denotes)
 
 pub loop-i-preserved : goal.loop-i-preserved
-loop-i-preserved g t c = λ x d.
-    let low = below (node_spot c.in-Some.child) x (c.view.ensures.shows x d) c.kind-kind.ensures.shows c.loop-i-test.true
-    c.shown_count-i-end.ensures c.child_step.ensures (ap g.M.Segments.segments c.in-Some.ensures.message) (c.in-Some.ensures.part x d) in
-    child_out g.O.ByteOut c.args.level x c.kind-kind.result low.of_tree c.loop-i.i
-    low.within low.tree low.at_i c.child_letter.result c.child_letter.ensures
-    (c.args.out.now, c.args.page.now) (c.loop-i.out, c.loop-i.page) (c.put_child.new.out, c.put_child.new.page)
-    (c.put_children.new.out, c.put_children.new.page) (c.loop-i.invariant x d)
-    (c.in-Ok.ensures low.tree low.denotes) (c.in-Ok-put_children.ensures low.tree low.denotes)
+loop-i-preserved g t c = search (rules, below, child_out)
 
 pub returns : goal.returns
-returns g t c =
-    λ x d. all_out g.O.ByteOut c.args.level x c.kind-kind.result
-    (kind_shown x (shown c.view.result) c.kind-kind.result (c.view.ensures.shows x d) c.kind-kind.ensures.shows)
-    (c.args.out.now, c.args.page.now) (c.loop-i.out, c.loop-i.page) c.loop-i.i
-    (omega (arith, c.loop-i-test.false, c.shown_count-i-end.ensures)) (c.loop-i.invariant x d)
+returns g t c = search (rules, all_out, kind_shown)

@@ -1,3 +1,4 @@
+use Rattle.cap_spec.proofs.ProofNames.{rules}
 use Rattle.std.proofs.Common.{ap, arith}
 use Rattle.cap_vet.specs.VetNames.{message_of, node_message, node_spot}
 use Rattle.cap_text.proofs.Dumping.{adds_dump, at_root, halts_dump, height_denoted}
@@ -20,17 +21,7 @@ put_children-requires-clause-low g c = (
 )
 
 pub returns-in-Ok : goal.returns-in-Ok
-returns-in-Ok g c =
-    λ t x d h. let at_tree = (at_root (g.M.Segments.segments (message_of c.args.vetted.now))
-    (g.M.Segments.segments (node_message c.root-root.result)) (node_spot c.root-root.result) t x d
-    (ap g.M.Segments.segments c.root-root.ensures.message) c.root-root.ensures.comes h) in
-    adds_dump g.O.ByteOut (c.args.out.now, c.args.page.now) (c.put_named.new.out, c.put_named.new.page)
-    (c.put_children.new.out, c.put_children.new.page) c.put_children.result t (c.in-Ok.ensures t at_tree)
-    (c.put_children.ensures t at_tree)
+returns-in-Ok g c = search (rules, at_root, adds_dump)
 
 pub returns-in-Err : goal.returns-in-Err
-returns-in-Err g c =
-    λ t x d h. let at_tree = (at_root (g.M.Segments.segments (message_of c.args.vetted.now))
-    (g.M.Segments.segments (node_message c.root-root.result)) (node_spot c.root-root.result) t x d
-    (ap g.M.Segments.segments c.root-root.ensures.message) c.root-root.ensures.comes h) in
-    halts_dump g.O.ByteOut (c.args.out.now, c.args.page.now) (c.put_named.new.out, c.put_named.new.page) c.in-Err.fault t (c.in-Err.ensures t at_tree)
+returns-in-Err g c = search (rules, at_root, halts_dump)
