@@ -1,8 +1,8 @@
 -- What is so of a pointer word gives the answer of following it.
 use Rattle.cap_spec.specs.declared.Reason.{Reason}
 use Rattle.cap_spec.proofs.Pointers.Following.{cap-not_wrong, null-not_wrong, object-not_wrong, one_lead, one_wrong}
-use Rattle.cap_spec.proofs.ProofNames.{Err, IfErr, IfOk, List, Ok, Result, ap, pos, refl, subst, ℕ, ◌≡◌, Finds, Leads}
-use Rattle.cap_spec.proofs.ProofNames.{Wrong, to_cap, to_null, to_object}
+use Rattle.cap_spec.proofs.ProofNames.{Err, IfErr, IfOk, List, Ok, Result, ap, ℕ, ◌≡◌, Finds, Leads}
+use Rattle.cap_spec.proofs.ProofNames.{Wrong, to_cap, to_null, rules}
 use Rattle.cap_spec.proofs.Trees.Finding.{SameObject, one_object}
 use Rattle.cap_ptr.specs.Shapes.{AnswersObject, IsAnswer, IsFollowed, IsShapedObject}
 use Rattle.cap_ptr.specs.declared.shapes.Followed.{Followed}
@@ -13,28 +13,21 @@ use Rattle.cap_ptr.specs.declared.shapes.Followed.TheVariants as followed
 -- what is so of an object is so of each name of it
 same_object : (m : List (List ℕ)) (k t b q k' t' b' q' tag n c : ℕ) (x : Shape) → SameObject k' t' b' q' k t b q
     → IsShapedObject m k' t' b' q' tag n c x → IsShapedObject m k t b q tag n c x
-same_object m k t b q k' t' b' q' tag n c x e h =
-    subst (λ y. IsShapedObject m k t b y tag n c x) e.shape
-    (subst (λ y. IsShapedObject m k t y q' tag n c x) e.start
-    (subst (λ y. IsShapedObject m k y b' q' tag n c x) e.segment
-    (subst (λ y. IsShapedObject m y t' b' q' tag n c x) e.pads h)))
+same_object m k t b q k' t' b' q' tag n c x e h = search rules
 
 module _ (m : List (List ℕ)) (s w : ℕ) where
   -- a word that was followed isn't wrong
   not_wrong : (f : Followed) → IsFollowed m s w f → (v : Reason) → ¬ Wrong m s w v
-  not_wrong (followed.Null k) h v = null-not_wrong m s w k h v
-  not_wrong (followed.Cap k i) h v = cap-not_wrong m s w k i h v
   not_wrong (followed.Target x) (q, tag, h) v = object-not_wrong m s w x.pads x.segment x.start q h.finds v
+  not_wrong f h v = search (rules, null-not_wrong, cap-not_wrong)
 
   -- an answer says where the word leads,
   pub answer-ok : (r : Result Followed Reason) → IsAnswer m s w r → IfOk r (IsFollowed m s w)
-  answer-ok (Ok f) h = h
-  answer-ok (Err u) h = tt
+  answer-ok r h = search rules
 
   -- or why it can't be followed
   pub answer-err : (r : Result Followed Reason) → IsAnswer m s w r → IfErr r (Wrong m s w)
-  answer-err (Ok f) h = tt
-  answer-err (Err u) h = h
+  answer-err r h = search rules
 
   -- a word that is wrong has its reason as the answer
   pub wrong-answer : (r : Result Followed Reason) → IsAnswer m s w r → (v : Reason) → Wrong m s w v → r ≡ Err v
@@ -44,41 +37,15 @@ module _ (m : List (List ℕ)) (s w : ℕ) where
   -- a word that leads to null has null as the answer
   pub null-answer : (r : Result Followed Reason) → IsAnswer m s w r → (k : ℕ) → Leads m s w k to_null → r ≡ Ok (followed.Null k)
   null-answer (Err u) a k h = absurd (null-not_wrong m s w k h u a)
-  null-answer (Ok (followed.Null l)) a k h = ap (λ x. Ok (followed.Null x)) (one_lead m s w l k to_null to_null a h).0
-  null-answer (Ok (followed.Cap l i)) a k h = let e = (one_lead m s w l k (to_cap i) to_null a h).1 in cc
-  null-answer (Ok (followed.Target x)) (q, tag, a) k h =
-      let e = (one_lead m s w x.pads k (to_object x.segment (pos x.start) q) to_null a.finds.leads h).1 in
-      cc
+  null-answer r a k h = search (rules, one_lead)
 
   -- a word that leads to a capability has it as the answer
   pub cap-answer : (r : Result Followed Reason) → IsAnswer m s w r → (k i : ℕ) → Leads m s w k (to_cap i) → r ≡ Ok (followed.Cap k i)
   cap-answer (Err u) a k i h = absurd (cap-not_wrong m s w k i h u a)
-  cap-answer (Ok (followed.Null l)) a k i h = let e = (one_lead m s w l k to_null (to_cap i) a h).1 in cc
-  cap-answer (Ok (followed.Cap l j)) a k i h =
-      let e = one_lead m s w l k (to_cap j) (to_cap i) a h in
-      let f = e.0 in
-      let n = e.1 in
-      cc
-  cap-answer (Ok (followed.Target x)) (q, tag, a) k i h =
-      let e = (one_lead m s w x.pads k (to_object x.segment (pos x.start) q) (to_cap i) a.finds.leads h).1 in
-      cc
+  cap-answer r a k i h = search (rules, one_lead)
 
   -- a word that leads to an object that sits has it as the answer
   pub object-answer : (r : Result Followed Reason) → IsAnswer m s w r → (k t b q : ℕ) → Finds m s w k t b q
       → (x : Target) × (tag : ℕ) × AnswersObject m k t b q r x tag
   object-answer (Err u) a k t b q h = absurd (object-not_wrong m s w k t b q h u a)
-  object-answer (Ok (followed.Null l)) a k t b q h = absurd (let e = (one_lead m s w l k to_null (to_object t (pos b) q) a h.leads).1 in cc)
-  object-answer (Ok (followed.Cap l i)) a k t b q h =
-      absurd (let e = (one_lead m s w l k (to_cap i) (to_object t (pos b) q) a h.leads).1 in cc)
-  object-answer (Ok (followed.Target x)) (q', tag, a) k t b q h =
-      let e = one_object m s w x.pads x.segment x.start q' k t b q a.finds h in (
-        x,
-        tag,
-        record {
-          ok = refl;
-          pads = e.pads;
-          segment = e.segment;
-          start = e.start;
-          object = same_object m k t b q x.pads x.segment x.start q' tag x.words x.charge x.shape e a.object;
-        },
-      )
+  object-answer r a k t b q h = search (rules, one_lead, one_object, same_object)

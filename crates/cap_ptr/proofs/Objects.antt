@@ -1,9 +1,9 @@
 -- What the words of an object say of its place and its charge.
 use Rattle.cap_spec.specs.declared.Reason.TheVariants.{OutOfSegment}
 use Rattle.cap_spec.proofs.Pointers.Following.{wrong-out}
-use Rattle.cap_spec.proofs.ProofNames.{List, arith, if◌then◌else◌, inr, length, pos, refl, sym, ℕ, ◌*◌, ◌+◌, ◌<◌, ◌==◌}
-use Rattle.cap_spec.proofs.ProofNames.{◌^◌, ◌∙◌, ◌≡◌, ◌≤◌, ints, IsComposite, Wrong, extra, HasWord, segment_of, data_size}
-use Rattle.cap_spec.proofs.ProofNames.{extent, kind, list_size, middle, pointer_size}
+use Rattle.cap_spec.proofs.ProofNames.{List, arith, if◌then◌else◌, inr, length, pos, refl, ℕ, ◌*◌, ◌+◌, ◌<◌, ◌==◌}
+use Rattle.cap_spec.proofs.ProofNames.{◌^◌, ◌≡◌, ◌≤◌, ints, IsComposite, Wrong, extra, HasWord, segment_of, data_size}
+use Rattle.cap_spec.proofs.ProofNames.{extent, kind, list_size, middle, pointer_size, rules}
 use Rattle.cap_spec.proofs.Trees.Charges.{extent_structs}
 use Rattle.cap_ptr.specs.Reaching.{LeadsTo}
 use Rattle.cap_ptr.specs.Shapes.{FindsObject, IsShape}
@@ -26,18 +26,7 @@ module _ (m : List (List ℕ)) (s w k t b q : ℕ) (leads : LeadsTo m s w k t b 
       → none ≤ middle tag → n ≡ 1 + size → c ≡ k + 1 + size + none → FindsObject m s w k t b q tag n c (Structs size count d p)
   found-structs tag size count d p none n c few inside composite has size_is struct count_is d_is p_is fits none_is at_most n_is c_is =
       let fits' : middle tag * (data_size tag + pointer_size tag) ≤ list_size q = rw (← size_is) fits in
-      let e = extent_structs q composite.0 composite.1 in
-      let x : extra q tag ≡ none = extra-composite q tag composite ∙ sym none_is in
-      record {
-        finds = record { leads = leads; inside = record { exists = there; inside = inside; composite = λ y. (tag, has, (struct, fits')) } };
-        object = record {
-          tagged = λ y. (has, (struct, fits'));
-          words = omega arith;
-          charge = omega arith;
-          small = omega arith;
-          shape = record { kind = composite.0; code = composite.1; words = size_is; count = count_is; data_words = d_is; pointers = p_is };
-        };
-      }
+      search (rules, extent_structs, extra-composite)
 
   -- another object that lies inside its segment is found
   pub found-plain : (none n c : ℕ) (x : Shape) → k ≤ 2 → ¬ IsComposite q → n ≡ extent q → n ≤ 2 ^ 29 → b + n ≤ length (segment_of m t)

@@ -3,20 +3,14 @@ use Rattle.std.proofs.Common.{◌<ℤ◌}
 use Rattle.cap_spec.specs.declared.Reason.TheVariants.{OutOfSegment, PadNotFar, TagKind, TagOffset}
 use Rattle.cap_spec.proofs.Pointers.Following.{wrong-out, wrong-pad_far, wrong-pad_near, wrong-pad_reserved}
 use Rattle.cap_spec.proofs.Pointers.Following.{wrong-reserved, wrong-tag_kind, wrong-tag_offset}
-use Rattle.cap_spec.proofs.ProofNames.{List, arith, inl, length, pos, refl, subst, ℕ, ℤ, ◌+ℤ◌, ◌+◌, ◌<◌, ◌≡◌, ◌≢◌, ◌≤◌}
-use Rattle.cap_spec.proofs.ProofNames.{IsOnePad, Lead, Leads, Says, Wrong, near, one_pad, to_cap, to_null, to_object}
-use Rattle.cap_spec.proofs.ProofNames.{two_pads, HasWord, far_segment, kind, middle, pad, signed_offset_of}
+use Rattle.cap_spec.proofs.ProofNames.{List, inl, length, pos, refl, subst, ℕ, ℤ, ◌+ℤ◌, ◌+◌, ◌<◌, ◌≡◌, ◌≢◌, ◌≤◌}
+use Rattle.cap_spec.proofs.ProofNames.{IsOnePad, Lead, Leads, Says, Wrong, near, one_pad, to_object}
+use Rattle.cap_spec.proofs.ProofNames.{two_pads, HasWord, far_segment, kind, middle, pad, signed_offset_of, rules}
 use Rattle.cap_ptr.specs.Reaching.{HasTwoPad, LeadsTo, ResolvesTo}
 
 -- a word that says something isn't far
 says_near : (t b q : ℕ) (r : Lead) → Says t b q r → kind q ≢ 2
-says_near t b q to_null h f = absurd (omega arith)
-says_near t b q (to_cap i) h f =
-    let k : kind q ≡ 3 = h.0.0 in
-    absurd (omega arith)
-says_near t b q (to_object u x y) h f =
-    let k : kind q < 2 = h.0 in
-    absurd (omega arith)
+says_near t b q r h f = search rules
 
 -- a word that isn't far represents itself
 pub lies-near : (m : List (List ℕ)) (s w p : ℕ) → HasWord m s w p → kind p ≢ 2 → ResolvesTo m s w 0 s w p

@@ -1,4 +1,4 @@
-use Rattle.cap_spec.proofs.ProofNames.{arith, refl, ◌∙◌, near}
+use Rattle.cap_spec.proofs.ProofNames.{arith, refl, near, rules}
 use Rattle.cap_ptr.proofs.Pads.{lies-near}
 use Rattle.cap_ptr.proofs.following.followed.Goals as goal
 
@@ -8,6 +8,4 @@ returns-then-word-eq0 g c =
     near c.word-word.result c.word-word.ensures (omega (arith, e)) e refl
 
 pub returns-then-kind-ne2 : goal.returns-then-kind-ne2
-returns-then-kind-ne2 g c =
-    c.resolved.ensures c.args.s c.args.w
-    (lies-near _ c.args.s c.args.w c.word-word.result c.word-word.ensures (λ e. c.if-kind-ne2.true (c.kind.ensures ∙ e)))
+returns-then-kind-ne2 g c = search (rules, lies-near)
