@@ -1,6 +1,7 @@
 -- Reading the words of segments, one segment after the other.
+use Rattle.cap_spec.proofs.ProofNames.{rules}
 use Rattle.std.proofs.Common.{List, [], add-one, ap, append-nil, arith, drop, drop-cons, drop-set-lt, false, get_or}
-use Rattle.std.proofs.Common.{length, length-append, length-set, map, refl, set, subst, suc, sum, sym, take, ℕ, ◌++◌}
+use Rattle.std.proofs.Common.{length, length-append, length-set, map, set, subst, suc, sum, sym, take, ℕ, ◌++◌}
 use Rattle.std.proofs.Common.{◌+◌, ◌<◌, ◌∙◌, ◌∷◌, ◌≡◌, ◌≤◌}
 use Rattle.std.proofs.lemmas.Grind.{flat_map-append}
 use Rattle.std.proofs.lemmas.List.{map-append, take_more, take_more_set}
@@ -14,18 +15,14 @@ use Rattle.cap_words.specs.declared.sources.WordSource as source
 
 -- as many buffers as sizes
 pub buffers_many : {V : Type 0} (f : V → List ℕ) (buffer : V → ℕ) (vs : List V) (ns : List ℕ) → AreBuffers f buffer vs ns → length vs ≡ length ns
-buffers_many f buffer [] [] r = refl
-buffers_many f buffer [] (n ∷ ns) r = absurd r
-buffers_many f buffer (v ∷ vs) [] r = absurd r
 buffers_many f buffer (v ∷ vs) (n ∷ ns) r = ap suc (buffers_many f buffer vs ns r.1)
+buffers_many f buffer vs ns r = search rules
 
 -- one more buffer
 pub buffers_more : {V : Type 0} (f : V → List ℕ) (buffer : V → ℕ) (vs : List V) (ns : List ℕ) (v : V) (n : ℕ) → f v ≡ [] → n ≤ buffer v
     → AreBuffers f buffer vs ns → AreBuffers f buffer (vs ++ v ∷ []) (ns ++ n ∷ [])
-buffers_more f buffer [] [] v n e h r = ((e, h), tt)
-buffers_more f buffer [] (m ∷ ns) v n e h r = absurd r
-buffers_more f buffer (w ∷ vs) [] v n e h r = absurd r
 buffers_more f buffer (w ∷ vs) (m ∷ ns) v n e h r = (r.0, buffers_more f buffer vs ns v n e h r.1)
+buffers_more f buffer vs ns v n e h r = search rules
 
 -- the buffer at s, and those after it
 pub buffers_from : {V : Type 0} (f : V → List ℕ) (buffer : V → ℕ) (s : ℕ) (vs : List V) (ns : List ℕ) (v : V) → s < length vs → s < length ns
@@ -46,10 +43,7 @@ module _ {X : Type 0} (g : source.Ghosts X) where
   -- one more
   pub words_more : (old now new : X) (words longer : List ℕ) (many word : ℕ) → WordsSoFar old now words many → Takes g now new (word ∷ [])
       → ReadsInput g now new → IsUsable g now new → longer ≡ words ++ word ∷ [] → WordsSoFar old new longer (many + 1)
-  words_more old now new words longer many word w t r u e = record {
-    took = took_more g old now new words (word ∷ []) longer e w.took t r u;
-    length_is = ap length e ∙ omega (arith, length-append words (word ∷ []), w.length_is);
-  }
+  words_more old now new words longer many word w t r u e = search (rules, took_more g old now new words (word ∷ []) longer e w.took t r u, length-append words (word ∷ []))
 
   -- the source stopped before the segment had its size
   pub words_stop : (old now new : X) (words : List ℕ) (many size : ℕ) (fault : SourceFault) → many < size → WordsSoFar old now words many
@@ -66,12 +60,7 @@ module _ {X : Type 0} (g : source.Ghosts X) where
 
     -- none yet
     pub segments_start : (s : X) (segments : List V) (sizes : List ℕ) → g.broken s ≡ false → AreBuffers f buffer segments sizes → SegmentsSoFar s s 0 segments sizes
-    segments_start s segments sizes u r = record {
-      took = took_none g s u;
-      sizes_are = refl;
-      many = buffers_many f buffer segments sizes r;
-      buffers = r;
-    }
+    segments_start s segments sizes u r = search (rules, took_none, buffers_many)
 
     -- one more segment
     pub segments_more : (old now new : X) (s : ℕ) (segments longer : List V) (sizes : List ℕ) (v : V) (n : ℕ) → s < length sizes → n ≡ get_or sizes s 0
@@ -98,7 +87,4 @@ module _ {X : Type 0} (g : source.Ghosts X) where
     -- the source stopped inside a segment
     pub segments_stop : (old now new : X) (s : ℕ) (segments : List V) (sizes : List ℕ) (n : ℕ) (fault : SourceFault) → s < length sizes → n ≡ get_or sizes s 0
         → SegmentsSoFar old now s segments sizes → Stops g n now new fault → Stops g (sum sizes) old new fault
-    segments_stop old now new s segments sizes n fault h d t stops =
-        let words : length (joined (map f (take s segments))) ≡ sum (take s sizes) = length_joined (map f (take s segments)) ∙ ap sum t.sizes_are in
-        let enough : length (joined (map f (take s segments))) + n ≤ sum sizes = omega (arith, words, front_sum sizes s h, d) in
-        took_stop g old now new (joined (map f (take s segments))) n (sum sizes) fault enough t.took stops
+    segments_stop old now new s segments sizes n fault h d t stops = search (rules, length_joined, front_sum, took_stop)

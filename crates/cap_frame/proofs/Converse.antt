@@ -1,10 +1,10 @@
 -- What is known of the words of a source decides the result of reading a message, its faults and out of memory aside.
 use Rattle.cap_spec.specs.Endings.{none}
 use Rattle.cap_spec.proofs.Lemmas.{one_frame, same_table, one_ending}
-use Rattle.cap_spec.proofs.ProofNames.{Bool, Err, IfSome, List, None, Ok, OnSome, Option, Result, Some, [], ap, arith}
+use Rattle.cap_spec.proofs.ProofNames.{Bool, Err, IfSome, List, Ok, Option, Result, Some, [], ap, arith}
 use Rattle.cap_spec.proofs.ProofNames.{drop, false, length, refl, subst, sum, sym, true, ℕ, ◌%◌, ◌++◌, ◌+◌, ◌^◌, ◌∙◌, ◌∷◌}
 use Rattle.cap_spec.proofs.ProofNames.{◌≡◌, Consumes, ⊤, BeginsMessage, Ending, EndsIn, GivesTooMany, GivesTooMuch}
-use Rattle.cap_spec.proofs.ProofNames.{message, partial, too_large, too_many, IsPartial}
+use Rattle.cap_spec.proofs.ProofNames.{message, partial, too_large, too_many, IsPartial, rules}
 use Rattle.cap_frame.specs.FrameNames.{ReadsNext, TakesFrame, Faults, Takes, FrameFault}
 use Rattle.cap_frame.specs.Reading.{Decides}
 use Rattle.cap_frame.specs.ReadingFaults.{Answered}
@@ -14,8 +14,7 @@ use Rattle.cap_words.specs.declared.sources.WordSource as source
 
 -- known words that were taken from are known still
 pub known_still : (ws own : List ℕ) (b : Option (List ℕ)) → Consumes (Some ws) b own → (rest : List ℕ) × (b ≡ Some rest) × (ws ≡ own ++ rest)
-known_still ws own None c = absurd c
-known_still ws own (Some rest) c = (rest, refl, c)
+known_still ws own b c = search rules
 
 -- the list of a known value
 pub same_some : (xs ys : List ℕ) → Some xs ≡ Some ys → xs ≡ ys
@@ -82,9 +81,7 @@ module _ {X : Type 0} (g : source.Ghosts X) (is : List (List ℕ) → Type 0) (l
       (record { table = t.table; rest = c.0; sizes = h.0.0; whole = c.2; is_table = t.is_table; past = omega (arith, h.0.2, h.0.3) }, c.1, h.0.2)
   reports_fault (Truncated byte) ws e h =
       subst (λ (o : Option (List ℕ)). IfSome o (λ xs. IsPartial limit xs (g.is_cut old) × (drop (length xs) (g.places old) ≡ byte ∷ []))) e h.short
-  reports_fault Device ws e h = tt
-  reports_fault Memory ws e h = tt
-  reports_fault Spent ws e h = tt
+  reports_fault fault ws e h = tt
 
   abbrev pub SaysMessage : Result Bool FrameFault → Type 0
   SaysMessage r = r ≡ Ok true → (m : List (List ℕ)) × TakesFrame g limit old new m × is m
@@ -96,10 +93,7 @@ module _ {X : Type 0} (g : source.Ghosts X) (is : List (List ℕ) → Type 0) (l
       let t = s refl in
       let c = left_of ws t.1.own e t.1.takes in
       (record { own = t.1.own; rest = c.0; message = t.0; whole = c.2; frames = t.1.frames; within = t.1.within }, c.1, t.2)
-  reports (Ok false) ws e s n =
-      let k = subst (λ (o : Option (List ℕ)). OnSome o ((o ≡ Some []) × (g.is_cut old ≡ false) × (g.places old ≡ g.place new ∷ []))) e (n.none refl) in
-      (same_some ws [] k.0, k.1)
-  reports (Err fault) ws e s n = reports_fault fault ws e n.err
+  reports r ws e s n = search (rules, reports_fault)
 
   -- so known words decide the result
   pub decides : (r : Result Bool FrameFault) → SaysMessage r → ReadsNext g limit old new r → Decides g is limit old new r

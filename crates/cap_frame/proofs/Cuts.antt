@@ -2,10 +2,10 @@
 use Rattle.std.proofs.lemmas.List.Sums.{sum_by-take-le}
 use Rattle.cap_spec.proofs.Bytes.Plain.{words_exact}
 use Rattle.cap_spec.proofs.ProofNames.{All, List, Some, [], ap, arith, drop, drop-drop, get_or, get_or-take, length}
-use Rattle.cap_spec.proofs.ProofNames.{length-drop, length-take-le, refl, slice_get, subst, suc, sum, sym, take, zero}
+use Rattle.cap_spec.proofs.ProofNames.{length-drop, length-take-le, refl, slice_get, suc, sum, sym, take, zero}
 use Rattle.cap_spec.proofs.ProofNames.{zero-add, ℕ, ◌*◌, ◌+◌, ◌-◌, ◌<◌, ◌^◌, ◌∙◌, ◌∷◌, ◌≡◌, ◌≤◌, drop-take, get_or_default}
 use Rattle.cap_spec.proofs.ProofNames.{take_more, sum_by-append, sum_by-cons, little_from, little_number, IsMessage}
-use Rattle.cap_spec.proofs.ProofNames.{plain_words}
+use Rattle.cap_spec.proofs.ProofNames.{plain_words, rules}
 use Rattle.cap_frame.specs.Bytes.{cut, starts_of}
 
 -- whole words are eight bytes each
@@ -18,36 +18,22 @@ words_all bs = omega (arith, words_exact bs)
 
 -- word w is encoded from byte 8 w on
 pub word_at : (bs : List ℕ) (w : ℕ) → w < length (plain_words bs) → slice_get (plain_words bs) w ≡ Some (little_number 8 (drop (8 * w) bs))
-word_at (a ∷ b ∷ c ∷ d ∷ e ∷ f ∷ g ∷ h ∷ rest) zero l = refl
 word_at (a ∷ b ∷ c ∷ d ∷ e ∷ f ∷ g ∷ h ∷ rest) (suc w) l =
     let t = word_at rest w (omega arith) in
     let k : 8 * suc w ≡ suc (suc (suc (suc (suc (suc (suc (suc (8 * w)))))))) = omega arith in
     t ∙ ap (λ n. Some (little_number 8 (drop n (a ∷ b ∷ c ∷ d ∷ e ∷ f ∷ g ∷ h ∷ rest)))) (sym k)
-word_at [] w l = absurd (omega arith)
-word_at (a ∷ []) w l = absurd (omega arith)
-word_at (a ∷ b ∷ []) w l = absurd (omega arith)
-word_at (a ∷ b ∷ c ∷ []) w l = absurd (omega arith)
-word_at (a ∷ b ∷ c ∷ d ∷ []) w l = absurd (omega arith)
-word_at (a ∷ b ∷ c ∷ d ∷ e ∷ []) w l = absurd (omega arith)
-word_at (a ∷ b ∷ c ∷ d ∷ e ∷ f ∷ []) w l = absurd (omega arith)
-word_at (a ∷ b ∷ c ∷ d ∷ e ∷ f ∷ g ∷ []) w l = absurd (omega arith)
+word_at bs w l = search rules
 
 -- a number is in its own bytes, whatever is after them
 pub number_take : (i n m : ℕ) (xs : List ℕ) → i + n ≤ m → little_from i n (take m xs) ≡ little_from i n xs
 number_take i zero m xs h = refl
-number_take i (suc n) m xs h =
-    let t : little_from (suc i) n (take m xs) ≡ little_from (suc i) n xs = number_take (suc i) n m xs (omega arith) in
-    let u : get_or (take m xs) i 0 ≡ get_or xs i 0 = get_or-take m xs i 0 (omega arith) in
-    ap (λ k. k + 256 * little_from (suc i) n (take m xs)) u ∙ ap (λ k. get_or xs i 0 + 256 * k) t
+number_take i (suc n) m xs h = search (rules, get_or-take, number_take (suc i) n m xs (omega arith))
 
 -- where segment s starts
 pub start_is : (at : ℕ) (ns : List ℕ) (s : ℕ) → s < length ns → get_or (starts_of at ns) s 0 ≡ at + sum (take s ns)
 start_is at [] s l = absurd (omega arith)
 start_is at (n ∷ ns) zero l = let e : at ≡ at + 0 = omega arith in e
-start_is at (n ∷ ns) (suc s) l =
-    let t : get_or (starts_of (at + n) ns) s 0 ≡ (at + n) + sum (take s ns) = start_is (at + n) ns s (omega arith) in
-    let k : sum (n ∷ take s ns) ≡ n + sum (take s ns) = sum_by-cons (λ x. x) n (take s ns) in
-    let e : (at + n) + sum (take s ns) ≡ at + sum (n ∷ take s ns) = omega (arith, k) in t ∙ e
+start_is at (n ∷ ns) (suc s) l = search (rules, sum_by-cons, start_is (at + n) ns s (omega arith))
 
 pub starts_length : (at : ℕ) (ns : List ℕ) → length (starts_of at ns) ≡ length ns
 starts_length at [] = refl
@@ -61,34 +47,15 @@ cut_length (n ∷ ns) bs = ap suc (cut_length ns (drop (8 * n) bs))
 pub cut_at : (ns bs : List ℕ) (s : ℕ) → s < length ns → get_or (cut ns bs) s [] ≡ plain_words (take (8 * get_or ns s 0) (drop (8 * sum (take s ns)) bs))
 cut_at [] bs s l = absurd (omega arith)
 cut_at (n ∷ ns) bs zero l = refl
-cut_at (n ∷ ns) bs (suc s) l =
-    let t = cut_at ns (drop (8 * n) bs) s (omega arith) in
-    let j : sum (n ∷ take s ns) ≡ n + sum (take s ns) = sum_by-cons (λ x. x) n (take s ns) in
-    let k : 8 * n + 8 * sum (take s ns) ≡ 8 * sum (n ∷ take s ns) = omega (arith, j) in
-    let t : get_or (cut ns (drop (8 * n) bs)) s [] ≡ plain_words (take (8 * get_or ns s 0) (drop (8 * sum (take s ns)) (drop (8 * n) bs))) = t in
-    t ∙ ap (λ xs. plain_words (take (8 * get_or ns s 0) xs)) (drop-drop (8 * sum (take s ns)) (8 * n) bs ∙ ap (λ m. drop m bs) k)
+cut_at (n ∷ ns) bs (suc s) l = search (rules, sum_by-cons (λ x. x) n (take s ns), drop-drop (8 * sum (take s ns)) (8 * n) bs, cut_at ns (drop (8 * n) bs) s (omega arith))
 
 -- the first numbers and the next one sum to no more than all
 pub front_sum : (ns : List ℕ) (s : ℕ) → s < length ns → sum (take s ns) + get_or ns s 0 ≤ sum ns
-front_sum ns s h =
-    let whole : sum (take (s + 1) ns) ≡ sum (take s ns) + sum (get_or ns s 0 ∷ []) =
-    ap sum (take_more ns s 0 h) ∙ sum_by-append (λ x. x) (take s ns) (get_or ns s 0 ∷ []) in
-    let one : sum (get_or ns s 0 ∷ []) ≡ get_or ns s 0 = zero-add (get_or ns s 0) in
-    omega (arith, sum_by-take-le (λ x. x) ns (s + 1))
+front_sum ns s h = search (rules, take_more ns s 0 h, sum_by-append (λ x. x) (take s ns) (get_or ns s 0 ∷ []), zero-add (get_or ns s 0), sum_by-take-le (λ x. x) ns (s + 1))
 
 -- how long it is
 pub cut_words : (ns bs : List ℕ) (s : ℕ) → s < length ns → 8 * sum ns ≤ length bs → length (get_or (cut ns bs) s []) ≡ get_or ns s 0
-cut_words ns bs s l h =
-    let n = get_or ns s 0 in
-    let at = 8 * sum (take s ns) in
-    let part = take (8 * n) (drop at bs) in
-    let f : sum (take s ns) + n ≤ sum ns = front_sum ns s l in
-    let d : length (drop at bs) ≡ length bs - at = length-drop at bs in
-    let p : length part ≡ 8 * n = length-take-le (8 * n) (drop at bs) (omega arith) in
-    let a : 8 * length (plain_words part) ≤ length part = words_inside part in
-    let b : length part < 8 * length (plain_words part) + 8 = words_all part in
-    let e : length (plain_words part) ≡ n = omega (p, a, b, arith) in
-    ap length (cut_at ns bs s l) ∙ e
+cut_words ns bs s l h = search (rules, front_sum, length-drop, length-take-le, words_inside, words_all, cut_at)
 
 -- its word w is encoded at the place that its start gives
 pub cut_word : (ns bs : List ℕ) (s w : ℕ) → s < length ns → 8 * sum ns ≤ length bs → w < length (get_or (cut ns bs) s [])
@@ -110,20 +77,11 @@ cut_word ns bs s w l h inside =
 
 -- each segment is short
 cut_lengths : (ns bs : List ℕ) → sum ns ≤ 268435456 → 8 * sum ns ≤ length bs → All (λ segment. length segment < 2 ^ 32) (cut ns bs)
-cut_lengths ns bs small inside s d l =
-    let k : s < length ns = omega (arith, cut_length ns bs) in
-    let e : length (get_or (cut ns bs) s []) ≡ get_or ns s 0 = cut_words ns bs s k inside in
-    let f : sum (take s ns) + get_or ns s 0 ≤ sum ns = front_sum ns s k in
-    let short : length (get_or (cut ns bs) s []) < 2 ^ 32 = omega (e, f, small, arith) in
-    subst (λ (ws : List ℕ). length ws < 2 ^ 32) (get_or_default (cut ns bs) s [] d l) short
+cut_lengths ns bs small inside s d l = search (rules, cut_length ns bs, cut_words ns bs s (omega (arith, cut_length ns bs)) inside, front_sum ns s (omega (arith, cut_length ns bs)), get_or_default (cut ns bs) s [] d l)
 
 -- and so are several
 pub cut_message : (ns bs : List ℕ) → 1 ≤ length ns → length ns ≤ 512 → sum ns ≤ 268435456 → 8 * sum ns ≤ length bs → IsMessage (cut ns bs)
-cut_message ns bs some few small inside = record {
-  some = omega (arith, cut_length ns bs);
-  few = omega (arith, cut_length ns bs);
-  lengths = cut_lengths ns bs small inside;
-}
+cut_message ns bs some few small inside = search (rules, cut_length, cut_lengths)
 
 -- where word w of segment s is, by the table of starts, and what it is
 pub record PlaceFacts (ns starts bs : List ℕ) (s w : ℕ) : Type 0 where
@@ -132,13 +90,4 @@ pub record PlaceFacts (ns starts bs : List ℕ) (s w : ℕ) : Type 0 where
 
 pub place_facts : (ns starts bs : List ℕ) (s w : ℕ) → starts ≡ starts_of 0 ns → 8 * sum ns ≤ length bs → s < length (cut ns bs)
     → w < length (get_or (cut ns bs) s []) → PlaceFacts ns starts bs s w
-place_facts ns starts bs s w are inside exists within =
-    let l : s < length ns = omega (arith, cut_length ns bs) in
-    let at : get_or starts s 0 ≡ sum (take s ns) = ap (λ xs. get_or xs s 0) are
-    ∙ (start_is 0 ns s l ∙ (let z : 0 + sum (take s ns) ≡ sum (take s ns) = omega arith in z)) in
-    let e : length (get_or (cut ns bs) s []) ≡ get_or ns s 0 = cut_words ns bs s l inside in
-    let f : sum (take s ns) + get_or ns s 0 ≤ sum ns = front_sum ns s l in
-    record {
-      sums = omega (arith, at, e, f, within);
-      word = cut_word ns bs s w l inside within ∙ ap (λ k. Some (little_number 8 (drop (8 * (k + w)) bs))) (sym at);
-    }
+place_facts ns starts bs s w are inside exists within = search (rules, cut_length, start_is, cut_words, front_sum, cut_word)

@@ -1,4 +1,5 @@
 -- What holds of the bytes decides what is found at their start.
+use Rattle.cap_spec.proofs.ProofNames.{rules}
 use Rattle.std.proofs.Common.{Err, IsOkAnd, IsSomeAnd, List, None, Ok, Option, Result, Some, [], ap, false, length}
 use Rattle.std.proofs.Common.{refl, subst, sum, sym, ℕ, ◌%◌, ◌*◌, ◌+◌, ◌^◌, ◌∙◌, ◌≡◌}
 use Rattle.cap_spec.specs.Endings.{BeginsMessage, Ending, EndsIn, message, none, partial, too_large, too_many}
@@ -7,7 +8,7 @@ use Rattle.cap_spec.specs.Plain.{plain_is_cut, plain_words}
 use Rattle.cap_spec.proofs.Frames.Endings.{no_table, table_whole}
 use Rattle.cap_spec.proofs.Lemmas.{one_frame, same_table, one_ending}
 use Rattle.cap_frame.specs.Framed.{DecidesFront, ReportsFront, frame_bytes, framed_segments}
-use Rattle.cap_frame.specs.Fronts.{IsFront, GivesLarge, GivesMany, Needs, a_frame, a_table, a_word, table_words}
+use Rattle.cap_frame.specs.Fronts.{IsFront, GivesLarge, GivesMany, Needs, a_frame, a_table, a_word}
 use Rattle.cap_frame.specs.declared.fault.FrontFault.{FrontFault}
 use Rattle.cap_frame.specs.declared.fault.FrontFault.TheVariants.{TooLarge, TooManySegments, Truncated}
 use Rattle.cap_frame.specs.declared.framed.Framed.{Framed}
@@ -18,15 +19,11 @@ one_needed ws a b (a_word e h) (a_word f k) = h ∙ sym k
 one_needed ws a b (a_word e h) (a_table first rest f l k) = absurd (cc)
 one_needed ws a b (a_word e h) (a_frame table sizes rest f t k) = absurd (no_table table rest sizes t (sym e ∙ f))
 one_needed ws a b (a_table first rest e l h) (a_word f k) = absurd (cc)
-one_needed ws a b (a_table first rest e l h) (a_table other more f m k) =
-    let same : first ≡ other = (let s = sym e ∙ f in cc) in
-    h ∙ (ap (λ (n : ℕ). 8 * table_words (n % 2 ^ 32 + 1)) same ∙ sym k)
+one_needed ws a b (a_table first rest e l h) (a_table other more f m k) = search rules
 one_needed ws a b (a_table first rest e l h) (a_frame table sizes more f t k) = absurd (table_whole table more sizes first rest t (sym e ∙ f) l)
 one_needed ws a b (a_frame table sizes rest e t h) (a_word f k) = absurd (no_table table rest sizes t (sym f ∙ e))
 one_needed ws a b (a_frame table sizes rest e t h) (a_table first more f l k) = absurd (table_whole table rest sizes first more t (sym f ∙ e) l)
-one_needed ws a b (a_frame table sizes rest e t h) (a_frame other counts more f u k) =
-    let same = same_table table other rest more sizes counts t u (sym e ∙ f) in
-    h ∙ (ap (λ (n : ℕ). 8 * (n + sum sizes)) (ap length same.0) ∙ (ap (λ (n : ℕ). 8 * (length other + n)) (ap sum same.1) ∙ sym k))
+one_needed ws a b (a_frame table sizes rest e t h) (a_frame other counts more f u k) = search (rules, same_table table other rest more sizes counts t u (sym e ∙ f))
 
 module _ (limit : ℕ) (bs : List ℕ) where
   -- what is found, as ways in which reading a message of the words ends
@@ -44,11 +41,8 @@ module _ (limit : ℕ) (bs : List ℕ) where
   ending_of (Err (Truncated needed)) = partial
 
   reported : (r : Result (Option Framed) FrontFault) → ReportsFront limit bs r → EndsIn limit (plain_words bs) (plain_is_cut bs) (ending_of r)
-  reported (Ok (Some f)) t = begins (framed_segments f) (frame_bytes f) t
-  reported (Ok None) t = ends t
-  reported (Err (TooManySegments count)) t = t.0
-  reported (Err (TooLarge words)) t = t.0
   reported (Err (Truncated needed)) t = t.0
+  reported r t = search rules
 
   -- what the result is where they end so
   abbrev Is : (e : Ending) → EndsIn limit (plain_words bs) (plain_is_cut bs) e → Result (Option Framed) FrontFault → Type 0
@@ -60,16 +54,10 @@ module _ (limit : ℕ) (bs : List ℕ) where
 
   claim : (r : Result (Option Framed) FrontFault) → ReportsFront limit bs r → (h : EndsIn limit (plain_words bs) (plain_is_cut bs) (ending_of r))
       → Is (ending_of r) h r
-  claim (Ok (Some f)) t b =
-      let same = one_frame t.own b.own t.rest b.rest (framed_segments f) b.message t.frames b.frames (sym t.words ∙ b.whole) in
-      (same.1, t.long ∙ ap (λ (xs : List ℕ). 8 * length xs) same.0)
+  claim (Ok (Some f)) t b = search (rules, one_frame t.own b.own t.rest b.rest (framed_segments f) b.message t.frames b.frames (sym t.words ∙ b.whole))
   claim (Ok None) t b = refl
-  claim (Err (TooManySegments count)) t b =
-      let same : t.0.first ≡ b.first = (let h = sym t.0.whole ∙ b.whole in cc) in
-      ap (λ (k : ℕ). Err (TooManySegments k)) (t.1 ∙ ap (λ (k : ℕ). k % 2 ^ 32 + 1) same)
-  claim (Err (TooLarge words)) t b =
-      let same = same_table t.0.table b.table t.0.rest b.rest t.0.sizes b.sizes t.0.is_table b.is_table (sym t.0.whole ∙ b.whole) in
-      ap (λ (k : ℕ). Err (TooLarge k)) (t.1 ∙ ap sum same.1)
+  claim (Err (TooManySegments count)) t b = search rules
+  claim (Err (TooLarge words)) t b = search (rules, same_table t.0.table b.table t.0.rest b.rest t.0.sizes b.sizes t.0.is_table b.is_table (sym t.0.whole ∙ b.whole))
   claim (Err (Truncated other)) t b = λ needed w. ap (λ (k : ℕ). Err (Truncated k)) (one_needed (plain_words bs) other needed t.1 w)
 
   -- they end so in no other way
@@ -81,8 +69,7 @@ module _ (limit : ℕ) (bs : List ℕ) where
   -- where a prefix of the bytes frames a message within the limit, that is the result
   pub whole_answer : (r : Result (Option Framed) FrontFault) (m : List (List ℕ)) (n : ℕ) → IsFront limit bs m n → ReportsFront limit bs r
       → IsOkAnd r (λ o. IsSomeAnd o (λ f. (framed_segments f ≡ m) × (frame_bytes f ≡ n)))
-  whole_answer r m n w t =
-      subst (λ (k : ℕ). IsOkAnd r (λ o. IsSomeAnd o (λ f. (framed_segments f ≡ m) × (frame_bytes f ≡ k)))) (sym w.long) (settled r message (begins m n w) t)
+  whole_answer r m n w t = search (rules, settled r message (begins m n w) t)
 
   -- where there are no bytes, there is no message
   pub empty_answer : (r : Result (Option Framed) FrontFault) → bs ≡ [] → ReportsFront limit bs r → r ≡ Ok None
@@ -103,10 +90,4 @@ module _ (limit : ℕ) (bs : List ℕ) where
 
   -- so the bytes decide the result
   pub decides_front : (r : Result (Option Framed) FrontFault) → ReportsFront limit bs r → DecidesFront limit bs r
-  decides_front r t = record {
-    whole = λ m n w. whole_answer r m n w t;
-    empty = λ e. empty_answer r e t;
-    many = λ count w. many_answer r count w t;
-    large = λ words w. large_answer r words w t;
-    cut_short = λ needed p w. short_answer r needed p w t;
-  }
+  decides_front r t = search (rules, whole_answer, empty_answer, many_answer, large_answer, short_answer)

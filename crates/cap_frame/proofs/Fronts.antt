@@ -7,8 +7,9 @@ use Rattle.cap_spec.proofs.ProofNames.{List, [], ap, append_assoc, arith, drop, 
 use Rattle.cap_spec.proofs.ProofNames.{length-drop, length-take-le, refl, subst, suc, sum, sym, take, take-append-drop, ℕ}
 use Rattle.cap_spec.proofs.ProofNames.{◌%◌, ◌*◌, ◌++◌, ◌+◌, ◌/◌, ◌<◌, ◌^◌, ◌∙◌, ◌∷◌, ◌≡◌, ◌≤◌, take-append-le}
 use Rattle.cap_spec.proofs.ProofNames.{AllByRecursion, little_number, GivesTooMuch, IsPartial, IsTable, halves}
-use Rattle.cap_spec.proofs.ProofNames.{in_contents, in_table, in_word, joined, sizes_of, plain_is_cut, plain_words, IsWord}
-use Rattle.cap_frame.specs.Fronts.{Needs, a_frame, a_table, a_word}
+use Rattle.cap_spec.proofs.ProofNames.{in_contents, in_table, joined, sizes_of, plain_is_cut, plain_words, IsWord}
+use Rattle.cap_spec.proofs.ProofNames.{rules}
+use Rattle.cap_frame.specs.Fronts.{Needs, a_frame, a_table}
 use Rattle.cap_frame.specs.FrameNames.{cut, IsFront, GivesLarge, GivesMany, sizes_given, table_words}
 use Rattle.cap_frame.proofs.Cuts.{words_all, words_inside}
 use Rattle.cap_frame.proofs.Halves.{first_half}
@@ -33,10 +34,7 @@ begins bs all l = begins_some bs (plain_words bs) all refl (omega (arith, words_
 -- fewer bytes than a word has begin a frame
 pub no_first : (bs : List ℕ) (limit : ℕ) → 0 < length bs → length bs < 8 → IsPartial limit (plain_words bs) (plain_is_cut bs) × Needs (plain_words bs) 8
     × (length bs < 8) × (8 ≤ 8 * limit + 2056)
-no_first [] limit some few = absurd (omega (arith, some))
-no_first (b ∷ bs) limit some few =
-    let none = plain_short (b ∷ bs) few in
-    (in_word none (plain_cut_short b bs (omega (arith, few))), a_word none refl, few, omega arith)
+no_first bs limit some few = search (rules, plain_short, plain_cut_short)
 
 -- the first word gives too many
 pub gives_many : (bs : List ℕ) (last count : ℕ) → Begins bs last → 512 ≤ last → count ≡ last + 1 → GivesMany bs count
@@ -64,13 +62,14 @@ pub record HasTable (bs : List ℕ) (count : ℕ) : Type 0 where
 -- the words after the first give the sizes, as far as the table goes
 sizes_front : (count first : ℕ) (more : List ℕ) → count / 2 ≤ length more
     → take count (first / 2 ^ 32 ∷ flat_map halves (take (count / 2) more)) ≡ sizes_given count (first ∷ more)
-sizes_front count first more l =
-    let k = count / 2 in
-    let front = flat_map halves (take k more) in
-    let enough : count ≤ length (first / 2 ^ 32 ∷ front) = omega (arith, length_halves (take k more), length-take-le k more l) in
-    let parts : front ++ flat_map halves (drop k more) ≡ flat_map halves more =
-    sym (flat_map-append halves (take k more) (drop k more)) ∙ ap (flat_map halves) (take-append-drop k more) in
-    sym (take-append-le count (first / 2 ^ 32 ∷ front) (flat_map halves (drop k more)) enough) ∙ ap (λ ns. take count (first / 2 ^ 32 ∷ ns)) parts
+sizes_front count first more l = search (
+  rules,
+  length_halves (take (count / 2) more),
+  length-take-le (count / 2) more l,
+  flat_map-append halves (take (count / 2) more) (drop (count / 2) more),
+  take-append-drop (count / 2) more,
+  take-append-le,
+)
 
 pub has_table : (bs : List ℕ) (last count : ℕ) → AllByRecursion (λ b. b < 256) bs → Begins bs last → last < 512 → count ≡ last + 1
     → 8 * table_words count ≤ length bs → HasTable bs count

@@ -1,7 +1,7 @@
 -- Segments that are held in vectors: f gives the words of each.
 use Rattle.std.proofs.lemmas.List.Elements.{All-more}
 use Rattle.cap_spec.proofs.ProofNames.{All, List, [], ap, arith, get_or, length, map, subst, sym, take, take_all, ℕ, ◌+◌}
-use Rattle.cap_spec.proofs.ProofNames.{◌<◌, ◌^◌, ◌∙◌, ◌≡◌, ◌≤◌, get_or-map, length-map, IsMessage}
+use Rattle.cap_spec.proofs.ProofNames.{◌<◌, ◌^◌, ◌∙◌, ◌≡◌, ◌≤◌, get_or-map, length-map, IsMessage, rules}
 
 module _ {V : Type 0} (f : V → List ℕ) where
   -- the words of the vector at s are segment s
@@ -22,17 +22,9 @@ module _ {V : Type 0} (f : V → List ℕ) where
 
   -- a vector that is too long is no segment
   pub held_too_long : (vs : List V) (s : ℕ) (v : V) → s < length vs → v ≡ get_or vs s v → 2 ^ 32 ≤ length (f v) → IsMessage (map f vs) → ⊥
-  held_too_long vs s v h is long m =
-      let inside : s < length (map f vs) = omega (arith, length-map vs f) in
-      let short = held_fits vs s v m inside is in omega arith
+  held_too_long vs s v h is long m = search (rules, length-map, held_fits)
 
   -- where each of 1 to 512 vectors is short enough, they hold a message
   pub held_message : (vs : List V) (n : ℕ) → 1 ≤ length vs → length vs ≤ 512 → length vs ≤ n
       → All (λ segment. length segment < 2 ^ 32) (take n (map f vs)) → IsMessage (map f vs)
-  held_message vs n some few all short = record {
-    some = omega (arith, length-map vs f);
-    few = omega (arith, length-map vs f);
-    lengths =
-        let whole : take n (map f vs) ≡ map f vs = take_all n (map f vs) (omega (arith, length-map vs f)) in
-        subst (All (λ (segment : List ℕ). length segment < 2 ^ 32)) whole short;
-  }
+  held_message vs n some few all short = search (rules, length-map, take_all)

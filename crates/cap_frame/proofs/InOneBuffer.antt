@@ -3,7 +3,7 @@ use Rattle.cap_spec.proofs.Bytes.Plain.{words_exact}
 use Rattle.cap_spec.proofs.ProofNames.{List, [], ap, append-nil, append_assoc, arith, drop, length, length-append}
 use Rattle.cap_spec.proofs.ProofNames.{length-drop, length-take-le, refl, sum, sym, take, take-add, take-take, take_all, ℕ}
 use Rattle.cap_spec.proofs.ProofNames.{◌%◌, ◌*◌, ◌++◌, ◌+◌, ◌-◌, ◌/◌, ◌∙◌, ◌∷◌, ◌≡◌, ◌≤◌, take-append_seam, take-append-le}
-use Rattle.cap_spec.proofs.ProofNames.{sum_by-cons, joined, sizes_of, plain_words}
+use Rattle.cap_spec.proofs.ProofNames.{sum_by-cons, joined, sizes_of, plain_words, rules}
 use Rattle.cap_words.proofs.Filling.{plain_join}
 use Rattle.cap_frame.specs.FrameNames.{SourceFault, cut, IsUsable, ReadsInput, Stops, Takes}
 use Rattle.cap_frame.proofs.Cuts.{words_inside}
@@ -27,15 +27,11 @@ piece_in start end many before held more items piece post rest h e l k b i =
 -- what was appended is after what was read, where that was all
 pub appended_in : (done n : ℕ) (before given items : List ℕ) → length before ≤ done → length given ≡ n → items ≡ before ++ given
     → take (done + n) items ≡ take done before ++ given
-appended_in done n before given items h l e =
-    ap (take (done + n)) e ∙ take_all (done + n) (before ++ given) (omega (arith, length-append before given))
-    ∙ ap (λ (xs : List ℕ). xs ++ given) (sym (take_all done before h))
+appended_in done n before given items h l e = search (rules, take_all, length-append)
 
 -- and nothing else
 pub nothing_in : (done : ℕ) (items : List ℕ) → take (done + 0) items ≡ take done items ++ []
-nothing_in done items =
-    let same : done + 0 ≡ done = omega arith in
-    ap (λ (n : ℕ). take n items) same ∙ sym (append-nil (take done items))
+nothing_in done items = search (rules, append-nil)
 
 -- as many words as there are bytes for
 pub words_taken : (n : ℕ) (bytes : List ℕ) → 8 * n ≤ length bytes → length (plain_words (take (8 * n) bytes)) ≡ n
@@ -44,25 +40,26 @@ words_taken n bytes h = omega (arith, words_exact (take (8 * n) bytes), length-t
 -- the segments have these sizes
 pub held_sizes : (ns bytes : List ℕ) → 8 * sum ns ≤ length bytes → sizes_of (cut ns bytes) ≡ ns
 held_sizes [] bytes h = refl
-held_sizes (n ∷ ns) bytes h =
-    let all = sum_by-cons (λ x. x) n ns in
-    let front : length (plain_words (take (8 * n) bytes)) ≡ n = words_taken n bytes (omega (arith, all)) in
-    let back : sizes_of (cut ns (drop (8 * n) bytes)) ≡ ns = held_sizes ns (drop (8 * n) bytes) (omega (arith, all, length-drop (8 * n) bytes)) in
-    cc
+held_sizes (n ∷ ns) bytes h = search (
+  rules,
+  sum_by-cons (λ x. x) n ns,
+  words_taken n bytes (omega (arith, (sum_by-cons (λ x. x) n ns))),
+  length-drop (8 * n) bytes,
+  held_sizes ns (drop (8 * n) bytes) (omega (arith, (sum_by-cons (λ x. x) n ns), length-drop (8 * n) bytes)),
+)
 
 -- joined, they are the words of the bytes in front
 pub held_joined : (ns bytes : List ℕ) → 8 * sum ns ≤ length bytes → joined (cut ns bytes) ≡ plain_words (take (8 * sum ns) bytes)
 held_joined [] bytes h = refl
-held_joined (n ∷ ns) bytes h =
-    let all = sum_by-cons (λ x. x) n ns in
-    let back : joined (cut ns (drop (8 * n) bytes)) ≡ plain_words (take (8 * sum ns) (drop (8 * n) bytes)) =
-    held_joined ns (drop (8 * n) bytes) (omega (arith, all, length-drop (8 * n) bytes)) in
-    let long : length (take (8 * n) bytes) ≡ 8 * n = length-take-le (8 * n) bytes (omega (arith, all)) in
-    let bound : 8 * n + 8 * sum ns ≡ 8 * sum (n ∷ ns) = omega (arith, all) in
-    let parts : take (8 * sum (n ∷ ns)) bytes ≡ take (8 * n) bytes ++ take (8 * sum ns) (drop (8 * n) bytes) =
-    ap (λ (k : ℕ). take k bytes) (sym bound) ∙ take-add (8 * n) (8 * sum ns) bytes in
-    ap (λ (ws : List ℕ). plain_words (take (8 * n) bytes) ++ ws) back
-    ∙ sym (ap plain_words parts ∙ plain_join (take (8 * n) bytes) (take (8 * sum ns) (drop (8 * n) bytes)) (omega (arith, long)))
+held_joined (n ∷ ns) bytes h = search (
+  rules,
+  sum_by-cons (λ x. x) n ns,
+  length-drop (8 * n) bytes,
+  length-take-le (8 * n) bytes (omega (arith, (sum_by-cons (λ x. x) n ns))),
+  take-add (8 * n) (8 * sum ns) bytes,
+  plain_join,
+  held_joined ns (drop (8 * n) bytes) (omega (arith, (sum_by-cons (λ x. x) n ns), length-drop (8 * n) bytes)),
+)
 
 module _ {X : Type 0} (g : source.Ghosts X) where
   -- The words of this many bytes before a buffer were read.
@@ -88,8 +85,4 @@ module _ {X : Type 0} (g : source.Ghosts X) where
   -- the source stopped inside a piece
   pub bytes_stop : (old now new : X) (done end words : ℕ) (bytes : List ℕ) (fault : SourceFault) → done ≤ end → end ≤ 8 * words → BytesSoFar old now done bytes
       → Stops g ((end - done) / 8) now new fault → Stops g words old new fault
-  bytes_stop old now new done end words bytes fault h w t s =
-      let taken = length (plain_words (take done bytes)) in
-      let few : 8 * taken ≤ done = omega (arith, words_inside (take done bytes), length-take-le done bytes t.within) in
-      let some : taken + (end - done) / 8 ≤ words = omega (arith, t.whole) in
-      took_stop g old now new (plain_words (take done bytes)) ((end - done) / 8) words fault some t.took s
+  bytes_stop old now new done end words bytes fault h w t s = search (rules, words_inside, length-take-le, took_stop)

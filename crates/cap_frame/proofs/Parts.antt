@@ -3,7 +3,7 @@ use Rattle.cap_spec.proofs.Lemmas.{all_drop, all_take, words_exact}
 use Rattle.cap_spec.proofs.ProofNames.{Fits, List, [], ap, arith, drop, drop-drop, get_or, inl, inr, length, length-drop}
 use Rattle.cap_spec.proofs.ProofNames.{length-take-le, slice_range, sum, sym, take, take-append-drop, take-take, take_all}
 use Rattle.cap_spec.proofs.ProofNames.{w8, ℕ, ◌*◌, ◌++◌, ◌+◌, ◌-◌, ◌<◌, ◌∙◌, ◌≡◌, ◌≤◌, drop-append_seam, take-append_seam}
-use Rattle.cap_spec.proofs.ProofNames.{cases_lt, drop-take, drop_all, plain_text, plain_words}
+use Rattle.cap_spec.proofs.ProofNames.{cases_lt, drop-take, drop_all, plain_text, plain_words, rules}
 use Rattle.cap_words.proofs.Buffered.{bytes_small}
 use Rattle.cap_words.proofs.Filling.{plain_join}
 use Rattle.cap_words.proofs.WholeWords.{words_text}
@@ -13,11 +13,7 @@ use Rattle.cap_frame.proofs.Cuts.{cut_at, cut_length, cut_words, front_sum, star
 -- this many words, and those after them
 parts_of : (k : ℕ) (bs : List ℕ) → 8 * k ≤ length bs
     → (plain_words bs ≡ plain_words (take (8 * k) bs) ++ plain_words (drop (8 * k) bs)) × (length (plain_words (take (8 * k) bs)) ≡ k)
-parts_of k bs h =
-    let front : length (take (8 * k) bs) ≡ 8 * k = length-take-le (8 * k) bs h in (
-      ap plain_words (sym (take-append-drop (8 * k) bs)) ∙ plain_join (take (8 * k) bs) (drop (8 * k) bs) (omega (arith, front)),
-      omega (arith, words_exact (take (8 * k) bs), front),
-    )
+parts_of k bs h = search (rules, length-take-le (8 * k) bs h, take-append-drop (8 * k) bs, plain_join (take (8 * k) bs) (drop (8 * k) bs) (omega (arith, (length-take-le (8 * k) bs h))), words_exact (take (8 * k) bs))
 
 -- the first bytes encode the first words
 pub take_words : (k : ℕ) (bs : List ℕ) → take k (plain_words bs) ≡ plain_words (take (8 * k) bs)
@@ -42,11 +38,15 @@ drop_words k bs = elim (cases_lt (length bs) (8 * k)) [
 -- some bytes from a word on are the text of their words
 pub part_text : (bs : List ℕ) (at words : ℕ) → ((i : ℕ) → Fits w8 (get_or bs i 0)) → 8 * (at + words) ≤ length bs
     → take (8 * words) (drop (8 * at) bs) ≡ plain_text (plain_words (take (8 * words) (drop (8 * at) bs)))
-part_text bs at words fits inside =
-    let d : length (drop (8 * at) bs) ≡ length bs - 8 * at = length-drop (8 * at) bs in
-    let e : length (take (8 * words) (drop (8 * at) bs)) ≡ 8 * words = length-take-le (8 * words) (drop (8 * at) bs) (omega (arith, d, inside)) in
-    words_text (take (8 * words) (drop (8 * at) bs))
-    (all_take (λ b. b < 256) (8 * words) (drop (8 * at) bs) (all_drop (λ b. b < 256) (8 * at) bs (bytes_small bs fits))) (omega (arith, e))
+part_text bs at words fits inside = search (
+  rules,
+  length-drop (8 * at) bs,
+  length-take-le (8 * words) (drop (8 * at) bs) (omega (arith, (length-drop (8 * at) bs), inside)),
+  words_text,
+  all_take (λ b. b < 256) (8 * words) (drop (8 * at) bs) (all_drop (λ b. b < 256) (8 * at) bs (bytes_small bs fits)),
+  all_drop (λ b. b < 256) (8 * at) bs (bytes_small bs fits),
+  bytes_small bs fits,
+)
 
 -- some words of a segment are encoded where their start and that of the segment give
 pub part_words : (ns bs : List ℕ) (s start words : ℕ) → s < length ns → 8 * sum ns ≤ length bs → start + words ≤ length (get_or (cut ns bs) s [])
@@ -79,13 +79,4 @@ pub record PartFacts (ns starts bs : List ℕ) (s start words : ℕ) : Type 0 wh
 
 pub part_facts : (ns starts bs : List ℕ) (s start words : ℕ) → starts ≡ starts_of 0 ns → 8 * sum ns ≤ length bs → s < length (cut ns bs)
     → start + words ≤ length (get_or (cut ns bs) s []) → PartFacts ns starts bs s start words
-part_facts ns starts bs s start words are inside exists within =
-    let l : s < length ns = omega (arith, cut_length ns bs) in
-    let at : get_or starts s 0 ≡ sum (take s ns) = ap (λ xs. get_or xs s 0) are
-    ∙ (start_is 0 ns s l ∙ (let z : 0 + sum (take s ns) ≡ sum (take s ns) = omega arith in z)) in
-    let e : length (get_or (cut ns bs) s []) ≡ get_or ns s 0 = cut_words ns bs s l inside in
-    let f : sum (take s ns) + get_or ns s 0 ≤ sum ns = front_sum ns s l in
-    record {
-      sums = omega (arith, at, e, f, within);
-      encoded = ap (λ k. plain_words (take (8 * words) (drop (8 * (k + start)) bs))) at ∙ sym (part_words ns bs s start words l inside within);
-    }
+part_facts ns starts bs s start words are inside exists within = search (rules, cut_length, start_is, cut_words, front_sum, part_words)

@@ -1,7 +1,7 @@
 -- What reading a message says, put together from what its steps say.
 use Rattle.cap_spec.proofs.ProofNames.{Bool, Err, IfErr, IfOk, IfSome, List, None, Ok, OnOk, OnSome, Option, Result, Some}
 use Rattle.cap_spec.proofs.ProofNames.{[], false, length, min, option_to_list, subst, sum, sym, true, ℕ, ◌+◌, ◌-◌, ◌^◌}
-use Rattle.cap_spec.proofs.ProofNames.{◌∷◌, ◌≡◌, ◌≤◌, Consumes, joined, sizes_of}
+use Rattle.cap_spec.proofs.ProofNames.{◌∷◌, ◌≡◌, ◌≤◌, Consumes, joined, sizes_of, rules}
 use Rattle.cap_words.specs.declared.sources.SourceFault.TheVariants.{Spent}
 use Rattle.cap_frame.specs.FrameNames.{SourceFault, ReadsNext, TakesFrame, Faults, TakesTable, frame_fault_of, IsUsable}
 use Rattle.cap_frame.specs.FrameNames.{ReadsInput, Stops, Takes, FrameFault}
@@ -15,28 +15,17 @@ use Rattle.cap_words.specs.declared.sources.WordSource as source
 module _ {X : Type 0} (g : source.Ghosts X) (limit : ℕ) (old mid new : X) where
   -- two steps without a fault
   works_after : (r : Result Bool FrameFault) → IsUsable g old mid → OnOk r (IsUsable g mid new) → OnOk r (IsUsable g old new)
-  works_after (Ok b) u w = usable_both g old mid new u w
-  works_after (Err fault) u w = tt
+  works_after r u w = search (rules, usable_both)
 
   -- a source that gave something has not ended or failed before
   pub next_after : (r : Result Bool FrameFault) → (g.ended old ≡ true → ⊥) → (g.failed old ≡ true → ⊥) → IsUsable g old mid → ReadsInput g old mid
       → ReadsInput g mid new → OnOk r (IsUsable g mid new) → IfErr r (Faults g limit old new) → (r ≡ Ok false → ⊥) → ReadsNext g limit old new r
-  next_after r ended failed usable before reads works err some = record {
-    works = works_after r usable works;
-    none = λ e. absurd (some e);
-    ended = λ e. absurd (some e);
-    stays = λ e. absurd (ended e);
-    for_good = λ e. absurd (failed e);
-    broken = λ e. absurd (let h = usable.usable in cc);
-    reads = reads_both g old mid new before reads;
-    err = err;
-  }
+  next_after r ended failed usable before reads works err some = search (rules, works_after, reads_both)
 
   -- so has one that gave a table
   pub next_later : (r : Result Bool FrameFault) → ReadsNext g limit old mid (Ok true) → ReadsInput g mid new → OnOk r (IsUsable g mid new)
       → IfErr r (Faults g limit old new) → (r ≡ Ok false → ⊥) → ReadsNext g limit old new r
-  next_later r n reads works err some =
-      next_after r (λ e. absurd (let h = (n.stays e).0 in cc)) (λ e. absurd (let h = (n.for_good e).0 in cc)) n.works n.reads reads works err some
+  next_later r n reads works err some = search (rules, next_after)
 
 module _ {X : Type 0} (g : source.Ghosts X) where
   -- The source gave this word, so it has not ended or failed before.
@@ -54,23 +43,12 @@ module _ {X : Type 0} (g : source.Ghosts X) where
       → (g.ended old ≡ true → (r ≡ Ok None) × (new ≡ old)) → (g.failed old ≡ true → (r ≡ Err Spent) × (new ≡ old))
       → (bs : List ℕ) × Consumes (g.unread old) (g.unread new) bs × (g.place new ≡ min (g.place old + length bs) (2 ^ 64 - 1))
       → OnOk r (IsUsable g old new) → Gave old new word
-  gave old new word (Ok (Some x)) e words places stays good reads ok =
-      let same : x ≡ word = cc in
-      record {
-        takes = takes_one g old new word (subst (λ w. Consumes (g.words old) (g.words new) (w ∷ [])) same words) places;
-        usable = ok;
-        reads = reads_one g old new reads;
-        going = λ h. absurd (let k = (stays h).0 in cc);
-        working = λ h. absurd (let k = (good h).0 in cc);
-      }
-  gave old new word (Ok None) e words places stays good reads ok = absurd (cc)
-  gave old new word (Err fault) e words places stays good reads ok = absurd (cc)
+  gave old new word r e words places stays good reads ok = search (rules, takes_one, reads_one)
 
   -- what follows it
   pub next_first : (limit : ℕ) (old mid new : X) (word : ℕ) (r : Result Bool FrameFault) → Gave old mid word → ReadsInput g mid new
       → OnOk r (IsUsable g mid new) → IfErr r (Faults g limit old new) → (r ≡ Ok false → ⊥) → ReadsNext g limit old new r
-  next_first limit old mid new word r f reads works err some =
-      next_after g limit old mid new r f.going f.working f.usable f.reads reads works err some
+  next_first limit old mid new word r f reads works err some = search (rules, next_after)
 
 module _ {X : Type 0} (g : source.Ghosts X) {is : List (List ℕ) → Type 0} {limit : ℕ} {old new : X} where
   -- what follows where the words are known
@@ -85,18 +63,13 @@ module _ {X : Type 0} (g : source.Ghosts X) {is : List (List ℕ) → Type 0} {l
   -- there was no memory after a table
   pub no_memory : (sizes : List ℕ) → ReadsNext g limit old new (Ok true) → TakesTable g old new sizes → sum sizes ≤ limit
       → ReadsFrame g is limit old new (Err Memory)
-  no_memory sizes n table within =
-      no_frame (Err Memory) (λ i. absurd (cc)) (next_later g limit old new new (Err Memory) n (reads_none g new) tt ((sizes, table, within), n.works)
-      (λ i. absurd (cc)))
+  no_memory sizes n table within = search (rules, no_frame, next_later, reads_none)
 
 module _ {X : Type 0} (g : source.Ghosts X) {is : List (List ℕ) → Type 0} {limit : ℕ} {old mid new : X} (sizes : List ℕ) where
   -- the contents after a table were read
   pub frame_taken : (m : List (List ℕ)) → ReadsNext g limit old mid (Ok true) → TakesTable g old mid sizes → sum sizes ≤ limit
       → Takes g mid new (joined m) → sizes_of m ≡ sizes → IsUsable g mid new → ReadsInput g mid new → is m → ReadsFrame g is limit old new (Ok true)
-  frame_taken m n table within takes e works reads i =
-      let t = after_message g old mid new sizes m table takes e in
-      let frame : TakesFrame g limit old new m = record { own = t.0; takes = t.1; frames = t.2; within = subst (λ ns. sum ns ≤ limit) (sym e) within } in
-      read_frame g (Ok true) (λ _. (m, frame, i)) (next_later g limit old mid new (Ok true) n reads works tt (λ h. absurd (cc)))
+  frame_taken m n table within takes e works reads i = search (rules, after_message g old mid new sizes m table takes e, read_frame, next_later g limit old mid new (Ok true) n reads works tt (λ h. absurd (cc)))
 
   -- the source stopped inside them
   pub frame_stopped : (fault : SourceFault) (f : FrameFault) → f ≡ frame_fault_of fault → ReadsNext g limit old mid (Ok true) → TakesTable g old mid sizes

@@ -1,9 +1,9 @@
 -- Reading the table of segments word by word.
 use Rattle.std.proofs.lemmas.Grind.{flat_map-append}
 use Rattle.cap_spec.proofs.Lemmas.{all_append, length_halves}
-use Rattle.cap_spec.proofs.ProofNames.{List, [], ap, arith, flat_map, length, length-append, length-take, refl, sym, take}
-use Rattle.cap_spec.proofs.ProofNames.{take_all, ℕ, ◌%◌, ◌*◌, ◌++◌, ◌+◌, ◌/◌, ◌<◌, ◌^◌, ◌∙◌, ◌∷◌, ◌≡◌, AllByRecursion}
-use Rattle.cap_spec.proofs.ProofNames.{halves, IsWord}
+use Rattle.cap_spec.proofs.ProofNames.{List, [], arith, flat_map, length, length-append, length-take, refl, take}
+use Rattle.cap_spec.proofs.ProofNames.{take_all, ℕ, ◌%◌, ◌*◌, ◌++◌, ◌+◌, ◌/◌, ◌<◌, ◌^◌, ◌∷◌, ◌≡◌, AllByRecursion}
+use Rattle.cap_spec.proofs.ProofNames.{halves, IsWord, rules}
 use Rattle.cap_frame.specs.FrameNames.{SourceFault, IsUsable, ReadsInput, Stops, Takes}
 use Rattle.cap_frame.proofs.Taking.{Took, took_more, took_stop}
 use Rattle.cap_words.specs.declared.sources.WordSource as source
@@ -28,30 +28,22 @@ module _ {X : Type 0} (g : source.Ghosts X) where
   pub table_more : (first many : ℕ) (old now new : X) (sizes longer : List ℕ) (word : ℕ) → word < 2 ^ 64 → many < (first % 2 ^ 32 + 1) / 2
       → TableSoFar first many old now sizes → Takes g now new (word ∷ []) → ReadsInput g now new → IsUsable g now new
       → longer ≡ take (first % 2 ^ 32 + 1) (sizes ++ halves word) → TableSoFar first (many + 1) old new longer
-  table_more first many old now new sizes longer word w h t takes reads usable e = record {
-    more = t.more ++ word ∷ [];
-    length_is = omega (arith, length-append t.more (word ∷ []), t.length_is);
-    took = took_more g old now new t.more (word ∷ []) (t.more ++ word ∷ []) refl t.took takes reads usable;
-    fit = all_append IsWord t.more (word ∷ []) t.fit (w, tt);
-    sizes_are =
-        let short : sizes ≡ after first t.more = t.sizes_are
-        ∙ take_all (first % 2 ^ 32 + 1) (after first t.more) (omega (arith, length_after first t.more, t.length_is)) in
-        let longer_is : sizes ++ halves word ≡ after first (t.more ++ word ∷ []) = ap (λ (ns : List ℕ). ns ++ halves word) short
-        ∙ ap (λ (ns : List ℕ). first / 2 ^ 32 ∷ ns) (sym (flat_map-append halves t.more (word ∷ []))) in
-        e ∙ ap (take (first % 2 ^ 32 + 1)) longer_is;
-  }
+  table_more first many old now new sizes longer word w h t takes reads usable e = search (
+    rules,
+    length-append t.more (word ∷ []),
+    took_more g old now new t.more (word ∷ []) (t.more ++ word ∷ []) refl t.took takes reads usable,
+    all_append IsWord t.more (word ∷ []) t.fit (w, tt),
+    take_all (first % 2 ^ 32 + 1) (after first t.more) (omega (arith, length_after first t.more, t.length_is)),
+    length_after first t.more,
+    flat_map-append halves t.more (word ∷ []),
+  )
 
   -- there is capacity for one more number at least
   pub table_capacity : (first many : ℕ) (old now : X) (sizes : List ℕ) → many < (first % 2 ^ 32 + 1) / 2 → TableSoFar first many old now sizes
       → length sizes < first % 2 ^ 32 + 1
-  table_capacity first many old now sizes h t =
-      let l = length_after first t.more in
-      let k = length-take (first % 2 ^ 32 + 1) (after first t.more) in
-      let e = ap length t.sizes_are in
-      omega (arith, t.length_is)
+  table_capacity first many old now sizes h t = search (rules, length_after first t.more, length-take (first % 2 ^ 32 + 1) (after first t.more))
 
   -- the source stopped
   pub table_stops : (first many : ℕ) (old now new : X) (sizes : List ℕ) (fault : SourceFault) → many < (first % 2 ^ 32 + 1) / 2
       → TableSoFar first many old now sizes → Stops g 1 now new fault → Stops g ((first % 2 ^ 32 + 1) / 2) old new fault
-  table_stops first many old now new sizes fault h t s =
-      took_stop g old now new t.more 1 ((first % 2 ^ 32 + 1) / 2) fault (omega (arith, t.length_is)) t.took s
+  table_stops first many old now new sizes fault h t s = search (rules, took_stop)

@@ -1,13 +1,13 @@
 -- Words taken from a source in several calls.
-use Rattle.cap_spec.proofs.ProofNames.{Bool, IfSome, List, None, OnSome, Option, Some, [], ap, arith, drop, drop-drop}
-use Rattle.cap_spec.proofs.ProofNames.{false, length, length-append, min, refl, subst, suc, sym, ℕ, ◌++◌, ◌+◌, ◌-◌, ◌<◌}
-use Rattle.cap_spec.proofs.ProofNames.{◌^◌, ◌∙◌, ◌∷◌, ◌≡◌, ◌≤◌, Consumes-nil, Consumes}
+use Rattle.cap_spec.proofs.ProofNames.{Bool, IfSome, List, OnSome, Option, Some, [], ap, arith, drop, drop-drop}
+use Rattle.cap_spec.proofs.ProofNames.{false, length, length-append, min, refl, suc, sym, ℕ, ◌++◌, ◌+◌, ◌-◌, ◌<◌}
+use Rattle.cap_spec.proofs.ProofNames.{◌^◌, ◌∙◌, ◌∷◌, ◌≡◌, ◌≤◌, Consumes-nil, Consumes, rules}
 use Rattle.cap_words.specs.declared.sources.SourceFault.{SourceFault}
-use Rattle.cap_words.specs.declared.sources.SourceFault.TheVariants.{Device, Spent, Truncated}
+use Rattle.cap_words.specs.declared.sources.SourceFault.TheVariants.{Truncated}
 use Rattle.cap_words.proofs.Filling.{reads_both as both_read, reads_one as one_read, takes_both as both_taken}
 use Rattle.cap_words.proofs.Filling.{takes_one as one_taken}
 use Rattle.cap_words.proofs.Pieces.{on_some}
-use Rattle.cap_frame.specs.Taking.{Breaks, IsOver, IsUsable, ReadsInput, Stops, Takes}
+use Rattle.cap_frame.specs.Taking.{IsOver, IsUsable, ReadsInput, Stops, Takes}
 use Rattle.cap_words.specs.declared.sources.WordSource as source
 
 -- the source ended after these words and fewer than n more
@@ -16,8 +16,6 @@ pub short_both : (a b : Option (List ℕ)) (taken : List ℕ) (n byte p q : ℕ)
     → OnSome a (P × (q ∷ qs ≡ drop (length taken) (p ∷ ps)))
     → IfSome b (λ ws. (length ws < n) × (drop (length ws) qs ≡ byte ∷ []))
     → IfSome a (λ ws. (length ws < length taken + n) × (drop (length ws) ps ≡ byte ∷ []))
-short_both None b taken n byte p q ps qs P t f s = tt
-short_both (Some x) None taken n byte p q ps qs P t f s = absurd t
 short_both (Some x) (Some y) taken n byte p q ps qs P t f s =
     let l : length x ≡ length taken + length y = ap length t ∙ length-append taken y in
     let k : length taken + suc (length y) ≡ suc (length x) = omega arith in (
@@ -25,20 +23,18 @@ short_both (Some x) (Some y) taken n byte p q ps qs P t f s =
       ap (λ n. drop n (p ∷ ps)) (sym k)
           ∙ (sym (drop-drop (suc (length y)) (length taken) (p ∷ ps)) ∙ (ap (drop (suc (length y))) (sym f.1) ∙ s.1)),
     )
+short_both a b taken n byte p q ps qs P t f s = search rules
 
 -- how the input ends is as it was before words were taken
 pub over_both : {X : Type 0} (g : source.Ghosts X) (a b : Option (List ℕ)) (taken : List ℕ) (c d : Bool) (new : X) (P : Type 0)
     → Consumes a b taken → OnSome a ((d ≡ c) × P) → OnSome b (IsOver g d new) → OnSome a (IsOver g c new)
-over_both g None b taken c d new P t f s = tt
-over_both g (Some x) None taken c d new P t f s = absurd t
-over_both g (Some x) (Some y) taken c d new P t f s = subst (λ (k : Bool). IsOver g k new) f.0 s
+over_both g a b taken c d new P t f s = search rules
 
 -- fewer than m words are fewer than n
 pub short_weaker : (o : Option (List ℕ)) (m n : ℕ) (ps : List ℕ) (byte : ℕ) → m ≤ n
     → IfSome o (λ ws. (length ws < m) × (drop (length ws) ps ≡ byte ∷ []))
     → IfSome o (λ ws. (length ws < n) × (drop (length ws) ps ≡ byte ∷ []))
-short_weaker None m n ps byte h s = tt
-short_weaker (Some x) m n ps byte h s = (omega (arith, s.0), s.1)
+short_weaker o m n ps byte h s = search rules
 
 module _ {X : Type 0} (g : source.Ghosts X) where
   -- no words
@@ -71,14 +67,6 @@ module _ {X : Type 0} (g : source.Ghosts X) where
   pub usable_both : (old mid new : X) → IsUsable g old mid → IsUsable g mid new → IsUsable g old new
   usable_both old mid new a b = record { usable = a.usable; still = b.still; none_failed = b.none_failed ∙ a.none_failed }
 
-  -- a device's fault after calls without one
-  pub breaks_later : (old mid new : X) → IsUsable g old mid → Breaks g mid new → Breaks g old new
-  breaks_later old mid new a b = record {
-    fails = record { usable = a.usable; failed = b.fails.failed ∙ ap (λ n. n + 1) a.none_failed };
-    broken = b.broken;
-    failed = b.failed;
-  }
-
   -- the source stopped where n words were needed after these
   pub stops_later : (old mid new : X) (taken : List ℕ) (n : ℕ) (fault : SourceFault) → Takes g old mid taken → IsUsable g old mid → Stops g n mid new fault
       → Stops g (length taken + n) old new fault
@@ -91,21 +79,11 @@ module _ {X : Type 0} (g : source.Ghosts X) where
     over = s.over;
     how = over_both g (g.words old) (g.words mid) taken (g.is_cut old) (g.is_cut mid) new _ t.consumed t.goes_on s.how;
   }
-  stops_later old mid new taken n Device t a s = breaks_later old mid new a s
-  stops_later old mid new taken n Spent t a s = absurd (let e = s.was_broken.broken in let f = a.still in cc)
+  stops_later old mid new taken n fault t a s = search rules
 
   -- more words were needed
   pub stops_weaker : (old new : X) (m n : ℕ) (fault : SourceFault) → m ≤ n → Stops g m old new fault → Stops g n old new fault
-  stops_weaker old new m n (Truncated byte) h s = record {
-    short = short_weaker (g.words old) m n (g.places old) byte h s.short;
-    place = s.place;
-    usable = s.usable;
-    none_failed = s.none_failed;
-    over = s.over;
-    how = s.how;
-  }
-  stops_weaker old new m n Device h s = s
-  stops_weaker old new m n Spent h s = s
+  stops_weaker old new m n fault h s = search (rules, short_weaker)
 
   -- These words were taken, and no fault came.
   pub record Took (old now : X) (words : List ℕ) : Type 0 where
@@ -120,14 +98,9 @@ module _ {X : Type 0} (g : source.Ghosts X) where
   -- and then others
   pub took_more : (old now new : X) (words own all : List ℕ) → all ≡ words ++ own → Took old now words → Takes g now new own → ReadsInput g now new
       → IsUsable g now new → Took old new all
-  took_more old now new words own all e w t r u = record {
-    takes = subst (Takes g old new) (sym e) (takes_both old now new words own w.takes t);
-    reads = reads_both old now new w.reads r;
-    usable = usable_both old now new w.usable u;
-  }
+  took_more old now new words own all e w t r u = search (rules, takes_both old now new words own w.takes t, reads_both old now new w.reads r, usable_both old now new w.usable u)
 
   -- the source stopped before there were m
   pub took_stop : (old now new : X) (words : List ℕ) (n m : ℕ) (fault : SourceFault) → length words + n ≤ m → Took old now words → Stops g n now new fault
       → Stops g m old new fault
-  took_stop old now new words n m fault h w s =
-      stops_weaker old new (length words + n) m fault h (stops_later old now new words n fault w.takes w.usable s)
+  took_stop old now new words n m fault h w s = search (rules, stops_weaker, stops_later)

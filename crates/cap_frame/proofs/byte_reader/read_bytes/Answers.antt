@@ -1,5 +1,6 @@
 -- Each piece reads on after those before it.
-use Rattle.std.proofs.Common.{arith, ◌%◌, ◌*◌, ◌+◌, ◌≡◌, ◌≤◌}
+use Rattle.cap_spec.proofs.ProofNames.{rules}
+use Rattle.std.proofs.Common.{arith, ◌%◌, ◌+◌, ◌≡◌}
 use Rattle.cap_frame.proofs.InOneBuffer.{bytes_more, bytes_stop}
 use Rattle.cap_frame.proofs.Taking.{reads_both}
 use Rattle.cap_frame.proofs.byte_reader.read_bytes.Goals as goal
@@ -21,12 +22,7 @@ pieces-preserved g c =
     )
 
 pub returns-in-Err-clause-reads : goal.returns-in-Err-clause-reads
-returns-in-Err-clause-reads g c = reads_both g.S.WordSource c.args.source.now c.pieces.source c.read_piece.new.source c.pieces.invariant.0.took.reads
-    c.read_piece.ensures.reads
+returns-in-Err-clause-reads g c = search (rules, reads_both)
 
 pub returns-in-Err-clause-err : goal.returns-in-Err-clause-err
-returns-in-Err-clause-err g c =
-    let later : c.pieces.done ≤ c.max-end.result = omega (arith, c.max-end.ensures, c.min.ensures, c.min-held.ensures) in
-    let end : c.max-end.result ≤ 8 * c.args.words = omega (arith, c.pieces.invariant.1, c.max-end.ensures, c.min.ensures, c.min-held.ensures) in
-    bytes_stop g.S.WordSource c.args.source.now c.pieces.source c.read_piece.new.source c.pieces.done c.max-end.result c.args.words c.pieces.bytes.items
-    c.in-Err.fault later end c.pieces.invariant.0 c.in-Err.ensures.err
+returns-in-Err-clause-err g c = search (rules, bytes_stop)

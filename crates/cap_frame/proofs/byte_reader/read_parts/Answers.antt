@@ -1,23 +1,21 @@
 -- The table and the words of the buffer after it frame the message.
-use Rattle.std.proofs.Common.{Err, IfSome, Ok, arith, false, length, refl, subst, sum, sym, take, ◌*◌, ◌∙◌, ◌≡◌, ◌≤◌}
+use Rattle.cap_spec.proofs.ProofNames.{rules}
+use Rattle.std.proofs.Common.{Err, arith, length, refl, subst, sum, sym, take, ◌*◌, ◌∙◌, ◌≡◌, ◌≤◌}
 use Rattle.cap_spec.specs.Plain.{plain_words}
-use Rattle.cap_frame.specs.FrameNames.{cut, FrameFault, LeavesSizes, Stops, Takes}
+use Rattle.cap_frame.specs.FrameNames.{cut, Stops, Takes}
 use Rattle.cap_frame.proofs.InOneBuffer.{held_joined, held_sizes}
 use Rattle.cap_frame.proofs.Reading.{frame_stopped, frame_taken, no_frame, no_memory}
 use Rattle.cap_frame.proofs.TablesLeft.{left_contents}
 use Rattle.cap_frame.proofs.byte_reader.read_parts.Goals as goal
 
 pub returns-in-Ok-false-clause-read : goal.returns-in-Ok-false-clause-read
-returns-in-Ok-false-clause-read g c = no_frame g.S.WordSource (Ok false) (λ h. absurd (cc))
-    (rw c.in-Ok-false.field-0-test at c.in-Ok-false.ensures.next)
+returns-in-Ok-false-clause-read g c = search (rules, no_frame)
 
 pub returns-in-Err-clause-read : goal.returns-in-Err-clause-read
 returns-in-Err-clause-read g c = no_frame g.S.WordSource (Err c.in-Err.fault) (λ h. absurd (cc)) c.in-Err.ensures.next
 
 pub returns-in_default-clause-read : goal.returns-in_default-clause-read
-returns-in_default-clause-read g c =
-    let e = c.in-Ok-true.ensures in
-    no_memory g.S.WordSource c.next_table.new.sizes.items (rw c.in-Ok-true.field-0-test at e.next) (e.table (cc)) (e.within (cc))
+returns-in_default-clause-read g c = search (rules, no_memory)
 
 pub returns-in-Ok-read_bytes-clause-read : goal.returns-in-Ok-read_bytes-clause-read
 returns-in-Ok-read_bytes-clause-read g c =
@@ -44,8 +42,4 @@ returns-in-Err-read_bytes-clause-read g c =
     (e.within (cc)) stops c.read_bytes.ensures.reads
 
 pub returns-in-Err-read_bytes-clause-left : goal.returns-in-Err-read_bytes-clause-left
-returns-in-Err-read_bytes-clause-left g c =
-    subst (λ (fault : FrameFault). IfSome (g.S.WordSource.words c.args.source.now) (λ ws. LeavesSizes fault ws c.next_table.new.sizes.items))
-    (sym c.frame_fault.ensures)
-    (left_contents g.S.WordSource c.args.source.now c.next_table.new.source c.next_table.new.sizes.items c.in-Err-read_bytes.fault
-    (c.in-Ok-true.ensures.table (cc)))
+returns-in-Err-read_bytes-clause-left g c = search (rules, left_contents)

@@ -1,5 +1,5 @@
 -- What each answer says of the bytes.
-use Rattle.cap_spec.proofs.ProofNames.{ap, arith, ◌*◌, ◌+◌, ◌/◌, ◌∙◌, nat_tests}
+use Rattle.cap_spec.proofs.ProofNames.{ap, arith, ◌*◌, ◌+◌, ◌/◌, ◌∙◌, nat_tests, rules}
 use Rattle.cap_words.proofs.Buffered.{bytes_small}
 use Rattle.cap_frame.specs.FrameNames.{table_words, limit_of}
 use Rattle.cap_frame.proofs.Fronts.{begins, has_table, is_front, no_contents, no_first, no_table, gives_large}
@@ -7,8 +7,7 @@ use Rattle.cap_frame.proofs.Fronts.{gives_many}
 use Rattle.cap_frame.proofs.front.read_front.Goals as goal
 
 pub returns-then-bytes-lt8 : goal.returns-then-bytes-lt8
-returns-then-bytes-lt8 c = no_first c.args.bytes.now (limit_of c.args.limit)
-    (grind (arith, nat_tests, c.is_empty.ensures, c.if-is_empty.false)) c.if-bytes-lt8.true
+returns-then-bytes-lt8 c = search (rules, no_first, nat_tests)
 
 pub returns-then-last-ge512 : goal.returns-then-last-ge512
 returns-then-last-ge512 c =

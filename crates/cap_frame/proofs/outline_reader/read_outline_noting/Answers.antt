@@ -1,13 +1,12 @@
 -- The table and the contents after it frame the message.
-use Rattle.std.proofs.Common.{Err, IfSome, Ok, false, refl, subst, sym, ◌∙◌}
-use Rattle.cap_frame.specs.FrameNames.{FrameFault, LeavesSizes}
+use Rattle.cap_spec.proofs.ProofNames.{rules}
+use Rattle.std.proofs.Common.{Err, sym}
 use Rattle.cap_frame.proofs.Reading.{frame_stopped, frame_taken, no_frame}
 use Rattle.cap_frame.proofs.TablesLeft.{left_contents, left_sums}
 use Rattle.cap_frame.proofs.outline_reader.read_outline_noting.Goals as goal
 
 pub returns-in-Ok-false-clause-read : goal.returns-in-Ok-false-clause-read
-returns-in-Ok-false-clause-read g c = no_frame g.S.WordSource (Ok false) (λ h. absurd (cc))
-    (rw c.in-Ok-false.field-0-test at c.in-Ok-false.ensures.next)
+returns-in-Ok-false-clause-read g c = search (rules, no_frame)
 
 pub returns-in-Err-clause-read : goal.returns-in-Err-clause-read
 returns-in-Err-clause-read g c = no_frame g.S.WordSource (Err c.in-Err.fault) (λ h. absurd (cc)) c.in-Err.ensures.next
@@ -29,16 +28,7 @@ returns-in-Err-skip_contents-clause-read g c =
     c.skip_contents.ensures.reads
 
 pub returns-in-Err-clause-table : goal.returns-in-Err-clause-table
-returns-in-Err-clause-table g c =
-    left_sums (g.S.WordSource.words c.args.source.now) c.in-Err.fault c.next_table.new.sizes.items c.sums_after.result
-    (c.sums_after.ensures ∙ rw c.deref.ensures.0 refl) c.in-Err.ensures.left
+returns-in-Err-clause-table g c = search (rules, left_sums)
 
 pub returns-in-Err-skip_contents-clause-table : goal.returns-in-Err-skip_contents-clause-table
-returns-in-Err-skip_contents-clause-table g c =
-    let words = g.S.WordSource.words c.args.source.now in
-    let sizes = c.next_table.new.sizes.items in
-    let left = left_contents g.S.WordSource c.args.source.now c.next_table.new.source sizes c.in-Err-skip_contents.fault
-    (c.in-Ok-true.ensures.table (cc)) in
-    left_sums words c.frame_fault-fault.result sizes c.sums_after-in-Err-skip_contents.result
-    (c.sums_after-in-Err-skip_contents.ensures ∙ rw c.deref-in-Err-skip_contents.ensures.0 refl)
-    (subst (λ (fault : FrameFault). IfSome words (λ ws. LeavesSizes fault ws sizes)) (sym c.frame_fault-fault.ensures) left)
+returns-in-Err-skip_contents-clause-table g c = search (rules, left_contents, left_sums)

@@ -1,5 +1,5 @@
 -- The table and the contents after it frame the message.
-use Rattle.cap_spec.proofs.ProofNames.{Err, Ok, false, map, subst, sym, ◌∙◌, IsTable}
+use Rattle.cap_spec.proofs.ProofNames.{Err, Ok, false, map, subst, sym, ◌∙◌, IsTable, rules}
 use Rattle.cap_frame.proofs.After.{message_of}
 use Rattle.cap_frame.proofs.Reading.{frame_stopped, frame_taken, no_frame, no_memory}
 use Rattle.cap_frame.proofs.reader.read_message.Goals as goal
@@ -11,9 +11,7 @@ pub returns-in-Err : goal.returns-in-Err
 returns-in-Err g c = no_frame g.S.WordSource (Err c.in-Err.fault) (λ h. absurd (cc)) c.in-Err.ensures.next
 
 pub returns-in_default : goal.returns-in_default
-returns-in_default g c =
-    let e = c.in-Ok-true.ensures in
-    no_memory g.S.WordSource c.next_table.new.sizes.items (rw c.in-Ok-true.field-0-test at e.next) (e.table (cc)) (e.within (cc))
+returns-in_default g c = search (rules, no_memory)
 
 pub returns-in-Err-read_contents : goal.returns-in-Err-read_contents
 returns-in-Err-read_contents g c =

@@ -1,3 +1,4 @@
+use Rattle.cap_spec.proofs.ProofNames.{rules}
 use Rattle.std.proofs.Common.{None, Some, [], arith, ◌∙◌, ◌∷◌}
 use Rattle.cap_frame.proofs.Skips.{cut_no_root, cut_root, first_of_sum, skipped_all}
 use Rattle.cap_frame.proofs.Taking.{reads_both, takes_both}
@@ -21,9 +22,7 @@ returns-clause-ok g c =
     (cut_root c.args.sizes.now skipped.0 c.in_ok-root.root (omega (arith, c.if-sizes-eq0.false)))
 
 pub returns-clause-reads : goal.returns-clause-reads
-returns-clause-reads g c = reads_both g.S.WordSource c.args.source.now c.next_word.new.source c.skip_words-2.new.source c.next_word.ensures.reads
-    c.skip_words-2.ensures.reads
+returns-clause-reads g c = search (rules, reads_both)
 
 pub returns-in_err-skip_words-2-clause-reads : goal.returns-in_err-skip_words-2-clause-reads
-returns-in_err-skip_words-2-clause-reads g c = reads_both g.S.WordSource c.args.source.now c.next_word.new.source c.skip_words-2.new.source
-    c.next_word.ensures.reads c.skip_words-2.ensures.reads
+returns-in_err-skip_words-2-clause-reads g c = search (rules, reads_both)

@@ -1,21 +1,17 @@
+use Rattle.cap_spec.proofs.ProofNames.{rules}
 use Rattle.std.proofs.Common.{get_or, refl, vec_capacity}
 use Rattle.cap_frame.proofs.Contents.{segments_more, segments_start, segments_stop}
 use Rattle.cap_frame.proofs.Taking.{reads_both}
 use Rattle.cap_frame.proofs.table.read_contents.Goals as goal
 
 pub segments-init : goal.segments-init
-segments-init g c = segments_start g.S.WordSource (λ v. v.items)
-    (λ v. vec_capacity v) c.args.source.now c.args.segments.now.items c.args.sizes.now c.requires.usable c.requires.buffers
+segments-init g c = search (rules, segments_start)
 
 pub returns-in-Err-clause-err : goal.returns-in-Err-clause-err
-returns-in-Err-clause-err g c =
-    segments_stop g.S.WordSource (λ v. v.items) (λ v. vec_capacity v) c.args.source.now c.segments.source c.read_words.new.source c.segments.s
-    c.segments.segments.items c.args.sizes.now (get_or c.args.sizes.now c.segments.s 0) c.in-Err.fault c.segments-test.true refl c.segments.invariant
-    c.in-Err.ensures.err
+returns-in-Err-clause-err g c = search (rules, segments_stop, vec_capacity)
 
 pub returns-in-Err-clause-reads : goal.returns-in-Err-clause-reads
-returns-in-Err-clause-reads g c = reads_both g.S.WordSource c.args.source.now c.segments.source c.read_words.new.source c.segments.invariant.took.reads
-    c.read_words.ensures.reads
+returns-in-Err-clause-reads g c = search (rules, reads_both)
 
 pub segments-preserved : goal.segments-preserved
 segments-preserved g c =

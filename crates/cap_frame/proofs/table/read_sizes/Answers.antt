@@ -1,4 +1,5 @@
 -- Each word appends its halves to the sizes, as far as there are sizes to come.
+use Rattle.cap_spec.proofs.ProofNames.{rules}
 use Rattle.std.proofs.Common.{arith, ◌%◌, ◌+◌, ◌/◌, ◌<◌, ◌^◌}
 use Rattle.cap_spec.proofs.Frames.OneEnding.{makes_table}
 use Rattle.cap_frame.proofs.Tables.{table_more, table_capacity, table_stops}
@@ -17,10 +18,7 @@ returns-in-Err-clause-err g c =
     (omega arith) c.table.invariant c.in-Err.ensures.err
 
 pub table-preserved : goal.table-preserved
-table-preserved g c =
-    table_more g.S.WordSource c.args.first c.table.counter c.args.source.now c.table.source c.next_word.new.source c.table.sizes.items
-    c.push_halves.new.sizes.items c.in-Ok.word c.in-Ok.ensures.word
-    (omega arith) c.table.invariant c.in-Ok.ensures.ok c.next_word.ensures.reads c.in-Ok.ensures.works (cc)
+table-preserved g c = search (rules, table_more)
 
 pub returns-clause-ok : goal.returns-clause-ok
 returns-clause-ok g c =
@@ -29,5 +27,4 @@ returns-clause-ok g c =
     (t.more, t.took.takes, rw (← t.sizes_are) at whole)
 
 pub returns-in-Err-clause-reads : goal.returns-in-Err-clause-reads
-returns-in-Err-clause-reads g c = reads_both g.S.WordSource c.args.source.now c.table.source c.next_word.new.source c.table.invariant.took.reads
-    c.next_word.ensures.reads
+returns-in-Err-clause-reads g c = search (rules, reads_both)

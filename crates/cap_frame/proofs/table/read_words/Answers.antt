@@ -1,3 +1,4 @@
+use Rattle.cap_spec.proofs.ProofNames.{rules}
 use Rattle.std.proofs.Common.{arith}
 use Rattle.cap_frame.proofs.Contents.{words_more, words_stop}
 use Rattle.cap_frame.proofs.Taking.{reads_both}
@@ -16,5 +17,4 @@ words-preserved g c = record {
 }
 
 pub returns-in-Err-clause-reads : goal.returns-in-Err-clause-reads
-returns-in-Err-clause-reads g c = reads_both g.S.WordSource c.args.source.now c.words.source c.next_word.new.source c.words.invariant.far.took.reads
-    c.next_word.ensures.reads
+returns-in-Err-clause-reads g c = search (rules, reads_both)

@@ -1,16 +1,13 @@
 -- The words of a segment are where the table of starts says.
 use Rattle.cap_spec.proofs.ProofNames.{ap, arith, drop, length, slice_index_or, slice_range, take, take_all, ℕ, ◌*◌, ◌+◌}
-use Rattle.cap_spec.proofs.ProofNames.{◌-◌, ◌<◌, ◌∙◌, ◌≡◌, segment_of, plain_text, plain_words}
+use Rattle.cap_spec.proofs.ProofNames.{◌-◌, ◌<◌, ◌∙◌, ◌≡◌, segment_of, plain_text, plain_words, rules}
 use Rattle.cap_frame.specs.Bytes.{cut}
 use Rattle.cap_frame.proofs.Cuts.{cut_length, starts_length}
 use Rattle.cap_frame.proofs.Parts.{part_facts}
 use Rattle.cap_frame.proofs.byte_message.ByteView.segment.Goals as goal
 
 pub bounds-self-s : goal.bounds-self-s
-bounds-self-s c =
-    let m = c.args.self.now in
-    let e : length m.starts.now ≡ length m.sizes.now = ap length m.starts_are ∙ starts_length 0 m.sizes.now in
-    omega (arith, cut_length m.sizes.now m.bytes.now, c.count.ensures, c.if-s-count.false, e)
+bounds-self-s c = search (rules, starts_length, cut_length)
 
 pub words_at-requires : goal.words_at-requires
 words_at-requires c =

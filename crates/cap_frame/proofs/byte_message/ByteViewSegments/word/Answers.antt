@@ -1,13 +1,10 @@
-use Rattle.cap_spec.proofs.ProofNames.{Some, ap, arith, length, length-drop, rules, slice_index_or, sym, ◌*◌, ◌+◌, ◌<◌}
-use Rattle.cap_spec.proofs.ProofNames.{◌^◌, ◌∙◌, ◌≡◌, take_rest, little_number}
+use Rattle.cap_spec.proofs.ProofNames.{arith, length-drop, rules, slice_index_or, ◌*◌, ◌+◌, ◌<◌}
+use Rattle.cap_spec.proofs.ProofNames.{◌^◌, take_rest}
 use Rattle.cap_frame.proofs.Cuts.{cut_length, place_facts, starts_length}
 use Rattle.cap_frame.proofs.byte_message.ByteViewSegments.word.Goals as goal
 
 pub bounds-self-s : goal.bounds-self-s
-bounds-self-s c =
-    let m = c.args.self.now in
-    let e : length m.starts.now ≡ length m.sizes.now = ap length m.starts_are ∙ starts_length 0 m.sizes.now in
-    omega (arith, cut_length m.sizes.now m.bytes.now, c.requires.exists, e)
+bounds-self-s c = search (rules, starts_length, cut_length)
 
 pub overflow_add-at : goal.overflow_add-at
 overflow_add-at c =
@@ -34,8 +31,4 @@ read_u64-requires c =
     rw (take_rest m.bytes.now (8 * at)) (omega (arith, d, p.sums, m.inside))
 
 pub returns : goal.returns
-returns c =
-    let m = c.args.self.now in
-    let at = slice_index_or m.starts.now c.args.s 0 + c.args.w in
-    let p = place_facts m.sizes.now m.starts.now m.bytes.now c.args.s c.args.w m.starts_are m.inside c.requires.exists c.requires.inside in
-    p.word ∙ ap (λ x. Some x) (ap (little_number 8) (sym (take_rest m.bytes.now (8 * at))) ∙ sym c.read_u64.ensures)
+returns c = search (rules, place_facts, take_rest)

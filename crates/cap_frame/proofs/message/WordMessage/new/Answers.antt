@@ -1,5 +1,5 @@
 -- The loop has looked at the lengths of all segments, or met one that is too long.
-use Rattle.cap_spec.proofs.ProofNames.{arith, length, ◌<◌, ◌^◌, ◌≤◌, nat_tests}
+use Rattle.cap_spec.proofs.ProofNames.{arith, length, ◌^◌, ◌≤◌, nat_tests, rules}
 use Rattle.cap_frame.proofs.Held.{held_message, held_more, held_too_long}
 use Rattle.cap_frame.proofs.message.WordMessage.new.Goals as goal
 
@@ -12,14 +12,7 @@ returns-then-len-gt4294967295-clause-some c =
     )
 
 pub loop-words-preserved : goal.loop-words-preserved
-loop-words-preserved c =
-    let short : length c.words-item.result.items < 2 ^ 32 = omega (arith, c.words-item.result.ok.0) in
-    held_more (λ v. v.items) c.deref-words-items.result.now c.loop-words.words-index c.words-item.result c.loop-words-test.true c.words-item.is short
-    c.loop-words.invariant
+loop-words-preserved c = search (rules, held_more)
 
 pub invariant_of-result : goal.invariant_of-result
-invariant_of-result c =
-    let some : 1 ≤ length c.deref-words-items.result.now = grind (arith, nat_tests, c.if-is_empty.ensures, c.deref-words-items.ensures.len) in
-    let whole = held_message (λ v. v.items) c.deref-words-items.result.now c.loop-words.words-index some
-    (omega (arith, c.deref-words-items.ensures.len)) c.loop-words-test.false c.loop-words.invariant in
-    record { is_message = rw c.deref-words-items.ensures.value at whole }
+invariant_of-result c = search (rules, nat_tests, held_message)
