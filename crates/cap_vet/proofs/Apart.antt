@@ -1,4 +1,5 @@
 -- The order of paths: which come before which, and which are apart.
+use Rattle.cap_spec.proofs.ProofNames.{rules}
 use Rattle.std.proofs.Common.{List, [], ap, arith, inl, inr, refl, subst, sym, ◌++◌, ◌<◌, ◌∙◌, ◌∷◌, ◌≡◌}
 use Rattle.cap_spec.specs.Paths.{Before, number_of}
 use Rattle.cap_vet.specs.VetNames.{Step, Apart}
@@ -62,6 +63,4 @@ not_before-apart (x ∷ xs) (y ∷ ys) (inr h) (inr k) = not_before-apart xs ys 
 -- a path that goes on by a step isn't the path itself
 pub longer-differs : (p : List Step) (x : Step) (v : List Step) → p ++ x ∷ v ≡ p → ⊥
 longer-differs [] x v e = cc
-longer-differs (y ∷ p) x v e =
-    let rest : p ++ x ∷ v ≡ p = cc in
-    longer-differs p x v rest
+longer-differs (y ∷ p) x v e = search (rules, longer-differs p x v cc)

@@ -2,7 +2,7 @@
 use Rattle.cap_spec.specs.declared.Kind.TheVariants.{Pointers, Structs}
 use Rattle.cap_spec.proofs.Frames.Messages.{short_segment}
 use Rattle.cap_spec.proofs.ProofNames.{List, Some, arith, length, subst, ℕ, ◌*◌, ◌+◌, ◌<◌, ◌^◌, ◌≡◌, ◌≤◌, ∥∥₁_elim}
-use Rattle.cap_spec.proofs.ProofNames.{∥∥₁_map, props, IsMessage, segment_of, Spot}
+use Rattle.cap_spec.proofs.ProofNames.{∥∥₁_map, props, IsMessage, segment_of, Spot, rules}
 use Rattle.cap_vet.specs.Finding.{IsAtSomePlace, StepLeads}
 use Rattle.cap_vet.specs.VetNames.{Step, IsFound, own_words, HasFound, SomeArrives, Arrival, Found, Way, Early, To}
 use Rattle.cap_vet.specs.Ways.{IsSomeWay}
@@ -17,9 +17,7 @@ pub record Fits (f : Found) : Type 0 where
   pub own : own_words f.kind ≤ f.place.words
 
 fits_in : (m : List (List ℕ)) (a : Spot) (f : Found) → IsMessage m → IsFound m a f → Fits f
-fits_in m a f message h =
-    let few = short_segment m f.place.segment message h.exists in
-    record { last = omega (arith, few, h.inside); own = h.own }
+fits_in m a f message h = search (rules, short_segment)
 
 pub at_some_place_last : (f : Found) → IsAtSomePlace f → f.place.start + f.place.words < 2 ^ 32
 at_some_place_last f h =
@@ -35,10 +33,7 @@ at_some_place_own f h =
 pub at_some_place_entry : (f : Found) (n i : ℕ) → IsAtSomePlace f → f.kind ≡ Pointers n → i < n → f.place.start + i + 1 < 2 ^ 32
 at_some_place_entry f n i h e lt =
     let one : IsProp (f.place.start + i + 1 < 2 ^ 32) = hlevel props in
-    ∥∥₁_elim h one (λ x.
-    let few = short_segment x.0 f.place.segment x.2 x.3.exists in
-    let inside = entry_inside x.0 x.1 f n i x.3 e lt in
-    omega (arith, few, inside))
+    ∥∥₁_elim h one (search (rules, short_segment, entry_inside))
 
 pub at_some_place_element : (f : Found) (n d p i : ℕ) → IsAtSomePlace f → f.kind ≡ Structs n d p → i < n
     → f.place.start + 1 + i * (d + p) + d + p < 2 ^ 32

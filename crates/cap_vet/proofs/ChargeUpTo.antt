@@ -3,17 +3,15 @@ use Rattle.cap_spec.specs.declared.Reason.TheVariants.{WordLimit}
 use Rattle.cap_spec.proofs.Frames.Messages.{HasWord-inside, HasWord-segment}
 use Rattle.cap_spec.proofs.Lemmas.{one_refusal, within_not_refused}
 use Rattle.cap_spec.proofs.Paths.Preorder.{Rises-distinct}
-use Rattle.cap_spec.proofs.ProofNames.{List, [], ap, arith, inl, inr, length, reverse, subst, sym, ℕ, ◌++◌, ◌<◌, ◌^◌, ◌∙◌, ◌∷◌}
+use Rattle.cap_spec.proofs.ProofNames.{List, [], ap, arith, inl, inr, length, reverse, sym, ℕ, ◌++◌, ◌<◌, ◌^◌, ◌∙◌, ◌∷◌}
 use Rattle.cap_spec.proofs.ProofNames.{◌+◌, ◌≡◌, ◌≢◌, ◌≤◌, AreDistinct, CostOf, Costs, HasWord, IsFirstFault, IsFirstReason, IsRefused, IsWithin, Leads}
-use Rattle.cap_spec.proofs.ProofNames.{is_deep, is_past, near, one_pad, segment_of, two_pads, Lead}
-use Rattle.cap_spec.specs.Faults.{is_wrong}
+use Rattle.cap_spec.proofs.ProofNames.{segment_of, Lead, rules}
 use Rattle.cap_spec.proofs.Verdicts.KeptBefore.{kept_before}
 use Rattle.cap_spec.proofs.Verdicts.OneFault.{distinct_last, fault_tour}
 use Rattle.cap_spec.proofs.Verdicts.OneVerdict.{distinct_cost}
 use Rattle.cap_spec.specs.declared.Refusal.{Refusal}
 use Rattle.cap_ptr.specs.Shapes.{IsFollowed, charge_of}
 use Rattle.cap_ptr.specs.declared.shapes.Followed.{Followed}
-use Rattle.cap_ptr.specs.declared.shapes.Followed.TheVariants as followed
 use Rattle.cap_vet.specs.ChargeSteps.{SumsBefore}
 use Rattle.cap_vet.specs.ChargeUpTo.{IsChargeUpTo}
 use Rattle.cap_vet.specs.VetNames.{Reason, Step}
@@ -22,9 +20,7 @@ use Rattle.cap_vet.proofs.Verdicts.{CostOf-in_order}
 
 -- the word that leads to some place
 leads_word : (m : List (List ℕ)) (s w k : ℕ) (r : Lead) → Leads m s w k r → (p : ℕ) × HasWord m s w p
-leads_word m s w k r (near p has a b c) = (p, has)
-leads_word m s w k r (one_pad p q has a b c d e) = (p, has)
-leads_word m s w k r (two_pads p f q has a b c d e g h) = (p, has)
+leads_word m s w k r x6 = search rules
 
 costs_word : (m : List (List ℕ)) (s w cost : ℕ) → Costs m s w cost → (p : ℕ) × HasWord m s w p
 costs_word m s w cost (inl l) = leads_word m s w cost _ l
@@ -34,9 +30,7 @@ costs_word m s w cost (inr (inr (k, t, b, q, tag, f, h, e))) = leads_word m s w 
 -- where the word limit is passed, a pointer can be followed
 pub past_costs : (m : List (List ℕ)) (words depth before s w level : ℕ) (v : Reason) → IsFirstReason m words depth before s w level v
     → v ≡ WordLimit → (cost : ℕ) × Costs m s w cost
-past_costs m words depth before s w level v (is_wrong x) e = absurd ((rw e at x).holds)
-past_costs m words depth before s w level v (is_deep x y) e = absurd (cc)
-past_costs m words depth before s w level v (is_past cost x y c z) e = (cost, c)
+past_costs m words depth before s w level v x9 e = search rules
 
 -- so the word is there
 pub past_exists : (m : List (List ℕ)) (s w cost : ℕ) → Costs m s w cost → (s < length m) × (w < length (segment_of m s))
@@ -47,12 +41,7 @@ past_exists m s w cost c =
 -- paths cost the same in any order
 pub same_cost : (m : List (List ℕ)) (before seen : List (List Step)) (c d : ℕ) → AreDistinct before → before ≡ reverse seen
     → CostOf m before c → CostOf m seen d → c ≡ d
-same_cost m before seen c d distinct e x y =
-    let z : CostOf m before d =
-    subst (λ (ps : List (List Step)). CostOf m ps d) (in_order-reverse seen ∙ sym e) (CostOf-in_order m seen d y) in
-    let le = distinct_cost m before before c d distinct (λ q i. i) x z in
-    let ge = distinct_cost m before before d c distinct (λ q i. i) z x in
-    omega (arith, le, ge)
+same_cost m before seen c d distinct e x y = search (rules, in_order-reverse, CostOf-in_order, distinct_cost)
 
 -- the paths before the first fault are distinct
 pub distinct_before : (before : List (List Step)) (path : List Step) → AreDistinct (before ++ path ∷ []) → AreDistinct before
@@ -61,10 +50,7 @@ distinct_before before path d = (distinct_last before path d).1
 -- the charge of the first fault is that of the paths that a walk has seen before it
 charge_before : (m : List (List ℕ)) (words depth : ℕ) (r : Refusal) (f : IsFirstFault m words depth r) (seen : List (List Step)) (charge : ℕ)
     → f.fault.before ≡ reverse seen → CostOf m seen charge → f.fault.charge ≡ charge
-charge_before m words depth r f seen charge e c =
-    let at = f.fault in
-    same_cost m at.before seen at.charge charge
-    (distinct_before at.before f.path (Rises-distinct (at.before ++ f.path ∷ []) (fault_tour at).rising)) e at.costs c
+charge_before m words depth r f seen charge e c = search (rules, same_cost, distinct_before, Rises-distinct, fault_tour)
 
 -- what a walk says that stopped at a refusal
 module _ (m : List (List ℕ)) (words depth charge : ℕ) (r : Refusal) where
@@ -108,12 +94,8 @@ accepted_none m words depth w charge (r, f, e, cost, c, x) = within_not_refused 
 
 -- a pointer has at most two pad words
 few_pads : (m : List (List ℕ)) (s w k : ℕ) (r : Lead) → Leads m s w k r → k ≤ 2
-few_pads m s w k r (near p has a b c) = omega (arith, c)
-few_pads m s w k r (one_pad p q has a b c d e) = omega (arith, e)
-few_pads m s w k r (two_pads p f q has a b c d e g h) = omega (arith, h)
+few_pads m s w k r x6 = search rules
 
 -- following a pointer costs few words
 pub charge_small : (m : List (List ℕ)) (s w : ℕ) (f : Followed) → IsFollowed m s w f → charge_of f < 2 ^ 31
-charge_small m s w (followed.Null k) h = omega (arith, few_pads m s w k _ h)
-charge_small m s w (followed.Cap k i) h = omega (arith, few_pads m s w k _ h)
-charge_small m s w (followed.Target x) (q, tag, h) = h.object.small
+charge_small m s w f h = search (rules, few_pads)

@@ -38,6 +38,4 @@ complete_on m counted a children ahead cost low' caps count step c top p k owe =
 -- The first word ahead is looked at, and its children come before the others.
 pub count-step : (m : List (List ℕ)) (counted : Counted) (a : Ahead) (children ahead : List Ahead) (cost low' caps : ℕ)
     → IsCount m counted (a ∷ ahead) → Counts m a children cost counted.depth low' caps → IsCount m (counted_on counted cost low' caps) (children ++ ahead)
-count-step m counted a children ahead cost low' caps count step = record {
-  completes = complete_on m counted a children ahead cost low' caps count step;
-}
+count-step m counted a children ahead cost low' caps count step = search (rules, complete_on)

@@ -1,11 +1,10 @@
 -- Which faults a message has under demands.
-use Rattle.cap_spec.specs.declared.StrictRefusal.TheVariants.{Refused}
 use Rattle.cap_spec.proofs.Lemmas.{within_not_refused}
-use Rattle.cap_spec.proofs.ProofNames.{IsTrue, List, None, Option, Some, [], subst, ℕ, ◌≡◌, IsMessage, IsStrict, IsStrictFault}
+use Rattle.cap_spec.proofs.ProofNames.{IsTrue, List, Option, [], subst, ℕ, ◌≡◌, IsMessage, IsStrict, IsStrictFault}
 use Rattle.cap_spec.proofs.ProofNames.{length, rules}
 use Rattle.cap_spec.proofs.Strict.Faults.{one_strict_fault, strict_not_fault}
 use Rattle.cap_vet.specs.Demands.{IsMet}
-use Rattle.cap_vet.specs.VetNames.{StrictRefusal, ManySegments, Pointer, IsDemandFault, Meets, words_under, Demands}
+use Rattle.cap_vet.specs.VetNames.{StrictRefusal, Pointer, IsDemandFault, Meets, words_under, Demands}
 use Rattle.cap_vet.specs.VetNames.{HasNoFaultBy, HasWalked, IsAccepted, IsFaultBy, KnowsLax, Ahead, LaxPointer, Report, Step}
 use Rattle.cap_vet.proofs.Laxness.{fault_at_end, strict_at_end, within_of}
 use Rattle.cap_vet.proofs.Verdicts.{accepted_at_end}
@@ -14,9 +13,7 @@ use Rattle.cap_vet.proofs.Verdicts.{accepted_at_end}
 fault_of : (demands : Demands) (m : List (List ℕ)) (words depth : ℕ) (fault : StrictRefusal)
     → IsDemandFault demands m words depth fault
     → IsStrictFault m (words_under demands m words) depth fault
-fault_of demands m words depth (Refused refusal) h = h
-fault_of demands m words depth ManySegments h = h.1
-fault_of demands m words depth (Pointer what s w pointers) h = h.1
+fault_of demands m words depth fault h = search rules
 
 -- there is one fault,
 pub one_fault_under : (demands : Demands) (m : List (List ℕ)) (words depth : ℕ) (a b : StrictRefusal)
@@ -27,20 +24,14 @@ one_fault_under demands m words depth a b h k =
 -- and none of a message that meets the demands
 pub no_fault_under : (demands : Demands) (m : List (List ℕ)) (words depth : ℕ) (fault : StrictRefusal)
     → Meets demands m words depth → IsDemandFault demands m words depth fault → ⊥
-no_fault_under demands m words depth (Refused refusal) met h =
-    within_not_refused m (words_under demands m words) depth refusal met.within h
-no_fault_under demands m words depth ManySegments met h =
-    strict_not_fault m (words_under demands m words) depth ManySegments (met.strict h.0) h.1
 no_fault_under demands m words depth (Pointer what s w n) met h =
     strict_not_fault m (words_under demands m words) depth (Pointer what s w n) (met.strict h.0) h.1
+no_fault_under demands m words depth fault met h = search (rules, within_not_refused, strict_not_fault)
 
 -- a fault of strictness is one only where a strict message is demanded
 strict_demanded : (demands : Demands) (count : ℕ) (first : Option LaxPointer) (fault : StrictRefusal)
     → IsFaultBy demands count first fault → IsTrue demands.strict
-strict_demanded demands count first (Refused refusal) f = absurd f
-strict_demanded demands count first ManySegments f = f.0
-strict_demanded demands count None (Pointer what s w n) f = absurd f
-strict_demanded demands count (Some first) (Pointer what s w n) f = f.0
+strict_demanded demands count first fault f = search rules
 
 -- The limits are those under the demands.
 module _ (demands : Demands) (m : List (List ℕ)) (words depth limit levels : ℕ)
@@ -79,6 +70,4 @@ module _ (demands : Demands) (m : List (List ℕ)) (words depth limit levels : �
   pub demand_fault_at_end : {report : Report} (seen : List (List Step)) (ahead : List Ahead) (first : Option LaxPointer) (fault : StrictRefusal)
       → IsMessage m → HasWalked m limit levels [] report seen ahead → KnowsLax m seen first → IsFaultBy demands (length m) first fault
       → IsDemandFault demands m words depth fault
-  demand_fault_at_end {report} seen ahead first fault message w k f =
-      fault_demanded fault (strict_demanded demands (length m) first fault f)
-      (fault_at_end demands m limit levels seen first fault message (within_of m limit levels report (accepted_at_end seen ahead w)) k f)
+  demand_fault_at_end {report} seen ahead first fault message w k f = search (rules, fault_demanded, strict_demanded, fault_at_end, within_of, accepted_at_end)

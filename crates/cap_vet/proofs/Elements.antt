@@ -1,8 +1,8 @@
 -- The children of a list of structs on a trail: the pointers of its elements, element by element.
 use Rattle.cap_spec.proofs.Lemmas.{one_found, structs_found}
-use Rattle.cap_spec.proofs.ProofNames.{List, [], append_assoc, arith, inl, inr, refl, subst, suc, sym, zero, ℕ, ◌*◌, ◌++◌}
+use Rattle.cap_spec.proofs.ProofNames.{List, [], append_assoc, arith, inl, inr, refl, subst, suc, zero, ℕ, ◌*◌, ◌++◌}
 use Rattle.cap_spec.proofs.ProofNames.{◌+◌, ◌<◌, ◌∙◌, ◌∷◌, ◌≡◌, Finds, element_levels, HasWord, PathLeads, Reaches, Spot}
-use Rattle.cap_spec.proofs.ProofNames.{StepsTo, element, word, code, data_size, kind, middle, pointer_size}
+use Rattle.cap_spec.proofs.ProofNames.{StepsTo, element, word, code, data_size, kind, middle, pointer_size, rules}
 use Rattle.cap_vet.specs.VetNames.{Step, Item, Ptr, Ahead, Apart, AreReached, EachApart, GoOnFrom, IsUnder, element_rows}
 use Rattle.cap_vet.specs.VetNames.{row}
 use Rattle.cap_vet.proofs.Apart.{Apart-left, Apart-right, Apart-steps}
@@ -15,10 +15,8 @@ HeadApart base [] = Unit {0}
 HeadApart base (b ∷ rest) = Apart base b.path
 
 append-apart : (base : List Step) (xs ys : List Ahead) → EachApart xs → GoOnFrom base xs → HeadApart base ys → EachApart ys → EachApart (xs ++ ys)
-append-apart base [] ys h g k l = l
-append-apart base (a ∷ []) [] h g k l = h
-append-apart base (a ∷ []) (b ∷ ys) h g k l = (subst (λ u. Apart u b.path) (sym g.0.2) (Apart-left base b.path (g.0.0 ∷ g.0.1) k), l)
 append-apart base (a ∷ c ∷ xs) ys h g k l = (h.0, append-apart base (c ∷ xs) ys h.1 g.1 k l)
+append-apart base xs ys h g k l = search (rules, Apart-left)
 
 go_on-append : (base : List Step) (xs ys : List Ahead) → GoOnFrom base xs → GoOnFrom base ys → GoOnFrom base (xs ++ ys)
 go_on-append base [] ys h k = k
@@ -35,28 +33,12 @@ IsUnder-elements : (base : List Step) (level t b ds ps i n e j : ℕ) (v : List 
 IsUnder-elements base level t b ds ps i zero e j v h l = absurd (omega arith)
 IsUnder-elements base level t b ds ps i (suc n) zero j v h l =
     let own = IsUnder-row (base ++ Item i ∷ []) level Ptr t (b + ds) 0 ps j v l in
-    let here : IsUnder ((base ++ Item i ∷ []) ++ Ptr j ∷ v) (row (base ++ Item i ∷ []) level Ptr t (b + ds) 0 ps) =
-    subst (λ u. IsUnder ((base ++ Item i ∷ []) ++ Ptr u ∷ v) (row (base ++ Item i ∷ []) level Ptr t (b + ds) 0 ps))
-    (omega arith) own in
-    let moved : IsUnder (base ++ Item i ∷ Ptr j ∷ v) (row (base ++ Item i ∷ []) level Ptr t (b + ds) 0 ps) = subst
-    (λ u. IsUnder u (row (base ++ Item i ∷ []) level Ptr t (b + ds) 0 ps))
-    (append_assoc base (Item i ∷ []) (Ptr j ∷ v)) here in
-    IsUnder-left (base ++ Item (i + 0) ∷ Ptr j ∷ v) (row (base ++ Item i ∷ []) level Ptr t (b + ds) 0 ps)
-    (element_rows base level t (b + ds + ps) ds ps (i + 1) n)
-    (subst (λ u. IsUnder (base ++ Item u ∷ Ptr j ∷ v) (row (base ++ Item i ∷ []) level Ptr t (b + ds) 0 ps)) (omega arith) moved)
-IsUnder-elements base level t b ds ps i (suc n) (suc e) j v h l =
-    let f : (i + 1) + e ≡ i + suc e = omega arith in
-    IsUnder-right (base ++ Item (i + suc e) ∷ Ptr j ∷ v) (row (base ++ Item i ∷ []) level Ptr t (b + ds) 0 ps)
-    (element_rows base level t (b + ds + ps) ds ps (i + 1) n)
-    (subst (λ u. IsUnder (base ++ Item u ∷ Ptr j ∷ v) (element_rows base level t (b + ds + ps) ds ps (i + 1) n)) f
-    (IsUnder-elements base level t (b + ds + ps) ds ps (i + 1) n e j v (omega arith) l))
+    search (rules, append_assoc, IsUnder-left)
+IsUnder-elements base level t b ds ps i (suc n) (suc e) j v h l = search (rules, IsUnder-right, IsUnder-elements base level t (b + ds + ps) ds ps (i + 1) n e j v (omega arith) l)
 
 go_on-elements : (base : List Step) (level t b ds ps i n : ℕ) → GoOnFrom base (element_rows base level t b ds ps i n)
 go_on-elements base level t b ds ps i zero = tt
-go_on-elements base level t b ds ps i (suc n) =
-    go_on-append base (row (base ++ Item i ∷ []) level Ptr t (b + ds) 0 ps) (element_rows base level t (b + ds + ps) ds ps (i + 1) n)
-    (go_on-further base (Item i) (row (base ++ Item i ∷ []) level Ptr t (b + ds) 0 ps) (GoOnFrom-row (base ++ Item i ∷ []) level Ptr t (b + ds) 0 ps))
-    (go_on-elements base level t (b + ds + ps) ds ps (i + 1) n)
+go_on-elements base level t b ds ps i (suc n) = search (rules, go_on-append, go_on-further, GoOnFrom-row, go_on-elements base level t (b + ds + ps) ds ps (i + 1) n)
 
 -- the elements after one are apart from it
 head-elements : (base : List Step) (level t b ds ps i j n : ℕ) → i < j → HeadApart (base ++ Item i ∷ []) (element_rows base level t b ds ps j n)
@@ -77,11 +59,7 @@ reached-at : (m : List (List ℕ)) (level t : ℕ) (p p' : List Step) (w w' : �
 reached-at m level t p p' w w' e f h = subst (λ u. Reaches m u level t w') e (subst (λ u. Reaches m p level t u) f h)
 
 first_pointer : (base : List Step) (i j : ℕ) → base ++ Item (i + 0) ∷ Ptr j ∷ [] ≡ (base ++ Item i ∷ []) ++ Ptr (0 + j) ∷ []
-first_pointer base i j =
-    let e : i + 0 ≡ i = omega arith in
-    let f : 0 + j ≡ j = omega arith in
-    let g : (base ++ Item i ∷ []) ++ Ptr (0 + j) ∷ [] ≡ base ++ Item i ∷ Ptr (0 + j) ∷ [] = append_assoc base (Item i ∷ []) (Ptr (0 + j) ∷ []) in
-    cc
+first_pointer base i j = search (rules, append_assoc)
 
 later_pointer : (base : List Step) (i e j : ℕ) → base ++ Item (i + suc e) ∷ Ptr j ∷ [] ≡ base ++ Item ((i + 1) + e) ∷ Ptr j ∷ []
 later_pointer base i e j = let f : i + suc e ≡ (i + 1) + e = omega arith in cc

@@ -1,14 +1,13 @@
 -- What a walk knows of lax pointers, and which messages are strict.
 use Rattle.std.proofs.Common.{is_some}
 use Rattle.cap_spec.specs.declared.Lax.TheVariants.{CapabilityPad, NullPad}
-use Rattle.cap_spec.specs.declared.StrictRefusal.TheVariants.{Refused}
 use Rattle.cap_spec.proofs.Lemmas.{Before-irreflexive, strict_wider, first_by_tour}
 use Rattle.cap_spec.proofs.ProofNames.{List, None, Option, Some, [], arith, false, inl, inr, length, subst, ℕ, ◌<◌, ◌∷◌}
 use Rattle.cap_spec.proofs.ProofNames.{◌≡◌, ◌≢◌, ◌≤◌, IsWithin, HasWord, IsMessage, Before, Costs, far_segment, kind, pad}
 use Rattle.cap_spec.proofs.ProofNames.{two, IsFirstLax, IsLax, IsLaxAt, IsStrict, IsStrictFault, rules}
 use Rattle.cap_spec.proofs.Strict.Faults.{strict_kept}
 use Rattle.cap_spec.proofs.Strict.Looking.{cap_pad, other_pad, zero_pad}
-use Rattle.cap_vet.specs.VetNames.{Lax, Step, StrictRefusal, ManySegments, Pointer, depth_of, words_of, IsNotLax}
+use Rattle.cap_vet.specs.VetNames.{Lax, Step, StrictRefusal, depth_of, words_of, IsNotLax}
 use Rattle.cap_vet.specs.VetNames.{IsFaultBy, IsAccepted, IsVetted, KnowsLax, Ahead, IsTrail, HasWalked, IsLookedAt}
 use Rattle.cap_vet.specs.VetNames.{Demands, Limits, Report, LaxPointer}
 use Rattle.cap_vet.specs.StrictNulls.{not_lax_path, still_knows}
@@ -76,11 +75,7 @@ within_of m words depth report (t, a) = (t, report.charge, report.depth, a.withi
 pub strict_held : (m : List (List ℕ)) (report : Report) → ∥ IsVetted m report ∥₁ → ∥ IsStrict m 268435456 256 ∥₁
     → IsStrict m 268435456 256
 strict_held m report vetted h =
-    let k = strict_kept m 268435456 256 h in record {
-      accepted = within_of m 268435456 256 report (vetted_kept m report vetted);
-      few_segments = k.0;
-      none = k.1;
-    }
+    let k = strict_kept m 268435456 256 h in search (rules, within_of, vetted_kept)
 
 -- A walk that has found none is through a strict message.
 pub strict_at_end : {m : List (List ℕ)} {words depth : ℕ} {report : Report} (seen : List (List Step))
@@ -97,9 +92,4 @@ strict_within m limits h = strict_wider m (words_of limits) (depth_of limits) 26
 pub fault_at_end : (demands : Demands) (m : List (List ℕ)) (words depth : ℕ) (seen : List (List Step))
     (found : Option LaxPointer) (fault : StrictRefusal) → IsMessage m → IsWithin m words depth → KnowsLax m seen found
     → IsFaultBy demands (length m) found fault → IsStrictFault m words depth fault
-fault_at_end demands m words depth seen found (Refused refusal) message within known f = absurd f
-fault_at_end demands m words depth seen found ManySegments message within known f =
-    (within, omega (arith, message.few, f.1))
-fault_at_end demands m words depth seen None (Pointer what s w n) message within known f = absurd f
-fault_at_end demands m words depth seen (Some first) (Pointer what s w n) message within known f =
-    (within, f.1, rw (f.2, f.3, f.4, f.5) known)
+fault_at_end demands m words depth seen found fault message within known f = search rules

@@ -23,7 +23,6 @@ mod NearFound
 mod Shown
 mod Stepping
 mod NodeTrees
-mod Placed
 mod Views
 mod PathLax
 mod Charging

@@ -2,11 +2,11 @@
 use Rattle.std.proofs.Common.{is_some}
 use Rattle.cap_spec.specs.Denoting.{places}
 use Rattle.cap_spec.proofs.Disjoint.Bounds.{charge_below_words}
-use Rattle.cap_spec.proofs.Lemmas.{disjoint_of_none, none_of_disjoint, HasWord-inside, lead_word, Formed, formed}
-use Rattle.cap_spec.proofs.ProofNames.{List, None, Option, Some, [], ap, arith, false, inl, inr, length, refl, subst, true, ℕ, ◌++◌, ◌<◌, ◌∷◌, ◌≡◌}
-use Rattle.cap_spec.proofs.ProofNames.{∥∥₁_elim, props, segment_of, IsDisjoint, IsFirstOverlap, Occupies, pads_of, Costs}
-use Rattle.cap_spec.proofs.ProofNames.{Err, Ok, OnOk, Result, empty_count, extent, sizes_of, sum, Tree, ◌+◌}
-use Rattle.cap_vet.specs.VetNames.{Step, Conflicts, IsMarked, MarksAll, IsAccepted, Ahead, IsTrail, HasWalked}
+use Rattle.cap_spec.proofs.Lemmas.{disjoint_of_none, none_of_disjoint, lead_word}
+use Rattle.cap_spec.proofs.ProofNames.{List, None, Option, Some, [], arith, false, inl, inr, length, refl, true, ℕ, ◌++◌, ◌<◌, ◌∷◌, ◌≡◌}
+use Rattle.cap_spec.proofs.ProofNames.{∥∥₁_elim, props, IsDisjoint, IsFirstOverlap, Occupies, pads_of, Costs}
+use Rattle.cap_spec.proofs.ProofNames.{Err, Ok, OnOk, Result, empty_count, extent, sizes_of, sum, Tree, ◌+◌, rules}
+use Rattle.cap_vet.specs.VetNames.{Step, Conflicts, IsMarked, MarksAll, IsAccepted, Ahead, HasWalked}
 use Rattle.cap_vet.specs.VetNames.{IsLookedAt, IsReport, Report}
 use Rattle.cap_vet.specs.OverlapSteps.{KnowsMarks, KnowsOverlap}
 use Rattle.cap_vet.specs.Overlapping.{EndsMarking}
@@ -72,9 +72,7 @@ knows_overlap m seen marks (Some x) k = k
 -- the end
 pub ends_marking : (m : List (List ℕ)) {words depth : ℕ} {report : Report} (seen : List (List Step)) (ahead : List Ahead) (first : Option Overlap)
     → HasWalked m words depth [] report seen ahead → KnowsOverlap m seen first → EndsMarking m first
-ends_marking m seen ahead None w k =
-    all_disjoint m seen (subst (λ (u : List Ahead). IsTrail m seen u) (none_ahead ahead w.places) w.progress.trail) k
-ends_marking m seen ahead (Some x) w k = k
+ends_marking m seen ahead first w k = search (rules, all_disjoint, none_ahead)
 
 -- a message that uses no word twice is charged less than its words, but for elements without bits or words
 pub disjoint_bound : (m : List (List ℕ)) (words depth : ℕ) (report : Report) → IsAccepted m words depth report → IsDisjoint m
@@ -87,22 +85,7 @@ capacity_kept m starts marks after h e = record { known = h.known; enough = omeg
 
 -- where nothing was marked, the root word's own mark is the first
 pub root_marked : (m : List (List ℕ)) (T T' : ℕ → ℕ → Type 0) → ((s w : ℕ) → T s w → ⊥) → MarksAll T T' ((0, 0) ∷ []) → IsMarked m [] T'
-root_marked m T T' none h = record {
-  root = h.set 0 0 (inl refl);
-  used = λ p s w one u. absurd one;
-  only = λ s w taken. elim (h.only s w taken) [
-    | inl before ↦ absurd (none s w before)
-    | inr place ↦ elim place [ inl e ↦ inl (ap (λ u. u.0) e, ap (λ u. u.1) e) | inr none_there ↦ absurd none_there ]
-  ];
-  clear = λ p one. absurd one;
-}
-
--- an accepted message has a root word
-pub root_there : (m : List (List ℕ)) (words depth : ℕ) (report : Report) → IsAccepted m words depth report → 0 < length (segment_of m 0)
-root_there m words depth report (t, a) =
-    let f : Formed m 0 0 t = formed m 0 0 t report.charge report.depth a.within.denotes in
-    let p = lead_word m 0 0 f.k f.r f.leads in
-    HasWord-inside m 0 0 p.0 p.1
+root_marked m T T' none h = search rules
 
 -- whether a message is disjoint is one fact
 pub disjoint_kept : (m : List (List ℕ)) → ∥ IsDisjoint m ∥₁ → IsDisjoint m

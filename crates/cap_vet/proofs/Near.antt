@@ -1,7 +1,7 @@
 -- What a walk needs to know of an object that its pointer word alone describes.
-use Rattle.cap_spec.proofs.ProofNames.{List, None, Option, Some, arith, false, inl, inr, length, ne_eqb, pos, refl, subst}
-use Rattle.cap_spec.proofs.ProofNames.{sym, ℕ, ℤ, ◌+◌, ◌-◌, ◌<◌, ◌==◌, ◌∙◌, ◌≡◌, ◌≤◌, Finds, Leads, Says, near, one_pad}
-use Rattle.cap_spec.proofs.ProofNames.{to_object, two_pads, segment_of, code, data_size, extent, levels_below}
+use Rattle.cap_spec.proofs.ProofNames.{List, None, Option, Some, arith, false, length, ne_eqb, pos, refl}
+use Rattle.cap_spec.proofs.ProofNames.{ℕ, ℤ, ◌+◌, ◌-◌, ◌<◌, ◌==◌, ◌∙◌, ◌≡◌, ◌≤◌, Finds, Leads, Says}
+use Rattle.cap_spec.proofs.ProofNames.{to_object, segment_of, code, extent, levels_below, rules}
 use Rattle.cap_spec.proofs.Trees.Charges.{extent_pointers, extent_struct}
 use Rattle.cap_ptr.specs.Reaching.{ResolvesTo}
 use Rattle.cap_ptr.specs.Rows.{FindsRow, HasPointers}
@@ -19,19 +19,11 @@ seven_not q few = ne_eqb (code q) 7 (λ h. omega (arith, h, few))
 -- its pointer words are the last ones of its words
 near_places : (q b start n level t : ℕ) → HasPointers q n → start + n ≡ b + extent q
     → row_places (level + 1) t start n ≡ object_places q 0 t b level
-near_places q b start n level t (inl (k, many)) last =
-    let begin : start ≡ b + data_size q = omega (arith, last, many, extent_struct q k) in
-    rw (k, begin, many) refl
-near_places q b start n level t (inr (inl (k, c, many))) last =
-    let begin : start ≡ b = omega (arith, last, many, extent_pointers q k c) in
-    rw (k, c, begin, many) refl
-near_places q b start n level t (inr (inr (k, some, few, none))) last = rw (k, six_not q few, seven_not q few, none) refl
+near_places q b start n level t x7 last = search (rules, extent_struct, extent_pointers, six_not, seven_not)
 
 -- and it takes no level below its own
 near_levels : (q n : ℕ) → HasPointers q n → levels_below q 0 ≡ 0
-near_levels q n (inl (k, e)) = rw k refl
-near_levels q n (inr (inl (k, c, e))) = rw (k, c) refl
-near_levels q n (inr (inr (k, some, few, e))) = rw (k, seven_not q few) refl
+near_levels q n x3 = search (rules, seven_not)
 
 near_rises : (level depth : ℕ) (run : Option PointerRun) → level ≤ depth → LevelIs (level + 1) run → RunRises level depth run
 near_rises level depth None h e = tt
@@ -43,9 +35,7 @@ row_inside m s w q r f = omega (arith, f.pointers_last, f.words, f.finds.inside.
 
 -- A word that leads to an object over no pads says so itself.
 says_own : (m : List (List ℕ)) (t at q : ℕ) (b : ℤ) → Leads m t at 0 (to_object t b q) → Says t at q (to_object t b q)
-says_own m t at q b (near p h n says e) = subst (λ x. Says t at x (to_object t b q)) (sym says.4) says
-says_own m t at q b (one_pad p x h one hx n says e) = absurd (omega (arith, e))
-says_own m t at q b (two_pads p f x h two hf hx one tag says e) = absurd (omega (arith, e))
+says_own m t at q b x6 = search rules
 
 -- So the pointer word whose place it takes leads there too.
 finds_over : (m : List (List ℕ)) (s w k t at b q : ℕ) → ResolvesTo m s w k t at q → Finds m t at 0 t b q → Finds m s w k t b q

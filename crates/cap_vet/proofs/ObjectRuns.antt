@@ -53,6 +53,4 @@ pub start_fits : (m : List (List ℕ)) (s w : ℕ) {k t b : ℕ} (q tag : ℕ) {
     → FindsObject m s w k t b q tag n c (Structs size count d p) → at ≡ d → (count ≡ 0 → ⊥)
     → Fits w32 (b + 1 + at)
 start_fits m s w q tag size {count = zero} p at h f e some = absurd (some refl)
-start_fits m s w {k} {t} {b} q tag {n} {c} size {count = suc count} {d} p at h f e some =
-    let short = short_segment m t h f.finds.inside.exists in
-    omega (arith, e, short, structs_fit m s w k t b q tag n c size (suc count) d p f)
+start_fits m s w {k} {t} {b} q tag {n} {c} size {count = suc count} {d} p at h f e some = search (rules, short_segment, structs_fit)

@@ -1,8 +1,8 @@
 -- What an object brings to a walk: its children, its cost, and how deep it goes.
 use Rattle.cap_spec.proofs.Lemmas.{extent_pointers, extent_struct, extent_structs, extra_same, lead_kind}
 use Rattle.cap_spec.proofs.Lemmas.{one_found, scalars_found}
-use Rattle.cap_spec.proofs.ProofNames.{List, [], ap, arith, false, inl, inr, length, length-append, map, max, pos, refl}
-use Rattle.cap_spec.proofs.ProofNames.{subst, suc, true, zero, ℕ, ◌*◌, ◌++◌, ◌+◌, ◌<◌, ◌==◌, ◌∷◌, ◌≡◌, ◌≤◌, ◌⊎◌, eqb_tells}
+use Rattle.cap_spec.proofs.ProofNames.{List, [], ap, arith, false, inl, inr, length, length-append, map, max, refl}
+use Rattle.cap_spec.proofs.ProofNames.{subst, suc, zero, ℕ, ◌*◌, ◌++◌, ◌+◌, ◌<◌, ◌==◌, ◌∷◌, ◌≡◌, ◌≤◌, eqb_tells}
 use Rattle.cap_spec.proofs.ProofNames.{Finds, element_levels, IsComposite, extra, HasWord, PathLeads, Reaches, rules}
 use Rattle.cap_spec.proofs.ProofNames.{Spot, StepsTo, word, code, data_size, extent, kind, list_size, middle, pointer_size}
 use Rattle.cap_spec.proofs.ProofNames.{levels_below}
@@ -22,9 +22,7 @@ length-row base level step t b i (suc n) = ap suc (length-row base level step t 
 
 length-elements : (base : List Step) (level t b ds ps i n : ℕ) → length (element_rows base level t b ds ps i n) ≡ n * ps
 length-elements base level t b ds ps i zero = omega arith
-length-elements base level t b ds ps i (suc n) =
-    let e = length-append (row (base ++ Item i ∷ []) level Ptr t (b + ds) 0 ps) (element_rows base level t (b + ds + ps) ds ps (i + 1) n) in
-    omega (arith, e, length-row (base ++ Item i ∷ []) level Ptr t (b + ds) 0 ps, length-elements base level t (b + ds + ps) ds ps (i + 1) n)
+length-elements base level t b ds ps i (suc n) = search (rules, length-append, length-row, length-elements base level t (b + ds + ps) ds ps (i + 1) n)
 
 near-row : (base : List Step) (depth level : ℕ) (step : ℕ → Step) (t b i n : ℕ) → 1 ≤ level → level ≤ depth + 1
     → AreInLevels depth (row base level step t b i n)
@@ -154,18 +152,7 @@ pub data Cases (q : ℕ) : Type 0 where
   a_table : kind q ≡ 1 → code q ≡ 7 → Cases q
 
 pub cases_of : (m : List (List ℕ)) (s w k t b q : ℕ) → Finds m s w k t b q → Cases q
-cases_of m s w k t b q f = by_kind (eqb_tells (kind q) 0) (eqb_tells (code q) 6) (eqb_tells (code q) 7)
-  where
-    below : kind q < 2
-    below = lead_kind m s w k t (pos b) q f.leads
-
-    by_kind : (((kind q == 0) ≡ true) × (kind q ≡ 0)) ⊎ (((kind q == 0) ≡ false) × (kind q ≡ 0 → ⊥))
-        → (((code q == 6) ≡ true) × (code q ≡ 6)) ⊎ (((code q == 6) ≡ false) × (code q ≡ 6 → ⊥))
-        → (((code q == 7) ≡ true) × (code q ≡ 7)) ⊎ (((code q == 7) ≡ false) × (code q ≡ 7 → ⊥)) → Cases q
-    by_kind (inl h) i j = a_struct h.1
-    by_kind (inr h) (inl i) j = a_row (omega (arith, h.1, below)) i.1
-    by_kind (inr h) (inr i) (inl j) = a_table (omega (arith, h.1, below)) j.1
-    by_kind (inr h) (inr i) (inr j) = values (omega (arith, h.1, below)) i.0 j.0 (omega (arith, i.1, j.1))
+cases_of m s w k t b q f = search (rules, eqb_tells, lead_kind)
 
 -- what any object brings
 pub object-brings : (m : List (List ℕ)) (a : Ahead) (k t b q tag low : ℕ) → Reaches m a.path a.level a.segment a.word

@@ -1,4 +1,5 @@
 -- What the pointers of an object owe says what they denote.
+use Rattle.cap_spec.proofs.ProofNames.{rules}
 use Rattle.std.proofs.Common.{List, [], ap, arith, max, refl, suc, zero, ℕ, ◌++◌, ◌+◌, ◌∷◌, ◌≡◌}
 use Rattle.cap_spec.specs.Denoting.{AreElements, DenoteEach, places, words_from}
 use Rattle.cap_spec.specs.Tree.{Trees, cap_count, cap_counts, child_counts, more, none, pointer_count, struct}
@@ -24,22 +25,6 @@ pub record Parts (m : List (List ℕ)) (xs ys : List Ahead) (c d p k : ℕ) : Ty
   pub caps : k ≡ k1 + k2
 
 pub append-Owe : (m : List (List ℕ)) (xs ys : List Ahead) (c d p k : ℕ) → Owe m (xs ++ ys) c d p k → Parts m xs ys c d p k
-append-Owe m [] ys c d p k h = record {
-  c1 = 0;
-  d1 = 0;
-  p1 = 0;
-  k1 = 0;
-  c2 = c;
-  d2 = d;
-  p2 = p;
-  k2 = k;
-  first = (refl, refl, refl, refl);
-  second = h;
-  charge = omega arith;
-  top = omega arith;
-  pointers = omega arith;
-  caps = omega arith;
-}
 append-Owe m (a ∷ xs) ys c d p k (t, c1, d1, c2, d2, p2, k2, own, rest, e1, e2, e3, e4) =
     let r = append-Owe m xs ys c2 d2 p2 k2 rest in record {
       c1 = c1 + r.c1;
@@ -57,6 +42,7 @@ append-Owe m (a ∷ xs) ys c d p k (t, c1, d1, c2, d2, p2, k2, own, rest, e1, e2
       pointers = omega (arith, e3, r.pointers);
       caps = omega (arith, e4, r.caps);
     }
+append-Owe m xs ys c d p k h = search rules
 
 -- what is denoted by the pointers of an object that owes this
 pub record RowDenotes (m : List (List ℕ)) (ps : List (ℕ × ℕ)) (level n c d p k : ℕ) : Type 0 where

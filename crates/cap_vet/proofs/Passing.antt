@@ -1,7 +1,7 @@
 -- Null words in a row, which a walk goes past.
-use Rattle.cap_spec.proofs.ProofNames.{List, Some, [], ap, append-nil, arith, length, length-append, refl, reverse}
+use Rattle.cap_spec.proofs.ProofNames.{List, Some, [], ap, append-nil, arith, length, length-append, refl}
 use Rattle.cap_spec.proofs.ProofNames.{subst, suc, zero, ℕ, ◌++◌, ◌+◌, ◌-◌, ◌<◌, ◌∷◌, ◌≡◌, ◌≤◌, length-map, reverse-append}
-use Rattle.cap_spec.proofs.ProofNames.{AllByRecursion, near, HasWord, rules}
+use Rattle.cap_spec.proofs.ProofNames.{near, HasWord, rules}
 use Rattle.cap_vet.specs.VetNames.{Step, IsLooked, Passes, IsRest, RunIn}
 use Rattle.cap_vet.specs.VetNames.{row_places, Ahead, added, HasWalked, work_left, Report, PointerRun}
 use Rattle.cap_vet.specs.declared.walk.looking.Looked.TheVariants.{Null}
@@ -43,9 +43,7 @@ passes_on m words depth runs seen old f before r left null passed =
 -- the topmost run of a walk lies inside its segment
 pub topmost_in : (m : List (List ℕ)) (words depth : ℕ) (runs : List PointerRun) (f : PointerRun) (r : Report) (seen : List (List Step)) (ahead : List Ahead)
     → HasWalked m words depth (runs ++ f ∷ []) r seen ahead → RunIn m f
-topmost_in m words depth runs f r seen ahead w =
-    let inside : AllByRecursion (RunIn m) (f ∷ reverse runs) = rw (reverse-append runs (f ∷ [])) at w.inside in
-    inside.0
+topmost_in m words depth runs f r seen ahead w = search (rules, reverse-append)
 
 row_length : (level t b n : ℕ) → length (row_places level t b n) ≡ n
 row_length level t b zero = refl

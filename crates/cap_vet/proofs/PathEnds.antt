@@ -1,7 +1,6 @@
 -- What the end of a path says of the pointers on it.
-use Rattle.cap_spec.proofs.ProofNames.{Bool, List, None, Option, Some, arith, false, length, refl, subst, sym, true, ℕ}
-use Rattle.cap_spec.proofs.ProofNames.{◌++◌, ◌-◌, ◌∷◌, ◌≡◌, ◌≤◌, PathFinds, AreOnPath, Charges, IsStartOf, Spot, IsLax}
-use Rattle.cap_spec.proofs.ProofNames.{rules}
+use Rattle.cap_spec.proofs.ProofNames.{Bool, List, None, Option, Some, false, length, refl, subst, sym, true, ℕ, ◌++◌}
+use Rattle.cap_spec.proofs.ProofNames.{◌-◌, ◌∷◌, ◌≡◌, ◌≤◌, PathFinds, AreOnPath, Charges, IsStartOf, Spot, IsLax, rules}
 use Rattle.cap_spec.proofs.Verdicts.OnPath.{on_no_node}
 use Rattle.cap_vet.specs.Charging.{EndsAt}
 use Rattle.cap_vet.specs.VetNames.{Kind, Lax, Step, StrictRefusal, Arrives, EndsEarly}
@@ -25,15 +24,7 @@ known m words depth path at true (a, h) = record {
   on_path = h.on_path;
   lax = h.lax;
   left = words - at.consumed;
-  charges = record {
-    ways = h.ways;
-    on_path = h.on_path;
-    some = h.some;
-    cost = at.consumed;
-    costs = h.costs;
-    shallow = h.shallow;
-    consumed = omega (arith, h.within);
-  };
+  charges = search rules;
 }
 known m words depth path at false e =
     let h = e.arrives in

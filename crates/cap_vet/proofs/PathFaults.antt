@@ -25,11 +25,9 @@ first_is_lax m path s w what n f = (f.level, s, w, what, f.reached, f.lax)
 -- What meets the demands has no fault.
 pub meets_no_path_fault : (demands : Demands) (m : List (List ℕ)) (words depth : ℕ) (path : List Step) (r : StrictRefusal)
     → MeetsOnPath demands m words depth path → IsPathFault demands m words depth path r → ⊥
-meets_no_path_fault demands m words depth path (Refused r) h k =
-    kept_not_refused m (words_under demands m words) depth path r h.within k
-meets_no_path_fault demands m words depth path ManySegments h k = omega (arith, (h.strict k.0).0, k.2)
 meets_no_path_fault demands m words depth path (Pointer what s w n) h k =
     (h.strict k.0).1 k.3.way k.3.begin (first_is_lax m path s w what n k.3)
+meets_no_path_fault demands m words depth path r h k = search (rules, kept_not_refused)
 
 -- of two beginnings of one path, each is the other or goes on from it
 begins_order : (p q rest s : List Step) → p ++ rest ≡ q ++ s → (p ≡ q) ⊎ ((x : Step) × (more : List Step) × (q ≡ p ++ x ∷ more))
@@ -81,11 +79,9 @@ one_path_fault demands m words depth path (Refused r) (Pointer v s' w' n') h k =
     absurd (kept_not_refused m (words_under demands m words) depth path r k.1 h)
 one_path_fault demands m words depth path ManySegments (Refused r) h k =
     absurd (kept_not_refused m (words_under demands m words) depth path r h.1 k)
-one_path_fault demands m words depth path ManySegments ManySegments h k = refl
-one_path_fault demands m words depth path ManySegments (Pointer v s' w' n') h k = absurd (omega (arith, h.2, k.2))
 one_path_fault demands m words depth path (Pointer u s w n) (Refused r) h k =
     absurd (kept_not_refused m (words_under demands m words) depth path r h.1 k)
-one_path_fault demands m words depth path (Pointer u s w n) ManySegments h k = absurd (omega (arith, h.2, k.2))
 one_path_fault demands m words depth path (Pointer u s w n) (Pointer v s' w' n') h k =
     let e = one_first_on_path m path s w s' w' u v n n' h.3 k.3 in
     same_pointer u v s w n s' w' n' e.1 e.2 e.0 e.3
+one_path_fault demands m words depth path f g h k = search rules

@@ -8,17 +8,7 @@ use Rattle.cap_vet.specs.VetNames.{Lax, Step, IsNotLax, IsFirstLaxOnPath, AddsPo
 -- The first on the beginning of a path is the first on the path.
 lax_longer : (m : List (List ℕ)) (prev more : List Step) (s w : ℕ) (what : Lax) (n : ℕ)
     → IsFirstLaxOnPath m prev s w what n → IsFirstLaxOnPath m (prev ++ more) s w what n
-lax_longer m prev more s w what n f = record {
-  way = f.way;
-  begin = begins_longer f.way prev more f.begin;
-  before = f.before;
-  level = f.level;
-  reached = f.reached;
-  on_path = f.on_path;
-  lax = f.lax;
-  first = f.first;
-  number = f.number;
-}
+lax_longer m prev more s w what n f = search (rules, begins_longer)
 
 -- Without a pointer more the same is known,
 pub lax_same : (m : List (List ℕ)) (prev more : List Step) (ways : List (List Step)) (o : Option LaxPointer)

@@ -1,7 +1,7 @@
 -- The pointer words of a run, word by word.
-use Rattle.cap_spec.proofs.ProofNames.{List, None, Option, Some, [], ap, arith, map, refl, suc, zero, ℕ, ◌++◌, rules}
-use Rattle.cap_spec.proofs.ProofNames.{◌+◌, ◌-◌, ◌<◌, ◌∙◌, ◌∷◌, ◌≡◌, map-append}
-use Rattle.cap_vet.specs.VetNames.{Step, Item, Ptr, IsRest, element_places, pointer_word_of, row_places, element_rows}
+use Rattle.cap_spec.proofs.ProofNames.{List, None, Option, Some, ap, arith, map, refl, suc, zero, ℕ, rules}
+use Rattle.cap_spec.proofs.ProofNames.{◌+◌, ◌-◌, ◌<◌, ◌∷◌, ◌≡◌, map-append}
+use Rattle.cap_vet.specs.VetNames.{Step, IsRest, element_places, pointer_word_of, row_places, element_rows}
 use Rattle.cap_vet.specs.VetNames.{row, PointerRun}
 
 -- after the first of several words in a row
@@ -52,6 +52,4 @@ places-row base level step t b i (suc n) = ap (λ u. (t, b, level) ∷ u) (place
 pub places-elements : (base : List Step) (level t b ds ps i n : ℕ)
     → map pointer_word_of (element_rows base level t b ds ps i n) ≡ element_places level t b ds ps n
 places-elements base level t b ds ps i zero = refl
-places-elements base level t b ds ps i (suc n) =
-    map-append pointer_word_of (row (base ++ Item i ∷ []) level Ptr t (b + ds) 0 ps) (element_rows base level t (b + ds + ps) ds ps (i + 1) n)
-    ∙ rw (places-row (base ++ Item i ∷ []) level Ptr t (b + ds) 0 ps, places-elements base level t (b + ds + ps) ds ps (i + 1) n) refl
+places-elements base level t b ds ps i (suc n) = search (rules, map-append, places-row, places-elements base level t (b + ds + ps) ds ps (i + 1) n)

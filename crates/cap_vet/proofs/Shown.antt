@@ -2,21 +2,17 @@
 use Rattle.cap_spec.specs.Showing.{own_cap, own_null, own_pointers, own_scalars, own_struct, own_structs}
 use Rattle.cap_spec.specs.declared.Kind.{Kind}
 use Rattle.cap_spec.specs.declared.Kind.TheVariants.{Cap, Null, Pointers, Scalars, Struct, Structs}
-use Rattle.cap_spec.proofs.Lemmas.{found_form, elements_depth, one_lead, pointers_shape, struct_shape}
-use Rattle.cap_spec.proofs.Lemmas.{structs_shape, each_charged, length-places, one_found, HasForm, formed, number_list}
-use Rattle.cap_spec.proofs.Lemmas.{number_struct}
+use Rattle.cap_spec.proofs.Lemmas.{found_form, elements_depth, one_lead, pointers_shape, struct_shape, structs_shape}
+use Rattle.cap_spec.proofs.Lemmas.{each_charged, length-places, one_found, HasForm, formed, number_list, number_struct}
 use Rattle.cap_spec.proofs.Pointers.Shapes.{scalars_shape}
-use Rattle.cap_spec.proofs.ProofNames.{List, refl, subst, sym, ℕ, ◌≡◌, HasObject, own_at, rules}
-use Rattle.cap_spec.proofs.ProofNames.{Denotes, FindsKind, values_of, words_from, Lead, Leads, to_cap, to_null, Spot}
-use Rattle.cap_spec.proofs.ProofNames.{element, word, own_of, DenotesAt, Tree, scalars}
-use Rattle.cap_spec.proofs.ProofNames.{struct}
+use Rattle.cap_spec.proofs.ProofNames.{List, refl, sym, ℕ, ◌≡◌, HasObject, own_at, rules, Denotes, FindsKind, values_of}
+use Rattle.cap_spec.proofs.ProofNames.{words_from, Lead, Leads, to_cap, to_null, Spot, element, word, own_of, DenotesAt}
+use Rattle.cap_spec.proofs.ProofNames.{Tree, scalars, struct}
 use Rattle.cap_spec.proofs.Trees.OneTree.{form_of}
 
 -- a tree has the form of what its word leads to
 lead_form : (m : List (List ℕ)) (s w : ℕ) (x : Tree) (c d k : ℕ) (r : Lead) → Denotes m s w x c d → Leads m s w k r → HasForm x (form_of r)
-lead_form m s w x c d k r h l =
-    let g = formed m s w x c d h in
-    subst (λ (y : Lead). HasForm x (form_of y)) (sym (one_lead m s w k g.k r g.r l g.leads).1) g.form
+lead_form m s w x c d k r h l = search (rules, formed, form_of, one_lead)
 
 same_struct : (ws ws' : List ℕ) (n n' : ℕ) → ws ≡ ws' → n ≡ n' → own_struct ws n ≡ own_struct ws' n'
 same_struct ws ws' n n' e f = rw (e, f) refl

@@ -1,17 +1,15 @@
 -- What one turn of a walk leaves of its runs.
 use Rattle.cap_spec.proofs.Bytes.Lists.{reverse-more}
-use Rattle.cap_spec.proofs.ProofNames.{List, None, Option, Some, [], ap, arith, inl, inr, length, length-append, map}
-use Rattle.cap_spec.proofs.ProofNames.{option_to_list, refl, reverse, subst, suc, sym, ℕ, ◌++◌, ◌+◌, ◌<◌, ◌∙◌, ◌∷◌}
-use Rattle.cap_spec.proofs.ProofNames.{◌≡◌, ◌≤◌, length-map, map-append, reverse-append, AllByRecursion, Finds, Leads}
-use Rattle.cap_spec.proofs.ProofNames.{extra, near, to_cap, to_null, HasWord, Costs, Reaches, extent, levels_below}
-use Rattle.cap_spec.proofs.ProofNames.{rules}
+use Rattle.cap_spec.proofs.ProofNames.{List, None, Option, Some, [], ap, arith, inl, length, length-append, map}
+use Rattle.cap_spec.proofs.ProofNames.{option_to_list, refl, reverse, subst, suc, sym, ℕ, ◌++◌, ◌+◌, ◌<◌, ◌∙◌, ◌∷◌, ◌≡◌}
+use Rattle.cap_spec.proofs.ProofNames.{◌≤◌, length-map, map-append, reverse-append, AllByRecursion, Finds, Leads, extra}
+use Rattle.cap_spec.proofs.ProofNames.{near, to_cap, to_null, HasWord, Costs, Reaches, extent, levels_below, rules}
 use Rattle.cap_vet.specs.VetNames.{Step, depth_of, words_of, IsLooked, RunRises, object_children, IsRest, LevelIs}
 use Rattle.cap_vet.specs.VetNames.{OptionIn, RunIn, all_spots, option_spots, pointer_word_of, spots, Ahead, added}
-use Rattle.cap_vet.specs.VetNames.{IsWalking, HasWalked, IsLookedAt, IsNext, work_left, Limits, Report}
-use Rattle.cap_vet.specs.VetNames.{PointerRun}
+use Rattle.cap_vet.specs.VetNames.{IsWalking, HasWalked, IsLookedAt, IsNext, work_left, Limits, Report, PointerRun}
 use Rattle.cap_vet.specs.Turning.{cost_of, run_below}
 use Rattle.cap_vet.specs.Turns.{GoesOn, GoesOnBelow, IsAt}
-use Rattle.cap_vet.specs.WalkSteps.{Continues, GoesOnWith, runs_left}
+use Rattle.cap_vet.specs.WalkSteps.{Continues, GoesOnWith}
 use Rattle.cap_vet.specs.Walking.{AreNull, AreStacked, work_next}
 use Rattle.cap_vet.specs.declared.walk.looking.Looked.{Looked}
 use Rattle.cap_vet.specs.declared.walk.walking.Next.{Next}
@@ -140,8 +138,7 @@ turned m limits runs left more f r report after K k e h = search (rules, work_re
 -- a word that was looked at has this cost
 pub looked_costs : (m : List (List ℕ)) (words depth consumed s w level : ℕ) (l : Looked) → IsLooked m words depth consumed s w level l → Costs m s w (cost_of l)
 looked_costs m words depth consumed s w level (looked.Null cost) h = inl h.0
-looked_costs m words depth consumed s w level (looked.Cap cost) h = inr (inl h.0)
-looked_costs m words depth consumed s w level (looked.Object cost deep below place) (k, t, b, q, tag, o) = inr (inr (k, t, b, q, tag, o.finds, o.tagged, o.charge))
+looked_costs m words depth consumed s w level l h = search rules
 
 -- The next word was looked at, and is the last so far. Below it is this run, and less is left of the walk.
 pub record HasVisited (m : List (List ℕ)) (limits : Limits) (s w level : ℕ) (runs : List PointerRun) (before : Report)
@@ -157,26 +154,13 @@ pub visited : {m : List (List ℕ)} {limits : Limits} {s w level : ℕ} (runs : 
     → HasVisited m limits s w level runs report n (run_below l) (added report s w l)
 visited {m} {limits} {s} {w} {level} runs {report} l n h =
     let on = walks_on m (words_of limits) (depth_of limits) s w level runs report l n h in
-    record {
-      later = on.0;
-      walks = on.1;
-      less = work_falls m (words_of limits) (depth_of limits) s w level runs report l n h;
-    }
+    search (rules, work_falls)
 
 -- What a turn gets of a word that was looked at.
 pub looked_at : {m : List (List ℕ)} {words depth s w level : ℕ} {runs below : List PointerRun} {report after : Report} {later : List Ahead}
     (n : IsNext m words depth s w level runs report) → HasWalked m words depth below after (n.a.path ∷ n.seen) later
     → {cost : ℕ} → Costs m s w cost → IsLookedAt m n.seen n.a s w after.pointers cost
-looked_at {later} n r costs = record {
-  later = n.ahead;
-  trail = n.progress.trail;
-  segment = n.segment;
-  word = n.at;
-  exists = n.exists;
-  inside = n.within;
-  costs = costs;
-  number = omega (arith, r.progress.number);
-}
+looked_at {later} n r costs = search rules
 
 -- What is known of the paths so far is known after null words too.
 pub known_past : (m : List (List ℕ)) (K : List (List Step) → Type 0) (nulls seen : List (List Step))
@@ -191,10 +175,7 @@ pub steps_on : (m : List (List ℕ)) (limits : Limits) (runs : List PointerRun) 
     → IsWalking m limits (runs ++ f ∷ []) report K
     → ((rs : List PointerRun) → IsAt m limits f.segment f.at f.level rs report K → GoesOnBelow m limits rs below report after L)
     → Continues next runs f below items new → GoesOnWith m limits next runs f report items new after L
-steps_on m limits runs f report after K L below next items new w turn c =
-    let at = next_at m limits runs f c.rest report K w c.is_rest in
-    turned m limits runs ((runs ++ option_to_list c.rest) ++ option_to_list below) (runs_left next items new) f c.rest report after L
-    c.is_rest c.runs (turn (runs ++ option_to_list c.rest) at)
+steps_on m limits runs f report after K L below next items new w turn c = search (rules, next_at, turned)
 
 -- A null word was looked at, with nothing below it.
 pub null_visited : (m : List (List ℕ)) (limits : Limits) (s w level : ℕ) (runs : List PointerRun) (report : Report)

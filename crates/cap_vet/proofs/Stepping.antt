@@ -1,13 +1,11 @@
 -- Where steps lead from what was found at a spot.
 use Rattle.cap_spec.specs.declared.Kind.TheVariants.{Pointers, Struct, Structs}
-use Rattle.cap_spec.proofs.Lemmas.{one_found, structs_words}
+use Rattle.cap_spec.proofs.Lemmas.{structs_words}
 use Rattle.cap_spec.proofs.Pointers.Shapes.{pointers_words}
-use Rattle.cap_spec.proofs.ProofNames.{List, arith, inl, inr, length, mul-le-mul_right, refl, subst, ℕ, ◌*◌, ◌+◌, ◌<◌}
-use Rattle.cap_spec.proofs.ProofNames.{◌≡◌, ◌≤◌, HasObject, segment_of, Spot, StepsTo, element, word, rules}
-use Rattle.cap_spec.proofs.ProofNames.{list_size}
+use Rattle.cap_spec.proofs.ProofNames.{List, arith, length, mul-le-mul_right, subst, ℕ, ◌*◌, ◌+◌, ◌<◌}
+use Rattle.cap_spec.proofs.ProofNames.{◌≡◌, ◌≤◌, HasObject, segment_of, Spot, StepsTo, element, word, rules, list_size}
 use Rattle.cap_spec.proofs.Trees.Charges.{elements_fit}
 use Rattle.cap_vet.specs.VetNames.{Kind, Item, Ptr, IsFound, Found}
-use Rattle.cap_vet.proofs.Steps.{cap_no_object, null_no_object}
 
 -- what is there, where its kind is known
 as_kind : (m : List (List ℕ)) (a : Spot) (f : Found) (x : Kind) → IsFound m a f → f.kind ≡ x → HasObject m a x f.place.segment f.place.start f.place.words
@@ -18,15 +16,6 @@ pub pointer_goes : (m : List (List ℕ)) (a : Spot) {f : Found} (d : ℕ) {p i x
     → StepsTo m a (Ptr i) (word f.place.segment x)
 pointer_goes m (word s w) {f} d {p} h e lt ex = search (rules, as_kind)
 pointer_goes m (element t' b' ds ps) {f} d {p} {x} h e lt ex = search (rules, as_kind)
-
--- what isn't a struct has none
-no_pointer : (m : List (List ℕ)) (a : Spot) (f : Found) (k : Kind) (i : ℕ) (b : Spot) → f.kind ≡ k → ((d p : ℕ) → f.kind ≡ Struct d p → ⊥)
-    → IsFound m a f → StepsTo m a (Ptr i) b → ⊥
-no_pointer m k f a i b e c h g = search (rules, as_kind, null_no_object, cap_no_object, one_found)
-
-pub pointer_of_other : (m : List (List ℕ)) (a : Spot) (f : Found) (i : ℕ) (b : Spot) → ((d p : ℕ) → f.kind ≡ Struct d p → ⊥) → IsFound m a f
-    → StepsTo m a (Ptr i) b → ⊥
-pointer_of_other m a f i b none h g = no_pointer m a f f.kind i b refl none h g
 
 -- the entries of a list of pointers
 pub entry_goes : (m : List (List ℕ)) (a : Spot) {f : Found} {n i x : ℕ} → IsFound m a f → f.kind ≡ Pointers n → i < n → x ≡ f.place.start + i
@@ -39,22 +28,11 @@ pub entry_inside : (m : List (List ℕ)) (a : Spot) (f : Found) (n i : ℕ) → 
     → f.place.start + i + 1 ≤ length (segment_of m f.place.segment)
 entry_inside m a f n i h e lt = search (rules, as_kind, pointers_words)
 
-pub entry_past : (m : List (List ℕ)) (a : Spot) (f : Found) (n i : ℕ) (b : Spot) → IsFound m a f → f.kind ≡ Pointers n → n ≤ i → StepsTo m a (Item i) b → ⊥
-entry_past m a f n i b h e k g = search (rules, as_kind, one_found)
-
 -- the elements of a list of structs
 pub element_goes : (m : List (List ℕ)) (a : Spot) {f : Found} {n : ℕ} (d p : ℕ) {i : ℕ} → IsFound m a f → f.kind ≡ Structs n d p → i < n
     → StepsTo m a (Item i) (element f.place.segment (f.place.start + 1 + i * (d + p)) d p)
 element_goes m (word s w) {f} {n} d p h e lt = search (rules, as_kind)
 element_goes m (element t' b' ds ps) {f} {n} d p h e lt = absurd (as_kind m (element t' b' ds ps) f (Structs n d p) h e)
-
-pub element_past : (m : List (List ℕ)) (a : Spot) {f : Found} {n : ℕ} (d p : ℕ) {i : ℕ} (b : Spot) → IsFound m a f → f.kind ≡ Structs n d p → n ≤ i
-    → StepsTo m a (Item i) b → ⊥
-element_past m (word s w) {f} {n} d p b h e past (inl (k, t, c, q, tag, size, found, less, ends)) =
-    search (rules, as_kind, one_found)
-element_past m (word s w) {f} {n} d p b h e past (inr (k, t, c, q, tag, size, ds, ps, found, less, ends)) =
-    search (rules, as_kind, one_found)
-element_past m (element t' b' ds ps) d p b h e past g = absurd g
 
 -- an element lies inside its segment
 pub element_inside : (m : List (List ℕ)) (a : Spot) {f : Found} {n : ℕ} (d p : ℕ) {i : ℕ} → IsFound m a f → f.kind ≡ Structs n d p → i < n

@@ -2,7 +2,7 @@
 use mathlib.Core.List.{reverse_aux}
 use Rattle.cap_spec.proofs.Paths.Preorder.{Before-trans}
 use Rattle.cap_spec.proofs.ProofNames.{List, [], append-nil, arith, inl, inr, length, refl, reverse, subst, sym, ℕ, ◌+◌}
-use Rattle.cap_spec.proofs.ProofNames.{◌∙◌, ◌∷◌, ◌≡◌, ◌⊎◌, IsOneOf, Before, IsTour, Rises, rules}
+use Rattle.cap_spec.proofs.ProofNames.{◌∷◌, ◌≡◌, ◌⊎◌, IsOneOf, Before, IsTour, Rises, rules}
 use Rattle.cap_vet.specs.VetNames.{Step, Ahead, Apart, EachApart, Falls, IsTrail, IsUnder}
 use Rattle.cap_vet.proofs.Apart.{Apart-right, Apart-trans, longer-differs, not_apart-self, not_before-apart}
 use Rattle.cap_vet.proofs.Apart.{not_before-self}
@@ -86,12 +86,7 @@ Apart-under a q (b ∷ ahead) h (inr k) = Apart-trans a.path b.path q h.0 (Apart
 -- what a path reaches up to the head of what is ahead was looked at, or is the head
 pub up_to_head : (a : Ahead) (seen : List (List Step)) (ahead : List Ahead) (q : List Step) → EachApart (a ∷ ahead)
     → IsOneOf q seen ⊎ IsUnder q (a ∷ ahead) → (q ≡ a.path) ⊎ Before q a.path → IsOneOf q (a.path ∷ seen)
-up_to_head a seen ahead q apart (inl h) k = inr h
-up_to_head a seen ahead q apart (inr (inl ([], e))) k = inl (e ∙ append-nil a.path)
-up_to_head a seen ahead q apart (inr (inl (x ∷ v, e))) (inl k) = absurd (longer-differs a.path x v (sym e ∙ k))
-up_to_head a seen ahead q apart (inr (inl (x ∷ v, e))) (inr k) = absurd (not_before-self a.path (x ∷ v) (subst (λ u. Before u a.path) e k))
-up_to_head a seen ahead q apart (inr (inr h)) (inl k) = absurd (not_apart-self a.path (subst (Apart a.path) k (Apart-under a q ahead apart h)))
-up_to_head a seen ahead q apart (inr (inr h)) (inr k) = absurd (not_before-apart a.path q (Apart-under a q ahead apart h) k)
+up_to_head a seen ahead q apart x6 k = search (rules, append-nil, longer-differs, not_before-self, not_apart-self, Apart-under, not_before-apart)
 
 none_after-head : (a : Ahead) (seen : List (List Step)) (q : List Step) → Falls (a.path ∷ seen) → IsOneOf q (a.path ∷ seen) → (q ≡ a.path) ⊎ Before q a.path
 none_after-head a seen q f (inl e) = inl e

@@ -2,7 +2,7 @@
 use Rattle.cap_spec.specs.declared.Step.{Step}
 use Rattle.cap_spec.proofs.Paths.Preorder.{Before-longer}
 use Rattle.cap_spec.proofs.ProofNames.{List, [], append-nil, inl, inr, subst, sym, ℕ, ◌++◌, ◌∙◌, ◌∷◌, ◌≡◌, ◌⊎◌, IsOneOf}
-use Rattle.cap_spec.proofs.ProofNames.{Before, Reaches}
+use Rattle.cap_spec.proofs.ProofNames.{Reaches, rules}
 use Rattle.cap_vet.specs.Trails.{Ahead, Apart, AreReached, EachApart, Falls, GoOnFrom, IsTrail, IsUnder, Precedes}
 use Rattle.cap_vet.proofs.Apart.{Apart-left, apart-before}
 
@@ -40,10 +40,7 @@ apart-step a children (b ∷ ahead) h k g = EachApart-append a.path children b a
 precedes-step : (a : Ahead) (seen : List (List Step)) (children ahead : List Ahead) → EachApart (a ∷ ahead)
     → GoOnFrom a.path children → Precedes (a.path ∷ seen) (children ++ ahead)
 precedes-step a seen [] [] h g = tt
-precedes-step a seen [] (b ∷ ahead) h g = apart-before a.path b.path h.0
-precedes-step a seen (c ∷ children) ahead h g =
-    let e = g.0.2 in
-    subst (λ u. Before a.path u) (sym e) (Before-longer a.path g.0.0 g.0.1)
+precedes-step a seen children ahead h g = search (rules, apart-before, Before-longer)
 
 -- a path under a list is under one whose first member is looked at and replaced by its children, or is that member
 complete-step : (a : Ahead) (seen : List (List Step)) (children ahead : List Ahead) (q : List Step)

@@ -5,7 +5,7 @@ use Rattle.cap_spec.proofs.ProofNames.{map, max, refl, subst, sym, ℕ, ◌++◌
 use Rattle.cap_spec.proofs.ProofNames.{Finds, AreShallow, IsComposite, Leads, extra}
 use Rattle.cap_spec.proofs.ProofNames.{to_cap, to_null, IsOneOf, HasWord, Before, Costs, PathLeads, Reaches, Spot, StepsTo}
 use Rattle.cap_spec.proofs.ProofNames.{word, extent, kind, CostOf, IsDeepAt, levels_below}
-use Rattle.cap_vet.specs.VetNames.{Step, Item, Ptr, object_children, IsCount, PointerWord, pointer_word_of, Ahead, Falls}
+use Rattle.cap_vet.specs.VetNames.{Step, object_children, IsCount, PointerWord, pointer_word_of, Ahead, Falls}
 use Rattle.cap_vet.specs.VetNames.{or_place, IsFirstOf, Progress}
 use Rattle.cap_vet.specs.Walking.{LeadsToCap}
 use Rattle.cap_vet.proofs.Apart.{not_before-self}
@@ -33,15 +33,11 @@ next_ahead x places (a ∷ ahead) e = search rules
 -- null and capabilities lead to no node
 pub null_ends : (m : List (List ℕ)) (s w k : ℕ) → Leads m s w k to_null
     → (x : Step) (v : List Step) (mid : Spot) (n s' w' : ℕ) → StepsTo m (word s w) x mid → PathLeads m mid v n (word s' w') → ⊥
-null_ends m s w k h (Ptr i) v mid n s' w' (k', t', b', q', tag, ds, ps, f', l, spot) walks = null_no_object m s w k k' t' b' q' h f'.finds
-null_ends m s w k h (Item i) v mid n s' w' (inl (k', t', b', q', tag, size, f', l, spot)) walks = null_no_object m s w k k' t' b' q' h f'.finds
-null_ends m s w k h (Item i) v mid n s' w' (inr (k', t', b', q', tag, size, ds, ps, f', l, spot)) walks = null_no_object m s w k k' t' b' q' h f'.finds
+null_ends m s w k h x v mid n s' w' x12 walks = search (rules, null_no_object)
 
 pub cap_ends : (m : List (List ℕ)) (s w k i : ℕ) → Leads m s w k (to_cap i)
     → (x : Step) (v : List Step) (mid : Spot) (n s' w' : ℕ) → StepsTo m (word s w) x mid → PathLeads m mid v n (word s' w') → ⊥
-cap_ends m s w k i h (Ptr j) v mid n s' w' (k', t', b', q', tag, ds, ps, f', l, spot) walks = cap_no_object m s w k i k' t' b' q' h f'.finds
-cap_ends m s w k i h (Item j) v mid n s' w' (inl (k', t', b', q', tag, size, f', l, spot)) walks = cap_no_object m s w k i k' t' b' q' h f'.finds
-cap_ends m s w k i h (Item j) v mid n s' w' (inr (k', t', b', q', tag, size, ds, ps, f', l, spot)) walks = cap_no_object m s w k i k' t' b' q' h f'.finds
+cap_ends m s w k i h x v mid n s' w' x13 walks = search (rules, cap_no_object)
 
 -- one more path that costs this much
 pub costs_on : (m : List (List ℕ)) (p : List Step) (seen : List (List Step)) (level s w cost charge : ℕ)

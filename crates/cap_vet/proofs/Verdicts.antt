@@ -3,7 +3,7 @@ use Rattle.cap_spec.specs.declared.Reason.TheVariants.{NoRoot}
 use Rattle.cap_spec.proofs.Frames.Messages.{HasWord-at}
 use Rattle.cap_spec.proofs.Lemmas.{fault_tour}
 use Rattle.cap_spec.proofs.ProofNames.{List, None, Option, Some, [], arith, inl, inr, length, length-append, map, refl}
-use Rattle.cap_spec.proofs.ProofNames.{reverse, subst, sym, ℕ, ◌++◌, ◌+◌, ◌<◌, ◌∷◌, ◌≡◌, Denotes, HasNoRoot, IsFaultAt}
+use Rattle.cap_spec.proofs.ProofNames.{reverse, subst, sym, ℕ, ◌++◌, ◌+◌, ◌<◌, ◌∷◌, ◌≡◌, HasNoRoot, IsFaultAt}
 use Rattle.cap_spec.proofs.ProofNames.{IsFirstFault, AreShallow, IsFirstReason, IsOneOf, segment_of, IsTour, Reaches, CostOf}
 use Rattle.cap_spec.proofs.ProofNames.{common_steps, rules}
 use Rattle.cap_spec.proofs.Verdicts.OneFault.{none_before}
@@ -124,55 +124,16 @@ accepted_at_end {m} {words} {depth} {report} seen ahead w =
     subst (Progress m words depth report.charge report.depth report.pointers report.caps report.first_cap seen) none w.progress in
     let (t, d, whole) = p.count.completes 0 0 0 0 (refl, refl, refl, refl) in
     let e : report.charge + 0 ≡ report.charge = omega arith in
-    let f : d ≡ report.depth = omega (arith, whole.depth) in (
-      t,
-      record {
-        within = record {
-          denotes = subst (λ u. Denotes m 0 0 t u report.depth) e (subst (λ u. Denotes m 0 0 t (report.charge + 0) u) f whole.denotes);
-          few_words = p.within;
-          few_levels = p.shallow;
-        };
-        pointers = omega (arith, whole.pointer_total);
-        caps = omega (arith, whole.cap_total);
-        first_cap = whole_first_cap m seen report.first_cap p.trail p.first_cap;
-        few = omega (arith, p.bound, p.within);
-      },
-    )
+    let f : d ≡ report.depth = omega (arith, whole.depth) in search (rules, whole_first_cap)
 
 -- What is accepted within limits is accepted within the greatest.
 pub vetted_within : (m : List (List ℕ)) (limits : Limits) (report : Report) → IsAccepted m (words_of limits) (depth_of limits) report → IsVetted m report
-vetted_within m limits report (t, a) = (
-  t,
-  record {
-    within = record {
-      denotes = a.within.denotes;
-      few_words = omega (arith, a.within.few_words, limits.few);
-      few_levels = omega (arith, a.within.few_levels, limits.shallow);
-    };
-    pointers = a.pointers;
-    caps = a.caps;
-    first_cap = a.first_cap;
-    few = omega (arith, a.few, limits.few);
-  },
-)
+vetted_within m limits report (t, a) = search rules
 
 -- what the root's word completes is the root's tree
 count_at_start : (m : List (List ℕ)) → IsCount m record { charge = 0; depth = 0; pointers = 0; caps = 0 }
     (record { path = []; segment = 0; word = 0; level = 1 } ∷ [])
-count_at_start m = record {
-  completes = λ charge top pointers caps (t, c, d, c', top', p', k', own, (f1, f2, f3, f4), e1, e2, e3, e4).
-      let e : c ≡ 0 + charge = omega (arith, e1, f1) in (
-        t,
-        d,
-        record {
-          denotes = subst (λ u. Denotes m 0 0 t u d) e own;
-          depth = omega (arith, e2, f2);
-          pointer_total =
-              omega (arith, e3, f3);
-          cap_total = omega (arith, e4, f4);
-        },
-      );
-}
+count_at_start m = search rules
 
 -- Before the first word nothing was looked at, and the root is ahead.
 starts : (m : List (List ℕ)) (words depth : ℕ) (report : Report) → 0 < length m → 0 < length (segment_of m 0)

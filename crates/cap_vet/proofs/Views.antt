@@ -1,6 +1,6 @@
 -- What a view shows, by its kind.
 use Rattle.cap_spec.specs.Showing.{bit_of, byte_of, count_of, scalar_of}
-use Rattle.cap_spec.specs.declared.Kind.TheVariants.{Cap, Null, Pointers, Scalars, Struct, Structs}
+use Rattle.cap_spec.specs.declared.Kind.TheVariants.{Pointers, Scalars, Struct, Structs}
 use Rattle.cap_spec.proofs.Lemmas.{short_segment, range_length, word_within}
 use Rattle.cap_spec.proofs.ProofNames.{List, None, Option, Some, ap, arith, get_or, inl, inr, length, min, option_map}
 use Rattle.cap_spec.proofs.ProofNames.{refl, slice_get, sym, ℕ, ◌%◌, ◌*◌, ◌+◌, ◌-◌, ◌/◌, ◌<◌, ◌==◌, ◌^◌, ◌∙◌, ◌≡◌}
@@ -13,12 +13,7 @@ use Rattle.cap_vet.specs.VetNames.{Kind, own_words}
 
 -- the kind of what is shown
 pub kind_shown : (m : List (List ℕ)) {k : Kind} (t b : ℕ) {n : ℕ} → own_words k ≤ n → b + n ≤ length (segment_of m t) → k ≡ kind_of (own_at m k t b)
-kind_shown m {k = Null} t b own inside = refl
-kind_shown m {k = Cap i} t b own inside = refl
-kind_shown m {k = Struct d p} t b own inside = ap (λ x. Struct x p) (sym (range_length m t b d (omega (arith, own, inside))))
-kind_shown m {k = Scalars c x} t b own inside = ap (Scalars c) (sym (length-values m t b c x))
-kind_shown m {k = Pointers x} t b own inside = refl
-kind_shown m {k = Structs x d p} t b own inside = refl
+kind_shown m {k = k} t b own inside = search (rules, range_length, length-values)
 
 -- how many elements a list shows
 pub count_shown : (m : List (List ℕ)) {k : Kind} (t b : ℕ) {n : ℕ} → ((c : ℕ) × (k ≡ Scalars c n))

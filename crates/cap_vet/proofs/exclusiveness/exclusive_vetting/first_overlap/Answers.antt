@@ -1,9 +1,6 @@
-use Rattle.cap_vet.proofs.MarkingWalk.{ends_marking, root_there}
+use Rattle.cap_vet.proofs.MarkingWalk.{ends_marking}
 use Rattle.cap_vet.proofs.OneReport.{not_both}
 use Rattle.cap_vet.proofs.exclusiveness.exclusive_vetting.first_overlap.Goals as goal
-
-pub mark_message-requires-clause-root : goal.mark_message-requires-clause-root
-mark_message-requires-clause-root g c = root_there (g.M.Segments.segments c.args.message.now) _ _ _ c.requires.accepted.1
 
 pub returns : goal.returns
 returns g c =

@@ -15,6 +15,4 @@ walk-requires g c =
     )
 
 pub returns-in-Ok-clause-ok : goal.returns-in-Ok-clause-ok
-returns-in-Ok-clause-ok g c =
-    let w = c.in-Ok.ensures.ok in
-    record { seen = w.seen; ahead = w.ahead; walks = w.walks; known = (knows_overlap _ _ c.walk.new.turn.marks _ w.known.0, w.known.1) }
+returns-in-Ok-clause-ok g c = search (rules, knows_overlap)

@@ -1,5 +1,5 @@
 use Rattle.cap_spec.proofs.Disjoint.Overlaps.{none_of_disjoint, one_overlap}
-use Rattle.cap_spec.proofs.ProofNames.{Err, ap, inl, inr}
+use Rattle.cap_spec.proofs.ProofNames.{Err, ap, inl, inr, rules}
 use Rattle.cap_vet.specs.VetNames.{depth_of, report_of, words_of}
 use Rattle.cap_vet.specs.declared.exclusiveness.exclusive_vetting.ExclusiveRefusal.TheVariants.{Refused}
 use Rattle.cap_vet.proofs.Demanding.{no_fault_under, one_fault_under}
@@ -8,14 +8,10 @@ use Rattle.cap_vet.proofs.MarkingWalk.{disjoint_bound}
 use Rattle.cap_vet.proofs.exclusiveness.exclusive_vetting.vet_exclusive.Goals as goal
 
 pub returns-in_default-clause-refuses : goal.returns-in_default-clause-refuses
-returns-in_default-clause-refuses g c = λ r h. ap Err
-    (only_refused c.args.demands _ (words_of c.args.limits) (depth_of c.args.limits) c.without_marks-in_default.result r
-    c.without_marks-in_default.ensures h)
+returns-in_default-clause-refuses g c = search (rules, only_refused)
 
 pub returns-in_default-clause-accepts : goal.returns-in_default-clause-accepts
-returns-in_default-clause-accepts g c = λ met disjoint. inr (ap Err
-    (only_memory c.args.demands _ (words_of c.args.limits) (depth_of c.args.limits) c.without_marks-in_default.result
-    c.without_marks-in_default.ensures met disjoint))
+returns-in_default-clause-accepts g c = search (rules, only_memory)
 
 pub returns-in_default-clause-names : goal.returns-in_default-clause-names
 returns-in_default-clause-names g c = λ s w n met first. elim

@@ -1,5 +1,5 @@
 use Rattle.cap_spec.proofs.Frames.Messages.{HasWord-at}
-use Rattle.cap_spec.proofs.ProofNames.{arith, inl, inr, length, rules, ℕ, ◌<◌, HasWord, IsMessage, segment_of}
+use Rattle.cap_spec.proofs.ProofNames.{arith, inr, length, rules, ℕ, ◌<◌, HasWord, IsMessage, segment_of}
 use Rattle.cap_ptr.specs.Shapes.{charge_of}
 use Rattle.cap_vet.proofs.Charging.{arrives_root, fault_root}
 use Rattle.cap_vet.proofs.Looks.{followed_costs, followed_shallow}
@@ -7,10 +7,7 @@ use Rattle.cap_vet.proofs.Verdicts.{no_root_at}
 use Rattle.cap_vet.proofs.nodes.charged.at_root.Goals as goal
 
 pub returns-then-len-eq0-clause-err : goal.returns-then-len-eq0-clause-err
-returns-then-len-eq0-clause-err g c = λ path.
-    let m = g.M.Segments.segments c.args.message.now in
-    let some : 0 < length m = search rules in
-    inl (no_root_at m some (omega (arith, c.len.ensures, c.if-len-eq0.true)))
+returns-then-len-eq0-clause-err g c = search (rules, no_root_at)
 
 pub returns-in-Ok-clause-ok : goal.returns-in-Ok-clause-ok
 returns-in-Ok-clause-ok g c =
@@ -24,12 +21,12 @@ returns-in-Ok-clause-ok g c =
     (omega (arith, c.charge.ensures, h.within)) (followed_shallow m _ c.in-Ok.followed h.followed h.shallow)
     c.first_lax.ensures
 
-pub first_lax-requires-clause-followed : goal.first_lax-requires-clause-followed
-first_lax-requires-clause-followed g c = (charge_of c.in-Ok.followed, followed_costs _ 0 0 c.in-Ok.followed c.in-Ok.ensures.ok.followed)
-
 pub returns-in-Err-clause-err : goal.returns-in-Err-clause-err
 returns-in-Err-clause-err g c = λ path.
     let m = g.M.Segments.segments c.args.message.now in
     let some : 0 < length (segment_of m 0) = omega (arith, c.if-len-eq0.false, c.len.ensures) in
     let root : (x : ℕ) × HasWord m 0 0 x = HasWord-at m 0 0 some in
     inr (fault_root m _ _ root.0 path _ root.1 (c.in-Err.ensures.err c.args.words 0 (omega arith) (omega arith)))
+
+pub first_lax-requires-clause-followed : goal.first_lax-requires-clause-followed
+first_lax-requires-clause-followed g c = (charge_of c.in-Ok.followed, followed_costs _ 0 0 c.in-Ok.followed c.in-Ok.ensures.ok.followed)

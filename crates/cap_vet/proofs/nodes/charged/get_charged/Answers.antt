@@ -95,21 +95,6 @@ returns-clause-refuses g c = λ r refused.
     let on : AreOnPath m path h.1.ways = subst (λ u. AreOnPath m u h.1.ways) whole h.1.on_path in
     absurd (path_not_refused m _ _ path h.1.ways c.loop-step.at.consumed r on h.1.some h.1.costs h.1.shallow h.1.within refused))
 
-pub returns-in-Err-clause-ok : goal.returns-in-Err-clause-ok
-returns-in-Err-clause-ok g c = tt
-
-pub returns-in-Err-clause-none : goal.returns-in-Err-clause-none
-returns-in-Err-clause-none g c = tt
-
-pub returns-in-Err-clause-err : goal.returns-in-Err-clause-err
-returns-in-Err-clause-err g c = c.in-Err.ensures.err c.args.path.now
-
-pub returns-in-Err-step-clause-unchanged : goal.returns-in-Err-step-clause-unchanged
-returns-in-Err-step-clause-unchanged g c = c.loop-step.invariant.kept
-
-pub returns-clause-none : goal.returns-clause-none
-returns-clause-none g c = tt
-
 pub step-requires-clause-arrived : goal.step-requires-clause-arrived
 step-requires-clause-arrived g c =
     let h = c.loop-step.invariant.arrived in

@@ -1,13 +1,10 @@
 -- The path is followed by looks alone.
-use Rattle.cap_spec.proofs.ProofNames.{List, Option, [], ap, append_assoc, arith, refl, subst, sym, ◌++◌, ◌∙◌, ◌∷◌, word}
+use Rattle.cap_spec.proofs.ProofNames.{List, Option, [], ap, append_assoc, arith, subst, sym, ◌++◌, ◌∙◌, ◌∷◌}
 use Rattle.cap_vet.specs.VetNames.{Step, IsWay, SomeArrives, To, LaxPointer}
 use Rattle.cap_vet.proofs.PathWays.{done_steps}
 use Rattle.cap_vet.proofs.AtSomePlace.{arrival_few, arrival_levels}
 use Rattle.cap_vet.proofs.StepsGiven.{no_step_given, step_given}
 use Rattle.cap_vet.proofs.nodes.getting.follow_near.Goals as goal
-
-pub loop-step-init : goal.loop-step-init
-loop-step-init g c = ([], (word 0 0, c.in_ok-at.ensures.at), λ steps left. (steps, refl, left), c.in_ok-at.ensures.strict)
 
 pub step_near-requires-clause-arrived : goal.step_near-requires-clause-arrived
 step_near-requires-clause-arrived g c =
@@ -22,9 +19,6 @@ pub step_near-requires-clause-few : goal.step_near-requires-clause-few
 step_near-requires-clause-few g c =
     let l = arrival_few _ _ _ c.loop-step.at (step_near-requires-clause-arrived g c) in
     omega (arith, l)
-
-pub step_near-requires-clause-strict : goal.step_near-requires-clause-strict
-step_near-requires-clause-strict g c = c.loop-step.invariant.3
 
 pub loop-step-preserved : goal.loop-step-preserved
 loop-step-preserved g c =

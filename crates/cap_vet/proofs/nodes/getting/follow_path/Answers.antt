@@ -2,8 +2,5 @@
 use Rattle.std.proofs.Math.Logic.{∥∥₁_map}
 use Rattle.cap_vet.proofs.nodes.getting.follow_path.Goals as goal
 
-pub returns-in-Some-clause-way : goal.returns-in-Some-clause-way
-returns-in-Some-clause-way g c = λ steps left. c.in-Some.ensures.way steps left
-
 pub returns-in-Some-clause-leads : goal.returns-in-Some-clause-leads
 returns-in-Some-clause-leads g c = ∥∥₁_map c.in-Some.ensures.leads (λ r. (r.0, (r.1, r.2)))

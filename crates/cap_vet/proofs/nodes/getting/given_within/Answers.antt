@@ -1,12 +1,11 @@
--- What looks alone find is given, or else what any following finds.
+use Rattle.cap_spec.proofs.ProofNames.{rules}
 use Rattle.std.proofs.Math.Logic.{∥∥₁_map}
 use Rattle.cap_vet.specs.declared.nodes.way.Way.TheVariants.{To}
 use Rattle.cap_vet.proofs.PathWays.{way_as}
 use Rattle.cap_vet.proofs.AtSomePlace.{way_found}
 use Rattle.cap_vet.proofs.nodes.getting.given_within.Goals as goal
 
-pub given-requires : goal.given-requires
-given-requires g c = record { found = ∥∥₁_map c.in-Some.ensures.leads (λ r. (r.1, r.2.found)) }
+-- What looks alone find is given, or else what any following finds.
 
 pub returns-in-Some-clause-given : goal.returns-in-Some-clause-given
 returns-in-Some-clause-given g c = λ most deepest steps left under deep.
@@ -16,9 +15,7 @@ returns-in-Some-clause-given g c = λ most deepest steps left under deep.
     (c.in-Some.ensures.way steps left))
 
 pub given-requires-in-None : goal.given-requires-in-None
-given-requires-in-None g c =
-    let m = g.M.Segments.segments c.args.message.now in
-    record { found = way_found m c.args.words c.args.depth c.follow_any.result c.follow_any.ensures.leads }
+given-requires-in-None g c = search (rules, way_found)
 
 pub returns-in-None-clause-given : goal.returns-in-None-clause-given
 returns-in-None-clause-given g c = λ most deepest steps left under deep.
@@ -26,3 +23,6 @@ returns-in-None-clause-given g c = λ most deepest steps left under deep.
     c.given-in-None.ensures.given most deepest steps
     (way_as m steps c.follow_any.result under deep
     (c.follow_any.ensures.way steps left))
+
+pub given-requires : goal.given-requires
+given-requires g c = record { found = ∥∥₁_map c.in-Some.ensures.leads (λ r. (r.1, r.2.found)) }

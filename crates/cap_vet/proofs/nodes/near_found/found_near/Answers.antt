@@ -1,4 +1,4 @@
-use Rattle.cap_spec.proofs.ProofNames.{arith, rules, sym, IsMessage}
+use Rattle.cap_spec.proofs.ProofNames.{rules, sym, IsMessage}
 use Rattle.cap_ptr.proofs.Pads.{lies-near}
 use Rattle.cap_vet.proofs.NearFound.{finds_null, near_fits, not_near}
 use Rattle.cap_vet.proofs.nodes.near_found.found_near.Goals as goal
@@ -15,11 +15,7 @@ returns-in-Some-clause-found g c =
     c.object_within.ensures.found m c.args.s c.args.w (c.in-Some.ensures.target m c.word-word.ensures (sym c.len.ensures)) c.in-Some.ensures.here.1
 
 pub returns-clause-found : goal.returns-clause-found
-returns-clause-found g c =
-    let m = g.M.Segments.segments c.args.message.now in
-    let list = c.in_ok-list.ensures in
-    c.object_within-2.ensures.found m c.args.s c.args.w
-    (list.found c.args.s c.args.w (lies-near m c.args.s c.args.w c.word-word.result c.word-word.ensures (λ k. omega (arith, k, list.list)))) list.over
+returns-clause-found g c = search (rules, lies-near)
 
 pub returns-in_err-list-clause-some : goal.returns-in_err-list-clause-some
 returns-in_err-list-clause-some g c = λ near.
@@ -34,8 +30,4 @@ returns-clause-some g c = λ near.
     c.if-word-eq0.false (λ r. c.in_default.ensures.none m r c.word-word.ensures (sym c.len.ensures)) near)
 
 pub returns-in-Some-clause-some : goal.returns-in-Some-clause-some
-returns-in-Some-clause-some g c = λ near.
-    let m = g.M.Segments.segments c.args.message.now in
-    let fits = near_fits m c.args.left c.args.depth c.args.s c.args.w c.args.level c.word-word.result c.in-Some.target
-    c.word-word.ensures c.if-word-eq0.false (c.in-Some.ensures.target m c.word-word.ensures (sym c.len.ensures)) near in
-    c.object_within.ensures.some fits.0 fits.1
+returns-in-Some-clause-some g c = search (rules, near_fits)

@@ -1,4 +1,3 @@
--- One fault, or none.
 use Rattle.cap_spec.specs.declared.StrictRefusal.TheVariants.{Refused}
 use Rattle.cap_spec.proofs.ProofNames.{Err, ap, false, refl, rules, true, IsMessage}
 use Rattle.cap_spec.proofs.Strict.Faults.{one_strict_fault, strict_not_fault}
@@ -6,6 +5,8 @@ use Rattle.cap_vet.specs.Limits.{depth_of, words_of}
 use Rattle.cap_vet.proofs.Laxness.{fault_at_end, strict_at_end, strict_within, within_of}
 use Rattle.cap_vet.proofs.Verdicts.{accepted_at_end, vetted_within}
 use Rattle.cap_vet.proofs.strictness.strict_vetting.vet_strict.Goals as goal
+
+-- One fault, or none.
 
 pub returns-in-Err-Refused-clause-accepts : goal.returns-in-Err-Refused-clause-accepts
 returns-in-Err-Refused-clause-accepts g c = λ strict. absurd

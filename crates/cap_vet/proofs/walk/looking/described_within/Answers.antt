@@ -1,6 +1,5 @@
 use Rattle.cap_spec.proofs.Lemmas.{one_word, leads-near}
-use Rattle.cap_spec.proofs.ProofNames.{IfSome, None, Option, Some, arith, rules, subst, sym, ◌<◌, ◌≢◌, IsMessage, kind}
-use Rattle.cap_vet.specs.Looking.{IsObjectWord}
+use Rattle.cap_spec.proofs.ProofNames.{IfSome, None, Option, Some, arith, rules, sym, IsMessage}
 use Rattle.cap_vet.proofs.walk.looking.described_within.Goals as goal
 
 if_some : {A B : Type 0} (o : Option A) → B → IfSome o (λ _. B)
@@ -30,21 +29,7 @@ returns-clause-looked g c = λ s w lies.
     c.target_within.ensures m s w (list.found s w (lies c.word-word.result c.word-word.ensures (omega (arith, list.list))))
 
 pub returns-in-Some-clause-object : goal.returns-in-Some-clause-object
-returns-in-Some-clause-object g c =
-    let m = g.M.Segments.segments c.args.message.now in
-    let word = c.word-word.result in
-    let plain = c.in-Some.ensures.plain.0 in
-    let row = c.in-Some.ensures.row m c.args.segment c.word-word.ensures (sym c.len.ensures) in
-    let says = (leads-near m c.args.segment c.args.at 0 _ row.finds.leads word c.word-word.ensures (omega (arith, plain))).1 in
-    let object : IsObjectWord m c.args.segment c.args.at = λ q has.
-    subst (λ u. (kind u < 2) × (u ≢ 0)) (one_word m c.args.segment c.args.at word q c.word-word.ensures has) (says.0, says.1) in
-    if_some _ object
+returns-in-Some-clause-object g c = search (rules, leads-near, one_word, if_some)
 
 pub returns-clause-object : goal.returns-clause-object
-returns-clause-object g c =
-    let m = g.M.Segments.segments c.args.message.now in
-    let list = c.in_ok-list.ensures.list in
-    let object : IsObjectWord m c.args.segment c.args.at = λ q has.
-    subst (λ u. (kind u < 2) × (u ≢ 0)) (one_word m c.args.segment c.args.at c.word-word.result q c.word-word.ensures has)
-    (omega (arith, list), λ e. omega (arith, list, e)) in
-    if_some _ object
+returns-clause-object g c = search (rules, one_word, if_some)

@@ -11,10 +11,3 @@ pub returns-then-charge-left-clause-err : goal.returns-then-charge-left-clause-e
 returns-then-charge-left-clause-err g c = λ words before e le.
     followed_past c.in_ok-followed.followed c.in_ok-followed.ensures.ok
     (omega (arith, c.if-deepest_level-from.false, c.deepest_level.ensures, c.from.ensures)) (omega (arith, c.if-charge-left.true, c.charge.ensures, e)) le
-
-pub returns-clause-ok : goal.returns-clause-ok
-returns-clause-ok g c = record {
-  followed = c.in_ok-followed.ensures.ok;
-  within = omega (arith, c.if-charge-left.false, c.charge.ensures);
-  shallow = omega (arith, c.if-deepest_level-from.false, c.deepest_level.ensures, c.from.ensures);
-}

@@ -1,5 +1,5 @@
 use Rattle.cap_spec.proofs.Frames.Messages.{HasWord-at}
-use Rattle.cap_spec.proofs.ProofNames.{IfSome, None, Option, Some, arith, rules, ◌≡◌, kind, two}
+use Rattle.cap_spec.proofs.ProofNames.{IfSome, None, Option, Some, arith, rules}
 use Rattle.cap_ptr.proofs.Pads.{lies-one_pad}
 use Rattle.cap_vet.proofs.Laxness.{object_form}
 use Rattle.cap_vet.proofs.walk.looking.look_described.Goals as goal
@@ -24,13 +24,4 @@ returns-clause-looked g c =
     c.far_segment-segment.ensures c.pad-at.ensures has)
 
 pub returns-clause-strict : goal.returns-clause-strict
-returns-clause-strict g c =
-    let m = g.M.Segments.segments c.args.message.now in
-    let t = c.far_segment-segment.result in
-    let b = c.pad-at.result in
-    let far : kind c.word-word.result ≡ 2 = omega (arith, c.kind.ensures, c.if-kind-ne2.false) in
-    let one : two c.word-word.result ≡ 0 = omega (arith, c.two.ensures, c.if-two-ne0.false) in
-    some_mapped c.described_within.result c.described_within.ensures.object (λ object.
-    let (q, has) = HasWord-at m t b (search rules) in
-    object_form m c.args.s c.args.w c.word-word.result t b q c.word-word.ensures far one c.far_segment-segment.ensures
-    c.pad-at.ensures has (object q has))
+returns-clause-strict g c = search (rules, some_mapped, HasWord-at, object_form)

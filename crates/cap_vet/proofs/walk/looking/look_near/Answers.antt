@@ -1,5 +1,5 @@
 use Rattle.cap_spec.specs.Pointers.{IsCap}
-use Rattle.cap_spec.proofs.ProofNames.{arith, refl, near, cap_index}
+use Rattle.cap_spec.proofs.ProofNames.{arith, refl, near, cap_index, rules}
 use Rattle.cap_spec.proofs.Strict.Looking.{near_has_none}
 use Rattle.cap_ptr.proofs.Pads.{lies-near}
 use Rattle.cap_vet.proofs.walk.looking.look_near.Goals as goal
@@ -8,9 +8,6 @@ pub returns-then-word-eq0-clause-looked : goal.returns-then-word-eq0-clause-look
 returns-then-word-eq0-clause-looked g c =
     let e = c.if-word-eq0.true in
     (near c.word-word.result c.word-word.ensures (omega (arith, e)) e refl, omega (arith, c.requires.consumed))
-
-pub described_within-requires-clause-pointer : goal.described_within-requires-clause-pointer
-described_within-requires-clause-pointer g c = (c.args.s, c.args.w, λ q has object. lies-near _ c.args.s c.args.w q has (λ k. omega (arith, k, object)))
 
 pub returns-in-Some-clause-looked : goal.returns-in-Some-clause-looked
 returns-in-Some-clause-looked g c =
@@ -22,16 +19,13 @@ returns-then-is_cap-clause-looked g c =
     ((cap_index c.word-word.result, near c.word-word.result c.word-word.ensures (omega (arith, cap.0)) (cap, refl) refl), omega (arith, c.requires.consumed))
 
 pub returns-then-word-eq0-clause-strict : goal.returns-then-word-eq0-clause-strict
-returns-then-word-eq0-clause-strict g c =
-    let e = c.if-word-eq0.true in
-    near_has_none _ c.args.s c.args.w c.word-word.result c.word-word.ensures (omega (arith, e))
+returns-then-word-eq0-clause-strict g c = search (rules, near_has_none)
 
 pub returns-in-Some-clause-strict : goal.returns-in-Some-clause-strict
-returns-in-Some-clause-strict g c =
-    let object = c.in-Some.ensures.object c.word-word.result c.word-word.ensures in
-    near_has_none _ c.args.s c.args.w c.word-word.result c.word-word.ensures (omega (arith, object.0))
+returns-in-Some-clause-strict g c = search (rules, near_has_none)
 
 pub returns-then-is_cap-clause-strict : goal.returns-then-is_cap-clause-strict
-returns-then-is_cap-clause-strict g c =
-    let cap : IsCap c.word-word.result = c.is_cap.ensures.0 c.if-is_cap.true in
-    near_has_none _ c.args.s c.args.w c.word-word.result c.word-word.ensures (omega (arith, cap.0))
+returns-then-is_cap-clause-strict g c = search (rules, near_has_none)
+
+pub described_within-requires-clause-pointer : goal.described_within-requires-clause-pointer
+described_within-requires-clause-pointer g c = (c.args.s, c.args.w, λ q has object. lies-near _ c.args.s c.args.w q has (λ k. omega (arith, k, object)))

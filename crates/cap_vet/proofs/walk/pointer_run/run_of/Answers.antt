@@ -1,4 +1,5 @@
-use Rattle.std.proofs.Common.{arith, inl, inr, ◌+◌, ◌<◌, ◌∙◌, ◌≡◌}
+use Rattle.cap_spec.proofs.ProofNames.{rules}
+use Rattle.std.proofs.Common.{arith, inl, inr, ◌+◌, ◌<◌, ◌≡◌}
 use Rattle.cap_vet.proofs.ObjectRuns.{start_fits, struct_places, struct_capacity, structs_empty, structs_inside}
 use Rattle.cap_vet.proofs.ObjectRuns.{structs_places}
 use Rattle.cap_vet.proofs.walk.pointer_run.run_of.Goals as goal
@@ -15,9 +16,7 @@ overflow_add-result-in-Structs c =
     start_fits m s w q tag _ _ c.from-in-Structs.result fits g c.from-in-Structs.ensures c.if-count-eq0.false
 
 pub returns-in-Struct-clause-places : goal.returns-in-Struct-clause-places
-returns-in-Struct-clause-places c = λ m s w q tag f.
-    let g = rw c.in-Struct.is at f in
-    c.row_run.ensures.places ∙ struct_places m s w q tag _ c.args.level g (omega (arith, c.from.ensures)) c.from-in-Struct.ensures
+returns-in-Struct-clause-places c = search (rules, struct_places)
 
 pub returns-in-Struct-clause-inside : goal.returns-in-Struct-clause-inside
 returns-in-Struct-clause-inside c = λ m s w q tag f.

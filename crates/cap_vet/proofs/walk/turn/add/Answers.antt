@@ -1,5 +1,5 @@
-use Rattle.std.proofs.Common.{Bool, None, Option, Some, ap, arith, false, is_some, max, not, refl, true, ℕ, ◌+◌, ◌∙◌}
-use Rattle.std.proofs.Common.{◌≡◌}
+use Rattle.cap_spec.proofs.ProofNames.{rules}
+use Rattle.std.proofs.Common.{Bool, None, Option, Some, ap, false, is_some, max, not, refl, true, ℕ, ◌+◌, ◌∙◌, ◌≡◌}
 use Rattle.cap_vet.specs.VetNames.{added, or_place, Report, Object, PointerRun}
 use Rattle.cap_vet.specs.declared.nodes.place.Place.{Place}
 use Rattle.cap_vet.specs.declared.walk.looking.Looked.TheVariants.{Cap}
@@ -23,22 +23,11 @@ object_added : (r : Report) (s w cost deepest depth : ℕ) (run : Option Pointer
     (added r s w (Object cost deepest run place))
 object_added r s w cost deepest depth run place e = rw e refl
 
-pub returns-in-Null-clause-report : goal.returns-in-Null-clause-report
-returns-in-Null-clause-report c = rw c.in-Null.is refl
-
 pub returns-then-is_none-clause-report : goal.returns-then-is_none-clause-report
-returns-then-is_none-clause-report c =
-    let r = c.args.report.now in
-    rw c.in-Cap.is (cap_added r c.args.s c.args.w c.in-Cap.cost (Some (c.args.s, c.args.w))
-    (first_place r.first_cap c.args.s c.args.w c.is_none.result c.is_none.ensures c.if-is_none.true))
+returns-then-is_none-clause-report c = search (rules, cap_added, first_place)
 
 pub returns-else-is_none-clause-report : goal.returns-else-is_none-clause-report
-returns-else-is_none-clause-report c =
-    let r = c.args.report.now in
-    rw c.in-Cap.is (cap_added r c.args.s c.args.w c.in-Cap.cost r.first_cap
-    (later_place r.first_cap c.args.s c.args.w c.is_none.result c.is_none.ensures c.if-is_none.false))
+returns-else-is_none-clause-report c = search (rules, cap_added, later_place)
 
 pub returns-then-report-deepest-clause-report : goal.returns-then-report-deepest-clause-report
-returns-then-report-deepest-clause-report c =
-    rw c.in-Object.is (object_added c.args.report.now c.args.s c.args.w c.in-Object.cost c.in-Object.deepest c.in-Object.deepest c.in-Object.below c.in-Object.field-3
-    (omega (arith, c.if-report-deepest.true)))
+returns-then-report-deepest-clause-report c = search (rules, object_added)

@@ -3,9 +3,6 @@ use Rattle.cap_spec.proofs.ProofNames.{Err, ap, ◌∙◌, pointer_count}
 use Rattle.cap_vet.proofs.Verdicts.{accepted_at_end, vetted_within}
 use Rattle.cap_vet.proofs.walk.vetting.vet.Goals as goal
 
-pub returns-clause-ok : goal.returns-clause-ok
-returns-clause-ok g c = let w = c.in-Ok.ensures.ok in accepted_at_end w.seen w.ahead w.walks
-
 pub returns-clause-refuses : goal.returns-clause-refuses
 returns-clause-refuses g c = λ r h.
     let w = c.in-Ok.ensures.ok in
@@ -18,9 +15,6 @@ returns-clause-one g c = λ t charge d h.
     let a = accepted_at_end w.seen w.ahead w.walks in
     let same = one_tree _ 0 0 a.0 t _ _ charge d a.1.within.denotes h in
     (same.charge, same.depth, a.1.pointers ∙ ap pointer_count same.part)
-
-pub returns-in-Err-Refused-clause-err : goal.returns-in-Err-Refused-clause-err
-returns-in-Err-Refused-clause-err g c = rw c.in-Err-Refused.field-0-is (rw c.in-Err-Refused.field-0-is at c.in-Err-Refused.ensures.err)
 
 pub returns-in-Err-Refused-clause-justified : goal.returns-in-Err-Refused-clause-justified
 returns-in-Err-Refused-clause-justified g c = rw c.in-Err-Refused.field-0-is
@@ -39,3 +33,6 @@ pub invariant_of-result : goal.invariant_of-result
 invariant_of-result g c =
     let w = c.in-Ok.ensures.ok in
     record { accepted = ∣ vetted_within _ c.args.limits _ (accepted_at_end w.seen w.ahead w.walks) ∣₁ }
+
+pub returns-clause-ok : goal.returns-clause-ok
+returns-clause-ok g c = let w = c.in-Ok.ensures.ok in accepted_at_end w.seen w.ahead w.walks

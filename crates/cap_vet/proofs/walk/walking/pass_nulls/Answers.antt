@@ -1,4 +1,4 @@
-use Rattle.std.proofs.Common.{[], arith, rules, ◌<◌, ◌^◌}
+use Rattle.std.proofs.Common.{arith, rules, ◌<◌, ◌^◌}
 use Rattle.std.proofs.Math.Facts.{Fits-of_lt}
 use Rattle.cap_spec.proofs.Frames.Messages.{short_segment}
 use Rattle.cap_vet.proofs.Passing.{passes_on, topmost_few, topmost_in}
@@ -37,6 +37,3 @@ pub nulls-preserved : goal.nulls-preserved
 nulls-preserved g c = λ words depth runs seen ahead w.
     passes_on _ words depth runs seen c.args.run.now c.nulls.run c.args.report.now c.nulls.report c.nulls-test.true
     (rw c.if-word-eq0.true at c.word.ensures) (c.nulls.invariant words depth runs seen ahead w)
-
-pub nulls-init : goal.nulls-init
-nulls-init g c = λ words depth runs seen ahead w. record { nulls = []; later = ahead; are_null = tt; walks = w; less = omega arith }

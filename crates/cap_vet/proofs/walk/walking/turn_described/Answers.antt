@@ -3,18 +3,6 @@ use Rattle.cap_vet.proofs.Stacks.{looked_at, looked_costs, null_visited, visited
 use Rattle.cap_vet.proofs.UsedPlaces.{looked_place}
 use Rattle.cap_vet.proofs.walk.walking.turn_described.Goals as goal
 
-pub word-requires-clause-exists : goal.word-requires-clause-exists
-word-requires-clause-exists g c = c.requires.1.next.exists
-
-pub word-requires-clause-inside : goal.word-requires-clause-inside
-word-requires-clause-inside g c = c.requires.1.next.within
-
-pub look_described-requires-clause-exists : goal.look_described-requires-clause-exists
-look_described-requires-clause-exists g c = c.requires.1.next.exists
-
-pub look_described-requires-clause-inside : goal.look_described-requires-clause-inside
-look_described-requires-clause-inside g c = c.requires.1.next.within
-
 pub after-requires-clause-object : goal.after-requires-clause-object
 after-requires-clause-object g c =
     rw c.place-place.ensures (looked_place {m = g.M.Segments.segments c.args.message.now} _ _ _ c.args.level _ c.requires.1.next.exists c.in-Some.ensures.looked)
@@ -53,6 +41,3 @@ returns-in-Ok-clause-ok g c = λ runs at.
       walking = record { seen = n.a.path ∷ n.seen; ahead = v.later; walks = v.walks; known = known };
       less = v.less;
     })
-
-pub after-requires-clause-strict : goal.after-requires-clause-strict
-after-requires-clause-strict g c = λ _. c.in-Some.ensures.strict

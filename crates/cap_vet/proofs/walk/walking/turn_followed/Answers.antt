@@ -62,6 +62,3 @@ returns-in-Err g c =
     let at = next_at _ _ c.args.stack.now.items c.args.run.now _ _ _ c.requires.walking rest.1 in
     let fault = c.in-Err.ensures.err (c.args.stack.now.items ++ option_to_list rest.0) at.next in
     record { ok = tt; fits = tt; err = inr fault.0; known = inr (fault.0, at.next.seen, fault.1, at.known) }
-
-pub after-requires-clause-strict : goal.after-requires-clause-strict
-after-requires-clause-strict g c = λ f. absurd (cc f)

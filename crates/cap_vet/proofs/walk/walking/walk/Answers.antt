@@ -1,18 +1,12 @@
-use Rattle.cap_spec.proofs.ProofNames.{arith, inl, length, rules, ◌<◌, segment_of}
+use Rattle.cap_spec.proofs.ProofNames.{arith, length, rules, ◌<◌, segment_of}
 use Rattle.cap_vet.proofs.Verdicts.{begins, no_root_at}
 use Rattle.cap_vet.proofs.walk.walking.walk.Goals as goal
 
 pub returns-then-len-eq0-clause-err : goal.returns-then-len-eq0-clause-err
-returns-then-len-eq0-clause-err g c =
-    let m = g.M.Segments.segments c.args.message.now in
-    let some : 0 < length m = search rules in
-    inl (no_root_at m some (omega (arith, c.len.ensures, c.if-len-eq0.true)))
+returns-then-len-eq0-clause-err g c = search (rules, no_root_at)
 
 pub returns-then-len-eq0-clause-known : goal.returns-then-len-eq0-clause-known
-returns-then-len-eq0-clause-known g c =
-    let m = g.M.Segments.segments c.args.message.now in
-    let some : 0 < length m = search rules in
-    inl (no_root_at m some (omega (arith, c.len.ensures, c.if-len-eq0.true)), c.requires)
+returns-then-len-eq0-clause-known g c = search (rules, no_root_at)
 
 pub walk_on-requires : goal.walk_on-requires
 walk_on-requires g c =

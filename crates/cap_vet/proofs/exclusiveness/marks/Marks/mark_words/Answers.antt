@@ -1,3 +1,4 @@
+use Rattle.cap_spec.proofs.ProofNames.{rules}
 use Rattle.std.proofs.Common.{arith, slice_index_or, ◌+◌, ◌≡◌}
 use Rattle.cap_vet.specs.Taken.{start_of}
 use Rattle.cap_vet.proofs.Ranges.{marks_range, range_conflict, start_within}
@@ -5,22 +6,13 @@ use Rattle.cap_vet.proofs.MarkingWalk.{capacity_kept}
 use Rattle.cap_vet.proofs.exclusiveness.marks.Marks.mark_words.Goals as goal
 
 pub overflow_add-start : goal.overflow_add-start
-overflow_add-start c =
-    let (m, h) = c.requires in
-    let st : slice_index_or c.args.self.now.starts.now c.args.s 0 ≡ start_of m c.args.s = h.fits.known.each c.args.s h.exists in
-    omega (arith, st, start_within m c.args.s h.exists, c.from.ensures, h.inside, h.fits.known.few)
+overflow_add-start c = search (rules, start_within)
 
 pub set_bits-requires-clause-inside : goal.set_bits-requires-clause-inside
-set_bits-requires-clause-inside c =
-    let (m, h) = c.requires in
-    let st : slice_index_or c.args.self.now.starts.now c.args.s 0 ≡ start_of m c.args.s = h.fits.known.each c.args.s h.exists in
-    omega (arith, st, start_within m c.args.s h.exists, c.from.ensures, c.from-2.ensures, h.inside, h.fits.enough)
+set_bits-requires-clause-inside c = search (rules, start_within)
 
 pub set_bits-requires-clause-small : goal.set_bits-requires-clause-small
-set_bits-requires-clause-small c =
-    let (m, h) = c.requires in
-    let st : slice_index_or c.args.self.now.starts.now c.args.s 0 ≡ start_of m c.args.s = h.fits.known.each c.args.s h.exists in
-    omega (arith, st, start_within m c.args.s h.exists, c.from.ensures, c.from-2.ensures, h.inside, h.fits.known.few)
+set_bits-requires-clause-small c = search (rules, start_within)
 
 pub returns : goal.returns
 returns c = λ m h.

@@ -1,12 +1,10 @@
-use Rattle.std.proofs.Common.{arith, sym, ◌∙◌}
+use Rattle.cap_spec.proofs.ProofNames.{rules}
+use Rattle.std.proofs.Common.{sym, ◌∙◌}
 use Rattle.cap_vet.proofs.MarkingWalk.{known_marks, marks_known, still_overlaps, turn_on, turn_overlap}
 use Rattle.cap_vet.proofs.exclusiveness.overlap_turn.OverlapSearch.mark.Goals as goal
 
 pub mark_pointer-requires-clause-word : goal.mark_pointer-requires-clause-word
-mark_pointer-requires-clause-word g c =
-    let looked = c.requires.known.3 in
-    let known = marks_known _ _ c.args.self.now.marks _ (sym c.is_some.ensures ∙ c.if-is_some.false) c.requires.known.4 in
-    record { fits = known.fits; exists = looked.exists; inside = omega (arith, looked.inside) }
+mark_pointer-requires-clause-word g c = search (rules, marks_known)
 
 pub returns-then-is_some-clause-known : goal.returns-then-is_some-clause-known
 returns-then-is_some-clause-known g c = λ seen a cost l k.

@@ -5,9 +5,6 @@ use Rattle.cap_vet.proofs.Looks.{followed_costs, followed_shallow}
 use Rattle.cap_vet.proofs.AtSomePlace.{arrival_at_some_place, arrival_within, step_exists, step_inside}
 use Rattle.cap_vet.proofs.nodes.charged.Arrival.step.Goals as goal
 
-pub returns-in-None-clause-none : goal.returns-in-None-clause-none
-returns-in-None-clause-none g c = λ path a h. c.in-None.ensures _ a h.found
-
 pub returns-in-Ok-clause-some : goal.returns-in-Ok-clause-some
 returns-in-Ok-clause-some g c = λ path a h.
     let m = g.M.Segments.segments c.args.message.now in
@@ -20,9 +17,6 @@ returns-in-Ok-clause-some g c = λ path a h.
           (rw c.charge.ensures (followed_costs m _ _ c.in-Ok.followed r.followed)) (omega (arith, c.charge.ensures, r.within))
           (followed_shallow m _ c.in-Ok.followed r.followed r.shallow) c.first_lax.ensures,
     )
-
-pub first_lax-requires-clause-followed : goal.first_lax-requires-clause-followed
-first_lax-requires-clause-followed g c = (charge_of c.in-Ok.followed, followed_costs _ _ _ c.in-Ok.followed c.in-Ok.ensures.ok.followed)
 
 pub returns-in-Err-clause-err : goal.returns-in-Err-clause-err
 returns-in-Err-clause-err g c = λ path a h.
@@ -41,10 +35,7 @@ returns-in-Some-Element-clause-some g c = λ path a h.
     )
 
 pub step-requires : goal.step-requires
-step-requires g c =
-    let m = g.M.Segments.segments c.args.message.now in
-    let message : IsMessage m = search rules in
-    arrival_at_some_place m _ _ c.args.self.now c.requires.arrived message
+step-requires g c = search (rules, arrival_at_some_place)
 
 pub follow_within-requires-clause-exists : goal.follow_within-requires-clause-exists
 follow_within-requires-clause-exists g c =
@@ -61,6 +52,9 @@ first_lax-requires-clause-exists g c =
 pub first_lax-requires-clause-inside : goal.first_lax-requires-clause-inside
 first_lax-requires-clause-inside g c =
     step_inside _ _ _ c.args.self.now c.requires.arrived c.args.step _ _ (rw c.in-Some-Word.field-0-is at c.in-Some-Word.ensures)
+
+pub first_lax-requires-clause-followed : goal.first_lax-requires-clause-followed
+first_lax-requires-clause-followed g c = (charge_of c.in-Ok.followed, followed_costs _ _ _ c.in-Ok.followed c.in-Ok.ensures.ok.followed)
 
 pub overflow_sub-left : goal.overflow_sub-left
 overflow_sub-left g c = let l = arrival_within _ _ _ c.args.self.now c.requires.arrived in omega (arith, l)

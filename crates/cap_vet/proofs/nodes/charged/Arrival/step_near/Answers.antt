@@ -1,18 +1,13 @@
--- One step on, by a look at its pointer.
-use Rattle.cap_spec.proofs.ProofNames.{None, arith, rules, IsMessage, element, word}
+use Rattle.cap_spec.proofs.ProofNames.{None, arith, rules, element, word}
 use Rattle.cap_vet.proofs.Charging.{arrives_element, arrives_word}
 use Rattle.cap_vet.proofs.PathLax.{adds_none}
 use Rattle.cap_vet.proofs.AtSomePlace.{arrival_at_some_place, arrival_within, step_exists, step_inside}
 use Rattle.cap_vet.proofs.nodes.charged.Arrival.step_near.Goals as goal
 
-pub step-requires : goal.step-requires
-step-requires g c =
-    let m = g.M.Segments.segments c.args.message.now in
-    let message : IsMessage m = search rules in
-    arrival_at_some_place m _ _ c.args.self.now c.requires.arrived message
+-- One step on, by a look at its pointer.
 
-pub overflow_sub-left : goal.overflow_sub-left
-overflow_sub-left g c = let l = arrival_within _ _ _ c.args.self.now c.requires.arrived in omega (arith, l)
+pub step-requires : goal.step-requires
+step-requires g c = search (rules, arrival_at_some_place)
 
 pub found_near-requires-clause-exists : goal.found_near-requires-clause-exists
 found_near-requires-clause-exists g c =
@@ -42,3 +37,6 @@ returns-in-Some-Element-clause-on g c = λ path a h.
       rw c.at_element.ensures
           (arrives_element m _ _ path a c.args.self.now c.args.step e.segment e.start e.data_words e.pointers None c.requires.strict h goes.0 goes.1.0 goes.1.1),
     )
+
+pub overflow_sub-left : goal.overflow_sub-left
+overflow_sub-left g c = let l = arrival_within _ _ _ c.args.self.now c.requires.arrived in omega (arith, l)

@@ -1,13 +1,7 @@
 use Rattle.std.proofs.Common.{arith}
 use Rattle.cap_vet.proofs.AtSomePlace.{at_some_place_element, at_some_place_entry}
-use Rattle.cap_vet.proofs.Stepping.{element_goes, element_inside, element_past, entry_goes, entry_inside, entry_past}
+use Rattle.cap_vet.proofs.Stepping.{element_goes, element_inside, entry_goes, entry_inside}
 use Rattle.cap_vet.proofs.nodes.found.Found.item.Goals as goal
-
-pub returns-then-i-count : goal.returns-then-i-count
-returns-then-i-count c = λ m a h b g. entry_past m a _ _ _ b h c.in-Pointers.is c.if-i-count.true g
-
-pub returns-then-i-count-2 : goal.returns-then-i-count-2
-returns-then-i-count-2 c = λ m a h b g. element_past m a _ _ b h c.in-Structs.is c.if-i-count-2.true g
 
 pub returns-else-i-count : goal.returns-else-i-count
 returns-else-i-count c = λ m a h. (

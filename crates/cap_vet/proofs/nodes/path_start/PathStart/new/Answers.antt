@@ -9,6 +9,3 @@ returns-clause-start g c = λ steps left. record {
   deepest = c.depth-depth.ensures.value ∙ c.limits_under-limits.ensures.depth;
   way = c.follow_path.ensures.way steps left;
 }
-
-pub invariant_of-result : goal.invariant_of-result
-invariant_of-result g c = record { leads = c.follow_path.ensures.leads }

@@ -14,9 +14,6 @@ returns-in-None-clause-none g c =
     let lt : i < length path = omega (arith, c.loop-step-test.true) in
     comes_no_node _ path (take i path) (drop (suc i) path) (get_or path i (Ptr 0)) _ _ (split_at path i (Ptr 0) lt) c.loop-step.invariant.1.1 none
 
-pub returns-in-None-clause-node : goal.returns-in-None-clause-node
-returns-in-None-clause-node g c = λ t x d h. no_node _ c.args.path.now t x d (returns-in-None-clause-none g c) h
-
 pub loop-step-preserved : goal.loop-step-preserved
 loop-step-preserved g c =
     let path = c.args.path.now in
@@ -40,3 +37,6 @@ returns-clause-node g c = λ t x d h.
     coming_to_node _ t x d h c.args.path.now c.loop-step.invariant.1.0 _
     (subst (λ u. ReachesSpot (g.M.Segments.segments (message_of c.args.self.now)) u c.loop-step.invariant.1.0
     (node_spot c.loop-step.node)) whole c.loop-step.invariant.1.1)
+
+pub returns-in-None-clause-node : goal.returns-in-None-clause-node
+returns-in-None-clause-node g c = λ t x d h. no_node _ c.args.path.now t x d (returns-in-None-clause-none g c) h

@@ -1,10 +1,7 @@
-use Rattle.std.proofs.Common.{inl, rules}
+use Rattle.std.proofs.Common.{inl}
 use Rattle.cap_spec.proofs.Disjoint.Overlaps.{none_of_disjoint, one_overlap}
 use Rattle.cap_vet.proofs.Keeping.{vetted_kept}
 use Rattle.cap_vet.proofs.nodes.vetted.Vetted.into_exclusive.Goals as goal
-
-pub first_overlap-requires-clause-accepted : goal.first_overlap-requires-clause-accepted
-first_overlap-requires-clause-accepted g c = (c.args.self.report, vetted_kept _ _ c.args.self.accepted)
 
 pub returns-in-None-clause-names : goal.returns-in-None-clause-names
 returns-in-None-clause-names g c = λ s w n first. absurd
@@ -19,5 +16,5 @@ returns-clause-names g c = λ s w n first.
     (let same = one_overlap (g.M.Segments.segments c.args.self.message.now) _ _ _ s w n
     c.in-Some.ensures first in inl (cc))
 
-pub returns-clause-overlap : goal.returns-clause-overlap
-returns-clause-overlap g c = search rules
+pub first_overlap-requires-clause-accepted : goal.first_overlap-requires-clause-accepted
+first_overlap-requires-clause-accepted g c = (c.args.self.report, vetted_kept _ _ c.args.self.accepted)

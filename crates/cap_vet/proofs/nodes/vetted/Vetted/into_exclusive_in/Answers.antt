@@ -1,22 +1,16 @@
+use Rattle.cap_spec.proofs.ProofNames.{rules}
 use Rattle.std.proofs.Common.{Err, ap, arith, length, ◌≤◌}
 use Rattle.cap_spec.proofs.Disjoint.Overlaps.{none_of_disjoint}
-use Rattle.cap_vet.specs.VetNames.{marks_of, BufferTooSmall, Overlap}
+use Rattle.cap_vet.specs.VetNames.{marks_of, Overlap}
 use Rattle.cap_vet.proofs.ExclusiveFaults.{no_exclusive_fault, one_exclusive_fault}
 use Rattle.cap_vet.proofs.Keeping.{vetted_kept}
 use Rattle.cap_vet.proofs.nodes.vetted.Vetted.into_exclusive_in.Goals as goal
 
 pub returns-then-marks-needed-clause-err : goal.returns-then-marks-needed-clause-err
-returns-then-marks-needed-clause-err g c = (
-  vetted_kept _ _ c.args.self.accepted,
-  c.if-marks-needed.true,
-  c.numbers_for-needed.ensures.exact,
-)
+returns-then-marks-needed-clause-err g c = search (rules, vetted_kept)
 
 pub returns-then-marks-needed-clause-refuses : goal.returns-then-marks-needed-clause-refuses
-returns-then-marks-needed-clause-refuses g c = λ x h.
-    ap Err (one_exclusive_fault (g.M.Segments.segments c.args.self.message.now) 268435456 256 (length c.args.marks.now)
-    (BufferTooSmall c.numbers_for-needed.result c.args.self.report) x
-    (vetted_kept _ _ c.args.self.accepted, c.if-marks-needed.true, c.numbers_for-needed.ensures.exact) h)
+returns-then-marks-needed-clause-refuses g c = search (rules, one_exclusive_fault, vetted_kept)
 
 pub overlap_over-requires-clause-accepted : goal.overlap_over-requires-clause-accepted
 overlap_over-requires-clause-accepted g c =

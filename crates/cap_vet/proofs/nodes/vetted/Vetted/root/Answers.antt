@@ -1,14 +1,9 @@
-use Rattle.cap_spec.proofs.ProofNames.{rules, IsMessage}
+use Rattle.cap_spec.proofs.ProofNames.{rules}
 use Rattle.cap_vet.proofs.NodeSteps.{root_comes, root_inside, root_node}
 use Rattle.cap_vet.proofs.nodes.vetted.Vetted.root.Goals as goal
 
 pub invariant_of-result : goal.invariant_of-result
-invariant_of-result g c =
-    let message : IsMessage (g.M.Segments.segments c.args.self.now.message.now) = search rules in record {
-      exists = message.some;
-      inside = root_inside _ _ c.args.self.now.accepted;
-      node = root_node _ _ c.args.self.now.accepted;
-    }
+invariant_of-result g c = search (rules, root_inside, root_node)
 
 pub returns-clause-comes : goal.returns-clause-comes
 returns-clause-comes g c = root_comes (g.M.Segments.segments c.args.self.now.message.now) (root_inside _ _ c.args.self.now.accepted)

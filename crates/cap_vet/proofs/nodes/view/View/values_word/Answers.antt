@@ -1,12 +1,10 @@
+use Rattle.cap_spec.proofs.ProofNames.{rules}
 use Rattle.std.proofs.Common.{◌∙◌}
 use Rattle.cap_vet.proofs.Views.{shown_no_word, shown_word}
 use Rattle.cap_vet.proofs.nodes.view.View.values_word.Goals as goal
 
 pub returns-then-start-end : goal.returns-then-start-end
-returns-then-start-end g c =
-    let place = c.args.self.now.found.place in
-    shown_no_word (g.M.Segments.segments c.args.self.now.message.now) place.segment place.start c.args.code
-    (c.from.ensures ∙ c.element_bits.ensures.value) c.from-2.ensures c.from-start.ensures c.if-start-end.true
+returns-then-start-end g c = search (rules, shown_no_word)
 
 pub returns : goal.returns
 returns g c =

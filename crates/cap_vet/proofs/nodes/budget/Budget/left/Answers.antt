@@ -1,5 +1,0 @@
-use Rattle.std.proofs.Common.{refl}
-use Rattle.cap_vet.proofs.nodes.budget.Budget.left.Goals as goal
-
-pub returns : goal.returns
-returns c = refl
