@@ -50,19 +50,16 @@ gives_both z p y q x r bs cs ws vs f g = search (rules, length-append, leads_bot
 -- zero words that are held need none
 pub gives_zeros : (t n m p : ℕ) → t ≡ n + m → BytesGive t p m p [] (replicate n 0)
 gives_zeros t n m p e = λ at rest low.
-    let same : at ≡ capped (at + 0) = omega arith in
-    subst (λ k. CourseLeads (ahead Open t p at rest) (ahead Open m p k rest) at k (replicate n 0)) same (leads_zeros t n m at (course p at rest) e)
+    search (rules, leads_zeros t n m)
 
 -- words as they are
 pub gives_plain : (t n m : ℕ) (bs : List ℕ) → t ≡ n + m → length bs ≡ 8 * n → BytesGive 0 t 0 m bs (plain_words bs)
 gives_plain t zero m [] e l = let same : m ≡ t = omega arith in subst (λ k. BytesGive 0 t 0 k [] []) (sym same) (gives_none 0 t)
-gives_plain t zero m (x ∷ bs) e l = absurd (omega arith)
-gives_plain zero (suc n) m bs e l = absurd (omega arith)
 gives_plain (suc t) (suc n) m (a ∷ b ∷ c ∷ d ∷ e ∷ f ∷ g ∷ h ∷ bs) s l =
     let eight : List ℕ = a ∷ b ∷ c ∷ d ∷ e ∷ f ∷ g ∷ h ∷ [] in
     gives_both 0 (suc t) 0 t 0 m eight bs (little_number 8 eight ∷ []) (plain_words bs)
     (λ at rest low. leads_word _ _ _ at _ (course_plain t at eight rest refl)) (gives_plain t n m bs (omega arith) (omega arith))
-gives_plain (suc t) (suc n) m _ s l = absurd (omega (arith, l))
+gives_plain t n m bs e l = search rules
 
 -- the words of zero bytes
 pub zeros_are_words : (n : ℕ) → plain_words (replicate (8 * n) 0) ≡ replicate n 0
@@ -96,8 +93,7 @@ unpacks_both z p bytes buffer longer part given d e s t following filled fits =
     let front : length (take d.written buffer) % 8 ≡ 0 = ap (λ k. k % 8) (length-take-le d.written buffer s.fits) ∙ s.whole in
     let words : plain_words (take (d.written + e.written) longer) ≡ plain_words (take d.written buffer) ++ plain_words (take e.written given) =
     ap plain_words filled ∙ plain_join (take d.written buffer) (take e.written given) front in
-    let taken : take (d.read + e.read) bytes ≡ take d.read bytes ++ take e.read part = take-add d.read e.read bytes
-    ∙ ap (λ l. take d.read bytes ++ take e.read l) (sym following) in
+    let taken : take (d.read + e.read) bytes ≡ take d.read bytes ++ take e.read part = search (rules, take-add) in
     record {
       within = omega (arith, s.within, t.within, ap length following, length-drop d.read bytes);
       fits = fits;
@@ -127,8 +123,7 @@ some_words n out fits whole some = at_least (take n out) (let l = length-take-le
 -- without bytes there are no words
 gives_nothing : (p : ℕ) (bs : List ℕ) → length bs ≡ 0 → course_words (course p 0 bs) ≡ []
 gives_nothing zero [] e = ap course_words (course_none 0)
-gives_nothing (suc p) [] e = ap course_words (course_plain_stops p 0 [] (lit< tt))
-gives_nothing p (x ∷ bs) e = absurd (omega arith)
+gives_nothing p bs e = search (rules, course_plain_stops, lit<)
 
 -- words were given for zero words that were held, or for bytes
 pub given_for : (z p y q : ℕ) (held own : List ℕ) (k : ℕ) (broken : Bool) → BytesGive z p y q (take k held) own → 0 < length own →
@@ -139,8 +134,7 @@ given_for zero p y q [] own k broken g some zeros bytes =
     let first = (g 0 [] (lit< tt)).words in
     let long = ap length (sym (gives_nothing p (take k nil ++ nil) none) ∙ first) in
     absurd (omega (arith, long, length-append own (course_words (ahead Open y q (capped (0 + length (take k nil))) []))))
-given_for zero p y q (x ∷ held) own k broken g some zeros bytes = bytes (omega arith)
-given_for (suc z) p y q held own k broken g some zeros bytes = zeros (omega arith)
+given_for z p y q held own k broken g some zeros bytes = search rules
 
 -- by a source that is open
 pub words_buffered : (phase : Phase) (a b : Option (List ℕ)) (held out : List ℕ) (z p at now : ℕ) (d : Unpacked) → phase ≡ Open →
@@ -158,8 +152,7 @@ words_buffered phase a b held out z p at now d is_open u small low value lost =
     let whole : length bytes ≡ length (plain_text (plain_words bytes)) + length rest = ap length s.whole
     ∙ length-append (plain_text (plain_words bytes)) rest in
     let none : rest ≡ [] = nil_from_length rest (omega (arith, whole, length_plain (plain_words bytes), s.partial, long, u.whole)) in
-    let all : bytes ≡ plain_text (plain_words bytes) = s.whole
-    ∙ (ap (λ l. plain_text (plain_words bytes) ++ l) none ∙ append-nil (plain_text (plain_words bytes))) in
+    let all : bytes ≡ plain_text (plain_words bytes) = search (rules, append-nil (plain_text (plain_words bytes))) in
     let place : now ≡ capped (at + length (take d.read held)) = value ∙ ap (λ k. capped (at + k)) (sym (length-take-le d.read held u.within)) in
     rw (is_open, place) (all, go a b lost)
   where
@@ -176,10 +169,7 @@ words_buffered phase a b held out z p at now d is_open u small low value lost =
         let l = u.gives at y low in
         record {
           consumed = ap (λ xs. course_words (ahead Open z p at xs)) lost ∙ l.words;
-          goes_on = (
-            sym (ap (λ xs. course_is_cut (ahead Open z p at xs)) lost ∙ l.cut),
-            l.places ∙ ap (λ xs. drop (length (plain_words (take d.written out))) (at ∷ course_places (ahead Open z p at xs))) (sym lost),
-          );
+          goes_on = search rules;
         }
 
 -- words as they are, appended by a source that is open and holds no zero words
@@ -193,12 +183,7 @@ pub words_appended : (phase : Phase) (a b : Option (List ℕ)) (held : List ℕ)
 words_appended phase a b held z p q n at now is_open none run within small low value lost =
     let long : length (take (8 * n) held) ≡ 8 * n = length-take-le (8 * n) held within in
     let done : Unpacked = record { read = 8 * n; written = 8 * n; zeros = 0; plain = q } in
-    let all : UnpacksInto 0 p held held done = record {
-      within = within;
-      fits = within;
-      whole = omega arith;
-      gives = gives_plain p n q (take (8 * n) held) run long;
-    } in
+    let all : UnpacksInto 0 p held held done = search (rules, gives_plain p n q (take (8 * n) held) run long) in
     rw none (words_buffered phase a b held held 0 p at now done is_open all small low value lost)
 
 -- the words that buffered bytes give, by a source that is open
@@ -208,6 +193,5 @@ pub words_ahead : (phase : Phase) (a : Option (List ℕ)) (held out : List ℕ) 
 words_ahead phase None held out z p at d is_open u low known = tt
 words_ahead phase (Some xs) held out z p at d is_open u low known =
     let rest = drop d.read held ++ known.0 in
-    let parts : xs ≡ take d.read held ++ rest = known.1
-    ∙ (ap (λ l. l ++ known.0) (sym (take-append-drop d.read held)) ∙ append_assoc (take d.read held) (drop d.read held) known.0) in
+    let parts : xs ≡ take d.read held ++ rest = search (rules, take-append-drop d.read held, append_assoc (take d.read held) (drop d.read held) known.0) in
     rw is_open (_, ap (λ bs. course_words (ahead Open z p at bs)) parts ∙ (u.gives at rest low).words)

@@ -3,7 +3,7 @@ use Rattle.std.proofs.Common.{ltb-false}
 use Rattle.cap_spec.proofs.ProofNames.{Bool, List, [], ap, arith, cond, drop, false, le-ltb, length, length-append}
 use Rattle.cap_spec.proofs.ProofNames.{length-drop, lit<, lt-ltb, refl, suc, true, zero, ℕ, ◌++◌, ◌+◌, ◌<◌, ◌∙◌, ◌∷◌}
 use Rattle.cap_spec.proofs.ProofNames.{◌≡◌, ◌≤◌, drop-append_seam, cond-false, cond-true, little_number, capped}
-use Rattle.cap_spec.proofs.ProofNames.{common_steps}
+use Rattle.cap_spec.proofs.ProofNames.{common_steps, rules}
 use Rattle.cap_pack.specs.Course.{ends, first_word, gives, head_rest, plain_of, stops, zeros_of, zeros_then, course}
 use Rattle.cap_pack.specs.Course.{course_in}
 use Rattle.cap_pack.proofs.Heads.{first_word-append, plain_of-append, zeros_of-append}
@@ -25,10 +25,7 @@ enough (suc f) zero n at bytes p q = absurd (omega arith)
 enough (suc f) (suc g) zero at [] p q = refl
 enough (suc f) (suc g) zero at (tag ∷ bytes) p q =
     let l = length-drop (head_rest tag) bytes in
-    let a : length (drop (head_rest tag) bytes) < f = omega arith in
-    let b : length (drop (head_rest tag) bytes) < g = omega arith in
-    let e = enough f g (plain_of tag bytes) (capped (at + (suc (head_rest tag)))) (drop (head_rest tag) bytes) a b in
-    rw e refl
+    search (rules, enough f g (plain_of tag bytes) (capped (at + (suc (head_rest tag)))) (drop (head_rest tag) bytes) (omega arith) (omega arith))
 enough (suc f) (suc g) (suc n) at bytes p q = branches_same _ (λ t.
     ap (gives (little_number 8 bytes) (capped (at + 8)))
     (enough f g n (capped (at + 8)) (drop 8 bytes) (left_shorter 8 f bytes (lit< tt) (ltb-false (length bytes) 8 t) p)

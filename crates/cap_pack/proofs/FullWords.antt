@@ -9,14 +9,12 @@ one_of false = refl
 
 -- where all bits of the tag are set, no byte is zero
 full_from_tag : (bs : List ℕ) → length bs ≡ 8 → tag_of bs ≡ 255 → zeros_in bs ≡ 0
-full_from_tag (a ∷ b ∷ c ∷ d ∷ e ∷ f ∷ g ∷ h ∷ []) eight t =
-    omega (arith, t, one_of (a == 0), one_of (b == 0), one_of (c == 0), one_of (d == 0), one_of (e == 0), one_of (f == 0), one_of (g == 0), one_of (h == 0))
+full_from_tag (a ∷ b ∷ c ∷ d ∷ e ∷ f ∷ g ∷ h ∷ []) eight t = search (rules, one_of)
 full_from_tag bs eight t = absurd (omega arith)
 
 -- and the other way round
 tag_from_full : (bs : List ℕ) → length bs ≡ 8 → zeros_in bs ≡ 0 → tag_of bs ≡ 255
-tag_from_full (a ∷ b ∷ c ∷ d ∷ e ∷ f ∷ g ∷ h ∷ []) eight z =
-    omega (arith, z, one_of (a == 0), one_of (b == 0), one_of (c == 0), one_of (d == 0), one_of (e == 0), one_of (f == 0), one_of (g == 0), one_of (h == 0))
+tag_from_full (a ∷ b ∷ c ∷ d ∷ e ∷ f ∷ g ∷ h ∷ []) eight z = search (rules, one_of)
 tag_from_full bs eight z = absurd (omega arith)
 
 -- the same of a word

@@ -6,7 +6,7 @@ use Rattle.cap_spec.proofs.ProofNames.{length, length-append, length-drop, lengt
 use Rattle.cap_spec.proofs.ProofNames.{not, refl, set, suc, sym, take, take-append-drop, take_at, zero, ℕ, ◌%◌, ◌*◌, ◌++◌}
 use Rattle.cap_spec.proofs.ProofNames.{◌+◌, ◌-◌, ◌/◌, ◌<◌, ◌==◌, ◌∙◌, ◌∷◌, ◌≡◌, ◌≢◌, ◌≤◌, drop_all, take_rest}
 use Rattle.cap_spec.proofs.ProofNames.{drop-put_mid, take-put_mid, AllByRecursion, little_number, put_mid, ones, full_run}
-use Rattle.cap_spec.proofs.ProofNames.{group_size, group_text, pack_text, tag_of, zero_bytes, zero_run, plain_text}
+use Rattle.cap_spec.proofs.ProofNames.{group_size, pack_text, tag_of, zero_bytes, zero_run, plain_text}
 use Rattle.cap_spec.proofs.ProofNames.{plain_words, word_bytes, common_steps, rules}
 use Rattle.cap_words.proofs.Filling.{plain_join}
 use Rattle.cap_words.proofs.WholeWords.{words_text}
@@ -22,8 +22,7 @@ word_placed bs zero l = sym (ap (λ ws. get_or ws 0 0) (word_first bs (omega (ar
 word_placed bs (suc k) l =
     let same : 8 + 8 * k ≡ 8 * suc k = omega arith in
     let moved : drop (8 * suc k) bs ≡ drop (8 * k) (drop 8 bs) = sym (drop-drop (8 * k) 8 bs ∙ ap (λ n. drop n bs) same) in
-    ap (little_number 8) moved ∙ word_placed (drop 8 bs) k (omega (arith, l, length-drop 8 bs))
-    ∙ sym (ap (λ ws. get_or ws (suc k) 0) (word_first bs (omega (arith, l))))
+    search (rules, length-drop, word_first, word_placed (drop 8 bs) k (omega (arith, l, length-drop 8 bs)))
 
 -- the first word, and those after it
 pub words_first : (bs : List ℕ) → 8 ≤ length bs → plain_words bs ≡ get_or (plain_words bs) 0 0 ∷ plain_words (drop 8 bs)
@@ -37,18 +36,10 @@ words_parted bs n e l =
 -- a word and k others in front begin with the same word
 pub front_first : (bs : List ℕ) (k : ℕ) → 8 + 8 * k ≤ length bs →
     plain_words (take (8 + 8 * k) bs) ≡ get_or (plain_words bs) 0 0 ∷ plain_words (drop 8 (take (8 + 8 * k) bs))
-front_first bs k l =
-    let part = take (8 + 8 * k) bs in
-    let own = words_first part (omega (arith, length-take-le (8 + 8 * k) bs l)) in
-    let parted = words_parted bs (8 + 8 * k) (omega arith) l in
-    let same : get_or (plain_words bs) 0 0 ≡ get_or (plain_words part) 0 0 =
-    ap (λ ws. get_or ws 0 0) (parted ∙ ap (λ (ws : List ℕ). ws ++ plain_words (drop (8 + 8 * k) bs)) own) in
-    own ∙ ap (λ (w : ℕ). w ∷ plain_words (drop 8 part)) (sym same)
+front_first bs k l = search (rules, words_first (take (8 + 8 * k) bs) (omega (arith, length-take-le (8 + 8 * k) bs l)), length-take-le (8 + 8 * k) bs l, words_parted bs (8 + 8 * k) (omega arith) l)
 
 pub front_after : (bs : List ℕ) (k : ℕ) → 8 + 8 * k ≤ length bs → length (plain_words (drop 8 (take (8 + 8 * k) bs))) ≡ k
-front_after bs k l =
-    let part = take (8 + 8 * k) bs in
-    omega (arith, words_exact (drop 8 part), length-drop 8 part, length-take-le (8 + 8 * k) bs l)
+front_after bs k l = search (rules, words_exact (drop 8 (take (8 + 8 * k) bs)), length-drop 8 (take (8 + 8 * k) bs), length-take-le (8 + 8 * k) bs l)
 
 -- how many words the group in front takes, by its first word
 pub size_zero : (w : ℕ) (ws : List ℕ) → w ≡ 0 → group_size (w ∷ ws) ≡ 1 + min 255 (zero_run ws)
@@ -62,16 +53,10 @@ pub text_zero : (w : ℕ) (ws : List ℕ) → w ≡ 0 → front_text (w ∷ ws) 
 text_zero w ws e = ap (λ (v : ℕ). front_text (v ∷ ws)) e
 
 pub text_full : (w : ℕ) (ws : List ℕ) → zero_bytes w ≡ 0 → front_text (w ∷ ws) ≡ 255 ∷ (word_bytes w ++ length ws ∷ plain_text ws)
-text_full w ws z = full w (length ws) ws z
-  where
-    full : (w n : ℕ) (ws : List ℕ) → zero_bytes w ≡ 0 → group_text w n ws ≡ 255 ∷ (word_bytes w ++ n ∷ plain_text ws)
-    full w n ws z = rw (ne_eqb w 0 (nonzero_word w (omega (arith, z))), z) refl
+text_full w ws z = search rules
 
 pub text_marked : (w : ℕ) (ws : List ℕ) → w ≢ 0 → zero_bytes w ≢ 0 → front_text (w ∷ ws) ≡ tag_of (word_bytes w) ∷ filter (λ b. not (b == 0)) (word_bytes w)
-text_marked w ws h z = marked w (length ws) ws h z
-  where
-    marked : (w n : ℕ) (ws : List ℕ) → w ≢ 0 → zero_bytes w ≢ 0 → group_text w n ws ≡ tag_of (word_bytes w) ∷ filter (λ b. not (b == 0)) (word_bytes w)
-    marked w n ws h z = rw (ne_eqb w 0 h, ne_eqb (zero_bytes w) 0 z) refl
+text_marked w ws h z = search (rules, ne_eqb)
 
 -- the group in front: a word and k others, and the length of the text
 pub record IsFront (bs : List ℕ) (k encoded : ℕ) : Type 0 where
@@ -89,34 +74,14 @@ pub zeros_front : (bs rest : List ℕ) (k : ℕ) → 8 ≤ length bs → rest �
 zeros_front bs rest k l e z m =
     let run = zero_run (plain_words rest) in
     let within : 8 + 8 * k ≤ length bs = run_within bs rest k run l e m (front-le (λ x. x == 0) (plain_words rest)) in
-    let first : group_size (plain_words bs) ≡ 1 + min 255 (zero_run (plain_words (drop 8 bs))) = ap group_size (words_first bs l)
-    ∙ size_zero _ (plain_words (drop 8 bs)) z in
-    let same : zero_run (plain_words rest) ≡ zero_run (plain_words (drop 8 bs)) = ap (λ xs. zero_run (plain_words xs)) e in
-    let text = ap front_text (front_first bs k within) ∙ text_zero _ (plain_words (drop 8 (take (8 + 8 * k) bs))) z in
-    record {
-      size = omega (arith, m, first, same);
-      most = omega (arith, m);
-      within = within;
-      text = sym (ap length text);
-    }
+    search (rules, words_first, size_zero, front_first, text_zero)
 
 pub full_front : (bs rest : List ℕ) (k : ℕ) → 8 ≤ length bs → rest ≡ drop 8 bs → zero_bytes (get_or (plain_words bs) 0 0) ≡ 0 →
     k ≡ min 255 (full_run (plain_words rest)) → IsFront bs k (10 + 8 * k)
 full_front bs rest k l e z m =
     let run = full_run (plain_words rest) in
     let within : 8 + 8 * k ≤ length bs = run_within bs rest k run l e m (front-le (λ x. nat_le (zero_bytes x) 1) (plain_words rest)) in
-    let first : group_size (plain_words bs) ≡ 1 + min 255 (full_run (plain_words (drop 8 bs))) = ap group_size (words_first bs l)
-    ∙ size_full _ (plain_words (drop 8 bs)) z in
-    let same : full_run (plain_words rest) ≡ full_run (plain_words (drop 8 bs)) = ap (λ xs. full_run (plain_words xs)) e in
-    let more = plain_words (drop 8 (take (8 + 8 * k) bs)) in
-    let text = ap front_text (front_first bs k within) ∙ text_full _ more z in
-    let long : length (front_text (plain_words (take (8 + 8 * k) bs))) ≡ 10 + length (plain_text more) = ap length text ∙ omega arith in
-    record {
-      size = omega (arith, m, first, same);
-      most = omega (arith, m);
-      within = within;
-      text = omega (arith, long, length_plain more, front_after bs k within);
-    }
+    search (rules, words_first, size_full, front_first, text_full, length_plain, front_after)
 
 pub marked_front : (bs : List ℕ) (n : ℕ) → 8 ≤ length bs → get_or (plain_words bs) 0 0 ≢ 0 → zero_bytes (get_or (plain_words bs) 0 0) ≢ 0 →
     n ≡ length (filter (λ b. not (b == 0)) (word_bytes (get_or (plain_words bs) 0 0))) → IsFront bs 0 (1 + n)
@@ -124,19 +89,13 @@ marked_front bs n l h z e = search (rules, words_first, group_size-marked, front
 
 -- the text of words is that of the group in front, and then that of the words after it
 apart : (ws front rest : List ℕ) → ws ≡ front ++ rest → length front ≡ group_size ws → 0 < length front → pack_text ws ≡ front_text front ++ pack_text rest
-apart ws [] rest e l p = absurd (omega (arith, p))
-apart ws (w ∷ more) rest e l p = search (rules, pack_text-group)
+apart ws front rest e l p = search (rules, pack_text-group)
 
 pub pack_step : (bs front : List ℕ) (at n : ℕ) → front ≡ drop at bs → n ≡ 8 * group_size (plain_words front) → 0 < n → n ≤ length front →
     pack_text (plain_words (drop at bs)) ≡ front_text (plain_words (take n front)) ++ pack_text (plain_words (drop (at + n) bs))
 pack_step bs front at n e size some within =
     let parted = words_parted front n (omega (arith, size)) within in
-    let count : length (plain_words (take n front)) ≡ group_size (plain_words front) =
-    omega (arith, words_exact (take n front), length-take-le n front within, size) in
-    let following : drop n front ≡ drop (at + n) bs = ap (drop n) e ∙ drop-drop n at bs in
-    ap (λ xs. pack_text (plain_words xs)) (sym e)
-    ∙ apart (plain_words front) (plain_words (take n front)) (plain_words (drop n front)) parted count (omega (arith, count, size, some))
-    ∙ ap (λ xs. front_text (plain_words (take n front)) ++ pack_text (plain_words xs)) following
+    search (rules, words_exact, length-take-le, drop-drop, apart)
 
 -- a part of a list that is written over
 pub put_is : (a k : ℕ) (xs ys : List ℕ) → a + k ≤ length xs → length ys ≡ k → put_mid a k xs ys ≡ (take a xs ++ ys) ++ drop (a + k) xs
@@ -147,15 +106,12 @@ put_length a k xs ys h l = search (rules, put_is, length-append, length-take-le,
 
 -- one that ends where the list ends
 pub put_end : (a k : ℕ) (xs ys : List ℕ) → a + k ≡ length xs → length ys ≡ k → put_mid a k xs ys ≡ take a xs ++ ys
-put_end a k xs ys h l =
-    put_is a k xs ys (omega (arith, h)) l ∙ ap (λ t. (take a xs ++ ys) ++ t) (drop_all (a + k) xs (omega (arith, h))) ∙ append-nil (take a xs ++ ys)
+put_end a k xs ys h l = search (rules, put_is, drop_all, append-nil)
 
 -- the text of a run of zero words is written
 two_set : (text : List ℕ) (a b : ℕ) → length text ≡ 2 → set (set text 0 a) 1 b ≡ a ∷ b ∷ []
-two_set [] a b l = absurd (omega (arith, l))
-two_set (x ∷ []) a b l = absurd (omega (arith, l))
-two_set (x ∷ y ∷ []) a b l = refl
 two_set (x ∷ y ∷ z ∷ rest) a b l = absurd (omega (arith, l))
+two_set text a b l = search rules
 
 pub zeros_written : (bs text : List ℕ) (tag n : ℕ) → 8 ≤ length bs → get_or (plain_words bs) 0 0 ≡ 0 →
     length text ≡ length (front_text (plain_words bs)) → tag ≡ 0 → n ≡ length bs / 8 - 1 →
@@ -179,8 +135,7 @@ full_capacity bs text head tag n l w z capacity h =
     let all = set headed 9 n in
     let a : length tagged ≡ length text = length-set text 0 tag in
     let b : length headed ≡ length tagged = put_length 1 8 tagged head (omega (arith, a, long, l)) h in
-    let c : length all ≡ length headed = length-set headed 9 n in
-    (c ∙ b ∙ a, omega (arith, ap length (take_rest all 10), length-drop 10 all, ap length (take_rest bs 8), length-drop 8 bs, a, b, c, long))
+    search (rules, length-set headed 9 n, take_rest all 10, take_rest bs 8, length-drop 10 all, length-drop 8 bs)
 
 pub full_written : (bs text head rest : List ℕ) (tag n m word : ℕ) → AllByRecursion (λ b. b < 256) bs → 8 ≤ length bs → length bs % 8 ≡ 0 →
     word ≡ get_or (plain_words bs) 0 0 → zero_bytes word ≡ 0 →
@@ -217,16 +172,12 @@ full_written bs text head rest tag n m word small l w v z capacity t h e r k =
 -- the text of a word by its tag
 marked_is : (bs : List ℕ) (word : ℕ) → 8 ≤ length bs → word ≡ get_or (plain_words bs) 0 0 → word ≢ 0 → zero_bytes word ≢ 0 →
     front_text (plain_words bs) ≡ tag_of (word_bytes word) ∷ filter (λ b. not (b == 0)) (word_bytes word)
-marked_is bs word l v h z =
-    ap front_text (words_first bs l) ∙ ap (λ (x : ℕ). front_text (x ∷ plain_words (drop 8 bs))) (sym v) ∙ text_marked word (plain_words (drop 8 bs)) h z
+marked_is bs word l v h z = search (rules, words_first, text_marked)
 
 pub marked_capacity : (bs text bytes : List ℕ) (tag word : ℕ) → 8 ≤ length bs → word ≡ get_or (plain_words bs) 0 0 → word ≢ 0 → zero_bytes word ≢ 0 →
     length text ≡ length (front_text (plain_words bs)) →
     bytes ≡ filter (λ b. not (b == 0)) (word_bytes word) → length (take (length (set text 0 tag) - 1) (drop 1 (set text 0 tag))) ≡ length bytes
-marked_capacity bs text bytes tag word l v h z capacity b =
-    let marked = filter (λ b. not (b == 0)) (word_bytes word) in
-    let long : length text ≡ 1 + length marked = capacity ∙ ap length (marked_is bs word l v h z) ∙ omega arith in
-    omega (arith, ap length (take_rest (set text 0 tag) 1), length-drop 1 (set text 0 tag), length-set text 0 tag, long, ap length b)
+marked_capacity bs text bytes tag word l v h z capacity b = search (rules, marked_is bs word l v h z, take_rest (set text 0 tag) 1, length-drop 1 (set text 0 tag), length-set text 0 tag)
 
 pub marked_written : (bs text bytes : List ℕ) (tag m word : ℕ) → 8 ≤ length bs → word ≡ get_or (plain_words bs) 0 0 → word ≢ 0 → zero_bytes word ≢ 0 →
     length text ≡ length (front_text (plain_words bs)) →
@@ -245,8 +196,7 @@ marked_written bs text bytes tag m word l v h z capacity t b k =
 pub marked_bytes : (word tag : ℕ) (bytes lanes zeros : List ℕ) → tag ≡ tag_of (word_bytes word) →
     lanes ≡ filter (λ b. not (b == 0)) (word_bytes word) ++ zeros → bytes ≡ take (ones tag) lanes →
     bytes ≡ filter (λ b. not (b == 0)) (word_bytes word)
-marked_bytes word tag bytes lanes zeros t e b =
-    b ∙ ap (take (ones tag)) e ∙ take_at (filter (λ b. not (b == 0)) (word_bytes word)) zeros (ones tag) (sym (ones_of_tag word tag t))
+marked_bytes word tag bytes lanes zeros t e b = search (rules, ones, take_at, ones_of_tag)
 
 -- which word has which tag
 pub tag_zero : (bs : List ℕ) (word tag : ℕ) → word ≡ get_or (plain_words bs) 0 0 → word < 18446744073709551616 → tag ≡ tag_of (word_bytes word) →

@@ -5,7 +5,7 @@ use Rattle.cap_spec.proofs.Packed.Packing.{pack_text-marked, pack_text-plain, pa
 use Rattle.cap_spec.proofs.Packed.Repacking.{zero_front}
 use Rattle.cap_spec.proofs.ProofNames.{Bool, List, [], ap, append-nil, append_assoc, arith, cond, drop, drop-drop, false}
 use Rattle.cap_spec.proofs.ProofNames.{filter, get_or, leb, length, length-append, length-drop, length-take-le, not}
-use Rattle.cap_spec.proofs.ProofNames.{refl, replicate, subst, suc, sym, take, take-append-drop, take_all, true, zero, ℕ}
+use Rattle.cap_spec.proofs.ProofNames.{refl, replicate, suc, sym, take, take-append-drop, take_all, true, ℕ}
 use Rattle.cap_spec.proofs.ProofNames.{◌++◌, ◌+◌, ◌-◌, ◌<◌, ◌==◌, ◌∙◌, ◌∷◌, ◌≡◌, ◌≢◌, ◌≤◌, length-replicate}
 use Rattle.cap_spec.proofs.ProofNames.{replicate-append-replicate, take_rest, take-put_mid, prefix_len, put_mid}
 use Rattle.cap_spec.proofs.ProofNames.{full_run, group_size, pack_text, tag_of, zero_bytes, zero_run, plain_text}
@@ -22,9 +22,8 @@ passes_more p true x n m xs e h k = grind (arith, common_steps)
 passes_more p false x n m xs e h k = absurd (omega arith)
 
 front_passes : (p : ℕ → Bool) (n : ℕ) (xs : List ℕ) → n ≤ prefix_len p xs → prefix_len p (take n xs) ≡ n
-front_passes p zero xs h = refl
-front_passes p (suc n) [] h = absurd (omega arith)
 front_passes p (suc n) (x ∷ xs) h = passes_more p (p x) x n (prefix_len p xs) xs refl h (front_passes p n xs)
+front_passes p n xs h = search rules
 
 -- what is after the front doesn't pass
 stops_more : (p : ℕ → Bool) (t : Bool) (x : ℕ) (xs ys : List ℕ) → p x ≡ t → (prefix_len p xs < length xs → prefix_len p (drop (prefix_len p xs) xs ++ ys) ≡ 0) →
@@ -66,8 +65,7 @@ zeros_encoded w k xs e r h few = λ ws.
     let rest = drop k xs ++ ws in
     let front : take k xs ≡ replicate k 0 = zero_front k xs (omega arith) in
     let split : w ∷ (xs ++ ws) ≡ 0 ∷ (replicate k 0 ++ rest) =
-    ap (λ (y : ℕ). y ∷ (xs ++ ws)) e
-    ∙ ap (λ (l : List ℕ). 0 ∷ l) (ap (λ l. l ++ ws) (sym (take-append-drop k xs)) ∙ append_assoc (take k xs) (drop k xs) ws ∙ ap (λ l. l ++ rest) front) in
+    search (rules, take-append-drop k xs, append_assoc (take k xs) (drop k xs) ws) in
     ap pack_text split ∙ pack_text-zeros k rest few (λ _. run_stops (λ x. x == 0) xs ws k r h)
 
 -- a run of words as they are that ended inside the piece
@@ -77,8 +75,7 @@ full_encoded w k xs z r h few = λ ws.
     let rest = drop k xs ++ ws in
     let long : length (take k xs) ≡ k = length-take-le k xs (omega arith) in
     let full : full_run (take k xs) ≡ length (take k xs) = run_takes (λ x. leb (zero_bytes x) 1) k xs (omega arith) ∙ sym long in
-    let split : w ∷ (xs ++ ws) ≡ w ∷ (take k xs ++ rest) = ap (λ (l : List ℕ). w ∷ l) (ap (λ l. l ++ ws) (sym (take-append-drop k xs))
-    ∙ append_assoc (take k xs) (drop k xs) ws) in
+    let split : w ∷ (xs ++ ws) ≡ w ∷ (take k xs ++ rest) = search (rules, take-append-drop k xs, append_assoc (take k xs) (drop k xs) ws) in
     ap pack_text split ∙ pack_text-plain w (take k xs) rest z full (omega (arith, long)) (λ _. run_stops (λ x. leb (zero_bytes x) 1) xs ws k r h)
 
 -- any other word
@@ -88,8 +85,7 @@ marked_encoded w xs n z = λ ws. pack_text-marked w (xs ++ ws) n z
 -- The groups so far and one more.
 pub more_encoded : (front next text : List ℕ) (all : List ℕ → List ℕ) (left less : List ℕ) → next ≡ front ++ text → Encodes left text less →
     ((ws : List ℕ) → all ws ≡ front ++ pack_text (left ++ ws)) → (ws : List ℕ) → all ws ≡ next ++ pack_text (less ++ ws)
-more_encoded front next text all left less e s h = λ ws.
-    h ws ∙ ap (λ t. front ++ t) (s ws) ∙ sym (append_assoc front text (pack_text (less ++ ws))) ∙ ap (λ t. t ++ pack_text (less ++ ws)) (sym e)
+more_encoded front next text all left less e s h = search (rules, append_assoc)
 
 -- a run of zero words that took n more of these words
 pub zeros_apart : (more n : ℕ) (xs : List ℕ) → more + n ≤ 255 → (more + n < 255 → n ≡ zero_run xs) → n < length xs →
@@ -129,14 +125,7 @@ plain_extended g words piece xs first more n k end e one full long most m copied
     let h = plain_held g words first more e one full in
     let few : n ≤ length xs = omega (arith, run, front-le (λ x. leb (zero_bytes x) 1) xs) in
     let whole = more_written words piece xs more n k end copied few (omega (arith, long, most, m)) m in
-    let fulls = full_joined (take more words) xs n h.1 run few in
-    let count = length-append (take more words) (take n xs) in
-    record {
-      whole = whole;
-      zero = h.0;
-      full = subst (λ l. full_run l ≡ length l) (sym whole) fulls;
-      many = ap length whole ∙ omega (arith, count, length-take-le more words (omega (arith, long, most, m)), length-take-le n xs few, m);
-    }
+    search (rules, full_joined, run, length-append, length-take-le)
 
 -- words of a run that begins with a zero word
 pub run_zeros : (ws : List ℕ) → IsRun ws → 0 < length ws → get_or ws 0 0 ≡ 0 → 0 ∷ replicate (length ws - 1) 0 ≡ ws
@@ -174,8 +163,7 @@ pub piece_encoded : (before now xs piece front group text left : List ℕ) (j : 
     Encodes (now ++ drop j xs) group (drop j xs) → front ≡ group → piece ≡ drop j xs →
     ((ws : List ℕ) → front ++ pack_text (piece ++ ws) ≡ text ++ pack_text (left ++ ws)) → (ws : List ℕ) →
     pack_text (before ++ (xs ++ ws)) ≡ text ++ pack_text (left ++ ws)
-piece_encoded before now xs piece front group text left j joined apart f p encoded ws =
-    search (rules, take-append-drop, append_assoc)
+piece_encoded before now xs piece front group text left j joined apart f p encoded ws = search (rules, take-append-drop, append_assoc)
 
 -- the words after those that were encoded
 pub left_after : (xs : List ℕ) (j k : ℕ) → drop k (take (length xs - j) (drop j xs)) ≡ take (length xs - (j + k)) (drop (j + k) xs)
@@ -183,7 +171,4 @@ left_after xs j k = ap (drop k) (take_rest xs j) ∙ drop-drop k j xs ∙ sym (t
 
 -- a piece of words and those after it
 pub piece_split : (xs : List ℕ) (done end : ℕ) → done ≤ end → drop done xs ≡ take (end - done) (drop done xs) ++ drop end xs
-piece_split xs done end h =
-    let same : done + (end - done) ≡ end = omega (arith, h) in
-    sym (take-append-drop (end - done) (drop done xs))
-    ∙ ap (λ l. take (end - done) (drop done xs) ++ l) (drop-drop (end - done) done xs ∙ ap (λ n. drop n xs) same)
+piece_split xs done end h = search (rules, take-append-drop (end - done) (drop done xs), drop-drop (end - done) done xs)

@@ -2,9 +2,9 @@
 use Rattle.std.proofs.Math.ListN.{get_or-append}
 use lib.Count.{ones_step, ones}
 use Rattle.cap_spec.proofs.Packed.Unpacking.{spread_append}
-use Rattle.cap_spec.proofs.ProofNames.{Bool, List, [], ap, arith, cond, drop, eq-eqb, eqb, eqb-true, false, get_or, length}
+use Rattle.cap_spec.proofs.ProofNames.{Bool, List, [], ap, arith, cond, eq-eqb, eqb, eqb-true, false, get_or, length}
 use Rattle.cap_spec.proofs.ProofNames.{length-take, length-take-le, ne_eqb, refl, subst, suc, sym, take, take-append-drop}
-use Rattle.cap_spec.proofs.ProofNames.{true, zero, ℕ, ⊎_elim, ◌%◌, ◌*◌, ◌++◌, ◌+◌, ◌/◌, ◌<◌, ◌^◌, ◌∙◌, ◌∷◌, ◌≡◌, ◌≢◌, ◌≤◌}
+use Rattle.cap_spec.proofs.ProofNames.{true, zero, ℕ, ⊎_elim, ◌++◌, ◌/◌, ◌<◌, ◌^◌, ◌∙◌, ◌∷◌, ◌≡◌, ◌≢◌, ◌≤◌}
 use Rattle.cap_spec.proofs.ProofNames.{pow-succ', cases_lt, cond-false, cond-true, little_number, marks, spread, rules}
 use Rattle.cap_pack.specs.Course.{first_word, head_rest, plain_of, zeros_of}
 
@@ -17,12 +17,7 @@ both_same false h k = k refl
 pub spread_front : (n tag : ℕ) (bs ys : List ℕ) → n ≤ length bs → spread n tag (bs ++ ys) ≡ spread n tag bs
 spread_front zero tag bs ys l = refl
 spread_front (suc n) tag [] ys l = absurd (omega arith)
-spread_front (suc n) tag (b ∷ bs) ys l =
-    let less : n ≤ length (b ∷ bs) = omega arith in
-    let rest : n ≤ length bs = omega arith in
-    both_same (eqb (tag % 2) 0)
-    (λ t. ap (λ x. 256 * x) (spread_front n (tag / 2) (b ∷ bs) ys less))
-    (λ t. ap (λ x. b + 256 * x) (spread_front n (tag / 2) bs ys rest))
+spread_front (suc n) tag (b ∷ bs) ys l = search (rules, both_same, spread_front n (tag / 2) (b ∷ bs) ys (omega arith), spread_front n (tag / 2) bs ys (omega arith))
 
 -- the first eight bytes are enough for a word
 pub spread_eight : (tag : ℕ) (bytes : List ℕ) → 8 ≤ length bytes → spread 8 tag (take 8 bytes) ≡ spread 8 tag bytes
@@ -75,10 +70,7 @@ plain_of-append tag bs ys e = plain_same (eqb tag 0) (eqb tag 255) tag bs ys (λ
 -- What uses the first bytes is the same of two lists that begin with the same.
 pub by_front : (f : List ℕ → ℕ) (n : ℕ) (bs ys : List ℕ) → ((xs more : List ℕ) → length xs ≡ n → f (xs ++ more) ≡ f xs)
     → n ≤ length ys → take n bs ≡ take n ys → f bs ≡ f ys
-by_front f n bs ys own fits same =
-    let front : length (take n ys) ≡ n = length-take-le n ys fits in
-    ap f (sym (take-append-drop n bs)) ∙ own (take n bs) (drop n bs) (ap length same ∙ front) ∙ ap f same
-    ∙ sym (own (take n ys) (drop n ys) front) ∙ ap f (take-append-drop n ys)
+by_front f n bs ys own fits same = search (rules, length-take-le n ys fits, take-append-drop n bs, take-append-drop n ys)
 
 -- how many bytes the tags of runs name, and any other
 pub head_rest-zeros : (tag : ℕ) → tag ≡ 0 → head_rest tag ≡ 1
@@ -97,8 +89,7 @@ head_rest-marked tag z f = cond-false (eqb tag 0) _ _ (ne_eqb tag 0 z) ∙ cond-
 marks-ones : (n tag : ℕ) → tag < 2 ^ n → marks n tag ≡ ones tag
 unfolding ones
 marks-ones zero tag p = let e : 0 ≡ tag = omega arith in ap ones e
-marks-ones (suc n) tag p = let half : tag / 2 < 2 ^ n = omega (arith, pow-succ' 2 n) in
-    ap (λ x. tag % 2 + x) (marks-ones n (tag / 2) half) ∙ sym (ones_step tag)
+marks-ones (suc n) tag p = search (rules, pow-succ' 2 n, ones_step tag, marks-ones n (tag / 2) (omega (arith, pow-succ' 2 n)))
 
 pub head_rest-ones : (tag : ℕ) → tag < 256 → tag ≢ 0 → tag ≢ 255 → ones tag ≡ head_rest tag
 head_rest-ones tag p z f = sym (head_rest-marked tag z f ∙ marks-ones 8 tag p)

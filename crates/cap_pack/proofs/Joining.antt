@@ -1,7 +1,7 @@
 -- How the open group of a packer ends.
 use Rattle.cap_spec.proofs.Packed.Packing.{pack_text-plain, pack_text-zeros, plain_full}
-use Rattle.cap_spec.proofs.ProofNames.{List, None, Option, Some, [], ap, append-nil, length, length-take, refl, sym, ℕ}
-use Rattle.cap_spec.proofs.ProofNames.{◌++◌, ◌<◌, ◌∙◌, ◌≡◌, length-replicate, Appends, Keeps, append_known, full_run}
+use Rattle.cap_spec.proofs.ProofNames.{List, Option, [], length, length-take, refl, ℕ}
+use Rattle.cap_spec.proofs.ProofNames.{◌++◌, ◌<◌, ◌≡◌, length-replicate, Appends, Keeps, append_known, full_run}
 use Rattle.cap_spec.proofs.ProofNames.{group_size, pack_text, zero_run, rules}
 use Rattle.cap_pack.specs.Holding.{first_zeros, group_bytes, held}
 use Rattle.cap_pack.specs.declared.group.Group.{Group}
@@ -28,6 +28,4 @@ no_more (Plain first more) words one full long = plain_ends (Plain first more) w
 
 -- a group was written, all of it
 pub group_written : (a b : Option (List ℕ)) (bytes : List ℕ) (all : List ℕ) → Appends a b bytes → all ≡ bytes ++ [] → Keeps (append_known a all) b
-group_written None b bytes all p e = tt
-group_written (Some x) None bytes all p e = absurd p
-group_written (Some x) (Some y) bytes all p e = p ∙ ap (λ t. x ++ t) (sym (append-nil bytes) ∙ sym e)
+group_written a b bytes all p e = search rules

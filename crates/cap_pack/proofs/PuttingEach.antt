@@ -3,7 +3,7 @@ use Rattle.byteorder.specs.Endian.{IsRead}
 use Rattle.cap_spec.proofs.Bytes.Plain.{plain_short}
 use Rattle.cap_spec.proofs.ProofNames.{Bool, List, Option, [], ap, append-nil, append_assoc, arith, drop, drop-drop, false}
 use Rattle.cap_spec.proofs.ProofNames.{length, length-drop, length-take-le, refl, subst, suc, sym, take, take-append-drop}
-use Rattle.cap_spec.proofs.ProofNames.{ℕ, ◌*◌, ◌++◌, ◌+◌, ◌-◌, ◌<◌, ◌∙◌, ◌∷◌, ◌≡◌, ◌≤◌, Keeps-trans, take_rest, Keeps}
+use Rattle.cap_spec.proofs.ProofNames.{ℕ, ◌*◌, ◌++◌, ◌+◌, ◌-◌, ◌<◌, ◌∙◌, ◌∷◌, ◌≡◌, ◌≤◌, Keeps-trans, take_rest}
 use Rattle.cap_spec.proofs.ProofNames.{little_number, plain_words, rules}
 use Rattle.cap_words.specs.WordNames.{Failures, Begins, StoppedPutting, WasPut}
 use Rattle.cap_words.proofs.Filling.{plain_join}
@@ -11,15 +11,8 @@ use Rattle.cap_words.proofs.Known.{begins_kept}
 
 -- the first word of bytes, and the words after it
 pub word_first : (bytes : List ℕ) → 8 ≤ length bytes → plain_words bytes ≡ little_number 8 bytes ∷ plain_words (drop 8 bytes)
-word_first [] h = absurd (omega arith)
-word_first (a ∷ []) h = absurd (omega arith)
-word_first (a ∷ b ∷ []) h = absurd (omega arith)
-word_first (a ∷ b ∷ c ∷ []) h = absurd (omega arith)
-word_first (a ∷ b ∷ c ∷ d ∷ []) h = absurd (omega arith)
-word_first (a ∷ b ∷ c ∷ d ∷ e ∷ []) h = absurd (omega arith)
-word_first (a ∷ b ∷ c ∷ d ∷ e ∷ f ∷ []) h = absurd (omega arith)
-word_first (a ∷ b ∷ c ∷ d ∷ e ∷ f ∷ g ∷ []) h = absurd (omega arith)
 word_first (a ∷ b ∷ c ∷ d ∷ e ∷ f ∷ g ∷ x ∷ rest) h = refl
+word_first bytes h = absurd (omega arith)
 
 -- the words that are in bytes, each read from its place
 pub words_read : (words bytes : List ℕ) → length bytes ≡ 8 * length words → IsRead little_number 8 bytes words → words ≡ plain_words bytes
@@ -66,9 +59,7 @@ module _ {K : Type 0} {text : K → List ℕ → Option (List ℕ)} {taken : K �
   put_more old now new all rest less xs e s p o = record {
     done = s.done ++ xs;
     whole = s.whole ∙ ap (λ (ws : List ℕ). s.done ++ ws) e ∙ sym (append_assoc s.done xs less);
-    put = λ ws.
-        subst (λ (ys : List ℕ). Keeps (text old ys) (text new ws)) (sym (append_assoc s.done xs ws))
-        (Keeps-trans (text old (s.done ++ (xs ++ ws))) (text now (xs ++ ws)) (text new ws) (s.put (xs ++ ws)) (p ws));
+    put = search (rules, append_assoc, Keeps-trans);
     is_open = o.1;
     same_broken = o.2 ∙ s.same_broken;
     none_failed = o.3 ∙ s.none_failed;

@@ -29,14 +29,12 @@ one_more false i m n h k = absurd (omega arith)
 
 -- a beginning of the list has no longer front
 within_chunk : (p : ℕ → Bool) (n : ℕ) (xs : List ℕ) → prefix_len p (take n xs) ≤ prefix_len p xs
-within_chunk p zero xs = omega arith
-within_chunk p (suc n) [] = omega arith
 within_chunk p (suc n) (x ∷ xs) = both_more (p x) _ _ (within_chunk p n xs)
+within_chunk p n xs = omega arith
 
 goes_on : (p : ℕ → Bool) (i n : ℕ) (xs : List ℕ) → i ≤ prefix_len p xs → i + prefix_len p (chunk i n xs) ≤ prefix_len p xs
-goes_on p zero n xs h = omega (arith, within_chunk p n xs)
-goes_on p (suc i) n [] h = absurd (omega arith)
 goes_on p (suc i) n (x ∷ xs) h = one_more (p x) i _ _ h (goes_on p i n xs)
+goes_on p i n xs h = search (rules, within_chunk)
 
 -- where each of the first i elements passes, so does each of those that pass after them
 pub run_goes_on : (p : ℕ → Bool) (i n : ℕ) (xs : List ℕ) → i ≤ run p xs → i + run p (chunk i n xs) ≤ run p xs
@@ -63,8 +61,7 @@ prefix_of_map p f (x ∷ xs) = ap (λ n. cond (p (f x)) (1 + n) 0) (prefix_of_ma
 pub first_marked : (p q : ℕ → Bool) (f : ℕ → ℕ) → ((x : ℕ) → not (q (f x)) ≡ p x) → (xs lanes : List ℕ) → lanes ≡ map f xs → length xs ≡ 8 → (m : ℕ) →
     m ≡ mask_l (map q lanes) →
     (if m == 0 then 8 else count_trailing_zeros 64 m) ≡ run p xs
-first_marked p q f same xs lanes e l m mask =
-    search (rules, length-map, count_trailing_zeros, first_set_mask_l, prefix_of_map, same_prefix, run_is)
+first_marked p q f same xs lanes e l m mask = search (rules, length-map, first_set_mask_l, prefix_of_map, same_prefix, run_is)
 
 -- whether two lanes differ
 abbrev differs : ℕ → ℕ → Bool
@@ -136,10 +133,7 @@ zero_or_set false = refl
 
 zeros_and_marks : (bs : List ℕ) → zeros_in bs + marks (length bs) (tag_of bs) ≡ length bs
 zeros_and_marks [] = refl
-zeros_and_marks (b ∷ bs) =
-    let low = low_bit (b == 0) (tag_of bs) in
-    let following : marks (length bs) (tag_of (b ∷ bs) / 2) ≡ marks (length bs) (tag_of bs) = ap (marks (length bs)) (bits_after (b == 0) (tag_of bs)) in
-    omega (arith, low, following, zero_or_set (b == 0), zeros_and_marks bs)
+zeros_and_marks (b ∷ bs) = search (rules, low_bit, bits_after, zero_or_set, zeros_and_marks bs)
 
 -- the tag of a word says whether it has at most one zero byte
 full_by_tag : (w : ℕ) → not (not (eqb (above (word_tag w)) 0)) ≡ leb (zero_bytes w) 1

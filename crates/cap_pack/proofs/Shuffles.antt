@@ -2,12 +2,11 @@
 use Rattle.std.proofs.Common.{T, add-zero}
 use Rattle.std.proofs.lemmas.List.Sums.{length-filter}
 use Rattle.std.proofs.lemmas.Simd.{SwzOk, SwzOk-from_Each1, ones-mask_l, swz_l}
-use Rattle.cap_spec.proofs.Packed.Repacking.{spread_empty}
 use Rattle.cap_spec.proofs.ProofNames.{Bool, List, [], add-one, ap, arith, cond, drop, eqb, eqb-true, false, filter}
-use Rattle.cap_spec.proofs.ProofNames.{get_or, get_or-drop, if◌then◌else◌, leb, length, length-append, lt-ltb, ltb, map}
+use Rattle.cap_spec.proofs.ProofNames.{get_or, get_or-drop, leb, length, length-append, lt-ltb, ltb, map}
 use Rattle.cap_spec.proofs.ProofNames.{not, refl, replicate, subst, suc, sym, take, true, w8, zero, zero-add, ℕ, ◌%◌, ◌&&◌}
 use Rattle.cap_spec.proofs.ProofNames.{◌*◌, ◌++◌, ◌+◌, ◌-◌, ◌/◌, ◌<◌, ◌==◌, ◌||◌, ◌∙◌, ◌∷◌, ◌≡◌, ◌≤◌, take-append_seam}
-use Rattle.cap_spec.proofs.ProofNames.{and_parts, false≢true, lt-leb, length-map, length-replicate, map-append, Each1}
+use Rattle.cap_spec.proofs.ProofNames.{and_parts, lt-leb, length-map, length-replicate, map-append, Each1}
 use Rattle.cap_spec.proofs.ProofNames.{number_l, little_number, ones, tag_of, zero_bytes, zeros_in, word_bytes, marks}
 use Rattle.cap_spec.proofs.ProofNames.{spread, rules}
 use Rattle.cap_pack.specs.Places.{marked_from, spread_from, spread_row, squeeze_row}
@@ -27,12 +26,10 @@ same_list (x ∷ xs) [] = false
 same_list (x ∷ xs) (y ∷ ys) = eqb x y && same_list xs ys
 
 same_from_test : (xs ys : List ℕ) → same_list xs ys ≡ true → xs ≡ ys
-same_from_test [] [] e = refl
-same_from_test [] (y ∷ ys) e = absurd (false≢true e)
-same_from_test (x ∷ xs) [] e = absurd (false≢true e)
 same_from_test (x ∷ xs) (y ∷ ys) e =
     let both = and_parts (eqb x y) (same_list xs ys) e in
     ap (λ z. z ∷ xs) (eqb-true x y both.0) ∙ ap (λ zs. y ∷ zs) (same_from_test xs ys both.1)
+same_from_test xs ys e = search rules
 
 -- whether each row of a table is that of its number
 abbrev pub rows_are : (ℕ → List ℕ) → ℕ → List (List ℕ) → Bool
@@ -40,11 +37,10 @@ rows_are f t [] = true
 rows_are f t (row ∷ rows) = same_list row (f t) && rows_are f (t + 1) rows
 
 row_at : (f : ℕ → List ℕ) (t : ℕ) (rows : List (List ℕ)) → rows_are f t rows ≡ true → (i : ℕ) → i < length rows → get_or rows i [] ≡ f (t + i)
-row_at f t [] e i l = absurd (omega arith)
-row_at f t (row ∷ rows) e zero l = same_from_test row (f t) (and_parts (same_list row (f t)) (rows_are f (t + 1) rows) e).0 ∙ ap f (sym (add-zero t))
 row_at f t (row ∷ rows) e (suc i) l =
     let next : t + 1 + i ≡ t + suc i = omega arith in
     row_at f (t + 1) rows (and_parts (same_list row (f t)) (rows_are f (t + 1) rows) e).1 i (omega arith) ∙ ap f next
+row_at f t rows e i l = search (rules, same_from_test, and_parts, same_list, rows_are, add-zero)
 
 pub row_of : (f : ℕ → List ℕ) (rows : List (List ℕ)) → rows_are f 0 rows ≡ true → (i : ℕ) → i < length rows → get_or rows i [] ≡ f i
 row_of f rows e i l = row_at f 0 rows e i l ∙ ap f (zero-add i)
@@ -55,19 +51,15 @@ pick xs j = cond (leb 128 j) 0 (get_or xs j 0)
 
 shuffled : (xs js : List ℕ) (i : ℕ) → i + length js ≤ 16 → swz_l w8 16 xs i js ≡ map (pick xs) js
 shuffled xs [] i h = refl
-shuffled xs (j ∷ js) i h =
-    let at : 16 * (i / 16) + j ≡ j = omega arith in
-    ap (λ k. cond (leb 128 j) 0 (get_or xs k 0) ∷ swz_l w8 16 xs (suc i) js) at ∙ ap (λ r. pick xs j ∷ r) (shuffled xs js (suc i) (omega arith))
+shuffled xs (j ∷ js) i h = search (rules, swz_l, pick, shuffled xs js (suc i) (omega arith))
 
 -- a place below 128 gets the byte there
 picked : (xs : List ℕ) (k : ℕ) → k < 128 → pick xs k ≡ get_or (drop k xs) 0 0
-picked xs k h =
-    ap (λ t. cond t 0 (get_or xs k 0)) (lt-leb 128 k h) ∙ sym (get_or-drop k xs 0 0 ∙ ap (λ i. get_or xs i 0) (add-zero k))
+picked xs k h = search (rules, lt-leb, get_or-drop, add-zero)
 
 drop_more : (n : ℕ) (l : List ℕ) → drop 1 (drop n l) ≡ drop (suc n) l
-drop_more zero l = refl
-drop_more (suc n) [] = refl
 drop_more (suc n) (x ∷ l) = drop_more n l
+drop_more n l = refl
 
 drop_next : (k : ℕ) (xs : List ℕ) → drop (k + 1) xs ≡ drop 1 (drop k xs)
 drop_next k xs = ap (λ i. drop i xs) (add-one k) ∙ sym (drop_more k xs)
@@ -109,27 +101,17 @@ spread_ok row lanes tag e f =
     subst (λ js. SwzOk w8 16 16 0 js) (sym all) (SwzOk-from_Each1 w8 16 1 16 0 (spread_row tag ++ replicate 8 128) refl (omega arith) each)
 
 -- spreading bytes takes the next of them at each bit that is set
-both_zero : (t : Bool) (m : ℕ) → m ≡ 0 → 0 ≡ cond t (256 * m) (0 + 256 * m)
-both_zero true m e = omega arith
-both_zero false m e = omega arith
-
 spread_step : (n tag : ℕ) (ys : List ℕ) →
     spread (suc n) tag ys ≡ cond (eqb (tag % 2) 0) (256 * spread n (tag / 2) ys) (get_or ys 0 0 + 256 * spread n (tag / 2) (drop 1 ys))
-spread_step n tag [] = both_zero (eqb (tag % 2) 0) (spread n (tag / 2) []) (spread_empty n (tag / 2))
-spread_step n tag (y ∷ ys) = refl
+spread_step n tag ys = search rules
 
 spread_one : (n up k : ℕ) (xs : List ℕ) (r : ℕ) → r < 2 → k < 128 → pick xs (cond (eqb r 0) 128 k) + 256 * spread n up (drop (k + r) xs)
     ≡ cond (eqb r 0) (256 * spread n up (drop k xs)) (get_or (drop k xs) 0 0 + 256 * spread n up (drop 1 (drop k xs)))
-spread_one n up k xs zero h l = zero-add (256 * spread n up (drop (k + 0) xs)) ∙ ap (λ i. 256 * spread n up (drop i xs)) (add-zero k)
-spread_one n up k xs (suc zero) h l =
-    ap (λ b. b + 256 * spread n up (drop (k + 1) xs)) (picked xs k l) ∙ ap (λ ys. get_or (drop k xs) 0 0 + 256 * spread n up ys) (drop_next k xs)
-spread_one n up k xs (suc (suc r)) h l = absurd (omega arith)
+spread_one n up k xs r h l = search (rules, zero-add, add-zero, picked, drop_next)
 
 spread_picked : (n tag k : ℕ) (xs : List ℕ) → k + n ≤ 128 → number_l 256 (map (pick xs) (spread_from n tag k)) ≡ spread n tag (drop k xs)
 spread_picked zero tag k xs h = refl
-spread_picked (suc n) tag k xs h =
-    ap (λ m. pick xs (cond (eqb (tag % 2) 0) 128 k) + 256 * m) (spread_picked n (tag / 2) (k + tag % 2) xs (omega arith))
-    ∙ spread_one n (tag / 2) k xs (tag % 2) (omega arith) (omega arith) ∙ sym (spread_step n tag (drop k xs))
+spread_picked (suc n) tag k xs h = search (rules, spread_one, spread_step, spread_picked n (tag / 2) (k + tag % 2) xs (omega arith))
 
 pub spread_by_places : (xs row lanes : List ℕ) (tag : ℕ) → row ≡ spread_row tag → lanes ≡ row ++ replicate 8 128 →
     little_number 8 (take 8 (swz_l w8 16 xs 0 lanes)) ≡ spread 8 tag xs
@@ -145,16 +127,13 @@ none_either_way true x y e f = omega arith
 none_either_way false x y e f = omega arith
 
 zeros_spread : (n tag m : ℕ) → spread n tag (replicate m 0) ≡ 0
-zeros_spread zero tag m = refl
-zeros_spread (suc n) tag zero = refl
 zeros_spread (suc n) tag (suc m) = none_either_way (eqb (tag % 2) 0) _ _ (zeros_spread n (tag / 2) (suc m)) (zeros_spread n (tag / 2) m)
+zeros_spread n tag m = refl
 
 spread_with_zeros : (n tag m : ℕ) (bs : List ℕ) → spread n tag (bs ++ replicate m 0) ≡ spread n tag bs
 spread_with_zeros zero tag m bs = refl
 spread_with_zeros (suc n) tag m [] = zeros_spread (suc n) tag m
-spread_with_zeros (suc n) tag m (b ∷ bs) =
-    ap (λ x. cond (eqb (tag % 2) 0) (256 * x) (b + 256 * spread n (tag / 2) (bs ++ replicate m 0))) (spread_with_zeros n (tag / 2) m (b ∷ bs))
-    ∙ ap (λ x. cond (eqb (tag % 2) 0) (256 * spread n (tag / 2) (b ∷ bs)) (b + 256 * x)) (spread_with_zeros n (tag / 2) m bs)
+spread_with_zeros (suc n) tag m (b ∷ bs) = search (rules, spread_with_zeros n (tag / 2) m (b ∷ bs), spread_with_zeros n (tag / 2) m bs)
 
 clear_bit : (z : Bool) → eqb (cond z 0 1) 0 ≡ z
 clear_bit true = refl
@@ -175,12 +154,7 @@ first_picked false xs ks k b e = ap (λ x. x ∷ map (pick xs) ks) e
 -- the places of the bits of a tag pick the bytes that aren't zero
 marked_picked : (bs xs ys : List ℕ) (k : ℕ) → drop k xs ≡ bs ++ ys → k + length bs ≤ 128 → map (pick xs) (marked_from (length bs) (tag_of bs) k) ≡ present bs
 marked_picked [] xs ys k e h = refl
-marked_picked (b ∷ bs) xs ys k e h =
-    let z : Bool = eqb b 0 in
-    let this : pick xs k ≡ b = picked xs k (omega arith) ∙ ap (λ l. get_or l 0 0) e in
-    let following : drop (k + 1) xs ≡ bs ++ ys = drop_next k xs ∙ ap (drop 1) e in
-    ap (map (pick xs)) (marked_first z (length bs) (tag_of bs) k) ∙ first_picked z xs (marked_from (length bs) (tag_of bs) (k + 1)) k b this
-    ∙ ap (λ l. cond (not z) (b ∷ l) l) (marked_picked bs xs ys (k + 1) following (omega arith))
+marked_picked (b ∷ bs) xs ys k e h = search (rules, pick, picked, drop_next, marked_first, first_picked, marked_picked bs xs ys (k + 1) (drop_next k xs ∙ ap (drop 1) e) (omega arith))
 
 -- as many as the tag has bits set
 count_first : (z : Bool) (b : ℕ) (l : List ℕ) → length (cond (not z) (b ∷ l) l) ≡ cond z 0 1 + length l
@@ -189,10 +163,7 @@ count_first false b l = omega arith
 
 present_count : (bs : List ℕ) → marks (length bs) (tag_of bs) ≡ length (present bs)
 present_count [] = refl
-present_count (b ∷ bs) =
-    let z : Bool = eqb b 0 in
-    ap (λ r. r + marks (length bs) (tag_of (b ∷ bs) / 2)) (low_bit z (tag_of bs)) ∙ ap (λ t. cond z 0 1 + marks (length bs) t) (bits_after z (tag_of bs))
-    ∙ ap (λ m. cond z 0 1 + m) (present_count bs) ∙ sym (count_first z b (present bs))
+present_count (b ∷ bs) = search (rules, low_bit, bits_after, count_first, present, present_count bs)
 
 -- the places of a row
 squeeze_place : (t : Bool) (k : ℕ) (ys : List ℕ) → k < 16 → Each1 IsPlace ys → Each1 IsPlace (cond t [] (k ∷ []) ++ ys)
@@ -201,18 +172,14 @@ squeeze_place false k ys h each = (is_place k h, each)
 
 squeeze_places : (n tag k : ℕ) → k + n ≤ 16 → Each1 IsPlace (marked_from n tag k)
 squeeze_places zero tag k h = tt
-squeeze_places (suc n) tag k h =
-    squeeze_place (eqb (tag % 2) 0) k (marked_from n (tag / 2) (k + 1)) (omega arith) (squeeze_places n (tag / 2) (k + 1) (omega arith))
+squeeze_places (suc n) tag k h = search (rules, squeeze_place, squeeze_places n (tag / 2) (k + 1) (omega arith))
 
 length_first : (r k : ℕ) (ys : List ℕ) → r < 2 → length (cond (eqb r 0) [] (k ∷ []) ++ ys) ≡ r + length ys
-length_first zero k ys h = omega arith
-length_first (suc zero) k ys h = omega arith
-length_first (suc (suc r)) k ys h = absurd (omega arith)
+length_first r k ys h = search rules
 
 length_marked : (n tag k : ℕ) → length (marked_from n tag k) ≡ marks n tag
 length_marked zero tag k = refl
-length_marked (suc n) tag k =
-    length_first (tag % 2) k (marked_from n (tag / 2) (k + 1)) (omega arith) ∙ ap (λ m. tag % 2 + m) (length_marked n (tag / 2) (k + 1))
+length_marked (suc n) tag k = search (rules, length_first, length_marked n (tag / 2) (k + 1))
 
 length_row : (tag : ℕ) → length (squeeze_row tag) ≡ 8
 length_row tag =
@@ -226,8 +193,7 @@ length_lanes tag = length-append (squeeze_row tag) (replicate 8 128) ∙ ap (λ 
 pub squeeze_ok : (row lanes : List ℕ) (tag : ℕ) → row ≡ squeeze_row tag → lanes ≡ row ++ replicate 8 128 → SwzOk w8 16 16 0 lanes
 squeeze_ok row lanes tag e f =
     let all : lanes ≡ squeeze_row tag ++ replicate 8 128 = f ∙ ap (λ r. r ++ replicate 8 128) e in
-    let each : Each1 IsPlace (squeeze_row tag ++ replicate 8 128) = each_append (squeeze_row tag) (replicate 8 128)
-    (each_append (marked_from 8 tag 0) (replicate (8 - marks 8 tag) 128) (squeeze_places 8 tag 0 (omega arith)) (no_places (8 - marks 8 tag))) (no_places 8) in
+    let each : Each1 IsPlace (squeeze_row tag ++ replicate 8 128) = search (rules, each_append, squeeze_places, no_places) in
     subst (λ js. SwzOk w8 16 16 0 js) (sym all) (SwzOk-from_Each1 w8 16 1 16 0 (squeeze_row tag ++ replicate 8 128) refl (omega (arith, length_lanes tag)) each)
 
 none_picked : (xs : List ℕ) (n : ℕ) → map (pick xs) (replicate n 128) ≡ replicate n 0
@@ -245,12 +211,9 @@ squeeze_by_places word xs row lanes tag l e t r f =
     let low : map (pick xs) (squeeze_row tag) ≡ present word ++ replicate (8 - marks 8 tag) 0 =
     map-append (pick xs) (marked_from 8 tag 0) (replicate (8 - marks 8 tag) 128)
     ∙ ap (λ front. front ++ map (pick xs) (replicate (8 - marks 8 tag) 128))
-    (ap (λ u. map (pick xs) (marked_from 8 u 0)) t ∙ ap (λ n. map (pick xs) (marked_from n (tag_of word) 0)) (sym l)
-    ∙ marked_picked word xs (replicate 8 0) 0 e (omega arith))
+    ((search (rules, pick xs, marked_picked word xs (replicate 8 0) 0 e (omega arith))))
     ∙ ap (λ zeros. present word ++ zeros) (none_picked xs (8 - marks 8 tag)) in
-    ap (λ js. take 8 (swz_l w8 16 xs 0 js)) all ∙ ap (take 8) (shuffled xs (squeeze_row tag ++ replicate 8 128) 0 (omega (arith, length_lanes tag)))
-    ∙ ap (take 8) (map-append (pick xs) (squeeze_row tag) (replicate 8 128))
-    ∙ low_lanes (map (pick xs) (squeeze_row tag)) (map (pick xs) (replicate 8 128)) (length-map (squeeze_row tag) (pick xs) ∙ length_row tag) ∙ low
+    search (rules, swz_l, shuffled, length_lanes, map-append, pick, low_lanes, length-map, length_row)
 
 -- the number of bits that are set
 pub ones_of_tag : (w tag : ℕ) → tag ≡ word_tag w → ones tag ≡ length (present (word_bytes w))
@@ -260,12 +223,7 @@ ones_of_tag w tag e =
 -- each byte is one that is present, or a zero one
 present_or_zero : (bs : List ℕ) → length (present bs) + zeros_in bs ≡ length bs
 present_or_zero [] = refl
-present_or_zero (b ∷ bs) = one_of (b == 0) b bs (present_or_zero bs)
-  where
-    one_of : (z : Bool) (b : ℕ) (bs : List ℕ) → length (present bs) + zeros_in bs ≡ length bs →
-        length (if not z then b ∷ present bs else present bs) + ((if z then 1 else 0) + zeros_in bs) ≡ suc (length bs)
-    one_of true b bs e = omega (arith, e)
-    one_of false b bs e = omega (arith, e)
+present_or_zero (b ∷ bs) = search (rules, present, present_or_zero bs)
 
 -- the others are zero
 pub ones_and_zeros : (w tag : ℕ) → tag ≡ word_tag w → ones tag + zero_bytes w ≡ 8

@@ -1,11 +1,10 @@
 -- What one answer of the unpacker does to what is known of it.
-use Rattle.cap_spec.proofs.ProofNames.{List, None, OnSome, Option, Some, [], ap, append-nil, arith, false, option_map}
-use Rattle.cap_spec.proofs.ProofNames.{refl, suc, sym, true, unwrap_or, zero, ℕ, ◌++◌, ◌-◌, ◌<◌, ◌∙◌, ◌∷◌, ◌≡◌, Consumes}
-use Rattle.cap_spec.proofs.ProofNames.{IsAtEnd, packed_ends, packed_is_cut, unpacked, common_steps, rules}
+use Rattle.cap_spec.proofs.ProofNames.{List, None, OnSome, Option, Some, [], ap, arith, false, option_map}
+use Rattle.cap_spec.proofs.ProofNames.{refl, suc, true, unwrap_or, zero, ℕ, ◌++◌, ◌-◌, ◌<◌, ◌∷◌, ◌≡◌, Consumes}
+use Rattle.cap_spec.proofs.ProofNames.{IsAtEnd, packed_ends, packed_is_cut, unpacked, rules}
 use Rattle.cap_words.specs.declared.ends.Phase.{Phase}
 use Rattle.cap_words.specs.declared.ends.Phase.TheVariants.{Ended, Failed, Open}
 use Rattle.cap_pack.specs.Course.{Course, course, course_is_cut, course_places, course_words, ends, gives, stops}
-use Rattle.cap_pack.specs.Course.{zeros_then}
 use Rattle.cap_pack.specs.State.{ahead}
 use Rattle.cap_pack.proofs.Courses.{course_none}
 use Rattle.cap_pack.proofs.Ties.{course_reports}
@@ -26,47 +25,30 @@ new_places (Some bytes) = (course_reports 0 bytes).2
 module _ (f g : List ℕ → Course) (w to : ℕ) (bs : List ℕ) (step : (ys : List ℕ) → f (bs ++ ys) ≡ gives w to (g ys)) where
   pub given_words : (a b : Option (List ℕ)) → Consumes a b bs
       → Consumes (option_map (λ l. course_words (f l)) a) (option_map (λ l. course_words (g l)) b) (w ∷ [])
-  given_words None b p = tt
-  given_words (Some x) None p = absurd p
-  given_words (Some x) (Some y) p = ap (λ l. course_words (f l)) p ∙ ap course_words (step y)
+  given_words a b p = search rules
 
   pub given_rest : (a b : Option (List ℕ)) → Consumes a b bs →
       OnSome (option_map (λ l. course_words (f l)) a) ((course_is_cut (g (unwrap_or b [])) ≡ course_is_cut (f (unwrap_or a [])))
       × (course_places (f (unwrap_or a [])) ≡ to ∷ course_places (g (unwrap_or b []))))
-  given_rest None b p = tt
-  given_rest (Some x) None p = absurd p
-  given_rest (Some x) (Some y) p = grind (arith, common_steps)
-
--- these were the last bytes
-all_taken : (x y bs : List ℕ) → x ≡ bs ++ y → y ≡ [] → x ≡ bs
-all_taken x y bs p e = p ∙ ap (λ l. bs ++ l) e ∙ append-nil bs
+  given_rest a b p = search rules
 
 pub left_none : (f : List ℕ → Course) (to : ℕ) (a b : Option (List ℕ)) → f [] ≡ ends to → Consumes a b [] → IsAtEnd b →
     OnSome (option_map (λ l. course_words (f l)) a) ((option_map (λ l. course_words (f l)) a ≡ Some []) × (course_is_cut (f (unwrap_or a [])) ≡ false)
     × (course_places (f (unwrap_or a [])) ≡ to ∷ []))
-left_none f to None b e p q = tt
-left_none f to (Some x) None e p q = absurd p
-left_none f to (Some x) (Some y) e p q = search (rules, all_taken)
+left_none f to a b e p q = search rules
 
 pub left_cut : (f : List ℕ → Course) (to : ℕ) (bs : List ℕ) (a b : Option (List ℕ)) → f bs ≡ stops to → Consumes a b bs → IsAtEnd b →
     OnSome (option_map (λ l. course_words (f l)) a) ((option_map (λ l. course_words (f l)) a ≡ Some []) × (course_is_cut (f (unwrap_or a [])) ≡ true)
     × (course_places (f (unwrap_or a [])) ≡ to ∷ []))
-left_cut f to bs None b e p q = tt
-left_cut f to bs (Some x) None e p q = absurd p
-left_cut f to bs (Some x) (Some y) e p q = search (rules, all_taken)
+left_cut f to bs a b e p q = search rules
 
 pub none_words : (f g : List ℕ → Course) (to at : ℕ) (a b : Option (List ℕ)) → f [] ≡ ends to → ((l : List ℕ) → g l ≡ ends at) → Consumes a b [] → IsAtEnd b →
     Consumes (option_map (λ l. course_words (f l)) a) (option_map (λ l. course_words (g l)) b) []
-none_words f g to at None b e h p q = tt
-none_words f g to at (Some x) None e h p q = absurd p
-none_words f g to at (Some x) (Some y) e h p q = ap course_words (ap f (all_taken x y [] p q) ∙ e) ∙ sym (ap course_words (h y))
+none_words f g to at a b e h p q = search rules
 
 -- a zero word that was held
 pub zero_step : (phase : Phase) (z p at : ℕ) → phase ≡ Open → 0 < z → (ys : List ℕ) → ahead phase z p at ([] ++ ys) ≡ gives 0 at (ahead phase (z - 1) p at ys)
-zero_step Open zero p at e q ys = absurd (omega arith)
-zero_step Open (suc z) p at e q ys = let less : z ≡ suc z - 1 = omega arith in ap (λ n. gives 0 at (zeros_then n at (course p at ys))) less
-zero_step Ended z p at e q ys = absurd (cc)
-zero_step Failed z p at e q ys = absurd (cc)
+zero_step phase z p at e q ys = search rules
 
 -- the input ends inside it
 pub word_cut_step : (phase : Phase) (z p at to : ℕ) (bs : List ℕ) → phase ≡ Open → z ≡ 0 → 0 < p → ((n : ℕ) → course (suc n) at bs ≡ stops to) →
@@ -79,11 +61,7 @@ word_cut_step Failed z p at to bs e o q s = absurd (cc)
 
 -- between groups the bytes are those of groups
 pub between : (phase : Phase) (z p at : ℕ) (bs : List ℕ) (c : Course) → phase ≡ Open → z ≡ 0 → p ≡ 0 → course 0 at bs ≡ c → ahead phase z p at bs ≡ c
-between Open zero zero at bs c e o q s = s
-between Open (suc z) p at bs c e o q s = absurd (omega arith)
-between Open zero (suc p) at bs c e o q s = absurd (omega arith)
-between Ended z p at bs c e o q s = absurd (cc)
-between Failed z p at bs c e o q s = absurd (cc)
+between phase z p at bs c e o q s = search rules
 
 -- no group is left
 pub no_group : (phase : Phase) (z p at : ℕ) → phase ≡ Open → z ≡ 0 → p ≡ 0 → ahead phase z p at [] ≡ ends at

@@ -4,9 +4,9 @@ use Rattle.std.specs.Simd.Lanes.{digits_l, put_chunk}
 use Rattle.cap_spec.proofs.Lemmas.{length_plain, bytes_back}
 use Rattle.cap_spec.proofs.Packed.Repacking.{tag_below}
 use Rattle.cap_spec.proofs.ProofNames.{Bool, List, [], ap, arith, cond, eqb, false, flat_map, if◌then◌else◌, length, map}
-use Rattle.cap_spec.proofs.ProofNames.{not, refl, replicate, suc, sym, take, take-add, true, w8, ℕ, ◌%◌, ◌*◌, ◌++◌}
-use Rattle.cap_spec.proofs.ProofNames.{◌+◌, ◌/◌, ◌<◌, ◌==◌, ◌∙◌, ◌∷◌, ◌≡◌, ◌≤◌, length-map, map-append, bitmask_splat}
-use Rattle.cap_spec.proofs.ProofNames.{length-chunk, byte_at, AllByRecursion, Each1, chunk, mask_l, number_l, top, zip2}
+use Rattle.cap_spec.proofs.ProofNames.{not, refl, replicate, suc, take, take-add, true, w8, ℕ, ◌%◌, ◌*◌, ◌++◌}
+use Rattle.cap_spec.proofs.ProofNames.{◌+◌, ◌<◌, ◌==◌, ◌∙◌, ◌∷◌, ◌≡◌, ◌≤◌, length-map, map-append, bitmask_splat}
+use Rattle.cap_spec.proofs.ProofNames.{length-chunk, AllByRecursion, Each1, chunk, mask_l, number_l, top, zip2}
 use Rattle.cap_spec.proofs.ProofNames.{little_number, tag_of, word_bytes, rules}
 
 -- the tag of a word
@@ -17,17 +17,7 @@ word_tag w = tag_of (word_bytes w)
 eight_digits : (n w r : ℕ) → w < 18446744073709551616 → digits_l 256 (8 * suc n) (w + 18446744073709551616 * r) ≡ word_bytes w ++ digits_l 256 (8 * n) r
 eight_digits n w r h =
     let size : 8 * suc n ≡ suc (suc (suc (suc (suc (suc (suc (suc (8 * n)))))))) = omega arith in
-    let x : ℕ = w + 18446744073709551616 * r in
-    let a : x % 256 ≡ byte_at 0 w = omega arith in
-    let b : x / 256 % 256 ≡ byte_at 1 w = omega arith in
-    let c : x / 256 / 256 % 256 ≡ byte_at 2 w = omega arith in
-    let d : x / 256 / 256 / 256 % 256 ≡ byte_at 3 w = omega arith in
-    let e : x / 256 / 256 / 256 / 256 % 256 ≡ byte_at 4 w = omega arith in
-    let f : x / 256 / 256 / 256 / 256 / 256 % 256 ≡ byte_at 5 w = omega arith in
-    let g : x / 256 / 256 / 256 / 256 / 256 / 256 % 256 ≡ byte_at 6 w = omega arith in
-    let i : x / 256 / 256 / 256 / 256 / 256 / 256 / 256 % 256 ≡ byte_at 7 w = omega arith in
-    let rest : x / 256 / 256 / 256 / 256 / 256 / 256 / 256 / 256 ≡ r = omega arith in
-    ap (λ k. digits_l 256 k x) size ∙ cc
+    search rules
 
 -- the lanes of words, as bytes, are the bytes of the words
 pub lanes_are_bytes : (ws : List ℕ) → Each1 (λ x. x < 18446744073709551616) ws →
@@ -84,8 +74,7 @@ pub eight_tags : (ws : List ℕ) → Each1 (λ x. x < 18446744073709551616) ws �
     word_bytes (mask_l (map (top 7) (zip2 (λ a b. cond (not (eqb a b)) 255 0) (digits_l 256 64 (number_l 18446744073709551616 ws)) (replicate 64 0)))
     % 18446744073709551616) ≡ map word_tag ws
 eight_tags ws fit l =
-    marked_tags (digits_l 256 64 (number_l 18446744073709551616 ws)) ws (ap (λ n. digits_l 256 (8 * n) (number_l 18446744073709551616 ws)) (sym l)
-    ∙ lanes_are_bytes ws fit) l
+    marked_tags (digits_l 256 64 (number_l 18446744073709551616 ws)) ws (search (rules, lanes_are_bytes)) l
 
 -- eight tags more are written
 pub eights_more : (ws out eight : List ℕ) (i : ℕ) → i + 8 ≤ length ws → length out ≡ length ws → eight ≡ map word_tag (chunk i 8 ws) →
@@ -93,8 +82,7 @@ pub eights_more : (ws out eight : List ℕ) (i : ℕ) → i + 8 ≤ length ws �
     take (i + 8) (put_chunk i out eight) ≡ map word_tag (take (i + 8) ws)
 eights_more ws out eight i capacity l e before =
     let few : length eight ≡ 8 = ap length e ∙ length-map (chunk i 8 ws) word_tag ∙ length-chunk i 8 ws capacity in
-    take_more_put_chunk i out eight (i + 8) (omega arith) (omega arith) ∙ ap (λ t. t ++ eight) before ∙ ap (λ t. map word_tag (take i ws) ++ t) e
-    ∙ sym (map-append word_tag (take i ws) (chunk i 8 ws)) ∙ ap (λ t. map word_tag t) (sym (take-add i 8 ws))
+    search (rules, take_more_put_chunk, map-append, take-add)
 
 -- the lanes of one word, and of zeros above it
 pub lanes_of_one : (w : ℕ) → w < 18446744073709551616 → digits_l 256 16 (number_l 18446744073709551616 (w ∷ 0 ∷ [])) ≡ word_bytes w ++ replicate 8 0
@@ -103,6 +91,4 @@ lanes_of_one w h = lanes_are_bytes (w ∷ 0 ∷ []) (h, (omega arith, tt))
 -- the bits that mark the bytes of one word that aren't zero are its tag
 pub tag_by_lanes : (w : ℕ) (bs : List ℕ) → bs ≡ word_bytes w ++ replicate 8 0 →
     mask_l (map (top 7) (zip2 (λ a b. cond (not (eqb a b)) 255 0) bs (replicate 16 0))) % 18446744073709551616 ≡ word_tag w
-tag_by_lanes w bs e =
-    let long : length bs ≡ 16 = ap length e in
-    bitmask_splat w8 differs bs 16 0 long (omega arith) ∙ mask_is_tag bs ∙ ap tag_of e ∙ tag_above w (replicate 8 0) ∙ omega arith
+tag_by_lanes w bs e = search (rules, bitmask_splat w8 differs bs 16 0 (ap length e) (omega arith), mask_is_tag bs, tag_above w (replicate 8 0))

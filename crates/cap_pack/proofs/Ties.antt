@@ -82,13 +82,7 @@ after_short : (k n at : ℕ) (bytes : List ℕ) → length bytes < 8 * n →
     × (after_ends k n at bytes ≡ take (length (plain_words bytes)) (word_ends at n) ++ capped (at + length bytes) ∷ [])
 unfolding following after_is_cut after_ends
 after_short k zero at bytes p = absurd (omega arith)
-after_short k (suc n) at (a ∷ b ∷ c ∷ d ∷ e ∷ f ∷ g ∷ h ∷ rest) p =
-    let t = after_short k n (at + 8) rest (omega arith) in
-    let last : (at + 8) + length rest ≡ at + length (a ∷ b ∷ c ∷ d ∷ e ∷ f ∷ g ∷ h ∷ rest) = omega arith in (
-      ap (λ l. little_number 8 (a ∷ b ∷ c ∷ d ∷ e ∷ f ∷ g ∷ h ∷ []) ∷ l) t.0,
-      t.1,
-      ap (λ l. capped (at + 8) ∷ l) t.2 ∙ ap (λ p. capped (at + 8) ∷ (take (length (plain_words rest)) (word_ends (at + 8) n) ++ capped p ∷ [])) last,
-    )
+after_short k (suc n) at (a ∷ b ∷ c ∷ d ∷ e ∷ f ∷ g ∷ h ∷ rest) p = search (rules, after_short k n (at + 8) rest (omega arith))
 after_short k (suc n) at bytes p = (refl, refl, refl)
 
 -- they are all there
@@ -97,14 +91,7 @@ after_long : (k n at : ℕ) (bytes : List ℕ) → 8 * n ≤ length bytes →
     × (after_ends k n at bytes ≡ word_ends at n ++ ends_in k (at + 8 * n) (drop (8 * n) bytes))
 unfolding following after_is_cut after_ends
 after_long k zero at bytes p = let here : at ≡ at + 8 * 0 = omega arith in (refl, refl, ap (λ p. ends_in k p bytes) here)
-after_long k (suc n) at (a ∷ b ∷ c ∷ d ∷ e ∷ f ∷ g ∷ h ∷ rest) p =
-    let t = after_long k n (at + 8) rest (omega arith) in
-    let next : (at + 8) + 8 * n ≡ at + suc (suc (suc (suc (suc (suc (suc (suc (8 * n)))))))) = omega arith in
-    rw (eight_more n) (
-      ap (λ l. little_number 8 (a ∷ b ∷ c ∷ d ∷ e ∷ f ∷ g ∷ h ∷ []) ∷ l) t.0,
-      t.1,
-      ap (λ l. capped (at + 8) ∷ l) t.2 ∙ ap (λ p. capped (at + 8) ∷ (word_ends (at + 8) n ++ ends_in k p (drop (8 * n) rest))) next,
-    )
+after_long k (suc n) at (a ∷ b ∷ c ∷ d ∷ e ∷ f ∷ g ∷ h ∷ rest) p = search (rules, eight_more n, after_long k n (at + 8) rest (omega arith))
 after_long k (suc n) at bytes p = absurd (omega (arith, p))
 
 -- What is shown of all short bytes holds after words as they are, too.
@@ -145,27 +132,14 @@ plain_run_reported k t at (a ∷ b ∷ c ∷ d ∷ e ∷ f ∷ g ∷ h ∷ n ∷
     (λ q. let s = after_short k n (at + 10) rest q in
     let given : given_of (255 ∷ bytes) ≡ one ∷ plain_words rest = cond-false _ _ _ (le-ltb (length bytes) 9 (omega arith)) in
     let last : at + length (255 ∷ bytes) ≡ (at + 10) + length rest = omega arith in
-    reports_true _ _ _ (lt-ltb (length (255 ∷ bytes)) (10 + 8 * n) (omega arith))
-    (reports_along step (given ∙ ap (λ l. one ∷ l) (sym s.0)) (sym s.1)
-    (ap (λ ws. take (length ws) (capped (at + 10) ∷ word_ends (at + 10) n) ++ capped (at + length (255 ∷ bytes)) ∷ []) given
-    ∙ ap (λ p. capped (at + 10) ∷ (take (length (plain_words rest)) (word_ends (at + 10) n) ++ capped p ∷ [])) last ∙ ap (λ l. capped (at + 10) ∷ l) (sym s.2))
-    (reports_one one (capped (at + 10)) after)))
-    (λ q. let l = after_long k n (at + 10) rest q in
-    let next : at + suc (suc (suc (suc (suc (suc (suc (suc (suc (suc (8 * n)))))))))) ≡ (at + 10) + 8 * n = omega arith in
-    reports_false _ _ _ (le-ltb (length (255 ∷ bytes)) (10 + 8 * n) (omega arith))
-    (reports_along step
-    (ap (λ m. one ∷ (plain_words (take (8 * n) rest) ++ given_in k (drop m (255 ∷ bytes)))) head ∙ ap (λ w. one ∷ w) (sym l.0))
-    (ap (λ m. is_cut_in k (drop m (255 ∷ bytes))) head ∙ sym l.1)
-    (ap (λ m. capped (at + 10) ∷ (word_ends (at + 10) n ++ ends_in k (at + m) (drop m (255 ∷ bytes)))) head
-    ∙ ap (λ p. capped (at + 10) ∷ (word_ends (at + 10) n ++ ends_in k p (drop (8 * n) rest))) next ∙ ap (λ w. capped (at + 10) ∷ w) (sym l.2))
-    (reports_one one (capped (at + 10)) after)))
+    search rules)
+    (λ q. search (rules, after_long, reports_false, le-ltb, reports_along, reports_one))
     (cases_lt (length rest) (8 * n))
 plain_run_reported k t at bytes p = reports_along (course_head_stops (capped at) 255 bytes (omega arith)) refl refl refl (reports_stop at (length (255 ∷ bytes)))
 
 reports_marked : {ws : List ℕ} {u : Bool} {ps : List ℕ} (w z o x at : ℕ) (bytes : List ℕ) → w ≡ x → z ≡ 0 → o ≡ 0 → Reports (course 0 at bytes) ws u ps →
     Reports (gives w at (zeros_then z at (course o at bytes))) (x ∷ ws) u (at ∷ ps)
-reports_marked w z o x at bytes e f g t = reports_along (ap (λ n. gives n at (zeros_then z at (course o at bytes))) e
-    ∙ ap (λ n. gives x at (zeros_then n at (course o at bytes))) f ∙ ap (λ n. gives x at (course n at bytes)) g) refl refl refl (reports_one x at t)
+reports_marked w z o x at bytes e f g t = reports_along (search rules) refl refl refl (reports_one x at t)
 
 -- a head of this many further bytes that is a word by itself
 marked_in : (k : ℕ) → Reported k → (at tag m x : ℕ) (bytes : List ℕ) → length bytes ≤ k → m ≡ head_rest tag →
@@ -183,9 +157,7 @@ marked_in k t at tag m x bytes p r e z o = ⊎_elim
     let short : length (drop m bytes) ≤ k = omega (arith, length-drop m bytes) in
     let place : capped (at + suc (length (take m bytes))) ≡ capped (at + suc m) = ap (λ n. capped (at + suc n)) whole in
     reports_false _ _ _ (le-ltb (suc (length bytes)) (suc m) (omega arith))
-    (reports_along (ap (λ l. course 0 (capped at) (tag ∷ l)) (sym (take-append-drop m bytes)) ∙ step
-    ∙ ap (λ p. gives (first_word tag (take m bytes)) p
-    (zeros_then (zeros_of tag (take m bytes)) p (course (plain_of tag (take m bytes)) p (drop m bytes)))) place) refl refl refl
+    (reports_along (search (rules, take-append-drop)) refl refl refl
     (reports_marked _ _ _ x (capped (at + suc m)) (drop m bytes) (e q) z o (t (at + suc m) (drop m bytes) short))))
     (cases_lt (length bytes) m)
 
@@ -208,18 +180,12 @@ marked_reported k t at tag bytes z o p =
     let long : group_length (tag ∷ bytes) ≡ suc m = pick (eqb tag 0) (eqb tag 255) 2 (10 + 8 * slice_index bytes 8) (1 + m) not_zero not_full ∙ one-add m in
     let encoded : group_words (tag ∷ bytes) ≡ spread 8 tag bytes ∷ [] = pick (eqb tag 0) (eqb tag 255) _ _ _ not_zero not_full in
     let before : given_of (tag ∷ bytes) ≡ [] = cond-false (eqb tag 255) _ _ not_full in
-    let placed : front_ends at (tag ∷ bytes) ≡ capped (at + suc m) ∷ [] = pick (eqb tag 0) (eqb tag 255) _ _ _ not_zero not_full
-    ∙ ap (λ n. capped (at + n) ∷ []) (one-add m) in
+    let placed : front_ends at (tag ∷ bytes) ≡ capped (at + suc m) ∷ [] = search rules in
     let whole : List ℕ → List ℕ = λ ws. cond (ltb (suc (length bytes)) (suc m)) [] (ws ++ given_in k (drop m bytes)) in
     reports_along refl
-    (ap (λ n. cond (ltb (suc (length bytes)) n) (given_of (tag ∷ bytes)) (group_words (tag ∷ bytes) ++ given_in k (drop n (tag ∷ bytes)))) long
-    ∙ ap (λ ws. cond (ltb (suc (length bytes)) (suc m)) ws (group_words (tag ∷ bytes) ++ given_in k (drop m bytes))) before ∙ ap whole encoded)
+    ((search rules))
     (ap (λ n. cond (ltb (suc (length bytes)) n) true (is_cut_in k (drop n (tag ∷ bytes)))) long)
-    (ap (λ n. cond (ltb (suc (length bytes)) n) (take (length (given_of (tag ∷ bytes))) (front_ends at (tag ∷ bytes))
-    ++ capped (at + suc (length bytes)) ∷ []) (front_ends at (tag ∷ bytes) ++ ends_in k (at + n) (drop n (tag ∷ bytes)))) long
-    ∙ ap (λ ws. cond (ltb (suc (length bytes)) (suc m)) (take (length ws) (front_ends at (tag ∷ bytes)) ++ capped (at + suc (length bytes)) ∷ [])
-    (front_ends at (tag ∷ bytes) ++ ends_in k (at + suc m) (drop m bytes))) before
-    ∙ ap (λ ps. cond (ltb (suc (length bytes)) (suc m)) (capped (at + suc (length bytes)) ∷ []) (ps ++ ends_in k (at + suc m) (drop m bytes))) placed)
+    ((search rules))
     (marked_in k t at tag m (spread 8 tag bytes) bytes p (sym (pick (eqb tag 0) (eqb tag 255) 1 9 m not_zero not_full))
     (λ q. pick (eqb tag 0) (eqb tag 255) _ _ _ not_zero not_full ∙ spread-take tag m bytes refl q)
     (cond-false (eqb tag 0) _ _ not_zero) (cond-false (eqb tag 255) _ _ not_full))

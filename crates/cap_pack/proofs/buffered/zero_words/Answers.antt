@@ -1,14 +1,10 @@
-use Rattle.std.proofs.Common.{ap, arith, drop, length, length-take-le, replicate, take, take_all, ℕ, ◌*◌, ◌∙◌, ◌≡◌}
+use Rattle.cap_spec.proofs.ProofNames.{rules}
+use Rattle.std.proofs.Common.{ap, arith, drop, length, length-take-le, take, take_all, ◌*◌, ◌∙◌, ◌≡◌}
 use Rattle.std.proofs.lemmas.List.{take-append-le, take-replicate}
 use Rattle.cap_pack.proofs.buffered.zero_words.Goals as goal
 
 pub returns-clause-zeros : goal.returns-clause-zeros
-returns-clause-zeros c =
-    let n = 8 * c.min-words.result in
-    let given = c.fill.new.self in
-    let long : length given ≡ n = omega (arith, c.fill.ensures.len, length-take-le n c.args.out.now (omega arith)) in
-    take-append-le n given (drop n c.args.out.now) (omega arith) ∙ take_all n given (omega arith)
-    ∙ (c.fill.ensures.after (λ y h. h) ∙ ap (λ (k : ℕ). replicate k 0) (length-take-le n c.args.out.now (omega arith)))
+returns-clause-zeros c = search (rules, length-take-le, take-append-le, take_all)
 
 pub returns-then-out-ge-FEW-clause-zeros : goal.returns-then-out-ge-FEW-clause-zeros
 returns-then-out-ge-FEW-clause-zeros c =

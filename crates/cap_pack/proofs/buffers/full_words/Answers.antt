@@ -1,6 +1,7 @@
 -- One more word with at most one zero byte, another word, and as many as there may be.
 use Rattle.cap_spec.proofs.Lemmas.{words_exact, front-le}
-use Rattle.cap_spec.proofs.ProofNames.{ap, arith, le-leb, leb, length, ◌≡◌, ◌≤◌, lt-leb, full_run, zero_bytes, plain_words}
+use Rattle.cap_spec.proofs.ProofNames.{ap, arith, le-leb, leb, ◌≡◌, lt-leb, full_run, zero_bytes, plain_words}
+use Rattle.cap_spec.proofs.ProofNames.{rules}
 use Rattle.cap_pack.proofs.Runs.{run_ends, run_more}
 use Rattle.cap_pack.proofs.buffers.full_words.Goals as goal
 
@@ -25,8 +26,4 @@ returns-else-count_zeros-le1 c =
     omega (arith, all, far.most, c.loop-count-test.true)
 
 pub returns-after-loop-count : goal.returns-after-loop-count
-returns-after-loop-count c =
-    let words = plain_words c.args.bytes.now in
-    let far = c.loop-count.invariant in
-    let few : full_run words ≤ length words = front-le (λ x. leb (zero_bytes x) 1) words in
-    omega (arith, few, far.run, far.most, far.within, words_exact c.args.bytes.now, c.loop-count-test.false)
+returns-after-loop-count c = search (rules, front-le, words_exact)

@@ -1,3 +1,4 @@
+use Rattle.cap_spec.proofs.ProofNames.{rules}
 use Rattle.std.proofs.Common.{ap, arith, refl, sym, take, ◌++◌, ◌+◌, ◌∙◌, ◌∷◌}
 use Rattle.cap_pack.specs.Holding.{held}
 use Rattle.cap_pack.proofs.GroupsEncoded.{full_apart, full_one, plain_extended, zeros_apart, zeros_joined, zeros_one}
@@ -7,9 +8,7 @@ pub invariant_of-self : goal.invariant_of-self
 invariant_of-self g c = record { one_group = zeros_one (c.in-Zeros.more + c.min-count.result) (omega (arith, c.min-count.ensures)); full_first = refl }
 
 pub returns-in-Zeros-clause-joined : goal.returns-in-Zeros-clause-joined
-returns-in-Zeros-clause-joined g c =
-    zeros_joined c.in-Zeros.more c.min-count.result c.args.words.now (omega (arith, c.zero_run.ensures, c.min-count.ensures))
-    ∙ ap (λ v. held v c.args.self.now.words ++ take c.min-count.result c.args.words.now) (sym c.in-Zeros.is)
+returns-in-Zeros-clause-joined g c = search (rules, zeros_joined)
 
 pub returns-in-Zeros-clause-apart : goal.returns-in-Zeros-clause-apart
 returns-in-Zeros-clause-apart g c =

@@ -1,4 +1,4 @@
-use Rattle.cap_spec.proofs.ProofNames.{[], arith, refl, ◌++◌, pack_text}
+use Rattle.cap_spec.proofs.ProofNames.{[], arith, ◌++◌, pack_text, rules}
 use Rattle.cap_words.proofs.PlainEncoding.{part_begins}
 use Rattle.cap_pack.specs.Holding.{group_bytes, held}
 use Rattle.cap_pack.proofs.Joining.{group_written, no_more}
@@ -14,9 +14,4 @@ returns-in-Ok-clause-finished g c =
 pub returns-in-Err-clause-err : goal.returns-in-Err-clause-err
 returns-in-Err-clause-err g c =
     let s = c.args.self.now in
-    let part = c.in-Err.ensures.err in (
-      refl,
-      part_begins (g.O.ByteOut.written s.output) (g.O.ByteOut.written c.write_group.new.output) part.0 (group_bytes s.group s.words) []
-          (pack_text (held s.group s.words ++ []))
-          (no_more s.group s.words s.one_group s.full_first (omega arith)) part.1,
-    )
+    let part = c.in-Err.ensures.err in search (rules, part_begins, no_more s.group s.words s.one_group s.full_first (omega arith))
