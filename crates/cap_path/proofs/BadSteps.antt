@@ -3,9 +3,9 @@ use Rattle.cap_spec.specs.declared.Step.{Step}
 use Rattle.cap_spec.specs.declared.Step.TheVariants.{Ptr, Item as item}
 use Rattle.cap_spec.proofs.ProofNames.{Bool, List, None, Option, [], ap, append_assoc, arith, decimal, false, flat_map}
 use Rattle.cap_spec.proofs.ProofNames.{get_or, if◌then◌else◌, length, length-take-le, ne_eqb, refl, subst, sym, take, true}
-use Rattle.cap_spec.proofs.ProofNames.{ℕ, ◌++◌, ◌+◌, ◌-◌, ◌<◌, ◌∙◌, ◌∷◌, ◌≡◌, ◌≢◌, ◌≤◌, take_more, AllByRecursion, IsBadAt}
-use Rattle.cap_spec.proofs.ProofNames.{IsStep, step_text}
-use Rattle.cap_path.specs.PathReading.{IsBadNumber, is_digit, longer_number, no_digit, no_end, number_with}
+use Rattle.cap_spec.proofs.ProofNames.{ℕ, ◌++◌, ◌+◌, ◌<◌, ◌∙◌, ◌∷◌, ◌≡◌, ◌≢◌, ◌≤◌, take_more, AllByRecursion, IsBadAt}
+use Rattle.cap_spec.proofs.ProofNames.{IsStep, step_text, rules}
+use Rattle.cap_path.specs.PathReading.{IsBadNumber, is_digit, no_digit, no_end, number_with}
 use Rattle.cap_path.proofs.PathReading.{Unfinished, bad_here, stops}
 use Rattle.cap_path.proofs.ReadSteps.{HasRead, IsReading, Item, Number, Pointer, Reading, Slash, item_number, next_of}
 use Rattle.cap_path.proofs.ReadSteps.{pointer_number, reading_text, encodes_more}
@@ -28,42 +28,21 @@ later_item true o e = ap item_number e
 later_item false o e = refl
 
 pub pointers : IsEncoded 112 65535 Pointer Ptr
-pointers = record {
-  begins = refl;
-  encodes = λ n. refl;
-  fits = λ n few. omega (arith, few);
-  reads = λ done. (tt, tt);
-  first = λ b none. rw none refl;
-  later = λ n b other none. rw (ne_eqb b 47 other) (later_ptr (is_digit b) (longer_number n (b - 48) 65535) none);
-}
+pointers = search (rules, ne_eqb, later_ptr)
 
 pub items : IsEncoded 105 4294967295 Item item
-items = record {
-  begins = refl;
-  encodes = λ n. refl;
-  fits = λ n few. omega (arith, few);
-  reads = λ done. (tt, tt);
-  first = λ b none. rw none refl;
-  later = λ n b other none. rw (ne_eqb b 47 other) (later_item (is_digit b) (longer_number n (b - 48) 4294967295) none);
-}
+items = search (rules, ne_eqb, later_item)
 
 -- A slash and a letter are read,
 pub letter_read : (text : List ℕ) (slash letter : ℕ) → slash + 1 < length text → get_or text slash 0 ≡ 47
     → get_or text (slash + 1) 0 ≡ letter → take (slash + 1 + 1) text ≡ take slash text ++ 47 ∷ letter ∷ []
-letter_read text slash letter lt here is =
-    let less : slash < length text = omega (arith, lt) in
-    let b = get_or text (slash + 1) 0 in
-    take_more text (slash + 1) 0 lt
-    ∙ encodes_more (take (slash + 1) text) (take slash text) (get_or text slash 0 ∷ []) (47 ∷ letter ∷ []) b
-    (take_more text slash 0 less) (ap (λ k. k ∷ b ∷ []) here ∙ ap (λ k. 47 ∷ k ∷ []) is)
+letter_read text slash letter lt here is = search (rules, take_more text (slash + 1) 0 lt, take_more text slash 0 (omega (arith, lt)), encodes_more)
 
 -- and then a number.
 pub step_read : (text : List ℕ) (slash letter n end : ℕ) (s : Step) → slash + 1 < length text → get_or text slash 0 ≡ 47
     → get_or text (slash + 1) 0 ≡ letter → step_text s ≡ 47 ∷ letter ∷ decimal n
     → take end text ≡ take (slash + 1 + 1) text ++ decimal n → take end text ≡ take slash text ++ step_text s
-step_read text slash letter n end s lt here is encoded e =
-    e ∙ ap (λ l. l ++ decimal n) (letter_read text slash letter lt here is)
-    ∙ append_assoc (take slash text) (47 ∷ letter ∷ []) (decimal n) ∙ ap (λ l. take slash text ++ l) (sym encoded)
+step_read text slash letter n end s lt here is encoded e = search (rules, letter_read text slash letter lt here is, append_assoc (take slash text) (47 ∷ letter ∷ []) (decimal n))
 
 module _ (text : List ℕ) (slash : ℕ) (done : List Step) (lt : slash < length text) (here : get_or text slash 0 ≡ 47)
     (are : AllByRecursion IsStep done) (before : take slash text ≡ flat_map step_text done) where

@@ -7,7 +7,7 @@ use Rattle.cap_spec.proofs.ProofNames.{drop, false, flat_map, get_or, get_or-tak
 use Rattle.cap_spec.proofs.ProofNames.{ne_eqb, refl, subst, suc, sym, take, take-take, take_all, true, ℕ, ◌%◌, ◌*◌, ◌++◌}
 use Rattle.cap_spec.proofs.ProofNames.{◌+◌, ◌-◌, ◌/◌, ◌<◌, ◌==◌, ◌^◌, ◌∙◌, ◌∷◌, ◌≡◌, ◌≤◌, split_at, leb_tells, nat_tests}
 use Rattle.cap_spec.proofs.ProofNames.{decimal_by_steps, AllByRecursion, BeginsPath, IsBadAt, IsPath, IsStep, path_text}
-use Rattle.cap_spec.proofs.ProofNames.{step_text}
+use Rattle.cap_spec.proofs.ProofNames.{step_text, rules}
 use Rattle.cap_path.specs.PathReading.{is_digit, longer_number}
 use Rattle.cap_path.proofs.ReadSteps.{HasRead, IsReading, Item, Number, Pointer, Reading, Slash, Start, item_number}
 use Rattle.cap_path.proofs.ReadSteps.{next_of, pointer_number, read_begins, reading_text}
@@ -19,8 +19,7 @@ run (b ∷ bs) r = option_and_then (run bs) (next_of r b)
 
 run_then : (xs ys : List ℕ) (o : Option Reading) → ((r : Reading) → run (xs ++ ys) r ≡ option_and_then (run ys) (run xs r))
     → option_and_then (run (xs ++ ys)) o ≡ option_and_then (run ys) (option_and_then (run xs) o)
-run_then xs ys None h = refl
-run_then xs ys (Some r) h = h r
+run_then xs ys o h = search rules
 
 run-append : (xs ys : List ℕ) (r : Reading) → run (xs ++ ys) r ≡ option_and_then (run ys) (run xs r)
 run-append [] ys r = refl
@@ -53,10 +52,7 @@ front_and_last : (n : ℕ) → 10 * (n / 10) + n % 10 ≡ n
 front_and_last n = omega arith
 
 longer_of : (n most : ℕ) → 10 ≤ n → n ≤ most → longer_number (n / 10) (n % 10) most ≡ Some n
-longer_of n most ten few =
-    let some = ne_eqb (n / 10) 0 (λ none. omega (arith, ten, none)) in
-    let under = few_test n most few in
-    rw (some, front_and_last n, under) refl
+longer_of n most ten few = search (rules, ne_eqb, few_test, front_and_last)
 
 next_ptr : (n : ℕ) → 10 ≤ n → n ≤ 65535 → next_of (Number (Ptr (n / 10))) (48 + n % 10) ≡ Some (Number (Ptr n))
 next_ptr n ten few = rw (other_test (n % 10), digit_test (n % 10) (omega arith), digit_of (n % 10)) (ap pointer_number (longer_of n 65535 ten few))
@@ -79,12 +75,10 @@ run_item n h = decimal_by_steps (λ k ds. k ≤ 4294967295 → run ds Item ≡ S
 
 -- and so are those of a step, where a slash may come
 run_step : (s : Step) (r : Reading) → IsStep s → next_of r 47 ≡ Some Slash → run (step_text s) r ≡ Some (Number s)
-run_step (Ptr i) r fits e = ap (option_and_then (run (112 ∷ decimal i))) e ∙ run_ptr i (omega (arith, fits)) (omega (arith, fits))
-run_step (item i) r fits e = ap (option_and_then (run (105 ∷ decimal i))) e ∙ run_item i (omega (arith, fits)) (omega (arith, fits))
+run_step s r fits e = search (rules, option_and_then, run_ptr, run_item)
 
 slash_after : (s : Step) → next_of (Number s) 47 ≡ Some Slash
-slash_after (Ptr i) = refl
-slash_after (item i) = refl
+slash_after s = search rules
 
 -- what is read where some steps were
 abbrev last_of : List Step → Reading → Reading
@@ -98,8 +92,7 @@ slash_last (s ∷ steps) r e = slash_last steps (Number s) (slash_after s)
 run_steps : (steps : List Step) (r : Reading) → AllByRecursion IsStep steps → next_of r 47 ≡ Some Slash
     → run (flat_map step_text steps) r ≡ Some (last_of steps r)
 run_steps [] r a e = refl
-run_steps (s ∷ steps) r a e = run_both (step_text s) (flat_map step_text steps) r (Number s) (run_step s r a.0 e)
-    ∙ run_steps steps (Number s) a.1 (slash_after s)
+run_steps (s ∷ steps) r a e = search (rules, run_both, run_step, slash_after, run_steps steps (Number s) a.1 (slash_after s))
 
 -- what was read is read
 run_read : (text : List ℕ) (done : List Step) (r : Reading) → HasRead text done r → run text Start ≡ Some r
@@ -125,16 +118,18 @@ run_path (s ∷ steps) a = run_steps (s ∷ steps) Start a refl
 -- A byte that isn't read begins no path.
 stuck : (text more : List ℕ) (done : List Step) (b : ℕ) (r : Reading) → HasRead text done r → next_of r b ≡ None → BeginsPath (text ++ b ∷ more) → ⊥
 stuck text more done b r h e p =
-    let whole = run_path p.steps p.are in
-    let none = ap (λ t. run t Start) (p.whole ∙ append_assoc text (b ∷ more) p.rest)
-    ∙ run_both text (b ∷ more ++ p.rest) Start r (run_read text done r h)
-    ∙ ap (option_and_then (run (more ++ p.rest))) e in
-    let both : None ≡ Some (end_of p.steps) = sym none ∙ whole in absurd (cc)
+    search (
+      rules,
+      run_path p.steps p.are,
+      append_assoc text (b ∷ more) p.rest,
+      run_both text (b ∷ more ++ p.rest) Start r (run_read text done r h),
+      run_read text done r h,
+      option_and_then (run (more ++ p.rest)),
+    )
 
 -- the text of a path begins it
 path_begins : (text : List ℕ) (n : ℕ) → length text ≤ n → IsPath text → BeginsPath (take n text)
-path_begins text n h p =
-    record { steps = p.0; are = p.1; rest = []; whole = sym p.2 ∙ sym (take_all n text h) ∙ sym (append-nil (take n text)) }
+path_begins text n h p = search (rules, take_all, append-nil)
 
 -- a text is bad where it isn't read on
 module _ (text : List ℕ) (at : ℕ) (done : List Step) (r : Reading) (h : HasRead (take at text) done r)
@@ -176,8 +171,7 @@ last_is_step (t ∷ steps) s = last_is_step steps t
 
 longer_text : (done : List Step) → 0 < length done → flat_map step_text done ++ codes "/" ≡ codes "/" → ⊥
 longer_text [] h e = absurd (omega (arith, h))
-longer_text (Ptr i ∷ done) h e = let f = ap length e in absurd (omega (arith, f))
-longer_text (item i ∷ done) h e = let f = ap length e in absurd (omega (arith, f))
+longer_text done h e = search rules
 
 unfinished : (text : List ℕ) (done : List Step) (r : Reading) (steps : List Step) → HasRead text done r
     → Unfinished done r → AllByRecursion IsStep steps → text ≡ path_text steps → ⊥
@@ -186,20 +180,10 @@ unfinished text done r [] h u a e =
     let is : r ≡ Slash = cc in
     longer_text done (subst (λ (x : Reading). Unfinished done x) is u)
     (subst (λ (x : Reading). flat_map step_text done ++ reading_text x ≡ codes "/") is (sym h.encodes ∙ e))
-unfinished text done r (s ∷ steps) h u a e =
-    let last = last_is_step steps s in
-    let same : Some r ≡ Some (Number last.0) = sym (run_read text done r h) ∙ ap (λ t. run t Start) e
-    ∙ run_path (s ∷ steps) a ∙ ap (λ (x : Reading). Some x) last.1 in
-    let is : r ≡ Number last.0 = cc in
-    subst (λ (x : Reading). Unfinished done x) is u
+unfinished text done r (s ∷ steps) h u a e = search (rules, last_is_step steps s, run_read text done r h, run_path (s ∷ steps) a)
 
 pub bad_end : (text : List ℕ) (done : List Step) (r : Reading) → HasRead text done r → Unfinished done r → IsBadAt text (length text)
-bad_end text done r h u = record {
-  none = λ p. unfinished text done r p.0 h u p.1 p.2;
-  within = omega arith;
-  begins = rw (take_all (length text) text (omega arith)) (read_begins text done r h);
-  longest = λ n few p. few;
-}
+bad_end text done r h u = search (rules, unfinished, take_all, read_begins, longest)
 
 -- A text is bad where no byte more is read, if it ends there or not.
 pub stops : (text : List ℕ) (at : ℕ) (done : List Step) (r : Reading) → at ≤ length text → HasRead (take at text) done r

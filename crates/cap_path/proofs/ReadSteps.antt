@@ -4,10 +4,10 @@ use Rattle.cap_spec.specs.declared.Step.{Step}
 use Rattle.cap_spec.specs.declared.Step.TheVariants.{Ptr, Item as item}
 use Rattle.cap_spec.proofs.Bytes.Lists.{all_append}
 use Rattle.cap_spec.proofs.ProofNames.{Bool, List, None, Option, Some, [], ap, append-nil, append_assoc, arith, codes}
-use Rattle.cap_spec.proofs.ProofNames.{decimal, false, flat_map, get_or, if◌then◌else◌, inl, inr, length, nat_lt, refl}
-use Rattle.cap_spec.proofs.ProofNames.{sym, take, true, ℕ, ◌%◌, ◌*◌, ◌++◌, ◌+◌, ◌-◌, ◌/◌, ◌<◌, ◌==◌, ◌^◌, ◌∙◌, ◌∷◌, ◌≡◌}
+use Rattle.cap_spec.proofs.ProofNames.{decimal, false, flat_map, get_or, if◌then◌else◌, inl, inr, length, refl}
+use Rattle.cap_spec.proofs.ProofNames.{sym, take, true, ℕ, ◌*◌, ◌++◌, ◌+◌, ◌-◌, ◌<◌, ◌==◌, ◌^◌, ◌∙◌, ◌∷◌, ◌≡◌}
 use Rattle.cap_spec.proofs.ProofNames.{◌≢◌, ◌≤◌, ◌⊎◌, nat_tests, decimal_digit, decimal_step, take_more, AllByRecursion}
-use Rattle.cap_spec.proofs.ProofNames.{BeginsPath, IsStep, path_text, step_text}
+use Rattle.cap_spec.proofs.ProofNames.{BeginsPath, IsStep, path_text, step_text, rules}
 use Rattle.cap_path.specs.PathReading.{is_digit, longer_number, number_with}
 
 -- how far the last step of a text has been read: not at all, its slash, its letter, or a number that may have more digits
@@ -75,13 +75,7 @@ are-snoc done s a b = all_append IsStep done (s ∷ []) a (b, tt)
 -- Each text that was read begins a path.
 completes : (text rest : List ℕ) (done : List Step) (reading : Reading) (s : Step) → HasRead text done reading
     → IsStep s → step_text s ≡ reading_text reading ++ rest → BeginsPath text
-completes text rest done reading s h fits e = record {
-  steps = done ++ s ∷ [];
-  are = are-snoc done s h.are fits;
-  rest = rest;
-  whole = path-snoc done s ∙ ap (λ l. flat_map step_text done ++ l) e
-      ∙ sym (append_assoc (flat_map step_text done) (reading_text reading) rest) ∙ ap (λ l. l ++ rest) (sym h.encodes);
-}
+completes text rest done reading s h fits e = search (rules, are-snoc done s h.are fits, path-snoc done s, append_assoc (flat_map step_text done) (reading_text reading) rest)
 
 zero_text : decimal 0 ≡ 48 ∷ []
 zero_text = decimal_digit 0 (omega arith)
@@ -110,11 +104,7 @@ digit_range b e = (grind (arith, nat_tests), grind (arith, nat_tests))
 
 -- a number with one more digit
 digit_more : (n b : ℕ) → 0 < n → n < 2 ^ 32 → 48 ≤ b → b ≤ 57 → decimal n ++ b ∷ [] ≡ decimal (10 * n + (b - 48))
-digit_more n b some few low high =
-    let front : (10 * n + (b - 48)) / 10 ≡ n = omega (arith, low, high) in
-    let last : 48 + (10 * n + (b - 48)) % 10 ≡ b = omega (arith, low, high) in
-    let step = decimal_step (10 * n + (b - 48)) (omega (arith, some)) (omega (arith, few, high)) in
-    sym (step ∙ ap (λ k. decimal k ++ ((48 + (10 * n + (b - 48)) % 10) ∷ [])) front ∙ ap (λ k. decimal n ++ (k ∷ [])) last)
+digit_more n b some few low high = search (rules, decimal_step)
 
 -- a text with one byte more
 pub encodes_more : (text before x y : List ℕ) (b : ℕ) → text ≡ before ++ x → x ++ b ∷ [] ≡ y → text ++ b ∷ [] ≡ before ++ y
@@ -130,22 +120,12 @@ is_other a b e = grind (arith, nat_tests)
 
 -- what a longer number is
 longer_is : (n digit most k : ℕ) → longer_number n digit most ≡ Some k → (0 < n) × (10 * n + digit ≤ most) × (k ≡ 10 * n + digit)
-longer_is n digit most k e = elim (chosen (n == 0) None (if nat_lt most (10 * n + digit) then None else Some (10 * n + digit)) k e) [
-  | inl h ↦ let f = h.1 in absurd (cc)
-  | inr h ↦ elim (chosen (nat_lt most (10 * n + digit)) None (Some (10 * n + digit)) k h.1) [
-    | inl l ↦ let f = l.1 in absurd (cc)
-    | inr l ↦ let some = is_other n 0 h.0 in let few : 10 * n + digit ≤ most = let g = l.0 in grind (arith, nat_tests)
-        in let f = l.1 in (omega (arith, some), few, cc)
-  ]
-]
+longer_is n digit most k e = search (rules, chosen, is_other, nat_tests)
 
 -- A number begins with its first digit,
 pub first_digit : (text : List ℕ) (from : ℕ) → from < length text → is_digit (get_or text from 0) ≡ true
     → (get_or text from 0 - 48 ≤ 9) × (take (from + 1) text ≡ take from text ++ decimal (get_or text from 0 - 48))
-first_digit text from lt digit =
-    let range = digit_range (get_or text from 0) digit in
-    let last = digit_is (get_or text from 0) range.0 range.1 in
-    (omega (arith, range.1), take_more text from 0 lt ∙ ap (λ ds. take from text ++ ds) (sym last))
+first_digit text from lt digit = search (rules, digit_range, digit_is, take_more)
 
 -- and goes on with one digit more.
 pub next_digit : (text : List ℕ) (from end n most k : ℕ) → end < length text → take end text ≡ take from text ++ decimal n

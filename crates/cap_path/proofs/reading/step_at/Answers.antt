@@ -2,7 +2,7 @@
 use Rattle.std.proofs.lemmas.Result.{err_from_is_err_and}
 use Rattle.cap_spec.specs.declared.Step.{Step}
 use Rattle.cap_spec.specs.declared.Step.TheVariants.{Ptr, Item as item}
-use Rattle.cap_spec.proofs.ProofNames.{IfErr, Result, arith, length, subst, sym, ℕ, ◌+◌, ◌<◌, IsBadAt}
+use Rattle.cap_spec.proofs.ProofNames.{IfErr, Result, arith, length, subst, sym, ℕ, ◌+◌, ◌<◌, IsBadAt, rules}
 use Rattle.cap_path.proofs.BadSteps.{bad_letter, bad_number, items, pointers}
 use Rattle.cap_path.proofs.ReadSteps.{Item, Pointer}
 use Rattle.cap_path.proofs.reading.step_at.Goals as goal
@@ -33,6 +33,4 @@ returns-in_err-number-in-105-clause-bad c = λ before are e long.
     subst (λ (r : Result (Step × ℕ) ℕ). IfErr r (IsBadAt text)) (sym is.1) (subst (λ (n : ℕ). IsBadAt text n) (sym is.2) bad)
 
 pub returns-in_default-clause-bad : goal.returns-in_default-clause-bad
-returns-in_default-clause-bad c = λ before are e long.
-    bad_letter c.args.text.now c.args.slash before c.requires.inside c.requires.slash are e long
-    (λ more. ((λ is. omega (arith, is)), (λ is. omega (arith, is))))
+returns-in_default-clause-bad c = search (rules, bad_letter)
