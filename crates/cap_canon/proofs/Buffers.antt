@@ -1,6 +1,7 @@
 -- The message and the capacity decide what is reported of a copy into capacity, and what it then holds.
+use Rattle.cap_spec.proofs.ProofNames.{rules}
 use Rattle.cap_spec.proofs.Lemmas.{words_exact, one_copy, one_first_cap}
-use Rattle.cap_spec.proofs.ProofNames.{Err, List, Ok, Result, ap, ap₂, arith, drop, length, sym, take_all, ℕ, ◌*◌, ◌++◌}
+use Rattle.cap_spec.proofs.ProofNames.{Err, List, Result, ap, ap₂, arith, length, sym, take_all, ℕ, ◌*◌}
 use Rattle.cap_spec.proofs.ProofNames.{◌∙◌, ◌≡◌, ◌≤◌, plain_text, plain_words}
 use Rattle.cap_canon.specs.CopyBuffers.{ReportsBuffer, has_capability, too_small, written}
 use Rattle.cap_canon.specs.CanonNames.{CanonFault, first_words}
@@ -24,11 +25,7 @@ one_buffer m old a b xs ys (too_small ws h l e g) (too_small us k n i j) =
     let same = one_copy m ws us h k in
     (e ∙ (ap (λ (z : List ℕ). Err (BufferTooSmall (length (plain_text z)))) same ∙ sym i), g ∙ sym j)
 one_buffer m old a b xs ys (written ws h l e g) (written us k n i j) =
-    let same = one_copy m ws us h k in (
-      e ∙ (ap (λ (z : List ℕ). Ok (length (plain_text z))) same ∙ sym i),
-      g
-          ∙ (ap (λ (z : List ℕ). plain_text z ++ drop (length (plain_text z)) old) same ∙ sym j),
-    )
+    let same = one_copy m ws us h k in search (rules, plain_text)
 one_buffer m old a b xs ys (too_small ws h l e g) (written us k n i j) =
     let long = ap (λ (z : List ℕ). length (plain_text z)) (one_copy m ws us h k) in
     absurd (omega (arith, l, n, long))

@@ -34,10 +34,7 @@ child_at m t b n (more x xs) c d zero h lt =
     let e : b ≡ b + 0 = omega arith in
     (x, r.c1, r.d1, refl, subst (λ w. Denotes m t w x r.c1 r.d1) e r.first)
 child_at m t b n (more x xs) c d (suc i) h lt =
-    let r = row_parts m t b n x xs c d h in
-    let k = child_at m t (b + 1) r.others xs r.c2 r.d2 i r.rest (omega (arith, lt, r.many)) in
-    let e : b + 1 + i ≡ b + suc i = omega arith in
-    (k.0, k.1, k.2, k.3, subst (λ w. Denotes m t w k.0 k.1 k.2) e k.4)
+    let r = row_parts m t b n x xs c d h in search (rules, child_at m t (b + 1) r.others xs r.c2 r.d2 i r.rest (omega (arith, lt, r.many)))
 
 -- a row has as many trees as words
 pub row_count : (m : List (List ℕ)) (t b n : ℕ) (ts : Trees) (c d : ℕ) → DenoteEach m (places t b n) ts c d → tree_count ts ≡ n
@@ -55,8 +52,7 @@ first_child n b e h = search rules
 pub child_past : (ts : Trees) (i : ℕ) (u : Tree) → tree_at ts i ≡ Some u → is_null u ≡ false → suc i ≤ children_needed ts
 child_past none i u e f = absurd (cc e)
 child_past (more t ts) zero u e f = first_child (children_needed ts) (is_null t) (ap is_null (same_Some t u e) ∙ f) (eqb_tells (children_needed ts) 0)
-child_past (more t ts) (suc i) u e f = later_needed (children_needed ts) (if is_null t then 0 else 1) i (child_past ts i u e f)
-    (eqb_tells (children_needed ts) 0)
+child_past (more t ts) (suc i) u e f = search (rules, later_needed, children_needed, is_null, eqb_tells, child_past ts i u e f)
 
 -- and a null that is last of those needed isn't
 first_null : (n : ℕ) (b : Bool) → b ≡ true → (((n == 0) ≡ true) × (n ≡ 0)) ⊎ (((n == 0) ≡ false) × (n ≡ 0 → ⊥))
@@ -70,17 +66,14 @@ one_child h = search rules
 pub child_not : (ts : Trees) (i : ℕ) (u : Tree) → tree_at ts i ≡ Some u → is_null u ≡ true → children_needed ts ≤ suc i → children_needed ts ≤ i
 child_not none i u e f h = absurd (cc e)
 child_not (more t ts) zero u e f h = first_null (children_needed ts) (is_null t) (ap is_null (same_Some t u e) ∙ f) (eqb_tells (children_needed ts) 0) h
-child_not (more t ts) (suc i) u e f h =
-    later_zero (children_needed ts) (if is_null t then 0 else 1) i (child_not ts i u e f) (one_child (is_null t)) (eqb_tells (children_needed ts) 0) h
+child_not (more t ts) (suc i) u e f h = search (rules, later_zero, children_needed, is_null, one_child, eqb_tells, child_not ts i u e f)
 
 -- the child looked at is needed, so that nothing below it is cut
 pub child_here : (m : List (List ℕ)) (t b n left least : ℕ) (z : Bool) (ts : Trees) (c d : ℕ) → least < left → left ≤ n → DenoteEach m (places t b n) ts c d
     → ((u : Tree) (c' d' : ℕ) → Denotes m t (b + (left - 1)) u c' d' → z ≡ is_null u) → z ≡ false → children_needed ts ≤ left
     → left ≡ max least (children_needed ts)
 child_here m t b n left least z ts c d lt le h is other most =
-    let k = child_at m t b n ts c d (left - 1) h (omega (arith, lt, le)) in
-    let p : suc (left - 1) ≤ children_needed ts = child_past ts (left - 1) k.0 k.3 (sym (is k.0 k.1 k.2 k.4) ∙ other) in
-    omega (arith, lt, p, most)
+    let k = child_at m t b n ts c d (left - 1) h (omega (arith, lt, le)) in search (rules, children_needed, child_past)
 
 -- and one that is null isn't
 pub child_below : (m : List (List ℕ)) (t b n left least : ℕ) (z : Bool) (ts : Trees) (c d : ℕ) → least < left → left ≤ n → DenoteEach m (places t b n) ts c d

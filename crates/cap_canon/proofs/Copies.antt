@@ -1,8 +1,9 @@
 -- The one canonical copy of an accepted message.
+use Rattle.cap_spec.proofs.ProofNames.{common_steps}
 use Rattle.cap_spec.proofs.Lemmas.{layout_charged, first_cap, one_tree}
 use Rattle.cap_spec.proofs.Paths.PathCounts.{caps_counted}
-use Rattle.cap_spec.proofs.ProofNames.{Err, List, None, Result, [], arith, eqb-true, false, length, refl, subst, sym}
-use Rattle.cap_spec.proofs.ProofNames.{true, ℕ, ◌+◌, ◌<◌, ◌==◌, ◌^◌, ◌∙◌, ◌∷◌, ◌≡◌, ◌≢◌, ◌≤◌, false≢true, layout, trim}
+use Rattle.cap_spec.proofs.ProofNames.{Err, List, None, Result, arith, eqb-true, false, length, refl, subst, sym}
+use Rattle.cap_spec.proofs.ProofNames.{true, ℕ, ◌+◌, ◌<◌, ◌==◌, ◌^◌, ◌∙◌, ◌≡◌, ◌≢◌, ◌≤◌, false≢true, layout, trim}
 use Rattle.cap_spec.proofs.ProofNames.{HasCopy, IsCanonical, Denotes, Leads, to_cap, IsOneOf, IsFirstCap, Reaches}
 use Rattle.cap_spec.proofs.ProofNames.{Tree, cap_count, has_cap, rules}
 use Rattle.cap_vet.specs.Reports.{IsFirstCapOf, IsReport}
@@ -55,8 +56,7 @@ pub same_fault : {A : Type 0} (f f' : CanonFault) → ◌≡◌ {A = Result A Ca
 same_fault f f' e = cc
 
 member_some : (q : List Step) (ps : List (List Step)) → IsOneOf q ps → 0 < length ps
-member_some q [] i = absurd i
-member_some q (p ∷ ps) i = omega arith
+member_some q x2 i = grind (arith, common_steps)
 
 -- no path of a tree without capabilities leads to one
 pub no_cap_reached : (m : List (List ℕ)) (t : Tree) (c d : ℕ) (p : List Step) (level s w k i : ℕ) → Denotes m 0 0 t c d → has_cap t ≡ false

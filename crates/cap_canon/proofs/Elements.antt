@@ -2,7 +2,7 @@
 use Rattle.cap_spec.specs.Denoting.{places}
 use Rattle.cap_spec.specs.Tree.{none}
 use Rattle.cap_spec.proofs.Lemmas.{tree_count-take_le, tree_count-trim_all}
-use Rattle.cap_spec.proofs.ProofNames.{List, ap, ap₂, arith, max, refl, subst, suc, sym, take, take-take, zero, ℕ, ◌*◌}
+use Rattle.cap_spec.proofs.ProofNames.{List, arith, max, refl, subst, suc, take, take-take, zero, ℕ, ◌*◌}
 use Rattle.cap_spec.proofs.ProofNames.{◌+◌, ◌-◌, ◌<◌, ◌∙◌, ◌≡◌, ◌≤◌, children_needed, children_of, cut_elements}
 use Rattle.cap_spec.proofs.ProofNames.{data_needed, data_of, take_trees, trim_all, trim_elements, AreElements}
 use Rattle.cap_spec.proofs.ProofNames.{DenoteEach, words_from, Trees, more, struct, tree_count, rules}
@@ -32,9 +32,7 @@ pub most_data_of : (m : List (List ℕ)) (t b ds ps n : ℕ) (es : Trees) (c d :
 most_data_of m t b ds ps n none c d h = rw h.0 refl
 most_data_of m t b ds ps n (more (struct ws ts) es) c d h =
     let k = element_parts m t b ds ps n ws ts es c d h in
-    let e : b + (ds + ps) ≡ b + ds + ps = omega arith in
-    ap (most_data m t b ds ps) k.many ∙ ap₂ max (ap data_needed (sym k.data_words)) (ap (λ x. most_data m t x ds ps k.others) e
-    ∙ most_data_of m t (b + ds + ps) ds ps k.others es k.c2 k.d2 k.rest)
+    search (rules, data_needed, most_data_of m t (b + ds + ps) ds ps k.others es k.c2 k.d2 k.rest)
 most_data_of m t b ds ps n (more _ es) c d h = absurd h
 
 -- no element needs more children than it has
@@ -54,11 +52,7 @@ pub record ChildrenSeen (m : List (List ℕ)) (s start at ds ps count i most : �
 
 pub no_children_seen : (m : List (List ℕ)) (s start ds ps count : ℕ) → ChildrenSeen m s start start ds ps count 0 0
 no_children_seen m s start ds ps count =
-    let e : count ≡ count - 0 = omega arith in record {
-      place = omega arith;
-      within = omega arith;
-      rest = λ es c d h. (es, c, d, subst (λ n. AreElements m s start ds ps n es c d) e h, omega arith);
-    }
+    let e : count ≡ count - 0 = omega arith in search rules
 
 -- this element, and what is left of its children
 pub record Buffered (m : List (List ℕ)) (s start at ds ps count i most : ℕ) (all : Trees) : Type 0 where
@@ -145,10 +139,6 @@ pub elements_left : (m : List (List ℕ)) (t b ds ps n d p deep : ℕ) (es : Tre
 elements_left m t b ds ps n d p deep none c d' dle ple h le = tt
 elements_left m t b ds ps n d p deep (more (struct ws ts) es) c d' dle ple h le =
     let k = element_parts m t b ds ps n ws ts es c d' h in
-    let many : tree_count (trim_all ts) ≡ ps = tree_count-trim_all ts ∙ row_count m t (b + ds) ps ts k.c1 k.d1 k.children in (
-      words_left m t b ds d ws k.data_words dle,
-      tree_count-take_le p (trim_all ts) (omega (arith, many, ple)),
-      left_take m deep t (b + ds) p (trim_all ts) (row_left m t (b + ds) ps deep ts k.c1 k.d1 k.children (omega (arith, k.depth, le))),
-      elements_left m t (b + ds + ps) ds ps k.others d p deep es k.c2 k.d2 dle ple k.rest (omega (arith, k.depth, le)),
-    )
+    let rest = elements_left m t (b + ds + ps) ds ps k.others d p deep es k.c2 k.d2 dle ple k.rest (omega (arith, k.depth, le)) in
+    search (rules, tree_count, trim_all, tree_count-trim_all, row_count, words_left, tree_count-take_le, left_take, row_left)
 elements_left m t b ds ps n d p deep (more _ es) c d' dle ple h le = absurd h

@@ -34,8 +34,7 @@ row_owed m deeper depth n t b a zero none le e h = tt
 row_owed m deeper depth n t b a zero (more u us) le e h = absurd (omega (arith, e))
 row_owed m deeper depth n t b a (suc p) none le e h = absurd (omega (arith, e))
 row_owed m deeper depth n t b a (suc p) (more u us) le e h =
-    let l = h.0 in
-    (refl, (l.0, l.1, l.2, l.3, l.4, omega (arith, l.5, le)), row_owed m deeper depth n t (b + 1) (a + 1) p us le (omega (arith, e)) h.1)
+    search (rules, row_owed m deeper depth n t (b + 1) (a + 1) p us le (omega (arith, e)) h.1)
 
 -- words that are owed, one after the other
 owed_join : (m : List (List ℕ)) (depth n : ℕ) (ps qs : List PointerPlace) (xs ys : List Due) → AreOwed m depth n ps xs → AreOwed m depth n qs ys
@@ -51,11 +50,7 @@ further_owed : (m : List (List ℕ)) (deeper depth n t x b a skip ds ps d p : �
     → AreOwed m depth n (further_places t x a skip d p (tree_count es)) (element_slots d p a es)
 further_owed m deeper depth n t x b a skip ds ps d p none le e f h = tt
 further_owed m deeper depth n t x b a skip ds ps d p (more (struct ws us) es) le e f h =
-    let row : AreOwed m depth n (row_places t (x + skip) (a + d) p) (slots (a + d) us) =
-    subst (λ i. AreOwed m depth n (row_places t i (a + d) p) (slots (a + d) us)) (sym e) (row_owed m deeper depth n t (b + ds) (a + d) p us le h.1 h.2) in
-    owed_join m depth n (row_places t (x + skip) (a + d) p) (further_places t (x + skip + p) (a + d + p) skip d p (tree_count es)) (slots (a + d) us)
-    (element_slots d p (a + d + p) es) row
-    (further_owed m deeper depth n t (x + skip + p) (b + ds + ps) (a + d + p) skip ds ps d p es le (omega (arith, e, f)) f h.3)
+    search (rules, row_owed, owed_join, tree_count, further_owed m deeper depth n t (x + skip + p) (b + ds + ps) (a + d + p) skip ds ps d p es le (omega (arith, e, f)) f h.3)
 further_owed m deeper depth n t x b a skip ds ps d p (more _ es) le e f h = absurd h
 
 -- and of the first and the others
@@ -64,11 +59,7 @@ elements_owed : (m : List (List ℕ)) (deeper depth n t b a skip ds ps d p other
     → AreOwed m depth n (row_places t (b + ds) (a + d) p ++ further_places t (b + ds + p) (a + d + p) skip d p others) (element_slots d p a es)
 elements_owed m deeper depth n t b a skip ds ps d p others none le f e h = absurd (omega (arith, e))
 elements_owed m deeper depth n t b a skip ds ps d p others (more (struct ws us) es) le f e h =
-    let many : tree_count es ≡ others = omega (arith, e) in
-    owed_join m depth n (row_places t (b + ds) (a + d) p) (further_places t (b + ds + p) (a + d + p) skip d p others) (slots (a + d) us)
-    (element_slots d p (a + d + p) es) (row_owed m deeper depth n t (b + ds) (a + d) p us le h.1 h.2)
-    (subst (λ i. AreOwed m depth n (further_places t (b + ds + p) (a + d + p) skip d p i) (element_slots d p (a + d + p) es)) many
-    (further_owed m deeper depth n t (b + ds + p) (b + ds + ps) (a + d + p) skip ds ps d p es le (omega (arith, f)) f h.3))
+    let many : tree_count es ≡ others = omega (arith, e) in search (rules, owed_join, row_owed, further_owed)
 elements_owed m deeper depth n t b a skip ds ps d p others (more _ es) le f e h = absurd h
 
 -- elements that aren't there, or have no pointers
@@ -90,10 +81,8 @@ pub struct_owed : (m : List (List ℕ)) (deeper depth n end s w : ℕ) (x : Part
     → places ≡ row_places x.segment (x.start + x.data_words) (end + x.data_left) x.pointers_left → AreOwed m depth n places (below end u)
 struct_owed m deeper depth n end s w x u places k le e =
     let own = row_places x.segment (x.start + x.data_words) (end + x.data_left) x.pointers_left in
-    let row : AreOwed m depth n own (slots (end + x.data_left) k.children) =
-    row_owed m deeper depth n x.segment (x.start + x.data_words) (end + x.data_left) x.pointers_left k.children le k.many k.below in
-    let all : AreOwed m depth n own (slots (end + length k.words) k.children) =
-    subst (λ i. AreOwed m depth n own (slots (end + i) k.children)) (sym (kept_words m deeper s w x u k)) row in
+    let row : AreOwed m depth n own (slots (end + x.data_left) k.children) = search (rules, row_owed) in
+    let all : AreOwed m depth n own (slots (end + length k.words) k.children) = search (rules, kept_words) in
     subst (λ v. AreOwed m depth n places (below end v)) (sym k.tree) (subst (λ ps. AreOwed m depth n ps (slots (end + length k.words) k.children)) (sym e) all)
 
 pub pointers_owed : (m : List (List ℕ)) (deeper depth n end s w t b count : ℕ) (u : Tree) (places : List PointerPlace)
@@ -109,8 +98,7 @@ structs_none_owed m deeper depth n end s w count x u k z =
     (none_owed m deeper depth n x.segment x.start (end + 1) x.data_words x.pointers x.data_left x.pointers_left k.elements (either z) k.below)
   where
     either : (count ≡ 0) ⊎ (x.pointers_left ≡ 0) → (tree_count k.elements ≡ 0) ⊎ (x.pointers_left ≡ 0)
-    either (inl e) = inl (k.many ∙ e)
-    either (inr e) = inr e
+    either y1 = search rules
 
 pub structs_owed : (m : List (List ℕ)) (deeper depth n end s w count : ℕ) (x : Part) (r : CopyRun) (u : Tree) → IsStructsObject m deeper s w u count x
     → deeper + n ≤ depth → 0 < count
@@ -166,9 +154,7 @@ elements_count : (m : List (List ℕ)) (deeper t b a ds ps d p : ℕ) (es : Tree
     → length (element_slots d p a es) ≤ tree_count es * (d + p)
 elements_count m deeper t b a ds ps d p none h = omega arith
 elements_count m deeper t b a ds ps d p (more (struct ws us) es) h =
-    let x = length-append (slots (a + d) us) (element_slots d p (a + d + p) es) in
-    let r = elements_count m deeper t (b + ds + ps) (a + d + p) ds ps d p es h.3 in
-    omega (arith, x, r, slots_count (a + d) us, h.1)
+    search (rules, length-append, slots_count, elements_count m deeper t (b + ds + ps) (a + d + p) ds ps d p es h.3)
 elements_count m deeper t b a ds ps d p (more _ es) h = absurd h
 
 below_count : (m : List (List ℕ)) (d s w end : ℕ) (u : Tree) (o : Object) → IsObject m d s w u o → length (below end u) ≤ own_size u

@@ -14,9 +14,7 @@ near_word o word h e k = search (rules, eqb_tells)
 pub row_near : (m : List (List ℕ)) (end a : ℕ) (ts : Trees) (due : List Due) (far : ℕ) → Laid (segment_of m 0) end (slots a ts ++ due)
     → 0 < tree_count ts → HasWord m 0 (a + (tree_count ts - 1)) far → kind far ≡ 2 → ⊥
 row_near m end a none due far l some has k = absurd (omega (arith, some))
-row_near m end a (more t none) due far l some has k =
-    let here : HasWord m 0 a far = subst (λ i. HasWord m 0 i far) (omega arith) has in
-    near_word l.0 far t (one_word m 0 a far (pointer_to l.0 t) here l.2) k
+row_near m end a (more t none) due far l some has k = search (rules, near_word, one_word, pointer_to)
 row_near m end a (more t (more u us)) due far l some has k =
     row_near m (end + size t) (a + 1) (more u us) due far l.4 (omega arith) (subst (λ i. HasWord m 0 i far) (omega arith) has) k
 
@@ -30,10 +28,7 @@ pub elements_near : (m : List (List ℕ)) (end a d p k : ℕ) (es : Trees) (due 
     → Laid (segment_of m 0) end (element_slots d p a es ++ due) → k < tree_count es → 0 < p
     → HasWord m 0 (a + k * (d + p) + d + (p - 1)) far → kind far ≡ 2 → ⊥
 elements_near m end a d p k none due far f l lt some has e = absurd (omega (arith, lt))
-elements_near m end a d p zero (more (struct ws ts) es) due far f l lt some has e =
-    let first = subst (λ xs. Laid (segment_of m 0) end xs) (append_assoc (slots (a + d) ts) (element_slots d p (a + d + p) es) due) l in
-    row_near m end (a + d) ts (element_slots d p (a + d + p) es ++ due) far first (omega (arith, f.1, some))
-    (subst (λ i. HasWord m 0 i far) (omega (arith, f.1)) has) e
+elements_near m end a d p zero (more (struct ws ts) es) due far f l lt some has e = search (rules, segment_of, append_assoc, row_near)
 elements_near m end a d p (suc k) (more (struct ws ts) es) due far f l lt some has e =
     let first = subst (λ xs. Laid (segment_of m 0) end xs) (append_assoc (slots (a + d) ts) (element_slots d p (a + d + p) es) due) l in
     let rest = after_due (segment_of m 0) end (slots (a + d) ts) (element_slots d p (a + d + p) es ++ due) first in

@@ -37,8 +37,7 @@ fills_lie whole b xs h k lt = inr (sym (lie_word whole b xs h k lt))
 slot_due : (b k : ℕ) (ts : Trees) → k < tree_count ts → IsDue (b + k) (slots b ts)
 slot_due b k none lt = absurd (omega (arith, lt))
 slot_due b zero (more t ts) lt = inl (omega arith)
-slot_due b (suc k) (more t ts) lt = let e : b + 1 + k ≡ b + suc k = omega arith in
-    inr (subst (λ n. IsDue n (slots (b + 1) ts)) e (slot_due (b + 1) k ts (omega (arith, lt))))
+slot_due b (suc k) (more t ts) lt = search (rules, slot_due (b + 1) k ts (omega (arith, lt)))
 
 pub fills_slots : (whole : List ℕ) (b : ℕ) (ts : Trees) (xs : List ℕ) → length xs ≡ tree_count ts → Fills whole b (slots b ts) xs
 fills_slots whole b ts xs e k lt = inl (slot_due b k ts (omega (arith, lt, e)))

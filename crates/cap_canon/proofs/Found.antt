@@ -1,10 +1,11 @@
 -- What a pointer word that denotes a tree finds, by the kind of object.
+use Rattle.cap_spec.proofs.ProofNames.{rules}
 use Rattle.cap_spec.specs.Denoting.{places}
 use Rattle.cap_spec.proofs.Canonical.TrimmedMeasures.{tree_count-cut}
 use Rattle.cap_spec.proofs.Lemmas.{extent_scalars, children_needed_le, tree_count-take_le, tree_count-trim_all}
 use Rattle.cap_spec.proofs.Lemmas.{found_form, elements_depth, extent_pointers, extent_struct, extent_structs, one_found}
 use Rattle.cap_spec.proofs.Lemmas.{HasForm, number_list, number_struct}
-use Rattle.cap_spec.proofs.ProofNames.{List, ap, arith, max, refl, subst, sym, take, ℕ, ◌*◌, ◌+◌, ◌<◌, ◌∙◌, ◌≡◌, ◌≤◌}
+use Rattle.cap_spec.proofs.ProofNames.{List, ap, arith, max, refl, subst, sym, take, ℕ, ◌*◌, ◌+◌, ◌∙◌, ◌≡◌, ◌≤◌}
 use Rattle.cap_spec.proofs.ProofNames.{children_needed, children_of, cut_elements, data_needed, data_of, take_trees, trim}
 use Rattle.cap_spec.proofs.ProofNames.{trim_all, trim_elements, AreElements, DenoteEach, Denotes, values_of, words_from}
 use Rattle.cap_spec.proofs.ProofNames.{TagFits, HasWord, code, kind, list_size, list_words}
@@ -37,15 +38,7 @@ struct_found m s w x c d {k} {t} {b} {q} {tag} {n} {charge} {ds} {ps} h f = go x
         let x : ds' ≡ ds = cc o.kind in
         let y : ps' ≡ ps = cc o.kind in
         let e : places t' (b' + ds') ps' ≡ places t (b + ds) ps = rw (o.segment, o.start, x, y) refl in record {
-          found = record {
-            k = k;
-            q = q;
-            finds = f.finds;
-            kind = f.object.shape.kind;
-            sizes = (f.object.shape.data_words, f.object.shape.pointers);
-            exists = f.finds.inside.exists;
-            inside = omega (arith, f.finds.inside.inside, extent_struct q f.object.shape.kind, f.object.shape.data_words, f.object.shape.pointers);
-          };
+          found = search (rules, kind, extent_struct);
           words = ws;
           children = ts;
           inner = inner;
@@ -86,43 +79,8 @@ struct_object m s w d p x k e dle f cle =
 -- a list of values
 pub scalars_object : (m : List (List ℕ)) (s w : ℕ) (x : Tree) (c d : ℕ) {k t b q tag words charge : ℕ} (code count : ℕ) → Denotes m s w x c d
     → FindsObject m s w k t b q tag words charge (shape.Scalars code count) → IsObject m d s w (trim x) (object.Scalars t b code count words)
-scalars_object m s w x c d {k} {t} {b} {q} {tag} {words} {charge} code' count h f = go x form h
-  where
-    form : HasForm x (3 + code q)
-    form = subst (HasForm x) (number_list (kind q) (code q) f.object.shape.kind) (found_form m s w x c d k t b q h f.finds)
-
-    small : code q < 6
-    small = omega (arith, f.object.shape.code, f.object.shape.scalar)
-
-    extent_is : words ≡ list_words code' count
-    extent_is = f.object.words ∙ (extent_scalars q code' f.object.shape.kind f.object.shape.code f.object.shape.scalar
-        ∙ ap (list_words code') (sym f.object.shape.count))
-
-    go : (x : Tree) → HasForm x (3 + code q) → Denotes m s w x c d → IsObject m d s w (trim x) (object.Scalars t b code' count words)
-    go null g h = absurd (omega (arith, g))
-    go (cap i) g h = absurd (omega (arith, g))
-    go (struct ws ts) g h = absurd (omega (arith, g))
-    go (scalars e vs) g (k', t', b', q', tag', n, found, own) =
-        let o = one_found found.object (object_at m s w k t b q tag words charge (shape.Scalars code' count) f) in
-        let y : e ≡ code' = cc o.kind in
-        let z : n ≡ count = cc o.kind in
-        let values : vs ≡ values_of m t b code' count = own ∙ rw (o.segment, o.start, y, z) refl in (
-          omega (arith, found.depth),
-          record {
-            k = k;
-            q = q;
-            finds = f.finds;
-            kind = f.object.shape.kind;
-            code = f.object.shape.code;
-            scalar = f.object.shape.scalar;
-            count = f.object.shape.count;
-            tree = rw (y, values) refl;
-            extent = extent_is;
-            inside = omega (arith, f.finds.inside.inside, f.object.words);
-          },
-        )
-    go (pointers ts) g h = absurd (omega (arith, g, small))
-    go (structs y z es) g h = absurd (omega (arith, g, small))
+scalars_object m s w x c d {k} {t} {b} {q} {tag} {words} {charge} code' count h f =
+    search (rules, code, number_list, kind, found_form, list_words, extent_scalars, trim, null, cap, struct, scalars, one_found, object_at, values_of, pointers, structs)
 
 -- a list of pointers
 pub pointers_object : (m : List (List ℕ)) (s w : ℕ) (x : Tree) (c d : ℕ) {k t b q tag words charge : ℕ} (count : ℕ) → Denotes m s w x c d
@@ -130,8 +88,7 @@ pub pointers_object : (m : List (List ℕ)) (s w : ℕ) (x : Tree) (c d : ℕ) {
 pointers_object m s w x c d {k} {t} {b} {q} {tag} {words} {charge} count h f = go x form h
   where
     form : HasForm x 9
-    form = subst (HasForm x) (number_list (kind q) (code q) f.object.shape.kind ∙ ap (λ n. 3 + n) f.object.shape.code)
-        (found_form m s w x c d k t b q h f.finds)
+    form = search (rules, number_list, kind, code, found_form)
 
     go : (x : Tree) → HasForm x 9 → Denotes m s w x c d → IsObject m d s w (trim x) (object.Pointers t b count)
     go null g h = absurd (omega (arith, g))
@@ -167,8 +124,7 @@ pub structs_found : (m : List (List ℕ)) (s w : ℕ) (x : Tree) (c d : ℕ) {k 
 structs_found m s w x c d {k} {t} {b} {q} {tag} {words} {charge} size {n} {ds} {ps} h f = go x form h
   where
     form : HasForm x 10
-    form = subst (HasForm x) (number_list (kind q) (code q) f.object.shape.kind ∙ ap (λ i. 3 + i) f.object.shape.code)
-        (found_form m s w x c d k t b q h f.finds)
+    form = search (rules, number_list, kind, code, found_form)
 
     tagged : HasWord m t b tag × TagFits tag (list_size q)
     tagged = f.object.tagged (f.object.shape.kind, f.object.shape.code)
@@ -187,26 +143,12 @@ structs_found m s w x c d {k} {t} {b} {q} {tag} {words} {charge} size {n} {ds} {
         let dsame : ds ≡ y = cc o.kind in
         let psame : ps ≡ z = cc o.kind in
         let nsame : n ≡ n' = cc o.kind in record {
-          found = record {
-            k = k;
-            q = q;
-            tag = tag;
-            finds = f.finds;
-            kind = f.object.shape.kind;
-            code = f.object.shape.code;
-            has_tag = tagged.0;
-            count = f.object.shape.count;
-            sizes = (f.object.shape.data_words, f.object.shape.pointers);
-            fits = fits;
-            exists = f.finds.inside.exists;
-            inside = omega (arith, fits, f.finds.inside.inside, extent_structs q f.object.shape.kind f.object.shape.code);
-          };
+          found = search (rules, kind, code, extent_structs);
           elements = es;
           inner = inner;
           deep = deep;
           tree = rw (dsame, psame) refl;
-          below = elements_moved m es t (b + 1) ds ps n inner deep t' (b' + 1) y z n' (sym o.segment)
-              (ap (λ i. i + 1) (sym o.start)) dsame psame nsame each;
+          below = search (rules, elements_moved);
           levels = omega (arith, found'.depth);
         }
 
@@ -217,23 +159,8 @@ pub structs_object : (m : List (List ℕ)) (s w b n d : ℕ) (p : Part) (x : Tre
     → IsObject m d s w (trim x) (object.Structs n p)
 structs_object m s w b n d p x at k e dle f cle =
     let us = trim_elements k.elements in
-    let all : AreElements m p.segment p.start p.data_words p.pointers n k.elements k.inner k.deep =
-    subst (λ i. AreElements m p.segment i p.data_words p.pointers n k.elements k.inner k.deep) (sym at) k.below in
+    let all : AreElements m p.segment p.start p.data_words p.pointers n k.elements k.inner k.deep = search rules in
     let most = most_data_of m p.segment p.start p.data_words p.pointers n k.elements k.inner k.deep all in
     let need : data_of us ≡ p.data_left = data_of-trim k.elements ∙ (sym most ∙ sym e) in
     let left : children_of us ≡ p.pointers_left = children_of-trim k.elements ∙ sym (f k.elements k.inner k.deep all) in
-    let count = sym (elements_depth m p.segment p.start p.data_words p.pointers n k.elements k.inner k.deep all).0 in (
-      k.deep,
-      k.levels,
-      record {
-        b = b;
-        start = at;
-        found = k.found;
-        elements = cut_elements p.data_left p.pointers_left us;
-        tree = ap trim k.tree ∙ rw (need, left) refl;
-        many = tree_count-cut p.data_left p.pointers_left us ∙ (tree_count-trim_elements k.elements ∙ count);
-        fewer = (dle, cle);
-        below = elements_left m p.segment p.start p.data_words p.pointers n p.data_left p.pointers_left k.deep k.elements k.inner k.deep dle cle all
-            (omega arith);
-      },
-    )
+    search (rules, elements_depth, cut_elements, trim, tree_count-cut, tree_count-trim_elements, elements_left)

@@ -1,11 +1,12 @@
 -- A message is compared with its copy while it is vetted, one object more.
+use Rattle.cap_spec.proofs.ProofNames.{common_steps}
 use Rattle.cap_spec.specs.Denoting.{places}
 use Rattle.cap_spec.specs.Tree.{none}
 use Rattle.cap_spec.specs.declared.Step.TheVariants.{Item, Ptr}
 use Rattle.cap_spec.proofs.Lemmas.{one_word, one_lead, near_has_none, extent_pointers, extent_struct, extent_structs}
 use Rattle.cap_spec.proofs.Lemmas.{extra_same, range_length, object_parts, one_tree}
-use Rattle.cap_spec.proofs.ProofNames.{Bool, List, None, [], ap, ap₂, arith, false, if◌then◌else◌, inl, inr, length}
-use Rattle.cap_spec.proofs.ProofNames.{max, ne_eqb, not, pos, refl, subst, suc, sym, true, zero, ℕ, ◌*◌, ◌++◌, ◌+◌}
+use Rattle.cap_spec.proofs.ProofNames.{Bool, List, None, [], ap, arith, false, if◌then◌else◌, inl, inr, length}
+use Rattle.cap_spec.proofs.ProofNames.{max, ne_eqb, not, refl, subst, suc, sym, true, zero, ℕ, ◌*◌, ◌++◌, ◌+◌}
 use Rattle.cap_spec.proofs.ProofNames.{◌-◌, ◌<◌, ◌==◌, ◌^◌, ◌↔◌, ◌∙◌, ◌∷◌, ◌≡◌, ◌≢◌, ◌≤◌, eqb_tells}
 use Rattle.cap_spec.proofs.ProofNames.{length-map-range_with_len, children_needed, children_of, data_needed, layout}
 use Rattle.cap_spec.proofs.ProofNames.{list_word, pointer_to, struct_word, trim, IsCanonical, AreElements, DenoteEach}
@@ -75,10 +76,7 @@ elements_due m deep base level t b a d p i zero none z at e h = tt
 elements_due m deep base level t b a d p i zero (more u es) z at e h = absurd (omega (arith, e))
 elements_due m deep base level t b a d p i (suc n) none z at e h = absurd (omega (arith, e))
 elements_due m deep base level t b a d p i (suc n) (more (struct ws us) es) z at e h =
-    due_join m (row (base ++ Item i ∷ []) level Ptr t (b + d) 0 p) (element_rows base level t (b + d + p) d p (i + 1) n)
-    (slots (a + d) us) (element_slots d p (a + d + p) es)
-    (row_due m deep (base ++ Item i ∷ []) level Ptr t (b + d) (a + d) 0 p us h.1 (λ _. (z, omega (arith, at))) h.2)
-    (elements_due m deep base level t (b + d + p) (a + d + p) d p (i + 1) n es z (omega (arith, at)) (omega (arith, e)) h.3)
+    search (rules, due_join, row_due, elements_due m deep base level t (b + d + p) (a + d + p) d p (i + 1) n es z (omega (arith, at)) (omega (arith, e)) h.3)
 elements_due m deep base level t b a d p i (suc n) (more _ es) z at e h = absurd h
 
 -- An object's own words are those of the copy, with its pointer words due.
@@ -99,14 +97,12 @@ struct_own m w end k t b q tag words charge d p s f has sizes children x c deep 
     let o = struct_object m 0 w deep part x (struct_found m 0 w x c deep h f) sizes (omega arith) children (omega arith) in
     let l : length o.2.words ≡ d = ap length o.2.data_words ∙ range_length m t b d (omega (arith, o.2.found.inside)) in
     let e : pointer_to (end - w - 1) (trim x) ≡ (if (d + p) == 0 then 2 ^ 32 - 4 else struct_word (end - w - 1) d p) =
-    ap (pointer_to (end - w - 1)) o.2.tree
-    ∙ ap₂ (λ (i j : ℕ). if (i + j) == 0 then 2 ^ 32 - 4 else struct_word (end - w - 1) i j) l o.2.many in
+    search (rules, pointer_to, struct_word) in
     let here : HasWord m 0 w (pointer_to (end - w - 1) (trim x)) = subst (λ z. HasWord m 0 w z) (sym e) has in
     let place = struct_place m o.0 w end (trim x) part o.2 s.after (omega (arith, s.inside, s.few)) s.inside here in
     let size : own_size (trim x) ≡ length o.2.words + tree_count o.2.children = ap own_size o.2.tree in
     let extent = extent_struct q f.object.shape.kind in
-    let ends : end + words ≡ end + own_size (trim x) =
-    omega (arith, size, l, o.2.many, extent, f.object.words, f.object.shape.data_words, f.object.shape.pointers) in
+    let ends : end + words ≡ end + own_size (trim x) = search (rules, extent) in
     own_of m w end (end + words) q tag t b deep (trim x) (object.Struct part) s.after here place.own ends o (λ path level.
     let due : AreDue m (row path (level + 1) Ptr t (b + d) 0 p) (slots (end + d) o.2.children) =
     row_due m o.0 path (level + 1) Ptr t (b + d) (end + d) 0 p o.2.children o.2.many place.place o.2.below in
@@ -121,8 +117,7 @@ pub pointers_own : (m : List (List ℕ)) (w end k t b q tag words charge n : ℕ
     → HasOwn m w end (end + words) q tag t b
 pointers_own m w end k t b q tag words charge n s f has x c deep h =
     let o = pointers_object m 0 w x c deep n h f in
-    let e : pointer_to (end - w - 1) (trim x) ≡ list_word (end - w - 1) 6 n =
-    ap (pointer_to (end - w - 1)) o.2.tree ∙ ap (λ i. list_word (end - w - 1) 6 i) o.2.many in
+    let e : pointer_to (end - w - 1) (trim x) ≡ list_word (end - w - 1) 6 n = search (rules, pointer_to, list_word) in
     let here : HasWord m 0 w (pointer_to (end - w - 1) (trim x)) = subst (λ z. HasWord m 0 w z) (sym e) has in
     let place = pointers_place m o.0 w end (trim x) t b n o.2 s.after (omega (arith, s.inside, s.few)) here in
     let size : own_size (trim x) ≡ tree_count o.2.children = ap own_size o.2.tree in
@@ -142,17 +137,7 @@ pub values_own : (m : List (List ℕ)) (w end k t b q tag words charge c n : ℕ
 values_own m w end k t b q tag words charge c n s f has lie x cost deep h =
     let o = scalars_object m 0 w x cost deep c n h f in
     let many : length (values_of m t b c n) ≡ n = length-map-range_with_len (value_at (segment_of m t) b (element_bits c)) 0 n in
-    let e : pointer_to (end - w - 1) (trim x) ≡ list_word (end - w - 1) c n =
-    ap (pointer_to (end - w - 1)) o.1.tree ∙ ap (λ i. list_word (end - w - 1) c i) many in
-    let here : HasWord m 0 w (pointer_to (end - w - 1) (trim x)) = subst (λ z. HasWord m 0 w z) (sym e) has in
-    let place = scalars_place m w end (trim x) t b c n words o.1 s.after (omega (arith, s.inside, s.few)) here in
-    let own : OwnAt (segment_of m 0) end (trim x) = subst (λ (v : Tree). OwnAt (segment_of m 0) end v) (sym place.tree) lie in
-    let ends : end + words ≡ end + own_size (trim x) = omega (arith, place.size) in
-    let six : (code q == 6) ≡ false = ne_eqb (code q) 6 (λ z. omega (arith, z, f.object.shape.code, f.object.shape.scalar)) in
-    let seven : (code q == 7) ≡ false = ne_eqb (code q) 7 (λ z. omega (arith, z, f.object.shape.code, f.object.shape.scalar)) in
-    own_of m w end (end + words) q tag t b deep (trim x) (object.Scalars t b c n words) s.after here own ends o (λ path level.
-    let due : AreDue m [] (below end (trim x)) = subst (λ (v : Tree). AreDue m [] (below end v)) (sym place.tree) tt in
-    rw (f.object.shape.kind, six, seven) due)
+    search (rules, pointer_to, trim, list_word, scalars_place, segment_of, code, ne_eqb, own_of)
 
 -- how many elements a list of structs has, and that they exist
 pub structs_inside : (m : List (List ℕ)) (w k t b q tag words charge size n d p : ℕ)
@@ -164,11 +149,7 @@ structs_inside m w k t b q tag words charge size n d p f = search (rules, extent
 pub structs_start : (m : List (List ℕ)) (w end k t b q tag words charge size n d p : ℕ) → MayStartAt m w end
     → FindsObject m 0 w k t b q tag words charge (shape.Structs size n d p) → HasWord m 0 w (list_word (end - w - 1) 7 (n * (d + p)))
     → (end < length (segment_of m 0)) × (list_size q ≡ n * (d + p))
-structs_start m w end k t b q tag words charge size n d p s f has =
-    let in_ = structs_inside m w k t b q tag words charge size n d p f in
-    let r = list_place m w end k t b q 7 (n * (d + p)) f.finds s.after (omega (arith, s.inside, s.few)) has (omega arith) in_.1 in
-    let seg : length (segment_of m t) ≡ length (segment_of m 0) = ap (λ i. length (segment_of m i)) r.segment in
-    (omega (arith, in_.3, r.start, seg), r.size)
+structs_start m w end k t b q tag words charge size n d p s f has = grind (arith, common_steps, structs_inside, list_place, segment_of)
 
 -- a list of structs
 pub structs_own : (m : List (List ℕ)) (w end k t b q tag words charge size n d p : ℕ) → MayStartAt m w end
@@ -180,8 +161,7 @@ structs_own m w end k t b q tag words charge size n d p s f has has_tag sizes ch
     let part : Part = record { segment = t; start = b + 1; data_words = d; pointers = p; data_left = d; pointers_left = p } in
     let o = structs_object m 0 w b n deep part x refl (structs_found m 0 w x c deep size h f) sizes (omega arith) children
     (omega arith) in
-    let e : pointer_to (end - w - 1) (trim x) ≡ list_word (end - w - 1) 7 (n * (d + p)) =
-    ap (pointer_to (end - w - 1)) o.2.tree ∙ ap (λ i. list_word (end - w - 1) 7 (i * (d + p))) o.2.many in
+    let e : pointer_to (end - w - 1) (trim x) ≡ list_word (end - w - 1) 7 (n * (d + p)) = search (rules, pointer_to, list_word) in
     let here : HasWord m 0 w (pointer_to (end - w - 1) (trim x)) = subst (λ z. HasWord m 0 w z) (sym e) has in
     let place = structs_place m o.0 w end (trim x) n part o.2 s.after (omega (arith, s.inside, s.few)) here in
     let lie = structs_lie m o.0 w end (trim x) n part o.2 place has_tag in
@@ -286,12 +266,9 @@ says_near m s w k word r has c h = search (rules, one_word)
 
 -- a word of kind 3 that can be followed leads to a capability
 leads_to_cap : (m : List (List ℕ)) (s w cost word : ℕ) → HasWord m s w word → kind word ≡ 3 → Costs m s w cost → (k i : ℕ) × Leads m s w k (to_cap i)
-leads_to_cap m s w cost word has c (inl h) =
-    let zero : word ≡ 0 = says_near m s w cost word to_null has c h in
-    let e : kind word ≡ kind 0 = ap kind zero in absurd (omega (arith, e, c))
+leads_to_cap m s w cost word has c (inl h) = search (rules, says_near, to_null, kind)
 leads_to_cap m s w cost word has c (inr (inl (i, h))) = (cost, i, h)
-leads_to_cap m s w cost word has c (inr (inr (k, t, b, q, tag, f, has', e))) =
-    let low = (says_near m s w k word (to_object t (pos b) q) has c f.leads).0 in absurd (omega (arith, low, c))
+leads_to_cap m s w cost word has c (inr (inr (k, t, b, q, tag, f, has', e))) = search (rules, says_near, to_object)
 
 -- A message isn't canonical after an object that no copy has as it is, or after a capability.
 pub differs_here : {m : List (List ℕ)} (seen : List (List Step)) (a : Ahead) {s w n cost : ℕ} (end : ℕ) → IsLookedAt m seen a s w n cost
@@ -319,8 +296,7 @@ has_differed {m} seen a {s} {w} {n} {cost} end l lax differs k =
     }
   where
     strict : IsCompared m end seen → KnowsLax m seen None
-    strict (inl k) = k.strict
-    strict (inr (e, k)) = k.strict
+    strict y1 = search rules
 
 -- no reader rejects a word that the walk knows, or that isn't far
 pub not_lax_word : (m : List (List ℕ)) (s w : ℕ) (lax : Bool) → (lax ≡ false → IsNotLax m s w)
@@ -371,13 +347,10 @@ pub checked_at_end : (m : List (List ℕ)) (seen : List (List Step)) (end : ℕ)
 checked_at_end m seen end trail k = λ x c d h. (let l = k.so_far [] trail x c d h in go (trim x) l.due l.are_due l.checked)
   where
     go : (u : Tree) (due : List Due) → AreDue m [] due → IsChecked m u end due → IsChecked m u end []
-    go u [] h c = c
-    go u (x ∷ due) h c = absurd h
+    go u y2 h c = search rules
 
 one_segment : (m : List (List ℕ)) → length m ≡ 1 → m ≡ segment_of m 0 ∷ []
-one_segment [] e = absurd (omega (arith, e))
-one_segment (xs ∷ []) e = refl
-one_segment (xs ∷ ys ∷ m) e = absurd (omega (arith, e))
+one_segment x1 e = grind (arith, common_steps)
 
 -- So a message of a whole walk is its own copy exactly if the words of the copy are all that it has.
 pub canonical_at_end : (m : List (List ℕ)) (seen : List (List Step)) (end : ℕ) (r : Report) (t : Tree) → IsTrail m seen [] → IsInOrder m end seen
@@ -391,11 +364,7 @@ canonical_at_end m seen end r t trail k report caps = (to, from)
     no_caps = ap (λ n. not (n == 0)) (sym report.caps ∙ caps)
 
     to : end ≡ length (segment_of m 0) → IsCanonical m
-    to e = (
-      segment_of m 0,
-      record { tree = t; charge = r.charge; depth = r.depth; denotes = report.within.denotes; no_caps = no_caps; laid = laid.0 e },
-      one_segment m k.one,
-    )
+    to e = search (rules, segment_of, no_caps, laid, one_segment)
 
     from : IsCanonical m → end ≡ length (segment_of m 0)
     from (words, h, e) =
@@ -406,10 +375,7 @@ canonical_at_end m seen end r t trail k report caps = (to, from)
 pub compared_at_end : (m : List (List ℕ)) (seen : List (List Step)) (end : ℕ) (r : Report) (t : Tree) → IsTrail m seen [] → IsCompared m end seen
     → IsReport m 268435456 256 r t → r.caps ≡ 0 → (end ≡ length (segment_of m 0)) ↔ IsCanonical m
 compared_at_end m seen end r t trail (inl k) report caps = canonical_at_end m seen end r t trail k report caps
-compared_at_end m seen end r t trail (inr (e, k)) report caps = (
-  λ same. absurd (omega (arith, e, same, k.some)),
-  λ canon. absurd (k.differs t r.charge r.depth report.within.denotes report.within.few_words canon),
-)
+compared_at_end m seen end r t trail (inr (e, k)) report caps = search rules
 
 -- It is strict all the same.
 pub strict_compared : (m : List (List ℕ)) (words depth : ℕ) (seen : List (List Step)) (end : ℕ) (r : Report) → IsTrail m seen [] → IsCompared m end seen
@@ -421,8 +387,7 @@ strict_compared m words depth seen end r trail k a = record {
 }
   where
     strict : IsCompared m end seen → KnowsLax m seen None
-    strict (inl k) = k.strict
-    strict (inr (e, k)) = k.strict
+    strict y1 = search rules
 
 -- the words of pointers by their fields
 pub struct_by_fields : (x : ℕ) → x < 2 ^ 64 → kind x ≡ 0 → x ≡ struct_word (middle x) (data_size x) (pointer_size x)
@@ -449,35 +414,12 @@ module _ (m : List (List ℕ)) (w word end cost : ℕ) (l : LeadsToEnd m w word 
   object_of n x pointers some is =
       let plain = pointers-plain word n pointers in
       let none = pointers-no_extra word n pointers in
-      let (finds, words, inside) = row_there n pointers some in record {
-        finds = finds;
-        object = record {
-          tagged = λ c. absurd (plain.1 c.0 c.1);
-          words = words;
-          charge = omega (arith, words, none);
-          small = omega (arith, inside, l.placed.few);
-          shape = is;
-        };
-      }
+      let (finds, words, inside) = row_there n pointers some in search rules
 
   row_next : (n : ℕ) → HasPointers word n → word ≢ 0 → HasOwn m w end (end + cost) word 0 0 end → IsNextInOrder m w end (end + cost)
   row_next n pointers some own =
       let plain = pointers-plain word n pointers in
-      let (finds, words, inside) = row_there n pointers some in record {
-        word = word;
-        has = l.has;
-        near = λ e. omega (arith, e, plain.0);
-        after = l.placed.after;
-        inside = inside;
-        k = 0;
-        t = 0;
-        b = end;
-        q = word;
-        tag = 0;
-        finds = finds;
-        tagged = λ c. absurd (plain.1 c.0 c.1);
-        own = own;
-      }
+      let (finds, words, inside) = row_there n pointers some in search rules
 
   -- It is a struct that costs something,
   struct_some : cost ≢ 0 → word ≢ 0
@@ -520,8 +462,7 @@ module _ (m : List (List ℕ)) (w word end cost : ℕ) (l : LeadsToEnd m w word 
   pointers_next small k c =
       let n = list_size word in
       let pointers : HasPointers word n = inr (inl (k, c, refl)) in
-      let same : word ≡ list_word (end - w - 1) 6 n =
-      list_by_fields word small k ∙ (ap (λ i. list_word i (code word) n) offset ∙ ap (λ i. list_word (end - w - 1) i n) c) in
+      let same : word ≡ list_word (end - w - 1) 6 n = search (rules, list_by_fields, list_word, code, offset) in
       row_next n pointers (list_some k)
       (pointers_own m w end 0 0 end word 0 cost cost n l.placed
       (object_of n (shape.Pointers n) pointers (list_some k) (record { kind = k; code = c; count = refl })) (subst (HasWord m 0 w) same l.has))

@@ -1,7 +1,8 @@
 -- A list of structs, whose word leads to the end, that is as a copy has it, or not.
+use Rattle.cap_spec.proofs.ProofNames.{rules}
 use Rattle.cap_spec.proofs.Lemmas.{start_after, HasWord-segment, one_word, extent_structs}
-use Rattle.cap_spec.proofs.ProofNames.{List, ap, arith, false, if◌then◌else◌, inl, inr, length, pos, refl, subst, sym}
-use Rattle.cap_spec.proofs.ProofNames.{true, ℕ, ◌*◌, ◌+◌, ◌-◌, ◌<◌, ◌==◌, ◌^◌, ◌∙◌, ◌≡◌, ◌≢◌, ◌≤◌, ◌⊎◌, eqb_tells}
+use Rattle.cap_spec.proofs.ProofNames.{List, ap, arith, false, if◌then◌else◌, length, pos, refl, subst, sym}
+use Rattle.cap_spec.proofs.ProofNames.{true, ℕ, ◌*◌, ◌+◌, ◌-◌, ◌<◌, ◌==◌, ◌^◌, ◌≡◌, ◌≢◌, ◌≤◌, ◌⊎◌, eqb_tells}
 use Rattle.cap_spec.proofs.ProofNames.{list_word, struct_word, HasWord, segment_of, code, data_size, kind, list_size}
 use Rattle.cap_spec.proofs.ProofNames.{middle, pointer_size}
 use Rattle.cap_ptr.specs.Reaching.{LeadsTo}
@@ -29,14 +30,10 @@ module _ (m : List (List ℕ)) (w end word tag cost : ℕ) (l : LeadsToEnd m w w
   inside = (structs_there m w word end cost l list.0 list.1).3
 
   fits : middle tag * (data_size tag + pointer_size tag) ≤ list_size word
-  fits =
-      let (there, has, _, _, few) = structs_there m w word end cost l list.0 list.1 in
-      subst (λ i. middle i * (data_size i + pointer_size i) ≤ list_size word) (sym (one_word m 0 end tag there has_tag has)) few
+  fits = search (rules, structs_there, middle, data_size, pointer_size, list_size, one_word)
 
   tag_kind : kind tag ≡ 0
-  tag_kind =
-      let (there, has, is, _, _) = structs_there m w word end cost l list.0 list.1 in
-      ap kind (one_word m 0 end tag there has_tag has) ∙ is
+  tag_kind = search (rules, structs_there, kind, one_word)
 
   abbrev n : ℕ
   n = middle tag
@@ -51,24 +48,16 @@ module _ (m : List (List ℕ)) (w end word tag cost : ℕ) (l : LeadsToEnd m w w
   empty = if (d + p) == 0 then n else 0
 
   empty_few : (((d + p == 0) ≡ true) × (d + p ≡ 0)) ⊎ (((d + p == 0) ≡ false) × (d + p ≡ 0 → ⊥)) → empty ≤ n
-  empty_few (inl y) = rw y.0 (omega arith)
-  empty_few (inr y) = rw y.0 (omega arith)
+  empty_few x1 = search rules
 
   object : FindsObject m 0 w 0 0 end word tag (1 + list_size word) (0 + 1 + list_size word + empty) (shape.Structs (list_size word) n d p)
-  object =
-      let extent_is = extent_structs word list.0 list.1 in
-      found-structs m 0 w 0 0 end word (leads_to_end m w end word l.placed l.has list.0 l.next) (HasWord-segment m 0 w word l.has)
-      tag (list_size word) n d p empty (1 + list_size word) (0 + 1 + list_size word + empty) (omega arith)
-      (omega (arith, extent_is, inside)) list has_tag refl tag_kind refl refl refl
-      (omega (arith, fits)) refl (empty_few (eqb_tells (d + p) 0)) refl refl
+  object = search (rules, extent_structs, found-structs, leads_to_end, HasWord-segment, list_size, inside, tag_kind, fits, empty_few, eqb_tells)
 
   pub structs_next : n * (d + p) ≡ list_size word → word < 2 ^ 64 → tag < 2 ^ 64 → ListNeedsAll m 0 (end + 1) d p n
       → IsNextInOrder m w end (end + 1 + list_size word)
   structs_next all small tag_small needs =
       let offset : middle word ≡ end - w - 1 = omega (arith, l.next) in
-      let same : word ≡ list_word (end - w - 1) 7 (n * (d + p)) = list_by_fields word small list.0
-      ∙ (ap (λ i. list_word i (code word) (list_size word)) offset
-      ∙ (ap (λ i. list_word (end - w - 1) i (list_size word)) list.1 ∙ ap (λ i. list_word (end - w - 1) 7 i) (sym all))) in
+      let same : word ≡ list_word (end - w - 1) 7 (n * (d + p)) = search (rules, list_by_fields, list_word, code, list_size) in
       let tag_same : tag ≡ struct_word n d p = struct_by_fields tag tag_small tag_kind in
       let e : end + (1 + list_size word) ≡ end + 1 + list_size word = omega arith in
       let own = structs_own m w end 0 0 end word tag (1 + list_size word) (0 + 1 + list_size word + empty) (list_size word) n d p l.placed object
@@ -89,9 +78,7 @@ module _ (m : List (List ℕ)) (w end word tag cost : ℕ) (l : LeadsToEnd m w w
       }
 
   pub structs_differ : ListNeedsLess m 0 (end + 1) d p n → NoCopyHas m w end
-  structs_differ less =
-      no_structs m w end word tag (1 + list_size word) (0 + 1 + list_size word + empty) (list_size word) n d p object less
+  structs_differ less = search (rules, no_structs, object)
 
   pub structs_surplus : n * (d + p) ≢ list_size word → NoCopyHas m w end
-  structs_surplus surplus =
-      no_surplus m w end word tag (1 + list_size word) (0 + 1 + list_size word + empty) (list_size word) n d p object l.has surplus
+  structs_surplus surplus = search (rules, no_surplus, object)

@@ -1,8 +1,8 @@
 -- When the words of a message are those that a copy has, one object at a time.
 use Rattle.cap_spec.specs.Tree.{none}
 use Rattle.cap_spec.proofs.Lemmas.{all_append, lie_back, list_fields, struct_fields, one_word, range_length}
-use Rattle.cap_spec.proofs.ProofNames.{List, [], ap, arith, length, subst, suc, sym, zero, ℕ, ◌*◌, ◌++◌, ◌+◌, ◌-◌, ◌<◌}
-use Rattle.cap_spec.proofs.ProofNames.{◌^◌, ◌∙◌, ◌∷◌, ◌≡◌, ◌≤◌, eqb_tells, nil_from_length, length-map-range_with_len}
+use Rattle.cap_spec.proofs.ProofNames.{List, [], arith, length, subst, suc, sym, zero, ℕ, ◌*◌, ◌++◌, ◌+◌, ◌-◌, ◌<◌}
+use Rattle.cap_spec.proofs.ProofNames.{◌^◌, ◌∷◌, ◌≡◌, ◌≤◌, eqb_tells, nil_from_length, length-map-range_with_len}
 use Rattle.cap_spec.proofs.ProofNames.{mul-le, AllByRecursion, list_word, pointer_to, struct_word, Finds, values_of}
 use Rattle.cap_spec.proofs.ProofNames.{words_from, HasWord, segment_of, HasWordsAt, list_size, list_words}
 use Rattle.cap_spec.proofs.ProofNames.{scalar_words, Tree, Trees, cap, more, scalars, struct, tree_count, IsWord}
@@ -34,17 +34,14 @@ pub values_lie : (m : List (List ℕ)) (t b c n before x : ℕ) → c < 6 → li
     → HasWordsAt (segment_of m t) b (scalar_words c (values_of m t b c n))
 values_lie m t b c n before x lt e inside words last same =
     let laid = values_laid m t b c n before x lt e inside words last in
-    let all : words_from m t b before ++ x ∷ [] ≡ scalar_words c (values_of m t b c n) = ap (λ y. words_from m t b before ++ y ∷ []) same ∙ sym laid in
-    let whole : HasWordsAt (segment_of m t) b (words_from m t b (before + 1)) = range_lies m t b (before + 1) (omega (arith, inside)) in
-    subst (λ xs. HasWordsAt (segment_of m t) b xs) (range_more m t b before x last ∙ all) whole
+    search (rules, words_from, scalar_words, values_of, segment_of, range_lies, range_more)
 
 pub lie_values : (m : List (List ℕ)) (t b c n before x : ℕ) → c < 6 → list_words c n ≡ before + 1 → b + before < length (segment_of m t)
     → AllByRecursion IsWord (words_from m t b before) → HasWord m t (b + before) x → HasWordsAt (segment_of m t) b (scalar_words c (values_of m t b c n))
     → x ≡ field x 0 (used_bits c n before)
 lie_values m t b c n before x lt e inside words last st =
     let laid = values_laid m t b c n before x lt e inside words last in
-    let there : HasWordsAt (segment_of m t) b (words_from m t b before ++ field x 0 (used_bits c n before) ∷ []) =
-    subst (λ xs. HasWordsAt (segment_of m t) b xs) laid st in
+    let there : HasWordsAt (segment_of m t) b (words_from m t b before ++ field x 0 (used_bits c n before) ∷ []) = search (rules, segment_of) in
     let l : length (words_from m t b before) ≡ before = range_length m t b before (omega (arith, inside)) in
     let back : HasWordsAt (segment_of m t) (b + before) (field x 0 (used_bits c n before) ∷ []) =
     lie_back (segment_of m t) b (b + before) (words_from m t b before) (field x 0 (used_bits c n before) ∷ []) (omega (arith, l)) there in
@@ -96,10 +93,8 @@ elements_at : (m : List (List ℕ)) (deep b d p : ℕ) (es : Trees) → AreEleme
     → b + tree_count es * (d + p) ≤ length (segment_of m 0) → DataAt (segment_of m 0) b d p es
 elements_at m deep b d p none a h = omega (arith, h)
 elements_at m deep b d p (more (struct ws us) es) a h =
-    let e : suc (tree_count es) * (d + p) ≡ d + p + tree_count es * (d + p) = omega arith in (
-      subst (λ xs. HasWordsAt (segment_of m 0) b xs) (sym a.0) (range_lies m 0 b d (omega (arith, h, e))),
-      elements_at m deep (b + d + p) d p es a.3 (omega (arith, h, e)),
-    )
+    let e : suc (tree_count es) * (d + p) ≡ d + p + tree_count es * (d + p) = omega arith in
+    search (rules, segment_of, range_lies, elements_at m deep (b + d + p) d p es a.3 (omega (arith, h, e)))
 elements_at m deep b d p (more _ es) a h = absurd a
 
 -- a list of structs, from its tag on

@@ -1,4 +1,5 @@
 -- One object more of a layout.
+use Rattle.cap_spec.proofs.ProofNames.{rules}
 use Rattle.cap_spec.specs.Tree.{none}
 use Rattle.cap_spec.proofs.Canonical.ElementPlaces.{children_begin, element_end, rest_begin}
 use Rattle.cap_spec.proofs.Canonical.Sizes.{length-contents, length-element_words, length-pointer_words}
@@ -22,15 +23,12 @@ elements_due words d p b c after (more (struct ws ts) es) due e f sp sc l =
     let own : HasWordsAt words b ws = lie_front words b ws pw front in
     let below : HasWordsAt words (b + d) pw = lie_back words b (b + d) ws pw (ap (λ n. b + n) (sym f.0)) front in
     let i : c + element_sizes (more (struct ws ts) es) ≡ c + sizes ts + element_sizes es = omega arith in
-    let r = elements_due words d p (b + d + p) (c + sizes ts) (after + sizes ts) es due
-    (rest_begin c b (tree_count es) d p after (sizes ts) e) f.3
-    (lie_back words b (b + d + p) (ws ++ pw) ew (element_end b d p ws pw (tree_count ts) f.0
-    (length-pointer_words (tree_count es * (d + p) + after) ts) f.1) sp)
+    let rest = elements_due words d p (b + d + p) (c + sizes ts)
+    (after + sizes ts) es due (rest_begin c b (tree_count es) d p after (sizes ts) e) f.3 (lie_back words b (b + d + p) (ws ++ pw) ew
+    (element_end b d p ws pw (tree_count ts) f.0 (length-pointer_words (tree_count es * (d + p) + after) ts) f.1) sp)
     (lie_back words c (c + sizes ts) (contents ts) (element_contents es) (ap (λ n. c + n) (sym (length-contents ts f.2))) sc)
     (subst (λ n. Laid words n due) i l) in
-    let row = row_due words (b + d) c (tree_count es * (d + p) + after) ts (element_slots d p (b + d + p) es ++ due)
-    (children_begin c b (tree_count es) d p (tree_count ts) after e f.1) f.2 below (lie_front words c (contents ts) (element_contents es) sc) r.1 in
-    ((own, r.0), subst (λ xs. Laid words c xs) (sym (append_assoc (slots (b + d) ts) (element_slots d p (b + d + p) es) due)) row)
+    search (rules, sizes, contents, row_due, children_begin, lie_front, append_assoc)
 elements_due words d p b c after (more _ es) due e f sp sc l = absurd f
 
 -- the parts of elements that are laid
@@ -41,8 +39,7 @@ pub record ElementsLaid (words : List ℕ) (each b c after : ℕ) (es : Trees) (
 
 pub due_elements : (words : List ℕ) (d p b c after : ℕ) (es : Trees) (due : List Due) → c ≡ b + tree_count es * (d + p) + after → FitElements d p es
     → DataAt words b d p es → Laid words c (element_slots d p b es ++ due) → ElementsLaid words (d + p) b c after es due
-due_elements words d p b c after none due e f da l =
-    let i : c ≡ c + 0 = omega arith in record { row = da; below = laid_inside words c due l; rest = subst (λ n. Laid words n due) i l }
+due_elements words d p b c after none due e f da l = search (rules, laid_inside)
 due_elements words d p b c after (more (struct ws ts) es) due e f da l =
     let pw = pointer_words (tree_count es * (d + p) + after) ts in
     let ew = element_words (d + p) (after + sizes ts) es in
@@ -53,8 +50,7 @@ due_elements words d p b c after (more (struct ws ts) es) due e f da l =
     (rest_begin c b (tree_count es) d p after (sizes ts) e) f.3 da.1 first.rest in
     let i : c + sizes ts + element_sizes es ≡ c + element_sizes (more (struct ws ts) es) = omega arith in
     let own : HasWordsAt words b (ws ++ pw) = lie_join words b (b + d) ws pw (ap (λ n. b + n) (sym f.0)) da.0 first.row in record {
-      row = lie_join words b (b + d + p) (ws ++ pw) ew (element_end b d p ws pw (tree_count ts) f.0
-          (length-pointer_words (tree_count es * (d + p) + after) ts) f.1) own r.row;
+      row = search (rules, lie_join, element_end, length-pointer_words);
       below = lie_join words c (c + sizes ts) (contents ts) (element_contents es) (ap (λ n. c + n) (sym (length-contents ts f.2))) first.below r.below;
       rest = subst (λ n. Laid words n due) i r.rest;
     }
@@ -153,12 +149,7 @@ pointers_laid words end slot ts due f = (to, from)
 
     to : Laid words end (record { slot = slot; tree = pointers ts } ∷ due)
         → IsPointed words end slot (pointers ts) × Laid words (end + tree_count ts) (slots end ts ++ due)
-    to (offset, e, p, s, l) =
-        let i : end + size (pointers ts) ≡ end + tree_count ts + sizes ts = omega arith in (
-          (offset, e, p),
-          row_due words end (end + tree_count ts) 0 ts due (omega arith) f.1 (lie_front words end (pointer_words 0 ts) (contents ts) s)
-              (lie_back words end (end + tree_count ts) (pointer_words 0 ts) (contents ts) following s) (subst (λ n. Laid words n due) i l),
-        )
+    to y1 = search (rules, size, pointers, tree_count, sizes, row_due, lie_front, pointer_words, contents, lie_back, following)
 
     from : IsPointed words end slot (pointers ts) × Laid words (end + tree_count ts) (slots end ts ++ due)
         → Laid words end (record { slot = slot; tree = pointers ts } ∷ due)
@@ -186,32 +177,13 @@ sum_three end n = omega arith
 pub object_laid : (words : List ℕ) (end slot : ℕ) (u : Tree) (due : List Due) → Fits u
     → Laid words end (record { slot = slot; tree = u } ∷ due) ↔
     (IsPointed words end slot u × OwnAt words end u × Laid words (end + own_size u) (below end u ++ due))
-object_laid words end slot null due f = (
-  λ h. ((h.0, h.1, h.2), tt, h.4),
-  λ h. (h.0.0, h.0.1, h.0.2, laid_inside words end due (same_end words end 0 due refl h.2), h.2),
-)
-object_laid words end slot (cap i) due f = (
-  λ h. ((h.0, h.1, h.2), tt, h.4),
-  λ h. (h.0.0, h.0.1, h.0.2, laid_inside words end due (same_end words end 0 due refl h.2), h.2),
-)
+object_laid words end slot null due f = search (rules, laid_inside, same_end)
+object_laid words end slot (cap i) due f = search (rules, laid_inside, same_end)
 object_laid words end slot (struct ws ts) due f =
     let r = struct_laid words end slot ws ts due f in
-    let i = sum_back end (length ws) (tree_count ts) in (
-      λ h. (let k = r.0 h in (k.0, k.1, subst (λ n. Laid words n (slots (end + length ws) ts ++ due)) (sym i) k.2)),
-      λ h. r.1 (h.0, h.1, subst (λ n. Laid words n (slots (end + length ws) ts ++ due)) i h.2),
-    )
-object_laid words end slot (scalars c vs) due f = (
-  λ h. ((h.0, h.1, h.2), h.3, h.4),
-  λ h. (h.0.0, h.0.1, h.0.2, h.1, h.2),
-)
+    let i = sum_back end (length ws) (tree_count ts) in search rules
+object_laid words end slot (scalars c vs) due f = search rules
 object_laid words end slot (pointers ts) due f =
-    let r = pointers_laid words end slot ts due f in (
-      λ h. (let k = r.0 h in (k.0, tt, k.1)),
-      λ h. r.1 (h.0, h.2),
-    )
+    let r = pointers_laid words end slot ts due f in search rules
 object_laid words end slot (structs d p es) due f =
-    let r = structs_laid words end slot d p es due f in
-    let i = sum_three end (tree_count es * (d + p)) in (
-      λ h. (let k = r.0 h in (k.0, (k.1, k.2), subst (λ n. Laid words n (element_slots d p (end + 1) es ++ due)) i k.3)),
-      λ h. r.1 (h.0, h.1.0, h.1.1, subst (λ n. Laid words n (element_slots d p (end + 1) es ++ due)) (sym i) h.2),
-    )
+    let r = structs_laid words end slot d p es due f in search (rules, sum_three, tree_count)

@@ -1,6 +1,7 @@
 -- The words of a layout, seen from the pointer words that lead to what isn't laid yet.
-use Rattle.std.proofs.Common.{List, Some, [], ap, arith, length, slice_get, subst, sym, ℕ, ◌++◌, ◌+◌, ◌∷◌, ◌≡◌, ◌≤◌}
-use Rattle.cap_spec.specs.Canonical.{content, contents, pointer_to, pointer_words, size, sizes}
+use Rattle.cap_spec.proofs.ProofNames.{rules}
+use Rattle.std.proofs.Common.{List, [], ap, arith, length, subst, sym, ℕ, ◌++◌, ◌+◌, ◌∷◌, ◌≡◌, ◌≤◌}
+use Rattle.cap_spec.specs.Canonical.{content, contents, pointer_words, size, sizes}
 use Rattle.cap_spec.specs.Placing.{HasWordsAt}
 use Rattle.cap_spec.specs.Tree.{Trees, more, none, tree_count}
 use Rattle.cap_spec.proofs.Canonical.TreeMeasures.{FitEach}
@@ -22,15 +23,11 @@ pub row_due : (words : List ℕ) (a c after : ℕ) (ts : Trees) (due : List Due)
     → HasWordsAt words a (pointer_words after ts) → HasWordsAt words c (contents ts) → Laid words (c + sizes ts) due → Laid words c (slots a ts ++ due)
 row_due words a c after none due e f sp sc l = let i : c + 0 ≡ c = omega arith in subst (λ n. Laid words n due) i l
 row_due words a c after (more t ts) due e f sp sc l =
-    let i : c + sizes (more t ts) ≡ c + size t + sizes ts = omega arith in (
-      tree_count ts + after,
-      omega (arith, e),
-      sp.0,
-      lie_front words c (content t) (contents ts) sc,
-      row_due words (a + 1) (c + size t) (after + size t) ts due (omega (arith, e)) f.1 sp.1
-          (lie_back words c (c + size t) (content t) (contents ts) (ap (λ n. c + n) (sym (length-content t f.0))) sc)
-          (subst (λ n. Laid words n due) i l),
-    )
+    let i : c + sizes (more t ts) ≡ c + size t + sizes ts = omega arith in
+    let rest = row_due words (a + 1) (c + size t) (after + size t) ts due (omega (arith, e)) f.1 sp.1
+    (lie_back words c (c + size t) (content t) (contents ts) (ap (λ n. c + n) (sym (length-content t f.0))) sc)
+    (subst (λ n. Laid words n due) i l) in
+    search (rules, lie_front, lie_back, length-content)
 
 -- the parts of a row that is laid
 pub record RowLaid (words : List ℕ) (a c after : ℕ) (ts : Trees) (due : List Due) : Type 0 where
@@ -40,18 +37,6 @@ pub record RowLaid (words : List ℕ) (a c after : ℕ) (ts : Trees) (due : List
 
 pub due_row : (words : List ℕ) (a c after : ℕ) (ts : Trees) (due : List Due) → c ≡ a + tree_count ts + after → FitEach ts
     → Laid words c (slots a ts ++ due) → RowLaid words a c after ts due
-due_row words a c after none due e f l =
-    let i : c ≡ c + 0 = omega arith in
-    let k = laid_inside words c due l in record {
-      row = omega (arith, e, k);
-      below = k;
-      rest = subst (λ n. Laid words n due) i l;
-    }
+due_row words a c after none due e f l = search (rules, laid_inside)
 due_row words a c after (more t ts) due e f (offset, eo, p, s, l) =
-    let r = due_row words (a + 1) (c + size t) (after + size t) ts due (omega (arith, e)) f.1 l in
-    let i : c + size t + sizes ts ≡ c + sizes (more t ts) = omega arith in
-    let o : offset ≡ tree_count ts + after = omega (arith, e, eo) in record {
-      row = (subst (λ n. slice_get words a ≡ Some (pointer_to n t)) o p, r.row);
-      below = lie_join words c (c + size t) (content t) (contents ts) (ap (λ n. c + n) (sym (length-content t f.0))) s r.below;
-      rest = subst (λ n. Laid words n due) i r.rest;
-    }
+    let r = due_row words (a + 1) (c + size t) (after + size t) ts due (omega (arith, e)) f.1 l in search (rules, lie_join, length-content)

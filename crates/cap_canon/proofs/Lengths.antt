@@ -14,9 +14,7 @@ size_slots a (more t ts) = ap (λ n. size t + n) (size_slots (a + 1) ts)
 
 size_elements : (d p a : ℕ) (es : Trees) → size_due (element_slots d p a es) ≡ element_sizes es
 size_elements d p a none = refl
-size_elements d p a (more (struct ws ts) es) =
-    let x = size_due-append (slots (a + d) ts) (element_slots d p (a + d + p) es) in
-    omega (arith, x, size_slots (a + d) ts, size_elements d p (a + d + p) es)
+size_elements d p a (more (struct ws ts) es) = search (rules, size_due-append, size_slots, size_elements d p (a + d + p) es)
 size_elements d p a (more null es) = size_elements d p a es
 size_elements d p a (more (cap i) es) = size_elements d p a es
 size_elements d p a (more (scalars c vs) es) = size_elements d p a es

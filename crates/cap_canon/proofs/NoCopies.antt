@@ -33,10 +33,7 @@ pub no_word : (m : List (List ℕ)) (w end word : ℕ) → HasWord m 0 w word �
     → (w + 1 + middle word ≡ end → HasNoWords word) → (kind word ≡ 1 → code word ≡ 0 → w + 1 + middle word ≡ end → ⊥) → NoCopyHas m w end
 no_word m w end word has k z n other list x c d h lt small pointed own due laid =
     let e = pointed_word m w end word (trim x) has pointed in
-    let fits = owed_fits m d 0 0 w (trim x) (x, c, d, h, refl, omega arith) in
-    let parts = word_parts (end - w - 1) word (trim x) (omega (arith, small)) fits e k z n in
-    let next : w + 1 + middle word ≡ end = omega (arith, parts.1, lt) in
-    elim parts.0 [ inl st ↦ st.1 ((other next).0 st.0) | inr li ↦ list li ((other next).1 li) next ]
+    let fits = owed_fits m d 0 0 w (trim x) (x, c, d, h, refl, omega arith) in search (rules, word_parts, trim, middle)
 
 -- the same where it may be that of a capability
 pub other_differs : (m : List (List ℕ)) (w end word : ℕ) → HasWord m 0 w word → word ≢ 0 → word ≢ 2 ^ 32 - 4
@@ -90,9 +87,7 @@ struct_needs m w end word words charge x c d f has next h lt small pointed = go 
     p_is = tree_count-take_le (children_needed us) us (children_needed_le us) ∙ children_needed-trim k.children
 
     d_few : length front ≤ data_size word
-    d_few =
-        let l : length k.words ≡ data_size word = ap length k.data_words ∙ range_length m 0 end (data_size word) (omega (arith, k.found.inside)) in
-        omega (arith, length-take-le (data_needed k.words) k.words (data_needed_le k.words), data_needed_le k.words, l)
+    d_few = search (rules, data_size, range_length, length-take-le, data_needed, data_needed_le)
 
     p_few : tree_count first ≤ pointer_size word
     p_few = omega (arith, p_is, row_needed m 0 (end + data_size word) (pointer_size word) k.children k.inner k.deep k.below)
@@ -201,6 +196,4 @@ pub no_surplus : (m : List (List ℕ)) (w end word tag words charge size n d p :
     → FindsObject m 0 w 0 0 end word tag words charge (shape.Structs size n d p) → HasWord m 0 w word → n * (d + p) ≢ list_size word → NoCopyHas m w end
 no_surplus m w end word tag words charge size n d p f has surplus x c deep h lt small pointed own due laid =
     let k = structs_need m w end word tag words charge size n d p x c deep f h own in
-    let e = pointed_word m w end word (trim x) has pointed ∙ ap (pointer_to (end - w - 1)) k.tree in
-    let fields = list_fields (end - w - 1) 7 (tree_count k.cut * (d + p)) (omega (arith, small)) (omega arith) k.fits.3 in
-    surplus (ap (λ i. i * (d + p)) k.count ∙ sym (ap list_size e ∙ fields.size))
+    search (rules, pointed_word, trim, pointer_to, list_fields, tree_count, list_size)

@@ -18,8 +18,7 @@ first_text words bytes small h e =
     let n = length words in
     let front = take (8 * n) bytes in
     let long : length front ≡ 8 * n = length-take-le (8 * n) bytes h in
-    let whole : front ≡ plain_text (plain_words front) =
-    words_text front (all_take (λ b. b < 256) (8 * n) bytes small) (omega (arith, long)) in
+    let whole : front ≡ plain_text (plain_words front) = search (rules, words_text, all_take) in
     whole ∙ ap plain_text (first_taken n bytes h ∙ e)
 
 -- a buffer that wasn't made long enough
@@ -66,9 +65,7 @@ module _ (m : List (List ℕ)) (old mid new : List ℕ) (n : ℕ) (same : length
 
   pub copy_ok : MakesEnough m old (Ok tt) mid → HasCopy m (plain_words (take (8 * n) new))
   copy_ok e =
-      let x = enough_of m old mid e in
-      copy_of m x.0 (plain_words (take (8 * n) new)) x.1
-      (λ t c d h. first_taken n new (within_ok e) ∙ (ap (λ (k : ℕ). first_words k new) (counts t c d h) ∙ writes t c d h))
+      let x = enough_of m old mid e in search (rules, copy_of, plain_words, first_taken, within_ok)
 
   -- the buffer is as long as before if the copy fits, and else as long as the copy
   pub grows : MakesEnough m old (Ok tt) mid → (8 * n ≤ length old → length mid ≡ length old) × (length old < 8 * n → length mid ≡ 8 * n)

@@ -1,10 +1,11 @@
 -- What the runs of a walk owe, word by word.
+use Rattle.cap_spec.proofs.ProofNames.{common_steps}
 use Rattle.cap_spec.proofs.Lemmas.{reverse-more, HasWord-inside, HasWord-segment, lead_word, Formed, formed}
-use Rattle.cap_spec.proofs.ProofNames.{List, None, Option, Some, [], ap, arith, length, length-append, option_to_list}
-use Rattle.cap_spec.proofs.ProofNames.{refl, reverse, subst, suc, sym, ℕ, ◌++◌, ◌+◌, ◌<◌, ◌^◌, ◌∙◌, ◌∷◌, ◌≡◌, ◌≤◌}
+use Rattle.cap_spec.proofs.ProofNames.{List, Option, [], ap, arith, length, length-append, option_to_list}
+use Rattle.cap_spec.proofs.ProofNames.{refl, reverse, subst, suc, ℕ, ◌++◌, ◌+◌, ◌<◌, ◌^◌, ◌∙◌, ◌∷◌, ◌≡◌, ◌≤◌}
 use Rattle.cap_spec.proofs.ProofNames.{length-reverse, reverse-append, Denotes, IsMessage, segment_of, Tree, rules}
 use Rattle.cap_canon.specs.Laying.{size_due}
-use Rattle.cap_canon.specs.CanonNames.{AreShort, IsFull, IsRest, OptionFull, all_places, first_place, option_places}
+use Rattle.cap_canon.specs.CanonNames.{AreShort, IsFull, IsRest, OptionFull, first_place, option_places}
 use Rattle.cap_canon.specs.CanonNames.{places_of, AreBefore, Due, AreOwed, IsNext, IsWalking, Stacked, longest_copy}
 use Rattle.cap_canon.specs.CanonNames.{work_left, CopyRun, PointerPlace}
 use Rattle.cap_canon.specs.StillToLay.{RunOwes}
@@ -13,18 +14,14 @@ use Rattle.cap_canon.proofs.Runs.{count_more}
 -- a word that denotes is a number of 32 bits
 pub word_short : (m : List (List ℕ)) (s w : ℕ) (t : Tree) (c d : ℕ) → IsMessage m → Denotes m s w t c d → w < 2 ^ 32
 word_short m s w t c d is h =
-    let f : Formed m s w t = formed m s w t c d h in
-    let p = lead_word m s w f.k f.r f.leads in
-    let short : length (segment_of m s) < 2 ^ 32 = is.lengths s [] (HasWord-segment m s w p.0 p.1) in
-    omega (arith, HasWord-inside m s w p.0 p.1, short)
+    let f : Formed m s w t = formed m s w t c d h in search (rules, lead_word, segment_of, HasWord-segment, HasWord-inside)
 
 -- the words that are owed are
 pub owed_short : (m : List (List ℕ)) (depth n end : ℕ) (places : List PointerPlace) (due : List Due) → IsMessage m → end ≤ longest_copy → AreBefore end due
     → AreOwed m depth n places due → AreShort places
 owed_short m depth n end [] due is le b h = tt
 owed_short m depth n end (p ∷ places) [] is le b h = absurd h
-owed_short m depth n end (p ∷ places) (x ∷ due) is le b h =
-    let o = h.1 in ((word_short m p.segment p.word o.0 o.1 o.2 is o.3, omega (arith, h.0, b.0, le)), owed_short m depth n end places due is le b.1 h.2)
+owed_short m depth n end (p ∷ places) (x ∷ due) is le b h = search (rules, word_short, owed_short m depth n end places due is le b.1 h.2)
 
 -- as many words as trees
 pub owed_count : (m : List (List ℕ)) (depth n : ℕ) (places : List PointerPlace) (due : List Due) → AreOwed m depth n places due → length places ≡ length due
@@ -95,33 +92,13 @@ first_owed : (m : List (List ℕ)) (depth n end : ℕ) (f : CopyRun) (r : Option
     → Takes m depth (first_place f) (runs ++ option_to_list r) end (own ++ rest)
 first_owed m depth n end f r runs [] rest e is_rest is h s b small = absurd h
 first_owed m depth n end f r runs (x ∷ own) rest e is_rest is h s b small =
-    let o = h.1 in
-    let same : (x ∷ own) ++ rest ≡ record { slot = f.slot; tree = x.tree } ∷ (own ++ rest) =
-    ap (λ i. record { slot = i; tree = x.tree } ∷ (own ++ rest)) (sym h.0) in (
-      x.tree,
-      own ++ rest,
-      same,
-      record {
-        owed = (o.0, o.1, o.2, o.3, o.4, low r o.2 o.5);
-        inside = omega (arith, h.0, b.0);
-        message = is;
-        stacked = subst (λ fs. Stacked m depth fs (own ++ rest)) (sym (reverse-more runs r))
-            (stacked_more m depth n r (reverse runs) own rest (omega (arith, e, length-reverse runs)) is_rest.full h.2 s);
-        before = b.1;
-        small = subst (λ ds. end + size_due ds ≤ longest_copy) same small;
-      },
-    )
-  where
-    low : (r : Option CopyRun) (d : ℕ) → d + n ≤ depth → d + length (runs ++ option_to_list r) ≤ depth
-    low None d le = let l = length-append runs (option_to_list {X = CopyRun} None) in omega (arith, l, le, e)
-    low (Some y) d le = let l = length-append runs (y ∷ []) in omega (arith, l, le, e)
+    search (rules, reverse-more, stacked_more, length-reverse, option_to_list, length-append)
 
 pub next_of : (m : List (List ℕ)) (depth end : ℕ) (runs : List CopyRun) (f : CopyRun) (r : Option CopyRun) (due : List Due)
     → IsWalking m depth (runs ++ f ∷ []) end due → IsRest f r → Takes m depth (first_place f) (runs ++ option_to_list r) end due
 next_of m depth end runs f r due w is_rest =
     let k = topmost m depth end runs f due w in
-    let owed : AreOwed m depth (length (reverse runs) + 1) (first_place f ∷ option_places r) k.own =
-    subst (λ ps. AreOwed m depth (length (reverse runs) + 1) ps k.own) is_rest.words k.owes.owed in
+    let owed : AreOwed m depth (length (reverse runs) + 1) (first_place f ∷ option_places r) k.own = search rules in
     let n = first_owed m depth (length (reverse runs) + 1) end f r runs k.own k.rest (omega (arith, length-reverse runs)) is_rest w.message owed k.stacked
     (subst (AreBefore end) k.all w.before)
     (subst (λ ds. end + size_due ds ≤ longest_copy) k.all w.small) in
@@ -129,8 +106,4 @@ next_of m depth end runs f r due w is_rest =
 
 -- one word fewer is left
 pub next_work : (runs : List CopyRun) (f : CopyRun) (r : Option CopyRun) → IsRest f r → work_left (runs ++ option_to_list r) + 1 ≡ work_left (runs ++ f ∷ [])
-next_work runs f r is_rest =
-    let a = count_more runs r in
-    let b : length (all_places (runs ++ f ∷ [])) ≡ length (all_places runs) + length (places_of f) = count_more runs (Some f) in
-    let e : length (places_of f) ≡ suc (length (option_places r)) = ap length is_rest.words in
-    omega (arith, a, b, e)
+next_work runs f r is_rest = grind (arith, common_steps, count_more)

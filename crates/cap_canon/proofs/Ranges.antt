@@ -1,7 +1,8 @@
 -- The words of ranges and of lists of values, as a copy appends them.
+use Rattle.cap_spec.proofs.ProofNames.{common_steps}
 use Rattle.cap_spec.proofs.Lemmas.{rest_at, HasWord-at, range_length, length-scalar_words}
-use Rattle.cap_spec.proofs.ProofNames.{List, [], ap, ap₂, arith, drop, drop-drop, get_or, get_or-drop, get_or-take}
-use Rattle.cap_spec.proofs.ProofNames.{inl, inr, length, length-append, refl, subst, suc, sym, take, take-add, zero, ℕ}
+use Rattle.cap_spec.proofs.ProofNames.{List, [], ap, arith, drop, drop-drop, get_or, get_or-drop, get_or-take}
+use Rattle.cap_spec.proofs.ProofNames.{length, length-append, refl, subst, suc, sym, take, take-add, zero, ℕ}
 use Rattle.cap_spec.proofs.ProofNames.{◌*◌, ◌++◌, ◌+◌, ◌-◌, ◌<◌, ◌∙◌, ◌∷◌, ◌≡◌, ◌≤◌, ◌⊎◌, get_or-append_right}
 use Rattle.cap_spec.proofs.ProofNames.{get_or_append_left, get_or_default, same_lists, length-map-range_with_len}
 use Rattle.cap_spec.proofs.ProofNames.{get_or_from_slice_get, AllByRecursion, value_at, values_of, words_from, HasWord}
@@ -24,10 +25,7 @@ pub elements_whole : (m : List (List ℕ)) (t b ds ps n : ℕ) → words_from m 
 elements_whole m t b ds ps zero = let e : b + 0 * (ds + ps) - b ≡ 0 = omega arith in ap (λ k. take k (drop b (segment_of m t))) e
 elements_whole m t b ds ps (suc n) =
     let e : suc n * (ds + ps) ≡ ds + ps + n * (ds + ps) = omega arith in
-    let f : b + (ds + ps) ≡ b + ds + ps = omega arith in
-    let rest = elements_whole m t (b + ds + ps) ds ps n in
-    ap (words_from m t b) e ∙ (words_split m t b (ds + ps) (n * (ds + ps))
-    ∙ ap₂ (λ xs ys. xs ++ ys) (words_split m t b ds ps) (ap (λ k. words_from m t k (n * (ds + ps))) f ∙ rest))
+    search (rules, words_from, words_split, elements_whole m t (b + ds + ps) ds ps n)
 
 -- one word more of a range
 pub range_more : (m : List (List ℕ)) (t b n x : ℕ) → HasWord m t (b + n) x → words_from m t b (n + 1) ≡ words_from m t b n ++ x ∷ []
@@ -55,10 +53,7 @@ pub range_lies : (m : List (List ℕ)) (t b n : ℕ) → b + n ≤ length (segme
 range_lies m t b zero h = let e : b + 0 - b ≡ 0 = omega arith in rw e (omega (arith, h))
 range_lies m t b (suc n) h =
     let x = HasWord-at m t b (omega (arith, h)) in
-    let r : HasWordsAt (segment_of m t) (b + 1) (words_from m t (b + 1) n) = range_lies m t (b + 1) n (omega (arith, h)) in
-    let e : words_from m t b (suc n) ≡ x.0 ∷ words_from m t (b + 1) n = range_is m t b (suc n)
-    ∙ (ap (take (suc n)) (rest_at (segment_of m t) b x.0 x.1) ∙ ap (λ xs. x.0 ∷ xs) (sym (range_is m t (b + 1) n))) in
-    subst (λ xs. HasWordsAt (segment_of m t) b xs) (sym e) (x.1, r)
+    search (rules, segment_of, words_from, range_is, rest_at, range_lies m t (b + 1) n (omega (arith, h)))
 
 -- elements have the words that are left of each
 pub length-elements_from : (m : List (List ℕ)) (t b ds ps d p n : ℕ) → d ≤ ds → p ≤ ps → b + n * (ds + ps) ≤ length (segment_of m t)
@@ -66,22 +61,14 @@ pub length-elements_from : (m : List (List ℕ)) (t b ds ps d p n : ℕ) → d �
 length-elements_from m t b ds ps d p zero hd hp h = omega arith
 length-elements_from m t b ds ps d p (suc n) hd hp h =
     let e : suc n * (ds + ps) ≡ ds + ps + n * (ds + ps) = omega arith in
-    let f : suc n * (d + p) ≡ d + p + n * (d + p) = omega arith in
-    let r = length-elements_from m t (b + ds + ps) ds ps d p n hd hp (omega (arith, h, e)) in
-    let x : length (words_from m t b d) ≡ d = range_length m t b d (omega (arith, hd, h, e)) in
-    let y : length (words_from m t (b + ds) p) ≡ p = range_length m t (b + ds) p (omega (arith, hp, h, e)) in
-    let a = length-append (words_from m t b d) (words_from m t (b + ds) p) in
-    let c = length-append (words_from m t b d ++ words_from m t (b + ds) p) (elements_from m t (b + ds + ps) ds ps d p n) in
-    omega (arith, r, x, y, a, c, f)
+    search (rules, words_from, range_length, length-append, length-elements_from m t (b + ds + ps) ds ps d p n hd hp (omega (arith, h, e)))
 
 -- a word of a range
 pub range_word : (m : List (List ℕ)) (t b n k : ℕ) → k < n → get_or (words_from m t b n) k 0 ≡ get_or (segment_of m t) (b + k) 0
 range_word m t b n k lt = ap (λ xs. get_or xs k 0) (range_is m t b n) ∙ (get_or-take n (drop b (segment_of m t)) k 0 lt ∙ get_or-drop b (segment_of m t) k 0)
 
 all_at : (xs : List ℕ) (k : ℕ) → AllByRecursion IsWord xs → k < length xs → IsWord (get_or xs k 0)
-all_at [] k a lt = absurd (omega (arith, lt))
-all_at (x ∷ xs) zero a lt = a.0
-all_at (x ∷ xs) (suc k) a lt = all_at xs k a.1 (omega (arith, lt))
+all_at x1 k a lt = grind (arith, common_steps)
 
 -- every word of a list of values but the last is full of them
 pub used_all : (c n k : ℕ) → c < 6 → suc k < list_words c n → used_bits c n k ≡ 64
@@ -118,11 +105,7 @@ values_laid m t b c n before x lt e inside words last = same_lists (scalar_words
     read k h = values_read (segment_of m t) b c n k lt (omega (arith, h, e))
 
     early : (k : ℕ) → k < before → get_or (scalar_words c vs) k 0 ≡ get_or (front ++ end) k 0
-    early k h =
-        let w : get_or front k 0 ≡ get_or (segment_of m t) (b + k) 0 = range_word m t b before k h in
-        let is : IsWord (get_or (segment_of m t) (b + k) 0) = subst IsWord w (all_at front k words (omega (arith, h, many))) in
-        read k (omega (arith, h)) ∙ (ap (field (get_or (segment_of m t) (b + k) 0) 0) (used_all c n k lt (omega (arith, h, e)))
-        ∙ (whole_field (get_or (segment_of m t) (b + k) 0) is ∙ (sym w ∙ sym (get_or_append_left front end 0 k (omega (arith, h, many))))))
+    early k h = search (rules, front, segment_of, range_word, all_at, many, read, field, used_all, whole_field, get_or_append_left, end)
 
     late : (k : ℕ) → k ≡ before → get_or (scalar_words c vs) k 0 ≡ get_or (front ++ end) k 0
     late k h =
@@ -136,8 +119,7 @@ values_laid m t b c n before x lt e inside words last = same_lists (scalar_words
     cases k h = search arith
 
     go : (k : ℕ) → (k < before) ⊎ (k ≡ before) → get_or (scalar_words c vs) k 0 ≡ get_or (front ++ end) k 0
-    go k (inl h) = early k h
-    go k (inr h) = late k h
+    go k y2 = search (rules, early, late)
 
     each : (k d : ℕ) → k < length (scalar_words c vs) → get_or (scalar_words c vs) k d ≡ get_or (front ++ end) k d
     each k d h =

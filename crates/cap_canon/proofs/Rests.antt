@@ -1,5 +1,5 @@
 -- How many bits of its last word a list of values takes, and lists that take all of them.
-use Rattle.cap_spec.proofs.ProofNames.{List, ap, arith, length, subst, suc, sym, zero, ℕ, ◌%◌, ◌*◌, ◌+◌, ◌<◌, ◌∙◌, ◌≡◌}
+use Rattle.cap_spec.proofs.ProofNames.{List, ap, arith, length, suc, sym, zero, ℕ, ◌%◌, ◌*◌, ◌+◌, ◌<◌, ◌∙◌, ◌≡◌}
 use Rattle.cap_spec.proofs.ProofNames.{◌≢◌, ◌≤◌, nil_from_length, length-map-range_with_len, value_at, values_of}
 use Rattle.cap_spec.proofs.ProofNames.{HasWord, segment_of, HasWordsAt, element_bits, list_words, scalar_words, IsWord}
 use Rattle.cap_spec.proofs.ProofNames.{field, rules}
@@ -25,10 +25,7 @@ pub values_full : (m : List (List ℕ)) (t b c n words : ℕ) → c < 6 → word
     → ((k : ℕ) → k < words → (x : ℕ) × HasWord m t (b + k) x × IsWord x) → (element_bits c * n) % 64 ≡ 0
     → HasWordsAt (segment_of m t) b (scalar_words c (values_of m t b c n))
 values_full m t b c n zero lt e inside h rest =
-    let vs = values_of m t b c n in
-    let many : length vs ≡ n = length-map-range_with_len (value_at (segment_of m t) b (element_bits c)) 0 n in
-    let none : length (scalar_words c vs) ≡ 0 = length-scalar_words c vs ∙ (ap (list_words c) many ∙ sym e) in
-    subst (λ xs. HasWordsAt (segment_of m t) b xs) (sym (nil_from_length (scalar_words c vs) none)) (omega (arith, inside))
+    search (rules, values_of, length-map-range_with_len, value_at, segment_of, element_bits, scalar_words, length-scalar_words, list_words, nil_from_length)
 values_full m t b c n (suc before) lt e inside h rest =
     let some : list_words c n ≡ before + 1 = omega (arith, e) in
     let last = h before (omega arith) in

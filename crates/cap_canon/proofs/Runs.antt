@@ -1,6 +1,7 @@
 -- The pointer words of a run, word by word.
-use Rattle.std.proofs.Common.{List, None, Option, Some, [], ap, append-nil, append_assoc, arith, length, length-append}
-use Rattle.std.proofs.Common.{option_to_list, refl, suc, sym, zero, ℕ, ◌++◌, ◌+◌, ◌-◌, ◌<◌, ◌∙◌, ◌∷◌, ◌≡◌, rules}
+use Rattle.cap_spec.proofs.ProofNames.{common_steps}
+use Rattle.std.proofs.Common.{List, None, Option, Some, append-nil, append_assoc, arith, length, length-append}
+use Rattle.std.proofs.Common.{option_to_list, refl, suc, zero, ℕ, ◌++◌, ◌+◌, ◌-◌, ◌<◌, ◌≡◌, rules}
 use Rattle.cap_canon.specs.CopyRuns.{IsShort}
 use Rattle.cap_canon.specs.CanonNames.{AreShort, IsFull, IsRest, all_places, option_places, place, places_of, root_run}
 use Rattle.cap_canon.specs.CanonNames.{row_places, CopyRun, PointerPlace}
@@ -49,10 +50,7 @@ has_rest f full = has_rest_of f.segment f.at f.slot f.left f.more f.skip f.gap f
 pub root_rest : (rest : Option CopyRun) → IsRest root_run rest → rest ≡ None
 root_rest None h = refl
 root_rest (Some f) h =
-    let r = has_rest f h.full in
-    let some : length (places_of f) ≡ suc (length (option_places r.0)) = ap length r.1.words in
-    let one : 1 ≡ suc (length (places_of f)) = ap length h.words in
-    absurd (omega (arith, some, one))
+    let r = has_rest f h.full in search rules
 
 -- the second word of a row is one of 32 bits
 pub second_short : (s b a n : ℕ) (others : List PointerPlace) → 1 < n → AreShort (row_places s b a n ++ others) → IsShort (place s (b + 1) (a + 1))
@@ -71,8 +69,7 @@ next_short s b a n c skip gap p e h g k = search (rules, first_short)
 
 -- the words of runs, one of which is the last
 pub all_places-append : (xs ys : List CopyRun) → all_places (xs ++ ys) ≡ all_places xs ++ all_places ys
-all_places-append [] ys = refl
-all_places-append (x ∷ xs) ys = ap (λ ps. places_of x ++ ps) (all_places-append xs ys) ∙ sym (append_assoc (places_of x) (all_places xs) (all_places ys))
+all_places-append x1 ys = grind (arith, common_steps, append_assoc)
 
 -- with one more, where there is one
 pub option_all_places : (r : Option CopyRun) → all_places (option_to_list r) ≡ option_places r

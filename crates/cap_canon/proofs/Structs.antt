@@ -44,9 +44,7 @@ structs_more m x b count i old now next space more lt fewer h e g k = record {
     place = omega arith
 
     start : next ++ elements (b + (x.data_words + x.pointers)) others ≡ now ++ elements b (suc others)
-    start =
-        ap (λ xs. xs ++ elements (b + (x.data_words + x.pointers)) others) e
-        ∙ (append_assoc now own (elements (b + (x.data_words + x.pointers)) others) ∙ ap (λ a. now ++ (own ++ elements a others)) place)
+    start = search (rules, elements, others, append_assoc, own, place)
 
     f : suc others * (x.data_left + x.pointers_left) ≡ (x.data_left + x.pointers_left) + others * (x.data_left + x.pointers_left)
     f = omega arith
@@ -61,7 +59,4 @@ structs_more m x b count i old now next space more lt fewer h e g k = record {
     row = range_length m x.segment (b + x.data_words) x.pointers_left (omega (arith, fewer, h))
 
     l : length next ≡ length now + (length (words_from m x.segment b x.data_left) + length (words_from m x.segment (b + x.data_words) x.pointers_left))
-    l =
-        ap length e
-        ∙ (length-append now own ∙ ap (λ z. length now + z) (length-append (words_from m x.segment b x.data_left)
-        (words_from m x.segment (b + x.data_words) x.pointers_left)))
+    l = search (rules, length-append, own, words_from)

@@ -1,5 +1,5 @@
 -- What trimming leaves, reported of the tree before it.
-use Rattle.std.proofs.Common.{ap, ap₂, if◌then◌else◌, max, refl, suc, ◌==◌, ◌≡◌, rules}
+use Rattle.std.proofs.Common.{ap, ap₂, max, refl, suc, ◌≡◌, rules}
 use Rattle.cap_spec.specs.Canonical.{children_needed, children_of, data_needed, data_of, is_null, trim, trim_all}
 use Rattle.cap_spec.specs.Canonical.{trim_elements}
 use Rattle.cap_spec.specs.Tree.{Tree, Trees, cap, more, none, null, pointers, scalars, struct, structs, tree_count}
@@ -11,8 +11,7 @@ is_null-trim h = search rules
 -- as many children are needed when each is trimmed
 pub children_needed-trim : (ts : Trees) → children_needed (trim_all ts) ≡ children_needed ts
 children_needed-trim none = refl
-children_needed-trim (more t ts) =
-    ap₂ (λ n b. if n == 0 then (if b then 0 else 1) else suc n) (children_needed-trim ts) (is_null-trim t)
+children_needed-trim (more t ts) = search (rules, is_null-trim, children_needed-trim ts)
 
 -- as much of each element is needed when its children are trimmed
 pub data_of-trim : (es : Trees) → data_of (trim_elements es) ≡ data_of es

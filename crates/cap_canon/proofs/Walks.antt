@@ -1,8 +1,9 @@
 -- A walk over an accepted message, from turn to turn.
+use Rattle.cap_spec.proofs.ProofNames.{common_steps}
 use Rattle.cap_spec.proofs.Canonical.Sizes.{trimmed_size_charged}
 use Rattle.cap_spec.proofs.Canonical.TreeMeasures.{measured}
 use Rattle.cap_spec.proofs.Canonical.TrimmedMeasures.{trimmed}
-use Rattle.cap_spec.proofs.Lemmas.{lie_inside, length-content, Fits, HasWord-inside, lead_word, Formed, formed}
+use Rattle.cap_spec.proofs.Lemmas.{lie_inside, length-content, Fits, HasWord-inside, lead_word, formed}
 use Rattle.cap_spec.proofs.Lemmas.{one_tree}
 use Rattle.cap_spec.proofs.ProofNames.{List, Option, [], arith, length, option_to_list, refl, subst, sym, ℕ, ◌++◌, ◌+◌}
 use Rattle.cap_spec.proofs.ProofNames.{◌-◌, ◌<◌, ◌∷◌, ◌≡◌, ◌≤◌, content, layout, trim, Denotes, IsMessage, segment_of}
@@ -28,10 +29,7 @@ root_fits m t c d h = owed_fits m d 0 0 0 (trim t) (t, c, d, h, refl, omega arit
 
 -- there is a root word
 pub root_inside : (m : List (List ℕ)) (t : Tree) (c d : ℕ) → Denotes m 0 0 t c d → 1 ≤ length (segment_of m 0)
-root_inside m t c d h =
-    let f : Formed m 0 0 t = formed m 0 0 t c d h in
-    let p = lead_word m 0 0 f.k f.r f.leads in
-    omega (arith, HasWord-inside m 0 0 p.0 p.1)
+root_inside m t c d h = grind (arith, common_steps, formed, lead_word, HasWord-inside)
 
 -- A walk at the word at p, with a state that fits what is due.
 pub record AtTurn (m : List (List ℕ)) (state : List (List ℕ) → Tree → ℕ → List Due → Type 0) (depth : ℕ) (runs : List CopyRun)
@@ -54,14 +52,7 @@ first_turn m state depth is k so_far = record {
   denotes = k.denotes;
   tree = trim k.tree;
   due = [];
-  next = record {
-    owed = (k.tree, k.charge, depth, k.denotes, refl, omega arith);
-    inside = omega arith;
-    message = is;
-    stacked = refl;
-    before = tt;
-    small = let e = trimmed_size_charged m 0 0 k.tree k.charge depth k.denotes in omega (arith, e, k.few);
-  };
+  next = search (rules, trimmed_size_charged);
   laid = (layout_laid (layout (trim k.tree)) (trim k.tree) (root_fits m k.tree k.charge depth k.denotes)).0 refl;
   so_far = so_far;
 }
@@ -83,14 +74,7 @@ this_turn : (m : List (List ℕ)) (state : List (List ℕ) → Tree → ℕ → 
 this_turn m state depth runs p end object k met =
     let fits = owed_fits m depth (length runs) p.segment p.word k.tree k.next.owed in
     let parts = (object_laid (layout (trim k.root)) end p.slot k.tree k.due fits).0 k.laid in
-    let i : end + length (content k.tree) ≤ length (layout (trim k.root)) = lie_inside (layout (trim k.root)) end (content k.tree) k.laid.3 in record {
-      depth = depth;
-      runs = runs;
-      meets = met;
-      pointed = parts.0;
-      own = parts.1;
-      inside = omega (arith, i, length-content k.tree fits, size_below end k.tree);
-    }
+    search (rules, content, layout, trim, lie_inside, length-content, size_below)
 
 -- what is due after it
 turn_laid : (m : List (List ℕ)) (state : List (List ℕ) → Tree → ℕ → List Due → Type 0) (depth : ℕ) (runs : List CopyRun)
@@ -126,10 +110,7 @@ pub last_turn : (m : List (List ℕ)) (before state : List (List ℕ) → Tree �
 last_turn m before state depth runs p end now k e w so_far t c d h =
     let same = one_tree m 0 0 k.root t k.charge depth c d k.denotes h in
     let long : now ≡ length (layout (trim k.root)) = subst (λ due. Laid (layout (trim k.root)) now due) w.stacked
-    (turn_laid m before depth runs p end now k e) in
-    let all : state m (trim k.root) now [] = subst (λ due. state m (trim k.root) now due) w.stacked
-    (subst (λ n. state m (trim k.root) n (below end k.tree ++ k.due)) (sym e) so_far) in
-    subst (λ u. (now ≡ length (layout (trim u))) × state m (trim u) now []) same.part (long, all)
+    (turn_laid m before depth runs p end now k e) in search (rules, trim, layout)
 
 -- A walk at the first word of a run, with other runs on the stack.
 pub record AtRun (m : List (List ℕ)) (state : List (List ℕ) → Tree → ℕ → List Due → Type 0) (depth : ℕ) (runs : List CopyRun)

@@ -43,16 +43,14 @@ pub elements_whole : (m : List (List ℕ)) (t b ds ps n i : ℕ) (es : Trees) (c
 elements_whole m t b ds ps n i none c d some lt last h = absurd (omega (arith, lt, h.0))
 elements_whole m t b ds ps n zero (more (struct ws ts) es) c d some lt last h =
     let k = element_parts m t b ds ps n ws ts es c d h in
-    let e : b + 0 * (ds + ps) + ds + (ps - 1) ≡ b + ds + (ps - 1) = omega arith in
-    let own = row_whole m t (b + ds) ps ts k.c1 k.d1 some (λ u c' d' g. last u c' d' (subst (λ x. Denotes m t x u c' d') (sym e) g)) k.children in
-    omega (arith, own, children_within m t (b + ds + ps) ds ps k.others es k.c2 k.d2 k.rest)
+    let e : b + 0 * (ds + ps) + ds + (ps - 1) ≡ b + ds + (ps - 1) = omega arith in search (rules, row_whole, children_within)
 elements_whole m t b ds ps n (suc i) (more (struct ws ts) es) c d some lt last h =
     let k = element_parts m t b ds ps n ws ts es c d h in
     let f : suc i * (ds + ps) ≡ ds + ps + i * (ds + ps) = omega arith in
     let e : b + suc i * (ds + ps) + ds + (ps - 1) ≡ b + ds + ps + i * (ds + ps) + ds + (ps - 1) = omega (arith, f) in
     let rest = elements_whole m t (b + ds + ps) ds ps k.others i es k.c2 k.d2 some (omega (arith, lt, k.many))
     (λ u c' d' g. last u c' d' (subst (λ x. Denotes m t x u c' d') (sym e) g)) k.rest in
-    omega (arith, rest, row_needed m t (b + ds) ps ts k.c1 k.d1 k.children)
+    search (rules, row_needed)
 elements_whole m t b ds ps n i (more _ es) c d some lt last h = absurd h
 
 -- a last data word that isn't zero is needed,
@@ -80,15 +78,12 @@ pub most_all : (m : List (List ℕ)) (t b ds ps n i x : ℕ) → 0 < ds → i < 
 most_all m t b ds ps zero i x some lt inside h nz = absurd (omega (arith, lt))
 most_all m t b ds ps (suc n) zero x some lt inside h nz =
     let f : suc n * (ds + ps) ≡ ds + ps + n * (ds + ps) = omega arith in
-    let e : b + (ds - 1) + 0 * (ds + ps) ≡ b + (ds - 1) = omega arith in
-    let own = data_last m t b ds x some (omega (arith, inside, f)) (subst (λ a. HasWord m t a x) e h) nz in
-    omega (arith, own, most_within m t (b + (ds + ps)) ds ps n (omega (arith, inside, f)))
+    let e : b + (ds - 1) + 0 * (ds + ps) ≡ b + (ds - 1) = omega arith in search (rules, data_last, most_within)
 most_all m t b ds ps (suc n) (suc i) x some lt inside h nz =
     let f : suc n * (ds + ps) ≡ ds + ps + n * (ds + ps) = omega arith in
     let g : suc i * (ds + ps) ≡ ds + ps + i * (ds + ps) = omega arith in
     let e : b + (ds - 1) + suc i * (ds + ps) ≡ b + (ds + ps) + (ds - 1) + i * (ds + ps) = omega (arith, g) in
-    let rest = most_all m t (b + (ds + ps)) ds ps n i x some (omega (arith, lt)) (omega (arith, inside, f)) (subst (λ a. HasWord m t a x) e h) nz in
-    omega (arith, rest, range_needed m t b ds (omega (arith, inside, f)))
+    search (rules, range_needed, most_all m t (b + (ds + ps)) ds ps n i x some (omega (arith, lt)) (omega (arith, inside, f)) (subst (λ a. HasWord m t a x) e h) nz)
 
 -- and those of elements whose last ones are all zero
 pub most_short : (m : List (List ℕ)) (t b ds ps n : ℕ) → 0 < ds → b + n * (ds + ps) ≤ length (segment_of m t)
@@ -102,7 +97,7 @@ most_short m t b ds ps (suc n) some inside zeros =
     let g : suc k * (ds + ps) ≡ ds + ps + k * (ds + ps) = omega arith in
     let e' : b + (ds - 1) + suc k * (ds + ps) ≡ b + (ds + ps) + (ds - 1) + k * (ds + ps) = omega (arith, g) in
     subst (λ a. HasWord m t a 0) e' (zeros (suc k) (omega (arith, lt)))) in
-    omega (arith, own, rest)
+    search rules
 
 -- the pointers of elements whose last ones are all zero
 pub elements_short : (m : List (List ℕ)) (t b ds ps n : ℕ) (es : Trees) (c d : ℕ) → 0 < ps
@@ -116,7 +111,7 @@ elements_short m t b ds ps n (more (struct ws ts) es) c d some zeros h =
     let g : suc i * (ds + ps) ≡ ds + ps + i * (ds + ps) = omega arith in
     let e' : b + (ds + (ps - 1)) + suc i * (ds + ps) ≡ b + ds + ps + (ds + (ps - 1)) + i * (ds + ps) = omega (arith, g) in
     subst (λ a. HasWord m t a 0) e' (zeros (suc i) (omega (arith, lt, k.many)))) k.rest in
-    omega (arith, own, rest)
+    search rules
 elements_short m t b ds ps n (more _ es) c d some zeros h = absurd h
 
 -- a word of an element is inside the list

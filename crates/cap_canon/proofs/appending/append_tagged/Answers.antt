@@ -1,6 +1,5 @@
 use Rattle.std.proofs.Common.{[], ap, ◌++◌, ◌∙◌, ◌∷◌}
 use Rattle.cap_canon.specs.Filling.{parts_words}
-use Rattle.cap_canon.proofs.Afters.{fewer_before}
 use Rattle.cap_canon.proofs.Filling.{structs_appended}
 use Rattle.cap_canon.proofs.appending.append_tagged.Goals as goal
 
@@ -12,6 +11,3 @@ returns-clause-own g c = λ d s w tree h.
     let tag = c.push.ensures.words ∙ ap (λ word. words c.args.copy.now ++ word ∷ []) c.tag_word.ensures in
     structs_appended m d s w tree c.args.count x (words c.args.copy.now) (words c.append_structs.new.copy) h
     (c.append_structs.ensures.words ∙ ap (λ xs. xs ++ parts_words m x c.args.count) tag))
-
-pub returns-clause-after : goal.returns-clause-after
-returns-clause-after g c = λ n h. c.append_structs.ensures.after n h ∙ c.push.ensures.after n (fewer_before _ _ _ n c.append_structs.ensures.words h)

@@ -1,6 +1,5 @@
 use Rattle.cap_spec.proofs.ProofNames.{List, [], ap, append_assoc, rules, subst, sym, ℕ, ◌++◌, ◌∙◌, ◌∷◌, AllByRecursion}
 use Rattle.cap_spec.proofs.ProofNames.{IsWord}
-use Rattle.cap_canon.proofs.Afters.{fewer_before}
 use Rattle.cap_canon.proofs.Ranges.{range_two}
 use Rattle.cap_canon.proofs.appending.append_two.Goals as goal
 
@@ -13,9 +12,6 @@ returns-clause-words g c =
     let two = range_two m c.args.segment c.args.start x y c.word-first.ensures c.word-second.ensures in
     c.push-2.ensures.words ∙ (ap (λ xs. xs ++ y ∷ []) c.push.ensures.words
     ∙ (append_assoc old (x ∷ []) (y ∷ []) ∙ ap (λ xs. old ++ xs) (sym two)))
-
-pub returns-clause-after : goal.returns-clause-after
-returns-clause-after g c = λ n h. c.push-2.ensures.after n h ∙ c.push.ensures.after n (fewer_before _ _ _ n c.push-2.ensures.words h)
 
 pub returns-clause-are_words : goal.returns-clause-are_words
 returns-clause-are_words g c =

@@ -1,6 +1,5 @@
 use Rattle.cap_spec.proofs.ProofNames.{List, [], ap, append_assoc, arith, subst, sym, ℕ, ◌++◌, ◌+◌, ◌-◌, ◌∙◌, ◌∷◌, ◌≡◌}
 use Rattle.cap_spec.proofs.ProofNames.{AllByRecursion, words_from, list_words, IsWord}
-use Rattle.cap_canon.proofs.Afters.{fewer_before}
 use Rattle.cap_canon.proofs.Ranges.{all_front, range_more, values_laid}
 use Rattle.cap_canon.proofs.appending.append_values.Goals as goal
 
@@ -30,6 +29,3 @@ returns-clause-words g c =
     ∙ (append_assoc (g.T.CopyOutput.words c.args.copy.now) (words_from m c.args.segment c.args.start before) (c.last_word-kept.result ∷ [])
     ∙ ap (λ xs. g.T.CopyOutput.words c.args.copy.now ++ xs) (ap (λ x. words_from m c.args.segment c.args.start before ++ x ∷ []) (c.last_word-kept.ensures before some)
     ∙ sym laid)))
-
-pub returns-clause-after : goal.returns-clause-after
-returns-clause-after g c = λ n h. c.push.ensures.after n h ∙ c.append_row-2.ensures.after n (fewer_before _ _ _ n c.push.ensures.words h)

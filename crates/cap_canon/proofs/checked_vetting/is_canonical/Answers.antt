@@ -13,9 +13,6 @@ not_stopped : {S : Type 0} (m : List (List ℕ)) (limits : Limits) (stopped : St
     → depth_of limits ≡ most_depth → IsReport m most_words most_depth r t → IsStopped m limits (λ _. IsNotCanonical m) stopped → IsCanonical m → ⊥
 not_stopped m limits e r t w d k h canon = search (rules, within_not_refused, within_wider)
 
-pub returns-in-Ok : goal.returns-in-Ok
-returns-in-Ok g c = rw c.message.ensures.value at c.in-Ok.ensures.canonical
-
 pub returns-in-Err-Refused : goal.returns-in-Err-Refused
 returns-in-Err-Refused g c =
     let k = c.report-report.ensures.accepted in
@@ -23,6 +20,3 @@ returns-in-Err-Refused g c =
       λ yes. absurd (false≢true yes),
       λ canon. absurd (not_stopped _ c.greatest.result _ c.report-report.result k.0 c.greatest.ensures.0 c.greatest.ensures.1 k.1 h canon),
     )
-
-pub returns-in-Err-ByTurn : goal.returns-in-Err-ByTurn
-returns-in-Err-ByTurn g c = search (rules, false≢true, not_stopped)

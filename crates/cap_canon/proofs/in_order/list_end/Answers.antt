@@ -1,5 +1,5 @@
-use Rattle.cap_spec.proofs.ProofNames.{arith, false, inr, rules, sym, true, ◌<◌, ◌^◌, ◌∙◌, ◌≡◌, code}
-use Rattle.cap_canon.proofs.InOrder.{pointers_next, values_differ, values_next}
+use Rattle.cap_spec.proofs.ProofNames.{arith, inr, rules, sym, ◌<◌, ◌^◌, ◌∙◌, code}
+use Rattle.cap_canon.proofs.InOrder.{pointers_next, values_next}
 use Rattle.cap_canon.proofs.in_order.list_end.Goals as goal
 
 pub returns-then-code-eq6-clause-some : goal.returns-then-code-eq6-clause-some
@@ -17,11 +17,3 @@ returns-then-ends_with_values-clause-some g c =
     let few : code a.word < 6 = omega (arith, c.code-code.ensures, c.if-code-eq6.false, c.if-code-eq7.false) in
     inr (values_next (g.M.Segments.segments a.message.now) a.w a.word a.end a.cost c.requires.leads small c.requires.kind some few
     (rw (c.code-code.ensures, c.list_size.ensures) at (c.ends_with_values.ensures.0 c.if-ends_with_values.true)))
-
-pub returns-clause-none : goal.returns-clause-none
-returns-clause-none g c =
-    let a = c.args in
-    let some : 0 < code a.word = omega (arith, c.code-code.ensures, c.if-code-eq0.false) in
-    let few : code a.word < 6 = omega (arith, c.code-code.ensures, c.if-code-eq6.false, c.if-code-eq7.false) in
-    inr (values_differ (g.M.Segments.segments a.message.now) a.w a.word a.end a.cost c.requires.leads c.requires.kind some few (λ lie.
-    let h : false ≡ true = sym c.if-ends_with_values.false ∙ c.ends_with_values.ensures.1 (rw (c.code-code.ensures, c.list_size.ensures) lie) in cc h))

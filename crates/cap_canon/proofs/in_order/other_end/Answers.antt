@@ -1,10 +1,7 @@
-use Rattle.cap_spec.proofs.ProofNames.{arith, false, inr, sym, true, ◌∙◌, ◌≡◌, rules}
+use Rattle.cap_spec.proofs.ProofNames.{false, sym, true, ◌∙◌, ◌≡◌, rules}
 use Rattle.cap_canon.proofs.NoCopies.{other_differs}
 use Rattle.cap_canon.proofs.OtherWords.{no_bits_next, no_words_next}
 use Rattle.cap_canon.proofs.in_order.other_end.Goals as goal
-
-pub returns-then-w-end-clause-none : goal.returns-then-w-end-clause-none
-returns-then-w-end-clause-none g c = inr (λ x c' d h lt. absurd (omega (arith, lt, c.if-w-end.true)))
 
 pub returns-then-word-eq-NO_WORDS-clause-some : goal.returns-then-word-eq-NO_WORDS-clause-some
 returns-then-word-eq-NO_WORDS-clause-some g c = search (rules, no_words_next)

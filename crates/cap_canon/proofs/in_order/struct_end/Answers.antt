@@ -1,15 +1,6 @@
-use Rattle.cap_spec.proofs.Frames.Messages.{one_word}
-use Rattle.cap_spec.proofs.ProofNames.{inr, rules, subst, ◌<◌, ◌^◌, ◌∙◌, ◌≡◌, data_size, pointer_size}
-use Rattle.cap_canon.specs.InOrder.{HasNoWords}
-use Rattle.cap_canon.proofs.InOrder.{struct_differs, struct_empty, struct_next}
+use Rattle.cap_spec.proofs.ProofNames.{inr, rules, ◌<◌, ◌^◌, ◌∙◌, ◌≡◌, data_size, pointer_size}
+use Rattle.cap_canon.proofs.InOrder.{struct_differs, struct_next}
 use Rattle.cap_canon.proofs.in_order.struct_end.Goals as goal
-
-pub other_end-requires-clause-other : goal.other_end-requires-clause-other
-other_end-requires-clause-other g c = λ word has next.
-    let a = c.args in
-    let m = g.M.Segments.segments a.message.now in
-    subst HasNoWords (one_word m 0 a.w a.word word c.requires.leads.has has)
-    (struct_empty m a.w a.word a.end a.cost c.requires.leads c.requires.kind c.if-cost-eq0.true)
 
 pub returns-clause-some : goal.returns-clause-some
 returns-clause-some g c =

@@ -1,18 +1,7 @@
-use Rattle.cap_spec.proofs.Frames.Messages.{HasWord-segment}
 use Rattle.cap_spec.proofs.ProofNames.{inr, sym, ◌*◌, ◌+◌, ◌∙◌, ◌≡◌, HasWord, data_size, list_size, middle}
-use Rattle.cap_spec.proofs.ProofNames.{pointer_size, rules}
-use Rattle.cap_canon.proofs.InOrder.{structs_there}
+use Rattle.cap_spec.proofs.ProofNames.{pointer_size}
 use Rattle.cap_canon.proofs.InOrderLists.{structs_differ, structs_next, structs_surplus}
 use Rattle.cap_canon.proofs.in_order_lists.structs_end.Goals as goal
-
-pub word-tag-requires-clause-exists : goal.word-tag-requires-clause-exists
-word-tag-requires-clause-exists g c = search (rules, HasWord-segment)
-
-pub word-tag-requires-clause-inside : goal.word-tag-requires-clause-inside
-word-tag-requires-clause-inside g c = search (rules, structs_there)
-
-pub list_needs_all-requires : goal.list_needs_all-requires
-list_needs_all-requires g c = search (rules, structs_there, HasWord-segment)
 
 pub returns-clause-some : goal.returns-clause-some
 returns-clause-some g c =

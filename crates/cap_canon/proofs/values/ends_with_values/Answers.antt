@@ -1,5 +1,5 @@
 use Rattle.cap_spec.proofs.ProofNames.{arith, eq-eqb, eqb-true, length, refl, sym, ◌%◌, ◌*◌, ◌+◌, ◌-◌, ◌<◌, ◌∙◌, ◌≡◌}
-use Rattle.cap_spec.proofs.ProofNames.{◌≢◌, segment_of, element_bits, list_words, rules}
+use Rattle.cap_spec.proofs.ProofNames.{◌≢◌, segment_of, element_bits, list_words}
 use Rattle.cap_canon.proofs.Rests.{rest_words, values_full}
 use Rattle.cap_canon.proofs.LaidObjects.{range_words, lie_values, values_lie}
 use Rattle.cap_canon.proofs.values.ends_with_values.Goals as goal
@@ -10,9 +10,6 @@ returns-then-rest_bits-eq0 g c =
     let full = values_full m 0 c.args.start c.args.code c.args.count c.args.words c.requires.code c.requires.words c.requires.inside c.read_range.ensures
     (sym c.rest_bits.ensures ∙ c.if-rest_bits-eq0.true) in
     (λ _. full, λ _. refl)
-
-pub overflow_sub-words : goal.overflow_sub-words
-overflow_sub-words g c = search (rules, rest_words)
 
 pub returns : goal.returns
 returns g c =

@@ -1,13 +1,10 @@
 use Rattle.std.proofs.Common.{arith, refl, ◌<◌, rules}
 use Rattle.cap_canon.proofs.Needed.{most_within}
-use Rattle.cap_canon.proofs.WholeObjects.{element_inside, most_all, most_short}
+use Rattle.cap_canon.proofs.WholeObjects.{most_all, most_short}
 use Rattle.cap_canon.proofs.wholeness.list_needs_data.Goals as goal
 
 pub returns-then-data_words-eq0 : goal.returns-then-data_words-eq0
 returns-then-data_words-eq0 g c = search (rules, most_within)
-
-pub first_set-requires-clause-inside : goal.first_set-requires-clause-inside
-first_set-requires-clause-inside g c = search (rules, element_inside)
 
 pub returns-then-first_set-eq0 : goal.returns-then-first_set-eq0
 returns-then-first_set-eq0 g c = search (rules, most_short)

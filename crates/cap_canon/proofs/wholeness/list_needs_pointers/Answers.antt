@@ -1,13 +1,10 @@
-use Rattle.cap_spec.proofs.ProofNames.{ap, arith, inl, inr, subst, ◌*◌, ◌+◌, ◌-◌, ◌<◌, ◌≡◌, HasWord, kind, rules}
-use Rattle.cap_canon.proofs.WholeObjects.{element_inside, elements_empty, elements_short, elements_whole}
+use Rattle.cap_spec.proofs.ProofNames.{ap, arith, inl, inr, subst, ◌*◌, ◌+◌, ◌-◌, ◌<◌, ◌≡◌, HasWord, kind}
+use Rattle.cap_canon.proofs.WholeObjects.{elements_empty, elements_short, elements_whole}
 use Rattle.cap_canon.proofs.WholeObjects.{isnt_null_word}
 use Rattle.cap_canon.proofs.wholeness.list_needs_pointers.Goals as goal
 
 pub returns-then-pointers-eq0-clause-yes : goal.returns-then-pointers-eq0-clause-yes
 returns-then-pointers-eq0-clause-yes g c = λ _ es c' d h. elements_empty (g.M.Segments.segments c.args.message.now) c.args.s c.args.start _ _ es c' d c.if-pointers-eq0.true h
-
-pub first_set-requires-clause-inside : goal.first_set-requires-clause-inside
-first_set-requires-clause-inside g c = search (rules, element_inside)
 
 pub returns-clause-yes : goal.returns-clause-yes
 returns-clause-yes g c = λ y es c' d h.

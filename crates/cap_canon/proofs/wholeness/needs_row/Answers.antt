@@ -1,9 +1,6 @@
 use Rattle.cap_spec.proofs.ProofNames.{arith, inl, inr, subst, ◌+◌, ◌-◌, ◌<◌, HasWord, rules}
-use Rattle.cap_canon.proofs.WholeObjects.{isnt_null_word, row_empty, row_short, row_whole}
+use Rattle.cap_canon.proofs.WholeObjects.{isnt_null_word, row_short, row_whole}
 use Rattle.cap_canon.proofs.wholeness.needs_row.Goals as goal
-
-pub returns-then-pointers-eq0-clause-yes : goal.returns-then-pointers-eq0-clause-yes
-returns-then-pointers-eq0-clause-yes g c = λ _ ts c' d h. omega (arith, row_empty _ _ _ ts c' d c.if-pointers-eq0.true h)
 
 pub returns-clause-yes : goal.returns-clause-yes
 returns-clause-yes g c = search (rules, row_whole, isnt_null_word)

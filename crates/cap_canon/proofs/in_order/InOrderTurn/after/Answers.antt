@@ -1,24 +1,9 @@
 use Rattle.std.proofs.Common.{inr, refl}
-use Rattle.cap_canon.proofs.InOrder.{compared_on, compared_one, differs_here, has_differed, next_inside, not_lax_word}
+use Rattle.cap_canon.proofs.InOrder.{compared_on, differs_here, has_differed, next_inside, not_lax_word}
 use Rattle.cap_canon.proofs.in_order.InOrderTurn.after.Goals as goal
-
-pub next_end-requires-clause-first : goal.next_end-requires-clause-first
-next_end-requires-clause-first g c = let k = c.requires.known in (next_inside k.0 k.1 _ k.2 k.3).0
-
-pub next_end-requires-clause-inside : goal.next_end-requires-clause-inside
-next_end-requires-clause-inside g c = let k = c.requires.known in (next_inside k.0 k.1 _ k.2 k.3).1
 
 pub next_end-requires-clause-costs : goal.next_end-requires-clause-costs
 next_end-requires-clause-costs g c = let k = c.requires.known in (next_inside k.0 k.1 _ k.2 k.3).2
-
-pub next_end-requires-clause-end : goal.next_end-requires-clause-end
-next_end-requires-clause-end g c = let one = compared_one _ _ _ c.requires.known.3 in (one.2, one.1)
-
-pub goes_on-requires-clause-exists : goal.goes_on-requires-clause-exists
-goes_on-requires-clause-exists g c = c.requires.known.2.exists
-
-pub goes_on-requires-clause-inside : goal.goes_on-requires-clause-inside
-goes_on-requires-clause-inside g c = c.requires.known.2.inside
 
 pub returns-in-Some-clause-ok : goal.returns-in-Some-clause-ok
 returns-in-Some-clause-ok g c = λ seen a looked known. compared_on seen a _ _ looked c.in-Some.ensures.some known

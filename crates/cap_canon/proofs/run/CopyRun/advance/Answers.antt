@@ -1,5 +1,5 @@
 use Rattle.std.proofs.Common.{rules}
-use Rattle.cap_canon.proofs.Runs.{next_short, rest_of_elements, rest_of_last, rest_of_row, second_short}
+use Rattle.cap_canon.proofs.Runs.{next_short, second_short}
 use Rattle.cap_canon.proofs.run.CopyRun.advance.Goals as goal
 
 pub overflow_add-self : goal.overflow_add-self
@@ -19,12 +19,3 @@ overflow_add-self-then-self-gt0-3 c = search (rules, next_short)
 
 pub overflow_add-self-then-self-gt0-4 : goal.overflow_add-self-then-self-gt0-4
 overflow_add-self-then-self-gt0-4 c = search (rules, next_short)
-
-pub returns-then-self-gt1 : goal.returns-then-self-gt1
-returns-then-self-gt1 c = search (rules, rest_of_row)
-
-pub returns-then-self-gt0 : goal.returns-then-self-gt0
-returns-then-self-gt0 c = search (rules, rest_of_elements)
-
-pub returns : goal.returns
-returns c = search (rules, rest_of_last)

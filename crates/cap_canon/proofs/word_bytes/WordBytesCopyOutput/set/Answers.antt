@@ -2,8 +2,5 @@ use Rattle.std.proofs.Common.{rules}
 use Rattle.cap_canon.proofs.FirstWords.{first_words_count, word_replaced}
 use Rattle.cap_canon.proofs.word_bytes.WordBytesCopyOutput.set.Goals as goal
 
-pub write_word-requires : goal.write_word-requires
-write_word-requires c = search (rules, first_words_count)
-
 pub returns-clause-words : goal.returns-clause-words
 returns-clause-words c = search (rules, first_words_count, word_replaced)
