@@ -1,21 +1,18 @@
 -- A struct whose one pointer leads back to the struct: the pointer that passes a limit is the first fault.
 use Rattle.cap_spec.specs.declared.Kind.TheVariants.{Struct}
-use Rattle.cap_spec.proofs.Lemmas.{one_reached, one_found, one_object, struct_found, first_fault_kept}
+use Rattle.cap_spec.proofs.Lemmas.{one_reached, one_found, struct_found, first_fault_kept}
 use Rattle.cap_spec.proofs.ProofNames.{List, [], ap, ap₂, arith, inl, inr, length, lit<, lit≤, refl, subst, suc, sym, zero}
 use Rattle.cap_spec.proofs.ProofNames.{ℕ, ◌++◌, ◌+◌, ◌<◌, ◌∙◌, ◌∷◌, ◌≡◌, ◌≤◌, ◌⊎◌, cases_lt, Finds, FindsKind, AreShallow}
-use Rattle.cap_spec.proofs.ProofNames.{IsFaultAt, IsFirstReason, IsRefused, is_deep, is_past, near, IsOneOf, Before, Costs, IsTour}
+use Rattle.cap_spec.proofs.ProofNames.{IsFaultAt, IsFirstReason, IsRefused, is_deep, is_past, IsOneOf, Before, Costs, IsTour}
 use Rattle.cap_spec.proofs.ProofNames.{PathLeads, Reaches, Rises, Spot, StepsTo, word, CostOf, common_steps, rules}
 use Rattle.cap_laws.specs.LawNames.{Reason, DepthLimit, WordLimit, Step, Ptr}
+use Rattle.cap_laws.proofs.LimitExamples.{finds_near}
 
 abbrev circle : List (List ℕ)
 circle = (0x00010000fffffffc ∷ []) ∷ []
 
 finds_circle : Finds circle 0 0 0 0 0 0x00010000fffffffc
-finds_circle = record {
-  leads = near 0x00010000fffffffc refl (λ e. omega (arith, e))
-      (lit< tt, (λ e. omega (arith, e)), refl, refl, refl) refl;
-  inside = record { exists = lit< tt; inside = lit≤ tt; composite = λ (a, b). absurd (omega (arith, a)) };
-}
+finds_circle = finds_near refl (lit< tt) (λ e. omega (arith, e)) refl (lit< tt) (lit≤ tt) (λ (a, b). omega (arith, a))
 
 object_circle : FindsKind circle 0 0 (Struct 0 1) 0 0 0 0x00010000fffffffc 0
 object_circle = struct_found circle 0 0 0 0 0 0x00010000fffffffc finds_circle refl
@@ -56,10 +53,7 @@ before_around zero (suc j) less = tt
 before_around (suc i) (suc j) less = inr (refl, before_around i j (omega (arith, less)))
 
 around_before : (i j : ℕ) → Before (around i) (around j) → i < j
-around_before i zero b = absurd (none (around i) b)
-  where
-    none : (p : List Step) → Before p [] → ⊥
-    none p x = x
+around_before i zero b = search rules
 around_before zero (suc j) b = omega arith
 around_before (suc i) (suc j) (inl less) = absurd (omega (arith, less))
 around_before (suc i) (suc j) (inr (e, b)) = let less = around_before i j b in omega (arith, less)
@@ -78,13 +72,11 @@ arounds-last from zero = ap (λ u. around u ∷ []) (omega arith)
 arounds-last from (suc n) = grind (arith, common_steps, arounds-last (suc from) n)
 
 arounds-whole : (n : ℕ) → arounds 0 n ++ around n ∷ [] ≡ arounds 0 (suc n)
-arounds-whole n =
-    let e : n ≡ 0 + n = omega arith in ap (λ u. arounds 0 n ++ around u ∷ []) e ∙ arounds-last 0 n
+arounds-whole n = search (rules, arounds-last 0 n)
 
 arounds-rise : (from n : ℕ) → Rises (arounds from n)
-arounds-rise from zero = tt
-arounds-rise from (suc zero) = tt
 arounds-rise from (suc (suc n)) = (before_around from (suc from) (omega arith), arounds-rise (suc from) (suc n))
+arounds-rise from n = tt
 
 one_of_arounds : (q : List Step) (from n : ℕ) → IsOneOf q (arounds from n) → (j : ℕ) × (q ≡ around j) × (from ≤ j) × (j < from + n)
 one_of_arounds q from zero h = absurd h
@@ -92,9 +84,8 @@ one_of_arounds q from (suc n) (inl e) = (from, e, omega arith, omega arith)
 one_of_arounds q from (suc n) (inr h) = grind (arith, common_steps, one_of_arounds q (suc from) n h)
 
 around_is_one : (from n k : ℕ) → k < n → IsOneOf (around (from + k)) (arounds from n)
-around_is_one from zero k less = absurd (omega (arith, less))
-around_is_one from (suc n) zero less = inl (ap around (omega arith))
 around_is_one from (suc n) (suc k) less = search (rules, around_is_one (suc from) n k (omega (arith, less)))
+around_is_one from n k less = search rules
 
 -- they are the tour of the longest
 tour_around : (n : ℕ) → IsTour circle (around n) (arounds 0 n ++ around n ∷ [])
@@ -107,27 +98,19 @@ tour_around n = subst (IsTour circle (around n)) (sym (arounds-whole n)) (record
 })
   where
     few : (q : List Step) (j : ℕ) → q ≡ around j → (q ≡ around n) ⊎ Before q (around n) → j < suc n
-    few q j e (inl same) = let l = length-around j in
-        let l' = length-around n in
-        let both : length (around j) ≡ length (around n) = ap length (sym e ∙ same) in
-        omega (arith, l, l', both)
+    few q j e (inl same) = search (rules, length-around j, length-around n)
     few q j e (inr b) =
         let less = around_before j n (subst (λ (u : List Step). Before u (around n)) e b) in omega (arith, less)
 
     all : (q : List Step) (j : ℕ) → q ≡ around j → (q ≡ around n) ⊎ Before q (around n) → IsOneOf q (arounds 0 (suc n))
     all q j e upto =
-        let here : 0 + j ≡ j = omega arith in
-        subst (λ (u : List Step). IsOneOf u (arounds 0 (suc n))) (ap around here ∙ sym e)
-        (around_is_one 0 (suc n) j (few q j e upto))
+        search (rules, around_is_one 0 (suc n) j (few q j e upto))
 
     split : (j : ℕ) → j < suc n → (j ≡ n) ⊎ (j < n)
     split j less = elim (cases_lt j n) [ inl lt ↦ inr lt | inr ge ↦ inl (omega (arith, less, ge)) ]
 
     none_after : (q : List Step) (j : ℕ) → q ≡ around j → j < 0 + suc n → (q ≡ around n) ⊎ Before q (around n)
-    none_after q j e most = elim (split j (omega (arith, most))) [
-      | inl same ↦ inl (e ∙ ap around same)
-      | inr less ↦ inr (subst (λ (u : List Step). Before u (around n)) (sym e) (before_around j n less))
-    ]
+    none_after q j e most = search (rules, before_around)
 
 costs_word : Costs circle 0 0 1
 costs_word = inr (inr (0, 0, 0, 0x00010000fffffffc, 0, finds_circle, (λ (a, b). absurd (omega (arith, a))), refl))
@@ -141,9 +124,7 @@ shallow_around n depth within p level s w h r (k, t, b, q, tag, finds, tagged, d
     let (j, e, least, most) = one_of_arounds p 0 n h in
     let at = one_reached circle (around j) level (1 + j) s w 0 0 (subst (λ (u : List Step). Reaches circle u level s w) e r)
     (reaches_around j) in
-    let o = one_object circle 0 0 k t b q 0 0 0 0x00010000fffffffc (rw (at.1, at.2) at finds) finds_circle in
-    let past : depth < level + 0 = rw o.shape at deep in
-    omega (arith, past, at.0, most, within)
+    search rules
 
 -- The pointer after n of them is the first fault, if they keep to the limits and it doesn't.
 refused_around : (n words depth : ℕ) (v : Reason) → n ≤ words → n ≤ depth → IsFirstReason circle words depth n 0 0 (1 + n) v
@@ -152,8 +133,7 @@ refused_around n words depth v within shallow reason =
     inr (first_fault_kept fault within (shallow_around n depth shallow) (omega (arith, within)))
   where
     number : n + 1 ≡ length (arounds 0 n ++ around n ∷ [])
-    number = let e : length (arounds 0 n ++ around n ∷ []) ≡ length (arounds 0 (suc n)) = ap length (arounds-whole n) in
-        let l = length-arounds 0 (suc n) in omega (arith, e, l)
+    number = search (rules, arounds-whole, length-arounds)
 
     fault : IsFaultAt circle words depth (around n) record { segment = 0; word = 0; reason = v; pointers = n + 1 }
     fault = record {

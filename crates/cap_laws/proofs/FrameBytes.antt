@@ -6,9 +6,9 @@ use Rattle.cap_spec.proofs.Frames.OneEnding.{halves_fit}
 use Rattle.cap_spec.proofs.Lemmas.{all_append, plain_split, bytes_back, plain_reads}
 use Rattle.cap_spec.proofs.Packed.MakingGroups.{aligned_text}
 use Rattle.cap_spec.proofs.ProofNames.{List, [], ap, append_assoc, arith, drop, flat_map, length, length-append, refl, suc}
-use Rattle.cap_spec.proofs.ProofNames.{sym, zero, ℕ, ◌%◌, ◌*◌, ◌++◌, ◌+◌, ◌-◌, ◌/◌, ◌<◌, ◌^◌, ◌∙◌, ◌∷◌, ◌≡◌, length-map}
+use Rattle.cap_spec.proofs.ProofNames.{sym, ℕ, ◌%◌, ◌*◌, ◌++◌, ◌+◌, ◌-◌, ◌/◌, ◌<◌, ◌^◌, ◌∙◌, ◌∷◌, ◌≡◌, length-map}
 use Rattle.cap_spec.proofs.ProofNames.{AllByRecursion, little_number, little_number-reads_back, Frames, halves, joined}
-use Rattle.cap_spec.proofs.ProofNames.{sizes_of, plain_text, plain_words, word_bytes, IsWord, rules}
+use Rattle.cap_spec.proofs.ProofNames.{sizes_of, plain_text, plain_words, IsWord, rules}
 use Rattle.cap_laws.specs.Framing.{FramesInBytes, four_bytes}
 
 -- four bytes a number
@@ -25,9 +25,8 @@ four_fit (x ∷ xs) = all_append (λ b. b < 256) (four_bytes x) (flat_map four_b
 four_back : (xs ys : List ℕ) → AllByRecursion (λ n. n < 2 ^ 32) xs → AllByRecursion (λ n. n < 2 ^ 32) ys
     → flat_map four_bytes xs ≡ flat_map four_bytes ys → xs ≡ ys
 four_back [] [] a b e = refl
-four_back [] (y ∷ ys) a b e = absurd (cc)
-four_back (x ∷ xs) [] a b e = absurd (cc)
 four_back (x ∷ xs) (y ∷ ys) a b e = search (rules, little_number-reads_back, four_back xs ys a.1 b.1 (ap (drop 4) e))
+four_back xs ys a b e = absurd (cc)
 
 -- Bytes as this many numbers of four bytes.
 record NumbersIn (bytes : List ℕ) (count : ℕ) : Type 0 where
@@ -40,10 +39,6 @@ record NumbersIn (bytes : List ℕ) (count : ℕ) : Type 0 where
 numbers_in : (bytes : List ℕ) (count : ℕ) → AllByRecursion (λ b. b < 256) bytes → length bytes ≡ 4 * count
     → NumbersIn bytes count
 numbers_in [] count all l = record { numbers = []; many = omega arith; fit = tt; text = refl }
-numbers_in (a ∷ []) count all l = absurd (omega arith)
-numbers_in (a ∷ b ∷ []) count all l = absurd (omega arith)
-numbers_in (a ∷ b ∷ c ∷ []) count all l = absurd (omega arith)
-numbers_in (a ∷ b ∷ c ∷ d ∷ bytes) zero all l = absurd (omega arith)
 numbers_in (a ∷ b ∷ c ∷ d ∷ bytes) (suc count) all l =
     let t = numbers_in bytes count all.1.1.1.1 (omega arith) in
     let four : AllByRecursion (λ b. b < 256) (a ∷ b ∷ c ∷ d ∷ []) =
@@ -57,6 +52,7 @@ numbers_in (a ∷ b ∷ c ∷ d ∷ bytes) (suc count) all l =
       fit = ((omega (arith, below)), t.fit);
       text = ap (λ k. k ++ flat_map four_bytes t.numbers) w ∙ ap (λ k. a ∷ b ∷ c ∷ d ∷ k) t.text;
     }
+numbers_in bytes count all l = absurd (omega arith)
 
 -- plain texts of words give the words
 plain_reports : (a b : List ℕ) → AllByRecursion IsWord a → AllByRecursion IsWord b → plain_text a ≡ plain_text b → a ≡ b
@@ -88,21 +84,7 @@ frames_in_bytes words m f =
     let body = flat_map four_bytes (sizes_of m) in
     let table : plain_text f.table ≡ four_bytes first ++ (body ++ pad) =
     plain_halves f.table ∙ (ap (flat_map four_bytes) t.numbers ∙ number_bytes first (sizes_of m) t.padding) in
-    let split : plain_text words ≡ plain_text f.table ++ contents = ap plain_text f.whole
-    ∙ flat_map-append word_bytes f.table (joined m) in
-    let same : first ≡ length m - 1 = ap (λ k. k - 1) n in
-    record {
-      some = omega (arith, some, n);
-      few = omega (arith, few, n);
-      fit = t.fit;
-      padding = pad;
-      are_bytes = four_fit t.padding;
-      width = omega (arith, l, width, n);
-      whole = split ∙ (ap (λ k. k ++ contents) table
-          ∙ (append_assoc (four_bytes first) (body ++ pad) contents
-          ∙ (ap (λ k. four_bytes first ++ k) (append_assoc body pad contents)
-          ∙ ap (λ k. four_bytes k ++ (body ++ (pad ++ contents))) same)));
-    }
+    search (rules, flat_map-append, four_fit, append_assoc)
 
 -- words whose bytes frame a message do
 pub bytes_frame : (words : List ℕ) (m : List (List ℕ)) → AllByRecursion IsWord words
@@ -121,8 +103,7 @@ bytes_frame words m all contents_fit g =
     let c = length_four (sizes_of m) in
     let l : length front ≡ 8 * (length m / 2 + 1) = omega (arith, a, b, c, n, width) in
     let bytes : AllByRecursion (λ x. x < 256) front =
-    all_append (λ x. x < 256) (four_bytes first) (body ++ g.padding) (bytes_fit 0 4 first)
-    (all_append (λ x. x < 256) body g.padding (four_fit (sizes_of m)) g.are_bytes) in
+    search (rules, all_append, bytes_fit, four_fit) in
     let table = plain_words front in
     let text : plain_text table ≡ front = aligned_text (length m / 2 + 1) front bytes l in
     let table_fit = (plain_split front bytes).are_words in
@@ -132,14 +113,9 @@ bytes_frame words m all contents_fit g =
     let same : first ≡ length (sizes_of m) - 1 = ap (λ k. k - 1) (sym n) in
     let numbers : flat_map four_bytes (flat_map halves table)
     ≡ flat_map four_bytes ((length (sizes_of m) - 1) ∷ (sizes_of m ++ pad.numbers)) =
-    sym (plain_halves table) ∙ (text
-    ∙ (ap (λ k. four_bytes k ++ (body ++ g.padding)) same
-    ∙ (ap (λ k. four_bytes (length (sizes_of m) - 1) ++ (body ++ k)) (sym pad.text)
-    ∙ sym (number_bytes (length (sizes_of m) - 1) (sizes_of m) pad.numbers)))) in
+    sym (plain_halves table) ∙ ((search (rules, number_bytes))) in
     let split : plain_text words ≡ plain_text (table ++ joined m) =
-    g.whole ∙ (ap (λ k. four_bytes first ++ k) (sym (append_assoc body g.padding contents))
-    ∙ (sym (append_assoc (four_bytes first) (body ++ g.padding) contents)
-    ∙ (ap (λ k. k ++ contents) (sym text) ∙ sym (flat_map-append word_bytes table (joined m))))) in
+    g.whole ∙ ((search (rules, append_assoc, flat_map-append))) in
     record {
       table = table;
       is_table = record {
@@ -153,6 +129,5 @@ bytes_frame words m all contents_fit g =
             (halves_fit table table_fit)
             (first_fits, all_append (λ k. k < 2 ^ 32) (sizes_of m) pad.numbers g.fit pad.fit) numbers;
       };
-      whole = plain_reports words (table ++ joined m) all
-          (all_append IsWord table (joined m) table_fit (joined_fit m contents_fit)) split;
+      whole = search (rules, plain_reports, all_append, joined_fit);
     }

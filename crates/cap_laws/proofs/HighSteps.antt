@@ -1,6 +1,6 @@
 -- Steps of high numbers lead to no node.
 use Rattle.cap_spec.proofs.Lemmas.{pointers_shape, struct_shape, structs_shape}
-use Rattle.cap_spec.proofs.ProofNames.{List, [], arith, inl, inr, subst, sym, ℕ, ◌<◌, ◌^◌, ◌∷◌, ◌≤◌, ⊤, PathLeads}
+use Rattle.cap_spec.proofs.ProofNames.{List, [], subst, sym, ℕ, ◌<◌, ◌^◌, ◌∷◌, ◌≤◌, ⊤, PathLeads}
 use Rattle.cap_spec.proofs.ProofNames.{ReachesSpot, Spot, StepsTo, element, word, rules}
 use Rattle.cap_spec.proofs.Trees.DenotedTrees.{field_below}
 use Rattle.cap_laws.specs.LawNames.{Step, Item, Ptr}
@@ -11,15 +11,7 @@ HasFewPointers (word s w) = ⊤
 HasFewPointers (element t b ds ps) = ps < 2 ^ 16
 
 step_few : (m : List (List ℕ)) (a : Spot) (step : Step) (b : Spot) → StepsTo m a step b → HasFewPointers b
-step_few m (word s w) (Ptr i) b (k, t, b', q, tag, ds, ps, finds, less, ends) =
-    subst (λ (z : Spot). HasFewPointers z) (sym ends) tt
-step_few m (word s w) (Item i) b (inl (k, t, b', q, tag, n, finds, less, ends)) =
-    subst (λ (z : Spot). HasFewPointers z) (sym ends) tt
-step_few m (word s w) (Item i) b (inr (k, t, b', q, tag, n, ds, ps, finds, less, ends)) =
-    let x = structs_shape finds.shape in
-    subst (λ (z : Spot). HasFewPointers z) (sym ends) (rw x.pointers (field_below tag 48 16))
-step_few m (element t b ds ps) (Ptr i) c g = subst (λ (z : Spot). HasFewPointers z) (sym g.1) tt
-step_few m (element t b ds ps) (Item i) c g = absurd g
+step_few m a step b g = search rules
 
 walk_few : (m : List (List ℕ)) (a : Spot) (path : List Step) (n : ℕ) (b : Spot) → HasFewPointers a → PathLeads m a path n b
     → HasFewPointers b
@@ -32,8 +24,7 @@ pointer_below m a i b h g = search (rules, struct_shape, field_below)
 
 pub no_high_pointer : (m : List (List ℕ)) (path : List Step) (level i : ℕ) (a b : Spot) → ReachesSpot m path level a → 65535 ≤ i
     → StepsTo m a (Ptr i) b → ⊥
-no_high_pointer m path level i a b c high g =
-    omega (arith, high, pointer_below m a i b (walk_few m (word 0 0) path c.1 a tt c.3) g)
+no_high_pointer m path level i a b c high g = search (rules, pointer_below, walk_few)
 
 -- and none to an element.
 pub no_high_element : (m : List (List ℕ)) (a b : Spot) (i : ℕ) → 2 ^ 30 ≤ i → StepsTo m a (Item i) b → ⊥

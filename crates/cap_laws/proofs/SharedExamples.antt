@@ -4,11 +4,12 @@ use Rattle.cap_spec.specs.Tree.{none}
 use Rattle.cap_spec.proofs.Lemmas.{one_used, pointer_path_reached, one_reached, struct_found, first_fault_kept}
 use Rattle.cap_spec.proofs.Lemmas.{paths_within_depth}
 use Rattle.cap_spec.proofs.ProofNames.{List, [], ap, arith, inl, inr, lit<, lit≤, refl, subst, sym, ℕ, ◌∷◌, ◌≡◌, ◌⊎◌}
-use Rattle.cap_spec.proofs.ProofNames.{DenoteEach, Denotes, Finds, IsRefused, is_past, near, AreOnPath, Charges, rules}
+use Rattle.cap_spec.proofs.ProofNames.{DenoteEach, Denotes, Finds, IsRefused, is_past, AreOnPath, Charges, rules}
 use Rattle.cap_spec.proofs.ProofNames.{IsFaultAt, IsFaultOnPath, IsOneOf, IsFirstOverlap, Occupies, Overlaps, on_earlier}
 use Rattle.cap_spec.proofs.ProofNames.{on_root, twice, Before, Costs, IsTour, Reaches, word, Tree, cap_count, more}
 use Rattle.cap_spec.proofs.ProofNames.{pointer_count, struct, CostOf, IsDeepAt, common_steps}
 use Rattle.cap_laws.specs.LawNames.{WordLimit, Step, Ptr}
+use Rattle.cap_laws.proofs.LimitExamples.{finds_near}
 use Rattle.cap_spec.proofs.Verdicts.OnPath as listing
 
 abbrev shared : List (List ℕ)
@@ -19,25 +20,13 @@ shared_tree = struct [] (more (struct (7 ∷ []) none) (more (struct (7 ∷ []) 
 
 -- what each of its pointers finds
 finds_both : Finds shared 0 0 0 0 1 0x0002000000000000
-finds_both = record {
-  leads = near 0x0002000000000000 refl (λ e. omega (arith, e))
-      (lit< tt, (λ e. omega (arith, e)), refl, refl, refl) refl;
-  inside = record { exists = lit< tt; inside = lit≤ tt; composite = λ (a, b). absurd (omega (arith, a)) };
-}
+finds_both = finds_near refl (lit< tt) (λ e. omega (arith, e)) refl (lit< tt) (lit≤ tt) (λ (a, b). omega (arith, a))
 
 finds_first : Finds shared 0 1 0 0 3 0x0000000100000004
-finds_first = record {
-  leads = near 0x0000000100000004 refl (λ e. omega (arith, e))
-      (lit< tt, (λ e. omega (arith, e)), refl, refl, refl) refl;
-  inside = record { exists = lit< tt; inside = lit≤ tt; composite = λ (a, b). absurd (omega (arith, a)) };
-}
+finds_first = finds_near refl (lit< tt) (λ e. omega (arith, e)) refl (lit< tt) (lit≤ tt) (λ (a, b). omega (arith, a))
 
 finds_second : Finds shared 0 2 0 0 3 0x0000000100000000
-finds_second = record {
-  leads = near 0x0000000100000000 refl (λ e. omega (arith, e))
-      (lit< tt, (λ e. omega (arith, e)), refl, refl, refl) refl;
-  inside = record { exists = lit< tt; inside = lit≤ tt; composite = λ (a, b). absurd (omega (arith, a)) };
-}
+finds_second = finds_near refl (lit< tt) (λ e. omega (arith, e)) refl (lit< tt) (lit≤ tt) (λ (a, b). omega (arith, a))
 
 denotes_first : Denotes shared 0 1 (struct (7 ∷ []) none) 1 1
 denotes_first = search (rules, struct_found, finds_first)
@@ -138,13 +127,7 @@ refused_shared = inr (first_fault_kept fault (lit≤ tt) (λ p level s w i r. no
   where
     fault : IsFaultAt shared 3 2 (Ptr 1 ∷ []) record { segment = 0; word = 2; reason = WordLimit; pointers = 3 }
     fault = record {
-      numbered = record {
-        level = 2;
-        tour = [] ∷ (Ptr 0 ∷ []) ∷ (Ptr 1 ∷ []) ∷ [];
-        reached = reaches_second;
-        is_tour = tour_shared;
-        count = refl;
-      };
+      numbered = search (rules, reaches_second, tour_shared);
       before = [] ∷ (Ptr 0 ∷ []) ∷ [];
       charge = 3;
       whole = refl;
@@ -173,9 +156,6 @@ uses_of : (path : List Step) (level s w : ℕ) (places : List (ℕ × ℕ)) → 
     → (level' s' w' : ℕ) (used : List (ℕ × ℕ)) → Reaches shared path level' s' w' → Occupies shared s' w' used → used ≡ places
 uses_of path level s w places r x7 level' s' w' used r' occupied =
     grind (arith, common_steps, one_reached shared path level' level s' w' s w r' r, one_used)
-
-zero_not_one : ◌≡◌ {A = ℕ} 0 1 → ⊥
-zero_not_one e = omega (arith, e)
 
 apart_words : (w v : ℕ) → (w ≡ v → ⊥) → ◌≡◌ {A = ℕ × ℕ} (0, w) (0, v) → ⊥
 apart_words w v n e = n (ap (λ (x : ℕ × ℕ). x.1) e)

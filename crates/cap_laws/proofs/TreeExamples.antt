@@ -4,16 +4,17 @@ use Rattle.cap_spec.specs.Tree.{none}
 use Rattle.cap_spec.specs.declared.Reason.TheVariants.{NoRoot, Reserved}
 use Rattle.cap_spec.specs.declared.Refusal.{Refusal}
 use Rattle.cap_spec.proofs.Lemmas.{one_word, charge_is_cost, first_cap, pointer_path_reached, one_reached, one_lead}
-use Rattle.cap_spec.proofs.Lemmas.{one_object, struct_found, paths_within_depth, first_fault_kept, refused_justified}
-use Rattle.cap_spec.proofs.ProofNames.{List, [], ap, arith, inl, inr, lit<, lit≤, refl, subst, sym, ℕ, ◌<◌, ◌∙◌, ◌∷◌}
+use Rattle.cap_spec.proofs.Lemmas.{one_object, struct_found, first_fault_kept, refused_justified}
+use Rattle.cap_spec.proofs.ProofNames.{List, [], arith, inl, inr, lit<, lit≤, refl, subst, sym, ℕ, ◌<◌, ◌∙◌, ◌∷◌}
 use Rattle.cap_spec.proofs.ProofNames.{◌≡◌, ◌⊎◌, AllByRecursion, AreElements, DenoteEach, Denotes, Finds, IsFaultAt}
 use Rattle.cap_spec.proofs.ProofNames.{IsFirstReason, rules}
 use Rattle.cap_spec.proofs.ProofNames.{IsRefused, is_past, Condition, Wrong, near, rank, to_cap, to_null, to_object}
-use Rattle.cap_spec.proofs.ProofNames.{AreDistinct, IsOneOf, IsDisjoint, Occupies, Before, IsFirstCap, IsPlace, IsTour}
+use Rattle.cap_spec.proofs.ProofNames.{IsOneOf, IsDisjoint, Occupies, Before, IsFirstCap, IsPlace, IsTour}
 use Rattle.cap_spec.proofs.ProofNames.{Reaches, word, IsTree, Tree, cap, cap_count, more, pointer_count, struct, structs}
 use Rattle.cap_spec.proofs.ProofNames.{CostOf, Justified, IsWord}
 use Rattle.cap_spec.proofs.Trees.DenotedTrees.{denoted_is_tree}
 use Rattle.cap_laws.specs.LawNames.{Reason, WordLimit, Step, Ptr}
+use Rattle.cap_laws.proofs.LimitExamples.{finds_near}
 
 -- a struct of two pointers: to a struct of the word 7, and to capability 5
 abbrev two_pointers : List (List ℕ)
@@ -24,19 +25,11 @@ two_pointers_tree = struct [] (more (struct (7 ∷ []) none) (more (cap 5) none)
 
 -- what the root finds
 finds_two : Finds two_pointers 0 0 0 0 1 0x0002000000000000
-finds_two = record {
-  leads = near 0x0002000000000000 refl (λ e. omega (arith, e))
-      (lit< tt, (λ e. omega (arith, e)), refl, refl, refl) refl;
-  inside = record { exists = lit< tt; inside = lit≤ tt; composite = λ (a, b). absurd (omega (arith, a)) };
-}
+finds_two = finds_near refl (lit< tt) (λ e. omega (arith, e)) refl (lit< tt) (lit≤ tt) (λ (a, b). omega (arith, a))
 
 -- and its first pointer
 finds_seven : Finds two_pointers 0 1 0 0 3 0x0000000100000004
-finds_seven = record {
-  leads = near 0x0000000100000004 refl (λ e. omega (arith, e))
-      (lit< tt, (λ e. omega (arith, e)), refl, refl, refl) refl;
-  inside = record { exists = lit< tt; inside = lit≤ tt; composite = λ (a, b). absurd (omega (arith, a)) };
-}
+finds_seven = finds_near refl (lit< tt) (λ e. omega (arith, e)) refl (lit< tt) (lit≤ tt) (λ (a, b). omega (arith, a))
 
 denotes_seven : Denotes two_pointers 0 1 (struct (7 ∷ []) none) 1 1
 denotes_seven = search (rules, struct_found, finds_seven)
@@ -104,8 +97,7 @@ tour_two : IsTour two_pointers (Ptr 0 ∷ []) ([] ∷ (Ptr 0 ∷ []) ∷ [])
 tour_two = record {
   rising = (tt, tt);
   reached = λ q i. (pointer_path_reached two_pointers two_pointers_tree 3 2 denotes_two q).0 (wider q i);
-  all = λ q level s w g before. upto q before
-      ((pointer_path_reached two_pointers two_pointers_tree 3 2 denotes_two q).1 (level, s, w, g));
+  all = λ q level s w g before. search rules;
   none_after = after;
 }
   where
@@ -128,8 +120,7 @@ tour_two = record {
         → IsOneOf q ([] ∷ (Ptr 0 ∷ []) ∷ (Ptr 1 ∷ []) ∷ []) → IsOneOf q ([] ∷ (Ptr 0 ∷ []) ∷ [])
     upto q b (inl e) = inl e
     upto q b (inr (inl e)) = inr (inl e)
-    upto q b (inr (inr (inl e))) = absurd (late
-        (subst (λ (x : List Step). (x ≡ Ptr 0 ∷ []) ⊎ Before x (Ptr 0 ∷ [])) e b))
+    upto q b (inr (inr (inl e))) = absurd ((search rules))
     upto q b (inr (inr (inr e))) = absurd e
 
 -- the second pointer's object is the struct of one word at word 3
@@ -177,12 +168,7 @@ tour_root = record {
 
 past_no_words : IsFirstReason two_pointers 0 2 0 0 0 1 WordLimit
 past_no_words = is_past 2 refl
-    (λ (k, t, b, q, tag, finds, tagged, past). omega (
-      arith,
-      paths_within_depth two_pointers two_pointers_tree 3 2 denotes_two [] 1 0 0 k t b q tag reaches_root
-          finds tagged,
-      past,
-    ))
+    (λ (k, t, b, q, tag, finds, tagged, past). search rules)
     (inr (inr (0, 0, 1, 0x0002000000000000, 0, finds_two, (λ (a, b). absurd (omega (arith, a))), refl))) (lit< tt)
 
 refused_no_words : IsRefused two_pointers 0 2 no_words
@@ -214,11 +200,7 @@ abbrev round : List (List ℕ)
 round = (0x00010000fffffffc ∷ []) ∷ []
 
 finds_round : Finds round 0 0 0 0 0 0x00010000fffffffc
-finds_round = record {
-  leads = near 0x00010000fffffffc refl (λ e. omega (arith, e))
-      (lit< tt, (λ e. omega (arith, e)), refl, refl, refl) refl;
-  inside = record { exists = lit< tt; inside = lit≤ tt; composite = λ (a, b). absurd (omega (arith, a)) };
-}
+finds_round = finds_near refl (lit< tt) (λ e. omega (arith, e)) refl (lit< tt) (lit≤ tt) (λ (a, b). omega (arith, a))
 
 -- the empty path reaches it, and so does a longer one
 reaches_round : Reaches round [] 1 0 0
@@ -269,11 +251,7 @@ abbrev lone : List (List ℕ)
 lone = (0x0000000100000000 ∷ 7 ∷ []) ∷ []
 
 finds_lone : Finds lone 0 0 0 0 1 0x0000000100000000
-finds_lone = record {
-  leads = near 0x0000000100000000 refl (λ e. omega (arith, e))
-      (lit< tt, (λ e. omega (arith, e)), refl, refl, refl) refl;
-  inside = record { exists = lit< tt; inside = lit≤ tt; composite = λ (a, b). absurd (omega (arith, a)) };
-}
+finds_lone = finds_near refl (lit< tt) (λ e. omega (arith, e)) refl (lit< tt) (lit≤ tt) (λ (a, b). omega (arith, a))
 
 denotes_lone : Denotes lone 0 0 (struct (7 ∷ []) none) 1 1
 denotes_lone = search (rules, struct_found, finds_lone)
@@ -294,19 +272,13 @@ used_alone used h = search (rules, one_lead, to_null, to_object, to_cap, one_obj
 
 used_on_path : (path : List Step) (level s w : ℕ) (used : List (ℕ × ℕ)) → Reaches lone path level s w
     → Occupies lone s w used → used ≡ (0, 1) ∷ []
-used_on_path path level s w used r occupied = let a = root_alone path level s w r in
-    used_alone used (rw (a.1, a.2) at occupied)
+used_on_path path level s w used r occupied = search rules
 
 disjoint_lone : IsDisjoint lone
 disjoint_lone = record {
   root = λ path (level, s, w, used, r, occupied, place).
-      elim (subst (IsOneOf (0, 0)) (used_on_path path level s w used r occupied) place) [
-        | inl e ↦
-            zero_not_one (ap (λ (x : ℕ × ℕ). x.1) e)
-        | inr e ↦ e
-      ];
-  each = λ path level s w used r occupied. subst AreDistinct
-      (sym (used_on_path path level s w used r occupied)) ((λ h. h), tt);
+      search (rules, used_on_path path level s w used r occupied);
+  each = λ path level s w used r occupied. search (rules, used_on_path path level s w used r occupied);
   apart = λ path other x (level, s, w, used, r, occupied, place) (level', s', w', used', r', occupied', place').
       (root_alone path level s w r).0 ∙ sym (root_alone other level' s' w' r').0;
 }
