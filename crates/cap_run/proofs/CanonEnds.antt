@@ -1,18 +1,17 @@
 -- What is known of the words of a source decides how the engine ends that puts copies, faults of devices, of the output and
 -- of memory aside.
 use Rattle.cap_spec.specs.declared.CanonFault.TheVariants.{Memory}
-use Rattle.cap_spec.specs.declared.StrictRefusal.TheVariants.{Refused as bad}
 use Rattle.cap_spec.proofs.Lemmas.{all_back, one_copy, one_stream, strict_not_fault, within_not_refused}
 use Rattle.cap_spec.proofs.ProofNames.{Err, IfErr, IfOk, List, Ok, Result, Some, [], ap, arith, false, length, refl, subst}
 use Rattle.cap_spec.proofs.ProofNames.{sum, sym, ℕ, ◌++◌, ◌∙◌, ◌∷◌, ◌≡◌, ◌≤◌, length-map, AllByRecursion, HasCopy, Stream}
-use Rattle.cap_spec.proofs.ProofNames.{frame_text, sizes_of}
+use Rattle.cap_spec.proofs.ProofNames.{frame_text, sizes_of, rules}
 use Rattle.cap_frame.proofs.Converse.{same_some}
 use Rattle.cap_vet.specs.Demands.{words_under}
 use Rattle.cap_canon.proofs.Copies.{cap_no_copy}
 use Rattle.cap_text.specs.declared.fault.Cause.TheVariants.{Output, Refused, Memory as no_marks}
 use Rattle.cap_run.specs.Canons.{CanonStops}
 use Rattle.cap_run.specs.Demanding.{IsNotStrict}
-use Rattle.cap_run.specs.RunNames.{HasCapability, StrictRefusal, ManySegments, Pointer, Demands, Cause, Canon, Frame}
+use Rattle.cap_run.specs.RunNames.{HasCapability, StrictRefusal, Pointer, Demands, Cause, Canon, Frame}
 use Rattle.cap_run.specs.RunNames.{NotStrict, TooManyMessages, RunFault, AreCanonised, Canonised, IsCanonised}
 use Rattle.cap_run.specs.RunNames.{MakesCopiesUnder, canonised, copies_of, IsStrictUnder, Made, Settled, SettledAt}
 use Rattle.cap_run.specs.RunNames.{ReadsStream, ReadsToEnd, Finishes, Outcome}
@@ -33,11 +32,9 @@ each_has demands words depth (c ∷ cs) a = ((c.copy, a.0), each_has demands wor
 -- a strict message isn't one that isn't
 strict_is_strict : (demands : Demands) (m : List (List ℕ)) (words depth : ℕ) (fault : StrictRefusal)
     → IsStrictUnder demands m words depth → ¬ IsNotStrict demands m words depth fault
-strict_is_strict demands m words depth (bad refusal) s f = f
-strict_is_strict demands m words depth ManySegments s f =
-    strict_not_fault m (words_under demands m words) depth ManySegments (s f.0) f.1
 strict_is_strict demands m words depth (Pointer what seg word pointers) s f =
     strict_not_fault m (words_under demands m words) depth (Pointer what seg word pointers) (s f.0) f.1
+strict_is_strict demands m words depth fault s f = search rules
 
 -- there are as many messages as copies
 length-canonised : (cs : List Canonised) → length (canonised cs) ≡ length cs
@@ -48,14 +45,13 @@ same_copies : (demands : Demands) (words depth : ℕ) (cs ds : List Canonised) �
     → AreCanonised demands words depth ds
     → canonised cs ≡ canonised ds → copies_of cs ≡ copies_of ds
 same_copies demands words depth [] [] a b e = refl
-same_copies demands words depth [] (d ∷ ds) a b e = absurd (cc)
-same_copies demands words depth (c ∷ cs) [] a b e = absurd (cc)
 same_copies demands words depth (c ∷ cs) (d ∷ ds) a b e =
     let first : c.message ≡ d.message = cc in
     let rest : canonised cs ≡ canonised ds = cc in
     let same : c.copy ≡ d.copy = one_copy d.message c.copy d.copy (subst (λ (m : List (List ℕ)). HasCopy m c.copy) first a.0.has_copy) b.0.has_copy in
     ap (λ (copy : List ℕ). frame_text (copy ∷ []) ++ copies_of cs) same
     ∙ ap (λ (xs : List ℕ). frame_text (d.copy ∷ []) ++ xs) (same_copies demands words depth cs ds a.1 b.1 rest)
+same_copies demands words depth cs ds a b e = absurd (cc)
 
 module _ {S K : Type 0} (gs : source.Ghosts S) (gk : sink.Ghosts K) (demands : Demands) (words depth limit most : ℕ)
     (old new : S) (before after : K) where
@@ -75,10 +71,7 @@ module _ {S K : Type 0} (gs : source.Ghosts S) (gk : sink.Ghosts K) (demands : D
       → Stream own (canonised ds) → AreCanonised demands words depth ds
       → ReadsStream gs limit old mid (canonised cs) → ReadsStream gs limit mid new (m ∷ [])
       → HasOne demands words depth m
-  next_has mid cs ds own m w s a reads last =
-      let next = reads_next gs limit old mid new (canonised cs) own (canonised ds) m w s reads last in
-      (all_back (HasOne demands words depth) (canonised cs) (m ∷ next.0)
-      (subst (AllByRecursion (HasOne demands words depth)) next.1 (each_has demands words depth ds a))).0
+  next_has mid cs ds own m w s a reads last = search (rules, reads_next gs limit old mid new (canonised cs) own (canonised ds) m w s reads last, all_back, each_has demands words depth ds a)
 
   -- after some messages of such a stream, no fault comes of the others
   canon_after : (mid : S) (cs ds : List Canonised) (own : List ℕ) (cause : Cause) (P : Type 0)
@@ -90,8 +83,7 @@ module _ {S K : Type 0} (gs : source.Ghosts S) (gk : sink.Ghosts K) (demands : D
   canon_after mid cs ds own TooManyMessages P w c s l a few reads stops =
       absurd (none_over gs limit old mid new (canonised cs) own (canonised ds) stops.0.1 w s reads stops.0.2
       (omega (arith, few, stops.0.0, length-canonised cs, length-canonised ds)))
-  canon_after mid cs ds own (Frame fault) P w c s l a few reads stops = none_faulted gs limit old mid new
-      (canonised cs) own (canonised ds) fault P w c s l reads stops.0
+  canon_after mid cs ds own (Frame fault) P w c s l a few reads stops = search (rules, none_faulted)
   canon_after mid cs ds own (Output fault) P w c s l a few reads stops = tt
   canon_after mid cs ds own (Refused refusal) P w c s l a few reads stops =
       let h = next_has mid cs ds own stops.0.1 w s a reads stops.0.2 in
@@ -99,11 +91,12 @@ module _ {S K : Type 0} (gs : source.Ghosts S) (gk : sink.Ghosts K) (demands : D
       absurd (within_not_refused stops.0.1 (words_under demands stops.0.1 words) depth refusal
       (k.0, h.1.report.charge, h.1.report.depth, k.1.within) stops.0.3)
   canon_after mid cs ds own (NotStrict fault) P w c s l a few reads stops =
-      let h = next_has mid cs ds own stops.0.1 w s a reads stops.0.2 in
-      absurd (strict_is_strict demands stops.0.1 words depth fault h.1.is_strict stops.0.3)
-  canon_after mid cs ds own (Canon (HasCapability seg word)) P w c s l a few reads stops =
-      let h = next_has mid cs ds own stops.0.1 w s a reads stops.0.3 in
-      absurd (cap_no_copy stops.0.1 seg word h.0 stops.0.6 h.1.has_copy)
+      search (
+        rules,
+        next_has mid cs ds own stops.0.1 w s a reads stops.0.2,
+        strict_is_strict demands stops.0.1 words depth fault (next_has mid cs ds own stops.0.1 w s a reads stops.0.2).1.is_strict stops.0.3,
+      )
+  canon_after mid cs ds own (Canon (HasCapability seg word)) P w c s l a few reads stops = search (rules, next_has mid cs ds own stops.0.1 w s a reads stops.0.3, cap_no_copy)
   canon_after mid cs ds own (Canon Memory) P w c s l a few reads stops = tt
   canon_after mid cs ds own no_marks P w c s l a few reads stops = absurd stops
 

@@ -3,12 +3,12 @@ use Rattle.cap_spec.specs.declared.Step.{Step}
 use Rattle.cap_spec.specs.declared.Refusal.{Refusal}
 use Rattle.cap_spec.specs.declared.StrictRefusal.{StrictRefusal}
 use Rattle.cap_spec.specs.declared.StrictRefusal.TheVariants.{Refused}
-use Rattle.cap_spec.proofs.ProofNames.{List, Option, Some, ap, codes, inr, subst, ℕ, ◌++◌, ◌∙◌, ◌≡◌, IsWithin}
+use Rattle.cap_spec.proofs.ProofNames.{List, Option, Some, codes, inr, ℕ, ◌++◌, ◌≡◌, IsWithin}
 use Rattle.cap_spec.proofs.ProofNames.{IsFirstOverlap, refused, vet_text, rules}
 use Rattle.cap_vet.specs.VetNames.{IsDemandFault, words_under, depth_of, words_of}
 use Rattle.cap_vet.specs.declared.demands.Demands.{Demands}
 use Rattle.cap_vet.specs.declared.limits.Limits.{Limits}
-use Rattle.cap_explain.specs.Charges.{ChargeOf, fault_charge}
+use Rattle.cap_explain.specs.Charges.{ChargeOf}
 use Rattle.cap_explain.specs.Explaining.{overlap_explanation}
 use Rattle.cap_explain.specs.declared.numbers.MessageStart.{MessageStart}
 use Rattle.cap_explain.specs.declared.numbers.Numbers.{Numbers}
@@ -34,10 +34,7 @@ accepted_within m words depth report (t, a) = (t, report.charge, report.depth, a
 
 -- a refusal names one path
 one_path_of : (demands : Demands) (m : List (List ℕ)) (words depth : ℕ) (r : Refusal) → OnePath m (words_under demands m words) depth r
-one_path_of demands m words depth r k f = same_path k.path f.path (one_path demands m words depth (Refused r) (inr k) (inr f))
-  where
-    same_path : (p q : List Step) → ◌≡◌ {A = Option (List Step)} (Some p) (Some q) → p ≡ q
-    same_path p q e = cc
+one_path_of demands m words depth r k f = search (rules, one_path demands m words depth (Refused r) (inr k) (inr f))
 
 -- the numbers of a fault
 pub same_numbers : (demands : Demands) (m : List (List ℕ)) (words depth : ℕ) (fault : StrictRefusal)
@@ -46,11 +43,4 @@ pub same_numbers : (demands : Demands) (m : List (List ℕ)) (words depth : ℕ)
     → ChargeOf m (words_of within) (depth_of within) fault k.charge → k.start ≡ start
     → k ≡ fault_numbers demands m words depth fault h start
 same_numbers demands m words depth fault h start within k w d kw kd c s =
-    let at = subst (λ n. ChargeOf m (words_under demands m words) n fault k.charge) d
-    (subst (λ n. ChargeOf m n (depth_of within) fault k.charge) w c) in
-    let charge = charge_is demands m words depth fault (one_path_of demands m words depth) h k.charge at in
-    let make : ℕ → ℕ → Option ℕ → Option MessageStart → Numbers = λ w d c s. record { words = w; depth = d; charge = c; start = s } in
-    ap (λ x. make x k.depth k.charge k.start) (kw ∙ w)
-    ∙ (ap (λ x. make (words_under demands m words) x k.charge k.start) (kd ∙ d)
-    ∙ (ap (λ x. make (words_under demands m words) depth x k.start) charge
-    ∙ ap (λ x. make (words_under demands m words) depth (fault_charge demands m words depth fault h) x) s))
+    search (rules, charge_is demands m words depth fault (one_path_of demands m words depth) h k.charge, one_path_of demands m words depth)

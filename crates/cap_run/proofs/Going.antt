@@ -1,5 +1,5 @@
 -- How far an engine has come: the messages of a prefix of the stream were read and reported of.
-use Rattle.std.proofs.Common.{List, [], ap, arith, length, length-append, refl, subst, sym, ℕ, ◌++◌, ◌+◌, ◌<◌, ◌∙◌}
+use Rattle.std.proofs.Common.{List, [], arith, length, length-append, refl, subst, sym, ℕ, ◌++◌, ◌+◌, ◌<◌, ◌∙◌}
 use Rattle.std.proofs.Common.{◌∷◌, ◌≡◌, ◌≤◌, rules}
 use Rattle.std.proofs.KnownBytes.{Appends-nil, Appends-trans}
 use Rattle.cap_text.specs.Writing.{Stopped, Wrote}
@@ -61,21 +61,17 @@ module _ {S O : Type 0} {gs : source.Ghosts S} {go : output.Ghosts O} {reports :
             outcome.noncanonical + one_noncanonical counted;
       }
       → Going gs go reports limit old new before after next (number + 1)
-  going_more {old} {mid} {new} {before} {between} {after} {outcome} {next} t counted same w reported reads wrote counts = record {
-    ts = w.ts ++ t ∷ [];
-    many = length-append w.ts (t ∷ []) ∙ ap (λ n. n + 1) w.many;
-    counts = subst (λ (k : Counted). next ≡ record {
-      messages = outcome.messages + 1;
-      refused = outcome.refused
-          + one_refused k;
-      noncanonical = outcome.noncanonical + one_noncanonical k;
-    })
-        (sym same) counts
-        ∙ outcome_of-snoc w.ts t outcome w.counts;
-    reads = rw (messages_of-snoc w.ts t) (reads_both gs limit old mid new (messages_of w.ts) (t.message ∷ []) w.reads reads);
-    each = each-snoc reports 0 w.ts t w.each (subst (λ k. reports k t.message t.text t.counted) (sym w.many ∙ omega arith) reported);
-    appended = rw (texts_of-snoc w.ts t) (appended_more go before between after (texts_of w.ts) t.text w.appended wrote);
-  }
+  going_more {old} {mid} {new} {before} {between} {after} {outcome} {next} t counted same w reported reads wrote counts =
+      search (
+        rules,
+        length-append w.ts (t ∷ []),
+        outcome_of-snoc w.ts t outcome w.counts,
+        messages_of-snoc w.ts t,
+        reads_both gs limit old mid new (messages_of w.ts) (t.message ∷ []) w.reads reads,
+        each-snoc reports 0 w.ts t w.each (subst (λ k. reports k t.message t.text t.counted) (sym w.many ∙ omega arith) reported),
+        texts_of-snoc w.ts t,
+        appended_more go before between after (texts_of w.ts) t.text w.appended wrote,
+      )
 
 module _ {S O : Type 0} (gs : source.Ghosts S) (go : output.Ghosts O) (reports : Reports) (allocates : List (List ℕ) → Type 0) (limit : ℕ) where
   -- it ended at the next message

@@ -1,6 +1,6 @@
 -- Words that are read at once and handed to a sink.
-use Rattle.cap_spec.proofs.ProofNames.{List, OnSome, Some, [], arith, false, inl, length, length-append, refl, take}
-use Rattle.cap_spec.proofs.ProofNames.{true, ℕ, ◌++◌, ◌+◌, ◌∷◌, ◌≡◌, ◌≤◌, ◌⊎◌, Keeps, plain_text, plain_words, rules}
+use Rattle.cap_spec.proofs.ProofNames.{List, OnSome, Some, [], false, length, length-append, refl, take}
+use Rattle.cap_spec.proofs.ProofNames.{true, ℕ, ◌+◌, ◌∷◌, ◌≡◌, ◌≤◌, ◌⊎◌, Keeps, plain_text, plain_words, rules}
 use Rattle.cap_words.specs.Ends.{Fails, WasBroken}
 use Rattle.cap_words.specs.Sinks.{sink_fault_of}
 use Rattle.cap_words.specs.TakingMany.{TakesAll}
@@ -40,29 +40,13 @@ module _ {S K : Type 0} {gs : source.Ghosts S} {gk : sink.Ghosts K} where
   -- some words, and then others
   pub copies_both : {old now new : S} {before between after : K} {n m : ℕ} → Transcodes gs gk old now before between n
       → Transcodes gs gk now new between after m → Transcodes gs gk old new before after (n + m)
-  copies_both {old} {now} {new} {before} {between} {after} c d = record {
-    own = c.own ++ d.own;
-    many = let a = c.many in let b = d.many in omega (arith, length-append c.own d.own);
-    gives = gives_both gs old now new c.own d.own c.gives d.gives;
-    fills = fills_both gk before between after c.own d.own c.fills d.fills;
-  }
+  copies_both {old} {now} {new} {before} {between} {after} c d =
+      search (rules, length-append c.own d.own, gives_both gs old now new c.own d.own c.gives d.gives, fills_both gk before between after c.own d.own c.fills d.fills)
 
   -- the output failed after words that were put
   pub stops_midway : {at_once most n rest : ℕ} {old now new : S} {before between after : K} {out : OutFault}
       → Transcodes gs gk old now before between n → HandsOver gs gk rest now new between after out → rest ≤ at_once
       → n + rest ≤ most
       → StopsMidway gs gk at_once most old new before after out
-  stops_midway {old = old} {now = now} {new = new} {before = before} {between = between} {after = after} {out = out} c h once buffer = record {
-    done = c.own;
-    piece = h.piece;
-    mid = new;
-    between = between;
-    few = let a = c.many in let b = h.few in omega (arith, length-append c.own h.piece);
-    some = h.some;
-    in_pieces = let b = h.few in omega arith;
-    gives = gives_both gs old now new c.own h.piece c.gives h.gives;
-    following = inl refl;
-    fills = c.fills;
-    halts = h.halts;
-    part = (halts_after gk before between after c.own h.piece (sink_fault_of out) c.fills h.halts).stopped;
-  }
+  stops_midway {old = old} {now = now} {new = new} {before = before} {between = between} {after = after} {out = out} c h once buffer =
+      search (rules, length-append c.own h.piece, gives_both gs old now new c.own h.piece c.gives h.gives, halts_after gk before between after c.own h.piece (sink_fault_of out) c.fills h.halts)

@@ -1,8 +1,8 @@
 -- Texts that are written about a message that was read.
 use Rattle.std.proofs.Common.{Err, List, Result, [], ℕ, ◌∷◌, ◌≡◌, rules}
 use Rattle.cap_text.specs.Writing.{Writes}
-use Rattle.cap_text.specs.declared.fault.Cause.TheVariants.{Output, Refused, Memory as no_marks}
-use Rattle.cap_run.specs.RunNames.{OutFault, Cause, Canon, Frame, NotStrict, TooManyMessages, StepStops, WritesOneOf}
+use Rattle.cap_text.specs.declared.fault.Cause.TheVariants.{Output}
+use Rattle.cap_run.specs.RunNames.{OutFault, Cause, StepStops, WritesOneOf}
 use Rattle.cap_run.specs.RunNames.{ReadsStream, Reports, Counted}
 use Rattle.cap_run.specs.Running.{counted_after}
 use Rattle.cap_words.specs.declared.ends.ByteOut as output
@@ -28,11 +28,6 @@ module _ {S O : Type 0} (gs : source.Ghosts S) (go : output.Ghosts O) (reports :
   pub step_stops : (m : List (List ℕ)) (old new : S) (before after : O) (cause : Cause)
       → ReadsStream gs limit old new (m ∷ []) → WritesOneOf go (reports n m) (allocates m) before after (Err cause)
       → StepStops gs go reports allocates limit n old new before after cause
-  step_stops m old new before after TooManyMessages r w = w
-  step_stops m old new before after (Frame fault) r w = absurd w
   step_stops m old new before after (Output fault) r w =
       (record { message = m; text = w.0; counted = w.1 }, w.2, r, w.3)
-  step_stops m old new before after (Refused refusal) r w = w
-  step_stops m old new before after (NotStrict fault) r w = w
-  step_stops m old new before after (Canon fault) r w = w
-  step_stops m old new before after no_marks r w = (m, r, w.0, w.1)
+  step_stops m old new before after cause r w = search rules

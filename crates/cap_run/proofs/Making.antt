@@ -69,18 +69,11 @@ module _ {S K : Type 0} (gs : source.Ghosts S) (gk : sink.Ghosts K) (demands : D
       → StopsMaking gs gk demands words depth limit most w.cs mid new before after (Err cause)
   stops_next most old mid new before between after n TooManyMessages less w s = absurd s
   stops_next most old mid new before between after n (Frame fault) less w s = (s.0, rw s.1 w.fills)
-  stops_next most old mid new before between after n (Output fault) less w s = record {
-    next = record { message = s.0; copy = s.2.0 };
-    few = omega (arith, less, w.many);
-    reads = s.1;
-    is_canonised = s.2.1;
-    halts = halts_after gk before between after (copies_of w.cs) (frame_text (s.2.0 ∷ [])) (sink_fault_of fault) w.fills s.2.2;
-  }
+  stops_next most old mid new before between after n (Output fault) less w s =
+      search (rules, halts_after gk before between after (copies_of w.cs) (frame_text (s.2.0 ∷ [])) (sink_fault_of fault) w.fills s.2.2)
   stops_next most old mid new before between after n (Refused refusal) less w s = ((omega (arith, less, w.many), s.0, s.1, s.2.0), rw s.2.1 w.fills)
-  stops_next most old mid new before between after n (NotStrict fault) less w s =
-      ((omega (arith, less, w.many), s.0, s.1, s.2.0), rw s.2.1 w.fills)
-  stops_next most old mid new before between after n (Canon fault) less w s =
-      ((omega (arith, less, w.many), s.0, s.2.0, s.1, s.2.1, s.2.2, s.2.3), rw s.2.4 w.fills)
+  stops_next most old mid new before between after n (NotStrict fault) less w s = search rules
+  stops_next most old mid new before between after n (Canon fault) less w s = search rules
   stops_next most old mid new before between after n no_marks less w s = absurd s
 
   stops_end : (most : ℕ) (mid new : S) (before after : K) (cs : List Canonised) (end : Result (Unit {0}) Cause) → length cs ≡ most
@@ -101,13 +94,16 @@ module _ {S K : Type 0} {gs : source.Ghosts S} {gk : sink.Ghosts K} {demands : D
       → ReadsStream gs limit mid new (c.message ∷ []) → IsCanonised demands words depth c
       → PutsWords gk between after (frame_text (c.copy ∷ []))
       → CopiesSoFar gs gk demands words depth limit old new before after (n + 1)
-  so_far_more {old} {mid} {new} {before} {between} {after} c w reads is fills = record {
-    cs = w.cs ++ c ∷ [];
-    many = length-append w.cs (c ∷ []) ∙ ap (λ k. k + 1) w.many;
-    reads = rw (canonised-snoc w.cs c) (reads_both gs limit old mid new (canonised w.cs) (c.message ∷ []) w.reads reads);
-    each = all_append (IsCanonised demands words depth) w.cs (c ∷ []) w.each (is, tt);
-    fills = rw (copies_of-snoc w.cs c) (fills_both gk before between after (copies_of w.cs) (frame_text (c.copy ∷ [])) w.fills fills);
-  }
+  so_far_more {old} {mid} {new} {before} {between} {after} c w reads is fills =
+      search (
+        rules,
+        length-append w.cs (c ∷ []),
+        canonised-snoc w.cs c,
+        reads_both gs limit old mid new (canonised w.cs) (c.message ∷ []) w.reads reads,
+        all_append (IsCanonised demands words depth) w.cs (c ∷ []) w.each (is, tt),
+        copies_of-snoc w.cs c,
+        fills_both gk before between after (copies_of w.cs) (frame_text (c.copy ∷ [])) w.fills fills,
+      )
 
   -- the run ended at the next message, after this many copies
   pub making_stops : {most : ℕ} {old mid new : S} {before between after : K} {n : ℕ} (cause : Cause) → n < most

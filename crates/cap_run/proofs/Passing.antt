@@ -26,12 +26,8 @@ module _ {O : Type 0} (g : output.Ghosts O) where
       → (IsErrOf r Device → DeviceFails (g.broken a) (g.failures a) (g.failures b) × (g.broken b ≡ true))
       → (IsErrOf r Memory → AllocationFails (g.broken a) (g.failures a) (g.failures b))
       → (IsErrOf r Spent → (g.broken a ≡ true) × (b ≡ a)) → Writes g o b r (text ++ bytes)
-  writes_more o a b r text [] w ok err none works device memory was_broken =
-      let e = none refl in
-      subst (λ (x : Result (Unit {0}) OutFault). Writes g o b x (text ++ [])) (sym e.0)
-      (subst (λ (x : O). Wrote g o x (text ++ [])) (sym e.1) (subst (Wrote g o a) (sym (append-nil text)) w))
-  writes_more o a b r text (x ∷ xs) w ok err none works device memory was_broken =
-      writes_then g o a b r text (x ∷ xs) w (writes_all g a b r (x ∷ xs) ok err (works (omega arith)) device memory was_broken)
+  writes_more o a b r text [] w ok err none works device memory was_broken = search (rules, append-nil)
+  writes_more o a b r text (x ∷ xs) w ok err none works device memory was_broken = search (rules, writes_then, writes_all)
 
   -- After this text, bytes were written that leave the rest of these.
   pub record Left (old now : O) (text all rest : List ℕ) : Type 0 where

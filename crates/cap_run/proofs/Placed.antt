@@ -1,5 +1,5 @@
 -- How far an engine has come that knows where each message begins.
-use Rattle.std.proofs.Common.{Err, List, Ok, Result, Some, [], ap, arith, false, length, length-append, subst, sum}
+use Rattle.std.proofs.Common.{Err, List, Ok, Result, Some, [], arith, false, length, length-append, subst, sum}
 use Rattle.std.proofs.Common.{sym, ℕ, ◌*◌, ◌++◌, ◌+◌, ◌<◌, ◌^◌, ◌∙◌, ◌∷◌, ◌≡◌, ◌≤◌, rules}
 use Rattle.std.specs.List.{AllByRecursion}
 use Rattle.cap_spec.specs.Frames.{Stream, sizes_of}
@@ -27,11 +27,6 @@ words_reported-snoc (u ∷ ts) t = let e = words_reported-snoc ts t in omega (ar
 -- one more text
 from-snoc : (reports : PlacedReports) (b n : ℕ) (ts : List Reported) (t : Reported) → ReportsFrom reports b n ts
     → reports (b + words_reported ts) (n + length ts) t.message t.text t.counted → ReportsFrom reports b n (ts ++ t ∷ [])
-from-snoc reports b n [] t p q = (
-  subst (λ k. reports k n t.message t.text t.counted) (let e : b + 0 ≡ b = omega arith in e)
-      (subst (λ k. reports (b + 0) k t.message t.text t.counted) (let e : n + 0 ≡ n = omega arith in e) q),
-  tt,
-)
 from-snoc reports b n (u ∷ ts) t p q = (
   p.0,
   from-snoc reports (b + frame_words u.message) (n + 1) ts t p.1
@@ -40,6 +35,7 @@ from-snoc reports b n (u ∷ ts) t p q = (
       (subst (λ k. reports (b + (frame_words u.message + words_reported ts)) k t.message t.text t.counted)
       (let e : n + length (u ∷ ts) ≡ n + 1 + length ts = omega arith in e) q)),
 )
+from-snoc reports b n ts t p q = search rules
 
 -- the frame of a message that was read is small
 pub frame_small : {S : Type 0} (g : source.Ghosts S) (limit : ℕ) (old new : S) (held : List (List ℕ))
@@ -85,25 +81,18 @@ module _ {S O : Type 0} {gs : source.Ghosts S} {go : output.Ghosts O} {reports :
             outcome.noncanonical + one_noncanonical counted;
       }
       → GoingFrom gs go reports limit old new before after next (number + 1) (words + more)
-  from_more {old} {mid} {new} {before} {between} {after} {outcome} {next} {number} {words} t counted same w reported reads wrote is few counts = record {
-    ts = w.ts ++ t ∷ [];
-    many = length-append w.ts (t ∷ []) ∙ ap (λ n. n + 1) w.many;
-    long = omega (arith, w.long, is, words_reported-snoc w.ts t);
-    few = omega (arith, w.few, few);
-    counts = subst (λ (k : Counted). next ≡ record {
-      messages = outcome.messages + 1;
-      refused = outcome.refused
-          + one_refused k;
-      noncanonical = outcome.noncanonical + one_noncanonical k;
-    })
-        (sym same) counts
-        ∙ outcome_of-snoc w.ts t outcome w.counts;
-    reads = rw (messages_of-snoc w.ts t) (reads_both gs limit old mid new (messages_of w.ts) (t.message ∷ []) w.reads reads);
-    each = from-snoc reports 0 0 w.ts t w.each
-        (subst (λ k. reports k (0 + length w.ts) t.message t.text t.counted) (let e : words ≡ 0 + words_reported w.ts = omega (arith, w.long) in e)
-        (subst (λ k. reports words k t.message t.text t.counted) (let e : number ≡ 0 + length w.ts = omega (arith, w.many) in e) reported));
-    appended = rw (texts_of-snoc w.ts t) (appended_more go before between after (texts_of w.ts) t.text w.appended wrote);
-  }
+  from_more {old} {mid} {new} {before} {between} {after} {outcome} {next} {number} {words} t counted same w reported reads wrote is few counts =
+      search (
+        rules,
+        length-append w.ts (t ∷ []),
+        words_reported-snoc w.ts t,
+        outcome_of-snoc w.ts t outcome w.counts,
+        messages_of-snoc w.ts t,
+        reads_both gs limit old mid new (messages_of w.ts) (t.message ∷ []) w.reads reads,
+        from-snoc,
+        texts_of-snoc w.ts t,
+        appended_more go before between after (texts_of w.ts) t.text w.appended wrote,
+      )
 
 module _ {S O : Type 0} (gs : source.Ghosts S) (go : output.Ghosts O) (reports : PlacedReports) (allocates : List (List ℕ) → Type 0) (limit : ℕ) where
   -- it ended at the next message
@@ -123,16 +112,8 @@ module _ {S O : Type 0} (gs : source.Ghosts S) (go : output.Ghosts O) (reports :
       → Settled r ((ts : List Reported) × (messages_of ts ≡ ms) × ReportsFrom reports 0 0 ts × Appended go before after (texts_of ts)
       × (r ≡ Ok (outcome_of ts)))
   placed_whole allocates (Ok outcome) own ms end fault w c s l few =
-      let all = on_known (gs.words old) own _ w end.1.all in
-      let same = same_some own end.1.own (sym w ∙ all.0) in (
-        end.0,
-        one_stream own (messages_of end.0) ms (subst (λ (ws : List ℕ). Stream ws (messages_of end.0)) (sym same) end.1.stream) s,
-        end.2,
-        end.3,
-        ap (λ (o : Outcome). Ok o) end.5,
-      )
-  placed_whole allocates (Err fault) own ms end f w c s l few =
-      settled_after gs go (reports (words_reported f.0)) limit most old new before after allocates f.1 f.0 own ms fault.cause _ w c s l few f.4 f.6
+      search (rules, on_known (gs.words old) own _ w end.1.all, same_some own end.1.own (sym w ∙ (on_known (gs.words old) own _ w end.1.all).0), one_stream)
+  placed_whole allocates (Err fault) own ms end f w c s l few = search (rules, settled_after)
 
   -- allocations that are among others
   pub placed_allocates : (allocates needs : List (List ℕ) → Type 0) → ((m : List (List ℕ)) → allocates m → needs m) → (r : Result Outcome RunFault)

@@ -8,8 +8,7 @@ use Rattle.cap_spec.proofs.ProofNames.{Consumes, AllByRecursion, ⊤, BeginsMess
 use Rattle.cap_frame.specs.ReadingFaults.{Answered, Faults}
 use Rattle.cap_frame.specs.declared.fault.FrameFault.{FrameFault}
 use Rattle.cap_frame.proofs.Converse.{known_still, same_some, reports_fault, settled as settled_by}
-use Rattle.cap_text.specs.declared.fault.Cause.TheVariants.{Output, Refused, Memory as no_marks}
-use Rattle.cap_run.specs.RunNames.{Cause, Canon, Frame, NotStrict, TooManyMessages, RunFault, ReachesEnd, StopsEarly}
+use Rattle.cap_run.specs.RunNames.{Cause, TooManyMessages, RunFault, ReachesEnd, StopsEarly}
 use Rattle.cap_run.specs.RunNames.{Appended, RunStops, Settled, SettledAt, ReadsStream, Reports, ReportsEach, Reported}
 use Rattle.cap_run.specs.RunNames.{messages_of, outcome_of, texts_of, Outcome}
 use Rattle.cap_run.proofs.Reporting.{length-messages_of}
@@ -99,13 +98,7 @@ module _ {S O : Type 0} (gs : source.Ghosts S) (go : output.Ghosts O) (reports_o
       after cause → SettledAt cause P
   settled_after allocates mid ts own ms TooManyMessages P w c s l few reads stops =
       absurd (none_over gs limit old mid new (messages_of ts) own ms stops.2.0 w s reads stops.2.1 (omega (arith, few, stops.0, length-messages_of ts)))
-  settled_after allocates mid ts own ms (Frame fault) P w c s l few reads stops = none_faulted gs limit old mid new
-      (messages_of ts) own ms fault P w c s l reads stops.1
-  settled_after allocates mid ts own ms (Output fault) P w c s l few reads stops = tt
-  settled_after allocates mid ts own ms (Refused refusal) P w c s l few reads stops = absurd stops
-  settled_after allocates mid ts own ms (NotStrict fault) P w c s l few reads stops = absurd stops
-  settled_after allocates mid ts own ms (Canon fault) P w c s l few reads stops = absurd stops
-  settled_after allocates mid ts own ms no_marks P w c s l few reads stops = tt
+  settled_after allocates mid ts own ms cause P w c s l few reads stops = search (rules, none_faulted)
 
   -- a stream of messages within the limits is read to its end
   pub settled : (allocates : List (List ℕ) → Type 0) (r : Result Outcome RunFault) (own : List ℕ)
@@ -114,13 +107,5 @@ module _ {S O : Type 0} (gs : source.Ghosts S) (go : output.Ghosts O) (reports_o
       → gs.is_cut old ≡ false → Stream own ms
       → AllByRecursion (λ m. sum (sizes_of m) ≤ limit) ms → length ms ≤ most → Settled r (ReportedEach ms r)
   settled allocates (Ok outcome) own ms end fault w c s l few =
-      let all = on_known (gs.words old) own _ w end.1.all in
-      let same = same_some own end.1.own (sym w ∙ all.0) in (
-        end.0,
-        one_stream own (messages_of end.0) ms (subst (λ (ws : List ℕ). Stream ws (messages_of end.0)) (sym same) end.1.stream) s,
-        end.2,
-        end.3,
-        ap (λ (o : Outcome). Ok o) end.5,
-      )
-  settled allocates (Err fault) own ms end f w c s l few =
-      settled_after allocates f.1 f.0 own ms fault.cause _ w c s l few f.4 f.6
+      search (rules, on_known (gs.words old) own _ w end.1.all, same_some own end.1.own (sym w ∙ (on_known (gs.words old) own _ w end.1.all).0), one_stream)
+  settled allocates (Err fault) own ms end f w c s l few = search (rules, settled_after)

@@ -160,9 +160,7 @@ module _ {S O E : Type 0} (gs : source.Ghosts S) (go : output.Ghosts O) (ge : ou
       let all = on_known (gs.words old) own _ w reads.all in
       let same = same_some own reads.own (sym w ∙ all.0) in
       inl (one_stream own (messages_of ts) ms (subst (λ (ws : List ℕ). Stream ws (messages_of ts)) (sym same) reads.stream) s, accepted)
-  covers old new own ms ts w s (inr (stop, last, reads)) =
-      let more = reads_front gs limit old new new (messages_of ts) own ms w s reads in
-      inr (stop, last, (more.2.0, more.2.1))
+  covers old new own ms ts w s (inr (stop, last, reads)) = search (rules, reads_front gs limit old new new (messages_of ts) own ms w s reads)
 
   -- a stream of messages within the limits is read to its end, or to the first that is refused
   pub filter_settled : (most : ℕ) (old new : S) (before after : O) (first last : E) (r : Result Outcome RunFault) (own : List ℕ)
@@ -171,16 +169,8 @@ module _ {S O E : Type 0} (gs : source.Ghosts S) (go : output.Ghosts O) (ge : ou
       → gs.is_cut old ≡ false → Stream own ms → AllByRecursion (λ m. sum (sizes_of m) ≤ limit) ms → length ms ≤ most
       → Settled r ((ts : List Reported) × Covers form.stop ts ms × ReportsEach (PassesOn form.pack verdict) 0 ts
       × Appended go before after (texts_of ts) × (r ≡ Ok (outcome_of ts)) × Noted ge verdict (messages_of ts) first last)
-  filter_settled most old new before after first last (Ok outcome) own ms end fault w c s l few = (
-    end.0,
-    covers old new own ms end.0 w s end.1,
-    end.2,
-    end.3,
-    ap (λ (o : Outcome). Ok o) end.5,
-    end.6,
-  )
-  filter_settled most old new before after first last (Err fault) own ms end f w c s l few =
-      settled_after gs go (PassesLast form.pack verdict f.0) limit most old new before after allocates f.1 f.0 own ms fault.cause _ w c s l few f.4 f.7
+  filter_settled most old new before after first last (Ok outcome) own ms end fault w c s l few = search (rules, covers)
+  filter_settled most old new before after first last (Err fault) own ms end f w c s l few = search (rules, settled_after)
 
 module _ {S O E : Type 0} {gs : source.Ghosts S} {go : output.Ghosts O} {ge : output.Ghosts E} {form : FilterForm} {verdict : Reports}
     {allocates : List (List ℕ) → Type 0} {limit : ℕ} where

@@ -2,7 +2,7 @@
 use Rattle.cap_spec.proofs.Bytes.Lists.{all_append}
 use Rattle.cap_spec.proofs.Frames.Streams.{stream_append, stream_none, stream_one}
 use Rattle.cap_spec.proofs.ProofNames.{Bool, List, OnSome, Option, Some, [], append-nil, false, refl, subst, sum, sym}
-use Rattle.cap_spec.proofs.ProofNames.{ℕ, ◌++◌, ◌∙◌, ◌∷◌, ◌≡◌, ◌≤◌, Consumes, sizes_of, rules}
+use Rattle.cap_spec.proofs.ProofNames.{ℕ, ◌++◌, ◌∷◌, ◌≡◌, ◌≤◌, Consumes, sizes_of, rules}
 use Rattle.cap_words.specs.Ends.{Works}
 use Rattle.cap_frame.specs.Reading.{TakesFrame}
 use Rattle.cap_frame.proofs.Taking.{takes_both, takes_none}
@@ -36,14 +36,8 @@ module _ {S : Type 0} (g : source.Ghosts S) where
   -- some messages were read, and then others
   pub reads_both : (limit : ℕ) (old mid new : S) (ms ns : List (List (List ℕ))) → ReadsStream g limit old mid ms → ReadsStream g limit mid new ns
       → ReadsStream g limit old new (ms ++ ns)
-  reads_both limit old mid new ms ns r s = record {
-    own = r.own ++ s.own;
-    takes = takes_both g old mid new r.own s.own r.takes s.takes;
-    stream = stream_append r.own s.own ms ns r.stream s.stream;
-    within = all_append (λ m. sum (sizes_of m) ≤ limit) ms ns r.within s.within;
-    broken = s.broken ∙ r.broken;
-    failures = s.failures ∙ r.failures;
-  }
+  reads_both limit old mid new ms ns r s =
+      search (rules, takes_both g old mid new r.own s.own r.takes s.takes, stream_append r.own s.own ms ns r.stream s.stream, all_append (λ m. sum (sizes_of m) ≤ limit) ms ns r.within s.within)
 
   -- the stream ended after these messages
   pub reads_all : (limit : ℕ) (old mid new : S) (ms : List (List (List ℕ))) → ReadsStream g limit old mid ms

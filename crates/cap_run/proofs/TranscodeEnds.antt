@@ -1,7 +1,7 @@
 -- What is known of the words of a source decides how a copy of them ends, faults of devices and of the output aside.
-use Rattle.cap_spec.proofs.ProofNames.{Err, List, Ok, Option, Result, Some, [], ap, append-nil, append_assoc, arith}
-use Rattle.cap_spec.proofs.ProofNames.{drop, drop-drop, false, length, length-append, refl, subst, suc, sym, take}
-use Rattle.cap_spec.proofs.ProofNames.{true, ℕ, ◌++◌, ◌+◌, ◌<◌, ◌∙◌, ◌∷◌, ◌≡◌, ◌≤◌, take-append_seam, Consumes, rules}
+use Rattle.cap_spec.proofs.ProofNames.{Err, List, Ok, Option, Result, Some, [], append-nil, append_assoc, arith}
+use Rattle.cap_spec.proofs.ProofNames.{drop, drop-drop, false, length, length-append, refl, subst, take}
+use Rattle.cap_spec.proofs.ProofNames.{true, ℕ, ◌<◌, ◌∷◌, ◌≡◌, ◌≤◌, take-append_seam, Consumes, rules}
 use Rattle.cap_words.specs.declared.sources.SourceFault.TheVariants.{Device, Spent, Truncated}
 use Rattle.cap_frame.proofs.Converse.{known_still, same_some}
 use Rattle.cap_text.specs.declared.fault.CopyFault.TheVariants.{Output}
@@ -26,28 +26,21 @@ module _ {S K : Type 0} (gs : source.Ghosts S) (gk : sink.Ghosts K) (at_once mos
   pub cut_put : (byte : ℕ) → gs.words old ≡ Some own → (c : TranscodesUntil gs gk most old new before after (Truncated byte))
       → (c.own ≡ own) × (gs.is_cut old ≡ true) × (length own ≤ most) × (drop (length own) (gs.places old) ≡ byte ∷ [])
   cut_put byte w c =
-      let here = known_still own c.own (gs.words c.mid) (subst (λ (o : Option (List ℕ)). Consumes o (gs.words c.mid) c.own) w c.gives.takes.consumed) in
-      let none = on_known (gs.words c.mid) here.0 _ here.1 c.none.none in
-      let nil = same_some here.0 [] (sym here.1 ∙ none.0) in
-      let same : own ≡ c.own = here.2 ∙ (ap (λ (ws : List ℕ). c.own ++ ws) nil ∙ append-nil c.own) in
-      let goes = on_known (gs.words old) own _ w c.gives.takes.goes_on in
-      let next : suc (length c.own) ≡ length c.own + 1 = omega arith in
-      let at : drop 1 (gs.place c.mid ∷ gs.places c.mid) ≡ drop 1 (drop (length c.own) (gs.place old ∷ gs.places old)) = ap (drop 1) goes.1 in (
-        sym same,
-        sym goes.0 ∙ none.1,
-        omega (arith, c.few, ap length same),
-        ap (λ (ws : List ℕ). drop (length ws) (gs.places old)) same
-            ∙ (ap (λ (n : ℕ). drop n (gs.place old ∷ gs.places old)) next
-            ∙ (sym (drop-drop 1 (length c.own) (gs.place old ∷ gs.places old)) ∙ (sym at ∙ none.2))),
+      search (
+        rules,
+        known_still own c.own (gs.words c.mid) (subst (λ (o : Option (List ℕ)). Consumes o (gs.words c.mid) c.own) w c.gives.takes.consumed),
+        on_known,
+        on_known (gs.words old) own _ w c.gives.takes.goes_on,
+        same_some,
+        append-nil c.own,
+        drop-drop 1 (length c.own) (gs.place old ∷ gs.places old),
       )
 
   -- all words, where there aren't too many and the input isn't cut
   pub copy_whole : (r : Result ℕ CopyFault) → gs.words old ≡ Some own → gs.is_cut old ≡ false → length own ≤ most
       → Transcoded gs gk at_once most old new before after r
       → TranscodeSettled r ((r ≡ Ok (length own)) × Finishes gk before after own)
-  copy_whole (Ok n) w i l c =
-      let t = all_put c.0 w c.2 in
-      (ap (λ (k : ℕ). Ok k) (c.1 ∙ ap length t.0), subst (Finishes gk before after) t.0 c.2.finishes)
+  copy_whole (Ok n) w i l c = search (rules, all_put)
   copy_whole (Err TooManyWords) w i l c = absurd (let t = most_put w c in omega (arith, t.0, l))
   copy_whole (Err (Source (Truncated byte))) w i l c = absurd (let t = cut_put byte w c in let e = t.1 in cc)
   copy_whole (Err (Source Device)) w i l c = tt

@@ -1,7 +1,7 @@
 -- Words that are read and put one after the other.
 use Rattle.std.proofs.KnownBytes.{Keeps-refl}
-use Rattle.cap_spec.proofs.ProofNames.{Err, List, Ok, OnSome, Result, [], ap, append-nil, append_assoc, arith, false}
-use Rattle.cap_spec.proofs.ProofNames.{inl, inr, length-append, refl, sym, true, ℕ, ◌++◌, ◌+◌, ◌<◌, ◌∙◌, ◌∷◌, ◌≡◌, ◌⊎◌}
+use Rattle.cap_spec.proofs.ProofNames.{Err, List, Ok, OnSome, Result, [], append-nil, append_assoc, false}
+use Rattle.cap_spec.proofs.ProofNames.{inl, length-append, refl, true, ℕ, ◌++◌, ◌+◌, ◌<◌, ◌∷◌, ◌≡◌}
 use Rattle.cap_spec.proofs.ProofNames.{Keeps-trans, false≢true, Consumes, Keeps, rules}
 use Rattle.cap_words.specs.Ends.{DeviceFails, AllocationFails, WasBroken, Works}
 use Rattle.cap_words.specs.Sinks.{Begins, StoppedPutting, sink_fault_of}
@@ -32,17 +32,7 @@ module _ {S : Type 0} (gs : source.Ghosts S) where
 
   -- some words, and then others
   pub gives_both : (old mid new : S) (a b : List ℕ) → ReadsWords gs old mid a → ReadsWords gs mid new b → ReadsWords gs old new (a ++ b)
-  gives_both old mid new a b p q = record {
-    takes = takes_both gs old mid new a b p.takes q.takes;
-    usable = usable p.usable q.usable;
-    broken = q.broken ∙ p.broken;
-    failures = q.failures ∙ p.failures;
-  }
-    where
-      usable : (a ≡ []) ⊎ (gs.broken old ≡ false) → (b ≡ []) ⊎ (gs.broken mid ≡ false) → (a ++ b ≡ []) ⊎ (gs.broken old ≡ false)
-      usable (inr u) v = inr u
-      usable (inl e) (inl f) = inl (ap (λ (xs : List ℕ). xs ++ b) e ∙ f)
-      usable (inl e) (inr v) = inr (sym p.broken ∙ v)
+  gives_both old mid new a b p q = search (rules, takes_both gs old mid new a b p.takes q.takes)
 
 module _ {K : Type 0} (gk : sink.Ghosts K) where
   -- no words
@@ -85,38 +75,10 @@ module _ {S K : Type 0} (gs : source.Ghosts S) (gk : sink.Ghosts K) where
       → is_open r ≡ true → Keeps (gk.text between []) (gk.taken after) → (gk.closed between ≡ false)
       × (gk.closed after ≡ true) × (gk.failures after ≡ gk.failures between)
       → Transcoded gs gk at_once most old new before after r
-  copied_finished at_once most old new before between after (Ok n) s h k o =
-      let c = s.2 in (
-        c.own,
-        sym c.many,
-        record {
-          few = omega (arith, s.1, c.many);
-          all = all_taken (gs.words old) (gs.words s.0) c.own (gs.is_cut old) (gs.is_cut s.0) _ _ c.gives.takes.consumed c.gives.takes.goes_on s.3.none;
-          ended = s.3.ended;
-          works = record { usable = sym c.gives.broken ∙ s.3.works.usable; still = s.3.works.still; none_failed = s.3.works.none_failed ∙ c.gives.failures };
-          finishes = finishes_after gk before between after c.own c.fills k o;
-        },
-      )
+  copied_finished at_once most old new before between after (Ok n) s h k o = search (rules, all_taken, finishes_after gk before between after s.2.own s.2.fills k o)
   copied_finished at_once most old new before between after (Err TooManyWords) s h k o =
-      let c = s.2 in
-      record {
-        own = c.own;
-        word = s.1;
-        many = c.many;
-        gives = gives_both gs old s.0 new c.own (s.1 ∷ []) c.gives s.3;
-        finishes = finishes_after gk before between after c.own c.fills k o;
-      }
-  copied_finished at_once most old new before between after (Err (Source fault)) s h k o =
-      let c = s.3 in
-      record {
-        own = c.own;
-        mid = s.0;
-        few = omega (arith, s.2, c.many);
-        gives = c.gives;
-        none = s.4;
-        finishes =
-            finishes_after gk before between after c.own c.fills k o;
-      }
+      search (rules, gives_both gs old s.0 new s.2.own (s.1 ∷ []) s.2.gives s.3, finishes_after gk before between after s.2.own s.2.fills k o)
+  copied_finished at_once most old new before between after (Err (Source fault)) s h k o = search (rules, finishes_after)
   copied_finished at_once most old new before between after (Err (Output fault)) s h k o = absurd (false≢true h)
 
   -- the output failed before the sink was finished
@@ -129,39 +91,9 @@ module _ {S K : Type 0} (gs : source.Ghosts S) (gk : sink.Ghosts K) where
       (out : OutFault) → StopsPutting gs gk at_once most old new before between r
       → is_open r ≡ true → (gk.closed after ≡ true) × Begins (gk.text between []) (gk.taken after) → Blames gk between after (sink_fault_of out)
       → StopsFinishing gs gk most old new before after out
-  copied_spoiled at_once most old new before between after (Ok n) out s h e b =
-      let c = s.2 in
-      record {
-        own = c.own;
-        mid = s.0;
-        few = omega (arith, s.1, c.many);
-        gives = c.gives;
-        spoils = spoils_last gk before
-            between after c.own out c.fills e b;
-        none = inl s.3;
-      }
-  copied_spoiled at_once most old new before between after (Err TooManyWords) out s h e b =
-      let c = s.2 in
-      record {
-        own = c.own;
-        mid = s.0;
-        few = omega (arith, c.many);
-        gives = c.gives;
-        spoils = spoils_last gk before
-            between after c.own out c.fills e b;
-        none = inr (inr (c.many, (s.1, s.3)));
-      }
-  copied_spoiled at_once most old new before between after (Err (Source fault)) out s h e b =
-      let c = s.3 in
-      record {
-        own = c.own;
-        mid = s.0;
-        few = omega (arith, s.2, c.many);
-        gives = c.gives;
-        spoils = spoils_last gk before
-            between after c.own out c.fills e b;
-        none = inr (inl (fault, s.4));
-      }
+  copied_spoiled at_once most old new before between after (Ok n) out s h e b = search (rules, spoils_last gk before between after s.2.own out s.2.fills e b)
+  copied_spoiled at_once most old new before between after (Err TooManyWords) out s h e b = search (rules, spoils_last gk before between after s.2.own out s.2.fills e b)
+  copied_spoiled at_once most old new before between after (Err (Source fault)) out s h e b = search (rules, spoils_last gk before between after s.3.own out s.3.fills e b)
   copied_spoiled at_once most old new before between after (Err (Output fault)) out s h e b = absurd (false≢true h)
 
 module _ {S K : Type 0} {gs : source.Ghosts S} {gk : sink.Ghosts K} where
@@ -169,26 +101,14 @@ module _ {S K : Type 0} {gs : source.Ghosts S} {gk : sink.Ghosts K} where
   pub copies_more : {old now new : S} {before between after : K} {n word : ℕ}
       → Transcodes gs gk old now before between n → ReadsWords gs now new (word ∷ []) → PutsWords gk between after (word ∷ [])
       → Transcodes gs gk old new before after (n + 1)
-  copies_more {old} {now} {new} {before} {between} {after} {word = word} c g f = record {
-    own = c.own ++ word ∷ [];
-    many = length-append c.own (word ∷ []) ∙ ap (λ k. k + 1) c.many;
-    gives = gives_both gs old now new c.own (word ∷ []) c.gives g;
-    fills = fills_both gk before between after c.own (word ∷ []) c.fills f;
-  }
+  copies_more {old} {now} {new} {before} {between} {after} {word = word} c g f =
+      search (rules, length-append c.own (word ∷ []), gives_both gs old now new c.own (word ∷ []) c.gives g, fills_both gk before between after c.own (word ∷ []) c.fills f)
 
   -- one more word was read, and couldn't be put
   pub copies_stops : {most : ℕ} {old now new : S} {before between after : K} {n word : ℕ} {out : OutFault} → n < most
       → Transcodes gs gk old now before between n
       → ReadsWords gs now new (word ∷ []) → Halts gk between after (word ∷ []) (sink_fault_of out) → StopsAt gs gk most old new before after out
-  copies_stops {old = old} {now = now} {new = new} {between = between} {word = word} less c g h = record {
-    done = c.own;
-    word = word;
-    between = between;
-    few = omega (arith, less, c.many);
-    gives = gives_both gs old now new c.own (word ∷ []) c.gives g;
-    fills = c.fills;
-    halts = h;
-  }
+  copies_stops {old = old} {now = now} {new = new} {between = between} {word = word} less c g h = search (rules, gives_both gs old now new c.own (word ∷ []) c.gives g)
 
   -- the output failed at a word
   pub copied_stopped : {at_once most : ℕ} {old new : S} {before after : K} {out : OutFault} → 0 < at_once → StopsAt gs gk most old new before after out

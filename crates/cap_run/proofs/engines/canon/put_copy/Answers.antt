@@ -1,19 +1,12 @@
-use Rattle.std.proofs.Common.{length-take-le, refl, subst, rules}
-use Rattle.cap_vet.specs.VetNames.{depth_of, words_of, report_of}
-use Rattle.cap_run.specs.Canons.{HasNoCopy}
+use Rattle.std.proofs.Common.{length-take-le, rules}
+use Rattle.cap_vet.specs.VetNames.{depth_of, words_of}
 use Rattle.cap_run.proofs.Demanding.{under_few}
 use Rattle.cap_run.proofs.Making.{has_no_copy, stops_refused}
 use Rattle.cap_run.proofs.engines.canon.put_copy.Goals as goal
 
 pub returns-in-Err-canonical_over-clause-err : goal.returns-in-Err-canonical_over-clause-err
-returns-in-Err-canonical_over-clause-err g c = (
-  report_of c.in-Ok.vetted,
-  c.in-Ok.ensures.ok.0,
-  c.in-Ok.ensures.ok.1.strict,
-  subst (λ m. HasNoCopy (g.M.Segments.segments m) c.in-Err-canonical_over.fault) c.in-Ok.ensures.message
-      (has_no_copy _ c.args.copy.now.items c.canonical_over.new.buffer.items c.in-Err-canonical_over.fault c.in-Err-canonical_over.ensures.reports),
-  refl,
-)
+returns-in-Err-canonical_over-clause-err g c =
+    search (rules, has_no_copy _ c.args.copy.now.items c.canonical_over.new.buffer.items c.in-Err-canonical_over.fault c.in-Err-canonical_over.ensures.reports)
 
 pub returns-in-Err-clause-err : goal.returns-in-Err-clause-err
 returns-in-Err-clause-err g c =
