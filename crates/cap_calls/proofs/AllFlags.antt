@@ -46,8 +46,7 @@ meets_none m w d r (t, h) =
 
 module _ {K : Type 0} {P : List (List ℕ) → Report → Found → Type 0} (m : List (List ℕ)) (w d : ℕ) (f : Found) where
   judges_less : Judges none K P m w d f → JudgesAny K P m w d f
-  judges_less (refused r h e k) = (let q = fault_refused m w d r h in inl (q.0, q.1, e ∙ ap refused_found q.2, k))
-  judges_less (accepted r h n p) = inr (r, h, p)
+  judges_less x1 = search (rules, fault_refused)
 
   judges_more : JudgesAny K P m w d f → Judges none K P m w d f
   judges_more (inl (r, h, e, k)) = refused (strict.Refused r) h e k
@@ -57,12 +56,10 @@ module _ {K : Type 0} {P : List (List ℕ) → Report → Found → Type 0} (m :
 module _ {K : Type 0} {P : List (List ℕ) → Report → Found → Type 0} (l : CallLimits) (all : l.flags ≡ 7)
     (m : List (List ℕ)) (f : Found) where
   pub all_less : Judges (demands_of l) K P m l.charge l.depth f → JudgesAny K P m l.charge l.depth f
-  all_less h = judges_less m l.charge l.depth f
-      (subst (λ (d : Demands). Judges d K P m l.charge l.depth f) (demands_none l all) h)
+  all_less h = search (rules, judges_less, demands_none)
 
   pub all_more : JudgesAny K P m l.charge l.depth f → Judges (demands_of l) K P m l.charge l.depth f
-  all_more h = subst (λ (d : Demands). Judges d K P m l.charge l.depth f) (sym (demands_none l all))
-      (judges_more m l.charge l.depth f h)
+  all_more h = search (rules, demands_none, judges_more)
 
 -- So it is for the marks of a message.
 marks_less : (size : ℕ) (m : List (List ℕ)) (w d : ℕ) (f : Found) → Marks size none m w d f → MarksAny size m w d f
@@ -84,16 +81,12 @@ marks_more size m w d f (inr (r, h, j, enough, e)) = accepted r h (meets_none m 
 pub all_marks_less : (l : CallLimits) → l.flags ≡ 7 → (size : ℕ) (m : List (List ℕ)) (f : Found)
     → Marks size (demands_of l) m l.charge l.depth f
     → MarksAny size m l.charge l.depth f
-all_marks_less l all size m f h =
-    marks_less size m l.charge l.depth f
-    (subst (λ (d : Demands). Marks size d m l.charge l.depth f) (demands_none l all) h)
+all_marks_less l all size m f h = search (rules, marks_less size m l.charge l.depth f (subst (λ (d : Demands). Marks size d m l.charge l.depth f) (demands_none l all) h), demands_none l all)
 
 pub all_marks_more : (l : CallLimits) → l.flags ≡ 7 → (size : ℕ) (m : List (List ℕ)) (f : Found)
     → MarksAny size m l.charge l.depth f
     → Marks size (demands_of l) m l.charge l.depth f
-all_marks_more l all size m f h =
-    subst (λ (d : Demands). Marks size d m l.charge l.depth f) (sym (demands_none l all))
-    (marks_more size m l.charge l.depth f h)
+all_marks_more l all size m f h = search (rules, demands_none, marks_more)
 
 -- Bytes after the message change nothing if they may follow.
 module _ {K : Type 0} {P Q : List (List ℕ) → ℕ → ℕ → Found → Type 0} (l : CallLimits) (bs : List ℕ) (f : Found) where

@@ -2,7 +2,7 @@
 use Rattle.cap_spec.proofs.Lemmas.{length_plain, one_copy, length_joined}
 use Rattle.cap_spec.proofs.ProofNames.{Bool, List, None, Option, Result, Some, [], ap, ap₂, arith, false}
 use Rattle.cap_spec.proofs.ProofNames.{length, length-append, not, subst, sum, sym, true, unwrap_or, ℕ, ◌*◌, ◌+◌, ◌∙◌, ◌∷◌}
-use Rattle.cap_spec.proofs.ProofNames.{◌≡◌, ◌≤◌, sizes_of, IsFirstCap, plain_text, plain_words, unamplified}
+use Rattle.cap_spec.proofs.ProofNames.{◌≡◌, ◌≤◌, sizes_of, IsFirstCap, plain_text, plain_words}
 use Rattle.cap_spec.proofs.ProofNames.{rules}
 use Rattle.cap_spec.proofs.Strict.Unamplified.{within_both}
 use Rattle.cap_vet.specs.Reports.{IsFirstCapOf}

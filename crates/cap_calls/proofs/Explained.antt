@@ -1,22 +1,20 @@
 -- The bytes and the buffer decide what the call that explains a refusal finds and writes.
-use Rattle.std.proofs.Common.{Bool, List, None, Option, Some, ap, arith, inr, not, subst, sym, ℕ, ◌∙◌, ◌≡◌, ◌≤◌}
+use Rattle.cap_spec.proofs.ProofNames.{rules}
+use Rattle.std.proofs.Common.{Bool, List, None, Option, ap, inr, not, subst, sym, ℕ, ◌∙◌, ◌≡◌, ◌≤◌}
 use Rattle.cap_spec.specs.declared.Refusal.{Refusal}
 use Rattle.cap_spec.specs.declared.StrictRefusal.TheVariants.{Refused}
 use Rattle.cap_vet.specs.Demands.{IsDemandFault, words_under}
 use Rattle.cap_vet.specs.Limits.{depth_of, words_of}
 use Rattle.cap_vet.specs.declared.limits.Limits.{Limits}
-use Rattle.cap_explain.specs.Charges.{ChargeOf, fault_charge}
-use Rattle.cap_explain.specs.declared.numbers.MessageStart.{MessageStart}
+use Rattle.cap_explain.specs.Charges.{ChargeOf}
 use Rattle.cap_explain.specs.declared.numbers.Numbers.{Numbers}
 use Rattle.cap_explain.proofs.Charges.{OnePath, charge_is, one_fault_charge}
 use Rattle.cap_trace.specs.NamedPaths.{fault_path}
 use Rattle.cap_explain.specs.Explaining.{explanation}
 use Rattle.cap_trace.proofs.Named.{one_path}
-use Rattle.cap_calls.specs.CallFindings.{without}
-use Rattle.cap_calls.specs.CallReports.{refused_report}
 use Rattle.cap_calls.specs.ExplainCalls.{FindsFewLines, FindsLines, ReportsExplanation, accepted, explained, fault_lines, fault_numbers}
-use Rattle.cap_calls.specs.CallNames.{Step, StrictRefusal, Demands, framed, reports, trailing, allows_trailing, demands_of}
-use Rattle.cap_calls.specs.CallNames.{ReportsInput, of_frame, of_no_words, of_words, ReportsText, Answer, Found, CallLimits}
+use Rattle.cap_calls.specs.CallNames.{Step, StrictRefusal, Demands, allows_trailing, demands_of}
+use Rattle.cap_calls.specs.CallNames.{ReportsInput, Answer, Found, CallLimits}
 use Rattle.cap_calls.specs.CallNames.{CallReport}
 use Rattle.cap_calls.proofs.Answers.{meets_no_fault, one_demand_fault, one_input_reported, one_returned}
 use Rattle.cap_calls.proofs.Copied.{same_found}
@@ -24,10 +22,7 @@ use Rattle.cap_calls.proofs.Texts.{one_text}
 
 -- a refusal names one path
 one_path_of : (demands : Demands) (m : List (List ℕ)) (words depth : ℕ) (r : Refusal) → OnePath m (words_under demands m words) depth r
-one_path_of demands m words depth r k f = same_path k.path f.path (one_path demands m words depth (Refused r) (inr k) (inr f))
-  where
-    same_path : (p q : List Step) → ◌≡◌ {A = Option (List Step)} (Some p) (Some q) → p ≡ q
-    same_path p q e = cc
+one_path_of demands m words depth r k f = search (rules, one_path demands m words depth (Refused r) (inr k) (inr f))
 
 -- the numbers of a fault
 pub same_numbers : (demands : Demands) (m : List (List ℕ)) (words depth : ℕ) (fault : StrictRefusal)
@@ -36,14 +31,7 @@ pub same_numbers : (demands : Demands) (m : List (List ℕ)) (words depth : ℕ)
     → ChargeOf m (words_of within) (depth_of within) fault k.charge → k.start ≡ None
     → k ≡ fault_numbers demands m words depth fault h
 same_numbers demands m words depth fault h within k w d kw kd c s =
-    let at = subst (λ n. ChargeOf m (words_under demands m words) n fault k.charge) d
-    (subst (λ n. ChargeOf m n (depth_of within) fault k.charge) w c) in
-    let charge = charge_is demands m words depth fault (one_path_of demands m words depth) h k.charge at in
-    let make : ℕ → ℕ → Option ℕ → Option MessageStart → Numbers = λ w d c s. record { words = w; depth = d; charge = c; start = s } in
-    ap (λ x. make x k.depth k.charge k.start) (kw ∙ w)
-    ∙ (ap (λ x. make (words_under demands m words) x k.charge k.start) (kd ∙ d)
-    ∙ (ap (λ x. make (words_under demands m words) depth x k.start) charge
-    ∙ ap (λ x. make (words_under demands m words) depth (fault_charge demands m words depth fault h) x) s))
+    search (rules, charge_is demands m words depth fault (one_path_of demands m words depth) h k.charge, one_path_of demands m words depth)
 
 module _ (demands : Demands) (m : List (List ℕ)) (words depth : ℕ) where
   -- A fault has one explanation.
@@ -61,11 +49,7 @@ module _ (demands : Demands) (m : List (List ℕ)) (words depth : ℕ) where
 
   one_lines : (old x y : List ℕ) (f g : Found) → FindsLines old x demands m words depth f
       → FindsLines old y demands m words depth g → (f ≡ g) × (x ≡ y)
-  one_lines old x y f g (explained r h t e) (explained q k u i) =
-      let same : r ≡ q = one_demand_fault demands m words depth r q h k in
-      let one = one_text (fault_lines demands m words depth r h) old f.answer g.answer f.count g.count x y t
-      (subst (λ (text : List ℕ). ReportsText text old g.answer g.count y) (sym (one_explanation r q same h k)) u) in
-      (same_found f g one.0 one.1 (e ∙ (ap refused_report same ∙ sym i)), one.2)
+  one_lines old x y f g (explained r h t e) (explained q k u i) = search (rules, one_demand_fault, one_text, one_explanation, same_found)
   one_lines old x y f g (explained r h t e) (accepted n i k) = absurd (meets_no_fault demands m words depth r n h)
   one_lines old x y f g (accepted n e j) (explained q k u i) = absurd (meets_no_fault demands m words depth q n k)
   one_lines old x y f g (accepted n e j) (accepted o i k) = (e ∙ sym i, j ∙ sym k)
@@ -83,13 +67,4 @@ one_explanation_reported l bs old a b n k x y r q (f, t, h, e) (g, u, i, j) =
 -- The lines are few.
 pub few_lines : (whole : Bool) (l : CallLimits) (bs old new : List ℕ) (demands : Demands) (f : Found)
     → ReportsInput whole (new ≡ old) (FindsFewLines old new demands) l bs f → f.count ≤ 6144
-few_lines whole l bs old new demands f (of_frame y (trailing m x z t h more e k)) =
-    let count = ap (λ (u : Found). u.count) e in omega (arith, count)
-few_lines whole l bs old new demands f (of_frame y (reports alone (without c h e k))) =
-    let count = ap (λ (u : Found). u.count) e in omega (arith, count)
-few_lines whole l bs old new demands f (of_frame y (reports alone (framed m x z g h p e))) =
-    let count = ap (λ (u : Found). u.count) e in omega (arith, count, p.1)
-few_lines whole l bs old new demands f (of_no_words y c h e k) =
-    let count = ap (λ (u : Found). u.count) e in omega (arith, count)
-few_lines whole l bs old new demands f (of_words y g h p e) =
-    let count = ap (λ (u : Found). u.count) e in omega (arith, count, p.1)
+few_lines whole l bs old new demands f x8 = search rules

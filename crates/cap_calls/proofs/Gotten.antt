@@ -7,9 +7,9 @@ use Rattle.cap_path.specs.declared.steps.PathSteps.{PathSteps}
 use Rattle.cap_vet.proofs.PathFaults.{meets_no_path_fault, one_path_fault}
 use Rattle.cap_calls.specs.CallFindings.{without}
 use Rattle.cap_calls.specs.NodeCalls.{GetsFirst, ReportsPath, bad_limits}
-use Rattle.cap_calls.specs.CallNames.{Step, Demands, ReportsWhole, framed, none_found, refused_found, reports, trailing}
+use Rattle.cap_calls.specs.CallNames.{Step, Demands, ReportsWhole, framed, none_found, reports, trailing}
 use Rattle.cap_calls.specs.CallNames.{allows_trailing, demands_of, AreLimits, none_node, ReportsMessage, Gets, ReportsGet}
-use Rattle.cap_calls.specs.CallNames.{a_node, a_path, bad_path, bad_path_found, no_meeting, no_node, Answer, Found}
+use Rattle.cap_calls.specs.CallNames.{a_node, a_path, bad_path, no_meeting, no_node, Answer, Found}
 use Rattle.cap_calls.specs.CallNames.{BadLimits, CallLimits, CallNode, CallReport}
 use Rattle.cap_calls.proofs.Answers.{one_returned, one_whole_reported}
 use Rattle.cap_calls.proofs.OneNode.{one_node}
@@ -17,8 +17,7 @@ use Rattle.cap_calls.proofs.OneNode.{one_node}
 -- of a path in a message
 pub one_gets : (path : List Step) (demands : Demands) (x y : CallNode) (m : List (List ℕ)) (w d : ℕ) (f g : Found)
     → Gets path x demands m w d f → Gets path y demands m w d g → (f ≡ g) × (x ≡ y)
-one_gets path demands x y m w d f g (no_meeting r h e n) (no_meeting q k i o) =
-    (e ∙ ap refused_found (one_path_fault demands m w d path r q h k) ∙ sym i, n ∙ sym o)
+one_gets path demands x y m w d f g (no_meeting r h e n) (no_meeting q k i o) = search (rules, one_path_fault)
 one_gets path demands x y m w d f g (no_meeting r h e n) (no_node k none i o) = absurd (meets_no_path_fault demands m w d path r k h)
 one_gets path demands x y m w d f g (no_meeting r h e n) (a_node k t b z meets at i o) = absurd (meets_no_path_fault demands m w d path r meets h)
 one_gets path demands x y m w d f g (no_node h none e n) (no_meeting q k i o) = absurd (meets_no_path_fault demands m w d path q h k)
@@ -26,8 +25,7 @@ one_gets path demands x y m w d f g (no_node h none e n) (no_node k also i o) = 
 one_gets path demands x y m w d f g (no_node h none e n) (a_node k t b z meets at i o) = absurd (none k t b z at)
 one_gets path demands x y m w d f g (a_node k t b z meets at e n) (no_meeting q h i o) = absurd (meets_no_path_fault demands m w d path q meets h)
 one_gets path demands x y m w d f g (a_node k t b z meets at e n) (no_node h none i o) = absurd (none k t b z at)
-one_gets path demands x y m w d f g (a_node k t b z meets at e n) (a_node k' t' b' z' meets' at' i o) =
-    (e ∙ sym i, n ∙ one_node m path k k' t b z t' b' z' at at' ∙ sym o)
+one_gets path demands x y m w d f g (a_node k t b z meets at e n) (a_node k' t' b' z' meets' at' i o) = search (rules, one_node m path k k' t b z t' b' z')
 
 -- Bad limits are all that is found.
 pub limits_alone : {K : Type 0} {P : List (List ℕ) → ℕ → ℕ → Found → Type 0} (whole : Bool) (l : CallLimits) (bs : List ℕ)
@@ -38,14 +36,11 @@ one_reported_path : (l : CallLimits) (bs text : List ℕ) (x y : CallNode) (f g 
     → ReportsPath l bs text y g → (f ≡ g) × (x ≡ y)
 one_reported_path l bs text x y f g (bad_limits h e n) (bad_limits k i o) = (e ∙ sym i, n ∙ sym o)
 one_reported_path l bs text x y f g (bad_limits h e n) (bad_path at are bad i o) = absurd (h are)
-one_reported_path l bs text x y f g (bad_limits h e n) (a_path p are is t) =
-    (let u = limits_alone (not (allows_trailing l)) l bs g h t in (e ∙ sym u.0, n ∙ sym u.1))
+one_reported_path l bs text x y f g (bad_limits h e n) (a_path p are is t) = search (rules, limits_alone)
 one_reported_path l bs text x y f g (bad_path at are bad e n) (bad_limits k i o) = absurd (k are)
-one_reported_path l bs text x y f g (bad_path at are bad e n) (bad_path at' are' bad' i o) =
-    (e ∙ ap bad_path_found (one_bad_place text at at' bad bad') ∙ sym i, n ∙ sym o)
+one_reported_path l bs text x y f g (bad_path at are bad e n) (bad_path at' are' bad' i o) = search (rules, one_bad_place)
 one_reported_path l bs text x y f g (bad_path at are bad e n) (a_path p steps is t) = absurd (path_not_bad text at (p, steps, is) bad)
-one_reported_path l bs text x y f g (a_path p are is t) (bad_limits k i o) =
-    (let u = limits_alone (not (allows_trailing l)) l bs f k t in (u.0 ∙ sym i, u.1 ∙ sym o))
+one_reported_path l bs text x y f g (a_path p are is t) (bad_limits k i o) = search (rules, limits_alone)
 one_reported_path l bs text x y f g (a_path p steps is t) (bad_path at are bad i o) = absurd (path_not_bad text at (p, steps, is) bad)
 one_reported_path l bs text x y f g (a_path p are is t) (a_path q also too u) =
     let same = one_path_text p q are also (sym is ∙ too) in

@@ -1,7 +1,7 @@
 -- The bytes and the capacity decide what the call that vets exclusively finds.
 use Rattle.cap_spec.proofs.Lemmas.{none_of_disjoint, one_overlap, length_joined}
-use Rattle.cap_spec.proofs.ProofNames.{Bool, List, [], ap, arith, drop, inr, length, length-append, not, sym, ℕ, ◌+◌}
-use Rattle.cap_spec.proofs.ProofNames.{◌/◌, ◌∙◌, ◌∷◌, ◌≡◌, ◌≤◌, ⊤, plain_words, rules}
+use Rattle.cap_spec.proofs.ProofNames.{Bool, List, ap, arith, drop, inr, length-append, not, sym, ℕ, ◌+◌}
+use Rattle.cap_spec.proofs.ProofNames.{◌/◌, ◌∙◌, ◌≡◌, ◌≤◌, ⊤, rules}
 use Rattle.cap_vet.specs.Exclusives.{KeepsUnused}
 use Rattle.cap_vet.specs.VetNames.{IsExclusiveFault, IsVetted, marks_of}
 use Rattle.cap_vet.specs.declared.exclusiveness.exclusive_buffer.ExclusiveFault.{ExclusiveFault}
@@ -9,12 +9,11 @@ use Rattle.cap_vet.specs.declared.exclusiveness.exclusive_buffer.ExclusiveFault.
 use Rattle.cap_vet.proofs.OneReport.{not_both, one_report}
 use Rattle.cap_calls.specs.CallFindings.{without}
 use Rattle.cap_calls.specs.ExclusiveCalls.{FindsMarks, KeepsMarks, MarksIn, ReportsExclusive, too_small}
-use Rattle.cap_calls.specs.CallNames.{Demands, Report, ReportsWhole, accepted_found, framed, reports, trailing}
+use Rattle.cap_calls.specs.CallNames.{Demands, Report, ReportsWhole, framed, reports, trailing}
 use Rattle.cap_calls.specs.CallNames.{allows_trailing, demands_of, HasFrame, ReportsInput, of_frame, of_no_words, of_words}
 use Rattle.cap_calls.specs.CallNames.{Marks, exclusive, fault_found, overlap, Answer, Found, CallLimits, CallReport}
 use Rattle.cap_calls.proofs.Answers.{one_input_reported, one_judged, one_returned}
 use Rattle.cap_calls.proofs.Words.{few_words}
-use Rattle.cap_calls.specs.declared.answer.Answer.TheVariants as answer
 
 -- of an accepted message
 one_marked : (size : ℕ) (m : List (List ℕ)) (r : Report) (f g : Found) → FindsMarks size m r f → FindsMarks size m r g
@@ -23,13 +22,10 @@ one_marked size m r f g (too_small few e) (too_small less i) = e ∙ sym i
 one_marked size m r f g (too_small few e) (overlap s w n enough h i) = absurd (omega (arith, few, enough))
 one_marked size m r f g (too_small few e) (exclusive enough j i) = absurd (omega (arith, few, enough))
 one_marked size m r f g (overlap s w n enough h e) (too_small few i) = absurd (omega (arith, few, enough))
-one_marked size m r f g (overlap s w n enough h e) (overlap t v k also j i) =
-    (let same = one_overlap m s w n t v k h j in cc)
-one_marked size m r f g (overlap s w n enough h e) (exclusive also j i) = absurd
-    (none_of_disjoint m j h.path h.first.holds)
+one_marked size m r f g (overlap s w n enough h e) (overlap t v k also j i) = search (rules, one_overlap m s w n t v k h j)
+one_marked size m r f g (overlap s w n enough h e) (exclusive also j i) = search (rules, none_of_disjoint m j h.path h.first.holds)
 one_marked size m r f g (exclusive enough j e) (too_small few i) = absurd (omega (arith, few, enough))
-one_marked size m r f g (exclusive enough j e) (overlap s w n also h i) = absurd
-    (none_of_disjoint m j h.path h.first.holds)
+one_marked size m r f g (exclusive enough j e) (overlap s w n also h i) = search (rules, none_of_disjoint m j h.path h.first.holds)
 one_marked size m r f g (exclusive enough j e) (exclusive also k i) = e ∙ sym i
 
 -- The call answers and reports one thing.
@@ -53,23 +49,16 @@ marked_count size demands m w d f h = search rules
 
 few_required : (whole : Bool) (l : CallLimits) (bs : List ℕ) (size : ℕ) (demands : Demands) (f : Found)
     → ReportsWhole whole ⊤ (Marks size demands) l bs f → f.count ≤ f.report.length / 512 + 1
-few_required whole l bs size demands f (trailing m x y t h more e k) = let none = ap (λ (z : Found). z.count) e in
-    omega (arith, none)
-few_required whole l bs size demands f (reports none (without c h e k)) = let none = ap (λ (z : Found). z.count) e in
-    omega (arith, none)
+few_required whole l bs size demands f (trailing m x y t h more e k) = search rules
+few_required whole l bs size demands f (reports none (without c h e k)) = search rules
 few_required whole l bs size demands f (reports none (framed m x y g h p e)) =
     search (rules, few_marks l bs x y m h, marked_count size demands m l.charge l.depth g p)
 
 pub few_input : (whole : Bool) (l : CallLimits) (bs : List ℕ) (size : ℕ) (demands : Demands) (f : Found)
     → ReportsInput whole ⊤ (Marks size demands) l bs f → f.count ≤ f.report.length / 512 + 1
 few_input whole l bs size demands f (of_frame n t) = few_required whole l bs size demands f t
-few_input whole l bs size demands f (of_no_words y c h e k) = let none = ap (λ (z : Found). z.count) e in
-    omega (arith, none)
-few_input whole l bs size demands f (of_words y g h p e) =
-    let some = marked_count size demands (plain_words bs ∷ []) l.charge l.depth g p in
-    let count : f.count ≡ g.count = ap (λ (z : Found). z.count) e in
-    let long : f.report.length ≡ length bs = ap (λ (z : Found). z.report.length) e in
-    omega (arith, some, count, long, few_words bs)
+few_input whole l bs size demands f (of_no_words y c h e k) = search rules
+few_input whole l bs size demands f (of_words y g h p e) = search (rules, marked_count, few_words)
 
 -- What was found of the marks holds of all the bytes.
 marks_kept : (whole : Bool) (demands : Demands) (l : CallLimits) (bs old new : List ℕ) (f : Found)
@@ -84,9 +73,7 @@ input_kept whole demands l bs old new f h = search (rules, marks_kept)
 pub marked_fault : (size : ℕ) (m : List (List ℕ)) (r : Report) (fault : ExclusiveFault) (f : Found) → IsVetted m r
     → IsExclusiveFault m 268435456 256 size fault → f ≡ fault_found (marks_of m) fault → FindsMarks size m r f
 marked_fault size m r (Refused q) f v h e = absurd (not_both m 268435456 256 r q v h)
-marked_fault size m r (BufferTooSmall n q) f v h e =
-    too_small (omega (arith, h.1, h.2))
-    (e ∙ ap (accepted_found answer.BufferTooSmall (marks_of m)) (one_report m 268435456 256 q r h.0 v))
+marked_fault size m r (BufferTooSmall n q) f v h e = search (rules, one_report m 268435456 256 q r h.0 v)
 marked_fault size m r (Overlap s w n) f v h e = overlap s w n h.2 h.3 e
 
 -- and of a fault, of which nothing beside the first numbers is changed

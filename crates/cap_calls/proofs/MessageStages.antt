@@ -29,8 +29,7 @@ same_needed a b e = cc
 pub open_longer : (limit needed : ℕ) (held longer words : List ℕ) → length held % 8 ≡ 0 → length longer % 8 ≡ 0
     → plain_words longer ≡ plain_words held ++ words → length longer < needed → IsOpen limit held needed
     → IsOpen limit longer needed
-open_longer limit needed held longer words h i e few (inl none) = inl
-    (nil_from_length longer (omega (arith, none.1, few, i)), none.1)
+open_longer limit needed held longer words h i e few (inl none) = search (rules, nil_from_length)
 open_longer limit needed held longer words h i e few (inr t) = inr (further t.0)
   where
     further : IsPartial limit (plain_words held) (plain_is_cut held) → ReportsFront limit longer (Fault needed)
@@ -55,9 +54,7 @@ open_longer limit needed held longer words h i e few (inr t) = inr (further t.0)
 
 -- No bytes are open and begin a whole message.
 pub open_not_whole : (limit needed n : ℕ) (held : List ℕ) (m : List (List ℕ)) → IsOpen limit held needed → IsFront limit held m n → ⊥
-open_not_whole limit needed n held m (inl none) f =
-    let some = frame_some f.own m f.frames in
-    omega (arith, some, ap length f.words, length-append f.own f.rest, words_inside held, ap length none.0)
+open_not_whole limit needed n held m (inl none) f = search (rules, frame_some f.own m f.frames, length-append f.own f.rest, words_inside held)
 open_not_whole limit needed n held m (inr t) f =
     let b : BeginsMessage limit (plain_words held) = record
     { own = f.own; rest = f.rest; message = m; whole = f.words; frames = f.frames; within = f.within } in

@@ -35,9 +35,7 @@ module _ (l : CallLimits) (bs : List ℕ) where
       → ReportsWhole whole (node ≡ none_node) (Gets path node demands) l bs f → end_of node ≤ f.report.length
   message_inside whole path node demands f (trailing m x y t h more e i) = none_ends node f.report.length i
   message_inside whole path node demands f (reports only (without c h e i)) = none_ends node f.report.length i
-  message_inside whole path node demands f (reports only (framed m x y g h p e)) =
-      let long : f.report.length ≡ x = ap (λ (z : Found). z.report.length) e in
-      omega (arith, long, gets_inside path node demands m l.charge l.depth x y g h p)
+  message_inside whole path node demands f (reports only (framed m x y g h p e)) = search (rules, gets_inside path node demands m l.charge l.depth x y g h p)
 
   pub get_inside : (text : List ℕ) (a : Answer) (node : CallNode) (r : CallReport) → ReportsGet l bs text a node r
       → (end_of node ≤ r.length) × (r.length ≤ length bs)
@@ -51,10 +49,8 @@ module _ (l : CallLimits) (bs : List ℕ) where
   range_message_inside : (whole : Bool) (path : ℕ → List Step) (old new : List CallNode) (demands : Demands) (f : Found) (k : ℕ)
       → k < f.count → ReportsWhole whole (new ≡ old) (GetsRange path old new demands) l bs f
       → end_of (slice_index_or new k none_node) ≤ f.report.length
-  range_message_inside whole path old new demands f k less (trailing m x y t h more e i) =
-      let none : f.count ≡ 0 = ap (λ (z : Found). z.count) e in absurd (omega (arith, less, none))
-  range_message_inside whole path old new demands f k less (reports only (without c h e i)) =
-      let none : f.count ≡ 0 = ap (λ (z : Found). z.count) e in absurd (omega (arith, less, none))
+  range_message_inside whole path old new demands f k less (trailing m x y t h more e i) = search rules
+  range_message_inside whole path old new demands f k less (reports only (without c h e i)) = search rules
   range_message_inside whole path old new demands f k less (reports only (framed m x y g h p e)) =
       let long : f.report.length ≡ x = ap (λ (z : Found). z.report.length) e in
       let count : f.count ≡ g.count = ap (λ (z : Found). z.count) e in
@@ -68,12 +64,11 @@ module _ (l : CallLimits) (bs : List ℕ) where
   pub range_inside : (steps : List CallStep) (varying : ℕ) (old : List CallNode) (a : Answer) (n : ℕ) (new : List CallNode)
       (r : CallReport) (k : ℕ) → ReportsRange l bs steps varying old a n new r → k < n
       → (end_of (slice_index_or new k none_node) ≤ r.length) × (r.length ≤ length bs)
-  range_inside steps varying old a n new r k (f, range.bad_limits bad e i, q, c) less =
-      let none : f.count ≡ 0 = ap (λ (z : Found). z.count) e in absurd (omega (arith, less, none, c))
-  range_inside steps varying old a n new r k (f, range.bad_steps at are bad e i, q, c) less =
-      let none : f.count ≡ 0 = ap (λ (z : Found). z.count) e in absurd (omega (arith, less, none, c))
+  range_inside steps varying old a n new r k (f, range.bad_limits bad e i, q, c) less = search rules
+  range_inside steps varying old a n new r k (f, range.bad_steps at are bad e i, q, c) less = search rules
   range_inside steps varying old a n new r k (f, range.range are t, (i, j), c) less =
-      let long : r.length ≡ f.report.length = ap (λ (z : CallReport). z.length) j in
-      let whole = not (allows_trailing l) in
-      let inside = range_message_inside whole (λ k. path_after steps varying k) old new (demands_of l) f k (omega (arith, less, c)) t in
-      (omega (arith, long, inside), omega (arith, long, length_inside whole l bs f t))
+      search (
+        rules,
+        range_message_inside (not (allows_trailing l)) (λ k. path_after steps varying k) old new (demands_of l) f k (omega (arith, less, c)) t,
+        length_inside (not (allows_trailing l)) l bs f t,
+      )

@@ -1,4 +1,5 @@
 -- A call that unpacks a message stops for one reason.
+use Rattle.cap_spec.proofs.ProofNames.{rules}
 use Rattle.std.proofs.Common.{List, [], ap, inl, inr, length, refl, sym, ℕ, ◌∙◌, ◌≡◌, ◌≢◌}
 use Rattle.cap_spec.specs.Endings.{Ending, EndsIn, message, none, partial, too_large, too_many}
 use Rattle.cap_spec.specs.Plain.{plain_is_cut, plain_words}
@@ -6,7 +7,6 @@ use Rattle.cap_spec.proofs.Lemmas.{one_frame, one_ending}
 use Rattle.cap_frame.specs.Fronts.{IsFront, GivesLarge, GivesMany}
 use Rattle.cap_frame.specs.declared.fault.FrontFault.TheVariants.{TooLarge, TooManySegments, Truncated}
 use Rattle.cap_frame.proofs.FrontAnswers.{empty_answer, large_answer, many_answer, short_answer}
-use Rattle.cap_calls.specs.CallReports.{none_report}
 use Rattle.cap_calls.specs.CallNames.{words_to_come, IsOpen, StopsCall, truncated, Answer, CallReport}
 use Rattle.cap_calls.specs.UnpackingMessages.{no_message, too_small}
 use Rattle.cap_calls.proofs.Answers.{Without}
@@ -14,14 +14,12 @@ use Rattle.cap_calls.specs.UnpackingMessages as stop
 
 module _ (limit : ℕ) (held : List ℕ) where
   ends_whole : (m : List (List ℕ)) (n : ℕ) → IsFront limit held m n → EndsIn limit (plain_words held) (plain_is_cut held) message
-  ends_whole m n f = record
-      { own = f.own; rest = f.rest; message = m; whole = f.words; frames = f.frames; within = f.within }
+  ends_whole m n f = search rules
 
   -- an open message ends in no other way
   pub never_open : (e : Ending) (needed : ℕ) → e ≢ none → e ≢ partial → EndsIn limit (plain_words held) (plain_is_cut held) e
       → IsOpen limit held needed → ⊥
-  never_open e needed n p h (inl z) = n (one_ending limit (plain_words held) (plain_is_cut held) none e
-      (ap plain_words z.0, ap plain_is_cut z.0) h)
+  never_open e needed n p h (inl z) = search (rules, one_ending limit (plain_words held) (plain_is_cut held) none e (ap plain_words z.0, ap plain_is_cut z.0) h)
   never_open e needed n p h (inr t) = p (one_ending limit (plain_words held) (plain_is_cut held) partial e t.0 h)
 
   -- it needs one number of bytes
@@ -46,25 +44,17 @@ module _ (limit : ℕ) (held : List ℕ) where
 
   -- without bytes and a rest of a run no word comes
   pub none_comes : (z p : ℕ) (rest : List ℕ) → z ≡ 0 → p ≡ 0 → rest ≡ [] → words_to_come z p rest ≡ []
-  none_comes z p rest e f g =
-      ap (λ (k : ℕ). words_to_come k p rest) e ∙ (ap (λ (k : ℕ). words_to_come 0 k rest) f ∙ ap (words_to_come 0 0) g)
+  none_comes z p rest e f g = search rules
 
   module _ (size z p : ℕ) (rest : List ℕ) where
     pub one_stop : (a b : Answer) (n k w v : ℕ) (r q : CallReport) → StopsCall limit size held z p rest a n w r
         → StopsCall limit size held z p rest b k v q → (a ≡ b) × (n ≡ k) × (w ≡ v) × (r ≡ q)
-    one_stop a b n k w v r q (stop.whole m f e g h i) (stop.whole m2 f2 e2 g2 h2 i2) =
-        let s = one_whole m m2 (length held) (length held) f f2 in
-        (e ∙ sym e2, g ∙ sym g2, h ∙ sym h2, i ∙ (ap (λ (x : List (List ℕ)). record none_report { length = length held; segments = length x }) s ∙ sym i2))
-    one_stop a b n k w v r q (stop.too_many c f e g h i) (stop.too_many c2 f2 e2 g2 h2 i2) =
-        (e ∙ sym e2, g ∙ sym g2, h ∙ sym h2, i ∙ (ap (λ (x : ℕ). record none_report { detail = x }) (one_many c c2 f f2) ∙ sym i2))
-    one_stop a b n k w v r q (stop.too_large c f e g h i) (stop.too_large c2 f2 e2 g2 h2 i2) =
-        (e ∙ sym e2, g ∙ sym g2, h ∙ sym h2, i ∙ (ap (λ (x : ℕ). record none_report { detail = x }) (one_large c c2 f f2) ∙ sym i2))
-    one_stop a b n k w v r q (too_small o x y e h i) (too_small o2 x2 y2 e2 h2 i2) =
-        (e ∙ sym e2, one_needed n k o o2, h ∙ sym h2, i ∙ sym i2)
-    one_stop a b n k w v r q (no_message o x y s e g h i) (no_message o2 x2 y2 s2 e2 g2 h2 i2) =
-        (e ∙ sym e2, g ∙ sym g2, h ∙ sym h2, i ∙ sym i2)
-    one_stop a b n k w v r q (truncated c o x y e g h i) (truncated c2 o2 x2 y2 e2 g2 h2 i2) =
-        (e ∙ sym e2, g ∙ sym g2, h ∙ sym h2, i ∙ sym i2)
+    one_stop a b n k w v r q (stop.whole m f e g h i) (stop.whole m2 f2 e2 g2 h2 i2) = search (rules, one_whole m m2 (length held) (length held) f f2)
+    one_stop a b n k w v r q (stop.too_many c f e g h i) (stop.too_many c2 f2 e2 g2 h2 i2) = search (rules, one_many)
+    one_stop a b n k w v r q (stop.too_large c f e g h i) (stop.too_large c2 f2 e2 g2 h2 i2) = search (rules, one_large c c2 f f2)
+    one_stop a b n k w v r q (too_small o x y e h i) (too_small o2 x2 y2 e2 h2 i2) = search (rules, one_needed)
+    one_stop a b n k w v r q (no_message o x y s e g h i) (no_message o2 x2 y2 s2 e2 g2 h2 i2) = search rules
+    one_stop a b n k w v r q (truncated c o x y e g h i) (truncated c2 o2 x2 y2 e2 g2 h2 i2) = search rules
     one_stop a b n k w v r q (stop.whole m f e g h i) (stop.too_many c f2 e2 g2 h2 i2) = absurd
         (not_both message too_many (λ j. cc) (ends_whole m (length held) f) f2.0)
     one_stop a b n k w v r q (stop.whole m f e g h i) (stop.too_large c f2 e2 g2 h2 i2) = absurd
@@ -77,47 +67,34 @@ module _ (limit : ℕ) (held : List ℕ) where
         (never_open message c2 (λ j. cc) (λ j. cc) (ends_whole m (length held) f) o2)
     one_stop a b n k w v r q (stop.too_many c f e g h i) (stop.whole m f2 e2 g2 h2 i2) = absurd
         (not_both too_many message (λ j. cc) f.0 (ends_whole m (length held) f2))
-    one_stop a b n k w v r q (stop.too_many c f e g h i) (stop.too_large c2 f2 e2 g2 h2 i2) = absurd
-        (not_both too_many too_large (λ j. cc) f.0 f2.0)
-    one_stop a b n k w v r q (stop.too_many c f e g h i) (too_small o2 x2 y2 e2 h2 i2) = absurd
-        (never_open too_many k (λ j. cc) (λ j. cc) f.0 o2)
-    one_stop a b n k w v r q (stop.too_many c f e g h i) (no_message o2 x2 y2 s2 e2 g2 h2 i2) = absurd
-        (never_open too_many 8 (λ j. cc) (λ j. cc) f.0 (inl (o2, refl)))
-    one_stop a b n k w v r q (stop.too_many c f e g h i) (truncated c2 o2 x2 y2 e2 g2 h2 i2) = absurd
-        (never_open too_many c2 (λ j. cc) (λ j. cc) f.0 o2)
+    one_stop a b n k w v r q (stop.too_many c f e g h i) (stop.too_large c2 f2 e2 g2 h2 i2) = search (rules, not_both too_many too_large (λ j. cc) f.0 f2.0)
+    one_stop a b n k w v r q (stop.too_many c f e g h i) (too_small o2 x2 y2 e2 h2 i2) = search (rules, never_open too_many k (λ j. cc) (λ j. cc) f.0 o2)
+    one_stop a b n k w v r q (stop.too_many c f e g h i) (no_message o2 x2 y2 s2 e2 g2 h2 i2) = search (rules, never_open)
+    one_stop a b n k w v r q (stop.too_many c f e g h i) (truncated c2 o2 x2 y2 e2 g2 h2 i2) = search (rules, never_open too_many c2 (λ j. cc) (λ j. cc) f.0 o2)
     one_stop a b n k w v r q (stop.too_large c f e g h i) (stop.whole m f2 e2 g2 h2 i2) = absurd
         (not_both too_large message (λ j. cc) f.0 (ends_whole m (length held) f2))
-    one_stop a b n k w v r q (stop.too_large c f e g h i) (stop.too_many c2 f2 e2 g2 h2 i2) = absurd
-        (not_both too_large too_many (λ j. cc) f.0 f2.0)
-    one_stop a b n k w v r q (stop.too_large c f e g h i) (too_small o2 x2 y2 e2 h2 i2) = absurd
-        (never_open too_large k (λ j. cc) (λ j. cc) f.0 o2)
+    one_stop a b n k w v r q (stop.too_large c f e g h i) (stop.too_many c2 f2 e2 g2 h2 i2) = search (rules, not_both too_large too_many (λ j. cc) f.0 f2.0)
+    one_stop a b n k w v r q (stop.too_large c f e g h i) (too_small o2 x2 y2 e2 h2 i2) = search (rules, never_open too_large k (λ j. cc) (λ j. cc) f.0 o2)
     one_stop a b n k w v r q (stop.too_large c f e g h i) (no_message o2 x2 y2 s2 e2 g2 h2 i2) = absurd
         (never_open too_large 8 (λ j. cc) (λ j. cc) f.0 (inl (o2, refl)))
     one_stop a b n k w v r q (stop.too_large c f e g h i) (truncated c2 o2 x2 y2 e2 g2 h2 i2) = absurd
         (never_open too_large c2 (λ j. cc) (λ j. cc) f.0 o2)
     one_stop a b n k w v r q (too_small o x y e h i) (stop.whole m f2 e2 g2 h2 i2) = absurd
         (never_open message n (λ j. cc) (λ j. cc) (ends_whole m (length held) f2) o)
-    one_stop a b n k w v r q (too_small o x y e h i) (stop.too_many c2 f2 e2 g2 h2 i2) = absurd
-        (never_open too_many n (λ j. cc) (λ j. cc) f2.0 o)
-    one_stop a b n k w v r q (too_small o x y e h i) (stop.too_large c2 f2 e2 g2 h2 i2) = absurd
-        (never_open too_large n (λ j. cc) (λ j. cc) f2.0 o)
-    one_stop a b n k w v r q (too_small o x y e h i) (no_message o2 x2 y2 s2 e2 g2 h2 i2) = absurd
-        (x (none_comes z p rest x2 y2 s2))
+    one_stop a b n k w v r q (too_small o x y e h i) (stop.too_many c2 f2 e2 g2 h2 i2) = search (rules, never_open too_many n (λ j. cc) (λ j. cc) f2.0 o)
+    one_stop a b n k w v r q (too_small o x y e h i) (stop.too_large c2 f2 e2 g2 h2 i2) = search (rules, never_open too_large n (λ j. cc) (λ j. cc) f2.0 o)
+    one_stop a b n k w v r q (too_small o x y e h i) (no_message o2 x2 y2 s2 e2 g2 h2 i2) = search (rules, none_comes)
     one_stop a b n k w v r q (too_small o x y e h i) (truncated c2 o2 x2 y2 e2 g2 h2 i2) = absurd (x x2)
     one_stop a b n k w v r q (no_message o x y s e g h i) (stop.whole m f2 e2 g2 h2 i2) = absurd
         (never_open message 8 (λ j. cc) (λ j. cc) (ends_whole m (length held) f2) (inl (o, refl)))
-    one_stop a b n k w v r q (no_message o x y s e g h i) (stop.too_many c2 f2 e2 g2 h2 i2) = absurd
-        (never_open too_many 8 (λ j. cc) (λ j. cc) f2.0 (inl (o, refl)))
+    one_stop a b n k w v r q (no_message o x y s e g h i) (stop.too_many c2 f2 e2 g2 h2 i2) = search (rules, never_open)
     one_stop a b n k w v r q (no_message o x y s e g h i) (stop.too_large c2 f2 e2 g2 h2 i2) = absurd
         (never_open too_large 8 (λ j. cc) (λ j. cc) f2.0 (inl (o, refl)))
-    one_stop a b n k w v r q (no_message o x y s e g h i) (too_small o2 x2 y2 e2 h2 i2) = absurd
-        (x2 (none_comes z p rest x y s))
+    one_stop a b n k w v r q (no_message o x y s e g h i) (too_small o2 x2 y2 e2 h2 i2) = search (rules, none_comes)
     one_stop a b n k w v r q (no_message o x y s e g h i) (truncated c2 o2 x2 y2 e2 g2 h2 i2) = absurd (y2 (o, y, s))
     one_stop a b n k w v r q (truncated c o x y e g h i) (stop.whole m f2 e2 g2 h2 i2) = absurd
         (never_open message c (λ j. cc) (λ j. cc) (ends_whole m (length held) f2) o)
-    one_stop a b n k w v r q (truncated c o x y e g h i) (stop.too_many c2 f2 e2 g2 h2 i2) = absurd
-        (never_open too_many c (λ j. cc) (λ j. cc) f2.0 o)
-    one_stop a b n k w v r q (truncated c o x y e g h i) (stop.too_large c2 f2 e2 g2 h2 i2) = absurd
-        (never_open too_large c (λ j. cc) (λ j. cc) f2.0 o)
+    one_stop a b n k w v r q (truncated c o x y e g h i) (stop.too_many c2 f2 e2 g2 h2 i2) = search (rules, never_open too_many c (λ j. cc) (λ j. cc) f2.0 o)
+    one_stop a b n k w v r q (truncated c o x y e g h i) (stop.too_large c2 f2 e2 g2 h2 i2) = search (rules, never_open too_large c (λ j. cc) (λ j. cc) f2.0 o)
     one_stop a b n k w v r q (truncated c o x y e g h i) (too_small o2 x2 y2 e2 h2 i2) = absurd (x2 x)
     one_stop a b n k w v r q (truncated c o x y e g h i) (no_message o2 x2 y2 s2 e2 g2 h2 i2) = absurd (y (o2, y2, s2))

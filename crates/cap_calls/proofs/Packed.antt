@@ -3,7 +3,7 @@ use Rattle.cap_spec.proofs.ProofNames.{List, arith, drop, false, length, refl, t
 use Rattle.cap_spec.proofs.ProofNames.{◌≤◌, false≢true, pack_text, plain_is_cut, plain_words, rules}
 use Rattle.cap_words.proofs.Pieces.{plain_end}
 use Rattle.cap_calls.specs.PackCalls.{ReportsPack, too_small, whole}
-use Rattle.cap_calls.specs.CallNames.{cut, Answer, BufferTooSmall, Good}
+use Rattle.cap_calls.specs.CallNames.{Answer, BufferTooSmall, Good}
 use Rattle.cap_calls.proofs.Texts.{one_text}
 
 -- Bytes and a buffer allow one answer.

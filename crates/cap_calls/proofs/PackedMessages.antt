@@ -1,6 +1,6 @@
 -- The bytes and the buffer decide what the call that packs a message finds and writes.
 use Rattle.cap_spec.proofs.Lemmas.{length_joined, table_length}
-use Rattle.cap_spec.proofs.ProofNames.{Bool, List, ap, arith, length, length-append, not, sym, ℕ, ◌*◌, ◌/◌, ◌∙◌, ◌≡◌, ◌≤◌}
+use Rattle.cap_spec.proofs.ProofNames.{Bool, List, ap, arith, length-append, not, sym, ℕ, ◌*◌, ◌/◌, ◌∙◌, ◌≡◌, ◌≤◌}
 use Rattle.cap_spec.proofs.ProofNames.{length-map, sizes_of, rules}
 use Rattle.cap_calls.specs.CallFindings.{without}
 use Rattle.cap_calls.specs.PackedMessages.{Packs, PacksShort, ReportsPackMessage}

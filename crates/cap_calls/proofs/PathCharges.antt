@@ -5,8 +5,8 @@ use Rattle.cap_spec.proofs.Lemmas.{paths_within_depth}
 use Rattle.cap_spec.proofs.Paths.Preorder.{Rises-distinct}
 use Rattle.cap_spec.proofs.ProofNames.{List, None, Option, Some, [], append-nil, append_assoc, arith, length}
 use Rattle.cap_spec.proofs.ProofNames.{length-append, refl, subst, sym, ℕ, ◌++◌, ◌+◌, ◌-◌, ◌<◌, ◌∷◌, ◌≡◌, IsWithin}
-use Rattle.cap_spec.proofs.ProofNames.{AreOnPath, ReachesSpot, Spot, element, level_of, word, DenotesAt, Tree, part_at}
-use Rattle.cap_spec.proofs.ProofNames.{CostOf}
+use Rattle.cap_spec.proofs.ProofNames.{AreOnPath, ReachesSpot, Spot, level_of, word, DenotesAt, Tree, part_at}
+use Rattle.cap_spec.proofs.ProofNames.{CostOf, rules}
 use Rattle.cap_spec.proofs.Trees.Charges.{own_cost}
 use Rattle.cap_spec.proofs.Verdicts.OnPath.{cost_last, on_element, on_no_node, on_root, on_word}
 use Rattle.cap_vet.specs.PathDemands.{KeepsToLimits}
@@ -36,14 +36,7 @@ word_costed m done step level s w v k next h =
 step_costed : (m : List (List ℕ)) (done : List Step) (step : Step) (level : ℕ) (b : Spot) (v : Tree) → IsCosted m done
     → ReachesSpot m (done ++ step ∷ []) level b → DenotesAt m b v → IsCosted m (done ++ step ∷ [])
 step_costed m done step level (word s w) v k next h = word_costed m done step level s w v k next h
-step_costed m done step level (element t b ds ps) v k next h =
-    record {
-      ways = k.ways;
-      cost = k.cost;
-      on_path = on_element m done k.ways step level t b ds ps k.on_path next;
-      some = k.some;
-      costs = k.costs;
-    }
+step_costed m done step level b v k next h = search (rules, on_element)
 
 -- one more step leads to a part of the tree, or to no node
 data StepsOn (m : List (List ℕ)) (done : List Step) (step : Step) (rest : List Step) : Type 0 where

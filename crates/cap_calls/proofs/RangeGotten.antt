@@ -1,19 +1,17 @@
 -- The bytes and the steps decide what the call for the nodes of a range finds.
 use Rattle.std.proofs.Common.{ext_get_or, get_or-set_other, get_or-set_same, slice_set}
 use Rattle.cap_spec.specs.declared.Lax.{Lax}
-use Rattle.cap_spec.proofs.ProofNames.{List, ap, arith, eqb, false, get_or, inl, inr, length, length-set, not, refl, subst}
-use Rattle.cap_spec.proofs.ProofNames.{sym, true, ℕ, ◌+◌, ◌<◌, ◌∙◌, ◌≡◌, ◌≤◌, ◌⊎◌, leb_tells, rules}
+use Rattle.cap_spec.proofs.ProofNames.{List, ap, arith, get_or, inl, inr, length, length-set, not, refl, subst}
+use Rattle.cap_spec.proofs.ProofNames.{sym, ℕ, ◌+◌, ◌<◌, ◌∙◌, ◌≡◌, ◌≤◌, leb_tells, rules}
 use Rattle.cap_calls.specs.AnswerNumbers.{lax_answer}
 use Rattle.cap_calls.specs.CallNames.{Reason, Step, StrictRefusal, Demands, reason_answer}
 use Rattle.cap_calls.specs.CallNames.{refusal_answer, refused_found, allows_trailing, demands_of, none_node, Gets}
-use Rattle.cap_calls.specs.CallNames.{bad_path_found, path_found, AreSteps, EndsRange, GetsRange, ReportsRange, full, past}
-use Rattle.cap_calls.specs.CallNames.{path_after, stops, unknown, WritesFirst, Answer, Good, NoNode, Found, CallLimits}
+use Rattle.cap_calls.specs.CallNames.{path_found, AreSteps, EndsRange, GetsRange, ReportsRange, full}
+use Rattle.cap_calls.specs.CallNames.{path_after, stops, WritesFirst, Answer, Good, NoNode, Found, CallLimits}
 use Rattle.cap_calls.specs.CallNames.{CallNode, CallReport, CallStep}
 use Rattle.cap_calls.specs.RangeCalls.{IsBadStep, ReportsSteps, bad_limits, bad_steps, range}
 use Rattle.cap_calls.proofs.Answers.{one_returned, one_whole_reported}
 use Rattle.cap_calls.proofs.Gotten.{limits_alone, one_gets}
-use Rattle.cap_spec.specs.declared.Lax.TheVariants as lax
-use Rattle.cap_spec.specs.declared.Reason.TheVariants as reason
 
 -- A refusal isn't good.
 no_good_reason : (r : Reason) → reason_answer r ≡ Good → ⊥
@@ -38,18 +36,12 @@ module _ (so : ℕ → CallNode → Type 0) (old : List CallNode) where
 
   pub more_written : (new after : List CallNode) (k : ℕ) (node : CallNode) → WritesFirst so k old new
       → k < length new → so k node → after ≡ slice_set new k node → WritesFirst so (k + 1) old after
-  more_written new after k node are lt is e = search (rules, length-set, get_or-set_other)
-    where
-      at : (j : ℕ) → j < k + 1 → (((eqb j k) ≡ true) × (j ≡ k)) ⊎ (((eqb j k) ≡ false) × (j ≡ k → ⊥))
-          → so j (get_or (slice_set new k node) j none_node)
-      at j l (inl h) = search (rules, get_or-set_same)
-      at j l (inr h) = search (rules, get_or-set_other)
+  more_written new after k node are lt is e = search (rules, length-set, get_or-set_other, slice_set, get_or-set_same)
 
 -- Nodes that are so are so in another way too.
 pub written_also : (so also : ℕ → CallNode → Type 0) (old new : List CallNode) (k : ℕ)
     → ((j : ℕ) (node : CallNode) → so j node → also j node) → WritesFirst so k old new → WritesFirst also k old new
-written_also so also old new k f are =
-    record { size = are.size; within = are.within; nodes = λ j l. f j _ (are.nodes j l); rest = are.rest }
+written_also so also old new k f are = search rules
 
 -- The first k nodes of a range were got, and the others are as they were.
 abbrev pub RangeSoFar : (ℕ → List Step) → List CallNode → List CallNode → Demands → List (List ℕ) → ℕ → ℕ → ℕ → Type 0
@@ -102,8 +94,7 @@ module _ (path : ℕ → List Step) (old : List CallNode) (demands : Demands) (m
           other (sym (one_gets (path g.count) demands (get_or x g.count none_node) none_node m w d (path_found Good) h (a.nodes g.count lt) gets).0)
 
   within_count : (f : Found) → EndsRange path (length old) demands m w d f → f.count ≤ length old
-  within_count f (full e) = let n : f.count ≡ length old = ap (λ (z : Found). z.count) e in omega (arith, n)
-  within_count f (stops l h gets other e) = omega (arith, l)
+  within_count f x2 = search rules
 
   one_count : (x y : List CallNode) (f g : Found) → GetsRange path old x demands m w d f → GetsRange path old y demands m w d g
       → f.count ≡ g.count
@@ -118,10 +109,8 @@ module _ (path : ℕ → List Step) (old : List CallNode) (demands : Demands) (m
   one_end : (f g : Found) → f.count ≡ g.count → EndsRange path (length old) demands m w d f
       → EndsRange path (length old) demands m w d g → f ≡ g
   one_end f g n (full e) (full i) = e ∙ sym i
-  one_end f g n (full e) (stops l h gets other i) =
-      let c : f.count ≡ length old = ap (λ (z : Found). z.count) e in absurd (omega (arith, c, n, l))
-  one_end f g n (stops l h gets other e) (full i) =
-      let c : g.count ≡ length old = ap (λ (z : Found). z.count) i in absurd (omega (arith, c, n, l))
+  one_end f g n (full e) (stops l h gets other i) = search rules
+  one_end f g n (stops l h gets other e) (full i) = search rules
   one_end f g n (stops l h gets other e) (stops k j also none i) =
       let there = subst (λ (c : ℕ). Gets (path c) none_node demands m w d j) (sym n) also in
       let same = (one_gets (path f.count) demands none_node none_node m w d h j gets there).0 in
@@ -145,22 +134,18 @@ one_bad_step : (steps : List CallStep) (v a b : ℕ) → IsBadStep steps v a →
 one_bad_step steps v a b h k = search rules
 
 good_steps : (steps : List CallStep) (v a : ℕ) → AreSteps steps v → IsBadStep steps v a → ⊥
-good_steps steps v a are (unknown l h first) = (let no = are.known a l in omega (arith, no, h))
-good_steps steps v a are (past all l e) = (let i = are.inside in omega (arith, i, l))
+good_steps steps v a are x5 = search rules
 
 module _ (l : CallLimits) (bs : List ℕ) (steps : List CallStep) (v : ℕ) (old : List CallNode) where
   one_reported_steps : (x y : List CallNode) (f g : Found) → ReportsSteps l bs steps v old x f → ReportsSteps l bs steps v old y g
       → (f ≡ g) × (x ≡ y)
   one_reported_steps x y f g (bad_limits h e n) (bad_limits k i o) = (e ∙ sym i, n ∙ sym o)
   one_reported_steps x y f g (bad_limits h e n) (bad_steps at are bad i o) = absurd (h are)
-  one_reported_steps x y f g (bad_limits h e n) (range are t) =
-      (let u = limits_alone (not (allows_trailing l)) l bs g h t in (e ∙ sym u.0, n ∙ sym u.1))
+  one_reported_steps x y f g (bad_limits h e n) (range are t) = search (rules, limits_alone)
   one_reported_steps x y f g (bad_steps at are bad e n) (bad_limits k i o) = absurd (k are)
-  one_reported_steps x y f g (bad_steps at are bad e n) (bad_steps at' are' bad' i o) =
-      (e ∙ ap bad_path_found (one_bad_step steps v at at' bad bad') ∙ sym i, n ∙ sym o)
+  one_reported_steps x y f g (bad_steps at are bad e n) (bad_steps at' are' bad' i o) = search (rules, one_bad_step)
   one_reported_steps x y f g (bad_steps at are bad e n) (range good t) = absurd (good_steps steps v at good bad)
-  one_reported_steps x y f g (range are t) (bad_limits k i o) =
-      (let u = limits_alone (not (allows_trailing l)) l bs f k t in (u.0 ∙ sym i, u.1 ∙ sym o))
+  one_reported_steps x y f g (range are t) (bad_limits k i o) = search (rules, limits_alone)
   one_reported_steps x y f g (range good t) (bad_steps at are bad i o) = absurd (good_steps steps v at good bad)
   one_reported_steps x y f g (range good t) (range also u) =
       one_whole_reported {S = x ≡ y} (not (allows_trailing l)) l bs f g (λ a b. a ∙ sym b)

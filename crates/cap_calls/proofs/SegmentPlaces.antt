@@ -1,9 +1,9 @@
 -- The words of a segment are where its frame has them, and inside the frame.
 use Rattle.std.proofs.Common.{le_refl}
 use Rattle.cap_spec.proofs.Lemmas.{length_joined, table_length}
-use Rattle.cap_spec.proofs.ProofNames.{List, [], ap, append_assoc, arith, drop, drop-drop, length, length-append, rules}
-use Rattle.cap_spec.proofs.ProofNames.{slice_range, suc, sym, take, take-take, take_all, zero, ℕ, ◌*◌, ◌++◌, ◌+◌, ◌-◌, ◌<◌}
-use Rattle.cap_spec.proofs.ProofNames.{◌∙◌, ◌∷◌, ◌≡◌, ◌≤◌, drop-append-add, take-append_seam, drop-take, length-map}
+use Rattle.cap_spec.proofs.ProofNames.{List, append_assoc, arith, drop, drop-drop, length, length-append, rules}
+use Rattle.cap_spec.proofs.ProofNames.{slice_range, suc, take, take-take, take_all, ℕ, ◌*◌, ◌++◌, ◌+◌, ◌-◌, ◌<◌}
+use Rattle.cap_spec.proofs.ProofNames.{◌∷◌, ◌≡◌, ◌≤◌, drop-append-add, take-append_seam, drop-take, length-map}
 use Rattle.cap_spec.proofs.ProofNames.{words_from, joined, sizes_of, segment_of, plain_words}
 use Rattle.cap_frame.specs.Fronts.{IsFront, table_words}
 use Rattle.cap_frame.proofs.Parts.{drop_words, take_words}
@@ -14,10 +14,8 @@ use Rattle.cap_calls.specs.CallNodes.{offset_of}
 -- a segment of joined ones, from its place on
 joined_at : (m : List (List ℕ)) (s : ℕ) (rest : List ℕ) → s < length m
     → take (length (segment_of m s)) (drop (start_of m s) (joined m ++ rest)) ≡ segment_of m s
-joined_at [] s rest l = absurd (omega (arith, l))
-joined_at (xs ∷ m) zero rest l =
-    ap (take (length xs)) (append_assoc xs (joined m) rest) ∙ take-append_seam xs (joined m ++ rest)
 joined_at (xs ∷ m) (suc s) rest l = search (rules, append_assoc, drop-append-add, joined_at m s rest (omega (arith, l)))
+joined_at m s rest l = search (rules, append_assoc, take-append_seam)
 
 -- some words of a segment, which is the first of some words
 part_of : (xs ys : List ℕ) (long b n : ℕ) → take long ys ≡ xs → b + n ≤ long → take n (drop b ys) ≡ slice_range xs b (b + n)
@@ -33,18 +31,16 @@ module _ (limit : ℕ) (bs : List ℕ) (m : List (List ℕ)) (x : ℕ) (h : IsFr
   -- The words from a word of a frame on are those of its segment.
   words_there : take n (drop (table_words (length m) + (start_of m t + b)) (plain_words bs)) ≡ words_from m t b n
   words_there =
-      let table = h.frames.table in
-      let before = start_of m t in
-      let all = joined m ++ h.rest in
-      let words : plain_words bs ≡ table ++ all =
-      h.words ∙ (ap (λ (ws : List ℕ). ws ++ h.rest) h.frames.whole ∙ append_assoc table (joined m) h.rest) in
-      let place : table_words (length m) + (start_of m t + b) ≡ length table + (before + b) =
-      omega (arith, count, table_length table (sizes_of m) h.frames.is_table) in
-      ap (λ (ws : List ℕ). take n (drop (table_words (length m) + (start_of m t + b)) ws)) words
-      ∙ (ap (λ (k : ℕ). take n (drop k (table ++ all))) place
-      ∙ (ap (take n) (drop-append-add table all (before + b))
-      ∙ (ap (take n) (sym (drop-drop b before all))
-      ∙ part_of (segment_of m t) (drop before all) (length (segment_of m t)) b n (joined_at m t h.rest exists) inside)))
+      search (
+        rules,
+        append_assoc h.frames.table (joined m) h.rest,
+        count,
+        table_length h.frames.table (sizes_of m) h.frames.is_table,
+        drop-append-add h.frames.table (joined m ++ h.rest) ((start_of m t) + b),
+        drop-drop b (start_of m t) (joined m ++ h.rest),
+        part_of (segment_of m t) (drop (start_of m t) (joined m ++ h.rest)) (length (segment_of m t)) b n (joined_at m t h.rest exists) inside,
+        joined_at m t h.rest exists,
+      )
 
   pub words_at : (k : ℕ) → offset_of m t b ≡ 8 * k → slice_range (plain_words bs) k (k + n) ≡ words_from m t b n
   words_at k e = search (rules, words_there)
@@ -55,26 +51,15 @@ module _ (limit : ℕ) (bs : List ℕ) (m : List (List ℕ)) (x : ℕ) (h : IsFr
 
   -- And they are inside the frame.
   pub offset_inside : offset_of m t b + 8 * n ≤ x
-  offset_inside =
-      let table = h.frames.table in
-      let own = ap length h.frames.whole ∙ length-append table (joined m) in
-      omega (
-        arith,
-        h.long,
-        own,
-        length_joined m,
-        count,
-        table_length table (sizes_of m) h.frames.is_table,
-        start_within m t exists,
-        all_words m,
-        inside,
-      )
+  offset_inside = search (rules, length-append h.frames.table (joined m), length_joined m, count, table_length h.frames.table (sizes_of m) h.frames.is_table, start_within m t exists, all_words m)
 
 -- All words of a segment.
 pub segment_words : (limit : ℕ) (bs : List ℕ) (m : List (List ℕ)) (n s : ℕ) → IsFront limit bs m n → s < length m
     → plain_words (slice_range bs (offset_of m s 0) (offset_of m s 0 + 8 * length (segment_of m s))) ≡ segment_of m s
 segment_words limit bs m n s h l =
-    let ws = segment_of m s in
-    let long : 0 + length ws - 0 ≡ length ws = omega arith in
-    bytes_at limit bs m n h s 0 (length ws) l (omega arith)
-    ∙ (ap (λ (k : ℕ). take k ws) long ∙ take_all (length ws) ws (le_refl (length ws)))
+    search (
+      rules,
+      bytes_at limit bs m n h s 0 (length (segment_of m s)) l (omega arith),
+      take_all (length (segment_of m s)) (segment_of m s) (le_refl (length (segment_of m s))),
+      le_refl (length (segment_of m s)),
+    )

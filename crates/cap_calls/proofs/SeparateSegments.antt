@@ -1,5 +1,5 @@
 -- The bytes of separate segments decide what the call over them finds.
-use Rattle.cap_spec.proofs.ProofNames.{List, [], ap, arith, length, sym, ℕ, ◌*◌, ◌<◌, ◌∙◌, ◌≡◌}
+use Rattle.cap_spec.proofs.ProofNames.{List, ap, arith, length, sym, ℕ, ◌*◌, ◌∙◌, ◌≡◌}
 use Rattle.cap_spec.proofs.ProofNames.{⊤, rules}
 use Rattle.cap_calls.specs.CallNames.{framed_found, demands_of, IsGood, ReportsSegments, message, AreSegments}
 use Rattle.cap_calls.specs.CallNames.{ReportsNoSegments, segments_in, words_in, Answer, Found, CallLimits, CallReport}
@@ -12,10 +12,6 @@ module _ (limit : ℕ) (parts : List (List ℕ)) where
   -- a segment that ends inside a word isn't whole
   not_whole : (s : ℕ) → IsBadSegment parts s → AreWhole parts → ⊥
   not_whole s h w = omega (arith, h.cut, w s h.inside)
-
-  -- no parts have no words
-  no_words : parts ≡ [] → limit < words_in parts → ⊥
-  no_words e h = omega (arith, ap words_in e, h)
 
   -- the first one is one
   one_bad : (s t : ℕ) → IsBadSegment parts s → IsBadSegment parts t → s ≡ t

@@ -48,11 +48,7 @@ one_place z p y q same =
 
 -- fewer bytes do not give the words
 not_fewer : (z p y q x r t u : ℕ) (bytes ws : List ℕ) → GivesWords z p bytes ws t y q → GivesWords z p bytes ws u x r → t < u → ⊥
-not_fewer z p y q x r t u bytes ws f g less =
-    let few = g.least t less in
-    let come : words_to_come z p (take t bytes) ≡ ws ++ words_to_come y q [] =
-    ap (words_to_come z p) (sym (append-nil (take t bytes))) ∙ f.gives [] in
-    omega (arith, few, ap length come, length-append ws (words_to_come y q []))
+not_fewer z p y q x r t u bytes ws f g less = search (rules, append-nil (take t bytes), length-append ws (words_to_come y q []))
 
 -- So words are followed by one place.
 pub one_lead : (z p y q x r t u : ℕ) (bytes ws : List ℕ) → GivesWords z p bytes ws t y q → GivesWords z p bytes ws u x r
@@ -73,8 +69,7 @@ one_lead z p y q x r t u bytes ws f g = elim (cases_lt t u) [
 -- The words that came are the first of those that the bytes give.
 pub words_first : (z p y q t : ℕ) (bytes ws : List ℕ) → GivesWords z p bytes ws t y q
     → words_to_come z p bytes ≡ ws ++ words_to_come y q (drop t bytes)
-words_first z p y q t bytes ws f =
-    ap (words_to_come z p) (sym (take-append-drop t bytes)) ∙ f.gives (drop t bytes)
+words_first z p y q t bytes ws f = search (rules, take-append-drop)
 
 -- The bytes of the message after some of the appended words.
 held_after : (limit : ℕ) (bytes old new : List ℕ) (state : Unpacking) (ws front tail : List ℕ) (c z p : ℕ) → ws ≡ front ++ tail
@@ -166,11 +161,8 @@ pub one_unpack_reported : (l : CallLimits) (bs old : List ℕ) (state : Unpackin
     (left last : Unpacking) (r q : CallReport) → ReportsUnpackMessage l bs old state a c n xs left r
     → ReportsUnpackMessage l bs old state b d k ys last q
     → (a ≡ b) × (c ≡ d) × (n ≡ k) × (xs ≡ ys) × (left ≡ last) × (r ≡ q)
-one_unpack_reported l bs old state a b c d n k xs ys left last r q (bad not_good e f g h i j) (bad also s t u v w x) =
-    (e ∙ sym s, f ∙ sym t, g ∙ sym u, h ∙ sym v, i ∙ sym w, j ∙ sym x)
-one_unpack_reported l bs old state a b c d n k xs ys left last r q (bad not_good e f g h i j) (unpacks vs y x v lim is g2 s w) =
-    absurd (not_good (lim, is))
-one_unpack_reported l bs old state a b c d n k xs ys left last r q (unpacks ws z p w lim is f s e) (bad not_good t u v g h i) =
-    absurd (not_good (lim, is))
+one_unpack_reported l bs old state a b c d n k xs ys left last r q (bad not_good e f g h i j) (bad also s t u v w x) = search rules
+one_unpack_reported l bs old state a b c d n k xs ys left last r q (bad not_good e f g h i j) (unpacks vs y x v lim is g2 s w) = search rules
+one_unpack_reported l bs old state a b c d n k xs ys left last r q (unpacks ws z p w lim is f s e) (bad not_good t u v g h i) = search rules
 one_unpack_reported l bs old state a b c d n k xs ys left last r q (unpacks ws z p w lim is f h e) (unpacks vs y x v also it g i j) =
     reported_once l.message_words bs old xs ys state left last ws vs c z p d y x a b n k w v r q f g h i e j

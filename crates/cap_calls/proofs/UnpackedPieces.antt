@@ -1,26 +1,20 @@
 -- Two pieces of a stream, one after the other, are unpacked as one.
 use Rattle.std.proofs.lemmas.List.Concat.{flat_map-append}
 use Rattle.cap_spec.proofs.Bytes.Plain.{length_plain}
-use Rattle.cap_spec.proofs.ProofNames.{List, ap, append_assoc, ap₂, arith, drop, drop-drop, drop_at, inl, inr, length}
+use Rattle.cap_spec.proofs.ProofNames.{List, ap, append_assoc, arith, drop, drop-drop, drop_at, inl, inr, length}
 use Rattle.cap_spec.proofs.ProofNames.{length-append, length-drop, length-take, length-take-le, refl, subst, sym, take}
-use Rattle.cap_spec.proofs.ProofNames.{take_at, ℕ, ◌*◌, ◌++◌, ◌+◌, ◌-◌, ◌<◌, ◌∙◌, ◌≡◌, ◌≤◌, ◌⊎◌, cases_lt, drop-append-le}
+use Rattle.cap_spec.proofs.ProofNames.{take_at, ℕ, ◌*◌, ◌++◌, ◌+◌, ◌-◌, ◌∙◌, ◌≡◌, ◌≤◌, ◌⊎◌, cases_lt, drop-append-le}
 use Rattle.cap_spec.proofs.ProofNames.{take-append-le, plain_text, rules}
-use Rattle.cap_calls.specs.CallNames.{GivesWords, words_to_come, Appends, IsOpen, IsState, StopsCall, ReportsUnpackMessage}
+use Rattle.cap_calls.specs.CallNames.{GivesWords, Appends, IsOpen, IsState, StopsCall, ReportsUnpackMessage}
 use Rattle.cap_calls.specs.CallNames.{bad, state_of, unpacks, Answer, CallLimits, CallReport, Unpacking}
 use Rattle.cap_calls.specs.declared.answer.Answer.TheVariants.{NoMessage, Truncated}
 use Rattle.cap_calls.proofs.MessageStages.{open_not_whole}
 use Rattle.cap_calls.proofs.PackedStreams.{leads_both}
 use Rattle.cap_calls.specs.UnpackingMessages as stop
-use Rattle.cap_calls.specs.declared.answer.Answer.TheVariants as answer
 
 -- more bytes change nothing of what the first give
 leads_longer : (z p y q t : ℕ) (bytes more ws : List ℕ) → GivesWords z p bytes ws t y q → GivesWords z p (bytes ++ more) ws t y q
-leads_longer z p y q t bytes more ws f = record {
-  within = omega (arith, f.within, length-append bytes more);
-  gives = λ rest. ap (λ (l : List ℕ). words_to_come z p (l ++ rest)) (take-append-le t bytes more f.within) ∙ f.gives rest;
-  least = λ n l. subst (λ (k : List ℕ). length (words_to_come z p k) < length ws)
-      (sym (take-append-le n bytes more (omega (arith, l, f.within)))) (f.least n l);
-}
+leads_longer z p y q t bytes more ws f = search (rules, length-append, take-append-le)
 
 module _ (limit : ℕ) (bytes more old new newer : List ℕ) (state : Unpacking) (ws vs : List ℕ) (c z p d y q w : ℕ)
     (f : Appends limit bytes old state ws c z p new) (at : w ≡ state.written + 8 * length ws)
@@ -37,10 +31,14 @@ module _ (limit : ℕ) (bytes more old new newer : List ℕ) (state : Unpacking)
 
   back : drop w new ≡ drop (state.written + 8 * length ws) old
   back =
-      ap₂ (λ (k : ℕ) (l : List ℕ). drop k l) at
-      (f.text ∙ sym (append_assoc (take state.written old) (plain_text ws) (drop (state.written + 8 * length ws) old)))
-      ∙ drop_at (take state.written old ++ plain_text ws) (drop (state.written + 8 * length ws) old) (state.written + 8 * length ws)
-      (omega (arith, length-append (take state.written old) (plain_text ws), start_long, length_plain ws))
+      search (
+        rules,
+        append_assoc (take state.written old) (plain_text ws) (drop (state.written + 8 * length ws) old),
+        drop_at,
+        length-append (take state.written old) (plain_text ws),
+        start_long,
+        length_plain ws,
+      )
 
   -- the words of both are appended
   pub both_appended : Appends limit (bytes ++ more) old state (ws ++ vs) (c + d) y q newer
@@ -80,26 +78,10 @@ module _ (limit : ℕ) (bytes more old new newer : List ℕ) (state : Unpacking)
 goes_on : (limit size : ℕ) (held : List ℕ) (z p : ℕ) (rest : List ℕ) (a : Answer) (n w : ℕ) (r : CallReport)
     → (a ≡ Truncated) ⊎ (a ≡ NoMessage) → StopsCall limit size held z p rest a n w r
     → (needed : ℕ) × IsOpen limit held needed × (w ≡ length held)
-goes_on limit size held z p rest a n w r t (stop.whole m f e g h i) = absurd (other t e)
-  where
-    other : (a ≡ Truncated) ⊎ (a ≡ NoMessage) → a ≡ answer.Good → ⊥
-    other (inl t) e = cc
-    other (inr t) e = cc
-goes_on limit size held z p rest a n w r t (stop.too_many k f e g h i) = absurd (other t e)
-  where
-    other : (a ≡ Truncated) ⊎ (a ≡ NoMessage) → a ≡ answer.TooManySegments → ⊥
-    other (inl t) e = cc
-    other (inr t) e = cc
-goes_on limit size held z p rest a n w r t (stop.too_large k f e g h i) = absurd (other t e)
-  where
-    other : (a ≡ Truncated) ⊎ (a ≡ NoMessage) → a ≡ answer.TooLarge → ⊥
-    other (inl t) e = cc
-    other (inr t) e = cc
-goes_on limit size held z p rest a n w r t (stop.too_small x y e g h i) = absurd (other t g)
-  where
-    other : (a ≡ Truncated) ⊎ (a ≡ NoMessage) → a ≡ answer.BufferTooSmall → ⊥
-    other (inl t) e = cc
-    other (inr t) e = cc
+goes_on limit size held z p rest a n w r t (stop.whole m f e g h i) = search rules
+goes_on limit size held z p rest a n w r t (stop.too_many k f e g h i) = search rules
+goes_on limit size held z p rest a n w r t (stop.too_large k f e g h i) = search rules
+goes_on limit size held z p rest a n w r t (stop.too_small x y e g h i) = search rules
 goes_on limit size held z p rest a n w r t (stop.no_message x y e g h i j k) = (8, inl (x, refl), j ∙ ap length (sym x))
 goes_on limit size held z p rest a n w r t (stop.truncated k x y e g h i j) = (k, x, i)
 
@@ -108,11 +90,7 @@ pub pieces_reported : (l : CallLimits) (bs more old : List ℕ) (state : Unpacki
     (left last : Unpacking) (r q : CallReport) → ReportsUnpackMessage l bs old state a c n new left r
     → (a ≡ Truncated) ⊎ (a ≡ NoMessage) → ReportsUnpackMessage l (drop c bs ++ more) new left b d k newer last q
     → ReportsUnpackMessage l (bs ++ more) old state b (c + d) k newer last q
-pieces_reported l bs more old state a b c d n k new newer left last r q (bad not_good e f g h i j) t u = absurd (other t e)
-  where
-    other : (a ≡ Truncated) ⊎ (a ≡ NoMessage) → a ≡ answer.BadLimits → ⊥
-    other (inl t) e = cc
-    other (inr t) e = cc
+pieces_reported l bs more old state a b c d n k new newer left last r q (bad not_good e f g h i j) t u = search rules
 pieces_reported l bs more old state a b c d n k new newer left last r q (unpacks ws z p w lim is f h e) t u =
     second (subst (λ (s : Unpacking). ReportsUnpackMessage l (drop c bs ++ more) new s b d k newer last q) e u)
   where

@@ -1,6 +1,6 @@
 -- The call for the node at a path refuses nothing that the vetter accepts.
 use Rattle.cap_spec.proofs.ProofNames.{rules}
-use Rattle.std.proofs.Common.{IsFalse, List, ap, arith, inl, inr, length, not, subst, sym, true, ℕ, ◌∙◌, ◌≡◌, ◌⊎◌}
+use Rattle.std.proofs.Common.{IsFalse, List, ap, inl, inr, length, not, subst, sym, true, ℕ, ◌∙◌, ◌≡◌, ◌⊎◌}
 use Rattle.cap_spec.specs.PathTexts.{IsPath}
 use Rattle.cap_spec.proofs.Paths.PathTexts.{path_not_bad}
 use Rattle.cap_vet.specs.VetNames.{Meets, words_under, MeetsOnPath}
@@ -9,7 +9,7 @@ use Rattle.cap_calls.specs.CallFindings.{accepted, without}
 use Rattle.cap_calls.specs.NodeCalls.{bad_limits}
 use Rattle.cap_calls.specs.CallNames.{Step, Demands, refusal_answer, framed, refused, reports, trailing, allows_trailing}
 use Rattle.cap_calls.specs.CallNames.{demands_of, has_no_table, HasFrame, HasTrailing, of_frame, of_no_words, of_words}
-use Rattle.cap_calls.specs.CallNames.{none_node, cause_answer, ReportsMessage, ReportsVet, Gets, ReportsGet, a_path}
+use Rattle.cap_calls.specs.CallNames.{none_node, ReportsMessage, ReportsVet, Gets, ReportsGet, a_path}
 use Rattle.cap_calls.specs.CallNames.{bad_path, AreSteps, EndsRange, GetsRange, ReportsRange, full}
 use Rattle.cap_calls.specs.CallNames.{past, path_after, stops, unknown, Answer, Found, CallLimits, CallNode, CallReport}
 use Rattle.cap_calls.specs.CallNames.{CallStep}
@@ -42,15 +42,11 @@ accepted_frame : (l : CallLimits) (bs : List ℕ) (r : CallReport) → IsFalse (
     → IsAcceptedFrame l bs
 accepted_frame l bs r off (f, of_no_words on c h e k, q) = one_input l off on
 accepted_frame l bs r off (f, of_words on g h p e, q) = one_input l off on
-accepted_frame l bs r off (f, of_frame n (trailing m x y t h more e k), q) =
-    absurd (not_zero answer.Trailing (omega arith) (sym (ap (λ (z : Found). z.answer) e) ∙ sym q.0))
-accepted_frame l bs r off (f, of_frame n (reports only (without c h e k)), q) =
-    absurd (not_zero (cause_answer c) (cause_not_zero c) (sym (ap (λ (z : Found). z.answer) e) ∙ sym q.0))
+accepted_frame l bs r off (f, of_frame n (trailing m x y t h more e k), q) = search (rules, not_zero)
+accepted_frame l bs r off (f, of_frame n (reports only (without c h e k)), q) = search (rules, not_zero, cause_not_zero)
 accepted_frame l bs r off (f, of_frame n (reports only (framed m x y g h (refused v u j i) e)), q) =
-    absurd (not_zero (refusal_answer v) (refusal_not_zero v)
-    (sym (ap (λ (z : Found). z.answer) j) ∙ sym (ap (λ (z : Found). z.answer) e) ∙ sym q.0))
-accepted_frame l bs r off (f, of_frame n (reports only (framed m x y g h (accepted v u n' j) e)), q) =
-    record { m = m; frame = x; segments = y; framed = h; meets = n'; alone = only }
+    search (rules, not_zero (refusal_answer v) (refusal_not_zero v) (sym (ap (λ (z : Found). z.answer) j) ∙ sym (ap (λ (z : Found). z.answer) e) ∙ sym q.0), refusal_not_zero v)
+accepted_frame l bs r off (f, of_frame n (reports only (framed m x y g h (accepted v u n' j) e)), q) = search rules
 
 -- what is found where the pointers on the path meet the demands
 got : (path : List Step) (node : CallNode) (demands : Demands) (m : List (List ℕ)) (words depth : ℕ) (g : Found)
@@ -72,40 +68,27 @@ module _ (l : CallLimits) (bs : List ℕ) (k : IsAcceptedFrame l bs) where
       → (f.answer ≡ answer.Good) ⊎ (f.answer ≡ answer.NoNode)
   path_got path node f (trailing m x y t h more e i) = absurd (k.alone t (m, x, y, h, more))
   path_got path node f (reports only (without c h e i)) = absurd (no_cause l bs c k.frame k.segments k.m h k.framed)
-  path_got path node f (reports only (framed m x y g h p e)) =
-      let same : f.answer ≡ g.answer = ap (λ (z : Found). z.answer) e in
-      elim (got path node (demands_of l) m l.charge l.depth g (on_path m x y h path) p) [
-        | inl i ↦ inl (same ∙ i)
-        | inr i ↦ inr (same ∙ i)
-      ]
+  path_got path node f (reports only (framed m x y g h p e)) = search (rules, got path node (demands_of l) m l.charge l.depth g (on_path m x y h path) p, on_path m x y h path)
 
   -- and so does each path of a range.
   ends_got : (path : ℕ → List Step) (capacity : ℕ) (m : List (List ℕ)) (f : Found)
       → ((p : List Step) → MeetsOnPath (demands_of l) m l.charge l.depth p)
       → EndsRange path capacity (demands_of l) m l.charge l.depth f → (f.answer ≡ answer.Good) ⊎ (f.answer ≡ answer.NoNode)
   ends_got path capacity m f meets (full e) = inl (ap (λ (z : Found). z.answer) e)
-  ends_got path capacity m f meets (stops less g h none e) =
-      let same : f.answer ≡ g.answer = ap (λ (z : Found). z.answer) e in
-      elim (got (path f.count) none_node (demands_of l) m l.charge l.depth g (meets (path f.count)) h) [
-        | inl i ↦ inl (same ∙ i)
-        | inr i ↦ inr (same ∙ i)
-      ]
+  ends_got path capacity m f meets (stops less g h none e) = search (rules, got (path f.count) none_node (demands_of l) m l.charge l.depth g (meets (path f.count)) h)
 
   range_got : (path : ℕ → List Step) (old new : List CallNode) (f : Found)
       → ReportsMessage (new ≡ old) (GetsRange path old new (demands_of l)) l bs f
       → (f.answer ≡ answer.Good) ⊎ (f.answer ≡ answer.NoNode)
   range_got path old new f (trailing m x y t h more e i) = absurd (k.alone t (m, x, y, h, more))
   range_got path old new f (reports only (without c h e i)) = absurd (no_cause l bs c k.frame k.segments k.m h k.framed)
-  range_got path old new f (reports only (framed m x y g h p e)) =
-      let same : f.answer ≡ g.answer = ap (λ (z : Found). z.answer) e in
-      elim (ends_got path (length old) m g (on_path m x y h) p.end) [ inl i ↦ inl (same ∙ i) | inr i ↦ inr (same ∙ i) ]
+  range_got path old new f (reports only (framed m x y g h p e)) = search (rules, ends_got path (length old) m g (on_path m x y h) p.end, on_path m x y h)
 
 -- The call for the node at a path refuses nothing in a message that the vetter accepts.
 pub vetted_got : (l : CallLimits) (bs text : List ℕ) (a : Answer) (node : CallNode) (r q : CallReport)
     → IsFalse (has_no_table l) → IsPath text → ReportsVet l bs answer.Good r → ReportsGet l bs text a node q
     → (a ≡ answer.Good) ⊎ (a ≡ answer.NoNode)
-vetted_got l bs text a node r q off is vets (f, bad_limits bad e n, (i, j)) =
-    absurd (bad ((accepted_frame l bs r off vets).framed.are_limits))
+vetted_got l bs text a node r q off is vets (f, bad_limits bad e n, (i, j)) = search (rules, accepted_frame)
 vetted_got l bs text a node r q off is vets (f, bad_path at are bad e n, (i, j)) = absurd (path_not_bad text at is bad)
 vetted_got l bs text a node r q off is vets (f, a_path path are whole t, (i, j)) =
     elim (path_got l bs (accepted_frame l bs r off vets) path node f t) [ inl e ↦ inl (i ∙ e) | inr e ↦ inr (i ∙ e) ]
@@ -114,14 +97,8 @@ vetted_got l bs text a node r q off is vets (f, a_path path are whole t, (i, j))
 pub vetted_range : (l : CallLimits) (bs : List ℕ) (steps : List CallStep) (varying : ℕ) (old : List CallNode) (a : Answer)
     (n : ℕ) (new : List CallNode) (r q : CallReport) → IsFalse (has_no_table l) → AreSteps steps varying
     → ReportsVet l bs answer.Good r → ReportsRange l bs steps varying old a n new q → (a ≡ answer.Good) ⊎ (a ≡ answer.NoNode)
-vetted_range l bs steps varying old a n new r q off are vets (f, range.bad_limits bad e i, h, c) =
-    absurd (bad ((accepted_frame l bs r off vets).framed.are_limits))
-vetted_range l bs steps varying old a n new r q off are vets (f, range.bad_steps at lim (unknown less two first) e i, h, c) =
-    absurd (omega (arith, two, are.known at less))
-vetted_range l bs steps varying old a n new r q off are vets (f, range.bad_steps at lim (past known more last) e i, h, c) =
-    absurd (omega (arith, more, are.inside))
+vetted_range l bs steps varying old a n new r q off are vets (f, range.bad_limits bad e i, h, c) = search (rules, accepted_frame)
+vetted_range l bs steps varying old a n new r q off are vets (f, range.bad_steps at lim (unknown less two first) e i, h, c) = search rules
+vetted_range l bs steps varying old a n new r q off are vets (f, range.bad_steps at lim (past known more last) e i, h, c) = search rules
 vetted_range l bs steps varying old a n new r q off are vets (f, range.range is t, (i, j), c) =
-    elim (range_got l bs (accepted_frame l bs r off vets) (λ k. path_after steps varying k) old new f t) [
-      | inl e ↦ inl (i ∙ e)
-      | inr e ↦ inr (i ∙ e)
-    ]
+    search (rules, range_got l bs (accepted_frame l bs r off vets) (λ k. path_after steps varying k) old new f t, accepted_frame l bs r off vets)

@@ -1,7 +1,7 @@
 -- What is accepted is accepted with higher limits and more flags too.
 use Rattle.std.proofs.Math.Nat.{le-min, min-le_left, min-le_right}
-use Rattle.cap_spec.proofs.ProofNames.{Bool, List, [], ap, arith, false, if◌then◌else◌, length, min, not, refl, subst, sum}
-use Rattle.cap_spec.proofs.ProofNames.{sym, true, ℕ, ◌+◌, ◌<◌, ◌∙◌, ◌∷◌, ◌≡◌, ◌≤◌, false≢true, ⊤, sizes_of, plain_words}
+use Rattle.cap_spec.proofs.ProofNames.{Bool, List, [], ap, arith, false, if◌then◌else◌, min, not, refl, sum}
+use Rattle.cap_spec.proofs.ProofNames.{sym, true, ℕ, ◌+◌, ◌∙◌, ◌∷◌, ◌≡◌, ◌≤◌, false≢true, ⊤, sizes_of, plain_words}
 use Rattle.cap_spec.proofs.ProofNames.{rules}
 use Rattle.cap_spec.proofs.Strict.Faults.{strict_wider, within_wider}
 use Rattle.cap_vet.specs.VetNames.{Meets, words_under, IsAccepted}
@@ -10,14 +10,10 @@ use Rattle.cap_calls.specs.CallFindings.{accepted, without}
 use Rattle.cap_calls.specs.CallFlags.{AllowsMore, allows_nonstrict}
 use Rattle.cap_calls.specs.CallInputs.{AreInputLimits, AreWordLimits}
 use Rattle.cap_calls.specs.CallNames.{Reason, StrictRefusal, Report, reason_answer, refusal_answer, Judges, ReportsWhole}
-use Rattle.cap_calls.specs.CallNames.{framed, refused, reports, trailing, allows_amplified, allows_trailing, demands_of}
+use Rattle.cap_calls.specs.CallNames.{framed, refused, reports, trailing, allows_trailing, demands_of}
 use Rattle.cap_calls.specs.CallNames.{AreLimits, HasFrame, HasTrailing, HasWords, ReportsInput, cause_answer, IsGood}
 use Rattle.cap_calls.specs.CallNames.{ReportsVet, Answer, Found, NoFrame, CallLimits, CallReport}
 use Rattle.cap_calls.proofs.Answers.{one_extent}
-use Rattle.cap_frame.specs.declared.fault.FrontFault.TheVariants as fault
-use Rattle.cap_spec.specs.declared.Lax.TheVariants as lax
-use Rattle.cap_spec.specs.declared.Reason.TheVariants as reason
-use Rattle.cap_spec.specs.declared.StrictRefusal.TheVariants as strict
 use Rattle.cap_calls.specs.CallInputs as input
 use Rattle.cap_calls.specs.declared.answer.Answer.TheVariants as answer
 
@@ -47,25 +43,11 @@ module _ (l k : CallLimits) (more : AllowsMore l k) where
   lower m b c h = search (rules, false≢true, min-le_left, le-min, min-le_right)
 
   limit : (m : List (List ℕ)) → words_under (demands_of l) m l.charge ≤ words_under (demands_of k) m k.charge
-  limit m = lower m (allows_amplified l) (allows_amplified k)
-      (unset (allows_amplified l) (allows_amplified k) more.amplified)
+  limit m = search (rules, lower, unset)
 
   accepts : (m : List (List ℕ)) (r : Report) → IsAccepted m (words_under (demands_of l) m l.charge) l.depth r
       → IsAccepted m (words_under (demands_of k) m k.charge) k.depth r
-  accepts m r (t, h) = (
-    t,
-    record {
-      within = record {
-        denotes = h.within.denotes;
-        few_words = omega (arith, h.within.few_words, limit m);
-        few_levels = omega (arith, h.within.few_levels, more.depth);
-      };
-      pointers = h.pointers;
-      caps = h.caps;
-      first_cap = h.first_cap;
-      few = omega (arith, h.few, limit m);
-    },
-  )
+  accepts m r (t, h) = search (rules, limit m)
 
   meets : (m : List (List ℕ)) → Meets (demands_of l) m l.charge l.depth → Meets (demands_of k) m k.charge k.depth
   meets m h =
@@ -79,8 +61,7 @@ module _ (l k : CallLimits) (more : AllowsMore l k) where
 
   judged : (m : List (List ℕ)) (f : Found) → f.answer ≡ answer.Good → Judges (demands_of l) ⊤ IsGood m l.charge l.depth f
       → Judges (demands_of k) ⊤ IsGood m k.charge k.depth f
-  judged m f a (refused v u j i) =
-      absurd (not_zero (refusal_answer v) (refusal_not_zero v) (sym (ap (λ (z : Found). z.answer) j) ∙ a))
+  judged m f a (refused v u j i) = search (rules, not_zero, refusal_not_zero)
   judged m f a (accepted v u n j) = accepted v (accepts m v u) (meets m n) j
 
   frame : (bs : List ℕ) (x y : ℕ) (m : List (List ℕ)) → AreLimits k → HasFrame l bs x y m → HasFrame k bs x y m
@@ -101,31 +82,26 @@ module _ (l k : CallLimits) (more : AllowsMore l k) where
   none : (bs : List ℕ) (x y : ℕ) (m : List (List ℕ)) → AreLimits k → HasFrame l bs x y m
       → (not (allows_trailing l) ≡ true → ¬ HasTrailing l bs) → not (allows_trailing k) ≡ true → ¬ HasTrailing k bs
   none bs x y m good h only e (n, a, b, g, less) =
-      only (unset (allows_trailing l) (allows_trailing k) more.trailing e)
-      (m, x, y, h, subst (λ (z : ℕ). z < length bs) (one_extent k bs a x b y n m g (frame bs x y m good h)).0 less)
+      search (rules, unset (allows_trailing l) (allows_trailing k) more.trailing e, one_extent k bs a x b y n m g (frame bs x y m good h), frame bs x y m good h)
 
   framed_reported : (bs : List ℕ) (f : Found) → AreLimits k → f.answer ≡ answer.Good
       → ReportsWhole (not (allows_trailing l)) ⊤ (Judges (demands_of l) ⊤ IsGood) l bs f
       → ReportsWhole (not (allows_trailing k)) ⊤ (Judges (demands_of k) ⊤ IsGood) k bs f
-  framed_reported bs f good a (trailing m x y t h less e i) =
-      absurd (not_zero answer.Trailing (omega arith) (sym (ap (λ (z : Found). z.answer) e) ∙ a))
-  framed_reported bs f good a (reports only (without c h e i)) =
-      absurd (not_zero (cause_answer c) (cause_not_zero c) (sym (ap (λ (z : Found). z.answer) e) ∙ a))
+  framed_reported bs f good a (trailing m x y t h less e i) = search (rules, not_zero)
+  framed_reported bs f good a (reports only (without c h e i)) = search (rules, not_zero, cause_not_zero)
   framed_reported bs f good a (reports only (framed m x y g h p e)) =
       reports (none bs x y m good h only)
       (framed m x y g (frame bs x y m good h) (judged m g (sym (ap (λ (z : Found). z.answer) e) ∙ a) p) e)
 
   wider_words : (bs : List ℕ) → AreWordLimits k → HasWords l bs → HasWords k bs
-  wider_words bs good h =
-      record { are_limits = good; some = h.some; within = omega (arith, h.within, more.size); whole = h.whole }
+  wider_words bs good h = search rules
 
   input_reported : (bs : List ℕ) (f : Found) → AreInputLimits k → f.answer ≡ answer.Good
       → ReportsInput (not (allows_trailing l)) ⊤ (Judges (demands_of l) ⊤ IsGood) l bs f
       → ReportsInput (not (allows_trailing k)) ⊤ (Judges (demands_of k) ⊤ IsGood) k bs f
   input_reported bs f good a (input.of_frame n t) =
       let off = sym more.table ∙ n in input.of_frame off (framed_reported bs f (good.frame off) a t)
-  input_reported bs f good a (input.of_no_words y c h e i) =
-      absurd (not_zero (cause_answer c) (cause_not_zero c) (sym (ap (λ (z : Found). z.answer) e) ∙ a))
+  input_reported bs f good a (input.of_no_words y c h e i) = search (rules, not_zero, cause_not_zero)
   input_reported bs f good a (input.of_words y g h p e) =
       let on = sym more.table ∙ y in
       input.of_words on g (wider_words bs (good.words on) h)

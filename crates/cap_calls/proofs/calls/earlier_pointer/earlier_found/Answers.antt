@@ -1,6 +1,6 @@
 use Rattle.std.proofs.Common.{ap, arith}
 use Rattle.cap_calls.specs.EarlierCalls.{earlier, none}
-use Rattle.cap_calls.specs.CallNames.{Good, CallReport, Found}
+use Rattle.cap_calls.specs.CallNames.{Good, CallReport}
 use Rattle.cap_calls.proofs.calls.earlier_pointer.earlier_found.Goals as goal
 
 pub returns-then-number-words : goal.returns-then-number-words

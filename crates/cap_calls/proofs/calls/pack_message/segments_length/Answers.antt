@@ -1,7 +1,7 @@
 -- One segment more is counted.
 use Rattle.cap_spec.proofs.Bytes.Plain.{length_plain}
-use Rattle.cap_spec.proofs.ProofNames.{List, [], ap, arith, flat_map, get_or, length, length-append, rules, sum, take}
-use Rattle.cap_spec.proofs.ProofNames.{take_all, ℕ, ◌*◌, ◌+◌, ◌<◌, ◌^◌, ◌∙◌, ◌≡◌, ◌≤◌, sizes_of, pack_text}
+use Rattle.cap_spec.proofs.ProofNames.{[], ap, arith, flat_map, get_or, length, length-append, rules, take}
+use Rattle.cap_spec.proofs.ProofNames.{take_all, ◌*◌, ◌+◌, ◌<◌, ◌^◌, ◌∙◌, ◌≡◌, ◌≤◌, pack_text}
 use Rattle.cap_frame.specs.Bytes.{cut}
 use Rattle.cap_calls.proofs.PackedFrames.{sizes_more, texts_more}
 use Rattle.cap_calls.proofs.calls.pack_message.segments_length.Goals as goal
@@ -43,15 +43,7 @@ segments-preserved c =
     }
 
 pub returns-clause-text : goal.returns-clause-text
-returns-clause-text c =
-    let v = c.args.message.now in
-    let m = cut v.sizes.now v.bytes.now in
-    let all : take c.segments.s m ≡ m = take_all c.segments.s m (omega arith) in
-    c.segments.invariant.text ∙ ap (λ (t : List (List ℕ)). length (flat_map pack_text t)) all
+returns-clause-text c = search (rules, take_all)
 
 pub returns-clause-few : goal.returns-clause-few
-returns-clause-few c =
-    let v = c.args.message.now in
-    let m = cut v.sizes.now v.bytes.now in
-    let all : take c.segments.s m ≡ m = take_all c.segments.s m (omega arith) in
-    omega (arith, c.segments.invariant.few, ap (λ (t : List (List ℕ)). sum (sizes_of t)) all)
+returns-clause-few c = search (rules, take_all)

@@ -10,23 +10,7 @@ use Rattle.cap_calls.proofs.PackedFrames.{texts_fit, texts_more}
 use Rattle.cap_calls.proofs.calls.pack_message.write_parts.Goals as goal
 
 pub segments-init : goal.segments-init
-segments-init c =
-    let v = c.args.message.now in
-    let m = cut v.sizes.now v.bytes.now in
-    let T = pack_text (table_of m) in
-    let n = c.pack_into-at.result in
-    let old = c.args.text.now in
-    let long : n ≡ length T = c.pack_into-at.ensures.len ∙ ap (λ ws. length (pack_text ws)) c.requires.table in
-    let both = length-append T (flat_map pack_text m) in
-    let text : c.pack_into-at.new.out ≡ T ++ drop n old =
-    c.pack_into-at.ensures.written (omega (arith, long, both, c.requires.length))
-    ∙ ap (λ ws. pack_text ws ++ drop n old) c.requires.table in
-    record {
-      at = long ∙ ap length (sym (append-nil T));
-      size = omega (arith, ap length text, length-append T (drop n old), length-drop n old, long, both, c.requires.length);
-      written = ap (take n) text ∙ (take_at T (drop n old) n (sym long) ∙ sym (append-nil T));
-      small = omega (arith, c.pack_into-at.ensures.few, c.requires.short);
-    }
+segments-init c = search (rules, length-append, append-nil, length-drop, take_at)
 
 pub overflow_add-at : goal.overflow_add-at
 overflow_add-at c =
@@ -90,11 +74,4 @@ segments-preserved c =
     }
 
 pub returns : goal.returns
-returns c =
-    let v = c.args.message.now in
-    let m = cut v.sizes.now v.bytes.now in
-    let far = c.segments.invariant in
-    let text = c.segments.text in
-    let all : take c.segments.s m ≡ m = take_all c.segments.s m (omega arith) in
-    let done = ap (λ (t : List (List ℕ)). pack_text (table_of m) ++ flat_map pack_text t) all in
-    sym (take_all c.segments.at text (omega (arith, far.at, far.size, ap length done))) ∙ (far.written ∙ done)
+returns c = search (rules, take_all)
