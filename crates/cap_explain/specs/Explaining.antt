@@ -94,7 +94,7 @@ segment_state m s =
     if nat_lt s (length m) then codes ", words " ++ decimal (length (segment_of m s)) else
     (codes ", which does not exist, segments 0 to " ++ decimal (length m - 1))
 
--- the segment that the pointer leads into
+-- the segment that the pointer leads into, or its own if it leads to nothing
 abbrev pub segment_line : List (List ℕ) → ℕ → List ℕ
 segment_line m s = (codes "  leads into segment " ++ decimal s) ++ segment_state m s ++ 10 ∷ []
 

@@ -229,7 +229,8 @@ fn push_segment_state<M: Segments>(text: &mut Explanation, message: &M, segment:
     }
 }
 
-/// Appends the line of the segment that a pointer leads into.
+/// Appends the line of the segment that a pointer leads into. A word that leads to nothing, such as
+/// a reserved one, gets the line of its own segment.
 pub(crate) fn push_segment_line<M: Segments>(text: &mut Explanation, message: &M, segment: u32)
     requires { length text.old + PLAIN ≤ CAPACITY }
     ensures items { text.new ≡ text.old ++ segment_line (M.segments message.now) segment }
