@@ -8,13 +8,13 @@ use Rattle.cap_spec.proofs.Lemmas.{one_refusal}
 use Rattle.cap_spec.proofs.Paths.Preorder.{Rises-distinct, one_tour}
 use Rattle.cap_spec.proofs.ProofNames.{List, None, Option, Some, [], ap, ap₂, arith, inl, inr, refl, subst, sym, ℕ, ◌++◌, ◌+◌}
 use Rattle.cap_spec.proofs.ProofNames.{◌∙◌, ◌∷◌, ◌≡◌, ◌≢◌, IfSome, CostOf, Costs, IsFirstFault, IsFirstReason, IsRefused, IsTour}
-use Rattle.cap_spec.proofs.ProofNames.{is_deep, is_past}
+use Rattle.cap_spec.proofs.ProofNames.{is_deep, is_past, rules}
 use Rattle.cap_spec.proofs.Trees.Charges.{one_cost}
 use Rattle.cap_spec.proofs.Verdicts.OneFault.{distinct_last, fault_tour}
 use Rattle.cap_spec.proofs.Verdicts.OneVerdict.{distinct_cost}
 use Rattle.std.specs.Prelude.{IfNone}
 use Rattle.cap_spec.specs.declared.StrictRefusal.{StrictRefusal}
-use Rattle.cap_spec.specs.declared.StrictRefusal.TheVariants.{ManySegments, Pointer, Refused}
+use Rattle.cap_spec.specs.declared.StrictRefusal.TheVariants.{Refused}
 use Rattle.cap_vet.specs.ChargeUpTo.{IsChargeUpTo}
 use Rattle.cap_vet.specs.Demands.{IsDemandFault, words_under}
 use Rattle.cap_vet.specs.declared.demands.Demands.{Demands}
@@ -59,8 +59,7 @@ module _ (m : List (List ℕ)) (words depth : ℕ) where
   by_reason r f (is_past cost named shallow costs past) None paths some none =
       absurd (none (f.fault.charge + cost) (r, f, named, cost, costs, refl))
   by_reason r f (is_past cost named shallow costs past) (Some n) paths (u, k, e, one, c, x) none =
-      let same = one_refusal m words depth r u (inr f) (inr k) in
-      ap (λ (n : ℕ). Some n) (x ∙ one_up_to r u same paths f cost costs k one c)
+      search (rules, one_refusal m words depth r u (inr f) (inr k), one_up_to r u (one_refusal m words depth r u (inr f) (inr k)) paths f cost costs k one c)
 
   pub charge_up_to_is : (r : Refusal) (h : IsRefused m words depth r) (o : Option ℕ) → OnePath r → IfSome o (IsChargeUpTo m words depth)
       → IfNone o ((charge : ℕ) → ¬ IsChargeUpTo m words depth charge) → o ≡ refusal_charge m words depth r h
@@ -71,9 +70,8 @@ module _ (m : List (List ℕ)) (words depth : ℕ) where
   -- the charge of a first fault is the charge up to its pointer
   charge_some : (r : Refusal) (f : IsFirstFault m words depth r) (reason : IsFirstReason m words depth f.fault.charge r.segment r.word f.fault.numbered.level r.reason)
       → IfSome (reason_charge m words depth f.fault.charge r.segment r.word f.fault.numbered.level r.reason reason) (IsChargeUpTo m words depth)
-  charge_some r f (is_wrong x) = tt
-  charge_some r f (is_deep named deep) = tt
   charge_some r f (is_past cost named shallow costs past) = (r, f, named, cost, costs, refl)
+  charge_some r f reason = tt
 
   charge_none : (r : Refusal) (f : IsFirstFault m words depth r) (reason : IsFirstReason m words depth f.fault.charge r.segment r.word f.fault.numbered.level r.reason)
       → IfNone (reason_charge m words depth f.fault.charge r.segment r.word f.fault.numbered.level r.reason reason) ((charge : ℕ) → ¬ IsChargeUpTo m words depth charge)
@@ -94,8 +92,7 @@ pub charge_is : (demands : Demands) (m : List (List ℕ)) (words depth : ℕ) (f
 charge_is demands m words depth (Refused r) paths h charge c =
     let charged = c h in
     charge_up_to_is m (words_under demands m words) depth r h charge (paths r) charged.0 charged.1
-charge_is demands m words depth ManySegments paths h charge c = c
-charge_is demands m words depth (Pointer what s w pointers) paths h charge c = c
+charge_is demands m words depth fault paths h charge c = c
 
 -- a fault has one charge
 pub one_fault_charge : (demands : Demands) (m : List (List ℕ)) (words depth : ℕ) (fault : StrictRefusal)
@@ -103,5 +100,4 @@ pub one_fault_charge : (demands : Demands) (m : List (List ℕ)) (words depth : 
     → (h k : IsDemandFault demands m words depth fault)
     → fault_charge demands m words depth fault h ≡ fault_charge demands m words depth fault k
 one_fault_charge demands m words depth (Refused r) paths h k = one_charge m (words_under demands m words) depth r h k (paths r)
-one_fault_charge demands m words depth ManySegments paths h k = refl
-one_fault_charge demands m words depth (Pointer what s w pointers) paths h k = refl
+one_fault_charge demands m words depth fault paths h k = refl
