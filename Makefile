@@ -126,8 +126,8 @@ wheel: $(BUILT_ARCHIVE)
 pages:
 	python3 packaging/written/write.py
 
-# Checks a change of one crate, as in `make check CRATE=cap_vet`: the crate, those above it, its must-fail edits, and the scripts
-# that its behaviour is in.
+# Checks a change of one crate, as in `make check CRATE=cap_vet`: the crate, those above it, the must-fail edits that the change
+# reaches, and the scripts that its behaviour is in.
 check:
 	@python3 tests/check.py $(CRATE)
 

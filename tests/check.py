@@ -5,7 +5,8 @@
 
  1. the proof of the crate, and its layout;
  2. the crates above that use it, and beside that their tests in Rattle, without a proof that these are safe;
- 3. its must-fail edits, first those of files that have changed. What an earlier try refused counts, if it read the same;
+ 3. its must-fail edits of files that have changed, and of files that use something of these, over any number of others. If that
+    is none, or if `lib.rt` or a file beside `src` has changed, all of its edits. What an earlier try refused counts;
  4. the scripts that its behaviour is in: those of the built program, or of the archive from C, or both.
 
 Each step takes all cores. Of what it writes only errors and warnings are shown, and the time that it took. The first step that
@@ -20,6 +21,7 @@ import subprocess
 import sys
 import time
 from concurrent.futures import ThreadPoolExecutor
+from pathlib import Path
 
 import all as every
 import edits
@@ -66,13 +68,33 @@ def changed():
     return now or listed("diff", "--name-only", "HEAD~1")
 
 
+def users(sources, file):
+    """The files of a crate that use something of this one, itself among them. A method is called without a `use` of the file of
+    its type, so this goes on from user to user."""
+    found, ahead = {file}, [file]
+    while ahead:
+        module = re.compile(rf"\b{re.escape('::'.join(('crate', *ahead.pop().with_suffix('').parts[1:])))}\b")
+        more = {it for it, text in sources.items() if it not in found and module.search(text)}
+        found |= more
+        ahead += more
+    return found
+
+
+def reached(crate, files):
+    """The edits of a crate that a change of these files of the repository reaches, or all of them."""
+    every = sorted(crate.glob("must-fail/*.edit"))
+    own = [Path(file).relative_to(f"crates/{crate.name}") for file in files if file.startswith(f"crates/{crate.name}/")]
+    if any(file.parts[0] != "src" or file.name == "lib.rt" for file in own):
+        return every
+    sources = {file.relative_to(crate): file.read_text() for file in crate.glob("src/**/*.rt")}
+    near = {str(it) for file in own for it in users(sources, file)}
+    return [edit for edit in every if near & set(re.findall(r"(?m)^file: (\S+)", edit.read_text()))] or every
+
+
 def try_edits(name):
-    """Tries the edits of the crate, each group of them on one core. The kept work of each group begins with that of the crate."""
-    crate, files = prove.TOP / "crates" / name, changed()
-    def is_other(edit):
-        return not any(f"crates/{name}/{line.removeprefix('file: ').strip()}" in files for line in edit.read_text().splitlines()
-                       if line.startswith("file: "))
-    found = sorted(sorted(crate.glob("must-fail/*.edit")), key=is_other)
+    """Tries these edits of the crate, each group of them on one core. The kept work of each group begins with that of the crate."""
+    crate = prove.TOP / "crates" / name
+    found, every = reached(crate, changed()), len(list(crate.glob("must-fail/*.edit")))
     groups = [group for group in (found[at::CORES] for at in range(CORES)) if group]
     with contextlib.redirect_stdout(io.StringIO()) as said, ThreadPoolExecutor(CORES) as cores:
         counts = list(cores.map(lambda group: edits.try_edits(crate, group), groups))
@@ -80,7 +102,7 @@ def try_edits(name):
         if "BAD EDIT" in line or "not proved without" in line:
             print(line)
     passed, known = (sum(column) for column in zip((0, 0), *counts))
-    print(f"{passed} of {len(found)} edits are refused, {known} of them by an earlier try")
+    print(f"{passed} of {len(found)} edits are refused, {known} of them by an earlier try. The crate has {every}")
     return passed == len(found)
 
 
