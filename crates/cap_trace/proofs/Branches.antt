@@ -1,6 +1,9 @@
 -- The branches on the way down to a word, the last of them and the next word.
-use Rattle.cap_spec.proofs.ProofNames.{List, Some, [], ap, append-nil, append_assoc, ap₂, arith, get_or, length, refl, subst, suc}
+use Rattle.cap_spec.proofs.ProofNames.{List, Some, [], ap, append-nil, append_assoc, ap₂, arith, get_or, length, length-append, refl, subst, suc}
 use Rattle.cap_spec.proofs.ProofNames.{sym, zero, ℕ, ◌++◌, ◌+◌, ◌-◌, ◌<◌, ◌∙◌, ◌∷◌, ◌≡◌}
+use Rattle.std.proofs.Common.{set, take}
+use Rattle.std.proofs.lemmas.List.{get_or_push, length-set, set_at, take_at}
+use Rattle.std.specs.List.{refill}
 use Rattle.cap_vet.specs.Trails.{Ahead, element_rows}
 use Rattle.cap_trace.specs.Branches.{path_from, words_of_object}
 use Rattle.cap_trace.specs.TraceNames.{Step, Item, Ptr, AreBranches, IsBranch, IsCounted, path_of, rest_from, rest_of}
@@ -171,3 +174,32 @@ pub went_below : (fs : List Branch) (f g : Branch)
     ≡ word_ahead (path_of ((fs ++ f ∷ []) ++ g ∷ [])) g ∷ rest_from [] ((fs ++ f ∷ []) ++ g ∷ [])
 went_below fs f g = ap₂ (λ (a : Ahead) (u : List Ahead). a ∷ u) (word_last (fs ++ f ∷ []) g)
     (sym (rest_from-last [] (fs ++ f ∷ []) g))
+
+-- Branches that aren't none have a last one.
+pub split_last : (bs : List Branch) → 0 < length bs → (others : List Branch) × (last : Branch) × (bs ≡ others ++ last ∷ [])
+split_last [] h = absurd (omega (arith, h))
+split_last (b ∷ []) h = ([], b, refl)
+split_last (b ∷ c ∷ bs) h =
+    let (others, last, e) = split_last (c ∷ bs) (omega arith) in (b ∷ others, last, ap (λ (u : List Branch). b ∷ u) e)
+
+pub length_parts : (bs others : List Branch) (last : Branch) → bs ≡ others ++ last ∷ [] → length bs ≡ length others + 1
+length_parts bs others last e = ap (λ (u : List Branch). length u) e ∙ length-append others (last ∷ [])
+
+-- It is the one that is read at the end,
+pub last_read : (bs now others : List Branch) (last d : Branch) (i : ℕ) → now ≡ bs → bs ≡ others ++ last ∷ []
+    → i + 1 ≡ length bs → get_or now i d ≡ last
+last_read bs now others last d i same e h =
+    ap (λ (u : List Branch). get_or u i d) (same ∙ e) ∙ get_or_push others last d i (omega (arith, h, length_parts bs others last e))
+
+-- or written.
+pub last_written : (bs now others : List Branch) (last b : Branch) (i : ℕ) → now ≡ bs → bs ≡ others ++ last ∷ []
+    → i + 1 ≡ length bs → refill (length bs) bs (set now i b) ≡ others ++ b ∷ []
+last_written bs now others last b i same e h =
+    ap (λ (u : List Branch). refill (length bs) bs (set u i b)) same ∙ take_at (set bs i b) _ (length bs) (length-set bs i b) ∙ ap (λ (u : List Branch). set u i b) e
+    ∙ set_at others last [] b i (omega (arith, h, length_parts bs others last e))
+
+-- Without it the others are left.
+pub last_gone : (bs others : List Branch) (last : Branch) → bs ≡ others ++ last ∷ [] → take (length bs - 1) bs ≡ others
+last_gone bs others last e =
+    ap (λ (u : List Branch). take (length u - 1) u) e
+    ∙ take_at others (last ∷ []) _ (omega (arith, length-append others (last ∷ [])))

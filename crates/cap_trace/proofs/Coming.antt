@@ -1,14 +1,14 @@
 -- A search comes to the pointer words of a message one after the other.
 use Rattle.cap_spec.proofs.Lemmas.{HasWord-inside, Before-asymmetric, Before-irreflexive, one_reached, one_of_last}
-use Rattle.cap_spec.proofs.ProofNames.{List, Some, [], ap, arith, inl, inr, length, length-append, refl, subst, sym, ℕ}
-use Rattle.cap_spec.proofs.ProofNames.{◌++◌, ◌+◌, ◌<◌, ◌∙◌, ◌∷◌, ◌≡◌, ◌≤◌, ◌⊎◌, IsOneOf, segment_of, Before, IsNumbered}
+use Rattle.cap_spec.proofs.ProofNames.{List, Some, [], ap, arith, get_or, inl, inr, length, length-append, refl, subst, sym, ℕ}
+use Rattle.cap_spec.proofs.ProofNames.{◌++◌, ◌+◌, ◌-◌, ◌<◌, ◌∙◌, ◌∷◌, ◌≡◌, ◌≤◌, ◌⊎◌, IsOneOf, segment_of, Before, IsNumbered}
 use Rattle.cap_spec.proofs.ProofNames.{IsTour, PathLeads, Reaches, Spot, StepsTo, element, level_of, word}
-use Rattle.cap_vet.specs.Trails.{IsTrail}
+use Rattle.cap_vet.specs.Trails.{Ahead, IsTrail}
 use Rattle.cap_vet.proofs.OneTrail.{root_trail}
 use Rattle.cap_trace.specs.Branches.{root_branch}
 use Rattle.cap_trace.specs.TraceNames.{Step, AreBranches, path_of, rest_from, IsTraceable, PassesAt, HasCome, IsBlockedAt}
-use Rattle.cap_trace.specs.TraceNames.{IsPut, ReportsPath, word_ahead, Branch}
-use Rattle.cap_trace.proofs.Branches.{branches_without}
+use Rattle.cap_trace.specs.TraceNames.{IsPut, IsSearch, ReportsPath, word_ahead, Branch, GoesBelow, IsBranch, Object}
+use Rattle.cap_trace.proofs.Branches.{branches_with, branches_without, last_read, length_parts, went_below}
 use Rattle.cap_trace.proofs.Numbering.{number_order}
 use Rattle.cap_trace.proofs.Onward.{next_tour, root_tour, up_to_last}
 
@@ -145,26 +145,64 @@ pub few_steps : (m : List (List ℕ)) (depth n : ℕ) (fs : List Branch) (f : Br
 few_steps m depth n fs f h =
     let k = (branches_without m depth 0 fs f h.branches).1 in omega (arith, level_counts m depth n fs f h, k.low)
 
+-- The branch of its word is the last.
+pub last_branch : (m : List (List ℕ)) (depth n : ℕ) (branches : List Branch) (last : Branch)
+    → (h : IsSearch m depth n branches last) → IsBranch m depth (0 + length h.others) last
+last_branch m depth n branches last h = (branches_without m depth 0 h.others last h.come.branches).1
+
+-- It is the one that is read at the end.
+pub at_end : (m : List (List ℕ)) (depth n : ℕ) (branches now others : List Branch) (last d : Branch) (i : ℕ) → now ≡ branches
+    → branches ≡ others ++ last ∷ [] → i ≡ length others → HasCome m depth n others last
+    → IsSearch m depth n branches (get_or now i d)
+at_end m depth n branches now others last d i same parts place h =
+    let long = length_parts branches others last parts in
+    let read = last_read branches now others last d i same parts (omega (arith, place, long)) in
+    record {
+      others = others;
+      parts = parts ∙ ap (λ (u : Branch). others ++ u ∷ []) (sym read);
+      come = subst (λ (u : Branch). HasCome m depth n others u) (sym read) h;
+    }
+
+-- So its level counts the steps.
+pub steps_counted : (m : List (List ℕ)) (depth n : ℕ) (branches : List Branch) (last : Branch)
+    → IsSearch m depth n branches last → last.level - 1 ≡ length (path_of branches)
+steps_counted m depth n branches last h =
+    omega (arith, level_counts m depth n h.others last h.come, ap (λ (u : List Branch). length (path_of u)) h.parts)
+
 -- Its path is what is written, and has few steps.
-pub found_reported : {S : Type 0} (slot : Step → S) (m : List (List ℕ)) (depth n : ℕ) (fs : List Branch) (f : Branch)
-    (others : List Branch) (count : ℕ) (old new : List S) → HasCome m depth n fs f → others ≡ fs
-    → count ≡ length (path_of (others ++ f ∷ [])) → IsPut slot (path_of (others ++ f ∷ [])) old new
-    → ReportsPath slot m depth n old (Some count) new × (count ≤ depth)
-found_reported slot m depth n fs f others count old new h e many put =
-    let same = ap (λ (u : List Branch). path_of (u ++ f ∷ [])) e in
+pub found_reported : {S : Type 0} (slot : Step → S) (m : List (List ℕ)) (depth n : ℕ) (branches : List Branch) (last : Branch)
+    (count : ℕ) (old new : List S) → IsSearch m depth n branches last → count ≡ length (path_of branches)
+    → IsPut slot (path_of branches) old new → ReportsPath slot m depth n old (Some count) new × (count ≤ depth)
+found_reported slot m depth n branches last count old new h many put =
+    let path = path_of (h.others ++ last ∷ []) in
+    let same = ap (λ (u : List Branch). path_of u) h.parts in
     let long = ap (λ (u : List Step). length u) same in (
-      (
-        path_of (fs ++ f ∷ []),
-        traceable_here m depth n fs f h,
-        many ∙ long,
-        subst (λ (u : List Step). IsPut slot u old new) same put,
-      ),
-      omega (arith, many, long, few_steps m depth n fs f h),
+      (path, traceable_here m depth n h.others last h.come, many ∙ long, subst (λ (u : List Step). IsPut slot u old new) same put),
+      omega (arith, many, long, few_steps m depth n h.others last h.come),
     )
 
 -- Before the word of a number, space is left for one more branch.
-pub has_space : (m : List (List ℕ)) (depth n more space : ℕ) (fs : List Branch) (f : Branch) → HasCome m depth n fs f → n < more
-    → (more ≤ space) ⊎ (depth < space) → length fs < space
-has_space m depth n more space fs f h less (inl enough) = omega (arith, h.few, less, enough)
-has_space m depth n more space fs f h less (inr enough) =
-    let k = (branches_without m depth 0 fs f h.branches).1 in omega (arith, k.high, k.low, enough)
+pub has_space : (m : List (List ℕ)) (depth n more space : ℕ) (branches : List Branch) (last : Branch)
+    → IsSearch m depth n branches last → n < more → (more ≤ space) ⊎ (depth + 1 < space) → length branches < space
+has_space m depth n more space branches last h less (inl enough) =
+    omega (arith, length_parts branches h.others last h.parts, h.come.few, less, enough)
+has_space m depth n more space branches last h less (inr enough) =
+    let k = last_branch m depth n branches last h in
+    omega (arith, length_parts branches h.others last h.parts, k.high, k.low, enough)
+
+-- A search enters the object below the last word.
+pub entered : (m : List (List ℕ)) (depth n : ℕ) (branches next : List Branch) (last below : Branch)
+    → next ≡ branches ++ below ∷ [] → IsSearch m depth n branches last → GoesBelow m depth last (Object (Some below))
+    → IsSearch m depth (n + 1) next below
+entered m depth n branches next last below pushed h k =
+    let others = h.others in
+    let trail = subst (λ (u : List Ahead). IsTrail m (path_of (others ++ last ∷ []) ∷ h.come.seen) u) (went_below others last below)
+    (k.2 h.come.seen (path_of (others ++ last ∷ [])) (rest_from [] (others ++ last ∷ [])) h.come.trail) in
+    let few : length (others ++ last ∷ []) ≤ length others + 1 = omega (arith, length-append others (last ∷ [])) in
+    let branch = subst (λ (u : ℕ). IsBranch m depth u below) (omega (arith, length-append others (last ∷ [])))
+    (k.1 _ (last_branch m depth n branches last h)) in record {
+      others = others ++ last ∷ [];
+      parts = pushed ∙ ap (λ (u : List Branch). u ++ below ∷ []) h.parts;
+      come = came_next m depth n others (others ++ last ∷ []) last below h.come k.0 trail
+          (branches_with m depth 0 (others ++ last ∷ []) below h.come.branches branch) few;
+    }

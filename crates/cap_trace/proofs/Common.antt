@@ -2,7 +2,7 @@
 use Rattle.cap_spec.specs.Denoting.{places}
 use Rattle.cap_spec.proofs.Disjoint.Places.{at_place, in_places, place_either, place_left, place_right}
 use Rattle.cap_spec.proofs.ProofNames.{List, arith, inl, inr, subst, sym, ℕ, ◌++◌, ◌+◌, ◌<◌, ◌≡◌, ◌≤◌, ◌⊎◌, IsOneOf}
-use Rattle.cap_spec.proofs.ProofNames.{HasWord, Occupies, [], ap, append-nil, pads_of, refl}
+use Rattle.cap_spec.proofs.ProofNames.{HasWord, Occupies, ap, append-nil, pads_of, refl}
 use Rattle.cap_ptr.specs.Shapes.{IsFollowed}
 use Rattle.cap_ptr.specs.declared.shapes.Followed.{Followed}
 use Rattle.cap_ptr.specs.declared.shapes.Followed.TheVariants.{Cap, Null, Target}

@@ -53,61 +53,39 @@ first_within base branches zero = path_grows base branches
 first_within base [] (suc i) = omega arith
 first_within base (f ∷ branches) (suc i) = first_within (base ++ steps_of f) branches i
 
--- nor is that over the first branches of those before the last
-path_within : (others : List Branch) (last : Branch) (i : ℕ)
-    → length (path_of (take i others)) ≤ length (path_of (others ++ last ∷ []))
-path_within others last i =
-    let long = ap (λ (u : List Step). length u) (path_from-last [] others last) in
-    omega (arith, long, length-append (path_of others) (steps_of last), first_within [] others i)
-
-module _ {S : Type 0} (slot : Step → S) (others : List Branch) (last : Branch) where
+module _ {S : Type 0} (slot : Step → S) (branches : List Branch) where
   -- The steps of one branch more fit, since the whole path does,
-  pub branch_fits : (i : ℕ) (d : Branch) (old now : List S) (at : ℕ) → i < length others
-      → length (path_of (others ++ last ∷ [])) ≤ length old → at ≡ length (path_of (take i others))
-      → now ≡ map slot (path_of (take i others)) ++ drop at old → at + length (steps_of (get_or others i d)) ≤ length now
+  pub branch_fits : (i : ℕ) (d : Branch) (old now : List S) (at : ℕ) → i < length branches
+      → length (path_of branches) ≤ length old → at ≡ length (path_of (take i branches))
+      → now ≡ map slot (path_of (take i branches)) ++ drop at old → at + length (steps_of (get_or branches i d)) ≤ length now
   branch_fits i d old now at less fits many was =
-      let path = path_of (take i others) in
-      let more = ap (λ (u : List Step). length u) (path_more others i d less) ∙ length-append path (steps_of (get_or others i d)) in
+      let path = path_of (take i branches) in
+      let more = ap (λ (u : List Step). length u) (path_more branches i d less) ∙ length-append path (steps_of (get_or branches i d)) in
       let long = ap (λ (u : List S). length u) (was ∙ ap (λ (u : ℕ). map slot path ++ drop u old) many)
-      ∙ written_length slot path old (omega (arith, path_within others last i, fits)) in
-      omega (arith, more, long, many, path_within others last (i + 1), fits)
+      ∙ written_length slot path old (omega (arith, first_within [] branches i, fits)) in
+      omega (arith, more, long, many, first_within [] branches (i + 1), fits)
 
   -- and are written.
-  pub branch_written : (i : ℕ) (d : Branch) (old now : List S) (at next : ℕ) → i < length others
-      → at ≡ length (path_of (take i others)) → next ≡ at + length (steps_of (get_or others i d))
-      → now ≡ map slot (path_of (take i others) ++ steps_of (get_or others i d)) ++ drop next old
-      → (next ≡ length (path_of (take (i + 1) others))) × (now ≡ map slot (path_of (take (i + 1) others)) ++ drop next old)
+  pub branch_written : (i : ℕ) (d : Branch) (old now : List S) (at next : ℕ) → i < length branches
+      → at ≡ length (path_of (take i branches)) → next ≡ at + length (steps_of (get_or branches i d))
+      → now ≡ map slot (path_of (take i branches) ++ steps_of (get_or branches i d)) ++ drop next old
+      → (next ≡ length (path_of (take (i + 1) branches))) × (now ≡ map slot (path_of (take (i + 1) branches)) ++ drop next old)
   branch_written i d old now at next less many place written =
-      let more = path_more others i d less in
-      let long = ap (λ (u : List Step). length u) more ∙ length-append (path_of (take i others)) (steps_of (get_or others i d)) in
+      let more = path_more branches i d less in
+      let long = ap (λ (u : List Step). length u) more ∙ length-append (path_of (take i branches)) (steps_of (get_or branches i d)) in
       (omega (arith, many, place, long), written ∙ sym (ap (λ (u : List Step). map slot u ++ drop next old) more))
 
-  -- So do those of the last one,
-  pub last_fits : (i : ℕ) (old now : List S) (at : ℕ) → take i others ≡ others
-      → length (path_of (others ++ last ∷ [])) ≤ length old → at ≡ length (path_of (take i others))
-      → now ≡ map slot (path_of (take i others)) ++ drop at old → at + length (steps_of last) ≤ length now
-  last_fits i old now at all fits many was =
-      let path = path_of (take i others) in
-      let whole = ap (λ (u : List Step). length u) (path_from-last [] others last) ∙ length-append (path_of others) (steps_of last) in
-      let long = ap (λ (u : List S). length u) (was ∙ ap (λ (u : ℕ). map slot path ++ drop u old) many)
-      ∙ written_length slot path old (omega (arith, path_within others last i, fits)) in
-      omega (arith, whole, long, many, ap (λ (u : List Branch). length (path_of u)) all, fits)
-
-  -- and the path is put.
-  pub path_put : (i : ℕ) (old now : List S) (at next : ℕ) → take i others ≡ others
-      → length (path_of (others ++ last ∷ [])) ≤ length old → at ≡ length (path_of (take i others))
-      → next ≡ at + length (steps_of last)
-      → now ≡ map slot (path_of (take i others) ++ steps_of last) ++ drop next old
-      → (next ≡ length (path_of (others ++ last ∷ []))) × IsPut slot (path_of (others ++ last ∷ [])) old now
-  path_put i old now at next all fits many place written =
-      let same : path_of (take i others) ++ steps_of last ≡ path_of (others ++ last ∷ []) =
-      ap (λ (u : List Branch). path_of u ++ steps_of last) all ∙ sym (path_from-last [] others last) in
-      let long = sym (ap (λ (u : List Step). length u) same) ∙ length-append (path_of (take i others)) (steps_of last) in
-      let count : next ≡ length (path_of (others ++ last ∷ [])) = omega (arith, many, place, long) in (
+  -- Those of all branches are the path that is put.
+  pub path_put : (i : ℕ) (old now : List S) (at : ℕ) → take i branches ≡ branches → length (path_of branches) ≤ length old
+      → at ≡ length (path_of (take i branches)) → now ≡ map slot (path_of (take i branches)) ++ drop at old
+      → (at ≡ length (path_of branches)) × IsPut slot (path_of branches) old now
+  path_put i old now at all fits many written =
+      let whole = ap (λ (u : List Branch). path_of u) all in
+      let count : at ≡ length (path_of branches) = many ∙ ap (λ (u : List Step). length u) whole in (
         count,
         (
-          (λ h. written ∙ ap (λ (u : List Step). map slot u ++ drop next old) same
-              ∙ ap (λ (u : ℕ). map slot (path_of (others ++ last ∷ [])) ++ drop u old) count),
+          (λ h. written ∙ ap (λ (u : List Step). map slot u ++ drop at old) whole
+              ∙ ap (λ (u : ℕ). map slot (path_of branches) ++ drop u old) count),
           (λ less. absurd (omega (arith, less, fits))),
         ),
       )

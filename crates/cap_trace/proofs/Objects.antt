@@ -61,14 +61,14 @@ structs_fit m s w k t b q tag n c size count d p f =
     rw (f.object.shape.count, f.object.shape.data_words, f.object.shape.pointers) fits.1 in
     omega (arith, capacity, f.finds.inside.inside, extent_structs q f.object.shape.kind f.object.shape.code)
 
-pub structs_words : (m : List (List ℕ)) (s w : ℕ) {k t b : ℕ} (q tag : ℕ) {n c : ℕ} (size : ℕ) {count d p at many dw : ℕ} (level : ℕ)
-    → FindsObject m s w k t b q tag n c (shape.Structs size count d p) → at ≡ b + 1 + d → 0 < p → many ≡ p → dw ≡ d
+pub structs_words : (m : List (List ℕ)) (s w : ℕ) {k t b : ℕ} (q tag : ℕ) {n c : ℕ} (size : ℕ) {count d p at many : ℕ} (level : ℕ)
+    → FindsObject m s w k t b q tag n c (shape.Structs size count d p) → at ≡ b + 1 + d → 0 < p → many ≡ p
     → 0 < count → (base : List Step)
-    → word_of base (branch Structs t at (many - 1) many (count - 1) count dw (level + 2))
-    ∷ rest_of base (branch Structs t at (many - 1) many (count - 1) count dw (level + 2)) ≡ object_children base q tag t b level
-structs_words m s w q tag size {count = zero} level f e some g h each base = absurd (omega (arith, each))
-structs_words m s w q tag size {count = suc count} {p = zero} level f e some g h each base = absurd (omega (arith, some))
-structs_words m s w {b} q tag size {count = suc count} {d} {p = suc p} level f e some g h each base =
+    → word_of base (branch Structs t at (many - 1) many (count - 1) count d (level + 2))
+    ∷ rest_of base (branch Structs t at (many - 1) many (count - 1) count d (level + 2)) ≡ object_children base q tag t b level
+structs_words m s w q tag size {count = zero} level f e some g each base = absurd (omega (arith, each))
+structs_words m s w q tag size {count = suc count} {p = zero} level f e some g each base = absurd (omega (arith, some))
+structs_words m s w {b} q tag size {count = suc count} {d} {p = suc p} level f e some g each base =
     let x : middle tag ≡ suc count = sym f.object.shape.count in
     let y : data_size tag ≡ d = sym f.object.shape.data_words in
     let z : pointer_size tag ≡ suc p = sym f.object.shape.pointers in
@@ -79,19 +79,19 @@ structs_words m s w {b} q tag size {count = suc count} {d} {p = suc p} level f e
     let end : b + 1 + d + suc p ≡ b + 1 + d + 1 + p = omega arith in
     let path : (base ++ Item 0 ∷ []) ++ Ptr 0 ∷ [] ≡ base ++ Item 0 ∷ Ptr 0 ∷ [] =
     append_assoc base (Item 0 ∷ []) (Ptr 0 ∷ []) in
-    rw (f.object.shape.kind, f.object.shape.code, x, y, z, e, g, h, one, rest, index, element, end, path) refl
+    rw (f.object.shape.kind, f.object.shape.code, x, y, z, e, g, one, rest, index, element, end, path) refl
 
 -- the branch of a list of structs
-pub structs_branch : (m : List (List ℕ)) (s w : ℕ) {k t b : ℕ} (q tag : ℕ) {n c : ℕ} (size : ℕ) {count d p at many dw : ℕ} (level depth i : ℕ)
-    → FindsObject m s w k t b q tag n c (shape.Structs size count d p) → at ≡ b + 1 + d → 0 < p → many ≡ p → dw ≡ d
+pub structs_branch : (m : List (List ℕ)) (s w : ℕ) {k t b : ℕ} (q tag : ℕ) {n c : ℕ} (size : ℕ) {count d p at many : ℕ} (level depth i : ℕ)
+    → FindsObject m s w k t b q tag n c (shape.Structs size count d p) → at ≡ b + 1 + d → 0 < p → many ≡ p
     → 0 < count → p < 2 ^ 16 → i + 1 ≤ level → level + element_levels count ≤ depth
-    → IsBranch m depth (i + 1) (branch Structs t at (many - 1) many (count - 1) count dw (level + 2))
-structs_branch m s w q tag size {count = zero} level depth i f e some g h each short high low =
+    → IsBranch m depth (i + 1) (branch Structs t at (many - 1) many (count - 1) count d (level + 2))
+structs_branch m s w q tag size {count = zero} level depth i f e some g each short high low =
     absurd (omega (arith, each))
-structs_branch m s w {k} {t} {b} q tag {n} {c} size {count = suc count} {d} {p} level depth i f e some g h each short high low =
+structs_branch m s w {k} {t} {b} q tag {n} {c} size {count = suc count} {d} {p} level depth i f e some g each short high low =
     let rest : suc count - 1 ≡ count = omega arith in record {
       exists = f.finds.inside.exists;
-      inside = rw (rest, h, g) (omega (arith, e, some, structs_fit m s w k t b q tag n c size (suc count) d p f));
+      inside = rw (rest, g) (omega (arith, e, some, structs_fit m s w k t b q tag n c size (suc count) d p f));
       counted = (omega (arith, g, some), omega arith, omega (arith, g, short));
       high = omega arith;
       low = omega arith;

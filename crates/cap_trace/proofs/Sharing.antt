@@ -1,11 +1,11 @@
 -- The first pointer that uses a word which a later one uses too.
 use Rattle.cap_spec.proofs.Lemmas.{Before-trans, one_of_last, one_reached, one_used}
 use Rattle.cap_spec.proofs.Paths.Preorder.{Before-total_coming, one_first, one_number}
-use Rattle.cap_spec.proofs.ProofNames.{List, None, Option, Some, [], arith, inl, inr, length, length-append, refl, subst, sym, ℕ}
-use Rattle.cap_spec.proofs.ProofNames.{◌++◌, ◌+◌, ◌<◌, ◌∷◌, ◌≡◌, ◌≤◌, ◌⊎◌, IsOneOf, Occupies, Uses, Before, IsNumbered}
+use Rattle.cap_spec.proofs.ProofNames.{List, None, Option, Some, [], arith, inl, inr, length-append, refl, subst, sym, ℕ}
+use Rattle.cap_spec.proofs.ProofNames.{◌++◌, ◌+◌, ◌<◌, ◌∷◌, ◌≡◌, ◌⊎◌, IsOneOf, Occupies, Uses, Before, IsNumbered}
 use Rattle.cap_spec.proofs.ProofNames.{Reaches, word, ap}
 use Rattle.cap_trace.specs.EarlierPointers.{IsEarlier, IsEarlierOf, IsFirstUsing, NoneUses, SharesBefore, ReportsEarlier}
-use Rattle.cap_trace.specs.EarlierPointers.{UsesOneAt, UsesOneOf}
+use Rattle.cap_trace.specs.EarlierPointers.{UsesOneAt}
 use Rattle.cap_trace.specs.NamedPaths.{IsTraced}
 use Rattle.cap_trace.specs.TraceNames.{Step, IsTraceable, HasCome, Branch, path_of}
 use Rattle.cap_trace.specs.declared.earlier.EarlierPointer.{EarlierPointer}

@@ -6,7 +6,8 @@ pub use Rattle.cap_spec.specs.declared.Step.TheVariants.{Item, Ptr}
 pub use Rattle.cap_trace.specs.Branches.{AreBranches, IsBranch, IsCounted, path_of, rest_from, rest_of, skipped}
 pub use Rattle.cap_trace.specs.Branches.{steps_of, word_of}
 pub use Rattle.cap_trace.specs.PointerNumbers.{IsTraceable, PassesAt}
-pub use Rattle.cap_trace.specs.Traces.{GivesPath, GoesBelow, HasCome, IsBlockedAt, IsPut, ReportsPath, word_ahead}
+pub use Rattle.cap_trace.specs.Traces.{GivesPath, GoesBelow, HasCome, IsBlockedAt, IsPut, IsSearch, ReportsPath}
+pub use Rattle.cap_trace.specs.Traces.{word_ahead}
 pub use Rattle.cap_trace.specs.declared.below.Below.{Below}
 pub use Rattle.cap_trace.specs.declared.below.Below.TheVariants.{Object}
 pub use Rattle.cap_trace.specs.declared.branch.Branch.{Branch}

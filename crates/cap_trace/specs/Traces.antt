@@ -45,6 +45,12 @@ pub record HasCome (m : List (List ℕ)) (depth n : ℕ) (others : List Branch) 
   pub passable : (q : List Step) → Before q (path_of (others ++ last ∷ [])) → IsPassable m depth q
   pub few : length others < n
 
+-- The last of these branches is that of the word that the search has come to, and the others are those before it.
+pub record IsSearch (m : List (List ℕ)) (depth n : ℕ) (branches : List Branch) (last : Branch) : Type 0 where
+  pub others : List Branch
+  pub parts : branches ≡ others ++ last ∷ []
+  pub come : HasCome m depth n others last
+
 -- no path of this number can be traced
 abbrev pub IsMissing : List (List ℕ) → ℕ → ℕ → Type 0
 IsMissing m depth n = (path : List Step) → ¬ IsTraceable m depth n path

@@ -106,7 +106,7 @@ fn branch_of(target: &Target, level: u32) -> Option<Branch>
             }
             let at = start + 1 + u32::from(data_words);
             let first = Branch::first(Form::Structs, segment, at, u32::from(pointers), level + 2);
-            Some(first.of_elements(count, u32::from(data_words)))
+            Some(first.of_elements(count, data_words))
         }
     }
 }

@@ -23,7 +23,10 @@ pub(crate) enum Form {
 /// element, and those of a list, are a row: no other word is between them.
 #[derive(Clone, Copy, Default)]
 pub(crate) struct Branch {
+    // These two share four bytes, so that a branch has 32.
     pub(crate) form: Form,
+    /// Of each element of a list of structs, in words.
+    pub(crate) data_words: u16,
     pub(crate) segment: u32,
     /// The word.
     pub(crate) at: u32,
@@ -35,8 +38,6 @@ pub(crate) struct Branch {
     pub(crate) more: u32,
     /// How many elements the list has.
     pub(crate) elements: u32,
-    /// Of each element, in words.
-    pub(crate) data_words: u32,
     /// The level of what these words lead to.
     pub(crate) level: u32,
 }
@@ -79,7 +80,7 @@ impl Branch {
 
     /// The same of a list of this many elements, of `data_words` words before the row of each.
     #[inline(always)]
-    pub(crate) fn of_elements(self, elements: u32, data_words: u32) -> Branch
+    pub(crate) fn of_elements(self, elements: u32, data_words: u16) -> Branch
         requires { 0 < elements }
         ensures { result ≡
             record self { more = elements - 1; elements = elements; data_words = data_words } }
@@ -109,7 +110,7 @@ impl Branch {
             return true;
         }
         if self.more > 0 {
-            self.at = self.at + 1 + self.data_words;
+            self.at = self.at + 1 + u32::from(self.data_words);
             self.left = self.row - 1;
             self.more -= 1;
             return true;

@@ -27,7 +27,7 @@ pub struct EarlierPointer {
 }
 
 /// The most branches on the way down to a pointer word.
-const BRANCHES: usize = 257;
+const BRANCHES: usize = 258;
 
 /// The first pointer in preorder that uses a word which the pointer word of this number uses too.
 /// `number` may be the `pointers` of an overlap. A pointer uses its landing pads and the words of its
@@ -75,9 +75,10 @@ fn word_of_number<M: Segments>(message: &M, depth: u32, number: u64) -> Option<B
     if number == 0 || message.len(0) == 0 {
         return None;
     }
-    let mut others: BranchStack<BRANCHES> = BranchStack::new();
+    let mut branches: BranchStack<BRANCHES> = BranchStack::new();
     let mut last = Branch::root();
-    if !seek(message, depth, number, &mut others, &mut last) {
+    branches.push(last);
+    if !seek(message, depth, number, &mut branches, &mut last) {
         return None;
     }
     Some(last)
@@ -96,8 +97,9 @@ fn first_using<M: Segments>(
     ensures { let m = M.segments message.now in (path : List Step) →
         IsTraceable m depth number path → IsFirstUsing m (places_of used.now) path result }
 {
-    let mut others: BranchStack<BRANCHES> = BranchStack::new();
+    let mut branches: BranchStack<BRANCHES> = BranchStack::new();
     let mut here = Branch::root();
+    branches.push(here);
     let mut at = 1;
     'words: loop {
         if at == number {
@@ -111,7 +113,7 @@ fn first_using<M: Segments>(
             });
         }
         // The word of this number comes later.
-        if !pass(message, depth, &mut others, &mut here) {
+        if !pass(message, depth, &mut branches, &mut here) {
             unreachable!();
         }
         at += 1;

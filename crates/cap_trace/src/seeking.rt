@@ -6,10 +6,10 @@ ghost use Rattle.cap_spec.specs.Messages.{IsMessage, segment_of};
 ghost use Rattle.cap_trace.specs.Branches.{root_branch};
 ghost use Rattle.cap_trace.specs.NearPointers.{IsNearPointer};
 ghost use Rattle.cap_trace.specs.Seeking.{IsLooked, Passes};
-ghost use Rattle.cap_trace.specs.Traces.{GoesBelow, HasCome, IsMissing};
+ghost use Rattle.cap_trace.specs.Traces.{GoesBelow, IsMissing, IsSearch};
 ghost use Rattle.cap_trace.specs.declared.below.Below.TheVariants.{Object};
 ghost use Rattle.cap_trace.specs.declared.branch.Branch.{Branch};
-ghost use Rattle.std.specs.Prelude.{◌+◌, ◌<◌, ◌≡◌, ◌≤◌, ◌⊎◌, [], IsFalse, IsTrue, List, None, Some, length, ℕ};
+ghost use Rattle.std.specs.Prelude.{◌+◌, ◌++◌, ◌<◌, ◌≡◌, ◌≤◌, ◌⊎◌, [], ◌∷◌, IsFalse, IsTrue, List, None, Some, length, ℕ};
 
 use crate::below::{Below, below_target, look_below};
 use crate::branch::Branch;
@@ -20,8 +20,8 @@ use arrayvec::ArrayVec;
 use cap_frame::Segments;
 use cap_ptr::{Row, Target, kind, middle, near_row};
 
-/// The branches on the way down to a pointer word, the first one at the root. 257 are enough for the
-/// greatest depth.
+/// The branches on the way down to a pointer word. The first one is at the root, and the last one is
+/// that of the word. 258 are enough for the greatest depth.
 pub(crate) type BranchStack<const N: usize> = ArrayVec<Branch, N>;
 
 /// What comes of looking at a pointer word.
@@ -37,42 +37,51 @@ enum Looked {
     Unknown,
 }
 
+// The last of these branches.
+#[inline(always)]
+fn last_of<const N: usize>(branches: &BranchStack<N>) -> Branch
+    requires { 0 < length branches.now.items }
+    ensures { (others : List Branch) (last : Branch) → branches.now.items ≡ others ++ last ∷ [] →
+        result ≡ last }
+{
+    branches.as_slice()[branches.len() - 1]
+}
+
 /// Looks at the pointer words of a message in preorder, from the root word up to that of this number.
-/// `last` is the word that the search has come to, and `others` are the branches before it on the way
-/// down. `false` if there is no such word, or if a pointer before it can't be followed or leads past the
-/// depth limit.
+/// The branches are then those on the way down to it, and `last` is a copy of the last one. `false` if
+/// there is no such word, or if a pointer before it can't be followed or leads past the depth limit.
 #[inline(always)]
 pub(crate) fn seek<M: Segments, const N: usize>(
     message: &M,
     depth: u32,
     number: u64,
-    others: &mut BranchStack<N>,
+    branches: &mut BranchStack<N>,
     last: &mut Branch,
 ) -> bool
     requires shallow { depth ≤ 256 }
     requires counted { 0 < number }
     requires root { 0 < length (segment_of (M.segments message.now) 0) }
-    // Fewer branches are before a word than words were looked at, and at most one for each level.
-    requires capacity { (number ≤ N) ⊎ (depth < N) }
-    requires start { (others.old.items ≡ []) × (last.old ≡ root_branch) }
+    // There are at most as many branches as words were looked at, and at most one for each level.
+    requires capacity { (number ≤ N) ⊎ (depth + 1 < N) }
+    requires start { (branches.old.items ≡ root_branch ∷ []) × (last.old ≡ root_branch) }
     ensures found { IsTrue result →
-        HasCome (M.segments message.now) depth number others.new.items last.new }
+        IsSearch (M.segments message.now) depth number branches.new.items last.new }
     ensures missing { IsFalse result → IsMissing (M.segments message.now) depth number }
 {
-    // Nothing outside of this function has it, so its fields stay in registers.
-    let mut here = *last;
+    // What a look needs of it stays in registers. All else is read from the stack.
+    let mut here = Branch::root();
     let mut at = 1;
     'words: loop {
         if at == number {
-            *last = here;
+            *last = last_of(branches);
             return true;
         }
-        let nulls = pass_nulls(message, number - at, &mut here);
+        let nulls = pass_nulls(message, number - at, branches, &mut here);
         if nulls > 0 {
             at += nulls;
             continue;
         }
-        if !pass(message, depth, others, &mut here) {
+        if !pass(message, depth, branches, &mut here) {
             return false;
         }
         at += 1;
@@ -82,12 +91,18 @@ pub(crate) fn seek<M: Segments, const N: usize>(
 // Goes on over null words while others of the same row follow, and over at most as many as `most`.
 // Gives how many. In many lists of pointers nearly every word is null.
 #[inline(always)]
-fn pass_nulls<M: Segments>(message: &M, most: u64, last: &mut Branch) -> u64
-    requires { (depth n : ℕ) × (others : List Branch)
-        × HasCome (M.segments message.now) depth n others last.old }
+fn pass_nulls<M: Segments, const N: usize>(
+    message: &M,
+    most: u64,
+    branches: &mut BranchStack<N>,
+    last: &mut Branch,
+) -> u64
+    requires { (depth n : ℕ)
+        × IsSearch (M.segments message.now) depth n branches.old.items last.old }
     ensures few { result ≤ most }
-    ensures passed { let m = M.segments message.now in (depth n : ℕ) (others : List Branch) →
-        HasCome m depth n others last.old → HasCome m depth (n + result) others last.new }
+    ensures passed { let m = M.segments message.now in (depth n : ℕ) →
+        IsSearch m depth n branches.old.items last.old →
+        IsSearch m depth (n + result) branches.new.items last.new }
 {
     if message.word(last.segment, last.at) != 0 || last.left == 0 {
         return 0;
@@ -98,6 +113,8 @@ fn pass_nulls<M: Segments>(message: &M, most: u64, last: &mut Branch) -> u64
         count += 1;
     }
     last.skip(count);
+    let top = branches.len() - 1;
+    branches.as_mut_slice()[top].skip(count);
     u64::from(count)
 }
 
@@ -107,24 +124,25 @@ fn pass_nulls<M: Segments>(message: &M, most: u64, last: &mut Branch) -> u64
 pub(crate) fn pass<M: Segments, const N: usize>(
     message: &M,
     depth: u32,
-    others: &mut BranchStack<N>,
+    branches: &mut BranchStack<N>,
     last: &mut Branch,
 ) -> bool
     requires shallow { depth ≤ 256 }
-    requires capacity { length others.old.items < N }
-    requires come { (n : ℕ) × HasCome (M.segments message.now) depth n others.old.items last.old }
+    requires capacity { length branches.old.items < N }
+    requires come { (n : ℕ)
+        × IsSearch (M.segments message.now) depth n branches.old.items last.old }
     ensures { let m = M.segments message.now in (n : ℕ) →
-        HasCome m depth n others.old.items last.old →
-        Passes m depth n others.new.items last.new result }
+        IsSearch m depth n branches.old.items last.old →
+        Passes m depth n branches.new.items last.new result }
 {
-    match look(message, depth, others, last) {
+    match look(message, depth, branches, last) {
         Looked::Entered => true,
         Looked::Blocked => false,
-        Looked::Nothing => leave(others, last),
+        Looked::Nothing => leave(branches, last),
         Looked::Unknown => {
             // It works on a copy, so that the branch of a loop has no address outside of it.
-            let mut from = *last;
-            let passed = pass_followed(message, depth, others, &mut from);
+            let mut from = last_of(branches);
+            let passed = pass_followed(message, depth, branches, &mut from);
             *last = from;
             passed
         }
@@ -136,14 +154,15 @@ pub(crate) fn pass<M: Segments, const N: usize>(
 fn look<M: Segments, const N: usize>(
     message: &M,
     depth: u32,
-    others: &mut BranchStack<N>,
+    branches: &mut BranchStack<N>,
     last: &mut Branch,
 ) -> Looked
     requires shallow { depth ≤ 256 }
-    requires capacity { length others.old.items < N }
-    requires come { (n : ℕ) × HasCome (M.segments message.now) depth n others.old.items last.old }
-    ensures { IsLooked (M.segments message.now) depth others.old.items last.old
-        others.new.items last.new result }
+    requires capacity { length branches.old.items < N }
+    requires come { (n : ℕ)
+        × IsSearch (M.segments message.now) depth n branches.old.items last.old }
+    ensures { IsLooked (M.segments message.now) depth branches.old.items last.old
+        branches.new.items last.new result }
 {
     let word = message.word(last.segment, last.at);
     if word == 0 {
@@ -156,13 +175,13 @@ fn look<M: Segments, const N: usize>(
         word,
     };
     if let Some(row) = near_row(word, last.at, message.len(last.segment)) {
-        return look_row(depth, others, last, &near, &row);
+        return look_row(depth, branches, last, &near, &row);
     }
     if kind(word) != 2 {
-        return look_other(message, depth, others, last, &near);
+        return look_other(message, depth, branches, last, &near);
     }
     match one_word_pad(message, last.segment, last.at, word) {
-        Some(pad) => look_near(message, depth, others, last, &pad),
+        Some(pad) => look_near(message, depth, branches, last, &pad),
         None => Looked::Unknown,
     }
 }
@@ -172,21 +191,22 @@ fn look<M: Segments, const N: usize>(
 fn look_near<M: Segments, const N: usize>(
     message: &M,
     depth: u32,
-    others: &mut BranchStack<N>,
+    branches: &mut BranchStack<N>,
     last: &mut Branch,
     near: &NearPointer,
 ) -> Looked
     requires shallow { depth ≤ 256 }
-    requires capacity { length others.old.items < N }
-    requires come { (n : ℕ) × HasCome (M.segments message.now) depth n others.old.items last.old }
+    requires capacity { length branches.old.items < N }
+    requires come { (n : ℕ)
+        × IsSearch (M.segments message.now) depth n branches.old.items last.old }
     requires near { let m = M.segments message.now in
         IsNearPointer m last.old.segment last.old.at near.now }
-    ensures { IsLooked (M.segments message.now) depth others.old.items last.old
-        others.new.items last.new result }
+    ensures { IsLooked (M.segments message.now) depth branches.old.items last.old
+        branches.new.items last.new result }
 {
     match near_row(near.word, near.at, message.len(near.segment)) {
-        Some(row) => look_row(depth, others, last, near, &row),
-        None => look_other(message, depth, others, last, near),
+        Some(row) => look_row(depth, branches, last, near, &row),
+        None => look_other(message, depth, branches, last, near),
     }
 }
 
@@ -194,7 +214,7 @@ fn look_near<M: Segments, const N: usize>(
 #[inline(always)]
 fn look_row<const N: usize>(
     depth: u32,
-    others: &mut BranchStack<N>,
+    branches: &mut BranchStack<N>,
     last: &mut Branch,
     near: &NearPointer,
     row: &Row,
@@ -202,10 +222,10 @@ fn look_row<const N: usize>(
     requires found { (m : List (List ℕ)) × IsNearPointer m last.old.segment last.old.at near.now
         × FindsRow m near.now.segment near.now.at near.now.word row.now }
     requires level { last.old.level ≤ 257 }
-    requires capacity { length others.old.items < N }
+    requires capacity { length branches.old.items < N }
     ensures { (m : List (List ℕ)) → IsNearPointer m last.old.segment last.old.at near.now →
         FindsRow m near.now.segment near.now.at near.now.word row.now →
-        IsLooked m depth others.old.items last.old others.new.items last.new result }
+        IsLooked m depth branches.old.items last.old branches.new.items last.new result }
 {
     if last.level > depth {
         return Looked::Blocked;
@@ -214,7 +234,8 @@ fn look_row<const N: usize>(
         return Looked::Nothing;
     }
     let branch = branch_of_row(near, row, last.level);
-    enter(others, last, branch);
+    branches.push(branch);
+    *last = branch;
     Looked::Entered
 }
 
@@ -223,20 +244,21 @@ fn look_row<const N: usize>(
 fn look_other<M: Segments, const N: usize>(
     message: &M,
     depth: u32,
-    others: &mut BranchStack<N>,
+    branches: &mut BranchStack<N>,
     last: &mut Branch,
     near: &NearPointer,
 ) -> Looked
     requires shallow { depth ≤ 256 }
-    requires capacity { length others.old.items < N }
-    requires come { (n : ℕ) × HasCome (M.segments message.now) depth n others.old.items last.old }
+    requires capacity { length branches.old.items < N }
+    requires come { (n : ℕ)
+        × IsSearch (M.segments message.now) depth n branches.old.items last.old }
     requires near { let m = M.segments message.now in
         IsNearPointer m last.old.segment last.old.at near.now }
-    ensures { IsLooked (M.segments message.now) depth others.old.items last.old
-        others.new.items last.new result }
+    ensures { IsLooked (M.segments message.now) depth branches.old.items last.old
+        branches.new.items last.new result }
 {
     if let Some(list) = struct_list(message, near.pads, near.segment, near.at, near.word) {
-        return look_target(depth, others, last, &list);
+        return look_target(depth, branches, last, &list);
     }
     if kind(near.word) == 3 && middle(near.word) == 0 {
         return Looked::Nothing;
@@ -248,20 +270,21 @@ fn look_other<M: Segments, const N: usize>(
 #[inline(always)]
 fn look_target<const N: usize>(
     depth: u32,
-    others: &mut BranchStack<N>,
+    branches: &mut BranchStack<N>,
     last: &mut Branch,
     target: &Target,
 ) -> Looked
     requires found { (m : List (List ℕ)) × IsMessage m
         × FindsTarget m last.old.segment last.old.at target.now }
     requires level { last.old.level ≤ 257 }
-    requires capacity { length others.old.items < N }
+    requires capacity { length branches.old.items < N }
     ensures { (m : List (List ℕ)) → FindsTarget m last.old.segment last.old.at target.now →
-        IsLooked m depth others.old.items last.old others.new.items last.new result }
+        IsLooked m depth branches.old.items last.old branches.new.items last.new result }
 {
     match below_target(target, depth, last) {
         Below::Object(Some(branch)) => {
-            enter(others, last, branch);
+            branches.push(branch);
+            *last = branch;
             Looked::Entered
         }
         Below::Object(None) => Looked::Nothing,
@@ -274,54 +297,46 @@ fn look_target<const N: usize>(
 fn pass_followed<M: Segments, const N: usize>(
     message: &M,
     depth: u32,
-    others: &mut BranchStack<N>,
+    branches: &mut BranchStack<N>,
     last: &mut Branch,
 ) -> bool
     requires shallow { depth ≤ 256 }
-    requires capacity { length others.old.items < N }
-    requires come { (n : ℕ) × HasCome (M.segments message.now) depth n others.old.items last.old }
+    requires capacity { length branches.old.items < N }
+    requires come { (n : ℕ)
+        × IsSearch (M.segments message.now) depth n branches.old.items last.old }
     ensures { let m = M.segments message.now in (n : ℕ) →
-        HasCome m depth n others.old.items last.old →
-        Passes m depth n others.new.items last.new result }
+        IsSearch m depth n branches.old.items last.old →
+        Passes m depth n branches.new.items last.new result }
 {
     match look_below(message, depth, last) {
         Below::Object(Some(branch)) => {
-            enter(others, last, branch);
+            branches.push(branch);
+            *last = branch;
             true
         }
-        Below::Object(None) => leave(others, last),
+        Below::Object(None) => leave(branches, last),
         Below::Blocked => false,
     }
 }
 
-// Goes on to the first pointer word of the object that the last one leads to.
-#[inline(always)]
-fn enter<const N: usize>(others: &mut BranchStack<N>, last: &mut Branch, branch: Branch)
-    requires { length others.old.items < N }
-    ensures { (m : List (List ℕ)) (depth n : ℕ) → HasCome m depth n others.old.items last.old →
-        GoesBelow m depth last.old (Object (Some branch)) →
-        HasCome m depth (n + 1) others.new.items last.new }
-{
-    others.push(*last);
-    *last = branch;
-}
-
 // Goes on from a word with no pointer words below it. `false` if no word comes after it.
 #[inline(always)]
-fn leave<const N: usize>(others: &mut BranchStack<N>, last: &mut Branch) -> bool
+fn leave<const N: usize>(branches: &mut BranchStack<N>, last: &mut Branch) -> bool
     requires { (m : List (List ℕ)) × (depth n : ℕ) × IsMessage m
-        × HasCome m depth n others.old.items last.old }
-    ensures { (m : List (List ℕ)) (depth n : ℕ) → HasCome m depth n others.old.items last.old →
+        × IsSearch m depth n branches.old.items last.old }
+    ensures { (m : List (List ℕ)) (depth n : ℕ) → IsSearch m depth n branches.old.items last.old →
         GoesBelow m depth last.old (Object None) →
-        Passes m depth n others.new.items last.new result }
+        Passes m depth n branches.new.items last.new result }
 {
     'up: loop {
-        if last.advance() {
+        let top = branches.len() - 1;
+        if branches.as_mut_slice()[top].advance() {
+            *last = branches.as_slice()[top];
             return true;
         }
-        match others.pop() {
-            Some(branch) => *last = branch,
-            None => return false,
+        branches.pop();
+        if branches.is_empty() {
+            return false;
         }
     }
 }

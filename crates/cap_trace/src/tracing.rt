@@ -72,15 +72,15 @@ fn traced<M: Segments, S: StepSlot>(
     if number == 0 || message.len(0) == 0 {
         return None;
     }
-    // Each search initializes its branches. Fewer are before a word than words were looked at, and at
-    // most one for each level. The default depth limit is 64.
+    // Each search initializes its branches. There are at most as many as words were looked at, and at
+    // most one for each level and one more. The default depth limit is 64.
     if number <= 32 {
         return traced_within::<M, S, 32>(message, depth, number, steps);
     }
-    if number <= 65 || depth <= 64 {
-        return traced_within::<M, S, 65>(message, depth, number, steps);
+    if number <= 66 || depth <= 64 {
+        return traced_within::<M, S, 66>(message, depth, number, steps);
     }
-    traced_within::<M, S, 257>(message, depth, number, steps)
+    traced_within::<M, S, 258>(message, depth, number, steps)
 }
 
 // The same of a message with a root word, with capacity for `N` branches.
@@ -91,43 +91,44 @@ fn traced_within<M: Segments, S: StepSlot, const N: usize>(
     number: u64,
     steps: &mut [S],
 ) -> Option<usize>
-    requires most { N ≤ 257 }
+    requires most { N ≤ 258 }
     requires shallow { depth ≤ 256 }
     requires counted { 0 < number }
     requires root { 0 < length (segment_of (M.segments message.now) 0) }
-    requires capacity { (number ≤ N) ⊎ (depth < N) }
+    requires capacity { (number ≤ N) ⊎ (depth + 1 < N) }
+    requires some { 0 < N }
     ensures reports { ReportsPath S.slot (M.segments message.now) depth number steps.old result steps.new }
     ensures few { IfSome result (λ count. count ≤ depth) }
 {
-    let mut others: BranchStack<N> = BranchStack::new();
+    let mut branches: BranchStack<N> = BranchStack::new();
     let mut last = Branch::root();
-    if !seek(message, depth, number, &mut others, &mut last) {
+    branches.push(last);
+    if !seek(message, depth, number, &mut branches, &mut last) {
         return None;
     }
-    Some(write_path(others.as_slice(), &last, steps))
+    // Each step takes a level.
+    let count = last.level - 1;
+    Some(write_path(branches.as_slice(), count as usize, steps))
 }
 
-// Writes the path over these branches to the start of the buffer, if it fits. Gives how many steps it
-// has. The search doesn't share its registers.
+// Writes the path over these branches, which has `count` steps, to the start of the buffer, if it fits.
+// Gives `count`. The search doesn't share its registers.
 #[inline(never)]
-fn write_path<S: StepSlot>(others: &[Branch], last: &Branch, steps: &mut [S]) -> usize
-    requires few { length others.now ≤ 257 }
-    requires level { last.now.level ≡ length (path_of (others.now ++ last.now ∷ [])) + 1 }
-    requires branches { (m : List (List ℕ)) × (depth : ℕ)
-        × AreBranches m depth 0 (others.now ++ last.now ∷ []) }
-    ensures count { result ≡ length (path_of (others.now ++ last.now ∷ [])) }
-    ensures steps { IsPut S.slot (path_of (others.now ++ last.now ∷ [])) steps.old steps.new }
+fn write_path<S: StepSlot>(branches: &[Branch], count: usize, steps: &mut [S]) -> usize
+    requires few { length branches.now ≤ 258 }
+    requires count { count ≡ length (path_of branches.now) }
+    requires branches { (m : List (List ℕ)) × (depth : ℕ) × AreBranches m depth 0 branches.now }
+    ensures count { result ≡ count }
+    ensures steps { IsPut S.slot (path_of branches.now) steps.old steps.new }
 {
-    // Each step takes a level.
-    let count = (last.level - 1) as usize;
     if count > steps.len() {
         return count;
     }
     let mut at = 0;
-    'branches: for branch in others {
+    'branches: for branch in branches {
         at = write_steps(branch, steps, at);
     }
-    write_steps(last, steps, at)
+    at
 }
 
 // Writes the steps of a branch at this place. Gives the next place.

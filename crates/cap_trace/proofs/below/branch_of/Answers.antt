@@ -36,7 +36,7 @@ returns-else-pointers-eq0-2-clause-words c = λ m s w q tag f base.
     let at_start : c.args.target.now.start + 1 + c.from-in-Structs.result ≡ c.args.target.now.start + 1
     + c.in-Structs.data_words = omega (arith, c.from-in-Structs.ensures) in
     rw (c.of_elements.ensures, c.first-first.ensures)
-    (structs_words m s w q tag _ c.args.level g at_start some c.from-in-Structs-2.ensures c.from-in-Structs-3.ensures each base)
+    (structs_words m s w q tag _ c.args.level g at_start some c.from-in-Structs-2.ensures each base)
 
 pub returns-else-pointers-eq0-2-clause-branch : goal.returns-else-pointers-eq0-2-clause-branch
 returns-else-pointers-eq0-2-clause-branch c = λ m s w q tag depth n f high low.
@@ -47,4 +47,4 @@ returns-else-pointers-eq0-2-clause-branch c = λ m s w q tag depth n f high low.
     + c.in-Structs.data_words = omega (arith, c.from-in-Structs.ensures) in
     let short : c.in-Structs.pointers < 2 ^ 16 = search rules in
     rw (c.of_elements.ensures, c.first-first.ensures)
-    (structs_branch m s w q tag _ c.args.level depth n g at_start some c.from-in-Structs-2.ensures c.from-in-Structs-3.ensures each short high (rw c.in-Structs.is at low))
+    (structs_branch m s w q tag _ c.args.level depth n g at_start some c.from-in-Structs-2.ensures each short high (rw c.in-Structs.is at low))

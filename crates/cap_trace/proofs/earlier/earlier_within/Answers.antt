@@ -1,4 +1,4 @@
-use Rattle.std.proofs.Common.{None, Option, arith, subst, sym}
+use Rattle.std.proofs.Common.{Option, arith, subst, sym}
 use Rattle.cap_trace.specs.EarlierPointers.{ReportsEarlier, places_of}
 use Rattle.cap_trace.specs.declared.earlier.EarlierPointer.{EarlierPointer}
 use Rattle.cap_trace.proofs.Branches.{branches_without}

@@ -1,17 +1,17 @@
 use Rattle.std.proofs.Common.{arith, refl, rules, sym}
 use Rattle.cap_ptr.proofs.Pads.{lies-near}
-use Rattle.cap_trace.proofs.Branches.{branches_without}
+use Rattle.cap_trace.proofs.Coming.{last_branch}
 use Rattle.cap_trace.proofs.Nulls.{null_below}
 use Rattle.cap_trace.proofs.seeking.look.Goals as goal
 
 pub word-word-requires-clause-exists : goal.word-word-requires-clause-exists
 word-word-requires-clause-exists g c =
-    (branches_without (g.M.Segments.segments c.args.message.now) c.args.depth 0 _ _ c.requires.come.1.branches).1.exists
+    (last_branch (g.M.Segments.segments c.args.message.now) c.args.depth _ _ _ c.requires.come.1).exists
 
 pub word-word-requires-clause-inside : goal.word-word-requires-clause-inside
 word-word-requires-clause-inside g c =
-    let b = (branches_without (g.M.Segments.segments c.args.message.now) c.args.depth 0 _ _ c.requires.come.1.branches).1 in
-    omega (arith, b.inside)
+    let m = g.M.Segments.segments c.args.message.now in
+    let b = last_branch m c.args.depth _ _ _ c.requires.come.1 in omega (arith, b.inside)
 
 pub returns-then-word-eq0 : goal.returns-then-word-eq0
 returns-then-word-eq0 g c =
@@ -23,7 +23,7 @@ look_row-requires g c =
     let m = g.M.Segments.segments c.args.message.now in
     let last = c.args.last.now in
     let row = c.in-Some.ensures in
-    let b = (branches_without m c.args.depth 0 _ _ c.requires.come.1.branches).1 in (
+    let b = last_branch m c.args.depth _ _ _ c.requires.come.1 in (
       search rules,
       (
         (

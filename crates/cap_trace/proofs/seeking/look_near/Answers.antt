@@ -1,11 +1,11 @@
 use Rattle.std.proofs.Common.{arith, rules, sym}
-use Rattle.cap_trace.proofs.Branches.{branches_without}
+use Rattle.cap_trace.proofs.Coming.{last_branch}
 use Rattle.cap_trace.proofs.seeking.look_near.Goals as goal
 
 pub look_row-requires : goal.look_row-requires
 look_row-requires g c =
     let m = g.M.Segments.segments c.args.message.now in
-    let b = (branches_without m c.args.depth 0 _ _ c.requires.come.1.branches).1 in (
+    let b = last_branch m c.args.depth _ _ _ c.requires.come.1 in (
       search rules,
       (
         (m, c.requires.near, c.in-Some.ensures.row m c.args.near.now.segment c.requires.near.has (sym c.len.ensures)),

@@ -1,5 +1,5 @@
 use Rattle.cap_spec.proofs.ProofNames.{arith, refl, rules, to_cap, cap_index}
-use Rattle.cap_trace.proofs.Branches.{branches_without}
+use Rattle.cap_trace.proofs.Coming.{last_branch}
 use Rattle.cap_trace.proofs.Nulls.{cap_below}
 use Rattle.cap_trace.proofs.seeking.look_other.Goals as goal
 
@@ -7,7 +7,7 @@ pub look_target-requires : goal.look_target-requires
 look_target-requires g c =
     let m = g.M.Segments.segments c.args.message.now in
     let last = c.args.last.now in
-    let b = (branches_without m c.args.depth 0 _ _ c.requires.come.1.branches).1 in (
+    let b = last_branch m c.args.depth _ _ _ c.requires.come.1 in (
       search rules,
       (
         (m, g.met.M.Segments.is_message c.args.message.now, c.in-Some.ensures.found last.segment last.at c.requires.near.resolves),

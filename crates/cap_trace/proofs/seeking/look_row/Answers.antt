@@ -1,4 +1,5 @@
 use Rattle.std.proofs.Common.{arith, refl, ◌≤◌}
+use Rattle.cap_trace.proofs.Coming.{entered}
 use Rattle.cap_trace.proofs.RowBranches.{row_blocked, row_none, row_some}
 use Rattle.cap_trace.proofs.seeking.look_row.Goals as goal
 
@@ -15,6 +16,7 @@ returns-then-row-eq0 g c = λ m near f.
 pub returns : goal.returns
 returns g c = λ m near f n h.
     let within : c.args.last.now.level ≤ c.args.depth = omega (arith, c.if-last-depth.false) in
-    c.enter.ensures m c.args.depth n h
-    (row_some m c.args.depth c.args.last.now c.args.near.now c.args.row.now c.branch_of_row-branch.result near f within
+    let below = c.branch_of_row-branch.result in
+    entered m c.args.depth n c.args.branches.now.items _ c.args.last.now below c.push.ensures.items h
+    (row_some m c.args.depth c.args.last.now c.args.near.now c.args.row.now below near f within
     (c.branch_of_row-branch.ensures.words m f) (λ i high. c.branch_of_row-branch.ensures.branch m c.args.depth i f high within))

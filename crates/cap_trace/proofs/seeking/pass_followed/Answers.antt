@@ -1,29 +1,18 @@
-use Rattle.std.proofs.Common.{rules}
-use Rattle.cap_trace.proofs.Branches.{branches_without}
-use Rattle.cap_trace.proofs.Coming.{none_past}
+use Rattle.cap_trace.proofs.Coming.{entered, last_branch, none_past}
 use Rattle.cap_trace.proofs.seeking.pass_followed.Goals as goal
 
 pub look_below-requires-clause-branch : goal.look_below-requires-clause-branch
-look_below-requires-clause-branch g c =
-    let m = g.M.Segments.segments c.args.message.now in
-    (_, (branches_without m c.args.depth 0 _ _ c.requires.come.1.branches).1)
-
-pub leave-requires : goal.leave-requires
-leave-requires g c =
-    let m = g.M.Segments.segments c.args.message.now in
-    (search rules, (m, c.args.depth, c.requires.come.0, g.met.M.Segments.is_message c.args.message.now, c.requires.come.1))
+look_below-requires-clause-branch g c = let (n, h) = c.requires.come in (_, last_branch _ c.args.depth n _ _ h)
 
 pub returns-in-Object-Some : goal.returns-in-Object-Some
 returns-in-Object-Some g c = λ n h.
-    let m = g.M.Segments.segments c.args.message.now in
-    c.enter.ensures m c.args.depth n h (rw c.in-Object-Some.field-0-is at c.in-Object-Some.ensures)
+    entered _ c.args.depth n c.args.branches.now.items _ c.args.last.now _ c.push.ensures.items h
+    (rw c.in-Object-Some.field-0-is at c.in-Object-Some.ensures)
 
 pub returns-in-Object-None : goal.returns-in-Object-None
 returns-in-Object-None g c = λ n h.
-    let m = g.M.Segments.segments c.args.message.now in
-    c.leave.ensures m c.args.depth n h (rw c.in-Object-None.field-0-is at c.in-Object-None.ensures)
+    c.leave.ensures _ c.args.depth n h (rw c.in-Object-None.field-0-is at c.in-Object-None.ensures)
 
 pub returns-in-Blocked : goal.returns-in-Blocked
 returns-in-Blocked g c = λ n h more less path a.
-    let m = g.M.Segments.segments c.args.message.now in
-    none_past m c.args.depth n more c.args.others.now.items c.args.last.now path h c.in-Blocked.ensures less a
+    none_past _ c.args.depth n more h.others c.args.last.now path h.come c.in-Blocked.ensures less a

@@ -1,28 +1,20 @@
-use Rattle.std.proofs.Common.{refl}
-use Rattle.cap_trace.proofs.Coming.{found_reported, level_counts}
+use Rattle.std.proofs.Common.{refl, ◌∙◌}
+use Rattle.cap_trace.proofs.Coming.{found_reported, steps_counted}
 use Rattle.cap_trace.proofs.tracing.traced_within.Goals as goal
 
 pub returns-then-not-seek-clause-reports : goal.returns-then-not-seek-clause-reports
 returns-then-not-seek-clause-reports g c = (c.seek.ensures.missing c.if-not-seek.true, refl)
 
-pub write_path-requires-clause-branches : goal.write_path-requires-clause-branches
-write_path-requires-clause-branches g c =
-    let come = c.seek.ensures.found c.if-not-seek.false in
-    (g.M.Segments.segments c.args.message.now, c.args.depth, rw c.as_slice.ensures.value come.branches)
+pub write_path-requires-clause-count : goal.write_path-requires-clause-count
+write_path-requires-clause-count g c =
+    rw c.as_slice.ensures.value
+    (steps_counted (g.M.Segments.segments c.args.message.now) c.args.depth c.args.number _ _ (c.seek.ensures.found c.if-not-seek.false))
 
-pub write_path-requires-clause-level : goal.write_path-requires-clause-level
-write_path-requires-clause-level g c =
+pub returns : goal.returns
+returns g c =
+    let m = g.M.Segments.segments c.args.message.now in
     let come = c.seek.ensures.found c.if-not-seek.false in
-    rw c.as_slice.ensures.value (level_counts (g.M.Segments.segments c.args.message.now) c.args.depth _ _ _ come)
-
-pub returns-clause-reports : goal.returns-clause-reports
-returns-clause-reports g c =
-    let come = c.seek.ensures.found c.if-not-seek.false in
-    (found_reported g.S.StepSlot.slot (g.M.Segments.segments c.args.message.now) c.args.depth c.args.number c.seek.new.others.items c.seek.new.last
-    c.as_slice.result.now _ c.args.steps.now _ come c.as_slice.ensures.value c.write_path.ensures.count c.write_path.ensures.steps).0
-
-pub returns-clause-few : goal.returns-clause-few
-returns-clause-few g c =
-    let come = c.seek.ensures.found c.if-not-seek.false in
-    (found_reported g.S.StepSlot.slot (g.M.Segments.segments c.args.message.now) c.args.depth c.args.number c.seek.new.others.items c.seek.new.last
-    c.as_slice.result.now _ c.args.steps.now _ come c.as_slice.ensures.value c.write_path.ensures.count c.write_path.ensures.steps).1
+    let counted = c.write_path.ensures.count ∙ steps_counted m c.args.depth c.args.number _ _ come in
+    let (reports, few) = found_reported g.S.StepSlot.slot m c.args.depth c.args.number c.seek.new.branches.items _ _ c.args.steps.now _ come
+    counted (rw c.as_slice.ensures.value at c.write_path.ensures.steps) in
+    record { reports = reports; few = few }

@@ -10,4 +10,5 @@ returns-then-self-gt0-clause-next c = λ t base.
 pub returns-then-self-gt0-2-clause-next : goal.returns-then-self-gt0-2-clause-next
 returns-then-self-gt0-2-clause-next c = λ t base.
     let from = c.args.self.now in
-    next_element from.form from.segment from.at from.left from.row from.more from.elements from.data_words from.level (omega (arith, c.if-self-gt0.false)) c.if-self-gt0-2.true c.requires.4.counted base
+    rw c.from.ensures
+    (next_element from.form from.segment from.at from.left from.row from.more from.elements from.data_words from.level (omega (arith, c.if-self-gt0.false)) c.if-self-gt0-2.true c.requires.4.counted base)
