@@ -11,14 +11,12 @@ use Rattle.cap_spec.proofs.ProofNames.{node_at, part_at, pointers, struct, struc
 use Rattle.cap_spec.proofs.ProofNames.{Item, Ptr}
 use Rattle.cap_spec.proofs.Trees.Finding.{one_found}
 use Rattle.cap_spec.proofs.Trees.OneTree.{Formed, HasForm, cons_parts, form_of, formed, number_list, number_struct}
+use Rattle.cap_spec.proofs.ProofNames.{rules}
 
 -- the tree of a word has the form of the object that the word finds
 pub found_form : (m : List (List ℕ)) (s w : ℕ) (x : Tree) (c d k t b q : ℕ) → Denotes m s w x c d → Finds m s w k t b q
     → HasForm x (2 + kind q * (1 + code q))
-found_form m s w x c d k t b q h f =
-    let g : Formed m s w x = formed m s w x c d h in
-    let e : to_object t (pos b) q ≡ g.r = (one_lead m s w k g.k (to_object t (pos b) q) g.r f.leads g.leads).1 in
-    subst (λ (r : Lead). HasForm x (form_of r)) (sym e) g.form
+found_form m s w x c d k t b q h f = search (rules, formed, one_lead)
 
 -- a step from a word to a struct's pointer has a part of the tree at its end
 each_at : (m : List (List ℕ)) (t b n : ℕ) (ts : Trees) (c d i x : ℕ) → DenoteEach m (places t b n) ts c d
@@ -43,12 +41,7 @@ each_of : (m : List (List ℕ)) (t b n : ℕ) (ts : Trees) (c d i x : ℕ) (u : 
     → (i < n) × (c' d' : ℕ) × Denotes m t x u c' d'
 each_of m t b n none c d i x u h f e = absurd (cc f)
 each_of m t b zero (more v ts) c d i x u h f e = absurd cc
-each_of m t b (suc n) (more v ts) c d zero x u h f e =
-    let (s, w, rest, c1, d1, c2, d2, begins, denotes, after, charge, depth) = h in
-    let p = cons_parts (t, b) (s, w) (places t (b + 1) n) rest begins in
-    let g : x ≡ b = omega arith in
-    let v_is_u : v ≡ u = cc f in
-    (omega arith, c1, d1, rw (g, ← v_is_u) (subst (λ (y : ℕ × ℕ). Denotes m y.0 y.1 v c1 d1) (sym p.0) denotes))
+each_of m t b (suc n) (more v ts) c d zero x u h f e = search (rules, cons_parts)
 each_of m t b (suc n) (more v ts) c d (suc i) x u h f e =
     let (s, w, rest, c1, d1, c2, d2, begins, denotes, after, charge, depth) = h in
     let p = cons_parts (t, b) (s, w) (places t (b + 1) n) rest begins in
@@ -73,15 +66,10 @@ elements_of : (m : List (List ℕ)) (t b ds ps n : ℕ) (es : Trees) (c d i x : 
     → AreElements m t b ds ps n es c d → tree_at es i ≡ Some u → x ≡ b + i * (ds + ps)
     → (i < n) × DenotesAt m (element t x ds ps) u
 elements_of m t b ds ps n none c d i x u h f e = absurd (cc f)
-elements_of m t b ds ps n (more (struct ws ts) es) c d zero x u h f e =
-    let (fewer, c1, d1, c2, d2, counted, own, each, after, charge, depth) = h in
-    let g : x ≡ b = omega arith in
-    let y : struct ws ts ≡ u = cc f in
-    (omega (arith, counted), subst (λ (z : Tree). DenotesAt m (element t x ds ps) z) y (c1, d1, rw g own, rw g each))
+elements_of m t b ds ps n (more (struct ws ts) es) c d zero x u h f e = search rules
 elements_of m t b ds ps n (more (struct ws ts) es) c d (suc i) x u h f e =
     let (fewer, c1, d1, c2, d2, counted, own, each, after, charge, depth) = h in
-    let r = elements_of m t (b + ds + ps) ds ps fewer es c2 d2 i x u after f (omega arith) in
-    (omega (arith, counted, r.0), r.1)
+    search (rules, elements_of m t (b + ds + ps) ds ps fewer es c2 d2 i x u after f (omega arith))
 elements_of m t b ds ps n (more y es) c d i x u h f e = absurd h
 
 -- a word that finds a struct denotes a struct, whose children its pointer words denote
@@ -95,9 +83,7 @@ struct_at m s w (struct ws ts) c d k t b q tag ds ps i h f lt =
     let y : ps ≡ ps' = cc o.kind in
     let r = each_at m t' (b' + ds') ps' ts inner deep i (b + ds + i) each (rw (← y) lt) (rw (o.start, x) refl) in
     (r.0, r.1, (r.2, r.3, subst (λ (y : ℕ). Denotes m y (b + ds + i) r.0 r.2 r.3) (sym o.segment) r.4))
-struct_at m s w x c d k t b q tag ds ps i h f lt =
-    let y = struct_shape f.shape in
-    absurd (omega (arith, number_struct (kind q) (code q) y.kind, found_form m s w x c d k t b q h f.finds))
+struct_at m s w x c d k t b q tag ds ps i h f lt = search (rules, struct_shape, number_struct, found_form)
 
 -- a word that finds a list of pointers denotes one, whose entries they denote
 pointers_at : (m : List (List ℕ)) (s w : ℕ) (x : Tree) (c d k t b q tag n i : ℕ) → Denotes m s w x c d
@@ -109,9 +95,7 @@ pointers_at m s w (pointers ts) c d k t b q tag n i h f lt =
     let x : n ≡ n' = cc o.kind in
     let r = each_at m t' b' n' ts inner deep i (b + i) each (rw (← x) lt) (rw o.start refl) in
     (r.0, r.1, (r.2, r.3, subst (λ (y : ℕ). Denotes m y (b + i) r.0 r.2 r.3) (sym o.segment) r.4))
-pointers_at m s w x c d k t b q tag n i h f lt =
-    let y = pointers_shape f.shape in
-    absurd (omega (arith, number_list (kind q) (code q) y.kind, y.code, found_form m s w x c d k t b q h f.finds))
+pointers_at m s w x c d k t b q tag n i h f lt = search (rules, pointers_shape, number_list, found_form)
 
 -- a tree at an element, by equal places
 element_moved : (m : List (List ℕ)) (t t' x ds ds' ps ps' : ℕ) (u : Tree) → t ≡ t' → ds ≡ ds' → ps ≡ ps'
@@ -131,9 +115,7 @@ structs_at m s w (structs ds' ps' es) c d k t b q tag n ds ps i h f lt =
     let r = elements_at m t' (b' + 1) ds' ps' n' es inner deep i (b + 1 + i * (ds + ps)) each (rw (← x) lt)
     (rw (o.start, y, z) refl) in
     (r.0, r.1, element_moved m t' t (b + 1 + i * (ds + ps)) ds' ds ps' ps r.0 (sym o.segment) (sym y) (sym z) r.2)
-structs_at m s w x c d k t b q tag n ds ps i h f lt =
-    let y = structs_shape f.shape in
-    absurd (omega (arith, number_list (kind q) (code q) y.kind, y.code, found_form m s w x c d k t b q h f.finds))
+structs_at m s w x c d k t b q tag n ds ps i h f lt = search (rules, structs_shape, number_list, found_form)
 
 -- A step from a spot that has a tree leads to where the tree's part is.
 pub step_to_part : (m : List (List ℕ)) (a : Spot) (step : Step) (b : Spot) (x : Tree)
@@ -194,11 +176,7 @@ path_to_node m a (step ∷ path) n b x h (mid, below, goes, walks, level) =
 -- a node after one step is a node of a part
 pub node_parts : (x u : Tree) (step : Step) (path : List Step) → node_at x (step ∷ path) ≡ Some u
     → (v : Tree) × (part_at x step ≡ Some v) × (node_at v path ≡ Some u)
-node_parts x u step path e = go (part_at x step) refl
-  where
-    go : (o : Option Tree) → part_at x step ≡ o → (v : Tree) × (part_at x step ≡ Some v) × (node_at v path ≡ Some u)
-    go None f = absurd (cc (rw f at e))
-    go (Some v) f = (v, f, rw f at e)
+node_parts x u step path e = search rules
 
 -- Each node of the tree of a spot is where its path leads.
 pub node_to_path : (m : List (List ℕ)) (a : Spot) (path : List Step) (x u : Tree) → DenotesAt m a x
@@ -213,9 +191,7 @@ node_to_path m a (step ∷ path) x u h e =
 
 -- a word that leads to some place is there
 pub lead_word : (m : List (List ℕ)) (s w k : ℕ) (r : Lead) → Leads m s w k r → (p : ℕ) × HasWord m s w p
-lead_word m s w k r (near p has far says pads) = (p, has)
-lead_word m s w k r (one_pad p x has one pad_word far says pads) = (p, has)
-lead_word m s w k r (two_pads p f x has two first second one tag e pads) = (p, has)
+lead_word m s w k r x5 = search rules
 
 -- Where the root denotes a tree, a path comes to where the tree's node at the path is,
 pub coming_to_node : (m : List (List ℕ)) (x : Tree) (c d : ℕ) → Denotes m 0 0 x c d

@@ -10,6 +10,7 @@ use Rattle.cap_spec.proofs.ProofNames.{HasWord, PathLeads, Reaches, Spot, StepsT
 use Rattle.cap_spec.proofs.ProofNames.{Tree, Trees, cap, more, null, pointers, scalars}
 use Rattle.cap_spec.proofs.ProofNames.{struct, structs, levels_below, Step, Item, Ptr}
 use Rattle.cap_spec.proofs.Trees.OneTree.{Formed, cons_parts, formed}
+use Rattle.cap_spec.proofs.ProofNames.{rules}
 
 -- a path from a spot to a word whose object is this deep, counted from the spot
 pub record Deep (m : List (List ℕ)) (a : Spot) (d : ℕ) : Type 0 where
@@ -75,8 +76,7 @@ greater x y = grind arith
 
 -- a number is 0, or more
 none_or_more : (x : ℕ) → (x ≡ 0) ⊎ (0 < x)
-none_or_more zero = inl refl
-none_or_more (suc x) = inr (omega arith)
+none_or_more x0 = search rules
 
 mutual
   -- what a word denotes is as deep as some object that a path from the word reaches

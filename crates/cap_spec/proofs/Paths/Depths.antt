@@ -12,6 +12,7 @@ use Rattle.cap_spec.proofs.ProofNames.{element_levels, IsComposite, to_cap, to_n
 use Rattle.cap_spec.proofs.ProofNames.{element, level_of, word, DenotesAt, Tree, Trees, cap, more, null, part_at, pointers}
 use Rattle.cap_spec.proofs.ProofNames.{scalars, struct, structs, tree_at, tree_count, levels_below, Step, Item, Ptr}
 use Rattle.cap_spec.proofs.Trees.Finding.{found_depth}
+use Rattle.cap_spec.proofs.ProofNames.{rules}
 
 -- the depth of a tree
 abbrev mutual
@@ -75,8 +76,7 @@ level_if false = 1
 
 -- some elements take the levels of one
 pub levels_of_some : (n : ℕ) → 0 < n → element_levels n ≡ element_levels 1
-levels_of_some zero lt = absurd (omega arith)
-levels_of_some (suc n) lt = refl
+levels_of_some x0 lt = search rules
 
 -- each of some trees is at most as deep as all
 tree_depth : (ts : Trees) (i : ℕ) (u : Tree) → tree_at ts i ≡ Some u → depth_of u ≤ depth_each ts
@@ -93,8 +93,7 @@ AreStructs (more x es) = ⊥
 element_depth : (es : Trees) (i : ℕ) (u : Tree) → AreStructs es → tree_at es i ≡ Some u
     → (depth_of u ≤ 1 + depth_elements es) × (0 < tree_count es)
 element_depth none i u a e = absurd (cc e)
-element_depth (more (struct ws ts) es) zero u a e = let f : struct ws ts ≡ u = cc e in
-    (omega (arith, ap depth_of f), omega arith)
+element_depth (more (struct ws ts) es) zero u a e = search rules
 element_depth (more (struct ws ts) es) (suc i) u a e = (omega (arith, element_depth es i u a e), omega arith)
 element_depth (more x es) i u a e = absurd a
 
@@ -112,16 +111,13 @@ part_depth : (m : List (List ℕ)) (a : Spot) (t : Tree) (step : Step) (u : Tree
 part_depth m a (struct ws ts) (Ptr i) u h e = omega (arith, tree_depth ts i u e)
 part_depth m a (pointers ts) (Item i) u h e = omega (arith, tree_depth ts i u e)
 part_depth m (word s w) (structs d p es) (Item i) u h e =
-    let (k, x, b, q, tag, n, inner, deep, found, each) = h.2 in
-    let r = element_depth es i u (elements_are_structs m x (b + 1) d p n es inner deep each) e in
-    omega (arith, r.0, levels_of_some (tree_count es) r.1)
+    search (rules, element_depth, elements_are_structs, levels_of_some)
 part_depth m (element x b ds ps) (structs d p es) (Item i) u h e = absurd h
 part_depth m a t step u h e = absurd (cc e)
 
 -- the levels of a spot
 spot_level : (b : Spot) → level_of b ≡ level_if (is_element b)
-spot_level (word s w) = refl
-spot_level (element t b ds ps) = refl
+spot_level x0 = search rules
 
 -- What is where a path leads is less deep than the tree of its first spot by the levels on the way.
 pub walk_depth : (m : List (List ℕ)) (a : Spot) (path : List Step) (n : ℕ) (b : Spot) (t : Tree) → DenotesAt m a t
@@ -140,14 +136,4 @@ walk_depth m a (step ∷ path) n b t h (mid, below, goes, walks, level) =
 pub object_depth : (m : List (List ℕ)) (s w : ℕ) (x : Tree) (c d k t b q tag : ℕ) → Denotes m s w x c d
     → Finds m s w k t b q → (IsComposite q → HasWord m t b tag)
     → 1 + levels_below q tag ≤ d
-object_depth m s w null c d k t b q tag h f has =
-    absurd (cc (one_lead m s w c k to_null (to_object t (pos b) q) h.0 f.leads).1)
-object_depth m s w (cap i) c d k t b q tag h f has =
-    absurd (cc (one_lead m s w c k (to_cap i) (to_object t (pos b) q) h.0 f.leads).1)
-object_depth m s w (struct ws ts) c d k t b q tag (k', t', b', q', tag', ds, ps, inner, deep, found, own, each) f has =
-    found_depth found f has
-object_depth m s w (scalars e vs) c d k t b q tag (k', t', b', q', tag', n, found, own) f has = found_depth found f has
-object_depth m s w (pointers ts) c d k t b q tag (k', t', b', q', tag', n, inner, deep, found, each) f has =
-    found_depth found f has
-object_depth m s w (structs ds ps es) c d k t b q tag (k', t', b', q', tag', n, inner, deep, found, each) f has =
-    found_depth found f has
+object_depth m s w x3 c d k t b q tag h f has = search (rules, one_lead, found_depth)

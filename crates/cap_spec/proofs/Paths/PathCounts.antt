@@ -12,6 +12,7 @@ use Rattle.cap_spec.proofs.ProofNames.{to_cap, IsOneOf, Before, IsFirstCap, Path
 use Rattle.cap_spec.proofs.ProofNames.{StepsTo, element, level_of, word, code, kind, DenotesAt, Tree, cap, cap_count}
 use Rattle.cap_spec.proofs.ProofNames.{has_cap, null, pointer_count, pointers, scalars, struct, structs, Step, Item, Ptr}
 use Rattle.cap_spec.proofs.Trees.OneTree.{Formed, HasForm, form_of, formed, number_list, number_struct}
+use Rattle.cap_spec.proofs.ProofNames.{rules}
 
 abbrev pub is_element : Spot → Bool
 is_element (word s w) = false
@@ -19,39 +20,18 @@ is_element (element t b ds ps) = true
 
 -- the parts of a tree of another form than a struct list aren't elements
 no_structs : (t : Tree) (n : ℕ) → HasForm t n → n < 10 → is_structs t ≡ false
-no_structs (structs d p es) n f lt = absurd (omega arith)
-no_structs t n f lt = refl
+no_structs t n f lt = search rules
 
 -- and those of a struct list are
 all_structs : (t : Tree) → HasForm t 10 → is_structs t ≡ true
-all_structs null f = absurd (omega arith)
-all_structs (cap i) f = absurd (omega arith)
-all_structs (struct words ts) f = absurd (omega arith)
-all_structs (scalars c vs) f = absurd (omega arith)
-all_structs (pointers ts) f = absurd (omega arith)
-all_structs (structs d p es) f = refl
+all_structs x0 f = search rules
 
 -- a step leads to an element where the tree of the spot is a struct list
 pub step_kind : (m : List (List ℕ)) (a : Spot) (step : Step) (b : Spot) (t : Tree) → DenotesAt m a t → StepsTo m a step b
     → is_element b ≡ is_structs t
-step_kind m (word s w) (Ptr i) b t h (k, t', b', q, tag, ds, ps, finds, less, ends) =
-    let x = struct_shape finds.shape in
-    let f = found_form m s w t h.0 h.1 k t' b' q h.2 finds.finds in
-    ap is_element ends ∙ sym (no_structs t (2 + kind q * (1 + code q)) f
-    (omega (arith, number_struct (kind q) (code q) x.kind)))
-step_kind m (word s w) (Item i) b t h (inl (k, t', b', q, tag, n, finds, less, ends)) =
-    let x = pointers_shape finds.shape in
-    let f = found_form m s w t h.0 h.1 k t' b' q h.2 finds.finds in
-    ap is_element ends ∙ sym (no_structs t (2 + kind q * (1 + code q)) f
-    (omega (arith, number_list (kind q) (code q) x.kind, x.code)))
-step_kind m (word s w) (Item i) b t h (inr (k, t', b', q, tag, n, ds, ps, finds, less, ends)) =
-    let x = structs_shape finds.shape in
-    let f = found_form m s w t h.0 h.1 k t' b' q h.2 finds.finds in
-    let e : 2 + kind q * (1 + code q) ≡ 10 = omega (arith, number_list (kind q) (code q) x.kind, x.code) in
-    ap is_element ends ∙ sym (all_structs t (subst (λ (n : ℕ). HasForm t n) e f))
-step_kind m (element x y ds ps) (Ptr i) b (struct words ts) h g = ap is_element g.1
-step_kind m (element x y ds ps) (Ptr i) b t h g = absurd h
-step_kind m (element x y ds ps) (Item i) b t h g = absurd g
+step_kind m x1 x2 b t h g =
+    search (rules, struct_shape, found_form, no_structs, number_struct, pointers_shape, number_list, structs_shape,
+        all_structs)
 
 -- The nodes that a test selects are where walks end,
 -- of which the spot's own test gives the same of each spot and its tree.
@@ -86,8 +66,7 @@ IsCapSpot m a = (s w k i : ℕ) × (a ≡ word s w) × Leads m s w k (to_cap i)
 
 expected_word : (m : List (List ℕ)) (a : Spot) (t : Tree) → DenotesAt m a t
     → is_pointer (is_element a) t ≡ true → IsWordSpot a
-expected_word m (word s w) t h e = (s, w, refl)
-expected_word m (element x b ds ps) t h e = absurd (cc e)
+expected_word m x1 t h e = search rules
 
 word_expected : (m : List (List ℕ)) (a : Spot) (t : Tree) → DenotesAt m a t → IsWordSpot a
     → is_pointer (is_element a) t ≡ true
@@ -102,12 +81,7 @@ expected_cap m (element x b ds ps) t h e = absurd h
 
 -- a tree of the form of a capability is one
 cap_form : (t : Tree) → HasForm t 1 → is_cap t ≡ true
-cap_form (cap i) f = refl
-cap_form null f = absurd (omega arith)
-cap_form (struct words ts) f = absurd (omega arith)
-cap_form (scalars c vs) f = absurd (omega arith)
-cap_form (pointers ts) f = absurd (omega arith)
-cap_form (structs d p es) f = absurd (omega arith)
+cap_form x0 f = search rules
 
 -- what the word at a spot leads to
 abbrev LeadsAt : List (List ℕ) → Spot → ℕ → Lead → Type 0
@@ -116,12 +90,7 @@ LeadsAt m (element t b ds ps) k r = ⊥
 
 cap_expected : (m : List (List ℕ)) (a : Spot) (t : Tree) → DenotesAt m a t → IsCapSpot m a
     → needs_cap (is_element a) t ≡ true
-cap_expected m (word s w) t (c, d, h) (s', w', k, i, is, leads) =
-    let f : Formed m s w t = formed m s w t c d h in
-    let l : Leads m s w k (to_cap i) = subst (λ (z : Spot). LeadsAt m z k (to_cap i)) (sym is) leads in
-    let r = one_lead m s w f.k k f.r (to_cap i) f.leads l in
-    cap_form t (subst (λ (z : Lead). HasForm t (form_of z)) r.1 f.form)
-cap_expected m (element x b ds ps) t h p = absurd (cc p.4)
+cap_expected m x1 t h p = search (rules, formed, one_lead, cap_form)
 
 -- the paths to pointer words, and to capabilities
 abbrev pub pointer_paths : Tree → List (List Step)
@@ -211,8 +180,7 @@ first_of m t c d h (p ∷ ps) rises exact some =
 
 -- a number isn't 0
 more_than_none : (n : ℕ) → not (eqb n 0) ≡ true → 0 < n
-more_than_none zero e = absurd (cc e)
-more_than_none (suc n) e = omega arith
+more_than_none x0 e = search rules
 
 not_none : (n : ℕ) → 0 < n → not (eqb n 0) ≡ true
 not_none n lt = let e : eqb n 0 ≡ false = ne_eqb n 0 (omega arith) in rw e refl

@@ -4,6 +4,7 @@ use Rattle.cap_spec.proofs.ProofNames.{Bool, List, Some, [], ap, arith, false, i
 use Rattle.cap_spec.proofs.ProofNames.{subst, suc, sym, true, zero, ℕ, ◌++◌, ◌+◌, ◌<◌, ◌∙◌, ◌∷◌, ◌≡◌, ◌⊎◌, IsOneOf, Before}
 use Rattle.cap_spec.proofs.ProofNames.{Rises, number_of, Tree, Trees, cap, cap_count, cap_counts, more, null, part_at}
 use Rattle.cap_spec.proofs.ProofNames.{pointers, scalars, struct, structs, tree_at, tree_count, Step, Item, Ptr}
+use Rattle.cap_spec.proofs.ProofNames.{rules}
 
 -- each path after one step
 abbrev pub after_step : Step → List (List Step) → List (List Step)
@@ -46,11 +47,7 @@ Needs test is_element t (step ∷ path) = (u : Tree) × (part_at t step ≡ Some
 member_append : (p : List Step) (xs ys : List (List Step)) → IsOneOf p (xs ++ ys) → IsOneOf p xs ⊎ IsOneOf p ys
 member_append p [] ys h = inr h
 member_append p (x ∷ xs) ys (inl e) = inl (inl e)
-member_append p (x ∷ xs) ys (inr h) = go (member_append p xs ys h)
-  where
-    go : IsOneOf p xs ⊎ IsOneOf p ys → ((p ≡ x) ⊎ IsOneOf p xs) ⊎ IsOneOf p ys
-    go (inl i) = inl (inr i)
-    go (inr i) = inr i
+member_append p (x ∷ xs) ys (inr h) = search (rules, member_append p xs ys h)
 
 -- a member of the first is one of both, and so is one of the second
 member_front : (p : List Step) (xs ys : List (List Step)) → IsOneOf p xs → IsOneOf p (xs ++ ys)
@@ -124,18 +121,9 @@ part_to_from : (test : Bool → Tree → Bool) (e : Bool) (step : ℕ → Step) 
     (p : List Step) → tree_at ts j ≡ Some u → x ≡ i + j
     → IsOneOf p (with_own (test e u) (paths_below test u)) → IsOneOf (step x ∷ p) (paths_from test e step i ts)
 part_to_from test e step i none j x u p f k h = absurd (cc f)
-part_to_from test e step i (more t ts) zero x u p f k h =
-    let y : x ≡ i = omega arith in
-    let z : u ≡ t = cc f in
-    member_front (step x ∷ p) (after_step (step i) (with_own (test e t) (paths_below test t)))
-    (paths_from test e step (suc i) ts)
-    (subst (λ (v : ℕ). IsOneOf (step v ∷ p) (after_step (step i) (with_own (test e t) (paths_below test t)))) (sym y)
-    (after_member (step i) p (with_own (test e t) (paths_below test t))
-    (subst (λ (v : Tree). IsOneOf p (with_own (test e v) (paths_below test v))) z h)))
+part_to_from test e step i (more t ts) zero x u p f k h = search (rules, member_front, after_member)
 part_to_from test e step i (more t ts) (suc j) x u p f k h =
-    member_back (step x ∷ p) (after_step (step i) (with_own (test e t) (paths_below test t)))
-    (paths_from test e step (suc i) ts)
-    (part_to_from test e step (suc i) ts j x u p f (omega arith) h)
+    search (rules, member_back, part_to_from test e step (suc i) ts j x u p f (omega arith) h)
 
 -- a path into a part of a tree
 record BelowPart (test : Bool → Tree → Bool) (t : Tree) (q : List Step) : Type 0 where
@@ -149,15 +137,7 @@ record BelowPart (test : Bool → Tree → Bool) (t : Tree) (q : List Step) : Ty
 -- a part by its number is a part by its step
 part_by_step : (test : Bool → Tree → Bool) (t : Tree) (step : ℕ → Step) (ts : Trees) (q : List Step)
     → ((j : ℕ) → part_at t (step j) ≡ tree_at ts j) → IntoPart test (is_structs t) step 0 ts q → BelowPart test t q
-part_by_step test t step ts q same r =
-    record {
-      step = step r.number;
-      part = r.part;
-      rest = r.rest;
-      is = r.is ∙ ap (λ x. step x ∷ r.rest) (omega arith);
-      at = same r.number ∙ r.at;
-      listed = r.listed;
-    }
+part_by_step test t step ts q same r = search rules
 
 -- the same of the paths below a tree
 below_to_part : (test : Bool → Tree → Bool) (t : Tree) (q : List Step) → IsOneOf q (paths_below test t)
@@ -185,11 +165,7 @@ empty_not_below test t h = let r : BelowPart test t [] = below_to_part test t []
 -- The listed paths are those to the nodes that the test selects,
 pub listed_expected : (test : Bool → Tree → Bool) (e : Bool) (t : Tree) (q : List Step)
     → IsOneOf q (with_own (test e t) (paths_below test t)) → Needs test e t q
-listed_expected test e t [] h = go (test e t) h
-  where
-    go : (b : Bool) → IsOneOf [] (with_own b (paths_below test t)) → b ≡ true
-    go true g = refl
-    go false g = absurd (empty_not_below test t g)
+listed_expected test e t [] h = search (rules, empty_not_below)
 listed_expected test e t (step ∷ path) h =
     let r : BelowPart test t (step ∷ path) = below_to_part test t (step ∷ path) (go (test e t) h) in
     let x : step ≡ r.step = cc r.is in
@@ -252,13 +228,7 @@ steps_before : (test : Bool → Tree → Bool) (e : Bool) (step : ℕ → Step) 
     → (i : ℕ) (t : Tree) (ts : Trees) (x y : List Step)
     → IsOneOf x (after_step (step i) (with_own (test e t) (paths_below test t)))
     → IsOneOf y (paths_from test e step (suc i) ts) → Before x y
-steps_before test e step numbers i t ts x y f g =
-    let a = member_after (step i) x (with_own (test e t) (paths_below test t)) f in
-    let b : IntoPart test e step (suc i) ts y = from_to_part test e step (suc i) ts y g in
-    let lt : number_of (step i) < number_of (step (suc i + b.number)) =
-    omega (arith, numbers i, numbers (suc i + b.number)) in
-    subst (λ (z : List Step). Before z y) (sym a.1)
-    (subst (λ (z : List Step). Before (step i ∷ a.0) z) (sym b.is) (inl lt))
+steps_before test e step numbers i t ts x y f g = search (rules, member_after, from_to_part)
 
 mutual
   -- The listed paths rise,

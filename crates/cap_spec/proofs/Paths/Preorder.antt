@@ -77,8 +77,7 @@ Rises-first p [] q h e = absurd e
 
 -- what is left of a rising list rises
 pub Rises-rest : (p : List Step) (ps : List (List Step)) → Rises (p ∷ ps) → Rises ps
-Rises-rest p [] h = tt
-Rises-rest p (x ∷ xs) h = h.1
+Rises-rest p x1 h = search rules
 
 -- a path between two lists
 pub middle_is_one : (p : List Step) (xs ys : List (List Step)) → IsOneOf p (xs ++ p ∷ ys)
@@ -108,8 +107,7 @@ Rises-front (x ∷ z ∷ xs) p ys h = (h.0, Rises-front (z ∷ xs) p ys h.1)
 pub before_middle : (xs : List (List Step)) (p : List Step) (ys : List (List Step)) (q : List Step) → Rises (xs ++ p ∷ ys)
     → IsOneOf q xs → Before q p
 before_middle [] p ys q h i = absurd i
-before_middle (x ∷ xs) p ys q h (inl e) =
-    subst (λ (u : List Step). Before u p) (sym e) (Rises-first x (xs ++ p ∷ ys) p h (middle_is_one p xs ys))
+before_middle (x ∷ xs) p ys q h (inl e) = search (rules, Rises-first, middle_is_one)
 before_middle (x ∷ xs) p ys q h (inr i) = before_middle xs p ys q (Rises-rest x (xs ++ p ∷ ys) h) i
 
 pub after_middle : (xs : List (List Step)) (p : List Step) (ys : List (List Step)) (q : List Step) → Rises (xs ++ p ∷ ys)

@@ -3,6 +3,7 @@ use Rattle.cap_spec.proofs.ProofNames.{List, [], ap, arith, inl, inr, refl, subs
 use Rattle.cap_spec.proofs.ProofNames.{PathLeads, Reaches, ReachesSpot, Spot, StepsTo, element, level_of, word, Step}
 use Rattle.cap_spec.proofs.ProofNames.{Item, Ptr}
 use Rattle.cap_spec.proofs.Trees.Finding.{one_found}
+use Rattle.cap_spec.proofs.ProofNames.{rules}
 
 -- one step leads to one spot
 pub one_step : (m : List (List ℕ)) (a : Spot) (step : Step) (b b' : Spot) → StepsTo m a step b → StepsTo m a step b' → b ≡ b'
@@ -15,35 +16,18 @@ one_step m (word s w) (Item i) x y (inl (k, t, b, q, tag, n, finds, less, ends))
     let (k', t', b', q', tag', n', finds', less', ends') = h in
     let o = one_found finds finds' in
     ends ∙ rw (o.segment, o.start) refl ∙ sym ends'
-one_step m (word s w) (Item i) x y (inl (k, t, b, q, tag, n, finds, less, ends)) (inr h) =
-    let (k', t', b', q', tag', n', ds, ps, finds', less', ends') = h in
-    let o = one_found finds finds' in
-    absurd (cc o.kind)
+one_step m (word s w) (Item i) x y (inl (k, t, b, q, tag, n, finds, less, ends)) (inr h) = search (rules, one_found)
 one_step m (word s w) (Item i) x y (inr (k, t, b, q, tag, n, ds, ps, finds, less, ends)) (inl h) =
-    let (k', t', b', q', tag', n', finds', less', ends') = h in
-    let o = one_found finds finds' in
-    absurd (cc o.kind)
+    search (rules, one_found)
 one_step m (word s w) (Item i) x y (inr (k, t, b, q, tag, n, ds, ps, finds, less, ends)) (inr h) =
-    let (k', t', b', q', tag', n', ds', ps', finds', less', ends') = h in
-    let o = one_found finds finds' in
-    let e : ds ≡ ds' = cc o.kind in
-    let f : ps ≡ ps' = cc o.kind in
-    ends ∙ rw (o.segment, o.start, e, f) refl ∙ sym ends'
+    search (rules, one_found)
 one_step m (element t b ds ps) (Ptr i) x y g h = g.1 ∙ sym h.1
 one_step m (element t b ds ps) (Item i) x y g h = absurd g
 
 -- from one spot no step by a struct's pointer and a step by a list's element
 pub one_kind_of_step : (m : List (List ℕ)) (a : Spot) (i j : ℕ) (b b' : Spot) → StepsTo m a (Ptr i) b
     → StepsTo m a (Item j) b' → ⊥
-one_kind_of_step m (word s w) i j x y (k, t, b, q, tag, ds, ps, finds, less, ends) (inl h) =
-    let (k', t', b', q', tag', n, finds', less', ends') = h in
-    let o = one_found finds finds' in
-    cc o.kind
-one_kind_of_step m (word s w) i j x y (k, t, b, q, tag, ds, ps, finds, less, ends) (inr h) =
-    let (k', t', b', q', tag', n, ds', ps', finds', less', ends') = h in
-    let o = one_found finds finds' in
-    cc o.kind
-one_kind_of_step m (element t b ds ps) i j x y g h = h
+one_kind_of_step m x1 i j x y g h = search (rules, one_found)
 
 -- a path from one spot leads to one spot, by one number of levels
 pub one_walk : (m : List (List ℕ)) (a : Spot) (path : List Step) (n n' : ℕ) (b b' : Spot) → PathLeads m a path n b
@@ -58,8 +42,7 @@ one_walk m a (step ∷ path) n n' x y (mid, below, goes, walks, level) h =
 -- a longer path goes on from where its beginning leads
 pub walk_on : (m : List (List ℕ)) (a b c : Spot) (p q : List Step) (n n' : ℕ) → PathLeads m a p n b → PathLeads m b q n' c
     → PathLeads m a (p ++ q) (n + n') c
-walk_on m a b c [] q n n' g h = subst (λ x. PathLeads m x q (n + n') c) g.1
-    (subst (λ k. PathLeads m b q k c) (omega (arith, g.0)) h)
+walk_on m a b c [] q n n' g h = search rules
 walk_on m a b c (step ∷ p) q n n' (mid, below, goes, walks, level) h =
     (mid, below + n', goes, walk_on m mid b c p q below n' walks h, omega (arith, level))
 
@@ -75,8 +58,7 @@ record WalkParts (m : List (List ℕ)) (a c : Spot) (p q : List Step) (n : ℕ) 
 -- and each beginning of a path leads to some place
 walk_parts : (m : List (List ℕ)) (a c : Spot) (p q : List Step) (n : ℕ) → PathLeads m a (p ++ q) n c
     → WalkParts m a c p q n
-walk_parts m a c [] q n h =
-    record { mid = a; above = 0; below = n; first = (refl, refl); second = h; levels = omega arith }
+walk_parts m a c [] q n h = search rules
 walk_parts m a c (step ∷ p) q n (mid, below, goes, walks, level) =
     let r : WalkParts m mid c p q below = walk_parts m mid c p q below walks in
     record {
@@ -92,39 +74,17 @@ walk_parts m a c (step ∷ p) q n (mid, below, goes, walks, level) =
 pub walk_last : (m : List (List ℕ)) (a c : Spot) (p : List Step) (step : Step) (n : ℕ)
     → PathLeads m a (p ++ step ∷ []) n c ↔ ((b : Spot) × (n' : ℕ) × PathLeads m a p n' b × StepsTo m b step c
     × (n ≡ n' + level_of c))
-walk_last m a c p step n = (to, from)
-  where
-    to : PathLeads m a (p ++ step ∷ []) n c → (b : Spot) × (n' : ℕ) × PathLeads m a p n' b × StepsTo m b step c
-        × (n ≡ n' + level_of c)
-    to h =
-        let r : WalkParts m a c p (step ∷ []) n = walk_parts m a c p (step ∷ []) n h in
-        let (spot, below, goes, walks, level) = r.second in
-        let e : c ≡ spot = walks.1 in (
-          r.mid,
-          r.above,
-          r.first,
-          subst (λ (x : Spot). StepsTo m r.mid step x) (sym e) goes,
-          omega (arith, r.levels, level, walks.0, ap level_of e),
-        )
-
-    from : (b : Spot) × (n' : ℕ) × PathLeads m a p n' b × StepsTo m b step c × (n ≡ n' + level_of c)
-        → PathLeads m a (p ++ step ∷ []) n c
-    from h = subst (λ k. PathLeads m a (p ++ step ∷ []) k c) (sym h.4)
-        (walk_on m a h.0 c p (step ∷ []) h.1 (level_of c) h.2 (c, 0, h.3, (refl, refl), omega arith))
+walk_last m a c p step n = search (rules, walk_parts, walk_on)
 
 -- a path from the root comes to one spot, at one level
 pub one_coming : (m : List (List ℕ)) (path : List Step) (l l' : ℕ) (a b : Spot) → ReachesSpot m path l a → ReachesSpot m path l' b
     → (l ≡ l') × (a ≡ b)
-one_coming m path l l' a b g h =
-    let r = one_walk m (word 0 0) path g.1 h.1 a b g.3 h.3 in (omega (arith, g.4, h.4, r.0), r.1)
+one_coming m path l l' a b g h = search (rules, one_walk)
 
 -- a longer path goes on from the spot to which its beginning comes
 pub comes_beyond : (m : List (List ℕ)) (done on : List Step) (level level' : ℕ) (a b : Spot) → ReachesSpot m done level a
     → ReachesSpot m (done ++ on) level' b → (n : ℕ) × PathLeads m a on n b
-comes_beyond m done on level level' a b (root, n, has, walks, e) (root', n', has', walks', e') =
-    let p : WalkParts m (word 0 0) b done on n' = walk_parts m (word 0 0) b done on n' walks' in
-    let same : p.mid ≡ a = (one_walk m (word 0 0) done p.above n p.mid a p.first walks).1 in
-    (p.below, subst (λ (x : Spot). PathLeads m x on p.below b) same p.second)
+comes_beyond m done on level level' a b x7 x8 = search (rules, walk_parts, one_walk)
 
 -- and reaches one pointer word
 pub one_reached : (m : List (List ℕ)) (path : List Step) (l l' s w s' w' : ℕ) → Reaches m path l s w

@@ -11,8 +11,7 @@ use Rattle.cap_spec.proofs.ProofNames.{SegmentMissing, TagKind, TagOffset, commo
 module _ (m : List (List ℕ)) (s w p : ℕ) (h : HasWord m s w p) (far : IsFar p) where
   far-not_reserved : ((x q : ℕ) → HasWord m s w x → IsOnePad x → HasWord m (far_segment x) (pad x) q → ⊥)
       → ¬ Condition m s w Reserved
-  far-not_reserved n (x, hx, inl r) = grind (arith, common_steps)
-  far-not_reserved n (x, hx, inr (one, q, hq, r)) = n x q hx one hq
+  far-not_reserved n x1 = search rules
 
   pub outside-not_reserved : length (segment_of m (far_segment p)) < pad p + (two p + 1) → ¬ Condition m s w Reserved
   outside-not_reserved past = search (rules, far-not_reserved, one_word, HasWord-inside)
@@ -31,8 +30,7 @@ module _ (m : List (List ℕ)) (s w p q : ℕ) (h : HasWord m s w p) (one : IsOn
   one-not_two x hx both = grind (arith, common_steps)
 
   pub one-not_reserved : ¬ IsReserved q → ¬ Condition m s w Reserved
-  one-not_reserved n (x, hx, inl r) = grind (arith, common_steps)
-  one-not_reserved n (x, hx, inr (single, y, hy, r)) = n (subst IsReserved (one-same x y hx hy) r)
+  one-not_reserved n x1 = search (rules, one-same)
 
   pub one-not_missing : ¬ Condition m s w SegmentMissing
   one-not_missing (x, hx, f, inl missing) = grind (arith, common_steps)
@@ -60,8 +58,7 @@ module _ (m : List (List ℕ)) (s w p f q : ℕ) (h : HasWord m s w p) (both : I
   two-not_one x hx one = grind (arith, common_steps)
 
   pub two-not_reserved : ¬ Condition m s w Reserved
-  two-not_reserved (x, hx, inl r) = grind (arith, common_steps)
-  two-not_reserved (x, hx, inr (single, y, hy, r)) = two-not_one x hx single
+  two-not_reserved x0 = search (rules, two-not_one)
 
   pub two-not_missing : (IsOnePad f → far_segment f < length m) → ¬ Condition m s w SegmentMissing
   two-not_missing n (x, hx, far, inl missing) = grind (arith, common_steps)
@@ -80,16 +77,14 @@ module _ (m : List (List ℕ)) (s w p f q : ℕ) (h : HasWord m s w p) (both : I
   two-not_tag_kind near_kind (x, u, v, hx, t, hu, hv, n) = grind (arith, common_steps)
 
   pub two-not_tag_offset : middle q ≡ 0 → ¬ Condition m s w TagOffset
-  two-not_tag_offset none (x, u, v, hx, t, hu, hv, n) =
-      n (subst (λ y. middle y ≡ 0) (sym (two-same_tag x v hx hv)) none)
+  two-not_tag_offset x0 x1 = search (rules, two-same_tag)
 
 -- no condition of a reason before place n of the order holds
 abbrev pub NoneBelow : List (List ℕ) → ℕ → ℕ → ℕ → Type 0
 NoneBelow m s w n = (u : Reason) → rank u < n → ¬ Condition m s w u
 
 pub none_below_reserved : (m : List (List ℕ)) (s w : ℕ) → NoneBelow m s w (rank Reserved)
-none_below_reserved m s w NoRoot lt c = c
-none_below_reserved m s w u lt c = absurd (omega arith)
+none_below_reserved m s w u lt c = search rules
 
 -- one more condition that doesn't hold
 pub and_not : (m : List (List ℕ)) (s w : ℕ) (v : Reason) → NoneBelow m s w (rank v) → ¬ Condition m s w v
@@ -101,16 +96,8 @@ module _ (m : List (List ℕ)) (s w p f q : ℕ) (h : HasWord m s w p) (both : I
     (hf : HasWord m (far_segment p) (pad p) f) (hq : HasWord m (far_segment p) (pad p + 1) q) where
   pub two-none_below_far : (IsOnePad f → far_segment f < length m) → NoneBelow m s w (rank PadNotFar)
   two-none_below_far n =
-      search (
-        rules,
-        and_not,
-        none_below_reserved,
-        two-not_reserved,
-        two-not_missing,
-        two-not_outside,
-        two-not_pad_far,
-      )
+      search (rules, and_not, none_below_reserved, two-not_reserved, two-not_missing, two-not_outside,
+          two-not_pad_far)
 
   pub two-none_below_tag : IsOnePad f → far_segment f < length m → NoneBelow m s w (rank TagKind)
-  two-none_below_tag one there =
-      and_not m s w PadNotFar (two-none_below_far (λ x. there)) (two-not_pad_near m s w p f q h both hf hq one)
+  two-none_below_tag one there = search (rules, and_not, two-none_below_far, two-not_pad_near)

@@ -34,9 +34,7 @@ one_wrong m s w u v a b = grind (arith, common_steps)
 
 -- What a word says is not reserved.
 not_reserved : (t w q : ℕ) (r : Lead) → Says t w q r → ¬ IsReserved q
-not_reserved t w q to_null h (k, n) = absurd (omega arith)
-not_reserved t w q (to_cap i) h (k, n) = n h.0.1
-not_reserved t w q (to_object u b x) h (k, n) = search rules
+not_reserved t w q x3 h x5 = search rules
 
 -- the segment of an object exists
 abbrev pub HasSegment : List (List ℕ) → Lead → Type 0
@@ -47,21 +45,9 @@ HasSegment m (to_object t b q) = t < length m
 -- none of the conditions on pads holds at a word that leads to some place
 pub leads_clean : (m : List (List ℕ)) (s w k : ℕ) (r : Lead) → Leads m s w k r → HasSegment m r
     → NoneBelow m s w (rank OutOfSegment)
-leads_clean m s w k r (near p h n says e) exists = grind (arith, common_steps)
-leads_clean m s w k r (one_pad p q h one hq n says e) exists =
-    search (
-      rules,
-      and_not,
-      none_below_reserved,
-      one-not_reserved,
-      not_reserved,
-      one-not_missing,
-      one-not_outside,
-      one-not_pad_far,
-      one-not_pad_near,
-    )
-leads_clean m s w k r (two_pads p f q h both hf hq one tag says e) exists =
-    search (rules, two-none_below_tag, and_not, two-not_tag_kind, two-not_tag_offset)
+leads_clean m s w k r x5 exists =
+    search (rules, and_not, none_below_reserved, one-not_reserved, not_reserved, one-not_missing, one-not_outside,
+        one-not_pad_far, one-not_pad_near, two-none_below_tag, two-not_tag_kind, two-not_tag_offset)
 
 -- A reason is wrong where its condition holds and none before it.
 -- the word is reserved
@@ -71,8 +57,7 @@ wrong-reserved m s w p h r = record { holds = (p, h, inl r); first = none_below_
 -- the word of its one-word pad is reserved
 pub wrong-pad_reserved : (m : List (List ℕ)) (s w p q : ℕ) → HasWord m s w p → IsOnePad p
     → HasWord m (far_segment p) (pad p) q → IsReserved q → Wrong m s w Reserved
-wrong-pad_reserved m s w p q h one hq r =
-    record { holds = (p, h, inr (one, q, hq, r)); first = none_below_reserved m s w }
+wrong-pad_reserved m s w p q h one hq r = search (rules, none_below_reserved)
 
 -- the segment of its pad is missing
 pub wrong-missing : (m : List (List ℕ)) (s w p : ℕ) → HasWord m s w p → IsFar p → length m ≤ far_segment p
@@ -89,16 +74,7 @@ wrong-outside m s w p h far there past =
 pub wrong-pad_far : (m : List (List ℕ)) (s w p q : ℕ) → HasWord m s w p → IsOnePad p
     → HasWord m (far_segment p) (pad p) q → IsFar q → Wrong m s w PadIsFar
 wrong-pad_far m s w p q h one hq far =
-    let c2 = and_not m s w Reserved (none_below_reserved m s w)
-    (one-not_reserved m s w p q h one hq (λ r. far_reserved q far r)) in
-    let c3 = and_not m s w SegmentMissing c2 (one-not_missing m s w p q h one hq) in
-    record {
-      holds = (p, q, h, one, hq, far);
-      first = and_not m s w PadOutside c3 (one-not_outside m s w p q h one hq);
-    }
-  where
-    far_reserved : (x : ℕ) → IsFar x → IsReserved x → ⊥
-    far_reserved x a (b, n) = absurd (omega arith)
+    search (rules, and_not, none_below_reserved, one-not_reserved, one-not_missing, one-not_outside)
 
 -- It has a two-word pad inside its segment.
 module _ (m : List (List ℕ)) (s w p f q : ℕ) (h : HasWord m s w p) (both : IsTwoPad p)
@@ -139,29 +115,19 @@ TagOf m P tag (to_object t (pos b) q) = IsComposite q × HasWord m t b tag × P 
 TagOf m P tag (to_object t (negsuc b) q) = ⊥
 
 not_outside : (m : List (List ℕ)) (t b q : ℕ) → b + extent q ≤ length (segment_of m t) → ¬ Outside m t (pos b) q
-not_outside m t b q a (there, inl below) = absurd (omega (arith, ints))
-not_outside m t b q a (there, inr past) = absurd (omega (arith, ints))
+not_outside m t b q a x5 = search rules
 
 -- What is so of a lead, if the conditions on objects hold.
 module _ (m : List (List ℕ)) (s w k : ℕ) (r : Lead) (leads : Leads m s w k r) where
   out-lead : Condition m s w OutOfSegment → OutsideOf m r
-  out-lead (k', t, b, q, leads', out) =
-      subst (OutsideOf m) (one_lead m s w k' k (to_object t b q) r leads' leads).1 out
+  out-lead x0 = search (rules, one_lead)
 
   tag-lead : Condition m s w CompositeTag → (tag : ℕ) × TagOf m (λ q x. kind x ≢ 0) tag r
-  tag-lead (k', t, b, q, tag, leads', composite, has, n) = (
-    tag,
-    subst (TagOf m (λ q x. kind x ≢ 0) tag) (one_lead m s w k' k (to_object t (pos b) q) r leads' leads).1
-        (composite, has, n),
-  )
+  tag-lead x0 = search (rules, one_lead)
 
   overrun-lead : Condition m s w CompositeOverrun
       → (tag : ℕ) × TagOf m (λ q x. list_size q < middle x * (data_size x + pointer_size x)) tag r
-  overrun-lead (k', t, b, q, tag, leads', composite, has, n) = (
-    tag,
-    subst (TagOf m (λ q x. list_size q < middle x * (data_size x + pointer_size x)) tag)
-        (one_lead m s w k' k (to_object t (pos b) q) r leads' leads).1 (composite, has, n),
-  )
+  overrun-lead x0 = search (rules, one_lead)
 
   -- where it leads to some place, in a segment that exists, and none of these conditions holds, nothing is wrong
   clean-not_wrong : HasSegment m r → ¬ Condition m s w OutOfSegment → ¬ Condition m s w CompositeTag

@@ -7,76 +7,36 @@ use Rattle.cap_spec.specs.ObjectShapes.{is_pointers, is_scalars, is_struct, is_s
 use Rattle.cap_spec.specs.Pointers.{code, data_size, extent, list_size, list_words, middle, pointer_size}
 use Rattle.cap_spec.specs.declared.Kind.{Kind}
 use Rattle.cap_spec.specs.declared.Kind.TheVariants.{Pointers, Scalars, Struct, Structs}
+use Rattle.cap_spec.proofs.ProofNames.{rules}
 
 -- the parts of a struct, of a list of values, of a list of pointers and of a list of structs
 pub struct_shape : {q tag ds ps : ℕ} → HasKind q tag (Struct ds ps) → IsStructShape q ds ps
-struct_shape (is_struct e f) = record { kind = e; data_words = cc f; pointers = cc f }
-struct_shape (is_scalars e lt f) = absurd (cc f)
-struct_shape (is_pointers e c f) = absurd (cc f)
-struct_shape (is_structs e c f) = absurd (cc f)
+struct_shape x0 = search rules
 
 pub scalars_shape : {q tag c n : ℕ} → HasKind q tag (Scalars c n) → IsScalarsShape q c n
-scalars_shape (is_struct e f) = absurd (cc f)
-scalars_shape (is_scalars e lt f) = record { kind = e; code = cc f; scalar = first lt (cc f); count = cc f }
-  where
-    first : {x y : ℕ} → x < 6 → y ≡ x → y < 6
-    first lt e = rw e lt
-scalars_shape (is_pointers e c f) = absurd (cc f)
-scalars_shape (is_structs e c f) = absurd (cc f)
+scalars_shape x0 = search rules
 
 pub pointers_shape : {q tag n : ℕ} → HasKind q tag (Pointers n) → IsPointersShape q n
-pointers_shape (is_struct e f) = absurd (cc f)
-pointers_shape (is_scalars e lt f) = absurd (cc f)
-pointers_shape (is_pointers e c f) = record { kind = e; code = c; count = cc f }
-pointers_shape (is_structs e c f) = absurd (cc f)
+pointers_shape x0 = search rules
 
 pub structs_shape : {q tag n ds ps : ℕ} → HasKind q tag (Structs n ds ps) → IsStructsShape q tag (list_size q) n ds ps
-structs_shape (is_struct e f) = absurd (cc f)
-structs_shape (is_scalars e lt f) = absurd (cc f)
-structs_shape (is_pointers e c f) = absurd (cc f)
-structs_shape (is_structs e c f) =
-    record { kind = e; code = c; words = refl; count = cc f; data_words = cc f; pointers = cc f }
+structs_shape x0 = search rules
 
 -- an object has one kind, where a list of structs has one tag
 pub one_kind : (q tag tag' : ℕ) (x y : Kind) → (IsComposite q → tag ≡ tag') → HasKind q tag x → HasKind q tag' y → x ≡ y
-one_kind q tag tag' x y same (is_struct e f) (is_struct e' f') = f ∙ sym f'
-one_kind q tag tag' x y same (is_struct e f) (is_scalars e' lt f') = absurd (omega (arith, e, e'))
-one_kind q tag tag' x y same (is_struct e f) (is_pointers e' c f') = absurd (omega (arith, e, e'))
-one_kind q tag tag' x y same (is_struct e f) (is_structs e' c f') = absurd (omega (arith, e, e'))
-one_kind q tag tag' x y same (is_scalars e lt f) (is_struct e' f') = absurd (omega (arith, e, e'))
-one_kind q tag tag' x y same (is_scalars e lt f) (is_scalars e' lt' f') = f ∙ sym f'
-one_kind q tag tag' x y same (is_scalars e lt f) (is_pointers e' c f') = absurd (omega (arith, lt, c))
-one_kind q tag tag' x y same (is_scalars e lt f) (is_structs e' c f') = absurd (omega (arith, lt, c))
-one_kind q tag tag' x y same (is_pointers e c f) (is_struct e' f') = absurd (omega (arith, e, e'))
-one_kind q tag tag' x y same (is_pointers e c f) (is_scalars e' lt f') = absurd (omega (arith, lt, c))
-one_kind q tag tag' x y same (is_pointers e c f) (is_pointers e' c' f') = f ∙ sym f'
-one_kind q tag tag' x y same (is_pointers e c f) (is_structs e' c' f') = absurd (omega (arith, c, c'))
-one_kind q tag tag' x y same (is_structs e c f) (is_struct e' f') = absurd (omega (arith, e, e'))
-one_kind q tag tag' x y same (is_structs e c f) (is_scalars e' lt f') = absurd (omega (arith, lt, c))
-one_kind q tag tag' x y same (is_structs e c f) (is_pointers e' c' f') = absurd (omega (arith, c, c'))
-one_kind q tag tag' x y same (is_structs e c f) (is_structs e' c' f') =
-    f ∙ ap (λ u. Structs (middle u) (data_size u) (pointer_size u)) (same (e, c)) ∙ sym f'
+one_kind q tag tag' x y same x6 x7 = search rules
 
 -- the cost of an object beside its words, and the levels below it, depend on the tag of a list of structs alone
 pub beside_same : (q tag tag' : ℕ) (x : Kind) → (IsComposite q → tag ≡ tag') → HasKind q tag x
     → (extra q tag ≡ extra q tag') × (levels_below q tag ≡ levels_below q tag')
-beside_same q tag tag' x same (is_struct e f) = (rw e refl, rw e refl)
-beside_same q tag tag' x same (is_scalars e lt f) =
-    let n : eqb (code q) 7 ≡ false = ne_eqb (code q) 7 (omega arith) in (rw (e, n) refl, rw (e, n) refl)
-beside_same q tag tag' x same (is_pointers e c f) = (rw (e, c) refl, rw (e, c) refl)
-beside_same q tag tag' x same (is_structs e c f) = (ap (extra q) (same (e, c)), ap (levels_below q) (same (e, c)))
+beside_same q tag tag' x same x5 = search (rules, ne_eqb)
 
 -- the words of an object
 pub struct_words : {q tag ds ps : ℕ} → HasKind q tag (Struct ds ps) → extent q ≡ ds + ps
-struct_words {q} {tag} {ds} {ps} h =
-    let x = struct_shape h in let y : extent q ≡ data_size q + pointer_size q = rw x.kind refl in
-    omega (arith, y, x.data_words, x.pointers)
+struct_words {q} {tag} {ds} {ps} h = search (rules, struct_shape)
 
 pub scalars_words : {q tag c n : ℕ} → HasKind q tag (Scalars c n) → extent q ≡ list_words c n
-scalars_words {q} {tag} {c} {n} h =
-    let x = scalars_shape h in
-    let seven : eqb (code q) 7 ≡ false = ne_eqb (code q) 7 (λ z. omega (arith, z, x.code, x.scalar)) in
-    rw (x.kind, x.code, x.count, seven) refl
+scalars_words {q} {tag} {c} {n} h = search (rules, scalars_shape, ne_eqb)
 
 pub pointers_words : {q tag n : ℕ} → HasKind q tag (Pointers n) → extent q ≡ n
 pointers_words {q} {tag} {n} h = let x = pointers_shape h in rw (x.kind, x.code, x.count) refl
@@ -96,10 +56,7 @@ pub struct_levels : {q tag ds ps : ℕ} → HasKind q tag (Struct ds ps) → lev
 struct_levels {q} {tag} {ds} {ps} h = let x = struct_shape h in rw x.kind refl
 
 pub scalars_levels : {q tag c n : ℕ} → HasKind q tag (Scalars c n) → levels_below q tag ≡ 0
-scalars_levels {q} {tag} {c} {n} h =
-    let x = scalars_shape h in
-    let seven : eqb (code q) 7 ≡ false = ne_eqb (code q) 7 (λ z. omega (arith, z, x.code, x.scalar)) in
-    rw (x.kind, seven) refl
+scalars_levels {q} {tag} {c} {n} h = search (rules, scalars_shape, ne_eqb)
 
 pub pointers_levels : {q tag n : ℕ} → HasKind q tag (Pointers n) → levels_below q tag ≡ 0
 pointers_levels {q} {tag} {n} h = let x = pointers_shape h in rw (x.kind, x.code) refl

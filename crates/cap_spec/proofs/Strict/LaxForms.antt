@@ -8,27 +8,20 @@ use Rattle.cap_spec.proofs.ProofNames.{to_object, two_pads, HasWord, segment_of,
 use Rattle.cap_spec.proofs.ProofNames.{EmptySegment, NullPad, Reason}
 use Rattle.cap_spec.proofs.Trees.Finding.{one_object}
 use Rattle.cap_spec.proofs.Trees.Outcomes.{Fate, fate}
+use Rattle.cap_spec.proofs.ProofNames.{rules}
 
 -- a segment with a word isn't empty
 word_not_empty : (m : List (List ℕ)) (t w x : ℕ) → HasWord m t w x → segment_of m t ≡ [] → ⊥
-word_not_empty m t w x h e =
-    let l : length (segment_of m t) ≡ 0 = ap length e in
-    omega (arith, l, HasWord-inside m t w x h)
+word_not_empty m t w x h e = search (rules, HasWord-inside)
 
 -- a lead to an object in a segment without words has two pad words
 two_words : (m : List (List ℕ)) (s w k t b q : ℕ) → Leads m s w k (to_object t (pos b) q) → segment_of m t ≡ [] → k ≡ 2
-two_words m s w k t b q (near p has n says none) e =
-    absurd (word_not_empty m t w p (subst (λ u. HasWord m u w p) (sym says.2) has) e)
-two_words m s w k t b q (one_pad p x has one hasx n says single) e =
-    absurd (word_not_empty m t (pad p) x (subst (λ u. HasWord m u (pad p) x) (sym says.2) hasx) e)
-two_words m s w k t b q (two_pads p f x has both hasf hasx one tag says two) e = two
+two_words m s w k t b q x7 e = search (rules, word_not_empty)
 
 -- so has one that is found there, and the object has no words
 pub empty_by_two : (m : List (List ℕ)) (s w k t b q : ℕ) → Finds m s w k t b q → segment_of m t ≡ []
     → (k ≡ 2) × (b ≡ 0) × (extent q ≡ 0)
-empty_by_two m s w k t b q f e =
-    let l : length (segment_of m t) ≡ 0 = ap length e in
-    (two_words m s w k t b q f.leads e, omega (arith, l, f.inside.inside), omega (arith, l, f.inside.inside))
+empty_by_two m s w k t b q f e = search (rules, two_words)
 
 -- a pointer of one of these forms has a landing pad
 pub lax_pads : (m : List (List ℕ)) (s w : ℕ) (what : Lax) → IsLaxAt m s w what
@@ -45,21 +38,13 @@ same_lead m s w k k' r r' h g = (one_lead m s w k k' r r' h g).1
 -- a pointer has one form
 pub one_lax : (m : List (List ℕ)) (s w : ℕ) (u v : Lax) → IsLaxAt m s w u → IsLaxAt m s w v → u ≡ v
 one_lax m s w NullPad NullPad h g = refl
-one_lax m s w NullPad EmptySegment h (k, t, b, q, f, e) =
-    let x : to_null ≡ to_object t (pos b) q = same_lead m s w 1 k to_null (to_object t (pos b) q) h f.leads in absurd cc
-one_lax m s w NullPad CapabilityPad h (i, g) = let x : to_null ≡ to_cap i =
-    same_lead m s w 1 1 to_null (to_cap i) h g in absurd cc
-one_lax m s w EmptySegment NullPad (k, t, b, q, f, e) g =
-    let x : to_object t (pos b) q ≡ to_null = same_lead m s w k 1 (to_object t (pos b) q) to_null f.leads g in absurd cc
+one_lax m s w NullPad EmptySegment h (k, t, b, q, f, e) = search (rules, same_lead)
+one_lax m s w NullPad CapabilityPad h (i, g) = search (rules, same_lead)
+one_lax m s w EmptySegment NullPad (k, t, b, q, f, e) g = search (rules, same_lead)
 one_lax m s w EmptySegment EmptySegment h g = refl
-one_lax m s w EmptySegment CapabilityPad (k, t, b, q, f, e) (i, g) =
-    let x : to_object t (pos b) q ≡ to_cap i =
-    same_lead m s w k 1 (to_object t (pos b) q) (to_cap i) f.leads g in absurd cc
-one_lax m s w CapabilityPad NullPad (i, h) g = let x : to_cap i ≡ to_null =
-    same_lead m s w 1 1 (to_cap i) to_null h g in absurd cc
-one_lax m s w CapabilityPad EmptySegment (i, h) (k, t, b, q, f, e) =
-    let x : to_cap i ≡ to_object t (pos b) q =
-    same_lead m s w 1 k (to_cap i) (to_object t (pos b) q) h f.leads in absurd cc
+one_lax m s w EmptySegment CapabilityPad (k, t, b, q, f, e) (i, g) = search (rules, same_lead)
+one_lax m s w CapabilityPad NullPad (i, h) g = search (rules, same_lead)
+one_lax m s w CapabilityPad EmptySegment (i, h) (k, t, b, q, f, e) = search (rules, same_lead)
 one_lax m s w CapabilityPad CapabilityPad h g = refl
 
 -- what is wrong has none of these forms

@@ -18,6 +18,7 @@ use Rattle.cap_spec.proofs.Trees.DenotedTrees.{elements_inside, range_length}
 use Rattle.cap_spec.proofs.Trees.Finding.{one_found}
 use Rattle.cap_spec.proofs.Trees.OneTree.{cons_parts, number_list, number_struct}
 use Rattle.cap_spec.proofs.Trees.Readings.{length-values}
+use Rattle.cap_spec.proofs.ProofNames.{rules}
 
 -- what is at a spot is charged no more than its cost
 abbrev pub Tight : List (List ℕ) → Spot → Tree → Type 0
@@ -43,23 +44,13 @@ struct_tight : {m : List (List ℕ)} {s w k t b q tag ds ps inner deep c d : ℕ
     → DenoteEach m (places t (b + ds) ps) ts inner deep → c ≤ cost (struct words ts)
     → (k ≡ 0) × (inner ≤ costs ts)
 struct_tight {m} {s} {w} {k} {t} {b} {q} {tag} {ds} {ps} {inner} {deep} {c} {d} words ts f own each le =
-    let h = f.object.shape in
-    let x : extent q ≡ ds + ps = struct_words h in
-    let l : length words ≡ ds = ap length own ∙ range_length m t b ds (omega (arith, f.object.finds.inside.inside, x)) in
-    let n : tree_count ts ≡ ps = (each_charged m (places t (b + ds) ps) ts inner deep each).0 ∙ length-places t (b + ds) ps in
-    let a = each_measured m (places t (b + ds) ps) ts inner deep each in
-    no_pads_left k (extent q) (extra q tag) inner (length words + tree_count ts) (costs ts) c f.charge
-    (omega (arith, x, l, n)) (struct_extra h) a.charged le
+    search (rules, struct_words, range_length, each_charged, length-places, each_measured, no_pads_left, struct_extra)
 
 pointers_tight : {m : List (List ℕ)} {s w k t b q tag n inner deep c d : ℕ} (ts : Trees)
     → FindsCharged m s w (Pointers n) k t b q tag inner deep c d
     → DenoteEach m (places t b n) ts inner deep → c ≤ cost (pointers ts) → (k ≡ 0) × (inner ≤ costs ts)
 pointers_tight {m} {s} {w} {k} {t} {b} {q} {tag} {n} {inner} {deep} {c} {d} ts f each le =
-    let h = f.object.shape in
-    let count : tree_count ts ≡ n = (each_charged m (places t b n) ts inner deep each).0 ∙ length-places t b n in
-    let a = each_measured m (places t b n) ts inner deep each in
-    no_pads_left k (extent q) (extra q tag) inner (tree_count ts) (costs ts) c f.charge
-    (omega (arith, pointers_words h, count)) (pointers_extra h) a.charged le
+    search (rules, each_charged, length-places, each_measured, no_pads_left, pointers_words, pointers_extra)
 
 structs_tight : {m : List (List ℕ)} {s w ds ps k t b q tag n inner deep c d : ℕ} (es : Trees)
     → FindsCharged m s w (Structs n ds ps) k t b q tag inner deep c d
@@ -84,13 +75,7 @@ own_padless m s w (struct words ts) c d k r (k', t, b, q, tag, ds, ps, inner, de
     let one = one_lead m s w k' k (to_object t (pos b) q) r found.object.finds.leads l in
     omega (arith, one, struct_tight words ts found own each le)
 own_padless m s w (scalars e vs) c d k r (k', t, b, q, tag, n, found, own) le l =
-    let h = found.object.shape in
-    let count : length vs ≡ n = ap length own ∙ length-values m t b e n in
-    let x = scalars_words h ∙ ap (list_words e) (sym count) in
-    let y = scalars_extra h ∙ ap (idle e) (sym count) in
-    let z : k' ≡ 0 = no_pads_scalars k' (extent q) (extra q tag) (list_words e (length vs)) (idle e (length vs))
-    c found.charge x y le in
-    omega (arith, one_lead m s w k' k (to_object t (pos b) q) r found.object.finds.leads l, z)
+    search (rules, length-values, scalars_words, scalars_extra, no_pads_scalars, one_lead)
 own_padless m s w (pointers ts) c d k r (k', t, b, q, tag, n, inner, deep, found, each) le l =
     let one = one_lead m s w k' k (to_object t (pos b) q) r found.object.finds.leads l in
     omega (arith, one, pointers_tight ts found each le)
@@ -127,10 +112,7 @@ each_tight m t b (suc n) (more u ts) c d (suc i) x h le lt e =
 
 -- the elements after the first lie inside too
 elements_after : (b ds ps n n' l : ℕ) → b + n * ds + n * ps ≤ l → n ≡ suc n' → b + ds + ps + n' * ds + n' * ps ≤ l
-elements_after b ds ps n n' l h e =
-    let y : n * ds ≡ ds + n' * ds = rw e (omega arith) in
-    let z : n * ps ≡ ps + n' * ps = rw e (omega arith) in
-    omega (arith, h, y, z)
+elements_after b ds ps n n' l h e = search rules
 
 -- an element, where the elements are charged no more than their cost
 elements_tight : (m : List (List ℕ)) (t b ds ps n : ℕ) (es : Trees) (c d i x : ℕ)
@@ -163,9 +145,7 @@ to_pointer m s w (struct ws ts) c d k t b q tag ds ps i h le f lt =
     let a = struct_tight ws ts found own each le in
     let r = each_tight m t' (b' + ds') ps' ts inner deep i (b + ds + i) each a.1 (rw (← y) lt) (rw (o.start, x) refl) in
     (r.0, subst (λ (y : ℕ). Tight m (word y (b + ds + i)) r.0) (sym o.segment) r.1)
-to_pointer m s w x c d k t b q tag ds ps i h le f lt =
-    let y = struct_shape f.shape in
-    absurd (omega (arith, number_struct (kind q) (code q) y.kind, found_form m s w x c d k t b q h f.finds))
+to_pointer m s w x c d k t b q tag ds ps i h le f lt = search (rules, struct_shape, number_struct, found_form)
 
 to_entry : (m : List (List ℕ)) (s w : ℕ) (x : Tree) (c d k t b q tag n i : ℕ) → Denotes m s w x c d → c ≤ cost x
     → FindsKind m s w (Pointers n) k t b q tag → i < n → (u : Tree) × Tight m (word t (b + i)) u
@@ -176,9 +156,7 @@ to_entry m s w (pointers ts) c d k t b q tag n i h le f lt =
     let a = pointers_tight ts found each le in
     let r = each_tight m t' b' n' ts inner deep i (b + i) each a.1 (rw (← x) lt) (rw o.start refl) in
     (r.0, subst (λ (y : ℕ). Tight m (word y (b + i)) r.0) (sym o.segment) r.1)
-to_entry m s w x c d k t b q tag n i h le f lt =
-    let y = pointers_shape f.shape in
-    absurd (omega (arith, number_list (kind q) (code q) y.kind, y.code, found_form m s w x c d k t b q h f.finds))
+to_entry m s w x c d k t b q tag n i h le f lt = search (rules, pointers_shape, number_list, found_form)
 
 -- an element by equal places
 tight_moved : (m : List (List ℕ)) (t t' x ds ds' ps ps' : ℕ) (u : Tree) → t ≡ t' → ds ≡ ds' → ps ≡ ps'
@@ -198,9 +176,7 @@ to_element m s w (structs ds' ps' es) c d k t b q tag n ds ps i h le f lt =
     let r = elements_tight m t' (b' + 1) ds' ps' n' es inner deep i (b + 1 + i * (ds + ps))
     (elements_inside found.object) each a.1 (rw (← x) lt) (rw (o.start, y, z) refl) in
     (r.0, tight_moved m t' t (b + 1 + i * (ds + ps)) ds' ds ps' ps r.0 (sym o.segment) (sym y) (sym z) r.1)
-to_element m s w x c d k t b q tag n ds ps i h le f lt =
-    let y = structs_shape f.shape in
-    absurd (omega (arith, number_list (kind q) (code q) y.kind, y.code, found_form m s w x c d k t b q h f.finds))
+to_element m s w x c d k t b q tag n ds ps i h le f lt = search (rules, structs_shape, number_list, found_form)
 
 -- a step from a spot that is charged no more than its cost leads to another one
 step_tight : (m : List (List ℕ)) (a : Spot) (step : Step) (b : Spot) (x : Tree) → Tight m a x → StepsTo m a step b

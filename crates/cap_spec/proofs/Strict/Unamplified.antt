@@ -10,6 +10,7 @@ use Rattle.cap_spec.proofs.ProofNames.{is_past, frame_text, joined, paired, size
 use Rattle.cap_spec.proofs.ProofNames.{unamplified, WordLimit, Refusal}
 use Rattle.cap_spec.proofs.Verdicts.KeptBefore.{kept_before}
 use Rattle.cap_spec.proofs.Verdicts.OneFault.{first_fault_kept}
+use Rattle.cap_spec.proofs.ProofNames.{rules}
 
 -- a charge is within the limit where it is within the words given, and within the words of the segments with the slack
 pub within_both : (m : List (List ℕ)) (words c : ℕ) → c ≤ unamplified m words
@@ -20,23 +21,17 @@ within_both m words c = ((λ h. (omega (arith, h), omega (arith, h))), (λ h. om
 pub disjoint_unamplified : (m : List (List ℕ)) (t : Tree) (c d words : ℕ) → Denotes m 0 0 t c d → IsDisjoint m
     → empty_count t ≤ 4097 → c ≤ words
     → c ≤ unamplified m words
-disjoint_unamplified m t c d words h apart few le =
-    (within_both m words c).1 (le, omega (arith, charge_below_words m t c d h apart, few))
+disjoint_unamplified m t c d words h apart few le = search (rules, within_both, charge_below_words)
 
 -- a copy has at most one word more than is charged
 pub copy_length : (m : List (List ℕ)) (words : List ℕ) (limit : ℕ) → (k : HasCopy m words)
     → k.charge ≤ unamplified m limit
     → length words ≤ sum (sizes_of m) + 4097
-copy_length m words limit k h =
-    let l : length words ≡ length (layout (trim k.tree)) = ap length k.laid in
-    let c = layout_charged m 0 0 k.tree k.charge k.depth k.denotes in
-    let b = (within_both m limit k.charge).0 h in
-    omega (arith, l, c, b.1)
+copy_length m words limit k h = search (rules, layout_charged, within_both)
 
 -- numbers in pairs are a word at least
 paired_some : (x : ℕ) (xs : List ℕ) → 1 ≤ length (paired (x ∷ xs))
-paired_some x [] = omega arith
-paired_some x (y ∷ ys) = omega arith
+paired_some x x1 = search rules
 
 -- and so is its frame longer than the message's
 pub copy_frame_length : (m : List (List ℕ)) (words : List ℕ) (limit : ℕ) → (k : HasCopy m words)

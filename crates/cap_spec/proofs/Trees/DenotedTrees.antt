@@ -11,6 +11,7 @@ use Rattle.cap_spec.proofs.ProofNames.{words_from, Leads, near, one_pad, to_cap,
 use Rattle.cap_spec.proofs.ProofNames.{element_bits, AreElementTrees, AreTrees, IsTree}
 use Rattle.cap_spec.proofs.ProofNames.{Tree, Trees, cap, more, null, pointers, scalars, struct, structs, IsWord, field, Structs}
 use Rattle.cap_spec.proofs.Trees.Charges.{each_charged, elements_fit, length-places}
+use Rattle.cap_spec.proofs.ProofNames.{rules}
 
 -- a message of words
 abbrev pub AreWords : List (List ℕ) → Type 0
@@ -24,8 +25,7 @@ segment_words (x ∷ xs) (suc s) h = segment_words xs s h.1
 
 -- and so are those of a range of it
 range_words : (m : List (List ℕ)) (t b n : ℕ) → AreWords m → AllByRecursion IsWord (words_from m t b n)
-range_words m t b n h = all_take IsWord (b + n - b) (drop b (segment_of m t))
-    (all_drop IsWord b (segment_of m t) (segment_words m t h))
+range_words m t b n h = search (rules, all_take, all_drop, segment_words)
 
 -- a field of n bits is below 2 ^ n
 pub field_below : (x a n : ℕ) → field x a n < 2 ^ n
@@ -35,21 +35,15 @@ field_below x a n = mod-lt (x / 2 ^ a) (pow_pos n)
 pub values_fit : (words : List ℕ) (b bits i n : ℕ)
     → AllByRecursion (λ v. v < 2 ^ bits) (map (value_at words b bits) (range_with_len i n))
 values_fit words b bits i zero = tt
-values_fit words b bits i (suc n) = (
-  field_below (slice_index_or words (b + (i * bits) / 64) 0) ((i * bits) % 64) bits,
-  values_fit words b bits (i + 1) n,
-)
+values_fit words b bits i (suc n) = search (rules, field_below, values_fit words b bits (i + 1) n)
 
 -- a range inside its segment has as many words as are asked for
 pub range_length : (m : List (List ℕ)) (t b n : ℕ) → b + n ≤ length (segment_of m t) → length (words_from m t b n) ≡ n
-range_length m t b n le =
-    length-take-le (b + n - b) (drop b (segment_of m t)) (omega (arith, length-drop b (segment_of m t))) ∙ omega arith
+range_length m t b n le = search (rules, length-take-le, length-drop)
 
 -- the index of a capability fits 32 bits
 pub cap_fits : (m : List (List ℕ)) (s w k i : ℕ) → Leads m s w k (to_cap i) → i < 2 ^ 32
-cap_fits m s w k i (near p has far says pads) = rw says.1 (field_below p 32 32)
-cap_fits m s w k i (one_pad p x has one pad_word far says pads) = rw says.1 (field_below x 32 32)
-cap_fits m s w k i (two_pads p f x has two first second one tag r pads) = absurd (cc r)
+cap_fits m s w k i x5 = search (rules, field_below)
 
 -- the elements of a struct list lie inside its segment
 pub elements_inside : {m : List (List ℕ)} {s w n ds ps k t b q tag : ℕ} → FindsKind m s w (Structs n ds ps) k t b q tag

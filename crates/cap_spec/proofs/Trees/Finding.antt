@@ -8,6 +8,7 @@ use Rattle.cap_spec.proofs.ProofNames.{List, ap, arith, inr, pos, refl, subst, s
 use Rattle.cap_spec.proofs.ProofNames.{FindsCharged, FindsKind, HasKind, IsComposite, extra, to_object, HasWord, Costs, code}
 use Rattle.cap_spec.proofs.ProofNames.{data_size, extent, kind, list_size, middle, pointer_size, levels_below, Pointers}
 use Rattle.cap_spec.proofs.ProofNames.{Scalars, Struct, Structs}
+use Rattle.cap_spec.proofs.ProofNames.{rules}
 
 -- one object: its pads, segment, start and shape
 pub record SameObject (k t b q k' t' b' q' : ℕ) : Type 0 where
@@ -24,10 +25,7 @@ object_parts t b q t' b' q' e = (cc, cc, cc)
 -- a pointer word finds one object
 pub one_object : (m : List (List ℕ)) (s w k t b q k' t' b' q' : ℕ) → Finds m s w k t b q → Finds m s w k' t' b' q'
     → SameObject k t b q k' t' b' q'
-one_object m s w k t b q k' t' b' q' f f' =
-    let e = one_lead m s w k k' (to_object t (pos b) q) (to_object t' (pos b') q') f.leads f'.leads in
-    let p = object_parts t b q t' b' q' e.1 in
-    record { pads = e.0; segment = p.0; start = p.1; shape = p.2 }
+one_object m s w k t b q k' t' b' q' f f' = search (rules, one_lead, object_parts)
 
 -- one object of one kind: its pads, segment, start, shape and kind, and its tag if it is a list of structs
 pub record SameFound (k t b q tag k' t' b' q' tag' : ℕ) (x y : Kind) : Type 0 where
@@ -77,12 +75,7 @@ pub found_depth : {m : List (List ℕ)} {s w k t b q tag inner deep c d k' t' b'
     → FindsCharged m s w x k t b q tag inner deep c d → Finds m s w k' t' b' q' → (IsComposite q' → HasWord m t' b' tag')
     → 1 + levels_below q' tag' ≤ d
 found_depth {m} {s} {w} {k} {t} {b} {q} {tag} {inner} {deep} {c} {d} {k'} {t'} {b'} {q'} {tag'} {x} f g has =
-    let o : SameObject k t b q k' t' b' q' = one_object m s w k t b q k' t' b' q' f.object.finds g in
-    let same : IsComposite q → tag ≡ tag' =
-    (λ z. one_word m t b tag tag' (f.object.tagged z) (rw (o.segment, o.start) (has (subst IsComposite o.shape z)))) in
-    let beside = beside_same q tag tag' x same f.object.shape in
-    let l : levels_below q tag ≡ levels_below q' tag' = beside.1 ∙ ap (λ u. levels_below u tag') o.shape in
-    omega (arith, f.depth, l)
+    search (rules, one_object, one_word, beside_same)
 
 -- An object that is found, by the parts of its word.
 module _ (m : List (List ℕ)) (s w k t b q : ℕ) (f : Finds m s w k t b q) where

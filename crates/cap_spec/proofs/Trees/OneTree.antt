@@ -7,6 +7,7 @@ use Rattle.cap_spec.specs.Tree.{Tree, Trees, cap, more, none, null, pointers, sc
 use Rattle.cap_spec.proofs.Pointers.Following.{one_lead}
 use Rattle.cap_spec.proofs.Pointers.Shapes.{pointers_shape, scalars_shape, struct_shape, structs_shape}
 use Rattle.cap_spec.proofs.Trees.Finding.{charged_same, one_found}
+use Rattle.cap_spec.proofs.ProofNames.{rules}
 
 -- what is the same of two trees, or of two lists of trees
 pub record Same {A : Type 0} (t t' : A) (c c' d d' : ℕ) : Type 0 where
@@ -90,24 +91,14 @@ cons_parts x y xs ys e = (cc, cc)
 each_same : (t t' : Tree) (ts ts' : Trees) (c1 d1 c2 d2 c d c1' d1' c2' d2' c' d' : ℕ) → Same t t' c1 c1' d1 d1'
     → Same ts ts' c2 c2' d2 d2'
     → c ≡ c1 + c2 → d ≡ max d1 d2 → c' ≡ c1' + c2' → d' ≡ max d1' d2' → Same (more t ts) (more t' ts') c c' d d'
-each_same t t' ts ts' c1 d1 c2 d2 c d c1' d1' c2' d2' c' d' a b e1 e2 e3 e4 =
-    record {
-      part = rw (a.part, b.part) refl;
-      charge = omega (arith, a.charge, b.charge);
-      depth = omega (arith, a.depth, b.depth);
-    }
+each_same t t' ts ts' c1 d1 c2 d2 c d c1' d1' c2' d2' c' d' a b e1 e2 e3 e4 = search rules
 
 -- what one more element adds
 elements_same : (ws ws' : List ℕ) (ts ts' es es' : Trees) (c1 d1 c2 d2 c d c1' d1' c2' d2' c' d' : ℕ) → ws ≡ ws'
     → Same ts ts' c1 c1' d1 d1' → Same es es' c2 c2' d2 d2'
     → c ≡ c1 + c2 → d ≡ max d1 d2 → c' ≡ c1' + c2' → d' ≡ max d1' d2'
     → Same (more (struct ws ts) es) (more (struct ws' ts') es') c c' d d'
-elements_same ws ws' ts ts' es es' c1 d1 c2 d2 c d c1' d1' c2' d2' c' d' e a b e1 e2 e3 e4 =
-    record {
-      part = rw (e, a.part, b.part) refl;
-      charge = omega (arith, a.charge, b.charge);
-      depth = omega (arith, a.depth, b.depth);
-    }
+elements_same ws ws' ts ts' es es' c1 d1 c2 d2 c d c1' d1' c2' d2' c' d' e a b e1 e2 e3 e4 = search rules
 
 -- elements at equal places
 pub elements_moved : (m : List (List ℕ)) (es : Trees) (t x ds ps n c d t' x' ds' ps' n' : ℕ) → t ≡ t' → x ≡ x'

@@ -160,14 +160,9 @@ pub scalars_read : (words : List ℕ) (b c : ℕ) (vs : List ℕ) → c < 6 → 
     → WordsAt words b (scalar_words c vs)
     → map (value_at words b (element_bits c)) (range_with_len 0 (length vs)) ≡ vs
 scalars_read words b zero vs lt a lie = voids_read words b vs a
-scalars_read words b (suc zero) vs lt a lie =
-    bits_read words b 1 (list_words 1 (length vs)) vs a lie (placed-1 (length vs))
-scalars_read words b (suc (suc zero)) vs lt a lie =
-    bits_read words b 8 (list_words 2 (length vs)) vs a lie (placed-8 (length vs))
-scalars_read words b (suc (suc (suc zero))) vs lt a lie =
-    bits_read words b 16 (list_words 3 (length vs)) vs a lie (placed-16 (length vs))
-scalars_read words b (suc (suc (suc (suc zero)))) vs lt a lie =
-    bits_read words b 32 (list_words 4 (length vs)) vs a lie (placed-32 (length vs))
-scalars_read words b (suc (suc (suc (suc (suc zero))))) vs lt a lie =
-    bits_read words b 64 (list_words 5 (length vs)) vs a lie (placed-64 (length vs))
+scalars_read words b (suc zero) vs lt a lie = search (rules, bits_read, placed-1)
+scalars_read words b (suc (suc zero)) vs lt a lie = search (rules, bits_read, placed-8)
+scalars_read words b (suc (suc (suc zero))) vs lt a lie = search (rules, bits_read, placed-16)
+scalars_read words b (suc (suc (suc (suc zero)))) vs lt a lie = search (rules, bits_read, placed-32)
+scalars_read words b (suc (suc (suc (suc (suc zero))))) vs lt a lie = search (rules, bits_read, placed-64)
 scalars_read words b (suc (suc (suc (suc (suc (suc c)))))) vs lt a lie = absurd (omega (arith, lt))

@@ -29,8 +29,7 @@ value_past m t b c n i past = slice_get_past (values_of m t b c n) i (omega (ari
 -- how many words the values of a list take
 pub length-values_words : (m : List (List ℕ)) (t b c n : ℕ)
     → length (scalar_words c (values_of m t b c n)) ≡ list_words c n
-length-values_words m t b c n = length-scalar_words c (values_of m t b c n)
-    ∙ ap (list_words c) (length-values m t b c n)
+length-values_words m t b c n = search (rules, length-scalar_words, length-values)
 
 -- word i of a list of values: the word that is there, its bits past the last value cut
 pub values_word_there : (m : List (List ℕ)) (t b c n i x : ℕ) → i < list_words c n → HasWord m t (b + i) x
@@ -43,8 +42,7 @@ values_word_there m t b c n i x lt h =
 -- and none past them
 pub values_word_past : (m : List (List ℕ)) (t b c n i : ℕ) → list_words c n ≤ i
     → slice_get (scalar_words c (values_of m t b c n)) i ≡ None
-values_word_past m t b c n i past = slice_get_past (scalar_words c (values_of m t b c n)) i
-    (omega (arith, length-values_words m t b c n))
+values_word_past m t b c n i past = search (rules, slice_get_past, length-values_words)
 
 -- whether a list of values has a word i, by bits
 pub word_within : (c n i : ℕ) → i * 64 < element_bits c * n → i < list_words c n
@@ -57,18 +55,7 @@ word_past c n i h = search rules
 pub byte_there : (words : List ℕ) (i j x : ℕ) → j < 8 → slice_get words i ≡ Some x
     → slice_get (plain_text words) (i * 8 + j) ≡ slice_get (word_bytes x) j
 byte_there [] i j x lt h = absurd (cc h)
-byte_there (w ∷ ws) zero j x lt h = go j lt (cc h)
-  where
-    go : (j : ℕ) → j < 8 → w ≡ x → slice_get (plain_text (w ∷ ws)) (0 * 8 + j) ≡ slice_get (word_bytes x) j
-    go zero lt e = ap (λ y. slice_get (word_bytes y) 0) e
-    go (suc zero) lt e = ap (λ y. slice_get (word_bytes y) 1) e
-    go (suc (suc zero)) lt e = ap (λ y. slice_get (word_bytes y) 2) e
-    go (suc (suc (suc zero))) lt e = ap (λ y. slice_get (word_bytes y) 3) e
-    go (suc (suc (suc (suc zero)))) lt e = ap (λ y. slice_get (word_bytes y) 4) e
-    go (suc (suc (suc (suc (suc zero))))) lt e = ap (λ y. slice_get (word_bytes y) 5) e
-    go (suc (suc (suc (suc (suc (suc zero)))))) lt e = ap (λ y. slice_get (word_bytes y) 6) e
-    go (suc (suc (suc (suc (suc (suc (suc zero))))))) lt e = ap (λ y. slice_get (word_bytes y) 7) e
-    go (suc (suc (suc (suc (suc (suc (suc (suc j)))))))) lt e = absurd (omega (arith, lt))
+byte_there (w ∷ ws) zero j x lt h = search rules
 byte_there (w ∷ ws) (suc i) j x lt h =
     let e : suc i * 8 + j ≡ suc (suc (suc (suc (suc (suc (suc (suc (i * 8 + j)))))))) = omega arith in
     ap (slice_get (plain_text (w ∷ ws))) e ∙ byte_there ws i j x lt h

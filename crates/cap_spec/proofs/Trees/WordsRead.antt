@@ -6,6 +6,7 @@ use Rattle.cap_spec.proofs.ProofNames.{suc, sym, take, zero, ℕ, ◌%◌, ◌*�
 use Rattle.cap_spec.proofs.ProofNames.{length-map-range_with_len, range_with_len, value_at, element_bits, list_words}
 use Rattle.cap_spec.proofs.ProofNames.{packed_word, scalar_words, field, common_steps}
 use Rattle.cap_spec.proofs.Trees.ReadingBack.{word_of_values}
+use Rattle.cap_spec.proofs.ProofNames.{rules}
 
 -- a field and the one above it
 two_fields : (x p bits more : ℕ) → field x p bits + 2 ^ bits * field x (p + bits) more ≡ field x p (more + bits)
@@ -22,10 +23,7 @@ two_fields x p bits more =
 -- fields in a row, packed, are one field
 pub fields_packed : (x bits : ℕ) (f : ℕ → ℕ) (a p n : ℕ) → ((j : ℕ) → j < n → f (a + j) ≡ field x (p + j * bits) bits)
     → packed_word bits (map f (range_with_len a n)) ≡ field x p (n * bits)
-fields_packed x bits f a p zero h = sym (none (x / 2 ^ p))
-  where
-    none : (y : ℕ) → y % 2 ^ (0 * bits) ≡ 0
-    none y = let e : 0 * bits ≡ 0 = omega arith in ap (λ z. y % 2 ^ z) e ∙ (omega arith)
+fields_packed x bits f a p zero h = search rules
 fields_packed x bits f a p (suc n) h =
     let e0 : a + 0 ≡ a = omega arith in
     let e1 : p + 0 * bits ≡ p = omega arith in
@@ -46,8 +44,7 @@ fields_packed x bits f a p (suc n) h =
 pub drop-range : (a n k : ℕ) → drop k (range_with_len a n) ≡ range_with_len (a + k) (n - k)
 drop-range a n zero = let e : a ≡ a + 0 = omega arith in let f : n ≡ n - 0 = omega arith in ap₂ range_with_len e f
 drop-range a zero (suc k) = let e : 0 ≡ 0 - suc k = omega arith in ap (range_with_len (a + suc k)) e
-drop-range a (suc n) (suc k) = let e : a + 1 + k ≡ a + suc k = omega arith in
-    let f : n - k ≡ suc n - suc k = omega arith in drop-range (a + 1) n k ∙ ap₂ range_with_len e f
+drop-range a (suc n) (suc k) = search (rules, drop-range (a + 1) n k)
 
 pub take-range : (a n k : ℕ) → take k (range_with_len a n) ≡ range_with_len a (min k n)
 take-range a n zero = let e : 0 ≡ min 0 n = omega arith in ap (range_with_len a) e
@@ -127,15 +124,4 @@ word_read words b c n k h =
 pub values_read : (words : List ℕ) (b c n k : ℕ) → c < 6 → k < list_words c n
     → get_or (scalar_words c (map (value_at words b (element_bits c)) (range_with_len 0 n))) k 0
     ≡ field (get_or words (b + k) 0) 0 (min (64 / element_bits c) (n - k * (64 / element_bits c)) * element_bits c)
-values_read words b c n k lt h = word_read words b c n k h ∙ ap (field (get_or words (b + k) 0) 0) (many c lt h)
-  where
-    many : (c : ℕ) → c < 6 → k < list_words c n
-        → min 64 (element_bits c * n - k * 64)
-        ≡ min (64 / element_bits c) (n - k * (64 / element_bits c)) * element_bits c
-    many zero lt h = absurd (omega (arith, h))
-    many (suc zero) lt h = omega arith
-    many (suc (suc zero)) lt h = omega arith
-    many (suc (suc (suc zero))) lt h = omega arith
-    many (suc (suc (suc (suc zero)))) lt h = omega arith
-    many (suc (suc (suc (suc (suc zero))))) lt h = omega arith
-    many (suc (suc (suc (suc (suc (suc c)))))) lt h = absurd (omega (arith, lt))
+values_read words b c n k lt h = search (rules, word_read)

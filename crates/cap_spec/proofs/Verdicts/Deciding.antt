@@ -16,6 +16,7 @@ use Rattle.cap_spec.proofs.Trees.Finding.{one_found, pointers_found, scalars_fou
 use Rattle.cap_spec.proofs.Trees.OneTree.{cons_parts, formed, number_list, number_struct}
 use Rattle.cap_spec.proofs.Trees.Outcomes.{Fate, fate}
 use Rattle.cap_spec.proofs.Verdicts.OneVerdict.{denoted_not_wrong}
+use Rattle.cap_spec.proofs.ProofNames.{rules}
 
 -- it is so, or it isn't
 abbrev pub Decided : Type 0 → Type 0
@@ -36,17 +37,11 @@ ElementsWithin m n t b ds ps k = (es : Trees) × (c d : ℕ) × AreElements m t 
 -- the first of some words, and the others
 first_each : (m : List (List ℕ)) (n s w : ℕ) (ps : List (ℕ × ℕ)) → EachWithin m n ((s, w) ∷ ps) → TreeWithin m n s w
 first_each m n s w ps (none, c, d, h, le) = absurd (cc h.0)
-first_each m n s w ps (more t ts, c, d, h, le) =
-    let (s', w', rest, c1, d1, c2, d2, begins, denotes, after, charge, depth) = h in
-    let p = cons_parts (s, w) (s', w') ps rest begins in
-    (t, c1, d1, subst (λ (y : ℕ × ℕ). Denotes m y.0 y.1 t c1 d1) (sym p.0) denotes, omega (arith, depth, le))
+first_each m n s w ps (more t ts, c, d, h, le) = search (rules, cons_parts)
 
 rest_each : (m : List (List ℕ)) (n s w : ℕ) (ps : List (ℕ × ℕ)) → EachWithin m n ((s, w) ∷ ps) → EachWithin m n ps
 rest_each m n s w ps (none, c, d, h, le) = absurd (cc h.0)
-rest_each m n s w ps (more t ts, c, d, h, le) =
-    let (s', w', rest, c1, d1, c2, d2, begins, denotes, after, charge, depth) = h in
-    let p = cons_parts (s, w) (s', w') ps rest begins in
-    (ts, c2, d2, subst (λ (y : List (ℕ × ℕ)). DenoteEach m y ts c2 d2) (sym p.1) after, omega (arith, depth, le))
+rest_each m n s w ps (more t ts, c, d, h, le) = search (rules, cons_parts)
 
 -- Where it is decided of each word, it is decided of all.
 each_decided : (m : List (List ℕ)) (n : ℕ) → ((s w : ℕ) → Decided (TreeWithin m n s w)) → (ps : List (ℕ × ℕ))
@@ -64,18 +59,13 @@ each_decided m n one ((s, w) ∷ ps) = both (one s w) (each_decided m n one ps)
 first_element : (m : List (List ℕ)) (n t b ds ps k : ℕ) → ElementsWithin m n t b ds ps (suc k)
     → EachWithin m n (places t (b + ds) ps)
 first_element m n t b ds ps k (none, c, d, h, le) = absurd (omega (arith, h.0))
-first_element m n t b ds ps k (more (struct ws ts) es, c, d, h, le) =
-    let (fewer, c1, d1, c2, d2, counted, own, each, after, charge, depth) = h in
-    (ts, c1, d1, each, omega (arith, depth, le))
+first_element m n t b ds ps k (more (struct ws ts) es, c, d, h, le) = search rules
 first_element m n t b ds ps k (more x es, c, d, h, le) = absurd h
 
 rest_elements : (m : List (List ℕ)) (n t b ds ps k : ℕ) → ElementsWithin m n t b ds ps (suc k)
     → ElementsWithin m n t (b + ds + ps) ds ps k
 rest_elements m n t b ds ps k (none, c, d, h, le) = absurd (omega (arith, h.0))
-rest_elements m n t b ds ps k (more (struct ws ts) es, c, d, h, le) =
-    let (fewer, c1, d1, c2, d2, counted, own, each, after, charge, depth) = h in
-    let e : fewer ≡ k = omega (arith, counted) in
-    (es, c2, d2, subst (λ i. AreElements m t (b + ds + ps) ds ps i es c2 d2) e after, omega (arith, depth, le))
+rest_elements m n t b ds ps k (more (struct ws ts) es, c, d, h, le) = search rules
 rest_elements m n t b ds ps k (more x es, c, d, h, le) = absurd h
 
 -- The same of elements.
@@ -109,9 +99,7 @@ module _ (m : List (List ℕ)) (n s w k t b q tag : ℕ) where
       let x : ds ≡ ds' = cc o.kind in
       let y : ps ≡ ps' = cc o.kind in
       (ts, inner, deep, rw (o.segment, o.start, x, y) each, omega (arith, found.depth, le))
-  in_struct f (x, c, d, h, le) =
-      let y = struct_shape f.shape in absurd (omega
-      (arith, number_struct (kind q) (code q) y.kind, found_form m s w x c d k t b q h f.finds))
+  in_struct f (x, c, d, h, le) = search (rules, struct_shape, number_struct, found_form)
 
   -- what the entries of a list of pointers denote
   in_pointers : {size : ℕ} → FindsKind m s w (Pointers size) k t b q tag → TreeWithin m (suc n) s w
@@ -121,42 +109,17 @@ module _ (m : List (List ℕ)) (n s w k t b q tag : ℕ) where
       let o = one_found f found.object in
       let x : size ≡ size' = cc o.kind in
       (ts, inner, deep, rw (o.segment, o.start, x) each, omega (arith, found.depth, le))
-  in_pointers f (x, c, d, h, le) =
-      let y = pointers_shape f.shape in absurd (omega
-      (arith, number_list (kind q) (code q) y.kind, y.code, found_form m s w x c d k t b q h f.finds))
+  in_pointers f (x, c, d, h, le) = search (rules, pointers_shape, number_list, found_form)
 
   -- the elements of a list of structs
   in_structs : {size ds ps : ℕ} → FindsKind m s w (Structs size ds ps) k t b q tag → TreeWithin m (suc n) s w
       → ElementsWithin m (n - element_levels size) t (b + 1) ds ps size × (element_levels size ≤ n)
-  in_structs {size} {ds} {ps} f (structs ds' ps' es, c, d, h, le) =
-      let (k', t', b', q', tag', size', inner, deep, found, each) = h in
-      let o = one_found f found.object in
-      let x : size ≡ size' = cc o.kind in
-      let y : ds ≡ ds' = cc o.kind in
-      let z : ps ≡ ps' = cc o.kind in
-      let levels = structs_levels found.object.shape ∙ ap element_levels (sym x) in (
-        (es, inner, deep, rw (o.segment, o.start, x, y, z) each, omega (arith, found.depth, le, levels)),
-        omega (arith, found.depth, le, levels),
-      )
-  in_structs f (x, c, d, h, le) =
-      let y = structs_shape f.shape in absurd (omega
-      (arith, number_list (kind q) (code q) y.kind, y.code, found_form m s w x c d k t b q h f.finds))
+  in_structs {size} {ds} {ps} f (structs ds' ps' es, c, d, h, le) = search (rules, one_found, structs_levels)
+  in_structs f (x, c, d, h, le) = search (rules, structs_shape, number_list, found_form)
 
 -- An object has a level.
 no_level : (m : List (List ℕ)) (s w k t b q : ℕ) → Finds m s w k t b q → TreeWithin m 0 s w → ⊥
-no_level m s w k t b q f (null, c, d, h, le) = omega (arith, found_form m s w null c d k t b q h f)
-no_level m s w k t b q f (cap i, c, d, h, le) = omega (
-  arith,
-  lead_kind m s w k t (pos b) q f.leads,
-  found_form m s w (cap i) c d k t b q h f,
-)
-no_level m s w k t b q f (struct ws ts, c, d, (k', t', b', q', tag, ds, ps, inner, deep, found, own, each), le) =
-    omega (arith, found.depth, le)
-no_level m s w k t b q f (scalars e vs, c, d, (k', t', b', q', tag, n, found, own), le) = omega (arith, found.depth, le)
-no_level m s w k t b q f (pointers ts, c, d, (k', t', b', q', tag, n, inner, deep, found, each), le) =
-    omega (arith, found.depth, le)
-no_level m s w k t b q f (structs ds ps es, c, d, (k', t', b', q', tag, n, inner, deep, found, each), le) =
-    omega (arith, found.depth, le)
+no_level m s w k t b q f x8 = search (rules, found_form, lead_kind)
 
 -- Where it is decided of each word with fewer levels, it is decided of the object.
 module _ (m : List (List ℕ)) (n s w k t b q : ℕ) (f : Finds m s w k t b q)

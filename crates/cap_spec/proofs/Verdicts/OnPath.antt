@@ -21,14 +21,8 @@ begins_itself p = ([], sym (append-nil p))
 begins_either : (q done rest r : List Step) (step : Step) → done ++ step ∷ rest ≡ q ++ r
     → IsStartOf q done ⊎ ((more : List Step) × (q ≡ done ++ step ∷ more) × (rest ≡ more ++ r))
 begins_either [] done rest r step e = inl (done, refl)
-begins_either (x ∷ q) [] rest r step e = let f : x ≡ step = cc in let g : rest ≡ q ++ r = cc in
-    inr (q, ap (λ y. y ∷ q) f, g)
-begins_either (x ∷ q) (y ∷ done) rest r step e = go (begins_either q done rest r step cc) cc
-  where
-    go : IsStartOf q done ⊎ ((more : List Step) × (q ≡ done ++ step ∷ more) × (rest ≡ more ++ r)) → x ≡ y
-        → IsStartOf (x ∷ q) (y ∷ done) ⊎ ((more : List Step) × (x ∷ q ≡ y ∷ done ++ step ∷ more) × (rest ≡ more ++ r))
-    go (inl (on, f)) g = let h : y ∷ done ≡ x ∷ (q ++ on) = cc in inl (on, h)
-    go (inr (more, f, h)) g = let k : x ∷ q ≡ y ∷ (done ++ step ∷ more) = cc in inr (more, k, h)
+begins_either (x ∷ q) [] rest r step e = search rules
+begins_either (x ∷ q) (y ∷ done) rest r step e = search (rules, begins_either q done rest r step cc)
 
 -- with one step more, the longer path itself is added
 begins_last : (q done : List Step) (step : Step) → IsStartOf q (done ++ step ∷ [])
@@ -46,8 +40,7 @@ begins_last q done step (r, e) = go (begins_either q done [] r step e)
 
 -- and comes after what begins the shorter one
 before_last : (q done : List Step) (step : Step) → IsStartOf q done → Before q (done ++ step ∷ [])
-before_last q done step ([], e) = subst (λ x. Before q (x ++ step ∷ [])) (sym (e ∙ append-nil q))
-    (Before-longer q step [])
+before_last q done step ([], e) = search (rules, append-nil, Before-longer)
 before_last q done step (x ∷ rest, e) = search (rules, append_assoc, Before-longer)
 
 -- a rising list with a last path after all of them
@@ -181,8 +174,7 @@ pub path_not_refused : (m : List (List ℕ)) (words depth : ℕ) (path : List St
     (r : Refusal) → AreOnPath m path ways → 0 < length ways → CostOf m ways cost
     → AreShallow m depth ways → cost ≤ words → IsRefusedOnPath m words depth path r → ⊥
 path_not_refused m words depth path [] cost r on some costs shallow within (inl h) = omega (arith, some)
-path_not_refused m words depth path (q ∷ qs) cost r on some costs shallow within (inl h) =
-    let x = on.reached q (inl refl) in rootless m q x.0 x.1 x.2 h.lacks.empty x.3
+path_not_refused m words depth path (q ∷ qs) cost r on some costs shallow within (inl h) = search (rules, rootless)
 path_not_refused m words depth path ways cost r on some costs shallow within (inr f) =
     kept_without_fault m words depth f.level f.charge cost r f.way f.before ways f.reached f.costs f.reason
     (distinct_last f.before f.way (Rises-distinct (f.before ++ f.way ∷ []) f.on_path.rising)) all costs shallow within
@@ -251,10 +243,8 @@ no_earlier_on m words depth path r r' f f' x more e =
 pub one_path_refusal : (m : List (List ℕ)) (words depth : ℕ) (path : List Step) (r r' : Refusal)
     → IsRefusedOnPath m words depth path r → IsRefusedOnPath m words depth path r' → r ≡ r'
 one_path_refusal m words depth path r r' (inl h) (inl k) = one_rootless m r r' h k
-one_path_refusal m words depth path r r' (inl h) (inr f) =
-    absurd (rootless m f.way f.level r'.segment r'.word h.lacks.empty f.reached)
-one_path_refusal m words depth path r r' (inr f) (inl h) =
-    absurd (rootless m f.way f.level r.segment r.word h.lacks.empty f.reached)
+one_path_refusal m words depth path r r' (inl h) (inr f) = search (rules, rootless)
+one_path_refusal m words depth path r r' (inr f) (inl h) = search (rules, rootless)
 one_path_refusal m words depth path r r' (inr f) (inr f') = by_order (begins_one f.way f'.way path f.begin f'.begin)
   where
     same : f'.way ≡ f.way → r ≡ r'

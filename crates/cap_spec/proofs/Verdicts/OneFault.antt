@@ -9,6 +9,7 @@ use Rattle.cap_spec.proofs.ProofNames.{◌+◌, ◌∙◌, ◌∷◌, ◌≡◌,
 use Rattle.cap_spec.proofs.ProofNames.{IsFirstReason, IsRefused, is_deep, is_past, Wrong, AreDistinct, IsOneOf, Before, Costs, IsTour}
 use Rattle.cap_spec.proofs.ProofNames.{Reaches, Rises, CostOf, Reason, Refusal, Step}
 use Rattle.cap_spec.proofs.Verdicts.OneVerdict.{cost_reached, distinct_cost, take_out}
+use Rattle.cap_spec.proofs.ProofNames.{rules}
 
 -- one of some paths and a last one
 pub one_of_last : (q p : List Step) (ps : List (List Step)) → IsOneOf q (ps ++ p ∷ []) → (q ≡ p) ⊎ IsOneOf q ps
@@ -138,11 +139,7 @@ first_fault_kept {m} {words} {depth} {path} {r} f within shallow few = record {
 -- refusals of equal parts are equal
 same_refusal : (a b : Refusal) → a.segment ≡ b.segment → a.word ≡ b.word → a.reason ≡ b.reason
     → a.pointers ≡ b.pointers → a ≡ b
-same_refusal a b e1 e2 e3 e4 =
-    let make : ℕ → ℕ → Reason → ℕ → Refusal = λ s w v n. record { segment = s; word = w; reason = v; pointers = n } in
-    ap (λ s. make s a.word a.reason a.pointers) e1
-    ∙ (ap (λ w. make b.segment w a.reason a.pointers) e2
-    ∙ (ap (λ v. make b.segment b.word v a.pointers) e3 ∙ ap (λ n. make b.segment b.word b.reason n) e4))
+same_refusal a b e1 e2 e3 e4 = search rules
 
 -- Faults at one path after the same paths are one refusal.
 pub same_fault : (m : List (List ℕ)) (words depth level level' charge charge' : ℕ) (r r' : Refusal) (way : List Step)
@@ -180,26 +177,19 @@ same_first_fault m words depth r r' f f' e =
 
 -- Refusals of a message without a root are one.
 pub one_rootless : (m : List (List ℕ)) (r r' : Refusal) → HasNoRoot m r → HasNoRoot m r' → r ≡ r'
-one_rootless m r r' h k = same_refusal r r' (h.lacks.segment ∙ sym k.lacks.segment)
-    (h.lacks.word ∙ sym k.lacks.word) (h.lacks.reason ∙ sym k.lacks.reason) (h.pointers ∙ sym k.pointers)
+one_rootless m r r' h k = search (rules, same_refusal)
 
 -- a message without a root has no pointer that a path reaches
 pub rootless : (m : List (List ℕ)) (p : List Step) (level s w : ℕ) → slice_get m 0 ≡ Some [] → Reaches m p level s w → ⊥
 rootless [] p level s w e (root, n, has, walks, up) = cc
-rootless (x ∷ m) p level s w e (root, n, has, walks, up) =
-    let f : x ≡ [] = cc in
-    let g : slice_get x 0 ≡ Some root = has in
-    let h : slice_get [] 0 ≡ Some root = subst (λ u. slice_get u 0 ≡ Some root) f g in
-    cc
+rootless (x ∷ m) p level s w e (root, n, has, walks, up) = search rules
 
 -- A message is refused in one way.
 pub one_refusal : (m : List (List ℕ)) (words depth : ℕ) (r r' : Refusal) → IsRefused m words depth r
     → IsRefused m words depth r' → r ≡ r'
 one_refusal m words depth r r' (inl h) (inl k) = one_rootless m r r' h k
-one_refusal m words depth r r' (inl h) (inr f) =
-    let n = f.fault.numbered in absurd (rootless m f.path n.level r'.segment r'.word h.lacks.empty n.reached)
-one_refusal m words depth r r' (inr f) (inl h) =
-    let n = f.fault.numbered in absurd (rootless m f.path n.level r.segment r.word h.lacks.empty n.reached)
+one_refusal m words depth r r' (inl h) (inr f) = search (rules, rootless)
+one_refusal m words depth r r' (inr f) (inl h) = search (rules, rootless)
 one_refusal m words depth r r' (inr f) (inr f') =
     let n = f.fault.numbered in
     let n' = f'.fault.numbered in

@@ -12,6 +12,7 @@ use Rattle.cap_spec.proofs.ProofNames.{IsWithin, Denotes, Finds, Wrong, AreDisti
 use Rattle.cap_spec.proofs.ProofNames.{cap, null, pointers, scalars, struct, structs, CostOf, Justified, levels_below}
 use Rattle.cap_spec.proofs.ProofNames.{no_root, past_limit, too_deep, Reason, Refusal, Step, common_steps}
 use Rattle.cap_spec.proofs.Trees.Charges.{one_cost}
+use Rattle.cap_spec.proofs.ProofNames.{rules}
 
 -- one of some paths, its cost, and the others
 pub record TakenOut (m : List (List ℕ)) (p : List Step) (qs : List (List Step)) (y : ℕ) : Type 0 where
@@ -123,8 +124,7 @@ denoted_not_wrong m s w null c d h v g = null-not_wrong m s w c h.0 v g
 denoted_not_wrong m s w (cap i) c d h v g = cap-not_wrong m s w c i h.0 v g
 denoted_not_wrong m s w (struct ws ts) c d (k, t, b, q, tag, ds, ps, inner, deep, found, own, each) v g =
     object-not_wrong m s w k t b q found.object.finds v g
-denoted_not_wrong m s w (scalars e vs) c d (k, t, b, q, tag, n, found, own) v g =
-    object-not_wrong m s w k t b q found.object.finds v g
+denoted_not_wrong m s w (scalars e vs) c d (k, t, b, q, tag, n, found, own) v g = search (rules, object-not_wrong)
 denoted_not_wrong m s w (pointers ts) c d (k, t, b, q, tag, n, inner, deep, found, each) v g =
     object-not_wrong m s w k t b q found.object.finds v g
 denoted_not_wrong m s w (structs ds ps es) c d (k, t, b, q, tag, n, inner, deep, found, each) v g =
