@@ -3,15 +3,13 @@ use Rattle.cap_spec.specs.Denoting.{places}
 use Rattle.cap_spec.specs.Tree.{none}
 use Rattle.cap_spec.proofs.Pointers.Following.{one_lead}
 use Rattle.cap_spec.proofs.Pointers.Shapes.{pointers_shape, struct_shape, structs_shape}
-use Rattle.cap_spec.proofs.ProofNames.{List, None, Option, Some, [], arith, inl, inr, pos, refl, subst, suc, sym, zero}
-use Rattle.cap_spec.proofs.ProofNames.{ℕ, ◌*◌, ◌+◌, ◌<◌, ◌∙◌, ◌∷◌, ◌≡◌, AreElements, DenoteEach, Denotes, Finds, FindsKind}
-use Rattle.cap_spec.proofs.ProofNames.{Lead, Leads, near, one_pad, to_object, two_pads, HasWord, PathLeads, ReachesSpot}
-use Rattle.cap_spec.proofs.ProofNames.{Spot, StepsTo, element, level_of, word, code, kind, DenotesAt, Tree, Trees, more}
-use Rattle.cap_spec.proofs.ProofNames.{node_at, part_at, pointers, struct, structs, tree_at, Pointers, Struct, Structs, Step}
-use Rattle.cap_spec.proofs.ProofNames.{Item, Ptr}
+use Rattle.cap_spec.proofs.ProofNames.{List, Some, [], arith, inl, inr, refl, subst, suc, sym, zero, ℕ, ◌*◌, ◌+◌, ◌<◌}
+use Rattle.cap_spec.proofs.ProofNames.{◌∙◌, ◌∷◌, ◌≡◌, AreElements, DenoteEach, Denotes, Finds, FindsKind, Lead, Leads}
+use Rattle.cap_spec.proofs.ProofNames.{HasWord, PathLeads, ReachesSpot, Spot, StepsTo, element, level_of, word, code}
+use Rattle.cap_spec.proofs.ProofNames.{kind, DenotesAt, Tree, Trees, more, node_at, part_at, pointers, struct, structs}
+use Rattle.cap_spec.proofs.ProofNames.{tree_at, Pointers, Struct, Structs, Step, Item, Ptr, rules}
 use Rattle.cap_spec.proofs.Trees.Finding.{one_found}
-use Rattle.cap_spec.proofs.Trees.OneTree.{Formed, HasForm, cons_parts, form_of, formed, number_list, number_struct}
-use Rattle.cap_spec.proofs.ProofNames.{rules}
+use Rattle.cap_spec.proofs.Trees.OneTree.{Formed, HasForm, cons_parts, each_more, formed, number_list, number_struct}
 
 -- the tree of a word has the form of the object that the word finds
 pub found_form : (m : List (List ℕ)) (s w : ℕ) (x : Tree) (c d k t b q : ℕ) → Denotes m s w x c d → Finds m s w k t b q
@@ -26,33 +24,27 @@ each_at m t b zero none c d i x h lt e = absurd (omega arith)
 each_at m t b (suc n) none c d i x h lt e = absurd (cc h.0)
 each_at m t b zero (more u ts) c d i x h lt e = absurd (omega arith)
 each_at m t b (suc n) (more u ts) c d zero x h lt e =
-    let (s, w, rest, c1, d1, c2, d2, begins, denotes, after, charge, depth) = h in
-    let p = cons_parts (t, b) (s, w) (places t (b + 1) n) rest begins in
-    let f : x ≡ b = omega arith in
-    (u, refl, c1, d1, rw f (subst (λ (y : ℕ × ℕ). Denotes m y.0 y.1 u c1 d1) (sym p.0) denotes))
+    let r = each_more m t b (places t (b + 1) n) u ts c d h in
+    let f : x ≡ b = omega arith in (u, refl, r.0, r.1, rw f r.4)
 each_at m t b (suc n) (more u ts) c d (suc i) x h lt e =
-    let (s, w, rest, c1, d1, c2, d2, begins, denotes, after, charge, depth) = h in
-    let p = cons_parts (t, b) (s, w) (places t (b + 1) n) rest begins in
-    each_at m t (b + 1) n ts c2 d2 i x (rw p.1 after) (omega arith) (omega arith)
+    let r = each_more m t b (places t (b + 1) n) u ts c d h in
+    each_at m t (b + 1) n ts r.2 r.3 i x r.5 (omega arith) (omega arith)
 
 -- and each part of a list of trees is what one of the words denotes
 each_of : (m : List (List ℕ)) (t b n : ℕ) (ts : Trees) (c d i x : ℕ) (u : Tree) → DenoteEach m (places t b n) ts c d
     → tree_at ts i ≡ Some u → x ≡ b + i
     → (i < n) × (c' d' : ℕ) × Denotes m t x u c' d'
-each_of m t b n none c d i x u h f e = absurd (cc f)
-each_of m t b zero (more v ts) c d i x u h f e = absurd cc
-each_of m t b (suc n) (more v ts) c d zero x u h f e = search (rules, cons_parts)
 each_of m t b (suc n) (more v ts) c d (suc i) x u h f e =
     let (s, w, rest, c1, d1, c2, d2, begins, denotes, after, charge, depth) = h in
     let p = cons_parts (t, b) (s, w) (places t (b + 1) n) rest begins in
     let r = each_of m t (b + 1) n ts c2 d2 i x u (rw p.1 after) f (omega arith) in
     (omega (arith, r.0), r.1, r.2, r.3)
+each_of m t b n x4 c d i x u h f e = search (rules, cons_parts)
 
 -- the elements of a struct list are its parts
 elements_at : (m : List (List ℕ)) (t b ds ps n : ℕ) (es : Trees) (c d i x : ℕ) → AreElements m t b ds ps n es c d
     → i < n → x ≡ b + i * (ds + ps)
     → (u : Tree) × (tree_at es i ≡ Some u) × DenotesAt m (element t x ds ps) u
-elements_at m t b ds ps n none c d i x h lt e = absurd (omega (arith, h.0))
 elements_at m t b ds ps n (more (struct ws ts) es) c d zero x h lt e =
     let (fewer, c1, d1, c2, d2, counted, own, each, after, charge, depth) = h in
     let f : x ≡ b = omega arith in
@@ -60,17 +52,15 @@ elements_at m t b ds ps n (more (struct ws ts) es) c d zero x h lt e =
 elements_at m t b ds ps n (more (struct ws ts) es) c d (suc i) x h lt e =
     let (fewer, c1, d1, c2, d2, counted, own, each, after, charge, depth) = h in
     elements_at m t (b + ds + ps) ds ps fewer es c2 d2 i x after (omega (arith, counted)) (omega arith)
-elements_at m t b ds ps n (more y es) c d i x h lt e = absurd h
+elements_at m t b ds ps n x6 c d i x h lt e = search rules
 
 elements_of : (m : List (List ℕ)) (t b ds ps n : ℕ) (es : Trees) (c d i x : ℕ) (u : Tree)
     → AreElements m t b ds ps n es c d → tree_at es i ≡ Some u → x ≡ b + i * (ds + ps)
     → (i < n) × DenotesAt m (element t x ds ps) u
-elements_of m t b ds ps n none c d i x u h f e = absurd (cc f)
-elements_of m t b ds ps n (more (struct ws ts) es) c d zero x u h f e = search rules
 elements_of m t b ds ps n (more (struct ws ts) es) c d (suc i) x u h f e =
     let (fewer, c1, d1, c2, d2, counted, own, each, after, charge, depth) = h in
     search (rules, elements_of m t (b + ds + ps) ds ps fewer es c2 d2 i x u after f (omega arith))
-elements_of m t b ds ps n (more y es) c d i x u h f e = absurd h
+elements_of m t b ds ps n x6 c d i x u h f e = search rules
 
 -- a word that finds a struct denotes a struct, whose children its pointer words denote
 struct_at : (m : List (List ℕ)) (s w : ℕ) (x : Tree) (c d k t b q tag ds ps i : ℕ) → Denotes m s w x c d
@@ -133,8 +123,7 @@ step_to_part m (word s w) (Item i) b x h (inr (k, t, b', q, tag, n, ds, ps, find
 step_to_part m (element t b ds ps) (Ptr i) y (struct ws ts) (c, d, own, each) g =
     let r = each_at m t (b + ds) ps ts c d i (b + ds + i) each g.0 refl in
     (r.0, r.1, subst (λ (z : Spot). DenotesAt m z r.0) (sym g.1) (r.2, r.3, r.4))
-step_to_part m (element t b ds ps) (Ptr i) y x h g = absurd h
-step_to_part m (element t b ds ps) (Item i) y x h g = absurd g
+step_to_part m x1 x2 y x h g = search rules
 
 -- Each part of the tree of a spot is where a step leads.
 pub part_to_step : (m : List (List ℕ)) (a : Spot) (step : Step) (x u : Tree) → DenotesAt m a x → part_at x step ≡ Some u
@@ -154,9 +143,7 @@ part_to_step m (word s w) (Item i) (structs ds ps es) u h e =
 part_to_step m (element t b ds ps) (Ptr i) (struct ws ts) u (c, d, own, each) e =
     let r = each_of m t (b + ds) ps ts c d i (b + ds + i) u each e refl in
     (word t (b + ds + i), (r.0, refl), (r.1, r.2, r.3))
-part_to_step m (element t b ds ps) (Item i) (struct ws ts) u h e = absurd (cc e)
-part_to_step m (word s w) step x u h e = absurd (cc e)
-part_to_step m (element t b ds ps) step x u h e = absurd h
+part_to_step m x1 step x u h e = search rules
 
 -- the node after one step
 node_after : (x u : Tree) (step : Step) (path : List Step) → part_at x step ≡ Some u

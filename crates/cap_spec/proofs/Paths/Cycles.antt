@@ -2,9 +2,9 @@
 use Rattle.cap_spec.specs.Tree.{none}
 use Rattle.cap_spec.proofs.Paths.Arrivals.{coming_to_node, node_parts, path_to_node}
 use Rattle.cap_spec.proofs.Paths.Walks.{comes_beyond}
-use Rattle.cap_spec.proofs.ProofNames.{List, Some, [], ap, arith, suc, zero, ℕ, ◌++◌, ◌+◌, ◌<◌, ◌∷◌, ◌≡◌, ◌≤◌, Denotes}
-use Rattle.cap_spec.proofs.ProofNames.{PathLeads, Reaches, word, Tree, Trees, cap, more, node_at, null, part_at, pointers}
-use Rattle.cap_spec.proofs.ProofNames.{scalars, struct, structs, tree_at, Step, rules}
+use Rattle.cap_spec.proofs.ProofNames.{List, Some, [], ap, arith, suc, ℕ, ◌++◌, ◌+◌, ◌<◌, ◌∷◌, ◌≡◌, ◌≤◌, Denotes}
+use Rattle.cap_spec.proofs.ProofNames.{PathLeads, Reaches, word, Tree, Trees, cap, more, node_at, null, part_at}
+use Rattle.cap_spec.proofs.ProofNames.{pointers, scalars, struct, structs, tree_at, Step, rules}
 use Rattle.cap_spec.proofs.Trees.OneTree.{Same, one_tree}
 
 -- how many nodes a tree has
@@ -23,9 +23,8 @@ abbrev mutual
 
 -- a tree of a list has at most the nodes of the list
 tree_below : (ts : Trees) (i : ℕ) (u : Tree) → tree_at ts i ≡ Some u → weight u ≤ weights ts
-tree_below none i u e = absurd (cc e)
-tree_below (more t ts) zero u e = let f : t ≡ u = cc e in omega (arith, ap weight f)
 tree_below (more t ts) (suc i) u e = omega (arith, tree_below ts i u e)
+tree_below x0 i u e = search rules
 
 -- a part has fewer nodes
 part_below : (t : Tree) (step : Step) (u : Tree) → part_at t step ≡ Some u → weight u < weight t

@@ -4,13 +4,12 @@ use Rattle.cap_spec.specs.Tree.{none}
 use Rattle.cap_spec.proofs.Paths.Arrivals.{lead_word}
 use Rattle.cap_spec.proofs.Paths.Depths.{levels_of_some}
 use Rattle.cap_spec.proofs.Pointers.Shapes.{pointers_levels, struct_levels, structs_levels}
-use Rattle.cap_spec.proofs.ProofNames.{List, [], arith, inl, inr, max, refl, subst, suc, sym, zero, ℕ, ◌*◌, ◌+◌, ◌<◌, ◌∷◌}
-use Rattle.cap_spec.proofs.ProofNames.{◌≡◌, ◌≤◌, ◌⊎◌, AreElements, DenoteEach, Denotes, Finds, element_levels, IsComposite}
-use Rattle.cap_spec.proofs.ProofNames.{HasWord, PathLeads, Reaches, Spot, StepsTo, element, level_of, word}
-use Rattle.cap_spec.proofs.ProofNames.{Tree, Trees, cap, more, null, pointers, scalars}
-use Rattle.cap_spec.proofs.ProofNames.{struct, structs, levels_below, Step, Item, Ptr}
-use Rattle.cap_spec.proofs.Trees.OneTree.{Formed, cons_parts, formed}
-use Rattle.cap_spec.proofs.ProofNames.{rules}
+use Rattle.cap_spec.proofs.ProofNames.{List, [], arith, inl, inr, max, refl, subst, suc, sym, zero, ℕ, ◌*◌, ◌+◌, ◌<◌}
+use Rattle.cap_spec.proofs.ProofNames.{◌∷◌, ◌≡◌, ◌≤◌, ◌⊎◌, AreElements, DenoteEach, Denotes, Finds, element_levels}
+use Rattle.cap_spec.proofs.ProofNames.{IsComposite, HasWord, PathLeads, Reaches, Spot, StepsTo, element, level_of, word}
+use Rattle.cap_spec.proofs.ProofNames.{Tree, Trees, more, pointers, scalars, struct, structs, levels_below, Step, Item}
+use Rattle.cap_spec.proofs.ProofNames.{Ptr, rules}
+use Rattle.cap_spec.proofs.Trees.OneTree.{Formed, each_more, formed}
 
 -- a path from a spot to a word whose object is this deep, counted from the spot
 pub record Deep (m : List (List ℕ)) (a : Spot) (d : ℕ) : Type 0 where
@@ -81,8 +80,6 @@ none_or_more x0 = search rules
 mutual
   -- what a word denotes is as deep as some object that a path from the word reaches
   tree_deepest : (m : List (List ℕ)) (s w : ℕ) (t : Tree) (c d : ℕ) → Denotes m s w t c d → 0 < d → Deep m (word s w) d
-  tree_deepest m s w null c d h lt = absurd (omega (arith, h.1))
-  tree_deepest m s w (cap i) c d h lt = absurd (omega (arith, h.1))
   tree_deepest m s w (struct ws ts) c d (k, t, b, q, tag, ds, ps, inner, deep, found, own, each) lt =
       elim (none_or_more deep) [
         | inl e ↦ own_depth m s w k t b q tag d found.object.finds found.object.tagged (omega (arith, found.depth, e))
@@ -110,6 +107,7 @@ mutual
             (elements_deepest m (word s w) t (b + 1) ds ps n 0 n (b + 1) es inner deep
             (λ j less. inr (k, t, b, q, tag, n, ds, ps, found.object, less, refl)) (omega arith) (omega arith) each e)
       ]
+  tree_deepest m s w x3 c d h lt = search rules
 
   -- the same of words at places, which steps from one spot lead to
   each_deepest : (m : List (List ℕ)) (a : Spot) (step : ℕ → Step) (t b n i all start : ℕ) (ts : Trees) (c d : ℕ)
@@ -118,19 +116,17 @@ mutual
   each_deepest m a step t b n i all start none c d goes e f h lt = absurd (omega (arith, h.2))
   each_deepest m a step t b zero i all start (more u ts) c d goes e f h lt = absurd cc
   each_deepest m a step t b (suc n) i all start (more u ts) c d goes e f h lt =
-      let (s, w, rest, c1, d1, c2, d2, begins, denotes, after, charge, depth) = h in
-      let p = cons_parts (t, b) (s, w) (places t (b + 1) n) rest begins in
+      let (c1, d1, c2, d2, own, after, charge, depth) = each_more m t b (places t (b + 1) n) u ts c d h in
       elim (greater d1 d2) [
         | inl x ↦
-            let g : Denotes m t b u c1 d1 = subst (λ (y : ℕ × ℕ). Denotes m y.0 y.1 u c1 d1) (sym p.0) denotes in
             let y : StepsTo m a (step i) (word t b) =
             subst (λ (v : ℕ). StepsTo m a (step i) (word t v)) (sym f) (goes i (omega arith)) in
             deep_moved m a (1 + d1) (1 + d) (omega (arith, x, depth))
-            (deeper m a (word t b) (step i) d1 y (tree_deepest m t b u c1 d1 g (omega (arith, x, depth))))
+            (deeper m a (word t b) (step i) d1 y (tree_deepest m t b u c1 d1 own (omega (arith, x, depth))))
         | inr x ↦
             deep_moved m a (1 + d2) (1 + d) (omega (arith, x.0, depth))
             (each_deepest m a step t (b + 1) n (suc i) all start ts c2 d2 goes (omega arith) (omega arith)
-            (rw p.1 after) (omega (arith, x.0, depth)))
+            after (omega (arith, x.0, depth)))
       ]
 
   -- and of the elements of a struct list
@@ -138,7 +134,6 @@ mutual
       → ((j : ℕ) → j < all → StepsTo m a (Item j) (element t (start + j * (ds + ps)) ds ps)) → i + n ≡ all
       → b ≡ start + i * (ds + ps)
       → AreElements m t b ds ps n es c d → 0 < d → Deep m a (element_levels all + (1 + d))
-  elements_deepest m a t b ds ps n i all start none c d goes e f h lt = absurd (omega (arith, h.2))
   elements_deepest m a t b ds ps n i all start (more (struct ws ts) es) c d goes e f h lt =
       let (fewer, c1, d1, c2, d2, counted, own, each, after, charge, depth) = h in
       elim (greater d1 d2) [
@@ -155,7 +150,7 @@ mutual
             (elements_deepest m a t (b + ds + ps) ds ps fewer (suc i) all start es c2 d2 goes (omega (arith, counted))
             (omega arith) after (omega (arith, x.0, depth)))
       ]
-  elements_deepest m a t b ds ps n i all start (more x es) c d goes e f h lt = absurd h
+  elements_deepest m a t b ds ps n i all start x10 c d goes e f h lt = search rules
 
 -- Where the root denotes a tree of some depth, a path reaches an object that is as deep.
 pub deepest_reached : (m : List (List ℕ)) (t : Tree) (c d : ℕ) → Denotes m 0 0 t c d → 0 < d
@@ -164,18 +159,7 @@ pub deepest_reached : (m : List (List ℕ)) (t : Tree) (c d : ℕ) → Denotes m
 deepest_reached m t c d h lt =
     let f : Formed m 0 0 t = formed m 0 0 t c d h in
     let r = lead_word m 0 0 f.k f.r f.leads in
-    let x : Deep m (word 0 0) d = tree_deepest m 0 0 t c d h lt in (
-      x.path,
-      1 + x.n,
-      x.s,
-      x.w,
-      x.k,
-      x.t,
-      x.b,
-      x.q,
-      x.tag,
-      (r.0, x.n, r.1, x.walks, refl),
-      x.finds,
-      x.has_tag,
-      omega (arith, x.depth),
-    )
+    let x : Deep m (word 0 0) d = tree_deepest m 0 0 t c d h lt in
+    let reached : Reaches m x.path (1 + x.n) x.s x.w = (r.0, x.n, r.1, x.walks, refl) in
+    let e : d ≡ 1 + x.n + levels_below x.q x.tag = omega (arith, x.depth) in
+    (x.path, 1 + x.n, x.s, x.w, x.k, x.t, x.b, x.q, x.tag, reached, x.finds, x.has_tag, e)

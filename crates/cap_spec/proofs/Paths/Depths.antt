@@ -6,13 +6,12 @@ use Rattle.cap_spec.proofs.Paths.PathCounts.{is_element, step_kind}
 use Rattle.cap_spec.proofs.Paths.PathLists.{is_structs}
 use Rattle.cap_spec.proofs.Pointers.Following.{one_lead}
 use Rattle.cap_spec.proofs.Pointers.Shapes.{pointers_levels, scalars_levels, struct_levels, structs_levels}
-use Rattle.cap_spec.proofs.ProofNames.{Bool, List, Some, [], ap, arith, false, max, pos, refl, subst, suc, sym, true, zero}
-use Rattle.cap_spec.proofs.ProofNames.{ℕ, ◌+◌, ◌<◌, ◌∙◌, ◌∷◌, ◌≡◌, ◌≤◌, AreElements, DenoteEach, Denotes, Finds}
-use Rattle.cap_spec.proofs.ProofNames.{element_levels, IsComposite, to_cap, to_null, to_object, HasWord, PathLeads, Spot}
-use Rattle.cap_spec.proofs.ProofNames.{element, level_of, word, DenotesAt, Tree, Trees, cap, more, null, part_at, pointers}
-use Rattle.cap_spec.proofs.ProofNames.{scalars, struct, structs, tree_at, tree_count, levels_below, Step, Item, Ptr}
+use Rattle.cap_spec.proofs.ProofNames.{Bool, List, Some, [], ap, arith, false, max, subst, suc, sym, true, ℕ, ◌+◌, ◌<◌}
+use Rattle.cap_spec.proofs.ProofNames.{◌∙◌, ◌∷◌, ◌≡◌, ◌≤◌, AreElements, DenoteEach, Denotes, Finds, element_levels}
+use Rattle.cap_spec.proofs.ProofNames.{IsComposite, HasWord, PathLeads, Spot, level_of, word, DenotesAt, Tree, Trees}
+use Rattle.cap_spec.proofs.ProofNames.{cap, more, null, part_at, pointers, scalars, struct, structs, tree_at}
+use Rattle.cap_spec.proofs.ProofNames.{tree_count, levels_below, Step, Item, Ptr, rules, common_steps}
 use Rattle.cap_spec.proofs.Trees.Finding.{found_depth}
-use Rattle.cap_spec.proofs.ProofNames.{rules}
 
 -- the depth of a tree
 abbrev mutual
@@ -42,22 +41,17 @@ mutual
   denoted_depth m s w (cap i) c d h = h.1
   denoted_depth m s w (struct ws ts) c d (k, t, b, q, tag, ds, ps, inner, deep, found, own, each) =
       omega (arith, found.depth, struct_levels found.object.shape, each_depth m (places t (b + ds) ps) ts inner deep each)
-  denoted_depth m s w (scalars e vs) c d (k, t, b, q, tag, n, found, own) =
-      omega (arith, found.depth, scalars_levels found.object.shape)
+  denoted_depth m s w (scalars e vs) c d (k, t, b, q, tag, n, found, own) = search (rules, scalars_levels)
   denoted_depth m s w (pointers ts) c d (k, t, b, q, tag, n, inner, deep, found, each) =
       omega (arith, found.depth, pointers_levels found.object.shape, each_depth m (places t b n) ts inner deep each)
   denoted_depth m s w (structs ds ps es) c d (k, t, b, q, tag, n, inner, deep, found, each) =
-      let r = elements_depth m t (b + 1) ds ps n es inner deep each in
-      let l = structs_levels found.object.shape ∙ ap element_levels r.0 in
-      omega (arith, found.depth, l, r.1)
+      grind (arith, common_steps, structs_levels, elements_depth m t (b + 1) ds ps n es inner deep each)
 
   pub each_depth : (m : List (List ℕ)) (ps : List (ℕ × ℕ)) (ts : Trees) (c d : ℕ) → DenoteEach m ps ts c d
       → d ≡ depth_each ts
   each_depth m ps none c d h = h.2
   each_depth m ps (more t ts) c d (s, w, rest, c1, d1, c2, d2, begins, denotes, after, charge, depth) =
-      let a = denoted_depth m s w t c1 d1 denotes in
-      let b = each_depth m rest ts c2 d2 after in
-      depth ∙ ap (λ x. max x d2) a ∙ ap (λ x. max (depth_of t) x) b
+      grind (arith, common_steps, denoted_depth m s w t c1 d1 denotes, each_depth m rest ts c2 d2 after)
 
   pub elements_depth : (m : List (List ℕ)) (t b ds ps n : ℕ) (es : Trees) (c d : ℕ) → AreElements m t b ds ps n es c d
       → (n ≡ tree_count es) × (d ≡ depth_elements es)
@@ -66,7 +60,7 @@ mutual
       let (fewer, c1, d1, c2, d2, counted, own, each, after, charge, depth) = h in
       let a = each_depth m (places t (b + ds) ps) ts c1 d1 each in
       let r = elements_depth m t (b + ds + ps) ds ps fewer es c2 d2 after in
-      (counted ∙ ap suc r.0, depth ∙ ap (λ x. max x d2) a ∙ ap (λ x. max (depth_each ts) x) r.1)
+      grind (arith, common_steps)
   elements_depth m t b ds ps n (more x es) c d h = absurd h
 
 -- the levels of a step to a part
@@ -80,9 +74,8 @@ levels_of_some x0 lt = search rules
 
 -- each of some trees is at most as deep as all
 tree_depth : (ts : Trees) (i : ℕ) (u : Tree) → tree_at ts i ≡ Some u → depth_of u ≤ depth_each ts
-tree_depth none i u e = absurd (cc e)
-tree_depth (more t ts) zero u e = let f : t ≡ u = cc e in omega (arith, ap depth_of f)
 tree_depth (more t ts) (suc i) u e = omega (arith, tree_depth ts i u e)
+tree_depth x0 i u e = search rules
 
 -- and so each of the elements of a struct list, which are structs
 abbrev AreStructs : Trees → Type 0
@@ -92,18 +85,15 @@ AreStructs (more x es) = ⊥
 
 element_depth : (es : Trees) (i : ℕ) (u : Tree) → AreStructs es → tree_at es i ≡ Some u
     → (depth_of u ≤ 1 + depth_elements es) × (0 < tree_count es)
-element_depth none i u a e = absurd (cc e)
-element_depth (more (struct ws ts) es) zero u a e = search rules
 element_depth (more (struct ws ts) es) (suc i) u a e = (omega (arith, element_depth es i u a e), omega arith)
-element_depth (more x es) i u a e = absurd a
+element_depth x0 i u a e = search rules
 
 elements_are_structs : (m : List (List ℕ)) (t b ds ps n : ℕ) (es : Trees) (c d : ℕ)
     → AreElements m t b ds ps n es c d → AreStructs es
-elements_are_structs m t b ds ps n none c d h = tt
 elements_are_structs m t b ds ps n (more (struct ws ts) es) c d h =
     let (fewer, c1, d1, c2, d2, counted, own, each, after, charge, depth) = h in
     elements_are_structs m t (b + ds + ps) ds ps fewer es c2 d2 after
-elements_are_structs m t b ds ps n (more x es) c d h = absurd h
+elements_are_structs m t b ds ps n x6 c d h = search rules
 
 -- a part is less deep than its tree by the levels of the step
 part_depth : (m : List (List ℕ)) (a : Spot) (t : Tree) (step : Step) (u : Tree) → DenotesAt m a t
@@ -112,8 +102,7 @@ part_depth m a (struct ws ts) (Ptr i) u h e = omega (arith, tree_depth ts i u e)
 part_depth m a (pointers ts) (Item i) u h e = omega (arith, tree_depth ts i u e)
 part_depth m (word s w) (structs d p es) (Item i) u h e =
     search (rules, element_depth, elements_are_structs, levels_of_some)
-part_depth m (element x b ds ps) (structs d p es) (Item i) u h e = absurd h
-part_depth m a t step u h e = absurd (cc e)
+part_depth m a t step u h e = search rules
 
 -- the levels of a spot
 spot_level : (b : Spot) → level_of b ≡ level_if (is_element b)

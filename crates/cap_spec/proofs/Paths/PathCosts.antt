@@ -4,12 +4,12 @@ use Rattle.cap_spec.specs.Tree.{none}
 use Rattle.cap_spec.proofs.Paths.Arrivals.{lead_word}
 use Rattle.cap_spec.proofs.Paths.PathCounts.{pointer_paths}
 use Rattle.cap_spec.proofs.Paths.PathLists.{after_step, is_pointer, paths_below, paths_from}
-use Rattle.cap_spec.proofs.ProofNames.{List, [], arith, false, inl, inr, refl, subst, suc, sym, true, zero, ℕ, ◌*◌, ◌++◌}
-use Rattle.cap_spec.proofs.ProofNames.{◌+◌, ◌<◌, ◌∷◌, ◌≡◌, AreElements, DenoteEach, Denotes, extra, HasWord, Costs}
-use Rattle.cap_spec.proofs.ProofNames.{PathLeads, Spot, StepsTo, element, level_of, word, extent, Tree, Trees, cap, more}
-use Rattle.cap_spec.proofs.ProofNames.{null, pointers, scalars, struct, structs, CostOf, Step, Item, Ptr}
+use Rattle.cap_spec.proofs.ProofNames.{List, [], arith, false, inl, inr, refl, subst, suc, sym, true, zero, ℕ, ◌*◌}
+use Rattle.cap_spec.proofs.ProofNames.{◌++◌, ◌+◌, ◌<◌, ◌∷◌, ◌≡◌, AreElements, DenoteEach, Denotes, HasWord, Costs}
+use Rattle.cap_spec.proofs.ProofNames.{PathLeads, Spot, StepsTo, element, level_of, word, Tree, Trees, cap, more, null}
+use Rattle.cap_spec.proofs.ProofNames.{pointers, scalars, struct, structs, CostOf, Step, Item, Ptr, rules, common_steps}
 use Rattle.cap_spec.proofs.Trees.Finding.{found_cost}
-use Rattle.cap_spec.proofs.Trees.OneTree.{Formed, cons_parts, formed}
+use Rattle.cap_spec.proofs.Trees.OneTree.{Formed, each_more, formed}
 
 -- these paths lead from a spot to words that aren't wrong, and following them costs this much in all
 abbrev pub CostFrom : List (List ℕ) → Spot → List (List Step) → ℕ → Type 0
@@ -44,25 +44,18 @@ mutual
   tree_cost m s w null c d h = cost_own m s w [] c 0 c (inl h.0) refl (omega arith)
   tree_cost m s w (cap i) c d h = cost_own m s w [] c 0 c (inr (inl (i, h.0))) refl (omega arith)
   tree_cost m s w (struct ws ts) c d (k, t, b, q, tag, ds, ps, inner, deep, found, own, each) =
-      cost_own m s w (paths_below is_pointer (struct ws ts)) (k + extent q + extra q tag) inner c
-      (found_cost found.object)
-      (each_cost m (word s w) Ptr t (b + ds) ps 0 ps (b + ds) ts inner deep
-      (λ j lt. (k, t, b, q, tag, ds, ps, found.object, lt, refl)) (omega arith) (omega arith) each)
-      found.charge
-  tree_cost m s w (scalars e vs) c d (k, t, b, q, tag, n, found, own) =
-      cost_own m s w [] (k + extent q + extra q tag) 0 c (found_cost found.object) refl found.charge
+      let below = each_cost m (word s w) Ptr t (b + ds) ps 0 ps (b + ds) ts inner deep
+      (λ j lt. (k, t, b, q, tag, ds, ps, found.object, lt, refl)) (omega arith) (omega arith) each in
+      search (rules, cost_own, found_cost)
+  tree_cost m s w (scalars e vs) c d (k, t, b, q, tag, n, found, own) = search (rules, cost_own, found_cost)
   tree_cost m s w (pointers ts) c d (k, t, b, q, tag, n, inner, deep, found, each) =
-      cost_own m s w (paths_below is_pointer (pointers ts)) (k + extent q + extra q tag) inner c
-      (found_cost found.object)
-      (each_cost m (word s w) Item t b n 0 n b ts inner deep
-      (λ j lt. inl (k, t, b, q, tag, n, found.object, lt, refl)) (omega arith) (omega arith) each)
-      found.charge
+      let below = each_cost m (word s w) Item t b n 0 n b ts inner deep
+      (λ j lt. inl (k, t, b, q, tag, n, found.object, lt, refl)) (omega arith) (omega arith) each in
+      search (rules, cost_own, found_cost)
   tree_cost m s w (structs ds ps es) c d (k, t, b, q, tag, n, inner, deep, found, each) =
-      cost_own m s w (paths_below is_pointer (structs ds ps es)) (k + extent q + extra q tag) inner c
-      (found_cost found.object)
-      (elements_cost m (word s w) t (b + 1) ds ps n 0 n (b + 1) es inner deep
-      (λ j lt. inr (k, t, b, q, tag, n, ds, ps, found.object, lt, refl)) (omega arith) (omega arith) each)
-      found.charge
+      let below = elements_cost m (word s w) t (b + 1) ds ps n 0 n (b + 1) es inner deep
+      (λ j lt. inr (k, t, b, q, tag, n, ds, ps, found.object, lt, refl)) (omega arith) (omega arith) each in
+      search (rules, cost_own, found_cost)
 
   -- the same of words at places, which steps from one spot lead to
   pub each_cost : (m : List (List ℕ)) (a : Spot) (step : ℕ → Step) (t b n i all start : ℕ) (ts : Trees) (c d : ℕ)
@@ -71,17 +64,15 @@ mutual
   each_cost m a step t b n i all start none c d goes e f h = h.1
   each_cost m a step t b zero i all start (more u ts) c d goes e f h = absurd cc
   each_cost m a step t b (suc n) i all start (more u ts) c d goes e f h =
-      let (s, w, rest, c1, d1, c2, d2, begins, denotes, after, charge, depth) = h in
-      let p = cons_parts (t, b) (s, w) (places t (b + 1) n) rest begins in
-      let g : Denotes m t b u c1 d1 = subst (λ (y : ℕ × ℕ). Denotes m y.0 y.1 u c1 d1) (sym p.0) denotes in
-      let x : CostFrom m (word t b) ([] ∷ paths_below is_pointer u) c1 = tree_cost m t b u c1 d1 g in
+      let (c1, d1, c2, d2, own, after, charge, depth) = each_more m t b (places t (b + 1) n) u ts c d h in
+      let x : CostFrom m (word t b) ([] ∷ paths_below is_pointer u) c1 = tree_cost m t b u c1 d1 own in
       let y : StepsTo m a (step i) (word t b) =
       subst (λ (v : ℕ). StepsTo m a (step i) (word t v)) (sym f) (goes i (omega arith)) in
       subst (λ (v : ℕ). CostFrom m a (paths_from is_pointer false step i (more u ts)) v) (sym charge)
       (cost_append m a (after_step (step i) ([] ∷ paths_below is_pointer u))
       (paths_from is_pointer false step (suc i) ts) c1 c2
       (cost_after m a (word t b) (step i) ([] ∷ paths_below is_pointer u) c1 y x)
-      (each_cost m a step t (b + 1) n (suc i) all start ts c2 d2 goes (omega arith) (omega arith) (rw p.1 after)))
+      (each_cost m a step t (b + 1) n (suc i) all start ts c2 d2 goes (omega arith) (omega arith) after))
 
   -- and of the elements of a struct list
   pub elements_cost : (m : List (List ℕ)) (a : Spot) (t b ds ps n i all start : ℕ) (es : Trees) (c d : ℕ)
@@ -91,17 +82,11 @@ mutual
   elements_cost m a t b ds ps n i all start none c d goes e f h = h.1
   elements_cost m a t b ds ps n i all start (more (struct ws ts) es) c d goes e f h =
       let (fewer, c1, d1, c2, d2, counted, own, each, after, charge, depth) = h in
-      let y : StepsTo m a (Item i) (element t b ds ps) =
-      subst (λ (v : ℕ). StepsTo m a (Item i) (element t v ds ps)) (sym f) (goes i (omega (arith, counted))) in
-      let x : CostFrom m (element t b ds ps) (paths_from is_pointer false Ptr 0 ts) c1 =
-      each_cost m (element t b ds ps) Ptr t (b + ds) ps 0 ps (b + ds) ts c1 d1 (λ j lt. (lt, refl)) (omega arith)
-      (omega arith) each in
-      subst (λ (v : ℕ). CostFrom m a (paths_from is_pointer true Item i (more (struct ws ts) es)) v) (sym charge)
-      (cost_append m a (after_step (Item i) (paths_from is_pointer false Ptr 0 ts))
-      (paths_from is_pointer true Item (suc i) es) c1 c2
-      (cost_after m a (element t b ds ps) (Item i) (paths_from is_pointer false Ptr 0 ts) c1 y x)
-      (elements_cost m a t (b + ds + ps) ds ps fewer (suc i) all start es c2 d2 goes (omega (arith, counted))
-      (omega arith) after))
+      let first = each_cost m (element t b ds ps) Ptr t (b + ds) ps 0 ps (b + ds) ts c1 d1 (λ j lt. (lt, refl))
+      (omega arith) (omega arith) each in
+      let rest = elements_cost m a t (b + ds + ps) ds ps fewer (suc i) all start es c2 d2 goes (omega (arith, counted))
+      (omega arith) after in
+      grind (arith, common_steps, cost_append, cost_after)
   elements_cost m a t b ds ps n i all start (more x es) c d goes e f h = absurd h
 
 -- costs from the root are costs of paths

@@ -1,4 +1,5 @@
 -- The pointers and the capabilities of the tree that the root denotes are as many as the paths that reach them.
+use Rattle.cap_spec.specs.Paths.{IsFirst}
 use Rattle.cap_spec.proofs.Paths.Arrivals.{found_form, lead_word, part_to_step, step_to_part}
 use Rattle.cap_spec.proofs.Paths.PathLists.{Needs, caps_listed, is_cap, is_pointer, is_structs, listed_rise}
 use Rattle.cap_spec.proofs.Paths.PathLists.{listed_expected, paths_below, pointers_listed, expected_listed, needs_cap}
@@ -6,13 +7,12 @@ use Rattle.cap_spec.proofs.Paths.PathLists.{with_own}
 use Rattle.cap_spec.proofs.Paths.Preorder.{Before-asymmetric, Before-irreflexive, Rises-first}
 use Rattle.cap_spec.proofs.Pointers.Following.{one_lead}
 use Rattle.cap_spec.proofs.Pointers.Shapes.{pointers_shape, struct_shape, structs_shape}
-use Rattle.cap_spec.proofs.ProofNames.{Bool, List, [], ap, arith, eqb, false, inl, inr, length, ne_eqb, not, refl, subst}
-use Rattle.cap_spec.proofs.ProofNames.{suc, sym, true, zero, ℕ, ◌*◌, ◌+◌, ◌<◌, ◌↔◌, ◌∙◌, ◌∷◌, ◌≡◌, Denotes, Lead, Leads}
-use Rattle.cap_spec.proofs.ProofNames.{to_cap, IsOneOf, Before, IsFirstCap, PathLeads, Reaches, ReachesCap, Rises, Spot}
-use Rattle.cap_spec.proofs.ProofNames.{StepsTo, element, level_of, word, code, kind, DenotesAt, Tree, cap, cap_count}
-use Rattle.cap_spec.proofs.ProofNames.{has_cap, null, pointer_count, pointers, scalars, struct, structs, Step, Item, Ptr}
-use Rattle.cap_spec.proofs.Trees.OneTree.{Formed, HasForm, form_of, formed, number_list, number_struct}
-use Rattle.cap_spec.proofs.ProofNames.{rules}
+use Rattle.cap_spec.proofs.ProofNames.{Bool, List, [], arith, eqb, false, inl, inr, length, ne_eqb, not, refl, subst}
+use Rattle.cap_spec.proofs.ProofNames.{sym, true, ℕ, ◌+◌, ◌<◌, ◌↔◌, ◌∷◌, ◌≡◌, Denotes, Lead, Leads, to_cap, IsOneOf}
+use Rattle.cap_spec.proofs.ProofNames.{Before, IsFirstCap, PathLeads, Reaches, ReachesCap, Rises, Spot, StepsTo}
+use Rattle.cap_spec.proofs.ProofNames.{element, level_of, word, DenotesAt, Tree, cap, cap_count, has_cap, pointer_count}
+use Rattle.cap_spec.proofs.ProofNames.{Step, rules, common_steps}
+use Rattle.cap_spec.proofs.Trees.OneTree.{Formed, HasForm, formed, number_list, number_struct}
 
 abbrev pub is_element : Spot → Bool
 is_element (word s w) = false
@@ -30,8 +30,7 @@ all_structs x0 f = search rules
 pub step_kind : (m : List (List ℕ)) (a : Spot) (step : Step) (b : Spot) (t : Tree) → DenotesAt m a t → StepsTo m a step b
     → is_element b ≡ is_structs t
 step_kind m x1 x2 b t h g =
-    search (rules, struct_shape, found_form, no_structs, number_struct, pointers_shape, number_list, structs_shape,
-        all_structs)
+    search (rules, struct_shape, found_form, no_structs, number_struct, pointers_shape, number_list, structs_shape, all_structs)
 
 -- The nodes that a test selects are where walks end,
 -- of which the spot's own test gives the same of each spot and its tree.
@@ -75,9 +74,7 @@ word_expected m a t h p = rw p.2 refl
 expected_cap : (m : List (List ℕ)) (a : Spot) (t : Tree) → DenotesAt m a t
     → needs_cap (is_element a) t ≡ true → IsCapSpot m a
 expected_cap m (word s w) (cap i) h e = (s, w, h.0, i, refl, h.2.0)
-expected_cap m (element x b ds ps) (struct words ts) h e = absurd (cc e)
-expected_cap m (word s w) t h e = absurd (cc e)
-expected_cap m (element x b ds ps) t h e = absurd h
+expected_cap m x1 t h e = search rules
 
 -- a tree of the form of a capability is one
 cap_form : (t : Tree) → HasForm t 1 → is_cap t ≡ true
@@ -160,22 +157,15 @@ first_of : (m : List (List ℕ)) (t : Tree) (c d : ℕ) → Denotes m 0 0 t c d 
     → (s w : ℕ) × IsFirstCap m s w
 first_of m t c d h [] rises exact some = absurd (omega arith)
 first_of m t c d h (p ∷ ps) rises exact some =
-    let (level, s, w, k, i, reached, leads) = (exact p).0 (inl refl) in (
-      s,
-      w,
-      record {
-        path = p;
-        level = level;
-        reached = reached;
-        first = record {
-          holds = (level, s, w, k, i, reached, leads);
-          first = λ q before reaches. late q before ((exact q).1 reaches);
-        };
-      },
-    )
+    let (level, s, w, k, i, reached, leads) = (exact p).0 (inl refl) in
+    let first : IsFirst (ReachesCap m) p = record {
+      holds = (level, s, w, k, i, reached, leads);
+      first = λ q before reaches. late q before ((exact q).1 reaches);
+    } in
+    (s, w, record { path = p; level = level; reached = reached; first = first })
   where
     late : (q : List Step) → Before q p → IsOneOf q (p ∷ ps) → ⊥
-    late q b (inl e) = Before-irreflexive p (subst (λ (z : List Step). Before z p) e b)
+    late q b (inl e) = Before-irreflexive p (rw e at b)
     late q b (inr e) = Before-asymmetric p q (Rises-first p ps q rises e) b
 
 -- a number isn't 0
@@ -187,8 +177,7 @@ not_none n lt = let e : eqb n 0 ≡ false = ne_eqb n 0 (omega arith) in rw e ref
 
 -- a list with a member isn't empty
 member_some : (q : List Step) (ps : List (List Step)) → IsOneOf q ps → 0 < length ps
-member_some q [] i = absurd i
-member_some q (p ∷ ps) i = omega arith
+member_some q x1 i = grind (arith, common_steps)
 
 -- A tree has a capability where some word is the first in preorder that leads to one, and at no other place.
 pub first_cap : (m : List (List ℕ)) (t : Tree) (c d : ℕ) → Denotes m 0 0 t c d → (has_cap t ≡ true)

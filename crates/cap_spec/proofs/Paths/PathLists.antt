@@ -1,10 +1,10 @@
 -- The paths to some of a tree's nodes, in preorder: they rise, they are exactly those, and how many they are.
 use Rattle.cap_spec.specs.Tree.{child_count, child_counts, none}
-use Rattle.cap_spec.proofs.ProofNames.{Bool, List, Some, [], ap, arith, false, inl, inr, length, length-append, not, refl}
-use Rattle.cap_spec.proofs.ProofNames.{subst, suc, sym, true, zero, ℕ, ◌++◌, ◌+◌, ◌<◌, ◌∙◌, ◌∷◌, ◌≡◌, ◌⊎◌, IsOneOf, Before}
-use Rattle.cap_spec.proofs.ProofNames.{Rises, number_of, Tree, Trees, cap, cap_count, cap_counts, more, null, part_at}
-use Rattle.cap_spec.proofs.ProofNames.{pointers, scalars, struct, structs, tree_at, tree_count, Step, Item, Ptr}
-use Rattle.cap_spec.proofs.ProofNames.{rules}
+use Rattle.cap_spec.proofs.ProofNames.{Bool, List, Some, [], ap, arith, false, inl, inr, length, length-append, not}
+use Rattle.cap_spec.proofs.ProofNames.{refl, subst, suc, sym, true, ℕ, ◌++◌, ◌+◌, ◌∷◌, ◌≡◌, ◌⊎◌, IsOneOf, Before, Rises}
+use Rattle.cap_spec.proofs.ProofNames.{number_of, Tree, Trees, cap, cap_count, cap_counts, more, null, part_at}
+use Rattle.cap_spec.proofs.ProofNames.{pointers, scalars, struct, structs, tree_at, tree_count, Step, Item, Ptr, rules}
+use Rattle.cap_spec.proofs.ProofNames.{common_steps}
 
 -- each path after one step
 abbrev pub after_step : Step → List (List Step) → List (List Step)
@@ -44,18 +44,18 @@ Needs test is_element t [] = test is_element t ≡ true
 Needs test is_element t (step ∷ path) = (u : Tree) × (part_at t step ≡ Some u) × Needs test (is_structs t) u path
 
 -- a member of two lists joined is one of the first or one of the second
-member_append : (p : List Step) (xs ys : List (List Step)) → IsOneOf p (xs ++ ys) → IsOneOf p xs ⊎ IsOneOf p ys
+pub member_append : (p : List Step) (xs ys : List (List Step)) → IsOneOf p (xs ++ ys) → IsOneOf p xs ⊎ IsOneOf p ys
 member_append p [] ys h = inr h
 member_append p (x ∷ xs) ys (inl e) = inl (inl e)
 member_append p (x ∷ xs) ys (inr h) = search (rules, member_append p xs ys h)
 
 -- a member of the first is one of both, and so is one of the second
-member_front : (p : List Step) (xs ys : List (List Step)) → IsOneOf p xs → IsOneOf p (xs ++ ys)
+pub member_front : (p : List Step) (xs ys : List (List Step)) → IsOneOf p xs → IsOneOf p (xs ++ ys)
 member_front p [] ys h = absurd h
 member_front p (x ∷ xs) ys (inl e) = inl e
 member_front p (x ∷ xs) ys (inr h) = inr (member_front p xs ys h)
 
-member_back : (p : List Step) (xs ys : List (List Step)) → IsOneOf p ys → IsOneOf p (xs ++ ys)
+pub member_back : (p : List Step) (xs ys : List (List Step)) → IsOneOf p ys → IsOneOf p (xs ++ ys)
 member_back p [] ys h = h
 member_back p (x ∷ xs) ys h = inr (member_back p xs ys h)
 
@@ -86,44 +86,32 @@ from_to_part : (test : Bool → Tree → Bool) (e : Bool) (step : ℕ → Step) 
     → IsOneOf q (paths_from test e step i ts) → IntoPart test e step i ts q
 from_to_part test e step i none q h = absurd h
 from_to_part test e step i (more t ts) q h =
-    go (λ g. from_to_part test e step (suc i) ts q g)
-    (member_append q (after_step (step i) (with_own (test e t) (paths_below test t)))
-    (paths_from test e step (suc i) ts) h)
-  where
-    go : (IsOneOf q (paths_from test e step (suc i) ts) → IntoPart test e step (suc i) ts q)
-        → IsOneOf q (after_step (step i) (with_own (test e t) (paths_below test t)))
-        ⊎ IsOneOf q (paths_from test e step (suc i) ts) → IntoPart test e step i (more t ts) q
-    go later (inl g) =
-        let r = member_after (step i) q (with_own (test e t) (paths_below test t)) g in
-        let k : i ≡ i + 0 = omega arith in
-        record {
-          number = 0;
-          part = t;
-          rest = r.0;
-          is = subst (λ (x : ℕ). q ≡ step x ∷ r.0) k r.1;
-          at = refl;
-          listed = r.2;
-        }
-    go later (inr g) =
-        let r : IntoPart test e step (suc i) ts q = later g in
-        let k : suc i + r.number ≡ i + suc r.number = omega arith in
-        record {
-          number = suc r.number;
-          part = r.part;
-          rest = r.rest;
-          is = subst (λ (x : ℕ). q ≡ step x ∷ r.rest) k r.is;
-          at = r.at;
-          listed = r.listed;
-        }
+    elim (member_append q (after_step (step i) (with_own (test e t) (paths_below test t)))
+    (paths_from test e step (suc i) ts) h) [
+      | inl g ↦
+          let r = member_after (step i) q (with_own (test e t) (paths_below test t)) g in
+          let k : i ≡ i + 0 = omega arith in
+          record { number = 0; part = t; rest = r.0; is = rw (← k) r.1; at = refl; listed = r.2 }
+      | inr g ↦
+          let r = from_to_part test e step (suc i) ts q g in
+          let k : suc i + r.number ≡ i + suc r.number = omega arith in
+          record {
+            number = suc r.number;
+            part = r.part;
+            rest = r.rest;
+            is = rw (← k) r.is;
+            at = r.at;
+            listed = r.listed;
+          }
+    ]
 
 -- and each path that the test selects in a part is one of them
 part_to_from : (test : Bool → Tree → Bool) (e : Bool) (step : ℕ → Step) (i : ℕ) (ts : Trees) (j x : ℕ) (u : Tree)
     (p : List Step) → tree_at ts j ≡ Some u → x ≡ i + j
     → IsOneOf p (with_own (test e u) (paths_below test u)) → IsOneOf (step x ∷ p) (paths_from test e step i ts)
-part_to_from test e step i none j x u p f k h = absurd (cc f)
-part_to_from test e step i (more t ts) zero x u p f k h = search (rules, member_front, after_member)
 part_to_from test e step i (more t ts) (suc j) x u p f k h =
     search (rules, member_back, part_to_from test e step (suc i) ts j x u p f (omega arith) h)
+part_to_from test e step i x4 j x u p f k h = search (rules, member_front, after_member)
 
 -- a path into a part of a tree
 record BelowPart (test : Bool → Tree → Bool) (t : Tree) (q : List Step) : Type 0 where
@@ -198,30 +186,20 @@ expected_listed test e t (step ∷ path) h =
 -- two rising lists joined rise, where each path of the first comes before each of the second
 Rises-append : (xs ys : List (List Step)) → Rises xs → Rises ys
     → ((x y : List Step) → IsOneOf x xs → IsOneOf y ys → Before x y) → Rises (xs ++ ys)
-Rises-append [] ys g h k = h
-Rises-append (x ∷ []) [] g h k = tt
-Rises-append (x ∷ []) (y ∷ ys) g h k = (k x y (inl refl) (inl refl), h)
 Rises-append (x ∷ z ∷ xs) ys g h k = (g.0, Rises-append (z ∷ xs) ys g.1 h (λ a b i j. k a b (inr i) j))
+Rises-append x0 ys g h k = search rules
 
 -- a rising list after one step rises
 Rises-after_step : (step : Step) (ps : List (List Step)) → Rises ps → Rises (after_step step ps)
-Rises-after_step step [] h = tt
-Rises-after_step step (p ∷ []) h = tt
 Rises-after_step step (p ∷ q ∷ ps) h = (inr (refl, h.0), Rises-after_step step (q ∷ ps) h.1)
+Rises-after_step step x1 h = search rules
 
 -- and rises with the empty path before it
 Rises-own : (test : Bool → Tree → Bool) (t : Tree) (b : Bool) (ps : List (List Step)) → ps ≡ paths_below test t
     → Rises ps → Rises (with_own b ps)
-Rises-own test t false ps e h = h
-Rises-own test t true [] e h = tt
-Rises-own test t true (p ∷ ps) e h = (
-  first p
-      (below_to_part test t p (subst (λ (x : List (List Step)). IsOneOf p x) e (inl refl))),
-  h,
-)
-  where
-    first : (q : List Step) → BelowPart test t q → Before [] q
-    first q r = subst (λ (x : List Step). Before [] x) (sym r.is) tt
+Rises-own test t true (p ∷ ps) e h =
+    let r = below_to_part test t p (rw (← e) (inl refl)) in (rw r.is tt, h)
+Rises-own test t x2 ps e h = search rules
 
 -- a path into one part comes before those into later parts
 steps_before : (test : Bool → Tree → Bool) (e : Bool) (step : ℕ → Step) → ((i : ℕ) → number_of (step i) ≡ i)
@@ -233,23 +211,19 @@ steps_before test e step numbers i t ts x y f g = search (rules, member_after, f
 mutual
   -- The listed paths rise,
   pub below_rises : (test : Bool → Tree → Bool) (t : Tree) → Rises (paths_below test t)
-  below_rises test null = tt
-  below_rises test (cap i) = tt
   below_rises test (struct words ts) = from_rises test false Ptr (λ i. refl) 0 ts
-  below_rises test (scalars c vs) = tt
   below_rises test (pointers ts) = from_rises test false Item (λ i. refl) 0 ts
   below_rises test (structs d p es) = from_rises test true Item (λ i. refl) 0 es
+  below_rises test x1 = search rules
 
   -- where the step to a part has the part's number
   pub from_rises : (test : Bool → Tree → Bool) (e : Bool) (step : ℕ → Step) → ((i : ℕ) → number_of (step i) ≡ i)
       → (i : ℕ) (ts : Trees) → Rises (paths_from test e step i ts)
   from_rises test e step numbers i none = tt
   from_rises test e step numbers i (more t ts) =
-      Rises-append (after_step (step i) (with_own (test e t) (paths_below test t))) (paths_from test e step (suc i) ts)
-      (Rises-after_step (step i) (with_own (test e t) (paths_below test t))
-      (Rises-own test t (test e t) (paths_below test t) refl (below_rises test t)))
-      (from_rises test e step numbers (suc i) ts)
-      (λ x y f g. steps_before test e step numbers i t ts x y f g)
+      let own = below_rises test t in
+      let rest = from_rises test e step numbers (suc i) ts in
+      grind (arith, common_steps, Rises-append, Rises-after_step, Rises-own, steps_before)
 
 -- and with the empty path, where the node is needed.
 pub listed_rise : (test : Bool → Tree → Bool) (e : Bool) (t : Tree) → Rises (with_own (test e t) (paths_below test t))
@@ -267,36 +241,22 @@ is_pointer is_element t = not is_element
 mutual
   -- as many pointers as children
   below_pointers : (t : Tree) → length (paths_below is_pointer t) ≡ child_count t
-  below_pointers null = refl
-  below_pointers (cap i) = refl
   below_pointers (struct words ts) = from_pointers Ptr 0 ts
-  below_pointers (scalars c vs) = refl
   below_pointers (pointers ts) = from_pointers Item 0 ts
   below_pointers (structs d p es) = from_elements Item 0 es
+  below_pointers x0 = search rules
 
   from_pointers : (step : ℕ → Step) (i : ℕ) (ts : Trees)
       → length (paths_from is_pointer false step i ts) ≡ tree_count ts + child_counts ts
   from_pointers step i none = refl
   from_pointers step i (more t ts) =
-      length-append (after_step (step i) ([] ∷ paths_below is_pointer t)) (paths_from is_pointer false step (suc i) ts)
-      ∙ omega (
-        arith,
-        length-after_step (step i) ([] ∷ paths_below is_pointer t),
-        below_pointers t,
-        from_pointers step (suc i) ts,
-      )
+      grind (arith, common_steps, length-append, length-after_step, below_pointers t, from_pointers step (suc i) ts)
 
   from_elements : (step : ℕ → Step) (i : ℕ) (es : Trees)
       → length (paths_from is_pointer true step i es) ≡ child_counts es
   from_elements step i none = refl
   from_elements step i (more t ts) =
-      length-append (after_step (step i) (paths_below is_pointer t)) (paths_from is_pointer true step (suc i) ts)
-      ∙ omega (
-        arith,
-        length-after_step (step i) (paths_below is_pointer t),
-        below_pointers t,
-        from_elements step (suc i) ts,
-      )
+      grind (arith, common_steps, length-append, length-after_step, below_pointers t, from_elements step (suc i) ts)
 
 -- The pointers of a tree are as many as the paths to nodes that aren't elements.
 pub pointers_listed : (t : Tree) → length (with_own true (paths_below is_pointer t)) ≡ 1 + child_count t
@@ -313,22 +273,13 @@ needs_cap is_element t = is_cap t
 mutual
   -- The capabilities of a tree are as many as the paths to them.
   pub caps_listed : (e : Bool) (t : Tree) → length (with_own (is_cap t) (paths_below needs_cap t)) ≡ cap_count t
-  caps_listed e null = refl
-  caps_listed e (cap i) = refl
   caps_listed e (struct words ts) = from_caps false Ptr 0 ts
-  caps_listed e (scalars c vs) = refl
   caps_listed e (pointers ts) = from_caps false Item 0 ts
   caps_listed e (structs d p es) = from_caps true Item 0 es
+  caps_listed e x1 = search rules
 
   pub from_caps : (e : Bool) (step : ℕ → Step) (i : ℕ) (ts : Trees)
       → length (paths_from needs_cap e step i ts) ≡ cap_counts ts
   from_caps e step i none = refl
   from_caps e step i (more t ts) =
-      length-append (after_step (step i) (with_own (is_cap t) (paths_below needs_cap t)))
-      (paths_from needs_cap e step (suc i) ts)
-      ∙ omega (
-        arith,
-        length-after_step (step i) (with_own (is_cap t) (paths_below needs_cap t)),
-        caps_listed e t,
-        from_caps e step (suc i) ts,
-      )
+      grind (arith, common_steps, length-append, length-after_step, caps_listed e t, from_caps e step (suc i) ts)

@@ -1,10 +1,11 @@
 -- Preorder is a strict total order on the paths of one message, and a tour is one list.
 use Rattle.cap_spec.specs.Paths.{IsFirst}
+use Rattle.cap_spec.proofs.Paths.PathLists.{member_append, member_back, member_front}
 use Rattle.cap_spec.proofs.Paths.Walks.{one_kind_of_step, one_reached, one_step}
 use Rattle.cap_spec.proofs.ProofNames.{List, [], ap, arith, inl, inr, length, refl, subst, sym, ℕ, ◌++◌, ◌<◌, ◌∙◌, ◌∷◌}
-use Rattle.cap_spec.proofs.ProofNames.{◌≡◌, ◌⊎◌, AreDistinct, IsOneOf, Before, IsFirstCap, IsNumbered, IsTour, PathLeads}
-use Rattle.cap_spec.proofs.ProofNames.{Reaches, ReachesCap, ReachesSpot, Rises, Spot, StepsTo, number_of, word, Step}
-use Rattle.cap_spec.proofs.ProofNames.{rules}
+use Rattle.cap_spec.proofs.ProofNames.{◌≡◌, ◌⊎◌, AreDistinct, IsOneOf, Before, IsFirstCap, IsNumbered, IsTour}
+use Rattle.cap_spec.proofs.ProofNames.{PathLeads, Reaches, ReachesCap, ReachesSpot, Rises, Spot, StepsTo, number_of}
+use Rattle.cap_spec.proofs.ProofNames.{word, Step, common_steps, rules}
 
 -- no path comes before itself
 pub Before-irreflexive : (p : List Step) → Before p p → ⊥
@@ -14,13 +15,12 @@ Before-irreflexive (x ∷ xs) (inr h) = Before-irreflexive xs h.1
 
 -- what comes before a path comes before those after it
 pub Before-trans : (p q r : List Step) → Before p q → Before q r → Before p r
-Before-trans p [] r h g = absurd h
-Before-trans p (y ∷ ys) [] h g = absurd g
 Before-trans [] (y ∷ ys) (z ∷ zs) h g = tt
 Before-trans (x ∷ xs) (y ∷ ys) (z ∷ zs) (inl h) (inl g) = inl (omega arith)
 Before-trans (x ∷ xs) (y ∷ ys) (z ∷ zs) (inl h) (inr g) = inl (omega (arith, ap number_of g.0))
 Before-trans (x ∷ xs) (y ∷ ys) (z ∷ zs) (inr h) (inl g) = inl (omega (arith, ap number_of h.0))
 Before-trans (x ∷ xs) (y ∷ ys) (z ∷ zs) (inr h) (inr g) = inr (h.0 ∙ g.0, Before-trans xs ys zs h.1 g.1)
+Before-trans p x1 r h g = search rules
 
 -- not both of two paths come before the other
 pub Before-asymmetric : (p q : List Step) → Before p q → Before q p → ⊥
@@ -47,22 +47,18 @@ Before-total m a [] [] n n' b c g h = inl refl
 Before-total m a [] (y ∷ q) n n' b c g h = inr (inl tt)
 Before-total m a (x ∷ p) [] n n' b c g h = inr (inr tt)
 Before-total m a (x ∷ p) (y ∷ q) n n' b c (mid, below, goes, walks, level) (mid', below', goes', walks', level') =
-    go (λ k. Before-total m mid' p q below below' b c (subst (λ (z : Spot). PathLeads m z p below b) k walks) walks')
-    (three_ways (number_of x) (number_of y))
-  where
-    one : x ≡ y → (p ≡ q) ⊎ Before p q ⊎ Before q p → (x ∷ p ≡ y ∷ q) ⊎ Before (x ∷ p) (y ∷ q) ⊎ Before (y ∷ q) (x ∷ p)
-    one e (inl f) = inl cc
-    one e (inr (inl f)) = inr (inl (inr (e, f)))
-    one e (inr (inr f)) = inr (inr (inr (sym e, f)))
-
-    go : (mid ≡ mid' → (p ≡ q) ⊎ Before p q ⊎ Before q p)
-        → (number_of x ≡ number_of y) ⊎ (number_of x < number_of y) ⊎ (number_of y < number_of x)
-        → (x ∷ p ≡ y ∷ q) ⊎ Before (x ∷ p) (y ∷ q) ⊎ Before (y ∷ q) (x ∷ p)
-    go r (inl e) =
-        let f : x ≡ y = same_number m a x y mid mid' goes goes' e in
-        one f (r (one_step m a y mid mid' (subst (λ (z : Step). StepsTo m a z mid) f goes) goes'))
-    go r (inr (inl e)) = inr (inl (inl e))
-    go r (inr (inr e)) = inr (inr (inl e))
+    elim (three_ways (number_of x) (number_of y)) [
+      | inl e ↦
+          let f : x ≡ y = same_number m a x y mid mid' goes goes' e in
+          let k : mid ≡ mid' = one_step m a y mid mid' (rw f at goes) goes' in
+          elim (Before-total m mid' p q below below' b c (rw k at walks) walks') [
+            | inl g ↦ inl cc
+            | inr (inl g) ↦ inr (inl (inr (f, g)))
+            | inr (inr g) ↦ inr (inr (inr (sym f, g)))
+          ]
+      | inr (inl e) ↦ inr (inl (inl e))
+      | inr (inr e) ↦ inr (inr (inl e))
+    ]
 
 -- so it is of two paths that come to spots of one message
 pub Before-total_coming : (m : List (List ℕ)) (p q : List Step) (l l' : ℕ) (b c : Spot) → ReachesSpot m p l b → ReachesSpot m q l' c
@@ -81,28 +77,23 @@ Rises-rest p x1 h = search rules
 
 -- a path between two lists
 pub middle_is_one : (p : List Step) (xs ys : List (List Step)) → IsOneOf p (xs ++ p ∷ ys)
-middle_is_one p [] ys = inl refl
-middle_is_one p (x ∷ xs) ys = inr (middle_is_one p xs ys)
+middle_is_one p xs ys = member_back p xs (p ∷ ys) (inl refl)
 
 pub front_is_one : (q p : List Step) (xs ys : List (List Step)) → IsOneOf q (xs ++ p ∷ []) → IsOneOf q (xs ++ p ∷ ys)
-front_is_one q p [] ys (inl e) = inl e
-front_is_one q p [] ys (inr h) = absurd h
-front_is_one q p (x ∷ xs) ys (inl e) = inl e
-front_is_one q p (x ∷ xs) ys (inr h) = inr (front_is_one q p xs ys h)
+front_is_one q p xs ys h = elim (member_append q xs (p ∷ []) h) [
+  | inl i ↦ member_front q xs (p ∷ ys) i
+  | inr i ↦ search (rules, member_back)
+]
 
 pub front_or_back : (q p : List Step) (xs ys : List (List Step)) → IsOneOf q (xs ++ p ∷ ys)
     → IsOneOf q (xs ++ p ∷ []) ⊎ IsOneOf q ys
-front_or_back q p [] ys (inl e) = inl (inl e)
-front_or_back q p [] ys (inr h) = inr h
-front_or_back q p (x ∷ xs) ys (inl e) = inl (inl e)
-front_or_back q p (x ∷ xs) ys (inr h) = elim (front_or_back q p xs ys h) [ inl i ↦ inl (inr i) | inr i ↦ inr i ]
+front_or_back q p xs ys h = grind (arith, common_steps, member_append, member_front, member_back)
 
 -- where the lists rise, the first rises up to it, comes before it, and the second comes after it
 pub Rises-front : (xs : List (List Step)) (p : List Step) (ys : List (List Step)) → Rises (xs ++ p ∷ ys)
     → Rises (xs ++ p ∷ [])
-Rises-front [] p ys h = tt
-Rises-front (x ∷ []) p ys h = (h.0, tt)
 Rises-front (x ∷ z ∷ xs) p ys h = (h.0, Rises-front (z ∷ xs) p ys h.1)
+Rises-front x0 p ys h = search rules
 
 pub before_middle : (xs : List (List Step)) (p : List Step) (ys : List (List Step)) (q : List Step) → Rises (xs ++ p ∷ ys)
     → IsOneOf q xs → Before q p
@@ -114,6 +105,30 @@ pub after_middle : (xs : List (List Step)) (p : List Step) (ys : List (List Step
     → IsOneOf q ys → Before p q
 after_middle [] p ys q h i = Rises-first p ys q h i
 after_middle (x ∷ xs) p ys q h i = after_middle xs p ys q (Rises-rest x (xs ++ p ∷ ys) h) i
+
+-- the front of a rising list of paths that are reached, with all those before its last one, is the tour up to that one
+pub cut_tour : (m : List (List ℕ)) (xs : List (List Step)) (p : List Step) (ys : List (List Step))
+    → Rises (xs ++ p ∷ ys)
+    → ((q : List Step) → IsOneOf q (xs ++ p ∷ ys) → (level s w : ℕ) × Reaches m q level s w)
+    → ((q : List Step) (level s w : ℕ) → Reaches m q level s w → Before q p → IsOneOf q (xs ++ p ∷ ys))
+    → IsTour m p (xs ++ p ∷ [])
+cut_tour m xs p ys rises reached all = record {
+  rising = Rises-front xs p ys rises;
+  reached = λ q i. reached q (front_is_one q p xs ys i);
+  all = λ q level s w r k. among q level s w r k;
+  none_after = λ q i. elim (member_append q xs (p ∷ []) i) [
+    | inl j ↦ inr (before_middle xs p ys q rises j)
+    | inr (inl e) ↦ inl e
+    | inr (inr j) ↦ absurd j
+  ];
+}
+  where
+    among : (q : List Step) (level s w : ℕ) → Reaches m q level s w → (q ≡ p) ⊎ Before q p → IsOneOf q (xs ++ p ∷ [])
+    among q level s w r (inl e) = rw e (middle_is_one p xs [])
+    among q level s w r (inr b) = elim (front_or_back q p xs ys (all q level s w r b)) [
+      | inl i ↦ i
+      | inr i ↦ absurd (Before-asymmetric q p b (after_middle xs p ys q rises i))
+    ]
 
 -- two rising lists of the same paths are one
 pub Rises-same : (ps qs : List (List Step)) → Rises ps → Rises qs → ((x : List Step) → IsOneOf x ps → IsOneOf x qs)
@@ -169,15 +184,12 @@ one_first m P p q l l' s w s' w' g h f f' =
 pub one_number : (m : List (List ℕ)) (p q : List Step) (s w n s' w' n' : ℕ) → IsNumbered m p s w n
     → IsNumbered m q s' w' n' → p ≡ q → (s ≡ s') × (w ≡ w') × (n ≡ n')
 one_number m p q s w n s' w' n' g h e =
-    let r = one_reached m p g.level h.level s w s' w' g.reached
-    (subst (λ (v : List Step). Reaches m v h.level s' w') (sym e) h.reached) in
-    let t = one_tour m p g.tour h.tour g.is_tour (subst (λ (v : List Step). IsTour m v h.tour) (sym e) h.is_tour) in
+    let r = one_reached m p g.level h.level s w s' w' g.reached (rw e h.reached) in
+    let t = one_tour m p g.tour h.tour g.is_tour (rw e h.is_tour) in
     (r.1, r.2, g.count ∙ ap length t ∙ sym h.count)
 
 -- the first capability in preorder is one pointer word
 pub one_first_cap : (m : List (List ℕ)) (s w s' w' : ℕ) → IsFirstCap m s w → IsFirstCap m s' w' → (s ≡ s') × (w ≡ w')
 one_first_cap m s w s' w' g h =
     let e = one_first m (ReachesCap m) g.path h.path g.level h.level s w s' w' g.reached h.reached g.first h.first in
-    let r = one_reached m g.path g.level h.level s w s' w' g.reached
-    (subst (λ (v : List Step). Reaches m v h.level s' w') (sym e) h.reached) in
-    (r.1, r.2)
+    let r = one_reached m g.path g.level h.level s w s' w' g.reached (rw e h.reached) in (r.1, r.2)

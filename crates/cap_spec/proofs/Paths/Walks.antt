@@ -1,9 +1,8 @@
 -- A path leads to one spot, at one level, and a longer path goes on from there.
-use Rattle.cap_spec.proofs.ProofNames.{List, [], ap, arith, inl, inr, refl, subst, sym, ℕ, ◌++◌, ◌+◌, ◌↔◌, ◌∙◌, ◌∷◌, ◌≡◌}
+use Rattle.cap_spec.proofs.ProofNames.{List, [], ap, arith, inl, inr, refl, sym, ℕ, ◌++◌, ◌+◌, ◌↔◌, ◌∙◌, ◌∷◌, ◌≡◌}
 use Rattle.cap_spec.proofs.ProofNames.{PathLeads, Reaches, ReachesSpot, Spot, StepsTo, element, level_of, word, Step}
-use Rattle.cap_spec.proofs.ProofNames.{Item, Ptr}
+use Rattle.cap_spec.proofs.ProofNames.{Item, Ptr, rules, common_steps}
 use Rattle.cap_spec.proofs.Trees.Finding.{one_found}
-use Rattle.cap_spec.proofs.ProofNames.{rules}
 
 -- one step leads to one spot
 pub one_step : (m : List (List ℕ)) (a : Spot) (step : Step) (b b' : Spot) → StepsTo m a step b → StepsTo m a step b' → b ≡ b'
@@ -96,22 +95,4 @@ one_reached m path l l' s w s' w' g h =
 pub coming_last : (m : List (List ℕ)) (path : List Step) (step : Step) (l : ℕ) (c : Spot)
     → ReachesSpot m (path ++ step ∷ []) l c ↔ ((b : Spot) × (l' : ℕ) × ReachesSpot m path l' b × StepsTo m b step c
     × (l ≡ l' + level_of c))
-coming_last m path step l c = (to, from)
-  where
-    to : ReachesSpot m (path ++ step ∷ []) l c → (b : Spot) × (l' : ℕ) × ReachesSpot m path l' b × StepsTo m b step c
-        × (l ≡ l' + level_of c)
-    to h =
-        let r = (walk_last m (word 0 0) c path step h.1).0 h.3 in
-        (r.0, 1 + r.1, (h.0, r.1, h.2, r.2, refl), r.3, omega (arith, h.4, r.4))
-
-    from : (b : Spot) × (l' : ℕ) × ReachesSpot m path l' b × StepsTo m b step c × (l ≡ l' + level_of c)
-        → ReachesSpot m (path ++ step ∷ []) l c
-    from h =
-        let g = h.2 in (
-          g.0,
-          g.1 + level_of c,
-          g.2,
-          (walk_last m (word 0 0) c path step (g.1 + level_of c)).1
-              (h.0, g.1, g.3, h.3, refl),
-          omega (arith, g.4, h.4),
-        )
+coming_last m path step l c = grind (arith, common_steps, walk_last)

@@ -1,9 +1,8 @@
 -- The conditions of the reasons at a word, and their order.
-use Rattle.cap_spec.specs.declared.Reason.TheVariants.{NoRoot}
 use Rattle.cap_spec.proofs.Frames.Messages.{HasWord-inside, at_word, one_word}
-use Rattle.cap_spec.proofs.ProofNames.{List, arith, inl, inr, length, subst, sym, ℕ, ◌+◌, ◌<◌, ◌≡◌, ◌≢◌, Condition}
-use Rattle.cap_spec.proofs.ProofNames.{IsOnePad, IsTwoPad, rank, HasWord, segment_of, IsFar, IsReserved, far_segment}
-use Rattle.cap_spec.proofs.ProofNames.{kind, middle, pad, two, Reason, PadIsFar, PadNotFar, PadOutside, Reserved}
+use Rattle.cap_spec.proofs.ProofNames.{List, arith, length, subst, sym, ℕ, ◌+◌, ◌<◌, ◌≡◌, ◌≢◌, Condition, IsOnePad}
+use Rattle.cap_spec.proofs.ProofNames.{IsTwoPad, rank, HasWord, segment_of, IsFar, IsReserved, far_segment, kind}
+use Rattle.cap_spec.proofs.ProofNames.{middle, pad, two, Reason, PadIsFar, PadNotFar, PadOutside, Reserved}
 use Rattle.cap_spec.proofs.ProofNames.{SegmentMissing, TagKind, TagOffset, common_steps, rules}
 
 -- Which conditions don't hold, by the form of the word. It is far, and the segment of its pad is missing, or the pad is
@@ -33,8 +32,7 @@ module _ (m : List (List ℕ)) (s w p q : ℕ) (h : HasWord m s w p) (one : IsOn
   one-not_reserved n x1 = search (rules, one-same)
 
   pub one-not_missing : ¬ Condition m s w SegmentMissing
-  one-not_missing (x, hx, f, inl missing) = grind (arith, common_steps)
-  one-not_missing (x, hx, f, inr (both, u, v, hu, hv, single, missing)) = one-not_two x hx both
+  one-not_missing x0 = grind (arith, common_steps, one-not_two)
 
   pub one-not_outside : ¬ Condition m s w PadOutside
   one-not_outside (x, hx, f, past) = search (rules, at_word, HasWord-inside)
@@ -61,8 +59,7 @@ module _ (m : List (List ℕ)) (s w p f q : ℕ) (h : HasWord m s w p) (both : I
   two-not_reserved x0 = search (rules, two-not_one)
 
   pub two-not_missing : (IsOnePad f → far_segment f < length m) → ¬ Condition m s w SegmentMissing
-  two-not_missing n (x, hx, far, inl missing) = grind (arith, common_steps)
-  two-not_missing n (x, hx, far, inr (t, u, v, hu, hv, single, missing)) = grind (arith, common_steps)
+  two-not_missing n x1 = grind (arith, common_steps)
 
   pub two-not_outside : ¬ Condition m s w PadOutside
   two-not_outside (x, hx, far, past) = search (rules, at_word, HasWord-inside)
@@ -96,8 +93,7 @@ module _ (m : List (List ℕ)) (s w p f q : ℕ) (h : HasWord m s w p) (both : I
     (hf : HasWord m (far_segment p) (pad p) f) (hq : HasWord m (far_segment p) (pad p + 1) q) where
   pub two-none_below_far : (IsOnePad f → far_segment f < length m) → NoneBelow m s w (rank PadNotFar)
   two-none_below_far n =
-      search (rules, and_not, none_below_reserved, two-not_reserved, two-not_missing, two-not_outside,
-          two-not_pad_far)
+      search (rules, and_not, none_below_reserved, two-not_reserved, two-not_missing, two-not_outside, two-not_pad_far)
 
   pub two-none_below_tag : IsOnePad f → far_segment f < length m → NoneBelow m s w (rank TagKind)
   two-none_below_tag one there = search (rules, and_not, two-none_below_far, two-not_pad_near)

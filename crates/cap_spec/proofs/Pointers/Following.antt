@@ -6,13 +6,12 @@ use Rattle.cap_spec.proofs.Pointers.Conditions.{NoneBelow, and_not, none_below_r
 use Rattle.cap_spec.proofs.Pointers.Conditions.{one-not_outside, one-not_pad_far, one-not_pad_near, one-not_reserved}
 use Rattle.cap_spec.proofs.Pointers.Conditions.{outside-not_missing, outside-not_reserved, two-none_below_far}
 use Rattle.cap_spec.proofs.Pointers.Conditions.{two-none_below_tag, two-not_tag_kind, two-not_tag_offset}
-use Rattle.cap_spec.proofs.ProofNames.{List, arith, inl, inr, length, negsuc, pos, subst, ℕ, ℤ, ◌*◌, ◌+◌}
-use Rattle.cap_spec.proofs.ProofNames.{◌<◌, ◌≡◌, ◌≢◌, ◌≤◌, ints, Finds, Condition, IsComposite, IsOnePad}
-use Rattle.cap_spec.proofs.ProofNames.{IsTwoPad, Lead, Leads, Says, Wrong, near, one_pad, rank, to_cap, to_null, to_object}
-use Rattle.cap_spec.proofs.ProofNames.{two_pads, HasWord, segment_of, IsFar, IsReserved, data_size, extent, far_segment}
-use Rattle.cap_spec.proofs.ProofNames.{kind, list_size, middle, pad, pointer_size, two, Reason, CompositeOverrun}
-use Rattle.cap_spec.proofs.ProofNames.{CompositeTag, DepthLimit, OutOfSegment, PadIsFar, PadNotFar, PadOutside, Reserved}
-use Rattle.cap_spec.proofs.ProofNames.{SegmentMissing, TagKind, TagOffset, WordLimit, common_steps, rules}
+use Rattle.cap_spec.proofs.ProofNames.{List, arith, inl, length, negsuc, pos, subst, ℕ, ℤ, ◌*◌, ◌+◌, ◌<◌, ◌≡◌, ◌≢◌, ◌≤◌}
+use Rattle.cap_spec.proofs.ProofNames.{Finds, Condition, IsComposite, IsOnePad, IsTwoPad, Lead, Leads, Says, Wrong}
+use Rattle.cap_spec.proofs.ProofNames.{rank, to_cap, to_null, to_object, HasWord, segment_of, IsFar, IsReserved}
+use Rattle.cap_spec.proofs.ProofNames.{data_size, extent, far_segment, kind, list_size, middle, pad, pointer_size, two}
+use Rattle.cap_spec.proofs.ProofNames.{Reason, CompositeOverrun, CompositeTag, OutOfSegment, PadIsFar, PadNotFar}
+use Rattle.cap_spec.proofs.ProofNames.{PadOutside, Reserved, SegmentMissing, TagKind, TagOffset, common_steps, rules}
 
 -- What a word leads to, by its form.
 module _ (m : List (List ℕ)) (s w k : ℕ) (r : Lead) where
@@ -46,8 +45,20 @@ HasSegment m (to_object t b q) = t < length m
 pub leads_clean : (m : List (List ℕ)) (s w k : ℕ) (r : Lead) → Leads m s w k r → HasSegment m r
     → NoneBelow m s w (rank OutOfSegment)
 leads_clean m s w k r x5 exists =
-    search (rules, and_not, none_below_reserved, one-not_reserved, not_reserved, one-not_missing, one-not_outside,
-        one-not_pad_far, one-not_pad_near, two-none_below_tag, two-not_tag_kind, two-not_tag_offset)
+    search (
+      rules,
+      and_not,
+      none_below_reserved,
+      one-not_reserved,
+      not_reserved,
+      one-not_missing,
+      one-not_outside,
+      one-not_pad_far,
+      one-not_pad_near,
+      two-none_below_tag,
+      two-not_tag_kind,
+      two-not_tag_offset,
+    )
 
 -- A reason is wrong where its condition holds and none before it.
 -- the word is reserved
@@ -135,8 +146,6 @@ module _ (m : List (List ℕ)) (s w k : ℕ) (r : Lead) (leads : Leads m s w k r
   clean-not_wrong exists n9 n10 n11 OutOfSegment x = n9 x.holds
   clean-not_wrong exists n9 n10 n11 CompositeTag x = n10 x.holds
   clean-not_wrong exists n9 n10 n11 CompositeOverrun x = n11 x.holds
-  clean-not_wrong exists n9 n10 n11 DepthLimit x = x.holds
-  clean-not_wrong exists n9 n10 n11 WordLimit x = x.holds
   clean-not_wrong exists n9 n10 n11 v x = leads_clean m s w k r leads exists v (omega arith) x.holds
 
 -- nothing is wrong with a word that leads to null

@@ -1,10 +1,9 @@
 -- The kind of an object gives the fields of its word and of its tag.
-use Rattle.std.proofs.Common.{ap, arith, eqb, false, ne_eqb, refl, sym, ℕ, ◌+◌, ◌<◌, ◌∙◌, ◌≡◌}
+use Rattle.std.proofs.Common.{ne_eqb, refl, ℕ, ◌+◌, ◌≡◌}
 use Rattle.cap_spec.specs.Denoting.{element_levels, levels_below}
 use Rattle.cap_spec.specs.Following.{IsComposite, extra}
 use Rattle.cap_spec.specs.ObjectShapes.{HasKind, IsPointersShape, IsScalarsShape, IsStructShape, IsStructsShape}
-use Rattle.cap_spec.specs.ObjectShapes.{is_pointers, is_scalars, is_struct, is_structs}
-use Rattle.cap_spec.specs.Pointers.{code, data_size, extent, list_size, list_words, middle, pointer_size}
+use Rattle.cap_spec.specs.Pointers.{code, extent, list_size, list_words}
 use Rattle.cap_spec.specs.declared.Kind.{Kind}
 use Rattle.cap_spec.specs.declared.Kind.TheVariants.{Pointers, Scalars, Struct, Structs}
 use Rattle.cap_spec.proofs.ProofNames.{rules}

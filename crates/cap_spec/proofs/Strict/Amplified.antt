@@ -4,97 +4,73 @@ use Rattle.cap_spec.specs.Tree.{none}
 use Rattle.cap_spec.proofs.Canonical.Layouts.{layout_denotes}
 use Rattle.cap_spec.proofs.Canonical.Sizes.{length-content}
 use Rattle.cap_spec.proofs.Canonical.TreeMeasures.{FitElements, Fits, cost, element_costs, height}
-use Rattle.cap_spec.proofs.ProofNames.{List, [], ap, arith, false, refl, suc, sum, sym, zero, ℕ, ◌+◌, ◌<◌, ◌^◌, ◌∷◌, ◌≡◌}
-use Rattle.cap_spec.proofs.ProofNames.{◌≤◌, children_of, cut_elements, data_of, element_sizes, layout, size, trim}
-use Rattle.cap_spec.proofs.ProofNames.{trim_elements, HasCopy, Denotes, sizes_of, Tree, Trees, cap_counts, has_cap, more}
-use Rattle.cap_spec.proofs.ProofNames.{struct, structs, tree_count, unamplified, rules}
+use Rattle.cap_spec.proofs.ProofNames.{List, [], ap, arith, false, length, refl, suc, sum, sym, zero, ℕ, ◌+◌, ◌<◌, ◌^◌}
+use Rattle.cap_spec.proofs.ProofNames.{◌∷◌, ◌≡◌, ◌≤◌, children_of, cut_elements, data_of, element_sizes, layout, size}
+use Rattle.cap_spec.proofs.ProofNames.{trim, trim_elements, HasCopy, Denotes, sizes_of, Tree, Trees, cap_counts}
+use Rattle.cap_spec.proofs.ProofNames.{has_cap, more, struct, structs, tree_count, unamplified, rules}
 use Rattle.cap_spec.proofs.Trees.OneTree.{one_tree}
 
--- n structs of a zero word, and n without words
-zeros : ℕ → Trees
-zeros zero = none
-zeros (suc n) = more (struct (0 ∷ []) none) (zeros n)
-
-empties : ℕ → Trees
-empties zero = none
-empties (suc n) = more (struct [] none) (empties n)
+-- n structs of these words
+alike : List ℕ → ℕ → Trees
+alike ws zero = none
+alike ws (suc n) = more (struct ws none) (alike ws n)
 
 -- their numbers
-count-zeros : (n : ℕ) → tree_count (zeros n) ≡ n
-unfolding zeros
-count-zeros zero = refl
-count-zeros (suc n) = ap suc (count-zeros n)
+count-alike : (ws : List ℕ) (n : ℕ) → tree_count (alike ws n) ≡ n
+unfolding alike
+count-alike ws zero = refl
+count-alike ws (suc n) = ap suc (count-alike ws n)
 
-count-empties : (n : ℕ) → tree_count (empties n) ≡ n
-unfolding empties
-count-empties zero = refl
-count-empties (suc n) = ap suc (count-empties n)
+costs-alike : (ws : List ℕ) (n : ℕ) → element_costs (alike ws n) ≡ 0
+unfolding alike
+costs-alike ws zero = refl
+costs-alike ws (suc n) = omega (arith, costs-alike ws n)
 
-costs-zeros : (n : ℕ) → element_costs (zeros n) ≡ 0
-unfolding zeros
-costs-zeros zero = refl
-costs-zeros (suc n) = omega (arith, costs-zeros n)
+sizes-alike : (ws : List ℕ) (n : ℕ) → element_sizes (alike ws n) ≡ 0
+unfolding alike
+sizes-alike ws zero = refl
+sizes-alike ws (suc n) = omega (arith, sizes-alike ws n)
 
-costs-empties : (n : ℕ) → element_costs (empties n) ≡ 0
-unfolding empties
-costs-empties zero = refl
-costs-empties (suc n) = omega (arith, costs-empties n)
+caps-alike : (ws : List ℕ) (n : ℕ) → cap_counts (alike ws n) ≡ 0
+unfolding alike
+caps-alike ws zero = refl
+caps-alike ws (suc n) = omega (arith, caps-alike ws n)
 
-sizes-zeros : (n : ℕ) → element_sizes (zeros n) ≡ 0
-unfolding zeros
-sizes-zeros zero = refl
-sizes-zeros (suc n) = omega (arith, sizes-zeros n)
+fit-alike : (ws : List ℕ) (n : ℕ) → FitElements (length ws) 0 (alike ws n)
+unfolding alike
+fit-alike ws zero = tt
+fit-alike ws (suc n) = (refl, refl, tt, fit-alike ws n)
 
-sizes-empties : (n : ℕ) → element_sizes (empties n) ≡ 0
-unfolding empties
-sizes-empties zero = refl
-sizes-empties (suc n) = omega (arith, sizes-empties n)
-
-caps-zeros : (n : ℕ) → cap_counts (zeros n) ≡ 0
-unfolding zeros
-caps-zeros zero = refl
-caps-zeros (suc n) = omega (arith, caps-zeros n)
-
-fit-zeros : (n : ℕ) → FitElements 1 0 (zeros n)
-unfolding zeros
-fit-zeros zero = tt
-fit-zeros (suc n) = (refl, refl, tt, fit-zeros n)
-
-fit-empties : (n : ℕ) → FitElements 0 0 (empties n)
-unfolding empties
-fit-empties zero = tt
-fit-empties (suc n) = (refl, refl, tt, fit-empties n)
-
--- trimmed, the first are the second
-trim-zeros : (n : ℕ) → trim_elements (zeros n) ≡ zeros n
-unfolding zeros
+-- trimmed, those of a zero word are those without words
+trim-zeros : (n : ℕ) → trim_elements (alike (0 ∷ []) n) ≡ alike (0 ∷ []) n
+unfolding alike
 trim-zeros zero = refl
 trim-zeros (suc n) = ap (λ (ts : Trees). more (struct (0 ∷ []) none) ts) (trim-zeros n)
 
-data-zeros : (n : ℕ) → data_of (zeros n) ≡ 0
-unfolding zeros
+data-zeros : (n : ℕ) → data_of (alike (0 ∷ []) n) ≡ 0
+unfolding alike
 data-zeros zero = refl
 data-zeros (suc n) = omega (arith, data-zeros n)
 
-children-zeros : (n : ℕ) → children_of (zeros n) ≡ 0
-unfolding zeros
+children-zeros : (n : ℕ) → children_of (alike (0 ∷ []) n) ≡ 0
+unfolding alike
 children-zeros zero = refl
 children-zeros (suc n) = omega (arith, children-zeros n)
 
-cut-zeros : (n : ℕ) → cut_elements 0 0 (zeros n) ≡ empties n
-unfolding zeros empties
+cut-zeros : (n : ℕ) → cut_elements 0 0 (alike (0 ∷ []) n) ≡ alike [] n
+unfolding alike
 cut-zeros zero = refl
 cut-zeros (suc n) = ap (λ (ts : Trees). more (struct [] none) ts) (cut-zeros n)
 
-trimmed-zeros : (n : ℕ) → trim (structs 1 0 (zeros n)) ≡ structs 0 0 (empties n)
+trimmed-zeros : (n : ℕ) → trim (structs 1 0 (alike (0 ∷ []) n)) ≡ structs 0 0 (alike [] n)
 trimmed-zeros n = rw (trim-zeros n, data-zeros n, children-zeros n, cut-zeros n) refl
 
 -- a list of such structs
 wide : ℕ → Tree
-wide n = structs 1 0 (zeros n)
+wide n = structs 1 0 (alike (0 ∷ []) n)
 
 bare : ℕ → Tree
-bare n = structs 0 0 (empties n)
+bare n = structs 0 0 (alike [] n)
 
 trim-wide : (n : ℕ) → trim (wide n) ≡ bare n
 unfolding wide bare
@@ -102,32 +78,32 @@ trim-wide n = trimmed-zeros n
 
 fits-wide : (n : ℕ) → n < 2 ^ 29 → Fits (wide n)
 unfolding wide
-fits-wide n h = search (rules, count-zeros, fit-zeros)
+fits-wide n h = search (rules, count-alike, fit-alike (0 ∷ []) n)
 
 fits-bare : (n : ℕ) → n < 2 ^ 29 → Fits (bare n)
 unfolding bare
-fits-bare n h = search (rules, count-empties, fit-empties)
+fits-bare n h = search (rules, count-alike, fit-alike [] n)
 
 size-wide : (n : ℕ) → size (wide n) ≡ 1 + n
 unfolding wide
-size-wide n = omega (arith, count-zeros n, sizes-zeros n)
+size-wide n = omega (arith, count-alike (0 ∷ []) n, sizes-alike (0 ∷ []) n)
 
 size-bare : (n : ℕ) → size (bare n) ≡ 1
 unfolding bare
-size-bare n = omega (arith, sizes-empties n)
+size-bare n = omega (arith, sizes-alike [] n)
 
 cost-wide : (n : ℕ) → cost (wide n) ≡ 1 + n
 unfolding wide
-cost-wide n = omega (arith, count-zeros n, costs-zeros n)
+cost-wide n = omega (arith, count-alike (0 ∷ []) n, costs-alike (0 ∷ []) n)
 
 -- each element without words is charged one word
 cost-bare : (n : ℕ) → cost (bare n) ≡ 1 + n
 unfolding bare
-cost-bare n = omega (arith, count-empties n, costs-empties n)
+cost-bare n = omega (arith, count-alike [] n, costs-alike [] n)
 
 no_caps-wide : (n : ℕ) → has_cap (wide n) ≡ false
 unfolding wide
-no_caps-wide n = rw (caps-zeros n) refl
+no_caps-wide n = rw (caps-alike (0 ∷ []) n) refl
 
 -- The layout of the list has a word for each struct, and that of the trimmed list has two words.
 length-wide : (n : ℕ) → n < 2 ^ 29 → sum (sizes_of (layout (wide n) ∷ [])) ≡ n + 2

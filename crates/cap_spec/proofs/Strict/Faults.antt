@@ -1,8 +1,8 @@
 -- An accepted message is strict, or has one fault.
 use Rattle.cap_spec.specs.declared.StrictRefusal.{StrictRefusal}
 use Rattle.cap_spec.specs.declared.StrictRefusal.TheVariants.{ManySegments, Pointer, Refused}
-use Rattle.cap_spec.proofs.ProofNames.{List, ap, arith, inl, inr, length, refl, ℕ, ◌≡◌, ◌≤◌, ◌⊎◌, ∥∥₁_elim, props}
-use Rattle.cap_spec.proofs.ProofNames.{cases_lt, IsWithin, IsLax, IsStrict, IsStrictFault, Lax, Step, common_steps, rules}
+use Rattle.cap_spec.proofs.ProofNames.{List, ap, arith, inl, inr, length, ℕ, ◌≡◌, ◌≤◌, ◌⊎◌, ∥∥₁_elim, props, cases_lt}
+use Rattle.cap_spec.proofs.ProofNames.{IsWithin, IsLax, IsStrict, IsStrictFault, Lax, Step, common_steps, rules}
 use Rattle.cap_spec.proofs.Strict.FirstLax.{first_lax_or_none, one_first_lax}
 use Rattle.cap_spec.proofs.Verdicts.OneFault.{one_refusal}
 use Rattle.cap_spec.proofs.Verdicts.Refusals.{within_not_refused}
@@ -34,16 +34,10 @@ same_pointer u v s w n s' w' n' e1 e2 e3 e4 = cc
 pub one_strict_fault : (m : List (List ℕ)) (words depth : ℕ) (f g : StrictRefusal) → IsStrictFault m words depth f
     → IsStrictFault m words depth g → f ≡ g
 one_strict_fault m words depth (Refused r) (Refused r') h k = ap Refused (one_refusal m words depth r r' h k)
-one_strict_fault m words depth (Refused r) ManySegments h k = absurd (within_not_refused m words depth r k.0 h)
-one_strict_fault m words depth (Refused r) (Pointer v s' w' n') h k = absurd (within_not_refused m words depth r k.0 h)
-one_strict_fault m words depth ManySegments (Refused r) h k = absurd (within_not_refused m words depth r h.0 k)
-one_strict_fault m words depth ManySegments ManySegments h k = refl
-one_strict_fault m words depth ManySegments (Pointer v s' w' n') h k = absurd (omega (arith, h.1, k.1))
-one_strict_fault m words depth (Pointer u s w n) (Refused r) h k = absurd (within_not_refused m words depth r h.0 k)
-one_strict_fault m words depth (Pointer u s w n) ManySegments h k = absurd (omega (arith, h.1, k.1))
 one_strict_fault m words depth (Pointer u s w n) (Pointer v s' w' n') h k =
     let e = one_first_lax m s w u n s' w' v n' h.2 k.2 in
     same_pointer u v s w n s' w' n' e.0 e.1 e.2 e.3
+one_strict_fault m words depth f g h k = search (rules, within_not_refused)
 
 -- What is accepted within limits is accepted within wider ones,
 pub within_wider : (m : List (List ℕ)) (words depth words' depth' : ℕ) → IsWithin m words depth → words ≤ words'

@@ -2,12 +2,11 @@
 use Rattle.cap_spec.proofs.Paths.Arrivals.{coming_to_node, lead_word}
 use Rattle.cap_spec.proofs.Paths.PathCounts.{pointer_path_reached, pointer_paths}
 use Rattle.cap_spec.proofs.Paths.PathLists.{is_pointer, listed_rise}
-use Rattle.cap_spec.proofs.Paths.Preorder.{Before-asymmetric, Before-irreflexive, Rises-front, after_middle}
-use Rattle.cap_spec.proofs.Paths.Preorder.{before_middle, front_is_one, front_or_back, one_first, one_number}
+use Rattle.cap_spec.proofs.Paths.Preorder.{cut_tour, Before-irreflexive, one_first, one_number}
 use Rattle.cap_spec.proofs.Paths.Walks.{one_reached}
 use Rattle.cap_spec.proofs.ProofNames.{List, [], ap, false, inl, inr, length, refl, subst, sym, ℕ, ◌++◌, ◌∷◌, ◌≡◌, ◌⊎◌}
-use Rattle.cap_spec.proofs.ProofNames.{Denotes, IsOneOf, Before, IsTour, Reaches, Rises, word, IsFirstLax, IsLax, IsLaxAt}
-use Rattle.cap_spec.proofs.ProofNames.{Tree, Lax, Step}
+use Rattle.cap_spec.proofs.ProofNames.{Denotes, IsOneOf, Before, IsTour, Reaches, Rises, word, IsFirstLax, IsLax}
+use Rattle.cap_spec.proofs.ProofNames.{IsLaxAt, Tree, Lax, Step}
 use Rattle.cap_spec.proofs.Strict.LaxForms.{lax_decided, one_lax}
 use Rattle.cap_spec.proofs.Trees.OneTree.{Formed, formed}
 use Rattle.cap_spec.proofs.Verdicts.OneFault.{one_of_last}
@@ -25,33 +24,25 @@ record FirstOf (P : List Step → Type 0) (ps : List (List Step)) : Type 0 where
 first_of_list : (P : List Step → Type 0) (ps : List (List Step)) → ((q : List Step) → IsOneOf q ps → P q ⊎ ¬ P q)
     → FirstOf P ps ⊎ ((q : List Step) → IsOneOf q ps → ¬ P q)
 first_of_list P [] decided = inr (λ q i. absurd i)
-first_of_list P (p ∷ ps) decided = by_head (decided p (inl refl)) (first_of_list P ps (λ q i. decided q (inr i)))
+first_of_list P (p ∷ ps) decided = elim (decided p (inl refl)) [
+  | inl h ↦ inl record { before = []; path = p; after = ps; whole = refl; holds = h; none = λ q i. absurd i }
+  | inr n ↦ elim (first_of_list P ps (λ q i. decided q (inr i))) [
+    | inl f ↦ inl record {
+      before = p ∷ f.before;
+      path = f.path;
+      after = f.after;
+      whole = ap (λ u. p ∷ u) f.whole;
+      holds = f.holds;
+      none = none_of n f.before f.none;
+    }
+    | inr k ↦ inr (none_of n ps k)
+  ]
+]
   where
     none_of : ¬ P p → (qs : List (List Step)) → ((q : List Step) → IsOneOf q qs → ¬ P q) → (q : List Step)
         → IsOneOf q (p ∷ qs) → ¬ P q
     none_of n qs k q (inl e) h = n (subst P e h)
     none_of n qs k q (inr i) h = k q i h
-
-    by_head : P p ⊎ ¬ P p → FirstOf P ps ⊎ ((q : List Step) → IsOneOf q ps → ¬ P q)
-        → FirstOf P (p ∷ ps) ⊎ ((q : List Step) → IsOneOf q (p ∷ ps) → ¬ P q)
-    by_head (inl h) r = inl (record {
-      before = [];
-      path = p;
-      after = ps;
-      whole = refl;
-      holds = h;
-      none = λ q i. absurd i;
-    })
-    by_head (inr n) (inl f) =
-        inl (record {
-          before = p ∷ f.before;
-          path = f.path;
-          after = f.after;
-          whole = ap (λ u. p ∷ u) f.whole;
-          holds = f.holds;
-          none = none_of n f.before f.none;
-        })
-    by_head (inr n) (inr k) = inr (none_of n ps k)
 
 -- A pointer of one of these forms is the first where the tour up to it has none before it.
 pub first_by_tour : (m : List (List ℕ)) (path : List Step) (level s w : ℕ) (what : Lax) (tour : List (List Step))
@@ -105,30 +96,10 @@ module _ (m : List (List ℕ)) (t : Tree) (c d : ℕ) (denotes : Denotes m 0 0 t
         | inr j ↦ f.none q j x
       ]
 
-      upto : (q : List Step) (level s w : ℕ) → Reaches m q level s w → (q ≡ f.path) ⊎ Before q f.path
-          → IsOneOf q (f.before ++ f.path ∷ [])
-      upto q level s w r k =
-          elim (front_or_back q f.path f.before f.after
-          (subst (IsOneOf q) f.whole ((pointer_path_reached m t c d denotes q).1 (level, s, w, r)))) [
-            | inl i ↦ i
-            | inr i ↦ absurd (late q (after_middle f.before f.path f.after q rises i) k)
-          ]
-        where
-          late : (q : List Step) → Before f.path q → (q ≡ f.path) ⊎ Before q f.path → ⊥
-          late q b (inl e) = Before-irreflexive f.path (subst (λ (u : List Step). Before f.path u) e b)
-          late q b (inr g) = Before-asymmetric f.path q b g
-
       is_tour : IsTour m f.path (f.before ++ f.path ∷ [])
-      is_tour = record {
-        rising = Rises-front f.before f.path f.after rises;
-        reached = λ q i. (pointer_path_reached m t c d denotes q).0
-            (subst (IsOneOf q) (sym f.whole) (front_is_one q f.path f.before f.after i));
-        all = λ q level s w r k. upto q level s w r k;
-        none_after = λ q i. elim (one_of_last q f.path f.before i) [
-          | inl e ↦ inl e
-          | inr j ↦ inr (before_middle f.before f.path f.after q rises j)
-        ];
-      }
+      is_tour = cut_tour m f.before f.path f.after rises
+          (λ q i. (pointer_path_reached m t c d denotes q).0 (subst (IsOneOf q) (sym f.whole) i))
+          (λ q level s w r b. subst (IsOneOf q) f.whole ((pointer_path_reached m t c d denotes q).1 (level, s, w, r)))
 
   -- There is a first pointer in preorder that common readers reject, or no path reaches one.
   pub first_lax_or_none : ((s w : ℕ) × (what : Lax) × (pointers : ℕ) × IsFirstLax m s w what pointers)

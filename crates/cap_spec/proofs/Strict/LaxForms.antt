@@ -2,13 +2,11 @@
 -- and whether it has one is decided.
 use Rattle.cap_spec.proofs.Frames.Messages.{HasWord-inside}
 use Rattle.cap_spec.proofs.Pointers.Following.{cap-not_wrong, null-not_wrong, object-not_wrong, one_lead}
-use Rattle.cap_spec.proofs.ProofNames.{List, [], ap, arith, inl, inr, length, pos, refl, subst, sym, ℕ, ◌∷◌, ◌≡◌, ◌≢◌, ◌≤◌}
-use Rattle.cap_spec.proofs.ProofNames.{◌⊎◌, eqb_tells, Finds, Lead, Leads, Wrong, near, one_pad, to_cap, to_null}
-use Rattle.cap_spec.proofs.ProofNames.{to_object, two_pads, HasWord, segment_of, extent, pad, IsLaxAt, Lax, CapabilityPad}
-use Rattle.cap_spec.proofs.ProofNames.{EmptySegment, NullPad, Reason}
+use Rattle.cap_spec.proofs.ProofNames.{List, [], arith, inl, inr, pos, refl, ℕ, ◌∷◌, ◌≡◌, ◌≢◌, ◌≤◌, ◌⊎◌, eqb_tells}
+use Rattle.cap_spec.proofs.ProofNames.{Finds, Lead, Leads, Wrong, to_cap, to_null, to_object, HasWord, segment_of}
+use Rattle.cap_spec.proofs.ProofNames.{extent, IsLaxAt, Lax, CapabilityPad, EmptySegment, NullPad, Reason, rules}
 use Rattle.cap_spec.proofs.Trees.Finding.{one_object}
 use Rattle.cap_spec.proofs.Trees.Outcomes.{Fate, fate}
-use Rattle.cap_spec.proofs.ProofNames.{rules}
 
 -- a segment with a word isn't empty
 word_not_empty : (m : List (List ℕ)) (t w x : ℕ) → HasWord m t w x → segment_of m t ≡ [] → ⊥
@@ -38,20 +36,12 @@ same_lead m s w k k' r r' h g = (one_lead m s w k k' r r' h g).1
 -- a pointer has one form
 pub one_lax : (m : List (List ℕ)) (s w : ℕ) (u v : Lax) → IsLaxAt m s w u → IsLaxAt m s w v → u ≡ v
 one_lax m s w NullPad NullPad h g = refl
-one_lax m s w NullPad EmptySegment h (k, t, b, q, f, e) = search (rules, same_lead)
-one_lax m s w NullPad CapabilityPad h (i, g) = search (rules, same_lead)
-one_lax m s w EmptySegment NullPad (k, t, b, q, f, e) g = search (rules, same_lead)
-one_lax m s w EmptySegment EmptySegment h g = refl
-one_lax m s w EmptySegment CapabilityPad (k, t, b, q, f, e) (i, g) = search (rules, same_lead)
-one_lax m s w CapabilityPad NullPad (i, h) g = search (rules, same_lead)
-one_lax m s w CapabilityPad EmptySegment (i, h) (k, t, b, q, f, e) = search (rules, same_lead)
-one_lax m s w CapabilityPad CapabilityPad h g = refl
+one_lax m s w u v h g = search (rules, same_lead)
 
 -- what is wrong has none of these forms
 wrong_not_lax : (m : List (List ℕ)) (s w : ℕ) (v : Reason) → Wrong m s w v → (what : Lax) → ¬ IsLaxAt m s w what
 wrong_not_lax m s w v wrong NullPad h = null-not_wrong m s w 1 h v wrong
-wrong_not_lax m s w v wrong EmptySegment (k, t, b, q, f, e) = object-not_wrong m s w k t b q f v wrong
-wrong_not_lax m s w v wrong CapabilityPad (i, h) = cap-not_wrong m s w 1 i h v wrong
+wrong_not_lax m s w v wrong what h = search (rules, object-not_wrong, cap-not_wrong)
 
 -- a pointer has one of these forms, or none
 abbrev pub LaxOrNot : List (List ℕ) → ℕ → ℕ → Type 0
@@ -60,31 +50,24 @@ LaxOrNot m s w = ((what : Lax) × IsLaxAt m s w what) ⊎ ((what : Lax) → ¬ I
 -- what leads to null
 null_decided : (m : List (List ℕ)) (s w k : ℕ) → Leads m s w k to_null → LaxOrNot m s w
 null_decided m s w k leads = elim (eqb_tells k 1) [
-  | inl (x, one) ↦ inl (NullPad, subst (λ u. Leads m s w u to_null) one leads)
+  | inl (x, one) ↦ inl (NullPad, rw one at leads)
   | inr (x, other) ↦ inr (none other)
 ]
   where
     none : k ≢ 1 → (what : Lax) → ¬ IsLaxAt m s w what
-    none other NullPad h = other (sym (one_lead m s w 1 k to_null to_null h leads).0)
-    none other EmptySegment (k', t, b, q, f, e) =
-        let x : to_object t (pos b) q ≡ to_null =
-        same_lead m s w k' k (to_object t (pos b) q) to_null f.leads leads in absurd cc
-    none other CapabilityPad (i, h) = let x : to_cap i ≡ to_null =
-        same_lead m s w 1 k (to_cap i) to_null h leads in absurd cc
+    none other NullPad h = search (rules, one_lead)
+    none other what h = search (rules, same_lead)
 
 -- what leads to a capability
 cap_decided : (m : List (List ℕ)) (s w k i : ℕ) → Leads m s w k (to_cap i) → LaxOrNot m s w
 cap_decided m s w k i leads = elim (eqb_tells k 1) [
-  | inl (x, one) ↦ inl (CapabilityPad, (i, subst (λ u. Leads m s w u (to_cap i)) one leads))
+  | inl (x, one) ↦ inl (CapabilityPad, (i, rw one at leads))
   | inr (x, other) ↦ inr (none other)
 ]
   where
     none : k ≢ 1 → (what : Lax) → ¬ IsLaxAt m s w what
-    none other NullPad h = let x : to_null ≡ to_cap i = same_lead m s w 1 k to_null (to_cap i) h leads in absurd cc
-    none other EmptySegment (k', t, b, q, f, e) =
-        let x : to_object t (pos b) q ≡ to_cap i =
-        same_lead m s w k' k (to_object t (pos b) q) (to_cap i) f.leads leads in absurd cc
-    none other CapabilityPad (j, h) = other (sym (one_lead m s w 1 k (to_cap j) (to_cap i) h leads).0)
+    none other CapabilityPad h = search (rules, one_lead)
+    none other what h = search (rules, same_lead)
 
 -- a list is empty, or isn't
 empty_decided : (xs : List ℕ) → (xs ≡ []) ⊎ (xs ≢ [])
@@ -99,14 +82,9 @@ object_decided m s w k t b q f = elim (empty_decided (segment_of m t)) [
 ]
   where
     none : segment_of m t ≢ [] → (what : Lax) → ¬ IsLaxAt m s w what
-    none some NullPad h = let x : to_null ≡ to_object t (pos b) q =
-        same_lead m s w 1 k to_null (to_object t (pos b) q) h f.leads in absurd cc
     none some EmptySegment (k', t', b', q', f', e) =
-        let o = one_object m s w k' t' b' q' k t b q f' f in
-        some (subst (λ u. segment_of m u ≡ []) o.segment e)
-    none some CapabilityPad (i, h) =
-        let x : to_cap i ≡ to_object t (pos b) q =
-        same_lead m s w 1 k (to_cap i) (to_object t (pos b) q) h f.leads in absurd cc
+        let o = one_object m s w k' t' b' q' k t b q f' f in some (rw o.segment at e)
+    none some what h = search (rules, same_lead)
 
 -- Whether a word of a message has one of these forms is decided.
 pub lax_decided : (m : List (List ℕ)) (s w p : ℕ) → HasWord m s w p → LaxOrNot m s w

@@ -1,8 +1,8 @@
 -- Which form a pointer that can be followed has, by its word and the words of its landing pad.
 use Rattle.cap_spec.proofs.Pointers.Following.{leads-one}
-use Rattle.cap_spec.proofs.ProofNames.{List, arith, inl, inr, refl, ℕ, ◌≡◌, ◌≢◌, IsOnePad, one_pad, to_cap}
-use Rattle.cap_spec.proofs.ProofNames.{to_null, HasWord, Costs, far_segment, kind, pad, IsLaxAt, Lax}
-use Rattle.cap_spec.proofs.ProofNames.{CapabilityPad, NullPad, common_steps, rules}
+use Rattle.cap_spec.proofs.ProofNames.{List, arith, inl, inr, refl, ℕ, ◌≡◌, ◌≢◌, IsOnePad, one_pad, to_cap, to_null}
+use Rattle.cap_spec.proofs.ProofNames.{HasWord, Costs, far_segment, kind, pad, IsLaxAt, Lax, CapabilityPad, NullPad}
+use Rattle.cap_spec.proofs.ProofNames.{common_steps, rules}
 
 -- a pointer that isn't far has none of the forms
 pub near_has_none : (m : List (List ℕ)) (s w p : ℕ) → HasWord m s w p → kind p ≢ 2 → (what : Lax) → ¬ IsLaxAt m s w what

@@ -1,24 +1,22 @@
 -- Where a tree is charged its cost alone, no pointer has a landing pad.
 use Rattle.cap_spec.specs.Denoting.{places}
 use Rattle.cap_spec.specs.Tree.{none}
-use Rattle.cap_spec.proofs.Canonical.TreeMeasures.{cost, costs, each_measured, element_costs, elements_measured}
-use Rattle.cap_spec.proofs.Canonical.TreeMeasures.{idle, measured, scalars_extra, structs_extra}
+use Rattle.cap_spec.proofs.Canonical.TreeMeasures.{cost, costs, each_measured, element_costs, elements_measured, idle}
+use Rattle.cap_spec.proofs.Canonical.TreeMeasures.{measured, scalars_extra, structs_extra}
 use Rattle.cap_spec.proofs.Paths.Arrivals.{found_form}
 use Rattle.cap_spec.proofs.Pointers.Following.{one_lead}
 use Rattle.cap_spec.proofs.Pointers.Shapes.{pointers_extra, pointers_shape, pointers_words, scalars_words, struct_extra}
 use Rattle.cap_spec.proofs.Pointers.Shapes.{struct_shape, struct_words, structs_shape, structs_words}
-use Rattle.cap_spec.proofs.ProofNames.{List, [], ap, arith, inl, inr, length, pos, refl, subst, suc, sym, zero, ℕ, ◌*◌}
-use Rattle.cap_spec.proofs.ProofNames.{◌+◌, ◌<◌, ◌∙◌, ◌∷◌, ◌≡◌, ◌≤◌, AreElements, DenoteEach, Denotes, FindsCharged}
-use Rattle.cap_spec.proofs.ProofNames.{FindsKind, words_from, Lead, Leads, extra, to_cap, to_null, to_object, segment_of}
-use Rattle.cap_spec.proofs.ProofNames.{PathLeads, Spot, StepsTo, element, word, code, extent, kind, list_size, list_words}
-use Rattle.cap_spec.proofs.ProofNames.{Tree, Trees, cap, more, null, pointers, scalars, struct, structs, tree_count}
-use Rattle.cap_spec.proofs.ProofNames.{Pointers, Struct, Structs, Step, Item, Ptr}
+use Rattle.cap_spec.proofs.ProofNames.{List, [], arith, inl, inr, length, pos, refl, subst, suc, sym, zero, ℕ, ◌*◌, ◌+◌}
+use Rattle.cap_spec.proofs.ProofNames.{◌<◌, ◌∷◌, ◌≡◌, ◌≤◌, AreElements, DenoteEach, Denotes, FindsCharged, FindsKind}
+use Rattle.cap_spec.proofs.ProofNames.{words_from, Lead, Leads, extra, to_object, segment_of, PathLeads, Spot, StepsTo}
+use Rattle.cap_spec.proofs.ProofNames.{element, word, extent, kind, list_size, Tree, Trees, more, pointers, struct}
+use Rattle.cap_spec.proofs.ProofNames.{structs, tree_count, Pointers, Struct, Structs, Step, Item, Ptr, rules}
 use Rattle.cap_spec.proofs.Trees.Charges.{each_charged, elements_fit, length-places}
 use Rattle.cap_spec.proofs.Trees.DenotedTrees.{elements_inside, range_length}
 use Rattle.cap_spec.proofs.Trees.Finding.{one_found}
-use Rattle.cap_spec.proofs.Trees.OneTree.{cons_parts, number_list, number_struct}
+use Rattle.cap_spec.proofs.Trees.OneTree.{each_more, number_list, number_struct}
 use Rattle.cap_spec.proofs.Trees.Readings.{length-values}
-use Rattle.cap_spec.proofs.ProofNames.{rules}
 
 -- what is at a spot is charged no more than its cost
 abbrev pub Tight : List (List ℕ) → Spot → Tree → Type 0
@@ -69,19 +67,17 @@ structs_tight {m} {s} {w} {ds} {ps} {k} {t} {b} {q} {tag} {n} {inner} {deep} {c}
 -- a word whose tree is charged no more than its cost leads there without pads
 pub own_padless : (m : List (List ℕ)) (s w : ℕ) (t : Tree) (c d k : ℕ) (r : Lead) → Denotes m s w t c d → c ≤ cost t
     → Leads m s w k r → k ≡ 0
-own_padless m s w null c d k r h le l = omega (arith, le, one_lead m s w c k to_null r h.0 l)
-own_padless m s w (cap i) c d k r h le l = omega (arith, le, one_lead m s w c k (to_cap i) r h.0 l)
 own_padless m s w (struct words ts) c d k r (k', t, b, q, tag, ds, ps, inner, deep, found, own, each) le l =
     let one = one_lead m s w k' k (to_object t (pos b) q) r found.object.finds.leads l in
     omega (arith, one, struct_tight words ts found own each le)
-own_padless m s w (scalars e vs) c d k r (k', t, b, q, tag, n, found, own) le l =
-    search (rules, length-values, scalars_words, scalars_extra, no_pads_scalars, one_lead)
 own_padless m s w (pointers ts) c d k r (k', t, b, q, tag, n, inner, deep, found, each) le l =
     let one = one_lead m s w k' k (to_object t (pos b) q) r found.object.finds.leads l in
     omega (arith, one, pointers_tight ts found each le)
 own_padless m s w (structs ds ps es) c d k r (k', t, b, q, tag, n, inner, deep, found, each) le l =
     let one = one_lead m s w k' k (to_object t (pos b) q) r found.object.finds.leads l in
     omega (arith, one, structs_tight es found each le)
+own_padless m s w x3 c d k r h le l =
+    search (rules, one_lead, length-values, scalars_words, scalars_extra, no_pads_scalars)
 
 -- a word of a row, where the row is charged no more than its cost
 each_tight : (m : List (List ℕ)) (t b n : ℕ) (ts : Trees) (c d i x : ℕ) → DenoteEach m (places t b n) ts c d
@@ -91,23 +87,14 @@ each_tight m t b zero none c d i x h le lt e = absurd (omega arith)
 each_tight m t b (suc n) none c d i x h le lt e = absurd (cc h.0)
 each_tight m t b zero (more u ts) c d i x h le lt e = absurd (omega arith)
 each_tight m t b (suc n) (more u ts) c d zero x h le lt e =
-    let (s, w, rest, c1, d1, c2, d2, begins, denotes, after, charge, depth) = h in
-    let p = cons_parts (t, b) (s, w) (places t (b + 1) n) rest begins in
+    let (c1, d1, c2, d2, own, after, charge, depth) = each_more m t b (places t (b + 1) n) u ts c d h in
     let f : x ≡ b = omega arith in
-    let a = each_measured m rest ts c2 d2 after in (
-      u,
-      (
-        c1,
-        d1,
-        rw f (subst (λ (y : ℕ × ℕ). Denotes m y.0 y.1 u c1 d1) (sym p.0) denotes),
-        omega (arith, charge, le, a.charged),
-      ),
-    )
+    let a = each_measured m (places t (b + 1) n) ts c2 d2 after in
+    (u, (c1, d1, rw f own, omega (arith, charge, le, a.charged)))
 each_tight m t b (suc n) (more u ts) c d (suc i) x h le lt e =
-    let (s, w, rest, c1, d1, c2, d2, begins, denotes, after, charge, depth) = h in
-    let p = cons_parts (t, b) (s, w) (places t (b + 1) n) rest begins in
-    let a = measured m s w u c1 d1 denotes in
-    each_tight m t (b + 1) n ts c2 d2 i x (rw p.1 after) (omega (arith, charge, le, a.charged))
+    let (c1, d1, c2, d2, own, after, charge, depth) = each_more m t b (places t (b + 1) n) u ts c d h in
+    let a = measured m t b u c1 d1 own in
+    each_tight m t (b + 1) n ts c2 d2 i x after (omega (arith, charge, le, a.charged))
     (omega arith) (omega arith)
 
 -- the elements after the first lie inside too
@@ -119,7 +106,6 @@ elements_tight : (m : List (List ℕ)) (t b ds ps n : ℕ) (es : Trees) (c d i x
     → b + n * ds + n * ps ≤ length (segment_of m t)
     → AreElements m t b ds ps n es c d → c ≤ element_costs es → i < n → x ≡ b + i * (ds + ps)
     → (u : Tree) × Tight m (element t x ds ps) u
-elements_tight m t b ds ps n none c d i x inside h le lt e = absurd (omega (arith, h.0))
 elements_tight m t b ds ps n (more (struct ws ts) es) c d zero x inside h le lt e =
     let (fewer, c1, d1, c2, d2, counted, own, each, after, charge, depth) = h in
     let f : x ≡ b = omega arith in
@@ -132,7 +118,7 @@ elements_tight m t b ds ps n (more (struct ws ts) es) c d (suc i) x inside h le 
     elements_tight m t (b + ds + ps) ds ps fewer es c2 d2 i x
     (elements_after b ds ps n fewer (length (segment_of m t)) inside counted) after
     (omega (arith, charge, le, own.charged)) (omega (arith, lt, counted)) (omega (arith, e))
-elements_tight m t b ds ps n (more y es) c d i x inside h le lt e = absurd h
+elements_tight m t b ds ps n x6 c d i x inside h le lt e = search rules
 
 -- a step from a word to a struct's pointer, to an entry of a list of pointers, and to an element
 to_pointer : (m : List (List ℕ)) (s w : ℕ) (x : Tree) (c d k t b q tag ds ps i : ℕ) → Denotes m s w x c d → c ≤ cost x
@@ -193,8 +179,7 @@ step_tight m (word s w) (Item i) b x h (inr (k, t, b', q, tag, n, ds, ps, finds,
 step_tight m (element t b ds ps) (Ptr i) y (struct ws ts) h g =
     let r = each_tight m t (b + ds) ps ts h.0 h.1 i (b + ds + i) h.2 h.3 g.0 refl in
     (r.0, subst (λ (z : Spot). Tight m z r.0) (sym g.1) r.1)
-step_tight m (element t b ds ps) (Ptr i) y x h g = absurd h
-step_tight m (element t b ds ps) (Item i) y x h g = absurd g
+step_tight m x1 x2 y x h g = search rules
 
 -- and so does a path
 pub walk_tight : (m : List (List ℕ)) (a : Spot) (path : List Step) (n : ℕ) (b : Spot) (x : Tree) → Tight m a x

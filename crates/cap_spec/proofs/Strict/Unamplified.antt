@@ -4,13 +4,12 @@ use Rattle.cap_spec.specs.Faults.{is_wrong}
 use Rattle.cap_spec.proofs.Canonical.Sizes.{layout_charged}
 use Rattle.cap_spec.proofs.Disjoint.Bounds.{charge_below_words}
 use Rattle.cap_spec.proofs.Frames.Endings.{length_joined}
-use Rattle.cap_spec.proofs.ProofNames.{List, [], ap, arith, inl, inr, length, length-append, sum, ℕ, ◌+◌, ◌-◌, ◌↔◌, ◌∷◌}
-use Rattle.cap_spec.proofs.ProofNames.{◌≡◌, ◌≤◌, ◌⊎◌, layout, trim, HasCopy, Denotes, IsFaultAt, IsFirstReason, IsRefused, is_deep}
+use Rattle.cap_spec.proofs.ProofNames.{List, [], arith, inl, inr, length, length-append, sum, ℕ, ◌+◌, ◌-◌, ◌↔◌, ◌∷◌}
+use Rattle.cap_spec.proofs.ProofNames.{◌≡◌, ◌≤◌, ◌⊎◌, HasCopy, Denotes, IsFaultAt, IsFirstReason, IsRefused, is_deep}
 use Rattle.cap_spec.proofs.ProofNames.{is_past, frame_text, joined, paired, sizes_of, IsDisjoint, empty_count, Tree}
-use Rattle.cap_spec.proofs.ProofNames.{unamplified, WordLimit, Refusal}
+use Rattle.cap_spec.proofs.ProofNames.{unamplified, WordLimit, Refusal, rules}
 use Rattle.cap_spec.proofs.Verdicts.KeptBefore.{kept_before}
 use Rattle.cap_spec.proofs.Verdicts.OneFault.{first_fault_kept}
-use Rattle.cap_spec.proofs.ProofNames.{rules}
 
 -- a charge is within the limit where it is within the words given, and within the words of the segments with the slack
 pub within_both : (m : List (List ℕ)) (words c : ℕ) → c ≤ unamplified m words

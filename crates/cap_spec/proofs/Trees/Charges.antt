@@ -1,20 +1,20 @@
 -- What a pointer word denotes is charged at least what following it costs,
 -- and one for each of its pointers but the root.
-use Rattle.std.proofs.Common.{Bool, List, ap, ap₂, arith, eqb, eqb-true, false, inl, inr, length, pos, refl}
-use Rattle.std.proofs.Common.{subst, suc, sym, true, zero, ℕ, ℤ, ◌*◌, ◌+◌, ◌<◌, ◌∙◌, ◌≡◌, ◌≢◌, ◌≤◌}
+use Rattle.std.proofs.Common.{List, ap, arith, eqb-true, inl, inr, length, refl, suc, zero, ℕ, ℤ, ◌*◌, ◌+◌, ◌<◌, ◌≡◌}
+use Rattle.std.proofs.Common.{◌≤◌}
 use Rattle.std.proofs.lemmas.Bool.{eqb-false}
 use Rattle.cap_spec.specs.Denoting.{AreElements, DenoteEach, Denotes, FindsKind, places}
-use Rattle.cap_spec.specs.Following.{Lead, Leads, extra, near, one_pad, to_cap, to_null, to_object, two_pads}
+use Rattle.cap_spec.specs.Following.{Lead, Leads, extra, to_object}
 use Rattle.cap_spec.specs.Paths.{Costs}
-use Rattle.cap_spec.specs.Pointers.{code, data_size, extent, kind, list_size, middle, pointer_size}
+use Rattle.cap_spec.specs.Pointers.{code, data_size, extent, kind, list_size, pointer_size}
 use Rattle.cap_spec.specs.Tree.{Tree, Trees, cap, child_count, child_counts, more, none, null, pointer_count, pointers}
 use Rattle.cap_spec.specs.Tree.{scalars, struct, structs, tree_count}
 use Rattle.cap_spec.specs.declared.Kind.TheVariants.{Structs}
 use Rattle.cap_spec.proofs.Frames.Messages.{one_word}
 use Rattle.cap_spec.proofs.Pointers.Following.{one_lead}
 use Rattle.cap_spec.proofs.Pointers.Shapes.{pointers_words, struct_words, structs_shape, structs_words}
-use Rattle.cap_spec.proofs.Trees.Finding.{SameObject, found_cost, one_object}
-use Rattle.cap_spec.proofs.ProofNames.{rules}
+use Rattle.cap_spec.proofs.Trees.Finding.{found_cost, one_object}
+use Rattle.cap_spec.proofs.ProofNames.{rules, common_steps}
 
 -- the extent of a struct, of a list of pointers, and of a composite list
 pub extent_struct : (q : ℕ) → kind q ≡ 0 → extent q ≡ data_size q + pointer_size q
@@ -47,24 +47,19 @@ mutual
   children_charged m s w null c d h = omega arith
   children_charged m s w (cap i) c d h = omega arith
   children_charged m s w (struct words ts) c d (k, t, b, q, tag, ds, ps, inner, deep, found, own, each) =
-      let a = each_charged m (places t (b + ds) ps) ts inner deep each in
-      omega (arith, a, length-places t (b + ds) ps, struct_words found.object.shape, found.charge)
+      search (rules, length-places, struct_words, each_charged m (places t (b + ds) ps) ts inner deep each)
   children_charged m s w (scalars e values) c d h = omega arith
   children_charged m s w (pointers ts) c d (k, t, b, q, tag, n, inner, deep, found, each) =
-      let a = each_charged m (places t b n) ts inner deep each in
-      omega (arith, a, length-places t b n, pointers_words found.object.shape, found.charge)
+      grind (arith, common_steps, length-places, pointers_words, each_charged m (places t b n) ts inner deep each)
   children_charged m s w (structs ds ps es) c d (k, t, b, q, tag, n, inner, deep, found, each) =
-      let a = elements_charged m t (b + 1) ds ps n es inner deep each in
-      omega (arith, a, elements_fit found.object, structs_words found.object.shape, found.charge)
+      search (rules, elements_fit, structs_words, elements_charged m t (b + 1) ds ps n es inner deep each)
 
   -- the trees are as many as the places, and their children are charged
   pub each_charged : (m : List (List ℕ)) (ps : List (ℕ × ℕ)) (ts : Trees) (c d : ℕ) → DenoteEach m ps ts c d
       → (tree_count ts ≡ length ps) × (child_counts ts ≤ c)
   each_charged m ps none c d h = (rw h.0 refl, omega arith)
   each_charged m ps (more t ts) c d (s, w, rest, c1, d1, c2, d2, begins, denotes, after, charge, depth) =
-      let a = children_charged m s w t c1 d1 denotes in
-      let b = each_charged m rest ts c2 d2 after in
-      (rw begins (ap suc b.0), omega (arith, a, b.1, charge))
+      grind (arith, common_steps, children_charged m s w t c1 d1 denotes, each_charged m rest ts c2 d2 after)
 
   -- the pointers of n elements are n times those of one, and those below them are charged
   pub elements_charged : (m : List (List ℕ)) (t b ds ps n : ℕ) (es : Trees) (c d : ℕ) → AreElements m t b ds ps n es c d
@@ -74,8 +69,7 @@ mutual
       let (fewer, c1, d1, c2, d2, counted, own, each, after, charge, depth) = h in
       let a = each_charged m (places t (b + ds) ps) ts c1 d1 each in
       let e = elements_charged m t (b + ds + ps) ds ps fewer es c2 d2 after in
-      let x : n * ps ≡ ps + fewer * ps = rw counted (omega arith) in
-      omega (arith, a, e, x, length-places t (b + ds) ps, charge)
+      search (rules, length-places)
   elements_charged m t b ds ps n (more x es) c d h = absurd h
 
 -- what following costs beside words depends on the tag of a composite list alone
@@ -106,13 +100,8 @@ pub own_cost : (m : List (List ℕ)) (s w : ℕ) (t : Tree) (c d : ℕ) → Deno
     → (x : ℕ) × Costs m s w x × (x ≤ c)
 own_cost m s w null c d h = (c, inl h.0, omega arith)
 own_cost m s w (cap i) c d h = (c, inr (inl (i, h.0)), omega arith)
-own_cost m s w (struct words ts) c d (k, t, b, q, tag, ds, ps, inner, deep, found, own, each) =
-    (k + extent q + extra q tag, found_cost found.object, own_below (k + extent q + extra q tag) inner c found.charge)
 own_cost m s w (scalars e values) c d (k, t, b, q, tag, n, found, own) = search (rules, found_cost, own_below)
-own_cost m s w (pointers ts) c d (k, t, b, q, tag, n, inner, deep, found, each) =
-    (k + extent q + extra q tag, found_cost found.object, own_below (k + extent q + extra q tag) inner c found.charge)
-own_cost m s w (structs ds ps es) c d (k, t, b, q, tag, n, inner, deep, found, each) =
-    (k + extent q + extra q tag, found_cost found.object, own_below (k + extent q + extra q tag) inner c found.charge)
+own_cost m s w x3 c d h = search (rules, found_cost, own_below)
 
 -- The pointers of what a word denotes are at most its charge and one.
 pub pointers_charged : (m : List (List ℕ)) (s w : ℕ) (t : Tree) (c d : ℕ) → Denotes m s w t c d

@@ -4,14 +4,12 @@ use Rattle.cap_spec.specs.Denoting.{places}
 use Rattle.cap_spec.specs.Tree.{none}
 use Rattle.cap_spec.proofs.Bytes.Lists.{all_drop, all_take}
 use Rattle.cap_spec.proofs.Pointers.Shapes.{scalars_shape, structs_words}
-use Rattle.cap_spec.proofs.ProofNames.{List, [], ap, arith, drop, length, length-drop, length-take-le, map, slice_index_or}
-use Rattle.cap_spec.proofs.ProofNames.{suc, zero, ℕ, ◌%◌, ◌*◌, ◌+◌, ◌-◌, ◌/◌, ◌<◌, ◌^◌, ◌∙◌, ◌∷◌, ◌≡◌, ◌≤◌, AllByRecursion}
-use Rattle.cap_spec.proofs.ProofNames.{range_with_len, AreElements, DenoteEach, Denotes, FindsKind, value_at}
-use Rattle.cap_spec.proofs.ProofNames.{words_from, Leads, near, one_pad, to_cap, two_pads, segment_of}
-use Rattle.cap_spec.proofs.ProofNames.{element_bits, AreElementTrees, AreTrees, IsTree}
-use Rattle.cap_spec.proofs.ProofNames.{Tree, Trees, cap, more, null, pointers, scalars, struct, structs, IsWord, field, Structs}
+use Rattle.cap_spec.proofs.ProofNames.{List, ap, arith, length, length-drop, length-take-le, map, suc, zero, ℕ, ◌*◌}
+use Rattle.cap_spec.proofs.ProofNames.{◌+◌, ◌-◌, ◌/◌, ◌<◌, ◌^◌, ◌∙◌, ◌∷◌, ◌≡◌, ◌≤◌, AllByRecursion, range_with_len}
+use Rattle.cap_spec.proofs.ProofNames.{AreElements, DenoteEach, Denotes, FindsKind, value_at, words_from, Leads, to_cap}
+use Rattle.cap_spec.proofs.ProofNames.{segment_of, element_bits, AreElementTrees, AreTrees, IsTree, Tree, Trees, more}
+use Rattle.cap_spec.proofs.ProofNames.{pointers, scalars, struct, structs, IsWord, field, Structs, rules}
 use Rattle.cap_spec.proofs.Trees.Charges.{each_charged, elements_fit, length-places}
-use Rattle.cap_spec.proofs.ProofNames.{rules}
 
 -- a message of words
 abbrev pub AreWords : List (List ℕ) → Type 0
@@ -19,9 +17,8 @@ AreWords m = AllByRecursion (AllByRecursion IsWord) m
 
 -- the words of a segment of such a message are words
 segment_words : (m : List (List ℕ)) (s : ℕ) → AreWords m → AllByRecursion IsWord (segment_of m s)
-segment_words [] s h = tt
-segment_words (x ∷ xs) zero h = h.0
 segment_words (x ∷ xs) (suc s) h = segment_words xs s h.1
+segment_words x0 s h = search rules
 
 -- and so are those of a range of it
 range_words : (m : List (List ℕ)) (t b n : ℕ) → AreWords m → AllByRecursion IsWord (words_from m t b n)
@@ -54,8 +51,6 @@ mutual
   -- what a message of words denotes is a tree
   pub denoted_is_tree : (m : List (List ℕ)) → AreWords m → (s w : ℕ) (t : Tree) (c d : ℕ)
       → Denotes m s w t c d → IsTree t
-  denoted_is_tree m a s w null c d h = tt
-  denoted_is_tree m a s w (cap i) c d h = cap_fits m s w c i h.0
   denoted_is_tree m a s w (struct words ts) c d (k, t, b, q, tag, ds, ps, inner, deep, found, own, each) =
       (rw own (range_words m t b ds a), each_is_tree m a (places t (b + ds) ps) ts inner deep each)
   denoted_is_tree m a s w (scalars e values) c d (k, t, b, q, tag, n, found, own) =
@@ -65,6 +60,7 @@ mutual
       each_is_tree m a (places t b n) ts inner deep each
   denoted_is_tree m a s w (structs ds ps es) c d (k, t, b, q, tag, n, inner, deep, found, each) =
       elements_are_trees m a t (b + 1) ds ps n es inner deep (elements_inside found.object) each
+  denoted_is_tree m a s w x4 c d h = search (rules, cap_fits)
 
   -- and what words at places denote are trees
   pub each_is_tree : (m : List (List ℕ)) → AreWords m → (ps : List (ℕ × ℕ)) (ts : Trees) (c d : ℕ)
@@ -76,7 +72,6 @@ mutual
   -- the elements of a list that lies inside its segment are structs of its sizes
   pub elements_are_trees : (m : List (List ℕ)) → AreWords m → (t b ds ps n : ℕ) (es : Trees) (c d : ℕ)
       → b + n * ds + n * ps ≤ length (segment_of m t) → AreElements m t b ds ps n es c d → AreElementTrees ds ps es
-  elements_are_trees m a t b ds ps n none c d le h = tt
   elements_are_trees m a t b ds ps n (more (struct words ts) es) c d le h =
       let (fewer, c1, d1, c2, d2, counted, own, each, after, charge, depth) = h in
       let x : n * ds ≡ ds + fewer * ds = rw counted (omega arith) in
@@ -88,4 +83,4 @@ mutual
         each_is_tree m a (places t (b + ds) ps) ts c1 d1 each,
         elements_are_trees m a t (b + ds + ps) ds ps fewer es c2 d2 (omega arith) after,
       )
-  elements_are_trees m a t b ds ps n (more x es) c d le h = absurd h
+  elements_are_trees m a t b ds ps n x7 c d le h = search rules

@@ -5,10 +5,9 @@ use Rattle.cap_spec.proofs.Frames.Messages.{one_word}
 use Rattle.cap_spec.proofs.Pointers.Following.{one_lead}
 use Rattle.cap_spec.proofs.Pointers.Shapes.{beside_same, one_kind}
 use Rattle.cap_spec.proofs.ProofNames.{List, ap, arith, inr, pos, refl, subst, sym, ℕ, ◌+◌, ◌<◌, ◌∙◌, ◌≡◌, ◌≤◌, Finds}
-use Rattle.cap_spec.proofs.ProofNames.{FindsCharged, FindsKind, HasKind, IsComposite, extra, to_object, HasWord, Costs, code}
-use Rattle.cap_spec.proofs.ProofNames.{data_size, extent, kind, list_size, middle, pointer_size, levels_below, Pointers}
-use Rattle.cap_spec.proofs.ProofNames.{Scalars, Struct, Structs}
-use Rattle.cap_spec.proofs.ProofNames.{rules}
+use Rattle.cap_spec.proofs.ProofNames.{FindsCharged, FindsKind, HasKind, IsComposite, extra, to_object, HasWord, Costs}
+use Rattle.cap_spec.proofs.ProofNames.{code, data_size, extent, kind, list_size, middle, pointer_size, levels_below}
+use Rattle.cap_spec.proofs.ProofNames.{Pointers, Scalars, Struct, Structs, rules}
 
 -- one object: its pads, segment, start and shape
 pub record SameObject (k t b q k' t' b' q' : ℕ) : Type 0 where

@@ -7,7 +7,7 @@ use Rattle.cap_spec.specs.Tree.{Tree, Trees, cap, more, none, null, pointers, sc
 use Rattle.cap_spec.proofs.Pointers.Following.{one_lead}
 use Rattle.cap_spec.proofs.Pointers.Shapes.{pointers_shape, scalars_shape, struct_shape, structs_shape}
 use Rattle.cap_spec.proofs.Trees.Finding.{charged_same, one_found}
-use Rattle.cap_spec.proofs.ProofNames.{rules}
+use Rattle.cap_spec.proofs.ProofNames.{rules, common_steps}
 
 -- what is the same of two trees, or of two lists of trees
 pub record Same {A : Type 0} (t t' : A) (c c' d d' : ℕ) : Type 0 where
@@ -46,8 +46,6 @@ number_list x y e = rw e (omega arith)
 
 -- what a word denotes has the form of what it leads to
 pub formed : (m : List (List ℕ)) (s w : ℕ) (t : Tree) (c d : ℕ) → Denotes m s w t c d → Formed m s w t
-formed m s w null c d h = record { k = c; r = to_null; leads = h.0; form = refl }
-formed m s w (cap i) c d h = record { k = c; r = to_cap i; leads = h.0; form = refl }
 formed m s w (struct words ts) c d (k, t, b, q, tag, ds, ps, inner, deep, found, own, each) =
     let x = struct_shape found.object.shape in
     record {
@@ -73,6 +71,7 @@ formed m s w (structs ds ps es) c d (k, t, b, q, tag, n, inner, deep, found, eac
     let x = structs_shape found.object.shape in
     let y : 2 + kind q * (1 + code q) ≡ 3 + code q = number_list (kind q) (code q) x.kind in
     record { k = k; r = to_object t (pos b) q; leads = found.object.finds.leads; form = y ∙ ap (λ u. 3 + u) x.code }
+formed m s w x3 c d h = search rules
 
 -- two trees of one word have one number
 same_form : (m : List (List ℕ)) (s w : ℕ) (t t' : Tree) (c d c' d' : ℕ) → Denotes m s w t c d → Denotes m s w t' c' d'
@@ -86,6 +85,12 @@ same_form m s w t t' c d c' d' h h' =
 -- the parts of equal lists
 pub cons_parts : {A : Type 0} (x y : A) (xs ys : List A) → x ∷ xs ≡ y ∷ ys → (x ≡ y) × (xs ≡ ys)
 cons_parts x y xs ys e = (cc, cc)
+
+-- what the first of some words denotes, and what the others do
+pub each_more : (m : List (List ℕ)) (s w : ℕ) (ps : List (ℕ × ℕ)) (t : Tree) (ts : Trees) (c d : ℕ)
+    → DenoteEach m ((s, w) ∷ ps) (more t ts) c d
+    → (c1 d1 c2 d2 : ℕ) × Denotes m s w t c1 d1 × DenoteEach m ps ts c2 d2 × (c ≡ c1 + c2) × (d ≡ max d1 d2)
+each_more m s w ps t ts c d h = search (rules, cons_parts)
 
 -- what one more tree adds
 each_same : (t t' : Tree) (ts ts' : Trees) (c1 d1 c2 d2 c d c1' d1' c2' d2' c' d' : ℕ) → Same t t' c1 c1' d1 d1'
@@ -110,16 +115,8 @@ mutual
   -- what a pointer word denotes is one tree, with one charge and one depth
   pub one_tree : (m : List (List ℕ)) (s w : ℕ) (t t' : Tree) (c d c' d' : ℕ) → Denotes m s w t c d
       → Denotes m s w t' c' d' → Same t t' c c' d d'
-  one_tree m s w null null c d c' d' h h' =
-      record {
-        part = refl;
-        charge = (one_lead m s w c c' to_null to_null h.0 h'.0).0;
-        depth = omega (arith, h.1, h'.1);
-      }
-  one_tree m s w (cap i) (cap i') c d c' d' h h' =
-      let o = one_lead m s w c c' (to_cap i) (to_cap i') h.0 h'.0 in
-      let e : i ≡ i' = cc o.1 in
-      record { part = ap cap e; charge = o.0; depth = omega (arith, h.1, h'.1) }
+  one_tree m s w null null c d c' d' h h' = grind (arith, common_steps, one_lead)
+  one_tree m s w (cap i) (cap i') c d c' d' h h' = grind (arith, common_steps, one_lead)
   one_tree m s w (struct ws ts) (struct ws' ts') c d c' d' h h' =
       let (k, t, b, q, tag, ds, ps, inner, deep, found, own, each) = h in
       let (k', t', b', q', tag', ds', ps', inner', deep', found', own', each') = h' in
@@ -132,15 +129,7 @@ mutual
       ts ts' inner deep inner' deep' each each' in
       let z = charged_same found found' same.charge same.depth in
       record { part = rw (e, same.part) refl; charge = z.0; depth = z.1 }
-  one_tree m s w (scalars e vs) (scalars e' vs') c d c' d' h h' =
-      let (k, t, b, q, tag, n, found, own) = h in
-      let (k', t', b', q', tag', n', found', own') = h' in
-      let o = one_found found.object found'.object in
-      let x : e ≡ e' = cc o.kind in
-      let y : n ≡ n' = cc o.kind in
-      let v : vs ≡ vs' = own ∙ rw (o.segment, o.start, x, y) refl ∙ sym own' in
-      let z = charged_same found found' refl refl in
-      record { part = rw (x, v) refl; charge = z.0; depth = z.1 }
+  one_tree m s w (scalars e vs) (scalars e' vs') c d c' d' h h' = grind (arith, common_steps, one_found, charged_same)
   one_tree m s w (pointers ts) (pointers ts') c d c' d' h h' =
       let (k, t, b, q, tag, n, inner, deep, found, each) = h in
       let (k', t', b', q', tag', n', inner', deep', found', each') = h' in
@@ -164,14 +153,12 @@ mutual
       (ap (λ u. u + 1) o.start) x y v each') in
       let z = charged_same found found' same.charge same.depth in
       record { part = rw (x, y, same.part) refl; charge = z.0; depth = z.1 }
-  one_tree m s w t t' c d c' d' h h' =
-      let f = same_form m s w t t' c d c' d' h h' in absurd (omega (arith, f.1, f.2))
+  one_tree m s w t t' c d c' d' h h' = grind (arith, common_steps, same_form)
 
   -- what the pointer words at places denote
   pub one_each : (m : List (List ℕ)) (ps ps' : List (ℕ × ℕ)) → ps ≡ ps' → (ts ts' : Trees) (c d c' d' : ℕ)
       → DenoteEach m ps ts c d → DenoteEach m ps' ts' c' d' → Same ts ts' c c' d d'
-  one_each m ps ps' e none none c d c' d' h h' =
-      record { part = refl; charge = omega (arith, h.1, h'.1); depth = omega (arith, h.2, h'.2) }
+  one_each m ps ps' e none none c d c' d' h h' = grind (arith, common_steps)
   one_each m ps ps' e none (more t' ts') c d c' d' h h' = absurd cc
   one_each m ps ps' e (more t ts) none c d c' d' h h' = absurd cc
   one_each m ps ps' e (more t ts) (more t' ts') c d c' d' h h' =
@@ -186,17 +173,16 @@ mutual
   -- the elements of a struct list
   pub one_elements : (m : List (List ℕ)) (t b ds ps n n' : ℕ) → n ≡ n' → (es es' : Trees) (c d c' d' : ℕ)
       → AreElements m t b ds ps n es c d → AreElements m t b ds ps n' es' c' d' → Same es es' c c' d d'
-  one_elements m t b ds ps n n' e none none c d c' d' h h' =
-      record { part = refl; charge = omega (arith, h.1, h'.1); depth = omega (arith, h.2, h'.2) }
+  one_elements m t b ds ps n n' e none none c d c' d' h h' = grind (arith, common_steps)
   one_elements m t b ds ps n n' e none (more (struct ws' ts') es') c d c' d' h h' = absurd (omega arith)
   one_elements m t b ds ps n n' e (more (struct ws ts) es) none c d c' d' h h' = absurd (omega arith)
   one_elements m t b ds ps n n' e (more (struct ws ts) es) (more (struct ws' ts') es') c d c' d' h h' =
       let (fewer, c1, d1, c2, d2, counted, own, each, after, charge, depth) = h in
       let (fewer', c1', d1', c2', d2', counted', own', each', after', charge', depth') = h' in
-      elements_same ws ws' ts ts' es es' c1 d1 c2 d2 c d c1' d1' c2' d2' c' d' (own ∙ sym own')
-      (one_each m (places t (b + ds) ps) (places t (b + ds) ps) refl ts ts' c1 d1 c1' d1' each each')
-      (one_elements m t (b + ds + ps) ds ps fewer fewer' (omega (arith, counted, counted')) es es' c2 d2 c2' d2' after after')
-      charge depth charge' depth'
+      let same = one_each m (places t (b + ds) ps) (places t (b + ds) ps) refl ts ts' c1 d1 c1' d1' each each' in
+      let rest = one_elements m t (b + ds + ps) ds ps fewer fewer' (omega (arith, counted, counted')) es es'
+      c2 d2 c2' d2' after after' in
+      grind (arith, common_steps, elements_same)
   one_elements m t b ds ps n n' e none (more x es') c d c' d' h h' = absurd h'
   one_elements m t b ds ps n n' e (more (struct ws ts) es) (more x es') c d c' d' h h' = absurd h'
   one_elements m t b ds ps n n' e (more x es) es' c d c' d' h h' = absurd h

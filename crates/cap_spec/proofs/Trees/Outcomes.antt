@@ -1,16 +1,17 @@
 -- Every word of a message has a fate: a reason is wrong there, or it leads to null,
 -- to a capability or to an object inside its segment.
+use Rattle.cap_spec.specs.Following.{IsInside}
 use Rattle.cap_spec.proofs.Frames.Messages.{HasWord-at, HasWord-segment}
 use Rattle.cap_spec.proofs.Pointers.Following.{HasSegment, wrong-composite_tag, wrong-content_missing, wrong-missing}
 use Rattle.cap_spec.proofs.Pointers.Following.{wrong-out, wrong-outside, wrong-overrun, wrong-pad_far, wrong-pad_near}
 use Rattle.cap_spec.proofs.Pointers.Following.{wrong-pad_reserved, wrong-reserved, wrong-tag_kind, wrong-tag_offset}
 use Rattle.cap_spec.proofs.ProofNames.{List, arith, inl, inr, length, negsuc, pos, refl, ℕ, ℤ, ◌*◌, ◌+ℤ◌, ◌+◌, ◌<◌, ◌≡◌}
 use Rattle.cap_spec.proofs.ProofNames.{◌≢◌, ◌≤◌, ◌⊎◌, cases_lt, eqb_tells, ints, Finds, IsComposite, IsOnePad, IsTwoPad}
-use Rattle.cap_spec.proofs.ProofNames.{Lead, Leads, Says, Wrong, near, one_pad, to_cap, to_null, to_object, two_pads}
-use Rattle.cap_spec.proofs.ProofNames.{HasWord, segment_of, IsFar, IsReserved, cap_index, code, data_size, extent}
-use Rattle.cap_spec.proofs.ProofNames.{far_segment, kind, list_size, middle, pad, pointer_size, two, signed_offset_of}
-use Rattle.cap_spec.proofs.ProofNames.{Reason, CompositeOverrun, CompositeTag, OutOfSegment, PadIsFar}
-use Rattle.cap_spec.proofs.ProofNames.{PadOutside, Reserved, SegmentMissing, TagKind, TagOffset, common_steps}
+use Rattle.cap_spec.proofs.ProofNames.{TagFits, Lead, Leads, Says, Wrong, near, one_pad, to_cap, to_null, to_object}
+use Rattle.cap_spec.proofs.ProofNames.{two_pads, HasWord, segment_of, IsFar, IsReserved, cap_index, code, data_size}
+use Rattle.cap_spec.proofs.ProofNames.{extent, far_segment, kind, list_size, middle, pad, pointer_size, two}
+use Rattle.cap_spec.proofs.ProofNames.{signed_offset_of, Reason, OutOfSegment, PadIsFar, PadOutside, Reserved}
+use Rattle.cap_spec.proofs.ProofNames.{SegmentMissing, TagKind, TagOffset, common_steps}
 use Rattle.cap_spec.proofs.Trees.Charges.{extent_structs}
 
 -- Every word of a message has a fate: a reason is wrong there, or it leads to null,
@@ -19,6 +20,14 @@ abbrev pub Fate : List (List ℕ) → ℕ → ℕ → Type 0
 Fate m s w = ((v : Reason) × Wrong m s w v)
     ⊎ (((k : ℕ) × Leads m s w k to_null) ⊎ (((k i : ℕ) × Leads m s w k (to_cap i))
     ⊎ ((k t b q : ℕ) × Finds m s w k t b q)))
+
+-- an object inside its segment
+found-fate : (m : List (List ℕ)) (s w k t b q : ℕ) → Leads m s w k (to_object t (pos b) q) → t < length m
+    → b + extent q ≤ length (segment_of m t)
+    → (IsComposite q → (tag : ℕ) × HasWord m t b tag × TagFits tag (list_size q)) → Fate m s w
+found-fate m s w k t b q leads there inside fits =
+    let i : IsInside m t b q = record { exists = there; inside = inside; composite = fits } in
+    inr (inr (inr (k, t, b, q, record { leads = leads; inside = i })))
 
 -- a lead to an object, whose segment exists
 object-fate : (m : List (List ℕ)) (s w k t : ℕ) (b : ℤ) (q : ℕ) → Leads m s w k (to_object t b q)
@@ -29,75 +38,24 @@ object-fate m s w k t (pos b) q leads there =
     elim (cases_lt (length (segment_of m t)) (b + extent q)) [
       | inl past ↦ inl (OutOfSegment, wrong-out m s w k t (pos b) q leads (there, inr (omega (arith, ints))))
       | inr inside ↦ elim (eqb_tells (kind q) 1) [
-        | inr (x, other) ↦ inr (inr (inr (
-          k,
-          t,
-          b,
-          q,
-          record {
-            leads = leads;
-            inside = record {
-              exists = there;
-              inside = inside;
-              composite = λ c. absurd (other c.0);
-            };
-          },
-        )))
+        | inr (x, other) ↦ found-fate m s w k t b q leads there inside (λ c. absurd (other c.0))
         | inl (x, list) ↦ elim (eqb_tells (code q) 7) [
-          | inr (y, other) ↦ inr (inr (inr (
-            k,
-            t,
-            b,
-            q,
-            record {
-              leads = leads;
-              inside = record {
-                exists = there;
-                inside = inside;
-                composite = λ c. absurd (other c.1);
-              };
-            },
-          )))
-          | inl (y, seven) ↦ composite-fate inside (list, seven)
+          | inr (y, other) ↦ found-fate m s w k t b q leads there inside (λ c. absurd (other c.1))
+          | inl (y, seven) ↦ tagged inside (list, seven)
+              (HasWord-at m t b (omega (arith, extent_structs q list seven)))
         ]
       ]
     ]
   where
-    tagged : (b + extent q ≤ length (segment_of m t)) → IsComposite q → (tag : ℕ) → HasWord m t b tag → Fate m s w
-    tagged inside composite tag has =
+    tagged : (b + extent q ≤ length (segment_of m t)) → IsComposite q → (tag : ℕ) × HasWord m t b tag → Fate m s w
+    tagged inside list (tag, has) =
         elim (eqb_tells (kind tag) 0) [
-          | inr (x, other) ↦ inl (
-            CompositeTag,
-            wrong-composite_tag m s w k t b q tag leads there inside
-                composite has other,
-          )
+          | inr (x, other) ↦ inl (_, wrong-composite_tag m s w k t b q tag leads there inside list has other)
           | inl (x, struct) ↦ elim (cases_lt (list_size q) (middle tag * (data_size tag + pointer_size tag))) [
-            | inl past ↦ inl (
-              CompositeOverrun,
-              wrong-overrun m s w k t b q tag leads there inside
-                  composite has struct past,
-            )
-            | inr fits ↦ inr (inr (inr (
-              k,
-              t,
-              b,
-              q,
-              record {
-                leads = leads;
-                inside = record {
-                  exists = there;
-                  inside = inside;
-                  composite = λ c. (tag, has, (struct, fits));
-                };
-              },
-            )))
+            | inl past ↦ inl (_, wrong-overrun m s w k t b q tag leads there inside list has struct past)
+            | inr fits ↦ found-fate m s w k t b q leads there inside (λ c. (tag, has, (struct, fits)))
           ]
         ]
-
-    composite-fate : (b + extent q ≤ length (segment_of m t)) → IsComposite q → Fate m s w
-    composite-fate inside composite =
-        let has = HasWord-at m t b (omega (arith, extent_structs q composite.0 composite.1)) in
-        tagged inside composite has.0 has.1
 
 -- what a word that isn't far says
 said : (t w q : ℕ) → kind q ≢ 2 → IsReserved q

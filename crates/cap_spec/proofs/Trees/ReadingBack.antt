@@ -2,9 +2,9 @@
 use Rattle.std.proofs.lemmas.Nat.{shr_high}
 use Rattle.cap_spec.specs.Scalars.{value_words}
 use Rattle.cap_spec.proofs.Bytes.Lists.{all_drop, all_take}
-use Rattle.cap_spec.proofs.ProofNames.{List, [], ap, ap₂, arith, drop, get_or, get_or-drop, get_or-take, length}
-use Rattle.cap_spec.proofs.ProofNames.{length-drop, length-take, map, mul_comm, refl, shr-shr, suc, sym, take, zero, ℕ}
-use Rattle.cap_spec.proofs.ProofNames.{◌%◌, ◌*◌, ◌+◌, ◌/◌, ◌<◌, ◌^◌, ◌∙◌, ◌∷◌, ◌≡◌, get_or_default, same_lists}
+use Rattle.cap_spec.proofs.ProofNames.{List, ap, ap₂, arith, drop, get_or, get_or-drop, get_or-take, length}
+use Rattle.cap_spec.proofs.ProofNames.{length-drop, length-take, map, mul_comm, shr-shr, suc, sym, take, zero, ℕ, ◌%◌}
+use Rattle.cap_spec.proofs.ProofNames.{◌*◌, ◌+◌, ◌/◌, ◌<◌, ◌^◌, ◌∙◌, ◌∷◌, ◌≡◌, get_or_default, same_lists}
 use Rattle.cap_spec.proofs.ProofNames.{get_or-map-range_with_len, length-map-range_with_len, AllByRecursion}
 use Rattle.cap_spec.proofs.ProofNames.{range_with_len, value_at, element_bits, list_words, packed_word, scalar_words}
 use Rattle.cap_spec.proofs.ProofNames.{field, common_steps, rules}
@@ -25,12 +25,11 @@ high_values bits v r low h =
 -- value j of a word of values
 pub packed_field : (bits : ℕ) (vs : List ℕ) (j : ℕ) → AllByRecursion (λ v. v < 2 ^ bits) vs → j < length vs
     → field (packed_word bits vs) (j * bits) bits ≡ get_or vs j 0
-packed_field bits [] j a h = absurd (omega (arith, h))
-packed_field bits (v ∷ vs) zero a h = search (rules, low_value)
 packed_field bits (v ∷ vs) (suc j) a h =
     let e : suc j * bits ≡ bits + j * bits = omega arith in
     ap (λ x. field (v + 2 ^ bits * packed_word bits vs) x bits) e
     ∙ (high_values bits v (packed_word bits vs) (j * bits) a.0 ∙ packed_field bits vs j a.1 (omega (arith, h)))
+packed_field bits x1 j a h = search (rules, low_value)
 
 -- value i of a list, by its word and its place there
 pub listed_field : (bits per : ℕ) (vs : List ℕ) (i k j : ℕ) → AllByRecursion (λ v. v < 2 ^ bits) vs → j < per
@@ -70,26 +69,13 @@ values_read words b bits per count vs a lie placed =
 
 -- values without bits are zeros
 no_bits : (vs : List ℕ) (i : ℕ) → AllByRecursion (λ v. v < 2 ^ 0) vs → get_or vs i 0 ≡ 0
-no_bits [] i a = refl
-no_bits (v ∷ vs) zero a = let h : v < 1 = a.0 in omega arith
 no_bits (v ∷ vs) (suc i) a = no_bits vs i a.1
+no_bits x0 i a = search rules
 
 voids_read : (words : List ℕ) (b : ℕ) (vs : List ℕ) → AllByRecursion (λ v. v < 2 ^ 0) vs
     → map (value_at words b 0) (range_with_len 0 (length vs)) ≡ vs
 voids_read words b vs a =
-    same_lists (map (value_at words b 0) (range_with_len 0 (length vs))) vs
-    (length-map-range_with_len (value_at words b 0) 0 (length vs))
-    (λ i d lt. each i d (rw (length-map-range_with_len (value_at words b 0) 0 (length vs)) at lt))
-  where
-    nothing : (x : ℕ) → x % 1 ≡ 0
-    nothing x = omega arith
-
-    each : (i d : ℕ) → i < length vs → get_or (map (value_at words b 0) (range_with_len 0 (length vs)))
-        i d ≡ get_or vs i d
-    each i d h =
-        get_or-map-range_with_len (value_at words b 0) 0 (length vs) i i d h (omega arith)
-        ∙ (nothing (get_or words (b + (i * 0) / 64) 0 / 2 ^ ((i * 0) % 64))
-        ∙ (sym (no_bits vs i a) ∙ get_or_default vs i 0 d h))
+    grind (arith, common_steps, same_lists, length-map-range_with_len, get_or-map-range_with_len, no_bits, get_or_default)
 
 -- the places of values of each width
 placed-1 : (n i : ℕ) → i < n → Placed 1 64 ((1 * n + 63) / 64) i

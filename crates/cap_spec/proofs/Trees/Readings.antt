@@ -1,9 +1,9 @@
 -- What is read of the words of a message, one word, value or byte at a time.
-use Rattle.cap_spec.proofs.ProofNames.{List, None, Some, [], ap, arith, get_or, length, min, refl, slice_get, suc, zero, ℕ}
-use Rattle.cap_spec.proofs.ProofNames.{◌*◌, ◌+◌, ◌-◌, ◌<◌, ◌∙◌, ◌∷◌, ◌≡◌, ◌≤◌, get_or-map-range_with_len}
-use Rattle.cap_spec.proofs.ProofNames.{length-map-range_with_len, get_or_from_slice_get, slice_get-get_or, slice_get_past}
-use Rattle.cap_spec.proofs.ProofNames.{value_at, values_of, HasWord, segment_of, plain_text, word_bytes, element_bits}
-use Rattle.cap_spec.proofs.ProofNames.{list_words, scalar_words, field, rules}
+use Rattle.cap_spec.proofs.ProofNames.{List, None, Some, ap, arith, get_or, length, min, slice_get, suc, ℕ, ◌*◌, ◌+◌}
+use Rattle.cap_spec.proofs.ProofNames.{◌-◌, ◌<◌, ◌∙◌, ◌∷◌, ◌≡◌, ◌≤◌, get_or-map-range_with_len}
+use Rattle.cap_spec.proofs.ProofNames.{length-map-range_with_len, get_or_from_slice_get, slice_get-get_or}
+use Rattle.cap_spec.proofs.ProofNames.{slice_get_past, value_at, values_of, HasWord, segment_of, plain_text, word_bytes}
+use Rattle.cap_spec.proofs.ProofNames.{element_bits, list_words, scalar_words, field, rules}
 use Rattle.cap_spec.proofs.Trees.ReadingBack.{length-scalar_words}
 use Rattle.cap_spec.proofs.Trees.WordsRead.{word_read}
 
@@ -54,14 +54,12 @@ word_past c n i h = search rules
 -- byte i of words: that of the word where it is
 pub byte_there : (words : List ℕ) (i j x : ℕ) → j < 8 → slice_get words i ≡ Some x
     → slice_get (plain_text words) (i * 8 + j) ≡ slice_get (word_bytes x) j
-byte_there [] i j x lt h = absurd (cc h)
-byte_there (w ∷ ws) zero j x lt h = search rules
 byte_there (w ∷ ws) (suc i) j x lt h =
     let e : suc i * 8 + j ≡ suc (suc (suc (suc (suc (suc (suc (suc (i * 8 + j)))))))) = omega arith in
     ap (slice_get (plain_text (w ∷ ws))) e ∙ byte_there ws i j x lt h
+byte_there x0 i j x lt h = search rules
 
 -- and none where there is no word
 pub byte_past : (words : List ℕ) (i j : ℕ) → slice_get words i ≡ None → slice_get (plain_text words) (i * 8 + j) ≡ None
-byte_past [] i j h = refl
-byte_past (w ∷ ws) zero j h = absurd (cc h)
 byte_past (w ∷ ws) (suc i) j h = search (rules, byte_past ws i j h)
+byte_past x0 i j h = search rules

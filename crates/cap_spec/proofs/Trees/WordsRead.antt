@@ -4,21 +4,12 @@ use Rattle.std.proofs.lemmas.Nat.{mod-pow-add}
 use Rattle.cap_spec.proofs.ProofNames.{List, ap, ap₂, arith, drop, get_or, length, map, min, mul_comm, shr-shr, subst}
 use Rattle.cap_spec.proofs.ProofNames.{suc, sym, take, zero, ℕ, ◌%◌, ◌*◌, ◌+◌, ◌-◌, ◌/◌, ◌<◌, ◌^◌, ◌∙◌, ◌∷◌, ◌≡◌, ◌≤◌}
 use Rattle.cap_spec.proofs.ProofNames.{length-map-range_with_len, range_with_len, value_at, element_bits, list_words}
-use Rattle.cap_spec.proofs.ProofNames.{packed_word, scalar_words, field, common_steps}
+use Rattle.cap_spec.proofs.ProofNames.{packed_word, scalar_words, field, common_steps, rules}
 use Rattle.cap_spec.proofs.Trees.ReadingBack.{word_of_values}
-use Rattle.cap_spec.proofs.ProofNames.{rules}
 
 -- a field and the one above it
 two_fields : (x p bits more : ℕ) → field x p bits + 2 ^ bits * field x (p + bits) more ≡ field x p (more + bits)
-two_fields x p bits more =
-    let a : x / 2 ^ p % 2 ^ (more + bits) ≡ (x / 2 ^ p / 2 ^ bits % 2 ^ more) * 2 ^ bits + x / 2 ^ p % 2 ^ bits =
-    mod-pow-add (x / 2 ^ p) more bits in
-    let b : x / 2 ^ p / 2 ^ bits ≡ x / 2 ^ (p + bits) = shr-shr x p bits in
-    let c : field x (p + bits) more * 2 ^ bits ≡ 2 ^ bits * field x (p + bits) more =
-    mul_comm (field x (p + bits) more) (2 ^ bits) in
-    let d : (x / 2 ^ p / 2 ^ bits % 2 ^ more) * 2 ^ bits ≡ 2 ^ bits * field x (p + bits) more =
-    ap (λ y. (y % 2 ^ more) * 2 ^ bits) b ∙ c in
-    omega (arith, a, d)
+two_fields x p bits x3 = grind (arith, common_steps, mod-pow-add, shr-shr, mul_comm)
 
 -- fields in a row, packed, are one field
 pub fields_packed : (x bits : ℕ) (f : ℕ → ℕ) (a p n : ℕ) → ((j : ℕ) → j < n → f (a + j) ≡ field x (p + j * bits) bits)

@@ -3,20 +3,20 @@ use Rattle.cap_spec.specs.Denoting.{places}
 use Rattle.cap_spec.specs.Tree.{none}
 use Rattle.cap_spec.proofs.Frames.Messages.{HasWord-at, HasWord-inside}
 use Rattle.cap_spec.proofs.Paths.Arrivals.{found_form, lead_word}
-use Rattle.cap_spec.proofs.Pointers.Shapes.{pointers_levels, pointers_shape, scalars_levels, struct_levels, struct_shape}
-use Rattle.cap_spec.proofs.Pointers.Shapes.{structs_levels, structs_shape}
-use Rattle.cap_spec.proofs.ProofNames.{List, [], ap, arith, inl, inr, length, max, pos, refl, subst, suc, sym, zero, ℕ}
-use Rattle.cap_spec.proofs.ProofNames.{◌+◌, ◌-◌, ◌<◌, ◌∙◌, ◌∷◌, ◌≡◌, ◌≤◌, ◌⊎◌, ∥∥₁_elim, cases_lt, eqb_tells, AreElements}
-use Rattle.cap_spec.proofs.ProofNames.{DenoteEach, Denotes, Finds, FindsKind, element_levels, levels_below, values_of}
-use Rattle.cap_spec.proofs.ProofNames.{words_from, extra, HasWord, segment_of, code, data_size, extent, kind, list_size}
-use Rattle.cap_spec.proofs.ProofNames.{middle, pointer_size, Tree, Trees, cap, more, null, pointers, scalars, struct}
-use Rattle.cap_spec.proofs.ProofNames.{structs, Pointers, Struct, Structs}
+use Rattle.cap_spec.proofs.Pointers.Shapes.{pointers_levels, pointers_shape, scalars_levels, struct_levels}
+use Rattle.cap_spec.proofs.Pointers.Shapes.{struct_shape, structs_levels, structs_shape}
+use Rattle.cap_spec.proofs.ProofNames.{List, [], arith, inl, inr, length, max, pos, refl, suc, zero, ℕ, ◌+◌, ◌-◌, ◌<◌}
+use Rattle.cap_spec.proofs.ProofNames.{◌∷◌, ◌≡◌, ◌≤◌, ◌⊎◌, ∥∥₁_elim, cases_lt, eqb_tells, AreElements, DenoteEach}
+use Rattle.cap_spec.proofs.ProofNames.{Denotes, Finds, FindsKind, element_levels, levels_below, values_of, words_from}
+use Rattle.cap_spec.proofs.ProofNames.{extra, HasWord, segment_of, code, data_size, extent, kind, list_size, middle}
+use Rattle.cap_spec.proofs.ProofNames.{pointer_size, Tree, Trees, cap, more, null, pointers, scalars, struct, structs}
+use Rattle.cap_spec.proofs.ProofNames.{Pointers, Struct, Structs, rules, FindsCharged}
 use Rattle.cap_spec.proofs.Trees.Charges.{lead_kind}
 use Rattle.cap_spec.proofs.Trees.Finding.{one_found, pointers_found, scalars_found, struct_found, structs_found}
 use Rattle.cap_spec.proofs.Trees.OneTree.{cons_parts, formed, number_list, number_struct}
 use Rattle.cap_spec.proofs.Trees.Outcomes.{Fate, fate}
 use Rattle.cap_spec.proofs.Verdicts.OneVerdict.{denoted_not_wrong}
-use Rattle.cap_spec.proofs.ProofNames.{rules}
+use Rattle.cap_spec.specs.declared.Kind.{Kind}
 
 -- it is so, or it isn't
 abbrev pub Decided : Type 0 → Type 0
@@ -58,15 +58,13 @@ each_decided m n one ((s, w) ∷ ps) = both (one s w) (each_decided m n one ps)
 -- the first of some elements, and the others
 first_element : (m : List (List ℕ)) (n t b ds ps k : ℕ) → ElementsWithin m n t b ds ps (suc k)
     → EachWithin m n (places t (b + ds) ps)
-first_element m n t b ds ps k (none, c, d, h, le) = absurd (omega (arith, h.0))
 first_element m n t b ds ps k (more (struct ws ts) es, c, d, h, le) = search rules
-first_element m n t b ds ps k (more x es, c, d, h, le) = absurd h
+first_element m n t b ds ps k x7 = search rules
 
 rest_elements : (m : List (List ℕ)) (n t b ds ps k : ℕ) → ElementsWithin m n t b ds ps (suc k)
     → ElementsWithin m n t (b + ds + ps) ds ps k
-rest_elements m n t b ds ps k (none, c, d, h, le) = absurd (omega (arith, h.0))
 rest_elements m n t b ds ps k (more (struct ws ts) es, c, d, h, le) = search rules
-rest_elements m n t b ds ps k (more x es, c, d, h, le) = absurd h
+rest_elements m n t b ds ps k x7 = search rules
 
 -- The same of elements.
 elements_decided : (m : List (List ℕ)) (n : ℕ) → ((s w : ℕ) → Decided (TreeWithin m n s w)) → (t b ds ps k : ℕ)
@@ -78,13 +76,8 @@ elements_decided m n one t b ds ps (suc k) =
     both : Decided (EachWithin m n (places t (b + ds) ps)) → Decided (ElementsWithin m n t (b + ds + ps) ds ps k)
         → Decided (ElementsWithin m n t b ds ps (suc k))
     both (inl (ts, c, d, h, le)) (inl (es, c', d', hs, les)) =
-        inl (
-          more (struct (words_from m t b ds) ts) es,
-          c + c',
-          max d d',
-          (k, c, d, c', d', refl, refl, h, hs, refl, refl),
-          omega (arith, le, les),
-        )
+        let l : max d d' ≤ n = omega arith in
+        inl (more (struct _ ts) es, c + c', max d d', (k, c, d, c', d', refl, refl, h, hs, refl, refl), l)
     both (inl x) (inr never) = inr (λ e. never (rest_elements m n t b ds ps k e))
     both (inr never) rest = inr (λ e. never (first_element m n t b ds ps k e))
 
@@ -121,6 +114,11 @@ module _ (m : List (List ℕ)) (n s w k t b q tag : ℕ) where
 no_level : (m : List (List ℕ)) (s w k t b q : ℕ) → Finds m s w k t b q → TreeWithin m 0 s w → ⊥
 no_level m s w k t b q f x8 = search (rules, found_form, lead_kind)
 
+-- an object, charged for itself and for what is below it
+charged_here : {m : List (List ℕ)} {s w k t b q tag : ℕ} {what : Kind} → FindsKind m s w what k t b q tag → (c d : ℕ)
+    → FindsCharged m s w what k t b q tag c d (k + extent q + extra q tag + c) (1 + levels_below q tag + d)
+charged_here f c d = record { object = f; charge = refl; depth = refl }
+
 -- Where it is decided of each word with fewer levels, it is decided of the object.
 module _ (m : List (List ℕ)) (n s w k t b q : ℕ) (f : Finds m s w k t b q)
     (one : (j : ℕ) → j ≤ n → (s w : ℕ) → Decided (TreeWithin m j s w)) where
@@ -128,51 +126,32 @@ module _ (m : List (List ℕ)) (n s w k t b q : ℕ) (f : Finds m s w k t b q)
   struct_decided e =
       let object = struct_found m s w k t b q f e in
       elim (each_decided m n (one n (omega arith)) (places t (b + data_size q) (pointer_size q))) [
-        | inl (ts, c, d, h, le) ↦ inl (
-          struct (words_from m t b (data_size q)) ts,
-          k + extent q + extra q 0 + c,
-          1 + levels_below q 0 + d,
-          (
-            k,
-            t,
-            b,
-            q,
-            0,
-            data_size q,
-            pointer_size q,
-            c,
-            d,
-            record { object = object; charge = refl; depth = refl },
-            refl,
-            h,
-          ),
-          omega (arith, le, struct_levels object.shape),
-        )
+        | inl (ts, c, d, h, le) ↦
+            let own = charged_here object c d in
+            let words = words_from m t b (data_size q) in
+            let l = struct_levels object.shape in
+            let here : Denotes m s w (struct words ts) (k + extent q + extra q 0 + c) (1 + levels_below q 0 + d) =
+            (k, t, b, q, 0, data_size q, pointer_size q, c, d, own, refl, h) in
+            inl (struct words ts, _, _, here, omega (arith, le, l))
         | inr never ↦ inr (λ x. never (in_struct m n s w k t b q 0 object x))
       ]
 
   scalars_decided : kind q ≡ 1 → code q < 6 → Decided (TreeWithin m (suc n) s w)
   scalars_decided e lt =
       let object = scalars_found m s w k t b q f e lt in
-      inl (
-        scalars (code q) (values_of m t b (code q) (list_size q)),
-        k + extent q + extra q 0 + 0,
-        1 + levels_below q 0 + 0,
-        (k, t, b, q, 0, list_size q, record { object = object; charge = refl; depth = refl }, refl),
-        omega (arith, scalars_levels object.shape),
-      )
+      let own = charged_here object 0 0 in
+      let values = values_of m t b (code q) (list_size q) in
+      let l = scalars_levels object.shape in
+      inl (scalars (code q) values, _, _, (k, t, b, q, 0, list_size q, own, refl), omega (arith, l))
 
   pointers_decided : kind q ≡ 1 → code q ≡ 6 → Decided (TreeWithin m (suc n) s w)
   pointers_decided e g =
       let object = pointers_found m s w k t b q f e g in
       elim (each_decided m n (one n (omega arith)) (places t b (list_size q))) [
-        | inl (ts, c, d, h, le) ↦ inl (
-          pointers ts,
-          k + extent q + extra q 0 + c,
-          1 + levels_below q 0 + d,
-          (k, t, b, q, 0, list_size q, c, d, record { object = object; charge = refl; depth = refl }, h),
-          omega (arith, le, pointers_levels object.shape),
-        )
+        | inl (ts, c, d, h, le) ↦
+            let own = charged_here object c d in
+            let l = pointers_levels object.shape in
+            inl (pointers ts, _, _, (k, t, b, q, 0, list_size q, c, d, own, h), omega (arith, le, l))
         | inr never ↦ inr (λ x. never (in_pointers m n s w k t b q 0 object x))
       ]
 
@@ -184,13 +163,11 @@ module _ (m : List (List ℕ)) (n s w k t b q : ℕ) (f : Finds m s w k t b q)
         | inr fits ↦ elim (elements_decided m (n - element_levels (middle tag))
             (one (n - element_levels (middle tag)) (omega arith)) t (b + 1) (data_size tag)
             (pointer_size tag) (middle tag)) [
-              | inl (es, c, d, h, le) ↦ inl (
-                structs (data_size tag) (pointer_size tag) es,
-                k + extent q + extra q tag + c,
-                1 + levels_below q tag + d,
-                (k, t, b, q, tag, middle tag, c, d, record { object = object; charge = refl; depth = refl }, h),
-                omega (arith, le, fits, structs_levels object.shape),
-              )
+              | inl (es, c, d, h, le) ↦
+                  let own = charged_here object c d in
+                  let l = structs_levels object.shape in
+                  let tree = structs (data_size tag) (pointer_size tag) es in
+                  inl (tree, _, _, (k, t, b, q, tag, middle tag, c, d, own, h), omega (arith, le, fits, l))
               | inr never ↦ inr (λ x. never (in_structs m n s w k t b q tag object x).0)
             ]
       ]
@@ -199,36 +176,31 @@ module _ (m : List (List ℕ)) (n s w k t b q : ℕ) (f : Finds m s w k t b q)
   object_decided =
       elim (eqb_tells (kind q) 0) [
         | inl (x, zero_kind) ↦ struct_decided zero_kind
-        | inr (x, other) ↦ list_decided (omega (arith, other, lead_kind m s w k t (pos b) q f.leads))
-      ]
-    where
-      list_decided : kind q ≡ 1 → Decided (TreeWithin m (suc n) s w)
-      list_decided e =
-          elim (cases_lt (code q) 6) [
-            | inl small ↦ scalars_decided e small
-            | inr large ↦ elim (eqb_tells (code q) 6) [
-              | inl (x, six) ↦ pointers_decided e six
-              | inr (x, other) ↦
-                  let g : code q ≡ 7 = omega (arith, other, large) in
-                  let y = f.inside.composite (e, g) in structs_decided y.0 e g y.1
+        | inr (x, other) ↦
+            let e : kind q ≡ 1 = omega (arith, lead_kind m s w k t (pos b) q f.leads) in
+            elim (cases_lt (code q) 6) [
+              | inl small ↦ scalars_decided e small
+              | inr large ↦ elim (eqb_tells (code q) 6) [
+                | inl (y, six) ↦ pointers_decided e six
+                | inr (y, seven) ↦
+                    let g : code q ≡ 7 = omega (arith, large) in
+                    let z = f.inside.composite (e, g) in structs_decided z.0 e g z.1
+              ]
             ]
-          ]
+      ]
 
 -- Where it is decided of each object, it is decided of a word.
 word_decided : (m : List (List ℕ)) (n s w : ℕ) → ((k t b q : ℕ) → Finds m s w k t b q → Decided (TreeWithin m n s w))
     → Decided (TreeWithin m n s w)
 word_decided m n s w object =
     elim (cases_lt w (length (segment_of m s))) [
-      | inr past ↦ inr (none_there past)
+      | inr past ↦ inr (λ (x, c, d, h, le).
+          let r = formed m s w x c d h in
+          let p = lead_word m s w r.k r.r r.leads in
+          omega (arith, HasWord-inside m s w p.0 p.1, past))
       | inl there ↦ let p = HasWord-at m s w there in by_fate (fate m s w p.0 p.1)
     ]
   where
-    none_there : length (segment_of m s) ≤ w → TreeWithin m n s w → ⊥
-    none_there past (x, c, d, h, le) =
-        let r = formed m s w x c d h in
-        let p = lead_word m s w r.k r.r r.leads in
-        omega (arith, HasWord-inside m s w p.0 p.1, past)
-
     by_fate : Fate m s w → Decided (TreeWithin m n s w)
     by_fate (inl (v, wrong)) = inr (λ (x, c, d, h, le). denoted_not_wrong m s w x c d h v wrong)
     by_fate (inr (inl (k, leads))) = inl (null, k, 0, (leads, refl), omega arith)

@@ -1,37 +1,21 @@
 -- Where no path before one has a fault, these paths keep to the limits.
-use Rattle.cap_spec.proofs.Paths.Preorder.{Before-asymmetric, Before-trans, Rises-front}
-use Rattle.cap_spec.proofs.Paths.Preorder.{after_middle, before_middle, front_is_one, front_or_back, middle_is_one}
+use Rattle.cap_spec.proofs.Paths.Preorder.{cut_tour, Before-trans, after_middle, middle_is_one}
 use Rattle.cap_spec.proofs.ProofNames.{List, [], append-nil, append_assoc, arith, inl, inr, length, refl, subst, sym, ℕ}
-use Rattle.cap_spec.proofs.ProofNames.{◌++◌, ◌+◌, ◌∷◌, ◌≡◌, ◌≤◌, ◌⊎◌, cases_lt, AreShallow, IsFaultAt}
-use Rattle.cap_spec.proofs.ProofNames.{IsFirstFault, IsFirstReason, is_deep, is_past, IsOneOf, Before, IsTour, Reaches}
-use Rattle.cap_spec.proofs.ProofNames.{CostOf, IsDeepAt, Reason, DepthLimit, WordLimit, Refusal, Step}
+use Rattle.cap_spec.proofs.ProofNames.{◌++◌, ◌+◌, ◌∷◌, ◌≡◌, ◌≤◌, ◌⊎◌, cases_lt, AreShallow, IsFaultAt, IsFirstFault}
+use Rattle.cap_spec.proofs.ProofNames.{IsFirstReason, is_deep, is_past, Before, IsTour, Reaches, CostOf, IsDeepAt}
+use Rattle.cap_spec.proofs.ProofNames.{Reason, DepthLimit, WordLimit, Refusal, Step}
 use Rattle.cap_spec.proofs.Verdicts.OnPath.{cost_last, shallow_last}
-use Rattle.cap_spec.proofs.Verdicts.OneFault.{fault_tour, one_of_last}
+use Rattle.cap_spec.proofs.Verdicts.OneFault.{fault_tour}
 
 -- the tour up to a path that another tour comes by
 part_tour : (m : List (List ℕ)) (path : List Step) (xs : List (List Step)) (p : List Step) (ys : List (List Step))
     → IsTour m path (xs ++ p ∷ ys) → (Before p path) ⊎ (p ≡ path) → IsTour m p (xs ++ p ∷ [])
-part_tour m path xs p ys t upto = record {
-  rising = Rises-front xs p ys t.rising;
-  reached = λ q i. t.reached q (front_is_one q p xs ys i);
-  all = λ q level s w r k. all q level s w r k;
-  none_after = λ q i. elim (one_of_last q p xs i) [
-    | inl e ↦ inl e
-    | inr j ↦ inr (before_middle xs p ys q t.rising j)
-  ];
-}
+part_tour m path xs p ys t upto =
+    cut_tour m xs p ys t.rising t.reached (λ q level s w r b. t.all q level s w r (inr (before q b upto)))
   where
     before : (q : List Step) → Before q p → (Before p path) ⊎ (p ≡ path) → Before q path
     before q b (inl k) = Before-trans q p path b k
     before q b (inr e) = subst (λ (u : List Step). Before q u) e b
-
-    all : (q : List Step) (level s w : ℕ) → Reaches m q level s w → (q ≡ p) ⊎ Before q p → IsOneOf q (xs ++ p ∷ [])
-    all q level s w r (inl e) = subst (λ (u : List Step). IsOneOf u (xs ++ p ∷ [])) (sym e) (middle_is_one p xs [])
-    all q level s w r (inr b) =
-        elim (front_or_back q p xs ys (t.all q level s w r (inr (before q b upto)))) [
-          | inl i ↦ i
-          | inr i ↦ absurd (Before-asymmetric q p b (after_middle xs p ys q t.rising i))
-        ]
 
 -- Before this path there is no fault.
 module _ (m : List (List ℕ)) (words depth : ℕ) (path : List Step)
@@ -42,14 +26,9 @@ module _ (m : List (List ℕ)) (words depth : ℕ) (path : List Step)
       → ¬ IsFirstReason m words depth charge s w level v
   no_reason xs p ys charge level s w v t costs reached reason =
       let b : Before p path = after_middle xs p (ys ++ path ∷ []) path t.rising (middle_is_one path ys []) in
+      let tour = part_tour m path xs p (ys ++ path ∷ []) t (inl b) in
       none p b record { segment = s; word = w; reason = v; pointers = length (xs ++ p ∷ []) } record {
-        numbered = record {
-          level = level;
-          tour = xs ++ p ∷ [];
-          reached = reached;
-          is_tour = part_tour m path xs p (ys ++ path ∷ []) t (inl b);
-          count = refl;
-        };
+        numbered = record { level = level; tour = xs ++ p ∷ []; reached = reached; is_tour = tour; count = refl };
         before = xs;
         charge = charge;
         whole = refl;

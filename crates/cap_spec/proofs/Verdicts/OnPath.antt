@@ -1,11 +1,12 @@
 -- The pointers on a path: they are one list, which grows with the path, and they aren't both charged and refused.
+use Rattle.cap_spec.proofs.Paths.PathLists.{member_back}
 use Rattle.cap_spec.proofs.Paths.Preorder.{Before-longer, Rises-distinct, Rises-same}
 use Rattle.cap_spec.proofs.Paths.Walks.{comes_beyond, one_coming, one_reached}
 use Rattle.cap_spec.proofs.ProofNames.{List, [], ap, append-nil, append_assoc, arith, inl, inr, length, length-append}
 use Rattle.cap_spec.proofs.ProofNames.{refl, subst, sym, ℕ, ◌++◌, ◌+◌, ◌<◌, ◌∙◌, ◌∷◌, ◌≡◌, ◌≤◌, ◌⊎◌, AreShallow}
 use Rattle.cap_spec.proofs.ProofNames.{AreOnPath, IsFaultOnPath, IsRefusedOnPath, IsStartOf, IsOneOf, HasWord, Before}
 use Rattle.cap_spec.proofs.ProofNames.{Costs, Reaches, ReachesSpot, Rises, Spot, StepsTo, element, word, CostOf}
-use Rattle.cap_spec.proofs.ProofNames.{IsDeepAt, Refusal, Step, rules}
+use Rattle.cap_spec.proofs.ProofNames.{IsDeepAt, Refusal, Step, rules, common_steps}
 use Rattle.cap_spec.proofs.Verdicts.OneFault.{distinct_last, kept_without_fault, last_is_one, one_of_last, one_rootless}
 use Rattle.cap_spec.proofs.Verdicts.OneFault.{rootless, same_fault}
 use Rattle.cap_spec.proofs.Verdicts.OneVerdict.{cost_reached}
@@ -20,23 +21,13 @@ begins_itself p = ([], sym (append-nil p))
 -- what begins a path that goes on from another begins that one, or goes on from it too
 begins_either : (q done rest r : List Step) (step : Step) → done ++ step ∷ rest ≡ q ++ r
     → IsStartOf q done ⊎ ((more : List Step) × (q ≡ done ++ step ∷ more) × (rest ≡ more ++ r))
-begins_either [] done rest r step e = inl (done, refl)
-begins_either (x ∷ q) [] rest r step e = search rules
 begins_either (x ∷ q) (y ∷ done) rest r step e = search (rules, begins_either q done rest r step cc)
+begins_either x0 done rest r step e = search rules
 
 -- with one step more, the longer path itself is added
 begins_last : (q done : List Step) (step : Step) → IsStartOf q (done ++ step ∷ [])
     → (q ≡ done ++ step ∷ []) ⊎ IsStartOf q done
-begins_last q done step (r, e) = go (begins_either q done [] r step e)
-  where
-    none : (more : List Step) → [] ≡ more ++ r → more ≡ []
-    none [] f = refl
-    none (x ∷ more) f = absurd (cc f)
-
-    go : IsStartOf q done ⊎ ((more : List Step) × (q ≡ done ++ step ∷ more) × ([] ≡ more ++ r))
-        → (q ≡ done ++ step ∷ []) ⊎ IsStartOf q done
-    go (inl h) = inr h
-    go (inr (more, f, g)) = inl (f ∙ ap (λ x. done ++ step ∷ x) (none more g))
+begins_last q done step x3 = grind (arith, common_steps, begins_either)
 
 -- and comes after what begins the shorter one
 before_last : (q done : List Step) (step : Step) → IsStartOf q done → Before q (done ++ step ∷ [])
@@ -46,9 +37,8 @@ before_last q done step (x ∷ rest, e) = search (rules, append_assoc, Before-lo
 -- a rising list with a last path after all of them
 rises_last : (ps : List (List Step)) (p : List Step) → Rises ps → ((q : List Step) → IsOneOf q ps → Before q p)
     → Rises (ps ++ p ∷ [])
-rises_last [] p h k = tt
-rises_last (q ∷ []) p h k = (k q (inl refl), tt)
 rises_last (q ∷ r ∷ ps) p h k = (h.0, rises_last (r ∷ ps) p h.1 (λ x i. k x (inr i)))
+rises_last x0 p h k = search rules
 
 -- the cost with a last path
 pub cost_last : (m : List (List ℕ)) (ps : List (List Step)) (p : List Step) (level s w one x : ℕ) → CostOf m ps x
@@ -61,32 +51,23 @@ cost_last m (q ∷ ps) p level s w one x (level', s', w', one', rest, reached, c
 pub shallow_last : (m : List (List ℕ)) (depth : ℕ) (ps : List (List Step)) (p : List Step) (level s w : ℕ)
     → AreShallow m depth ps → Reaches m p level s w → ¬ IsDeepAt m depth s w level
     → AreShallow m depth (ps ++ p ∷ [])
-shallow_last m depth ps p level s w h r none q level' s' w' i r' deep = go (one_of_last q p ps i)
-  where
-    go : (q ≡ p) ⊎ IsOneOf q ps → ⊥
-    go (inr k) = h q level' s' w' k r' deep
-    go (inl e) =
-        let o = one_reached m p level' level s' w' s w (subst (λ x. Reaches m x level' s' w') e r') r in
-        let l : level' ≡ level = o.0 in
-        let f : s' ≡ s = o.1 in
-        let g : w' ≡ w = o.2 in
-        none (rw (← l, ← f, ← g) deep)
+shallow_last m depth ps p level s w h r none q level' s' w' i r' deep = elim (one_of_last q p ps i) [
+  | inr k ↦ h q level' s' w' k r' deep
+  | inl e ↦ let o = one_reached m p level' level s' w' s w (rw e at r') r in none (rw (← o.0, ← o.1, ← o.2) deep)
+]
 
 -- The pointers on the empty path: the root's.
 pub on_root : (m : List (List ℕ)) (root : ℕ) → HasWord m 0 0 root → AreOnPath m [] ([] ∷ [])
 on_root m root has = record {
   rising = tt;
-  begin = λ q i. first q i;
-  reached = λ q i. (1, 0, 0, subst (λ x. Reaches m x 1 0 0) (sym (one q i)) (root, 0, has, (refl, refl), refl));
+  begin = λ q i. rw (one q i) ([], refl);
+  reached = λ q i. (1, 0, 0, rw (one q i) (root, 0, has, (refl, refl), refl));
   all = λ q level s w b r. inl (nothing q b.0 b.1);
 }
   where
     one : (q : List Step) → IsOneOf q ([] ∷ []) → q ≡ []
     one q (inl e) = e
     one q (inr h) = absurd h
-
-    first : (q : List Step) → IsOneOf q ([] ∷ []) → IsStartOf q []
-    first q i = subst (λ x. IsStartOf x []) (sym (one q i)) ([], refl)
 
     nothing : (q rest : List Step) → [] ≡ q ++ rest → q ≡ []
     nothing [] rest e = refl
@@ -104,20 +85,16 @@ on_word m done ways step level s w h r = record {
 }
   where
     begin : (q : List Step) → (q ≡ done ++ step ∷ []) ⊎ IsOneOf q ways → IsStartOf q (done ++ step ∷ [])
-    begin q (inl e) = subst (λ x. IsStartOf x (done ++ step ∷ [])) (sym e) (begins_itself (done ++ step ∷ []))
+    begin q (inl e) = rw e (begins_itself (done ++ step ∷ []))
     begin q (inr i) = begins_longer q done (step ∷ []) (h.begin q i)
 
     reached : (q : List Step) → (q ≡ done ++ step ∷ []) ⊎ IsOneOf q ways → (level' s' w' : ℕ) × Reaches m q level' s' w'
-    reached q (inl e) = (level, s, w, subst (λ x. Reaches m x level s w) (sym e) r)
+    reached q (inl e) = (level, s, w, rw e r)
     reached q (inr i) = h.reached q i
 
     all : (q : List Step) (level' s' w' : ℕ) → Reaches m q level' s' w' → (q ≡ done ++ step ∷ []) ⊎ IsStartOf q done
         → IsOneOf q (ways ++ (done ++ step ∷ []) ∷ [])
-    all q level' s' w' r' (inl e) = subst (λ x. IsOneOf x (ways ++ (done ++ step ∷ []) ∷ [])) (sym e) (is_last ways)
-      where
-        is_last : (ps : List (List Step)) → IsOneOf (done ++ step ∷ []) (ps ++ (done ++ step ∷ []) ∷ [])
-        is_last [] = inl refl
-        is_last (p ∷ ps) = inr (is_last ps)
+    all q level' s' w' r' (inl e) = member_back q ways ((done ++ step ∷ []) ∷ []) (inl e)
     all q level' s' w' r' (inr b) = last_is_one (done ++ step ∷ []) q ways (h.all q level' s' w' b r')
 
 -- with one to an element nothing is added,
@@ -128,17 +105,13 @@ on_element m done ways step level t b ds ps h c = record {
   rising = h.rising;
   begin = λ q i. begins_longer q done (step ∷ []) (h.begin q i);
   reached = h.reached;
-  all = λ q level' s' w' x r. all q level' s' w' r (begins_last q done step x);
+  all = λ q level' s' w' x r. elim (begins_last q done step x) [
+    | inl e ↦
+        let f = one_coming m (done ++ step ∷ []) level' level (word s' w') (element t b ds ps) (rw e at r) c in
+        absurd (cc f.1)
+    | inr y ↦ h.all q level' s' w' y r
+  ];
 }
-  where
-    all : (q : List Step) (level' s' w' : ℕ) → Reaches m q level' s' w'
-        → (q ≡ done ++ step ∷ []) ⊎ IsStartOf q done → IsOneOf q ways
-    all q level' s' w' r (inl e) =
-        let f : word s' w' ≡ element t b ds ps =
-        (one_coming m (done ++ step ∷ []) level' level (word s' w') (element t b ds ps)
-        (subst (λ x. Reaches m x level' s' w') e r) c).1 in
-        absurd (cc f)
-    all q level' s' w' r (inr x) = h.all q level' s' w' x r
 
 -- and where a step leads to no node, neither.
 pub on_no_node : (m : List (List ℕ)) (done rest : List Step) (ways : List (List Step)) (step : Step) (level : ℕ)
@@ -148,18 +121,13 @@ on_no_node m done rest ways step level a h c none = record {
   rising = h.rising;
   begin = λ q i. begins_longer q done (step ∷ rest) (h.begin q i);
   reached = h.reached;
-  all = λ q level' s' w' b r. all q b.0 level' s' w' r (begins_either q done rest b.0 step b.1);
+  all = λ q level' s' w' b r. elim (begins_either q done rest b.0 step b.1) [
+    | inl b' ↦ h.all q level' s' w' b' r
+    | inr (more, e, f) ↦
+        let x = comes_beyond m done (step ∷ more) level level' a (word s' w') c (rw e at r) in
+        absurd (none x.1.0 x.1.2)
+  ];
 }
-  where
-    past : (q more : List Step) (level' s' w' : ℕ) → Reaches m q level' s' w' → q ≡ done ++ step ∷ more → ⊥
-    past q more level' s' w' r e =
-        let g : ReachesSpot m (done ++ step ∷ more) level' (word s' w') = subst (λ x. ReachesSpot m x level' (word s' w')) e r in
-        let w = (comes_beyond m done (step ∷ more) level level' a (word s' w') c g).1 in none w.0 w.2
-
-    all : (q on : List Step) (level' s' w' : ℕ) → Reaches m q level' s' w'
-        → IsStartOf q done ⊎ ((more : List Step) × (q ≡ done ++ step ∷ more) × (rest ≡ more ++ on)) → IsOneOf q ways
-    all q on level' s' w' r (inl b) = h.all q level' s' w' b r
-    all q on level' s' w' r (inr (more, e, f)) = absurd (past q more level' s' w' r e)
 
 -- The pointers on a path are one list.
 pub one_path_list : (m : List (List ℕ)) (path : List Step) (ways ways' : List (List Step)) → AreOnPath m path ways
@@ -179,16 +147,12 @@ path_not_refused m words depth path ways cost r on some costs shallow within (in
     kept_without_fault m words depth f.level f.charge cost r f.way f.before ways f.reached f.costs f.reason
     (distinct_last f.before f.way (Rises-distinct (f.before ++ f.way ∷ []) f.on_path.rising)) all costs shallow within
   where
-    earlier : (q : List Step) → IsOneOf q f.before → IsOneOf q ways
-    earlier q i =
+    all : (q : List Step) → IsOneOf q (f.way ∷ f.before) → IsOneOf q ways
+    all q (inl e) = rw e (on.all f.way f.level r.segment r.word f.begin f.reached)
+    all q (inr i) =
         let x = cost_reached m f.before f.charge q f.costs i in
         let b : IsStartOf q f.way = f.on_path.begin q (last_is_one f.way q f.before i) in
-        let e : path ≡ f.way ++ f.begin.0 = f.begin.1 in
-        on.all q x.0 x.1 x.2 (subst (λ y. IsStartOf q y) (sym e) (begins_longer q f.way f.begin.0 b)) x.3
-
-    all : (q : List Step) → IsOneOf q (f.way ∷ f.before) → IsOneOf q ways
-    all q (inl e) = subst (λ x. IsOneOf x ways) (sym e) (on.all f.way f.level r.segment r.word f.begin f.reached)
-    all q (inr i) = earlier q i
+        on.all q x.0 x.1 x.2 (rw f.begin.1 (begins_longer q f.way f.begin.0 b)) x.3
 
 -- of two beginnings of one path, each is the other or goes on from it
 begins_one : (p q path : List Step) → IsStartOf p path → IsStartOf q path
@@ -200,18 +164,11 @@ begins_one p q path ([], e) (s, f) = all s (sym (append-nil p) ∙ (sym e ∙ f)
         ⊎ ((x : Step) × (more : List Step) × (p ≡ q ++ x ∷ more))
     all [] h = inl (h ∙ append-nil q)
     all (x ∷ s) h = inr (inr (x, s, h))
-begins_one p q path (x ∷ rest, e) (s, f) = part (begins_either q p rest s x (sym e ∙ f))
-  where
-    all : (t : List Step) → p ≡ q ++ t → (p ≡ q) ⊎ ((x : Step) × (more : List Step) × (q ≡ p ++ x ∷ more))
-        ⊎ ((x : Step) × (more : List Step) × (p ≡ q ++ x ∷ more))
-    all [] h = inl (h ∙ append-nil q)
-    all (y ∷ t) h = inr (inr (y, t, h))
-
-    part : IsStartOf q p ⊎ ((more : List Step) × (q ≡ p ++ x ∷ more) × (rest ≡ more ++ s))
-        → (p ≡ q) ⊎ ((x : Step) × (more : List Step) × (q ≡ p ++ x ∷ more))
-        ⊎ ((x : Step) × (more : List Step) × (p ≡ q ++ x ∷ more))
-    part (inl (t, h)) = all t h
-    part (inr (more, h, k)) = inr (inl (x, more, h))
+begins_one p q path (x ∷ rest, e) (s, f) = elim (begins_either q p rest s x (sym e ∙ f)) [
+  | inl ([], h) ↦ inl (h ∙ append-nil q)
+  | inl (y ∷ t, h) ↦ inr (inr (y, t, h))
+  | inr (more, h, k) ↦ inr (inl (x, more, h))
+]
 
 -- No fault on a path comes before another.
 no_earlier_on : (m : List (List ℕ)) (words depth : ℕ) (path : List Step) (r r' : Refusal)
@@ -245,7 +202,11 @@ pub one_path_refusal : (m : List (List ℕ)) (words depth : ℕ) (path : List St
 one_path_refusal m words depth path r r' (inl h) (inl k) = one_rootless m r r' h k
 one_path_refusal m words depth path r r' (inl h) (inr f) = search (rules, rootless)
 one_path_refusal m words depth path r r' (inr f) (inl h) = search (rules, rootless)
-one_path_refusal m words depth path r r' (inr f) (inr f') = by_order (begins_one f.way f'.way path f.begin f'.begin)
+one_path_refusal m words depth path r r' (inr f) (inr f') = elim (begins_one f.way f'.way path f.begin f'.begin) [
+  | inl e ↦ same (sym e)
+  | inr (inl (x, more, e)) ↦ absurd (no_earlier_on m words depth path r r' f f' x more e)
+  | inr (inr (x, more, e)) ↦ absurd (no_earlier_on m words depth path r' r f' f x more e)
+]
   where
     same : f'.way ≡ f.way → r ≡ r'
     same e =
@@ -255,9 +216,3 @@ one_path_refusal m words depth path r r' (inr f) (inr f') = by_order (begins_one
         same_fault m words depth f.level f'.level f.charge f'.charge r r' f.way f.before f'.before lists
         f.on_path.rising f.reached (subst (λ u. Reaches m u f'.level r'.segment r'.word) e f'.reached)
         f.costs f'.costs f.reason f'.reason f.pointers (f'.pointers ∙ ap (λ u. length (f'.before ++ u ∷ [])) e)
-
-    by_order : (f.way ≡ f'.way) ⊎ ((x : Step) × (more : List Step) × (f'.way ≡ f.way ++ x ∷ more))
-        ⊎ ((x : Step) × (more : List Step) × (f.way ≡ f'.way ++ x ∷ more)) → r ≡ r'
-    by_order (inl e) = same (sym e)
-    by_order (inr (inl (x, more, e))) = absurd (no_earlier_on m words depth path r r' f f' x more e)
-    by_order (inr (inr (x, more, e))) = absurd (no_earlier_on m words depth path r' r f' f x more e)

@@ -1,44 +1,34 @@
 -- A message is refused in one way: it has one first fault.
 use Rattle.std.proofs.lemmas.List.{append_cancel_right}
 use Rattle.cap_spec.specs.Faults.{is_wrong}
+use Rattle.cap_spec.proofs.Paths.PathLists.{member_append, member_back, member_front}
 use Rattle.cap_spec.proofs.Paths.Preorder.{Before-irreflexive, Before-trans, Rises-distinct, one_first, one_tour}
 use Rattle.cap_spec.proofs.Paths.Walks.{one_reached}
 use Rattle.cap_spec.proofs.Pointers.Following.{cap-not_wrong, null-not_wrong, object-not_wrong, one_wrong}
-use Rattle.cap_spec.proofs.ProofNames.{List, Some, [], ap, arith, inl, inr, length, refl, slice_get, subst, sym, ℕ, ◌++◌}
-use Rattle.cap_spec.proofs.ProofNames.{◌+◌, ◌∙◌, ◌∷◌, ◌≡◌, ◌≤◌, ◌⊎◌, AreShallow, HasNoRoot, IsFaultAt, IsFirstFault}
-use Rattle.cap_spec.proofs.ProofNames.{IsFirstReason, IsRefused, is_deep, is_past, Wrong, AreDistinct, IsOneOf, Before, Costs, IsTour}
-use Rattle.cap_spec.proofs.ProofNames.{Reaches, Rises, CostOf, Reason, Refusal, Step}
+use Rattle.cap_spec.proofs.ProofNames.{List, Some, [], ap, arith, inl, inr, length, refl, slice_get, subst, sym, ℕ}
+use Rattle.cap_spec.proofs.ProofNames.{◌++◌, ◌+◌, ◌∙◌, ◌∷◌, ◌≡◌, ◌≤◌, ◌⊎◌, AreShallow, HasNoRoot, IsFaultAt}
+use Rattle.cap_spec.proofs.ProofNames.{IsFirstFault, IsFirstReason, IsRefused, is_deep, is_past, Wrong, AreDistinct}
+use Rattle.cap_spec.proofs.ProofNames.{IsOneOf, Before, Costs, IsTour, Reaches, Rises, CostOf, Reason, Refusal, Step}
+use Rattle.cap_spec.proofs.ProofNames.{rules, common_steps}
 use Rattle.cap_spec.proofs.Verdicts.OneVerdict.{cost_reached, distinct_cost, take_out}
-use Rattle.cap_spec.proofs.ProofNames.{rules}
 
 -- one of some paths and a last one
 pub one_of_last : (q p : List Step) (ps : List (List Step)) → IsOneOf q (ps ++ p ∷ []) → (q ≡ p) ⊎ IsOneOf q ps
-one_of_last q p [] (inl e) = inl e
-one_of_last q p [] (inr h) = absurd h
-one_of_last q p (r ∷ ps) (inl e) = inr (inl e)
-one_of_last q p (r ∷ ps) (inr h) = elim (one_of_last q p ps h) [ inl e ↦ inl e | inr i ↦ inr (inr i) ]
+one_of_last q p ps h =
+    elim (member_append q ps (p ∷ []) h) [ inl i ↦ inr i | inr (inl e) ↦ inl e | inr (inr i) ↦ absurd i ]
 
 pub last_is_one : (p q : List Step) (ps : List (List Step)) → IsOneOf q ps → IsOneOf q (ps ++ p ∷ [])
-last_is_one p q [] h = absurd h
-last_is_one p q (r ∷ ps) (inl e) = inl e
-last_is_one p q (r ∷ ps) (inr h) = inr (last_is_one p q ps h)
+last_is_one p q ps h = member_front q ps (p ∷ []) h
 
 -- distinct paths without the last one, and the last one
 pub distinct_last : (paths : List (List Step)) (p : List Step) → AreDistinct (paths ++ p ∷ []) → AreDistinct (p ∷ paths)
-distinct_last paths p h = (none paths h, front paths h)
+distinct_last [] p h = (λ i. i, tt)
+distinct_last (q ∷ paths) p h =
+    let r = distinct_last paths p h.1 in (none r.0, ((λ i. h.0 (last_is_one p q paths i)), r.1))
   where
-    own : (ps : List (List Step)) → IsOneOf p (ps ++ p ∷ [])
-    own [] = inl refl
-    own (q ∷ ps) = inr (own ps)
-
-    none : (ps : List (List Step)) → AreDistinct (ps ++ p ∷ []) → ¬ IsOneOf p ps
-    none [] k i = i
-    none (q ∷ ps) k (inl e) = k.0 (subst (λ (u : List Step). IsOneOf u (ps ++ p ∷ [])) e (own ps))
-    none (q ∷ ps) k (inr i) = none ps k.1 i
-
-    front : (ps : List (List Step)) → AreDistinct (ps ++ p ∷ []) → AreDistinct ps
-    front [] k = tt
-    front (q ∷ ps) k = ((λ i. k.0 (last_is_one p q ps i)), front ps k.1)
+    none : ¬ IsOneOf p paths → (p ≡ q) ⊎ IsOneOf p paths → ⊥
+    none n (inl e) = h.0 (rw (← e) (member_back p paths (p ∷ []) (inl refl)))
+    none n (inr i) = n i
 
 -- what has a cost isn't wrong
 pub costs_not_wrong : (m : List (List ℕ)) (s w c : ℕ) (v : Reason) → Costs m s w c → Wrong m s w v → ⊥
@@ -102,24 +92,18 @@ none_before m words depth path before charge tour costs within shallow other b r
   where
     kept : (q : List Step) (level s w : ℕ) → Reaches m q level s w → Before q path → IsOneOf q before
     kept q level s w h k = elim (one_of_last q path before (tour.all q level s w h (inr k))) [
-      | inl e ↦ absurd (Before-irreflexive path (subst (λ u. Before u path) e k))
+      | inl e ↦ absurd (Before-irreflexive path (rw e at k))
       | inr i ↦ i
     ]
 
-    here : IsOneOf other before
-    here = kept other f.numbered.level r.segment r.word f.numbered.reached b
-
-    earlier : (q : List Step) → IsOneOf q f.before → IsOneOf q before
-    earlier q i =
+    all : (q : List Step) → IsOneOf q (other ∷ f.before) → IsOneOf q before
+    all q (inl e) = rw e (kept other f.numbered.level r.segment r.word f.numbered.reached b)
+    all q (inr i) =
         let c = cost_reached m f.before f.charge q f.costs i in
         elim ((fault_tour f).none_after q (last_is_one other q f.before i)) [
-          | inl e ↦ subst (λ u. IsOneOf u before) (sym e) here
+          | inl e ↦ rw e (kept other f.numbered.level r.segment r.word f.numbered.reached b)
           | inr k ↦ kept q c.0 c.1 c.2 c.3 (Before-trans q other path k b)
         ]
-
-    all : (q : List Step) → IsOneOf q (other ∷ f.before) → IsOneOf q before
-    all q (inl e) = subst (λ u. IsOneOf u before) (sym e) here
-    all q (inr i) = earlier q i
 
 -- So the first fault is where the paths before it keep to the limits.
 pub first_fault_kept : {m : List (List ℕ)} {words depth : ℕ} {path : List Step} {r : Refusal}
@@ -181,8 +165,7 @@ one_rootless m r r' h k = search (rules, same_refusal)
 
 -- a message without a root has no pointer that a path reaches
 pub rootless : (m : List (List ℕ)) (p : List Step) (level s w : ℕ) → slice_get m 0 ≡ Some [] → Reaches m p level s w → ⊥
-rootless [] p level s w e (root, n, has, walks, up) = cc
-rootless (x ∷ m) p level s w e (root, n, has, walks, up) = search rules
+rootless x0 p level s w e x6 = grind (arith, common_steps)
 
 -- A message is refused in one way.
 pub one_refusal : (m : List (List ℕ)) (words depth : ℕ) (r r' : Refusal) → IsRefused m words depth r

@@ -7,12 +7,11 @@ use Rattle.cap_spec.proofs.Paths.PathCosts.{charge_is_cost}
 use Rattle.cap_spec.proofs.Paths.PathCounts.{pointer_path_reached, pointer_paths}
 use Rattle.cap_spec.proofs.Paths.Walks.{one_reached}
 use Rattle.cap_spec.proofs.Pointers.Following.{cap-not_wrong, null-not_wrong, object-not_wrong}
-use Rattle.cap_spec.proofs.ProofNames.{List, [], arith, inl, inr, refl, subst, sym, ℕ, ◌+◌, ◌∙◌, ◌∷◌, ◌≡◌, ◌≢◌, ◌≤◌, ◌⊎◌}
-use Rattle.cap_spec.proofs.ProofNames.{IsWithin, Denotes, Finds, Wrong, AreDistinct, IsOneOf, Costs, Reaches, word, Tree}
-use Rattle.cap_spec.proofs.ProofNames.{cap, null, pointers, scalars, struct, structs, CostOf, Justified, levels_below}
-use Rattle.cap_spec.proofs.ProofNames.{no_root, past_limit, too_deep, Reason, Refusal, Step, common_steps}
+use Rattle.cap_spec.proofs.ProofNames.{List, [], arith, inl, inr, refl, subst, sym, ℕ, ◌+◌, ◌∙◌, ◌∷◌, ◌≡◌, ◌≢◌, ◌≤◌}
+use Rattle.cap_spec.proofs.ProofNames.{◌⊎◌, IsWithin, Denotes, Finds, Wrong, AreDistinct, IsOneOf, Costs, Reaches, word}
+use Rattle.cap_spec.proofs.ProofNames.{Tree, cap, null, scalars, CostOf, Justified, levels_below, no_root, past_limit}
+use Rattle.cap_spec.proofs.ProofNames.{too_deep, Reason, Refusal, Step, common_steps, rules}
 use Rattle.cap_spec.proofs.Trees.Charges.{one_cost}
-use Rattle.cap_spec.proofs.ProofNames.{rules}
 
 -- one of some paths, its cost, and the others
 pub record TakenOut (m : List (List ℕ)) (p : List Step) (qs : List (List Step)) (y : ℕ) : Type 0 where
@@ -72,7 +71,7 @@ take_out m p (q ∷ qs) y (inr i) (level, s, w, one, rest, reached, costs, after
 
 -- a path that is none of a list differs from each of them
 pub not_one_of : (p q : List Step) (ps : List (List Step)) → ¬ IsOneOf p ps → IsOneOf q ps → p ≢ q
-not_one_of p q ps n i e = n (subst (λ (u : List Step). IsOneOf u ps) (sym e) i)
+not_one_of p q ps n i e = n (rw e i)
 
 -- distinct paths among others cost at most what those cost
 pub distinct_cost : (m : List (List ℕ)) (ps qs : List (List Step)) (x y : ℕ) → AreDistinct ps
@@ -82,14 +81,8 @@ distinct_cost m (p ∷ ps) qs x y d k (level, s, w, one, rest, reached, costs, a
     let t : TakenOut m p qs y = take_out m p qs y (k p (inl refl)) h in
     let o = one_reached m p level t.level s w t.s t.w reached t.reached in
     let c : one ≡ t.one = one_cost m s w one t.one costs (rw (o.1, o.2) t.costs) in
-    omega (
-      arith,
-      c,
-      t.sum,
-      sum,
-      distinct_cost m ps t.others rest t.rest d.1
-          (λ q i. t.left q (k q (inr i)) (not_one_of p q ps d.0 i)) after t.cost,
-    )
+    let left = λ (q : List Step) (i : IsOneOf q ps). t.left q (k q (inr i)) (not_one_of p q ps d.0 i) in
+    omega (arith, c, t.sum, sum, distinct_cost m ps t.others rest t.rest d.1 left after t.cost)
 
 -- paths that have a cost reach words
 pub cost_reached : (m : List (List ℕ)) (ps : List (List Step)) (x : ℕ) (p : List Step) → CostOf m ps x → IsOneOf p ps
@@ -122,13 +115,8 @@ pub denoted_not_wrong : (m : List (List ℕ)) (s w : ℕ) (t : Tree) (c d : ℕ)
     → Wrong m s w v → ⊥
 denoted_not_wrong m s w null c d h v g = null-not_wrong m s w c h.0 v g
 denoted_not_wrong m s w (cap i) c d h v g = cap-not_wrong m s w c i h.0 v g
-denoted_not_wrong m s w (struct ws ts) c d (k, t, b, q, tag, ds, ps, inner, deep, found, own, each) v g =
-    object-not_wrong m s w k t b q found.object.finds v g
 denoted_not_wrong m s w (scalars e vs) c d (k, t, b, q, tag, n, found, own) v g = search (rules, object-not_wrong)
-denoted_not_wrong m s w (pointers ts) c d (k, t, b, q, tag, n, inner, deep, found, each) v g =
-    object-not_wrong m s w k t b q found.object.finds v g
-denoted_not_wrong m s w (structs ds ps es) c d (k, t, b, q, tag, n, inner, deep, found, each) v g =
-    object-not_wrong m s w k t b q found.object.finds v g
+denoted_not_wrong m s w x3 c d h v g = search (rules, object-not_wrong)
 
 -- Where the root denotes a tree, nothing is wrong at a pointer word that a path reaches.
 pub reached_not_wrong : (m : List (List ℕ)) (t : Tree) (c d : ℕ) → Denotes m 0 0 t c d
