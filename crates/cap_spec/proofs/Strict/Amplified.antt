@@ -42,28 +42,28 @@ fit-alike ws zero = tt
 fit-alike ws (suc n) = (refl, refl, tt, fit-alike ws n)
 
 -- trimmed, those of a zero word are those without words
-trim-zeros : (n : ℕ) → trim_elements (alike (0 ∷ []) n) ≡ alike (0 ∷ []) n
+trim-alike : (n : ℕ) → trim_elements (alike (0 ∷ []) n) ≡ alike (0 ∷ []) n
 unfolding alike
-trim-zeros zero = refl
-trim-zeros (suc n) = ap (λ (ts : Trees). more (struct (0 ∷ []) none) ts) (trim-zeros n)
+trim-alike zero = refl
+trim-alike (suc n) = ap (λ (ts : Trees). more (struct (0 ∷ []) none) ts) (trim-alike n)
 
-data-zeros : (n : ℕ) → data_of (alike (0 ∷ []) n) ≡ 0
+data-alike : (n : ℕ) → data_of (alike (0 ∷ []) n) ≡ 0
 unfolding alike
-data-zeros zero = refl
-data-zeros (suc n) = omega (arith, data-zeros n)
+data-alike zero = refl
+data-alike (suc n) = omega (arith, data-alike n)
 
-children-zeros : (n : ℕ) → children_of (alike (0 ∷ []) n) ≡ 0
+children-alike : (n : ℕ) → children_of (alike (0 ∷ []) n) ≡ 0
 unfolding alike
-children-zeros zero = refl
-children-zeros (suc n) = omega (arith, children-zeros n)
+children-alike zero = refl
+children-alike (suc n) = omega (arith, children-alike n)
 
-cut-zeros : (n : ℕ) → cut_elements 0 0 (alike (0 ∷ []) n) ≡ alike [] n
+cut-alike : (n : ℕ) → cut_elements 0 0 (alike (0 ∷ []) n) ≡ alike [] n
 unfolding alike
-cut-zeros zero = refl
-cut-zeros (suc n) = ap (λ (ts : Trees). more (struct [] none) ts) (cut-zeros n)
+cut-alike zero = refl
+cut-alike (suc n) = ap (λ (ts : Trees). more (struct [] none) ts) (cut-alike n)
 
-trimmed-zeros : (n : ℕ) → trim (structs 1 0 (alike (0 ∷ []) n)) ≡ structs 0 0 (alike [] n)
-trimmed-zeros n = rw (trim-zeros n, data-zeros n, children-zeros n, cut-zeros n) refl
+trimmed-alike : (n : ℕ) → trim (structs 1 0 (alike (0 ∷ []) n)) ≡ structs 0 0 (alike [] n)
+trimmed-alike n = rw (trim-alike n, data-alike n, children-alike n, cut-alike n) refl
 
 -- a list of such structs
 wide : ℕ → Tree
@@ -74,7 +74,7 @@ bare n = structs 0 0 (alike [] n)
 
 trim-wide : (n : ℕ) → trim (wide n) ≡ bare n
 unfolding wide bare
-trim-wide n = trimmed-zeros n
+trim-wide n = trimmed-alike n
 
 fits-wide : (n : ℕ) → n < 2 ^ 29 → Fits (wide n)
 unfolding wide
