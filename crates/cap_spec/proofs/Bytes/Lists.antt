@@ -1,5 +1,5 @@
 -- What holds of each member of a list holds of each member of its parts. A list with one more member, reversed.
-use Rattle.cap_spec.proofs.ProofNames.{List, None, Option, Some, [], ap, append-nil, drop, option_to_list, reverse, suc}
+use Rattle.cap_spec.proofs.ProofNames.{List, [], None, Option, Some, ap, append-nil, drop, option_to_list, reverse, suc}
 use Rattle.cap_spec.proofs.ProofNames.{take, zero, ℕ, ◌++◌, ◌∷◌, ◌≡◌, reverse-append, AllByRecursion}
 
 -- of a front

@@ -1,9 +1,9 @@
 -- Words and their plain encoding: each list of bytes splits into words and less than a word in one way.
 use Rattle.cap_spec.specs.Plain.{PlainSplits}
-use Rattle.cap_spec.proofs.Bytes.WordBytes.{bytes_back, bytes_below, word_back}
-use Rattle.cap_spec.proofs.ProofNames.{List, [], ap, append-nil, arith, drop, drop_at, length, refl, subst, suc}
-use Rattle.cap_spec.proofs.ProofNames.{sym, true, ℕ, ◌*◌, ◌++◌, ◌+◌, ◌/◌, ◌<◌, ◌↔◌, ◌∙◌, ◌∷◌, ◌≡◌, ◌≢◌, AllByRecursion}
-use Rattle.cap_spec.proofs.ProofNames.{little_number, plain_is_cut, plain_text, plain_words, word_bytes, IsWord, rules}
+use Rattle.cap_spec.proofs.Bytes.WordBytes.{bytes_back}
+use Rattle.cap_spec.proofs.ProofNames.{List, [], ap, arith, drop, drop_at, length, refl, subst, suc, sym, true, ℕ, ◌*◌}
+use Rattle.cap_spec.proofs.ProofNames.{◌++◌, ◌+◌, ◌/◌, ◌<◌, ◌↔◌, ◌∙◌, ◌∷◌, ◌≡◌, ◌≢◌, AllByRecursion, little_number}
+use Rattle.cap_spec.proofs.ProofNames.{plain_is_cut, plain_text, plain_words, word_bytes, IsWord, rules}
 
 -- eight bytes a word
 pub length_plain : (ws : List ℕ) → length (plain_text ws) ≡ 8 * length ws
@@ -20,13 +20,13 @@ words_exact (a ∷ b ∷ c ∷ d ∷ []) = refl
 words_exact (a ∷ b ∷ c ∷ d ∷ e ∷ []) = refl
 words_exact (a ∷ b ∷ c ∷ d ∷ e ∷ f ∷ []) = refl
 words_exact (a ∷ b ∷ c ∷ d ∷ e ∷ f ∷ g ∷ []) = refl
-words_exact (a ∷ b ∷ c ∷ d ∷ e ∷ f ∷ g ∷ h ∷ rest) = let t = words_exact rest in omega (arith, t)
+words_exact (a ∷ b ∷ c ∷ d ∷ e ∷ f ∷ g ∷ h ∷ rest) = omega (arith, words_exact rest)
 
 -- the text of words, whatever is after it, begins with these words
 pub plain_back : (ws rest : List ℕ) → AllByRecursion IsWord ws
     → plain_words (plain_text ws ++ rest) ≡ ws ++ plain_words rest
 plain_back [] rest a = refl
-plain_back (x ∷ ws) rest a = search (rules, word_back, plain_back ws rest a.1)
+plain_back (x ∷ ws) rest a = search (rules, plain_back ws rest a.1)
 
 -- and is cut where what is after it is
 pub plain_cut_back : (ws rest : List ℕ) → plain_is_cut (plain_text ws ++ rest) ≡ plain_is_cut rest
@@ -44,7 +44,7 @@ plain_cut_short a rest l = search rules
 -- eight bytes make a word
 pub eight_word : (a b c d e f g h : ℕ) → AllByRecursion (λ x. x < 256) (a ∷ b ∷ c ∷ d ∷ e ∷ f ∷ g ∷ h ∷ [])
     → IsWord (little_number 8 (a ∷ b ∷ c ∷ d ∷ e ∷ f ∷ g ∷ h ∷ []))
-eight_word a b c d e f g h all = let t = bytes_below (a ∷ b ∷ c ∷ d ∷ e ∷ f ∷ g ∷ h ∷ []) all in omega arith
+eight_word a b c d e f g h all = omega arith
 
 -- the bytes of that word are these
 pub eight_back : (a b c d e f g h : ℕ) → AllByRecursion (λ x. x < 256) (a ∷ b ∷ c ∷ d ∷ e ∷ f ∷ g ∷ h ∷ [])
@@ -95,7 +95,7 @@ plain_split (a ∷ b ∷ c ∷ d ∷ e ∷ f ∷ g ∷ h ∷ rest) all =
 
 -- bytes that split into words and less than a word begin with just these words
 pub plain_words_of : (bytes words rest : List ℕ) → PlainSplits bytes words rest → words ≡ plain_words bytes
-plain_words_of bytes words rest s = search (rules, plain_back, plain_short, append-nil)
+plain_words_of bytes words rest s = search (rules, plain_back)
 
 -- and leave just this
 pub plain_rest_of : (bytes words rest : List ℕ) → PlainSplits bytes words rest
@@ -106,7 +106,7 @@ plain_rest_of bytes words rest s = search (rules, drop_at, length_plain, plain_w
 pub plain_cut_of : (bytes words rest : List ℕ) → PlainSplits bytes words rest
     → (plain_is_cut bytes ≡ true) ↔ (rest ≢ [])
 plain_cut_of bytes words [] s = search (rules, plain_cut_back)
-plain_cut_of bytes words (x ∷ rest) s = search (rules, plain_cut_back, plain_cut_short)
+plain_cut_of bytes words (x ∷ rest) s = search (rules, plain_cut_back)
 
 -- these words and this rest are such a split
 pub plain_split_by : (bytes words rest : List ℕ) → AllByRecursion (λ b. b < 256) bytes → words ≡ plain_words bytes

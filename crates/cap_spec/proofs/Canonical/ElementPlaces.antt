@@ -1,10 +1,11 @@
 -- Where the parts of a list of structs start in a layout, and how far their pointers lead.
+use Rattle.cap_spec.proofs.ProofNames.{rules}
 use Rattle.std.proofs.Common.{List, arith, length, length-append, suc, ℕ, ◌*◌, ◌++◌, ◌+◌, ◌<◌, ◌≡◌}
 
 -- where the parts of an element's words are
 pub element_end : (eb d p : ℕ) (ws pw : List ℕ) (k : ℕ) → length ws ≡ d → length pw ≡ k → k ≡ p
     → eb + d + p ≡ eb + length (ws ++ pw)
-element_end eb d p ws pw k e f g = let a = length-append ws pw in omega (arith, a, e, f, g)
+element_end eb d p ws pw k e f g = search (rules, length-append)
 
 -- where the contents of an element's children begin, and those of the further elements
 pub children_begin : (cb eb n d p k after : ℕ) → cb ≡ eb + suc n * (d + p) + after → k ≡ p

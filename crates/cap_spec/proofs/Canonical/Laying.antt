@@ -1,19 +1,20 @@
 -- The layout of a tree denotes that tree.
+use Rattle.cap_spec.proofs.ProofNames.{rules, List, [], ap, ap₂, arith, if◌then◌else◌, length, refl, sym, ℕ, ◌*◌, ◌+◌}
+use Rattle.cap_spec.proofs.ProofNames.{◌-◌, ◌<◌, ◌==◌, ◌^◌, ◌∙◌, ◌∷◌, ◌≡◌, ◌≢◌, ◌≤◌, slice_get_within, AllByRecursion}
+use Rattle.cap_spec.proofs.ProofNames.{pointer_to, struct_word, AreElements, DenoteEach, Denotes, Finds, FindsKind}
+use Rattle.cap_spec.proofs.ProofNames.{element_levels, values_of, IsComposite, TagFits, extra, near, HasWord, HasKind}
+use Rattle.cap_spec.proofs.ProofNames.{HasWordsAt, data_size, element_bits, extent, kind, list_size, list_words, middle}
+use Rattle.cap_spec.proofs.ProofNames.{pointer_size, scalar_words, Trees, more, pointers, scalars, struct, structs}
+use Rattle.cap_spec.proofs.ProofNames.{tree_count, Pointers, Scalars, Struct, Structs}
 use Rattle.cap_spec.specs.Denoting.{places}
 use Rattle.cap_spec.specs.ObjectShapes.{is_pointers, is_scalars, is_struct, is_structs}
 use Rattle.cap_spec.specs.Tree.{none}
 use Rattle.cap_spec.proofs.Canonical.Placing.{lie_inside, lie_read, lie_word}
 use Rattle.cap_spec.proofs.Canonical.PointerFields.{ListFields, StructFields, start_after, start_before, struct_fields}
 use Rattle.cap_spec.proofs.Canonical.TreeMeasures.{idle, scalars_extra, structs_extra}
-use Rattle.cap_spec.proofs.Pointers.Shapes.{pointers_extra, pointers_levels, pointers_words, scalars_levels, scalars_words}
-use Rattle.cap_spec.proofs.Pointers.Shapes.{struct_extra, struct_levels, struct_words, structs_levels, structs_words}
-use Rattle.cap_spec.proofs.ProofNames.{List, [], ap, ap₂, arith, if◌then◌else◌, length, ne_eqb, refl, subst, sym, ℕ, ◌*◌}
-use Rattle.cap_spec.proofs.ProofNames.{◌+◌, ◌-◌, ◌<◌, ◌==◌, ◌^◌, ◌∙◌, ◌∷◌, ◌≡◌, ◌≢◌, ◌≤◌, slice_get_within, AllByRecursion}
-use Rattle.cap_spec.proofs.ProofNames.{pointer_to, struct_word, AreElements, DenoteEach, Denotes, Finds, FindsKind}
-use Rattle.cap_spec.proofs.ProofNames.{element_levels, values_of, IsComposite, TagFits, extra, near, HasWord, HasKind}
-use Rattle.cap_spec.proofs.ProofNames.{HasWordsAt, data_size, element_bits, extent, kind, list_size, list_words, middle}
-use Rattle.cap_spec.proofs.ProofNames.{pointer_size, scalar_words, Trees, more, pointers, scalars, struct, structs}
-use Rattle.cap_spec.proofs.ProofNames.{tree_count, Pointers, Scalars, Struct, Structs}
+use Rattle.cap_spec.proofs.Pointers.Shapes.{pointers_extra, pointers_levels, pointers_words, scalars_levels}
+use Rattle.cap_spec.proofs.Pointers.Shapes.{scalars_words, struct_extra, struct_levels, struct_words, structs_levels}
+use Rattle.cap_spec.proofs.Pointers.Shapes.{structs_words}
 use Rattle.cap_spec.proofs.Trees.Charges.{extent_struct}
 use Rattle.cap_spec.proofs.Trees.ReadingBack.{length-scalar_words, scalars_read}
 
@@ -135,9 +136,7 @@ empty_laid seg a h =
 some_words : (seg : List ℕ) (a offset d p : ℕ) → 0 < d + p
     → HasWord (seg ∷ []) 0 a (if (d + p) == 0 then 2 ^ 32 - 4 else struct_word offset d p)
     → HasWord (seg ∷ []) 0 a (struct_word offset d p)
-some_words seg a offset d p some h =
-    subst (λ y. HasWord (seg ∷ []) 0 a (if y then 2 ^ 32 - 4 else struct_word offset d p))
-    (ne_eqb (d + p) 0 (λ z. absurd (omega (arith, z, some)))) h
+some_words seg a offset d p some h = search rules
 
 -- each struct
 pub any_struct_laid : (seg ws : List ℕ) (ts : Trees) (a b offset inner deep : ℕ)
@@ -146,14 +145,7 @@ pub any_struct_laid : (seg ws : List ℕ) (ts : Trees) (a b offset inner deep : 
     → b + length ws + tree_count ts ≤ length seg → HasWordsAt seg b ws
     → DenoteEach (seg ∷ []) (places 0 (b + length ws) (tree_count ts)) ts inner deep
     → Denotes (seg ∷ []) 0 a (struct ws ts) (length ws + tree_count ts + inner) (1 + deep)
-any_struct_laid seg [] none a b offset inner deep h hd hp e lt le st each =
-    let c : 0 ≡ inner = sym each.1 in
-    let d : 0 ≡ deep = sym each.2 in
-    moved inner deep c d (empty_laid seg a h)
-  where
-    moved : (x y : ℕ) → 0 ≡ x → 0 ≡ y → Denotes (seg ∷ []) 0 a (struct [] none) 0 1
-        → Denotes (seg ∷ []) 0 a (struct [] none) (0 + 0 + x) (1 + y)
-    moved x y e g h = rw (← e, ← g) h
+any_struct_laid seg [] none a b offset inner deep h hd hp e lt le st each = search (rules, empty_laid)
 any_struct_laid seg (x ∷ xs) ts a b offset inner deep h hd hp e lt le st each =
     let s : 0 < length (x ∷ xs) + tree_count ts = omega arith in
     struct_laid seg (x ∷ xs) ts a b offset (struct_word offset (length (x ∷ xs)) (tree_count ts)) inner deep

@@ -2,27 +2,27 @@
 use Rattle.std.proofs.Common.{div-mul-le_self, pow-add, pow_mono}
 use Rattle.cap_spec.specs.Tree.{none}
 use Rattle.cap_spec.proofs.Bytes.Lists.{all_append, all_drop, all_take}
-use Rattle.cap_spec.proofs.Canonical.ElementPlaces.{children_near, elements_only, rest_near, without_tag}
+use Rattle.cap_spec.proofs.Canonical.ElementPlaces.{elements_only, rest_near}
 use Rattle.cap_spec.proofs.Canonical.Sizes.{trimmed_size_charged}
-use Rattle.cap_spec.proofs.Canonical.TreeMeasures.{FitEach, FitElements, Fits, Measured, measured}
-use Rattle.cap_spec.proofs.Canonical.TrimmedMeasures.{Trimmed, trimmed}
+use Rattle.cap_spec.proofs.Canonical.TreeMeasures.{FitEach, FitElements, Fits, measured}
+use Rattle.cap_spec.proofs.Canonical.TrimmedMeasures.{trimmed}
 use Rattle.cap_spec.proofs.Canonical.TrimmedTrees.{trimmed_is_tree}
-use Rattle.cap_spec.proofs.ProofNames.{List, [], arith, drop, length, length-take, map, subst}
-use Rattle.cap_spec.proofs.ProofNames.{suc, sym, take, zero, ℕ, ◌*◌, ◌++◌, ◌+◌, ◌-◌, ◌/◌, ◌<◌, ◌^◌, ◌∷◌, ◌≡◌}
-use Rattle.cap_spec.proofs.ProofNames.{◌≤◌, mul-le, AllByRecursion, range_with_len, content, contents, element_contents}
-use Rattle.cap_spec.proofs.ProofNames.{element_sizes, element_words, layout, list_word, pointer_to, pointer_words, size}
-use Rattle.cap_spec.proofs.ProofNames.{sizes, struct_word, trim, Denotes, element_bits, list_words, packed_word}
-use Rattle.cap_spec.proofs.ProofNames.{scalar_words, AreElementTrees, AreTrees, IsTree, Tree, Trees, cap, more, null}
-use Rattle.cap_spec.proofs.ProofNames.{pointers, scalars, struct, structs, tree_count, IsWord, rules}
+use Rattle.cap_spec.proofs.ProofNames.{List, [], arith, drop, length, length-take, map, subst, suc, sym, take, zero, ℕ}
+use Rattle.cap_spec.proofs.ProofNames.{◌*◌, ◌+◌, ◌-◌, ◌<◌, ◌^◌, ◌∷◌, ◌≡◌, ◌≤◌, mul-le, AllByRecursion, range_with_len}
+use Rattle.cap_spec.proofs.ProofNames.{content, contents, element_contents, element_sizes, element_words, layout}
+use Rattle.cap_spec.proofs.ProofNames.{list_word, pointer_to, pointer_words, size, sizes, struct_word, trim, Denotes}
+use Rattle.cap_spec.proofs.ProofNames.{element_bits, packed_word, scalar_words, AreElementTrees, AreTrees, IsTree, Tree}
+use Rattle.cap_spec.proofs.ProofNames.{Trees, cap, more, null, pointers, scalars, struct, structs, tree_count, IsWord}
+use Rattle.cap_spec.proofs.ProofNames.{rules}
 use Rattle.cap_spec.proofs.Trees.DenotedTrees.{AreWords, denoted_is_tree}
 
 -- values of one word fit the bits that they take together
 one_more : (v b m p : ℕ) → v < b → m < p → v + b * m < b * p
-one_more v b m p h g = let e : b * suc m ≤ b * p = mul-le b (suc m) b p (omega arith) g in omega (arith, e, h)
+one_more v b m p h g = search rules
 
 packed_below : (bits : ℕ) (vs : List ℕ) → AllByRecursion (λ v. v < 2 ^ bits) vs
     → packed_word bits vs < 2 ^ (length vs * bits)
-packed_below bits [] a = let e : 0 * bits ≡ 0 = omega arith in subst (λ n. 0 < 2 ^ n) (sym e) (omega arith)
+packed_below bits [] a = search rules
 packed_below bits (v ∷ vs) a =
     let s : bits + length vs * bits ≡ suc (length vs) * bits = omega arith in
     let e : 2 ^ (suc (length vs) * bits) ≡ 2 ^ bits * 2 ^ (length vs * bits) =
@@ -50,8 +50,7 @@ value_words_are bits per a (suc count) vs h f =
 
 scalar_words_are : (c : ℕ) (vs : List ℕ) → AllByRecursion (λ v. v < 2 ^ element_bits c) vs
     → AllByRecursion IsWord (scalar_words c vs)
-scalar_words_are c vs f = value_words_are (element_bits c) (64 / element_bits c) 0 (list_words c (length vs)) vs
-    (div-mul-le_self 64 (element_bits c)) f
+scalar_words_are c vs f = search (rules, value_words_are, div-mul-le_self)
 
 -- the pointer to a tree that fits
 struct_is_word : (offset d p : ℕ) → offset < 2 ^ 30 → d < 2 ^ 16 → p < 2 ^ 16 → struct_word offset d p < 2 ^ 64
@@ -61,30 +60,20 @@ list_is_word : (offset c n : ℕ) → offset < 2 ^ 30 → c < 8 → n < 2 ^ 29 �
 list_is_word offset c n ho hc hn = omega arith
 
 pub pointer_is_word : (offset : ℕ) (t : Tree) → Fits t → offset < 2 ^ 30 → pointer_to offset t < 2 ^ 64
-pointer_is_word offset t f l = search (rules, list_is_word)
+pointer_is_word offset t f l = search rules
 
 -- pointers in a row
 row_is_words : (after : ℕ) (ts : Trees) → FitEach ts → after + tree_count ts + sizes ts < 2 ^ 29
     → AllByRecursion IsWord (pointer_words after ts)
 row_is_words after none f l = tt
-row_is_words after (more t ts) f l = (
-  pointer_is_word (tree_count ts + after) t f.0 (omega (arith, l)),
-  row_is_words (after + size t) ts f.1 (omega (arith, l)),
-)
+row_is_words after (more t ts) f l = search (rules, row_is_words (after + size t) ts f.1 (omega (arith, l)))
 
 -- elements in a row
 elements_are_words : (d p after : ℕ) (es : Trees) → AreElementTrees d p es → FitElements d p es
     → after + tree_count es * (d + p) + element_sizes es < 2 ^ 29
     → AllByRecursion IsWord (element_words (d + p) after es)
 elements_are_words d p after none a f l = tt
-elements_are_words d p after (more (struct ws ts) es) a f l =
-    let pw = pointer_words (tree_count es * (d + p) + after) ts in
-    let ew = element_words (d + p) (after + sizes ts) es in
-    all_append IsWord (ws ++ pw) ew
-    (all_append IsWord ws pw a.0 (row_is_words (tree_count es * (d + p) + after) ts f.2
-    (children_near after (tree_count es) d p (tree_count ts) (sizes ts) (element_sizes es) (2 ^ 29) l f.1)))
-    (elements_are_words d p (after + sizes ts) es a.4 f.3
-    (rest_near after (tree_count es) (d + p) (sizes ts) (element_sizes es) (2 ^ 29) l))
+elements_are_words d p after (more (struct ws ts) es) a f l = search (rules, all_append, row_is_words, elements_are_words d p (after + sizes ts) es a.4 f.3 (rest_near after (tree_count es) (d + p) (sizes ts) (element_sizes es) (2 ^ 29) l))
 elements_are_words d p after (more t es) a f l = absurd a
 
 mutual
@@ -92,44 +81,23 @@ mutual
   pub content_is_words : (t : Tree) → IsTree t → Fits t → size t < 2 ^ 29 → AllByRecursion IsWord (content t)
   content_is_words null a f l = tt
   content_is_words (cap i) a f l = tt
-  content_is_words (struct ws ts) a f l =
-      all_append IsWord (ws ++ pointer_words 0 ts) (contents ts)
-      (all_append IsWord ws (pointer_words 0 ts) a.0 (row_is_words 0 ts f.2 (omega (arith, l))))
-      (contents_are_words ts a.1 f.2 (omega (arith, l)))
+  content_is_words (struct ws ts) a f l = search (rules, all_append, row_is_words, contents_are_words ts a.1 f.2 (omega (arith, l)))
   content_is_words (scalars c vs) a f l = scalar_words_are c vs f.2
-  content_is_words (pointers ts) a f l =
-      all_append IsWord (pointer_words 0 ts) (contents ts) (row_is_words 0 ts f.1 (omega (arith, l)))
-      (contents_are_words ts a f.1 (omega (arith, l)))
-  content_is_words (structs d p es) a f l = (
-    struct_is_word (tree_count es) d p f.2 f.0 f.1,
-    all_append IsWord (element_words (d + p) 0 es) (element_contents es)
-        (elements_are_words d p 0 es a f.4 (without_tag (tree_count es * (d + p)) (element_sizes es) (2 ^ 29) l))
-        (element_contents_are_words d p es a f.4
-        (elements_only (tree_count es * (d + p)) (element_sizes es) (2 ^ 29) l)),
-  )
+  content_is_words (pointers ts) a f l = search (rules, all_append, row_is_words, contents_are_words ts a f.1 (omega (arith, l)))
+  content_is_words (structs d p es) a f l = search (rules, all_append, elements_are_words, element_contents_are_words d p es a f.4 (elements_only (tree_count es * (d + p)) (element_sizes es) (2 ^ 29) l))
 
   pub contents_are_words : (ts : Trees) → AreTrees ts → FitEach ts → sizes ts < 2 ^ 29
       → AllByRecursion IsWord (contents ts)
   contents_are_words none a f l = tt
-  contents_are_words (more t ts) a f l =
-      all_append IsWord (content t) (contents ts) (content_is_words t a.0 f.0 (omega (arith, l)))
-      (contents_are_words ts a.1 f.1 (omega (arith, l)))
+  contents_are_words (more t ts) a f l = search (rules, all_append, contents_are_words ts a.1 f.1 (omega (arith, l)), content_is_words t a.0 f.0 (omega (arith, l)))
 
   pub element_contents_are_words : (d p : ℕ) (es : Trees) → AreElementTrees d p es → FitElements d p es
       → element_sizes es < 2 ^ 29 → AllByRecursion IsWord (element_contents es)
   element_contents_are_words d p none a f l = tt
-  element_contents_are_words d p (more (struct ws ts) es) a f l =
-      all_append IsWord (contents ts) (element_contents es) (contents_are_words ts a.3 f.2 (omega (arith, l)))
-      (element_contents_are_words d p es a.4 f.3 (omega (arith, l)))
+  element_contents_are_words d p (more (struct ws ts) es) a f l = search (rules, all_append, element_contents_are_words d p es a.4 f.3 (omega (arith, l)), contents_are_words ts a.3 f.2 (omega (arith, l)))
   element_contents_are_words d p (more t es) a f l = absurd a
 
 -- the layout of what a message of words denotes, trimmed
 pub layout_is_words : (m : List (List ℕ)) (s w : ℕ) (t : Tree) (c d : ℕ) → AreWords m → Denotes m s w t c d → c < 2 ^ 29
     → AllByRecursion IsWord (layout (trim t))
-layout_is_words m s w t c d a h l =
-    let k : Measured t c d = measured m s w t c d h in
-    let b : Trimmed t (trim t) = trimmed t k.fits in
-    let e : size (trim t) ≤ c = trimmed_size_charged m s w t c d h in (
-      pointer_is_word 0 (trim t) b.fits (omega arith),
-      content_is_words (trim t) (trimmed_is_tree t (denoted_is_tree m a s w t c d h)) b.fits (omega arith),
-    )
+layout_is_words m s w t c d a h l = search (rules, measured, trimmed, trimmed_size_charged, pointer_is_word, content_is_words, trimmed_is_tree, denoted_is_tree)

@@ -1,17 +1,16 @@
 -- How much a tree is charged without pads, how deep it is, and that its sizes fit the fields of pointer words:
 -- of what is denoted, and of the trimmed tree.
+use Rattle.cap_spec.proofs.ProofNames.{rules, common_steps, List, ap, ap₂, arith, if◌then◌else◌, length, max, ne_eqb}
+use Rattle.cap_spec.proofs.ProofNames.{refl, suc, sym, ℕ, ◌*◌, ◌+◌, ◌<◌, ◌==◌, ◌^◌, ◌∙◌, ◌≡◌, ◌≤◌, AllByRecursion, ⊤}
+use Rattle.cap_spec.proofs.ProofNames.{AreElements, DenoteEach, Denotes, FindsCharged, element_levels, values_of}
+use Rattle.cap_spec.proofs.ProofNames.{words_from, extra, segment_of, HasKind, code, data_size, element_bits, extent}
+use Rattle.cap_spec.proofs.ProofNames.{kind, list_size, list_words, middle, pointer_size, Tree, Trees, cap, more, null}
+use Rattle.cap_spec.proofs.ProofNames.{pointers, scalars, struct, structs, tree_count, Pointers, Scalars, Struct}
+use Rattle.cap_spec.proofs.ProofNames.{Structs}
 use Rattle.cap_spec.specs.Denoting.{places}
 use Rattle.cap_spec.specs.Tree.{none}
-use Rattle.cap_spec.proofs.Pointers.Shapes.{pointers_levels, pointers_shape, pointers_words, scalars_levels, scalars_shape}
-use Rattle.cap_spec.proofs.Pointers.Shapes.{scalars_words, struct_levels, struct_shape, struct_words, structs_levels}
-use Rattle.cap_spec.proofs.Pointers.Shapes.{structs_shape, structs_words}
-use Rattle.cap_spec.proofs.ProofNames.{List, ap, ap₂, arith, false, if◌then◌else◌, length, max, ne_eqb, refl, suc, sym, ℕ}
-use Rattle.cap_spec.proofs.ProofNames.{◌*◌, ◌+◌, ◌<◌, ◌==◌, ◌^◌, ◌∙◌, ◌≡◌, ◌≤◌, AllByRecursion, ⊤, AreElements}
-use Rattle.cap_spec.proofs.ProofNames.{DenoteEach, Denotes, FindsCharged, element_levels, values_of, words_from, extra}
-use Rattle.cap_spec.proofs.ProofNames.{segment_of, HasKind, code, data_size, element_bits, extent, kind, list_size}
-use Rattle.cap_spec.proofs.ProofNames.{list_words, middle, pointer_size, Tree, Trees, cap, more, null, pointers, scalars}
-use Rattle.cap_spec.proofs.ProofNames.{struct, structs, tree_count, Pointers, Scalars, Struct, Structs}
-use Rattle.cap_spec.proofs.Trees.Charges.{each_charged, elements_fit, length-places}
+use Rattle.cap_spec.proofs.Pointers.Shapes.{scalars_levels, scalars_shape, scalars_words}
+use Rattle.cap_spec.proofs.Trees.Charges.{each_charged, length-places}
 use Rattle.cap_spec.proofs.Trees.DenotedTrees.{cap_fits, elements_inside, range_length, values_fit}
 use Rattle.cap_spec.proofs.Trees.Readings.{length-values}
 
@@ -108,30 +107,16 @@ long_fits q = (omega arith, omega arith)
 
 -- the cost of a list of values beside its words, and that of a list of structs
 pub scalars_extra : {q tag e n : ℕ} → HasKind q tag (Scalars e n) → extra q tag ≡ idle e n
-scalars_extra {q} {tag} {e} {n} h =
-    let x = scalars_shape h in
-    let seven : (code q == 7) ≡ false = ne_eqb (code q) 7 (λ z. omega (arith, z, x.code, x.scalar)) in
-    rw (x.kind, seven, x.code, x.count) refl
+scalars_extra {q} {tag} {e} {n} h = search rules
 
 pub structs_extra : {q tag n ds ps : ℕ} → HasKind q tag (Structs n ds ps) → extra q tag ≡ idle (ds + ps) n
-structs_extra {q} {tag} {n} {ds} {ps} h =
-    let x = structs_shape h in rw (x.kind, x.code, x.count, x.data_words, x.pointers) refl
+structs_extra {q} {tag} {n} {ds} {ps} h = search rules
 
 -- a struct that is found, with its measured children
 struct_measured : {m : List (List ℕ)} {s w k t b q tag ds ps inner deep c d : ℕ} (words : List ℕ) (ts : Trees)
     → FindsCharged m s w (Struct ds ps) k t b q tag inner deep c d → words ≡ words_from m t b ds
     → tree_count ts ≡ ps → EachMeasured ts inner deep → Measured (struct words ts) c d
-struct_measured {m} {s} {w} {k} {t} {b} {q} {tag} {ds} {ps} {inner} {deep} {c} {d} words ts f own n each =
-    let h = f.object.shape in
-    let x = struct_shape h in
-    let l : length words ≡ ds = ap length own
-    ∙ range_length m t b ds (omega (arith, f.object.finds.inside.inside, struct_words h)) in
-    let y = short_fits q in
-    record {
-      fits = (omega (arith, l, x.data_words, y.0), omega (arith, n, x.pointers, y.1), each.fits);
-      charged = omega (arith, f.charge, each.charged, l, n, struct_words h);
-      deep = omega (arith, f.depth, struct_levels h, each.deep);
-    }
+struct_measured {m} {s} {w} {k} {t} {b} {q} {tag} {ds} {ps} {inner} {deep} {c} {d} words ts f own n each = search (rules, range_length, short_fits)
 
 -- a list of values that is found
 scalars_measured : {m : List (List ℕ)} {s w e k t b q tag n c d : ℕ} (vs : List ℕ)
@@ -160,83 +145,33 @@ scalars_measured {m} {s} {w} {e} {k} {t} {b} {q} {tag} {n} {c} {d} vs f own =
 pointers_measured : {m : List (List ℕ)} {s w k t b q tag n inner deep c d : ℕ} (ts : Trees)
     → FindsCharged m s w (Pointers n) k t b q tag inner deep c d
     → tree_count ts ≡ n → EachMeasured ts inner deep → Measured (pointers ts) c d
-pointers_measured {m} {s} {w} {k} {t} {b} {q} {tag} {n} {inner} {deep} {c} {d} ts f count each =
-    let h = f.object.shape in
-    let x = pointers_shape h in
-    let y = long_fits q in
-    record {
-      fits = (omega (arith, count, x.count, y.0), each.fits);
-      charged = omega (arith, f.charge, each.charged, count, pointers_words h);
-      deep = omega (arith, f.depth, pointers_levels h, each.deep);
-    }
+pointers_measured {m} {s} {w} {k} {t} {b} {q} {tag} {n} {inner} {deep} {c} {d} ts f count each = search rules
 
 -- a list of structs that is found, with its measured elements
 structs_measured : {m : List (List ℕ)} {s w ds ps k t b q tag n inner deep c d : ℕ} (es : Trees)
     → FindsCharged m s w (Structs n ds ps) k t b q tag inner deep c d
     → ElementsMeasured ds ps n es inner deep → Measured (structs ds ps es) c d
-structs_measured {m} {s} {w} {ds} {ps} {k} {t} {b} {q} {tag} {n} {inner} {deep} {c} {d} es f each =
-    let h = f.object.shape in
-    let x = structs_shape h in
-    let i : n * ds + n * ps ≤ list_size q = elements_fit f.object in
-    let j : tree_count es * (ds + ps) ≤ list_size q = rw each.count (omega (arith, i)) in
-    let y : idle (ds + ps) (tree_count es) ≡ extra q tag = rw each.count (sym (structs_extra h)) in
-    let z = short_fits tag in
-    let u = long_fits q in
-    let v = long_fits tag in
-    record {
-      fits = (
-        omega (arith, x.data_words, z.0),
-        omega (arith, x.pointers, z.1),
-        omega (arith, each.count, x.count, v.1),
-        below (tree_count es * (ds + ps)) (list_size q) (2 ^ 29) j u.0,
-        each.fits,
-      );
-      charged = sum_above k (extent q) (extra q tag) inner (tree_count es * (ds + ps)) (idle (ds + ps) (tree_count es))
-          (element_costs es) (list_size q) c f.charge (structs_words h) y j each.charged;
-      deep = omega (arith, f.depth, structs_levels h, ap element_levels each.count, each.deep);
-    }
-  where
-    below : (a b n : ℕ) → a ≤ b → b < n → a < n
-    below a b n h g = omega arith
-
-    sum_above : (k x y i a b e l c : ℕ) → c ≡ k + x + y + i → x ≡ 1 + l → b ≡ y → a ≤ l → e ≤ i → 1 + a + b + e ≤ c
-    sum_above k x y i a b e l c e1 e2 e3 e4 e5 = omega arith
+structs_measured {m} {s} {w} {ds} {ps} {k} {t} {b} {q} {tag} {n} {inner} {deep} {c} {d} es f each = search rules
 
 mutual
   -- what a word denotes is charged its cost at least, is as deep as reported, and fits
   pub measured : (m : List (List ℕ)) (s w : ℕ) (t : Tree) (c d : ℕ) → Denotes m s w t c d → Measured t c d
   measured m s w null c d h = record { fits = tt; charged = omega arith; deep = sym h.1 }
   measured m s w (cap i) c d h = record { fits = cap_fits m s w c i h.0; charged = omega arith; deep = sym h.1 }
-  measured m s w (struct words ts) c d (k, t, b, q, tag, ds, ps, inner, deep, found, own, each) =
-      struct_measured words ts found own
-      ((each_charged m (places t (b + ds) ps) ts inner deep each).0 ∙ length-places t (b + ds) ps)
-      (each_measured m (places t (b + ds) ps) ts inner deep each)
+  measured m s w (struct words ts) c d (k, t, b, q, tag, ds, ps, inner, deep, found, own, each) = grind (arith, common_steps, each_charged, length-places, each_measured m (places t (b + ds) ps) ts inner deep each)
   measured m s w (scalars e vs) c d (k, t, b, q, tag, n, found, own) = scalars_measured vs found own
-  measured m s w (pointers ts) c d (k, t, b, q, tag, n, inner, deep, found, each) =
-      pointers_measured ts found
-      ((each_charged m (places t b n) ts inner deep each).0 ∙ length-places t b n)
-      (each_measured m (places t b n) ts inner deep each)
-  measured m s w (structs ds ps es) c d (k, t, b, q, tag, n, inner, deep, found, each) =
-      structs_measured es found
-      (elements_measured m t (b + 1) ds ps n es inner deep (elements_inside found.object) each)
+  measured m s w (pointers ts) c d (k, t, b, q, tag, n, inner, deep, found, each) = search (rules, each_charged, length-places, each_measured m (places t b n) ts inner deep each)
+  measured m s w (structs ds ps es) c d (k, t, b, q, tag, n, inner, deep, found, each) = search (rules, elements_measured m t (b + 1) ds ps n es inner deep (elements_inside found.object) each)
 
   pub each_measured : (m : List (List ℕ)) (ps : List (ℕ × ℕ)) (ts : Trees) (c d : ℕ) → DenoteEach m ps ts c d
       → EachMeasured ts c d
   each_measured m ps none c d h = record { fits = tt; charged = omega arith; deep = sym h.2 }
-  each_measured m ps (more t ts) c d (s, w, rest, c1, d1, c2, d2, begins, denotes, after, charge, depth) =
-      let a : Measured t c1 d1 = measured m s w t c1 d1 denotes in
-      let b : EachMeasured ts c2 d2 = each_measured m rest ts c2 d2 after in
-      record {
-        fits = (a.fits, b.fits);
-        charged = omega (arith, a.charged, b.charged, charge);
-        deep = ap₂ max a.deep b.deep ∙ sym depth;
-      }
+  each_measured m ps (more t ts) c d (s, w, rest, c1, d1, c2, d2, begins, denotes, after, charge, depth) = search (rules, each_measured m rest ts c2 d2 after, measured m s w t c1 d1 denotes)
 
   pub elements_measured : (m : List (List ℕ)) (t b ds ps n : ℕ) (es : Trees) (c d : ℕ)
       → b + n * ds + n * ps ≤ length (segment_of m t)
       → AreElements m t b ds ps n es c d → ElementsMeasured ds ps n es c d
-  elements_measured m t b ds ps n none c d le h =
-      record { fits = tt; count = sym h.0; charged = omega arith; deep = sym h.2 }
+  elements_measured m t b ds ps n none c d le h = omega arith
   elements_measured m t b ds ps n (more (struct words ts) es) c d le h =
       let (fewer, c1, d1, c2, d2, counted, own, each, after, charge, depth) = h in
       let x : n * ds ≡ ds + fewer * ds = rw counted (omega arith) in

@@ -1,7 +1,6 @@
 -- A trimmed tree costs no more, is as deep, and fits where the tree fits.
-use Rattle.std.proofs.Common.{List, [], ap, ap₂, arith, if◌then◌else◌, length, length-take, length-take-le, max, refl}
-use Rattle.std.proofs.Common.{suc, sym, zero, ℕ, ◌*◌, ◌+◌, ◌<◌, ◌==◌, ◌^◌, ◌∙◌, ◌∷◌, ◌≡◌, ◌≤◌, rules}
-use Rattle.std.proofs.Math.Dec.{eqb-suc-zero}
+use Rattle.std.proofs.Common.{List, [], ap, ap₂, arith, if◌then◌else◌, length, length-take, refl, suc, sym, zero, ℕ}
+use Rattle.std.proofs.Common.{◌*◌, ◌+◌, ◌<◌, ◌==◌, ◌^◌, ◌∙◌, ◌∷◌, ◌≡◌, ◌≤◌, rules}
 use Rattle.std.proofs.lemmas.Nat.{mul-le}
 use Rattle.cap_spec.specs.Canonical.{children_needed, children_of, cut_elements, data_needed, data_of, is_null}
 use Rattle.cap_spec.specs.Canonical.{take_trees, trim, trim_all, trim_elements, trim_struct, trim_structs}
@@ -14,43 +13,23 @@ use Rattle.cap_spec.proofs.Canonical.Trimming.{rest_below}
 -- none are needed where none are needed of the rest and the first isn't
 pub none_left : (n x : ℕ) → (if n == 0 then x else suc n) ≤ 0 → (n ≤ 0) × (x ≤ 0)
 none_left zero x h = (omega arith, h)
-none_left (suc n) x h = let g : suc (suc n) ≤ 0 = rw (eqb-suc-zero n) at h in absurd (omega arith)
+none_left (suc n) x h = search rules
 
 -- no more words are needed than there are
 pub data_needed_le : (ws : List ℕ) → data_needed ws ≤ length ws
 data_needed_le [] = omega arith
-data_needed_le (x ∷ xs) = go (data_needed xs) (length xs) x (data_needed_le xs)
-  where
-    bit : (x : ℕ) → (if x == 0 then 0 else 1) ≤ 1
-    bit zero = omega arith
-    bit (suc x) = rw (eqb-suc-zero x) (omega arith)
-
-    go : (n l x : ℕ) → n ≤ l → (if n == 0 then (if x == 0 then 0 else 1) else suc n) ≤ suc l
-    go zero l x h = let b = bit x in omega (arith, b)
-    go (suc n) l x h = rw (eqb-suc-zero n) (omega arith)
+data_needed_le (x ∷ xs) = search (rules, data_needed_le xs)
 
 -- no more children are needed than there are
 pub children_needed_le : (ts : Trees) → children_needed ts ≤ tree_count ts
 children_needed_le none = omega arith
-children_needed_le (more t ts) = go (children_needed ts) (tree_count ts) t (children_needed_le ts)
-  where
-    bit : (t : Tree) → (if is_null t then 0 else 1) ≤ 1
-    bit null = omega arith
-    bit (cap i) = omega arith
-    bit (struct words ts) = omega arith
-    bit (scalars c vs) = omega arith
-    bit (pointers ts) = omega arith
-    bit (structs d p es) = omega arith
-
-    go : (n l : ℕ) (t : Tree) → n ≤ l → (if n == 0 then (if is_null t then 0 else 1) else suc n) ≤ suc l
-    go zero l t h = let b = bit t in omega (arith, b)
-    go (suc n) l t h = rw (eqb-suc-zero n) (omega arith)
+children_needed_le (more t ts) = search (rules, children_needed_le ts)
 
 -- a prefix of trees: how many, what they cost, and that they fit
 tree_count-take : (n : ℕ) (ts : Trees) → tree_count (take_trees n ts) ≤ tree_count ts
 tree_count-take zero ts = omega arith
 tree_count-take (suc n) none = omega arith
-tree_count-take (suc n) (more t ts) = let r = tree_count-take n ts in omega (arith, r)
+tree_count-take (suc n) (more t ts) = omega (arith, tree_count-take n ts)
 
 pub tree_count-take_le : (n : ℕ) (ts : Trees) → n ≤ tree_count ts → tree_count (take_trees n ts) ≡ n
 tree_count-take_le zero ts h = refl
@@ -60,7 +39,7 @@ tree_count-take_le (suc n) (more t ts) h = ap suc (tree_count-take_le n ts (omeg
 costs-take : (n : ℕ) (ts : Trees) → costs (take_trees n ts) ≤ costs ts
 costs-take zero ts = omega arith
 costs-take (suc n) none = omega arith
-costs-take (suc n) (more t ts) = let r = costs-take n ts in omega (arith, r)
+costs-take (suc n) (more t ts) = omega (arith, costs-take n ts)
 
 fits-take : (n : ℕ) (ts : Trees) → FitEach ts → FitEach (take_trees n ts)
 fits-take zero ts f = tt
@@ -72,18 +51,17 @@ flat : (ts : Trees) → children_needed ts ≤ 0 → heights ts ≡ 0
 flat none h = refl
 flat (more null ts) h = let n = none_left (children_needed ts) 0 h in
     let r : heights ts ≡ 0 = flat ts n.0 in omega arith
-flat (more (cap i) ts) h = let n = none_left (children_needed ts) 1 h in absurd (omega (arith, n.1))
-flat (more (struct words us) ts) h = let n = none_left (children_needed ts) 1 h in absurd (omega (arith, n.1))
-flat (more (scalars c vs) ts) h = let n = none_left (children_needed ts) 1 h in absurd (omega (arith, n.1))
-flat (more (pointers us) ts) h = let n = none_left (children_needed ts) 1 h in absurd (omega (arith, n.1))
-flat (more (structs d p es) ts) h = let n = none_left (children_needed ts) 1 h in absurd (omega (arith, n.1))
+flat (more (cap i) ts) h = search rules
+flat (more (struct words us) ts) h = search rules
+flat (more (scalars c vs) ts) h = search rules
+flat (more (pointers us) ts) h = search rules
+flat (more (structs d p es) ts) h = search rules
 
 -- where all that are needed are left, the rest are as deep as all
 heights-take : (n : ℕ) (ts : Trees) → children_needed ts ≤ n → heights (take_trees n ts) ≡ heights ts
 heights-take zero ts h = sym (flat ts h)
 heights-take (suc n) none h = refl
-heights-take (suc n) (more t ts) h =
-    ap (max (height t)) (heights-take n ts (rest_below (children_needed ts) (if is_null t then 0 else 1) n h))
+heights-take (suc n) (more t ts) h = search (rules, heights-take n ts (rest_below (children_needed ts) (if is_null t then 0 else 1) n h))
 
 -- the same of the elements of a struct list
 pub tree_count-cut : (d p : ℕ) (es : Trees) → tree_count (cut_elements d p es) ≡ tree_count es
@@ -98,21 +76,18 @@ tree_count-cut d p (more (structs x y ts) es) = ap suc (tree_count-cut d p es)
 -- elements of one size, cut to a smaller one
 cut_costs : (d p x y : ℕ) (es : Trees) → FitElements x y es → element_costs (cut_elements d p es) ≤ element_costs es
 cut_costs d p x y none f = omega arith
-cut_costs d p x y (more (struct words ts) es) f =
-    let a = costs-take p ts in let r = cut_costs d p x y es f.3 in omega (arith, a, r)
+cut_costs d p x y (more (struct words ts) es) f = omega (arith, costs-take, cut_costs d p x y es f.3)
 cut_costs d p x y (more t es) f = absurd f
 
 cut_fits : (d p x y : ℕ) (es : Trees) → d ≤ x → p ≤ y → FitElements x y es → FitElements d p (cut_elements d p es)
 cut_fits d p x y none hd hp f = tt
-cut_fits d p x y (more (struct words ts) es) hd hp f =
-    search (rules, length-take-le, tree_count-take_le, fits-take, cut_fits d p x y es hd hp f.3)
+cut_fits d p x y (more (struct words ts) es) hd hp f = search (rules, tree_count-take_le, fits-take, cut_fits d p x y es hd hp f.3)
 cut_fits d p x y (more t es) hd hp f = absurd f
 
 cut_heights : (d p x y : ℕ) (es : Trees) → children_of es ≤ p → FitElements x y es
     → element_heights (cut_elements d p es) ≡ element_heights es
 cut_heights d p x y none h f = refl
-cut_heights d p x y (more (struct words ts) es) h f =
-    ap₂ max (heights-take p ts (omega (arith, h))) (cut_heights d p x y es (omega (arith, h)) f.3)
+cut_heights d p x y (more (struct words ts) es) h f = omega (arith, heights-take, cut_heights d p x y es (omega (arith, h)) f.3)
 cut_heights d p x y (more t es) h f = absurd f
 
 -- no element needs more than its size
@@ -124,13 +99,12 @@ data_of_le d p (more t es) f = absurd f
 
 children_of_le : (d p : ℕ) (es : Trees) → FitElements d p es → children_of es ≤ p
 children_of_le d p none f = omega arith
-children_of_le d p (more (struct words ts) es) f =
-    let a = children_needed_le ts in let r = children_of_le d p es f.3 in omega (arith, a, r, f.1)
+children_of_le d p (more (struct words ts) es) f = omega (arith, children_needed_le, children_of_le d p es f.3)
 children_of_le d p (more t es) f = absurd f
 
 -- elements without words cost no more than they did with words
 smaller : (n a b : ℕ) → a ≤ b → n * a + idle a n ≤ n * b + idle b n
-smaller n a b h = search (rules, eqb-suc-zero, mul-le)
+smaller n a b h = search rules
 
 -- a trimmed tree, or trees, beside what it was
 pub record Trimmed (t u : Tree) : Type 0 where
@@ -203,36 +177,14 @@ mutual
   trimmed (cap i) f = record { fits = f; charged = omega arith; deep = refl }
   trimmed (struct words ts) f = struct_trimmed words ts (trim_all ts) f (all_trimmed ts f.2)
   trimmed (scalars c vs) f = record { fits = f; charged = omega arith; deep = refl }
-  trimmed (pointers ts) f =
-      let r : AllTrimmed ts (trim_all ts) = all_trimmed ts f.1 in
-      record {
-        fits = (rw r.count f.0, r.fits);
-        charged = omega (arith, r.count, r.charged);
-        deep = ap (λ n. 1 + n) r.deep;
-      }
+  trimmed (pointers ts) f = search (rules, all_trimmed ts f.1)
   trimmed (structs d p es) f = structs_trimmed d p es (trim_elements es) f (elements_trimmed d p es f.4)
 
   pub all_trimmed : (ts : Trees) → FitEach ts → AllTrimmed ts (trim_all ts)
   all_trimmed none f = record { count = refl; fits = tt; charged = omega arith; deep = refl }
-  all_trimmed (more t ts) f =
-      let a : Trimmed t (trim t) = trimmed t f.0 in
-      let r : AllTrimmed ts (trim_all ts) = all_trimmed ts f.1 in
-      record {
-        count = ap suc r.count;
-        fits = (a.fits, r.fits);
-        charged = omega (arith, a.charged, r.charged);
-        deep = ap₂ max a.deep r.deep;
-      }
+  all_trimmed (more t ts) f = search (rules, all_trimmed ts f.1, trimmed t f.0)
 
   pub elements_trimmed : (d p : ℕ) (es : Trees) → FitElements d p es → ElementsTrimmed d p es (trim_elements es)
   elements_trimmed d p none f = record { count = refl; fits = tt; charged = omega arith; deep = refl }
-  elements_trimmed d p (more (struct words ts) es) f =
-      let a : AllTrimmed ts (trim_all ts) = all_trimmed ts f.2 in
-      let r : ElementsTrimmed d p es (trim_elements es) = elements_trimmed d p es f.3 in
-      record {
-        count = ap suc r.count;
-        fits = (f.0, a.count ∙ f.1, a.fits, r.fits);
-        charged = omega (arith, a.charged, r.charged);
-        deep = ap₂ max a.deep r.deep;
-      }
+  elements_trimmed d p (more (struct words ts) es) f = search (rules, elements_trimmed d p es f.3, all_trimmed ts f.2)
   elements_trimmed d p (more t es) f = absurd f

@@ -1,7 +1,6 @@
 -- A trimmed tree is its own trimmed tree.
-use Rattle.std.proofs.Common.{List, [], ap, ap₂, arith, if◌then◌else◌, max, refl, suc, sym, take, take-take, zero, ℕ}
-use Rattle.std.proofs.Common.{◌==◌, ◌∷◌, ◌≡◌, ◌≤◌, rules}
-use Rattle.std.proofs.Math.Dec.{eqb-suc-zero}
+use Rattle.std.proofs.Common.{List, [], ap, ap₂, arith, if◌then◌else◌, refl, suc, sym, take, take-take, zero, ℕ, ◌==◌}
+use Rattle.std.proofs.Common.{◌∷◌, ◌≡◌, ◌≤◌, rules}
 use Rattle.cap_spec.specs.Canonical.{children_needed, children_of, cut_elements, data_needed, data_of, is_null}
 use Rattle.cap_spec.specs.Canonical.{take_trees, trim, trim_all, trim_elements, trim_struct, trim_structs}
 use Rattle.cap_spec.specs.Tree.{Tree, Trees, cap, more, none, null, pointers, scalars, struct, structs}
@@ -9,20 +8,18 @@ use Rattle.cap_spec.specs.Tree.{Tree, Trees, cap, more, none, null, pointers, sc
 -- a front that is long enough for the whole is long enough for the rest
 pub rest_below : (n x d : ℕ) → (if n == 0 then x else suc n) ≤ suc d → n ≤ d
 rest_below zero x d h = omega arith
-rest_below (suc n) x d h = let g : suc (suc n) ≤ suc d = rw (eqb-suc-zero n) at h in omega arith
+rest_below (suc n) x d h = search rules
 
 -- where a prefix of no words is long enough, none are needed of the rest
 none_needed : (n x : ℕ) → (if n == 0 then x else suc n) ≤ 0 → (if n == 0 then x else suc n) ≡ 0
-none_needed n x h = omega (arith, h)
+none_needed n x h = omega arith
 
 -- cut words need as many as before, where that many are left
 pub data_needed-take : (d : ℕ) (ws : List ℕ) → data_needed ws ≤ d → data_needed (take d ws) ≡ data_needed ws
 data_needed-take zero [] h = refl
 data_needed-take (suc d) [] h = refl
 data_needed-take zero (x ∷ xs) h = sym (none_needed (data_needed xs) (if x == 0 then 0 else 1) h)
-data_needed-take (suc d) (x ∷ xs) h =
-    ap (λ n. if n == 0 then (if x == 0 then 0 else 1) else suc n)
-    (data_needed-take d xs (rest_below (data_needed xs) (if x == 0 then 0 else 1) d h))
+data_needed-take (suc d) (x ∷ xs) h = search (rules, data_needed-take d xs (rest_below (data_needed xs) (if x == 0 then 0 else 1) d h))
 
 -- the same of children
 pub children_needed-take : (p : ℕ) (ts : Trees) → children_needed ts ≤ p
@@ -30,9 +27,7 @@ pub children_needed-take : (p : ℕ) (ts : Trees) → children_needed ts ≤ p
 children_needed-take zero none h = refl
 children_needed-take (suc p) none h = refl
 children_needed-take zero (more t ts) h = sym (none_needed (children_needed ts) (if is_null t then 0 else 1) h)
-children_needed-take (suc p) (more t ts) h =
-    ap (λ n. if n == 0 then (if is_null t then 0 else 1) else suc n)
-    (children_needed-take p ts (rest_below (children_needed ts) (if is_null t then 0 else 1) p h))
+children_needed-take (suc p) (more t ts) h = search (rules, children_needed-take p ts (rest_below (children_needed ts) (if is_null t then 0 else 1) p h))
 
 -- children cut twice to one length are cut once
 pub take_trees-take_trees : (n : ℕ) (ts : Trees) → take_trees n (take_trees n ts) ≡ take_trees n ts
@@ -49,46 +44,27 @@ trim_all-take (suc n) (more t ts) = ap (more (trim t)) (trim_all-take n ts)
 pub trim_elements-cut : (d p : ℕ) (es : Trees)
     → trim_elements (cut_elements d p es) ≡ cut_elements d p (trim_elements es)
 trim_elements-cut d p none = refl
-trim_elements-cut d p (more (struct words ts) es) =
-    ap₂ (λ us rest. more (struct (take d words) us) rest) (trim_all-take p ts) (trim_elements-cut d p es)
-trim_elements-cut d p (more null es) = ap (more null) (trim_elements-cut d p es)
-trim_elements-cut d p (more (cap i) es) = ap (more (cap i)) (trim_elements-cut d p es)
-trim_elements-cut d p (more (scalars c vs) es) = ap (more (scalars c vs)) (trim_elements-cut d p es)
-trim_elements-cut d p (more (pointers ts) es) = ap (more (pointers ts)) (trim_elements-cut d p es)
-trim_elements-cut d p (more (structs x y ts) es) = ap (more (structs x y ts)) (trim_elements-cut d p es)
+trim_elements-cut d p (more (struct words ts) es) = search (rules, trim_all-take, trim_elements-cut d p es)
+trim_elements-cut d p (more t es) = ap (more t) (trim_elements-cut d p es)
 
 -- elements cut twice to one size are cut once
 pub cut_elements-cut : (d p : ℕ) (es : Trees) → cut_elements d p (cut_elements d p es) ≡ cut_elements d p es
 cut_elements-cut d p none = refl
 cut_elements-cut d p (more (struct words ts) es) =
     search (rules, take-take, take_trees-take_trees, cut_elements-cut d p es)
-cut_elements-cut d p (more null es) = ap (more null) (cut_elements-cut d p es)
-cut_elements-cut d p (more (cap i) es) = ap (more (cap i)) (cut_elements-cut d p es)
-cut_elements-cut d p (more (scalars c vs) es) = ap (more (scalars c vs)) (cut_elements-cut d p es)
-cut_elements-cut d p (more (pointers ts) es) = ap (more (pointers ts)) (cut_elements-cut d p es)
-cut_elements-cut d p (more (structs x y ts) es) = ap (more (structs x y ts)) (cut_elements-cut d p es)
+cut_elements-cut d p (more t es) = ap (more t) (cut_elements-cut d p es)
 
 -- cut elements need as many data words as before, where that many are left
 pub data_of-cut : (d p : ℕ) (es : Trees) → data_of es ≤ d → data_of (cut_elements d p es) ≡ data_of es
 data_of-cut d p none h = refl
-data_of-cut d p (more (struct words ts) es) h =
-    ap₂ max (data_needed-take d words (omega (arith, h))) (data_of-cut d p es (omega (arith, h)))
-data_of-cut d p (more null es) h = data_of-cut d p es h
-data_of-cut d p (more (cap i) es) h = data_of-cut d p es h
-data_of-cut d p (more (scalars c vs) es) h = data_of-cut d p es h
-data_of-cut d p (more (pointers ts) es) h = data_of-cut d p es h
-data_of-cut d p (more (structs x y ts) es) h = data_of-cut d p es h
+data_of-cut d p (more (struct words ts) es) h = omega (arith, data_needed-take, data_of-cut d p es (omega (arith, h)))
+data_of-cut d p (more t es) h = data_of-cut d p es h
 
 -- the same of their children
 pub children_of-cut : (d p : ℕ) (es : Trees) → children_of es ≤ p → children_of (cut_elements d p es) ≡ children_of es
 children_of-cut d p none h = refl
-children_of-cut d p (more (struct words ts) es) h =
-    ap₂ max (children_needed-take p ts (omega (arith, h))) (children_of-cut d p es (omega (arith, h)))
-children_of-cut d p (more null es) h = children_of-cut d p es h
-children_of-cut d p (more (cap i) es) h = children_of-cut d p es h
-children_of-cut d p (more (scalars c vs) es) h = children_of-cut d p es h
-children_of-cut d p (more (pointers ts) es) h = children_of-cut d p es h
-children_of-cut d p (more (structs x y ts) es) h = children_of-cut d p es h
+children_of-cut d p (more (struct words ts) es) h = omega (arith, children_needed-take, children_of-cut d p es (omega (arith, h)))
+children_of-cut d p (more t es) h = children_of-cut d p es h
 
 -- a trimmed struct of trimmed children, trimmed again
 trim_struct-again : (ws : List ℕ) (us : Trees) → trim_all us ≡ us → trim (trim_struct ws us) ≡ trim_struct ws us
@@ -117,10 +93,5 @@ mutual
   -- and the elements of a struct list
   pub trim_elements-trim_elements : (es : Trees) → trim_elements (trim_elements es) ≡ trim_elements es
   trim_elements-trim_elements none = refl
-  trim_elements-trim_elements (more (struct words ts) es) =
-      ap₂ (λ us rest. more (struct words us) rest) (trim_all-trim_all ts) (trim_elements-trim_elements es)
-  trim_elements-trim_elements (more null es) = ap (more null) (trim_elements-trim_elements es)
-  trim_elements-trim_elements (more (cap i) es) = ap (more (cap i)) (trim_elements-trim_elements es)
-  trim_elements-trim_elements (more (scalars c vs) es) = ap (more (scalars c vs)) (trim_elements-trim_elements es)
-  trim_elements-trim_elements (more (pointers ts) es) = ap (more (pointers ts)) (trim_elements-trim_elements es)
-  trim_elements-trim_elements (more (structs x y ts) es) = ap (more (structs x y ts)) (trim_elements-trim_elements es)
+  trim_elements-trim_elements (more (struct words ts) es) = search (rules, trim_elements-trim_elements es, trim_all-trim_all ts)
+  trim_elements-trim_elements (more t es) = ap (more t) (trim_elements-trim_elements es)

@@ -1,4 +1,11 @@
 -- What a disjoint message is charged, but for its empty elements, is less than its words.
+use Rattle.cap_spec.proofs.ProofNames.{rules, List, [], ap, append_assoc, arith, false, inl, inr, length, length-append}
+use Rattle.cap_spec.proofs.ProofNames.{pos, refl, subst, suc, sum, sym, true, zero, ℕ, ◌*◌, ◌++◌, ◌+◌, ◌<◌, ◌∙◌, ◌∷◌}
+use Rattle.cap_spec.proofs.ProofNames.{◌≡◌, AreElements, DenoteEach, Denotes, Finds, Leads, extra, to_cap, to_null}
+use Rattle.cap_spec.proofs.ProofNames.{to_object, sizes_of, AreDistinct, IsOneOf, HasWord, segment_of, IsDisjoint}
+use Rattle.cap_spec.proofs.ProofNames.{Occupies, Uses, empty_count, pads_of, PathLeads, Spot, StepsTo, element}
+use Rattle.cap_spec.proofs.ProofNames.{level_of, word, extent, Tree, Trees, cap, more, null, pointers, scalars, struct}
+use Rattle.cap_spec.proofs.ProofNames.{structs, tree_count, Step, Item, Ptr}
 use Rattle.cap_spec.specs.Denoting.{places}
 use Rattle.cap_spec.specs.Occupying.{empty_counts}
 use Rattle.cap_spec.specs.Tree.{none}
@@ -12,13 +19,6 @@ use Rattle.cap_spec.proofs.Paths.PathCounts.{pointer_paths}
 use Rattle.cap_spec.proofs.Paths.PathLists.{after_step, is_pointer, listed_rise, paths_below, paths_from}
 use Rattle.cap_spec.proofs.Paths.Preorder.{Rises-distinct}
 use Rattle.cap_spec.proofs.Pointers.Shapes.{pointers_extra, struct_extra}
-use Rattle.cap_spec.proofs.ProofNames.{List, [], ap, append_assoc, arith, false, inl, inr, length, length-append, pos}
-use Rattle.cap_spec.proofs.ProofNames.{refl, subst, suc, sum, sym, true, zero, ℕ, ◌*◌, ◌++◌, ◌+◌, ◌<◌, ◌∙◌, ◌∷◌, ◌≡◌}
-use Rattle.cap_spec.proofs.ProofNames.{AreElements, DenoteEach, Denotes, Finds, Leads, extra, to_cap, to_null, to_object}
-use Rattle.cap_spec.proofs.ProofNames.{sizes_of, AreDistinct, IsOneOf, HasWord, segment_of, IsDisjoint, Occupies, Uses}
-use Rattle.cap_spec.proofs.ProofNames.{empty_count, pads_of, PathLeads, Spot, StepsTo, element, level_of, word}
-use Rattle.cap_spec.proofs.ProofNames.{extent, Tree, Trees, cap, more, null, pointers}
-use Rattle.cap_spec.proofs.ProofNames.{scalars, struct, structs, tree_count, Step, Item, Ptr}
 use Rattle.cap_spec.proofs.Trees.Charges.{length-places}
 use Rattle.cap_spec.proofs.Trees.OneTree.{Formed, cons_parts, formed}
 use Rattle.cap_spec.proofs.Trees.Readings.{length-values}
@@ -61,20 +61,8 @@ UsedFrom m a (p ∷ ps) us =
 
 used_append : (m : List (List ℕ)) (a : Spot) (ps qs : List (List Step)) (xs ys : List (ℕ × ℕ)) → UsedFrom m a ps xs
     → UsedFrom m a qs ys → UsedFrom m a (ps ++ qs) (xs ++ ys)
-used_append m a [] qs xs ys g h = subst (λ (z : List (ℕ × ℕ)). UsedFrom m a qs z)
-    (sym (ap (λ (u : List (ℕ × ℕ)). u ++ ys) g)) h
-used_append m a (p ∷ ps) qs xs ys (n, s, w, one, rest, walks, occupies, after, parts) h = (
-  n,
-  s,
-  w,
-  one,
-  rest ++ ys,
-  walks,
-  occupies,
-  used_append m a ps qs rest ys after h,
-  ap (λ (u : List (ℕ × ℕ)). u ++ ys) parts
-      ∙ append_assoc one rest ys,
-)
+used_append m a [] qs xs ys g h = search rules
+used_append m a (p ∷ ps) qs xs ys (n, s, w, one, rest, walks, occupies, after, parts) h = search (rules, append_assoc, used_append m a ps qs rest ys after h)
 
 used_after : (m : List (List ℕ)) (a b : Spot) (step : Step) (ps : List (List Step)) (us : List (ℕ × ℕ))
     → StepsTo m a step b → UsedFrom m b ps us → UsedFrom m a (after_step step ps) us

@@ -1,25 +1,18 @@
 -- Where no pointer overlaps, the tree is disjoint, and the other way round. One pointer is the first that overlaps.
+use Rattle.cap_spec.proofs.ProofNames.{rules, List, [], ap, inl, inr, pos, subst, sym, ℕ, ◌++◌, ◌∙◌, ◌∷◌, ◌≡◌, ◌⊎◌}
+use Rattle.cap_spec.proofs.ProofNames.{Finds, Lead, Leads, to_cap, to_null, to_object, AreDistinct, IsOneOf, IsDisjoint}
+use Rattle.cap_spec.proofs.ProofNames.{IsFirstOverlap, Occupies, Overlaps, on_earlier, on_root, pads_of, twice, Before}
+use Rattle.cap_spec.proofs.ProofNames.{word, extent, Step}
 use Rattle.cap_spec.specs.Denoting.{places}
 use Rattle.cap_spec.proofs.Frames.Messages.{one_word}
 use Rattle.cap_spec.proofs.Paths.Preorder.{Before-irreflexive, Before-total_coming, one_first, one_number}
 use Rattle.cap_spec.proofs.Pointers.Following.{one_lead}
-use Rattle.cap_spec.proofs.ProofNames.{List, [], ap, inl, inr, pos, subst, sym, ℕ, ◌++◌, ◌∙◌, ◌∷◌, ◌≡◌, ◌⊎◌, cases_eq}
-use Rattle.cap_spec.proofs.ProofNames.{Finds, Lead, Leads, to_cap, to_null, to_object, AreDistinct, IsOneOf, IsDisjoint}
-use Rattle.cap_spec.proofs.ProofNames.{IsFirstOverlap, Occupies, Overlaps, on_earlier, on_root, pads_of, twice, Before}
-use Rattle.cap_spec.proofs.ProofNames.{word, extent, Step}
 use Rattle.cap_spec.proofs.Trees.Finding.{one_object}
 
 -- a place is one of these, or isn't
 place_decided : (x : ℕ × ℕ) (xs : List (ℕ × ℕ)) → IsOneOf x xs ⊎ (IsOneOf x xs → ⊥)
 place_decided x [] = inr (λ h. h)
-place_decided (s, w) ((t, b) ∷ ys) = by_parts (cases_eq s t) (cases_eq w b) (place_decided (s, w) ys)
-  where
-    by_parts : (s ≡ t) ⊎ (s ≡ t → ⊥) → (w ≡ b) ⊎ (w ≡ b → ⊥) → IsOneOf (s, w) ys ⊎ (IsOneOf (s, w) ys → ⊥)
-        → IsOneOf (s, w) ((t, b) ∷ ys) ⊎ (IsOneOf (s, w) ((t, b) ∷ ys) → ⊥)
-    by_parts x y (inl h) = inl (inr h)
-    by_parts (inl x) (inl y) (inr n) = inl (inl cc)
-    by_parts (inr x) y (inr n) = inr (λ h. elim h [ inl e ↦ x (ap (λ u. u.0) e) | inr k ↦ n k ])
-    by_parts (inl x) (inr y) (inr n) = inr (λ h. elim h [ inl e ↦ y (ap (λ u. u.1) e) | inr k ↦ n k ])
+place_decided (s, w) ((t, b) ∷ ys) = search (rules, place_decided (s, w) ys)
 
 apart_decided : (xs : List (ℕ × ℕ)) → AreDistinct xs ⊎ (AreDistinct xs → ⊥)
 apart_decided [] = inl tt

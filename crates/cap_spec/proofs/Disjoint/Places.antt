@@ -1,19 +1,18 @@
 -- The places of a range of words, those of landing pads, and of how many words distinct places are.
-use Rattle.std.proofs.Common.{sum_by}
 use Rattle.std.proofs.lemmas.List.Sums.{sum_by_from}
 use Rattle.cap_spec.specs.Denoting.{places}
-use Rattle.cap_spec.proofs.Frames.Messages.{HasWord-inside, HasWord-segment, one_word}
-use Rattle.cap_spec.proofs.ProofNames.{List, [], ap, arith, eqb, false, inl, inr, length, length-append, ne_eqb, refl}
-use Rattle.cap_spec.proofs.ProofNames.{subst, suc, sum, sym, zero, ℕ, ◌++◌, ◌+◌, ◌<◌, ◌∙◌, ◌∷◌, ◌≡◌, ◌≢◌, ◌≤◌, ◌⊎◌}
-use Rattle.cap_spec.proofs.ProofNames.{cases_eq, Lead, Leads, sizes_of, AreDistinct, IsOneOf}
-use Rattle.cap_spec.proofs.ProofNames.{HasWord, segment_of, pads_of, far_segment, kind, pad, two, rules}
+use Rattle.cap_spec.proofs.Frames.Messages.{HasWord-inside, HasWord-segment}
+use Rattle.cap_spec.proofs.ProofNames.{List, [], ap, arith, inl, inr, length, length-append, refl, subst, suc, sum, sym}
+use Rattle.cap_spec.proofs.ProofNames.{zero, ℕ, ◌++◌, ◌+◌, ◌<◌, ◌∙◌, ◌∷◌, ◌≡◌, ◌≢◌, ◌≤◌, ◌⊎◌, cases_eq, Lead, Leads}
+use Rattle.cap_spec.proofs.ProofNames.{sizes_of, AreDistinct, IsOneOf, HasWord, segment_of, pads_of, far_segment, kind}
+use Rattle.cap_spec.proofs.ProofNames.{pad, two, rules}
 use Rattle.cap_spec.proofs.Trees.Charges.{length-places}
 
 -- the places of a range
 pub in_places : (t b n s w : ℕ) → IsOneOf (s, w) (places t b n) → (s ≡ t) × (b ≤ w) × (w < b + n)
 in_places t b zero s w h = absurd h
 in_places t b (suc n) s w (inl e) = search rules
-in_places t b (suc n) s w (inr h) = let r = in_places t (b + 1) n s w h in (r.0, omega (arith, r.1), omega (arith, r.2))
+in_places t b (suc n) s w (inr h) = omega (arith, in_places t (b + 1) n s w h)
 
 pub at_place : (t b n w : ℕ) → b ≤ w → w < b + n → IsOneOf (t, w) (places t b n)
 at_place t b zero w h k = absurd (omega arith)
@@ -52,7 +51,7 @@ apart_append (x ∷ xs) ys h k none = (
 
 -- a pointer that isn't far has no pads
 pub no_pads : (p : ℕ) → kind p ≢ 2 → pads_of p ≡ []
-no_pads p n = let e : eqb (kind p) 2 ≡ false = ne_eqb (kind p) 2 n in rw e refl
+no_pads p n = search rules
 
 -- one that is far has one or two in a row
 pub pads_in_a_row : (p : ℕ) → kind p ≡ 2 → pads_of p ≡ places (far_segment p) (pad p) (1 + two p)
@@ -66,7 +65,7 @@ pads_in_a_row p h = by_two (two p) refl (omega arith)
 -- where it leads to some place, they exist
 pub pads_inside : (m : List (List ℕ)) (s w k p : ℕ) (r : Lead) → Leads m s w k r → HasWord m s w p → kind p ≡ 2
     → (far_segment p < length m) × (pad p + (1 + two p) ≤ length (segment_of m (far_segment p)))
-pads_inside m s w k p r x6 h far = search (rules, one_word, HasWord-segment, HasWord-inside)
+pads_inside m s w k p r x6 h far = search (rules, HasWord-segment, HasWord-inside)
 
 pub pad_inside : (m : List (List ℕ)) (s w k p : ℕ) (r : Lead) (t x : ℕ) → Leads m s w k r → HasWord m s w p
     → IsOneOf (t, x) (pads_of p)
@@ -85,7 +84,7 @@ pad_inside m s w k p r t x leads has i = elim (cases_eq (kind p) 2) [
 -- they are as many as the pointer leads over
 pub pads_number : (m : List (List ℕ)) (s w k p : ℕ) (r : Lead) → Leads m s w k r → HasWord m s w p
     → length (pads_of p) ≡ k
-pads_number m s w k p r x6 h = search (rules, no_pads, one_word)
+pads_number m s w k p r x6 h = search rules
 
 -- a list of places without one of them
 remove : (x : ℕ × ℕ) (ys : List (ℕ × ℕ)) → IsOneOf x ys
@@ -112,7 +111,7 @@ all_places s (segment ∷ m) = places s 0 (length segment) ++ all_places (suc s)
 
 pub length_all : (s : ℕ) (m : List (List ℕ)) → length (all_places s m) ≡ sum (sizes_of m)
 length_all s [] = refl
-length_all s (segment ∷ m) = search (rules, length-places, sum_by, sum_by_from, length-append, length_all (suc s) m)
+length_all s (segment ∷ m) = search (rules, length-places, sum_by_from, length-append, length_all (suc s) m)
 
 pub in_all : (s : ℕ) (m : List (List ℕ)) (t w : ℕ) → t < length m → w < length (segment_of m t)
     → IsOneOf (s + t, w) (all_places s m)
@@ -122,7 +121,4 @@ in_all s (segment ∷ m) zero w h k =
     place_left (s + 0, w) (places s 0 (length segment)) (all_places (suc s) m)
     (subst (λ (u : ℕ). IsOneOf (u, w) (places s 0 (length segment))) (sym e)
     (at_place s 0 (length segment) w (omega arith) (omega arith)))
-in_all s (segment ∷ m) (suc t) w h k =
-    let e : suc s + t ≡ s + suc t = omega arith in
-    place_right (s + suc t, w) (places s 0 (length segment)) (all_places (suc s) m)
-    (subst (λ (u : ℕ). IsOneOf (u, w) (all_places (suc s) m)) e (in_all (suc s) m t w (omega arith) k))
+in_all s (segment ∷ m) (suc t) w h k = search (rules, place_right, in_all (suc s) m t w (omega arith) k)

@@ -1,5 +1,5 @@
 -- The five ways in which reading a message ends: no two of them hold of the same words.
-use Rattle.cap_spec.proofs.Frames.Framing.{same_table, table_count, table_length, table_some}
+use Rattle.cap_spec.proofs.Frames.Framing.{same_table, table_count, table_length}
 use Rattle.cap_spec.proofs.ProofNames.{Bool, List, [], ap, append_assoc, arith, false, length, length-append, refl, sum}
 use Rattle.cap_spec.proofs.ProofNames.{sym, ℕ, ◌%◌, ◌++◌, ◌+◌, ◌/◌, ◌<◌, ◌^◌, ◌∙◌, ◌∷◌, ◌≡◌, ◌≤◌, sum_by-cons, Frames}
 use Rattle.cap_spec.proofs.ProofNames.{IsPartial, IsTable, in_contents, in_table, in_word, joined, sizes_of}
@@ -16,19 +16,19 @@ frame_some own m f = grind (arith, common_steps)
 
 -- no words begin with a table
 pub no_table : (table rest sizes : List ℕ) → IsTable table sizes → [] ≡ table ++ rest → ⊥
-no_table [] rest sizes t e = absurd (let h = table_some [] sizes t in omega arith)
+no_table [] rest sizes t e = cc
 no_table (p ∷ table) rest sizes t e = absurd (cc)
 
 -- what begins with a table says of at most 512 segments
 pub table_few : (table rest sizes : List ℕ) (first : ℕ) (more : List ℕ) → IsTable table sizes
     → first ∷ more ≡ table ++ rest → first % 2 ^ 32 < 512
-table_few [] rest sizes first more t e = absurd (let h = table_some [] sizes t in omega arith)
+table_few [] rest sizes first more t e = cc
 table_few (p ∷ table) rest sizes first more t e = grind (arith, common_steps)
 
 -- what begins with a table isn't cut short inside one
 pub table_whole : (table rest sizes : List ℕ) (first : ℕ) (more : List ℕ) → IsTable table sizes
     → first ∷ more ≡ table ++ rest → length more < (first % 2 ^ 32 + 1) / 2 → ⊥
-table_whole [] rest sizes first more t e l = absurd (let h = table_some [] sizes t in omega arith)
+table_whole [] rest sizes first more t e l = cc
 table_whole (p ∷ table) rest sizes first more t e l =
     let h : first ≡ p = cc in
     let c : p % 2 ^ 32 + 1 ≡ length sizes = table_count p table sizes t in
@@ -103,8 +103,7 @@ pub too_many_not_partial : (limit first : ℕ) (more : List ℕ) (cut : Bool) �
     → IsPartial limit (first ∷ more) cut → ⊥
 too_many_not_partial limit first more cut n (in_word e c) = absurd (cc)
 too_many_not_partial limit first more cut n (in_table second rest e m l) = search rules
-too_many_not_partial limit first more cut n (in_contents table sizes rest e t m l) =
-    too_many_not_too_large first more table rest sizes n t e
+too_many_not_partial limit first more cut n (in_contents table sizes rest e t m l) = search (rules, too_many_not_too_large)
 
 -- a table past the limit, a part of a frame: not both
 pub too_large_not_partial : (limit : ℕ) (table rest sizes : List ℕ) (cut : Bool) → IsTable table sizes

@@ -1,7 +1,6 @@
 -- The frame with zero padding is one, and a list of frames splits in one way.
-use Rattle.std.proofs.lemmas.List.Concat.{flat_map-append}
 use Rattle.std.proofs.lemmas.List.Elements.{recursion_from_All}
-use Rattle.cap_spec.proofs.Bytes.WordBytes.{four_bytes, word_halves}
+use Rattle.cap_spec.proofs.Bytes.WordBytes.{four_bytes}
 use Rattle.cap_spec.proofs.Frames.Endings.{frame_some}
 use Rattle.cap_spec.proofs.Frames.Framing.{one_frame}
 use Rattle.cap_spec.proofs.ProofNames.{List, [], ap, arith, drop, flat_map, get_or, length, length-append, map, refl}
@@ -12,7 +11,7 @@ use Rattle.cap_spec.proofs.ProofNames.{frame_text, halves, joined, paired, sizes
 -- the bytes of words are those of their halves
 pub plain_halves : (words : List ℕ) → plain_text words ≡ flat_map four_bytes (flat_map halves words)
 plain_halves [] = refl
-plain_halves (x ∷ words) = search (rules, word_halves, four_bytes, flat_map-append, plain_halves words)
+plain_halves (x ∷ words) = search (rules, plain_halves words)
 
 -- two numbers as halves of a word
 pair_halves : (a b : ℕ) → a < 2 ^ 32 → b < 2 ^ 32 → halves (a + 2 ^ 32 * b) ≡ a ∷ b ∷ []
@@ -23,7 +22,7 @@ pub paired_halves : (xs : List ℕ) → AllByRecursion (λ n. n < 2 ^ 32) xs
     → flat_map halves (paired xs) ≡ xs ++ replicate (length xs % 2) 0
 paired_halves [] all = refl
 paired_halves (a ∷ []) all = search rules
-paired_halves (a ∷ b ∷ rest) all = search (rules, pair_halves, paired_halves rest all.1.1)
+paired_halves (a ∷ b ∷ rest) all = search (rules, paired_halves rest all.1.1)
 
 -- the sizes of a message fit
 sizes_fit : (m : List (List ℕ)) → AllByRecursion (λ segment. length segment < 2 ^ 32) m
@@ -78,8 +77,8 @@ word_back x = omega arith
 
 halves_back : (a b : List ℕ) → flat_map halves a ≡ flat_map halves b → a ≡ b
 halves_back [] [] e = refl
-halves_back [] (y ∷ b) e = let l = ap length e in absurd (omega (arith, l))
-halves_back (x ∷ a) [] e = let l = ap length e in absurd (omega (arith, l))
+halves_back [] (y ∷ b) e = cc
+halves_back (x ∷ a) [] e = cc
 halves_back (x ∷ a) (y ∷ b) e =
     let low : x % 2 ^ 32 ≡ y % 2 ^ 32 = ap (λ l. get_or l 0 0) e in
     let high : x / 2 ^ 32 ≡ y / 2 ^ 32 = ap (λ l. get_or l 1 0) e in
@@ -133,5 +132,4 @@ same_stream (f ∷ fs) (g ∷ gs) a b e =
 
 -- words are frames of one list of messages at most
 pub one_stream : (words : List ℕ) (ms ns : List (List (List ℕ))) → Stream words ms → Stream words ns → ms ≡ ns
-one_stream words ms ns s t = s.messages
-    ∙ (same_stream s.frames t.frames s.each t.each (sym s.whole ∙ t.whole) ∙ sym t.messages)
+one_stream words ms ns s t = search (rules, same_stream)

@@ -8,10 +8,7 @@ pub same_parts : {A : Type 0} → (a b x y : List A) → length a ≡ length b �
 same_parts [] [] x y l e = (refl, e)
 same_parts [] (d ∷ b) x y l e = absurd (omega arith)
 same_parts (c ∷ a) [] x y l e = absurd (omega arith)
-same_parts (c ∷ a) (d ∷ b) x y l e =
-    let t : (a ≡ b) × (x ≡ y) = same_parts a b x y (omega arith) (cc) in
-    let h : c ≡ d = cc in
-    ((cc), t.1)
+same_parts (c ∷ a) (d ∷ b) x y l e = search (rules, same_parts a b x y (omega arith) (cc))
 
 -- two halves a word
 pub length_halves : (a : List ℕ) → length (flat_map halves a) ≡ 2 * length a
@@ -39,8 +36,8 @@ table_length table sizes t =
 
 -- words begin with at most one table
 pub same_table : (a b x y m n : List ℕ) → IsTable a m → IsTable b n → a ++ x ≡ b ++ y → (a ≡ b) × (m ≡ n) × (x ≡ y)
-same_table [] b x y m n s t e = absurd (let h = table_some [] m s in omega arith)
-same_table (p ∷ a) [] x y m n s t e = absurd (let h = table_some [] n t in omega arith)
+same_table [] b x y m n s t e = cc
+same_table (p ∷ a) [] x y m n s t e = cc
 same_table (p ∷ a) (q ∷ b) x y m n s t e =
     let h : p ≡ q = cc in
     let c : p % 2 ^ 32 + 1 ≡ length m = table_count p a m s in

@@ -5,12 +5,13 @@ use Rattle.cap_spec.proofs.Frames.Endings.{message_not_none, message_not_partial
 use Rattle.cap_spec.proofs.Frames.Endings.{message_not_too_many, no_table, none_not_partial, too_large_not_partial}
 use Rattle.cap_spec.proofs.Frames.Endings.{too_many_not_partial, too_many_not_too_large}
 use Rattle.cap_spec.proofs.Frames.Framing.{length_halves}
-use Rattle.cap_spec.proofs.ProofNames.{Bool, List, [], ap, append_assoc, arith, drop, drop-drop, false, flat_map, inl, inr}
-use Rattle.cap_spec.proofs.ProofNames.{length, length-drop, length-take-le, refl, subst, sum, sym, take, take-append-drop}
-use Rattle.cap_spec.proofs.ProofNames.{true, ℕ, ◌%◌, ◌*◌, ◌++◌, ◌+◌, ◌-◌, ◌/◌, ◌<◌, ◌^◌, ◌∙◌, ◌∷◌, ◌≡◌, ◌≤◌, cases_lt}
-use Rattle.cap_spec.proofs.ProofNames.{sum_by-cons, AllByRecursion, BeginsMessage, Ending, EndsIn, GivesTooMany}
-use Rattle.cap_spec.proofs.ProofNames.{GivesTooMuch, message, partial, too_large, too_many, IsPartial, IsTable, halves}
-use Rattle.cap_spec.proofs.ProofNames.{in_contents, in_table, in_word, joined, sizes_of, IsWord, common_steps, rules}
+use Rattle.cap_spec.proofs.ProofNames.{Bool, List, [], ap, append_assoc, arith, drop, drop-drop, false, flat_map, inl}
+use Rattle.cap_spec.proofs.ProofNames.{inr, length, length-drop, length-take-le, refl, subst, sum, sym, take}
+use Rattle.cap_spec.proofs.ProofNames.{take-append-drop, true, ℕ, ◌%◌, ◌*◌, ◌++◌, ◌+◌, ◌-◌, ◌/◌, ◌<◌, ◌^◌, ◌∙◌, ◌∷◌}
+use Rattle.cap_spec.proofs.ProofNames.{◌≡◌, ◌≤◌, cases_lt, sum_by-cons, AllByRecursion, BeginsMessage, Ending, EndsIn}
+use Rattle.cap_spec.proofs.ProofNames.{GivesTooMany, GivesTooMuch, message, partial, too_large, too_many, IsPartial}
+use Rattle.cap_spec.proofs.ProofNames.{IsTable, halves, in_contents, in_table, in_word, joined, sizes_of, IsWord}
+use Rattle.cap_spec.proofs.ProofNames.{common_steps, rules}
 
 -- words cut into segments of these sizes
 abbrev pub split : List ℕ → List ℕ → List (List ℕ)
@@ -30,16 +31,7 @@ split_sizes (n ∷ sizes) words l =
 -- and are the front of the words
 pub split_joined : (sizes words : List ℕ) → words ≡ joined (split sizes words) ++ drop (sum sizes) words
 split_joined [] words = refl
-split_joined (n ∷ sizes) words =
-    grind (
-      arith,
-      common_steps,
-      sum_by-cons,
-      drop-drop,
-      append_assoc,
-      take-append-drop,
-      split_joined sizes (drop n words),
-    )
+split_joined (n ∷ sizes) words = grind (arith, common_steps, drop-drop, split_joined sizes (drop n words))
 
 -- the halves of a word are below 2 ^ 32
 pub halves_fit : (words : List ℕ) → AllByRecursion IsWord words

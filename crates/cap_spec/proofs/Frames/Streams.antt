@@ -2,8 +2,8 @@
 use Rattle.cap_spec.proofs.Frames.Endings.{frame_some}
 use Rattle.cap_spec.proofs.Frames.Framing.{one_frame}
 use Rattle.cap_spec.proofs.ProofNames.{List, [], ap, append-nil, append_assoc, arith, flat_map, inl, inr, length}
-use Rattle.cap_spec.proofs.ProofNames.{length-append, map, refl, sym, ℕ, ◌++◌, ◌∙◌, ◌∷◌, ◌≡◌, ◌⊎◌}
-use Rattle.cap_spec.proofs.ProofNames.{AllByRecursion, Frames, Stream, common_steps, rules}
+use Rattle.cap_spec.proofs.ProofNames.{length-append, map, refl, sym, ℕ, ◌++◌, ◌∙◌, ◌∷◌, ◌≡◌, ◌⊎◌, AllByRecursion}
+use Rattle.cap_spec.proofs.ProofNames.{Frames, Stream, common_steps, rules}
 
 -- no words are the stream of no messages
 pub stream_none : Stream [] []

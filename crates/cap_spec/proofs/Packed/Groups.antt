@@ -5,9 +5,9 @@ use Rattle.cap_spec.proofs.Packed.Unpacking.{unpacked_front, unpacked_short, wor
 use Rattle.cap_spec.proofs.ProofNames.{List, [], ap, append-nil, append_assoc, arith, drop, drop_at, false, inl, inr}
 use Rattle.cap_spec.proofs.ProofNames.{length, length-append, refl, slice_index, subst, sym, take_at, true, ℕ, ◌*◌}
 use Rattle.cap_spec.proofs.ProofNames.{◌++◌, ◌+◌, ◌<◌, ◌∙◌, ◌∷◌, ◌≡◌, ◌≢◌, cases_lt, get_or_append_left, AllByRecursion}
-use Rattle.cap_spec.proofs.ProofNames.{plain_text, word_bytes, Cut, Groups, IsGroup, Unpacks, given_of}
-use Rattle.cap_spec.proofs.ProofNames.{group_length, group_words, groups_text, groups_words, marked, packed_is_cut}
-use Rattle.cap_spec.proofs.ProofNames.{plain, unpacked, zeros, IsWord, common_steps, rules}
+use Rattle.cap_spec.proofs.ProofNames.{plain_text, word_bytes, Cut, Groups, IsGroup, Unpacks, given_of, group_length}
+use Rattle.cap_spec.proofs.ProofNames.{group_words, groups_text, groups_words, marked, packed_is_cut, plain, unpacked}
+use Rattle.cap_spec.proofs.ProofNames.{zeros, IsWord, common_steps, rules}
 
 -- a group, whatever is after it: it is as long as its head says, and represents its words
 pub record IsBefore (bytes words rest : List ℕ) : Type 0 where
@@ -26,8 +26,7 @@ is_before_plain x more rest h a = search (rules, length_plain, take_at, plain_re
 
 -- of any group
 pub is_before : (bytes words rest : List ℕ) → IsGroup bytes words → IsBefore bytes words rest
-is_before bytes words rest (zeros n h e w) =
-    subst (λ k. IsBefore k words rest) (sym e) (record { some = omega arith; long = refl; encodes = sym w })
+is_before bytes words rest (zeros n h e w) = search rules
 is_before bytes words rest (plain x more h a l e w) =
     subst (λ k. IsBefore k words rest) (sym e)
     (subst (λ k. IsBefore (plain_group x more) k rest) (sym w) (is_before_plain x more rest h a))

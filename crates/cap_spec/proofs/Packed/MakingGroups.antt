@@ -3,12 +3,12 @@ use Rattle.cap_spec.proofs.Bytes.Lists.{all_append, all_take}
 use Rattle.cap_spec.proofs.Bytes.Plain.{eight_back, eight_word, length_plain, plain_split}
 use Rattle.cap_spec.proofs.Packed.Groups.{plain_group}
 use Rattle.cap_spec.proofs.Packed.Unpacking.{length_marked, spread_append, words_marked}
-use Rattle.cap_spec.proofs.ProofNames.{List, [], ap, append-nil, arith, drop, get_or, get_or-take, inl, inr, length}
-use Rattle.cap_spec.proofs.ProofNames.{length-append, length-drop, length-take-le, refl, replicate, slice_index, subst}
-use Rattle.cap_spec.proofs.ProofNames.{suc, sym, take, take-append-drop, take-take, zero, ℕ, ◌*◌, ◌++◌, ◌+◌, ◌-◌, ◌<◌, ◌∙◌}
-use Rattle.cap_spec.proofs.ProofNames.{◌∷◌, ◌≡◌, ◌≢◌, ◌≤◌, cases_eq, drop-take, length-replicate, nil_from_length}
-use Rattle.cap_spec.proofs.ProofNames.{AllByRecursion, little_number, plain_text, plain_words, word_bytes, IsGroup}
-use Rattle.cap_spec.proofs.ProofNames.{group_length, group_words, marked, marks, plain, spread, zeros, common_steps, rules}
+use Rattle.cap_spec.proofs.ProofNames.{List, [], ap, arith, drop, get_or, get_or-take, inl, inr, length, length-append}
+use Rattle.cap_spec.proofs.ProofNames.{length-drop, length-take-le, refl, replicate, slice_index, subst, suc, sym, take}
+use Rattle.cap_spec.proofs.ProofNames.{take-append-drop, take-take, zero, ℕ, ◌*◌, ◌++◌, ◌+◌, ◌-◌, ◌<◌, ◌∙◌, ◌∷◌, ◌≡◌}
+use Rattle.cap_spec.proofs.ProofNames.{◌≢◌, ◌≤◌, cases_eq, drop-take, length-replicate, nil_from_length, AllByRecursion}
+use Rattle.cap_spec.proofs.ProofNames.{little_number, plain_text, plain_words, word_bytes, IsGroup, group_length}
+use Rattle.cap_spec.proofs.ProofNames.{group_words, marked, marks, plain, spread, zeros, common_steps, rules}
 
 -- bytes of whole words: this many words
 pub aligned_words : (n : ℕ) (bytes : List ℕ) → AllByRecursion (λ b. b < 256) bytes → length bytes ≡ 8 * n
@@ -18,7 +18,7 @@ aligned_words n bytes all l = search (rules, plain_split, length_plain, length-a
 -- they are the text of these words
 pub aligned_text : (n : ℕ) (bytes : List ℕ) → AllByRecursion (λ b. b < 256) bytes → length bytes ≡ 8 * n
     → plain_text (plain_words bytes) ≡ bytes
-aligned_text n bytes all l = search (rules, plain_split, aligned_words, length-drop, nil_from_length, append-nil)
+aligned_text n bytes all l = search (rules, plain_split, length-drop, nil_from_length)
 
 -- eight bytes, a count, and the bytes of this many words are a plain group after its tag
 makes_plain : (a b c d e f g h n : ℕ) (bytes : List ℕ)
@@ -89,8 +89,7 @@ pub record Completes (bytes : List ℕ) : Type 0 where
 
 -- this many zeros are some
 zeros_some : (k : ℕ) → 0 < k → replicate {A = ℕ} k 0 ≢ []
-zeros_some k p e = let l : length (replicate {A = ℕ} k 0) ≡ k = length-replicate {A = ℕ} k 0 in
-    absurd (let m = ap length e in omega arith)
+zeros_some k p e = search rules
 
 -- of a plain group
 complete_plain : (bytes : List ℕ) → AllByRecursion (λ b. b < 256) bytes → length bytes < 9 + 8 * slice_index bytes 8
@@ -139,8 +138,7 @@ complete_zeros (x ∷ bytes) h = absurd (omega arith)
 -- bytes that are shorter than their head says begin a group
 pub begins_group : (tag : ℕ) (bytes : List ℕ) → AllByRecursion (λ b. b < 256) (tag ∷ bytes)
     → length (tag ∷ bytes) < group_length (tag ∷ bytes) → Completes (tag ∷ bytes)
-begins_group tag bytes all h =
-    grind (arith, common_steps, complete_zeros, complete_plain, length_marked, complete_marked)
+begins_group tag bytes all h = grind (arith, common_steps, complete_zeros, complete_plain, complete_marked)
 
 -- the bytes of a whole group of zeros
 whole_zeros : (bytes : List ℕ) → AllByRecursion (λ b. b < 256) bytes → 1 ≤ length bytes

@@ -1,12 +1,12 @@
 -- Every list of bytes either unpacks to words or is cut after words, and just to those that it gives.
+use Rattle.cap_spec.proofs.ProofNames.{rules, List, [], ap, append_assoc, arith, drop, false, inl, inr, length}
+use Rattle.cap_spec.proofs.ProofNames.{length-drop, refl, subst, suc, sym, take, take-append-drop, true, zero, ℕ, ◌++◌}
+use Rattle.cap_spec.proofs.ProofNames.{◌<◌, ◌∙◌, ◌∷◌, ◌≡◌, ◌≤◌, ◌⊎◌, cases_lt, AllByRecursion, Cut, IsGroup, Unpacks}
+use Rattle.cap_spec.proofs.ProofNames.{given_of, group_length, group_words, packed_is_cut, unpacked}
 use Rattle.cap_spec.proofs.Bytes.Lists.{all_drop}
 use Rattle.cap_spec.proofs.Packed.Groups.{cut_is_cut, cut_words, unpacks_whole, unpacks_words}
 use Rattle.cap_spec.proofs.Packed.MakingGroups.{begins_group, whole_group}
 use Rattle.cap_spec.proofs.Packed.Unpacking.{cut_front, cut_short, group_some, unpacked_front, unpacked_short}
-use Rattle.cap_spec.proofs.ProofNames.{List, [], ap, append_assoc, arith, drop, false, inl, inr, length, length-drop, refl}
-use Rattle.cap_spec.proofs.ProofNames.{subst, suc, sym, take, take-append-drop, true, zero, ℕ, ◌++◌, ◌<◌, ◌∙◌, ◌∷◌, ◌≡◌}
-use Rattle.cap_spec.proofs.ProofNames.{◌≤◌, ◌⊎◌, cases_lt, AllByRecursion, Cut, IsGroup, Unpacks, given_of, group_length}
-use Rattle.cap_spec.proofs.ProofNames.{group_words, packed_is_cut, unpacked}
 
 -- what becomes of bytes: they unpack, or they are cut
 pub data Becomes (bytes : List ℕ) : Type 0 where
@@ -91,11 +91,11 @@ becomes bytes all = becomes_in (length bytes) bytes (omega arith) all
 -- bytes that aren't cut unpack to what they give
 unpacks_from : (bytes : List ℕ) → packed_is_cut bytes ≡ false → Becomes bytes → Unpacks bytes (unpacked bytes)
 unpacks_from bytes c (whole k u) = u
-unpacks_from bytes c (part k u) = absurd (let h : true ≡ false = sym k ∙ c in cc)
+unpacks_from bytes c (part k u) = cc
 
 -- bytes that are cut are so after what they give
 cut_from : (bytes : List ℕ) → packed_is_cut bytes ≡ true → Becomes bytes → Cut bytes (unpacked bytes)
-cut_from bytes c (whole k u) = absurd (let h : true ≡ false = sym c ∙ k in cc)
+cut_from bytes c (whole k u) = cc
 cut_from bytes c (part k u) = u
 
 -- bytes that aren't cut unpack to what they give, for bytes below 256
@@ -110,8 +110,7 @@ cut_if_cut bytes all c = cut_from bytes c (becomes bytes all)
 
 -- bytes don't unpack and are cut
 pub unpacks_not_cut : (bytes words other : List ℕ) → Unpacks bytes words → Cut bytes other → ⊥
-unpacks_not_cut bytes words other u c =
-    absurd (let h : true ≡ false = sym (cut_is_cut bytes other c) ∙ unpacks_whole bytes words u in cc)
+unpacks_not_cut bytes words other u c = search (rules, cut_is_cut, unpacks_whole)
 
 -- whether they unpack or are cut: the words are those that they give
 pub words_of_either : (bytes words : List ℕ) → Unpacks bytes words ⊎ Cut bytes words → words ≡ unpacked bytes

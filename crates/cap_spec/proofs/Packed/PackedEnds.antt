@@ -10,7 +10,7 @@ use Rattle.cap_spec.proofs.ProofNames.{given_of, group_length, marked, plain, ze
 -- no bytes give only the end
 pub ends_nil : (n at : ℕ) → ends_in n at [] ≡ capped at ∷ []
 ends_nil zero at = refl
-ends_nil (suc n) at = let e : at + 0 ≡ at = omega arith in ends_nil n (at + 0) ∙ ap (λ p. capped p ∷ []) e
+ends_nil (suc n) at = search (rules, ends_nil n (at + 0))
 
 pub ends_none : (at : ℕ) → packed_ends at [] ≡ capped at ∷ []
 ends_none at = refl
@@ -87,8 +87,6 @@ word_ends_each at (suc n) = ap suc (word_ends_each (at + 8) n)
 
 -- each word of a group has its position
 pub ends_each : (at : ℕ) (bytes words : List ℕ) (g : IsGroup bytes words) → length (group_ends at g) ≡ length words
-ends_each at bytes words (zeros n h e w) = length-replicate (1 + n) (capped (at + 2))
-    ∙ (sym (length-replicate {A = ℕ} (1 + n) 0) ∙ sym (ap length w))
-ends_each at bytes words (plain x more h all few e w) = ap suc (word_ends_each (at + 10) (length more))
-    ∙ sym (ap length w)
+ends_each at bytes words (zeros n h e w) = search (rules, length-replicate)
+ends_each at bytes words (plain x more h all few e w) = search (rules, word_ends_each)
 ends_each at bytes words (marked tag present p q all l e w) = sym (ap length w)

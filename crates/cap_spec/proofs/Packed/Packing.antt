@@ -1,10 +1,10 @@
 -- How the packed text that is written splits into its groups.
 use Rattle.std.proofs.lemmas.List.Sums.{take_while-cons}
 use Rattle.cap_spec.proofs.ProofNames.{Bool, List, [], ap, arith, cond, drop, false, filter, length, length-drop}
-use Rattle.cap_spec.proofs.ProofNames.{length-take, ne_eqb, not, refl, replicate, suc, take, take_while, true}
-use Rattle.cap_spec.proofs.ProofNames.{zero, ℕ, ◌++◌, ◌+◌, ◌-◌, ◌<◌, ◌==◌, ◌∙◌, ◌∷◌, ◌≡◌, ◌≢◌, ◌≤◌}
-use Rattle.cap_spec.proofs.ProofNames.{length-replicate, prefix_len, full_run, group_size, group_text, pack_in, pack_text}
-use Rattle.cap_spec.proofs.ProofNames.{tag_of, zero_bytes, zero_run, plain_text, word_bytes, common_steps, rules}
+use Rattle.cap_spec.proofs.ProofNames.{length-take, ne_eqb, not, refl, replicate, suc, take, take_while, true, zero, ℕ}
+use Rattle.cap_spec.proofs.ProofNames.{◌++◌, ◌+◌, ◌-◌, ◌<◌, ◌==◌, ◌∙◌, ◌∷◌, ◌≡◌, ◌≢◌, ◌≤◌, length-replicate, prefix_len}
+use Rattle.cap_spec.proofs.ProofNames.{full_run, group_size, group_text, pack_in, pack_text, tag_of, zero_bytes}
+use Rattle.cap_spec.proofs.ProofNames.{zero_run, plain_text, word_bytes, common_steps, rules}
 
 -- with capacity for all the groups, more capacity makes no difference
 pub pack_in-enough : (n m : ℕ) (ws : List ℕ) → length ws ≤ n → length ws ≤ m → pack_in n ws ≡ pack_in m ws
@@ -36,7 +36,7 @@ drop-front (x ∷ more) rest = drop-front more rest
 -- where the group in front takes just these words, its text and then that of the rest
 pub pack_text-group : (w : ℕ) (more rest : List ℕ) → group_size (w ∷ (more ++ rest)) ≡ 1 + length more →
     pack_text (w ∷ (more ++ rest)) ≡ group_text w (length more) more ++ pack_text rest
-pack_text-group w more rest e = grind (arith, common_steps, pack_text-front, take-front, drop-front)
+pack_text-group w more rest e = grind (arith, common_steps, pack_text-front)
 
 front-pass : (p : ℕ → Bool) (x : ℕ) (xs : List ℕ) → p x ≡ true
     → length (take_while p (x ∷ xs)) ≡ 1 + length (take_while p xs)
@@ -53,7 +53,7 @@ front-more : (p : ℕ → Bool) (x : ℕ) (xs ys : List ℕ) →
     (length (take_while p xs) ≡ length xs → length (take_while p (xs ++ ys)) ≡ length xs + length (take_while p ys)) →
     (b : Bool) → p x ≡ b → length (take_while p (x ∷ xs)) ≡ 1 + length xs
     → length (take_while p (x ∷ (xs ++ ys))) ≡ 1 + length xs + length (take_while p ys)
-front-more p x xs ys more x5 e h = search (rules, front-pass, front-stop)
+front-more p x xs ys more x5 e h = search (rules, front-pass)
 
 -- where all of a list passes, the front that passes goes on after it
 pub front-append : (p : ℕ → Bool) (xs ys : List ℕ) → length (take_while p xs) ≡ length xs →
@@ -64,7 +64,7 @@ front-append p (x ∷ xs) ys h = search (rules, front-more, front-append p xs ys
 -- a run of zero words, and what goes on after it
 pub zero_run-append : (n : ℕ) (rest : List ℕ) → zero_run (replicate n 0 ++ rest) ≡ n + zero_run rest
 zero_run-append zero rest = omega arith
-zero_run-append (suc n) rest = search (rules, front-pass, zero_run-append n rest)
+zero_run-append (suc n) rest = search (rules, zero_run-append n rest)
 
 -- another word than zero ends a run of zero words
 pub zero_run-ends : (w : ℕ) (ws : List ℕ) → w ≢ 0 → zero_run (w ∷ ws) ≡ 0
@@ -83,7 +83,7 @@ group_size-zeros n rest h closes = search (rules, zero_run-append)
 pub group_size-plain : (x : ℕ) (more rest : List ℕ) → zero_bytes x ≡ 0 → full_run more ≡ length more
     → length more ≤ 255 →
     (length more < 255 → full_run rest ≡ 0) → group_size (x ∷ (more ++ rest)) ≡ 1 + length more
-group_size-plain x more rest z e h closes = search (rules, front-append, ne_eqb, nonzero_word)
+group_size-plain x more rest z e h closes = search (rules, front-append)
 
 -- any other word is a group by itself
 pub group_size-marked : (x : ℕ) (rest : List ℕ) → x ≢ 0 → zero_bytes x ≢ 0 → group_size (x ∷ rest) ≡ 1
@@ -113,13 +113,7 @@ pack_text-plain x more rest z e h closes =
 -- the text of any other word
 pub pack_text-marked : (x : ℕ) (rest : List ℕ) → x ≢ 0 → zero_bytes x ≢ 0 →
     pack_text (x ∷ rest) ≡ tag_of (word_bytes x) ∷ filter (λ b. not (b == 0)) (word_bytes x) ++ pack_text rest
-pack_text-marked x rest h z =
-    pack_text-group x [] rest (group_size-marked x rest h z)
-    ∙ ap (λ t. t ++ pack_text rest) (marked_group x h z)
-  where
-    marked_group : (x : ℕ) → x ≢ 0 → zero_bytes x ≢ 0
-        → group_text x 0 [] ≡ tag_of (word_bytes x) ∷ filter (λ b. not (b == 0)) (word_bytes x)
-    marked_group x h z = rw (ne_eqb x 0 h, ne_eqb (zero_bytes x) 0 z) refl
+pack_text-marked x rest h z = search rules
 
 -- a group of words as they are has at most 255 after the first, each with at most one zero byte
 pub plain_full : (x : ℕ) (more : List ℕ) → zero_bytes x ≡ 0 → group_size (x ∷ more) ≡ 1 + length more

@@ -4,14 +4,15 @@ use Rattle.cap_spec.proofs.Bytes.WordBytes.{bytes_fit, word_back}
 use Rattle.cap_spec.proofs.Packed.Groups.{unpacks_whole, unpacks_words}
 use Rattle.cap_spec.proofs.Packed.OneUnpacking.{unpacks_with}
 use Rattle.cap_spec.proofs.Packed.Packing.{front-le, group_size-marked, nonzero_word, zero_run-append, zero_run-ends}
-use Rattle.cap_spec.proofs.Packed.Unpacking.{spread_clear, spread_none, spread_set}
+use Rattle.cap_spec.proofs.Packed.Unpacking.{spread_clear, spread_none}
 use Rattle.cap_spec.proofs.ProofNames.{List, [], ap, arith, cond, drop, false, filter, if◌then◌else◌, inl, inr, length}
-use Rattle.cap_spec.proofs.ProofNames.{length-drop, length-take-le, min, nat_le, ne_eqb, not, refl, replicate, subst, suc}
-use Rattle.cap_spec.proofs.ProofNames.{sym, take, take-append-drop, zero, ℕ, ◌%◌, ◌*◌, ◌++◌, ◌+◌, ◌-◌, ◌/◌, ◌<◌, ◌==◌, ◌^◌}
-use Rattle.cap_spec.proofs.ProofNames.{◌∙◌, ◌∷◌, ◌≡◌, ◌≢◌, ◌≤◌, pow-succ', cases_eq, AllByRecursion, little_number}
-use Rattle.cap_spec.proofs.ProofNames.{little_from-cons, full_run, group_size, group_text, pack_in, pack_text, tag_of}
-use Rattle.cap_spec.proofs.ProofNames.{zero_bytes, zero_run, zeros_in, plain_text, word_bytes, IsGroup, Unpacks, marked}
-use Rattle.cap_spec.proofs.ProofNames.{marks, packed_is_cut, plain, spread, unpacked, zeros, IsWord, rules}
+use Rattle.cap_spec.proofs.ProofNames.{length-drop, length-take-le, min, nat_le, ne_eqb, not, refl, replicate, subst}
+use Rattle.cap_spec.proofs.ProofNames.{suc, sym, take, take-append-drop, zero, ℕ, ◌%◌, ◌*◌, ◌++◌, ◌+◌, ◌-◌, ◌/◌, ◌<◌}
+use Rattle.cap_spec.proofs.ProofNames.{◌==◌, ◌^◌, ◌∙◌, ◌∷◌, ◌≡◌, ◌≢◌, ◌≤◌, pow-succ', cases_eq, AllByRecursion}
+use Rattle.cap_spec.proofs.ProofNames.{little_number, little_from-cons, full_run, group_size, group_text, pack_in}
+use Rattle.cap_spec.proofs.ProofNames.{pack_text, tag_of, zero_bytes, zero_run, zeros_in, plain_text, word_bytes}
+use Rattle.cap_spec.proofs.ProofNames.{IsGroup, Unpacks, marked, marks, packed_is_cut, plain, spread, unpacked, zeros}
+use Rattle.cap_spec.proofs.ProofNames.{IsWord, rules}
 
 -- the bytes of a word that aren't zero
 abbrev pub present_of : List ℕ → List ℕ
@@ -40,7 +41,7 @@ count_more b bytes n = ap (λ t. (if t then 1 else 0) + zeros_in bytes) (ne_eqb 
 -- the tag marks as many bytes as aren't zero
 marks_tag : (bytes : List ℕ) → marks (length bytes) (tag_of bytes) ≡ length (present_of bytes)
 marks_tag [] = refl
-marks_tag (b ∷ bytes) = search (rules, tag_zero, present_zero, tag_more, present_more, marks_tag bytes)
+marks_tag (b ∷ bytes) = search (rules, tag_more, marks_tag bytes)
 
 -- no bytes make no number
 pub spread_empty : (n tag : ℕ) → spread n tag [] ≡ 0
@@ -50,30 +51,19 @@ spread_empty (suc n) tag = refl
 -- a clear bit takes no byte, where there may be none
 spread_even : (n tag : ℕ) (present : List ℕ) → tag % 2 ≡ 0
     → spread (suc n) tag present ≡ 256 * spread n (tag / 2) present
-spread_even n tag [] e = let s = spread_empty n (tag / 2) in omega (arith, s)
+spread_even n tag [] e = omega (arith, spread_empty)
 spread_even n tag (b ∷ present) e = spread_clear n tag b present e
 
 -- the bytes that aren't zero, by the tag that marks them, make the number of all
 spread_tag : (bytes : List ℕ) → spread (length bytes) (tag_of bytes) (present_of bytes)
     ≡ little_number (length bytes) bytes
 spread_tag [] = refl
-spread_tag (b ∷ bytes) =
-    search (
-      rules,
-      tag_zero,
-      little_from-cons,
-      present_zero,
-      spread_even,
-      tag_more,
-      present_more,
-      spread_set,
-      spread_tag bytes,
-    )
+spread_tag (b ∷ bytes) = search (rules, tag_zero, little_from-cons, spread_even, tag_more, spread_tag bytes)
 
 -- a tag of this many bits
 pub tag_below : (bytes : List ℕ) → tag_of bytes < 2 ^ length bytes
 tag_below [] = omega arith
-tag_below (b ∷ bytes) = search (rules, pow-succ', tag_zero, tag_more, tag_below bytes)
+tag_below (b ∷ bytes) = search (rules, tag_below bytes)
 
 -- with a zero byte not all are set
 tag_not_full : (bytes : List ℕ) → 0 < zeros_in bytes → tag_of bytes + 1 < 2 ^ length bytes
@@ -92,7 +82,7 @@ tag_not_full (b ∷ bytes) h =
 -- what holds of all bytes holds of those that aren't zero
 present_fit : (P : ℕ → Type 0) (bytes : List ℕ) → AllByRecursion P bytes → AllByRecursion P (present_of bytes)
 present_fit P [] all = tt
-present_fit P (b ∷ bytes) all = search (rules, present_zero, present_more, present_fit P bytes all.1)
+present_fit P (b ∷ bytes) all = search (rules, present_fit P bytes all.1)
 
 -- a word with a zero byte that isn't zero, by the bytes that aren't
 pub marked_group : (x : ℕ) → IsWord x → x ≢ 0 → 0 < zero_bytes x

@@ -1,34 +1,23 @@
 -- What bytes give are words: numbers below 2 ^ 64.
-use Rattle.cap_spec.proofs.Bytes.Lists.{all_append, all_back, all_drop, all_take}
+use Rattle.cap_spec.proofs.Bytes.Lists.{all_append, all_back}
 use Rattle.cap_spec.proofs.Bytes.Plain.{plain_split}
-use Rattle.cap_spec.proofs.Bytes.WordBytes.{bytes_fit}
 use Rattle.cap_spec.proofs.Packed.OneUnpacking.{Becomes, becomes, part, whole}
-use Rattle.cap_spec.proofs.Packed.Unpacking.{spread_clear, spread_set}
-use Rattle.cap_spec.proofs.ProofNames.{Bool, List, [], arith, drop, false, if◌then◌else◌, length, nat_lt, replicate}
-use Rattle.cap_spec.proofs.ProofNames.{slice_index, subst, suc, sym, take, true, zero, ℕ, ◌++◌, ◌+◌, ◌/◌, ◌<◌, ◌==◌, ◌^◌}
-use Rattle.cap_spec.proofs.ProofNames.{◌∷◌, pow-succ', AllByRecursion, little_from, little_number, plain_text}
-use Rattle.cap_spec.proofs.ProofNames.{plain_words, word_bytes, Groups, IsGroup, Unpacks, given_of, groups_text}
-use Rattle.cap_spec.proofs.ProofNames.{groups_words, marked, plain, spread, unpacked, zeros, IsWord, rules}
+use Rattle.cap_spec.proofs.ProofNames.{List, [], arith, replicate, slice_index, subst, suc, sym, zero, ℕ, ◌+◌, ◌/◌, ◌<◌}
+use Rattle.cap_spec.proofs.ProofNames.{◌^◌, ◌∷◌, AllByRecursion, little_from, little_number, plain_text, Groups}
+use Rattle.cap_spec.proofs.ProofNames.{IsGroup, Unpacks, given_of, groups_text, groups_words, marked, plain, spread}
+use Rattle.cap_spec.proofs.ProofNames.{unpacked, zeros, IsWord, rules}
 
 -- bytes by a tag make a number of this many bytes
 pub spread_below : (n tag : ℕ) (present : List ℕ) → AllByRecursion (λ b. b < 256) present
     → spread n tag present < 256 ^ n
 spread_below zero tag present all = omega arith
-spread_below (suc n) tag [] all = let p = pow-succ' 256 n in let q = spread_below n tag [] tt in omega (arith, p, q)
-spread_below (suc n) tag (b ∷ present) all =
-    search (
-      rules,
-      spread_clear,
-      pow-succ',
-      spread_set,
-      spread_below n (tag / 2) (b ∷ present) all,
-      spread_below n (tag / 2) present all.1,
-    )
+spread_below (suc n) tag [] all = search (rules, spread_below n tag [] tt)
+spread_below (suc n) tag (b ∷ present) all = search (rules, spread_below n (tag / 2) (b ∷ present) all, spread_below n (tag / 2) present all.1)
 
 -- so do this many bytes as they are, of which those past the end are zeros
 little_below : (n i : ℕ) (bytes : List ℕ) → ((k : ℕ) → slice_index bytes k < 256) → little_from i n bytes < 256 ^ n
 little_below zero i bytes each = omega arith
-little_below (suc n) i bytes each = search (rules, pow-succ', little_below n (suc i) bytes each)
+little_below (suc n) i bytes each = search (rules, little_below n (suc i) bytes each)
 
 byte_at : (bytes : List ℕ) → AllByRecursion (λ b. b < 256) bytes → (i : ℕ) → slice_index bytes i < 256
 byte_at [] all i = omega arith
@@ -36,7 +25,7 @@ byte_at (b ∷ bytes) all zero = all.0
 byte_at (b ∷ bytes) all (suc i) = byte_at bytes all.1 i
 
 pub eight_bytes_below : (bytes : List ℕ) → AllByRecursion (λ b. b < 256) bytes → IsWord (little_number 8 bytes)
-eight_bytes_below bytes all = let h = little_below 8 0 bytes (byte_at bytes all) in omega (arith, h)
+eight_bytes_below bytes all = search (rules, byte_at)
 
 -- zeros are words
 zeros_are_words : (n : ℕ) → AllByRecursion IsWord (replicate n 0)
@@ -55,8 +44,7 @@ group_are_words bytes words (marked tag present p q all l e w) =
 groups_are_words : (groups : Groups) → AllByRecursion (λ g. IsGroup g.0 g.1) groups
     → AllByRecursion IsWord (groups_words groups)
 groups_are_words [] all = tt
-groups_are_words (g ∷ groups) all = all_append IsWord g.1 (groups_words groups) (group_are_words g.0 g.1 all.0)
-    (groups_are_words groups all.1)
+groups_are_words (g ∷ groups) all = search (rules, all_append, group_are_words, groups_are_words groups all.1)
 
 -- bytes unpack to words
 pub unpacks_are_words : (bytes words : List ℕ) → Unpacks bytes words → AllByRecursion IsWord words
@@ -65,18 +53,7 @@ unpacks_are_words bytes words u = subst (AllByRecursion IsWord) (sym u.encoded) 
 -- what is given of the beginning of a group are words
 given_are_words : (bytes : List ℕ) → AllByRecursion (λ b. b < 256) bytes → AllByRecursion IsWord (given_of bytes)
 given_are_words [] all = tt
-given_are_words (tag ∷ bytes) all =
-    chosen (tag == 255) (if nat_lt (length bytes) 9 then [] else plain_words (take 8 bytes ++ drop 9 bytes)) []
-    (chosen (nat_lt (length bytes) 9) [] (plain_words (take 8 bytes ++ drop 9 bytes)) tt
-    (plain_split (take 8 bytes ++ drop 9 bytes)
-    (all_append (λ b. b < 256) (take 8 bytes) (drop 9 bytes) (all_take (λ b. b < 256) 8 bytes all.1)
-    (all_drop (λ b. b < 256) 9 bytes all.1))).are_words)
-    tt
-  where
-    chosen : (c : Bool) (a b : List ℕ) → AllByRecursion IsWord a → AllByRecursion IsWord b
-        → AllByRecursion IsWord (if c then a else b)
-    chosen true a b p q = p
-    chosen false a b p q = q
+given_are_words (tag ∷ bytes) all = search (rules, plain_split)
 
 -- of bytes that become something
 unpacked_by : (bytes : List ℕ) → AllByRecursion (λ b. b < 256) bytes → Becomes bytes
@@ -95,19 +72,17 @@ unpacked_are_words bytes all = unpacked_by bytes all (becomes bytes all)
 -- the plain text of words is bytes
 pub plain_are_bytes : (words : List ℕ) → AllByRecursion (λ b. b < 256) (plain_text words)
 plain_are_bytes [] = tt
-plain_are_bytes (x ∷ words) = all_append (λ b. b < 256) (word_bytes x) (plain_text words) (bytes_fit 0 8 x)
-    (plain_are_bytes words)
+plain_are_bytes (x ∷ words) = search (rules, plain_are_bytes words)
 
 -- a group is bytes
 pub group_are_bytes : (bytes words : List ℕ) → IsGroup bytes words → AllByRecursion (λ b. b < 256) bytes
-group_are_bytes bytes words x2 = search (rules, all_append, bytes_fit, plain_are_bytes)
+group_are_bytes bytes words x2 = search (rules, plain_are_bytes)
 
 -- so are groups
 groups_are_bytes : (groups : Groups) → AllByRecursion (λ g. IsGroup g.0 g.1) groups
     → AllByRecursion (λ b. b < 256) (groups_text groups)
 groups_are_bytes [] all = tt
-groups_are_bytes (g ∷ groups) all = all_append (λ b. b < 256) g.0 (groups_text groups) (group_are_bytes g.0 g.1 all.0)
-    (groups_are_bytes groups all.1)
+groups_are_bytes (g ∷ groups) all = search (rules, all_append, group_are_bytes, groups_are_bytes groups all.1)
 
 -- what unpacks to words is bytes
 pub unpacks_are_bytes : (bytes words : List ℕ) → Unpacks bytes words → AllByRecursion (λ b. b < 256) bytes

@@ -2,10 +2,10 @@
 -- and the group in front comes off whole.
 use Rattle.cap_spec.proofs.Bytes.Plain.{plain_back}
 use Rattle.cap_spec.proofs.ProofNames.{Bool, List, [], ap, append-nil, arith, drop, false, if◌then◌else◌, inl, inr}
-use Rattle.cap_spec.proofs.ProofNames.{le-ltb, length, length-drop, lt-ltb, nat_lt, refl, suc, sym, true, zero, ℕ, ◌%◌}
-use Rattle.cap_spec.proofs.ProofNames.{◌*◌, ◌++◌, ◌+◌, ◌/◌, ◌<◌, ◌==◌, ◌∙◌, ◌∷◌, ◌≡◌, ◌≤◌, cases_eq, AllByRecursion}
-use Rattle.cap_spec.proofs.ProofNames.{plain_text, plain_words, given_in, given_of, group_length, group_words, is_cut_in}
-use Rattle.cap_spec.proofs.ProofNames.{marks, packed_is_cut, spread, unpacked, IsWord, common_steps, rules}
+use Rattle.cap_spec.proofs.ProofNames.{le-ltb, length, length-drop, nat_lt, refl, suc, sym, true, zero, ℕ, ◌%◌, ◌*◌}
+use Rattle.cap_spec.proofs.ProofNames.{◌++◌, ◌+◌, ◌/◌, ◌<◌, ◌==◌, ◌∙◌, ◌∷◌, ◌≡◌, ◌≤◌, cases_eq, AllByRecursion}
+use Rattle.cap_spec.proofs.ProofNames.{plain_text, plain_words, given_in, given_of, group_length, group_words}
+use Rattle.cap_spec.proofs.ProofNames.{is_cut_in, marks, packed_is_cut, spread, unpacked, IsWord, common_steps, rules}
 
 -- two numbers above zero: so is the one chosen
 some_of : (c : Bool) (a b : ℕ) → 0 < a → 0 < b → 0 < (if c then a else b)
@@ -18,7 +18,7 @@ group_some tag bytes = some_of (tag == 0) _ _ (omega arith) (some_of (tag == 255
 
 -- what is left after a group is shorter
 pub drop_less : (k n x : ℕ) (bytes : List ℕ) → 0 < k → length bytes ≤ n → length (drop k (x ∷ bytes)) ≤ n
-drop_less k n x bytes p q = let d = length-drop k (x ∷ bytes) in omega arith
+drop_less k n x bytes p q = search (rules, length-drop)
 
 -- no bytes give no words
 pub given_nil : (n : ℕ) → given_in n [] ≡ []
@@ -60,13 +60,13 @@ cut_stable (suc n) (suc m) (x ∷ bytes) p q =
 pub unpacked_front : (bytes : List ℕ) → 0 < length bytes → group_length bytes ≤ length bytes
     → unpacked bytes ≡ group_words bytes ++ unpacked (drop (group_length bytes) bytes)
 unpacked_front [] s h = absurd (omega arith)
-unpacked_front (x ∷ bytes) s h = search (rules, le-ltb, given_stable, drop_less, group_some)
+unpacked_front (x ∷ bytes) s h = search (rules, le-ltb, given_stable, drop_less)
 
 -- and the bytes are cut where those after it are
 pub cut_front : (bytes : List ℕ) → 0 < length bytes → group_length bytes ≤ length bytes
     → packed_is_cut bytes ≡ packed_is_cut (drop (group_length bytes) bytes)
 cut_front [] s h = absurd (omega arith)
-cut_front (x ∷ bytes) s h = search (rules, le-ltb, cut_stable, drop_less, group_some)
+cut_front (x ∷ bytes) s h = search (rules, cut_stable, drop_less)
 
 -- where it isn't whole, its whole words are all that is given
 pub unpacked_short : (bytes : List ℕ) → length bytes < group_length bytes → unpacked bytes ≡ given_of bytes
@@ -75,28 +75,23 @@ unpacked_short (x ∷ bytes) h = grind (arith, common_steps)
 
 -- and the bytes are cut
 pub cut_short : (bytes : List ℕ) → length bytes < group_length bytes → packed_is_cut bytes ≡ true
-cut_short bytes h = search (rules, lt-ltb)
+cut_short bytes h = search rules
 
 -- a clear bit takes no byte
 pub spread_clear : (n tag b : ℕ) (present : List ℕ) → tag % 2 ≡ 0
     → spread (suc n) tag (b ∷ present) ≡ 256 * spread n (tag / 2) (b ∷ present)
-spread_clear n tag b present e = ap (λ t. if t == 0 then 256 * spread n (tag / 2) (b ∷ present)
-    else (b + 256 * spread n (tag / 2) present)) e
+spread_clear n tag b present e = cc
 
 -- a set bit takes one
 pub spread_set : (n tag b : ℕ) (present : List ℕ) → tag % 2 ≡ 1
     → spread (suc n) tag (b ∷ present) ≡ b + 256 * spread n (tag / 2) present
-spread_set n tag b present e = ap (λ t. if t == 0 then 256 * spread n (tag / 2) (b ∷ present)
-    else (b + 256 * spread n (tag / 2) present)) e
+spread_set n tag b present e = cc
 
 -- no bits set, no byte taken
 pub spread_none : (n tag : ℕ) (present : List ℕ) → marks n tag ≡ 0 → spread n tag present ≡ 0
 spread_none zero tag present e = refl
 spread_none (suc n) tag [] e = refl
-spread_none (suc n) tag (b ∷ present) e =
-    let c = spread_clear n tag b present (omega arith) in
-    let t = spread_none n (tag / 2) (b ∷ present) (omega arith) in
-    omega (arith, c, t)
+spread_none (suc n) tag (b ∷ present) e = search (rules, spread_none n (tag / 2) (b ∷ present) (omega arith))
 
 -- what is after the bytes that a tag marks makes no difference to its word
 pub spread_append : (n tag : ℕ) (present rest : List ℕ) → length present ≡ marks n tag
