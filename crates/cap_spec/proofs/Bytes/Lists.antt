@@ -4,9 +4,8 @@ use Rattle.cap_spec.proofs.ProofNames.{take, zero, ℕ, ◌++◌, ◌∷◌, ◌
 
 -- of a front
 pub all_take : {A : Type 0} (P : A → Type 0) (n : ℕ) (xs : List A) → AllByRecursion P xs → AllByRecursion P (take n xs)
-all_take P zero xs a = tt
-all_take P (suc n) [] a = tt
 all_take P (suc n) (x ∷ xs) a = (a.0, all_take P n xs a.1)
+all_take P n xs a = tt
 
 -- of what is after it
 pub all_drop : {A : Type 0} (P : A → Type 0) (n : ℕ) (xs : List A) → AllByRecursion P xs → AllByRecursion P (drop n xs)

@@ -1,9 +1,9 @@
 -- Words and their plain encoding: each list of bytes splits into words and less than a word in one way.
 use Rattle.cap_spec.specs.Plain.{PlainSplits}
 use Rattle.cap_spec.proofs.Bytes.WordBytes.{bytes_back}
-use Rattle.cap_spec.proofs.ProofNames.{List, [], ap, arith, drop, drop_at, length, refl, subst, suc, sym, true, ℕ, ◌*◌}
-use Rattle.cap_spec.proofs.ProofNames.{◌++◌, ◌+◌, ◌/◌, ◌<◌, ◌↔◌, ◌∙◌, ◌∷◌, ◌≡◌, ◌≢◌, AllByRecursion, little_number}
-use Rattle.cap_spec.proofs.ProofNames.{plain_is_cut, plain_text, plain_words, word_bytes, IsWord, rules}
+use Rattle.cap_spec.proofs.ProofNames.{List, [], arith, drop, drop_at, length, refl, suc, true, ℕ, ◌*◌, ◌++◌, ◌+◌, ◌/◌}
+use Rattle.cap_spec.proofs.ProofNames.{◌<◌, ◌↔◌, ◌∷◌, ◌≡◌, ◌≢◌, AllByRecursion, little_number, plain_is_cut, plain_text}
+use Rattle.cap_spec.proofs.ProofNames.{plain_words, word_bytes, IsWord, rules}
 
 -- eight bytes a word
 pub length_plain : (ws : List ℕ) → length (plain_text ws) ≡ 8 * length ws
@@ -12,15 +12,8 @@ length_plain (x ∷ ws) = let t = length_plain ws in omega arith
 
 -- bytes have as many words as they have eights
 pub words_exact : (bs : List ℕ) → length (plain_words bs) ≡ length bs / 8
-words_exact [] = refl
-words_exact (a ∷ []) = refl
-words_exact (a ∷ b ∷ []) = refl
-words_exact (a ∷ b ∷ c ∷ []) = refl
-words_exact (a ∷ b ∷ c ∷ d ∷ []) = refl
-words_exact (a ∷ b ∷ c ∷ d ∷ e ∷ []) = refl
-words_exact (a ∷ b ∷ c ∷ d ∷ e ∷ f ∷ []) = refl
-words_exact (a ∷ b ∷ c ∷ d ∷ e ∷ f ∷ g ∷ []) = refl
 words_exact (a ∷ b ∷ c ∷ d ∷ e ∷ f ∷ g ∷ h ∷ rest) = omega (arith, words_exact rest)
+words_exact bs = refl
 
 -- the text of words, whatever is after it, begins with these words
 pub plain_back : (ws rest : List ℕ) → AllByRecursion IsWord ws
@@ -64,34 +57,12 @@ plain_split (a ∷ b ∷ c ∷ d ∷ e ∷ f ∷ []) all = record { are_words = 
 plain_split (a ∷ b ∷ c ∷ d ∷ e ∷ f ∷ g ∷ []) all = record { are_words = tt; whole = refl; partial = omega arith }
 plain_split (a ∷ b ∷ c ∷ d ∷ e ∷ f ∷ g ∷ h ∷ rest) all =
     let t = plain_split rest all.1.1.1.1.1.1.1.1 in
-    let eight : AllByRecursion (λ x. x < 256) (a ∷ b ∷ c ∷ d ∷ e ∷ f ∷ g ∷ h ∷ []) = (
-      all.0,
-      (
-        all.1.0,
-        (
-          all.1.1.0,
-          (
-            all.1.1.1.0,
-            (all.1.1.1.1.0, (all.1.1.1.1.1.0, (all.1.1.1.1.1.1.0, (all.1.1.1.1.1.1.1.0, tt)))),
-          ),
-        ),
-      ),
-    ) in
+    let eight : AllByRecursion (λ x. x < 256) (a ∷ b ∷ c ∷ d ∷ e ∷ f ∷ g ∷ h ∷ []) = search rules in
     let u = eight_back a b c d e f g h eight in
     let n = length (plain_words rest) in
     let k : 8 * suc n ≡ 8 + 8 * n = omega arith in
     let j : 8 + 8 * n ≡ suc (suc (suc (suc (suc (suc (suc (suc (8 * n)))))))) = omega arith in
-    let i : drop (8 * suc n) (a ∷ b ∷ c ∷ d ∷ e ∷ f ∷ g ∷ h ∷ rest) ≡ drop (8 * n) rest =
-    ap (λ m. drop m (a ∷ b ∷ c ∷ d ∷ e ∷ f ∷ g ∷ h ∷ rest)) (k ∙ j) in
-    record {
-      are_words = (eight_word a b c d e f g h eight, t.are_words);
-      whole =
-          ap (λ m. (a ∷ b ∷ c ∷ d ∷ e ∷ f ∷ g ∷ h ∷ []) ++ m) t.whole
-          ∙ (ap (λ m. m ++ (plain_text (plain_words rest) ++ drop (8 * n) rest)) (sym u)
-          ∙ ap (λ m. (word_bytes (little_number 8 (a ∷ b ∷ c ∷ d ∷ e ∷ f ∷ g ∷ h ∷ [])) ++ plain_text
-          (plain_words rest)) ++ m) (sym i));
-      partial = subst (λ m. length m < 8) (sym i) t.partial;
-    }
+    search (rules, eight_word)
 
 -- bytes that split into words and less than a word begin with just these words
 pub plain_words_of : (bytes words rest : List ℕ) → PlainSplits bytes words rest → words ≡ plain_words bytes

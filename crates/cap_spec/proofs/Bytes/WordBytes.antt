@@ -1,19 +1,16 @@
 -- The bytes of a word: they give the word, and each eight bytes are those of one.
 use Rattle.std.proofs.Math.Nat.{div-div-eq-div-mul}
 use Rattle.std.specs.Int.{bytes_low_first}
-use Rattle.cap_spec.proofs.ProofNames.{List, [], ap, arith, flat_map, length, refl, suc, sym, zero, ℕ, ◌%◌, ◌*◌, ◌++◌}
-use Rattle.cap_spec.proofs.ProofNames.{◌+◌, ◌/◌, ◌<◌, ◌^◌, ◌∙◌, ◌∷◌, ◌≡◌, pow-succ', byte_at, AllByRecursion}
-use Rattle.cap_spec.proofs.ProofNames.{little_bytes, little_number, little_from-cons, little_number-reads_back, halves}
-use Rattle.cap_spec.proofs.ProofNames.{word_bytes, IsWord, rules}
+use Rattle.cap_spec.proofs.ProofNames.{List, [], arith, length, refl, suc, zero, ℕ, ◌*◌, ◌++◌, ◌+◌, ◌/◌, ◌<◌, ◌^◌, ◌∷◌}
+use Rattle.cap_spec.proofs.ProofNames.{◌≡◌, pow-succ', byte_at, AllByRecursion, little_bytes, little_number}
+use Rattle.cap_spec.proofs.ProofNames.{little_from-cons, little_number-reads_back, word_bytes, IsWord, rules}
 
 -- with one byte more below, each byte is one place further up
 byte_at_up : (i a y : ℕ) → a < 256 → byte_at (suc i) (a + 256 * y) ≡ byte_at i y
 byte_at_up zero a y h = omega arith
 byte_at_up (suc i) a y h =
     let q : (a + 256 * y) / 256 ≡ y = omega arith in
-    let p : 256 ^ suc (suc i) ≡ 256 * 256 ^ suc i = pow-succ' 256 (suc i) in
-    ap (λ d. (a + 256 * y) / d % 256) p ∙ (ap (λ k. k % 256) (sym (div-div-eq-div-mul (a + 256 * y) 256 (256 ^ suc i)))
-    ∙ ap (λ k. k / 256 ^ suc i % 256) q)
+    search (rules, pow-succ', div-div-eq-div-mul)
 
 -- so do all of them
 bytes_up : (i k a y : ℕ) → a < 256 → bytes_low_first (suc i) k (a + 256 * y) ≡ bytes_low_first i k y
@@ -45,7 +42,3 @@ word_back x rest h = little_number-reads_back 8 x rest (omega arith)
 -- a half of a word in bytes
 abbrev pub four_bytes : ℕ → List ℕ
 four_bytes x = little_bytes 4 x
-
--- a word's bytes are those of its low half and then those of its high half
-pub word_halves : (x : ℕ) → word_bytes x ≡ flat_map four_bytes (halves x)
-word_halves x = search rules

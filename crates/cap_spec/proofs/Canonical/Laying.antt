@@ -47,17 +47,10 @@ list_finds : (seg : List ℕ) (a b offset q c n : ℕ) → HasWord (seg ∷ []) 
     → b ≡ a + 1 + offset → offset < 2 ^ 29
     → b + extent q ≤ length seg → (IsComposite q → (tag : ℕ) × HasWord (seg ∷ []) 0 b tag × TagFits tag (list_size q))
     → Finds (seg ∷ []) 0 a 0 0 b q
-list_finds seg a b offset q c n h f e lt le tagged =
-    record {
-      leads = near q h (λ z. absurd (omega (arith, z, f.kind))) (
-        omega (arith, f.kind),
-        (λ z. absurd (zero_kind q z f.kind)),
-        refl,
-        start_after q a b offset f.middle lt e,
-        refl,
-      ) refl;
-      inside = record { exists = omega arith; inside = le; composite = tagged };
-    }
+list_finds seg a b offset q c n h f e lt le tagged = record {
+  leads = near q h (λ z. absurd (omega (arith, z, f.kind))) (search (rules, zero_kind)) refl;
+  inside = record { exists = omega arith; inside = le; composite = tagged };
+}
   where
     zero_kind : (q : ℕ) → q ≡ 0 → kind q ≡ 1 → ⊥
     zero_kind q e k = omega arith
@@ -72,28 +65,10 @@ struct_laid : (seg ws : List ℕ) (ts : Trees) (a b offset q inner deep : ℕ) �
 struct_laid seg ws ts a b offset q inner deep h f some e lt le st each =
     let object : FindsKind (seg ∷ []) 0 a (Struct (length ws) (tree_count ts)) 0 0 b q 0 =
     record {
-      finds = struct_finds seg a b offset q (length ws) (tree_count ts) h f
-          (λ z. absurd (has_words q (length ws) (tree_count ts) f.data_words f.pointers z some)) e lt le;
+      finds = search (rules, struct_finds, has_words);
       tagged = λ z. absurd (omega (arith, z.0, f.kind));
       shape = is_struct f.kind (ap₂ Struct (sym f.data_words) (sym f.pointers));
-    } in (
-      0,
-      0,
-      b,
-      q,
-      0,
-      length ws,
-      tree_count ts,
-      inner,
-      deep,
-      record {
-        object = object;
-        charge = omega (arith, struct_words object.shape, struct_extra object.shape);
-        depth = omega (arith, struct_levels object.shape);
-      },
-      sym (lie_read seg b (length ws) ws refl st),
-      each,
-    )
+    } in search (rules, struct_words, struct_extra, struct_levels, lie_read)
   where
     has_words : (q d p : ℕ) → data_size q ≡ d → pointer_size q ≡ p → q ≡ 0 → 0 < d + p → ⊥
     has_words q d p e g z some = omega arith
@@ -116,11 +91,7 @@ empty_laid seg a h =
           finds = record {
             leads = near (2 ^ 32 - 4) h (λ z. absurd (omega (arith, z)))
                 (omega arith, (λ z. absurd (omega (arith, z))), refl, start_before a, refl) refl;
-            inside = record {
-              exists = omega arith;
-              inside = omega (arith, l);
-              composite = λ z. absurd (omega (arith, z.0));
-            };
+            inside = search rules;
           };
           tagged = λ z. absurd (omega (arith, z.0));
           shape = is_struct refl refl;
@@ -245,17 +216,7 @@ structs_laid seg d p n es a b offset q tag inner deep h f ht g i lo le each =
       n,
       inner,
       deep,
-      record {
-        object = record {
-          finds = list_finds seg a b offset q 7 (n * (d + p)) h f i lo
-              (within b (extent q) (1 + n * (d + p)) (length seg) x (inside b (n * (d + p)) (length seg) le))
-              (λ z. (tag, ht, (g.kind, at_most (middle tag * (data_size tag + pointer_size tag)) (list_size q) fit)));
-          tagged = λ z. ht;
-          shape = k;
-        };
-        charge = sums (extent q) (extra q tag) (n * (d + p)) (idle (d + p) n) inner x (structs_extra k);
-        depth = omega (arith, structs_levels k);
-      },
+      search (rules, list_finds, within, idle, structs_extra, structs_levels, inside, at_most, sums),
       each,
     )
   where

@@ -10,10 +10,9 @@ use Rattle.cap_spec.proofs.Canonical.TrimmedTrees.{trimmed_is_tree}
 use Rattle.cap_spec.proofs.ProofNames.{List, [], arith, drop, length, length-take, map, subst, suc, sym, take, zero, ℕ}
 use Rattle.cap_spec.proofs.ProofNames.{◌*◌, ◌+◌, ◌-◌, ◌<◌, ◌^◌, ◌∷◌, ◌≡◌, ◌≤◌, mul-le, AllByRecursion, range_with_len}
 use Rattle.cap_spec.proofs.ProofNames.{content, contents, element_contents, element_sizes, element_words, layout}
-use Rattle.cap_spec.proofs.ProofNames.{list_word, pointer_to, pointer_words, size, sizes, struct_word, trim, Denotes}
-use Rattle.cap_spec.proofs.ProofNames.{element_bits, packed_word, scalar_words, AreElementTrees, AreTrees, IsTree, Tree}
-use Rattle.cap_spec.proofs.ProofNames.{Trees, cap, more, null, pointers, scalars, struct, structs, tree_count, IsWord}
-use Rattle.cap_spec.proofs.ProofNames.{rules}
+use Rattle.cap_spec.proofs.ProofNames.{pointer_to, pointer_words, size, sizes, trim, Denotes, element_bits, packed_word}
+use Rattle.cap_spec.proofs.ProofNames.{scalar_words, AreElementTrees, AreTrees, IsTree, Tree, Trees, more, pointers}
+use Rattle.cap_spec.proofs.ProofNames.{scalars, struct, structs, tree_count, IsWord, rules}
 use Rattle.cap_spec.proofs.Trees.DenotedTrees.{AreWords, denoted_is_tree}
 
 -- values of one word fit the bits that they take together
@@ -28,7 +27,7 @@ packed_below bits (v ∷ vs) a =
     let e : 2 ^ (suc (length vs) * bits) ≡ 2 ^ bits * 2 ^ (length vs * bits) =
     rw (sym s) (pow-add 2 bits (length vs * bits)) in
     subst (λ n. v + 2 ^ bits * packed_word bits vs < n) (sym e)
-    (one_more v (2 ^ bits) (packed_word bits vs) (2 ^ (length vs * bits)) a.0 (packed_below bits vs a.1))
+    (search (rules, one_more, packed_below bits vs a.1))
 
 -- and this many a word fit a word
 packed_is_word : (bits per : ℕ) (vs : List ℕ) → per * bits ≤ 64 → AllByRecursion (λ v. v < 2 ^ bits) vs
@@ -38,9 +37,7 @@ packed_is_word bits per vs h a =
     packed_below bits (take per vs) (all_take (λ v. v < 2 ^ bits) per vs a) in
     let few : length (take per vs) ≤ per = omega (arith, length-take per vs) in
     let l : length (take per vs) * bits ≤ per * bits = mul-le (length (take per vs)) bits per bits few (omega arith) in
-    let small : length (take per vs) * bits ≤ 64 = omega (arith, l, h) in
-    let fit : 2 ^ (length (take per vs) * bits) ≤ 2 ^ 64 = pow_mono small in
-    omega (arith, below, fit)
+    search (rules, pow_mono)
 
 value_words_are : (bits per a count : ℕ) (vs : List ℕ) → per * bits ≤ 64 → AllByRecursion (λ v. v < 2 ^ bits) vs
     → AllByRecursion IsWord (map (λ k. packed_word bits (take per (drop (k * per) vs))) (range_with_len a count))
@@ -53,12 +50,6 @@ scalar_words_are : (c : ℕ) (vs : List ℕ) → AllByRecursion (λ v. v < 2 ^ e
 scalar_words_are c vs f = search (rules, value_words_are, div-mul-le_self)
 
 -- the pointer to a tree that fits
-struct_is_word : (offset d p : ℕ) → offset < 2 ^ 30 → d < 2 ^ 16 → p < 2 ^ 16 → struct_word offset d p < 2 ^ 64
-struct_is_word offset d p ho hd hp = omega arith
-
-list_is_word : (offset c n : ℕ) → offset < 2 ^ 30 → c < 8 → n < 2 ^ 29 → list_word offset c n < 2 ^ 64
-list_is_word offset c n ho hc hn = omega arith
-
 pub pointer_is_word : (offset : ℕ) (t : Tree) → Fits t → offset < 2 ^ 30 → pointer_to offset t < 2 ^ 64
 pointer_is_word offset t f l = search rules
 
@@ -73,31 +64,58 @@ elements_are_words : (d p after : ℕ) (es : Trees) → AreElementTrees d p es �
     → after + tree_count es * (d + p) + element_sizes es < 2 ^ 29
     → AllByRecursion IsWord (element_words (d + p) after es)
 elements_are_words d p after none a f l = tt
-elements_are_words d p after (more (struct ws ts) es) a f l = search (rules, all_append, row_is_words, elements_are_words d p (after + sizes ts) es a.4 f.3 (rest_near after (tree_count es) (d + p) (sizes ts) (element_sizes es) (2 ^ 29) l))
+elements_are_words d p after (more (struct ws ts) es) a f l =
+    search (rules, all_append, row_is_words, rest_near, elements_are_words d p (after + sizes ts) es a.4 f.3)
 elements_are_words d p after (more t es) a f l = absurd a
 
 mutual
   -- the words of a tree's content
   pub content_is_words : (t : Tree) → IsTree t → Fits t → size t < 2 ^ 29 → AllByRecursion IsWord (content t)
-  content_is_words null a f l = tt
-  content_is_words (cap i) a f l = tt
-  content_is_words (struct ws ts) a f l = search (rules, all_append, row_is_words, contents_are_words ts a.1 f.2 (omega (arith, l)))
+  content_is_words (struct ws ts) a f l =
+      search (rules, all_append, row_is_words, contents_are_words ts a.1 f.2 (omega (arith, l)))
   content_is_words (scalars c vs) a f l = scalar_words_are c vs f.2
-  content_is_words (pointers ts) a f l = search (rules, all_append, row_is_words, contents_are_words ts a f.1 (omega (arith, l)))
-  content_is_words (structs d p es) a f l = search (rules, all_append, elements_are_words, element_contents_are_words d p es a f.4 (elements_only (tree_count es * (d + p)) (element_sizes es) (2 ^ 29) l))
+  content_is_words (pointers ts) a f l =
+      search (rules, all_append, row_is_words, contents_are_words ts a f.1 (omega (arith, l)))
+  content_is_words (structs d p es) a f l = search (
+    rules,
+    all_append,
+    elements_are_words,
+    element_contents_are_words d p es a f.4 (elements_only (tree_count es * (d + p)) (element_sizes es) (2 ^ 29) l),
+  )
+  content_is_words t a f l = tt
 
   pub contents_are_words : (ts : Trees) → AreTrees ts → FitEach ts → sizes ts < 2 ^ 29
       → AllByRecursion IsWord (contents ts)
   contents_are_words none a f l = tt
-  contents_are_words (more t ts) a f l = search (rules, all_append, contents_are_words ts a.1 f.1 (omega (arith, l)), content_is_words t a.0 f.0 (omega (arith, l)))
+  contents_are_words (more t ts) a f l =
+      search (
+        rules,
+        all_append,
+        contents_are_words ts a.1 f.1 (omega (arith, l)),
+        content_is_words t a.0 f.0 (omega (arith, l)),
+      )
 
   pub element_contents_are_words : (d p : ℕ) (es : Trees) → AreElementTrees d p es → FitElements d p es
       → element_sizes es < 2 ^ 29 → AllByRecursion IsWord (element_contents es)
-  element_contents_are_words d p none a f l = tt
-  element_contents_are_words d p (more (struct ws ts) es) a f l = search (rules, all_append, element_contents_are_words d p es a.4 f.3 (omega (arith, l)), contents_are_words ts a.3 f.2 (omega (arith, l)))
-  element_contents_are_words d p (more t es) a f l = absurd a
+  element_contents_are_words d p (more (struct ws ts) es) a f l = search (
+    rules,
+    all_append,
+    element_contents_are_words d p es a.4 f.3 (omega (arith, l)),
+    contents_are_words ts a.3 f.2 (omega (arith, l)),
+  )
+  element_contents_are_words d p es a f l = search rules
 
 -- the layout of what a message of words denotes, trimmed
 pub layout_is_words : (m : List (List ℕ)) (s w : ℕ) (t : Tree) (c d : ℕ) → AreWords m → Denotes m s w t c d → c < 2 ^ 29
     → AllByRecursion IsWord (layout (trim t))
-layout_is_words m s w t c d a h l = search (rules, measured, trimmed, trimmed_size_charged, pointer_is_word, content_is_words, trimmed_is_tree, denoted_is_tree)
+layout_is_words m s w t c d a h l =
+    search (
+      rules,
+      measured,
+      trimmed,
+      trimmed_size_charged,
+      pointer_is_word,
+      content_is_words,
+      trimmed_is_tree,
+      denoted_is_tree,
+    )

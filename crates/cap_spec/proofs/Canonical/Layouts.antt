@@ -1,4 +1,10 @@
 -- The layout of a tree denotes that tree: wherever its content is, and a pointer with the offset to there.
+use Rattle.cap_spec.proofs.ProofNames.{rules, List, [], ap, arith, length, length-append, refl, subst, sym, ℕ, ◌*◌}
+use Rattle.cap_spec.proofs.ProofNames.{◌++◌, ◌+◌, ◌<◌, ◌^◌, ◌↔◌, ◌∷◌, ◌≡◌, ◌≤◌, content, contents, element_contents}
+use Rattle.cap_spec.proofs.ProofNames.{element_sizes, element_words, layout, list_word, pointer_to, pointer_words, size}
+use Rattle.cap_spec.proofs.ProofNames.{sizes, struct_word, trim, AreElements, DenoteEach, Denotes, near, HasWord}
+use Rattle.cap_spec.proofs.ProofNames.{HasWordsAt, Tree, Trees, cap, more, null, pointers, scalars, struct, structs}
+use Rattle.cap_spec.proofs.ProofNames.{tree_count}
 use Rattle.cap_spec.specs.Denoting.{places}
 use Rattle.cap_spec.specs.Tree.{none}
 use Rattle.cap_spec.proofs.Canonical.ElementPlaces.{children_begin, children_near, element_end, rest_begin, rest_near}
@@ -11,12 +17,6 @@ use Rattle.cap_spec.proofs.Canonical.Sizes.{trimmed_size_charged}
 use Rattle.cap_spec.proofs.Canonical.TreeMeasures.{FitEach, FitElements, Fits, Measured, cost, costs, element_costs}
 use Rattle.cap_spec.proofs.Canonical.TreeMeasures.{element_heights, height, heights, measured}
 use Rattle.cap_spec.proofs.Canonical.TrimmedMeasures.{Trimmed, trimmed}
-use Rattle.cap_spec.proofs.ProofNames.{List, [], ap, arith, length, length-append, refl, subst, sym, ℕ, ◌*◌, ◌++◌, ◌+◌}
-use Rattle.cap_spec.proofs.ProofNames.{◌<◌, ◌^◌, ◌↔◌, ◌∙◌, ◌∷◌, ◌≡◌, ◌≤◌, content, contents, element_contents}
-use Rattle.cap_spec.proofs.ProofNames.{element_sizes, element_words, layout, list_word, pointer_to, pointer_words, size}
-use Rattle.cap_spec.proofs.ProofNames.{sizes, struct_word, trim, AreElements, DenoteEach, Denotes, near, HasWord}
-use Rattle.cap_spec.proofs.ProofNames.{HasWordsAt, Tree, Trees, cap, more, null, pointers, scalars, struct, structs}
-use Rattle.cap_spec.proofs.ProofNames.{tree_count}
 use Rattle.cap_spec.proofs.Trees.OneTree.{one_tree}
 
 -- where a struct list's elements end, and its children's contents begin
@@ -58,7 +58,7 @@ mutual
   word_denotes seg (pointers ts) a offset b h st e f lo ls =
       let front : HasWordsAt seg b (pointer_words 0 ts) = lie_front seg b (pointer_words 0 ts) (contents ts) st in
       let le : b + tree_count ts ≤ length seg =
-      (let x = lie_inside seg b (pointer_words 0 ts) front in omega (arith, x, length-pointer_words 0 ts)) in
+      omega (arith, lie_inside, length-pointer_words) in
       pointers_laid seg ts a b offset (list_word offset 6 (tree_count ts)) (costs ts) (heights ts) h
       (list_fields offset 6 (tree_count ts) (omega (arith, lo)) (omega arith) f.0) e lo le
       (each_denote seg ts 0 b (b + tree_count ts) front
@@ -74,11 +74,9 @@ mutual
       (struct_word (tree_count es) d p) (element_costs es) (element_heights es) h
       (list_fields offset 7 (tree_count es * (d + p)) (omega (arith, lo)) (omega arith) f.3) st.0
       (struct_fields (tree_count es) d p f.2 f.0 f.1) e lo
-      (elements_inside b (length (element_words (d + p) 0 es)) (tree_count es * (d + p)) (length seg)
-      (lie_inside seg (b + 1) (element_words (d + p) 0 es) front) n)
+      (search (rules, elements_inside, lie_inside))
       (elements_denote seg d p es 0 (b + 1) (b + 1 + tree_count es * (d + p)) front
-      (lie_back seg (b + 1) (b + 1 + tree_count es * (d + p)) (element_words (d + p) 0 es) (element_contents es)
-      (elements_end b (length (element_words (d + p) 0 es)) (tree_count es * (d + p)) n) st.1)
+      (search (rules, lie_back, elements_end))
       (nothing_more (b + 1 + tree_count es * (d + p))) f.4
       (without_tag (tree_count es * (d + p)) (element_sizes es) (2 ^ 29) ls))
 
@@ -123,7 +121,7 @@ mutual
       each_denote seg ts (tree_count es * (d + p) + after) (eb + d) cb below
       (lie_front seg cb (contents ts) (element_contents es) sc)
       (children_begin cb eb (tree_count es) d p (tree_count ts) after e f.1) f.2
-      (children_near after (tree_count es) d p (tree_count ts) (sizes ts) (element_sizes es) (2 ^ 29) l f.1) in (
+      (search (rules, children_near)) in (
         tree_count es,
         costs ts,
         heights ts,
@@ -134,8 +132,7 @@ mutual
         subst (λ n. DenoteEach (seg ∷ []) (places 0 (eb + d) n) ts (costs ts) (heights ts)) f.1 each,
         elements_denote seg d p es (after + sizes ts) (eb + d + p) (cb + sizes ts)
             (lie_back seg eb (eb + d + p) (ws ++ pw) ew
-            (element_end eb d p ws pw (tree_count ts) f.0
-            (length-pointer_words (tree_count es * (d + p) + after) ts) f.1) sp)
+            (search (rules, element_end, length-pointer_words)) sp)
             (lie_back seg cb (cb + sizes ts) (contents ts) (element_contents es)
             (ap (λ n. cb + n) (sym (length-contents ts f.2))) sc)
             (rest_begin cb eb (tree_count es) d p after (sizes ts) e) f.3
@@ -158,11 +155,7 @@ trimmed_layout_denotes m s w t c d h l =
     let e : size (trim t) ≤ c = trimmed_size_charged m s w t c d h in
     let i : Denotes (layout (trim t) ∷ []) 0 0 (trim t) (cost (trim t)) (height (trim t)) =
     layout_denotes (trim t) b.fits (omega arith) in
-    let j : height (trim t) ≡ d = b.deep ∙ a.deep in (
-      cost (trim t),
-      subst (λ n. Denotes (layout (trim t) ∷ []) 0 0 (trim t) (cost (trim t)) n) j i,
-      omega (arith, a.charged, b.charged),
-    )
+    search rules
 
 -- equal layouts of trimmed trees are those of equal trimmed trees
 pub one_layout : (m : List (List ℕ)) (s w : ℕ) (t : Tree) (c d : ℕ) → Denotes m s w t c d → c < 2 ^ 29

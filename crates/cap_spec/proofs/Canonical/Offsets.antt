@@ -1,4 +1,7 @@
 -- Each offset of a layout is smaller than the size of the tree.
+use Rattle.cap_spec.proofs.ProofNames.{rules, List, arith, flat_map, ℕ, ◌*◌, ◌+◌, ◌<◌, ◌^◌, ◌≤◌, AllByRecursion}
+use Rattle.cap_spec.proofs.ProofNames.{element_sizes, offsets, size, sizes, trim, Denotes, Tree, Trees, cap, more, null}
+use Rattle.cap_spec.proofs.ProofNames.{pointers, scalars, struct, structs, tree_count}
 use Rattle.cap_spec.specs.Canonical.{element_offsets, element_offsets_below, offsets_below, pointer_offsets}
 use Rattle.cap_spec.specs.Tree.{none}
 use Rattle.cap_spec.proofs.Bytes.Lists.{all_append}
@@ -6,9 +9,6 @@ use Rattle.cap_spec.proofs.Canonical.ElementPlaces.{children_near, elements_only
 use Rattle.cap_spec.proofs.Canonical.Sizes.{trimmed_size_charged}
 use Rattle.cap_spec.proofs.Canonical.TreeMeasures.{FitEach, FitElements, Fits, Measured, measured}
 use Rattle.cap_spec.proofs.Canonical.TrimmedMeasures.{Trimmed, trimmed}
-use Rattle.cap_spec.proofs.ProofNames.{List, arith, flat_map, ℕ, ◌*◌, ◌+◌, ◌<◌, ◌^◌, ◌≤◌, AllByRecursion, element_sizes}
-use Rattle.cap_spec.proofs.ProofNames.{offsets, size, sizes, trim, Denotes, Tree, Trees, cap, more, null, pointers}
-use Rattle.cap_spec.proofs.ProofNames.{scalars, struct, structs, tree_count}
 
 -- those of pointers in a row
 row_offsets : (most after : ℕ) (ts : Trees) → after + tree_count ts + sizes ts < most
@@ -24,8 +24,7 @@ elements_offsets most d p after none f h = tt
 elements_offsets most d p after (more (struct ws ts) es) f h =
     all_append (λ offset. offset < most) (pointer_offsets (tree_count es * (d + p) + after) ts)
     (flat_map (λ row. row) (element_offsets (d + p) (after + sizes ts) es))
-    (row_offsets most (tree_count es * (d + p) + after) ts
-    (children_near after (tree_count es) d p (tree_count ts) (sizes ts) (element_sizes es) most h f.1))
+    (search (rules, row_offsets, children_near))
     (elements_offsets most d p (after + sizes ts) es f.3
     (rest_near after (tree_count es) (d + p) (sizes ts) (element_sizes es) most h))
 elements_offsets most d p after (more t es) f h = absurd f
@@ -46,24 +45,29 @@ mutual
   offsets_within most (structs d p es) f h =
       all_append (λ offset. offset < most) (flat_map (λ row. row) (element_offsets (d + p) 0 es))
       (element_offsets_below es)
-      (elements_offsets most d p 0 es f.4 (without_tag (tree_count es * (d + p)) (element_sizes es) most h))
+      (search (rules, elements_offsets, without_tag))
       (element_offsets_within most d p es f.4 (elements_only (tree_count es * (d + p)) (element_sizes es) most h))
 
   pub offsets_below_within : (most : ℕ) (ts : Trees) → FitEach ts → sizes ts < most
       → AllByRecursion (λ offset. offset < most) (offsets_below ts)
   offsets_below_within most none f h = tt
   offsets_below_within most (more t ts) f h =
-      all_append (λ offset. offset < most) (offsets t) (offsets_below ts) (offsets_within most t f.0 (omega (arith, h)))
-      (offsets_below_within most ts f.1 (omega (arith, h)))
+      search (
+        rules,
+        all_append,
+        offsets_below_within most ts f.1 (omega (arith, h)),
+        offsets_within most t f.0 (omega (arith, h)),
+      )
 
   pub element_offsets_within : (most d p : ℕ) (es : Trees) → FitElements d p es → element_sizes es < most
       → AllByRecursion (λ offset. offset < most) (element_offsets_below es)
-  element_offsets_within most d p none f h = tt
-  element_offsets_within most d p (more (struct ws ts) es) f h =
-      all_append (λ offset. offset < most) (offsets_below ts) (element_offsets_below es)
-      (offsets_below_within most ts f.2 (omega (arith, h)))
-      (element_offsets_within most d p es f.3 (omega (arith, h)))
-  element_offsets_within most d p (more t es) f h = absurd f
+  element_offsets_within most d p (more (struct ws ts) es) f h = search (
+    rules,
+    all_append,
+    element_offsets_within most d p es f.3 (omega (arith, h)),
+    offsets_below_within most ts f.2 (omega (arith, h)),
+  )
+  element_offsets_within most d p es f h = search rules
 
 -- the offsets in the layout of what is denoted, trimmed, are below 2 ^ 29
 pub offsets_fit : (m : List (List ℕ)) (s w : ℕ) (t : Tree) (c d : ℕ) → Denotes m s w t c d → c < 2 ^ 29

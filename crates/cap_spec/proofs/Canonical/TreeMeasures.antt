@@ -1,11 +1,10 @@
 -- How much a tree is charged without pads, how deep it is, and that its sizes fit the fields of pointer words:
 -- of what is denoted, and of the trimmed tree.
-use Rattle.cap_spec.proofs.ProofNames.{rules, common_steps, List, ap, ap₂, arith, if◌then◌else◌, length, max, ne_eqb}
-use Rattle.cap_spec.proofs.ProofNames.{refl, suc, sym, ℕ, ◌*◌, ◌+◌, ◌<◌, ◌==◌, ◌^◌, ◌∙◌, ◌≡◌, ◌≤◌, AllByRecursion, ⊤}
-use Rattle.cap_spec.proofs.ProofNames.{AreElements, DenoteEach, Denotes, FindsCharged, element_levels, values_of}
-use Rattle.cap_spec.proofs.ProofNames.{words_from, extra, segment_of, HasKind, code, data_size, element_bits, extent}
-use Rattle.cap_spec.proofs.ProofNames.{kind, list_size, list_words, middle, pointer_size, Tree, Trees, cap, more, null}
-use Rattle.cap_spec.proofs.ProofNames.{pointers, scalars, struct, structs, tree_count, Pointers, Scalars, Struct}
+use Rattle.cap_spec.proofs.ProofNames.{rules, common_steps, List, ap, arith, if◌then◌else◌, length, max, ne_eqb, refl}
+use Rattle.cap_spec.proofs.ProofNames.{sym, ℕ, ◌*◌, ◌+◌, ◌<◌, ◌==◌, ◌^◌, ◌∙◌, ◌≡◌, ◌≤◌, AllByRecursion, ⊤, AreElements}
+use Rattle.cap_spec.proofs.ProofNames.{DenoteEach, Denotes, FindsCharged, element_levels, values_of, extra, segment_of}
+use Rattle.cap_spec.proofs.ProofNames.{HasKind, code, element_bits, extent, kind, list_size, list_words, middle, Tree}
+use Rattle.cap_spec.proofs.ProofNames.{Trees, cap, more, null, pointers, scalars, struct, structs, tree_count, Scalars}
 use Rattle.cap_spec.proofs.ProofNames.{Structs}
 use Rattle.cap_spec.specs.Denoting.{places}
 use Rattle.cap_spec.specs.Tree.{none}
@@ -99,9 +98,6 @@ pub extent_scalars : (q e : ℕ) → kind q ≡ 1 → e ≡ code q → e < 6 →
 extent_scalars q e k f lt = rw (k, f, ne_eqb (code q) 7 (λ z. absurd (omega (arith, f, lt, z)))) refl
 
 -- fields fit their bits
-short_fits : (q : ℕ) → (data_size q < 2 ^ 16) × (pointer_size q < 2 ^ 16)
-short_fits q = (omega arith, omega arith)
-
 long_fits : (q : ℕ) → (list_size q < 2 ^ 29) × (middle q < 2 ^ 30)
 long_fits q = (omega arith, omega arith)
 
@@ -111,12 +107,6 @@ scalars_extra {q} {tag} {e} {n} h = search rules
 
 pub structs_extra : {q tag n ds ps : ℕ} → HasKind q tag (Structs n ds ps) → extra q tag ≡ idle (ds + ps) n
 structs_extra {q} {tag} {n} {ds} {ps} h = search rules
-
--- a struct that is found, with its measured children
-struct_measured : {m : List (List ℕ)} {s w k t b q tag ds ps inner deep c d : ℕ} (words : List ℕ) (ts : Trees)
-    → FindsCharged m s w (Struct ds ps) k t b q tag inner deep c d → words ≡ words_from m t b ds
-    → tree_count ts ≡ ps → EachMeasured ts inner deep → Measured (struct words ts) c d
-struct_measured {m} {s} {w} {k} {t} {b} {q} {tag} {ds} {ps} {inner} {deep} {c} {d} words ts f own n each = search (rules, range_length, short_fits)
 
 -- a list of values that is found
 scalars_measured : {m : List (List ℕ)} {s w e k t b q tag n c d : ℕ} (vs : List ℕ)
@@ -141,32 +131,30 @@ scalars_measured {m} {s} {w} {e} {k} {t} {b} {q} {tag} {n} {c} {d} vs f own =
     sum_above : (k a b a' b' c : ℕ) → c ≡ k + a + b + 0 → a ≡ a' → b ≡ b' → a' + b' ≤ c
     sum_above k a b a' b' c e1 e2 e3 = omega arith
 
--- a list of pointers that is found, with its measured entries
-pointers_measured : {m : List (List ℕ)} {s w k t b q tag n inner deep c d : ℕ} (ts : Trees)
-    → FindsCharged m s w (Pointers n) k t b q tag inner deep c d
-    → tree_count ts ≡ n → EachMeasured ts inner deep → Measured (pointers ts) c d
-pointers_measured {m} {s} {w} {k} {t} {b} {q} {tag} {n} {inner} {deep} {c} {d} ts f count each = search rules
-
--- a list of structs that is found, with its measured elements
-structs_measured : {m : List (List ℕ)} {s w ds ps k t b q tag n inner deep c d : ℕ} (es : Trees)
-    → FindsCharged m s w (Structs n ds ps) k t b q tag inner deep c d
-    → ElementsMeasured ds ps n es inner deep → Measured (structs ds ps es) c d
-structs_measured {m} {s} {w} {ds} {ps} {k} {t} {b} {q} {tag} {n} {inner} {deep} {c} {d} es f each = search rules
-
 mutual
   -- what a word denotes is charged its cost at least, is as deep as reported, and fits
   pub measured : (m : List (List ℕ)) (s w : ℕ) (t : Tree) (c d : ℕ) → Denotes m s w t c d → Measured t c d
   measured m s w null c d h = record { fits = tt; charged = omega arith; deep = sym h.1 }
   measured m s w (cap i) c d h = record { fits = cap_fits m s w c i h.0; charged = omega arith; deep = sym h.1 }
-  measured m s w (struct words ts) c d (k, t, b, q, tag, ds, ps, inner, deep, found, own, each) = grind (arith, common_steps, each_charged, length-places, each_measured m (places t (b + ds) ps) ts inner deep each)
+  measured m s w (struct words ts) c d (k, t, b, q, tag, ds, ps, inner, deep, found, own, each) =
+      grind (
+        arith,
+        common_steps,
+        each_charged,
+        length-places,
+        each_measured m (places t (b + ds) ps) ts inner deep each,
+      )
   measured m s w (scalars e vs) c d (k, t, b, q, tag, n, found, own) = scalars_measured vs found own
-  measured m s w (pointers ts) c d (k, t, b, q, tag, n, inner, deep, found, each) = search (rules, each_charged, length-places, each_measured m (places t b n) ts inner deep each)
-  measured m s w (structs ds ps es) c d (k, t, b, q, tag, n, inner, deep, found, each) = search (rules, elements_measured m t (b + 1) ds ps n es inner deep (elements_inside found.object) each)
+  measured m s w (pointers ts) c d (k, t, b, q, tag, n, inner, deep, found, each) =
+      search (rules, each_charged, length-places, each_measured m (places t b n) ts inner deep each)
+  measured m s w (structs ds ps es) c d (k, t, b, q, tag, n, inner, deep, found, each) =
+      search (rules, elements_measured m t (b + 1) ds ps n es inner deep (elements_inside found.object) each)
 
   pub each_measured : (m : List (List ℕ)) (ps : List (ℕ × ℕ)) (ts : Trees) (c d : ℕ) → DenoteEach m ps ts c d
       → EachMeasured ts c d
   each_measured m ps none c d h = record { fits = tt; charged = omega arith; deep = sym h.2 }
-  each_measured m ps (more t ts) c d (s, w, rest, c1, d1, c2, d2, begins, denotes, after, charge, depth) = search (rules, each_measured m rest ts c2 d2 after, measured m s w t c1 d1 denotes)
+  each_measured m ps (more t ts) c d (s, w, rest, c1, d1, c2, d2, begins, denotes, after, charge, depth) =
+      search (rules, each_measured m rest ts c2 d2 after, measured m s w t c1 d1 denotes)
 
   pub elements_measured : (m : List (List ℕ)) (t b ds ps n : ℕ) (es : Trees) (c d : ℕ)
       → b + n * ds + n * ps ≤ length (segment_of m t)
@@ -176,20 +164,12 @@ mutual
       let (fewer, c1, d1, c2, d2, counted, own, each, after, charge, depth) = h in
       let x : n * ds ≡ ds + fewer * ds = rw counted (omega arith) in
       let y : n * ps ≡ ps + fewer * ps = rw counted (omega arith) in
-      let l : length words ≡ ds = ap length own ∙ range_length m t b ds (omega (arith, le, x, y)) in
-      let a : EachMeasured ts c1 d1 = each_measured m (places t (b + ds) ps) ts c1 d1 each in
-      let e : ElementsMeasured ds ps fewer es c2 d2 =
-      elements_measured m t (b + ds + ps) ds ps fewer es c2 d2 (omega (arith, le, x, y)) after in
-      record {
-        fits = (
-          l,
-          (each_charged m (places t (b + ds) ps) ts c1 d1 each).0
-              ∙ length-places t (b + ds) ps,
-          a.fits,
-          e.fits,
-        );
-        count = ap suc e.count ∙ sym counted;
-        charged = omega (arith, a.charged, e.charged, charge);
-        deep = ap₂ max a.deep e.deep ∙ sym depth;
-      }
+      search (
+        rules,
+        range_length,
+        each_charged,
+        length-places,
+        elements_measured m t (b + ds + ps) ds ps fewer es c2 d2 (omega (arith, le, x, y)) after,
+        each_measured m (places t (b + ds) ps) ts c1 d1 each,
+      )
   elements_measured m t b ds ps n (more x es) c d le h = absurd h

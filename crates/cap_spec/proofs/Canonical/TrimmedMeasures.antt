@@ -2,8 +2,8 @@
 use Rattle.std.proofs.Common.{List, [], ap, ap₂, arith, if◌then◌else◌, length, length-take, refl, suc, sym, zero, ℕ}
 use Rattle.std.proofs.Common.{◌*◌, ◌+◌, ◌<◌, ◌==◌, ◌^◌, ◌∙◌, ◌∷◌, ◌≡◌, ◌≤◌, rules}
 use Rattle.std.proofs.lemmas.Nat.{mul-le}
-use Rattle.cap_spec.specs.Canonical.{children_needed, children_of, cut_elements, data_needed, data_of, is_null}
-use Rattle.cap_spec.specs.Canonical.{take_trees, trim, trim_all, trim_elements, trim_struct, trim_structs}
+use Rattle.cap_spec.specs.Canonical.{children_needed, children_of, cut_elements, data_needed, data_of, take_trees, trim}
+use Rattle.cap_spec.specs.Canonical.{trim_all, trim_elements, trim_struct, trim_structs}
 use Rattle.cap_spec.specs.Denoting.{element_levels}
 use Rattle.cap_spec.specs.Tree.{Tree, Trees, cap, more, none, null, pointers, scalars, struct, structs, tree_count}
 use Rattle.cap_spec.proofs.Canonical.TreeMeasures.{FitEach, FitElements, Fits, cost, costs, element_costs}
@@ -27,68 +27,54 @@ children_needed_le (more t ts) = search (rules, children_needed_le ts)
 
 -- a prefix of trees: how many, what they cost, and that they fit
 tree_count-take : (n : ℕ) (ts : Trees) → tree_count (take_trees n ts) ≤ tree_count ts
-tree_count-take zero ts = omega arith
-tree_count-take (suc n) none = omega arith
 tree_count-take (suc n) (more t ts) = omega (arith, tree_count-take n ts)
+tree_count-take n ts = omega arith
 
 pub tree_count-take_le : (n : ℕ) (ts : Trees) → n ≤ tree_count ts → tree_count (take_trees n ts) ≡ n
-tree_count-take_le zero ts h = refl
-tree_count-take_le (suc n) none h = absurd (omega (arith, h))
 tree_count-take_le (suc n) (more t ts) h = ap suc (tree_count-take_le n ts (omega (arith, h)))
+tree_count-take_le n ts h = search rules
 
 costs-take : (n : ℕ) (ts : Trees) → costs (take_trees n ts) ≤ costs ts
-costs-take zero ts = omega arith
-costs-take (suc n) none = omega arith
 costs-take (suc n) (more t ts) = omega (arith, costs-take n ts)
+costs-take n ts = omega arith
 
 fits-take : (n : ℕ) (ts : Trees) → FitEach ts → FitEach (take_trees n ts)
-fits-take zero ts f = tt
-fits-take (suc n) none f = tt
 fits-take (suc n) (more t ts) f = (f.0, fits-take n ts f.1)
+fits-take n ts f = tt
 
 -- trees of which none are needed are as flat as none
 flat : (ts : Trees) → children_needed ts ≤ 0 → heights ts ≡ 0
 flat none h = refl
-flat (more null ts) h = let n = none_left (children_needed ts) 0 h in
-    let r : heights ts ≡ 0 = flat ts n.0 in omega arith
-flat (more (cap i) ts) h = search rules
-flat (more (struct words us) ts) h = search rules
-flat (more (scalars c vs) ts) h = search rules
-flat (more (pointers us) ts) h = search rules
-flat (more (structs d p es) ts) h = search rules
+flat (more null ts) h = search (rules, none_left, flat ts)
+flat (more t ts) h = search rules
 
 -- where all that are needed are left, the rest are as deep as all
 heights-take : (n : ℕ) (ts : Trees) → children_needed ts ≤ n → heights (take_trees n ts) ≡ heights ts
 heights-take zero ts h = sym (flat ts h)
 heights-take (suc n) none h = refl
-heights-take (suc n) (more t ts) h = search (rules, heights-take n ts (rest_below (children_needed ts) (if is_null t then 0 else 1) n h))
+heights-take (suc n) (more t ts) h = search (rules, rest_below, heights-take n ts)
 
 -- the same of the elements of a struct list
 pub tree_count-cut : (d p : ℕ) (es : Trees) → tree_count (cut_elements d p es) ≡ tree_count es
 tree_count-cut d p none = refl
-tree_count-cut d p (more null es) = ap suc (tree_count-cut d p es)
-tree_count-cut d p (more (cap i) es) = ap suc (tree_count-cut d p es)
 tree_count-cut d p (more (struct words ts) es) = ap suc (tree_count-cut d p es)
-tree_count-cut d p (more (scalars c vs) es) = ap suc (tree_count-cut d p es)
-tree_count-cut d p (more (pointers ts) es) = ap suc (tree_count-cut d p es)
-tree_count-cut d p (more (structs x y ts) es) = ap suc (tree_count-cut d p es)
+tree_count-cut d p (more t es) = ap suc (tree_count-cut d p es)
 
 -- elements of one size, cut to a smaller one
 cut_costs : (d p x y : ℕ) (es : Trees) → FitElements x y es → element_costs (cut_elements d p es) ≤ element_costs es
-cut_costs d p x y none f = omega arith
 cut_costs d p x y (more (struct words ts) es) f = omega (arith, costs-take, cut_costs d p x y es f.3)
-cut_costs d p x y (more t es) f = absurd f
+cut_costs d p x y es f = omega arith
 
 cut_fits : (d p x y : ℕ) (es : Trees) → d ≤ x → p ≤ y → FitElements x y es → FitElements d p (cut_elements d p es)
-cut_fits d p x y none hd hp f = tt
-cut_fits d p x y (more (struct words ts) es) hd hp f = search (rules, tree_count-take_le, fits-take, cut_fits d p x y es hd hp f.3)
-cut_fits d p x y (more t es) hd hp f = absurd f
+cut_fits d p x y (more (struct words ts) es) hd hp f =
+    search (rules, tree_count-take_le, fits-take, cut_fits d p x y es hd hp f.3)
+cut_fits d p x y es hd hp f = search rules
 
 cut_heights : (d p x y : ℕ) (es : Trees) → children_of es ≤ p → FitElements x y es
     → element_heights (cut_elements d p es) ≡ element_heights es
-cut_heights d p x y none h f = refl
-cut_heights d p x y (more (struct words ts) es) h f = omega (arith, heights-take, cut_heights d p x y es (omega (arith, h)) f.3)
-cut_heights d p x y (more t es) h f = absurd f
+cut_heights d p x y (more (struct words ts) es) h f =
+    omega (arith, heights-take, cut_heights d p x y es (omega (arith, h)) f.3)
+cut_heights d p x y es h f = search rules
 
 -- no element needs more than its size
 data_of_le : (d p : ℕ) (es : Trees) → FitElements d p es → data_of es ≤ d
@@ -98,9 +84,8 @@ data_of_le d p (more (struct words ts) es) f =
 data_of_le d p (more t es) f = absurd f
 
 children_of_le : (d p : ℕ) (es : Trees) → FitElements d p es → children_of es ≤ p
-children_of_le d p none f = omega arith
 children_of_le d p (more (struct words ts) es) f = omega (arith, children_needed_le, children_of_le d p es f.3)
-children_of_le d p (more t es) f = absurd f
+children_of_le d p es f = omega arith
 
 -- elements without words cost no more than they did with words
 smaller : (n a b : ℕ) → a ≤ b → n * a + idle a n ≤ n * b + idle b n
@@ -141,8 +126,7 @@ structs_trimmed d p es us f r =
     (let g = cut_costs (data_of us) (children_of us) d p us r.fits in omega (arith, g, r.charged)) in
     let h : element_heights (cut_elements (data_of us) (children_of us) us) ≡ element_heights es =
     cut_heights (data_of us) (children_of us) d p us (omega arith) r.fits ∙ r.deep in
-    structs_beside d p es (data_of us) (children_of us) (cut_elements (data_of us) (children_of us) us) x y n c h f
-    (cut_fits (data_of us) (children_of us) d p us x y r.fits)
+    search (rules, cut_fits, structs_beside)
   where
     below : (a b n : ℕ) → a ≤ b → b < n → a < n
     below a b n h g = omega arith

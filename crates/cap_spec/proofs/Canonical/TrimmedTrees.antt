@@ -3,24 +3,23 @@ use Rattle.cap_spec.specs.Tree.{none}
 use Rattle.cap_spec.proofs.Bytes.Lists.{all_take}
 use Rattle.cap_spec.proofs.Canonical.TrimmedMeasures.{children_needed_le, data_needed_le, none_left, tree_count-take_le}
 use Rattle.cap_spec.proofs.Canonical.Trimming.{rest_below}
-use Rattle.cap_spec.proofs.ProofNames.{ap, ap₂, arith, if◌then◌else◌, not, refl, suc, sym, zero, ℕ, ◌+◌, ◌==◌, ◌∙◌, ◌≡◌}
-use Rattle.cap_spec.proofs.ProofNames.{◌≤◌, children_needed, children_of, cut_elements, data_needed, data_of, is_null}
-use Rattle.cap_spec.proofs.ProofNames.{take_trees, trim, trim_all, trim_elements, AreElementTrees, AreTrees, IsTree}
-use Rattle.cap_spec.proofs.ProofNames.{Tree, Trees, cap, cap_count, cap_counts, has_cap, more, null, pointers, scalars}
-use Rattle.cap_spec.proofs.ProofNames.{struct, structs, tree_count, IsWord, rules}
+use Rattle.cap_spec.proofs.ProofNames.{ap, ap₂, arith, not, refl, suc, sym, zero, ℕ, ◌+◌, ◌==◌, ◌∙◌, ◌≡◌, ◌≤◌}
+use Rattle.cap_spec.proofs.ProofNames.{children_needed, children_of, cut_elements, data_needed, data_of, take_trees}
+use Rattle.cap_spec.proofs.ProofNames.{trim, trim_all, trim_elements, AreElementTrees, AreTrees, IsTree, Tree, Trees}
+use Rattle.cap_spec.proofs.ProofNames.{cap, cap_count, cap_counts, has_cap, more, null, pointers, scalars, struct}
+use Rattle.cap_spec.proofs.ProofNames.{structs, tree_count, IsWord, rules}
 
 -- a prefix of trees
 trees-take : (n : ℕ) (ts : Trees) → AreTrees ts → AreTrees (take_trees n ts)
-trees-take zero ts f = tt
-trees-take (suc n) none f = tt
 trees-take (suc n) (more t ts) f = (f.0, trees-take n ts f.1)
+trees-take n ts f = tt
 
 -- elements cut to sizes that each of them has
 cut_trees : (d p x y : ℕ) (es : Trees) → d ≤ x → p ≤ y → AreElementTrees x y es
     → AreElementTrees d p (cut_elements d p es)
-cut_trees d p x y none hd hp f = tt
-cut_trees d p x y (more (struct words ts) es) hd hp f = search (rules, all_take, tree_count-take_le, trees-take, cut_trees d p x y es hd hp f.4)
-cut_trees d p x y (more t es) hd hp f = absurd f
+cut_trees d p x y (more (struct words ts) es) hd hp f =
+    search (rules, all_take, tree_count-take_le, trees-take, cut_trees d p x y es hd hp f.4)
+cut_trees d p x y es hd hp f = search rules
 
 -- no element needs more than its size
 data_within : (d p : ℕ) (es : Trees) → AreElementTrees d p es → data_of es ≤ d
@@ -30,9 +29,8 @@ data_within d p (more (struct words ts) es) f =
 data_within d p (more t es) f = absurd f
 
 children_within : (d p : ℕ) (es : Trees) → AreElementTrees d p es → children_of es ≤ p
-children_within d p none f = omega arith
 children_within d p (more (struct words ts) es) f = omega (arith, children_needed_le, children_within d p es f.4)
-children_within d p (more t es) f = absurd f
+children_within d p es f = omega arith
 
 -- as many children after each is trimmed
 pub tree_count-trim_all : (ts : Trees) → tree_count (trim_all ts) ≡ tree_count ts
@@ -60,46 +58,34 @@ mutual
   trimmed_are_trees (more t ts) f = (trimmed_is_tree t f.0, trimmed_are_trees ts f.1)
 
   pub trimmed_are_elements : (d p : ℕ) (es : Trees) → AreElementTrees d p es → AreElementTrees d p (trim_elements es)
-  trimmed_are_elements d p none f = tt
   trimmed_are_elements d p (more (struct words ts) es) f =
       (f.0, f.1, tree_count-trim_all ts ∙ f.2, trimmed_are_trees ts f.3, trimmed_are_elements d p es f.4)
-  trimmed_are_elements d p (more t es) f = absurd f
+  trimmed_are_elements d p es f = search rules
 
 -- trees of which none are needed have no capabilities
 no_caps : (ts : Trees) → children_needed ts ≤ 0 → cap_counts ts ≡ 0
 no_caps none h = refl
-no_caps (more null ts) h = let n = none_left (children_needed ts) 0 h in
-    let r : cap_counts ts ≡ 0 = no_caps ts n.0 in omega arith
-no_caps (more (cap i) ts) h = search rules
-no_caps (more (struct words us) ts) h = search rules
-no_caps (more (scalars c vs) ts) h = search rules
-no_caps (more (pointers us) ts) h = search rules
-no_caps (more (structs d p es) ts) h = search rules
+no_caps (more null ts) h = search (rules, none_left, no_caps ts)
+no_caps (more t ts) h = search rules
 
 -- where all that are needed are left, the rest have all capabilities
 caps-take : (n : ℕ) (ts : Trees) → children_needed ts ≤ n → cap_counts (take_trees n ts) ≡ cap_counts ts
 caps-take zero ts h = sym (no_caps ts h)
 caps-take (suc n) none h = refl
-caps-take (suc n) (more t ts) h = search (rules, caps-take n ts (rest_below (children_needed ts) (if is_null t then 0 else 1) n h))
+caps-take (suc n) (more t ts) h = search (rules, rest_below, caps-take n ts)
 
 caps-cut : (d p : ℕ) (es : Trees) → children_of es ≤ p → cap_counts (cut_elements d p es) ≡ cap_counts es
 caps-cut d p none h = refl
 caps-cut d p (more (struct words ts) es) h = omega (arith, caps-take, caps-cut d p es (omega (arith, h)))
-caps-cut d p (more null es) h = ap (λ x. 0 + x) (caps-cut d p es h)
-caps-cut d p (more (cap i) es) h = ap (λ x. 1 + x) (caps-cut d p es h)
-caps-cut d p (more (scalars c vs) es) h = ap (λ x. 0 + x) (caps-cut d p es h)
-caps-cut d p (more (pointers ts) es) h = ap (λ x. cap_counts ts + x) (caps-cut d p es h)
-caps-cut d p (more (structs x y ts) es) h = ap (λ z. cap_counts ts + z) (caps-cut d p es h)
+caps-cut d p (more t es) h = ap (λ x. cap_count t + x) (caps-cut d p es h)
 
 mutual
   -- a trimmed tree has as many capabilities
   pub cap_count-trim : (t : Tree) → cap_count (trim t) ≡ cap_count t
-  cap_count-trim null = refl
-  cap_count-trim (cap i) = refl
   cap_count-trim (struct words ts) = omega (arith, caps-take, cap_counts-trim_all ts)
-  cap_count-trim (scalars c vs) = refl
   cap_count-trim (pointers ts) = cap_counts-trim_all ts
   cap_count-trim (structs d p es) = omega (arith, caps-cut, cap_counts-trim_elements es)
+  cap_count-trim t = refl
 
   pub cap_counts-trim_all : (ts : Trees) → cap_counts (trim_all ts) ≡ cap_counts ts
   cap_counts-trim_all none = refl
@@ -107,12 +93,9 @@ mutual
 
   pub cap_counts-trim_elements : (es : Trees) → cap_counts (trim_elements es) ≡ cap_counts es
   cap_counts-trim_elements none = refl
-  cap_counts-trim_elements (more (struct words ts) es) = omega (arith, cap_counts-trim_elements es, cap_counts-trim_all ts)
-  cap_counts-trim_elements (more null es) = ap (λ x. 0 + x) (cap_counts-trim_elements es)
-  cap_counts-trim_elements (more (cap i) es) = ap (λ x. 1 + x) (cap_counts-trim_elements es)
-  cap_counts-trim_elements (more (scalars c vs) es) = ap (λ x. 0 + x) (cap_counts-trim_elements es)
-  cap_counts-trim_elements (more (pointers ts) es) = ap (λ x. cap_counts ts + x) (cap_counts-trim_elements es)
-  cap_counts-trim_elements (more (structs x y ts) es) = ap (λ z. cap_counts ts + z) (cap_counts-trim_elements es)
+  cap_counts-trim_elements (more (struct words ts) es) =
+      ap₂ (λ x y. x + y) (cap_counts-trim_all ts) (cap_counts-trim_elements es)
+  cap_counts-trim_elements (more t es) = ap (λ x. cap_count t + x) (cap_counts-trim_elements es)
 
 -- it has one where it had one
 pub has_cap-trim : (t : Tree) → has_cap (trim t) ≡ has_cap t

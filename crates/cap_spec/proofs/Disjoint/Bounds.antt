@@ -44,12 +44,7 @@ owns_object m s w k t b q x f =
     let own : List (ℕ × ℕ) = places t b (extent q) in (
       pads_of p.0 ++ own,
       (p.0, p.1, inr (inr (k, t, b, q, f, refl))),
-      omega (
-        arith,
-        length-append (pads_of p.0) own,
-        pads_number m s w k p.0 (to_object t (pos b) q) f.leads p.1,
-        length-places t b (extent q),
-      ),
+      search (rules, length-append, pads_number, length-places),
     )
 
 -- these paths lead from a spot to pointers that use these places
@@ -62,7 +57,8 @@ UsedFrom m a (p ∷ ps) us =
 used_append : (m : List (List ℕ)) (a : Spot) (ps qs : List (List Step)) (xs ys : List (ℕ × ℕ)) → UsedFrom m a ps xs
     → UsedFrom m a qs ys → UsedFrom m a (ps ++ qs) (xs ++ ys)
 used_append m a [] qs xs ys g h = search rules
-used_append m a (p ∷ ps) qs xs ys (n, s, w, one, rest, walks, occupies, after, parts) h = search (rules, append_assoc, used_append m a ps qs rest ys after h)
+used_append m a (p ∷ ps) qs xs ys (n, s, w, one, rest, walks, occupies, after, parts) h =
+    search (rules, append_assoc, used_append m a ps qs rest ys after h)
 
 used_after : (m : List (List ℕ)) (a b : Spot) (step : Step) (ps : List (List Step)) (us : List (ℕ × ℕ))
     → StepsTo m a step b → UsedFrom m b ps us → UsedFrom m a (after_step step ps) us
@@ -206,8 +202,7 @@ used_inside m path t x (level, s, w, used, r, (p, has, inr (inr (k, u, b, q, f, 
       | inl j ↦ pad_inside m s w k p (to_object u (pos b) q) t x f.leads has j
       | inr j ↦
           let c = in_places u b (extent q) t x j in
-          let l : length (segment_of m t) ≡ length (segment_of m u) = ap (λ (v : ℕ). length (segment_of m v)) c.0 in
-          (omega (arith, c.0, f.inside.exists), omega (arith, c.2, f.inside.inside, l))
+          search rules
     ]
 
 -- The charge of a disjoint message, but for its empty elements, is less than the words of all segments:

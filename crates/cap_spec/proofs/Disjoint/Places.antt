@@ -16,10 +16,7 @@ in_places t b (suc n) s w (inr h) = omega (arith, in_places t (b + 1) n s w h)
 
 pub at_place : (t b n w : ℕ) → b ≤ w → w < b + n → IsOneOf (t, w) (places t b n)
 at_place t b zero w h k = absurd (omega arith)
-at_place t b (suc n) w h k = elim (cases_eq w b) [
-  | inl e ↦ inl cc
-  | inr e ↦ inr (at_place t (b + 1) n w (omega arith) (omega arith))
-]
+at_place t b (suc n) w h k = search (rules, cases_eq, at_place t (b + 1) n w)
 
 pub apart_places : (t b n : ℕ) → AreDistinct (places t b n)
 apart_places t b zero = tt
@@ -75,9 +72,7 @@ pad_inside m s w k p r t x leads has i = elim (cases_eq (kind p) 2) [
       let c = in_places (far_segment p) (pad p) (1 + two p) t x
       (subst (λ (u : List (ℕ × ℕ)). IsOneOf (t, x) u) (pads_in_a_row p far) i) in
       let y = pads_inside m s w k p r leads has far in
-      let l : length (segment_of m t) ≡ length (segment_of m (far_segment p)) =
-      ap (λ (u : ℕ). length (segment_of m u)) c.0 in
-      (omega (arith, c.0, y.0), omega (arith, c.2, y.1, l))
+      search rules
   | inr n ↦ absurd (subst (λ (u : List (ℕ × ℕ)). IsOneOf (t, x) u) (no_pads p n) i)
 ]
 
@@ -119,6 +114,5 @@ in_all s [] t w h k = absurd (omega arith)
 in_all s (segment ∷ m) zero w h k =
     let e : s + 0 ≡ s = omega arith in
     place_left (s + 0, w) (places s 0 (length segment)) (all_places (suc s) m)
-    (subst (λ (u : ℕ). IsOneOf (u, w) (places s 0 (length segment))) (sym e)
-    (at_place s 0 (length segment) w (omega arith) (omega arith)))
+    (search (rules, at_place))
 in_all s (segment ∷ m) (suc t) w h k = search (rules, place_right, in_all (suc s) m t w (omega arith) k)

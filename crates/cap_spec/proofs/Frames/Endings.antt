@@ -34,10 +34,7 @@ table_whole (p ∷ table) rest sizes first more t e l =
     let c : p % 2 ^ 32 + 1 ≡ length sizes = table_count p table sizes t in
     let d : first % 2 ^ 32 ≡ p % 2 ^ 32 = ap (λ k. k % 2 ^ 32) h in
     let k = table_length (p ∷ table) sizes t in
-    let m : more ≡ table ++ rest = cc in
-    let n = ap length m in
-    let a = length-append table rest in
-    omega arith
+    search (rules, length-append)
 
 -- the table before a frame
 pub frame_table : (own rest : List ℕ) (m : List (List ℕ)) → (f : Frames own m)
@@ -74,8 +71,7 @@ pub message_not_too_large : (limit : ℕ) (own rest : List ℕ) (m : List (List 
     → limit < sum sizes → ⊥
 message_not_too_large limit own rest m table more sizes f w t e p =
     let s = message_table own rest m table more sizes f t e in
-    let u : sum (sizes_of m) ≡ sum sizes = ap sum s.0 in
-    absurd (omega arith)
+    search rules
 
 -- what begins with a frame is no part of one
 pub message_not_partial : (limit : ℕ) (own rest : List ℕ) (m : List (List ℕ)) (cut : Bool) → Frames own m
@@ -85,11 +81,7 @@ message_not_partial limit own rest m cut f (in_table first more e n l) =
     table_whole f.table (joined m ++ rest) (sizes_of m) first more f.is_table (sym e ∙ frame_table own rest m f) l
 message_not_partial limit own rest m cut f (in_contents table sizes more e t n l) =
     let s = message_table own rest m table more sizes f t e in
-    let u : sum (sizes_of m) ≡ sum sizes = ap sum s.0 in
-    let v = ap length s.1 in
-    let a = length-append (joined m) rest in
-    let j = length_joined m in
-    absurd (omega arith)
+    search (rules, length-append, length_joined)
 
 -- a table and a first word that gives too many segments: not both
 pub too_many_not_too_large : (first : ℕ) (more table rest sizes : List ℕ) → 512 < first % 2 ^ 32 + 1
@@ -103,7 +95,8 @@ pub too_many_not_partial : (limit first : ℕ) (more : List ℕ) (cut : Bool) �
     → IsPartial limit (first ∷ more) cut → ⊥
 too_many_not_partial limit first more cut n (in_word e c) = absurd (cc)
 too_many_not_partial limit first more cut n (in_table second rest e m l) = search rules
-too_many_not_partial limit first more cut n (in_contents table sizes rest e t m l) = search (rules, too_many_not_too_large)
+too_many_not_partial limit first more cut n (in_contents table sizes rest e t m l) =
+    search (rules, too_many_not_too_large)
 
 -- a table past the limit, a part of a frame: not both
 pub too_large_not_partial : (limit : ℕ) (table rest sizes : List ℕ) (cut : Bool) → IsTable table sizes
@@ -113,8 +106,7 @@ too_large_not_partial limit table rest sizes cut t p (in_table first more e n l)
     table_whole table rest sizes first more t (sym e) l
 too_large_not_partial limit table rest sizes cut t p (in_contents other counts more e s n l) =
     let q = same_table table other rest more sizes counts t s e in
-    let u : sum sizes ≡ sum counts = ap sum q.1 in
-    absurd (omega arith)
+    search rules
 
 -- no words at the end of an input between words are no part of a frame
 pub none_not_partial : (limit : ℕ) → IsPartial limit [] false → ⊥

@@ -24,9 +24,7 @@ split_sizes [] words l = refl
 split_sizes (n ∷ sizes) words l =
     let c = sum_by-cons (λ x. x) n sizes in
     let d = length-drop n words in
-    let h : length (take n words) ≡ n = length-take-le n words (omega arith) in
-    let t : sizes_of (split sizes (drop n words)) ≡ sizes = split_sizes sizes (drop n words) (omega arith) in
-    cc
+    search (rules, length-take-le, split_sizes sizes (drop n words) (omega arith))
 
 -- and are the front of the words
 pub split_joined : (sizes words : List ℕ) → words ≡ joined (split sizes words) ++ drop (sum sizes) words
@@ -52,40 +50,19 @@ makes_table first more a n l =
     let s : length (sizes_in first more) ≡ first % 2 ^ 32 + 1 =
     length-take-le (first % 2 ^ 32 + 1) (first / 2 ^ 32 ∷ flat_map halves more) (omega arith) in
     let d = length-drop (first % 2 ^ 32 + 1) (first / 2 ^ 32 ∷ flat_map halves more) in
-    let f = halves_fit (first ∷ more) a in
-    let t = take-append-drop (first % 2 ^ 32 + 1) (first / 2 ^ 32 ∷ flat_map halves more) in
-    let p : length (sizes_in first more) - 1 ≡ first % 2 ^ 32 = omega arith in
-    record {
-      some = omega arith;
-      few = omega arith;
-      fit = all_take (λ n. n < 2 ^ 32) (first % 2 ^ 32 + 1) (first / 2 ^ 32 ∷ flat_map halves more) f.1;
-      padding = drop (first % 2 ^ 32 + 1) (first / 2 ^ 32 ∷ flat_map halves more);
-      padding_fits = all_drop (λ n. n < 2 ^ 32) (first % 2 ^ 32 + 1) (first / 2 ^ 32 ∷ flat_map halves more) f.1;
-      width = omega arith;
-      numbers = cc;
-    }
+    search (rules, halves_fit, take-append-drop, all_take, all_drop)
 
 -- after a table one of three is the case
 pub after_table : (limit : ℕ) (words table rest sizes : List ℕ) (cut : Bool) → IsTable table sizes
     → words ≡ table ++ rest → (e : Ending) × EndsIn limit words cut e
 after_table limit words table rest sizes cut t w = elim (cases_lt limit (sum sizes)) [
-  | inl past ↦ (too_large, record { table = table; rest = rest; sizes = sizes; whole = w; is_table = t; past = past })
+  | inl past ↦ search rules
   | inr within ↦ elim (cases_lt (length rest) (sum sizes)) [
     | inl short ↦ (partial, in_contents table sizes rest w t within short)
     | inr long ↦
         let s = split_sizes sizes rest long in
         let j = split_joined sizes rest in
-        let a = append_assoc table (joined (split sizes rest)) (drop (sum sizes) rest) in (
-          message,
-          record {
-            own = table ++ joined (split sizes rest);
-            rest = drop (sum sizes) rest;
-            message = split sizes rest;
-            whole = w ∙ (ap (λ k. table ++ k) j ∙ sym a);
-            frames = record { table = table; is_table = subst (λ k. IsTable table k) (sym s) t; whole = refl };
-            within = subst (λ k. sum k ≤ limit) (sym s) within;
-          },
-        )
+        let a = append_assoc table (joined (split sizes rest)) (drop (sum sizes) rest) in search rules
   ]
 ]
 
@@ -154,26 +131,21 @@ none_alone limit words cut partial w c b =
 pub one_ending : (limit : ℕ) (words : List ℕ) (cut : Bool) (e f : Ending) → EndsIn limit words cut e
     → EndsIn limit words cut f → f ≡ e
 one_ending limit words cut none f a b = none_alone limit words cut f a.0 a.1 b
-one_ending limit words cut message none a b = sym (none_alone limit words cut message b.0 b.1 a)
-one_ending limit words cut too_many none a b = sym (none_alone limit words cut too_many b.0 b.1 a)
-one_ending limit words cut too_large none a b = sym (none_alone limit words cut too_large b.0 b.1 a)
-one_ending limit words cut partial none a b = sym (none_alone limit words cut partial b.0 b.1 a)
 one_ending limit words cut message message a b = refl
 one_ending limit words cut too_many too_many a b = refl
 one_ending limit words cut too_large too_large a b = refl
 one_ending limit words cut partial partial a b = refl
-one_ending limit words cut message too_many a b = absurd (message_too_many limit words a b)
-one_ending limit words cut too_many message a b = absurd (message_too_many limit words b a)
-one_ending limit words cut message too_large a b = absurd (message_too_large limit words a b)
-one_ending limit words cut too_large message a b = absurd (message_too_large limit words b a)
-one_ending limit words cut message partial a b = absurd (message_partial limit words cut a b)
-one_ending limit words cut partial message a b = absurd (message_partial limit words cut b a)
-one_ending limit words cut too_many too_large a b = absurd (too_many_too_large limit words a b)
-one_ending limit words cut too_large too_many a b = absurd (too_many_too_large limit words b a)
-one_ending limit words cut too_many partial a b = absurd (too_many_partial limit words cut a b)
-one_ending limit words cut partial too_many a b = absurd (too_many_partial limit words cut b a)
-one_ending limit words cut too_large partial a b = absurd (too_large_partial limit words cut a b)
-one_ending limit words cut partial too_large a b = absurd (too_large_partial limit words cut b a)
+one_ending limit words cut e none a b = sym (none_alone limit words cut e b.0 b.1 a)
+one_ending limit words cut e f a b =
+    search (
+      rules,
+      message_too_many,
+      message_too_large,
+      message_partial,
+      too_many_too_large,
+      too_many_partial,
+      too_large_partial,
+    )
 
 -- words that end in none of the other four ways are part of a frame
 pub partial_else : (limit : ℕ) (words : List ℕ) (cut : Bool) → AllByRecursion IsWord words →

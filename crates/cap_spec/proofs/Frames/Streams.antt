@@ -46,8 +46,7 @@ frames_front (f ∷ fs) [] back a b e =
 frames_front (f ∷ fs) (h ∷ hs) back a b e =
     let one = one_frame h.0 f.0 (flat_map (λ f. f.0) hs) (flat_map (λ f. f.0) fs ++ back) h.1 f.1 b.0 a.0
     (e ∙ append_assoc f.0 (flat_map (λ f. f.0) fs) back) in
-    let rest = frames_front fs hs back a.1 b.1 one.2 in
-    (rest.0, (let same = one.1 in let tail = rest.1 in cc), rest.2, rest.3)
+    search (rules, frames_front fs hs back a.1 b.1 one.2)
 
 -- a stream that begins with another goes on after it
 pub stream_front : (words back : List ℕ) (ms ns : List (List (List ℕ))) → Stream words ms → Stream (words ++ back) ns

@@ -1,13 +1,12 @@
 -- Packed text as groups: bytes that are groups, or groups and the beginning of one, give just their words.
 use Rattle.cap_spec.proofs.Bytes.Plain.{length_plain}
-use Rattle.cap_spec.proofs.Packed.Unpacking.{cut_front, cut_short, length_marked, plain_reads, spread_append}
-use Rattle.cap_spec.proofs.Packed.Unpacking.{unpacked_front, unpacked_short, words_marked}
-use Rattle.cap_spec.proofs.ProofNames.{List, [], ap, append-nil, append_assoc, arith, drop, drop_at, false, inl, inr}
-use Rattle.cap_spec.proofs.ProofNames.{length, length-append, refl, slice_index, subst, sym, take_at, true, ℕ, ◌*◌}
-use Rattle.cap_spec.proofs.ProofNames.{◌++◌, ◌+◌, ◌<◌, ◌∙◌, ◌∷◌, ◌≡◌, ◌≢◌, cases_lt, get_or_append_left, AllByRecursion}
-use Rattle.cap_spec.proofs.ProofNames.{plain_text, word_bytes, Cut, Groups, IsGroup, Unpacks, given_of, group_length}
-use Rattle.cap_spec.proofs.ProofNames.{group_words, groups_text, groups_words, marked, packed_is_cut, plain, unpacked}
-use Rattle.cap_spec.proofs.ProofNames.{zeros, IsWord, common_steps, rules}
+use Rattle.cap_spec.proofs.Packed.Unpacking.{cut_front, length_marked, plain_reads, spread_append, unpacked_front}
+use Rattle.cap_spec.proofs.Packed.Unpacking.{unpacked_short, words_marked}
+use Rattle.cap_spec.proofs.ProofNames.{List, [], ap, append-nil, append_assoc, arith, drop_at, false, length}
+use Rattle.cap_spec.proofs.ProofNames.{length-append, refl, subst, sym, take_at, true, ℕ, ◌++◌, ◌+◌, ◌<◌, ◌∙◌, ◌∷◌, ◌≡◌}
+use Rattle.cap_spec.proofs.ProofNames.{◌≢◌, cases_lt, get_or_append_left, AllByRecursion, plain_text, word_bytes, Cut}
+use Rattle.cap_spec.proofs.ProofNames.{Groups, IsGroup, Unpacks, group_length, group_words, groups_text, groups_words}
+use Rattle.cap_spec.proofs.ProofNames.{marked, packed_is_cut, plain, unpacked, zeros, IsWord, common_steps, rules}
 
 -- a group, whatever is after it: it is as long as its head says, and represents its words
 pub record IsBefore (bytes words rest : List ℕ) : Type 0 where
@@ -34,33 +33,21 @@ is_before bytes words rest (marked tag present p q a l e w) =
     subst (λ k. IsBefore k words rest) (sym e) (record {
       some = omega arith;
       long = (let k = length_marked tag (present ++ rest) p q in omega (arith, k, l));
-      encodes = words_marked tag (present ++ rest) p q ∙ (ap (λ k. k ∷ []) (spread_append 8 tag present rest l) ∙ sym w);
+      encodes =
+          words_marked tag (present ++ rest) p q ∙ (ap (λ k. k ∷ []) (spread_append 8 tag present rest l) ∙ sym w);
     })
 
 -- a group in front comes off: its words first, and then those of what is after it
 pub group_off : (bytes words rest : List ℕ) → IsGroup bytes words → unpacked (bytes ++ rest) ≡ words ++ unpacked rest
 group_off bytes words rest g =
     let f = is_before bytes words rest g in
-    let s = f.some in
-    let k : group_length (bytes ++ rest) ≡ length bytes = f.long in
-    let l = length-append bytes rest in
-    let u = unpacked_front (bytes ++ rest) (omega (arith, s, l)) (omega (arith, k, l)) in
-    let d : drop (group_length (bytes ++ rest)) (bytes ++ rest) ≡ rest = ap (λ n. drop n (bytes ++ rest)) k
-    ∙ drop_at bytes rest (length bytes) refl in
-    u ∙ (ap (λ n. n ++ unpacked (drop (group_length (bytes ++ rest)) (bytes ++ rest))) f.encodes
-    ∙ ap (λ n. words ++ unpacked n) d)
+    search (rules, length-append, unpacked_front, drop_at)
 
 -- and the bytes are cut where those after it are
 pub cut_off : (bytes words rest : List ℕ) → IsGroup bytes words → packed_is_cut (bytes ++ rest) ≡ packed_is_cut rest
 cut_off bytes words rest g =
     let f = is_before bytes words rest g in
-    let s = f.some in
-    let k : group_length (bytes ++ rest) ≡ length bytes = f.long in
-    let l = length-append bytes rest in
-    let u = cut_front (bytes ++ rest) (omega (arith, s, l)) (omega (arith, k, l)) in
-    let d : drop (group_length (bytes ++ rest)) (bytes ++ rest) ≡ rest = ap (λ n. drop n (bytes ++ rest)) k
-    ∙ drop_at bytes rest (length bytes) refl in
-    u ∙ ap packed_is_cut d
+    search (rules, length-append, cut_front, drop_at)
 
 -- so do groups one after the other
 pub groups_off : (groups : Groups) (rest : List ℕ) → AllByRecursion (λ g. IsGroup g.0 g.1) groups
@@ -83,8 +70,7 @@ groups_cut_off (g ∷ groups) rest a =
 pub unpacks_words : (bytes words : List ℕ) → Unpacks bytes words → words ≡ unpacked bytes
 unpacks_words bytes words u =
     let t : unpacked (groups_text u.groups ++ []) ≡ groups_words u.groups ++ [] = groups_off u.groups [] u.each in
-    u.encoded ∙ (sym (append-nil (groups_words u.groups))
-    ∙ (sym t ∙ (ap unpacked (append-nil (groups_text u.groups)) ∙ ap unpacked (sym u.text))))
+    search (rules, append-nil)
 
 -- and aren't cut
 pub unpacks_whole : (bytes words : List ℕ) → Unpacks bytes words → packed_is_cut bytes ≡ false
@@ -98,24 +84,12 @@ pub part_short : (tag : ℕ) (part lacking encoded : List ℕ) → IsGroup (tag 
 part_short tag part lacking encoded (zeros n h e w) some =
     let t : tag ≡ 0 = cc in
     let l = ap length e in
-    let a = length-append part lacking in
-    let k : length part ≡ 0 = omega arith in
-    let g : group_length (tag ∷ part) ≡ 2 = ap (λ k. group_length (k ∷ part)) t in
-    omega (arith, k, g)
+    search (rules, length-append)
 part_short tag part lacking encoded (plain x more h all few e w) some =
     let t : tag ≡ 255 = cc in
     let r : part ++ lacking ≡ word_bytes x ++ length more ∷ plain_text more = cc in
     let l = ap length r in
-    let a = length-append part lacking in
-    let m = length_plain more in
-    let g : group_length (tag ∷ part) ≡ 10 + 8 * slice_index part 8 = ap (λ k. group_length (k ∷ part)) t in
-    elim (cases_lt 8 (length part)) [
-      | inl long ↦
-          let i : slice_index part 8 ≡ length more = sym (get_or_append_left part lacking 0 8 long)
-          ∙ ap (λ k. slice_index k 8) r in
-          omega (arith, g, i, l, a, m)
-      | inr short ↦ omega (arith, g, short)
-    ]
+    search (rules, length-append, length_plain, cases_lt, get_or_append_left)
 part_short tag part lacking encoded (marked mark present p q all l e w) some = grind (arith, common_steps)
 
 -- a list that isn't empty has a member
@@ -133,17 +107,10 @@ part_is_short (tag ∷ part) lacking encoded n m g = part_short tag part lacking
 pub cut_words : (bytes words : List ℕ) → Cut bytes words → words ≡ unpacked bytes
 cut_words bytes words c =
     let s = part_is_short c.part c.lacking c.encoded c.begun c.proper c.group in
-    let u = c.unpacks in
-    let t = groups_off u.groups c.part u.each in
-    let v : unpacked bytes ≡ groups_words u.groups ++ unpacked c.part =
-    ap unpacked (c.text ∙ ap (λ k. k ++ c.part) u.text) ∙ t in
-    sym (v ∙ (ap (λ k. groups_words u.groups ++ k) (unpacked_short c.part s)
-    ∙ (ap (λ k. k ++ given_of c.part) (sym u.encoded) ∙ sym c.given)))
+    search (rules, groups_off, unpacked_short)
 
 -- and are cut
 pub cut_is_cut : (bytes words : List ℕ) → Cut bytes words → packed_is_cut bytes ≡ true
 cut_is_cut bytes words c =
     let s = part_is_short c.part c.lacking c.encoded c.begun c.proper c.group in
-    let u = c.unpacks in
-    ap packed_is_cut (c.text ∙ ap (λ k. k ++ c.part) u.text)
-    ∙ (groups_cut_off u.groups c.part u.each ∙ cut_short c.part s)
+    search (rules, groups_cut_off)

@@ -25,19 +25,7 @@ makes_plain : (a b c d e f g h n : ℕ) (bytes : List ℕ)
     → AllByRecursion (λ x. x < 256) (a ∷ b ∷ c ∷ d ∷ e ∷ f ∷ g ∷ h ∷ n ∷ bytes) → length bytes ≡ 8 * n →
     IsGroup (255 ∷ a ∷ b ∷ c ∷ d ∷ e ∷ f ∷ g ∷ h ∷ n ∷ bytes) (plain_words (a ∷ b ∷ c ∷ d ∷ e ∷ f ∷ g ∷ h ∷ bytes))
 makes_plain a b c d e f g h n bytes all l =
-    let eight : AllByRecursion (λ x. x < 256) (a ∷ b ∷ c ∷ d ∷ e ∷ f ∷ g ∷ h ∷ []) = (
-      all.0,
-      (
-        all.1.0,
-        (
-          all.1.1.0,
-          (
-            all.1.1.1.0,
-            (all.1.1.1.1.0, (all.1.1.1.1.1.0, (all.1.1.1.1.1.1.0, (all.1.1.1.1.1.1.1.0, tt)))),
-          ),
-        ),
-      ),
-    ) in
+    let eight : AllByRecursion (λ x. x < 256) (a ∷ b ∷ c ∷ d ∷ e ∷ f ∷ g ∷ h ∷ []) = search rules in
     let count : n < 256 = all.1.1.1.1.1.1.1.1.0 in
     let more = all.1.1.1.1.1.1.1.1.1 in
     let x = little_number 8 (a ∷ b ∷ c ∷ d ∷ e ∷ f ∷ g ∷ h ∷ []) in
@@ -45,9 +33,7 @@ makes_plain a b c d e f g h n bytes all l =
     let w : word_bytes x ≡ a ∷ b ∷ c ∷ d ∷ e ∷ f ∷ g ∷ h ∷ [] = eight_back a b c d e f g h eight in
     let t : plain_text (plain_words bytes) ≡ bytes = aligned_text n bytes more l in
     let text : plain_group x (plain_words bytes) ≡ 255 ∷ a ∷ b ∷ c ∷ d ∷ e ∷ f ∷ g ∷ h ∷ n ∷ bytes =
-    ap (λ m. 255 ∷ (m ++ length (plain_words bytes) ∷ plain_text (plain_words bytes))) w
-    ∙ (ap (λ m. 255 ∷ a ∷ b ∷ c ∷ d ∷ e ∷ f ∷ g ∷ h ∷ m ∷ plain_text (plain_words bytes)) k
-    ∙ ap (λ m. 255 ∷ a ∷ b ∷ c ∷ d ∷ e ∷ f ∷ g ∷ h ∷ n ∷ m) t) in
+    search rules in
     plain x (plain_words bytes) (eight_word a b c d e f g h eight) (plain_split bytes more).are_words
     (omega (arith, k, count)) (sym text) refl
 
@@ -63,17 +49,14 @@ is_plain (a ∷ b ∷ c ∷ d ∷ e ∷ []) all l = absurd (omega arith)
 is_plain (a ∷ b ∷ c ∷ d ∷ e ∷ f ∷ []) all l = absurd (omega arith)
 is_plain (a ∷ b ∷ c ∷ d ∷ e ∷ f ∷ g ∷ []) all l = absurd (omega arith)
 is_plain (a ∷ b ∷ c ∷ d ∷ e ∷ f ∷ g ∷ h ∷ []) all l = absurd (omega arith)
-is_plain (a ∷ b ∷ c ∷ d ∷ e ∷ f ∷ g ∷ h ∷ n ∷ bytes) all l =
-    makes_plain a b c d e f g h n bytes all
-    (let k : suc (suc (suc (suc (suc (suc (suc (suc (suc (length bytes))))))))) ≡ 9 + 8 * n = l in omega arith)
+is_plain (a ∷ b ∷ c ∷ d ∷ e ∷ f ∷ g ∷ h ∷ n ∷ bytes) all l = makes_plain a b c d e f g h n bytes all
+    (search rules)
 
 -- zeros after a list change no number in it, read as zero past its end
 padded : (bytes : List ℕ) (k i : ℕ) → get_or (bytes ++ replicate k 0) i 0 ≡ get_or bytes i 0
-padded [] zero i = refl
-padded [] (suc k) zero = refl
 padded [] (suc k) (suc i) = padded [] k i
-padded (x ∷ bytes) k zero = refl
 padded (x ∷ bytes) k (suc i) = padded bytes k i
+padded bytes k i = refl
 
 -- zeros are bytes
 zeros_are_bytes : (k : ℕ) → AllByRecursion (λ b. b < 256) (replicate k 0)
@@ -161,8 +144,7 @@ whole_plain bytes all h =
     let u : take 8 full ≡ take 8 bytes = take-take 8 (9 + 8 * n) bytes (omega arith) in
     let v : drop 9 full ≡ take (8 * n) (drop 9 bytes) = drop-take 9 (8 * n) bytes in
     subst (λ k. IsGroup k (group_words (255 ∷ bytes))) (sym t)
-    (subst (λ k. IsGroup (255 ∷ full) k) (ap (λ k. plain_words (k ++ drop 9 full)) u
-    ∙ ap (λ k. plain_words (take 8 bytes ++ k)) v) g)
+    (subst (λ k. IsGroup (255 ∷ full) k) (search rules) g)
 
 -- those of any other
 whole_marked : (tag : ℕ) (bytes : List ℕ) → 0 < tag → tag < 255 → AllByRecursion (λ b. b < 256) bytes

@@ -90,13 +90,11 @@ becomes bytes all = becomes_in (length bytes) bytes (omega arith) all
 
 -- bytes that aren't cut unpack to what they give
 unpacks_from : (bytes : List ℕ) → packed_is_cut bytes ≡ false → Becomes bytes → Unpacks bytes (unpacked bytes)
-unpacks_from bytes c (whole k u) = u
-unpacks_from bytes c (part k u) = cc
+unpacks_from bytes c b = search rules
 
 -- bytes that are cut are so after what they give
 cut_from : (bytes : List ℕ) → packed_is_cut bytes ≡ true → Becomes bytes → Cut bytes (unpacked bytes)
-cut_from bytes c (whole k u) = cc
-cut_from bytes c (part k u) = u
+cut_from bytes c b = search rules
 
 -- bytes that aren't cut unpack to what they give, for bytes below 256
 pub unpacks_unless_cut : (bytes : List ℕ) → AllByRecursion (λ b. b < 256) bytes → packed_is_cut bytes ≡ false

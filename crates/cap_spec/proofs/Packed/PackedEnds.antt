@@ -2,10 +2,10 @@
 use Rattle.cap_spec.specs.PackedEnds.{group_ends}
 use Rattle.cap_spec.proofs.Packed.Groups.{is_before, part_is_short}
 use Rattle.cap_spec.proofs.Packed.Unpacking.{drop_less, group_some}
-use Rattle.cap_spec.proofs.ProofNames.{List, [], ap, arith, drop, drop_at, if◌then◌else◌, le-ltb, length, length-append}
-use Rattle.cap_spec.proofs.ProofNames.{nat_lt, refl, suc, sym, take, zero, ℕ, ◌++◌, ◌+◌, ◌<◌, ◌∙◌, ◌∷◌, ◌≡◌, ◌≢◌, ◌≤◌}
-use Rattle.cap_spec.proofs.ProofNames.{length-replicate, ends_in, front_ends, packed_ends, word_ends, capped, IsGroup}
-use Rattle.cap_spec.proofs.ProofNames.{given_of, group_length, marked, plain, zeros, common_steps, rules}
+use Rattle.cap_spec.proofs.ProofNames.{List, [], ap, arith, drop, drop_at, le-ltb, length, length-append, refl, suc}
+use Rattle.cap_spec.proofs.ProofNames.{sym, take, zero, ℕ, ◌++◌, ◌+◌, ◌<◌, ◌∙◌, ◌∷◌, ◌≡◌, ◌≢◌, ◌≤◌, length-replicate}
+use Rattle.cap_spec.proofs.ProofNames.{ends_in, front_ends, packed_ends, word_ends, capped, IsGroup, given_of}
+use Rattle.cap_spec.proofs.ProofNames.{group_length, marked, plain, zeros, common_steps, rules}
 
 -- no bytes give only the end
 pub ends_nil : (n at : ℕ) → ends_in n at [] ≡ capped at ∷ []
@@ -22,13 +22,12 @@ ends_stable n m at [] p q = ends_nil n at ∙ sym (ends_nil m at)
 ends_stable zero m at (x ∷ bytes) p q = absurd (omega arith)
 ends_stable (suc n) zero at (x ∷ bytes) p q = absurd (omega arith)
 ends_stable (suc n) (suc m) at (x ∷ bytes) p q =
-    let k = group_length (x ∷ bytes) in
-    let s = group_some x bytes in
-    ap (λ r. if nat_lt (length (x ∷ bytes)) k
-    then (take (length (given_of (x ∷ bytes))) (front_ends at (x ∷ bytes)) ++ capped (at + length (x ∷ bytes)) ∷ [])
-    else (front_ends at (x ∷ bytes) ++ r))
-    (ends_stable n m (at + k) (drop k (x ∷ bytes)) (drop_less k n x bytes s (omega (arith, p)))
-    (drop_less k m x bytes s (omega (arith, q))))
+    search (
+      rules,
+      drop_less,
+      group_some,
+      ends_stable n m (at + group_length (x ∷ bytes)) (drop (group_length (x ∷ bytes)) (x ∷ bytes)),
+    )
 
 -- where the group in front is whole
 ends_front : (at : ℕ) (bytes : List ℕ) → 0 < length bytes → group_length bytes ≤ length bytes →
@@ -55,14 +54,7 @@ pub ends_off : (at : ℕ) (bytes words rest : List ℕ) (g : IsGroup bytes words
     → packed_ends at (bytes ++ rest) ≡ group_ends at g ++ packed_ends (at + length bytes) rest
 ends_off at bytes words rest g =
     let f = is_before bytes words rest g in
-    let s = f.some in
-    let k : group_length (bytes ++ rest) ≡ length bytes = f.long in
-    let l = length-append bytes rest in
-    let u = ends_front at (bytes ++ rest) (omega (arith, s, l)) (omega (arith, k, l)) in
-    u ∙ (ap (λ n. n ++ packed_ends (at + group_length (bytes ++ rest))
-    (drop (group_length (bytes ++ rest)) (bytes ++ rest))) (front_as_group at rest g)
-    ∙ (ap (λ n. group_ends at g ++ packed_ends (at + n) (drop n (bytes ++ rest))) k
-    ∙ ap (λ n. group_ends at g ++ packed_ends (at + length bytes) n) (drop_at bytes rest (length bytes) refl)))
+    search (rules, length-append, ends_front, front_as_group, drop_at)
 
 -- the words that the beginning of a group gives have the positions that they have in the whole group
 part_as_group : (at tag : ℕ) (part lacking words : List ℕ) (g : IsGroup (tag ∷ (part ++ lacking)) words) →

@@ -1,10 +1,10 @@
 -- How the packed text that is written splits into its groups.
-use Rattle.std.proofs.lemmas.List.Sums.{take_while-cons}
 use Rattle.cap_spec.proofs.ProofNames.{Bool, List, [], ap, arith, cond, drop, false, filter, length, length-drop}
 use Rattle.cap_spec.proofs.ProofNames.{length-take, ne_eqb, not, refl, replicate, suc, take, take_while, true, zero, ℕ}
 use Rattle.cap_spec.proofs.ProofNames.{◌++◌, ◌+◌, ◌-◌, ◌<◌, ◌==◌, ◌∙◌, ◌∷◌, ◌≡◌, ◌≢◌, ◌≤◌, length-replicate, prefix_len}
 use Rattle.cap_spec.proofs.ProofNames.{full_run, group_size, group_text, pack_in, pack_text, tag_of, zero_bytes}
 use Rattle.cap_spec.proofs.ProofNames.{zero_run, plain_text, word_bytes, common_steps, rules}
+use Rattle.std.proofs.lemmas.List.Sums.{take_while-cons}
 
 -- with capacity for all the groups, more capacity makes no difference
 pub pack_in-enough : (n m : ℕ) (ws : List ℕ) → length ws ≤ n → length ws ≤ m → pack_in n ws ≡ pack_in m ws
@@ -16,22 +16,17 @@ pack_in-enough (suc n) zero (w ∷ ws) p q = absurd (omega (arith, q))
 pack_in-enough (suc n) (suc m) [] p q = refl
 pack_in-enough (suc n) (suc m) (w ∷ ws) p q =
     let k = group_size (w ∷ ws) - 1 in
-    ap (λ t. group_text w k (take k ws) ++ t)
-    (pack_in-enough n m (drop k ws) (omega (arith, p, length-drop k ws)) (omega (arith, q, length-drop k ws)))
+    search (
+      rules,
+      length-drop,
+      pack_in-enough n m (drop k ws) (omega (arith, p, length-drop k ws)) (omega (arith, q, length-drop k ws)),
+    )
 
 -- the text of the group in front, and then that of the other words
 pub pack_text-front : (w : ℕ) (ws : List ℕ) →
     pack_text (w ∷ ws) ≡ group_text w (group_size (w ∷ ws) - 1) (take (group_size (w ∷ ws) - 1) ws) ++ pack_text
     (drop (group_size (w ∷ ws) - 1) ws)
 pack_text-front w ws = search (rules, pack_in-enough, length-drop)
-
-take-front : (more rest : List ℕ) → take (length more) (more ++ rest) ≡ more
-take-front [] rest = refl
-take-front (x ∷ more) rest = ap (λ t. x ∷ t) (take-front more rest)
-
-drop-front : (more rest : List ℕ) → drop (length more) (more ++ rest) ≡ rest
-drop-front [] rest = refl
-drop-front (x ∷ more) rest = drop-front more rest
 
 -- where the group in front takes just these words, its text and then that of the rest
 pub pack_text-group : (w : ℕ) (more rest : List ℕ) → group_size (w ∷ (more ++ rest)) ≡ 1 + length more →

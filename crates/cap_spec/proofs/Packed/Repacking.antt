@@ -5,7 +5,7 @@ use Rattle.cap_spec.proofs.Packed.Groups.{unpacks_whole, unpacks_words}
 use Rattle.cap_spec.proofs.Packed.OneUnpacking.{unpacks_with}
 use Rattle.cap_spec.proofs.Packed.Packing.{front-le, group_size-marked, nonzero_word, zero_run-append, zero_run-ends}
 use Rattle.cap_spec.proofs.Packed.Unpacking.{spread_clear, spread_none}
-use Rattle.cap_spec.proofs.ProofNames.{List, [], ap, arith, cond, drop, false, filter, if◌then◌else◌, inl, inr, length}
+use Rattle.cap_spec.proofs.ProofNames.{List, [], ap, arith, drop, false, filter, if◌then◌else◌, inl, inr, length}
 use Rattle.cap_spec.proofs.ProofNames.{length-drop, length-take-le, min, nat_le, ne_eqb, not, refl, replicate, subst}
 use Rattle.cap_spec.proofs.ProofNames.{suc, sym, take, take-append-drop, zero, ℕ, ◌%◌, ◌*◌, ◌++◌, ◌+◌, ◌-◌, ◌/◌, ◌<◌}
 use Rattle.cap_spec.proofs.ProofNames.{◌==◌, ◌^◌, ◌∙◌, ◌∷◌, ◌≡◌, ◌≢◌, ◌≤◌, pow-succ', cases_eq, AllByRecursion}
@@ -17,14 +17,6 @@ use Rattle.cap_spec.proofs.ProofNames.{IsWord, rules}
 -- the bytes of a word that aren't zero
 abbrev pub present_of : List ℕ → List ℕ
 present_of bytes = filter (λ b. not (b == 0)) bytes
-
--- a zero byte isn't among them
-present_zero : (b : ℕ) (bytes : List ℕ) → b ≡ 0 → present_of (b ∷ bytes) ≡ present_of bytes
-present_zero b bytes e = ap (λ k. present_of (k ∷ bytes)) e
-
--- any other is
-present_more : (b : ℕ) (bytes : List ℕ) → b ≢ 0 → present_of (b ∷ bytes) ≡ b ∷ present_of bytes
-present_more b bytes n = ap (λ t. cond (not t) (b ∷ present_of bytes) (present_of bytes)) (ne_eqb b 0 n)
 
 -- a zero byte has a clear bit
 tag_zero : (b : ℕ) (bytes : List ℕ) → b ≡ 0 → tag_of (b ∷ bytes) ≡ 2 * tag_of bytes
@@ -45,8 +37,7 @@ marks_tag (b ∷ bytes) = search (rules, tag_more, marks_tag bytes)
 
 -- no bytes make no number
 pub spread_empty : (n tag : ℕ) → spread n tag [] ≡ 0
-spread_empty zero tag = refl
-spread_empty (suc n) tag = refl
+spread_empty n tag = search rules
 
 -- a clear bit takes no byte, where there may be none
 spread_even : (n tag : ℕ) (present : List ℕ) → tag % 2 ≡ 0
@@ -69,15 +60,7 @@ tag_below (b ∷ bytes) = search (rules, tag_below bytes)
 tag_not_full : (bytes : List ℕ) → 0 < zeros_in bytes → tag_of bytes + 1 < 2 ^ length bytes
 tag_not_full [] h = absurd (omega arith)
 tag_not_full (b ∷ bytes) h =
-    let p = pow-succ' 2 (length bytes) in
-    elim (cases_eq b 0) [
-      | inl none ↦ let e = tag_zero b bytes none in let t = tag_below bytes in omega (arith, t, p, e)
-      | inr some ↦
-          let e = tag_more b bytes some in
-          let c = count_more b bytes some in
-          let t = tag_not_full bytes (omega (arith, h, c)) in
-          omega (arith, t, p, e)
-    ]
+    search (rules, pow-succ', tag_zero, tag_more, count_more, tag_below bytes, tag_not_full bytes)
 
 -- what holds of all bytes holds of those that aren't zero
 present_fit : (P : ℕ → Type 0) (bytes : List ℕ) → AllByRecursion P bytes → AllByRecursion P (present_of bytes)
@@ -94,10 +77,7 @@ marked_group x h n z =
     let s : spread 8 tag present ≡ x = spread_tag (word_bytes x) ∙ word_back x [] h in
     let full : tag + 1 < 2 ^ 8 = tag_not_full (word_bytes x) z in
     let none : tag ≡ 0 → x ≡ 0 = λ e. sym s ∙ spread_none 8 tag present (ap (marks 8) e) in
-    let some : 0 < tag = elim (cases_eq tag 0) [
-      | inl e ↦ absurd (n (none e))
-      | inr e ↦ (let no : tag ≡ 0 → ⊥ = e in omega (arith, no))
-    ] in
+    let some : 0 < tag = search (rules, cases_eq) in
     marked tag present some (omega (arith, full)) (present_fit (λ b. b < 256) (word_bytes x) (bytes_fit 0 8 x)) (sym m)
     refl (ap (λ k. k ∷ []) (sym s))
 
@@ -105,13 +85,7 @@ marked_group x h n z =
 pub zero_front : (k : ℕ) (words : List ℕ) → k ≤ zero_run words → take k words ≡ replicate k 0
 zero_front zero words h = refl
 zero_front (suc k) [] h = absurd (omega arith)
-zero_front (suc k) (x ∷ words) h = elim (cases_eq x 0) [
-  | inl e ↦
-      let r : zero_run (0 ∷ words) ≡ 1 + zero_run words = zero_run-append 1 words in
-      let s : zero_run (x ∷ words) ≡ zero_run (0 ∷ words) = ap (λ y. zero_run (y ∷ words)) e in
-      ap (λ y. y ∷ take k words) e ∙ ap (λ t. 0 ∷ t) (zero_front k words (omega (arith, h, r, s)))
-  | inr n ↦ let r = zero_run-ends x words n in absurd (omega (arith, h, r))
-]
+zero_front (suc k) (x ∷ words) h = search (rules, zero_run-append 1 words, zero_run-ends, zero_front k words)
 
 -- how many words the group in front takes after its first
 abbrev after : ℕ → List ℕ → ℕ
@@ -125,8 +99,7 @@ zeros_group words =
     let r : zero_run (0 ∷ words) ≡ 1 + zero_run words = zero_run-append 1 words in
     let size : group_size (0 ∷ words) ≡ min 256 (zero_run (0 ∷ words)) = refl in
     let e : suc k ≡ 1 + k = omega arith in
-    zeros k (omega (arith, r, size)) refl (ap (λ t. 0 ∷ t) (zero_front k words (omega (arith, r, size)))
-    ∙ ap (λ n. replicate n 0) e)
+    zeros k (omega (arith, r, size)) refl (search (rules, zero_front))
 
 -- a word without a zero byte and those that go on with it are a group
 plain_group_of : (x : ℕ) (words : List ℕ) → IsWord x → AllByRecursion IsWord words → zero_bytes x ≡ 0 →
@@ -149,10 +122,7 @@ marked_group_of x words h n z =
     let size = group_size-marked x words n z in
     let k : after x words ≡ 0 = omega (arith, size) in
     let some : 0 < zero_bytes x = (let no : zero_bytes x ≡ 0 → ⊥ = z in omega (arith, no)) in
-    let text : group_text x 0 [] ≡ tag_of (word_bytes x) ∷ present_of (word_bytes x) =
-    rw (ne_eqb x 0 n, ne_eqb (zero_bytes x) 0 z) refl in
-    subst (λ j. IsGroup (group_text x j (take j words)) (x ∷ take j words)) (sym k)
-    (subst (λ t. IsGroup t (x ∷ [])) (sym text) (marked_group x h n some))
+    search (rules, ne_eqb, marked_group)
 
 -- the text of the group in front is a group, which represents the words that it takes
 pub front_group : (x : ℕ) (words : List ℕ) → IsWord x → AllByRecursion IsWord words →
@@ -170,17 +140,16 @@ front_group x words h all = elim (cases_eq x 0) [
 -- in this many groups at most
 pack_in_unpacks : (n : ℕ) (words : List ℕ) → length words ≤ n → AllByRecursion IsWord words
     → Unpacks (pack_in n words) words
-pack_in_unpacks zero [] l all = record { groups = []; each = tt; text = refl; encoded = refl }
-pack_in_unpacks zero (x ∷ words) l all = absurd (omega arith)
-pack_in_unpacks (suc n) [] l all = record { groups = []; each = tt; text = refl; encoded = refl }
 pack_in_unpacks (suc n) (x ∷ words) l all =
     let k = group_size (x ∷ words) - 1 in
-    let d = length-drop k words in
     subst (λ w. Unpacks (group_text x k (take k words) ++ pack_in n (drop k words)) w)
     (ap (λ w. x ∷ w) (take-append-drop k words))
     (unpacks_with (group_text x k (take k words)) (x ∷ take k words) (pack_in n (drop k words)) (drop k words)
     (front_group x words all.0 all.1)
-    (pack_in_unpacks n (drop k words) (omega (arith, l, d)) (all_drop IsWord k words all.1)))
+    (pack_in_unpacks n (drop k words) (omega (arith, l, length-drop k words)) (all_drop IsWord k words all.1)))
+pack_in_unpacks zero [] l all = record { groups = []; each = tt; text = refl; encoded = refl }
+pack_in_unpacks (suc n) [] l all = record { groups = []; each = tt; text = refl; encoded = refl }
+pack_in_unpacks zero (x ∷ words) l all = absurd (omega arith)
 
 -- the packed text of words unpacks to these words
 pub pack_text_unpacks : (words : List ℕ) → AllByRecursion IsWord words → Unpacks (pack_text words) words

@@ -3,21 +3,17 @@ use Rattle.cap_spec.proofs.Bytes.Lists.{all_append, all_back}
 use Rattle.cap_spec.proofs.Bytes.Plain.{plain_split}
 use Rattle.cap_spec.proofs.Packed.OneUnpacking.{Becomes, becomes, part, whole}
 use Rattle.cap_spec.proofs.ProofNames.{List, [], arith, replicate, slice_index, subst, suc, sym, zero, ℕ, ◌+◌, ◌/◌, ◌<◌}
-use Rattle.cap_spec.proofs.ProofNames.{◌^◌, ◌∷◌, AllByRecursion, little_from, little_number, plain_text, Groups}
-use Rattle.cap_spec.proofs.ProofNames.{IsGroup, Unpacks, given_of, groups_text, groups_words, marked, plain, spread}
-use Rattle.cap_spec.proofs.ProofNames.{unpacked, zeros, IsWord, rules}
+use Rattle.cap_spec.proofs.ProofNames.{◌^◌, ◌∷◌, AllByRecursion, little_number, plain_text, Groups, IsGroup, Unpacks}
+use Rattle.cap_spec.proofs.ProofNames.{given_of, groups_text, groups_words, marked, plain, spread, unpacked, zeros}
+use Rattle.cap_spec.proofs.ProofNames.{IsWord, rules}
 
 -- bytes by a tag make a number of this many bytes
 pub spread_below : (n tag : ℕ) (present : List ℕ) → AllByRecursion (λ b. b < 256) present
     → spread n tag present < 256 ^ n
 spread_below zero tag present all = omega arith
 spread_below (suc n) tag [] all = search (rules, spread_below n tag [] tt)
-spread_below (suc n) tag (b ∷ present) all = search (rules, spread_below n (tag / 2) (b ∷ present) all, spread_below n (tag / 2) present all.1)
-
--- so do this many bytes as they are, of which those past the end are zeros
-little_below : (n i : ℕ) (bytes : List ℕ) → ((k : ℕ) → slice_index bytes k < 256) → little_from i n bytes < 256 ^ n
-little_below zero i bytes each = omega arith
-little_below (suc n) i bytes each = search (rules, little_below n (suc i) bytes each)
+spread_below (suc n) tag (b ∷ present) all =
+    search (rules, spread_below n (tag / 2) (b ∷ present) all, spread_below n (tag / 2) present all.1)
 
 byte_at : (bytes : List ℕ) → AllByRecursion (λ b. b < 256) bytes → (i : ℕ) → slice_index bytes i < 256
 byte_at [] all i = omega arith
@@ -62,8 +58,7 @@ unpacked_by bytes all (whole k u) = unpacks_are_words bytes (unpacked bytes) u
 unpacked_by bytes all (part k c) =
     let after = all_back (λ b. b < 256) c.whole c.part (subst (AllByRecursion (λ b. b < 256)) c.text all) in
     subst (AllByRecursion IsWord) (sym c.given)
-    (all_append IsWord c.before (given_of c.part) (unpacks_are_words c.whole c.before c.unpacks)
-    (given_are_words c.part after))
+    (search (rules, all_append, unpacks_are_words, given_are_words))
 
 -- packed bytes give words
 pub unpacked_are_words : (bytes : List ℕ) → AllByRecursion (λ b. b < 256) bytes → AllByRecursion IsWord (unpacked bytes)

@@ -1,11 +1,11 @@
 -- Packed text as it is read: how many groups are looked for makes no difference,
 -- and the group in front comes off whole.
 use Rattle.cap_spec.proofs.Bytes.Plain.{plain_back}
-use Rattle.cap_spec.proofs.ProofNames.{Bool, List, [], ap, append-nil, arith, drop, false, if◌then◌else◌, inl, inr}
-use Rattle.cap_spec.proofs.ProofNames.{le-ltb, length, length-drop, nat_lt, refl, suc, sym, true, zero, ℕ, ◌%◌, ◌*◌}
-use Rattle.cap_spec.proofs.ProofNames.{◌++◌, ◌+◌, ◌/◌, ◌<◌, ◌==◌, ◌∙◌, ◌∷◌, ◌≡◌, ◌≤◌, cases_eq, AllByRecursion}
-use Rattle.cap_spec.proofs.ProofNames.{plain_text, plain_words, given_in, given_of, group_length, group_words}
-use Rattle.cap_spec.proofs.ProofNames.{is_cut_in, marks, packed_is_cut, spread, unpacked, IsWord, common_steps, rules}
+use Rattle.cap_spec.proofs.ProofNames.{Bool, List, [], ap, append-nil, arith, drop, false, if◌then◌else◌, le-ltb}
+use Rattle.cap_spec.proofs.ProofNames.{length, length-drop, refl, suc, sym, true, zero, ℕ, ◌%◌, ◌*◌, ◌++◌, ◌+◌, ◌/◌}
+use Rattle.cap_spec.proofs.ProofNames.{◌<◌, ◌==◌, ◌∙◌, ◌∷◌, ◌≡◌, ◌≤◌, AllByRecursion, plain_text, plain_words, given_in}
+use Rattle.cap_spec.proofs.ProofNames.{given_of, group_length, group_words, is_cut_in, marks, packed_is_cut, spread}
+use Rattle.cap_spec.proofs.ProofNames.{unpacked, IsWord, common_steps, rules}
 
 -- two numbers above zero: so is the one chosen
 some_of : (c : Bool) (a b : ℕ) → 0 < a → 0 < b → 0 < (if c then a else b)
@@ -33,28 +33,18 @@ cut_nil (suc n) = cut_nil n
 -- with capacity for all the groups, more capacity makes no difference to the words
 pub given_stable : (n m : ℕ) (bytes : List ℕ) → length bytes ≤ n → length bytes ≤ m
     → given_in n bytes ≡ given_in m bytes
-given_stable n m [] p q = given_nil n ∙ sym (given_nil m)
-given_stable zero m (x ∷ bytes) p q = absurd (omega arith)
-given_stable (suc n) zero (x ∷ bytes) p q = absurd (omega arith)
 given_stable (suc n) (suc m) (x ∷ bytes) p q =
-    let k = group_length (x ∷ bytes) in
-    let s = group_some x bytes in
-    ap (λ r. if nat_lt (length (x ∷ bytes)) k then given_of (x ∷ bytes) else (group_words (x ∷ bytes) ++ r))
-    (given_stable n m (drop k (x ∷ bytes)) (drop_less k n x bytes s (omega (arith, p)))
-    (drop_less k m x bytes s (omega (arith, q))))
+    search (rules, drop_less, group_some, given_stable n m (drop (group_length (x ∷ bytes)) (x ∷ bytes)))
+given_stable n m [] p q = given_nil n ∙ sym (given_nil m)
+given_stable n m bytes p q = absurd (omega arith)
 
 -- nor to whether they are cut
 pub cut_stable : (n m : ℕ) (bytes : List ℕ) → length bytes ≤ n → length bytes ≤ m
     → is_cut_in n bytes ≡ is_cut_in m bytes
-cut_stable n m [] p q = cut_nil n ∙ sym (cut_nil m)
-cut_stable zero m (x ∷ bytes) p q = absurd (omega arith)
-cut_stable (suc n) zero (x ∷ bytes) p q = absurd (omega arith)
 cut_stable (suc n) (suc m) (x ∷ bytes) p q =
-    let k = group_length (x ∷ bytes) in
-    let s = group_some x bytes in
-    ap (λ r. if nat_lt (length (x ∷ bytes)) k then true else r)
-    (cut_stable n m (drop k (x ∷ bytes)) (drop_less k n x bytes s (omega (arith, p)))
-    (drop_less k m x bytes s (omega (arith, q))))
+    search (rules, drop_less, group_some, cut_stable n m (drop (group_length (x ∷ bytes)) (x ∷ bytes)))
+cut_stable n m [] p q = cut_nil n ∙ sym (cut_nil m)
+cut_stable n m bytes p q = absurd (omega arith)
 
 -- where the group in front is whole, its words come first, and then those of what is after it
 pub unpacked_front : (bytes : List ℕ) → 0 < length bytes → group_length bytes ≤ length bytes
@@ -89,28 +79,22 @@ spread_set n tag b present e = cc
 
 -- no bits set, no byte taken
 pub spread_none : (n tag : ℕ) (present : List ℕ) → marks n tag ≡ 0 → spread n tag present ≡ 0
-spread_none zero tag present e = refl
-spread_none (suc n) tag [] e = refl
 spread_none (suc n) tag (b ∷ present) e = search (rules, spread_none n (tag / 2) (b ∷ present) (omega arith))
+spread_none n tag present e = refl
 
 -- what is after the bytes that a tag marks makes no difference to its word
 pub spread_append : (n tag : ℕ) (present rest : List ℕ) → length present ≡ marks n tag
     → spread n tag (present ++ rest) ≡ spread n tag present
 spread_append zero tag present rest e = refl
 spread_append (suc n) tag [] rest e = spread_none (suc n) tag rest (omega arith)
-spread_append (suc n) tag (b ∷ present) rest e = elim (cases_eq (tag % 2) 0) [
-  | inl clear ↦
-      let c = spread_clear n tag b (present ++ rest) clear in
-      let d = spread_clear n tag b present clear in
-      let t = spread_append n (tag / 2) (b ∷ present) rest (omega arith) in
-      c ∙ (ap (λ k. 256 * k) t ∙ sym d)
-  | inr odd ↦
-      let one : tag % 2 ≡ 1 = (let no : tag % 2 ≡ 0 → ⊥ = odd in omega arith) in
-      let c = spread_set n tag b (present ++ rest) one in
-      let d = spread_set n tag b present one in
-      let t = spread_append n (tag / 2) present rest (omega arith) in
-      c ∙ (ap (λ k. b + 256 * k) t ∙ sym d)
-]
+spread_append (suc n) tag (b ∷ present) rest e =
+    search (
+      rules,
+      spread_clear,
+      spread_set,
+      spread_append n (tag / 2) (b ∷ present) rest,
+      spread_append n (tag / 2) present rest,
+    )
 
 -- the text of words reads back
 pub plain_reads : (ws : List ℕ) → AllByRecursion IsWord ws → plain_words (plain_text ws) ≡ ws
