@@ -8,7 +8,7 @@ use Rattle.cap_spec.proofs.Canonical.TreeMeasures.{FitEach, FitElements, Fits, m
 use Rattle.cap_spec.proofs.Canonical.TrimmedMeasures.{trimmed}
 use Rattle.cap_spec.proofs.Canonical.TrimmedTrees.{trimmed_is_tree}
 use Rattle.cap_spec.proofs.ProofNames.{List, [], arith, drop, length, length-take, map, subst, suc, sym, take, zero, ℕ}
-use Rattle.cap_spec.proofs.ProofNames.{◌*◌, ◌+◌, ◌-◌, ◌<◌, ◌^◌, ◌∷◌, ◌≡◌, ◌≤◌, mul-le, AllByRecursion, range_with_len}
+use Rattle.cap_spec.proofs.ProofNames.{◌*◌, ◌+◌, ◌<◌, ◌^◌, ◌∷◌, ◌≡◌, ◌≤◌, mul-le, AllByRecursion, range_with_len}
 use Rattle.cap_spec.proofs.ProofNames.{content, contents, element_contents, element_sizes, element_words, layout}
 use Rattle.cap_spec.proofs.ProofNames.{pointer_to, pointer_words, size, sizes, trim, Denotes, element_bits, packed_word}
 use Rattle.cap_spec.proofs.ProofNames.{scalar_words, AreElementTrees, AreTrees, IsTree, Tree, Trees, more, pointers}

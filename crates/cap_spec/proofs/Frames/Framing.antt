@@ -1,6 +1,6 @@
 -- Tables and frames: words begin with at most one of each, and what that one is.
 use Rattle.std.proofs.Common.{List, [], ap, append_assoc, arith, flat_map, length, length-append, refl, ℕ, ◌%◌, ◌*◌}
-use Rattle.std.proofs.Common.{◌++◌, ◌+◌, ◌-◌, ◌/◌, ◌^◌, ◌∷◌, ◌≡◌, rules}
+use Rattle.std.proofs.Common.{◌++◌, ◌+◌, ◌/◌, ◌^◌, ◌∷◌, ◌≡◌, rules}
 use Rattle.cap_spec.specs.Frames.{Frames, IsTable, halves, joined, sizes_of}
 
 -- two lists of one length, each with more after it, that make the same list are the same, and so is what is after

@@ -3,8 +3,8 @@ use Rattle.cap_spec.proofs.Bytes.Plain.{length_plain}
 use Rattle.cap_spec.proofs.Packed.Unpacking.{cut_front, length_marked, plain_reads, spread_append, unpacked_front}
 use Rattle.cap_spec.proofs.Packed.Unpacking.{unpacked_short, words_marked}
 use Rattle.cap_spec.proofs.ProofNames.{List, [], ap, append-nil, append_assoc, arith, drop_at, false, length}
-use Rattle.cap_spec.proofs.ProofNames.{length-append, refl, subst, sym, take_at, true, ℕ, ◌++◌, ◌+◌, ◌<◌, ◌∙◌, ◌∷◌, ◌≡◌}
-use Rattle.cap_spec.proofs.ProofNames.{◌≢◌, cases_lt, get_or_append_left, AllByRecursion, plain_text, word_bytes, Cut}
+use Rattle.cap_spec.proofs.ProofNames.{length-append, refl, subst, sym, take_at, true, ℕ, ◌++◌, ◌<◌, ◌∙◌, ◌∷◌, ◌≡◌, ◌≢◌}
+use Rattle.cap_spec.proofs.ProofNames.{cases_lt, get_or_append_left, AllByRecursion, plain_text, word_bytes, Cut}
 use Rattle.cap_spec.proofs.ProofNames.{Groups, IsGroup, Unpacks, group_length, group_words, groups_text, groups_words}
 use Rattle.cap_spec.proofs.ProofNames.{marked, packed_is_cut, plain, unpacked, zeros, IsWord, common_steps, rules}
 
