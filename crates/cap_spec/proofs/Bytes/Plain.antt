@@ -58,7 +58,6 @@ plain_split (a ∷ b ∷ c ∷ d ∷ e ∷ f ∷ g ∷ []) all = record { are_wo
 plain_split (a ∷ b ∷ c ∷ d ∷ e ∷ f ∷ g ∷ h ∷ rest) all =
     let t = plain_split rest all.1.1.1.1.1.1.1.1 in
     let eight : AllByRecursion (λ x. x < 256) (a ∷ b ∷ c ∷ d ∷ e ∷ f ∷ g ∷ h ∷ []) = search rules in
-    let u = eight_back a b c d e f g h eight in
     let n = length (plain_words rest) in
     let k : 8 * suc n ≡ 8 + 8 * n = omega arith in
     let j : 8 + 8 * n ≡ suc (suc (suc (suc (suc (suc (suc (suc (8 * n)))))))) = omega arith in

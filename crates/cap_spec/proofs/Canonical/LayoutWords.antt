@@ -33,11 +33,9 @@ packed_below bits (v ∷ vs) a =
 packed_is_word : (bits per : ℕ) (vs : List ℕ) → per * bits ≤ 64 → AllByRecursion (λ v. v < 2 ^ bits) vs
     → packed_word bits (take per vs) < 2 ^ 64
 packed_is_word bits per vs h a =
-    let below : packed_word bits (take per vs) < 2 ^ (length (take per vs) * bits) =
-    packed_below bits (take per vs) (all_take (λ v. v < 2 ^ bits) per vs a) in
     let few : length (take per vs) ≤ per = omega (arith, length-take per vs) in
     let l : length (take per vs) * bits ≤ per * bits = mul-le (length (take per vs)) bits per bits few (omega arith) in
-    search (rules, pow_mono)
+    search (rules, pow_mono, packed_below, all_take)
 
 value_words_are : (bits per a count : ℕ) (vs : List ℕ) → per * bits ≤ 64 → AllByRecursion (λ v. v < 2 ^ bits) vs
     → AllByRecursion IsWord (map (λ k. packed_word bits (take per (drop (k * per) vs))) (range_with_len a count))

@@ -120,13 +120,11 @@ structs_trimmed : (d p : ℕ) (es us : Trees) → Fits (structs d p es) → Elem
 structs_trimmed d p es us f r =
     let x : data_of us ≤ d = data_of_le d p us r.fits in
     let y : children_of us ≤ p = children_of_le d p us r.fits in
-    let n : tree_count (cut_elements (data_of us) (children_of us) us) ≡ tree_count es =
-    tree_count-cut (data_of us) (children_of us) us ∙ r.count in
     let c : element_costs (cut_elements (data_of us) (children_of us) us) ≤ element_costs es =
     (let g = cut_costs (data_of us) (children_of us) d p us r.fits in omega (arith, g, r.charged)) in
     let h : element_heights (cut_elements (data_of us) (children_of us) us) ≡ element_heights es =
     cut_heights (data_of us) (children_of us) d p us (omega arith) r.fits ∙ r.deep in
-    search (rules, cut_fits, structs_beside)
+    search (rules, cut_fits, structs_beside, tree_count-cut)
   where
     below : (a b n : ℕ) → a ≤ b → b < n → a < n
     below a b n h g = omega arith

@@ -111,8 +111,6 @@ length_all s (segment ∷ m) = search (rules, length-places, sum_by_from, length
 pub in_all : (s : ℕ) (m : List (List ℕ)) (t w : ℕ) → t < length m → w < length (segment_of m t)
     → IsOneOf (s + t, w) (all_places s m)
 in_all s [] t w h k = absurd (omega arith)
-in_all s (segment ∷ m) zero w h k =
-    let e : s + 0 ≡ s = omega arith in
-    place_left (s + 0, w) (places s 0 (length segment)) (all_places (suc s) m)
+in_all s (segment ∷ m) zero w h k = place_left (s + 0, w) (places s 0 (length segment)) (all_places (suc s) m)
     (search (rules, at_place))
 in_all s (segment ∷ m) (suc t) w h k = search (rules, place_right, in_all (suc s) m t w (omega arith) k)

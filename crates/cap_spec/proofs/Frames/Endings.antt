@@ -1,5 +1,5 @@
 -- The five ways in which reading a message ends: no two of them hold of the same words.
-use Rattle.cap_spec.proofs.Frames.Framing.{same_table, table_count, table_length}
+use Rattle.cap_spec.proofs.Frames.Framing.{same_table, table_length}
 use Rattle.cap_spec.proofs.ProofNames.{Bool, List, [], ap, append_assoc, arith, false, length, length-append, refl, sum}
 use Rattle.cap_spec.proofs.ProofNames.{sym, ℕ, ◌%◌, ◌++◌, ◌+◌, ◌/◌, ◌<◌, ◌^◌, ◌∙◌, ◌∷◌, ◌≡◌, ◌≤◌, sum_by-cons, Frames}
 use Rattle.cap_spec.proofs.ProofNames.{IsPartial, IsTable, in_contents, in_table, in_word, joined, sizes_of}
@@ -31,7 +31,6 @@ pub table_whole : (table rest sizes : List ℕ) (first : ℕ) (more : List ℕ) 
 table_whole [] rest sizes first more t e l = cc
 table_whole (p ∷ table) rest sizes first more t e l =
     let h : first ≡ p = cc in
-    let c : p % 2 ^ 32 + 1 ≡ length sizes = table_count p table sizes t in
     let d : first % 2 ^ 32 ≡ p % 2 ^ 32 = ap (λ k. k % 2 ^ 32) h in
     let k = table_length (p ∷ table) sizes t in
     search (rules, length-append)

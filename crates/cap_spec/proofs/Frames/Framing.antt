@@ -32,7 +32,6 @@ same_table (p ∷ a) (q ∷ b) x y m n s t e =
     let h : p ≡ q = cc in
     let c : p % 2 ^ 32 + 1 ≡ length m = table_count p a m s in
     let d : q % 2 ^ 32 + 1 ≡ length n = table_count q b n t in
-    let l : length m ≡ length n = (let r = ap (λ k. k % 2 ^ 32 + 1) h in cc) in
     let k : length (p ∷ a) ≡ length (q ∷ b) =
     (let u = table_length (p ∷ a) m s in let v = table_length (q ∷ b) n t in omega arith) in
     search (rules, same_parts)

@@ -47,8 +47,6 @@ pub makes_table : (first : ℕ) (more : List ℕ) → AllByRecursion IsWord (fir
 makes_table first more a n l =
     let h = length_halves more in
     let k : length (first / 2 ^ 32 ∷ flat_map halves more) ≡ 1 + 2 * length more = omega arith in
-    let s : length (sizes_in first more) ≡ first % 2 ^ 32 + 1 =
-    length-take-le (first % 2 ^ 32 + 1) (first / 2 ^ 32 ∷ flat_map halves more) (omega arith) in
     let d = length-drop (first % 2 ^ 32 + 1) (first / 2 ^ 32 ∷ flat_map halves more) in
     search (rules, halves_fit, take-append-drop, all_take, all_drop)
 

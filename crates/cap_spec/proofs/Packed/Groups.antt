@@ -82,11 +82,9 @@ unpacks_whole bytes words u =
 pub part_short : (tag : ℕ) (part lacking encoded : List ℕ) → IsGroup (tag ∷ (part ++ lacking)) encoded
     → 0 < length lacking → length (tag ∷ part) < group_length (tag ∷ part)
 part_short tag part lacking encoded (zeros n h e w) some =
-    let t : tag ≡ 0 = cc in
     let l = ap length e in
     search (rules, length-append)
 part_short tag part lacking encoded (plain x more h all few e w) some =
-    let t : tag ≡ 255 = cc in
     let r : part ++ lacking ≡ word_bytes x ++ length more ∷ plain_text more = cc in
     let l = ap length r in
     search (rules, length-append, length_plain, cases_lt, get_or_append_left)

@@ -1,14 +1,14 @@
 -- Bytes by their head: a whole group in front is one, and the beginning of one can be completed.
 use Rattle.cap_spec.proofs.Bytes.Lists.{all_append, all_take}
-use Rattle.cap_spec.proofs.Bytes.Plain.{eight_back, eight_word, length_plain, plain_split}
+use Rattle.cap_spec.proofs.Bytes.Plain.{eight_word, length_plain, plain_split}
 use Rattle.cap_spec.proofs.Packed.Groups.{plain_group}
 use Rattle.cap_spec.proofs.Packed.Unpacking.{length_marked, spread_append, words_marked}
 use Rattle.cap_spec.proofs.ProofNames.{List, [], ap, arith, drop, get_or, get_or-take, inl, inr, length, length-append}
 use Rattle.cap_spec.proofs.ProofNames.{length-drop, length-take-le, refl, replicate, slice_index, subst, suc, sym, take}
-use Rattle.cap_spec.proofs.ProofNames.{take-append-drop, take-take, zero, ℕ, ◌*◌, ◌++◌, ◌+◌, ◌-◌, ◌<◌, ◌∙◌, ◌∷◌, ◌≡◌}
-use Rattle.cap_spec.proofs.ProofNames.{◌≢◌, ◌≤◌, cases_eq, drop-take, length-replicate, nil_from_length, AllByRecursion}
-use Rattle.cap_spec.proofs.ProofNames.{little_number, plain_text, plain_words, word_bytes, IsGroup, group_length}
-use Rattle.cap_spec.proofs.ProofNames.{group_words, marked, marks, plain, spread, zeros, common_steps, rules}
+use Rattle.cap_spec.proofs.ProofNames.{take-append-drop, zero, ℕ, ◌*◌, ◌++◌, ◌+◌, ◌-◌, ◌<◌, ◌∙◌, ◌∷◌, ◌≡◌, ◌≢◌, ◌≤◌}
+use Rattle.cap_spec.proofs.ProofNames.{cases_eq, length-replicate, nil_from_length, AllByRecursion, little_number}
+use Rattle.cap_spec.proofs.ProofNames.{plain_text, plain_words, IsGroup, group_length, group_words, marked, marks}
+use Rattle.cap_spec.proofs.ProofNames.{plain, spread, zeros, common_steps, rules}
 
 -- bytes of whole words: this many words
 pub aligned_words : (n : ℕ) (bytes : List ℕ) → AllByRecursion (λ b. b < 256) bytes → length bytes ≡ 8 * n
@@ -30,7 +30,6 @@ makes_plain a b c d e f g h n bytes all l =
     let more = all.1.1.1.1.1.1.1.1.1 in
     let x = little_number 8 (a ∷ b ∷ c ∷ d ∷ e ∷ f ∷ g ∷ h ∷ []) in
     let k : length (plain_words bytes) ≡ n = aligned_words n bytes more l in
-    let w : word_bytes x ≡ a ∷ b ∷ c ∷ d ∷ e ∷ f ∷ g ∷ h ∷ [] = eight_back a b c d e f g h eight in
     let t : plain_text (plain_words bytes) ≡ bytes = aligned_text n bytes more l in
     let text : plain_group x (plain_words bytes) ≡ 255 ∷ a ∷ b ∷ c ∷ d ∷ e ∷ f ∷ g ∷ h ∷ n ∷ bytes =
     search rules in
@@ -78,13 +77,10 @@ zeros_some k p e = search rules
 complete_plain : (bytes : List ℕ) → AllByRecursion (λ b. b < 256) bytes → length bytes < 9 + 8 * slice_index bytes 8
     → Completes (255 ∷ bytes)
 complete_plain bytes all h =
-    let n = slice_index bytes 8 in
-    let k = (9 + 8 * n) - length bytes in
+    let k = (9 + 8 * slice_index bytes 8) - length bytes in
     let full = bytes ++ replicate k 0 in
-    let i : slice_index full 8 ≡ n = padded bytes k 8 in
-    let r : length (replicate {A = ℕ} k 0) ≡ k = length-replicate {A = ℕ} k 0 in
-    let a : length full ≡ length bytes + length (replicate {A = ℕ} k 0) = length-append bytes (replicate k 0) in
-    let l : length full ≡ 9 + 8 * slice_index full 8 = omega (arith, a, r, i, h) in
+    let i : slice_index full 8 ≡ slice_index bytes 8 = padded bytes k 8 in
+    let l : length full ≡ 9 + 8 * slice_index full 8 = omega (arith, length-append {A = ℕ}, length-replicate {A = ℕ}) in
     record {
       lacking = replicate k 0;
       some = zeros_some k (omega (arith, h));
@@ -141,8 +137,6 @@ whole_plain bytes all h =
     is_plain full (all_take (λ b. b < 256) (9 + 8 * n) bytes all) (omega (arith, l, i)) in
     let t : take (10 + 8 * n) (255 ∷ bytes) ≡ 255 ∷ full =
     ap (λ k. take k (255 ∷ bytes)) (let e : 10 + 8 * n ≡ suc (9 + 8 * n) = omega arith in e) in
-    let u : take 8 full ≡ take 8 bytes = take-take 8 (9 + 8 * n) bytes (omega arith) in
-    let v : drop 9 full ≡ take (8 * n) (drop 9 bytes) = drop-take 9 (8 * n) bytes in
     subst (λ k. IsGroup k (group_words (255 ∷ bytes))) (sym t)
     (subst (λ k. IsGroup (255 ∷ full) k) (search rules) g)
 

@@ -4,7 +4,7 @@ use Rattle.cap_spec.proofs.Bytes.WordBytes.{bytes_fit, word_back}
 use Rattle.cap_spec.proofs.Packed.Groups.{unpacks_whole, unpacks_words}
 use Rattle.cap_spec.proofs.Packed.OneUnpacking.{unpacks_with}
 use Rattle.cap_spec.proofs.Packed.Packing.{front-le, group_size-marked, nonzero_word, zero_run-append, zero_run-ends}
-use Rattle.cap_spec.proofs.Packed.Unpacking.{spread_clear, spread_none}
+use Rattle.cap_spec.proofs.Packed.Unpacking.{spread_clear}
 use Rattle.cap_spec.proofs.ProofNames.{List, [], ap, arith, drop, false, filter, if◌then◌else◌, inl, inr, length}
 use Rattle.cap_spec.proofs.ProofNames.{length-drop, length-take-le, min, nat_le, ne_eqb, not, refl, replicate, subst}
 use Rattle.cap_spec.proofs.ProofNames.{suc, sym, take, take-append-drop, zero, ℕ, ◌%◌, ◌*◌, ◌++◌, ◌+◌, ◌-◌, ◌/◌, ◌<◌}
@@ -76,7 +76,6 @@ marked_group x h n z =
     let m : marks 8 tag ≡ length present = marks_tag (word_bytes x) in
     let s : spread 8 tag present ≡ x = spread_tag (word_bytes x) ∙ word_back x [] h in
     let full : tag + 1 < 2 ^ 8 = tag_not_full (word_bytes x) z in
-    let none : tag ≡ 0 → x ≡ 0 = λ e. sym s ∙ spread_none 8 tag present (ap (marks 8) e) in
     let some : 0 < tag = search (rules, cases_eq) in
     marked tag present some (omega (arith, full)) (present_fit (λ b. b < 256) (word_bytes x) (bytes_fit 0 8 x)) (sym m)
     refl (ap (λ k. k ∷ []) (sym s))
@@ -120,7 +119,6 @@ marked_group_of : (x : ℕ) (words : List ℕ) → IsWord x → x ≢ 0 → zero
     IsGroup (group_text x (after x words) (take (after x words) words)) (x ∷ take (after x words) words)
 marked_group_of x words h n z =
     let size = group_size-marked x words n z in
-    let k : after x words ≡ 0 = omega (arith, size) in
     let some : 0 < zero_bytes x = (let no : zero_bytes x ≡ 0 → ⊥ = z in omega (arith, no)) in
     search (rules, ne_eqb, marked_group)
 
