@@ -1,9 +1,8 @@
 -- Words and their plain encoding: each list of bytes splits into words and less than a word in one way.
 use Rattle.cap_spec.specs.Plain.{PlainSplits}
-use Rattle.cap_spec.proofs.Bytes.WordBytes.{bytes_back}
 use Rattle.cap_spec.proofs.ProofNames.{List, [], arith, drop, drop_at, length, refl, suc, true, ℕ, ◌*◌, ◌++◌, ◌+◌, ◌/◌}
 use Rattle.cap_spec.proofs.ProofNames.{◌<◌, ◌↔◌, ◌∷◌, ◌≡◌, ◌≢◌, AllByRecursion, little_number, plain_is_cut, plain_text}
-use Rattle.cap_spec.proofs.ProofNames.{plain_words, word_bytes, IsWord, rules}
+use Rattle.cap_spec.proofs.ProofNames.{plain_words, IsWord, rules}
 
 -- eight bytes a word
 pub length_plain : (ws : List ℕ) → length (plain_text ws) ≡ 8 * length ws
@@ -38,11 +37,6 @@ plain_cut_short a rest l = search rules
 pub eight_word : (a b c d e f g h : ℕ) → AllByRecursion (λ x. x < 256) (a ∷ b ∷ c ∷ d ∷ e ∷ f ∷ g ∷ h ∷ [])
     → IsWord (little_number 8 (a ∷ b ∷ c ∷ d ∷ e ∷ f ∷ g ∷ h ∷ []))
 eight_word a b c d e f g h all = omega arith
-
--- the bytes of that word are these
-pub eight_back : (a b c d e f g h : ℕ) → AllByRecursion (λ x. x < 256) (a ∷ b ∷ c ∷ d ∷ e ∷ f ∷ g ∷ h ∷ [])
-    → word_bytes (little_number 8 (a ∷ b ∷ c ∷ d ∷ e ∷ f ∷ g ∷ h ∷ [])) ≡ a ∷ b ∷ c ∷ d ∷ e ∷ f ∷ g ∷ h ∷ []
-eight_back a b c d e f g h all = bytes_back (a ∷ b ∷ c ∷ d ∷ e ∷ f ∷ g ∷ h ∷ []) all
 
 -- bytes are the text of the words that they begin with, and less than a word after it
 pub plain_split : (bytes : List ℕ) → AllByRecursion (λ b. b < 256) bytes
