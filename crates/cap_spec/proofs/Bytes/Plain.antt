@@ -41,21 +41,13 @@ eight_word a b c d e f g h all = omega arith
 -- bytes are the text of the words that they begin with, and less than a word after it
 pub plain_split : (bytes : List ℕ) → AllByRecursion (λ b. b < 256) bytes
     → PlainSplits bytes (plain_words bytes) (drop (8 * length (plain_words bytes)) bytes)
-plain_split [] all = record { are_words = tt; whole = refl; partial = omega arith }
-plain_split (a ∷ []) all = record { are_words = tt; whole = refl; partial = omega arith }
-plain_split (a ∷ b ∷ []) all = record { are_words = tt; whole = refl; partial = omega arith }
-plain_split (a ∷ b ∷ c ∷ []) all = record { are_words = tt; whole = refl; partial = omega arith }
-plain_split (a ∷ b ∷ c ∷ d ∷ []) all = record { are_words = tt; whole = refl; partial = omega arith }
-plain_split (a ∷ b ∷ c ∷ d ∷ e ∷ []) all = record { are_words = tt; whole = refl; partial = omega arith }
-plain_split (a ∷ b ∷ c ∷ d ∷ e ∷ f ∷ []) all = record { are_words = tt; whole = refl; partial = omega arith }
-plain_split (a ∷ b ∷ c ∷ d ∷ e ∷ f ∷ g ∷ []) all = record { are_words = tt; whole = refl; partial = omega arith }
-plain_split (a ∷ b ∷ c ∷ d ∷ e ∷ f ∷ g ∷ h ∷ rest) all =
-    let t = plain_split rest all.1.1.1.1.1.1.1.1 in
+plain_split (a ∷ b ∷ c ∷ d ∷ e ∷ f ∷ g ∷ h ∷ rest) all = let t = plain_split rest all.1.1.1.1.1.1.1.1 in
     let eight : AllByRecursion (λ x. x < 256) (a ∷ b ∷ c ∷ d ∷ e ∷ f ∷ g ∷ h ∷ []) = search rules in
     let n = length (plain_words rest) in
     let k : 8 * suc n ≡ 8 + 8 * n = omega arith in
     let j : 8 + 8 * n ≡ suc (suc (suc (suc (suc (suc (suc (suc (8 * n)))))))) = omega arith in
     search (rules, eight_word)
+plain_split bytes all = search rules
 
 -- bytes that split into words and less than a word begin with just these words
 pub plain_words_of : (bytes words rest : List ℕ) → PlainSplits bytes words rest → words ≡ plain_words bytes

@@ -61,10 +61,9 @@ row_is_words after (more t ts) f l = search (rules, row_is_words (after + size t
 elements_are_words : (d p after : ℕ) (es : Trees) → AreElementTrees d p es → FitElements d p es
     → after + tree_count es * (d + p) + element_sizes es < 2 ^ 29
     → AllByRecursion IsWord (element_words (d + p) after es)
-elements_are_words d p after none a f l = tt
 elements_are_words d p after (more (struct ws ts) es) a f l =
     search (rules, all_append, row_is_words, rest_near, elements_are_words d p (after + sizes ts) es a.4 f.3)
-elements_are_words d p after (more t es) a f l = absurd a
+elements_are_words d p after es a f l = search rules
 
 mutual
   -- the words of a tree's content

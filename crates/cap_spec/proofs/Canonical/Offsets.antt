@@ -1,7 +1,7 @@
 -- Each offset of a layout is smaller than the size of the tree.
 use Rattle.cap_spec.proofs.ProofNames.{rules, List, arith, flat_map, ℕ, ◌*◌, ◌+◌, ◌<◌, ◌^◌, ◌≤◌, AllByRecursion}
-use Rattle.cap_spec.proofs.ProofNames.{element_sizes, offsets, size, sizes, trim, Denotes, Tree, Trees, cap, more, null}
-use Rattle.cap_spec.proofs.ProofNames.{pointers, scalars, struct, structs, tree_count}
+use Rattle.cap_spec.proofs.ProofNames.{element_sizes, offsets, size, sizes, trim, Denotes, Tree, Trees, more, pointers}
+use Rattle.cap_spec.proofs.ProofNames.{struct, structs, tree_count}
 use Rattle.cap_spec.specs.Canonical.{element_offsets, element_offsets_below, offsets_below, pointer_offsets}
 use Rattle.cap_spec.specs.Tree.{none}
 use Rattle.cap_spec.proofs.Bytes.Lists.{all_append}
@@ -20,33 +20,29 @@ row_offsets most after (more t ts) h = (omega (arith, h), row_offsets most (afte
 elements_offsets : (most d p after : ℕ) (es : Trees) → FitElements d p es
     → after + tree_count es * (d + p) + element_sizes es < most
     → AllByRecursion (λ offset. offset < most) (flat_map (λ row. row) (element_offsets (d + p) after es))
-elements_offsets most d p after none f h = tt
 elements_offsets most d p after (more (struct ws ts) es) f h =
     all_append (λ offset. offset < most) (pointer_offsets (tree_count es * (d + p) + after) ts)
     (flat_map (λ row. row) (element_offsets (d + p) (after + sizes ts) es))
     (search (rules, row_offsets, children_near))
     (elements_offsets most d p (after + sizes ts) es f.3
     (rest_near after (tree_count es) (d + p) (sizes ts) (element_sizes es) most h))
-elements_offsets most d p after (more t es) f h = absurd f
+elements_offsets most d p after es f h = search rules
 
 mutual
   -- at all nodes
   pub offsets_within : (most : ℕ) (t : Tree) → Fits t → size t < most
       → AllByRecursion (λ offset. offset < most) (offsets t)
-  offsets_within most null f h = tt
-  offsets_within most (cap i) f h = tt
   offsets_within most (struct ws ts) f h =
       all_append (λ offset. offset < most) (pointer_offsets 0 ts) (offsets_below ts)
       (row_offsets most 0 ts (omega (arith, h))) (offsets_below_within most ts f.2 (omega (arith, h)))
-  offsets_within most (scalars c vs) f h = tt
-  offsets_within most (pointers ts) f h =
-      all_append (λ offset. offset < most) (pointer_offsets 0 ts) (offsets_below ts)
+  offsets_within most (pointers ts) f h = all_append (λ offset. offset < most) (pointer_offsets 0 ts) (offsets_below ts)
       (row_offsets most 0 ts (omega (arith, h))) (offsets_below_within most ts f.1 (omega (arith, h)))
   offsets_within most (structs d p es) f h =
       all_append (λ offset. offset < most) (flat_map (λ row. row) (element_offsets (d + p) 0 es))
       (element_offsets_below es)
       (search (rules, elements_offsets, without_tag))
       (element_offsets_within most d p es f.4 (elements_only (tree_count es * (d + p)) (element_sizes es) most h))
+  offsets_within most t f h = tt
 
   pub offsets_below_within : (most : ℕ) (ts : Trees) → FitEach ts → sizes ts < most
       → AllByRecursion (λ offset. offset < most) (offsets_below ts)

@@ -159,7 +159,6 @@ mutual
   pub elements_measured : (m : List (List ℕ)) (t b ds ps n : ℕ) (es : Trees) (c d : ℕ)
       → b + n * ds + n * ps ≤ length (segment_of m t)
       → AreElements m t b ds ps n es c d → ElementsMeasured ds ps n es c d
-  elements_measured m t b ds ps n none c d le h = omega arith
   elements_measured m t b ds ps n (more (struct words ts) es) c d le h =
       let (fewer, c1, d1, c2, d2, counted, own, each, after, charge, depth) = h in
       let x : n * ds ≡ ds + fewer * ds = rw counted (omega arith) in
@@ -172,4 +171,4 @@ mutual
         elements_measured m t (b + ds + ps) ds ps fewer es c2 d2 (omega (arith, le, x, y)) after,
         each_measured m (places t (b + ds) ps) ts c1 d1 each,
       )
-  elements_measured m t b ds ps n (more x es) c d le h = absurd h
+  elements_measured m t b ds ps n es c d le h = omega arith

@@ -44,9 +44,8 @@ fits-take n ts f = tt
 
 -- trees of which none are needed are as flat as none
 flat : (ts : Trees) → children_needed ts ≤ 0 → heights ts ≡ 0
-flat none h = refl
 flat (more null ts) h = search (rules, none_left, flat ts)
-flat (more t ts) h = search rules
+flat ts h = search rules
 
 -- where all that are needed are left, the rest are as deep as all
 heights-take : (n : ℕ) (ts : Trees) → children_needed ts ≤ n → heights (take_trees n ts) ≡ heights ts
@@ -119,12 +118,11 @@ structs_trimmed : (d p : ℕ) (es us : Trees) → Fits (structs d p es) → Elem
     → Trimmed (structs d p es) (trim_structs us)
 structs_trimmed d p es us f r =
     let x : data_of us ≤ d = data_of_le d p us r.fits in
-    let y : children_of us ≤ p = children_of_le d p us r.fits in
     let c : element_costs (cut_elements (data_of us) (children_of us) us) ≤ element_costs es =
     (let g = cut_costs (data_of us) (children_of us) d p us r.fits in omega (arith, g, r.charged)) in
     let h : element_heights (cut_elements (data_of us) (children_of us) us) ≡ element_heights es =
     cut_heights (data_of us) (children_of us) d p us (omega arith) r.fits ∙ r.deep in
-    search (rules, cut_fits, structs_beside, tree_count-cut)
+    search (rules, cut_fits, structs_beside, tree_count-cut, children_of_le)
   where
     below : (a b n : ℕ) → a ≤ b → b < n → a < n
     below a b n h g = omega arith

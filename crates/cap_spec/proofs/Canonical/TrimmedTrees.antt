@@ -64,9 +64,8 @@ mutual
 
 -- trees of which none are needed have no capabilities
 no_caps : (ts : Trees) → children_needed ts ≤ 0 → cap_counts ts ≡ 0
-no_caps none h = refl
 no_caps (more null ts) h = search (rules, none_left, no_caps ts)
-no_caps (more t ts) h = search rules
+no_caps ts h = search rules
 
 -- where all that are needed are left, the rest have all capabilities
 caps-take : (n : ℕ) (ts : Trees) → children_needed ts ≤ n → cap_counts (take_trees n ts) ≡ cap_counts ts

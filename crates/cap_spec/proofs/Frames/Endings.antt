@@ -31,7 +31,6 @@ pub table_whole : (table rest sizes : List ℕ) (first : ℕ) (more : List ℕ) 
 table_whole [] rest sizes first more t e l = cc
 table_whole (p ∷ table) rest sizes first more t e l =
     let h : first ≡ p = cc in
-    let d : first % 2 ^ 32 ≡ p % 2 ^ 32 = ap (λ k. k % 2 ^ 32) h in
     let k = table_length (p ∷ table) sizes t in
     search (rules, length-append)
 

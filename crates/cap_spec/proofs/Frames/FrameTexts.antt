@@ -32,7 +32,6 @@ zeros_fit n = recursion_from_All (λ k. k < 2 ^ 32) _ (All-replicate (λ k. k < 
 -- the words with zero padding frame the message
 pub frame_text_frames : (m : List (List ℕ)) → IsMessage m → Frames (frame_text m) m
 frame_text_frames m is =
-    let some = is.some in
     let few = is.few in
     let fit = sizes_fit m (recursion_from_All (λ segment. length segment < 2 ^ 32) m is.lengths) in
     let first : length m - 1 < 2 ^ 32 = omega arith in

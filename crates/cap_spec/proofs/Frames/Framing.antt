@@ -26,27 +26,24 @@ table_length table sizes t =
 
 -- words begin with at most one table
 pub same_table : (a b x y m n : List ℕ) → IsTable a m → IsTable b n → a ++ x ≡ b ++ y → (a ≡ b) × (m ≡ n) × (x ≡ y)
-same_table [] b x y m n s t e = cc
-same_table (p ∷ a) [] x y m n s t e = cc
-same_table (p ∷ a) (q ∷ b) x y m n s t e =
-    let h : p ≡ q = cc in
+same_table (p ∷ a) (q ∷ b) x y m n s t e = let h : p ≡ q = cc in
     let c : p % 2 ^ 32 + 1 ≡ length m = table_count p a m s in
     let d : q % 2 ^ 32 + 1 ≡ length n = table_count q b n t in
     let k : length (p ∷ a) ≡ length (q ∷ b) =
     (let u = table_length (p ∷ a) m s in let v = table_length (q ∷ b) n t in omega arith) in
     search (rules, same_parts)
+same_table a b x y m n s t e = cc
 
 -- the sizes of segments say how words are cut into them
 pub same_joined : (m n : List (List ℕ)) (x y : List ℕ) → sizes_of m ≡ sizes_of n → joined m ++ x ≡ joined n ++ y
     → (m ≡ n) × (x ≡ y)
 same_joined [] [] x y l e = (refl, e)
-same_joined [] (t ∷ n) x y l e = absurd (cc)
-same_joined (s ∷ m) [] x y l e = absurd (cc)
 same_joined (s ∷ m) (t ∷ n) x y l e =
     let h : s ++ (joined m ++ x) ≡ t ++ (joined n ++ y) = search (rules, append_assoc) in
     let k : length s ≡ length t = cc in
     let p : (s ≡ t) × (joined m ++ x ≡ joined n ++ y) = same_parts s t (joined m ++ x) (joined n ++ y) k h in
     search (rules, same_joined m n x y (cc) p.1)
+same_joined m n x y l e = absurd (cc)
 
 -- words begin with at most one frame
 pub one_frame : (a b x y : List ℕ) (m n : List (List ℕ)) → Frames a m → Frames b n → a ++ x ≡ b ++ y

@@ -7,8 +7,8 @@ use Rattle.cap_spec.proofs.Frames.Endings.{too_many_not_partial, too_many_not_to
 use Rattle.cap_spec.proofs.Frames.Framing.{length_halves}
 use Rattle.cap_spec.proofs.ProofNames.{Bool, List, [], ap, append_assoc, arith, drop, drop-drop, false, flat_map, inl}
 use Rattle.cap_spec.proofs.ProofNames.{inr, length, length-drop, length-take-le, refl, subst, sum, sym, take}
-use Rattle.cap_spec.proofs.ProofNames.{take-append-drop, true, ℕ, ◌%◌, ◌*◌, ◌++◌, ◌+◌, ◌/◌, ◌<◌, ◌^◌, ◌∙◌, ◌∷◌, ◌≡◌}
-use Rattle.cap_spec.proofs.ProofNames.{◌≤◌, cases_lt, sum_by-cons, AllByRecursion, BeginsMessage, Ending, EndsIn}
+use Rattle.cap_spec.proofs.ProofNames.{take-append-drop, true, ℕ, ◌%◌, ◌++◌, ◌+◌, ◌/◌, ◌<◌, ◌^◌, ◌∙◌, ◌∷◌, ◌≡◌, ◌≤◌}
+use Rattle.cap_spec.proofs.ProofNames.{cases_lt, sum_by-cons, AllByRecursion, BeginsMessage, Ending, EndsIn}
 use Rattle.cap_spec.proofs.ProofNames.{GivesTooMany, GivesTooMuch, message, partial, too_large, too_many, IsPartial}
 use Rattle.cap_spec.proofs.ProofNames.{IsTable, halves, in_contents, in_table, in_word, joined, sizes_of, IsWord}
 use Rattle.cap_spec.proofs.ProofNames.{common_steps, rules}
@@ -46,7 +46,6 @@ pub makes_table : (first : ℕ) (more : List ℕ) → AllByRecursion IsWord (fir
     → length more ≡ (first % 2 ^ 32 + 1) / 2 → IsTable (first ∷ more) (sizes_in first more)
 makes_table first more a n l =
     let h = length_halves more in
-    let k : length (first / 2 ^ 32 ∷ flat_map halves more) ≡ 1 + 2 * length more = omega arith in
     let d = length-drop (first % 2 ^ 32 + 1) (first / 2 ^ 32 ∷ flat_map halves more) in
     search (rules, halves_fit, take-append-drop, all_take, all_drop)
 

@@ -39,17 +39,9 @@ makes_plain a b c d e f g h n bytes all l =
 -- bytes as long as the count among them says are a plain group after its tag
 pub is_plain : (bytes : List ℕ) → AllByRecursion (λ x. x < 256) bytes → length bytes ≡ 9 + 8 * slice_index bytes 8 →
     IsGroup (255 ∷ bytes) (plain_words (take 8 bytes ++ drop 9 bytes))
-is_plain [] all l = absurd (omega arith)
-is_plain (a ∷ []) all l = absurd (omega arith)
-is_plain (a ∷ b ∷ []) all l = absurd (omega arith)
-is_plain (a ∷ b ∷ c ∷ []) all l = absurd (omega arith)
-is_plain (a ∷ b ∷ c ∷ d ∷ []) all l = absurd (omega arith)
-is_plain (a ∷ b ∷ c ∷ d ∷ e ∷ []) all l = absurd (omega arith)
-is_plain (a ∷ b ∷ c ∷ d ∷ e ∷ f ∷ []) all l = absurd (omega arith)
-is_plain (a ∷ b ∷ c ∷ d ∷ e ∷ f ∷ g ∷ []) all l = absurd (omega arith)
-is_plain (a ∷ b ∷ c ∷ d ∷ e ∷ f ∷ g ∷ h ∷ []) all l = absurd (omega arith)
 is_plain (a ∷ b ∷ c ∷ d ∷ e ∷ f ∷ g ∷ h ∷ n ∷ bytes) all l = makes_plain a b c d e f g h n bytes all
     (search rules)
+is_plain bytes all l = search rules
 
 -- zeros after a list change no number in it, read as zero past its end
 padded : (bytes : List ℕ) (k i : ℕ) → get_or (bytes ++ replicate k 0) i 0 ≡ get_or bytes i 0

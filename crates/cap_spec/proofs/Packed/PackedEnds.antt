@@ -19,15 +19,13 @@ ends_none at = refl
 ends_stable : (n m at : ℕ) (bytes : List ℕ) → length bytes ≤ n → length bytes ≤ m
     → ends_in n at bytes ≡ ends_in m at bytes
 ends_stable n m at [] p q = ends_nil n at ∙ sym (ends_nil m at)
-ends_stable zero m at (x ∷ bytes) p q = absurd (omega arith)
-ends_stable (suc n) zero at (x ∷ bytes) p q = absurd (omega arith)
-ends_stable (suc n) (suc m) at (x ∷ bytes) p q =
-    search (
-      rules,
-      drop_less,
-      group_some,
-      ends_stable n m (at + group_length (x ∷ bytes)) (drop (group_length (x ∷ bytes)) (x ∷ bytes)),
-    )
+ends_stable (suc n) (suc m) at (x ∷ bytes) p q = search (
+  rules,
+  drop_less,
+  group_some,
+  ends_stable n m (at + group_length (x ∷ bytes)) (drop (group_length (x ∷ bytes)) (x ∷ bytes)),
+)
+ends_stable n m at bytes p q = search rules
 
 -- where the group in front is whole
 ends_front : (at : ℕ) (bytes : List ℕ) → 0 < length bytes → group_length bytes ≤ length bytes →

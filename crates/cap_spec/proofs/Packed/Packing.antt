@@ -8,19 +8,15 @@ use Rattle.std.proofs.lemmas.List.Sums.{take_while-cons}
 
 -- with capacity for all the groups, more capacity makes no difference
 pub pack_in-enough : (n m : ℕ) (ws : List ℕ) → length ws ≤ n → length ws ≤ m → pack_in n ws ≡ pack_in m ws
-pack_in-enough zero zero ws p q = refl
-pack_in-enough zero (suc m) [] p q = refl
 pack_in-enough zero (suc m) (w ∷ ws) p q = absurd (omega (arith, p))
-pack_in-enough (suc n) zero [] p q = refl
 pack_in-enough (suc n) zero (w ∷ ws) p q = absurd (omega (arith, q))
-pack_in-enough (suc n) (suc m) [] p q = refl
-pack_in-enough (suc n) (suc m) (w ∷ ws) p q =
-    let k = group_size (w ∷ ws) - 1 in
+pack_in-enough (suc n) (suc m) (w ∷ ws) p q = let k = group_size (w ∷ ws) - 1 in
     search (
       rules,
       length-drop,
       pack_in-enough n m (drop k ws) (omega (arith, p, length-drop k ws)) (omega (arith, q, length-drop k ws)),
     )
+pack_in-enough n m ws p q = refl
 
 -- the text of the group in front, and then that of the other words
 pub pack_text-front : (w : ℕ) (ws : List ℕ) →

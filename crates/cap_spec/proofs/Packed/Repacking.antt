@@ -3,7 +3,7 @@ use Rattle.cap_spec.proofs.Bytes.Lists.{all_drop, all_take}
 use Rattle.cap_spec.proofs.Bytes.WordBytes.{bytes_fit, word_back}
 use Rattle.cap_spec.proofs.Packed.Groups.{unpacks_whole, unpacks_words}
 use Rattle.cap_spec.proofs.Packed.OneUnpacking.{unpacks_with}
-use Rattle.cap_spec.proofs.Packed.Packing.{front-le, group_size-marked, nonzero_word, zero_run-append, zero_run-ends}
+use Rattle.cap_spec.proofs.Packed.Packing.{front-le, nonzero_word, zero_run-append, zero_run-ends}
 use Rattle.cap_spec.proofs.Packed.Unpacking.{spread_clear}
 use Rattle.cap_spec.proofs.ProofNames.{List, [], ap, arith, drop, false, filter, if◌then◌else◌, inl, inr, length}
 use Rattle.cap_spec.proofs.ProofNames.{length-drop, length-take-le, min, nat_le, ne_eqb, not, refl, replicate, subst}
@@ -82,9 +82,8 @@ marked_group x h n z =
 
 -- a prefix of a run of zero words
 pub zero_front : (k : ℕ) (words : List ℕ) → k ≤ zero_run words → take k words ≡ replicate k 0
-zero_front zero words h = refl
-zero_front (suc k) [] h = absurd (omega arith)
 zero_front (suc k) (x ∷ words) h = search (rules, zero_run-append 1 words, zero_run-ends, zero_front k words)
+zero_front k words h = search rules
 
 -- how many words the group in front takes after its first
 abbrev after : ℕ → List ℕ → ℕ
@@ -118,7 +117,6 @@ plain_group_of x words h all z =
 marked_group_of : (x : ℕ) (words : List ℕ) → IsWord x → x ≢ 0 → zero_bytes x ≢ 0 →
     IsGroup (group_text x (after x words) (take (after x words) words)) (x ∷ take (after x words) words)
 marked_group_of x words h n z =
-    let size = group_size-marked x words n z in
     let some : 0 < zero_bytes x = (let no : zero_bytes x ≡ 0 → ⊥ = z in omega (arith, no)) in
     search (rules, ne_eqb, marked_group)
 
