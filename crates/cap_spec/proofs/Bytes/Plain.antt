@@ -41,7 +41,8 @@ eight_word a b c d e f g h all = omega arith
 -- bytes are the text of the words that they begin with, and less than a word after it
 pub plain_split : (bytes : List ℕ) → AllByRecursion (λ b. b < 256) bytes
     → PlainSplits bytes (plain_words bytes) (drop (8 * length (plain_words bytes)) bytes)
-plain_split (a ∷ b ∷ c ∷ d ∷ e ∷ f ∷ g ∷ h ∷ rest) all = let t = plain_split rest all.1.1.1.1.1.1.1.1 in
+plain_split (a ∷ b ∷ c ∷ d ∷ e ∷ f ∷ g ∷ h ∷ rest) all =
+    let t = plain_split rest all.1.1.1.1.1.1.1.1 in
     let eight : AllByRecursion (λ x. x < 256) (a ∷ b ∷ c ∷ d ∷ e ∷ f ∷ g ∷ h ∷ []) = search rules in
     let n = length (plain_words rest) in
     let k : 8 * suc n ≡ 8 + 8 * n = omega arith in

@@ -26,7 +26,8 @@ table_length table sizes t =
 
 -- words begin with at most one table
 pub same_table : (a b x y m n : List ℕ) → IsTable a m → IsTable b n → a ++ x ≡ b ++ y → (a ≡ b) × (m ≡ n) × (x ≡ y)
-same_table (p ∷ a) (q ∷ b) x y m n s t e = let h : p ≡ q = cc in
+same_table (p ∷ a) (q ∷ b) x y m n s t e =
+    let h : p ≡ q = cc in
     let c : p % 2 ^ 32 + 1 ≡ length m = table_count p a m s in
     let d : q % 2 ^ 32 + 1 ≡ length n = table_count q b n t in
     let k : length (p ∷ a) ≡ length (q ∷ b) =

@@ -10,7 +10,8 @@ use Rattle.std.proofs.lemmas.List.Sums.{take_while-cons}
 pub pack_in-enough : (n m : ℕ) (ws : List ℕ) → length ws ≤ n → length ws ≤ m → pack_in n ws ≡ pack_in m ws
 pack_in-enough zero (suc m) (w ∷ ws) p q = absurd (omega (arith, p))
 pack_in-enough (suc n) zero (w ∷ ws) p q = absurd (omega (arith, q))
-pack_in-enough (suc n) (suc m) (w ∷ ws) p q = let k = group_size (w ∷ ws) - 1 in
+pack_in-enough (suc n) (suc m) (w ∷ ws) p q =
+    let k = group_size (w ∷ ws) - 1 in
     search (
       rules,
       length-drop,
