@@ -1,29 +1,26 @@
 -- The order of paths: which come before which, and which are apart.
-use Rattle.cap_spec.proofs.ProofNames.{rules}
-use Rattle.std.proofs.Common.{List, [], ap, arith, inl, inr, refl, subst, sym, ◌++◌, ◌<◌, ◌∙◌, ◌∷◌, ◌≡◌}
+use Rattle.cap_spec.proofs.ProofNames.{rules, List, [], ap, arith, inl, inr, refl, subst, sym, ◌++◌, ◌<◌, ◌∙◌, ◌∷◌}
+use Rattle.cap_spec.proofs.ProofNames.{◌≡◌}
 use Rattle.cap_spec.specs.Paths.{Before, number_of}
 use Rattle.cap_vet.specs.VetNames.{Step, Apart}
 
 -- the first comes before the second
 pub apart-before : (p q : List Step) → Apart p q → Before p q
-apart-before [] q h = absurd h
-apart-before (x ∷ xs) [] h = absurd h
 apart-before (x ∷ xs) (y ∷ ys) (inl h) = inl h
 apart-before (x ∷ xs) (y ∷ ys) (inr h) = inr (h.0, apart-before xs ys h.1)
+apart-before p q h = search rules
 
 -- what goes on from the first is apart from the second
 pub Apart-left : (p q v : List Step) → Apart p q → Apart (p ++ v) q
-Apart-left [] q v h = absurd h
-Apart-left (x ∷ xs) [] v h = absurd h
 Apart-left (x ∷ xs) (y ∷ ys) v (inl h) = inl h
 Apart-left (x ∷ xs) (y ∷ ys) v (inr h) = inr (h.0, Apart-left xs ys v h.1)
+Apart-left p q v h = search rules
 
 -- the first is apart from what goes on from the second
 pub Apart-right : (p q v : List Step) → Apart p q → Apart p (q ++ v)
-Apart-right [] q v h = absurd h
-Apart-right (x ∷ xs) [] v h = absurd h
 Apart-right (x ∷ xs) (y ∷ ys) v (inl h) = inl h
 Apart-right (x ∷ xs) (y ∷ ys) v (inr h) = inr (h.0, Apart-right xs ys v h.1)
+Apart-right p q v h = search rules
 
 -- two paths that go on from one by steps of different numbers are apart
 pub Apart-steps : (p : List Step) (x y : Step) (v w : List Step) → number_of x < number_of y → Apart (p ++ x ∷ v) (p ++ y ∷ w)

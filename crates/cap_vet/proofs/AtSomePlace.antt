@@ -4,10 +4,9 @@ use Rattle.cap_spec.proofs.Frames.Messages.{short_segment}
 use Rattle.cap_spec.proofs.ProofNames.{List, Some, arith, length, subst, ℕ, ◌*◌, ◌+◌, ◌<◌, ◌^◌, ◌≡◌, ◌≤◌, ∥∥₁_elim}
 use Rattle.cap_spec.proofs.ProofNames.{∥∥₁_map, props, IsMessage, segment_of, Spot, rules}
 use Rattle.cap_vet.specs.Finding.{IsAtSomePlace, StepLeads}
-use Rattle.cap_vet.specs.VetNames.{Step, IsFound, own_words, HasFound, SomeArrives, Arrival, Found, Way, Early, To}
+use Rattle.cap_vet.specs.VetNames.{Step, IsFound, own_words, HasFound, SomeArrives, Arrival, Found, Way, To}
 use Rattle.cap_vet.specs.Ways.{IsSomeWay}
 use Rattle.cap_vet.specs.declared.nodes.spot.Spot.TheVariants.{Word}
-use Rattle.cap_vet.specs.declared.nodes.way.Way.TheVariants.{Refused}
 use Rattle.cap_vet.proofs.Charging.{arrives_low}
 use Rattle.cap_vet.proofs.Stepping.{element_inside, elements_inside, entry_inside}
 
@@ -21,25 +20,21 @@ fits_in m a f message h = search (rules, short_segment)
 
 pub at_some_place_last : (f : Found) → IsAtSomePlace f → f.place.start + f.place.words < 2 ^ 32
 at_some_place_last f h =
-    let one : IsProp (f.place.start + f.place.words < 2 ^ 32) = hlevel props in
-    ∥∥₁_elim h one (λ x. (fits_in x.0 x.1 f x.2 x.3).last)
+    ∥∥₁_elim h (hlevel props) (λ x. (fits_in x.0 x.1 f x.2 x.3).last)
 
 pub at_some_place_own : (f : Found) → IsAtSomePlace f → own_words f.kind ≤ f.place.words
 at_some_place_own f h =
-    let one : IsProp (own_words f.kind ≤ f.place.words) = hlevel props in
-    ∥∥₁_elim h one (λ x. x.3.own)
+    ∥∥₁_elim h (hlevel props) (λ x. x.3.own)
 
 -- the words of a list's elements
 pub at_some_place_entry : (f : Found) (n i : ℕ) → IsAtSomePlace f → f.kind ≡ Pointers n → i < n → f.place.start + i + 1 < 2 ^ 32
 at_some_place_entry f n i h e lt =
-    let one : IsProp (f.place.start + i + 1 < 2 ^ 32) = hlevel props in
-    ∥∥₁_elim h one (search (rules, short_segment, entry_inside))
+    ∥∥₁_elim h (hlevel props) (search (rules, short_segment, entry_inside))
 
 pub at_some_place_element : (f : Found) (n d p i : ℕ) → IsAtSomePlace f → f.kind ≡ Structs n d p → i < n
     → f.place.start + 1 + i * (d + p) + d + p < 2 ^ 32
 at_some_place_element f n d p i h e lt =
-    let one : IsProp (f.place.start + 1 + i * (d + p) + d + p < 2 ^ 32) = hlevel props in
-    ∥∥₁_elim h one (λ x.
+    ∥∥₁_elim h (hlevel props) (λ x.
     let few = short_segment x.0 f.place.segment x.2 x.3.exists in
     let inside = element_inside x.0 x.1 d p x.3 e lt in
     omega (arith, few, inside))
@@ -54,13 +49,11 @@ module _ (m : List (List ℕ)) (words depth : ℕ) (at : Arrival) (h : SomeArriv
 
   pub arrival_levels : at.level ≤ depth + 1
   arrival_levels =
-      let one : IsProp (at.level ≤ depth + 1) = hlevel props in
-      ∥∥₁_elim h one (λ x. (arrives_low m words depth x.0 x.1 at x.2).0)
+      ∥∥₁_elim h (hlevel props) (λ x. (arrives_low m words depth x.0 x.1 at x.2).0)
 
   pub arrival_few : at.pointers ≤ depth + 1
   arrival_few =
-      let one : IsProp (at.pointers ≤ depth + 1) = hlevel props in
-      ∥∥₁_elim h one (λ x. (arrives_low m words depth x.0 x.1 at x.2).1)
+      ∥∥₁_elim h (hlevel props) (λ x. (arrives_low m words depth x.0 x.1 at x.2).1)
 
   pub arrival_exists : at.found.place.segment < length m
   arrival_exists =
@@ -73,28 +66,24 @@ module _ (m : List (List ℕ)) (words depth : ℕ) (at : Arrival) (h : SomeArriv
 
   pub step_inside : (step : Step) (s w : ℕ) → StepLeads at.found step (Some (Word s w)) → w < length (segment_of m s)
   step_inside step s w is =
-      let one : IsProp (w < length (segment_of m s)) = hlevel props in
-      ∥∥₁_elim h one (λ x. let l = (is m x.1 x.2.found).1.1 in omega (arith, l))
+      ∥∥₁_elim h (hlevel props) (λ x. let l = (is m x.1 x.2.found).1.1 in omega (arith, l))
 
   -- all elements of a list of structs lie inside their segment
   pub arrival_elements : (n d p : ℕ) → at.found.kind ≡ Structs n d p
       → at.found.place.start + 1 + n * (d + p) ≤ length (segment_of m at.found.place.segment)
   arrival_elements n d p e =
-      let one : IsProp (at.found.place.start + 1 + n * (d + p) ≤ length (segment_of m at.found.place.segment)) = hlevel props in
-      ∥∥₁_elim h one (λ x. elements_inside m x.1 at.found n d p x.2.found e)
+      ∥∥₁_elim h (hlevel props) (λ x. elements_inside m x.1 at.found n d p x.2.found e)
 
 -- A way to something is one that some path arrives by.
 pub way_arrives : (m : List (List ℕ)) (words depth : ℕ) {way : Way} (at : Arrival) → IsSomeWay m words depth way → way ≡ To at
     → SomeArrives m words depth at
 way_arrives m words depth at h e =
-    let there : IsSomeWay m words depth (To at) = subst (λ (x : Way). IsSomeWay m words depth x) e h in
-    ∥∥₁_map there (λ x. (x.0, x.1.0, x.1.1))
+    ∥∥₁_map (subst (λ (x : Way). IsSomeWay m words depth x) e h) (λ x. (x.0, x.1.0, x.1.1))
 
 -- what it leads to is found
 pub way_found : (m : List (List ℕ)) (words depth : ℕ) (way : Way) → IsSomeWay m words depth way → HasFound m way
 way_found m words depth (To at) h = ∥∥₁_map h (λ x. (x.1.0, x.1.1.found))
-way_found m words depth (Early at) h = tt
-way_found m words depth (Refused refusal) h = tt
+way_found m words depth way h = search rules
 
 module _ (m : List (List ℕ)) (way : Way) (at : Arrival) (e : way ≡ To at) (h : HasFound m way) where
   there : HasFound m (To at)

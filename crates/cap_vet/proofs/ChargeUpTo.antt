@@ -3,9 +3,9 @@ use Rattle.cap_spec.specs.declared.Reason.TheVariants.{WordLimit}
 use Rattle.cap_spec.proofs.Frames.Messages.{HasWord-inside, HasWord-segment}
 use Rattle.cap_spec.proofs.Lemmas.{one_refusal, within_not_refused}
 use Rattle.cap_spec.proofs.Paths.Preorder.{Rises-distinct}
-use Rattle.cap_spec.proofs.ProofNames.{List, [], ap, arith, inl, inr, length, reverse, sym, ℕ, ◌++◌, ◌<◌, ◌^◌, ◌∙◌, ◌∷◌}
-use Rattle.cap_spec.proofs.ProofNames.{◌+◌, ◌≡◌, ◌≢◌, ◌≤◌, AreDistinct, CostOf, Costs, HasWord, IsFirstFault, IsFirstReason, IsRefused, IsWithin, Leads}
-use Rattle.cap_spec.proofs.ProofNames.{segment_of, Lead, rules}
+use Rattle.cap_spec.proofs.ProofNames.{List, [], ap, arith, inl, inr, length, reverse, sym, ℕ, ◌++◌, ◌<◌, ◌^◌, ◌∙◌}
+use Rattle.cap_spec.proofs.ProofNames.{◌∷◌, ◌+◌, ◌≡◌, ◌≢◌, ◌≤◌, AreDistinct, CostOf, Costs, HasWord, IsFirstFault}
+use Rattle.cap_spec.proofs.ProofNames.{IsRefused, IsWithin, Leads, segment_of, Lead, rules}
 use Rattle.cap_spec.proofs.Verdicts.KeptBefore.{kept_before}
 use Rattle.cap_spec.proofs.Verdicts.OneFault.{distinct_last, fault_tour}
 use Rattle.cap_spec.proofs.Verdicts.OneVerdict.{distinct_cost}
@@ -14,34 +14,22 @@ use Rattle.cap_ptr.specs.Shapes.{IsFollowed, charge_of}
 use Rattle.cap_ptr.specs.declared.shapes.Followed.{Followed}
 use Rattle.cap_vet.specs.ChargeSteps.{SumsBefore}
 use Rattle.cap_vet.specs.ChargeUpTo.{IsChargeUpTo}
-use Rattle.cap_vet.specs.VetNames.{Reason, Step}
+use Rattle.cap_vet.specs.VetNames.{Step}
 use Rattle.cap_vet.proofs.Tours.{in_order-reverse}
 use Rattle.cap_vet.proofs.Verdicts.{CostOf-in_order}
 
 -- the word that leads to some place
 leads_word : (m : List (List ℕ)) (s w k : ℕ) (r : Lead) → Leads m s w k r → (p : ℕ) × HasWord m s w p
-leads_word m s w k r x6 = search rules
+leads_word m s w k r h = search rules
 
 costs_word : (m : List (List ℕ)) (s w cost : ℕ) → Costs m s w cost → (p : ℕ) × HasWord m s w p
-costs_word m s w cost (inl l) = leads_word m s w cost _ l
-costs_word m s w cost (inr (inl (i, l))) = leads_word m s w cost _ l
-costs_word m s w cost (inr (inr (k, t, b, q, tag, f, h, e))) = leads_word m s w k _ f.leads
-
--- where the word limit is passed, a pointer can be followed
-pub past_costs : (m : List (List ℕ)) (words depth before s w level : ℕ) (v : Reason) → IsFirstReason m words depth before s w level v
-    → v ≡ WordLimit → (cost : ℕ) × Costs m s w cost
-past_costs m words depth before s w level v x9 e = search rules
+costs_word m s w cost h = search (rules, leads_word)
 
 -- so the word is there
 pub past_exists : (m : List (List ℕ)) (s w cost : ℕ) → Costs m s w cost → (s < length m) × (w < length (segment_of m s))
 past_exists m s w cost c =
     let h = costs_word m s w cost c in
     (HasWord-segment m s w h.0 h.1, HasWord-inside m s w h.0 h.1)
-
--- paths cost the same in any order
-pub same_cost : (m : List (List ℕ)) (before seen : List (List Step)) (c d : ℕ) → AreDistinct before → before ≡ reverse seen
-    → CostOf m before c → CostOf m seen d → c ≡ d
-same_cost m before seen c d distinct e x y = search (rules, in_order-reverse, CostOf-in_order, distinct_cost)
 
 -- the paths before the first fault are distinct
 pub distinct_before : (before : List (List Step)) (path : List Step) → AreDistinct (before ++ path ∷ []) → AreDistinct before
@@ -50,19 +38,19 @@ distinct_before before path d = (distinct_last before path d).1
 -- the charge of the first fault is that of the paths that a walk has seen before it
 charge_before : (m : List (List ℕ)) (words depth : ℕ) (r : Refusal) (f : IsFirstFault m words depth r) (seen : List (List Step)) (charge : ℕ)
     → f.fault.before ≡ reverse seen → CostOf m seen charge → f.fault.charge ≡ charge
-charge_before m words depth r f seen charge e c = search (rules, same_cost, distinct_before, Rises-distinct, fault_tour)
+charge_before m words depth r f seen charge e c =
+    search (rules, in_order-reverse, CostOf-in_order, distinct_cost, distinct_before, Rises-distinct, fault_tour)
 
 -- what a walk says that stopped at a refusal
 module _ (m : List (List ℕ)) (words depth charge : ℕ) (r : Refusal) where
   pub refused_of : SumsBefore m words depth r charge → IsRefused m words depth r
-  refused_of (inl h) = inl h.0
-  refused_of (inr h) = inr h.0
+  refused_of h = search rules
 
   -- where the word limit is passed, the pointer can be followed
   pub cost_there : SumsBefore m words depth r charge → r.reason ≡ WordLimit → (cost : ℕ) × Costs m r.segment r.word cost
   cost_there (inl h) e = absurd (let no = h.0.lacks.reason in cc)
   cost_there (inr h) e = let at = h.0.fault in
-      past_costs m words depth at.charge r.segment r.word at.numbered.level r.reason at.reason e
+      search rules
 
   -- the charge before it is within the limit
   pub charge_within : SumsBefore m words depth r charge → r.reason ≡ WordLimit → charge ≤ words
@@ -92,10 +80,6 @@ other_reason m words depth r h n charge (r', f, e, cost, c, x) =
 pub accepted_none : (m : List (List ℕ)) (words depth : ℕ) → IsWithin m words depth → (charge : ℕ) → ¬ IsChargeUpTo m words depth charge
 accepted_none m words depth w charge (r, f, e, cost, c, x) = within_not_refused m words depth r w (inr f)
 
--- a pointer has at most two pad words
-few_pads : (m : List (List ℕ)) (s w k : ℕ) (r : Lead) → Leads m s w k r → k ≤ 2
-few_pads m s w k r x6 = search rules
-
 -- following a pointer costs few words
 pub charge_small : (m : List (List ℕ)) (s w : ℕ) (f : Followed) → IsFollowed m s w f → charge_of f < 2 ^ 31
-charge_small m s w f h = search (rules, few_pads)
+charge_small m s w f h = search rules

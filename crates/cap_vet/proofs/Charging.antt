@@ -1,11 +1,11 @@
 -- What a path arrives at, step by step, and what following the pointers on it costs.
 use Rattle.cap_spec.proofs.Paths.Walks.{coming_last}
 use Rattle.cap_spec.proofs.Pointers.Shapes.{structs_levels}
-use Rattle.cap_spec.proofs.ProofNames.{List, None, Option, [], arith, inl, inr, length, length-append, refl, subst, suc}
-use Rattle.cap_spec.proofs.ProofNames.{zero, ℕ, ◌++◌, ◌+◌, ◌-◌, ◌<◌, ◌∷◌, ◌≡◌, ◌≤◌, leb_tells, PathFinds, Finds, rules}
+use Rattle.cap_spec.proofs.ProofNames.{List, None, Option, [], arith, inl, inr, length, length-append, refl, subst, ℕ}
+use Rattle.cap_spec.proofs.ProofNames.{◌++◌, ◌+◌, ◌-◌, ◌<◌, ◌∷◌, ◌≡◌, ◌≤◌, leb_tells, PathFinds, Finds, rules}
 use Rattle.cap_spec.proofs.ProofNames.{element_levels, AreShallow, IsFirstReason, IsComposite, AreOnPath, Charges}
-use Rattle.cap_spec.proofs.ProofNames.{IsFaultOnPath, HasWord, segment_of, Costs, Reaches, ReachesSpot, Spot, StepsTo}
-use Rattle.cap_spec.proofs.ProofNames.{element, word, IsDeepAt, levels_below, common_steps}
+use Rattle.cap_spec.proofs.ProofNames.{IsFaultOnPath, HasWord, segment_of, Costs, Reaches, Spot, StepsTo, element}
+use Rattle.cap_spec.proofs.ProofNames.{word, IsDeepAt, levels_below, common_steps}
 use Rattle.cap_spec.proofs.Verdicts.OnPath.{begins_itself, begins_longer, cost_last, on_element, on_no_node, on_root}
 use Rattle.cap_spec.proofs.Verdicts.OnPath.{on_word, shallow_last}
 use Rattle.cap_vet.specs.VetNames.{Kind, Reason, Refusal, Step, Item, Ptr, Arrives, IsFound, element_of, AddsPointer}
@@ -37,7 +37,7 @@ arrives_root m words depth root consumed f lax has found costs within shallow ad
   pointers = refl;
   levels = omega arith;
   few = omega arith;
-  lax = lax_added m [] [] [] 1 0 0 1 None lax (on_root m root has) (root_reached m root has) refl (λ q i l. absurd i) adds;
+  lax = lax_added m [] [] [] 1 0 0 1 None lax (on_root _ _ has) (root_reached m root has) refl (λ q i l. absurd i) adds;
 }
 
 -- whose fault is the first on each path.
@@ -62,7 +62,7 @@ fault_root m words depth root path v has reason = record {
 pub next_comes : (m : List (List ℕ)) (words depth : ℕ) (path : List Step) (a : Spot) (at : Arrival) (step : Step)
     (s w : ℕ) → Arrives m words depth path a at → StepsTo m a step (word s w)
     → Reaches m (path ++ step ∷ []) (at.level + 1) s w
-next_comes m words depth path a at step s w h g = (coming_last m path step (at.level + 1) (word s w)).1 (a, at.level, h.comes, g, refl)
+next_comes m words depth path a at step s w h g = (coming_last _ _ _ _ _).1 (a, at.level, h.comes, g, refl)
 
 -- What a path within the depth limit comes to takes no level past it.
 shallow_here : (m : List (List ℕ)) (words depth : ℕ) (path : List Step) (s w k t b q tag : ℕ) (at : Arrival)
@@ -86,25 +86,21 @@ low_word m words depth path (word s' w') at (Item i) s w h (inr (k, t, b, q, tag
 
 -- a list with elements takes a level for them
 some_elements : (i n : ℕ) → i < n → element_levels n ≡ 1
-some_elements i zero h = absurd (omega (arith, h))
-some_elements i (suc n) h = refl
+some_elements i n h = search rules
 
 -- and its elements are within it.
 low_element : (m : List (List ℕ)) (words depth : ℕ) (path : List Step) (a : Spot) (at : Arrival) (step : Step) (t b ds ps : ℕ)
     → Arrives m words depth path a at → StepsTo m a step (element t b ds ps) → at.level + 1 ≤ depth
-low_element m words depth path (element t' b' d p) at (Ptr i) t b ds ps h (lt, e) = absurd (cc e)
-low_element m words depth path (element t' b' d p) at (Item i) t b ds ps h g = absurd g
-low_element m words depth path (word s' w') at (Ptr i) t b ds ps h (k, t', b', q, tag, d, p, f, lt, e) = absurd (cc e)
 low_element m words depth path (word s' w') at (Item i) t b ds ps h (inl (k, t', b', q, tag, n, f, lt, e)) = absurd (cc e)
 low_element m words depth path (word s' w') at (Item i) t b ds ps h (inr (k, t', b', q, tag, n, d, p, f, lt, e)) =
     let l = shallow_here m words depth path s' w' k t' b' q tag at h f.finds f.tagged in
     omega (arith, l, structs_levels f.shape, some_elements i n lt)
+low_element m words depth path a at step t b ds ps h g = search rules
 
 -- A path comes to no level past the one after the limit.
 pub arrives_low : (m : List (List ℕ)) (words depth : ℕ) (path : List Step) (a : Spot) (at : Arrival)
     → Arrives m words depth path a at → (at.level ≤ depth + 1) × (at.pointers ≤ depth + 1)
-arrives_low m words depth path (word s w) at h = (h.levels, omega (arith, h.levels, h.few))
-arrives_low m words depth path (element t b ds ps) at h = (omega (arith, h.levels), omega (arith, h.levels, h.few))
+arrives_low m words depth path a at h = search rules
 
 -- One step on at a pointer word,
 pub arrives_word : (m : List (List ℕ)) {words depth : ℕ} (path : List Step) (a : Spot) (at : Arrival) (step : Step)
@@ -160,8 +156,7 @@ pub arrives_element : (m : List (List ℕ)) (words depth : ℕ) (path : List Ste
     → t < length m → b + ds + ps ≤ length (segment_of m t) → Arrives m words depth (path ++ step ∷ []) (element t b ds ps)
     record at { found = element_of t b ds ps; level = at.level + 1; lax = lax }
 arrives_element m words depth path a at step t b ds ps lax e h g exists inside =
-    let c : ReachesSpot m (path ++ step ∷ []) (at.level + 1) (element t b ds ps) =
-    (coming_last m path step (at.level + 1) (element t b ds ps)).1 (a, at.level, h.comes, g, refl) in
+    let c = (coming_last m path step (at.level + 1) (element t b ds ps)).1 (a, at.level, h.comes, g, refl) in
     record {
       comes = c;
       found = search rules;

@@ -2,8 +2,8 @@
 use Rattle.cap_spec.proofs.Lemmas.{one_found, pointers_found, struct_found}
 use Rattle.cap_spec.proofs.Paths.Walks.{comes_beyond, walk_on}
 use Rattle.cap_spec.proofs.ProofNames.{List, [], append_assoc, arith, inl, inr, refl, subst, suc, sym, zero, ℕ, ◌++◌}
-use Rattle.cap_spec.proofs.ProofNames.{◌+◌, ◌<◌, ◌∷◌, ◌≡◌, Finds, PathLeads, Reaches, Spot, StepsTo, number_of, word, code}
-use Rattle.cap_spec.proofs.ProofNames.{data_size, kind, list_size, pointer_size, rules}
+use Rattle.cap_spec.proofs.ProofNames.{◌+◌, ◌<◌, ◌∷◌, ◌≡◌, Finds, PathLeads, Reaches, Spot, StepsTo, number_of, word}
+use Rattle.cap_spec.proofs.ProofNames.{code, data_size, kind, list_size, pointer_size, rules}
 use Rattle.cap_vet.specs.VetNames.{Step, Item, Ptr, AreReached, EachApart, GoOnFrom, IsUnder, row}
 use Rattle.cap_vet.proofs.Apart.{Apart-steps}
 use Rattle.cap_vet.proofs.Trails.{AreChildren}
@@ -42,10 +42,9 @@ GoOnFrom-row base level step t b i (suc n) = ((step i, [], refl), GoOnFrom-row b
 -- A row of steps whose numbers rise is apart.
 pub EachApart-row : (base : List Step) (level : ℕ) (step : ℕ → Step) → ((i : ℕ) → number_of (step i) ≡ i) → (t b i n : ℕ)
     → EachApart (row base level step t b i n)
-EachApart-row base level step e t b i zero = tt
-EachApart-row base level step e t b i (suc zero) = tt
 EachApart-row base level step e t b i (suc (suc n)) =
     (Apart-steps base (step i) (step (i + 1)) [] [] (omega (arith, e i, e (i + 1))), EachApart-row base level step e t (b + 1) (i + 1) (suc n))
+EachApart-row base level step e t b i h = search rules
 
 -- each step of a row reaches its word
 pub AreReached-row : (m : List (List ℕ)) (base : List Step) (level : ℕ) (step : ℕ → Step) (t b i n : ℕ)
@@ -57,8 +56,7 @@ AreReached-row m base level step t b i (suc n) h = (
   AreReached-row m base level step t (b + 1) (i + 1) n (λ j k.
       let e : i + suc j ≡ (i + 1) + j = omega arith in
       let f : b + suc j ≡ (b + 1) + j = omega arith in
-      subst (λ u. Reaches m (base ++ step u ∷ []) level t ((b + 1) + j)) e
-      (subst (λ u. Reaches m (base ++ step (i + suc j) ∷ []) level t u) f (h (suc j) (omega arith)))),
+      rw (← e) (subst (λ u. Reaches m (base ++ step (i + suc j) ∷ []) level t u) f (h (suc j) (omega arith)))),
 )
 
 -- one step that leads to a pointer word
@@ -93,8 +91,8 @@ struct_children m base level s w k t b q h f e = record {
     under (Ptr i) v mid (k', t', b', q', tag, ds, ps, f', l, spot) =
         let o = one_found (struct_found m s w k t b q f e) f' in
         let same : pointer_size q ≡ ps = cc o.kind in
-        subst (λ u. IsUnder (base ++ Ptr u ∷ v) (row base (level + 1) Ptr t (b + data_size q) 0 (pointer_size q))) (omega arith)
-        (IsUnder-row base (level + 1) Ptr t (b + data_size q) 0 (pointer_size q) i v (omega (arith, l, same)))
+        subst (λ u. IsUnder (base ++ Ptr u ∷ v) (row base (level + 1) Ptr t (b + data_size q) 0 (pointer_size q)))
+        (omega arith) (IsUnder-row base _ Ptr t _ 0 _ i v (omega (arith, l, same)))
     under (Item i) v mid (inl (k', t', b', q', tag, n, f', l, spot)) =
         let o = one_found (struct_found m s w k t b q f e) f' in absurd (cc o.kind)
     under (Item i) v mid (inr (k', t', b', q', tag, n, ds, ps, f', l, spot)) =
@@ -117,8 +115,7 @@ pointers_children m base level s w k t b q h f e c = record {
     under (Ptr i) v mid (k', t', b', q', tag, ds, ps, f', l, spot) =
         let o = one_found (pointers_found m s w k t b q f e c) f' in absurd (cc o.kind)
     under (Item i) v mid (inl (k', t', b', q', tag, n, f', l, spot)) =
-        let o = one_found (pointers_found m s w k t b q f e c) f' in
-        let same : list_size q ≡ n = cc o.kind in
+        let same : list_size q ≡ n = cc (one_found (pointers_found m s w k t b q f e c) f').kind in
         subst (λ u. IsUnder (base ++ Item u ∷ v) (row base (level + 1) Item t b 0 (list_size q))) (omega arith)
         (IsUnder-row base (level + 1) Item t b 0 (list_size q) i v (omega (arith, l, same)))
     under (Item i) v mid (inr (k', t', b', q', tag, n, ds, ps, f', l, spot)) =

@@ -1,6 +1,6 @@
 -- How a count goes on when the first word ahead is looked at.
-use Rattle.cap_spec.proofs.ProofNames.{List, arith, max, refl, ℕ, ◌++◌, ◌+◌, ◌∷◌, ◌≡◌, Denotes, Tree, cap_count, rules}
-use Rattle.cap_spec.proofs.ProofNames.{pointer_count}
+use Rattle.cap_spec.proofs.ProofNames.{List, arith, max, refl, ℕ, ◌++◌, ◌+◌, ◌∷◌, ◌≡◌, Denotes, Tree, cap_count}
+use Rattle.cap_spec.proofs.ProofNames.{rules, pointer_count}
 use Rattle.cap_vet.specs.Owing.{Completes, Counted, IsCount, Owe}
 use Rattle.cap_vet.specs.Trails.{Ahead}
 use Rattle.cap_vet.proofs.Owing.{append-Owe}

@@ -4,8 +4,8 @@ use Rattle.cap_spec.proofs.ProofNames.{IsTrue, List, Option, [], subst, ℕ, ◌
 use Rattle.cap_spec.proofs.ProofNames.{length, rules}
 use Rattle.cap_spec.proofs.Strict.Faults.{one_strict_fault, strict_not_fault}
 use Rattle.cap_vet.specs.Demands.{IsMet}
-use Rattle.cap_vet.specs.VetNames.{StrictRefusal, Pointer, IsDemandFault, Meets, words_under, Demands}
-use Rattle.cap_vet.specs.VetNames.{HasNoFaultBy, HasWalked, IsAccepted, IsFaultBy, KnowsLax, Ahead, LaxPointer, Report, Step}
+use Rattle.cap_vet.specs.VetNames.{StrictRefusal, Pointer, IsDemandFault, Meets, words_under, Demands, HasNoFaultBy}
+use Rattle.cap_vet.specs.VetNames.{HasWalked, IsAccepted, IsFaultBy, KnowsLax, Ahead, LaxPointer, Report, Step}
 use Rattle.cap_vet.proofs.Laxness.{fault_at_end, strict_at_end, within_of}
 use Rattle.cap_vet.proofs.Verdicts.{accepted_at_end}
 
@@ -19,7 +19,7 @@ fault_of demands m words depth fault h = search rules
 pub one_fault_under : (demands : Demands) (m : List (List ℕ)) (words depth : ℕ) (a b : StrictRefusal)
     → IsDemandFault demands m words depth a → IsDemandFault demands m words depth b → a ≡ b
 one_fault_under demands m words depth a b h k =
-    one_strict_fault m (words_under demands m words) depth a b (fault_of demands m words depth a h) (fault_of demands m words depth b k)
+    one_strict_fault _ _ _ _ _ (fault_of demands m words depth a h) (fault_of demands m words depth b k)
 
 -- and none of a message that meets the demands
 pub no_fault_under : (demands : Demands) (m : List (List ℕ)) (words depth : ℕ) (fault : StrictRefusal)
@@ -39,16 +39,16 @@ module _ (demands : Demands) (m : List (List ℕ)) (words depth limit levels : �
   -- So there is one fault,
   pub one_demand_fault : (a b : StrictRefusal) → IsStrictFault m limit levels a
       → IsDemandFault demands m words depth b → a ≡ b
-  one_demand_fault a b h x4 = search (rules, one_strict_fault, fault_of)
+  one_demand_fault a b h k = search (rules, one_strict_fault, fault_of)
 
   -- each reason not to be strict is a fault, where a strict message is demanded,
   pub fault_demanded : (fault : StrictRefusal) → IsTrue demands.strict → IsStrictFault m limit levels fault
       → IsDemandFault demands m words depth fault
-  fault_demanded fault x2 h = search rules
+  fault_demanded fault k h = search rules
 
   -- and none of a strict message.
   pub strict_meets : (fault : StrictRefusal) → IsStrict m limit levels → IsDemandFault demands m words depth fault → ⊥
-  strict_meets fault h x3 = search (rules, strict_not_fault, fault_of)
+  strict_meets fault h k = search (rules, strict_not_fault, fault_of)
 
   -- At its end a walk has met them,
   pub met_at_end : {report : Report} (seen : List (List Step)) (ahead : List Ahead) (first : Option LaxPointer)

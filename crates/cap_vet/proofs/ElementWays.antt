@@ -1,10 +1,10 @@
 -- Paths that go on at the elements of a list of structs.
-use Rattle.cap_spec.proofs.ProofNames.{List, Ok, Option, Some, [], append_assoc, arith, length, mul-le-mul_right, refl}
-use Rattle.cap_spec.proofs.ProofNames.{subst, sym, ℕ, ◌*◌, ◌++◌, ◌+◌, ◌<◌, ◌∷◌, ◌≡◌, ◌≤◌, segment_of, Spot, StepsTo}
-use Rattle.cap_spec.proofs.ProofNames.{element, word, IsDeepAt, rules}
+use Rattle.cap_spec.proofs.ProofNames.{List, Ok, Some, [], append_assoc, arith, length, mul-le-mul_right, refl, subst}
+use Rattle.cap_spec.proofs.ProofNames.{ℕ, ◌*◌, ◌++◌, ◌+◌, ◌<◌, ◌∷◌, ◌≡◌, ◌≤◌, segment_of, Spot, StepsTo, element}
+use Rattle.cap_spec.proofs.ProofNames.{word, IsDeepAt, rules}
 use Rattle.cap_vet.specs.PathWays.{LeadsToElements}
 use Rattle.cap_vet.specs.VetNames.{Step, Item, Ptr, Arrives, words_under, element_of, FindsNear, HasNoFaultBy}
-use Rattle.cap_vet.specs.VetNames.{GivesAfter, IsWay, Demands, Arrival, Found, PathStart, View, Way, To, LaxPointer}
+use Rattle.cap_vet.specs.VetNames.{GivesAfter, IsWay, Demands, Arrival, Found, PathStart, View, Way, To}
 use Rattle.cap_vet.specs.declared.nodes.struct_elements.StructElements.{StructElements}
 use Rattle.cap_vet.proofs.Charging.{arrives_element, arrives_word}
 use Rattle.cap_vet.proofs.PathLax.{adds_strict}
@@ -37,8 +37,7 @@ module _ {M : Type 0} {g : segments.Ghosts M} (m : List (List ℕ)) (start : Pat
       subst (λ (x : Way). IsWay m start.words start.depth first x) are.way way in
       let goes : StepsTo m there.0 (Item i) (element_spot e i) =
       rw (are.segment, are.first) (element_goes m there.0 e.data_words e.pointers there.1.found are.kind lt) in
-      arrives_element m start.words start.depth first there.0 are.at (Item i) e.segment
-      (e.first + i * (e.data_words + e.pointers)) e.data_words e.pointers are.at.lax refl there.1 goes exists inside
+      search (rules, arrives_element, there)
 
   -- A path on that arrives where the view is, without a lax pointer more, gives the view.
   gives : (rest : List Step) (a : Spot) (at : Arrival) → at.lax ≡ are.at.lax → v.found ≡ at.found
@@ -50,8 +49,7 @@ module _ {M : Type 0} {g : segments.Ghosts M} (m : List (List ℕ)) (start : Pat
       let way : IsWay m (words_under demands m words) depth path (To at) =
       way_as m path (To at) is.limit is.deepest (a, leads first is.way) in
       let none : HasNoFaultBy demands (length m) at.lax =
-      subst (λ (o : Option LaxPointer). HasNoFaultBy demands (length m) o) (sym lax)
-      (subst (λ (d : Demands). HasNoFaultBy d (length m) are.at.lax) is.under are.strict) in
+      rw lax (subst (λ (d : Demands). HasNoFaultBy d (length m) are.at.lax) is.under are.strict) in
       something_given demands m words depth path at v found way none
 
   pub element_given : v.found ≡ element_of e.segment (e.first + i * (e.data_words + e.pointers)) e.data_words e.pointers
@@ -72,17 +70,15 @@ module _ {M : Type 0} {g : segments.Ghosts M} (m : List (List ℕ)) (start : Pat
       let level : e.level ≡ at.level + 1 = omega (arith, are.level) in
       let shallow : IsDeepAt m start.depth e.segment w (at.level + 1) → ⊥ =
       subst (λ x. IsDeepAt m x e.segment w (at.level + 1) → ⊥) are.depth (subst (λ x. IsDeepAt m e.depth e.segment w x → ⊥) level near.shallow) in
-      subst (λ (p : List Step). Arrives m start.words start.depth p (word e.segment w) (pointer_arrival at v.found cost))
-      (append_assoc first (Item i ∷ []) (Ptr j ∷ []))
-      (arrives_word m (first ++ Item i ∷ []) (element_spot e i) at (Ptr j) at.lax a goes
-      near.found near.costs (omega (arith, near.within, are.left)) shallow (adds_strict m e.segment w (at.pointers + 1) at.lax near.strict))
+      rw (← append_assoc first (Item i ∷ []) (Ptr j ∷ [])) (arrives_word m (first ++ Item i ∷ []) (element_spot e i)
+      at (Ptr j) at.lax a goes near.found near.costs (omega (arith, near.within, are.left)) shallow
+      (adds_strict m e.segment w (at.pointers + 1) at.lax near.strict))
 
   pub pointer_given : (j w cost : ℕ) → j < e.pointers → w ≡ e.first + i * (e.data_words + e.pointers) + e.data_words + j
       → FindsNear m e.left e.depth e.segment w e.level v.found cost
       → GivesAfter m start (Item i) (Ptr j ∷ []) (Ok (Some v))
   pointer_given j w cost few is near =
-      gives (Ptr j ∷ []) (word e.segment w) (pointer_arrival (element_arrival are.at e i) v.found cost) refl refl
-      (λ first way. pointer_arrives j w cost few is near first way)
+      gives _ _ _ refl refl (λ first way. pointer_arrives j w cost few is near first way)
 
 -- Each element lies among the words of all of them.
 pub element_within : (first n d p i last : ℕ) → first + n * (d + p) ≤ last → i < n → first + i * (d + p) + d + p ≤ last

@@ -1,10 +1,10 @@
 -- The children of a list of structs on a trail: the pointers of its elements, element by element.
 use Rattle.cap_spec.proofs.Lemmas.{one_found, structs_found}
 use Rattle.cap_spec.proofs.ProofNames.{List, [], append_assoc, arith, inl, inr, refl, subst, suc, zero, ℕ, ◌*◌, ◌++◌}
-use Rattle.cap_spec.proofs.ProofNames.{◌+◌, ◌<◌, ◌∙◌, ◌∷◌, ◌≡◌, Finds, element_levels, HasWord, PathLeads, Reaches, Spot}
+use Rattle.cap_spec.proofs.ProofNames.{◌+◌, ◌<◌, ◌∷◌, ◌≡◌, Finds, element_levels, HasWord, PathLeads, Reaches, Spot}
 use Rattle.cap_spec.proofs.ProofNames.{StepsTo, element, word, code, data_size, kind, middle, pointer_size, rules}
-use Rattle.cap_vet.specs.VetNames.{Step, Item, Ptr, Ahead, Apart, AreReached, EachApart, GoOnFrom, IsUnder, element_rows}
-use Rattle.cap_vet.specs.VetNames.{row}
+use Rattle.cap_vet.specs.VetNames.{Step, Item, Ptr, Ahead, Apart, AreReached, EachApart, GoOnFrom, IsUnder}
+use Rattle.cap_vet.specs.VetNames.{element_rows, row}
 use Rattle.cap_vet.proofs.Apart.{Apart-left, Apart-right, Apart-steps}
 use Rattle.cap_vet.proofs.Children.{AreReached-row, EachApart-row, GoOnFrom-row, IsUnder-row, beyond, reaches_on}
 use Rattle.cap_vet.proofs.Trails.{AreChildren, AreReached-append, IsUnder-left, IsUnder-right}
@@ -25,7 +25,7 @@ go_on-append base (a ∷ xs) ys h k = (h.0, go_on-append base xs ys h.1 k)
 -- what goes on from an element goes on from its list
 go_on-further : (base : List Step) (y : Step) (xs : List Ahead) → GoOnFrom (base ++ y ∷ []) xs → GoOnFrom base xs
 go_on-further base y [] h = tt
-go_on-further base y (a ∷ xs) h = ((y, h.0.0 ∷ h.0.1, h.0.2 ∙ append_assoc base (y ∷ []) (h.0.0 ∷ h.0.1)), go_on-further base y xs h.1)
+go_on-further base y (a ∷ xs) h = search (rules, append_assoc, go_on-further base y xs h.1)
 
 -- pointer j of element i + e
 IsUnder-elements : (base : List Step) (level t b ds ps i n e j : ℕ) (v : List Step) → e < n → j < ps
@@ -50,13 +50,10 @@ head-elements base level t b ds (suc ps) i j (suc n) h = Apart-right (base ++ It
 apart-elements : (base : List Step) (level t b ds ps i n : ℕ) → EachApart (element_rows base level t b ds ps i n)
 apart-elements base level t b ds ps i zero = tt
 apart-elements base level t b ds ps i (suc n) =
-    append-apart (base ++ Item i ∷ []) (row (base ++ Item i ∷ []) level Ptr t (b + ds) 0 ps) (element_rows base level t (b + ds + ps) ds ps (i + 1) n)
-    (EachApart-row (base ++ Item i ∷ []) level Ptr (λ x. refl) t (b + ds) 0 ps) (GoOnFrom-row (base ++ Item i ∷ []) level Ptr t (b + ds) 0 ps)
-    (head-elements base level t (b + ds + ps) ds ps i (i + 1) n (omega arith)) (apart-elements base level t (b + ds + ps) ds ps (i + 1) n)
-
--- an equal path reaches an equal word
-reached-at : (m : List (List ℕ)) (level t : ℕ) (p p' : List Step) (w w' : ℕ) → p ≡ p' → w ≡ w' → Reaches m p level t w → Reaches m p' level t w'
-reached-at m level t p p' w w' e f h = subst (λ u. Reaches m u level t w') e (subst (λ u. Reaches m p level t u) f h)
+    append-apart _ _ _ (EachApart-row (base ++ Item i ∷ []) level Ptr (λ x. refl) t (b + ds) 0 ps)
+    (GoOnFrom-row (base ++ Item i ∷ []) level Ptr t (b + ds) 0 ps)
+    (head-elements base level t (b + ds + ps) ds ps i (i + 1) n (omega arith))
+    (apart-elements base level t (b + ds + ps) ds ps (i + 1) n)
 
 first_pointer : (base : List Step) (i j : ℕ) → base ++ Item (i + 0) ∷ Ptr j ∷ [] ≡ (base ++ Item i ∷ []) ++ Ptr (0 + j) ∷ []
 first_pointer base i j = search (rules, append_assoc)
@@ -72,12 +69,12 @@ reached-elements m base level t b ds ps i zero h = tt
 reached-elements m base level t b ds ps i (suc n) h =
     AreReached-append m (row (base ++ Item i ∷ []) level Ptr t (b + ds) 0 ps) (element_rows base level t (b + ds + ps) ds ps (i + 1) n)
     (AreReached-row m (base ++ Item i ∷ []) level Ptr t (b + ds) 0 ps (λ j l.
-    reached-at m level t (base ++ Item (i + 0) ∷ Ptr j ∷ []) ((base ++ Item i ∷ []) ++ Ptr (0 + j) ∷ [])
-    (b + 0 * (ds + ps) + ds + j) (b + ds + j) (first_pointer base i j) (omega arith) (h 0 j (omega arith) l)))
-    (reached-elements m base level t (b + ds + ps) ds ps (i + 1) n (λ e j k l.
-    reached-at m level t (base ++ Item (i + suc e) ∷ Ptr j ∷ []) (base ++ Item ((i + 1) + e) ∷ Ptr j ∷ [])
-    (b + suc e * (ds + ps) + ds + j) (b + ds + ps + e * (ds + ps) + ds + j) (later_pointer base i e j) (omega arith)
-    (h (suc e) j (omega arith) l)))
+    (subst (λ u. Reaches m u level t (b + ds + j)) (first_pointer base i j)
+    (subst (λ u. Reaches m (base ++ Item (i + 0) ∷ Ptr j ∷ []) level t u) (omega arith)
+    (h 0 j (omega arith) l))))) (reached-elements m base level t (b + ds + ps) ds ps (i + 1) n (λ e j k l.
+    (subst (λ u. Reaches m u level t (b + ds + ps + e * (ds + ps) + ds + j)) (later_pointer base i e j)
+    (subst (λ u. Reaches m (base ++ Item (i + suc e) ∷ Ptr j ∷ []) level t u) (omega arith)
+    (h (suc e) j (omega arith) l)))))
 
 -- two steps, to an element and to a pointer of it
 two_steps : (m : List (List ℕ)) (base : List Step) (level s w k t b q tag e j : ℕ) → Reaches m base level s w
@@ -90,10 +87,6 @@ two_steps m base level s w k t b q tag e j h f is_list is_structs has l k' =
     let last : Spot = word t (b + 1 + e * (data_size tag + pointer_size tag) + data_size tag + j) in
     reaches_on m base (Item e) (Ptr j ∷ []) level (element_levels 1 + 1) s w t (b + 1 + e * (data_size tag + pointer_size tag) + data_size tag + j) h
     (spot, 1, inr (k, t, b, q, tag, middle tag, data_size tag, pointer_size tag, found, l, refl), (last, 0, (k', refl), (refl, refl), refl), refl)
-
--- a pointer word is no element
-word_no_element : (s w t b ds ps : ℕ) → word s w ≡ element t b ds ps → ⊥
-word_no_element s w t b ds ps e = cc
 
 -- the children of a list of structs
 pub structs_children : (m : List (List ℕ)) (base : List Step) (level s w k t b q tag : ℕ) → Reaches m base level s w
@@ -117,7 +110,7 @@ structs_children m base level s w k t b q tag h f is_list is_structs has = recor
     under (Item i) v mid n s' w' (inl (k', t', b', q', tag', size, f', l, spot)) walks =
         let o = one_found (structs_found m s w k t b q f tag is_list is_structs has) f' in absurd (cc o.kind)
     under (Item i) [] mid n s' w' (inr (k', t', b', q', tag', size, ds, ps, f', l, spot)) walks =
-        absurd (word_no_element s' w' t' (b' + 1 + i * (ds + ps)) ds ps (walks.1 ∙ spot))
+        absurd (cc)
     under (Item i) (Item j ∷ v) mid n s' w' (inr (k', t', b', q', tag', size, ds, ps, f', l, spot)) walks =
         let here = subst (λ u. PathLeads m u (Item j ∷ v) n (word s' w')) spot walks in absurd here.2
     under (Item i) (Ptr j ∷ v) mid n s' w' (inr (k', t', b', q', tag', size, ds, ps, f', l, spot)) walks =

@@ -1,14 +1,15 @@
 -- A message has one fault for which it isn't exclusive over capacity, or none.
 use Rattle.cap_spec.proofs.Lemmas.{none_of_disjoint, one_overlap, one_refusal}
-use Rattle.cap_spec.proofs.ProofNames.{List, ap, ap₂, arith, inl, inr, refl, sym, ℕ, ◌∙◌, ◌≡◌, ◌≤◌, ◌⊎◌, IsDisjoint, IsFirstOverlap}
-use Rattle.cap_spec.proofs.ProofNames.{rules}
+use Rattle.cap_spec.proofs.ProofNames.{List, ap, ap₂, arith, inl, refl, sym, ℕ, ◌∙◌, ◌≡◌, ◌≤◌, ◌⊎◌, IsDisjoint}
+use Rattle.cap_spec.proofs.ProofNames.{IsFirstOverlap, rules}
 use Rattle.cap_vet.specs.Exclusives.{IsExclusiveRefusal}
-use Rattle.cap_vet.specs.VetNames.{Demands, IsDemandFault, IsExclusiveFault, IsAccepted, Meets, marks_of, BufferTooSmall, Overlap, Report, StrictRefusal}
+use Rattle.cap_vet.specs.VetNames.{Demands, IsExclusiveFault, IsAccepted, Meets, marks_of, BufferTooSmall, Overlap}
+use Rattle.cap_vet.specs.VetNames.{Report}
 use Rattle.cap_vet.specs.declared.exclusiveness.exclusive_buffer.ExclusiveFault.{ExclusiveFault}
 use Rattle.cap_vet.specs.declared.exclusiveness.exclusive_buffer.ExclusiveFault.TheVariants.{Refused}
 use Rattle.cap_vet.specs.declared.exclusiveness.exclusive_vetting.ExclusiveRefusal.{ExclusiveRefusal}
 use Rattle.cap_vet.specs.declared.exclusiveness.exclusive_vetting.ExclusiveRefusal.TheVariants as refusal
-use Rattle.cap_vet.proofs.Demanding.{no_fault_under, one_fault_under}
+use Rattle.cap_vet.proofs.Demanding.{no_fault_under}
 use Rattle.cap_vet.proofs.OneReport.{not_both, one_report}
 
 -- there is one fault,
@@ -19,7 +20,7 @@ one_exclusive_fault m words depth capacity (Refused r) (BufferTooSmall n b) h k 
 one_exclusive_fault m words depth capacity (Refused r) (Overlap s w n) h k = absurd (not_both m words depth k.0 r k.1 h)
 one_exclusive_fault m words depth capacity (BufferTooSmall n a) (Refused q) h k = absurd (not_both m words depth a q h.0 k)
 one_exclusive_fault m words depth capacity (BufferTooSmall n a) (BufferTooSmall n' b) h k = ap₂ BufferTooSmall (h.2 ∙ sym k.2) (one_report m words depth a b h.0 k.0)
-one_exclusive_fault m words depth capacity (BufferTooSmall n a) (Overlap s w n') h k = absurd (omega (arith, h.1, h.2, k.2))
+one_exclusive_fault m words depth capacity (BufferTooSmall n a) (Overlap s w n') h k = absurd (search rules)
 one_exclusive_fault m words depth capacity (Overlap s w n) (Refused q) h k = absurd (not_both m words depth h.0 q h.1 k)
 one_exclusive_fault m words depth capacity (Overlap s w n) (BufferTooSmall n' b) h k = absurd (omega (arith, h.2, k.1, k.2))
 one_exclusive_fault m words depth capacity (Overlap s w n) (Overlap s' w' n') h k = (let same = one_overlap m s w n s' w' n' h.3 k.3 in cc)
@@ -34,20 +35,14 @@ no_exclusive_fault m words report (Overlap s w n) a d l h = none_of_disjoint m d
 
 -- Under demands a message that isn't accepted has that one fault,
 module _ (demands : Demands) (m : List (List ℕ)) (words depth : ℕ) where
-  pub only_refused : (x : ExclusiveRefusal) (r : StrictRefusal) → IsExclusiveRefusal demands m words depth x
-      → IsDemandFault demands m words depth r → x ≡ refusal.Refused r
-  only_refused x r h x4 = search (rules, one_fault_under, no_fault_under)
-
   -- one without an overlap has none but out of memory,
   pub only_memory : (x : ExclusiveRefusal) → IsExclusiveRefusal demands m words depth x → Meets demands m words depth
       → IsDisjoint m → x ≡ refusal.Memory
-  only_memory (refusal.Refused q) h met d = absurd (no_fault_under demands m words depth q met h)
-  only_memory (refusal.Overlap s w n) h met d = absurd (none_of_disjoint m d h.1.path h.1.first.holds)
   only_memory refusal.Memory h met d = refl
+  only_memory x h met d = search (rules, no_fault_under, none_of_disjoint)
 
   -- and one with an overlap has that or out of memory.
   pub only_overlap : (x : ExclusiveRefusal) (s w n : ℕ) → IsExclusiveRefusal demands m words depth x
       → Meets demands m words depth → IsFirstOverlap m s w n → (x ≡ refusal.Overlap s w n) ⊎ (x ≡ refusal.Memory)
-  only_overlap (refusal.Refused q) s w n h met f = absurd (no_fault_under demands m words depth q met h)
   only_overlap (refusal.Overlap s' w' n') s w n h met f = (let same = one_overlap m s' w' n' s w n h.1 f in inl (cc))
-  only_overlap refusal.Memory s w n h met f = inr refl
+  only_overlap x s w n h met f = search (rules, no_fault_under)

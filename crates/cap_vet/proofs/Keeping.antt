@@ -1,7 +1,8 @@
 -- What an accepted message keeps, of which only that it is so is kept, gives its tree.
 use Rattle.cap_spec.proofs.Lemmas.{first_cap, one_first_cap, one_tree}
-use Rattle.cap_spec.proofs.ProofNames.{List, None, Option, Some, ap, subst, sym, true, ℕ, ◌+◌, ◌∙◌, ◌≡◌, ◌≤◌, ∥∥₁_elim}
-use Rattle.cap_spec.proofs.ProofNames.{∥∥₁_map, props, Denotes, IsFirstCap, Tree, cap_count, has_cap, pointer_count}
+use Rattle.cap_spec.proofs.ProofNames.{List, None, Option, Some, ap, subst, sym, true, ℕ, ◌+◌, ◌∙◌, ◌≡◌, ◌≤◌}
+use Rattle.cap_spec.proofs.ProofNames.{∥∥₁_elim, ∥∥₁_map, props, Denotes, IsFirstCap, Tree, cap_count, has_cap}
+use Rattle.cap_spec.proofs.ProofNames.{pointer_count, rules}
 use Rattle.cap_spec.proofs.Trees.OneTree.{Same}
 use Rattle.cap_spec.proofs.Verdicts.Deciding.{TreeWithin, tree_within}
 use Rattle.cap_vet.specs.VetNames.{IsFirstCapOf, IsReport, IsVetted, Report}
@@ -9,8 +10,7 @@ use Rattle.cap_vet.specs.VetNames.{IsFirstCapOf, IsReport, IsVetted, Report}
 -- the first capability of a message that denotes a tree
 first_cap_kept : (m : List (List ℕ)) (t : Tree) (c d : ℕ) → Denotes m 0 0 t c d → (first : Option (ℕ × ℕ)) → ∥ IsFirstCapOf m first ∥₁ → IsFirstCapOf m first
 first_cap_kept m t c d h None p =
-    let one : IsProp ⊥ = hlevel props in
-    λ path reaches. ∥∥₁_elim p one (λ g. g path reaches)
+    λ path reaches. ∥∥₁_elim p (hlevel props) (λ g. g path reaches)
 first_cap_kept m t c d h (Some place) p =
     let one_bool : IsProp (has_cap t ≡ true) = hlevel props in
     let has : has_cap t ≡ true = ∥∥₁_elim p one_bool (λ g. (first_cap m t c d h).1 (place.0, place.1, g)) in
@@ -22,7 +22,7 @@ first_cap_kept m t c d h (Some place) p =
 -- A message that may be accepted is accepted.
 pub vetted_kept : (m : List (List ℕ)) (r : Report) → ∥ IsVetted m r ∥₁ → IsVetted m r
 vetted_kept m r h =
-    let x : TreeWithin m 256 0 0 = tree_within m 256 0 0 (∥∥₁_map h (λ (t, a). (t, r.charge, r.depth, a.within.denotes, a.within.few_levels))) in
+    let x : TreeWithin m 256 0 0 = tree_within m 256 0 0 (∥∥₁_map h (search rules)) in
     let t : Tree = x.0 in
     let same : (u : Tree) → IsReport m 268435456 256 r u → Same t u x.1 r.charge x.2 r.depth = λ u a. one_tree m 0 0 t u
     x.1 x.2 r.charge r.depth x.3 a.within.denotes in

@@ -1,15 +1,14 @@
 -- What a walk knows of lax pointers, and which messages are strict.
 use Rattle.std.proofs.Common.{is_some}
 use Rattle.cap_spec.specs.declared.Lax.TheVariants.{CapabilityPad, NullPad}
-use Rattle.cap_spec.proofs.Lemmas.{Before-irreflexive, strict_wider, first_by_tour}
-use Rattle.cap_spec.proofs.ProofNames.{List, None, Option, Some, [], arith, false, inl, inr, length, subst, ℕ, ◌<◌, ◌∷◌}
-use Rattle.cap_spec.proofs.ProofNames.{◌≡◌, ◌≢◌, ◌≤◌, IsWithin, HasWord, IsMessage, Before, Costs, far_segment, kind, pad}
-use Rattle.cap_spec.proofs.ProofNames.{two, IsFirstLax, IsLax, IsLaxAt, IsStrict, IsStrictFault, rules}
+use Rattle.cap_spec.proofs.Lemmas.{Before-irreflexive, first_by_tour}
+use Rattle.cap_spec.proofs.ProofNames.{List, None, Option, [], arith, false, inl, inr, length, subst, ℕ, ◌<◌, ◌∷◌}
+use Rattle.cap_spec.proofs.ProofNames.{◌≡◌, ◌≢◌, ◌≤◌, IsWithin, HasWord, IsMessage, Before, Costs, far_segment, kind}
+use Rattle.cap_spec.proofs.ProofNames.{pad, two, IsFirstLax, IsLax, IsLaxAt, IsStrict, IsStrictFault, rules}
 use Rattle.cap_spec.proofs.Strict.Faults.{strict_kept}
 use Rattle.cap_spec.proofs.Strict.Looking.{cap_pad, other_pad, zero_pad}
-use Rattle.cap_vet.specs.VetNames.{Lax, Step, StrictRefusal, depth_of, words_of, IsNotLax}
-use Rattle.cap_vet.specs.VetNames.{IsFaultBy, IsAccepted, IsVetted, KnowsLax, Ahead, IsTrail, HasWalked, IsLookedAt}
-use Rattle.cap_vet.specs.VetNames.{Demands, Limits, Report, LaxPointer}
+use Rattle.cap_vet.specs.VetNames.{Lax, Step, StrictRefusal, IsNotLax, IsFaultBy, IsAccepted, IsVetted, KnowsLax}
+use Rattle.cap_vet.specs.VetNames.{Ahead, IsTrail, HasWalked, IsLookedAt, Demands, Report, LaxPointer}
 use Rattle.cap_vet.specs.StrictNulls.{not_lax_path, still_knows}
 use Rattle.cap_vet.proofs.Keeping.{vetted_kept}
 use Rattle.cap_vet.proofs.Tours.{in_order, in_order-IsOneOf, length-in_order, tour_of}
@@ -55,15 +54,13 @@ finds_first m seen a s w n cost what l x k =
 -- nothing is found yet
 pub knows_none : (m : List (List ℕ)) (seen : List (List Step)) (found : Option LaxPointer) → is_some found ≡ false
     → KnowsLax m seen found → KnowsLax m seen None
-knows_none m seen None e k = k
-knows_none m seen (Some x) e k = absurd (cc e)
+knows_none m seen found e k = search rules
 
 -- at the end of a walk that has found none there is none
 pub none_at_end : (m : List (List ℕ)) (words depth : ℕ) (report : Report) (seen : List (List Step)) (ahead : List Ahead)
     → HasWalked m words depth [] report seen ahead → KnowsLax m seen None → (path : List Step) → ¬ IsLax m path
 none_at_end m words depth report seen ahead w k path x =
-    let t : IsTrail m seen [] = subst (λ (u : List Ahead). IsTrail m seen u) (none_ahead ahead w.places)
-    w.progress.trail in
+    let t : IsTrail m seen [] = rw (← none_ahead ahead w.places) w.progress.trail in
     elim (t.complete path x.0 x.1 x.2 x.4) [ inl one ↦ k path one x | inr none ↦ absurd none ]
 
 -- what is accepted is within the limits
@@ -82,11 +79,6 @@ pub strict_at_end : {m : List (List ℕ)} {words depth : ℕ} {report : Report} 
     (ahead : List Ahead)
     → HasWalked m words depth [] report seen ahead → KnowsLax m seen None → length m ≤ 511 → IsStrict m words depth
 strict_at_end {m} {words} {depth} {report} seen ahead w k few = search (rules, within_of, accepted_at_end, none_at_end)
-
--- What is strict within limits is so within the greatest.
-pub strict_within : (m : List (List ℕ)) (limits : Limits) → IsStrict m (words_of limits) (depth_of limits)
-    → IsStrict m 268435456 256
-strict_within m limits h = strict_wider m (words_of limits) (depth_of limits) 268435456 256 h limits.few limits.shallow
 
 -- Why an accepted message isn't strict, by what a walk through it has found.
 pub fault_at_end : (demands : Demands) (m : List (List ℕ)) (words depth : ℕ) (seen : List (List Step))

@@ -1,12 +1,13 @@
 -- What is said of one pointer word that was followed within limits.
 use Rattle.cap_spec.specs.declared.Reason.TheVariants.{DepthLimit, WordLimit}
-use Rattle.cap_spec.proofs.ProofNames.{List, Option, arith, inl, inr, refl, ℕ, ◌+◌, ◌-◌, ◌<◌, ◌≡◌, rules}
-use Rattle.cap_spec.proofs.ProofNames.{◌≤◌, IsFirstReason, is_deep, is_past, IsComposite}
-use Rattle.cap_spec.proofs.ProofNames.{HasWord, Costs, IsDeepAt, levels_below}
+use Rattle.cap_spec.proofs.ProofNames.{List, Option, arith, inl, inr, refl, ℕ, ◌+◌, ◌-◌, ◌<◌, ◌≡◌, rules, ◌≤◌}
+use Rattle.cap_spec.proofs.ProofNames.{IsFirstReason, is_deep, is_past, IsComposite, HasWord, Costs, IsDeepAt}
+use Rattle.cap_spec.proofs.ProofNames.{levels_below}
 use Rattle.cap_ptr.specs.Shapes.{FindsTargetBy, IsFollowed, IsShape, charge_of}
 use Rattle.cap_ptr.specs.declared.shapes.Followed.{Followed}
 use Rattle.cap_vet.specs.Looking.{LooksObject, deepest_of}
-use Rattle.cap_vet.specs.VetNames.{Shape, Target, levels_of, RunRises, object_places, OptionIn, option_spots, PointerRun}
+use Rattle.cap_vet.specs.VetNames.{Shape, Target, levels_of, RunRises, object_places, OptionIn, option_spots}
+use Rattle.cap_vet.specs.VetNames.{PointerRun}
 use Rattle.cap_vet.proofs.Steps.{cap_no_object, null_no_object}
 use Rattle.cap_vet.proofs.Turning.{deep_once}
 use Rattle.cap_ptr.specs.declared.shapes.Followed.TheVariants as followed

@@ -1,8 +1,8 @@
 -- How the marks of a walk go on, and what they show at its end.
 use Rattle.cap_spec.proofs.Lemmas.{disjoint_of_none, one_used, Before-irreflexive, one_reached}
 use Rattle.cap_spec.proofs.ProofNames.{List, [], arith, inl, inr, length, refl, subst, ℕ, ◌+◌, ◌∷◌, ◌≡◌, ◌⊎◌, rules}
-use Rattle.cap_spec.proofs.ProofNames.{IsOneOf, IsDisjoint, IsFirstOverlap, Occupies, Overlaps, Uses}
-use Rattle.cap_spec.proofs.ProofNames.{on_earlier, on_root, twice, Before, Reaches}
+use Rattle.cap_spec.proofs.ProofNames.{IsOneOf, IsDisjoint, IsFirstOverlap, Occupies, Overlaps, Uses, on_earlier}
+use Rattle.cap_spec.proofs.ProofNames.{on_root, twice, Before, Reaches}
 use Rattle.cap_vet.specs.VetNames.{Step, Conflicts, IsMarked, MarksAll, Ahead, IsTrail}
 use Rattle.cap_vet.proofs.Tours.{Falls-before, in_order, length-in_order, tour_of, up_to_head}
 use Rattle.cap_vet.proofs.Trails.{falls-step}
@@ -54,7 +54,7 @@ marks_on m seen a ahead T T' used t k o h = record {
         search (rules, one_reached m a.path a.level level a.segment a.word s w r r', one_used)
     never (on_root u) = h.free 0 0 (uses_of m a.path a.level a.segment a.word used (0, 0) r o u) k.root
     never (on_earlier other (s, w) b u v) =
-        h.free s w (uses_of m a.path a.level a.segment a.word used (s, w) r o v) (k.used other s w (seen_before m seen a ahead other u.0 u.1 u.2 t u.4 b) u)
+        h.free s w (search (rules, uses_of)) (k.used other s w (seen_before m seen a ahead other u.0 u.1 u.2 t u.4 b) u)
 
 -- The next pointer's places weren't all free: it is the first that overlaps.
 pub first_overlap : (m : List (List ℕ)) (seen : List (List Step)) (a : Ahead) (ahead : List Ahead) (T : ℕ → ℕ → Type 0) (used : List (ℕ × ℕ)) (n : ℕ)
@@ -71,7 +71,7 @@ first_overlap m seen a ahead T used n t k o c e = record {
   };
   first = record {
     holds = over c;
-    first = λ other b h. let g = reached_overlap m other h in k.clear other (seen_before m seen a ahead other g.0 g.1 g.2 t g.3 b) h;
+    first = λ other b h. let g = reached_overlap m other h in k.clear other (search (rules, seen_before)) h;
   };
 }
   where

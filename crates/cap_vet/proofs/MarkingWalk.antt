@@ -1,13 +1,11 @@
 -- The turns and the end of a walk that marks words.
 use Rattle.std.proofs.Common.{is_some}
 use Rattle.cap_spec.specs.Denoting.{places}
-use Rattle.cap_spec.proofs.Disjoint.Bounds.{charge_below_words}
 use Rattle.cap_spec.proofs.Lemmas.{disjoint_of_none, none_of_disjoint, lead_word}
-use Rattle.cap_spec.proofs.ProofNames.{List, None, Option, Some, [], arith, false, inl, inr, length, refl, true, ℕ, ◌++◌, ◌<◌, ◌∷◌, ◌≡◌}
-use Rattle.cap_spec.proofs.ProofNames.{∥∥₁_elim, props, IsDisjoint, IsFirstOverlap, Occupies, pads_of, Costs}
-use Rattle.cap_spec.proofs.ProofNames.{Err, Ok, OnOk, Result, empty_count, extent, sizes_of, sum, Tree, ◌+◌, rules}
-use Rattle.cap_vet.specs.VetNames.{Step, Conflicts, IsMarked, MarksAll, IsAccepted, Ahead, HasWalked}
-use Rattle.cap_vet.specs.VetNames.{IsLookedAt, IsReport, Report}
+use Rattle.cap_spec.proofs.ProofNames.{List, Option, [], arith, false, inl, inr, length, refl, true, ℕ, ◌++◌, ◌∷◌}
+use Rattle.cap_spec.proofs.ProofNames.{◌≡◌, ∥∥₁_elim, props, IsDisjoint, IsFirstOverlap, Occupies, pads_of, Costs}
+use Rattle.cap_spec.proofs.ProofNames.{OnOk, Result, extent, rules}
+use Rattle.cap_vet.specs.VetNames.{Step, Conflicts, IsMarked, MarksAll, Ahead, HasWalked, IsLookedAt, Report}
 use Rattle.cap_vet.specs.OverlapSteps.{KnowsMarks, KnowsOverlap}
 use Rattle.cap_vet.specs.Overlapping.{EndsMarking}
 use Rattle.cap_vet.specs.Taken.{HasMarked, HasCapacity}
@@ -29,8 +27,7 @@ pub turn_on : {m : List (List ℕ)} (seen : List (List Step)) (a : Ahead) {s w n
     → ((used : List (ℕ × ℕ)) → Occupies m s w used → MarksAll T T' used) → IsMarked m (a.path ∷ seen) T'
 turn_on {m} seen a {s} {w} {cost} {T} {T'} l k marks =
     let u = used_at m s w cost l.costs in
-    let o : Occupies m a.segment a.word u.0 = rw (l.segment, l.word) u.1 in
-    marks_on m seen a l.later T T' u.0 l.trail k o (marks u.0 u.1)
+    marks_on m seen a l.later T T' u.0 l.trail k (rw (l.segment, l.word) u.1) (marks u.0 u.1)
 
 -- a word whose places weren't all free
 pub turn_overlap : {m : List (List ℕ)} (seen : List (List Step)) (a : Ahead) {s w n cost : ℕ} {T : ℕ → ℕ → Type 0} → IsLookedAt m seen a s w n cost
@@ -43,41 +40,26 @@ turn_overlap {m} seen a {n} {T} l k (used, o, c) =
 -- where none has overlapped yet, the words of these paths are marked,
 pub marks_known : (m : List (List ℕ)) (seen : List (List Step)) (marks : Marks) (first : Option Overlap) → is_some first ≡ false
     → KnowsMarks m seen marks first → HasMarked m seen marks.starts.now marks.bits.now
-marks_known m seen marks None e k = k
-marks_known m seen marks (Some x) e k = absurd (cc e)
+marks_known m seen marks first e k = search rules
 
 -- and the marks of one path more say so of this one too
 pub known_marks : (m : List (List ℕ)) (seen : List (List Step)) (marks : Marks) (first : Option Overlap) → is_some first ≡ false
     → HasMarked m seen marks.starts.now marks.bits.now → KnowsMarks m seen marks first
-known_marks m seen marks None e k = k
-known_marks m seen marks (Some x) e k = absurd (cc e)
+known_marks m seen marks first e k = search rules
 
 -- the first that overlaps stays the first
 pub still_overlaps : (m : List (List ℕ)) (seen more : List (List Step)) (marks : Marks) (first : Option Overlap) → is_some first ≡ true
     → KnowsMarks m seen marks first → KnowsMarks m more marks first
-still_overlaps m seen more marks None e k = absurd (cc e)
-still_overlaps m seen more marks (Some x) e k = k
+still_overlaps m seen more marks first e k = search rules
 
 -- a walk that goes on knows both
 pub both_known : {X E A : Type 0} (B : Type 0) (r : Result X E) → A → OnOk r B → OnOk r (A × B)
-both_known B (Ok x) a b = (a, b)
-both_known B (Err e) a b = tt
-
--- what is marked once doesn't overlap
-pub knows_overlap : (m : List (List ℕ)) (seen : List (List Step)) (marks : Marks) (first : Option Overlap)
-    → KnowsMarks m seen marks first → KnowsOverlap m seen first
-knows_overlap m seen marks None k = k.marked.clear
-knows_overlap m seen marks (Some x) k = k
+both_known B r a b = search rules
 
 -- the end
 pub ends_marking : (m : List (List ℕ)) {words depth : ℕ} {report : Report} (seen : List (List Step)) (ahead : List Ahead) (first : Option Overlap)
     → HasWalked m words depth [] report seen ahead → KnowsOverlap m seen first → EndsMarking m first
 ends_marking m seen ahead first w k = search (rules, all_disjoint, none_ahead)
-
--- a message that uses no word twice is charged less than its words, but for elements without bits or words
-pub disjoint_bound : (m : List (List ℕ)) (words depth : ℕ) (report : Report) → IsAccepted m words depth report → IsDisjoint m
-    → (t : Tree) × IsReport m words depth report t × (report.charge < sum (sizes_of m) + empty_count t)
-disjoint_bound m words depth report (t, h) d = (t, h, charge_below_words m t report.charge report.depth h.within.denotes d)
 
 -- there is capacity whatever is marked
 pub capacity_kept : (m : List (List ℕ)) (starts marks after : List ℕ) → HasCapacity m starts marks → length after ≡ length marks → HasCapacity m starts after
@@ -89,4 +71,4 @@ root_marked m T T' none h = search rules
 
 -- whether a message is disjoint is one fact
 pub disjoint_kept : (m : List (List ℕ)) → ∥ IsDisjoint m ∥₁ → IsDisjoint m
-disjoint_kept m h = disjoint_of_none m (λ p over. let one : IsProp ⊥ = hlevel props in ∥∥₁_elim h one (λ d. none_of_disjoint m d p over))
+disjoint_kept m h = disjoint_of_none m (λ p over. ∥∥₁_elim h (hlevel props) (λ d. none_of_disjoint m d p over))

@@ -1,13 +1,13 @@
 -- What a walk needs to know of an object that its pointer word alone describes.
-use Rattle.cap_spec.proofs.ProofNames.{List, None, Option, Some, arith, false, length, ne_eqb, pos, refl}
-use Rattle.cap_spec.proofs.ProofNames.{ℕ, ℤ, ◌+◌, ◌-◌, ◌<◌, ◌==◌, ◌∙◌, ◌≡◌, ◌≤◌, Finds, Leads, Says}
-use Rattle.cap_spec.proofs.ProofNames.{to_object, segment_of, code, extent, levels_below, rules}
+use Rattle.cap_spec.proofs.ProofNames.{List, Option, arith, false, length, ne_eqb, pos, refl, ℕ, ℤ, ◌+◌, ◌-◌, ◌<◌}
+use Rattle.cap_spec.proofs.ProofNames.{◌==◌, ◌∙◌, ◌≡◌, ◌≤◌, Finds, Leads, Says, to_object, segment_of, code}
+use Rattle.cap_spec.proofs.ProofNames.{levels_below, rules}
 use Rattle.cap_spec.proofs.Trees.Charges.{extent_pointers, extent_struct}
 use Rattle.cap_ptr.specs.Reaching.{ResolvesTo}
 use Rattle.cap_ptr.specs.Rows.{FindsRow, HasPointers}
 use Rattle.cap_ptr.proofs.NearObjects.{pointers-no_extra, pointers-plain}
-use Rattle.cap_vet.specs.VetNames.{Row, IsLooked, RunRises, object_places, LevelIs, OptionIn, option_spots, row_places}
-use Rattle.cap_vet.specs.VetNames.{Object, PointerRun}
+use Rattle.cap_vet.specs.VetNames.{Row, IsLooked, RunRises, LevelIs, OptionIn, option_spots, row_places, Object}
+use Rattle.cap_vet.specs.VetNames.{PointerRun}
 
 -- a list of values has no pointers, and no levels below it
 six_not : (q : ℕ) → code q < 6 → (code q == 6) ≡ false
@@ -16,18 +16,12 @@ six_not q few = ne_eqb (code q) 6 (λ h. omega (arith, h, few))
 seven_not : (q : ℕ) → code q < 6 → (code q == 7) ≡ false
 seven_not q few = ne_eqb (code q) 7 (λ h. omega (arith, h, few))
 
--- its pointer words are the last ones of its words
-near_places : (q b start n level t : ℕ) → HasPointers q n → start + n ≡ b + extent q
-    → row_places (level + 1) t start n ≡ object_places q 0 t b level
-near_places q b start n level t x7 last = search (rules, extent_struct, extent_pointers, six_not, seven_not)
-
 -- and it takes no level below its own
 near_levels : (q n : ℕ) → HasPointers q n → levels_below q 0 ≡ 0
-near_levels q n x3 = search (rules, seven_not)
+near_levels q n h = search (rules, seven_not)
 
 near_rises : (level depth : ℕ) (run : Option PointerRun) → level ≤ depth → LevelIs (level + 1) run → RunRises level depth run
-near_rises level depth None h e = tt
-near_rises level depth (Some f) h e = (omega (arith, e), omega (arith, e))
+near_rises level depth run h e = search rules
 
 -- its pointer words lie inside its segment
 pub row_inside : (m : List (List ℕ)) (s w q : ℕ) (r : Row) → FindsRow m s w q r → r.pointers_start + r.pointer_count ≤ length (segment_of m s)
@@ -35,7 +29,7 @@ row_inside m s w q r f = omega (arith, f.pointers_last, f.words, f.finds.inside.
 
 -- A word that leads to an object over no pads says so itself.
 says_own : (m : List (List ℕ)) (t at q : ℕ) (b : ℤ) → Leads m t at 0 (to_object t b q) → Says t at q (to_object t b q)
-says_own m t at q b x6 = search rules
+says_own m t at q b h = search rules
 
 -- So the pointer word whose place it takes leads there too.
 finds_over : (m : List (List ℕ)) (s w k t at b q : ℕ) → ResolvesTo m s w k t at q → Finds m t at 0 t b q → Finds m s w k t b q
@@ -60,7 +54,7 @@ looks_row m words depth consumed s w level k t at q r run f lies shallow charge 
         within = omega arith;
         deepest = omega (arith, near_levels q r.pointer_count f.pointers);
         shallow = shallow;
-        places = places ∙ near_places q r.start r.pointers_start r.pointer_count level t f.pointers (omega (arith, f.pointers_last, f.words));
+        places = places ∙ (search (rules, extent_struct, extent_pointers, six_not, seven_not));
         inside = inside;
         rises = near_rises level depth run shallow here;
         own = rw f.words refl;

@@ -43,11 +43,6 @@ pub row_charged : (m : List (List ℕ)) (s w q : ℕ) (r : Row) (x : Target) →
     → (x.charge ≡ r.words) × (levels_of x.shape ≡ 0)
 row_charged m s w q r x h k = search (rules, one_object, pointers-plain, extra_same, pointers-no_extra, row_levels)
 
--- so the target of such a word within the limits is within them.
-pub near_fits : (m : List (List ℕ)) (left depth s w level p : ℕ) (x : Target) → HasWord m s w p → p ≢ 0 → FindsTarget m s w x
-    → IsNearWithin m left depth s w level → (level + levels_of x.shape ≤ depth) × (x.charge ≤ left)
-near_fits m left depth s w level p x h k e g = search (rules, one_word, row_charged)
-
 -- A word that isn't null and describes no object alone isn't such a word.
 pub not_near : (m : List (List ℕ)) (left depth s w level p : ℕ) → HasWord m s w p → p ≢ 0 → ((r : Row) → ¬ FindsRow m s w p r)
     → ¬ IsNearWithin m left depth s w level

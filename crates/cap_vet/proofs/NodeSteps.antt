@@ -1,10 +1,10 @@
 -- What nodes of an accepted message keep.
-use Rattle.cap_spec.proofs.Lemmas.{HasWord-at, HasWord-inside, lead_word, part_to_step, step_to_part, comes_beyond}
-use Rattle.cap_spec.proofs.Lemmas.{coming_last, formed, reached_not_wrong}
+use Rattle.cap_spec.proofs.Lemmas.{HasWord-at, HasWord-inside, lead_word, part_to_step, comes_beyond, coming_last}
+use Rattle.cap_spec.proofs.Lemmas.{formed, reached_not_wrong}
 use Rattle.cap_spec.proofs.Paths.Arrivals.{node_to_coming}
 use Rattle.cap_spec.proofs.ProofNames.{List, None, Option, Some, [], length, refl, subst, ℕ, ◌++◌, ◌+◌, ◌<◌, ◌∷◌, ◌≡◌}
-use Rattle.cap_spec.proofs.ProofNames.{∥∥₁_elim, ∥∥₁_map, props, Denotes, Wrong, HasWord, segment_of, ReachesSpot, Spot}
-use Rattle.cap_spec.proofs.ProofNames.{StepsTo, level_of, word, DenotesAt, Tree, node_at, part_at}
+use Rattle.cap_spec.proofs.ProofNames.{∥∥₁_elim, ∥∥₁_map, props, Denotes, Wrong, HasWord, segment_of, ReachesSpot}
+use Rattle.cap_spec.proofs.ProofNames.{Spot, StepsTo, level_of, word, DenotesAt, Tree, node_at, part_at}
 use Rattle.cap_vet.specs.Nodes.{IsNode}
 use Rattle.cap_vet.specs.VetNames.{Reason, Step, IsVetted, Report}
 
@@ -52,11 +52,6 @@ node_not_wrong m s w v h x =
     let one : IsProp ⊥ = hlevel props in
     ∥∥₁_elim h one (λ n. reached_not_wrong m n.tree n.charge n.depth n.denotes n.path n.level s w v n.comes x)
 
--- where a step leads, the part of the tree is
-pub part_lies : (m : List (List ℕ)) (a b : Spot) (step : Step) (t : Tree) → StepsTo m a step b → DenotesAt m a t
-    → (u : Tree) × (part_at t step ≡ Some u) × DenotesAt m b u
-part_lies m a b step t g h = step_to_part m a step b t h g
-
 -- and where it leads to no node, there is no part
 pub no_part : (m : List (List ℕ)) (a : Spot) (step : Step) (t : Tree) → ((b : Spot) → StepsTo m a step b → ⊥) → DenotesAt m a t → part_at t step ≡ None
 no_part m a step t none h = go (part_at t step) refl
@@ -84,4 +79,4 @@ comes_no_node m path done rest step level a e h none level' b g =
 -- one more step
 pub comes_on : (m : List (List ℕ)) (done : List Step) (step : Step) (level : ℕ) (a b : Spot) → ReachesSpot m done level a
     → StepsTo m a step b → (level' : ℕ) × ReachesSpot m (done ++ step ∷ []) level' b
-comes_on m done step level a b h g = (level + level_of b, (coming_last m done step (level + level_of b) b).1 (a, level, h, g, refl))
+comes_on m done step level a b h g = (level + level_of b, (coming_last _ _ _ _ _).1 (a, level, h, g, refl))

@@ -1,9 +1,9 @@
 -- At a node of an accepted message is a tree.
 use Rattle.cap_spec.specs.Denoting.{places}
 use Rattle.cap_spec.proofs.Paths.Depths.{denoted_depth, depth_of, each_depth, walk_depth}
-use Rattle.cap_spec.proofs.ProofNames.{List, arith, refl, ℕ, ◌+◌, ◌≤◌, ∥∥₁_map, words_from, Spot, element, word, DenotesAt}
-use Rattle.cap_spec.proofs.ProofNames.{Tree, struct}
-use Rattle.cap_spec.proofs.Verdicts.Deciding.{EachWithin, TreeWithin, each_within, tree_within}
+use Rattle.cap_spec.proofs.ProofNames.{List, arith, refl, ℕ, ◌+◌, ◌≤◌, ∥∥₁_map, words_from, Spot, element, word}
+use Rattle.cap_spec.proofs.ProofNames.{DenotesAt, Tree, struct, rules}
+use Rattle.cap_spec.proofs.Verdicts.Deciding.{EachWithin, each_within, tree_within}
 use Rattle.cap_vet.specs.Nodes.{IsNode}
 
 -- a tree of at most 256 levels is there
@@ -15,19 +15,15 @@ shallow_node m a n =
     let r = walk_depth m (word 0 0) n.path n.comes.1 a n.tree (n.charge, n.depth, n.denotes) n.comes.3 in
     (r.0, r.1, omega (arith, r.2, denoted_depth m 0 0 n.tree n.charge n.depth n.denotes, n.shallow))
 
--- so a word denotes one of this many levels,
-word_tree : (m : List (List ℕ)) (s w : ℕ) → ShallowAt m (word s w) → TreeWithin m 256 s w
-word_tree m s w (t, h, le) = (t, h.0, h.1, h.2, omega (arith, denoted_depth m s w t h.0 h.1 h.2, le))
-
 -- and so do the pointers of an element.
 element_trees : (m : List (List ℕ)) (t b ds ps : ℕ) → ShallowAt m (element t b ds ps) → EachWithin m 256 (places t (b + ds) ps)
-element_trees m t b ds ps (struct ws ts, h, le) = (ts, h.0, h.1, h.3, omega (arith, each_depth m (places t (b + ds) ps) ts h.0 h.1 h.3, le))
+element_trees m t b ds ps (struct ws ts, h, le) = search (rules, each_depth)
 element_trees m t b ds ps (x, h, le) = absurd h
 
 -- The tree at a node.
 pub tree_at_node : (m : List (List ℕ)) (a : Spot) → ∥ IsNode m a ∥₁ → (t : Tree) × DenotesAt m a t
 tree_at_node m (word s w) h =
-    let r = tree_within m 256 s w (∥∥₁_map h (λ n. word_tree m s w (shallow_node m (word s w) n))) in
+    let r = tree_within m 256 s w (∥∥₁_map h (λ n. search (rules, denoted_depth, shallow_node))) in
     (r.0, (r.1, r.2, r.3))
 tree_at_node m (element t b ds ps) h =
     let r = each_within m 256 (places t (b + ds) ps) (∥∥₁_map h (λ n. element_trees m t b ds ps (shallow_node m (element t b ds ps) n))) in

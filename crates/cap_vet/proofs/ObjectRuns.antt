@@ -4,17 +4,11 @@ use Rattle.cap_spec.proofs.ProofNames.{Fits, List, [], arith, inl, inr, length, 
 use Rattle.cap_spec.proofs.ProofNames.{◌-◌, ◌<◌, ◌≡◌, ◌≤◌, ◌⊎◌, element_levels, IsMessage, segment_of, rules}
 use Rattle.cap_ptr.specs.Shapes.{FindsObject}
 use Rattle.cap_ptr.specs.declared.shapes.Shape.TheVariants.{Struct, Structs}
-use Rattle.cap_vet.specs.VetNames.{object_places, PointerWord, RunIn, element_places, row_places, spots}
+use Rattle.cap_vet.specs.VetNames.{object_places, PointerWord, RunIn, element_places, spots}
 
 -- a struct's words lie inside its segment
 pub struct_capacity : (m : List (List ℕ)) (s w : ℕ) {k t b : ℕ} (q tag : ℕ) {n c : ℕ} (d p : ℕ) → FindsObject m s w k t b q tag n c (Struct d p) → b + d + p ≤ length (segment_of m t)
 struct_capacity m s w q tag d p f = search (rules, extent_struct)
-
--- its pointer words are those after its data
-pub struct_places : (m : List (List ℕ)) (s w : ℕ) {k t b : ℕ} (q tag : ℕ) {n c : ℕ} (d : ℕ) {p at left : ℕ} (level : ℕ)
-    → FindsObject m s w k t b q tag n c (Struct d p) → at ≡ b + d → left ≡ p
-    → row_places (level + 1) t at left ≡ object_places q tag t b level
-struct_places m s w {b} q tag d {at} {left} level f e g = search rules
 
 -- elements that have no pointers, or aren't there, have no pointer words
 no_pointers : (level t b ds n : ℕ) → element_places level t b ds 0 n ≡ []

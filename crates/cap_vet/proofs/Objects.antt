@@ -1,10 +1,10 @@
 -- What an object brings to a walk: its children, its cost, and how deep it goes.
-use Rattle.cap_spec.proofs.Lemmas.{extent_pointers, extent_struct, extent_structs, extra_same, lead_kind}
-use Rattle.cap_spec.proofs.Lemmas.{one_found, scalars_found}
-use Rattle.cap_spec.proofs.ProofNames.{List, [], ap, arith, false, inl, inr, length, length-append, map, max, refl}
-use Rattle.cap_spec.proofs.ProofNames.{subst, suc, zero, ℕ, ◌*◌, ◌++◌, ◌+◌, ◌<◌, ◌==◌, ◌∷◌, ◌≡◌, ◌≤◌, eqb_tells}
-use Rattle.cap_spec.proofs.ProofNames.{Finds, element_levels, IsComposite, extra, HasWord, PathLeads, Reaches, rules}
-use Rattle.cap_spec.proofs.ProofNames.{Spot, StepsTo, word, code, data_size, extent, kind, list_size, middle, pointer_size}
+use Rattle.cap_spec.proofs.Lemmas.{extent_pointers, extent_struct, extent_structs, extra_same, lead_kind, one_found}
+use Rattle.cap_spec.proofs.Lemmas.{scalars_found}
+use Rattle.cap_spec.proofs.ProofNames.{List, [], ap, arith, false, length, length-append, map, max, refl, subst, suc}
+use Rattle.cap_spec.proofs.ProofNames.{zero, ℕ, ◌*◌, ◌++◌, ◌+◌, ◌<◌, ◌==◌, ◌∷◌, ◌≡◌, ◌≤◌, eqb_tells, Finds}
+use Rattle.cap_spec.proofs.ProofNames.{element_levels, IsComposite, extra, HasWord, PathLeads, Reaches, rules, Spot}
+use Rattle.cap_spec.proofs.ProofNames.{StepsTo, word, code, data_size, extent, kind, list_size, middle, pointer_size}
 use Rattle.cap_spec.proofs.ProofNames.{levels_below}
 use Rattle.cap_vet.specs.Owing.{AreInLevels}
 use Rattle.cap_vet.specs.VetNames.{Step, Item, Ptr, object_children, object_places, element_places, pointer_word_of}
@@ -36,8 +36,8 @@ near-append depth (a ∷ xs) ys h k = (h.0, h.1, near-append depth xs ys h.2 k)
 near-elements : (base : List Step) (depth level t b ds ps i n : ℕ) → 1 ≤ level → level ≤ depth + 1 → AreInLevels depth (element_rows base level t b ds ps i n)
 near-elements base depth level t b ds ps i zero h k = tt
 near-elements base depth level t b ds ps i (suc n) h k =
-    near-append depth (row (base ++ Item i ∷ []) level Ptr t (b + ds) 0 ps) (element_rows base level t (b + ds + ps) ds ps (i + 1) n)
-    (near-row (base ++ Item i ∷ []) depth level Ptr t (b + ds) 0 ps h k) (near-elements base depth level t (b + ds + ps) ds ps (i + 1) n h k)
+    near-append _ _ _ (near-row (base ++ Item i ∷ []) depth level Ptr t (b + ds) 0 ps h k)
+    (near-elements base depth level t (b + ds + ps) ds ps (i + 1) n h k)
 
 -- the pointers of the elements of a list are near where the elements are the deepest
 near-structs : (base : List Step) (low level t b ds ps n : ℕ) → AreInLevels (max low (level + element_levels n))
@@ -74,9 +74,8 @@ struct-brings m a k t b q tag low r f e =
     let ch : object_children a.path q tag t b a.level ≡ row a.path (a.level + 1) Ptr t (b + data_size q) 0 (pointer_size q) = rw e refl in
     let pl : object_places q tag t b a.level ≡ row_places (a.level + 1) t (b + data_size q) (pointer_size q) = rw e refl in record {
       children = rw ch (struct_children m a.path a.level a.segment a.word k t b q r f e);
-      counts = rw ch (counts-at m a (row a.path (a.level + 1) Ptr t (b + data_size q) 0 (pointer_size q)) (k + extent q)
-          (k + extent q + extra q tag) low (max low a.level) (max low (a.level + levels_below q tag)) 0
-          (omega (arith, x)) (omega (arith, l)) (struct-counts m a k t b q low f e));
+      counts = rw ch (counts-at _ _ _ _ _ _ _ _ _ (omega (arith, x)) (omega (arith, l))
+          (struct-counts m a k t b q low f e));
       places = rw (ch, pl) (places-row a.path (a.level + 1) Ptr t (b + data_size q) 0 (pointer_size q));
       few = rw ch (omega (arith, length-row a.path (a.level + 1) Ptr t (b + data_size q) 0 (pointer_size q), extent_struct q e));
       near = rw ch (near-row a.path (max low (a.level + levels_below q tag)) (a.level + 1) Ptr t (b + data_size q) 0
@@ -86,12 +85,7 @@ struct-brings m a k t b q tag low r f e =
 -- a list of values has no step to go on by
 scalars_end : (m : List (List ℕ)) (s w k t b q : ℕ) → Finds m s w k t b q → kind q ≡ 1 → code q < 6
     → (x : Step) (v : List Step) (mid : Spot) (n s' w' : ℕ) → StepsTo m (word s w) x mid → PathLeads m mid v n (word s' w') → ⊥
-scalars_end m s w k t b q f e below (Ptr i) v mid n s' w' (k', t', b', q', tag, ds, ps, f', l, spot) walks =
-    let o = one_found (scalars_found m s w k t b q f e below) f' in cc o.kind
-scalars_end m s w k t b q f e below (Item i) v mid n s' w' (inl (k', t', b', q', tag, size, f', l, spot)) walks =
-    let o = one_found (scalars_found m s w k t b q f e below) f' in cc o.kind
-scalars_end m s w k t b q f e below (Item i) v mid n s' w' (inr (k', t', b', q', tag, size, ds, ps, f', l, spot)) walks =
-    let o = one_found (scalars_found m s w k t b q f e below) f' in cc o.kind
+scalars_end m s w k t b q f e below h v mid n s' w' g walks = search (rules, one_found, scalars_found)
 
 scalars-brings : (m : List (List ℕ)) (a : Ahead) (k t b q tag low : ℕ) → Reaches m a.path a.level a.segment a.word
     → Finds m a.segment a.word k t b q → kind q ≡ 1
@@ -102,8 +96,7 @@ scalars-brings m a k t b q tag low r f e no_pointers no_structs below =
     let ch : object_children a.path q tag t b a.level ≡ [] = rw (e, no_pointers, no_structs) refl in
     let pl : object_places q tag t b a.level ≡ [] = rw (e, no_pointers, no_structs) refl in record {
       children = rw ch (no_children m a.path a.level a.segment a.word r (scalars_end m a.segment a.word k t b q f e below));
-      counts = rw ch (counts-at m a [] (k + extent q + extra q 0) (k + extent q + extra q tag) low (max low a.level)
-          (max low (a.level + levels_below q tag)) 0 (omega (arith, x)) (omega (arith, l))
+      counts = rw ch (counts-at _ _ _ _ _ _ _ _ _ (omega (arith, x)) (omega (arith, l))
           (scalars-counts m a k t b q low f e below));
       places = rw (ch, pl) refl;
       few = rw ch (omega arith);
@@ -119,9 +112,8 @@ pointers-brings m a k t b q tag low r f e c =
     let ch : object_children a.path q tag t b a.level ≡ row a.path (a.level + 1) Item t b 0 (list_size q) = rw (e, c) refl in
     let pl : object_places q tag t b a.level ≡ row_places (a.level + 1) t b (list_size q) = rw (e, c) refl in record {
       children = rw ch (pointers_children m a.path a.level a.segment a.word k t b q r f e c);
-      counts = rw ch (counts-at m a (row a.path (a.level + 1) Item t b 0 (list_size q)) (k + extent q)
-          (k + extent q + extra q tag) low (max low a.level) (max low (a.level + levels_below q tag)) 0
-          (omega (arith, x)) (omega (arith, l)) (pointers-counts m a k t b q low f e c));
+      counts = rw ch (counts-at _ _ _ _ _ _ _ _ _ (omega (arith, x)) (omega (arith, l))
+          (pointers-counts m a k t b q low f e c));
       places = rw (ch, pl) (places-row a.path (a.level + 1) Item t b 0 (list_size q));
       few = rw ch (omega (arith, length-row a.path (a.level + 1) Item t b 0 (list_size q), extent_pointers q e c));
       near = rw ch (near-row a.path (max low (a.level + levels_below q tag)) (a.level + 1) Item t b 0 (list_size q) (omega arith) (omega arith));
@@ -139,7 +131,7 @@ structs-brings m a k t b q tag low r f e c has =
     record {
       children = rw ch (structs_children m a.path a.level a.segment a.word k t b q tag r f e c has);
       counts = search (rules, counts-at, structs-counts);
-      places = rw (ch, pl) (places-elements a.path (a.level + (element_levels 1 + 1)) t (b + 1) (data_size tag) (pointer_size tag) 0 (middle tag));
+      places = rw (ch, pl) (search (rules, places-elements));
       few = search (rules, length-elements, extent_structs);
       near = rw (ch, l) (near-structs a.path low a.level t (b + 1) (data_size tag) (pointer_size tag) (middle tag));
     }

@@ -6,16 +6,13 @@ use Rattle.cap_vet.specs.VetNames.{Refusal, IsAccepted, IsFirstCapOf, Report}
 -- there is one first capability, or none
 one_cap : (m : List (List ℕ)) (a b : Option (ℕ × ℕ)) → IsFirstCapOf m a → IsFirstCapOf m b → a ≡ b
 one_cap m None None h k = refl
-one_cap m None (Some (s, w)) h k = absurd (h k.path k.first.holds)
-one_cap m (Some (s, w)) None h k = absurd (k h.path h.first.holds)
-one_cap m (Some (s, w)) (Some (t, x)) h k = (let same = one_first_cap m s w t x h k in ap₂ (λ (a b : ℕ). Some (a, b)) same.0 same.1)
-
-same_report : (a b : Report) → a.charge ≡ b.charge → a.depth ≡ b.depth → a.pointers ≡ b.pointers → a.caps ≡ b.caps → a.first_cap ≡ b.first_cap → a ≡ b
-same_report a b e1 e2 e3 e4 e5 = search rules
+one_cap m (Some (s, w)) (Some (t, x)) h k =
+    (let same = one_first_cap m s w t x h k in ap₂ (λ (a b : ℕ). Some (a, b)) same.0 same.1)
+one_cap m a b h k = search rules
 
 -- An accepted message has one report.
 pub one_report : (m : List (List ℕ)) (words depth : ℕ) (a b : Report) → IsAccepted m words depth a → IsAccepted m words depth b → a ≡ b
-one_report m words depth a b h k = search (rules, one_tree, same_report, one_cap)
+one_report m words depth a b h k = search (rules, one_tree, one_cap)
 
 -- A message isn't both accepted and refused.
 pub not_both : (m : List (List ℕ)) (words depth : ℕ) (a : Report) (r : Refusal) → IsAccepted m words depth a → IsRefused m words depth r → ⊥

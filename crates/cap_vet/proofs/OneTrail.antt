@@ -3,7 +3,8 @@ use Rattle.cap_spec.proofs.Lemmas.{HasWord-at, Before-trans, one_reached}
 use Rattle.cap_spec.proofs.ProofNames.{List, [], append-nil, append_assoc, ap₂, arith, inl, inr, length, refl, subst}
 use Rattle.cap_spec.proofs.ProofNames.{sym, ℕ, ◌++◌, ◌<◌, ◌∙◌, ◌∷◌, ◌≡◌, Finds, IsComposite, near, IsOneOf, HasWord}
 use Rattle.cap_spec.proofs.ProofNames.{segment_of, Before, Reaches, rules}
-use Rattle.cap_vet.specs.VetNames.{Step, object_children, Ahead, Apart, AreReached, EachApart, Falls, IsTrail, IsUnder}
+use Rattle.cap_vet.specs.VetNames.{Step, object_children, Ahead, Apart, AreReached, EachApart, Falls, IsTrail}
+use Rattle.cap_vet.specs.VetNames.{IsUnder}
 use Rattle.cap_vet.specs.Trails.{Precedes}
 use Rattle.cap_vet.proofs.Apart.{apart-before, longer-differs, not_before-apart, not_before-self}
 use Rattle.cap_vet.proofs.Children.{beyond}
@@ -19,14 +20,11 @@ not_apart-longer (x ∷ p) v (inl h) = omega arith
 not_apart-longer (x ∷ p) v (inr h) = not_apart-longer p v h.1
 
 rest_apart : (a : Ahead) (xs : List Ahead) → EachApart (a ∷ xs) → EachApart xs
-rest_apart a [] h = tt
-rest_apart a (b ∷ xs) h = h.1
+rest_apart a xs h = search rules
 
 -- What is under a word ahead wasn't looked at.
 not_seen : (m : List (List ℕ)) (seen : List (List Step)) (ahead : List Ahead) (q : List Step) → IsTrail m seen ahead
     → IsUnder q ahead → IsOneOf q seen → ⊥
-not_seen m [] ahead q t u one = one
-not_seen m (p ∷ seen) [] q t u one = u
 not_seen m (p ∷ seen) (a ∷ ahead) q t u one = under u
   where
     earlier : IsOneOf q (p ∷ seen) → Before q a.path
@@ -36,6 +34,7 @@ not_seen m (p ∷ seen) (a ∷ ahead) q t u one = under u
     under : IsUnder q (a ∷ ahead) → ⊥
     under (inl (rest, e)) = not_before-self a.path rest (subst (λ (v : List Step). Before v a.path) e (earlier one))
     under (inr k) = not_before-apart a.path q (Apart-under a q ahead t.apart k) (earlier one)
+not_seen m seen ahead q t u one = search rules
 
 -- what paths reach under the first is under the second
 abbrev Covers : List (List ℕ) → List Ahead → List Ahead → Type 0
@@ -57,7 +56,7 @@ one_path : (a b : Ahead) (xs ys : List Ahead) → EachApart (a ∷ xs) → EachA
 one_path a b xs ys p q (inl (r, e)) (inl ([], f)) = sym (f ∙ append-nil a.path)
 one_path a b xs ys p q (inl (r, e)) (inl (x ∷ v, f)) = search (rules, append_assoc, longer-differs)
 one_path a b xs ys p q (inl (r, e)) (inr k) =
-    let first : Apart (b.path ++ r) b.path = subst (λ (u : List Step). Apart u b.path) e (Apart-under a b.path xs p k) in
+    let first : Apart (b.path ++ r) b.path = rw (← e) (Apart-under a b.path xs p k) in
     absurd (not_before-self b.path r (apart-before (b.path ++ r) b.path first))
 one_path a b xs ys p q (inr k) (inl (r, f)) =
     let first : Apart (a.path ++ r) a.path = subst (λ (u : List Step). Apart u a.path) f (Apart-under b a.path ys q k) in
@@ -69,30 +68,27 @@ one_path a b xs ys p q (inr k) (inr l) =
 same_ahead : (m : List (List ℕ)) (a b : Ahead) → a.path ≡ b.path → Reaches m a.path a.level a.segment a.word
     → Reaches m b.path b.level b.segment b.word → a ≡ b
 same_ahead m a b e r k =
-    let o = one_reached m a.path a.level b.level a.segment a.word b.segment b.word r
-    (subst (λ (u : List Step). Reaches m u b.level b.segment b.word) (sym e) k) in
+    let o = one_reached m a.path a.level b.level a.segment a.word b.segment b.word r (rw e k) in
     λ i. record { path = e i; segment = o.1 i; word = o.2 i; level = o.0 i }
 
 -- and what is under the others of the first is under the others of the second
 rest_covers : (m : List (List ℕ)) (a b : Ahead) (xs ys : List Ahead) → a.path ≡ b.path → EachApart (a ∷ xs)
     → Covers m (a ∷ xs) (b ∷ ys) → Covers m xs ys
 rest_covers m a b xs ys e p f = λ q level s w r u. elim (f q level s w r (inr u)) [
-  | inl (rest, g) ↦ absurd (not_apart-longer b.path rest
-      (subst (λ (v : List Step). Apart b.path v) g (subst (λ (v : List Step). Apart v q) e (Apart-under a q xs p u))))
+  | inl (rest, g) ↦ absurd (not_apart-longer b.path rest (search (rules, Apart-under)))
   | inr h ↦ h
 ]
 
 one_list : (m : List (List ℕ)) (xs ys : List Ahead) → EachApart xs → EachApart ys → AreReached m xs → AreReached m ys
     → Covers m xs ys → Covers m ys xs → xs ≡ ys
 one_list m [] [] p q r k f g = refl
-one_list m [] (b ∷ ys) p q r k f g = absurd (g b.path b.level b.segment b.word k.0 (self_under b ys))
-one_list m (a ∷ xs) [] p q r k f g = absurd (f a.path a.level a.segment a.word r.0 (self_under a xs))
 one_list m (a ∷ xs) (b ∷ ys) p q r k f g =
     let e : a.path ≡ b.path = one_path a b xs ys p q (f a.path a.level a.segment a.word r.0 (self_under a xs))
     (g b.path b.level b.segment b.word k.0 (self_under b ys)) in
     ap₂ (λ (x : Ahead) (zs : List Ahead). x ∷ zs) (same_ahead m a b e r.0 k.0)
     (one_list m xs ys (rest_apart a xs p) (rest_apart b ys q) r.1 k.1 (rest_covers m a b xs ys e p f)
     (rest_covers m b a ys xs (sym e) q g))
+one_list m xs ys p q r k f g = search (rules, self_under)
 
 -- So after the same paths the same words are ahead.
 pub one_trail : (m : List (List ℕ)) (seen : List (List Step)) (xs ys : List Ahead) → IsTrail m seen xs → IsTrail m seen ys
@@ -111,8 +107,7 @@ pub object_trail : (m : List (List ℕ)) (seen : List (List Step)) (a : Ahead) (
     → IsTrail m seen (a ∷ ahead) → Finds m a.segment a.word k t b q → (IsComposite q → HasWord m t b tag)
     → IsTrail m (a.path ∷ seen) (object_children a.path q tag t b a.level ++ ahead)
 object_trail m seen a ahead k t b q tag trail f tagged =
-    trail-step m seen a (object_children a.path q tag t b a.level) ahead trail
-    (object-brings m a k t b q tag 0 trail.ahead_reached.0 f tagged).children
+    trail-step _ _ _ _ _ trail (object-brings m a k t b q tag 0 trail.ahead_reached.0 f tagged).children
 
 -- the first of two paths is apart from the second, which it comes before and which doesn't go on from it
 before_apart : (p q : List Step) → Before p q → ((x : Step) (v : List Step) → q ≡ p ++ x ∷ v → ⊥) → Apart p q
@@ -125,8 +120,7 @@ before_apart (x ∷ xs) (y ∷ ys) (inr h) none =
 -- the order of the paths without the last one
 first_falls : (p : List Step) (seen : List (List Step)) (a : Ahead) (ahead : List Ahead) → a.path ≡ p → Falls (p ∷ seen)
     → Falls seen × Precedes seen (a ∷ ahead)
-first_falls p [] a ahead e h = (tt, tt)
-first_falls p (q ∷ seen) a ahead e h = (h.1, subst (λ (u : List Step). Before q u) (sym e) h.0)
+first_falls p seen a ahead e h = search rules
 
 -- Before a null word that word was ahead too.
 pub null_trail : (m : List (List ℕ)) (seen : List (List Step)) (p : List Step) (level s w : ℕ) (ahead : List Ahead)
@@ -155,7 +149,6 @@ null_trail m seen p level s w ahead t r null =
         → EachApart (record { path = p; segment = s; word = w; level = level } ∷ ahead)
     apart [] h before k = tt
     apart (b ∷ ahead) h before k = (
-      before_apart p b.path before (λ x v e. ends x v b.level b.segment b.word
-          (subst (λ (u : List Step). Reaches m u b.level b.segment b.word) e k.0)),
+      before_apart p b.path before (λ x v e. ends x v b.level b.segment b.word (search rules)),
       h,
     )

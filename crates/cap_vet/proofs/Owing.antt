@@ -1,6 +1,5 @@
 -- What the pointers of an object owe says what they denote.
-use Rattle.cap_spec.proofs.ProofNames.{rules}
-use Rattle.std.proofs.Common.{List, [], ap, arith, max, refl, suc, zero, ℕ, ◌++◌, ◌+◌, ◌∷◌, ◌≡◌}
+use Rattle.cap_spec.proofs.ProofNames.{rules, List, [], ap, arith, max, refl, suc, zero, ℕ, ◌++◌, ◌+◌, ◌∷◌, ◌≡◌}
 use Rattle.cap_spec.specs.Denoting.{AreElements, DenoteEach, places, words_from}
 use Rattle.cap_spec.specs.Tree.{Trees, cap_count, cap_counts, child_counts, more, none, pointer_count, struct}
 use Rattle.cap_spec.specs.Tree.{tree_count}
@@ -102,7 +101,7 @@ owes-elements m base level t b ds ps i zero c d p k (e1, e2, e3, e4) = record {
   caps = e4;
 }
 owes-elements m base level t b ds ps i (suc n) c d p k h =
-    let parts = append-Owe m (row (base ++ Item i ∷ []) level Ptr t (b + ds) 0 ps) (element_rows base level t (b + ds + ps) ds ps (i + 1) n) c d p k h in
+    let parts = append-Owe _ _ _ _ _ _ _ h in
     let a = owes-row m (base ++ Item i ∷ []) level Ptr t (b + ds) 0 ps parts.c1 parts.d1 parts.p1 parts.k1 parts.first in
     let r = owes-elements m base level t (b + ds + ps) ds ps (i + 1) n parts.c2 parts.d2 parts.p2 parts.k2 parts.second in record {
       elements = more (struct (words_from m t b ds) a.trees) r.elements;

@@ -1,9 +1,9 @@
 -- Null words in a row, which a walk goes past.
-use Rattle.cap_spec.proofs.ProofNames.{List, Some, [], ap, append-nil, arith, length, length-append, refl}
-use Rattle.cap_spec.proofs.ProofNames.{subst, suc, zero, ℕ, ◌++◌, ◌+◌, ◌-◌, ◌<◌, ◌∷◌, ◌≡◌, ◌≤◌, length-map, reverse-append}
-use Rattle.cap_spec.proofs.ProofNames.{near, HasWord, rules}
-use Rattle.cap_vet.specs.VetNames.{Step, IsLooked, Passes, IsRest, RunIn}
-use Rattle.cap_vet.specs.VetNames.{row_places, Ahead, added, HasWalked, work_left, Report, PointerRun}
+use Rattle.cap_spec.proofs.ProofNames.{List, Some, [], ap, append-nil, arith, length, length-append, refl, subst, suc}
+use Rattle.cap_spec.proofs.ProofNames.{zero, ℕ, ◌++◌, ◌+◌, ◌-◌, ◌<◌, ◌∷◌, ◌≡◌, ◌≤◌, length-map, reverse-append, near}
+use Rattle.cap_spec.proofs.ProofNames.{HasWord, rules}
+use Rattle.cap_vet.specs.VetNames.{Step, IsLooked, Passes, IsRest, RunIn, row_places, Ahead, added, HasWalked}
+use Rattle.cap_vet.specs.VetNames.{work_left, Report, PointerRun}
 use Rattle.cap_vet.specs.declared.walk.looking.Looked.TheVariants.{Null}
 use Rattle.cap_vet.proofs.Runs.{rest_of_row}
 use Rattle.cap_vet.proofs.Stacks.{next_seen, walks_on, work_smaller}
@@ -22,7 +22,7 @@ pub passes_on : (m : List (List ℕ)) (words depth : ℕ) (runs : List PointerRu
     → Passes m words depth runs seen old before f r → Passes m words depth runs seen old before (after f) (counted r)
 passes_on m words depth runs seen old f before r left null passed =
     let rest : IsRest f (Some (after f)) = rest_of_row f.segment f.at f.more f.data_words f.pointers f.level left in
-    let (next, same_seen) = next_seen m words depth runs f (Some (after f)) r (passed.nulls ++ seen) passed.later passed.walks rest in
+    let (next, same_seen) = next_seen _ _ _ _ _ _ _ _ _ passed.walks rest in
     let looked : IsLooked m words depth r.charge f.segment f.at f.level (Null 0) = (near 0 null (omega arith) refl refl, omega (arith, next.progress.within)) in
     let (later, turned) = walks_on m words depth f.segment f.at f.level (runs ++ after f ∷ []) r (Null 0) next looked in
     let same : r.charge + 0 ≡ r.charge = omega arith in

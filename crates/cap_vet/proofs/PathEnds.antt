@@ -1,11 +1,10 @@
 -- What the end of a path says of the pointers on it.
-use Rattle.cap_spec.proofs.ProofNames.{Bool, List, None, Option, Some, false, length, refl, subst, sym, true, ℕ, ◌++◌}
-use Rattle.cap_spec.proofs.ProofNames.{◌-◌, ◌∷◌, ◌≡◌, ◌≤◌, PathFinds, AreOnPath, Charges, IsStartOf, Spot, IsLax, rules}
+use Rattle.cap_spec.proofs.ProofNames.{Bool, List, None, Option, false, length, refl, subst, sym, true, ℕ, ◌++◌, ◌-◌}
+use Rattle.cap_spec.proofs.ProofNames.{◌∷◌, ◌≡◌, ◌≤◌, PathFinds, AreOnPath, Charges, IsStartOf, Spot, IsLax, rules}
 use Rattle.cap_spec.proofs.Verdicts.OnPath.{on_no_node}
 use Rattle.cap_vet.specs.Charging.{EndsAt}
-use Rattle.cap_vet.specs.VetNames.{Kind, Lax, Step, StrictRefusal, Arrives, EndsEarly}
-use Rattle.cap_vet.specs.VetNames.{words_under, IsFirstLaxOnPath, IsPathFault, MeetsOnPath, HasNoFaultBy, IsFaultBy}
-use Rattle.cap_vet.specs.VetNames.{KnowsLaxOnPath, Demands, Arrival, LaxPointer}
+use Rattle.cap_vet.specs.VetNames.{Kind, Step, StrictRefusal, Arrives, EndsEarly, words_under, IsPathFault}
+use Rattle.cap_vet.specs.VetNames.{MeetsOnPath, HasNoFaultBy, IsFaultBy, KnowsLaxOnPath, Demands, Arrival, LaxPointer}
 use Rattle.cap_vet.proofs.Charging.{arrives_no_node, charges_no_node}
 use Rattle.cap_vet.proofs.PathLax.{lax_same}
 
@@ -33,8 +32,7 @@ known m words depth path at false e =
     record {
       ways = h.ways;
       on_path = subst (λ x. AreOnPath m x h.ways) (sym e.whole) on;
-      lax = subst (λ x. KnowsLaxOnPath m x h.ways at.lax) (sym e.whole)
-          (lax_same m e.done (e.step ∷ e.rest) h.ways at.lax h.lax);
+      lax = search (rules, lax_same);
       left = words - at.consumed;
       charges = charges_no_node m words depth e.done e.rest path e.step e.spot at (sym e.whole) h e.no_node;
     }
@@ -69,19 +67,13 @@ meets_at demands m words depth path at found e none =
           (n.0, none_lax m path h.ways h.on_path (subst (λ o. KnowsLaxOnPath m path h.ways o) n.1 h.lax));
     }
 
--- the fields of the first one
-first_fields : (m : List (List ℕ)) (path : List Step) (ways : List (List Step)) (x : LaxPointer) (what : Lax) (s w n : ℕ)
-    → KnowsLaxOnPath m path ways (Some x) → what ≡ x.what → s ≡ x.segment → w ≡ x.word → n ≡ x.pointers
-    → IsFirstLaxOnPath m path s w what n
-first_fields m path ways x what s w n k e f g h = search rules
-
 fault_by : (demands : Demands) (m : List (List ℕ)) (words depth : ℕ) (path : List Step) (at : Arrival) (o : Option LaxPointer)
     → length m ≤ 512 → at.lax ≡ o → Known m (words_under demands m words) depth path at → (fault : StrictRefusal)
     → IsFaultBy demands (length m) o fault → IsPathFault demands m words depth path fault
-fault_by demands m words depth path at o k e h fault f = search (rules, first_fields)
+fault_by demands m words depth path at o k e h fault f = search rules
 
 pub fault_at : (demands : Demands) (m : List (List ℕ)) (words depth : ℕ) (path : List Step) (at : Arrival) (found : Bool)
     (fault : StrictRefusal) → length m ≤ 512 → EndsAt m (words_under demands m words) depth path at found
     → IsFaultBy demands (length m) at.lax fault → IsPathFault demands m words depth path fault
 fault_at demands m words depth path at found fault few e f =
-    fault_by demands m words depth path at at.lax few refl (known m (words_under demands m words) depth path at found e) fault f
+    fault_by demands m words depth path at at.lax few refl (search (rules, known)) fault f

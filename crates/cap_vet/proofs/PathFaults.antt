@@ -1,21 +1,21 @@
 -- The pointers on a path meet the demands, or have one fault.
 use Rattle.cap_spec.specs.declared.StrictRefusal.TheVariants.{Refused}
 use Rattle.cap_spec.proofs.Lemmas.{one_reached, one_of_last}
-use Rattle.cap_spec.proofs.ProofNames.{List, [], ap, arith, inl, inr, length, length-append, refl, subst, sym, ℕ, ◌++◌}
-use Rattle.cap_spec.proofs.ProofNames.{◌∙◌, ◌∷◌, ◌≡◌, ◌⊎◌, AreOnPath, IsRefusedOnPath, IsOneOf, Reaches, IsLax, IsLaxAt}
+use Rattle.cap_spec.proofs.ProofNames.{List, [], ap, arith, inl, inr, length, length-append, refl, subst, sym, ℕ}
+use Rattle.cap_spec.proofs.ProofNames.{◌++◌, ◌∙◌, ◌∷◌, ◌≡◌, ◌⊎◌, AreOnPath, IsRefusedOnPath, IsOneOf, Reaches, IsLax}
 use Rattle.cap_spec.proofs.ProofNames.{rules}
 use Rattle.cap_spec.proofs.Strict.Faults.{same_pointer}
 use Rattle.cap_spec.proofs.Strict.LaxForms.{one_lax}
 use Rattle.cap_spec.proofs.Verdicts.OnPath.{one_path_list, one_path_refusal, path_not_refused}
 use Rattle.cap_vet.specs.PathDemands.{KeepsToLimits}
-use Rattle.cap_vet.specs.VetNames.{Lax, Refusal, Step, StrictRefusal, ManySegments, Pointer, words_under}
-use Rattle.cap_vet.specs.VetNames.{IsFirstLaxOnPath, IsPathFault, MeetsOnPath, Demands}
+use Rattle.cap_vet.specs.VetNames.{Lax, Refusal, Step, StrictRefusal, Pointer, words_under, IsFirstLaxOnPath}
+use Rattle.cap_vet.specs.VetNames.{IsPathFault, MeetsOnPath, Demands}
 
 -- pointers that keep to the limits aren't refused
 kept_not_refused : (m : List (List ℕ)) (words depth : ℕ) (path : List Step) (r : Refusal) → KeepsToLimits m words depth path
     → IsRefusedOnPath m words depth path r → ⊥
 kept_not_refused m words depth path r (left, k) refused =
-    path_not_refused m words depth path k.ways k.cost r k.on_path k.some k.costs k.shallow (omega (arith, k.consumed)) refused
+    path_not_refused _ _ _ _ _ _ _ k.on_path k.some k.costs k.shallow (omega (arith, k.consumed)) refused
 
 -- the first one on a path is one of them
 first_is_lax : (m : List (List ℕ)) (path : List Step) (s w : ℕ) (what : Lax) (n : ℕ)
@@ -33,9 +33,8 @@ meets_no_path_fault demands m words depth path r h k = search (rules, kept_not_r
 begins_order : (p q rest s : List Step) → p ++ rest ≡ q ++ s → (p ≡ q) ⊎ ((x : Step) × (more : List Step) × (q ≡ p ++ x ∷ more))
     ⊎ ((x : Step) × (more : List Step) × (p ≡ q ++ x ∷ more))
 begins_order [] [] rest s e = inl refl
-begins_order [] (y ∷ q) rest s e = inr (inl (y, q, refl))
-begins_order (x ∷ p) [] rest s e = inr (inr (x, p, refl))
 begins_order (x ∷ p) (y ∷ q) rest s e = search (rules, begins_order p q rest s cc)
+begins_order p q rest s e = search rules
 
 -- a path that goes on from another comes after it
 shorter : (m : List (List ℕ)) (p way : List Step) (x : Step) (more : List Step) (before : List (List Step)) (level s w : ℕ)
@@ -52,7 +51,6 @@ module _ (m : List (List ℕ)) (path : List Step) (s w s' w' : ℕ) (u v : Lax) 
   same_way e =
       let r = one_reached m f.way f.level g.level s w s' w' f.reached
       (subst (λ (x : List Step). Reaches m x g.level s' w') (sym e) g.reached) in
-      let x : IsLaxAt m s w v = subst (λ y. IsLaxAt m s y v) (sym r.2) (subst (λ y. IsLaxAt m y w' v) (sym r.1) g.lax) in
       let on : AreOnPath m f.way (g.before ++ f.way ∷ []) =
       subst (λ (y : List Step). AreOnPath m y (g.before ++ y ∷ [])) (sym e) g.on_path in
       search (rules, one_path_list m f.way (f.before ++ f.way ∷ []) (g.before ++ f.way ∷ []) f.on_path on, one_lax)
@@ -63,25 +61,17 @@ module _ (m : List (List ℕ)) (path : List Step) (s w s' w' : ℕ) (u v : Lax) 
       by_order : (f.way ≡ g.way) ⊎ ((x : Step) × (more : List Step) × (g.way ≡ f.way ++ x ∷ more))
           ⊎ ((x : Step) × (more : List Step) × (f.way ≡ g.way ++ x ∷ more)) → (u ≡ v) × (s ≡ s') × (w ≡ w') × (n ≡ n')
       by_order (inl e) = same_way e
-      by_order (inr (inl (x, more, e))) = absurd
-          (g.first f.way (shorter m f.way g.way x more g.before f.level s w e f.reached g.on_path) (first_is_lax m path s w u n f))
-      by_order (inr (inr (x, more, e))) = absurd
-          (f.first g.way (shorter m g.way f.way x more f.before g.level s' w' e g.reached f.on_path) (first_is_lax m path s' w' v n' g))
+      by_order (inr (inl (x, more, e))) =
+          absurd (g.first f.way (shorter m f.way g.way x more g.before f.level s w e f.reached g.on_path) (first_is_lax m path s w u n f))
+      by_order (inr (inr (x, more, e))) =
+          absurd (f.first g.way (shorter m g.way f.way x more f.before g.level s' w' e g.reached f.on_path) (first_is_lax m path s' w' v n' g))
 
 -- There is one fault.
 pub one_path_fault : (demands : Demands) (m : List (List ℕ)) (words depth : ℕ) (path : List Step) (f g : StrictRefusal)
     → IsPathFault demands m words depth path f → IsPathFault demands m words depth path g → f ≡ g
 one_path_fault demands m words depth path (Refused r) (Refused r') h k =
     ap Refused (one_path_refusal m (words_under demands m words) depth path r r' h k)
-one_path_fault demands m words depth path (Refused r) ManySegments h k =
-    absurd (kept_not_refused m (words_under demands m words) depth path r k.1 h)
-one_path_fault demands m words depth path (Refused r) (Pointer v s' w' n') h k =
-    absurd (kept_not_refused m (words_under demands m words) depth path r k.1 h)
-one_path_fault demands m words depth path ManySegments (Refused r) h k =
-    absurd (kept_not_refused m (words_under demands m words) depth path r h.1 k)
-one_path_fault demands m words depth path (Pointer u s w n) (Refused r) h k =
-    absurd (kept_not_refused m (words_under demands m words) depth path r h.1 k)
 one_path_fault demands m words depth path (Pointer u s w n) (Pointer v s' w' n') h k =
     let e = one_first_on_path m path s w s' w' u v n n' h.3 k.3 in
     same_pointer u v s w n s' w' n' e.1 e.2 e.0 e.3
-one_path_fault demands m words depth path f g h k = search rules
+one_path_fault demands m words depth path f g h k = search (rules, kept_not_refused)

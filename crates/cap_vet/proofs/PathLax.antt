@@ -1,6 +1,6 @@
 -- What is known of the pointers on a path that common readers reject, step by step.
 use Rattle.cap_spec.proofs.Lemmas.{one_reached, one_of_last}
-use Rattle.cap_spec.proofs.ProofNames.{List, None, Option, Some, [], inl, inr, length, refl, subst, sym, ℕ, ◌++◌, ◌∙◌, ◌∷◌}
+use Rattle.cap_spec.proofs.ProofNames.{List, None, Option, Some, [], inl, inr, length, subst, sym, ℕ, ◌++◌, ◌∙◌, ◌∷◌}
 use Rattle.cap_spec.proofs.ProofNames.{◌≡◌, AreOnPath, Reaches, IsLaxAt, rules}
 use Rattle.cap_spec.proofs.Verdicts.OnPath.{begins_itself, begins_longer}
 use Rattle.cap_vet.specs.VetNames.{Lax, Step, IsNotLax, IsFirstLaxOnPath, AddsPointer, KnowsLaxOnPath, LaxPointer}
@@ -13,8 +13,7 @@ lax_longer m prev more s w what n f = search (rules, begins_longer)
 -- Without a pointer more the same is known,
 pub lax_same : (m : List (List ℕ)) (prev more : List Step) (ways : List (List Step)) (o : Option LaxPointer)
     → KnowsLaxOnPath m prev ways o → KnowsLaxOnPath m (prev ++ more) ways o
-lax_same m prev more ways None k = k
-lax_same m prev more ways (Some x) k = lax_longer m prev more x.segment x.word x.what x.pointers k
+lax_same m prev more ways o k = search (rules, lax_longer)
 
 -- and with one more what it adds.
 pub lax_added : (m : List (List ℕ)) (prev more : List Step) (ways : List (List Step)) (level s w n : ℕ)
@@ -34,8 +33,7 @@ lax_added m prev more ways level s w n None (Some x) on r e k a = record {
   begin = begins_itself (prev ++ more);
   before = ways;
   level = level;
-  reached = subst (λ y. Reaches m (prev ++ more) level x.segment y) (sym a.2)
-      (subst (λ y. Reaches m (prev ++ more) level y w) (sym a.1) r);
+  reached = search rules;
   on_path = on;
   lax = subst (λ y. IsLaxAt m x.segment y x.what) (sym a.2) (subst (λ y. IsLaxAt m y w x.what) (sym a.1) a.0);
   first = k;
@@ -44,8 +42,4 @@ lax_added m prev more ways level s w n None (Some x) on r e k a = record {
 
 -- A pointer that isn't lax adds nothing.
 pub adds_strict : (m : List (List ℕ)) (s w n : ℕ) (lax : Option LaxPointer) → IsNotLax m s w → AddsPointer m s w n lax lax
-adds_strict m s w n None strict = strict
-adds_strict m s w n (Some first) strict = refl
-
-pub adds_none : (m : List (List ℕ)) (s w n : ℕ) (lax : Option LaxPointer) → lax ≡ None → IsNotLax m s w → AddsPointer m s w n lax None
-adds_none m s w n lax e strict = subst (λ (o : Option LaxPointer). AddsPointer m s w n o None) (sym e) strict
+adds_strict m s w n lax strict = search rules

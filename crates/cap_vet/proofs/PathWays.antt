@@ -1,8 +1,8 @@
 -- What is given for a path, by where it leads.
 use Rattle.std.proofs.Common.{IsOk}
-use Rattle.cap_spec.proofs.ProofNames.{Err, List, None, Ok, Option, Result, Some, [], ap, append-nil, append_assoc, false}
-use Rattle.cap_spec.proofs.ProofNames.{inl, inr, length, refl, subst, sym, true, ℕ, ◌++◌, ◌∙◌, ◌∷◌, ◌≡◌, ◌≤◌, PathFinds}
-use Rattle.cap_spec.proofs.ProofNames.{IsFaultOnPath, IsRefusedOnPath, Spot, StepsTo, rules}
+use Rattle.cap_spec.proofs.ProofNames.{Err, List, None, Ok, Option, Result, Some, [], ap, append-nil, append_assoc}
+use Rattle.cap_spec.proofs.ProofNames.{false, inr, length, refl, subst, sym, true, ℕ, ◌++◌, ◌∙◌, ◌∷◌, ◌≡◌, ◌≤◌}
+use Rattle.cap_spec.proofs.ProofNames.{PathFinds, IsFaultOnPath, IsRefusedOnPath, Spot, StepsTo, rules}
 use Rattle.cap_vet.specs.PathWays.{IsGiven}
 use Rattle.cap_vet.specs.VetNames.{Refusal, Step, StrictRefusal, Arrives, EndsEarly, words_under, IsPathFault}
 use Rattle.cap_vet.specs.VetNames.{MeetsOnPath, HasNoFaultBy, IsFaultBy, GivesAfter, IsWay, Demands, Arrival, Found}
@@ -19,8 +19,7 @@ module _ (m : List (List ℕ)) (words depth : ℕ) (path more : List Step) where
   no_node_longer at e = search (rules, append_assoc)
 
   pub refused_longer : (r : Refusal) → IsRefusedOnPath m words depth path r → IsRefusedOnPath m words depth (path ++ more) r
-  refused_longer r (inl h) = inl h
-  refused_longer r (inr f) = inr (fault_longer m words depth path more (path ++ more) r refl f)
+  refused_longer r h = search (rules, fault_longer)
 
 -- One step more leads to nothing,
 pub step_no_node : (m : List (List ℕ)) (words depth : ℕ) (path rest : List Step) (step : Step) (a : Spot) (at : Arrival)
@@ -32,7 +31,7 @@ step_no_node m words depth path rest step a at h none =
 pub step_refused : (m : List (List ℕ)) (words depth : ℕ) (path rest : List Step) (step : Step) (r : Refusal)
     → IsFaultOnPath m words depth (path ++ step ∷ []) r → IsRefusedOnPath m words depth (path ++ step ∷ rest) r
 step_refused m words depth path rest step r f =
-    inr (fault_longer m words depth (path ++ step ∷ []) rest (path ++ step ∷ rest) r (append_assoc path (step ∷ []) rest) f)
+    inr (fault_longer _ _ _ _ _ _ _ (append_assoc path (step ∷ []) rest) f)
 
 -- or leads on.
 pub step_on : (m : List (List ℕ)) (words depth : ℕ) (path rest : List Step) (step : Step) (way : Way)
@@ -91,19 +90,17 @@ module _ {M : Type 0} {g : segments.Ghosts M} (demands : Demands) (m : List (Lis
   -- So a path that meets the demands gives no fault, and a fault is the one that it gives.
   pub given_accepts : (r : Result (Option (View M g)) StrictRefusal) → IsGiven demands m words depth path r
       → MeetsOnPath demands m words depth path → IsOk r
-  given_accepts (Ok o) h meets = refl
-  given_accepts (Err fault) h meets = absurd (meets_no_path_fault demands m words depth path fault meets h.err)
+  given_accepts r h meets = search (rules, meets_no_path_fault)
 
   pub given_refuses : (r : Result (Option (View M g)) StrictRefusal) (fault : StrictRefusal)
       → IsGiven demands m words depth path r → IsPathFault demands m words depth path fault → r ≡ Err fault
-  given_refuses (Ok o) fault h f = absurd (meets_no_path_fault demands m words depth path fault h.meets f)
-  given_refuses (Err other) fault h f = ap Err (one_path_fault demands m words depth path other fault h.err f)
+  given_refuses r fault h f = search (rules, meets_no_path_fault, one_path_fault)
 
 -- the steps done, the next one and the others
 pub all_steps : (first done steps more rest : List Step) (step : Step) → steps ≡ done ++ more → more ≡ step ∷ rest
     → (first ++ done) ++ step ∷ rest ≡ first ++ steps
 all_steps first done steps more rest step e f =
-    append_assoc first done (step ∷ rest) ∙ ap (λ (ss : List Step). first ++ ss) (sym (e ∙ ap (λ (ss : List Step). done ++ ss) f))
+    append_assoc first done (step ∷ rest) ∙ ap (λ (ss : List Step). first ++ ss) (search rules)
 
 -- no more steps
 pub done_steps : (first done steps more : List Step) → steps ≡ done ++ more → more ≡ [] → first ++ done ≡ first ++ steps

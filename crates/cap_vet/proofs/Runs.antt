@@ -1,8 +1,8 @@
 -- The pointer words of a run, word by word.
-use Rattle.cap_spec.proofs.ProofNames.{List, None, Option, Some, ap, arith, map, refl, suc, zero, ℕ, rules}
-use Rattle.cap_spec.proofs.ProofNames.{◌+◌, ◌-◌, ◌<◌, ◌∷◌, ◌≡◌, map-append}
-use Rattle.cap_vet.specs.VetNames.{Step, IsRest, element_places, pointer_word_of, row_places, element_rows}
-use Rattle.cap_vet.specs.VetNames.{row, PointerRun}
+use Rattle.cap_spec.proofs.ProofNames.{List, None, Option, Some, ap, arith, map, refl, suc, zero, ℕ, rules, ◌+◌, ◌-◌}
+use Rattle.cap_spec.proofs.ProofNames.{◌<◌, ◌∷◌, ◌≡◌, map-append}
+use Rattle.cap_vet.specs.VetNames.{Step, IsRest, element_places, pointer_word_of, row_places, element_rows, row}
+use Rattle.cap_vet.specs.VetNames.{PointerRun}
 
 -- after the first of several words in a row
 pub rest_of_row : (s b : ℕ) {n : ℕ} (more ds ps level : ℕ) → 1 < n → IsRest
@@ -35,10 +35,9 @@ rest_of_last s b ds ps level e h = record { words = rw (e, h) refl; inside = λ 
 -- There is always such a rest.
 has_rest_of : (s b n more ds ps level : ℕ) → 0 < n → (rest : Option PointerRun) × IsRest
     record { segment = s; at = b; left = n; more = more; data_words = ds; pointers = ps; level = level } rest
-has_rest_of s b zero more ds ps level h = absurd (omega arith)
-has_rest_of s b (suc zero) zero ds ps level h = (None, rest_of_last s b ds ps level refl refl)
 has_rest_of s b (suc zero) (suc more) ds ps level h = (_, rest_of_elements s b ds ps level refl (omega arith))
 has_rest_of s b (suc (suc n)) more ds ps level h = (_, rest_of_row s b more ds ps level (omega arith))
+has_rest_of s b n more ds ps level h = search (rules, rest_of_last)
 
 pub has_rest : (f : PointerRun) → 0 < f.left → (rest : Option PointerRun) × IsRest f rest
 has_rest f some = has_rest_of f.segment f.at f.left f.more f.data_words f.pointers f.level some

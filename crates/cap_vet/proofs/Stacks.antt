@@ -1,12 +1,13 @@
 -- What one turn of a walk leaves of its runs.
 use Rattle.cap_spec.proofs.Bytes.Lists.{reverse-more}
-use Rattle.cap_spec.proofs.ProofNames.{List, None, Option, Some, [], ap, arith, inl, length, length-append, map}
-use Rattle.cap_spec.proofs.ProofNames.{option_to_list, refl, reverse, subst, suc, sym, ℕ, ◌++◌, ◌+◌, ◌<◌, ◌∙◌, ◌∷◌, ◌≡◌}
-use Rattle.cap_spec.proofs.ProofNames.{◌≤◌, length-map, map-append, reverse-append, AllByRecursion, Finds, Leads, extra}
-use Rattle.cap_spec.proofs.ProofNames.{near, to_cap, to_null, HasWord, Costs, Reaches, extent, levels_below, rules}
-use Rattle.cap_vet.specs.VetNames.{Step, depth_of, words_of, IsLooked, RunRises, object_children, IsRest, LevelIs}
-use Rattle.cap_vet.specs.VetNames.{OptionIn, RunIn, all_spots, option_spots, pointer_word_of, spots, Ahead, added}
-use Rattle.cap_vet.specs.VetNames.{IsWalking, HasWalked, IsLookedAt, IsNext, work_left, Limits, Report, PointerRun}
+use Rattle.cap_spec.proofs.ProofNames.{List, None, Option, [], ap, arith, inl, length, length-append, map}
+use Rattle.cap_spec.proofs.ProofNames.{option_to_list, refl, reverse, subst, suc, sym, ℕ, ◌++◌, ◌+◌, ◌<◌, ◌∙◌, ◌∷◌}
+use Rattle.cap_spec.proofs.ProofNames.{◌≡◌, ◌≤◌, length-map, map-append, reverse-append, AllByRecursion, Finds, Leads}
+use Rattle.cap_spec.proofs.ProofNames.{extra, near, to_cap, to_null, HasWord, Costs, Reaches, extent, levels_below}
+use Rattle.cap_spec.proofs.ProofNames.{rules}
+use Rattle.cap_vet.specs.VetNames.{Step, depth_of, words_of, IsLooked, object_children, IsRest, OptionIn, RunIn}
+use Rattle.cap_vet.specs.VetNames.{all_spots, option_spots, pointer_word_of, spots, Ahead, added, IsWalking}
+use Rattle.cap_vet.specs.VetNames.{HasWalked, IsLookedAt, IsNext, work_left, Limits, Report, PointerRun}
 use Rattle.cap_vet.specs.Turning.{cost_of, run_below}
 use Rattle.cap_vet.specs.Turns.{GoesOn, GoesOnBelow, IsAt}
 use Rattle.cap_vet.specs.WalkSteps.{Continues, GoesOnWith}
@@ -18,29 +19,14 @@ use Rattle.cap_vet.proofs.Turning.{next_ahead, turn_cap, turn_null, turn_object}
 use Rattle.cap_vet.specs.declared.walk.looking.Looked.TheVariants as looked
 
 spots-more : (r : Option PointerRun) (runs : List PointerRun) → all_spots (option_to_list r ++ runs) ≡ option_spots r ++ all_spots runs
-spots-more None runs = refl
-spots-more (Some r) runs = refl
+spots-more r runs = search rules
 
 inside-more : (m : List (List ℕ)) (r : Option PointerRun) (runs : List PointerRun) → OptionIn m r → AllByRecursion (RunIn m) runs
     → AllByRecursion (RunIn m) (option_to_list r ++ runs)
-inside-more m None runs h l = l
-inside-more m (Some r) runs h l = (h, l)
-
--- what is left of a run is as high as it
-stacked-rest : (depth level : ℕ) (r : Option PointerRun) (runs : List PointerRun) → length runs + 1 ≤ level → level ≤ depth + 1 → LevelIs level r
-    → AreStacked depth runs → AreStacked depth (option_to_list r ++ runs)
-stacked-rest depth level None runs h u k s = s
-stacked-rest depth level (Some r) runs h u k s = (omega (arith, k), omega (arith, k), s)
+inside-more m r runs h l = search rules
 
 high-rest : (level : ℕ) (r : Option PointerRun) (runs : List PointerRun) → length runs + 1 ≤ level → length (option_to_list r ++ runs) ≤ level
-high-rest level None runs h = omega arith
-high-rest level (Some r) runs h = omega arith
-
--- and what is below a word is higher
-stacked-below : (depth level : ℕ) (r : Option PointerRun) (runs : List PointerRun) → length runs ≤ level → RunRises level depth r
-    → AreStacked depth runs → AreStacked depth (option_to_list r ++ runs)
-stacked-below depth level None runs h l s = s
-stacked-below depth level (Some r) runs h l s = (omega (arith, l.0), l.1, s)
+high-rest level r runs h = search rules
 
 -- The first word of the topmost run is the next to look at, and what was looked at stays.
 pub next_seen : (m : List (List ℕ)) (words depth : ℕ) (runs : List PointerRun) (f : PointerRun) (r : Option PointerRun)
@@ -55,7 +41,7 @@ next_seen m words depth runs f r report seen aheads w rest =
     let more = reverse-more runs r in
     let next = next_ahead (f.segment, f.at, f.level) (option_spots r ++ all_spots (reverse runs)) aheads
     (places ∙ ap (λ u. u ++ all_spots (reverse runs)) rest.words) in (
-      search (rules, spots-more, inside-more, stacked-rest, high-rest),
+      search (rules, spots-more, inside-more, high-rest),
       refl,
     )
 
@@ -96,7 +82,7 @@ walks_on m words depth s w level runs report (looked.Object cost deep below plac
     let shallow : t.a.level + levels_below q tag ≤ depth = omega (arith, o.shallow, o.deepest, t.leads_to) in
     let done = turn_object m words depth report.charge report.depth report.pointers report.caps k u b q tag
     report.first_cap t.seen t.a t.ahead t.progress own o.tagged within shallow in
-    search (rules, map-append, object_places-children, reverse-more, spots-more, inside-more, stacked-below)
+    search (rules, map-append, object_places-children, reverse-more, spots-more, inside-more)
 
 -- a word has no more words below it than it costs
 few_below : (m : List (List ℕ)) (words depth s w level : ℕ) (runs : List PointerRun) (report : Report) (l : Looked) → IsNext m words depth s w level runs report

@@ -2,8 +2,8 @@
 use Rattle.cap_spec.specs.declared.Kind.TheVariants.{Pointers, Struct, Structs}
 use Rattle.cap_spec.proofs.Lemmas.{structs_words}
 use Rattle.cap_spec.proofs.Pointers.Shapes.{pointers_words}
-use Rattle.cap_spec.proofs.ProofNames.{List, arith, length, mul-le-mul_right, subst, ℕ, ◌*◌, ◌+◌, ◌<◌}
-use Rattle.cap_spec.proofs.ProofNames.{◌≡◌, ◌≤◌, HasObject, segment_of, Spot, StepsTo, element, word, rules, list_size}
+use Rattle.cap_spec.proofs.ProofNames.{List, arith, length, mul-le-mul_right, subst, ℕ, ◌*◌, ◌+◌, ◌<◌, ◌≡◌, ◌≤◌}
+use Rattle.cap_spec.proofs.ProofNames.{HasObject, segment_of, Spot, StepsTo, element, word, rules}
 use Rattle.cap_spec.proofs.Trees.Charges.{elements_fit}
 use Rattle.cap_vet.specs.VetNames.{Kind, Item, Ptr, IsFound, Found}
 
@@ -39,9 +39,8 @@ pub element_inside : (m : List (List ℕ)) (a : Spot) {f : Found} {n : ℕ} (d p
     → f.place.start + 1 + i * (d + p) + d + p ≤ length (segment_of m f.place.segment)
 element_inside m (word s w) {f} {n} d p {i} h e lt =
     let y = as_kind m (word s w) f (Structs n d p) h e in
-    let all : n * (d + p) ≤ list_size y.1 = omega (arith, elements_fit y.3) in
     let some : (i + 1) * (d + p) ≤ n * (d + p) = mul-le-mul_right (d + p) (omega (arith, lt)) in
-    omega (arith, some, all, y.4, structs_words y.3.shape, h.inside)
+    search (rules, elements_fit, structs_words)
 element_inside m (element t' b' ds ps) {f} {n} d p h e lt = absurd (as_kind m (element t' b' ds ps) f (Structs n d p) h e)
 
 -- and so do all of them together

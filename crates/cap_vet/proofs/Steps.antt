@@ -1,11 +1,11 @@
 -- How the count goes on at each kind of word.
-use Rattle.cap_spec.proofs.Lemmas.{one_lead, pointers_found, scalars_found, struct_found, structs_found}
-use Rattle.cap_spec.proofs.Pointers.Shapes.{pointers_extra, pointers_levels, scalars_levels, struct_extra, struct_levels}
-use Rattle.cap_spec.proofs.Pointers.Shapes.{structs_levels}
-use Rattle.cap_spec.proofs.ProofNames.{List, [], arith, max, pos, refl, subst, suc, zero, ℕ, ◌+◌, ◌<◌, ◌≡◌, ◌≤◌, Finds}
-use Rattle.cap_spec.proofs.ProofNames.{element_levels, values_of, words_from, Leads, extra, to_cap, to_null, to_object}
-use Rattle.cap_spec.proofs.ProofNames.{HasWord, code, data_size, extent, kind, list_size, middle, pointer_size, cap, null}
-use Rattle.cap_spec.proofs.ProofNames.{pointers, scalars, struct, structs, rules}
+use Rattle.cap_spec.proofs.Lemmas.{one_lead, scalars_found, struct_found, structs_found}
+use Rattle.cap_spec.proofs.Pointers.Shapes.{pointers_extra, pointers_levels, scalars_levels, struct_extra}
+use Rattle.cap_spec.proofs.Pointers.Shapes.{struct_levels, structs_levels}
+use Rattle.cap_spec.proofs.ProofNames.{List, [], arith, max, pos, refl, subst, ℕ, ◌+◌, ◌<◌, ◌≡◌, ◌≤◌, Finds}
+use Rattle.cap_spec.proofs.ProofNames.{element_levels, values_of, words_from, Leads, extra, to_cap, to_null}
+use Rattle.cap_spec.proofs.ProofNames.{to_object, HasWord, code, data_size, extent, kind, list_size, middle}
+use Rattle.cap_spec.proofs.ProofNames.{pointer_size, cap, null, pointers, scalars, struct, structs, rules}
 use Rattle.cap_vet.specs.VetNames.{Item, Ptr, Ahead, element_rows, row}
 use Rattle.cap_vet.proofs.Counting.{Counts}
 use Rattle.cap_vet.proofs.Owing.{owes-elements, owes-row}
@@ -18,9 +18,6 @@ null_no_object m s w k k' t b q h f = let e = one_lead m s w k k' to_null (to_ob
 pub cap_no_object : (m : List (List ℕ)) (s w k i k' t b q : ℕ) → Leads m s w k (to_cap i) → Finds m s w k' t b q → ⊥
 cap_no_object m s w k i k' t b q h f = let e = one_lead m s w k k' (to_cap i) (to_object t (pos b) q) h f.leads
     in let e1 : to_cap i ≡ to_object t (pos b) q = e.1 in cc
-
-pub null_no_cap : (m : List (List ℕ)) (s w k k' i : ℕ) → Leads m s w k to_null → Leads m s w k' (to_cap i) → ⊥
-null_no_cap m s w k k' i h f = let e = one_lead m s w k k' to_null (to_cap i) h f in let e1 : to_null ≡ to_cap i = e.1 in cc
 
 -- null costs its pads
 pub null-counts : (m : List (List ℕ)) (a : Ahead) (k low : ℕ) → Leads m a.segment a.word k to_null → 1 ≤ a.level → a.level ≤ low + 1 → Counts m a [] k low low 0
@@ -53,7 +50,7 @@ cap-counts m a k i low h up near = record {
 pub struct-counts : (m : List (List ℕ)) (a : Ahead) (k t b q low : ℕ) → Finds m a.segment a.word k t b q → kind q ≡ 0
     → Counts m a (row a.path (a.level + 1) Ptr t (b + data_size q) 0 (pointer_size q)) (k + extent q) low (max low a.level) 0
 struct-counts m a k t b q low f is_struct = let object = struct_found m a.segment a.word k t b q f is_struct in record {
-  build = λ c top p k' owe. let r = owes-row m a.path (a.level + 1) Ptr t (b + data_size q) 0 (pointer_size q) c top p k' owe in record {
+  build = λ c top p k' owe. let r = owes-row _ _ _ _ _ _ _ _ _ _ _ _ owe in record {
     tree = struct (words_from m t b (data_size q)) r.trees;
     depth = 1 + r.deep;
     denotes = search (rules, struct_extra, struct_levels);
@@ -89,7 +86,7 @@ scalars-counts m a k t b q low f is_list below = let object = scalars_found m a.
 -- a list of pointers costs its pads and its words
 pub pointers-counts : (m : List (List ℕ)) (a : Ahead) (k t b q low : ℕ) → Finds m a.segment a.word k t b q → kind q ≡ 1 → code q ≡ 6
     → Counts m a (row a.path (a.level + 1) Item t b 0 (list_size q)) (k + extent q) low (max low a.level) 0
-pointers-counts m a k t b q low f is_list is_pointers = let object = pointers_found m a.segment a.word k t b q f is_list is_pointers in record {
+pointers-counts m a k t b q low f is_list is_pointers = record {
   build = λ c top p k' owe. let r = owes-row m a.path (a.level + 1) Item t b 0 (list_size q) c top p k' owe in record {
     tree = pointers r.trees;
     depth = 1 + r.deep;
@@ -103,21 +100,19 @@ pointers-counts m a k t b q low f is_list is_pointers = let object = pointers_fo
 -- how deep a list of structs goes, by what its elements owe
 elements-level : (low level n top deep : ℕ) → (n ≡ 0 → top ≡ 0) → max (level + (element_levels 1 + 1)) top ≡ level + (element_levels 1 + 1) + deep
     → max (low + 1) (level + (1 + element_levels n + deep)) ≡ max (max low (level + element_levels n) + 1) top
-elements-level low level zero top deep none h = omega (arith, none refl, h)
-elements-level low level (suc n) top deep none h = omega (arith, h)
+elements-level low level n top deep k h = search rules
 
 -- a list of structs costs its pads, its words and its elements without words
 pub structs-counts : (m : List (List ℕ)) (a : Ahead) (k t b q tag low : ℕ) → Finds m a.segment a.word k t b q → kind q ≡ 1 → code q ≡ 7 → HasWord m t b tag
     → Counts m a (element_rows a.path (a.level + (element_levels 1 + 1)) t (b + 1) (data_size tag) (pointer_size tag) 0
     (middle tag)) (k + extent q + extra q tag) low (max low (a.level + element_levels (middle tag))) 0
 structs-counts m a k t b q tag low f is_list is_structs has = let object = structs_found m a.segment a.word k t b q f tag is_list is_structs has in record {
-  build = λ c top p k' owe. let r = owes-elements m a.path (a.level + (element_levels 1 + 1)) t (b + 1) (data_size tag)
-      (pointer_size tag) 0 (middle tag) c top p k' owe in record {
-        tree = structs (data_size tag) (pointer_size tag) r.elements;
-        depth = 1 + element_levels (middle tag) + r.deep;
-        denotes = search (rules, structs_levels);
-        level = elements-level low a.level (middle tag) top r.deep r.none r.depth;
-        pointers = omega (arith, r.pointers);
-        cap_total = omega (arith, r.caps);
-      };
+  build = λ c top p k' owe. let r = owes-elements _ _ _ _ _ _ _ _ _ _ _ _ _ owe in record {
+    tree = structs (data_size tag) (pointer_size tag) r.elements;
+    depth = 1 + element_levels (middle tag) + r.deep;
+    denotes = search (rules, structs_levels);
+    level = elements-level low a.level (middle tag) top r.deep r.none r.depth;
+    pointers = omega (arith, r.pointers);
+    cap_total = omega (arith, r.caps);
+  };
 }

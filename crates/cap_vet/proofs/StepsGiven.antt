@@ -1,6 +1,6 @@
 -- The first of the steps that a source gives, and the others.
-use Rattle.std.proofs.Common.{List, None, Option, Some, [], refl, sym, ◌∙◌, ◌∷◌, ◌≡◌}
 use Rattle.cap_spec.specs.declared.Step.{Step}
+use Rattle.cap_spec.proofs.ProofNames.{rules, List, None, Option, Some, [], refl, sym, ◌∙◌, ◌∷◌, ◌≡◌}
 
 -- The source gives a step, and the others are still to come,
 pub step_given : {S : Type 0} (gives : S → List Step → Type 0) (old new : S) (result : Option Step) (step : Step)
@@ -10,7 +10,7 @@ pub step_given : {S : Type 0} (gives : S → List Step → Type 0) (old new : S)
     → (rest : List Step) × (more ≡ step ∷ rest) × gives new rest
 step_given gives old new result step [] is some none given = let n = (none given).0 in absurd (cc)
 step_given gives old new result step (s ∷ rest) is some none given =
-    let n = some s rest given in let e : Some s ≡ Some step = sym n.0 ∙ is in let f : s ∷ rest ≡ step ∷ rest = cc in (rest, f, n.1)
+    let n = some s rest given in search rules
 
 -- and without one none are.
 pub no_step_given : {S : Type 0} (gives : S → List Step → Type 0) (old new : S) (result : Option Step) (more : List Step)

@@ -1,8 +1,8 @@
 -- A trail up to a path is the tour of it.
 use mathlib.Core.List.{reverse_aux}
 use Rattle.cap_spec.proofs.Paths.Preorder.{Before-trans}
-use Rattle.cap_spec.proofs.ProofNames.{List, [], append-nil, arith, inl, inr, length, refl, reverse, subst, sym, ℕ, ◌+◌}
-use Rattle.cap_spec.proofs.ProofNames.{◌∷◌, ◌≡◌, ◌⊎◌, IsOneOf, Before, IsTour, Rises, rules}
+use Rattle.cap_spec.proofs.ProofNames.{List, [], append-nil, arith, inl, inr, length, refl, reverse, subst, sym, ℕ}
+use Rattle.cap_spec.proofs.ProofNames.{◌+◌, ◌∷◌, ◌≡◌, ◌⊎◌, IsOneOf, Before, IsTour, Rises, rules}
 use Rattle.cap_vet.specs.VetNames.{Step, Ahead, Apart, EachApart, Falls, IsTrail, IsUnder}
 use Rattle.cap_vet.proofs.Apart.{Apart-right, Apart-trans, longer-differs, not_apart-self, not_before-apart}
 use Rattle.cap_vet.proofs.Apart.{not_before-self}
@@ -32,16 +32,13 @@ Joins (p ∷ seen) [] = Unit {0}
 Joins (p ∷ seen) (q ∷ later) = Before p q
 
 joins-next : (p : List Step) (seen later : List (List Step)) → Falls (p ∷ seen) → Joins seen (p ∷ later)
-joins-next p [] later h = tt
-joins-next p (q ∷ seen) later h = h.0
+joins-next p seen later h = search rules
 
 falls-next : (p : List Step) (seen : List (List Step)) → Falls (p ∷ seen) → Falls seen
-falls-next p [] h = tt
-falls-next p (q ∷ seen) h = h.1
+falls-next p seen h = search rules
 
 rises-more : (p : List Step) (seen later : List (List Step)) → Joins (p ∷ seen) later → Rises later → Rises (p ∷ later)
-rises-more p seen [] h r = tt
-rises-more p seen (q ∷ later) h r = (h, r)
+rises-more p seen later h r = search rules
 
 Rises-onto : (seen later : List (List Step)) → Falls seen → Joins seen later → Rises later → Rises (onto seen later)
 Rises-onto [] later f j r = r
@@ -86,11 +83,10 @@ Apart-under a q (b ∷ ahead) h (inr k) = Apart-trans a.path b.path q h.0 (Apart
 -- what a path reaches up to the head of what is ahead was looked at, or is the head
 pub up_to_head : (a : Ahead) (seen : List (List Step)) (ahead : List Ahead) (q : List Step) → EachApart (a ∷ ahead)
     → IsOneOf q seen ⊎ IsUnder q (a ∷ ahead) → (q ≡ a.path) ⊎ Before q a.path → IsOneOf q (a.path ∷ seen)
-up_to_head a seen ahead q apart x6 k = search (rules, append-nil, longer-differs, not_before-self, not_apart-self, Apart-under, not_before-apart)
+up_to_head a seen ahead q apart h k = search (rules, append-nil, longer-differs, not_before-self, not_apart-self, Apart-under, not_before-apart)
 
 none_after-head : (a : Ahead) (seen : List (List Step)) (q : List Step) → Falls (a.path ∷ seen) → IsOneOf q (a.path ∷ seen) → (q ≡ a.path) ⊎ Before q a.path
-none_after-head a seen q f (inl e) = inl e
-none_after-head a seen q f (inr h) = inr (Falls-before a.path q seen f h)
+none_after-head a seen q f h = search (rules, Falls-before)
 
 -- What was looked at and the head of what is ahead are the tour of the head.
 pub tour_of : (m : List (List ℕ)) (seen : List (List Step)) (a : Ahead) (ahead : List Ahead)

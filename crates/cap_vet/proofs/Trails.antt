@@ -1,8 +1,8 @@
 -- How a trail goes on.
 use Rattle.cap_spec.specs.declared.Step.{Step}
 use Rattle.cap_spec.proofs.Paths.Preorder.{Before-longer}
-use Rattle.cap_spec.proofs.ProofNames.{List, [], append-nil, inl, inr, subst, sym, ℕ, ◌++◌, ◌∙◌, ◌∷◌, ◌≡◌, ◌⊎◌, IsOneOf}
-use Rattle.cap_spec.proofs.ProofNames.{Reaches, rules}
+use Rattle.cap_spec.proofs.ProofNames.{List, [], append-nil, inl, inr, subst, sym, ℕ, ◌++◌, ◌∙◌, ◌∷◌, ◌≡◌, ◌⊎◌}
+use Rattle.cap_spec.proofs.ProofNames.{IsOneOf, Reaches, rules}
 use Rattle.cap_vet.specs.Trails.{Ahead, Apart, AreReached, EachApart, Falls, GoOnFrom, IsTrail, IsUnder, Precedes}
 use Rattle.cap_vet.proofs.Apart.{Apart-left, apart-before}
 
@@ -20,22 +20,17 @@ pub AreReached-append : (m : List (List ℕ)) (xs ys : List Ahead) → AreReache
 AreReached-append m [] ys h k = k
 AreReached-append m (a ∷ xs) ys h k = (h.0, AreReached-append m xs ys h.1 k)
 
--- What goes on from a path that is apart from the next one is apart from it.
-go_on-apart : (base : List Step) (a b : Ahead) → ((x : Step) × (v : List Step) × (a.path ≡ base ++ x ∷ v)) → Apart base b.path → Apart a.path b.path
-go_on-apart base a b (x, v, e) h = subst (λ u. Apart u b.path) (sym e) (Apart-left base b.path (x ∷ v) h)
-
 -- members that are apart and go on from a path, and then members apart from that path
 pub EachApart-append : (base : List Step) (xs : List Ahead) (b : Ahead) (ys : List Ahead) → EachApart xs
     → GoOnFrom base xs → Apart base b.path → EachApart (b ∷ ys) → EachApart (xs ++ b ∷ ys)
 EachApart-append base [] b ys h g k l = l
-EachApart-append base (a ∷ []) b ys h g k l = (go_on-apart base a b g.0 k, l)
+EachApart-append base (a ∷ []) b ys h g k l = (search (rules, Apart-left), l)
 EachApart-append base (a ∷ c ∷ xs) b ys h g k l = (h.0, EachApart-append base (c ∷ xs) b ys h.1 g.1 k l)
 
 -- the children of the head, and then what was ahead after it
 pub apart-step : (a : Ahead) (children ahead : List Ahead) → EachApart (a ∷ ahead) → EachApart children → GoOnFrom a.path children
     → EachApart (children ++ ahead)
-apart-step a children [] h k g = subst EachApart (sym (append-nil children)) k
-apart-step a children (b ∷ ahead) h k g = EachApart-append a.path children b ahead k g h.0 h.1
+apart-step a children ahead h k g = search (rules, append-nil, EachApart-append)
 
 precedes-step : (a : Ahead) (seen : List (List Step)) (children ahead : List Ahead) → EachApart (a ∷ ahead)
     → GoOnFrom a.path children → Precedes (a.path ∷ seen) (children ++ ahead)
@@ -52,8 +47,7 @@ complete-step a seen children ahead q beyond (inr (inl (x ∷ v, e))) = inr (IsU
 complete-step a seen children ahead q beyond (inr (inr h)) = inr (IsUnder-right q children ahead h)
 
 pub falls-step : (a : Ahead) (seen : List (List Step)) (ahead : List Ahead) → Falls seen → Precedes seen (a ∷ ahead) → Falls (a.path ∷ seen)
-falls-step a [] ahead h k = tt
-falls-step a (p ∷ seen) ahead h k = (k, h)
+falls-step a seen ahead h k = search rules
 
 -- What lies after a pointer word: its children, in order, and nothing else that a path reaches.
 pub record AreChildren (m : List (List ℕ)) (base : List Step) (children : List Ahead) : Type 0 where
@@ -64,7 +58,7 @@ pub record AreChildren (m : List (List ℕ)) (base : List Step) (children : List
 
 pub reached-step : (m : List (List ℕ)) (seen : List (List Step)) (a : Ahead) (ahead : List Ahead) → IsTrail m seen (a ∷ ahead)
     → (q : List Step) → IsOneOf q (a.path ∷ seen) → (level s w : ℕ) × Reaches m q level s w
-reached-step m seen a ahead t q (inl e) = (a.level, a.segment, a.word, subst (λ u. Reaches m u a.level a.segment a.word) (sym e) t.ahead_reached.0)
+reached-step m seen a ahead t q (inl e) = (a.level, a.segment, a.word, rw e t.ahead_reached.0)
 reached-step m seen a ahead t q (inr h) = t.seen_reached q h
 
 -- The first word ahead is looked at, and its children come before the others.

@@ -1,10 +1,10 @@
 -- What one turn of a walk keeps.
-use Rattle.cap_spec.proofs.Lemmas.{one_word, Before-asymmetric, one_reached, lead_kind, one_object}
-use Rattle.cap_spec.proofs.ProofNames.{List, None, Option, Some, [], append-nil, arith, inl, inr, length-append, rules}
-use Rattle.cap_spec.proofs.ProofNames.{map, max, refl, subst, sym, ℕ, ◌++◌, ◌+◌, ◌<◌, ◌∙◌, ◌∷◌, ◌≡◌, ◌≤◌}
-use Rattle.cap_spec.proofs.ProofNames.{Finds, AreShallow, IsComposite, Leads, extra}
-use Rattle.cap_spec.proofs.ProofNames.{to_cap, to_null, IsOneOf, HasWord, Before, Costs, PathLeads, Reaches, Spot, StepsTo}
-use Rattle.cap_spec.proofs.ProofNames.{word, extent, kind, CostOf, IsDeepAt, levels_below}
+use Rattle.cap_spec.proofs.Lemmas.{one_word, Before-asymmetric, one_reached, lead_kind, one_object, one_lead}
+use Rattle.cap_spec.proofs.ProofNames.{List, None, Option, Some, [], append-nil, arith, inl, inr, length-append}
+use Rattle.cap_spec.proofs.ProofNames.{rules, map, max, refl, subst, sym, ℕ, ◌++◌, ◌+◌, ◌∙◌, ◌∷◌, ◌≡◌, ◌≤◌, Finds}
+use Rattle.cap_spec.proofs.ProofNames.{AreShallow, IsComposite, Leads, extra, to_cap, to_null, IsOneOf, HasWord}
+use Rattle.cap_spec.proofs.ProofNames.{Before, Costs, PathLeads, Reaches, Spot, StepsTo, word, extent, CostOf}
+use Rattle.cap_spec.proofs.ProofNames.{IsDeepAt, levels_below}
 use Rattle.cap_vet.specs.VetNames.{Step, object_children, IsCount, PointerWord, pointer_word_of, Ahead, Falls}
 use Rattle.cap_vet.specs.VetNames.{or_place, IsFirstOf, Progress}
 use Rattle.cap_vet.specs.Walking.{LeadsToCap}
@@ -12,7 +12,7 @@ use Rattle.cap_vet.proofs.Apart.{not_before-self}
 use Rattle.cap_vet.proofs.Children.{no_children}
 use Rattle.cap_vet.proofs.Counting.{count-step}
 use Rattle.cap_vet.proofs.Objects.{near-append, near-deeper, object-brings}
-use Rattle.cap_vet.proofs.Steps.{cap-counts, cap_no_object, null-counts, null_no_cap, null_no_object}
+use Rattle.cap_vet.proofs.Steps.{cap-counts, cap_no_object, null-counts, null_no_object}
 use Rattle.cap_vet.proofs.Tours.{Falls-before}
 use Rattle.cap_vet.proofs.Trails.{falls-step, trail-step}
 
@@ -33,11 +33,11 @@ next_ahead x places (a ∷ ahead) e = search rules
 -- null and capabilities lead to no node
 pub null_ends : (m : List (List ℕ)) (s w k : ℕ) → Leads m s w k to_null
     → (x : Step) (v : List Step) (mid : Spot) (n s' w' : ℕ) → StepsTo m (word s w) x mid → PathLeads m mid v n (word s' w') → ⊥
-null_ends m s w k h x v mid n s' w' x12 walks = search (rules, null_no_object)
+null_ends m s w k h x v mid n s' w' g walks = search (rules, null_no_object)
 
 pub cap_ends : (m : List (List ℕ)) (s w k i : ℕ) → Leads m s w k (to_cap i)
     → (x : Step) (v : List Step) (mid : Spot) (n s' w' : ℕ) → StepsTo m (word s w) x mid → PathLeads m mid v n (word s' w') → ⊥
-cap_ends m s w k i h x v mid n s' w' x13 walks = search (rules, cap_no_object)
+cap_ends m s w k i h x v mid n s' w' g walks = search (rules, cap_no_object)
 
 -- one more path that costs this much
 pub costs_on : (m : List (List ℕ)) (p : List Step) (seen : List (List Step)) (level s w cost charge : ℕ)
@@ -49,7 +49,7 @@ pub shallow_on : (m : List (List ℕ)) (depth level s w : ℕ) (p : List Step) (
     → Reaches m p level s w → ¬ IsDeepAt m depth s w level → AreShallow m depth seen → AreShallow m depth (p ∷ seen)
 shallow_on m depth level s w p seen r none others q level' s' w' (inl e) r' deep =
     let same = one_reached m p level' level s' w' s w (subst (λ u. Reaches m u level' s' w') e r') r in
-    none (subst (λ u. IsDeepAt m depth s w u) same.0 (subst (λ u. IsDeepAt m depth s u level') same.2 (subst (λ u. IsDeepAt m depth u w' level') same.1 deep)))
+    none (search rules)
 shallow_on m depth level s w p seen r none others q level' s' w' (inr h) r' deep = others q level' s' w' h r' deep
 
 -- a path that leads to no capability changes nothing of the first that does
@@ -77,7 +77,7 @@ first_cap m p seen None s w falls here h = (p, inl refl, here, λ q s' w' i befo
 first_cap m p seen (Some place) s w falls here (r, k, l, f) = (r, inr k, l, λ q s' w' i before lead. earlier q s' w' i before lead)
   where
     earlier : (q : List Step) (s' w' : ℕ) → IsOneOf q (p ∷ seen) → Before q r → ¬ LeadsToCap m q s' w'
-    earlier q s' w' (inl e) before lead = Before-asymmetric p r (subst (λ u. Before u r) e before) (Falls-before p r seen falls k)
+    earlier q s' w' (inl e) before lead = Before-asymmetric p r (search rules) (Falls-before p r seen falls k)
     earlier q s' w' (inr i) before lead = f q s' w' i before lead
 
 -- a turn at null
@@ -103,9 +103,7 @@ turn_null m words depth charge deepest pointers caps cost first seen a ahead t h
       few = omega (arith, t.few);
       first_cap = first_on m a.path seen first (λ s w lead.
           let same = one_reached m a.path a.level lead.0 a.segment a.word s w r lead.3 in
-          null_no_cap m s w cost lead.1 lead.2
-          (subst (λ u. Leads m s u cost to_null) same.2 (subst (λ u. Leads m u a.word cost to_null) same.1 h))
-          lead.4) t.first_cap;
+          search (rules, one_lead)) t.first_cap;
     }
 
 -- a turn at a capability
@@ -122,24 +120,17 @@ turn_cap m words depth charge deepest pointers caps cost i first seen a ahead t 
       within = within;
       shallow = t.shallow;
       costs = costs_on m a.path seen a.level a.segment a.word cost charge r (inr (inl (i, h))) t.costs;
-      levels = shallow_on m depth a.level a.segment a.word a.path seen r
-          (λ (k, t, b, q, tag, finds, has_tag, deep). cap_no_object m a.segment a.word cost i k t b q h finds) t.levels;
+      levels = shallow_on m depth a.level a.segment a.word a.path seen r (search (rules, cap_no_object)) t.levels;
       number = omega (arith, t.number);
       bound = omega (arith, t.bound);
       few = omega (arith, t.few);
       first_cap = first_cap m a.path seen first a.segment a.word (falls-step a seen ahead t.trail.falls t.trail.precedes) (a.level, cost, i, r, h) t.first_cap;
     }
 
--- equal objects take equal levels
-levels_same : (m : List (List ℕ)) (t b q tag t' b' q' tag' : ℕ) → kind q < 2 → t ≡ t' → b ≡ b' → q ≡ q'
-    → (IsComposite q → HasWord m t b tag) → (IsComposite q' → HasWord m t' b' tag')
-    → levels_below q tag ≡ levels_below q' tag'
-levels_same m t b q tag t' b' q' tag' h et eb eq k tagged' = search (rules, one_word)
-
 -- the level of an object, whichever way it is reported
 pub deep_once : (m : List (List ℕ)) (depth s w level k t b q tag : ℕ) → Finds m s w k t b q
     → (IsComposite q → HasWord m t b tag) → level + levels_below q tag ≤ depth → ¬ IsDeepAt m depth s w level
-deep_once m k s w e g a b c d f i h j = search (rules, one_object, levels_same, lead_kind)
+deep_once m k s w e g a b c d f i h j = search (rules, one_object, one_word, lead_kind)
 
 -- a turn at an object
 pub turn_object : (m : List (List ℕ)) (words depth charge deepest pointers caps k t b q tag : ℕ)
@@ -154,15 +145,9 @@ turn_object m words depth charge deepest pointers caps k t b q tag first seen a 
     let children : List Ahead = object_children a.path q tag t b a.level in
     let e : caps + 0 ≡ caps = omega arith in record {
       trail = trail-step m seen a children ahead h.trail o.children;
-      count = subst (λ u. IsCount m record {
-        charge = charge + (k + extent q + extra q tag);
-        depth = max deepest
-            (a.level + levels_below q tag);
-        pointers = pointers + 1;
-        caps = u;
-      } (children ++ ahead)) e
-          (count-step m record { charge = charge; depth = deepest; pointers = pointers; caps = caps } a children ahead
-          (k + extent q + extra q tag) (max deepest (a.level + levels_below q tag)) 0 h.count o.counts);
+      count = rw (← e) (count-step m record { charge = charge; depth = deepest; pointers = pointers; caps = caps } a
+          children ahead (k + extent q + extra q tag) (max deepest (a.level + levels_below q tag)) 0 h.count
+          o.counts);
       near = near-append (max deepest (a.level + levels_below q tag)) children ahead o.near
           (near-deeper deepest (max deepest (a.level + levels_below q tag)) ahead (omega arith) h.near.2);
       within = within;

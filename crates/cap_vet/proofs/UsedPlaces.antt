@@ -1,9 +1,9 @@
 -- What following a pointer that was looked at uses: its pads, and the words of its object.
 use Rattle.cap_spec.specs.Denoting.{places}
 use Rattle.cap_spec.proofs.Disjoint.Places.{no_pads}
-use Rattle.cap_spec.proofs.ProofNames.{List, ap, arith, append-nil, inl, inr, length, refl, subst, suc, sym, ℕ, ◌++◌, ◌+◌, ◌<◌, ◌∷◌, ◌≡◌, ◌≢◌, Lead, Leads}
-use Rattle.cap_spec.proofs.ProofNames.{to_cap, to_null, to_object, pos, HasWord, Occupies, far_segment, kind, pad, pads_of, two}
-use Rattle.cap_spec.proofs.ProofNames.{rules}
+use Rattle.cap_spec.proofs.ProofNames.{List, arith, append-nil, inl, inr, length, refl, subst, suc, sym, ℕ, ◌++◌, ◌+◌}
+use Rattle.cap_spec.proofs.ProofNames.{◌<◌, ◌≡◌, ◌≢◌, Lead, Leads, to_cap, to_null, to_object, pos, HasWord, Occupies}
+use Rattle.cap_spec.proofs.ProofNames.{far_segment, kind, pad, pads_of, two, rules}
 use Rattle.cap_vet.specs.Marks.{UsesAlone, UsesPlace}
 use Rattle.cap_vet.specs.Turning.{place_of}
 use Rattle.cap_vet.specs.VetNames.{IsLooked}
@@ -48,9 +48,8 @@ near_alone {m} {s} {w} {q} {p} has near h = record {
 -- places in a row, and then more
 places_on : (t b n k : ℕ) → places t b n ++ places t (b + n) k ≡ places t b (n + k)
 places_on t b (suc n) k =
-    let next : b + suc n ≡ b + 1 + n = omega arith in
     let more : suc n + k ≡ suc (n + k) = omega arith in
-    rw (next, more) (ap (λ (u : List (ℕ × ℕ)). (t, b) ∷ u) (places_on t (b + 1) n k))
+    search (rules, places_on t (b + 1) n k)
 places_on t b n k = search rules
 
 -- and so does a far one whose pads are right before them.

@@ -2,15 +2,15 @@
 use Rattle.cap_spec.specs.declared.Reason.TheVariants.{NoRoot}
 use Rattle.cap_spec.proofs.Frames.Messages.{HasWord-at}
 use Rattle.cap_spec.proofs.Lemmas.{fault_tour}
-use Rattle.cap_spec.proofs.ProofNames.{List, None, Option, Some, [], arith, inl, inr, length, length-append, map, refl}
-use Rattle.cap_spec.proofs.ProofNames.{reverse, subst, sym, ℕ, ◌++◌, ◌+◌, ◌<◌, ◌∷◌, ◌≡◌, HasNoRoot, IsFaultAt}
-use Rattle.cap_spec.proofs.ProofNames.{IsFirstFault, AreShallow, IsFirstReason, IsOneOf, segment_of, IsTour, Reaches, CostOf}
+use Rattle.cap_spec.proofs.ProofNames.{List, None, Option, Some, [], arith, inl, inr, length, length-append, map}
+use Rattle.cap_spec.proofs.ProofNames.{refl, reverse, subst, sym, ℕ, ◌++◌, ◌+◌, ◌<◌, ◌∷◌, ◌≡◌, HasNoRoot, IsFaultAt}
+use Rattle.cap_spec.proofs.ProofNames.{IsFirstFault, AreShallow, IsFirstReason, segment_of, IsTour, Reaches, CostOf}
 use Rattle.cap_spec.proofs.ProofNames.{common_steps, rules}
 use Rattle.cap_spec.proofs.Verdicts.OneFault.{none_before}
 use Rattle.cap_vet.specs.PointerRuns.{root_run}
-use Rattle.cap_vet.specs.VetNames.{Reason, Step, depth_of, words_of, IsCount, pointer_word_of, IsAccepted, IsFirstCapOf}
-use Rattle.cap_vet.specs.VetNames.{IsVetted, Ahead, IsTrail, IsWalking, HasWalked, IsFirstOf, IsNext, Progress, Limits}
-use Rattle.cap_vet.specs.VetNames.{Report, PointerRun}
+use Rattle.cap_vet.specs.VetNames.{Reason, Step, depth_of, words_of, pointer_word_of, IsAccepted, IsFirstCapOf}
+use Rattle.cap_vet.specs.VetNames.{IsVetted, Ahead, IsTrail, IsWalking, HasWalked, IsFirstOf, IsNext, Progress}
+use Rattle.cap_vet.specs.VetNames.{Limits, Report, PointerRun}
 use Rattle.cap_vet.specs.Turns.{HoldsBefore}
 use Rattle.cap_vet.specs.declared.walk.turn.Stopped.{Stopped}
 use Rattle.cap_vet.specs.declared.walk.turn.Stopped.TheVariants.{ByTurn, Refused}
@@ -69,9 +69,7 @@ first_fault m words depth s w level runs report v t h =
       fault = fault;
       first = record {
         holds = (record { segment = s; word = w; reason = v; pointers = report.pointers + 1 }, fault);
-        first = λ other b (r, g).
-            none_before m words depth t.a.path (in_order t.seen) report.charge (fault_tour fault) fault.costs
-            t.progress.within shallow other b r g;
+        first = λ other b (r, g). search (rules, none_before, fault_tour);
       };
       few = omega (arith, t.progress.bound, t.progress.within);
     }
@@ -97,20 +95,18 @@ pub none_ahead : (ahead : List Ahead) → map pointer_word_of ahead ≡ [] → a
 none_ahead [] e = refl
 none_ahead (a ∷ ahead) e = absurd (let h : pointer_word_of a ∷ map pointer_word_of ahead ≡ [] = e in cc)
 
--- all that a path reaches was looked at
-all_seen : (m : List (List ℕ)) (seen : List (List Step)) (q : List Step) (level s w : ℕ) → IsTrail m seen [] → Reaches m q level s w → IsOneOf q seen
-all_seen m seen q level s w t r = elim (t.complete q level s w r) [ inl h ↦ h | inr h ↦ absurd h ]
-
 -- the first capability of all paths
 whole_first_cap : (m : List (List ℕ)) (seen : List (List Step)) (first : Option (ℕ × ℕ)) → IsTrail m seen [] → IsFirstOf m seen first → IsFirstCapOf m first
-whole_first_cap m seen None t h = λ path (level, s, w, k, i, r, lead). h path s w (all_seen m seen path level s w t r) (level, k, i, r, lead)
+whole_first_cap m seen None t h = λ path (level, s, w, k, i, r, lead). h path s w
+    (elim (t.complete path level s w r) [ inl h ↦ h | inr h ↦ absurd h ]) (level, k, i, r, lead)
 whole_first_cap m seen (Some place) t (p, one, (level, k, i, r, lead), first) = record {
   path = p;
   level = level;
   reached = r;
   first = record {
     holds = (level, place.0, place.1, k, i, r, lead);
-    first = λ other before (level', s', w', k', i', r', lead'). first other s' w' (all_seen m seen other level' s' w' t r') before (level', k', i', r', lead');
+    first = λ other before (level', s', w', k', i', r', lead'). first other s' w'
+        (elim (t.complete other level' s' w' r') [ inl h ↦ h | inr h ↦ absurd h ]) before (level', k', i', r', lead');
   };
 }
 
@@ -120,20 +116,14 @@ pub accepted_at_end : {m : List (List ℕ)} {words depth : ℕ} {report : Report
     → IsAccepted m words depth report
 accepted_at_end {m} {words} {depth} {report} seen ahead w =
     let none : ahead ≡ [] = none_ahead ahead w.places in
-    let p : Progress m words depth report.charge report.depth report.pointers report.caps report.first_cap seen [] =
-    subst (Progress m words depth report.charge report.depth report.pointers report.caps report.first_cap seen) none w.progress in
-    let (t, d, whole) = p.count.completes 0 0 0 0 (refl, refl, refl, refl) in
+    let (t, d, whole) = (subst (Progress m words depth report.charge report.depth report.pointers report.caps
+    report.first_cap seen) none w.progress).count.completes 0 0 0 0 (refl, refl, refl, refl) in
     let e : report.charge + 0 ≡ report.charge = omega arith in
     let f : d ≡ report.depth = omega (arith, whole.depth) in search (rules, whole_first_cap)
 
 -- What is accepted within limits is accepted within the greatest.
 pub vetted_within : (m : List (List ℕ)) (limits : Limits) (report : Report) → IsAccepted m (words_of limits) (depth_of limits) report → IsVetted m report
 vetted_within m limits report (t, a) = search rules
-
--- what the root's word completes is the root's tree
-count_at_start : (m : List (List ℕ)) → IsCount m record { charge = 0; depth = 0; pointers = 0; caps = 0 }
-    (record { path = []; segment = 0; word = 0; level = 1 } ∷ [])
-count_at_start m = search rules
 
 -- Before the first word nothing was looked at, and the root is ahead.
 starts : (m : List (List ℕ)) (words depth : ℕ) (report : Report) → 0 < length m → 0 < length (segment_of m 0)
@@ -144,7 +134,7 @@ starts m words depth report some root e1 e2 e3 e4 e5 =
       seen = [];
       a = record { path = []; segment = 0; word = 0; level = 1 };
       ahead = [];
-      progress = search (rules, count_at_start);
+      progress = search rules;
       segment = refl;
       at = refl;
       leads_to = refl;

@@ -1,14 +1,14 @@
 -- What a view shows, by its kind.
-use Rattle.cap_spec.specs.Showing.{bit_of, byte_of, count_of, scalar_of}
+use Rattle.cap_spec.specs.Showing.{byte_of, count_of}
 use Rattle.cap_spec.specs.declared.Kind.TheVariants.{Pointers, Scalars, Struct, Structs}
 use Rattle.cap_spec.proofs.Lemmas.{short_segment, range_length, word_within}
-use Rattle.cap_spec.proofs.ProofNames.{List, None, Option, Some, ap, arith, get_or, inl, inr, length, min, option_map}
-use Rattle.cap_spec.proofs.ProofNames.{refl, slice_get, sym, ℕ, ◌%◌, ◌*◌, ◌+◌, ◌-◌, ◌/◌, ◌<◌, ◌==◌, ◌^◌, ◌∙◌, ◌≡◌}
-use Rattle.cap_spec.proofs.ProofNames.{◌≤◌, ◌⊎◌, slice_get-get_or, own_at, value_at, values_of, words_from, HasWord}
-use Rattle.cap_spec.proofs.ProofNames.{IsMessage, segment_of, word_bytes, element_bits, scalar_words, kind_of, rules}
+use Rattle.cap_spec.proofs.ProofNames.{List, None, Option, Some, ap, arith, get_or, inl, inr, length, min, refl}
+use Rattle.cap_spec.proofs.ProofNames.{slice_get, sym, ℕ, ◌%◌, ◌*◌, ◌+◌, ◌-◌, ◌/◌, ◌<◌, ◌^◌, ◌∙◌, ◌≡◌, ◌≤◌, ◌⊎◌}
+use Rattle.cap_spec.proofs.ProofNames.{slice_get-get_or, own_at, values_of, words_from, HasWord, IsMessage}
+use Rattle.cap_spec.proofs.ProofNames.{segment_of, word_bytes, element_bits, scalar_words, kind_of, rules}
 use Rattle.cap_spec.proofs.ProofNames.{words_of_own, field}
-use Rattle.cap_spec.proofs.Trees.Readings.{byte_past, byte_there, length-values, length-values_words, value_past}
-use Rattle.cap_spec.proofs.Trees.Readings.{value_there, values_word_past, values_word_there, word_past}
+use Rattle.cap_spec.proofs.Trees.Readings.{byte_past, byte_there, length-values, length-values_words}
+use Rattle.cap_spec.proofs.Trees.Readings.{values_word_there}
 use Rattle.cap_vet.specs.VetNames.{Kind, own_words}
 
 -- the kind of what is shown
@@ -28,19 +28,10 @@ pub few_shown : (m : List (List ℕ)) {k : Kind} {t : ℕ} (b c x : ℕ) {n : �
     → length (words_of_own (own_at m k t b)) < 2 ^ 32
 few_shown m {t} b c x {n} message exists e own inside = search (rules, short_segment, length-values_words)
 
--- element i of a list of values
-pub scalar_past : (m : List (List ℕ)) {k : Kind} (t b c : ℕ) {n i : ℕ} → k ≡ Scalars c n → n ≤ i → None ≡ scalar_of (own_at m k t b) i
-scalar_past m t b c {n} {i} e past = rw e (sym (value_past m t b c n i past))
-
-pub scalar_there : (m : List (List ℕ)) {k : Kind} (t b c : ℕ) {n i x : ℕ} → k ≡ Scalars c n → i < n
-    → x ≡ value_at (segment_of m t) b (element_bits c) i → Some x ≡ scalar_of (own_at m k t b) i
-scalar_there m t b c {n} {i} e lt f = rw e (ap Some f ∙ sym (value_there m t b c n i lt))
-
 -- byte i of a struct
 pub shown_byte : (m : List (List ℕ)) {k : Kind} (t b d p i : ℕ) {w : ℕ} (r : Option ℕ) → k ≡ Struct d p → r ≡ slice_get (words_from m t b d) (i / 8) → r ≡ Some w
     → Some (get_or (word_bytes w) (i % 8) 0) ≡ byte_of (own_at m k t b) i
 shown_byte m t b d p i {w} r e f g =
-    let l : i % 8 < length (word_bytes w) = omega arith in
     let h : i / 8 * 8 + i % 8 ≡ i = omega arith in
     search (rules, slice_get-get_or, byte_there)
 
@@ -50,25 +41,9 @@ shown_no_byte m t b d p i r e f g =
     let h : i / 8 * 8 + i % 8 ≡ i = omega arith in
     rw e (sym (byte_past (words_from m t b d) (i / 8) (i % 8) (sym f ∙ g)) ∙ ap (λ (y : ℕ). byte_of (own_at m (Struct d p) t b) y) h)
 
--- bit i of a struct
-pub shown_bit : (m : List (List ℕ)) {k : Kind} (t b d p i : ℕ) {w : ℕ} (r : Option ℕ) → k ≡ Struct d p
-    → r ≡ slice_get (words_from m t b d) (i / 64) → r ≡ Some w → Some (field w (i % 64) 1 == 1) ≡ bit_of
-    (own_at m k t b) i
-shown_bit m t b d p i r e f g = rw e (ap (option_map (λ (x : ℕ). field x (i % 64) 1 == 1)) (sym g ∙ f))
-
-pub shown_no_bit : (m : List (List ℕ)) {k : Kind} (t b d p i : ℕ) (r : Option ℕ) → k ≡ Struct d p
-    → r ≡ slice_get (words_from m t b d) (i / 64) → r ≡ None → None ≡ bit_of (own_at m k t b) i
-shown_no_bit m t b d p i r e f g = rw e (ap (option_map (λ (x : ℕ). field x (i % 64) 1 == 1)) (sym g ∙ f))
-
--- a word of a list of values, where `size` is the bits of a value, of which there are `count`
-pub shown_no_word : (m : List (List ℕ)) (t b c : ℕ) {n i size count at : ℕ} → size ≡ element_bits c → count ≡ n → at ≡ i
-    → size * count ≤ at * 64 → None ≡ slice_get (scalar_words c (values_of m t b c n)) i
-shown_no_word m t b c {n} {i} e f g past = search (rules, values_word_past, word_past)
-
 pub shown_word : (m : List (List ℕ)) (t b c : ℕ) {n i size count at : ℕ} (x : ℕ) {used y : ℕ} → size ≡ element_bits c → count ≡ n → at ≡ i
     → at * 64 < size * count → used ≡ min (size * count - at * 64) 64
     → HasWord m t (b + i) x → y ≡ field x 0 used → Some y ≡ slice_get (scalar_words c (values_of m t b c n)) i
 shown_word m t b c {n} {i} x {used} e f g lt u has h =
-    let p : i * 64 < element_bits c * n = rw (← e, ← f, ← g) lt in
     let v : used ≡ min 64 (element_bits c * n - i * 64) = rw (← e, ← f, ← g) (omega (arith, u)) in
-    ap Some (h ∙ ap (field x 0) v) ∙ sym (values_word_there m t b c n i x (word_within c n i p) has)
+    search (rules, values_word_there, word_within, has)

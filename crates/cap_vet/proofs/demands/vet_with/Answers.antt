@@ -1,13 +1,11 @@
-use Rattle.std.proofs.Common.{Err, ap}
 use Rattle.cap_spec.specs.declared.StrictRefusal.TheVariants.{Refused}
 use Rattle.cap_vet.specs.Limits.{words_of}
 use Rattle.cap_vet.proofs.Demanding.{fault_demanded, one_demand_fault, strict_meets}
 use Rattle.cap_vet.proofs.demands.vet_with.Goals as goal
+use Rattle.cap_spec.proofs.ProofNames.{rules, Err, ap}
 
 pub returns-in-Ok-clause-refuses : goal.returns-in-Ok-clause-refuses
-returns-in-Ok-clause-refuses g c = λ r h. absurd
-    (strict_meets c.args.demands (g.M.Segments.segments c.args.message.now) (words_of c.args.limits) _ _ _
-    c.limits_under-limits.ensures.words c.limits_under-limits.ensures.depth r c.in-Ok.ensures.ok.1 h)
+returns-in-Ok-clause-refuses g c = λ r h. absurd (search (rules, strict_meets))
 
 pub returns-in-Err-clause-err : goal.returns-in-Err-clause-err
 returns-in-Err-clause-err g c = fault_demanded c.args.demands (g.M.Segments.segments c.args.message.now)
@@ -15,10 +13,7 @@ returns-in-Err-clause-err g c = fault_demanded c.args.demands (g.M.Segments.segm
     c.in-Err.refusal c.if-demands.true c.in-Err.ensures.err
 
 pub returns-in-Err-clause-refuses : goal.returns-in-Err-clause-refuses
-returns-in-Err-clause-refuses g c = λ r h. ap Err
-    (one_demand_fault c.args.demands (g.M.Segments.segments c.args.message.now) (words_of c.args.limits) _ _ _
-    c.limits_under-limits.ensures.words c.limits_under-limits.ensures.depth
-    c.in-Err.refusal r c.in-Err.ensures.err h)
+returns-in-Err-clause-refuses g c = λ r h. ap Err (search (rules, one_demand_fault))
 
 pub returns-in-Err-vet-clause-refuses : goal.returns-in-Err-vet-clause-refuses
 returns-in-Err-vet-clause-refuses g c = λ r h. ap Err

@@ -1,5 +1,5 @@
 use Rattle.std.proofs.Common.{arith, rules}
-use Rattle.cap_vet.proofs.MarkingWalk.{knows_overlap, root_marked}
+use Rattle.cap_vet.proofs.MarkingWalk.{root_marked}
 use Rattle.cap_vet.proofs.exclusiveness.exclusive_vetting.mark_all.Goals as goal
 
 pub mark_words-requires : goal.mark_words-requires
@@ -15,4 +15,4 @@ walk-requires g c =
     )
 
 pub returns-in-Ok-clause-ok : goal.returns-in-Ok-clause-ok
-returns-in-Ok-clause-ok g c = search (rules, knows_overlap)
+returns-in-Ok-clause-ok g c = search rules

@@ -1,31 +1,28 @@
 use Rattle.cap_spec.proofs.Disjoint.Overlaps.{none_of_disjoint, one_overlap}
 use Rattle.cap_spec.proofs.ProofNames.{Err, ap, inl, inr, rules}
-use Rattle.cap_vet.specs.VetNames.{depth_of, report_of, words_of}
 use Rattle.cap_vet.specs.declared.exclusiveness.exclusive_vetting.ExclusiveRefusal.TheVariants.{Refused}
 use Rattle.cap_vet.proofs.Demanding.{no_fault_under, one_fault_under}
-use Rattle.cap_vet.proofs.ExclusiveFaults.{only_memory, only_overlap, only_refused}
-use Rattle.cap_vet.proofs.MarkingWalk.{disjoint_bound}
+use Rattle.cap_vet.proofs.ExclusiveFaults.{only_memory, only_overlap}
 use Rattle.cap_vet.proofs.exclusiveness.exclusive_vetting.vet_exclusive.Goals as goal
+use Rattle.cap_spec.proofs.Disjoint.Bounds.{charge_below_words}
 
 pub returns-in_default-clause-refuses : goal.returns-in_default-clause-refuses
-returns-in_default-clause-refuses g c = search (rules, only_refused)
+returns-in_default-clause-refuses g c = search (rules, one_fault_under, no_fault_under)
 
 pub returns-in_default-clause-accepts : goal.returns-in_default-clause-accepts
 returns-in_default-clause-accepts g c = search (rules, only_memory)
 
 pub returns-in_default-clause-names : goal.returns-in_default-clause-names
-returns-in_default-clause-names g c = λ s w n met first. elim
-    (only_overlap c.args.demands _ (words_of c.args.limits) (depth_of c.args.limits) c.without_marks-in_default.result s w n
-    c.without_marks-in_default.ensures met first) [ inl e ↦ inl (ap Err e) | inr e ↦ inr (ap Err e) ]
+returns-in_default-clause-names g c = λ s w n met first. elim (only_overlap _ _ _ _ c.without_marks-in_default.result
+    s w n c.without_marks-in_default.ensures met first) [ inl e ↦ inl (ap Err e) | inr e ↦ inr (ap Err e) ]
 
 pub returns-in-Ok-default-None-clause-bound : goal.returns-in-Ok-default-None-clause-bound
 returns-in-Ok-default-None-clause-bound g c =
     let ok = rw c.in-Ok-default-None.field-0-1-is at c.in-Ok-default-None.ensures.ok in
-    disjoint_bound _ _ _ (report_of c.in-Ok-default-None.vetted) ok.0.0 ok.1
+    search (rules, charge_below_words)
 
 pub returns-in-Ok-default-None-clause-refuses : goal.returns-in-Ok-default-None-clause-refuses
-returns-in-Ok-default-None-clause-refuses g c = λ r h. absurd
-    (no_fault_under c.args.demands _ (words_of c.args.limits) (depth_of c.args.limits) r c.in-Ok-default-None.ensures.ok.0.1 h)
+returns-in-Ok-default-None-clause-refuses g c = λ r h. absurd (search (rules, no_fault_under))
 
 pub returns-in-Ok-default-None-clause-names : goal.returns-in-Ok-default-None-clause-names
 returns-in-Ok-default-None-clause-names g c = λ s w n met first.
@@ -33,8 +30,7 @@ returns-in-Ok-default-None-clause-names g c = λ s w n met first.
     absurd (none_of_disjoint _ ok.1 first.path first.first.holds)
 
 pub returns-in-Ok-default-Some-clause-refuses : goal.returns-in-Ok-default-Some-clause-refuses
-returns-in-Ok-default-Some-clause-refuses g c = λ r h. absurd
-    (no_fault_under c.args.demands _ (words_of c.args.limits) (depth_of c.args.limits) r c.in-Ok-default-Some.ensures.ok.0.1 h)
+returns-in-Ok-default-Some-clause-refuses g c = λ r h. absurd (search (rules, no_fault_under))
 
 pub returns-in-Ok-default-Some-clause-accepts : goal.returns-in-Ok-default-Some-clause-accepts
 returns-in-Ok-default-Some-clause-accepts g c = λ met disjoint.
@@ -47,13 +43,10 @@ returns-in-Ok-default-Some-clause-names g c = λ s w n met first.
     (let same = one_overlap (g.M.Segments.segments c.args.message.now) _ _ _ s w n ok.1 first in inl (cc))
 
 pub returns-clause-refuses : goal.returns-clause-refuses
-returns-clause-refuses g c = λ r h. ap (λ u. Err (Refused u))
-    (one_fault_under c.args.demands _ (words_of c.args.limits) (depth_of c.args.limits) c.in-Err.refusal r c.in-Err.ensures.err h)
+returns-clause-refuses g c = λ r h. ap (λ u. Err (Refused u)) (search (rules, one_fault_under))
 
 pub returns-clause-accepts : goal.returns-clause-accepts
-returns-clause-accepts g c = λ met disjoint. absurd
-    (no_fault_under c.args.demands _ (words_of c.args.limits) (depth_of c.args.limits) c.in-Err.refusal met c.in-Err.ensures.err)
+returns-clause-accepts g c = λ met disjoint. absurd (search (rules, no_fault_under))
 
 pub returns-clause-names : goal.returns-clause-names
-returns-clause-names g c = λ s w n met first. absurd
-    (no_fault_under c.args.demands _ (words_of c.args.limits) (depth_of c.args.limits) c.in-Err.refusal met c.in-Err.ensures.err)
+returns-clause-names g c = λ s w n met first. absurd (search (rules, no_fault_under))

@@ -7,10 +7,9 @@ use Rattle.cap_vet.proofs.exclusiveness.exclusive_vetting.vet_marking.Goals as g
 
 pub returns-in-None-clause-ok : goal.returns-in-None-clause-ok
 returns-in-None-clause-ok g c =
-    let m = g.M.Segments.segments c.args.message.now in
     let w = c.in-Ok.ensures.ok in (
-      met_at_end c.args.demands m (words_of c.args.limits) _ _ _ c.limits_under-limits.ensures.words c.limits_under-limits.ensures.depth
-          w.seen w.ahead _ w.walks w.known.1 c.in-None.ensures.none,
+      met_at_end c.args.demands _ (words_of c.args.limits) _ _ _ c.limits_under-limits.ensures.words
+          c.limits_under-limits.ensures.depth w.seen w.ahead _ w.walks w.known.1 c.in-None.ensures.none,
       ends_marking _ w.seen w.ahead _ w.walks w.known.0,
     )
 
@@ -18,9 +17,7 @@ pub returns-in-Some-clause-err : goal.returns-in-Some-clause-err
 returns-in-Some-clause-err g c =
     let m = g.M.Segments.segments c.args.message.now in
     let message : IsMessage m = search rules in
-    let w = c.in-Ok.ensures.ok in
-    demand_fault_at_end c.args.demands m (words_of c.args.limits) _ _ _ c.limits_under-limits.ensures.words c.limits_under-limits.ensures.depth
-    w.seen w.ahead _ c.in-Some.fault message w.walks w.known.1 c.in-Some.ensures.some
+    search (rules, demand_fault_at_end)
 
 pub invariant_of-result : goal.invariant_of-result
 invariant_of-result g c =

@@ -1,4 +1,4 @@
-use Rattle.std.proofs.Common.{arith, bit_and, refl, slice_index_or, subst, ◌%◌, ◌+◌, ◌-◌, ◌/◌, ◌<◌, ◌≡◌, ◌≢◌, ◌≤◌}
+use Rattle.std.proofs.Common.{arith, bit_and, refl, slice_index_or, subst, ◌%◌, ◌+◌, ◌-◌, ◌/◌, ◌<◌, ◌≡◌, ◌≤◌, rules}
 use Rattle.std.proofs.Math.Facts.{Fits-lt-pow}
 use Rattle.std.proofs.lemmas.List.{length-set}
 use Rattle.cap_vet.proofs.Bits.{finds_taken, sets_word}
@@ -10,7 +10,7 @@ returns-then-words-k-ne0 c =
     let from = c.args.from in
     let few : from % 64 + c.args.count ≤ 64 = omega (arith, c.if-high-gt64.false) in
     let f = finds_taken words from (from % 64 + c.args.count) few (Fits-lt-pow (c.type_inv.words (from / 64)))
-    (subst (λ u. bit_and (slice_index_or words (from / 64) 0) u ≢ 0) c.mask-ones.ensures c.if-words-k-ne0.true) in record {
+    (search rules) in record {
       same_length = refl;
       taken = λ e. absurd (cc e);
       free = λ e. absurd (cc e);

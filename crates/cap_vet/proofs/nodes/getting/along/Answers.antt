@@ -1,12 +1,12 @@
 -- The path is followed step by step.
-use Rattle.std.proofs.Common.{List, [], ap, append-nil, append_assoc, arith, refl, subst, sym, ◌++◌, ◌∙◌, ◌∷◌}
 use Rattle.std.proofs.Math.Logic.{∥∥₁_map}
-use Rattle.cap_vet.specs.VetNames.{Step, Arrives, IsWay, Early, To}
-use Rattle.cap_vet.specs.declared.nodes.way.Way.TheVariants.{Refused}
+use Rattle.cap_vet.specs.VetNames.{Step, Arrives}
 use Rattle.cap_vet.proofs.PathWays.{all_steps, done_steps, step_no_node, step_refused}
 use Rattle.cap_vet.proofs.AtSomePlace.{arrival_few, arrival_levels}
 use Rattle.cap_vet.proofs.StepsGiven.{no_step_given, step_given}
 use Rattle.cap_vet.proofs.nodes.getting.along.Goals as goal
+use Rattle.cap_spec.proofs.ProofNames.{rules, List, [], ap, append-nil, append_assoc, arith, refl, subst, sym, ◌++◌}
+use Rattle.cap_spec.proofs.ProofNames.{◌∙◌, ◌∷◌}
 
 pub loop-step-init : goal.loop-step-init
 loop-step-init g c =
@@ -23,13 +23,11 @@ step-requires-clause-arrived g c =
 
 pub step-requires-clause-levels : goal.step-requires-clause-levels
 step-requires-clause-levels g c =
-    let l = arrival_levels _ _ _ c.loop-step.at (step-requires-clause-arrived g c) in
-    omega (arith, l)
+    omega (arith, arrival_levels _ _ _ c.loop-step.at (step-requires-clause-arrived g c))
 
 pub step-requires-clause-few : goal.step-requires-clause-few
 step-requires-clause-few g c =
-    let l = arrival_few _ _ _ c.loop-step.at (step-requires-clause-arrived g c) in
-    omega (arith, l)
+    omega (arith, arrival_few _ _ _ c.loop-step.at (step-requires-clause-arrived g c))
 
 pub loop-step-preserved : goal.loop-step-preserved
 loop-step-preserved g c =
@@ -50,7 +48,6 @@ loop-step-preserved g c =
 
 pub returns-in-Ok-None-clause-way : goal.returns-in-Ok-None-clause-way
 returns-in-Ok-None-clause-way g c = λ first steps a arrives left.
-    let m = g.M.Segments.segments c.args.message.now in
     let h = c.loop-step.invariant in
     let step = c.in-Some.step in
     let x = h.1 first a arrives in
@@ -58,8 +55,7 @@ returns-in-Ok-None-clause-way g c = λ first steps a arrives left.
     let n = step_given g.S.StepSource.gives c.loop-step.left c.next_step.new.self c.next_step.result step k.0 c.in-Some.is
     c.next_step.ensures.some c.next_step.ensures.none k.2 in
     let none = rw c.in-Ok-None.field-0-is at (c.in-Ok-None.ensures.none (first ++ h.0) x.0 x.1) in
-    subst (λ (ss : List Step). IsWay m c.args.words c.args.depth ss (Early c.loop-step.at)) (all_steps first h.0 steps k.0 n.0 step k.1 n.1)
-    (step_no_node m c.args.words c.args.depth (first ++ h.0) n.0 step x.0 c.loop-step.at x.1 none)
+    search (rules, all_steps, step_no_node)
 
 pub returns-in-Err-clause-way : goal.returns-in-Err-clause-way
 returns-in-Err-clause-way g c = λ first steps a arrives left.
@@ -70,32 +66,29 @@ returns-in-Err-clause-way g c = λ first steps a arrives left.
     let k = h.2 steps left in
     let n = step_given g.S.StepSource.gives c.loop-step.left c.next_step.new.self c.next_step.result step k.0 c.in-Some.is
     c.next_step.ensures.some c.next_step.ensures.none k.2 in
-    subst (λ (ss : List Step). IsWay m c.args.words c.args.depth ss (Refused c.in-Err.refusal)) (all_steps first h.0 steps k.0 n.0 step k.1 n.1)
-    (step_refused m c.args.words c.args.depth (first ++ h.0) n.0 step c.in-Err.refusal (c.in-Err.ensures.err (first ++ h.0) x.0 x.1))
+    rw (← all_steps first h.0 steps k.0 n.0 step k.1 n.1) (step_refused m c.args.words c.args.depth (first ++ h.0) n.0
+    step c.in-Err.refusal (c.in-Err.ensures.err (first ++ h.0) x.0 x.1))
 
 pub returns-clause-way : goal.returns-clause-way
 returns-clause-way g c = λ first steps a arrives left.
-    let m = g.M.Segments.segments c.args.message.now in
     let h = c.loop-step.invariant in
     let x = h.1 first a arrives in
     let k = h.2 steps left in
     let none = no_step_given g.S.StepSource.gives c.loop-step.left c.next_step.new.self c.next_step.result k.0 c.in_default.is c.next_step.ensures.some k.2 in
-    subst (λ (ss : List Step). IsWay m c.args.words c.args.depth ss (To c.loop-step.at)) (done_steps first h.0 steps k.0 k.1 none) (x.0, x.1)
+    search (rules, done_steps)
 
 pub returns-clause-leads : goal.returns-clause-leads
 returns-clause-leads g c =
-    let h = c.loop-step.invariant in
-    ∥∥₁_map c.requires.arrived (λ r. (r.0 ++ h.0, h.1 r.0 r.1 r.2))
+    ∥∥₁_map c.requires.arrived (λ r. (r.0 ++ c.loop-step.invariant.0, c.loop-step.invariant.1 r.0 r.1 r.2))
 
 pub returns-in-Ok-None-clause-leads : goal.returns-in-Ok-None-clause-leads
 returns-in-Ok-None-clause-leads g c =
-    let m = g.M.Segments.segments c.args.message.now in
     let h = c.loop-step.invariant in
     let step = c.in-Some.step in
     ∥∥₁_map c.requires.arrived (λ r.
     let x = h.1 r.0 r.1 r.2 in
     let none = rw c.in-Ok-None.field-0-is at (c.in-Ok-None.ensures.none (r.0 ++ h.0) x.0 x.1) in
-    ((r.0 ++ h.0) ++ step ∷ [], step_no_node m c.args.words c.args.depth (r.0 ++ h.0) [] step x.0 c.loop-step.at x.1 none))
+    ((r.0 ++ h.0) ++ step ∷ [], step_no_node _ c.args.words c.args.depth (r.0 ++ h.0) [] step x.0 c.loop-step.at x.1 none))
 
 pub returns-in-Err-clause-leads : goal.returns-in-Err-clause-leads
 returns-in-Err-clause-leads g c =
@@ -105,6 +98,5 @@ returns-in-Err-clause-leads g c =
     ∥∥₁_map c.requires.arrived (λ r.
     let x = h.1 r.0 r.1 r.2 in (
       (r.0 ++ h.0) ++ step ∷ [],
-      step_refused m c.args.words c.args.depth (r.0 ++ h.0) [] step c.in-Err.refusal
-          (c.in-Err.ensures.err (r.0 ++ h.0) x.0 x.1),
+      step_refused _ _ _ _ _ _ _ (c.in-Err.ensures.err (r.0 ++ h.0) x.0 x.1),
     ))

@@ -1,6 +1,6 @@
 -- The path is followed by looks alone.
-use Rattle.cap_spec.proofs.ProofNames.{List, Option, [], ap, append_assoc, arith, subst, sym, ◌++◌, ◌∙◌, ◌∷◌}
-use Rattle.cap_vet.specs.VetNames.{Step, IsWay, SomeArrives, To, LaxPointer}
+use Rattle.cap_spec.proofs.ProofNames.{List, [], ap, append_assoc, arith, sym, ◌++◌, ◌∙◌, ◌∷◌, rules, common_steps}
+use Rattle.cap_vet.specs.VetNames.{Step}
 use Rattle.cap_vet.proofs.PathWays.{done_steps}
 use Rattle.cap_vet.proofs.AtSomePlace.{arrival_few, arrival_levels}
 use Rattle.cap_vet.proofs.StepsGiven.{no_step_given, step_given}
@@ -12,13 +12,11 @@ step_near-requires-clause-arrived g c =
 
 pub step_near-requires-clause-levels : goal.step_near-requires-clause-levels
 step_near-requires-clause-levels g c =
-    let l = arrival_levels _ _ _ c.loop-step.at (step_near-requires-clause-arrived g c) in
-    omega (arith, l)
+    omega (arith, arrival_levels _ _ _ c.loop-step.at (step_near-requires-clause-arrived g c))
 
 pub step_near-requires-clause-few : goal.step_near-requires-clause-few
 step_near-requires-clause-few g c =
-    let l = arrival_few _ _ _ c.loop-step.at (step_near-requires-clause-arrived g c) in
-    omega (arith, l)
+    omega (arith, arrival_few _ _ _ c.loop-step.at (step_near-requires-clause-arrived g c))
 
 pub loop-step-preserved : goal.loop-step-preserved
 loop-step-preserved g c =
@@ -36,17 +34,11 @@ loop-step-preserved g c =
 
 pub returns-clause-way : goal.returns-clause-way
 returns-clause-way g c = λ steps left.
-    let m = g.M.Segments.segments c.args.message.now in
     let h = c.loop-step.invariant in
     let k = h.2 steps left in
     let none = no_step_given g.S.StepSource.gives c.loop-step.left c.next_step.new.self c.next_step.result k.0 c.in_default.is c.next_step.ensures.some k.2 in
     let at = c.loop-step.at in
-    subst (λ (o : Option LaxPointer). IsWay m c.args.words c.args.depth steps (To record at { lax = o })) h.3
-    (subst (λ (ss : List Step). IsWay m c.args.words c.args.depth ss (To at)) (done_steps [] h.0 steps k.0 k.1 none) h.1)
+    search (rules, done_steps)
 
 pub returns-clause-leads : goal.returns-clause-leads
-returns-clause-leads g c =
-    let m = g.M.Segments.segments c.args.message.now in
-    let h = c.loop-step.invariant in
-    let at = c.loop-step.at in
-    subst (λ (o : Option LaxPointer). SomeArrives m c.args.words c.args.depth record at { lax = o }) h.3 ∣ (h.0, h.1.0, h.1.1) ∣₁
+returns-clause-leads g c = grind (arith, common_steps)

@@ -1,14 +1,12 @@
-use Rattle.std.proofs.Common.{arith}
 use Rattle.cap_vet.proofs.Laxness.{cap_form, null_form}
 use Rattle.cap_vet.proofs.strictness.lax.lax_form.Goals as goal
+use Rattle.cap_spec.proofs.ProofNames.{rules, arith}
 
 pub returns-then-landing-eq0-clause-some : goal.returns-then-landing-eq0-clause-some
 returns-then-landing-eq0-clause-some g c =
     null_form _ c.args.s c.args.w c.word-word.result c.far_segment.result c.pad.result c.word-landing.result
-    c.word-word.ensures
-    (omega (arith, c.if-kind-ne2.false, c.kind.ensures)) (omega (arith, c.if-two-eq1.false, c.two.ensures))
-    c.far_segment.ensures c.pad.ensures
-    c.word-landing.ensures (omega (arith, c.if-landing-eq0.true))
+    c.word-word.ensures (search rules) (omega (arith, c.if-two-eq1.false, c.two.ensures)) c.far_segment.ensures
+    c.pad.ensures c.word-landing.ensures (omega (arith, c.if-landing-eq0.true))
 
 pub returns-then-kind-eq3-clause-some : goal.returns-then-kind-eq3-clause-some
 returns-then-kind-eq3-clause-some g c =

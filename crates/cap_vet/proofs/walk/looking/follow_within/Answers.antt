@@ -1,11 +1,10 @@
-use Rattle.std.proofs.Common.{arith}
 use Rattle.cap_vet.proofs.Looks.{followed_deep, followed_past}
 use Rattle.cap_vet.proofs.walk.looking.follow_within.Goals as goal
+use Rattle.cap_spec.proofs.ProofNames.{rules, arith}
 
 pub returns-then-deepest_level-from-clause-err : goal.returns-then-deepest_level-from-clause-err
 returns-then-deepest_level-from-clause-err g c = λ words before e le.
-    followed_deep c.in_ok-followed.followed c.in_ok-followed.ensures.ok
-    (omega (arith, c.if-deepest_level-from.true, c.deepest_level.ensures, c.from.ensures))
+    followed_deep c.in_ok-followed.followed c.in_ok-followed.ensures.ok (search rules)
 
 pub returns-then-charge-left-clause-err : goal.returns-then-charge-left-clause-err
 returns-then-charge-left-clause-err g c = λ words before e le.

@@ -11,7 +11,7 @@ returns-then-word-eq0-clause-looked g c =
 
 pub returns-in-Some-clause-looked : goal.returns-in-Some-clause-looked
 returns-in-Some-clause-looked g c =
-    c.in-Some.ensures.looked c.args.s c.args.w (λ q has object. lies-near _ c.args.s c.args.w q has (λ k. omega (arith, k, object)))
+    c.in-Some.ensures.looked c.args.s c.args.w (λ q has object. search (rules, has, lies-near))
 
 pub returns-then-is_cap-clause-looked : goal.returns-then-is_cap-clause-looked
 returns-then-is_cap-clause-looked g c =

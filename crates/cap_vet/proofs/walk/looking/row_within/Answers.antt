@@ -1,12 +1,11 @@
-use Rattle.std.proofs.Common.{arith}
 use Rattle.cap_vet.proofs.Near.{looks_row, row_inside}
 use Rattle.cap_vet.proofs.walk.looking.row_within.Goals as goal
+use Rattle.cap_spec.proofs.ProofNames.{rules, arith}
 
 pub returns : goal.returns
 returns c = λ m s w at q f lies.
     let run = c.row_run-run in
-    rw (c.from.ensures, c.from-2.ensures) (looks_row m _ _ c.args.consumed s w c.args.level c.args.pads c.args.segment at q c.args.row.now run.result f lies
-    (omega (arith, c.if-level-depth.false, c.depth.ensures.value))
-    (omega (arith, c.if-consumed-cost.false, c.words.ensures.value, c.from.ensures, c.from-2.ensures))
-    c.requires.consumed run.ensures.places
-    (run.ensures.inside m f.finds.inside.exists (row_inside m c.args.segment at q c.args.row.now f)) run.ensures.level)
+    rw (c.from.ensures, c.from-2.ensures) (looks_row m _ _ c.args.consumed s w c.args.level c.args.pads c.args.segment
+    at q c.args.row.now run.result f lies (omega (arith, c.if-level-depth.false, c.depth.ensures.value))
+    (search rules) c.requires.consumed run.ensures.places (run.ensures.inside m f.finds.inside.exists (row_inside
+    m c.args.segment at q c.args.row.now f)) run.ensures.level)

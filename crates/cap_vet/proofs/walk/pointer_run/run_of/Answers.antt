@@ -1,7 +1,5 @@
-use Rattle.cap_spec.proofs.ProofNames.{rules}
-use Rattle.std.proofs.Common.{arith, inl, inr, ◌+◌, ◌<◌, ◌≡◌}
-use Rattle.cap_vet.proofs.ObjectRuns.{start_fits, struct_places, struct_capacity, structs_empty, structs_inside}
-use Rattle.cap_vet.proofs.ObjectRuns.{structs_places}
+use Rattle.cap_spec.proofs.ProofNames.{rules, arith, inl, inr, ◌+◌, ◌<◌, ◌≡◌}
+use Rattle.cap_vet.proofs.ObjectRuns.{start_fits, struct_capacity, structs_empty, structs_inside, structs_places}
 use Rattle.cap_vet.proofs.walk.pointer_run.run_of.Goals as goal
 
 pub returns-then-count-eq0-clause-places : goal.returns-then-count-eq0-clause-places
@@ -16,29 +14,24 @@ overflow_add-result-in-Structs c =
     start_fits m s w q tag _ _ c.from-in-Structs.result fits g c.from-in-Structs.ensures c.if-count-eq0.false
 
 pub returns-in-Struct-clause-places : goal.returns-in-Struct-clause-places
-returns-in-Struct-clause-places c = search (rules, struct_places)
+returns-in-Struct-clause-places c = search rules
 
 pub returns-in-Struct-clause-inside : goal.returns-in-Struct-clause-inside
 returns-in-Struct-clause-inside c = λ m s w q tag f.
     let g = rw c.in-Struct.is at f in
-    c.row_run.ensures.inside m g.finds.inside.exists (omega (arith, c.from.ensures, c.from-in-Struct.ensures, struct_capacity m s w q tag _ _ g))
+    c.row_run.ensures.inside m g.finds.inside.exists (search (rules, struct_capacity))
 
 pub returns-else-pointers-eq0-clause-places : goal.returns-else-pointers-eq0-clause-places
 returns-else-pointers-eq0-clause-places c = λ m s w q tag f.
     let g = rw c.in-Structs.is at f in
-    let some : 0 < c.in-Structs.count = omega (arith, c.if-count-eq0.false) in
     let at_start : c.args.target.now.start + 1 + c.from-in-Structs.result ≡ c.args.target.now.start + 1
     + c.in-Structs.data_words = omega (arith, c.from-in-Structs.ensures) in
-    structs_places m s w q tag _ c.args.level g at_start c.from-in-Structs-2.ensures
-    (omega arith) c.from-in-Structs-3.ensures c.from-in-Structs-4.ensures some
+    structs_places m s w q tag _ c.args.level g at_start c.from-in-Structs-2.ensures (omega arith)
+    c.from-in-Structs-3.ensures c.from-in-Structs-4.ensures (omega (arith, c.if-count-eq0.false))
     (omega (arith, c.levels_of_elements.ensures.value))
 
 pub returns-else-pointers-eq0-clause-inside : goal.returns-else-pointers-eq0-clause-inside
 returns-else-pointers-eq0-clause-inside c = λ m s w q tag f.
     let g = rw c.in-Structs.is at f in
     let some : 0 < c.in-Structs.count = omega (arith, c.if-count-eq0.false) in
-    let each : 0 < c.in-Structs.pointers = omega (arith, c.if-pointers-eq0.false) in
-    let at_start : c.args.target.now.start + 1 + c.from-in-Structs.result ≡ c.args.target.now.start + 1
-    + c.in-Structs.data_words = omega (arith, c.from-in-Structs.ensures) in
-    structs_inside m s w q tag _ _ g at_start c.from-in-Structs-2.ensures
-    (omega arith) c.from-in-Structs-3.ensures c.from-in-Structs-4.ensures some each
+    search (rules, structs_inside)

@@ -1,17 +1,14 @@
-use Rattle.cap_spec.proofs.ProofNames.{rules}
-use Rattle.std.proofs.Common.{Bool, None, Option, Some, ap, false, is_some, max, not, refl, true, ℕ, ◌+◌, ◌∙◌, ◌≡◌}
+use Rattle.std.proofs.Common.{Bool, Option, Some, false, is_some, max, not, refl, true, ℕ, ◌+◌, ◌≡◌, rules}
 use Rattle.cap_vet.specs.VetNames.{added, or_place, Report, Object, PointerRun}
 use Rattle.cap_vet.specs.declared.nodes.place.Place.{Place}
 use Rattle.cap_vet.specs.declared.walk.looking.Looked.TheVariants.{Cap}
 use Rattle.cap_vet.proofs.walk.turn.add.Goals as goal
 
 first_place : (o : Option (ℕ × ℕ)) (s w : ℕ) (none : Bool) → is_some o ≡ not none → none ≡ true → Some (s, w) ≡ or_place o s w
-first_place None s w none e f = refl
-first_place (Some x) s w none e f = let y : true ≡ false = e ∙ ap not f in absurd (cc y)
+first_place o s w none e f = search rules
 
 later_place : (o : Option (ℕ × ℕ)) (s w : ℕ) (none : Bool) → is_some o ≡ not none → none ≡ false → o ≡ or_place o s w
-later_place None s w none e f = let y : false ≡ true = e ∙ ap not f in absurd (cc y)
-later_place (Some x) s w none e f = refl
+later_place o s w none e f = search rules
 
 cap_added : (r : Report) (s w cost : ℕ) (place : Option (ℕ × ℕ)) → place ≡ or_place r.first_cap s w
     → ◌≡◌ {A = Report} record { charge = r.charge + cost; depth = r.depth; pointers = r.pointers + 1; caps = r.caps + 1; first_cap = place }

@@ -1,5 +1,5 @@
 use Rattle.cap_spec.proofs.Lemmas.{one_tree, one_refusal, refused_justified, within_not_refused}
-use Rattle.cap_spec.proofs.ProofNames.{Err, ap, ◌∙◌, pointer_count}
+use Rattle.cap_spec.proofs.ProofNames.{Err, ap, rules}
 use Rattle.cap_vet.proofs.Verdicts.{accepted_at_end, vetted_within}
 use Rattle.cap_vet.proofs.walk.vetting.vet.Goals as goal
 
@@ -13,8 +13,7 @@ pub returns-clause-one : goal.returns-clause-one
 returns-clause-one g c = λ t charge d h.
     let w = c.in-Ok.ensures.ok in
     let a = accepted_at_end w.seen w.ahead w.walks in
-    let same = one_tree _ 0 0 a.0 t _ _ charge d a.1.within.denotes h in
-    (same.charge, same.depth, a.1.pointers ∙ ap pointer_count same.part)
+    search (rules, one_tree)
 
 pub returns-in-Err-Refused-clause-justified : goal.returns-in-Err-Refused-clause-justified
 returns-in-Err-Refused-clause-justified g c = rw c.in-Err-Refused.field-0-is
@@ -22,12 +21,11 @@ returns-in-Err-Refused-clause-justified g c = rw c.in-Err-Refused.field-0-is
 
 pub returns-in-Err-Refused-clause-accepts : goal.returns-in-Err-Refused-clause-accepts
 returns-in-Err-Refused-clause-accepts g c = λ within.
-    absurd (within_not_refused _ _ _ c.in-Err-Refused.refusal within (rw c.in-Err-Refused.field-0-is at c.in-Err-Refused.ensures.err))
+    absurd (search (rules, within_not_refused, within))
 
 pub returns-in-Err-Refused-clause-refuses : goal.returns-in-Err-Refused-clause-refuses
 returns-in-Err-Refused-clause-refuses g c = λ r h.
-    ap Err (rw c.in-Err-Refused.field-0-is (one_refusal _ _ _ c.in-Err-Refused.refusal r
-    (rw c.in-Err-Refused.field-0-is at c.in-Err-Refused.ensures.err) h))
+    ap Err (rw c.in-Err-Refused.field-0-is (one_refusal _ _ _ c.in-Err-Refused.refusal r (search rules) h))
 
 pub invariant_of-result : goal.invariant_of-result
 invariant_of-result g c =

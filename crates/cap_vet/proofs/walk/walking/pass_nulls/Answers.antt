@@ -1,5 +1,4 @@
-use Rattle.std.proofs.Common.{arith, rules, ◌<◌, ◌^◌}
-use Rattle.std.proofs.Math.Facts.{Fits-of_lt}
+use Rattle.std.proofs.Common.{arith, rules}
 use Rattle.cap_spec.proofs.Frames.Messages.{short_segment}
 use Rattle.cap_vet.proofs.Passing.{passes_on, topmost_few, topmost_in}
 use Rattle.cap_vet.proofs.walk.walking.pass_nulls.Goals as goal
@@ -22,16 +21,13 @@ overflow_add-run g c =
     let (words, depth, runs, seen, ahead, w) = c.requires in
     let p = c.nulls.invariant words depth runs seen ahead w in
     let f = topmost_in _ words depth runs c.nulls.run c.nulls.report _ _ p.walks in
-    let short = short_segment (g.M.Segments.segments c.args.message.now) c.nulls.run.segment (g.met.M.Segments.is_message c.args.message.now) f.exists in
-    Fits-of_lt (omega (arith, f.inside, short, c.nulls-test.true))
+    search (rules, short_segment)
 
 pub overflow_add-report : goal.overflow_add-report
 overflow_add-report g c =
     let (words, depth, runs, seen, ahead, w) = c.requires in
     let p = c.nulls.invariant words depth runs seen ahead w in
-    let few = topmost_few _ words depth runs c.nulls.run c.nulls.report _ _ p.walks in
-    let fits : c.nulls.report.charge < 2 ^ 64 = search rules in
-    Fits-of_lt (omega (arith, few, c.nulls-test.true, fits))
+    search (rules, topmost_few)
 
 pub nulls-preserved : goal.nulls-preserved
 nulls-preserved g c = λ words depth runs seen ahead w.

@@ -1,4 +1,4 @@
-use Rattle.cap_spec.proofs.ProofNames.{inr, option_to_list, rules, ◌++◌, ◌∷◌, IsMessage}
+use Rattle.cap_spec.proofs.ProofNames.{inr, option_to_list, rules, ◌++◌, IsMessage, common_steps, arith}
 use Rattle.cap_vet.proofs.Passing.{topmost_in}
 use Rattle.cap_vet.proofs.Runs.{has_rest}
 use Rattle.cap_vet.proofs.Stacks.{looked_at, looked_costs, next_at, steps_on, visited}
@@ -23,21 +23,16 @@ after-requires-clause-known g c =
     let at = next_at _ _ c.args.stack.now.items c.args.run.now _ _ _ c.requires.walking rest.1 in
     let n = at.next in
     let v = visited {limits = c.args.limits.now} (c.args.stack.now.items ++ option_to_list rest.0) _ n c.in-Ok.ensures.ok in
-    let costs = looked_costs (g.M.Segments.segments c.args.message.now) _ _ _ c.args.run.now.segment c.args.run.now.at _ _ c.in-Ok.ensures.ok in
+    let costs = looked_costs _ _ _ _ _ _ _ _ c.in-Ok.ensures.ok in
     (n.seen, n.a, rw (c.add-below.ensures.report, c.cost-cost.ensures) (looked_at n v.walks costs), at.known)
 
 pub after-requires-clause-object : goal.after-requires-clause-object
-after-requires-clause-object g c =
-    let f = topmost_in _ _ _ c.args.stack.now.items c.args.run.now c.args.report.now _ _ c.requires.walking.walks in
-    rw c.place-place.ensures (looked_place {m = g.M.Segments.segments c.args.message.now} _ _ _ c.args.run.now.level _ f.exists c.in-Ok.ensures.ok)
+after-requires-clause-object g c = grind (arith, common_steps, topmost_in, looked_place)
 
 pub go_on-requires : goal.go_on-requires
 go_on-requires g c =
     let m = g.M.Segments.segments c.args.message.now in
-    let message : IsMessage m = search rules in (
-      search rules,
-      (c.requires.fits, (m, message, topmost_in _ _ _ c.args.stack.now.items c.args.run.now c.args.report.now _ _ c.requires.walking.walks)),
-    )
+    let message : IsMessage m = search rules in search (rules, topmost_in)
 
 pub returns-in-Ok-after : goal.returns-in-Ok-after
 returns-in-Ok-after g c = record {
@@ -47,9 +42,7 @@ returns-in-Ok-after g c = record {
       let v = visited {limits = c.args.limits.now} runs _ n c.in-Ok.ensures.ok in
       let costs = looked_costs (g.M.Segments.segments c.args.message.now) _ _ _ c.args.run.now.segment c.args.run.now.at _ _ c.in-Ok.ensures.ok in
       let known = c.in-Ok-after.ensures.ok n.seen n.a (rw (c.add-below.ensures.report, c.cost-cost.ensures) (looked_at n v.walks costs)) at.known in
-      rw (c.add-below.ensures.run, c.add-below.ensures.report)
-      (record { walking = record { seen = n.a.path ∷ n.seen; ahead = v.later; walks = v.walks; known = known }; less = v.less }))
-      c.go_on.ensures.runs;
+      rw (c.add-below.ensures.run, c.add-below.ensures.report) (search (rules, known))) c.go_on.ensures.runs;
   fits = c.go_on.ensures.fits;
   err = tt;
   known = tt;

@@ -1,4 +1,4 @@
-use Rattle.cap_spec.proofs.ProofNames.{arith, option_to_list, rules, ◌++◌, IsMessage}
+use Rattle.cap_spec.proofs.ProofNames.{arith, option_to_list, rules, ◌++◌, IsMessage, common_steps}
 use Rattle.cap_vet.specs.Limits.{depth_of, words_of}
 use Rattle.cap_vet.proofs.Passing.{topmost_in}
 use Rattle.cap_vet.proofs.Runs.{has_rest}
@@ -24,33 +24,22 @@ word-is_null-requires-clause-inside g c =
 pub go_on-requires : goal.go_on-requires
 go_on-requires g c =
     let m = g.M.Segments.segments c.args.message.now in
-    let message : IsMessage m = search rules in (
-      search rules,
-      (
-        (c.walk.invariant.fits, c.requires.fits.1),
-        (m, message, topmost_in _ _ _ c.walk.stack.items c.walk.run c.walk.report _ _ c.walk.invariant.walking.walks),
-      ),
-    )
+    let message : IsMessage m = search rules in search (rules, topmost_in)
 
 pub turn_other-requires : goal.turn_other-requires
-turn_other-requires g c = (
-  search rules,
-  ((c.walk.invariant.fits, c.requires.fits.1), rw (c.in-None.ensures.none.0, c.in-None.ensures.none.1) c.walk.invariant.walking),
-)
+turn_other-requires g c = grind (arith, common_steps)
 
 pub pass_nulls-requires : goal.pass_nulls-requires
 pass_nulls-requires g c =
     let m = g.M.Segments.segments c.args.message.now in
-    let on = rw c.in-More.is at (steps_on m c.args.limits.now c.walk.stack.items c.walk.run c.walk.report c.turn_described.new.report _
-    (g.T.Turn.knows c.turn_described.new.turn m) c.in-Some-Ok.below c.go_on.result c.go_on.new.stack.items c.go_on.new.run c.walk.invariant.walking
+    let on = rw c.in-More.is at (steps_on _ _ _ _ _ _ _ _ _ _ _ _ c.walk.invariant.walking
     (λ runs at. rw c.in-Some-Ok.field-0-is at (c.in-Some-Ok.ensures.ok runs at)) c.go_on.ensures.runs) in
     (_, _, c.go_on.new.stack.items, on.walking.seen, on.walking.ahead, on.walking.walks)
 
 pub walk-preserved-then-is_null : goal.walk-preserved-then-is_null
 walk-preserved-then-is_null g c =
     let m = g.M.Segments.segments c.args.message.now in
-    let on = rw c.in-More.is at (steps_on m c.args.limits.now c.walk.stack.items c.walk.run c.walk.report c.turn_described.new.report _
-    (g.T.Turn.knows c.turn_described.new.turn m) c.in-Some-Ok.below c.go_on.result c.go_on.new.stack.items c.go_on.new.run c.walk.invariant.walking
+    let on = rw c.in-More.is at (steps_on _ _ _ _ _ _ _ _ _ _ _ _ c.walk.invariant.walking
     (λ runs at. rw c.in-Some-Ok.field-0-is at (c.in-Some-Ok.ensures.ok runs at)) c.go_on.ensures.runs) in
     let passed = c.pass_nulls.ensures (words_of c.args.limits.now) (depth_of c.args.limits.now) c.go_on.new.stack.items _ _ on.walking.walks in
     let known = known_past m (g.T.Turn.knows c.turn_described.new.turn m) passed.nulls on.walking.seen
@@ -63,8 +52,7 @@ walk-preserved-then-is_null g c =
 pub walk-smaller-then-is_null : goal.walk-smaller-then-is_null
 walk-smaller-then-is_null g c =
     let m = g.M.Segments.segments c.args.message.now in
-    let on = rw c.in-More.is at (steps_on m c.args.limits.now c.walk.stack.items c.walk.run c.walk.report c.turn_described.new.report _
-    (g.T.Turn.knows c.turn_described.new.turn m) c.in-Some-Ok.below c.go_on.result c.go_on.new.stack.items c.go_on.new.run c.walk.invariant.walking
+    let on = rw c.in-More.is at (steps_on _ _ _ _ _ _ _ _ _ _ _ _ c.walk.invariant.walking
     (λ runs at. rw c.in-Some-Ok.field-0-is at (c.in-Some-Ok.ensures.ok runs at)) c.go_on.ensures.runs) in
     let passed = c.pass_nulls.ensures (words_of c.args.limits.now) (depth_of c.args.limits.now) c.go_on.new.stack.items _ _ on.walking.walks in
     omega (arith, on.less, passed.less)
@@ -72,32 +60,28 @@ walk-smaller-then-is_null g c =
 pub walk-preserved-else-is_null : goal.walk-preserved-else-is_null
 walk-preserved-else-is_null g c =
     let m = g.M.Segments.segments c.args.message.now in
-    let on = rw c.in-More.is at (steps_on m c.args.limits.now c.walk.stack.items c.walk.run c.walk.report c.turn_described.new.report _
-    (g.T.Turn.knows c.turn_described.new.turn m) c.in-Some-Ok.below c.go_on.result c.go_on.new.stack.items c.go_on.new.run c.walk.invariant.walking
+    let on = rw c.in-More.is at (steps_on _ _ _ _ _ _ _ _ _ _ _ _ c.walk.invariant.walking
     (λ runs at. rw c.in-Some-Ok.field-0-is at (c.in-Some-Ok.ensures.ok runs at)) c.go_on.ensures.runs) in
     record { fits = rw c.in-More.is at c.go_on.ensures.fits; walking = on.walking }
 
 pub walk-smaller-else-is_null : goal.walk-smaller-else-is_null
 walk-smaller-else-is_null g c =
     let m = g.M.Segments.segments c.args.message.now in
-    let on = rw c.in-More.is at (steps_on m c.args.limits.now c.walk.stack.items c.walk.run c.walk.report c.turn_described.new.report _
-    (g.T.Turn.knows c.turn_described.new.turn m) c.in-Some-Ok.below c.go_on.result c.go_on.new.stack.items c.go_on.new.run c.walk.invariant.walking
+    let on = rw c.in-More.is at (steps_on _ _ _ _ _ _ _ _ _ _ _ _ c.walk.invariant.walking
     (λ runs at. rw c.in-Some-Ok.field-0-is at (c.in-Some-Ok.ensures.ok runs at)) c.go_on.ensures.runs) in
     on.less
 
 pub returns-in-Full-clause-full : goal.returns-in-Full-clause-full
 returns-in-Full-clause-full g c = λ f.
     let m = g.M.Segments.segments c.args.message.now in
-    let on = rw c.in-Full.is at (steps_on m c.args.limits.now c.walk.stack.items c.walk.run c.walk.report c.turn_described.new.report _
-    (g.T.Turn.knows c.turn_described.new.turn m) c.in-Some-Ok.below c.go_on.result c.go_on.new.stack.items c.go_on.new.run c.walk.invariant.walking
+    let on = rw c.in-Full.is at (steps_on _ _ _ _ _ _ _ _ _ _ _ _ c.walk.invariant.walking
     (λ runs at. rw c.in-Some-Ok.field-0-is at (c.in-Some-Ok.ensures.ok runs at)) c.go_on.ensures.runs) in
     (rw c.in-Full.is at c.go_on.ensures.fits, on.walking)
 
 pub returns-in-Done-clause-done : goal.returns-in-Done-clause-done
 returns-in-Done-clause-done g c = λ f.
     let m = g.M.Segments.segments c.args.message.now in
-    let on = rw c.in-Done.is at (steps_on m c.args.limits.now c.walk.stack.items c.walk.run c.walk.report c.turn_described.new.report _
-    (g.T.Turn.knows c.turn_described.new.turn m) c.in-Some-Ok.below c.go_on.result c.go_on.new.stack.items c.go_on.new.run c.walk.invariant.walking
+    let on = rw c.in-Done.is at (steps_on _ _ _ _ _ _ _ _ _ _ _ _ c.walk.invariant.walking
     (λ runs at. rw c.in-Some-Ok.field-0-is at (c.in-Some-Ok.ensures.ok runs at)) c.go_on.ensures.runs) in
     on.walking
 
@@ -108,8 +92,7 @@ walk-preserved g c =
 
 pub walk-smaller : goal.walk-smaller
 walk-smaller g c =
-    let on = rw (c.in-Ok-More.field-0-is, c.in-None.ensures.none.0) at c.in-Ok-More.ensures.ok in
-    on.less
+    (rw (c.in-Ok-More.field-0-is, c.in-None.ensures.none.0) at c.in-Ok-More.ensures.ok).less
 
 pub returns-in-Ok-Full-clause-full : goal.returns-in-Ok-Full-clause-full
 returns-in-Ok-Full-clause-full g c = λ f.
@@ -118,5 +101,4 @@ returns-in-Ok-Full-clause-full g c = λ f.
 
 pub returns-in-Ok-Done-clause-done : goal.returns-in-Ok-Done-clause-done
 returns-in-Ok-Done-clause-done g c = λ f.
-    let on = rw (c.in-Ok-Done.field-0-is, c.in-None.ensures.none.0) at c.in-Ok-Done.ensures.ok in
-    on.walking
+    (rw (c.in-Ok-Done.field-0-is, c.in-None.ensures.none.0) at c.in-Ok-Done.ensures.ok).walking

@@ -1,11 +1,9 @@
-use Rattle.cap_spec.specs.Denoting.{places}
 use Rattle.cap_spec.proofs.Disjoint.Places.{no_pads, pads_inside}
 use Rattle.cap_spec.proofs.Frames.Messages.{one_word}
-use Rattle.cap_spec.proofs.ProofNames.{List, [], ap, arith, inl, inr, length, refl, subst, sym, ℕ, ◌+◌, ◌<◌, ◌==◌, ◌∙◌}
-use Rattle.cap_spec.proofs.ProofNames.{◌≡◌, segment_of, pads_of, far_segment, kind, pad, two}
+use Rattle.cap_spec.proofs.ProofNames.{List, [], ap, arith, inl, inr, length, refl, subst, sym, ℕ, ◌+◌, ◌<◌, ◌==◌}
+use Rattle.cap_spec.proofs.ProofNames.{◌∙◌, ◌≡◌, segment_of, pads_of, far_segment, kind, pad, two, rules}
 use Rattle.cap_ptr.specs.declared.forms.Pointer.TheVariants.{Far}
-use Rattle.cap_vet.specs.MarkSteps.{HasBits, IsMarkedIn, MarksPlaces}
-use Rattle.cap_vet.specs.Marks.{MarksAll}
+use Rattle.cap_vet.specs.MarkSteps.{HasBits, MarksPlaces}
 use Rattle.cap_vet.proofs.Pads.{many_pads, pad_places}
 use Rattle.cap_vet.proofs.Pointing.{marks_none}
 use Rattle.cap_vet.proofs.exclusiveness.marks.Marks.mark_pads.Goals.{else-two, then-two}
@@ -33,10 +31,9 @@ returns-after-two g c = λ p has.
     let there : c.in-Far.segment < length m = subst (λ (u : ℕ). u < length m) (sym f.3) r.0 in
     let bits : HasBits m c.args.self.now c.in-Far.segment c.in-Far.pad c.if-two.pads =
     record { fits = c.requires.word.fits; exists = there; inside = omega (arith, r.1, f.2, n, e) } in
-    let same : places c.in-Far.segment c.in-Far.pad c.if-two.pads ≡ pads_of p =
-    pad_places c.word.result c.in-Far.segment c.in-Far.pad c.if-two.pads f.0 f.3 f.2 n
-    ∙ ap pads_of (one_word m c.args.s c.args.w c.word.result p c.word.ensures has) in
-    subst (λ (u : List (ℕ × ℕ)). MarksPlaces m c.args.self.now c.mark_words.new.self u c.mark_words.result) same (c.mark_words.ensures m bits)
+    subst (λ (u : List (ℕ × ℕ)). MarksPlaces m c.args.self.now c.mark_words.new.self u c.mark_words.result)
+    (pad_places c.word.result c.in-Far.segment c.in-Far.pad c.if-two.pads f.0 f.3 f.2 n ∙ ap pads_of
+    (one_word m c.args.s c.args.w c.word.result p c.word.ensures has)) (c.mark_words.ensures m bits)
 
 pub returns-in_default : goal.returns-in_default
 returns-in_default g c = λ p has.
@@ -46,7 +43,6 @@ returns-in_default g c = λ p has.
     c.in_default.not-Far (two c.word.result == 1) (pad c.word.result) (far_segment c.word.result)
     (sym (c.of.ensures.one_form (Far (two c.word.result == 1) (pad c.word.result) (far_segment c.word.result)) (own, refl, refl, refl)))) in record {
       fits = c.requires.word.fits;
-      taken = λ _. subst (λ (u : List (ℕ × ℕ)). MarksAll (IsMarkedIn m c.args.self.now) (IsMarkedIn m c.args.self.now) u) (sym none)
-          (marks_none (IsMarkedIn m c.args.self.now));
+      taken = search (rules, marks_none);
       conflict = λ e. absurd (cc e);
     }

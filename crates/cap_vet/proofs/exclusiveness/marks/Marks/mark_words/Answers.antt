@@ -1,5 +1,4 @@
-use Rattle.cap_spec.proofs.ProofNames.{rules}
-use Rattle.std.proofs.Common.{arith, slice_index_or, ◌+◌, ◌≡◌}
+use Rattle.cap_spec.proofs.ProofNames.{rules, arith, slice_index_or, ◌+◌, ◌≡◌}
 use Rattle.cap_vet.specs.Taken.{start_of}
 use Rattle.cap_vet.proofs.Ranges.{marks_range, range_conflict, start_within}
 use Rattle.cap_vet.proofs.MarkingWalk.{capacity_kept}
@@ -23,8 +22,7 @@ returns c = λ m h.
     let start : at ≡ start_of m c.args.s + c.args.from = omega (arith, st, c.from.ensures) in record {
       fits = capacity_kept m starts old c.set_bits.new.words h.fits c.set_bits.ensures.same_length;
       taken = λ e. marks_range m old c.set_bits.new.words c.args.s c.args.from c.args.count at h.exists h.inside start
-          (λ i a b. c.set_bits.ensures.taken e i a (omega (arith, b, c.from-2.ensures)))
-          (λ i a b. c.set_bits.ensures.free e i a (omega (arith, b, c.from-2.ensures)))
+          (search rules) (λ i a b. c.set_bits.ensures.free e i a (omega (arith, b, c.from-2.ensures)))
           (λ i a. c.set_bits.ensures.below e i a)
           (λ i a. c.set_bits.ensures.above e i (omega (arith, a, c.from-2.ensures)));
       conflict = λ e.

@@ -1,5 +1,4 @@
-use Rattle.cap_spec.proofs.ProofNames.{rules}
-use Rattle.std.proofs.Common.{sym, ◌∙◌}
+use Rattle.cap_spec.proofs.ProofNames.{rules, sym, ◌∙◌}
 use Rattle.cap_vet.proofs.MarkingWalk.{known_marks, marks_known, still_overlaps, turn_on, turn_overlap}
 use Rattle.cap_vet.proofs.exclusiveness.overlap_turn.OverlapSearch.mark.Goals as goal
 
@@ -17,9 +16,8 @@ returns-then-not-mark_pointer-clause-known g c = λ seen a cost l k.
 
 pub returns-else-not-mark_pointer-clause-known : goal.returns-else-not-mark_pointer-clause-known
 returns-else-not-mark_pointer-clause-known g c = λ seen a cost l k.
-    let none = sym c.is_some.ensures ∙ c.if-is_some.false in
-    let known = marks_known _ _ c.args.self.now.marks _ none k in
-    known_marks _ _ c.mark_pointer.new.self _ none (record {
+    let known = marks_known _ _ c.args.self.now.marks _ (sym c.is_some.ensures ∙ c.if-is_some.false) k in
+    known_marks _ _ c.mark_pointer.new.self _ (sym c.is_some.ensures ∙ c.if-is_some.false) (record {
       fits = c.mark_pointer.ensures.fits;
       marked = turn_on seen a l known.marked (c.mark_pointer.ensures.taken c.if-not-mark_pointer.false);
     })

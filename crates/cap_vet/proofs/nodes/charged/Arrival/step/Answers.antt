@@ -1,5 +1,4 @@
 use Rattle.cap_spec.proofs.ProofNames.{arith, refl, rules, IsMessage, element, word}
-use Rattle.cap_ptr.specs.Shapes.{charge_of}
 use Rattle.cap_vet.proofs.Charging.{arrives_element, arrives_word, fault_word}
 use Rattle.cap_vet.proofs.Looks.{followed_costs, followed_shallow}
 use Rattle.cap_vet.proofs.AtSomePlace.{arrival_at_some_place, arrival_within, step_exists, step_inside}
@@ -20,9 +19,9 @@ returns-in-Ok-clause-some g c = λ path a h.
 
 pub returns-in-Err-clause-err : goal.returns-in-Err-clause-err
 returns-in-Err-clause-err g c = λ path a h.
-    let m = g.M.Segments.segments c.args.message.now in
-    let goes = (rw c.in-Some-Word.field-0-is at c.in-Some-Word.ensures) m a h.found in
-    fault_word m _ _ path a c.args.self.now c.args.step _ _ _ h goes.0 (c.in-Err.ensures.err c.args.words c.args.self.now.consumed refl h.within)
+    let goes = (rw c.in-Some-Word.field-0-is at c.in-Some-Word.ensures) _ a h.found in
+    fault_word _ _ _ path a c.args.self.now c.args.step _ _ _ h goes.0
+    (c.in-Err.ensures.err c.args.words c.args.self.now.consumed refl h.within)
 
 pub returns-in-Some-Element-clause-some : goal.returns-in-Some-Element-clause-some
 returns-in-Some-Element-clause-some g c = λ path a h.
@@ -30,8 +29,7 @@ returns-in-Some-Element-clause-some g c = λ path a h.
     let e = c.in-Some-Element in
     let goes = (rw e.field-0-is at e.ensures) m a h.found in (
       element e.segment e.start e.data_words e.pointers,
-      rw c.at_element.ensures
-          (arrives_element m _ _ path a c.args.self.now c.args.step e.segment e.start e.data_words e.pointers _ refl h goes.0 goes.1.0 goes.1.1),
+      rw c.at_element.ensures (search (rules, arrives_element)),
     )
 
 pub step-requires : goal.step-requires
@@ -43,7 +41,7 @@ follow_within-requires-clause-exists g c =
 
 pub follow_within-requires-clause-inside : goal.follow_within-requires-clause-inside
 follow_within-requires-clause-inside g c =
-    step_inside _ _ _ c.args.self.now c.requires.arrived c.args.step _ _ (rw c.in-Some-Word.field-0-is at c.in-Some-Word.ensures)
+    step_inside _ _ _ c.args.self.now c.requires.arrived c.args.step _ _ (search rules)
 
 pub first_lax-requires-clause-exists : goal.first_lax-requires-clause-exists
 first_lax-requires-clause-exists g c =
@@ -51,10 +49,10 @@ first_lax-requires-clause-exists g c =
 
 pub first_lax-requires-clause-inside : goal.first_lax-requires-clause-inside
 first_lax-requires-clause-inside g c =
-    step_inside _ _ _ c.args.self.now c.requires.arrived c.args.step _ _ (rw c.in-Some-Word.field-0-is at c.in-Some-Word.ensures)
+    step_inside _ _ _ c.args.self.now c.requires.arrived c.args.step _ _ (search rules)
 
 pub first_lax-requires-clause-followed : goal.first_lax-requires-clause-followed
-first_lax-requires-clause-followed g c = (charge_of c.in-Ok.followed, followed_costs _ _ _ c.in-Ok.followed c.in-Ok.ensures.ok.followed)
+first_lax-requires-clause-followed g c = search (rules, followed_costs)
 
 pub overflow_sub-left : goal.overflow_sub-left
 overflow_sub-left g c = let l = arrival_within _ _ _ c.args.self.now c.requires.arrived in omega (arith, l)

@@ -1,6 +1,5 @@
 use Rattle.cap_spec.proofs.ProofNames.{None, arith, rules, element, word}
 use Rattle.cap_vet.proofs.Charging.{arrives_element, arrives_word}
-use Rattle.cap_vet.proofs.PathLax.{adds_none}
 use Rattle.cap_vet.proofs.AtSomePlace.{arrival_at_some_place, arrival_within, step_exists, step_inside}
 use Rattle.cap_vet.proofs.nodes.charged.Arrival.step_near.Goals as goal
 
@@ -15,7 +14,7 @@ found_near-requires-clause-exists g c =
 
 pub found_near-requires-clause-inside : goal.found_near-requires-clause-inside
 found_near-requires-clause-inside g c =
-    step_inside _ _ _ c.args.self.now c.requires.arrived c.args.step _ _ (rw c.in-Some-Word.field-0-is at c.in-Some-Word.ensures)
+    step_inside _ _ _ c.args.self.now c.requires.arrived c.args.step _ _ (search rules)
 
 pub returns-in_ok-found-in-Some-Word-clause-on : goal.returns-in_ok-found-in-Some-Word-clause-on
 returns-in_ok-found-in-Some-Word-clause-on g c = λ path a h.
@@ -25,7 +24,7 @@ returns-in_ok-found-in-Some-Word-clause-on g c = λ path a h.
     let near = c.in_ok-found-in-Some-Word.ensures.found in (
       word c.in-Some-Word.segment c.in-Some-Word.word,
       arrives_word m path a at c.args.step None h goes.0 near.found near.costs near.within near.shallow
-          (adds_none m _ _ _ at.lax c.requires.strict near.strict),
+          (search rules),
     )
 
 pub returns-in-Some-Element-clause-on : goal.returns-in-Some-Element-clause-on
@@ -34,8 +33,7 @@ returns-in-Some-Element-clause-on g c = λ path a h.
     let e = c.in-Some-Element in
     let goes = (rw e.field-0-is at e.ensures) m a h.found in (
       element e.segment e.start e.data_words e.pointers,
-      rw c.at_element.ensures
-          (arrives_element m _ _ path a c.args.self.now c.args.step e.segment e.start e.data_words e.pointers None c.requires.strict h goes.0 goes.1.0 goes.1.1),
+      rw c.at_element.ensures (search (rules, arrives_element)),
     )
 
 pub overflow_sub-left : goal.overflow_sub-left

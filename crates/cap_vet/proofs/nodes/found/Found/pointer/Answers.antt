@@ -1,15 +1,11 @@
 use Rattle.cap_spec.proofs.ProofNames.{rules}
-use Rattle.std.proofs.Common.{arith}
 use Rattle.cap_vet.proofs.AtSomePlace.{at_some_place_last, at_some_place_own}
 use Rattle.cap_vet.proofs.Stepping.{pointer_goes}
 use Rattle.cap_vet.proofs.nodes.found.Found.pointer.Goals as goal
 
 pub returns : goal.returns
 returns c = λ m a h.
-    let own = rw c.in-Struct.is at h.own in (
-      pointer_goes m a _ h c.in-Struct.is (omega (arith, c.if-i-pointers.false)) (omega (arith, c.from.ensures, c.from-2.ensures)),
-      (h.exists, omega (arith, own, h.inside, c.from.ensures, c.from-2.ensures, c.if-i-pointers.false)),
-    )
+    let own = rw c.in-Struct.is at h.own in search (rules, pointer_goes, own)
 
 pub overflow_add-result : goal.overflow_add-result
 overflow_add-result c = search (rules, at_some_place_own, at_some_place_last)

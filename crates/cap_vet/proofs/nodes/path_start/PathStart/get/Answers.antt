@@ -1,6 +1,6 @@
 -- The path goes on from the first steps.
-use Rattle.cap_spec.proofs.ProofNames.{[], arith, subst, sym, ◌++◌, ◌∷◌, ∥∥₁_map}
-use Rattle.cap_vet.specs.VetNames.{HasFound, IsWay, Way}
+use Rattle.cap_spec.proofs.ProofNames.{[], arith, subst, sym, ◌++◌, ◌∷◌, ∥∥₁_map, rules}
+use Rattle.cap_vet.specs.VetNames.{IsWay, Way}
 use Rattle.cap_vet.proofs.PathWays.{given_after, no_node_longer, refused_longer, step_no_node, step_on, step_refused}
 use Rattle.cap_vet.proofs.AtSomePlace.{arrival_few, arrival_levels, way_arrives, way_found}
 use Rattle.cap_vet.proofs.nodes.path_start.PathStart.get.Goals.{in-Early, in-Refused, in-To+in-Err, in-To+in-Ok-None}
@@ -12,13 +12,11 @@ step-requires-clause-arrived g c = way_arrives _ _ _ c.in-To.at c.args.self.now.
 
 pub step-requires-clause-levels : goal.step-requires-clause-levels
 step-requires-clause-levels g c =
-    let l = arrival_levels _ _ _ c.in-To.at (step-requires-clause-arrived g c) in
-    omega (arith, l)
+    omega (arith, arrival_levels _ _ _ c.in-To.at (step-requires-clause-arrived g c))
 
 pub step-requires-clause-few : goal.step-requires-clause-few
 step-requires-clause-few g c =
-    let l = arrival_few _ _ _ c.in-To.at (step-requires-clause-arrived g c) in
-    omega (arith, l)
+    omega (arith, arrival_few _ _ _ c.in-To.at (step-requires-clause-arrived g c))
 
 pub along-requires : goal.along-requires
 along-requires g c = record {
@@ -28,16 +26,7 @@ along-requires g c = record {
 }
 
 pub given-requires : goal.given-requires
-given-requires g c =
-    let start = c.args.self.now in
-    let m = g.M.Segments.segments start.message.now in
-    elim c.match-self.branch [
-      | in-To+in-Ok-Some w ↦ record { found = subst (λ (x : Way). HasFound m x) (sym w.way'-is) (way_found m start.words start.depth _ w.along.ensures.leads) }
-      | in-To+in-Ok-None w ↦ record { found = subst (λ (x : Way). HasFound m x) (sym w.way'-is) tt }
-      | in-To+in-Err w ↦ record { found = subst (λ (x : Way). HasFound m x) (sym w.way'-is) tt }
-      | in-Early w ↦ record { found = subst (λ (x : Way). HasFound m x) (sym w.way'-is) tt }
-      | in-Refused w ↦ record { found = subst (λ (x : Way). HasFound m x) (sym w.way'-is) tt }
-    ]
+given-requires g c = search (rules, way_found)
 
 pub returns-clause-given : goal.returns-clause-given
 returns-clause-given g c = λ steps left.
@@ -63,7 +52,5 @@ returns-clause-given g c = λ steps left.
       | in-Early w ↦ (
           subst (λ (x : Way). IsWay m start.words start.depth (first ++ step ∷ steps) x) (sym w.way'-is)
           (no_node_longer m start.words start.depth first (step ∷ steps) w.in-Early.at (rw w.in-Early.is at leads)))
-      | in-Refused w ↦ (
-          subst (λ (x : Way). IsWay m start.words start.depth (first ++ step ∷ steps) x) (sym w.way'-is)
-          (refused_longer m start.words start.depth first (step ∷ steps) w.in-Refused.refusal (rw w.in-Refused.is at leads)))
+      | in-Refused w ↦ search (rules, refused_longer)
     ])

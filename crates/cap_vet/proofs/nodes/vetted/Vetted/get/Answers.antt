@@ -1,6 +1,6 @@
 use Rattle.cap_spec.proofs.Paths.Arrivals.{coming_to_node}
-use Rattle.cap_spec.proofs.ProofNames.{arith, drop, get_or, length, subst, suc, sym, take, take_all, ◌<◌, ◌∙◌, ◌≡◌}
-use Rattle.cap_spec.proofs.ProofNames.{split_at, take_more, ReachesSpot, Spot, StepsTo}
+use Rattle.cap_spec.proofs.ProofNames.{arith, get_or, length, subst, take, take_all, ◌<◌, ◌≡◌, split_at, take_more}
+use Rattle.cap_spec.proofs.ProofNames.{Spot, StepsTo, rules}
 use Rattle.cap_vet.specs.VetNames.{Ptr, message_of, node_spot}
 use Rattle.cap_vet.proofs.NodeSteps.{comes_no_node, comes_on, no_node}
 use Rattle.cap_vet.proofs.nodes.vetted.Vetted.get.Goals as goal
@@ -12,31 +12,22 @@ returns-in-None-clause-none g c =
     let none = subst (λ u. (b : Spot) → StepsTo (g.M.Segments.segments u) (node_spot c.loop-step.node)
     (get_or path i (Ptr 0)) b → ⊥) c.loop-step.invariant.0 c.in-None.ensures.none in
     let lt : i < length path = omega (arith, c.loop-step-test.true) in
-    comes_no_node _ path (take i path) (drop (suc i) path) (get_or path i (Ptr 0)) _ _ (split_at path i (Ptr 0) lt) c.loop-step.invariant.1.1 none
+    comes_no_node _ _ _ _ _ _ _ (split_at path i (Ptr 0) lt) c.loop-step.invariant.1.1 none
 
 pub loop-step-preserved : goal.loop-step-preserved
 loop-step-preserved g c =
     let path = c.args.path.now in
     let i = c.loop-step.step-index in
-    let lt : i < length path = omega (arith, c.loop-step-test.true) in
     let goes = subst (λ u. StepsTo (g.M.Segments.segments u) (node_spot c.loop-step.node) (get_or path i (Ptr 0))
     (node_spot c.in-Some.child)) c.loop-step.invariant.0 c.in-Some.ensures.some in
-    let r = comes_on _ (take i path) (get_or path i (Ptr 0)) _ _ _ c.loop-step.invariant.1.1 goes in (
-      c.in-Some.ensures.message ∙ c.loop-step.invariant.0,
-      (
-        r.0,
-        subst (λ u. ReachesSpot (g.M.Segments.segments (message_of c.args.self.now)) u r.0 (node_spot c.in-Some.child))
-            (sym (take_more path i (Ptr 0) lt)) r.1,
-      ),
-    )
+    let r = comes_on _ (take i path) (get_or path i (Ptr 0)) _ _ _ c.loop-step.invariant.1.1 goes in
+    search (rules, message_of, take_more)
 
 pub returns-clause-node : goal.returns-clause-node
 returns-clause-node g c = λ t x d h.
     let whole : take c.loop-step.step-index c.args.path.now ≡ c.args.path.now = take_all c.loop-step.step-index
     c.args.path.now (omega (arith, c.loop-step-test.false)) in
-    coming_to_node _ t x d h c.args.path.now c.loop-step.invariant.1.0 _
-    (subst (λ u. ReachesSpot (g.M.Segments.segments (message_of c.args.self.now)) u c.loop-step.invariant.1.0
-    (node_spot c.loop-step.node)) whole c.loop-step.invariant.1.1)
+    coming_to_node _ t x d h c.args.path.now c.loop-step.invariant.1.0 _ (search (rules, message_of))
 
 pub returns-in-None-clause-node : goal.returns-in-None-clause-node
 returns-in-None-clause-node g c = λ t x d h. no_node _ c.args.path.now t x d (returns-in-None-clause-none g c) h

@@ -1,7 +1,6 @@
-use Rattle.cap_spec.proofs.ProofNames.{rules}
-use Rattle.std.proofs.Common.{Err, ap, arith, length, ◌≤◌}
+use Rattle.cap_spec.proofs.ProofNames.{rules, Err, ap, arith, length, ◌≤◌}
 use Rattle.cap_spec.proofs.Disjoint.Overlaps.{none_of_disjoint}
-use Rattle.cap_vet.specs.VetNames.{marks_of, Overlap}
+use Rattle.cap_vet.specs.VetNames.{marks_of}
 use Rattle.cap_vet.proofs.ExclusiveFaults.{no_exclusive_fault, one_exclusive_fault}
 use Rattle.cap_vet.proofs.Keeping.{vetted_kept}
 use Rattle.cap_vet.proofs.nodes.vetted.Vetted.into_exclusive_in.Goals as goal
@@ -18,28 +17,19 @@ overlap_over-requires-clause-accepted g c =
 
 pub returns-in-None-clause-refuses : goal.returns-in-None-clause-refuses
 returns-in-None-clause-refuses g c =
-    let capacity : marks_of (g.M.Segments.segments c.args.self.message.now) ≤ length c.args.marks.now =
-    omega (arith, c.numbers_for-needed.ensures.exact, c.if-marks-needed.false) in
     λ x h. absurd (no_exclusive_fault _ _ c.args.self.report x (vetted_kept _ _ c.args.self.accepted)
-    c.in-None.ensures capacity h)
+    c.in-None.ensures (omega (arith, c.numbers_for-needed.ensures.exact, c.if-marks-needed.false)) h)
 
 pub returns-in-Some-clause-err : goal.returns-in-Some-clause-err
-returns-in-Some-clause-err g c = (
-  c.args.self.report,
-  vetted_kept _ _ c.args.self.accepted,
-  omega (arith, c.numbers_for-needed.ensures.exact, c.if-marks-needed.false),
-  c.in-Some.ensures,
-)
+returns-in-Some-clause-err g c = search (rules, vetted_kept)
 
 pub returns-in-Some-clause-accepts : goal.returns-in-Some-clause-accepts
-returns-in-Some-clause-accepts g c = λ disjoint capacity. absurd
-    (none_of_disjoint _ disjoint c.in-Some.ensures.path c.in-Some.ensures.first.holds)
+returns-in-Some-clause-accepts g c = λ disjoint capacity.
+    absurd (none_of_disjoint _ disjoint c.in-Some.ensures.path c.in-Some.ensures.first.holds)
 
 pub returns-in-Some-clause-refuses : goal.returns-in-Some-clause-refuses
 returns-in-Some-clause-refuses g c =
     let capacity : marks_of (g.M.Segments.segments c.args.self.message.now) ≤ length c.args.marks.now =
     omega (arith, c.numbers_for-needed.ensures.exact, c.if-marks-needed.false) in
-    λ x h. ap Err (one_exclusive_fault (g.M.Segments.segments c.args.self.message.now) 268435456 256
-    (length c.args.marks.now)
-    (Overlap c.in-Some.overlap.segment c.in-Some.overlap.word c.in-Some.overlap.pointers) x
+    λ x h. ap Err (one_exclusive_fault _ _ _ _ _ _
     (c.args.self.report, vetted_kept _ _ c.args.self.accepted, capacity, c.in-Some.ensures) h)

@@ -6,4 +6,4 @@ pub invariant_of-result : goal.invariant_of-result
 invariant_of-result g c = search (rules, root_inside, root_node)
 
 pub returns-clause-comes : goal.returns-clause-comes
-returns-clause-comes g c = root_comes (g.M.Segments.segments c.args.self.now.message.now) (root_inside _ _ c.args.self.now.accepted)
+returns-clause-comes g c = root_comes (g.M.Segments.segments c.args.self.now.message.now) (search (rules, root_inside))

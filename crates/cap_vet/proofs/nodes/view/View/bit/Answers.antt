@@ -1,9 +1,8 @@
 use Rattle.cap_spec.proofs.ProofNames.{rules}
-use Rattle.cap_vet.proofs.Views.{shown_bit, shown_no_bit}
 use Rattle.cap_vet.proofs.nodes.view.View.bit.Goals as goal
 
 pub returns-in_err-word : goal.returns-in_err-word
-returns-in_err-word g c = search (rules, shown_no_bit)
+returns-in_err-word g c = search rules
 
 pub returns : goal.returns
-returns g c = search (rules, shown_bit)
+returns g c = search rules

@@ -5,5 +5,4 @@ use Rattle.cap_vet.proofs.nodes.view.View.data_word.Goals as goal
 pub returns-in-Scalars-clause-few : goal.returns-in-Scalars-clause-few
 returns-in-Scalars-clause-few g c =
     let message : IsMessage (g.M.Segments.segments c.args.self.now.message.now) = search rules in
-    few_shown (g.M.Segments.segments c.args.self.now.message.now) _ _ _ message c.args.self.now.exists
-    c.in-Scalars.is c.args.self.now.own c.args.self.now.inside
+    search (rules, few_shown)

@@ -1,9 +1,9 @@
-use Rattle.std.proofs.Common.{arith}
-use Rattle.cap_vet.proofs.Views.{scalar_past, scalar_there}
 use Rattle.cap_vet.proofs.nodes.view.View.scalar.Goals as goal
+use Rattle.cap_spec.proofs.ProofNames.{rules}
+use Rattle.cap_spec.proofs.Trees.Readings.{value_past, value_there}
 
 pub returns-then-i-count : goal.returns-then-i-count
-returns-then-i-count g c = scalar_past (g.M.Segments.segments c.args.self.now.message.now) _ _ _ c.in-Scalars.is (omega (arith, c.if-i-count.true))
+returns-then-i-count g c = search (rules, value_past)
 
 pub returns : goal.returns
-returns g c = scalar_there (g.M.Segments.segments c.args.self.now.message.now) _ _ _ c.in-Scalars.is (omega (arith, c.if-i-count.false)) c.value.ensures
+returns g c = search (rules, value_there)

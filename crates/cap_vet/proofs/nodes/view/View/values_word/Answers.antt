@@ -1,10 +1,10 @@
-use Rattle.cap_spec.proofs.ProofNames.{rules}
-use Rattle.std.proofs.Common.{◌∙◌}
-use Rattle.cap_vet.proofs.Views.{shown_no_word, shown_word}
+use Rattle.cap_spec.proofs.ProofNames.{rules, ◌∙◌}
+use Rattle.cap_vet.proofs.Views.{shown_word}
 use Rattle.cap_vet.proofs.nodes.view.View.values_word.Goals as goal
+use Rattle.cap_spec.proofs.Trees.Readings.{values_word_past, word_past}
 
 pub returns-then-start-end : goal.returns-then-start-end
-returns-then-start-end g c = search (rules, shown_no_word)
+returns-then-start-end g c = search (rules, values_word_past, word_past)
 
 pub returns : goal.returns
 returns g c =
