@@ -35,9 +35,7 @@ pub at_some_place_element : (f : Found) (n d p i : ℕ) → IsAtSomePlace f → 
     → f.place.start + 1 + i * (d + p) + d + p < 2 ^ 32
 at_some_place_element f n d p i h e lt =
     ∥∥₁_elim h (hlevel props) (λ x.
-    let few = short_segment x.0 f.place.segment x.2 x.3.exists in
-    let inside = element_inside x.0 x.1 d p x.3 e lt in
-    omega (arith, few, inside))
+    omega (arith, short_segment x.0 f.place.segment x.2 x.3.exists, (element_inside x.0 x.1 d p x.3 e lt)))
 
 -- Where some path arrives.
 module _ (m : List (List ℕ)) (words depth : ℕ) (at : Arrival) (h : SomeArrives m words depth at) where

@@ -83,14 +83,13 @@ struct_children m base level s w k t b q h f e = record {
   reached = AreReached-row m base (level + 1) Ptr t (b + data_size q) 0 (pointer_size q) (λ j l.
       subst (λ u. Reaches m (base ++ Ptr u ∷ []) (level + 1) t (b + data_size q + j)) (omega arith)
       (one_step m base (Ptr j) level s w t (b + data_size q + j) h (k, t, b, q, 0, data_size q, pointer_size q, struct_found m s w k t b q f e, l, refl)));
-  complete = λ x v level' s' w' r. let (mid, n, goes, walks) = beyond m base x v level level' s w s' w' h r in under x v mid goes;
+  complete = λ x v level' s' w' r. let (mid, n, goes, walks) = beyond _ _ _ _ _ _ _ _ _ _ h r in under x v mid goes;
 }
   where
     under : (x : Step) (v : List Step) (mid : Spot) → StepsTo m (word s w) x mid
         → IsUnder (base ++ x ∷ v) (row base (level + 1) Ptr t (b + data_size q) 0 (pointer_size q))
     under (Ptr i) v mid (k', t', b', q', tag, ds, ps, f', l, spot) =
-        let o = one_found (struct_found m s w k t b q f e) f' in
-        let same : pointer_size q ≡ ps = cc o.kind in
+        let same : pointer_size q ≡ ps = cc (one_found (struct_found m s w k t b q f e) f').kind in
         subst (λ u. IsUnder (base ++ Ptr u ∷ v) (row base (level + 1) Ptr t (b + data_size q) 0 (pointer_size q)))
         (omega arith) (IsUnder-row base _ Ptr t _ 0 _ i v (omega (arith, l, same)))
     under (Item i) v mid (inl (k', t', b', q', tag, n, f', l, spot)) =

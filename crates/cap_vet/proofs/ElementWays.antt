@@ -3,8 +3,8 @@ use Rattle.cap_spec.proofs.ProofNames.{List, Ok, Some, [], append_assoc, arith, 
 use Rattle.cap_spec.proofs.ProofNames.{ℕ, ◌*◌, ◌++◌, ◌+◌, ◌<◌, ◌∷◌, ◌≡◌, ◌≤◌, segment_of, Spot, StepsTo, element}
 use Rattle.cap_spec.proofs.ProofNames.{word, IsDeepAt, rules}
 use Rattle.cap_vet.specs.PathWays.{LeadsToElements}
-use Rattle.cap_vet.specs.VetNames.{Step, Item, Ptr, Arrives, words_under, element_of, FindsNear, HasNoFaultBy}
-use Rattle.cap_vet.specs.VetNames.{GivesAfter, IsWay, Demands, Arrival, Found, PathStart, View, Way, To}
+use Rattle.cap_vet.specs.VetNames.{Step, Item, Ptr, Arrives, element_of, FindsNear, HasNoFaultBy, GivesAfter, IsWay}
+use Rattle.cap_vet.specs.VetNames.{Demands, Arrival, Found, PathStart, View, Way, To}
 use Rattle.cap_vet.specs.declared.nodes.struct_elements.StructElements.{StructElements}
 use Rattle.cap_vet.proofs.Charging.{arrives_element, arrives_word}
 use Rattle.cap_vet.proofs.PathLax.{adds_strict}
@@ -33,8 +33,7 @@ module _ {M : Type 0} {g : segments.Ghosts M} (m : List (List ℕ)) (start : Pat
   element_arrives : (first : List Step) → IsWay m start.words start.depth first start.way
       → Arrives m start.words start.depth (first ++ Item i ∷ []) (element_spot e i) (element_arrival are.at e i)
   element_arrives first way =
-      let there : IsWay m start.words start.depth first (To are.at) =
-      subst (λ (x : Way). IsWay m start.words start.depth first x) are.way way in
+      let there = subst (λ (x : Way). IsWay m start.words start.depth first x) are.way way in
       let goes : StepsTo m there.0 (Item i) (element_spot e i) =
       rw (are.segment, are.first) (element_goes m there.0 e.data_words e.pointers there.1.found are.kind lt) in
       search (rules, arrives_element, there)
@@ -46,11 +45,10 @@ module _ {M : Type 0} {g : segments.Ghosts M} (m : List (List ℕ)) (start : Pat
       → GivesAfter m start (Item i) rest (Ok (Some v))
   gives rest a at lax found leads = λ demands words depth first is.
       let path = first ++ Item i ∷ rest in
-      let way : IsWay m (words_under demands m words) depth path (To at) =
-      way_as m path (To at) is.limit is.deepest (a, leads first is.way) in
       let none : HasNoFaultBy demands (length m) at.lax =
       rw lax (subst (λ (d : Demands). HasNoFaultBy d (length m) are.at.lax) is.under are.strict) in
-      something_given demands m words depth path at v found way none
+      something_given demands m words depth path at v found (way_as m path (To at) is.limit is.deepest
+      (a, leads first is.way)) none
 
   pub element_given : v.found ≡ element_of e.segment (e.first + i * (e.data_words + e.pointers)) e.data_words e.pointers
       → GivesAfter m start (Item i) [] (Ok (Some v))

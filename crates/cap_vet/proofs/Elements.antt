@@ -3,20 +3,11 @@ use Rattle.cap_spec.proofs.Lemmas.{one_found, structs_found}
 use Rattle.cap_spec.proofs.ProofNames.{List, [], append_assoc, arith, inl, inr, refl, subst, suc, zero, ℕ, ◌*◌, ◌++◌}
 use Rattle.cap_spec.proofs.ProofNames.{◌+◌, ◌<◌, ◌∷◌, ◌≡◌, Finds, element_levels, HasWord, PathLeads, Reaches, Spot}
 use Rattle.cap_spec.proofs.ProofNames.{StepsTo, element, word, code, data_size, kind, middle, pointer_size, rules}
-use Rattle.cap_vet.specs.VetNames.{Step, Item, Ptr, Ahead, Apart, AreReached, EachApart, GoOnFrom, IsUnder}
-use Rattle.cap_vet.specs.VetNames.{element_rows, row}
-use Rattle.cap_vet.proofs.Apart.{Apart-left, Apart-right, Apart-steps}
+use Rattle.cap_vet.specs.VetNames.{Step, Item, Ptr, Ahead, AreReached, EachApart, GoOnFrom, IsUnder, element_rows}
+use Rattle.cap_vet.proofs.Apart.{Apart-right, Apart-steps}
 use Rattle.cap_vet.proofs.Children.{AreReached-row, EachApart-row, GoOnFrom-row, IsUnder-row, beyond, reaches_on}
-use Rattle.cap_vet.proofs.Trails.{AreChildren, AreReached-append, IsUnder-left, IsUnder-right}
-
--- the first of these, where there is one, is apart from a path
-abbrev HeadApart : List Step → List Ahead → Type 0
-HeadApart base [] = Unit {0}
-HeadApart base (b ∷ rest) = Apart base b.path
-
-append-apart : (base : List Step) (xs ys : List Ahead) → EachApart xs → GoOnFrom base xs → HeadApart base ys → EachApart ys → EachApart (xs ++ ys)
-append-apart base (a ∷ c ∷ xs) ys h g k l = (h.0, append-apart base (c ∷ xs) ys h.1 g.1 k l)
-append-apart base xs ys h g k l = search (rules, Apart-left)
+use Rattle.cap_vet.proofs.Trails.{AreChildren, AreReached-append, HeadApart, IsUnder-left, IsUnder-right}
+use Rattle.cap_vet.proofs.Trails.{append-apart}
 
 go_on-append : (base : List Step) (xs ys : List Ahead) → GoOnFrom base xs → GoOnFrom base ys → GoOnFrom base (xs ++ ys)
 go_on-append base [] ys h k = k
@@ -67,8 +58,7 @@ reached-elements : (m : List (List ℕ)) (base : List Step) (level t b ds ps i n
     → AreReached m (element_rows base level t b ds ps i n)
 reached-elements m base level t b ds ps i zero h = tt
 reached-elements m base level t b ds ps i (suc n) h =
-    AreReached-append m (row (base ++ Item i ∷ []) level Ptr t (b + ds) 0 ps) (element_rows base level t (b + ds + ps) ds ps (i + 1) n)
-    (AreReached-row m (base ++ Item i ∷ []) level Ptr t (b + ds) 0 ps (λ j l.
+    AreReached-append m _ _ (AreReached-row m (base ++ Item i ∷ []) level Ptr t (b + ds) 0 ps (λ j l.
     (subst (λ u. Reaches m u level t (b + ds + j)) (first_pointer base i j)
     (subst (λ u. Reaches m (base ++ Item (i + 0) ∷ Ptr j ∷ []) level t u) (omega arith)
     (h 0 j (omega arith) l))))) (reached-elements m base level t (b + ds + ps) ds ps (i + 1) n (λ e j k l.

@@ -78,8 +78,7 @@ struct-brings m a k t b q tag low r f e =
           (struct-counts m a k t b q low f e));
       places = rw (ch, pl) (places-row a.path (a.level + 1) Ptr t (b + data_size q) 0 (pointer_size q));
       few = rw ch (omega (arith, length-row a.path (a.level + 1) Ptr t (b + data_size q) 0 (pointer_size q), extent_struct q e));
-      near = rw ch (near-row a.path (max low (a.level + levels_below q tag)) (a.level + 1) Ptr t (b + data_size q) 0
-          (pointer_size q) (omega arith) (omega arith));
+      near = rw ch (near-row _ _ _ _ _ _ _ _ (omega arith) (omega arith));
     }
 
 -- a list of values has no step to go on by

@@ -59,11 +59,10 @@ one_path a b xs ys p q (inl (r, e)) (inr k) =
     let first : Apart (b.path ++ r) b.path = rw (← e) (Apart-under a b.path xs p k) in
     absurd (not_before-self b.path r (apart-before (b.path ++ r) b.path first))
 one_path a b xs ys p q (inr k) (inl (r, f)) =
-    let first : Apart (a.path ++ r) a.path = subst (λ (u : List Step). Apart u a.path) f (Apart-under b a.path ys q k) in
+    let first : Apart (a.path ++ r) a.path = rw (← f) (Apart-under b a.path ys q k) in
     absurd (not_before-self a.path r (apart-before (a.path ++ r) a.path first))
 one_path a b xs ys p q (inr k) (inr l) =
-    absurd (not_before-apart a.path b.path (Apart-under a b.path xs p l)
-    (apart-before b.path a.path (Apart-under b a.path ys q k)))
+    absurd (not_before-apart a.path b.path (Apart-under a b.path xs p l) (search (rules, apart-before, Apart-under)))
 
 same_ahead : (m : List (List ℕ)) (a b : Ahead) → a.path ≡ b.path → Reaches m a.path a.level a.segment a.word
     → Reaches m b.path b.level b.segment b.word → a ≡ b

@@ -27,8 +27,7 @@ known m words depth path at true (a, h) = record {
 }
 known m words depth path at false e =
     let h = e.arrives in
-    let on : AreOnPath m (e.done ++ e.step ∷ e.rest) h.ways =
-    on_no_node m e.done e.rest h.ways e.step at.level e.spot h.on_path h.comes e.no_node in
+    let on = on_no_node m e.done e.rest h.ways e.step at.level e.spot h.on_path h.comes e.no_node in
     record {
       ways = h.ways;
       on_path = subst (λ x. AreOnPath m x h.ways) (sym e.whole) on;

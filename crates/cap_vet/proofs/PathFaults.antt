@@ -49,10 +49,8 @@ module _ (m : List (List ℕ)) (path : List Step) (s w s' w' : ℕ) (u v : Lax) 
     (f : IsFirstLaxOnPath m path s w u n) (g : IsFirstLaxOnPath m path s' w' v n') where
   same_way : f.way ≡ g.way → (u ≡ v) × (s ≡ s') × (w ≡ w') × (n ≡ n')
   same_way e =
-      let r = one_reached m f.way f.level g.level s w s' w' f.reached
-      (subst (λ (x : List Step). Reaches m x g.level s' w') (sym e) g.reached) in
-      let on : AreOnPath m f.way (g.before ++ f.way ∷ []) =
-      subst (λ (y : List Step). AreOnPath m y (g.before ++ y ∷ [])) (sym e) g.on_path in
+      let r = one_reached m f.way f.level g.level s w s' w' f.reached (search rules) in
+      let on = subst (λ (y : List Step). AreOnPath m y (g.before ++ y ∷ [])) (sym e) g.on_path in
       search (rules, one_path_list m f.way (f.before ++ f.way ∷ []) (g.before ++ f.way ∷ []) f.on_path on, one_lax)
 
   pub one_first_on_path : (u ≡ v) × (s ≡ s') × (w ≡ w') × (n ≡ n')

@@ -37,7 +37,7 @@ has_rest_of : (s b n more ds ps level : ℕ) → 0 < n → (rest : Option Pointe
     record { segment = s; at = b; left = n; more = more; data_words = ds; pointers = ps; level = level } rest
 has_rest_of s b (suc zero) (suc more) ds ps level h = (_, rest_of_elements s b ds ps level refl (omega arith))
 has_rest_of s b (suc (suc n)) more ds ps level h = (_, rest_of_row s b more ds ps level (omega arith))
-has_rest_of s b n more ds ps level h = search (rules, rest_of_last)
+has_rest_of s b n more ds ps level h = search rules
 
 pub has_rest : (f : PointerRun) → 0 < f.left → (rest : Option PointerRun) × IsRest f rest
 has_rest f some = has_rest_of f.segment f.at f.left f.more f.data_words f.pointers f.level some

@@ -11,7 +11,7 @@ use Rattle.cap_vet.specs.VetNames.{HasWalked, IsLookedAt, IsNext, work_left, Lim
 use Rattle.cap_vet.specs.Turning.{cost_of, run_below}
 use Rattle.cap_vet.specs.Turns.{GoesOn, GoesOnBelow, IsAt}
 use Rattle.cap_vet.specs.WalkSteps.{Continues, GoesOnWith}
-use Rattle.cap_vet.specs.Walking.{AreNull, AreStacked, work_next}
+use Rattle.cap_vet.specs.Walking.{AreNull, work_next}
 use Rattle.cap_vet.specs.declared.walk.looking.Looked.{Looked}
 use Rattle.cap_vet.specs.declared.walk.walking.Next.{Next}
 use Rattle.cap_vet.proofs.Objects.{object-brings, object_places-children}
@@ -36,8 +36,6 @@ pub next_seen : (m : List (List ℕ)) (words depth : ℕ) (runs : List PointerRu
 next_seen m words depth runs f r report seen aheads w rest =
     let e : reverse (runs ++ f ∷ []) ≡ f ∷ reverse runs = reverse-append runs (f ∷ []) in
     let places : map pointer_word_of aheads ≡ spots f ++ all_spots (reverse runs) = rw e at w.places in
-    let inside : AllByRecursion (RunIn m) (f ∷ reverse runs) = rw e at w.inside in
-    let stacked : AreStacked depth (f ∷ reverse runs) = rw e at w.stacked in
     let more = reverse-more runs r in
     let next = next_ahead (f.segment, f.at, f.level) (option_spots r ++ all_spots (reverse runs)) aheads
     (places ∙ ap (λ u. u ++ all_spots (reverse runs)) rest.words) in (
@@ -68,20 +66,18 @@ walks_on m words depth s w level runs report (looked.Cap cost) t ((i, h), within
     let more = reverse-more runs None in (
       t.ahead,
       record {
-        progress = rw (← t.segment, ← t.at)
-            (turn_cap m words depth report.charge report.depth report.pointers report.caps cost i report.first_cap t.seen t.a t.ahead t.progress own within);
+        progress = rw (← t.segment, ← t.at) (search (rules, turn_cap, own, within));
         places = rw more t.places;
         inside = rw more t.inside;
         stacked = rw more t.stacked;
       },
     )
 walks_on m words depth s w level runs report (looked.Object cost deep below place) t (k, u, b, q, tag, o) =
-    let own : Finds m t.a.segment t.a.word k u b q = rw (t.segment, t.at) o.finds in
     let children : List Ahead = object_children t.a.path q tag u b t.a.level in
     let within : report.charge + (k + extent q + extra q tag) ≤ words = omega (arith, o.within, o.charge) in
     let shallow : t.a.level + levels_below q tag ≤ depth = omega (arith, o.shallow, o.deepest, t.leads_to) in
-    let done = turn_object m words depth report.charge report.depth report.pointers report.caps k u b q tag
-    report.first_cap t.seen t.a t.ahead t.progress own o.tagged within shallow in
+    let done = turn_object _ _ _ _ _ _ _ _ _ _ _ _ _ _ _ _ t.progress (rw (t.segment, t.at) o.finds) o.tagged within
+    shallow in
     search (rules, map-append, object_places-children, reverse-more, spots-more, inside-more)
 
 -- a word has no more words below it than it costs

@@ -20,17 +20,20 @@ pub AreReached-append : (m : List (List ℕ)) (xs ys : List Ahead) → AreReache
 AreReached-append m [] ys h k = k
 AreReached-append m (a ∷ xs) ys h k = (h.0, AreReached-append m xs ys h.1 k)
 
--- members that are apart and go on from a path, and then members apart from that path
-pub EachApart-append : (base : List Step) (xs : List Ahead) (b : Ahead) (ys : List Ahead) → EachApart xs
-    → GoOnFrom base xs → Apart base b.path → EachApart (b ∷ ys) → EachApart (xs ++ b ∷ ys)
-EachApart-append base [] b ys h g k l = l
-EachApart-append base (a ∷ []) b ys h g k l = (search (rules, Apart-left), l)
-EachApart-append base (a ∷ c ∷ xs) b ys h g k l = (h.0, EachApart-append base (c ∷ xs) b ys h.1 g.1 k l)
+-- the first of these, where there is one, is apart from a path
+abbrev pub HeadApart : List Step → List Ahead → Type 0
+HeadApart base [] = Unit {0}
+HeadApart base (b ∷ rest) = Apart base b.path
+
+pub append-apart : (base : List Step) (xs ys : List Ahead) → EachApart xs → GoOnFrom base xs → HeadApart base ys → EachApart ys → EachApart (xs ++ ys)
+append-apart base (a ∷ c ∷ xs) ys h g k l = (h.0, append-apart base (c ∷ xs) ys h.1 g.1 k l)
+append-apart base xs ys h g k l = search (rules, Apart-left)
 
 -- the children of the head, and then what was ahead after it
 pub apart-step : (a : Ahead) (children ahead : List Ahead) → EachApart (a ∷ ahead) → EachApart children → GoOnFrom a.path children
     → EachApart (children ++ ahead)
-apart-step a children ahead h k g = search (rules, append-nil, EachApart-append)
+apart-step a children [] h k g = append-apart a.path children [] k g tt tt
+apart-step a children (b ∷ ahead) h k g = append-apart a.path children (b ∷ ahead) k g h.0 h.1
 
 precedes-step : (a : Ahead) (seen : List (List Step)) (children ahead : List Ahead) → EachApart (a ∷ ahead)
     → GoOnFrom a.path children → Precedes (a.path ∷ seen) (children ++ ahead)

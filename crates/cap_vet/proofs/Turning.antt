@@ -5,8 +5,8 @@ use Rattle.cap_spec.proofs.ProofNames.{rules, map, max, refl, subst, sym, ℕ, �
 use Rattle.cap_spec.proofs.ProofNames.{AreShallow, IsComposite, Leads, extra, to_cap, to_null, IsOneOf, HasWord}
 use Rattle.cap_spec.proofs.ProofNames.{Before, Costs, PathLeads, Reaches, Spot, StepsTo, word, extent, CostOf}
 use Rattle.cap_spec.proofs.ProofNames.{IsDeepAt, levels_below}
-use Rattle.cap_vet.specs.VetNames.{Step, object_children, IsCount, PointerWord, pointer_word_of, Ahead, Falls}
-use Rattle.cap_vet.specs.VetNames.{or_place, IsFirstOf, Progress}
+use Rattle.cap_vet.specs.VetNames.{Step, object_children, PointerWord, pointer_word_of, Ahead, Falls, or_place}
+use Rattle.cap_vet.specs.VetNames.{IsFirstOf, Progress}
 use Rattle.cap_vet.specs.Walking.{LeadsToCap}
 use Rattle.cap_vet.proofs.Apart.{not_before-self}
 use Rattle.cap_vet.proofs.Children.{no_children}
@@ -88,16 +88,14 @@ pub turn_null : (m : List (List ℕ)) (words depth charge deepest pointers caps 
 turn_null m words depth charge deepest pointers caps cost first seen a ahead t h within =
     let r = t.trail.ahead_reached.0 in
     let e : caps + 0 ≡ caps = omega arith in record {
-      trail = trail-step m seen a [] ahead t.trail (no_children m a.path a.level a.segment a.word r (null_ends m a.segment a.word cost h));
-      count = subst (λ u. IsCount m record { charge = charge + cost; depth = deepest; pointers = pointers + 1; caps = u } ahead) e
-          (count-step m record { charge = charge; depth = deepest; pointers = pointers; caps = caps } a [] ahead cost
-          deepest 0 t.count (null-counts m a cost deepest h t.near.0 t.near.1));
+      trail = trail-step m seen a [] ahead t.trail (no_children _ _ _ _ _ r (null_ends m a.segment a.word cost h));
+      count = rw (← e) (count-step m record { charge = charge; depth = deepest; pointers = pointers; caps = caps } a
+          [] ahead cost deepest 0 t.count (null-counts m a cost deepest h t.near.0 t.near.1));
       near = t.near.2;
       within = within;
       shallow = t.shallow;
       costs = costs_on m a.path seen a.level a.segment a.word cost charge r (inl h) t.costs;
-      levels = shallow_on m depth a.level a.segment a.word a.path seen r
-          (λ (k, t, b, q, tag, finds, has_tag, deep). null_no_object m a.segment a.word cost k t b q h finds) t.levels;
+      levels = shallow_on m depth a.level a.segment a.word a.path seen r (search (rules, null_no_object)) t.levels;
       number = omega (arith, t.number);
       bound = omega (arith, t.bound);
       few = omega (arith, t.few);
@@ -152,13 +150,12 @@ turn_object m words depth charge deepest pointers caps k t b q tag first seen a 
           (near-deeper deepest (max deepest (a.level + levels_below q tag)) ahead (omega arith) h.near.2);
       within = within;
       shallow = omega (arith, h.shallow, shallow);
-      costs = costs_on m a.path seen a.level a.segment a.word (k + extent q + extra q tag) charge r (inr (inr (k, t, b, q, tag, f, tagged, refl))) h.costs;
-      levels = shallow_on m depth a.level a.segment a.word a.path seen r (deep_once m depth a.segment a.word a.level k t b q tag f tagged shallow) h.levels;
+      costs = costs_on _ _ _ _ _ _ _ _ r (inr (inr (k, t, b, q, tag, f, tagged, refl))) h.costs;
+      levels = shallow_on m depth a.level a.segment a.word a.path seen r (search (rules, deep_once)) h.levels;
       number = omega (arith, h.number);
       bound = omega (arith, h.bound, o.few, length-append children ahead);
       few = omega (arith, h.few);
       first_cap = first_on m a.path seen first (λ s w lead.
           let same = one_reached m a.path a.level lead.0 a.segment a.word s w r lead.3 in
-          cap_no_object m s w lead.1 lead.2 k t b q lead.4
-          (subst (λ u. Finds m s u k t b q) same.2 (subst (λ u. Finds m u a.word k t b q) same.1 f))) h.first_cap;
+          cap_no_object m s w lead.1 lead.2 k t b q lead.4 (search rules)) h.first_cap;
     }

@@ -118,7 +118,6 @@ accepted_at_end {m} {words} {depth} {report} seen ahead w =
     let none : ahead ≡ [] = none_ahead ahead w.places in
     let (t, d, whole) = (subst (Progress m words depth report.charge report.depth report.pointers report.caps
     report.first_cap seen) none w.progress).count.completes 0 0 0 0 (refl, refl, refl, refl) in
-    let e : report.charge + 0 ≡ report.charge = omega arith in
     let f : d ≡ report.depth = omega (arith, whole.depth) in search (rules, whole_first_cap)
 
 -- What is accepted within limits is accepted within the greatest.

@@ -84,11 +84,10 @@ returns-clause-leads g c =
 pub returns-in-Ok-None-clause-leads : goal.returns-in-Ok-None-clause-leads
 returns-in-Ok-None-clause-leads g c =
     let h = c.loop-step.invariant in
-    let step = c.in-Some.step in
     ∥∥₁_map c.requires.arrived (λ r.
     let x = h.1 r.0 r.1 r.2 in
     let none = rw c.in-Ok-None.field-0-is at (c.in-Ok-None.ensures.none (r.0 ++ h.0) x.0 x.1) in
-    ((r.0 ++ h.0) ++ step ∷ [], step_no_node _ c.args.words c.args.depth (r.0 ++ h.0) [] step x.0 c.loop-step.at x.1 none))
+    ((r.0 ++ h.0) ++ _ ∷ [], step_no_node _ c.args.words c.args.depth (r.0 ++ h.0) [] _ x.0 c.loop-step.at x.1 none))
 
 pub returns-in-Err-clause-leads : goal.returns-in-Err-clause-leads
 returns-in-Err-clause-leads g c =

@@ -1,4 +1,4 @@
-use Rattle.cap_spec.proofs.ProofNames.{arith}
+use Rattle.cap_spec.proofs.ProofNames.{arith, rules}
 use Rattle.cap_spec.proofs.Verdicts.OneFault.{costs_not_wrong}
 use Rattle.cap_vet.specs.VetNames.{depth_of, words_of}
 use Rattle.cap_vet.proofs.Looks.{followed_costs}
@@ -15,29 +15,24 @@ returns-else-is_past_limit-clause-none g c =
 pub follow-requires-clause-exists : goal.follow-requires-clause-exists
 follow-requires-clause-exists g c =
     let r = c.args.refusal.now in
-    let cost = cost_there _ _ _ c.args.charge r c.requires.before (c.is_past_limit.ensures.yes
-    c.if-is_past_limit.true) in
+    let cost = cost_there _ _ _ c.args.charge r c.requires.before (search rules) in
     (past_exists _ r.segment r.word cost.0 cost.1).0
 
 pub follow-requires-clause-inside : goal.follow-requires-clause-inside
 follow-requires-clause-inside g c =
     let r = c.args.refusal.now in
-    let cost = cost_there _ _ _ c.args.charge r c.requires.before (c.is_past_limit.ensures.yes
-    c.if-is_past_limit.true) in
+    let cost = cost_there _ _ _ c.args.charge r c.requires.before (search rules) in
     (past_exists _ r.segment r.word cost.0 cost.1).1
 
 pub overflow_cast-result : goal.overflow_cast-result
 overflow_cast-result g c =
-    let r = c.args.refusal.now in
-    let within = charge_within _ _ _ c.args.charge r c.requires.before
-    (c.is_past_limit.ensures.yes c.if-is_past_limit.true) in
+    let within = charge_within _ _ _ c.args.charge _ c.requires.before (search rules) in
     omega (arith, within, c.args.limits.now.few)
 
 pub overflow_add-result : goal.overflow_add-result
 overflow_add-result g c =
     let r = c.args.refusal.now in
-    let within = charge_within _ _ _ c.args.charge r c.requires.before
-    (c.is_past_limit.ensures.yes c.if-is_past_limit.true) in
+    let within = charge_within _ _ _ c.args.charge r c.requires.before (search rules) in
     omega (arith, within, c.args.limits.now.few, c.charge.ensures, charge_small _ r.segment r.word c.in-Ok.followed c.in-Ok.ensures.ok)
 
 pub returns-in-Ok-clause-some : goal.returns-in-Ok-clause-some
@@ -51,6 +46,5 @@ returns-in-Ok-clause-some g c =
 pub returns-in-Err-clause-none : goal.returns-in-Err-clause-none
 returns-in-Err-clause-none g c =
     let r = c.args.refusal.now in
-    let cost = cost_there _ _ _ c.args.charge r c.requires.before (c.is_past_limit.ensures.yes
-    c.if-is_past_limit.true) in
+    let cost = cost_there _ _ _ c.args.charge r c.requires.before (search rules) in
     absurd (costs_not_wrong _ r.segment r.word cost.0 _ cost.1 c.in-Err.ensures.err)

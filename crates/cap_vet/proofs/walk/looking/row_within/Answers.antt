@@ -7,5 +7,4 @@ returns c = λ m s w at q f lies.
     let run = c.row_run-run in
     rw (c.from.ensures, c.from-2.ensures) (looks_row m _ _ c.args.consumed s w c.args.level c.args.pads c.args.segment
     at q c.args.row.now run.result f lies (omega (arith, c.if-level-depth.false, c.depth.ensures.value))
-    (search rules) c.requires.consumed run.ensures.places (run.ensures.inside m f.finds.inside.exists (row_inside
-    m c.args.segment at q c.args.row.now f)) run.ensures.level)
+    (search rules) c.requires.consumed run.ensures.places (search (rules, row_inside)) run.ensures.level)

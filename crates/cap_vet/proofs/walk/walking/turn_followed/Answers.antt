@@ -36,11 +36,10 @@ go_on-requires g c =
 
 pub returns-in-Ok-after : goal.returns-in-Ok-after
 returns-in-Ok-after g c = record {
-  ok = steps_on _ _ c.args.stack.now.items c.args.run.now c.args.report.now c.add-below.new.report _ _ c.add-below.result c.go_on.result c.go_on.new.stack.items
-      c.go_on.new.run c.requires.walking (λ runs at.
+  ok = steps_on _ _ _ _ _ _ _ _ _ _ _ _ c.requires.walking (λ runs at.
       let n = at.next in
       let v = visited {limits = c.args.limits.now} runs _ n c.in-Ok.ensures.ok in
-      let costs = looked_costs (g.M.Segments.segments c.args.message.now) _ _ _ c.args.run.now.segment c.args.run.now.at _ _ c.in-Ok.ensures.ok in
+      let costs = looked_costs _ _ _ _ _ _ _ _ c.in-Ok.ensures.ok in
       let known = c.in-Ok-after.ensures.ok n.seen n.a (rw (c.add-below.ensures.report, c.cost-cost.ensures) (looked_at n v.walks costs)) at.known in
       rw (c.add-below.ensures.run, c.add-below.ensures.report) (search (rules, known))) c.go_on.ensures.runs;
   fits = c.go_on.ensures.fits;

@@ -33,24 +33,20 @@ returns-clause-given g c = λ steps left.
     let start = c.args.self.now in
     let step = c.args.step in
     let m = g.M.Segments.segments start.message.now in
-    given_after m start step steps c.match-self.way' c.given.result c.given.ensures.given
-    (λ first leads. elim c.match-self.branch [
+    given_after _ _ _ _ _ _ c.given.ensures.given (λ first leads. elim c.match-self.branch [
       | in-To+in-Ok-Some w ↦ (
           let h = rw w.in-To.is at leads in
           let next = rw w.in-Ok-Some.field-0-is at (w.in-Ok-Some.ensures.some first h.0 h.1) in
-          subst (λ (x : Way). IsWay m start.words start.depth (first ++ step ∷ steps) x) (sym w.way'-is)
-          (step_on m start.words start.depth first steps step w.along.result (w.along.ensures.way (first ++ step ∷ []) steps next.0 next.1 left)))
+          rw w.way'-is (step_on m start.words start.depth first steps step w.along.result
+          (w.along.ensures.way (first ++ step ∷ []) steps next.0 next.1 left)))
       | in-To+in-Ok-None w ↦ (
           let h = rw w.in-To.is at leads in
           let none = rw w.in-Ok-None.field-0-is at (w.in-Ok-None.ensures.none first h.0 h.1) in
-          subst (λ (x : Way). IsWay m start.words start.depth (first ++ step ∷ steps) x) (sym w.way'-is)
-          (step_no_node m start.words start.depth first steps step h.0 w.in-To.at h.1 none))
+          rw w.way'-is (step_no_node m start.words start.depth first steps step h.0 w.in-To.at h.1 none))
       | in-To+in-Err w ↦ (
           let h = rw w.in-To.is at leads in
           subst (λ (x : Way). IsWay m start.words start.depth (first ++ step ∷ steps) x) (sym w.way'-is)
           (step_refused m start.words start.depth first steps step w.in-Err.refusal (w.in-Err.ensures.err first h.0 h.1)))
-      | in-Early w ↦ (
-          subst (λ (x : Way). IsWay m start.words start.depth (first ++ step ∷ steps) x) (sym w.way'-is)
-          (no_node_longer m start.words start.depth first (step ∷ steps) w.in-Early.at (rw w.in-Early.is at leads)))
+      | in-Early w ↦ search (rules, no_node_longer)
       | in-Refused w ↦ search (rules, refused_longer)
     ])

@@ -6,8 +6,9 @@ use Rattle.cap_vet.proofs.nodes.struct_elements.StructElements.pointer.Goals as 
 pub returns-clause-given : goal.returns-clause-given
 returns-clause-given g c = λ start are.
     let e = c.args.self.now in
-    let lt : _ < e.count = omega (arith, c.if-i-from.false, c.from.ensures) in
-    let w = e.first + _ * (c.from-2.result + c.from-3.result) + c.from-4.result + c.from-5.result in
-    pointer_given _ start e _ are e.exists _ lt (element_within e.first e.count e.data_words e.pointers _ _ e.inside
-    lt) c.args.j w c.in_ok-found.field-0-1 (omega (arith, c.if-j-self.false))
+    let i = c.args.i in
+    let lt : i < e.count = omega (arith, c.if-i-from.false, c.from.ensures) in
+    let w = e.first + i * (c.from-2.result + c.from-3.result) + c.from-4.result + c.from-5.result in
+    pointer_given _ start e _ are e.exists i lt (element_within e.first e.count e.data_words e.pointers i _ e.inside lt)
+    c.args.j w c.in_ok-found.field-0-1 (omega (arith, c.if-j-self.false))
     (rw (c.from-2.ensures, c.from-3.ensures, c.from-4.ensures, c.from-5.ensures) refl) c.in_ok-found.ensures.found

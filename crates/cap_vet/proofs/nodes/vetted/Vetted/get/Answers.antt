@@ -25,8 +25,7 @@ loop-step-preserved g c =
 
 pub returns-clause-node : goal.returns-clause-node
 returns-clause-node g c = λ t x d h.
-    let whole : take c.loop-step.step-index c.args.path.now ≡ c.args.path.now = take_all c.loop-step.step-index
-    c.args.path.now (omega (arith, c.loop-step-test.false)) in
+    let whole = take_all c.loop-step.step-index c.args.path.now (omega (arith, c.loop-step-test.false)) in
     coming_to_node _ t x d h c.args.path.now c.loop-step.invariant.1.0 _ (search (rules, message_of))
 
 pub returns-in-None-clause-node : goal.returns-in-None-clause-node
