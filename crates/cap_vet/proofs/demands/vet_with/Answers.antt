@@ -7,13 +7,8 @@ use Rattle.cap_spec.proofs.ProofNames.{rules, Err, ap}
 pub returns-in-Ok-clause-refuses : goal.returns-in-Ok-clause-refuses
 returns-in-Ok-clause-refuses g c = λ r h. absurd (search (rules, strict_meets))
 
-pub returns-in-Err-clause-err : goal.returns-in-Err-clause-err
-returns-in-Err-clause-err g c = fault_demanded c.args.demands (g.M.Segments.segments c.args.message.now)
-    (words_of c.args.limits) _ _ _ c.limits_under-limits.ensures.words c.limits_under-limits.ensures.depth
-    c.in-Err.refusal c.if-demands.true c.in-Err.ensures.err
-
-pub returns-in-Err-clause-refuses : goal.returns-in-Err-clause-refuses
-returns-in-Err-clause-refuses g c = λ r h. ap Err (search (rules, one_demand_fault))
+pub returns-in-Err : goal.returns-in-Err
+returns-in-Err g c = search (rules, fault_demanded, one_demand_fault)
 
 pub returns-in-Err-vet-clause-refuses : goal.returns-in-Err-vet-clause-refuses
 returns-in-Err-vet-clause-refuses g c = λ r h. ap Err

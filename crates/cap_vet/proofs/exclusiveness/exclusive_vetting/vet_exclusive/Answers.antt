@@ -1,6 +1,5 @@
 use Rattle.cap_spec.proofs.Disjoint.Overlaps.{none_of_disjoint, one_overlap}
 use Rattle.cap_spec.proofs.ProofNames.{Err, ap, inl, inr, rules}
-use Rattle.cap_vet.specs.declared.exclusiveness.exclusive_vetting.ExclusiveRefusal.TheVariants.{Refused}
 use Rattle.cap_vet.proofs.Demanding.{no_fault_under, one_fault_under}
 use Rattle.cap_vet.proofs.ExclusiveFaults.{only_memory, only_overlap}
 use Rattle.cap_vet.proofs.exclusiveness.exclusive_vetting.vet_exclusive.Goals as goal
@@ -42,11 +41,5 @@ returns-in-Ok-default-Some-clause-names g c = λ s w n met first.
     let ok = rw c.in-Ok-default-Some.field-0-1-is at c.in-Ok-default-Some.ensures.ok in
     (let same = one_overlap (g.M.Segments.segments c.args.message.now) _ _ _ s w n ok.1 first in inl (cc))
 
-pub returns-clause-refuses : goal.returns-clause-refuses
-returns-clause-refuses g c = λ r h. ap (λ u. Err (Refused u)) (search (rules, one_fault_under))
-
-pub returns-clause-accepts : goal.returns-clause-accepts
-returns-clause-accepts g c = λ met disjoint. absurd (search (rules, no_fault_under))
-
-pub returns-clause-names : goal.returns-clause-names
-returns-clause-names g c = λ s w n met first. absurd (search (rules, no_fault_under))
+pub returns : goal.returns
+returns g c = search (rules, one_fault_under, no_fault_under)

@@ -5,8 +5,9 @@ use Rattle.cap_vet.proofs.PathWays.{all_steps, done_steps, step_no_node, step_re
 use Rattle.cap_vet.proofs.AtSomePlace.{arrival_few, arrival_levels}
 use Rattle.cap_vet.proofs.StepsGiven.{no_step_given, step_given}
 use Rattle.cap_vet.proofs.nodes.getting.along.Goals as goal
-use Rattle.cap_spec.proofs.ProofNames.{rules, List, [], ap, append-nil, append_assoc, arith, refl, subst, sym, ◌++◌}
-use Rattle.cap_spec.proofs.ProofNames.{◌∙◌, ◌∷◌}
+use Rattle.cap_spec.proofs.ProofNames.{rules, List, [], ap, append-nil, append_assoc, refl, subst, sym, ◌++◌, ◌∙◌}
+use Rattle.cap_spec.proofs.ProofNames.{◌∷◌}
+use Rattle.cap_vet.specs.Ways.{SomeArrives}
 
 pub loop-step-init : goal.loop-step-init
 loop-step-init g c =
@@ -16,18 +17,12 @@ loop-step-init g c =
       λ steps left. (steps, refl, left),
     )
 
-pub step-requires-clause-arrived : goal.step-requires-clause-arrived
-step-requires-clause-arrived g c =
+pub step-requires : goal.step-requires
+step-requires g c =
     let h = c.loop-step.invariant in
-    ∥∥₁_map c.requires.arrived (λ r. let x = h.1 r.0 r.1 r.2 in (r.0 ++ h.0, x.0, x.1))
-
-pub step-requires-clause-levels : goal.step-requires-clause-levels
-step-requires-clause-levels g c =
-    omega (arith, arrival_levels _ _ _ c.loop-step.at (step-requires-clause-arrived g c))
-
-pub step-requires-clause-few : goal.step-requires-clause-few
-step-requires-clause-few g c =
-    omega (arith, arrival_few _ _ _ c.loop-step.at (step-requires-clause-arrived g c))
+    let at : SomeArrives _ c.args.words c.args.depth c.loop-step.at =
+    ∥∥₁_map c.requires.arrived (λ r. let x = h.1 r.0 r.1 r.2 in (r.0 ++ h.0, x.0, x.1)) in
+    search (rules, arrival_levels _ _ _ c.loop-step.at at, arrival_few _ _ _ c.loop-step.at at)
 
 pub loop-step-preserved : goal.loop-step-preserved
 loop-step-preserved g c =

@@ -5,18 +5,13 @@ use Rattle.cap_vet.proofs.PathWays.{done_steps}
 use Rattle.cap_vet.proofs.AtSomePlace.{arrival_few, arrival_levels}
 use Rattle.cap_vet.proofs.StepsGiven.{no_step_given, step_given}
 use Rattle.cap_vet.proofs.nodes.getting.follow_near.Goals as goal
+use Rattle.cap_vet.specs.Ways.{SomeArrives}
 
-pub step_near-requires-clause-arrived : goal.step_near-requires-clause-arrived
-step_near-requires-clause-arrived g c =
-    let h = c.loop-step.invariant in ∣ (h.0, h.1.0, h.1.1) ∣₁
-
-pub step_near-requires-clause-levels : goal.step_near-requires-clause-levels
-step_near-requires-clause-levels g c =
-    omega (arith, arrival_levels _ _ _ c.loop-step.at (step_near-requires-clause-arrived g c))
-
-pub step_near-requires-clause-few : goal.step_near-requires-clause-few
-step_near-requires-clause-few g c =
-    omega (arith, arrival_few _ _ _ c.loop-step.at (step_near-requires-clause-arrived g c))
+pub step_near-requires : goal.step_near-requires
+step_near-requires g c =
+    let h = c.loop-step.invariant in
+    let at : SomeArrives _ c.args.words c.args.depth c.loop-step.at = ∣ (h.0, h.1.0, h.1.1) ∣₁ in
+    search (rules, arrival_levels _ _ _ c.loop-step.at at, arrival_few _ _ _ c.loop-step.at at)
 
 pub loop-step-preserved : goal.loop-step-preserved
 loop-step-preserved g c =

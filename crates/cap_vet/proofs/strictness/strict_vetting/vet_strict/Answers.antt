@@ -34,27 +34,19 @@ invariant_of-result-in-None g c =
           c.args.limits.shallow) ∣₁;
     }
 
-pub returns-in-None-clause-ok : goal.returns-in-None-clause-ok
-returns-in-None-clause-ok g c =
+pub returns-in-None : goal.returns-in-None
+returns-in-None g c =
     let w = c.in-Ok.ensures.ok in
     let none = c.in-None.ensures.none refl in
-    (accepted_at_end w.seen w.ahead w.walks, strict_at_end w.seen w.ahead w.walks (rw none.1 at w.known) none.0)
+    let a = accepted_at_end w.seen w.ahead w.walks in
+    let s = strict_at_end w.seen w.ahead w.walks (rw none.1 at w.known) none.0 in
+    search (rules, strict_not_fault)
 
-pub returns-in-None-clause-refuses : goal.returns-in-None-clause-refuses
-returns-in-None-clause-refuses g c = λ r h.
-    absurd (strict_not_fault _ _ _ r ((returns-in-None-clause-ok g c).1) h)
-
-pub returns-in-Some-clause-err : goal.returns-in-Some-clause-err
-returns-in-Some-clause-err g c =
-    let message : IsMessage _ = search rules in
+pub returns-in-Some : goal.returns-in-Some
+returns-in-Some g c =
+    let m = g.M.Segments.segments c.args.message.now in
+    let message : IsMessage m = search rules in
     let w = c.in-Ok.ensures.ok in
-    fault_at_end (record { strict = true; unamplified = false }) _ (words_of c.args.limits) (depth_of c.args.limits)
-    w.seen _ c.in-Some.fault message (within_of _ _ _ _ (accepted_at_end w.seen w.ahead w.walks)) w.known
-    c.in-Some.ensures.some
-
-pub returns-in-Some-clause-accepts : goal.returns-in-Some-clause-accepts
-returns-in-Some-clause-accepts g c = λ strict.
-    absurd (strict_not_fault _ _ _ c.in-Some.fault strict (returns-in-Some-clause-err g c))
-
-pub returns-in-Some-clause-refuses : goal.returns-in-Some-clause-refuses
-returns-in-Some-clause-refuses g c = λ r h. ap Err (search (rules, one_strict_fault, returns-in-Some-clause-err))
+    let fault = fault_at_end (record { strict = true; unamplified = false }) m (words_of c.args.limits) (depth_of c.args.limits) w.seen _
+    c.in-Some.fault message (within_of m _ _ _ (accepted_at_end w.seen w.ahead w.walks)) w.known c.in-Some.ensures.some in
+    search (rules, strict_not_fault, one_strict_fault)

@@ -12,17 +12,11 @@ returns-else-is_past_limit-clause-none g c =
     other_reason _ (words_of c.args.limits.now) (depth_of c.args.limits.now) _
     (refused_of _ _ _ c.args.charge _ before) (c.is_past_limit.ensures.no c.if-is_past_limit.false)
 
-pub follow-requires-clause-exists : goal.follow-requires-clause-exists
-follow-requires-clause-exists g c =
-    let r = c.args.refusal.now in
-    let cost = cost_there _ _ _ c.args.charge r c.requires.before (search rules) in
-    (past_exists _ r.segment r.word cost.0 cost.1).0
-
-pub follow-requires-clause-inside : goal.follow-requires-clause-inside
-follow-requires-clause-inside g c =
-    let r = c.args.refusal.now in
-    let cost = cost_there _ _ _ c.args.charge r c.requires.before (search rules) in
-    (past_exists _ r.segment r.word cost.0 cost.1).1
+pub follow-requires : goal.follow-requires
+follow-requires g c =
+    let cost = cost_there _ _ _ c.args.charge _ c.requires.before (c.is_past_limit.ensures.yes c.if-is_past_limit.true) in
+    let there = past_exists _ _ _ cost.0 cost.1 in
+    record { exists = there.0; inside = there.1 }
 
 pub overflow_cast-result : goal.overflow_cast-result
 overflow_cast-result g c =

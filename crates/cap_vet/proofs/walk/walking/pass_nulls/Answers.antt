@@ -1,20 +1,14 @@
-use Rattle.std.proofs.Common.{arith, rules}
+use Rattle.std.proofs.Common.{rules}
 use Rattle.cap_spec.proofs.Frames.Messages.{short_segment}
 use Rattle.cap_vet.proofs.Passing.{passes_on, topmost_few, topmost_in}
 use Rattle.cap_vet.proofs.walk.walking.pass_nulls.Goals as goal
 
-pub word-requires-clause-exists : goal.word-requires-clause-exists
-word-requires-clause-exists g c =
-    let (words, depth, runs, seen, ahead, w) = c.requires in
-    let p = c.nulls.invariant words depth runs seen ahead w in
-    (topmost_in _ words depth runs c.nulls.run c.nulls.report _ _ p.walks).exists
-
-pub word-requires-clause-inside : goal.word-requires-clause-inside
-word-requires-clause-inside g c =
+pub word-requires : goal.word-requires
+word-requires g c =
     let (words, depth, runs, seen, ahead, w) = c.requires in
     let p = c.nulls.invariant words depth runs seen ahead w in
     let f = topmost_in _ words depth runs c.nulls.run c.nulls.report _ _ p.walks in
-    omega (arith, f.some, f.inside)
+    search rules
 
 pub overflow_add-run : goal.overflow_add-run
 overflow_add-run g c =

@@ -12,14 +12,10 @@ turn_described-requires g c =
     let rest = has_rest c.walk.run f.some in
     (c.walk.stack.items ++ option_to_list rest.0, next_at _ _ c.walk.stack.items c.walk.run _ _ _ walking rest.1)
 
-pub word-is_null-requires-clause-exists : goal.word-is_null-requires-clause-exists
-word-is_null-requires-clause-exists g c =
-    (topmost_in _ _ _ c.walk.stack.items c.walk.run c.walk.report _ _ c.walk.invariant.walking.walks).exists
-
-pub word-is_null-requires-clause-inside : goal.word-is_null-requires-clause-inside
-word-is_null-requires-clause-inside g c =
+pub word-is_null-requires : goal.word-is_null-requires
+word-is_null-requires g c =
     let f = topmost_in _ _ _ c.walk.stack.items c.walk.run c.walk.report _ _ c.walk.invariant.walking.walks in
-    omega (arith, f.some, f.inside)
+    search rules
 
 pub go_on-requires : goal.go_on-requires
 go_on-requires g c =

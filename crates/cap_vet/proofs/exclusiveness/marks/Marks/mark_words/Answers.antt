@@ -7,11 +7,8 @@ use Rattle.cap_vet.proofs.exclusiveness.marks.Marks.mark_words.Goals as goal
 pub overflow_add-start : goal.overflow_add-start
 overflow_add-start c = search (rules, start_within)
 
-pub set_bits-requires-clause-inside : goal.set_bits-requires-clause-inside
-set_bits-requires-clause-inside c = search (rules, start_within)
-
-pub set_bits-requires-clause-small : goal.set_bits-requires-clause-small
-set_bits-requires-clause-small c = search (rules, start_within)
+pub set_bits-requires : goal.set_bits-requires
+set_bits-requires c = search (rules, start_within)
 
 pub returns : goal.returns
 returns c = λ m h.

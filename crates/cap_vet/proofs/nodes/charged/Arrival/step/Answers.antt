@@ -35,24 +35,15 @@ returns-in-Some-Element-clause-some g c = λ path a h.
 pub step-requires : goal.step-requires
 step-requires g c = search (rules, arrival_at_some_place)
 
-pub follow_within-requires-clause-exists : goal.follow_within-requires-clause-exists
-follow_within-requires-clause-exists g c =
-    step_exists _ _ _ c.args.self.now c.requires.arrived c.args.step _ _ (rw c.in-Some-Word.field-0-is at c.in-Some-Word.ensures)
+pub follow_within-requires : goal.follow_within-requires
+follow_within-requires g c =
+    let goes = rw c.in-Some-Word.field-0-is at c.in-Some-Word.ensures in
+    search (rules, step_exists _ _ _ c.args.self.now c.requires.arrived c.args.step _ _ goes, step_inside _ _ _ c.args.self.now c.requires.arrived c.args.step _ _ goes)
 
-pub follow_within-requires-clause-inside : goal.follow_within-requires-clause-inside
-follow_within-requires-clause-inside g c =
-    step_inside _ _ _ c.args.self.now c.requires.arrived c.args.step _ _ (search rules)
-
-pub first_lax-requires-clause-exists : goal.first_lax-requires-clause-exists
-first_lax-requires-clause-exists g c =
-    step_exists _ _ _ c.args.self.now c.requires.arrived c.args.step _ _ (rw c.in-Some-Word.field-0-is at c.in-Some-Word.ensures)
-
-pub first_lax-requires-clause-inside : goal.first_lax-requires-clause-inside
-first_lax-requires-clause-inside g c =
-    step_inside _ _ _ c.args.self.now c.requires.arrived c.args.step _ _ (search rules)
-
-pub first_lax-requires-clause-followed : goal.first_lax-requires-clause-followed
-first_lax-requires-clause-followed g c = search (rules, followed_costs)
+pub first_lax-requires : goal.first_lax-requires
+first_lax-requires g c =
+    let goes = rw c.in-Some-Word.field-0-is at c.in-Some-Word.ensures in
+    search (rules, step_exists _ _ _ c.args.self.now c.requires.arrived c.args.step _ _ goes, step_inside _ _ _ c.args.self.now c.requires.arrived c.args.step _ _ goes, followed_costs)
 
 pub overflow_sub-left : goal.overflow_sub-left
 overflow_sub-left g c = let l = arrival_within _ _ _ c.args.self.now c.requires.arrived in omega (arith, l)

@@ -8,13 +8,10 @@ use Rattle.cap_vet.proofs.nodes.charged.Arrival.step_near.Goals as goal
 pub step-requires : goal.step-requires
 step-requires g c = search (rules, arrival_at_some_place)
 
-pub found_near-requires-clause-exists : goal.found_near-requires-clause-exists
-found_near-requires-clause-exists g c =
-    step_exists _ _ _ c.args.self.now c.requires.arrived c.args.step _ _ (rw c.in-Some-Word.field-0-is at c.in-Some-Word.ensures)
-
-pub found_near-requires-clause-inside : goal.found_near-requires-clause-inside
-found_near-requires-clause-inside g c =
-    step_inside _ _ _ c.args.self.now c.requires.arrived c.args.step _ _ (search rules)
+pub found_near-requires : goal.found_near-requires
+found_near-requires g c =
+    let goes = rw c.in-Some-Word.field-0-is at c.in-Some-Word.ensures in
+    search (rules, step_exists _ _ _ c.args.self.now c.requires.arrived c.args.step _ _ goes, step_inside _ _ _ c.args.self.now c.requires.arrived c.args.step _ _ goes)
 
 pub returns-in_ok-found-in-Some-Word-clause-on : goal.returns-in_ok-found-in-Some-Word-clause-on
 returns-in_ok-found-in-Some-Word-clause-on g c = λ path a h.

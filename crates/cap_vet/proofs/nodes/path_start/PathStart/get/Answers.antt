@@ -7,16 +7,12 @@ use Rattle.cap_vet.proofs.nodes.path_start.PathStart.get.Goals.{in-Early, in-Ref
 use Rattle.cap_vet.proofs.nodes.path_start.PathStart.get.Goals.{in-To+in-Ok-Some}
 use Rattle.cap_vet.proofs.nodes.path_start.PathStart.get.Goals as goal
 
-pub step-requires-clause-arrived : goal.step-requires-clause-arrived
-step-requires-clause-arrived g c = way_arrives _ _ _ c.in-To.at c.args.self.now.leads c.in-To.is
-
-pub step-requires-clause-levels : goal.step-requires-clause-levels
-step-requires-clause-levels g c =
-    omega (arith, arrival_levels _ _ _ c.in-To.at (step-requires-clause-arrived g c))
-
-pub step-requires-clause-few : goal.step-requires-clause-few
-step-requires-clause-few g c =
-    omega (arith, arrival_few _ _ _ c.in-To.at (step-requires-clause-arrived g c))
+pub step-requires : goal.step-requires
+step-requires g c =
+    let at = way_arrives _ _ _ c.in-To.at c.args.self.now.leads c.in-To.is in
+    let l = arrival_levels _ _ _ c.in-To.at at in
+    let f = arrival_few _ _ _ c.in-To.at at in
+    record { arrived = at; levels = omega (arith, l); few = omega (arith, f) }
 
 pub along-requires : goal.along-requires
 along-requires g c = record {
