@@ -47,6 +47,7 @@ returns-in-Some g c =
     let m = g.M.Segments.segments c.args.message.now in
     let message : IsMessage m = search rules in
     let w = c.in-Ok.ensures.ok in
-    let fault = fault_at_end (record { strict = true; unamplified = false }) m (words_of c.args.limits) (depth_of c.args.limits) w.seen _
-    c.in-Some.fault message (within_of m _ _ _ (accepted_at_end w.seen w.ahead w.walks)) w.known c.in-Some.ensures.some in
+    let fault = fault_at_end (record { strict = true; unamplified = false }) m (words_of c.args.limits)
+    (depth_of c.args.limits) w.seen _ c.in-Some.fault message (within_of m _ _ _ (accepted_at_end w.seen w.ahead w.walks))
+    w.known c.in-Some.ensures.some in
     search (rules, strict_not_fault, one_strict_fault)

@@ -38,12 +38,16 @@ step-requires g c = search (rules, arrival_at_some_place)
 pub follow_within-requires : goal.follow_within-requires
 follow_within-requires g c =
     let goes = rw c.in-Some-Word.field-0-is at c.in-Some-Word.ensures in
-    search (rules, step_exists _ _ _ c.args.self.now c.requires.arrived c.args.step _ _ goes, step_inside _ _ _ c.args.self.now c.requires.arrived c.args.step _ _ goes)
+    let exists = step_exists _ _ _ c.args.self.now c.requires.arrived c.args.step _ _ goes in
+    let inside = step_inside _ _ _ c.args.self.now c.requires.arrived c.args.step _ _ goes in
+    search rules
 
 pub first_lax-requires : goal.first_lax-requires
 first_lax-requires g c =
     let goes = rw c.in-Some-Word.field-0-is at c.in-Some-Word.ensures in
-    search (rules, step_exists _ _ _ c.args.self.now c.requires.arrived c.args.step _ _ goes, step_inside _ _ _ c.args.self.now c.requires.arrived c.args.step _ _ goes, followed_costs)
+    let exists = step_exists _ _ _ c.args.self.now c.requires.arrived c.args.step _ _ goes in
+    let inside = step_inside _ _ _ c.args.self.now c.requires.arrived c.args.step _ _ goes in
+    search (rules, followed_costs)
 
 pub overflow_sub-left : goal.overflow_sub-left
 overflow_sub-left g c = let l = arrival_within _ _ _ c.args.self.now c.requires.arrived in omega (arith, l)

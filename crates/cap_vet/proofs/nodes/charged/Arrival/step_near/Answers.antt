@@ -11,7 +11,9 @@ step-requires g c = search (rules, arrival_at_some_place)
 pub found_near-requires : goal.found_near-requires
 found_near-requires g c =
     let goes = rw c.in-Some-Word.field-0-is at c.in-Some-Word.ensures in
-    search (rules, step_exists _ _ _ c.args.self.now c.requires.arrived c.args.step _ _ goes, step_inside _ _ _ c.args.self.now c.requires.arrived c.args.step _ _ goes)
+    let exists = step_exists _ _ _ c.args.self.now c.requires.arrived c.args.step _ _ goes in
+    let inside = step_inside _ _ _ c.args.self.now c.requires.arrived c.args.step _ _ goes in
+    search rules
 
 pub returns-in_ok-found-in-Some-Word-clause-on : goal.returns-in_ok-found-in-Some-Word-clause-on
 returns-in_ok-found-in-Some-Word-clause-on g c = λ path a h.
