@@ -64,7 +64,8 @@ impl Call for Copying {
 
     ghost finds = { λ _ demands m words depth old f new. Copies old new demands m words depth f };
 
-    #[inline(never)]
+    // Inlined: a small message doesn't pay for copies of its report.
+    #[inline(always)]
     fn on<'b>(
         &self,
         view: &ByteView<'b>,
